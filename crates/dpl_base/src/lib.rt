@@ -1,0 +1,83 @@
+//! Points and rectangles, and how far two rectangles lie apart.
+#![tactic(auto)]
+
+mod listed;
+mod loops;
+
+ghost use Rattle.std.specs.Prelude.{◌≡◌, ◌+◌, ◌*◌, ◌^◌, ◌<◌, ◌≤◌, ◌<ℤ◌, ◌↔◌, IsTrue, IsNone, IfSome, unsigned_abs};
+ghost use Rattle.dpl_spec.specs.Squares.{Has, IsSquaredDistance, IsSolidWithin, AreNear, AreTouching, IsReach};
+ghost use Rattle.dpl_base.specs.Spans.{IsSpanGap};
+
+pub use crate::listed::Listed;
+pub use crate::loops::Loop;
+pub use dpl_spec::{Pt, Rect, Zone};
+
+/// The number of a piece, a feature or a zone.
+pub type Id = u64;
+
+/// Two different numbers, the smaller first.
+pub type Edge = (Id, Id);
+
+/// How far from 0 a coordinate of a layer may lie, in database units.
+pub const FARTHEST: i64 = 1_000_000_000;
+
+/// How many units lie between the columns `a0` to `a1 - 1` and the columns `b0` to `b1 - 1`.
+pub fn span_gap(a0: i64, a1: i64, b0: i64, b1: i64) -> u64
+    requires some_a { a0 <ℤ a1 }
+    requires some_b { b0 <ℤ b1 }
+    requires low_a { unsigned_abs a0 ≤ 2 ^ 61 }
+    requires high_a { unsigned_abs a1 ≤ 2 ^ 61 }
+    requires low_b { unsigned_abs b0 ≤ 2 ^ 61 }
+    requires high_b { unsigned_abs b1 ≤ 2 ^ 61 }
+    ensures gap { IsSpanGap a0 a1 b0 b1 result }
+    ensures small { result ≤ 2 ^ 62 }
+{
+    if a1 <= b0 {
+        (b0 - a1) as u64
+    } else if b1 <= a0 {
+        (a0 - b1) as u64
+    } else {
+        0
+    }
+}
+
+/// The least squared distance of a square of `a` and a square of `b`.
+pub fn gap2(a: &Rect, b: &Rect) -> u128
+    requires solid_a { IsSolidWithin (2 ^ 61) a.now }
+    requires solid_b { IsSolidWithin (2 ^ 61) b.now }
+    ensures distance { IsSquaredDistance (Has a.now) (Has b.now) result }
+{
+    let across = span_gap(a.x0, a.x1, b.x0, b.x1) as u128;
+    let up = span_gap(a.y0, a.y1, b.y0, b.y1) as u128;
+    across * across + up * up
+}
+
+/// Whether some square of `a` is closer than `rule` to some square of `b`.
+pub fn near(a: &Rect, b: &Rect, rule: u32) -> bool
+    requires solid_a { IsSolidWithin (2 ^ 61) a.now }
+    requires solid_b { IsSolidWithin (2 ^ 61) b.now }
+    ensures { IsTrue result ↔ AreNear rule (Has a.now) (Has b.now) }
+{
+    gap2(a, b) < rule as u128 * rule as u128
+}
+
+/// Whether some square of `a` shares at least a corner with some square of `b`.
+pub fn touches(a: &Rect, b: &Rect) -> bool
+    requires solid_a { IsSolidWithin (2 ^ 61) a.now }
+    requires solid_b { IsSolidWithin (2 ^ 61) b.now }
+    ensures { IsTrue result ↔ AreTouching (Has a.now) (Has b.now) }
+{
+    gap2(a, b) == 0
+}
+
+/// How many columns away squares that lie `dy` rows apart are still closer than `rule`.
+pub fn reach(rule: u32, dy: u64) -> Option<u32>
+    ensures none { IsNone result ↔ (rule ≤ dy) }
+    ensures some { IfSome result (λ r. IsReach rule dy r) }
+{
+    if dy >= rule as u64 {
+        return None;
+    }
+    let left = rule as u64 * rule as u64 - dy * dy - 1;
+    Some(left.isqrt() as u32)
+}

@@ -1,0 +1,12 @@
+pub mod Squares
+pub mod Slabs
+pub mod Loops
+pub mod Components
+pub mod Zones
+pub mod Pieces
+pub mod Graphs
+pub mod Summary
+pub mod Colours
+pub mod Cycle
+pub mod Decomposition
+pub mod Laws
