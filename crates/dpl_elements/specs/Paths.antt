@@ -1,5 +1,5 @@
 -- Paths: one rectangle for each straight part.
-use Rattle.std.specs.Prelude.{◌≡◌, ℕ, suc, ◌+◌, ◌/◌, ◌%◌, ◌<◌, ◌≤◌, ◌⊎◌, Bool, true, false, ◌&&◌, ℤ, pos, ◌+ℤ◌, ◌-ℤ◌, ◌<ℤ◌, unsigned_abs, List, [], ◌∷◌, length, slice_index_or, if◌then◌else◌}
+use Rattle.std.specs.Prelude.{◌≡◌, ℕ, ◌+◌, ◌/◌, ◌%◌, ◌<◌, ◌⊎◌, Bool, true, false, ◌&&◌, ℤ, pos, ◌+ℤ◌, ◌-ℤ◌, ◌<ℤ◌, unsigned_abs, List, [], ◌∷◌, length, slice_index_or, if◌then◌else◌}
 use lib.Signed.{lt_z, le_z}
 use Rattle.dpl_spec.specs.declared.Pt.{Pt}
 use Rattle.dpl_spec.specs.declared.Rect.{Rect}
@@ -10,12 +10,15 @@ use Rattle.dpl_elements.specs.declared.Heading.TheVariants.{East, North, West, S
 use Rattle.dpl_elements.specs.declared.Segment.{Segment}
 
 -- a path as the file has it, in database units; what the file leaves out is 0
-pub record Path : Type 0 where
+pub record PathElement : Type 0 where
   pub points : List Pt
   pub width : ℤ
   pub kind : ℤ
   pub begin_ext : ℤ
   pub end_ext : ℤ
+
+abbrev pub path_of : List Pt → ℤ → ℤ → ℤ → ℤ → PathElement
+path_of points width kind begin_ext end_ext = record { points = points; width = width; kind = kind; begin_ext = begin_ext; end_ext = end_ext }
 
 abbrev pub same : ℤ → ℤ → Bool
 same a b = le_z a b && le_z b a
@@ -76,7 +79,7 @@ bars half begin end (s ∷ []) = bar half begin end s ∷ []
 bars half begin end (s ∷ t ∷ ts) = bar half begin half s ∷ bars half half end (t ∷ ts)
 
 -- half the width
-abbrev pub half_of : Path → ℤ
+abbrev pub half_of : PathElement → ℤ
 half_of p = pos (unsigned_abs p.width / 2)
 
 -- how far a path of this type goes on past one of its ends, whose given extension is ext
@@ -88,17 +91,17 @@ abbrev pub square_round : ℤ → Pt → Rect
 square_round half p = record { x0 = p.x -ℤ half; y0 = p.y -ℤ half; x1 = p.x +ℤ half; y1 = p.y +ℤ half }
 
 -- the rectangles of a path through points of which no two neighbours are equal
-abbrev pub rects_through : Path → List Pt → List Rect
+abbrev pub rects_through : PathElement → List Pt → List Rect
 rects_through p [] = []
 rects_through p (q ∷ []) = if same p.kind (pos 2) then square_round (half_of p) q ∷ [] else []
 rects_through p (q ∷ r ∷ rs) = bars (half_of p) (past_end p.kind (half_of p) p.begin_ext) (past_end p.kind (half_of p) p.end_ext) (segments_from q r rs)
 
 -- the rectangles of a path; one of width 0 has none
-abbrev pub path_rects : Path → List Rect
+abbrev pub path_rects : PathElement → List Rect
 path_rects p = if same p.width (pos 0) then [] else rects_through p (distinct p.points)
 
 -- the squares of a path
-abbrev pub PathCovers : Path → Pt → Type 0
+abbrev pub PathCovers : PathElement → Pt → Type 0
 PathCovers p s = Covers (path_rects p) s
 
 -- the corners of a rectangle, counterclockwise from the lower left one
@@ -123,7 +126,7 @@ pub data PathFault : Type 0 where
   Negative : PathFault
 
 -- the fault is there
-abbrev pub Applies : Path → PathFault → Type 0
+abbrev pub Applies : PathElement → PathFault → Type 0
 Applies p Round = p.kind ≡ pos 1
 Applies p BadType = (p.kind ≡ pos 0 → ⊥) × (p.kind ≡ pos 1 → ⊥) × (p.kind ≡ pos 2 → ⊥) × (p.kind ≡ pos 4 → ⊥)
 Applies p Odd = unsigned_abs p.width % 2 ≡ 1
@@ -141,11 +144,11 @@ place TurnsBack = 5
 place Negative = 6
 
 -- the first fault that applies to a path that has a width
-pub record IsFirstFault (p : Path) (f : PathFault) : Type 0 where
+pub record IsFirstFault (p : PathElement) (f : PathFault) : Type 0 where
   pub drawn : p.width ≡ pos 0 → ⊥
   pub there : Applies p f
   pub first : (g : PathFault) → place g < place f → Applies p g → ⊥
 
 -- no fault applies, or the path has no width
-abbrev pub IsFaultless : Path → Type 0
+abbrev pub IsFaultless : PathElement → Type 0
 IsFaultless p = (p.width ≡ pos 0) ⊎ ((f : PathFault) → Applies p f → ⊥)
