@@ -137,7 +137,7 @@ abbrev pub is_on : Layer → ℕ → ℕ → Bool
 is_on chosen layer datatype = layer == chosen.layer && datatype == chosen.datatype
 
 -- the path that an element draws; what the file leaves out is 0
-abbrev pub path_shape : Path → paths.Path
+abbrev pub path_shape : Path → paths.PathElement
 path_shape p = record {
   points = points_in p.xy;
   width = unwrap_or p.width (pos 0);
@@ -186,7 +186,7 @@ IsReferenceFault t unlaid NegativeExtension = ⊥
 abbrev pub IsBoundaryFault : List Pt → ElementFault → Type 0
 IsBoundaryFault ps f = (f ≡ SlantedBoundary) × IsSlanted ps
 
-abbrev pub IsPathFault : paths.Path → ElementFault → Type 0
+abbrev pub IsPathFault : paths.PathElement → ElementFault → Type 0
 IsPathFault p RoundPath = paths.IsFirstFault p Round
 IsPathFault p BadPathType = paths.IsFirstFault p BadType
 IsPathFault p OddWidth = paths.IsFirstFault p Odd
