@@ -30,8 +30,8 @@ Spread-all graph from marks noted none s = record {
   complete = λ k r. kept_closed (IsMarked marks) (λ i j p e. ⊎_elim (λ c. absurd (nothing i c)) (λ all. all j e) (s.pending i p)) r s.begun;
 }
   where
-  nothing : (i : ℕ) → Contains noted i → ⊥
-  nothing i (k, lt, e) = absurd (omega (arith, none))
+    nothing : (i : ℕ) → Contains noted i → ⊥
+    nothing i (k, lt, e) = absurd (omega (arith, none))
 
 none_marked : (n k : ℕ) → IsMarked (replicate n false) k → ⊥
 none_marked n k h = ⊎_elim (λ (l : k < n). let e = get_or-replicate n k false false l in let f : true ≡ false = sym h ∙ e in cc) (λ (l : n ≤ k). let p : length (replicate n false) ≤ k = rw (length-replicate n false) l in let e = get_or_past (replicate n false) k false p in let f : true ≡ false = sym h ∙ e in cc) (cases_lt k n)
@@ -45,10 +45,11 @@ Spread-start graph from old marks noted fresh m = record {
   marked = λ k h. ⊎_elim (λ x. absurd (nothing k x)) (λ x. x) (m.notes_alone k h);
 }
   where
-  nothing : (i : ℕ) → Contains [] i → ⊥
-  nothing i c = Contains-nil i c
-  none : (k : ℕ) → IsMarked old k → ⊥
-  none k h = none_marked (length graph) k (rw fresh at h)
+    nothing : (i : ℕ) → Contains [] i → ⊥
+    nothing i c = Contains-nil i c
+
+    none : (k : ℕ) → IsMarked old k → ⊥
+    none k h = none_marked (length graph) k (rw fresh at h)
 
 -- the vertex v is taken from the notes, and its targets are marked
 pub Spread-more : (graph : List (List ℕ)) (from v : ℕ) (old marks : List Bool) (all rest noted : List ℕ) → all ≡ rest ++ v ∷ [] → Spread graph from old all → Marks (Contains (targets_at graph v)) old marks rest noted → Spread graph from marks noted
@@ -60,21 +61,24 @@ Spread-more graph from v old marks all rest noted e s m = record {
   marked = λ k h. ⊎_elim (λ x. m.keeps k (s.marked k (whole k (Contains-append_left rest (v ∷ []) k x)))) (λ x. x) (m.notes_alone k h);
 }
   where
-  whole : (k : ℕ) → Contains (rest ++ v ∷ []) k → Contains all k
-  whole k c = rw e c
-  v_marked : IsMarked old v
-  v_marked = s.marked v (whole v (Contains-push rest v))
-  noted_later : (k : ℕ) → Contains all k → Contains noted k ⊎ ((j : ℕ) → LeadsTo graph k j → IsMarked marks j)
-  noted_later k c = ⊎_elim (λ x. inl (m.keeps_notes k x)) (λ (w : v ≡ k). inr (λ j x. m.sets j (rw w x))) (Contains-push_cases rest v k (rw e at c))
-  later : (k : ℕ) → IsMarked old k → Contains noted k ⊎ ((j : ℕ) → LeadsTo graph k j → IsMarked marks j)
-  later k x = ⊎_elim (λ y. noted_later k y) (λ y. inr (λ j l. m.keeps j (y j l))) (s.pending k x)
+    whole : (k : ℕ) → Contains (rest ++ v ∷ []) k → Contains all k
+    whole k c = rw e c
+
+    v_marked : IsMarked old v
+    v_marked = s.marked v (whole v (Contains-push rest v))
+
+    noted_later : (k : ℕ) → Contains all k → Contains noted k ⊎ ((j : ℕ) → LeadsTo graph k j → IsMarked marks j)
+    noted_later k c = ⊎_elim (λ x. inl (m.keeps_notes k x)) (λ (w : v ≡ k). inr (λ j x. m.sets j (rw w x))) (Contains-push_cases rest v k (rw e at c))
+
+    later : (k : ℕ) → IsMarked old k → Contains noted k ⊎ ((j : ℕ) → LeadsTo graph k j → IsMarked marks j)
+    later k x = ⊎_elim (λ y. noted_later k y) (λ y. inr (λ j l. m.keeps j (y j l))) (s.pending k x)
 
 -- a marked vertex is one of the graph
 pub marked_below : (ms : List Bool) (k : ℕ) → IsMarked ms k → k < length ms
 marked_below ms k m = ⊎_elim (λ (h : k < length ms). h) (λ (h : length ms ≤ k). absurd (past h)) (cases_lt k (length ms))
   where
-  past : length ms ≤ k → ⊥
-  past h = let e = get_or_past ms k false h in let f : true ≡ false = sym m ∙ e in cc
+    past : length ms ≤ k → ⊥
+    past h = let e = get_or_past ms k false h in let f : true ≡ false = sym m ∙ e in cc
 
 -- a noted vertex is one of the graph
 pub noted_below : (graph : List (List ℕ)) (from v : ℕ) (marks : List Bool) (all rest : List ℕ) → all ≡ rest ++ v ∷ [] → Spread graph from marks all → v < length graph
