@@ -1,5 +1,5 @@
 -- What a library is, and which library a list of records is. `bytes` are the file's.
-use Rattle.std.specs.Prelude.{ℕ, ℤ, Bool, ◌==◌, if◌then◌else◌, List, [], ◌∷◌, map, slice_range, Option, Some, None, find}
+use Rattle.std.specs.Prelude.{ℕ, ℤ, Bool, ◌==◌, if◌then◌else◌, List, [], ◌∷◌, map, slice_get, slice_range, Option, Some, None, find}
 use Rattle.std.specs.Option.{option_map}
 use Rattle.dpl_format.specs.Kinds as kinds
 use Rattle.dpl_format.specs.Fields.{u16_at, i16_at, i32_at, real_at, name_of}
@@ -226,4 +226,36 @@ library_of bytes rs = record {
   libname = whole_of bytes kinds.libname rs;
   units = whole_of bytes kinds.units rs;
   structures = map (structure_of bytes) (parts (λ k. k == kinds.bgnstr) kinds.endstr rs);
+}
+
+-- ---- parts of a library
+
+abbrev pub names_in : Library → List (List ℕ)
+names_in lib = map (λ (s : Structure). s.name) lib.structures
+
+abbrev pub elements_or_none : Option Structure → List Element
+elements_or_none None = []
+elements_or_none (Some s) = s.elements
+
+-- the elements of the structure of this number
+abbrev pub elements_at : Library → ℕ → List Element
+elements_at lib i = elements_or_none (slice_get lib.structures i)
+
+-- the whole records before a structure's elements
+pub record Frame : Type 0 where
+  pub header : List ℕ
+  pub bgnlib : List ℕ
+  pub libname : List ℕ
+  pub units : List ℕ
+  pub bgnstr : List ℕ
+  pub strname : List ℕ
+
+abbrev pub frame_of : Library → Structure → Frame
+frame_of lib s = record {
+  header = lib.header;
+  bgnlib = lib.bgnlib;
+  libname = lib.libname;
+  units = lib.units;
+  bgnstr = s.bgnstr;
+  strname = s.strname;
 }
