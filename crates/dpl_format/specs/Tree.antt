@@ -1,5 +1,5 @@
 -- What a library is, and which library a list of records is. `bytes` are the file's.
-use Rattle.std.specs.Prelude.{ℕ, ℤ, Bool, ◌==◌, if◌then◌else◌, List, [], ◌∷◌, map, slice_get, slice_range, Option, Some, None, find}
+use Rattle.std.specs.Prelude.{◌≡◌, ℕ, ◌%◌, ◌≤◌, length, ℤ, Bool, ◌==◌, if◌then◌else◌, List, [], ◌∷◌, map, slice_get, slice_range, Option, Some, None, find}
 use Rattle.std.specs.Option.{option_map}
 use Rattle.dpl_format.specs.Kinds as kinds
 use Rattle.dpl_format.specs.Fields.{u16_at, i16_at, i32_at, real_at, name_of}
@@ -62,6 +62,20 @@ pub data Body : Type 0 where
   is_text : Text → Body
   is_node : Node → Body
   is_box : BoxShape → Body
+
+-- one point or more
+abbrev pub IsPoints : List ℕ → Type 0
+IsPoints xy = (8 ≤ length xy) × (length xy % 8 ≡ 0)
+
+-- A reference and a text have one point, an array three, every other element one or more.
+abbrev pub HasPoints : Body → Type 0
+HasPoints (is_boundary b) = IsPoints b.xy
+HasPoints (is_path p) = IsPoints p.xy
+HasPoints (is_sref r) = length r.xy ≡ 8
+HasPoints (is_aref r) = length r.xy ≡ 24
+HasPoints (is_text t) = length t.xy ≡ 8
+HasPoints (is_node n) = IsPoints n.xy
+HasPoints (is_box b) = IsPoints b.xy
 
 pub record Element : Type 0 where
   -- the offset of its first record
