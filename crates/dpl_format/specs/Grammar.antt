@@ -55,13 +55,13 @@ abbrev pub path : Grammar
 path =
     a kinds.path
     ⨾ flags
-        (a kinds.layer
-        ⨾ a kinds.datatype
-        ⨾ maybe (a kinds.pathtype)
-        ⨾ maybe (a kinds.width)
-        ⨾ maybe (a kinds.bgnextn)
-        ⨾ maybe (a kinds.endextn)
-        ⨾ a kinds.xy)
+    (a kinds.layer
+    ⨾ a kinds.datatype
+    ⨾ maybe (a kinds.pathtype)
+    ⨾ maybe (a kinds.width)
+    ⨾ maybe (a kinds.bgnextn)
+    ⨾ maybe (a kinds.endextn)
+    ⨾ a kinds.xy)
 
 abbrev pub sref : Grammar
 sref = a kinds.sref ⨾ flags (a kinds.sname ⨾ maybe strans ⨾ a kinds.xy)
@@ -73,14 +73,14 @@ abbrev pub text : Grammar
 text =
     a kinds.text
     ⨾ flags
-        (a kinds.layer
-        ⨾ a kinds.texttype
-        ⨾ maybe (a kinds.presentation)
-        ⨾ maybe (a kinds.pathtype)
-        ⨾ maybe (a kinds.width)
-        ⨾ maybe strans
-        ⨾ a kinds.xy
-        ⨾ a kinds.text_string)
+    (a kinds.layer
+    ⨾ a kinds.texttype
+    ⨾ maybe (a kinds.presentation)
+    ⨾ maybe (a kinds.pathtype)
+    ⨾ maybe (a kinds.width)
+    ⨾ maybe strans
+    ⨾ a kinds.xy
+    ⨾ a kinds.text_string)
 
 abbrev pub node : Grammar
 node = a kinds.node ⨾ flags (a kinds.layer ⨾ a kinds.nodetype ⨾ a kinds.xy)

@@ -1,5 +1,5 @@
 -- What a library is, and which library a list of records is. `bytes` are the file's.
-use Rattle.std.specs.Prelude.{ℕ, ℤ, Bool, ◌==◌, if◌then◌else◌, List, [], ◌∷◌, map, slice_range, Option, Some, None, find}
+use Rattle.std.specs.Prelude.{◌≡◌, ℕ, ◌%◌, ◌≤◌, length, ℤ, Bool, ◌==◌, if◌then◌else◌, List, [], ◌∷◌, map, slice_get, slice_range, Option, Some, None, find}
 use Rattle.std.specs.Option.{option_map}
 use Rattle.dpl_format.specs.Kinds as kinds
 use Rattle.dpl_format.specs.Fields.{u16_at, i16_at, i32_at, real_at, name_of}
@@ -62,6 +62,20 @@ pub data Body : Type 0 where
   is_text : Text → Body
   is_node : Node → Body
   is_box : BoxShape → Body
+
+-- one point or more
+abbrev pub IsPoints : List ℕ → Type 0
+IsPoints xy = (8 ≤ length xy) × (length xy % 8 ≡ 0)
+
+-- A reference and a text have one point, an array three, every other element one or more.
+abbrev pub HasPoints : Body → Type 0
+HasPoints (is_boundary b) = IsPoints b.xy
+HasPoints (is_path p) = IsPoints p.xy
+HasPoints (is_sref r) = length r.xy ≡ 8
+HasPoints (is_aref r) = length r.xy ≡ 24
+HasPoints (is_text t) = length t.xy ≡ 8
+HasPoints (is_node n) = IsPoints n.xy
+HasPoints (is_box b) = IsPoints b.xy
 
 pub record Element : Type 0 where
   -- the offset of its first record
@@ -226,4 +240,36 @@ library_of bytes rs = record {
   libname = whole_of bytes kinds.libname rs;
   units = whole_of bytes kinds.units rs;
   structures = map (structure_of bytes) (parts (λ k. k == kinds.bgnstr) kinds.endstr rs);
+}
+
+-- ---- parts of a library
+
+abbrev pub names_in : Library → List (List ℕ)
+names_in lib = map (λ (s : Structure). s.name) lib.structures
+
+abbrev pub elements_or_none : Option Structure → List Element
+elements_or_none None = []
+elements_or_none (Some s) = s.elements
+
+-- the elements of the structure of this number
+abbrev pub elements_at : Library → ℕ → List Element
+elements_at lib i = elements_or_none (slice_get lib.structures i)
+
+-- the whole records before a structure's elements
+pub record Frame : Type 0 where
+  pub header : List ℕ
+  pub bgnlib : List ℕ
+  pub libname : List ℕ
+  pub units : List ℕ
+  pub bgnstr : List ℕ
+  pub strname : List ℕ
+
+abbrev pub frame_of : Library → Structure → Frame
+frame_of lib s = record {
+  header = lib.header;
+  bgnlib = lib.bgnlib;
+  libname = lib.libname;
+  units = lib.units;
+  bgnstr = s.bgnstr;
+  strname = s.strname;
 }

@@ -45,17 +45,61 @@ impl Form {
 }
 
 const UNKNOWN: Option<Form> = None;
-const UNCHECKED: Option<Form> = Some(Form { data_type: None, size: Size::Any });
-const EMPTY: Option<Form> = Some(Form { data_type: Some(0), size: Size::Exactly(0) });
-const BITS: Option<Form> = Some(Form { data_type: Some(1), size: Size::Exactly(2) });
-const SHORT: Option<Form> = Some(Form { data_type: Some(2), size: Size::Exactly(2) });
-const SHORTS: Option<Form> = Some(Form { data_type: Some(2), size: Size::Exactly(4) });
-const DATES: Option<Form> = Some(Form { data_type: Some(2), size: Size::Exactly(24) });
-const LONG: Option<Form> = Some(Form { data_type: Some(3), size: Size::Exactly(4) });
-const POINTS: Option<Form> = Some(Form { data_type: Some(3), size: Size::Points });
-const REAL: Option<Form> = Some(Form { data_type: Some(5), size: Size::Exactly(8) });
-const REALS: Option<Form> = Some(Form { data_type: Some(5), size: Size::Exactly(16) });
-const TEXT: Option<Form> = Some(Form { data_type: Some(6), size: Size::Any });
+
+const UNCHECKED: Option<Form> = Some(Form {
+    data_type: None,
+    size: Size::Any,
+});
+
+const EMPTY: Option<Form> = Some(Form {
+    data_type: Some(0),
+    size: Size::Exactly(0),
+});
+
+const BITS: Option<Form> = Some(Form {
+    data_type: Some(1),
+    size: Size::Exactly(2),
+});
+
+const SHORT: Option<Form> = Some(Form {
+    data_type: Some(2),
+    size: Size::Exactly(2),
+});
+
+const SHORTS: Option<Form> = Some(Form {
+    data_type: Some(2),
+    size: Size::Exactly(4),
+});
+
+const DATES: Option<Form> = Some(Form {
+    data_type: Some(2),
+    size: Size::Exactly(24),
+});
+
+const LONG: Option<Form> = Some(Form {
+    data_type: Some(3),
+    size: Size::Exactly(4),
+});
+
+const POINTS: Option<Form> = Some(Form {
+    data_type: Some(3),
+    size: Size::Points,
+});
+
+const REAL: Option<Form> = Some(Form {
+    data_type: Some(5),
+    size: Size::Exactly(8),
+});
+
+const REALS: Option<Form> = Some(Form {
+    data_type: Some(5),
+    size: Size::Exactly(16),
+});
+
+const TEXT: Option<Form> = Some(Form {
+    data_type: Some(6),
+    size: Size::Any,
+});
 
 /// By type, from HEADER on.
 const TABLE: [Option<Form>; 60] = [
@@ -74,7 +118,11 @@ pub fn form_of(kind: u8) -> Option<Form>
     ensures { option_map form_seen result ≡ format.form_of kind }
 {
     let place = kind as usize;
-    if place < TABLE.len() { TABLE[place] } else { None }
+    if place < TABLE.len() {
+        TABLE[place]
+    } else {
+        None
+    }
 }
 
 /// The data type of a type of record, or 0 where none is known.

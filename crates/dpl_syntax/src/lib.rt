@@ -1,13 +1,12 @@
-// A library with one function.
+//! The library that a GDSII Stream file holds (GDSII Stream Format, Release 6).
 #![tactic(auto)]
 
-ghost use Rattle.std.specs.Prelude.{◌≡◌};
-ghost use Rattle.dpl_syntax.specs.Echo.{echo_of};
+mod element;
+mod fault;
+mod library;
+mod read;
 
-// The `ensures` clause is the contract: what `echo` returns is `echo_of` of its argument, a definition
-// in `specs/Echo.antt`, which a caller's clause can cite too.
-pub fn echo(x: usize) -> usize
-    ensures { result ≡ echo_of x }
-{
-    x
-}
+pub use crate::element::{Body, Element, Trans};
+pub use crate::fault::SyntaxFault;
+pub use crate::library::{Frame, Library};
+pub use crate::read::read_library;
