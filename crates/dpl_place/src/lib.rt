@@ -1,7 +1,7 @@
 //! Where references of GDSII Stream files place what they name.
 #![tactic(auto)]
 
-ghost use Rattle.std.specs.Prelude.{◌≡◌, ◌+◌, ◌-◌, ◌%◌, ◌^◌, ◌<◌, ◌≤◌, ℤ, if◌then◌else◌};
+ghost use Rattle.std.specs.Prelude.{◌≡◌, ◌+◌, ◌-◌, ◌%◌, ◌^◌, ◌<◌, ◌≤◌, false, ℤ, pos, if◌then◌else◌};
 ghost use Rattle.dpl_spec.specs.declared.Pt.{Pt};
 ghost use Rattle.dpl_spec.specs.Loops.{IsPointWithin};
 ghost use Rattle.dpl_elements.specs.Motions.{Motion, reflected, turned, image, IsComposed, IsMotionWithin};
@@ -45,7 +45,7 @@ impl Place {
     /// The placement that moves nothing.
     pub fn unit() -> Place
         ensures stays { (p : Pt) → image result p ≡ p }
-        ensures turns { result.turns < 4 }
+        ensures value { result ≡ record { reflect = false; turns = 0; dx = pos 0; dy = pos 0 } }
     {
         Place {
             reflect: false,
