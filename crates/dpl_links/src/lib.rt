@@ -3,6 +3,8 @@
 
 mod levels;
 mod reached;
+mod sources;
 
 pub use crate::levels::{always_falls, find_levels, is_on_cycle};
 pub use crate::reached::reach;
+pub use crate::sources::find_sources;
