@@ -10,7 +10,11 @@ ghost use Rattle.dpl_layout.specs.Faults.{IsFaultless, IsFirstFault};
 
 use dpl_base::Loop;
 
+mod count;
+mod least;
 mod links;
+mod missing;
+mod recursion;
 mod top;
 
 pub use crate::top::top_of;
