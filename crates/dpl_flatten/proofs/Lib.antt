@@ -3,3 +3,5 @@ pub mod LinkLaws
 pub mod LeastLaws
 pub mod ReachLaws
 pub mod TotalLaws
+pub mod DrawnLaws
+pub mod FoundLaws
