@@ -5,3 +5,4 @@ pub mod ReachLaws
 pub mod TotalLaws
 pub mod DrawnLaws
 pub mod FoundLaws
+pub mod CopyLaws

@@ -14,6 +14,8 @@ use crate::recursion::Levelled;
 use dpl_base::Loop;
 use dpl_links::{find_levels, reach};
 
+mod cells;
+mod copies;
 mod count;
 mod faults;
 mod least;
@@ -24,6 +26,7 @@ mod refs;
 mod refused;
 mod shapes;
 mod top;
+mod walk;
 
 pub use crate::top::top_of;
 pub use dpl_layout::{ElementFault, FlattenFault, Layer, TopFault};
