@@ -11,3 +11,4 @@ pub mod StackLaws
 pub mod BareLaws
 pub mod CellLaws
 pub mod PlacedLaws
+pub mod ResultLaws

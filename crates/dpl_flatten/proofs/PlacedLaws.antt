@@ -1,7 +1,8 @@
 -- What the walk over cells shows is what the placements of the layout draw.
-use Rattle.std.proofs.Common.{◌≡◌, ℕ, ◌+◌, ◌*◌, ◌<◌, ◌≤◌, ◌⊎◌, inl, inr, ⊎_elim, Bool, true, false, ℤ, pos, negsuc, ◌+ℤ◌, ◌*ℤ◌, List, [], ◌∷◌, Option, Some, None, map, length, refl, sym, ap, ◌∙◌, arith}
+use Rattle.std.proofs.Common.{◌≡◌, ℕ, ◌+◌, ◌*◌, ◌<◌, ◌≤◌, ◌⊎◌, inl, inr, ⊎_elim, Bool, true, false, ℤ, pos, negsuc, ◌+ℤ◌, ◌*ℤ◌, List, [], ◌∷◌, Option, Some, None, map, length, get_or, refl, sym, ap, ◌∙◌, arith}
 use Rattle.std.specs.List.{All, Any, Contains}
 use Rattle.std.proofs.lemmas.Int.{ints}
+use Rattle.std.proofs.lemmas.List.Elements.{Contains-get_or}
 use Rattle.dpl_spec.specs.declared.Pt.{Pt}
 use Rattle.dpl_spec.proofs.Ordered.{Contains-nil}
 use Rattle.dpl_elements.specs.Reals.{Excess64, real_of, IsWhole, IsQuarterTurns}
@@ -16,8 +17,11 @@ use Rattle.dpl_flatten.specs.declared.cells.Outline.{Outline}
 use Rattle.dpl_flatten.specs.declared.cells.Copies.{Copies}
 use Rattle.dpl_flatten.specs.declared.cells.Cell.{Cell}
 use Rattle.dpl_flatten.specs.Links.{IsLevelled}
-use Rattle.dpl_flatten.specs.Cells.{copy_motion, AreCopies, IsCell}
-use Rattle.dpl_flatten.specs.Walk.{Pass, Passes, through, IsShown, AreCells, outlines_at, copies_at}
+use Rattle.dpl_flatten.specs.Cells.{copy_motion, AreCopies, IsCell, AreBareTargets}
+use Rattle.dpl_flatten.specs.Totals.{AreTotals}
+use Rattle.dpl_flatten.specs.Walk.{Pass, Passes, through, IsShown, AreCells, AreKnown, outlines_at, copies_at}
+use Rattle.dpl_flatten.proofs.LinkLaws.{target_known}
+use Rattle.dpl_flatten.proofs.StackLaws.{shown_by, shown_below}
 
 -- A loop of an element, where steps lead to it from structure k, which is placed by f.
 abbrev pub IsOfPlacement : Library → Layer → ℕ → (Pt → Pt) → List Pt → ℕ → Type 0
@@ -28,14 +32,56 @@ one_number : (r : Excess64) (p q : ℤ) → IsWhole r p → IsWhole r q → p �
 one_number r p q a b = omega (arith, ints, a, b)
 
 one_turn : (r : Excess64) (m n : ℕ) → IsQuarterTurns r m → IsQuarterTurns r n → m ≡ n
-one_turn r m n a b = let e = one_number r _ _ a.1.1 b.1.1 in omega (arith, ints, e, a.0, b.0)
+one_turn r m n a b = let e = one_number r (pos 90 *ℤ (pos 4 *ℤ a.1.0 +ℤ pos m)) (pos 90 *ℤ (pos 4 *ℤ b.1.0 +ℤ pos n)) a.1.1 b.1.1 in omega (arith, ints, e, a.0, b.0)
 
 turns_same : (angle : Option (List ℕ)) (m n : ℕ) → AreTurns angle m → AreTurns angle n → m ≡ n
 turns_same None m n a b = a ∙ sym b
 turns_same (Some bytes) m n a b = one_turn (real_of bytes) m n a b
 
 same_motion : (m n : Motion) → m.reflect ≡ n.reflect → m.turns ≡ n.turns → m.dx ≡ n.dx → m.dy ≡ n.dy → m ≡ n
-same_motion m n a b c d = ?
+same_motion m n a b c d = λ i. record { reflect = a i; turns = b i; dx = c i; dy = d i }
 
 one_copy : (b : Body) (i j : ℕ) (m n : Motion) → IsCopyMotion b i j m → IsCopyMotion b i j n → m ≡ n
 one_copy b i j m n x y = same_motion m n (x.reflect ∙ sym y.reflect) (turns_same _ m.turns n.turns x.turns y.turns) (x.x ∙ sym y.x) (x.y ∙ sym y.y)
+
+marked_or : (b : Bool) → (b ≡ true) ⊎ (b ≡ true → ⊥)
+marked_or true = inl refl
+marked_or false = inr (λ e. let f : false ≡ true = e in cc)
+
+module _ (lib : Library) (layer : Layer) (graph : List (List ℕ)) (marks : List Bool) (levels : List ℕ) (cells : List Cell) (links : IsLevelled lib graph marks levels) (are : AreCells lib layer marks cells) where
+  pub to_layout : (ss : List Pass) (k l : ℕ) (f : Pt → Pt) (o : Outline) → IsMarked marks k → Passes cells k ss l → Contains (outlines_at cells l) o → IsOfPlacement lib layer k f (map (λ p. f (through ss p)) o.points) o.at
+  to_layout [] k l f o m e c =
+      let d = (are.marked k m).drawn o (rw e c) in
+      ([], k, d.0, o.points, record { leads = refl; inside = d.1 }, d.3, refl, d.2)
+  to_layout (s ∷ ss) k l f o m e c =
+      let motion = copy_motion s.copies s.column s.row in
+      let p = (are.marked k m).placed s.copies e.0 in
+      let edge = links.graph_of.refers k s.copies.target (p.0, p.1, p.2) in
+      let r = to_layout ss s.copies.target l (λ q. f (image (copy_motion s.copies s.column s.row) q)) o (links.closed k s.copies.target m edge) e.3 c in
+      let first : Step = record { element = p.0; column = s.column; row = s.row; motion = motion } in
+      let step : IsStep lib k first s.copies.target = record { inside = p.1; target = p.2; column = rw (← p.3.columns) e.1; row = rw (← p.3.rows) e.2; motion = p.3.motions s.column s.row e.1 e.2 } in
+      (first ∷ r.0, r.1, r.2, r.3, record { leads = (s.copies.target, step, r.4.leads); inside = r.4.inside }, r.5, r.6, r.7)
+
+  pub from_layout : (steps : List Step) (k l : ℕ) (f : Pt → Pt) (e : Element) (qs : List Pt) → IsMarked marks k → Leads lib k steps l → Contains (elements_at lib l) e → Contains (loops_of layer e.body) qs → IsShown cells k f (map (λ p. f (placed steps p)) qs) e.at
+  from_layout [] k l f e qs m d c q =
+      ([], k, record { at = e.at; points = qs }, refl, (are.marked k m).outlined e qs (rw d c) q, refl, refl)
+  from_layout (s ∷ ss) k l f e qs m d c q =
+      let edge = links.graph_of.refers k d.0 (s.element, d.1.inside, d.1.target) in
+      let r = from_layout ss d.0 l (λ p. f (image s.motion p)) e qs (links.closed k d.0 m edge) d.2 c q in
+      ⊎_elim (λ bare. absurd (bare ss l e qs (record { leads = d.2; inside = c }) q))
+      (λ (x : (a : Copies) × Contains (copies_at cells k) a × (a.target ≡ d.0) × AreCopies s.element.body a).
+      let i : s.column < x.0.columns = rw x.3.columns d.1.column in
+      let j : s.row < x.0.rows = rw x.3.rows d.1.row in
+      let same : s.motion ≡ copy_motion x.0 s.column s.row = one_copy s.element.body s.column s.row s.motion (copy_motion x.0 s.column s.row) d.1.motion (x.3.motions s.column s.row i j) in
+      shown_below cells k f (map (λ p. f (placed (s ∷ ss) p)) qs) e.at x.0 s.column s.row (x.1, i, j)
+      (shown_by cells d.0 x.0.target (λ p. f (image s.motion p)) (λ p. f (image (copy_motion x.0 s.column s.row) p)) (map (λ p. f (placed (s ∷ ss) p)) qs) e.at (sym x.2) (λ p. ap (λ (n : Motion). f (image n p)) same) r))
+      ((are.marked k m).copied s.element d.0 d.1.inside d.1.target)
+
+  pub cells_known : AreKnown cells
+  cells_known = record {
+    targets = λ k c h. ⊎_elim (λ m. let p = (are.marked k m).placed c h in let t = target_known lib p.0 c.target p.2 in omega (arith, t, are.each)) (λ n. absurd (Contains-nil c (rw (are.unmarked k n) at h))) (marked_or (get_or marks k false));
+    ready = λ k i d h. ⊎_elim (λ m. (are.marked k m).ready (get_or (copies_at cells k) i d) (Contains-get_or (copies_at cells k) i d h)) (λ n. absurd (omega (arith, h, ap length (are.unmarked k n)))) (marked_or (get_or marks k false));
+  }
+
+pub bare_targets : (lib : Library) (layer : Layer) (graph : List (List ℕ)) (marks : List Bool) (levels totals : List ℕ) → IsLevelled lib graph marks levels → AreTotals lib layer marks totals → (k : ℕ) → IsMarked marks k → AreBareTargets lib layer totals (elements_at lib k)
+bare_targets lib layer graph marks levels totals links t k m e j c target none = t.bare j (links.closed k j m (links.graph_of.refers k j (e, c, target))) none

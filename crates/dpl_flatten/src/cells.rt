@@ -301,7 +301,7 @@ fn cell_where(
 }
 
 /// What the marked structures draw and place.
-pub(crate) fn cells(
+pub(crate) fn make_cells(
     alloc: Global,
     lib: &Library<'_>,
     chosen: Layer,

@@ -10,6 +10,7 @@ ghost use Rattle.dpl_layout.specs.Faults.{IsFaultless, IsFirstFault};
 
 use crate::faults::find_faults;
 use crate::links::graph_of;
+use crate::place::place_all;
 use crate::recursion::Levelled;
 use dpl_base::Loop;
 use dpl_links::{find_levels, reach};
@@ -21,6 +22,7 @@ mod faults;
 mod least;
 mod links;
 mod missing;
+mod place;
 mod recursion;
 mod refs;
 mod refused;
@@ -62,6 +64,7 @@ pub fn flatten(
         marks: marks.as_slice(),
         levels: levels.as_slice(),
     };
-    find_faults(alloc, lib, top, layer, &links)?;
-    Err(FlattenFault::NoMemory)
+    let totals = find_faults(alloc, lib, top, layer, &links)?;
+    let loops = place_all(alloc, lib, top, layer, &links, totals.as_slice())?;
+    Ok(loops)
 }

@@ -1,6 +1,6 @@
 use Rattle.std.proofs.Common.{refl, arith}
 use Rattle.dpl_flatten.proofs.CellLaws.{below_none, below_more, below_all}
-use Rattle.dpl_flatten.proofs.cells.cells.Goals as goal
+use Rattle.dpl_flatten.proofs.cells.make_cells.Goals as goal
 
 pub loop-structure-init : goal.loop-structure-init
 loop-structure-init c = below_none c.args.lib.now c.args.chosen c.args.marks.now c.new-cells.result.items c.new-cells.ensures.items

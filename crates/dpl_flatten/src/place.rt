@@ -1,0 +1,47 @@
+//! The loops of all placements.
+
+ghost use Rattle.std.specs.Prelude.{◌≡◌, ◌<◌, ◌↔◌, length, IfOk, IfErr, OnOk};
+ghost use Rattle.std.specs.List.{All};
+ghost use Rattle.dpl_spec.specs.declared.Pt.{Pt};
+ghost use Rattle.dpl_spec.specs.Loops.{SomeLoopCovers, IsRectilinear, AreLoopsWithin, farthest};
+ghost use Rattle.dpl_layout.specs.Placements.{IsInLayer};
+ghost use Rattle.dpl_layout.specs.Faults.{IsSmall, IsFaultless, IsFirstFault};
+ghost use Rattle.dpl_links.specs.Graph.{AreReached};
+ghost use Rattle.dpl_flatten.specs.Links.{IsLevelled};
+ghost use Rattle.dpl_flatten.specs.Totals.{AreTotals};
+
+use crate::cells::make_cells;
+use crate::recursion::Levelled;
+use crate::walk::walk_from;
+use dpl_base::Loop;
+use dpl_layout::{FlattenFault, Layer};
+use dpl_syntax::Library;
+use std::alloc::Global;
+
+/// The loops that the top places, or the least offset of an element that is placed out of range.
+pub(crate) fn place_all(
+    alloc: Global,
+    lib: &Library<'_>,
+    top: u32,
+    layer: Layer,
+    links: &Levelled<'_>,
+    totals: &[u32],
+) -> Result<Vec<Loop>, FlattenFault>
+    requires links { IsLevelled lib.now links.now.graph.now links.now.marks.now links.now.levels.now }
+    requires reached { AreReached links.now.graph.now top links.now.marks.now }
+    requires top { top < length lib.now.structures }
+    requires small { IsSmall lib.now top layer }
+    requires totals { AreTotals lib.now layer links.now.marks.now totals.now }
+    ensures covers { IfOk result (λ loops. (s : Pt) → SomeLoopCovers loops.items s ↔ IsInLayer lib.now top layer s) }
+    ensures straight { IfOk result (λ loops. All IsRectilinear loops.items) }
+    ensures within { IfOk result (λ loops. AreLoopsWithin farthest loops.items) }
+    ensures faultless { OnOk result (IsFaultless lib.now top layer) }
+    ensures fault { IfErr result (λ f. IsFirstFault lib.now top layer f) }
+{
+    let cells = make_cells(alloc, lib, layer, totals, links.marks)?;
+    let found = walk_from(alloc, cells.as_slice(), top)?;
+    match found.far {
+        Some(at) => Err(FlattenFault::OutOfRange { at }),
+        None => Ok(found.loops),
+    }
+}
