@@ -1,0 +1,37 @@
+use Rattle.std.proofs.lemmas.Result.{IfOk-weaker}
+use Rattle.std.proofs.Common.{◌∙◌, ap, sym, inl, inr, subst}
+use Rattle.clap.specs.Kinds.{HasKind}
+use Rattle.clap.specs.Simple.{App, is_simple, subcommand_of}
+use Rattle.clap.specs.Faults.{fault_of, is_simple_and_free}
+use Rattle.clap.specs.Walk.{texts}
+use Rattle.dpl_words.specs.Meaning.{asked_of}
+use Rattle.dpl_words.proofs.Taken.{not_taken, simple, simple_and_free, taken}
+use Rattle.dpl_words.proofs.values.read_words.Goals as goal
+
+pub returns-in-Err-clause-usage : goal.returns-in-Err-clause-usage
+returns-in-Err-clause-usage c = λ h.
+    let is = c.in_ok-command.ensures in
+    let fails = c.in-Err.ensures.kinds (ap is_simple_and_free is ∙ simple_and_free) in
+    let mine = subst (λ (a : App). HasKind (fault_of a (texts c.args.words.now)) c.in-Err.error) is fails in
+    elim mine [
+      | inl memory ↦ let no = c.fault_by.ensures.memory (c.kind.ensures ∙ memory) in cc
+      | inr among ↦ not_taken (texts c.args.words.now) _ among
+    ]
+
+pub returns-clause-read : goal.returns-clause-read
+returns-clause-read c =
+    let is = c.in_ok-command.ensures in
+    let none = c.in-Ok.ensures.kinds (ap is_simple_and_free is ∙ simple_and_free) in
+    let met = c.in-Ok.ensures.matches (ap is_simple is ∙ simple) in
+    let same = taken (texts c.args.words.now) (ap (λ (a : App). fault_of a (texts c.args.words.now)) (sym is) ∙ none)
+    ∙ ap asked_of (sym (met.1 ∙ ap (λ (a : App). subcommand_of a (texts c.args.words.now)) is)) in
+    IfOk-weaker c.asked.result _ _ (λ r h. same ∙ h) c.asked.ensures.read
+
+pub returns-clause-usage : goal.returns-clause-usage
+returns-clause-usage c = λ h.
+    let is = c.in_ok-command.ensures in
+    let none = c.in-Ok.ensures.kinds (ap is_simple_and_free is ∙ simple_and_free) in
+    let met = c.in-Ok.ensures.matches (ap is_simple is ∙ simple) in
+    taken (texts c.args.words.now) (ap (λ (a : App). fault_of a (texts c.args.words.now)) (sym is) ∙ none)
+    ∙ ap asked_of (sym (met.1 ∙ ap (λ (a : App). subcommand_of a (texts c.args.words.now)) is))
+    ∙ c.asked.ensures.usage h

@@ -1,0 +1,10 @@
+//! Laws of the command line.
+ghost use Rattle.std.specs.Prelude.{◌≡◌, List, ℕ, is_some, true};
+ghost use Rattle.clap.specs.Simple.{subcommand_of};
+ghost use Rattle.dpl_words.specs.Definition.{dpl_app};
+ghost use Rattle.dpl_words.specs.Meaning.{is_taken};
+
+/// Words that `clap` takes name a subcommand.
+pub fn taken_names_a_subcommand()
+    ensures { (words : List (List ℕ)) → is_taken words ≡ true → is_some (subcommand_of dpl_app words) ≡ true }
+{}
