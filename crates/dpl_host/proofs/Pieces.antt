@@ -3,7 +3,7 @@ use Rattle.std.proofs.Common.{◌≡◌, ◌∙◌, ◌++◌, ◌∷◌, ◌+◌
 use Rattle.std.proofs.Math.Seq.{take-length}
 use Rattle.std.proofs.lemmas.List.{length-take, length-take-le}
 use Rattle.std.specs.Prelude.{IfSome, unwrap_or}
-use Rattle.dpl_host.specs.Outside.{GivesOf, Outside, file_of}
+use Rattle.dpl_host.specs.Outside.{Gave, GivesOf, Outside, file_of}
 
 take_nothing : {X : Type 0} (k : ℕ) → ◌≡◌ {A = List X} [] (take k [])
 take_nothing zero = refl
@@ -54,3 +54,11 @@ too_long (Some o) name bytes front long = go (file_of o name) refl
     go (Some file) e =
         let front' : bytes ≡ take (length bytes) file = front ∙ ap (λ (f : Option (List ℕ)). take (length bytes) (unwrap_or f [])) e in
         (file, e, omega (arith, no_longer bytes file front'))
+
+-- a read behind the bytes that are there gave so many more
+pub given_more : (first before now : ℕ) (bytes chunk buffer : List ℕ) (n : ℕ) (all : List ℕ) → Gave first (length bytes) before → Gave before n now → chunk ≡ take n buffer → n ≤ length buffer → all ≡ bytes ++ chunk
+    → Gave first (length all) now
+given_more first before now bytes chunk buffer n all old new same fits is =
+    let long : length chunk ≡ n = ap length same ∙ length-take-le n buffer fits in
+    let size : length all ≡ length bytes + n = omega (arith, ap length is, length-append bytes chunk, long) in
+    omega (arith, size, old, new)

@@ -3,7 +3,6 @@ use Rattle.std.specs.Prelude.{◌&&◌, ◌==◌, ◌+◌, ◌-◌, ◌^◌, ℕ
 use Rattle.std.specs.List.{list_any}
 use Rattle.dpl_host.specs.Outside.{Outside}
 use Rattle.dpl_host.specs.Memory.{files_of}
-use Rattle.dpl_host.specs.declared.memory.Failing.{Failing}
 use Rattle.dpl_host.specs.declared.memory.Kind.{Kind}
 use Rattle.dpl_host.specs.declared.memory.Kind.TheVariants.{Read, Create, Append, Say}
 use Rattle.dpl_host.specs.declared.memory.MemHost.{MemHost}
@@ -19,8 +18,8 @@ same_kind Say Say = true
 same_kind _ _ = false
 
 -- the call of this kind and number is to fail
-abbrev pub lists : List Failing → Kind → ℕ → Bool
-lists failing kind number = list_any (λ f. same_kind f.kind kind && (f.number == number)) failing
+abbrev pub lists : List (Kind × ℕ) → Kind → ℕ → Bool
+lists failing kind number = list_any (λ f. same_kind f.0 kind && (f.1 == number)) failing
 
 -- a count that stands still at its last value
 abbrev pub next_count : ℕ → ℕ
@@ -44,7 +43,7 @@ refusals h = h.refused
 -- what a host goes by: what it is to do, and how many calls of each kind there were
 pub record Plan : Type 0 where
   pub step : ℕ
-  pub failing : List Failing
+  pub failing : List (Kind × ℕ)
   pub reads : ℕ
   pub creates : ℕ
   pub appends : ℕ

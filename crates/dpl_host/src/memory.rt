@@ -1,7 +1,7 @@
 //! A host in memory, which fails where it is told to.
 ghost use Rattle.std.specs.Prelude.{◌≡◌, ◌<◌, ◌≤◌, ◌||◌, ◌⊎◌, ◌^◌, ◌-◌, true, false, not, is_some, is_err, length, min, take, Some, None, IfOk, IfSome, IsErr, OnErr, OnOk, option_map, []};
 ghost use Rattle.std.specs.FinMap as map;
-ghost use Rattle.dpl_host.specs.Outside.{Changes, Gives, HasCause, IsThere, Reads, Rose, Takes, file_of, with_file, with_more, with_said};
+ghost use Rattle.dpl_host.specs.Outside.{Changes, Gave, Gives, HasCause, IsThere, Reads, Rose, Takes, file_of, with_file, with_more, with_said};
 ghost use Rattle.dpl_host.specs.Memory.{files_of};
 ghost use Rattle.dpl_host.specs.MemHost.{append_is_listed, create_is_listed, lists, next_count, plan_of, outside_of, read_is_listed, refusals, same_kind, say_is_listed};
 
@@ -20,12 +20,8 @@ pub enum Kind {
     Say,
 }
 
-/// A call that is to fail: its kind, and its number among those of its kind.
-#[derive(Clone, Copy, Debug)]
-pub struct Failing {
-    pub kind: Kind,
-    pub number: u64,
-}
+/// A call that is to fail: its kind, and its number among those of its kind, from 0.
+pub type Failing = (Kind, u64);
 
 /// Files in memory. It tells them.
 #[derive(Drop)]
@@ -42,6 +38,7 @@ pub struct MemHost {
     refused: u64,
     read_faults: u64,
     write_faults: u64,
+    given: u64,
 }
 
 fn is_same(kind: Kind, other: Kind) -> bool
@@ -59,9 +56,7 @@ fn is_same(kind: Kind, other: Kind) -> bool
 fn is_listed(failing: &[Failing], kind: Kind, number: u64) -> bool
     ensures { result ≡ lists failing.now kind number }
 {
-    failing
-        .iter()
-        .any(|f| is_same(f.kind, kind) && f.number == number)
+    failing.iter().any(|f| is_same(f.0, kind) && f.1 == number)
 }
 
 impl MemHost {
@@ -90,6 +85,7 @@ impl MemHost {
             refused: 0,
             read_faults: 0,
             write_faults: 0,
+            given: 0,
         }
     }
 
@@ -125,6 +121,8 @@ impl Host for MemHost {
 
     ghost write_faults = { λ h. h.write_faults };
 
+    ghost given = { λ h. h.given };
+
     fn read(&mut self, name: &str, at: u64, into: &mut [u8]) -> Result<usize, Failed>
         ensures bound { IfOk result (λ n. n ≤ length into.new) }
         ensures bytes { Reads (Some (outside_of self.old)) name.now at result into.new }
@@ -135,11 +133,16 @@ impl Host for MemHost {
         ensures most { IfOk result (λ n. IfSome (file_of (outside_of self.old) name.now) (λ file. n ≡ min (min (length file - at) (plan_of self.old).step) (length into.new))) }
         ensures plan { plan_of self.new ≡ record (plan_of self.old) { reads = next_count (plan_of self.old).reads } }
         ensures refused { refusals self.new ≡ refusals self.old }
+        ensures given { IfOk result (λ n. Gave self.old.given n self.new.given) }
     {
         let listed = is_listed(self.failing.as_slice(), Kind::Read, self.reads);
         self.reads = self.reads.saturating_add(1);
         match names::file(&self.files, name) {
-            Some(file) if !listed => Ok(copy(file.as_slice(), at, self.step.bytes(), into)),
+            Some(file) if !listed => {
+                let count = copy(file.as_slice(), at, self.step.bytes(), into);
+                self.given = self.given.saturating_add(count as u64);
+                Ok(count)
+            }
             _ => {
                 self.read_faults = self.read_faults.saturating_add(1);
                 Err(Failed)
@@ -217,7 +220,7 @@ impl Host for MemHost {
 }
 
 /// Copies bytes of a file from a place on, `step` at most, and says how many.
-fn copy(file: &[u8], at: u64, step: usize, into: &mut [u8]) -> usize
+pub(crate) fn copy(file: &[u8], at: u64, step: usize, into: &mut [u8]) -> usize
     requires { 0 < step }
     ensures bound { result ≤ length into.new }
     ensures most { result ≡ min (min (length file.now - at) step) (length into.new) }

@@ -1,6 +1,6 @@
 //! Whole files, and whole texts.
-ghost use Rattle.std.specs.Prelude.{◌≡◌, ◌<◌, ◌≤◌, ℕ, List, Some, IfOk, IfSome, IsErrOf, OnErr, OnOk, length, option_map};
-ghost use Rattle.dpl_host.specs.Outside.{HasCause, IsPartSaid, IsPartWritten, Rose, file_of, with_file, with_said};
+ghost use Rattle.std.specs.Prelude.{◌≡◌, ◌<◌, ◌≤◌, ◌+◌, ℕ, List, Some, IfOk, IfSome, IsErrOf, OnErr, OnOk, length, option_map};
+ghost use Rattle.dpl_host.specs.Outside.{Gave, HasCause, IsPartSaid, IsPartWritten, Rose, file_of, with_file, with_said};
 ghost use Rattle.dpl_host.specs.declared.whole.ReadFault.TheVariants.{NoMemory as MemoryFault, Failed as ReadFailed};
 
 use crate::outside::{Failed, Host};
@@ -43,6 +43,9 @@ pub fn read_all<H: Host>(alloc: Global, host: &mut H, name: &str) -> Result<Vec<
     ensures large { IsErrOf result ReadFault.TooLarge → IfSome (H.told host.old) (λ o. (file : List ℕ) × (file_of o name.now ≡ Some file) × (MAX_BYTES < length file)) }
     ensures same { H.told host.new ≡ H.told host.old }
     ensures later { (H.read_faults host.old ≤ H.read_faults host.new) × (H.write_faults host.old ≤ H.write_faults host.new) }
+    // Told or not: all that it answers was given, and it is too large only where a byte past the limit was.
+    ensures given { IfOk result (λ v. Gave (H.given host.old) (length v.items) (H.given host.new)) }
+    ensures past { IsErrOf result ReadFault.TooLarge → Gave (H.given host.old) (MAX_BYTES + 1) (H.given host.new) }
 {
     let mut chunk = [0u8; CHUNK];
     let mut bytes = Vec::new(alloc);

@@ -1,7 +1,7 @@
 use Rattle.std.proofs.Common.{◌≡◌, ◌∙◌, sym, subst, List, ℕ, arith, take, length, [], refl, rules}
 use Rattle.std.specs.Prelude.{IfSome, unwrap_or}
 use Rattle.dpl_host.specs.Outside.{file_of}
-use Rattle.dpl_host.proofs.Pieces.{front_on, too_long}
+use Rattle.dpl_host.proofs.Pieces.{front_on, given_more, too_long}
 use Rattle.dpl_host.proofs.whole.read_all.Goals as goal
 
 pub loop-chunk-preserved : goal.loop-chunk-preserved
@@ -17,6 +17,7 @@ loop-chunk-preserved g c =
       same = c.in_ok-count.ensures.same ∙ c.loop-chunk.invariant.same;
       later = omega (arith, c.loop-chunk.invariant.later, c.in_ok-count.ensures.cause.later);
       others = omega (arith, c.loop-chunk.invariant.others, c.in_ok-count.ensures.others);
+      given = given_more _ _ _ bytes (take n buffer) buffer n _ c.loop-chunk.invariant.given c.in_ok-count.ensures.given refl c.in_ok-count.ensures.bound grown;
     }
 
 pub returns-clause-large : goal.returns-clause-large
