@@ -1,0 +1,9 @@
+pub mod Kinds
+pub mod Table
+pub mod Faults
+pub mod Fields
+pub mod Records
+pub mod Grammar
+pub mod Stream
+pub mod Tree
+pub mod Layout

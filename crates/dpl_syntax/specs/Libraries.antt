@@ -1,0 +1,24 @@
+-- A library without where its parts lie in memory.
+use Rattle.std.specs.Prelude.{ℕ, List, map}
+use Rattle.dpl_format.specs.Tree as tree
+use Rattle.dpl_syntax.specs.declared.library.Structure.{Structure}
+use Rattle.dpl_syntax.specs.declared.library.Library.TheInside.{Inside}
+use Rattle.dpl_syntax.specs.Elements.{element_seen}
+
+abbrev pub structure_seen : List ℕ → Structure → tree.Structure
+structure_seen name s = record {
+  at = s.at;
+  bgnstr = s.bgnstr.now;
+  strname = s.strname.now;
+  name = name;
+  elements = map element_seen s.elements.items;
+}
+
+abbrev pub library_seen : Inside → tree.Library
+library_seen l = record {
+  header = l.header.now;
+  bgnlib = l.bgnlib.now;
+  libname = l.libname.now;
+  units = l.units.now;
+  structures = map (λ e. structure_seen e.0.now e.1) l.structures.entries;
+}

@@ -1,0 +1,28 @@
+-- What reading a file answers.
+use Rattle.std.specs.Prelude.{◌≡◌, Result, Ok, Err}
+use Rattle.dpl_format.specs.Faults.{Fault, truncated, bad_length, unknown_record, bad_data_type, bad_size, unexpected, bad_name, duplicate_structure}
+use Rattle.dpl_format.specs.Tree.{Library}
+use Rattle.dpl_syntax.specs.declared.fault.SyntaxFault.{SyntaxFault}
+use Rattle.dpl_syntax.specs.declared.fault.SyntaxFault.TheVariants.{NoMemory, Truncated, BadLength, UnknownRecord, BadDataType, BadSize, Unexpected, BadName, DuplicateStructure}
+
+-- The fault that an error names is so, unless it is want of memory.
+abbrev pub Refuses : (Fault → Type 0) → SyntaxFault → Type 0
+Refuses Is NoMemory = Unit {0}
+Refuses Is (Truncated at) = Is (truncated at)
+Refuses Is (BadLength at) = Is (bad_length at)
+Refuses Is (UnknownRecord at) = Is (unknown_record at)
+Refuses Is (BadDataType at) = Is (bad_data_type at)
+Refuses Is (BadSize at) = Is (bad_size at)
+Refuses Is (Unexpected at) = Is (unexpected at)
+Refuses Is (BadName at) = Is (bad_name at)
+Refuses Is (DuplicateStructure at) = Is (duplicate_structure at)
+
+-- this library, or want of memory
+abbrev pub Gives : Result Library SyntaxFault → Library → Type 0
+Gives (Ok lib) wanted = lib ≡ wanted
+Gives (Err e) wanted = e ≡ NoMemory
+
+-- this fault, or want of memory
+abbrev pub Refused : Result Library SyntaxFault → Fault → Type 0
+Refused (Ok lib) f = ⊥
+Refused (Err e) f = Refuses (λ g. g ≡ f) e

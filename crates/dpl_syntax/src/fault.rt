@@ -1,0 +1,54 @@
+//! Why a file holds no library.
+
+ghost use Rattle.std.specs.Prelude.{◌≡◌};
+ghost use Rattle.dpl_syntax.specs.declared.fault.SyntaxFault.TheVariants.{NoMemory};
+
+use std::alloc::{AllocError, AllocFailed};
+use thiserror::Error;
+
+/// Why a file holds no library, by the first record that is refused. `at` is the offset of that record's first byte.
+#[derive(Clone, Copy, Debug, Drop, PartialEq, Eq, Error)]
+pub enum SyntaxFault {
+    #[error("there is no memory")]
+    NoMemory,
+    /// The bytes end within a record, or before ENDLIB.
+    #[error("the bytes end within the record at {at}")]
+    Truncated { at: usize },
+    /// The length is below 4 or odd.
+    #[error("the record at {at} has no length of a record")]
+    BadLength { at: usize },
+    /// No record has this type.
+    #[error("the record at {at} has an unknown type")]
+    UnknownRecord { at: usize },
+    /// The data type isn't that of the record's type.
+    #[error("the record at {at} has the wrong data type")]
+    BadDataType { at: usize },
+    /// The number of bytes isn't one of the record's type, or the points aren't as many as the element has.
+    #[error("the record at {at} has the wrong number of bytes")]
+    BadSize { at: usize },
+    /// The grammar has no record of this type here.
+    #[error("the record at {at} can't stand there")]
+    Unexpected { at: usize },
+    /// The name of a structure or of a reference is empty.
+    #[error("the record at {at} has an empty name")]
+    BadName { at: usize },
+    /// An earlier structure has this name.
+    #[error("the record at {at} names a second structure of this name")]
+    DuplicateStructure { at: usize },
+}
+
+impl From<AllocError> for SyntaxFault {
+    ghost from_gives = { λ _ e. e ≡ NoMemory };
+
+    fn from(_e: AllocError) -> SyntaxFault {
+        SyntaxFault::NoMemory
+    }
+}
+
+impl<T: Drop> From<AllocFailed<T>> for SyntaxFault {
+    ghost from_gives = { λ _ e. e ≡ NoMemory };
+
+    fn from(_e: AllocFailed<T>) -> SyntaxFault {
+        SyntaxFault::NoMemory
+    }
+}

@@ -1,0 +1,12 @@
+//! The library that a GDSII Stream file holds (GDSII Stream Format, Release 6).
+#![tactic(auto)]
+
+mod element;
+mod fault;
+mod library;
+mod read;
+
+pub use crate::element::{Body, Element, Trans};
+pub use crate::fault::SyntaxFault;
+pub use crate::library::{Frame, Library};
+pub use crate::read::read_library;
