@@ -1,0 +1,10 @@
+//! Sets of squares, kept as canonical slabs.
+#![tactic(auto)]
+
+mod combine;
+mod loops;
+mod parts;
+mod slabs;
+
+pub use parts::Parts;
+pub use slabs::Slabs;
