@@ -1,16 +1,15 @@
 //! Deals slabs out to components.
 ghost use Rattle.std.specs.Prelude.{◌≡◌, ℕ, ◌<◌, ◌≤◌, ◌+◌, length, OnOk, IfOk};
-ghost use Rattle.std.specs.List.{AllPairs};
 ghost use Rattle.dpl_spec.specs.Squares.{Covers};
 ghost use Rattle.dpl_spec.specs.Slabs.{IsCanonical, IsSolid};
-ghost use Rattle.dpl_spec.specs.Loops.{AreRectsWithin};
+ghost use Rattle.dpl_spec.specs.Loops.{farthest, AreRectsWithin};
 ghost use Rattle.dpl_spec.specs.Components.{AreComponents};
-ghost use Rattle.dpl_slabs.specs.Parts.{AreApart};
+ghost use Rattle.dpl_slabs.specs.Parts.{AreParts};
 ghost use Rattle.dpl_feature.specs.Meeting.{AreMet};
 ghost use Rattle.dpl_feature.specs.Dealt.{IsDealt};
 
+use dpl_base::Rect;
 use dpl_slabs::Slabs;
-use dpl_spec::Rect;
 use std::alloc::{AllocError, Global};
 
 /// Puts the next slab into the part of its parent, or into a part of its own.
@@ -24,7 +23,7 @@ fn deal(
 ) -> Result<(), AllocError>
     requires inside { i < length rects.now }
     requires canonical { IsCanonical rects.now }
-    requires within { AreRectsWithin 1000000000 rects.now }
+    requires within { AreRectsWithin farthest rects.now }
     requires met { AreMet rects.now parents.now }
     requires dealt { IsDealt rects.now parents.now i numbers.old.items parts.old.items }
     ensures { OnOk result (IsDealt rects.now parents.now (i + 1) numbers.new.items parts.new.items) }
@@ -47,10 +46,10 @@ fn deal(
 /// The components.
 pub fn split(alloc: Global, rects: &[Rect], parents: &[usize]) -> Result<Vec<Slabs>, AllocError>
     requires canonical { IsCanonical rects.now }
-    requires within { AreRectsWithin 1000000000 rects.now }
+    requires within { AreRectsWithin farthest rects.now }
     requires met { AreMet rects.now parents.now }
     ensures components { IfOk result (λ v. AreComponents (Covers rects.now) v.items) }
-    ensures apart { IfOk result (λ v. AllPairs AreApart v.items) }
+    ensures parts { IfOk result (λ v. AreParts v.items) }
 {
     let mut parts = Vec::new(alloc);
     let mut numbers = Vec::new(alloc);

@@ -7,6 +7,7 @@ use Rattle.std.proofs.lemmas.Bool.{cases_eq}
 use Rattle.std.proofs.lemmas.List.{get_or_default}
 use Rattle.std.proofs.lemmas.List.Elements.{Contains-append_left, Contains-push, Contains-push_cases}
 use Rattle.dpl_spec.specs.declared.Rect.{Rect}
+use Rattle.dpl_spec.specs.Loops.{farthest}
 use Rattle.dpl_spec.specs.Squares.{Region, AreTouching, Has, Covers, IsSolidWithin}
 use Rattle.dpl_spec.specs.Zones.{at, IsHorizontalZone, IsVerticalZone, IsKeptZone, turned, turned_rect}
 use Rattle.dpl_zone.specs.Rows.{AddsZones, AreWithin, layer_of}
@@ -41,12 +42,12 @@ zone-inside rule overlap l f z some h =
       last = last.inside (z.y1 -ℤ pos 1) (omega (arith, ints, tall, high)) (omega (arith, ints, high));
     }
 
-pub inside-within : (rects : List Rect) (z : Rect) → AreWithin rects → IsInside (Covers rects) z → IsSolidWithin 1000000000 z
+pub inside-within : (rects : List Rect) (z : Rect) → AreWithin rects → IsInside (Covers rects) z → IsSolidWithin farthest z
 inside-within rects z within h =
     let (i, r, i_in, r_is, low) = h.first in
     let (j, t, j_in, t_is, high) = h.last in
-    let a : IsSolidWithin 1000000000 r = subst (λ u. IsSolidWithin 1000000000 u) r_is (within i r i_in) in
-    let b : IsSolidWithin 1000000000 t = subst (λ u. IsSolidWithin 1000000000 u) t_is (within j t j_in) in
+    let a : IsSolidWithin farthest r = subst (λ u. IsSolidWithin farthest u) r_is (within i r i_in) in
+    let b : IsSolidWithin farthest t = subst (λ u. IsSolidWithin farthest u) t_is (within j t j_in) in
     let r0 = a.left in
     let r1 = a.right in
     let r2 = a.low in

@@ -10,7 +10,7 @@ use Rattle.dpl_spec.specs.declared.Rect.{Rect}
 use Rattle.dpl_spec.specs.Squares.{Region, SameSquares, Has, Covers, IsSolidWithin}
 use Rattle.dpl_spec.specs.Slabs.{IsCanonical, AreSlabsOf}
 use Rattle.dpl_spec.specs.Zones.{at, IsClearRun, GoesOn, IsHorizontalZone, IsVerticalZone, turned, turned_rect}
-use Rattle.dpl_spec.specs.Loops.{AreRectsWithin}
+use Rattle.dpl_spec.specs.Loops.{farthest, AreRectsWithin}
 use Rattle.dpl_zone.specs.Rows.{AreWithin, layer_of}
 
 -- the same zones, of the same sets
@@ -52,12 +52,12 @@ turned-within rects within k d l =
     let w = within k d k_in in
     rw (get_or-map turned_rect rects k d d k_in) (record { wide = w.tall; tall = w.wide; left = w.low; right = w.high; low = w.left; high = w.right })
 
-pub rects-within : (rs : List Rect) → AreWithin rs → AreRectsWithin 1000000000 rs
+pub rects-within : (rs : List Rect) → AreWithin rs → AreRectsWithin farthest rs
 rects-within rs within r (k, l, is) =
-    let w : IsSolidWithin 1000000000 r = subst (λ u. IsSolidWithin 1000000000 u) is (within k r l) in
+    let w : IsSolidWithin farthest r = subst (λ u. IsSolidWithin farthest u) is (within k r l) in
     record { left = w.left; low = w.low; right = w.right; high = w.high }
 
-pub within-slabs : (rs : List Rect) → IsCanonical rs → AreRectsWithin 1000000000 rs → AreWithin rs
+pub within-slabs : (rs : List Rect) → IsCanonical rs → AreRectsWithin farthest rs → AreWithin rs
 within-slabs rs canonical within k d l =
     let w = within (get_or rs k d) (k, l, get_or_default rs k (get_or rs k d) d l) in
     let solid = canonical.solid k d l in
@@ -93,8 +93,8 @@ slabs-within rects slabs within canonical into k d l =
     let is : get_or slabs k (get_or slabs k d) ≡ get_or slabs k d = get_or_default slabs k (get_or slabs k d) d l in
     let (i, r, i_in, r_is, low) = into (at s.x0 s.y0) (k, get_or slabs k d, l, is, record { left = omega (arith, ints); right = wide; low = omega (arith, ints); high = tall }) in
     let (j, t, j_in, t_is, high) = into (at (s.x1 -ℤ pos 1) (s.y1 -ℤ pos 1)) (k, get_or slabs k d, l, is, record { left = omega (arith, ints, wide); right = omega (arith, ints); low = omega (arith, ints, tall); high = omega (arith, ints) }) in
-    let a : IsSolidWithin 1000000000 r = subst (λ u. IsSolidWithin 1000000000 u) r_is (within i r i_in) in
-    let b : IsSolidWithin 1000000000 t = subst (λ u. IsSolidWithin 1000000000 u) t_is (within j t j_in) in
+    let a : IsSolidWithin farthest r = subst (λ u. IsSolidWithin farthest u) r_is (within i r i_in) in
+    let b : IsSolidWithin farthest t = subst (λ u. IsSolidWithin farthest u) t_is (within j t j_in) in
     let r0 = a.left in
     let r1 = a.right in
     let r2 = a.low in

@@ -3,6 +3,7 @@ use Rattle.std.specs.Prelude.{◌≡◌, ℕ, ◌+◌, ◌*◌, ◌^◌, ◌<◌
 use Rattle.std.specs.List.{Any, Contains}
 use Rattle.dpl_spec.specs.declared.Pt.{Pt}
 use Rattle.dpl_spec.specs.declared.Rect.{Rect}
+use Rattle.dpl_spec.specs.Loops.{farthest}
 use Rattle.dpl_spec.specs.Squares.{Region, Has, Covers, d2, IsSolidWithin}
 use Rattle.dpl_spec.specs.Zones.{at}
 use Rattle.dpl_zone.specs.declared.rows.Span.{Span}
@@ -101,4 +102,4 @@ abbrev pub layer_of : List Rect → List Rect → Region
 layer_of rects others p = Covers rects p ⊎ Covers others p
 
 abbrev pub AreWithin : List Rect → Type 0
-AreWithin rs = (k : ℕ) (d : Rect) → k < length rs → IsSolidWithin 1000000000 (slice_index_or rs k d)
+AreWithin rs = (k : ℕ) (d : Rect) → k < length rs → IsSolidWithin farthest (slice_index_or rs k d)

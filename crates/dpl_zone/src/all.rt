@@ -10,8 +10,8 @@ ghost use Rattle.dpl_spec.specs.Zones.{AreZones};
 
 use crate::kept::kept_zones;
 use crate::order::{each_once, sort_zones};
+use dpl_base::{Rect, Zone};
 use dpl_slabs::{Parts, Slabs};
-use dpl_spec::{Rect, Zone};
 use std::alloc::{AllocError, Global};
 
 /// Adds the rectangles of a part, unless it is number `k`.

@@ -3,6 +3,7 @@ ghost use Rattle.std.specs.Prelude.{◌≡◌, ◌^◌, ◌≤◌, ◌↔◌, Is
 ghost use Rattle.std.specs.List.{Any, Contains};
 ghost use Rattle.dpl_spec.specs.declared.Pt.{Pt};
 ghost use Rattle.dpl_spec.specs.declared.Rect.{Rect};
+ghost use Rattle.dpl_spec.specs.Loops.{farthest};
 ghost use Rattle.dpl_spec.specs.Squares.{AreTouching, Covers, Has, IsSolidWithin};
 ghost use Rattle.dpl_spec.specs.Slabs.{IsCanonical};
 ghost use Rattle.dpl_spec.specs.Zones.{IsKeptZone};
@@ -10,14 +11,13 @@ ghost use Rattle.dpl_zone.specs.Rows.{AddsZones, AreWithin, layer_of};
 
 use crate::flat::flat_zones;
 use crate::slab_zones::upright_zones;
-use dpl_base::touches;
-use dpl_spec::Rect;
+use dpl_base::{Rect, touches};
 use std::alloc::{AllocError, Global};
 
 /// Whether a zone touches one of the others.
 fn touches_any(flat: &[Rect], z: &Rect) -> bool
     requires flat { AreWithin flat.now }
-    requires zone { IsSolidWithin 1000000000 z.now }
+    requires zone { IsSolidWithin farthest z.now }
     ensures { IsTrue result ↔ Any (λ h. AreTouching (Has h) (Has z.now)) flat.now }
 {
     for h in flat {
@@ -31,7 +31,7 @@ fn touches_any(flat: &[Rect], z: &Rect) -> bool
 /// Adds a zone that touches none of the others.
 fn add_apart(kept: &mut Vec<Rect>, flat: &[Rect], z: &Rect) -> Result<(), AllocError>
     requires flat { AreWithin flat.now }
-    requires zone { IsSolidWithin 1000000000 z.now }
+    requires zone { IsSolidWithin farthest z.now }
     ensures { OnOk result (AddsZones (λ w. (z.now ≡ w) × (Any (λ h. AreTouching (Has h) (Has w)) flat.now → ⊥)) kept.old.items kept.new.items) }
 {
     if touches_any(flat, z) {

@@ -3,11 +3,11 @@ ghost use Rattle.std.specs.Prelude.{◌≡◌, ℕ, ◌+◌, ◌^◌, ◌<◌, �
 ghost use Rattle.std.specs.List.{Contains};
 ghost use Rattle.dpl_zone.specs.declared.rows.Span.{Span};
 ghost use Rattle.dpl_spec.specs.declared.Rect.{Rect};
+ghost use Rattle.dpl_spec.specs.Loops.{farthest};
 ghost use Rattle.dpl_spec.specs.Squares.{IsSolidWithin};
 ghost use Rattle.dpl_zone.specs.Rows.{SomeRow, AreTall, RiseByFrom, IsShaded, IsShadow, IsDark, IsGap, AddsSpan, HasBelow, HasAbove, AreWithin, Meet};
 
-use dpl_base::{reach, span_gap};
-use dpl_spec::Rect;
+use dpl_base::{Rect, reach, span_gap};
 use std::alloc::{AllocError, Global};
 
 /// The rows from `from` up to but not `to`.
@@ -19,8 +19,8 @@ pub struct Span {
 
 /// The rows at which the slab is closer than `rule` to another rectangle.
 fn shadow(slab: &Rect, other: &Rect, rule: u32) -> Option<Span>
-    requires slab { IsSolidWithin 1000000000 slab.now }
-    requires other { IsSolidWithin 1000000000 other.now }
+    requires slab { IsSolidWithin farthest slab.now }
+    requires other { IsSolidWithin farthest other.now }
     ensures none { IsNone result → (y : ℤ) → IsShaded rule slab.now other.now y → ⊥ }
     ensures some { IfSome result (λ s. IsShadow rule slab.now other.now s) }
 {
@@ -36,8 +36,8 @@ fn shadow(slab: &Rect, other: &Rect, rule: u32) -> Option<Span>
 
 /// Adds the shadow of a rectangle.
 fn add_shadow(spans: &mut Vec<Span>, slab: &Rect, other: &Rect, rule: u32) -> Result<(), AllocError>
-    requires slab { IsSolidWithin 1000000000 slab.now }
-    requires other { IsSolidWithin 1000000000 other.now }
+    requires slab { IsSolidWithin farthest slab.now }
+    requires other { IsSolidWithin farthest other.now }
     requires tall { AreTall spans.old.items }
     ensures tall { OnOk result (AreTall spans.new.items) }
     ensures rows { OnOk result ((y : ℤ) → SomeRow spans.new.items y ↔ (SomeRow spans.old.items y ⊎ IsShaded rule slab.now other.now y)) }
@@ -58,7 +58,7 @@ pub fn shadows(
     others: &[Rect],
     rule: u32,
 ) -> Result<Vec<Span>, AllocError>
-    requires slab { IsSolidWithin 1000000000 slab.now }
+    requires slab { IsSolidWithin farthest slab.now }
     requires others { AreWithin others.now }
     ensures tall { IfOk result (λ v. AreTall v.items) }
     ensures rise { IfOk result (λ v. RiseByFrom v.items) }

@@ -3,6 +3,7 @@ ghost use Rattle.std.specs.Prelude.{◌≡◌, ℕ, ◌+◌, ◌^◌, ◌<◌, �
 ghost use Rattle.std.specs.List.{Contains};
 ghost use Rattle.dpl_spec.specs.declared.Pt.{Pt};
 ghost use Rattle.dpl_spec.specs.declared.Rect.{Rect};
+ghost use Rattle.dpl_spec.specs.Loops.{farthest};
 ghost use Rattle.dpl_spec.specs.Squares.{IsSolidWithin, Covers};
 ghost use Rattle.dpl_spec.specs.Slabs.{IsCanonical};
 ghost use Rattle.dpl_spec.specs.Zones.{IsVerticalZone};
@@ -10,7 +11,7 @@ ghost use Rattle.dpl_zone.specs.declared.rows.Span.{Span};
 ghost use Rattle.dpl_zone.specs.Rows.{IsDark, IsOpenSpan, IsMiddleOf, IsSlabZone, AddsZones, AreWithin, layer_of};
 
 use crate::rows::{Span, gaps, has_above, has_below, shadows};
-use dpl_spec::Rect;
+use dpl_base::Rect;
 use std::alloc::{AllocError, Global};
 
 /// Whether there is something above row `low`, up to row `high`, or beyond.
@@ -25,7 +26,7 @@ fn goes_on(low: i64, high: i64, beyond: bool) -> bool
 
 /// Whether a span is long enough for a zone, and the feature goes on beyond both its ends.
 fn is_open(slab: &Rect, g: &Span, below: bool, above: bool, overlap: u32) -> bool
-    requires slab { IsSolidWithin 1000000000 slab.now }
+    requires slab { IsSolidWithin farthest slab.now }
     requires from { slab.now.y0 ≤ℤ g.now.from }
     requires some { g.now.from <ℤ g.now.to }
     requires to { g.now.to ≤ℤ slab.now.y1 }
@@ -45,7 +46,7 @@ fn is_open(slab: &Rect, g: &Span, below: bool, above: bool, overlap: u32) -> boo
 
 /// The middle of a span.
 fn middle(slab: &Rect, g: &Span, overlap: u32) -> Rect
-    requires slab { IsSolidWithin 1000000000 slab.now }
+    requires slab { IsSolidWithin farthest slab.now }
     requires from { slab.now.y0 ≤ℤ g.now.from }
     requires to { g.now.to ≤ℤ slab.now.y1 }
     requires long { (g.now.from +ℤ pos (overlap + 2)) ≤ℤ g.now.to }
@@ -71,7 +72,7 @@ fn add_zone(
     above: bool,
     overlap: u32,
 ) -> Result<(), AllocError>
-    requires slab { IsSolidWithin 1000000000 slab.now }
+    requires slab { IsSolidWithin farthest slab.now }
     requires from { slab.now.y0 ≤ℤ g.now.from }
     requires some { g.now.from <ℤ g.now.to }
     requires to { g.now.to ≤ℤ slab.now.y1 }
@@ -95,7 +96,7 @@ fn add_zones(
     rule: u32,
     overlap: u32,
 ) -> Result<(), AllocError>
-    requires slab { IsSolidWithin 1000000000 slab.now }
+    requires slab { IsSolidWithin farthest slab.now }
     requires others { AreWithin others.now }
     ensures { OnOk result (AddsZones (IsSlabZone rule overlap rects.now others.now slab.now) zones.old.items zones.new.items) }
 {
