@@ -3,6 +3,7 @@
 
 ghost use Rattle.std.specs.Prelude.{IfOk};
 ghost use Rattle.dpl_graph.specs.Levels.{AreEdgesBelow, AreLevels};
+ghost use Rattle.dpl_graph.specs.Laws.{LevelsShowOddCycles, OddRootsAreRoots, ReportedIsOdd, RootsShowOddCycles};
 
 use dpl_base::{Edge, Id};
 use std::alloc::{AllocError, Global};
@@ -22,3 +23,12 @@ pub fn levels_of(alloc: Global, n: Id, edges: &[Edge]) -> Result<Levels, AllocEr
     let _taken = (alloc, n, edges.len());
     Err(AllocError)
 }
+
+/// A component has an odd cycle exactly where an edge joins two numbers of one level, below any of its numbers and so
+/// below its least; the root of the reported cycle is the least number of its component; that cycle is odd.
+pub fn odd_cycle_laws()
+    ensures by_component { LevelsShowOddCycles }
+    ensures by_root { RootsShowOddCycles }
+    ensures least { OddRootsAreRoots }
+    ensures reported { ReportedIsOdd }
+{}
