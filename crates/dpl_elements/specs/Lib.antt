@@ -1,0 +1,4 @@
+pub mod Reals
+pub mod Motions
+pub mod Boundaries
+pub mod Paths
