@@ -1,0 +1,5 @@
+pub mod Elements
+pub mod Structures
+pub mod Placements
+pub mod Points
+pub mod Faults
