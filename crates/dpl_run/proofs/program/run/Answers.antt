@@ -1,0 +1,17 @@
+use Rattle.std.proofs.Common.{inr}
+use Rattle.clap.specs.Walk.{texts}
+use Rattle.dpl_run.specs.View.{output_view}
+use Rattle.dpl_run.proofs.Ends.{is_cut, is_outcome}
+use Rattle.dpl_run.proofs.program.run.Goals as goal
+
+pub returns-in-Ok-perform-clause-answer : goal.returns-in-Ok-perform-clause-answer
+returns-in-Ok-perform-clause-answer g c = λ _. is_outcome (texts c.args.words.now) (output_view c.in-Ok.output) (g.H.Host.told c.args.host.now) (g.H.Host.told c.made.new.host) (g.H.Host.told c.perform.new.host)
+    c.in-Ok.ensures.made c.in-Ok.ensures.same c.in-Ok-perform.ensures.ok
+
+pub returns-in-Ok-perform-clause-complete : goal.returns-in-Ok-perform-clause-complete
+returns-in-Ok-perform-clause-complete g c = λ _ _. inr (is_outcome (texts c.args.words.now) (output_view c.in-Ok.output) (g.H.Host.told c.args.host.now) (g.H.Host.told c.made.new.host) (g.H.Host.told c.perform.new.host)
+    c.in-Ok.ensures.made c.in-Ok.ensures.same c.in-Ok-perform.ensures.ok)
+
+pub returns-in-Ok-clause-cut : goal.returns-in-Ok-clause-cut
+returns-in-Ok-clause-cut g c = λ _. is_cut (texts c.args.words.now) (output_view c.in-Ok.output) (g.H.Host.told c.args.host.now) (g.H.Host.told c.made.new.host) (g.H.Host.told c.perform.new.host)
+    c.in-Ok.ensures.made c.in-Ok.ensures.same c.in-Err-perform.ensures.err

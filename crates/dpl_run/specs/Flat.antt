@@ -1,0 +1,112 @@
+-- The decomposition of a layer, as a certificate tells it.
+use Rattle.std.specs.Prelude.{◌≡◌, ◌⊎◌, ◌+◌, ◌*◌, ◌%◌, ◌<◌, ℕ, pos, Bool, List, [], length, map, slice_index, slice_index_or}
+use Rattle.std.specs.List.{zip}
+use Rattle.dpl_spec.specs.declared.Pt.{Pt}
+use Rattle.dpl_spec.specs.declared.Rect.{Rect}
+use Rattle.dpl_spec.specs.declared.Zone.{Zone}
+use Rattle.dpl_spec.specs.Squares.{Region, Covers, Precedes, d2}
+use Rattle.dpl_spec.specs.Zones.{at, part_at}
+use Rattle.dpl_spec.specs.Decomposition.{Cut, IsCut, Masks, AreMasks, conflicts}
+use Rattle.dpl_spec.specs.Summary.{HasOddCycle}
+use Rattle.dpl_spec.specs.Cycle.{IsReported}
+use Rattle.dpl_spec.specs.Loops.{AreRectsWithin, farthest}
+use Rattle.dpl_cert.specs.declared.cert.Cert.TheVariants.{Masks as MasksText, Conflict as ConflictText}
+use Rattle.dpl_cert.specs.Grammar.{IsCert}
+use Rattle.dpl_cert.specs.declared.cert.Head.{Head}
+use Rattle.dpl_cert.specs.declared.cert.PieceLine.{PieceLine}
+use Rattle.dpl_cert.specs.declared.cert.StitchLine.{StitchLine}
+use Rattle.dpl_cert.specs.declared.cert.PlaceLine.{PlaceLine}
+use Rattle.dpl_cert.specs.declared.cert.NearLine.{NearLine}
+
+-- masks, and the lines of their certificate
+pub record Painted : Type 0 where
+  pub a : List Rect
+  pub b : List Rect
+  pub head : Head
+  pub pieces : List PieceLine
+  pub stitches : List StitchLine
+
+-- the lines of a certificate of an odd cycle
+pub record Clash : Type 0 where
+  pub head : Head
+  pub cycle : List PlaceLine
+  pub near : List NearLine
+
+pub data Flat : Type 0 where
+  Paints : Painted → Flat
+  Clashes : Clash → Flat
+
+abbrev pub head_of : ℕ → ℕ → Cut → Head
+head_of rule overlap c = record { rule = rule; overlap = overlap; features = length c.features; pieces = length c.pieces; zones = length c.zones }
+
+-- a piece's letter and least square
+abbrev pub piece_line : Bool × Pt → PieceLine
+piece_line p = record { b = p.0; key = p.1 }
+
+abbrev pub no_zone : Zone
+no_zone = record { rect = record { x0 = pos 0; y0 = pos 0; x1 = pos 0; y1 = pos 0 }; feature = 0 }
+
+-- a zone of the cut, with its two sides
+abbrev pub stitch_line : Cut → ℕ → StitchLine
+stitch_line c k = record { rect = (slice_index_or c.zones k no_zone).rect; p = (slice_index_or c.sides k (0, 0)).0; q = (slice_index_or c.sides k (0, 0)).1 }
+
+-- a piece of the cycle, with its least square
+abbrev pub place_line : Cut → ℕ → PlaceLine
+place_line c k = record { piece = k; key = slice_index_or c.keys k (at (pos 0) (pos 0)) }
+
+-- two squares of the two sets that are near
+pub record AreNearAt (rule : ℕ) (a b : Region) (near : NearLine) : Type 0 where
+  pub from : a near.from
+  pub to : b near.to
+  pub close : d2 near.from near.to < rule * rule
+
+abbrev pub PrecedesAt : NearLine → NearLine → Type 0
+PrecedesAt m n = Precedes m.from n.from ⊎ ((m.from ≡ n.from) × Precedes m.to n.to)
+
+-- the least pair of near squares, by the first square and then by the second
+pub record IsNearest (rule : ℕ) (a b : Region) (near : NearLine) : Type 0 where
+  pub are : AreNearAt rule a b near
+  pub least : (other : NearLine) → AreNearAt rule a b other → (near ≡ other) ⊎ PrecedesAt near other
+
+-- for each piece of the cycle its nearest pair with the next one, the last with the first
+pub record AreNearest (rule : ℕ) (pieces : List (List Rect)) (cycle : List ℕ) (near : List NearLine) : Type 0 where
+  pub each : length near ≡ length cycle
+  pub pair : (k : ℕ) (d : NearLine) → k < length cycle
+      → IsNearest rule (part_at pieces (slice_index cycle k)) (part_at pieces (slice_index cycle ((k + 1) % length cycle))) (slice_index_or near k d)
+
+-- the masks of a layer whose conflict graph has no odd cycle
+pub record IsPainted (rule overlap : ℕ) (layer : List Rect) (p : Painted) : Type 0 where
+  pub cut : Cut
+  pub masks : Masks
+  pub is_cut : IsCut rule overlap (Covers layer) cut
+  pub even : ¬ HasOddCycle (conflicts rule cut)
+  pub are_masks : AreMasks rule cut masks
+  pub is : p ≡ record { a = masks.a; b = masks.b; head = head_of rule overlap cut; pieces = map piece_line (zip are_masks.colours cut.keys); stitches = map (stitch_line cut) masks.stitches }
+
+-- the reported cycle of a layer whose conflict graph has an odd one
+pub record IsClash (rule overlap : ℕ) (layer : List Rect) (x : Clash) : Type 0 where
+  pub cut : Cut
+  pub cycle : List ℕ
+  pub is_cut : IsCut rule overlap (Covers layer) cut
+  pub odd : HasOddCycle (conflicts rule cut)
+  pub reported : IsReported (conflicts rule cut) cycle
+  pub nearest : AreNearest rule cut.pieces cycle x.near
+  pub head : x.head ≡ head_of rule overlap cut
+  pub places : x.cycle ≡ map (place_line cut) cycle
+
+abbrev pub IsFlat : ℕ → ℕ → List Rect → Flat → Type 0
+IsFlat rule overlap layer (Paints p) = IsPainted rule overlap layer p
+IsFlat rule overlap layer (Clashes x) = IsClash rule overlap layer x
+
+-- lines within the grammar of certificates, and slabs within the range of a layer
+pub record FitsPainted (p : Painted) : Type 0 where
+  pub a : AreRectsWithin farthest p.a
+  pub b : AreRectsWithin farthest p.b
+  pub cert : IsCert (MasksText p.head p.pieces p.stitches)
+
+abbrev pub FitsClash : Clash → Type 0
+FitsClash x = IsCert (ConflictText x.head x.cycle x.near)
+
+abbrev pub Fits : Flat → Type 0
+Fits (Paints p) = FitsPainted p
+Fits (Clashes x) = FitsClash x

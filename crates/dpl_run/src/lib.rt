@@ -1,0 +1,14 @@
+//! The program, but for its `main`: the words of the command line, the files, and what is written and said.
+#![tactic(auto)]
+
+mod decompose;
+mod layer;
+mod output;
+mod program;
+mod split;
+mod status;
+mod texts;
+
+pub use program::run;
+pub use status::Status;
+pub use texts::USAGE;
