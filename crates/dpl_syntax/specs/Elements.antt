@@ -35,3 +35,7 @@ body_seen (BoxShape layer boxtype xy) = tree.is_box (record { layer = layer; box
 
 abbrev pub element_seen : Element → tree.Element
 element_seen e = record { at = e.at; body = body_seen e.body }
+
+-- the points are as many as the element has
+abbrev pub IsSized : Element → Type 0
+IsSized e = tree.HasPoints (body_seen e.body)

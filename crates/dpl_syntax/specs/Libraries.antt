@@ -1,9 +1,10 @@
 -- A library without where its parts lie in memory.
-use Rattle.std.specs.Prelude.{ℕ, List, map}
+use Rattle.std.specs.Prelude.{ℕ, List, map, All}
+use Rattle.std.specs.Borrow.{Bor}
 use Rattle.dpl_format.specs.Tree as tree
 use Rattle.dpl_syntax.specs.declared.library.Structure.{Structure}
 use Rattle.dpl_syntax.specs.declared.library.Library.TheInside.{Inside}
-use Rattle.dpl_syntax.specs.Elements.{element_seen}
+use Rattle.dpl_syntax.specs.Elements.{element_seen, IsSized}
 
 abbrev pub structure_seen : List ℕ → Structure → tree.Structure
 structure_seen name s = record {
@@ -22,3 +23,7 @@ library_seen l = record {
   units = l.units.now;
   structures = map (λ e. structure_seen e.0.now e.1) l.structures.entries;
 }
+
+-- the elements of each structure have their points
+abbrev pub IsSizedEach : List (Bor (List ℕ) × Structure) → Type 0
+IsSizedEach entries = All (λ e. All IsSized e.1.elements.items) entries

@@ -1,10 +1,12 @@
 //! The library that a GDSII Stream file holds (GDSII Stream Format, Release 6).
 #![tactic(auto)]
 
+mod bodies;
 mod element;
 mod fault;
 mod library;
 mod read;
+mod reader;
 
 pub use crate::element::{Body, Element, Trans};
 pub use crate::fault::SyntaxFault;

@@ -1,9 +1,9 @@
 //! A library: its structures, by name and in the order of the file.
 
-ghost use Rattle.std.specs.Prelude.{◌≡◌, ◌<◌, ◌^◌, length, map, position, nat_eq, slice_get, IfSome};
+ghost use Rattle.std.specs.Prelude.{◌≡◌, ◌<◌, ◌^◌, length, map, position, nat_eq, slice_get, All, IfSome};
 ghost use Rattle.std.specs.Cmp.Lexicographic.{pointwise};
 ghost use Rattle.dpl_format.specs.Tree.{names_in, elements_at, frame_of};
-ghost use Rattle.dpl_syntax.specs.Elements.{element_seen};
+ghost use Rattle.dpl_syntax.specs.Elements.{element_seen, IsSized};
 ghost use Rattle.dpl_syntax.specs.Frames.{frame_seen};
 
 use crate::element::Element;
@@ -31,17 +31,17 @@ pub struct Library<'a> {
 }
 
 impl<'a> Model for Library<'a> {
-    ghost use Rattle.std.specs.Prelude.{◌<◌, ◌^◌};
+    ghost use Rattle.std.specs.Prelude.{◌<◌, ◌^◌, All};
     ghost use Rattle.indexmap.specs.IndexMap.{index_map_len};
     ghost use Rattle.dpl_format.specs.Tree.{Library as Tree};
 
     ghost Value = { Tree };
 
-    ghost use Rattle.dpl_syntax.specs.Libraries.{library_seen};
+    ghost use Rattle.dpl_syntax.specs.Libraries.{library_seen, IsSizedEach};
 
     ghost view = { library_seen };
 
-    ghost invariant = { λ l. index_map_len l.structures < 2 ^ 32 };
+    ghost invariant = { λ l. (index_map_len l.structures < 2 ^ 32) × IsSizedEach l.structures.entries };
 }
 
 /// The whole records of a file before the elements of one structure.
@@ -76,7 +76,8 @@ impl<'a> Library<'a> {
     /// The elements of a structure, in the order of the file.
     pub fn elements(&self, structure: u32) -> &[Element<'a>]
         requires { structure < length self.now.structures }
-        ensures { map element_seen result.now ≡ elements_at self.now structure }
+        ensures same { map element_seen result.now ≡ elements_at self.now structure }
+        ensures points { All IsSized result.now }
     {
         let (_, found) = self.structures.get_index(structure as usize).unwrap();
         found.elements.as_slice()
