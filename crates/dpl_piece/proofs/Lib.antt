@@ -1,2 +1,4 @@
 pub mod Orders
 pub mod CornerLaws
+pub mod Beside
+pub mod Stands
