@@ -131,3 +131,21 @@ corner-is c x y e f = ap (λ u. corner_at u c.y c.part) e ∙ ap (λ u. corner_a
 pub found-at : (cs : List Corner) (n : ℕ) (x y : ℤ) (z : Corner) → n < length cs → (get_or cs n z).x ≡ x → (get_or cs n z).y ≡ y → Contains cs (corner_at x y (get_or cs n z).part)
 found-at cs n x y z n_in e f =
     (n, n_in, get_or_default cs n (corner_at x y (get_or cs n z).part) z n_in ∙ corner-is (get_or cs n z) x y e f)
+
+pub zip-length : {A B : Type 0} (R : A → B → Type 0) (xs : List A) (ys : List B) → AllZip R xs ys → length xs ≡ length ys
+zip-length R [] [] h = refl
+zip-length R [] (y ∷ ys) h = absurd h
+zip-length R (x ∷ xs) [] h = absurd h
+zip-length R (x ∷ xs) (y ∷ ys) h = ap suc (zip-length R xs ys h.1)
+
+pub zip-at : {A B : Type 0} (R : A → B → Type 0) (xs : List A) (ys : List B) (k : ℕ) (d : A) (e : B) → AllZip R xs ys → k < length xs → R (get_or xs k d) (get_or ys k e)
+zip-at R [] ys k d e h l = absurd (omega (arith, l))
+zip-at R (x ∷ xs) [] k d e h l = absurd h
+zip-at R (x ∷ xs) (y ∷ ys) zero d e h l = h.0
+zip-at R (x ∷ xs) (y ∷ ys) (suc k) d e h l = zip-at R xs ys k d e h.1 (omega (arith, l))
+
+pub zip-from : {A B : Type 0} (R : A → B → Type 0) (xs : List A) (ys : List B) → length xs ≡ length ys → ((k : ℕ) (d : A) (e : B) → k < length xs → R (get_or xs k d) (get_or ys k e)) → AllZip R xs ys
+zip-from R [] [] same h = tt
+zip-from R [] (y ∷ ys) same h = absurd (omega (arith, same))
+zip-from R (x ∷ xs) [] same h = absurd (omega (arith, same))
+zip-from R (x ∷ xs) (y ∷ ys) same h = (h 0 x y (omega arith), zip-from R xs ys (omega (arith, same)) (λ k d e l. h (suc k) d e (omega (arith, l))))

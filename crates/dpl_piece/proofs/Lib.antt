@@ -2,3 +2,5 @@ pub mod Orders
 pub mod CornerLaws
 pub mod Beside
 pub mod Stands
+pub mod Rests
+pub mod OwnerLaws

@@ -4,6 +4,7 @@
 mod corner;
 mod cut;
 mod matched;
+mod owner;
 mod side;
 
 pub use cut::pieces;
