@@ -1,15 +1,15 @@
 -- What the zones leave of a layer goes on beside each of them.
-use Rattle.std.proofs.Common.{◌≡◌, ℕ, suc, ◌+◌, ◌≤◌, ◌<◌, ◌⊎◌, inl, inr, List, [], length, get_or, sym, refl, ap, ◌∙◌, subst, arith}
+use Rattle.std.proofs.Common.{◌≡◌, ℕ, ◌<◌, ◌⊎◌, inl, inr, List, [], length, get_or, sym, ◌∙◌, subst, arith}
 use Rattle.std.specs.Prelude.{ℤ, pos, ◌+ℤ◌, ◌-ℤ◌, ◌≤ℤ◌, ◌<ℤ◌}
 use Rattle.std.specs.List.{Contains}
-use Rattle.std.proofs.lemmas.Int.{ints, by_lt_z}
+use Rattle.std.proofs.lemmas.Int.{ints}
 use Rattle.std.proofs.lemmas.List.{get_or_default}
 use Rattle.dpl_spec.specs.declared.Pt.{Pt}
 use Rattle.dpl_spec.specs.declared.Rect.{Rect}
 use Rattle.dpl_spec.specs.declared.Zone.{Zone}
 use Rattle.dpl_spec.specs.Squares.{Region, Covers, Has, Touch, AreTouching}
 use Rattle.dpl_spec.specs.Components.{Linked, here, on, AreComponents}
-use Rattle.dpl_spec.specs.Zones.{at, IsStretch, IsMiddle, IsHorizontalZone, IsVerticalZone, IsKeptZone, turned, turned_rect, AreZones, part_at}
+use Rattle.dpl_spec.specs.Zones.{at, IsHorizontalZone, IsVerticalZone, IsKeptZone, turned, turned_rect, AreZones, part_at}
 use Rattle.dpl_spec.specs.Pieces.{without}
 use Rattle.dpl_spec.proofs.SquareLaws.{Touch-from_close, Touch-sym}
 use Rattle.dpl_spec.proofs.ComponentLaws.{Linked-trans}

@@ -1,5 +1,5 @@
 -- Corners of slabs, in order.
-use Rattle.std.proofs.Common.{◌≡◌, ℕ, zero, suc, ◌+◌, ◌≤◌, ◌<◌, ◌⊎◌, inl, inr, List, [], ◌∷◌, ◌++◌, length, get_or, take, map, refl, sym, ap, ◌∙◌, subst, arith}
+use Rattle.std.proofs.Common.{◌≡◌, ℕ, zero, suc, ◌+◌, ◌<◌, ◌⊎◌, inl, inr, List, [], ◌∷◌, ◌++◌, length, get_or, take, map, refl, sym, ap, ◌∙◌, subst, arith}
 use Rattle.std.specs.Prelude.{◌↔◌, ℤ, ◌≤ℤ◌, ◌<ℤ◌}
 use Rattle.std.specs.List.{AllZip, Contains}
 use Rattle.std.specs.List.Sorted.{IsPermutation}
@@ -43,6 +43,7 @@ none-found cs n x y rise below above other k (j, j_in, is) =
       | inr m ↦ (let n_in : n < length cs = omega (arith, m, j_in) in
           stuck (get_or cs n c) (get_or cs j c) x y (rise n j c m j_in) (above n_in c) (other n_in c) (ap (λ t. let u : Corner = t in u.x) is) (ap (λ t. let u : Corner = t in u.y) is))
     ]
+
 -- the corners of one more part
 Contains-map : (f : Rect → Corner) (rs : List Rect) (c : Corner) → Contains (map f rs) c → (r : Rect) × Contains rs r × (f r ≡ c)
 Contains-map f [] c h = absurd (Contains-nil c h)

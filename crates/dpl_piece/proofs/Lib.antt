@@ -4,3 +4,6 @@ pub mod Beside
 pub mod Stands
 pub mod Rests
 pub mod OwnerLaws
+pub mod Regions
+pub mod Whole
+pub mod Cuts

@@ -1,7 +1,7 @@
 -- Owners by the zones' features and by keys.
-use Rattle.std.proofs.Common.{◌≡◌, ◌≢◌, ℕ, zero, suc, ◌+◌, ◌<◌, ◌≤◌, ◌⊎◌, inl, inr, List, [], ◌∷◌, ◌++◌, length, get_or, take, drop, set, refl, sym, ap, ◌∙◌, subst, arith, get_or-set_same, get_or-set_other}
+use Rattle.std.proofs.Common.{◌≡◌, ◌≢◌, ℕ, ◌+◌, ◌<◌, ◌⊎◌, inl, inr, List, [], ◌∷◌, ◌++◌, length, get_or, take, drop, set, refl, sym, ap, ◌∙◌, subst, arith, get_or-set_same, get_or-set_other}
 use Rattle.std.specs.Prelude.{◌↔◌}
-use Rattle.std.specs.List.{All, AllZip, Contains}
+use Rattle.std.specs.List.{AllZip, Contains}
 use Rattle.std.specs.List.Sorted.{IsPermutation}
 use Rattle.std.proofs.lemmas.Bool.{cases_eq}
 use Rattle.std.proofs.lemmas.List.{get_or_default, take_all, drop_all, append-nil}
@@ -18,7 +18,7 @@ use Rattle.dpl_spec.proofs.SquareLaws.{SameSquares-refl, IsLeast-unique}
 use Rattle.dpl_piece.specs.declared.corner.Corner.{Corner}
 use Rattle.dpl_piece.specs.Corners.{corner_at}
 use Rattle.dpl_piece.proofs.CornerLaws.{zip-length, zip-at}
-use Rattle.dpl_piece.specs.Owners.{IsNumbered, IsWholeOrNone, AreSidesKnown, IsSideOf, IsMarked, IsLeft, AreMarked, AreOwnersBy}
+use Rattle.dpl_piece.specs.Owners.{IsNumbered, IsWholeOrNone, IsSideOf, IsMarked, IsLeft, AreMarked, AreOwnersBy}
 
 pub numbered-none : (points : List Pt) (c : Corner) → Contains [] c ↔ IsNumbered points 0 c
 numbered-none points c = (λ h. absurd (Contains-nil c h), λ (k, p, l, k_in, is, e). absurd (omega (arith, l)))
@@ -77,15 +77,15 @@ module _ (zones : List Zone) (sides : List (ℕ × ℕ)) (n : ℕ) (first old ne
       | inr ne ↦ elim (h.marked i i_in) [
         | inl (j, w, l, j_in, w_is, beside, is) ↦ inl (j, w, omega (arith, l), j_in, w_is, beside, other-new i ne nf ∙ is)
         | inr (none, is) ↦ inr (
-            λ j l beside. elim (cases_eq j n) [
-              | inl same ↦ elim (subst (λ m. IsSideOf sides m i) same beside side) [
-                | inl a ↦ ne (sym (sym (ap (λ s. let t : ℕ × ℕ = s in t.0) (side_at side)) ∙ a))
-                | inr b ↦ nf (sym (sym (ap (λ s. let t : ℕ × ℕ = s in t.1) (side_at side)) ∙ b))
-              ]
-              | inr differ ↦ none j (omega (arith, l, differ)) beside
-            ],
-            other-new i ne nf ∙ is,
-          )
+          λ j l beside. elim (cases_eq j n) [
+            | inl same ↦ elim (subst (λ m. IsSideOf sides m i) same beside side) [
+              | inl a ↦ ne (sym (sym (ap (λ s. let t : ℕ × ℕ = s in t.0) (side_at side)) ∙ a))
+              | inr b ↦ nf (sym (sym (ap (λ s. let t : ℕ × ℕ = s in t.1) (side_at side)) ∙ b))
+            ]
+            | inr differ ↦ none j (omega (arith, l, differ)) beside
+          ],
+          other-new i ne nf ∙ is,
+        )
       ]
     ]
   ]

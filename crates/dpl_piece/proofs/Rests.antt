@@ -1,14 +1,14 @@
 -- The slabs of all features, and what zones leave of them.
-use Rattle.std.proofs.Common.{◌≡◌, ℕ, ◌+◌, ◌<◌, ◌≤◌, ◌⊎◌, inl, inr, List, [], ◌∷◌, ◌++◌, length, get_or, map, refl, sym, ap, ◌∙◌, subst, arith}
+use Rattle.std.proofs.Common.{◌≡◌, ℕ, ◌+◌, ◌<◌, ◌⊎◌, inl, inr, List, [], ◌∷◌, ◌++◌, length, get_or, sym, ap, ◌∙◌, subst, arith}
 use Rattle.std.specs.Prelude.{◌↔◌}
-use Rattle.std.specs.List.{All, Any, Contains}
+use Rattle.std.specs.List.{All, Contains}
 use Rattle.std.proofs.lemmas.Bool.{cases_eq}
 use Rattle.std.proofs.lemmas.List.{get_or_default}
 use Rattle.std.proofs.lemmas.List.Elements.{All-contains, Contains-append_left, Contains-append_right, Contains-append_cases}
 use Rattle.dpl_spec.specs.declared.Pt.{Pt}
 use Rattle.dpl_spec.specs.declared.Rect.{Rect}
 use Rattle.dpl_spec.specs.declared.Zone.{Zone}
-use Rattle.dpl_spec.specs.Squares.{Has, Covers, IsSolidWithin, SameSquares}
+use Rattle.dpl_spec.specs.Squares.{Has, Covers, IsSolidWithin}
 use Rattle.dpl_spec.specs.Slabs.{AreSlabsOf}
 use Rattle.dpl_spec.specs.Loops.{farthest, IsRectWithin, AreRectsWithin}
 use Rattle.dpl_spec.specs.Pieces.{without}
@@ -82,9 +82,12 @@ rest-left features zones rects rest covers s =
       canonical = s.canonical;
       covers = λ p. (
         λ h. (let (one, none) = (s.covers p).0 h in ((covers p).0 one, λ (k, z, k_in, is, has). none (Covers-member (rects_of_zones zones) z.rect p (zone-hole zones z (k, k_in, is)) has))),
-        λ (one, none). (s.covers p).1 ((covers p).1 one, λ c. (
-            let found = member-Covers (rects_of_zones zones) p c in
-            let (z, (k, k_in, is), same) = hole-zone zones found.0 found.1 in
-            none (k, z, k_in, is, subst (λ r. Has r p) (sym same) found.2))),
+        λ (one, none). (s.covers p).1 (
+          (covers p).1 one,
+          λ c. (
+              let found = member-Covers (rects_of_zones zones) p c in
+              let (z, (k, k_in, is), same) = hole-zone zones found.0 found.1 in
+              none (k, z, k_in, is, subst (λ r. Has r p) (sym same) found.2)),
+        ),
       );
     }

@@ -1,9 +1,8 @@
 -- On each side of a zone a piece has a slab with a corner of the zone.
-use Rattle.std.proofs.Common.{◌≡◌, ℕ, suc, ◌+◌, ◌≤◌, ◌<◌, ◌⊎◌, inl, inr, List, [], length, get_or, sym, refl, ap, ◌∙◌, subst, arith}
-use Rattle.std.specs.Prelude.{ℤ, pos, ◌+ℤ◌, ◌-ℤ◌, ◌≤ℤ◌, ◌<ℤ◌, unsigned_abs}
+use Rattle.std.proofs.Common.{◌≡◌, ℕ, ◌≤◌, ◌<◌, inl, inr, List, [], length, get_or, refl, ap, ◌∙◌, subst, arith}
+use Rattle.std.specs.Prelude.{ℤ, pos, ◌+ℤ◌, ◌-ℤ◌, ◌<ℤ◌, unsigned_abs}
 use Rattle.std.specs.List.{All, Contains}
 use Rattle.std.proofs.lemmas.Int.{ints, by_lt_z}
-use Rattle.std.proofs.lemmas.List.{get_or_default}
 use Rattle.std.proofs.lemmas.List.Elements.{All-contains}
 use Rattle.dpl_spec.specs.declared.Pt.{Pt}
 use Rattle.dpl_spec.specs.declared.Rect.{Rect}
@@ -12,14 +11,13 @@ use Rattle.dpl_spec.specs.Squares.{Region, Covers, Has, Touch, AreTouching, IsSo
 use Rattle.dpl_spec.specs.Slabs.{IsSolid, IsCanonical}
 use Rattle.dpl_spec.specs.Loops.{farthest, IsRectWithin, AreRectsWithin}
 use Rattle.dpl_spec.specs.Components.{AreComponents}
-use Rattle.dpl_spec.specs.Zones.{at, IsStretch, IsMiddle, IsHorizontalZone, IsVerticalZone, IsKeptZone, turned, turned_rect, AreZones, part_at}
+use Rattle.dpl_spec.specs.Zones.{at, IsHorizontalZone, IsVerticalZone, IsKeptZone, turned, turned_rect, AreZones, part_at}
 use Rattle.dpl_spec.specs.Pieces.{without, IsFirstSide, IsSecondSide, AreSides}
 use Rattle.dpl_spec.proofs.SquareLaws.{Touch-from_close}
 use Rattle.dpl_spec.proofs.SlabLaws.{Covers-member, member-Covers}
 use Rattle.dpl_piece.specs.declared.corner.Corner.{Corner}
-use Rattle.dpl_piece.specs.declared.corner.Kind.{Kind}
 use Rattle.dpl_piece.specs.declared.corner.Kind.TheVariants.{LowerLeft, LowerRight, UpperLeft}
-use Rattle.dpl_piece.specs.Corners.{corner_at, corner_of, IsCornerOf, StandBeside}
+use Rattle.dpl_piece.specs.Corners.{corner_at, IsCornerOf, StandBeside}
 use Rattle.dpl_piece.proofs.Beside.{in-set, some-part, closed, kept, kept-inside, rest-across, rest-up}
 
 -- a zone has some square, and its stretch goes on beyond it by a column on each side
@@ -65,6 +63,32 @@ square-within rs p within covered =
 
 pub corner-same : (x y u v : ℤ) (k : ℕ) → x ≡ u → y ≡ v → corner_at x y k ≡ corner_at u v k
 corner-same x y u v k e f = ap (λ i. corner_at i y k) e ∙ ap (λ i. corner_at u i k) f
+
+-- a zone has some square, and lies within the range of its feature
+module _ (rule overlap : ℕ) (layer : Region) (features : List (List Rect)) (zones : List Zone) (some : 1 ≤ overlap) (c : AreComponents layer features) (zs : AreZones rule overlap layer features zones) (z : Zone) (z_in : Contains zones z) where
+  solid-kept : IsKeptZone rule overlap layer (part_at features z.feature) z.rect → (z.rect.x0 <ℤ z.rect.x1) × (z.rect.y0 <ℤ z.rect.y1)
+  solid-kept (inl h) = let s = broad rule overlap layer (part_at features z.feature) z.rect some h in (s.wide, s.tall)
+  solid-kept (inr (h, none)) = let s = broad rule overlap (turned layer) (turned (part_at features z.feature)) (turned_rect z.rect) some h in (s.tall, s.wide)
+
+  pub solid-zone : (z.rect.x0 <ℤ z.rect.x1) × (z.rect.y0 <ℤ z.rect.y1)
+  solid-zone = solid-kept (kept rule overlap layer features zones c zs z z_in).1
+
+  pub zone-within : All (AreRectsWithin farthest) features → IsSolidWithin farthest z.rect
+  zone-within within =
+      let k = kept rule overlap layer features zones c zs z z_in in
+      let zw = solid-zone.0 in
+      let zt = solid-zone.1 in
+      let p : Pt = at z.rect.x0 z.rect.y0 in
+      let q : Pt = at (z.rect.x1 -ℤ pos 1) (z.rect.y1 -ℤ pos 1) in
+      let p_in : Has z.rect p = record { left = omega (arith, ints); right = zw; low = omega (arith, ints); high = zt } in
+      let q_in : Has z.rect q = record { left = omega (arith, ints, zw); right = omega (arith, ints); low = omega (arith, ints, zt); high = omega (arith, ints) } in
+      let one = square-within (get_or features z.feature []) p (within z.feature [] k.0) (kept-inside rule overlap layer features zones c zs (part_at features z.feature) z.rect p k.1 p_in) in
+      let two = square-within (get_or features z.feature []) q (within z.feature [] k.0) (kept-inside rule overlap layer features zones c zs (part_at features z.feature) z.rect q k.1 q_in) in
+      let ox = one.column in
+      let oy = one.row in
+      let tx = two.next_column in
+      let ty = two.next_row in
+      record { wide = zw; tall = zt; left = ox; right = omega (arith, ints, tx); low = oy; high = omega (arith, ints, ty) }
 
 module _ (rule overlap : ℕ) (layer : Region) (features pieces : List (List Rect)) (zones : List Zone) (some : 1 ≤ overlap) (c : AreComponents layer features) (zs : AreZones rule overlap layer features zones) (ps : AreComponents (without layer zones) pieces) where
   abbrev pub Rest : Region
@@ -114,16 +138,16 @@ module _ (rule overlap : ℕ) (layer : Region) (features pieces : List (List Rec
           let hb = has.low in
           let ht = has.high in
           let column : r.x1 ≡ z.rect.x0 = by_lt_z z.rect.x0 r.x1
-              (λ l. absurd (not-in-zone q (slab-rest i r q i_in r_in (record { left = omega (arith, ints, hl); right = l; low = hb; high = ht })) q_in))
-              (λ m. omega (arith, ints, m, hr)) in
+          (λ l. absurd (not-in-zone q (slab-rest i r q i_in r_in (record { left = omega (arith, ints, hl); right = l; low = hb; high = ht })) q_in))
+          (λ m. omega (arith, ints, m, hr)) in
           let row : r.y0 ≡ z.rect.y0 = by_lt_z r.y0 z.rect.y0
-              (λ l. absurd (
-                  let s : Pt = at x (z.rect.y0 -ℤ pos 1) in
-                  let rest = slab-rest i r s i_in r_in (record { left = hl; right = hr; low = omega (arith, ints, l); high = omega (arith, ints, ht) }) in
-                  let in_f = touching-in s q rest q_in (Touch-from_close s q (omega (arith, ints)) (omega (arith, ints)) (omega (arith, ints)) (omega (arith, ints))) in
-                  let run = h.is.runs x (omega (arith, ints, left)) (omega (arith, ints, wide, right)) in
-                  run.below (subst (λ y. part_at features z.feature (at x y)) (ap (λ y. y -ℤ pos 1) rows.0) in_f)))
-              (λ m. omega (arith, ints, m, hb)) in
+          (λ l. absurd (
+          let s : Pt = at x (z.rect.y0 -ℤ pos 1) in
+          let rest = slab-rest i r s i_in r_in (record { left = hl; right = hr; low = omega (arith, ints, l); high = omega (arith, ints, ht) }) in
+          let in_f = touching-in s q rest q_in (Touch-from_close s q (omega (arith, ints)) (omega (arith, ints)) (omega (arith, ints)) (omega (arith, ints))) in
+          let run = h.is.runs x (omega (arith, ints, left)) (omega (arith, ints, wide, right)) in
+          run.below (subst (λ y. part_at features z.feature (at x y)) (ap (λ y. y -ℤ pos 1) rows.0) in_f)))
+          (λ m. omega (arith, ints, m, hb)) in
           (i, (i, r, i_in, r_in, corner-same r.x1 r.y0 z.rect.x0 z.rect.y0 i column row))
 
       second-across : (k : ℕ) × IsCornerOf LowerLeft pieces (corner_at z.rect.x1 z.rect.y0 k)
@@ -143,16 +167,16 @@ module _ (rule overlap : ℕ) (layer : Region) (features pieces : List (List Rec
           let hb = has.low in
           let ht = has.high in
           let column : r.x0 ≡ z.rect.x1 = by_lt_z r.x0 z.rect.x1
-              (λ l. absurd (not-in-zone q (slab-rest i r q i_in r_in (record { left = omega (arith, ints, l); right = omega (arith, ints, hr); low = hb; high = ht })) q_in))
-              (λ m. omega (arith, ints, m, hl)) in
+          (λ l. absurd (not-in-zone q (slab-rest i r q i_in r_in (record { left = omega (arith, ints, l); right = omega (arith, ints, hr); low = hb; high = ht })) q_in))
+          (λ m. omega (arith, ints, m, hl)) in
           let row : r.y0 ≡ z.rect.y0 = by_lt_z r.y0 z.rect.y0
-              (λ l. absurd (
-                  let s : Pt = at x (z.rect.y0 -ℤ pos 1) in
-                  let rest = slab-rest i r s i_in r_in (record { left = hl; right = hr; low = omega (arith, ints, l); high = omega (arith, ints, ht) }) in
-                  let in_f = touching-in s q rest q_in (Touch-from_close s q (omega (arith, ints)) (omega (arith, ints)) (omega (arith, ints)) (omega (arith, ints))) in
-                  let run = h.is.runs x (omega (arith, ints, wide, left)) (omega (arith, ints, right)) in
-                  run.below (subst (λ y. part_at features z.feature (at x y)) (ap (λ y. y -ℤ pos 1) rows.0) in_f)))
-              (λ m. omega (arith, ints, m, hb)) in
+          (λ l. absurd (
+          let s : Pt = at x (z.rect.y0 -ℤ pos 1) in
+          let rest = slab-rest i r s i_in r_in (record { left = hl; right = hr; low = omega (arith, ints, l); high = omega (arith, ints, ht) }) in
+          let in_f = touching-in s q rest q_in (Touch-from_close s q (omega (arith, ints)) (omega (arith, ints)) (omega (arith, ints)) (omega (arith, ints))) in
+          let run = h.is.runs x (omega (arith, ints, wide, left)) (omega (arith, ints, right)) in
+          run.below (subst (λ y. part_at features z.feature (at x y)) (ap (λ y. y -ℤ pos 1) rows.0) in_f)))
+          (λ m. omega (arith, ints, m, hb)) in
           (i, (i, r, i_in, r_in, corner-same r.x0 r.y0 z.rect.x1 z.rect.y0 i column row))
 
     module _ (h : IsVerticalZone rule overlap layer (part_at features z.feature) z.rect) (none : (r : Rect) → IsHorizontalZone rule overlap layer (part_at features z.feature) r → ¬ AreTouching (Has r) (Has z.rect)) where
@@ -176,16 +200,16 @@ module _ (rule overlap : ℕ) (layer : Region) (features pieces : List (List Rec
           let hb = has.low in
           let ht = has.high in
           let row : r.y1 ≡ z.rect.y0 = by_lt_z z.rect.y0 r.y1
-              (λ l. absurd (not-in-zone q (slab-rest i r q i_in r_in (record { left = hl; right = hr; low = omega (arith, ints, hb); high = l })) q_in))
-              (λ m. omega (arith, ints, m, ht)) in
+          (λ l. absurd (not-in-zone q (slab-rest i r q i_in r_in (record { left = hl; right = hr; low = omega (arith, ints, hb); high = l })) q_in))
+          (λ m. omega (arith, ints, m, ht)) in
           let column : r.x0 ≡ z.rect.x0 = by_lt_z r.x0 z.rect.x0
-              (λ l. absurd (
-                  let s : Pt = at (z.rect.x0 -ℤ pos 1) y in
-                  let rest = slab-rest i r s i_in r_in (record { left = omega (arith, ints, l); right = omega (arith, ints, hr); low = hb; high = ht }) in
-                  let in_f = touching-in s q rest q_in (Touch-from_close s q (omega (arith, ints)) (omega (arith, ints)) (omega (arith, ints)) (omega (arith, ints))) in
-                  let run = h.is.runs y (omega (arith, ints, left)) (omega (arith, ints, tall, right)) in
-                  run.below (subst (λ x. part_at features z.feature (at x y)) (ap (λ x. x -ℤ pos 1) rows.0) in_f)))
-              (λ m. omega (arith, ints, m, hl)) in
+          (λ l. absurd (
+          let s : Pt = at (z.rect.x0 -ℤ pos 1) y in
+          let rest = slab-rest i r s i_in r_in (record { left = omega (arith, ints, l); right = omega (arith, ints, hr); low = hb; high = ht }) in
+          let in_f = touching-in s q rest q_in (Touch-from_close s q (omega (arith, ints)) (omega (arith, ints)) (omega (arith, ints)) (omega (arith, ints))) in
+          let run = h.is.runs y (omega (arith, ints, left)) (omega (arith, ints, tall, right)) in
+          run.below (subst (λ x. part_at features z.feature (at x y)) (ap (λ x. x -ℤ pos 1) rows.0) in_f)))
+          (λ m. omega (arith, ints, m, hl)) in
           (i, (i, r, i_in, r_in, corner-same r.x0 r.y1 z.rect.x0 z.rect.y0 i column row))
 
       second-up : (k : ℕ) × IsCornerOf LowerLeft pieces (corner_at z.rect.x0 z.rect.y1 k)
@@ -205,16 +229,16 @@ module _ (rule overlap : ℕ) (layer : Region) (features pieces : List (List Rec
           let hb = has.low in
           let ht = has.high in
           let row : r.y0 ≡ z.rect.y1 = by_lt_z r.y0 z.rect.y1
-              (λ l. absurd (not-in-zone q (slab-rest i r q i_in r_in (record { left = hl; right = hr; low = omega (arith, ints, l); high = omega (arith, ints, ht) })) q_in))
-              (λ m. omega (arith, ints, m, hb)) in
+          (λ l. absurd (not-in-zone q (slab-rest i r q i_in r_in (record { left = hl; right = hr; low = omega (arith, ints, l); high = omega (arith, ints, ht) })) q_in))
+          (λ m. omega (arith, ints, m, hb)) in
           let column : r.x0 ≡ z.rect.x0 = by_lt_z r.x0 z.rect.x0
-              (λ l. absurd (
-                  let s : Pt = at (z.rect.x0 -ℤ pos 1) y in
-                  let rest = slab-rest i r s i_in r_in (record { left = omega (arith, ints, l); right = omega (arith, ints, hr); low = hb; high = ht }) in
-                  let in_f = touching-in s q rest q_in (Touch-from_close s q (omega (arith, ints)) (omega (arith, ints)) (omega (arith, ints)) (omega (arith, ints))) in
-                  let run = h.is.runs y (omega (arith, ints, tall, left)) (omega (arith, ints, right)) in
-                  run.below (subst (λ x. part_at features z.feature (at x y)) (ap (λ x. x -ℤ pos 1) rows.0) in_f)))
-              (λ m. omega (arith, ints, m, hl)) in
+          (λ l. absurd (
+          let s : Pt = at (z.rect.x0 -ℤ pos 1) y in
+          let rest = slab-rest i r s i_in r_in (record { left = omega (arith, ints, l); right = omega (arith, ints, hr); low = hb; high = ht }) in
+          let in_f = touching-in s q rest q_in (Touch-from_close s q (omega (arith, ints)) (omega (arith, ints)) (omega (arith, ints)) (omega (arith, ints))) in
+          let run = h.is.runs y (omega (arith, ints, tall, left)) (omega (arith, ints, right)) in
+          run.below (subst (λ x. part_at features z.feature (at x y)) (ap (λ x. x -ℤ pos 1) rows.0) in_f)))
+          (λ m. omega (arith, ints, m, hl)) in
           (i, (i, r, i_in, r_in, corner-same r.x0 r.y0 z.rect.x0 z.rect.y1 i column row))
 
     stand-kept : IsKeptZone rule overlap layer (part_at features z.feature) z.rect → (side : ℕ × ℕ) × StandBeside pieces z side
@@ -224,12 +248,8 @@ module _ (rule overlap : ℕ) (layer : Region) (features pieces : List (List Rec
     pub stand : (side : ℕ × ℕ) × StandBeside pieces z side
     stand = stand-kept (kept rule overlap layer features zones c zs z z_in).1
 
-    solid-kept : IsKeptZone rule overlap layer (part_at features z.feature) z.rect → (z.rect.x0 <ℤ z.rect.x1) × (z.rect.y0 <ℤ z.rect.y1)
-    solid-kept (inl h) = let s = broad rule overlap layer (part_at features z.feature) z.rect some h in (s.wide, s.tall)
-    solid-kept (inr (h, none)) = let s = broad rule overlap (turned layer) (turned (part_at features z.feature)) (turned_rect z.rect) some h in (s.tall, s.wide)
-
-    pub solid : (z.rect.x0 <ℤ z.rect.x1) × (z.rect.y0 <ℤ z.rect.y1)
-    solid = solid-kept (kept rule overlap layer features zones c zs z z_in).1
+    solid : (z.rect.x0 <ℤ z.rect.x1) × (z.rect.y0 <ℤ z.rect.y1)
+    solid = solid-zone rule overlap layer features zones some c zs z z_in
 
     -- a piece whose slab has the corner
     from-left : (k : ℕ) → IsCornerOf LowerRight pieces (corner_at z.rect.x0 z.rect.y0 k) → (k < length pieces) × IsFirstSide (part_at pieces k) z.rect
@@ -306,21 +326,3 @@ module _ (rule overlap : ℕ) (layer : Region) (features pieces : List (List Rec
         let first = elim one as (λ t. (side.0 < length pieces) × IsFirstSide (part_at pieces side.0) z.rect) [ inl h ↦ from-left side.0 h | inr h ↦ from-below side.0 h ] in
         let second = elim two as (λ t. (side.1 < length pieces) × IsSecondSide (part_at pieces side.1) z.rect) [ inl h ↦ from-right side.1 h | inr h ↦ from-above side.1 h ] in
         record { known = (first.0, second.0); first = first.1; second = second.1 }
-
-    -- a zone lies within the range of its feature
-    pub zone-within : All (AreRectsWithin farthest) features → IsSolidWithin farthest z.rect
-    zone-within within =
-        let k = kept rule overlap layer features zones c zs z z_in in
-        let zw = solid.0 in
-        let zt = solid.1 in
-        let p : Pt = at z.rect.x0 z.rect.y0 in
-        let q : Pt = at (z.rect.x1 -ℤ pos 1) (z.rect.y1 -ℤ pos 1) in
-        let p_in : Has z.rect p = record { left = omega (arith, ints); right = zw; low = omega (arith, ints); high = zt } in
-        let q_in : Has z.rect q = record { left = omega (arith, ints, zw); right = omega (arith, ints); low = omega (arith, ints, zt); high = omega (arith, ints) } in
-        let one = square-within (get_or features z.feature []) p (within z.feature [] k.0) (kept-inside rule overlap layer features zones c zs (part_at features z.feature) z.rect p k.1 p_in) in
-        let two = square-within (get_or features z.feature []) q (within z.feature [] k.0) (kept-inside rule overlap layer features zones c zs (part_at features z.feature) z.rect q k.1 q_in) in
-        let ox = one.column in
-        let oy = one.row in
-        let tx = two.next_column in
-        let ty = two.next_row in
-        record { wide = zw; tall = zt; left = ox; right = omega (arith, ints, tx); low = oy; high = omega (arith, ints, ty) }

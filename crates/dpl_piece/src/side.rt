@@ -25,12 +25,7 @@ fn either(first: &[Corner], x: i64, y: i64, second: &[Corner], u: i64, v: i64) -
 }
 
 /// The parts on the two sides of a zone, the left or lower one first.
-fn sides(
-    lower_left: &[Corner],
-    lower_right: &[Corner],
-    upper_left: &[Corner],
-    z: &Rect,
-) -> (Id, Id)
+fn sides(lower_left: &[Corner], lower_right: &[Corner], upper_left: &[Corner], z: &Rect) -> (Id, Id)
     requires lower_left { RiseByCorner lower_left.now }
     requires lower_right { RiseByCorner lower_right.now }
     requires upper_left { RiseByCorner upper_left.now }
@@ -43,11 +38,7 @@ fn sides(
 }
 
 /// The parts on the two sides of each zone, the left or lower one first.
-pub fn sides_of(
-    alloc: Global,
-    parts: &[Slabs],
-    zones: &[Zone],
-) -> Result<Vec<(Id, Id)>, AllocError>
+pub fn sides_of(alloc: Global, parts: &[Slabs], zones: &[Zone]) -> Result<Vec<(Id, Id)>, AllocError>
     requires { All (λ z. (side : ℕ × ℕ) × StandBeside parts.now z side) zones.now }
     ensures { IfOk result (λ v. AllZip (StandBeside parts.now) zones.now v.items) }
 {

@@ -1,5 +1,4 @@
-use Rattle.std.proofs.Common.{◌≡◌, ◌<◌, length, arith, refl, rules}
-use Rattle.std.specs.Prelude.{◌↔◌}
+use Rattle.std.proofs.Common.{◌≡◌, ◌<◌, length, arith, rules}
 use Rattle.dpl_piece.proofs.CornerLaws.{corners-next, corners-sorted}
 use Rattle.dpl_piece.proofs.corner.corners.Goals as goal
 

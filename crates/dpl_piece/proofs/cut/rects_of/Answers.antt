@@ -1,4 +1,4 @@
-use Rattle.std.proofs.Common.{◌≡◌, ◌<◌, length, arith, rules}
+use Rattle.std.proofs.Common.{◌<◌, length, arith, rules}
 use Rattle.dpl_piece.proofs.Rests.{parts-next, within-next, parts-all}
 use Rattle.dpl_piece.proofs.cut.rects_of.Goals as goal
 

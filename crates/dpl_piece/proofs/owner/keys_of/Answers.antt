@@ -1,5 +1,5 @@
-use Rattle.std.proofs.Common.{◌≡◌, ◌≢◌, ◌<◌, [], length, take, subst, sym, arith, rules, ◌∙◌}
-use Rattle.std.proofs.lemmas.List.{get_or_default, take_all}
+use Rattle.std.proofs.Common.{◌≡◌, ◌≢◌, ◌<◌, [], length, take, subst, sym, arith, rules}
+use Rattle.std.proofs.lemmas.List.{take_all}
 use Rattle.dpl_spec.specs.Squares.{Covers, IsLeast}
 use Rattle.dpl_piece.proofs.CornerLaws.{zip-next}
 use Rattle.dpl_piece.proofs.owner.keys_of.Goals as goal

@@ -1,4 +1,4 @@
-use Rattle.std.proofs.Common.{◌≡◌, ◌<◌, length, get_or, sym, arith, rules, w64, FitsSigned}
+use Rattle.std.proofs.Common.{◌<◌, length, get_or, arith, rules, w64, FitsSigned}
 use Rattle.std.specs.Prelude.{pos}
 use Rattle.std.proofs.lemmas.Int.{to_z-of_z}
 use Rattle.std.proofs.lemmas.List.{get_or_default}

@@ -1,4 +1,4 @@
-use Rattle.std.proofs.Common.{◌≡◌, length, vec_len, rules, arith, sym, subst, ◌∙◌}
+use Rattle.std.proofs.Common.{◌≡◌, length, vec_len, rules, subst}
 use Rattle.dpl_piece.specs.Owners.{AreSidesKnown, IsWholeOrNone}
 use Rattle.dpl_piece.proofs.CornerLaws.{zip-length}
 use Rattle.dpl_piece.proofs.OwnerLaws.{owners-by, written}

@@ -1,4 +1,4 @@
-use Rattle.std.proofs.Common.{refl, inl, inr, w64, rules}
+use Rattle.std.proofs.Common.{refl, inl, inr, w64}
 use Rattle.std.proofs.lemmas.Int.{to_z-of_z}
 use Rattle.dpl_piece.proofs.side.either.Goals as goal
 

@@ -1,7 +1,6 @@
-use Rattle.std.proofs.Common.{◌≡◌, ◌<◌, length, get_or, take, arith, refl, rules, ℕ}
-use Rattle.std.specs.Prelude.{pos, ◌↔◌}
+use Rattle.std.proofs.Common.{◌≡◌, get_or, take, arith}
+use Rattle.std.specs.Prelude.{pos}
 use Rattle.std.proofs.lemmas.List.{get_or_default, take_all}
-use Rattle.dpl_spec.specs.declared.Rect.{Rect}
 use Rattle.dpl_spec.specs.declared.Zone.{Zone}
 use Rattle.dpl_piece.specs.Corners.{StandBeside}
 use Rattle.dpl_piece.proofs.CornerLaws.{zip-next, found-from, found-to}
