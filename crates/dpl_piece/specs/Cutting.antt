@@ -1,5 +1,5 @@
 -- The pieces of a layer as one value.
-use Rattle.std.specs.Prelude.{◌≡◌, ℕ, ◌<◌, ◌≤◌, List, length}
+use Rattle.std.specs.Prelude.{◌≡◌, ℕ, ◌<◌, ◌≤◌, List, length, map}
 use Rattle.std.specs.List.{All}
 use Rattle.dpl_spec.specs.declared.Pt.{Pt}
 use Rattle.dpl_spec.specs.declared.Rect.{Rect}
@@ -18,6 +18,9 @@ pub record CutPieces : Type 0 where
   pub keys : List Pt
   pub zones : List Zone
   pub sides : List (ℕ × ℕ)
+
+abbrev pub cut_pieces : List (List Rect) → List ℕ → List Pt → List Zone → List (ℕ × ℕ) → CutPieces
+cut_pieces parts owners keys zones sides = record { parts = parts; owners = owners; keys = keys; zones = zones; sides = sides }
 
 -- one owner and one key for each piece, two pieces for each zone, and zones within the range of a layer
 pub record AreMatched (c : CutPieces) : Type 0 where
@@ -39,3 +42,6 @@ AreTheirZones features zones = (rule overlap : ℕ) × (1 ≤ overlap) × AreZon
 -- the pieces that the zones leave of each layer whose features these are
 abbrev pub AreTheirPieces : List (List Rect) → List Zone → CutPieces → Type 0
 AreTheirPieces features zones c = (layer : List Rect) → AreComponents (Covers layer) features → ArePieces (Covers layer) features zones c.parts c.owners c.keys c.sides
+
+abbrev pub rects_of_zones : List Zone → List Rect
+rects_of_zones zones = map (λ z. z.rect) zones

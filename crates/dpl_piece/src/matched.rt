@@ -3,6 +3,7 @@ ghost use Rattle.std.specs.Prelude.{◌≡◌, ◌<◌, length};
 ghost use Rattle.std.specs.List.{All};
 ghost use Rattle.dpl_spec.specs.Squares.{IsSolidWithin};
 ghost use Rattle.dpl_spec.specs.Loops.{farthest};
+ghost use Rattle.dpl_piece.specs.Cutting.{cut_pieces, AreMatched};
 
 use dpl_base::{Id, Pt, Zone};
 use dpl_slabs::Parts;
@@ -19,16 +20,36 @@ pub struct Pieces {
 }
 
 impl Model for Pieces {
-    ghost use Rattle.dpl_piece.specs.Cutting.{CutPieces, AreMatched};
+    ghost use Rattle.dpl_piece.specs.Cutting.{CutPieces, cut_pieces, AreMatched};
 
     ghost Value = { CutPieces };
 
-    ghost view = { λ p. record { parts = p.parts; owners = p.owner.items; keys = p.keys.items; zones = p.zones.items; sides = p.sides.items } };
+    ghost view = { λ p. cut_pieces p.parts p.owner.items p.keys.items p.zones.items p.sides.items };
 
-    ghost invariant = { λ p. AreMatched (record { parts = p.parts; owners = p.owner.items; keys = p.keys.items; zones = p.zones.items; sides = p.sides.items }) };
+    ghost invariant = { λ p. AreMatched (cut_pieces p.parts p.owner.items p.keys.items p.zones.items p.sides.items) };
 }
 
 impl Pieces {
+    /// Pieces with their owners and keys, and zones with their sides.
+    pub(crate) fn of(
+        parts: Parts,
+        owner: Vec<Id>,
+        keys: Vec<Pt>,
+        zones: Vec<Zone>,
+        sides: Vec<(Id, Id)>,
+    ) -> Pieces
+        requires { AreMatched (cut_pieces parts owner.items keys.items zones.items sides.items) }
+        ensures { result ≡ cut_pieces parts owner.items keys.items zones.items sides.items }
+    {
+        Pieces {
+            parts,
+            owner,
+            keys,
+            zones,
+            sides,
+        }
+    }
+
     /// The squares of each piece.
     pub fn parts(&self) -> &Parts
         ensures { result.now ≡ self.now.parts }

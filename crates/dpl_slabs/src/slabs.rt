@@ -97,6 +97,20 @@ impl Slabs {
         Ok(Slabs { rects })
     }
 
+    /// The squares of rectangles that none of the holes has.
+    pub fn of_rects_without(
+        alloc: Global,
+        rects: &[Rect],
+        holes: &[Rect],
+    ) -> Result<Slabs, AllocError>
+        requires rects { AreRectsWithin farthest rects.now }
+        requires holes { AreRectsWithin farthest holes.now }
+        ensures { IfOk result (λ s. AreSlabsOf (λ p. Covers rects.now p × ¬ Covers holes.now p) s) }
+    {
+        let rects = combine(alloc, rects, holes, Rule::Minus)?;
+        Ok(Slabs { rects })
+    }
+
     /// The squares of loops, in any order, that may overlap, each by the signed sum over its upright edges.
     pub fn of_loops(alloc: Global, loops: &[Loop]) -> Result<Slabs, AllocError>
         requires { AreLoopsWithin farthest loops.now }
