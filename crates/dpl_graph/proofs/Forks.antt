@@ -1,11 +1,11 @@
 -- Two paths of one length that meet, and the odd cycle that an edge between their ends closes.
-use Rattle.std.proofs.Common.{◌≡◌, ◌≢◌, ℕ, zero, suc, ◌+◌, ◌-◌, ◌%◌, ◌<◌, ◌≤◌, ◌⊎◌, inl, inr, List, [], ◌∷◌, ◌++◌, reverse, length, length-append, get_or, sym, refl, ap, subst, ◌∙◌, arith}
-use Rattle.std.proofs.lemmas.Bool.{cases_order, cases_eq, cases_lt}
+use Rattle.std.proofs.Common.{◌≡◌, ◌≢◌, ℕ, zero, suc, ◌+◌, ◌-◌, ◌%◌, ◌<◌, inl, inr, List, [], ◌∷◌, ◌++◌, reverse, length, length-append, get_or, sym, refl, ap, subst, ◌∙◌, arith}
+use Rattle.std.proofs.lemmas.Bool.{cases_eq, cases_lt}
 use Rattle.std.proofs.lemmas.List.{get_or_default, get_or-reverse, length-reverse, get_or_append_left, get_or-append-add}
 use Rattle.std.proofs.Math.Nat.{mod_self, mod-eq_of_lt}
-use Rattle.std.specs.List.{All, AllPairs}
-use Rattle.dpl_spec.specs.Graphs.{Graph, Walk, IsDistance, Reaches, IsOddCycle}
-use Rattle.dpl_spec.specs.Cycle.{IsLevelEdge, IsParent, Climb, last, up, IsReported}
+use Rattle.std.specs.List.{All}
+use Rattle.dpl_spec.specs.Graphs.{Graph, IsDistance, Reaches, IsOddCycle}
+use Rattle.dpl_spec.specs.Cycle.{Climb, last, up, IsReported}
 use Rattle.dpl_spec.proofs.GraphLaws.{distance-unique}
 use Rattle.dpl_graph.specs.Laws.{HasLevelEdge, HasOddCycleAt}
 use Rattle.dpl_graph.proofs.Walks.{IsUndirected, distance-zero, distance-before}
@@ -78,15 +78,15 @@ rest_place top us vs meet i d l =
     let len : length (reverse us) ≡ length us = length-reverse us in
     elim (cases_lt i (length us)) [
       | inl low ↦
-        let k : ℕ = length us - 1 - i in
-        let k_in : k < length us = omega arith in
-        let within : i < length (reverse us) = omega arith in
-        at_first k (omega arith) k_in (get_or_append_left (reverse us) vs d i within ∙ (get_or-reverse us i d low ∙ get_or_default us k d 0 k_in))
+          let k : ℕ = length us - 1 - i in
+          let k_in : k < length us = omega arith in
+          let within : i < length (reverse us) = omega arith in
+          at_first k (omega arith) k_in (get_or_append_left (reverse us) vs d i within ∙ (get_or-reverse us i d low ∙ get_or_default us k d 0 k_in))
       | inr high ↦
-        let k : ℕ = i - length us in
-        let k_in : k < length vs = omega arith in
-        let at : length (reverse us) + k ≡ i = omega arith in
-        at_second k (omega arith) k_in (ap (λ j. get_or (reverse us ++ vs) j d) (sym at) ∙ (get_or-append-add (reverse us) vs k d ∙ get_or_default vs k d 0 k_in))
+          let k : ℕ = i - length us in
+          let k_in : k < length vs = omega arith in
+          let at : length (reverse us) + k ≡ i = omega arith in
+          at_second k (omega arith) k_in (ap (λ j. get_or (reverse us ++ vs) j d) (sym at) ∙ (get_or-append-add (reverse us) vs k d ∙ get_or_default vs k d 0 k_in))
     ]
 
 place : (top : ℕ) (us vs : List ℕ) → length us ≡ length vs → (i d : ℕ) → i < suc (length us + length vs) → Place top us vs i (get_or (top ∷ reverse us ++ vs) i d)
@@ -158,13 +158,13 @@ around_it joined un {top = top} {us = us} {vs = vs} f uv n len i l =
     let here = place top us vs f.meet i 0 (let e = len in omega (arith, e, l)) in
     elim (cases_lt (i + 1) n) [
       | inl low ↦
-        let next : (i + 1) % n ≡ suc i = mod-eq_of_lt low ∙ omega arith in
-        let there = place top us vs f.meet (suc i) 0 (omega (arith, len, low)) in
-        subst (λ j. joined (get_or (top ∷ reverse us ++ vs) i 0) (get_or (top ∷ reverse us ++ vs) j 0)) (sym next) (next_joined joined un f uv i (suc i) _ _ refl here there)
+          let next : (i + 1) % n ≡ suc i = mod-eq_of_lt low ∙ omega arith in
+          let there = place top us vs f.meet (suc i) 0 (omega (arith, len, low)) in
+          subst (λ j. joined (get_or (top ∷ reverse us ++ vs) i 0) (get_or (top ∷ reverse us ++ vs) j 0)) (sym next) (next_joined joined un f uv i (suc i) _ _ refl here there)
       | inr high ↦
-        let at_end : i + 1 ≡ n = omega (arith, l, high) in
-        let next : (i + 1) % n ≡ 0 = ap (λ k. k % n) at_end ∙ mod_self n in
-        subst (λ j. joined (get_or (top ∷ reverse us ++ vs) i 0) (get_or (top ∷ reverse us ++ vs) j 0)) (sym next) (last_joined joined f i _ (omega (arith, at_end, len)) here)
+          let at_end : i + 1 ≡ n = omega (arith, l, high) in
+          let next : (i + 1) % n ≡ 0 = ap (λ k. k % n) at_end ∙ mod_self n in
+          subst (λ j. joined (get_or (top ∷ reverse us ++ vs) i 0) (get_or (top ∷ reverse us ++ vs) j 0)) (sym next) (last_joined joined f i _ (omega (arith, at_end, len)) here)
     ]
 
 pub fork-cycle : (joined : Graph) → IsUndirected joined → {root u v top : ℕ} {us vs : List ℕ} (f : Fork joined root u v top us vs) → joined u v → IsOddCycle joined (top ∷ reverse us ++ vs)
@@ -199,10 +199,13 @@ Forked joined root u v = (top : ℕ) × (us : List ℕ) × (vs : List ℕ) × Fo
 
 fork_one : (joined : Graph) (root u v p n : ℕ) → u ≢ v → joined u p → joined v p → IsDistance joined root p n → IsDistance joined root u (suc n) → IsDistance joined root v (suc n) → Fork joined root u v p (u ∷ []) (v ∷ [])
 fork_one joined root u v p n ne e g at a b = record {
-  t = n; level = at;
+  t = n;
+  level = at;
   first = path-one joined root p n u e a;
   second = path-one joined root p n v g b;
-  meet = refl; from_u = refl; from_v = refl;
+  meet = refl;
+  from_u = refl;
+  from_v = refl;
   apart = one_apart u v ne;
 }
 
@@ -215,10 +218,13 @@ longer joined root u p top t n us e at a path from =
 fork_more : (joined : Graph) (root u v p q n top : ℕ) (us vs : List ℕ) → u ≢ v → joined u p → joined v q → IsDistance joined root p n → IsDistance joined root q n → IsDistance joined root u (suc n) → IsDistance joined root v (suc n)
     → Fork joined root p q top us vs → Fork joined root u v top (u ∷ us) (v ∷ vs)
 fork_more joined root u v p q n top us vs ne e g at bt a b f = record {
-  t = f.t; level = f.level;
+  t = f.t;
+  level = f.level;
   first = longer joined root u p top f.t n us e at a f.first f.from_u;
   second = longer joined root v q top f.t n vs g bt b f.second f.from_v;
-  meet = ap suc f.meet; from_u = refl; from_v = refl;
+  meet = ap suc f.meet;
+  from_u = refl;
+  from_v = refl;
   apart = more_apart u v us vs ne f.apart;
 }
 
@@ -231,8 +237,8 @@ forked joined un root (suc n) u v ne a b =
     elim (cases_eq p q) [
       | inl same ↦ (p, u ∷ [], v ∷ [], fork_one joined root u v p n ne e (subst (λ x. joined v x) (sym same) g) at a b)
       | inr other ↦
-        let (top, us, vs, f) = forked joined un root n p q other at bt in
-        (top, u ∷ us, v ∷ vs, fork_more joined root u v p q n top us vs ne e g at bt a b f)
+          let (top, us, vs, f) = forked joined un root n p q other at bt in
+          (top, u ∷ us, v ∷ vs, fork_more joined root u v p q n top us vs ne e g at bt a b f)
     ]
 
 pub level-cycle : (joined : Graph) → IsUndirected joined → (root : ℕ) → HasLevelEdge joined root → HasOddCycleAt joined root
@@ -265,7 +271,8 @@ pub reported-odd : (joined : Graph) → IsUndirected joined → (cycle : List �
 reported-odd joined un cycle r =
     let (t, at) = climb_top joined r.first in
     let f : Fork joined r.root r.edge.0 r.edge.1 r.top r.us r.vs = record {
-      t = t; level = at;
+      t = t;
+      level = at;
       first = climb_path joined t at r.first;
       second = climb_path joined t at r.second;
       meet = r.meet;

@@ -1,8 +1,6 @@
 -- Odd cycles and levels of a graph that is given by its edges.
-use Rattle.std.proofs.Common.{◌≡◌, ◌≢◌, ℕ, zero, ◌+◌, ◌<◌, ◌≤◌, ◌⊎◌, inl, inr, List, length, get_or, arith}
-use Rattle.std.specs.List.{All}
-use Rattle.dpl_spec.specs.Graphs.{Graph, Walk, stay, IsDistance, Reaches, IsRoot, IsOddCycle, graph_of}
-use Rattle.dpl_spec.specs.Cycle.{IsLevelEdge, IsOddRoot, IsReported}
+use Rattle.std.proofs.Common.{ℕ, List, get_or, arith}
+use Rattle.dpl_spec.specs.Graphs.{stay, IsRoot, graph_of}
 use Rattle.dpl_spec.specs.Summary.{HasOddCycle}
 use Rattle.dpl_graph.specs.Laws.{AreOrdered, HasLevelEdge, HasOddCycleAt, LevelsShowOddCycles, RootsShowOddCycles, OddRootsAreRoots, ReportedIsOdd}
 use Rattle.dpl_graph.proofs.Walks.{graph_of-undirected, root-along, Reaches-sym}

@@ -1,11 +1,10 @@
 -- The distances and the roots of a graph that is given by its edges.
-use Rattle.std.proofs.Common.{◌≡◌, ◌≢◌, ℕ, zero, suc, ◌+◌, ◌<◌, ◌≤◌, ◌⊎◌, inl, inr, List, [], ◌∷◌, sym, refl, ap, subst, ◌∙◌, arith, below_more}
+use Rattle.std.proofs.Common.{◌≡◌, ℕ, zero, suc, ◌<◌, ◌≤◌, ◌⊎◌, inl, inr, List, [], ◌∷◌, sym, refl, ap, subst, arith}
 use Rattle.std.specs.List.{Contains}
 use Rattle.std.proofs.lemmas.Bool.{cases_order, cases_eq}
-use Rattle.dpl_spec.specs.Graphs.{Graph, Walk, stay, step, IsDistance, Reaches, IsRoot, graph_of}
+use Rattle.dpl_spec.specs.Graphs.{Walk, stay, step, Reaches, IsRoot, graph_of}
 use Rattle.dpl_spec.proofs.Ordered.{Contains-head, Contains-later, Contains-cases, Contains-nil}
-use Rattle.dpl_graph.specs.Laws.{AreOrdered}
-use Rattle.dpl_graph.proofs.Walks.{IsUndirected, Walk-first, Walk-nowhere, Reaches-sym, Reaches-trans, Reaches-edge}
+use Rattle.dpl_graph.proofs.Walks.{Walk-first, Walk-nowhere, Reaches-trans, Reaches-edge}
 use Rattle.dpl_graph.proofs.Parity.{HasDistances}
 
 search_pairs : (Q : ℕ × ℕ → Type 0) → ((e : ℕ × ℕ) → Q e ⊎ (Q e → ⊥)) → (es : List (ℕ × ℕ)) → ((e : ℕ × ℕ) × Contains es e × Q e) ⊎ ((e : ℕ × ℕ) → Contains es e → Q e → ⊥)
@@ -67,10 +66,14 @@ least_below P decide zero = inr (λ k l p. omega arith)
 least_below P decide (suc m) = elim (least_below P decide m) [
   | inl found ↦ inl found
   | inr none ↦ elim (decide m) [
-    | inl p ↦ inl (m, p, λ k q. elim (cases_order k m) [
-      | inl same ↦ omega arith
-      | inr h ↦ elim h [ inl l ↦ absurd (none k l q) | inr l ↦ omega arith ]
-    ])
+    | inl p ↦ inl (
+      m,
+      p,
+      λ k q. elim (cases_order k m) [
+        | inl same ↦ omega arith
+        | inr h ↦ elim h [ inl l ↦ absurd (none k l q) | inr l ↦ omega arith ]
+      ],
+    )
     | inr no_m ↦ inr (λ k l q. elim (cases_eq k m) [
       | inl same ↦ no_m (subst P same q)
       | inr ne ↦ none k (omega arith) q

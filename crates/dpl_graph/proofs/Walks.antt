@@ -1,6 +1,5 @@
 -- Walks and distances in a graph whose edges go both ways.
-use Rattle.std.proofs.Common.{◌≡◌, ◌≢◌, ℕ, zero, suc, ◌+◌, ◌<◌, ◌≤◌, ◌⊎◌, inl, inr, List, sym, refl, ap, subst, ◌∙◌, arith}
-use Rattle.std.specs.List.{All, Contains}
+use Rattle.std.proofs.Common.{◌≡◌, ◌≢◌, ℕ, suc, ◌+◌, ◌<◌, ◌≤◌, inl, inr, List, refl, subst, arith}
 use Rattle.std.proofs.lemmas.List.Elements.{All-contains}
 use Rattle.dpl_spec.specs.Graphs.{Graph, Walk, stay, step, IsDistance, Reaches, IsRoot, graph_of}
 use Rattle.dpl_spec.proofs.GraphLaws.{Walk-trans}
@@ -68,8 +67,11 @@ distance-self joined root = record { walk = stay; least = λ m w. omega arith }
 -- a neighbour one level lower
 pub distance-before : (joined : Graph) → IsUndirected joined → (root v m n : ℕ) → IsDistance joined root v m → m ≡ suc n → (u : ℕ) × joined v u × IsDistance joined root u n
 distance-before joined un root v m n a e =
-    let (u, joins, back) = Walk-first joined n (Walk-reverse joined un a.walk) e in
-    (u, joins, record {
+    let (u, joins, back) = Walk-first joined n (Walk-reverse joined un a.walk) e in (
+      u,
+      joins,
+      record {
         walk = Walk-reverse joined un back;
         least = λ k w. let l = a.least (suc k) (Walk-snoc joined w (un.both _ _ joins)) in omega (arith, l, e);
-    })
+      },
+    )

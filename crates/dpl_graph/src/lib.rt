@@ -1,10 +1,15 @@
 //! Graphs on numbers: components, and how far their numbers lie from the least one.
 #![tactic(auto)]
 
+mod links;
+mod reached;
+
 ghost use Rattle.std.specs.Prelude.{IfOk};
 ghost use Rattle.dpl_graph.specs.Levels.{AreEdgesBelow, AreLevels};
 ghost use Rattle.dpl_graph.specs.Laws.{LevelsShowOddCycles, OddRootsAreRoots, ReportedIsOdd, RootsShowOddCycles};
 
+use crate::links::links_of;
+use crate::reached::nothing;
 use dpl_base::{Edge, Id};
 use std::alloc::{AllocError, Global};
 
@@ -20,8 +25,17 @@ pub fn levels_of(alloc: Global, n: Id, edges: &[Edge]) -> Result<Levels, AllocEr
     requires { AreEdgesBelow n edges.now }
     ensures { IfOk result (λ l. AreLevels edges.now n l.roots.items l.levels.items) }
 {
-    let _taken = (alloc, n, edges.len());
-    Err(AllocError)
+    let links = links_of(alloc, n, edges)?;
+    let mut reached = nothing(alloc, n)?;
+    for v in 0..n {
+        if reached.roots[v as usize] == n {
+            reached.spread(n, edges, &links, v)?;
+        }
+    }
+    Ok(Levels {
+        roots: reached.roots,
+        levels: reached.levels,
+    })
 }
 
 /// A component has an odd cycle exactly where an edge joins two numbers of one level, below any of its numbers and so

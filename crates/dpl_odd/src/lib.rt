@@ -1,13 +1,19 @@
 //! The odd cycle that is reported for a graph which can't be two-coloured.
 #![tactic(auto)]
 
+mod forest;
+mod level;
+
 ghost use Rattle.std.specs.Prelude.{IfOk, IfNone, IfSome};
 ghost use Rattle.dpl_spec.specs.Graphs.{IsOddCycle, graph_of};
 ghost use Rattle.dpl_spec.specs.Cycle.{IsReported};
 ghost use Rattle.dpl_spec.specs.Summary.{HasOddCycle};
 ghost use Rattle.dpl_graph.specs.Levels.{AreEdgesBelow};
 
+use crate::forest::{Forest, parents_of};
+use crate::level::least_level_edge;
 use dpl_base::{Edge, Id};
+use dpl_graph::levels_of;
 use std::alloc::{AllocError, Global};
 
 /// An odd cycle of the graph of these edges, which join numbers below `n`, if there is one.
@@ -22,6 +28,12 @@ pub fn odd_cycle(alloc: Global, n: Id, edges: &[Edge]) -> Result<Option<Vec<Id>>
     ensures reported { IfOk result (λ found. IfSome found (λ cycle. IsReported (graph_of edges.now) cycle.items)) }
     ensures odd { IfOk result (λ found. IfSome found (λ cycle. IsOddCycle (graph_of edges.now) cycle.items)) }
 {
-    let _taken = (alloc, n, edges.len());
-    Err(AllocError)
+    let levels = levels_of(alloc, n, edges)?;
+    let Some((u, v)) = least_level_edge(&levels, edges) else {
+        return Ok(None);
+    };
+    let parents = parents_of(alloc, n, edges, &levels.levels)?;
+    let forest = Forest { levels, parents };
+    let cycle = forest.cycle_through(alloc, u, v)?;
+    Ok(Some(cycle))
 }
