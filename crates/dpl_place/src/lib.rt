@@ -1,7 +1,7 @@
 //! Where references of GDSII Stream files place what they name.
 #![tactic(auto)]
 
-ghost use Rattle.std.specs.Prelude.{◌≡◌, ◌+◌, ◌-◌, ◌%◌, ◌^◌, ◌<◌, ◌≤◌, ℤ, if◌then◌else◌};
+ghost use Rattle.std.specs.Prelude.{◌≡◌, ◌+◌, ◌-◌, ◌%◌, ◌^◌, ◌<◌, ◌≤◌, false, ℤ, pos, if◌then◌else◌};
 ghost use Rattle.dpl_spec.specs.declared.Pt.{Pt};
 ghost use Rattle.dpl_spec.specs.Loops.{IsPointWithin};
 ghost use Rattle.dpl_elements.specs.Motions.{Motion, reflected, turned, image, IsComposed, IsMotionWithin};
@@ -45,7 +45,7 @@ impl Place {
     /// The placement that moves nothing.
     pub fn unit() -> Place
         ensures stays { (p : Pt) → image result p ≡ p }
-        ensures turns { result.turns < 4 }
+        ensures value { result ≡ record { reflect = false; turns = 0; dx = pos 0; dy = pos 0 } }
     {
         Place {
             reflect: false,
@@ -167,5 +167,47 @@ pub fn compose(outer: &Place, inner: &Place) -> Place
         turns,
         dx: moved.x,
         dy: moved.y,
+    }
+}
+
+/// A placement is known by where it takes points.
+pub fn one_motion()
+    ensures { (m n : Motion) → m.turns < 4 → n.turns < 4 → ((p : Pt) → image m p ≡ image n p) → m ≡ n }
+{}
+
+/// Composing is associative.
+pub fn composing_is_associative()
+    ensures { (a b c ab bc x y : Motion) → IsComposed a b ab → IsComposed ab c x → IsComposed b c bc → IsComposed a bc y → x ≡ y }
+{}
+
+/// Composing with a placement that moves nothing changes nothing.
+pub fn composing_has_a_unit()
+    ensures outer { (u m x : Motion) → ((p : Pt) → image u p ≡ p) → m.turns < 4 → IsComposed u m x → x ≡ m }
+    ensures inner { (u m x : Motion) → ((p : Pt) → image u p ≡ p) → m.turns < 4 → IsComposed m u x → x ≡ m }
+{}
+
+#[cfg(test)]
+mod tests {
+    use super::*;
+
+    /// A placement, and where it takes (30,10).
+    const ROWS: [(bool, u8, i64, i64, i64, i64); 5] = [
+        (false, 0, 5, 6, 35, 16),
+        (false, 1, 0, 0, -10, 30),
+        (false, 3, 0, 0, 10, -30),
+        (true, 0, 0, 0, 30, -10),
+        (true, 1, 100, 200, 110, 230),
+    ];
+
+    #[test]
+    fn placements_of_a_table(rt: HostRuntime) {
+        for (reflect, turns, dx, dy, x, y) in ROWS {
+            assert!(rt; turns < 4);
+            assert!(rt; dx.unsigned_abs() <= 1000);
+            assert!(rt; dy.unsigned_abs() <= 1000);
+            let place = Place::new(reflect, turns, dx, dy);
+            assert_eq!(rt; place.apply(Pt { x: 30, y: 10 }), Pt { x, y });
+            assert_eq!(rt; compose(&place, &Place::unit()), place);
+        }
     }
 }

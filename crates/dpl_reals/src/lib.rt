@@ -1,13 +1,175 @@
-// A library with one function.
+//! Eight-byte reals of GDSII Stream files: which whole numbers they are.
 #![tactic(auto)]
 
-ghost use Rattle.std.specs.Prelude.{◌≡◌};
-ghost use Rattle.dpl_reals.specs.Echo.{echo_of};
+ghost use Rattle.std.specs.Prelude.{◌≡◌, ℕ, ◌+◌, ◌-◌, ◌*◌, ◌%◌, ◌^◌, ◌<◌, ◌↔◌, ℤ, pos, ◌*ℤ◌, List, length, drop, fold, slice_index, if◌then◌else◌, IsTrue, IfNone, IfSome};
+ghost use Rattle.dpl_elements.specs.Reals.{Excess64, big_endian, real_of, IsWhole, IsQuarterTurns, IsRightAngle};
+ghost use Rattle.dpl_reals.specs.Magnitudes.{IsMagnitude, IsDegrees};
 
-// The `ensures` clause is the contract: what `echo` returns is `echo_of` of its argument, a definition
-// in `specs/Echo.antt`, which a caller's clause can cite too.
-pub fn echo(x: usize) -> usize
-    ensures { result ≡ echo_of x }
+use std::marker::Model;
+
+/// A real of a sign, an exponent to the base 16 that is kept 64 too great, and a mantissa of 56 bits below the point. It need not be normalised.
+#[derive(Clone, Copy, Debug, Drop)]
+pub struct Real {
+    negative: bool,
+    exponent: u8,
+    mantissa: u64,
+}
+
+impl Model for Real {
+    ghost Value = { Excess64 };
+
+    ghost view = { λ r. record { negative = r.negative; exponent = r.exponent; mantissa = r.mantissa } };
+
+    ghost inverse = { λ r. record { negative = r.negative; exponent = r.exponent; mantissa = r.mantissa } };
+
+    ghost invariant = { λ r. (r.exponent < 128) × (r.mantissa < 2 ^ 56) };
+}
+
+/// The number that seven bytes spell, the greatest first.
+fn mantissa_of(bytes: &[u8]) -> u64
+    requires { length bytes.now ≡ 7 }
+    ensures value { result ≡ big_endian bytes.now }
+    ensures small { result < 2 ^ 56 }
 {
-    x
+    let mut mantissa = 0;
+    for byte in bytes {
+        mantissa = mantissa * 256 + *byte as u64;
+    }
+    mantissa
+}
+
+impl Real {
+    /// The real that eight bytes spell: a sign bit, seven bits of exponent, and the mantissa.
+    pub fn of(bytes: [u8; 8]) -> Real
+        ensures { result ≡ real_of bytes }
+    {
+        let first = bytes[0];
+        let mantissa = mantissa_of(&bytes[1..]);
+        Real {
+            negative: first >= 128,
+            exponent: first % 128,
+            mantissa,
+        }
+    }
+
+    /// Whether it is 1.
+    pub fn is_one(&self) -> bool
+        ensures { IsTrue result ↔ IsWhole self.now (pos 1) }
+    {
+        !self.negative && is_unit(self.mantissa, self.exponent)
+    }
+
+    /// The quarter turns, beside whole turns, of an angle in degrees: its value / 90 modulo 4. None exactly where the value isn't a whole multiple of 90.
+    pub fn quarter_turns(&self) -> Option<u8>
+        ensures some { IfSome result (λ n. IsQuarterTurns self.now n) }
+        ensures none { IfNone result (IsRightAngle self.now → ⊥) }
+    {
+        let degrees = degrees_of(self.mantissa, self.exponent)?;
+        if degrees % 90 != 0 {
+            return None;
+        }
+        Some(turns_of(self.negative, (degrees / 90) as u8))
+    }
+}
+
+/// `mantissa * 16^places` modulo 360.
+fn shifted_up(mantissa: u64, places: u8) -> u64
+    ensures { result ≡ mantissa * 16 ^ places % 360 }
+{
+    let mut degrees = mantissa % 360;
+    for _place in 0..places {
+        degrees = degrees * 16 % 360;
+    }
+    degrees
+}
+
+/// `mantissa / 16^places`, where that is a whole number.
+fn shifted_down(mantissa: u64, places: u8) -> Option<u64>
+    requires { mantissa < 2 ^ 56 }
+    ensures some { IfSome result (λ v. mantissa ≡ v * 16 ^ places) }
+    ensures none { IfNone result ((v : ℕ) → mantissa ≡ v * 16 ^ places → ⊥) }
+{
+    if mantissa == 0 {
+        return Some(0);
+    }
+    if places > 13 {
+        return None;
+    }
+    let unit = 16u64.pow(places as u32);
+    if mantissa % unit != 0 {
+        return None;
+    }
+    Some(mantissa / unit)
+}
+
+/// Whether a mantissa and an exponent make 1.
+fn is_unit(mantissa: u64, exponent: u8) -> bool
+    requires { mantissa < 2 ^ 56 }
+    ensures { IsTrue result ↔ IsMagnitude mantissa exponent 1 }
+{
+    if exponent > 78 {
+        return false;
+    }
+    match shifted_down(mantissa, 78 - exponent) {
+        Some(value) => value == 1,
+        None => false,
+    }
+}
+
+/// What a mantissa and an exponent make, modulo 360, where that is a whole number.
+fn degrees_of(mantissa: u64, exponent: u8) -> Option<u64>
+    requires { mantissa < 2 ^ 56 }
+    ensures some { IfSome result (λ d. IsDegrees mantissa exponent d) }
+    ensures none { IfNone result ((v : ℕ) → IsMagnitude mantissa exponent v → ⊥) }
+{
+    if exponent > 78 {
+        return Some(shifted_up(mantissa, exponent - 78));
+    }
+    let value = shifted_down(mantissa, 78 - exponent)?;
+    Some(value % 360)
+}
+
+/// Quarter turns counterclockwise, beside whole turns: so many, or so many clockwise where `negative` says so.
+fn turns_of(negative: bool, quarters: u8) -> u8
+    requires { quarters < 4 }
+    ensures { result ≡ (if negative then (4 - quarters) % 4 else quarters) }
+{
+    if negative {
+        return (4 - quarters) % 4;
+    }
+    quarters
+}
+
+#[cfg(test)]
+mod tests {
+    use super::*;
+
+    /// The first three bytes, whether it is 1, and the quarter turns.
+    const ROWS: [([u8; 3], bool, Option<u8>); 16] = [
+        ([0x41, 0x10, 0], true, None),
+        ([0x42, 0x01, 0], true, None),
+        ([0x42, 0x5A, 0], false, Some(1)),
+        ([0x42, 0xB4, 0], false, Some(2)),
+        ([0x43, 0x10, 0xE0], false, Some(3)),
+        ([0x43, 0x16, 0x80], false, Some(0)),
+        ([0x42, 0x2D, 0], false, None),
+        ([0x41, 0x20, 0], false, None),
+        ([0xC2, 0x5A, 0], false, Some(3)),
+        ([0xC1, 0x10, 0], false, None),
+        ([0x80, 0, 0], false, Some(0)),
+        ([0, 0, 0], false, Some(0)),
+        ([0x44, 0x00, 0x5A], false, Some(1)),
+        ([0x43, 0x00, 0x10], true, None),
+        ([0x7F, 0x5A, 0], false, Some(0)),
+        ([0x42, 0x5A, 0x01], false, None),
+    ];
+
+    #[test]
+    fn reals_of_a_table(rt: HostRuntime) {
+        for ([a, b, c], one, turns) in ROWS {
+            let real = Real::of([a, b, c, 0, 0, 0, 0, 0]);
+            assert_eq!(rt; real.is_one(), one);
+            assert_eq!(rt; real.quarter_turns(), turns);
+        }
+    }
 }
