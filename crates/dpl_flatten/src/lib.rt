@@ -11,6 +11,9 @@ ghost use Rattle.dpl_layout.specs.Placements.{IsInLayer};
 ghost use Rattle.dpl_layout.specs.Faults.{IsFaultless, IsFirstFault};
 
 use dpl_base::Loop;
+
+mod links;
+
 pub use dpl_layout::{ElementFault, FlattenFault, Layer, TopFault};
 use dpl_syntax::Library;
 use std::alloc::Global;

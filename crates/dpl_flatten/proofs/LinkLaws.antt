@@ -1,0 +1,105 @@
+-- The graph of a layout's references, as far as it was gone through.
+use Rattle.std.proofs.Common.{◌≡◌, ◌≢◌, ℕ, ◌+◌, ◌<◌, ◌≤◌, ◌⊎◌, inl, inr, ⊎_elim, List, [], ◌∷◌, ◌++◌, Option, Some, None, map, length, get_or, take, refl, sym, ap, ◌∙◌, subst, arith, length-append}
+use Rattle.std.proofs.lemmas.Bool.{cases_lt, cases_order}
+use Rattle.std.proofs.lemmas.List.{take_more, take_all, get_or_past, get_or_append_left}
+use Rattle.std.proofs.Math.Seq.{get_or-append_seam}
+use Rattle.std.proofs.lemmas.Option.{slice_get_past}
+use Rattle.std.proofs.lemmas.List.Elements.{Contains-append_left, Contains-append_right, Contains-append_cases, Contains-push, Contains-push_cases, Contains-get_or}
+use Rattle.std.specs.List.{Contains}
+use Rattle.std.specs.Option.{option_to_list}
+use Rattle.std.specs.Prelude.{◌↔◌, slice_get}
+use Rattle.dpl_spec.proofs.Ordered.{Contains-head, Contains-later, Contains-cases, Contains-nil}
+use Rattle.dpl_flatten.proofs.ListLaws.{Contains-map, Contains-map_cases, Contains-option, Contains-the_option}
+use Rattle.dpl_format.specs.Tree.{Library, elements_at, elements_or_none}
+use Rattle.dpl_syntax.specs.declared.element.Element.{Element}
+use Rattle.dpl_syntax.specs.Elements.{element_seen}
+use Rattle.dpl_layout.specs.Structures.{target_of, Refers}
+use Rattle.dpl_links.specs.Graph.{LeadsTo, targets_at}
+use Rattle.dpl_links.proofs.TakeLaws.{Contains-take_more, Contains-take_keeps, Contains-take_last}
+use Rattle.dpl_flatten.specs.Links.{IsGraphOf}
+
+-- these are the structures to which some of the elements refer
+pub record AreTargets (lib : Library) (es : List Element) (found : List ℕ) : Type 0 where
+  pub sound : (j : ℕ) → Contains found j → (e : Element) × Contains es e × (target_of lib (element_seen e) ≡ Some j)
+  pub complete : (j : ℕ) (e : Element) → Contains es e → target_of lib (element_seen e) ≡ Some j → Contains found j
+
+-- the rows of the first n structures
+pub record AreRows (lib : Library) (n : ℕ) (graph : List (List ℕ)) : Type 0 where
+  pub each : length graph ≡ n
+  pub leads : (k j : ℕ) → LeadsTo graph k j → Refers lib k j
+  pub refers : (k j : ℕ) → k < n → Refers lib k j → LeadsTo graph k j
+
+pub AreTargets-none : (lib : Library) (found : List ℕ) → found ≡ [] → AreTargets lib [] found
+AreTargets-none lib found e = record {
+  sound = λ j c. absurd (Contains-nil j (rw e at c));
+  complete = λ j d c h. absurd (Contains-nil d c);
+}
+
+pub AreTargets-more : (lib : Library) (es : List Element) (e : Element) (found new : List ℕ) → new ≡ found ++ option_to_list (target_of lib (element_seen e)) → AreTargets lib es found → AreTargets lib (es ++ e ∷ []) new
+AreTargets-more lib es e found new n t = record {
+  sound = λ j c. ⊎_elim (λ h. let s = t.sound j h in (s.0, Contains-append_left es (e ∷ []) s.0 s.1, s.2)) (λ h. (e, Contains-push es e, Contains-option (target_of lib (element_seen e)) j h)) (Contains-append_cases found (option_to_list (target_of lib (element_seen e))) j (rw n at c));
+  complete = λ j d c h. rw n (⊎_elim (λ x. Contains-append_left found _ j (t.complete j d x h)) (λ (x : e ≡ d). Contains-append_right found _ j (Contains-the_option (target_of lib (element_seen e)) j (ap (λ (i : Element). target_of lib (element_seen i)) x ∙ h))) (Contains-push_cases es e d c));
+}
+
+pub AreTargets-all : (lib : Library) (k : ℕ) (es : List Element) (found : List ℕ) → map element_seen es ≡ elements_at lib k → AreTargets lib es found → (j : ℕ) → Contains found j ↔ Refers lib k j
+AreTargets-all lib k es found e t j = (
+  λ c. let s = t.sound j c in (element_seen s.0, rw (← e) (Contains-map element_seen es s.0 s.1), s.2),
+  λ r. let m = Contains-map_cases element_seen es r.0 (rw (← e) at r.1) in t.complete j m.0 m.1 (ap (target_of lib) m.2 ∙ r.2),
+)
+
+pub AreRows-none : (lib : Library) (graph : List (List ℕ)) → graph ≡ [] → AreRows lib 0 graph
+AreRows-none lib graph e = record {
+  each = ap length e;
+  leads = λ k j c. absurd (Contains-nil j (rw e at c));
+  refers = λ k j h r. absurd (omega (arith, h));
+}
+
+pub AreTargets-step : (lib : Library) (es : List Element) (i : ℕ) (d : Element) (found new : List ℕ) → i < length es → new ≡ found ++ option_to_list (target_of lib (element_seen (get_or es i d))) → AreTargets lib (take i es) found → AreTargets lib (take (i + 1) es) new
+AreTargets-step lib es i d found new h n t = rw (take_more es i d h) (AreTargets-more lib (take i es) (get_or es i d) found new n t)
+
+pub AreTargets-whole : (lib : Library) (k i : ℕ) (es : List Element) (found : List ℕ) → length es ≤ i → map element_seen es ≡ elements_at lib k → AreTargets lib (take i es) found → (j : ℕ) → Contains found j ↔ Refers lib k j
+AreTargets-whole lib k i es found h e t = AreTargets-all lib k es found e (rw (take_all i es h) at t)
+
+three : (a b : ℕ) → (a < b) ⊎ ((a ≡ b) ⊎ (b < a))
+three a b = ⊎_elim (λ (e : a ≡ b). inr (inl e)) (λ h. ⊎_elim (λ (l : a < b). inl l) (λ (l : b < a). inr (inr l)) h) (cases_order a b)
+
+row_before : (graph : List (List ℕ)) (row : List ℕ) (k : ℕ) → k < length graph → targets_at (graph ++ row ∷ []) k ≡ targets_at graph k
+row_before graph row k h = get_or_append_left graph (row ∷ []) [] k h
+
+row_last : (graph : List (List ℕ)) (row : List ℕ) → targets_at (graph ++ row ∷ []) (length graph) ≡ row
+row_last graph row = get_or-append_seam graph row [] []
+
+row_past : (graph : List (List ℕ)) (row : List ℕ) (k : ℕ) → length graph < k → targets_at (graph ++ row ∷ []) k ≡ []
+row_past graph row k h = get_or_past (graph ++ row ∷ []) k [] (omega (arith, length-append graph (row ∷ [])))
+
+pub AreRows-more : (lib : Library) (n : ℕ) (graph new : List (List ℕ)) (row : List ℕ) → new ≡ graph ++ row ∷ [] → ((j : ℕ) → Contains row j ↔ Refers lib n j) → AreRows lib n graph → AreRows lib (n + 1) new
+AreRows-more lib n graph new row e says a = record {
+  each = ap length e ∙ (length-append graph (row ∷ []) ∙ omega (arith, a.each));
+  leads = λ k j c. lead k j (rw e at c);
+  refers = λ k j h r. rw e (refer k j h r);
+}
+  where
+    lead : (k j : ℕ) → LeadsTo (graph ++ row ∷ []) k j → Refers lib k j
+    lead k j c =
+        ⊎_elim (λ (h : k < length graph). a.leads k j (rw (row_before graph row k h) at c))
+        (λ h. ⊎_elim (λ (s : k ≡ length graph). let m = rw (s, row_last graph row) at c in let w : k ≡ n = s ∙ a.each in rw w ((says j).0 m)) (λ (s : length graph < k). absurd (Contains-nil j (rw (row_past graph row k s) at c))) h)
+        (three k (length graph))
+
+    refer : (k j : ℕ) → k < n + 1 → Refers lib k j → LeadsTo (graph ++ row ∷ []) k j
+    refer k j h r =
+        ⊎_elim (λ (l : k < n). let g : k < length graph = omega (arith, a.each, l) in rw (row_before graph row k g) (a.refers k j l r))
+        (λ (l : n ≤ k). let w : k ≡ n = omega arith in let v : k ≡ length graph = w ∙ sym a.each in rw (v, row_last graph row) ((says j).1 (rw w at r)))
+        (cases_lt k n)
+
+pub AreRows-all : (lib : Library) (n : ℕ) (graph : List (List ℕ)) → n ≡ length lib.structures → AreRows lib n graph → IsGraphOf lib graph
+AreRows-all lib n graph e a = record {
+  each = a.each ∙ e;
+  leads = a.leads;
+  refers = λ k j r. a.refers k j (rw e (known k j r)) r;
+}
+  where
+    known : (k j : ℕ) → Refers lib k j → k < length lib.structures
+    known k j r = ⊎_elim (λ (h : k < length lib.structures). h) (λ (h : length lib.structures ≤ k). absurd (none h)) (cases_lt k (length lib.structures))
+      where
+        none : length lib.structures ≤ k → ⊥
+        none h = let c : Contains (elements_or_none (slice_get lib.structures k)) r.0 = r.1 in Contains-nil r.0 (rw (slice_get_past lib.structures k h) at c)

@@ -1,0 +1,62 @@
+//! The graph of a layout's references.
+
+ghost use Rattle.std.specs.Prelude.{◌≡◌, ◌<◌, ◌↔◌, ◌++◌, ℕ, length, IfOk, OnOk};
+ghost use Rattle.std.specs.List.{Contains};
+ghost use Rattle.std.specs.Option.{option_to_list};
+ghost use Rattle.dpl_syntax.specs.Elements.{element_seen};
+ghost use Rattle.dpl_layout.specs.Structures.{target_of, Refers};
+ghost use Rattle.dpl_flatten.specs.Links.{IsGraphOf};
+
+use dpl_base::Listed;
+use dpl_syntax::{Body, Element, Library};
+use std::alloc::{AllocError, Global};
+
+/// The number of the structure that a reference refers to; None where the element is no reference, or the structure
+/// isn't there.
+pub(crate) fn target(lib: &Library<'_>, element: &Element<'_>) -> Option<u32>
+    ensures { result ≡ target_of lib.now (element_seen element.now) }
+{
+    match element.body {
+        Body::Sref { name, .. } => lib.structure(name),
+        Body::Aref { name, .. } => lib.structure(name),
+        _ => None,
+    }
+}
+
+/// Notes the structure that an element refers to.
+fn note_target(
+    lib: &Library<'_>,
+    element: &Element<'_>,
+    found: &mut Vec<u32>,
+) -> Result<(), AllocError>
+    ensures { OnOk result (found.new.items ≡ found.old.items ++ option_to_list (target_of lib.now (element_seen element.now))) }
+{
+    if let Some(number) = target(lib, element) {
+        found.push(number)?;
+    }
+    Ok(())
+}
+
+/// The structures that the references of a structure refer to.
+fn targets(alloc: Global, lib: &Library<'_>, structure: u32) -> Result<Listed<u32>, AllocError>
+    requires { structure < length lib.now.structures }
+    ensures { IfOk result (λ l. (j : ℕ) → Contains l j ↔ Refers lib.now structure j) }
+{
+    let mut found = Vec::new(alloc);
+    for element in lib.elements(structure) {
+        note_target(lib, element, &mut found)?;
+    }
+    Ok(Listed::of(found))
+}
+
+/// The graph of the references.
+pub(crate) fn graph_of(alloc: Global, lib: &Library<'_>) -> Result<Vec<Listed<u32>>, AllocError>
+    ensures { IfOk result (λ v. IsGraphOf lib.now v.items) }
+{
+    let mut graph = Vec::new(alloc);
+    for structure in 0..lib.count() {
+        let row = targets(alloc, lib, structure)?;
+        graph.push(row)?;
+    }
+    Ok(graph)
+}
