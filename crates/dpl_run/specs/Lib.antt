@@ -1,7 +1,9 @@
 pub mod Outcome
+pub mod Naming
 pub mod Reading
 pub mod Flat
 pub mod Texts
 pub mod Split
 pub mod Program
+pub mod LayerFaults
 pub mod View

@@ -3,13 +3,14 @@ use Rattle.std.specs.Prelude.{ℕ, List, map, string_bytes}
 use Rattle.clap.specs.Walk.{Text}
 use Rattle.dpl_run.specs.Outcome.{Outcome}
 use Rattle.dpl_words.specs.Meaning.{SplitValues}
-use Rattle.dpl_run.specs.Reading.{Faulty, IsLayout, Reading, Layer as LayerRead}
+use Rattle.dpl_format.specs.Tree.{Library}
+use Rattle.dpl_run.specs.Reading.{Faulty, IsFaultIn, IsLayout, Reading, Layer as LayerRead}
 use Rattle.dpl_run.specs.Flat.{Flat, Clashes, Paints, Painted as PaintedAs, Clash as ClashAs}
 use Rattle.dpl_run.specs.declared.output.Output.{Output}
 use Rattle.dpl_run.specs.declared.output.Write.{Write}
 use Rattle.dpl_run.specs.declared.layer.Layer.{Layer}
-use Rattle.dpl_run.specs.declared.layer.LayerFault.{LayerFault}
-use Rattle.dpl_run.specs.declared.layer.LayerFault.TheVariants.{NoMemory, Refused}
+use Rattle.dpl_run.specs.declared.fault.LayerFault.{LayerFault}
+use Rattle.dpl_run.specs.declared.fault.LayerFault.TheVariants.{NoMemory, Refused}
 use Rattle.dpl_run.specs.declared.decompose.Painted.{Painted}
 use Rattle.dpl_run.specs.declared.decompose.Clash.{Clash}
 use Rattle.dpl_run.specs.declared.decompose.Decomposed.{Decomposed}
@@ -38,3 +39,8 @@ flat_view (Cycle x) = Clashes (clash_view x)
 abbrev pub IsLayerFault : SplitValues → List ℕ → LayerFault → Type 0
 IsLayerFault v bytes NoMemory = Unit {0}
 IsLayerFault v bytes (Refused name at) = IsLayout v bytes (Faulty name at)
+
+-- a fault of the library is its first one
+abbrev pub IsLayerFaultIn : SplitValues → Library → LayerFault → Type 0
+IsLayerFaultIn v lib NoMemory = Unit {0}
+IsLayerFaultIn v lib (Refused name at) = IsFaultIn v lib name at

@@ -1,20 +1,19 @@
 //! The decomposition of a layer.
 ghost use Rattle.std.specs.Prelude.{◌≡◌, ◌≤◌, IfOk};
-ghost use Rattle.dpl_spec.specs.Loops.{AreRectsWithin, farthest};
-ghost use Rattle.dpl_spec.specs.Slabs.{IsCanonical};
 ghost use Rattle.dpl_cert.specs.Grammar.{IsRule};
 ghost use Rattle.dpl_run.specs.Flat.{Fits, IsFlat};
 ghost use Rattle.dpl_run.specs.View.{flat_view};
 
-use dpl_base::{Listed, Rect};
+use dpl_base::Listed;
 use dpl_cert::{Head, NearLine, PieceLine, PlaceLine, StitchLine};
+use dpl_slabs::Slabs;
 use std::alloc::{AllocError, Global};
 
 /// Both masks, and what their certificate tells of them.
-#[derive(Debug, Drop)]
+#[derive(Drop)]
 pub(crate) struct Painted {
-    pub(crate) a: Listed<Rect>,
-    pub(crate) b: Listed<Rect>,
+    pub(crate) a: Slabs,
+    pub(crate) b: Slabs,
     pub(crate) head: Head,
     pub(crate) pieces: Listed<PieceLine>,
     pub(crate) stitches: Listed<StitchLine>,
@@ -29,7 +28,7 @@ pub(crate) struct Clash {
 }
 
 /// What a layer is decomposed into.
-#[derive(Debug, Drop)]
+#[derive(Drop)]
 pub(crate) enum Decomposed {
     Masks(Painted),
     Cycle(Clash),
@@ -38,12 +37,10 @@ pub(crate) enum Decomposed {
 /// The masks of a layer, or an odd cycle of its conflict graph.
 pub(crate) fn decompose(
     _alloc: Global,
-    _layer: &[Rect],
+    _layer: &Slabs,
     _rule: u32,
     _overlap: u32,
 ) -> Result<Decomposed, AllocError>
-    requires canonical { IsCanonical _layer.now }
-    requires within { AreRectsWithin farthest _layer.now }
     requires rule { IsRule _rule }
     requires overlap { IsRule _overlap }
     ensures flat { IfOk result (λ d. IsFlat _rule _overlap _layer.now (flat_view d)) }

@@ -2,6 +2,7 @@
 #![tactic(auto)]
 
 mod decompose;
+mod fault;
 mod layer;
 mod output;
 mod program;

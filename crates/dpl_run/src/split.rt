@@ -2,8 +2,6 @@
 ghost use Rattle.std.specs.Prelude.{◌≡◌, ◌≤◌, ◌↔◌, IfOk, IsErrOf, IsTrue, Some, length, option_map};
 ghost use Rattle.dpl_host.specs.Outside.{Rose};
 ghost use Rattle.dpl_words.specs.Meaning.{AsksSplit, split_view};
-ghost use Rattle.dpl_spec.specs.Loops.{AreRectsWithin, farthest};
-ghost use Rattle.dpl_spec.specs.Slabs.{IsCanonical};
 ghost use Rattle.dpl_cert.specs.Grammar.{IsCert, IsRule};
 ghost use Rattle.dpl_run.specs.Flat.{Fits, FitsClash, FitsPainted, IsFlat};
 ghost use Rattle.dpl_run.specs.Reading.{limit};
@@ -12,14 +10,15 @@ ghost use Rattle.dpl_run.specs.Program.{IsInput, IsMade};
 ghost use Rattle.dpl_run.specs.View.{clash_view, flat_view, output_view, painted_view, write_view};
 
 use crate::decompose::{Clash, Decomposed, Painted, decompose};
-use crate::layer::{LayerFault, layer_of};
+use crate::fault::LayerFault;
+use crate::layer::layer_of;
 use crate::output::{Output, Write};
 use crate::status::Status;
 use crate::texts::{conflict_line, done_line, refused_line};
-use dpl_base::Rect;
 use dpl_cert::{Cert, Name, cert_bytes};
 use dpl_host::{Host, MAX_BYTES, ReadFault, read_all};
 use dpl_masks::file_bytes;
+use dpl_slabs::Slabs;
 use dpl_words::SplitOptions;
 use std::alloc::{AllocError, Global};
 
@@ -72,7 +71,7 @@ fn split<'a>(
 {
     match layer_of(alloc, options, bytes) {
         Ok(layer) => {
-            let decomposed = decompose_by(alloc, options, layer.slabs.items())?;
+            let decomposed = decompose_by(alloc, options, &layer.slabs)?;
             let output = decided(alloc, options, layer.front.as_slice(), decomposed)?;
             Ok(output)
         }
@@ -88,10 +87,8 @@ fn split<'a>(
 fn decompose_by(
     alloc: Global,
     options: &SplitOptions,
-    layer: &[Rect],
+    layer: &Slabs,
 ) -> Result<Decomposed, AllocError>
-    requires canonical { IsCanonical layer.now }
-    requires within { AreRectsWithin farthest layer.now }
     ensures flat { IfOk result (λ d. IsFlat options.now.rule options.now.overlap layer.now (flat_view d)) }
     ensures fits { IfOk result (λ d. Fits (flat_view d)) }
 {
@@ -151,13 +148,13 @@ fn painted_output<'a>(
         pieces,
         stitches,
     } = painted;
-    let bytes = file_bytes(alloc, front, a.items(), b.items(), options.a, options.b)?;
+    let bytes = file_bytes(alloc, front, a.rects(), b.rects(), options.a, options.b)?;
     let line = done_line(
         alloc,
         &head,
         stitches.items().len(),
-        a.items().len(),
-        b.items().len(),
+        a.rects().len(),
+        b.rects().len(),
     )?;
     let cert = Cert::Masks {
         head,

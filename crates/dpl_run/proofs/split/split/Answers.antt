@@ -5,7 +5,7 @@ use Rattle.dpl_words.specs.Meaning.{split_view}
 use Rattle.dpl_run.specs.Flat.{IsFlat}
 use Rattle.dpl_run.specs.Split.{Decides, plan_of}
 use Rattle.dpl_run.specs.View.{IsLayerFault, flat_view, output_view}
-use Rattle.dpl_run.specs.declared.layer.LayerFault.{LayerFault}
+use Rattle.dpl_run.specs.declared.fault.LayerFault.{LayerFault}
 use Rattle.dpl_run.proofs.Inputs.{split_decided, split_faulty}
 use Rattle.dpl_run.proofs.split.split.Goals as goal
 
@@ -13,7 +13,7 @@ pub returns-in_ok-output-in-Ok : goal.returns-in_ok-output-in-Ok
 returns-in_ok-output-in-Ok c =
     let v = split_view c.args.options.now in
     let d = flat_view c.in_ok-decomposed-in-Ok.decomposed in
-    let flat = subst (λ (l : List Rect). IsFlat v.rule v.overlap l d) c.items.ensures c.in_ok-decomposed-in-Ok.ensures.flat in
+    let flat = c.in_ok-decomposed-in-Ok.ensures.flat in
     let front : output_view c.in_ok-output-in-Ok.output ≡ plan_of v (Decides c.in-Ok.layer.front.items d) =
     c.in_ok-output-in-Ok.ensures ∙ ap (λ (f : List ℕ). plan_of v (Decides f d)) c.as_slice.ensures.value in
     split_decided v c.args.bytes.now c.in-Ok.layer.front.items c.in-Ok.layer.slabs d (output_view c.in_ok-output-in-Ok.output) c.requires c.in-Ok.ensures.layer flat front
