@@ -1,3 +1,6 @@
 pub mod Positions
 pub mod Languages
 pub mod Steps
+pub mod Slotting
+pub mod Taking
+pub mod Items
