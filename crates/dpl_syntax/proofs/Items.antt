@@ -48,6 +48,15 @@ pub record IsFine (o kind : ℕ) : Type 0 where
   pub plain : IsPlain o kind
   pub inner : is_inner kind ≡ true
 
+-- what turning asks of what follows
+pub record Turnable (o : ℕ) (rest : Grammar) : Type 0 where
+  pub strans : IsFine o kinds.strans
+  pub mag : IsFine o kinds.mag
+  pub angle : IsFine o kinds.angle
+  pub no_strans : Avoids rest kinds.strans
+  pub no_mag : Avoids rest kinds.mag
+  pub no_angle : Avoids rest kinds.angle
+
 module _ (bytes : List ℕ) (o : ℕ) where
   fine : (before : List Record) (r : Record) (kind : ℕ) → owner before ≡ o → IsPlain o kind → r.kind ≡ kind → refusal before r ≡ None
   fine before r kind own plain e =
@@ -58,20 +67,20 @@ module _ (bytes : List ℕ) (o : ℕ) where
 
   module _ (before : List Record) (rest : Grammar) (at : ℕ) (own : owner before ≡ o) where
     -- a record of a type, whatever it may be refused for
-    one_ok : (kind : ℕ) → is_inner kind ≡ true → (y : Record × ℕ) → refusal before y.0 ≡ None → Reached bytes before (both (a kind) rest) at
+    pub one_ok : (kind : ℕ) → is_inner kind ≡ true → (y : Record × ℕ) → refusal before y.0 ≡ None → Reached bytes before (both (a kind) rest) at
         → reading.take bytes kind at ≡ Ok y → Goes bytes before rest ((kind, Some y.0) ∷ [], y.1)
     one_ok kind inner y why reached e =
         let t = take_ok bytes before rest at kind y reached (λ r same. subst (λ (s : Record). refusal before s ≡ None) (sym same) why) (no_end kind inner) e in
         record { rs = y.0 ∷ []; slotted = slotted_one kind y.0 t.0; inner = inner_one kind y.0 t.0 inner; reached = t.1 }
 
-    kind_of : (kind : ℕ) (y : Record × ℕ) → reading.take bytes kind at ≡ Ok y → y.0.kind ≡ kind
+    pub kind_of : (kind : ℕ) (y : Record × ℕ) → reading.take bytes kind at ≡ Ok y → y.0.kind ≡ kind
     kind_of kind y e = (took kind at (record_at bytes at) y e).kind_is
 
-    must_ok : (kind : ℕ) → IsFine o kind → (y : Record × ℕ) → Reached bytes before (both (a kind) rest) at
+    pub must_ok : (kind : ℕ) → IsFine o kind → (y : Record × ℕ) → Reached bytes before (both (a kind) rest) at
         → reading.take bytes kind at ≡ Ok y → Goes bytes before rest ((kind, Some y.0) ∷ [], y.1)
     must_ok kind f y reached e = one_ok kind f.inner y (fine before y.0 kind own f.plain (kind_of kind y e)) reached e
 
-    if_ok : (kind : ℕ) → IsFine o kind → Avoids rest kind → (z : Option Record × ℕ) → Reached bytes before (both (maybe (a kind)) rest) at
+    pub if_ok : (kind : ℕ) → IsFine o kind → Avoids rest kind → (z : Option Record × ℕ) → Reached bytes before (both (maybe (a kind)) rest) at
         → reading.take_if bytes kind at ≡ Ok z → Goes bytes before rest ((kind, z.0) ∷ [], z.1)
     if_ok kind f avoids z reached e =
         let b = bind_ok (record_at bytes at) (λ r. cond (eqb r.kind kind) (reading.kept (Some r, r.next)) (reading.kept (None, at))) z e in
@@ -86,7 +95,7 @@ module _ (bytes : List ℕ) (o : ℕ) where
               subst (λ (x : Option Record × ℕ). Goes bytes before rest ((kind, x.0) ∷ [], x.1)) t.1 (record { rs = []; slotted = slotted_none kind; inner = tt; reached = subst (λ (x : List Record). Reached bytes x rest at) (sym (append-nil before)) there })
         ]
 
-    if_err : (kind : ℕ) (g : Grammar) (f : Fault) → Reached bytes before g at → reading.take_if bytes kind at ≡ Err f → IsFirstFault bytes f
+    pub if_err : (kind : ℕ) (g : Grammar) (f : Fault) → Reached bytes before g at → reading.take_if bytes kind at ≡ Err f → IsFirstFault bytes f
     if_err kind g f reached e =
         elim (bind_err (record_at bytes at) (λ r. cond (eqb r.kind kind) (reading.kept (Some r, r.next)) (reading.kept (None, at))) f e) [
           | inl x ↦ stops bytes before at g f reached x
@@ -128,19 +137,10 @@ module _ (bytes : List ℕ) (o : ℕ) where
   pub own_then : (before rs : List Record) → AreInner rs → owner before ≡ o → owner (before ++ rs) ≡ o
   own_then before rs inner own = owner-inner before rs inner ∙ own
 
-  -- what turning asks of what follows
-  pub record Turnable (rest : Grammar) : Type 0 where
-    pub strans : IsFine o kinds.strans
-    pub mag : IsFine o kinds.mag
-    pub angle : IsFine o kinds.angle
-    pub no_strans : Avoids rest kinds.strans
-    pub no_mag : Avoids rest kinds.mag
-    pub no_angle : Avoids rest kinds.angle
-
   avoids_mag : (rest : Grammar) → Avoids rest kinds.mag → Avoids (both (maybe (a kinds.angle)) rest) kinds.mag
   avoids_mag rest avoids = avoids_behind (maybe (a kinds.angle)) rest kinds.mag (avoids_maybe (a kinds.angle) kinds.mag (avoids_one (λ j. eqb j kinds.angle) kinds.mag refl)) avoids
 
-  turned_ok : (before : List Record) (rest : Grammar) (at : ℕ) → owner before ≡ o → Turnable rest → (y : Slots × ℕ) → Reached bytes before (both (maybe grammar.strans) rest) at
+  pub turned_ok : (before : List Record) (rest : Grammar) (at : ℕ) → owner before ≡ o → Turnable o rest → (y : Slots × ℕ) → Reached bytes before (both (maybe grammar.strans) rest) at
       → reading.item_at bytes turned at ≡ Ok y → Goes bytes before rest y
   turned_ok before rest at own t y reached e =
       let z = bind_ok (reading.take_if bytes kinds.strans at) (reading.take_turned bytes) y e in
@@ -170,7 +170,7 @@ module _ (bytes : List ℕ) (o : ℕ) where
             subst (λ (x : Slots × ℕ). Goes bytes before rest x) (ok_is none y e2) (record { rs = []; slotted = slots; inner = tt; reached = there })
       ]
 
-  turned_err : (before : List Record) (rest : Grammar) (at : ℕ) → owner before ≡ o → Turnable rest → (f : Fault) → Reached bytes before (both (maybe grammar.strans) rest) at
+  pub turned_err : (before : List Record) (rest : Grammar) (at : ℕ) → owner before ≡ o → Turnable o rest → (f : Fault) → Reached bytes before (both (maybe grammar.strans) rest) at
       → reading.item_at bytes turned at ≡ Err f → IsFirstFault bytes f
   turned_err before rest at own t f reached e =
       elim (bind_err (reading.take_if bytes kinds.strans at) (reading.take_turned bytes) f e) [

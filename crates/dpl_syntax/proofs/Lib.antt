@@ -4,3 +4,4 @@ pub mod Steps
 pub mod Slotting
 pub mod Taking
 pub mod Items
+pub mod Lists
