@@ -5,3 +5,4 @@ pub mod Slotting
 pub mod Taking
 pub mod Items
 pub mod Lists
+pub mod ElementBodies

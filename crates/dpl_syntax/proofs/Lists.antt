@@ -167,15 +167,15 @@ may_begin (turned ∷ is) k = eqb k kinds.strans || may_begin is k
 may_begin (named ∷ is) k = eqb k kinds.sname
 may_begin (points len ∷ is) k = eqb k kinds.xy
 
-or_first : (x y : Bool) → x || y ≡ false → x ≡ false
+pub or_first : (x y : Bool) → x || y ≡ false → x ≡ false
 or_first true y e = absurd cc
 or_first false y e = refl
 
-or_second : (x y : Bool) → x || y ≡ false → y ≡ false
+pub or_second : (x y : Bool) → x || y ≡ false → y ≡ false
 or_second true y e = absurd cc
 or_second false y e = e
 
-avoids_a : (kind k : ℕ) (rest : Grammar) → eqb k kind ≡ false → Avoids (both (a kind) rest) k
+pub avoids_a : (kind k : ℕ) (rest : Grammar) → eqb k kind ≡ false → Avoids (both (a kind) rest) k
 avoids_a kind k rest e = avoids_both (a kind) rest k (solid_one (λ j. eqb j kind)) (avoids_one (λ j. eqb j kind) k e)
 
 pub avoids_items : (is : List Item) (rest : Grammar) (k : ℕ) → may_begin is k ≡ false → Avoids (behind is rest) k
