@@ -6,3 +6,5 @@ pub mod Taking
 pub mod Items
 pub mod Lists
 pub mod ElementBodies
+pub mod Ends
+pub mod Refusals

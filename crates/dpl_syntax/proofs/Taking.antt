@@ -91,3 +91,40 @@ module _ (bytes : List ℕ) (before : List Record) (rest : Grammar) (at kind : �
   take_refused y f reached why e =
       let t = took kind at (record_at bytes at) y e in
       stops_for bytes before at (both (a kind) rest) rest y.0 f reached t.found (moves_one (λ k. eqb k kind) rest y.0.kind (eq-eqb y.0.kind kind t.kind_is)) (exists_rest (a kind) rest reached.some) why
+
+-- ---- one record, or none
+
+found_in : (kind at : ℕ) (x : Result Record Fault) (z : Option Record × ℕ) → (x >>= λ r. cond (eqb r.kind kind) (reading.kept (Some r, r.next)) (reading.kept (None, at))) ≡ Ok z
+    → (r : Record) × (x ≡ Ok r) × (((r.kind ≡ kind) × ((Some r, r.next) ≡ z)) ⊎ ((eqb r.kind kind ≡ false) × ((None, at) ≡ z)))
+found_in kind at (Err f) z e = absurd cc
+found_in kind at (Ok r) z e = (r, refl, elim (choice (eqb r.kind kind) r at z e) [ inl t ↦ inl (eqb-true r.kind kind t.0, t.1) | inr t ↦ inr t ])
+
+fails_in : (kind at : ℕ) (x : Result Record Fault) (f : Fault) → (x >>= λ r. cond (eqb r.kind kind) (reading.kept (Some r, r.next)) (reading.kept (None, at))) ≡ Err f → x ≡ Err f
+fails_in kind at (Err g) f e = cc
+fails_in kind at (Ok r) f e = absurd (choice_err (eqb r.kind kind) r at f e)
+
+module _ (bytes : List ℕ) (kind at : ℕ) where
+  pub if_some : (r : Record) (n : ℕ) → reading.take_if bytes kind at ≡ Ok (Some r, n) → (record_at bytes at ≡ Ok r) × (r.kind ≡ kind) × (n ≡ r.next)
+  if_some r n e =
+      let f = found_in kind at (record_at bytes at) (Some r, n) e in
+      elim f.2 [
+        | inl t ↦
+            let some : Some f.0 ≡ Some r = ap (λ (x : Option Record × ℕ). x.0) t.1 in
+            let same : f.0 ≡ r = cc in
+            (f.1 ∙ ap (λ (x : Record). Ok x) same, ap (λ (x : Record). x.kind) (sym same) ∙ t.0, sym (ap (λ (x : Option Record × ℕ). x.1) t.1) ∙ ap (λ (x : Record). x.next) same)
+        | inr t ↦ (let other : None ≡ Some r = ap (λ (x : Option Record × ℕ). x.0) t.1 in absurd cc)
+      ]
+
+  pub if_none : (n : ℕ) → reading.take_if bytes kind at ≡ Ok (None, n) → (r : Record) × (record_at bytes at ≡ Ok r) × (eqb r.kind kind ≡ false) × (n ≡ at)
+  if_none n e =
+      let f = found_in kind at (record_at bytes at) (None, n) e in
+      elim f.2 [
+        | inl t ↦ (let other : Some f.0 ≡ None = ap (λ (x : Option Record × ℕ). x.0) t.1 in absurd cc)
+        | inr t ↦ (f.0, f.1, t.0, sym (ap (λ (x : Option Record × ℕ). x.1) t.1))
+      ]
+
+  pub if_fails : (f : Fault) → reading.take_if bytes kind at ≡ Err f → record_at bytes at ≡ Err f
+  if_fails f e = fails_in kind at (record_at bytes at) f e
+
+pub take_kind : (bytes : List ℕ) (kind at : ℕ) (y : Record × ℕ) → reading.take bytes kind at ≡ Ok y → y.0.kind ≡ kind
+take_kind bytes kind at y e = (took kind at (record_at bytes at) y e).kind_is
