@@ -8,3 +8,4 @@ pub mod Lists
 pub mod ElementBodies
 pub mod Ends
 pub mod Refusals
+pub mod WholeElements
