@@ -196,11 +196,11 @@ takes_many g rest k avoids = record {
 }
 
 -- three in a row
-regroups : (g h rest : Grammar) (ks : List ℕ) → Has (both (both g h) rest) ks → Has (both g (both h rest)) ks
+pub regroups : (g h rest : Grammar) (ks : List ℕ) → Has (both (both g h) rest) ks → Has (both g (both h rest)) ks
 regroups g h rest ks p =
     (p.3.0, p.3.1 ++ p.1, p.2 ∙ ap (λ (t : List ℕ). t ++ p.1) p.3.2 ∙ append_assoc p.3.0 p.3.1 p.1, p.3.3, (p.3.1, p.1, refl, p.3.4, p.4))
 
-regroups_back : (g h rest : Grammar) (ks : List ℕ) → Has (both g (both h rest)) ks → Has (both (both g h) rest) ks
+pub regroups_back : (g h rest : Grammar) (ks : List ℕ) → Has (both g (both h rest)) ks → Has (both (both g h) rest) ks
 regroups_back g h rest ks p =
     (p.0 ++ p.4.0, p.4.1, p.2 ∙ ap (λ (t : List ℕ). p.0 ++ t) p.4.2 ∙ sym (append_assoc p.0 p.4.0 p.4.1), (p.0, p.4.0, refl, p.3, p.4.3), p.4.4)
 

@@ -44,6 +44,10 @@ abbrev pub pick : Slots → Finder
 pick [] kind = None
 pick (s ∷ ss) kind = or_else (if s.0 == kind then s.1 else None) (pick ss kind)
 
+-- a record or none, and where the next one is
+abbrev pub kept : Option Record × ℕ → Result (Option Record × ℕ) Fault
+kept x = Ok x
+
 module _ (bytes : List ℕ) where
   abbrev pub take : ℕ → ℕ → Result (Record × ℕ) Fault
   take kind at = do
@@ -53,7 +57,7 @@ module _ (bytes : List ℕ) where
   abbrev pub take_if : ℕ → ℕ → Result (Option Record × ℕ) Fault
   take_if kind at = do
     r ← record_at bytes at
-    if r.kind == kind then Ok (Some r, r.next) else Ok (None, at)
+    if r.kind == kind then kept (Some r, r.next) else kept (None, at)
 
   abbrev pub take_name : ℕ → Result (Record × ℕ) Fault
   take_name at = do

@@ -3,6 +3,7 @@
 
 mod bodies;
 mod element;
+mod elements;
 mod fault;
 mod library;
 mod read;

@@ -1,0 +1,69 @@
+-- What reading on from an offset finds.
+use Rattle.std.specs.Prelude.{◌≡◌, ℕ, Bool, true, false, ◌==◌, ◌||◌, ◌&&◌, not, List, [], ◌∷◌, ◌++◌, map}
+use Rattle.dpl_format.specs.Kinds as kinds
+use Rattle.dpl_format.specs.Faults.{Fault}
+use Rattle.dpl_format.specs.Records.{Record}
+use Rattle.dpl_format.specs.Grammar.{Grammar, both, many, a, element}
+use Rattle.dpl_format.specs.Layout.{IsFirstFault}
+use Rattle.dpl_format.specs.Tree as tree
+use Rattle.dpl_format.specs.Tree.{parts, element_of}
+use Rattle.dpl_syntax.specs.Reached.{Reached}
+use Rattle.dpl_syntax.specs.Inner.{AreInner}
+
+-- Wherever what is behind is of the grammar `from`, it is of the grammar `to` at `next`, behind records that are so.
+abbrev pub Passes : List ℕ → (Grammar → Grammar) → (Grammar → Grammar) → (List Record → Type 0) → ℕ → ℕ → Type 0
+Passes bytes from to Are at next =
+    (before : List Record) (rest : Grammar) → Reached bytes before (from rest) at → (rs : List Record) × Are rs × Reached bytes (before ++ rs) (to rest) next
+
+-- Wherever what is behind is of the grammar `from`, this is the first fault.
+abbrev pub Fails : List ℕ → (Grammar → Grammar) → ℕ → Fault → Type 0
+Fails bytes from at f = (before : List Record) (rest : Grammar) → Reached bytes before (from rest) at → IsFirstFault bytes f
+
+abbrev pub same : Grammar → Grammar
+same rest = rest
+
+-- ---- the end of an element
+
+abbrev pub is_property : ℕ → Bool
+is_property k = (k == kinds.propattr) || (k == kinds.propvalue)
+
+abbrev pub AreProperties : List Record → Type 0
+AreProperties [] = Unit {0}
+AreProperties (r ∷ rs) = (is_property r.kind ≡ true) × AreProperties rs
+
+abbrev pub properties : Grammar
+properties = many (both (a kinds.propattr) (a kinds.propvalue))
+
+abbrev pub properties_end : Grammar → Grammar
+properties_end rest = both (both properties (a kinds.endel)) rest
+
+-- the same, in the order of reading
+abbrev pub property_first : Grammar → Grammar
+property_first rest = both properties (both (a kinds.endel) rest)
+
+abbrev pub endel_first : Grammar → Grammar
+endel_first rest = both (a kinds.endel) rest
+
+-- properties, and ENDEL
+pub record IsEnd (rs : List Record) : Type 0 where
+  pub properties : List Record
+  pub endel : Record
+  pub split : rs ≡ properties ++ endel ∷ []
+  pub are : AreProperties properties
+  pub is : endel.kind ≡ kinds.endel
+
+-- ---- elements
+
+abbrev pub element_then : Grammar → Grammar
+element_then rest = both element rest
+
+-- the records of one element
+pub record IsElement (e : tree.Element) (rs : List Record) : Type 0 where
+  pub first : Record
+  pub inner : List Record
+  pub endel : Record
+  pub split : rs ≡ first ∷ (inner ++ endel ∷ [])
+  pub begins : kinds.begins_element first.kind ≡ true
+  pub are : AreInner inner
+  pub ends : endel.kind ≡ kinds.endel
+  pub is : e ≡ element_of (first, inner)
