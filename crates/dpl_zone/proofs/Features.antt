@@ -1,43 +1,27 @@
 -- The zones of a layer's features, one feature after the other.
-use Rattle.std.proofs.Common.{◌≡◌, ◌≢◌, ℕ, ◌+◌, ◌^◌, ◌<◌, ◌≤◌, ◌⊎◌, inl, inr, List, [], ◌∷◌, ◌++◌, length, get_or, sym, ap, ◌∙◌, subst, arith}
+use Rattle.std.proofs.Common.{◌≡◌, ◌≢◌, ℕ, ◌+◌, ◌<◌, ◌≤◌, ◌⊎◌, inl, inr, List, [], ◌∷◌, ◌++◌, length, get_or, sym, ap, ◌∙◌, subst, arith}
 use Rattle.std.specs.Prelude.{◌↔◌}
 use Rattle.std.specs.List.{AllPairs, Contains}
 use Rattle.std.proofs.lemmas.Bool.{cases_eq, cases_order}
 use Rattle.std.proofs.lemmas.List.{get_or_default}
-use Rattle.std.proofs.lemmas.List.Elements.{Contains-append_left, Contains-append_right, Contains-append_cases, Contains-push, Contains-push_cases}
+use Rattle.std.proofs.lemmas.List.Elements.{Contains-append_left, Contains-push, Contains-push_cases}
 use Rattle.dpl_spec.specs.declared.Pt.{Pt}
 use Rattle.dpl_spec.specs.declared.Rect.{Rect}
 use Rattle.dpl_spec.specs.declared.Zone.{Zone}
 use Rattle.dpl_spec.specs.Squares.{Region, SameSquares, Covers, IsSolidWithin}
+use Rattle.dpl_spec.specs.Loops.{farthest}
 use Rattle.dpl_spec.specs.Zones.{at, IsKeptZone, turned, part_at}
-use Rattle.dpl_slabs.specs.Parts.{AreApart}
-use Rattle.dpl_zone.specs.Rows.{AreWithin, layer_of}
-use Rattle.dpl_zone.specs.Layers.{union_of, AreOthers, IsPartZone}
-use Rattle.dpl_zone.proofs.Turns.{zone-as}
+use Rattle.dpl_slabs.specs.Parts.{AreApart, AreParts}
+use Rattle.dpl_zone.specs.Rows.{layer_of}
+use Rattle.dpl_zone.specs.Layers.{union_of, AreOthers, AreLeavesOf, IsPartZone}
+use Rattle.dpl_zone.specs.declared.tree.Node.{Node}
+use Rattle.dpl_zone.specs.declared.tree.Item.{Item}
+use Rattle.dpl_zone.specs.Trees.{IsTree, HasLeaf, HasItem, AreLeavesWithin, others_in, own_in}
+use Rattle.dpl_zone.proofs.LeafLaws.{others-in, in-others, own-in, in-own, one-in_tree}
+use Rattle.dpl_zone.proofs.Turns.{zone-as, within-slabs}
 
 abbrev pub FirstOf : List Rect → ℕ → Rect → Type 0
 FirstOf zs n z = (i : ℕ) × (i < n) × (i < length zs) × (get_or zs i z ≡ z)
-
-pub others-none : (parts : List (List Rect)) (k : ℕ) → AreOthers parts k 0 []
-others-none parts k r = (λ (i, l, is). absurd (omega (arith, l)), λ (j, l, j_in, ne, c). absurd (omega (arith, l)))
-
-pub others-own : (parts : List (List Rect)) (k j : ℕ) (others : List Rect) → j ≡ k → AreOthers parts k j others → AreOthers parts k (j + 1) others
-others-own parts k j others e h r = (
-  λ a. (let (i, l, i_in, ne, b) = (h r).0 a in (i, omega (arith, l), i_in, ne, b)),
-  λ (i, l, i_in, ne, b). (h r).1 (i, omega (arith, l, ne, e), i_in, ne, b),
-)
-
-pub others-more : (parts : List (List Rect)) (k j : ℕ) (others part : List Rect) → j ≢ k → j < length parts → part ≡ get_or parts j [] → AreOthers parts k j others → AreOthers parts k (j + 1) (others ++ part)
-others-more parts k j others part ne j_in is h r = (
-  λ a. elim (Contains-append_cases others part r a) [
-    | inl b ↦ (let (i, l, i_in, i_ne, c) = (h r).0 b in (i, omega (arith, l), i_in, i_ne, c))
-    | inr b ↦ (j, omega arith, j_in, ne, subst (λ s. Contains s r) is b)
-  ],
-  λ (i, l, i_in, i_ne, b). elim (cases_eq i j) [
-    | inl e ↦ Contains-append_right others part r (subst (λ s. Contains s r) (ap (λ m. get_or parts m []) e ∙ sym is) b)
-    | inr i_old ↦ Contains-append_left others part r ((h r).1 (i, omega (arith, l, i_old), i_in, i_ne, b))
-  ],
-)
 
 module _ (parts : List (List Rect)) (k : ℕ) (others : List Rect) (k_in : k < length parts) (h : AreOthers parts k (length parts) others) where
   other_part : (p : Pt) → Covers others p → (j : ℕ) × (j < length parts) × (j ≢ k) × Covers (get_or parts j []) p
@@ -144,3 +128,29 @@ found-more rule overlap parts k old new before step z = (
     | inr ne ↦ (step z).1 (inl ((before z).1 (omega (arith, l, ne), zone)))
   ],
 )
+
+module _ (parts : List (List Rect)) (nodes : List Node) (k : ℕ) (tree : IsTree nodes) (leaves : AreLeavesOf parts nodes) (k_in : k < length parts) where
+  -- the leaves of other owners are the rectangles of the other parts
+  pub others-of_leaves : AreOthers parts k (length parts) (others_in nodes k)
+  others-of_leaves r = (
+    λ a. (let (j, ne, leaf) = others-in nodes k (one-in_tree nodes tree) r a in
+        let (j_in, c) = (leaves r j).0 leaf in (j, j_in, j_in, ne, c)),
+    λ (j, l, j_in, ne, c). in-others nodes k r j ne ((leaves r j).1 (j_in, c)),
+  )
+
+  pub own-of_leaves : SameSquares (Covers (get_or parts k [])) (Covers (own_in nodes k))
+  own-of_leaves p = (
+    λ (i, r, i_in, i_is, has). (let (m, m_in, m_is) = in-own nodes k r ((leaves r k).1 (k_in, (i, i_in, i_is))) in (m, r, m_in, m_is, has)),
+    λ (m, r, m_in, m_is, has). (let (i, i_in, i_is) = ((leaves r k).0 (own-in nodes k (one-in_tree nodes tree) r (m, m_in, m_is))).1 in (i, r, i_in, i_is, has)),
+  )
+
+pub within-of_leaves : (parts : List (List Rect)) (nodes : List Node) → AreParts parts → AreLeavesOf parts nodes → AreLeavesWithin nodes
+within-of_leaves parts nodes are leaves r k leaf =
+    let (k_in, (i, i_in, i_is)) = (leaves r k).0 leaf in
+    subst (λ u. IsSolidWithin farthest u) i_is (within-slabs (get_or parts k []) (are.canonical k [] k_in) (are.within k [] k_in) i r i_in)
+
+pub first-none : (zs : List Rect) (k : ℕ) (base : List Zone) → (z : Zone) → Contains base z ↔ (Contains base z ⊎ ((z.feature ≡ k) × FirstOf zs 0 z.rect))
+first-none zs k base z = (λ h. inl h, λ h. elim h [ inl a ↦ a | inr (e, (i, l, i_in, is)) ↦ absurd (omega (arith, l)) ])
+
+pub leaves-of_items : (parts : List (List Rect)) (items : List Item) (nodes : List Node) → ((r : Rect) (k : ℕ) → HasItem items r k ↔ ((k < length parts) × Contains (get_or parts k []) r)) → ((r : Rect) (k : ℕ) → HasLeaf nodes r k ↔ HasItem items r k) → AreLeavesOf parts nodes
+leaves-of_items parts items nodes of_parts leaves r k = (λ h. (of_parts r k).0 ((leaves r k).0 h), λ h. (leaves r k).1 ((of_parts r k).1 h))

@@ -1,5 +1,5 @@
 -- Horizontal zones, and the vertical ones beside them.
-use Rattle.std.proofs.Common.{◌≡◌, ℕ, ◌+◌, ◌^◌, ◌<◌, ◌≤◌, ◌⊎◌, inl, inr, List, [], ◌∷◌, ◌++◌, length, get_or, sym, ap, ◌∙◌, subst, arith}
+use Rattle.std.proofs.Common.{◌≡◌, ℕ, ◌+◌, ◌<◌, ◌≤◌, ◌⊎◌, inl, inr, List, [], ◌∷◌, ◌++◌, length, get_or, sym, refl, ap, ◌∙◌, subst, arith}
 use Rattle.std.specs.Prelude.{pos, ◌-ℤ◌, ◌≤ℤ◌, ◌<ℤ◌, ◌↔◌}
 use Rattle.std.specs.List.{Any, Contains}
 use Rattle.std.proofs.lemmas.Int.{ints}
@@ -10,6 +10,8 @@ use Rattle.dpl_spec.specs.declared.Rect.{Rect}
 use Rattle.dpl_spec.specs.Loops.{farthest}
 use Rattle.dpl_spec.specs.Squares.{Region, AreTouching, Has, Covers, IsSolidWithin}
 use Rattle.dpl_spec.specs.Zones.{at, IsHorizontalZone, IsVerticalZone, IsKeptZone, turned, turned_rect}
+use Rattle.dpl_zone.specs.declared.tree.Node.{Node}
+use Rattle.dpl_zone.specs.Trees.{HasLeaf, AreLeavesWithin}
 use Rattle.dpl_zone.specs.Rows.{AddsZones, AreWithin, layer_of}
 
 -- a zone of some rows has its squares in the feature
@@ -93,17 +95,41 @@ TouchesAny flat w = Any (λ h. AreTouching (Has h) (Has w)) flat
 abbrev pub KeptOf : List Rect → List Rect → ℕ → Rect → Type 0
 KeptOf flat zs n w = (k : ℕ) × (k < n) × (k < length zs) × (get_or zs k w ≡ w) × (TouchesAny flat w → ⊥)
 
-pub apart-added : (kept flat : List Rect) (z : Rect) → (TouchesAny flat z → ⊥) → AddsZones (λ w. (z ≡ w) × (TouchesAny flat w → ⊥)) kept (kept ++ z ∷ [])
-apart-added kept flat z free w = (
-  λ h. elim (Contains-push_cases kept z w h) [ inl a ↦ inl a | inr e ↦ inr (e, subst (λ u. TouchesAny flat u → ⊥) e free) ],
+-- the zone touches no leaf
+abbrev pub TouchesNone : List Node → Rect → Type 0
+TouchesNone nodes w = (h : Rect) (k : ℕ) → HasLeaf nodes h k → AreTouching (Has h) (Has w) → ⊥
+
+pub apart-added : (kept : List Rect) (nodes : List Node) (z : Rect) → TouchesNone nodes z → AddsZones (λ w. (z ≡ w) × TouchesNone nodes w) kept (kept ++ z ∷ [])
+apart-added kept nodes z free w = (
+  λ h. elim (Contains-push_cases kept z w h) [ inl a ↦ inl a | inr e ↦ inr (e, subst (λ u. TouchesNone nodes u) e free) ],
   λ h. elim h [ inl a ↦ Contains-append_left kept (z ∷ []) w a | inr (e, f) ↦ subst (λ u. Contains (kept ++ z ∷ []) u) e (Contains-push kept z) ],
 )
 
-pub apart-none : (kept flat : List Rect) (z : Rect) → TouchesAny flat z → AddsZones (λ w. (z ≡ w) × (TouchesAny flat w → ⊥)) kept kept
-apart-none kept flat z touch w = (
-  λ h. inl h,
-  λ h. elim h [ inl a ↦ a | inr (e, f) ↦ absurd (f (subst (λ u. TouchesAny flat u) e touch)) ],
+pub apart-none : (kept : List Rect) (nodes : List Node) (z : Rect) → ((h : Rect) × (k : ℕ) × HasLeaf nodes h k × AreTouching (Has h) (Has z)) → AddsZones (λ w. (z ≡ w) × TouchesNone nodes w) kept kept
+apart-none kept nodes z (h, k, leaf, touch) w = (
+  λ a. inl a,
+  λ a. elim a [ inl b ↦ b | inr (e, f) ↦ absurd (f h k leaf (subst (λ u. AreTouching (Has h) (Has u)) e touch)) ],
 )
+
+-- the leaves are the zones of the list
+pub apart-of_list : (flat : List Rect) (nodes : List Node) (z : Rect) (old new : List Rect) → ((r : Rect) (k : ℕ) → HasLeaf nodes r k ↔ ((k ≡ 0) × Contains flat r))
+    → AddsZones (λ w. (z ≡ w) × TouchesNone nodes w) old new → AddsZones (λ w. (z ≡ w) × (TouchesAny flat w → ⊥)) old new
+apart-of_list flat nodes z old new leaves adds w = (
+  λ a. elim ((adds w).0 a) [
+    | inl b ↦ inl b
+    | inr (e, none) ↦ inr (e, λ (i, h, i_in, i_is, touch). none h 0 ((leaves h 0).1 (refl, (i, i_in, i_is))) touch)
+  ],
+  λ a. elim a [
+    | inl b ↦ (adds w).1 (inl b)
+    | inr (e, none) ↦ (adds w).1 (inr (e, λ h k leaf touch. (let (i, i_in, i_is) = ((leaves h k).0 leaf).1 in none (i, h, i_in, i_is, touch))))
+  ],
+)
+
+-- zones of a list in the range are leaves in the range
+pub leaves-within_list : (flat : List Rect) (nodes : List Node) → AreWithin flat → ((r : Rect) (k : ℕ) → HasLeaf nodes r k ↔ ((k ≡ 0) × Contains flat r)) → AreLeavesWithin nodes
+leaves-within_list flat nodes within leaves r k leaf =
+    let (i, i_in, i_is) = ((leaves r k).0 leaf).1 in
+    subst (λ u. IsSolidWithin farthest u) i_is (within i r i_in)
 
 pub kept-more : (flat zs : List Rect) (i : ℕ) (z : Rect) (old new : List Rect) → i < length zs → z ≡ get_or zs i z
     → ((w : Rect) → Contains old w ↔ (Contains flat w ⊎ KeptOf flat zs i w)) → AddsZones (λ w. (z ≡ w) × (TouchesAny flat w → ⊥)) old new
@@ -139,3 +165,8 @@ kept-all rule overlap l f flat zs kept n all is_flat is_upright h z = (
         (h z).1 (inr (k, omega (arith, all, k_in), k_in, k_is, λ (i, g, i_in, i_is, touch). free g ((is_flat g).0 (i, i_in, i_is)) touch)))
   ],
 )
+
+-- the same horizontal zones beside the same others
+pub flat-as : (rule overlap : ℕ) (rects xs others flat : List Rect) → xs ≡ others → ((z : Rect) → Contains flat z ↔ IsHorizontalZone rule overlap (layer_of rects xs) (Covers rects) z)
+    → (z : Rect) → Contains flat z ↔ IsHorizontalZone rule overlap (layer_of rects others) (Covers rects) z
+flat-as rule overlap rects xs others flat e h = subst (λ t. let s : List Rect = t in (z : Rect) → Contains flat z ↔ IsHorizontalZone rule overlap (layer_of rects s) (Covers rects) z) e h

@@ -1,14 +1,12 @@
 -- x and y exchanged.
-use Rattle.std.proofs.Common.{◌≡◌, ℕ, ◌-◌, ◌<◌, inl, inr, List, [], ◌++◌, length, length-append, get_or, map, sym, refl, ap, ◌∙◌, subst, arith}
+use Rattle.std.proofs.Common.{◌≡◌, ℕ, ◌<◌, inl, inr, List, [], ◌∷◌, length, get_or, map, sym, refl, ap, ◌∙◌, subst, arith}
 use Rattle.std.specs.Prelude.{ℤ, pos, ◌-ℤ◌, ◌↔◌}
 use Rattle.std.specs.List.{Contains}
-use Rattle.std.proofs.lemmas.Int.{ints}
-use Rattle.std.proofs.lemmas.Bool.{cases_lt}
-use Rattle.std.proofs.lemmas.List.{get_or_default, get_or-map, length-map, get_or_append_left, get_or-append_right}
+use Rattle.std.proofs.lemmas.List.{get_or_default, get_or-map, length-map}
 use Rattle.dpl_spec.specs.declared.Pt.{Pt}
 use Rattle.dpl_spec.specs.declared.Rect.{Rect}
-use Rattle.dpl_spec.specs.Squares.{Region, SameSquares, Has, Covers, IsSolidWithin}
-use Rattle.dpl_spec.specs.Slabs.{IsCanonical, AreSlabsOf}
+use Rattle.dpl_spec.specs.Squares.{Region, SameSquares, Has, Covers}
+use Rattle.dpl_spec.specs.Slabs.{IsCanonical}
 use Rattle.dpl_spec.specs.Zones.{at, IsClearRun, GoesOn, IsHorizontalZone, IsVerticalZone, turned, turned_rect}
 use Rattle.dpl_spec.specs.Loops.{farthest, AreRectsWithin}
 use Rattle.dpl_zone.specs.Rows.{AreWithin, layer_of}
@@ -46,31 +44,11 @@ zone-as rule overlap l m f g layers features z h =
       middle = h.middle;
     }
 
-pub turned-within : (rects : List Rect) → AreWithin rects → AreWithin (map turned_rect rects)
-turned-within rects within k d l =
-    let k_in : k < length rects = omega (arith, l, length-map rects turned_rect) in
-    let w = within k d k_in in
-    rw (get_or-map turned_rect rects k d d k_in) (record { wide = w.tall; tall = w.wide; left = w.low; right = w.high; low = w.left; high = w.right })
-
-pub rects-within : (rs : List Rect) → AreWithin rs → AreRectsWithin farthest rs
-rects-within rs within r (k, l, is) =
-    let w : IsSolidWithin farthest r = subst (λ u. IsSolidWithin farthest u) is (within k r l) in
-    record { left = w.left; low = w.low; right = w.right; high = w.high }
-
 pub within-slabs : (rs : List Rect) → IsCanonical rs → AreRectsWithin farthest rs → AreWithin rs
 within-slabs rs canonical within k d l =
     let w = within (get_or rs k d) (k, l, get_or_default rs k (get_or rs k d) d l) in
     let solid = canonical.solid k d l in
     record { wide = solid.wide; tall = solid.tall; left = w.left; right = w.right; low = w.low; high = w.high }
-
-pub within-added : (rs ss : List Rect) → AreWithin rs → AreWithin ss → AreWithin (rs ++ ss)
-within-added rs ss a b k d l = elim (cases_lt k (length rs)) [
-  | inl m ↦ rw (get_or_append_left rs ss d k m) (a k d m)
-  | inr m ↦ rw (get_or-append_right rs ss (length rs) k d refl m) (b (k - length rs) d (omega (arith, l, m, length-append rs ss)))
-]
-
-pub within-none : AreWithin []
-within-none k d l = absurd (omega (arith, l))
 
 pub turned-covers : (rects : List Rect) → SameSquares (Covers (map turned_rect rects)) (turned (Covers rects))
 turned-covers rects p = (
@@ -82,46 +60,6 @@ turned-covers rects p = (
   λ (k, r, k_in, is, has).
       (k, turned_rect r, omega (arith, k_in, length-map rects turned_rect), get_or-map turned_rect rects k r (turned_rect r) k_in ∙ ap turned_rect is, record { left = has.low; right = has.high; low = has.left; high = has.right }),
 )
-
--- slabs of squares of rectangles within the bound are within it
-pub slabs-within : (rects slabs : List Rect) → AreWithin rects → IsCanonical slabs → ((p : Pt) → Covers slabs p → Covers rects p) → AreWithin slabs
-slabs-within rects slabs within canonical into k d l =
-    let s : Rect = get_or slabs k d in
-    let solid = canonical.solid k d l in
-    let wide = solid.wide in
-    let tall = solid.tall in
-    let is : get_or slabs k (get_or slabs k d) ≡ get_or slabs k d = get_or_default slabs k (get_or slabs k d) d l in
-    let (i, r, i_in, r_is, low) = into (at s.x0 s.y0) (k, get_or slabs k d, l, is, record { left = omega (arith, ints); right = wide; low = omega (arith, ints); high = tall }) in
-    let (j, t, j_in, t_is, high) = into (at (s.x1 -ℤ pos 1) (s.y1 -ℤ pos 1)) (k, get_or slabs k d, l, is, record { left = omega (arith, ints, wide); right = omega (arith, ints); low = omega (arith, ints, tall); high = omega (arith, ints) }) in
-    let a : IsSolidWithin farthest r = subst (λ u. IsSolidWithin farthest u) r_is (within i r i_in) in
-    let b : IsSolidWithin farthest t = subst (λ u. IsSolidWithin farthest u) t_is (within j t j_in) in
-    let r0 = a.left in
-    let r1 = a.right in
-    let r2 = a.low in
-    let r3 = a.high in
-    let t0 = b.left in
-    let t1 = b.right in
-    let t2 = b.low in
-    let t3 = b.high in
-    let p0 = low.left in
-    let p1 = low.right in
-    let p2 = low.low in
-    let p3 = low.high in
-    let q0 = high.left in
-    let q1 = high.right in
-    let q2 = high.low in
-    let q3 = high.high in
-    record {
-      wide = wide;
-      tall = tall;
-      left = omega (arith, ints, r0, r1, p0, p1);
-      right = omega (arith, ints, t0, t1, q0, q1);
-      low = omega (arith, ints, r2, r3, p2, p3);
-      high = omega (arith, ints, t2, t3, q2, q3);
-    }
-
-pub turned-apart : (rects others slabs : List Rect) → ((p : Pt) → Covers rects p → Covers others p → ⊥) → SameSquares (Covers slabs) (turned (Covers rects)) → (p : Pt) → Covers slabs p → Covers (map turned_rect others) p → ⊥
-turned-apart rects others slabs apart same p a b = apart (at p.y p.x) ((same p).0 a) ((turned-covers others p).0 b)
 
 contains-turned : (zs : List Rect) (z : Rect) → Contains (map turned_rect zs) z ↔ Contains zs (turned_rect z)
 contains-turned zs z = (
@@ -151,15 +89,22 @@ flat-from_upright rule overlap rects others slabs found zones same h is z =
           (same-back (turned (layer_of slabs (map turned_rect others))) (layer_of rects others) (turned-layer rects others slabs same)) (same-back (turned (Covers slabs)) (Covers rects) (turned-feature rects slabs same)) z b)),
     )
 
-pub columns-slabs : (rects xs made : List Rect) → xs ≡ map turned_rect rects → AreSlabsOf (Covers xs) made → AreSlabsOf (turned (Covers rects)) made
-columns-slabs rects xs made is h =
-    let g : AreSlabsOf (Covers (map turned_rect rects)) made = rw is at h in
-    record {
-      canonical = g.canonical;
-      covers = λ p. (λ a. (turned-covers rects p).0 ((g.covers p).0 a), λ b. (g.covers p).1 ((turned-covers rects p).1 b));
-    }
+pub turned-back : (rs : List Rect) → map turned_rect (map turned_rect rs) ≡ rs
+turned-back [] = refl
+turned-back (r ∷ rs) = ap (λ t. let s : List Rect = t in r ∷ s) (turned-back rs)
 
-pub columns-within : (rects xs made : List Rect) → AreWithin rects → xs ≡ map turned_rect rects → AreSlabsOf (Covers xs) made → AreWithin made
-columns-within rects xs made within is h =
-    let g : AreSlabsOf (Covers (map turned_rect rects)) made = rw is at h in
-    slabs-within (map turned_rect rects) made (turned-within rects within) g.canonical (λ p a. (g.covers p).0 a)
+pub flat-from_across : (rule overlap : ℕ) (rects others slabs found zones : List Rect) → SameSquares (Covers slabs) (turned (Covers rects))
+    → ((z : Rect) → Contains found z ↔ IsVerticalZone rule overlap (layer_of slabs others) (Covers slabs) z) → zones ≡ map turned_rect found
+    → (z : Rect) → Contains zones z ↔ IsHorizontalZone rule overlap (layer_of rects (map turned_rect others)) (Covers rects) z
+flat-from_across rule overlap rects others slabs found zones same h is =
+    flat-from_upright rule overlap rects (map turned_rect others) slabs found zones same
+    (subst (λ t. let s : List Rect = t in (z : Rect) → Contains found z ↔ IsVerticalZone rule overlap (layer_of slabs s) (Covers slabs) z) (sym (turned-back others)) h) is
+
+-- the squares of rectangles with x and y exchanged
+pub own-turned : (rects own own' : List Rect) → own' ≡ map turned_rect own → SameSquares (Covers rects) (Covers own) → SameSquares (turned (Covers rects)) (Covers own')
+own-turned rects own own' e same p =
+    let t = turned-covers own p in
+    rw e ((λ a. t.1 ((same (at p.y p.x)).0 a)), (λ b. (same (at p.y p.x)).1 (t.0 b)))
+
+pub apart-turned : (rects others others' : List Rect) → others' ≡ map turned_rect others → ((p : Pt) → Covers rects p → Covers others p → ⊥) → (p : Pt) → turned (Covers rects) p → Covers others' p → ⊥
+apart-turned rects others others' e apart p a b = apart (at p.y p.x) a ((turned-covers others p).0 (subst (λ t. let s : List Rect = t in Covers s p) e b))

@@ -1,11 +1,11 @@
 -- Rows of a slab: those near other rectangles, the spans between them, and the zones in the spans.
-use Rattle.std.specs.Prelude.{◌≡◌, ℕ, ◌+◌, ◌*◌, ◌^◌, ◌<◌, ◌≤◌, ◌⊎◌, ◌↔◌, ℤ, pos, ◌+ℤ◌, ◌-ℤ◌, ◌≤ℤ◌, ◌<ℤ◌, List, length, slice_index_or}
+use Rattle.std.specs.Prelude.{◌≡◌, ℕ, ◌+◌, ◌*◌, ◌<◌, ◌≤◌, ◌⊎◌, ◌↔◌, ℤ, pos, ◌+ℤ◌, ◌-ℤ◌, ◌≤ℤ◌, ◌<ℤ◌, List, length, slice_index_or}
 use Rattle.std.specs.List.{Any, Contains}
 use Rattle.dpl_spec.specs.declared.Pt.{Pt}
 use Rattle.dpl_spec.specs.declared.Rect.{Rect}
 use Rattle.dpl_spec.specs.Loops.{farthest}
 use Rattle.dpl_spec.specs.Squares.{Region, Has, Covers, d2, IsSolidWithin}
-use Rattle.dpl_spec.specs.Zones.{at}
+use Rattle.dpl_spec.specs.Zones.{at, turned, GoesOn}
 use Rattle.dpl_zone.specs.declared.rows.Span.{Span}
 
 pub record InRows (s : Span) (y : ℤ) : Type 0 where
@@ -52,17 +52,13 @@ abbrev pub AddsSpan : ℤ → ℤ → List Span → List Span → Type 0
 AddsSpan low end old new =
     ((s : Span) → Contains new s ↔ (Contains old s ⊎ ((low <ℤ end) × (s.from ≡ low) × (s.to ≡ end))))
 
--- t ends where s begins, and they share at least a corner
-pub record Meet (t s : Rect) : Type 0 where
-  pub row : s.y0 ≡ t.y1
-  pub left : s.x0 ≤ℤ t.x1
-  pub right : t.x0 ≤ℤ s.x1
+-- the rectangles have a square directly below the slab, at most one column beside it
+abbrev pub GoesBelow : List Rect → Rect → Type 0
+GoesBelow rects s = GoesOn (turned (Covers rects)) s.x0 s.x1 (s.y0 -ℤ pos 1)
 
-abbrev pub HasBelow : List Rect → Rect → Type 0
-HasBelow rects s = Any (λ t. Meet t s) rects
-
-abbrev pub HasAbove : List Rect → Rect → Type 0
-HasAbove rects s = Any (λ t. Meet s t) rects
+-- the rectangles have a square directly above the slab, at most one column beside it
+abbrev pub GoesAbove : List Rect → Rect → Type 0
+GoesAbove rects s = GoesOn (turned (Covers rects)) s.x0 s.x1 s.y1
 
 -- the middle rows of a span, over all columns of the slab; an odd row is left over at the top
 pub record IsMiddleOf (overlap : ℕ) (slab : Rect) (g : Span) (z : Rect) : Type 0 where
@@ -90,7 +86,7 @@ pub record IsLit (low high : ℤ) (dark : ℤ → Type 0) (g : Span) : Type 0 wh
 pub record IsSlabZone (rule overlap : ℕ) (rects others : List Rect) (slab z : Rect) : Type 0 where
   pub g : Span
   pub lit : IsLit slab.y0 slab.y1 (IsDark rule others slab) g
-  pub open_span : IsOpenSpan overlap slab (HasBelow rects slab) (HasAbove rects slab) g
+  pub open_span : IsOpenSpan overlap slab (GoesBelow rects slab) (GoesAbove rects slab) g
   pub middle : IsMiddleOf overlap slab g z
 
 -- the list has these zones too
@@ -101,5 +97,6 @@ AddsZones adds old new = (z : Rect) → Contains new z ↔ (Contains old z ⊎ a
 abbrev pub layer_of : List Rect → List Rect → Region
 layer_of rects others p = Covers rects p ⊎ Covers others p
 
+-- solid rectangles in the range of a layer
 abbrev pub AreWithin : List Rect → Type 0
 AreWithin rs = (k : ℕ) (d : Rect) → k < length rs → IsSolidWithin farthest (slice_index_or rs k d)

@@ -1,40 +1,42 @@
 //! The zones of a feature that are kept.
-ghost use Rattle.std.specs.Prelude.{◌≡◌, ◌^◌, ◌≤◌, ◌↔◌, IsTrue, IfOk, OnOk};
-ghost use Rattle.std.specs.List.{Any, Contains};
+ghost use Rattle.std.specs.Prelude.{◌≡◌, ℕ, ◌≤◌, ◌↔◌, map, IfOk, OnOk};
+ghost use Rattle.std.specs.List.{Contains};
 ghost use Rattle.dpl_spec.specs.declared.Pt.{Pt};
 ghost use Rattle.dpl_spec.specs.declared.Rect.{Rect};
 ghost use Rattle.dpl_spec.specs.Loops.{farthest};
-ghost use Rattle.dpl_spec.specs.Squares.{AreTouching, Covers, Has, IsSolidWithin};
-ghost use Rattle.dpl_spec.specs.Slabs.{IsCanonical};
+ghost use Rattle.dpl_spec.specs.Squares.{AreTouching, Covers, Has, IsSolidWithin, SameSquares};
 ghost use Rattle.dpl_spec.specs.Zones.{IsKeptZone};
-ghost use Rattle.dpl_zone.specs.Rows.{AddsZones, AreWithin, layer_of};
+ghost use Rattle.dpl_zone.specs.Rows.{AddsZones, layer_of};
+ghost use Rattle.dpl_zone.specs.Trees.{IsTree, AreLeavesWithin, HasLeaf, others_in, own_in, turned_node};
 
 use crate::flat::flat_zones;
+use crate::items::add_items_of;
+use crate::rows::touches_leaf;
 use crate::slab_zones::upright_zones;
-use dpl_base::{Rect, touches};
+use crate::tree::{Node, tree_of};
+use dpl_base::Rect;
+use dpl_slabs::Slabs;
 use std::alloc::{AllocError, Global};
 
-/// Whether a zone touches one of the others.
-fn touches_any(flat: &[Rect], z: &Rect) -> bool
-    requires flat { AreWithin flat.now }
-    requires zone { IsSolidWithin farthest z.now }
-    ensures { IsTrue result ↔ Any (λ h. AreTouching (Has h) (Has z.now)) flat.now }
+/// The tree of zones.
+fn tree_of_zones(alloc: Global, zones: &[Rect]) -> Result<Vec<Node>, AllocError>
+    ensures tree { IfOk result (λ v. IsTree v.items) }
+    ensures leaves { IfOk result (λ v. (r : Rect) (k : ℕ) → HasLeaf v.items r k ↔ ((k ≡ 0) × Contains zones.now r)) }
 {
-    for h in flat {
-        if touches(h, z) {
-            return true;
-        }
-    }
-    false
+    let mut items = Vec::new(alloc);
+    add_items_of(&mut items, zones, 0)?;
+    let nodes = tree_of(alloc, items)?;
+    Ok(nodes)
 }
 
 /// Adds a zone that touches none of the others.
-fn add_apart(kept: &mut Vec<Rect>, flat: &[Rect], z: &Rect) -> Result<(), AllocError>
-    requires flat { AreWithin flat.now }
+fn add_apart(kept: &mut Vec<Rect>, flat: &[Node], z: &Rect) -> Result<(), AllocError>
+    requires tree { IsTree flat.now }
+    requires leaves { AreLeavesWithin flat.now }
     requires zone { IsSolidWithin farthest z.now }
-    ensures { OnOk result (AddsZones (λ w. (z.now ≡ w) × (Any (λ h. AreTouching (Has h) (Has w)) flat.now → ⊥)) kept.old.items kept.new.items) }
+    ensures { OnOk result (AddsZones (λ w. (z.now ≡ w) × ((h : Rect) (k : ℕ) → HasLeaf flat.now h k → AreTouching (Has h) (Has w) → ⊥)) kept.old.items kept.new.items) }
 {
-    if touches_any(flat, z) {
+    if touches_leaf(flat, z) {
         return Ok(());
     }
     kept.push(*z)?;
@@ -44,23 +46,27 @@ fn add_apart(kept: &mut Vec<Rect>, flat: &[Rect], z: &Rect) -> Result<(), AllocE
 /// The horizontal zones of a feature, and the vertical ones that touch none of them.
 pub fn kept_zones(
     alloc: Global,
-    rects: &[Rect],
-    others: &[Rect],
+    part: &Slabs,
+    nodes: &[Node],
+    across: &[Node],
+    own: usize,
     rule: u32,
     overlap: u32,
 ) -> Result<Vec<Rect>, AllocError>
     requires some { 1 ≤ overlap }
-    requires canonical { IsCanonical rects.now }
-    requires rects { AreWithin rects.now }
-    requires others { AreWithin others.now }
-    requires apart { (p : Pt) → Covers rects.now p → Covers others.now p → ⊥ }
-    ensures { IfOk result (λ v. (z : Rect) → Contains v.items z ↔ IsKeptZone rule overlap (layer_of rects.now others.now) (Covers rects.now) z) }
+    requires tree { IsTree nodes.now }
+    requires leaves { AreLeavesWithin nodes.now }
+    requires turned { across.now ≡ map turned_node nodes.now }
+    requires own { SameSquares (Covers part.now) (Covers (own_in nodes.now own)) }
+    requires apart { (p : Pt) → Covers part.now p → Covers (others_in nodes.now own) p → ⊥ }
+    ensures { IfOk result (λ v. (z : Rect) → Contains v.items z ↔ IsKeptZone rule overlap (layer_of part.now (others_in nodes.now own)) (Covers part.now) z) }
 {
-    let flat = flat_zones(alloc, rects, others, rule, overlap)?;
-    let upright = upright_zones(alloc, rects, others, rule, overlap)?;
-    let mut kept = Vec::from_slice(alloc, &flat)?;
+    let flat = flat_zones(alloc, part, across, own, rule, overlap)?;
+    let upright = upright_zones(alloc, part.rects(), nodes, own, rule, overlap)?;
+    let flat_nodes = tree_of_zones(alloc, &flat)?;
+    let mut kept = flat;
     for z in &upright {
-        add_apart(&mut kept, &flat, z)?;
+        add_apart(&mut kept, &flat_nodes, z)?;
     }
     Ok(kept)
 }

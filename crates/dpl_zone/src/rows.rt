@@ -4,14 +4,17 @@ ghost use Rattle.std.specs.List.{Contains};
 ghost use Rattle.dpl_zone.specs.declared.rows.Span.{Span};
 ghost use Rattle.dpl_spec.specs.declared.Rect.{Rect};
 ghost use Rattle.dpl_spec.specs.Loops.{farthest};
-ghost use Rattle.dpl_spec.specs.Squares.{IsSolidWithin};
-ghost use Rattle.dpl_zone.specs.Rows.{SomeRow, AreTall, RiseByFrom, IsShaded, IsShadow, IsDark, IsGap, AddsSpan, HasBelow, HasAbove, AreWithin, Meet};
+ghost use Rattle.dpl_spec.specs.Squares.{AreTouching, Covers, Has, IsSolidWithin};
+ghost use Rattle.dpl_spec.specs.Zones.{GoesOn, turned};
+ghost use Rattle.dpl_zone.specs.Rows.{SomeRow, AreTall, RiseByFrom, IsShaded, IsShadow, IsDark, IsGap, AddsSpan};
+ghost use Rattle.dpl_zone.specs.Trees.{IsTree, AreLeavesWithin, HasLeaf, IsWidened, IsStrip, others_in, own_in};
 
+use crate::tree::{Node, Owners, seek};
 use dpl_base::{Rect, reach, span_gap};
 use std::alloc::{AllocError, Global};
 
 /// The rows from `from` up to but not `to`.
-#[derive(Clone, Copy, Debug, Drop)]
+#[derive(Clone, Copy, Drop)]
 pub struct Span {
     pub from: i64,
     pub to: i64,
@@ -51,23 +54,79 @@ fn add_shadow(spans: &mut Vec<Span>, slab: &Rect, other: &Rect, rule: u32) -> Re
     }
 }
 
-/// The shadows of rectangles on a slab, lowest first.
-pub fn shadows(
+/// The rectangle with `by` more columns and rows on each side.
+fn widened(r: &Rect, by: u32) -> Rect
+    requires { IsSolidWithin farthest r.now }
+    ensures { IsWidened r.now by result }
+{
+    Rect {
+        x0: r.x0 - by as i64,
+        y0: r.y0 - by as i64,
+        x1: r.x1 + by as i64,
+        y1: r.y1 + by as i64,
+    }
+}
+
+/// Whether the last span has all rows of the slab.
+fn is_covered(spans: &[Span], slab: &Rect) -> bool
+    ensures { IsTrue result → (y : ℤ) → slab.now.y0 ≤ℤ y → y <ℤ slab.now.y1 → SomeRow spans.now y }
+{
+    if spans.is_empty() {
+        return false;
+    }
+    let last = spans[spans.len() - 1];
+    if slab.y0 < last.from {
+        return false;
+    }
+    if last.to < slab.y1 {
+        return false;
+    }
+    true
+}
+
+/// The shadows of other owners' rectangles on a slab, up to one that has all its rows.
+fn gather(
     alloc: Global,
+    nodes: &[Node],
+    own: usize,
     slab: &Rect,
-    others: &[Rect],
     rule: u32,
 ) -> Result<Vec<Span>, AllocError>
+    requires tree { IsTree nodes.now }
+    requires leaves { AreLeavesWithin nodes.now }
     requires slab { IsSolidWithin farthest slab.now }
-    requires others { AreWithin others.now }
+    ensures tall { IfOk result (λ v. AreTall v.items) }
+    ensures rows { IfOk result (λ v. (y : ℤ) → slab.now.y0 ≤ℤ y → y <ℤ slab.now.y1 → SomeRow v.items y ↔ IsDark rule (others_in nodes.now own) slab.now y) }
+{
+    let window = widened(slab, rule);
+    let mut spans = Vec::new(alloc);
+    let mut i = seek(nodes, 0, &window, Owners::But(own));
+    while i < nodes.len() {
+        add_shadow(&mut spans, slab, &nodes[i].bounds, rule)?;
+        if is_covered(&spans, slab) {
+            return Ok(spans);
+        }
+        i = seek(nodes, i + 1, &window, Owners::But(own));
+    }
+    Ok(spans)
+}
+
+/// The shadows of other owners' rectangles on a slab, lowest first.
+pub fn shadows(
+    alloc: Global,
+    nodes: &[Node],
+    own: usize,
+    slab: &Rect,
+    rule: u32,
+) -> Result<Vec<Span>, AllocError>
+    requires tree { IsTree nodes.now }
+    requires leaves { AreLeavesWithin nodes.now }
+    requires slab { IsSolidWithin farthest slab.now }
     ensures tall { IfOk result (λ v. AreTall v.items) }
     ensures rise { IfOk result (λ v. RiseByFrom v.items) }
-    ensures rows { IfOk result (λ v. (y : ℤ) → SomeRow v.items y ↔ IsDark rule others.now slab.now y) }
+    ensures rows { IfOk result (λ v. (y : ℤ) → slab.now.y0 ≤ℤ y → y <ℤ slab.now.y1 → SomeRow v.items y ↔ IsDark rule (others_in nodes.now own) slab.now y) }
 {
-    let mut spans = Vec::new(alloc);
-    for other in others {
-        add_shadow(&mut spans, slab, other, rule)?;
-    }
+    let mut spans = gather(alloc, nodes, own, slab, rule)?;
     spans.sort_by_key(|s| s.from)?;
     Ok(spans)
 }
@@ -114,42 +173,47 @@ pub fn gaps(alloc: Global, spans: &[Span], low: i64, high: i64) -> Result<Vec<Sp
     Ok(free)
 }
 
-/// Whether some slab ends where this one begins, and touches it.
-pub fn has_below(rects: &[Rect], slab: &Rect) -> bool
-    ensures { IsTrue result ↔ HasBelow rects.now slab.now }
+/// Row `y`, from one column left of the slab to one right of it.
+fn strip(slab: &Rect, y: i64) -> Rect
+    requires slab { IsSolidWithin farthest slab.now }
+    requires row { y <ℤ pos 2000000000 }
+    ensures { IsStrip slab.now y result }
 {
-    for t in rects {
-        if meets(t, slab) {
-            return true;
-        }
+    Rect {
+        x0: slab.x0 - 1,
+        y0: y,
+        x1: slab.x1 + 1,
+        y1: y + 1,
+    }
+}
+
+/// Whether the owner has a square in row `y` that is at most one column beside the slab.
+pub fn has_row(nodes: &[Node], own: usize, slab: &Rect, y: i64) -> bool
+    requires tree { IsTree nodes.now }
+    requires leaves { AreLeavesWithin nodes.now }
+    requires slab { IsSolidWithin farthest slab.now }
+    requires row { y <ℤ pos 2000000000 }
+    ensures { IsTrue result ↔ GoesOn (turned (Covers (own_in nodes.now own))) slab.now.x0 slab.now.x1 y }
+{
+    let window = strip(slab, y);
+    let n = seek(nodes, 0, &window, Owners::Only(own));
+    if n < nodes.len() {
+        return true;
     }
     false
 }
 
-/// Whether some slab begins where this one ends, and touches it.
-pub fn has_above(rects: &[Rect], slab: &Rect) -> bool
-    ensures { IsTrue result ↔ HasAbove rects.now slab.now }
+/// Whether the rectangle touches a leaf.
+pub fn touches_leaf(nodes: &[Node], r: &Rect) -> bool
+    requires tree { IsTree nodes.now }
+    requires leaves { AreLeavesWithin nodes.now }
+    requires solid { IsSolidWithin farthest r.now }
+    ensures { IsTrue result ↔ ((h : Rect) × (k : ℕ) × HasLeaf nodes.now h k × AreTouching (Has h) (Has r.now)) }
 {
-    for t in rects {
-        if meets(slab, t) {
-            return true;
-        }
+    let window = widened(r, 1);
+    let n = seek(nodes, 0, &window, Owners::All);
+    if n < nodes.len() {
+        return true;
     }
     false
-}
-
-/// Whether the upper slab begins where the lower one ends, and touches it.
-fn meets(lower: &Rect, upper: &Rect) -> bool
-    ensures { IsTrue result ↔ Meet lower.now upper.now }
-{
-    if upper.y0 != lower.y1 {
-        return false;
-    }
-    if upper.x0 > lower.x1 {
-        return false;
-    }
-    if lower.x0 > upper.x1 {
-        return false;
-    }
-    true
 }

@@ -1,44 +1,70 @@
 //! The zones of a feature's slabs.
-ghost use Rattle.std.specs.Prelude.{◌≡◌, ℕ, ◌+◌, ◌^◌, ◌<◌, ◌≤◌, ◌⊎◌, ◌↔◌, ℤ, pos, ◌+ℤ◌, ◌≤ℤ◌, ◌<ℤ◌, IsTrue, IfOk, OnOk, length, slice_index_or};
+ghost use Rattle.std.specs.Prelude.{◌≡◌, ℕ, ◌+◌, ◌<◌, ◌≤◌, ◌⊎◌, ◌↔◌, ℤ, pos, ◌+ℤ◌, ◌≤ℤ◌, ◌<ℤ◌, IsTrue, IfOk, OnOk, length, slice_index_or};
 ghost use Rattle.std.specs.List.{Contains};
 ghost use Rattle.dpl_spec.specs.declared.Pt.{Pt};
 ghost use Rattle.dpl_spec.specs.declared.Rect.{Rect};
-ghost use Rattle.dpl_spec.specs.Loops.{farthest};
-ghost use Rattle.dpl_spec.specs.Squares.{IsSolidWithin, Covers};
+ghost use Rattle.dpl_spec.specs.Loops.{farthest, AreRectsWithin};
+ghost use Rattle.dpl_spec.specs.Squares.{IsSolidWithin, Covers, SameSquares};
 ghost use Rattle.dpl_spec.specs.Slabs.{IsCanonical};
 ghost use Rattle.dpl_spec.specs.Zones.{IsVerticalZone};
 ghost use Rattle.dpl_zone.specs.declared.rows.Span.{Span};
-ghost use Rattle.dpl_zone.specs.Rows.{IsDark, IsOpenSpan, IsMiddleOf, IsSlabZone, AddsZones, AreWithin, layer_of};
+ghost use Rattle.dpl_zone.specs.Rows.{IsDark, GoesBelow, GoesAbove, IsOpenSpan, IsMiddleOf, IsSlabZone, AddsZones, layer_of};
+ghost use Rattle.dpl_zone.specs.Trees.{IsTree, AreLeavesWithin, others_in, own_in};
 
-use crate::rows::{Span, gaps, has_above, has_below, shadows};
+use crate::rows::{Span, gaps, has_row, shadows};
+use crate::tree::Node;
 use dpl_base::Rect;
 use std::alloc::{AllocError, Global};
 
-/// Whether there is something above row `low`, up to row `high`, or beyond.
-fn goes_on(low: i64, high: i64, beyond: bool) -> bool
-    ensures { IsTrue result ↔ ((low <ℤ high) ⊎ IsTrue beyond) }
+/// Whether the feature goes on below the span: in the slab itself, or below that.
+fn goes_below(nodes: &[Node], own: usize, slab: &Rect, g: &Span) -> bool
+    requires tree { IsTree nodes.now }
+    requires leaves { AreLeavesWithin nodes.now }
+    requires slab { IsSolidWithin farthest slab.now }
+    ensures { IsTrue result ↔ ((slab.now.y0 <ℤ g.now.from) ⊎ GoesBelow (own_in nodes.now own) slab.now) }
 {
-    if low < high {
+    if slab.y0 < g.from {
         return true;
     }
-    beyond
+    if has_row(nodes, own, slab, slab.y0 - 1) {
+        return true;
+    }
+    false
+}
+
+/// Whether the feature goes on above the span: in the slab itself, or above that.
+fn goes_above(nodes: &[Node], own: usize, slab: &Rect, g: &Span) -> bool
+    requires tree { IsTree nodes.now }
+    requires leaves { AreLeavesWithin nodes.now }
+    requires slab { IsSolidWithin farthest slab.now }
+    ensures { IsTrue result ↔ ((g.now.to <ℤ slab.now.y1) ⊎ GoesAbove (own_in nodes.now own) slab.now) }
+{
+    if g.to < slab.y1 {
+        return true;
+    }
+    if has_row(nodes, own, slab, slab.y1) {
+        return true;
+    }
+    false
 }
 
 /// Whether a span is long enough for a zone, and the feature goes on beyond both its ends.
-fn is_open(slab: &Rect, g: &Span, below: bool, above: bool, overlap: u32) -> bool
+fn is_open(nodes: &[Node], own: usize, slab: &Rect, g: &Span, overlap: u32) -> bool
+    requires tree { IsTree nodes.now }
+    requires leaves { AreLeavesWithin nodes.now }
     requires slab { IsSolidWithin farthest slab.now }
     requires from { slab.now.y0 ≤ℤ g.now.from }
     requires some { g.now.from <ℤ g.now.to }
     requires to { g.now.to ≤ℤ slab.now.y1 }
-    ensures { IsTrue result ↔ IsOpenSpan overlap slab.now (IsTrue below) (IsTrue above) g.now }
+    ensures { IsTrue result ↔ IsOpenSpan overlap slab.now (GoesBelow (own_in nodes.now own) slab.now) (GoesAbove (own_in nodes.now own) slab.now) g.now }
 {
     if g.to - g.from < overlap as i64 + 2 {
         return false;
     }
-    if !goes_on(slab.y0, g.from, below) {
+    if !goes_below(nodes, own, slab, g) {
         return false;
     }
-    if !goes_on(g.to, slab.y1, above) {
+    if !goes_above(nodes, own, slab, g) {
         return false;
     }
     true
@@ -66,19 +92,21 @@ fn middle(slab: &Rect, g: &Span, overlap: u32) -> Rect
 /// Adds the zone of a span, where it has one.
 fn add_zone(
     zones: &mut Vec<Rect>,
+    nodes: &[Node],
+    own: usize,
     slab: &Rect,
     g: &Span,
-    below: bool,
-    above: bool,
     overlap: u32,
 ) -> Result<(), AllocError>
+    requires tree { IsTree nodes.now }
+    requires leaves { AreLeavesWithin nodes.now }
     requires slab { IsSolidWithin farthest slab.now }
     requires from { slab.now.y0 ≤ℤ g.now.from }
     requires some { g.now.from <ℤ g.now.to }
     requires to { g.now.to ≤ℤ slab.now.y1 }
-    ensures { OnOk result (AddsZones (λ z. IsOpenSpan overlap slab.now (IsTrue below) (IsTrue above) g.now × IsMiddleOf overlap slab.now g.now z) zones.old.items zones.new.items) }
+    ensures { OnOk result (AddsZones (λ z. IsOpenSpan overlap slab.now (GoesBelow (own_in nodes.now own) slab.now) (GoesAbove (own_in nodes.now own) slab.now) g.now × IsMiddleOf overlap slab.now g.now z) zones.old.items zones.new.items) }
 {
-    if !is_open(slab, g, below, above, overlap) {
+    if !is_open(nodes, own, slab, g, overlap) {
         return Ok(());
     }
     let zone = middle(slab, g, overlap);
@@ -86,47 +114,60 @@ fn add_zone(
     Ok(())
 }
 
+/// Whether the slab has too few rows for a zone.
+fn is_short(slab: &Rect, overlap: u32) -> bool
+    requires { IsSolidWithin farthest slab.now }
+    ensures { IsTrue result → slab.now.y1 <ℤ (slab.now.y0 +ℤ pos (overlap + 2)) }
+{
+    slab.y1 - slab.y0 < overlap as i64 + 2
+}
+
 /// Adds the zones of a slab.
 fn add_zones(
     alloc: Global,
     zones: &mut Vec<Rect>,
-    rects: &[Rect],
-    others: &[Rect],
+    nodes: &[Node],
+    own: usize,
     slab: &Rect,
     rule: u32,
     overlap: u32,
 ) -> Result<(), AllocError>
+    requires tree { IsTree nodes.now }
+    requires leaves { AreLeavesWithin nodes.now }
     requires slab { IsSolidWithin farthest slab.now }
-    requires others { AreWithin others.now }
-    ensures { OnOk result (AddsZones (IsSlabZone rule overlap rects.now others.now slab.now) zones.old.items zones.new.items) }
+    ensures { OnOk result (AddsZones (IsSlabZone rule overlap (own_in nodes.now own) (others_in nodes.now own) slab.now) zones.old.items zones.new.items) }
 {
-    let below = has_below(rects, slab);
-    let above = has_above(rects, slab);
-    let spans = shadows(alloc, slab, others, rule)?;
+    if is_short(slab, overlap) {
+        return Ok(());
+    }
+    let spans = shadows(alloc, nodes, own, slab, rule)?;
     let free = gaps(alloc, &spans, slab.y0, slab.y1)?;
     for g in &free {
-        add_zone(zones, slab, g, below, above, overlap)?;
+        add_zone(zones, nodes, own, slab, g, overlap)?;
     }
     Ok(())
 }
 
-/// The vertical zones of a feature beside the other features.
+/// The vertical zones of a feature among the others.
 pub fn upright_zones(
     alloc: Global,
-    rects: &[Rect],
-    others: &[Rect],
+    slabs: &[Rect],
+    nodes: &[Node],
+    own: usize,
     rule: u32,
     overlap: u32,
 ) -> Result<Vec<Rect>, AllocError>
-    requires canonical { IsCanonical rects.now }
-    requires rects { AreWithin rects.now }
-    requires others { AreWithin others.now }
-    requires apart { (p : Pt) → Covers rects.now p → Covers others.now p → ⊥ }
-    ensures { IfOk result (λ v. (z : Rect) → Contains v.items z ↔ IsVerticalZone rule overlap (layer_of rects.now others.now) (Covers rects.now) z) }
+    requires canonical { IsCanonical slabs.now }
+    requires within { AreRectsWithin farthest slabs.now }
+    requires tree { IsTree nodes.now }
+    requires leaves { AreLeavesWithin nodes.now }
+    requires own { SameSquares (Covers slabs.now) (Covers (own_in nodes.now own)) }
+    requires apart { (p : Pt) → Covers slabs.now p → Covers (others_in nodes.now own) p → ⊥ }
+    ensures { IfOk result (λ v. (z : Rect) → Contains v.items z ↔ IsVerticalZone rule overlap (layer_of slabs.now (others_in nodes.now own)) (Covers slabs.now) z) }
 {
     let mut zones = Vec::new(alloc);
-    for slab in rects {
-        add_zones(alloc, &mut zones, rects, others, slab, rule, overlap)?;
+    for slab in slabs {
+        add_zones(alloc, &mut zones, nodes, own, slab, rule, overlap)?;
     }
     Ok(zones)
 }
