@@ -4,7 +4,7 @@
 mod links;
 mod reached;
 
-ghost use Rattle.std.specs.Prelude.{IfOk};
+ghost use Rattle.std.specs.Prelude.{◌↔◌, IsTrue, IfOk};
 ghost use Rattle.dpl_graph.specs.Levels.{AreEdgesBelow, AreLevels};
 ghost use Rattle.dpl_graph.specs.Laws.{LevelsShowOddCycles, OddRootsAreRoots, ReportedIsOdd, RootsShowOddCycles};
 
@@ -18,6 +18,13 @@ use std::alloc::{AllocError, Global};
 pub struct Levels {
     pub roots: Vec<Id>,
     pub levels: Vec<Id>,
+}
+
+/// Whether each edge joins two different numbers below `n`, the smaller first.
+pub fn are_edges_below(n: Id, edges: &[Edge]) -> bool
+    ensures { IsTrue result ↔ AreEdgesBelow n edges.now }
+{
+    edges.iter().all(|e| e.0 < e.1 && e.1 < n)
 }
 
 /// The root and the level of each number below `n`, in time linear in `n` and the number of edges.
@@ -46,3 +53,19 @@ pub fn odd_cycle_laws()
     ensures least { OddRootsAreRoots }
     ensures reported { ReportedIsOdd }
 {}
+
+#[cfg(test)]
+mod tests {
+    use super::*;
+    use std::test::Fail;
+
+    #[test]
+    fn finds_roots_and_levels(rt: HostRuntime) -> Result<(), Fail> {
+        let edges = [(1, 4), (0, 2), (2, 5), (3, 5), (0, 3)];
+        assert!(rt; are_edges_below(7, &edges));
+        let found = levels_of(rt.alloc(), 7, &edges)?;
+        assert_eq!(rt; found.roots.as_slice(), [0, 1, 0, 0, 1, 0, 6].as_slice());
+        assert_eq!(rt; found.levels.as_slice(), [0, 0, 1, 1, 1, 2, 0].as_slice());
+        Ok(())
+    }
+}
