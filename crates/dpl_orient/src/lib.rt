@@ -1,8 +1,11 @@
 //! The colours of pieces: which of the two masks each of them goes to.
 #![tactic(auto)]
 
+mod chart;
 mod colouring;
+mod crossing;
 mod mask;
+mod turning;
 
 pub use crate::colouring::orient;
 pub use crate::mask::{Colours, Mask};

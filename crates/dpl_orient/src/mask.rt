@@ -12,6 +12,17 @@ pub enum Mask {
     B,
 }
 
+impl Mask {
+    ghost use Rattle.dpl_orient.specs.Masks.{is_second};
+
+    /// The mask of a letter: `false` for mask A.
+    pub fn of(second: bool) -> Mask
+        ensures { is_second result ≡ second }
+    {
+        if second { Mask::B } else { Mask::A }
+    }
+}
+
 /// The mask of each piece, by the piece's number. A contract sees a list of truth values: false is mask A, true mask B.
 #[derive(Debug, Drop)]
 pub struct Colours {
