@@ -1,2 +1,3 @@
 pub mod Stars
 pub mod Sums
+pub mod Places

@@ -3,6 +3,8 @@
 
 mod joined;
 mod list;
+mod places;
+mod rows;
 mod sums;
 
 pub use crate::joined::Joined;

@@ -5,7 +5,10 @@ ghost use Rattle.dpl_stars.specs.declared.joined.Joined.TheVariants.{Odd};
 
 use crate::joined::Joined;
 use crate::list::StarList;
-use dpl_base::Edge;
+use crate::places::{placed, touched};
+use crate::rows::{is_levelled, rows};
+use dpl_base::{Edge, Id};
+use dpl_graph::levels_of;
 use std::alloc::{AllocError, Global};
 
 /// The summary of a list of edges: where they have no odd cycle, for each piece that one of them touches the least
@@ -14,7 +17,14 @@ pub fn stars(alloc: Global, edges: &[Edge]) -> Result<Joined, AllocError>
     requires { AreEdgePairs edges.now }
     ensures { IfOk result (λ joined. Sums edges.now joined) }
 {
-    Err(AllocError)
+    let pieces = touched(alloc, edges)?;
+    let placed = placed(alloc, &pieces, edges)?;
+    let levels = levels_of(alloc, pieces.len() as Id, &placed)?;
+    if is_levelled(&placed, &levels.levels) {
+        return Ok(Joined::Odd);
+    }
+    let rows = rows(alloc, &pieces, &levels.roots, &levels.levels)?;
+    Ok(Joined::Stars(StarList::of(rows)))
 }
 
 /// The summary of the edges of two summaries.
