@@ -2,6 +2,7 @@
 #![tactic(auto)]
 
 mod joined;
+mod links;
 mod list;
 mod places;
 mod rows;

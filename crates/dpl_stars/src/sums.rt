@@ -4,6 +4,7 @@ ghost use Rattle.dpl_stars.specs.Sums.{AreEdgePairs, Sums, SumsBoth};
 ghost use Rattle.dpl_stars.specs.declared.joined.Joined.TheVariants.{Odd};
 
 use crate::joined::Joined;
+use crate::links::links;
 use crate::list::StarList;
 use crate::places::{placed, touched};
 use crate::rows::{is_levelled, rows};
@@ -31,7 +32,17 @@ pub fn stars(alloc: Global, edges: &[Edge]) -> Result<Joined, AllocError>
 pub fn merge(alloc: Global, one: &Joined, other: &Joined) -> Result<Joined, AllocError>
     ensures { IfOk result (λ joined. SumsBoth one.now other.now joined) }
 {
-    Err(AllocError)
+    let Joined::Stars(rows) = one else {
+        return Ok(Joined::Odd);
+    };
+    let Joined::Stars(others) = other else {
+        return Ok(Joined::Odd);
+    };
+    let mut edges = links(alloc, rows.items())?;
+    let more = links(alloc, others.items())?;
+    edges.extend_from_slice(&more)?;
+    let joined = stars(alloc, &edges)?;
+    Ok(joined)
 }
 
 impl Joined {
