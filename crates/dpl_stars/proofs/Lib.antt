@@ -7,3 +7,5 @@ pub mod SameSums
 pub mod LinkLaws
 pub mod Linking
 pub mod Merging
+pub mod OneSummary
+pub mod SameGraph

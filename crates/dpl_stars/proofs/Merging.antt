@@ -7,9 +7,10 @@ use Rattle.dpl_stars.specs.declared.list.Star.{Star}
 use Rattle.dpl_stars.specs.declared.joined.Joined.{Joined}
 use Rattle.dpl_stars.specs.declared.joined.Joined.TheVariants.{Stars, Odd}
 use Rattle.dpl_stars.specs.Stars.{IsStarList}
-use Rattle.dpl_stars.specs.Sums.{AreEdgePairs, row_of, summary_of, Sums}
+use Rattle.dpl_stars.specs.Sums.{AreEdgePairs, row_of, summary_of, Sums, SumsBoth, IsTheSummaryOfBoth}
 use Rattle.dpl_stars.specs.Links.{AreLinks}
 use Rattle.dpl_stars.proofs.SameSums.{same-sums, carries-append, cycle-more, more-left, more-right}
+use Rattle.dpl_stars.proofs.OneSummary.{one-summary}
 use Rattle.dpl_stars.proofs.LinkLaws.{links-carried, graph-carried}
 
 pub merged : (es fs ls ms : List (ℕ × ℕ)) (rows others : List Star) (j : Joined) → IsStarList rows → IsStarList others → AreLinks rows rows ls → AreLinks others others ms → Sums (ls ++ ms) j →
@@ -32,3 +33,7 @@ odd-second es fs odd = cycle-more (graph_of fs) (graph_of (es ++ fs)) (more-righ
 pub odd-otherwise : (es : List (ℕ × ℕ)) (j : Joined) → ((rows : List Star) → j ≡ Stars rows → ⊥) → Sums es j → HasOddCycle (graph_of es)
 odd-otherwise es (Stars rows) none sums = absurd (none rows refl)
 odd-otherwise es Odd none sums = sums
+
+-- what sums up both is the summary of both
+pub only-summary : (j k both : Joined) → SumsBoth j k both → IsTheSummaryOfBoth j k both
+only-summary j k both sums es fs all e_pairs f_pairs first second whole = one-summary (es ++ fs) both all (sums es fs e_pairs f_pairs first second) whole

@@ -10,4 +10,4 @@ mod sums;
 
 pub use crate::joined::Joined;
 pub use crate::list::{Star, StarList};
-pub use crate::sums::{merge, stars};
+pub use crate::sums::{merge, one_summary, stars};

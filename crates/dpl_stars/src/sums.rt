@@ -1,6 +1,6 @@
 //! Summing up edges.
 ghost use Rattle.std.specs.Prelude.{◌≡◌, IfOk, [], IsTrue, ◌↔◌};
-ghost use Rattle.dpl_stars.specs.Sums.{AreEdgePairs, Sums, SumsBoth};
+ghost use Rattle.dpl_stars.specs.Sums.{AreEdgePairs, Sums, SumsBoth, IsTheSummaryOfBoth, IsOneSummary};
 ghost use Rattle.dpl_stars.specs.declared.joined.Joined.TheVariants.{Odd};
 
 use crate::joined::Joined;
@@ -30,7 +30,8 @@ pub fn stars(alloc: Global, edges: &[Edge]) -> Result<Joined, AllocError>
 
 /// The summary of the edges of two summaries.
 pub fn merge(alloc: Global, one: &Joined, other: &Joined) -> Result<Joined, AllocError>
-    ensures { IfOk result (λ joined. SumsBoth one.now other.now joined) }
+    ensures sums { IfOk result (λ joined. SumsBoth one.now other.now joined) }
+    ensures same { IfOk result (λ joined. IsTheSummaryOfBoth one.now other.now joined) }
 {
     let Joined::Stars(rows) = one else {
         return Ok(Joined::Odd);
@@ -44,6 +45,11 @@ pub fn merge(alloc: Global, one: &Joined, other: &Joined) -> Result<Joined, Allo
     let joined = stars(alloc, &edges)?;
     Ok(joined)
 }
+
+/// A list of edges has one summary.
+pub fn one_summary()
+    ensures { IsOneSummary }
+{}
 
 impl Joined {
     /// The summary of no edges.
