@@ -11,3 +11,6 @@ mod sums;
 pub use crate::joined::Joined;
 pub use crate::list::{Star, StarList};
 pub use crate::sums::{merge, one_summary, stars};
+
+#[cfg(test)]
+mod tests;
