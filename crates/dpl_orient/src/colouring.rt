@@ -1,12 +1,10 @@
 //! Flips components so that fewer stitch zones become stitches.
-ghost use Rattle.std.specs.Prelude.{◌≡◌, ◌<◌, length, IfOk};
+ghost use Rattle.std.specs.Prelude.{◌≡◌, ◌↔◌, length, IsTrue, IfOk};
 ghost use Rattle.dpl_stars.specs.Stars.{IsStarList};
 ghost use Rattle.dpl_orient.specs.Chart.{AreLow};
 ghost use Rattle.dpl_orient.specs.Crossings.{colours_of};
-ghost use Rattle.dpl_orient.specs.Oriented.{AreColoursOfRows};
-ghost use Rattle.dpl_orient.specs.Rooted.{ArePiecesBelow};
-ghost use Rattle.dpl_orient.specs.Rooted.{AreSidesBelow};
-ghost use Rattle.dpl_orient.specs.Oriented.{IsEvenBelow, AreColoursOf, ColoursWhatSums};
+ghost use Rattle.dpl_orient.specs.Oriented.{AreColoursOfRows, IsEvenBelow, AreColoursOf, ColoursWhatSums};
+ghost use Rattle.dpl_orient.specs.Rooted.{ArePiecesBelow, AreSidesBelow};
 
 use crate::chart::chart;
 use crate::crossing::{crossings, differs};
@@ -46,6 +44,23 @@ fn orient_rows(
     let flips = flips(alloc, n, &crossings)?;
     let colours = masks(alloc, &chart, &flips)?;
     Ok(colours)
+}
+
+/// Whether a summary has no odd cycle, and pieces below `n` alone.
+pub fn is_even_below(n: Id, joined: &Joined) -> bool
+    ensures { IsTrue result ↔ IsEvenBelow n joined.now }
+{
+    match joined {
+        Joined::Stars(rows) => rows.items().iter().all(|row| row.piece < n),
+        Joined::Odd => false,
+    }
+}
+
+/// Whether each zone's sides are below `n`.
+pub fn are_sides_below(n: Id, sides: &[(Id, Id)]) -> bool
+    ensures { IsTrue result ↔ AreSidesBelow n sides.now }
+{
+    sides.iter().all(|side| side.0 < n && side.1 < n)
 }
 
 /// The masks of the pieces below `n`, where `joined` sums up the conflicts and `sides` has the pieces on both sides of

@@ -7,5 +7,8 @@ mod crossing;
 mod mask;
 mod turning;
 
-pub use crate::colouring::orient;
+pub use crate::colouring::{are_sides_below, is_even_below, orient};
 pub use crate::mask::{Colours, Mask};
+
+#[cfg(test)]
+mod tests;

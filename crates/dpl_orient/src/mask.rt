@@ -52,4 +52,11 @@ impl Colours {
     {
         self.masks.as_slice()
     }
+
+    /// The masks, without taking memory.
+    pub fn into_vec(self) -> Vec<Mask>
+        ensures { map is_second result.items ≡ self }
+    {
+        self.masks
+    }
 }

@@ -12,14 +12,14 @@ use Rattle.dpl_spec.specs.Graphs.{graph_of}
 use Rattle.dpl_stars.specs.Places.{ends_of, edge_at, ArePlaced}
 
 -- the first element, or a later one
-contains_cases : {X : Type 0} (x : X) (xs : List X) (v : X) → Contains (x ∷ xs) v → (x ≡ v) ⊎ Contains xs v
+pub contains_cases : {X : Type 0} (x : X) (xs : List X) (v : X) → Contains (x ∷ xs) v → (x ≡ v) ⊎ Contains xs v
 contains_cases x xs v (zero, l, e) = inl e
 contains_cases x xs v (suc k, l, e) = inr (k, omega (arith, l), e)
 
-contains_first : {X : Type 0} (x : X) (xs : List X) → Contains (x ∷ xs) x
+pub contains_first : {X : Type 0} (x : X) (xs : List X) → Contains (x ∷ xs) x
 contains_first x xs = (0, omega arith, refl)
 
-contains_later : {X : Type 0} (x : X) (xs : List X) (v : X) → Contains xs v → Contains (x ∷ xs) v
+pub contains_later : {X : Type 0} (x : X) (xs : List X) (v : X) → Contains xs v → Contains (x ∷ xs) v
 contains_later x xs v (k, l, e) = (suc k, omega (arith, l), e)
 
 graph-more : (e : ℕ × ℕ) (es : List (ℕ × ℕ)) (u v : ℕ) → graph_of es u v → graph_of (e ∷ es) u v

@@ -1,5 +1,5 @@
 -- A summary as the definitions see it.
-use Rattle.std.specs.Prelude.{ℕ, ◌<◌, List, ◌++◌, map}
+use Rattle.std.specs.Prelude.{◌≡◌, ℕ, ◌<◌, List, ◌++◌, map}
 use Rattle.std.specs.List.{All}
 use Rattle.dpl_spec.specs.Graphs.{graph_of}
 use Rattle.dpl_spec.specs.Summary as summary
@@ -25,3 +25,11 @@ Sums edges j = summary.IsSummary (graph_of edges) (summary_of j)
 -- What sums up the edges of both: where one sums up some edges and the other sums up some, it sums up all of them.
 abbrev pub SumsBoth : Joined → Joined → Joined → Type 0
 SumsBoth j k both = (es fs : List (ℕ × ℕ)) → AreEdgePairs es → AreEdgePairs fs → Sums es j → Sums fs k → Sums (es ++ fs) both
+
+-- The one summary of both: where one sums up some edges and the other sums up some, it is what sums up all of them.
+abbrev pub IsTheSummaryOfBoth : Joined → Joined → Joined → Type 0
+IsTheSummaryOfBoth j k both = (es fs : List (ℕ × ℕ)) (all : Joined) → AreEdgePairs es → AreEdgePairs fs → Sums es j → Sums fs k → Sums (es ++ fs) all → both ≡ all
+
+-- a list of edges has one summary
+abbrev pub IsOneSummary : Type 0
+IsOneSummary = (es : List (ℕ × ℕ)) (j k : Joined) → Sums es j → Sums es k → j ≡ k

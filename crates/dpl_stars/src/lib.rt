@@ -2,6 +2,7 @@
 #![tactic(auto)]
 
 mod joined;
+mod links;
 mod list;
 mod places;
 mod rows;
@@ -9,4 +10,7 @@ mod sums;
 
 pub use crate::joined::Joined;
 pub use crate::list::{Star, StarList};
-pub use crate::sums::{merge, stars};
+pub use crate::sums::{merge, one_summary, stars};
+
+#[cfg(test)]
+mod tests;

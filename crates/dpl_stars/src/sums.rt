@@ -1,9 +1,10 @@
 //! Summing up edges.
 ghost use Rattle.std.specs.Prelude.{◌≡◌, IfOk, [], IsTrue, ◌↔◌};
-ghost use Rattle.dpl_stars.specs.Sums.{AreEdgePairs, Sums, SumsBoth};
+ghost use Rattle.dpl_stars.specs.Sums.{AreEdgePairs, Sums, SumsBoth, IsTheSummaryOfBoth, IsOneSummary};
 ghost use Rattle.dpl_stars.specs.declared.joined.Joined.TheVariants.{Odd};
 
 use crate::joined::Joined;
+use crate::links::links;
 use crate::list::StarList;
 use crate::places::{placed, touched};
 use crate::rows::{is_levelled, rows};
@@ -29,10 +30,26 @@ pub fn stars(alloc: Global, edges: &[Edge]) -> Result<Joined, AllocError>
 
 /// The summary of the edges of two summaries.
 pub fn merge(alloc: Global, one: &Joined, other: &Joined) -> Result<Joined, AllocError>
-    ensures { IfOk result (λ joined. SumsBoth one.now other.now joined) }
+    ensures sums { IfOk result (λ joined. SumsBoth one.now other.now joined) }
+    ensures same { IfOk result (λ joined. IsTheSummaryOfBoth one.now other.now joined) }
 {
-    Err(AllocError)
+    let Joined::Stars(rows) = one else {
+        return Ok(Joined::Odd);
+    };
+    let Joined::Stars(others) = other else {
+        return Ok(Joined::Odd);
+    };
+    let mut edges = links(alloc, rows.items())?;
+    let more = links(alloc, others.items())?;
+    edges.extend_from_slice(&more)?;
+    let joined = stars(alloc, &edges)?;
+    Ok(joined)
 }
+
+/// A list of edges has one summary.
+pub fn one_summary()
+    ensures { IsOneSummary }
+{}
 
 impl Joined {
     /// The summary of no edges.
