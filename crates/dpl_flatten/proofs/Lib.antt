@@ -1,2 +1,4 @@
 pub mod ListLaws
 pub mod LinkLaws
+pub mod LeastLaws
+pub mod ReachLaws

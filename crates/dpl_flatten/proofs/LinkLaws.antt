@@ -1,20 +1,26 @@
 -- The graph of a layout's references, as far as it was gone through.
 use Rattle.std.proofs.Common.{◌≡◌, ◌≢◌, ℕ, ◌+◌, ◌<◌, ◌≤◌, ◌⊎◌, inl, inr, ⊎_elim, List, [], ◌∷◌, ◌++◌, Option, Some, None, map, length, get_or, take, refl, sym, ap, ◌∙◌, subst, arith, length-append}
 use Rattle.std.proofs.lemmas.Bool.{cases_lt, cases_order}
-use Rattle.std.proofs.lemmas.List.{take_more, take_all, get_or_past, get_or_append_left}
+use Rattle.std.proofs.lemmas.List.{take_more, take_all, length-map, get_or_past, get_or_append_left}
 use Rattle.std.proofs.Math.Seq.{get_or-append_seam}
 use Rattle.std.proofs.lemmas.Option.{slice_get_past}
 use Rattle.std.proofs.lemmas.List.Elements.{Contains-append_left, Contains-append_right, Contains-append_cases, Contains-push, Contains-push_cases, Contains-get_or}
 use Rattle.std.specs.List.{Contains}
 use Rattle.std.specs.Option.{option_to_list}
-use Rattle.std.specs.Prelude.{◌↔◌, slice_get}
+use Rattle.std.specs.Prelude.{◌↔◌, slice_get, nat_eq}
+use Rattle.std.specs.Option.{option_and_then}
+use Rattle.std.specs.Cmp.Lexicographic.{pointwise}
+use Rattle.std.proofs.lemmas.List.Quantifiers.{position-Some}
 use Rattle.dpl_spec.proofs.Ordered.{Contains-head, Contains-later, Contains-cases, Contains-nil}
 use Rattle.dpl_flatten.proofs.ListLaws.{Contains-map, Contains-map_cases, Contains-option, Contains-the_option}
 use Rattle.dpl_format.specs.Tree.{Library, elements_at, elements_or_none}
 use Rattle.dpl_syntax.specs.declared.element.Element.{Element}
 use Rattle.dpl_syntax.specs.Elements.{element_seen}
-use Rattle.dpl_layout.specs.Structures.{target_of, Refers}
-use Rattle.dpl_links.specs.Graph.{LeadsTo, targets_at}
+use Rattle.dpl_format.specs.Tree.{Element as TreeElement, Structure, names_in}
+use Rattle.dpl_layout.specs.Elements.{reference_name}
+use Rattle.dpl_layout.specs.Structures.{target_of, structure_named, Refers, IsRoot, AreRoots}
+use Rattle.dpl_links.specs.Sources.{AreSources, IsSource}
+use Rattle.dpl_links.specs.Graph.{LeadsTo, targets_at, IsGraph}
 use Rattle.dpl_links.proofs.TakeLaws.{Contains-take_more, Contains-take_keeps, Contains-take_last}
 use Rattle.dpl_flatten.specs.Links.{IsGraphOf}
 
@@ -103,3 +109,36 @@ AreRows-all lib n graph e a = record {
       where
         none : length lib.structures ≤ k → ⊥
         none h = let c : Contains (elements_or_none (slice_get lib.structures k)) r.0 = r.1 in Contains-nil r.0 (rw (slice_get_past lib.structures k h) at c)
+
+-- a name that is found is one of a structure
+pub named_known : (lib : Library) (name : List ℕ) (j : ℕ) → structure_named lib name ≡ Some j → j < length lib.structures
+named_known lib name j e = let p = position-Some (pointwise nat_eq name) (names_in lib) j [] e in let h = p.0 in let s = length-map lib.structures (λ (s : Structure). s.name) in omega (arith, h, s)
+
+pub target_known : (lib : Library) (e : TreeElement) (j : ℕ) → target_of lib e ≡ Some j → j < length lib.structures
+target_known lib e j h = by_name (reference_name e.body) h
+  where
+    by_name : (o : Option (List ℕ)) → option_and_then (structure_named lib) o ≡ Some j → j < length lib.structures
+    by_name None h = let f : None ≡ Some j = h in cc
+    by_name (Some name) h = named_known lib name j h
+
+pub graph_known : (lib : Library) (graph : List (List ℕ)) → IsGraphOf lib graph → IsGraph graph
+graph_known lib graph g k j l = let r = g.leads k j l in omega (arith, target_known lib r.0 j r.2, g.each)
+
+-- the sources of the graph are the roots of the layout
+pub roots_are : (lib : Library) (graph : List (List ℕ)) (found : List ℕ) → IsGraphOf lib graph → AreSources graph found → AreRoots lib found
+roots_are lib graph found g s = record {
+  ordered = s.ordered;
+  exactly = λ k. (λ c. let i = (s.exactly k).0 c in record { known = omega (arith, i.known, g.each); unreferred = λ j r. i.alone j (g.refers j k r) }, λ r. (s.exactly k).1 (record { known = omega (arith, r.known, g.each); alone = λ j l. r.unreferred j (g.leads j k l) }));
+}
+
+pub roots_none : (lib : Library) (found : List ℕ) → AreRoots lib found → length found < 1 → AreRoots lib []
+roots_none lib [] r h = r
+roots_none lib (k ∷ ks) r h = absurd (omega arith)
+
+pub roots_one : (lib : Library) (found : List ℕ) → AreRoots lib found → 1 ≤ length found → length found < 2 → AreRoots lib (get_or found 0 0 ∷ [])
+roots_one lib [] r h l = absurd (omega arith)
+roots_one lib (k ∷ []) r h l = r
+roots_one lib (k ∷ j ∷ ks) r h l = absurd (omega arith)
+
+pub root_known : (lib : Library) (k : ℕ) → AreRoots lib (k ∷ []) → k < length lib.structures
+root_known lib k r = ((r.exactly k).0 (Contains-head k [])).known

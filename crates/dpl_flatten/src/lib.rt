@@ -3,33 +3,24 @@
 
 ghost use Rattle.std.specs.Prelude.{◌<◌, ◌↔◌, length, IfOk, IfErr, OnOk};
 ghost use Rattle.std.specs.List.{All};
-ghost use Rattle.std.specs.Option.{option_copied};
 ghost use Rattle.dpl_spec.specs.declared.Pt.{Pt};
 ghost use Rattle.dpl_spec.specs.Loops.{SomeLoopCovers, IsRectilinear, AreLoopsWithin, farthest};
-ghost use Rattle.dpl_layout.specs.Structures.{IsTop, IsTopFault};
 ghost use Rattle.dpl_layout.specs.Placements.{IsInLayer};
 ghost use Rattle.dpl_layout.specs.Faults.{IsFaultless, IsFirstFault};
 
 use dpl_base::Loop;
 
+mod count;
+mod least;
 mod links;
+mod missing;
+mod recursion;
+mod top;
 
+pub use crate::top::top_of;
 pub use dpl_layout::{ElementFault, FlattenFault, Layer, TopFault};
 use dpl_syntax::Library;
 use std::alloc::Global;
-
-/// The number of the top structure: the structure named `name`, or without a name the only one that no reference of the
-/// file names.
-///
-/// # Errors
-/// `NoTop` exactly where there is none, `ManyTops` exactly where there are several; `NoMemory`.
-pub fn top_of(alloc: Global, lib: &Library<'_>, name: Option<&str>) -> Result<u32, TopFault>
-    ensures top { IfOk result (λ k. IsTop lib.now (option_copied name.entry) k) }
-    ensures known { IfOk result (λ k. k < length lib.now.structures) }
-    ensures fault { IfErr result (λ f. IsTopFault lib.now (option_copied name.entry) f) }
-{
-    Err(TopFault::NoMemory)
-}
 
 /// The loops that the structure `top` places on a layer, itself and through all references below it: those of its
 /// boundaries and boxes of that layer and datatype, and one for each rectangle of its paths. Together they cover the

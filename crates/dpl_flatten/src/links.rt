@@ -1,10 +1,11 @@
 //! The graph of a layout's references.
 
-ghost use Rattle.std.specs.Prelude.{◌≡◌, ◌<◌, ◌↔◌, ◌++◌, ℕ, length, IfOk, OnOk};
+ghost use Rattle.std.specs.Prelude.{◌≡◌, ◌<◌, ◌↔◌, ◌++◌, ◌^◌, ℕ, length, IfOk, OnOk};
 ghost use Rattle.std.specs.List.{Contains};
 ghost use Rattle.std.specs.Option.{option_to_list};
 ghost use Rattle.dpl_syntax.specs.Elements.{element_seen};
 ghost use Rattle.dpl_layout.specs.Structures.{target_of, Refers};
+ghost use Rattle.dpl_links.specs.Graph.{IsGraph};
 ghost use Rattle.dpl_flatten.specs.Links.{IsGraphOf};
 
 use dpl_base::Listed;
@@ -51,7 +52,9 @@ fn targets(alloc: Global, lib: &Library<'_>, structure: u32) -> Result<Listed<u3
 
 /// The graph of the references.
 pub(crate) fn graph_of(alloc: Global, lib: &Library<'_>) -> Result<Vec<Listed<u32>>, AllocError>
-    ensures { IfOk result (λ v. IsGraphOf lib.now v.items) }
+    ensures graph { IfOk result (λ v. IsGraphOf lib.now v.items) }
+    ensures known { IfOk result (λ v. IsGraph v.items) }
+    ensures few { IfOk result (λ v. length v.items < 2 ^ 32) }
 {
     let mut graph = Vec::new(alloc);
     for structure in 0..lib.count() {

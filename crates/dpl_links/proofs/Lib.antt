@@ -1,3 +1,4 @@
 pub mod MarkLaws
 pub mod TakeLaws
 pub mod SpreadLaws
+pub mod SourceLaws

@@ -33,7 +33,7 @@ Spread-all graph from marks noted none s = record {
     nothing : (i : ℕ) → Contains noted i → ⊥
     nothing i (k, lt, e) = absurd (omega (arith, none))
 
-none_marked : (n k : ℕ) → IsMarked (replicate n false) k → ⊥
+pub none_marked : (n k : ℕ) → IsMarked (replicate n false) k → ⊥
 none_marked n k h = ⊎_elim (λ (l : k < n). let e = get_or-replicate n k false false l in let f : true ≡ false = sym h ∙ e in cc) (λ (l : n ≤ k). let p : length (replicate n false) ≤ k = rw (length-replicate n false) l in let e = get_or_past (replicate n false) k false p in let f : true ≡ false = sym h ∙ e in cc) (cases_lt k n)
 
 pub Spread-start : (graph : List (List ℕ)) (from : ℕ) (old marks : List Bool) (noted : List ℕ) → old ≡ replicate (length graph) false → Marks (λ k. k ≡ from) old marks [] noted → Spread graph from marks noted

@@ -22,7 +22,11 @@ fn mark(vertex: u32, marks: &mut Vec<bool>, noted: &mut Vec<u32>) -> Result<(), 
 }
 
 /// Marks vertices, and notes those that weren't marked.
-fn mark_all(vertices: &[u32], marks: &mut Vec<bool>, noted: &mut Vec<u32>) -> Result<(), AllocError>
+pub(crate) fn mark_all(
+    vertices: &[u32],
+    marks: &mut Vec<bool>,
+    noted: &mut Vec<u32>,
+) -> Result<(), AllocError>
     requires { All (λ k. k < length marks.old.items) vertices.now }
     ensures { OnOk result (Marks (Contains vertices.now) marks.old.items marks.new.items noted.old.items noted.new.items) }
 {
@@ -33,7 +37,7 @@ fn mark_all(vertices: &[u32], marks: &mut Vec<bool>, noted: &mut Vec<u32>) -> Re
 }
 
 /// So many marks, none of which is set.
-fn unset(alloc: Global, count: usize) -> Result<Vec<bool>, AllocError>
+pub(crate) fn unset(alloc: Global, count: usize) -> Result<Vec<bool>, AllocError>
     ensures { IfOk result (λ v. v.items ≡ replicate count false) }
 {
     vec![in alloc; false; count]

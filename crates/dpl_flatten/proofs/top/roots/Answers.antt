@@ -1,0 +1,8 @@
+use Rattle.dpl_flatten.proofs.LinkLaws.{roots_are}
+use Rattle.dpl_flatten.proofs.top.roots.Goals as goal
+
+pub find_sources-requires-clause-graph : goal.find_sources-requires-clause-graph
+find_sources-requires-clause-graph c = rw c.as_slice.ensures.value c.in_ok-graph.ensures.known
+
+pub returns : goal.returns
+returns c = roots_are c.args.lib.now c.in_ok-graph.graph.items c.in_ok-found.found.items c.in_ok-graph.ensures.graph (rw c.as_slice.ensures.value at c.in_ok-found.ensures)

@@ -1,0 +1,38 @@
+-- The least offset of the elements of which a fact holds.
+use Rattle.std.specs.Prelude.{◌≡◌, ℕ, ◌<◌, ◌≤◌, ◌⊎◌, min, Bool, List, Option, Some, None}
+use Rattle.std.specs.List.{Contains}
+use Rattle.dpl_format.specs.Tree.{Library, Element, elements_at}
+use Rattle.dpl_layout.specs.Elements.{reference_name}
+use Rattle.dpl_layout.specs.Faults.{Finding}
+use Rattle.dpl_links.specs.Graph.{IsMarked}
+
+-- the least offset of an element that has it, and None where none has it
+abbrev pub IsLeastOf : Finding → Option ℕ → Type 0
+IsLeastOf P None = (k : ℕ) (e : Element) → ¬ P k e
+IsLeastOf P (Some at) = ((k : ℕ) × (e : Element) × P k e × (e.at ≡ at)) × ((k : ℕ) (e : Element) → P k e → at ≤ e.at)
+
+abbrev pub earlier : Option ℕ → Option ℕ → Option ℕ
+earlier None b = b
+earlier (Some a) None = Some a
+earlier (Some a) (Some b) = Some (min a b)
+
+-- it holds, and the element is one of these of structure k
+abbrev pub Among : ℕ → List Element → Finding → Finding
+Among k es P i e = (i ≡ k) × Contains es e × P k e
+
+-- it holds, and the element is one of a marked structure below n
+abbrev pub AmongMarked : Library → List Bool → ℕ → Finding → Finding
+AmongMarked lib marks n P i e = (i < n) × IsMarked marks i × Contains (elements_at lib i) e × P i e
+
+-- the element names some structure
+abbrev pub IsReference : Element → Type 0
+IsReference e = (name : List ℕ) × (reference_name e.body ≡ Some name)
+
+-- there is one already, at this offset or before it
+abbrev pub IsAtMost : Option ℕ → ℕ → Type 0
+IsAtMost None at = ⊥
+IsAtMost (Some first) at = first ≤ at
+
+-- The least offset was brought up to one more element. One behind the least offset needs no look.
+abbrev pub IsNoted : Finding → ℕ → Element → Option ℕ → Option ℕ → Type 0
+IsNoted P k e first new = ((new ≡ earlier first (Some e.at)) × P k e) ⊎ (((new ≡ first) × ¬ P k e) ⊎ ((new ≡ first) × IsAtMost first e.at))

@@ -1,0 +1,110 @@
+//! How many points a layer has in all its placements, counted structure by structure.
+
+ghost use Rattle.std.specs.Prelude.{◌≡◌, ◌<◌, ◌≤◌, ◌*◌, ◌^◌, ◌/◌, length, min, sum_by, slice_index, if◌then◌else◌, IfOk};
+ghost use Rattle.std.specs.List.{All};
+ghost use Rattle.dpl_format.specs.Tree.{elements_at};
+ghost use Rattle.dpl_syntax.specs.Elements.{body_seen, element_seen};
+ghost use Rattle.dpl_layout.specs.Elements.{point_count, columns_of, rows_of, is_on as is_on_layer};
+ghost use Rattle.dpl_layout.specs.Points.{points_by};
+ghost use Rattle.dpl_flatten.specs.Totals.{ceiling, AreTotals};
+
+use crate::links::target;
+use dpl_layout::Layer;
+use dpl_links::slot_at;
+use dpl_syntax::{Body, Element, Library};
+use std::alloc::{AllocError, Global};
+
+/// One more than the most points that a layer may have. Counts stop there.
+const CEILING: u64 = 16_777_217;
+
+/// Whether an element of this layer and datatype lies on the chosen layer.
+pub(crate) fn is_on(chosen: Layer, layer: u16, datatype: u16) -> bool
+    ensures { result ≡ is_on_layer chosen layer datatype }
+{
+    layer == chosen.layer && datatype == chosen.datatype
+}
+
+/// How many points an element counts on the chosen layer.
+fn own_points(chosen: Layer, body: &Body<'_>) -> u64
+    ensures value { result ≡ point_count chosen (body_seen body.now) }
+    ensures small { result < 2 ^ 61 }
+{
+    match *body {
+        Body::Boundary {
+            layer,
+            datatype,
+            xy,
+        } => points_where(is_on(chosen, layer, datatype), xy),
+        Body::BoxShape { layer, boxtype, xy } => points_where(is_on(chosen, layer, boxtype), xy),
+        Body::Path {
+            layer,
+            datatype,
+            width,
+            xy,
+            ..
+        } => points_where(
+            is_on(chosen, layer, datatype) && width.unwrap_or(0) != 0,
+            xy,
+        ),
+        _ => 0,
+    }
+}
+
+/// How many copies a reference places, and 0 where an element is none.
+fn copies_of(body: &Body<'_>) -> u64
+    ensures value { result ≡ columns_of (body_seen body.now) * rows_of (body_seen body.now) }
+    ensures small { result ≤ 2 ^ 30 }
+{
+    match *body {
+        Body::Sref { .. } => 1,
+        Body::Aref { columns, rows, .. } => columns.unsigned_abs() as u64
+            * rows.unsigned_abs() as u64,
+        _ => 0,
+    }
+}
+
+/// How many points an element places, where its reference leads to a structure with this total.
+fn points_of(lib: &Library<'_>, chosen: Layer, element: &Element<'_>, totals: &[u32]) -> u64
+    requires { All (λ n. n ≤ ceiling) totals.now }
+    ensures value { result ≡ points_by lib.now chosen (λ j. slice_index totals.now j) (element_seen element.now) }
+    ensures small { result < 2 ^ 62 }
+{
+    let own = own_points(chosen, &element.body);
+    let below = match target(lib, element) {
+        Some(number) => total_at(totals, number),
+        None => 0,
+    };
+    own + copies_of(&element.body) * below
+}
+
+/// How many points a structure places, up to the ceiling.
+fn total_of(lib: &Library<'_>, chosen: Layer, structure: u32, totals: &[u32]) -> u32
+    requires known { structure < length lib.now.structures }
+    requires totals { All (λ n. n ≤ ceiling) totals.now }
+    ensures { result ≡ min (sum_by (points_by lib.now chosen (λ j. slice_index totals.now j)) (elements_at lib.now structure)) ceiling }
+{
+    let mut total = 0u64;
+    for element in lib.elements(structure) {
+        total = (total + points_of(lib, chosen, element, totals)).min(CEILING);
+    }
+    total as u32
+}
+
+fn total_at(totals: &[u32], structure: u32) -> u64
+    requires { All (λ n. n ≤ ceiling) totals.now }
+    ensures value { result ≡ slice_index totals.now structure }
+    ensures small { result ≤ ceiling }
+{
+    match totals.get(structure as usize) {
+        Some(total) => *total as u64,
+        None => 0,
+    }
+}
+
+/// How many points are in the data of XY, where they count.
+fn points_where(counts: bool, xy: &[u8]) -> u64
+    ensures value { result ≡ (if counts then length xy.now / 8 else 0) }
+    ensures small { result < 2 ^ 61 }
+{
+    if counts { xy.len() as u64 / 8 } else { 0 }
+}
