@@ -2,5 +2,9 @@
 #![tactic(auto)]
 
 mod bytes;
+mod painting;
+mod pair;
 
 pub use bytes::file_bytes;
+pub use painting::masks;
+pub use pair::Masks;

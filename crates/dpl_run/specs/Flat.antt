@@ -46,13 +46,13 @@ piece_line p = record { b = p.0; key = p.1 }
 abbrev pub no_zone : Zone
 no_zone = record { rect = record { x0 = pos 0; y0 = pos 0; x1 = pos 0; y1 = pos 0 }; feature = 0 }
 
--- a zone of the cut, with its two sides
-abbrev pub stitch_line : Cut → ℕ → StitchLine
-stitch_line c k = record { rect = (slice_index_or c.zones k no_zone).rect; p = (slice_index_or c.sides k (0, 0)).0; q = (slice_index_or c.sides k (0, 0)).1 }
+-- a zone, with its two sides
+abbrev pub stitch_line : List Zone → List (ℕ × ℕ) → ℕ → StitchLine
+stitch_line zones sides k = record { rect = (slice_index_or zones k no_zone).rect; p = (slice_index_or sides k (0, 0)).0; q = (slice_index_or sides k (0, 0)).1 }
 
 -- a piece of the cycle, with its least square
-abbrev pub place_line : Cut → ℕ → PlaceLine
-place_line c k = record { piece = k; key = slice_index_or c.keys k (at (pos 0) (pos 0)) }
+abbrev pub place_line : List Pt → ℕ → PlaceLine
+place_line keys k = record { piece = k; key = slice_index_or keys k (at (pos 0) (pos 0)) }
 
 -- two squares of the two sets that are near
 pub record AreNearAt (rule : ℕ) (a b : Region) (near : NearLine) : Type 0 where
@@ -74,29 +74,29 @@ pub record AreNearest (rule : ℕ) (pieces : List (List Rect)) (cycle : List ℕ
   pub pair : (k : ℕ) (d : NearLine) → k < length cycle
       → IsNearest rule (part_at pieces (slice_index cycle k)) (part_at pieces (slice_index cycle ((k + 1) % length cycle))) (slice_index_or near k d)
 
--- the masks of a layer whose conflict graph has no odd cycle
-pub record IsPainted (rule overlap : ℕ) (layer : List Rect) (p : Painted) : Type 0 where
-  pub cut : Cut
+-- the masks of a cut whose conflict graph has no odd cycle
+pub record IsPaintedCut (rule overlap : ℕ) (cut : Cut) (p : Painted) : Type 0 where
   pub masks : Masks
-  pub is_cut : IsCut rule overlap (Covers layer) cut
   pub even : ¬ HasOddCycle (conflicts rule cut)
   pub are_masks : AreMasks rule cut masks
-  pub is : p ≡ record { a = masks.a; b = masks.b; head = head_of rule overlap cut; pieces = map piece_line (zip are_masks.colours cut.keys); stitches = map (stitch_line cut) masks.stitches }
+  pub is : p ≡ record { a = masks.a; b = masks.b; head = head_of rule overlap cut; pieces = map piece_line (zip are_masks.colours cut.keys); stitches = map (stitch_line cut.zones cut.sides) masks.stitches }
 
--- the reported cycle of a layer whose conflict graph has an odd one
-pub record IsClash (rule overlap : ℕ) (layer : List Rect) (x : Clash) : Type 0 where
-  pub cut : Cut
+-- the reported cycle of a cut whose conflict graph has an odd one
+pub record IsClashOfCut (rule overlap : ℕ) (cut : Cut) (x : Clash) : Type 0 where
   pub cycle : List ℕ
-  pub is_cut : IsCut rule overlap (Covers layer) cut
   pub odd : HasOddCycle (conflicts rule cut)
   pub reported : IsReported (conflicts rule cut) cycle
   pub nearest : AreNearest rule cut.pieces cycle x.near
   pub head : x.head ≡ head_of rule overlap cut
-  pub places : x.cycle ≡ map (place_line cut) cycle
+  pub places : x.cycle ≡ map (place_line cut.keys) cycle
 
+abbrev pub IsFlatCut : ℕ → ℕ → Cut → Flat → Type 0
+IsFlatCut rule overlap cut (Paints p) = IsPaintedCut rule overlap cut p
+IsFlatCut rule overlap cut (Clashes x) = IsClashOfCut rule overlap cut x
+
+-- the decomposition of a layer, by its features, zones and pieces
 abbrev pub IsFlat : ℕ → ℕ → List Rect → Flat → Type 0
-IsFlat rule overlap layer (Paints p) = IsPainted rule overlap layer p
-IsFlat rule overlap layer (Clashes x) = IsClash rule overlap layer x
+IsFlat rule overlap layer flat = (cut : Cut) × IsCut rule overlap (Covers layer) cut × IsFlatCut rule overlap cut flat
 
 -- lines within the grammar of certificates, and slabs within the range of a layer
 pub record FitsPainted (p : Painted) : Type 0 where

@@ -9,12 +9,14 @@ use Rattle.dpl_run.specs.Flat.{Flat, Clashes, Paints, Painted as PaintedAs, Clas
 use Rattle.dpl_run.specs.declared.output.Output.{Output}
 use Rattle.dpl_run.specs.declared.output.Write.{Write}
 use Rattle.dpl_run.specs.declared.layer.Layer.{Layer}
+use Rattle.dpl_run.specs.declared.cut.LayerCut.{LayerCut}
+use Rattle.dpl_spec.specs.Decomposition.{Cut}
 use Rattle.dpl_run.specs.declared.fault.LayerFault.{LayerFault}
 use Rattle.dpl_run.specs.declared.fault.LayerFault.TheVariants.{NoMemory, Refused}
-use Rattle.dpl_run.specs.declared.decompose.Painted.{Painted}
-use Rattle.dpl_run.specs.declared.decompose.Clash.{Clash}
-use Rattle.dpl_run.specs.declared.decompose.Decomposed.{Decomposed}
-use Rattle.dpl_run.specs.declared.decompose.Decomposed.TheVariants.{Masks, Cycle}
+use Rattle.dpl_run.specs.declared.decomposed.Painted.{Painted}
+use Rattle.dpl_run.specs.declared.decomposed.Clash.{Clash}
+use Rattle.dpl_run.specs.declared.decomposed.Decomposed.{Decomposed}
+use Rattle.dpl_run.specs.declared.decomposed.Decomposed.TheVariants.{Masks, Cycle}
 
 abbrev pub write_view : Write → Text × List ℕ
 write_view w = (w.name.now, w.bytes.items)
@@ -44,3 +46,6 @@ IsLayerFault v bytes (Refused name at) = IsLayout v bytes (Faulty name at)
 abbrev pub IsLayerFaultIn : SplitValues → Library → LayerFault → Type 0
 IsLayerFaultIn v lib NoMemory = Unit {0}
 IsLayerFaultIn v lib (Refused name at) = IsFaultIn v lib name at
+
+abbrev pub cut_view : LayerCut → Cut
+cut_view c = record { features = c.features; zones = c.pieces.zones; pieces = c.pieces.parts; owners = c.pieces.owners; keys = c.pieces.keys; sides = c.pieces.sides }

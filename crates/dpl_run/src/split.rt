@@ -9,7 +9,8 @@ ghost use Rattle.dpl_run.specs.Split.{Decides, IsSplit, certified, clash as clas
 ghost use Rattle.dpl_run.specs.Program.{IsInput, IsMade};
 ghost use Rattle.dpl_run.specs.View.{clash_view, flat_view, output_view, painted_view, write_view};
 
-use crate::decompose::{Clash, Decomposed, Painted, decompose};
+use crate::decompose::decompose;
+use crate::decomposed::{Clash, Decomposed, Painted};
 use crate::fault::LayerFault;
 use crate::layer::layer_of;
 use crate::output::{Output, Write};
