@@ -11,9 +11,9 @@ use Rattle.dpl_spec.specs.declared.Zone.{Zone}
 use Rattle.dpl_spec.specs.Squares.{Region, SameSquares, Covers, IsSolidWithin}
 use Rattle.dpl_spec.specs.Loops.{farthest}
 use Rattle.dpl_spec.specs.Zones.{at, IsKeptZone, turned, part_at}
-use Rattle.dpl_slabs.specs.Parts.{AreApart, AreParts}
+use Rattle.dpl_slabs.specs.Parts.{AreApart, AreParts, union_of}
 use Rattle.dpl_zone.specs.Rows.{layer_of}
-use Rattle.dpl_zone.specs.Layers.{union_of, AreOthers, AreLeavesOf, IsPartZone}
+use Rattle.dpl_zone.specs.Layers.{AreOthers, AreLeavesOf, IsPartZone}
 use Rattle.dpl_zone.specs.declared.tree.Node.{Node}
 use Rattle.dpl_zone.specs.declared.tree.Item.{Item}
 use Rattle.dpl_zone.specs.Trees.{IsTree, HasLeaf, HasItem, AreLeavesWithin, others_in, own_in}
@@ -71,7 +71,7 @@ kept-union rule overlap parts k others k_in h z = (
   kept-as rule overlap (union_of parts) (layer_of (get_or parts k []) others) (Covers (get_or parts k [])) (same_back (layer_of (get_or parts k []) others) (union_of parts) (layer-is_union parts k others k_in h)) z,
 )
 
-same_zone : (z w : Zone) → z.rect ≡ w.rect → z.feature ≡ w.feature → z ≡ w
+pub same_zone : (z w : Zone) → z.rect ≡ w.rect → z.feature ≡ w.feature → z ≡ w
 same_zone z w e f =
     let mk : Rect → ℕ → Zone = λ r k. record { rect = r; feature = k } in
     ap (λ r. mk r z.feature) e ∙ ap (λ k. mk w.rect k) f

@@ -1,16 +1,12 @@
 -- The features of a layer, and zones by feature.
 use Rattle.std.specs.Prelude.{◌≢◌, ℕ, ◌<◌, ◌↔◌, [], List, length, slice_index_or}
-use Rattle.std.specs.List.{Any, Contains}
+use Rattle.std.specs.List.{Contains}
 use Rattle.dpl_spec.specs.declared.Rect.{Rect}
 use Rattle.dpl_spec.specs.declared.Zone.{Zone}
-use Rattle.dpl_spec.specs.Squares.{Region, Covers}
+use Rattle.dpl_slabs.specs.Parts.{union_of}
 use Rattle.dpl_zone.specs.declared.tree.Node.{Node}
 use Rattle.dpl_zone.specs.Trees.{HasLeaf}
 use Rattle.dpl_spec.specs.Zones.{IsKeptZone, part_at}
-
--- the squares of all parts
-abbrev pub union_of : List (List Rect) → Region
-union_of parts p = Any (λ part. Covers part p) parts
 
 -- the rectangles of the first n parts but number k
 abbrev pub AreOthers : List (List Rect) → ℕ → ℕ → List Rect → Type 0

@@ -2,9 +2,9 @@
 ghost use Rattle.std.specs.Prelude.{◌≡◌, ◌<◌, ◌≤◌, ◌⊎◌, ◌↔◌, map, IfOk, OnOk, length};
 ghost use Rattle.std.specs.List.{Contains};
 ghost use Rattle.dpl_spec.specs.declared.Zone.{Zone};
-ghost use Rattle.dpl_slabs.specs.Parts.{AreParts};
+ghost use Rattle.dpl_slabs.specs.Parts.{AreParts, union_of};
 ghost use Rattle.dpl_spec.specs.Zones.{AreZones};
-ghost use Rattle.dpl_zone.specs.Layers.{AreLeavesOf, IsPartZone, union_of};
+ghost use Rattle.dpl_zone.specs.Layers.{AreLeavesOf, IsPartZone};
 ghost use Rattle.dpl_zone.specs.Trees.{IsTree, turned_node};
 
 use crate::items::items_of;
