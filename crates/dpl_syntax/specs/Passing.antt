@@ -1,8 +1,8 @@
 -- What reading on from an offset finds.
-use Rattle.std.specs.Prelude.{◌≡◌, ℕ, Bool, true, false, ◌==◌, ◌||◌, ◌&&◌, not, List, [], ◌∷◌, ◌++◌, map}
+use Rattle.std.specs.Prelude.{◌≡◌, ℕ, ◌<◌, ◌≤◌, length, Ok, Bool, true, false, ◌==◌, ◌||◌, ◌&&◌, not, List, [], ◌∷◌, ◌++◌, map}
 use Rattle.dpl_format.specs.Kinds as kinds
 use Rattle.dpl_format.specs.Faults.{Fault}
-use Rattle.dpl_format.specs.Records.{Record}
+use Rattle.dpl_format.specs.Records.{Record, record_at}
 use Rattle.dpl_format.specs.Grammar.{Grammar, both, many, a, element}
 use Rattle.dpl_format.specs.Layout.{IsFirstFault}
 use Rattle.dpl_format.specs.Tree as tree
@@ -67,3 +67,38 @@ pub record IsElement (e : tree.Element) (rs : List Record) : Type 0 where
   pub are : AreInner inner
   pub ends : endel.kind ≡ kinds.endel
   pub is : e ≡ element_of (first, inner)
+
+-- the next record, which begins an element
+pub record IsNextElement (bytes : List ℕ) (at : ℕ) (r : Record) : Type 0 where
+  pub found : record_at bytes at ≡ Ok r
+  pub after : at < r.next
+  pub within : r.next ≤ length bytes
+  pub begins : kinds.begins_element r.kind ≡ true
+
+-- the next record begins none
+abbrev pub IsNoElement : List ℕ → ℕ → Type 0
+IsNoElement bytes at = (r : Record) × (record_at bytes at ≡ Ok r) × (kinds.begins_element r.kind ≡ false)
+
+abbrev pub endstr_first : Grammar → Grammar
+endstr_first rest = both (a kinds.endstr) rest
+
+abbrev pub elements_first : Grammar → Grammar
+elements_first rest = both (many element) (endstr_first rest)
+
+abbrev pub class_first : Grammar → Grammar
+class_first rest = both (many (a kinds.structure_class)) (elements_first rest)
+
+-- types that stand within a structure, behind its name
+abbrev pub is_calm : ℕ → Bool
+is_calm k = not (k == kinds.bgnstr) && (not (k == kinds.endstr) && (not (k == kinds.strname) && not (k == kinds.endlib)))
+
+abbrev pub AreCalm : List Record → Type 0
+AreCalm [] = Unit {0}
+AreCalm (r ∷ rs) = (is_calm r.kind ≡ true) × AreCalm rs
+
+-- the records of these elements, whatever follows, and nothing that begins or ends a structure
+pub record AreElements (es : List tree.Element) (rs : List Record) : Type 0 where
+  pub each : List (Record × List Record)
+  pub split : (more : List Record) → parts kinds.begins_element kinds.endel (rs ++ more) ≡ each ++ parts kinds.begins_element kinds.endel more
+  pub are : map element_of each ≡ es
+  pub calm : AreCalm rs

@@ -76,6 +76,7 @@ impl<'a> Reader<'a> {
     fn take_turns(&mut self) -> Result<Turns<'a>, SyntaxFault>
         ensures exact { Answers (λ t. (turns_seen t, self.new.at)) result (item_at self.old.bytes.now turned self.old.at) }
         ensures sized { IfOk result (λ t. IsSizedTurns t) }
+        ensures on { self.old.at ≤ self.new.at }
         ensures bytes { self.new.bytes ≡ self.old.bytes }
     {
         let Some(strans) = self.take_if(kinds::STRANS)? else {
@@ -90,6 +91,7 @@ impl<'a> Reader<'a> {
     pub(crate) fn boundary(&mut self) -> Result<Body<'a>, SyntaxFault>
         ensures exact { Answers (λ b. (body_seen b, self.new.at)) result (body_at self.old.bytes.now format.boundary self.old.at) }
         ensures points { IfOk result (λ b. HasPoints (body_seen b)) }
+        ensures on { self.old.at ≤ self.new.at }
         ensures bytes { self.new.bytes ≡ self.old.bytes }
     {
         let _flags = self.take_if(kinds::ELFLAGS)?;
@@ -108,6 +110,7 @@ impl<'a> Reader<'a> {
     pub(crate) fn path(&mut self) -> Result<Body<'a>, SyntaxFault>
         ensures exact { Answers (λ b. (body_seen b, self.new.at)) result (body_at self.old.bytes.now format.path self.old.at) }
         ensures points { IfOk result (λ b. HasPoints (body_seen b)) }
+        ensures on { self.old.at ≤ self.new.at }
         ensures bytes { self.new.bytes ≡ self.old.bytes }
     {
         let _flags = self.take_if(kinds::ELFLAGS)?;
@@ -134,6 +137,7 @@ impl<'a> Reader<'a> {
     pub(crate) fn sref(&mut self) -> Result<Body<'a>, SyntaxFault>
         ensures exact { Answers (λ b. (body_seen b, self.new.at)) result (body_at self.old.bytes.now format.sref self.old.at) }
         ensures points { IfOk result (λ b. HasPoints (body_seen b)) }
+        ensures on { self.old.at ≤ self.new.at }
         ensures bytes { self.new.bytes ≡ self.old.bytes }
     {
         let _flags = self.take_if(kinds::ELFLAGS)?;
@@ -152,6 +156,7 @@ impl<'a> Reader<'a> {
     pub(crate) fn aref(&mut self) -> Result<Body<'a>, SyntaxFault>
         ensures exact { Answers (λ b. (body_seen b, self.new.at)) result (body_at self.old.bytes.now format.aref self.old.at) }
         ensures points { IfOk result (λ b. HasPoints (body_seen b)) }
+        ensures on { self.old.at ≤ self.new.at }
         ensures bytes { self.new.bytes ≡ self.old.bytes }
     {
         let _flags = self.take_if(kinds::ELFLAGS)?;
@@ -173,6 +178,7 @@ impl<'a> Reader<'a> {
     pub(crate) fn text(&mut self) -> Result<Body<'a>, SyntaxFault>
         ensures exact { Answers (λ b. (body_seen b, self.new.at)) result (body_at self.old.bytes.now format.text self.old.at) }
         ensures points { IfOk result (λ b. HasPoints (body_seen b)) }
+        ensures on { self.old.at ≤ self.new.at }
         ensures bytes { self.new.bytes ≡ self.old.bytes }
     {
         let _flags = self.take_if(kinds::ELFLAGS)?;
@@ -197,6 +203,7 @@ impl<'a> Reader<'a> {
     pub(crate) fn node(&mut self) -> Result<Body<'a>, SyntaxFault>
         ensures exact { Answers (λ b. (body_seen b, self.new.at)) result (body_at self.old.bytes.now format.node self.old.at) }
         ensures points { IfOk result (λ b. HasPoints (body_seen b)) }
+        ensures on { self.old.at ≤ self.new.at }
         ensures bytes { self.new.bytes ≡ self.old.bytes }
     {
         let _flags = self.take_if(kinds::ELFLAGS)?;
@@ -215,6 +222,7 @@ impl<'a> Reader<'a> {
     pub(crate) fn box_shape(&mut self) -> Result<Body<'a>, SyntaxFault>
         ensures exact { Answers (λ b. (body_seen b, self.new.at)) result (body_at self.old.bytes.now format.box self.old.at) }
         ensures points { IfOk result (λ b. HasPoints (body_seen b)) }
+        ensures on { self.old.at ≤ self.new.at }
         ensures bytes { self.new.bytes ≡ self.old.bytes }
     {
         let _flags = self.take_if(kinds::ELFLAGS)?;
@@ -234,6 +242,7 @@ impl<'a> Reader<'a> {
         requires { IsTrue (format.begins_element kind) }
         ensures exact { Answers (λ b. (body_seen b, self.new.at)) result (body_at self.old.bytes.now kind self.old.at) }
         ensures points { IfOk result (λ b. HasPoints (body_seen b)) }
+        ensures on { self.old.at ≤ self.new.at }
         ensures bytes { self.new.bytes ≡ self.old.bytes }
     {
         match kind {

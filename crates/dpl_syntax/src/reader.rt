@@ -33,6 +33,7 @@ impl<'a> Reader<'a> {
         ensures exact { Answers (λ r. (seen r, self.new.at)) result (take self.old.bytes.now kind self.old.at) }
         ensures sized { IfOk result (λ r. IsSizeOf kind (length r.body.now)) }
         ensures within { IfOk result (λ r. (r.at ≡ self.old.at) × (r.at < r.next) × (r.next ≤ length self.old.bytes.now) × (self.new.at ≡ r.next)) }
+        ensures on { self.old.at ≤ self.new.at }
         ensures bytes { self.new.bytes ≡ self.old.bytes }
     {
         let record = self.peek()?;
@@ -47,7 +48,8 @@ impl<'a> Reader<'a> {
     pub(crate) fn take_if(&mut self, kind: u8) -> Result<Option<Record<'a>>, SyntaxFault>
         ensures exact { Answers (λ r. (option_map seen r, self.new.at)) result (take_if self.old.bytes.now kind self.old.at) }
         ensures sized { IfOk result (λ o. IfSome o (λ r. IsSizeOf kind (length r.body.now))) }
-        ensures on { IfOk result (λ o. IfSome o (λ r. self.old.at < self.new.at)) }
+        ensures further { IfOk result (λ o. IfSome o (λ r. self.old.at < self.new.at)) }
+        ensures on { self.old.at ≤ self.new.at }
         ensures bytes { self.new.bytes ≡ self.old.bytes }
     {
         let record = self.peek()?;
@@ -61,6 +63,7 @@ impl<'a> Reader<'a> {
     /// The SNAME of a reference, whose name isn't empty.
     pub(crate) fn take_name(&mut self) -> Result<Record<'a>, SyntaxFault>
         ensures exact { Answers (λ r. (seen r, self.new.at)) result (take_name self.old.bytes.now self.old.at) }
+        ensures on { self.old.at ≤ self.new.at }
         ensures bytes { self.new.bytes ≡ self.old.bytes }
     {
         let record = self.take(kinds::SNAME)?;
@@ -74,6 +77,7 @@ impl<'a> Reader<'a> {
     pub(crate) fn take_points(&mut self, len: usize) -> Result<Record<'a>, SyntaxFault>
         ensures exact { Answers (λ r. (seen r, self.new.at)) result (take_points self.old.bytes.now len self.old.at) }
         ensures len { IfOk result (λ r. length r.body.now ≡ len) }
+        ensures on { self.old.at ≤ self.new.at }
         ensures bytes { self.new.bytes ≡ self.old.bytes }
     {
         let record = self.take(kinds::XY)?;

@@ -1,4 +1,4 @@
-use Rattle.std.proofs.Common.{◌≡◌, ℕ, List, Option, Some, None, Result, Ok, Err, refl, sym, subst, ap, ◌∙◌}
+use Rattle.std.proofs.Common.{◌≡◌, ℕ, List, Option, Some, None, Result, Ok, Err, refl, sym, subst, ap, ◌∙◌, arith}
 use Rattle.std.proofs.lemmas.Result.{err_from_is_err_and}
 use Rattle.dpl_format.specs.Kinds as kinds
 use Rattle.dpl_format.specs.Faults.{Fault}
@@ -22,6 +22,7 @@ loop-self-preserved c =
     let second = rw (c.in_ok-take_if.ensures.bytes, c.loop-self.invariant.bytes) at c.in_ok-take.ensures.exact in
     record {
       bytes = c.in_ok-take.ensures.bytes ∙ c.in_ok-take_if.ensures.bytes ∙ c.loop-self.invariant.bytes;
+      on = omega arith;
       passes = one_more c.args.self.now.bytes.now c.args.self.now.at c.loop-self.self.at c.take_if.new.self.at (seen c.in-Some.field-0) (seen c.in_ok-take.field-0, c.take.new.self.at) c.loop-self.invariant.passes first second;
     }
 
