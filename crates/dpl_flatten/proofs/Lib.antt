@@ -2,3 +2,4 @@ pub mod ListLaws
 pub mod LinkLaws
 pub mod LeastLaws
 pub mod ReachLaws
+pub mod TotalLaws

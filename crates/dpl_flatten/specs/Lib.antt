@@ -1,3 +1,4 @@
 pub mod Links
 pub mod Least
 pub mod Totals
+pub mod Drawn

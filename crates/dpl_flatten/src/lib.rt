@@ -15,6 +15,7 @@ mod least;
 mod links;
 mod missing;
 mod recursion;
+mod refs;
 mod top;
 
 pub use crate::top::top_of;

@@ -1,5 +1,5 @@
 -- What one element of a structure says: to which structure it refers and how its copies stand, or which loops it draws, and what it can be refused for.
-use Rattle.std.specs.Prelude.{◌≡◌, ◌≢◌, ℕ, zero, suc, ◌+◌, ◌*◌, ◌/◌, Bool, true, not, ◌&&◌, ◌==◌, if◌then◌else◌, ℤ, pos, ◌+ℤ◌, ◌-ℤ◌, ◌*ℤ◌, ◌≤ℤ◌, List, [], ◌∷◌, ◌++◌, map, length, Option, Some, None, unwrap_or, unsigned_abs, bit_and, int_div}
+use Rattle.std.specs.Prelude.{◌≡◌, ◌≢◌, ℕ, zero, suc, ◌+◌, ◌*◌, ◌/◌, Bool, true, not, ◌&&◌, ◌==◌, if◌then◌else◌, ℤ, pos, ◌+ℤ◌, ◌-ℤ◌, ◌*ℤ◌, ◌≤ℤ◌, List, [], ◌∷◌, ◌++◌, map, length, Option, Some, None, unwrap_or, unsigned_abs, bit_and, int_div, int_rem}
 use Rattle.dpl_spec.specs.declared.Pt.{Pt}
 use Rattle.dpl_elements.specs.Reals.{real_of, IsWhole, IsQuarterTurns, IsRightAngle}
 use Rattle.dpl_elements.specs.Motions.{Motion}
@@ -72,9 +72,9 @@ abbrev pub AreTurns : Option (List ℕ) → ℕ → Type 0
 AreTurns None n = n ≡ 0
 AreTurns (Some bytes) n = IsQuarterTurns (real_of bytes) n
 
--- n equal whole spacings make the difference
+-- the difference is a multiple of n
 abbrev pub Divides : ℤ → ℤ → Type 0
-Divides n difference = (spacing : ℤ) × (difference ≡ n *ℤ spacing)
+Divides n difference = int_rem difference n ≡ pos 0
 
 -- how point i of an array stands to its first point
 abbrev pub across : List ℕ → ℕ → ℤ

@@ -51,7 +51,8 @@ pub fn by_level(
     levels: &[u32],
 ) -> Result<Option<Vec<Option<u32>>>, AllocError>
     requires { length marks.now < 2 ^ 32 }
-    ensures { IfOk result (λ o. IfSome o (λ v. IsByLevel marks.now levels.now v.items)) }
+    ensures each { IfOk result (λ o. IfSome o (λ v. length v.items ≡ length marks.now)) }
+    ensures placed { IfOk result (λ o. IfSome o (λ v. IsByLevel marks.now levels.now v.items)) }
 {
     let mut slots = vec![in alloc; None; marks.len()]?;
     for (k, marked) in marks.iter().enumerate() {
@@ -60,7 +61,7 @@ pub fn by_level(
             fill(&mut slots, level as usize, k as u32);
         }
     }
-    if is_by_level(marks, levels, slots.as_slice()) {
+    if slots.len() == marks.len() && is_by_level(marks, levels, slots.as_slice()) {
         Ok(Some(slots))
     } else {
         Ok(None)
