@@ -1,4 +1,4 @@
-//! The loops of the boundaries, boxes and paths of a GDSII Stream file.
+//! The loops of boundaries, boxes and paths, by the elements of the GDSII Stream Format, Release 6. Edges that aren't parallel to an axis, round paths, odd widths, paths that turn back and negative extensions are refused.
 #![tactic(auto)]
 
 mod bars;
