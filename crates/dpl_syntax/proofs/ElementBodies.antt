@@ -156,7 +156,7 @@ other kind k g e = avoids_a kind k g e
 solid : (kind : ℕ) (g : Grammar) → IsSolid (both (a kind) g)
 solid kind g = solid_both (a kind) g (solid_one (λ j. eqb j kind))
 
-abbrev choice : Grammar
+abbrev pub choice : Grammar
 choice = (either grammar.boundary (either grammar.path (either grammar.sref (either grammar.aref (either grammar.text (either grammar.node grammar.box))))))
 
 enters_boundary : (rest : Grammar) → Moves (both choice rest) kinds.boundary (behind (items_of kinds.boundary) rest)

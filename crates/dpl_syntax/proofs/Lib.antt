@@ -9,3 +9,6 @@ pub mod ElementBodies
 pub mod Ends
 pub mod Refusals
 pub mod WholeElements
+pub mod ElementLists
+pub mod KnownNames
+pub mod WholeStructures

@@ -3,10 +3,11 @@ use Rattle.std.specs.Prelude.{◌≡◌, ℕ, ◌<◌, ◌≤◌, length, Ok, Bo
 use Rattle.dpl_format.specs.Kinds as kinds
 use Rattle.dpl_format.specs.Faults.{Fault}
 use Rattle.dpl_format.specs.Records.{Record, record_at}
-use Rattle.dpl_format.specs.Grammar.{Grammar, both, many, a, element}
+use Rattle.dpl_format.specs.Grammar.{Grammar, both, many, a, element, structure}
 use Rattle.dpl_format.specs.Layout.{IsFirstFault}
+use Rattle.dpl_format.specs.Stream.{names}
 use Rattle.dpl_format.specs.Tree as tree
-use Rattle.dpl_format.specs.Tree.{parts, element_of}
+use Rattle.dpl_format.specs.Tree.{parts, element_of, structure_of}
 use Rattle.dpl_syntax.specs.Reached.{Reached}
 use Rattle.dpl_syntax.specs.Inner.{AreInner}
 
@@ -102,3 +103,51 @@ pub record AreElements (es : List tree.Element) (rs : List Record) : Type 0 wher
   pub split : (more : List Record) → parts kinds.begins_element kinds.endel (rs ++ more) ≡ each ++ parts kinds.begins_element kinds.endel more
   pub are : map element_of each ≡ es
   pub calm : AreCalm rs
+
+-- ---- structures
+
+-- The same, where the structures so far have these names.
+abbrev pub PassesNamed : List ℕ → List (List ℕ) → (Grammar → Grammar) → (Grammar → Grammar) → (List Record → Type 0) → ℕ → ℕ → Type 0
+PassesNamed bytes known from to Are at next =
+    (before : List Record) (rest : Grammar) → names before ≡ known → Reached bytes before (from rest) at → (rs : List Record) × Are rs × Reached bytes (before ++ rs) (to rest) next
+
+abbrev pub FailsNamed : List ℕ → List (List ℕ) → (Grammar → Grammar) → ℕ → Fault → Type 0
+FailsNamed bytes known from at f = (before : List Record) (rest : Grammar) → names before ≡ known → Reached bytes before (from rest) at → IsFirstFault bytes f
+
+abbrev pub structure_then : Grammar → Grammar
+structure_then rest = both structure rest
+
+-- what is left of a library behind its head, and behind its structures
+abbrev pub structures_first : Grammar → Grammar
+structures_first rest = both (many structure) (a kinds.endlib)
+
+abbrev pub endlib_first : Grammar → Grammar
+endlib_first rest = a kinds.endlib
+
+abbrev pub split_structures : List Record → List (Record × List Record)
+split_structures rs = parts (λ k. k == kinds.bgnstr) kinds.endstr rs
+
+-- the next record is of this type
+pub record IsNext (bytes : List ℕ) (at kind : ℕ) (r : Record) : Type 0 where
+  pub found : record_at bytes at ≡ Ok r
+  pub at_is : r.at ≡ at
+  pub after : at < r.next
+  pub within : r.next ≤ length bytes
+  pub is : r.kind ≡ kind
+
+-- the next record is of another
+abbrev pub IsOther : List ℕ → ℕ → ℕ → Type 0
+IsOther bytes at kind = (r : Record) × (record_at bytes at ≡ Ok r) × (r.kind == kind ≡ false)
+
+-- the records of one structure, whatever follows
+pub record IsStructure (bytes : List ℕ) (s : tree.Structure) (rs : List Record) : Type 0 where
+  pub each : Record × List Record
+  pub split : (more : List Record) → split_structures (rs ++ more) ≡ each ∷ split_structures more
+  pub is : structure_of bytes each ≡ s
+  pub named : names rs ≡ s.name ∷ []
+
+pub record AreStructures (bytes : List ℕ) (ss : List tree.Structure) (rs : List Record) : Type 0 where
+  pub each : List (Record × List Record)
+  pub split : (more : List Record) → split_structures (rs ++ more) ≡ each ++ split_structures more
+  pub are : map (structure_of bytes) each ≡ ss
+  pub named : names rs ≡ map (λ (s : tree.Structure). s.name) ss

@@ -1,7 +1,10 @@
 -- Reading the records of an element one by one, from an offset on, with the first fault that is met.
 use Rattle.std.specs.Prelude.{◌≡◌, ℕ, Bool, ◌==◌, if◌then◌else◌, List, [], ◌∷◌, ◌++◌, length, Option, Some, None, Result, Ok, Err}
+use Rattle.std.specs.Prelude.{nat_eq}
+use Rattle.std.specs.List.{list_any}
+use Rattle.std.specs.Cmp.Lexicographic.{pointwise}
 use Rattle.dpl_format.specs.Kinds as kinds
-use Rattle.dpl_format.specs.Faults.{Fault, unexpected, bad_size, bad_name}
+use Rattle.dpl_format.specs.Faults.{Fault, unexpected, bad_size, bad_name, duplicate_structure}
 use Rattle.dpl_format.specs.Fields.{name_of}
 use Rattle.dpl_format.specs.Records.{Record, record_at}
 use Rattle.dpl_format.specs.Stream.{is_empty}
@@ -63,6 +66,11 @@ module _ (bytes : List ℕ) where
   take_name at = do
     r ← take kinds.sname at
     if is_empty (name_of r.0.body) then Err (bad_name r.0.at) else Ok r
+
+  abbrev pub take_strname : List (List ℕ) → ℕ → Result (Record × ℕ) Fault
+  take_strname known at = do
+    r ← take kinds.strname at
+    if is_empty (name_of r.0.body) then Err (bad_name r.0.at) else if list_any (pointwise nat_eq (name_of r.0.body)) known then Err (duplicate_structure r.0.at) else Ok r
 
   abbrev pub take_points : ℕ → ℕ → Result (Record × ℕ) Fault
   take_points len at = do

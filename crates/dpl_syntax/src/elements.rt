@@ -59,7 +59,8 @@ impl<'a> Reader<'a> {
         ensures ok { IfOk result (λ e. Passes self.old.bytes.now element_then same (IsElement (element_seen e)) self.old.at self.new.at) }
         ensures err { IfErr result (λ e. Refuses (Fails self.old.bytes.now element_then self.old.at) e) }
         ensures sized { IfOk result (λ e. IsSized e) }
-        ensures on { OnOk result (self.old.at < self.new.at) }
+        ensures further { OnOk result (self.old.at < self.new.at) }
+        ensures on { self.old.at ≤ self.new.at }
         ensures bytes { self.new.bytes ≡ self.old.bytes }
     {
         self.at = first.next;
@@ -83,7 +84,7 @@ impl<'a> Reader<'a> {
     }
 
     /// The records between the name of a structure and its first element.
-    fn skip_class(&mut self) -> Result<(), SyntaxFault>
+    pub(crate) fn skip_class(&mut self) -> Result<(), SyntaxFault>
         ensures ok { OnOk result (Passes self.old.bytes.now class_first elements_first (AreElements []) self.old.at self.new.at) }
         ensures err { IfErr result (λ e. Refuses (Fails self.old.bytes.now class_first self.old.at) e) }
         ensures on { self.old.at ≤ self.new.at }
@@ -94,7 +95,7 @@ impl<'a> Reader<'a> {
     }
 
     /// The elements of a structure.
-    fn elements(&mut self, alloc: Global) -> Result<Vec<Element<'a>>, SyntaxFault>
+    pub(crate) fn elements(&mut self, alloc: Global) -> Result<Vec<Element<'a>>, SyntaxFault>
         ensures ok { IfOk result (λ v. Passes self.old.bytes.now elements_first endstr_first (AreElements (map element_seen v.items)) self.old.at self.new.at) }
         ensures err { IfErr result (λ e. Refuses (Fails self.old.bytes.now elements_first self.old.at) e) }
         ensures sized { IfOk result (λ v. All IsSized v.items) }

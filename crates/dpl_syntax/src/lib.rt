@@ -8,6 +8,7 @@ mod fault;
 mod library;
 mod read;
 mod reader;
+mod structures;
 
 pub use crate::element::{Body, Element, Trans};
 pub use crate::fault::SyntaxFault;
