@@ -25,8 +25,16 @@ fn two_steps_are_even_and_a_chord_makes_them_odd(rt: HostRuntime) -> Result<(), 
     assert_eq!(rt; rows_of(&merge(alloc, &path, &chord)?), None);
 
     let more = stars(alloc, &[(2, 3)])?;
-    let longer = [row(0, 0, false), row(1, 0, true), row(2, 0, false), row(3, 0, true)];
-    assert_eq!(rt; rows_of(&merge(alloc, &path, &more)?), Some(longer.as_slice()));
+    let longer = [
+        row(0, 0, false),
+        row(1, 0, true),
+        row(2, 0, false),
+        row(3, 0, true),
+    ];
+    assert_eq!(rt;
+        rows_of(&merge(alloc, &path, &more)?),
+        Some(longer.as_slice())
+    );
     Ok(())
 }
 
@@ -37,7 +45,11 @@ fn rows_are_found_and_copied(rt: HostRuntime) -> Result<(), Fail> {
     let same = joined.copy(alloc)?;
     assert!(rt; !same.is_odd());
     if let Joined::Stars(rows) = &same {
-        for (piece, want) in [(4, Some(row(4, 3, false))), (20, Some(row(20, 10, true))), (5, None)] {
+        for (piece, want) in [
+            (4, Some(row(4, 3, false))),
+            (20, Some(row(20, 10, true))),
+            (5, None),
+        ] {
             assert_eq!(rt; rows.find(piece), want, "at {piece}");
         }
     }
