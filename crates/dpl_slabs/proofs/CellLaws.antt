@@ -12,7 +12,7 @@ use Rattle.dpl_spec.specs.Loops.{IsRectWithin}
 use Rattle.dpl_spec.proofs.Ordered.{Contains-head, Contains-later, Contains-cases, Contains-nil}
 use Rattle.dpl_spec.proofs.SlabLaws.{Covers-member, member-Covers}
 use Rattle.dpl_sweep.specs.declared.edge.Edge.{Edge}
-use Rattle.dpl_sweep.specs.Edges.{part, change_a, change_b}
+use Rattle.dpl_sweep.specs.Edges.{is_left, part, change_a, change_b}
 use Rattle.dpl_sweep.specs.Passes.{IsWithin as EdgeWithin, AreLeft}
 use Rattle.dpl_sweep.proofs.EdgeLaws.{sum_left-push, part-on, part-before, part-off}
 use Rattle.dpl_slabs.specs.Cells.{has_square, cells, AddsRects}
@@ -131,26 +131,36 @@ two_parts change a e f r p wide ex fx (ey0, ey1) (fy0, fy1) ea fa =
     (λ m. (let u = part-off change e p (inr (omega (arith, ints, m, ey1))) in let v = part-off change f p (inr (omega (arith, ints, m, fy1))) in
     rw (has_square-no r p (λ h. (let k = h.high in omega (arith, ints, k, m)))) (omega (arith, ints, u, v)))))
 
-pub adds-two : (a b : ℤ) (old : List Edge) (r : Rect) (e f : Edge) → unsigned_abs a ≤ 1 → unsigned_abs b ≤ 1 → r.x0 <ℤ r.x1 → e.x ≡ r.x0 → f.x ≡ r.x1 → (e.y0 ≡ r.y0) × (e.y1 ≡ r.y1) → (f.y0 ≡ r.y0) × (f.y1 ≡ r.y1)
-    → e.a ≡ a → f.a ≡ neg_ℤ a → e.b ≡ b → f.b ≡ neg_ℤ b → AddsRects a b old ((old ++ e ∷ []) ++ f ∷ []) (r ∷ [])
-adds-two a b old r e f small_a small_b wide ex fx ey fy ea fa eb fb =
+still : (change : Edge → ℤ) (g : Edge) (p : Pt) → change g ≡ pos 0 → part change g p ≡ pos 0
+still change g p e = elim (is_left g p) as (λ z. cond z (change g) (pos 0) ≡ pos 0) [ true ↦ e | false ↦ refl ]
+
+-- a rectangle's two edges, and one right of them that changes no sum
+pub adds-three : (a b : ℤ) (old : List Edge) (r : Rect) (e f g : Edge) → unsigned_abs a ≤ 1 → unsigned_abs b ≤ 1 → r.x0 <ℤ r.x1 → e.x ≡ r.x0 → f.x ≡ r.x1 → g.x ≡ r.x1 +ℤ pos 1
+    → (e.y0 ≡ r.y0) × (e.y1 ≡ r.y1) → (f.y0 ≡ r.y0) × (f.y1 ≡ r.y1) → (g.y0 ≡ r.y0) × (g.y1 ≡ r.y1)
+    → e.a ≡ a → f.a ≡ neg_ℤ a → g.a ≡ pos 0 → e.b ≡ b → f.b ≡ neg_ℤ b → g.b ≡ pos 0 → AddsRects a b old (((old ++ e ∷ []) ++ f ∷ []) ++ g ∷ []) (r ∷ [])
+adds-three a b old r e f g small_a small_b wide ex fx gx ey fy gy ea fa ga eb fb gb =
+    let two : List Edge = (old ++ e ∷ []) ++ f ∷ [] in
     record {
-      sums_a = λ p. (let s = sum_left-push change_a old e p in let t = sum_left-push change_a (old ++ e ∷ []) f p in let u = two_parts change_a a e f r p wide ex fx ey fy ea fa in omega (arith, ints, s, t, u));
-      sums_b = λ p. (let s = sum_left-push change_b old e p in let t = sum_left-push change_b (old ++ e ∷ []) f p in let u = two_parts change_b b e f r p wide ex fx ey fy eb fb in omega (arith, ints, s, t, u));
-      within = λ bound h g k k_in. (
-          let w : IsRectWithin bound r = g r (Contains-head r []) in
+      sums_a = λ p. (let s = sum_left-push change_a old e p in let t = sum_left-push change_a (old ++ e ∷ []) f p in let v = sum_left-push change_a two g p in let w = still change_a g p ga in let u = two_parts change_a a e f r p wide ex fx ey fy ea fa in omega (arith, ints, s, t, u, v, w));
+      sums_b = λ p. (let s = sum_left-push change_b old e p in let t = sum_left-push change_b (old ++ e ∷ []) f p in let v = sum_left-push change_b two g p in let w = still change_b g p gb in let u = two_parts change_b b e f r p wide ex fx ey fy eb fb in omega (arith, ints, s, t, u, v, w));
+      within = λ bound h i k k_in. (
+          let w : IsRectWithin bound r = i r (Contains-head r []) in
           let wl = w.left in let wr = w.right in let wb = w.low in let wt = w.high in
           let (y0, y1) = ey in
           let (z0, z1) = fy in
-          elim (Contains-push_cases (old ++ e ∷ []) f k k_in) [
-            | inl before ↦ elim (Contains-push_cases old e k before) [
-              | inl there ↦ h k there
-              | inr same ↦ subst (EdgeWithin bound) same (record { column = omega (arith, ints, ex, wl); low = omega (arith, ints, y0, wb); high = omega (arith, ints, y1, wt); a = omega (arith, ints, ea, small_a); b = omega (arith, ints, eb, small_b) })
+          let (u0, u1) = gy in
+          elim (Contains-push_cases two g k k_in) [
+            | inl pair ↦ elim (Contains-push_cases (old ++ e ∷ []) f k pair) [
+              | inl before ↦ elim (Contains-push_cases old e k before) [
+                | inl there ↦ h k there
+                | inr same ↦ subst (EdgeWithin (bound + 1)) same (record { column = omega (arith, ints, ex, wl); low = omega (arith, ints, y0, wb); high = omega (arith, ints, y1, wt); a = omega (arith, ints, ea, small_a); b = omega (arith, ints, eb, small_b) })
+              ]
+              | inr same ↦ subst (EdgeWithin (bound + 1)) same (record { column = omega (arith, ints, fx, wr); low = omega (arith, ints, z0, wb); high = omega (arith, ints, z1, wt); a = omega (arith, ints, fa, small_a); b = omega (arith, ints, fb, small_b) })
             ]
-            | inr same ↦ subst (EdgeWithin bound) same (record { column = omega (arith, ints, fx, wr); low = omega (arith, ints, z0, wb); high = omega (arith, ints, z1, wt); a = omega (arith, ints, fa, small_a); b = omega (arith, ints, fb, small_b) })
+            | inr same ↦ subst (EdgeWithin (bound + 1)) same (record { column = omega (arith, ints, gx, wr); low = omega (arith, ints, u0, wb); high = omega (arith, ints, u1, wt); a = omega (arith, ints, ga); b = omega (arith, ints, gb) })
           ]);
-      keeps = λ k k_in. Contains-append_left (old ++ e ∷ []) (f ∷ []) k (Contains-append_left old (e ∷ []) k k_in);
-      ends = λ s s_in. inr (f, Contains-push (old ++ e ∷ []) f, fx ∙ ap (λ t. let u : Rect = t in u.x1) (one_rect r s s_in));
+      keeps = λ k k_in. Contains-append_left two (g ∷ []) k (Contains-append_left (old ++ e ∷ []) (f ∷ []) k (Contains-append_left old (e ∷ []) k k_in));
+      ends = λ s s_in. inr (f, Contains-append_left two (g ∷ []) f (Contains-push (old ++ e ∷ []) f), fx ∙ ap (λ t. let u : Rect = t in u.x1) (one_rect r s s_in));
     }
 
 pub adds-on : (a b : ℤ) (old mid new : List Edge) (rs ss : List Rect) → AddsRects a b old mid rs → AddsRects a b mid new ss → AddsRects a b old new (rs ++ ss)

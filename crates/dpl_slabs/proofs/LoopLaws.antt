@@ -139,12 +139,6 @@ loop-told ps es h s =
 pub loop-closed : (ps : List Pt) (es : List Edge) → AreEdgesOf ps es → IsClosed Either es
 loop-closed ps es h p left told = told (h.sums_a p ∙ h.level p left) (h.sums_b p)
 
-pub edges-wider : (m n : ℕ) (es : List Edge) → m ≤ n → AreWithin m es → AreWithin n es
-edges-wider m n es l w e e_in =
-    let h : EdgeWithin m e = w e e_in in
-    let a = h.column in let b = h.low in let c = h.high in
-    record { column = omega (arith, l, a); low = omega (arith, l, b); high = omega (arith, l, c); a = h.a; b = h.b }
-
 -- where no edge stands left of the square beside its row, the sum is 0
 sum-none : (change : Edge → ℤ) (es : List Edge) (p : Pt) → ((e : Edge) → Contains es e → (p.x <ℤ e.x) ⊎ ((p.y <ℤ e.y0) ⊎ (e.y1 ≤ℤ p.y))) → sum_left change es p ≡ pos 0
 sum-none change [] p none = refl

@@ -1,5 +1,5 @@
 -- Sets told by sums.
-use Rattle.std.proofs.Common.{◌≡◌, ℕ, ◌^◌, ◌≤◌, ◌⊎◌, inl, inr, List, [], ◌∷◌, ◌++◌, refl, sym, subst, arith}
+use Rattle.std.proofs.Common.{◌≡◌, ℕ, ◌+◌, ◌^◌, ◌≤◌, ◌⊎◌, inl, inr, List, [], ◌∷◌, ◌++◌, refl, sym, subst, arith}
 use Rattle.std.specs.Prelude.{◌↔◌, ℤ, pos, ◌+ℤ◌, ◌-ℤ◌, unsigned_abs}
 use Rattle.std.proofs.lemmas.Int.{ints, by_lt_z}
 use Rattle.std.proofs.lemmas.List.Elements.{All-contains, Contains-push_cases}
@@ -7,7 +7,7 @@ use Rattle.dpl_spec.specs.declared.Pt.{Pt}
 use Rattle.dpl_spec.specs.declared.Rect.{Rect}
 use Rattle.dpl_spec.specs.Squares.{Has, Covers}
 use Rattle.dpl_spec.specs.Slabs.{IsSolid, AreSlabsOf}
-use Rattle.dpl_spec.specs.Loops.{IsRectWithin, AreRectsWithin}
+use Rattle.dpl_spec.specs.Loops.{farthest, IsRectWithin, AreRectsWithin}
 use Rattle.dpl_spec.specs.Zones.{at, turned, turned_rect}
 use Rattle.dpl_spec.proofs.Ordered.{Contains-head, Contains-later, Contains-cases, Contains-nil}
 use Rattle.dpl_spec.proofs.SlabLaws.{Covers-member, member-Covers}
@@ -15,7 +15,7 @@ use Rattle.dpl_sweep.specs.declared.edge.Edge.{Edge}
 use Rattle.dpl_sweep.specs.declared.edge.Rule.{Rule}
 use Rattle.dpl_sweep.specs.declared.edge.Rule.TheVariants.{Either, Minus, Both}
 use Rattle.dpl_sweep.specs.Edges.{Holds, Told, sum_left, change_a, change_b}
-use Rattle.dpl_sweep.specs.Passes.{AreWithin, IsClosed}
+use Rattle.dpl_sweep.specs.Passes.{IsWithin as EdgeWithin, AreWithin, IsClosed}
 use Rattle.dpl_sweep.proofs.EdgeLaws.{none-told}
 use Rattle.dpl_slabs.specs.Cells.{cells, AddsRects, turned_rects}
 use Rattle.dpl_slabs.proofs.CellLaws.{cells-zero, cells-least, covered-sum, sum-covered, adds-closed}
@@ -57,6 +57,12 @@ rects-none n r r_in = absurd (Contains-nil r r_in)
 
 pub edges-none : (n : ℕ) → AreWithin n []
 edges-none n e e_in = absurd (Contains-nil e e_in)
+
+pub edges-wider : (m n : ℕ) (es : List Edge) → m ≤ n → AreWithin m es → AreWithin n es
+edges-wider m n es l w e e_in =
+    let h : EdgeWithin m e = w e e_in in
+    let a = h.column in let b = h.low in let c = h.high in
+    record { column = omega (arith, l, a); low = omega (arith, l, b); high = omega (arith, l, c); a = h.a; b = h.b }
 
 -- some sum isn't 0 of squares in the set
 holds-some : (rule : Rule) (x y : ℤ) → Holds rule x y → x ≡ pos 0 → y ≡ pos 0 → ⊥
@@ -110,8 +116,8 @@ module _ (rule : Rule) (rs ss : List Rect) (mid new : List Edge) (f : AddsRects 
       (adds-closed (pos 1) (pos 0) (pos 1) mid new ss p g left)
       ((both-told p).0 told)
 
-  pub both-within : AreRectsWithin 1000000000 rs → AreRectsWithin 1000000000 ss → AreWithin (2 ^ 32) new
-  both-within v w = g.within (2 ^ 32) (f.within (2 ^ 32) (edges-none (2 ^ 32)) (rects-wider 1000000000 (2 ^ 32) rs (omega arith) v)) (rects-wider 1000000000 (2 ^ 32) ss (omega arith) w)
+  pub both-within : AreRectsWithin farthest rs → AreRectsWithin farthest ss → AreWithin (2 ^ 32) new
+  both-within v w = edges-wider (farthest + 1) (2 ^ 32) new (omega arith) (g.within farthest (f.within farthest (edges-none (farthest + 1)) v) w)
 
 -- with x and y exchanged
 from-turned : (rs : List Rect) (p : Pt) → Covers (turned_rects rs) p → turned (Covers rs) p

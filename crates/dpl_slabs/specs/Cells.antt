@@ -1,5 +1,5 @@
 -- Rectangles, by sums over their squares and over their edges.
-use Rattle.std.specs.Prelude.{◌≡◌, ℕ, ◌⊎◌, Bool, cond, ◌&&◌, ℤ, pos, ◌+ℤ◌, ◌≤ℤ◌, List, [], ◌∷◌, map}
+use Rattle.std.specs.Prelude.{◌≡◌, ℕ, ◌+◌, ◌⊎◌, Bool, cond, ◌&&◌, ℤ, pos, ◌+ℤ◌, ◌≤ℤ◌, List, [], ◌∷◌, map}
 use Rattle.std.specs.List.{Contains}
 use lib.Signed.{lt_z, le_z}
 use Rattle.dpl_spec.specs.declared.Pt.{Pt}
@@ -23,7 +23,7 @@ cells a (r ∷ rs) p = cond (has_square r p) a (pos 0) +ℤ cells a rs p
 pub record AddsRects (a b : ℤ) (old new : List Edge) (rs : List Rect) : Type 0 where
   pub sums_a : (p : Pt) → sum_left change_a new p ≡ sum_left change_a old p +ℤ cells a rs p
   pub sums_b : (p : Pt) → sum_left change_b new p ≡ sum_left change_b old p +ℤ cells b rs p
-  pub within : (bound : ℕ) → AreWithin bound old → AreRectsWithin bound rs → AreWithin bound new
+  pub within : (bound : ℕ) → AreWithin (bound + 1) old → AreRectsWithin bound rs → AreWithin (bound + 1) new
   pub keeps : (e : Edge) → Contains old e → Contains new e
   pub ends : (r : Rect) → Contains rs r → (r.x1 ≤ℤ r.x0) ⊎ ((e : Edge) × Contains new e × (e.x ≡ r.x1))
 

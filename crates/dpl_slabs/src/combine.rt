@@ -3,36 +3,39 @@ ghost use Rattle.std.specs.Prelude.{◌≡◌, ◌≤◌, [], ◌∷◌, ◌<ℤ
 ghost use Rattle.dpl_spec.specs.declared.Rect.{Rect};
 ghost use Rattle.dpl_spec.specs.Slabs.{AreSlabsOf};
 ghost use Rattle.dpl_sweep.specs.Edges.{Holds};
-ghost use Rattle.dpl_spec.specs.Loops.{farthest, AreRectsWithin};
+ghost use Rattle.dpl_spec.specs.Loops.{farthest, IsRectWithin, AreRectsWithin};
 ghost use Rattle.dpl_slabs.specs.Cells.{cells, AddsRects, turned_rects};
 
 use dpl_base::Rect;
 use dpl_sweep::{Edge, Rule, slabs_of_edges};
 use std::alloc::{AllocError, Global};
 
-/// Adds the two edges of a rectangle.
+/// An edge in a column, beside the rows of a rectangle.
+fn edge_of(r: &Rect, x: i64, a: i64, b: i64) -> Edge
+    ensures { result ≡ record { x = x; y0 = r.now.y0; y1 = r.now.y1; a = a; b = b } }
+{
+    Edge {
+        x,
+        y0: r.y0,
+        y1: r.y1,
+        a,
+        b,
+    }
+}
+
+/// Adds the two edges of a rectangle, and one right of them that changes nothing: by it the sweep is done with the rectangle's rows early.
 fn add_rect(edges: &mut Vec<Edge>, r: &Rect, a: i64, b: i64) -> Result<(), AllocError>
     requires first { unsigned_abs a ≤ 1 }
     requires second { unsigned_abs b ≤ 1 }
+    requires within { IsRectWithin farthest r.now }
     ensures { OnOk result (AddsRects a b edges.old.items edges.new.items (r.now ∷ [])) }
 {
     if r.x1 <= r.x0 {
         return Ok(());
     }
-    edges.push(Edge {
-        x: r.x0,
-        y0: r.y0,
-        y1: r.y1,
-        a,
-        b,
-    })?;
-    edges.push(Edge {
-        x: r.x1,
-        y0: r.y0,
-        y1: r.y1,
-        a: -a,
-        b: -b,
-    })?;
+    edges.push(edge_of(r, r.x0, a, b))?;
+    edges.push(edge_of(r, r.x1, -a, -b))?;
+    edges.push(edge_of(r, r.x1 + 1, 0, 0))?;
     Ok(())
 }
 
@@ -40,6 +43,7 @@ fn add_rect(edges: &mut Vec<Edge>, r: &Rect, a: i64, b: i64) -> Result<(), Alloc
 fn add_rects(edges: &mut Vec<Edge>, rects: &[Rect], a: i64, b: i64) -> Result<(), AllocError>
     requires first { unsigned_abs a ≤ 1 }
     requires second { unsigned_abs b ≤ 1 }
+    requires within { AreRectsWithin farthest rects.now }
     ensures { OnOk result (AddsRects a b edges.old.items edges.new.items rects.now) }
 {
     for r in rects {
