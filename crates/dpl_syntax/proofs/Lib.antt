@@ -14,3 +14,4 @@ pub mod KnownNames
 pub mod WholeStructures
 pub mod Heads
 pub mod StructureLists
+pub mod WholeLibraries

@@ -1,6 +1,6 @@
 //! Reading structures.
 
-ghost use Rattle.std.specs.Prelude.{◌≡◌, ◌<◌, ◌≤◌, false, [], length, nat_eq, All, IfOk, IfErr, OnOk, IfSome, IfNone, Err};
+ghost use Rattle.std.specs.Prelude.{◌≡◌, ◌<◌, ◌≤◌, ◌+◌, ◌++◌, ◌∷◌, false, [], length, nat_eq, All, IfOk, IfErr, OnOk, IfSome, IfNone, Err};
 ghost use Rattle.std.specs.List.{list_any};
 ghost use Rattle.indexmap.specs.IndexMap.{index_map_len};
 ghost use Rattle.std.specs.Cmp.Lexicographic.{pointwise};
@@ -9,6 +9,7 @@ ghost use Rattle.dpl_format.specs.Kinds as format;
 ghost use Rattle.dpl_format.specs.Records.{record_at};
 ghost use Rattle.dpl_format.specs.Tree as tree;
 ghost use Rattle.dpl_records.specs.Seen.{seen};
+ghost use Rattle.dpl_syntax.specs.declared.fault.SyntaxFault.TheVariants.{NoMemory};
 ghost use Rattle.dpl_syntax.specs.Elements.{IsSized};
 ghost use Rattle.dpl_syntax.specs.Libraries.{structure_seen, structures_seen, known_names, IsSizedEach};
 ghost use Rattle.dpl_syntax.specs.Outcome.{Refuses};
@@ -106,7 +107,7 @@ impl<'a> Reader<'a> {
         let mut structures = IndexMap::new(alloc);
         while let Some(bgnstr) = self.peek_if(kinds::BGNSTR)? {
             let (name, structure) = self.structure(alloc, bgnstr, &structures)?;
-            structures.insert(name, structure)?;
+            add(&mut structures, name, structure)?;
         }
         Ok(structures)
     }
@@ -117,4 +118,19 @@ fn is_known(known: &IndexMap<&[u8], Structure<'_>>, name: &[u8]) -> bool
     ensures { result ≡ list_any (pointwise nat_eq name.now) (known_names known.now.entries) }
 {
     known.contains_key(&name)
+}
+
+/// Adds a structure whose name is new.
+fn add<'a>(
+    structures: &mut IndexMap<&'a [u8], Structure<'a>>,
+    name: &'a [u8],
+    structure: Structure<'a>,
+) -> Result<(), SyntaxFault>
+    requires { list_any (pointwise nat_eq name.now) (known_names structures.old.entries) ≡ false }
+    ensures ok { OnOk result (structures.new.entries ≡ structures.old.entries ++ (name.entry, structure.entry) ∷ []) }
+    ensures err { IfErr result (λ e. e ≡ NoMemory) }
+    ensures len { OnOk result (index_map_len structures.new ≤ index_map_len structures.old + 1) }
+{
+    structures.insert(name, structure)?;
+    Ok(())
 }
