@@ -15,3 +15,4 @@ pub mod WholeStructures
 pub mod Heads
 pub mod StructureLists
 pub mod WholeLibraries
+pub mod OneReading
