@@ -12,3 +12,7 @@ pub mod WholeElements
 pub mod ElementLists
 pub mod KnownNames
 pub mod WholeStructures
+pub mod Heads
+pub mod StructureLists
+pub mod WholeLibraries
+pub mod OneReading

@@ -10,11 +10,11 @@ use Rattle.dpl_format.specs.Layout.{IsSound, IsOpen, IsReadTo, IsWrong, no_recor
 use Rattle.dpl_syntax.specs.Reached.{Reached}
 use Rattle.dpl_syntax.proofs.Languages.{Exists, Moves, Agrees}
 
-lies_push : (bytes : List ℕ) (from : ℕ) (rs : List Record) (at : ℕ) (r : Record) → Lies bytes from rs at → record_at bytes at ≡ Ok r → Lies bytes from (rs ++ r ∷ []) r.next
+pub lies_push : (bytes : List ℕ) (from : ℕ) (rs : List Record) (at : ℕ) (r : Record) → Lies bytes from rs at → record_at bytes at ≡ Ok r → Lies bytes from (rs ++ r ∷ []) r.next
 lies_push bytes from [] at r lies found = (ap (record_at bytes) lies ∙ found, refl)
 lies_push bytes from (s ∷ rs) at r lies found = (lies.0, lies_push bytes s.next rs at r lies.1 found)
 
-sound_push : (front rs : List Record) (r : Record) → IsSound front rs → refusal (front ++ rs) r ≡ None → IsSound front (rs ++ r ∷ [])
+pub sound_push : (front rs : List Record) (r : Record) → IsSound front rs → refusal (front ++ rs) r ≡ None → IsSound front (rs ++ r ∷ [])
 sound_push front [] r sound fine = (subst (λ (x : List Record). refusal x r ≡ None) (append-nil front) fine, tt)
 sound_push front (s ∷ rs) r sound fine =
     (sound.0, sound_push (front ++ s ∷ []) rs r sound.1 (subst (λ (x : List Record). refusal x r ≡ None) (sym (append_assoc front (s ∷ []) rs)) fine))

@@ -139,7 +139,7 @@ strname_first rest = both (a kinds.strname) (class_first rest)
 -- ---- the grammar
 
 -- all but BGNSTR
-abbrev inside : Grammar
+abbrev pub inside : Grammar
 inside = both (a kinds.strname) (both (many (a kinds.structure_class)) (both (many grammar.element) (a kinds.endstr)))
 
 module _ (rest : Grammar) where

@@ -3,7 +3,7 @@ use Rattle.std.specs.Prelude.{◌≡◌, ℕ, ◌<◌, ◌≤◌, length, Ok, Bo
 use Rattle.dpl_format.specs.Kinds as kinds
 use Rattle.dpl_format.specs.Faults.{Fault}
 use Rattle.dpl_format.specs.Records.{Record, record_at}
-use Rattle.dpl_format.specs.Grammar.{Grammar, both, many, a, element, structure}
+use Rattle.dpl_format.specs.Grammar.{Grammar, Has, both, many, a, skip, element, structure}
 use Rattle.dpl_format.specs.Layout.{IsFirstFault}
 use Rattle.dpl_format.specs.Stream.{names}
 use Rattle.dpl_format.specs.Tree as tree
@@ -151,3 +151,51 @@ pub record AreStructures (bytes : List ℕ) (ss : List tree.Structure) (rs : Lis
   pub split : (more : List Record) → split_structures (rs ++ more) ≡ each ++ split_structures more
   pub are : map (structure_of bytes) each ≡ ss
   pub named : names rs ≡ map (λ (s : tree.Structure). s.name) ss
+
+-- ---- the head of a library
+
+-- nothing in this grammar begins with a record that is passed over
+abbrev pub SkipsNone : Grammar → Type 0
+SkipsNone rest = (k : ℕ) → kinds.is_skipped k ≡ true → (ks : List ℕ) → Has rest (k ∷ ks) → ⊥
+
+abbrev pub AreSkipped : List Record → Type 0
+AreSkipped [] = Unit {0}
+AreSkipped (r ∷ rs) = (kinds.is_skipped r.kind ≡ true) × AreSkipped rs
+
+abbrev pub skips_then : Grammar → Grammar
+skips_then rest = both (many skip) rest
+
+abbrev pub PassesSkips : List ℕ → (Grammar → Grammar) → ℕ → ℕ → Type 0
+PassesSkips bytes to at next =
+    (before : List Record) (rest : Grammar) → SkipsNone rest → Reached bytes before (skips_then rest) at → (rs : List Record) × AreSkipped rs × Reached bytes (before ++ rs) (to rest) next
+
+abbrev pub FailsSkips : List ℕ → (Grammar → Grammar) → ℕ → Fault → Type 0
+FailsSkips bytes from at f = (before : List Record) (rest : Grammar) → SkipsNone rest → Reached bytes before (from rest) at → IsFirstFault bytes f
+
+-- a record of a type, and the records that are passed over behind it
+abbrev pub part_then : ℕ → Grammar → Grammar
+part_then kind rest = both (a kind) (skips_then rest)
+
+pub record IsPart (kind : ℕ) (r : Record) (rs : List Record) : Type 0 where
+  pub skipped : List Record
+  pub split : rs ≡ r ∷ skipped
+  pub is : r.kind ≡ kind
+  pub are : AreSkipped skipped
+
+abbrev pub PassesPart : List ℕ → ℕ → Record → ℕ → ℕ → Type 0
+PassesPart bytes kind r at next =
+    (before : List Record) (rest : Grammar) → SkipsNone rest → Reached bytes before (part_then kind rest) at → (rs : List Record) × IsPart kind r rs × Reached bytes (before ++ rs) rest next
+
+-- the types of the records in a library's head
+abbrev pub is_part : ℕ → Bool
+is_part k = (k == kinds.bgnlib) || ((k == kinds.libname) || (k == kinds.units))
+
+-- the next record is one that is passed over
+pub record IsNextSkipped (bytes : List ℕ) (at : ℕ) (r : Record) : Type 0 where
+  pub found : record_at bytes at ≡ Ok r
+  pub after : at < r.next
+  pub within : r.next ≤ length bytes
+  pub is : kinds.is_skipped r.kind ≡ true
+
+abbrev pub IsNoneSkipped : List ℕ → ℕ → Type 0
+IsNoneSkipped bytes at = (r : Record) × (record_at bytes at ≡ Ok r) × (kinds.is_skipped r.kind ≡ false)

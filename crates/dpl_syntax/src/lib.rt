@@ -5,6 +5,7 @@ mod bodies;
 mod element;
 mod elements;
 mod fault;
+mod head;
 mod library;
 mod read;
 mod reader;

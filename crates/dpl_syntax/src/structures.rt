@@ -1,17 +1,19 @@
 //! Reading structures.
 
-ghost use Rattle.std.specs.Prelude.{◌≡◌, ◌<◌, ◌≤◌, false, length, nat_eq, All, IfOk, IfErr, OnOk, IfSome, IfNone, Err};
+ghost use Rattle.std.specs.Prelude.{◌≡◌, ◌<◌, ◌≤◌, ◌+◌, ◌++◌, ◌∷◌, false, [], length, nat_eq, All, IfOk, IfErr, OnOk, IfSome, IfNone, Err};
 ghost use Rattle.std.specs.List.{list_any};
+ghost use Rattle.indexmap.specs.IndexMap.{index_map_len};
 ghost use Rattle.std.specs.Cmp.Lexicographic.{pointwise};
 ghost use Rattle.dpl_format.specs.Fields as fields;
 ghost use Rattle.dpl_format.specs.Kinds as format;
 ghost use Rattle.dpl_format.specs.Records.{record_at};
 ghost use Rattle.dpl_format.specs.Tree as tree;
 ghost use Rattle.dpl_records.specs.Seen.{seen};
+ghost use Rattle.dpl_syntax.specs.declared.fault.SyntaxFault.TheVariants.{NoMemory};
 ghost use Rattle.dpl_syntax.specs.Elements.{IsSized};
-ghost use Rattle.dpl_syntax.specs.Libraries.{structure_seen, known_names};
+ghost use Rattle.dpl_syntax.specs.Libraries.{structure_seen, structures_seen, known_names, IsSizedEach};
 ghost use Rattle.dpl_syntax.specs.Outcome.{Refuses};
-ghost use Rattle.dpl_syntax.specs.Passing.{IsNext, IsOther, IsStructure, PassesNamed, FailsNamed, structure_then, same};
+ghost use Rattle.dpl_syntax.specs.Passing.{IsNext, IsOther, IsStructure, PassesNamed, FailsNamed, structure_then, same, structures_first, endlib_first, AreStructures};
 ghost use Rattle.dpl_syntax.specs.Reading.{Answers, take_strname};
 
 use crate::fault::SyntaxFault;
@@ -93,6 +95,22 @@ impl<'a> Reader<'a> {
         };
         Ok((name_of(strname.body), structure))
     }
+
+    /// The structures of a library, by name.
+    pub(crate) fn structures(&mut self, alloc: Global) -> Result<IndexMap<&'a [u8], Structure<'a>>, SyntaxFault>
+        ensures ok { IfOk result (λ m. PassesNamed self.old.bytes.now [] structures_first endlib_first (AreStructures self.old.bytes.now (structures_seen m.entries)) self.old.at self.new.at) }
+        ensures err { IfErr result (λ e. Refuses (FailsNamed self.old.bytes.now [] structures_first self.old.at) e) }
+        ensures sized { IfOk result (λ m. IsSizedEach m.entries) }
+        ensures few { IfOk result (λ m. index_map_len m ≤ self.new.at) }
+        ensures bytes { self.new.bytes ≡ self.old.bytes }
+    {
+        let mut structures = IndexMap::new(alloc);
+        while let Some(bgnstr) = self.peek_if(kinds::BGNSTR)? {
+            let (name, structure) = self.structure(alloc, bgnstr, &structures)?;
+            add(&mut structures, name, structure)?;
+        }
+        Ok(structures)
+    }
 }
 
 /// Whether a structure has this name.
@@ -100,4 +118,19 @@ fn is_known(known: &IndexMap<&[u8], Structure<'_>>, name: &[u8]) -> bool
     ensures { result ≡ list_any (pointwise nat_eq name.now) (known_names known.now.entries) }
 {
     known.contains_key(&name)
+}
+
+/// Adds a structure whose name is new.
+fn add<'a>(
+    structures: &mut IndexMap<&'a [u8], Structure<'a>>,
+    name: &'a [u8],
+    structure: Structure<'a>,
+) -> Result<(), SyntaxFault>
+    requires { list_any (pointwise nat_eq name.now) (known_names structures.old.entries) ≡ false }
+    ensures ok { OnOk result (structures.new.entries ≡ structures.old.entries ++ (name.entry, structure.entry) ∷ []) }
+    ensures err { IfErr result (λ e. e ≡ NoMemory) }
+    ensures len { OnOk result (index_map_len structures.new ≤ index_map_len structures.old + 1) }
+{
+    structures.insert(name, structure)?;
+    Ok(())
 }
