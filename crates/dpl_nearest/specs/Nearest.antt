@@ -1,8 +1,8 @@
 -- The least pair of near squares of two sets.
-use Rattle.std.specs.Prelude.{◌≡◌, ℕ, ◌*◌, ◌<◌, ◌⊎◌, ℤ, ◌+ℤ◌, pos, List, Option, Some, None}
+use Rattle.std.specs.Prelude.{◌≡◌, ℕ, ◌*◌, ◌<◌, ◌⊎◌, ℤ, ◌+ℤ◌, pos, List, Option, Some, None, length, slice_index_or}
 use Rattle.dpl_spec.specs.declared.Pt.{Pt}
 use Rattle.dpl_spec.specs.declared.Rect.{Rect}
-use Rattle.dpl_spec.specs.Squares.{Region, AreNear, IsLeast, Precedes, d2}
+use Rattle.dpl_spec.specs.Squares.{Region, Has, AreNear, IsLeast, Precedes, d2}
 
 -- the squares of a that are closer than rule to some square of b
 abbrev pub near_part : ℕ → Region → Region → Region
@@ -41,3 +41,19 @@ unit_of p = record { x0 = p.x; y0 = p.y; x1 = p.x +ℤ pos 1; y1 = p.y +ℤ pos 
 abbrev pub IsLeastNear : ℕ → Region → Region → Option Pt → Type 0
 IsLeastNear rule a b None = ¬ AreNear rule a b
 IsLeastNear rule a b (Some p) = IsLeast (near_part rule a b) p
+
+-- new is the first of old and the squares of a that are near b
+pub record IsLowered (rule : ℕ) (a b : Region) (old new : Pt) : Type 0 where
+  pub is : (new ≡ old) ⊎ near_part rule a b new
+  pub before : (new ≡ old) ⊎ Precedes new old
+  pub first : (q : Pt) → near_part rule a b q → (new ≡ q) ⊎ Precedes new q
+
+-- the same, where there may be no old one
+abbrev pub IsImproved : ℕ → Region → Region → Option Pt → Option Pt → Type 0
+IsImproved rule a b None new = IsLeastNear rule a b new
+IsImproved rule a b (Some p) None = ⊥
+IsImproved rule a b (Some p) (Some q) = IsLowered rule a b p q
+
+-- the squares of the first n rectangles
+abbrev pub CoversFirst : ℕ → List Rect → Region
+CoversFirst n rs p = (k : ℕ) × (r : Rect) × (k < n) × (k < length rs) × (slice_index_or rs k r ≡ r) × Has r p

@@ -1,6 +1,7 @@
 //! The least pair of near squares of two sets.
 #![tactic(auto)]
 
+mod least;
 mod rects;
 
 ghost use Rattle.std.specs.Prelude.{IfNone, IfSome};
@@ -10,7 +11,8 @@ ghost use Rattle.dpl_spec.specs.Squares.{AreNear, Covers};
 ghost use Rattle.dpl_nearest.specs.Nearest.{IsNearestPair};
 ghost use Rattle.std.specs.List.{All};
 
-use crate::rects::{least_near, unit};
+use crate::least::least_near;
+use crate::rects::unit;
 use dpl_base::{Pt, Rect};
 
 /// The least pair of squares of `a` and `b` that are closer than `rule`, by the first square and then by the second.

@@ -1,5 +1,5 @@
-//! The least square of rectangles that is near others.
-ghost use Rattle.std.specs.Prelude.{◌≡◌, ◌≤◌, ◌<◌, ◌+◌, ◌^◌, ◌≤ℤ◌, ◌<ℤ◌, ◌↔◌, IsTrue, unsigned_abs};
+//! Parts of a rectangle that are near other rectangles.
+ghost use Rattle.std.specs.Prelude.{◌≡◌, ◌≤◌, ◌<◌, ◌+◌, ◌^◌, ◌≤ℤ◌, ◌<ℤ◌, ◌+ℤ◌, pos, ◌↔◌, IsTrue, unsigned_abs};
 ghost use Rattle.std.specs.List.{All};
 ghost use Rattle.dpl_spec.specs.Loops.{AreRectsWithin, IsRectWithin, farthest};
 ghost use Rattle.dpl_spec.specs.Slabs.{IsSolid};
@@ -22,6 +22,43 @@ pub(crate) fn unit(p: Pt) -> Rect
     }
 }
 
+/// The rows of `r` below row `y`.
+fn below(r: &Rect, y: i64) -> Rect
+    ensures { result ≡ rows_below r.now y }
+{
+    Rect { y1: y, ..*r }
+}
+
+/// Row `y` of `r`.
+fn row(r: &Rect, y: i64) -> Rect
+    requires { unsigned_abs y ≤ 2 ^ 61 }
+    ensures { result ≡ row_at r.now y }
+{
+    Rect {
+        y0: y,
+        y1: y + 1,
+        ..*r
+    }
+}
+
+/// The columns of `r` left of column `x`.
+fn left(r: &Rect, x: i64) -> Rect
+    ensures { result ≡ columns_left r.now x }
+{
+    Rect { x1: x, ..*r }
+}
+
+/// A number about halfway between two others.
+fn halfway(low: i64, high: i64) -> i64
+    requires apart { (low +ℤ pos 1) <ℤ high }
+    requires low { unsigned_abs low ≤ 2 ^ 61 }
+    requires high { unsigned_abs high ≤ 2 ^ 61 }
+    ensures above { low <ℤ result }
+    ensures below { result <ℤ high }
+{
+    low + (high - low) / 2
+}
+
 /// Whether some square of `r` is closer than `rule` to a square of the others.
 fn near_any(r: &Rect, others: &[Rect], rule: u32) -> bool
     requires solid { IsSolid r.now }
@@ -36,6 +73,34 @@ fn near_any(r: &Rect, others: &[Rect], rule: u32) -> bool
         }
     }
     false
+}
+
+/// Whether some square of `r` below row `y` is near the others.
+fn near_below(r: &Rect, y: i64, others: &[Rect], rule: u32) -> bool
+    requires solid { IsSolid r.now }
+    requires within { IsRectWithin farthest r.now }
+    requires low { r.now.y0 <ℤ y }
+    requires high { y <ℤ r.now.y1 }
+    requires others_solid { All IsSolid others.now }
+    requires others_within { AreRectsWithin (farthest + 1) others.now }
+    ensures { IsTrue result ↔ AreNear rule (Has (rows_below r.now y)) (Covers others.now) }
+{
+    let part = below(r, y);
+    near_any(&part, others, rule)
+}
+
+/// Whether some square of `r` left of column `x` is near the others.
+fn near_left(r: &Rect, x: i64, others: &[Rect], rule: u32) -> bool
+    requires solid { IsSolid r.now }
+    requires within { IsRectWithin farthest r.now }
+    requires low { r.now.x0 <ℤ x }
+    requires high { x <ℤ r.now.x1 }
+    requires others_solid { All IsSolid others.now }
+    requires others_within { AreRectsWithin (farthest + 1) others.now }
+    ensures { IsTrue result ↔ AreNear rule (Has (columns_left r.now x)) (Covers others.now) }
+{
+    let part = left(r, x);
+    near_any(&part, others, rule)
 }
 
 /// The first row of `r` with a square that is near the others.
@@ -53,8 +118,8 @@ fn first_row(r: &Rect, others: &[Rect], rule: u32) -> i64
     let mut low = r.y0;
     let mut high = r.y1;
     while high - low > 1 {
-        let middle = low + (high - low) / 2;
-        if near_any(&Rect { y1: middle, ..*r }, others, rule) {
+        let middle = halfway(low, high);
+        if near_below(r, middle, others, rule) {
             high = middle;
         } else {
             low = middle;
@@ -78,8 +143,8 @@ fn first_column(r: &Rect, others: &[Rect], rule: u32) -> i64
     let mut low = r.x0;
     let mut high = r.x1;
     while high - low > 1 {
-        let middle = low + (high - low) / 2;
-        if near_any(&Rect { x1: middle, ..*r }, others, rule) {
+        let middle = halfway(low, high);
+        if near_left(r, middle, others, rule) {
             high = middle;
         } else {
             low = middle;
@@ -89,7 +154,7 @@ fn first_column(r: &Rect, others: &[Rect], rule: u32) -> i64
 }
 
 /// The least square of `r` that is near the others.
-fn least_of(r: &Rect, others: &[Rect], rule: u32) -> Option<Pt>
+pub(crate) fn least_of(r: &Rect, others: &[Rect], rule: u32) -> Option<Pt>
     requires solid { IsSolid r.now }
     requires within { IsRectWithin farthest r.now }
     requires others_solid { All IsSolid others.now }
@@ -100,39 +165,7 @@ fn least_of(r: &Rect, others: &[Rect], rule: u32) -> Option<Pt>
         return None;
     }
     let y = first_row(r, others, rule);
-    let row = Rect {
-        y0: y,
-        y1: y + 1,
-        ..*r
-    };
-    let x = first_column(&row, others, rule);
+    let only = row(r, y);
+    let x = first_column(&only, others, rule);
     Some(Pt { x, y })
-}
-
-/// The lesser of two squares, by row and then by column.
-fn lesser(p: Pt, q: Pt) -> Pt {
-    if q.y < p.y || (q.y == p.y && q.x < p.x) {
-        q
-    } else {
-        p
-    }
-}
-
-/// The least square of rectangles that is near the others.
-pub(crate) fn least_near(rects: &[Rect], others: &[Rect], rule: u32) -> Option<Pt>
-    requires solid { All IsSolid rects.now }
-    requires within { AreRectsWithin farthest rects.now }
-    requires others_solid { All IsSolid others.now }
-    requires others_within { AreRectsWithin (farthest + 1) others.now }
-    ensures { IsLeastNear rule (Covers rects.now) (Covers others.now) result }
-{
-    let mut best = None;
-    for r in rects {
-        best = match (best, least_of(r, others, rule)) {
-            (Some(p), Some(q)) => Some(lesser(p, q)),
-            (None, found) => found,
-            (found, None) => found,
-        };
-    }
-    best
 }

@@ -1,0 +1,2 @@
+pub mod NearLaws
+pub mod UnitLaws
