@@ -9,6 +9,7 @@ use Rattle.dpl_layout.specs.Structures.{target_of, Refers, Reaches, here, on}
 use Rattle.dpl_layout.specs.Faults.{IsOnCycle}
 use Rattle.dpl_links.specs.Graph as links
 use Rattle.dpl_links.specs.Graph.{LeadsTo, IsMarked}
+use Rattle.dpl_links.proofs.SpreadLaws.{Reaches-then}
 use Rattle.dpl_links.specs.Levels.{NeverRises}
 use Rattle.dpl_spec.proofs.Ordered.{Contains-nil}
 use Rattle.dpl_flatten.specs.Links.{IsGraphOf, IsLevelled}
@@ -47,3 +48,10 @@ cycle_is lib graph k j e found g t says =
   where
     some_is : {a b : ℕ} → Some a ≡ Some b → a ≡ b
     some_is e = cc
+
+pub levelled_of : (lib : Library) (graph : List (List ℕ)) (top : ℕ) (marks : List Bool) (levels : List ℕ) → IsGraphOf lib graph → links.AreReached graph top marks → NeverRises graph marks levels → IsLevelled lib graph marks levels
+levelled_of lib graph top marks levels g r n = record {
+  graph_of = g;
+  closed = λ k j m e. r.complete j (Reaches-then (r.sound k m) e);
+  levels_fall = n;
+}

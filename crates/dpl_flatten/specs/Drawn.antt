@@ -1,13 +1,17 @@
 -- What an element is refused for, and what it draws.
-use Rattle.std.specs.Prelude.{◌≡◌, ℕ, Bool, true, List, Option, Some, None}
+use Rattle.std.specs.Prelude.{◌≡◌, ℕ, Bool, true, ◌⊎◌, ℤ, ◌-ℤ◌, List, Option, Some, None}
+use Rattle.std.specs.List.{Contains}
 use Rattle.dpl_spec.specs.declared.Pt.{Pt}
 use Rattle.dpl_elements.specs.Boundaries.{IsSlanted}
 use Rattle.dpl_elements.specs.Paths.{PathElement}
-use Rattle.dpl_format.specs.Tree.{Trans, Body}
+use Rattle.dpl_format.specs.Tree.{Library, Element, Trans, Body, elements_at}
 use Rattle.dpl_layout.specs.declared.Layer.{Layer}
 use Rattle.dpl_layout.specs.declared.ElementFault.{ElementFault}
 use Rattle.dpl_layout.specs.declared.ElementFault.TheVariants.{SlantedBoundary}
-use Rattle.dpl_layout.specs.Elements.{IsAbsolute, IsMagnified, IsTurnedAskew, IsReferenceFault, IsPathFault, IsRefusedFor}
+use Rattle.dpl_layout.specs.declared.FlattenFault.{FlattenFault}
+use Rattle.dpl_layout.specs.declared.FlattenFault.TheVariants.{NoMemory, Element as Refused}
+use Rattle.dpl_links.specs.Graph.{IsMarked}
+use Rattle.dpl_layout.specs.Elements.{IsAbsolute, IsMagnified, IsTurnedAskew, IsReferenceFault, Divides, IsPathFault, IsRefusedFor}
 
 -- the fault of a transform that is refused, whatever it belongs to
 abbrev pub IsTransformFault : Trans → Option ElementFault → Type 0
@@ -18,6 +22,11 @@ IsTransformFault t (Some f) = IsReferenceFault t ⊥ f
 abbrev pub IsFaultOfReference : Trans → Type 0 → Option ElementFault → Type 0
 IsFaultOfReference t unlaid None = (f : ElementFault) → ¬ IsReferenceFault t unlaid f
 IsFaultOfReference t unlaid (Some f) = IsReferenceFault t unlaid f
+
+-- both coordinates of a difference are multiples of n
+pub record DividesBoth (n : ℤ) (from to : Pt) : Type 0 where
+  pub x : Divides n (to.x -ℤ from.x)
+  pub y : Divides n (to.y -ℤ from.y)
 
 -- the fault of a boundary, where it counts
 abbrev pub IsFaultOfBoundary : Bool → List Pt → Option ElementFault → Type 0
@@ -32,3 +41,11 @@ IsFaultOfPath counts p (Some f) = (counts ≡ true) × IsPathFault p f
 abbrev pub IsFaultOf : Layer → Body → Option ElementFault → Type 0
 IsFaultOf chosen b None = (f : ElementFault) → ¬ IsRefusedFor chosen b f
 IsFaultOf chosen b (Some f) = IsRefusedFor chosen b f
+
+-- the element at this offset is refused as the fault says
+abbrev pub IsRefusal : Layer → Element → ℕ → FlattenFault → Type 0
+IsRefusal chosen e at f = (fault : ElementFault) × IsRefusedFor chosen e.body fault × (e.at ≡ at) × (f ≡ Refused at fault)
+
+-- an element of a marked structure at this offset is refused so, or there was no memory
+abbrev pub IsRefusalOf : Library → Layer → List Bool → ℕ → FlattenFault → Type 0
+IsRefusalOf lib chosen marks at f = (f ≡ NoMemory) ⊎ ((k : ℕ) × (e : Element) × IsMarked marks k × Contains (elements_at lib k) e × IsRefusal chosen e at f)

@@ -2,3 +2,4 @@ pub mod Links
 pub mod Least
 pub mod Totals
 pub mod Drawn
+pub mod Cells

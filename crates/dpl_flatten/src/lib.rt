@@ -8,15 +8,25 @@ ghost use Rattle.dpl_spec.specs.Loops.{SomeLoopCovers, IsRectilinear, AreLoopsWi
 ghost use Rattle.dpl_layout.specs.Placements.{IsInLayer};
 ghost use Rattle.dpl_layout.specs.Faults.{IsFaultless, IsFirstFault};
 
+use crate::faults::find_faults;
+use crate::links::graph_of;
+use crate::recursion::Levelled;
 use dpl_base::Loop;
+use dpl_links::{find_levels, reach};
 
+mod cells;
+mod copies;
 mod count;
+mod faults;
 mod least;
 mod links;
 mod missing;
 mod recursion;
 mod refs;
+mod refused;
+mod shapes;
 mod top;
+mod walk;
 
 pub use crate::top::top_of;
 pub use dpl_layout::{ElementFault, FlattenFault, Layer, TopFault};
@@ -44,5 +54,14 @@ pub fn flatten(
     ensures faultless { OnOk result (IsFaultless lib.now top layer) }
     ensures fault { IfErr result (λ f. IsFirstFault lib.now top layer f) }
 {
+    let graph = graph_of(alloc, lib)?;
+    let marks = reach(alloc, graph.as_slice(), top)?;
+    let levels = find_levels(alloc, graph.as_slice(), marks.as_slice(), top)?;
+    let links = Levelled {
+        graph: graph.as_slice(),
+        marks: marks.as_slice(),
+        levels: levels.as_slice(),
+    };
+    find_faults(alloc, lib, top, layer, &links)?;
     Err(FlattenFault::NoMemory)
 }

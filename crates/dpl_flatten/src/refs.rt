@@ -1,11 +1,11 @@
 //! How references place what they refer to.
 
-ghost use Rattle.std.specs.Prelude.{◌≡◌, ◌≢◌, ◌+◌, ◌*◌, ◌^◌, ◌<◌, ◌≤◌, ◌↔◌, pos, ◌-ℤ◌, ◌≤ℤ◌, bit_and, length, unwrap_or, IsTrue};
+ghost use Rattle.std.specs.Prelude.{◌≡◌, ◌≢◌, ◌+◌, ◌*◌, ◌^◌, ◌<◌, ◌≤◌, ◌↔◌, pos, ◌-ℤ◌, ◌≤ℤ◌, unsigned_abs, bit_and, length, unwrap_or, IsTrue};
 ghost use Rattle.std.specs.Option.{option_map};
 ghost use Rattle.dpl_spec.specs.Loops.{IsPointWithin};
 ghost use Rattle.dpl_syntax.specs.Elements.{trans_seen};
 ghost use Rattle.dpl_layout.specs.Elements.{point_in, plain, IsMagnified, IsTurnedAskew, Divides, IsArray};
-ghost use Rattle.dpl_flatten.specs.Drawn.{IsTransformFault, IsFaultOfReference};
+ghost use Rattle.dpl_flatten.specs.Drawn.{IsTransformFault, IsFaultOfReference, DividesBoth};
 
 use dpl_base::Pt;
 use dpl_layout::ElementFault;
@@ -86,9 +86,75 @@ pub(crate) fn single_fault(trans: Option<Trans>) -> Option<ElementFault>
 }
 
 /// Whether a difference is a multiple of a number of columns or rows.
-fn divides(count: i16, difference: i64) -> bool
+fn is_multiple(count: i16, difference: i64) -> bool
     requires { pos 1 ≤ℤ count }
     ensures { IsTrue result ↔ Divides count difference }
 {
     difference % count as i64 == 0
+}
+
+/// Whether the difference of two coordinates is.
+fn divides(count: i16, from: i64, to: i64) -> bool
+    requires count { pos 1 ≤ℤ count }
+    requires from { unsigned_abs from ≤ 2 ^ 31 }
+    requires to { unsigned_abs to ≤ 2 ^ 31 }
+    ensures { IsTrue result ↔ Divides count (to -ℤ from) }
+{
+    is_multiple(count, to - from)
+}
+
+/// Whether both coordinates of a difference are.
+fn divides_both(count: i16, from: Pt, to: Pt) -> bool
+    requires count { pos 1 ≤ℤ count }
+    requires from { IsPointWithin (2 ^ 31) from }
+    requires to { IsPointWithin (2 ^ 31) to }
+    ensures { IsTrue result ↔ DividesBoth count from to }
+{
+    if !divides(count, from.x, to.x) {
+        return false;
+    }
+    if !divides(count, from.y, to.y) {
+        return false;
+    }
+    true
+}
+
+/// Whether an array has a column and a row, and whole spacings between them.
+fn is_laid(columns: i16, rows: i16, xy: &[u8]) -> bool
+    requires { length xy.now ≡ 24 }
+    ensures { IsTrue result ↔ IsArray columns rows xy.now }
+{
+    if columns < 1 || rows < 1 {
+        return false;
+    }
+    let from = point_at(xy, 0);
+    let across = point_at(xy, 1);
+    let up = point_at(xy, 2);
+    if !divides_both(columns, from, across) {
+        return false;
+    }
+    if !divides_both(rows, from, up) {
+        return false;
+    }
+    true
+}
+
+/// What an array is refused for.
+pub(crate) fn array_fault(
+    trans: Option<Trans>,
+    columns: i16,
+    rows: i16,
+    xy: &[u8],
+) -> Option<ElementFault>
+    requires { length xy.now ≡ 24 }
+    ensures { IsFaultOfReference (unwrap_or (option_map trans_seen trans) plain) (¬ IsArray columns rows xy.now) result }
+{
+    if let Some(fault) = own_fault(trans) {
+        return Some(fault);
+    }
+    if is_laid(columns, rows, xy) {
+        None
+    } else {
+        Some(ElementFault::BadArray)
+    }
 }

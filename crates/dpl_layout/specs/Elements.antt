@@ -84,13 +84,13 @@ abbrev pub up : List ℕ → ℕ → ℤ
 up xy i = (point_in xy i).y -ℤ (point_in xy 0).y
 
 -- an array has a column and a row, and its spacings are whole
-pub record IsArray (r : Aref) : Type 0 where
-  pub column : pos 1 ≤ℤ r.columns
-  pub row : pos 1 ≤ℤ r.rows
-  pub column_x : Divides r.columns (across r.xy 1)
-  pub column_y : Divides r.columns (up r.xy 1)
-  pub row_x : Divides r.rows (across r.xy 2)
-  pub row_y : Divides r.rows (up r.xy 2)
+pub record IsArray (columns rows : ℤ) (xy : List ℕ) : Type 0 where
+  pub column : pos 1 ≤ℤ columns
+  pub row : pos 1 ≤ℤ rows
+  pub column_x : Divides columns (across xy 1)
+  pub column_y : Divides columns (up xy 1)
+  pub row_x : Divides rows (across xy 2)
+  pub row_y : Divides rows (up xy 2)
 
 -- where copy (i, j) of a reference stands, in the coordinates of its own structure; the spacing isn't turned or reflected again
 abbrev pub stand : Body → ℕ → ℕ → Pt
@@ -205,7 +205,7 @@ IsOn chosen layer datatype = is_on chosen layer datatype ≡ true
 -- what an element is refused for: a reference whatever it leads to, a shape where it lies on the chosen layer
 abbrev pub IsRefusedFor : Layer → Body → ElementFault → Type 0
 IsRefusedFor chosen (is_sref r) f = IsReferenceFault (unwrap_or r.trans plain) ⊥ f
-IsRefusedFor chosen (is_aref r) f = IsReferenceFault (unwrap_or r.trans plain) (¬ IsArray r) f
+IsRefusedFor chosen (is_aref r) f = IsReferenceFault (unwrap_or r.trans plain) (¬ IsArray r.columns r.rows r.xy) f
 IsRefusedFor chosen (is_boundary b) f = IsOn chosen b.layer b.datatype × IsBoundaryFault (points_in b.xy) f
 IsRefusedFor chosen (is_box b) f = IsOn chosen b.layer b.boxtype × IsBoundaryFault (points_in b.xy) f
 IsRefusedFor chosen (is_path p) f = IsOn chosen p.layer p.datatype × IsPathFault (path_shape p) f

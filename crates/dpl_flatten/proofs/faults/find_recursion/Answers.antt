@@ -1,0 +1,9 @@
+use Rattle.dpl_layout.specs.Faults.{IsOnCycle}
+use Rattle.dpl_flatten.proofs.FoundLaws.{first_of, nowhere_of}
+use Rattle.dpl_flatten.proofs.faults.find_recursion.Goals as goal
+
+pub returns-in-Some-clause-fault : goal.returns-in-Some-clause-fault
+returns-in-Some-clause-fault c = (c.requires.complete, first_of c.args.lib.now c.args.links.now.graph.now c.args.top c.args.links.now.marks.now c.requires.links.graph_of c.requires.reached (IsOnCycle c.args.lib.now) c.in-Some.at (rw c.in-Some.is at c.in_ok-found.ensures))
+
+pub returns-in-None-clause-whole : goal.returns-in-None-clause-whole
+returns-in-None-clause-whole c = record { complete = c.requires.complete; acyclic = nowhere_of c.args.lib.now c.args.links.now.graph.now c.args.top c.args.links.now.marks.now c.requires.links.graph_of c.requires.reached (IsOnCycle c.args.lib.now) (rw c.in-None.is at c.in_ok-found.ensures) }

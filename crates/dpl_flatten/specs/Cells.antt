@@ -1,0 +1,93 @@
+-- What one structure draws, and the copies that it places.
+use Rattle.std.specs.Prelude.{◌≡◌, ℕ, ◌<◌, ◌⊎◌, ℤ, pos, ◌+ℤ◌, ◌-ℤ◌, ◌*ℤ◌, int_div, ◌^◌, ◌≤◌, unsigned_abs, List, Option, Some}
+use Rattle.std.specs.List.{Contains}
+use Rattle.dpl_spec.specs.declared.Pt.{Pt}
+use Rattle.dpl_spec.specs.Loops.{IsRectilinear, IsPointWithin}
+use Rattle.dpl_elements.specs.Motions.{Motion}
+use Rattle.dpl_format.specs.Tree.{Library, Body, Trans, Element, elements_at}
+use Rattle.dpl_layout.specs.declared.Layer.{Layer}
+use Rattle.dpl_layout.specs.Elements.{loops_of, point_in, columns_of, rows_of, IsCopyMotion, reflects, AreTurns}
+use Rattle.dpl_layout.specs.Structures.{target_of}
+use Rattle.dpl_layout.specs.Placements.{Step, IsPlacement}
+use Rattle.dpl_flatten.specs.declared.copies.Turn.{Turn}
+use Rattle.dpl_flatten.specs.declared.cells.Outline.{Outline}
+use Rattle.dpl_flatten.specs.declared.cells.Copies.{Copies}
+use Rattle.dpl_flatten.specs.declared.cells.Cell.{Cell}
+
+-- the motion of copy (i, j)
+abbrev pub copy_motion : Copies → ℕ → ℕ → Motion
+copy_motion c i j = record {
+  reflect = c.reflect;
+  turns = c.turns;
+  dx = (c.origin.x +ℤ (pos i *ℤ c.across.x)) +ℤ (pos j *ℤ c.up.x);
+  dy = (c.origin.y +ℤ (pos i *ℤ c.across.y)) +ℤ (pos j *ℤ c.up.y);
+}
+
+-- count equal spacings lie between two points
+abbrev pub spacing_of : Pt → Pt → ℤ → Pt
+spacing_of from to count = record { x = int_div (to.x -ℤ from.x) count; y = int_div (to.y -ℤ from.y) count }
+
+-- the copies of a reference
+pub record AreCopies (b : Body) (c : Copies) : Type 0 where
+  pub columns : c.columns ≡ columns_of b
+  pub rows : c.rows ≡ rows_of b
+  pub motions : (i j : ℕ) → i < c.columns → j < c.rows → IsCopyMotion b i j (copy_motion c i j)
+  pub turns : c.turns < 4
+
+-- nothing that structure j places draws a loop
+abbrev pub IsBare : Library → Layer → ℕ → Type 0
+IsBare lib layer j = (steps : List Step) (l : ℕ) (e : Element) (qs : List Pt) → IsPlacement lib j steps l e → Contains (loops_of layer e.body) qs → ⊥
+
+-- some of these elements draws the outline
+abbrev pub IsDrawn : Layer → List Element → Outline → Type 0
+IsDrawn layer es o = (e : Element) × Contains es e × (o.at ≡ e.at) × Contains (loops_of layer e.body) o.points
+
+-- one of these elements is a reference with these copies
+abbrev pub IsPlaced : Library → List Element → Copies → Type 0
+IsPlaced lib es c = (e : Element) × Contains es e × (target_of lib e ≡ Some c.target) × AreCopies e.body c
+
+-- what some elements draw and place; copies of what draws nothing may be left out
+pub record IsCell (lib : Library) (layer : Layer) (es : List Element) (outlines : List Outline) (copies : List Copies) : Type 0 where
+  pub drawn : (o : Outline) → Contains outlines o → IsDrawn layer es o
+  pub outlined : (e : Element) (qs : List Pt) → Contains es e → Contains (loops_of layer e.body) qs → Contains outlines (record { at = e.at; points = qs })
+  pub straight : (o : Outline) → Contains outlines o → IsRectilinear o.points
+  pub placed : (c : Copies) → Contains copies c → IsPlaced lib es c
+  pub copied : (e : Element) (j : ℕ) → Contains es e → target_of lib e ≡ Some j → IsBare lib layer j ⊎ ((c : Copies) × Contains copies c × (c.target ≡ j) × AreCopies e.body c)
+
+-- the reflection and the turns of a transform
+pub record IsTurn (t : Trans) (turn : Turn) : Type 0 where
+  pub reflect : turn.reflect ≡ reflects t
+  pub turns : AreTurns t.angle turn.turns
+  pub few : turn.turns < 4
+
+-- the numbers of copies are small enough for what is done with them
+pub record IsSmallCopies (c : Copies) : Type 0 where
+  pub origin : IsPointWithin (2 ^ 31) c.origin
+  pub across : IsPointWithin (2 ^ 32) c.across
+  pub up : IsPointWithin (2 ^ 32) c.up
+  pub columns : c.columns < 2 ^ 16
+  pub rows : c.rows < 2 ^ 16
+
+-- the one copy of a single reference
+pub record IsSingleCopy (t : Trans) (xy : List ℕ) (c : Copies) : Type 0 where
+  pub reflect : c.reflect ≡ reflects t
+  pub turns : AreTurns t.angle c.turns
+  pub few : c.turns < 4
+  pub origin : c.origin ≡ point_in xy 0
+  pub across : c.across ≡ record { x = pos 0; y = pos 0 }
+  pub up : c.up ≡ record { x = pos 0; y = pos 0 }
+  pub columns : c.columns ≡ 1
+  pub rows : c.rows ≡ 1
+  pub small : IsSmallCopies c
+
+-- the copies of an array
+pub record IsArrayOfCopies (t : Trans) (across_count up_count : ℤ) (xy : List ℕ) (c : Copies) : Type 0 where
+  pub reflect : c.reflect ≡ reflects t
+  pub turns : AreTurns t.angle c.turns
+  pub few : c.turns < 4
+  pub origin : c.origin ≡ point_in xy 0
+  pub across : c.across ≡ spacing_of (point_in xy 0) (point_in xy 1) across_count
+  pub up : c.up ≡ spacing_of (point_in xy 0) (point_in xy 2) up_count
+  pub columns : c.columns ≡ unsigned_abs across_count
+  pub rows : c.rows ≡ unsigned_abs up_count
+  pub small : IsSmallCopies c

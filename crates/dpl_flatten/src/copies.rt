@@ -1,0 +1,128 @@
+//! The copies that a reference places.
+
+ghost use Rattle.std.specs.Prelude.{◌≡◌, ◌^◌, ◌<◌, ◌≤◌, pos, ◌≤ℤ◌, length, unwrap_or, IfSome, unsigned_abs, ◌-ℤ◌, int_div};
+ghost use Rattle.std.specs.Option.{option_map};
+ghost use Rattle.dpl_spec.specs.Loops.{IsPointWithin};
+ghost use Rattle.dpl_syntax.specs.Elements.{trans_seen};
+ghost use Rattle.dpl_layout.specs.Elements.{plain};
+ghost use Rattle.dpl_flatten.specs.Cells.{spacing_of, IsTurn, IsSingleCopy, IsArrayOfCopies};
+
+use crate::cells::{Copies, is_reflected, turns_of};
+use crate::refs::point_at;
+use dpl_base::Pt;
+use dpl_syntax::Trans;
+
+/// How a reference turns its copies.
+#[derive(Clone, Copy)]
+struct Turn {
+    reflect: bool,
+    turns: u8,
+}
+
+/// The reflection and the turns of a transform; None where its angle isn't right.
+fn turn_of(trans: &Trans) -> Option<Turn>
+    ensures { IfSome result (λ t. IsTurn (trans_seen trans.now) t) }
+{
+    let turns = turns_of(trans.angle)?;
+    Some(Turn {
+        reflect: is_reflected(trans.strans),
+        turns,
+    })
+}
+
+/// Those of a reference, which may have no transform.
+fn own_turn(trans: Option<Trans>) -> Option<Turn>
+    ensures { IfSome result (λ t. IsTurn (unwrap_or (option_map trans_seen trans) plain) t) }
+{
+    match trans {
+        None => Some(Turn {
+            reflect: false,
+            turns: 0,
+        }),
+        Some(trans) => turn_of(&trans),
+    }
+}
+
+/// One of so many equal parts of a difference.
+fn share(count: i16, difference: i64) -> i64
+    requires { pos 1 ≤ℤ count }
+    ensures value { result ≡ int_div difference count }
+{
+    difference / count as i64
+}
+
+/// One of so many equal parts of the difference of two coordinates.
+fn part(count: i16, from: i64, to: i64) -> i64
+    requires count { pos 1 ≤ℤ count }
+    requires from { unsigned_abs from ≤ 2 ^ 31 }
+    requires to { unsigned_abs to ≤ 2 ^ 31 }
+    ensures value { result ≡ int_div (to -ℤ from) count }
+    ensures within { unsigned_abs result ≤ 2 ^ 32 }
+{
+    share(count, to - from)
+}
+
+/// The spacing of so many columns or rows from one point to another.
+fn spacing(from: Pt, to: Pt, count: i16) -> Pt
+    requires count { pos 1 ≤ℤ count }
+    requires from { IsPointWithin (2 ^ 31) from }
+    requires to { IsPointWithin (2 ^ 31) to }
+    ensures value { result ≡ spacing_of from to count }
+    ensures within { IsPointWithin (2 ^ 32) result }
+{
+    Pt {
+        x: part(count, from.x, to.x),
+        y: part(count, from.y, to.y),
+    }
+}
+
+/// The one copy of a single reference.
+pub(crate) fn single_copy(target: u32, trans: Option<Trans>, xy: &[u8]) -> Option<Copies>
+    requires { length xy.now ≡ 8 }
+    ensures copies { IfSome result (λ c. IsSingleCopy (unwrap_or (option_map trans_seen trans) plain) xy.now c) }
+    ensures target { IfSome result (λ c. c.target ≡ target) }
+{
+    let turn = own_turn(trans)?;
+    let still = Pt { x: 0, y: 0 };
+    Some(Copies {
+        target,
+        reflect: turn.reflect,
+        turns: turn.turns,
+        origin: point_at(xy, 0),
+        across: still,
+        up: still,
+        columns: 1,
+        rows: 1,
+    })
+}
+
+/// The copies of an array; None where it can't be laid out.
+pub(crate) fn array_copies(
+    target: u32,
+    trans: Option<Trans>,
+    columns: i16,
+    rows: i16,
+    xy: &[u8],
+) -> Option<Copies>
+    requires { length xy.now ≡ 24 }
+    ensures copies { IfSome result (λ c. IsArrayOfCopies (unwrap_or (option_map trans_seen trans) plain) columns rows xy.now c) }
+    ensures target { IfSome result (λ c. c.target ≡ target) }
+{
+    if columns < 1 || rows < 1 {
+        return None;
+    }
+    let turn = own_turn(trans)?;
+    let origin = point_at(xy, 0);
+    let across = spacing(origin, point_at(xy, 1), columns);
+    let up = spacing(origin, point_at(xy, 2), rows);
+    Some(Copies {
+        target,
+        reflect: turn.reflect,
+        turns: turn.turns,
+        origin,
+        across,
+        up,
+        columns: columns.unsigned_abs() as u32,
+        rows: rows.unsigned_abs() as u32,
+    })
+}

@@ -1,0 +1,201 @@
+//! Elements that are refused.
+
+ghost use Rattle.std.specs.Prelude.{◌≡◌, ◌<◌, true, length, IfOk, IfSome};
+ghost use Rattle.std.specs.List.{Contains};
+ghost use Rattle.dpl_format.specs.Tree.{Element as TreeElement, elements_at};
+ghost use Rattle.dpl_syntax.specs.Elements.{body_seen, element_seen, IsSized};
+ghost use Rattle.dpl_layout.specs.Faults.{IsRefused};
+ghost use Rattle.dpl_flatten.specs.Least.{IsLeastOf, IsNoted, Among, AmongMarked};
+ghost use Rattle.dpl_flatten.specs.Drawn.{IsFaultOf, IsRefusal, IsRefusalOf};
+
+use crate::count::is_on;
+use crate::least::{earlier, note};
+use crate::refs::{array_fault, single_fault};
+use crate::shapes::{Stroke, boundary_fault, path_fault};
+use dpl_layout::{ElementFault, FlattenFault, Layer};
+use dpl_syntax::{Body, Element, Library};
+use std::alloc::{AllocError, Global};
+
+/// What an element is refused for.
+fn fault_of(
+    alloc: Global,
+    chosen: Layer,
+    element: &Element<'_>,
+) -> Result<Option<ElementFault>, AllocError>
+    requires { IsSized element.now }
+    ensures { IfOk result (λ o. IsFaultOf chosen (body_seen element.now.body) o) }
+{
+    match element.body {
+        Body::Sref { trans, .. } => Ok(single_fault(trans)),
+        Body::Aref {
+            trans,
+            columns,
+            rows,
+            xy,
+            ..
+        } => Ok(array_fault(trans, columns, rows, xy)),
+        Body::Boundary {
+            layer,
+            datatype,
+            xy,
+        } => boundary_fault(alloc, is_on(chosen, layer, datatype), xy),
+        Body::BoxShape { layer, boxtype, xy } => boundary_fault(
+            alloc,
+            is_on(chosen, layer, boxtype),
+            xy,
+        ),
+        Body::Path {
+            layer,
+            datatype,
+            kind,
+            width,
+            begin_ext,
+            end_ext,
+            xy,
+        } => {
+            let stroke = Stroke {
+                width: width.unwrap_or(0),
+                kind: kind.unwrap_or(0),
+                begin_ext: begin_ext.unwrap_or(0),
+                end_ext: end_ext.unwrap_or(0),
+            };
+            let fault = path_fault(alloc, is_on(chosen, layer, datatype), stroke, xy)?;
+            Ok(fault)
+        }
+        _ => Ok(None),
+    }
+}
+
+/// The least offset so far, brought up to an element.
+fn note_refused(
+    alloc: Global,
+    chosen: Layer,
+    structure: u32,
+    element: &Element<'_>,
+    first: Option<usize>,
+) -> Result<Option<usize>, AllocError>
+    requires { IsSized element.now }
+    ensures { IfOk result (λ new. IsNoted (IsRefused chosen) structure (element_seen element.now) first new) }
+{
+    let fault = fault_of(alloc, chosen, element)?;
+    match fault {
+        Some(_) => Ok(note(first, true, element.at)),
+        None => Ok(first),
+    }
+}
+
+/// The least offset of a refused element of a structure.
+fn refused_in(
+    alloc: Global,
+    lib: &Library<'_>,
+    chosen: Layer,
+    structure: u32,
+) -> Result<Option<usize>, AllocError>
+    requires { structure < length lib.now.structures }
+    ensures { IfOk result (λ first. IsLeastOf (Among structure (elements_at lib.now structure) (IsRefused chosen)) first) }
+{
+    let mut first = None;
+    for element in lib.elements(structure) {
+        first = note_refused(alloc, chosen, structure, element, first)?;
+    }
+    Ok(first)
+}
+
+/// The least offset of a refused element of a structure, where it is marked.
+fn refused_where(
+    alloc: Global,
+    lib: &Library<'_>,
+    chosen: Layer,
+    structure: u32,
+    marked: bool,
+) -> Result<Option<usize>, AllocError>
+    requires { structure < length lib.now.structures }
+    ensures { IfOk result (λ first. IsLeastOf (λ k e. (marked ≡ true) × Among structure (elements_at lib.now structure) (IsRefused chosen) k e) first) }
+{
+    if !marked {
+        return Ok(None);
+    }
+    let first = refused_in(alloc, lib, chosen, structure)?;
+    Ok(first)
+}
+
+/// The least offset of a refused element of the marked structures.
+pub(crate) fn refused(
+    alloc: Global,
+    lib: &Library<'_>,
+    chosen: Layer,
+    marks: &[bool],
+) -> Result<Option<usize>, AllocError>
+    requires { length marks.now ≡ length lib.now.structures }
+    ensures { IfOk result (λ first. IsLeastOf (AmongMarked lib.now marks.now (length marks.now) (IsRefused chosen)) first) }
+{
+    let mut first = None;
+    for structure in 0..lib.count() {
+        let found = refused_where(alloc, lib, chosen, structure, marks[structure as usize])?;
+        first = earlier(first, found);
+    }
+    Ok(first)
+}
+
+/// What the element at an offset is refused for, if it is.
+fn refusal_of(
+    alloc: Global,
+    chosen: Layer,
+    element: &Element<'_>,
+    at: usize,
+) -> Result<Option<FlattenFault>, AllocError>
+    requires { IsSized element.now }
+    ensures { IfOk result (λ o. IfSome o (λ f. IsRefusal chosen (element_seen element.now) at f)) }
+{
+    if element.at != at {
+        return Ok(None);
+    }
+    let fault = fault_of(alloc, chosen, element)?;
+    match fault {
+        Some(fault) => Ok(Some(FlattenFault::Element { at, fault })),
+        None => Ok(None),
+    }
+}
+
+/// What an element of a structure at an offset is refused for, if it is.
+fn refusal_in(
+    alloc: Global,
+    lib: &Library<'_>,
+    chosen: Layer,
+    structure: u32,
+    at: usize,
+) -> Result<Option<FlattenFault>, AllocError>
+    requires { structure < length lib.now.structures }
+    ensures { IfOk result (λ o. IfSome o (λ f. (e : TreeElement) × Contains (elements_at lib.now structure) e × IsRefusal chosen e at f)) }
+{
+    for element in lib.elements(structure) {
+        let found = refusal_of(alloc, chosen, element, at)?;
+        if let Some(fault) = found {
+            return Ok(Some(fault));
+        }
+    }
+    Ok(None)
+}
+
+/// What the refused element at this offset of a marked structure is refused for.
+pub(crate) fn refusal(
+    alloc: Global,
+    lib: &Library<'_>,
+    chosen: Layer,
+    marks: &[bool],
+    at: usize,
+) -> FlattenFault
+    requires { length marks.now ≡ length lib.now.structures }
+    ensures { IsRefusalOf lib.now chosen marks.now at result }
+{
+    for structure in 0..lib.count() {
+        if marks[structure as usize] {
+            match refusal_in(alloc, lib, chosen, structure, at) {
+                Ok(None) => {}
+                Ok(Some(fault)) => return fault,
+                Err(_) => return FlattenFault::NoMemory,
+            }
+        }
+    }
+    FlattenFault::NoMemory
+}
