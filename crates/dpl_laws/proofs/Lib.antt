@@ -1,0 +1,4 @@
+pub mod Parts
+pub mod Cover
+pub mod Apart
+pub mod Overlap
