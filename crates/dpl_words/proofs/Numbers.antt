@@ -27,16 +27,16 @@ digits_back [] h = refl
 digits_back (d ∷ ds) h = rw (lt-ltb (digit_value d) 10 h.0) (digits_back ds h.1)
 
 -- the test of a text
-abbrev is_below : ℕ → Text → Bool
+abbrev pub is_below : ℕ → Text → Bool
 is_below k text = is_numeral (without_leading_plus text) && nat_lt (digits_value 10 (without_leading_plus text)) (2 ^ k)
 
-below_from : (k : ℕ) (text : Text) → is_below k text ≡ true → IsNumeral 10 (without_leading_plus text) × (digits_value 10 (without_leading_plus text) < 2 ^ k)
+pub below_from : (k : ℕ) (text : Text) → is_below k text ≡ true → IsNumeral 10 (without_leading_plus text) × (digits_value 10 (without_leading_plus text) < 2 ^ k)
 below_from k text e =
     let a = both _ _ e in
     let b = both _ _ a.0 in
     ((ltb-true _ _ b.0, digits_from _ b.1), ltb-true _ _ a.1)
 
-below_back : (k : ℕ) (text : Text) → IsNumeral 10 (without_leading_plus text) × (digits_value 10 (without_leading_plus text) < 2 ^ k) → is_below k text ≡ true
+pub below_back : (k : ℕ) (text : Text) → IsNumeral 10 (without_leading_plus text) × (digits_value 10 (without_leading_plus text) < 2 ^ k) → is_below k text ≡ true
 below_back k text h = rw (lt-ltb _ _ h.0.0, digits_back _ h.0.1, lt-ltb _ _ h.1) refl
 
 reads : {E : Type 0} (k : ℕ) (G : List ℕ → Result ℕ E → Type 0) (t : Text) (r : Option ℕ) → ((x : Result ℕ E) → G t x → ParsesUnsigned k 10 t x) → ReadsOne G t r → r ≡ number_below k t
