@@ -1,7 +1,8 @@
 -- What the words of a command line give, where they are taken.
 use Rattle.std.specs.Prelude.{◌≡◌, ◌≤◌, ℕ, true, List, Option, Some, None, codes, is_some}
+use Rattle.std.specs.Str.{bytes_eq}
 use Rattle.clap.specs.Walk.{Row, Text, first_of}
-use Rattle.dpl_words.specs.Meaning.{AsksSplit, RequestValues, SplitValues, asked_by, number_at}
+use Rattle.dpl_words.specs.Meaning.{AsksSplit, RequestValues, SplitValues, number_at}
 
 -- a number is there, from low to high
 abbrev pub IsFrom : ℕ → ℕ → Option ℕ → Type 0
@@ -24,6 +25,10 @@ pub record AreThere (rows : List Row) : Type 0 where
   pub input : IsThere (first_of (codes "in") rows)
   pub output : IsThere (first_of (codes "out") rows)
   pub certificate : IsThere (first_of (codes "cert") rows)
+
+-- what the entries of a subcommand have, by its name
+abbrev pub HasItsValues : Text × List Row → Type 0
+HasItsValues met = bytes_eq met.0 (codes "split") ≡ true → AreThere met.1
 
 -- each number of a command line of `split` lies in its range
 pub record AreInRange (v : SplitValues) : Type 0 where
