@@ -7,3 +7,6 @@ mod values;
 
 pub use law::{taken_has_its_values, taken_names_a_subcommand};
 pub use values::{Request, SplitOptions, WordsFault, read_words};
+
+#[cfg(test)]
+mod tests;
