@@ -2,7 +2,9 @@
 use Rattle.std.specs.Prelude.{◌≡◌, ℕ, ◌*◌, ◌<◌, ◌⊎◌, ℤ, ◌+ℤ◌, pos, List, Option, Some, None, length, slice_index_or}
 use Rattle.dpl_spec.specs.declared.Pt.{Pt}
 use Rattle.dpl_spec.specs.declared.Rect.{Rect}
-use Rattle.dpl_spec.specs.Squares.{Region, Has, AreNear, IsLeast, Precedes, d2}
+use Rattle.dpl_tree.specs.declared.tree.Node.{Node}
+use Rattle.dpl_tree.specs.Trees.{HasLeaf}
+use Rattle.dpl_spec.specs.Squares.{Region, IsSolidWithin, Has, AreNear, IsLeast, Precedes, d2}
 
 -- the squares of a that are closer than rule to some square of b
 abbrev pub near_part : ℕ → Region → Region → Region
@@ -57,3 +59,10 @@ IsImproved rule a b (Some p) (Some q) = IsLowered rule a b p q
 -- the squares of the first n rectangles
 abbrev pub CoversFirst : ℕ → List Rect → Region
 CoversFirst n rs p = (k : ℕ) × (r : Rect) × (k < n) × (k < length rs) × (slice_index_or rs k r ≡ r) × Has r p
+
+-- the squares of the rectangles of a search tree
+abbrev pub LeafCovers : List Node → Region
+LeafCovers nodes p = (r : Rect) × (k : ℕ) × HasLeaf nodes r k × Has r p
+
+abbrev pub AreLeavesWithin : ℕ → List Node → Type 0
+AreLeavesWithin bound nodes = (r : Rect) (k : ℕ) → HasLeaf nodes r k → IsSolidWithin bound r
