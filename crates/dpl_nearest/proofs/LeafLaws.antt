@@ -15,7 +15,7 @@ use Rattle.dpl_tree.specs.declared.tree.Owners.{Owners}
 use Rattle.dpl_tree.specs.declared.tree.Owners.TheVariants.{All as Everyone}
 use Rattle.dpl_tree.specs.Trees.{IsTree, HasLeaf, LiesApart, IsMissed}
 use Rattle.dpl_tree.specs.Windows.{IsWidened}
-use Rattle.dpl_nearest.specs.Nearest.{LeafCovers, AreLeavesWithin, IsLeastNear}
+use Rattle.dpl_nearest.specs.Search.{LeafCovers, AreLeavesWithin, IsLeastNear}
 
 square_up : (m n : ℕ) → m ≤ n → m * m ≤ n * n
 square_up m n a = grind arith

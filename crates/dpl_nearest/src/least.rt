@@ -6,7 +6,7 @@ ghost use Rattle.dpl_spec.specs.Slabs.{IsSolid};
 ghost use Rattle.dpl_spec.specs.Squares.{Covers, Has, Precedes};
 ghost use Rattle.dpl_spec.specs.declared.Rect.{Rect};
 ghost use Rattle.dpl_tree.specs.Trees.{HasLeaf};
-ghost use Rattle.dpl_nearest.specs.Nearest.{AreLeavesWithin, IsLeastNear, LeafCovers, IsLowered, IsImproved};
+ghost use Rattle.dpl_nearest.specs.Search.{AreLeavesWithin, IsLeastNear, LeafCovers, IsLowered, IsImproved};
 
 use crate::rects::least_of;
 use dpl_base::{Pt, Rect};

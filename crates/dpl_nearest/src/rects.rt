@@ -3,7 +3,7 @@ ghost use Rattle.std.specs.Prelude.{◌≡◌, ◌≤◌, ◌<◌, ◌+◌, ◌^
 ghost use Rattle.dpl_spec.specs.Loops.{IsRectWithin, farthest};
 ghost use Rattle.dpl_spec.specs.Slabs.{IsSolid};
 ghost use Rattle.dpl_spec.specs.Squares.{AreNear, Has};
-ghost use Rattle.dpl_nearest.specs.Nearest.{AreLeavesWithin, IsLeastNear, LeafCovers, column_at, columns_left, row_at, rows_below, unit_of};
+ghost use Rattle.dpl_nearest.specs.Search.{AreLeavesWithin, IsLeastNear, LeafCovers, column_at, columns_left, row_at, rows_below, unit_of};
 
 use dpl_base::{Pt, Rect, near};
 use dpl_tree::{Owners, Tree, widened};

@@ -1,4 +1,4 @@
-use Rattle.dpl_nearest.specs.Nearest.{LeafCovers}
+use Rattle.dpl_nearest.specs.Search.{LeafCovers}
 use Rattle.dpl_nearest.proofs.NearLaws.{least_more, least_whole}
 use Rattle.dpl_nearest.proofs.least.least_in_tree.Goals as goal
 

@@ -1,4 +1,4 @@
-use Rattle.dpl_nearest.specs.Nearest.{IsLeastNear, CoversFirst, LeafCovers}
+use Rattle.dpl_nearest.specs.Search.{IsLeastNear, CoversFirst, LeafCovers}
 use Rattle.dpl_nearest.proofs.least.least_in_tree.Given as goal
 
 abbrev pub invariant-loop-r : goal.invariant-loop-r

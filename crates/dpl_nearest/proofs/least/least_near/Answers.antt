@@ -1,5 +1,5 @@
 use Rattle.dpl_spec.specs.Squares.{Covers}
-use Rattle.dpl_nearest.specs.Nearest.{LeafCovers}
+use Rattle.dpl_nearest.specs.Search.{LeafCovers}
 use Rattle.dpl_nearest.proofs.LeafLaws.{leaves-within, leaves-covers, covers-leaves, least-beside}
 use Rattle.dpl_nearest.proofs.least.least_near.Goals as goal
 

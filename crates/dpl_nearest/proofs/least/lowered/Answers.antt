@@ -1,6 +1,6 @@
 use Rattle.std.proofs.Common.{inl, refl}
 use Rattle.dpl_spec.specs.Squares.{Has}
-use Rattle.dpl_nearest.specs.Nearest.{LeafCovers}
+use Rattle.dpl_nearest.specs.Search.{LeafCovers}
 use Rattle.dpl_nearest.proofs.NearLaws.{lowered_to}
 use Rattle.dpl_nearest.proofs.least.lowered.Goals as goal
 

@@ -1,7 +1,7 @@
 use Rattle.std.proofs.Common.{◌≤ℤ◌, ◌<ℤ◌, ℕ, ℤ, pos, ◌-ℤ◌}
 use Rattle.std.specs.Prelude.{unsigned_abs}
 use Rattle.dpl_spec.specs.Squares.{AreNear, Has}
-use Rattle.dpl_nearest.specs.Nearest.{LeafCovers, rows_below}
+use Rattle.dpl_nearest.specs.Search.{LeafCovers, rows_below}
 use Rattle.dpl_nearest.proofs.rects.first_row.Given as goal
 
 abbrev pub invariant-loop-high : goal.invariant-loop-high

@@ -3,7 +3,7 @@ use Rattle.std.proofs.lemmas.Int.{to_z-of_z}
 use borrow.Author.Rules.{sfits_of}
 use Rattle.dpl_spec.specs.declared.Rect.{Rect}
 use Rattle.dpl_spec.specs.Squares.{AreNear, Has}
-use Rattle.dpl_nearest.specs.Nearest.{LeafCovers}
+use Rattle.dpl_nearest.specs.Search.{LeafCovers}
 use Rattle.dpl_nearest.proofs.NearLaws.{least_square_in}
 use Rattle.dpl_nearest.proofs.rects.least_of.Goals as goal
 

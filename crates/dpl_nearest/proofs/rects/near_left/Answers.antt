@@ -2,7 +2,7 @@ use Rattle.std.proofs.Common.{subst, IsTrue, ◌↔◌, w64}
 use Rattle.std.proofs.lemmas.Int.{to_z-of_z}
 use Rattle.dpl_spec.specs.declared.Rect.{Rect}
 use Rattle.dpl_spec.specs.Squares.{AreNear, Has}
-use Rattle.dpl_nearest.specs.Nearest.{LeafCovers}
+use Rattle.dpl_nearest.specs.Search.{LeafCovers}
 use Rattle.dpl_nearest.proofs.rects.near_left.Goals as goal
 
 pub returns : goal.returns
