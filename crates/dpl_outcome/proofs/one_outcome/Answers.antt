@@ -1,0 +1,5 @@
+use Rattle.dpl_outcome.proofs.Outcomes.{outcome-same}
+use Rattle.dpl_outcome.proofs.one_outcome.Goals as goal
+
+pub returns : goal.returns
+returns c = outcome-same
