@@ -1,5 +1,5 @@
 -- Near leaves of a search tree.
-use Rattle.std.proofs.Common.{◌≡◌, ℕ, ◌+◌, ◌*◌, ◌<◌, ◌≤◌, inl, inr, List, [], length, get_or, Option, Some, None, sym, ap, refl, ◌∙◌, subst, arith}
+use Rattle.std.proofs.Common.{◌≡◌, ℕ, ◌+◌, ◌*◌, ◌<◌, ◌≤◌, inl, inr, List, length, get_or, Option, Some, None, sym, ap, refl, ◌∙◌, subst, arith}
 use Rattle.std.specs.Prelude.{◌↔◌}
 use Rattle.std.specs.List.{All, Contains}
 use Rattle.std.proofs.lemmas.Int.{ints}
@@ -7,11 +7,10 @@ use Rattle.std.proofs.lemmas.List.{get_or_default}
 use Rattle.std.proofs.lemmas.Bool.{cases_order}
 use Rattle.dpl_spec.specs.declared.Pt.{Pt}
 use Rattle.dpl_spec.specs.declared.Rect.{Rect}
-use Rattle.dpl_spec.specs.Squares.{Region, AreNear, Covers, Has, IsSolidWithin, gap}
+use Rattle.dpl_spec.specs.Squares.{Region, AreNear, Covers, Has, gap}
 use Rattle.dpl_spec.specs.Slabs.{IsSolid}
 use Rattle.dpl_spec.specs.Loops.{farthest, AreRectsWithin, IsRectWithin}
 use Rattle.dpl_tree.specs.declared.tree.Node.{Node}
-use Rattle.dpl_tree.specs.declared.tree.Owners.{Owners}
 use Rattle.dpl_tree.specs.declared.tree.Owners.TheVariants.{All as Everyone}
 use Rattle.dpl_tree.specs.Trees.{IsTree, HasLeaf, LiesApart, IsMissed}
 use Rattle.dpl_tree.specs.Windows.{IsWidened}

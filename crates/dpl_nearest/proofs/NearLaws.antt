@@ -1,12 +1,12 @@
 -- Near parts of rectangles, and the least of near squares.
-use Rattle.std.proofs.Common.{◌≡◌, ℕ, ◌*◌, ◌<◌, ◌≤◌, ◌+◌, ◌⊎◌, inl, inr, sym, ap, ◌∙◌, subst, arith, List, length, get_or, Option, Some, None}
+use Rattle.std.proofs.Common.{◌≡◌, ℕ, ◌<◌, ◌≤◌, ◌+◌, ◌⊎◌, inl, inr, sym, ap, ◌∙◌, subst, arith, List, length, get_or, Option, Some, None}
 use Rattle.std.specs.Prelude.{ℤ, pos, ◌+ℤ◌, ◌≤ℤ◌, ◌<ℤ◌}
 use Rattle.std.proofs.lemmas.Int.{ints, by_lt_z}
 use Rattle.std.proofs.lemmas.Bool.{cases_eq}
 use Rattle.std.proofs.lemmas.List.{get_or_default}
 use Rattle.dpl_spec.specs.declared.Pt.{Pt}
 use Rattle.dpl_spec.specs.declared.Rect.{Rect}
-use Rattle.dpl_spec.specs.Squares.{Region, Has, Covers, Precedes, IsLeast, AreNear, d2}
+use Rattle.dpl_spec.specs.Squares.{Region, Has, Covers, Precedes, IsLeast, AreNear}
 use Rattle.dpl_spec.specs.Zones.{at}
 use Rattle.dpl_nearest.specs.Search.{near_part, row_at, rows_below, column_at, columns_left, IsLeastNear, IsLowered, IsImproved, CoversFirst}
 

@@ -1,14 +1,13 @@
 -- The nearest pair, by the least near squares of either set.
-use Rattle.std.proofs.Common.{◌≡◌, ℕ, ◌*◌, ◌<◌, ◌≤◌, ◌+◌, ◌⊎◌, inl, inr, sym, refl, ◌∙◌, subst, arith, List, [], ◌∷◌, length, get_or}
+use Rattle.std.proofs.Common.{◌≡◌, ℕ, ◌*◌, ◌<◌, ◌≤◌, ◌+◌, inl, inr, sym, refl, ◌∙◌, subst, arith, List, [], ◌∷◌, length, get_or}
 use Rattle.std.specs.Prelude.{pos, unsigned_abs, ◌+ℤ◌, ◌≤ℤ◌, ◌<ℤ◌}
-use Rattle.std.specs.List.{Contains}
 use Rattle.std.proofs.lemmas.Int.{ints}
 use Rattle.dpl_spec.specs.declared.Pt.{Pt}
 use Rattle.dpl_spec.specs.declared.Rect.{Rect}
-use Rattle.dpl_spec.specs.Squares.{Region, Has, Covers, Precedes, IsLeast, AreNear, d2}
+use Rattle.dpl_spec.specs.Squares.{Region, Has, Covers, IsLeast, AreNear, d2}
 use Rattle.dpl_spec.specs.Loops.{IsRectWithin, AreRectsWithin, farthest}
 use Rattle.dpl_spec.proofs.SquareLaws.{d2-sym}
-use Rattle.dpl_nearest.specs.Nearest.{AreNearAt, IsNearestPair}
+use Rattle.dpl_nearest.specs.Nearest.{IsNearestPair}
 use Rattle.dpl_nearest.specs.Search.{near_part, unit_of}
 use Rattle.dpl_nearest.proofs.NearLaws.{same_square}
 

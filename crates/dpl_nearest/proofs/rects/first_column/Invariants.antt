@@ -1,4 +1,4 @@
-use Rattle.std.proofs.Common.{◌≤ℤ◌, ◌<ℤ◌, ℕ, ℤ, pos, ◌-ℤ◌}
+use Rattle.std.proofs.Common.{◌≤ℤ◌, ◌<ℤ◌, ◌-ℤ◌}
 use Rattle.std.specs.Prelude.{unsigned_abs}
 use Rattle.dpl_spec.specs.Squares.{AreNear, Has}
 use Rattle.dpl_nearest.specs.Search.{LeafCovers, columns_left}

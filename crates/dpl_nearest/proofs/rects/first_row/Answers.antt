@@ -1,5 +1,5 @@
-use Rattle.std.proofs.Common.{rules, arith, FitsSigned, w64, to_z, of_z}
-use Rattle.std.specs.Prelude.{ℤ, pos, ◌+ℤ◌, ◌-ℤ◌, ◌≤ℤ◌}
+use Rattle.std.proofs.Common.{rules, arith, FitsSigned, w64, to_z}
+use Rattle.std.specs.Prelude.{◌-ℤ◌}
 use Rattle.std.proofs.lemmas.Int.{ints, to_z-of_z}
 use borrow.Author.Rules.{sfits_of}
 use Rattle.dpl_nearest.specs.Search.{LeafCovers}

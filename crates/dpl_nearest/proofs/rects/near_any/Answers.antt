@@ -1,7 +1,5 @@
-use Rattle.std.proofs.Common.{◌<◌, length, get_or, refl, arith}
+use Rattle.std.proofs.Common.{◌<◌, length, refl, arith}
 use Rattle.std.proofs.lemmas.Bool.{false≢true}
-use Rattle.dpl_spec.specs.Squares.{IsSolidWithin}
-use Rattle.dpl_spec.specs.Loops.{farthest}
 use Rattle.dpl_nearest.proofs.LeafLaws.{far-first, far-more, found-leaf, leaf-near, none-near}
 use Rattle.dpl_nearest.proofs.rects.near_any.Goals as goal
 
