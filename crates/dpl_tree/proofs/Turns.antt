@@ -9,7 +9,7 @@ turned-at [] i d = refl
 turned-at (node ∷ nodes) zero d = refl
 turned-at (node ∷ nodes) (suc i) d = turned-at nodes i d
 
-turned-get : (nodes : List Node) (i : ℕ) (d : Node) → get_or (map turned_node nodes) i d ≡ turned_node (get_or nodes i (turned_node d))
+pub turned-get : (nodes : List Node) (i : ℕ) (d : Node) → get_or (map turned_node nodes) i d ≡ turned_node (get_or nodes i (turned_node d))
 turned-get nodes i d = turned-at nodes i (turned_node d)
 
 turned-under : (a b : Node) → IsUnder a b → IsUnder (turned_node a) (turned_node b)

@@ -175,7 +175,8 @@ impl Tree {
 
     /// The tree with x and y exchanged in each node.
     pub fn turned(&self, alloc: Global) -> Result<Tree, AllocError>
-        ensures { IfOk result (λ t. t ≡ map turned_node self.now) }
+        ensures value { IfOk result (λ t. t ≡ map turned_node self.now) }
+        ensures tree { IsTree self.now }
     {
         let nodes = turn_nodes(alloc, self.nodes.as_slice())?;
         Ok(Tree { nodes })

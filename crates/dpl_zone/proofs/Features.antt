@@ -13,10 +13,10 @@ use Rattle.dpl_spec.specs.Loops.{farthest}
 use Rattle.dpl_spec.specs.Zones.{at, IsKeptZone, turned, part_at}
 use Rattle.dpl_slabs.specs.Parts.{AreApart, AreParts, union_of}
 use Rattle.dpl_zone.specs.Rows.{layer_of}
-use Rattle.dpl_zone.specs.Layers.{AreOthers, AreLeavesOf, IsPartZone}
-use Rattle.dpl_zone.specs.declared.tree.Node.{Node}
-use Rattle.dpl_zone.specs.declared.tree.Item.{Item}
-use Rattle.dpl_zone.specs.Trees.{IsTree, HasLeaf, HasItem, AreLeavesWithin, others_in, own_in}
+use Rattle.dpl_zone.specs.Layers.{AreOthers, IsPartZone}
+use Rattle.dpl_tree.specs.Trees.{AreLeavesOf, IsTree, HasLeaf, HasItem}
+use Rattle.dpl_tree.specs.declared.tree.Node.{Node}
+use Rattle.dpl_zone.specs.Leaves.{AreLeavesWithin, others_in, own_in}
 use Rattle.dpl_zone.proofs.LeafLaws.{others-in, in-others, own-in, in-own, one-in_tree}
 use Rattle.dpl_zone.proofs.Turns.{zone-as, within-slabs}
 
@@ -151,6 +151,3 @@ within-of_leaves parts nodes are leaves r k leaf =
 
 pub first-none : (zs : List Rect) (k : ℕ) (base : List Zone) → (z : Zone) → Contains base z ↔ (Contains base z ⊎ ((z.feature ≡ k) × FirstOf zs 0 z.rect))
 first-none zs k base z = (λ h. inl h, λ h. elim h [ inl a ↦ a | inr (e, (i, l, i_in, is)) ↦ absurd (omega (arith, l)) ])
-
-pub leaves-of_items : (parts : List (List Rect)) (items : List Item) (nodes : List Node) → ((r : Rect) (k : ℕ) → HasItem items r k ↔ ((k < length parts) × Contains (get_or parts k []) r)) → ((r : Rect) (k : ℕ) → HasLeaf nodes r k ↔ HasItem items r k) → AreLeavesOf parts nodes
-leaves-of_items parts items nodes of_parts leaves r k = (λ h. (of_parts r k).0 ((leaves r k).0 h), λ h. (leaves r k).1 ((of_parts r k).1 h))

@@ -10,8 +10,9 @@ use Rattle.dpl_spec.specs.declared.Rect.{Rect}
 use Rattle.dpl_spec.specs.Loops.{farthest}
 use Rattle.dpl_spec.specs.Squares.{Region, AreTouching, Has, Covers, IsSolidWithin}
 use Rattle.dpl_spec.specs.Zones.{at, IsHorizontalZone, IsVerticalZone, IsKeptZone, turned, turned_rect}
-use Rattle.dpl_zone.specs.declared.tree.Node.{Node}
-use Rattle.dpl_zone.specs.Trees.{HasLeaf, AreLeavesWithin}
+use Rattle.dpl_tree.specs.declared.tree.Node.{Node}
+use Rattle.dpl_tree.specs.Trees.{HasLeaf}
+use Rattle.dpl_zone.specs.Leaves.{AreLeavesWithin}
 use Rattle.dpl_zone.specs.Rows.{AddsZones, AreWithin, layer_of}
 
 -- a zone of some rows has its squares in the feature

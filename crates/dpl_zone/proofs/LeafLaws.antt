@@ -6,9 +6,11 @@ use Rattle.dpl_spec.specs.declared.Rect.{Rect}
 use Rattle.dpl_spec.specs.Loops.{farthest}
 use Rattle.dpl_spec.specs.Squares.{IsSolidWithin}
 use Rattle.dpl_spec.specs.Zones.{turned_rect}
-use Rattle.dpl_zone.specs.declared.tree.Node.{Node}
-use Rattle.dpl_zone.specs.Trees.{IsTree, IsUnder, AreLeavesWithin, turned_node, IsLeaf, HasLeaf, is_other_leaf, is_own_leaf, others_in, own_in}
+use Rattle.dpl_tree.specs.declared.tree.Node.{Node}
+use Rattle.dpl_tree.specs.Trees.{IsTree, turned_node, IsLeaf, HasLeaf}
+use Rattle.dpl_zone.specs.Leaves.{AreLeavesWithin, is_other_leaf, is_own_leaf, others_in, own_in}
 use Rattle.dpl_zone.specs.Rows.{AreWithin}
+use Rattle.dpl_tree.proofs.Turns.{turned-get}
 use Rattle.dpl_zone.proofs.Turns.{turned-back}
 
 is-other : (own : ℕ) (node : Node) → is_other_leaf own node ≡ true → (node.size ≡ 1) × (node.least ≢ own)
@@ -112,31 +114,6 @@ turned-own own (node ∷ nodes) = turned-cond (is_own_leaf own node) node.bounds
 -- the others' rectangles in the tree with x and y exchanged, turned back
 pub others-back : (nodes across : List Node) (own : ℕ) → across ≡ map turned_node nodes → map turned_rect (others_in across own) ≡ others_in nodes own
 others-back nodes across own e = ap (λ t. let s : List Node = t in map turned_rect (others_in s own)) e ∙ (ap (λ t. let s : List Rect = t in map turned_rect s) (turned-others own nodes) ∙ turned-back (others_in nodes own))
-
-turned-at : (nodes : List Node) (i : ℕ) (d : Node) → get_or (map turned_node nodes) i (turned_node d) ≡ turned_node (get_or nodes i d)
-turned-at [] i d = refl
-turned-at (node ∷ nodes) zero d = refl
-turned-at (node ∷ nodes) (suc i) d = turned-at nodes i d
-
-twice : (d : Node) → turned_node (turned_node d) ≡ d
-twice d = refl
-
-turned-get : (nodes : List Node) (i : ℕ) (d : Node) → get_or (map turned_node nodes) i d ≡ turned_node (get_or nodes i (turned_node d))
-turned-get nodes i d = turned-at nodes i (turned_node d)
-
-turned-under : (a b : Node) → IsUnder a b → IsUnder (turned_node a) (turned_node b)
-turned-under a b u = record { inside = record { left = u.inside.low; right = u.inside.high; low = u.inside.left; high = u.inside.right }; least = u.least; greatest = u.greatest }
-
-pub turned-tree : (nodes across : List Node) → across ≡ map turned_node nodes → IsTree nodes → IsTree across
-turned-tree nodes across e tree =
-    rw e
-    (record {
-      some = λ i d a l. rw (turned-get nodes i d) (tree.some i (turned_node d) a (omega (arith, l, length-map nodes turned_node)));
-      ends = λ i d a l. rw (turned-get nodes i d) (let g = tree.ends i (turned_node d) a (omega (arith, l, length-map nodes turned_node)) in omega (arith, g, length-map nodes turned_node));
-      one = λ i d a l. rw (turned-get nodes i d) (tree.one i (turned_node d) a (omega (arith, l, length-map nodes turned_node)));
-      under = λ i j d a b. rw (turned-get nodes i d, turned-get nodes j d)
-          (λ s l. turned-under _ _ (tree.under i j (turned_node d) a b s (omega (arith, l, length-map nodes turned_node))));
-    })
 
 pub turned-leaves : (nodes across : List Node) → across ≡ map turned_node nodes → AreLeavesWithin nodes → AreLeavesWithin across
 turned-leaves nodes across e within r k leaf = turned-leaf (rw e at leaf)

@@ -10,11 +10,13 @@ use Rattle.dpl_spec.specs.Squares.{Has, Covers, AreTouching, IsSolidWithin}
 use Rattle.dpl_spec.specs.Zones.{at, GoesOn, turned}
 use Rattle.dpl_spec.proofs.SquareLaws.{Touch-from_close}
 use Rattle.dpl_spec.proofs.ZoneLaws.{close-from_touch}
-use Rattle.dpl_zone.specs.declared.tree.Node.{Node}
-use Rattle.dpl_zone.specs.declared.tree.Owners.{Owners}
-use Rattle.dpl_zone.specs.declared.tree.Owners.TheVariants.{All, Only}
-use Rattle.dpl_zone.specs.Trees.{IsTree, IsLeaf, HasLeaf, LiesApart, IsMissed, AreLeavesWithin, IsWidened, IsStrip, own_in}
-use Rattle.dpl_zone.proofs.TreeLaws.{ArePassed}
+use Rattle.dpl_tree.specs.declared.tree.Node.{Node}
+use Rattle.dpl_tree.specs.declared.tree.Owners.{Owners}
+use Rattle.dpl_tree.specs.declared.tree.Owners.TheVariants.{All, Only}
+use Rattle.dpl_tree.specs.Trees.{IsTree, IsLeaf, HasLeaf, LiesApart, IsMissed}
+use Rattle.dpl_tree.specs.Windows.{IsWidened}
+use Rattle.dpl_zone.specs.Leaves.{AreLeavesWithin, IsStrip, own_in}
+use Rattle.dpl_tree.proofs.TreeLaws.{ArePassed}
 use Rattle.dpl_zone.proofs.LeafLaws.{own-in, in-own, one-in_tree}
 use Rattle.dpl_zone.proofs.Shades.{leaf-within}
 

@@ -4,8 +4,6 @@ use Rattle.std.specs.List.{Contains}
 use Rattle.dpl_spec.specs.declared.Rect.{Rect}
 use Rattle.dpl_spec.specs.declared.Zone.{Zone}
 use Rattle.dpl_slabs.specs.Parts.{union_of}
-use Rattle.dpl_zone.specs.declared.tree.Node.{Node}
-use Rattle.dpl_zone.specs.Trees.{HasLeaf}
 use Rattle.dpl_spec.specs.Zones.{IsKeptZone, part_at}
 
 -- the rectangles of the first n parts but number k
@@ -15,7 +13,3 @@ AreOthers parts k n others = (r : Rect) → Contains others r ↔ ((j : ℕ) × 
 -- a kept zone of its part
 abbrev pub IsPartZone : ℕ → ℕ → List (List Rect) → Zone → Type 0
 IsPartZone rule overlap parts z = IsKeptZone rule overlap (union_of parts) (part_at parts z.feature) z.rect
-
--- the leaves are the rectangles of the parts, each with the number of its part
-abbrev pub AreLeavesOf : List (List Rect) → List Node → Type 0
-AreLeavesOf parts nodes = (r : Rect) (k : ℕ) → HasLeaf nodes r k ↔ ((k < length parts) × Contains (slice_index_or parts k []) r)

@@ -4,15 +4,14 @@ ghost use Rattle.std.specs.List.{Contains};
 ghost use Rattle.dpl_spec.specs.declared.Zone.{Zone};
 ghost use Rattle.dpl_slabs.specs.Parts.{AreParts, union_of};
 ghost use Rattle.dpl_spec.specs.Zones.{AreZones};
-ghost use Rattle.dpl_zone.specs.Layers.{AreLeavesOf, IsPartZone};
-ghost use Rattle.dpl_zone.specs.Trees.{IsTree, turned_node};
+ghost use Rattle.dpl_zone.specs.Layers.{IsPartZone};
+ghost use Rattle.dpl_tree.specs.Trees.{AreLeavesOf, IsTree, turned_node};
 
-use crate::items::items_of;
 use crate::kept::kept_zones;
 use crate::order::{each_once, sort_zones};
-use crate::tree::{Node, tree_of, turn_nodes};
 use dpl_base::Zone;
 use dpl_slabs::{Parts, Slabs};
+use dpl_tree::Tree;
 use std::alloc::{AllocError, Global};
 
 /// Adds the zones of part `k`.
@@ -20,8 +19,8 @@ fn add_feature(
     alloc: Global,
     found: &mut Vec<Zone>,
     parts: &[Slabs],
-    nodes: &[Node],
-    across: &[Node],
+    tree: &Tree,
+    across: &Tree,
     k: usize,
     rule: u32,
     overlap: u32,
@@ -29,12 +28,12 @@ fn add_feature(
     requires some { 1 ≤ overlap }
     requires part { k < length parts.now }
     requires parts { AreParts parts.now }
-    requires tree { IsTree nodes.now }
-    requires leaves { AreLeavesOf parts.now nodes.now }
-    requires turned { across.now ≡ map turned_node nodes.now }
+    requires tree { IsTree tree.now }
+    requires leaves { AreLeavesOf parts.now tree.now }
+    requires turned { across.now ≡ map turned_node tree.now }
     ensures { OnOk result ((z : Zone) → Contains found.new.items z ↔ (Contains found.old.items z ⊎ ((z.feature ≡ k) × IsPartZone rule overlap parts.now z))) }
 {
-    let kept = kept_zones(alloc, &parts[k], nodes, across, k, rule, overlap)?;
+    let kept = kept_zones(alloc, &parts[k], tree, across, k, rule, overlap)?;
     for rect in &kept {
         found.push(Zone {
             rect: *rect,
@@ -55,12 +54,11 @@ fn found_zones(
     requires parts { AreParts parts.now }
     ensures { IfOk result (λ v. (z : Zone) → Contains v.items z ↔ ((z.feature < length parts.now) × IsPartZone rule overlap parts.now z)) }
 {
-    let items = items_of(alloc, parts)?;
-    let nodes = tree_of(alloc, items)?;
-    let across = turn_nodes(alloc, &nodes)?;
+    let tree = Tree::of_parts(alloc, parts)?;
+    let across = tree.turned(alloc)?;
     let mut found = Vec::new(alloc);
     for k in 0..parts.len() {
-        add_feature(alloc, &mut found, parts, &nodes, &across, k, rule, overlap)?;
+        add_feature(alloc, &mut found, parts, &tree, &across, k, rule, overlap)?;
     }
     Ok(found)
 }

@@ -7,10 +7,11 @@ ghost use Rattle.dpl_spec.specs.Loops.{farthest};
 ghost use Rattle.dpl_spec.specs.Squares.{AreTouching, Covers, Has, IsSolidWithin};
 ghost use Rattle.dpl_spec.specs.Zones.{GoesOn, turned};
 ghost use Rattle.dpl_zone.specs.Rows.{SomeRow, AreTall, RiseByFrom, IsShaded, IsShadow, IsDark, IsGap, AddsSpan};
-ghost use Rattle.dpl_zone.specs.Trees.{IsTree, AreLeavesWithin, HasLeaf, IsWidened, IsStrip, others_in, own_in};
+ghost use Rattle.dpl_tree.specs.Trees.{HasLeaf};
+ghost use Rattle.dpl_zone.specs.Leaves.{AreLeavesWithin, IsStrip, others_in, own_in};
 
-use crate::tree::{Node, Owners, seek};
 use dpl_base::{Rect, reach, span_gap};
+use dpl_tree::{Owners, Tree, widened};
 use std::alloc::{AllocError, Global};
 
 /// The rows from `from` up to but not `to`.
@@ -54,19 +55,6 @@ fn add_shadow(spans: &mut Vec<Span>, slab: &Rect, other: &Rect, rule: u32) -> Re
     }
 }
 
-/// The rectangle with `by` more columns and rows on each side.
-fn widened(r: &Rect, by: u32) -> Rect
-    requires { IsSolidWithin farthest r.now }
-    ensures { IsWidened r.now by result }
-{
-    Rect {
-        x0: r.x0 - by as i64,
-        y0: r.y0 - by as i64,
-        x1: r.x1 + by as i64,
-        y1: r.y1 + by as i64,
-    }
-}
-
 /// Whether the last span has all rows of the slab.
 fn is_covered(spans: &[Span], slab: &Rect) -> bool
     ensures { IsTrue result → (y : ℤ) → slab.now.y0 ≤ℤ y → y <ℤ slab.now.y1 → SomeRow spans.now y }
@@ -87,26 +75,26 @@ fn is_covered(spans: &[Span], slab: &Rect) -> bool
 /// The shadows of other owners' rectangles on a slab, up to one that has all its rows.
 fn gather(
     alloc: Global,
-    nodes: &[Node],
+    tree: &Tree,
     own: usize,
     slab: &Rect,
     rule: u32,
 ) -> Result<Vec<Span>, AllocError>
-    requires tree { IsTree nodes.now }
-    requires leaves { AreLeavesWithin nodes.now }
+    requires leaves { AreLeavesWithin tree.now }
     requires slab { IsSolidWithin farthest slab.now }
     ensures tall { IfOk result (λ v. AreTall v.items) }
-    ensures rows { IfOk result (λ v. (y : ℤ) → slab.now.y0 ≤ℤ y → y <ℤ slab.now.y1 → SomeRow v.items y ↔ IsDark rule (others_in nodes.now own) slab.now y) }
+    ensures rows { IfOk result (λ v. (y : ℤ) → slab.now.y0 ≤ℤ y → y <ℤ slab.now.y1 → SomeRow v.items y ↔ IsDark rule (others_in tree.now own) slab.now y) }
 {
     let window = widened(slab, rule);
     let mut spans = Vec::new(alloc);
-    let mut i = seek(nodes, 0, &window, Owners::But(own));
+    let nodes = tree.nodes();
+    let mut i = tree.seek(0, &window, Owners::But(own));
     while i < nodes.len() {
         add_shadow(&mut spans, slab, &nodes[i].bounds, rule)?;
         if is_covered(&spans, slab) {
             return Ok(spans);
         }
-        i = seek(nodes, i + 1, &window, Owners::But(own));
+        i = tree.seek(i + 1, &window, Owners::But(own));
     }
     Ok(spans)
 }
@@ -114,19 +102,18 @@ fn gather(
 /// The shadows of other owners' rectangles on a slab, lowest first.
 pub fn shadows(
     alloc: Global,
-    nodes: &[Node],
+    tree: &Tree,
     own: usize,
     slab: &Rect,
     rule: u32,
 ) -> Result<Vec<Span>, AllocError>
-    requires tree { IsTree nodes.now }
-    requires leaves { AreLeavesWithin nodes.now }
+    requires leaves { AreLeavesWithin tree.now }
     requires slab { IsSolidWithin farthest slab.now }
     ensures tall { IfOk result (λ v. AreTall v.items) }
     ensures rise { IfOk result (λ v. RiseByFrom v.items) }
-    ensures rows { IfOk result (λ v. (y : ℤ) → slab.now.y0 ≤ℤ y → y <ℤ slab.now.y1 → SomeRow v.items y ↔ IsDark rule (others_in nodes.now own) slab.now y) }
+    ensures rows { IfOk result (λ v. (y : ℤ) → slab.now.y0 ≤ℤ y → y <ℤ slab.now.y1 → SomeRow v.items y ↔ IsDark rule (others_in tree.now own) slab.now y) }
 {
-    let mut spans = gather(alloc, nodes, own, slab, rule)?;
+    let mut spans = gather(alloc, tree, own, slab, rule)?;
     spans.sort_by_key(|s| s.from)?;
     Ok(spans)
 }
@@ -188,15 +175,15 @@ fn strip(slab: &Rect, y: i64) -> Rect
 }
 
 /// Whether the owner has a square in row `y` that is at most one column beside the slab.
-pub fn has_row(nodes: &[Node], own: usize, slab: &Rect, y: i64) -> bool
-    requires tree { IsTree nodes.now }
-    requires leaves { AreLeavesWithin nodes.now }
+pub fn has_row(tree: &Tree, own: usize, slab: &Rect, y: i64) -> bool
+    requires leaves { AreLeavesWithin tree.now }
     requires slab { IsSolidWithin farthest slab.now }
     requires row { y <ℤ pos 2000000000 }
-    ensures { IsTrue result ↔ GoesOn (turned (Covers (own_in nodes.now own))) slab.now.x0 slab.now.x1 y }
+    ensures { IsTrue result ↔ GoesOn (turned (Covers (own_in tree.now own))) slab.now.x0 slab.now.x1 y }
 {
     let window = strip(slab, y);
-    let n = seek(nodes, 0, &window, Owners::Only(own));
+    let nodes = tree.nodes();
+    let n = tree.seek(0, &window, Owners::Only(own));
     if n < nodes.len() {
         return true;
     }
@@ -204,14 +191,14 @@ pub fn has_row(nodes: &[Node], own: usize, slab: &Rect, y: i64) -> bool
 }
 
 /// Whether the rectangle touches a leaf.
-pub fn touches_leaf(nodes: &[Node], r: &Rect) -> bool
-    requires tree { IsTree nodes.now }
-    requires leaves { AreLeavesWithin nodes.now }
+pub fn touches_leaf(tree: &Tree, r: &Rect) -> bool
+    requires leaves { AreLeavesWithin tree.now }
     requires solid { IsSolidWithin farthest r.now }
-    ensures { IsTrue result ↔ ((h : Rect) × (k : ℕ) × HasLeaf nodes.now h k × AreTouching (Has h) (Has r.now)) }
+    ensures { IsTrue result ↔ ((h : Rect) × (k : ℕ) × HasLeaf tree.now h k × AreTouching (Has h) (Has r.now)) }
 {
     let window = widened(r, 1);
-    let n = seek(nodes, 0, &window, Owners::All);
+    let nodes = tree.nodes();
+    let n = tree.seek(0, &window, Owners::All);
     if n < nodes.len() {
         return true;
     }

@@ -1,5 +1,0 @@
-use Rattle.dpl_zone.proofs.ItemLaws.{OfParts}
-use Rattle.dpl_zone.proofs.items.items_of.Given as goal
-
-abbrev pub invariant-loop-k : goal.invariant-loop-k
-invariant-loop-k l = OfParts l.parts l.k l.items.items
