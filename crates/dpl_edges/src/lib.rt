@@ -7,6 +7,8 @@ ghost use Rattle.dpl_spec.specs.Graphs.{AreEdges};
 ghost use Rattle.dpl_spec.specs.Pieces.{Conflict};
 
 mod meet;
+#[cfg(test)]
+mod tests;
 
 use crate::meet::meetings;
 use dpl_base::{Edge, Id};

@@ -1,2 +1,3 @@
 pub mod NearLaws
 pub mod UnitLaws
+pub mod LeafLaws

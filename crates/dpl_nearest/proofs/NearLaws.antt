@@ -8,7 +8,7 @@ use Rattle.dpl_spec.specs.declared.Pt.{Pt}
 use Rattle.dpl_spec.specs.declared.Rect.{Rect}
 use Rattle.dpl_spec.specs.Squares.{Region, Has, Covers, Precedes, IsLeast, AreNear, d2}
 use Rattle.dpl_spec.specs.Zones.{at}
-use Rattle.dpl_nearest.specs.Nearest.{near_part, row_at, rows_below, column_at, columns_left, IsLeastNear, IsLowered, IsImproved, CoversFirst}
+use Rattle.dpl_nearest.specs.Search.{near_part, row_at, rows_below, column_at, columns_left, IsLeastNear, IsLowered, IsImproved, CoversFirst}
 
 pub same_square : (p q : Pt) → p.x ≡ q.x → p.y ≡ q.y → p ≡ q
 same_square p q e f = ap (λ x. at x p.y) e ∙ ap (λ y. at q.x y) f

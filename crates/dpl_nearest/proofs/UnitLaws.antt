@@ -8,7 +8,8 @@ use Rattle.dpl_spec.specs.declared.Rect.{Rect}
 use Rattle.dpl_spec.specs.Squares.{Region, Has, Covers, Precedes, IsLeast, AreNear, d2}
 use Rattle.dpl_spec.specs.Loops.{IsRectWithin, AreRectsWithin, farthest}
 use Rattle.dpl_spec.proofs.SquareLaws.{d2-sym}
-use Rattle.dpl_nearest.specs.Nearest.{near_part, unit_of, AreNearAt, IsNearestPair}
+use Rattle.dpl_nearest.specs.Nearest.{AreNearAt, IsNearestPair}
+use Rattle.dpl_nearest.specs.Search.{near_part, unit_of}
 use Rattle.dpl_nearest.proofs.NearLaws.{same_square}
 
 -- the only rectangle of a list of one

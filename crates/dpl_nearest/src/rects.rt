@@ -1,12 +1,12 @@
-//! Parts of a rectangle that are near other rectangles.
+//! Parts of a rectangle that are near the rectangles of a search tree.
 ghost use Rattle.std.specs.Prelude.{◌≡◌, ◌≤◌, ◌<◌, ◌+◌, ◌^◌, ◌≤ℤ◌, ◌<ℤ◌, ◌+ℤ◌, pos, ◌↔◌, IsTrue, unsigned_abs};
-ghost use Rattle.std.specs.List.{All};
-ghost use Rattle.dpl_spec.specs.Loops.{AreRectsWithin, IsRectWithin, farthest};
+ghost use Rattle.dpl_spec.specs.Loops.{IsRectWithin, farthest};
 ghost use Rattle.dpl_spec.specs.Slabs.{IsSolid};
-ghost use Rattle.dpl_spec.specs.Squares.{AreNear, Covers, Has};
-ghost use Rattle.dpl_nearest.specs.Nearest.{IsLeastNear, column_at, columns_left, row_at, rows_below, unit_of};
+ghost use Rattle.dpl_spec.specs.Squares.{AreNear, Has};
+ghost use Rattle.dpl_nearest.specs.Search.{AreLeavesWithin, IsLeastNear, LeafCovers, column_at, columns_left, row_at, rows_below, unit_of};
 
 use dpl_base::{Pt, Rect, near};
+use dpl_tree::{Owners, Tree, widened};
 
 /// The rectangle of one square.
 pub(crate) fn unit(p: Pt) -> Rect
@@ -60,60 +60,60 @@ fn halfway(low: i64, high: i64) -> i64
 }
 
 /// Whether some square of `r` is closer than `rule` to a square of the others.
-fn near_any(r: &Rect, others: &[Rect], rule: u32) -> bool
+fn near_any(r: &Rect, others: &Tree, rule: u32) -> bool
     requires solid { IsSolid r.now }
     requires within { IsRectWithin farthest r.now }
-    requires others_solid { All IsSolid others.now }
-    requires others_within { AreRectsWithin (farthest + 1) others.now }
-    ensures { IsTrue result ↔ AreNear rule (Has r.now) (Covers others.now) }
+    requires others { AreLeavesWithin (farthest + 1) others.now }
+    ensures { IsTrue result ↔ AreNear rule (Has r.now) (LeafCovers others.now) }
 {
-    for other in others {
-        if near(r, other, rule) {
+    let window = widened(r, rule);
+    let nodes = others.nodes();
+    let mut n = others.seek(0, &window, Owners::All);
+    while n < nodes.len() {
+        if near(r, &nodes[n].bounds, rule) {
             return true;
         }
+        n = others.seek(n + 1, &window, Owners::All);
     }
     false
 }
 
 /// Whether some square of `r` below row `y` is near the others.
-fn near_below(r: &Rect, y: i64, others: &[Rect], rule: u32) -> bool
+fn near_below(r: &Rect, y: i64, others: &Tree, rule: u32) -> bool
     requires solid { IsSolid r.now }
     requires within { IsRectWithin farthest r.now }
     requires low { r.now.y0 <ℤ y }
     requires high { y <ℤ r.now.y1 }
-    requires others_solid { All IsSolid others.now }
-    requires others_within { AreRectsWithin (farthest + 1) others.now }
-    ensures { IsTrue result ↔ AreNear rule (Has (rows_below r.now y)) (Covers others.now) }
+    requires others { AreLeavesWithin (farthest + 1) others.now }
+    ensures { IsTrue result ↔ AreNear rule (Has (rows_below r.now y)) (LeafCovers others.now) }
 {
     let part = below(r, y);
     near_any(&part, others, rule)
 }
 
 /// Whether some square of `r` left of column `x` is near the others.
-fn near_left(r: &Rect, x: i64, others: &[Rect], rule: u32) -> bool
+fn near_left(r: &Rect, x: i64, others: &Tree, rule: u32) -> bool
     requires solid { IsSolid r.now }
     requires within { IsRectWithin farthest r.now }
     requires low { r.now.x0 <ℤ x }
     requires high { x <ℤ r.now.x1 }
-    requires others_solid { All IsSolid others.now }
-    requires others_within { AreRectsWithin (farthest + 1) others.now }
-    ensures { IsTrue result ↔ AreNear rule (Has (columns_left r.now x)) (Covers others.now) }
+    requires others { AreLeavesWithin (farthest + 1) others.now }
+    ensures { IsTrue result ↔ AreNear rule (Has (columns_left r.now x)) (LeafCovers others.now) }
 {
     let part = left(r, x);
     near_any(&part, others, rule)
 }
 
 /// The first row of `r` with a square that is near the others.
-fn first_row(r: &Rect, others: &[Rect], rule: u32) -> i64
+fn first_row(r: &Rect, others: &Tree, rule: u32) -> i64
     requires solid { IsSolid r.now }
     requires within { IsRectWithin farthest r.now }
-    requires others_solid { All IsSolid others.now }
-    requires others_within { AreRectsWithin (farthest + 1) others.now }
-    requires near { AreNear rule (Has r.now) (Covers others.now) }
+    requires others { AreLeavesWithin (farthest + 1) others.now }
+    requires near { AreNear rule (Has r.now) (LeafCovers others.now) }
     ensures low { r.now.y0 ≤ℤ result }
     ensures high { result <ℤ r.now.y1 }
-    ensures near { AreNear rule (Has (row_at r.now result)) (Covers others.now) }
-    ensures first { ¬ AreNear rule (Has (rows_below r.now result)) (Covers others.now) }
+    ensures near { AreNear rule (Has (row_at r.now result)) (LeafCovers others.now) }
+    ensures first { ¬ AreNear rule (Has (rows_below r.now result)) (LeafCovers others.now) }
 {
     let mut low = r.y0;
     let mut high = r.y1;
@@ -129,16 +129,15 @@ fn first_row(r: &Rect, others: &[Rect], rule: u32) -> i64
 }
 
 /// The first column of `r` with a square that is near the others.
-fn first_column(r: &Rect, others: &[Rect], rule: u32) -> i64
+fn first_column(r: &Rect, others: &Tree, rule: u32) -> i64
     requires solid { IsSolid r.now }
     requires within { IsRectWithin farthest r.now }
-    requires others_solid { All IsSolid others.now }
-    requires others_within { AreRectsWithin (farthest + 1) others.now }
-    requires near { AreNear rule (Has r.now) (Covers others.now) }
+    requires others { AreLeavesWithin (farthest + 1) others.now }
+    requires near { AreNear rule (Has r.now) (LeafCovers others.now) }
     ensures low { r.now.x0 ≤ℤ result }
     ensures high { result <ℤ r.now.x1 }
-    ensures near { AreNear rule (Has (column_at r.now result)) (Covers others.now) }
-    ensures first { ¬ AreNear rule (Has (columns_left r.now result)) (Covers others.now) }
+    ensures near { AreNear rule (Has (column_at r.now result)) (LeafCovers others.now) }
+    ensures first { ¬ AreNear rule (Has (columns_left r.now result)) (LeafCovers others.now) }
 {
     let mut low = r.x0;
     let mut high = r.x1;
@@ -154,12 +153,11 @@ fn first_column(r: &Rect, others: &[Rect], rule: u32) -> i64
 }
 
 /// The least square of `r` that is near the others.
-pub(crate) fn least_of(r: &Rect, others: &[Rect], rule: u32) -> Option<Pt>
+pub(crate) fn least_of(r: &Rect, others: &Tree, rule: u32) -> Option<Pt>
     requires solid { IsSolid r.now }
     requires within { IsRectWithin farthest r.now }
-    requires others_solid { All IsSolid others.now }
-    requires others_within { AreRectsWithin (farthest + 1) others.now }
-    ensures { IsLeastNear rule (Has r.now) (Covers others.now) result }
+    requires others { AreLeavesWithin (farthest + 1) others.now }
+    ensures { IsLeastNear rule (Has r.now) (LeafCovers others.now) result }
 {
     if !near_any(r, others, rule) {
         return None;

@@ -1,5 +1,5 @@
 -- The edges of a loop.
-use Rattle.std.specs.Prelude.{◌≡◌, ℕ, ◌-◌, cond, ℤ, pos, ◌-ℤ◌, ◌+ℤ◌, ◌<◌, List, length, slice_index_or}
+use Rattle.std.specs.Prelude.{◌≡◌, ℕ, cond, ℤ, pos, ◌-ℤ◌, ◌+ℤ◌, ◌<◌, List, length, slice_index_or}
 use Rattle.std.specs.List.{Contains}
 use lib.Signed.{lt_z}
 use Rattle.dpl_spec.specs.declared.Pt.{Pt}

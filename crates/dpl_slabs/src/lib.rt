@@ -5,6 +5,8 @@ mod combine;
 mod loops;
 mod parts;
 mod slabs;
+#[cfg(test)]
+mod tests;
 
 pub use parts::Parts;
 pub use slabs::Slabs;

@@ -1,6 +1,5 @@
-use Rattle.std.proofs.Common.{ap}
 -- A typed getter of `clap` reads the number that the text writes.
-use Rattle.std.proofs.Common.{◌≡◌, ◌∙◌, ◌∷◌, [], ℕ, Bool, List, true, false, refl, sym, Some, None, Option, ◌<◌, ◌^◌, ◌&&◌, nat_lt}
+use Rattle.std.proofs.Common.{◌≡◌, ◌∙◌, ◌∷◌, [], ℕ, Bool, List, true, false, refl, sym, Some, None, Option, ◌<◌, ◌^◌, ◌&&◌, nat_lt, is_some, true≢false}
 use Rattle.std.specs.Prelude.{Ok, Err, Result}
 use Rattle.std.proofs.lemmas.Bool.{ltb-true, lt-ltb}
 use Rattle.std.specs.List.{list_all}
@@ -11,10 +10,7 @@ use Rattle.clap.specs.Matches.{ReadsOne, one_text}
 use Rattle.clap.specs.Walk.{Text, rows_of}
 use Rattle.clap.specs.declared.parser.matches.Found.{Found}
 use Rattle.clap.proofs.WalkLemmas.{both, one_text-rows}
-use Rattle.dpl_words.specs.Meaning.{number_at, number_below, number_in, text_in}
-use Rattle.std.specs.Prelude.{IfSome, option_map, unwrap_or}
-use Rattle.std.specs.Borrow.{Bor}
-use Rattle.clap.specs.Walk.{Row, first_of}
+use Rattle.dpl_words.specs.Meaning.{number_at, number_below}
 
 digits_from : (ds : List ℕ) → list_all (λ d. nat_lt (digit_value d) 10) ds ≡ true → AllDigits 10 ds
 digits_from [] e = tt
@@ -27,16 +23,16 @@ digits_back [] h = refl
 digits_back (d ∷ ds) h = rw (lt-ltb (digit_value d) 10 h.0) (digits_back ds h.1)
 
 -- the test of a text
-abbrev is_below : ℕ → Text → Bool
+abbrev pub is_below : ℕ → Text → Bool
 is_below k text = is_numeral (without_leading_plus text) && nat_lt (digits_value 10 (without_leading_plus text)) (2 ^ k)
 
-below_from : (k : ℕ) (text : Text) → is_below k text ≡ true → IsNumeral 10 (without_leading_plus text) × (digits_value 10 (without_leading_plus text) < 2 ^ k)
+pub below_from : (k : ℕ) (text : Text) → is_below k text ≡ true → IsNumeral 10 (without_leading_plus text) × (digits_value 10 (without_leading_plus text) < 2 ^ k)
 below_from k text e =
     let a = both _ _ e in
     let b = both _ _ a.0 in
     ((ltb-true _ _ b.0, digits_from _ b.1), ltb-true _ _ a.1)
 
-below_back : (k : ℕ) (text : Text) → IsNumeral 10 (without_leading_plus text) × (digits_value 10 (without_leading_plus text) < 2 ^ k) → is_below k text ≡ true
+pub below_back : (k : ℕ) (text : Text) → IsNumeral 10 (without_leading_plus text) × (digits_value 10 (without_leading_plus text) < 2 ^ k) → is_below k text ≡ true
 below_back k text h = rw (lt-ltb _ _ h.0.0, digits_back _ h.0.1, lt-ltb _ _ h.1) refl
 
 reads : {E : Type 0} (k : ℕ) (G : List ℕ → Result ℕ E → Type 0) (t : Text) (r : Option ℕ) → ((x : Result ℕ E) → G t x → ParsesUnsigned k 10 t x) → ReadsOne G t r → r ≡ number_below k t
@@ -60,11 +56,7 @@ got {E} k G f id r only none value = go (one_text f id) refl
     go None e = none e ∙ sym (rw (← one_text-rows f id, e) refl)
     go (Some t) e = reads k G t r (only t) (value t e) ∙ sym (rw (← one_text-rows f id, e) refl)
 
--- the number, where it is there
-pub there : (k : ℕ) (id : Text) (rows : List Row) (r : Option ℕ) → r ≡ number_at k id rows → IfSome r (λ n. n ≡ number_in k id rows)
-there k id rows None is = tt
-there k id rows (Some n) is = ap (λ (o : Option ℕ). unwrap_or o 0) is
-
-pub text_there : (id : Text) (rows : List Row) (r : Option (Bor Text)) → option_map (λ t. t.now) r ≡ first_of id rows → IfSome r (λ t. t.now ≡ text_in id rows)
-text_there id rows None is = tt
-text_there id rows (Some t) is = ap (λ (o : Option Text). unwrap_or o []) is
+-- a number that is there is read
+pub no_number : (r o : Option ℕ) → r ≡ o → r ≡ None → is_some o ≡ true → ⊥
+no_number r None same none there = true≢false (sym there)
+no_number r (Some n) same none there = cc

@@ -12,6 +12,7 @@ use Rattle.clap.specs.Simple.{is_simple, subcommand_of}
 use Rattle.clap.specs.Faults.{fault_of, is_simple_and_free}
 use Rattle.clap.specs.declared.error.kind.ErrorKind.{ErrorKind}
 use Rattle.clap.proofs.OnLiterals.{clap_on_literals}
+use Rattle.dpl_words.proofs.Walking.{none_of}
 use Rattle.dpl_words.specs.Definition.{dpl_app}
 use Rattle.dpl_words.specs.Meaning.{asked_of, is_taken, request_of}
 
@@ -34,10 +35,6 @@ not_taken words k h = rw (some_kind k (fault_of dpl_app words) h) refl
 pub taken : (words : List Text) → fault_of dpl_app words ≡ [] → request_of words ≡ asked_of (subcommand_of dpl_app words)
 unfolding request_of
 taken words h = rw h refl
-
-none_of : (a b : Kinds) → or_else a b ≡ [] → (a ≡ []) × (b ≡ [])
-none_of [] b e = (refl, e)
-none_of (k ∷ ks) b e = absurd (cc)
 
 -- without a subcommand the last check fails
 checked : (rows : List Row) (has : Bool) → check_fault (built dpl_app).top rows has ≡ [] → has ≡ true

@@ -5,5 +5,8 @@ mod definition;
 mod law;
 mod values;
 
-pub use law::taken_names_a_subcommand;
+pub use law::{taken_has_its_values, taken_names_a_subcommand};
 pub use values::{Request, SplitOptions, WordsFault, read_words};
+
+#[cfg(test)]
+mod tests;

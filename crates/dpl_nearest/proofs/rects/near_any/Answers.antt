@@ -1,30 +1,39 @@
-use Rattle.std.proofs.Common.{get_or, sym, ap, ◌∙◌, subst, refl, inl, inr, arith}
-use Rattle.std.specs.Prelude.{pos}
-use Rattle.std.proofs.lemmas.Bool.{false≢true, cases_eq}
-use Rattle.std.proofs.lemmas.List.{get_or_default}
-use Rattle.dpl_spec.specs.declared.Rect.{Rect}
-use Rattle.dpl_spec.specs.Squares.{AreNear, Has}
+use Rattle.std.proofs.Common.{◌<◌, length, get_or, refl, arith}
+use Rattle.std.proofs.lemmas.Bool.{false≢true}
+use Rattle.dpl_spec.specs.Squares.{IsSolidWithin}
+use Rattle.dpl_spec.specs.Loops.{farthest}
+use Rattle.dpl_nearest.proofs.LeafLaws.{far-first, far-more, found-leaf, leaf-near, none-near}
 use Rattle.dpl_nearest.proofs.rects.near_any.Goals as goal
 
-abbrev zero_rect : Rect
-zero_rect = record { x0 = pos 0; y0 = pos 0; x1 = pos 0; y1 = pos 0 }
+pub loop-n-init : goal.loop-n-init
+loop-n-init c = record {
+  here = λ d l. (c.seek-n.ensures.found d l).0;
+  far = far-first c.args.rule c.args.r.now c.widened-window.result c.args.others.now c.seek-n.result c.widened-window.ensures c.seek-n.ensures.passed;
+}
 
-pub loop-other-preserved : goal.loop-other-preserved
-loop-other-preserved c k d l near = elim (cases_eq k c.loop-other.other-index) [
-  | inl e ↦ false≢true (c.if-near.ensures.1 (subst (λ u. AreNear c.args.rule (Has c.args.r.now) (Has u))
-      (ap (λ m. get_or c.args.others.now m d) e ∙ get_or_default c.args.others.now c.loop-other.other-index d zero_rect c.loop-other-test.true) near))
-  | inr ne ↦ c.loop-other.invariant k d (omega (arith, l, ne)) near
-]
+pub near-requires-clause-solid_b : goal.near-requires-clause-solid_b
+near-requires-clause-solid_b c =
+    let inside : c.loop-n.n < length c.args.others.now = rw c.nodes-nodes.ensures.value at c.loop-n-test.true in
+    let solid = c.requires.others _ _ (found-leaf c.args.others.now c.loop-n.n _ c.nodes-nodes.ensures.tree inside (c.loop-n.invariant.here _ inside)) in
+    rw c.nodes-nodes.ensures.value (record { wide = solid.wide; tall = solid.tall; left = omega (arith, solid.left); right = omega (arith, solid.right); low = omega (arith, solid.low); high = omega (arith, solid.high) })
+
+pub loop-n-preserved : goal.loop-n-preserved
+loop-n-preserved c =
+    let inside : c.loop-n.n < length c.args.others.now = rw c.nodes-nodes.ensures.value at c.loop-n-test.true in
+    let near = rw c.nodes-nodes.ensures.value at c.if-near.ensures in
+    record {
+      here = λ d l. (c.seek-n-in-loop-n.ensures.found d l).0;
+      far = far-more c.args.rule c.args.r.now c.widened-window.result c.args.others.now c.loop-n.n c.seek-n-in-loop-n.result _ c.widened-window.ensures inside c.loop-n.invariant.far
+          (λ h. false≢true (near.1 h)) c.seek-n-in-loop-n.ensures.passed;
+    }
 
 pub returns-then-near : goal.returns-then-near
-returns-then-near c = (
-  λ h. let near = c.near.ensures.0 c.if-near.true in
-      (near.0, near.1, near.2, (c.loop-other.other-index, get_or c.args.others.now c.loop-other.other-index zero_rect, c.loop-other-test.true, get_or_default c.args.others.now c.loop-other.other-index _ zero_rect c.loop-other-test.true, near.3), near.4),
-  λ h. refl,
-)
+returns-then-near c =
+    let inside : c.loop-n.n < length c.args.others.now = rw c.nodes-nodes.ensures.value at c.loop-n-test.true in
+    let near = rw c.nodes-nodes.ensures.value at (c.near.ensures.0 c.if-near.true) in
+    (λ h. leaf-near c.args.rule c.args.r.now c.args.others.now _ _ (found-leaf c.args.others.now c.loop-n.n _ c.nodes-nodes.ensures.tree inside (c.loop-n.invariant.here _ inside)) near, λ h. refl)
 
 pub returns : goal.returns
-returns c = (
-  λ h. absurd (false≢true h),
-  λ (p, q, p_in, (k, r, k_in, k_is, q_in), close). absurd (c.loop-other.invariant k r (omega (arith, k_in)) (p, q, p_in, subst (λ u. Has u q) (sym k_is) q_in, close)),
-)
+returns c =
+    let all = rw c.nodes-nodes.ensures.value at c.loop-n-test.false in
+    (λ h. absurd (false≢true h), λ near. absurd (none-near c.args.rule c.args.r.now c.args.others.now c.loop-n.n all c.loop-n.invariant.far near))

@@ -1,5 +1,4 @@
-use Rattle.std.proofs.Common.{◌<◌, length, sym, subst, rules, arith, List}
-use Rattle.dpl_spec.specs.declared.Pt.{Pt}
+use Rattle.std.proofs.Common.{◌<◌, length, sym, subst, rules, arith}
 use Rattle.dpl_spec.specs.Loops.{farthest, ArePointsWithin}
 use Rattle.dpl_slabs.proofs.LoopLaws.{loops-next, loops-all}
 use Rattle.dpl_slabs.proofs.loops.rects_of_loops.Goals as goal

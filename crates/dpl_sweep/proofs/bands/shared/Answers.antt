@@ -1,4 +1,3 @@
-use Rattle.std.proofs.Common.{refl}
 use Rattle.dpl_sweep.proofs.RowLaws.{shared-tree}
 use Rattle.dpl_sweep.proofs.bands.shared.Goals as goal
 
