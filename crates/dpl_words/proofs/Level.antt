@@ -1,6 +1,6 @@
 -- What one level of a parse that passes gives of each argument that is required or has a default.
-use Rattle.std.proofs.Common.{◌≡◌, ◌∙◌, ◌⊎◌, ◌&&◌, ◌<◌, ◌^◌, ℕ, Bool, cond, not, true, false, true≢false, List, [], ◌∷◌, Option, Some, None, refl, sym, ap, subst, inl, inr, is_some}
-use Rattle.std.specs.Prelude.{fold, slice_get, option_and_then, pos}
+use Rattle.std.proofs.Common.{◌≡◌, ◌∙◌, ◌&&◌, ◌<◌, ◌^◌, ℕ, Bool, cond, not, true, false, true≢false, List, [], ◌∷◌, Option, Some, None, refl, sym, ap, subst, is_some}
+use Rattle.std.specs.Prelude.{slice_get, option_and_then, pos}
 use Rattle.std.specs.List.{list_any}
 use Rattle.std.specs.Str.Parse.{ParsesUnsigned, digits_value, without_leading_plus}
 use Rattle.clap.specs.Facts.{parser_of_value}
@@ -9,7 +9,7 @@ use Rattle.clap.specs.Matches.{ReadsOne}
 use Rattle.clap.specs.Values.{read_as, reading_of}
 use Rattle.clap.specs.ValueTests.{accepts}
 use Rattle.clap.specs.Takes.{is_given, value_passes}
-use Rattle.clap.specs.Walk.{Row, Rule, Text, arg_by_id, arg_by_short, finished, first_of, has_row, nothing_held, one_of, reading_by, row_text, rows_after, settled, walk, walk_from}
+use Rattle.clap.specs.Walk.{Row, Rule, Text, arg_by_id, arg_by_short, first_of, nothing_held, one_of, reading_by, row_text, rows_after, settled, walk, walk_from}
 use Rattle.clap.specs.Simple.{Shape}
 use Rattle.clap.specs.Faults.{check_fault, defaults_fault, level_fault, settle_fault, walk_fault}
 use Rattle.clap.specs.declared.builder.value_parser.Reading.{Reading}

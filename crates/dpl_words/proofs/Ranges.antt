@@ -1,5 +1,5 @@
 -- The words that `clap` takes give each value of `split`, in its range.
-use Rattle.std.proofs.Common.{◌≡◌, ◌∙◌, ◌≤◌, Bool, ◌&&◌, not, cond, true, false, List, [], ◌∷◌, Option, Some, None, option_map, is_some, refl, sym, ap, subst, inl, inr, arith, codes, ℕ}
+use Rattle.std.proofs.Common.{◌≡◌, ◌≤◌, Bool, ◌&&◌, not, cond, true, false, List, [], ◌∷◌, Option, Some, None, option_map, is_some, refl, sym, subst, inl, inr, arith, ℕ}
 use Rattle.std.specs.Prelude.{find, slice_get, unwrap_or, IfSome}
 use Rattle.std.specs.List.{list_any}
 use Rattle.clap.specs.Kinds.{check_kinds}

@@ -1,14 +1,13 @@
 -- The rows that a list of defaults and a list of required arguments leave.
-use Rattle.std.proofs.Common.{◌≡◌, ◌∙◌, ◌⊎◌, ◌&&◌, ◌||◌, Bool, cond, not, true, false, true≢false, List, [], ◌∷◌, ◌++◌, Option, Some, None, refl, sym, ap, subst, inl, inr, option_map}
-use Rattle.std.specs.Prelude.{find, fold, slice_get}
+use Rattle.std.proofs.Common.{◌≡◌, ◌∙◌, ◌⊎◌, ◌&&◌, ◌||◌, Bool, cond, not, true, false, true≢false, List, [], ◌∷◌, ◌++◌, Some, refl, sym, ap, subst, inl, inr}
+use Rattle.std.specs.Prelude.{find, fold}
 use Rattle.std.specs.List.{list_any}
 use Rattle.std.specs.Option.{option_map_or}
 use Rattle.std.specs.Str.{bytes_eq}
 use Rattle.std.proofs.lemmas.Slice.Eq.{bytes_eq-Decides}
 use Rattle.clap.specs.Facts.{explicit_source}
-use Rattle.clap.specs.Takes.{is_given, value_passes}
-use Rattle.clap.specs.Values.{read_as}
-use Rattle.clap.specs.Walk.{Row, Rule, Text, arg_by_id, default_rows, first_of, has_row, more_values, one_of, reading_by, with_default, with_values}
+use Rattle.clap.specs.Takes.{is_given}
+use Rattle.clap.specs.Walk.{Row, Rule, Text, arg_by_id, default_rows, has_row, more_values, reading_by, with_default, with_values}
 use Rattle.clap.specs.declared.builder.value_parser.Reading.{Reading}
 use Rattle.clap.specs.declared.parser.matches.ValueSource.{ValueSource}
 use Rattle.clap.proofs.WalkLemmas.{both}

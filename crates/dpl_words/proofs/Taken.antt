@@ -1,7 +1,7 @@
 -- The words that `clap` takes.
 use Rattle.std.proofs.Common.{◌≡◌, refl, true, false, List, [], ◌∷◌, None, arith}
 use Rattle.std.proofs.lemmas.Bool.{ne_eqb}
-use Rattle.clap.specs.Kinds.{IsAmong, Kinds, or_else}
+use Rattle.clap.specs.Kinds.{IsAmong, Kinds}
 use Rattle.std.proofs.Common.{Bool, is_some}
 use Rattle.clap.specs.Walk.{Row, finished, nothing_held, settled, walk, walk_from}
 use Rattle.clap.specs.Simple.{argument_words, built, names_of}
