@@ -1,15 +1,16 @@
 -- The decomposition of a layer, as a certificate tells it.
-use Rattle.std.specs.Prelude.{◌≡◌, ◌⊎◌, ◌+◌, ◌*◌, ◌%◌, ◌<◌, ℕ, pos, Bool, List, [], length, map, slice_index, slice_index_or}
+use Rattle.std.specs.Prelude.{◌≡◌, ◌+◌, ◌%◌, ◌<◌, ℕ, pos, Bool, List, [], length, map, slice_index, slice_index_or}
 use Rattle.std.specs.List.{zip}
 use Rattle.dpl_spec.specs.declared.Pt.{Pt}
 use Rattle.dpl_spec.specs.declared.Rect.{Rect}
 use Rattle.dpl_spec.specs.declared.Zone.{Zone}
-use Rattle.dpl_spec.specs.Squares.{Region, Covers, Precedes, d2}
+use Rattle.dpl_spec.specs.Squares.{Covers}
 use Rattle.dpl_spec.specs.Zones.{at, part_at}
 use Rattle.dpl_spec.specs.Decomposition.{Cut, IsCut, Masks, AreMasks, conflicts}
 use Rattle.dpl_spec.specs.Summary.{HasOddCycle}
 use Rattle.dpl_spec.specs.Cycle.{IsReported}
 use Rattle.dpl_spec.specs.Loops.{AreRectsWithin, farthest}
+use Rattle.dpl_nearest.specs.Nearest.{IsNearestPair}
 use Rattle.dpl_cert.specs.declared.cert.Cert.TheVariants.{Masks as MasksText, Conflict as ConflictText}
 use Rattle.dpl_cert.specs.Grammar.{IsCert}
 use Rattle.dpl_cert.specs.declared.cert.Head.{Head}
@@ -54,25 +55,11 @@ stitch_line zones sides k = record { rect = (slice_index_or zones k no_zone).rec
 abbrev pub place_line : List Pt → ℕ → PlaceLine
 place_line keys k = record { piece = k; key = slice_index_or keys k (at (pos 0) (pos 0)) }
 
--- two squares of the two sets that are near
-pub record AreNearAt (rule : ℕ) (a b : Region) (near : NearLine) : Type 0 where
-  pub from : a near.from
-  pub to : b near.to
-  pub close : d2 near.from near.to < rule * rule
-
-abbrev pub PrecedesAt : NearLine → NearLine → Type 0
-PrecedesAt m n = Precedes m.from n.from ⊎ ((m.from ≡ n.from) × Precedes m.to n.to)
-
--- the least pair of near squares, by the first square and then by the second
-pub record IsNearest (rule : ℕ) (a b : Region) (near : NearLine) : Type 0 where
-  pub are : AreNearAt rule a b near
-  pub least : (other : NearLine) → AreNearAt rule a b other → (near ≡ other) ⊎ PrecedesAt near other
-
--- for each piece of the cycle its nearest pair with the next one, the last with the first
+-- for each piece of the cycle the least pair of near squares with the next one, the last with the first
 pub record AreNearest (rule : ℕ) (pieces : List (List Rect)) (cycle : List ℕ) (near : List NearLine) : Type 0 where
   pub each : length near ≡ length cycle
   pub pair : (k : ℕ) (d : NearLine) → k < length cycle
-      → IsNearest rule (part_at pieces (slice_index cycle k)) (part_at pieces (slice_index cycle ((k + 1) % length cycle))) (slice_index_or near k d)
+      → IsNearestPair rule (part_at pieces (slice_index cycle k)) (part_at pieces (slice_index cycle ((k + 1) % length cycle))) (slice_index_or near k d).from (slice_index_or near k d).to
 
 -- the masks of a cut whose conflict graph has no odd cycle
 pub record IsPaintedCut (rule overlap : ℕ) (cut : Cut) (p : Painted) : Type 0 where
