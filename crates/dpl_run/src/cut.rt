@@ -13,6 +13,7 @@ ghost use Rattle.dpl_run.specs.View.{cut_view};
 
 use dpl_base::Edge;
 use dpl_cert::Head;
+use dpl_edges::conflicts;
 use dpl_feature::features;
 use dpl_piece::{Pieces, pieces};
 use dpl_slabs::{Parts, Slabs};
@@ -61,12 +62,12 @@ pub(crate) fn head(cut: &LayerCut, rule: u32, overlap: u32) -> Head
 
 /// The conflicts of the pieces, in order, each once.
 pub(crate) fn conflicts_of(
-    _alloc: Global,
-    _pieces: &Pieces,
-    _rule: u32,
+    alloc: Global,
+    pieces: &Pieces,
+    rule: u32,
 ) -> Result<Vec<Edge>, AllocError>
-    ensures edges { IfOk result (λ v. AreEdges (Conflict _rule _pieces.now.parts _pieces.now.owners) v.items) }
-    ensures below { IfOk result (λ v. AreEdgesBelow (length _pieces.now.parts) v.items) }
+    ensures edges { IfOk result (λ v. AreEdges (Conflict rule pieces.now.parts pieces.now.owners) v.items) }
+    ensures below { IfOk result (λ v. AreEdgesBelow (length pieces.now.parts) v.items) }
 {
-    Err(AllocError)
+    conflicts(alloc, pieces.parts(), pieces.owner(), rule)
 }
