@@ -6,3 +6,5 @@ pub mod TotalLaws
 pub mod DrawnLaws
 pub mod FoundLaws
 pub mod CopyLaws
+pub mod WalkLaws
+pub mod StackLaws

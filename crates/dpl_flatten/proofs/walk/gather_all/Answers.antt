@@ -1,0 +1,7 @@
+use Rattle.dpl_elements.specs.Motions.{image}
+use Rattle.dpl_flatten.proofs.WalkLaws.{gathers_more}
+use Rattle.dpl_flatten.proofs.walk.gather_all.Goals as goal
+
+pub loop-outline-preserved : goal.loop-outline-preserved
+loop-outline-preserved c =
+    gathers_more c.args.outlines.now c.loop-outline.outline-index c.outline-item.result (image c.args.place.now) _ _ _ _ _ _ c.loop-outline-test.true c.loop-outline.invariant (rw (← c.outline-item.is) c.in_ok-gather.ensures)
