@@ -14,7 +14,7 @@ use Rattle.dpl_spec.specs.Zones.{at, IsKeptZone, turned, part_at}
 use Rattle.dpl_slabs.specs.Parts.{AreApart, AreParts, union_of}
 use Rattle.dpl_zone.specs.Rows.{layer_of}
 use Rattle.dpl_zone.specs.Layers.{AreOthers, IsPartZone}
-use Rattle.dpl_tree.specs.Trees.{AreLeavesOf, IsTree, HasLeaf, HasItem}
+use Rattle.dpl_tree.specs.Trees.{AreLeavesOf, IsTree}
 use Rattle.dpl_tree.specs.declared.tree.Node.{Node}
 use Rattle.dpl_zone.specs.Leaves.{AreLeavesWithin, others_in, own_in}
 use Rattle.dpl_zone.proofs.LeafLaws.{others-in, in-others, own-in, in-own, one-in_tree}

@@ -1,4 +1,4 @@
-use Rattle.std.proofs.Common.{arith, refl, ◌+◌, ◌<◌, length}
+use Rattle.std.proofs.Common.{refl, ◌+◌, ◌<◌, length}
 use Rattle.dpl_zone.proofs.Orders.{tall-none}
 use Rattle.dpl_zone.proofs.Shades.{gather-none, gather-step, gather-on, gather-covered, gather-all, leaf-within}
 use Rattle.dpl_zone.proofs.rows.gather.Goals as goal
