@@ -1,5 +1,5 @@
 -- A run that is done has parted its layer.
-use Rattle.std.proofs.Common.{◌≡◌, ◌∙◌, ap, sym, refl, subst, inl, inr, List, [], ◌∷◌, ℕ, Option, Some, None, length, map}
+use Rattle.std.proofs.Common.{◌≡◌, ◌∙◌, ap, sym, refl, subst, inl, inr, List, [], ◌∷◌, ℕ, Option, Some, None, map}
 use Rattle.std.specs.FinMap as files
 use Rattle.clap.specs.Walk.{Text}
 use Rattle.dpl_host.specs.Outside.{Outside}
@@ -11,12 +11,9 @@ use Rattle.dpl_laws.specs.Masks.{OverlapAt, rect_at, rects_of}
 use Rattle.dpl_laws.proofs.Cover.{cover}
 use Rattle.dpl_laws.proofs.Apart.{far-on-a, far-on-b}
 use Rattle.dpl_laws.proofs.Overlap.{overlap-at}
-use Rattle.dpl_format.specs.Tree.{Library}
-use Rattle.dpl_format.specs.Layout.{Holds}
 use Rattle.dpl_words.specs.Meaning.{AsksSplit, RequestValues, SplitValues, request_of}
-use Rattle.dpl_run.specs.Flat.{Clashes, IsFlat, IsPaintedCut, Painted, Paints, stitch_line}
-use Rattle.dpl_run.specs.Reading.{IsLayerIn, IsReading, Layer}
-use Rattle.dpl_run.specs.Split.{Decides, Decision, IsDecision, IsSplit, IsSplitOf, Refuses, clash, painting, plan_of, refusal}
+use Rattle.dpl_run.specs.Flat.{Clashes, IsPaintedCut, Painted, Paints, stitch_line}
+use Rattle.dpl_run.specs.Split.{Decides, Decision, IsDecision, IsSplitOf, Refuses, clash, painting, plan_of, refusal}
 use Rattle.dpl_run.specs.Program.{IsOutcome, IsPlan}
 use Rattle.dpl_run.specs.Outcome.{Outcome, says, silent}
 use Rattle.dpl_run.specs.Texts.{usage_line}
@@ -49,22 +46,22 @@ paints v bytes front p x d is =
     elim reading [
       | inl large ↦ cc
       | inr read ↦ (let (lib, holds, l) = read.1 in record {
-          lib = lib;
-          holds = holds;
-          top = l.top;
-          is_top = l.is_top;
-          layer = layer;
-          squares = l.squares;
-          a = p.a;
-          b = p.b;
-          head = p.head;
-          pieces = p.pieces;
-          stitches = p.stitches;
-          parting = painted_parts v.rule v.overlap layer cut p is_cut painted;
-          front = front;
-          before = l.before;
-          are = ap (λ (y : Outcome). y.writes) is;
-        })
+        lib = lib;
+        holds = holds;
+        top = l.top;
+        is_top = l.is_top;
+        layer = layer;
+        squares = l.squares;
+        a = p.a;
+        b = p.b;
+        head = p.head;
+        pieces = p.pieces;
+        stitches = p.stitches;
+        parting = painted_parts v.rule v.overlap layer cut p is_cut painted;
+        front = front;
+        before = l.before;
+        are = ap (λ (y : Outcome). y.writes) is;
+      })
     ]
 
 -- other answers than that it is done

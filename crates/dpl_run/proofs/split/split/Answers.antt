@@ -1,8 +1,5 @@
-use Rattle.std.proofs.Common.{◌≡◌, ◌∙◌, ap, sym, subst, refl, rules, List, ℕ}
-use Rattle.std.specs.Prelude.{Err}
-use Rattle.dpl_spec.specs.declared.Rect.{Rect}
+use Rattle.std.proofs.Common.{◌≡◌, ◌∙◌, ap, subst, List, ℕ}
 use Rattle.dpl_words.specs.Meaning.{split_view}
-use Rattle.dpl_run.specs.Flat.{IsFlat}
 use Rattle.dpl_run.specs.Split.{Decides, plan_of}
 use Rattle.dpl_run.specs.View.{IsLayerFault, flat_view, output_view}
 use Rattle.dpl_run.specs.declared.fault.LayerFault.{LayerFault}
