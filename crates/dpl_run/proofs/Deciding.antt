@@ -1,5 +1,5 @@
 -- From the conflicts of a cut to its masks, or to its cycle.
-use Rattle.std.proofs.Common.{◌≡◌, ◌∙◌, ◌<◌, ◌≤◌, ◌+◌, ◌*◌, ◌%◌, ◌/◌, ◌^◌, ℕ, suc, inl, inr, Bool, false, true, List, [], ◌∷◌, length, map, get_or, ap, sym, refl, subst, arith}
+use Rattle.std.proofs.Common.{◌≡◌, ◌∙◌, ◌<◌, ◌≤◌, ◌+◌, ◌%◌, ◌/◌, ◌^◌, ℕ, suc, inl, inr, Bool, false, true, List, [], ◌∷◌, length, map, get_or, ap, sym, refl, subst, arith}
 use Rattle.std.specs.Prelude.{slice_index}
 use Rattle.std.specs.List.{All, Contains, zip}
 use Rattle.std.proofs.lemmas.Bool.{cases_order}
@@ -10,11 +10,10 @@ use Rattle.dpl_spec.specs.Squares.{AreNear}
 use Rattle.dpl_spec.specs.Slabs.{AreSlabsOf}
 use Rattle.dpl_spec.specs.Zones.{part_at}
 use Rattle.dpl_spec.specs.Graphs.{AreEdges, IsOddCycle, graph_of}
-use Rattle.dpl_spec.specs.Pieces.{Conflict}
 use Rattle.dpl_spec.specs.Summary.{HasOddCycle}
 use Rattle.dpl_spec.specs.Cycle.{IsReported}
 use Rattle.dpl_spec.specs.Colours.{AreStitches, on_mask}
-use Rattle.dpl_spec.specs.Decomposition.{Cut, Masks, conflicts}
+use Rattle.dpl_spec.specs.Decomposition.{Cut, conflicts}
 use Rattle.dpl_spec.proofs.SquareLaws.{AreNear-sym}
 use Rattle.dpl_graph.specs.Levels.{AreEdgesBelow}
 use Rattle.dpl_stars.specs.declared.list.Star.{Star}
@@ -29,7 +28,7 @@ use Rattle.dpl_cert.specs.declared.cert.StitchLine.{StitchLine}
 use Rattle.dpl_cert.specs.declared.cert.PlaceLine.{PlaceLine}
 use Rattle.dpl_cert.specs.declared.cert.NearLine.{NearLine}
 use Rattle.dpl_cert.specs.Grammar.{IsCycleLength}
-use Rattle.dpl_run.specs.Flat.{AreNearest, Clash, IsClashOfCut, IsPaintedCut, Painted, head_of, piece_line, place_line, stitch_line}
+use Rattle.dpl_run.specs.Flat.{AreNearest, IsClashOfCut, IsPaintedCut, Painted, head_of, piece_line, place_line, stitch_line}
 use Rattle.dpl_run.proofs.SameGraphs.{SameEdges, odd_same, reported_same, roots_same, same_back}
 
 -- what holds of all elements holds of each

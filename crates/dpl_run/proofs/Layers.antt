@@ -1,5 +1,5 @@
 -- The layer of a library, and the records before its top's elements.
-use Rattle.std.proofs.Common.{◌≡◌, ◌∙◌, ◌<◌, ◌++◌, inl, inr, ap, sym, refl, arith, append_assoc, List, ℕ, Option, Some, None, length}
+use Rattle.std.proofs.Common.{◌≡◌, ◌∙◌, ◌<◌, ◌++◌, inl, inr, ap, sym, arith, append_assoc, List, ℕ, Option, Some, None, length}
 use Rattle.std.specs.Prelude.{IfSome, ◌↔◌, slice_get}
 use Rattle.std.specs.Option.{option_map}
 use Rattle.std.proofs.lemmas.Option.{slice_get_cases}

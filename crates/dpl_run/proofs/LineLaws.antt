@@ -1,5 +1,5 @@
 -- One line more.
-use Rattle.std.proofs.Common.{◌≡◌, ◌∙◌, ◌<◌, ◌+◌, ℕ, zero, suc, inl, inr, List, [], ◌∷◌, ◌++◌, length, map, take, get_or, ap, refl, arith, add-one}
+use Rattle.std.proofs.Common.{◌≡◌, ◌∙◌, ◌<◌, ◌+◌, ℕ, zero, suc, List, [], ◌∷◌, ◌++◌, length, map, take, get_or, ap, refl, arith, add-one}
 use Rattle.std.proofs.Common.{ℤ, ◌≤◌, unsigned_abs}
 use Rattle.std.proofs.lemmas.Int.{ints}
 use Rattle.dpl_spec.specs.declared.Rect.{Rect}

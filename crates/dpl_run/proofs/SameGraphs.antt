@@ -1,7 +1,7 @@
 -- Graphs with the same edges.
-use Rattle.std.proofs.Common.{◌≡◌, ◌<◌, ◌+◌, ◌%◌, ℕ, suc, inl, inr, Bool, List, length, get_or}
+use Rattle.std.proofs.Common.{◌+◌, ℕ, Bool, List}
 use Rattle.std.specs.Prelude.{◌↔◌}
-use Rattle.dpl_spec.specs.Graphs.{Graph, IsDistance, IsOddCycle, IsRoot, Reaches, Walk, stay, step}
+use Rattle.dpl_spec.specs.Graphs.{Graph, IsDistance, IsRoot, Walk, stay, step}
 use Rattle.dpl_spec.specs.Summary.{HasOddCycle, IsStar}
 use Rattle.dpl_spec.specs.Colours.{AreRoots}
 use Rattle.dpl_spec.specs.Cycle.{Climb, IsLevelEdge, IsOddRoot, IsParent, IsReported, last, up}

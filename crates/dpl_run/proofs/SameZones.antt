@@ -1,7 +1,5 @@
 -- Layers of the same squares have the same zones.
 use Rattle.std.proofs.Common.{ℕ, inl, inr, ℤ, List}
-use Rattle.std.specs.Prelude.{◌↔◌}
-use Rattle.dpl_spec.specs.declared.Pt.{Pt}
 use Rattle.dpl_spec.specs.declared.Rect.{Rect}
 use Rattle.dpl_spec.specs.declared.Zone.{Zone}
 use Rattle.dpl_spec.specs.Squares.{Region, SameSquares}

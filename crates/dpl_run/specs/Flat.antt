@@ -1,5 +1,5 @@
 -- The decomposition of a layer, as a certificate tells it.
-use Rattle.std.specs.Prelude.{◌≡◌, ◌+◌, ◌%◌, ◌<◌, ℕ, pos, Bool, List, [], length, map, slice_index, slice_index_or}
+use Rattle.std.specs.Prelude.{◌≡◌, ◌+◌, ◌%◌, ◌<◌, ℕ, pos, Bool, List, length, map, slice_index, slice_index_or}
 use Rattle.std.specs.List.{zip}
 use Rattle.dpl_spec.specs.declared.Pt.{Pt}
 use Rattle.dpl_spec.specs.declared.Rect.{Rect}

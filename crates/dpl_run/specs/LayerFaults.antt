@@ -1,5 +1,4 @@
 -- The faults of a layer as the program keeps them.
-use Rattle.std.specs.Prelude.{ℕ}
 use Rattle.dpl_syntax.specs.declared.fault.SyntaxFault.{SyntaxFault}
 use Rattle.dpl_syntax.specs.declared.fault.SyntaxFault.TheVariants as syntax
 use Rattle.dpl_layout.specs.declared.TopFault.{TopFault}

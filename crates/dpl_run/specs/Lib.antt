@@ -7,3 +7,4 @@ pub mod Split
 pub mod Program
 pub mod LayerFaults
 pub mod View
+pub mod Parted

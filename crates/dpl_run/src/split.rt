@@ -1,9 +1,10 @@
 //! What `split` makes of a file, before anything is written.
-ghost use Rattle.std.specs.Prelude.{◌≡◌, ◌≤◌, ◌↔◌, IfOk, IsErrOf, IsTrue, Some, length, option_map};
+ghost use Rattle.std.specs.Prelude.{◌≡◌, ◌≤◌, IfOk, IsErrOf, Some, length, option_map};
 ghost use Rattle.dpl_host.specs.Outside.{Rose};
 ghost use Rattle.dpl_words.specs.Meaning.{AsksSplit, split_view};
-ghost use Rattle.dpl_cert.specs.Grammar.{IsCert, IsRule};
-ghost use Rattle.dpl_run.specs.Flat.{Fits, FitsClash, FitsPainted, IsFlat};
+ghost use Rattle.dpl_words.specs.Ranges.{AreInRange};
+ghost use Rattle.dpl_cert.specs.Grammar.{IsCert};
+ghost use Rattle.dpl_run.specs.Flat.{Fits, FitsClash, FitsPainted};
 ghost use Rattle.dpl_run.specs.Reading.{limit};
 ghost use Rattle.dpl_run.specs.Split.{Decides, IsSplit, certified, clash as clash_of, painting, plan_of, refusal};
 ghost use Rattle.dpl_run.specs.Program.{IsInput, IsMade};
@@ -19,7 +20,6 @@ use crate::texts::{conflict_line, done_line, refused_line};
 use dpl_cert::{Cert, Name, cert_bytes};
 use dpl_host::{Host, MAX_BYTES, ReadFault, read_all};
 use dpl_masks::file_bytes;
-use dpl_slabs::Slabs;
 use dpl_words::SplitOptions;
 use std::alloc::{AllocError, Global};
 
@@ -29,6 +29,7 @@ pub(crate) fn split_output<'a, H: Host>(
     options: &SplitOptions<'a>,
     host: &mut H,
 ) -> Result<Output<'a>, ReadFault>
+    requires { AreInRange (split_view options.now) }
     ensures made { IfOk result (λ x. IsMade (Some (AsksSplit (split_view options.now))) (H.told host.old) (output_view x)) }
     ensures failed { IsErrOf result ReadFault.Failed → Rose (H.read_faults host.old) (H.read_faults host.new) }
     ensures not_large { IsErrOf result ReadFault.TooLarge → ⊥ }
@@ -67,12 +68,13 @@ fn split<'a>(
     options: &SplitOptions<'a>,
     bytes: &[u8],
 ) -> Result<Output<'a>, AllocError>
-    requires { length bytes.now ≤ limit }
+    requires size { length bytes.now ≤ limit }
+    requires ranges { AreInRange (split_view options.now) }
     ensures { IfOk result (λ x. IsSplit (split_view options.now) bytes.now (output_view x)) }
 {
     match layer_of(alloc, options, bytes) {
         Ok(layer) => {
-            let decomposed = decompose_by(alloc, options, &layer.slabs)?;
+            let decomposed = decompose(alloc, &layer.slabs, options.rule, options.overlap)?;
             let output = decided(alloc, options, layer.front.as_slice(), decomposed)?;
             Ok(output)
         }
@@ -82,32 +84,6 @@ fn split<'a>(
         }
         Err(LayerFault::NoMemory) => Err(AllocError),
     }
-}
-
-/// The decomposition of a layer by the rules of the command line. The command line has seen that they are in their ranges: where one is not, the answer is the one that is free.
-fn decompose_by(
-    alloc: Global,
-    options: &SplitOptions,
-    layer: &Slabs,
-) -> Result<Decomposed, AllocError>
-    ensures flat { IfOk result (λ d. IsFlat options.now.rule options.now.overlap layer.now (flat_view d)) }
-    ensures fits { IfOk result (λ d. Fits (flat_view d)) }
-{
-    if !is_rule(options.rule) {
-        return Err(AllocError);
-    }
-    if !is_rule(options.overlap) {
-        return Err(AllocError);
-    }
-    let decomposed = decompose(alloc, layer, options.rule, options.overlap)?;
-    Ok(decomposed)
-}
-
-/// Whether a rule is in its range.
-fn is_rule(rule: u32) -> bool
-    ensures { IsTrue result ↔ IsRule rule }
-{
-    1 <= rule && rule <= 1_000_000
 }
 
 /// What is made of a decomposition.

@@ -5,7 +5,7 @@ ghost use Rattle.dpl_run.specs.Texts.{conflict_line as conflict_line_of, done_li
 use dpl_cert::{Head, Name};
 use std::alloc::{AllocError, Global};
 
-/// How the command line is written.
+/// How the command line is written, with a line end. Layers and data types are those of the GDSII Stream Format, Release 6; the rule, the overlap and the tile are in database units.
 pub const USAGE: &str =
     "usage: dpl split --layer N --rule N --overlap N [--datatype N] [--top NAME] [--a N] [--b N] [--tile N] [--workers N] IN OUT CERT\n";
 

@@ -1,9 +1,7 @@
-use Rattle.std.proofs.Common.{◌≡◌, ◌∙◌, ◌<◌, ◌^◌, ◌%◌, ◌+◌, ap, subst, sym, arith, rules, List, ℕ, Option, Global, length, map}
-use Rattle.std.specs.Prelude.{IfSome, Vec, slice_index}
+use Rattle.std.proofs.Common.{◌∙◌, ◌<◌, ◌^◌, ap, subst, sym, arith, rules, List, ℕ, Option, Global, length, map}
+use Rattle.std.specs.Prelude.{IfSome, Vec}
 use Rattle.std.specs.List.{AllByRecursion, Contains}
 use Rattle.dpl_spec.specs.declared.Pt.{Pt}
-use Rattle.dpl_spec.specs.Squares.{AreNear}
-use Rattle.dpl_spec.specs.Zones.{part_at}
 use Rattle.dpl_spec.specs.Graphs.{IsOddCycle, graph_of}
 use Rattle.dpl_spec.specs.Cycle.{IsReported}
 use Rattle.dpl_cert.specs.declared.cert.PlaceLine.{PlaceLine}

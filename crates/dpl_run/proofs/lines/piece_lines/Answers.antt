@@ -1,4 +1,4 @@
-use Rattle.std.proofs.Common.{◌≡◌, ◌<◌, length, ◌∙◌, ◌++◌, ◌∷◌, [], Bool, ap, sym, map, arith, rules, get_or, false}
+use Rattle.std.proofs.Common.{◌<◌, length, ◌∙◌, ◌++◌, ◌∷◌, [], Bool, ap, sym, map, arith, get_or, false}
 use Rattle.std.proofs.lemmas.List.{get_or-map, length-map}
 use Rattle.std.proofs.lemmas.List.Elements.{Contains-get_or}
 use Rattle.std.specs.Prelude.{pos}

@@ -4,7 +4,6 @@ use Rattle.dpl_spec.specs.declared.Rect.{Rect}
 use Rattle.dpl_spec.specs.Squares.{AreNear}
 use Rattle.dpl_spec.specs.Zones.{part_at}
 use Rattle.dpl_cert.specs.Grammar.{IsNear}
-use Rattle.dpl_cert.specs.declared.cert.NearLine.{NearLine}
 use Rattle.dpl_nearest.specs.Nearest.{IsNearestPair}
 use Rattle.dpl_run.proofs.LineLaws.{fits_push}
 use Rattle.dpl_run.proofs.NearLines.{nearest_more}

@@ -1,6 +1,5 @@
-use Rattle.std.proofs.Common.{◌≡◌, ◌<◌, ◌+◌, ◌%◌, ℕ, length, get_or}
+use Rattle.std.proofs.Common.{◌≡◌, length}
 use Rattle.std.specs.List.{AllByRecursion}
-use Rattle.dpl_spec.specs.Zones.{part_at}
 use Rattle.dpl_cert.specs.Grammar.{IsNear}
 use Rattle.dpl_run.proofs.NearLines.{AreNearestFirst}
 use Rattle.dpl_run.proofs.near.near_lines.Given as goal

@@ -1,6 +1,4 @@
-use Rattle.std.proofs.Common.{◌≡◌, refl, subst, Some}
-use Rattle.std.specs.Prelude.{IfOk}
-use Rattle.dpl_words.specs.Meaning.{request_view}
+use Rattle.std.proofs.Common.{◌≡◌, refl}
 use Rattle.dpl_words.specs.declared.values.Request.{Request}
 use Rattle.dpl_words.specs.declared.values.Request.TheVariants.{Split}
 use Rattle.dpl_words.specs.declared.values.SplitOptions.{SplitOptions}

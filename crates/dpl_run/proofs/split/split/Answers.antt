@@ -1,8 +1,5 @@
-use Rattle.std.proofs.Common.{◌≡◌, ◌∙◌, ap, sym, subst, refl, rules, List, ℕ}
-use Rattle.std.specs.Prelude.{Err}
-use Rattle.dpl_spec.specs.declared.Rect.{Rect}
+use Rattle.std.proofs.Common.{◌≡◌, ◌∙◌, ap, subst, List, ℕ}
 use Rattle.dpl_words.specs.Meaning.{split_view}
-use Rattle.dpl_run.specs.Flat.{IsFlat}
 use Rattle.dpl_run.specs.Split.{Decides, plan_of}
 use Rattle.dpl_run.specs.View.{IsLayerFault, flat_view, output_view}
 use Rattle.dpl_run.specs.declared.fault.LayerFault.{LayerFault}
@@ -16,8 +13,8 @@ returns-in_ok-output-in-Ok c =
     let flat = c.in_ok-decomposed-in-Ok.ensures.flat in
     let front : output_view c.in_ok-output-in-Ok.output ≡ plan_of v (Decides c.in-Ok.layer.front.items d) =
     c.in_ok-output-in-Ok.ensures ∙ ap (λ (f : List ℕ). plan_of v (Decides f d)) c.as_slice.ensures.value in
-    split_decided v c.args.bytes.now c.in-Ok.layer.front.items c.in-Ok.layer.slabs d (output_view c.in_ok-output-in-Ok.output) c.requires c.in-Ok.ensures.layer flat front
+    split_decided v c.args.bytes.now c.in-Ok.layer.front.items c.in-Ok.layer.slabs d (output_view c.in_ok-output-in-Ok.output) c.requires.size c.in-Ok.ensures.layer flat front
 
 pub returns-in_ok-output-in-Err-Refused : goal.returns-in_ok-output-in-Err-Refused
 returns-in_ok-output-in-Err-Refused c =
-    split_faulty (split_view c.args.options.now) c.args.bytes.now c.in-Err-Refused.name c.in-Err-Refused.at _ c.requires (subst (λ (e : LayerFault). IsLayerFault (split_view c.args.options.now) c.args.bytes.now e) c.in-Err-Refused.field-0-is c.in-Err-Refused.ensures.fault) c.in_ok-output-in-Err-Refused.ensures
+    split_faulty (split_view c.args.options.now) c.args.bytes.now c.in-Err-Refused.name c.in-Err-Refused.at _ c.requires.size (subst (λ (e : LayerFault). IsLayerFault (split_view c.args.options.now) c.args.bytes.now e) c.in-Err-Refused.field-0-is c.in-Err-Refused.ensures.fault) c.in_ok-output-in-Err-Refused.ensures

@@ -1,4 +1,4 @@
-use Rattle.std.proofs.Common.{◌≡◌, subst, Option, List, ℕ, Global}
+use Rattle.std.proofs.Common.{subst, Option, List, ℕ, Global}
 use Rattle.std.specs.Prelude.{Vec, option_map}
 use Rattle.dpl_words.specs.Meaning.{split_view}
 use Rattle.dpl_run.specs.Program.{IsInput}
