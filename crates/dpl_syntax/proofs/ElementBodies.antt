@@ -34,83 +34,166 @@ by_kind P p1 p2 p3 p4 p5 p6 p7 k e =
 
 fits_boundary : (rest : Grammar) → AllFit kinds.boundary rest (items_of kinds.boundary)
 unfolding refusal_in
-fits_boundary rest =
-    ((record { plain = λ known at body. refl; inner = refl }, avoids_items (may kinds.plex ∷ must kinds.layer ∷ must kinds.datatype ∷ must kinds.xy ∷ []) rest kinds.elflags refl),
-    ((record { plain = λ known at body. refl; inner = refl }, avoids_items (must kinds.layer ∷ must kinds.datatype ∷ must kinds.xy ∷ []) rest kinds.plex refl),
-    (record { plain = λ known at body. refl; inner = refl },
-    (record { plain = λ known at body. refl; inner = refl },
-    (record { plain = λ known at body. refl; inner = refl },
-    tt)))))
+fits_boundary rest = (
+  (record { plain = λ known at body. refl; inner = refl }, avoids_items (may kinds.plex ∷ must kinds.layer ∷ must kinds.datatype ∷ must kinds.xy ∷ []) rest kinds.elflags refl),
+  (
+    (record { plain = λ known at body. refl; inner = refl }, avoids_items (must kinds.layer ∷ must kinds.datatype ∷ must kinds.xy ∷ []) rest kinds.plex refl),
+    (
+      record { plain = λ known at body. refl; inner = refl },
+      (
+        record { plain = λ known at body. refl; inner = refl },
+        (
+          record { plain = λ known at body. refl; inner = refl },
+          tt,
+        ),
+      ),
+    ),
+  ),
+)
 
 fits_path : (rest : Grammar) → AllFit kinds.path rest (items_of kinds.path)
 unfolding refusal_in
-fits_path rest =
-    ((record { plain = λ known at body. refl; inner = refl }, avoids_items (may kinds.plex ∷ must kinds.layer ∷ must kinds.datatype ∷ may kinds.pathtype ∷ may kinds.width ∷ may kinds.bgnextn ∷ may kinds.endextn ∷ must kinds.xy ∷ []) rest kinds.elflags refl),
-    ((record { plain = λ known at body. refl; inner = refl }, avoids_items (must kinds.layer ∷ must kinds.datatype ∷ may kinds.pathtype ∷ may kinds.width ∷ may kinds.bgnextn ∷ may kinds.endextn ∷ must kinds.xy ∷ []) rest kinds.plex refl),
-    (record { plain = λ known at body. refl; inner = refl },
-    (record { plain = λ known at body. refl; inner = refl },
-    ((record { plain = λ known at body. refl; inner = refl }, avoids_items (may kinds.width ∷ may kinds.bgnextn ∷ may kinds.endextn ∷ must kinds.xy ∷ []) rest kinds.pathtype refl),
-    ((record { plain = λ known at body. refl; inner = refl }, avoids_items (may kinds.bgnextn ∷ may kinds.endextn ∷ must kinds.xy ∷ []) rest kinds.width refl),
-    ((record { plain = λ known at body. refl; inner = refl }, avoids_items (may kinds.endextn ∷ must kinds.xy ∷ []) rest kinds.bgnextn refl),
-    ((record { plain = λ known at body. refl; inner = refl }, avoids_items (must kinds.xy ∷ []) rest kinds.endextn refl),
-    (record { plain = λ known at body. refl; inner = refl },
-    tt)))))))))
+fits_path rest = (
+  (record { plain = λ known at body. refl; inner = refl }, avoids_items (may kinds.plex ∷ must kinds.layer ∷ must kinds.datatype ∷ may kinds.pathtype ∷ may kinds.width ∷ may kinds.bgnextn ∷ may kinds.endextn ∷ must kinds.xy ∷ []) rest kinds.elflags refl),
+  (
+    (record { plain = λ known at body. refl; inner = refl }, avoids_items (must kinds.layer ∷ must kinds.datatype ∷ may kinds.pathtype ∷ may kinds.width ∷ may kinds.bgnextn ∷ may kinds.endextn ∷ must kinds.xy ∷ []) rest kinds.plex refl),
+    (
+      record { plain = λ known at body. refl; inner = refl },
+      (
+        record { plain = λ known at body. refl; inner = refl },
+        (
+          (record { plain = λ known at body. refl; inner = refl }, avoids_items (may kinds.width ∷ may kinds.bgnextn ∷ may kinds.endextn ∷ must kinds.xy ∷ []) rest kinds.pathtype refl),
+          (
+            (record { plain = λ known at body. refl; inner = refl }, avoids_items (may kinds.bgnextn ∷ may kinds.endextn ∷ must kinds.xy ∷ []) rest kinds.width refl),
+            (
+              (record { plain = λ known at body. refl; inner = refl }, avoids_items (may kinds.endextn ∷ must kinds.xy ∷ []) rest kinds.bgnextn refl),
+              (
+                (record { plain = λ known at body. refl; inner = refl }, avoids_items (must kinds.xy ∷ []) rest kinds.endextn refl),
+                (
+                  record { plain = λ known at body. refl; inner = refl },
+                  tt,
+                ),
+              ),
+            ),
+          ),
+        ),
+      ),
+    ),
+  ),
+)
 
 fits_sref : (rest : Grammar) → AllFit kinds.sref rest (items_of kinds.sref)
 unfolding refusal_in
-fits_sref rest =
-    ((record { plain = λ known at body. refl; inner = refl }, avoids_items (may kinds.plex ∷ named ∷ turned ∷ points 8 ∷ []) rest kinds.elflags refl),
-    ((record { plain = λ known at body. refl; inner = refl }, avoids_items (named ∷ turned ∷ points 8 ∷ []) rest kinds.plex refl),
-    (tt,
-    (record { strans = record { plain = λ known at body. refl; inner = refl }; mag = record { plain = λ known at body. refl; inner = refl }; angle = record { plain = λ known at body. refl; inner = refl }; no_strans = avoids_items (points 8 ∷ []) rest kinds.strans refl; no_mag = avoids_items (points 8 ∷ []) rest kinds.mag refl; no_angle = avoids_items (points 8 ∷ []) rest kinds.angle refl },
-    (λ n. refl,
-    tt)))))
+fits_sref rest = (
+  (record { plain = λ known at body. refl; inner = refl }, avoids_items (may kinds.plex ∷ named ∷ turned ∷ points 8 ∷ []) rest kinds.elflags refl),
+  (
+    (record { plain = λ known at body. refl; inner = refl }, avoids_items (named ∷ turned ∷ points 8 ∷ []) rest kinds.plex refl),
+    (
+      tt,
+      (
+        record { strans = record { plain = λ known at body. refl; inner = refl }; mag = record { plain = λ known at body. refl; inner = refl }; angle = record { plain = λ known at body. refl; inner = refl }; no_strans = avoids_items (points 8 ∷ []) rest kinds.strans refl; no_mag = avoids_items (points 8 ∷ []) rest kinds.mag refl; no_angle = avoids_items (points 8 ∷ []) rest kinds.angle refl },
+        (
+          λ n. refl,
+          tt,
+        ),
+      ),
+    ),
+  ),
+)
 
 fits_aref : (rest : Grammar) → AllFit kinds.aref rest (items_of kinds.aref)
 unfolding refusal_in
-fits_aref rest =
-    ((record { plain = λ known at body. refl; inner = refl }, avoids_items (may kinds.plex ∷ named ∷ turned ∷ must kinds.colrow ∷ points 24 ∷ []) rest kinds.elflags refl),
-    ((record { plain = λ known at body. refl; inner = refl }, avoids_items (named ∷ turned ∷ must kinds.colrow ∷ points 24 ∷ []) rest kinds.plex refl),
-    (tt,
-    (record { strans = record { plain = λ known at body. refl; inner = refl }; mag = record { plain = λ known at body. refl; inner = refl }; angle = record { plain = λ known at body. refl; inner = refl }; no_strans = avoids_items (must kinds.colrow ∷ points 24 ∷ []) rest kinds.strans refl; no_mag = avoids_items (must kinds.colrow ∷ points 24 ∷ []) rest kinds.mag refl; no_angle = avoids_items (must kinds.colrow ∷ points 24 ∷ []) rest kinds.angle refl },
-    (record { plain = λ known at body. refl; inner = refl },
-    (λ n. refl,
-    tt))))))
+fits_aref rest = (
+  (record { plain = λ known at body. refl; inner = refl }, avoids_items (may kinds.plex ∷ named ∷ turned ∷ must kinds.colrow ∷ points 24 ∷ []) rest kinds.elflags refl),
+  (
+    (record { plain = λ known at body. refl; inner = refl }, avoids_items (named ∷ turned ∷ must kinds.colrow ∷ points 24 ∷ []) rest kinds.plex refl),
+    (
+      tt,
+      (
+        record { strans = record { plain = λ known at body. refl; inner = refl }; mag = record { plain = λ known at body. refl; inner = refl }; angle = record { plain = λ known at body. refl; inner = refl }; no_strans = avoids_items (must kinds.colrow ∷ points 24 ∷ []) rest kinds.strans refl; no_mag = avoids_items (must kinds.colrow ∷ points 24 ∷ []) rest kinds.mag refl; no_angle = avoids_items (must kinds.colrow ∷ points 24 ∷ []) rest kinds.angle refl },
+        (
+          record { plain = λ known at body. refl; inner = refl },
+          (
+            λ n. refl,
+            tt,
+          ),
+        ),
+      ),
+    ),
+  ),
+)
 
 fits_text : (rest : Grammar) → AllFit kinds.text rest (items_of kinds.text)
 unfolding refusal_in
-fits_text rest =
-    ((record { plain = λ known at body. refl; inner = refl }, avoids_items (may kinds.plex ∷ must kinds.layer ∷ must kinds.texttype ∷ may kinds.presentation ∷ may kinds.pathtype ∷ may kinds.width ∷ turned ∷ points 8 ∷ must kinds.text_string ∷ []) rest kinds.elflags refl),
-    ((record { plain = λ known at body. refl; inner = refl }, avoids_items (must kinds.layer ∷ must kinds.texttype ∷ may kinds.presentation ∷ may kinds.pathtype ∷ may kinds.width ∷ turned ∷ points 8 ∷ must kinds.text_string ∷ []) rest kinds.plex refl),
-    (record { plain = λ known at body. refl; inner = refl },
-    (record { plain = λ known at body. refl; inner = refl },
-    ((record { plain = λ known at body. refl; inner = refl }, avoids_items (may kinds.pathtype ∷ may kinds.width ∷ turned ∷ points 8 ∷ must kinds.text_string ∷ []) rest kinds.presentation refl),
-    ((record { plain = λ known at body. refl; inner = refl }, avoids_items (may kinds.width ∷ turned ∷ points 8 ∷ must kinds.text_string ∷ []) rest kinds.pathtype refl),
-    ((record { plain = λ known at body. refl; inner = refl }, avoids_items (turned ∷ points 8 ∷ must kinds.text_string ∷ []) rest kinds.width refl),
-    (record { strans = record { plain = λ known at body. refl; inner = refl }; mag = record { plain = λ known at body. refl; inner = refl }; angle = record { plain = λ known at body. refl; inner = refl }; no_strans = avoids_items (points 8 ∷ must kinds.text_string ∷ []) rest kinds.strans refl; no_mag = avoids_items (points 8 ∷ must kinds.text_string ∷ []) rest kinds.mag refl; no_angle = avoids_items (points 8 ∷ must kinds.text_string ∷ []) rest kinds.angle refl },
-    (λ n. refl,
-    (record { plain = λ known at body. refl; inner = refl },
-    tt))))))))))
+fits_text rest = (
+  (record { plain = λ known at body. refl; inner = refl }, avoids_items (may kinds.plex ∷ must kinds.layer ∷ must kinds.texttype ∷ may kinds.presentation ∷ may kinds.pathtype ∷ may kinds.width ∷ turned ∷ points 8 ∷ must kinds.text_string ∷ []) rest kinds.elflags refl),
+  (
+    (record { plain = λ known at body. refl; inner = refl }, avoids_items (must kinds.layer ∷ must kinds.texttype ∷ may kinds.presentation ∷ may kinds.pathtype ∷ may kinds.width ∷ turned ∷ points 8 ∷ must kinds.text_string ∷ []) rest kinds.plex refl),
+    (
+      record { plain = λ known at body. refl; inner = refl },
+      (
+        record { plain = λ known at body. refl; inner = refl },
+        (
+          (record { plain = λ known at body. refl; inner = refl }, avoids_items (may kinds.pathtype ∷ may kinds.width ∷ turned ∷ points 8 ∷ must kinds.text_string ∷ []) rest kinds.presentation refl),
+          (
+            (record { plain = λ known at body. refl; inner = refl }, avoids_items (may kinds.width ∷ turned ∷ points 8 ∷ must kinds.text_string ∷ []) rest kinds.pathtype refl),
+            (
+              (record { plain = λ known at body. refl; inner = refl }, avoids_items (turned ∷ points 8 ∷ must kinds.text_string ∷ []) rest kinds.width refl),
+              (
+                record { strans = record { plain = λ known at body. refl; inner = refl }; mag = record { plain = λ known at body. refl; inner = refl }; angle = record { plain = λ known at body. refl; inner = refl }; no_strans = avoids_items (points 8 ∷ must kinds.text_string ∷ []) rest kinds.strans refl; no_mag = avoids_items (points 8 ∷ must kinds.text_string ∷ []) rest kinds.mag refl; no_angle = avoids_items (points 8 ∷ must kinds.text_string ∷ []) rest kinds.angle refl },
+                (
+                  λ n. refl,
+                  (
+                    record { plain = λ known at body. refl; inner = refl },
+                    tt,
+                  ),
+                ),
+              ),
+            ),
+          ),
+        ),
+      ),
+    ),
+  ),
+)
 
 fits_node : (rest : Grammar) → AllFit kinds.node rest (items_of kinds.node)
 unfolding refusal_in
-fits_node rest =
-    ((record { plain = λ known at body. refl; inner = refl }, avoids_items (may kinds.plex ∷ must kinds.layer ∷ must kinds.nodetype ∷ must kinds.xy ∷ []) rest kinds.elflags refl),
-    ((record { plain = λ known at body. refl; inner = refl }, avoids_items (must kinds.layer ∷ must kinds.nodetype ∷ must kinds.xy ∷ []) rest kinds.plex refl),
-    (record { plain = λ known at body. refl; inner = refl },
-    (record { plain = λ known at body. refl; inner = refl },
-    (record { plain = λ known at body. refl; inner = refl },
-    tt)))))
+fits_node rest = (
+  (record { plain = λ known at body. refl; inner = refl }, avoids_items (may kinds.plex ∷ must kinds.layer ∷ must kinds.nodetype ∷ must kinds.xy ∷ []) rest kinds.elflags refl),
+  (
+    (record { plain = λ known at body. refl; inner = refl }, avoids_items (must kinds.layer ∷ must kinds.nodetype ∷ must kinds.xy ∷ []) rest kinds.plex refl),
+    (
+      record { plain = λ known at body. refl; inner = refl },
+      (
+        record { plain = λ known at body. refl; inner = refl },
+        (
+          record { plain = λ known at body. refl; inner = refl },
+          tt,
+        ),
+      ),
+    ),
+  ),
+)
 
 fits_box : (rest : Grammar) → AllFit kinds.box rest (items_of kinds.box)
 unfolding refusal_in
-fits_box rest =
-    ((record { plain = λ known at body. refl; inner = refl }, avoids_items (may kinds.plex ∷ must kinds.layer ∷ must kinds.boxtype ∷ must kinds.xy ∷ []) rest kinds.elflags refl),
-    ((record { plain = λ known at body. refl; inner = refl }, avoids_items (must kinds.layer ∷ must kinds.boxtype ∷ must kinds.xy ∷ []) rest kinds.plex refl),
-    (record { plain = λ known at body. refl; inner = refl },
-    (record { plain = λ known at body. refl; inner = refl },
-    (record { plain = λ known at body. refl; inner = refl },
-    tt)))))
+fits_box rest = (
+  (record { plain = λ known at body. refl; inner = refl }, avoids_items (may kinds.plex ∷ must kinds.layer ∷ must kinds.boxtype ∷ must kinds.xy ∷ []) rest kinds.elflags refl),
+  (
+    (record { plain = λ known at body. refl; inner = refl }, avoids_items (must kinds.layer ∷ must kinds.boxtype ∷ must kinds.xy ∷ []) rest kinds.plex refl),
+    (
+      record { plain = λ known at body. refl; inner = refl },
+      (
+        record { plain = λ known at body. refl; inner = refl },
+        (
+          record { plain = λ known at body. refl; inner = refl },
+          tt,
+        ),
+      ),
+    ),
+  ),
+)
 
 fits : (rest : Grammar) (k : ℕ) → kinds.begins_element k ≡ true → AllFit k rest (items_of k)
 fits rest = by_kind (λ k. AllFit k rest (items_of k)) (fits_boundary rest) (fits_path rest) (fits_sref rest) (fits_aref rest) (fits_text rest) (fits_node rest) (fits_box rest)
@@ -228,14 +311,13 @@ avoids_choice k e =
 pub solid_choice : IsSolid choice
 solid_choice = (solid_either grammar.boundary (either grammar.path (either grammar.sref (either grammar.aref (either grammar.text (either grammar.node grammar.box))))) (solid kinds.boundary (whole (may kinds.elflags) (may kinds.plex ∷ must kinds.layer ∷ must kinds.datatype ∷ must kinds.xy ∷ []))) (solid_either grammar.path (either grammar.sref (either grammar.aref (either grammar.text (either grammar.node grammar.box)))) (solid kinds.path (whole (may kinds.elflags) (may kinds.plex ∷ must kinds.layer ∷ must kinds.datatype ∷ may kinds.pathtype ∷ may kinds.width ∷ may kinds.bgnextn ∷ may kinds.endextn ∷ must kinds.xy ∷ []))) (solid_either grammar.sref (either grammar.aref (either grammar.text (either grammar.node grammar.box))) (solid kinds.sref (whole (may kinds.elflags) (may kinds.plex ∷ named ∷ turned ∷ points 8 ∷ []))) (solid_either grammar.aref (either grammar.text (either grammar.node grammar.box)) (solid kinds.aref (whole (may kinds.elflags) (may kinds.plex ∷ named ∷ turned ∷ must kinds.colrow ∷ points 24 ∷ []))) (solid_either grammar.text (either grammar.node grammar.box) (solid kinds.text (whole (may kinds.elflags) (may kinds.plex ∷ must kinds.layer ∷ must kinds.texttype ∷ may kinds.presentation ∷ may kinds.pathtype ∷ may kinds.width ∷ turned ∷ points 8 ∷ must kinds.text_string ∷ []))) (solid_either grammar.node grammar.box (solid kinds.node (whole (may kinds.elflags) (may kinds.plex ∷ must kinds.layer ∷ must kinds.nodetype ∷ must kinds.xy ∷ []))) (solid kinds.box (whole (may kinds.elflags) (may kinds.plex ∷ must kinds.layer ∷ must kinds.boxtype ∷ must kinds.xy ∷ [])))))))))
 
-
 module _ (bytes : List ℕ) (before : List Record) (rest : Grammar) (at : ℕ) (r : Record) (reached : Reached bytes before (both grammar.element rest) at) (found : record_at bytes at ≡ Ok r) (begins : kinds.begins_element r.kind ≡ true) where
   pub in_body : Reached bytes (before ++ r ∷ []) (behind (items_of r.kind) (both tail rest)) r.next
   in_body =
       let end : Exists rest = exists_rest grammar.element rest reached.some in
       let some : Exists (behind (items_of r.kind) (both tail rest)) = exists_items (items_of r.kind) (both tail rest) (exists_both tail rest (kinds.endel ∷ [], ([], kinds.endel ∷ [], refl, ([], refl, tt), (kinds.endel, refl, refl))) end) in
       let moves : Moves (both grammar.element rest) r.kind (behind (items_of r.kind) (both tail rest)) =
-          moves_agreed (both grammar.element rest) (both choice (both tail rest)) (behind (items_of r.kind) (both tail rest)) r.kind (agrees_regrouped choice tail rest r.kind) (enters (both tail rest) r.kind begins) in
+      moves_agreed (both grammar.element rest) (both choice (both tail rest)) (behind (items_of r.kind) (both tail rest)) r.kind (agrees_regrouped choice tail rest r.kind) (enters (both tail rest) r.kind begins) in
       moved bytes before at (both grammar.element rest) (behind (items_of r.kind) (both tail rest)) r reached found moves some (not_refused (owner before) (names before) r.at r.body r.kind begins) (eqb-false r.kind kinds.endlib (not_last r.kind begins))
 
   pub body_ok : (y : Body × ℕ) → body_at bytes r.kind r.next ≡ Ok y → (ss : Slots) × (y.0 ≡ body_of r.kind (pick ss)) × Goes bytes (before ++ r ∷ []) (both tail rest) (ss, y.1)

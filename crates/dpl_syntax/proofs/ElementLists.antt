@@ -81,11 +81,11 @@ element_is e rs is =
     let whole : List Record = is.first ∷ (is.inner ++ is.endel ∷ []) in
     let no_begin : kinds.begins_element is.endel.kind ≡ false = ap kinds.begins_element is.ends in
     let split : (more : List Record) → split_elements (whole ++ more) ≡ (is.first, is.inner) ∷ split_elements more =
-        λ more.
-            parts_begin is.first ((is.inner ++ is.endel ∷ []) ++ more) is.begins
-            ∙ ap (λ (x : List Record). (is.first, before kinds.endel x) ∷ split_elements x) (append_assoc is.inner (is.endel ∷ []) more)
-            ∙ ap (λ (x : List Record). (is.first, x) ∷ split_elements (is.inner ++ is.endel ∷ more)) (before_inner is.inner more is.endel is.are is.ends)
-            ∙ ap (λ (x : List (Record × List Record)). (is.first, is.inner) ∷ x) (parts_inner is.inner (is.endel ∷ more) is.are ∙ parts_skip is.endel more no_begin) in
+    λ more.
+    parts_begin is.first ((is.inner ++ is.endel ∷ []) ++ more) is.begins
+    ∙ ap (λ (x : List Record). (is.first, before kinds.endel x) ∷ split_elements x) (append_assoc is.inner (is.endel ∷ []) more)
+    ∙ ap (λ (x : List Record). (is.first, x) ∷ split_elements (is.inner ++ is.endel ∷ more)) (before_inner is.inner more is.endel is.are is.ends)
+    ∙ ap (λ (x : List (Record × List Record)). (is.first, is.inner) ∷ x) (parts_inner is.inner (is.endel ∷ more) is.are ∙ parts_skip is.endel more no_begin) in
     subst (AreElements (e ∷ [])) (sym is.split) (record {
       each = (is.first, is.inner) ∷ [];
       split = split;

@@ -112,12 +112,12 @@ module _ (bytes : List ℕ) (o : ℕ) where
   strans_on before rest at r own f avoids reached found same =
       let k = r.kind in
       let agrees : Agrees (both (maybe grammar.strans) rest) k (both (a kinds.strans) (both mag_angle rest)) =
-          agrees_both (both (maybe grammar.strans) rest) (both grammar.strans rest) (both (a kinds.strans) (both mag_angle rest)) k (takes_maybe grammar.strans rest k (subst (Avoids rest) (sym same) avoids)) (agrees_regrouped (a kinds.strans) mag_angle rest k) in
+      agrees_both (both (maybe grammar.strans) rest) (both grammar.strans rest) (both (a kinds.strans) (both mag_angle rest)) k (takes_maybe grammar.strans rest k (subst (Avoids rest) (sym same) avoids)) (agrees_regrouped (a kinds.strans) mag_angle rest k) in
       let some : Exists (both mag_angle rest) = (let end = exists_rest (maybe grammar.strans) rest reached.some in (end.0, ([], end.0, refl, ([], [], refl, inl refl, inl refl), end.1))) in
       let moves : Moves (both (maybe grammar.strans) rest) k (both mag_angle rest) =
-          moves_agreed (both (maybe grammar.strans) rest) (both (a kinds.strans) (both mag_angle rest)) (both mag_angle rest) k agrees (moves_one (λ j. eqb j kinds.strans) (both mag_angle rest) k (eq-eqb k kinds.strans same)) in
+      moves_agreed (both (maybe grammar.strans) rest) (both (a kinds.strans) (both mag_angle rest)) (both mag_angle rest) k agrees (moves_one (λ j. eqb j kinds.strans) (both mag_angle rest) k (eq-eqb k kinds.strans same)) in
       let there : Reached bytes (before ++ r ∷ []) (both mag_angle rest) r.next =
-          moved bytes before at (both (maybe grammar.strans) rest) (both mag_angle rest) r reached found moves some (fine before r kinds.strans own f.plain same) (λ h. no_end kinds.strans f.inner (sym same ∙ h)) in
+      moved bytes before at (both (maybe grammar.strans) rest) (both mag_angle rest) r reached found moves some (fine before r kinds.strans own f.plain same) (λ h. no_end kinds.strans f.inner (sym same ∙ h)) in
       agreed bytes (before ++ r ∷ []) r.next (both mag_angle rest) (both (maybe (a kinds.mag)) (both (maybe (a kinds.angle)) rest)) there (λ s after. agrees_regrouped (maybe (a kinds.mag)) (maybe (a kinds.angle)) rest s.kind) (exists_regrouped (maybe (a kinds.mag)) (maybe (a kinds.angle)) rest some)
 
   strans_off : (before : List Record) (rest : Grammar) (at : ℕ) (r : Record) → Reached bytes before (both (maybe grammar.strans) rest) at → record_at bytes at ≡ Ok r → eqb r.kind kinds.strans ≡ false → Reached bytes before rest at
@@ -151,7 +151,7 @@ module _ (bytes : List ℕ) (o : ℕ) where
             let same : r.kind ≡ kinds.strans = eqb-true r.kind kinds.strans c.0 in
             let there = strans_on before rest at r own t.strans t.no_strans reached b.1 same in
             let first : Goes bytes before (both (maybe (a kinds.mag)) (both (maybe (a kinds.angle)) rest)) ((kinds.strans, Some r) ∷ [], r.next) =
-                record { rs = r ∷ []; slotted = slotted_one kinds.strans r same; inner = inner_one kinds.strans r same t.strans.inner; reached = there } in
+            record { rs = r ∷ []; slotted = slotted_one kinds.strans r same; inner = inner_one kinds.strans r same t.strans.inner; reached = there } in
             let e2 : reading.take_turned bytes (Some r, r.next) ≡ Ok y = subst (λ (x : Option Record × ℕ). reading.take_turned bytes x ≡ Ok y) (sym c.1) z.2 in
             let m = bind_ok (reading.take_if bytes kinds.mag r.next) (λ m. reading.take_if bytes kinds.angle m.1 >>= λ g. Ok ((kinds.strans, Some r) ∷ (kinds.mag, m.0) ∷ (kinds.angle, g.0) ∷ [], g.1)) y e2 in
             let own1 = own_then before (r ∷ []) first.inner own in

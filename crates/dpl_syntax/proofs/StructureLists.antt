@@ -93,7 +93,10 @@ module _ (bytes : List ℕ) (from : ℕ) where
 
     pub structures_done : IsOther bytes at kinds.bgnstr → PassesNamed bytes [] structures_first endlib_first (AreStructures bytes (structures_seen entries)) from at
     structures_done other before rest named reached =
-        let p = so_far before rest named reached in
-        (p.0, p.1, agreed bytes (before ++ p.0) at (structures_first rest) (endlib_first rest) p.2
-        (λ x found. ends_many grammar.structure (a kinds.endlib) x.kind (avoids_a kinds.bgnstr x.kind inside (subst (λ (y : Record). eqb y.kind kinds.bgnstr ≡ false) (same_record (record_at bytes at) other.0 x other.1 found) other.2)))
-        (exists_rest (many grammar.structure) (a kinds.endlib) p.2.some))
+        let p = so_far before rest named reached in (
+          p.0,
+          p.1,
+          agreed bytes (before ++ p.0) at (structures_first rest) (endlib_first rest) p.2
+              (λ x found. ends_many grammar.structure (a kinds.endlib) x.kind (avoids_a kinds.bgnstr x.kind inside (subst (λ (y : Record). eqb y.kind kinds.bgnstr ≡ false) (same_record (record_at bytes at) other.0 x other.1 found) other.2)))
+              (exists_rest (many grammar.structure) (a kinds.endlib) p.2.some),
+        )

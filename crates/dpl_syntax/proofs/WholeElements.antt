@@ -67,22 +67,23 @@ module _ (bytes : List ℕ) (at : ℕ) (h : Record) (found : record_at bytes at 
       let end = p.1 in
       let inner : List Record = goes.rs ++ end.properties in
       let find : (k : ℕ) → is_property k ≡ false → pick b.0 k ≡ first_of k inner =
-          λ k q. sym (first_of-append k goes.rs end.properties ∙ ap (or_else (first_of k goes.rs)) (first_of_properties k end.properties end.are q) ∙ or_none (first_of k goes.rs) ∙ goes.slotted k) in
+      λ k q. sym (first_of-append k goes.rs end.properties ∙ ap (or_else (first_of k goes.rs)) (first_of_properties k end.properties end.are q) ∙ or_none (first_of k goes.rs) ∙ goes.slotted k) in
       let body_is : y.0 ≡ body_of h.kind (λ k. first_of k inner) = b.1 ∙ body_same h.kind (pick b.0) (λ k. first_of k inner) find in
       let split : h ∷ (goes.rs ++ p.0) ≡ h ∷ (inner ++ end.endel ∷ []) = ap (λ (x : List Record). h ∷ (goes.rs ++ x)) end.split ∙ ap (λ (x : List Record). h ∷ x) (sym (append_assoc goes.rs end.properties (end.endel ∷ []))) in
-      let grouped : ((before ++ h ∷ []) ++ goes.rs) ++ p.0 ≡ before ++ (h ∷ (goes.rs ++ p.0)) = append_assoc (before ++ h ∷ []) goes.rs p.0 ∙ append_assoc before (h ∷ []) (goes.rs ++ p.0) in
-      (h ∷ (goes.rs ++ p.0),
-       record {
-         first = h;
-         inner = inner;
-         endel = end.endel;
-         split = split;
-         begins = begins;
-         are = inner_append goes.rs end.properties goes.inner (properties_inner end.properties end.are);
-         ends = end.is;
-         is = ap (λ (x : Body). record { at = h.at; body = x }) body_is;
-       },
-       subst (λ (x : List Record). Reached bytes x rest next) grouped p.2)
+      let grouped : ((before ++ h ∷ []) ++ goes.rs) ++ p.0 ≡ before ++ (h ∷ (goes.rs ++ p.0)) = append_assoc (before ++ h ∷ []) goes.rs p.0 ∙ append_assoc before (h ∷ []) (goes.rs ++ p.0) in (
+        h ∷ (goes.rs ++ p.0),
+        record {
+          first = h;
+          inner = inner;
+          endel = end.endel;
+          split = split;
+          begins = begins;
+          are = inner_append goes.rs end.properties goes.inner (properties_inner end.properties end.are);
+          ends = end.is;
+          is = ap (λ (x : Body). record { at = h.at; body = x }) body_is;
+        },
+        subst (λ (x : List Record). Reached bytes x rest next) grouped p.2,
+      )
 
   pub no_body : (f : Fault) → body_at bytes h.kind h.next ≡ Err f → Fails bytes element_then at f
   no_body f e before rest reached = body_err bytes before rest at h reached found begins f e

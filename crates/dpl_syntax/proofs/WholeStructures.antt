@@ -214,9 +214,9 @@ module _ (bytes : List ℕ) (at : ℕ) (h : Record) (known : List (List ℕ)) (f
       let k = guard_not (list_any (pointwise nat_eq (name_of b.0.0.body)) known) (duplicate_structure b.0.0.at) b.0 y g.1 in
       let kind_is = take_kind bytes kinds.strname h.next b.0 b.1 in
       let why : refusal (before ++ h ∷ []) b.0.0 ≡ None =
-          name_refusal (before ++ h ∷ []) b.0.0 (names_head before named) kind_is
-          ∙ ap (λ (t : Bool). cond t (Some (bad_name b.0.0.at)) (cond (list_any (pointwise nat_eq (name_of b.0.0.body)) known) (Some (duplicate_structure b.0.0.at)) None)) g.0
-          ∙ ap (λ (t : Bool). cond t (Some (duplicate_structure b.0.0.at)) None) k.0 in
+      name_refusal (before ++ h ∷ []) b.0.0 (names_head before named) kind_is
+      ∙ ap (λ (t : Bool). cond t (Some (bad_name b.0.0.at)) (cond (list_any (pointwise nat_eq (name_of b.0.0.body)) known) (Some (duplicate_structure b.0.0.at)) None)) g.0
+      ∙ ap (λ (t : Bool). cond t (Some (duplicate_structure b.0.0.at)) None) k.0 in
       let t = take_ok bytes (before ++ h ∷ []) (class_first rest) h.next kinds.strname b.0 (behind_head before rest reached) (λ r s. subst (λ (x : Record). refusal (before ++ h ∷ []) x ≡ None) (sym s) why) (eqb-false kinds.strname kinds.endlib refl) b.1 in
       subst (λ (z : Record × ℕ). (z.0.kind ≡ kinds.strname) × Reached bytes ((before ++ h ∷ []) ++ z.0 ∷ []) (class_first rest) z.1) k.1 t
 
@@ -234,9 +234,9 @@ module _ (bytes : List ℕ) (at : ℕ) (h : Record) (known : List (List ℕ)) (f
               | inr g ↦
                   let k = guard_not_err (list_any (pointwise nat_eq (name_of b.0.0.body)) known) (duplicate_structure b.0.0.at) f b.0 g.1 in
                   let refused : refusal (before ++ h ∷ []) b.0.0 ≡ Some (duplicate_structure b.0.0.at) =
-                      why
-                      ∙ ap (λ (t : Bool). cond t (Some (bad_name b.0.0.at)) (cond (list_any (pointwise nat_eq (name_of b.0.0.body)) known) (Some (duplicate_structure b.0.0.at)) None)) g.0
-                      ∙ ap (λ (t : Bool). cond t (Some (duplicate_structure b.0.0.at)) None) k.0 in
+                  why
+                  ∙ ap (λ (t : Bool). cond t (Some (bad_name b.0.0.at)) (cond (list_any (pointwise nat_eq (name_of b.0.0.body)) known) (Some (duplicate_structure b.0.0.at)) None)) g.0
+                  ∙ ap (λ (t : Bool). cond t (Some (duplicate_structure b.0.0.at)) None) k.0 in
                   subst (IsFirstFault bytes) k.1 (take_refused bytes (before ++ h ∷ []) (class_first rest) h.next kinds.strname b.0 (duplicate_structure b.0.0.at) (behind_head before rest reached) refused b.1)
             ]
       ]
@@ -261,8 +261,8 @@ module _ (bytes : List ℕ) (at : ℕ) (h : Record) (known : List (List ℕ)) (f
         let b = body_then n1 n2 es classes elements ((before ++ h ∷ []) ++ y.0 ∷ []) rest n.1 in
         let t = passes_one bytes n2 kinds.endstr same z never_endstr refl x (((before ++ h ∷ []) ++ y.0 ∷ []) ++ b.0) rest b.2 in
         let grouped : (((before ++ h ∷ []) ++ y.0 ∷ []) ++ b.0) ++ t.0 ≡ before ++ (h ∷ (y.0 ∷ (b.0 ++ z.0 ∷ []))) =
-            append_assoc ((before ++ h ∷ []) ++ y.0 ∷ []) b.0 t.0
-            ∙ append_assoc (before ++ h ∷ []) (y.0 ∷ []) (b.0 ++ t.0)
-            ∙ append_assoc before (h ∷ []) (y.0 ∷ (b.0 ++ t.0))
-            ∙ ap (λ (q : List Record). before ++ (h ∷ (y.0 ∷ (b.0 ++ q)))) t.1.split in
+        append_assoc ((before ++ h ∷ []) ++ y.0 ∷ []) b.0 t.0
+        ∙ append_assoc (before ++ h ∷ []) (y.0 ∷ []) (b.0 ++ t.0)
+        ∙ append_assoc before (h ∷ []) (y.0 ∷ (b.0 ++ t.0))
+        ∙ ap (λ (q : List Record). before ++ (h ∷ (y.0 ∷ (b.0 ++ q)))) t.1.split in
         (h ∷ (y.0 ∷ (b.0 ++ z.0 ∷ [])), is_structure bytes h y.0 z.0 b.0 es h_is n.0 t.1.is b.1, subst (λ (q : List Record). Reached bytes q rest z.1) grouped t.2)

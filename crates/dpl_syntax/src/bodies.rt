@@ -80,11 +80,19 @@ impl<'a> Reader<'a> {
         ensures bytes { self.new.bytes ≡ self.old.bytes }
     {
         let Some(strans) = self.take_if(kinds::STRANS)? else {
-            return Ok(Turns { strans: None, mag: None, angle: None });
+            return Ok(Turns {
+                strans: None,
+                mag: None,
+                angle: None,
+            });
         };
         let mag = self.take_if(kinds::MAG)?;
         let angle = self.take_if(kinds::ANGLE)?;
-        Ok(Turns { strans: Some(strans), mag, angle })
+        Ok(Turns {
+            strans: Some(strans),
+            mag,
+            angle,
+        })
     }
 
     #[tactic(auto, unfolding(crate::specs::Reading::items_at, dpl_format::specs::Table::form_of, dpl_format::specs::Table::table))]

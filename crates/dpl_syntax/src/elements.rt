@@ -20,7 +20,13 @@ fn begins_element(kind: u8) -> bool
 {
     matches!(
         kind,
-        kinds::BOUNDARY | kinds::PATH | kinds::SREF | kinds::AREF | kinds::TEXT | kinds::NODE | kinds::BOX
+        kinds::BOUNDARY
+            | kinds::PATH
+            | kinds::SREF
+            | kinds::AREF
+            | kinds::TEXT
+            | kinds::NODE
+            | kinds::BOX
     )
 }
 

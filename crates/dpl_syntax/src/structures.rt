@@ -48,7 +48,10 @@ impl<'a> Reader<'a> {
     }
 
     /// The STRNAME of a structure, whose name is a new one and isn't empty.
-    fn take_strname(&mut self, known: &IndexMap<&'a [u8], Structure<'a>>) -> Result<Record<'a>, SyntaxFault>
+    fn take_strname(
+        &mut self,
+        known: &IndexMap<&'a [u8], Structure<'a>>,
+    ) -> Result<Record<'a>, SyntaxFault>
         ensures exact { Answers (λ r. (seen r, self.new.at)) result (take_strname self.old.bytes.now (known_names known.now.entries) self.old.at) }
         ensures unknown { IfOk result (λ r. list_any (pointwise nat_eq (fields.name_of r.body.now)) (known_names known.now.entries) ≡ false) }
         ensures within { IfOk result (λ r. (r.at < r.next) × (r.next ≤ length self.old.bytes.now)) }
@@ -97,7 +100,10 @@ impl<'a> Reader<'a> {
     }
 
     /// The structures of a library, by name.
-    pub(crate) fn structures(&mut self, alloc: Global) -> Result<IndexMap<&'a [u8], Structure<'a>>, SyntaxFault>
+    pub(crate) fn structures(
+        &mut self,
+        alloc: Global,
+    ) -> Result<IndexMap<&'a [u8], Structure<'a>>, SyntaxFault>
         ensures ok { IfOk result (λ m. PassesNamed self.old.bytes.now [] structures_first endlib_first (AreStructures self.old.bytes.now (structures_seen m.entries)) self.old.at self.new.at) }
         ensures err { IfErr result (λ e. Refuses (FailsNamed self.old.bytes.now [] structures_first self.old.at) e) }
         ensures sized { IfOk result (λ m. IsSizedEach m.entries) }
