@@ -8,3 +8,6 @@ pub mod FoundLaws
 pub mod CopyLaws
 pub mod WalkLaws
 pub mod StackLaws
+pub mod BareLaws
+pub mod CellLaws
+pub mod PlacedLaws

@@ -4,8 +4,8 @@ use Rattle.std.proofs.lemmas.Bool.{cases_lt, cases_order}
 use Rattle.std.proofs.lemmas.List.{take_more, take_all, length-map, get_or_past, get_or_append_left}
 use Rattle.std.proofs.Math.Seq.{get_or-append_seam}
 use Rattle.std.proofs.lemmas.Option.{slice_get_past}
-use Rattle.std.proofs.lemmas.List.Elements.{Contains-append_left, Contains-append_right, Contains-append_cases, Contains-push, Contains-push_cases, Contains-get_or}
-use Rattle.std.specs.List.{Contains}
+use Rattle.std.proofs.lemmas.List.Elements.{Contains-append_left, Contains-append_right, Contains-append_cases, Contains-push, Contains-push_cases, Contains-get_or, All-contains}
+use Rattle.std.specs.List.{Contains, All}
 use Rattle.std.specs.Option.{option_to_list}
 use Rattle.std.specs.Prelude.{◌↔◌, slice_get, nat_eq}
 use Rattle.std.specs.Option.{option_and_then}
@@ -15,8 +15,8 @@ use Rattle.dpl_spec.proofs.Ordered.{Contains-head, Contains-later, Contains-case
 use Rattle.dpl_flatten.proofs.ListLaws.{Contains-map, Contains-map_cases, Contains-option, Contains-the_option}
 use Rattle.dpl_format.specs.Tree.{Library, elements_at, elements_or_none}
 use Rattle.dpl_syntax.specs.declared.element.Element.{Element}
-use Rattle.dpl_syntax.specs.Elements.{element_seen}
-use Rattle.dpl_format.specs.Tree.{Element as TreeElement, Structure, names_in}
+use Rattle.dpl_syntax.specs.Elements.{element_seen, IsSized}
+use Rattle.dpl_format.specs.Tree.{Element as TreeElement, Structure, names_in, HasPoints}
 use Rattle.dpl_layout.specs.Elements.{reference_name}
 use Rattle.dpl_layout.specs.Structures.{target_of, structure_named, Refers, IsRoot, AreRoots}
 use Rattle.dpl_links.specs.Sources.{AreSources, IsSource}
@@ -31,6 +31,7 @@ pub record AreTargets (lib : Library) (es : List Element) (found : List ℕ) : T
 
 -- the rows of the first n structures
 pub record AreRows (lib : Library) (n : ℕ) (graph : List (List ℕ)) : Type 0 where
+  pub sized : (k : ℕ) (e : TreeElement) → k < n → Contains (elements_at lib k) e → HasPoints e.body
   pub each : length graph ≡ n
   pub leads : (k j : ℕ) → LeadsTo graph k j → Refers lib k j
   pub refers : (k j : ℕ) → k < n → Refers lib k j → LeadsTo graph k j
@@ -55,6 +56,7 @@ AreTargets-all lib k es found e t j = (
 
 pub AreRows-none : (lib : Library) (graph : List (List ℕ)) → graph ≡ [] → AreRows lib 0 graph
 AreRows-none lib graph e = record {
+  sized = λ k d h c. absurd (omega (arith, h));
   each = ap length e;
   leads = λ k j c. absurd (Contains-nil j (rw e at c));
   refers = λ k j h r. absurd (omega (arith, h));
@@ -78,8 +80,9 @@ row_last graph row = get_or-append_seam graph row [] []
 row_past : (graph : List (List ℕ)) (row : List ℕ) (k : ℕ) → length graph < k → targets_at (graph ++ row ∷ []) k ≡ []
 row_past graph row k h = get_or_past (graph ++ row ∷ []) k [] (omega (arith, length-append graph (row ∷ [])))
 
-pub AreRows-more : (lib : Library) (n : ℕ) (graph new : List (List ℕ)) (row : List ℕ) → new ≡ graph ++ row ∷ [] → ((j : ℕ) → Contains row j ↔ Refers lib n j) → AreRows lib n graph → AreRows lib (n + 1) new
-AreRows-more lib n graph new row e says a = record {
+pub AreRows-more : (lib : Library) (n : ℕ) (graph new : List (List ℕ)) (row : List ℕ) → new ≡ graph ++ row ∷ [] → ((j : ℕ) → Contains row j ↔ Refers lib n j) → ((e : TreeElement) → Contains (elements_at lib n) e → HasPoints e.body) → AreRows lib n graph → AreRows lib (n + 1) new
+AreRows-more lib n graph new row e says big a = record {
+  sized = λ k d h c. ⊎_elim (λ (l : k < n). a.sized k d l c) (λ (l : n ≤ k). let w : k ≡ n = omega (arith, h) in big d (rw w at c)) (cases_lt k n);
   each = ap length e ∙ (length-append graph (row ∷ []) ∙ omega (arith, a.each));
   leads = λ k j c. lead k j (rw e at c);
   refers = λ k j h r. rw e (refer k j h r);
@@ -102,13 +105,14 @@ AreRows-all lib n graph e a = record {
   each = a.each ∙ e;
   leads = a.leads;
   refers = λ k j r. a.refers k j (rw e (known k j r)) r;
+  sized = λ k d c. a.sized k d (rw e (inside k d c)) c;
 }
   where
+    inside : (k : ℕ) (d : TreeElement) → Contains (elements_at lib k) d → k < length lib.structures
+    inside k d c = ⊎_elim (λ (h : k < length lib.structures). h) (λ (h : length lib.structures ≤ k). let x : Contains (elements_or_none (slice_get lib.structures k)) d = c in absurd (Contains-nil d (rw (slice_get_past lib.structures k h) at x))) (cases_lt k (length lib.structures))
+
     known : (k j : ℕ) → Refers lib k j → k < length lib.structures
-    known k j r = ⊎_elim (λ (h : k < length lib.structures). h) (λ (h : length lib.structures ≤ k). absurd (none h)) (cases_lt k (length lib.structures))
-      where
-        none : length lib.structures ≤ k → ⊥
-        none h = let c : Contains (elements_or_none (slice_get lib.structures k)) r.0 = r.1 in Contains-nil r.0 (rw (slice_get_past lib.structures k h) at c)
+    known k j r = inside k r.0 r.1
 
 -- a name that is found is one of a structure
 pub named_known : (lib : Library) (name : List ℕ) (j : ℕ) → structure_named lib name ≡ Some j → j < length lib.structures
@@ -142,3 +146,10 @@ roots_one lib (k ∷ j ∷ ks) r h l = absurd (omega arith)
 
 pub root_known : (lib : Library) (k : ℕ) → AreRoots lib (k ∷ []) → k < length lib.structures
 root_known lib k r = ((r.exactly k).0 (Contains-head k [])).known
+
+-- elements of the code have their points
+pub sized_all : (lib : Library) (k : ℕ) (es : List Element) → map element_seen es ≡ elements_at lib k → All IsSized es → (e : TreeElement) → Contains (elements_at lib k) e → HasPoints e.body
+sized_all lib k es same all e c =
+    let m = Contains-map_cases element_seen es e (rw (← same) at c) in
+    let s = All-contains IsSized es m.0 all m.1 in
+    rw (← m.2) s

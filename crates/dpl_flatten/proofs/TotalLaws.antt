@@ -20,6 +20,7 @@ use Rattle.dpl_links.proofs.SpreadLaws.{marked_below}
 use Rattle.dpl_flatten.specs.Links.{IsGraphOf, IsLevelled}
 use Rattle.dpl_flatten.specs.Totals.{ceiling, AreTotals}
 use Rattle.dpl_flatten.proofs.LeastLaws.{seen_at, seen_length}
+use Rattle.dpl_flatten.proofs.BareLaws.{bare_of}
 
 pub total_more : (f : Element → ℕ) (es : List Found) (ts : List Element) (i : ℕ) (d : Found) (total p new : ℕ) → map element_seen es ≡ ts → i < length es → p ≡ f (element_seen (get_or es i d)) → new ≡ min (total + p) ceiling → total ≡ min (sum_by f (take i ts)) ceiling → new ≡ min (sum_by f (take (i + 1) ts)) ceiling
 total_more f es ts i d total p new e h is new_is total_is =
@@ -132,7 +133,8 @@ module _ (lib : Library) (layer : Layer) (graph : List (List ℕ)) (marks : List
   totalled_all bound slots totals h same by t = record {
     each = t.each;
     small = t.small;
-    right = λ k m. let l = in_slots k m in t.right k (length lib.structures) m (omega (arith, l, h)) (omega (arith, l, same));
+    right = λ k m. whole k m;
+    bare = λ k m none. bare_of lib layer graph marks levels links falls (length lib.structures) k m (omega (arith, in_slots k m, same)) (omega (arith, whole k m, none));
   }
     where
       in_slots : (k : ℕ) → IsMarked marks k → get_or levels k 0 < length slots
@@ -140,3 +142,6 @@ module _ (lib : Library) (layer : Layer) (graph : List (List ℕ)) (marks : List
           ⊎_elim (λ (l : get_or levels k 0 < length slots). l)
           (λ (l : length slots ≤ get_or levels k 0). let f : None ≡ Some k = sym (get_or_past slots (get_or levels k 0) None l) ∙ by k m in cc)
           (cases_lt (get_or levels k 0) (length slots))
+
+      whole : (k : ℕ) → IsMarked marks k → get_or totals k 0 ≡ min (placed_points lib layer k) ceiling
+      whole k m = let l = in_slots k m in t.right k (length lib.structures) m (omega (arith, l, h)) (omega (arith, l, same))

@@ -1,6 +1,6 @@
 -- What one structure draws, and the copies that it places.
-use Rattle.std.specs.Prelude.{◌≡◌, ℕ, ◌<◌, ◌⊎◌, ℤ, pos, ◌+ℤ◌, ◌-ℤ◌, ◌*ℤ◌, int_div, ◌^◌, ◌≤◌, unsigned_abs, List, Option, Some}
-use Rattle.std.specs.List.{Contains}
+use Rattle.std.specs.Prelude.{◌≡◌, ℕ, ◌<◌, ◌⊎◌, ℤ, pos, ◌+ℤ◌, ◌-ℤ◌, ◌*ℤ◌, int_div, ◌^◌, ◌≤◌, unsigned_abs, slice_index, ◌++◌, ◌∷◌, [], map, List, Option, Some, None}
+use Rattle.std.specs.List.{All, Contains}
 use Rattle.dpl_spec.specs.declared.Pt.{Pt}
 use Rattle.dpl_spec.specs.Loops.{IsRectilinear, IsPointWithin}
 use Rattle.dpl_elements.specs.Motions.{Motion}
@@ -9,6 +9,7 @@ use Rattle.dpl_layout.specs.declared.Layer.{Layer}
 use Rattle.dpl_layout.specs.Elements.{loops_of, point_in, columns_of, rows_of, IsCopyMotion, reflects, AreTurns}
 use Rattle.dpl_layout.specs.Structures.{target_of}
 use Rattle.dpl_layout.specs.Placements.{Step, IsPlacement}
+use Rattle.dpl_flatten.specs.Totals.{IsBare}
 use Rattle.dpl_flatten.specs.declared.copies.Turn.{Turn}
 use Rattle.dpl_flatten.specs.declared.cells.Outline.{Outline}
 use Rattle.dpl_flatten.specs.declared.cells.Copies.{Copies}
@@ -34,10 +35,6 @@ pub record AreCopies (b : Body) (c : Copies) : Type 0 where
   pub motions : (i j : ℕ) → i < c.columns → j < c.rows → IsCopyMotion b i j (copy_motion c i j)
   pub turns : c.turns < 4
 
--- nothing that structure j places draws a loop
-abbrev pub IsBare : Library → Layer → ℕ → Type 0
-IsBare lib layer j = (steps : List Step) (l : ℕ) (e : Element) (qs : List Pt) → IsPlacement lib j steps l e → Contains (loops_of layer e.body) qs → ⊥
-
 -- some of these elements draws the outline
 abbrev pub IsDrawn : Layer → List Element → Outline → Type 0
 IsDrawn layer es o = (e : Element) × Contains es e × (o.at ≡ e.at) × Contains (loops_of layer e.body) o.points
@@ -45,14 +42,6 @@ IsDrawn layer es o = (e : Element) × Contains es e × (o.at ≡ e.at) × Contai
 -- one of these elements is a reference with these copies
 abbrev pub IsPlaced : Library → List Element → Copies → Type 0
 IsPlaced lib es c = (e : Element) × Contains es e × (target_of lib e ≡ Some c.target) × AreCopies e.body c
-
--- what some elements draw and place; copies of what draws nothing may be left out
-pub record IsCell (lib : Library) (layer : Layer) (es : List Element) (outlines : List Outline) (copies : List Copies) : Type 0 where
-  pub drawn : (o : Outline) → Contains outlines o → IsDrawn layer es o
-  pub outlined : (e : Element) (qs : List Pt) → Contains es e → Contains (loops_of layer e.body) qs → Contains outlines (record { at = e.at; points = qs })
-  pub straight : (o : Outline) → Contains outlines o → IsRectilinear o.points
-  pub placed : (c : Copies) → Contains copies c → IsPlaced lib es c
-  pub copied : (e : Element) (j : ℕ) → Contains es e → target_of lib e ≡ Some j → IsBare lib layer j ⊎ ((c : Copies) × Contains copies c × (c.target ≡ j) × AreCopies e.body c)
 
 -- the reflection and the turns of a transform
 pub record IsTurn (t : Trans) (turn : Turn) : Type 0 where
@@ -91,3 +80,34 @@ pub record IsArrayOfCopies (t : Trans) (across_count up_count : ℤ) (xy : List 
   pub columns : c.columns ≡ unsigned_abs across_count
   pub rows : c.rows ≡ unsigned_abs up_count
   pub small : IsSmallCopies c
+
+-- the placements of its copies can be worked out
+pub record IsReady (c : Copies) : Type 0 where
+  pub small : IsSmallCopies c
+  pub few : c.turns < 4
+
+-- what some elements draw and place; copies of what draws nothing may be left out
+pub record IsCell (lib : Library) (layer : Layer) (es : List Element) (outlines : List Outline) (copies : List Copies) : Type 0 where
+  pub drawn : (o : Outline) → Contains outlines o → IsDrawn layer es o
+  pub outlined : (e : Element) (qs : List Pt) → Contains es e → Contains (loops_of layer e.body) qs → Contains outlines (record { at = e.at; points = qs })
+  pub straight : (o : Outline) → Contains outlines o → IsRectilinear o.points
+  pub placed : (c : Copies) → Contains copies c → IsPlaced lib es c
+  pub ready : (c : Copies) → Contains copies c → IsReady c
+  pub copied : (e : Element) (j : ℕ) → Contains es e → target_of lib e ≡ Some j → IsBare lib layer j ⊎ ((c : Copies) × Contains copies c × (c.target ≡ j) × AreCopies e.body c)
+
+-- structures with no point in their totals, to which some of these elements refer, are bare
+abbrev pub AreBareTargets : Library → Layer → List ℕ → List Element → Type 0
+AreBareTargets lib layer totals es = (e : Element) (j : ℕ) → Contains es e → target_of lib e ≡ Some j → slice_index totals j ≡ 0 → IsBare lib layer j
+
+-- the element's copies were noted, if it has some and they may draw something
+abbrev pub IsCopied : Library → List ℕ → Element → List Copies → List Copies → Type 0
+IsCopied lib totals e old new =
+    ((new ≡ old) × (target_of lib e ≡ None))
+    ⊎ (((new ≡ old) × ((j : ℕ) × (target_of lib e ≡ Some j) × (slice_index totals j ≡ 0)))
+    ⊎ ((c : Copies) × (new ≡ old ++ c ∷ []) × (target_of lib e ≡ Some c.target) × AreCopies e.body c × IsReady c))
+
+-- what the element draws and places was noted
+pub record IsNoted (lib : Library) (layer : Layer) (totals : List ℕ) (e : Element) (old new : List Outline) (before after : List Copies) : Type 0 where
+  pub drawn : new ≡ old ++ map (λ qs. record { at = e.at; points = qs }) (loops_of layer e.body)
+  pub straight : All IsRectilinear (loops_of layer e.body)
+  pub copied : IsCopied lib totals e before after

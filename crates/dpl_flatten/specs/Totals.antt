@@ -1,8 +1,11 @@
 -- How many points the structures place, up to a ceiling.
 use Rattle.std.specs.Prelude.{◌≡◌, ℕ, ◌+◌, ◌≤◌, min, Bool, List, length, slice_index}
-use Rattle.std.specs.List.{All}
-use Rattle.dpl_format.specs.Tree.{Library}
+use Rattle.std.specs.List.{All, Contains}
+use Rattle.dpl_spec.specs.declared.Pt.{Pt}
+use Rattle.dpl_format.specs.Tree.{Library, Element}
 use Rattle.dpl_layout.specs.declared.Layer.{Layer}
+use Rattle.dpl_layout.specs.Elements.{loops_of}
+use Rattle.dpl_layout.specs.Placements.{Step, IsPlacement}
 use Rattle.dpl_layout.specs.Points.{placed_points}
 use Rattle.dpl_links.specs.Graph.{IsMarked}
 
@@ -10,8 +13,13 @@ use Rattle.dpl_links.specs.Graph.{IsMarked}
 abbrev pub ceiling : ℕ
 ceiling = 16777217
 
+-- nothing that structure k places draws a loop
+abbrev pub IsBare : Library → Layer → ℕ → Type 0
+IsBare lib layer k = (steps : List Step) (l : ℕ) (e : Element) (qs : List Pt) → IsPlacement lib k steps l e → Contains (loops_of layer e.body) qs → ⊥
+
 -- what each marked structure places
 pub record AreTotals (lib : Library) (layer : Layer) (marks : List Bool) (totals : List ℕ) : Type 0 where
   pub each : length totals ≡ length lib.structures
   pub small : All (λ n. n ≤ ceiling) totals
+  pub bare : (k : ℕ) → IsMarked marks k → slice_index totals k ≡ 0 → IsBare lib layer k
   pub right : (k : ℕ) → IsMarked marks k → slice_index totals k ≡ min (placed_points lib layer k) ceiling

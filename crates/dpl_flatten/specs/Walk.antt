@@ -1,11 +1,14 @@
 -- What a walk over placements gathers.
-use Rattle.std.specs.Prelude.{◌≡◌, ℕ, ◌<◌, ◌⊎◌, List, [], ◌∷◌, map, length, slice_get, Option, Some, None}
+use Rattle.std.specs.Prelude.{◌≡◌, ℕ, ◌<◌, ◌⊎◌, List, [], ◌∷◌, map, length, Bool, slice_get, Option, Some, None}
 use Rattle.std.specs.List.{All, Contains}
 use Rattle.dpl_spec.specs.declared.Pt.{Pt}
 use Rattle.dpl_spec.specs.Loops.{ArePointsWithin, IsPointWithin, farthest}
 use Rattle.dpl_elements.specs.Motions.{Motion, image}
+use Rattle.dpl_format.specs.Tree.{Library, elements_at}
+use Rattle.dpl_layout.specs.declared.Layer.{Layer}
+use Rattle.dpl_links.specs.Graph.{IsMarked}
 use Rattle.dpl_flatten.specs.Least.{IsAtMost}
-use Rattle.dpl_flatten.specs.Cells.{copy_motion, IsSmallCopies}
+use Rattle.dpl_flatten.specs.Cells.{copy_motion, IsReady, IsCell}
 use Rattle.dpl_flatten.specs.declared.cells.Outline.{Outline}
 use Rattle.dpl_flatten.specs.declared.cells.Copies.{Copies}
 use Rattle.dpl_flatten.specs.declared.cells.Cell.{Cell}
@@ -94,11 +97,6 @@ IsInArray c n d a b = (d ≡ c) × (a < n) × (b < c.rows)
 abbrev pub AreOf : List Copies → Copies → ℕ → ℕ → Type 0
 AreOf cs d a b = Contains cs d × (a < d.columns) × (b < d.rows)
 
--- the placements of its copies can be worked out
-pub record IsReady (c : Copies) : Type 0 where
-  pub small : IsSmallCopies c
-  pub few : c.turns < 4
-
 -- the loops that structure top shows, and the least offset of one with a point too far out
 pub record IsWalk (cells : List Cell) (top : ℕ) (loops : List (List Pt)) (far : Option ℕ) : Type 0 where
   pub complete : (ps : List Pt) (at : ℕ) → IsShown cells top (λ p. p) ps at → IsGathered loops far ps at
@@ -109,3 +107,9 @@ pub record IsWalk (cells : List Cell) (top : ℕ) (loops : List (List Pt)) (far 
 pub record AreKnown (cells : List Cell) : Type 0 where
   pub targets : (k : ℕ) (c : Copies) → Contains (copies_at cells k) c → c.target < length cells
   pub ready : (k : ℕ) → All IsReady (copies_at cells k)
+
+-- the cells of the marked structures; the others place nothing
+pub record AreCells (lib : Library) (layer : Layer) (marks : List Bool) (cells : List Cell) : Type 0 where
+  pub each : length cells ≡ length lib.structures
+  pub marked : (k : ℕ) → IsMarked marks k → IsCell lib layer (elements_at lib k) (outlines_at cells k) (copies_at cells k)
+  pub unmarked : (k : ℕ) → ¬ IsMarked marks k → copies_at cells k ≡ []

@@ -1,19 +1,26 @@
 //! What one structure draws on a layer, and the copies of other structures that it places.
 
-ghost use Rattle.std.specs.Prelude.{◌≡◌, ◌*◌, ◌+◌, ◌^◌, ◌<◌, ◌≤◌, pos, ◌≤ℤ◌, [], length, map, unwrap_or, not, bit_and, ◌==◌, ◌∷◌, if◌then◌else◌, IsTrue, IfOk, IfSome, IfNone, unsigned_abs};
+ghost use Rattle.std.specs.Prelude.{◌≡◌, ◌++◌, ◌<◌, ◌≤◌, ℕ, [], true, false, length, map, not, bit_and, ◌==◌, ◌∷◌, if◌then◌else◌, IfOk, OnOk, IfSome};
 ghost use Rattle.std.specs.List.{All};
-ghost use Rattle.std.specs.Option.{option_map};
-ghost use Rattle.dpl_spec.specs.Loops.{IsPointWithin, IsRectilinear};
+ghost use Rattle.dpl_spec.specs.Loops.{IsRectilinear};
 ghost use Rattle.dpl_elements.specs.Paths.{corners_of, path_rects, path_of};
-ghost use Rattle.dpl_syntax.specs.Elements.{trans_seen};
-ghost use Rattle.dpl_layout.specs.Elements.{points_in, reflects, plain, AreTurns, IsTurnedAskew};
+ghost use Rattle.dpl_format.specs.Tree.{HasPoints, elements_at};
+ghost use Rattle.dpl_syntax.specs.Elements.{body_seen, element_seen, IsSized};
+ghost use Rattle.dpl_layout.specs.Elements.{points_in, loops_of, AreTurns};
+ghost use Rattle.dpl_flatten.specs.Cells.{AreCopies, IsReady, IsCopied, IsNoted, IsCell, AreBareTargets};
+ghost use Rattle.dpl_flatten.specs.Walk.{AreCells};
+ghost use Rattle.dpl_flatten.specs.Totals.{ceiling};
+ghost use Rattle.dpl_links.specs.Graph.{IsMarked};
 
-use crate::refs::point_at;
+use crate::copies::{array_copies, single_copy};
+use crate::count::{is_on, total_at};
+use crate::links::target;
 use crate::shapes::{Stroke, points_of};
 use dpl_base::{Listed, Loop, Pt};
+use dpl_layout::Layer;
 use dpl_reals::Real;
 use dpl_shapes::{boundary_loop, path_loops};
-use dpl_syntax::Trans;
+use dpl_syntax::{Body, Element, Library};
 use std::alloc::{AllocError, Global};
 
 /// A loop that an element draws, in its structure's coordinates.
@@ -109,4 +116,214 @@ fn path_outlines(
         Err(_) => Err(AllocError),
         Ok(loops) => Ok(loops),
     }
+}
+
+/// The loops that an element draws.
+fn element_loops(alloc: Global, chosen: Layer, body: &Body<'_>) -> Result<Vec<Loop>, AllocError>
+    ensures loops { IfOk result (λ v. v.items ≡ loops_of chosen (body_seen body.now)) }
+    ensures straight { IfOk result (λ v. All IsRectilinear v.items) }
+{
+    match *body {
+        Body::Boundary {
+            layer,
+            datatype,
+            xy,
+        } => boundary_outlines(alloc, is_on(chosen, layer, datatype), xy),
+        Body::BoxShape { layer, boxtype, xy } => boundary_outlines(
+            alloc,
+            is_on(chosen, layer, boxtype),
+            xy,
+        ),
+        Body::Path {
+            layer,
+            datatype,
+            kind,
+            width,
+            begin_ext,
+            end_ext,
+            xy,
+        } => {
+            let stroke = Stroke {
+                width: width.unwrap_or(0),
+                kind: kind.unwrap_or(0),
+                begin_ext: begin_ext.unwrap_or(0),
+                end_ext: end_ext.unwrap_or(0),
+            };
+            let loops = path_outlines(alloc, is_on(chosen, layer, datatype), stroke, xy)?;
+            Ok(loops)
+        }
+        _ => Ok(Vec::new(alloc)),
+    }
+}
+
+/// Notes the loops that an element draws.
+fn draw(
+    alloc: Global,
+    chosen: Layer,
+    element: &Element<'_>,
+    outlines: &mut Vec<Outline>,
+) -> Result<(), AllocError>
+    ensures outlines { OnOk result (outlines.new.items ≡ outlines.old.items ++ map (λ qs. record { at = element.now.at; points = qs }) (loops_of chosen (body_seen element.now.body))) }
+    ensures straight { OnOk result (All IsRectilinear (loops_of chosen (body_seen element.now.body))) }
+{
+    let loops = element_loops(alloc, chosen, &element.body)?;
+    for points in loops {
+        outlines.push(Outline {
+            at: element.at,
+            points,
+        })?;
+    }
+    Ok(())
+}
+
+/// The copies that a reference to a structure places; None where they can't be worked out.
+fn copies_of(target: u32, body: &Body<'_>) -> Option<Copies>
+    requires { HasPoints (body_seen body.now) }
+    ensures copies { IfSome result (λ c. AreCopies (body_seen body.now) c) }
+    ensures ready { IfSome result (λ c. IsReady c) }
+    ensures target { IfSome result (λ c. c.target ≡ target) }
+{
+    match *body {
+        Body::Sref { trans, xy, .. } => single_copy(target, trans, xy),
+        Body::Aref {
+            trans,
+            columns,
+            rows,
+            xy,
+            ..
+        } => array_copies(target, trans, columns, rows, xy),
+        _ => None,
+    }
+}
+
+/// Notes the copies that an element places, unless they draw nothing.
+fn note_copies(
+    lib: &Library<'_>,
+    totals: &[u32],
+    element: &Element<'_>,
+    copies: &mut Vec<Copies>,
+) -> Result<(), AllocError>
+    requires sized { HasPoints (body_seen element.now.body) }
+    requires totals { All (λ n. n ≤ ceiling) totals.now }
+    ensures { OnOk result (IsCopied lib.now totals.now (element_seen element.now) copies.old.items copies.new.items) }
+{
+    let found = target(lib, element);
+    let Some(number) = found else {
+        return Ok(());
+    };
+    if total_at(totals, number) == 0 {
+        return Ok(());
+    }
+    let made = copies_of(number, &element.body);
+    match made {
+        None => Err(AllocError),
+        Some(array) => {
+            copies.push(array)?;
+            Ok(())
+        }
+    }
+}
+
+/// Notes what an element draws and places.
+fn note_element(
+    alloc: Global,
+    lib: &Library<'_>,
+    chosen: Layer,
+    totals: &[u32],
+    element: &Element<'_>,
+    outlines: &mut Vec<Outline>,
+    copies: &mut Vec<Copies>,
+) -> Result<(), AllocError>
+    requires sized { IsSized element.now }
+    requires totals { All (λ n. n ≤ ceiling) totals.now }
+    ensures { OnOk result (IsNoted lib.now chosen totals.now (element_seen element.now) outlines.old.items outlines.new.items copies.old.items copies.new.items) }
+{
+    draw(alloc, chosen, element, outlines)?;
+    note_copies(lib, totals, element, copies)?;
+    Ok(())
+}
+
+/// What a structure draws and places. What places no point may be left out.
+fn cell_of(
+    alloc: Global,
+    lib: &Library<'_>,
+    chosen: Layer,
+    totals: &[u32],
+    structure: u32,
+) -> Result<Cell, AllocError>
+    requires known { structure < length lib.now.structures }
+    requires totals { All (λ n. n ≤ ceiling) totals.now }
+    requires bare { AreBareTargets lib.now chosen totals.now (elements_at lib.now structure) }
+    ensures { IfOk result (λ c. IsCell lib.now chosen (elements_at lib.now structure) c.outlines c.copies) }
+{
+    let mut outlines = Vec::new(alloc);
+    let mut copies = Vec::new(alloc);
+    for element in lib.elements(structure) {
+        note_element(
+            alloc,
+            lib,
+            chosen,
+            totals,
+            element,
+            &mut outlines,
+            &mut copies,
+        )?;
+    }
+    Ok(Cell {
+        outlines: Listed::of(outlines),
+        copies: Listed::of(copies),
+    })
+}
+
+/// What a structure draws and places, where it is marked.
+fn cell_where(
+    alloc: Global,
+    lib: &Library<'_>,
+    chosen: Layer,
+    totals: &[u32],
+    structure: u32,
+    marked: bool,
+) -> Result<Cell, AllocError>
+    requires known { structure < length lib.now.structures }
+    requires totals { All (λ n. n ≤ ceiling) totals.now }
+    requires bare { marked ≡ true → AreBareTargets lib.now chosen totals.now (elements_at lib.now structure) }
+    ensures cell { IfOk result (λ c. marked ≡ true → IsCell lib.now chosen (elements_at lib.now structure) c.outlines c.copies) }
+    ensures empty { IfOk result (λ c. marked ≡ false → c.copies ≡ []) }
+{
+    if !marked {
+        return Ok(Cell {
+            outlines: Listed::of(Vec::new(alloc)),
+            copies: Listed::of(Vec::new(alloc)),
+        });
+    }
+    let cell = cell_of(alloc, lib, chosen, totals, structure)?;
+    Ok(cell)
+}
+
+/// What the marked structures draw and place.
+pub(crate) fn cells(
+    alloc: Global,
+    lib: &Library<'_>,
+    chosen: Layer,
+    totals: &[u32],
+    marks: &[bool],
+) -> Result<Vec<Cell>, AllocError>
+    requires marks { length marks.now ≡ length lib.now.structures }
+    requires totals { All (λ n. n ≤ ceiling) totals.now }
+    requires bare { (k : ℕ) → IsMarked marks.now k → AreBareTargets lib.now chosen totals.now (elements_at lib.now k) }
+    ensures { IfOk result (λ v. AreCells lib.now chosen marks.now v.items) }
+{
+    let mut cells = Vec::new(alloc);
+    for structure in 0..lib.count() {
+        let cell = cell_where(
+            alloc,
+            lib,
+            chosen,
+            totals,
+            structure,
+            marks[structure as usize],
+        )?;
+        cells.push(cell)?;
+    }
+    Ok(cells)
 }

@@ -92,7 +92,7 @@ fn total_of(lib: &Library<'_>, chosen: Layer, structure: u32, totals: &[u32]) ->
     total as u32
 }
 
-fn total_at(totals: &[u32], structure: u32) -> u64
+pub(crate) fn total_at(totals: &[u32], structure: u32) -> u64
     requires { All (λ n. n ≤ ceiling) totals.now }
     ensures value { result ≡ slice_index totals.now structure }
     ensures small { result ≤ ceiling }

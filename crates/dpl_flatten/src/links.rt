@@ -3,6 +3,7 @@
 ghost use Rattle.std.specs.Prelude.{◌≡◌, ◌<◌, ◌↔◌, ◌++◌, ◌^◌, ℕ, length, IfOk, OnOk};
 ghost use Rattle.std.specs.List.{Contains};
 ghost use Rattle.std.specs.Option.{option_to_list};
+ghost use Rattle.dpl_format.specs.Tree.{Element as TreeElement, elements_at, HasPoints};
 ghost use Rattle.dpl_syntax.specs.Elements.{element_seen};
 ghost use Rattle.dpl_layout.specs.Structures.{target_of, Refers};
 ghost use Rattle.dpl_links.specs.Graph.{IsGraph};
@@ -41,7 +42,8 @@ fn note_target(
 /// The structures that the references of a structure refer to.
 fn targets(alloc: Global, lib: &Library<'_>, structure: u32) -> Result<Listed<u32>, AllocError>
     requires { structure < length lib.now.structures }
-    ensures { IfOk result (λ l. (j : ℕ) → Contains l j ↔ Refers lib.now structure j) }
+    ensures row { IfOk result (λ l. (j : ℕ) → Contains l j ↔ Refers lib.now structure j) }
+    ensures sized { OnOk result ((e : TreeElement) → Contains (elements_at lib.now structure) e → HasPoints e.body) }
 {
     let mut found = Vec::new(alloc);
     for element in lib.elements(structure) {

@@ -4,8 +4,8 @@ ghost use Rattle.std.specs.Prelude.{◌≡◌, ◌^◌, ◌<◌, ◌≤◌, ◌�
 ghost use Rattle.std.specs.List.{All};
 ghost use Rattle.dpl_spec.specs.Loops.{ArePointsWithin, IsPointWithin, farthest};
 ghost use Rattle.dpl_elements.specs.Motions.{image, IsMotionWithin, IsComposed};
-ghost use Rattle.dpl_flatten.specs.Cells.{copy_motion, IsSmallCopies};
-ghost use Rattle.dpl_flatten.specs.Walk.{Gathers, HasFarPoint, Puts, IsOne, IsInColumn, IsInArray, AreOf, IsReady, IsWalk, AreKnown};
+ghost use Rattle.dpl_flatten.specs.Cells.{copy_motion, IsSmallCopies, IsReady};
+ghost use Rattle.dpl_flatten.specs.Walk.{Gathers, HasFarPoint, Puts, IsOne, IsInColumn, IsInArray, AreOf, IsWalk, AreKnown};
 
 use crate::cells::{Cell, Copies, Outline};
 use crate::least::note;

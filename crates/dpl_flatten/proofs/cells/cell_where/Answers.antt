@@ -1,0 +1,4 @@
+use Rattle.dpl_flatten.proofs.cells.cell_where.Goals as goal
+
+pub cell_of-requires-clause-bare : goal.cell_of-requires-clause-bare
+cell_of-requires-clause-bare c = c.requires.bare c.if-not-marked.false
