@@ -120,20 +120,30 @@ fn a_reference_is_refused(rt: HostRuntime) -> Result<(), Fail> {
     Ok(())
 }
 
-/// The words with a top.
-fn with_top<'a>(alloc: Global, top: &'a str) -> Result<Vec<&'a str>, Fail> {
-    let mut words = Vec::from_slice(alloc, &SPLIT[..8])?;
-    for word in ["--top", top, "in", "out", "cert"] {
-        words.push(word)?;
-    }
-    Ok(words)
+/// The words with this top.
+fn with_top(top: &str) -> [&str; 13] {
+    [
+        "dpl",
+        "split",
+        "--layer",
+        "1",
+        "--rule",
+        "30",
+        "--overlap",
+        "10",
+        "--top",
+        top,
+        "in",
+        "out",
+        "cert",
+    ]
 }
 
 #[test]
 fn the_top_is_chosen(rt: HostRuntime) -> Result<(), Fail> {
     let alloc = rt.alloc();
     let file = referred(alloc, b"SUB\0", &[STRANS_0])?;
-    let words = with_top(alloc, "NONE")?;
+    let words = with_top("NONE");
     assert!(rt;
         is_refused(
             alloc,
@@ -144,7 +154,7 @@ fn the_top_is_chosen(rt: HostRuntime) -> Result<(), Fail> {
         )?
     );
     let file = referred(alloc, b"SUX\0", &[STRANS_0])?;
-    let words = with_top(alloc, "TOP")?;
+    let words = with_top("TOP");
     assert!(rt;
         is_refused(
             alloc,

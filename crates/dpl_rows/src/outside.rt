@@ -27,7 +27,7 @@ fn a_failed_append_leaves_a_front(rt: HostRuntime) -> Result<(), Fail> {
     let mut host = failing(alloc, Kind::Append, 1)?;
     assert!(rt; run(alloc, &SPLIT, &mut host) == Status::WriteFault);
     let out = masks(alloc, &[[0, 0, 100, 20]], &[])?;
-    assert_eq!(rt; host.file("out"), Some(&out.as_slice()[..100]));
+    assert_eq!(rt; host.file("out"), out.as_slice().get(..100));
     assert_eq!(rt; host.file("cert"), None);
     assert!(rt; host.said().is_empty());
     Ok(())
