@@ -29,10 +29,15 @@ names rs = map (λ r. name_of r.body) (filter (λ r. r.kind == kinds.strname) rs
 abbrev pub is_empty : List ℕ → Bool
 is_empty bytes = length bytes == 0
 
--- what a record behind these is refused for, if for anything
-unfoldable pub refusal : List Record → Record → Option Fault
-refusal before r =
-    if (r.kind == kinds.xy) && is_wrong_size (owner before) (length r.body) then Some (bad_size r.at)
-    else if ((r.kind == kinds.strname) || (r.kind == kinds.sname)) && is_empty (name_of r.body) then Some (bad_name r.at)
-    else if (r.kind == kinds.strname) && list_any (pointwise nat_eq (name_of r.body)) (names before) then Some (duplicate_structure r.at)
+-- what a record of this type, at this offset and with these data, is refused for, if for anything: in an element of the
+-- type `element`, where structures have the names `known`
+unfoldable pub refusal_in : ℕ → List (List ℕ) → ℕ → ℕ → List ℕ → Option Fault
+refusal_in element known kind at body =
+    if (kind == kinds.xy) && is_wrong_size element (length body) then Some (bad_size at)
+    else if ((kind == kinds.strname) || (kind == kinds.sname)) && is_empty (name_of body) then Some (bad_name at)
+    else if (kind == kinds.strname) && list_any (pointwise nat_eq (name_of body)) known then Some (duplicate_structure at)
     else None
+
+-- what a record behind these is refused for, if for anything
+abbrev pub refusal : List Record → Record → Option Fault
+refusal before r = refusal_in (owner before) (names before) r.kind r.at r.body

@@ -1,5 +1,5 @@
 -- What the data of each type of record is: its data type, and how many bytes it has.
-use Rattle.std.specs.Prelude.{ℕ, ◌%◌, Bool, true, nat_le, ◌==◌, ◌&&◌, List, [], ◌∷◌, slice_get, Option, Some, None}
+use Rattle.std.specs.Prelude.{ℕ, ◌%◌, Bool, true, IsTrue, nat_le, ◌==◌, ◌&&◌, List, [], ◌∷◌, slice_get, Option, Some, None}
 
 pub data Size : Type 0 where
   -- this many bytes
@@ -100,3 +100,11 @@ abbrev pub size_fits : Size → ℕ → Bool
 size_fits (exactly n) len = len == n
 size_fits any len = true
 size_fits points len = nat_le 8 len && (len % 8 == 0)
+
+abbrev pub IsSizeIn : Option Form → ℕ → Type 0
+IsSizeIn None len = ⊥
+IsSizeIn (Some form) len = IsTrue (size_fits form.size len)
+
+-- a record of this type may have this many bytes of data
+abbrev pub IsSizeOf : ℕ → ℕ → Type 0
+IsSizeOf kind len = IsSizeIn (form_of kind) len

@@ -109,89 +109,95 @@ abbrev pub data_or_none : Option Record → List ℕ
 data_or_none None = []
 data_or_none (Some r) = r.body
 
--- the data of the first record of a type
-abbrev pub data_of : ℕ → List Record → List ℕ
-data_of kind rs = data_or_none (first_of kind rs)
+-- In what follows `find` gives the record of each type that an element has, where it has one.
+abbrev pub Finder : Type 0
+Finder = ℕ → Option Record
 
-abbrev pub trans_of : List Record → Option Trans
-trans_of rs = option_map (λ (r : Record). record {
+abbrev pub data_of : ℕ → Finder → List ℕ
+data_of kind find = data_or_none (find kind)
+
+abbrev pub short_of : ℕ → Finder → Option ℤ
+short_of kind find = option_map (λ (r : Record). i16_at r.body 0) (find kind)
+
+abbrev pub long_of : ℕ → Finder → Option ℤ
+long_of kind find = option_map (λ (r : Record). i32_at r.body 0) (find kind)
+
+abbrev pub real_of : ℕ → Finder → Option (List ℕ)
+real_of kind find = option_map (λ (r : Record). real_at r.body 0) (find kind)
+
+abbrev pub trans_of : Finder → Option Trans
+trans_of find = option_map (λ (r : Record). record {
   strans = u16_at r.body 0;
-  mag = option_map (λ (m : Record). real_at m.body 0) (first_of kinds.mag rs);
-  angle = option_map (λ (m : Record). real_at m.body 0) (first_of kinds.angle rs);
-}) (first_of kinds.strans rs)
+  mag = real_of kinds.mag find;
+  angle = real_of kinds.angle find;
+}) (find kinds.strans)
 
-abbrev pub short_of : ℕ → List Record → Option ℤ
-short_of kind rs = option_map (λ (r : Record). i16_at r.body 0) (first_of kind rs)
-
-abbrev pub long_of : ℕ → List Record → Option ℤ
-long_of kind rs = option_map (λ (r : Record). i32_at r.body 0) (first_of kind rs)
-
-abbrev pub boundary_of : List Record → Boundary
-boundary_of rs = record {
-  layer = u16_at (data_of kinds.layer rs) 0;
-  datatype = u16_at (data_of kinds.datatype rs) 0;
-  xy = data_of kinds.xy rs;
+abbrev pub boundary_of : Finder → Boundary
+boundary_of find = record {
+  layer = u16_at (data_of kinds.layer find) 0;
+  datatype = u16_at (data_of kinds.datatype find) 0;
+  xy = data_of kinds.xy find;
 }
 
-abbrev pub path_of : List Record → Path
-path_of rs = record {
-  layer = u16_at (data_of kinds.layer rs) 0;
-  datatype = u16_at (data_of kinds.datatype rs) 0;
-  kind = short_of kinds.pathtype rs;
-  width = long_of kinds.width rs;
-  begin_ext = long_of kinds.bgnextn rs;
-  end_ext = long_of kinds.endextn rs;
-  xy = data_of kinds.xy rs;
+abbrev pub path_of : Finder → Path
+path_of find = record {
+  layer = u16_at (data_of kinds.layer find) 0;
+  datatype = u16_at (data_of kinds.datatype find) 0;
+  kind = short_of kinds.pathtype find;
+  width = long_of kinds.width find;
+  begin_ext = long_of kinds.bgnextn find;
+  end_ext = long_of kinds.endextn find;
+  xy = data_of kinds.xy find;
 }
 
-abbrev pub sref_of : List Record → Sref
-sref_of rs = record {
-  name = name_of (data_of kinds.sname rs);
-  trans = trans_of rs;
-  xy = data_of kinds.xy rs;
+abbrev pub sref_of : Finder → Sref
+sref_of find = record {
+  name = name_of (data_of kinds.sname find);
+  trans = trans_of find;
+  xy = data_of kinds.xy find;
 }
 
-abbrev pub aref_of : List Record → Aref
-aref_of rs = record {
-  name = name_of (data_of kinds.sname rs);
-  trans = trans_of rs;
-  columns = i16_at (data_of kinds.colrow rs) 0;
-  rows = i16_at (data_of kinds.colrow rs) 2;
-  xy = data_of kinds.xy rs;
+abbrev pub aref_of : Finder → Aref
+aref_of find = record {
+  name = name_of (data_of kinds.sname find);
+  trans = trans_of find;
+  columns = i16_at (data_of kinds.colrow find) 0;
+  rows = i16_at (data_of kinds.colrow find) 2;
+  xy = data_of kinds.xy find;
 }
 
-abbrev pub text_of : List Record → Text
-text_of rs = record {
-  layer = u16_at (data_of kinds.layer rs) 0;
-  texttype = i16_at (data_of kinds.texttype rs) 0;
-  xy = data_of kinds.xy rs;
-  string = data_of kinds.text_string rs;
+abbrev pub text_of : Finder → Text
+text_of find = record {
+  layer = u16_at (data_of kinds.layer find) 0;
+  texttype = i16_at (data_of kinds.texttype find) 0;
+  xy = data_of kinds.xy find;
+  string = data_of kinds.text_string find;
 }
 
-abbrev pub node_of : List Record → Node
-node_of rs = record {
-  layer = u16_at (data_of kinds.layer rs) 0;
-  nodetype = i16_at (data_of kinds.nodetype rs) 0;
-  xy = data_of kinds.xy rs;
+abbrev pub node_of : Finder → Node
+node_of find = record {
+  layer = u16_at (data_of kinds.layer find) 0;
+  nodetype = i16_at (data_of kinds.nodetype find) 0;
+  xy = data_of kinds.xy find;
 }
 
-abbrev pub box_of : List Record → BoxShape
-box_of rs = record {
-  layer = u16_at (data_of kinds.layer rs) 0;
-  boxtype = u16_at (data_of kinds.boxtype rs) 0;
-  xy = data_of kinds.xy rs;
+abbrev pub box_of : Finder → BoxShape
+box_of find = record {
+  layer = u16_at (data_of kinds.layer find) 0;
+  boxtype = u16_at (data_of kinds.boxtype find) 0;
+  xy = data_of kinds.xy find;
 }
 
 -- the body that begins with a record of this type
-abbrev pub body_of : ℕ → List Record → Body
-body_of kind rs =
-    if kind == kinds.boundary then is_boundary (boundary_of rs)
-    else if kind == kinds.path then is_path (path_of rs)
-    else if kind == kinds.sref then is_sref (sref_of rs)
-    else if kind == kinds.aref then is_aref (aref_of rs)
-    else if kind == kinds.text then is_text (text_of rs)
-    else if kind == kinds.node then is_node (node_of rs)
-    else is_box (box_of rs)
+abbrev pub body_of : ℕ → Finder → Body
+body_of kind find =
+    if kind == kinds.boundary then is_boundary (boundary_of find)
+    else if kind == kinds.path then is_path (path_of find)
+    else if kind == kinds.sref then is_sref (sref_of find)
+    else if kind == kinds.aref then is_aref (aref_of find)
+    else if kind == kinds.text then is_text (text_of find)
+    else if kind == kinds.node then is_node (node_of find)
+    else is_box (box_of find)
 
 -- the records before the first of this type
 abbrev pub before : ℕ → List Record → List Record
@@ -218,7 +224,7 @@ whole_of bytes kind rs = whole_or_none bytes (first_of kind rs)
 
 -- an element begins with one of seven types, and ends with ENDEL
 abbrev pub element_of : Record × List Record → Element
-element_of p = record { at = p.0.at; body = body_of p.0.kind p.1 }
+element_of p = record { at = p.0.at; body = body_of p.0.kind (λ kind. first_of kind p.1) }
 
 abbrev pub elements_of : List Record → List Element
 elements_of rs = map element_of (parts kinds.begins_element kinds.endel rs)
@@ -229,7 +235,7 @@ structure_of bytes p = record {
   at = p.0.at;
   bgnstr = whole bytes p.0;
   strname = whole_of bytes kinds.strname p.1;
-  name = name_of (data_of kinds.strname p.1);
+  name = name_of (data_or_none (first_of kinds.strname p.1));
   elements = elements_of p.1;
 }
 

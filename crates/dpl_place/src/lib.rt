@@ -1,4 +1,4 @@
-//! Where references of GDSII Stream files place what they name.
+//! Where references place what they name, by STRANS, ANGLE and XY of the GDSII Stream Format, Release 6.
 #![tactic(auto)]
 
 ghost use Rattle.std.specs.Prelude.{◌≡◌, ◌+◌, ◌-◌, ◌%◌, ◌^◌, ◌<◌, ◌≤◌, false, ℤ, pos, if◌then◌else◌};
@@ -84,7 +84,7 @@ impl Place {
         self.dy
     }
 
-    /// Where it takes a point.
+    /// Where it takes a point. Coordinates are database units, within 2^61 of 0.
     pub fn apply(&self, point: Pt) -> Pt
         requires place { IsMotionWithin (2 ^ 61) self.now }
         requires point { IsPointWithin (2 ^ 61) point }
@@ -151,7 +151,7 @@ fn turns_in_all(reflect: bool, outer: u8, inner: u8) -> u8
     (outer + inner) % 4
 }
 
-/// The placement that does `inner` and then `outer`.
+/// The placement that does `inner` and then `outer`. Both move by at most 2^61 database units.
 pub fn compose(outer: &Place, inner: &Place) -> Place
     requires outer { IsMotionWithin (2 ^ 61) outer.now }
     requires inner { IsMotionWithin (2 ^ 61) inner.now }

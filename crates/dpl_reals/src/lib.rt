@@ -1,4 +1,4 @@
-//! Eight-byte reals of GDSII Stream files: which whole numbers they are.
+//! Eight-byte reals of the GDSII Stream Format, Release 6: whether one is 1, and which quarter turn an angle makes. No floating point is used.
 #![tactic(auto)]
 
 ghost use Rattle.std.specs.Prelude.{◌≡◌, ℕ, ◌+◌, ◌-◌, ◌*◌, ◌%◌, ◌^◌, ◌<◌, ◌↔◌, ℤ, pos, ◌*ℤ◌, List, length, drop, fold, slice_index, if◌then◌else◌, IsTrue, IfNone, IfSome};
@@ -39,7 +39,7 @@ fn mantissa_of(bytes: &[u8]) -> u64
 }
 
 impl Real {
-    /// The real that eight bytes spell: a sign bit, seven bits of exponent, and the mantissa.
+    /// The real that eight bytes spell, as a MAG or ANGLE record has them: a sign bit, seven bits of exponent, and the mantissa, its greatest byte first. Its value is sign * mantissa / 2^56 * 16^(exponent - 64).
     pub fn of(bytes: [u8; 8]) -> Real
         ensures { result ≡ real_of bytes }
     {

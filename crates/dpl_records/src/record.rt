@@ -2,6 +2,7 @@
 
 ghost use Rattle.std.specs.Prelude.{◌≡◌, ◌+◌, ◌%◌, ◌<◌, ◌≤◌, ◌++◌, length, IsSome, IfOk, OnOk, OnErr};
 ghost use Rattle.dpl_format.specs.Records.{record_at, record_bytes, data_type_of};
+ghost use Rattle.dpl_format.specs.Table.{IsSizeOf};
 ghost use Rattle.dpl_records.specs.Seen.{Gives};
 
 use crate::fault::RecordFault;
@@ -28,6 +29,7 @@ pub struct Record<'a> {
 pub fn next_record(bytes: &[u8], at: usize) -> Result<Record<'_>, RecordFault>
     requires { at ≤ length bytes.now }
     ensures exact { Gives result (record_at bytes.now at) }
+    ensures sized { IfOk result (λ r. IsSizeOf r.kind (length r.body.now)) }
     ensures within { IfOk result (λ r. (r.at ≡ at) × (at + 4 ≤ r.next) × (r.next ≤ length bytes.now)) }
 {
     if bytes.len() - at < 4 {

@@ -1,1 +1,4 @@
 pub mod Refusals
+pub mod Types
+pub mod Straight
+pub mod Strokes

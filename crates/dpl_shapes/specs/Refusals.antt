@@ -4,8 +4,8 @@ use Rattle.dpl_spec.specs.declared.Pt.{Pt}
 use Rattle.dpl_elements.specs.Boundaries.{IsSlanted}
 use Rattle.dpl_elements.specs.Paths.{PathElement, IsFirstFault}
 use Rattle.dpl_elements.specs.Paths.PathFault.{Round, BadType, Odd, Slanted, TurnsBack, Negative}
-use Rattle.dpl_shapes.specs.declared.ShapeFault.{ShapeFault}
-use Rattle.dpl_shapes.specs.declared.ShapeFault.TheVariants.{SlantedBoundary, RoundPath, BadPathType, OddWidth, SlantedPath, PathTurnsBack, NegativeExtension, NoMemory}
+use Rattle.dpl_shapes.specs.declared.fault.ShapeFault.{ShapeFault}
+use Rattle.dpl_shapes.specs.declared.fault.ShapeFault.TheVariants.{SlantedBoundary, RoundPath, BadPathType, OddWidth, SlantedPath, PathTurnsBack, NegativeExtension, NoMemory}
 
 -- why a boundary is refused; want of memory may come at any
 abbrev pub RefusesBoundary : List Pt → ShapeFault → Type 0

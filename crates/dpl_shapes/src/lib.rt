@@ -1,37 +1,29 @@
-//! The loops of the boundaries, boxes and paths of a GDSII Stream file.
+//! The loops of boundaries, boxes and paths, by the elements of the GDSII Stream Format, Release 6. Edges that aren't parallel to an axis, round paths, odd widths, paths that turn back and negative extensions are refused.
 #![tactic(auto)]
 
-ghost use Rattle.std.specs.Prelude.{◌≡◌, ◌^◌, ◌≤◌, ◌↔◌, ℤ, unsigned_abs, map, IfOk, IfErr, OnOk};
+mod bars;
+mod distinct;
+mod fault;
+mod headings;
+mod straight;
+#[cfg(test)]
+mod tests;
+
+ghost use Rattle.std.specs.Prelude.{◌≡◌, ◌^◌, ◌≤◌, ◌↔◌, ℤ, unsigned_abs, map, IfOk, IfErr, OnOk, MatchBool};
 ghost use Rattle.std.specs.List.{All};
 ghost use Rattle.dpl_spec.specs.declared.Pt.{Pt};
 ghost use Rattle.dpl_spec.specs.Loops.{IsRectilinear, SomeLoopCovers, ArePointsWithin};
-ghost use Rattle.dpl_elements.specs.Paths.{path_of, path_rects, corners_of, PathCovers, IsFaultless};
+ghost use Rattle.dpl_elements.specs.Paths.{path_of, path_rects, past_end, corners_of, PathCovers, IsFaultless};
+ghost use Rattle.dpl_shapes.specs.Types.{IsKnownType, IsUnknownType, HasNegativeEnd};
 ghost use Rattle.dpl_shapes.specs.Refusals.{RefusesBoundary, RefusesPath};
 
+use crate::bars::{Margins, loops_along};
+use crate::distinct::distinct_points;
+pub use crate::fault::ShapeFault;
+use crate::headings::turns_back;
+use crate::straight::{is_rectilinear, is_straight};
 use dpl_base::{Loop, Pt};
 use std::alloc::Global;
-use thiserror::Error;
-
-/// Why a boundary, box or path can't be taken.
-#[derive(Debug, Drop, Error)]
-pub enum ShapeFault {
-    #[error("an edge of the boundary isn't parallel to an axis")]
-    SlantedBoundary,
-    #[error("the path has round ends")]
-    RoundPath,
-    #[error("the path has an unknown type")]
-    BadPathType,
-    #[error("the path has an odd width")]
-    OddWidth,
-    #[error("a segment of the path isn't parallel to an axis")]
-    SlantedPath,
-    #[error("the path turns back on itself")]
-    PathTurnsBack,
-    #[error("the path has a negative extension")]
-    NegativeExtension,
-    #[error("out of memory")]
-    NoMemory,
-}
 
 /// The loop of a boundary or box: its points in order. The edge from the last point to the first is one of its edges.
 ///
@@ -42,7 +34,11 @@ pub fn boundary_loop(alloc: Global, points: &[Pt]) -> Result<Loop, ShapeFault>
     ensures straight { IfOk result (λ l. IsRectilinear l) }
     ensures refused { IfErr result (λ e. RefusesBoundary points.now e) }
 {
-    Err(ShapeFault::NoMemory)
+    if !is_rectilinear(points) {
+        return Err(ShapeFault::SlantedBoundary);
+    }
+    let corners = points.to_vec(alloc)?;
+    Ok(Loop::of(corners))
 }
 
 /// The loops of a path: the four corners of one rectangle for each straight part, which has half the width to each side and goes on by half the width at each inner corner. At the two ends it goes on by nothing (type 0), by half the width (type 2) or by the given extension (type 4). A path of one point is a square where its type is 2, and nothing otherwise. A path of width 0 has no loop, and nothing more is asked of it. Coordinates, width and extensions are database units; a negative width counts as its absolute value.
@@ -67,5 +63,60 @@ pub fn path_loops(
     ensures faultless { OnOk result (IsFaultless (path_of points.now width kind begin_ext end_ext)) }
     ensures refused { IfErr result (λ e. RefusesPath (path_of points.now width kind begin_ext end_ext) e) }
 {
-    Err(ShapeFault::NoMemory)
+    if width == 0 {
+        return Ok(Vec::new(alloc));
+    }
+    let width = width.unsigned_abs();
+    if kind == 1 {
+        return Err(ShapeFault::RoundPath);
+    }
+    if !is_known_type(kind) {
+        return Err(ShapeFault::BadPathType);
+    }
+    if width % 2 == 1 {
+        return Err(ShapeFault::OddWidth);
+    }
+    let corners = distinct_points(alloc, points)?;
+    if !is_straight(&corners) {
+        return Err(ShapeFault::SlantedPath);
+    }
+    if turns_back(&corners) {
+        return Err(ShapeFault::PathTurnsBack);
+    }
+    if has_negative_end(kind, begin_ext, end_ext) {
+        return Err(ShapeFault::NegativeExtension);
+    }
+    let half = (width / 2) as i64;
+    let margins = Margins {
+        half,
+        begin: past_end(kind, half, begin_ext),
+        end: past_end(kind, half, end_ext),
+    };
+    let loops = loops_along(alloc, &corners, &margins, kind == 2)?;
+    Ok(loops)
+}
+
+/// Whether a path type is one of those with square corners.
+fn is_known_type(kind: i16) -> bool
+    ensures { MatchBool result (IsKnownType kind) (IsUnknownType kind) }
+{
+    matches!(kind, 0 | 2 | 4)
+}
+
+/// Whether a path has an extension that counts and is negative.
+fn has_negative_end(kind: i16, begin_ext: i64, end_ext: i64) -> bool
+    ensures { MatchBool result (HasNegativeEnd kind begin_ext end_ext) (HasNegativeEnd kind begin_ext end_ext → ⊥) }
+{
+    kind == 4 && (begin_ext < 0 || end_ext < 0)
+}
+
+/// How far a path of this type goes on past one of its ends, whose given extension is `ext`.
+fn past_end(kind: i16, half: i64, ext: i64) -> i64
+    ensures { result ≡ past_end kind half ext }
+{
+    match kind {
+        2 => half,
+        4 => ext,
+        _ => 0,
+    }
 }

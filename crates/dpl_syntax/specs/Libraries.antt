@@ -27,3 +27,13 @@ library_seen l = record {
 -- the elements of each structure have their points
 abbrev pub IsSizedEach : List (Bor (List ℕ) × Structure) → Type 0
 IsSizedEach entries = All (λ e. All IsSized e.1.elements.items) entries
+
+abbrev pub Entries : Type 0
+Entries = List (Bor (List ℕ) × Structure)
+
+-- the structures that are known, and their names
+abbrev pub structures_seen : Entries → List tree.Structure
+structures_seen entries = map (λ e. structure_seen e.0.now e.1) entries
+
+abbrev pub known_names : Entries → List (List ℕ)
+known_names entries = map (λ e. e.0.now) entries

@@ -2,8 +2,18 @@
 use Rattle.std.specs.Prelude.{◌≡◌, Result, Ok, Err}
 use Rattle.dpl_format.specs.Faults.{Fault, truncated, bad_length, unknown_record, bad_data_type, bad_size, unexpected, bad_name, duplicate_structure}
 use Rattle.dpl_format.specs.Tree.{Library}
+use Rattle.dpl_records.specs.declared.fault.RecordFault.{RecordFault}
+use Rattle.dpl_records.specs.declared.fault.RecordFault.TheVariants as records
 use Rattle.dpl_syntax.specs.declared.fault.SyntaxFault.{SyntaxFault}
 use Rattle.dpl_syntax.specs.declared.fault.SyntaxFault.TheVariants.{NoMemory, Truncated, BadLength, UnknownRecord, BadDataType, BadSize, Unexpected, BadName, DuplicateStructure}
+
+-- the same fault of a record
+abbrev pub of_record : RecordFault → SyntaxFault
+of_record (records.Truncated at) = Truncated at
+of_record (records.BadLength at) = BadLength at
+of_record (records.UnknownRecord at) = UnknownRecord at
+of_record (records.BadDataType at) = BadDataType at
+of_record (records.BadSize at) = BadSize at
 
 -- The fault that an error names is so, unless it is want of memory.
 abbrev pub Refuses : (Fault → Type 0) → SyntaxFault → Type 0

@@ -3,6 +3,7 @@
 ghost use Rattle.std.specs.Prelude.{◌≡◌};
 ghost use Rattle.dpl_syntax.specs.declared.fault.SyntaxFault.TheVariants.{NoMemory};
 
+use dpl_records::RecordFault;
 use std::alloc::{AllocError, AllocFailed};
 use thiserror::Error;
 
@@ -35,6 +36,22 @@ pub enum SyntaxFault {
     /// An earlier structure has this name.
     #[error("the record at {at} names a second structure of this name")]
     DuplicateStructure { at: usize },
+}
+
+impl From<RecordFault> for SyntaxFault {
+    ghost use Rattle.dpl_syntax.specs.Outcome.{of_record};
+
+    ghost from_gives = { λ fault e. e ≡ of_record fault };
+
+    fn from(fault: RecordFault) -> SyntaxFault {
+        match fault {
+            RecordFault::Truncated { at } => SyntaxFault::Truncated { at },
+            RecordFault::BadLength { at } => SyntaxFault::BadLength { at },
+            RecordFault::UnknownRecord { at } => SyntaxFault::UnknownRecord { at },
+            RecordFault::BadDataType { at } => SyntaxFault::BadDataType { at },
+            RecordFault::BadSize { at } => SyntaxFault::BadSize { at },
+        }
+    }
 }
 
 impl From<AllocError> for SyntaxFault {

@@ -8,6 +8,8 @@ ghost use Rattle.dpl_syntax.specs.Outcome.{Refuses, Gives, Refused};
 
 use crate::fault::SyntaxFault;
 use crate::library::Library;
+use crate::reader::Reader;
+use dpl_records::kinds;
 use std::alloc::Global;
 
 /// The library that the bytes hold. Bytes behind ENDLIB are ignored. A fault is the first one of the file: at the first record
@@ -24,5 +26,26 @@ pub fn read_library(alloc: Global, bytes: &[u8]) -> Result<Library<'_>, SyntaxFa
     // What has a first fault is refused for it, unless memory runs out.
     ensures refused { (f : Fault) → IsFirstFault bytes.now f → Refused result f }
 {
-    Err(SyntaxFault::NoMemory)
+    library(alloc, bytes)
+}
+
+fn library(alloc: Global, bytes: &[u8]) -> Result<Library<'_>, SyntaxFault>
+    requires { length bytes.now ≤ 268435456 }
+    ensures library { IfOk result (λ lib. Holds bytes.now lib) }
+    ensures fault { IfErr result (λ e. Refuses (IsFirstFault bytes.now) e) }
+{
+    let mut reader = Reader { bytes, at: 0 };
+    let header = reader.take(kinds::HEADER)?;
+    let bgnlib = reader.take_part(kinds::BGNLIB)?;
+    let libname = reader.take_part(kinds::LIBNAME)?;
+    let units = reader.take_part(kinds::UNITS)?;
+    let structures = reader.structures(alloc)?;
+    reader.take(kinds::ENDLIB)?;
+    Ok(Library {
+        header: reader.whole(&header),
+        bgnlib: reader.whole(&bgnlib),
+        libname: reader.whole(&libname),
+        units: reader.whole(&units),
+        structures,
+    })
 }

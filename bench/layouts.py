@@ -1,0 +1,118 @@
+#!/usr/bin/env python3
+"""Writes made-up layouts as GDSII files.
+
+usage: layouts.py KIND COUNT SEED FILE
+       layouts.py rects FILE X0,Y0,X1,Y1 ...
+
+KIND is one of
+  bars     routing-like rows: bars of random length on tracks 40 units apart, gaps of 29 to 200 units
+  mesh     COUNT / 2 long horizontal wires over COUNT / 2 vertical ones: one feature
+  scatter  rectangles of 10 to 100 units scattered over a square, about one to 200 by 200 units
+  polygons combs of 8,000 points each, COUNT teeth in all
+  plate    bars under one covering plate
+All shapes are boundaries on layer 1, datatype 0, in one structure, TOP. The same KIND, COUNT and
+SEED give the same file.
+"""
+import random
+import struct
+import sys
+
+
+def record(kind, data_type, body=b""):
+    return struct.pack(">HBB", len(body) + 4, kind, data_type) + body
+
+
+HEAD = (
+    record(0x00, 2, b"\x02\x58")
+    + record(0x01, 2, bytes(24))
+    + record(0x02, 6, b"LIB\0")
+    + record(0x03, 5, bytes.fromhex("3E4189374BC6A7F03944B82FA09B5A54"))
+    + record(0x05, 2, bytes(24))
+    + record(0x06, 6, b"TOP\0")
+)
+TAIL = record(0x07, 0) + record(0x04, 0)
+BEGIN = record(0x08, 0) + record(0x0D, 2, b"\0\1") + record(0x0E, 2, b"\0\0")
+END = record(0x11, 0)
+
+
+def boundary(points):
+    flat = [c for p in points for c in p]
+    return BEGIN + record(0x10, 3, struct.pack(">%di" % len(flat), *flat)) + END
+
+
+def rect(x0, y0, x1, y1):
+    return boundary([(x0, y0), (x1, y0), (x1, y1), (x0, y1), (x0, y0)])
+
+
+def bars(count, rng):
+    per_row = max(1, int(count**0.5))
+    made, row = 0, 0
+    while made < count:
+        x = rng.randrange(0, 300)
+        for _ in range(min(per_row, count - made)):
+            length = rng.randrange(60, 900)
+            yield rect(x, 40 * row, x + length, 40 * row + 20)
+            x += length + rng.randrange(29, 200)
+            made += 1
+        row += 1
+
+
+def mesh(count, rng):
+    half = max(1, count // 2)
+    for i in range(half):
+        yield rect(0, 100 * i, 100 * half, 100 * i + 20)
+    for i in range(half):
+        yield rect(100 * i, 0, 100 * i + 20, 100 * half)
+
+
+def scatter(count, rng):
+    side = int(200 * count**0.5) + 1
+    for _ in range(count):
+        x, y = rng.randrange(side), rng.randrange(side)
+        yield rect(x, y, x + rng.randrange(10, 100), y + rng.randrange(10, 100))
+
+
+def polygons(count, rng):
+    teeth = 2000
+    for k in range(max(1, count // teeth)):
+        y = 1000 * k
+        points = [(0, y)]
+        for i in range(teeth):
+            x = 100 * i
+            height = rng.randrange(200, 700)
+            points += [(x, y + 100), (x, y + height), (x + 20, y + height), (x + 20, y + 100)]
+        points += [(100 * teeth, y + 100), (100 * teeth, y), (0, y)]
+        # No point may repeat the one before it along the first edge.
+        points.pop(1)
+        points.insert(1, (0, y + 100))
+        yield boundary(points)
+
+
+def plate(count, rng):
+    yield rect(-10, -10, 2_000_000, 40 * (count // 100 + 2))
+    for i in range(count):
+        x, y = 3000 * (i % 100), 40 * (i // 100)
+        yield rect(x, y, x + 2000, y + 20)
+
+
+KINDS = {f.__name__: f for f in (bars, mesh, scatter, polygons, plate)}
+
+
+def main(words):
+    if len(words) > 2 and words[0] == "rects":
+        shapes = (rect(*map(int, w.split(","))) for w in words[2:])
+        path = words[1]
+    elif len(words) == 4 and words[0] in KINDS:
+        shapes = KINDS[words[0]](int(words[1]), random.Random(int(words[2])))
+        path = words[3]
+    else:
+        sys.exit(__doc__)
+    with open(path, "wb") as out:
+        out.write(HEAD)
+        for shape in shapes:
+            out.write(shape)
+        out.write(TAIL)
+
+
+if __name__ == "__main__":
+    main(sys.argv[1:])

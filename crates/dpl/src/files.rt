@@ -1,0 +1,161 @@
+//! Real files and standard output.
+ghost use Rattle.std.specs.Prelude.{◌≡◌, IfOk};
+ghost use Rattle.std.specs.Io.{ReadsAtMost, WritesAtMost};
+ghost use Rattle.dpl_host.specs.Outside.{HasCause, Takes};
+
+use dpl_host::{Failed, Host};
+use std::fs::{File, OpenOptions};
+use std::io;
+use std::io::Write;
+use std::os::unix::fs::FileExt;
+
+/// A file that stays open from call to call.
+#[derive(Drop)]
+struct Opened {
+    name: String,
+    file: File,
+}
+
+/// The files of the system and standard output. It tells neither: what it does to them is trusted.
+#[derive(Drop)]
+pub struct FileHost<'a> {
+    rt: &'a HostRuntime,
+    input: Option<Opened>,
+    output: Option<Opened>,
+    read_faults: u64,
+    write_faults: u64,
+    given: u64,
+}
+
+impl<'a> FileHost<'a> {
+    /// A host whose calls have not failed yet.
+    pub fn new(rt: &'a HostRuntime) -> FileHost<'a> {
+        FileHost {
+            rt,
+            input: None,
+            output: None,
+            read_faults: 0,
+            write_faults: 0,
+            given: 0,
+        }
+    }
+
+    /// How many reads failed, up to the last value of a `u64`.
+    pub fn read_faults(&self) -> u64
+        ensures { result ≡ self.now.read_faults }
+    {
+        self.read_faults
+    }
+
+    /// How many bytes of a piece were taken. An error is a fault, and so is a write of nothing.
+    fn taken(&mut self, written: io::Result<usize>, piece: &[u8]) -> Result<usize, Failed>
+        requires { WritesAtMost written piece.now }
+        ensures taken { IfOk result (Takes piece.now) }
+        ensures cause { HasCause self.old.write_faults self.new.write_faults result }
+        ensures others { self.new.read_faults ≡ self.old.read_faults }
+    {
+        match written {
+            Ok(count) if count > 0 || piece.is_empty() => Ok(count),
+            _ => {
+                self.write_faults = self.write_faults.saturating_add(1);
+                Err(Failed)
+            }
+        }
+    }
+}
+
+impl<'a> Host for FileHost<'a> {
+    ghost use Rattle.std.specs.Prelude.{None};
+
+    ghost told = { λ h. None };
+
+    ghost read_faults = { λ h. h.read_faults };
+
+    ghost write_faults = { λ h. h.write_faults };
+
+    ghost given = { λ h. h.given };
+
+    fn read(&mut self, name: &str, at: u64, into: &mut [u8]) -> Result<usize, Failed> {
+        match read_from(self.rt, &mut self.input, name, at, into) {
+            Ok(count) => {
+                self.given = self.given.saturating_add(count as u64);
+                Ok(count)
+            }
+            Err(_) => {
+                self.read_faults = self.read_faults.saturating_add(1);
+                Err(Failed)
+            }
+        }
+    }
+
+    fn create(&mut self, name: &str) -> Result<(), Failed> {
+        match create_anew(self.rt, &mut self.output, name) {
+            Ok(()) => Ok(()),
+            Err(_) => {
+                self.write_faults = self.write_faults.saturating_add(1);
+                Err(Failed)
+            }
+        }
+    }
+
+    fn append(&mut self, name: &str, piece: &[u8]) -> Result<usize, Failed> {
+        let written = append_to(self.rt, &mut self.output, name, piece);
+        self.taken(written, piece)
+    }
+
+    fn say(&mut self, piece: &[u8]) -> Result<usize, Failed> {
+        let written = io::writer(self.rt).write(piece);
+        self.taken(written, piece)
+    }
+}
+
+/// Reads bytes of a file from a place on. The file is opened, unless it is the one that is open already.
+fn read_from(
+    rt: &HostRuntime,
+    input: &mut Option<Opened>,
+    name: &str,
+    at: u64,
+    into: &mut [u8],
+) -> io::Result<usize>
+    ensures { ReadsAtMost result into.new }
+{
+    if let Some(open) = input {
+        if open.name.as_str() == name {
+            return open.file.read_at(into, at);
+        }
+    }
+    let file = File::open(rt, name)?;
+    let count = file.read_at(into, at)?;
+    let name = String::from_str(rt.alloc(), name)?;
+    *input = Some(Opened { name, file });
+    Ok(count)
+}
+
+/// Makes a file empty, and keeps it open.
+fn create_anew(rt: &HostRuntime, output: &mut Option<Opened>, name: &str) -> io::Result<()> {
+    let file = File::create(rt, name)?;
+    let name = String::from_str(rt.alloc(), name)?;
+    *output = Some(Opened { name, file });
+    Ok(())
+}
+
+/// Puts bytes behind a file. The file is opened, unless it is the one that is open already.
+fn append_to(
+    rt: &HostRuntime,
+    output: &mut Option<Opened>,
+    name: &str,
+    piece: &[u8],
+) -> io::Result<usize>
+    ensures { WritesAtMost result piece.now }
+{
+    if let Some(open) = output {
+        if open.name.as_str() == name {
+            return open.file.write(piece);
+        }
+    }
+    let mut file = OpenOptions::new().append(true).open(rt, name)?;
+    let count = file.write(piece)?;
+    let name = String::from_str(rt.alloc(), name)?;
+    *output = Some(Opened { name, file });
+    Ok(count)
+}

@@ -1,0 +1,61 @@
+//! `dpl`, a double-patterning mask decomposer.
+#![tactic(auto)]
+
+mod files;
+#[cfg(test)]
+mod tests;
+
+use crate::files::FileHost;
+use dpl_run::{Status, run};
+use std::alloc::{AllocError, Global};
+use std::process::ExitCode;
+use std::{env, io};
+
+fn main(rt: HostRuntime) -> ExitCode {
+    let status = match env::args(&rt) {
+        Ok(words) => run_on(&rt, words),
+        Err(error) => without_words(&rt, &error),
+    };
+    ExitCode::from(status.code())
+}
+
+/// Does what the words ask for, on the files of the system.
+fn run_on(rt: &HostRuntime, words: env::Args) -> Status {
+    match kept(rt.alloc(), words) {
+        Ok(words) => run_texts(rt, &words),
+        Err(_) => Status::NoMemory,
+    }
+}
+
+/// The words in a list.
+fn kept(alloc: Global, words: env::Args) -> Result<Vec<String>, AllocError> {
+    let mut kept = Vec::new(alloc);
+    for word in words {
+        kept.push(word)?;
+    }
+    Ok(kept)
+}
+
+/// The words as texts.
+fn texts_of(alloc: Global, words: &[String]) -> Result<Vec<&str>, AllocError> {
+    let mut texts = Vec::new(alloc);
+    for word in words {
+        texts.push(word.as_str())?;
+    }
+    Ok(texts)
+}
+
+fn run_texts(rt: &HostRuntime, words: &[String]) -> Status {
+    match texts_of(rt.alloc(), words) {
+        Ok(texts) => run(rt.alloc(), texts.as_slice(), &mut FileHost::new(rt)),
+        Err(_) => Status::NoMemory,
+    }
+}
+
+/// Words that aren't UTF-8 are no command.
+fn without_words(rt: &HostRuntime, error: &io::Error) -> Status {
+    if error.kind() == io::ErrorKind::OutOfMemory {
+        return Status::NoMemory;
+    }
+    run(rt.alloc(), &["dpl"], &mut FileHost::new(rt))
+}

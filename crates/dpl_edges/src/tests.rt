@@ -1,0 +1,94 @@
+//! Worked layouts of one bar or square to a piece, by a rule of 30.
+ghost use Rattle.std.specs.Prelude.{◌≤◌, ◌<ℤ◌, IsTrue, unsigned_abs};
+ghost use Rattle.dpl_spec.specs.Loops.{farthest};
+
+use crate::conflicts;
+use dpl_base::{Edge, FARTHEST, Id, Rect};
+use dpl_feature::features;
+use dpl_slabs::Slabs;
+use std::alloc::{AllocError, Global};
+use std::test::Fail;
+
+/// The corners of a rectangle: left, low, right, high.
+type Corners = (i64, i64, i64, i64);
+
+/// Whether the columns, or the rows, are some of a layer's.
+fn is_span(low: i64, high: i64) -> bool
+    ensures { IsTrue result → (low <ℤ high) × (unsigned_abs low ≤ farthest) × (unsigned_abs high ≤ farthest) }
+{
+    if low >= high {
+        return false;
+    }
+    if low < -FARTHEST {
+        return false;
+    }
+    if high > FARTHEST {
+        return false;
+    }
+    true
+}
+
+/// The squares of a rectangle, where it has some.
+fn one(alloc: Global, corners: Corners) -> Result<Slabs, AllocError> {
+    let (x0, y0, x1, y1) = corners;
+    if is_span(x0, x1) {
+        if is_span(y0, y1) {
+            return Slabs::one(alloc, Rect { x0, y0, x1, y1 });
+        }
+    }
+    Slabs::of_rects(alloc, &[])
+}
+
+/// The squares of some rectangles.
+fn set_of(alloc: Global, rects: &[Corners]) -> Result<Slabs, AllocError> {
+    let mut set = Slabs::of_rects(alloc, &[])?;
+    for corners in rects {
+        let next = one(alloc, *corners)?;
+        set = set.union(alloc, &next)?;
+    }
+    Ok(set)
+}
+
+#[test]
+fn finds_the_conflicts(rt: HostRuntime) -> Result<(), Fail> {
+    let cases: [(&[Corners], &[Id], &[Edge]); 8] = [
+        // bars 29 rows apart, and 30
+        (&[(0, 0, 100, 20), (0, 49, 100, 69)], &[0, 1], &[(0, 1)]),
+        (&[(0, 0, 100, 20), (0, 50, 100, 70)], &[0, 1], &[]),
+        // corners 18 and 23 apart, and 18 and 24
+        (&[(0, 0, 10, 10), (28, 33, 38, 43)], &[0, 1], &[(0, 1)]),
+        (&[(0, 0, 10, 10), (28, 34, 38, 44)], &[0, 1], &[]),
+        // three squares, each near both others
+        (
+            &[(0, 0, 10, 10), (20, 0, 30, 10), (10, 20, 20, 30)],
+            &[0, 1, 2],
+            &[(0, 1), (0, 2), (1, 2)],
+        ),
+        // two pieces of one feature, and a third near both
+        (
+            &[(0, 0, 10, 10), (20, 0, 30, 10), (10, 20, 20, 30)],
+            &[0, 0, 1],
+            &[(0, 2), (1, 2)],
+        ),
+        // a cross of three slabs near a bar along two of them
+        (
+            &[
+                (10, 0, 20, 10),
+                (0, 10, 30, 20),
+                (10, 20, 20, 30),
+                (40, 0, 50, 30),
+            ],
+            &[0, 1],
+            &[(0, 1)],
+        ),
+        (&[], &[], &[]),
+    ];
+    for (rects, owner, want) in cases {
+        let set = set_of(rt.alloc(), rects)?;
+        let pieces = features(rt.alloc(), &set)?;
+        assert!(rt; pieces.items().len() == owner.len());
+        let found = conflicts(rt.alloc(), &pieces, owner, 30)?;
+        assert!(rt; found.as_slice() == want);
+    }
+    Ok(())
+}

@@ -1,0 +1,4 @@
+pub mod Levels
+pub mod Laws
+pub mod Arcs
+pub mod Growing

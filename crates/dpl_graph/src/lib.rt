@@ -1,0 +1,71 @@
+//! Graphs on numbers: components, and how far their numbers lie from the least one.
+#![tactic(auto)]
+
+mod links;
+mod reached;
+
+ghost use Rattle.std.specs.Prelude.{◌↔◌, IsTrue, IfOk};
+ghost use Rattle.dpl_graph.specs.Levels.{AreEdgesBelow, AreLevels};
+ghost use Rattle.dpl_graph.specs.Laws.{LevelsShowOddCycles, OddRootsAreRoots, ReportedIsOdd, RootsShowOddCycles};
+
+use crate::links::links_of;
+use crate::reached::nothing;
+use dpl_base::{Edge, Id};
+use std::alloc::{AllocError, Global};
+
+/// Where each number lies: `roots` has the least number of its component, `levels` how many edges it is away from that.
+#[derive(Debug, Drop)]
+pub struct Levels {
+    pub roots: Vec<Id>,
+    pub levels: Vec<Id>,
+}
+
+/// Whether each edge joins two different numbers below `n`, the smaller first.
+pub fn are_edges_below(n: Id, edges: &[Edge]) -> bool
+    ensures { IsTrue result ↔ AreEdgesBelow n edges.now }
+{
+    edges.iter().all(|e| e.0 < e.1 && e.1 < n)
+}
+
+/// The root and the level of each number below `n`, in time linear in `n` and the number of edges.
+pub fn levels_of(alloc: Global, n: Id, edges: &[Edge]) -> Result<Levels, AllocError>
+    requires { AreEdgesBelow n edges.now }
+    ensures { IfOk result (λ l. AreLevels edges.now n l.roots.items l.levels.items) }
+{
+    let links = links_of(alloc, n, edges)?;
+    let mut reached = nothing(alloc, n)?;
+    for v in 0..n {
+        if reached.roots[v as usize] == n {
+            reached.spread(n, edges, &links, v)?;
+        }
+    }
+    Ok(Levels {
+        roots: reached.roots,
+        levels: reached.levels,
+    })
+}
+
+/// A component has an odd cycle exactly where an edge joins two numbers of one level, below any of its numbers and so
+/// below its least; the root of the reported cycle is the least number of its component; that cycle is odd.
+pub fn odd_cycle_laws()
+    ensures by_component { LevelsShowOddCycles }
+    ensures by_root { RootsShowOddCycles }
+    ensures least { OddRootsAreRoots }
+    ensures reported { ReportedIsOdd }
+{}
+
+#[cfg(test)]
+mod tests {
+    use super::*;
+    use std::test::Fail;
+
+    #[test]
+    fn finds_roots_and_levels(rt: HostRuntime) -> Result<(), Fail> {
+        let edges = [(1, 4), (0, 2), (2, 5), (3, 5), (0, 3)];
+        assert!(rt; are_edges_below(7, &edges));
+        let found = levels_of(rt.alloc(), 7, &edges)?;
+        assert_eq!(rt; found.roots.as_slice(), [0, 1, 0, 0, 1, 0, 6].as_slice());
+        assert_eq!(rt; found.levels.as_slice(), [0, 0, 1, 1, 1, 2, 0].as_slice());
+        Ok(())
+    }
+}

@@ -1,0 +1,25 @@
+use Rattle.std.proofs.Common.{◌≡◌, ◌∙◌, ◌≤◌, ◌-◌, ap, sym, List, ℕ, arith, take, drop, length, length-drop}
+use Rattle.std.specs.Prelude.{option_map}
+use Rattle.dpl_host.specs.Outside.{with_said}
+use Rattle.dpl_host.proofs.Files.{said_on}
+use Rattle.dpl_host.proofs.Pieces.{rest_is, take_on}
+use Rattle.dpl_host.proofs.whole.say_all.Goals as goal
+
+pub loop-done-preserved : goal.loop-done-preserved
+loop-done-preserved g c =
+    let bytes : List ℕ = c.args.bytes.now in
+    let done = c.loop-done.done in
+    let n = c.in_ok-done.field-0 in
+    let piece = take (length bytes - done) (drop done bytes) in
+    let most : n ≤ length piece = c.in_ok-done.ensures.taken.most in
+    let rest : piece ≡ drop done bytes = rest_is done bytes in
+    record {
+      within = omega (arith, length-drop done bytes, most, ap length rest, c.loop-done.invariant.within);
+      said = c.in_ok-done.ensures.said
+          ∙ ap (λ (p : List ℕ). option_map (with_said (take n p)) (g.H.Host.told c.loop-done.host)) rest
+          ∙ ap (option_map (with_said (take n (drop done bytes)))) c.loop-done.invariant.said
+          ∙ said_on (g.H.Host.told c.args.host.now) (take done bytes) (take n (drop done bytes))
+          ∙ ap (λ (p : List ℕ). option_map (with_said p) (g.H.Host.told c.args.host.now)) (sym (take_on done n bytes));
+      later = omega (arith, c.loop-done.invariant.later, c.in_ok-done.ensures.cause.later);
+      others = omega (arith, c.loop-done.invariant.others, c.in_ok-done.ensures.others);
+    }

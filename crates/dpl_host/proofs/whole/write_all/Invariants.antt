@@ -1,0 +1,15 @@
+use Rattle.std.proofs.Common.{length, ◌-◌, ◌≡◌, ◌≤◌, take}
+use Rattle.std.specs.Prelude.{option_map}
+use Rattle.dpl_host.specs.Outside.{with_file}
+use Rattle.dpl_host.proofs.whole.write_all.Given as goal
+
+abbrev pub invariant-loop-done : goal.invariant-loop-done
+invariant-loop-done g l = record {
+  within : l.done ≤ length l.bytes;
+  written : g.H.Host.told l.host ≡ option_map (with_file l.name (take l.done l.bytes)) (g.H.Host.told l.fn.host);
+  later : g.H.Host.write_faults l.fn.host ≤ g.H.Host.write_faults l.host;
+  others : g.H.Host.read_faults l.fn.host ≤ g.H.Host.read_faults l.host;
+}
+
+abbrev pub decreases-loop-done : goal.decreases-loop-done
+decreases-loop-done g l = length l.bytes - l.done

@@ -1,0 +1,18 @@
+-- What is seen of a host that never fails.
+use Rattle.std.specs.Prelude.{ℕ, ◌+◌, ◌-◌, ◌^◌, Option, None, min}
+use Rattle.std.specs.FinMap as map
+use Rattle.dpl_host.specs.Outside.{Files, Outside}
+use Rattle.dpl_host.specs.Memory.{files_of}
+use Rattle.dpl_host.specs.declared.sure.SureHost.{SureHost}
+
+-- It tells nothing.
+abbrev pub untold : Option Outside
+untold = None
+
+-- the files that it reads
+abbrev pub borrowed : SureHost → Files
+borrowed h = files_of h.files.now.entries
+
+-- a count of bytes, which stands still at its last value
+abbrev pub counted : ℕ → ℕ → ℕ
+counted taken n = min (taken + n) (2 ^ 64 - 1)

@@ -1,0 +1,236 @@
+//! A host in memory, which fails where it is told to.
+ghost use Rattle.std.specs.Prelude.{◌≡◌, ◌<◌, ◌≤◌, ◌||◌, ◌⊎◌, ◌^◌, ◌-◌, true, false, not, is_some, is_err, length, min, take, Some, None, IfOk, IfSome, IsErr, OnErr, OnOk, option_map, []};
+ghost use Rattle.std.specs.FinMap as map;
+ghost use Rattle.dpl_host.specs.Outside.{Changes, Gave, Gives, HasCause, IsThere, Reads, Rose, Takes, file_of, with_file, with_more, with_said};
+ghost use Rattle.dpl_host.specs.Memory.{files_of};
+ghost use Rattle.dpl_host.specs.MemHost.{append_is_listed, create_is_listed, lists, next_count, plan_of, outside_of, read_is_listed, refusals, same_kind, say_is_listed};
+
+use crate::names;
+use crate::outside::{Failed, Host};
+use crate::stride::Stride;
+use std::alloc::Global;
+use std::collections::BTreeMap;
+
+/// A kind of call.
+#[derive(Clone, Copy, Debug, PartialEq, Eq)]
+pub enum Kind {
+    Read,
+    Create,
+    Append,
+    Say,
+}
+
+/// A call that is to fail: its kind, and its number among those of its kind, from 0.
+pub type Failing = (Kind, u64);
+
+/// Files in memory. It tells them.
+#[derive(Drop)]
+pub struct MemHost {
+    alloc: Global,
+    files: BTreeMap<String, Vec<u8>>,
+    said: Vec<u8>,
+    step: Stride,
+    failing: Vec<Failing>,
+    reads: u64,
+    creates: u64,
+    appends: u64,
+    says: u64,
+    refused: u64,
+    read_faults: u64,
+    write_faults: u64,
+    given: u64,
+}
+
+fn is_same(kind: Kind, other: Kind) -> bool
+    ensures { result ≡ same_kind kind other }
+{
+    match (kind, other) {
+        (Kind::Read, Kind::Read)
+        | (Kind::Create, Kind::Create)
+        | (Kind::Append, Kind::Append)
+        | (Kind::Say, Kind::Say) => true,
+        _ => false,
+    }
+}
+
+fn is_listed(failing: &[Failing], kind: Kind, number: u64) -> bool
+    ensures { result ≡ lists failing.now kind number }
+{
+    failing.iter().any(|f| is_same(f.0, kind) && f.1 == number)
+}
+
+impl MemHost {
+    /// A host with these files, of which a call gives or takes `step` bytes at most.
+    pub fn new(
+        alloc: Global,
+        files: BTreeMap<String, Vec<u8>>,
+        step: usize,
+        failing: Vec<Failing>,
+    ) -> MemHost
+        requires { 0 < step }
+        ensures files { outside_of result ≡ record { files = files_of files.entries; said = [] } }
+        ensures counts { refusals result ≡ 0 }
+        ensures plan { plan_of result ≡ record { step = step; failing = failing.items; reads = 0; creates = 0; appends = 0; says = 0 } }
+    {
+        MemHost {
+            alloc,
+            files,
+            said: Vec::new(alloc),
+            step: Stride::new(step),
+            failing,
+            reads: 0,
+            creates: 0,
+            appends: 0,
+            says: 0,
+            refused: 0,
+            read_faults: 0,
+            write_faults: 0,
+            given: 0,
+        }
+    }
+
+    /// The file of a name.
+    pub fn file(&self, name: &str) -> Option<&[u8]>
+        ensures { option_map (λ f. f.now) result ≡ file_of (outside_of self.now) name.now }
+    {
+        Some(names::file(&self.files, name)?.as_slice())
+    }
+
+    /// What was said.
+    pub fn said(&self) -> &[u8]
+        ensures { result.now ≡ (outside_of self.now).said }
+    {
+        self.said.as_slice()
+    }
+
+    /// How many calls found no memory.
+    pub fn refused(&self) -> u64
+        ensures { result ≡ refusals self.now }
+    {
+        self.refused
+    }
+}
+
+impl Host for MemHost {
+    ghost use Rattle.std.specs.Prelude.{Some};
+    ghost use Rattle.dpl_host.specs.MemHost.{outside_of};
+
+    ghost told = { λ h. Some (outside_of h) };
+
+    ghost read_faults = { λ h. h.read_faults };
+
+    ghost write_faults = { λ h. h.write_faults };
+
+    ghost given = { λ h. h.given };
+
+    fn read(&mut self, name: &str, at: u64, into: &mut [u8]) -> Result<usize, Failed>
+        ensures bound { IfOk result (λ n. n ≤ length into.new) }
+        ensures bytes { Reads (Some (outside_of self.old)) name.now at result into.new }
+        ensures same { outside_of self.new ≡ outside_of self.old }
+        ensures cause { HasCause self.old.read_faults self.new.read_faults result }
+        ensures others { self.new.write_faults ≡ self.old.write_faults }
+        ensures exact { is_err result ≡ (read_is_listed self.old || not (is_some (file_of (outside_of self.old) name.now))) }
+        ensures most { IfOk result (λ n. IfSome (file_of (outside_of self.old) name.now) (λ file. n ≡ min (min (length file - at) (plan_of self.old).step) (length into.new))) }
+        ensures plan { plan_of self.new ≡ record (plan_of self.old) { reads = next_count (plan_of self.old).reads } }
+        ensures refused { refusals self.new ≡ refusals self.old }
+        ensures given { IfOk result (λ n. Gave self.old.given n self.new.given) }
+    {
+        let listed = is_listed(self.failing.as_slice(), Kind::Read, self.reads);
+        self.reads = self.reads.saturating_add(1);
+        match names::file(&self.files, name) {
+            Some(file) if !listed => {
+                let count = copy(file.as_slice(), at, self.step.bytes(), into);
+                self.given = self.given.saturating_add(count as u64);
+                Ok(count)
+            }
+            _ => {
+                self.read_faults = self.read_faults.saturating_add(1);
+                Err(Failed)
+            }
+        }
+    }
+
+    fn create(&mut self, name: &str) -> Result<(), Failed>
+        ensures made { Changes result (Some (outside_of self.old)) (Some (outside_of self.new)) (λ _. with_file name.now []) }
+        ensures cause { HasCause self.old.write_faults self.new.write_faults result }
+        ensures others { self.new.read_faults ≡ self.old.read_faults }
+        ensures fails { OnErr result ((create_is_listed self.old ≡ true) ⊎ Rose (refusals self.old) (refusals self.new)) }
+        ensures works { OnOk result ((create_is_listed self.old ≡ false) × (refusals self.new ≡ refusals self.old)) }
+        ensures plan { plan_of self.new ≡ record (plan_of self.old) { creates = next_count (plan_of self.old).creates } }
+    {
+        let listed = is_listed(self.failing.as_slice(), Kind::Create, self.creates);
+        self.creates = self.creates.saturating_add(1);
+        if !listed {
+            match names::put_empty(self.alloc, &mut self.files, name) {
+                Ok(()) => return Ok(()),
+                Err(_) => self.refused = self.refused.saturating_add(1),
+            }
+        }
+        self.write_faults = self.write_faults.saturating_add(1);
+        Err(Failed)
+    }
+
+    fn append(&mut self, name: &str, piece: &[u8]) -> Result<usize, Failed>
+        ensures taken { IfOk result (Takes piece.now) }
+        ensures there { OnOk result (IsThere (Some (outside_of self.old)) name.now) }
+        ensures added { Changes result (Some (outside_of self.old)) (Some (outside_of self.new)) (λ n. with_more name.now (take n piece.now)) }
+        ensures cause { HasCause self.old.write_faults self.new.write_faults result }
+        ensures others { self.new.read_faults ≡ self.old.read_faults }
+        ensures fails { OnErr result ((append_is_listed self.old ≡ true) ⊎ (file_of (outside_of self.old) name.now ≡ None) ⊎ Rose (refusals self.old) (refusals self.new)) }
+        ensures works { OnOk result ((append_is_listed self.old ≡ false) × (refusals self.new ≡ refusals self.old)) }
+        ensures most { IfOk result (λ n. n ≡ min (length piece.now) (plan_of self.old).step) }
+        ensures plan { plan_of self.new ≡ record (plan_of self.old) { appends = next_count (plan_of self.old).appends } }
+    {
+        let listed = is_listed(self.failing.as_slice(), Kind::Append, self.appends);
+        self.appends = self.appends.saturating_add(1);
+        let count = piece.len().min(self.step.bytes());
+        if !listed {
+            match names::put_behind(&mut self.files, name, &piece[..count]) {
+                Ok(true) => return Ok(count),
+                Ok(false) => {}
+                Err(_) => self.refused = self.refused.saturating_add(1),
+            }
+        }
+        self.write_faults = self.write_faults.saturating_add(1);
+        Err(Failed)
+    }
+
+    fn say(&mut self, piece: &[u8]) -> Result<usize, Failed>
+        ensures taken { IfOk result (Takes piece.now) }
+        ensures said { Changes result (Some (outside_of self.old)) (Some (outside_of self.new)) (λ n. with_said (take n piece.now)) }
+        ensures cause { HasCause self.old.write_faults self.new.write_faults result }
+        ensures others { self.new.read_faults ≡ self.old.read_faults }
+        ensures fails { OnErr result ((say_is_listed self.old ≡ true) ⊎ Rose (refusals self.old) (refusals self.new)) }
+        ensures works { OnOk result ((say_is_listed self.old ≡ false) × (refusals self.new ≡ refusals self.old)) }
+        ensures most { IfOk result (λ n. n ≡ min (length piece.now) (plan_of self.old).step) }
+        ensures plan { plan_of self.new ≡ record (plan_of self.old) { says = next_count (plan_of self.old).says } }
+    {
+        let listed = is_listed(self.failing.as_slice(), Kind::Say, self.says);
+        self.says = self.says.saturating_add(1);
+        let count = piece.len().min(self.step.bytes());
+        if !listed {
+            match self.said.extend_from_slice(&piece[..count]) {
+                Ok(()) => return Ok(count),
+                Err(_) => self.refused = self.refused.saturating_add(1),
+            }
+        }
+        self.write_faults = self.write_faults.saturating_add(1);
+        Err(Failed)
+    }
+}
+
+/// Copies bytes of a file from a place on, `step` at most, and says how many.
+pub(crate) fn copy(file: &[u8], at: u64, step: usize, into: &mut [u8]) -> usize
+    requires { 0 < step }
+    ensures bound { result ≤ length into.new }
+    ensures most { result ≡ min (min (length file.now - at) step) (length into.new) }
+    ensures gives { Gives file.now at result into.new }
+{
+    let left = match usize::try_from(at) {
+        Ok(at) if at < file.len() => &file[at..],
+        _ => &[],
+    };
+    let count = left.len().min(step).min(into.len());
+    into[..count].copy_from_slice(&left[..count]);
+    count
+}

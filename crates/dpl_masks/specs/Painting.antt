@@ -1,0 +1,40 @@
+-- The masks of coloured pieces.
+use Rattle.std.specs.Prelude.{◌≡◌, ◌<◌, ◌⊎◌, ◌↔◌, ℕ, Bool, false, true, List, slice_index_or}
+use Rattle.std.specs.List.{AllPairs, Contains}
+use Rattle.dpl_spec.specs.declared.Pt.{Pt}
+use Rattle.dpl_spec.specs.declared.Rect.{Rect}
+use Rattle.dpl_spec.specs.declared.Zone.{Zone}
+use Rattle.dpl_spec.specs.Squares.{Covers, Has, Region}
+use Rattle.dpl_spec.specs.Zones.{part_at}
+use Rattle.dpl_spec.specs.Slabs.{AreSlabsOf}
+use Rattle.dpl_spec.specs.Colours.{AreStitches, colour_at, differ, on_mask}
+use Rattle.dpl_piece.specs.Cutting.{CutPieces}
+use Rattle.dpl_masks.specs.declared.pair.Masks.{Masks}
+
+-- both masks of the pieces in these colours, and the zones whose sides differ
+pub record AreMasksOf (c : CutPieces) (colours : List Bool) (m : Masks) : Type 0 where
+  pub first : AreSlabsOf (on_mask c.parts c.zones c.sides colours false) m.a
+  pub second : AreSlabsOf (on_mask c.parts c.zones c.sides colours true) m.b
+  pub differing : AreStitches c.sides colours m.stitches
+
+-- the squares of those of the first n pieces that have this letter
+abbrev pub in_pieces : ℕ → List (List Rect) → List Bool → Bool → Region
+in_pieces n pieces colours letter p = (k : ℕ) × (k < n) × (colour_at colours k ≡ letter) × part_at pieces k p
+
+-- one of both sides has this letter
+abbrev pub IsEither : List Bool → ℕ × ℕ → Bool → Type 0
+IsEither colours side letter = (colour_at colours side.0 ≡ letter) ⊎ (colour_at colours side.1 ≡ letter)
+
+-- the squares of those of the first n zones that have a side of this letter
+abbrev pub in_zones : ℕ → List Zone → List (ℕ × ℕ) → List Bool → Bool → Region
+in_zones n zones sides colours letter p =
+    (k : ℕ) × (z : Zone) × (side : ℕ × ℕ) × (k < n) × (slice_index_or zones k z ≡ z) × (slice_index_or sides k side ≡ side) × IsEither colours side letter × Has z.rect p
+
+-- the squares that are added to those of rectangles
+abbrev pub Adds : List Rect → List Rect → Region → Type 0
+Adds old new added = (p : Pt) → Covers new p ↔ (Covers old p ⊎ added p)
+
+-- those of the first n zones whose sides differ
+pub record AreFirstStitches (n : ℕ) (sides : List (ℕ × ℕ)) (colours : List Bool) (stitches : List ℕ) : Type 0 where
+  pub ordered : AllPairs (λ i j. i < j) stitches
+  pub exactly : (k : ℕ) → Contains stitches k ↔ ((side : ℕ × ℕ) × (k < n) × (slice_index_or sides k side ≡ side) × (differ (colour_at colours side.0) (colour_at colours side.1) ≡ true))

@@ -1,0 +1,99 @@
+//! The bytes of a file of masks, by the GDSII Stream Format, Release 6.
+ghost use Rattle.std.specs.Prelude.{◌≡◌, ◌≤◌, ◌++◌, IfOk, OnOk, map, unsigned_abs};
+ghost use Rattle.std.specs.List.{concat};
+ghost use Rattle.dpl_spec.specs.Loops.{AreRectsWithin, IsRectWithin, farthest};
+ghost use Rattle.dpl_spec.specs.Zones.{at};
+ghost use Rattle.dpl_masks.specs.Bytes.{boundaries_bytes, boundary_bytes, coordinate_bytes, corners, file_bytes as file_bytes_of, point_bytes};
+
+use dpl_base::Rect;
+use std::alloc::{AllocError, Global};
+
+const BOUNDARY: [u8; 4] = [0, 4, 8, 0];
+
+const LAYER: [u8; 4] = [0, 6, 13, 2];
+
+const DATATYPE_0: [u8; 6] = [0, 6, 14, 2, 0, 0];
+
+const XY_5: [u8; 4] = [0, 44, 16, 3];
+
+const ENDEL: [u8; 4] = [0, 4, 17, 0];
+
+const ENDSTR_ENDLIB: [u8; 8] = [0, 4, 7, 0, 0, 4, 4, 0];
+
+/// A coordinate in four bytes.
+fn put_coordinate(out: &mut Vec<u8>, z: i64) -> Result<(), AllocError>
+    requires { unsigned_abs z ≤ farthest }
+    ensures { OnOk result (out.new.items ≡ out.old.items ++ coordinate_bytes z) }
+{
+    out.extend_from_slice(&(z as i32).to_be_bytes())
+}
+
+/// A point, column first.
+fn put_point(out: &mut Vec<u8>, x: i64, y: i64) -> Result<(), AllocError>
+    requires x { unsigned_abs x ≤ farthest }
+    requires y { unsigned_abs y ≤ farthest }
+    ensures { OnOk result (out.new.items ≡ out.old.items ++ point_bytes (at x y)) }
+{
+    put_coordinate(out, x)?;
+    put_coordinate(out, y)?;
+    Ok(())
+}
+
+/// The corners of a slab, from the lower left one round to it again.
+fn put_corners(out: &mut Vec<u8>, r: &Rect) -> Result<(), AllocError>
+    requires { IsRectWithin farthest r.now }
+    ensures { OnOk result (out.new.items ≡ out.old.items ++ concat (map point_bytes (corners r.now))) }
+{
+    put_point(out, r.x0, r.y0)?;
+    put_point(out, r.x1, r.y0)?;
+    put_point(out, r.x1, r.y1)?;
+    put_point(out, r.x0, r.y1)?;
+    put_point(out, r.x0, r.y0)?;
+    Ok(())
+}
+
+/// The element of a slab on a layer, 64 bytes.
+fn put_boundary(out: &mut Vec<u8>, layer: u16, r: &Rect) -> Result<(), AllocError>
+    requires { IsRectWithin farthest r.now }
+    ensures { OnOk result (out.new.items ≡ out.old.items ++ boundary_bytes layer r.now) }
+{
+    out.extend_from_slice(&BOUNDARY)?;
+    out.extend_from_slice(&LAYER)?;
+    out.extend_from_slice(&layer.to_be_bytes())?;
+    out.extend_from_slice(&DATATYPE_0)?;
+    out.extend_from_slice(&XY_5)?;
+    put_corners(out, r)?;
+    out.extend_from_slice(&ENDEL)?;
+    Ok(())
+}
+
+/// The elements of all slabs on a layer.
+fn put_boundaries(out: &mut Vec<u8>, layer: u16, slabs: &[Rect]) -> Result<(), AllocError>
+    requires { AreRectsWithin farthest slabs.now }
+    ensures { OnOk result (out.new.items ≡ out.old.items ++ boundaries_bytes layer slabs.now) }
+{
+    for slab in slabs {
+        put_boundary(out, layer, slab)?;
+    }
+    Ok(())
+}
+
+/// The bytes of a file: the records before the elements, then the slabs of mask A on the layer `la` and those of mask B on the layer `lb`, each as one BOUNDARY of data type 0.
+pub fn file_bytes(
+    alloc: Global,
+    front: &[u8],
+    a: &[Rect],
+    b: &[Rect],
+    la: u16,
+    lb: u16,
+) -> Result<Vec<u8>, AllocError>
+    requires a { AreRectsWithin farthest a.now }
+    requires b { AreRectsWithin farthest b.now }
+    ensures { IfOk result (λ v. v.items ≡ file_bytes_of front.now la lb a.now b.now) }
+{
+    let mut out = Vec::from_slice(alloc, front)?;
+    put_boundaries(&mut out, la, a)?;
+    put_boundaries(&mut out, lb, b)?;
+    out.extend_from_slice(&ENDSTR_ENDLIB)?;
+    Ok(out)
+}

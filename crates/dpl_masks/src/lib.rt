@@ -1,0 +1,10 @@
+//! The two masks of a decomposed layer, and the file that holds them.
+#![tactic(auto)]
+
+mod bytes;
+mod painting;
+mod pair;
+
+pub use bytes::file_bytes;
+pub use painting::masks;
+pub use pair::Masks;

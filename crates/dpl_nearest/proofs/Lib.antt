@@ -1,0 +1,3 @@
+pub mod NearLaws
+pub mod UnitLaws
+pub mod LeafLaws

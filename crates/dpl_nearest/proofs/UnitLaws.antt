@@ -1,0 +1,69 @@
+-- The nearest pair, by the least near squares of either set.
+use Rattle.std.proofs.Common.{◌≡◌, ℕ, ◌*◌, ◌<◌, ◌≤◌, ◌+◌, inl, inr, sym, refl, ◌∙◌, subst, arith, List, [], ◌∷◌, length, get_or}
+use Rattle.std.specs.Prelude.{pos, unsigned_abs, ◌+ℤ◌, ◌≤ℤ◌, ◌<ℤ◌}
+use Rattle.std.proofs.lemmas.Int.{ints}
+use Rattle.dpl_spec.specs.declared.Pt.{Pt}
+use Rattle.dpl_spec.specs.declared.Rect.{Rect}
+use Rattle.dpl_spec.specs.Squares.{Region, Has, Covers, IsLeast, AreNear, d2}
+use Rattle.dpl_spec.specs.Loops.{IsRectWithin, AreRectsWithin, farthest}
+use Rattle.dpl_spec.proofs.SquareLaws.{d2-sym}
+use Rattle.dpl_nearest.specs.Nearest.{IsNearestPair}
+use Rattle.dpl_nearest.specs.Search.{near_part, unit_of}
+use Rattle.dpl_nearest.proofs.NearLaws.{same_square}
+
+-- the only rectangle of a list of one
+only_rect : (P : Rect → Type 0) (u : Rect) (k : ℕ) (d : Rect) → k < length (u ∷ []) → P (get_or (u ∷ []) k d) → P u
+only_rect P u k d k_in h =
+    let first : k ≡ 0 = omega (arith, k_in) in
+    subst (λ n. P (get_or (u ∷ []) n d)) first h
+
+unit_only : (p q : Pt) → Has (unit_of p) q → q ≡ p
+unit_only p q h =
+    let a : p.x ≤ℤ q.x = h.left in
+    let b : q.x <ℤ (p.x +ℤ pos 1) = h.right in
+    let c : p.y ≤ℤ q.y = h.low in
+    let d : q.y <ℤ (p.y +ℤ pos 1) = h.high in
+    same_square q p (omega (arith, ints)) (omega (arith, ints))
+
+unit_self : (p : Pt) → Has (unit_of p) p
+unit_self p = record { left = omega (arith, ints); right = omega (arith, ints); low = omega (arith, ints); high = omega (arith, ints) }
+
+covers_only : (p : Pt) (u : Rect) (q : Pt) → u ≡ unit_of p → Covers (u ∷ []) q → q ≡ p
+covers_only p u q e (k, r, k_in, k_is, h) =
+    unit_only p q (subst (λ (v : Rect). Has v q) e (only_rect (λ (v : Rect). Has v q) u k r k_in (subst (λ (v : Rect). Has v q) (sym k_is) h)))
+
+covers_self : (p : Pt) (u : Rect) → u ≡ unit_of p → Covers (u ∷ []) p
+covers_self p u e = (0, u, omega arith, refl, subst (λ (v : Rect). Has v p) (sym e) (unit_self p))
+
+unit_range : (p : Pt) (r : Rect) → Has r p → IsRectWithin farthest r → IsRectWithin (farthest + 1) (unit_of p)
+unit_range p r h w = record {
+  left = omega (arith, ints);
+  low = omega (arith, ints);
+  right = let t : unsigned_abs (p.x +ℤ pos 1) ≤ farthest + 1 = omega (arith, ints) in t;
+  high = let t : unsigned_abs (p.y +ℤ pos 1) ≤ farthest + 1 = omega (arith, ints) in t;
+}
+
+-- a square of rectangles within range, as a rectangle
+pub unit_within : (rs : List Rect) (p : Pt) (u : Rect) → AreRectsWithin farthest rs → Covers rs p → u ≡ unit_of p → AreRectsWithin (farthest + 1) (u ∷ [])
+unit_within rs p u within (k, r, k_in, k_is, h) e s (j, j_in, j_is) =
+    let is : u ≡ s = only_rect (λ (v : Rect). v ≡ s) u j s j_in j_is in
+    let r_in : IsRectWithin farthest r = within r (k, k_in, k_is) in
+    subst (λ (v : Rect). IsRectWithin (farthest + 1) v) (sym e ∙ is) (unit_range p r h r_in)
+
+-- the square that a least near one is near
+pub has_partner : (rule : ℕ) (a b : Region) (p : Pt) (u : Rect) → u ≡ unit_of p → IsLeast (near_part rule a b) p → AreNear rule b (Covers (u ∷ []))
+has_partner rule a b p u e least =
+    let near = least.inside.1 in
+    (near.0, p, near.1, covers_self p u e, subst (λ n. n < rule * rule) (d2-sym p near.0) near.2)
+
+pub nearest_pair : (rule : ℕ) (a b : Region) (p t : Pt) (u : Rect) → u ≡ unit_of p → IsLeast (near_part rule a b) p → IsLeast (near_part rule b (Covers (u ∷ []))) t → IsNearestPair rule a b p t
+nearest_pair rule a b p t u e from to =
+    let near = to.inside.1 in
+    let is : near.0 ≡ p = covers_only p u near.0 e near.1 in
+    record {
+      are = record { from = from.inside.0; to = to.inside.0; close = subst (λ n. n < rule * rule) (d2-sym t p) (subst (λ (v : Pt). d2 t v < rule * rule) is near.2) };
+      least = λ r s h. elim (from.first r (h.from, (s, h.to, h.close))) [
+        | inr before ↦ inl before
+        | inl same ↦ inr (same, to.first s (h.to, (p, covers_self p u e, subst (λ n. n < rule * rule) (d2-sym p s) (subst (λ (v : Pt). d2 v s < rule * rule) (sym same) h.close))))
+      ];
+    }

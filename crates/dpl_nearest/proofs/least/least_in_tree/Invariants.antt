@@ -1,0 +1,5 @@
+use Rattle.dpl_nearest.specs.Search.{IsLeastNear, CoversFirst, LeafCovers}
+use Rattle.dpl_nearest.proofs.least.least_in_tree.Given as goal
+
+abbrev pub invariant-loop-r : goal.invariant-loop-r
+invariant-loop-r l = IsLeastNear l.rule (CoversFirst l.r-index l.rects) (LeafCovers l.others) l.best

@@ -1,0 +1,15 @@
+-- The least pair of near squares of two sets.
+use Rattle.std.specs.Prelude.{◌≡◌, ℕ, ◌*◌, ◌<◌, ◌⊎◌}
+use Rattle.dpl_spec.specs.declared.Pt.{Pt}
+use Rattle.dpl_spec.specs.Squares.{Region, Precedes, d2}
+
+-- two squares of the two sets that are near
+pub record AreNearAt (rule : ℕ) (a b : Region) (p q : Pt) : Type 0 where
+  pub from : a p
+  pub to : b q
+  pub close : d2 p q < rule * rule
+
+-- the least pair of near squares, by the first square and then by the second
+pub record IsNearestPair (rule : ℕ) (a b : Region) (p q : Pt) : Type 0 where
+  pub are : AreNearAt rule a b p q
+  pub least : (r s : Pt) → AreNearAt rule a b r s → Precedes p r ⊎ ((p ≡ r) × ((q ≡ s) ⊎ Precedes q s))

@@ -1,0 +1,57 @@
+-- The search for the least square of a set that is near another.
+use Rattle.std.specs.Prelude.{◌≡◌, ℕ, ◌*◌, ◌<◌, ◌⊎◌, ℤ, ◌+ℤ◌, pos, List, Option, Some, None, length, slice_index_or}
+use Rattle.dpl_spec.specs.declared.Pt.{Pt}
+use Rattle.dpl_spec.specs.declared.Rect.{Rect}
+use Rattle.dpl_tree.specs.declared.tree.Node.{Node}
+use Rattle.dpl_tree.specs.Trees.{HasLeaf}
+use Rattle.dpl_spec.specs.Squares.{Region, IsSolidWithin, Has, AreNear, IsLeast, Precedes, d2}
+
+-- the squares of a that are closer than rule to some square of b
+abbrev pub near_part : ℕ → Region → Region → Region
+near_part rule a b p = a p × ((q : Pt) × b q × (d2 p q < rule * rule))
+
+-- the rows of a rectangle below row y, and row y of it
+abbrev pub rows_below : Rect → ℤ → Rect
+rows_below r y = record r { y1 = y }
+
+abbrev pub row_at : Rect → ℤ → Rect
+row_at r y = record r { y0 = y; y1 = y +ℤ pos 1 }
+
+-- the columns left of column x, and column x
+abbrev pub columns_left : Rect → ℤ → Rect
+columns_left r x = record r { x1 = x }
+
+abbrev pub column_at : Rect → ℤ → Rect
+column_at r x = record r { x0 = x; x1 = x +ℤ pos 1 }
+
+-- the rectangle of one square
+abbrev pub unit_of : Pt → Rect
+unit_of p = record { x0 = p.x; y0 = p.y; x1 = p.x +ℤ pos 1; y1 = p.y +ℤ pos 1 }
+
+-- the least square of a set that is near another, if there is one
+abbrev pub IsLeastNear : ℕ → Region → Region → Option Pt → Type 0
+IsLeastNear rule a b None = ¬ AreNear rule a b
+IsLeastNear rule a b (Some p) = IsLeast (near_part rule a b) p
+
+-- new is the first of old and the squares of a that are near b
+pub record IsLowered (rule : ℕ) (a b : Region) (old new : Pt) : Type 0 where
+  pub is : (new ≡ old) ⊎ near_part rule a b new
+  pub before : (new ≡ old) ⊎ Precedes new old
+  pub first : (q : Pt) → near_part rule a b q → (new ≡ q) ⊎ Precedes new q
+
+-- the same, where there may be no old one
+abbrev pub IsImproved : ℕ → Region → Region → Option Pt → Option Pt → Type 0
+IsImproved rule a b None new = IsLeastNear rule a b new
+IsImproved rule a b (Some p) None = ⊥
+IsImproved rule a b (Some p) (Some q) = IsLowered rule a b p q
+
+-- the squares of the first n rectangles
+abbrev pub CoversFirst : ℕ → List Rect → Region
+CoversFirst n rs p = (k : ℕ) × (r : Rect) × (k < n) × (k < length rs) × (slice_index_or rs k r ≡ r) × Has r p
+
+-- the squares of the rectangles of a search tree
+abbrev pub LeafCovers : List Node → Region
+LeafCovers nodes p = (r : Rect) × (k : ℕ) × HasLeaf nodes r k × Has r p
+
+abbrev pub AreLeavesWithin : ℕ → List Node → Type 0
+AreLeavesWithin bound nodes = (r : Rect) (k : ℕ) → HasLeaf nodes r k → IsSolidWithin bound r

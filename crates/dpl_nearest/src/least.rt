@@ -1,0 +1,100 @@
+//! The least square of rectangles that is near others.
+ghost use Rattle.std.specs.Prelude.{◌≡◌, ℕ, ◌⊎◌, ◌+◌, ◌↔◌, IfOk};
+ghost use Rattle.std.specs.List.{All, Contains};
+ghost use Rattle.dpl_spec.specs.Loops.{AreRectsWithin, IsRectWithin, farthest};
+ghost use Rattle.dpl_spec.specs.Slabs.{IsSolid};
+ghost use Rattle.dpl_spec.specs.Squares.{Covers, Has, Precedes};
+ghost use Rattle.dpl_spec.specs.declared.Rect.{Rect};
+ghost use Rattle.dpl_tree.specs.Trees.{HasLeaf};
+ghost use Rattle.dpl_nearest.specs.Search.{AreLeavesWithin, IsLeastNear, LeafCovers, IsLowered, IsImproved};
+
+use crate::rects::least_of;
+use dpl_base::{Pt, Rect};
+use dpl_tree::{Tree, add_items_of};
+use std::alloc::{AllocError, Global};
+
+/// The first of two squares, by row and then by column.
+fn lesser(p: Pt, q: Pt) -> Pt
+    ensures { ((result ≡ p) × (Precedes q p → ⊥)) ⊎ ((result ≡ q) × Precedes q p) }
+{
+    if q.y < p.y {
+        return q;
+    }
+    if p.y < q.y {
+        return p;
+    }
+    if q.x < p.x {
+        return q;
+    }
+    p
+}
+
+/// The first of `p` and the squares of `r` that are near the others.
+fn lowered(p: Pt, r: &Rect, others: &Tree, rule: u32) -> Pt
+    requires solid { IsSolid r.now }
+    requires within { IsRectWithin farthest r.now }
+    requires others { AreLeavesWithin (farthest + 1) others.now }
+    ensures { IsLowered rule (Has r.now) (LeafCovers others.now) p result }
+{
+    if p.y < r.y0 {
+        return p;
+    }
+    match least_of(r, others, rule) {
+        None => p,
+        Some(q) => lesser(p, q),
+    }
+}
+
+/// The first of `best`, if there is one, and the squares of `r` that are near the others.
+fn improved(best: Option<Pt>, r: &Rect, others: &Tree, rule: u32) -> Option<Pt>
+    requires solid { IsSolid r.now }
+    requires within { IsRectWithin farthest r.now }
+    requires others { AreLeavesWithin (farthest + 1) others.now }
+    ensures { IsImproved rule (Has r.now) (LeafCovers others.now) best result }
+{
+    match best {
+        None => least_of(r, others, rule),
+        Some(p) => Some(lowered(p, r, others, rule)),
+    }
+}
+
+/// The least square of rectangles that is near the others.
+fn least_in_tree(rects: &[Rect], others: &Tree, rule: u32) -> Option<Pt>
+    requires solid { All IsSolid rects.now }
+    requires within { AreRectsWithin farthest rects.now }
+    requires others { AreLeavesWithin (farthest + 1) others.now }
+    ensures { IsLeastNear rule (Covers rects.now) (LeafCovers others.now) result }
+{
+    let mut best = None;
+    for r in rects {
+        best = improved(best, r, others, rule);
+    }
+    best
+}
+
+/// A search tree of rectangles.
+fn tree_of(alloc: Global, rects: &[Rect]) -> Result<Tree, AllocError>
+    ensures { IfOk result (λ t. (r : Rect) (k : ℕ) → HasLeaf t r k ↔ ((k ≡ 0) × Contains rects.now r)) }
+{
+    let mut items = Vec::new(alloc);
+    add_items_of(&mut items, rects, 0)?;
+    let tree = Tree::of(alloc, items)?;
+    Ok(tree)
+}
+
+/// The least square of rectangles that is near the others.
+pub(crate) fn least_near(
+    alloc: Global,
+    rects: &[Rect],
+    others: &[Rect],
+    rule: u32,
+) -> Result<Option<Pt>, AllocError>
+    requires solid { All IsSolid rects.now }
+    requires within { AreRectsWithin farthest rects.now }
+    requires others_solid { All IsSolid others.now }
+    requires others_within { AreRectsWithin (farthest + 1) others.now }
+    ensures { IfOk result (λ found. IsLeastNear rule (Covers rects.now) (Covers others.now) found) }
+{
+    let tree = tree_of(alloc, others)?;
+    Ok(least_in_tree(rects, &tree, rule))
+}

@@ -1,0 +1,42 @@
+//! The least pair of near squares of two sets.
+#![tactic(auto)]
+
+mod least;
+mod rects;
+#[cfg(test)]
+mod tests;
+
+ghost use Rattle.std.specs.Prelude.{IfNone, IfOk, IfSome};
+ghost use Rattle.dpl_spec.specs.Loops.{AreRectsWithin, farthest};
+ghost use Rattle.dpl_spec.specs.Slabs.{IsSolid};
+ghost use Rattle.dpl_spec.specs.Squares.{AreNear, Covers};
+ghost use Rattle.dpl_nearest.specs.Nearest.{IsNearestPair};
+ghost use Rattle.std.specs.List.{All};
+
+use crate::least::least_near;
+use crate::rects::unit;
+use dpl_base::{Pt, Rect};
+use std::alloc::{AllocError, Global};
+
+/// The least pair of squares of `a` and `b` that are closer than `rule` database units, by the first square and then by the second, if there is one. The distance of two squares is that of the closed squares, as the crow flies.
+pub fn nearest(
+    alloc: Global,
+    a: &[Rect],
+    b: &[Rect],
+    rule: u32,
+) -> Result<Option<(Pt, Pt)>, AllocError>
+    requires solid_a { All IsSolid a.now }
+    requires solid_b { All IsSolid b.now }
+    requires within_a { AreRectsWithin farthest a.now }
+    requires within_b { AreRectsWithin farthest b.now }
+    ensures none { IfOk result (λ found. IfNone found (¬ AreNear rule (Covers a.now) (Covers b.now))) }
+    ensures some { IfOk result (λ found. IfSome found (λ pair. IsNearestPair rule (Covers a.now) (Covers b.now) pair.0 pair.1)) }
+{
+    let Some(from) = least_near(alloc, a, b, rule)? else {
+        return Ok(None);
+    };
+    let Some(to) = least_near(alloc, b, &[unit(from)], rule)? else {
+        return Ok(None);
+    };
+    Ok(Some((from, to)))
+}

@@ -1,0 +1,4 @@
+pub mod LevelLaws
+pub mod ParentLaws
+pub mod PathLaws
+pub mod ReportLaws

@@ -1,0 +1,88 @@
+//! The odd cycle that is reported for a graph which can't be two-coloured.
+#![tactic(auto)]
+
+mod forest;
+mod level;
+
+ghost use Rattle.std.specs.Prelude.{IfOk, IfNone, IfSome};
+ghost use Rattle.dpl_spec.specs.Graphs.{IsOddCycle, graph_of};
+ghost use Rattle.dpl_spec.specs.Cycle.{IsReported};
+ghost use Rattle.dpl_spec.specs.Summary.{HasOddCycle};
+ghost use Rattle.dpl_graph.specs.Levels.{AreEdgesBelow};
+
+use crate::forest::{Forest, parents_of};
+use crate::level::least_level_edge;
+use dpl_base::{Edge, Id};
+use dpl_graph::levels_of;
+use std::alloc::{AllocError, Global};
+
+/// An odd cycle of the graph of these edges, which join numbers below `n`, if there is one.
+///
+/// Of the components that have one, the one with the least number is taken. Levels are distances from that number, and
+/// the parent of a number is its least neighbour one level lower. Of the edges between two numbers of one level the
+/// least is taken, by its smaller and then by its larger number, and the parents of both are followed until they meet.
+/// The cycle is the number where they meet, down to the smaller one, then the larger one, up to just below the meeting.
+pub fn odd_cycle(alloc: Global, n: Id, edges: &[Edge]) -> Result<Option<Vec<Id>>, AllocError>
+    requires { AreEdgesBelow n edges.now }
+    ensures none { IfOk result (λ found. IfNone found (¬ HasOddCycle (graph_of edges.now))) }
+    ensures reported { IfOk result (λ found. IfSome found (λ cycle. IsReported (graph_of edges.now) cycle.items)) }
+    ensures odd { IfOk result (λ found. IfSome found (λ cycle. IsOddCycle (graph_of edges.now) cycle.items)) }
+{
+    let levels = levels_of(alloc, n, edges)?;
+    let Some((u, v)) = least_level_edge(&levels, edges) else {
+        return Ok(None);
+    };
+    let parents = parents_of(alloc, n, edges, &levels.levels)?;
+    let forest = Forest { levels, parents };
+    let cycle = forest.cycle_through(alloc, u, v)?;
+    Ok(Some(cycle))
+}
+
+#[cfg(test)]
+mod tests {
+    use super::*;
+    use dpl_graph::are_edges_below;
+    use std::test::Fail;
+
+    #[test]
+    fn finds_the_cycle(rt: HostRuntime) -> Result<(), Fail> {
+        let cases: [(Id, &[Edge], &[Id]); 8] = [
+            (
+                5,
+                &[(0, 1), (0, 4), (1, 2), (2, 3), (3, 4)],
+                &[0, 1, 2, 3, 4],
+            ),
+            (5, &[(0, 1), (0, 4), (1, 2), (3, 4)], &[]),
+            (3, &[(0, 1), (0, 2), (1, 2)], &[0, 1, 2]),
+            // the least of three level edges, whatever the order
+            (
+                4,
+                &[(2, 3), (1, 3), (1, 2), (0, 3), (0, 2), (0, 1)],
+                &[0, 1, 2],
+            ),
+            // the least neighbour is the parent, though another would meet sooner
+            (
+                5,
+                &[(0, 1), (0, 2), (1, 3), (2, 3), (2, 4), (3, 4)],
+                &[0, 1, 3, 4, 2],
+            ),
+            // of two components with an odd cycle the one with the least number
+            (
+                8,
+                &[(5, 6), (5, 7), (6, 7), (0, 1), (2, 3), (3, 4), (2, 4)],
+                &[2, 3, 4],
+            ),
+            // the edge that closes it lies far from the root
+            (6, &[(0, 5), (1, 5), (1, 2), (1, 3), (2, 3)], &[1, 2, 3]),
+            (0, &[], &[]),
+        ];
+        for (n, edges, want) in cases {
+            assert!(rt; are_edges_below(n, edges));
+            match odd_cycle(rt.alloc(), n, edges)? {
+                Some(cycle) => assert_eq!(rt; cycle.as_slice(), want),
+                None => assert!(rt; want.is_empty()),
+            }
+        }
+        Ok(())
+    }
+}

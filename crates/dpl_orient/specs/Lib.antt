@@ -1,0 +1,5 @@
+pub mod Masks
+pub mod Rooted
+pub mod Oriented
+pub mod Chart
+pub mod Crossings

@@ -1,0 +1,14 @@
+//! The colours of pieces: which of the two masks each of them goes to.
+#![tactic(auto)]
+
+mod chart;
+mod colouring;
+mod crossing;
+mod mask;
+mod turning;
+
+pub use crate::colouring::{are_sides_below, is_even_below, orient};
+pub use crate::mask::{Colours, Mask};
+
+#[cfg(test)]
+mod tests;

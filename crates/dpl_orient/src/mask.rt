@@ -1,0 +1,62 @@
+//! The two masks, and a colour for each piece.
+ghost use Rattle.std.specs.Prelude.{◌≡◌, ◌<◌, map, length, slice_index_or, true, false};
+ghost use Rattle.dpl_orient.specs.Masks.{is_second};
+
+use dpl_base::Id;
+use std::marker::Model;
+
+/// One of the two masks.
+#[derive(Clone, Copy, Debug, Drop, PartialEq, Eq)]
+pub enum Mask {
+    A,
+    B,
+}
+
+impl Mask {
+    ghost use Rattle.dpl_orient.specs.Masks.{is_second};
+
+    /// The mask of a letter: `false` for mask A.
+    pub fn of(second: bool) -> Mask
+        ensures { is_second result ≡ second }
+    {
+        if second { Mask::B } else { Mask::A }
+    }
+}
+
+/// The mask of each piece, by the piece's number. A contract sees a list of truth values: false is mask A, true mask B.
+#[derive(Debug, Drop)]
+pub struct Colours {
+    masks: Vec<Mask>,
+}
+
+impl Model for Colours {
+    ghost use Rattle.std.specs.Prelude.{List, Bool, map};
+    ghost use Rattle.dpl_orient.specs.Masks.{is_second};
+
+    ghost Value = { List Bool };
+
+    ghost view = { λ c. map is_second c.masks.items };
+}
+
+impl Colours {
+    /// The colours of these masks.
+    pub fn of(masks: Vec<Mask>) -> Colours
+        ensures { result ≡ map is_second masks.items }
+    {
+        Colours { masks }
+    }
+
+    /// The masks, by number of the piece.
+    pub fn items(&self) -> &[Mask]
+        ensures { map is_second result.now ≡ self.now }
+    {
+        self.masks.as_slice()
+    }
+
+    /// The masks, without taking memory.
+    pub fn into_vec(self) -> Vec<Mask>
+        ensures { map is_second result.items ≡ self }
+    {
+        self.masks
+    }
+}

@@ -1,0 +1,5 @@
+pub mod Flats
+pub mod Readings
+pub mod Outcomes
+pub mod Runs
+pub mod Masks

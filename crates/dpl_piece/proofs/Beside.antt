@@ -1,0 +1,92 @@
+-- What the zones leave of a layer goes on beside each of them.
+use Rattle.std.proofs.Common.{◌≡◌, ℕ, ◌<◌, ◌⊎◌, inl, inr, List, [], length, get_or, sym, ◌∙◌, subst, arith}
+use Rattle.std.specs.Prelude.{ℤ, pos, ◌+ℤ◌, ◌-ℤ◌, ◌≤ℤ◌, ◌<ℤ◌}
+use Rattle.std.specs.List.{Contains}
+use Rattle.std.proofs.lemmas.Int.{ints}
+use Rattle.std.proofs.lemmas.List.{get_or_default}
+use Rattle.dpl_spec.specs.declared.Pt.{Pt}
+use Rattle.dpl_spec.specs.declared.Rect.{Rect}
+use Rattle.dpl_spec.specs.declared.Zone.{Zone}
+use Rattle.dpl_spec.specs.Squares.{Region, Covers, Has, Touch, AreTouching}
+use Rattle.dpl_spec.specs.Components.{Linked, here, on, AreComponents}
+use Rattle.dpl_spec.specs.Zones.{at, IsHorizontalZone, IsVerticalZone, IsKeptZone, turned, turned_rect, AreZones, part_at}
+use Rattle.dpl_spec.specs.Pieces.{without}
+use Rattle.dpl_spec.proofs.SquareLaws.{Touch-from_close, Touch-sym}
+use Rattle.dpl_spec.proofs.ComponentLaws.{Linked-trans}
+use Rattle.dpl_spec.proofs.ZoneLaws.{zone-in-feature, beside-in-feature, beside-same}
+use Rattle.dpl_spec.proofs.WholeLaws.{part-unique}
+
+-- a square of some part is one of the set
+pub in-set : (a : Region) (parts : List (List Rect)) (k : ℕ) (p : Pt) → AreComponents a parts → k < length parts → part_at parts k p → a p
+in-set a parts k p c k_in has = (c.together p).0 (k, get_or parts k [], k_in, get_or_default parts k (get_or parts k []) [] k_in, has)
+
+-- each square of the set is one of some part
+pub some-part : (a : Region) (parts : List (List Rect)) (p : Pt) → AreComponents a parts → a p → (k : ℕ) × (k < length parts) × part_at parts k p
+some-part a parts p c in_a =
+    let (k, part, k_in, is, has) = (c.together p).1 in_a in
+    (k, k_in, subst (λ s. Covers s p) (sym is ∙ get_or_default parts k part [] k_in) has)
+
+-- what touches a part is in it
+pub closed : (a : Region) (parts : List (List Rect)) (k : ℕ) (p q : Pt) → AreComponents a parts → k < length parts → a p → part_at parts k q → Touch p q → part_at parts k p
+closed a parts k p q c k_in in_a has touch =
+    let whole = c.whole k [] k_in in
+    let linked : Linked a whole.0 q = (whole.2 q).0 has in
+    (whole.2 p).1 (Linked-trans a linked (on (in-set a parts k q c k_in has) (Touch-sym p q touch) (here in_a)))
+
+module _ (rule overlap : ℕ) (layer : Region) (features : List (List Rect)) (zones : List Zone) (c : AreComponents layer features) (zs : AreZones rule overlap layer features zones) where
+  pub kept : (z : Zone) → Contains zones z → (z.feature < length features) × IsKeptZone rule overlap layer (part_at features z.feature) z.rect
+  kept z z_in = (zs.exactly z).0 z_in
+
+  pub kept-inside : (f : Region) (r : Rect) (p : Pt) → IsKeptZone rule overlap layer f r → Has r p → f p
+  kept-inside f r p (inl h) has = zone-in-feature rule layer f overlap r p h has
+  kept-inside f r p (inr (v, apart)) has =
+      zone-in-feature rule (turned layer) (turned f) overlap (turned_rect r) (at p.y p.x) v (record { left = has.low; right = has.high; low = has.left; high = has.right })
+
+  -- a zone with a square of a feature is a zone of that feature
+  zone-of : (w : Zone) (k : ℕ) (p : Pt) → Contains zones w → k < length features → part_at features k p → Has w.rect p → IsKeptZone rule overlap layer (part_at features k) w.rect
+  zone-of w k p w_in k_in in_k has =
+      let (m_in, kept_m) = kept w w_in in
+      let same : w.feature ≡ k = part-unique layer features w.feature k p c m_in k_in (kept-inside (part_at features w.feature) w.rect p kept_m has) in_k in
+      subst (λ n. IsKeptZone rule overlap layer (part_at features n) w.rect) same kept_m
+
+  module _ (z : Zone) (z_in : Contains zones z) where
+    pub feature_in : z.feature < length features
+    feature_in = (kept z z_in).0
+
+    -- beside a horizontal zone, in its rows, the rest goes on
+    pub rest-across : (h : IsHorizontalZone rule overlap layer (part_at features z.feature) z.rect) (x y : ℤ) → ((x +ℤ pos 1 ≡ z.rect.x0) ⊎ (x ≡ z.rect.x1)) → z.rect.x0 <ℤ z.rect.x1 → z.rect.y0 ≤ℤ y → y <ℤ z.rect.y1 → without layer zones (at x y)
+    rest-across h x y side wide from below =
+        let left : z.rect.x0 ≤ℤ (x +ℤ pos 1) = elim side [ inl e ↦ omega (arith, ints, e) | inr e ↦ omega (arith, ints, e, wide) ] in
+        let right : x ≤ℤ z.rect.x1 = elim side [ inl e ↦ omega (arith, ints, e, wide) | inr e ↦ omega (arith, ints, e) ] in
+        let in_f = beside-in-feature rule layer (part_at features z.feature) overlap z.rect h x y left right from below in (
+          in-set layer features z.feature (at x y) c feature_in in_f,
+          λ (n, w, n_in, n_is, has). elim (zone-of w z.feature (at x y) (n, n_in, n_is) feature_in in_f has) [
+            | inl k ↦ (let same : z.rect ≡ w.rect = beside-same rule layer (part_at features z.feature) overlap z.rect w.rect h k x y left right from below has in
+                let mine : Has z.rect (at x y) = subst (λ r. Has r (at x y)) (sym same) has in
+                elim side [ inl e ↦ omega (arith, ints, e, mine.left) | inr e ↦ omega (arith, ints, e, mine.right) ])
+            | inr (v, apart) ↦ apart z.rect h
+                (elim side [
+                  | inl e ↦ (at z.rect.x0 y, at x y, record { left = omega (arith, ints); right = wide; low = from; high = below }, has, Touch-from_close (at z.rect.x0 y) (at x y) (omega (arith, ints, e)) (omega (arith, ints, e)) (omega (arith, ints)) (omega (arith, ints)))
+                  | inr e ↦ (at (z.rect.x1 -ℤ pos 1) y, at x y, record { left = omega (arith, ints, wide); right = omega (arith, ints); low = from; high = below }, has, Touch-from_close (at (z.rect.x1 -ℤ pos 1) y) (at x y) (omega (arith, ints, e)) (omega (arith, ints, e)) (omega (arith, ints)) (omega (arith, ints)))
+                ])
+          ],
+        )
+
+    -- beside a vertical zone, in its columns, the rest goes on
+    pub rest-up : (h : IsVerticalZone rule overlap layer (part_at features z.feature) z.rect) (none : (r : Rect) → IsHorizontalZone rule overlap layer (part_at features z.feature) r → ¬ AreTouching (Has r) (Has z.rect)) (x y : ℤ) → ((y +ℤ pos 1 ≡ z.rect.y0) ⊎ (y ≡ z.rect.y1)) → z.rect.y0 <ℤ z.rect.y1 → z.rect.x0 ≤ℤ x → x <ℤ z.rect.x1 → without layer zones (at x y)
+    rest-up h none x y side tall from below =
+        let low : z.rect.y0 ≤ℤ (y +ℤ pos 1) = elim side [ inl e ↦ omega (arith, ints, e) | inr e ↦ omega (arith, ints, e, tall) ] in
+        let high : y ≤ℤ z.rect.y1 = elim side [ inl e ↦ omega (arith, ints, e, tall) | inr e ↦ omega (arith, ints, e) ] in
+        let in_f = beside-in-feature rule (turned layer) (turned (part_at features z.feature)) overlap (turned_rect z.rect) h y x low high from below in (
+          in-set layer features z.feature (at x y) c feature_in in_f,
+          λ (n, w, n_in, n_is, has). elim (zone-of w z.feature (at x y) (n, n_in, n_is) feature_in in_f has) [
+            | inl k ↦ none w.rect k
+                (elim side [
+                  | inl e ↦ (at x y, at x z.rect.y0, has, record { left = from; right = below; low = omega (arith, ints); high = tall }, Touch-from_close (at x y) (at x z.rect.y0) (omega (arith, ints)) (omega (arith, ints)) (omega (arith, ints, e)) (omega (arith, ints, e)))
+                  | inr e ↦ (at x y, at x (z.rect.y1 -ℤ pos 1), has, record { left = from; right = below; low = omega (arith, ints, tall); high = omega (arith, ints) }, Touch-from_close (at x y) (at x (z.rect.y1 -ℤ pos 1)) (omega (arith, ints)) (omega (arith, ints)) (omega (arith, ints, e)) (omega (arith, ints, e)))
+                ])
+            | inr (v, apart) ↦ (let same : turned_rect z.rect ≡ turned_rect w.rect = beside-same rule (turned layer) (turned (part_at features z.feature)) overlap (turned_rect z.rect) (turned_rect w.rect) h v y x low high from below (record { left = has.low; right = has.high; low = has.left; high = has.right }) in
+                let mine : Has (turned_rect z.rect) (at y x) = subst (λ r. Has r (at y x)) (sym same) (record { left = has.low; right = has.high; low = has.left; high = has.right }) in
+                elim side [ inl e ↦ omega (arith, ints, e, mine.left) | inr e ↦ omega (arith, ints, e, mine.right) ])
+          ],
+        )

@@ -1,0 +1,98 @@
+-- What the cut of features at their zones gives.
+use Rattle.std.proofs.Common.{◌≡◌, ◌≢◌, ℕ, ◌<◌, List, [], length, get_or, sym, ◌∙◌, subst}
+use Rattle.std.specs.Prelude.{pos}
+use Rattle.std.specs.List.{All, AllZip}
+use Rattle.std.proofs.lemmas.List.{get_or_default}
+use Rattle.dpl_spec.specs.declared.Pt.{Pt}
+use Rattle.dpl_spec.specs.declared.Rect.{Rect}
+use Rattle.dpl_spec.specs.declared.Zone.{Zone}
+use Rattle.dpl_spec.specs.Squares.{Region, Covers, IsLeast, IsSolidWithin}
+use Rattle.dpl_spec.specs.Slabs.{AreSlabsOf}
+use Rattle.dpl_spec.specs.Loops.{farthest, AreRectsWithin}
+use Rattle.dpl_spec.specs.Components.{here, AreComponents}
+use Rattle.dpl_spec.specs.Pieces.{without, AreSides, IsOwner}
+use Rattle.dpl_spec.proofs.Ordered.{Contains-nil}
+use Rattle.dpl_spec.proofs.SquareLaws.{SameSquares-sym}
+use Rattle.dpl_spec.proofs.SlabLaws.{member-Covers}
+use Rattle.dpl_slabs.specs.Parts.{AreParts, union_of}
+use Rattle.dpl_piece.specs.Cutting.{cut_pieces, AreMatched, AreFeatures, AreTheirZones, AreTheirPieces}
+use Rattle.dpl_piece.specs.Corners.{StandBeside}
+use Rattle.dpl_piece.specs.Owners.{AreSidesKnown, AreOwnersBy}
+use Rattle.dpl_piece.proofs.CornerLaws.{zip-length, zip-at}
+use Rattle.dpl_piece.proofs.Regions.{components-same, without-same}
+use Rattle.dpl_piece.proofs.Stands.{stand, zone-within}
+use Rattle.dpl_piece.proofs.Whole.{sided, owned}
+
+-- a component has some square
+pub some-square : (a : Region) (parts : List (List Rect)) → AreComponents a parts → All (λ part. part ≢ []) parts
+some-square a parts c k d k_in empty =
+    let whole = c.whole k d k_in in
+    let covered : Covers (get_or parts k d) whole.0 = (whole.2 whole.0).1 (here whole.1) in
+    let found = member-Covers [] whole.0 (subst (λ s. Covers s whole.0) empty covered) in
+    Contains-nil found.0 found.1
+
+module _ (features : List (List Rect)) (zones : List Zone) (given : AreFeatures features) (theirs : AreTheirZones features zones) where
+  comps : AreComponents (union_of features) features
+  comps = let (layer, c) = given in components-same (Covers layer) (union_of features) features (SameSquares-sym _ _ c.together) c
+
+  pub zones-within : All (AreRectsWithin farthest) features → All (λ z. IsSolidWithin farthest z.rect) zones
+  zones-within within k z k_in =
+      let (rule, overlap, some, zs) = theirs in
+      zone-within rule overlap (union_of features) features zones some comps zs (get_or zones k z) (k, k_in, get_or_default zones k (get_or zones k z) z k_in) within
+
+  pub features-some : All (λ part. part ≢ []) features
+  features-some = some-square (union_of features) features comps
+
+  module _ (rest : List Rect) (pieces : List (List Rect)) (left : AreSlabsOf (without (union_of features) zones) rest) (cut : AreComponents (Covers rest) pieces) where
+    ps : AreComponents (without (union_of features) zones) pieces
+    ps = components-same (Covers rest) (without (union_of features) zones) pieces left.covers cut
+
+    pub pieces-some : All (λ part. part ≢ []) pieces
+    pieces-some = some-square (Covers rest) pieces cut
+
+    pub stands : All (λ z. (side : ℕ × ℕ) × StandBeside pieces z side) zones
+    stands k z k_in =
+        let (rule, overlap, some, zs) = theirs in
+        stand rule overlap (union_of features) features pieces zones some comps zs ps (get_or zones k z) (k, k_in, get_or_default zones k (get_or zones k z) z k_in)
+
+    module _ (sides : List (ℕ × ℕ)) (stand_so : AllZip (StandBeside pieces) zones sides) where
+      all-sided : AllZip (AreSides features pieces) zones sides
+      all-sided =
+          let (rule, overlap, some, zs) = theirs in
+          sided rule overlap (union_of features) features pieces zones some comps zs ps sides stand_so
+
+      pub sides-each : length zones ≡ length sides
+      sides-each = zip-length (StandBeside pieces) zones sides stand_so
+
+      pub sides-known : AreSidesKnown (length pieces) sides
+      sides-known k d k_in =
+          let zone : Zone = record { rect = record { x0 = pos 0; y0 = pos 0; x1 = pos 0; y1 = pos 0 }; feature = 0 } in
+          let s : AreSides features pieces (get_or zones k zone) (get_or sides k d) = zip-at (AreSides features pieces) zones sides k zone d all-sided (subst (λ n. k < n) (sym sides-each) k_in) in
+          s.known
+
+      module _ (keys : List Pt) (owners : List ℕ) (keyed : AllZip (λ piece key. IsLeast (Covers piece) key) pieces keys) (by : AreOwnersBy features keys zones sides owners) where
+        all-owned : AllZip (IsOwner features) pieces owners
+        all-owned =
+            let (rule, overlap, some, zs) = theirs in
+            owned rule overlap (union_of features) features pieces zones some comps zs ps sides stand_so keys owners keyed by
+
+        pub their-pieces : AreTheirPieces features zones (cut_pieces pieces owners keys zones sides)
+        their-pieces layer c =
+            record {
+              components = components-same (without (union_of features) zones) (without (Covers layer) zones) pieces (without-same (union_of features) (Covers layer) zones c.together) ps;
+              owned = all-owned;
+              keyed = keyed;
+              sided = all-sided;
+            }
+
+        pub matched : AreParts pieces → All (AreRectsWithin farthest) features → AreMatched (cut_pieces pieces owners keys zones sides)
+        matched parts within =
+            let long : length pieces ≡ length keys = zip-length (λ piece key. IsLeast (Covers piece) key) pieces keys keyed in
+            record {
+              parts = parts;
+              owners = by.each ∙ sym long;
+              keys = sym long;
+              sides = sym sides-each;
+              known = sides-known;
+              zones = zones-within within;
+            }

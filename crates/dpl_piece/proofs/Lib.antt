@@ -1,0 +1,9 @@
+pub mod Orders
+pub mod CornerLaws
+pub mod Beside
+pub mod Stands
+pub mod Rests
+pub mod OwnerLaws
+pub mod Regions
+pub mod Whole
+pub mod Cuts

@@ -1,0 +1,92 @@
+//! The pieces of a layer.
+ghost use Rattle.std.specs.Prelude.{◌≡◌, ◌<◌, length};
+ghost use Rattle.std.specs.List.{All};
+ghost use Rattle.dpl_spec.specs.Squares.{IsSolidWithin};
+ghost use Rattle.dpl_spec.specs.Loops.{farthest};
+ghost use Rattle.dpl_piece.specs.Cutting.{cut_pieces, AreMatched};
+
+use dpl_base::{Id, Pt, Zone};
+use dpl_slabs::Parts;
+use std::marker::Model;
+
+/// Pieces, numbered from 0 by least square, each with the feature that it lies in and its key, and the zones that cut them, each with the pieces on its two sides.
+#[derive(Drop)]
+pub struct Pieces {
+    parts: Parts,
+    owner: Vec<Id>,
+    keys: Vec<Pt>,
+    zones: Vec<Zone>,
+    sides: Vec<(Id, Id)>,
+}
+
+impl Model for Pieces {
+    ghost use Rattle.dpl_piece.specs.Cutting.{CutPieces, cut_pieces, AreMatched};
+
+    ghost Value = { CutPieces };
+
+    ghost view = { λ p. cut_pieces p.parts p.owner.items p.keys.items p.zones.items p.sides.items };
+
+    ghost invariant = { λ p. AreMatched (cut_pieces p.parts p.owner.items p.keys.items p.zones.items p.sides.items) };
+}
+
+impl Pieces {
+    /// Pieces with their owners and keys, and zones with their sides.
+    pub(crate) fn of(
+        parts: Parts,
+        owner: Vec<Id>,
+        keys: Vec<Pt>,
+        zones: Vec<Zone>,
+        sides: Vec<(Id, Id)>,
+    ) -> Pieces
+        requires { AreMatched (cut_pieces parts owner.items keys.items zones.items sides.items) }
+        ensures { result ≡ cut_pieces parts owner.items keys.items zones.items sides.items }
+    {
+        Pieces {
+            parts,
+            owner,
+            keys,
+            zones,
+            sides,
+        }
+    }
+
+    /// The squares of each piece.
+    pub fn parts(&self) -> &Parts
+        ensures { result.now ≡ self.now.parts }
+    {
+        &self.parts
+    }
+
+    /// The number of the feature that each piece lies in.
+    pub fn owner(&self) -> &[Id]
+        ensures value { result.now ≡ self.now.owners }
+        ensures each { length self.now.owners ≡ length self.now.parts }
+    {
+        self.owner.as_slice()
+    }
+
+    /// The least square of each piece.
+    pub fn keys(&self) -> &[Pt]
+        ensures value { result.now ≡ self.now.keys }
+        ensures each { length self.now.keys ≡ length self.now.parts }
+    {
+        self.keys.as_slice()
+    }
+
+    /// The zones.
+    pub fn zones(&self) -> &[Zone]
+        ensures value { result.now ≡ self.now.zones }
+        ensures within { All (λ z. IsSolidWithin farthest z.rect) self.now.zones }
+    {
+        self.zones.as_slice()
+    }
+
+    /// The numbers of the pieces on the two sides of each zone, the left or lower one first.
+    pub fn sides(&self) -> &[(Id, Id)]
+        ensures value { result.now ≡ self.now.sides }
+        ensures each { length self.now.sides ≡ length self.now.zones }
+        ensures known { All (λ side. (side.0 < length self.now.parts) × (side.1 < length self.now.parts)) self.now.sides }
+    {
+        self.sides.as_slice()
+    }
+}

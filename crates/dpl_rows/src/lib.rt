@@ -1,0 +1,17 @@
+//! Worked layouts, from file to file: what the whole program answers to them.
+#![tactic(auto)]
+
+#[cfg(test)]
+mod faults;
+#[cfg(test)]
+mod hierarchy;
+#[cfg(test)]
+mod layouts;
+#[cfg(test)]
+mod outside;
+#[cfg(test)]
+mod rectangles;
+#[cfg(test)]
+mod shapes;
+#[cfg(test)]
+mod trial;

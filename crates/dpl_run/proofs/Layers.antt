@@ -1,0 +1,36 @@
+-- The layer of a library, and the records before its top's elements.
+use Rattle.std.proofs.Common.{◌≡◌, ◌∙◌, ◌<◌, ◌++◌, inl, inr, ap, sym, arith, append_assoc, List, ℕ, Option, Some, None, length}
+use Rattle.std.specs.Prelude.{IfSome, ◌↔◌, slice_get}
+use Rattle.std.specs.Option.{option_map}
+use Rattle.std.proofs.lemmas.Option.{slice_get_cases}
+use Rattle.dpl_spec.specs.declared.Pt.{Pt}
+use Rattle.dpl_spec.specs.declared.Rect.{Rect}
+use Rattle.dpl_spec.specs.Squares.{Region}
+use Rattle.dpl_spec.specs.Slabs.{AreSlabsOf}
+use Rattle.dpl_spec.proofs.SquareLaws.{SameSquares-trans}
+use Rattle.dpl_format.specs.Tree.{Frame, Library, Structure, frame_of}
+use Rattle.dpl_run.specs.Reading.{frame_bytes, front_of}
+
+-- six parts put one behind another
+six_parts : (a b c d e f : List ℕ) → ((((a ++ b) ++ c) ++ d) ++ e) ++ f ≡ a ++ (b ++ (c ++ (d ++ (e ++ f))))
+six_parts a b c d e f = simp append_assoc
+
+pub six_puts : (s1 s2 s3 s4 s5 s6 a b c d e f : List ℕ) → s1 ≡ a → s2 ≡ s1 ++ b → s3 ≡ s2 ++ c → s4 ≡ s3 ++ d → s5 ≡ s4 ++ e → s6 ≡ s5 ++ f → s6 ≡ a ++ (b ++ (c ++ (d ++ (e ++ f))))
+six_puts s1 s2 s3 s4 s5 s6 a b c d e f p q r s t u =
+    u ∙ ap (λ x. x ++ f) (t ∙ ap (λ x. x ++ e) (s ∙ ap (λ x. x ++ d) (r ∙ ap (λ x. x ++ c) (q ∙ ap (λ x. x ++ b) p)))) ∙ six_parts a b c d e f
+
+found : (lib : Library) (o : Option Structure) (s : Structure) (f : Frame) (bytes : List ℕ) → o ≡ Some s → IfSome o (λ t. f ≡ frame_of lib t) → bytes ≡ frame_bytes f
+    → option_map (λ t. frame_bytes (frame_of lib t)) o ≡ Some bytes
+found lib None s f bytes is h e = cc
+found lib (Some t) s f bytes is h e = ap Some (ap frame_bytes (sym h) ∙ sym e)
+
+pub fronted : (lib : Library) (top : ℕ) (f : Frame) (bytes : List ℕ) → top < length lib.structures → IfSome (slice_get lib.structures top) (λ s. f ≡ frame_of lib s) → bytes ≡ frame_bytes f
+    → front_of lib top ≡ Some bytes
+fronted lib top f bytes within h e = elim (slice_get_cases lib.structures top).1 [
+  | inl there ↦ found lib (slice_get lib.structures top) there.0 f bytes there.2 h e
+  | inr past ↦ absurd (omega (arith, within, past.0))
+]
+
+-- slabs of the same squares
+pub slabs_same : (a b : Region) (rs : List Rect) → AreSlabsOf a rs → ((p : Pt) → a p ↔ b p) → AreSlabsOf b rs
+slabs_same a b rs s same = record { canonical = s.canonical; covers = SameSquares-trans _ _ _ s.covers same }

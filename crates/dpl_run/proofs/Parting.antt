@@ -1,0 +1,102 @@
+-- A run that is done has parted its layer.
+use Rattle.std.proofs.Common.{◌≡◌, ◌∙◌, ap, sym, refl, subst, inl, inr, List, [], ◌∷◌, ℕ, Option, Some, None, map}
+use Rattle.std.specs.FinMap as files
+use Rattle.clap.specs.Walk.{Text}
+use Rattle.dpl_host.specs.Outside.{Outside}
+use Rattle.dpl_spec.specs.declared.Rect.{Rect}
+use Rattle.dpl_spec.specs.declared.Zone.{Zone}
+use Rattle.dpl_spec.specs.Squares.{Covers}
+use Rattle.dpl_spec.specs.Decomposition.{Cut, IsCut}
+use Rattle.dpl_laws.specs.Masks.{OverlapAt, rect_at, rects_of}
+use Rattle.dpl_laws.proofs.Cover.{cover}
+use Rattle.dpl_laws.proofs.Apart.{far-on-a, far-on-b}
+use Rattle.dpl_laws.proofs.Overlap.{overlap-at}
+use Rattle.dpl_words.specs.Meaning.{AsksSplit, RequestValues, SplitValues, request_of}
+use Rattle.dpl_run.specs.Flat.{Clashes, IsPaintedCut, Painted, Paints, stitch_line}
+use Rattle.dpl_run.specs.Split.{Decides, Decision, IsDecision, IsSplitOf, Refuses, clash, painting, plan_of, refusal}
+use Rattle.dpl_run.specs.Program.{IsOutcome, IsPlan}
+use Rattle.dpl_run.specs.Outcome.{Outcome, says, silent}
+use Rattle.dpl_run.specs.Texts.{usage_line}
+use Rattle.dpl_run.specs.Parted.{ArePartingMasks, IsParted, IsPartedBy, WritesParting, rects_of_lines}
+use Rattle.dpl_run.specs.declared.status.Status.{Status}
+use Rattle.dpl_run.specs.declared.status.Status.TheVariants.{Done, Conflict, Refused, Usage, ReadFault}
+
+-- the rectangles of stitch lines are those of their zones
+line_rects : (zones : List Zone) (sides : List (ℕ × ℕ)) (ks : List ℕ) → rects_of_lines (map (stitch_line zones sides) ks) ≡ rects_of zones ks
+line_rects zones sides [] = refl
+line_rects zones sides (k ∷ ks) = ap (λ (rs : List Rect). rect_at zones k ∷ rs) (line_rects zones sides ks)
+
+pub painted_parts : (rule overlap : ℕ) (layer : List Rect) (cut : Cut) (p : Painted) → IsCut rule overlap (Covers layer) cut → IsPaintedCut rule overlap cut p
+    → ArePartingMasks rule layer (rects_of_lines p.stitches) p.a p.b
+painted_parts rule overlap layer cut p is painted =
+    let m = painted.masks in
+    let are = painted.are_masks in
+    subst (λ (q : Painted). ArePartingMasks rule layer (rects_of_lines q.stitches) q.a q.b) (sym painted.is) (record {
+      features = cut.features;
+      are_features = is.features;
+      cover = cover rule overlap (Covers layer) cut m is are;
+      apart_on_a = far-on-a rule overlap (Covers layer) cut m is are painted.even;
+      apart_on_b = far-on-b rule overlap (Covers layer) cut m is are painted.even;
+      overlap = subst (λ (ss : List Rect). OverlapAt ss m.a m.b) (sym (line_rects cut.zones cut.sides m.stitches)) (overlap-at rule overlap (Covers layer) cut m is are);
+    })
+
+paints : (v : SplitValues) (bytes front : List ℕ) (p : Painted) (x : Outcome) → IsDecision v bytes (Decides front (Paints p)) → x ≡ painting v front p → WritesParting v bytes x.writes
+paints v bytes front p x d is =
+    let (layer, reading, (cut, is_cut, painted)) = d in
+    elim reading [
+      | inl large ↦ cc
+      | inr read ↦ (let (lib, holds, l) = read.1 in record {
+        lib = lib;
+        holds = holds;
+        top = l.top;
+        is_top = l.is_top;
+        layer = layer;
+        squares = l.squares;
+        a = p.a;
+        b = p.b;
+        head = p.head;
+        pieces = p.pieces;
+        stitches = p.stitches;
+        parting = painted_parts v.rule v.overlap layer cut p is_cut painted;
+        front = front;
+        before = l.before;
+        are = ap (λ (y : Outcome). y.writes) is;
+      })
+    ]
+
+-- other answers than that it is done
+refused_not : Refused ≡ Done → ⊥
+refused_not e = cc
+
+conflict_not : Conflict ≡ Done → ⊥
+conflict_not e = cc
+
+read_not : ReadFault ≡ Done → ⊥
+read_not e = cc
+
+usage_not : Usage ≡ Done → ⊥
+usage_not e = cc
+
+status_as : (x y : Outcome) (s : Status) → x ≡ y → y.status ≡ s → x.status ≡ Done → s ≡ Done
+status_as x y s is named done = sym named ∙ sym (ap (λ (z : Outcome). z.status) is) ∙ done
+
+decided_done : (v : SplitValues) (bytes : List ℕ) (d : Decision) (x : Outcome) → IsDecision v bytes d → x ≡ plan_of v d → x.status ≡ Done → WritesParting v bytes x.writes
+decided_done v bytes (Refuses name at) x d is done = absurd (refused_not (status_as x (refusal v name at) Refused is refl done))
+decided_done v bytes (Decides front (Clashes c)) x d is done = absurd (conflict_not (status_as x (clash v c) Conflict is refl done))
+decided_done v bytes (Decides front (Paints p)) x d is done = paints v bytes front p x d is
+
+file_done : (v : SplitValues) (file : Option (List ℕ)) (x : Outcome) → IsSplitOf v file x → x.status ≡ Done → (bytes : List ℕ) × (file ≡ Some bytes) × WritesParting v bytes x.writes
+file_done v None x is done = absurd (read_not (status_as x (silent ReadFault) ReadFault is refl done))
+file_done v (Some bytes) x is done = (bytes, refl, decided_done v bytes is.0 x is.1 is.2 done)
+
+plan_done : (request : Option RequestValues) (o : Outside) (x : Outcome) → IsPlan request o.files x → x.status ≡ Done → IsPartedBy request o x.writes
+plan_done None o x is done = absurd (usage_not (status_as x (says Usage usage_line) Usage is refl done))
+plan_done (Some (AsksSplit v)) o x is done =
+    let (bytes, there, parted) = file_done v (files.get o.files v.input) x is done in
+    record { values = v; asked = refl; bytes = bytes; read = there; parted = parted }
+
+-- an outcome that is done
+pub outcome_parted : (words : List Text) (status : Status) (old new : Option Outside) → IsOutcome words status old new → status ≡ Done → IsParted words old new
+outcome_parted words status old new outcome done =
+    let (o, shows, (x, plan, same, is)) = outcome in
+    (o, shows, (x, plan_done (request_of words) o x plan (sym same ∙ done), is))

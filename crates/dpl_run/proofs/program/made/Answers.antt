@@ -1,0 +1,15 @@
+use Rattle.std.proofs.Common.{ap}
+use Rattle.std.specs.Prelude.{Err}
+use Rattle.clap.specs.Walk.{texts}
+use Rattle.dpl_words.specs.Meaning.{request_view}
+use Rattle.dpl_run.specs.View.{output_view}
+use Rattle.dpl_run.proofs.Ends.{of_no_words, of_words}
+use Rattle.dpl_run.proofs.Inputs.{usage_made}
+use Rattle.dpl_run.proofs.program.made.Goals as goal
+
+pub returns-in-Ok-output_of-clause-made : goal.returns-in-Ok-output_of-clause-made
+returns-in-Ok-output_of-clause-made g c = of_words (request_view c.in-Ok.request) (texts c.args.words.now) (g.H.Host.told c.args.host.now) (output_view c.in-Ok-output_of.output) c.in-Ok.ensures.read c.in-Ok-output_of.ensures.made
+
+pub returns-in-Ok-usage-clause-made : goal.returns-in-Ok-usage-clause-made
+returns-in-Ok-usage-clause-made g c = of_no_words (texts c.args.words.now) (g.H.Host.told c.args.host.now) (output_view c.in-Ok-usage.output) (c.in-Err-Usage.ensures.usage (ap Err c.in-Err-Usage.field-0-is))
+    (usage_made (g.H.Host.told c.args.host.now) (output_view c.in-Ok-usage.output) c.in-Ok-usage.ensures)

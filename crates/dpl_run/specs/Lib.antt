@@ -1,0 +1,10 @@
+pub mod Outcome
+pub mod Naming
+pub mod Reading
+pub mod Flat
+pub mod Texts
+pub mod Split
+pub mod Program
+pub mod LayerFaults
+pub mod View
+pub mod Parted

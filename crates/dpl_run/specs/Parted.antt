@@ -1,0 +1,68 @@
+-- What a file of masks keeps: the layer is parted between them, features stay apart, and masks overlap at stitches alone.
+use Rattle.std.specs.Prelude.{◌≡◌, ℕ, List, [], ◌∷◌, Option, Some, map, option_map}
+use Rattle.std.specs.FinMap as files
+use Rattle.clap.specs.Walk.{Text}
+use Rattle.dpl_host.specs.Outside.{Outside}
+use Rattle.dpl_spec.specs.declared.Rect.{Rect}
+use Rattle.dpl_spec.specs.Squares.{Covers}
+use Rattle.dpl_spec.specs.Slabs.{AreSlabsOf}
+use Rattle.dpl_spec.specs.Components.{AreComponents}
+use Rattle.dpl_format.specs.Tree.{Library}
+use Rattle.dpl_format.specs.Layout.{Holds}
+use Rattle.dpl_layout.specs.Structures.{IsTop}
+use Rattle.dpl_layout.specs.Placements.{IsInLayer}
+use Rattle.dpl_laws.specs.Masks.{AreCover, KeepsApart, OverlapAt}
+use Rattle.dpl_cert.specs.declared.cert.Cert.TheVariants.{Masks}
+use Rattle.dpl_cert.specs.declared.cert.Head.{Head}
+use Rattle.dpl_cert.specs.declared.cert.PieceLine.{PieceLine}
+use Rattle.dpl_cert.specs.declared.cert.StitchLine.{StitchLine}
+use Rattle.dpl_masks.specs.Bytes.{file_bytes}
+use Rattle.dpl_words.specs.Meaning.{AsksSplit, RequestValues, SplitValues, request_of}
+use Rattle.dpl_run.specs.Reading.{chosen, front_of}
+use Rattle.dpl_run.specs.Split.{certified}
+use Rattle.dpl_run.specs.Outcome.{Outcome, Shows, carried_out}
+
+abbrev pub rects_of_lines : List StitchLine → List Rect
+rects_of_lines lines = map (λ (line : StitchLine). line.rect) lines
+
+-- The masks cover the layer and nothing else, neither has squares of two features that are closer than the rule, and a square is on both exactly where it lies in a stitch.
+pub record ArePartingMasks (rule : ℕ) (layer stitches a b : List Rect) : Type 0 where
+  pub features : List (List Rect)
+  pub are_features : AreComponents (Covers layer) features
+  pub cover : AreCover layer a b
+  pub apart_on_a : KeepsApart rule features a
+  pub apart_on_b : KeepsApart rule features b
+  pub overlap : OverlapAt stitches a b
+
+-- what is written of a file: its layer's masks, and a certificate that lists their stitches
+pub record WritesParting (v : SplitValues) (bytes : List ℕ) (writes : List (Text × List ℕ)) : Type 0 where
+  -- the layer of the library that the file holds
+  pub lib : Library
+  pub holds : Holds bytes lib
+  pub top : ℕ
+  pub is_top : IsTop lib v.top top
+  pub layer : List Rect
+  pub squares : AreSlabsOf (IsInLayer lib top (chosen v)) layer
+  -- its masks, and the lines of their certificate
+  pub a : List Rect
+  pub b : List Rect
+  pub head : Head
+  pub pieces : List PieceLine
+  pub stitches : List StitchLine
+  pub parting : ArePartingMasks v.rule layer (rects_of_lines stitches) a b
+  -- the bytes written
+  pub front : List ℕ
+  pub before : front_of lib top ≡ Some front
+  pub are : writes ≡ (v.output, file_bytes front v.a v.b a b) ∷ (v.certificate, certified (Masks head pieces stitches)) ∷ []
+
+-- what a request writes of the files
+pub record IsPartedBy (request : Option RequestValues) (o : Outside) (writes : List (Text × List ℕ)) : Type 0 where
+  pub values : SplitValues
+  pub asked : request ≡ Some (AsksSplit values)
+  pub bytes : List ℕ
+  pub read : files.get o.files values.input ≡ Some bytes
+  pub parted : WritesParting values bytes writes
+
+-- The words ask for the masks of a file that is there, and they were written.
+abbrev pub IsParted : List Text → Option Outside → Option Outside → Type 0
+IsParted words old new = (o : Outside) × Shows old o × ((x : Outcome) × IsPartedBy (request_of words) o x.writes × (new ≡ option_map (carried_out x) old))

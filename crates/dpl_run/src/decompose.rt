@@ -1,0 +1,138 @@
+//! The decomposition of a layer.
+ghost use Rattle.std.specs.Prelude.{◌≡◌, IfOk, length};
+ghost use Rattle.std.specs.List.{Contains};
+ghost use Rattle.dpl_spec.specs.declared.Pt.{Pt};
+ghost use Rattle.dpl_spec.specs.Graphs.{AreEdges, graph_of};
+ghost use Rattle.dpl_spec.specs.Summary.{HasOddCycle};
+ghost use Rattle.dpl_spec.specs.Decomposition.{conflicts};
+ghost use Rattle.dpl_graph.specs.Levels.{AreEdgesBelow};
+ghost use Rattle.dpl_stars.specs.Sums.{Sums};
+ghost use Rattle.dpl_orient.specs.Oriented.{IsEvenBelow};
+ghost use Rattle.dpl_cert.specs.Grammar.{IsPoint, IsRule};
+ghost use Rattle.dpl_run.specs.Flat.{Fits, FitsClash, FitsPainted, IsClashOfCut, IsFlat, IsFlatCut, IsPaintedCut};
+ghost use Rattle.dpl_run.specs.View.{clash_view, cut_view, flat_view, painted_view};
+
+use crate::cut::{LayerCut, conflicts_of, cut_of, head};
+use crate::decomposed::{Clash, Decomposed, Painted};
+use crate::lines::{piece_lines, place_lines, stitch_lines};
+use crate::near::near_lines;
+use dpl_base::{Edge, Listed};
+use dpl_masks::masks;
+use dpl_odd::odd_cycle;
+use dpl_orient::orient;
+use dpl_slabs::Slabs;
+use dpl_stars::{Joined, stars};
+use std::alloc::{AllocError, Global};
+
+/// The masks of a layer, or an odd cycle of its conflict graph.
+pub(crate) fn decompose(
+    alloc: Global,
+    layer: &Slabs,
+    rule: u32,
+    overlap: u32,
+) -> Result<Decomposed, AllocError>
+    requires rule { IsRule rule }
+    requires overlap { IsRule overlap }
+    ensures flat { IfOk result (λ d. IsFlat rule overlap layer.now (flat_view d)) }
+    ensures fits { IfOk result (λ d. Fits (flat_view d)) }
+{
+    let cut = cut_of(alloc, layer, rule, overlap)?;
+    let decomposed = decompose_cut(alloc, &cut, rule, overlap)?;
+    Ok(decomposed)
+}
+
+/// The masks of a cut layer, or an odd cycle of its conflict graph.
+fn decompose_cut(
+    alloc: Global,
+    cut: &LayerCut,
+    rule: u32,
+    overlap: u32,
+) -> Result<Decomposed, AllocError>
+    requires rule { IsRule rule }
+    requires overlap { IsRule overlap }
+    requires keys { (p : Pt) → Contains cut.now.pieces.keys p → IsPoint p }
+    ensures flat { IfOk result (λ d. IsFlatCut rule overlap (cut_view cut.now) (flat_view d)) }
+    ensures fits { IfOk result (λ d. Fits (flat_view d)) }
+{
+    let edges = conflicts_of(alloc, &cut.pieces, rule)?;
+    let joined = stars(alloc, &edges)?;
+    match &joined {
+        Joined::Stars(_) => {
+            let painted = paint(alloc, cut, &edges, &joined, rule, overlap)?;
+            Ok(Decomposed::Masks(painted))
+        }
+        Joined::Odd => {
+            let clash = clash(alloc, cut, &edges, rule, overlap)?;
+            Ok(Decomposed::Cycle(clash))
+        }
+    }
+}
+
+/// The masks of a cut layer whose conflicts these edges are and `joined` sums up.
+fn paint(
+    alloc: Global,
+    cut: &LayerCut,
+    edges: &[Edge],
+    joined: &Joined,
+    rule: u32,
+    overlap: u32,
+) -> Result<Painted, AllocError>
+    requires rule { IsRule rule }
+    requires overlap { IsRule overlap }
+    requires keys { (p : Pt) → Contains cut.now.pieces.keys p → IsPoint p }
+    requires edges { AreEdges (conflicts rule (cut_view cut.now)) edges.now }
+    requires sums { Sums edges.now joined.now }
+    requires even { IsEvenBelow (length cut.now.pieces.parts) joined.now }
+    ensures painted { IfOk result (λ p. IsPaintedCut rule overlap (cut_view cut.now) (painted_view p)) }
+    ensures fits { IfOk result (λ p. FitsPainted (painted_view p)) }
+{
+    let pieces = &cut.pieces;
+    let count = pieces.keys().len() as u64;
+    let colours = orient(alloc, count, pieces.sides(), joined)?;
+    let masks = masks(alloc, pieces, &colours)?;
+    let lines = piece_lines(alloc, colours.items(), pieces.keys())?;
+    let stitches = stitch_lines(
+        alloc,
+        pieces.zones(),
+        pieces.sides(),
+        masks.stitches.items(),
+    )?;
+    Ok(Painted {
+        a: masks.a,
+        b: masks.b,
+        head: head(cut, rule, overlap),
+        pieces: Listed::of(lines),
+        stitches: Listed::of(stitches),
+    })
+}
+
+/// The reported cycle of a cut layer whose conflicts these edges are.
+fn clash(
+    alloc: Global,
+    cut: &LayerCut,
+    edges: &[Edge],
+    rule: u32,
+    overlap: u32,
+) -> Result<Clash, AllocError>
+    requires rule { IsRule rule }
+    requires overlap { IsRule overlap }
+    requires keys { (p : Pt) → Contains cut.now.pieces.keys p → IsPoint p }
+    requires edges { AreEdges (conflicts rule (cut_view cut.now)) edges.now }
+    requires below { AreEdgesBelow (length cut.now.pieces.parts) edges.now }
+    requires odd { HasOddCycle (graph_of edges.now) }
+    ensures clash { IfOk result (λ x. IsClashOfCut rule overlap (cut_view cut.now) (clash_view x)) }
+    ensures fits { IfOk result (λ x. FitsClash (clash_view x)) }
+{
+    let pieces = &cut.pieces;
+    let count = pieces.keys().len() as u64;
+    let Some(cycle) = odd_cycle(alloc, count, edges)? else {
+        unreachable!()
+    };
+    let places = place_lines(alloc, pieces.keys(), &cycle)?;
+    let near = near_lines(alloc, pieces, &cycle, rule)?;
+    Ok(Clash {
+        head: head(cut, rule, overlap),
+        cycle: Listed::of(places),
+        near: Listed::of(near),
+    })
+}

@@ -1,0 +1,91 @@
+//! The lines of a certificate.
+ghost use Rattle.std.specs.Prelude.{◌≡◌, ◌<◌, ℕ, IfOk, length, map};
+ghost use Rattle.std.specs.List.{All, AllByRecursion, Contains, zip};
+ghost use Rattle.dpl_spec.specs.declared.Pt.{Pt};
+ghost use Rattle.dpl_spec.specs.Loops.{farthest};
+ghost use Rattle.dpl_spec.specs.Squares.{IsSolidWithin};
+ghost use Rattle.dpl_orient.specs.Masks.{is_second};
+ghost use Rattle.dpl_cert.specs.Grammar.{IsNumber, IsPiece, IsPlace, IsPoint, IsStitch};
+ghost use Rattle.dpl_run.specs.Flat.{piece_line, place_line, stitch_line};
+
+use dpl_base::{Id, Pt, Zone};
+use dpl_cert::{PieceLine, PlaceLine, StitchLine};
+use dpl_orient::Mask;
+use std::alloc::{AllocError, Global};
+
+/// A line for each piece: its mask and its least square.
+pub(crate) fn piece_lines(
+    alloc: Global,
+    masks: &[Mask],
+    keys: &[Pt],
+) -> Result<Vec<PieceLine>, AllocError>
+    requires each { length masks.now ≡ length keys.now }
+    requires within { (p : Pt) → Contains keys.now p → IsPoint p }
+    ensures lines { IfOk result (λ v. v.items ≡ map piece_line (zip (map is_second masks.now) keys.now)) }
+    ensures within { IfOk result (λ v. AllByRecursion IsPiece v.items) }
+{
+    let mut lines = Vec::new(alloc);
+    for (i, key) in keys.iter().enumerate() {
+        lines.push(PieceLine {
+            b: is_b(masks[i]),
+            key: *key,
+        })?;
+    }
+    Ok(lines)
+}
+
+fn is_b(mask: Mask) -> bool
+    ensures { result ≡ is_second mask }
+{
+    match mask {
+        Mask::A => false,
+        Mask::B => true,
+    }
+}
+
+/// A line for each stitch: its rectangle and the pieces on its sides.
+pub(crate) fn stitch_lines(
+    alloc: Global,
+    zones: &[Zone],
+    sides: &[(Id, Id)],
+    stitches: &[Id],
+) -> Result<Vec<StitchLine>, AllocError>
+    requires each { length sides.now ≡ length zones.now }
+    requires within { All (λ z. IsSolidWithin farthest z.rect) zones.now }
+    requires numbers { All (λ side. IsNumber side.0 × IsNumber side.1) sides.now }
+    requires known { (k : ℕ) → Contains stitches.now k → k < length sides.now }
+    ensures lines { IfOk result (λ v. v.items ≡ map (stitch_line zones.now sides.now) stitches.now) }
+    ensures within { IfOk result (λ v. AllByRecursion IsStitch v.items) }
+{
+    let mut lines = Vec::new(alloc);
+    for k in stitches {
+        let side = sides[*k as usize];
+        lines.push(StitchLine {
+            rect: zones[*k as usize].rect,
+            p: side.0,
+            q: side.1,
+        })?;
+    }
+    Ok(lines)
+}
+
+/// A line for each piece of a cycle: its number and its least square.
+pub(crate) fn place_lines(
+    alloc: Global,
+    keys: &[Pt],
+    cycle: &[Id],
+) -> Result<Vec<PlaceLine>, AllocError>
+    requires within { (p : Pt) → Contains keys.now p → IsPoint p }
+    requires known { (k : ℕ) → Contains cycle.now k → k < length keys.now }
+    ensures lines { IfOk result (λ v. v.items ≡ map (place_line keys.now) cycle.now) }
+    ensures within { IfOk result (λ v. AllByRecursion IsPlace v.items) }
+{
+    let mut lines = Vec::new(alloc);
+    for piece in cycle {
+        lines.push(PlaceLine {
+            piece: *piece,
+            key: keys[*piece as usize],
+        })?;
+    }
+    Ok(lines)
+}

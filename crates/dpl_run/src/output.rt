@@ -1,0 +1,36 @@
+//! All that a run writes and says, made before the first of it is written.
+ghost use Rattle.std.specs.Prelude.{◌≡◌, ◌≤◌, OnErr, OnOk, option_map};
+ghost use Rattle.dpl_host.specs.Outside.{HasCause};
+ghost use Rattle.dpl_run.specs.Outcome.{IsPartDone, carried_out};
+ghost use Rattle.dpl_run.specs.View.{output_view};
+
+use crate::status::Status;
+use dpl_host::{Failed, Host, say_all, write_all};
+
+/// A file to be written.
+#[derive(Debug, Drop)]
+pub(crate) struct Write<'a> {
+    pub(crate) name: &'a str,
+    pub(crate) bytes: Vec<u8>,
+}
+
+/// All that a run writes and says, and how it ends then.
+#[derive(Debug, Drop)]
+pub(crate) struct Output<'a> {
+    pub(crate) status: Status,
+    pub(crate) writes: Vec<Write<'a>>,
+    pub(crate) line: String,
+}
+
+/// Writes the files in order, and says the text. It takes no memory.
+pub(crate) fn perform<H: Host>(host: &mut H, output: &Output) -> Result<(), Failed>
+    ensures ok { OnOk result (H.told host.new ≡ option_map (carried_out (output_view output.now)) (H.told host.old)) }
+    ensures err { OnErr result (IsPartDone (output_view output.now).writes (output_view output.now).line (H.told host.old) (H.told host.new)) }
+    ensures cause { HasCause (H.write_faults host.old) (H.write_faults host.new) result }
+    ensures others { H.read_faults host.old ≤ H.read_faults host.new }
+{
+    for write in &output.writes {
+        write_all(host, write.name, write.bytes.as_slice())?;
+    }
+    say_all(host, output.line.as_bytes())
+}

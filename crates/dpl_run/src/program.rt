@@ -1,0 +1,109 @@
+//! The whole program over an outside.
+ghost use Rattle.std.specs.Prelude.{◌≡◌, ◌≤◌, ◌⊎◌, IfErr, IfOk, IsErrOf, None, Some, is_some, true};
+ghost use Rattle.clap.specs.Walk.{texts};
+ghost use Rattle.dpl_host.specs.Outside.{Rose};
+ghost use Rattle.dpl_words.specs.Meaning.{request_of, request_view};
+ghost use Rattle.dpl_words.specs.Ranges.{IsInRange};
+ghost use Rattle.dpl_run.specs.Outcome.{IsStill, is_answered, says};
+ghost use Rattle.dpl_run.specs.Parted.{IsParted};
+ghost use Rattle.dpl_run.specs.Program.{IsCutShort, IsMade, IsOutcome};
+ghost use Rattle.dpl_run.specs.Texts.{usage_line as usage_line_of};
+ghost use Rattle.dpl_run.specs.View.{output_view};
+
+use crate::output::{Output, perform};
+use crate::split::split_output;
+use crate::status::Status;
+use crate::texts::usage_line;
+use dpl_host::{Host, ReadFault};
+use dpl_words::{Request, WordsFault, read_words};
+use std::alloc::{AllocError, Global};
+
+/// Does what the words of a command line ask for, by `host`, and answers how the run ended. The first word is the program's name; `USAGE` gives the others.
+///
+/// `split` reads the layout IN (GDSII Stream Format, Release 6, at most 268435456 bytes) and decomposes one layer of its top structure into two masks on which features are at least `--rule` database units apart, with stitches `--overlap` database units long (Kahng, Park, Xu and Yao, ICCAD 2008). It writes the masks to OUT, then their certificate to CERT; where the conflict graph has an odd cycle, or the layout a fault, the certificate alone. Then it says one line. `--tile` and `--workers` change nothing of what is written.
+///
+/// All of it is made before the first byte is written: where memory runs out or the read fails, nothing is written or said. Where a write fails, a front of it was.
+pub fn run<'a, H: Host>(alloc: Global, words: &'a [&'a str], host: &mut H) -> Status
+    // An answer is the one that the definition gives, and all of it was written and said.
+    ensures answer { is_answered result ≡ true → IsOutcome (texts words.entry.now) result (H.told host.old) (H.told host.new) }
+    // Masks that were written part the layer, keep its features apart and overlap at stitches alone.
+    ensures parted { result ≡ Status.Done → IsParted (texts words.entry.now) (H.told host.old) (H.told host.new) }
+    // The words decide alone whether they are a command.
+    ensures usage { result ≡ Status.Usage → request_of (texts words.entry.now) ≡ None }
+    ensures no_other { request_of (texts words.entry.now) ≡ None → (result ≡ Status.Usage) ⊎ (result ≡ Status.WriteFault) ⊎ (result ≡ Status.NoMemory) }
+    // A read or a write failed.
+    ensures read { result ≡ Status.ReadFault → Rose (H.read_faults host.old) (H.read_faults host.new) }
+    ensures write { result ≡ Status.WriteFault → Rose (H.write_faults host.old) (H.write_faults host.new) }
+    // What these leave.
+    ensures unread { result ≡ Status.ReadFault → H.told host.new ≡ H.told host.old }
+    ensures memory { result ≡ Status.NoMemory → H.told host.new ≡ H.told host.old }
+    ensures cut { result ≡ Status.WriteFault → IsCutShort (texts words.entry.now) (H.told host.old) (H.told host.new) }
+    // Where no call of the host failed, there is no other answer, but for want of memory.
+    ensures complete { IsStill (H.read_faults host.old) (H.read_faults host.new) → IsStill (H.write_faults host.old) (H.write_faults host.new)
+        → (result ≡ Status.NoMemory) ⊎ IsOutcome (texts words.entry.now) result (H.told host.old) (H.told host.new) }
+{
+    match made(alloc, words, host) {
+        Ok(output) => match perform(host, &output) {
+            Ok(()) => output.status,
+            Err(_) => Status::WriteFault,
+        },
+        Err(status) => status,
+    }
+}
+
+/// What is made of the words, or how the run ends without.
+fn made<'a, H: Host>(
+    alloc: Global,
+    words: &'a [&'a str],
+    host: &mut H,
+) -> Result<Output<'a>, Status>
+    ensures made { IfOk result (λ x. IsMade (request_of (texts words.entry.now)) (H.told host.old) (output_view x)) }
+    ensures only { IfErr result (λ s. (s ≡ Status.ReadFault) ⊎ (s ≡ Status.NoMemory)) }
+    ensures read { IsErrOf result Status.ReadFault → Rose (H.read_faults host.old) (H.read_faults host.new) }
+    ensures asked { IsErrOf result Status.ReadFault → is_some (request_of (texts words.entry.now)) ≡ true }
+    ensures same { H.told host.new ≡ H.told host.old }
+    ensures later { (H.read_faults host.old ≤ H.read_faults host.new) × (H.write_faults host.old ≤ H.write_faults host.new) }
+{
+    match read_words(alloc, words) {
+        Ok(request) => match output_of(alloc, &request, host) {
+            Ok(output) => Ok(output),
+            Err(ReadFault::Failed) => Err(Status::ReadFault),
+            Err(_) => Err(Status::NoMemory),
+        },
+        Err(WordsFault::Usage) => match usage(alloc) {
+            Ok(output) => Ok(output),
+            Err(_) => Err(Status::NoMemory),
+        },
+        Err(WordsFault::NoMemory) => Err(Status::NoMemory),
+    }
+}
+
+/// What is made of a request.
+fn output_of<'a, H: Host>(
+    alloc: Global,
+    request: &Request<'a>,
+    host: &mut H,
+) -> Result<Output<'a>, ReadFault>
+    requires { IsInRange (request_view request.now) }
+    ensures made { IfOk result (λ x. IsMade (Some (request_view request.now)) (H.told host.old) (output_view x)) }
+    ensures failed { IsErrOf result ReadFault.Failed → Rose (H.read_faults host.old) (H.read_faults host.new) }
+    ensures not_large { IsErrOf result ReadFault.TooLarge → ⊥ }
+    ensures same { H.told host.new ≡ H.told host.old }
+    ensures later { (H.read_faults host.old ≤ H.read_faults host.new) × (H.write_faults host.old ≤ H.write_faults host.new) }
+{
+    match request {
+        Request::Split(options) => split_output(alloc, options, host),
+    }
+}
+
+/// How the command line is written.
+fn usage<'a>(alloc: Global) -> Result<Output<'a>, AllocError>
+    ensures { IfOk result (λ x. output_view x ≡ says Status.Usage usage_line_of) }
+{
+    let line = usage_line(alloc)?;
+    Ok(Output {
+        status: Status::Usage,
+        writes: Vec::new(alloc),
+        line,
+    })
+}

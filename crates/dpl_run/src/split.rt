@@ -1,0 +1,208 @@
+//! What `split` makes of a file, before anything is written.
+ghost use Rattle.std.specs.Prelude.{◌≡◌, ◌≤◌, IfOk, IsErrOf, Some, length, option_map};
+ghost use Rattle.dpl_host.specs.Outside.{Rose};
+ghost use Rattle.dpl_words.specs.Meaning.{AsksSplit, split_view};
+ghost use Rattle.dpl_words.specs.Ranges.{AreInRange};
+ghost use Rattle.dpl_cert.specs.Grammar.{IsCert};
+ghost use Rattle.dpl_run.specs.Flat.{Fits, FitsClash, FitsPainted};
+ghost use Rattle.dpl_run.specs.Reading.{limit};
+ghost use Rattle.dpl_run.specs.Split.{Decides, IsSplit, certified, clash as clash_of, painting, plan_of, refusal};
+ghost use Rattle.dpl_run.specs.Program.{IsInput, IsMade};
+ghost use Rattle.dpl_run.specs.View.{clash_view, flat_view, output_view, painted_view, write_view};
+
+use crate::decompose::decompose;
+use crate::decomposed::{Clash, Decomposed, Painted};
+use crate::fault::LayerFault;
+use crate::layer::layer_of;
+use crate::output::{Output, Write};
+use crate::status::Status;
+use crate::texts::{conflict_line, done_line, refused_line};
+use dpl_cert::{Cert, Name, cert_bytes};
+use dpl_host::{Host, MAX_BYTES, ReadFault, read_all};
+use dpl_masks::file_bytes;
+use dpl_words::SplitOptions;
+use std::alloc::{AllocError, Global};
+
+/// What is made of a command line of `split`.
+pub(crate) fn split_output<'a, H: Host>(
+    alloc: Global,
+    options: &SplitOptions<'a>,
+    host: &mut H,
+) -> Result<Output<'a>, ReadFault>
+    requires { AreInRange (split_view options.now) }
+    ensures made { IfOk result (λ x. IsMade (Some (AsksSplit (split_view options.now))) (H.told host.old) (output_view x)) }
+    ensures failed { IsErrOf result ReadFault.Failed → Rose (H.read_faults host.old) (H.read_faults host.new) }
+    ensures not_large { IsErrOf result ReadFault.TooLarge → ⊥ }
+    ensures same { H.told host.new ≡ H.told host.old }
+    ensures later { (H.read_faults host.old ≤ H.read_faults host.new) × (H.write_faults host.old ≤ H.write_faults host.new) }
+{
+    match read_input(alloc, host, options.input) {
+        Ok(Some(bytes)) => Ok(split(alloc, options, bytes.as_slice())?),
+        Ok(None) => Ok(refused(alloc, options, Name::TooLarge, MAX_BYTES as u64)?),
+        Err(fault) => Err(fault),
+    }
+}
+
+/// The bytes of a file, or None where they are too many.
+fn read_input<H: Host>(
+    alloc: Global,
+    host: &mut H,
+    name: &str,
+) -> Result<Option<Vec<u8>>, ReadFault>
+    ensures read { IfOk result (λ r. IsInput (H.told host.old) name.now (option_map (λ v. v.items) r)) }
+    ensures failed { IsErrOf result ReadFault.Failed → Rose (H.read_faults host.old) (H.read_faults host.new) }
+    ensures not_large { IsErrOf result ReadFault.TooLarge → ⊥ }
+    ensures same { H.told host.new ≡ H.told host.old }
+    ensures later { (H.read_faults host.old ≤ H.read_faults host.new) × (H.write_faults host.old ≤ H.write_faults host.new) }
+{
+    match read_all(alloc, host, name) {
+        Ok(bytes) => Ok(Some(bytes)),
+        Err(ReadFault::TooLarge) => Ok(None),
+        Err(fault) => Err(fault),
+    }
+}
+
+/// What is made of the bytes of a file.
+fn split<'a>(
+    alloc: Global,
+    options: &SplitOptions<'a>,
+    bytes: &[u8],
+) -> Result<Output<'a>, AllocError>
+    requires size { length bytes.now ≤ limit }
+    requires ranges { AreInRange (split_view options.now) }
+    ensures { IfOk result (λ x. IsSplit (split_view options.now) bytes.now (output_view x)) }
+{
+    match layer_of(alloc, options, bytes) {
+        Ok(layer) => {
+            let decomposed = decompose(alloc, &layer.slabs, options.rule, options.overlap)?;
+            let output = decided(alloc, options, layer.front.as_slice(), decomposed)?;
+            Ok(output)
+        }
+        Err(LayerFault::Refused { name, at }) => {
+            let output = refused(alloc, options, name, at)?;
+            Ok(output)
+        }
+        Err(LayerFault::NoMemory) => Err(AllocError),
+    }
+}
+
+/// What is made of a decomposition.
+fn decided<'a>(
+    alloc: Global,
+    options: &SplitOptions<'a>,
+    front: &[u8],
+    decomposed: Decomposed,
+) -> Result<Output<'a>, AllocError>
+    requires { Fits (flat_view decomposed) }
+    ensures { IfOk result (λ x. output_view x ≡ plan_of (split_view options.now) (Decides front.now (flat_view decomposed))) }
+{
+    match decomposed {
+        Decomposed::Masks(painted) => {
+            let output = painted_output(alloc, options, front, painted)?;
+            Ok(output)
+        }
+        Decomposed::Cycle(clash) => {
+            let output = clash_output(alloc, options, clash)?;
+            Ok(output)
+        }
+    }
+}
+
+/// Both masks are written, then their certificate.
+fn painted_output<'a>(
+    alloc: Global,
+    options: &SplitOptions<'a>,
+    front: &[u8],
+    painted: Painted,
+) -> Result<Output<'a>, AllocError>
+    requires { FitsPainted (painted_view painted) }
+    ensures { IfOk result (λ x. output_view x ≡ painting (split_view options.now) front.now (painted_view painted)) }
+{
+    let Painted {
+        a,
+        b,
+        head,
+        pieces,
+        stitches,
+    } = painted;
+    let bytes = file_bytes(alloc, front, a.rects(), b.rects(), options.a, options.b)?;
+    let line = done_line(
+        alloc,
+        &head,
+        stitches.items().len(),
+        a.rects().len(),
+        b.rects().len(),
+    )?;
+    let cert = Cert::Masks {
+        head,
+        pieces,
+        stitches,
+    };
+    let masks = Write {
+        name: options.output,
+        bytes,
+    };
+    let certificate = certificate(alloc, options, &cert)?;
+    let writes = vec![in alloc; masks, certificate]?;
+    Ok(Output {
+        status: Status::Done,
+        writes,
+        line,
+    })
+}
+
+/// The certificate of a cycle is written.
+fn clash_output<'a>(
+    alloc: Global,
+    options: &SplitOptions<'a>,
+    clash: Clash,
+) -> Result<Output<'a>, AllocError>
+    requires { FitsClash (clash_view clash) }
+    ensures { IfOk result (λ x. output_view x ≡ clash_of (split_view options.now) (clash_view clash)) }
+{
+    let Clash { head, cycle, near } = clash;
+    let line = conflict_line(alloc, cycle.items().len())?;
+    let cert = Cert::Conflict { head, cycle, near };
+    let certificate = certificate(alloc, options, &cert)?;
+    let writes = vec![in alloc; certificate]?;
+    Ok(Output {
+        status: Status::Conflict,
+        writes,
+        line,
+    })
+}
+
+/// The certificate of a fault is written.
+fn refused<'a>(
+    alloc: Global,
+    options: &SplitOptions<'a>,
+    name: Name,
+    at: u64,
+) -> Result<Output<'a>, AllocError>
+    ensures { IfOk result (λ x. output_view x ≡ refusal (split_view options.now) name at) }
+{
+    let line = refused_line(alloc, name, at)?;
+    let certificate = certificate(alloc, options, &Cert::Fault { name, at })?;
+    let writes = vec![in alloc; certificate]?;
+    Ok(Output {
+        status: Status::Refused,
+        writes,
+        line,
+    })
+}
+
+/// A certificate as a file.
+fn certificate<'a>(
+    alloc: Global,
+    options: &SplitOptions<'a>,
+    cert: &Cert,
+) -> Result<Write<'a>, AllocError>
+    requires { IsCert cert.now }
+    ensures { IfOk result (λ w. write_view w ≡ (options.now.certificate.now, certified cert.now)) }
+{
+    let bytes = cert_bytes(alloc, cert)?;
+    Ok(Write {
+        name: options.certificate,
+        bytes,
+    })
+}

@@ -1,0 +1,33 @@
+//! How a run ends.
+ghost use Rattle.std.specs.Prelude.{◌≡◌};
+ghost use Rattle.dpl_run.specs.Outcome.{code_of};
+
+/// How a run ended. The codes go from 0 in this order.
+#[derive(Clone, Copy, Debug, PartialEq, Eq)]
+pub enum Status {
+    /// The layer was decomposed, and both masks and their certificate are written.
+    Done,
+    /// The conflict graph of the layer has an odd cycle, and the certificate tells it.
+    Conflict,
+    /// The layout has a fault, and the certificate tells the first.
+    Refused,
+    /// The words are no command, and the usage was said.
+    Usage,
+    /// A read failed; nothing was written.
+    ReadFault,
+    /// A write failed; what came before it is written.
+    WriteFault,
+    /// Memory ran out; nothing was written.
+    NoMemory,
+    /// A certificate isn't kept.
+    CheckNo,
+}
+
+impl Status {
+    /// The code with which the program ends.
+    pub fn code(self) -> u8
+        ensures { result ≡ code_of self }
+    {
+        self as u8
+    }
+}

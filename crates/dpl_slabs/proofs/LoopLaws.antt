@@ -1,0 +1,213 @@
+-- Edges of loops.
+use Rattle.std.proofs.Common.{◌≡◌, ℕ, suc, ◌+◌, ◌-◌, ◌≤◌, ◌<◌, ◌⊎◌, inl, inr, List, [], ◌∷◌, ◌++◌, length, get_or, refl, sym, ap, ◌∙◌, subst, arith}
+use Rattle.std.specs.Prelude.{◌↔◌, ℤ, pos, negsuc, ◌+ℤ◌, ◌-ℤ◌, neg_ℤ, ◌≤ℤ◌, ◌<ℤ◌, unsigned_abs}
+use Rattle.std.specs.List.{Contains}
+use Rattle.std.proofs.lemmas.Int.{ints, by_lt_z}
+use Rattle.std.proofs.lemmas.List.{get_or_default}
+use Rattle.std.proofs.lemmas.List.Elements.{All-contains, Contains-append_left, Contains-push, Contains-push_cases, Contains-append_right, Contains-append_cases}
+use Rattle.dpl_spec.specs.declared.Pt.{Pt}
+use Rattle.dpl_spec.specs.declared.Rect.{Rect}
+use Rattle.dpl_spec.specs.Squares.{Covers}
+use Rattle.dpl_spec.specs.Slabs.{IsSolid, AreSlabsOf}
+use Rattle.dpl_spec.proofs.Ordered.{Contains-head, Contains-later, Contains-nil}
+use Rattle.dpl_spec.proofs.SlabLaws.{Covers-member, member-Covers}
+use Rattle.dpl_sweep.specs.declared.edge.Edge.{Edge}
+use Rattle.dpl_sweep.specs.declared.edge.Rule.{Rule}
+use Rattle.dpl_sweep.specs.declared.edge.Rule.TheVariants.{Either}
+use Rattle.dpl_sweep.specs.Edges.{Told, part, sum_left, change_a, change_b}
+use Rattle.dpl_sweep.specs.Passes.{IsWithin as EdgeWithin, AreWithin, IsClosed}
+use Rattle.dpl_sweep.proofs.EdgeLaws.{none-told, sum_left-push, part-before, part-off}
+use Rattle.dpl_spec.specs.Loops.{step, steps, winding, LoopCovers, SomeLoopCovers, IsPointWithin, ArePointsWithin, AreRectsWithin}
+use Rattle.dpl_slabs.specs.Loops.{above, AddsStep, AreStepsOf, AreEdgesOf, SomeFirstCovers}
+use Rattle.std.proofs.lemmas.Bool.{cases_eq}
+
+-- an edge that goes up
+part-up : (e : Edge) (p q s : Pt) → p.y <ℤ q.y → e.x ≡ p.x → e.y0 ≡ p.y → e.y1 ≡ q.y → e.a ≡ pos 1 → part change_a e s ≡ step p q s
+part-up e p q s up x y0 y1 a = grind (arith, ints, up, x, y0, y1, a)
+
+part-down : (e : Edge) (p q s : Pt) → q.y <ℤ p.y → e.x ≡ p.x → e.y0 ≡ q.y → e.y1 ≡ p.y → e.a ≡ negsuc 0 → part change_a e s ≡ step p q s
+part-down e p q s down x y0 y1 a = grind (arith, ints, down, x, y0, y1, a)
+
+part-zero : (e : Edge) (s : Pt) → e.b ≡ pos 0 → part change_b e s ≡ pos 0
+part-zero e s b = grind (arith, ints, b)
+
+step-left : (p q s : Pt) → p.x ≤ℤ s.x → step p q s ≡ above s q.y -ℤ above s p.y
+step-left p q s left =
+    by_lt_z s.y p.y
+    (λ a. by_lt_z s.y q.y (λ b. grind (arith, ints, left, a, b)) (λ b. grind (arith, ints, left, a, b)))
+    (λ a. by_lt_z s.y q.y (λ b. grind (arith, ints, left, a, b)) (λ b. grind (arith, ints, left, a, b)))
+
+step-level : (p q s : Pt) → p.y ≡ q.y → step p q s ≡ pos 0
+step-level p q s e = by_lt_z s.y p.y (λ a. grind (arith, ints, a, e)) (λ a. grind (arith, ints, a, e))
+
+pub adds-level : (es : List Edge) (p q : Pt) → p.y ≡ q.y → AddsStep es es p q
+adds-level es p q e =
+    record {
+      sums_a = λ s. (let h = step-level p q s e in omega (arith, ints, h));
+      sums_b = λ s. refl;
+      within = λ bound v w h. h;
+      keeps = λ f h. h;
+      level = λ s left. (let h = step-level p q s e in let same = ap (above s) e in omega (arith, ints, h, same));
+    }
+
+adds-edge : (es : List Edge) (e : Edge) (p q : Pt) → ((s : Pt) → part change_a e s ≡ step p q s) → e.x ≡ p.x → e.b ≡ pos 0 → ((bound : ℕ) → IsPointWithin bound p → IsPointWithin bound q → EdgeWithin bound e) → AddsStep es (es ++ e ∷ []) p q
+adds-edge es e p q sums x b fits =
+    record {
+      sums_a = λ s. (let h = sum_left-push change_a es e s in let k = sums s in omega (arith, ints, h, k));
+      sums_b = λ s. (let h = sum_left-push change_b es e s in let k = part-zero e s b in omega (arith, ints, h, k));
+      within = λ bound v w h f f_in. elim (Contains-push_cases es e f f_in) [ inl old ↦ h f old | inr same ↦ subst (EdgeWithin bound) same (fits bound v w) ];
+      keeps = λ f h. Contains-append_left es (e ∷ []) f h;
+      level = λ s left. (let l = left e (Contains-push es e) in step-left p q s (omega (arith, ints, l, x)));
+    }
+
+pub adds-up : (es : List Edge) (e : Edge) (p q : Pt) → p.y <ℤ q.y → e.x ≡ p.x → e.y0 ≡ p.y → e.y1 ≡ q.y → e.a ≡ pos 1 → e.b ≡ pos 0 → AddsStep es (es ++ e ∷ []) p q
+adds-up es e p q up x y0 y1 a b =
+    adds-edge es e p q (λ s. part-up e p q s up x y0 y1 a) x b
+    (λ bound v w. (let vx = v.column in let vy = v.row in let wy = w.row in record { column = omega (arith, ints, vx, x); low = omega (arith, ints, vy, y0); high = omega (arith, ints, wy, y1); a = omega (arith, ints, a); b = omega (arith, ints, b) }))
+
+pub adds-down : (es : List Edge) (e : Edge) (p q : Pt) → q.y <ℤ p.y → e.x ≡ p.x → e.y0 ≡ q.y → e.y1 ≡ p.y → e.a ≡ negsuc 0 → e.b ≡ pos 0 → AddsStep es (es ++ e ∷ []) p q
+adds-down es e p q down x y0 y1 a b =
+    adds-edge es e p q (λ s. part-down e p q s down x y0 y1 a) x b
+    (λ bound v w. (let vx = v.column in let vy = v.row in let wy = w.row in record { column = omega (arith, ints, vx, x); low = omega (arith, ints, wy, y0); high = omega (arith, ints, vy, y1); a = omega (arith, ints, a); b = omega (arith, ints, b) }))
+
+pub steps-none : (ps : List Pt) → AreStepsOf ps 0 []
+steps-none ps =
+    record {
+      sums_a = λ s. refl;
+      sums_b = λ s. refl;
+      within = λ bound w e e_in. absurd (Contains-nil e e_in);
+      level = λ s left. omega (arith, ints);
+    }
+
+pub steps-next : (ps : List Pt) (n m : ℕ) (es fs : List Edge) (p q : Pt) → m ≡ n + 1 → m < length ps → p ≡ get_or ps n p → q ≡ get_or ps m q → AreStepsOf ps n es → AddsStep es fs p q → AreStepsOf ps m fs
+steps-next ps n m es fs p q m_is m_in p_is q_is h a =
+    let one : m ≡ suc n = omega (arith, m_is) in
+    let p_at : (s : Pt) → get_or ps n s ≡ p = λ s. get_or_default ps n s p (omega (arith, m_in, m_is)) ∙ sym p_is in
+    let q_at : (s : Pt) → get_or ps (n + 1) s ≡ q = λ s. ap (λ k. get_or ps k s) (sym m_is) ∙ (get_or_default ps m s q m_in ∙ sym q_is) in
+    let p_in : Contains ps p = (n, omega (arith, m_in, m_is), sym p_is) in
+    let q_in : Contains ps q = (m, m_in, sym q_is) in
+    let more : (s : Pt) → steps ps m s ≡ steps ps n s +ℤ step p q s = λ s. rw one (rw (p_at s, q_at s) refl) in
+    record {
+      sums_a = λ s. (let x = h.sums_a s in let y = a.sums_a s in let z = more s in omega (arith, ints, x, y, z));
+      sums_b = λ s. (let x = h.sums_b s in let y = a.sums_b s in omega (arith, ints, x, y));
+      within = λ bound w. a.within bound (w p p_in) (w q q_in) (h.within bound w);
+      level = λ s left. (
+          let x = h.level s (λ e e_in. left e (a.keeps e e_in)) in
+          let y = a.level s left in
+          let z = more s in
+          let u : above s (get_or ps n s).y ≡ above s p.y = ap (λ t. let v : Pt = t in above s v.y) (p_at s) in
+          let v : above s (get_or ps m s).y ≡ above s q.y = ap (λ t. let v : Pt = t in above s v.y) (get_or_default ps m s q m_in ∙ sym q_is) in
+          omega (arith, ints, x, y, z, u, v));
+    }
+
+pub edges-closed : (ps : List Pt) (n : ℕ) (es fs : List Edge) (p q : Pt) → n ≡ length ps - 1 → 0 < length ps → p ≡ get_or ps n p → q ≡ get_or ps 0 q → AreStepsOf ps n es → AddsStep es fs p q → AreEdgesOf ps fs
+edges-closed ps n es fs p q n_is some p_is q_is h a =
+    let p_at : (s : Pt) → get_or ps (length ps - 1) s ≡ p = λ s. ap (λ k. get_or ps k s) (sym n_is) ∙ (get_or_default ps n s p (omega (arith, n_is, some)) ∙ sym p_is) in
+    let q_at : (s : Pt) → get_or ps 0 s ≡ q = λ s. get_or_default ps 0 s q some ∙ sym q_is in
+    let p_in : Contains ps p = (n, omega (arith, n_is, some), sym p_is) in
+    let q_in : Contains ps q = (0, some, sym q_is) in
+    let more : (s : Pt) → winding ps s ≡ steps ps n s +ℤ step p q s = λ s. rw (p_at s, q_at s, n_is) refl in
+    record {
+      sums_a = λ s. (let x = h.sums_a s in let y = a.sums_a s in let z = more s in omega (arith, ints, x, y, z));
+      sums_b = λ s. (let x = h.sums_b s in let y = a.sums_b s in omega (arith, ints, x, y));
+      within = λ bound w. a.within bound (w p p_in) (w q q_in) (h.within bound w);
+      level = λ s left. (
+          let x = h.level s (λ e e_in. left e (a.keeps e e_in)) in
+          let y = a.level s left in
+          let z = more s in
+          let u : above s (get_or ps n s).y ≡ above s p.y = ap (λ t. let v : Pt = t in above s v.y) (get_or_default ps n s p (omega (arith, n_is, some)) ∙ sym p_is) in
+          let v : above s (get_or ps 0 s).y ≡ above s q.y = ap (λ t. let v : Pt = t in above s v.y) (q_at s) in
+          omega (arith, ints, x, y, z, u, v));
+    }
+
+pub edges-none : (ps : List Pt) → length ps ≤ 0 → AreEdgesOf ps []
+edges-none [] none =
+    record {
+      sums_a = λ s. (let h = step-level s s s refl in sym (omega (arith, ints, h)));
+      sums_b = λ s. refl;
+      within = λ bound w e e_in. absurd (Contains-nil e e_in);
+      level = λ s left. (let h = step-level s s s refl in omega (arith, ints, h));
+    }
+edges-none (p ∷ ps) none = absurd (omega (arith, none))
+
+pub loop-told : (ps : List Pt) (es : List Edge) → AreEdgesOf ps es → (s : Pt) → Told Either es s ↔ LoopCovers ps s
+loop-told ps es h s =
+    let a = h.sums_a s in
+    let b = h.sums_b s in
+    (λ k e. k (a ∙ e) b, λ k e f. k (sym a ∙ e))
+
+pub loop-closed : (ps : List Pt) (es : List Edge) → AreEdgesOf ps es → IsClosed Either es
+loop-closed ps es h p left told = told (h.sums_a p ∙ h.level p left) (h.sums_b p)
+
+-- where no edge stands left of the square beside its row, the sum is 0
+sum-none : (change : Edge → ℤ) (es : List Edge) (p : Pt) → ((e : Edge) → Contains es e → (p.x <ℤ e.x) ⊎ ((p.y <ℤ e.y0) ⊎ (e.y1 ≤ℤ p.y))) → sum_left change es p ≡ pos 0
+sum-none change [] p none = refl
+sum-none change (e ∷ es) p none =
+    let h = sum-none change es p (λ f f_in. none f (Contains-later e f es f_in)) in
+    let k : part change e p ≡ pos 0 = elim (none e (Contains-head e es)) [ inl l ↦ part-before change e p l | inr o ↦ part-off change e p o ] in
+    omega (arith, ints, h, k)
+
+abbrev pub Inside : ℕ → Pt → Type 0
+Inside bound p = (unsigned_abs p.x ≤ bound) × (unsigned_abs p.y ≤ bound) × (unsigned_abs (p.x +ℤ pos 1) ≤ bound) × (unsigned_abs (p.y +ℤ pos 1) ≤ bound)
+
+none-told-at : (rule : Rule) (es : List Edge) (p : Pt) → ((e : Edge) → Contains es e → (p.x <ℤ e.x) ⊎ ((p.y <ℤ e.y0) ⊎ (e.y1 ≤ℤ p.y))) → Told rule es p → ⊥
+none-told-at rule es p none told = none-told rule _ _ (sum-none change_a es p none) (sum-none change_b es p none) told
+
+pub told-inside : (rule : Rule) (bound : ℕ) (es : List Edge) (p : Pt) → AreWithin bound es → IsClosed rule es → Told rule es p → Inside bound p
+told-inside rule bound es p w closed told =
+    let left : neg_ℤ (pos bound) ≤ℤ p.x = by_lt_z p.x (neg_ℤ (pos bound)) (λ l. absurd (none-told-at rule es p (λ e e_in. inl (let h = (w e e_in).column in omega (arith, ints, l, h))) told)) (λ m. m) in
+    let right : p.x <ℤ pos bound = by_lt_z p.x (pos bound) (λ l. l) (λ m. absurd (closed p (λ e e_in. (let h = (w e e_in).column in omega (arith, ints, m, h))) told)) in
+    let low : neg_ℤ (pos bound) ≤ℤ p.y = by_lt_z p.y (neg_ℤ (pos bound)) (λ l. absurd (none-told-at rule es p (λ e e_in. inr (inl (let h = (w e e_in).low in omega (arith, ints, l, h)))) told)) (λ m. m) in
+    let high : p.y <ℤ pos bound = by_lt_z p.y (pos bound) (λ l. l) (λ m. absurd (none-told-at rule es p (λ e e_in. inr (inr (let h = (w e e_in).high in omega (arith, ints, m, h)))) told)) in
+    (omega (arith, ints, left, right), omega (arith, ints, low, high), omega (arith, ints, left, right), omega (arith, ints, low, high))
+
+pub slabs-inside : (a : Pt → Type 0) (bound : ℕ) (slabs : List Rect) → ((p : Pt) → a p → Inside bound p) → AreSlabsOf a slabs → AreRectsWithin bound slabs
+slabs-inside a bound slabs inside s r r_in =
+    let solid : IsSolid r = All-contains IsSolid slabs r s.canonical.solid r_in in
+    let wide = solid.wide in
+    let tall = solid.tall in
+    let low : Pt = record { x = r.x0; y = r.y0 } in
+    let high : Pt = record { x = r.x1 -ℤ pos 1; y = r.y1 -ℤ pos 1 } in
+    let (a0, a1, a2, a3) = inside low ((s.covers low).0 (Covers-member slabs r low r_in (record { left = omega (arith, ints); right = wide; low = omega (arith, ints); high = tall }))) in
+    let (b0, b1, b2, b3) = inside high ((s.covers high).0 (Covers-member slabs r high r_in (record { left = omega (arith, ints, wide); right = omega (arith, ints); low = omega (arith, ints, tall); high = omega (arith, ints) }))) in
+    record { left = a0; low = a1; right = omega (arith, ints, b2); high = omega (arith, ints, b3) }
+
+pub covers-appended : (a : Pt → Type 0) (rs ss : List Rect) → AreSlabsOf a ss → (p : Pt) → Covers (rs ++ ss) p ↔ (Covers rs p ⊎ a p)
+covers-appended a rs ss s p = (
+  (λ h. let found = member-Covers (rs ++ ss) p h in
+      elim (Contains-append_cases rs ss found.0 found.1) [
+        | inl one ↦ inl (Covers-member rs found.0 p one found.2)
+        | inr other ↦ inr ((s.covers p).0 (Covers-member ss found.0 p other found.2))
+      ]),
+  λ h. elim h [
+    | inl one ↦ (let found = member-Covers rs p one in Covers-member (rs ++ ss) found.0 p (Contains-append_left rs ss found.0 found.1) found.2)
+    | inr other ↦ (let found = member-Covers ss p ((s.covers p).1 other) in Covers-member (rs ++ ss) found.0 p (Contains-append_right rs ss found.0 found.1) found.2)
+  ],
+)
+
+pub rects-appended : (bound : ℕ) (rs ss : List Rect) → AreRectsWithin bound rs → AreRectsWithin bound ss → AreRectsWithin bound (rs ++ ss)
+rects-appended bound rs ss v w r r_in = elim (Contains-append_cases rs ss r r_in) [ inl one ↦ v r one | inr other ↦ w r other ]
+
+pub loops-none : (ls : List (List Pt)) (p : Pt) → Covers [] p ↔ SomeFirstCovers ls 0 p
+loops-none ls p = (λ (k, r, k_in, is, has). absurd (omega (arith, k_in)), λ (k, l, b, k_in, is, has). absurd (omega (arith, b)))
+
+pub loops-next : (ls : List (List Pt)) (n : ℕ) (l : List Pt) (old new : List Rect) → n < length ls → l ≡ get_or ls n l → ((p : Pt) → Covers old p ↔ SomeFirstCovers ls n p) → ((p : Pt) → Covers new p ↔ (Covers old p ⊎ LoopCovers l p)) → (p : Pt) → Covers new p ↔ SomeFirstCovers ls (n + 1) p
+loops-next ls n l old new n_in l_is before step p = (
+  λ h. elim ((step p).0 h) [
+    | inl a ↦ (let (k, m, b, k_in, is, has) = (before p).0 a in (k, m, omega (arith, b), k_in, is, has))
+    | inr has ↦ (n, l, omega arith, n_in, sym l_is, has)
+  ],
+  λ (k, m, b, k_in, is, has). elim (cases_eq k n) [
+    | inl e ↦ (step p).1 (inr (subst (λ v. LoopCovers v p) (sym is ∙ (ap (λ q. get_or ls q m) e ∙ (get_or_default ls n m l n_in ∙ sym l_is))) has))
+    | inr ne ↦ (step p).1 (inl ((before p).1 (k, m, omega arith, k_in, is, has)))
+  ],
+)
+
+pub loops-all : (ls : List (List Pt)) (n : ℕ) (rs : List Rect) → length ls ≤ n → ((p : Pt) → Covers rs p ↔ SomeFirstCovers ls n p) → (p : Pt) → Covers rs p ↔ SomeLoopCovers ls p
+loops-all ls n rs all h p = (
+  λ c. (let (k, l, b, k_in, is, has) = (h p).0 c in (k, l, k_in, is, has)),
+  λ (k, l, k_in, is, has). (h p).1 (k, l, omega (arith, all, k_in), k_in, is, has),
+)
+
+pub points-more : (bound : ℕ) (ps : List Pt) (p : Pt) → ArePointsWithin bound ps → IsPointWithin bound p → ArePointsWithin bound (ps ++ p ∷ [])
+points-more bound ps p w v q q_in = elim (Contains-push_cases ps p q q_in) [ inl old ↦ w q old | inr same ↦ subst (IsPointWithin bound) same v ]

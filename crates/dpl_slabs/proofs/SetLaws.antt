@@ -1,0 +1,157 @@
+-- Sets told by sums.
+use Rattle.std.proofs.Common.{◌≡◌, ℕ, ◌+◌, ◌^◌, ◌≤◌, ◌⊎◌, inl, inr, List, [], ◌∷◌, ◌++◌, refl, sym, subst, arith}
+use Rattle.std.specs.Prelude.{◌↔◌, ℤ, pos, ◌+ℤ◌, ◌-ℤ◌, unsigned_abs}
+use Rattle.std.proofs.lemmas.Int.{ints, by_lt_z}
+use Rattle.std.proofs.lemmas.List.Elements.{All-contains, Contains-push_cases}
+use Rattle.dpl_spec.specs.declared.Pt.{Pt}
+use Rattle.dpl_spec.specs.declared.Rect.{Rect}
+use Rattle.dpl_spec.specs.Squares.{Has, Covers}
+use Rattle.dpl_spec.specs.Slabs.{IsSolid, AreSlabsOf}
+use Rattle.dpl_spec.specs.Loops.{farthest, IsRectWithin, AreRectsWithin}
+use Rattle.dpl_spec.specs.Zones.{at, turned, turned_rect}
+use Rattle.dpl_spec.proofs.Ordered.{Contains-head, Contains-later, Contains-cases, Contains-nil}
+use Rattle.dpl_spec.proofs.SlabLaws.{Covers-member, member-Covers}
+use Rattle.dpl_sweep.specs.declared.edge.Edge.{Edge}
+use Rattle.dpl_sweep.specs.declared.edge.Rule.{Rule}
+use Rattle.dpl_sweep.specs.declared.edge.Rule.TheVariants.{Either, Minus, Both}
+use Rattle.dpl_sweep.specs.Edges.{Holds, Told, sum_left, change_a, change_b}
+use Rattle.dpl_sweep.specs.Passes.{IsWithin as EdgeWithin, AreWithin, IsClosed}
+use Rattle.dpl_sweep.proofs.EdgeLaws.{none-told}
+use Rattle.dpl_slabs.specs.Cells.{cells, AddsRects, turned_rects}
+use Rattle.dpl_slabs.proofs.CellLaws.{cells-zero, cells-least, covered-sum, sum-covered, adds-closed}
+
+pub told-either : (rs ss : List Rect) (p : Pt) → Holds Either (cells (pos 1) rs p) (cells (pos 1) ss p) ↔ (Covers rs p ⊎ Covers ss p)
+told-either rs ss p = (
+  λ h. by_lt_z (pos 0) (cells (pos 1) rs p)
+      (λ l. inl (sum-covered rs p (λ e. omega (arith, ints, l, e))))
+      (λ m. (let least = cells-least rs p in inr (sum-covered ss p (h (omega (arith, ints, m, least)))))),
+  λ h. elim h [ inl a ↦ (λ e f. covered-sum rs p a e) | inr b ↦ (λ e f. covered-sum ss p b f) ],
+)
+
+pub told-first : (rs : List Rect) (p : Pt) → Holds Either (cells (pos 1) rs p) (cells (pos 1) [] p) ↔ Covers rs p
+told-first rs p = (λ h. sum-covered rs p (λ e. h e refl), λ h e f. covered-sum rs p h e)
+
+pub told-minus : (rs ss : List Rect) (p : Pt) → Holds Minus (cells (pos 1) rs p) (cells (pos 1) ss p) ↔ (Covers rs p × (Covers ss p → ⊥))
+told-minus rs ss p = (
+  λ (h, k). (sum-covered rs p h, λ c. covered-sum ss p c k),
+  λ (h, k). (covered-sum rs p h, by_lt_z (pos 0) (cells (pos 1) ss p) (λ l. absurd (k (sum-covered ss p (λ e. omega (arith, ints, l, e))))) (λ m. (let least = cells-least ss p in omega (arith, ints, m, least)))),
+)
+
+pub told-both : (rs ss : List Rect) (p : Pt) → Holds Both (cells (pos 1) rs p) (cells (pos 1) ss p) ↔ (Covers rs p × Covers ss p)
+told-both rs ss p = (λ (h, k). (sum-covered rs p h, sum-covered ss p k), λ (h, k). (covered-sum rs p h, covered-sum ss p k))
+
+pub slabs-of-same : (a b : Pt → Type 0) (rs : List Rect) → ((p : Pt) → a p ↔ b p) → AreSlabsOf a rs → AreSlabsOf b rs
+slabs-of-same a b rs same s = record { canonical = s.canonical; covers = λ p. (λ h. (same p).0 ((s.covers p).0 h), λ h. (s.covers p).1 ((same p).1 h)) }
+
+pub rects-wider : (m n : ℕ) (rs : List Rect) → m ≤ n → AreRectsWithin m rs → AreRectsWithin n rs
+rects-wider m n rs l w r r_in =
+    let h : IsRectWithin m r = w r r_in in
+    let a = h.left in let b = h.low in let c = h.right in let d = h.high in
+    record { left = omega (arith, l, a); low = omega (arith, l, b); right = omega (arith, l, c); high = omega (arith, l, d) }
+
+pub rects-more : (n : ℕ) (rs : List Rect) (r : Rect) → AreRectsWithin n rs → IsRectWithin n r → AreRectsWithin n (rs ++ r ∷ [])
+rects-more n rs r w v s s_in = elim (Contains-push_cases rs r s s_in) [ inl old ↦ w s old | inr same ↦ subst (IsRectWithin n) same v ]
+
+pub rects-none : (n : ℕ) → AreRectsWithin n []
+rects-none n r r_in = absurd (Contains-nil r r_in)
+
+pub edges-none : (n : ℕ) → AreWithin n []
+edges-none n e e_in = absurd (Contains-nil e e_in)
+
+pub edges-wider : (m n : ℕ) (es : List Edge) → m ≤ n → AreWithin m es → AreWithin n es
+edges-wider m n es l w e e_in =
+    let h : EdgeWithin m e = w e e_in in
+    let a = h.column in let b = h.low in let c = h.high in
+    record { column = omega (arith, l, a); low = omega (arith, l, b); high = omega (arith, l, c); a = h.a; b = h.b }
+
+-- some sum isn't 0 of squares in the set
+holds-some : (rule : Rule) (x y : ℤ) → Holds rule x y → x ≡ pos 0 → y ≡ pos 0 → ⊥
+holds-some rule x y h e f = none-told rule x y e f h
+
+square-within : (bound : ℕ) (rs : List Rect) (p : Pt) → AreRectsWithin bound rs → Covers rs p → (unsigned_abs p.x ≤ bound) × (unsigned_abs p.y ≤ bound) × (unsigned_abs (p.x +ℤ pos 1) ≤ bound) × (unsigned_abs (p.y +ℤ pos 1) ≤ bound)
+square-within bound rs p w h =
+    let found = member-Covers rs p h in
+    let has : Has found.0 p = found.2 in
+    let within : IsRectWithin bound found.0 = w found.0 found.1 in
+    let a = within.left in let b = within.low in let c = within.right in let d = within.high in
+    let e = has.left in let f = has.right in let g = has.low in let i = has.high in
+    (omega (arith, ints, a, c, e, f), omega (arith, ints, b, d, g, i), omega (arith, ints, a, c, e, f), omega (arith, ints, b, d, g, i))
+
+inside : (rule : Rule) (bound : ℕ) (rs ss : List Rect) (p : Pt) → AreRectsWithin bound rs → AreRectsWithin bound ss → Holds rule (cells (pos 1) rs p) (cells (pos 1) ss p) → (unsigned_abs p.x ≤ bound) × (unsigned_abs p.y ≤ bound) × (unsigned_abs (p.x +ℤ pos 1) ≤ bound) × (unsigned_abs (p.y +ℤ pos 1) ≤ bound)
+inside rule bound rs ss p v w h =
+    elim ((told-either rs ss p).0 (holds-some rule (cells (pos 1) rs p) (cells (pos 1) ss p) h)) [ inl a ↦ square-within bound rs p v a | inr b ↦ square-within bound ss p w b ]
+
+-- slabs of squares that rectangles within the bound have lie within it
+pub slabs-within : (rule : Rule) (bound : ℕ) (rs ss slabs : List Rect) → AreRectsWithin bound rs → AreRectsWithin bound ss → AreSlabsOf (λ p. Holds rule (cells (pos 1) rs p) (cells (pos 1) ss p)) slabs → AreRectsWithin bound slabs
+slabs-within rule bound rs ss slabs v w s r r_in =
+    let solid : IsSolid r = All-contains IsSolid slabs r s.canonical.solid r_in in
+    let wide = solid.wide in
+    let tall = solid.tall in
+    let low : Pt = record { x = r.x0; y = r.y0 } in
+    let high : Pt = record { x = r.x1 -ℤ pos 1; y = r.y1 -ℤ pos 1 } in
+    let a = inside rule bound rs ss low v w ((s.covers low).0 (Covers-member slabs r low r_in (record { left = omega (arith, ints); right = wide; low = omega (arith, ints); high = tall }))) in
+    let b = inside rule bound rs ss high v w ((s.covers high).0 (Covers-member slabs r high r_in (record { left = omega (arith, ints, wide); right = omega (arith, ints); low = omega (arith, ints, tall); high = omega (arith, ints) }))) in
+    let (a0, a1, a2, a3) = a in
+    let (b0, b1, b2, b3) = b in
+    record { left = a0; low = a1; right = omega (arith, ints, b2); high = omega (arith, ints, b3) }
+
+-- the edges of both lists
+module _ (rule : Rule) (rs ss : List Rect) (mid new : List Edge) (f : AddsRects (pos 1) (pos 0) [] mid rs) (g : AddsRects (pos 0) (pos 1) mid new ss) where
+  pub both-told : (p : Pt) → Told rule new p ↔ Holds rule (cells (pos 1) rs p) (cells (pos 1) ss p)
+  both-told p =
+      let fa = f.sums_a p in
+      let fb = f.sums_b p in
+      let ga = g.sums_a p in
+      let gb = g.sums_b p in
+      let za = cells-zero rs p in
+      let zb = cells-zero ss p in
+      let a : sum_left change_a new p ≡ cells (pos 1) rs p = omega (arith, ints, fa, ga, zb) in
+      let b : sum_left change_b new p ≡ cells (pos 1) ss p = omega (arith, ints, fb, gb, za) in
+      (λ h. rw (← a, ← b) h, λ h. rw (a, b) h)
+
+  pub both-closed : IsClosed rule new
+  both-closed p left told =
+      none-told rule _ _
+      (adds-closed (pos 1) (pos 1) (pos 0) [] mid rs p f (λ e e_in. left e (g.keeps e e_in)))
+      (adds-closed (pos 1) (pos 0) (pos 1) mid new ss p g left)
+      ((both-told p).0 told)
+
+  pub both-within : AreRectsWithin farthest rs → AreRectsWithin farthest ss → AreWithin (2 ^ 32) new
+  both-within v w = edges-wider (farthest + 1) (2 ^ 32) new (omega arith) (g.within farthest (f.within farthest (edges-none (farthest + 1)) v) w)
+
+-- with x and y exchanged
+from-turned : (rs : List Rect) (p : Pt) → Covers (turned_rects rs) p → turned (Covers rs) p
+from-turned [] p h = absurd (let found = member-Covers [] p h in Contains-nil found.0 found.1)
+from-turned (r ∷ rs) p h =
+    let found = member-Covers (turned_rect r ∷ turned_rects rs) p h in
+    elim (Contains-cases (turned_rect r) found.0 (turned_rects rs) found.1) [
+      | inl e ↦ (let has : Has (turned_rect r) p = subst (λ t. Has t p) (sym e) found.2 in
+          Covers-member (r ∷ rs) r (at p.y p.x) (Contains-head r rs) (record { left = has.low; right = has.high; low = has.left; high = has.right }))
+      | inr later ↦ (let rest = from-turned rs p (Covers-member (turned_rects rs) found.0 p later found.2) in
+          let there = member-Covers rs (at p.y p.x) rest in
+          Covers-member (r ∷ rs) there.0 (at p.y p.x) (Contains-later r there.0 rs there.1) there.2)
+    ]
+
+to-turned : (rs : List Rect) (p : Pt) → turned (Covers rs) p → Covers (turned_rects rs) p
+to-turned [] p h = absurd (let found = member-Covers [] (at p.y p.x) h in Contains-nil found.0 found.1)
+to-turned (r ∷ rs) p h =
+    let found = member-Covers (r ∷ rs) (at p.y p.x) h in
+    elim (Contains-cases r found.0 rs found.1) [
+      | inl e ↦ (let has : Has r (at p.y p.x) = subst (λ t. Has t (at p.y p.x)) (sym e) found.2 in
+          Covers-member (turned_rect r ∷ turned_rects rs) (turned_rect r) p (Contains-head (turned_rect r) (turned_rects rs)) (record { left = has.low; right = has.high; low = has.left; high = has.right }))
+      | inr later ↦ (let rest = to-turned rs p (Covers-member rs found.0 (at p.y p.x) later found.2) in
+          let there = member-Covers (turned_rects rs) p rest in
+          Covers-member (turned_rect r ∷ turned_rects rs) there.0 p (Contains-later (turned_rect r) there.0 (turned_rects rs) there.1) there.2)
+    ]
+
+pub told-turned : (rs : List Rect) (p : Pt) → Holds Either (cells (pos 1) (turned_rects rs) p) (cells (pos 1) [] p) ↔ turned (Covers rs) p
+told-turned rs p = (λ h. from-turned rs p ((told-first (turned_rects rs) p).0 h), λ h. (told-first (turned_rects rs) p).1 (to-turned rs p h))
+
+pub turned-within : (bound : ℕ) (rs : List Rect) → AreRectsWithin bound rs → AreRectsWithin bound (turned_rects rs)
+turned-within bound [] w r r_in = absurd (Contains-nil r r_in)
+turned-within bound (s ∷ rs) w r r_in =
+    elim (Contains-cases (turned_rect s) r (turned_rects rs) r_in) [
+      | inl e ↦ (let h : IsRectWithin bound s = w s (Contains-head s rs) in
+          subst (IsRectWithin bound) e (record { left = h.low; low = h.left; right = h.high; high = h.right }))
+      | inr later ↦ turned-within bound rs (λ t t_in. w t (Contains-later s t rs t_in)) r later
+    ]

@@ -1,0 +1,13 @@
+use Rattle.std.specs.Prelude.{◌↔◌}
+use Rattle.dpl_spec.specs.declared.Pt.{Pt}
+use Rattle.dpl_spec.specs.Squares.{Covers}
+use Rattle.dpl_spec.specs.Loops.{farthest, AreRectsWithin}
+use Rattle.dpl_slabs.specs.Loops.{SomeFirstCovers}
+use Rattle.dpl_slabs.proofs.loops.rects_of_loops.Given as goal
+
+abbrev pub invariant-loop-i : goal.invariant-loop-i
+invariant-loop-i l =
+    record {
+      covers : (p : Pt) → Covers l.rects.items p ↔ SomeFirstCovers l.loops l.i p;
+      within : AreRectsWithin farthest l.rects.items;
+    }

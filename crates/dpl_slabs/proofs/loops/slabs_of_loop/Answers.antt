@@ -1,0 +1,22 @@
+use Rattle.std.proofs.Common.{◌^◌, arith}
+use Rattle.dpl_sweep.specs.declared.edge.Rule.TheVariants.{Either}
+use Rattle.dpl_sweep.specs.Edges.{Told}
+use Rattle.dpl_spec.specs.Loops.{LoopCovers}
+use Rattle.dpl_slabs.proofs.SetLaws.{slabs-of-same, edges-wider}
+use Rattle.dpl_slabs.proofs.LoopLaws.{loop-told, loop-closed, told-inside, slabs-inside}
+use Rattle.dpl_slabs.proofs.loops.slabs_of_loop.Goals as goal
+
+pub slabs_of_edges-requires-clause-within : goal.slabs_of_edges-requires-clause-within
+slabs_of_edges-requires-clause-within c = edges-wider 1000000000 (2 ^ 32) _ (omega arith) (c.in_ok-edges.ensures.within 1000000000 c.requires)
+
+pub slabs_of_edges-requires-clause-closed : goal.slabs_of_edges-requires-clause-closed
+slabs_of_edges-requires-clause-closed c = loop-closed c.args.points.now _ c.in_ok-edges.ensures
+
+pub returns-clause-slabs : goal.returns-clause-slabs
+returns-clause-slabs c = slabs-of-same (Told Either c.in_ok-edges.edges.items) (LoopCovers c.args.points.now) _ (loop-told c.args.points.now _ c.in_ok-edges.ensures) c.in_ok-slabs.ensures
+
+pub returns-clause-within : goal.returns-clause-within
+returns-clause-within c =
+    slabs-inside (Told Either c.in_ok-edges.edges.items) 1000000000 _
+    (λ p. told-inside Either 1000000000 c.in_ok-edges.edges.items p (c.in_ok-edges.ensures.within 1000000000 c.requires) (loop-closed c.args.points.now _ c.in_ok-edges.ensures))
+    c.in_ok-slabs.ensures

@@ -1,0 +1,32 @@
+-- Rectangles, by sums over their squares and over their edges.
+use Rattle.std.specs.Prelude.{◌≡◌, ℕ, ◌+◌, ◌⊎◌, Bool, cond, ◌&&◌, ℤ, pos, ◌+ℤ◌, ◌≤ℤ◌, List, [], ◌∷◌, map}
+use Rattle.std.specs.List.{Contains}
+use lib.Signed.{lt_z, le_z}
+use Rattle.dpl_spec.specs.declared.Pt.{Pt}
+use Rattle.dpl_spec.specs.declared.Rect.{Rect}
+use Rattle.dpl_spec.specs.Loops.{AreRectsWithin}
+use Rattle.dpl_spec.specs.Zones.{turned_rect}
+use Rattle.dpl_sweep.specs.declared.edge.Edge.{Edge}
+use Rattle.dpl_sweep.specs.Edges.{sum_left, change_a, change_b}
+use Rattle.dpl_sweep.specs.Passes.{AreWithin}
+
+-- whether the rectangle has the square
+abbrev pub has_square : Rect → Pt → Bool
+has_square r p = (le_z r.x0 p.x && lt_z p.x r.x1) && (le_z r.y0 p.y && lt_z p.y r.y1)
+
+-- a for each of the rectangles that has the square
+abbrev pub cells : ℤ → List Rect → Pt → ℤ
+cells a [] p = pos 0
+cells a (r ∷ rs) p = cond (has_square r p) a (pos 0) +ℤ cells a rs p
+
+-- the rectangles' edges were added, whose squares' sums change by a and b
+pub record AddsRects (a b : ℤ) (old new : List Edge) (rs : List Rect) : Type 0 where
+  pub sums_a : (p : Pt) → sum_left change_a new p ≡ sum_left change_a old p +ℤ cells a rs p
+  pub sums_b : (p : Pt) → sum_left change_b new p ≡ sum_left change_b old p +ℤ cells b rs p
+  pub within : (bound : ℕ) → AreWithin (bound + 1) old → AreRectsWithin bound rs → AreWithin (bound + 1) new
+  pub keeps : (e : Edge) → Contains old e → Contains new e
+  pub ends : (r : Rect) → Contains rs r → (r.x1 ≤ℤ r.x0) ⊎ ((e : Edge) × Contains new e × (e.x ≡ r.x1))
+
+-- with x and y exchanged
+abbrev pub turned_rects : List Rect → List Rect
+turned_rects rs = map turned_rect rs

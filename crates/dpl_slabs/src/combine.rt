@@ -1,0 +1,87 @@
+//! Any two sets in one.
+ghost use Rattle.std.specs.Prelude.{◌≡◌, ◌≤◌, [], ◌∷◌, ◌<ℤ◌, pos, IfOk, OnOk, length, unsigned_abs};
+ghost use Rattle.dpl_spec.specs.declared.Rect.{Rect};
+ghost use Rattle.dpl_spec.specs.Slabs.{AreSlabsOf};
+ghost use Rattle.dpl_sweep.specs.Edges.{Holds};
+ghost use Rattle.dpl_spec.specs.Loops.{farthest, IsRectWithin, AreRectsWithin};
+ghost use Rattle.dpl_slabs.specs.Cells.{cells, AddsRects, turned_rects};
+
+use dpl_base::Rect;
+use dpl_sweep::{Edge, Rule, slabs_of_edges};
+use std::alloc::{AllocError, Global};
+
+/// An edge in a column, beside the rows of a rectangle.
+fn edge_of(r: &Rect, x: i64, a: i64, b: i64) -> Edge
+    ensures { result ≡ record { x = x; y0 = r.now.y0; y1 = r.now.y1; a = a; b = b } }
+{
+    Edge {
+        x,
+        y0: r.y0,
+        y1: r.y1,
+        a,
+        b,
+    }
+}
+
+/// Adds the two edges of a rectangle, and one right of them that changes nothing: by it the sweep is done with the rectangle's rows early.
+fn add_rect(edges: &mut Vec<Edge>, r: &Rect, a: i64, b: i64) -> Result<(), AllocError>
+    requires first { unsigned_abs a ≤ 1 }
+    requires second { unsigned_abs b ≤ 1 }
+    requires within { IsRectWithin farthest r.now }
+    ensures { OnOk result (AddsRects a b edges.old.items edges.new.items (r.now ∷ [])) }
+{
+    if r.x1 <= r.x0 {
+        return Ok(());
+    }
+    edges.push(edge_of(r, r.x0, a, b))?;
+    edges.push(edge_of(r, r.x1, -a, -b))?;
+    edges.push(edge_of(r, r.x1 + 1, 0, 0))?;
+    Ok(())
+}
+
+/// Adds the edges of rectangles.
+fn add_rects(edges: &mut Vec<Edge>, rects: &[Rect], a: i64, b: i64) -> Result<(), AllocError>
+    requires first { unsigned_abs a ≤ 1 }
+    requires second { unsigned_abs b ≤ 1 }
+    requires within { AreRectsWithin farthest rects.now }
+    ensures { OnOk result (AddsRects a b edges.old.items edges.new.items rects.now) }
+{
+    for r in rects {
+        add_rect(edges, r, a, b)?;
+    }
+    Ok(())
+}
+
+/// The slabs of the squares of two lists of rectangles that the rule takes.
+pub fn combine(
+    alloc: Global,
+    first: &[Rect],
+    second: &[Rect],
+    rule: Rule,
+) -> Result<Vec<Rect>, AllocError>
+    requires first { AreRectsWithin farthest first.now }
+    requires second { AreRectsWithin farthest second.now }
+    ensures slabs { IfOk result (λ v. AreSlabsOf (λ p. Holds rule (cells (pos 1) first.now p) (cells (pos 1) second.now p)) v.items) }
+    ensures within { IfOk result (λ v. AreRectsWithin farthest v.items) }
+{
+    let mut edges = Vec::new(alloc);
+    add_rects(&mut edges, first, 1, 0)?;
+    add_rects(&mut edges, second, 0, 1)?;
+    let slabs = slabs_of_edges(alloc, edges, rule)?;
+    Ok(slabs)
+}
+
+/// The rectangles with x and y exchanged.
+pub fn exchanged(alloc: Global, rects: &[Rect]) -> Result<Vec<Rect>, AllocError>
+    ensures { IfOk result (λ v. v.items ≡ turned_rects rects.now) }
+{
+    rects
+        .iter()
+        .map(|r| Rect {
+            x0: r.y0,
+            y0: r.x0,
+            x1: r.y1,
+            y1: r.x1,
+        })
+        .collect(alloc)
+}

@@ -1,0 +1,12 @@
+//! Sets of squares, kept as canonical slabs.
+#![tactic(auto)]
+
+mod combine;
+mod loops;
+mod parts;
+mod slabs;
+#[cfg(test)]
+mod tests;
+
+pub use parts::Parts;
+pub use slabs::Slabs;

@@ -1,0 +1,90 @@
+//! The squares of a loop.
+ghost use Rattle.std.specs.Prelude.{◌≡◌, ◌⊎◌, ◌↔◌, IfOk, OnOk};
+ghost use Rattle.dpl_spec.specs.declared.Rect.{Rect};
+ghost use Rattle.dpl_spec.specs.declared.Pt.{Pt};
+ghost use Rattle.dpl_spec.specs.Squares.{Covers};
+ghost use Rattle.dpl_spec.specs.Slabs.{AreSlabsOf};
+ghost use Rattle.dpl_spec.specs.Loops.{farthest, LoopCovers, SomeLoopCovers, ArePointsWithin, AreLoopsWithin, AreRectsWithin};
+ghost use Rattle.dpl_slabs.specs.Loops.{AddsStep, AreStepsOf, AreEdgesOf};
+
+use dpl_base::{Loop, Pt, Rect};
+use dpl_sweep::{Edge, Rule, slabs_of_edges};
+use std::alloc::{AllocError, Global};
+
+/// Adds the edge from one point to the next, unless it is level.
+fn add_step(edges: &mut Vec<Edge>, p: &Pt, q: &Pt) -> Result<(), AllocError>
+    ensures { OnOk result (AddsStep edges.old.items edges.new.items p.now q.now) }
+{
+    if p.y < q.y {
+        edges.push(Edge {
+            x: p.x,
+            y0: p.y,
+            y1: q.y,
+            a: 1,
+            b: 0,
+        })?;
+        return Ok(());
+    }
+    if q.y < p.y {
+        edges.push(Edge {
+            x: p.x,
+            y0: q.y,
+            y1: p.y,
+            a: -1,
+            b: 0,
+        })?;
+        return Ok(());
+    }
+    Ok(())
+}
+
+/// The edges of a loop.
+fn edges_of(alloc: Global, points: &[Pt]) -> Result<Vec<Edge>, AllocError>
+    ensures { IfOk result (λ v. AreEdgesOf points.now v.items) }
+{
+    let mut edges = Vec::new(alloc);
+    if points.is_empty() {
+        return Ok(edges);
+    }
+    for i in 1..points.len() {
+        add_step(&mut edges, &points[i - 1], &points[i])?;
+    }
+    add_step(&mut edges, &points[points.len() - 1], &points[0])?;
+    Ok(edges)
+}
+
+/// The canonical slabs of a loop's squares.
+pub fn slabs_of_loop(alloc: Global, points: &[Pt]) -> Result<Vec<Rect>, AllocError>
+    requires { ArePointsWithin farthest points.now }
+    ensures slabs { IfOk result (λ v. AreSlabsOf (LoopCovers points.now) v.items) }
+    ensures within { IfOk result (λ v. AreRectsWithin farthest v.items) }
+{
+    let edges = edges_of(alloc, points)?;
+    let slabs = slabs_of_edges(alloc, edges, Rule::Either)?;
+    Ok(slabs)
+}
+
+/// Adds the squares of a loop to those of rectangles.
+pub fn add_loop(alloc: Global, rects: &mut Vec<Rect>, points: &[Pt]) -> Result<(), AllocError>
+    requires points { ArePointsWithin farthest points.now }
+    requires rects { AreRectsWithin farthest rects.old.items }
+    ensures covers { OnOk result ((p : Pt) → Covers rects.new.items p ↔ (Covers rects.old.items p ⊎ LoopCovers points.now p)) }
+    ensures within { OnOk result (AreRectsWithin farthest rects.new.items) }
+{
+    let slabs = slabs_of_loop(alloc, points)?;
+    rects.extend_from_slice(&slabs)?;
+    Ok(())
+}
+
+/// Rectangles that have the squares of loops.
+pub fn rects_of_loops(alloc: Global, loops: &[Loop]) -> Result<Vec<Rect>, AllocError>
+    requires { AreLoopsWithin farthest loops.now }
+    ensures covers { IfOk result (λ v. (p : Pt) → Covers v.items p ↔ SomeLoopCovers loops.now p) }
+    ensures within { IfOk result (λ v. AreRectsWithin farthest v.items) }
+{
+    let mut rects = Vec::new(alloc);
+    for i in 0..loops.len() {
+        add_loop(alloc, &mut rects, loops[i].items())?;
+    }
+    Ok(rects)
+}

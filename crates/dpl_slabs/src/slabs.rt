@@ -1,0 +1,194 @@
+//! A set of squares.
+ghost use Rattle.std.specs.Prelude.{◌≡◌, ◌↔◌, ◌⊎◌, IsTrue, IfSome, IfOk, OnOk, IsErr, IsNone, [], ◌∷◌, ◌++◌};
+ghost use Rattle.dpl_spec.specs.Squares.{Covers, Has, SameSquares, IsLeast};
+ghost use Rattle.dpl_spec.specs.Slabs.{IsCanonical, IsSolid, AreSlabsOf};
+ghost use Rattle.dpl_spec.specs.Loops.{farthest, SomeLoopCovers, IsRectWithin, AreRectsWithin, AreLoopsWithin};
+ghost use Rattle.dpl_spec.specs.Zones.{at, turned};
+
+use crate::combine::{combine, exchanged};
+use crate::loops::rects_of_loops;
+use dpl_base::{Loop, Pt, Rect};
+use dpl_sweep::Rule;
+use std::alloc::{AllocError, Global};
+use std::marker::Model;
+
+/// A set of squares. A contract sees its canonical slabs.
+#[derive(Drop)]
+pub struct Slabs {
+    rects: Vec<Rect>,
+}
+
+impl Model for Slabs {
+    ghost use Rattle.std.specs.Prelude.{List};
+    ghost use Rattle.dpl_spec.specs.declared.Rect.{Rect};
+
+    ghost Value = { List Rect };
+
+    ghost view = { λ s. s.rects.items };
+
+    ghost use Rattle.dpl_spec.specs.Slabs.{IsCanonical};
+    ghost use Rattle.dpl_spec.specs.Loops.{farthest, AreRectsWithin};
+
+    ghost invariant = { λ s. IsCanonical s.rects.items × AreRectsWithin farthest s.rects.items };
+}
+
+/// Whether the rectangle has the square.
+fn covers(r: &Rect, x: i64, y: i64) -> bool
+    ensures { IsTrue result ↔ Has r.now (at x y) }
+{
+    if x < r.x0 {
+        return false;
+    }
+    if x >= r.x1 {
+        return false;
+    }
+    if y < r.y0 {
+        return false;
+    }
+    y < r.y1
+}
+
+/// Whether the two rectangles are one.
+fn same(a: &Rect, b: &Rect) -> bool
+    ensures { IsTrue result ↔ (a.now ≡ b.now) }
+{
+    a.x0 == b.x0 && a.y0 == b.y0 && a.x1 == b.x1 && a.y1 == b.y1
+}
+
+impl Slabs {
+    /// The canonical slabs.
+    pub fn rects(&self) -> &[Rect]
+        ensures value { result.now ≡ self.now }
+        ensures canonical { IsCanonical self.now }
+        ensures within { AreRectsWithin farthest self.now }
+    {
+        self.rects.as_slice()
+    }
+
+    /// Whether the square is in the set.
+    pub fn has(&self, x: i64, y: i64) -> bool
+        ensures { IsTrue result ↔ Covers self.now (at x y) }
+    {
+        for r in &self.rects {
+            if covers(r, x, y) {
+                return true;
+            }
+        }
+        false
+    }
+
+    /// The least square, by row and then by column.
+    pub fn least(&self) -> Option<Pt>
+        ensures none { IsNone result ↔ (self.now ≡ []) }
+        ensures some { IfSome result (λ p. IsLeast (Covers self.now) p) }
+    {
+        match self.rects.first() {
+            None => None,
+            Some(r) => Some(Pt { x: r.x0, y: r.y0 }),
+        }
+    }
+
+    /// The squares of rectangles, in any order, that may overlap.
+    pub fn of_rects(alloc: Global, rects: &[Rect]) -> Result<Slabs, AllocError>
+        requires { AreRectsWithin farthest rects.now }
+        ensures { IfOk result (λ s. AreSlabsOf (Covers rects.now) s) }
+    {
+        let rects = combine(alloc, rects, &[], Rule::Either)?;
+        Ok(Slabs { rects })
+    }
+
+    /// The squares of rectangles that none of the holes has.
+    pub fn of_rects_without(
+        alloc: Global,
+        rects: &[Rect],
+        holes: &[Rect],
+    ) -> Result<Slabs, AllocError>
+        requires rects { AreRectsWithin farthest rects.now }
+        requires holes { AreRectsWithin farthest holes.now }
+        ensures { IfOk result (λ s. AreSlabsOf (λ p. Covers rects.now p × ¬ Covers holes.now p) s) }
+    {
+        let rects = combine(alloc, rects, holes, Rule::Minus)?;
+        Ok(Slabs { rects })
+    }
+
+    /// The squares of loops, in any order, that may overlap, each by the signed sum over its upright edges.
+    pub fn of_loops(alloc: Global, loops: &[Loop]) -> Result<Slabs, AllocError>
+        requires { AreLoopsWithin farthest loops.now }
+        ensures { IfOk result (λ s. AreSlabsOf (SomeLoopCovers loops.now) s) }
+    {
+        let all = rects_of_loops(alloc, loops)?;
+        let rects = combine(alloc, &all, &[], Rule::Either)?;
+        Ok(Slabs { rects })
+    }
+
+    /// The squares of one rectangle.
+    pub fn one(alloc: Global, r: Rect) -> Result<Slabs, AllocError>
+        requires solid { IsSolid r }
+        requires within { IsRectWithin farthest r }
+        ensures { IfOk result (λ s. s ≡ r ∷ []) }
+    {
+        let mut rects = Vec::new(alloc);
+        rects.push(r)?;
+        Ok(Slabs { rects })
+    }
+
+    /// Adds a rectangle that comes after all slabs of the set.
+    pub fn add(&mut self, r: Rect) -> Result<(), AllocError>
+        requires canonical { IsCanonical (self.old ++ r ∷ []) }
+        requires within { IsRectWithin farthest r }
+        ensures failed { IsErr result → self.new ≡ self.old }
+        ensures added { OnOk result (self.new ≡ self.old ++ r ∷ []) }
+    {
+        self.rects.push(r)?;
+        Ok(())
+    }
+
+    /// The squares of either set.
+    pub fn union(&self, alloc: Global, other: &Slabs) -> Result<Slabs, AllocError>
+        ensures { IfOk result (λ s. AreSlabsOf (λ p. Covers self.now p ⊎ Covers other.now p) s) }
+    {
+        let rects = combine(alloc, &self.rects, &other.rects, Rule::Either)?;
+        Ok(Slabs { rects })
+    }
+
+    /// The squares of the set that aren't in the other.
+    pub fn minus(&self, alloc: Global, other: &Slabs) -> Result<Slabs, AllocError>
+        ensures { IfOk result (λ s. AreSlabsOf (λ p. Covers self.now p × ¬ Covers other.now p) s) }
+    {
+        let rects = combine(alloc, &self.rects, &other.rects, Rule::Minus)?;
+        Ok(Slabs { rects })
+    }
+
+    /// The squares of both sets.
+    pub fn meet(&self, alloc: Global, other: &Slabs) -> Result<Slabs, AllocError>
+        ensures { IfOk result (λ s. AreSlabsOf (λ p. Covers self.now p × Covers other.now p) s) }
+    {
+        let rects = combine(alloc, &self.rects, &other.rects, Rule::Both)?;
+        Ok(Slabs { rects })
+    }
+
+    /// The canonical slabs of the set with x and y exchanged.
+    pub fn columns(&self, alloc: Global) -> Result<Vec<Rect>, AllocError>
+        ensures slabs { IfOk result (λ v. AreSlabsOf (turned (Covers self.now)) v.items) }
+        ensures within { IfOk result (λ v. AreRectsWithin farthest v.items) }
+    {
+        let turned = exchanged(alloc, &self.rects)?;
+        let rects = combine(alloc, &turned, &[], Rule::Either)?;
+        Ok(rects)
+    }
+
+    /// Whether the two are one set.
+    pub fn equal(&self, other: &Slabs) -> bool
+        ensures { IsTrue result ↔ SameSquares (Covers self.now) (Covers other.now) }
+    {
+        if self.rects.len() != other.rects.len() {
+            return false;
+        }
+        for i in 0..self.rects.len() {
+            if !same(&self.rects[i], &other.rects[i]) {
+                return false;
+            }
+        }
+        true
+    }
+}

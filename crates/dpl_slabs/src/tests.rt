@@ -1,0 +1,106 @@
+//! Worked sets of squares.
+ghost use Rattle.std.specs.Prelude.{IfOk};
+ghost use Rattle.dpl_spec.specs.Loops.{farthest, IsPointWithin, ArePointsWithin};
+
+use crate::Slabs;
+use dpl_base::{Loop, Pt, Rect};
+use std::alloc::{AllocError, Global};
+use std::test::Fail;
+
+/// A point with small coordinates.
+fn point(corner: &(i16, i16)) -> Pt
+    ensures { IsPointWithin farthest result }
+{
+    Pt {
+        x: corner.0 as i64,
+        y: corner.1 as i64,
+    }
+}
+
+/// The loop through the points.
+fn loop_of(alloc: Global, corners: &[(i16, i16)]) -> Result<Loop, AllocError>
+    ensures { IfOk result (λ l. ArePointsWithin farthest l) }
+{
+    let mut points = Vec::new(alloc);
+    for corner in corners {
+        points.push(point(corner))?;
+    }
+    Ok(Loop::of(points))
+}
+
+/// The squares of loops.
+fn slabs_of(alloc: Global, loops: &[&[(i16, i16)]]) -> Result<Slabs, AllocError> {
+    let mut all = Vec::new(alloc);
+    for i in 0..loops.len() {
+        all.push(loop_of(alloc, loops[i])?)?;
+    }
+    let slabs = Slabs::of_loops(alloc, &all)?;
+    Ok(slabs)
+}
+
+fn rect(x0: i64, y0: i64, x1: i64, y1: i64) -> Rect {
+    Rect { x0, y0, x1, y1 }
+}
+
+#[test]
+fn loops_have_their_slabs(rt: HostRuntime) -> Result<(), Fail> {
+    let alloc = rt.alloc();
+    let low = [(0, 0), (10, 0), (10, 10), (0, 10)];
+    let high = [(10, 10), (10, 20), (20, 20), (20, 10)];
+    let stairs = slabs_of(alloc, &[&low, &high])?;
+    assert_eq!(rt;
+        stairs.rects(),
+        [rect(0, 0, 10, 10), rect(10, 10, 20, 20)].as_slice()
+    );
+    let ring = [
+        (0, 0),
+        (100, 0),
+        (100, 100),
+        (0, 100),
+        (0, 50),
+        (40, 50),
+        (40, 60),
+        (60, 60),
+        (60, 40),
+        (40, 40),
+        (40, 50),
+        (0, 50),
+        (0, 0),
+    ];
+    let want = [
+        rect(0, 0, 100, 40),
+        rect(0, 40, 40, 60),
+        rect(60, 40, 100, 60),
+        rect(0, 60, 100, 100),
+    ];
+    let closed = slabs_of(alloc, &[&ring])?;
+    let open = slabs_of(alloc, &[&ring[..12]])?;
+    assert_eq!(rt; closed.rects(), want.as_slice());
+    assert!(rt; open.equal(&closed));
+    Ok(())
+}
+
+#[test]
+fn sets_are_combined(rt: HostRuntime) -> Result<(), Fail> {
+    let alloc = rt.alloc();
+    let a = slabs_of(alloc, &[&[(0, 0), (10, 0), (10, 10), (0, 10)]])?;
+    let b = slabs_of(alloc, &[&[(5, 5), (15, 5), (15, 15), (5, 15)]])?;
+    let union = [rect(0, 0, 10, 5), rect(0, 5, 15, 10), rect(5, 10, 15, 15)];
+    let minus = [rect(0, 0, 10, 5), rect(0, 5, 5, 10)];
+    let meet = [rect(5, 5, 10, 10)];
+    assert_eq!(rt; a.union(alloc, &b)?.rects(), union.as_slice());
+    let left = a.minus(alloc, &b)?;
+    assert_eq!(rt; left.rects(), minus.as_slice());
+    assert_eq!(rt; a.meet(alloc, &b)?.rects(), meet.as_slice());
+    let bar = slabs_of(alloc, &[&[(0, 0), (30, 0), (30, 10), (0, 10)]])?;
+    assert_eq!(rt;
+        bar.columns(alloc)?.as_slice(),
+        [rect(0, 0, 10, 30)].as_slice()
+    );
+    assert!(rt; Slabs::of_rects(alloc, a.rects())?.equal(&a));
+    assert!(rt; Slabs::of_rects_without(alloc, a.rects(), b.rects())?.equal(&left));
+    assert_eq!(rt; left.least(), Some(Pt { x: 0, y: 0 }));
+    assert!(rt; left.has(9, 4));
+    assert!(rt; !left.has(5, 5));
+    Ok(())
+}

@@ -1,0 +1,11 @@
+pub mod Finding
+pub mod PlaceLaws
+pub mod RowLaws
+pub mod Relabel
+pub mod Solved
+pub mod SameSums
+pub mod LinkLaws
+pub mod Linking
+pub mod Merging
+pub mod OneSummary
+pub mod SameGraph

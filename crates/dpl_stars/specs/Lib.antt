@@ -1,0 +1,4 @@
+pub mod Stars
+pub mod Sums
+pub mod Places
+pub mod Links

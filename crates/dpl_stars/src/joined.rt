@@ -1,0 +1,11 @@
+//! The summary of an edge list.
+use crate::list::StarList;
+
+/// The summary of an edge list, which says how a graph's components are two-coloured.
+#[derive(Debug, Drop)]
+pub enum Joined {
+    /// The graph has no odd cycle: a row for each piece that an edge touches.
+    Stars(StarList),
+    /// The graph has an odd cycle.
+    Odd,
+}

@@ -1,0 +1,16 @@
+//! Summaries of edge lists, and the summary of two of them together.
+#![tactic(auto)]
+
+mod joined;
+mod links;
+mod list;
+mod places;
+mod rows;
+mod sums;
+
+pub use crate::joined::Joined;
+pub use crate::list::{Star, StarList};
+pub use crate::sums::{merge, one_summary, stars};
+
+#[cfg(test)]
+mod tests;

@@ -1,0 +1,81 @@
+//! Summing up edges.
+ghost use Rattle.std.specs.Prelude.{◌≡◌, IfOk, [], IsTrue, ◌↔◌};
+ghost use Rattle.dpl_stars.specs.Sums.{AreEdgePairs, Sums, SumsBoth, IsTheSummaryOfBoth, IsOneSummary};
+ghost use Rattle.dpl_stars.specs.declared.joined.Joined.TheVariants.{Odd};
+
+use crate::joined::Joined;
+use crate::links::links;
+use crate::list::StarList;
+use crate::places::{placed, touched};
+use crate::rows::{is_levelled, rows};
+use dpl_base::{Edge, Id};
+use dpl_graph::levels_of;
+use std::alloc::{AllocError, Global};
+
+/// The summary of a list of edges: where they have no odd cycle, for each piece that one of them touches the least
+/// piece of its component, and whether its distance to that piece is odd.
+pub fn stars(alloc: Global, edges: &[Edge]) -> Result<Joined, AllocError>
+    requires { AreEdgePairs edges.now }
+    ensures { IfOk result (λ joined. Sums edges.now joined) }
+{
+    let pieces = touched(alloc, edges)?;
+    let placed = placed(alloc, &pieces, edges)?;
+    let levels = levels_of(alloc, pieces.len() as Id, &placed)?;
+    if is_levelled(&placed, &levels.levels) {
+        return Ok(Joined::Odd);
+    }
+    let rows = rows(alloc, &pieces, &levels.roots, &levels.levels)?;
+    Ok(Joined::Stars(StarList::of(rows)))
+}
+
+/// The summary of the edges of two summaries.
+pub fn merge(alloc: Global, one: &Joined, other: &Joined) -> Result<Joined, AllocError>
+    ensures sums { IfOk result (λ joined. SumsBoth one.now other.now joined) }
+    ensures same { IfOk result (λ joined. IsTheSummaryOfBoth one.now other.now joined) }
+{
+    let Joined::Stars(rows) = one else {
+        return Ok(Joined::Odd);
+    };
+    let Joined::Stars(others) = other else {
+        return Ok(Joined::Odd);
+    };
+    let mut edges = links(alloc, rows.items())?;
+    let more = links(alloc, others.items())?;
+    edges.extend_from_slice(&more)?;
+    let joined = stars(alloc, &edges)?;
+    Ok(joined)
+}
+
+/// A list of edges has one summary.
+pub fn one_summary()
+    ensures { IsOneSummary }
+{}
+
+impl Joined {
+    /// The summary of no edges.
+    pub fn new(alloc: Global) -> Joined
+        ensures { Sums [] result }
+    {
+        Joined::Stars(StarList::new(alloc))
+    }
+
+    /// Whether the graph has an odd cycle.
+    pub fn is_odd(&self) -> bool
+        ensures { IsTrue result ↔ (self.now ≡ Odd) }
+    {
+        matches!(self, Joined::Odd)
+    }
+
+    /// The same summary once more.
+    pub fn copy(&self, alloc: Global) -> Result<Joined, AllocError>
+        ensures { IfOk result (λ joined. joined ≡ self.now) }
+    {
+        match self {
+            Joined::Stars(rows) => {
+                let copied = rows.copy(alloc)?;
+                Ok(Joined::Stars(copied))
+            }
+            Joined::Odd => Ok(Joined::Odd),
+        }
+    }
+}

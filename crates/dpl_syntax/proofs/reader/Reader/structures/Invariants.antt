@@ -1,0 +1,16 @@
+use Rattle.std.proofs.Common.{◌≡◌, ◌-◌, ◌≤◌, length, []}
+use Rattle.indexmap.specs.IndexMap.{index_map_len}
+use Rattle.dpl_syntax.specs.Libraries.{structures_seen, IsSizedEach}
+use Rattle.dpl_syntax.specs.Passing.{PassesNamed, structures_first, AreStructures}
+use Rattle.dpl_syntax.proofs.reader.Reader.structures.Given as goal
+
+abbrev pub invariant-loop-structures : goal.invariant-loop-structures
+invariant-loop-structures l = record {
+  bytes : l.self.bytes ≡ l.initial.self.bytes;
+  sized : IsSizedEach l.structures.entries;
+  few : index_map_len l.structures ≤ l.self.at;
+  passes : PassesNamed l.initial.self.bytes.now [] structures_first structures_first (AreStructures l.initial.self.bytes.now (structures_seen l.structures.entries)) l.initial.self.at l.self.at;
+}
+
+abbrev pub decreases-loop-structures : goal.decreases-loop-structures
+decreases-loop-structures l = length l.self.bytes.now - l.self.at

@@ -1,0 +1,3 @@
+pub mod TreeLaws
+pub mod ItemLaws
+pub mod Turns

@@ -1,0 +1,89 @@
+//! Grows a tree from its items: each node stands before the nodes below it.
+ghost use Rattle.std.specs.Prelude.{◌≡◌, ℕ, ◌+◌, ◌<◌, ◌≤ℤ◌, ◌↔◌, IfOk, OnOk, length};
+ghost use Rattle.dpl_spec.specs.declared.Rect.{Rect};
+ghost use Rattle.dpl_tree.specs.Trees.{IsUnder, IsTree, IsLeaf, HasLeaf, HasItem, IsGrown};
+
+use crate::items::Item;
+use crate::tree::Node;
+use dpl_base::Rect;
+use std::alloc::{AllocError, Global};
+
+/// The node of an item.
+fn leaf(item: &Item) -> Node
+    ensures { IsLeaf result item.now.rect item.now.owner }
+{
+    Node {
+        bounds: item.rect,
+        least: item.owner,
+        greatest: item.owner,
+        size: 1,
+    }
+}
+
+/// The smaller of two coordinates.
+fn smaller(a: i64, b: i64) -> i64
+    ensures first { result ≤ℤ a }
+    ensures second { result ≤ℤ b }
+{
+    if a <= b { a } else { b }
+}
+
+/// The greater of two coordinates.
+fn greater(a: i64, b: i64) -> i64
+    ensures first { a ≤ℤ result }
+    ensures second { b ≤ℤ result }
+{
+    if b <= a { a } else { b }
+}
+
+/// A node over two others.
+fn over(a: &Node, b: &Node, size: usize) -> Node
+    ensures first { IsUnder a.now result }
+    ensures second { IsUnder b.now result }
+    ensures size { result.size ≡ size }
+{
+    Node {
+        bounds: Rect {
+            x0: smaller(a.bounds.x0, b.bounds.x0),
+            y0: smaller(a.bounds.y0, b.bounds.y0),
+            x1: greater(a.bounds.x1, b.bounds.x1),
+            y1: greater(a.bounds.y1, b.bounds.y1),
+        },
+        least: a.least.min(b.least),
+        greatest: a.greatest.max(b.greatest),
+        size,
+    }
+}
+
+/// Puts the tree of some items behind the nodes.
+fn add_items(nodes: &mut Vec<Node>, items: &[Item]) -> Result<(), AllocError>
+    requires { 0 < length items.now }
+    ensures { OnOk result (IsGrown nodes.old.items nodes.new.items items.now) }
+{
+    let at = nodes.len();
+    nodes.push(leaf(&items[0]))?;
+    if items.len() == 1 {
+        return Ok(());
+    }
+    let half = items.len() / 2;
+    add_items(nodes, &items[..half])?;
+    let second = nodes.len();
+    add_items(nodes, &items[half..])?;
+    let size = nodes.len() - at;
+    nodes[at] = over(&nodes[at + 1], &nodes[second], size);
+    Ok(())
+}
+
+/// The nodes of the tree of some items.
+pub fn tree_of(alloc: Global, mut items: Vec<Item>) -> Result<Vec<Node>, AllocError>
+    ensures tree { IfOk result (λ v. IsTree v.items) }
+    ensures leaves { IfOk result (λ v. (r : Rect) (k : ℕ) → HasLeaf v.items r k ↔ HasItem items.items r k) }
+{
+    items.sort_unstable_by_key(|t| t.place);
+    let mut nodes = Vec::new(alloc);
+    if items.is_empty() {
+        return Ok(nodes);
+    }
+    add_items(&mut nodes, &items)?;
+    Ok(nodes)
+}

@@ -1,0 +1,11 @@
+//! A static search tree over rectangles, each with its owner: which of them have a square in a window.
+#![tactic(auto)]
+
+mod grow;
+mod items;
+mod tree;
+mod window;
+
+pub use items::{Item, add_items_of, items_of};
+pub use tree::{Node, Owners, Tree};
+pub use window::widened;

@@ -1,0 +1,103 @@
+-- What one level of a parse that passes gives of each argument that is required or has a default.
+use Rattle.std.proofs.Common.{◌≡◌, ◌∙◌, ◌&&◌, ◌<◌, ◌^◌, ℕ, Bool, cond, not, true, false, true≢false, List, [], ◌∷◌, Option, Some, None, refl, sym, ap, subst, is_some}
+use Rattle.std.specs.Prelude.{slice_get, option_and_then, pos}
+use Rattle.std.specs.List.{list_any}
+use Rattle.std.specs.Str.Parse.{ParsesUnsigned, digits_value, without_leading_plus}
+use Rattle.clap.specs.Facts.{parser_of_value}
+use Rattle.clap.specs.Lexer.{without_minus}
+use Rattle.clap.specs.Matches.{ReadsOne}
+use Rattle.clap.specs.Values.{read_as, reading_of}
+use Rattle.clap.specs.ValueTests.{accepts}
+use Rattle.clap.specs.Takes.{is_given, value_passes}
+use Rattle.clap.specs.Walk.{Row, Rule, Text, arg_by_id, arg_by_short, first_of, nothing_held, one_of, reading_by, row_text, rows_after, settled, walk, walk_from}
+use Rattle.clap.specs.Simple.{Shape}
+use Rattle.clap.specs.Faults.{check_fault, defaults_fault, level_fault, settle_fault, walk_fault}
+use Rattle.clap.specs.declared.builder.value_parser.Reading.{Reading}
+use Rattle.clap.specs.declared.builder.value_parser.ValueParser.TheVariants as vp
+use Rattle.clap.proofs.CallerReads.{signed_reads}
+use Rattle.clap.proofs.ValueTestLemmas.{accepts-Accepts}
+use Rattle.dpl_words.specs.Meaning.{◌>>=◌, number_at, number_below}
+use Rattle.dpl_words.specs.Ranges.{IsFrom, IsThere}
+use Rattle.dpl_words.proofs.Numbers.{below_back, below_from, is_below}
+use Rattle.dpl_words.proofs.Rows.{HasDefault, HasRowWith, by_own_id, default_there, given_has, has_single_ids, required_given, row_with}
+use Rattle.dpl_words.proofs.Walking.{EachRow, HasFirst, IsIn, TakesOne, defaults_kept, none_of, settled_kept, walk_kept}
+
+-- the value passed the test of the argument of this id, and is read as that argument says
+abbrev IsPassed : List Rule → Text → Reading → Text → Type 0
+IsPassed c id how v = (k : Rule) → arg_by_id c id ≡ Some k → (how ≡ reading_by k) × (value_passes k v ≡ true)
+
+pub record IsPlainLevel (s : Shape) : Type 0 where
+  pub single : (a : Rule) → IsIn a s.rules → TakesOne a
+  pub no_short : (x : ℕ) → arg_by_short s.rules x ≡ None
+  pub apart : has_single_ids s.rules ≡ true
+
+-- a first value of the argument is there, and passed its test
+pub record IsRead (a : Rule) (rows : List Row) : Type 0 where
+  pub text : Text
+  pub first : first_of a.id rows ≡ Some text
+  pub one : one_of a.id rows ≡ Some (read_as (reading_by a) text)
+  pub passes : value_passes a text ≡ true
+
+module _ (s : Shape) (is : IsPlainLevel s) where
+  each : (a : Rule) → IsIn a s.rules → (v : Text) → value_passes a v ≡ true → IsPassed s.rules a.id (reading_by a) v
+  each a of v ok k found =
+      let own = by_own_id s.rules a is.apart of in
+      let same : a ≡ k = cc in
+      subst (λ y. (reading_by a ≡ reading_by y) × (value_passes y v ≡ true)) same (refl, ok)
+
+  pub each_row : (words : List Text) (has : Bool) → level_fault s [] nothing_held words has [] ≡ []
+      → EachRow (IsPassed s.rules) (rows_after s.rules [] words) × (check_fault s (rows_after s.rules [] words) has ≡ [])
+  each_row words has e =
+      let end = (walk s.rules [] nothing_held words).held in
+      let a = none_of (walk_fault s [] (walk_from nothing_held) words) _ e in
+      let b = none_of (settle_fault s.rules s.args_override_self end) _ a.1 in
+      let c = none_of (defaults_fault (settled s.rules end).rows s.rules) _ b.1 in
+      let kept = walk_kept s (IsPassed s.rules) each is.single is.no_short [] words (walk_from nothing_held) a.0 tt in
+      let last = settled_kept s (IsPassed s.rules) each is.single is.no_short end b.0 kept in
+      (defaults_kept s (IsPassed s.rules) each is.single is.no_short s.rules (λ a of. of) (settled s.rules end).rows c.0 last, c.1)
+
+  read_row : (a : Rule) → IsIn a s.rules → (rows : List Row) → HasRowWith (IsPassed s.rules) a.id rows → IsRead a rows
+  read_row a of rows h = go h.0.values refl h.2
+    where
+      go : (vs : List Text) → h.0.values ≡ vs → HasFirst (IsPassed s.rules a.id h.0.reading) vs → IsRead a rows
+      go [] e none = absurd none
+      go (v ∷ vs) e passed =
+          let ok = passed a (by_own_id s.rules a is.apart of) in
+          record {
+            text = v;
+            first = ap (option_and_then (λ (r : Row). slice_get r.values 0)) h.1 ∙ ap (λ (xs : List Text). slice_get xs 0) e;
+            one = ap (option_and_then row_text) h.1 ∙ ap (λ (xs : List Text). row_text (record h.0 { values = xs })) e ∙ ap (λ (how : Reading). Some (read_as how v)) ok.0;
+            passes = ok.1;
+          }
+
+  pub default_read : (a : Rule) → IsIn a s.rules → HasDefault a → (words : List Text) → EachRow (IsPassed s.rules) (rows_after s.rules [] words) → IsRead a (rows_after s.rules [] words)
+  default_read a of d words each_held =
+      let end = (walk s.rules [] nothing_held words).held in
+      read_row a of (rows_after s.rules [] words) (row_with _ a.id (rows_after s.rules [] words) (default_there s.rules (settled s.rules end).rows a of d) each_held)
+
+  pub required_read : (a : Rule) → IsIn a s.rules → a.required ≡ true → (rows : List Row) → list_any (λ a. a.required && not (is_given a.id rows)) s.rules ≡ false → EachRow (IsPassed s.rules) rows
+      → IsRead a rows
+  required_read a of wanted rows none each_held =
+      read_row a of rows (row_with _ a.id rows (given_has a.id rows (required_given s.rules rows a none of wanted)) each_held)
+
+-- ---- numbers
+
+below_reads : (k : ℕ) (t : Text) → ReadsOne {T = ℕ} {E = Unit {0}} (ParsesUnsigned k 10) t (number_below k t)
+below_reads k t = go (is_below k t) refl
+  where
+    go : (b : Bool) → is_below k t ≡ b → ReadsOne {T = ℕ} {E = Unit {0}} (ParsesUnsigned k 10) t (cond b (Some (digits_value 10 (without_leading_plus t))) None)
+    go true e = (below_from k t e, refl)
+    go false e = (tt, λ h. true≢false (sym (below_back k t h) ∙ e))
+
+-- a number that passed a test of whole numbers is there, and in its range
+pub number_read : (k low high : ℕ) (a : Rule) (rows : List Row) → high < 2 ^ k → a.parser ≡ Some (vp.Signed (pos low) (pos high)) → IsRead a rows → IsFrom low high (number_at k a.id rows)
+number_read k low high a rows fits parser read =
+    let ok = subst (λ p. accepts a.ignore_case (parser_of_value p) read.text ≡ true) parser read.passes in
+    let signed = accepts-Accepts a.ignore_case (vp.Signed (pos low) (pos high)) read.text ok in
+    let got = signed_reads (Unit {0}) (ParsesUnsigned k 10) k low high read.text (number_below k (without_minus read.text)) (below_reads k (without_minus read.text)) (λ u x g. g) fits signed in
+    let one : one_of a.id rows ≡ Some (without_minus read.text) = read.one ∙ ap (λ p. Some (read_as (reading_of (parser_of_value p)) read.text)) parser in
+    let at : number_at k a.id rows ≡ Some got.0 = ap (λ (o : Option Text). o >>= number_below k) one ∙ got.1 in
+    subst (IsFrom low high) (sym at) (got.2, got.3)
+
+pub text_read : (a : Rule) (rows : List Row) → IsRead a rows → IsThere (first_of a.id rows)
+text_read a rows read = ap (λ (o : Option Text). is_some o) read.first

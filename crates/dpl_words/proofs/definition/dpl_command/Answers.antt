@@ -1,0 +1,9 @@
+use Rattle.std.proofs.Common.{◌∙◌, ap, ap₂}
+use Rattle.clap.specs.Simple.{App, with_subcommand}
+use Rattle.dpl_words.proofs.definition.dpl_command.Goals as goal
+
+pub returns : goal.returns
+returns c =
+    let top = λ (a : App). a.top in
+    c.in_ok-subcommand.ensures.shape c.in_ok-split.ensures.local
+    ∙ ap₂ with_subcommand c.top_command.ensures (ap top c.in_ok-split.ensures.shape)

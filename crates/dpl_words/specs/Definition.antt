@@ -1,0 +1,58 @@
+-- The command line, as `clap` is told of it.
+use Rattle.std.specs.Prelude.{ℕ, true, false, pos, Some, [], ◌∷◌, codes}
+use Rattle.clap.specs.Walk.{Rule, Text}
+use Rattle.clap.specs.Simple.{App, Shape, new_rule, new_shape}
+use Rattle.clap.specs.declared.builder.value_parser.ValueParser.TheVariants as vp
+
+-- an option that must be given, with a whole number from low to high
+abbrev pub required_number : Text → ℕ → ℕ → Rule
+required_number id low high = record (new_rule id) {
+  long = Some id;
+  required = true;
+  parser = Some (vp.Signed (pos low) (pos high));
+}
+
+-- an option with a whole number from low to high, and a default
+abbrev pub optional_number : Text → ℕ → ℕ → Text → Rule
+optional_number id low high default = record (new_rule id) {
+  long = Some id;
+  defaults = default ∷ [];
+  parser = Some (vp.Signed (pos low) (pos high));
+}
+
+-- an option with a text
+abbrev pub optional_text : Text → Rule
+optional_text id = record (new_rule id) { long = Some id }
+
+-- a name of a file, by its place
+abbrev pub file_name : Text → Rule
+file_name id = record (new_rule id) { required = true }
+
+abbrev pub split_shape : Shape
+split_shape = record (new_shape (codes "split")) {
+  rules = required_number (codes "layer") 0 65535
+      ∷ required_number (codes "rule") 1 1000000
+      ∷ required_number (codes "overlap") 1 1000000
+      ∷ optional_number (codes "datatype") 0 65535 (codes "0")
+      ∷ optional_text (codes "top")
+      ∷ optional_number (codes "a") 0 65535 (codes "101")
+      ∷ optional_number (codes "b") 0 65535 (codes "102")
+      ∷ optional_number (codes "tile") 1 1073741824 (codes "4096")
+      ∷ optional_number (codes "workers") 1 64 (codes "4")
+      ∷ file_name (codes "in") ∷ file_name (codes "out") ∷ file_name (codes "cert") ∷ [];
+}
+
+-- the program: a subcommand must be there, and nothing answers with help or a version
+abbrev pub top_shape : Shape
+top_shape = record (new_shape (codes "dpl")) {
+  disable_help_flag = true;
+  disable_help_subcommand = true;
+  disable_version_flag = true;
+  subcommand_required = true;
+}
+
+abbrev pub dpl_app : App
+dpl_app = record {
+  top = record top_shape { is_leaf = false };
+  subs = split_shape ∷ [];
+}

@@ -1,0 +1,98 @@
+-- What the words of a command line mean.
+use Rattle.std.specs.Prelude.{◌^◌, ◌&&◌, ◌==◌, ℕ, Bool, not, List, Option, Some, None, if◌then◌else◌, nat_lt, codes, option_map}
+use Rattle.std.specs.Prelude.{[], unwrap_or}
+use Rattle.std.specs.Str.{bytes_eq}
+use Rattle.std.specs.Str.Parse.{digits_value, without_leading_plus}
+use Rattle.clap.specs.ValueTests.{is_numeral}
+use Rattle.clap.specs.Walk.{Row, Text, is_empty, first_of, one_of}
+use Rattle.clap.specs.Simple.{subcommand_of}
+use Rattle.clap.specs.Faults.{fault_of}
+use Rattle.dpl_words.specs.Definition.{dpl_app}
+use Rattle.dpl_words.specs.declared.values.SplitOptions.{SplitOptions}
+use Rattle.dpl_words.specs.declared.values.Request.{Request}
+use Rattle.dpl_words.specs.declared.values.Request.TheVariants.{Split}
+
+-- what a command line of `split` says
+pub record SplitValues : Type 0 where
+  pub layer : ℕ
+  pub datatype : ℕ
+  pub rule : ℕ
+  pub overlap : ℕ
+  pub top : Option Text
+  pub a : ℕ
+  pub b : ℕ
+  pub tile : ℕ
+  pub workers : ℕ
+  pub input : Text
+  pub output : Text
+  pub certificate : Text
+
+pub data RequestValues : Type 0 where
+  AsksSplit : SplitValues → RequestValues
+
+-- the number below 2 ^ k that a text writes, with a plus before it or not
+abbrev pub number_below : ℕ → Text → Option ℕ
+number_below k text = let digits = without_leading_plus text in
+    if is_numeral digits && nat_lt (digits_value 10 digits) (2 ^ k) then Some (digits_value 10 digits) else None
+
+infixl 10 ◌>>=◌
+abbrev pub ◌>>=◌ : {A B : Type 0} → Option A → (A → Option B) → Option B
+None >>= f = None
+(Some x) >>= f = f x
+
+-- the number of an option, where it is there
+abbrev pub number_at : ℕ → Text → List Row → Option ℕ
+number_at k id rows = one_of id rows >>= number_below k
+
+-- the number of an option, and the text of an argument, of which `clap` has seen that they are there
+abbrev pub number_in : ℕ → Text → List Row → ℕ
+number_in k id rows = unwrap_or (number_at k id rows) 0
+
+abbrev pub text_in : Text → List Row → Text
+text_in id rows = unwrap_or (first_of id rows) []
+
+-- the values of `split` among the entries that `clap` finds
+abbrev pub split_values : List Row → SplitValues
+split_values rows = record {
+  layer = number_in 16 (codes "layer") rows;
+  datatype = number_in 16 (codes "datatype") rows;
+  rule = number_in 32 (codes "rule") rows;
+  overlap = number_in 32 (codes "overlap") rows;
+  top = first_of (codes "top") rows;
+  a = number_in 16 (codes "a") rows;
+  b = number_in 16 (codes "b") rows;
+  tile = number_in 32 (codes "tile") rows;
+  workers = number_in 32 (codes "workers") rows;
+  input = text_in (codes "in") rows;
+  output = text_in (codes "out") rows;
+  certificate = text_in (codes "cert") rows;
+}
+
+-- `clap` takes the words
+abbrev pub is_taken : List Text → Bool
+is_taken words = is_empty (fault_of dpl_app words)
+
+-- both masks have layers of their own, and each file a name of its own
+abbrev pub is_apart : ℕ → ℕ → Text → Text → Text → Bool
+is_apart a b input output certificate = not (a == b) && (not (bytes_eq input output) && (not (bytes_eq input certificate) && not (bytes_eq output certificate)))
+
+abbrev pub split_if_apart : SplitValues → Option RequestValues
+split_if_apart v = if is_apart v.a v.b v.input v.output v.certificate then Some (AsksSplit v) else None
+
+-- what the entries of a subcommand ask for, by its name
+abbrev pub asked_by : Text → List Row → Option RequestValues
+asked_by name rows = if bytes_eq name (codes "split") then split_if_apart (split_values rows) else None
+
+-- what the entries of the subcommand that was met ask for
+abbrev pub asked_of : Option (Text × List Row) → Option RequestValues
+asked_of met = met >>= λ p. asked_by p.0 p.1
+
+-- what the words ask for, and None where they are no command of the program's
+unfoldable pub request_of : List Text → Option RequestValues
+request_of words = if is_taken words then asked_of (subcommand_of dpl_app words) else None
+
+abbrev pub split_view : SplitOptions → SplitValues
+split_view s = record { layer = s.layer; datatype = s.datatype; rule = s.rule; overlap = s.overlap; top = option_map (λ t. t.now) s.top; a = s.a; b = s.b; tile = s.tile; workers = s.workers; input = s.input.now; output = s.output.now; certificate = s.certificate.now }
+
+abbrev pub request_view : Request → RequestValues
+request_view (Split s) = AsksSplit (split_view s)

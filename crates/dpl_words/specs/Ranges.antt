@@ -1,0 +1,46 @@
+-- What the words of a command line give, where they are taken.
+use Rattle.std.specs.Prelude.{◌≡◌, ◌≤◌, ℕ, true, List, Option, Some, None, codes, is_some}
+use Rattle.std.specs.Str.{bytes_eq}
+use Rattle.clap.specs.Walk.{Row, Text, first_of}
+use Rattle.dpl_words.specs.Meaning.{AsksSplit, RequestValues, SplitValues, number_at}
+
+-- a number is there, from low to high
+abbrev pub IsFrom : ℕ → ℕ → Option ℕ → Type 0
+IsFrom low high None = ⊥
+IsFrom low high (Some n) = (low ≤ n) × (n ≤ high)
+
+abbrev pub IsThere : Option Text → Type 0
+IsThere text = is_some text ≡ true
+
+-- the entries of `split` have each number, in its range, and the name of each file
+pub record AreThere (rows : List Row) : Type 0 where
+  pub layer : IsFrom 0 65535 (number_at 16 (codes "layer") rows)
+  pub datatype : IsFrom 0 65535 (number_at 16 (codes "datatype") rows)
+  pub rule : IsFrom 1 1000000 (number_at 32 (codes "rule") rows)
+  pub overlap : IsFrom 1 1000000 (number_at 32 (codes "overlap") rows)
+  pub a : IsFrom 0 65535 (number_at 16 (codes "a") rows)
+  pub b : IsFrom 0 65535 (number_at 16 (codes "b") rows)
+  pub tile : IsFrom 1 1073741824 (number_at 32 (codes "tile") rows)
+  pub workers : IsFrom 1 64 (number_at 32 (codes "workers") rows)
+  pub input : IsThere (first_of (codes "in") rows)
+  pub output : IsThere (first_of (codes "out") rows)
+  pub certificate : IsThere (first_of (codes "cert") rows)
+
+-- what the entries of a subcommand have, by its name
+abbrev pub HasItsValues : Text × List Row → Type 0
+HasItsValues met = bytes_eq met.0 (codes "split") ≡ true → AreThere met.1
+
+-- each number of a command line of `split` lies in its range
+pub record AreInRange (v : SplitValues) : Type 0 where
+  pub layer : v.layer ≤ 65535
+  pub datatype : v.datatype ≤ 65535
+  pub rule : (1 ≤ v.rule) × (v.rule ≤ 1000000)
+  pub overlap : (1 ≤ v.overlap) × (v.overlap ≤ 1000000)
+  pub a : v.a ≤ 65535
+  pub b : v.b ≤ 65535
+  pub tile : (1 ≤ v.tile) × (v.tile ≤ 1073741824)
+  pub workers : (1 ≤ v.workers) × (v.workers ≤ 64)
+
+-- each number of a request lies in its range
+abbrev pub IsInRange : RequestValues → Type 0
+IsInRange (AsksSplit v) = AreInRange v

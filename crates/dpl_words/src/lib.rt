@@ -1,0 +1,12 @@
+//! The command line of the program, read with `clap`.
+#![tactic(auto)]
+
+mod definition;
+mod law;
+mod values;
+
+pub use law::{taken_has_its_values, taken_names_a_subcommand};
+pub use values::{Request, SplitOptions, WordsFault, read_words};
+
+#[cfg(test)]
+mod tests;

@@ -1,0 +1,179 @@
+//! The values that a command line gives.
+ghost use Rattle.std.specs.Prelude.{◌≡◌, Some, None, IfOk, IfSome, IsErrOf, is_some, map, option_map, true};
+ghost use Rattle.dpl_words.specs.declared.values.WordsFault.TheVariants.{NoMemory};
+ghost use Rattle.clap.specs.Walk.{first_of, rows_of, texts};
+ghost use Rattle.clap.specs.Simple.{subcommand_rows_of};
+ghost use Rattle.clap.specs.Words.{found_of};
+ghost use Rattle.dpl_words.specs.Meaning.{asked_by, asked_of, is_apart as specs_is_apart, number_at, number_in, text_in, request_of, request_view, split_values, split_view};
+ghost use Rattle.dpl_words.specs.Ranges.{AreThere, HasItsValues, IsInRange, IsThere};
+
+use crate::definition::dpl_command;
+use clap::ArgMatches;
+use clap::error::ErrorKind;
+use std::alloc::{AllocError, Global};
+
+/// What a command line of `split` says.
+#[derive(Debug, Drop)]
+pub struct SplitOptions<'a> {
+    pub layer: u16,
+    pub datatype: u16,
+    pub rule: u32,
+    pub overlap: u32,
+    pub top: Option<&'a str>,
+    pub a: u16,
+    pub b: u16,
+    pub tile: u32,
+    pub workers: u32,
+    pub input: &'a str,
+    pub output: &'a str,
+    pub certificate: &'a str,
+}
+
+/// What a command line asks for.
+#[derive(Debug, Drop)]
+pub enum Request<'a> {
+    Split(SplitOptions<'a>),
+}
+
+/// The number of an option, as a `u16`.
+fn number_16(matches: &ArgMatches, id: &str) -> u16
+    requires { is_some (number_at 16 id.now (rows_of (found_of matches.now))) ≡ true }
+    ensures { result ≡ number_in 16 id.now (rows_of (found_of matches.now)) }
+{
+    let Some(number) = matches.get_one::<u16>(id) else {
+        unreachable!();
+    };
+    number
+}
+
+/// The number of an option, as a `u32`.
+fn number_32(matches: &ArgMatches, id: &str) -> u32
+    requires { is_some (number_at 32 id.now (rows_of (found_of matches.now))) ≡ true }
+    ensures { result ≡ number_in 32 id.now (rows_of (found_of matches.now)) }
+{
+    let Some(number) = matches.get_one::<u32>(id) else {
+        unreachable!();
+    };
+    number
+}
+
+/// The first text of an argument.
+fn text<'a>(matches: &ArgMatches<'a>, id: &str) -> Option<&'a str>
+    ensures { option_map (λ t. t.now) result ≡ first_of id.now (rows_of (found_of matches.now)) }
+{
+    matches.get_str(id)
+}
+
+/// The first text of an argument that must be there.
+fn required_text<'a>(matches: &ArgMatches<'a>, id: &str) -> &'a str
+    requires { IsThere (first_of id.now (rows_of (found_of matches.now))) }
+    ensures { result.now ≡ text_in id.now (rows_of (found_of matches.now)) }
+{
+    let Some(text) = text(matches, id) else {
+        unreachable!();
+    };
+    text
+}
+
+/// The values of `split` among the entries.
+fn split_options<'a>(matches: &ArgMatches<'a>) -> SplitOptions<'a>
+    requires there { AreThere (rows_of (found_of matches.now)) }
+    ensures { split_view result ≡ split_values (rows_of (found_of matches.now)) }
+{
+    SplitOptions {
+        layer: number_16(matches, "layer"),
+        datatype: number_16(matches, "datatype"),
+        rule: number_32(matches, "rule"),
+        overlap: number_32(matches, "overlap"),
+        top: text(matches, "top"),
+        a: number_16(matches, "a"),
+        b: number_16(matches, "b"),
+        tile: number_32(matches, "tile"),
+        workers: number_32(matches, "workers"),
+        input: required_text(matches, "in"),
+        output: required_text(matches, "out"),
+        certificate: required_text(matches, "cert"),
+    }
+}
+
+/// Why words are no command.
+#[derive(Clone, Copy, Debug, PartialEq, Eq)]
+pub enum WordsFault {
+    NoMemory,
+    Usage,
+}
+
+impl From<AllocError> for WordsFault {
+    ghost from_gives = { λ _ e. e ≡ NoMemory };
+
+    fn from(_: AllocError) -> Self {
+        WordsFault::NoMemory
+    }
+}
+
+/// What the words ask for. Want of memory is answered only where `clap` was refused memory.
+pub fn read_words<'a>(alloc: Global, words: &'a [&'a str]) -> Result<Request<'a>, WordsFault>
+    // What is read is what the words ask for, by the written definition of the command line.
+    ensures read { IfOk result (λ r. request_of (texts words.entry.now) ≡ Some (request_view r)) }
+    // Each number lies in the range that its option states.
+    ensures ranges { IfOk result (λ r. IsInRange (request_view r)) }
+    // They are refused only where they ask for nothing.
+    ensures usage { IsErrOf result WordsFault.Usage → request_of (texts words.entry.now) ≡ None }
+{
+    let command = dpl_command(alloc)?;
+    let matches = match command.try_get_matches_from(words) {
+        Ok(matches) => matches,
+        Err(error) => return Err(fault_by(error.kind())),
+    };
+    asked(&matches).ok_or(WordsFault::Usage)
+}
+
+/// The fault that an error of `clap` is.
+fn fault_by(kind: ErrorKind) -> WordsFault
+    ensures memory { kind ≡ ErrorKind.OutOfMemory → result ≡ WordsFault.NoMemory }
+    ensures other { result ≡ WordsFault.NoMemory → kind ≡ ErrorKind.OutOfMemory }
+{
+    match kind {
+        ErrorKind::OutOfMemory => WordsFault::NoMemory,
+        _ => WordsFault::Usage,
+    }
+}
+
+/// What the matches ask for.
+fn asked<'a>(matches: &ArgMatches<'a>) -> Option<Request<'a>>
+    requires there { IfSome (subcommand_rows_of matches.now) HasItsValues }
+    ensures read { option_map request_view result ≡ asked_of (subcommand_rows_of matches.now) }
+    ensures ranges { IfSome result (λ r. IsInRange (request_view r)) }
+{
+    let (name, inner) = matches.subcommand()?;
+    request_by(name, inner)
+}
+
+/// What the matches of the subcommand of this name ask for.
+fn request_by<'a>(name: &str, inner: &ArgMatches<'a>) -> Option<Request<'a>>
+    requires there { HasItsValues (name.now, rows_of (found_of inner.now)) }
+    ensures read { option_map request_view result ≡ asked_by name.now (rows_of (found_of inner.now)) }
+    ensures ranges { IfSome result (λ r. IsInRange (request_view r)) }
+{
+    if name != "split" {
+        return None;
+    }
+    let options = split_options(inner);
+    if !is_apart(
+        options.a,
+        options.b,
+        options.input,
+        options.output,
+        options.certificate,
+    ) {
+        return None;
+    }
+    Some(Request::Split(options))
+}
+
+/// Whether both masks have layers of their own, and each file a name of its own.
+fn is_apart(a: u16, b: u16, input: &str, output: &str, certificate: &str) -> bool
+    ensures { result ≡ specs_is_apart a b input.now output.now certificate.now }
+{
+    a != b && input != output && input != certificate && output != certificate
+}

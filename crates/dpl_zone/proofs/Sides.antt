@@ -1,0 +1,225 @@
+-- Zones of one feature stand apart, and each has two sides.
+use Rattle.std.proofs.Common.{◌≡◌, ℕ, ◌*◌, ◌<◌, ◌≤◌, ◌⊎◌, inl, inr, List, [], length, get_or, sym, refl, ap, ◌∙◌, subst, arith}
+use Rattle.std.specs.Prelude.{ℤ, pos, ◌+ℤ◌, ◌-ℤ◌, ◌≤ℤ◌, ◌↔◌}
+use Rattle.std.specs.List.{Contains}
+use Rattle.std.proofs.lemmas.Int.{ints, by_lt_z}
+use Rattle.std.proofs.lemmas.List.{get_or_default}
+use Rattle.dpl_spec.specs.declared.Pt.{Pt}
+use Rattle.dpl_spec.specs.declared.Rect.{Rect}
+use Rattle.dpl_spec.specs.declared.Zone.{Zone}
+use Rattle.dpl_spec.specs.Squares.{Region, SameSquares, AreNear, AreTouching, Covers, Has, Touch, d2}
+use Rattle.dpl_spec.specs.Components.{Linked, here, on, AreComponents}
+use Rattle.dpl_spec.specs.Zones.{at, IsHorizontalZone, IsVerticalZone, IsKeptZone, turned, turned_rect, AreZones, part_at}
+use Rattle.dpl_spec.specs.Pieces.{without, AreSides}
+use Rattle.dpl_spec.proofs.SquareLaws.{Touch-from_close, Touch-sym}
+use Rattle.dpl_spec.proofs.ComponentLaws.{Linked-trans}
+use Rattle.dpl_spec.proofs.ZoneLaws.{close-from_touch, zone-in-feature, beside-in-feature, beside-same, touching-beside}
+use Rattle.dpl_spec.proofs.WholeLaws.{part-unique}
+use Rattle.dpl_spec.proofs.SideLaws.{sides-unique}
+use Rattle.dpl_slabs.specs.Parts.{union_of}
+use Rattle.dpl_zone.specs.Laws.{IsLeftOrBelow, IsRightOrAbove, HasTwoSides}
+use Rattle.dpl_zone.proofs.Features.{kept-as, same_zone}
+use Rattle.dpl_zone.proofs.Keeping.{zone-inside, upright-inside}
+
+touch-turned : (p q : Pt) → Touch p q → Touch (at p.y p.x) (at q.y q.x)
+touch-turned p q t = let c = close-from_touch p q t in Touch-from_close (at p.y p.x) (at q.y q.x) c.low c.high c.left c.right
+
+has-turned : (r : Rect) (p : Pt) → Has r p → Has (turned_rect r) (at p.y p.x)
+has-turned r p h = record { left = h.low; right = h.high; low = h.left; high = h.right }
+
+module _ (rule overlap : ℕ) (l f : Region) where
+  pub kept-inside : (r : Rect) (p : Pt) → IsKeptZone rule overlap l f r → Has r p → f p
+  kept-inside r p (inl h) has = zone-in-feature rule l f overlap r p h has
+  kept-inside r p (inr (v, apart)) has = zone-in-feature rule (turned l) (turned f) overlap (turned_rect r) (at p.y p.x) v (has-turned r p has)
+
+flat-one : (rule overlap : ℕ) (l f : Region) (z w : Rect) → IsHorizontalZone rule overlap l f z → IsHorizontalZone rule overlap l f w → AreTouching (Has z) (Has w) → z ≡ w
+flat-one rule overlap l f z w h k (p, q, hp, hq, t) =
+    let (a, b, c, d) = touching-beside rule l f overlap z h q p (zone-in-feature rule l f overlap w q k hq) hp (Touch-sym p q t) in
+    beside-same rule l f overlap z w h k q.x q.y a b c d hq
+
+touching-turned : (z w : Rect) → AreTouching (Has z) (Has w) → AreTouching (Has (turned_rect z)) (Has (turned_rect w))
+touching-turned z w (p, q, hp, hq, t) = (at p.y p.x, at q.y q.x, has-turned z p hp, has-turned w q hq, touch-turned p q t)
+
+touching-sym : (z w : Rect) → AreTouching (Has z) (Has w) → AreTouching (Has w) (Has z)
+touching-sym z w (p, q, hp, hq, t) = (q, p, hq, hp, Touch-sym p q t)
+
+kept-one : (rule overlap : ℕ) (l f : Region) (z w : Rect) → IsKeptZone rule overlap l f z → IsKeptZone rule overlap l f w → AreTouching (Has z) (Has w) → z ≡ w
+kept-one rule overlap l f z w (inl h) (inl k) t = flat-one rule overlap l f z w h k t
+kept-one rule overlap l f z w (inl h) (inr (v, free)) t = absurd (free z h t)
+kept-one rule overlap l f z w (inr (v, free)) (inl k) t = absurd (free w k (touching-sym z w t))
+kept-one rule overlap l f z w (inr (v, free)) (inr (u, none)) t =
+    ap turned_rect (flat-one rule overlap (turned l) (turned f) (turned_rect z) (turned_rect w) v u (touching-turned z w t))
+
+pub stand-apart : (rule overlap : ℕ) (layer : List Rect) (features : List (List Rect)) (zones : List Zone) → AreZones rule overlap (Covers layer) features zones
+    → (z w : Zone) → Contains zones z → Contains zones w → z.feature ≡ w.feature → AreTouching (Has z.rect) (Has w.rect) → z ≡ w
+stand-apart rule overlap layer features zones zs z w z_in w_in same t =
+    let (n, kz) = (zs.exactly z).0 z_in in
+    let (m, kw) = (zs.exactly w).0 w_in in
+    let kw' : IsKeptZone rule overlap (Covers layer) (part_at features z.feature) w.rect = subst (λ k. IsKeptZone rule overlap (Covers layer) (part_at features k) w.rect) (sym same) kw in
+    same_zone z w (kept-one rule overlap (Covers layer) (part_at features z.feature) z.rect w.rect kz kw' t) same
+
+-- what touches a component is in it
+closed : (a : Region) (parts : List (List Rect)) (k : ℕ) (p q : Pt) → AreComponents a parts → k < length parts → a p → part_at parts k q → Touch p q → part_at parts k p
+closed a parts k p q c k_in in_a has touch =
+    let whole = c.whole k [] k_in in
+    let linked : Linked a whole.0 q = (whole.2 q).0 has in
+    let q_in : a q = (c.together q).0 (k, get_or parts k [], k_in, get_or_default parts k (get_or parts k []) [] k_in, has) in
+    (whole.2 p).1 (Linked-trans a linked (on q_in (Touch-sym p q touch) (here in_a)))
+
+module _ (rule overlap : ℕ) (layer : List Rect) (features pieces : List (List Rect)) (zones : List Zone) (some : 1 ≤ overlap) (c : AreComponents (Covers layer) features)
+    (zs : AreZones rule overlap (Covers layer) features zones) (ps : AreComponents (without (Covers layer) zones) pieces) where
+  -- a zone with a square of a feature is a zone of that feature
+  zone-of : (w : Zone) (k : ℕ) (p : Pt) → Contains zones w → k < length features → part_at features k p → Has w.rect p → IsKeptZone rule overlap (Covers layer) (part_at features k) w.rect
+  zone-of w k p w_in k_in in_k has =
+      let (m_in, kept_m) = (zs.exactly w).0 w_in in
+      let same : w.feature ≡ k = part-unique (Covers layer) features w.feature k p c m_in k_in (kept-inside rule overlap (Covers layer) (part_at features w.feature) w.rect p kept_m has) in_k in
+      subst (λ n. IsKeptZone rule overlap (Covers layer) (part_at features n) w.rect) same kept_m
+
+  in-layer : (k : ℕ) (p : Pt) → k < length features → part_at features k p → Covers layer p
+  in-layer k p k_in has = (c.together p).0 (k, get_or features k [], k_in, get_or_default features k (get_or features k []) [] k_in, has)
+
+  module _ (z : Zone) (z_in : Contains zones z) where
+    feature_in : z.feature < length features
+    feature_in = ((zs.exactly z).0 z_in).0
+
+    own : (p q : Pt) → without (Covers layer) zones p → Has z.rect q → Touch p q → part_at features z.feature p
+    own p q rest has touch =
+        closed (Covers layer) features z.feature p q c feature_in rest.0 (kept-inside rule overlap (Covers layer) (part_at features z.feature) z.rect q ((zs.exactly z).0 z_in).1 has) touch
+
+    not-in-zone : (p : Pt) → without (Covers layer) zones p → Has z.rect p → ⊥
+    not-in-zone p rest has = let (n, n_in, n_is) = z_in in rest.1 (n, z, n_in, n_is, has)
+
+    -- in the rows of a horizontal zone the rest goes on beside it
+    rest-across : IsHorizontalZone rule overlap (Covers layer) (part_at features z.feature) z.rect → (x y i : ℤ) → Has z.rect (at i y) → ((x ≡ i -ℤ pos 1) × (i ≡ z.rect.x0)) ⊎ ((x ≡ i +ℤ pos 1) × (x ≡ z.rect.x1)) → without (Covers layer) zones (at x y)
+    rest-across h x y i has side =
+        let left : z.rect.x0 ≤ℤ (x +ℤ pos 1) = elim side [ inl e ↦ (let a = e.0 in let b = e.1 in omega (arith, ints, a, b)) | inr e ↦ (let a = e.0 in let b = has.left in omega (arith, ints, a, b)) ] in
+        let right : x ≤ℤ z.rect.x1 = elim side [ inl e ↦ (let a = e.0 in let b = has.right in omega (arith, ints, a, b)) | inr e ↦ (let a = e.1 in omega (arith, ints, a)) ] in
+        let close : Touch (at i y) (at x y) = elim side [
+          | inl e ↦ (let a = e.0 in Touch-from_close (at i y) (at x y) (omega (arith, ints, a)) (omega (arith, ints, a)) (omega (arith, ints)) (omega (arith, ints)))
+          | inr e ↦ (let a = e.0 in Touch-from_close (at i y) (at x y) (omega (arith, ints, a)) (omega (arith, ints, a)) (omega (arith, ints)) (omega (arith, ints)))
+        ] in
+        let in_f = beside-in-feature rule (Covers layer) (part_at features z.feature) overlap z.rect h x y left right has.low has.high in (
+          in-layer z.feature (at x y) feature_in in_f,
+          λ (n, w, n_in, n_is, w_has). elim (zone-of w z.feature (at x y) (n, n_in, n_is) feature_in in_f w_has) [
+            | inl k ↦ (let same : z.rect ≡ w.rect = beside-same rule (Covers layer) (part_at features z.feature) overlap z.rect w.rect h k x y left right has.low has.high w_has in
+                let mine : Has z.rect (at x y) = subst (λ r. Has r (at x y)) (sym same) w_has in
+                elim side [ inl e ↦ (let a = e.0 in let b = e.1 in let m = mine.left in omega (arith, ints, a, b, m)) | inr e ↦ (let a = e.1 in let m = mine.right in omega (arith, ints, a, m)) ])
+            | inr (v, apart) ↦ apart z.rect h (at i y, at x y, has, w_has, close)
+          ],
+        )
+
+    -- in the columns of a vertical zone the rest goes on below and above it
+    rest-up : IsVerticalZone rule overlap (Covers layer) (part_at features z.feature) z.rect → ((r : Rect) → IsHorizontalZone rule overlap (Covers layer) (part_at features z.feature) r → ¬ AreTouching (Has r) (Has z.rect))
+        → (x y j : ℤ) → Has z.rect (at x j) → ((y ≡ j -ℤ pos 1) × (j ≡ z.rect.y0)) ⊎ ((y ≡ j +ℤ pos 1) × (y ≡ z.rect.y1)) → without (Covers layer) zones (at x y)
+    rest-up h none x y j has side =
+        let low : z.rect.y0 ≤ℤ (y +ℤ pos 1) = elim side [ inl e ↦ (let a = e.0 in let b = e.1 in omega (arith, ints, a, b)) | inr e ↦ (let a = e.0 in let b = has.low in omega (arith, ints, a, b)) ] in
+        let high : y ≤ℤ z.rect.y1 = elim side [ inl e ↦ (let a = e.0 in let b = has.high in omega (arith, ints, a, b)) | inr e ↦ (let a = e.1 in omega (arith, ints, a)) ] in
+        let close : Touch (at x y) (at x j) = elim side [
+          | inl e ↦ (let a = e.0 in Touch-from_close (at x y) (at x j) (omega (arith, ints)) (omega (arith, ints)) (omega (arith, ints, a)) (omega (arith, ints, a)))
+          | inr e ↦ (let a = e.0 in Touch-from_close (at x y) (at x j) (omega (arith, ints)) (omega (arith, ints)) (omega (arith, ints, a)) (omega (arith, ints, a)))
+        ] in
+        let in_f = beside-in-feature rule (turned (Covers layer)) (turned (part_at features z.feature)) overlap (turned_rect z.rect) h y x low high has.left has.right in (
+          in-layer z.feature (at x y) feature_in in_f,
+          λ (n, w, n_in, n_is, w_has). elim (zone-of w z.feature (at x y) (n, n_in, n_is) feature_in in_f w_has) [
+            | inl k ↦ none w.rect k (at x y, at x j, w_has, has, close)
+            | inr (v, apart) ↦ (let same : turned_rect z.rect ≡ turned_rect w.rect = beside-same rule (turned (Covers layer)) (turned (part_at features z.feature)) overlap (turned_rect z.rect) (turned_rect w.rect) h v y x low high has.left has.right (has-turned w.rect (at x y) w_has) in
+                let mine : Has (turned_rect z.rect) (at y x) = subst (λ r. Has r (at y x)) (sym same) (has-turned w.rect (at x y) w_has) in
+                elim side [ inl e ↦ (let a = e.0 in let b = e.1 in let m = mine.left in omega (arith, ints, a, b, m)) | inr e ↦ (let a = e.1 in let m = mine.right in omega (arith, ints, a, m)) ])
+          ],
+        )
+
+    abbrev OnOneSide : Pt → Type 0
+    OnOneSide p = (IsLeftOrBelow z.rect p × (IsRightOrAbove z.rect p → ⊥)) ⊎ (IsRightOrAbove z.rect p × (IsLeftOrBelow z.rect p → ⊥))
+
+    two-flat : IsHorizontalZone rule overlap (Covers layer) (part_at features z.feature) z.rect → (p q : Pt) → without (Covers layer) zones p → Has z.rect q → Touch p q → OnOneSide p
+    two-flat h p q rest has touch =
+        let (left, right, from, below) = touching-beside rule (Covers layer) (part_at features z.feature) overlap z.rect h p q (own p q rest has touch) has touch in
+        let a = has.left in
+        let b = has.right in
+        by_lt_z p.x z.rect.x0
+        (λ l. inl (inl l, λ r. elim r [ inl m ↦ omega (arith, ints, l, m, a, b) | inr m ↦ omega (arith, ints, m, below) ]))
+        (λ l. by_lt_z p.x z.rect.x1
+        (λ m. absurd (not-in-zone p rest (record { left = l; right = m; low = from; high = below })))
+        (λ m. inr (inl m, λ r. elim r [ inl k ↦ omega (arith, ints, l, k) | inr k ↦ omega (arith, ints, k, from) ])))
+
+    two-upright : IsVerticalZone rule overlap (Covers layer) (part_at features z.feature) z.rect → (p q : Pt) → without (Covers layer) zones p → Has z.rect q → Touch p q → OnOneSide p
+    two-upright h p q rest has touch =
+        let (low, high, from, below) = touching-beside rule (turned (Covers layer)) (turned (part_at features z.feature)) overlap (turned_rect z.rect) h (at p.y p.x) (at q.y q.x)
+        (own p q rest has touch) (has-turned z.rect q has) (touch-turned p q touch) in
+        let a = has.low in
+        let b = has.high in
+        by_lt_z p.y z.rect.y0
+        (λ l. inl (inr l, λ r. elim r [ inl m ↦ omega (arith, ints, m, below) | inr m ↦ omega (arith, ints, l, m, a, b) ]))
+        (λ l. by_lt_z p.y z.rect.y1
+        (λ m. absurd (not-in-zone p rest (record { left = from; right = below; low = l; high = m })))
+        (λ m. inr (inr m, λ r. elim r [ inl k ↦ omega (arith, ints, k, from) | inr k ↦ omega (arith, ints, l, k) ])))
+
+    two : IsKeptZone rule overlap (Covers layer) (part_at features z.feature) z.rect → (p q : Pt) → without (Covers layer) zones p → Has z.rect q → Touch p q → OnOneSide p
+    two (inl h) = two-flat h
+    two (inr (v, none)) = two-upright v
+
+    -- pieces on both sides
+    sides-of : (p q r s : Pt) → without (Covers layer) zones p → Has z.rect q → Touch p q → IsLeftOrBelow z.rect p → without (Covers layer) zones r → Has z.rect s → Touch r s → IsRightOrAbove z.rect r → (side : ℕ × ℕ) × AreSides features pieces z side
+    sides-of p q r s rest has touch left rest' has' touch' right =
+        let (i, piece, i_in, i_is, in_i) = (ps.together p).1 rest in
+        let (j, other, j_in, j_is, in_j) = (ps.together r).1 rest' in
+        let at_i : part_at pieces i p = subst (λ t. Covers t p) (sym i_is ∙ get_or_default pieces i piece [] i_in) in_i in
+        let at_j : part_at pieces j r = subst (λ t. Covers t r) (sym j_is ∙ get_or_default pieces j other [] j_in) in_j in
+        ((i, j), record { known = (i_in, j_in); first = (p, q, at_i, has, touch, left); second = (r, s, at_j, has', touch', right) })
+
+    sides-some : IsKeptZone rule overlap (Covers layer) (part_at features z.feature) z.rect → (side : ℕ × ℕ) × AreSides features pieces z side
+    sides-some (inl h) =
+        let i = zone-inside rule overlap (Covers layer) (part_at features z.feature) z.rect some h in
+        let wide = i.wide in
+        let tall = i.tall in
+        let first : Has z.rect (at z.rect.x0 z.rect.y0) = record { left = omega (arith, ints); right = wide; low = omega (arith, ints); high = tall } in
+        let last : Has z.rect (at (z.rect.x1 -ℤ pos 1) z.rect.y0) = record { left = omega (arith, ints, wide); right = omega (arith, ints); low = omega (arith, ints); high = tall } in
+        sides-of (at (z.rect.x0 -ℤ pos 1) z.rect.y0) (at z.rect.x0 z.rect.y0) (at z.rect.x1 z.rect.y0) (at (z.rect.x1 -ℤ pos 1) z.rect.y0)
+        (rest-across h (z.rect.x0 -ℤ pos 1) z.rect.y0 z.rect.x0 first (inl (refl, refl))) first (Touch-from_close (at (z.rect.x0 -ℤ pos 1) z.rect.y0) (at z.rect.x0 z.rect.y0) (omega (arith, ints)) (omega (arith, ints)) (omega (arith, ints)) (omega (arith, ints))) (inl (omega (arith, ints)))
+        (rest-across h z.rect.x1 z.rect.y0 (z.rect.x1 -ℤ pos 1) last (inr (omega (arith, ints), refl))) last (Touch-from_close (at z.rect.x1 z.rect.y0) (at (z.rect.x1 -ℤ pos 1) z.rect.y0) (omega (arith, ints)) (omega (arith, ints)) (omega (arith, ints)) (omega (arith, ints))) (inl (omega (arith, ints)))
+    sides-some (inr (v, none)) =
+        let i = upright-inside rule overlap (Covers layer) (part_at features z.feature) z.rect some v in
+        let wide = i.wide in
+        let tall = i.tall in
+        let first : Has z.rect (at z.rect.x0 z.rect.y0) = record { left = omega (arith, ints); right = wide; low = omega (arith, ints); high = tall } in
+        let last : Has z.rect (at z.rect.x0 (z.rect.y1 -ℤ pos 1)) = record { left = omega (arith, ints); right = wide; low = omega (arith, ints, tall); high = omega (arith, ints) } in
+        sides-of (at z.rect.x0 (z.rect.y0 -ℤ pos 1)) (at z.rect.x0 z.rect.y0) (at z.rect.x0 z.rect.y1) (at z.rect.x0 (z.rect.y1 -ℤ pos 1))
+        (rest-up v none z.rect.x0 (z.rect.y0 -ℤ pos 1) z.rect.y0 first (inl (refl, refl))) first (Touch-from_close (at z.rect.x0 (z.rect.y0 -ℤ pos 1)) (at z.rect.x0 z.rect.y0) (omega (arith, ints)) (omega (arith, ints)) (omega (arith, ints)) (omega (arith, ints))) (inr (omega (arith, ints)))
+        (rest-up v none z.rect.x0 z.rect.y1 (z.rect.y1 -ℤ pos 1) last (inr (omega (arith, ints), refl))) last (Touch-from_close (at z.rect.x0 z.rect.y1) (at z.rect.x0 (z.rect.y1 -ℤ pos 1)) (omega (arith, ints)) (omega (arith, ints)) (omega (arith, ints)) (omega (arith, ints))) (inr (omega (arith, ints)))
+
+  pub two-sides : (z : Zone) → Contains zones z → HasTwoSides layer features pieces zones z
+  two-sides z z_in =
+      let kept = ((zs.exactly z).0 z_in).1 in
+      let (side, are) = sides-some z z_in kept in
+      let one = sides-unique rule overlap (Covers layer) features pieces zones c zs ps in
+      record {
+        side = side;
+        are = are;
+        first = λ i i_in first. ap (λ t. let s : ℕ × ℕ = t in s.0) (one z (i, side.1) side z_in (record { known = (i_in, are.known.1); first = first; second = are.second }) are);
+        second = λ i i_in second. ap (λ t. let s : ℕ × ℕ = t in s.1) (one z (side.0, i) side z_in (record { known = (are.known.0, i_in); first = are.first; second = second }) are);
+        own = own z z_in;
+        two = two z z_in kept;
+      }
+
+d2-turned : (p q : Pt) → d2 (at p.y p.x) (at q.y q.x) ≡ d2 p q
+d2-turned p q = omega arith
+
+pub near-turned : (rule : ℕ) (a b : List Rect) → AreNear rule (turned (Covers a)) (turned (Covers b)) ↔ AreNear rule (Covers a) (Covers b)
+near-turned rule a b = (
+  λ (p, q, in_a, in_b, near). (at p.y p.x, at q.y q.x, in_a, in_b, subst (λ n. n < rule * rule) (sym (d2-turned p q)) near),
+  λ (p, q, in_a, in_b, near). (at p.y p.x, at q.y q.x, in_a, in_b, subst (λ n. n < rule * rule) (sym (d2-turned p q)) near),
+)
+
+pub squares-turned : (p q : Pt) → d2 (at p.y p.x) (at q.y q.x) ≡ d2 p q
+squares-turned = d2-turned
+
+pub of-squares : (rule overlap : ℕ) (layer : List Rect) (features : List (List Rect)) (zones : List Zone) → SameSquares (union_of features) (Covers layer)
+    → AreZones rule overlap (union_of features) features zones → AreZones rule overlap (Covers layer) features zones
+of-squares rule overlap layer features zones same zs =
+    record {
+      ordered = zs.ordered;
+      exactly = λ z. (
+        λ h. (let (k_in, kept) = (zs.exactly z).0 h in (k_in, kept-as rule overlap (union_of features) (Covers layer) (part_at features z.feature) same z.rect kept)),
+        λ (k_in, kept). (zs.exactly z).1 (k_in, kept-as rule overlap (Covers layer) (union_of features) (part_at features z.feature) (λ p. ((same p).1, (same p).0)) z.rect kept),
+      );
+    }

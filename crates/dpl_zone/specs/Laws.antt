@@ -1,0 +1,47 @@
+-- What follows for the zones of a layer.
+use Rattle.std.specs.Prelude.{◌≡◌, ℕ, ◌<◌, ◌≤◌, ◌⊎◌, ◌↔◌, ◌≤ℤ◌, ◌<ℤ◌, List, length}
+use Rattle.std.specs.List.{Contains}
+use Rattle.dpl_spec.specs.declared.Pt.{Pt}
+use Rattle.dpl_spec.specs.declared.Rect.{Rect}
+use Rattle.dpl_spec.specs.declared.Zone.{Zone}
+use Rattle.dpl_spec.specs.Squares.{SameSquares, AreNear, AreTouching, Covers, Has, Touch, d2}
+use Rattle.dpl_spec.specs.Components.{AreComponents}
+use Rattle.dpl_spec.specs.Zones.{at, turned, part_at, AreZones}
+use Rattle.dpl_spec.specs.Pieces.{without, IsFirstSide, IsSecondSide, AreSides}
+use Rattle.dpl_slabs.specs.Parts.{union_of}
+
+-- zones of one feature that touch are one
+abbrev pub ZonesStandApart : Type 0
+ZonesStandApart = (rule overlap : ℕ) (layer : List Rect) (features : List (List Rect)) (zones : List Zone) → AreZones rule overlap (Covers layer) features zones
+    → (z w : Zone) → Contains zones z → Contains zones w → z.feature ≡ w.feature → AreTouching (Has z.rect) (Has w.rect) → z ≡ w
+
+abbrev pub IsLeftOrBelow : Rect → Pt → Type 0
+IsLeftOrBelow z p = (p.x <ℤ z.x0) ⊎ (p.y <ℤ z.y0)
+
+abbrev pub IsRightOrAbove : Rect → Pt → Type 0
+IsRightOrAbove z p = (z.x1 ≤ℤ p.x) ⊎ (z.y1 ≤ℤ p.y)
+
+-- What touches the zone from the rest of the layer is of its feature, and lies on one of two sides, the left or lower one and the right or upper one, each within one piece.
+pub record HasTwoSides (layer : List Rect) (features pieces : List (List Rect)) (zones : List Zone) (z : Zone) : Type 0 where
+  pub side : ℕ × ℕ
+  pub are : AreSides features pieces z side
+  pub first : (i : ℕ) → i < length pieces → IsFirstSide (part_at pieces i) z.rect → i ≡ side.0
+  pub second : (i : ℕ) → i < length pieces → IsSecondSide (part_at pieces i) z.rect → i ≡ side.1
+  pub own : (p q : Pt) → without (Covers layer) zones p → Has z.rect q → Touch p q → part_at features z.feature p
+  pub two : (p q : Pt) → without (Covers layer) zones p → Has z.rect q → Touch p q →
+      (IsLeftOrBelow z.rect p × (IsRightOrAbove z.rect p → ⊥)) ⊎ (IsRightOrAbove z.rect p × (IsLeftOrBelow z.rect p → ⊥))
+
+abbrev pub ZonesHaveTwoSides : Type 0
+ZonesHaveTwoSides = (rule overlap : ℕ) (layer : List Rect) (features pieces : List (List Rect)) (zones : List Zone) → 1 ≤ overlap → AreComponents (Covers layer) features
+    → AreZones rule overlap (Covers layer) features zones → AreComponents (without (Covers layer) zones) pieces
+    → (z : Zone) → Contains zones z → HasTwoSides layer features pieces zones z
+
+-- distance, and with it being near, is the same with x and y exchanged
+pub record DistanceTurns : Type 0 where
+  pub squares : (p q : Pt) → d2 (at p.y p.x) (at q.y q.x) ≡ d2 p q
+  pub sets : (rule : ℕ) (a b : List Rect) → AreNear rule (turned (Covers a)) (turned (Covers b)) ↔ AreNear rule (Covers a) (Covers b)
+
+-- zones depend on the squares of the layer alone
+abbrev pub ZonesAreOfSquares : Type 0
+ZonesAreOfSquares = (rule overlap : ℕ) (layer : List Rect) (features : List (List Rect)) (zones : List Zone) → SameSquares (union_of features) (Covers layer)
+    → AreZones rule overlap (union_of features) features zones → AreZones rule overlap (Covers layer) features zones

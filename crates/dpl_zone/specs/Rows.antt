@@ -1,0 +1,102 @@
+-- Rows of a slab: those near other rectangles, the spans between them, and the zones in the spans.
+use Rattle.std.specs.Prelude.{◌≡◌, ℕ, ◌+◌, ◌*◌, ◌<◌, ◌≤◌, ◌⊎◌, ◌↔◌, ℤ, pos, ◌+ℤ◌, ◌-ℤ◌, ◌≤ℤ◌, ◌<ℤ◌, List, length, slice_index_or}
+use Rattle.std.specs.List.{Any, Contains}
+use Rattle.dpl_spec.specs.declared.Pt.{Pt}
+use Rattle.dpl_spec.specs.declared.Rect.{Rect}
+use Rattle.dpl_spec.specs.Loops.{farthest}
+use Rattle.dpl_spec.specs.Squares.{Region, Has, Covers, d2, IsSolidWithin}
+use Rattle.dpl_spec.specs.Zones.{at, turned, GoesOn}
+use Rattle.dpl_zone.specs.declared.rows.Span.{Span}
+
+pub record InRows (s : Span) (y : ℤ) : Type 0 where
+  pub from : s.from ≤ℤ y
+  pub below : y <ℤ s.to
+
+abbrev pub SomeRow : List Span → ℤ → Type 0
+SomeRow spans y = Any (λ s. InRows s y) spans
+
+abbrev pub AreTall : List Span → Type 0
+AreTall spans = (k : ℕ) (d : Span) → k < length spans → (slice_index_or spans k d).from <ℤ (slice_index_or spans k d).to
+
+abbrev pub RiseByFrom : List Span → Type 0
+RiseByFrom spans = (i j : ℕ) (d : Span) → i ≤ j → j < length spans → (slice_index_or spans i d).from ≤ℤ (slice_index_or spans j d).from
+
+-- the slab has in row y a square closer than rule to one of the other rectangle
+pub record IsShaded (rule : ℕ) (slab other : Rect) (y : ℤ) : Type 0 where
+  pub x : ℤ
+  pub q : Pt
+  pub left : slab.x0 ≤ℤ x
+  pub right : x <ℤ slab.x1
+  pub has : Has other q
+  pub near : d2 (at x y) q < rule * rule
+
+pub record IsShadow (rule : ℕ) (slab other : Rect) (s : Span) : Type 0 where
+  pub some : s.from <ℤ s.to
+  pub rows : (y : ℤ) → InRows s y ↔ IsShaded rule slab other y
+
+-- some rectangle shades row y of the slab
+abbrev pub IsDark : ℕ → List Rect → Rect → ℤ → Type 0
+IsDark rule others slab y = Any (λ other. IsShaded rule slab other y) others
+
+-- a span of rows that no other span has, as long as it can be
+pub record IsGap (low high : ℤ) (spans : List Span) (g : Span) : Type 0 where
+  pub from : low ≤ℤ g.from
+  pub some : g.from <ℤ g.to
+  pub to : g.to ≤ℤ high
+  pub free : (y : ℤ) → InRows g y → ¬ SomeRow spans y
+  pub bottom : (g.from ≡ low) ⊎ SomeRow spans (g.from -ℤ pos 1)
+  pub top : (g.to ≡ high) ⊎ SomeRow spans g.to
+
+-- the rows low to end - 1 are added, where there are any
+abbrev pub AddsSpan : ℤ → ℤ → List Span → List Span → Type 0
+AddsSpan low end old new =
+    ((s : Span) → Contains new s ↔ (Contains old s ⊎ ((low <ℤ end) × (s.from ≡ low) × (s.to ≡ end))))
+
+-- the rectangles have a square directly below the slab, at most one column beside it
+abbrev pub GoesBelow : List Rect → Rect → Type 0
+GoesBelow rects s = GoesOn (turned (Covers rects)) s.x0 s.x1 (s.y0 -ℤ pos 1)
+
+-- the rectangles have a square directly above the slab, at most one column beside it
+abbrev pub GoesAbove : List Rect → Rect → Type 0
+GoesAbove rects s = GoesOn (turned (Covers rects)) s.x0 s.x1 s.y1
+
+-- the middle rows of a span, over all columns of the slab; an odd row is left over at the top
+pub record IsMiddleOf (overlap : ℕ) (slab : Rect) (g : Span) (z : Rect) : Type 0 where
+  pub left : z.x0 ≡ slab.x0
+  pub right : z.x1 ≡ slab.x1
+  pub height : z.y1 ≡ z.y0 +ℤ pos overlap
+  pub middle : let before = z.y0 -ℤ g.from in let after = g.to -ℤ z.y1 in (after ≡ before) ⊎ (after ≡ before +ℤ pos 1)
+
+-- the span is long enough, and the feature goes on beyond both ends
+pub record IsOpenSpan (overlap : ℕ) (slab : Rect) (below above : Type 0) (g : Span) : Type 0 where
+  pub long : (g.from +ℤ pos (overlap + 2)) ≤ℤ g.to
+  pub low : (slab.y0 <ℤ g.from) ⊎ below
+  pub high : (g.to <ℤ slab.y1) ⊎ above
+
+-- rows that aren't dark, as many as there are side by side from row low up to row high
+pub record IsLit (low high : ℤ) (dark : ℤ → Type 0) (g : Span) : Type 0 where
+  pub from : low ≤ℤ g.from
+  pub some : g.from <ℤ g.to
+  pub to : g.to ≤ℤ high
+  pub free : (y : ℤ) → InRows g y → ¬ dark y
+  pub bottom : (g.from ≡ low) ⊎ dark (g.from -ℤ pos 1)
+  pub top : (g.to ≡ high) ⊎ dark g.to
+
+-- the zone lies in the middle of a lit span of the slab
+pub record IsSlabZone (rule overlap : ℕ) (rects others : List Rect) (slab z : Rect) : Type 0 where
+  pub g : Span
+  pub lit : IsLit slab.y0 slab.y1 (IsDark rule others slab) g
+  pub open_span : IsOpenSpan overlap slab (GoesBelow rects slab) (GoesAbove rects slab) g
+  pub middle : IsMiddleOf overlap slab g z
+
+-- the list has these zones too
+abbrev pub AddsZones : (Rect → Type 0) → List Rect → List Rect → Type 0
+AddsZones adds old new = (z : Rect) → Contains new z ↔ (Contains old z ⊎ adds z)
+
+-- the squares of the feature and of the other features
+abbrev pub layer_of : List Rect → List Rect → Region
+layer_of rects others p = Covers rects p ⊎ Covers others p
+
+-- solid rectangles in the range of a layer
+abbrev pub AreWithin : List Rect → Type 0
+AreWithin rs = (k : ℕ) (d : Rect) → k < length rs → IsSolidWithin farthest (slice_index_or rs k d)

@@ -1,0 +1,76 @@
+//! The zones of all features.
+ghost use Rattle.std.specs.Prelude.{◌≡◌, ◌<◌, ◌≤◌, ◌⊎◌, ◌↔◌, map, IfOk, OnOk, length};
+ghost use Rattle.std.specs.List.{Contains};
+ghost use Rattle.dpl_spec.specs.declared.Zone.{Zone};
+ghost use Rattle.dpl_slabs.specs.Parts.{AreParts, union_of};
+ghost use Rattle.dpl_spec.specs.Zones.{AreZones};
+ghost use Rattle.dpl_zone.specs.Layers.{IsPartZone};
+ghost use Rattle.dpl_tree.specs.Trees.{AreLeavesOf, IsTree, turned_node};
+
+use crate::kept::kept_zones;
+use crate::order::{each_once, sort_zones};
+use dpl_base::Zone;
+use dpl_slabs::{Parts, Slabs};
+use dpl_tree::Tree;
+use std::alloc::{AllocError, Global};
+
+/// Adds the zones of part `k`.
+fn add_feature(
+    alloc: Global,
+    found: &mut Vec<Zone>,
+    parts: &[Slabs],
+    tree: &Tree,
+    across: &Tree,
+    k: usize,
+    rule: u32,
+    overlap: u32,
+) -> Result<(), AllocError>
+    requires some { 1 ≤ overlap }
+    requires part { k < length parts.now }
+    requires parts { AreParts parts.now }
+    requires tree { IsTree tree.now }
+    requires leaves { AreLeavesOf parts.now tree.now }
+    requires turned { across.now ≡ map turned_node tree.now }
+    ensures { OnOk result ((z : Zone) → Contains found.new.items z ↔ (Contains found.old.items z ⊎ ((z.feature ≡ k) × IsPartZone rule overlap parts.now z))) }
+{
+    let kept = kept_zones(alloc, &parts[k], tree, across, k, rule, overlap)?;
+    for rect in &kept {
+        found.push(Zone {
+            rect: *rect,
+            feature: k as u64,
+        })?;
+    }
+    Ok(())
+}
+
+/// The zones of all parts, in no order.
+fn found_zones(
+    alloc: Global,
+    parts: &[Slabs],
+    rule: u32,
+    overlap: u32,
+) -> Result<Vec<Zone>, AllocError>
+    requires some { 1 ≤ overlap }
+    requires parts { AreParts parts.now }
+    ensures { IfOk result (λ v. (z : Zone) → Contains v.items z ↔ ((z.feature < length parts.now) × IsPartZone rule overlap parts.now z)) }
+{
+    let tree = Tree::of_parts(alloc, parts)?;
+    let across = tree.turned(alloc)?;
+    let mut found = Vec::new(alloc);
+    for k in 0..parts.len() {
+        add_feature(alloc, &mut found, parts, &tree, &across, k, rule, overlap)?;
+    }
+    Ok(found)
+}
+
+/// The stitch zones of disjoint sets within a layer that has just their squares, by lowest row and then by leftmost column. A zone is `overlap` squares wide and lies in the middle of a straight stretch that no other set comes nearer to than `rule`.
+pub fn zones(alloc: Global, parts: &Parts, rule: u32, overlap: u32) -> Result<Vec<Zone>, AllocError>
+    requires { 1 ≤ overlap }
+    ensures { IfOk result (λ v. AreZones rule overlap (union_of parts.now) parts.now v.items) }
+{
+    let items = parts.items();
+    let mut found = found_zones(alloc, items, rule, overlap)?;
+    sort_zones(&mut found)?;
+    let zones = each_once(alloc, &found)?;
+    Ok(zones)
+}

@@ -1,0 +1,70 @@
+//! The zones of a feature that are kept.
+ghost use Rattle.std.specs.Prelude.{◌≡◌, ℕ, ◌≤◌, ◌↔◌, map, IfOk, OnOk};
+ghost use Rattle.std.specs.List.{Contains};
+ghost use Rattle.dpl_spec.specs.declared.Pt.{Pt};
+ghost use Rattle.dpl_spec.specs.declared.Rect.{Rect};
+ghost use Rattle.dpl_spec.specs.Loops.{farthest};
+ghost use Rattle.dpl_spec.specs.Squares.{AreTouching, Covers, Has, IsSolidWithin, SameSquares};
+ghost use Rattle.dpl_spec.specs.Zones.{IsKeptZone};
+ghost use Rattle.dpl_zone.specs.Rows.{AddsZones, layer_of};
+ghost use Rattle.dpl_tree.specs.Trees.{IsTree, HasLeaf, turned_node};
+ghost use Rattle.dpl_zone.specs.Leaves.{AreLeavesWithin, others_in, own_in};
+
+use crate::flat::flat_zones;
+use crate::rows::touches_leaf;
+use crate::slab_zones::upright_zones;
+use dpl_base::Rect;
+use dpl_slabs::Slabs;
+use dpl_tree::{Tree, add_items_of};
+use std::alloc::{AllocError, Global};
+
+/// The tree of zones.
+fn tree_of_zones(alloc: Global, zones: &[Rect]) -> Result<Tree, AllocError>
+    ensures { IfOk result (λ t. (r : Rect) (k : ℕ) → HasLeaf t r k ↔ ((k ≡ 0) × Contains zones.now r)) }
+{
+    let mut items = Vec::new(alloc);
+    add_items_of(&mut items, zones, 0)?;
+    let tree = Tree::of(alloc, items)?;
+    Ok(tree)
+}
+
+/// Adds a zone that touches none of the others.
+fn add_apart(kept: &mut Vec<Rect>, flat: &Tree, z: &Rect) -> Result<(), AllocError>
+    requires leaves { AreLeavesWithin flat.now }
+    requires zone { IsSolidWithin farthest z.now }
+    ensures { OnOk result (AddsZones (λ w. (z.now ≡ w) × ((h : Rect) (k : ℕ) → HasLeaf flat.now h k → AreTouching (Has h) (Has w) → ⊥)) kept.old.items kept.new.items) }
+{
+    if touches_leaf(flat, z) {
+        return Ok(());
+    }
+    kept.push(*z)?;
+    Ok(())
+}
+
+/// The horizontal zones of a feature, and the vertical ones that touch none of them.
+pub fn kept_zones(
+    alloc: Global,
+    part: &Slabs,
+    tree: &Tree,
+    across: &Tree,
+    own: usize,
+    rule: u32,
+    overlap: u32,
+) -> Result<Vec<Rect>, AllocError>
+    requires some { 1 ≤ overlap }
+    requires tree { IsTree tree.now }
+    requires leaves { AreLeavesWithin tree.now }
+    requires turned { across.now ≡ map turned_node tree.now }
+    requires own { SameSquares (Covers part.now) (Covers (own_in tree.now own)) }
+    requires apart { (p : Pt) → Covers part.now p → Covers (others_in tree.now own) p → ⊥ }
+    ensures { IfOk result (λ v. (z : Rect) → Contains v.items z ↔ IsKeptZone rule overlap (layer_of part.now (others_in tree.now own)) (Covers part.now) z) }
+{
+    let flat = flat_zones(alloc, part, across, own, rule, overlap)?;
+    let upright = upright_zones(alloc, part.rects(), tree, own, rule, overlap)?;
+    let flat_tree = tree_of_zones(alloc, &flat)?;
+    let mut kept = flat;
+    for z in &upright {
+        add_apart(&mut kept, &flat_tree, z)?;
+    }
+    Ok(kept)
+}

@@ -1,0 +1,22 @@
+//! What follows for zones.
+ghost use Rattle.dpl_zone.specs.Laws.{DistanceTurns, ZonesAreOfSquares, ZonesHaveTwoSides, ZonesStandApart};
+
+/// Zones of one feature never touch one another.
+pub fn zones_stand_apart()
+    ensures { ZonesStandApart }
+{}
+
+/// What touches a zone from its feature lies on its two sides, the left or lower one and the right or upper one, each within one piece.
+pub fn zones_have_two_sides()
+    ensures { ZonesHaveTwoSides }
+{}
+
+/// The distance of squares is the same with x and y exchanged, and so is which sets are near.
+pub fn distance_turns()
+    ensures { DistanceTurns }
+{}
+
+/// The zones of features are those of each layer that has just their squares.
+pub fn zones_are_of_squares()
+    ensures { ZonesAreOfSquares }
+{}

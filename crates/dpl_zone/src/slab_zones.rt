@@ -1,0 +1,169 @@
+//! The zones of a feature's slabs.
+ghost use Rattle.std.specs.Prelude.{◌≡◌, ℕ, ◌+◌, ◌<◌, ◌≤◌, ◌⊎◌, ◌↔◌, ℤ, pos, ◌+ℤ◌, ◌≤ℤ◌, ◌<ℤ◌, IsTrue, IfOk, OnOk, length, slice_index_or};
+ghost use Rattle.std.specs.List.{Contains};
+ghost use Rattle.dpl_spec.specs.declared.Pt.{Pt};
+ghost use Rattle.dpl_spec.specs.declared.Rect.{Rect};
+ghost use Rattle.dpl_spec.specs.Loops.{farthest, AreRectsWithin};
+ghost use Rattle.dpl_spec.specs.Squares.{IsSolidWithin, Covers, SameSquares};
+ghost use Rattle.dpl_spec.specs.Slabs.{IsCanonical};
+ghost use Rattle.dpl_spec.specs.Zones.{IsVerticalZone};
+ghost use Rattle.dpl_zone.specs.declared.rows.Span.{Span};
+ghost use Rattle.dpl_zone.specs.Rows.{IsDark, GoesBelow, GoesAbove, IsOpenSpan, IsMiddleOf, IsSlabZone, AddsZones, layer_of};
+ghost use Rattle.dpl_tree.specs.Trees.{IsTree};
+ghost use Rattle.dpl_zone.specs.Leaves.{AreLeavesWithin, others_in, own_in};
+
+use crate::rows::{Span, gaps, has_row, shadows};
+use dpl_base::Rect;
+use dpl_tree::Tree;
+use std::alloc::{AllocError, Global};
+
+/// Whether the feature goes on below the span: in the slab itself, or below that.
+fn goes_below(tree: &Tree, own: usize, slab: &Rect, g: &Span) -> bool
+    requires leaves { AreLeavesWithin tree.now }
+    requires slab { IsSolidWithin farthest slab.now }
+    ensures { IsTrue result ↔ ((slab.now.y0 <ℤ g.now.from) ⊎ GoesBelow (own_in tree.now own) slab.now) }
+{
+    if slab.y0 < g.from {
+        return true;
+    }
+    if has_row(tree, own, slab, slab.y0 - 1) {
+        return true;
+    }
+    false
+}
+
+/// Whether the feature goes on above the span: in the slab itself, or above that.
+fn goes_above(tree: &Tree, own: usize, slab: &Rect, g: &Span) -> bool
+    requires leaves { AreLeavesWithin tree.now }
+    requires slab { IsSolidWithin farthest slab.now }
+    ensures { IsTrue result ↔ ((g.now.to <ℤ slab.now.y1) ⊎ GoesAbove (own_in tree.now own) slab.now) }
+{
+    if g.to < slab.y1 {
+        return true;
+    }
+    if has_row(tree, own, slab, slab.y1) {
+        return true;
+    }
+    false
+}
+
+/// Whether a span is long enough for a zone, and the feature goes on beyond both its ends.
+fn is_open(tree: &Tree, own: usize, slab: &Rect, g: &Span, overlap: u32) -> bool
+    requires leaves { AreLeavesWithin tree.now }
+    requires slab { IsSolidWithin farthest slab.now }
+    requires from { slab.now.y0 ≤ℤ g.now.from }
+    requires some { g.now.from <ℤ g.now.to }
+    requires to { g.now.to ≤ℤ slab.now.y1 }
+    ensures { IsTrue result ↔ IsOpenSpan overlap slab.now (GoesBelow (own_in tree.now own) slab.now) (GoesAbove (own_in tree.now own) slab.now) g.now }
+{
+    if g.to - g.from < overlap as i64 + 2 {
+        return false;
+    }
+    if !goes_below(tree, own, slab, g) {
+        return false;
+    }
+    if !goes_above(tree, own, slab, g) {
+        return false;
+    }
+    true
+}
+
+/// The middle of a span.
+fn middle(slab: &Rect, g: &Span, overlap: u32) -> Rect
+    requires slab { IsSolidWithin farthest slab.now }
+    requires from { slab.now.y0 ≤ℤ g.now.from }
+    requires to { g.now.to ≤ℤ slab.now.y1 }
+    requires long { (g.now.from +ℤ pos (overlap + 2)) ≤ℤ g.now.to }
+    ensures { IsMiddleOf overlap slab.now g.now result }
+{
+    let rows = (g.to - g.from) as u64;
+    let before = (rows - overlap as u64) / 2;
+    let y0 = g.from + before as i64;
+    Rect {
+        x0: slab.x0,
+        y0,
+        x1: slab.x1,
+        y1: y0 + overlap as i64,
+    }
+}
+
+/// Adds the zone of a span, where it has one.
+fn add_zone(
+    zones: &mut Vec<Rect>,
+    tree: &Tree,
+    own: usize,
+    slab: &Rect,
+    g: &Span,
+    overlap: u32,
+) -> Result<(), AllocError>
+    requires leaves { AreLeavesWithin tree.now }
+    requires slab { IsSolidWithin farthest slab.now }
+    requires from { slab.now.y0 ≤ℤ g.now.from }
+    requires some { g.now.from <ℤ g.now.to }
+    requires to { g.now.to ≤ℤ slab.now.y1 }
+    ensures { OnOk result (AddsZones (λ z. IsOpenSpan overlap slab.now (GoesBelow (own_in tree.now own) slab.now) (GoesAbove (own_in tree.now own) slab.now) g.now × IsMiddleOf overlap slab.now g.now z) zones.old.items zones.new.items) }
+{
+    if !is_open(tree, own, slab, g, overlap) {
+        return Ok(());
+    }
+    let zone = middle(slab, g, overlap);
+    zones.push(zone)?;
+    Ok(())
+}
+
+/// Whether the slab has too few rows for a zone.
+fn is_short(slab: &Rect, overlap: u32) -> bool
+    requires { IsSolidWithin farthest slab.now }
+    ensures { IsTrue result → slab.now.y1 <ℤ (slab.now.y0 +ℤ pos (overlap + 2)) }
+{
+    slab.y1 - slab.y0 < overlap as i64 + 2
+}
+
+/// Adds the zones of a slab.
+fn add_zones(
+    alloc: Global,
+    zones: &mut Vec<Rect>,
+    tree: &Tree,
+    own: usize,
+    slab: &Rect,
+    rule: u32,
+    overlap: u32,
+) -> Result<(), AllocError>
+    requires leaves { AreLeavesWithin tree.now }
+    requires slab { IsSolidWithin farthest slab.now }
+    ensures { OnOk result (AddsZones (IsSlabZone rule overlap (own_in tree.now own) (others_in tree.now own) slab.now) zones.old.items zones.new.items) }
+{
+    if is_short(slab, overlap) {
+        return Ok(());
+    }
+    let spans = shadows(alloc, tree, own, slab, rule)?;
+    let free = gaps(alloc, &spans, slab.y0, slab.y1)?;
+    for g in &free {
+        add_zone(zones, tree, own, slab, g, overlap)?;
+    }
+    Ok(())
+}
+
+/// The vertical zones of a feature among the others.
+pub fn upright_zones(
+    alloc: Global,
+    slabs: &[Rect],
+    tree: &Tree,
+    own: usize,
+    rule: u32,
+    overlap: u32,
+) -> Result<Vec<Rect>, AllocError>
+    requires canonical { IsCanonical slabs.now }
+    requires within { AreRectsWithin farthest slabs.now }
+    requires tree { IsTree tree.now }
+    requires leaves { AreLeavesWithin tree.now }
+    requires own { SameSquares (Covers slabs.now) (Covers (own_in tree.now own)) }
+    requires apart { (p : Pt) → Covers slabs.now p → Covers (others_in tree.now own) p → ⊥ }
+    ensures { IfOk result (λ v. (z : Rect) → Contains v.items z ↔ IsVerticalZone rule overlap (layer_of slabs.now (others_in tree.now own)) (Covers slabs.now) z) }
+{
+    let mut zones = Vec::new(alloc);
+    for slab in slabs {
+        add_zones(alloc, &mut zones, tree, own, slab, rule, overlap)?;
+    }
+    Ok(zones)
+}

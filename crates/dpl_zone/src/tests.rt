@@ -1,0 +1,135 @@
+//! Worked layouts, by a rule of 30 and an overlap of 10.
+ghost use Rattle.std.specs.Prelude.{◌≤◌, ◌<ℤ◌, IsTrue, unsigned_abs};
+ghost use Rattle.dpl_spec.specs.Loops.{farthest};
+
+use crate::zones;
+use dpl_base::{FARTHEST, Rect, Zone};
+use dpl_feature::features;
+use dpl_slabs::Slabs;
+use std::alloc::{AllocError, Global};
+use std::test::Fail;
+
+/// The corners of a rectangle: left, low, right, high.
+type Corners = (i64, i64, i64, i64);
+
+/// Whether the columns, or the rows, are some of a layer's.
+fn is_span(low: i64, high: i64) -> bool
+    ensures { IsTrue result → (low <ℤ high) × (unsigned_abs low ≤ farthest) × (unsigned_abs high ≤ farthest) }
+{
+    if low >= high {
+        return false;
+    }
+    if low < -FARTHEST {
+        return false;
+    }
+    if high > FARTHEST {
+        return false;
+    }
+    true
+}
+
+/// The squares of a rectangle, where it has some.
+fn one(alloc: Global, corners: Corners) -> Result<Slabs, AllocError> {
+    let (x0, y0, x1, y1) = corners;
+    if is_span(x0, x1) {
+        if is_span(y0, y1) {
+            return Slabs::one(alloc, Rect { x0, y0, x1, y1 });
+        }
+    }
+    Slabs::of_rects(alloc, &[])
+}
+
+/// The squares of some rectangles.
+fn set_of(alloc: Global, rects: &[Corners]) -> Result<Slabs, AllocError> {
+    let mut set = Slabs::of_rects(alloc, &[])?;
+    for corners in rects {
+        let next = one(alloc, *corners)?;
+        set = set.union(alloc, &next)?;
+    }
+    Ok(set)
+}
+
+fn corners_of(z: &Zone) -> (Corners, u64) {
+    ((z.rect.x0, z.rect.y0, z.rect.x1, z.rect.y1), z.feature)
+}
+
+#[test]
+fn finds_the_zones(rt: HostRuntime) -> Result<(), Fail> {
+    let cases: [(&[Corners], &[(Corners, u64)]); 9] = [
+        // a bar between two others has a zone where neither comes near, and so have both others
+        (
+            &[
+                (0, 0, 400, 20),
+                (0, 40, 50, 60),
+                (0, 40, 20, 200),
+                (0, 180, 190, 200),
+                (350, 40, 400, 60),
+                (380, 40, 400, 200),
+                (215, 180, 400, 200),
+            ],
+            &[
+                ((195, 0, 205, 20), 0),
+                ((0, 115, 20, 125), 1),
+                ((380, 115, 400, 125), 2),
+                ((97, 180, 107, 200), 1),
+                ((295, 180, 305, 200), 2),
+            ],
+        ),
+        // the shadows of two bars meet on a third
+        (
+            &[(0, 0, 400, 20), (0, 40, 190, 60), (215, 40, 400, 60)],
+            &[],
+        ),
+        // a stretch of twelve columns, and one of eleven
+        (
+            &[(0, 0, 158, 20), (0, 40, 50, 60), (108, 40, 158, 60)],
+            &[((74, 0, 84, 20), 0)],
+        ),
+        (&[(0, 0, 157, 20), (0, 40, 50, 60), (107, 40, 157, 60)], &[]),
+        // squares that share a corner are one feature, without a stretch
+        (&[(0, 0, 10, 10), (10, 10, 20, 20)], &[]),
+        // a square with a hole
+        (
+            &[
+                (0, 0, 100, 40),
+                (0, 40, 40, 60),
+                (60, 40, 100, 60),
+                (0, 60, 100, 100),
+            ],
+            &[
+                ((45, 0, 55, 40), 0),
+                ((0, 45, 40, 55), 0),
+                ((60, 45, 100, 55), 0),
+                ((45, 60, 55, 100), 0),
+            ],
+        ),
+        // a bar of a million columns, and one of all columns that a layer may have
+        (
+            &[
+                (0, 0, 1_000_000, 20),
+                (0, 40, 50, 60),
+                (999_950, 40, 1_000_000, 60),
+            ],
+            &[((499_995, 0, 500_005, 20), 0)],
+        ),
+        (
+            &[
+                (-FARTHEST, 0, FARTHEST, 20),
+                (-FARTHEST, 40, -FARTHEST + 50, 60),
+                (FARTHEST - 50, 40, FARTHEST, 60),
+            ],
+            &[((-5, 0, 5, 20), 0)],
+        ),
+        (&[], &[]),
+    ];
+    for (rects, want) in cases {
+        let set = set_of(rt.alloc(), rects)?;
+        let parts = features(rt.alloc(), &set)?;
+        let found = zones(rt.alloc(), &parts, 30, 10)?;
+        assert_eq!(rt; found.len(), want.len());
+        for (z, w) in found.iter().zip(want) {
+            assert!(rt; corners_of(z) == *w);
+        }
+    }
+    Ok(())
+}
