@@ -1,4 +1,4 @@
-use Rattle.std.proofs.Common.{◌∙◌, ap, ◌++◌, ◌∷◌, [], map}
+use Rattle.std.proofs.Common.{◌∷◌, [], map}
 use Rattle.std.specs.List.{concat}
 use Rattle.std.specs.Int.{w16, to_be_bytes}
 use Rattle.dpl_masks.specs.Bytes.{corners, point_bytes}

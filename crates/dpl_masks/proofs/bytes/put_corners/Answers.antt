@@ -1,5 +1,5 @@
-use Rattle.std.proofs.Common.{rules, w64, arith, FitsSigned}
-use Rattle.std.proofs.lemmas.Int.{ints, to_z-of_z}
+use Rattle.std.proofs.Common.{rules, w64, FitsSigned}
+use Rattle.std.proofs.lemmas.Int.{to_z-of_z}
 use Rattle.dpl_spec.specs.Zones.{at}
 use Rattle.dpl_masks.specs.Bytes.{point_bytes}
 use Rattle.dpl_masks.proofs.Joining.{five_puts}

@@ -1,4 +1,4 @@
-use Rattle.std.proofs.Common.{◌≡◌, ◌<◌, ℕ, sym, subst, arith, false, [], length, map, get_or}
+use Rattle.std.proofs.Common.{◌≡◌, ◌<◌, ℕ, sym, subst, arith, false, length, map, get_or}
 use Rattle.std.proofs.lemmas.List.{get_or-map, get_or_default}
 use Rattle.dpl_orient.specs.Masks.{is_second}
 use Rattle.dpl_masks.specs.Painting.{Adds, in_zones}

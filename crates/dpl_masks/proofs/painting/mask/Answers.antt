@@ -1,4 +1,4 @@
-use Rattle.std.proofs.Common.{subst, ap, sym, ◌∙◌, List, ℕ, Bool, length, map}
+use Rattle.std.proofs.Common.{subst, ◌∙◌, List, ℕ, Bool, length}
 use Rattle.dpl_spec.specs.declared.Rect.{Rect}
 use Rattle.dpl_spec.specs.declared.Zone.{Zone}
 use Rattle.dpl_spec.specs.Slabs.{AreSlabsOf}
