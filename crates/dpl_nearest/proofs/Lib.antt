@@ -1,3 +1,4 @@
 pub mod NearLaws
 pub mod UnitLaws
 pub mod LeafLaws
+pub mod PairLaws

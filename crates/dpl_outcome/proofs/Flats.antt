@@ -1,13 +1,13 @@
 -- A layer has one decomposition, with one text of its certificate.
-use Rattle.std.proofs.Common.{◌≡◌, ℕ, ◌+◌, ◌%◌, inl, inr, Bool, List, length, map, get_or, sym, ap, ◌∙◌, subst, arith}
+use Rattle.std.proofs.Common.{◌≡◌, ℕ, ◌+◌, ◌%◌, Bool, List, length, map, get_or, sym, ap, ◌∙◌, subst, arith}
 use Rattle.std.specs.List.{zip}
 use Rattle.std.proofs.lemmas.List.{same_lists}
+use Rattle.dpl_spec.specs.declared.Pt.{Pt}
 use Rattle.dpl_spec.specs.declared.Rect.{Rect}
-use Rattle.dpl_spec.specs.Squares.{Region, Covers, Precedes}
+use Rattle.dpl_spec.specs.Squares.{Region, Covers}
 use Rattle.dpl_spec.specs.Zones.{part_at}
 use Rattle.dpl_spec.specs.Colours.{AreColours}
 use Rattle.dpl_spec.specs.Decomposition.{Cut, Masks, AreMasks, Done, conflicts}
-use Rattle.dpl_spec.proofs.SquareLaws.{Precedes-strict}
 use Rattle.dpl_spec.proofs.Uniqueness.{roots-unique}
 use Rattle.dpl_spec.proofs.ColourLaws.{colours-unique}
 use Rattle.dpl_spec.proofs.CycleLaws.{cycle-unique}
@@ -16,7 +16,9 @@ use Rattle.dpl_spec.proofs.SideLaws.{sides-unique}
 use Rattle.dpl_cert.specs.declared.cert.Head.{Head}
 use Rattle.dpl_cert.specs.declared.cert.PlaceLine.{PlaceLine}
 use Rattle.dpl_cert.specs.declared.cert.NearLine.{NearLine}
-use Rattle.dpl_run.specs.Flat.{Painted, Clash, Flat, Paints, Clashes, head_of, piece_line, stitch_line, place_line, PrecedesAt, IsNearest, AreNearest, IsPaintedCut, IsClashOfCut, IsFlatCut, IsFlat}
+use Rattle.dpl_nearest.specs.Nearest.{IsNearestPair}
+use Rattle.dpl_nearest.proofs.PairLaws.{nearest-unique}
+use Rattle.dpl_run.specs.Flat.{Painted, Clash, Flat, Paints, Clashes, head_of, piece_line, stitch_line, place_line, AreNearest, IsPaintedCut, IsClashOfCut, IsFlatCut, IsFlat}
 
 -- ---- masks
 
@@ -36,20 +38,11 @@ painted-same rule overlap c x y a b =
 
 -- ---- cycles
 
-nearer-strict : (m n : NearLine) → PrecedesAt m n → PrecedesAt n m → ⊥
-nearer-strict m n (inl a) (inl b) = Precedes-strict m.from n.from a b
-nearer-strict m n (inl a) (inr (e, b)) = let itself : Precedes m.from m.from = subst (λ p. Precedes m.from p) e a in Precedes-strict m.from m.from itself itself
-nearer-strict m n (inr (e, a)) (inl b) = let itself : Precedes n.from n.from = subst (λ p. Precedes n.from p) e b in Precedes-strict n.from n.from itself itself
-nearer-strict m n (inr (e, a)) (inr (f, b)) = Precedes-strict m.to n.to a b
+abbrev line_at : Pt → Pt → NearLine
+line_at p q = record { from = p; to = q }
 
-nearest-same : (rule : ℕ) (p q : Region) (m n : NearLine) → IsNearest rule p q m → IsNearest rule p q n → m ≡ n
-nearest-same rule p q m n a b = elim (a.least n b.are) [
-  | inl e ↦ e
-  | inr before ↦ elim (b.least m a.are) [
-    | inl e ↦ sym e
-    | inr after ↦ absurd (nearer-strict m n before after)
-  ]
-]
+nearest-same : (rule : ℕ) (p q : Region) (m n : NearLine) → IsNearestPair rule p q m.from m.to → IsNearestPair rule p q n.from n.to → m ≡ n
+nearest-same rule p q m n a b = let one = nearest-unique rule p q m.from m.to n.from n.to a b in ap (λ r. line_at r m.to) one.0 ∙ ap (λ r. line_at n.from r) one.1
 
 near-same : (rule : ℕ) (pieces : List (List Rect)) (cycle : List ℕ) (ms ns : List NearLine) → AreNearest rule pieces cycle ms → AreNearest rule pieces cycle ns → ms ≡ ns
 near-same rule pieces cycle ms ns a b =
