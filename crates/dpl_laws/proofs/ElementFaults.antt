@@ -137,7 +137,7 @@ path-same p NegativeExtension NegativeExtension a b = refl
 
 pub refused-same : (chosen : Layer) (b : Body) (f g : ElementFault) → IsRefusedFor chosen b f → IsRefusedFor chosen b g → f ≡ g
 refused-same chosen (is_sref r) f g x y = reference-same (unwrap_or r.trans plain) ⊥ f g x y
-refused-same chosen (is_aref r) f g x y = reference-same (unwrap_or r.trans plain) (¬ IsArray r) f g x y
+refused-same chosen (is_aref r) f g x y = reference-same (unwrap_or r.trans plain) (¬ IsArray r.columns r.rows r.xy) f g x y
 refused-same chosen (is_boundary b) f g x y = x.1.0 ∙ sym y.1.0
 refused-same chosen (is_box b) f g x y = x.1.0 ∙ sym y.1.0
 refused-same chosen (is_path p) f g x y = path-same _ f g x.1 y.1
