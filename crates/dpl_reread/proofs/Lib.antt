@@ -1,0 +1,3 @@
+pub mod Decoding
+pub mod Moving
+pub mod Rounds
