@@ -1,6 +1,8 @@
 -- What the bytes of numbers and points say.
 use Rattle.std.proofs.Common.{◌≡◌, ℕ, ◌+◌, ◌*◌, ◌/◌, ◌%◌, ◌<◌, ◌≤◌, List, [], ◌∷◌, ◌++◌, length, refl, sym, ap, ◌∙◌, arith}
-use Rattle.std.specs.Prelude.{ℤ, unsigned_abs, FitsSigned, map}
+use Rattle.std.proofs.Common.{rules}
+use Rattle.std.proofs.lemmas.Nat.{from_be_bytes-to_be_bytes_4}
+use Rattle.std.specs.Prelude.{ℤ, pos, negsuc, unsigned_abs, FitsSigned, map}
 use Rattle.std.specs.List.{concat}
 use Rattle.std.specs.Int.{w16, w32, to_be_bytes, cast_unsigned, cast_signed}
 use Rattle.std.proofs.lemmas.Int.{ints, to_z-of_z}
@@ -17,13 +19,14 @@ pub layer-read : (n : ℕ) → n < 65536 → u16_at (to_be_bytes w16 n) 0 ≡ n
 layer-read n fits = omega arith
 
 word-read : (n : ℕ) → n < 4294967296 → u32_at (to_be_bytes w32 n) 0 ≡ n
-word-read n fits = ?
+word-read n fits = omega (arith, from_be_bytes-to_be_bytes_4 n fits)
 
 fits-signed : (z : ℤ) → unsigned_abs z ≤ farthest → FitsSigned w32 z
-fits-signed z near = ?
+fits-signed z near = search (rules, near)
 
 fits-word : (z : ℤ) → unsigned_abs z ≤ farthest → cast_unsigned w32 z < 4294967296
-fits-word z near = ?
+fits-word (pos n) near = omega (arith, near)
+fits-word (negsuc n) near = omega (arith, near)
 
 pub coordinate-read : (z : ℤ) → unsigned_abs z ≤ farthest → i32_at (coordinate_bytes z) 0 ≡ z
 unfolding coordinate_bytes
