@@ -5,3 +5,5 @@ pub mod Putting
 pub mod Layers
 pub mod Boundaries
 pub mod Whole
+pub mod Fronts
+pub mod Masks
