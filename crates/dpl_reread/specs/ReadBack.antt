@@ -1,0 +1,36 @@
+-- What a file of two masks holds when it is read back.
+use Rattle.std.specs.Prelude.{◌≡◌, ◌≢◌, ◌<◌, ◌↔◌, ℕ, List, [], ◌∷◌}
+use Rattle.std.specs.List.{Contains}
+use Rattle.dpl_spec.specs.declared.Pt.{Pt}
+use Rattle.dpl_spec.specs.declared.Rect.{Rect}
+use Rattle.dpl_spec.specs.Squares.{Covers}
+use Rattle.dpl_spec.specs.Loops.{farthest, AreRectsWithin}
+use Rattle.dpl_spec.specs.Slabs.{IsCanonical}
+use Rattle.dpl_format.specs.Layout.{Holds}
+use Rattle.dpl_format.specs.Tree.{Library, Structure, frame_of}
+use Rattle.dpl_layout.specs.Placements.{IsInLayer}
+use Rattle.dpl_masks.specs.Bytes.{file_bytes}
+use Rattle.dpl_run.specs.Reading.{frame_bytes}
+
+-- In structure 0 of the library, the layer of data type 0 has the squares that the slabs cover.
+abbrev pub IsLayerOf : Library → ℕ → List Rect → Type 0
+IsLayerOf lib layer slabs = (p : Pt) → IsInLayer lib 0 (record { layer = layer; datatype = 0 }) p ↔ Covers slabs p
+
+-- the bytes hold one structure, with mask a on one layer and mask b on another
+pub record AreMasksOf (bytes : List ℕ) (la lb : ℕ) (a b : List Rect) : Type 0 where
+  pub lib : Library
+  pub holds : Holds bytes lib
+  pub top : Structure
+  pub one : lib.structures ≡ top ∷ []
+  pub first : IsLayerOf lib la a
+  pub second : IsLayerOf lib lb b
+
+-- a canonical list of slabs near enough to be written
+pub record IsMask (slabs : List Rect) : Type 0 where
+  pub canonical : IsCanonical slabs
+  pub within : AreRectsWithin farthest slabs
+
+-- Where a file holds a library, a file that begins with the records before the elements of one of its structures and goes on with two masks holds just these.
+abbrev pub MasksReadBack : Type 0
+MasksReadBack = (bytes : List ℕ) (lib : Library) (s : Structure) (la lb : ℕ) (a b : List Rect) → Holds bytes lib → Contains lib.structures s → la ≢ lb → la < 65536 → lb < 65536 → IsMask a → IsMask b
+    → AreMasksOf (file_bytes (frame_bytes (frame_of lib s)) la lb a b) la lb a b

@@ -1,0 +1,10 @@
+//! What follows for the files of masks: read back, such a file holds just the two masks.
+#![tactic(auto)]
+
+ghost use Rattle.dpl_reread.specs.ReadBack.{MasksReadBack};
+
+/// A file that begins with the records before the elements of a structure of some GDSII file, and goes on with two canonical lists of rectangles on two layers,
+/// is a GDSII file of one structure, whose two layers of data type 0 have just the unit squares that the rectangles cover.
+pub fn masks_read_back()
+    ensures { MasksReadBack }
+{}
