@@ -265,10 +265,14 @@ module _ (bytes : List ℕ) (rs : List Record) (end : ℕ) (lies : Lies bytes 0 
       let there = next-in rs p.0 n (n ∷ more) more t refl in
       let (earlier, fine) = sound-in [] rs n more sound there in
       let is : p.1 ≡ n ∷ before kinds.endstr more = e ∙ ap (λ j. cond (eqb j kinds.endstr) [] (n ∷ before kinds.endstr more)) name in
-      let first : first_of kinds.strname p.1 ≡ Some n = ap (first_of kinds.strname) is ∙ ap (λ j. cond (eqb j kinds.strname) (Some n) (first_of kinds.strname (before kinds.endstr more))) name in
-      ((p.0.body, subst (λ j. IsRecord (whole bytes p.0) j p.0.body) k (whole-at p.0 (n ∷ more) t)),
-      (n.body, subst (λ o. IsRecord (whole_or_none bytes o) kinds.strname n.body) (sym first) (subst (λ j. IsRecord (whole bytes n) j n.body) name (whole-at n more there)),
-      strname_refusal (owner earlier) (names earlier) n.at n.body (is_empty (name_of n.body)) refl (subst (λ j. refusal_in (owner earlier) (names earlier) j n.at n.body ≡ None) name fine)))
+      let first : first_of kinds.strname p.1 ≡ Some n = ap (first_of kinds.strname) is ∙ ap (λ j. cond (eqb j kinds.strname) (Some n) (first_of kinds.strname (before kinds.endstr more))) name in (
+        (p.0.body, subst (λ j. IsRecord (whole bytes p.0) j p.0.body) k (whole-at p.0 (n ∷ more) t)),
+        (
+          n.body,
+          subst (λ o. IsRecord (whole_or_none bytes o) kinds.strname n.body) (sym first) (subst (λ j. IsRecord (whole bytes n) j n.body) name (whole-at n more there)),
+          strname_refusal (owner earlier) (names earlier) n.at n.body (is_empty (name_of n.body)) refl (subst (λ j. refusal_in (owner earlier) (names earlier) j n.at n.body ≡ None) name fine),
+        ),
+      )
 
   front-of : (s : Structure) → Contains (library_of bytes rs).structures s → IsFront (library_of bytes rs) s
   front-of s s_in =

@@ -72,11 +72,13 @@ module _ (lib : Library) (at : ℕ) (ss : List Shape) (good : (s : Shape) → Co
   loops-are : (layer : ℕ) (s : Shape) (p : Pt) → IsGoodShape s → SomeLoopCovers (loops_of (record { layer = layer; datatype = 0 }) (body_of_shape s)) p ↔ ((s.layer ≡ layer) × Has s.rect p)
   loops-are layer s p is =
       let points = points-read s.rect is.near in
-      let round = round-covers s.rect p is.solid in
-      (by_layer (eqb s.layer layer) refl, λ (same, has).
-          let b : eqb s.layer layer ≡ true = eq-eqb s.layer layer same in
-          subst (λ x. SomeLoopCovers (if x && true then points_in (xy_of s.rect) ∷ [] else []) p) (sym b)
-          (0, points_in (xy_of s.rect), omega arith, refl, subst (λ l. LoopCovers l p) (sym points) (round.1 has)))
+      let round = round-covers s.rect p is.solid in (
+        by_layer (eqb s.layer layer) refl,
+        λ (same, has).
+            let b : eqb s.layer layer ≡ true = eq-eqb s.layer layer same in
+            subst (λ x. SomeLoopCovers (if x && true then points_in (xy_of s.rect) ∷ [] else []) p) (sym b)
+            (0, points_in (xy_of s.rect), omega arith, refl, subst (λ l. LoopCovers l p) (sym points) (round.1 has)),
+      )
     where
       by_layer : (b : Bool) → eqb s.layer layer ≡ b → SomeLoopCovers (if eqb s.layer layer && true then points_in (xy_of s.rect) ∷ [] else []) p → (s.layer ≡ layer) × Has s.rect p
       by_layer true e c =

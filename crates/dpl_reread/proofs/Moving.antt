@@ -61,9 +61,11 @@ fitting-moved : (at to len kind t : ℕ) (body : List ℕ) (o : Option Form) (r 
 fitting-moved at to len kind t body None r e = absurd cc
 fitting-moved at to len kind t body (Some form) r e =
     let (a, e1) = if_ok (not (type_fits form.data_type t)) (bad_data_type at) (if not (size_fits form.size (len - 4)) then Err (bad_size at) else Ok (made at len kind body)) r e in
-    let (b, e2) = if_ok (not (size_fits form.size (len - 4))) (bad_size at) (Ok (made at len kind body)) r e1 in
-    (cc, ok_if (not (type_fits form.data_type t)) (bad_data_type to) (if not (size_fits form.size (len - 4)) then Err (bad_size to) else Ok (made to len kind body)) (made to len kind body) a
-    (ok_if (not (size_fits form.size (len - 4))) (bad_size to) (Ok (made to len kind body)) (made to len kind body) b refl))
+    let (b, e2) = if_ok (not (size_fits form.size (len - 4))) (bad_size at) (Ok (made at len kind body)) r e1 in (
+      cc,
+      ok_if (not (type_fits form.data_type t)) (bad_data_type to) (if not (size_fits form.size (len - 4)) then Err (bad_size to) else Ok (made to len kind body)) (made to len kind body) a
+          (ok_if (not (size_fits form.size (len - 4))) (bad_size to) (Ok (made to len kind body)) (made to len kind body) b refl),
+    )
 
 pub record IsBuilt (at room len kind t : ℕ) (body : List ℕ) (r : Record) : Type 0 where
   pub long : 4 ≤ len
@@ -117,7 +119,7 @@ agreeing xs ys i j r e a =
     let len_is : u16_at ys j ≡ len = (λ n. 256 * at_0 n + at_1 n) in
     let body_is : slice_range ys (j + 4) (j + u16_at ys j) ≡ slice_range xs (i + 4) (i + len) = ap (λ n. slice_range ys (j + 4) (j + n)) len_is ∙ same.body in
     let there = rebuilt j (length ys - j) (u16_at ys j) len (slice_index ys (j + 2)) (slice_index xs (i + 2)) (slice_index ys (j + 3)) (slice_index xs (i + 3)) (slice_range ys (j + 4) (j + u16_at ys j)) (slice_range xs (i + 4) (i + len)) (made j len (slice_index xs (i + 2)) (slice_range xs (i + 4) (i + len)))
-        len_is (same.bytes 2 (omega (arith, long))) (same.bytes 3 (omega (arith, long))) body_is (b.again j (length ys - j) same.room) in
+    len_is (same.bytes 2 (omega (arith, long))) (same.bytes 3 (omega (arith, long))) body_is (b.again j (length ys - j) same.room) in
     let is : made j len (slice_index xs (i + 2)) (slice_range xs (i + 4) (i + len)) ≡ moved j r =
-        (λ n. record { at = j; next = j + sym size n; kind = (b.is n).kind; body = (b.is n).body }) in
+    (λ n. record { at = j; next = j + sym size n; kind = (b.is n).kind; body = (b.is n).body }) in
     record-built ys j ∙ there ∙ ap (λ x. Ok x) is

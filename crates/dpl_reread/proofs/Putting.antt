@@ -59,11 +59,11 @@ lifted xs i r e =
     let m : ℕ = n - 4 in
     let split : n ≡ 4 + m = omega (arith, start, stop, long) in
     let body : slice_range w (0 + 4) (0 + n) ≡ slice_range xs (r.at + 4) (r.at + n) =
-        (let short : (0 + n) - (0 + 4) ≡ m = omega (arith, split) in
-        let other : (r.at + n) - (r.at + 4) ≡ m = omega (arith, split) in
-        let inner : drop 4 w ≡ take m (drop (r.at + 4) xs) = ap (λ k. drop 4 (take k zs)) split ∙ drop-take 4 m zs ∙ ap (take m) (drop-both xs r.at) in
-        let l = length-take m (drop (r.at + 4) xs) in
-        (λ j. take (short j) (inner j)) ∙ take_all m (take m (drop (r.at + 4) xs)) (omega (arith, l)) ∙ ap (λ k. take k (drop (r.at + 4) xs)) (sym other)) in
+    (let short : (0 + n) - (0 + 4) ≡ m = omega (arith, split) in
+    let other : (r.at + n) - (r.at + 4) ≡ m = omega (arith, split) in
+    let inner : drop 4 w ≡ take m (drop (r.at + 4) xs) = ap (λ k. drop 4 (take k zs)) split ∙ drop-take 4 m zs ∙ ap (take m) (drop-both xs r.at) in
+    let l = length-take m (drop (r.at + 4) xs) in
+    (λ j. take (short j) (inner j)) ∙ take_all m (take m (drop (r.at + 4) xs)) (omega (arith, l)) ∙ ap (λ k. take k (drop (r.at + 4) xs)) (sym other)) in
     let agree : Agree xs w r.at 0 n = record {
       bytes = λ k l. ap (λ j. get_or w j 0) (omega arith) ∙ get_or-take n zs k 0 l ∙ get_or-drop r.at xs k 0;
       body = body;

@@ -71,10 +71,13 @@ first-element out pre post (s ∷ ss) r fits is none =
 structures-end : (out : List ℕ) (from at : ℕ) (ss : List tree.Structure) (other : Record) → PassesNamed out [] structures_first structures_first (AreStructures out ss) from at → record_at out at ≡ Ok other → eqb other.kind kinds.bgnstr ≡ false
     → PassesNamed out [] structures_first endlib_first (AreStructures out ss) from at
 structures-end out from at ss other so_far found isnt before rest named reached =
-    let p = so_far before rest named reached in
-    (p.0, p.1, agreed out (before ++ p.0) at (structures_first rest) (endlib_first rest) p.2
-    (λ x there. ends_many grammar.structure (a kinds.endlib) x.kind (avoids_a kinds.bgnstr x.kind inside (subst (λ (y : Record). eqb y.kind kinds.bgnstr ≡ false) (same_record (record_at out at) other x found there) isnt)))
-    (exists_rest (many grammar.structure) (a kinds.endlib) p.2.some))
+    let p = so_far before rest named reached in (
+      p.0,
+      p.1,
+      agreed out (before ++ p.0) at (structures_first rest) (endlib_first rest) p.2
+          (λ x there. ends_many grammar.structure (a kinds.endlib) x.kind (avoids_a kinds.bgnstr x.kind inside (subst (λ (y : Record). eqb y.kind kinds.bgnstr ≡ false) (same_record (record_at out at) other x found there) isnt)))
+          (exists_rest (many grammar.structure) (a kinds.endlib) p.2.some),
+    )
 
 module _ (h b l u g n hb bb lb ub gb nb : List ℕ) (is_h : IsRecord h kinds.header hb) (is_b : IsRecord b kinds.bgnlib bb) (is_l : IsRecord l kinds.libname lb) (is_u : IsRecord u kinds.units ub) (is_g : IsRecord g kinds.bgnstr gb) (is_n : IsRecord n kinds.strname nb) (named : is_empty (name_of nb) ≡ false) (ss : List Shape) (fits : (s : Shape) → Contains ss s → s.layer < 65536) where
   abbrev pub whole_file : List ℕ
