@@ -3,12 +3,12 @@
 #
 # usage: sh bench/growth.sh DPL [KIND [SIZE ..]]
 #
-# DPL is the program; KIND one of layouts.py (default: bars mesh scatter polygons). Each line has the
-# kind, the number of shapes, the seconds, the greatest memory in MiB, the answer, and how many times
+# DPL is the program; KIND one or more of layouts.py (default: bars dense mesh scatter polygons). Each line has the
+# kind, the size, the seconds, the greatest memory in MiB, the answer, and how many times
 # as long as the line before it took.
 set -eu
 dpl=$1
-kinds=${2:-"bars mesh scatter polygons"}
+kinds=${2:-"bars dense mesh scatter polygons"}
 if [ $# -gt 2 ]; then
     shift 2
     sizes=$*

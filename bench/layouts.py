@@ -5,8 +5,9 @@ usage: layouts.py KIND COUNT SEED FILE
        layouts.py rects FILE X0,Y0,X1,Y1 ...
 
 KIND is one of
-  bars     routing-like rows: bars of random length on tracks 40 units apart, gaps of 29 to 200 units
-  mesh     COUNT / 2 long horizontal wires over COUNT / 2 vertical ones: one feature
+  bars     routing-like rows: bars of random length on tracks 60 units apart, gaps of 29 to 200 units
+  dense    the same on tracks 40 units apart, which a rule of 30 can't split
+  mesh     long horizontal wires over as many vertical ones, with COUNT crossings: one feature
   scatter  rectangles of 10 to 100 units scattered over a square, about one to 200 by 200 units
   polygons combs of 8,000 points each, COUNT teeth in all
   plate    bars under one covering plate
@@ -44,21 +45,25 @@ def rect(x0, y0, x1, y1):
     return boundary([(x0, y0), (x1, y0), (x1, y1), (x0, y1), (x0, y0)])
 
 
-def bars(count, rng):
+def bars(count, rng, pitch=60):
     per_row = max(1, int(count**0.5))
     made, row = 0, 0
     while made < count:
         x = rng.randrange(0, 300)
         for _ in range(min(per_row, count - made)):
             length = rng.randrange(60, 900)
-            yield rect(x, 40 * row, x + length, 40 * row + 20)
+            yield rect(x, pitch * row, x + length, pitch * row + 20)
             x += length + rng.randrange(29, 200)
             made += 1
         row += 1
 
 
+def dense(count, rng):
+    return bars(count, rng, 40)
+
+
 def mesh(count, rng):
-    half = max(1, count // 2)
+    half = max(1, int(count**0.5))
     for i in range(half):
         yield rect(0, 100 * i, 100 * half, 100 * i + 20)
     for i in range(half):
@@ -95,7 +100,7 @@ def plate(count, rng):
         yield rect(x, y, x + 2000, y + 20)
 
 
-KINDS = {f.__name__: f for f in (bars, mesh, scatter, polygons, plate)}
+KINDS = {f.__name__: f for f in (bars, dense, mesh, scatter, polygons, plate)}
 
 
 def main(words):
