@@ -177,6 +177,17 @@ fn the_top_is_chosen(rt: HostRuntime) -> Result<(), Fail> {
     Ok(())
 }
 
+#[test]
+fn a_top_is_chosen_by_its_name(rt: HostRuntime) -> Result<(), Fail> {
+    let alloc = rt.alloc();
+    let file = referred(alloc, b"SUB\0", &[STRANS_0])?;
+    let left = trial(alloc, file, &with_top("SUB"))?;
+    assert!(rt; left.status == Status::Done);
+    assert_eq!(rt; left.host.said(), ONE_LINE.as_bytes());
+    assert_eq!(rt; left.host.file("cert"), Some(ONE_BAR.as_bytes()));
+    Ok(())
+}
+
 /// SUB with one square, and TOP with a reflected and turned array of it, at offset 202.
 fn arrayed(alloc: Global, xy: &[i32]) -> Result<Vec<u8>, Fail> {
     let mut out = library(alloc)?;
