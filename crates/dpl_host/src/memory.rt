@@ -70,6 +70,8 @@ impl MemHost {
         requires { 0 < step }
         ensures files { outside_of result ≡ record { files = files_of files.entries; said = [] } }
         ensures counts { refusals result ≡ 0 }
+        ensures no_read_fault { result.read_faults ≡ 0 }
+        ensures no_write_fault { result.write_faults ≡ 0 }
         ensures plan { plan_of result ≡ record { step = step; failing = failing.items; reads = 0; creates = 0; appends = 0; says = 0 } }
     {
         MemHost {
@@ -134,6 +136,8 @@ impl Host for MemHost {
         ensures plan { plan_of self.new ≡ record (plan_of self.old) { reads = next_count (plan_of self.old).reads } }
         ensures refused { refusals self.new ≡ refusals self.old }
         ensures given { IfOk result (λ n. Gave self.old.given n self.new.given) }
+        ensures raises { OnErr result (self.new.read_faults ≡ next_count self.old.read_faults) }
+        ensures keeps { OnOk result (self.new.read_faults ≡ self.old.read_faults) }
     {
         let listed = is_listed(self.failing.as_slice(), Kind::Read, self.reads);
         self.reads = self.reads.saturating_add(1);
@@ -157,6 +161,9 @@ impl Host for MemHost {
         ensures fails { OnErr result ((create_is_listed self.old ≡ true) ⊎ Rose (refusals self.old) (refusals self.new)) }
         ensures works { OnOk result ((create_is_listed self.old ≡ false) × (refusals self.new ≡ refusals self.old)) }
         ensures plan { plan_of self.new ≡ record (plan_of self.old) { creates = next_count (plan_of self.old).creates } }
+        ensures raises { OnErr result (self.new.write_faults ≡ next_count self.old.write_faults) }
+        ensures keeps { OnOk result (self.new.write_faults ≡ self.old.write_faults) }
+        ensures spared { create_is_listed self.old ≡ true → refusals self.new ≡ refusals self.old }
     {
         let listed = is_listed(self.failing.as_slice(), Kind::Create, self.creates);
         self.creates = self.creates.saturating_add(1);
@@ -180,6 +187,9 @@ impl Host for MemHost {
         ensures works { OnOk result ((append_is_listed self.old ≡ false) × (refusals self.new ≡ refusals self.old)) }
         ensures most { IfOk result (λ n. n ≡ min (length piece.now) (plan_of self.old).step) }
         ensures plan { plan_of self.new ≡ record (plan_of self.old) { appends = next_count (plan_of self.old).appends } }
+        ensures raises { OnErr result (self.new.write_faults ≡ next_count self.old.write_faults) }
+        ensures keeps { OnOk result (self.new.write_faults ≡ self.old.write_faults) }
+        ensures spared { append_is_listed self.old ≡ true → refusals self.new ≡ refusals self.old }
     {
         let listed = is_listed(self.failing.as_slice(), Kind::Append, self.appends);
         self.appends = self.appends.saturating_add(1);
@@ -204,6 +214,9 @@ impl Host for MemHost {
         ensures works { OnOk result ((say_is_listed self.old ≡ false) × (refusals self.new ≡ refusals self.old)) }
         ensures most { IfOk result (λ n. n ≡ min (length piece.now) (plan_of self.old).step) }
         ensures plan { plan_of self.new ≡ record (plan_of self.old) { says = next_count (plan_of self.old).says } }
+        ensures raises { OnErr result (self.new.write_faults ≡ next_count self.old.write_faults) }
+        ensures keeps { OnOk result (self.new.write_faults ≡ self.old.write_faults) }
+        ensures spared { say_is_listed self.old ≡ true → refusals self.new ≡ refusals self.old }
     {
         let listed = is_listed(self.failing.as_slice(), Kind::Say, self.says);
         self.says = self.says.saturating_add(1);
