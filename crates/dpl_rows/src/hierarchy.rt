@@ -181,7 +181,8 @@ fn the_top_is_chosen(rt: HostRuntime) -> Result<(), Fail> {
 fn a_top_is_chosen_by_its_name(rt: HostRuntime) -> Result<(), Fail> {
     let alloc = rt.alloc();
     let file = referred(alloc, b"SUB\0", &[STRANS_0])?;
-    let left = trial(alloc, file, &with_top("SUB"))?;
+    let words = with_top("SUB");
+    let left = trial(alloc, file, &words)?;
     assert!(rt; left.status == Status::Done);
     assert_eq!(rt; left.host.said(), ONE_LINE.as_bytes());
     assert_eq!(rt; left.host.file("cert"), Some(ONE_BAR.as_bytes()));
