@@ -56,6 +56,12 @@ pub at_err : {T E : Type 0} (r : Result T E) (P : Type 0) → P → OnErr r P
 at_err (Ok x) P p = tt
 at_err (Err e) P p = p
 
+some_or_none : (f : Option (List ℕ)) (bytes : List ℕ) → f ≡ Some bytes → f ≡ None → ⊥
+some_or_none f bytes there none = cc
+
+pub is_there : {T E : Type 0} (r : Result T E) (f : Option (List ℕ)) (bytes : List ℕ) → f ≡ Some bytes → OnErr r (f ≡ None → ⊥)
+is_there r f bytes there = at_err r (f ≡ None → ⊥) (some_or_none f bytes there)
+
 kept_value : (b : Bool) (v f : Option (List ℕ)) → (b ≡ true → f ≡ v) → cond b v f ≡ f
 kept_value true v f h = sym (h refl)
 kept_value false v f h = refl

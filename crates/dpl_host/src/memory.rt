@@ -164,6 +164,7 @@ impl Host for MemHost {
         ensures raises { OnErr result (self.new.write_faults ≡ next_count self.old.write_faults) }
         ensures keeps { OnOk result (self.new.write_faults ≡ self.old.write_faults) }
         ensures spared { create_is_listed self.old ≡ true → refusals self.new ≡ refusals self.old }
+        ensures counted { OnErr result ((refusals self.new ≡ refusals self.old) ⊎ (refusals self.new ≡ next_count (refusals self.old))) }
     {
         let listed = is_listed(self.failing.as_slice(), Kind::Create, self.creates);
         self.creates = self.creates.saturating_add(1);
@@ -190,6 +191,8 @@ impl Host for MemHost {
         ensures raises { OnErr result (self.new.write_faults ≡ next_count self.old.write_faults) }
         ensures keeps { OnOk result (self.new.write_faults ≡ self.old.write_faults) }
         ensures spared { append_is_listed self.old ≡ true → refusals self.new ≡ refusals self.old }
+        ensures absent { file_of (outside_of self.old) name.now ≡ None → refusals self.new ≡ refusals self.old }
+        ensures counted { OnErr result ((refusals self.new ≡ refusals self.old) ⊎ (refusals self.new ≡ next_count (refusals self.old))) }
     {
         let listed = is_listed(self.failing.as_slice(), Kind::Append, self.appends);
         self.appends = self.appends.saturating_add(1);
@@ -217,6 +220,7 @@ impl Host for MemHost {
         ensures raises { OnErr result (self.new.write_faults ≡ next_count self.old.write_faults) }
         ensures keeps { OnOk result (self.new.write_faults ≡ self.old.write_faults) }
         ensures spared { say_is_listed self.old ≡ true → refusals self.new ≡ refusals self.old }
+        ensures counted { OnErr result ((refusals self.new ≡ refusals self.old) ⊎ (refusals self.new ≡ next_count (refusals self.old))) }
     {
         let listed = is_listed(self.failing.as_slice(), Kind::Say, self.says);
         self.says = self.says.saturating_add(1);

@@ -38,6 +38,7 @@ pub(crate) fn put_behind(
         × (files_of files.new.entries ≡ map.insert (files_of files.old.entries) name.now (old ++ piece.now)))
         ((map.get (files_of files.old.entries) name.now ≡ None) × (files_of files.new.entries ≡ files_of files.old.entries))) }
     ensures err { OnErr result (files_of files.new.entries ≡ files_of files.old.entries) }
+    ensures there { OnErr result (map.get (files_of files.old.entries) name.now ≡ None → ⊥) }
 {
     match files.get_mut(name) {
         Some(bytes) => {

@@ -58,3 +58,32 @@ fn a_sure_host_counts_what_it_takes(rt: HostRuntime) -> Result<(), Fail> {
     assert_eq!(rt; host.taken(), 9);
     Ok(())
 }
+
+/// One file, `in`, of `size` bytes 0.
+fn zeros(alloc: Global, size: usize) -> Result<BTreeMap<String, Vec<u8>>, Fail> {
+    let mut files = BTreeMap::new(alloc);
+    let name = String::from_str(alloc, "in")?;
+    let bytes = vec![in alloc; 0u8; size]?;
+    files.insert(name, bytes)?;
+    Ok(files)
+}
+
+#[test]
+fn a_file_past_the_limit_is_too_large(rt: HostRuntime) -> Result<(), Fail> {
+    let alloc = rt.alloc();
+    let files = zeros(alloc, 268_435_457)?;
+    let mut host = MemHost::new(alloc, files, MAX_BYTES, Vec::new(alloc));
+    let fault = read_all(alloc, &mut host, "in").err();
+    assert_eq!(rt; fault, Some(ReadFault::TooLarge));
+    Ok(())
+}
+
+#[test]
+fn a_file_at_the_limit_is_read(rt: HostRuntime) -> Result<(), Fail> {
+    let alloc = rt.alloc();
+    let files = zeros(alloc, 268_435_456)?;
+    let mut host = MemHost::new(alloc, files, MAX_BYTES, Vec::new(alloc));
+    let bytes = read_all(alloc, &mut host, "in").ok().ok_or("it is read")?;
+    assert_eq!(rt; bytes.len(), 268_435_456);
+    Ok(())
+}

@@ -2,7 +2,7 @@ use Rattle.std.proofs.Common.{◌∙◌, ap, sym, rules}
 use Rattle.std.specs.Prelude.{option_map}
 use Rattle.std.specs.FinMap.{insert}
 use Rattle.dpl_host.specs.Memory.{files_of}
-use Rattle.dpl_host.proofs.ByName.{at_err, changed, files_get, put_same}
+use Rattle.dpl_host.proofs.ByName.{at_err, changed, files_get, is_there, put_same}
 use Rattle.dpl_host.proofs.names.put_behind.Goals as goal
 
 pub returns-in_err-extend_from_slice-in-Some-clause-err : goal.returns-in_err-extend_from_slice-in-Some-clause-err
@@ -13,6 +13,11 @@ returns-in_err-extend_from_slice-in-Some-clause-err c =
     changed c.args.files.now (c.get_mut.follows.lender w) c.args.name.now w ((c.get_mut.follows.holds w).3 (search rules))
     ∙ ap (insert (files_of c.args.files.now.entries) c.args.name.now) c.in_err-extend_from_slice-in-Some.ensures.items
     ∙ put_same (files_of c.args.files.now.entries) c.args.name.now c.in-Some.bytes.now.items there)
+
+pub returns-in_err-extend_from_slice-in-Some-clause-there : goal.returns-in_err-extend_from_slice-in-Some-clause-there
+returns-in_err-extend_from_slice-in-Some-clause-there c =
+    let there = files_get c.args.files.now c.args.name.now ∙ ap (option_map (λ v. v.items)) (sym c.in-Some.ensures.value) in
+    is_there _ _ _ there
 
 pub returns-in_ok-extend_from_slice-in-Some-clause-ok : goal.returns-in_ok-extend_from_slice-in-Some-clause-ok
 returns-in_ok-extend_from_slice-in-Some-clause-ok c =
