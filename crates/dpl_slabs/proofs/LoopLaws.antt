@@ -7,7 +7,7 @@ use Rattle.std.proofs.lemmas.List.{get_or_default}
 use Rattle.std.proofs.lemmas.List.Elements.{All-contains, Contains-append_left, Contains-push, Contains-push_cases, Contains-append_right, Contains-append_cases}
 use Rattle.dpl_spec.specs.declared.Pt.{Pt}
 use Rattle.dpl_spec.specs.declared.Rect.{Rect}
-use Rattle.dpl_spec.specs.Squares.{Covers}
+use Rattle.dpl_spec.specs.Squares.{Covers, Has}
 use Rattle.dpl_spec.specs.Slabs.{IsSolid, AreSlabsOf}
 use Rattle.dpl_spec.proofs.Ordered.{Contains-head, Contains-later, Contains-nil}
 use Rattle.dpl_spec.proofs.SlabLaws.{Covers-member, member-Covers}
@@ -31,13 +31,13 @@ part-down e p q s down x y0 y1 a = grind (arith, ints, down, x, y0, y1, a)
 part-zero : (e : Edge) (s : Pt) → e.b ≡ pos 0 → part change_b e s ≡ pos 0
 part-zero e s b = grind (arith, ints, b)
 
-step-left : (p q s : Pt) → p.x ≤ℤ s.x → step p q s ≡ above s q.y -ℤ above s p.y
+pub step-left : (p q s : Pt) → p.x ≤ℤ s.x → step p q s ≡ above s q.y -ℤ above s p.y
 step-left p q s left =
     by_lt_z s.y p.y
     (λ a. by_lt_z s.y q.y (λ b. grind (arith, ints, left, a, b)) (λ b. grind (arith, ints, left, a, b)))
     (λ a. by_lt_z s.y q.y (λ b. grind (arith, ints, left, a, b)) (λ b. grind (arith, ints, left, a, b)))
 
-step-level : (p q s : Pt) → p.y ≡ q.y → step p q s ≡ pos 0
+pub step-level : (p q s : Pt) → p.y ≡ q.y → step p q s ≡ pos 0
 step-level p q s e = by_lt_z s.y p.y (λ a. grind (arith, ints, a, e)) (λ a. grind (arith, ints, a, e))
 
 pub adds-level : (es : List Edge) (p q : Pt) → p.y ≡ q.y → AddsStep es es p q
@@ -182,6 +182,19 @@ covers-appended a rs ss s p = (
   λ h. elim h [
     | inl one ↦ (let found = member-Covers rs p one in Covers-member (rs ++ ss) found.0 p (Contains-append_left rs ss found.0 found.1) found.2)
     | inr other ↦ (let found = member-Covers ss p ((s.covers p).1 other) in Covers-member (rs ++ ss) found.0 p (Contains-append_right rs ss found.0 found.1) found.2)
+  ],
+)
+
+pub covers-pushed : (a : Pt → Type 0) (rs : List Rect) (r : Rect) → ((p : Pt) → Has r p ↔ a p) → (p : Pt) → Covers (rs ++ r ∷ []) p ↔ (Covers rs p ⊎ a p)
+covers-pushed a rs r same p = (
+  (λ h. let found = member-Covers (rs ++ r ∷ []) p h in
+      elim (Contains-push_cases rs r found.0 found.1) [
+        | inl one ↦ inl (Covers-member rs found.0 p one found.2)
+        | inr other ↦ inr ((same p).0 (subst (λ t. Has t p) (sym other) found.2))
+      ]),
+  λ h. elim h [
+    | inl one ↦ (let found = member-Covers rs p one in Covers-member (rs ++ r ∷ []) found.0 p (Contains-append_left rs (r ∷ []) found.0 found.1) found.2)
+    | inr other ↦ Covers-member (rs ++ r ∷ []) r p (Contains-push rs r) ((same p).1 other)
   ],
 )
 

@@ -1,12 +1,12 @@
 -- Sets told by sums.
-use Rattle.std.proofs.Common.{◌≡◌, ℕ, ◌+◌, ◌^◌, ◌≤◌, ◌⊎◌, inl, inr, List, [], ◌∷◌, ◌++◌, refl, sym, subst, arith}
+use Rattle.std.proofs.Common.{◌≡◌, ℕ, ◌+◌, ◌^◌, ◌≤◌, ◌⊎◌, inl, inr, List, [], ◌∷◌, ◌++◌, length, refl, sym, subst, arith}
 use Rattle.std.specs.Prelude.{◌↔◌, ℤ, pos, ◌+ℤ◌, ◌-ℤ◌, unsigned_abs}
 use Rattle.std.proofs.lemmas.Int.{ints, by_lt_z}
 use Rattle.std.proofs.lemmas.List.Elements.{All-contains, Contains-push_cases}
 use Rattle.dpl_spec.specs.declared.Pt.{Pt}
 use Rattle.dpl_spec.specs.declared.Rect.{Rect}
 use Rattle.dpl_spec.specs.Squares.{Has, Covers}
-use Rattle.dpl_spec.specs.Slabs.{IsSolid, AreSlabsOf}
+use Rattle.dpl_spec.specs.Slabs.{IsSolid, IsCanonical, AreSlabsOf}
 use Rattle.dpl_spec.specs.Loops.{farthest, IsRectWithin, AreRectsWithin}
 use Rattle.dpl_spec.specs.Zones.{at, turned, turned_rect}
 use Rattle.dpl_spec.proofs.Ordered.{Contains-head, Contains-later, Contains-cases, Contains-nil}
@@ -155,3 +155,17 @@ turned-within bound (s ∷ rs) w r r_in =
           subst (IsRectWithin bound) e (record { left = h.low; low = h.left; right = h.high; high = h.right }))
       | inr later ↦ turned-within bound rs (λ t t_in. w t (Contains-later s t rs t_in)) r later
     ]
+
+-- one slab with x and y exchanged
+pub turned-one : (rs : List Rect) → IsCanonical rs → length (turned_rects rs) ≡ 1 → AreSlabsOf (turned (Covers rs)) (turned_rects rs)
+turned-one [] c one = absurd (omega (arith, one))
+turned-one (r ∷ s ∷ rs) c one = absurd (omega (arith, one))
+turned-one (r ∷ []) c one =
+    let solid : IsSolid r = All-contains IsSolid (r ∷ []) r c.solid (Contains-head r []) in
+    record {
+      canonical = record {
+        solid = λ i d k. (let e : i ≡ 0 = omega (arith, k) in rw e (record { wide = solid.tall; tall = solid.wide }));
+        follow = λ i j d l k. absurd (omega (arith, l, k));
+      };
+      covers = λ p. (from-turned (r ∷ []) p, to-turned (r ∷ []) p);
+    }

@@ -1,3 +1,4 @@
 pub mod Cells
 pub mod Loops
+pub mod Corners
 pub mod Parts

@@ -2,6 +2,7 @@
 #![tactic(auto)]
 
 mod combine;
+mod corners;
 mod loops;
 mod parts;
 mod slabs;

@@ -1,12 +1,13 @@
 //! The squares of a loop.
-ghost use Rattle.std.specs.Prelude.{◌≡◌, ◌⊎◌, ◌↔◌, IfOk, OnOk};
+ghost use Rattle.std.specs.Prelude.{◌≡◌, ◌⊎◌, ◌↔◌, ℕ, IfOk, IfSome, OnOk};
 ghost use Rattle.dpl_spec.specs.declared.Rect.{Rect};
 ghost use Rattle.dpl_spec.specs.declared.Pt.{Pt};
-ghost use Rattle.dpl_spec.specs.Squares.{Covers};
+ghost use Rattle.dpl_spec.specs.Squares.{Covers, Has};
 ghost use Rattle.dpl_spec.specs.Slabs.{AreSlabsOf};
-ghost use Rattle.dpl_spec.specs.Loops.{farthest, LoopCovers, SomeLoopCovers, ArePointsWithin, AreLoopsWithin, AreRectsWithin};
+ghost use Rattle.dpl_spec.specs.Loops.{farthest, LoopCovers, SomeLoopCovers, ArePointsWithin, AreLoopsWithin, IsRectWithin, AreRectsWithin};
 ghost use Rattle.dpl_slabs.specs.Loops.{AddsStep, AreStepsOf, AreEdgesOf};
 
+use crate::corners::{is_same, rect_through};
 use dpl_base::{Loop, Pt, Rect};
 use dpl_sweep::{Edge, Rule, slabs_of_edges};
 use std::alloc::{AllocError, Global};
@@ -64,6 +65,23 @@ pub fn slabs_of_loop(alloc: Global, points: &[Pt]) -> Result<Vec<Rect>, AllocErr
     Ok(slabs)
 }
 
+/// The rectangle whose corners are the points, each beside the one before it. The last may be the first again.
+fn rect_of(points: &[Pt]) -> Option<Rect>
+    ensures squares { IfSome result (λ r. (p : Pt) → Has r p ↔ LoopCovers points.now p) }
+    ensures within { (bound : ℕ) → ArePointsWithin bound points.now → IfSome result (λ r. IsRectWithin bound r) }
+{
+    if points.len() == 4 {
+        return rect_through(&points[0], &points[1], &points[2], &points[3]);
+    }
+    if points.len() != 5 {
+        return None;
+    }
+    if !is_same(&points[0], &points[4]) {
+        return None;
+    }
+    rect_through(&points[0], &points[1], &points[2], &points[3])
+}
+
 /// Adds the squares of a loop to those of rectangles.
 pub fn add_loop(alloc: Global, rects: &mut Vec<Rect>, points: &[Pt]) -> Result<(), AllocError>
     requires points { ArePointsWithin farthest points.now }
@@ -71,9 +89,17 @@ pub fn add_loop(alloc: Global, rects: &mut Vec<Rect>, points: &[Pt]) -> Result<(
     ensures covers { OnOk result ((p : Pt) → Covers rects.new.items p ↔ (Covers rects.old.items p ⊎ LoopCovers points.now p)) }
     ensures within { OnOk result (AreRectsWithin farthest rects.new.items) }
 {
-    let slabs = slabs_of_loop(alloc, points)?;
-    rects.extend_from_slice(&slabs)?;
-    Ok(())
+    match rect_of(points) {
+        Some(rect) => {
+            rects.push(rect)?;
+            Ok(())
+        }
+        None => {
+            let slabs = slabs_of_loop(alloc, points)?;
+            rects.extend_from_slice(&slabs)?;
+            Ok(())
+        }
+    }
 }
 
 /// Rectangles that have the squares of loops.

@@ -121,13 +121,22 @@ impl Slabs {
         Ok(Slabs { rects })
     }
 
+    /// The set of these canonical slabs, without taking memory.
+    pub fn of_canonical(rects: Vec<Rect>) -> Slabs
+        requires canonical { IsCanonical rects.items }
+        requires within { AreRectsWithin farthest rects.items }
+        ensures { result ≡ rects.items }
+    {
+        Slabs { rects }
+    }
+
     /// The squares of one rectangle.
     pub fn one(alloc: Global, r: Rect) -> Result<Slabs, AllocError>
         requires solid { IsSolid r }
         requires within { IsRectWithin farthest r }
         ensures { IfOk result (λ s. s ≡ r ∷ []) }
     {
-        let mut rects = Vec::new(alloc);
+        let mut rects = Vec::with_capacity(alloc, 1)?;
         rects.push(r)?;
         Ok(Slabs { rects })
     }
@@ -173,6 +182,9 @@ impl Slabs {
         ensures within { IfOk result (λ v. AreRectsWithin farthest v.items) }
     {
         let turned = exchanged(alloc, &self.rects)?;
+        if turned.len() == 1 {
+            return Ok(turned);
+        }
         let rects = combine(alloc, &turned, &[], Rule::Either)?;
         Ok(rects)
     }

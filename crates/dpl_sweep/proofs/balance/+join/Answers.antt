@@ -1,0 +1,32 @@
+use Rattle.std.proofs.Common.{◌^◌, rules, w64, arith, FitsSigned}
+use Rattle.std.proofs.lemmas.Int.{to_z-of_z}
+use Rattle.dpl_sweep.proofs.BandLaws.{size-some, mended-below, mended-above}
+use Rattle.dpl_sweep.proofs.balance.+join.Goals as goal
+
+pub returns-in_ok-whole-in-Split : goal.returns-in_ok-whole-in-Split
+returns-in_ok-whole-in-Split t c =
+    let r : FitsSigned w64 c.in-Split.first = search rules in
+    mended-below c.args.rule _ _ c.args.below c.args.above _ _ _ c.args.row c.in-Split.ensures
+    (rw (to_z-of_z w64 c.args.row c.ranges.row) at c.in_ok-upper-in-Split.ensures) (rw (to_z-of_z w64 c.in-Split.first r) at c.in_ok-whole-in-Split.ensures)
+
+pub returns-in_ok-all-in-Split-take_apart : goal.returns-in_ok-all-in-Split-take_apart
+returns-in_ok-all-in-Split-take_apart t c =
+    let r : FitsSigned w64 c.in-Split-take_apart.last = search rules in
+    mended-above c.args.rule _ _ c.args.below c.args.above _ _ _ c.args.row c.in-Split-take_apart.ensures
+    (rw (to_z-of_z w64 c.args.row c.ranges.row) at c.in_ok-lower-in-Split-take_apart.ensures) (rw (to_z-of_z w64 c.in-Split-take_apart.last r) at c.in_ok-all-in-Split-take_apart.ensures)
+
+pub join-requires : goal.join-requires
+join-requires t c =
+    let split = c.in-Split.ensures in
+    let size = split.size in
+    let some = size-some c.in-Split.low in
+    let (low, middle) = split.small (2 ^ 62) c.requires.below in
+    (omega (arith, size, some, c.decreases), (middle, c.requires.above))
+
+pub join-requires-in-Split-take_apart : goal.join-requires-in-Split-take_apart
+join-requires-in-Split-take_apart t c =
+    let split = c.in-Split-take_apart.ensures in
+    let size = split.size in
+    let some = size-some c.in-Split-take_apart.high in
+    let (middle, high) = split.small (2 ^ 62) c.requires.above in
+    (omega (arith, size, some, c.decreases), (c.requires.below, middle))
