@@ -32,7 +32,7 @@ some-square a parts c k d k_in empty =
     Contains-nil found.0 found.1
 
 module _ (features : List (List Rect)) (zones : List Zone) (given : AreFeatures features) (theirs : AreTheirZones features zones) where
-  comps : AreComponents (union_of features) features
+  pub comps : AreComponents (union_of features) features
   comps = let (layer, c) = given in components-same (Covers layer) (union_of features) features (SameSquares-sym _ _ c.together) c
 
   pub zones-within : All (AreRectsWithin farthest) features → All (λ z. IsSolidWithin farthest z.rect) zones

@@ -7,3 +7,7 @@ pub mod OwnerLaws
 pub mod Regions
 pub mod Whole
 pub mod Cuts
+pub mod Onces
+pub mod Merges
+pub mod Marks
+pub mod Lefts

@@ -55,14 +55,14 @@ parts-all parts n rs all h p = (
   λ (k, part, k_in, is, has). (h p).1 (k, part, omega (arith, all, k_in), k_in, is, has),
 )
 
-zone-hole : (zones : List Zone) (z : Zone) → Contains zones z → Contains (rects_of_zones zones) z.rect
+pub zone-hole : (zones : List Zone) (z : Zone) → Contains zones z → Contains (rects_of_zones zones) z.rect
 zone-hole [] z h = absurd (Contains-nil z h)
 zone-hole (y ∷ zones) z h = elim (Contains-cases y z zones h) [
   | inl e ↦ subst (λ t. let u : Zone = t in Contains (y.rect ∷ rects_of_zones zones) u.rect) e (Contains-head y.rect (rects_of_zones zones))
   | inr later ↦ Contains-later y.rect z.rect (rects_of_zones zones) (zone-hole zones z later)
 ]
 
-hole-zone : (zones : List Zone) (r : Rect) → Contains (rects_of_zones zones) r → (z : Zone) × Contains zones z × (z.rect ≡ r)
+pub hole-zone : (zones : List Zone) (r : Rect) → Contains (rects_of_zones zones) r → (z : Zone) × Contains zones z × (z.rect ≡ r)
 hole-zone [] r h = absurd (Contains-nil r h)
 hole-zone (y ∷ zones) r h = elim (Contains-cases y.rect r (rects_of_zones zones) h) [
   | inl e ↦ (y, Contains-head y zones, e)

@@ -1,3 +1,4 @@
 pub mod Cutting
 pub mod Corners
 pub mod Owners
+pub mod Merging

@@ -4,7 +4,9 @@
 mod corner;
 mod cut;
 mod matched;
+mod merged;
 mod owner;
+mod rest;
 mod side;
 
 pub use cut::pieces;

@@ -42,6 +42,9 @@ pub fn sides_of(alloc: Global, parts: &[Slabs], zones: &[Zone]) -> Result<Vec<(I
     requires { All (λ z. (side : ℕ × ℕ) × StandBeside parts.now z side) zones.now }
     ensures { IfOk result (λ v. AllZip (StandBeside parts.now) zones.now v.items) }
 {
+    if zones.is_empty() {
+        return Ok(Vec::new(alloc));
+    }
     let lower_left = corners(alloc, parts, Kind::LowerLeft)?;
     let lower_right = corners(alloc, parts, Kind::LowerRight)?;
     let upper_left = corners(alloc, parts, Kind::UpperLeft)?;

@@ -1,5 +1,5 @@
 -- Search trees over rectangles, as lists of nodes.
-use Rattle.std.specs.Prelude.{◌≡◌, ℕ, ◌+◌, ◌<◌, ◌≤◌, ◌⊎◌, ◌↔◌, ◌≤ℤ◌, List, [], length, slice_index_or}
+use Rattle.std.specs.Prelude.{◌≡◌, ℕ, ◌+◌, ◌<◌, ◌≤◌, ◌⊎◌, ◌↔◌, ◌≤ℤ◌, Bool, true, false, List, [], length, map, slice_index_or}
 use Rattle.std.specs.List.{Contains}
 use Rattle.dpl_spec.specs.declared.Rect.{Rect}
 use Rattle.dpl_spec.specs.Zones.{turned_rect}
@@ -72,6 +72,11 @@ IsMissed window owners node = LiesApart window node.bounds ⊎ IsLeftOut owners 
 -- x and y exchanged
 abbrev pub turned_node : Node → Node
 turned_node node = record { bounds = turned_rect node.bounds; least = node.least; greatest = node.greatest; size = node.size }
+
+-- the nodes, or the same with x and y exchanged
+abbrev pub seen : Bool → List Node → List Node
+seen true nodes = map turned_node nodes
+seen false nodes = nodes
 
 -- the leaves are the rectangles of the parts, each with the number of its part
 abbrev pub AreLeavesOf : List (List Rect) → List Node → Type 0

@@ -4,8 +4,10 @@
 mod grow;
 mod items;
 mod tree;
+mod view;
 mod window;
 
 pub use items::{Item, add_items_of, items_of};
 pub use tree::{Node, Owners, Tree};
+pub use view::View;
 pub use window::widened;

@@ -1,8 +1,8 @@
 //! Searches for the rectangles in a window.
-ghost use Rattle.std.specs.Prelude.{◌≡◌, ◌≢◌, ℕ, ◌<◌, ◌≤◌, ◌⊎◌, ◌↔◌, IsTrue, IfOk, length, map, slice_index_or};
+ghost use Rattle.std.specs.Prelude.{◌≡◌, ◌≢◌, ℕ, ◌<◌, ◌≤◌, ◌⊎◌, ◌↔◌, IsTrue, IfOk, length, slice_index_or};
 ghost use Rattle.dpl_spec.specs.declared.Rect.{Rect};
 ghost use Rattle.dpl_tree.specs.declared.tree.Node.{Node};
-ghost use Rattle.dpl_tree.specs.Trees.{IsTree, HasLeaf, HasItem, AreLeavesOf, LiesApart, IsLeftOut, IsMissed, turned_node};
+ghost use Rattle.dpl_tree.specs.Trees.{IsTree, HasLeaf, HasItem, AreLeavesOf, LiesApart, IsLeftOut, IsMissed};
 
 use crate::grow::tree_of;
 use crate::items::{Item, items_of};
@@ -92,7 +92,7 @@ fn pace(window: &Rect, owners: Owners, node: &Node) -> usize
 }
 
 /// The first leaf from number `from` on that has a square in the window, of the owners that are sought.
-fn seek_in(nodes: &[Node], from: usize, window: &Rect, owners: Owners) -> usize
+pub(crate) fn seek_in(nodes: &[Node], from: usize, window: &Rect, owners: Owners) -> usize
     requires tree { IsTree nodes.now }
     ensures from { from ≤ result }
     ensures passed { (j : ℕ) (d : Node) → from ≤ j → j < result → j < length nodes.now → (slice_index_or nodes.now j d).size ≡ 1 → IsMissed window.now owners (slice_index_or nodes.now j d) }
@@ -107,34 +107,6 @@ fn seek_in(nodes: &[Node], from: usize, window: &Rect, owners: Owners) -> usize
         i += n;
     }
     i
-}
-
-/// A node with x and y exchanged.
-fn turned(node: &Node) -> Node
-    ensures { result ≡ turned_node node.now }
-{
-    Node {
-        bounds: Rect {
-            x0: node.bounds.y0,
-            y0: node.bounds.x0,
-            x1: node.bounds.y1,
-            y1: node.bounds.x1,
-        },
-        least: node.least,
-        greatest: node.greatest,
-        size: node.size,
-    }
-}
-
-/// The nodes with x and y exchanged.
-fn turn_nodes(alloc: Global, nodes: &[Node]) -> Result<Vec<Node>, AllocError>
-    ensures { IfOk result (λ v. v.items ≡ map turned_node nodes.now) }
-{
-    let mut made = Vec::new(alloc);
-    for node in nodes {
-        made.push(turned(node))?;
-    }
-    Ok(made)
 }
 
 /// A search tree over rectangles with owners. A contract sees its nodes in order; those of size 1 are the rectangles.
@@ -171,15 +143,6 @@ impl Tree {
         let items = items_of(alloc, parts)?;
         let tree = Tree::of(alloc, items)?;
         Ok(tree)
-    }
-
-    /// The tree with x and y exchanged in each node.
-    pub fn turned(&self, alloc: Global) -> Result<Tree, AllocError>
-        ensures value { IfOk result (λ t. t ≡ map turned_node self.now) }
-        ensures tree { IsTree self.now }
-    {
-        let nodes = turn_nodes(alloc, self.nodes.as_slice())?;
-        Ok(Tree { nodes })
     }
 
     /// The nodes, each before those below it.

@@ -1,12 +1,12 @@
 -- x and y exchanged.
 use Rattle.std.proofs.Common.{◌≡◌, ℕ, ◌<◌, inl, inr, List, [], ◌∷◌, length, get_or, map, sym, refl, ap, ◌∙◌, subst, arith}
 use Rattle.std.specs.Prelude.{ℤ, pos, ◌-ℤ◌, ◌↔◌}
-use Rattle.std.specs.List.{Contains}
+use Rattle.std.specs.List.{All, AllPairs, Contains}
 use Rattle.std.proofs.lemmas.List.{get_or_default, get_or-map, length-map}
 use Rattle.dpl_spec.specs.declared.Pt.{Pt}
 use Rattle.dpl_spec.specs.declared.Rect.{Rect}
 use Rattle.dpl_spec.specs.Squares.{Region, SameSquares, Has, Covers}
-use Rattle.dpl_spec.specs.Slabs.{IsCanonical}
+use Rattle.dpl_spec.specs.Slabs.{IsSolid, Follows, IsCanonical, AreSlabsOf}
 use Rattle.dpl_spec.specs.Zones.{at, IsClearRun, GoesOn, IsHorizontalZone, IsVerticalZone, turned, turned_rect}
 use Rattle.dpl_spec.specs.Loops.{farthest, AreRectsWithin}
 use Rattle.dpl_zone.specs.Rows.{AreWithin, layer_of}
@@ -108,3 +108,22 @@ own-turned rects own own' e same p =
 
 pub apart-turned : (rects others others' : List Rect) → others' ≡ map turned_rect others → ((p : Pt) → Covers rects p → Covers others p → ⊥) → (p : Pt) → turned (Covers rects) p → Covers others' p → ⊥
 apart-turned rects others others' e apart p a b = apart (at p.y p.x) a ((turned-covers others p).0 (subst (λ t. let s : List Rect = t in Covers s p) e b))
+
+-- a set of one slab, with x and y exchanged
+module _ (rects columns : List Rect) (one : length rects ≡ 1) (is : columns ≡ map turned_rect rects) where
+  solid-columns : IsCanonical rects → All IsSolid (map turned_rect rects)
+  solid-columns canonical k d l =
+      let k_in : k < length rects = omega (arith, l, length-map rects turned_rect) in
+      let s = canonical.solid k d k_in in
+      rw (get_or-map turned_rect rects k d d k_in) (record { wide = s.tall; tall = s.wide })
+
+  follow-columns : AllPairs Follows (map turned_rect rects)
+  follow-columns i j d l j_in = absurd (omega (arith, l, j_in, one, length-map rects turned_rect))
+
+  pub one-column : IsCanonical rects → AreSlabsOf (turned (Covers rects)) columns
+  one-column canonical = rw is (record { canonical = record { solid = solid-columns canonical; follow = follow-columns }; covers = turned-covers rects })
+
+  pub one-within : AreRectsWithin farthest rects → AreRectsWithin farthest columns
+  one-within within r r_in =
+      let w = within (turned_rect r) ((contains-turned rects r).0 (subst (λ rs. Contains rs r) is r_in)) in
+      record { left = w.low; right = w.high; low = w.left; high = w.right }

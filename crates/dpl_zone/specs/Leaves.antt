@@ -1,7 +1,8 @@
 -- The rectangles at the leaves of a search tree, by owner, and windows of a search.
 use Rattle.std.specs.Prelude.{◌≡◌, ℕ, ℤ, pos, ◌+ℤ◌, ◌-ℤ◌, Bool, not, cond, ◌&&◌, ◌==◌, List, [], ◌∷◌}
 use Rattle.dpl_spec.specs.declared.Rect.{Rect}
-use Rattle.dpl_spec.specs.Squares.{IsSolidWithin}
+use Rattle.dpl_spec.specs.declared.Pt.{Pt}
+use Rattle.dpl_spec.specs.Squares.{Covers, Has, IsSolidWithin}
 use Rattle.dpl_spec.specs.Loops.{farthest}
 use Rattle.dpl_tree.specs.declared.tree.Node.{Node}
 use Rattle.dpl_tree.specs.Trees.{HasLeaf}
@@ -22,6 +23,10 @@ others_in (node ∷ nodes) own = cond (is_other_leaf own node) (node.bounds ∷ 
 abbrev pub own_in : List Node → ℕ → List Rect
 own_in [] own = []
 own_in (node ∷ nodes) own = cond (is_own_leaf own node) (node.bounds ∷ own_in nodes own) (own_in nodes own)
+
+-- the rectangles have no square outside the slab
+abbrev pub AllIn : List Rect → Rect → Type 0
+AllIn rects slab = (p : Pt) → Covers rects p → Has slab p
 
 -- the leaves are solid rectangles in the range of a layer
 abbrev pub AreLeavesWithin : List Node → Type 0

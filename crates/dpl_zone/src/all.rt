@@ -11,7 +11,7 @@ use crate::kept::kept_zones;
 use crate::order::{each_once, sort_zones};
 use dpl_base::Zone;
 use dpl_slabs::{Parts, Slabs};
-use dpl_tree::Tree;
+use dpl_tree::{Tree, View};
 use std::alloc::{AllocError, Global};
 
 /// Adds the zones of part `k`.
@@ -19,8 +19,8 @@ fn add_feature(
     alloc: Global,
     found: &mut Vec<Zone>,
     parts: &[Slabs],
-    tree: &Tree,
-    across: &Tree,
+    tree: &View,
+    across: &View,
     k: usize,
     rule: u32,
     overlap: u32,
@@ -55,10 +55,13 @@ fn found_zones(
     ensures { IfOk result (λ v. (z : Zone) → Contains v.items z ↔ ((z.feature < length parts.now) × IsPartZone rule overlap parts.now z)) }
 {
     let tree = Tree::of_parts(alloc, parts)?;
-    let across = tree.turned(alloc)?;
+    let upright = View::of(&tree);
+    let across = View::turned(&tree);
     let mut found = Vec::new(alloc);
     for k in 0..parts.len() {
-        add_feature(alloc, &mut found, parts, &tree, &across, k, rule, overlap)?;
+        add_feature(
+            alloc, &mut found, parts, &upright, &across, k, rule, overlap,
+        )?;
     }
     Ok(found)
 }

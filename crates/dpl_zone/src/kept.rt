@@ -1,5 +1,5 @@
 //! The zones of a feature that are kept.
-ghost use Rattle.std.specs.Prelude.{◌≡◌, ℕ, ◌≤◌, ◌↔◌, map, IfOk, OnOk};
+ghost use Rattle.std.specs.Prelude.{◌≡◌, ℕ, ◌≤◌, ◌↔◌, map, IsTrue, IfOk, OnOk};
 ghost use Rattle.std.specs.List.{Contains};
 ghost use Rattle.dpl_spec.specs.declared.Pt.{Pt};
 ghost use Rattle.dpl_spec.specs.declared.Rect.{Rect};
@@ -11,11 +11,11 @@ ghost use Rattle.dpl_tree.specs.Trees.{IsTree, HasLeaf, turned_node};
 ghost use Rattle.dpl_zone.specs.Leaves.{AreLeavesWithin, others_in, own_in};
 
 use crate::flat::flat_zones;
-use crate::rows::touches_leaf;
+use crate::rows::{is_free, touches_leaf};
 use crate::slab_zones::upright_zones;
 use dpl_base::Rect;
 use dpl_slabs::Slabs;
-use dpl_tree::{Tree, add_items_of};
+use dpl_tree::{Tree, View, add_items_of};
 use std::alloc::{AllocError, Global};
 
 /// The tree of zones.
@@ -29,7 +29,7 @@ fn tree_of_zones(alloc: Global, zones: &[Rect]) -> Result<Tree, AllocError>
 }
 
 /// Adds a zone that touches none of the others.
-fn add_apart(kept: &mut Vec<Rect>, flat: &Tree, z: &Rect) -> Result<(), AllocError>
+fn add_apart(kept: &mut Vec<Rect>, flat: &View, z: &Rect) -> Result<(), AllocError>
     requires leaves { AreLeavesWithin flat.now }
     requires zone { IsSolidWithin farthest z.now }
     ensures { OnOk result (AddsZones (λ w. (z.now ≡ w) × ((h : Rect) (k : ℕ) → HasLeaf flat.now h k → AreTouching (Has h) (Has w) → ⊥)) kept.old.items kept.new.items) }
@@ -41,12 +41,26 @@ fn add_apart(kept: &mut Vec<Rect>, flat: &Tree, z: &Rect) -> Result<(), AllocErr
     Ok(())
 }
 
+/// Whether the feature is one slab that no other comes near. It has no zone then.
+fn is_lonely(part: &Slabs, tree: &View, own: usize, rule: u32) -> bool
+    ensures { IsTrue result → (overlap : ℕ) (z : Rect) → IsKeptZone rule overlap (layer_of part.now (others_in tree.now own)) (Covers part.now) z → ⊥ }
+{
+    let rects = part.rects();
+    if rects.len() != 1 {
+        return false;
+    }
+    if !is_free(tree, own, &rects[0], rule) {
+        return false;
+    }
+    true
+}
+
 /// The horizontal zones of a feature, and the vertical ones that touch none of them.
 pub fn kept_zones(
     alloc: Global,
     part: &Slabs,
-    tree: &Tree,
-    across: &Tree,
+    tree: &View,
+    across: &View,
     own: usize,
     rule: u32,
     overlap: u32,
@@ -59,12 +73,16 @@ pub fn kept_zones(
     requires apart { (p : Pt) → Covers part.now p → Covers (others_in tree.now own) p → ⊥ }
     ensures { IfOk result (λ v. (z : Rect) → Contains v.items z ↔ IsKeptZone rule overlap (layer_of part.now (others_in tree.now own)) (Covers part.now) z) }
 {
+    if is_lonely(part, tree, own, rule) {
+        return Ok(Vec::new(alloc));
+    }
     let flat = flat_zones(alloc, part, across, own, rule, overlap)?;
     let upright = upright_zones(alloc, part.rects(), tree, own, rule, overlap)?;
     let flat_tree = tree_of_zones(alloc, &flat)?;
+    let flat_view = View::of(&flat_tree);
     let mut kept = flat;
     for z in &upright {
-        add_apart(&mut kept, &flat_tree, z)?;
+        add_apart(&mut kept, &flat_view, z)?;
     }
     Ok(kept)
 }

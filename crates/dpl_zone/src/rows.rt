@@ -8,10 +8,10 @@ ghost use Rattle.dpl_spec.specs.Squares.{AreTouching, Covers, Has, IsSolidWithin
 ghost use Rattle.dpl_spec.specs.Zones.{GoesOn, turned};
 ghost use Rattle.dpl_zone.specs.Rows.{SomeRow, AreTall, RiseByFrom, IsShaded, IsShadow, IsDark, IsGap, AddsSpan};
 ghost use Rattle.dpl_tree.specs.Trees.{HasLeaf};
-ghost use Rattle.dpl_zone.specs.Leaves.{AreLeavesWithin, IsStrip, others_in, own_in};
+ghost use Rattle.dpl_zone.specs.Leaves.{AllIn, AreLeavesWithin, IsStrip, others_in, own_in};
 
 use dpl_base::{Rect, reach, span_gap};
-use dpl_tree::{Owners, Tree, widened};
+use dpl_tree::{Owners, View, widened};
 use std::alloc::{AllocError, Global};
 
 /// The rows from `from` up to but not `to`.
@@ -75,7 +75,7 @@ fn is_covered(spans: &[Span], slab: &Rect) -> bool
 /// The shadows of other owners' rectangles on a slab, up to one that has all its rows.
 fn gather(
     alloc: Global,
-    tree: &Tree,
+    tree: &View,
     own: usize,
     slab: &Rect,
     rule: u32,
@@ -87,10 +87,11 @@ fn gather(
 {
     let window = widened(slab, rule);
     let mut spans = Vec::new(alloc);
-    let nodes = tree.nodes();
+    let count = tree.count();
     let mut i = tree.seek(0, &window, Owners::But(own));
-    while i < nodes.len() {
-        add_shadow(&mut spans, slab, &nodes[i].bounds, rule)?;
+    while i < count {
+        let other = tree.bounds(i);
+        add_shadow(&mut spans, slab, &other, rule)?;
         if is_covered(&spans, slab) {
             return Ok(spans);
         }
@@ -102,7 +103,7 @@ fn gather(
 /// The shadows of other owners' rectangles on a slab, lowest first.
 pub fn shadows(
     alloc: Global,
-    tree: &Tree,
+    tree: &View,
     own: usize,
     slab: &Rect,
     rule: u32,
@@ -116,6 +117,20 @@ pub fn shadows(
     let mut spans = gather(alloc, tree, own, slab, rule)?;
     spans.sort_by_key(|s| s.from)?;
     Ok(spans)
+}
+
+/// Whether no rectangle of another owner has a square in the slab's window, so that none is near.
+pub fn is_free(tree: &View, own: usize, slab: &Rect, rule: u32) -> bool
+    requires { IsSolidWithin farthest slab.now }
+    ensures { IsTrue result → (y : ℤ) → slab.now.y0 ≤ℤ y → y <ℤ slab.now.y1 → IsDark rule (others_in tree.now own) slab.now y → ⊥ }
+{
+    let window = widened(slab, rule);
+    let count = tree.count();
+    let n = tree.seek(0, &window, Owners::But(own));
+    if n < count {
+        return false;
+    }
+    true
 }
 
 /// The lower of two rows.
@@ -174,32 +189,37 @@ fn strip(slab: &Rect, y: i64) -> Rect
     }
 }
 
-/// Whether the owner has a square in row `y` that is at most one column beside the slab.
-pub fn has_row(tree: &Tree, own: usize, slab: &Rect, y: i64) -> bool
+/// Whether the owner has a square in row `y`, below or above the slab, that is at most one column beside it.
+pub fn has_row(tree: &View, own: usize, slab: &Rect, is_whole: bool, y: i64) -> bool
     requires leaves { AreLeavesWithin tree.now }
     requires slab { IsSolidWithin farthest slab.now }
     requires row { y <ℤ pos 2000000000 }
+    requires outside { (y <ℤ slab.now.y0) ⊎ (slab.now.y1 ≤ℤ y) }
+    requires whole { IsTrue is_whole → AllIn (own_in tree.now own) slab.now }
     ensures { IsTrue result ↔ GoesOn (turned (Covers (own_in tree.now own))) slab.now.x0 slab.now.x1 y }
 {
+    if is_whole {
+        return false;
+    }
     let window = strip(slab, y);
-    let nodes = tree.nodes();
+    let count = tree.count();
     let n = tree.seek(0, &window, Owners::Only(own));
-    if n < nodes.len() {
+    if n < count {
         return true;
     }
     false
 }
 
 /// Whether the rectangle touches a leaf.
-pub fn touches_leaf(tree: &Tree, r: &Rect) -> bool
+pub fn touches_leaf(tree: &View, r: &Rect) -> bool
     requires leaves { AreLeavesWithin tree.now }
     requires solid { IsSolidWithin farthest r.now }
     ensures { IsTrue result ↔ ((h : Rect) × (k : ℕ) × HasLeaf tree.now h k × AreTouching (Has h) (Has r.now)) }
 {
     let window = widened(r, 1);
-    let nodes = tree.nodes();
+    let count = tree.count();
     let n = tree.seek(0, &window, Owners::All);
-    if n < nodes.len() {
+    if n < count {
         return true;
     }
     false

@@ -10,47 +10,50 @@ ghost use Rattle.dpl_spec.specs.Zones.{IsVerticalZone};
 ghost use Rattle.dpl_zone.specs.declared.rows.Span.{Span};
 ghost use Rattle.dpl_zone.specs.Rows.{IsDark, GoesBelow, GoesAbove, IsOpenSpan, IsMiddleOf, IsSlabZone, AddsZones, layer_of};
 ghost use Rattle.dpl_tree.specs.Trees.{IsTree};
-ghost use Rattle.dpl_zone.specs.Leaves.{AreLeavesWithin, others_in, own_in};
+ghost use Rattle.dpl_zone.specs.Leaves.{AllIn, AreLeavesWithin, others_in, own_in};
 
 use crate::rows::{Span, gaps, has_row, shadows};
 use dpl_base::Rect;
-use dpl_tree::Tree;
+use dpl_tree::View;
 use std::alloc::{AllocError, Global};
 
-/// Whether the feature goes on below the span: in the slab itself, or below that.
-fn goes_below(tree: &Tree, own: usize, slab: &Rect, g: &Span) -> bool
+/// Whether the feature goes on below the span: in the slab itself, or below that, where it isn't the whole feature.
+fn goes_below(tree: &View, own: usize, slab: &Rect, is_whole: bool, g: &Span) -> bool
     requires leaves { AreLeavesWithin tree.now }
     requires slab { IsSolidWithin farthest slab.now }
+    requires whole { IsTrue is_whole → AllIn (own_in tree.now own) slab.now }
     ensures { IsTrue result ↔ ((slab.now.y0 <ℤ g.now.from) ⊎ GoesBelow (own_in tree.now own) slab.now) }
 {
     if slab.y0 < g.from {
         return true;
     }
-    if has_row(tree, own, slab, slab.y0 - 1) {
+    if has_row(tree, own, slab, is_whole, slab.y0 - 1) {
         return true;
     }
     false
 }
 
-/// Whether the feature goes on above the span: in the slab itself, or above that.
-fn goes_above(tree: &Tree, own: usize, slab: &Rect, g: &Span) -> bool
+/// Whether the feature goes on above the span: in the slab itself, or above that, where it isn't the whole feature.
+fn goes_above(tree: &View, own: usize, slab: &Rect, is_whole: bool, g: &Span) -> bool
     requires leaves { AreLeavesWithin tree.now }
     requires slab { IsSolidWithin farthest slab.now }
+    requires whole { IsTrue is_whole → AllIn (own_in tree.now own) slab.now }
     ensures { IsTrue result ↔ ((g.now.to <ℤ slab.now.y1) ⊎ GoesAbove (own_in tree.now own) slab.now) }
 {
     if g.to < slab.y1 {
         return true;
     }
-    if has_row(tree, own, slab, slab.y1) {
+    if has_row(tree, own, slab, is_whole, slab.y1) {
         return true;
     }
     false
 }
 
 /// Whether a span is long enough for a zone, and the feature goes on beyond both its ends.
-fn is_open(tree: &Tree, own: usize, slab: &Rect, g: &Span, overlap: u32) -> bool
+fn is_open(tree: &View, own: usize, slab: &Rect, is_whole: bool, g: &Span, overlap: u32) -> bool
     requires leaves { AreLeavesWithin tree.now }
     requires slab { IsSolidWithin farthest slab.now }
+    requires whole { IsTrue is_whole → AllIn (own_in tree.now own) slab.now }
     requires from { slab.now.y0 ≤ℤ g.now.from }
     requires some { g.now.from <ℤ g.now.to }
     requires to { g.now.to ≤ℤ slab.now.y1 }
@@ -59,10 +62,10 @@ fn is_open(tree: &Tree, own: usize, slab: &Rect, g: &Span, overlap: u32) -> bool
     if g.to - g.from < overlap as i64 + 2 {
         return false;
     }
-    if !goes_below(tree, own, slab, g) {
+    if !goes_below(tree, own, slab, is_whole, g) {
         return false;
     }
-    if !goes_above(tree, own, slab, g) {
+    if !goes_above(tree, own, slab, is_whole, g) {
         return false;
     }
     true
@@ -90,20 +93,22 @@ fn middle(slab: &Rect, g: &Span, overlap: u32) -> Rect
 /// Adds the zone of a span, where it has one.
 fn add_zone(
     zones: &mut Vec<Rect>,
-    tree: &Tree,
+    tree: &View,
     own: usize,
     slab: &Rect,
+    is_whole: bool,
     g: &Span,
     overlap: u32,
 ) -> Result<(), AllocError>
     requires leaves { AreLeavesWithin tree.now }
     requires slab { IsSolidWithin farthest slab.now }
+    requires whole { IsTrue is_whole → AllIn (own_in tree.now own) slab.now }
     requires from { slab.now.y0 ≤ℤ g.now.from }
     requires some { g.now.from <ℤ g.now.to }
     requires to { g.now.to ≤ℤ slab.now.y1 }
     ensures { OnOk result (AddsZones (λ z. IsOpenSpan overlap slab.now (GoesBelow (own_in tree.now own) slab.now) (GoesAbove (own_in tree.now own) slab.now) g.now × IsMiddleOf overlap slab.now g.now z) zones.old.items zones.new.items) }
 {
-    if !is_open(tree, own, slab, g, overlap) {
+    if !is_open(tree, own, slab, is_whole, g, overlap) {
         return Ok(());
     }
     let zone = middle(slab, g, overlap);
@@ -123,14 +128,16 @@ fn is_short(slab: &Rect, overlap: u32) -> bool
 fn add_zones(
     alloc: Global,
     zones: &mut Vec<Rect>,
-    tree: &Tree,
+    tree: &View,
     own: usize,
     slab: &Rect,
+    is_whole: bool,
     rule: u32,
     overlap: u32,
 ) -> Result<(), AllocError>
     requires leaves { AreLeavesWithin tree.now }
     requires slab { IsSolidWithin farthest slab.now }
+    requires whole { IsTrue is_whole → AllIn (own_in tree.now own) slab.now }
     ensures { OnOk result (AddsZones (IsSlabZone rule overlap (own_in tree.now own) (others_in tree.now own) slab.now) zones.old.items zones.new.items) }
 {
     if is_short(slab, overlap) {
@@ -139,7 +146,7 @@ fn add_zones(
     let spans = shadows(alloc, tree, own, slab, rule)?;
     let free = gaps(alloc, &spans, slab.y0, slab.y1)?;
     for g in &free {
-        add_zone(zones, tree, own, slab, g, overlap)?;
+        add_zone(zones, tree, own, slab, is_whole, g, overlap)?;
     }
     Ok(())
 }
@@ -148,7 +155,7 @@ fn add_zones(
 pub fn upright_zones(
     alloc: Global,
     slabs: &[Rect],
-    tree: &Tree,
+    tree: &View,
     own: usize,
     rule: u32,
     overlap: u32,
@@ -162,8 +169,9 @@ pub fn upright_zones(
     ensures { IfOk result (λ v. (z : Rect) → Contains v.items z ↔ IsVerticalZone rule overlap (layer_of slabs.now (others_in tree.now own)) (Covers slabs.now) z) }
 {
     let mut zones = Vec::new(alloc);
+    let is_whole = slabs.len() == 1;
     for slab in slabs {
-        add_zones(alloc, &mut zones, tree, own, slab, rule, overlap)?;
+        add_zones(alloc, &mut zones, tree, own, slab, is_whole, rule, overlap)?;
     }
     Ok(zones)
 }

@@ -2,11 +2,17 @@ use Rattle.std.proofs.Common.{◌≡◌, length, subst}
 use Rattle.dpl_spec.specs.Squares.{Covers, IsLeast}
 use Rattle.dpl_piece.specs.Owners.{AreSidesKnown}
 use Rattle.dpl_piece.proofs.CornerLaws.{zip-length}
-use Rattle.dpl_piece.proofs.Cuts.{zones-within, features-some, pieces-some, stands, sides-each, sides-known, their-pieces, matched}
+use Rattle.dpl_piece.proofs.Cuts.{features-some, pieces-some, stands, sides-each, sides-known, their-pieces, matched}
 use Rattle.dpl_piece.proofs.cut.pieces.Goals as goal
 
-pub rest_of-requires : goal.rest_of-requires
-rest_of-requires c = zones-within c.args.features.now c.args.zones.now c.requires.features c.requires.zones c.items-items.ensures.parts.within
+pub rest_of-requires-clause-features : goal.rest_of-requires-clause-features
+rest_of-requires-clause-features c = rw c.items-items.ensures.value c.requires.features
+
+pub rest_of-requires-clause-zones : goal.rest_of-requires-clause-zones
+rest_of-requires-clause-zones c = rw c.items-items.ensures.value c.requires.zones
+
+pub rest_of-requires-clause-within : goal.rest_of-requires-clause-within
+rest_of-requires-clause-within c = rw c.items-items.ensures.value c.items-items.ensures.parts.within
 
 pub sides_of-requires : goal.sides_of-requires
 sides_of-requires c =

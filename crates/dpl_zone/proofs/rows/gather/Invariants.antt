@@ -16,4 +16,4 @@ invariant-loop-i l =
     }
 
 abbrev pub decreases-loop-i : goal.decreases-loop-i
-decreases-loop-i l = length l.nodes - l.i
+decreases-loop-i l = l.count - l.i
