@@ -1,5 +1,5 @@
 -- What places no point draws no loop.
-use Rattle.std.proofs.Common.{◌≡◌, ℕ, zero, suc, ◌+◌, ◌*◌, ◌/◌, ◌<◌, ◌≤◌, ⊎_elim, Bool, true, false, ◌&&◌, not, cond, List, [], ◌∷◌, Option, Some, None, map, length, get_or, unwrap_or, pos, refl, sym, ap, ◌∙◌, arith}
+use Rattle.std.proofs.Common.{◌≡◌, ℕ, zero, suc, ◌+◌, ◌*◌, ◌/◌, ◌≤◌, ⊎_elim, Bool, true, false, ◌&&◌, not, cond, List, [], ◌∷◌, Some, map, length, get_or, pos, ap, arith}
 use Rattle.std.proofs.Math.Nat.{mul-suc}
 use Rattle.std.proofs.lemmas.List.Sums.{sum_by-cons}
 use Rattle.std.specs.List.{Contains, sum_by}
@@ -11,11 +11,10 @@ use Rattle.dpl_format.specs.Tree.{Library, Element, Body, is_boundary, is_path, 
 use Rattle.dpl_layout.specs.declared.Layer.{Layer}
 use Rattle.dpl_layout.specs.Elements.{loops_of, point_count, columns_of, rows_of, is_on, path_shape, points_in}
 use Rattle.dpl_layout.specs.Structures.{target_of}
-use Rattle.dpl_layout.specs.Placements.{Step, IsStep, Leads, IsPlacement}
+use Rattle.dpl_layout.specs.Placements.{Step, Leads}
 use Rattle.dpl_layout.specs.Points.{points_by, points_at, points_through}
 use Rattle.dpl_links.specs.Graph.{IsMarked}
-use Rattle.dpl_links.specs.Levels.{AlwaysFalls}
-use Rattle.dpl_flatten.specs.Links.{IsLevelled}
+use Rattle.dpl_flatten.specs.Links.{IsLinked, AlwaysFalls}
 use Rattle.dpl_flatten.specs.Totals.{IsBare}
 
 sum_ge : (f : Element → ℕ) (es : List Element) (e : Element) → Contains es e → f e ≤ sum_by f es
@@ -47,7 +46,7 @@ drawn_counts layer (is_aref r) qs h c = absurd (Contains-nil qs c)
 drawn_counts layer (is_text t) qs h c = absurd (Contains-nil qs c)
 drawn_counts layer (is_node n) qs h c = absurd (Contains-nil qs c)
 
-module _ (lib : Library) (layer : Layer) (graph : List (List ℕ)) (marks : List Bool) (levels : List ℕ) (links : IsLevelled lib graph marks levels) (falls : AlwaysFalls graph marks levels) where
+module _ (lib : Library) (layer : Layer) (graph : List (List ℕ)) (marks : List Bool) (levels : List ℕ) (links : IsLinked lib graph marks) (falls : AlwaysFalls graph marks levels) where
   -- what an element places by its copies is counted
   copy_counts : (below : ℕ → ℕ) (e : Element) (j : ℕ) → target_of lib e ≡ Some j → 1 ≤ columns_of e.body → 1 ≤ rows_of e.body → 1 ≤ below j → 1 ≤ points_by lib layer below e
   copy_counts below e j t c r b =

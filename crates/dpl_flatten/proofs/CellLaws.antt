@@ -1,20 +1,21 @@
 -- What the elements that were gone through draw and place.
-use Rattle.std.proofs.Common.{◌≡◌, ◌≢◌, ℕ, ◌+◌, ◌<◌, ◌≤◌, ◌⊎◌, inl, inr, ⊎_elim, Bool, true, false, List, [], ◌∷◌, ◌++◌, Option, Some, None, map, length, get_or, take, refl, sym, ap, ◌∙◌, arith, length-append}
+use Rattle.std.proofs.Common.{◌≡◌, ℕ, ◌+◌, ◌^◌, ◌<◌, ◌≤◌, ◌⊎◌, inl, inr, ⊎_elim, Bool, true, false, List, [], ◌∷◌, ◌++◌, Some, None, map, length, get_or, take, refl, sym, ap, ◌∙◌, arith, length-append}
 use Rattle.std.proofs.lemmas.Bool.{cases_lt, cases_order}
 use Rattle.std.proofs.lemmas.List.{take_all, get_or_append_left}
 use Rattle.std.proofs.Math.Seq.{get_or-append_seam}
 use Rattle.std.proofs.lemmas.Option.{slice_get_past, slice_get-get_or}
 use Rattle.std.proofs.lemmas.List.Elements.{Contains-append_left, Contains-append_right, Contains-append_cases, Contains-push, Contains-push_cases, All-contains, Contains-get_or}
-use Rattle.std.specs.List.{All, Contains}
+use Rattle.std.specs.List.{Contains}
 use Rattle.std.specs.Prelude.{slice_get}
 use Rattle.dpl_spec.specs.declared.Pt.{Pt}
-use Rattle.dpl_spec.specs.Loops.{IsRectilinear}
+use Rattle.dpl_spec.specs.Loops.{IsRectilinear, ArePointsWithin}
 use Rattle.dpl_spec.proofs.Ordered.{Contains-nil}
 use Rattle.dpl_format.specs.Tree.{Library, Element, elements_at}
 use Rattle.dpl_syntax.specs.declared.element.Element.{Element as Found}
 use Rattle.dpl_syntax.specs.Elements.{element_seen}
 use Rattle.dpl_layout.specs.declared.Layer.{Layer}
-use Rattle.dpl_layout.specs.Elements.{loops_of}
+use Rattle.dpl_layout.specs.declared.ElementFault.{ElementFault}
+use Rattle.dpl_layout.specs.Elements.{loops_of, IsRefusedFor}
 use Rattle.dpl_layout.specs.Structures.{target_of}
 use Rattle.dpl_links.specs.Graph.{IsMarked}
 use Rattle.dpl_links.proofs.SpreadLaws.{marked_below}
@@ -23,7 +24,7 @@ use Rattle.dpl_flatten.specs.declared.cells.Outline.{Outline}
 use Rattle.dpl_flatten.specs.declared.cells.Copies.{Copies}
 use Rattle.dpl_flatten.specs.declared.cells.Cell.{Cell}
 use Rattle.dpl_flatten.specs.Totals.{IsBare}
-use Rattle.dpl_flatten.specs.Cells.{AreCopies, IsReady, IsDrawn, IsPlaced, IsCell, IsCopied, IsNoted, AreBareTargets}
+use Rattle.dpl_flatten.specs.Cells.{AreCopies, IsReady, IsDrawn, IsPlaced, IsCell, IsCopied, IsNoted, AreBareTargets, AreTaken}
 use Rattle.dpl_flatten.specs.Walk.{AreCells, outlines_at, copies_at, outlines_or_none, copies_or_none}
 use Rattle.dpl_flatten.proofs.ListLaws.{Contains-map, Contains-map_cases}
 use Rattle.dpl_flatten.proofs.LeastLaws.{seen_at, seen_length}
@@ -33,6 +34,7 @@ cell_none lib layer = record {
   drawn = λ o c. absurd (Contains-nil o c);
   outlined = λ e qs c q. absurd (Contains-nil e c);
   straight = λ o c. absurd (Contains-nil o c);
+  near = λ o c. absurd (Contains-nil o c);
   placed = λ x c. absurd (Contains-nil x c);
   ready = λ x c. absurd (Contains-nil x c);
   copied = λ e j c t. absurd (Contains-nil e c);
@@ -62,6 +64,7 @@ cell_more lib layer totals es i d os os' cs cs' h bare n c = record {
   drawn = λ o k. ⊎_elim (λ x. old_drawn o (c.drawn o x)) (λ x. new_drawn o x) (Contains-append_cases os more o (rw n.drawn at k));
   outlined = λ x qs k q. rw n.drawn (⊎_elim (λ y. Contains-append_left os more _ (c.outlined x qs y q)) (λ (w : x ≡ e). Contains-append_right os more _ (rw w (Contains-map outline (loops_of layer e.body) qs (rw w at q)))) (Contains-take_more es i d x h k));
   straight = λ o k. ⊎_elim (λ x. c.straight o x) (λ x. new_straight o x) (Contains-append_cases os more o (rw n.drawn at k));
+  near = λ o k. ⊎_elim (λ x. c.near o x) (λ x. new_near o x) (Contains-append_cases os more o (rw n.drawn at k));
   placed = λ x k. ⊎_elim (λ y. old_placed x (c.placed x y)) (λ y. (e, Contains-take_last es i d e h refl, y.0, y.1)) (copies_cases lib totals e cs cs' n.copied x k);
   ready = λ x k. ⊎_elim (λ y. c.ready x y) (λ y. y.2) (copies_cases lib totals e cs cs' n.copied x k);
   copied = λ x j k t. ⊎_elim (λ y. old_copied x j (c.copied x j y t)) (λ (w : x ≡ e). new_copied x j w t) (Contains-take_more es i d x h k);
@@ -85,6 +88,9 @@ cell_more lib layer totals es i d os os' cs cs' h bare n c = record {
     new_straight : (o : Outline) → Contains (map (λ qs. record { at = (get_or es i d).at; points = qs }) (loops_of layer (get_or es i d).body)) o → IsRectilinear o.points
     new_straight o x = let m = Contains-map_cases (λ qs. record { at = (get_or es i d).at; points = qs }) (loops_of layer (get_or es i d).body) o x in rw (← m.2) (All-contains IsRectilinear (loops_of layer (get_or es i d).body) m.0 n.straight m.1)
 
+    new_near : (o : Outline) → Contains (map (λ qs. record { at = (get_or es i d).at; points = qs }) (loops_of layer (get_or es i d).body)) o → ArePointsWithin (2 ^ 61) o.points
+    new_near o x = let m = Contains-map_cases (λ qs. record { at = (get_or es i d).at; points = qs }) (loops_of layer (get_or es i d).body) o x in rw (← m.2) (All-contains (ArePointsWithin (2 ^ 61)) (loops_of layer (get_or es i d).body) m.0 n.near m.1)
+
     old_placed : (x : Copies) → IsPlaced lib (take i es) x → IsPlaced lib (take (i + 1) es) x
     old_placed x y = (y.0, Contains-take_keeps es i d y.0 h y.1, y.2, y.3)
 
@@ -105,13 +111,13 @@ cell_all lib layer es ts i os cs e h c = rw (take_all i ts (omega (arith, h, see
 pub record AreCellsBelow (lib : Library) (layer : Layer) (marks : List Bool) (n : ℕ) (cells : List Cell) : Type 0 where
   pub each : length cells ≡ n
   pub marked : (k : ℕ) → k < n → IsMarked marks k → IsCell lib layer (elements_at lib k) (outlines_at cells k) (copies_at cells k)
-  pub unmarked : (k : ℕ) → ¬ IsMarked marks k → copies_at cells k ≡ []
+  pub unmarked : (k : ℕ) → ¬ IsMarked marks k → (copies_at cells k ≡ []) × (outlines_at cells k ≡ [])
 
 pub below_none : (lib : Library) (layer : Layer) (marks : List Bool) (cells : List Cell) → cells ≡ [] → AreCellsBelow lib layer marks 0 cells
 below_none lib layer marks cells e = record {
   each = ap length e;
   marked = λ k h m. absurd (omega (arith, h));
-  unmarked = λ k m. rw e refl;
+  unmarked = λ k m. (rw e refl, rw e refl);
 }
 
 cell_before : (cells : List Cell) (x : Cell) (k : ℕ) → k < length cells → slice_get (cells ++ x ∷ []) k ≡ slice_get cells k
@@ -125,11 +131,11 @@ cell_last cells x k h =
 cell_past : (cells : List Cell) (x : Cell) (k : ℕ) → length cells < k → slice_get (cells ++ x ∷ []) k ≡ None
 cell_past cells x k h = slice_get_past (cells ++ x ∷ []) k (omega (arith, h, length-append cells (x ∷ [])))
 
-pub below_more : (lib : Library) (layer : Layer) (marks : List Bool) (n : ℕ) (marked : Bool) (x : Cell) (cells new : List Cell) → new ≡ cells ++ x ∷ [] → get_or marks n false ≡ marked → (marked ≡ true → IsCell lib layer (elements_at lib n) x.outlines x.copies) → (marked ≡ false → x.copies ≡ []) → AreCellsBelow lib layer marks n cells → AreCellsBelow lib layer marks (n + 1) new
+pub below_more : (lib : Library) (layer : Layer) (marks : List Bool) (n : ℕ) (marked : Bool) (x : Cell) (cells new : List Cell) → new ≡ cells ++ x ∷ [] → get_or marks n false ≡ marked → (marked ≡ true → IsCell lib layer (elements_at lib n) x.outlines x.copies) → (marked ≡ false → (x.copies ≡ []) × (x.outlines ≡ [])) → AreCellsBelow lib layer marks n cells → AreCellsBelow lib layer marks (n + 1) new
 below_more lib layer marks n marked x cells new e is some none b = rw e (record {
   each = length-append cells (x ∷ []) ∙ omega (arith, b.each);
   marked = λ k h m. ⊎_elim (λ (l : k < n). before k l m) (λ (l : n ≤ k). last k (omega arith) m) (cases_lt k n);
-  unmarked = λ k m. ⊎_elim (λ (w : k ≡ n). bare_last k w m) (λ o. ⊎_elim (λ (l : k < n). bare_before k l m) (λ (l : n < k). ap copies_or_none (cell_past cells x k (omega (arith, b.each)))) o) (cases_order k n);
+  unmarked = λ k m. ⊎_elim (λ (w : k ≡ n). bare_last k w m) (λ o. ⊎_elim (λ (l : k < n). bare_before k l m) (λ (l : n < k). let s = cell_past cells x k (omega (arith, b.each)) in (ap copies_or_none s, ap outlines_or_none s)) o) (cases_order k n);
 })
   where
     before : (k : ℕ) → k < n → IsMarked marks k → IsCell lib layer (elements_at lib k) (outlines_at (cells ++ x ∷ []) k) (copies_at (cells ++ x ∷ []) k)
@@ -141,11 +147,11 @@ below_more lib layer marks n marked x cells new e is some none b = rw e (record 
         let on : marked ≡ true = sym is ∙ rw w at m in
         rw (ap outlines_or_none s, ap copies_or_none s) (rw w (some on))
 
-    bare_before : (k : ℕ) → k < n → ¬ IsMarked marks k → copies_at (cells ++ x ∷ []) k ≡ []
-    bare_before k l m = ap copies_or_none (cell_before cells x k (omega (arith, l, b.each))) ∙ b.unmarked k m
+    bare_before : (k : ℕ) → k < n → ¬ IsMarked marks k → (copies_at (cells ++ x ∷ []) k ≡ []) × (outlines_at (cells ++ x ∷ []) k ≡ [])
+    bare_before k l m = let s = cell_before cells x k (omega (arith, l, b.each)) in (ap copies_or_none s ∙ (b.unmarked k m).0, ap outlines_or_none s ∙ (b.unmarked k m).1)
 
-    bare_last : (k : ℕ) → k ≡ n → ¬ IsMarked marks k → copies_at (cells ++ x ∷ []) k ≡ []
-    bare_last k w m = ap copies_or_none (cell_last cells x k (w ∙ sym b.each)) ∙ none (off marked refl)
+    bare_last : (k : ℕ) → k ≡ n → ¬ IsMarked marks k → (copies_at (cells ++ x ∷ []) k ≡ []) × (outlines_at (cells ++ x ∷ []) k ≡ [])
+    bare_last k w m = let s = cell_last cells x k (w ∙ sym b.each) in let z = none (off marked refl) in (ap copies_or_none s ∙ z.0, ap outlines_or_none s ∙ z.1)
       where
         off : (o : Bool) → marked ≡ o → marked ≡ false
         off false e = e
@@ -157,3 +163,6 @@ below_all lib layer marks n cells e same b = record {
   marked = λ k m. b.marked k (omega (arith, marked_below marks k m, e)) m;
   unmarked = b.unmarked;
 }
+
+pub taken_here : (layer : Layer) (es : List Found) (ts : List Element) (i : ℕ) (d : Found) → map element_seen es ≡ ts → i < length es → AreTaken layer ts → (f : ElementFault) → ¬ IsRefusedFor layer (element_seen (get_or es i d)).body f
+taken_here layer es ts i d same h taken f r = taken (element_seen (get_or es i d)) f (rw (← same) (Contains-map element_seen es (get_or es i d) (Contains-get_or es i d h))) r

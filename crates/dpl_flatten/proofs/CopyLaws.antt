@@ -1,19 +1,18 @@
 -- Spacings and copies.
-use Rattle.std.proofs.Common.{◌≡◌, ℕ, suc, ◌<◌, ◌≤◌, ℤ, pos, negsuc, ◌+ℤ◌, ◌*ℤ◌, List, refl, sym, ap, ◌∙◌, unwrap_or, arith}
+use Rattle.std.proofs.Common.{◌*◌, ◌/◌, ◌≡◌, ℕ, suc, ◌≤◌, ℤ, pos, negsuc, ◌+ℤ◌, ◌*ℤ◌, refl, unwrap_or, arith}
 use Rattle.std.specs.Prelude.{unsigned_abs, int_div}
 use Rattle.std.proofs.lemmas.Int.{ints}
-use Rattle.dpl_spec.specs.declared.Pt.{Pt}
-use Rattle.dpl_format.specs.Tree.{Trans, Sref, Aref, Body, is_sref, is_aref}
-use Rattle.dpl_layout.specs.Elements.{plain, point_in, IsCopyMotion}
+use Rattle.dpl_format.specs.Tree.{Sref, Aref, is_sref, is_aref}
+use Rattle.dpl_layout.specs.Elements.{plain, point_in}
 use Rattle.dpl_flatten.specs.declared.cells.Copies.{Copies}
-use Rattle.dpl_flatten.specs.Cells.{IsSingleCopy, IsArrayOfCopies, AreCopies, IsReady, copy_motion, spacing_of}
-use Rattle.std.proofs.Math.Nat.{div-le_self}
+use Rattle.dpl_flatten.specs.Cells.{IsSingleCopy, IsArrayOfCopies, AreCopies}
+use Rattle.std.proofs.Math.Nat.{mul-div-le}
 
-pub quot_small : (a d : ℤ) → unsigned_abs (int_div a d) ≤ unsigned_abs a
-quot_small (pos a) (pos b) = div-le_self a b
-quot_small (pos a) (negsuc b) = omega (arith, ints, div-le_self a (suc b))
-quot_small (negsuc a) (pos b) = omega (arith, ints, div-le_self (suc a) b)
-quot_small (negsuc a) (negsuc b) = div-le_self (suc a) (suc b)
+pub quot_times : (a d : ℤ) → unsigned_abs d * unsigned_abs (int_div a d) ≤ unsigned_abs a
+quot_times (pos a) (pos b) = mul-div-le a b
+quot_times (pos a) (negsuc b) = let e : unsigned_abs (int_div (pos a) (negsuc b)) ≡ a / suc b = omega (arith, ints) in rw e (mul-div-le a (suc b))
+quot_times (negsuc a) (pos b) = let e : unsigned_abs (int_div (negsuc a) (pos b)) ≡ suc a / b = omega (arith, ints) in rw e (mul-div-le (suc a) b)
+quot_times (negsuc a) (negsuc b) = mul-div-le (suc a) (suc b)
 
 still : (a : ℤ) (i j : ℕ) → (a +ℤ (pos i *ℤ pos 0)) +ℤ (pos j *ℤ pos 0) ≡ a
 still a i j = omega (arith, ints)

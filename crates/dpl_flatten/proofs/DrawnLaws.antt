@@ -4,7 +4,12 @@ use Rattle.dpl_elements.specs.Paths as paths
 use Rattle.dpl_elements.specs.Paths.{PathElement, PathFault, IsFaultless}
 use Rattle.dpl_layout.specs.declared.ElementFault.{ElementFault}
 use Rattle.dpl_layout.specs.declared.ElementFault.TheVariants.{AbsoluteTransform, Magnified, AngleNotRight, BadArray, SlantedBoundary, RoundPath, BadPathType, OddWidth, SlantedPath, PathTurnsBack, NegativeExtension}
-use Rattle.std.proofs.Common.{ℕ, ◌<◌, List, map, length, get_or}
+use Rattle.std.proofs.Common.{ℕ, ◌+◌, ◌<◌, ◌≤◌, Bool, true, false, List, map, length, get_or, take, sym, ◌∙◌, arith}
+use Rattle.std.proofs.lemmas.Bool.{cases_lt}
+use Rattle.std.proofs.lemmas.List.{take_all}
+use Rattle.dpl_links.specs.Graph.{IsMarked}
+use Rattle.dpl_links.proofs.TakeLaws.{Contains-take_more}
+use Rattle.dpl_flatten.proofs.LeastLaws.{seen_at, seen_length}
 use Rattle.std.proofs.lemmas.List.Elements.{Contains-get_or}
 use Rattle.std.specs.List.{Contains}
 use Rattle.dpl_format.specs.Tree.{Library, Element, elements_at}
@@ -16,7 +21,7 @@ use Rattle.std.specs.Prelude.{Option, Some, None, unwrap_or}
 use Rattle.dpl_format.specs.Tree.{Aref, Path, is_aref, is_path}
 use Rattle.dpl_layout.specs.declared.Layer.{Layer}
 use Rattle.dpl_layout.specs.Elements.{IsPathFault, IsArray, plain, is_on, path_shape}
-use Rattle.dpl_flatten.specs.Drawn.{IsFaultOf, IsRefusal, IsFaultOfReference, IsFaultOfPath}
+use Rattle.dpl_flatten.specs.Drawn.{IsFaultOf, IsRefusal, IsTakenAt, HasRefusalAt, IsFaultOfReference, IsFaultOfPath}
 
 no_first : (p : PathElement) (g : PathFault) → IsFaultless p → paths.IsFirstFault p g → ⊥
 no_first p g clean f = ⊎_elim (λ w. f.drawn w) (λ none. none g f.there) clean
@@ -44,3 +49,18 @@ path_fault_is chosen p (Some f) h = h
 
 pub refusal_is : (lib : Library) (chosen : Layer) (k i at : ℕ) (es : List Found) (d : Found) (f : FlattenFault) → map element_seen es ≡ elements_at lib k → i < length es → IsRefusal chosen (element_seen (get_or es i d)) at f → (e : Element) × Contains (elements_at lib k) e × IsRefusal chosen e at f
 refusal_is lib chosen k i at es d f same h r = (element_seen (get_or es i d), rw (← same) (Contains-map element_seen es (get_or es i d) (Contains-get_or es i d h)), r)
+
+pub taken_more : (chosen : Layer) (i at : ℕ) (es : List Found) (ts : List Element) (d : Found) → map element_seen es ≡ ts → i < length es → IsTakenAt chosen (element_seen (get_or es i d)) at → ((e : Element) → Contains (take i ts) e → IsTakenAt chosen e at) → (e : Element) → Contains (take (i + 1) ts) e → IsTakenAt chosen e at
+taken_more chosen i at es ts d same h one before e c =
+    let j : i < length ts = omega (arith, h, seen_length es ts same) in
+    ⊎_elim (λ x. before e x) (λ (w : e ≡ get_or ts i (element_seen d)). rw (w, seen_at es ts i d (element_seen d) same h) one) (Contains-take_more ts i (element_seen d) e j c)
+
+pub taken_all : (chosen : Layer) (i at : ℕ) (es : List Found) (ts : List Element) → map element_seen es ≡ ts → length es ≤ i → ((e : Element) → Contains (take i ts) e → IsTakenAt chosen e at) → (e : Element) → Contains ts e → IsTakenAt chosen e at
+taken_all chosen i at es ts same h before e c = let l : length ts ≤ i = omega (arith, h, seen_length es ts same) in before e (rw (take_all i ts l) c)
+
+pub nothing_at : (lib : Library) (chosen : Layer) (marks : List Bool) (n at : ℕ) → length marks ≡ n → HasRefusalAt lib chosen marks at → ((k : ℕ) (e : Element) → k < n → IsMarked marks k → Contains (elements_at lib k) e → IsTakenAt chosen e at) → ⊥
+nothing_at lib chosen marks n at each h none = none h.0 h.1 (omega (arith, h.2, each)) h.3 h.4 h.6 h.5 h.7
+
+pub none_more : (lib : Library) (chosen : Layer) (marks : List Bool) (n at : ℕ) (marked : Bool) → get_or marks n false ≡ marked → (marked ≡ true → (e : Element) → Contains (elements_at lib n) e → IsTakenAt chosen e at) → ((k : ℕ) (e : Element) → k < n → IsMarked marks k → Contains (elements_at lib k) e → IsTakenAt chosen e at) → (k : ℕ) (e : Element) → k < n + 1 → IsMarked marks k → Contains (elements_at lib k) e → IsTakenAt chosen e at
+none_more lib chosen marks n at marked is one before k e h m c =
+    ⊎_elim (λ (l : k < n). before k e l m c) (λ (l : n ≤ k). let w : k ≡ n = omega (arith, h) in one (sym is ∙ rw w at m) e (rw w at c)) (cases_lt k n)

@@ -1,18 +1,14 @@
 -- The marked structures are those that the top reaches.
-use Rattle.std.proofs.Common.{◌≡◌, ℕ, ◌<◌, ⊎_elim, Bool, List, Option, Some, None, length, refl, sym, ap, ◌∙◌}
-use Rattle.std.specs.List.{Contains}
-use Rattle.dpl_format.specs.Tree.{Library, Element, elements_at}
+use Rattle.std.proofs.Common.{◌≡◌, ℕ, Bool, List, Some, None, length, ◌∙◌}
+use Rattle.dpl_format.specs.Tree.{Library, Element}
 use Rattle.dpl_layout.specs.declared.Layer.{Layer}
-use Rattle.dpl_layout.specs.declared.ElementFault.{ElementFault}
 use Rattle.dpl_layout.specs.declared.FlattenFault.{FlattenFault}
-use Rattle.dpl_layout.specs.declared.FlattenFault.TheVariants.{NoMemory, Element as Refused}
-use Rattle.dpl_layout.specs.Structures.{Reaches}
-use Rattle.dpl_layout.specs.Faults.{Finding, IsFound, IsNowhere, IsNoneBefore, IsFirst, IsFirstFault, IsFirstRefused, IsRefused, IsWhole}
+use Rattle.dpl_layout.specs.Faults.{Finding, IsFound, IsNowhere, IsNoneBefore, IsFirst, IsFirstFault, IsRefused, IsWhole}
 use Rattle.dpl_links.specs.Graph.{AreReached, IsMarked, here}
 use Rattle.dpl_links.proofs.SpreadLaws.{marked_below}
 use Rattle.dpl_flatten.specs.Links.{IsGraphOf}
 use Rattle.dpl_flatten.specs.Least.{IsLeastOf, AmongMarked}
-use Rattle.dpl_flatten.specs.Drawn.{IsRefusalOf}
+use Rattle.dpl_flatten.specs.Drawn.{IsRefusalOf, HasRefusalAt}
 use Rattle.dpl_flatten.proofs.ReachLaws.{reaches_in_layout, reaches_in_graph}
 
 module _ (lib : Library) (graph : List (List ℕ)) (top : ℕ) (marks : List Bool) (g : IsGraphOf lib graph) (reached : AreReached graph top marks) where
@@ -35,11 +31,14 @@ module _ (lib : Library) (graph : List (List ℕ)) (top : ℕ) (marks : List Boo
   }
 
   pub refusal_first : (layer : Layer) (at : ℕ) (f : FlattenFault) → IsWhole lib top → IsLeastOf (AmongMarked lib marks (length marks) (IsRefused layer)) (Some at) → IsRefusalOf lib layer marks at f → IsFirstFault lib top layer f
-  refusal_first layer at f whole l r =
-      ⊎_elim (λ (e : f ≡ NoMemory). rw e tt)
-      (λ s. let k = s.0 in let e = s.1 in let q = s.4 in
-      rw q.3 (whole, record { some = (k, e, record { reached = reaches_in_layout g (reached.sound k s.2); inside = s.3; holds = q.1 }, q.2); least = none_before_of (IsRefused layer) at l }))
-      r
+  refusal_first layer at f whole l s =
+      let k = s.0 in
+      let e = s.1 in
+      let q = s.4 in
+      rw q.3 (whole, record { some = (k, e, record { reached = reaches_in_layout g (reached.sound k s.2); inside = s.3; holds = q.1 }, q.2); least = none_before_of (IsRefused layer) at l })
+
+  pub refusal_there : (layer : Layer) (at : ℕ) → IsLeastOf (AmongMarked lib marks (length marks) (IsRefused layer)) (Some at) → HasRefusalAt lib layer marks at
+  refusal_there layer at l = let s = l.0 in (s.0, s.1, s.2.0, s.2.1, s.2.2, s.3, s.2.3.0, s.2.3.1)
 
   pub marks_each : length marks ≡ length lib.structures
   marks_each = reached.each ∙ g.each

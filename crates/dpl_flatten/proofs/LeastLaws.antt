@@ -1,17 +1,15 @@
 -- The least offset of the elements that were gone through.
-use Rattle.std.proofs.Common.{◌≡◌, ℕ, ◌+◌, ◌<◌, ◌≤◌, ◌⊎◌, inl, inr, ⊎_elim, min, Bool, true, false, cond, List, [], ◌∷◌, Option, Some, None, map, length, get_or, take, refl, sym, ap, ◌∙◌, subst, arith}
+use Rattle.std.proofs.Common.{◌≡◌, ℕ, ◌+◌, ◌<◌, ◌≤◌, ◌⊎◌, inl, inr, ⊎_elim, min, Bool, true, false, cond, List, [], Option, Some, None, map, length, get_or, take, refl, sym, ◌∙◌, arith}
 use Rattle.std.proofs.lemmas.Bool.{cases_lt}
 use Rattle.std.proofs.lemmas.List.{take_all, get_or-map, length-map}
-use Rattle.std.specs.List.{Contains}
 use Rattle.std.specs.Prelude.{◌↔◌, IsTrue}
 use Rattle.dpl_format.specs.Tree.{Library, Element, elements_at}
 use Rattle.dpl_syntax.specs.declared.element.Element.{Element as Found}
 use Rattle.dpl_syntax.specs.Elements.{element_seen}
 use Rattle.dpl_layout.specs.Faults.{Finding}
-use Rattle.dpl_links.specs.Graph.{IsMarked}
 use Rattle.dpl_links.proofs.TakeLaws.{Contains-take_more, Contains-take_keeps, Contains-take_last}
 use Rattle.dpl_spec.proofs.Ordered.{Contains-nil}
-use Rattle.dpl_flatten.specs.Least.{IsLeastOf, IsNoted, IsAtMost, earlier, Among, AmongMarked}
+use Rattle.dpl_flatten.specs.Least.{IsLeastOf, IsNoted, earlier, Among, AmongMarked}
 
 -- what holds of the elements of either part holds of the whole
 pub least_join : (S T U : Finding) (a b : Option ℕ) → IsLeastOf S a → IsLeastOf T b → ((k : ℕ) (e : Element) → U k e → S k e ⊎ T k e) → ((k : ℕ) (e : Element) → S k e → U k e) → ((k : ℕ) (e : Element) → T k e → U k e) → IsLeastOf U (earlier a b)
@@ -84,15 +82,10 @@ pub least_unmarked : (P : Finding) (k : ℕ) (es : List Element) (marked : Bool)
 least_unmarked P k es marked None m l = λ i e h. l i e h.1
 least_unmarked P k es marked (Some a) m l = ((l.0.0, l.0.1, (m, l.0.2), l.0.3), λ i e h. l.1 i e h.1)
 
-skipped : (P : Finding) (k i : ℕ) (es : List Element) (d : Element) (first : Option ℕ) → i < length es → IsAtMost first (get_or es i d).at → IsLeastOf (Among k (take i es) P) first → IsLeastOf (Among k (take (i + 1) es) P) first
-skipped P k i es d None h m l = absurd m
-skipped P k i es d (Some a) h m l =
-    ((l.0.0, l.0.1, (l.0.2.0, Contains-take_keeps es i d l.0.1 h l.0.2.1, l.0.2.2), l.0.3), λ j x u. ⊎_elim (λ c. l.1 j x (u.0, c, u.2)) (λ (w : x ≡ get_or es i d). rw w m) (Contains-take_more es i d x h u.1))
-
 pub noted_more : (P : Finding) (k i : ℕ) (es : List Element) (d : Element) (first new : Option ℕ) → i < length es → IsNoted P k (get_or es i d) first new → IsLeastOf (Among k (take i es) P) first → IsLeastOf (Among k (take (i + 1) es) P) new
 noted_more P k i es d first new h n l =
     ⊎_elim (λ a. least_more P k i es d first new true h (λ _. a.1, λ _. refl) a.0 l)
-    (λ b. ⊎_elim (λ a. least_more P k i es d first new false h (λ f. let g : false ≡ true = f in cc, λ p. absurd (a.1 p)) a.0 l) (λ a. rw a.0 (skipped P k i es d first h a.1 l)) b)
+    (λ a. least_more P k i es d first new false h (λ f. let g : false ≡ true = f in cc, λ p. absurd (a.1 p)) a.0 l)
     n
 
 pub noted_seen : (P : Finding) (k i : ℕ) (es : List Found) (ts : List Element) (d : Found) (first new : Option ℕ) → map element_seen es ≡ ts → i < length es → IsNoted P k (element_seen (get_or es i d)) first new → IsLeastOf (Among k (take i ts) P) first → IsLeastOf (Among k (take (i + 1) ts) P) new

@@ -8,6 +8,8 @@ pub mod FoundLaws
 pub mod CopyLaws
 pub mod WalkLaws
 pub mod StackLaws
+pub mod LeftLaws
+pub mod NearLaws
 pub mod BareLaws
 pub mod CellLaws
 pub mod PlacedLaws

@@ -1,27 +1,26 @@
 -- The graph of a layout's references, as far as it was gone through.
-use Rattle.std.proofs.Common.{◌≡◌, ◌≢◌, ℕ, ◌+◌, ◌<◌, ◌≤◌, ◌⊎◌, inl, inr, ⊎_elim, List, [], ◌∷◌, ◌++◌, Option, Some, None, map, length, get_or, take, refl, sym, ap, ◌∙◌, subst, arith, length-append}
+use Rattle.std.proofs.Common.{◌≡◌, ℕ, ◌+◌, ◌<◌, ◌≤◌, ◌⊎◌, inl, inr, ⊎_elim, List, [], ◌∷◌, ◌++◌, Option, Some, None, map, length, get_or, take, sym, ap, ◌∙◌, arith, length-append}
 use Rattle.std.proofs.lemmas.Bool.{cases_lt, cases_order}
 use Rattle.std.proofs.lemmas.List.{take_more, take_all, length-map, get_or_past, get_or_append_left}
 use Rattle.std.proofs.Math.Seq.{get_or-append_seam}
 use Rattle.std.proofs.lemmas.Option.{slice_get_past}
-use Rattle.std.proofs.lemmas.List.Elements.{Contains-append_left, Contains-append_right, Contains-append_cases, Contains-push, Contains-push_cases, Contains-get_or, All-contains}
+use Rattle.std.proofs.lemmas.List.Elements.{Contains-append_left, Contains-append_right, Contains-append_cases, Contains-push, Contains-push_cases, All-contains}
 use Rattle.std.specs.List.{Contains, All}
 use Rattle.std.specs.Option.{option_to_list}
 use Rattle.std.specs.Prelude.{◌↔◌, slice_get, nat_eq}
 use Rattle.std.specs.Option.{option_and_then}
 use Rattle.std.specs.Cmp.Lexicographic.{pointwise}
 use Rattle.std.proofs.lemmas.List.Quantifiers.{position-Some}
-use Rattle.dpl_spec.proofs.Ordered.{Contains-head, Contains-later, Contains-cases, Contains-nil}
+use Rattle.dpl_spec.proofs.Ordered.{Contains-head, Contains-nil}
 use Rattle.dpl_flatten.proofs.ListLaws.{Contains-map, Contains-map_cases, Contains-option, Contains-the_option}
 use Rattle.dpl_format.specs.Tree.{Library, elements_at, elements_or_none}
 use Rattle.dpl_syntax.specs.declared.element.Element.{Element}
 use Rattle.dpl_syntax.specs.Elements.{element_seen, IsSized}
 use Rattle.dpl_format.specs.Tree.{Element as TreeElement, Structure, names_in, HasPoints}
 use Rattle.dpl_layout.specs.Elements.{reference_name}
-use Rattle.dpl_layout.specs.Structures.{target_of, structure_named, Refers, IsRoot, AreRoots}
-use Rattle.dpl_links.specs.Sources.{AreSources, IsSource}
+use Rattle.dpl_layout.specs.Structures.{target_of, structure_named, Refers, AreRoots}
+use Rattle.dpl_links.specs.Sources.{AreSources}
 use Rattle.dpl_links.specs.Graph.{LeadsTo, targets_at, IsGraph}
-use Rattle.dpl_links.proofs.TakeLaws.{Contains-take_more, Contains-take_keeps, Contains-take_last}
 use Rattle.dpl_flatten.specs.Links.{IsGraphOf}
 
 -- these are the structures to which some of the elements refer

@@ -1,25 +1,26 @@
 -- What the walk over cells shows is what the placements of the layout draw.
-use Rattle.std.proofs.Common.{◌≡◌, ℕ, ◌+◌, ◌*◌, ◌<◌, ◌≤◌, ◌⊎◌, inl, inr, ⊎_elim, Bool, true, false, ℤ, pos, negsuc, ◌+ℤ◌, ◌*ℤ◌, List, [], ◌∷◌, Option, Some, None, map, length, get_or, refl, sym, ap, ◌∙◌, arith}
-use Rattle.std.specs.List.{All, Any, Contains}
+use Rattle.std.proofs.Common.{◌≡◌, ℕ, ◌<◌, ◌⊎◌, inl, inr, ⊎_elim, Bool, true, false, ℤ, pos, ◌+ℤ◌, ◌*ℤ◌, List, [], ◌∷◌, Option, Some, None, map, length, get_or, refl, sym, ap, ◌∙◌, arith}
+use Rattle.std.specs.List.{Contains}
 use Rattle.std.proofs.lemmas.Int.{ints}
 use Rattle.std.proofs.lemmas.List.Elements.{Contains-get_or}
 use Rattle.dpl_spec.specs.declared.Pt.{Pt}
 use Rattle.dpl_spec.proofs.Ordered.{Contains-nil}
 use Rattle.dpl_elements.specs.Reals.{Excess64, real_of, IsWhole, IsQuarterTurns}
-use Rattle.dpl_elements.specs.Motions.{Motion, image, image_through}
+use Rattle.dpl_elements.specs.Motions.{Motion, image}
 use Rattle.dpl_format.specs.Tree.{Library, Element, Body, elements_at}
 use Rattle.dpl_layout.specs.declared.Layer.{Layer}
 use Rattle.dpl_layout.specs.Elements.{loops_of, AreTurns, IsCopyMotion}
-use Rattle.dpl_layout.specs.Structures.{target_of}
 use Rattle.dpl_layout.specs.Placements.{Step, IsStep, Leads, IsPlacement, placed}
-use Rattle.dpl_links.specs.Graph.{IsMarked}
+use Rattle.dpl_links.specs.Graph.{IsMarked, AreReached}
+use Rattle.dpl_layout.specs.Faults.{IsNowhere, IsRefused}
+use Rattle.dpl_flatten.proofs.ReachLaws.{reaches_in_layout}
 use Rattle.dpl_flatten.specs.declared.cells.Outline.{Outline}
 use Rattle.dpl_flatten.specs.declared.cells.Copies.{Copies}
 use Rattle.dpl_flatten.specs.declared.cells.Cell.{Cell}
-use Rattle.dpl_flatten.specs.Links.{IsLevelled}
-use Rattle.dpl_flatten.specs.Cells.{copy_motion, AreCopies, IsCell, AreBareTargets}
+use Rattle.dpl_flatten.specs.Links.{IsLinked, IsOrdered}
+use Rattle.dpl_flatten.specs.Cells.{copy_motion, AreCopies, AreBareTargets, AreTaken}
 use Rattle.dpl_flatten.specs.Totals.{AreTotals}
-use Rattle.dpl_flatten.specs.Walk.{Pass, Passes, through, IsShown, AreCells, AreKnown, outlines_at, copies_at}
+use Rattle.dpl_flatten.specs.Walk.{Pass, Passes, through, IsShown, AreCells, AreKnown, AreDeep, outlines_at, copies_at}
 use Rattle.dpl_flatten.proofs.LinkLaws.{target_known}
 use Rattle.dpl_flatten.proofs.StackLaws.{shown_by, shown_below}
 
@@ -48,7 +49,7 @@ marked_or : (b : Bool) → (b ≡ true) ⊎ (b ≡ true → ⊥)
 marked_or true = inl refl
 marked_or false = inr (λ e. let f : false ≡ true = e in cc)
 
-module _ (lib : Library) (layer : Layer) (graph : List (List ℕ)) (marks : List Bool) (levels : List ℕ) (cells : List Cell) (links : IsLevelled lib graph marks levels) (are : AreCells lib layer marks cells) where
+module _ (lib : Library) (layer : Layer) (graph : List (List ℕ)) (marks : List Bool) (cells : List Cell) (links : IsLinked lib graph marks) (are : AreCells lib layer marks cells) where
   pub to_layout : (ss : List Pass) (k l : ℕ) (f : Pt → Pt) (o : Outline) → IsMarked marks k → Passes cells k ss l → Contains (outlines_at cells l) o → IsOfPlacement lib layer k f (map (λ p. f (through ss p)) o.points) o.at
   to_layout [] k l f o m e c =
       let d = (are.marked k m).drawn o (rw e c) in
@@ -79,9 +80,21 @@ module _ (lib : Library) (layer : Layer) (graph : List (List ℕ)) (marks : List
 
   pub cells_known : AreKnown cells
   cells_known = record {
-    targets = λ k c h. ⊎_elim (λ m. let p = (are.marked k m).placed c h in let t = target_known lib p.0 c.target p.2 in omega (arith, t, are.each)) (λ n. absurd (Contains-nil c (rw (are.unmarked k n) at h))) (marked_or (get_or marks k false));
-    ready = λ k i d h. ⊎_elim (λ m. (are.marked k m).ready (get_or (copies_at cells k) i d) (Contains-get_or (copies_at cells k) i d h)) (λ n. absurd (omega (arith, h, ap length (are.unmarked k n)))) (marked_or (get_or marks k false));
+    targets = λ k c h. ⊎_elim (λ m. let p = (are.marked k m).placed c h in let t = target_known lib p.0 c.target p.2 in omega (arith, t, are.each)) (λ n. absurd (Contains-nil c (rw ((are.unmarked k n).0) at h))) (marked_or (get_or marks k false));
+    ready = λ k c h. ⊎_elim (λ m. (are.marked k m).ready c h) (λ n. absurd (Contains-nil c (rw ((are.unmarked k n).0) at h))) (marked_or (get_or marks k false));
+    near = λ k i d h. ⊎_elim (λ m. (are.marked k m).near (get_or (outlines_at cells k) i d) (Contains-get_or (outlines_at cells k) i d h)) (λ n. absurd (omega (arith, h, ap length ((are.unmarked k n).1)))) (marked_or (get_or marks k false));
   }
 
-pub bare_targets : (lib : Library) (layer : Layer) (graph : List (List ℕ)) (marks : List Bool) (levels totals : List ℕ) → IsLevelled lib graph marks levels → AreTotals lib layer marks totals → (k : ℕ) → IsMarked marks k → AreBareTargets lib layer totals (elements_at lib k)
-bare_targets lib layer graph marks levels totals links t k m e j c target none = t.bare j (links.closed k j m (links.graph_of.refers k j (e, c, target))) none
+  -- copies lead to lower levels
+  pub cells_deep : (top : ℕ) (levels vertices : List ℕ) → IsMarked marks top → IsOrdered lib graph marks levels vertices → AreDeep cells top
+  cells_deep top levels vertices m o = record {
+    level = λ k. get_or levels k 0;
+    falls = λ k c h. ⊎_elim (λ m. let p = (are.marked k m).placed c h in o.falls k c.target m (links.graph_of.refers k c.target (p.0, p.1, p.2))) (λ n. absurd (Contains-nil c (rw ((are.unmarked k n).0) at h))) (marked_or (get_or marks k false));
+    few = let l = (o.placed top m).inside in omega (arith, l, o.few, are.each);
+  }
+
+pub bare_targets : (lib : Library) (layer : Layer) (graph : List (List ℕ)) (marks : List Bool) (totals : List ℕ) → IsLinked lib graph marks → AreTotals lib layer marks totals → (k : ℕ) → IsMarked marks k → AreBareTargets lib layer totals (elements_at lib k)
+bare_targets lib layer graph marks totals links t k m e j c target none = t.bare j (links.closed k j m (links.graph_of.refers k j (e, c, target))) none
+
+pub all_taken : (lib : Library) (layer : Layer) (graph : List (List ℕ)) (top : ℕ) (marks : List Bool) → IsLinked lib graph marks → AreReached graph top marks → IsNowhere lib top (IsRefused layer) → (k : ℕ) → IsMarked marks k → AreTaken layer (elements_at lib k)
+all_taken lib layer graph top marks links reached none k m e f c r = none k e (record { reached = reaches_in_layout links.graph_of (reached.sound k m); inside = c; holds = (f, r) })

@@ -1,26 +1,24 @@
 -- What the walk gathered is the layer, and what it noted is out of range.
-use Rattle.std.proofs.Common.{◌≡◌, ℕ, zero, suc, ◌+◌, ◌-◌, ◌<◌, ◌≤◌, ◌⊎◌, inl, inr, ⊎_elim, Bool, ℤ, neg_ℤ, ◌+ℤ◌, List, [], ◌∷◌, Option, Some, None, cond, true, false, map, length, get_or, refl, sym, ap, ◌∙◌, arith}
-use Rattle.std.specs.List.{All, Any, Contains}
+use Rattle.std.proofs.Common.{◌≡◌, ℕ, zero, suc, ◌+◌, ◌-◌, ◌≤◌, ◌⊎◌, inl, inr, ⊎_elim, Bool, ℤ, neg_ℤ, ◌+ℤ◌, List, [], ◌∷◌, Option, Some, None, cond, true, false, map, length, get_or, refl, sym, ap, arith}
+use Rattle.std.specs.List.{All, Contains}
 use Rattle.std.specs.Prelude.{◌↔◌}
-use Rattle.std.proofs.lemmas.Bool.{cases_lt}
-use Rattle.std.proofs.lemmas.List.{get_or-map, length-map, get_or_past}
-use Rattle.std.proofs.lemmas.List.Elements.{Contains-get_or, All-contains}
+use Rattle.std.proofs.lemmas.List.{get_or-map, length-map}
+use Rattle.std.proofs.lemmas.List.Elements.{Contains-get_or}
 use Rattle.dpl_spec.specs.declared.Pt.{Pt}
-use Rattle.dpl_spec.specs.Loops.{LoopCovers, SomeLoopCovers, IsRectilinear, IsLevelOrUpright, AreLoopsWithin, ArePointsWithin, IsPointWithin, farthest}
-use Rattle.dpl_elements.specs.Motions.{Motion, image, turned, quarter_turned, reflected, moved}
-use Rattle.dpl_format.specs.Tree.{Library, Element, elements_at}
+use Rattle.dpl_spec.specs.Loops.{SomeLoopCovers, IsRectilinear, IsLevelOrUpright, AreLoopsWithin, ArePointsWithin, farthest}
+use Rattle.dpl_elements.specs.Motions.{Motion, image, turned, reflected, moved}
+use Rattle.dpl_format.specs.Tree.{Library, Element}
 use Rattle.dpl_layout.specs.declared.Layer.{Layer}
 use Rattle.dpl_layout.specs.Elements.{loops_of}
 use Rattle.dpl_layout.specs.Structures.{Reaches, here, on}
-use Rattle.dpl_layout.specs.Placements.{Step, Leads, IsPlacement, placed, placed_loops, IsInLayer}
+use Rattle.dpl_layout.specs.Placements.{Step, Leads, IsPlacement, placed, IsInLayer}
 use Rattle.dpl_layout.specs.Faults.{IsFound, IsOut, IsNowhere, IsFirst}
 use Rattle.dpl_links.specs.Graph.{IsMarked}
-use Rattle.dpl_flatten.specs.declared.cells.Outline.{Outline}
 use Rattle.dpl_flatten.specs.declared.cells.Cell.{Cell}
-use Rattle.dpl_flatten.specs.Links.{IsLevelled}
-use Rattle.dpl_flatten.specs.Cells.{copy_motion, IsCell}
+use Rattle.dpl_flatten.specs.Links.{IsLinked}
+use Rattle.dpl_flatten.specs.Cells.{copy_motion}
 use Rattle.dpl_flatten.specs.Least.{IsAtMost}
-use Rattle.dpl_flatten.specs.Walk.{Pass, Passes, through, IsShown, AreCells, IsWalk, HasFarPoint, outlines_at}
+use Rattle.dpl_flatten.specs.Walk.{Pass, Passes, through, IsShown, AreCells, IsWalk}
 use Rattle.dpl_flatten.proofs.ListLaws.{Contains-map, Contains-map_cases}
 use Rattle.dpl_flatten.proofs.PlacedLaws.{IsOfPlacement, to_layout, from_layout}
 
@@ -58,12 +56,12 @@ leads_reach : (lib : Library) (steps : List Step) (k l : ℕ) → Leads lib k st
 leads_reach lib [] k l d = rw d here
 leads_reach lib (s ∷ ss) k l d = on (s.element, d.1.inside, d.1.target) (leads_reach lib ss d.0 l d.2)
 
-module _ (lib : Library) (layer : Layer) (graph : List (List ℕ)) (marks : List Bool) (levels : List ℕ) (cells : List Cell) (links : IsLevelled lib graph marks levels) (are : AreCells lib layer marks cells) (top : ℕ) (m : IsMarked marks top) (loops : List (List Pt)) (far : Option ℕ) (walk : IsWalk cells top loops far) where
+module _ (lib : Library) (layer : Layer) (graph : List (List ℕ)) (marks : List Bool) (cells : List Cell) (links : IsLinked lib graph marks) (are : AreCells lib layer marks cells) (top : ℕ) (m : IsMarked marks top) (loops : List (List Pt)) (far : Option ℕ) (walk : IsWalk cells top loops far) where
   placement_of : (ps : List Pt) (at : ℕ) → IsShown cells top (λ p. p) ps at → IsOfPlacement lib layer top (λ p. p) ps at
-  placement_of ps at s = let r = to_layout lib layer graph marks levels cells links are s.0 top s.1 (λ p. p) s.2 m s.3 s.4 in rw (s.5, s.6) r
+  placement_of ps at s = let r = to_layout lib layer graph marks cells links are s.0 top s.1 (λ p. p) s.2 m s.3 s.4 in rw (s.5, s.6) r
 
   gathered : (steps : List Step) (l : ℕ) (e : Element) (qs : List Pt) → IsPlacement lib top steps l e → Contains (loops_of layer e.body) qs → Contains loops (map (placed steps) qs) × (ArePointsWithin farthest (map (placed steps) qs) ⊎ IsAtMost far e.at)
-  gathered steps l e qs p q = walk.complete (map (placed steps) qs) e.at (from_layout lib layer graph marks levels cells links are steps top l (λ x. x) e qs m p.leads p.inside q)
+  gathered steps l e qs p q = walk.complete (map (placed steps) qs) e.at (from_layout lib layer graph marks cells links are steps top l (λ x. x) e qs m p.leads p.inside q)
 
   pub covers : (s : Pt) → SomeLoopCovers loops s ↔ IsInLayer lib top layer s
   covers s = (λ a. to s a, λ a. from s a)

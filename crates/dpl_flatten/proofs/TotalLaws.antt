@@ -1,11 +1,10 @@
 -- Totals up to a ceiling.
-use Rattle.std.proofs.Common.{◌≡◌, ◌≢◌, ℕ, zero, suc, ◌+◌, ◌*◌, ◌<◌, ◌≤◌, ◌⊎◌, inl, inr, ⊎_elim, min, mul-zero, zero-mul, suc-mul, Bool, List, [], ◌∷◌, Option, Some, None, map, length, get_or, set, take, replicate, refl, sym, ap, subst, ◌∙◌, arith, get_or-set_other, get_or-set_same, length-set}
+use Rattle.std.proofs.Common.{◌≡◌, ◌≢◌, ℕ, zero, suc, ◌+◌, ◌*◌, ◌<◌, ◌≤◌, ⊎_elim, min, mul-zero, zero-mul, suc-mul, Bool, List, [], ◌∷◌, Option, Some, None, map, length, get_or, set, take, replicate, refl, sym, ap, subst, ◌∙◌, arith, get_or-set_other, get_or-set_same, length-set}
 use Rattle.std.proofs.lemmas.Bool.{cases_lt, cases_eq}
-use Rattle.std.proofs.lemmas.List.{get_or_past, length-replicate}
+use Rattle.std.proofs.lemmas.List.{length-replicate}
 use Rattle.std.proofs.lemmas.List.Sums.{sum_by-cons, sum_by_more}
 use Rattle.std.proofs.lemmas.List.Elements.{All-set, All-replicate}
 use Rattle.std.specs.List.{Contains, All, sum_by}
-use Rattle.std.specs.Option.{MatchOption}
 use Rattle.dpl_spec.proofs.Ordered.{Contains-head, Contains-later}
 use Rattle.dpl_format.specs.Tree.{Library, Element, elements_at}
 use Rattle.dpl_syntax.specs.declared.element.Element.{Element as Found}
@@ -14,10 +13,10 @@ use Rattle.dpl_layout.specs.declared.Layer.{Layer}
 use Rattle.dpl_layout.specs.Elements.{point_count, columns_of, rows_of}
 use Rattle.dpl_layout.specs.Structures.{target_of}
 use Rattle.dpl_layout.specs.Points.{points_by, points_at, points_through, placed_points}
-use Rattle.dpl_links.specs.Graph.{IsMarked, LeadsTo}
-use Rattle.dpl_links.specs.Levels.{AlwaysFalls, IsByLevel}
+use Rattle.dpl_links.specs.Graph.{IsMarked}
+use Rattle.dpl_links.specs.Order.{IsPlaced}
 use Rattle.dpl_links.proofs.SpreadLaws.{marked_below}
-use Rattle.dpl_flatten.specs.Links.{IsGraphOf, IsLevelled}
+use Rattle.dpl_flatten.specs.Links.{IsLinked, AlwaysFalls}
 use Rattle.dpl_flatten.specs.Totals.{ceiling, AreTotals}
 use Rattle.dpl_flatten.proofs.LeastLaws.{seen_at, seen_length}
 use Rattle.dpl_flatten.proofs.BareLaws.{bare_of}
@@ -52,7 +51,7 @@ pub record Totalled (lib : Library) (layer : Layer) (marks : List Bool) (levels 
   pub small : All (λ n. n ≤ ceiling) totals
   pub right : (k n : ℕ) → IsMarked marks k → get_or levels k 0 < bound → get_or levels k 0 ≤ n → get_or totals k 0 ≡ min (points_through lib layer n k) ceiling
 
-module _ (lib : Library) (layer : Layer) (graph : List (List ℕ)) (marks : List Bool) (levels : List ℕ) (links : IsLevelled lib graph marks levels) (falls : AlwaysFalls graph marks levels) where
+module _ (lib : Library) (layer : Layer) (graph : List (List ℕ)) (marks : List Bool) (levels : List ℕ) (links : IsLinked lib graph marks) (falls : AlwaysFalls graph marks levels) where
   same_at : (k n : ℕ) (totals : List ℕ) (e : Element) → ((j : ℕ) → target_of lib e ≡ Some j → get_or totals j 0 ≡ min (points_through lib layer n j) ceiling) → min (points_by lib layer (λ j. get_or totals j 0) e) ceiling ≡ min (points_by lib layer (points_through lib layer n) e) ceiling
   same_at k n totals e right = by_target (target_of lib e) right
     where
@@ -89,29 +88,16 @@ module _ (lib : Library) (layer : Layer) (graph : List (List ℕ)) (marks : List
     right = λ k n m below h. absurd (omega (arith, below));
   }
 
-  stands : (k bound : ℕ) (slots : List (Option ℕ)) → IsByLevel marks levels slots → IsMarked marks k → get_or levels k 0 ≡ bound → get_or slots bound None ≡ Some k
-  stands k bound slots by m w = let p : get_or slots (get_or levels k 0) None ≡ Some k = by k m in subst (λ (x : ℕ). get_or slots x None ≡ Some k) w p
+  stands : (k bound : ℕ) (vertices : List ℕ) → ((i : ℕ) → IsMarked marks i → IsPlaced levels vertices i) → IsMarked marks k → get_or levels k 0 ≡ bound → get_or vertices bound 0 ≡ k
+  stands k bound vertices placed m w = let p : get_or vertices (get_or levels k 0) 0 ≡ k = (placed k m).stands in subst (λ (x : ℕ). get_or vertices x 0 ≡ k) w p
 
-  totalled_none : (bound : ℕ) (slots : List (Option ℕ)) (totals new : List ℕ) → IsByLevel marks levels slots → get_or slots bound None ≡ None → new ≡ totals → Totalled lib layer marks levels bound totals → Totalled lib layer marks levels (bound + 1) new
-  totalled_none bound slots totals new by none is t = rw is (record {
-    each = t.each;
-    small = t.small;
-    right = λ k n m below h. ⊎_elim (λ (l : get_or levels k 0 < bound). t.right k n m l h) (λ (l : bound ≤ get_or levels k 0). let w : get_or levels k 0 ≡ bound = omega (arith, below) in absurd (taken k (stands k bound slots by m w))) (cases_lt (get_or levels k 0) bound);
-  })
-    where
-      taken : (k : ℕ) → get_or slots bound None ≡ Some k → ⊥
-      taken k s = let f : None ≡ Some k = sym none ∙ s in cc
-
-  totalled_some : (bound s : ℕ) (slots : List (Option ℕ)) (totals new : List ℕ) → length marks ≡ length lib.structures → IsByLevel marks levels slots → get_or slots bound None ≡ Some s → new ≡ set totals s (min (sum_by (points_by lib layer (λ j. get_or totals j 0)) (elements_at lib s)) ceiling) → Totalled lib layer marks levels bound totals → Totalled lib layer marks levels (bound + 1) new
-  totalled_some bound s slots totals new each by some is t = rw is (record {
+  pub totalled_more : (bound s : ℕ) (vertices totals new : List ℕ) → length marks ≡ length lib.structures → ((i : ℕ) → IsMarked marks i → IsPlaced levels vertices i) → get_or vertices bound 0 ≡ s → new ≡ set totals s (min (sum_by (points_by lib layer (λ j. get_or totals j 0)) (elements_at lib s)) ceiling) → Totalled lib layer marks levels bound totals → Totalled lib layer marks levels (bound + 1) new
+  totalled_more bound s vertices totals new each placed some is t = rw is (record {
     each = length-set totals s (total s) ∙ t.each;
     small = All-set (λ n. n ≤ ceiling) totals s (total s) (omega arith) t.small;
     right = λ k n m below h. ⊎_elim (λ (e : k ≡ s). same k n m below h e) (λ (ne : k ≢ s). other k n m below h ne) (cases_eq k s);
   })
     where
-      taken : (k : ℕ) → get_or slots bound None ≡ Some k → k ≡ s
-      taken k c = let f : Some s ≡ Some k = sym some ∙ c in cc
-
       total : ℕ → ℕ
       total k = min (sum_by (points_by lib layer (λ j. get_or totals j 0)) (elements_at lib k)) ceiling
 
@@ -123,25 +109,15 @@ module _ (lib : Library) (layer : Layer) (graph : List (List ℕ)) (marks : List
       other : (k n : ℕ) → IsMarked marks k → get_or levels k 0 < bound + 1 → get_or levels k 0 ≤ n → k ≢ s → get_or (set totals s (total s)) k 0 ≡ min (points_through lib layer n k) ceiling
       other k n m below h ne =
           rw get_or-set_other
-          (⊎_elim (λ (l : get_or levels k 0 < bound). t.right k n m l h) (λ (l : bound ≤ get_or levels k 0). let w : get_or levels k 0 ≡ bound = omega (arith, below) in absurd (ne (taken k (stands k bound slots by m w)))) (cases_lt (get_or levels k 0) bound))
+          (⊎_elim (λ (l : get_or levels k 0 < bound). t.right k n m l h) (λ (l : bound ≤ get_or levels k 0). let w : get_or levels k 0 ≡ bound = omega (arith, below) in absurd (ne (sym (stands k bound vertices placed m w) ∙ some))) (cases_lt (get_or levels k 0) bound))
 
-  pub totalled_more : (bound : ℕ) (slots : List (Option ℕ)) (slot : Option ℕ) (totals new : List ℕ) → length marks ≡ length lib.structures → IsByLevel marks levels slots → get_or slots bound None ≡ slot → MatchOption slot (new ≡ totals) (λ k. new ≡ set totals k (min (sum_by (points_by lib layer (λ j. get_or totals j 0)) (elements_at lib k)) ceiling)) → Totalled lib layer marks levels bound totals → Totalled lib layer marks levels (bound + 1) new
-  totalled_more bound slots None totals new each by is change t = totalled_none bound slots totals new by is change t
-  totalled_more bound slots (Some s) totals new each by is change t = totalled_some bound s slots totals new each by is change t
-
-  pub totalled_all : (bound : ℕ) (slots : List (Option ℕ)) (totals : List ℕ) → length slots ≤ bound → length slots ≡ length lib.structures → IsByLevel marks levels slots → Totalled lib layer marks levels bound totals → AreTotals lib layer marks totals
-  totalled_all bound slots totals h same by t = record {
+  pub totalled_all : (bound : ℕ) (vertices totals : List ℕ) → length vertices ≤ bound → length vertices ≤ length lib.structures → ((i : ℕ) → IsMarked marks i → IsPlaced levels vertices i) → Totalled lib layer marks levels bound totals → AreTotals lib layer marks totals
+  totalled_all bound vertices totals h few placed t = record {
     each = t.each;
     small = t.small;
     right = λ k m. whole k m;
-    bare = λ k m none. bare_of lib layer graph marks levels links falls (length lib.structures) k m (omega (arith, in_slots k m, same)) (omega (arith, whole k m, none));
+    bare = λ k m none. let l = (placed k m).inside in bare_of lib layer graph marks levels links falls (length lib.structures) k m (omega (arith, l, few)) (omega (arith, whole k m, none));
   }
     where
-      in_slots : (k : ℕ) → IsMarked marks k → get_or levels k 0 < length slots
-      in_slots k m =
-          ⊎_elim (λ (l : get_or levels k 0 < length slots). l)
-          (λ (l : length slots ≤ get_or levels k 0). let f : None ≡ Some k = sym (get_or_past slots (get_or levels k 0) None l) ∙ by k m in cc)
-          (cases_lt (get_or levels k 0) (length slots))
-
       whole : (k : ℕ) → IsMarked marks k → get_or totals k 0 ≡ min (placed_points lib layer k) ceiling
-      whole k m = let l = in_slots k m in t.right k (length lib.structures) m (omega (arith, l, h)) (omega (arith, l, same))
+      whole k m = let l = (placed k m).inside in t.right k (length lib.structures) m (omega (arith, l, h)) (omega (arith, l, few))

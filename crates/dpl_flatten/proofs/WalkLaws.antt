@@ -2,19 +2,13 @@
 use Rattle.std.proofs.Common.{◌≡◌, ℕ, ◌+◌, ◌<◌, ◌≤◌, ◌⊎◌, inl, inr, ⊎_elim, min, Bool, true, false, not, cond, List, [], ◌∷◌, ◌++◌, Option, Some, None, map, length, get_or, take, refl, sym, ap, ◌∙◌, arith}
 use Rattle.std.proofs.lemmas.Bool.{cases_lt}
 use Rattle.std.proofs.lemmas.List.Elements.{Contains-append_left, Contains-push, Contains-push_cases}
-use Rattle.std.specs.List.{Contains}
-use Rattle.std.specs.Prelude.{◌↔◌, IsTrue}
 use Rattle.dpl_spec.specs.declared.Pt.{Pt}
 use Rattle.dpl_spec.specs.Loops.{ArePointsWithin, farthest}
 use Rattle.dpl_spec.proofs.Ordered.{Contains-head, Contains-cases, Contains-nil}
 use Rattle.dpl_links.proofs.TakeLaws.{Contains-take_more, Contains-take_keeps, Contains-take_last}
 use Rattle.dpl_flatten.specs.Least.{IsAtMost, earlier}
-use Rattle.dpl_elements.specs.Motions.{Motion, image}
-use Rattle.dpl_flatten.specs.Cells.{copy_motion}
 use Rattle.dpl_flatten.specs.declared.cells.Outline.{Outline}
-use Rattle.dpl_flatten.specs.declared.cells.Copies.{Copies}
-use Rattle.dpl_flatten.specs.declared.walk.Item.{Item}
-use Rattle.dpl_flatten.specs.Walk.{Draws, IsGathered, Gathers, HasFarPoint, Puts, IsCopyItem, IsOne, IsInColumn, IsInArray, AreOf}
+use Rattle.dpl_flatten.specs.Walk.{Draws, Gathers, HasFarPoint}
 
 at_most_earlier : (a b : Option ℕ) (n : ℕ) → IsAtMost a n → IsAtMost (earlier a b) n
 at_most_earlier None b n h = absurd h
@@ -69,45 +63,3 @@ gathers_more os i d f a b c x y z h first one = record {
   where
     last : (ps : List Pt) (at : ℕ) → Draws (get_or os i d ∷ []) f ps at → Draws (take (i + 1) os) f ps at
     last ps at w = ⊎_elim (λ (e : get_or os i d ≡ w.0). (w.0, Contains-take_last os i d w.0 h (sym e), w.2, w.3)) (λ n. absurd (Contains-nil w.0 n)) (Contains-cases (get_or os i d) w.0 [] w.1)
-
-pub puts_none : (Q : Copies → ℕ → ℕ → Type 0) (m : Motion) (stack : List Item) → ((c : Copies) (i j : ℕ) → Q c i j → ⊥) → Puts Q m stack stack
-puts_none Q m stack none = record {
-  keeps = λ t c. c;
-  puts = λ c i j q. absurd (none c i j q);
-  alone = λ t c. inl c;
-}
-
-pub puts_one : (c : Copies) (i j : ℕ) (m : Motion) (t : Item) (old new : List Item) → new ≡ old ++ t ∷ [] → IsCopyItem m c i j t → Puts (IsOne c i j) m old new
-puts_one c i j m t old new n is = rw n (record {
-  keeps = λ s k. Contains-append_left old (t ∷ []) s k;
-  puts = λ d a b q. (t, Contains-push old t, rw (q.0, q.1, q.2) is);
-  alone = λ s k. ⊎_elim (λ x. inl x) (λ (w : t ≡ s). inr (c, i, j, (refl, refl, refl), rw (← w) is)) (Contains-push_cases old t s k);
-})
-
-pub puts_then : (P Q R : Copies → ℕ → ℕ → Type 0) (m : Motion) (a b c : List Item) → Puts P m a b → Puts Q m b c → ((d : Copies) (i j : ℕ) → R d i j → P d i j ⊎ Q d i j) → ((d : Copies) (i j : ℕ) → P d i j → R d i j) → ((d : Copies) (i j : ℕ) → Q d i j → R d i j) → Puts R m a c
-puts_then P Q R m a b c first next split left right = record {
-  keeps = λ t k. next.keeps t (first.keeps t k);
-  puts = λ d i j r. ⊎_elim (λ p. let x = first.puts d i j p in (x.0, next.keeps x.0 x.1, x.2)) (λ q. next.puts d i j q) (split d i j r);
-  alone = λ t k. ⊎_elim (λ x. ⊎_elim (λ y. inl y) (λ y. inr (y.0, y.1, y.2, left y.0 y.1 y.2 y.3, y.4)) (first.alone t x)) (λ y. inr (y.0, y.1, y.2, right y.0 y.1 y.2 y.3, y.4)) (next.alone t k);
-}
-
-below_or : (a n : ℕ) → a < n + 1 → (a < n) ⊎ (a ≡ n)
-below_or a n h = ⊎_elim (λ (l : a < n). inl l) (λ (l : n ≤ a). inr (omega arith)) (cases_lt a n)
-
-pub puts_column : (c : Copies) (i n : ℕ) (m : Motion) (x y z : List Item) → Puts (IsInColumn c i n) m x y → Puts (IsOne c i n) m y z → Puts (IsInColumn c i (n + 1)) m x z
-puts_column c i n m x y z first next = puts_then (IsInColumn c i n) (IsOne c i n) (IsInColumn c i (n + 1)) m x y z first next
-    (λ d a b r. ⊎_elim (λ l. inl (r.0, r.1, l)) (λ l. inr (r.0, r.1, l)) (below_or b n r.2))
-    (λ d a b p. (p.0, p.1, omega (arith, p.2)))
-    (λ d a b q. (q.0, q.1, omega (arith, q.2)))
-
-pub puts_array : (c : Copies) (n : ℕ) (m : Motion) (x y z : List Item) → Puts (IsInArray c n) m x y → Puts (IsInColumn c n c.rows) m y z → Puts (IsInArray c (n + 1)) m x z
-puts_array c n m x y z first next = puts_then (IsInArray c n) (IsInColumn c n c.rows) (IsInArray c (n + 1)) m x y z first next
-    (λ d a b r. ⊎_elim (λ l. inl (r.0, l, r.2)) (λ l. inr (r.0, l, r.2)) (below_or a n r.1))
-    (λ d a b p. (p.0, omega (arith, p.1), p.2))
-    (λ d a b q. (q.0, omega (arith, q.1), q.2))
-
-pub puts_more : (cs : List Copies) (k : ℕ) (d : Copies) (m : Motion) (x y z : List Item) → k < length cs → Puts (AreOf (take k cs)) m x y → Puts (IsInArray (get_or cs k d) (get_or cs k d).columns) m y z → Puts (AreOf (take (k + 1) cs)) m x z
-puts_more cs k d m x y z h first next = puts_then (AreOf (take k cs)) (IsInArray (get_or cs k d) (get_or cs k d).columns) (AreOf (take (k + 1) cs)) m x y z first next
-    (λ e a b r. ⊎_elim (λ l. inl (l, r.1, r.2)) (λ (l : e ≡ get_or cs k d). inr (l, rw l at r.1, rw l at r.2)) (Contains-take_more cs k d e h r.0))
-    (λ e a b p. (Contains-take_keeps cs k d e h p.0, p.1, p.2))
-    (λ e a b q. (Contains-take_last cs k d e h q.0, rw q.0 q.1, rw q.0 q.2))

@@ -1,19 +1,18 @@
 -- What one structure draws, and the copies that it places.
-use Rattle.std.specs.Prelude.{◌≡◌, ℕ, ◌<◌, ◌⊎◌, ℤ, pos, ◌+ℤ◌, ◌-ℤ◌, ◌*ℤ◌, int_div, ◌^◌, ◌≤◌, unsigned_abs, slice_index, ◌++◌, ◌∷◌, [], map, List, Option, Some, None}
+use Rattle.std.specs.Prelude.{◌≡◌, ℕ, ◌<◌, ◌⊎◌, ℤ, pos, ◌+ℤ◌, ◌-ℤ◌, ◌*ℤ◌, int_div, ◌*◌, ◌^◌, ◌≤◌, unsigned_abs, slice_index, ◌++◌, ◌∷◌, [], map, List, Some, None}
 use Rattle.std.specs.List.{All, Contains}
 use Rattle.dpl_spec.specs.declared.Pt.{Pt}
-use Rattle.dpl_spec.specs.Loops.{IsRectilinear, IsPointWithin}
+use Rattle.dpl_spec.specs.Loops.{IsRectilinear, IsPointWithin, ArePointsWithin, AreLoopsWithin}
 use Rattle.dpl_elements.specs.Motions.{Motion}
-use Rattle.dpl_format.specs.Tree.{Library, Body, Trans, Element, elements_at}
+use Rattle.dpl_format.specs.Tree.{Library, Body, Trans, Element}
 use Rattle.dpl_layout.specs.declared.Layer.{Layer}
-use Rattle.dpl_layout.specs.Elements.{loops_of, point_in, columns_of, rows_of, IsCopyMotion, reflects, AreTurns}
+use Rattle.dpl_layout.specs.declared.ElementFault.{ElementFault}
+use Rattle.dpl_layout.specs.Elements.{loops_of, point_in, columns_of, rows_of, IsCopyMotion, reflects, AreTurns, IsRefusedFor}
 use Rattle.dpl_layout.specs.Structures.{target_of}
-use Rattle.dpl_layout.specs.Placements.{Step, IsPlacement}
 use Rattle.dpl_flatten.specs.Totals.{IsBare}
 use Rattle.dpl_flatten.specs.declared.copies.Turn.{Turn}
 use Rattle.dpl_flatten.specs.declared.cells.Outline.{Outline}
 use Rattle.dpl_flatten.specs.declared.cells.Copies.{Copies}
-use Rattle.dpl_flatten.specs.declared.cells.Cell.{Cell}
 
 -- the motion of copy (i, j)
 abbrev pub copy_motion : Copies → ℕ → ℕ → Motion
@@ -49,13 +48,20 @@ pub record IsTurn (t : Trans) (turn : Turn) : Type 0 where
   pub turns : AreTurns t.angle turn.turns
   pub few : turn.turns < 4
 
--- the numbers of copies are small enough for what is done with them
+-- n steps lead no farther than bound
+pub record IsSpanWithin (bound n : ℕ) (step : Pt) : Type 0 where
+  pub column : n * unsigned_abs step.x ≤ bound
+  pub row : n * unsigned_abs step.y ≤ bound
+
+-- there are copies, and they stand near the first
 pub record IsSmallCopies (c : Copies) : Type 0 where
   pub origin : IsPointWithin (2 ^ 31) c.origin
-  pub across : IsPointWithin (2 ^ 32) c.across
-  pub up : IsPointWithin (2 ^ 32) c.up
+  pub across : IsSpanWithin (2 ^ 32) c.columns c.across
+  pub up : IsSpanWithin (2 ^ 32) c.rows c.up
   pub columns : c.columns < 2 ^ 16
   pub rows : c.rows < 2 ^ 16
+  pub some_columns : 0 < c.columns
+  pub some_rows : 0 < c.rows
 
 -- the one copy of a single reference
 pub record IsSingleCopy (t : Trans) (xy : List ℕ) (c : Copies) : Type 0 where
@@ -91,6 +97,7 @@ pub record IsCell (lib : Library) (layer : Layer) (es : List Element) (outlines 
   pub drawn : (o : Outline) → Contains outlines o → IsDrawn layer es o
   pub outlined : (e : Element) (qs : List Pt) → Contains es e → Contains (loops_of layer e.body) qs → Contains outlines (record { at = e.at; points = qs })
   pub straight : (o : Outline) → Contains outlines o → IsRectilinear o.points
+  pub near : (o : Outline) → Contains outlines o → ArePointsWithin (2 ^ 61) o.points
   pub placed : (c : Copies) → Contains copies c → IsPlaced lib es c
   pub ready : (c : Copies) → Contains copies c → IsReady c
   pub copied : (e : Element) (j : ℕ) → Contains es e → target_of lib e ≡ Some j → IsBare lib layer j ⊎ ((c : Copies) × Contains copies c × (c.target ≡ j) × AreCopies e.body c)
@@ -110,4 +117,9 @@ IsCopied lib totals e old new =
 pub record IsNoted (lib : Library) (layer : Layer) (totals : List ℕ) (e : Element) (old new : List Outline) (before after : List Copies) : Type 0 where
   pub drawn : new ≡ old ++ map (λ qs. record { at = e.at; points = qs }) (loops_of layer e.body)
   pub straight : All IsRectilinear (loops_of layer e.body)
+  pub near : AreLoopsWithin (2 ^ 61) (loops_of layer e.body)
   pub copied : IsCopied lib totals e before after
+
+-- no element is refused
+abbrev pub AreTaken : Layer → List Element → Type 0
+AreTaken layer es = (e : Element) (f : ElementFault) → Contains es e → ¬ IsRefusedFor layer e.body f

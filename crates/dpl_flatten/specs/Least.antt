@@ -28,11 +28,11 @@ AmongMarked lib marks n P i e = (i < n) × IsMarked marks i × Contains (element
 abbrev pub IsReference : Element → Type 0
 IsReference e = (name : List ℕ) × (reference_name e.body ≡ Some name)
 
--- there is one already, at this offset or before it
+-- there is one, at this offset or before it
 abbrev pub IsAtMost : Option ℕ → ℕ → Type 0
 IsAtMost None at = ⊥
 IsAtMost (Some first) at = first ≤ at
 
--- The least offset was brought up to one more element. One behind the least offset needs no look.
+-- the least offset was brought up to one more element
 abbrev pub IsNoted : Finding → ℕ → Element → Option ℕ → Option ℕ → Type 0
-IsNoted P k e first new = ((new ≡ earlier first (Some e.at)) × P k e) ⊎ (((new ≡ first) × ¬ P k e) ⊎ ((new ≡ first) × IsAtMost first e.at))
+IsNoted P k e first new = ((new ≡ earlier first (Some e.at)) × P k e) ⊎ ((new ≡ first) × ¬ P k e)

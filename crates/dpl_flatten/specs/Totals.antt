@@ -1,5 +1,5 @@
 -- How many points the structures place, up to a ceiling.
-use Rattle.std.specs.Prelude.{◌≡◌, ℕ, ◌+◌, ◌≤◌, min, Bool, List, length, slice_index}
+use Rattle.std.specs.Prelude.{◌≡◌, ℕ, ◌≤◌, min, Bool, List, length, slice_index}
 use Rattle.std.specs.List.{All, Contains}
 use Rattle.dpl_spec.specs.declared.Pt.{Pt}
 use Rattle.dpl_format.specs.Tree.{Library, Element}

@@ -1,9 +1,9 @@
 -- What a walk over placements gathers.
-use Rattle.std.specs.Prelude.{◌≡◌, ℕ, ◌<◌, ◌⊎◌, List, [], ◌∷◌, map, length, Bool, slice_get, Option, Some, None}
+use Rattle.std.specs.Prelude.{◌≡◌, ℕ, zero, suc, ◌+◌, ◌-◌, ◌*◌, ◌^◌, ◌<◌, ◌≤◌, ◌⊎◌, List, [], ◌∷◌, map, length, sum_by, Bool, slice_get, Option, Some, None}
 use Rattle.std.specs.List.{All, Contains}
 use Rattle.dpl_spec.specs.declared.Pt.{Pt}
 use Rattle.dpl_spec.specs.Loops.{ArePointsWithin, IsPointWithin, farthest}
-use Rattle.dpl_elements.specs.Motions.{Motion, image}
+use Rattle.dpl_elements.specs.Motions.{Motion, image, IsMotionWithin}
 use Rattle.dpl_format.specs.Tree.{Library, elements_at}
 use Rattle.dpl_layout.specs.declared.Layer.{Layer}
 use Rattle.dpl_links.specs.Graph.{IsMarked}
@@ -12,7 +12,7 @@ use Rattle.dpl_flatten.specs.Cells.{copy_motion, IsReady, IsCell}
 use Rattle.dpl_flatten.specs.declared.cells.Outline.{Outline}
 use Rattle.dpl_flatten.specs.declared.cells.Copies.{Copies}
 use Rattle.dpl_flatten.specs.declared.cells.Cell.{Cell}
-use Rattle.dpl_flatten.specs.declared.walk.Item.{Item}
+use Rattle.dpl_flatten.specs.declared.walk.Frame.{Frame}
 
 abbrev pub outlines_or_none : Option Cell → List Outline
 outlines_or_none None = []
@@ -71,31 +71,72 @@ pub record Gathers (outlines : List Outline) (f : Pt → Pt) (old new : List (Li
   pub alone : (ps : List Pt) → Contains new ps → Contains old ps ⊎ ((at : ℕ) × Draws outlines f ps at)
   pub far : (at : ℕ) → after ≡ Some at → (before ≡ Some at) ⊎ ((ps : List Pt) × Draws outlines f ps at × HasFarPoint ps)
 
--- the item is copy (i, j), placed by m
-abbrev pub IsCopyItem : Motion → Copies → ℕ → ℕ → Item → Type 0
-IsCopyItem m c i j t = (t.structure ≡ c.target) × ((p : Pt) → image t.place p ≡ image m (image (copy_motion c i j) p))
-
--- the copies of which Q holds, placed by m, were put on the stack
-pub record Puts (Q : Copies → ℕ → ℕ → Type 0) (m : Motion) (old new : List Item) : Type 0 where
-  pub keeps : (t : Item) → Contains old t → Contains new t
-  pub puts : (c : Copies) (i j : ℕ) → Q c i j → (t : Item) × Contains new t × IsCopyItem m c i j t
-  pub alone : (t : Item) → Contains new t → Contains old t ⊎ ((c : Copies) × (i j : ℕ) × Q c i j × IsCopyItem m c i j t)
-
--- copy (i, j) of one reference
-abbrev pub IsOne : Copies → ℕ → ℕ → Copies → ℕ → ℕ → Type 0
-IsOne c i j d a b = (d ≡ c) × (a ≡ i) × (b ≡ j)
-
--- the copies of column i of one reference below row n
-abbrev pub IsInColumn : Copies → ℕ → ℕ → Copies → ℕ → ℕ → Type 0
-IsInColumn c i n d a b = (d ≡ c) × (a ≡ i) × (b < n)
-
--- the copies of one reference in columns below n
-abbrev pub IsInArray : Copies → ℕ → Copies → ℕ → ℕ → Type 0
-IsInArray c n d a b = (d ≡ c) × (a < n) × (b < c.rows)
-
 -- the copies of some references
 abbrev pub AreOf : List Copies → Copies → ℕ → ℕ → Type 0
 AreOf cs d a b = Contains cs d × (a < d.columns) × (b < d.rows)
+
+-- ---- the stack
+
+-- all copies of a reference of a structure that is placed by m
+abbrev pub frame_of : Motion → Copies → Frame
+frame_of m c = record { copies = c; place = m; column = 0; row = 0 }
+
+-- copy (i, j) is left
+abbrev pub IsLeft : Frame → ℕ → ℕ → Type 0
+IsLeft f i j = (i < f.copies.columns) × (j < f.copies.rows) × ((f.column < i) ⊎ ((i ≡ f.column) × (f.row ≤ j)))
+
+-- its copy is one
+pub record IsFrame (f : Frame) : Type 0 where
+  pub in_columns : f.column < f.copies.columns
+  pub in_rows : f.row < f.copies.rows
+
+-- what is left behind a frame's copy
+abbrev pub IsNext : Frame → Option Frame → Type 0
+IsNext f None = (f.copies.rows ≤ f.row + 1) × (f.copies.columns ≤ f.column + 1)
+IsNext f (Some n) =
+    (n.copies ≡ f.copies) × (n.place ≡ f.place)
+    × (((f.row + 1 < f.copies.rows) × (n.column ≡ f.column) × (n.row ≡ f.row + 1))
+    ⊎ ((f.copies.rows ≤ f.row + 1) × (f.column + 1 < f.copies.columns) × (n.column ≡ f.column + 1) × (n.row ≡ 0)))
+
+-- Copies lead to structures of lower levels.
+pub record AreDeep (cells : List Cell) (top : ℕ) : Type 0 where
+  pub level : ℕ → ℕ
+  pub falls : (k : ℕ) (c : Copies) → Contains (copies_at cells k) c → level c.target < level k
+  pub few : level top ≤ length cells
+
+-- how often a walk goes to structure k and to those that it places, n references deep
+abbrev pub visits : List Cell → ℕ → ℕ → ℕ
+visits cells zero k = 1
+visits cells (suc n) k = 1 + sum_by (λ (c : Copies). (c.columns * c.rows) * visits cells n c.target) (copies_at cells k)
+
+-- how many copies of a frame are left
+abbrev pub count_left : Frame → ℕ
+count_left f = (f.copies.columns - f.column) * f.copies.rows - f.row
+
+-- how often a walk still goes to a structure
+abbrev pub walk_left : List Cell → ℕ → List Frame → ℕ
+walk_left cells n stack = sum_by (λ (f : Frame). count_left f * visits cells n f.copies.target) stack
+
+-- a structure on the stack shows the loop
+abbrev pub IsPending : List Cell → List Frame → List Pt → ℕ → Type 0
+IsPending cells stack ps at =
+    (f : Frame) × Contains stack f × (i j : ℕ) × IsLeft f i j × IsShown cells f.copies.target (λ p. image f.place (image (copy_motion f.copies i j) p)) ps at
+
+-- what is known of a frame: its copies' level falls below that of its structure, and each step from the top moves by at most 2 ^ 34
+pub record IsInWalk (cells : List Cell) (n : ℕ) (level : ℕ → ℕ) (f : Frame) : Type 0 where
+  pub known : f.copies.target < length cells
+  pub ready : IsReady f.copies
+  pub frame : IsFrame f
+  pub deep : level f.copies.target < n
+  pub place : IsMotionWithin (2 ^ 34 * (n - (level f.copies.target + 1))) f.place
+
+-- how far a walk is
+pub record IsWalking (cells : List Cell) (top n : ℕ) (level : ℕ → ℕ) (loops : List (List Pt)) (far : Option ℕ) (stack : List Frame) : Type 0 where
+  pub complete : (ps : List Pt) (at : ℕ) → IsShown cells top (λ p. p) ps at → IsGathered loops far ps at ⊎ IsPending cells stack ps at
+  pub sound : (ps : List Pt) → Contains loops ps → (at : ℕ) × IsShown cells top (λ p. p) ps at
+  pub pending : (ps : List Pt) (at : ℕ) → IsPending cells stack ps at → IsShown cells top (λ p. p) ps at
+  pub out : (at : ℕ) → far ≡ Some at → (ps : List Pt) × IsShown cells top (λ p. p) ps at × HasFarPoint ps
+  pub frames : (f : Frame) → Contains stack f → IsInWalk cells n level f
 
 -- the loops that structure top shows, and the least offset of one with a point too far out
 pub record IsWalk (cells : List Cell) (top : ℕ) (loops : List (List Pt)) (far : Option ℕ) : Type 0 where
@@ -106,10 +147,11 @@ pub record IsWalk (cells : List Cell) (top : ℕ) (loops : List (List Pt)) (far 
 -- the copies lead to structures that are there, and can be worked out
 pub record AreKnown (cells : List Cell) : Type 0 where
   pub targets : (k : ℕ) (c : Copies) → Contains (copies_at cells k) c → c.target < length cells
-  pub ready : (k : ℕ) → All IsReady (copies_at cells k)
+  pub ready : (k : ℕ) (c : Copies) → Contains (copies_at cells k) c → IsReady c
+  pub near : (k : ℕ) → All (λ (o : Outline). ArePointsWithin (2 ^ 61) o.points) (outlines_at cells k)
 
--- the cells of the marked structures; the others place nothing
+-- the cells of the marked structures; the others place and draw nothing
 pub record AreCells (lib : Library) (layer : Layer) (marks : List Bool) (cells : List Cell) : Type 0 where
   pub each : length cells ≡ length lib.structures
   pub marked : (k : ℕ) → IsMarked marks k → IsCell lib layer (elements_at lib k) (outlines_at cells k) (copies_at cells k)
-  pub unmarked : (k : ℕ) → ¬ IsMarked marks k → copies_at cells k ≡ []
+  pub unmarked : (k : ℕ) → ¬ IsMarked marks k → (copies_at cells k ≡ []) × (outlines_at cells k ≡ [])

@@ -1,13 +1,16 @@
 //! What one structure draws on a layer, and the copies of other structures that it places.
 
-ghost use Rattle.std.specs.Prelude.{◌≡◌, ◌++◌, ◌<◌, ◌≤◌, ℕ, [], true, false, length, map, not, bit_and, ◌==◌, ◌∷◌, if◌then◌else◌, IfOk, OnOk, IfSome};
+ghost use Rattle.std.specs.Prelude.{◌≡◌, ◌++◌, ◌<◌, ◌≤◌, ℕ, [], true, false, length, map, not, bit_and, ◌==◌, ◌∷◌, ◌^◌, List, Some, if◌then◌else◌, IfOk, OnOk, IfSome, IfNone};
 ghost use Rattle.std.specs.List.{All};
-ghost use Rattle.dpl_spec.specs.Loops.{IsRectilinear};
+ghost use Rattle.dpl_spec.specs.Loops.{IsRectilinear, AreLoopsWithin};
+ghost use Rattle.dpl_elements.specs.Boundaries.{IsSlanted};
 ghost use Rattle.dpl_elements.specs.Paths.{corners_of, path_rects, path_of};
 ghost use Rattle.dpl_format.specs.Tree.{HasPoints, elements_at};
 ghost use Rattle.dpl_syntax.specs.Elements.{body_seen, element_seen, IsSized};
-ghost use Rattle.dpl_layout.specs.Elements.{points_in, loops_of, AreTurns};
-ghost use Rattle.dpl_flatten.specs.Cells.{AreCopies, IsReady, IsCopied, IsNoted, IsCell, AreBareTargets};
+ghost use Rattle.dpl_shapes.specs.declared.fault.ShapeFault.TheVariants.{NoMemory};
+ghost use Rattle.dpl_layout.specs.declared.ElementFault.{ElementFault};
+ghost use Rattle.dpl_layout.specs.Elements.{points_in, loops_of, AreTurns, IsTurnedAskew, IsPathFault, IsRefusedFor, reference_name};
+ghost use Rattle.dpl_flatten.specs.Cells.{AreCopies, IsReady, IsCopied, IsNoted, IsCell, AreBareTargets, AreTaken};
 ghost use Rattle.dpl_flatten.specs.Walk.{AreCells};
 ghost use Rattle.dpl_flatten.specs.Totals.{ceiling};
 ghost use Rattle.dpl_links.specs.Graph.{IsMarked};
@@ -19,7 +22,7 @@ use crate::shapes::{Stroke, points_of};
 use dpl_base::{Listed, Loop, Pt};
 use dpl_layout::Layer;
 use dpl_reals::Real;
-use dpl_shapes::{boundary_loop, path_loops};
+use dpl_shapes::{ShapeFault, boundary_loop, path_loops};
 use dpl_syntax::{Body, Element, Library};
 use std::alloc::{AllocError, Global};
 
@@ -58,6 +61,7 @@ pub(crate) struct Cell {
 pub(crate) fn turns_of(angle: Option<[u8; 8]>) -> Option<u8>
     ensures turns { IfSome result (λ n. AreTurns angle n) }
     ensures few { IfSome result (λ n. n < 4) }
+    ensures askew { IfNone result (IsTurnedAskew angle) }
 {
     match angle {
         None => Some(0),
@@ -72,10 +76,22 @@ pub(crate) fn is_reflected(strans: u16) -> bool
     strans & 0x8000 != 0
 }
 
-/// The loops of a boundary or box.
+/// The want of memory that a shape may meet which isn't refused.
+fn want_of_memory(fault: ShapeFault) -> AllocError
+    requires { fault ≡ NoMemory }
+{
+    match fault {
+        ShapeFault::NoMemory => AllocError,
+        _ => unreachable!(),
+    }
+}
+
+/// The loops of a boundary or box that isn't refused.
 fn boundary_outlines(alloc: Global, counts: bool, xy: &[u8]) -> Result<Vec<Loop>, AllocError>
+    requires { counts ≡ true → ¬ IsSlanted (points_in xy.now) }
     ensures loops { IfOk result (λ v. v.items ≡ (if counts then points_in xy.now ∷ [] else [])) }
     ensures straight { IfOk result (λ v. All IsRectilinear v.items) }
+    ensures near { IfOk result (λ v. AreLoopsWithin (2 ^ 61) v.items) }
 {
     let mut loops = Vec::new(alloc);
     if !counts {
@@ -83,7 +99,7 @@ fn boundary_outlines(alloc: Global, counts: bool, xy: &[u8]) -> Result<Vec<Loop>
     }
     let points = points_of(alloc, xy)?;
     match boundary_loop(alloc, points.as_slice()) {
-        Err(_) => Err(AllocError),
+        Err(fault) => Err(want_of_memory(fault)),
         Ok(outline) => {
             loops.push(outline)?;
             Ok(loops)
@@ -91,15 +107,17 @@ fn boundary_outlines(alloc: Global, counts: bool, xy: &[u8]) -> Result<Vec<Loop>
     }
 }
 
-/// The loops of a path.
+/// The loops of a path that isn't refused.
 fn path_outlines(
     alloc: Global,
     counts: bool,
     stroke: Stroke,
     xy: &[u8],
 ) -> Result<Vec<Loop>, AllocError>
+    requires { (f : ElementFault) → counts ≡ true → ¬ IsPathFault (path_of (points_in xy.now) stroke.width stroke.kind stroke.begin_ext stroke.end_ext) f }
     ensures loops { IfOk result (λ v. v.items ≡ (if counts then map corners_of (path_rects (path_of (points_in xy.now) stroke.width stroke.kind stroke.begin_ext stroke.end_ext)) else [])) }
     ensures straight { IfOk result (λ v. All IsRectilinear v.items) }
+    ensures near { IfOk result (λ v. AreLoopsWithin (2 ^ 61) v.items) }
 {
     if !counts {
         return Ok(Vec::new(alloc));
@@ -113,15 +131,17 @@ fn path_outlines(
         stroke.begin_ext as i64,
         stroke.end_ext as i64,
     ) {
-        Err(_) => Err(AllocError),
+        Err(fault) => Err(want_of_memory(fault)),
         Ok(loops) => Ok(loops),
     }
 }
 
 /// The loops that an element draws.
 fn element_loops(alloc: Global, chosen: Layer, body: &Body<'_>) -> Result<Vec<Loop>, AllocError>
+    requires { (f : ElementFault) → ¬ IsRefusedFor chosen (body_seen body.now) f }
     ensures loops { IfOk result (λ v. v.items ≡ loops_of chosen (body_seen body.now)) }
     ensures straight { IfOk result (λ v. All IsRectilinear v.items) }
+    ensures near { IfOk result (λ v. AreLoopsWithin (2 ^ 61) v.items) }
 {
     match *body {
         Body::Boundary {
@@ -163,8 +183,10 @@ fn draw(
     element: &Element<'_>,
     outlines: &mut Vec<Outline>,
 ) -> Result<(), AllocError>
+    requires { (f : ElementFault) → ¬ IsRefusedFor chosen (body_seen element.now.body) f }
     ensures outlines { OnOk result (outlines.new.items ≡ outlines.old.items ++ map (λ qs. record { at = element.now.at; points = qs }) (loops_of chosen (body_seen element.now.body))) }
     ensures straight { OnOk result (All IsRectilinear (loops_of chosen (body_seen element.now.body))) }
+    ensures near { OnOk result (AreLoopsWithin (2 ^ 61) (loops_of chosen (body_seen element.now.body))) }
 {
     let loops = element_loops(alloc, chosen, &element.body)?;
     for points in loops {
@@ -176,12 +198,14 @@ fn draw(
     Ok(())
 }
 
-/// The copies that a reference to a structure places; None where they can't be worked out.
-fn copies_of(target: u32, body: &Body<'_>) -> Option<Copies>
-    requires { HasPoints (body_seen body.now) }
-    ensures copies { IfSome result (λ c. AreCopies (body_seen body.now) c) }
-    ensures ready { IfSome result (λ c. IsReady c) }
-    ensures target { IfSome result (λ c. c.target ≡ target) }
+/// The copies that a reference to a structure places, which isn't refused.
+fn copies_of(target: u32, chosen: Layer, body: &Body<'_>) -> Copies
+    requires points { HasPoints (body_seen body.now) }
+    requires reference { (name : List ℕ) × (reference_name (body_seen body.now) ≡ Some name) }
+    requires taken { (f : ElementFault) → ¬ IsRefusedFor chosen (body_seen body.now) f }
+    ensures copies { AreCopies (body_seen body.now) result }
+    ensures ready { IsReady result }
+    ensures target { result.target ≡ target }
 {
     match *body {
         Body::Sref { trans, xy, .. } => single_copy(target, trans, xy),
@@ -192,18 +216,20 @@ fn copies_of(target: u32, body: &Body<'_>) -> Option<Copies>
             xy,
             ..
         } => array_copies(target, trans, columns, rows, xy),
-        _ => None,
+        _ => unreachable!(),
     }
 }
 
 /// Notes the copies that an element places, unless they draw nothing.
 fn note_copies(
     lib: &Library<'_>,
+    chosen: Layer,
     totals: &[u32],
     element: &Element<'_>,
     copies: &mut Vec<Copies>,
 ) -> Result<(), AllocError>
     requires sized { HasPoints (body_seen element.now.body) }
+    requires taken { (f : ElementFault) → ¬ IsRefusedFor chosen (body_seen element.now.body) f }
     requires totals { All (λ n. n ≤ ceiling) totals.now }
     ensures { OnOk result (IsCopied lib.now totals.now (element_seen element.now) copies.old.items copies.new.items) }
 {
@@ -214,14 +240,8 @@ fn note_copies(
     if total_at(totals, number) == 0 {
         return Ok(());
     }
-    let made = copies_of(number, &element.body);
-    match made {
-        None => Err(AllocError),
-        Some(array) => {
-            copies.push(array)?;
-            Ok(())
-        }
-    }
+    copies.push(copies_of(number, chosen, &element.body))?;
+    Ok(())
 }
 
 /// Notes what an element draws and places.
@@ -235,11 +255,12 @@ fn note_element(
     copies: &mut Vec<Copies>,
 ) -> Result<(), AllocError>
     requires sized { IsSized element.now }
+    requires taken { (f : ElementFault) → ¬ IsRefusedFor chosen (body_seen element.now.body) f }
     requires totals { All (λ n. n ≤ ceiling) totals.now }
     ensures { OnOk result (IsNoted lib.now chosen totals.now (element_seen element.now) outlines.old.items outlines.new.items copies.old.items copies.new.items) }
 {
     draw(alloc, chosen, element, outlines)?;
-    note_copies(lib, totals, element, copies)?;
+    note_copies(lib, chosen, totals, element, copies)?;
     Ok(())
 }
 
@@ -254,6 +275,7 @@ fn cell_of(
     requires known { structure < length lib.now.structures }
     requires totals { All (λ n. n ≤ ceiling) totals.now }
     requires bare { AreBareTargets lib.now chosen totals.now (elements_at lib.now structure) }
+    requires taken { AreTaken chosen (elements_at lib.now structure) }
     ensures { IfOk result (λ c. IsCell lib.now chosen (elements_at lib.now structure) c.outlines c.copies) }
 {
     let mut outlines = Vec::new(alloc);
@@ -287,8 +309,9 @@ fn cell_where(
     requires known { structure < length lib.now.structures }
     requires totals { All (λ n. n ≤ ceiling) totals.now }
     requires bare { marked ≡ true → AreBareTargets lib.now chosen totals.now (elements_at lib.now structure) }
+    requires taken { marked ≡ true → AreTaken chosen (elements_at lib.now structure) }
     ensures cell { IfOk result (λ c. marked ≡ true → IsCell lib.now chosen (elements_at lib.now structure) c.outlines c.copies) }
-    ensures empty { IfOk result (λ c. marked ≡ false → c.copies ≡ []) }
+    ensures empty { IfOk result (λ c. marked ≡ false → (c.copies ≡ []) × (c.outlines ≡ [])) }
 {
     if !marked {
         return Ok(Cell {
@@ -311,6 +334,7 @@ pub(crate) fn make_cells(
     requires marks { length marks.now ≡ length lib.now.structures }
     requires totals { All (λ n. n ≤ ceiling) totals.now }
     requires bare { (k : ℕ) → IsMarked marks.now k → AreBareTargets lib.now chosen totals.now (elements_at lib.now k) }
+    requires taken { (k : ℕ) → IsMarked marks.now k → AreTaken chosen (elements_at lib.now k) }
     ensures { IfOk result (λ v. AreCells lib.now chosen marks.now v.items) }
 {
     let mut cells = Vec::new(alloc);

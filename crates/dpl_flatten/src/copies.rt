@@ -1,11 +1,11 @@
 //! The copies that a reference places.
 
-ghost use Rattle.std.specs.Prelude.{◌≡◌, ◌^◌, ◌<◌, ◌≤◌, pos, ◌≤ℤ◌, length, unwrap_or, IfSome, unsigned_abs, ◌-ℤ◌, int_div};
+ghost use Rattle.std.specs.Prelude.{◌≡◌, ◌*◌, ◌^◌, ◌<◌, ◌≤◌, pos, ◌≤ℤ◌, length, unwrap_or, unsigned_abs, ◌-ℤ◌, int_div};
 ghost use Rattle.std.specs.Option.{option_map};
 ghost use Rattle.dpl_spec.specs.Loops.{IsPointWithin};
 ghost use Rattle.dpl_syntax.specs.Elements.{trans_seen};
-ghost use Rattle.dpl_layout.specs.Elements.{plain};
-ghost use Rattle.dpl_flatten.specs.Cells.{spacing_of, IsTurn, IsSingleCopy, IsArrayOfCopies};
+ghost use Rattle.dpl_layout.specs.Elements.{plain, IsTurnedAskew};
+ghost use Rattle.dpl_flatten.specs.Cells.{spacing_of, IsSpanWithin, IsTurn, IsSingleCopy, IsArrayOfCopies};
 
 use crate::cells::{Copies, is_reflected, turns_of};
 use crate::refs::point_at;
@@ -19,26 +19,30 @@ struct Turn {
     turns: u8,
 }
 
-/// The reflection and the turns of a transform; None where its angle isn't right.
-fn turn_of(trans: &Trans) -> Option<Turn>
-    ensures { IfSome result (λ t. IsTurn (trans_seen trans.now) t) }
+/// The reflection and the turns of a transform whose angle is right.
+fn turn_of(trans: &Trans) -> Turn
+    requires { ¬ IsTurnedAskew (trans_seen trans.now).angle }
+    ensures { IsTurn (trans_seen trans.now) result }
 {
-    let turns = turns_of(trans.angle)?;
-    Some(Turn {
-        reflect: is_reflected(trans.strans),
-        turns,
-    })
+    match turns_of(trans.angle) {
+        Some(turns) => Turn {
+            reflect: is_reflected(trans.strans),
+            turns,
+        },
+        None => unreachable!(),
+    }
 }
 
 /// Those of a reference, which may have no transform.
-fn own_turn(trans: Option<Trans>) -> Option<Turn>
-    ensures { IfSome result (λ t. IsTurn (unwrap_or (option_map trans_seen trans) plain) t) }
+fn own_turn(trans: Option<Trans>) -> Turn
+    requires { ¬ IsTurnedAskew (unwrap_or (option_map trans_seen trans) plain).angle }
+    ensures { IsTurn (unwrap_or (option_map trans_seen trans) plain) result }
 {
     match trans {
-        None => Some(Turn {
+        None => Turn {
             reflect: false,
             turns: 0,
-        }),
+        },
         Some(trans) => turn_of(&trans),
     }
 }
@@ -57,7 +61,7 @@ fn part(count: i16, from: i64, to: i64) -> i64
     requires from { unsigned_abs from ≤ 2 ^ 31 }
     requires to { unsigned_abs to ≤ 2 ^ 31 }
     ensures value { result ≡ int_div (to -ℤ from) count }
-    ensures within { unsigned_abs result ≤ 2 ^ 32 }
+    ensures within { unsigned_abs count * unsigned_abs result ≤ 2 ^ 32 }
 {
     share(count, to - from)
 }
@@ -68,7 +72,7 @@ fn spacing(from: Pt, to: Pt, count: i16) -> Pt
     requires from { IsPointWithin (2 ^ 31) from }
     requires to { IsPointWithin (2 ^ 31) to }
     ensures value { result ≡ spacing_of from to count }
-    ensures within { IsPointWithin (2 ^ 32) result }
+    ensures within { IsSpanWithin (2 ^ 32) (unsigned_abs count) result }
 {
     Pt {
         x: part(count, from.x, to.x),
@@ -77,14 +81,15 @@ fn spacing(from: Pt, to: Pt, count: i16) -> Pt
 }
 
 /// The one copy of a single reference.
-pub(crate) fn single_copy(target: u32, trans: Option<Trans>, xy: &[u8]) -> Option<Copies>
-    requires { length xy.now ≡ 8 }
-    ensures copies { IfSome result (λ c. IsSingleCopy (unwrap_or (option_map trans_seen trans) plain) xy.now c) }
-    ensures target { IfSome result (λ c. c.target ≡ target) }
+pub(crate) fn single_copy(target: u32, trans: Option<Trans>, xy: &[u8]) -> Copies
+    requires points { length xy.now ≡ 8 }
+    requires turned { ¬ IsTurnedAskew (unwrap_or (option_map trans_seen trans) plain).angle }
+    ensures copies { IsSingleCopy (unwrap_or (option_map trans_seen trans) plain) xy.now result }
+    ensures target { result.target ≡ target }
 {
-    let turn = own_turn(trans)?;
+    let turn = own_turn(trans);
     let still = Pt { x: 0, y: 0 };
-    Some(Copies {
+    Copies {
         target,
         reflect: turn.reflect,
         turns: turn.turns,
@@ -93,29 +98,29 @@ pub(crate) fn single_copy(target: u32, trans: Option<Trans>, xy: &[u8]) -> Optio
         up: still,
         columns: 1,
         rows: 1,
-    })
+    }
 }
 
-/// The copies of an array; None where it can't be laid out.
+/// The copies of an array.
 pub(crate) fn array_copies(
     target: u32,
     trans: Option<Trans>,
     columns: i16,
     rows: i16,
     xy: &[u8],
-) -> Option<Copies>
-    requires { length xy.now ≡ 24 }
-    ensures copies { IfSome result (λ c. IsArrayOfCopies (unwrap_or (option_map trans_seen trans) plain) columns rows xy.now c) }
-    ensures target { IfSome result (λ c. c.target ≡ target) }
+) -> Copies
+    requires points { length xy.now ≡ 24 }
+    requires columns { pos 1 ≤ℤ columns }
+    requires rows { pos 1 ≤ℤ rows }
+    requires turned { ¬ IsTurnedAskew (unwrap_or (option_map trans_seen trans) plain).angle }
+    ensures copies { IsArrayOfCopies (unwrap_or (option_map trans_seen trans) plain) columns rows xy.now result }
+    ensures target { result.target ≡ target }
 {
-    if columns < 1 || rows < 1 {
-        return None;
-    }
-    let turn = own_turn(trans)?;
+    let turn = own_turn(trans);
     let origin = point_at(xy, 0);
     let across = spacing(origin, point_at(xy, 1), columns);
     let up = spacing(origin, point_at(xy, 2), rows);
-    Some(Copies {
+    Copies {
         target,
         reflect: turn.reflect,
         turns: turn.turns,
@@ -124,5 +129,5 @@ pub(crate) fn array_copies(
         up,
         columns: columns.unsigned_abs() as u32,
         rows: rows.unsigned_abs() as u32,
-    })
+    }
 }

@@ -1,18 +1,17 @@
 //! How many points a layer has in all its placements, counted structure by structure.
 
-ghost use Rattle.std.specs.Prelude.{◌≡◌, ◌<◌, ◌≤◌, ◌*◌, ◌^◌, ◌/◌, length, min, replicate, slice_set, MatchOption, sum_by, slice_index, if◌then◌else◌, IfOk};
+ghost use Rattle.std.specs.Prelude.{◌≡◌, ◌<◌, ◌≤◌, ◌*◌, ◌^◌, ◌/◌, length, min, replicate, slice_set, sum_by, slice_index, if◌then◌else◌, IfOk};
 ghost use Rattle.std.specs.List.{All};
 ghost use Rattle.dpl_format.specs.Tree.{elements_at};
 ghost use Rattle.dpl_syntax.specs.Elements.{body_seen, element_seen};
 ghost use Rattle.dpl_layout.specs.Elements.{point_count, columns_of, rows_of, is_on as is_on_layer};
 ghost use Rattle.dpl_layout.specs.Points.{points_by};
-ghost use Rattle.dpl_links.specs.Levels.{AlwaysFalls, IsByLevel};
-ghost use Rattle.dpl_flatten.specs.Links.{IsLevelled};
+ghost use Rattle.dpl_flatten.specs.Links.{IsLinked, IsOrdered};
 ghost use Rattle.dpl_flatten.specs.Totals.{ceiling, AreTotals};
 
-use crate::links::target;
-use crate::recursion::Levelled;
+use crate::links::{Links, target};
 use dpl_layout::Layer;
+use dpl_links::Order;
 use dpl_syntax::{Body, Element, Library};
 use std::alloc::{AllocError, Global};
 
@@ -111,39 +110,34 @@ fn points_where(counts: bool, xy: &[u8]) -> u64
     if counts { xy.len() as u64 / 8 } else { 0 }
 }
 
-/// Sets the total of the structure in a slot.
-fn set_total(lib: &Library<'_>, chosen: Layer, slot: Option<u32>, totals: &mut Vec<u32>)
+/// Sets the total of a structure.
+fn set_total(lib: &Library<'_>, chosen: Layer, structure: u32, totals: &mut Vec<u32>)
+    requires known { structure < length lib.now.structures }
     requires each { length totals.old.items ≡ length lib.now.structures }
     requires totals { All (λ n. n ≤ ceiling) totals.old.items }
-    ensures { MatchOption slot (totals.new.items ≡ totals.old.items) (λ k. totals.new.items ≡ slice_set totals.old.items k (min (sum_by (points_by lib.now chosen (λ j. slice_index totals.old.items j)) (elements_at lib.now k)) ceiling)) }
+    ensures { totals.new.items ≡ slice_set totals.old.items structure (min (sum_by (points_by lib.now chosen (λ j. slice_index totals.old.items j)) (elements_at lib.now structure)) ceiling) }
 {
-    if let Some(structure) = slot
-        && (structure as usize) < totals.len()
-    {
-        let total = total_of(lib, chosen, structure, totals);
-        totals[structure as usize] = total;
-    }
+    let total = total_of(lib, chosen, structure, totals);
+    totals[structure as usize] = total;
 }
 
-/// How many points each marked structure places, up to the ceiling. `slots` has the marked structures by level, so that
-/// each comes behind those that it refers to.
+/// How many points each marked structure places, up to the ceiling. In the order each structure comes behind those that
+/// it refers to.
 pub(crate) fn totals(
     alloc: Global,
     lib: &Library<'_>,
     chosen: Layer,
-    links: &Levelled<'_>,
-    slots: &[Option<u32>],
+    links: &Links<'_>,
+    order: &Order,
 ) -> Result<Vec<u32>, AllocError>
-    requires links { IsLevelled lib.now links.now.graph.now links.now.marks.now links.now.levels.now }
-    requires falls { AlwaysFalls links.now.graph.now links.now.marks.now links.now.levels.now }
-    requires slots { IsByLevel links.now.marks.now links.now.levels.now slots.now }
-    requires each { length slots.now ≡ length lib.now.structures }
+    requires links { IsLinked lib.now links.now.graph.now links.now.marks.now }
+    requires order { IsOrdered lib.now links.now.graph.now links.now.marks.now order.now.levels.items order.now.vertices.items }
     requires marks { length links.now.marks.now ≡ length lib.now.structures }
     ensures { IfOk result (λ v. AreTotals lib.now chosen links.now.marks.now v.items) }
 {
-    let mut totals = zeros(alloc, slots.len())?;
-    for level in 0..slots.len() {
-        set_total(lib, chosen, slots[level], &mut totals);
+    let mut totals = zeros(alloc, lib.count() as usize)?;
+    for structure in &order.vertices {
+        set_total(lib, chosen, *structure, &mut totals);
     }
     Ok(totals)
 }

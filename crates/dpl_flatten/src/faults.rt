@@ -1,17 +1,19 @@
 //! The faults that are tried before anything is placed, in their order.
 
 ghost use Rattle.std.specs.Prelude.{◌≡◌, ◌<◌, ◌^◌, length, IfOk, IfErr, OnOk};
-ghost use Rattle.dpl_layout.specs.Faults.{IsFirstFault, IsNowhere, IsMissing, IsWhole, IsSound, IsSmall};
+ghost use Rattle.dpl_layout.specs.Faults.{IsFirst, IsFirstFault, IsNowhere, IsMissing, IsOnCycle, IsWhole, IsSound, IsSmall};
 ghost use Rattle.dpl_links.specs.Graph.{AreReached};
-ghost use Rattle.dpl_flatten.specs.Links.{IsLevelled};
+ghost use Rattle.dpl_links.specs.Order.{HasCycle};
+ghost use Rattle.dpl_flatten.specs.Links.{IsLinked, IsOrdered};
 ghost use Rattle.dpl_flatten.specs.Totals.{AreTotals};
 
 use crate::count::totals;
+use crate::links::Links;
 use crate::missing::missing;
-use crate::recursion::{Levelled, recursion};
+use crate::recursion::recursion;
 use crate::refused::{refusal, refused};
 use dpl_layout::{FlattenFault, Layer};
-use dpl_links::{always_falls, by_level};
+use dpl_links::{Order, find_levels, find_order};
 use dpl_syntax::Library;
 use std::alloc::{AllocError, Global};
 
@@ -23,9 +25,9 @@ fn find_missing(
     lib: &Library<'_>,
     top: u32,
     layer: Layer,
-    links: &Levelled<'_>,
+    links: &Links<'_>,
 ) -> Result<(), FlattenFault>
-    requires links { IsLevelled lib.now links.now.graph.now links.now.marks.now links.now.levels.now }
+    requires links { IsLinked lib.now links.now.graph.now links.now.marks.now }
     requires reached { AreReached links.now.graph.now top links.now.marks.now }
     ensures complete { OnOk result (IsNowhere lib.now top (IsMissing lib.now)) }
     ensures fault { IfErr result (λ f. IsFirstFault lib.now top layer f) }
@@ -36,24 +38,50 @@ fn find_missing(
     }
 }
 
-/// No reference lies on a cycle.
+/// The least offset of a reference on a cycle.
+fn recursive_at(
+    alloc: Global,
+    lib: &Library<'_>,
+    top: u32,
+    links: &Links<'_>,
+) -> Result<usize, AllocError>
+    requires links { IsLinked lib.now links.now.graph.now links.now.marks.now }
+    requires reached { AreReached links.now.graph.now top links.now.marks.now }
+    requires top { top < length lib.now.structures }
+    requires cycle { HasCycle links.now.graph.now top }
+    ensures { IfOk result (λ at. IsFirst lib.now top (IsOnCycle lib.now) at) }
+{
+    let levels = find_levels(alloc, links.graph, top)?;
+    match recursion(lib, links, &levels) {
+        Some(at) => Ok(at),
+        None => unreachable!(),
+    }
+}
+
+/// No reference lies on a cycle; gives the structures in an order in which every reference leads back.
 fn find_recursion(
     alloc: Global,
     lib: &Library<'_>,
     top: u32,
     layer: Layer,
-    links: &Levelled<'_>,
-) -> Result<(), FlattenFault>
-    requires links { IsLevelled lib.now links.now.graph.now links.now.marks.now links.now.levels.now }
+    links: &Links<'_>,
+) -> Result<Order, FlattenFault>
+    requires links { IsLinked lib.now links.now.graph.now links.now.marks.now }
     requires reached { AreReached links.now.graph.now top links.now.marks.now }
+    requires few { length links.now.marks.now < 2 ^ 32 }
+    requires top { top < length lib.now.structures }
     requires complete { IsNowhere lib.now top (IsMissing lib.now) }
     ensures whole { OnOk result (IsWhole lib.now top) }
+    ensures order { IfOk result (λ o. IsOrdered lib.now links.now.graph.now links.now.marks.now o.levels.items o.vertices.items) }
     ensures fault { IfErr result (λ f. IsFirstFault lib.now top layer f) }
 {
-    let found = recursion(alloc, lib, links)?;
-    match found {
-        Some(at) => Err(FlattenFault::Recursion { at }),
-        None => Ok(()),
+    let order = find_order(alloc, links.graph, top)?;
+    match order {
+        Some(order) => Ok(order),
+        None => {
+            let at = recursive_at(alloc, lib, top, links)?;
+            Err(FlattenFault::Recursion { at })
+        }
     }
 }
 
@@ -63,9 +91,9 @@ fn find_refused(
     lib: &Library<'_>,
     top: u32,
     layer: Layer,
-    links: &Levelled<'_>,
+    links: &Links<'_>,
 ) -> Result<(), FlattenFault>
-    requires links { IsLevelled lib.now links.now.graph.now links.now.marks.now links.now.levels.now }
+    requires links { IsLinked lib.now links.now.graph.now links.now.marks.now }
     requires reached { AreReached links.now.graph.now top links.now.marks.now }
     requires whole { IsWhole lib.now top }
     ensures sound { OnOk result (IsSound lib.now top layer) }
@@ -73,34 +101,11 @@ fn find_refused(
 {
     let found = refused(alloc, lib, layer, links.marks)?;
     match found {
-        Some(at) => Err(refusal(alloc, lib, layer, links.marks, at)),
-        None => Ok(()),
-    }
-}
-
-/// What each structure places.
-fn count_points(
-    alloc: Global,
-    lib: &Library<'_>,
-    layer: Layer,
-    links: &Levelled<'_>,
-) -> Result<Vec<u32>, AllocError>
-    requires links { IsLevelled lib.now links.now.graph.now links.now.marks.now links.now.levels.now }
-    requires marks { length links.now.marks.now ≡ length lib.now.structures }
-    requires few { length links.now.marks.now < 2 ^ 32 }
-    ensures { IfOk result (λ v. AreTotals lib.now layer links.now.marks.now v.items) }
-{
-    // A layout without recursion falls, and has one structure on each level.
-    if !always_falls(links.graph, links.marks, links.levels) {
-        return Err(AllocError);
-    }
-    let slots = by_level(alloc, links.marks, links.levels)?;
-    match slots {
-        None => Err(AllocError),
-        Some(slots) => {
-            let counted = totals(alloc, lib, layer, links, slots.as_slice())?;
-            Ok(counted)
+        Some(at) => {
+            let fault = refusal(alloc, lib, layer, links.marks, at)?;
+            Err(fault)
         }
+        None => Ok(()),
     }
 }
 
@@ -110,43 +115,54 @@ fn find_many(
     lib: &Library<'_>,
     top: u32,
     layer: Layer,
-    links: &Levelled<'_>,
+    links: &Links<'_>,
+    order: &Order,
 ) -> Result<Vec<u32>, FlattenFault>
-    requires links { IsLevelled lib.now links.now.graph.now links.now.marks.now links.now.levels.now }
+    requires links { IsLinked lib.now links.now.graph.now links.now.marks.now }
     requires reached { AreReached links.now.graph.now top links.now.marks.now }
-    requires few { length links.now.marks.now < 2 ^ 32 }
+    requires order { IsOrdered lib.now links.now.graph.now links.now.marks.now order.now.levels.items order.now.vertices.items }
     requires top { top < length lib.now.structures }
     requires sound { IsSound lib.now top layer }
     ensures small { OnOk result (IsSmall lib.now top layer) }
     ensures totals { IfOk result (λ v. AreTotals lib.now layer links.now.marks.now v.items) }
     ensures fault { IfErr result (λ f. IsFirstFault lib.now top layer f) }
 {
-    let counted = count_points(alloc, lib, layer, links)?;
+    let counted = totals(alloc, lib, layer, links, order)?;
     if counted[top as usize] > MOST_POINTS {
         return Err(FlattenFault::TooManyPoints);
     }
     Ok(counted)
 }
 
-/// None of the faults that are tried before the range; gives what each structure places.
+/// What is known of the structures of a layout that has none of the faults that are tried before the range.
+#[derive(Drop)]
+pub(crate) struct Survey {
+    /// Every reference leads back.
+    pub(crate) order: Order,
+    /// How many points each structure places.
+    pub(crate) totals: Vec<u32>,
+}
+
+/// None of the faults that are tried before the range.
 pub(crate) fn find_faults(
     alloc: Global,
     lib: &Library<'_>,
     top: u32,
     layer: Layer,
-    links: &Levelled<'_>,
-) -> Result<Vec<u32>, FlattenFault>
-    requires links { IsLevelled lib.now links.now.graph.now links.now.marks.now links.now.levels.now }
+    links: &Links<'_>,
+) -> Result<Survey, FlattenFault>
+    requires links { IsLinked lib.now links.now.graph.now links.now.marks.now }
     requires reached { AreReached links.now.graph.now top links.now.marks.now }
     requires few { length links.now.marks.now < 2 ^ 32 }
     requires top { top < length lib.now.structures }
     ensures small { OnOk result (IsSmall lib.now top layer) }
-    ensures totals { IfOk result (λ v. AreTotals lib.now layer links.now.marks.now v.items) }
+    ensures order { IfOk result (λ s. IsOrdered lib.now links.now.graph.now links.now.marks.now s.order.levels.items s.order.vertices.items) }
+    ensures totals { IfOk result (λ s. AreTotals lib.now layer links.now.marks.now s.totals.items) }
     ensures fault { IfErr result (λ f. IsFirstFault lib.now top layer f) }
 {
     find_missing(lib, top, layer, links)?;
-    find_recursion(alloc, lib, top, layer, links)?;
+    let order = find_recursion(alloc, lib, top, layer, links)?;
     find_refused(alloc, lib, top, layer, links)?;
-    let counted = find_many(alloc, lib, top, layer, links)?;
-    Ok(counted)
+    let totals = find_many(alloc, lib, top, layer, links, &order)?;
+    Ok(Survey { order, totals })
 }

@@ -1,7 +1,7 @@
 //! The loops that a layout places on one layer, with every reference followed.
 #![tactic(auto)]
 
-ghost use Rattle.std.specs.Prelude.{◌<◌, ◌↔◌, length, IfOk, IfErr, OnOk};
+ghost use Rattle.std.specs.Prelude.{◌^◌, ◌<◌, ◌≤◌, ◌↔◌, length, IfOk, IfErr, OnOk};
 ghost use Rattle.std.specs.List.{All};
 ghost use Rattle.dpl_spec.specs.declared.Pt.{Pt};
 ghost use Rattle.dpl_spec.specs.Loops.{SomeLoopCovers, IsRectilinear, AreLoopsWithin, farthest};
@@ -9,11 +9,10 @@ ghost use Rattle.dpl_layout.specs.Placements.{IsInLayer};
 ghost use Rattle.dpl_layout.specs.Faults.{IsFaultless, IsFirstFault};
 
 use crate::faults::find_faults;
-use crate::links::graph_of;
+use crate::links::{Links, graph_of};
 use crate::place::place_all;
-use crate::recursion::Levelled;
 use dpl_base::Loop;
-use dpl_links::{find_levels, reach};
+use dpl_links::reach;
 
 mod cells;
 mod copies;
@@ -37,7 +36,8 @@ use std::alloc::Global;
 
 /// The loops that the structure `top` places on a layer, itself and through all references below it: those of its
 /// boundaries and boxes of that layer and datatype, and one for each rectangle of its paths. Together they cover the
-/// layer's squares. Coordinates are database units.
+/// layer's squares. Coordinates are database units. The library has at most 2^26 structures: a file of at most 268,435,456
+/// bytes has fewer.
 ///
 /// # Errors
 /// The first fault of the structures that the top reaches: the missing structure of least offset, then the recursion of
@@ -49,7 +49,8 @@ pub fn flatten(
     top: u32,
     layer: Layer,
 ) -> Result<Vec<Loop>, FlattenFault>
-    requires { top < length lib.now.structures }
+    requires top { top < length lib.now.structures }
+    requires few { length lib.now.structures ≤ 2 ^ 26 }
     ensures covers { IfOk result (λ loops. (s : Pt) → SomeLoopCovers loops.items s ↔ IsInLayer lib.now top layer s) }
     ensures straight { IfOk result (λ loops. All IsRectilinear loops.items) }
     ensures within { IfOk result (λ loops. AreLoopsWithin farthest loops.items) }
@@ -58,13 +59,11 @@ pub fn flatten(
 {
     let graph = graph_of(alloc, lib)?;
     let marks = reach(alloc, graph.as_slice(), top)?;
-    let levels = find_levels(alloc, graph.as_slice(), marks.as_slice(), top)?;
-    let links = Levelled {
+    let links = Links {
         graph: graph.as_slice(),
         marks: marks.as_slice(),
-        levels: levels.as_slice(),
     };
-    let totals = find_faults(alloc, lib, top, layer, &links)?;
-    let loops = place_all(alloc, lib, top, layer, &links, totals.as_slice())?;
+    let survey = find_faults(alloc, lib, top, layer, &links)?;
+    let loops = place_all(alloc, lib, top, layer, &links, &survey)?;
     Ok(loops)
 }

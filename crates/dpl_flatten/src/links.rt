@@ -13,6 +13,13 @@ use dpl_base::Listed;
 use dpl_syntax::{Body, Element, Library};
 use std::alloc::{AllocError, Global};
 
+/// The graph of a layout's references, and marks of the structures that its top reaches.
+#[derive(Clone, Copy)]
+pub(crate) struct Links<'a> {
+    pub(crate) graph: &'a [Listed<u32>],
+    pub(crate) marks: &'a [bool],
+}
+
 /// The number of the structure that a reference refers to; None where the element is no reference, or the structure
 /// isn't there.
 pub(crate) fn target(lib: &Library<'_>, element: &Element<'_>) -> Option<u32>

@@ -1,12 +1,12 @@
 //! Elements that are refused.
 
-ghost use Rattle.std.specs.Prelude.{◌≡◌, ◌<◌, true, length, IfOk, IfSome};
+ghost use Rattle.std.specs.Prelude.{◌≡◌, ◌<◌, true, length, None, IfOk, IfSome};
 ghost use Rattle.std.specs.List.{Contains};
 ghost use Rattle.dpl_format.specs.Tree.{Element as TreeElement, elements_at};
 ghost use Rattle.dpl_syntax.specs.Elements.{body_seen, element_seen, IsSized};
 ghost use Rattle.dpl_layout.specs.Faults.{IsRefused};
 ghost use Rattle.dpl_flatten.specs.Least.{IsLeastOf, IsNoted, Among, AmongMarked};
-ghost use Rattle.dpl_flatten.specs.Drawn.{IsFaultOf, IsRefusal, IsRefusalOf};
+ghost use Rattle.dpl_flatten.specs.Drawn.{IsFaultOf, IsRefusal, IsRefusalWhere, IsRefusalAmong, IsRefusalOf, IsTakenAt, HasRefusalAt};
 
 use crate::count::is_on;
 use crate::least::{earlier, note};
@@ -137,7 +137,7 @@ pub(crate) fn refused(
     Ok(first)
 }
 
-/// What the element at an offset is refused for, if it is.
+/// What an element is refused for, if it stands at this offset and is refused.
 fn refusal_of(
     alloc: Global,
     chosen: Layer,
@@ -145,7 +145,7 @@ fn refusal_of(
     at: usize,
 ) -> Result<Option<FlattenFault>, AllocError>
     requires { IsSized element.now }
-    ensures { IfOk result (λ o. IfSome o (λ f. IsRefusal chosen (element_seen element.now) at f)) }
+    ensures { IfOk result (λ o. IsRefusalWhere chosen (element_seen element.now) at o) }
 {
     if element.at != at {
         return Ok(None);
@@ -166,7 +166,7 @@ fn refusal_in(
     at: usize,
 ) -> Result<Option<FlattenFault>, AllocError>
     requires { structure < length lib.now.structures }
-    ensures { IfOk result (λ o. IfSome o (λ f. (e : TreeElement) × Contains (elements_at lib.now structure) e × IsRefusal chosen e at f)) }
+    ensures { IfOk result (λ o. IsRefusalAmong chosen (elements_at lib.now structure) at o) }
 {
     for element in lib.elements(structure) {
         let found = refusal_of(alloc, chosen, element, at)?;
@@ -177,6 +177,26 @@ fn refusal_in(
     Ok(None)
 }
 
+/// What an element of a structure that may be marked is refused for, if it is.
+fn refusal_where(
+    alloc: Global,
+    lib: &Library<'_>,
+    chosen: Layer,
+    structure: u32,
+    marked: bool,
+    at: usize,
+) -> Result<Option<FlattenFault>, AllocError>
+    requires { structure < length lib.now.structures }
+    ensures taken { IfOk result (λ o. o ≡ None → marked ≡ true → (e : TreeElement) → Contains (elements_at lib.now structure) e → IsTakenAt chosen e at) }
+    ensures refused { IfOk result (λ o. IfSome o (λ f. (marked ≡ true) × ((e : TreeElement) × Contains (elements_at lib.now structure) e × IsRefusal chosen e at f))) }
+{
+    if !marked {
+        return Ok(None);
+    }
+    let found = refusal_in(alloc, lib, chosen, structure, at)?;
+    Ok(found)
+}
+
 /// What the refused element at this offset of a marked structure is refused for.
 pub(crate) fn refusal(
     alloc: Global,
@@ -184,18 +204,17 @@ pub(crate) fn refusal(
     chosen: Layer,
     marks: &[bool],
     at: usize,
-) -> FlattenFault
-    requires { length marks.now ≡ length lib.now.structures }
-    ensures { IsRefusalOf lib.now chosen marks.now at result }
+) -> Result<FlattenFault, AllocError>
+    requires marks { length marks.now ≡ length lib.now.structures }
+    requires there { HasRefusalAt lib.now chosen marks.now at }
+    ensures { IfOk result (λ f. IsRefusalOf lib.now chosen marks.now at f) }
 {
     for structure in 0..lib.count() {
-        if marks[structure as usize] {
-            match refusal_in(alloc, lib, chosen, structure, at) {
-                Ok(None) => {}
-                Ok(Some(fault)) => return fault,
-                Err(_) => return FlattenFault::NoMemory,
-            }
+        let marked = marks[structure as usize];
+        let found = refusal_where(alloc, lib, chosen, structure, marked, at)?;
+        if let Some(fault) = found {
+            return Ok(fault);
         }
     }
-    FlattenFault::NoMemory
+    unreachable!()
 }

@@ -39,7 +39,8 @@ pub(crate) fn boundary_fault(
     match boundary_loop(alloc, points.as_slice()) {
         Ok(_) => Ok(None),
         Err(ShapeFault::SlantedBoundary) => Ok(Some(ElementFault::SlantedBoundary)),
-        Err(_) => Err(AllocError),
+        Err(ShapeFault::NoMemory) => Err(AllocError),
+        Err(_) => unreachable!(),
     }
 }
 
@@ -80,6 +81,7 @@ pub(crate) fn path_fault(
         Err(ShapeFault::SlantedPath) => Ok(Some(ElementFault::SlantedPath)),
         Err(ShapeFault::PathTurnsBack) => Ok(Some(ElementFault::PathTurnsBack)),
         Err(ShapeFault::NegativeExtension) => Ok(Some(ElementFault::NegativeExtension)),
-        Err(_) => Err(AllocError),
+        Err(ShapeFault::NoMemory) => Err(AllocError),
+        Err(ShapeFault::SlantedBoundary) => unreachable!(),
     }
 }

@@ -1,11 +1,13 @@
 //! The walk over placements, which keeps a stack of its own.
 
-ghost use Rattle.std.specs.Prelude.{◌≡◌, ◌^◌, ◌<◌, ◌≤◌, ◌↔◌, ◌∷◌, [], true, false, length, map, IsTrue, IfOk, OnOk, unsigned_abs, pos, ◌+ℤ◌, ◌*ℤ◌};
+ghost use Rattle.std.specs.Prelude.{◌≡◌, ℕ, Option, ◌^◌, ◌*◌, ◌+◌, ◌<◌, ◌≤◌, ◌↔◌, ◌++◌, ◌∷◌, [], true, false, length, map, IsTrue, IfOk, OnOk, unsigned_abs, pos, ◌+ℤ◌, ◌*ℤ◌};
 ghost use Rattle.std.specs.List.{All};
+ghost use Rattle.std.specs.Option.{option_to_list};
+ghost use Rattle.dpl_flatten.specs.declared.walk.Frame.{Frame};
 ghost use Rattle.dpl_spec.specs.Loops.{ArePointsWithin, IsPointWithin, farthest};
 ghost use Rattle.dpl_elements.specs.Motions.{image, IsMotionWithin, IsComposed};
-ghost use Rattle.dpl_flatten.specs.Cells.{copy_motion, IsSmallCopies, IsReady};
-ghost use Rattle.dpl_flatten.specs.Walk.{Gathers, HasFarPoint, Puts, IsOne, IsInColumn, IsInArray, AreOf, IsWalk, AreKnown};
+ghost use Rattle.dpl_flatten.specs.Cells.{copy_motion, IsReady};
+ghost use Rattle.dpl_flatten.specs.Walk.{Gathers, HasFarPoint, frame_of, IsNext, IsFrame, AreDeep, IsWalk, AreKnown, IsWalking, walk_left};
 
 use crate::cells::{Cell, Copies, Outline};
 use crate::least::note;
@@ -13,15 +15,16 @@ use dpl_base::{FARTHEST, Loop, Pt};
 use dpl_place::{Place, compose};
 use std::alloc::{AllocError, Global};
 
-/// A structure that is placed and still to be gone through.
+/// The copies of a reference of a placed structure that the walk still has to go to: the one in this column and row,
+/// those above it in its column, and all in the columns behind.
 #[derive(Clone, Copy)]
-pub(crate) struct Item {
-    pub(crate) structure: u32,
+pub(crate) struct Frame {
+    pub(crate) copies: Copies,
+    /// Where the reference's structure is placed.
     pub(crate) place: Place,
+    pub(crate) column: u32,
+    pub(crate) row: u32,
 }
-
-/// How far from 0 the coordinates of a file within the limit may come on the way, in database units.
-const REACH: u64 = 1 << 61;
 
 /// Whether a point lies no farther from 0 than the coordinates of a layer may.
 fn is_near(point: &Pt) -> bool
@@ -45,14 +48,12 @@ fn are_near(points: &[Pt]) -> bool
 
 /// Where a placement takes points.
 fn moved(alloc: Global, place: &Place, points: &[Pt]) -> Result<Vec<Pt>, AllocError>
-    requires { IsMotionWithin (2 ^ 61) place.now }
+    requires place { IsMotionWithin (2 ^ 61) place.now }
+    requires points { ArePointsWithin (2 ^ 61) points.now }
     ensures { IfOk result (λ v. v.items ≡ map (image place.now) points.now) }
 {
     let mut images = Vec::new(alloc);
     for point in points {
-        if point.x.unsigned_abs() > REACH || point.y.unsigned_abs() > REACH {
-            return Err(AllocError);
-        }
         images.push(place.apply(*point))?;
     }
     Ok(images)
@@ -60,23 +61,20 @@ fn moved(alloc: Global, place: &Place, points: &[Pt]) -> Result<Vec<Pt>, AllocEr
 
 /// So many steps.
 fn along(count: u32, step: i64) -> i64
-    requires count { count < 2 ^ 16 }
-    requires step { unsigned_abs step ≤ 2 ^ 32 }
+    requires { count * unsigned_abs step ≤ 2 ^ 32 }
     ensures value { result ≡ pos count *ℤ step }
-    ensures within { unsigned_abs result ≤ 2 ^ 48 }
+    ensures within { unsigned_abs result ≤ 2 ^ 32 }
 {
     count as i64 * step
 }
 
 /// A coordinate of copy (`i`, `j`).
 fn coordinate(origin: i64, across: i64, up: i64, i: u32, j: u32) -> i64
-    requires i { i < 2 ^ 16 }
-    requires j { j < 2 ^ 16 }
     requires origin { unsigned_abs origin ≤ 2 ^ 31 }
-    requires across { unsigned_abs across ≤ 2 ^ 32 }
-    requires up { unsigned_abs up ≤ 2 ^ 32 }
+    requires across { i * unsigned_abs across ≤ 2 ^ 32 }
+    requires up { j * unsigned_abs up ≤ 2 ^ 32 }
     ensures value { result ≡ (origin +ℤ (pos i *ℤ across)) +ℤ (pos j *ℤ up) }
-    ensures within { unsigned_abs result ≤ 2 ^ 50 }
+    ensures within { unsigned_abs result ≤ 2 ^ 34 }
 {
     let column = origin + along(i, across);
     column + along(j, up)
@@ -84,33 +82,29 @@ fn coordinate(origin: i64, across: i64, up: i64, i: u32, j: u32) -> i64
 
 /// The placement of copy (`i`, `j`) in the coordinates of the reference's structure.
 fn copy_place(copies: &Copies, i: u32, j: u32) -> Place
-    requires small { IsSmallCopies copies.now }
-    requires turns { copies.now.turns < 4 }
+    requires ready { IsReady copies.now }
     requires i { i < copies.now.columns }
     requires j { j < copies.now.rows }
     ensures place { result ≡ copy_motion copies.now i j }
-    ensures within { IsMotionWithin (2 ^ 61) result }
+    ensures within { IsMotionWithin (2 ^ 34) result }
 {
     let dx = coordinate(copies.origin.x, copies.across.x, copies.up.x, i, j);
     let dy = coordinate(copies.origin.y, copies.across.y, copies.up.y, i, j);
     Place::new(copies.reflect, copies.turns, dx, dy)
 }
 
-/// The placement of a copy in a structure that is placed itself.
-fn copy_item(place: &Place, copies: &Copies, i: u32, j: u32) -> Result<Item, AllocError>
-    requires ready { IsReady copies.now }
-    requires i { i < copies.now.columns }
-    requires j { j < copies.now.rows }
-    ensures composed { IfOk result (λ item. IsComposed place.now (copy_motion copies.now i j) item.place) }
-    ensures structure { IfOk result (λ item. item.structure ≡ copies.now.target) }
+/// The placement of a frame's copy.
+fn place_of(frame: &Frame) -> Place
+    requires ready { IsReady frame.now.copies }
+    requires frame { IsFrame frame.now }
+    requires place { IsMotionWithin (2 ^ 61) frame.now.place }
+    ensures composed { IsComposed frame.now.place (copy_motion frame.now.copies frame.now.column frame.now.row) result }
+    ensures near { IsMotionWithin (2 ^ 34) (copy_motion frame.now.copies frame.now.column frame.now.row) }
 {
-    if place.dx().unsigned_abs() > REACH || place.dy().unsigned_abs() > REACH {
-        return Err(AllocError);
-    }
-    Ok(Item {
-        structure: copies.target,
-        place: compose(place, &copy_place(copies, i, j)),
-    })
+    compose(
+        &frame.place,
+        &copy_place(&frame.copies, frame.column, frame.row),
+    )
 }
 
 /// The loops that were gathered, and the least offset of an element with a point too far out.
@@ -127,7 +121,8 @@ fn gather(
     outline: &Outline,
     gathered: &mut Gathered,
 ) -> Result<(), AllocError>
-    requires { IsMotionWithin (2 ^ 61) place.now }
+    requires place { IsMotionWithin (2 ^ 61) place.now }
+    requires points { ArePointsWithin (2 ^ 61) outline.now.points }
     ensures { OnOk result (Gathers (outline.now ∷ []) (image place.now) gathered.old.loops.items gathered.new.loops.items gathered.old.far gathered.new.far) }
 {
     let points = moved(alloc, place, outline.points.items())?;
@@ -144,7 +139,8 @@ fn gather_all(
     outlines: &[Outline],
     gathered: &mut Gathered,
 ) -> Result<(), AllocError>
-    requires { IsMotionWithin (2 ^ 61) place.now }
+    requires place { IsMotionWithin (2 ^ 61) place.now }
+    requires points { All (λ o. ArePointsWithin (2 ^ 61) o.points) outlines.now }
     ensures { OnOk result (Gathers outlines.now (image place.now) gathered.old.loops.items gathered.new.loops.items gathered.old.far gathered.new.far) }
 {
     for outline in outlines {
@@ -153,86 +149,78 @@ fn gather_all(
     Ok(())
 }
 
-/// Puts one copy on the stack.
-fn put_copy(
-    place: &Place,
-    copies: &Copies,
-    i: u32,
-    j: u32,
-    stack: &mut Vec<Item>,
-) -> Result<(), AllocError>
-    requires ready { IsReady copies.now }
-    requires i { i < copies.now.columns }
-    requires j { j < copies.now.rows }
-    ensures { OnOk result (Puts (IsOne copies.now i j) place.now stack.old.items stack.new.items) }
-{
-    let item = copy_item(place, copies, i, j)?;
-    stack.push(item)?;
-    Ok(())
-}
-
-/// Puts the copies of one column on the stack.
-fn put_column(
-    place: &Place,
-    copies: &Copies,
-    i: u32,
-    stack: &mut Vec<Item>,
-) -> Result<(), AllocError>
-    requires ready { IsReady copies.now }
-    requires i { i < copies.now.columns }
-    ensures { OnOk result (Puts (IsInColumn copies.now i copies.now.rows) place.now stack.old.items stack.new.items) }
-{
-    for j in 0..copies.rows {
-        put_copy(place, copies, i, j, stack)?;
-    }
-    Ok(())
-}
-
-/// Puts all copies of a reference on the stack.
-fn put_array(place: &Place, copies: &Copies, stack: &mut Vec<Item>) -> Result<(), AllocError>
-    requires { IsReady copies.now }
-    ensures { OnOk result (Puts (IsInArray copies.now copies.now.columns) place.now stack.old.items stack.new.items) }
-{
-    for i in 0..copies.columns {
-        put_column(place, copies, i, stack)?;
-    }
-    Ok(())
-}
-
-/// Puts all copies that a structure places on the stack.
-fn put_all(place: &Place, copies: &[Copies], stack: &mut Vec<Item>) -> Result<(), AllocError>
-    requires { All IsReady copies.now }
-    ensures { OnOk result (Puts (AreOf copies.now) place.now stack.old.items stack.new.items) }
+/// Puts a frame for each reference of a placed structure on the stack.
+fn put_all(place: &Place, copies: &[Copies], stack: &mut Vec<Frame>) -> Result<(), AllocError>
+    ensures { OnOk result (stack.new.items ≡ stack.old.items ++ map (frame_of place.now) copies.now) }
 {
     for array in copies {
-        put_array(place, array, stack)?;
+        stack.push(Frame {
+            copies: *array,
+            place: *place,
+            column: 0,
+            row: 0,
+        })?;
     }
     Ok(())
 }
 
-/// Gathers what a placed structure draws, and puts the copies that it places on the stack.
+/// Gathers what a placed structure draws, and puts what it refers to on the stack.
 fn visit(
     alloc: Global,
     cell: &Cell,
     place: &Place,
     gathered: &mut Gathered,
-    stack: &mut Vec<Item>,
+    stack: &mut Vec<Frame>,
 ) -> Result<(), AllocError>
-    requires { All IsReady cell.now.copies }
+    requires place { IsMotionWithin (2 ^ 61) place.now }
+    requires points { All (λ o. ArePointsWithin (2 ^ 61) o.points) cell.now.outlines }
     ensures gathered { OnOk result (Gathers cell.now.outlines (image place.now) gathered.old.loops.items gathered.new.loops.items gathered.old.far gathered.new.far) }
-    ensures put { OnOk result (Puts (AreOf cell.now.copies) place.now stack.old.items stack.new.items) }
+    ensures put { OnOk result (stack.new.items ≡ stack.old.items ++ map (frame_of place.now) cell.now.copies) }
 {
-    if place.dx().unsigned_abs() > REACH || place.dy().unsigned_abs() > REACH {
-        return Err(AllocError);
-    }
     gather_all(alloc, place, cell.outlines.items(), gathered)?;
     put_all(place, cell.copies.items(), stack)?;
+    Ok(())
+}
+
+/// What is left behind a frame's copy.
+fn next_of(frame: Frame) -> Option<Frame>
+    requires small { IsReady frame.copies }
+    requires frame { IsFrame frame }
+    ensures { IsNext frame result }
+{
+    if frame.row + 1 < frame.copies.rows {
+        return Some(Frame {
+            row: frame.row + 1,
+            ..frame
+        });
+    }
+    if frame.column + 1 < frame.copies.columns {
+        return Some(Frame {
+            column: frame.column + 1,
+            row: 0,
+            ..frame
+        });
+    }
+    None
+}
+
+/// Puts back what is left behind a frame's copy.
+fn put_next(frame: Frame, stack: &mut Vec<Frame>) -> Result<(), AllocError>
+    requires small { IsReady frame.copies }
+    requires frame { IsFrame frame }
+    ensures { OnOk result ((next : Option Frame) × IsNext frame next × (stack.new.items ≡ stack.old.items ++ option_to_list next)) }
+{
+    if let Some(next) = next_of(frame) {
+        stack.push(next)?;
+    }
     Ok(())
 }
 
 /// Goes through all placements below a structure.
 pub(crate) fn walk_from(alloc: Global, cells: &[Cell], top: u32) -> Result<Gathered, AllocError>
     requires known { AreKnown cells.now }
+    requires deep { AreDeep cells.now top }
+    requires few { length cells.now ≤ 2 ^ 26 }
     requires top { top < length cells.now }
     ensures { IfOk result (λ g. IsWalk cells.now top g.loops.items g.far) }
 {
@@ -241,16 +229,19 @@ pub(crate) fn walk_from(alloc: Global, cells: &[Cell], top: u32) -> Result<Gathe
         far: None,
     };
     let mut stack = Vec::new(alloc);
-    stack.push(Item {
-        structure: top,
-        place: Place::unit(),
-    })?;
-    for _ in 0..u64::MAX {
-        let Some(item) = stack.pop() else {
-            return Ok(gathered);
-        };
-        let cell = &cells[item.structure as usize];
-        visit(alloc, cell, &item.place, &mut gathered, &mut stack)?;
+    let start = Place::unit();
+    visit(
+        alloc,
+        &cells[top as usize],
+        &start,
+        &mut gathered,
+        &mut stack,
+    )?;
+    while let Some(frame) = stack.pop() {
+        put_next(frame, &mut stack)?;
+        let place = place_of(&frame);
+        let cell = &cells[frame.copies.target as usize];
+        visit(alloc, cell, &place, &mut gathered, &mut stack)?;
     }
-    Err(AllocError)
+    Ok(gathered)
 }

@@ -1,3 +1,4 @@
+pub mod Sizes
 pub mod Parts
 pub mod Cover
 pub mod Apart

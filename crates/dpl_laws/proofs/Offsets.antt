@@ -15,15 +15,15 @@ use Rattle.dpl_format.specs.Layout.{Holds}
 
 -- ---- where a record lies
 
-if_ok : (b : Bool) (f : Fault) (y : Result Record Fault) (r : Record) → (if b then Err f else y) ≡ Ok r → (b ≡ false) × (y ≡ Ok r)
+pub if_ok : (b : Bool) (f : Fault) (y : Result Record Fault) (r : Record) → (if b then Err f else y) ≡ Ok r → (b ≡ false) × (y ≡ Ok r)
 if_ok true f y r e = absurd cc
 if_ok false f y r e = (refl, e)
 
-not_first : (b c : Bool) → b || c ≡ false → b ≡ false
+pub not_first : (b c : Bool) → b || c ≡ false → b ≡ false
 not_first true c e = e
 not_first false c e = refl
 
-checked-place : (bytes : List ℕ) (at len : ℕ) (form : Option Form) (r : Record) → checked bytes at len form ≡ Ok r → (r.at ≡ at) × (r.next ≡ at + len)
+pub checked-place : (bytes : List ℕ) (at len : ℕ) (form : Option Form) (r : Record) → checked bytes at len form ≡ Ok r → (r.at ≡ at) × (r.next ≡ at + len)
 checked-place bytes at len None r e = absurd cc
 checked-place bytes at len (Some form) r e =
     let made : Record = record { at = at; next = at + len; kind = slice_index bytes (at + 2); body = slice_range bytes (at + 4) (at + len) } in

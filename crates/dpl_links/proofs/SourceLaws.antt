@@ -1,5 +1,5 @@
 -- Marks of entered vertices, and the vertices that have none.
-use Rattle.std.proofs.Common.{◌≡◌, ℕ, ◌+◌, ◌<◌, ◌≤◌, ◌⊎◌, inl, inr, ⊎_elim, Bool, true, false, cond, List, [], ◌∷◌, ◌++◌, length, get_or, replicate, refl, sym, ap, ◌∙◌, arith, length-append}
+use Rattle.std.proofs.Common.{◌≡◌, ℕ, ◌+◌, ◌<◌, ◌≤◌, ◌⊎◌, inl, inr, ⊎_elim, Bool, true, false, cond, List, [], ◌∷◌, ◌++◌, length, get_or, replicate, sym, ap, ◌∙◌, arith}
 use Rattle.std.proofs.lemmas.Bool.{cases_lt}
 use Rattle.std.proofs.lemmas.List.{get_or_past, get_or_default, length-replicate}
 use Rattle.std.proofs.lemmas.List.Elements.{Contains-append_left, Contains-push, Contains-push_cases}
@@ -9,7 +9,7 @@ use Rattle.std.specs.Prelude.{◌↔◌}
 use Rattle.dpl_spec.proofs.Ordered.{Contains-nil}
 use Rattle.dpl_links.specs.Graph.{LeadsTo, targets_at, IsMarked}
 use Rattle.dpl_links.specs.Marks.{Marks}
-use Rattle.dpl_links.specs.Sources.{IsEntered, IsSource, AreSources, AreUnmarked}
+use Rattle.dpl_links.specs.Sources.{IsEntered, AreSources, AreUnmarked}
 use Rattle.dpl_links.proofs.MarkLaws.{Marks-then, Marks-start}
 use Rattle.dpl_links.proofs.SpreadLaws.{none_marked}
 

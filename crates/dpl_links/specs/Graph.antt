@@ -1,5 +1,5 @@
 -- Graphs of numbered vertices, each with the list of those to which it leads.
-use Rattle.std.specs.Prelude.{◌≡◌, ℕ, ◌<◌, ◌≤◌, true, false, Bool, List, [], length, slice_index, slice_index_or}
+use Rattle.std.specs.Prelude.{◌≡◌, ℕ, ◌<◌, true, false, Bool, List, [], length, slice_index_or}
 use Rattle.std.specs.List.{Contains}
 
 -- the targets of vertex k

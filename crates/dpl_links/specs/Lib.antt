@@ -1,4 +1,5 @@
 pub mod Graph
 pub mod Marks
-pub mod Levels
+pub mod Order
+pub mod Parts
 pub mod Sources

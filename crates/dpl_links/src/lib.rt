@@ -6,7 +6,7 @@ mod order;
 mod reached;
 mod sources;
 
-pub use crate::levels::{always_falls, find_levels, is_on_cycle};
-pub use crate::order::{by_level, slot_at};
+pub use crate::levels::find_levels;
+pub use crate::order::{Order, find_order};
 pub use crate::reached::reach;
 pub use crate::sources::find_sources;

@@ -1,4 +1,4 @@
-use Rattle.dpl_flatten.proofs.ReachLaws.{levelled_of}
+use Rattle.dpl_flatten.proofs.ReachLaws.{linked_of}
 use Rattle.dpl_flatten.proofs.flatten.Goals as goal
 
 pub reach-requires-clause-graph : goal.reach-requires-clause-graph
@@ -6,16 +6,14 @@ reach-requires-clause-graph c = rw c.as_slice.ensures.value c.in_ok-graph.ensure
 
 pub find_faults-requires-clause-links : goal.find_faults-requires-clause-links
 find_faults-requires-clause-links c =
-    rw (c.as_slice-4.ensures.value, c.as_slice-5.ensures.value, c.as_slice-6.ensures.value)
-    (levelled_of c.args.lib.now c.in_ok-graph.graph.items c.args.top c.in_ok-marks.marks.items c.in_ok-levels.levels.items
+    rw (c.as_slice-2.ensures.value, c.as_slice-3.ensures.value)
+    (linked_of c.args.lib.now c.in_ok-graph.graph.items c.args.top c.in_ok-marks.marks.items
     c.in_ok-graph.ensures.graph
-    (rw c.as_slice.ensures.value at c.in_ok-marks.ensures)
-    (rw (c.as_slice-2.ensures.value, c.as_slice-3.ensures.value) at c.in_ok-levels.ensures))
+    (rw c.as_slice.ensures.value at c.in_ok-marks.ensures))
 
 pub place_all-requires-clause-links : goal.place_all-requires-clause-links
 place_all-requires-clause-links c =
-    rw (c.as_slice-4.ensures.value, c.as_slice-5.ensures.value, c.as_slice-6.ensures.value)
-    (levelled_of c.args.lib.now c.in_ok-graph.graph.items c.args.top c.in_ok-marks.marks.items c.in_ok-levels.levels.items
+    rw (c.as_slice-2.ensures.value, c.as_slice-3.ensures.value)
+    (linked_of c.args.lib.now c.in_ok-graph.graph.items c.args.top c.in_ok-marks.marks.items
     c.in_ok-graph.ensures.graph
-    (rw c.as_slice.ensures.value at c.in_ok-marks.ensures)
-    (rw (c.as_slice-2.ensures.value, c.as_slice-3.ensures.value) at c.in_ok-levels.ensures))
+    (rw c.as_slice.ensures.value at c.in_ok-marks.ensures))

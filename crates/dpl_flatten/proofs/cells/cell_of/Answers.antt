@@ -1,9 +1,12 @@
 use Rattle.dpl_format.specs.Tree.{elements_at}
-use Rattle.dpl_flatten.proofs.CellLaws.{cell_none, cell_seen, cell_all}
+use Rattle.dpl_flatten.proofs.CellLaws.{cell_none, cell_seen, cell_all, taken_here}
 use Rattle.dpl_flatten.proofs.cells.cell_of.Goals as goal
 
 pub loop-element-init : goal.loop-element-init
 loop-element-init c = rw (c.new-outlines.ensures.items, c.new-copies.ensures.items) (cell_none c.args.lib.now c.args.chosen)
+
+pub note_element-requires-clause-taken : goal.note_element-requires-clause-taken
+note_element-requires-clause-taken c = taken_here c.args.chosen c.elements-element-items.result.now (elements_at c.args.lib.now c.args.structure) c.loop-element.element-index _ c.elements-element-items.ensures.same c.loop-element-test.true c.requires.taken
 
 pub loop-element-preserved : goal.loop-element-preserved
 loop-element-preserved c =

@@ -1,6 +1,6 @@
-use Rattle.std.proofs.Common.{rules, arith, ◌≡◌}
+use Rattle.std.proofs.Common.{rules, arith}
 use Rattle.std.specs.Prelude.{FitsSigned}
-use Rattle.std.specs.Int.{w16, w64}
+use Rattle.std.specs.Int.{w16}
 use Rattle.std.proofs.lemmas.Int.{ints, to_z-of_z}
 use Rattle.dpl_flatten.proofs.copies.array_copies.Goals as goal
 
@@ -13,9 +13,9 @@ returns-clause-copies c =
     let wide = simp to_z-of_z at c.unsigned_abs.ensures.value in
     let tall = simp to_z-of_z at c.unsigned_abs-2.ensures.value in
     record {
-      reflect = c.in_ok-turn.ensures.reflect;
-      turns = c.in_ok-turn.ensures.turns;
-      few = c.in_ok-turn.ensures.few;
+      reflect = c.own_turn-turn.ensures.reflect;
+      turns = c.own_turn-turn.ensures.turns;
+      few = c.own_turn-turn.ensures.few;
       origin = c.point_at-origin.ensures.value;
       across = rw (c.point_at-origin.ensures.value, c.point_at.ensures.value) at across;
       up = rw (c.point_at-origin.ensures.value, c.point_at-2.ensures.value) at up;
@@ -23,9 +23,11 @@ returns-clause-copies c =
       rows = tall;
       small = record {
         origin = c.point_at-origin.ensures.within;
-        across = c.spacing-across.ensures.within;
-        up = c.spacing-up.ensures.within;
+        across = rw wide (simp to_z-of_z at c.spacing-across.ensures.within);
+        up = rw tall (simp to_z-of_z at c.spacing-up.ensures.within);
         columns = omega (arith, ints, c.unsigned_abs.ensures.bound);
         rows = omega (arith, ints, c.unsigned_abs-2.ensures.bound);
+        some_columns = omega (arith, ints, wide, c.requires.columns);
+        some_rows = omega (arith, ints, tall, c.requires.rows);
       };
     }

@@ -1,8 +1,8 @@
-use Rattle.std.proofs.Common.{rules, arith, ◌≡◌}
-use Rattle.std.specs.Prelude.{FitsSigned, ◌-ℤ◌, int_div}
+use Rattle.std.proofs.Common.{rules, arith}
+use Rattle.std.specs.Prelude.{FitsSigned, ◌-ℤ◌}
 use Rattle.std.specs.Int.{w16, w64}
 use Rattle.std.proofs.lemmas.Int.{ints, to_z-of_z}
-use Rattle.dpl_flatten.proofs.CopyLaws.{quot_small}
+use Rattle.dpl_flatten.proofs.CopyLaws.{quot_times}
 use Rattle.dpl_flatten.proofs.copies.part.Goals as goal
 
 pub returns-clause-value : goal.returns-clause-value
@@ -22,4 +22,6 @@ returns-clause-within c =
     let b : FitsSigned w64 c.args.to = search rules in
     let d : FitsSigned w64 (c.args.to -ℤ c.args.from) = search (arith, ints) in
     let e = simp to_z-of_z at c.share.ensures.value in
-    rw e (omega (arith, ints, quot_small (c.args.to -ℤ c.args.from) c.args.count, c.requires.from, c.requires.to))
+    let r : FitsSigned w64 c.share.result = search rules in
+    let q = quot_times (c.args.to -ℤ c.args.from) c.args.count in
+    simp to_z-of_z (rw e (omega (arith, ints, q, c.requires.from, c.requires.to)))

@@ -1,4 +1,4 @@
-use Rattle.std.proofs.Common.{◌≡◌, ◌<◌, ◌≤◌, min, length, get_or, arith, ◌∙◌}
+use Rattle.std.proofs.Common.{◌≡◌, ◌<◌, min, length, arith, ◌∙◌}
 use Rattle.std.proofs.lemmas.List.{get_or_default}
 use Rattle.dpl_layout.specs.Points.{placed_points}
 use Rattle.dpl_flatten.specs.Totals.{ceiling}

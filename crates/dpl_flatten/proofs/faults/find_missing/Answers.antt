@@ -1,5 +1,5 @@
 use Rattle.dpl_layout.specs.Faults.{IsMissing}
-use Rattle.dpl_flatten.proofs.FoundLaws.{first_of, nowhere_of, marks_each}
+use Rattle.dpl_flatten.proofs.FoundLaws.{first_of, nowhere_of}
 use Rattle.dpl_flatten.proofs.faults.find_missing.Goals as goal
 
 pub returns-in-Some-clause-fault : goal.returns-in-Some-clause-fault

@@ -1,4 +1,4 @@
-use Rattle.std.proofs.Common.{◌≡◌, take, get_or, length, ◌∙◌, sym, arith}
+use Rattle.std.proofs.Common.{arith}
 use Rattle.dpl_flatten.proofs.LinkLaws.{AreRows-more, AreRows-all, graph_known}
 use Rattle.dpl_flatten.specs.Links.{IsGraphOf}
 use Rattle.dpl_flatten.proofs.links.graph_of.Goals as goal

@@ -1,4 +1,4 @@
-use Rattle.std.proofs.Common.{ℕ, take}
+use Rattle.std.proofs.Common.{take}
 use Rattle.dpl_flatten.proofs.LinkLaws.{AreTargets}
 use Rattle.dpl_flatten.proofs.links.targets.Given as goal
 

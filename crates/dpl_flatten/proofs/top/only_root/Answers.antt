@@ -1,4 +1,4 @@
-use Rattle.std.proofs.Common.{refl, arith}
+use Rattle.std.proofs.Common.{refl}
 use Rattle.dpl_flatten.proofs.LinkLaws.{roots_none, roots_one, root_known}
 use Rattle.dpl_flatten.proofs.top.only_root.Goals as goal
 

@@ -1,6 +1,6 @@
-use Rattle.std.proofs.Common.{take}
-use Rattle.dpl_flatten.specs.Walk.{Puts, AreOf}
+use Rattle.std.proofs.Common.{◌≡◌, ◌++◌, map, take}
+use Rattle.dpl_flatten.specs.Walk.{frame_of}
 use Rattle.dpl_flatten.proofs.walk.put_all.Given as goal
 
 abbrev pub invariant-loop-array : goal.invariant-loop-array
-invariant-loop-array l = Puts (AreOf (take l.array-index l.copies)) l.place l.initial.stack.items l.stack.items
+invariant-loop-array l = l.stack.items ≡ l.initial.stack.items ++ map (frame_of l.place) (take l.array-index l.copies)

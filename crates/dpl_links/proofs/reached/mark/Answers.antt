@@ -1,6 +1,6 @@
 use Rattle.std.proofs.Common.{◌≡◌, false, get_or, sym, ◌∙◌}
 use Rattle.std.proofs.lemmas.List.{get_or_default}
-use Rattle.dpl_links.proofs.MarkLaws.{Marks-none, Marks-one}
+use Rattle.dpl_links.proofs.MarkLaws.{Marks-one}
 use Rattle.dpl_links.proofs.reached.mark.Goals as goal
 
 pub returns : goal.returns

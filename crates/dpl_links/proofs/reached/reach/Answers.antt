@@ -1,4 +1,4 @@
-use Rattle.std.proofs.Common.{◌≡◌, ◌<◌, length, get_or, arith}
+use Rattle.std.proofs.Common.{◌<◌, length, get_or, arith}
 use Rattle.std.proofs.lemmas.List.Elements.{Contains-get_or}
 use Rattle.dpl_links.specs.Graph.{targets_at}
 use Rattle.dpl_links.proofs.SpreadLaws.{Spread-start, Spread-more, Spread-all, noted_below, targets_are}
