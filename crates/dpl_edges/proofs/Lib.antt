@@ -1,3 +1,4 @@
-pub mod Adding
-pub mod Slabs
-pub mod Orders
+pub mod Windows
+pub mod Searches
+pub mod Gathering
+pub mod Conflicts

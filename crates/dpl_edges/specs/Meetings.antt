@@ -1,24 +1,57 @@
 -- Edges between pieces, found slab by slab.
-use Rattle.std.specs.Prelude.{◌≡◌, ◌≢◌, ℕ, ◌<◌, ◌⊎◌, ◌↔◌, List, slice_index}
+use Rattle.std.specs.Prelude.{◌≡◌, ◌≢◌, ◌⊎◌, ℕ, ◌<◌, ◌≤◌, ℤ, ◌≤ℤ◌, ◌<ℤ◌, ◌+ℤ◌, pos, List, length, slice_index}
 use Rattle.std.specs.List.{Contains}
 use Rattle.dpl_spec.specs.declared.Rect.{Rect}
-use Rattle.dpl_spec.specs.Squares.{AreNear, Has}
-use Rattle.dpl_tree.specs.declared.tree.Node.{Node}
-use Rattle.dpl_tree.specs.Trees.{HasLeaf}
+use Rattle.dpl_spec.specs.Squares.{Region, AreNear, Has}
+use Rattle.dpl_spec.specs.Loops.{farthest}
+use Rattle.dpl_spec.specs.Zones.{part_at}
+use Rattle.dpl_edges.specs.InCells.{in_cell}
 
--- the new list has the old edges, those of a kind, and no other
-abbrev pub AddsEdges : (ℕ × ℕ → Type 0) → List (ℕ × ℕ) → List (ℕ × ℕ) → Type 0
-AddsEdges Kind old new = (e : ℕ × ℕ) → Contains new e ↔ (Contains old e ⊎ Kind e)
-
--- pieces i and k have different owners, and slab s of the one is near slab r of the other
+-- pieces i and k have different owners, and rectangle s of the one is near slab r of the other
 pub record AreMeeting (rule : ℕ) (owners : List ℕ) (i : ℕ) (s : Rect) (k : ℕ) (r : Rect) : Type 0 where
   pub apart : slice_index owners i ≢ slice_index owners k
   pub near : AreNear rule (Has s) (Has r)
 
--- the edge of piece i and a later one, of which some slab is near slab s of piece i
-abbrev pub IsSlabEdge : ℕ → List ℕ → List Node → ℕ → Rect → ℕ × ℕ → Type 0
-IsSlabEdge rule owners nodes i s e = (r : Rect) × (k : ℕ) × (i < k) × (e ≡ (i, k)) × HasLeaf nodes r k × AreMeeting rule owners i s k r
+-- piece k is of another owner than i, and near a set of squares of i
+pub record IsNearPiece (rule : ℕ) (pieces : List (List Rect)) (owners : List ℕ) (i : ℕ) (a : Region) (k : ℕ) : Type 0 where
+  pub known : k < length pieces
+  pub apart : slice_index owners i ≢ slice_index owners k
+  pub near : AreNear rule a (part_at pieces k)
 
--- the same for some slab of piece i
-abbrev pub IsPieceEdge : ℕ → List ℕ → List Node → ℕ → List Rect → ℕ × ℕ → Type 0
-IsPieceEdge rule owners nodes i slabs e = (s : Rect) × Contains slabs s × IsSlabEdge rule owners nodes i s e
+-- the two numbers, the smaller first
+abbrev pub IsEnds : ℕ → ℕ → ℕ × ℕ → Type 0
+IsEnds i k e = ((i < k) × (e ≡ (i, k))) ⊎ ((k ≤ i) × (e ≡ (k, i)))
+
+-- an edge of i and some number of the list
+abbrev pub IsEndsOfAny : ℕ → List ℕ → ℕ × ℕ → Type 0
+IsEndsOfAny i ks e = (k : ℕ) × Contains ks k × IsEnds i k e
+
+-- an edge of piece i, found by its slab r in the cell
+abbrev pub IsSlabEdge : ℕ → List (List Rect) → List ℕ → Rect → ℕ → Rect → ℕ × ℕ → Type 0
+IsSlabEdge rule pieces owners cell i r e = (k : ℕ) × IsNearPiece rule pieces owners i (in_cell cell (Has r)) k × IsEnds i k e
+
+-- the greater of two coordinates
+pub record IsGreater (a b n : ℤ) : Type 0 where
+  pub first : a ≤ℤ n
+  pub second : b ≤ℤ n
+  pub least : (i : ℤ) → a ≤ℤ i → b ≤ℤ i → n ≤ℤ i
+
+-- the smaller of two coordinates
+pub record IsSmaller (a b n : ℤ) : Type 0 where
+  pub first : n ≤ℤ a
+  pub second : n ≤ℤ b
+  pub greatest : (i : ℤ) → i ≤ℤ a → i ≤ℤ b → i ≤ℤ n
+
+-- some square is in both
+pub record HaveCommon (a b : Rect) : Type 0 where
+  pub left : a.x0 <ℤ b.x1
+  pub right : b.x0 <ℤ a.x1
+  pub low : a.y0 <ℤ b.y1
+  pub high : b.y0 <ℤ a.y1
+
+-- the rectangle has all squares of a layer
+pub record IsWhole (r : Rect) : Type 0 where
+  pub left : (r.x0 +ℤ pos farthest) ≤ℤ pos 0
+  pub right : pos farthest ≤ℤ r.x1
+  pub low : (r.y0 +ℤ pos farthest) ≤ℤ pos 0
+  pub high : pos farthest ≤ℤ r.y1

@@ -1,33 +1,70 @@
 //! The conflict graph of the pieces of a layer: pieces of different features that lie closer than a rule.
 #![tactic(auto)]
 
-ghost use Rattle.std.specs.Prelude.{◌≡◌, ℕ, ◌<◌, IfOk, length};
+ghost use Rattle.std.specs.Prelude.{ℕ, ◌<◌, IfOk, length};
 ghost use Rattle.std.specs.List.{All};
 ghost use Rattle.dpl_spec.specs.Graphs.{AreEdges};
 ghost use Rattle.dpl_spec.specs.Pieces.{Conflict};
+ghost use Rattle.dpl_spec.specs.Slabs.{IsSolid};
+ghost use Rattle.dpl_slabs.specs.Parts.{AreParts};
+ghost use Rattle.dpl_edges.specs.InCells.{AreEdgesOf, ConflictIn};
+ghost use Rattle.dpl_edges.specs.Meetings.{IsWhole};
 
-mod meet;
+mod gather;
+mod laws;
+mod near;
 #[cfg(test)]
 mod tests;
 
-use crate::meet::meetings;
-use dpl_base::{Edge, Id};
-use dpl_slabs::Parts;
+use crate::gather::edges_in;
+pub use crate::laws::tiles_make_the_graph;
+use dpl_base::{Edge, FARTHEST, Rect};
+use dpl_tile::Plan;
 use std::alloc::{AllocError, Global};
 
-/// The conflicts of pieces, smaller number first, in order, each once: two pieces of different owners conflict where some square of one lies closer than `rule` database units to some square of the other. The distance of two squares is that of the closed squares, as the crow flies.
-pub fn conflicts(
-    alloc: Global,
-    parts: &Parts,
-    owner: &[Id],
-    rule: u32,
-) -> Result<Vec<Edge>, AllocError>
-    requires { length owner.now ≡ length parts.now }
-    ensures edges { IfOk result (λ v. AreEdges (Conflict rule parts.now owner.now) v.items) }
-    ensures below { IfOk result (λ v. All (λ (e : ℕ × ℕ). (e.0 < e.1) × (e.1 < length parts.now)) v.items) }
+/// The edges that a cell finds, in order, each once.
+fn sorted_edges(alloc: Global, plan: &Plan, cell: &Rect) -> Result<Vec<Edge>, AllocError>
+    requires { IsSolid cell.now }
+    ensures parts { AreParts plan.now.parts }
+    ensures edges { IfOk result (λ v. AreEdges (ConflictIn plan.now.rule plan.now.parts plan.now.owners cell.now) v.items) }
+    ensures below { IfOk result (λ v. All (λ (e : ℕ × ℕ). (e.0 < e.1) × (e.1 < length plan.now.parts)) v.items) }
 {
-    let mut edges = meetings(alloc, parts.items(), owner, rule)?;
+    let mut edges = edges_in(alloc, plan, cell)?;
     edges.sort_unstable();
     edges.dedup();
+    Ok(edges)
+}
+
+/// The squares of every layer.
+fn whole() -> Rect
+    ensures whole { IsWhole result }
+    ensures solid { IsSolid result }
+{
+    Rect {
+        x0: -FARTHEST,
+        y0: -FARTHEST,
+        x1: FARTHEST,
+        y1: FARTHEST,
+    }
+}
+
+/// The conflicts that a tile finds, smaller number first, in order, each once: two pieces of different owners, of which some square of one in the tile's cell lies closer than the plan's rule, in database units, to some square of the other, wherever that is. The distance of two squares is that of the closed squares, as the crow flies.
+pub fn edges_of(alloc: Global, plan: &Plan, tile: u32) -> Result<Vec<Edge>, AllocError>
+    requires { tile < length plan.now.cells }
+    ensures edges { IfOk result (λ v. AreEdgesOf plan.now tile v.items) }
+    ensures below { IfOk result (λ v. All (λ (e : ℕ × ℕ). (e.0 < e.1) × (e.1 < length plan.now.parts)) v.items) }
+{
+    let cell = plan.cell(tile);
+    let edges = sorted_edges(alloc, plan, &cell)?;
+    Ok(edges)
+}
+
+/// All conflicts of a plan's pieces, smaller number first, in order, each once: two pieces of different owners conflict where some square of one lies closer than the plan's rule to some square of the other.
+pub fn all_edges(alloc: Global, plan: &Plan) -> Result<Vec<Edge>, AllocError>
+    ensures edges { IfOk result (λ v. AreEdges (Conflict plan.now.rule plan.now.parts plan.now.owners) v.items) }
+    ensures below { IfOk result (λ v. All (λ (e : ℕ × ℕ). (e.0 < e.1) × (e.1 < length plan.now.parts)) v.items) }
+{
+    let cell = whole();
+    let edges = sorted_edges(alloc, plan, &cell)?;
     Ok(edges)
 }

@@ -2,10 +2,11 @@
 ghost use Rattle.std.specs.Prelude.{◌≤◌, ◌<ℤ◌, IsTrue, unsigned_abs};
 ghost use Rattle.dpl_spec.specs.Loops.{farthest};
 
-use crate::conflicts;
+use crate::{all_edges, edges_of};
 use dpl_base::{Edge, FARTHEST, Id, Rect};
 use dpl_feature::features;
 use dpl_slabs::Slabs;
+use dpl_tile::plan;
 use std::alloc::{AllocError, Global};
 use std::test::Fail;
 
@@ -87,8 +88,40 @@ fn finds_the_conflicts(rt: HostRuntime) -> Result<(), Fail> {
         let set = set_of(rt.alloc(), rects)?;
         let pieces = features(rt.alloc(), &set)?;
         assert!(rt; pieces.items().len() == owner.len());
-        let found = conflicts(rt.alloc(), &pieces, owner, 30)?;
+        let plan = plan(rt.alloc(), &pieces, owner, 30, 16)?;
+        let found = all_edges(rt.alloc(), &plan)?;
         assert!(rt; found.as_slice() == want);
     }
+    Ok(())
+}
+
+/// Whether the cell of one square is one of four that are near the other piece.
+fn is_near_the_other(cell: &Rect) -> bool {
+    if cell.y0 == 9 {
+        return cell.x0 == 8 || cell.x0 == 9;
+    }
+    cell.y0 == 33 && (cell.x0 == 28 || cell.x0 == 29)
+}
+
+#[test]
+fn tiles_find_their_conflicts(rt: HostRuntime) -> Result<(), Fail> {
+    let set = set_of(rt.alloc(), &[(0, 0, 10, 10), (28, 33, 38, 43)])?;
+    let pieces = features(rt.alloc(), &set)?;
+    assert!(rt; pieces.items().len() == 2);
+    let plan = plan(rt.alloc(), &pieces, &[0, 1], 30, 1)?;
+    assert!(rt; plan.tiles() == 200);
+    let edge: [Edge; 1] = [(0, 1)];
+    let mut near = 0u32;
+    for tile in 0..plan.tiles() {
+        let found = edges_of(rt.alloc(), &plan, tile)?;
+        let cell = plan.cell(tile);
+        if is_near_the_other(&cell) {
+            assert!(rt; found.as_slice() == edge.as_slice());
+            near = near.wrapping_add(1);
+        } else {
+            assert!(rt; found.is_empty());
+        }
+    }
+    assert!(rt; near == 4);
     Ok(())
 }

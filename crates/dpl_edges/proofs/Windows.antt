@@ -1,0 +1,137 @@
+-- What a window leaves out.
+use Rattle.std.proofs.Common.{ℕ, ◌*◌, ◌<◌, ◌≤◌, inl, inr, List, [], get_or, length, subst, arith}
+use Rattle.std.specs.Prelude.{◌↔◌, ℤ, ◌+ℤ◌, ◌-ℤ◌, pos, ◌≤ℤ◌, ◌<ℤ◌}
+use Rattle.std.specs.List.{Contains}
+use Rattle.std.proofs.lemmas.Int.{ints, by_lt_z}
+use Rattle.dpl_spec.specs.declared.Pt.{Pt}
+use Rattle.dpl_spec.specs.declared.Rect.{Rect}
+use Rattle.dpl_spec.specs.Squares.{AreNear, Has, IsSolidWithin, gap}
+use Rattle.dpl_spec.specs.Slabs.{IsSolid, IsCanonical}
+use Rattle.dpl_spec.specs.Loops.{farthest, AreRectsWithin, IsRectWithin}
+use Rattle.dpl_slabs.specs.Parts.{AreParts}
+use Rattle.dpl_tree.specs.Trees.{LiesApart}
+use Rattle.dpl_tree.specs.Windows.{IsWidened}
+use Rattle.dpl_edges.specs.InCells.{in_cell}
+use Rattle.dpl_edges.specs.Meetings.{HaveCommon, IsGreater, IsSmaller}
+
+square_up : (m n : ℕ) → m ≤ n → m * m ≤ n * n
+square_up m n a = grind arith
+
+-- what has no square in a window that is wider by the rule isn't near
+pub apart-far : (rule : ℕ) (slab window r : Rect) → IsWidened slab rule window → LiesApart window r → AreNear rule (Has slab) (Has r) → ⊥
+apart-far rule slab window r wide (inl h) (p, q, a, b, near) =
+    let w = wide.left in
+    let l = a.left in
+    let m = b.right in
+    let g = square_up rule (gap p.x q.x) (omega (arith, ints, w, h, l, m)) in
+    omega (arith, g, near)
+apart-far rule slab window r wide (inr (inl h)) (p, q, a, b, near) =
+    let w = wide.right in
+    let l = a.right in
+    let m = b.left in
+    let g = square_up rule (gap p.x q.x) (omega (arith, ints, w, h, l, m)) in
+    omega (arith, g, near)
+apart-far rule slab window r wide (inr (inr (inl h))) (p, q, a, b, near) =
+    let w = wide.low in
+    let l = a.low in
+    let m = b.high in
+    let g = square_up rule (gap p.y q.y) (omega (arith, ints, w, h, l, m)) in
+    omega (arith, g, near)
+apart-far rule slab window r wide (inr (inr (inr h))) (p, q, a, b, near) =
+    let w = wide.high in
+    let l = a.high in
+    let m = b.low in
+    let g = square_up rule (gap p.y q.y) (omega (arith, ints, w, h, l, m)) in
+    omega (arith, g, near)
+
+-- rectangles that lie apart have no square in common
+pub apart-none : (window r : Rect) (p : Pt) → LiesApart window r → Has r p → Has window p → ⊥
+apart-none window r p (inl h) a b = let l = a.right in let m = b.left in omega (arith, ints, h, l, m)
+apart-none window r p (inr (inl h)) a b = let l = a.left in let m = b.right in omega (arith, ints, h, l, m)
+apart-none window r p (inr (inr (inl h))) a b = let l = a.high in let m = b.low in omega (arith, ints, h, l, m)
+apart-none window r p (inr (inr (inr h))) a b = let l = a.low in let m = b.high in omega (arith, ints, h, l, m)
+
+by_test : (i j : ℤ) → (i ≤ℤ j → ⊥) → j <ℤ i
+by_test i j none = by_lt_z j i (λ l. l) (λ l. absurd (none l))
+
+-- and those that don't have some
+pub common-free : (window r : Rect) → (LiesApart window r → ⊥) → HaveCommon window r
+common-free window r free =
+    record {
+      left = by_test r.x1 window.x0 (λ l. free (inl l));
+      right = by_test window.x1 r.x0 (λ l. free (inr (inl l)));
+      low = by_test r.y1 window.y0 (λ l. free (inr (inr (inl l))));
+      high = by_test window.y1 r.y0 (λ l. free (inr (inr (inr l))));
+    }
+
+pub slab-within : (parts : List (List Rect)) (k : ℕ) (r : Rect) → AreParts parts → k < length parts → Contains (get_or parts k []) r → IsSolidWithin farthest r
+slab-within parts k r h k_in c =
+    let canonical : IsCanonical (get_or parts k []) = h.canonical k [] k_in in
+    let within : AreRectsWithin farthest (get_or parts k []) = h.within k [] k_in in
+    let (m, m_in, is) = c in
+    let solid : IsSolid r = subst (λ u. IsSolid u) is (canonical.solid m r m_in) in
+    let w : IsRectWithin farthest r = within r c in
+    record { wide = solid.wide; tall = solid.tall; left = w.left; right = w.right; low = w.low; high = w.high }
+
+module _ (r cell : Rect) (x0 y0 x1 y1 : ℤ) (left : IsGreater r.x0 cell.x0 x0) (low : IsGreater r.y0 cell.y0 y0) (right : IsSmaller r.x1 cell.x1 x1) (high : IsSmaller r.y1 cell.y1 y1) where
+  -- the squares of both
+  pub clip-squares : (p : Pt) → Has (record { x0 = x0; y0 = y0; x1 = x1; y1 = y1 }) p ↔ in_cell cell (Has r) p
+  clip-squares p = (
+    λ h. (
+        let a = h.left in
+        let b = h.right in
+        let c = h.low in
+        let d = h.high in
+        let e = left.first in
+        let f = right.first in
+        let g = low.first in
+        let i = high.first in
+        let j = left.second in
+        let k = right.second in
+        let l = low.second in
+        let m = high.second in (
+          record { left = omega (arith, ints, a, e); right = omega (arith, ints, b, f); low = omega (arith, ints, c, g); high = omega (arith, ints, d, i) },
+          record { left = omega (arith, ints, a, j); right = omega (arith, ints, b, k); low = omega (arith, ints, c, l); high = omega (arith, ints, d, m) },
+        )),
+    λ (h, k). (
+        let a = h.right in
+        let b = k.right in
+        let c = h.high in
+        let d = k.high in
+        let e = right.greatest (p.x +ℤ pos 1) (omega (arith, ints, a)) (omega (arith, ints, b)) in
+        let f = high.greatest (p.y +ℤ pos 1) (omega (arith, ints, c)) (omega (arith, ints, d)) in
+        record { left = left.least p.x h.left k.left; right = omega (arith, ints, e); low = low.least p.y h.low k.low; high = omega (arith, ints, f) }),
+  )
+
+  pub clip-solid : IsSolidWithin farthest r → IsSolid cell → HaveCommon cell r → IsSolidWithin farthest (record { x0 = x0; y0 = y0; x1 = x1; y1 = y1 })
+  clip-solid slab solid common =
+      let rc = slab.wide in
+      let rt = slab.tall in
+      let cw = solid.wide in
+      let ct = solid.tall in
+      let cl = common.left in
+      let cr = common.right in
+      let co = common.low in
+      let ch = common.high in
+      let a = right.greatest (r.x0 +ℤ pos 1) (omega (arith, ints, rc)) (omega (arith, ints, cr)) in
+      let b = right.greatest (cell.x0 +ℤ pos 1) (omega (arith, ints, cl)) (omega (arith, ints, cw)) in
+      let w = left.least (x1 -ℤ pos 1) (omega (arith, ints, a)) (omega (arith, ints, b)) in
+      let c = high.greatest (r.y0 +ℤ pos 1) (omega (arith, ints, rt)) (omega (arith, ints, ch)) in
+      let d = high.greatest (cell.y0 +ℤ pos 1) (omega (arith, ints, co)) (omega (arith, ints, ct)) in
+      let t = low.least (y1 -ℤ pos 1) (omega (arith, ints, c)) (omega (arith, ints, d)) in
+      let e = left.first in
+      let f = right.first in
+      let g = low.first in
+      let i = high.first in
+      let j = slab.left in
+      let k = slab.right in
+      let l = slab.low in
+      let m = slab.high in
+      record {
+        wide = omega (arith, ints, w);
+        tall = omega (arith, ints, t);
+        left = omega (arith, ints, e, w, f, j, k);
+        right = omega (arith, ints, e, w, f, j, k);
+        low = omega (arith, ints, g, t, i, l, m);
+        high = omega (arith, ints, g, t, i, l, m);
+      }

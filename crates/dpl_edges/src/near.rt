@@ -1,0 +1,122 @@
+//! Finds the pieces near a rectangle.
+ghost use Rattle.std.specs.Prelude.{◌≡◌, ◌<◌, ◌↔◌, ℕ, IsTrue, IfOk, OnOk, length};
+ghost use Rattle.std.specs.List.{Contains};
+ghost use Rattle.dpl_spec.specs.declared.Pt.{Pt};
+ghost use Rattle.dpl_spec.specs.Loops.{farthest};
+ghost use Rattle.dpl_spec.specs.Slabs.{IsSolid};
+ghost use Rattle.dpl_spec.specs.Squares.{Has, IsSolidWithin};
+ghost use Rattle.dpl_tile.specs.Adding.{Adds};
+ghost use Rattle.dpl_edges.specs.InCells.{in_cell};
+ghost use Rattle.dpl_edges.specs.Meetings.{AreMeeting, HaveCommon, IsGreater, IsNearPiece, IsSmaller};
+
+use dpl_base::{Id, Rect, near};
+use dpl_tile::Plan;
+use dpl_tree::{Node, Owners, widened};
+use smallvec::SmallVec;
+use std::alloc::{AllocError, Global};
+
+/// The greater of two coordinates.
+fn greater(a: i64, b: i64) -> i64
+    ensures { IsGreater a b result }
+{
+    if b <= a { a } else { b }
+}
+
+/// The smaller of two coordinates.
+fn smaller(a: i64, b: i64) -> i64
+    ensures { IsSmaller a b result }
+{
+    if a <= b { a } else { b }
+}
+
+/// The squares of a rectangle in a cell.
+pub fn clipped(r: &Rect, cell: &Rect) -> Rect
+    requires slab { IsSolidWithin farthest r.now }
+    requires cell { IsSolid cell.now }
+    requires common { HaveCommon cell.now r.now }
+    ensures squares { (p : Pt) → Has result p ↔ in_cell cell.now (Has r.now) p }
+    ensures solid { IsSolidWithin farthest result }
+{
+    Rect {
+        x0: greater(r.x0, cell.x0),
+        y0: greater(r.y0, cell.y0),
+        x1: smaller(r.x1, cell.x1),
+        y1: smaller(r.y1, cell.y1),
+    }
+}
+
+/// Whether piece `i` and that of a leaf conflict by a rectangle of piece `i` and the leaf.
+fn meets(node: &Node, part: &Rect, i: usize, owner: &[Id], rule: u32) -> bool
+    requires piece { i < length owner.now }
+    requires other { node.now.least < length owner.now }
+    requires part { IsSolidWithin farthest part.now }
+    requires leaf { IsSolidWithin farthest node.now.bounds }
+    ensures { IsTrue result ↔ AreMeeting rule owner.now i part.now node.now.least node.now.bounds }
+{
+    if owner[i] == owner[node.least] {
+        return false;
+    }
+    near(part, &node.bounds, rule)
+}
+
+/// Adds the piece of a leaf, where it and piece `i` conflict by a rectangle of piece `i` and the leaf.
+fn add_near(
+    found: &mut SmallVec<Id, 8>,
+    node: &Node,
+    part: &Rect,
+    i: usize,
+    owner: &[Id],
+    rule: u32,
+) -> Result<(), AllocError>
+    requires piece { i < length owner.now }
+    requires other { node.now.least < length owner.now }
+    requires part { IsSolidWithin farthest part.now }
+    requires leaf { IsSolidWithin farthest node.now.bounds }
+    ensures { OnOk result (Adds (λ k. (k ≡ node.now.least) × AreMeeting rule owner.now i part.now node.now.least node.now.bounds) found.old.items found.new.items) }
+{
+    if !meets(node, part, i, owner, rule) {
+        return Ok(());
+    }
+    found.push(node.least as Id)?;
+    Ok(())
+}
+
+/// The pieces that conflict with piece `i` by a rectangle of it, each once for each of their slabs.
+fn all_near(
+    alloc: Global,
+    plan: &Plan,
+    part: &Rect,
+    i: usize,
+) -> Result<SmallVec<Id, 8>, AllocError>
+    requires piece { i < length plan.now.parts }
+    requires part { IsSolidWithin farthest part.now }
+    ensures { IfOk result (λ v. (k : ℕ) → Contains v.items k ↔ IsNearPiece plan.now.rule plan.now.parts plan.now.owners i (Has part.now) k) }
+{
+    let tree = plan.tree();
+    let nodes = tree.nodes();
+    let window = widened(part, plan.rule());
+    let mut found = SmallVec::new(alloc);
+    let mut n = tree.seek(0, &window, Owners::But(i));
+    while n < nodes.len() {
+        add_near(&mut found, &nodes[n], part, i, plan.owners(), plan.rule())?;
+        n = tree.seek(n + 1, &window, Owners::But(i));
+    }
+    Ok(found)
+}
+
+/// The pieces that conflict with piece `i` by a rectangle of it, in order, each once.
+pub fn near_pieces(
+    alloc: Global,
+    plan: &Plan,
+    part: &Rect,
+    i: usize,
+) -> Result<SmallVec<Id, 8>, AllocError>
+    requires piece { i < length plan.now.parts }
+    requires part { IsSolidWithin farthest part.now }
+    ensures { IfOk result (λ v. (k : ℕ) → Contains v.items k ↔ IsNearPiece plan.now.rule plan.now.parts plan.now.owners i (Has part.now) k) }
+{
+    let mut found = all_near(alloc, plan, part, i)?;
+    found.sort_unstable();
+    found.dedup();
+    Ok(found)
+}

@@ -1,0 +1,6 @@
+pub mod Adding
+pub mod Tiles
+pub mod Plans
+pub mod Laws
+pub mod Kept
+pub mod Bounds

@@ -1,0 +1,17 @@
+-- Plans: parts, their owners, a rule, and tiles.
+use Rattle.std.specs.Prelude.{◌≡◌, ℕ, List}
+use Rattle.dpl_spec.specs.declared.Rect.{Rect}
+use Rattle.dpl_tile.specs.Tiles.{AreTiles}
+
+pub record Planned : Type 0 where
+  pub parts : List (List Rect)
+  pub owners : List ℕ
+  pub rule : ℕ
+  pub cells : List Rect
+
+-- the plan of these, with the tiles for a side that was asked for
+pub record IsPlan (parts : List (List Rect)) (owners : List ℕ) (rule tile : ℕ) (plan : Planned) : Type 0 where
+  pub of_parts : plan.parts ≡ parts
+  pub of_owners : plan.owners ≡ owners
+  pub of_rule : plan.rule ≡ rule
+  pub tiles : AreTiles parts tile plan.cells

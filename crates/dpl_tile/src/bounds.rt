@@ -1,0 +1,63 @@
+//! The least rectangle round some squares.
+ghost use Rattle.std.specs.Prelude.{◌≡◌, ◌<◌, IsNone, IfSome, None};
+ghost use Rattle.std.specs.List.{fold};
+ghost use Rattle.dpl_spec.specs.declared.Pt.{Pt};
+ghost use Rattle.dpl_slabs.specs.Parts.{AreParts, union_of};
+ghost use Rattle.dpl_tile.specs.Bounds.{smaller, greater, round_one, round_all};
+ghost use Rattle.dpl_tile.specs.Tiles.{IsBounds};
+
+use dpl_base::Rect;
+use dpl_slabs::Slabs;
+
+/// The smaller of two coordinates.
+fn smaller(a: i64, b: i64) -> i64
+    ensures { result ≡ smaller a b }
+{
+    if a <= b { a } else { b }
+}
+
+/// The greater of two coordinates.
+fn greater(a: i64, b: i64) -> i64
+    ensures { result ≡ greater a b }
+{
+    if b <= a { a } else { b }
+}
+
+/// The least rectangle round those before and one more.
+fn round_one(before: Option<Rect>, r: &Rect) -> Option<Rect>
+    ensures { result ≡ round_one before r.now }
+{
+    let Some(b) = before else {
+        return Some(*r);
+    };
+    Some(Rect {
+        x0: smaller(b.x0, r.x0),
+        y0: smaller(b.y0, r.y0),
+        x1: greater(b.x1, r.x1),
+        y1: greater(b.y1, r.y1),
+    })
+}
+
+/// The least rectangle round those before and these.
+fn round_all(before: Option<Rect>, rects: &[Rect]) -> Option<Rect>
+    ensures { result ≡ round_all before rects.now }
+{
+    let mut bounds = before;
+    for r in rects {
+        bounds = round_one(bounds, r);
+    }
+    bounds
+}
+
+/// The least rectangle round the squares of all parts, where they have some.
+pub(crate) fn bounds(parts: &[Slabs]) -> Option<Rect>
+    requires { AreParts parts.now }
+    ensures none { IsNone result → (p : Pt) → union_of parts.now p → ⊥ }
+    ensures some { IfSome result (λ b. IsBounds (union_of parts.now) b) }
+{
+    let mut bounds = None;
+    for part in parts {
+        bounds = round_all(bounds, part.rects());
+    }
+    bounds
+}

@@ -1,0 +1,93 @@
+//! A grid of square cells.
+ghost use Rattle.std.specs.Prelude.{◌≡◌, ◌<◌, ◌≤◌, ◌^◌, pos, ◌+ℤ◌, ◌≤ℤ◌, unsigned_abs};
+ghost use Rattle.dpl_spec.specs.Loops.{farthest};
+ghost use Rattle.dpl_spec.specs.Slabs.{IsSolid};
+ghost use Rattle.dpl_tile.specs.Kept.{IsSound, IsOver, IsClose, IsBlockOf, IsSomeBlock};
+ghost use Rattle.dpl_tile.specs.Tiles.{cell_at, number_in, cells_met};
+
+use dpl_base::Rect;
+
+/// The row and the column of a cell.
+pub type Place = (u64, u64);
+
+/// A grid of square cells: where its first cell begins, and the length of the cells' sides, in database units.
+#[derive(Clone, Copy, Drop)]
+pub struct Grid {
+    pub x: i64,
+    pub y: i64,
+    pub side: u64,
+}
+
+/// The rows and columns of cells from the first up to but not the last.
+#[derive(Clone, Copy, Drop)]
+pub struct Block {
+    pub row0: u64,
+    pub row1: u64,
+    pub column0: u64,
+    pub column1: u64,
+}
+
+/// Which row or column of cells a row or column of squares is in.
+fn number(side: u64, low: i64, i: i64) -> u64
+    requires some { 1 ≤ side }
+    requires from { low ≤ℤ i }
+    requires low { unsigned_abs low ≤ farthest }
+    requires high { unsigned_abs i ≤ farthest }
+    ensures value { result ≡ number_in side low i }
+    ensures small { result ≤ 2000000000 }
+{
+    (i - low) as u64 / side
+}
+
+/// The coordinate so far above another.
+fn above(low: i64, by: u64) -> i64
+    requires low { unsigned_abs low ≤ farthest }
+    requires by { by ≤ 2 ^ 33 }
+    ensures { result ≡ low +ℤ pos by }
+{
+    low + by as i64
+}
+
+impl Grid {
+    /// The cell of a place.
+    pub(crate) fn cell(&self, place: Place) -> Rect
+        requires sound { IsSound self.now }
+        requires close { IsClose self.now place }
+        ensures value { result ≡ cell_at self.now place }
+        ensures solid { IsSolid result }
+    {
+        let (row, column) = place;
+        Rect {
+            x0: above(self.x, column * self.side),
+            y0: above(self.y, row * self.side),
+            x1: above(self.x, column * self.side + self.side),
+            y1: above(self.y, row * self.side + self.side),
+        }
+    }
+
+    /// The rows and columns of the cells that a rectangle meets.
+    pub(crate) fn block(&self, r: &Rect) -> Block
+        requires sound { IsSound self.now }
+        requires over { IsOver self.now r.now }
+        ensures value { IsBlockOf self.now r.now result }
+        ensures some { IsSomeBlock result }
+    {
+        Block {
+            row0: number(self.side, self.y, r.y0),
+            row1: number(self.side, self.y, r.y1 - 1) + 1,
+            column0: number(self.side, self.x, r.x0),
+            column1: number(self.side, self.x, r.x1 - 1) + 1,
+        }
+    }
+
+    /// How many cells a rectangle meets.
+    pub(crate) fn cells_met(&self, r: &Rect) -> u64
+        requires sound { IsSound self.now }
+        requires over { IsOver self.now r.now }
+        ensures value { result ≡ cells_met self.now r.now }
+        ensures small { result ≤ 2 ^ 63 }
+    {
+        let block = self.block(r);
+        (block.row1 - block.row0) * (block.column1 - block.column0)
+    }
+}

@@ -1,0 +1,18 @@
+//! Tiles: the layer cut into the cells of a grid, so that each tile's conflicts can be found by themselves.
+#![tactic(auto)]
+
+mod bounds;
+mod cells;
+mod count;
+mod grid;
+mod laws;
+mod laying;
+mod planning;
+mod plans;
+mod sides;
+#[cfg(test)]
+mod tests;
+
+pub use laws::squares_have_one_cell;
+pub use planning::plan;
+pub use plans::Plan;

@@ -1,0 +1,84 @@
+//! A plan of tiles.
+ghost use Rattle.std.specs.Prelude.{◌≡◌, ◌<◌, length, slice_get, Some};
+ghost use Rattle.dpl_spec.specs.Slabs.{IsSolid};
+ghost use Rattle.dpl_slabs.specs.Parts.{AreParts};
+ghost use Rattle.dpl_tree.specs.Trees.{AreLeavesOf};
+
+use crate::grid::{Grid, Place};
+use dpl_base::{Id, Rect};
+use dpl_slabs::Parts;
+use dpl_tree::Tree;
+use std::marker::Model;
+
+/// The pieces of a layer, their owners and a rule, cut into tiles. A contract sees the pieces' slabs, their owners, the rule and the tiles' cells.
+#[derive(Drop)]
+pub struct Plan<'a> {
+    pub(crate) parts: &'a Parts,
+    pub(crate) owners: &'a [Id],
+    pub(crate) rule: u32,
+    pub(crate) tree: Tree,
+    pub(crate) grid: Grid,
+    pub(crate) places: Vec<Place>,
+}
+
+impl<'a> Model for Plan<'a> {
+    ghost use Rattle.std.specs.Prelude.{◌≡◌, ◌<◌, ◌≤◌, ◌^◌, length, map};
+    ghost use Rattle.dpl_tree.specs.Trees.{AreLeavesOf};
+    ghost use Rattle.dpl_tile.specs.Tiles.{cell_at};
+    ghost use Rattle.dpl_tile.specs.Plans.{Planned};
+    ghost use Rattle.dpl_tile.specs.Kept.{IsKept};
+
+    ghost Value = { Planned };
+
+    ghost view = { λ p. record { parts = p.parts.now; owners = p.owners.now; rule = p.rule; cells = map (cell_at p.grid) p.places.items } };
+
+    ghost invariant = { λ p. IsKept p.parts.now p.owners.now p.tree p.grid p.places.items };
+}
+
+impl<'a> Plan<'a> {
+    /// How many tiles there are.
+    pub fn tiles(&self) -> u32
+        ensures { result ≡ length self.now.cells }
+    {
+        self.places.len() as u32
+    }
+
+    /// The cell of a tile: its columns and rows, in database units. Tiles are numbered by row, then by column.
+    pub fn cell(&self, tile: u32) -> Rect
+        requires { tile < length self.now.cells }
+        ensures value { slice_get self.now.cells tile ≡ Some result }
+        ensures solid { IsSolid result }
+    {
+        self.grid.cell(self.places[tile as usize])
+    }
+
+    /// The pieces.
+    pub fn parts(&self) -> &'a Parts
+        ensures { result.now ≡ self.now.parts }
+    {
+        self.parts
+    }
+
+    /// The owner of each piece.
+    pub fn owners(&self) -> &'a [Id]
+        ensures value { result.now ≡ self.now.owners }
+        ensures each { length self.now.owners ≡ length self.now.parts }
+    {
+        self.owners
+    }
+
+    /// The rule, in database units.
+    pub fn rule(&self) -> u32
+        ensures { result ≡ self.now.rule }
+    {
+        self.rule
+    }
+
+    /// The search tree over the slabs of all pieces.
+    pub fn tree(&self) -> &Tree
+        ensures leaves { AreLeavesOf self.now.parts result.now }
+        ensures parts { AreParts self.now.parts }
+    {
+        &self.tree
+    }
+}
