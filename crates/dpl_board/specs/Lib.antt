@@ -1,0 +1,4 @@
+pub mod Sheets
+pub mod Summing
+pub mod Boards
+pub mod Cores

@@ -1,0 +1,18 @@
+//! The board on which the summaries of tiles are joined, and the events that lead to its state.
+#![tactic(auto)]
+
+mod block;
+mod board;
+mod entry;
+mod events;
+mod fault;
+mod job;
+
+pub use crate::board::{BoardState, all_posted_law};
+pub use crate::entry::Entry;
+pub use crate::events::{Core, Event, replay};
+pub use crate::fault::PostFault;
+pub use crate::job::Job;
+
+#[cfg(test)]
+mod tests;
