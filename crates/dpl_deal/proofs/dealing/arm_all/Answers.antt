@@ -1,0 +1,40 @@
+use Rattle.std.proofs.Common.{◌≡◌, ◌∙◌, ◌+◌, ◌<◌, refl, sym, ap, subst, rules, length, get_or, map, arith, vec_len}
+use Rattle.std.proofs.lemmas.List.{length-map}
+use Rattle.dpl_deal.specs.Rule.{after_grip, after_seal, cut_off}
+use Rattle.dpl_deal.specs.Grips.{grip_deque, grip_view}
+use Rattle.dpl_deal.specs.Hands.{IsArmed, deques_of, own_deque, own_view, rows_of, views_of}
+use Rattle.dpl_deal.proofs.Takings.{map_put}
+use Rattle.dpl_deal.proofs.Arming.{armed_more, armed_row, none_out, out_more, out_sealed, parts_left}
+use Rattle.dpl_deal.proofs.dealing.arm_all.Goals as goal
+
+pub loop-me-init : goal.loop-me-init
+loop-me-init c = (refl, none_out _ _ _ c.requires.views, refl, λ j d lt. absurd (omega arith))
+
+pub grip_all-requires : goal.grip_all-requires
+grip_all-requires c = record { parts = parts_left _ _ _ (views_of c.loop-me.hands.items) (search rules) c.loop-me.invariant.1 }
+
+pub loop-me-preserved : goal.loop-me-preserved
+loop-me-preserved c =
+    let few : c.loop-me.me < 64 = search rules in
+    let e : views_of c.grip_all.new.hands.items ≡ map after_grip (views_of c.loop-me.hands.items) = search rules in
+    let d : deques_of c.grip_all.new.hands.items ≡ deques_of c.loop-me.hands.items = search rules in
+    let r : rows_of c.grip_all.new.hands.items ≡ rows_of c.loop-me.hands.items = search rules in
+    let ds = ap length d in
+    let a : vec_len c.grip_all.new.hands ≡ length c.grip_all.new.hands.items = search rules in
+    let b : vec_len c.loop-me.hands ≡ length c.loop-me.hands.items = search rules in
+    let gd : map grip_deque c.in_ok-grips.grips.items ≡ deques_of c.loop-me.hands.items = search rules in
+    let gv : map grip_view c.in_ok-grips.grips.items ≡ map cut_off (views_of c.loop-me.hands.items) = search rules in
+    let lt0 : c.loop-me.me < vec_len c.args.hands.now = search rules in
+    let lt : c.loop-me.me < length c.grip_all.new.hands.items = omega (arith, lt0, a, b, ds, c.loop-me.invariant.0, length-map c.grip_all.new.hands.items own_deque, length-map c.loop-me.hands.items own_deque) in
+    let is : c.index_mut.result.now ≡ get_or c.grip_all.new.hands.items c.loop-me.me c.index_mut.result.now = search rules in
+    let w : own_view c.arm.new.self ≡ after_seal (own_view c.index_mut.result.now) = search rules in
+    let q : own_deque c.arm.new.self ≡ own_deque c.index_mut.result.now = search rules in
+    let g : c.arm.new.self.grips ≡ c.in_ok-grips.grips = search rules in
+    let row = armed_row (deques_of c.args.hands.now.items) c.loop-me.me c.args.tiles (vec_len c.args.hands.now) c.in_ok-grips.grips.items (views_of c.loop-me.hands.items) (gd ∙ c.loop-me.invariant.2) gv c.loop-me.invariant.1 in (
+      omega (arith, a, b, ds, c.loop-me.invariant.0, length-map c.grip_all.new.hands.items own_deque, length-map c.loop-me.hands.items own_deque),
+      out_sealed (c.loop-me.me + 1) c.args.tiles (vec_len c.args.hands.now) c.grip_all.new.hands.items c.loop-me.me c.index_mut.result.now c.arm.new.self lt is
+          (out_more c.loop-me.me c.args.tiles (vec_len c.args.hands.now) (views_of c.loop-me.hands.items) (views_of c.grip_all.new.hands.items) few e c.loop-me.invariant.1) w,
+      map_put own_deque c.grip_all.new.hands.items c.loop-me.me c.index_mut.result.now c.arm.new.self lt is q ∙ d ∙ c.loop-me.invariant.2,
+      armed_more (deques_of c.args.hands.now.items) c.args.tiles c.grip_all.new.hands.items c.loop-me.me c.arm.new.self (rows_of c.loop-me.hands.items) lt r c.loop-me.invariant.3
+          (subst (λ v. IsArmed (deques_of c.args.hands.now.items) c.args.tiles v.items) (sym g) row),
+    )

@@ -1,0 +1,5 @@
+use Rattle.dpl_deal.proofs.Moves.{below_one, took_one}
+use Rattle.dpl_deal.proofs.hand.Hand.pop.Goals as goal
+
+pub returns-in-Tile-clause-some : goal.returns-in-Tile-clause-some
+returns-in-Tile-clause-some c = (took_one _ _ _ _ c.in-Tile.is c.pop_item.ensures.took, below_one _ _ _ c.in-Tile.is c.pop_item.ensures.below)

@@ -1,0 +1,4 @@
+pub mod Grips
+pub mod Hands
+pub mod Ports
+pub mod Rule

@@ -1,0 +1,65 @@
+ghost use Rattle.std.specs.Prelude.{◌≡◌, ◌<◌, ℕ, Contains, OnOk, vec_len};
+ghost use Rattle.dpl_deal.specs.Hands.{AreHandsOf, IsDone, IsHandOf};
+
+use super::*;
+use std::alloc::{AllocError, Global};
+use std::sync::Wait;
+use std::test::*;
+
+fn rest_of<R: Wait>(
+    rt: &R,
+    alloc: Global,
+    deal: &Deal,
+    hand: &mut Hand,
+) -> Result<Vec<u32>, AllocError>
+    requires { (me : ℕ) × IsHandOf deal.now me hand.old }
+    ensures hand { (me : ℕ) → IsHandOf deal.now me hand.old → IsHandOf deal.now me hand.new }
+    ensures done { OnOk result (IsDone hand.new) }
+{
+    let mut tiles = Vec::new(alloc);
+    for _ in rt.forever() {
+        match deal.take(rt, hand) {
+            Some(tile) => tiles.push(tile)?,
+            None => return Ok(tiles),
+        }
+    }
+    unreachable!()
+}
+
+fn rest_at<R: Wait>(
+    rt: &R,
+    alloc: Global,
+    deal: &Deal,
+    hands: &mut Vec<Hand>,
+    at: usize,
+) -> Result<Vec<u32>, AllocError>
+    requires { AreHandsOf deal.now hands.old.items × (at < vec_len hands.old) }
+    ensures hands { AreHandsOf deal.now hands.new.items × (vec_len hands.new ≡ vec_len hands.old) }
+    ensures done { OnOk result ((h : Hand) × Contains hands.new.items h × IsDone h) }
+{
+    rest_of(rt, alloc, deal, &mut hands[at])
+}
+
+#[test]
+fn five_tiles_are_taken_by_two_hands(rt: HostRuntime) -> Result<(), Fail> {
+    let (deal, mut hands) = Deal::open(rt.alloc(), 5, 2)?;
+    let first = rest_at(&rt, rt.alloc(), &deal, &mut hands, 0)?;
+    let second = rest_at(&rt, rt.alloc(), &deal, &mut hands, 1)?;
+    let wanted = [0, 2, 4, 1, 3];
+    assert_eq!(rt; first.as_slice(), wanted.as_slice());
+    assert_eq!(rt; second.len(), 0);
+    deal.close(hands);
+    Ok(())
+}
+
+#[test]
+fn a_hand_takes_its_own_tiles_first(rt: HostRuntime) -> Result<(), Fail> {
+    let (deal, mut hands) = Deal::open(rt.alloc(), 5, 2)?;
+    let first = rest_at(&rt, rt.alloc(), &deal, &mut hands, 1)?;
+    let second = rest_at(&rt, rt.alloc(), &deal, &mut hands, 0)?;
+    let wanted = [1, 3, 0, 2, 4];
+    assert_eq!(rt; first.as_slice(), wanted.as_slice());
+    assert_eq!(rt; second.len(), 0);
+    deal.close(hands);
+    Ok(())
+}

@@ -1,0 +1,4 @@
+pub mod Members
+pub mod Nearness
+pub mod Pairs
+pub mod Sheeting

@@ -1,0 +1,11 @@
+//! A pool of workers that take tiles from a deal and post their summaries on a board.
+#![tactic(auto)]
+
+mod gate;
+mod member;
+mod pool;
+#[cfg(test)]
+mod tests;
+
+pub use gate::{Gate, OpenGate};
+pub use pool::run_pool;

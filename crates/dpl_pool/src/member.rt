@@ -1,0 +1,111 @@
+//! One worker of the pool.
+ghost use Rattle.std.specs.Prelude.{◌≡◌, ◌<◌, ℕ, true, false, length};
+ghost use Rattle.dpl_stars.specs.Sums.{Sums};
+ghost use Rattle.dpl_board.specs.Sheets.{IsPosted, edges_at};
+ghost use Rattle.dpl_turn.specs.Seats.{IsSeatOf, knows};
+ghost use Rattle.dpl_pool.specs.Members.{IsMember, IsTwice, Keeps, Leaves};
+
+use crate::gate::Gate;
+use dpl_board::{Job, PostFault};
+use dpl_deal::{Deal, Hand};
+use dpl_stars::Joined;
+use dpl_turn::{Board, Seat};
+use std::alloc::Global;
+use std::sync::Wait;
+
+/// A worker: its number, its seat at the board, its hand, and whether it wanted memory.
+#[derive(Drop)]
+pub struct Member {
+    pub number: u32,
+    pub seat: Seat,
+    pub hand: Hand,
+    pub wants: bool,
+}
+
+/// Posts a tile, and says whether it stands on the board now.
+fn post_tile<J: Job, R: Wait>(
+    rt: &R,
+    board: &Board<J>,
+    seat: &mut Seat,
+    worker: u32,
+    tile: u32,
+    sum: Joined,
+) -> bool
+    requires table { IsSeatOf board.now.table.shared.table_id seat.old }
+    requires entry { (worker < (knows seat.old).workers) × (tile < length (knows seat.old).sheet) }
+    requires sum { Sums (edges_at (knows seat.old).sheet tile) sum }
+    ensures table { IsSeatOf board.now.table.shared.table_id seat.new }
+    ensures keeps { Keeps (knows seat.old) (knows seat.new) }
+    ensures posted { result ≡ true → IsPosted tile (knows seat.new).known }
+{
+    match board.post(rt, seat, worker, tile, sum) {
+        Ok(()) => true,
+        Err(fault) => is_posted(fault),
+    }
+}
+
+/// Whether the tile stood there before.
+fn is_posted(fault: PostFault) -> bool
+    ensures { result ≡ true → IsTwice fault }
+{
+    match fault {
+        PostFault::Twice { by: _ } => true,
+        PostFault::NoMemory => false,
+    }
+}
+
+/// One tile: taken, worked out and posted. The answer is false where the worker is done.
+fn step<J: Job, G: Gate, R: Wait>(
+    rt: &R,
+    alloc: Global,
+    deal: &Deal,
+    board: &Board<J>,
+    job: &J,
+    gate: &G,
+    member: &mut Member,
+) -> bool
+    requires tiles { deal.now.tiles ≡ length (J.sheet job.now) }
+    requires member { IsMember board.now.table.shared.table_id (J.sheet job.now) deal.now member.old.number member.old }
+    ensures number { member.new.number ≡ member.old.number }
+    ensures goes { result ≡ true → IsMember board.now.table.shared.table_id (J.sheet job.now) deal.now member.old.number member.new }
+    ensures done { result ≡ false → Leaves board.now.table.shared.table_id (J.sheet job.now) deal.now member.old.number member.new }
+{
+    let Some(tile) = deal.take(rt, &mut member.hand) else {
+        return false;
+    };
+    gate.enter(member.number, tile);
+    let Ok(sum) = job.summary(alloc, tile) else {
+        member.wants = true;
+        return false;
+    };
+    let number = member.number;
+    if !post_tile(rt, board, &mut member.seat, number, tile, sum) {
+        member.wants = true;
+        return false;
+    }
+    gate.posted(&member.seat, tile);
+    true
+}
+
+/// Takes tiles until each deque was found empty, or memory is wanted.
+pub fn work<J: Job, G: Gate, R: Wait>(
+    rt: &R,
+    alloc: Global,
+    deal: &Deal,
+    board: &Board<J>,
+    job: &J,
+    gate: &G,
+    member: Member,
+) -> Member
+    requires tiles { deal.now.tiles ≡ length (J.sheet job.now) }
+    requires member { IsMember board.now.table.shared.table_id (J.sheet job.now) deal.now member.number member }
+    ensures { Leaves board.now.table.shared.table_id (J.sheet job.now) deal.now member.number result }
+{
+    let mut member = member;
+    for _ in rt.forever() {
+        if !step(rt, alloc, deal, board, job, gate, &mut member) {
+            return member;
+        }
+    }
+    unreachable!()
+}
