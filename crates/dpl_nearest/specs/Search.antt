@@ -1,8 +1,10 @@
 -- The search for the least square of a set that is near another.
-use Rattle.std.specs.Prelude.{◌≡◌, ℕ, ◌*◌, ◌<◌, ◌⊎◌, ℤ, ◌+ℤ◌, pos, List, Option, Some, None, length, slice_index_or}
+use Rattle.std.specs.Prelude.{◌≡◌, ◌≢◌, ℕ, ◌*◌, ◌<◌, ◌⊎◌, ℤ, ◌+ℤ◌, pos, List, Option, Some, None, length, slice_index_or}
 use Rattle.dpl_spec.specs.declared.Pt.{Pt}
 use Rattle.dpl_spec.specs.declared.Rect.{Rect}
 use Rattle.dpl_tree.specs.declared.tree.Node.{Node}
+use Rattle.dpl_tree.specs.declared.tree.Owners.{Owners}
+use Rattle.dpl_tree.specs.declared.tree.Owners.TheVariants.{All, But, Only, Above}
 use Rattle.dpl_tree.specs.Trees.{HasLeaf}
 use Rattle.dpl_spec.specs.Squares.{Region, IsSolidWithin, Has, AreNear, IsLeast, Precedes, d2}
 
@@ -49,9 +51,16 @@ IsImproved rule a b (Some p) (Some q) = IsLowered rule a b p q
 abbrev pub CoversFirst : ℕ → List Rect → Region
 CoversFirst n rs p = (k : ℕ) × (r : Rect) × (k < n) × (k < length rs) × (slice_index_or rs k r ≡ r) × Has r p
 
--- the squares of the rectangles of a search tree
-abbrev pub LeafCovers : List Node → Region
-LeafCovers nodes p = (r : Rect) × (k : ℕ) × HasLeaf nodes r k × Has r p
+-- an owner that is sought
+abbrev pub IsSought : Owners → ℕ → Type 0
+IsSought All k = Unit {0}
+IsSought (But j) k = k ≢ j
+IsSought (Only j) k = k ≡ j
+IsSought (Above j) k = j < k
+
+-- the squares of the rectangles of the sought owners in a search tree
+abbrev pub LeafCovers : Owners → List Node → Region
+LeafCovers owners nodes p = (r : Rect) × (k : ℕ) × HasLeaf nodes r k × IsSought owners k × Has r p
 
 abbrev pub AreLeavesWithin : ℕ → List Node → Type 0
 AreLeavesWithin bound nodes = (r : Rect) (k : ℕ) → HasLeaf nodes r k → IsSolidWithin bound r

@@ -6,11 +6,12 @@ ghost use Rattle.dpl_spec.specs.Slabs.{IsSolid};
 ghost use Rattle.dpl_spec.specs.Squares.{Covers, Has, Precedes};
 ghost use Rattle.dpl_spec.specs.declared.Rect.{Rect};
 ghost use Rattle.dpl_tree.specs.Trees.{HasLeaf};
+ghost use Rattle.dpl_tree.specs.declared.tree.Owners.TheVariants.{All as Everyone};
 ghost use Rattle.dpl_nearest.specs.Search.{AreLeavesWithin, IsLeastNear, LeafCovers, IsLowered, IsImproved};
 
 use crate::rects::least_of;
 use dpl_base::{Pt, Rect};
-use dpl_tree::{Tree, add_items_of};
+use dpl_tree::{Owners, Tree, add_items_of};
 use std::alloc::{AllocError, Global};
 
 /// The first of two squares, by row and then by column.
@@ -30,31 +31,31 @@ fn lesser(p: Pt, q: Pt) -> Pt
 }
 
 /// The first of `p` and the squares of `r` that are near the others.
-fn lowered(p: Pt, r: &Rect, others: &Tree, rule: u32) -> Pt
+fn lowered(p: Pt, r: &Rect, others: &Tree, owners: Owners, rule: u32) -> Pt
     requires solid { IsSolid r.now }
     requires within { IsRectWithin farthest r.now }
     requires others { AreLeavesWithin (farthest + 1) others.now }
-    ensures { IsLowered rule (Has r.now) (LeafCovers others.now) p result }
+    ensures { IsLowered rule (Has r.now) (LeafCovers owners others.now) p result }
 {
     if p.y < r.y0 {
         return p;
     }
-    match least_of(r, others, rule) {
+    match least_of(r, others, owners, rule) {
         None => p,
         Some(q) => lesser(p, q),
     }
 }
 
-/// The first of `best`, if there is one, and the squares of `r` that are near the others.
-fn improved(best: Option<Pt>, r: &Rect, others: &Tree, rule: u32) -> Option<Pt>
+/// The first of `best`, if there is one, and the squares of `r` that are closer than `rule` database units to a rectangle of the owners that are sought.
+pub fn improved(best: Option<Pt>, r: &Rect, others: &Tree, owners: Owners, rule: u32) -> Option<Pt>
     requires solid { IsSolid r.now }
     requires within { IsRectWithin farthest r.now }
     requires others { AreLeavesWithin (farthest + 1) others.now }
-    ensures { IsImproved rule (Has r.now) (LeafCovers others.now) best result }
+    ensures { IsImproved rule (Has r.now) (LeafCovers owners others.now) best result }
 {
     match best {
-        None => least_of(r, others, rule),
-        Some(p) => Some(lowered(p, r, others, rule)),
+        None => least_of(r, others, owners, rule),
+        Some(p) => Some(lowered(p, r, others, owners, rule)),
     }
 }
 
@@ -63,17 +64,17 @@ fn least_in_tree(rects: &[Rect], others: &Tree, rule: u32) -> Option<Pt>
     requires solid { All IsSolid rects.now }
     requires within { AreRectsWithin farthest rects.now }
     requires others { AreLeavesWithin (farthest + 1) others.now }
-    ensures { IsLeastNear rule (Covers rects.now) (LeafCovers others.now) result }
+    ensures { IsLeastNear rule (Covers rects.now) (LeafCovers Everyone others.now) result }
 {
     let mut best = None;
     for r in rects {
-        best = improved(best, r, others, rule);
+        best = improved(best, r, others, Owners::All, rule);
     }
     best
 }
 
-/// A search tree of rectangles.
-fn tree_of(alloc: Global, rects: &[Rect]) -> Result<Tree, AllocError>
+/// A search tree of rectangles, all of owner 0.
+pub fn tree_of(alloc: Global, rects: &[Rect]) -> Result<Tree, AllocError>
     ensures { IfOk result (λ t. (r : Rect) (k : ℕ) → HasLeaf t r k ↔ ((k ≡ 0) × Contains rects.now r)) }
 {
     let mut items = Vec::new(alloc);

@@ -14,7 +14,8 @@ ghost use Rattle.dpl_nearest.specs.Nearest.{IsNearestPair};
 ghost use Rattle.std.specs.List.{All};
 
 use crate::least::least_near;
-use crate::rects::unit;
+pub use crate::least::{improved, tree_of};
+pub use crate::rects::unit;
 use dpl_base::{Pt, Rect};
 use std::alloc::{AllocError, Global};
 

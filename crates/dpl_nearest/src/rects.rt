@@ -1,4 +1,4 @@
-//! Parts of a rectangle that are near the rectangles of a search tree.
+//! Parts of a rectangle that are near the rectangles of a search tree, or of some owners there.
 ghost use Rattle.std.specs.Prelude.{◌≡◌, ◌≤◌, ◌<◌, ◌+◌, ◌^◌, ◌≤ℤ◌, ◌<ℤ◌, ◌+ℤ◌, pos, ◌↔◌, IsTrue, unsigned_abs};
 ghost use Rattle.dpl_spec.specs.Loops.{IsRectWithin, farthest};
 ghost use Rattle.dpl_spec.specs.Slabs.{IsSolid};
@@ -9,7 +9,7 @@ use dpl_base::{Pt, Rect, near};
 use dpl_tree::{Owners, Tree, widened};
 
 /// The rectangle of one square.
-pub(crate) fn unit(p: Pt) -> Rect
+pub fn unit(p: Pt) -> Rect
     requires x { unsigned_abs p.x ≤ 2 ^ 61 }
     requires y { unsigned_abs p.y ≤ 2 ^ 61 }
     ensures { result ≡ unit_of p }
@@ -59,67 +59,67 @@ fn halfway(low: i64, high: i64) -> i64
     low + (high - low) / 2
 }
 
-/// Whether some square of `r` is closer than `rule` to a square of the others.
-fn near_any(r: &Rect, others: &Tree, rule: u32) -> bool
+/// Whether some square of `r` is closer than `rule` to a square of the others that are sought.
+fn near_any(r: &Rect, others: &Tree, owners: Owners, rule: u32) -> bool
     requires solid { IsSolid r.now }
     requires within { IsRectWithin farthest r.now }
     requires others { AreLeavesWithin (farthest + 1) others.now }
-    ensures { IsTrue result ↔ AreNear rule (Has r.now) (LeafCovers others.now) }
+    ensures { IsTrue result ↔ AreNear rule (Has r.now) (LeafCovers owners others.now) }
 {
     let window = widened(r, rule);
     let nodes = others.nodes();
-    let mut n = others.seek(0, &window, Owners::All);
+    let mut n = others.seek(0, &window, owners);
     while n < nodes.len() {
         if near(r, &nodes[n].bounds, rule) {
             return true;
         }
-        n = others.seek(n + 1, &window, Owners::All);
+        n = others.seek(n + 1, &window, owners);
     }
     false
 }
 
 /// Whether some square of `r` below row `y` is near the others.
-fn near_below(r: &Rect, y: i64, others: &Tree, rule: u32) -> bool
+fn near_below(r: &Rect, y: i64, others: &Tree, owners: Owners, rule: u32) -> bool
     requires solid { IsSolid r.now }
     requires within { IsRectWithin farthest r.now }
     requires low { r.now.y0 <ℤ y }
     requires high { y <ℤ r.now.y1 }
     requires others { AreLeavesWithin (farthest + 1) others.now }
-    ensures { IsTrue result ↔ AreNear rule (Has (rows_below r.now y)) (LeafCovers others.now) }
+    ensures { IsTrue result ↔ AreNear rule (Has (rows_below r.now y)) (LeafCovers owners others.now) }
 {
     let part = below(r, y);
-    near_any(&part, others, rule)
+    near_any(&part, others, owners, rule)
 }
 
 /// Whether some square of `r` left of column `x` is near the others.
-fn near_left(r: &Rect, x: i64, others: &Tree, rule: u32) -> bool
+fn near_left(r: &Rect, x: i64, others: &Tree, owners: Owners, rule: u32) -> bool
     requires solid { IsSolid r.now }
     requires within { IsRectWithin farthest r.now }
     requires low { r.now.x0 <ℤ x }
     requires high { x <ℤ r.now.x1 }
     requires others { AreLeavesWithin (farthest + 1) others.now }
-    ensures { IsTrue result ↔ AreNear rule (Has (columns_left r.now x)) (LeafCovers others.now) }
+    ensures { IsTrue result ↔ AreNear rule (Has (columns_left r.now x)) (LeafCovers owners others.now) }
 {
     let part = left(r, x);
-    near_any(&part, others, rule)
+    near_any(&part, others, owners, rule)
 }
 
 /// The first row of `r` with a square that is near the others.
-fn first_row(r: &Rect, others: &Tree, rule: u32) -> i64
+fn first_row(r: &Rect, others: &Tree, owners: Owners, rule: u32) -> i64
     requires solid { IsSolid r.now }
     requires within { IsRectWithin farthest r.now }
     requires others { AreLeavesWithin (farthest + 1) others.now }
-    requires near { AreNear rule (Has r.now) (LeafCovers others.now) }
+    requires near { AreNear rule (Has r.now) (LeafCovers owners others.now) }
     ensures low { r.now.y0 ≤ℤ result }
     ensures high { result <ℤ r.now.y1 }
-    ensures near { AreNear rule (Has (row_at r.now result)) (LeafCovers others.now) }
-    ensures first { ¬ AreNear rule (Has (rows_below r.now result)) (LeafCovers others.now) }
+    ensures near { AreNear rule (Has (row_at r.now result)) (LeafCovers owners others.now) }
+    ensures first { ¬ AreNear rule (Has (rows_below r.now result)) (LeafCovers owners others.now) }
 {
     let mut low = r.y0;
     let mut high = r.y1;
     while high - low > 1 {
         let middle = halfway(low, high);
-        if near_below(r, middle, others, rule) {
+        if near_below(r, middle, others, owners, rule) {
             high = middle;
         } else {
             low = middle;
@@ -129,21 +129,21 @@ fn first_row(r: &Rect, others: &Tree, rule: u32) -> i64
 }
 
 /// The first column of `r` with a square that is near the others.
-fn first_column(r: &Rect, others: &Tree, rule: u32) -> i64
+fn first_column(r: &Rect, others: &Tree, owners: Owners, rule: u32) -> i64
     requires solid { IsSolid r.now }
     requires within { IsRectWithin farthest r.now }
     requires others { AreLeavesWithin (farthest + 1) others.now }
-    requires near { AreNear rule (Has r.now) (LeafCovers others.now) }
+    requires near { AreNear rule (Has r.now) (LeafCovers owners others.now) }
     ensures low { r.now.x0 ≤ℤ result }
     ensures high { result <ℤ r.now.x1 }
-    ensures near { AreNear rule (Has (column_at r.now result)) (LeafCovers others.now) }
-    ensures first { ¬ AreNear rule (Has (columns_left r.now result)) (LeafCovers others.now) }
+    ensures near { AreNear rule (Has (column_at r.now result)) (LeafCovers owners others.now) }
+    ensures first { ¬ AreNear rule (Has (columns_left r.now result)) (LeafCovers owners others.now) }
 {
     let mut low = r.x0;
     let mut high = r.x1;
     while high - low > 1 {
         let middle = halfway(low, high);
-        if near_left(r, middle, others, rule) {
+        if near_left(r, middle, others, owners, rule) {
             high = middle;
         } else {
             low = middle;
@@ -153,17 +153,17 @@ fn first_column(r: &Rect, others: &Tree, rule: u32) -> i64
 }
 
 /// The least square of `r` that is near the others.
-pub(crate) fn least_of(r: &Rect, others: &Tree, rule: u32) -> Option<Pt>
+pub(crate) fn least_of(r: &Rect, others: &Tree, owners: Owners, rule: u32) -> Option<Pt>
     requires solid { IsSolid r.now }
     requires within { IsRectWithin farthest r.now }
     requires others { AreLeavesWithin (farthest + 1) others.now }
-    ensures { IsLeastNear rule (Has r.now) (LeafCovers others.now) result }
+    ensures { IsLeastNear rule (Has r.now) (LeafCovers owners others.now) result }
 {
-    if !near_any(r, others, rule) {
+    if !near_any(r, others, owners, rule) {
         return None;
     }
-    let y = first_row(r, others, rule);
+    let y = first_row(r, others, owners, rule);
     let only = row(r, y);
-    let x = first_column(&only, others, rule);
+    let x = first_column(&only, others, owners, rule);
     Some(Pt { x, y })
 }

@@ -1,0 +1,10 @@
+pub mod SameZones
+pub mod Cuts
+pub mod Windows
+pub mod Sets
+pub mod Finding
+pub mod Stitches
+pub mod Owning
+pub mod Apart
+pub mod Placing
+pub mod Counting

@@ -1,0 +1,76 @@
+-- Leaves of a search tree that have a square in a window.
+use Rattle.std.proofs.Common.{◌≡◌, ℕ, ◌+◌, ◌<◌, ◌≤◌, ◌⊎◌, inl, inr, List, length, get_or, sym, ap, refl, ◌∙◌, subst, arith}
+use Rattle.std.specs.Prelude.{ℤ, pos, ◌+ℤ◌, ◌≤ℤ◌, ◌<ℤ◌, ◌↔◌, Option, Some, None, Bool, true, false, IsTrue, IfSome, IsNone}
+use Rattle.std.proofs.lemmas.Int.{ints, by_lt_z}
+use Rattle.dpl_spec.specs.declared.Pt.{Pt}
+use Rattle.dpl_spec.specs.declared.Rect.{Rect}
+use Rattle.dpl_spec.specs.Squares.{Has}
+use Rattle.dpl_spec.specs.Slabs.{IsSolid}
+use Rattle.dpl_spec.specs.Loops.{farthest}
+use Rattle.dpl_spec.specs.Zones.{at}
+use Rattle.dpl_tree.specs.declared.tree.Node.{Node}
+use Rattle.dpl_tree.specs.declared.tree.Owners.TheVariants.{All as Everyone, Only}
+use Rattle.dpl_tree.specs.Trees.{IsTree, HasLeaf, LiesApart, IsMissed}
+use Rattle.dpl_nearest.specs.Search.{AreLeavesWithin, LeafCovers, unit_of}
+use Rattle.dpl_nearest.proofs.LeafLaws.{found-leaf}
+use Rattle.dpl_verdict.specs.Order.{HasSquare}
+
+-- two spans that aren't apart share a number
+shared : (a b c d : ℤ) → a <ℤ b → c <ℤ d → (d ≤ℤ a → ⊥) → (b ≤ℤ c → ⊥) → (x : ℤ) × (a ≤ℤ x) × (x <ℤ b) × (c ≤ℤ x) × (x <ℤ d)
+shared a b c d ab cd da bc = by_lt_z a c
+    (λ l. (c, omega (arith, ints, l), by_lt_z c b (λ m. m) (λ m. absurd (bc m)), omega (arith, ints), cd))
+    (λ l. (a, omega (arith, ints), ab, l, by_lt_z a d (λ m. m) (λ m. absurd (da m))))
+
+in-both : (window r : Rect) → IsSolid window → IsSolid r → (LiesApart window r → ⊥) → HasSquare (λ p. Has window p × Has r p)
+in-both window r w s free =
+    let (x, a, b, c, d) = shared window.x0 window.x1 r.x0 r.x1 w.wide s.wide (λ h. free (inl h)) (λ h. free (inr (inl h))) in
+    let (y, e, f, g, h) = shared window.y0 window.y1 r.y0 r.y1 w.tall s.tall (λ h. free (inr (inr (inl h)))) (λ h. free (inr (inr (inr h)))) in
+    (at x y, (record { left = a; right = b; low = e; high = f }, record { left = c; right = d; low = g; high = h }))
+
+apart-none : (window r : Rect) (p : Pt) → LiesApart window r → Has window p → Has r p → ⊥
+apart-none window r p (inl h) a b = let k = a.left in let l = b.right in omega (arith, ints, h, k, l)
+apart-none window r p (inr (inl h)) a b = let k = a.right in let l = b.left in omega (arith, ints, h, k, l)
+apart-none window r p (inr (inr (inl h))) a b = let k = a.low in let l = b.high in omega (arith, ints, h, k, l)
+apart-none window r p (inr (inr (inr h))) a b = let k = a.high in let l = b.low in omega (arith, ints, h, k, l)
+
+pub found-in : (nodes : List Node) (window : Rect) (n : ℕ) (d : Node) → IsTree nodes → n < length nodes → IsSolid window → AreLeavesWithin (farthest + 1) nodes
+    → ((get_or nodes n d).size ≡ 1) × (IsMissed window Everyone (get_or nodes n d) → ⊥)
+    → HasSquare (λ p. Has window p × LeafCovers (Only (get_or nodes n d).least) nodes p)
+found-in nodes window n d tree n_in w leaves (one, free) =
+    let leaf = found-leaf nodes n d tree n_in one in
+    let solid = leaves (get_or nodes n d).bounds (get_or nodes n d).least leaf in
+    let (p, (a, b)) = in-both window (get_or nodes n d).bounds w (record { wide = solid.wide; tall = solid.tall }) (λ h. free (inl h)) in
+    (p, (a, ((get_or nodes n d).bounds, (get_or nodes n d).least, leaf, refl, b)))
+
+pub none-in : (nodes : List Node) (window : Rect) (n : ℕ) → length nodes ≤ n
+    → ((j : ℕ) (d : Node) → 0 ≤ j → j < n → j < length nodes → (get_or nodes j d).size ≡ 1 → IsMissed window Everyone (get_or nodes j d))
+    → HasSquare (λ p. Has window p × LeafCovers Everyone nodes p) → ⊥
+none-in nodes window n all passed (p, (a, (r, k, (j, node, from, j_in, is, leaf), sought, b))) =
+    let one : (get_or nodes j node).size ≡ 1 = subst (λ u. let v : Node = u in v.size ≡ 1) (sym is) leaf.size in
+    let missed : IsMissed window Everyone node = subst (λ u. let v : Node = u in IsMissed window Everyone v) is (passed j node (omega arith) (omega (arith, all, j_in)) j_in one) in
+    elim missed [
+      | inl apart ↦ apart-none window node.bounds p apart a (subst (λ (u : Rect). Has u p) (sym leaf.rect) b)
+      | inr bad ↦ absurd bad
+    ]
+
+pub unit-only : (p q : Pt) → Has (unit_of p) q → q ≡ p
+unit-only p q h =
+    let a : p.x ≤ℤ q.x = h.left in
+    let b : q.x <ℤ (p.x +ℤ pos 1) = h.right in
+    let c : p.y ≤ℤ q.y = h.low in
+    let d : q.y <ℤ (p.y +ℤ pos 1) = h.high in
+    let x : q.x ≡ p.x = omega (arith, ints) in
+    let y : q.y ≡ p.y = omega (arith, ints) in
+    ap (λ n. at n q.y) x ∙ ap (λ n. at p.x n) y
+
+pub unit-self : (p : Pt) → Has (unit_of p) p
+unit-self p = record { left = omega (arith, ints); right = omega (arith, ints); low = omega (arith, ints); high = omega (arith, ints) }
+
+-- an owner in the window of a square is the square's
+pub at-some : (nodes : List Node) (p : Pt) (u : Rect) (o : Option ℕ) → u ≡ unit_of p → IfSome o (λ k. HasSquare (λ q. Has u q × LeafCovers (Only k) nodes q)) → IfSome o (λ k. LeafCovers (Only k) nodes p)
+at-some nodes p u None is none = none
+at-some nodes p u (Some k) is (q, (in-unit, leaf)) = subst (λ r. LeafCovers (Only k) nodes r) (unit-only p q (subst (λ (v : Rect). Has v q) is in-unit)) leaf
+
+-- an owner is one of everyone
+pub of-everyone : (nodes : List Node) (k : ℕ) (p : Pt) → LeafCovers (Only k) nodes p → LeafCovers Everyone nodes p
+of-everyone nodes k p (r, j, leaf, sought, h) = (r, j, leaf, tt, h)

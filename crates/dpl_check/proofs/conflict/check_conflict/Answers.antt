@@ -1,0 +1,46 @@
+use Rattle.std.proofs.Common.{sym, refl, inl, inr, subst, length}
+use Rattle.std.proofs.lemmas.Bool.{false≢true}
+use Rattle.dpl_cert.specs.declared.cert.Cert.{Cert}
+use Rattle.dpl_verdict.specs.declared.Verdict.TheVariants.{Valid, Cycle}
+use Rattle.dpl_verdict.specs.Conflicts.{IsVerdictOfConflict}
+use Rattle.dpl_check.specs.Cutting.{cut_view}
+use Rattle.dpl_check.proofs.Counting.{counts-differ, counts-kept}
+use Rattle.dpl_check.proofs.conflict.check_conflict.Goals as goal
+
+pub returns-then-counts_differ : goal.returns-then-counts_differ
+returns-then-counts_differ c =
+    let cut = cut_view c.in_ok-cut.cut in
+    subst (λ (x : Cert). IsVerdictOfConflict c.args.rule c.args.overlap c.args.layer.now x c.counts_of.result) (sym c.in-Conflict.is)
+    (inr (
+      (λ differ. false≢true (c.if-rules_differ.ensures.1 differ)),
+      inl (
+        counts-differ c.args.rule c.args.overlap c.args.layer.now c.in-Conflict.head cut c.in_ok-cut.ensures (c.counts_differ.ensures.0 c.if-counts_differ.true),
+        (length cut.features, length cut.pieces, length cut.zones, (cut, c.in_ok-cut.ensures, refl, refl, refl), c.counts_of.ensures),
+      ),
+    ))
+
+pub returns-in-Some : goal.returns-in-Some
+returns-in-Some c =
+    let cut = cut_view c.in_ok-cut.cut in
+    let found = rw (c.in-Some.is, c.items.ensures, c.items-2.ensures) at c.in_ok-place.ensures in
+    subst (λ (x : Cert). IsVerdictOfConflict c.args.rule c.args.overlap c.args.layer.now x (Cycle c.in-Some.place)) (sym c.in-Conflict.is)
+    (inr (
+      (λ differ. false≢true (c.if-rules_differ.ensures.1 differ)),
+      inr (
+        counts-kept c.args.rule c.args.overlap c.args.layer.now c.in-Conflict.head cut c.in_ok-cut.ensures (λ other. false≢true (c.if-counts_differ.ensures.1 other)),
+        (cut, c.in_ok-cut.ensures, inl ((c.in-Some.place, found.inside, found.is), (c.in-Some.place, found, refl))),
+      ),
+    ))
+
+pub returns : goal.returns
+returns c =
+    let cut = cut_view c.in_ok-cut.cut in
+    let none = rw (c.in_default-2.is, c.items.ensures, c.items-2.ensures) at c.in_ok-place.ensures in
+    subst (λ (x : Cert). IsVerdictOfConflict c.args.rule c.args.overlap c.args.layer.now x Valid) (sym c.in-Conflict.is)
+    (inr (
+      (λ differ. false≢true (c.if-rules_differ.ensures.1 differ)),
+      inr (
+        counts-kept c.args.rule c.args.overlap c.args.layer.now c.in-Conflict.head cut c.in_ok-cut.ensures (λ other. false≢true (c.if-counts_differ.ensures.1 other)),
+        (cut, c.in_ok-cut.ensures, inr (none, refl)),
+      ),
+    ))

@@ -1,0 +1,4 @@
+pub mod Findings
+pub mod Owned
+pub mod Cutting
+pub mod Places

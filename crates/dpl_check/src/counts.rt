@@ -1,0 +1,66 @@
+//! Whether a certificate is for the rules and the layer that are checked.
+ghost use Rattle.std.specs.Prelude.{◌≡◌, ◌≤◌, ◌↔◌, ℕ, IsTrue, IfOk, length};
+ghost use Rattle.dpl_spec.specs.Squares.{Covers};
+ghost use Rattle.dpl_spec.specs.Decomposition.{IsCut};
+ghost use Rattle.dpl_verdict.specs.Order.{AreCounts, RulesDiffer, ShowsCounts};
+ghost use Rattle.dpl_check.specs.Cutting.{HasOtherCounts, ShowsCountsOf, cut_view};
+
+use crate::cut::{LayerCut, cut_of};
+use dpl_cert::Head;
+use dpl_slabs::Slabs;
+use dpl_verdict::Verdict;
+use std::alloc::{AllocError, Global};
+
+/// Whether the certificate is for another rule or another overlap.
+pub(crate) fn rules_differ(head: &Head, rule: u32, overlap: u32) -> bool
+    ensures { IsTrue result ↔ RulesDiffer rule overlap head.now }
+{
+    if head.rule != rule {
+        return true;
+    }
+    if head.overlap != overlap {
+        return true;
+    }
+    false
+}
+
+/// Tells how many features, pieces and zones a cut has.
+pub(crate) fn counts_of(cut: &LayerCut) -> Verdict
+    ensures { ShowsCountsOf (cut_view cut.now) result }
+{
+    Verdict::Counts {
+        features: cut.features.items().len() as u64,
+        pieces: cut.pieces.parts().items().len() as u64,
+        zones: cut.pieces.zones().len() as u64,
+    }
+}
+
+/// Tells how many features, pieces and zones a layer has.
+pub(crate) fn counts(
+    alloc: Global,
+    layer: &Slabs,
+    rule: u32,
+    overlap: u32,
+) -> Result<Verdict, AllocError>
+    requires { 1 ≤ overlap }
+    ensures { IfOk result (λ v. ShowsCounts rule overlap layer.now v) }
+{
+    let cut = cut_of(alloc, layer, rule, overlap)?;
+    Ok(counts_of(&cut))
+}
+
+/// Whether the certificate counts other features, pieces or zones than the cut has.
+pub(crate) fn counts_differ(head: &Head, cut: &LayerCut) -> bool
+    ensures { IsTrue result ↔ HasOtherCounts head.now (cut_view cut.now) }
+{
+    if cut.features.items().len() as u64 != head.features {
+        return true;
+    }
+    if cut.pieces.parts().items().len() as u64 != head.pieces {
+        return true;
+    }
+    if cut.pieces.zones().len() as u64 != head.zones {
+        return true;
+    }
+    false
+}

@@ -1,0 +1,35 @@
+//! Features, zones and pieces of a layer.
+ghost use Rattle.std.specs.Prelude.{◌≤◌, IfOk};
+ghost use Rattle.dpl_spec.specs.Squares.{Covers};
+ghost use Rattle.dpl_spec.specs.Components.{AreComponents};
+ghost use Rattle.dpl_spec.specs.Decomposition.{IsCut};
+ghost use Rattle.dpl_check.specs.Cutting.{cut_view};
+
+use dpl_feature::features;
+use dpl_piece::{Pieces, pieces};
+use dpl_slabs::{Parts, Slabs};
+use dpl_zone::zones;
+use std::alloc::{AllocError, Global};
+
+/// A layer cut into pieces.
+#[derive(Drop)]
+pub(crate) struct LayerCut {
+    pub(crate) features: Parts,
+    pub(crate) pieces: Pieces,
+}
+
+/// The features of a layer, cut at their zones.
+pub(crate) fn cut_of(
+    alloc: Global,
+    layer: &Slabs,
+    rule: u32,
+    overlap: u32,
+) -> Result<LayerCut, AllocError>
+    requires { 1 ≤ overlap }
+    ensures { IfOk result (λ c. IsCut rule overlap (Covers layer.now) (cut_view c)) }
+{
+    let features = features(alloc, layer)?;
+    let zones = zones(alloc, &features, rule, overlap)?;
+    let pieces = pieces(alloc, &features, &zones)?;
+    Ok(LayerCut { features, pieces })
+}

@@ -1,0 +1,71 @@
+//! Checks two masks of a layer.
+ghost use Rattle.std.specs.Prelude.{IfOk};
+ghost use Rattle.dpl_cert.specs.Grammar.{IsCert, IsRule};
+ghost use Rattle.dpl_verdict.specs.Masks.{IsOfMasks, IsVerdictOfMasks};
+
+use crate::counts::{counts, rules_differ};
+use crate::cover::{doubled, uncovered};
+use crate::letters::bad_piece;
+use crate::spacing::too_close;
+use crate::stitch::bad_stitch;
+use dpl_cert::Cert;
+use dpl_feature::features;
+use dpl_slabs::Slabs;
+use dpl_verdict::Verdict;
+use std::alloc::{AllocError, Global};
+
+/// Whether masks `a` and `b` of a layer, with their certificate, are right for a rule and an overlap in database units: the first property that is broken, or that none is.
+pub fn check_masks(
+    alloc: Global,
+    layer: &Slabs,
+    a: &Slabs,
+    b: &Slabs,
+    cert: &Cert,
+    rule: u32,
+    overlap: u32,
+) -> Result<Verdict, AllocError>
+    requires kind { IsOfMasks cert.now }
+    requires cert { IsCert cert.now }
+    requires rule { IsRule rule }
+    requires overlap { IsRule overlap }
+    ensures { IfOk result (λ v. IsVerdictOfMasks rule overlap layer.now a.now b.now cert.now v) }
+{
+    let Cert::Masks {
+        head,
+        pieces,
+        stitches,
+    } = cert
+    else {
+        unreachable!()
+    };
+    if rules_differ(head, rule, overlap) {
+        return Ok(Verdict::Rules {
+            rule: head.rule,
+            overlap: head.overlap,
+        });
+    }
+    let features = features(alloc, layer)?;
+    if features.items().len() as u64 != head.features {
+        let found = counts(alloc, layer, rule, overlap)?;
+        return Ok(found);
+    }
+    if let Some(at) = uncovered(alloc, layer, a, b)? {
+        return Ok(Verdict::Cover { at });
+    }
+    if let Some(at) = doubled(alloc, a, b, stitches.items())? {
+        return Ok(Verdict::Overlap { at });
+    }
+    if let Some((first, second)) = too_close(alloc, layer, &features, a, rule)? {
+        return Ok(Verdict::SpacingA { first, second });
+    }
+    if let Some((first, second)) = too_close(alloc, layer, &features, b, rule)? {
+        return Ok(Verdict::SpacingB { first, second });
+    }
+    if let Some(index) = bad_stitch(alloc, a, b, pieces.items(), stitches.items(), overlap)? {
+        return Ok(Verdict::Stitch { index });
+    }
+    if let Some(index) = bad_piece(alloc, a, b, pieces.items())? {
+        return Ok(Verdict::Piece { index });
+    }
+    Ok(Verdict::Valid)
+}

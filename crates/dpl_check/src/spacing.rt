@@ -1,0 +1,136 @@
+//! The least pair of squares of different features on a mask that are too close.
+ghost use Rattle.std.specs.Prelude.{◌+◌, ◌≡◌, ◌<◌, ◌≤◌, ◌^◌, ℕ, List, IfOk, length, unsigned_abs};
+ghost use Rattle.std.specs.List.{All};
+ghost use Rattle.dpl_spec.specs.declared.Pt.{Pt};
+ghost use Rattle.dpl_spec.specs.declared.Rect.{Rect};
+ghost use Rattle.dpl_spec.specs.Components.{AreComponents};
+ghost use Rattle.dpl_spec.specs.Loops.{farthest, AreRectsWithin, IsRectWithin};
+ghost use Rattle.dpl_spec.specs.Slabs.{IsSolid};
+ghost use Rattle.dpl_spec.specs.Squares.{Covers};
+ghost use Rattle.dpl_tree.specs.Trees.{HasLeaf};
+ghost use Rattle.dpl_tree.specs.declared.tree.Owners.TheVariants.{All as Everyone, Only};
+ghost use Rattle.dpl_nearest.specs.Search.{AreLeavesWithin, LeafCovers, unit_of};
+ghost use Rattle.dpl_verdict.specs.Masks.{AreTooClose};
+ghost use Rattle.dpl_check.specs.Findings.{IsLeastOf, IsLeastPairOf};
+ghost use Rattle.dpl_check.specs.Owned.{AreForeign, AreOwnedLeaves, AreOwners, IsOwnedOnce, IsSingle, corner, foreign};
+
+use crate::window::owner_at;
+use dpl_base::{Pt, Rect};
+use dpl_nearest::{improved, unit};
+use dpl_slabs::{Parts, Slabs};
+use dpl_tree::{Owners, Tree, add_items_of};
+use std::alloc::{AllocError, Global};
+
+/// The owner of the tree's rectangle that has the lower left square of `r`.
+fn owner_of(r: &Rect, tree: &Tree) -> usize
+    requires within { IsRectWithin farthest r.now }
+    requires leaves { AreLeavesWithin (farthest + 1) tree.now }
+    requires inside { LeafCovers Everyone tree.now (corner r.now) }
+    ensures { LeafCovers (Only result) tree.now (corner r.now) }
+{
+    let p = Pt { x: r.x0, y: r.y0 };
+    match owner_at(tree, p) {
+        Some(k) => k,
+        None => unreachable!(),
+    }
+}
+
+/// The same for each rectangle.
+fn owners_of(alloc: Global, rects: &[Rect], tree: &Tree) -> Result<Vec<usize>, AllocError>
+    requires within { AreRectsWithin farthest rects.now }
+    requires leaves { AreLeavesWithin (farthest + 1) tree.now }
+    requires inside { All (λ r. LeafCovers Everyone tree.now (corner r)) rects.now }
+    ensures { IfOk result (λ v. AreOwners tree.now rects.now v.items) }
+{
+    let mut owners = Vec::new(alloc);
+    for r in rects {
+        owners.push(owner_of(r, tree))?;
+    }
+    Ok(owners)
+}
+
+/// The tree of rectangles, each with its owner.
+fn owned_tree(alloc: Global, rects: &[Rect], owners: &[usize]) -> Result<Tree, AllocError>
+    requires { length owners.now ≡ length rects.now }
+    ensures { IfOk result (λ t. AreOwnedLeaves rects.now owners.now t) }
+{
+    let mut items = Vec::new(alloc);
+    for i in 0..rects.len() {
+        add_items_of(&mut items, &[rects[i]], owners[i])?;
+    }
+    let tree = Tree::of(alloc, items)?;
+    Ok(tree)
+}
+
+/// The tree of one square with its owner.
+fn single_tree(alloc: Global, p: Pt, owner: usize) -> Result<Tree, AllocError>
+    requires x { unsigned_abs p.x ≤ 2 ^ 61 }
+    requires y { unsigned_abs p.y ≤ 2 ^ 61 }
+    ensures { IfOk result (λ t. IsSingle p owner t) }
+{
+    let mut items = Vec::new(alloc);
+    add_items_of(&mut items, &[unit(p)], owner)?;
+    let tree = Tree::of(alloc, items)?;
+    Ok(tree)
+}
+
+/// The least square of rectangles that is near a leaf of another owner.
+fn first_foreign(rects: &[Rect], owners: &[usize], tree: &Tree, rule: u32) -> Option<Pt>
+    requires each { length owners.now ≡ length rects.now }
+    requires solid { All IsSolid rects.now }
+    requires within { AreRectsWithin farthest rects.now }
+    requires leaves { AreLeavesWithin (farthest + 1) tree.now }
+    ensures { IsLeastOf (foreign rule rects.now owners.now tree.now (length rects.now)) result }
+{
+    let mut best = None;
+    for i in 0..rects.len() {
+        best = improved(best, &rects[i], tree, Owners::But(owners[i]), rule);
+    }
+    best
+}
+
+/// The least pair of near squares of rectangles of two owners.
+fn foreign_pair(
+    alloc: Global,
+    rects: &[Rect],
+    owners: &[usize],
+    rule: u32,
+) -> Result<Option<(Pt, Pt)>, AllocError>
+    requires each { length owners.now ≡ length rects.now }
+    requires solid { All IsSolid rects.now }
+    requires within { AreRectsWithin farthest rects.now }
+    requires once { IsOwnedOnce rects.now owners.now }
+    ensures { IfOk result (λ found. IsLeastPairOf (AreForeign rule rects.now owners.now) found) }
+{
+    let tree = owned_tree(alloc, rects, owners)?;
+    let Some(first) = first_foreign(rects, owners, &tree, rule) else {
+        return Ok(None);
+    };
+    let Some(owner) = owner_at(&tree, first) else {
+        unreachable!()
+    };
+    let single = single_tree(alloc, first, owner)?;
+    let Some(second) = first_foreign(rects, owners, &single, rule) else {
+        unreachable!()
+    };
+    Ok(Some((first, second)))
+}
+
+/// The least pair of squares of different features that are on a mask and closer than `rule` database units.
+pub(crate) fn too_close(
+    alloc: Global,
+    layer: &Slabs,
+    features: &Parts,
+    mask: &Slabs,
+    rule: u32,
+) -> Result<Option<(Pt, Pt)>, AllocError>
+    requires features { AreComponents (Covers layer.now) features.now }
+    requires inside { (p : Pt) → Covers mask.now p → Covers layer.now p }
+    ensures { IfOk result (λ found. IsLeastPairOf (AreTooClose rule (Covers layer.now) (Covers mask.now)) found) }
+{
+    let tree = Tree::of_parts(alloc, features.items())?;
+    let rects = mask.rects();
+    let owners = owners_of(alloc, rects, &tree)?;
+    let found = foreign_pair(alloc, rects, &owners, rule)?;
+    Ok(found)
+}

@@ -1,0 +1,3 @@
+pub mod Order
+pub mod Masks
+pub mod Conflicts
