@@ -52,8 +52,8 @@ fn put_corners(out: &mut Vec<u8>, r: &Rect) -> Result<(), AllocError>
     Ok(())
 }
 
-/// The element of a slab on a layer, 64 bytes.
-fn put_boundary(out: &mut Vec<u8>, layer: u16, r: &Rect) -> Result<(), AllocError>
+/// Puts a slab on a layer as one BOUNDARY of data type 0 behind `out`, 64 bytes.
+pub fn put_boundary(out: &mut Vec<u8>, layer: u16, r: &Rect) -> Result<(), AllocError>
     requires { IsRectWithin farthest r.now }
     ensures { OnOk result (out.new.items ≡ out.old.items ++ boundary_bytes layer r.now) }
 {

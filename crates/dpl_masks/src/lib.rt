@@ -5,6 +5,6 @@ mod bytes;
 mod painting;
 mod pair;
 
-pub use bytes::file_bytes;
+pub use bytes::{file_bytes, put_boundary};
 pub use painting::masks;
 pub use pair::Masks;
