@@ -6,23 +6,26 @@ mod files;
 mod tests;
 
 use crate::files::FileHost;
+use dpl_pool::OpenGate;
 use dpl_run::{Status, run};
 use std::alloc::{AllocError, Global};
 use std::process::ExitCode;
+use std::sync::Wait;
+use std::thread::Threads;
 use std::{env, io};
 
 fn main(rt: HostRuntime) -> ExitCode {
     let status = match env::args(&rt) {
-        Ok(words) => run_on(&rt, words),
-        Err(error) => without_words(&rt, &error),
+        Ok(words) => run_on(&rt, &rt, words),
+        Err(error) => without_words(&rt, &rt, &error),
     };
     ExitCode::from(status.code())
 }
 
-/// Does what the words ask for, on the files of the system.
-fn run_on(rt: &HostRuntime, words: env::Args) -> Status {
+/// Does what the words ask for, on the files of the system, with threads by `threads`.
+fn run_on<R: Threads + Wait + Sync>(threads: &R, rt: &HostRuntime, words: env::Args) -> Status {
     match kept(rt.alloc(), words) {
-        Ok(words) => run_texts(rt, &words),
+        Ok(words) => run_texts(threads, rt, &words),
         Err(_) => Status::NoMemory,
     }
 }
@@ -45,17 +48,33 @@ fn texts_of(alloc: Global, words: &[String]) -> Result<Vec<&str>, AllocError> {
     Ok(texts)
 }
 
-fn run_texts(rt: &HostRuntime, words: &[String]) -> Status {
+fn run_texts<R: Threads + Wait + Sync>(threads: &R, rt: &HostRuntime, words: &[String]) -> Status {
     match texts_of(rt.alloc(), words) {
-        Ok(texts) => run(rt.alloc(), texts.as_slice(), &mut FileHost::new(rt)),
+        Ok(texts) => run(
+            threads,
+            rt.alloc(),
+            texts.as_slice(),
+            &mut FileHost::new(rt),
+            &OpenGate,
+        ),
         Err(_) => Status::NoMemory,
     }
 }
 
 /// Words that aren't UTF-8 are no command.
-fn without_words(rt: &HostRuntime, error: &io::Error) -> Status {
+fn without_words<R: Threads + Wait + Sync>(
+    threads: &R,
+    rt: &HostRuntime,
+    error: &io::Error,
+) -> Status {
     if error.kind() == io::ErrorKind::OutOfMemory {
         return Status::NoMemory;
     }
-    run(rt.alloc(), &["dpl"], &mut FileHost::new(rt))
+    run(
+        threads,
+        rt.alloc(),
+        &["dpl"],
+        &mut FileHost::new(rt),
+        &OpenGate,
+    )
 }

@@ -15,9 +15,8 @@ use Rattle.dpl_spec.specs.Slabs.{AreSlabsOf}
 use Rattle.dpl_laws.proofs.Tops.{top-same, top-fault_same, top-or_fault}
 use Rattle.dpl_laws.proofs.FirstFaults.{fault-same, faultless-or_fault}
 use Rattle.dpl_cert.specs.declared.name.Name.{Name}
-use Rattle.dpl_words.specs.Meaning.{SplitValues}
 use Rattle.dpl_run.specs.Naming.{syntax_name, top_name, flatten_name}
-use Rattle.dpl_run.specs.Reading.{Reading, Faulty, Layer, chosen, front_of, IsFaultIn, IsLayerIn, IsLayout, IsReading}
+use Rattle.dpl_run.specs.Reading.{Choice, Reading, Faulty, Layer, chosen, front_of, IsFaultIn, IsLayerIn, IsLayout, IsReading}
 
 named-top : (f : TopFault) (p : Name × ℕ) → top_name f ≡ Some p → f ≢ NoMemoryForTop
 named-top f p e is = let gone : None ≡ Some p = sym (ap top_name is) ∙ e in cc
@@ -28,7 +27,7 @@ named-fault f p e is = let gone : None ≡ Some p = sym (ap flatten_name is) ∙
 abbrev faulty : Name × ℕ → Reading
 faulty p = Faulty p.0 p.1
 
-module _ (v : SplitValues) (bytes : List ℕ) (lib : Library) (holds : Holds bytes lib) where
+module _ (v : Choice) (bytes : List ℕ) (lib : Library) (holds : Holds bytes lib) where
   fault-in_same : (m n : Name) (i j : ℕ) → IsFaultIn v lib m i → IsFaultIn v lib n j → Faulty m i ≡ Faulty n j
   fault-in_same m n i j (inl (f, a, e)) (inl (g, b, h)) =
       let same : f ≡ g = top-fault_same lib v.top f g (named-top f (m, i) e) (named-top g (n, j) h) a b in
@@ -63,7 +62,7 @@ module _ (v : SplitValues) (bytes : List ℕ) (lib : Library) (holds : Holds byt
       let slabs : r ≡ s = slabs-unique (IsInLayer lib a.top (chosen v)) r s a.squares (subst (λ t. AreSlabsOf (IsInLayer lib t (chosen v)) s) tops b.squares) in
       ap (λ x. Layer x r) fronts ∙ ap (λ x. Layer q x) slabs
 
-module _ (v : SplitValues) (bytes : List ℕ) where
+module _ (v : Choice) (bytes : List ℕ) where
   layout-same : (x y : Reading) → IsLayout v bytes x → IsLayout v bytes y → x ≡ y
   layout-same (Faulty m i) (Faulty n j) (inl (f, a, e)) (inl (g, b, h)) =
       let p : Name × ℕ = (m, i) in

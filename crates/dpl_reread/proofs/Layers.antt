@@ -1,9 +1,9 @@
 -- The layers of a library whose one structure has one boundary for each rectangle.
-use Rattle.std.proofs.Common.{◌≡◌, ◌≢◌, ℕ, ◌+◌, ◌<◌, ◌⊎◌, inl, inr, Bool, true, false, ◌&&◌, eqb, cond, List, [], ◌∷◌, ◌++◌, length, map, Option, Some, None, refl, sym, subst, ap, ◌∙◌, arith}
+use Rattle.std.proofs.Common.{◌≡◌, ◌≢◌, ℕ, ◌+◌, ◌<◌, ◌⊎◌, inl, inr, Bool, true, false, ◌&&◌, eqb, cond, List, [], ◌∷◌, ◌++◌, length, map, slice_get, Option, Some, None, zero, suc, refl, sym, subst, ap, ◌∙◌, arith, rules}
 use Rattle.std.specs.Prelude.{◌↔◌, if◌then◌else◌}
 use Rattle.std.specs.List.{Contains, All, Any}
 use Rattle.std.proofs.lemmas.Bool.{eqb-true, eq-eqb}
-use Rattle.std.proofs.lemmas.List.{map-id}
+use Rattle.std.proofs.lemmas.List.{map-id, map-append}
 use Rattle.std.proofs.lemmas.List.Elements.{Contains-append_left, Contains-append_right, Contains-append_cases}
 use Rattle.dpl_spec.proofs.Ordered.{Contains-cases, Contains-head, Contains-later, Contains-nil}
 use Rattle.dpl_spec.proofs.SlabLaws.{Covers-member, member-Covers}
@@ -12,12 +12,13 @@ use Rattle.dpl_spec.specs.declared.Rect.{Rect}
 use Rattle.dpl_spec.specs.Squares.{Has, Covers}
 use Rattle.dpl_spec.specs.Slabs.{IsSolid}
 use Rattle.dpl_spec.specs.Loops.{LoopCovers, SomeLoopCovers, IsRectWithin, farthest}
-use Rattle.dpl_format.specs.Tree.{Library, Structure, Element, Body, is_boundary, elements_at}
+use Rattle.dpl_format.specs.Tree.{Library, Structure, Element, Body, is_boundary, elements_at, elements_or_none}
 use Rattle.dpl_layout.specs.declared.Layer.{Layer}
 use Rattle.dpl_layout.specs.Elements.{points_in, loops_of, is_on}
-use Rattle.dpl_layout.specs.Structures.{target_of}
+use Rattle.dpl_layout.specs.Structures.{target_of, Refers, IsRoot, AreRoots, IsTop}
 use Rattle.dpl_layout.specs.Placements.{Step, IsStep, Leads, IsPlacement, IsInLayer, placed_loops}
 use Rattle.dpl_masks.specs.Bytes.{corners}
+use Rattle.dpl_reread.specs.ReadBack.{boundary_round}
 use Rattle.dpl_reread.proofs.Decoding.{xy_of, points-read}
 use Rattle.dpl_reread.proofs.Rounds.{round-covers}
 
@@ -110,6 +111,37 @@ module _ (lib : Library) (at : ℕ) (ss : List Shape) (good : (s : Shape) → Co
   pub layer-is : (layer : ℕ) (p : Pt) → IsInLayer lib 0 (record { layer = layer; datatype = 0 }) p ↔ InShapes layer p
   layer-is layer p = (λ (steps, k, e, placement, covers). to-shapes layer p steps k e placement.leads placement.inside covers, from-shapes layer p)
 
+-- ---- the top
+
+module _ (lib : Library) (top : Structure) (one : lib.structures ≡ top ∷ []) (at : ℕ) (ss : List Shape) (elements : top.elements ≡ elements_from at ss) where
+  all-here : (j : ℕ) → (slice_get lib.structures j ≡ Some top) ⊎ (slice_get lib.structures j ≡ None)
+  all-here zero = inl (ap (λ ts. slice_get ts 0) one)
+  all-here (suc j) = inr (ap (λ ts. slice_get ts (suc j)) one)
+
+  refers-nowhere : (j k : ℕ) → Refers lib j k → ⊥
+  refers-nowhere j k (e, e_in, target) = elim (all-here j) [
+    | inl here ↦ (let (t, t_in, body) = shape-of at ss e (subst (λ es. Contains es e) (ap elements_or_none here ∙ elements) e_in) in
+        let none : target_of lib (record { at = e.at; body = body_of_shape t }) ≡ Some k = subst (λ b. target_of lib (record { at = e.at; body = b }) ≡ Some k) body target in
+        cc)
+    | inr none ↦ absurd (Contains-nil e (subst (λ es. Contains es e) (ap elements_or_none none) e_in))
+  ]
+
+  root : IsRoot lib 0
+  root = let size : length lib.structures ≡ 1 = ap length one in record { known = omega (arith, size); unreferred = λ j. refers-nowhere j 0 }
+
+  the-root : (k : ℕ) → IsRoot lib k → Contains (0 ∷ []) k
+  the-root k is =
+      let size : length lib.structures ≡ 1 = ap length one in
+      let known : k < length lib.structures = is.known in
+      let zero_is : 0 ≡ k = omega (arith, size, known) in
+      subst (λ n. Contains (0 ∷ []) n) zero_is (Contains-head 0 [])
+
+  only-root : (k : ℕ) → Contains (0 ∷ []) k → IsRoot lib k
+  only-root k h = elim (Contains-cases 0 k [] h) [ inl same ↦ subst (IsRoot lib) same root | inr later ↦ absurd (Contains-nil k later) ]
+
+  pub top-is : IsTop lib None 0
+  top-is = record { ordered = search rules; exactly = λ k. (only-root k, the-root k) }
+
 -- ---- the shapes of two masks
 
 abbrev pub on_layer : ℕ → Rect → Shape
@@ -152,6 +184,21 @@ second-mask la lb a b p apart = (
   ],
   λ c. (let (r, r_in, has) = member-Covers b p c in (on_layer lb r, Contains-append_right (shapes_of la a) (shapes_of lb b) (on_layer lb r) (in-shapes lb b r r_in), refl, has)),
 )
+
+-- the elements of the shapes are those of both masks
+bodies-from : (at : ℕ) (ss : List Shape) → map (λ (e : Element). e.body) (elements_from at ss) ≡ map body_of_shape ss
+bodies-from at [] = refl
+bodies-from at (s ∷ ss) = ap (λ bs. body_of_shape s ∷ bs) (bodies-from (at + 64) ss)
+
+bodies-of : (layer : ℕ) (rs : List Rect) → map body_of_shape (shapes_of layer rs) ≡ map (boundary_round layer) rs
+bodies-of layer [] = refl
+bodies-of layer (r ∷ rs) = ap (λ bs. boundary_round layer r ∷ bs) (bodies-of layer rs)
+
+pub bodies-both : (at la lb : ℕ) (a b : List Rect) → map (λ (e : Element). e.body) (elements_from at (both_shapes la lb a b)) ≡ map (boundary_round la) a ++ map (boundary_round lb) b
+bodies-both at la lb a b =
+    bodies-from at (both_shapes la lb a b)
+    ∙ map-append body_of_shape (shapes_of la a) (shapes_of lb b)
+    ∙ (λ i. bodies-of la a i ++ bodies-of lb b i)
 
 -- what holds of the shapes of each mask
 pub all-shapes : (P : Shape → Type 0) (la lb : ℕ) (a b : List Rect) → ((r : Rect) → Contains a r → P (on_layer la r)) → ((r : Rect) → Contains b r → P (on_layer lb r)) → (s : Shape) → Contains (both_shapes la lb a b) s → P s

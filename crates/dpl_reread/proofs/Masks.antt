@@ -14,7 +14,7 @@ use Rattle.dpl_layout.specs.Placements.{IsInLayer}
 use Rattle.dpl_masks.specs.Bytes.{boundary_bytes, boundaries_bytes, closing_bytes, file_bytes}
 use Rattle.dpl_run.specs.Reading.{frame_bytes}
 use Rattle.dpl_reread.specs.ReadBack.{IsLayerOf, AreMasksOf, IsMask}
-use Rattle.dpl_reread.proofs.Layers.{Shape, IsGoodShape, on_layer, shapes_of, both_shapes, layer-is, first-mask, second-mask, all-shapes}
+use Rattle.dpl_reread.proofs.Layers.{Shape, IsGoodShape, on_layer, shapes_of, both_shapes, layer-is, top-is, bodies-both, first-mask, second-mask, all-shapes}
 use Rattle.dpl_reread.proofs.Boundaries.{shapes_bytes}
 use Rattle.dpl_reread.proofs.Whole.{whole_file, library_made, top_made, file-holds}
 use Rattle.dpl_reread.proofs.Fronts.{IsFront, front-whole}
@@ -55,6 +55,8 @@ read-back bytes lib s la lb a b held s_in apart la_in lb_in a_is b_is =
       holds = subst (λ x. Holds (frame_bytes (frame_of lib s) ++ x) read) (both-bytes la lb a b) holds;
       top = top;
       one = refl;
+      found = top-is read top refl _ shapes refl;
+      only = bodies-both _ la lb a b;
       first = λ p. both-ways (layer-is read _ shapes fine refl la p) (first-mask la lb a b p apart);
       second = λ p. both-ways (layer-is read _ shapes fine refl lb p) (second-mask la lb a b p apart);
     }

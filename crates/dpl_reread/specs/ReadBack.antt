@@ -1,27 +1,38 @@
 -- What a file of two masks holds when it is read back.
-use Rattle.std.specs.Prelude.{◌≡◌, ◌≢◌, ◌<◌, ◌↔◌, ℕ, List, [], ◌∷◌}
-use Rattle.std.specs.List.{Contains}
+use Rattle.std.specs.Prelude.{◌≡◌, ◌≢◌, ◌<◌, ◌↔◌, ◌++◌, ℕ, List, [], ◌∷◌, map, None}
+use Rattle.std.specs.List.{Contains, concat}
 use Rattle.dpl_spec.specs.declared.Pt.{Pt}
 use Rattle.dpl_spec.specs.declared.Rect.{Rect}
 use Rattle.dpl_spec.specs.Squares.{Covers}
 use Rattle.dpl_spec.specs.Loops.{farthest, AreRectsWithin}
 use Rattle.dpl_spec.specs.Slabs.{IsCanonical}
 use Rattle.dpl_format.specs.Layout.{Holds}
-use Rattle.dpl_format.specs.Tree.{Library, Structure, frame_of}
+use Rattle.dpl_format.specs.Tree.{Library, Structure, Element, Body, is_boundary, frame_of}
+use Rattle.dpl_layout.specs.Structures.{IsTop}
 use Rattle.dpl_layout.specs.Placements.{IsInLayer}
-use Rattle.dpl_masks.specs.Bytes.{file_bytes}
+use Rattle.dpl_masks.specs.Bytes.{corners, point_bytes, file_bytes}
 use Rattle.dpl_run.specs.Reading.{frame_bytes}
 
 -- In structure 0 of the library, the layer of data type 0 has the squares that the slabs cover.
 abbrev pub IsLayerOf : Library → ℕ → List Rect → Type 0
 IsLayerOf lib layer slabs = (p : Pt) → IsInLayer lib 0 (record { layer = layer; datatype = 0 }) p ↔ Covers slabs p
 
--- the bytes hold one structure, with mask a on one layer and mask b on another
+-- a BOUNDARY of data type 0 round a rectangle
+abbrev pub boundary_round : ℕ → Rect → Body
+boundary_round layer r = is_boundary (record { layer = layer; datatype = 0; xy = concat (map point_bytes (corners r)) })
+
+-- a structure's elements, without their offsets
+abbrev pub bodies_of : Structure → List Body
+bodies_of s = map (λ (e : Element). e.body) s.elements
+
+-- The bytes hold one structure, with mask a on one layer and mask b on another, and with no other element. It is the top where none is named.
 pub record AreMasksOf (bytes : List ℕ) (la lb : ℕ) (a b : List Rect) : Type 0 where
   pub lib : Library
   pub holds : Holds bytes lib
   pub top : Structure
   pub one : lib.structures ≡ top ∷ []
+  pub found : IsTop lib None 0
+  pub only : bodies_of top ≡ map (boundary_round la) a ++ map (boundary_round lb) b
   pub first : IsLayerOf lib la a
   pub second : IsLayerOf lib lb b
 

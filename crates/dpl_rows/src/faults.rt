@@ -6,7 +6,9 @@ use crate::layouts::{
 use crate::trial::{SPLIT, ends, is_done, trial};
 use dpl_run::Status;
 use std::alloc::Global;
+use std::sync::Wait;
 use std::test::*;
+use std::thread::Threads;
 
 const ONE_BAR: &str =
     "dpl 1\nrule 30 overlap 10\nfeatures 1 pieces 1 zones 0 stitches 0\npiece 0 A 0 0\nend\n";
@@ -58,25 +60,35 @@ fn one_bar(alloc: Global) -> Result<Vec<u8>, Fail> {
     bars(alloc, &[[0, 0, 100, 20]])
 }
 
-fn is_changed(alloc: Global, row: &Changed) -> Result<bool, Fail> {
+fn is_changed<R: Threads + Wait + Sync>(
+    rt: &R,
+    alloc: Global,
+    row: &Changed,
+) -> Result<bool, Fail> {
     let bar = one_bar(alloc)?;
     let file = with_byte(alloc, bar.as_slice(), row.at, row.byte)?;
-    let left = trial(alloc, file, &SPLIT)?;
+    let left = trial(rt, alloc, file, &SPLIT)?;
     Ok(ends(&left, Status::Refused, row.line, row.cert))
 }
 
 #[test]
 fn a_changed_byte_is_told(rt: HostRuntime) -> Result<(), Fail> {
     for row in &CHANGED {
-        assert!(rt; is_changed(rt.alloc(), row)?);
+        assert!(rt; is_changed(&rt, rt.alloc(), row)?);
     }
     Ok(())
 }
 
-fn is_cut(alloc: Global, length: usize, line: &str, cert: &str) -> Result<bool, Fail> {
+fn is_cut<R: Threads + Wait + Sync>(
+    rt: &R,
+    alloc: Global,
+    length: usize,
+    line: &str,
+    cert: &str,
+) -> Result<bool, Fail> {
     let mut file = one_bar(alloc)?;
     file.truncate(length);
-    let left = trial(alloc, file, &SPLIT)?;
+    let left = trial(rt, alloc, file, &SPLIT)?;
     Ok(ends(&left, Status::Refused, line, cert))
 }
 
@@ -85,6 +97,7 @@ fn a_cut_file_is_truncated(rt: HostRuntime) -> Result<(), Fail> {
     let alloc = rt.alloc();
     assert!(rt;
         is_cut(
+            &rt,
             alloc,
             140,
             "refused Truncated 114\n",
@@ -93,6 +106,7 @@ fn a_cut_file_is_truncated(rt: HostRuntime) -> Result<(), Fail> {
     );
     assert!(rt;
         is_cut(
+            &rt,
             alloc,
             166,
             "refused Truncated 166\n",
@@ -101,6 +115,7 @@ fn a_cut_file_is_truncated(rt: HostRuntime) -> Result<(), Fail> {
     );
     assert!(rt;
         is_cut(
+            &rt,
             alloc,
             0,
             "refused Truncated 0\n",
@@ -115,7 +130,7 @@ fn bytes_behind_the_library_are_ignored(rt: HostRuntime) -> Result<(), Fail> {
     let alloc = rt.alloc();
     let mut file = one_bar(alloc)?;
     file.extend_from_slice(&[0; 1878])?;
-    let left = trial(alloc, file, &SPLIT)?;
+    let left = trial(&rt, alloc, file, &SPLIT)?;
     let out = masks(alloc, &[[0, 0, 100, 20]], &[])?;
     assert_eq!(rt; out.len(), 170);
     assert!(rt; is_done(&left, ONE_LINE, ONE_BAR, out.as_slice()));
@@ -130,7 +145,7 @@ fn names_are_refused(rt: HostRuntime) -> Result<(), Fail> {
     rect(alloc, &mut file, 1, &[0, 0, 100, 20])?;
     end(&mut file)?;
     finish(&mut file)?;
-    let left = trial(alloc, file, &SPLIT)?;
+    let left = trial(&rt, alloc, file, &SPLIT)?;
     assert!(rt;
         ends(
             &left,
@@ -146,7 +161,7 @@ fn names_are_refused(rt: HostRuntime) -> Result<(), Fail> {
     begin(&mut file, b"SUB\0")?;
     end(&mut file)?;
     finish(&mut file)?;
-    let left = trial(alloc, file, &SPLIT)?;
+    let left = trial(&rt, alloc, file, &SPLIT)?;
     assert!(rt;
         ends(
             &left,
@@ -182,9 +197,9 @@ fn flagged(alloc: Global, place: usize) -> Result<Vec<u8>, Fail> {
 fn an_optional_record_has_its_place(rt: HostRuntime) -> Result<(), Fail> {
     let alloc = rt.alloc();
     let out = masks(alloc, &[[0, 0, 100, 20]], &[])?;
-    let left = trial(alloc, flagged(alloc, 0)?, &SPLIT)?;
+    let left = trial(&rt, alloc, flagged(alloc, 0)?, &SPLIT)?;
     assert!(rt; is_done(&left, ONE_LINE, ONE_BAR, out.as_slice()));
-    let left = trial(alloc, flagged(alloc, 1)?, &SPLIT)?;
+    let left = trial(&rt, alloc, flagged(alloc, 1)?, &SPLIT)?;
     assert!(rt;
         ends(
             &left,
@@ -229,13 +244,13 @@ fn a_layer_is_chosen_by_both_numbers(rt: HostRuntime) -> Result<(), Fail> {
     let nothing = masks(alloc, &[], &[])?;
     assert_eq!(rt; nothing.len(), 106);
     let words = choosing(alloc, "--layer", "9")?;
-    let left = trial(alloc, one_bar(alloc)?, &words)?;
+    let left = trial(&rt, alloc, one_bar(alloc)?, &words)?;
     assert!(rt; is_done(&left, none, empty, nothing.as_slice()));
     let bar = one_bar(alloc)?;
     let half = with_byte(alloc, bar.as_slice(), 112, 255)?;
     let file = with_byte(alloc, half.as_slice(), 113, 255)?;
     let words = choosing(alloc, "--datatype", "65535")?;
-    let left = trial(alloc, file, &words)?;
+    let left = trial(&rt, alloc, file, &words)?;
     assert_eq!(rt; left.host.said(), ONE_LINE.as_bytes());
     Ok(())
 }

@@ -4,7 +4,9 @@ use crate::layouts::{Part, bars, begin, element, end, finish, ints, library, mas
 use crate::trial::{SPLIT, ends, is_done, trial};
 use dpl_run::Status;
 use std::alloc::Global;
+use std::sync::Wait;
 use std::test::*;
+use std::thread::Threads;
 
 const ONE_BAR: &str =
     "dpl 1\nrule 30 overlap 10\nfeatures 1 pieces 1 zones 0 stitches 0\npiece 0 A 0 0\nend\n";
@@ -44,14 +46,15 @@ fn referred(alloc: Global, name: &[u8], turn: &[Part<'_>]) -> Result<Vec<u8>, Fa
     Ok(out)
 }
 
-fn is_refused(
+fn is_refused<R: Threads + Wait + Sync>(
+    rt: &R,
     alloc: Global,
     file: Vec<u8>,
     words: &[&str],
     line: &str,
     cert: &str,
 ) -> Result<bool, Fail> {
-    let left = trial(alloc, file, words)?;
+    let left = trial(rt, alloc, file, words)?;
     Ok(ends(&left, Status::Refused, line, cert))
 }
 
@@ -60,10 +63,10 @@ fn a_reference_is_followed(rt: HostRuntime) -> Result<(), Fail> {
     let alloc = rt.alloc();
     let as_it_is = masks(alloc, &[[0, 0, 100, 20]], &[])?;
     let file = referred(alloc, b"SUB\0", &[STRANS_0])?;
-    let left = trial(alloc, file, &SPLIT)?;
+    let left = trial(&rt, alloc, file, &SPLIT)?;
     assert!(rt; is_done(&left, ONE_LINE, ONE_BAR, as_it_is.as_slice()));
     let file = referred(alloc, b"SUB\0", &[STRANS_0, MAG_1, ANGLE_360])?;
-    let left = trial(alloc, file, &SPLIT)?;
+    let left = trial(&rt, alloc, file, &SPLIT)?;
     assert!(rt; is_done(&left, ONE_LINE, ONE_BAR, as_it_is.as_slice()));
     Ok(())
 }
@@ -73,7 +76,7 @@ fn a_reference_turns_back(rt: HostRuntime) -> Result<(), Fail> {
     let alloc = rt.alloc();
     let turned = masks(alloc, &[[0, -100, 20, 0]], &[])?;
     let file = referred(alloc, b"SUB\0", &[STRANS_0, ANGLE_BACK])?;
-    let left = trial(alloc, file, &SPLIT)?;
+    let left = trial(&rt, alloc, file, &SPLIT)?;
     let cert =
         "dpl 1\nrule 30 overlap 10\nfeatures 1 pieces 1 zones 0 stitches 0\npiece 0 A 0 -100\nend\n";
     assert!(rt; is_done(&left, ONE_LINE, cert, turned.as_slice()));
@@ -115,7 +118,7 @@ fn a_reference_is_refused(rt: HostRuntime) -> Result<(), Fail> {
     let alloc = rt.alloc();
     for row in &REFUSALS {
         let file = referred(alloc, b"SUB\0", row.turn)?;
-        assert!(rt; is_refused(alloc, file, &SPLIT, row.line, row.cert)?);
+        assert!(rt; is_refused(&rt, alloc, file, &SPLIT, row.line, row.cert)?);
     }
     Ok(())
 }
@@ -146,6 +149,7 @@ fn the_top_is_chosen(rt: HostRuntime) -> Result<(), Fail> {
     let words = with_top("NONE");
     assert!(rt;
         is_refused(
+            &rt,
             alloc,
             file,
             &words,
@@ -157,6 +161,7 @@ fn the_top_is_chosen(rt: HostRuntime) -> Result<(), Fail> {
     let words = with_top("TOP");
     assert!(rt;
         is_refused(
+            &rt,
             alloc,
             file,
             &words,
@@ -167,6 +172,7 @@ fn the_top_is_chosen(rt: HostRuntime) -> Result<(), Fail> {
     let file = referred(alloc, b"SUX\0", &[STRANS_0])?;
     assert!(rt;
         is_refused(
+            &rt,
             alloc,
             file,
             &SPLIT,
@@ -182,7 +188,7 @@ fn a_top_is_chosen_by_its_name(rt: HostRuntime) -> Result<(), Fail> {
     let alloc = rt.alloc();
     let file = referred(alloc, b"SUB\0", &[STRANS_0])?;
     let words = with_top("SUB");
-    let left = trial(alloc, file, &words)?;
+    let left = trial(&rt, alloc, file, &words)?;
     assert!(rt; left.status == Status::Done);
     assert_eq!(rt; left.host.said(), ONE_LINE.as_bytes());
     assert_eq!(rt; left.host.file("cert"), Some(ONE_BAR.as_bytes()));
@@ -217,7 +223,7 @@ fn arrayed(alloc: Global, xy: &[i32]) -> Result<Vec<u8>, Fail> {
 fn an_array_is_laid_out(rt: HostRuntime) -> Result<(), Fail> {
     let alloc = rt.alloc();
     let file = arrayed(alloc, &[100, 200, 250, 200, 100, 340])?;
-    let left = trial(alloc, file, &SPLIT)?;
+    let left = trial(&rt, alloc, file, &SPLIT)?;
     let out = masks(
         alloc,
         &[
@@ -243,6 +249,7 @@ fn an_array_is_laid_out(rt: HostRuntime) -> Result<(), Fail> {
     let file = arrayed(alloc, &[100, 200, 251, 200, 100, 340])?;
     assert!(rt;
         is_refused(
+            &rt,
             alloc,
             file,
             &SPLIT,
@@ -271,6 +278,7 @@ fn a_recursion_is_refused_where_it_is_reached(rt: HostRuntime) -> Result<(), Fai
     finish(&mut file)?;
     assert!(rt;
         is_refused(
+            &rt,
             alloc,
             file,
             &SPLIT,
@@ -285,7 +293,7 @@ fn a_recursion_is_refused_where_it_is_reached(rt: HostRuntime) -> Result<(), Fai
     rect(alloc, &mut file, 1, &[0, 0, 100, 20])?;
     end(&mut file)?;
     finish(&mut file)?;
-    let left = trial(alloc, file, &SPLIT)?;
+    let left = trial(&rt, alloc, file, &SPLIT)?;
     let out = masks(alloc, &[[0, 0, 100, 20]], &[])?;
     assert!(rt; is_done(&left, ONE_LINE, ONE_BAR, out.as_slice()));
     Ok(())
@@ -327,6 +335,7 @@ fn placed_points_are_counted_by_structure(rt: HostRuntime) -> Result<(), Fail> {
     let file = stacked(alloc, true)?;
     assert!(rt;
         is_refused(
+            &rt,
             alloc,
             file,
             &SPLIT,
@@ -335,7 +344,7 @@ fn placed_points_are_counted_by_structure(rt: HostRuntime) -> Result<(), Fail> {
         )?
     );
     let file = stacked(alloc, false)?;
-    let left = trial(alloc, file, &SPLIT)?;
+    let left = trial(&rt, alloc, file, &SPLIT)?;
     let none = "dpl 1\nrule 30 overlap 10\nfeatures 0 pieces 0 zones 0 stitches 0\nend\n";
     assert!(rt; left.status == Status::Done);
     assert_eq!(rt; left.host.file("cert"), Some(none.as_bytes()));
@@ -348,6 +357,7 @@ fn a_far_point_is_refused(rt: HostRuntime) -> Result<(), Fail> {
     let file = bars(alloc, &[[0, 0, 1_000_000_001, 20]])?;
     assert!(rt;
         is_refused(
+            &rt,
             alloc,
             file,
             &SPLIT,

@@ -2,6 +2,10 @@
 #![tactic(auto)]
 
 #[cfg(test)]
+mod checks;
+#[cfg(test)]
+mod demos;
+#[cfg(test)]
 mod faults;
 #[cfg(test)]
 mod hierarchy;
@@ -14,4 +18,8 @@ mod rectangles;
 #[cfg(test)]
 mod shapes;
 #[cfg(test)]
+mod tiles;
+#[cfg(test)]
 mod trial;
+#[cfg(test)]
+mod workers;

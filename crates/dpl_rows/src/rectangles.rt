@@ -4,7 +4,9 @@ use crate::layouts::{Box4, bars, begin, boundary, end, finish, library, masks};
 use crate::trial::{SPLIT, ends, is_done, trial};
 use dpl_run::Status;
 use std::alloc::Global;
+use std::sync::Wait;
 use std::test::*;
+use std::thread::Threads;
 
 /// A layer that is done.
 struct Row {
@@ -110,9 +112,9 @@ const ROWS: [Row; 10] = [
     },
 ];
 
-fn comes_out(alloc: Global, row: &Row) -> Result<bool, Fail> {
+fn comes_out<R: Threads + Wait + Sync>(rt: &R, alloc: Global, row: &Row) -> Result<bool, Fail> {
     let file = bars(alloc, row.layer)?;
-    let left = trial(alloc, file, &SPLIT)?;
+    let left = trial(rt, alloc, file, &SPLIT)?;
     let out = masks(alloc, row.a, row.b)?;
     Ok(is_done(&left, row.line, row.cert, out.as_slice()))
 }
@@ -120,7 +122,7 @@ fn comes_out(alloc: Global, row: &Row) -> Result<bool, Fail> {
 #[test]
 fn layers_are_split(rt: HostRuntime) -> Result<(), Fail> {
     for row in &ROWS {
-        assert!(rt; comes_out(rt.alloc(), row)?);
+        assert!(rt; comes_out(&rt, rt.alloc(), row)?);
     }
     Ok(())
 }
@@ -142,16 +144,16 @@ const CLASHES: [Clash; 2] = [
     },
 ];
 
-fn clashes(alloc: Global, row: &Clash) -> Result<bool, Fail> {
+fn clashes<R: Threads + Wait + Sync>(rt: &R, alloc: Global, row: &Clash) -> Result<bool, Fail> {
     let file = bars(alloc, row.layer)?;
-    let left = trial(alloc, file, &SPLIT)?;
+    let left = trial(rt, alloc, file, &SPLIT)?;
     Ok(ends(&left, Status::Conflict, "conflict cycle 3\n", row.cert))
 }
 
 #[test]
 fn odd_cycles_are_told(rt: HostRuntime) -> Result<(), Fail> {
     for row in &CLASHES {
-        assert!(rt; clashes(rt.alloc(), row)?);
+        assert!(rt; clashes(&rt, rt.alloc(), row)?);
     }
     Ok(())
 }
@@ -162,13 +164,13 @@ const RING: [i32; 26] = [
     0, 0,
 ];
 
-fn ring_of(alloc: Global, points: &[i32]) -> Result<bool, Fail> {
+fn ring_of<R: Threads + Wait + Sync>(rt: &R, alloc: Global, points: &[i32]) -> Result<bool, Fail> {
     let mut file = library(alloc)?;
     begin(&mut file, b"TOP\0")?;
     boundary(alloc, &mut file, 1, points)?;
     end(&mut file)?;
     finish(&mut file)?;
-    let left = trial(alloc, file, &SPLIT)?;
+    let left = trial(rt, alloc, file, &SPLIT)?;
     let out = masks(
         alloc,
         &[
@@ -189,7 +191,7 @@ fn ring_of(alloc: Global, points: &[i32]) -> Result<bool, Fail> {
 
 #[test]
 fn a_ring_is_cut_in_four(rt: HostRuntime) -> Result<(), Fail> {
-    assert!(rt; ring_of(rt.alloc(), &RING)?);
-    assert!(rt; ring_of(rt.alloc(), &RING[..24])?);
+    assert!(rt; ring_of(&rt, rt.alloc(), &RING)?);
+    assert!(rt; ring_of(&rt, rt.alloc(), &RING[..24])?);
     Ok(())
 }

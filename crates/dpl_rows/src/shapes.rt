@@ -6,7 +6,9 @@ use crate::layouts::{
 use crate::trial::{SPLIT, ends, trial};
 use dpl_run::Status;
 use std::alloc::Global;
+use std::sync::Wait;
 use std::test::*;
+use std::thread::Threads;
 
 /// A path of width `width` through points, with further records behind its data type and behind its width.
 fn path(
@@ -61,9 +63,9 @@ const DRAWN: [Drawn; 3] = [
 const CORNER: [i32; 6] = [0, 0, 100, 0, 100, 100];
 
 /// Whether a path is done and its mask A has these rectangles.
-fn is_drawn(alloc: Global, row: &Drawn) -> Result<bool, Fail> {
+fn is_drawn<R: Threads + Wait + Sync>(rt: &R, alloc: Global, row: &Drawn) -> Result<bool, Fail> {
     let file = path(alloc, row.kind, 20, row.ends, &CORNER)?;
-    let left = trial(alloc, file, &SPLIT)?;
+    let left = trial(rt, alloc, file, &SPLIT)?;
     let out = masks(alloc, &row.rects, &[])?;
     Ok(left.status == Status::Done && left.host.file("out") == Some(out.as_slice()))
 }
@@ -71,7 +73,7 @@ fn is_drawn(alloc: Global, row: &Drawn) -> Result<bool, Fail> {
 #[test]
 fn paths_are_drawn(rt: HostRuntime) -> Result<(), Fail> {
     for row in &DRAWN {
-        assert!(rt; is_drawn(rt.alloc(), row)?);
+        assert!(rt; is_drawn(&rt, rt.alloc(), row)?);
     }
     Ok(())
 }
@@ -137,16 +139,20 @@ const REFUSED: [Refused; 6] = [
     },
 ];
 
-fn is_refused(alloc: Global, row: &Refused) -> Result<bool, Fail> {
+fn is_refused<R: Threads + Wait + Sync>(
+    rt: &R,
+    alloc: Global,
+    row: &Refused,
+) -> Result<bool, Fail> {
     let file = path(alloc, row.kind, row.width, row.ends, &row.xy)?;
-    let left = trial(alloc, file, &SPLIT)?;
+    let left = trial(rt, alloc, file, &SPLIT)?;
     Ok(ends(&left, Status::Refused, row.line, row.cert))
 }
 
 #[test]
 fn paths_are_refused(rt: HostRuntime) -> Result<(), Fail> {
     for row in &REFUSED {
-        assert!(rt; is_refused(rt.alloc(), row)?);
+        assert!(rt; is_refused(&rt, rt.alloc(), row)?);
     }
     Ok(())
 }
@@ -159,7 +165,7 @@ fn a_slanted_boundary_is_refused(rt: HostRuntime) -> Result<(), Fail> {
     boundary(alloc, &mut file, 1, &[0, 0, 100, 0, 101, 20, 0, 20, 0, 0])?;
     end(&mut file)?;
     finish(&mut file)?;
-    let left = trial(alloc, file, &SPLIT)?;
+    let left = trial(&rt, alloc, file, &SPLIT)?;
     assert!(rt;
         ends(
             &left,
@@ -185,7 +191,7 @@ fn parts_that_turn_opposite_ways_count(rt: HostRuntime) -> Result<(), Fail> {
     )?;
     end(&mut file)?;
     finish(&mut file)?;
-    let left = trial(alloc, file, &SPLIT)?;
+    let left = trial(&rt, alloc, file, &SPLIT)?;
     let out = masks(alloc, &[[0, 0, 10, 10], [10, 10, 20, 20]], &[])?;
     assert!(rt; left.status == Status::Done);
     assert_eq!(rt; left.host.file("out"), Some(out.as_slice()));

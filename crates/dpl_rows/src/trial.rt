@@ -1,10 +1,13 @@
 //! One run of the program over files in memory.
 
 use dpl_host::MemHost;
+use dpl_pool::OpenGate;
 use dpl_run::{Status, run};
 use std::alloc::Global;
 use std::collections::BTreeMap;
+use std::sync::Wait;
 use std::test::*;
+use std::thread::Threads;
 
 /// The words of a split of layer 1, with a rule of 30 and an overlap of 10.
 pub const SPLIT: [&str; 11] = [
@@ -37,9 +40,14 @@ pub fn host_with(alloc: Global, file: Vec<u8>) -> Result<MemHost, Fail> {
 }
 
 /// Runs the words on the file.
-pub fn trial(alloc: Global, file: Vec<u8>, words: &[&str]) -> Result<Left, Fail> {
+pub fn trial<R: Threads + Wait + Sync>(
+    rt: &R,
+    alloc: Global,
+    file: Vec<u8>,
+    words: &[&str],
+) -> Result<Left, Fail> {
     let mut host = host_with(alloc, file)?;
-    let status = run(alloc, words, &mut host);
+    let status = run(rt, alloc, words, &mut host, &OpenGate);
     Ok(Left { status, host })
 }
 

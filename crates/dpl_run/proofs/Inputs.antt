@@ -1,16 +1,18 @@
 -- What is made of what is read.
-use Rattle.std.proofs.Common.{◌≡◌, ◌∙◌, ◌<◌, ◌≤◌, ap, sym, refl, subst, inl, inr, true, List, [], ◌∷◌, ℕ, Option, Some, None, length, arith, zero, suc}
+use Rattle.std.proofs.Common.{◌≡◌, ◌∙◌, ◌<◌, ◌≤◌, ap, sym, refl, subst, inl, inr, true, List, [], ◌∷◌, ℕ, Option, Some, None, length, arith, zero, suc, ◌+◌, ◌*◌}
 use Rattle.std.specs.Prelude.{IfSome}
 use Rattle.std.specs.FinMap as map
 use Rattle.dpl_host.specs.Outside.{Outside, file_of, with_file}
 use Rattle.dpl_host.proofs.Files.{file_put}
-use Rattle.dpl_words.specs.Meaning.{AsksSplit, SplitValues}
+use Rattle.dpl_words.specs.Meaning.{AsksDemo, AsksSplit, DemoValues, SplitValues}
 use Rattle.clap.specs.Walk.{Text}
 use Rattle.dpl_run.specs.Outcome.{Outcome, Shows, is_answered, says}
 use Rattle.dpl_run.specs.Program.{IsInput, IsMade}
-use Rattle.dpl_run.specs.Split.{Decision, IsSplit, IsSplitOf, Refuses, Decides, plan_of, refusal}
+use Rattle.dpl_run.specs.Split.{Decision, IsSplit, IsSplitOf, Refuses, Decides, plan_of, refusal, split_choice}
+use Rattle.dpl_run.specs.Demo.{IsDemo, demo_choice, demo_plan}
+use Rattle.dpl_demo.specs.Demo.{demo_file}
 use Rattle.dpl_run.specs.Flat.{Flat, IsFlat, Paints, Clashes}
-use Rattle.dpl_run.specs.Reading.{Faulty, IsLayout, Layer}
+use Rattle.dpl_run.specs.Reading.{Faulty, IsLayout, IsReading, Layer}
 use Rattle.dpl_spec.specs.declared.Rect.{Rect}
 use Rattle.dpl_cert.specs.declared.name.Name.{Name}
 use Rattle.dpl_run.specs.Texts.{usage_line}
@@ -18,7 +20,7 @@ use Rattle.dpl_run.specs.declared.status.Status.TheVariants.{Usage}
 use Rattle.dpl_cert.specs.declared.name.Name.TheVariants.{TooLarge}
 
 -- an outside with nothing, and one with one file
-abbrev nothing : Outside
+abbrev pub nothing : Outside
 nothing = record { files = map.empty; said = [] }
 
 abbrev only : Text → List ℕ → Outside
@@ -30,11 +32,11 @@ seen None name bytes h small = (only name bytes, tt, file_put nothing name bytes
 seen (Some o) name bytes h small = (o, refl, h, small)
 
 -- a list of n zeros
-zeros : ℕ → List ℕ
+pub zeros : ℕ → List ℕ
 zeros zero = []
 zeros (suc n) = 0 ∷ zeros n
 
-length-zeros : (n : ℕ) → length (zeros n) ≡ n
+pub length-zeros : (n : ℕ) → length (zeros n) ≡ n
 unfolding zeros
 length-zeros zero = refl
 length-zeros (suc n) = ap suc (length-zeros n)
@@ -65,12 +67,12 @@ split_refused told v x h is =
     (h.0, h.1, of_file v _ file x there (Refuses TooLarge 268435456, inl (large, refl), is), ap (λ (y : Outcome). is_answered y.status) is)
 
 -- the layer was decomposed
-pub split_decided : (v : SplitValues) (bytes front : List ℕ) (layer : List Rect) (flat : Flat) (x : Outcome) → length bytes ≤ 268435456 → IsLayout v bytes (Layer front layer) → IsFlat v.rule v.overlap layer flat → x ≡ plan_of v (Decides front flat)
+pub split_decided : (v : SplitValues) (bytes front : List ℕ) (layer : List Rect) (flat : Flat) (x : Outcome) → length bytes ≤ 268435456 → IsLayout (split_choice v) bytes (Layer front layer) → IsFlat v.rule v.overlap layer flat → x ≡ plan_of v (Decides front flat)
     → IsSplit v bytes x
 split_decided v bytes front layer flat x small read decomposed is = (Decides front flat, (layer, inr (small, read), decomposed), is)
 
 -- the layout has a fault
-pub split_faulty : (v : SplitValues) (bytes : List ℕ) (name : Name) (at : ℕ) (x : Outcome) → length bytes ≤ 268435456 → IsLayout v bytes (Faulty name at) → x ≡ refusal v name at → IsSplit v bytes x
+pub split_faulty : (v : SplitValues) (bytes : List ℕ) (name : Name) (at : ℕ) (x : Outcome) → length bytes ≤ 268435456 → IsLayout (split_choice v) bytes (Faulty name at) → x ≡ refusal v name at → IsSplit v bytes x
 split_faulty v bytes name at x small read is = (Refuses name at, inr (small, read), is)
 
 -- an outside that shows
@@ -80,3 +82,27 @@ shown (Some o) = (o, refl)
 
 pub usage_made : (told : Option Outside) (x : Outcome) → x ≡ says Usage usage_line → IsMade None told x
 usage_made told x is = let s = shown told in (s.0, s.1, is, ap (λ (y : Outcome). is_answered y.status) is)
+
+-- ---- a made-up layout
+
+demo_answered : (d : Decision) → is_answered (demo_plan d).status ≡ true
+demo_answered (Refuses name at) = refl
+demo_answered (Decides front (Paints p)) = refl
+demo_answered (Decides front (Clashes x)) = refl
+
+pub demo_made : (told : Option Outside) (v : DemoValues) (x : Outcome) → IsDemo v x → IsMade (Some (AsksDemo v)) told x
+demo_made told v x is = let s = shown told in (s.0, s.1, is, ap (λ (y : Outcome). is_answered y.status) is.2 ∙ demo_answered is.0)
+
+-- its file isn't too large
+demo_small : (n rows : ℕ) → n ≡ 106 + 128 * rows → rows ≤ 1000000 → n ≤ 268435456
+demo_small n rows is few = omega (arith, is, few)
+
+pub demo_decided : (v : DemoValues) (bytes front : List ℕ) (layer : List Rect) (flat : Flat) (x : Outcome) → bytes ≡ demo_file v.seed v.rows → length bytes ≡ 106 + 128 * v.rows → v.rows ≤ 1000000 → IsLayout demo_choice bytes (Layer front layer)
+    → IsFlat 30 10 layer flat → x ≡ demo_plan (Decides front flat) → IsDemo v x
+demo_decided v bytes front layer flat x made size few read decomposed is =
+    (Decides front flat, subst (λ (bs : List ℕ). (rs : List Rect) × IsReading demo_choice bs (Layer front rs) × IsFlat 30 10 rs flat) made (layer, inr (demo_small _ _ size few, read), decomposed), is)
+
+pub demo_faulty : (v : DemoValues) (bytes : List ℕ) (name : Name) (at : ℕ) (x : Outcome) → bytes ≡ demo_file v.seed v.rows → length bytes ≡ 106 + 128 * v.rows → v.rows ≤ 1000000 → IsLayout demo_choice bytes (Faulty name at)
+    → x ≡ demo_plan (Refuses name at) → IsDemo v x
+demo_faulty v bytes name at x made size few read is =
+    (Refuses name at, subst (λ (bs : List ℕ). IsReading demo_choice bs (Faulty name at)) made (inr (demo_small _ _ size few, read)), is)

@@ -1,5 +1,5 @@
 -- A run that is done has parted its layer.
-use Rattle.std.proofs.Common.{◌≡◌, ◌∙◌, ap, sym, refl, subst, inl, inr, List, [], ◌∷◌, ℕ, Option, Some, None, map}
+use Rattle.std.proofs.Common.{◌≡◌, ◌∙◌, ap, sym, refl, subst, inl, inr, List, [], ◌∷◌, ℕ, Option, Some, None, map, codes}
 use Rattle.std.specs.FinMap as files
 use Rattle.clap.specs.Walk.{Text}
 use Rattle.dpl_host.specs.Outside.{Outside}
@@ -11,12 +11,19 @@ use Rattle.dpl_laws.specs.Masks.{OverlapAt, rect_at, rects_of}
 use Rattle.dpl_laws.proofs.Cover.{cover}
 use Rattle.dpl_laws.proofs.Apart.{far-on-a, far-on-b}
 use Rattle.dpl_laws.proofs.Overlap.{overlap-at}
-use Rattle.dpl_words.specs.Meaning.{AsksSplit, RequestValues, SplitValues, request_of}
+use Rattle.dpl_words.specs.Meaning.{AsksCheck, AsksDemo, AsksSplit, CheckValues, RequestValues, SplitValues, request_of}
+use Rattle.dpl_cert.specs.declared.cert.Cert.{Cert}
+use Rattle.dpl_cert.specs.declared.cert.Cert.TheVariants.{Masks, Conflict as ConflictText, Fault}
+use Rattle.dpl_cert.specs.declared.name.Name.TheVariants.{TooLarge}
+use Rattle.dpl_verdict.specs.declared.Verdict.TheVariants.{WasFault}
+use Rattle.dpl_run.specs.Check.{IsCheck, IsCheckOfCert, IsCheckOfFile, IsCheckOfMasks, WithFile, refusal_of, verdict_outcome}
+use Rattle.dpl_run.specs.Demo.{demo_plan}
+use Rattle.dpl_run.specs.Reading.{Faulty, Layer, limit}
 use Rattle.dpl_run.specs.Flat.{Clashes, IsPaintedCut, Painted, Paints, stitch_line}
-use Rattle.dpl_run.specs.Split.{Decides, Decision, IsDecision, IsSplitOf, Refuses, clash, painting, plan_of, refusal}
+use Rattle.dpl_run.specs.Split.{Decides, Decision, IsDecision, IsSplitOf, Refuses, clash, painting, plan_of, refusal, split_choice}
 use Rattle.dpl_run.specs.Program.{IsOutcome, IsPlan}
 use Rattle.dpl_run.specs.Outcome.{Outcome, says, silent}
-use Rattle.dpl_run.specs.Texts.{usage_line}
+use Rattle.dpl_run.specs.Texts.{bad_line_line, usage_line}
 use Rattle.dpl_run.specs.Parted.{ArePartingMasks, IsParted, IsPartedBy, WritesParting, rects_of_lines}
 use Rattle.dpl_run.specs.declared.status.Status.{Status}
 use Rattle.dpl_run.specs.declared.status.Status.TheVariants.{Done, Conflict, Refused, Usage, ReadFault}
@@ -40,7 +47,7 @@ painted_parts rule overlap layer cut p is painted =
       overlap = subst (λ (ss : List Rect). OverlapAt ss m.a m.b) (sym (line_rects cut.zones cut.sides m.stitches)) (overlap-at rule overlap (Covers layer) cut m is are);
     })
 
-paints : (v : SplitValues) (bytes front : List ℕ) (p : Painted) (x : Outcome) → IsDecision v bytes (Decides front (Paints p)) → x ≡ painting v front p → WritesParting v bytes x.writes
+paints : (v : SplitValues) (bytes front : List ℕ) (p : Painted) (x : Outcome) → IsDecision (split_choice v) v.rule v.overlap bytes (Decides front (Paints p)) → x ≡ painting v front p → WritesParting v bytes x.writes
 paints v bytes front p x d is =
     let (layer, reading, (cut, is_cut, painted)) = d in
     elim reading [
@@ -80,7 +87,7 @@ usage_not e = cc
 status_as : (x y : Outcome) (s : Status) → x ≡ y → y.status ≡ s → x.status ≡ Done → s ≡ Done
 status_as x y s is named done = sym named ∙ sym (ap (λ (z : Outcome). z.status) is) ∙ done
 
-decided_done : (v : SplitValues) (bytes : List ℕ) (d : Decision) (x : Outcome) → IsDecision v bytes d → x ≡ plan_of v d → x.status ≡ Done → WritesParting v bytes x.writes
+decided_done : (v : SplitValues) (bytes : List ℕ) (d : Decision) (x : Outcome) → IsDecision (split_choice v) v.rule v.overlap bytes d → x ≡ plan_of v d → x.status ≡ Done → WritesParting v bytes x.writes
 decided_done v bytes (Refuses name at) x d is done = absurd (refused_not (status_as x (refusal v name at) Refused is refl done))
 decided_done v bytes (Decides front (Clashes c)) x d is done = absurd (conflict_not (status_as x (clash v c) Conflict is refl done))
 decided_done v bytes (Decides front (Paints p)) x d is done = paints v bytes front p x d is
@@ -89,11 +96,44 @@ file_done : (v : SplitValues) (file : Option (List ℕ)) (x : Outcome) → IsSpl
 file_done v None x is done = absurd (read_not (status_as x (silent ReadFault) ReadFault is refl done))
 file_done v (Some bytes) x is done = (bytes, refl, decided_done v bytes is.0 x is.1 is.2 done)
 
+demo_writes : (d : Decision) → (demo_plan d).writes ≡ []
+demo_writes (Refuses name at) = refl
+demo_writes (Decides front (Paints p)) = refl
+demo_writes (Decides front (Clashes c)) = refl
+
+writes_as : (x y : Outcome) → x ≡ y → y.writes ≡ [] → x.writes ≡ []
+writes_as x y is none = ap (λ (z : Outcome). z.writes) is ∙ none
+
+masks_write : (v : CheckValues) (layer : List Rect) (cert : Cert) (bytes : List ℕ) (x : Outcome) → IsCheckOfMasks v layer cert bytes x → x.writes ≡ []
+masks_write v layer cert bytes x (Faulty name at, read, is) = writes_as x (refusal_of (codes "out") name at) is refl
+masks_write v layer cert bytes x (Layer front a, read, (Faulty name at, other, is)) = writes_as x (refusal_of (codes "out") name at) is refl
+masks_write v layer cert bytes x (Layer front a, read, (Layer back b, other, (w, said, is))) = writes_as x (verdict_outcome cert w) is refl
+
+cert_writes : (v : CheckValues) (layer : List Rect) (out : Option (List ℕ)) (cert : Cert) (x : Outcome) → IsCheckOfCert v layer out cert x → x.writes ≡ []
+cert_writes v layer None (Masks h ps ss) x is = writes_as x (silent ReadFault) is refl
+cert_writes v layer (Some bytes) (Masks h ps ss) x is = masks_write v layer (Masks h ps ss) bytes x is
+cert_writes v layer out (ConflictText h cs ns) x (w, said, is) = writes_as x (verdict_outcome (ConflictText h cs ns) w) is refl
+cert_writes v layer out (Fault name at) x is = writes_as x (verdict_outcome (Fault name at) (WasFault name at)) is refl
+
+layer_writes : (v : CheckValues) (layer : List Rect) (cert out : Option (List ℕ)) (x : Outcome) → WithFile cert (IsCheckOfFile v layer out) x → x.writes ≡ []
+layer_writes v layer None out x is = writes_as x (silent ReadFault) is refl
+layer_writes v layer (Some text) out x (inl (large, is)) = writes_as x (refusal_of (codes "cert") TooLarge limit) is refl
+layer_writes v layer (Some text) out x (inr (small, inl (cert, read, is))) = cert_writes v layer out cert x is
+layer_writes v layer (Some text) out x (inr (small, inr (n, bad, is))) = writes_as x (says Refused (bad_line_line n)) is refl
+
+-- `check` writes nothing
+check_writes : (v : CheckValues) (layout cert out : Option (List ℕ)) (x : Outcome) → IsCheck v layout cert out x → x.writes ≡ []
+check_writes v None cert out x is = writes_as x (silent ReadFault) is refl
+check_writes v (Some bytes) cert out x (Faulty name at, read, is) = writes_as x (refusal_of (codes "in") name at) is refl
+check_writes v (Some bytes) cert out x (Layer front layer, read, is) = layer_writes v layer cert out x is
+
 plan_done : (request : Option RequestValues) (o : Outside) (x : Outcome) → IsPlan request o.files x → x.status ≡ Done → IsPartedBy request o x.writes
 plan_done None o x is done = absurd (usage_not (status_as x (says Usage usage_line) Usage is refl done))
 plan_done (Some (AsksSplit v)) o x is done =
     let (bytes, there, parted) = file_done v (files.get o.files v.input) x is done in
-    record { values = v; asked = refl; bytes = bytes; read = there; parted = parted }
+    record { bytes = bytes; read = there; parted = parted }
+plan_done (Some (AsksCheck v)) o x is done = check_writes v (files.get o.files v.input) (files.get o.files v.certificate) (files.get o.files v.output) x is
+plan_done (Some (AsksDemo v)) o x is done = ap (λ (y : Outcome). y.writes) is.2 ∙ demo_writes is.0
 
 -- an outcome that is done
 pub outcome_parted : (words : List Text) (status : Status) (old new : Option Outside) → IsOutcome words status old new → status ≡ Done → IsParted words old new

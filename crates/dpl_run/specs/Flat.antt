@@ -1,5 +1,5 @@
 -- The decomposition of a layer, as a certificate tells it.
-use Rattle.std.specs.Prelude.{◌≡◌, ◌+◌, ◌%◌, ◌<◌, ℕ, pos, Bool, List, length, map, slice_index, slice_index_or}
+use Rattle.std.specs.Prelude.{◌≡◌, ◌+◌, ◌%◌, ◌<◌, ◌≤◌, ℕ, pos, Bool, List, length, map, slice_index, slice_index_or}
 use Rattle.std.specs.List.{zip}
 use Rattle.dpl_spec.specs.declared.Pt.{Pt}
 use Rattle.dpl_spec.specs.declared.Rect.{Rect}
@@ -97,3 +97,11 @@ FitsClash x = IsCert (ConflictText x.head x.cycle x.near)
 abbrev pub Fits : Flat → Type 0
 Fits (Paints p) = FitsPainted p
 Fits (Clashes x) = FitsClash x
+
+-- how many workers there may be
+abbrev pub AreWorkers : ℕ → Type 0
+AreWorkers n = (1 ≤ n) × (n ≤ 64)
+
+-- the side of a tile
+abbrev pub IsTile : ℕ → Type 0
+IsTile n = (1 ≤ n) × (n ≤ 1073741824)

@@ -4,6 +4,8 @@ pub mod Reading
 pub mod Flat
 pub mod Texts
 pub mod Split
+pub mod Demo
+pub mod Check
 pub mod Program
 pub mod LayerFaults
 pub mod View

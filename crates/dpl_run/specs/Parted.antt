@@ -1,5 +1,5 @@
 -- What a file of masks keeps: the layer is parted between them, features stay apart, and masks overlap at stitches alone.
-use Rattle.std.specs.Prelude.{◌≡◌, ℕ, List, [], ◌∷◌, Option, Some, map, option_map}
+use Rattle.std.specs.Prelude.{◌≡◌, ℕ, List, [], ◌∷◌, Option, Some, None, map, option_map}
 use Rattle.std.specs.FinMap as files
 use Rattle.clap.specs.Walk.{Text}
 use Rattle.dpl_host.specs.Outside.{Outside}
@@ -17,9 +17,9 @@ use Rattle.dpl_cert.specs.declared.cert.Head.{Head}
 use Rattle.dpl_cert.specs.declared.cert.PieceLine.{PieceLine}
 use Rattle.dpl_cert.specs.declared.cert.StitchLine.{StitchLine}
 use Rattle.dpl_masks.specs.Bytes.{file_bytes}
-use Rattle.dpl_words.specs.Meaning.{AsksSplit, RequestValues, SplitValues, request_of}
+use Rattle.dpl_words.specs.Meaning.{AsksCheck, AsksDemo, AsksSplit, RequestValues, SplitValues, request_of}
 use Rattle.dpl_run.specs.Reading.{chosen, front_of}
-use Rattle.dpl_run.specs.Split.{certified}
+use Rattle.dpl_run.specs.Split.{certified, split_choice}
 use Rattle.dpl_run.specs.Outcome.{Outcome, Shows, carried_out}
 
 abbrev pub rects_of_lines : List StitchLine → List Rect
@@ -42,7 +42,7 @@ pub record WritesParting (v : SplitValues) (bytes : List ℕ) (writes : List (Te
   pub top : ℕ
   pub is_top : IsTop lib v.top top
   pub layer : List Rect
-  pub squares : AreSlabsOf (IsInLayer lib top (chosen v)) layer
+  pub squares : AreSlabsOf (IsInLayer lib top (chosen (split_choice v))) layer
   -- its masks, and the lines of their certificate
   pub a : List Rect
   pub b : List Rect
@@ -55,14 +55,19 @@ pub record WritesParting (v : SplitValues) (bytes : List ℕ) (writes : List (Te
   pub before : front_of lib top ≡ Some front
   pub are : writes ≡ (v.output, file_bytes front v.a v.b a b) ∷ (v.certificate, certified (Masks head pieces stitches)) ∷ []
 
--- what a request writes of the files
-pub record IsPartedBy (request : Option RequestValues) (o : Outside) (writes : List (Text × List ℕ)) : Type 0 where
-  pub values : SplitValues
-  pub asked : request ≡ Some (AsksSplit values)
+-- the masks of a file that is there are written
+pub record WritesMasks (v : SplitValues) (o : Outside) (writes : List (Text × List ℕ)) : Type 0 where
   pub bytes : List ℕ
-  pub read : files.get o.files values.input ≡ Some bytes
-  pub parted : WritesParting values bytes writes
+  pub read : files.get o.files v.input ≡ Some bytes
+  pub parted : WritesParting v bytes writes
 
--- The words ask for the masks of a file that is there, and they were written.
+-- what a request that is done writes: `split` the masks, the others nothing
+abbrev pub IsPartedBy : Option RequestValues → Outside → List (Text × List ℕ) → Type 0
+IsPartedBy (Some (AsksSplit v)) o writes = WritesMasks v o writes
+IsPartedBy (Some (AsksCheck v)) o writes = writes ≡ []
+IsPartedBy (Some (AsksDemo v)) o writes = writes ≡ []
+IsPartedBy None o writes = ⊥
+
+-- What the words ask for was done: if they ask for masks, these were written, and else nothing was.
 abbrev pub IsParted : List Text → Option Outside → Option Outside → Type 0
 IsParted words old new = (o : Outside) × Shows old o × ((x : Outcome) × IsPartedBy (request_of words) o x.writes × (new ≡ option_map (carried_out x) old))

@@ -1,12 +1,16 @@
 -- What the program does with the words of its command line and the files.
-use Rattle.std.specs.Prelude.{◌≡◌, ◌<◌, ◌≤◌, ℕ, true, List, length, Option, Some, None, option_map}
+use Rattle.std.specs.Prelude.{◌≡◌, ◌<◌, ◌≤◌, ℕ, true, List, length, Option, Some, None, option_map, IfSome}
 use Rattle.clap.specs.Walk.{Text}
 use Rattle.dpl_host.specs.Outside.{Files, Outside, file_of}
 use Rattle.std.specs.FinMap as map
-use Rattle.dpl_words.specs.Meaning.{AsksSplit, RequestValues, request_of}
+use Rattle.dpl_spec.specs.declared.Rect.{Rect}
+use Rattle.dpl_cert.specs.declared.cert.Cert.{Cert}
+use Rattle.dpl_words.specs.Meaning.{AsksCheck, AsksDemo, AsksSplit, CheckValues, RequestValues, request_of}
 use Rattle.dpl_run.specs.Outcome.{IsPartDone, Outcome, Shows, carried_out, is_answered, says}
 use Rattle.dpl_run.specs.Reading.{limit}
 use Rattle.dpl_run.specs.Split.{IsSplitOf}
+use Rattle.dpl_run.specs.Check.{IsCheck, IsCheckOfCert, IsCheckOfFile, WithFile}
+use Rattle.dpl_run.specs.Demo.{IsDemo}
 use Rattle.dpl_run.specs.Texts.{usage_line}
 use Rattle.dpl_run.specs.declared.status.Status.{Status}
 use Rattle.dpl_run.specs.declared.status.Status.TheVariants.{Usage}
@@ -14,6 +18,8 @@ use Rattle.dpl_run.specs.declared.status.Status.TheVariants.{Usage}
 -- what a request does on the files
 abbrev pub IsPlan : Option RequestValues → Files → Outcome → Type 0
 IsPlan (Some (AsksSplit v)) files x = IsSplitOf v (map.get files v.input) x
+IsPlan (Some (AsksCheck v)) files x = IsCheck v (map.get files v.input) (map.get files v.certificate) (map.get files v.output) x
+IsPlan (Some (AsksDemo v)) files x = IsDemo v x
 IsPlan None files x = x ≡ says Usage usage_line
 
 -- The answer is that of what the words ask for, on what the outside shows, and all of it was done.
@@ -32,3 +38,20 @@ IsMade request told made = (o : Outside) × Shows told o × IsPlan request o.fil
 abbrev pub IsInput : Option Outside → Text → Option (List ℕ) → Type 0
 IsInput told name (Some bytes) = (o : Outside) × Shows told o × (file_of o name ≡ Some bytes) × (length bytes ≤ limit)
 IsInput told name None = (o : Outside) × Shows told o × ((file : List ℕ) × (file_of o name ≡ Some file) × (limit < length file))
+
+-- where the outside tells, a name's file has these bytes, or too many
+abbrev pub IsSeen : Option Outside → Text → Option (List ℕ) → Type 0
+IsSeen told name (Some bytes) = IfSome told (λ o. file_of o name ≡ Some bytes) × (length bytes ≤ limit)
+IsSeen told name None = IfSome told (λ o. (file : List ℕ) × (file_of o name ≡ Some file) × (limit < length file))
+
+-- where the outside tells, a name's file is this one, or isn't there
+abbrev pub IsTold : Option Outside → Text → Option (List ℕ) → Type 0
+IsTold told name file = IfSome told (λ o. file_of o name ≡ file)
+
+-- what was made of the file of masks, if the certificate has one
+abbrev pub IsMadeOfCert : Option Outside → CheckValues → List Rect → Cert → Outcome → Type 0
+IsMadeOfCert told v layer cert x = (out : Option (List ℕ)) × IsTold told v.output out × IsCheckOfCert v layer out cert x × (is_answered x.status ≡ true)
+
+-- what was made of the certificate's file
+abbrev pub IsMadeOfLayer : Option Outside → CheckValues → List Rect → Outcome → Type 0
+IsMadeOfLayer told v layer x = (cert out : Option (List ℕ)) × IsTold told v.certificate cert × IsTold told v.output out × WithFile cert (IsCheckOfFile v layer out) x × (is_answered x.status ≡ true)

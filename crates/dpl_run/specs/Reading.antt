@@ -14,7 +14,7 @@ use Rattle.dpl_layout.specs.Faults.{IsFaultless, IsFirstFault}
 use Rattle.dpl_format.specs.Faults.{Fault}
 use Rattle.dpl_cert.specs.declared.name.Name.{Name}
 use Rattle.dpl_cert.specs.declared.name.Name.TheVariants.{TooLarge}
-use Rattle.dpl_words.specs.Meaning.{SplitValues}
+use Rattle.clap.specs.Walk.{Text}
 use Rattle.dpl_run.specs.Naming.{syntax_name, top_name, flatten_name}
 
 pub data Reading : Type 0 where
@@ -27,7 +27,13 @@ pub data Reading : Type 0 where
 abbrev pub limit : ℕ
 limit = 268435456
 
-abbrev pub chosen : SplitValues → ChosenLayer
+-- what is taken of a layout: the name of the top, where it is named, and the layer with its data type
+pub record Choice : Type 0 where
+  pub top : Option Text
+  pub layer : ℕ
+  pub datatype : ℕ
+
+abbrev pub chosen : Choice → ChosenLayer
 chosen v = record { layer = v.layer; datatype = v.datatype }
 
 -- the records before a structure's elements, one behind the other
@@ -38,13 +44,13 @@ abbrev pub front_of : Library → ℕ → Option (List ℕ)
 front_of lib top = option_map (λ s. frame_bytes (frame_of lib s)) (slice_get lib.structures top)
 
 -- the library has no top, or its layer a fault
-abbrev pub IsFaultIn : SplitValues → Library → Name → ℕ → Type 0
+abbrev pub IsFaultIn : Choice → Library → Name → ℕ → Type 0
 IsFaultIn v lib name at =
     ((f : TopFault) × IsTopFault lib v.top f × (top_name f ≡ Some (name, at)))
     ⊎ ((top : ℕ) × (f : FlattenFault) × IsTop lib v.top top × IsFirstFault lib top (chosen v) f × (flatten_name f ≡ Some (name, at)))
 
 -- the layer of the library, which has no fault
-pub record IsLayerIn (v : SplitValues) (lib : Library) (front : List ℕ) (slabs : List Rect) : Type 0 where
+pub record IsLayerIn (v : Choice) (lib : Library) (front : List ℕ) (slabs : List Rect) : Type 0 where
   pub top : ℕ
   pub is_top : IsTop lib v.top top
   pub faultless : IsFaultless lib top (chosen v)
@@ -52,12 +58,12 @@ pub record IsLayerIn (v : SplitValues) (lib : Library) (front : List ℕ) (slabs
   pub squares : AreSlabsOf (IsInLayer lib top (chosen v)) slabs
 
 -- what these bytes hold
-abbrev pub IsLayout : SplitValues → List ℕ → Reading → Type 0
+abbrev pub IsLayout : Choice → List ℕ → Reading → Type 0
 IsLayout v bytes (Faulty name at) =
     ((f : Fault) × IsFirstSyntaxFault bytes f × (syntax_name f ≡ (name, at)))
     ⊎ ((lib : Library) × Holds bytes lib × IsFaultIn v lib name at)
 IsLayout v bytes (Layer front slabs) = (lib : Library) × Holds bytes lib × IsLayerIn v lib front slabs
 
 -- what is read of a file: where it isn't too large, what its bytes hold
-abbrev pub IsReading : SplitValues → List ℕ → Reading → Type 0
+abbrev pub IsReading : Choice → List ℕ → Reading → Type 0
 IsReading v bytes reading = ((limit < length bytes) × (reading ≡ Faulty TooLarge limit)) ⊎ ((length bytes ≤ limit) × IsLayout v bytes reading)

@@ -8,7 +8,7 @@ use Rattle.dpl_cert.specs.Lines.{text}
 use Rattle.dpl_cert.specs.Grammar.{lines_of}
 use Rattle.dpl_masks.specs.Bytes.{file_bytes}
 use Rattle.dpl_words.specs.Meaning.{SplitValues}
-use Rattle.dpl_run.specs.Reading.{Faulty, IsReading, Layer}
+use Rattle.dpl_run.specs.Reading.{Choice, Faulty, IsReading, Layer}
 use Rattle.dpl_run.specs.Flat.{Clash, Flat, Clashes, IsFlat, Painted, Paints}
 use Rattle.dpl_run.specs.Outcome.{Outcome, silent}
 use Rattle.dpl_run.specs.Texts.{conflict_line, done_line, refused_line}
@@ -19,10 +19,14 @@ pub data Decision : Type 0 where
   Refuses : Name → ℕ → Decision
   Decides : List ℕ → Flat → Decision
 
+-- the layer that a command line of `split` chooses
+abbrev pub split_choice : SplitValues → Choice
+split_choice v = record { top = v.top; layer = v.layer; datatype = v.datatype }
+
 -- The first fault of the file, or the decomposition of its layer. The numbers of tiles and workers occur nowhere.
-abbrev pub IsDecision : SplitValues → List ℕ → Decision → Type 0
-IsDecision v bytes (Refuses name at) = IsReading v bytes (Faulty name at)
-IsDecision v bytes (Decides front flat) = (layer : List Rect) × IsReading v bytes (Layer front layer) × IsFlat v.rule v.overlap layer flat
+abbrev pub IsDecision : Choice → ℕ → ℕ → List ℕ → Decision → Type 0
+IsDecision choice rule overlap bytes (Refuses name at) = IsReading choice bytes (Faulty name at)
+IsDecision choice rule overlap bytes (Decides front flat) = (layer : List Rect) × IsReading choice bytes (Layer front layer) × IsFlat rule overlap layer flat
 
 abbrev pub certified : Cert → List ℕ
 certified c = text (lines_of c)
@@ -50,7 +54,7 @@ plan_of v (Decides front (Clashes x)) = clash v x
 
 -- what is done with the bytes of the file
 abbrev pub IsSplit : SplitValues → List ℕ → Outcome → Type 0
-IsSplit v bytes x = (d : Decision) × IsDecision v bytes d × (x ≡ plan_of v d)
+IsSplit v bytes x = (d : Decision) × IsDecision (split_choice v) v.rule v.overlap bytes d × (x ≡ plan_of v d)
 
 -- what is done with the file, if it is there
 abbrev pub IsSplitOf : SplitValues → Option (List ℕ) → Outcome → Type 0

@@ -1,14 +1,14 @@
 -- What the program has made, in the words of the definitions.
-use Rattle.std.specs.Prelude.{ℕ, List, map, string_bytes}
+use Rattle.std.specs.Prelude.{ℕ, List, codes, map, option_map, string_bytes}
 use Rattle.clap.specs.Walk.{Text}
 use Rattle.dpl_run.specs.Outcome.{Outcome}
-use Rattle.dpl_words.specs.Meaning.{SplitValues}
 use Rattle.dpl_format.specs.Tree.{Library}
-use Rattle.dpl_run.specs.Reading.{Faulty, IsFaultIn, IsLayout, Reading, Layer as LayerRead}
+use Rattle.dpl_run.specs.Reading.{Choice, Faulty, IsFaultIn, IsLayout, Reading, Layer as LayerRead}
 use Rattle.dpl_run.specs.Flat.{Flat, Clashes, Paints, Painted as PaintedAs, Clash as ClashAs}
 use Rattle.dpl_run.specs.declared.output.Output.{Output}
 use Rattle.dpl_run.specs.declared.output.Write.{Write}
 use Rattle.dpl_run.specs.declared.layer.Layer.{Layer}
+use Rattle.dpl_run.specs.declared.layer.LayerChoice.{LayerChoice}
 use Rattle.dpl_run.specs.declared.cut.LayerCut.{LayerCut}
 use Rattle.dpl_spec.specs.Decomposition.{Cut}
 use Rattle.dpl_run.specs.declared.fault.LayerFault.{LayerFault}
@@ -16,13 +16,18 @@ use Rattle.dpl_run.specs.declared.fault.LayerFault.TheVariants.{NoMemory, Refuse
 use Rattle.dpl_run.specs.declared.decomposed.Painted.{Painted}
 use Rattle.dpl_run.specs.declared.decomposed.Clash.{Clash}
 use Rattle.dpl_run.specs.declared.decomposed.Decomposed.{Decomposed}
-use Rattle.dpl_run.specs.declared.decomposed.Decomposed.TheVariants.{Masks, Cycle}
+use Rattle.dpl_run.specs.declared.decomposed.Decomposed.TheVariants.{Masks as MasksOf, Cycle}
+use Rattle.dpl_run.specs.declared.texts.CheckedFile.{CheckedFile}
+use Rattle.dpl_run.specs.declared.texts.CheckedFile.TheVariants.{Layout, Certificate, Masks}
 
 abbrev pub write_view : Write → Text × List ℕ
 write_view w = (w.name.now, w.bytes.items)
 
 abbrev pub output_view : Output → Outcome
 output_view x = record { status = x.status; writes = map write_view x.writes.items; line = string_bytes x.line }
+
+abbrev pub choice_view : LayerChoice → Choice
+choice_view c = record { top = option_map (λ t. t.now) c.top; layer = c.layer; datatype = c.datatype }
 
 abbrev pub layer_view : Layer → Reading
 layer_view l = LayerRead l.front.items l.slabs
@@ -34,18 +39,24 @@ abbrev pub clash_view : Clash → ClashAs
 clash_view x = record { head = x.head; cycle = x.cycle; near = x.near }
 
 abbrev pub flat_view : Decomposed → Flat
-flat_view (Masks p) = Paints (painted_view p)
+flat_view (MasksOf p) = Paints (painted_view p)
 flat_view (Cycle x) = Clashes (clash_view x)
 
 -- a fault of the layout is its first one
-abbrev pub IsLayerFault : SplitValues → List ℕ → LayerFault → Type 0
+abbrev pub IsLayerFault : Choice → List ℕ → LayerFault → Type 0
 IsLayerFault v bytes NoMemory = Unit {0}
 IsLayerFault v bytes (Refused name at) = IsLayout v bytes (Faulty name at)
 
 -- a fault of the library is its first one
-abbrev pub IsLayerFaultIn : SplitValues → Library → LayerFault → Type 0
+abbrev pub IsLayerFaultIn : Choice → Library → LayerFault → Type 0
 IsLayerFaultIn v lib NoMemory = Unit {0}
 IsLayerFaultIn v lib (Refused name at) = IsFaultIn v lib name at
 
 abbrev pub cut_view : LayerCut → Cut
 cut_view c = record { features = c.features; zones = c.pieces.zones; pieces = c.pieces.parts; owners = c.pieces.owners; keys = c.pieces.keys; sides = c.pieces.sides }
+
+-- how the lines name a file of `check`
+abbrev pub file_word : CheckedFile → List ℕ
+file_word Layout = codes "in"
+file_word Certificate = codes "cert"
+file_word Masks = codes "out"

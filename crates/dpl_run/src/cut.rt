@@ -3,20 +3,18 @@ ghost use Rattle.std.specs.Prelude.{◌≡◌, ◌≤◌, IfOk, length};
 ghost use Rattle.std.specs.List.{Contains};
 ghost use Rattle.dpl_spec.specs.declared.Pt.{Pt};
 ghost use Rattle.dpl_spec.specs.Squares.{Covers};
-ghost use Rattle.dpl_spec.specs.Graphs.{AreEdges};
-ghost use Rattle.dpl_spec.specs.Pieces.{Conflict};
 ghost use Rattle.dpl_spec.specs.Decomposition.{IsCut};
-ghost use Rattle.dpl_graph.specs.Levels.{AreEdgesBelow};
+ghost use Rattle.dpl_tile.specs.Plans.{IsPlan};
 ghost use Rattle.dpl_cert.specs.Grammar.{IsHead, IsPoint, IsRule};
-ghost use Rattle.dpl_run.specs.Flat.{head_of};
+ghost use Rattle.dpl_run.specs.Flat.{IsTile, head_of};
 ghost use Rattle.dpl_run.specs.View.{cut_view};
 
-use dpl_base::Edge;
 use dpl_cert::Head;
-use dpl_edges::conflicts;
 use dpl_feature::features;
+use dpl_job::EdgeJob;
 use dpl_piece::{Pieces, pieces};
 use dpl_slabs::{Parts, Slabs};
+use dpl_tile::plan;
 use dpl_zone::zones;
 use std::alloc::{AllocError, Global};
 
@@ -60,14 +58,17 @@ pub(crate) fn head(cut: &LayerCut, rule: u32, overlap: u32) -> Head
     }
 }
 
-/// The conflicts of the pieces, in order, each once.
-pub(crate) fn conflicts_of(
+/// The tiles of the pieces.
+pub(crate) fn tiles_of<'a>(
     alloc: Global,
-    pieces: &Pieces,
+    pieces: &'a Pieces,
     rule: u32,
-) -> Result<Vec<Edge>, AllocError>
-    ensures edges { IfOk result (λ v. AreEdges (Conflict rule pieces.now.parts pieces.now.owners) v.items) }
-    ensures below { IfOk result (λ v. AreEdgesBelow (length pieces.now.parts) v.items) }
+    tile: u32,
+) -> Result<EdgeJob<'a>, AllocError>
+    requires rule { IsRule rule }
+    requires tile { IsTile tile }
+    ensures { IfOk result (λ job. IsPlan pieces.now.parts pieces.now.owners rule tile job.plan) }
 {
-    conflicts(alloc, pieces.parts(), pieces.owner(), rule)
+    let plan = plan(alloc, pieces.parts(), pieces.owner(), rule, tile)?;
+    Ok(EdgeJob { plan })
 }

@@ -6,73 +6,96 @@ ghost use Rattle.dpl_spec.specs.Graphs.{AreEdges, graph_of};
 ghost use Rattle.dpl_spec.specs.Summary.{HasOddCycle};
 ghost use Rattle.dpl_spec.specs.Decomposition.{conflicts};
 ghost use Rattle.dpl_graph.specs.Levels.{AreEdgesBelow};
-ghost use Rattle.dpl_stars.specs.Sums.{Sums};
+ghost use Rattle.dpl_job.specs.Conflicts.{SumsGraph};
 ghost use Rattle.dpl_orient.specs.Oriented.{IsEvenBelow};
 ghost use Rattle.dpl_cert.specs.Grammar.{IsPoint, IsRule};
-ghost use Rattle.dpl_run.specs.Flat.{Fits, FitsClash, FitsPainted, IsClashOfCut, IsFlat, IsFlatCut, IsPaintedCut};
+ghost use Rattle.dpl_run.specs.Flat.{Fits, FitsClash, FitsPainted, IsClashOfCut, IsFlat, IsFlatCut, IsPaintedCut, AreWorkers, IsTile};
 ghost use Rattle.dpl_run.specs.View.{clash_view, cut_view, flat_view, painted_view};
 
-use crate::cut::{LayerCut, conflicts_of, cut_of, head};
+use crate::cut::{LayerCut, cut_of, head, tiles_of};
 use crate::decomposed::{Clash, Decomposed, Painted};
 use crate::lines::{piece_lines, place_lines, stitch_lines};
 use crate::near::near_lines;
 use dpl_base::{Edge, Listed};
+use dpl_edges::all_edges;
+use dpl_job::joined_conflicts;
 use dpl_masks::masks;
 use dpl_odd::odd_cycle;
 use dpl_orient::orient;
+use dpl_pool::Gate;
 use dpl_slabs::Slabs;
-use dpl_stars::{Joined, stars};
+use dpl_stars::Joined;
 use std::alloc::{AllocError, Global};
+use std::sync::Wait;
+use std::thread::Threads;
+
+/// How the conflicts of a layer are found: by tiles of a side, in database units, which so many workers share.
+#[derive(Clone, Copy, Debug)]
+pub(crate) struct Sharing {
+    pub(crate) tile: u32,
+    pub(crate) workers: u32,
+}
 
 /// The masks of a layer, or an odd cycle of its conflict graph.
-pub(crate) fn decompose(
+pub(crate) fn decompose<R: Threads + Wait + Sync, G: Gate + Sync>(
+    rt: &R,
     alloc: Global,
-    layer: &Slabs,
+    layer: Slabs,
     rule: u32,
     overlap: u32,
+    sharing: Sharing,
+    gate: &G,
 ) -> Result<Decomposed, AllocError>
     requires rule { IsRule rule }
     requires overlap { IsRule overlap }
-    ensures flat { IfOk result (λ d. IsFlat rule overlap layer.now (flat_view d)) }
+    requires tile { IsTile sharing.tile }
+    requires workers { AreWorkers sharing.workers }
+    ensures flat { IfOk result (λ d. IsFlat rule overlap layer (flat_view d)) }
     ensures fits { IfOk result (λ d. Fits (flat_view d)) }
 {
-    let cut = cut_of(alloc, layer, rule, overlap)?;
-    let decomposed = decompose_cut(alloc, &cut, rule, overlap)?;
+    let cut = cut_of(alloc, &layer, rule, overlap)?;
+    drop(layer);
+    let decomposed = decompose_cut(rt, alloc, &cut, rule, overlap, sharing, gate)?;
     Ok(decomposed)
 }
 
 /// The masks of a cut layer, or an odd cycle of its conflict graph.
-fn decompose_cut(
+fn decompose_cut<R: Threads + Wait + Sync, G: Gate + Sync>(
+    rt: &R,
     alloc: Global,
     cut: &LayerCut,
     rule: u32,
     overlap: u32,
+    sharing: Sharing,
+    gate: &G,
 ) -> Result<Decomposed, AllocError>
     requires rule { IsRule rule }
     requires overlap { IsRule overlap }
+    requires tile { IsTile sharing.tile }
+    requires workers { AreWorkers sharing.workers }
     requires keys { (p : Pt) → Contains cut.now.pieces.keys p → IsPoint p }
     ensures flat { IfOk result (λ d. IsFlatCut rule overlap (cut_view cut.now) (flat_view d)) }
     ensures fits { IfOk result (λ d. Fits (flat_view d)) }
 {
-    let edges = conflicts_of(alloc, &cut.pieces, rule)?;
-    let joined = stars(alloc, &edges)?;
+    let job = tiles_of(alloc, &cut.pieces, rule, sharing.tile)?;
+    let joined = joined_conflicts(rt, alloc, sharing.workers, &job, gate)?;
     match &joined {
         Joined::Stars(_) => {
-            let painted = paint(alloc, cut, &edges, &joined, rule, overlap)?;
+            let painted = paint(alloc, cut, &joined, rule, overlap)?;
             Ok(Decomposed::Masks(painted))
         }
         Joined::Odd => {
+            let edges = all_edges(alloc, &job.plan)?;
             let clash = clash(alloc, cut, &edges, rule, overlap)?;
             Ok(Decomposed::Cycle(clash))
         }
     }
 }
 
-/// The masks of a cut layer whose conflicts these edges are and `joined` sums up.
+/// The masks of a cut layer whose conflicts `joined` sums up.
 fn paint(
     alloc: Global,
     cut: &LayerCut,
-    edges: &[Edge],
     joined: &Joined,
     rule: u32,
     overlap: u32,
@@ -80,8 +103,7 @@ fn paint(
     requires rule { IsRule rule }
     requires overlap { IsRule overlap }
     requires keys { (p : Pt) → Contains cut.now.pieces.keys p → IsPoint p }
-    requires edges { AreEdges (conflicts rule (cut_view cut.now)) edges.now }
-    requires sums { Sums edges.now joined.now }
+    requires sums { SumsGraph (conflicts rule (cut_view cut.now)) joined.now }
     requires even { IsEvenBelow (length cut.now.pieces.parts) joined.now }
     ensures painted { IfOk result (λ p. IsPaintedCut rule overlap (cut_view cut.now) (painted_view p)) }
     ensures fits { IfOk result (λ p. FitsPainted (painted_view p)) }

@@ -1,15 +1,21 @@
 //! The layer of a layout.
-ghost use Rattle.std.specs.Prelude.{◌≡◌, ◌<◌, ◌≤◌, IfErr, IfOk, Some, length};
-ghost use Rattle.dpl_words.specs.Meaning.{split_view};
+ghost use Rattle.std.specs.Prelude.{◌≡◌, ◌^◌, ◌<◌, ◌≤◌, IfErr, IfOk, Some, length};
 ghost use Rattle.dpl_run.specs.Reading.{IsLayerIn, IsLayout, front_of, limit};
-ghost use Rattle.dpl_run.specs.View.{IsLayerFault, IsLayerFaultIn, layer_view};
+ghost use Rattle.dpl_run.specs.View.{IsLayerFault, IsLayerFaultIn, choice_view, layer_view};
 
 use crate::fault::LayerFault;
 use dpl_flatten::{Layer as ChosenLayer, flatten, top_of};
 use dpl_slabs::Slabs;
 use dpl_syntax::{Library, read_library};
-use dpl_words::SplitOptions;
 use std::alloc::{AllocError, Global};
+
+/// What is taken of a layout: the name of the top, where it is named, and the layer with its data type.
+#[derive(Clone, Copy, Debug)]
+pub(crate) struct LayerChoice<'a> {
+    pub(crate) top: Option<&'a str>,
+    pub(crate) layer: u16,
+    pub(crate) datatype: u16,
+}
 
 /// What is read of a layout.
 #[derive(Drop)]
@@ -20,30 +26,31 @@ pub(crate) struct Layer {
     pub(crate) slabs: Slabs,
 }
 
-/// The squares of the layer that the options choose, or the first fault of the layout.
+/// The squares of the chosen layer, or the first fault of the layout.
 pub(crate) fn layer_of(
     alloc: Global,
-    options: &SplitOptions,
+    choice: &LayerChoice,
     bytes: &[u8],
 ) -> Result<Layer, LayerFault>
     requires { length bytes.now ≤ limit }
-    ensures layer { IfOk result (λ l. IsLayout (split_view options.now) bytes.now (layer_view l)) }
-    ensures fault { IfErr result (IsLayerFault (split_view options.now) bytes.now) }
+    ensures layer { IfOk result (λ l. IsLayout (choice_view choice.now) bytes.now (layer_view l)) }
+    ensures fault { IfErr result (IsLayerFault (choice_view choice.now) bytes.now) }
 {
     let lib = read_library(alloc, bytes)?;
-    let layer = layer_in(alloc, options, &lib)?;
+    let layer = layer_in(alloc, choice, &lib)?;
     Ok(layer)
 }
 
 /// The squares of the layer of a library, or its first fault.
-fn layer_in(alloc: Global, options: &SplitOptions, lib: &Library<'_>) -> Result<Layer, LayerFault>
-    ensures layer { IfOk result (λ l. IsLayerIn (split_view options.now) lib.now l.front.items l.slabs) }
-    ensures fault { IfErr result (IsLayerFaultIn (split_view options.now) lib.now) }
+fn layer_in(alloc: Global, choice: &LayerChoice, lib: &Library<'_>) -> Result<Layer, LayerFault>
+    requires { length lib.now.structures ≤ 2 ^ 26 }
+    ensures layer { IfOk result (λ l. IsLayerIn (choice_view choice.now) lib.now l.front.items l.slabs) }
+    ensures fault { IfErr result (IsLayerFaultIn (choice_view choice.now) lib.now) }
 {
-    let top = top_of(alloc, lib, options.top)?;
+    let top = top_of(alloc, lib, choice.top)?;
     let chosen = ChosenLayer {
-        layer: options.layer,
-        datatype: options.datatype,
+        layer: choice.layer,
+        datatype: choice.datatype,
     };
     let loops = flatten(alloc, lib, top, chosen)?;
     let slabs = Slabs::of_loops(alloc, &loops)?;

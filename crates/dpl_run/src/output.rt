@@ -1,11 +1,12 @@
 //! All that a run writes and says, made before the first of it is written.
-ghost use Rattle.std.specs.Prelude.{◌≡◌, ◌≤◌, OnErr, OnOk, option_map};
+ghost use Rattle.std.specs.Prelude.{◌≡◌, ◌≤◌, OnErr, OnOk, option_map, string_bytes};
 ghost use Rattle.dpl_host.specs.Outside.{HasCause};
-ghost use Rattle.dpl_run.specs.Outcome.{IsPartDone, carried_out};
+ghost use Rattle.dpl_run.specs.Outcome.{IsPartDone, carried_out, says};
 ghost use Rattle.dpl_run.specs.View.{output_view};
 
 use crate::status::Status;
 use dpl_host::{Failed, Host, say_all, write_all};
+use std::alloc::Global;
 
 /// A file to be written.
 #[derive(Debug, Drop)]
@@ -20,6 +21,17 @@ pub(crate) struct Output<'a> {
     pub(crate) status: Status,
     pub(crate) writes: Vec<Write<'a>>,
     pub(crate) line: String,
+}
+
+/// Nothing is written, and a line is said.
+pub(crate) fn said<'a>(alloc: Global, status: Status, line: String) -> Output<'a>
+    ensures { output_view result ≡ says status (string_bytes line) }
+{
+    Output {
+        status,
+        writes: Vec::new(alloc),
+        line,
+    }
 }
 
 /// Writes the files in order, and says the text. It takes no memory.

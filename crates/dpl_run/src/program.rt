@@ -2,31 +2,44 @@
 ghost use Rattle.std.specs.Prelude.{◌≡◌, ◌≤◌, ◌⊎◌, IfErr, IfOk, IsErrOf, None, Some, is_some, true};
 ghost use Rattle.clap.specs.Walk.{texts};
 ghost use Rattle.dpl_host.specs.Outside.{Rose};
-ghost use Rattle.dpl_words.specs.Meaning.{request_of, request_view};
-ghost use Rattle.dpl_words.specs.Ranges.{IsInRange};
+ghost use Rattle.dpl_words.specs.Meaning.{AsksDemo, demo_view, request_of, request_view};
+ghost use Rattle.dpl_words.specs.Ranges.{AreInRangeForDemo, IsApart, IsInRange};
 ghost use Rattle.dpl_run.specs.Outcome.{IsStill, is_answered, says};
 ghost use Rattle.dpl_run.specs.Parted.{IsParted};
 ghost use Rattle.dpl_run.specs.Program.{IsCutShort, IsMade, IsOutcome};
 ghost use Rattle.dpl_run.specs.Texts.{usage_line as usage_line_of};
 ghost use Rattle.dpl_run.specs.View.{output_view};
 
-use crate::output::{Output, perform};
+use crate::check::check_output;
+use crate::demo::demo_output;
+use crate::output::{Output, perform, said};
 use crate::split::split_output;
 use crate::status::Status;
 use crate::texts::usage_line;
 use dpl_host::{Host, ReadFault};
-use dpl_words::{Request, WordsFault, read_words};
+use dpl_pool::Gate;
+use dpl_words::{DemoOptions, Request, WordsFault, read_words};
 use std::alloc::{AllocError, Global};
+use std::sync::Wait;
+use std::thread::Threads;
 
 /// Does what the words of a command line ask for, by `host`, and answers how the run ended. The first word is the program's name; `USAGE` gives the others.
 ///
 /// `split` reads the layout IN (GDSII Stream Format, Release 6, at most 268435456 bytes) and decomposes one layer of its top structure into two masks on which features are at least `--rule` database units apart, with stitches `--overlap` database units long (Kahng, Park, Xu and Yao, ICCAD 2008). It writes the masks to OUT, then their certificate to CERT; where the conflict graph has an odd cycle, or the layout a fault, the certificate alone. Then it says one line. `--tile` and `--workers` change nothing of what is written.
 ///
+/// `check` reads the layout IN, the certificate CERT and, if it is one of masks, their file OUT, and says of masks of any tool whether they are right, and of an odd cycle whether it is there. `demo` splits a layout that is made up of two numbers. Both write nothing, and say one line.
+///
 /// All of it is made before the first byte is written: where memory runs out or the read fails, nothing is written or said. Where a write fails, a front of it was.
-pub fn run<'a, H: Host>(alloc: Global, words: &'a [&'a str], host: &mut H) -> Status
+pub fn run<'a, R: Threads + Wait + Sync, H: Host, G: Gate + Sync>(
+    rt: &R,
+    alloc: Global,
+    words: &'a [&'a str],
+    host: &mut H,
+    gate: &G,
+) -> Status
     // An answer is the one that the definition gives, and all of it was written and said.
     ensures answer { is_answered result ≡ true → IsOutcome (texts words.entry.now) result (H.told host.old) (H.told host.new) }
-    // Masks that were written part the layer, keep its features apart and overlap at stitches alone.
+    // Masks that were written part the layer, keep its features apart and overlap at stitches alone; and only `split` writes.
     ensures parted { result ≡ Status.Done → IsParted (texts words.entry.now) (H.told host.old) (H.told host.new) }
     // The words decide alone whether they are a command.
     ensures usage { result ≡ Status.Usage → request_of (texts words.entry.now) ≡ None }
@@ -42,7 +55,7 @@ pub fn run<'a, H: Host>(alloc: Global, words: &'a [&'a str], host: &mut H) -> St
     ensures complete { IsStill (H.read_faults host.old) (H.read_faults host.new) → IsStill (H.write_faults host.old) (H.write_faults host.new)
         → (result ≡ Status.NoMemory) ⊎ IsOutcome (texts words.entry.now) result (H.told host.old) (H.told host.new) }
 {
-    match made(alloc, words, host) {
+    match made(rt, alloc, words, host, gate) {
         Ok(output) => match perform(host, &output) {
             Ok(()) => output.status,
             Err(_) => Status::WriteFault,
@@ -52,10 +65,12 @@ pub fn run<'a, H: Host>(alloc: Global, words: &'a [&'a str], host: &mut H) -> St
 }
 
 /// What is made of the words, or how the run ends without.
-fn made<'a, H: Host>(
+fn made<'a, R: Threads + Wait + Sync, H: Host, G: Gate + Sync>(
+    rt: &R,
     alloc: Global,
     words: &'a [&'a str],
     host: &mut H,
+    gate: &G,
 ) -> Result<Output<'a>, Status>
     ensures made { IfOk result (λ x. IsMade (request_of (texts words.entry.now)) (H.told host.old) (output_view x)) }
     ensures only { IfErr result (λ s. (s ≡ Status.ReadFault) ⊎ (s ≡ Status.NoMemory)) }
@@ -65,7 +80,7 @@ fn made<'a, H: Host>(
     ensures later { (H.read_faults host.old ≤ H.read_faults host.new) × (H.write_faults host.old ≤ H.write_faults host.new) }
 {
     match read_words(alloc, words) {
-        Ok(request) => match output_of(alloc, &request, host) {
+        Ok(request) => match output_of(rt, alloc, &request, host, gate) {
             Ok(output) => Ok(output),
             Err(ReadFault::Failed) => Err(Status::ReadFault),
             Err(_) => Err(Status::NoMemory),
@@ -79,12 +94,15 @@ fn made<'a, H: Host>(
 }
 
 /// What is made of a request.
-fn output_of<'a, H: Host>(
+fn output_of<'a, R: Threads + Wait + Sync, H: Host, G: Gate + Sync>(
+    rt: &R,
     alloc: Global,
     request: &Request<'a>,
     host: &mut H,
+    gate: &G,
 ) -> Result<Output<'a>, ReadFault>
-    requires { IsInRange (request_view request.now) }
+    requires ranges { IsInRange (request_view request.now) }
+    requires apart { IsApart (request_view request.now) }
     ensures made { IfOk result (λ x. IsMade (Some (request_view request.now)) (H.told host.old) (output_view x)) }
     ensures failed { IsErrOf result ReadFault.Failed → Rose (H.read_faults host.old) (H.read_faults host.new) }
     ensures not_large { IsErrOf result ReadFault.TooLarge → ⊥ }
@@ -92,8 +110,29 @@ fn output_of<'a, H: Host>(
     ensures later { (H.read_faults host.old ≤ H.read_faults host.new) × (H.write_faults host.old ≤ H.write_faults host.new) }
 {
     match request {
-        Request::Split(options) => split_output(alloc, options, host),
+        Request::Split(options) => split_output(rt, alloc, options, host, gate),
+        Request::Check(options) => check_output(alloc, options, host),
+        Request::Demo(options) => made_up(rt, alloc, options, host, gate),
     }
+}
+
+/// What is made of a command line of `demo`, for which no file is read.
+fn made_up<'a, R: Threads + Wait + Sync, H: Host, G: Gate + Sync>(
+    rt: &R,
+    alloc: Global,
+    options: &DemoOptions,
+    host: &mut H,
+    gate: &G,
+) -> Result<Output<'a>, ReadFault>
+    requires ranges { AreInRangeForDemo (demo_view options.now) }
+    ensures made { IfOk result (λ x. IsMade (Some (AsksDemo (demo_view options.now))) (H.told host.old) (output_view x)) }
+    ensures failed { IsErrOf result ReadFault.Failed → Rose (H.read_faults host.old) (H.read_faults host.new) }
+    ensures not_large { IsErrOf result ReadFault.TooLarge → ⊥ }
+    ensures same { H.told host.new ≡ H.told host.old }
+    ensures later { (H.read_faults host.old ≤ H.read_faults host.new) × (H.write_faults host.old ≤ H.write_faults host.new) }
+{
+    let output = demo_output(rt, alloc, options, gate)?;
+    Ok(output)
 }
 
 /// How the command line is written.
@@ -101,9 +140,5 @@ fn usage<'a>(alloc: Global) -> Result<Output<'a>, AllocError>
     ensures { IfOk result (λ x. output_view x ≡ says Status.Usage usage_line_of) }
 {
     let line = usage_line(alloc)?;
-    Ok(Output {
-        status: Status::Usage,
-        writes: Vec::new(alloc),
-        line,
-    })
+    Ok(said(alloc, Status::Usage, line))
 }

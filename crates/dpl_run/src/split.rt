@@ -1,5 +1,5 @@
 //! What `split` makes of a file, before anything is written.
-ghost use Rattle.std.specs.Prelude.{◌≡◌, ◌≤◌, IfOk, IsErrOf, Some, length, option_map};
+ghost use Rattle.std.specs.Prelude.{◌≡◌, ◌≤◌, IfOk, IsErrOf, Some, length};
 ghost use Rattle.dpl_host.specs.Outside.{Rose};
 ghost use Rattle.dpl_words.specs.Meaning.{AsksSplit, split_view};
 ghost use Rattle.dpl_words.specs.Ranges.{AreInRange};
@@ -7,27 +7,33 @@ ghost use Rattle.dpl_cert.specs.Grammar.{IsCert};
 ghost use Rattle.dpl_run.specs.Flat.{Fits, FitsClash, FitsPainted};
 ghost use Rattle.dpl_run.specs.Reading.{limit};
 ghost use Rattle.dpl_run.specs.Split.{Decides, IsSplit, certified, clash as clash_of, painting, plan_of, refusal};
-ghost use Rattle.dpl_run.specs.Program.{IsInput, IsMade};
+ghost use Rattle.dpl_run.specs.Program.{IsMade};
 ghost use Rattle.dpl_run.specs.View.{clash_view, flat_view, output_view, painted_view, write_view};
 
-use crate::decompose::decompose;
+use crate::decompose::{Sharing, decompose};
 use crate::decomposed::{Clash, Decomposed, Painted};
 use crate::fault::LayerFault;
-use crate::layer::layer_of;
+use crate::input::read_input;
+use crate::layer::{LayerChoice, layer_of};
 use crate::output::{Output, Write};
 use crate::status::Status;
 use crate::texts::{conflict_line, done_line, refused_line};
 use dpl_cert::{Cert, Name, cert_bytes};
-use dpl_host::{Host, MAX_BYTES, ReadFault, read_all};
+use dpl_host::{Host, MAX_BYTES, ReadFault};
 use dpl_masks::file_bytes;
+use dpl_pool::Gate;
 use dpl_words::SplitOptions;
 use std::alloc::{AllocError, Global};
+use std::sync::Wait;
+use std::thread::Threads;
 
 /// What is made of a command line of `split`.
-pub(crate) fn split_output<'a, H: Host>(
+pub(crate) fn split_output<'a, R: Threads + Wait + Sync, H: Host, G: Gate + Sync>(
+    rt: &R,
     alloc: Global,
     options: &SplitOptions<'a>,
     host: &mut H,
+    gate: &G,
 ) -> Result<Output<'a>, ReadFault>
     requires { AreInRange (split_view options.now) }
     ensures made { IfOk result (λ x. IsMade (Some (AsksSplit (split_view options.now))) (H.told host.old) (output_view x)) }
@@ -37,44 +43,45 @@ pub(crate) fn split_output<'a, H: Host>(
     ensures later { (H.read_faults host.old ≤ H.read_faults host.new) × (H.write_faults host.old ≤ H.write_faults host.new) }
 {
     match read_input(alloc, host, options.input) {
-        Ok(Some(bytes)) => Ok(split(alloc, options, bytes.as_slice())?),
+        Ok(Some(bytes)) => Ok(split(rt, alloc, options, bytes, gate)?),
         Ok(None) => Ok(refused(alloc, options, Name::TooLarge, MAX_BYTES as u64)?),
         Err(fault) => Err(fault),
     }
 }
 
-/// The bytes of a file, or None where they are too many.
-fn read_input<H: Host>(
-    alloc: Global,
-    host: &mut H,
-    name: &str,
-) -> Result<Option<Vec<u8>>, ReadFault>
-    ensures read { IfOk result (λ r. IsInput (H.told host.old) name.now (option_map (λ v. v.items) r)) }
-    ensures failed { IsErrOf result ReadFault.Failed → Rose (H.read_faults host.old) (H.read_faults host.new) }
-    ensures not_large { IsErrOf result ReadFault.TooLarge → ⊥ }
-    ensures same { H.told host.new ≡ H.told host.old }
-    ensures later { (H.read_faults host.old ≤ H.read_faults host.new) × (H.write_faults host.old ≤ H.write_faults host.new) }
-{
-    match read_all(alloc, host, name) {
-        Ok(bytes) => Ok(Some(bytes)),
-        Err(ReadFault::TooLarge) => Ok(None),
-        Err(fault) => Err(fault),
-    }
-}
-
 /// What is made of the bytes of a file.
-fn split<'a>(
+fn split<'a, R: Threads + Wait + Sync, G: Gate + Sync>(
+    rt: &R,
     alloc: Global,
     options: &SplitOptions<'a>,
-    bytes: &[u8],
+    bytes: Vec<u8>,
+    gate: &G,
 ) -> Result<Output<'a>, AllocError>
-    requires size { length bytes.now ≤ limit }
+    requires size { length bytes.items ≤ limit }
     requires ranges { AreInRange (split_view options.now) }
-    ensures { IfOk result (λ x. IsSplit (split_view options.now) bytes.now (output_view x)) }
+    ensures { IfOk result (λ x. IsSplit (split_view options.now) bytes.items (output_view x)) }
 {
-    match layer_of(alloc, options, bytes) {
+    let choice = LayerChoice {
+        top: options.top,
+        layer: options.layer,
+        datatype: options.datatype,
+    };
+    match layer_of(alloc, &choice, bytes.as_slice()) {
         Ok(layer) => {
-            let decomposed = decompose(alloc, &layer.slabs, options.rule, options.overlap)?;
+            drop(bytes);
+            let sharing = Sharing {
+                tile: options.tile,
+                workers: options.workers,
+            };
+            let decomposed = decompose(
+                rt,
+                alloc,
+                layer.slabs,
+                options.rule,
+                options.overlap,
+                sharing,
+                gate,
+            )?;
             let output = decided(alloc, options, layer.front.as_slice(), decomposed)?;
             Ok(output)
         }

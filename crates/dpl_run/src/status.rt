@@ -5,11 +5,11 @@ ghost use Rattle.dpl_run.specs.Outcome.{code_of};
 /// How a run ended. The codes go from 0 in this order.
 #[derive(Clone, Copy, Debug, PartialEq, Eq)]
 pub enum Status {
-    /// The layer was decomposed, and both masks and their certificate are written.
+    /// All that was asked for was done; of `check`, nothing is broken.
     Done,
-    /// The conflict graph of the layer has an odd cycle, and the certificate tells it.
+    /// The conflict graph of the layer has an odd cycle.
     Conflict,
-    /// The layout has a fault, and the certificate tells the first.
+    /// A file has a fault, and the line tells the first.
     Refused,
     /// The words are no command, and the usage was said.
     Usage,
@@ -19,7 +19,7 @@ pub enum Status {
     WriteFault,
     /// Memory ran out; nothing was written.
     NoMemory,
-    /// A certificate isn't kept.
+    /// Of what `check` looks at something is broken, and the line tells what.
     CheckNo,
 }
 

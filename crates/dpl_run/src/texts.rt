@@ -1,13 +1,29 @@
 //! The lines that are said.
 ghost use Rattle.std.specs.Prelude.{◌≡◌, IfOk, string_bytes};
-ghost use Rattle.dpl_run.specs.Texts.{conflict_line as conflict_line_of, done_line as done_line_of, refused_line as refused_line_of, usage_line as usage_line_of};
+ghost use Rattle.dpl_verdict.specs.declared.Verdict.TheVariants.{Counts, Cover, Overlap, Rules, SpacingA, SpacingB};
+ghost use Rattle.dpl_run.specs.View.{file_word};
+ghost use Rattle.dpl_run.specs.Texts.{bad_line_line as bad_line_line_of, broken_line, conflict_line as conflict_line_of, demo_line as demo_line_of, done_line as done_line_of, refused_file_line as refused_file_line_of, refused_line as refused_line_of, usage_line as usage_line_of, valid_line as valid_line_of};
+ghost use Rattle.dpl_run.specs.Check.{verdict_line as verdict_line_of};
 
-use dpl_cert::{Head, Name};
+use dpl_base::Pt;
+use dpl_cert::{Cert, Head, Name};
+use dpl_check::Verdict;
 use std::alloc::{AllocError, Global};
 
-/// How the command line is written, with a line end. Layers and data types are those of the GDSII Stream Format, Release 6; the rule, the overlap and the tile are in database units.
+/// A file that `check` reads.
+#[derive(Clone, Copy, Debug)]
+pub(crate) enum CheckedFile {
+    Layout,
+    Certificate,
+    Masks,
+}
+
+/// How the command line is written, in a line for each command. Layers and data types are those of the GDSII Stream Format, Release 6; the rule, the overlap and the tile are in database units.
 pub const USAGE: &str =
-    "usage: dpl split --layer N --rule N --overlap N [--datatype N] [--top NAME] [--a N] [--b N] [--tile N] [--workers N] IN OUT CERT\n";
+    "usage: dpl split --layer N --rule N --overlap N [--datatype N] [--top NAME] [--a N] [--b N] [--tile N] [--workers N] IN OUT CERT
+       dpl check --layer N --rule N --overlap N [--datatype N] [--top NAME] [--a N] [--b N] IN OUT CERT
+       dpl demo --seed N --rows N [--tile N] [--workers N]
+";
 
 /// How the command line is written.
 pub(crate) fn usage_line(alloc: Global) -> Result<String, AllocError>
@@ -32,6 +48,22 @@ pub(crate) fn done_line(
     )
 }
 
+/// The counts of the decomposition of a made-up layout.
+pub(crate) fn demo_line(
+    alloc: Global,
+    head: &Head,
+    stitches: usize,
+    na: usize,
+    nb: usize,
+) -> Result<String, AllocError>
+    ensures { IfOk result (λ s. string_bytes s ≡ demo_line_of head.now stitches na nb) }
+{
+    format!(in alloc;
+        "demo features {} pieces {} zones {} stitches {stitches} a {na} b {nb}\n",
+        head.features, head.pieces, head.zones
+    )
+}
+
 /// The length of an odd cycle.
 pub(crate) fn conflict_line(alloc: Global, n: usize) -> Result<String, AllocError>
     ensures { IfOk result (λ s. string_bytes s ≡ conflict_line_of n) }
@@ -44,4 +76,126 @@ pub(crate) fn refused_line(alloc: Global, name: Name, at: u64) -> Result<String,
     ensures { IfOk result (λ s. string_bytes s ≡ refused_line_of name at) }
 {
     format!(in alloc; "refused {name} {at}\n")
+}
+
+/// The first fault of one of the files of `check`.
+pub(crate) fn refused_file_line(
+    alloc: Global,
+    file: CheckedFile,
+    name: Name,
+    at: u64,
+) -> Result<String, AllocError>
+    ensures { IfOk result (λ s. string_bytes s ≡ refused_file_line_of (file_word file) name at) }
+{
+    match file {
+        CheckedFile::Layout => {
+            let line = format!(in alloc; "refused in {name} {at}\n")?;
+            Ok(line)
+        }
+        CheckedFile::Certificate => {
+            let line = format!(in alloc; "refused cert {name} {at}\n")?;
+            Ok(line)
+        }
+        CheckedFile::Masks => {
+            let line = format!(in alloc; "refused out {name} {at}\n")?;
+            Ok(line)
+        }
+    }
+}
+
+/// The line at which a text is no certificate.
+pub(crate) fn bad_line_line(alloc: Global, n: u64) -> Result<String, AllocError>
+    ensures { IfOk result (λ s. string_bytes s ≡ bad_line_line_of n) }
+{
+    format!(in alloc; "refused cert Line {n}\n")
+}
+
+/// What a certificate that is kept says.
+pub(crate) fn valid_line(alloc: Global, cert: &Cert) -> Result<String, AllocError>
+    ensures { IfOk result (λ s. string_bytes s ≡ valid_line_of cert.now) }
+{
+    match cert {
+        Cert::Masks { stitches, .. } => {
+            format!(in alloc; "valid masks stitches {}\n", stitches.items().len())
+        }
+        Cert::Conflict { cycle, .. } => {
+            format!(in alloc; "valid conflict cycle {}\n", cycle.items().len())
+        }
+        Cert::Fault { .. } => Ok(String::new(alloc)),
+    }
+}
+
+/// The property that is broken, and what shows it; and what a certificate says, where none is.
+pub(crate) fn verdict_line(
+    alloc: Global,
+    cert: &Cert,
+    verdict: Verdict,
+) -> Result<String, AllocError>
+    ensures { IfOk result (λ s. string_bytes s ≡ verdict_line_of cert.now verdict) }
+{
+    match verdict {
+        Verdict::Valid => valid_line(alloc, cert),
+        Verdict::Rules { rule, overlap } => rules_line(alloc, rule, overlap),
+        Verdict::WasFault { name, at } => format!(in alloc; "no WasFault {name} {at}\n"),
+        Verdict::Counts {
+            features,
+            pieces,
+            zones,
+        } => counts_line(alloc, features, pieces, zones),
+        Verdict::Cover { at } => cover_line(alloc, &at),
+        Verdict::Overlap { at } => overlap_line(alloc, &at),
+        Verdict::SpacingA { first, second } => spacing_a_line(alloc, &first, &second),
+        Verdict::SpacingB { first, second } => spacing_b_line(alloc, &first, &second),
+        Verdict::Stitch { index } => format!(in alloc; "no Stitch {index}\n"),
+        Verdict::Piece { index } => format!(in alloc; "no Piece {index}\n"),
+        Verdict::Cycle { place } => format!(in alloc; "no Cycle {place}\n"),
+    }
+}
+
+fn rules_line(alloc: Global, rule: u32, overlap: u32) -> Result<String, AllocError>
+    ensures { IfOk result (λ s. string_bytes s ≡ broken_line (Rules rule overlap)) }
+{
+    let line = format!(in alloc; "no Rules {rule} {overlap}\n")?;
+    Ok(line)
+}
+
+fn counts_line(alloc: Global, features: u64, pieces: u64, zones: u64) -> Result<String, AllocError>
+    ensures { IfOk result (λ s. string_bytes s ≡ broken_line (Counts features pieces zones)) }
+{
+    let line = format!(in alloc; "no Counts {features} {pieces} {zones}\n")?;
+    Ok(line)
+}
+
+fn cover_line(alloc: Global, at: &Pt) -> Result<String, AllocError>
+    ensures { IfOk result (λ s. string_bytes s ≡ broken_line (Cover at.now)) }
+{
+    let line = format!(in alloc; "no Cover {} {}\n", at.x, at.y)?;
+    Ok(line)
+}
+
+fn overlap_line(alloc: Global, at: &Pt) -> Result<String, AllocError>
+    ensures { IfOk result (λ s. string_bytes s ≡ broken_line (Overlap at.now)) }
+{
+    let line = format!(in alloc; "no Overlap {} {}\n", at.x, at.y)?;
+    Ok(line)
+}
+
+fn spacing_a_line(alloc: Global, first: &Pt, second: &Pt) -> Result<String, AllocError>
+    ensures { IfOk result (λ s. string_bytes s ≡ broken_line (SpacingA first.now second.now)) }
+{
+    let line = format!(in alloc;
+        "no SpacingA {} {} {} {}\n",
+        first.x, first.y, second.x, second.y
+    )?;
+    Ok(line)
+}
+
+fn spacing_b_line(alloc: Global, first: &Pt, second: &Pt) -> Result<String, AllocError>
+    ensures { IfOk result (λ s. string_bytes s ≡ broken_line (SpacingB first.now second.now)) }
+{
+    let line = format!(in alloc;
+        "no SpacingB {} {} {} {}\n",
+        first.x, first.y, second.x, second.y
+    )?;
+    Ok(line)
 }

@@ -1,5 +1,5 @@
 -- What is asked for, as a result.
-use Rattle.std.proofs.Common.{◌≡◌, Bool, not, true, false, true≢false, Option, Some, None, refl, sym, subst, option_map}
+use Rattle.std.proofs.Common.{◌≡◌, Option, Some, None, sym, subst, option_map}
 use Rattle.std.specs.Prelude.{Result, IfOk, IsErrOf}
 use Rattle.std.specs.Option.{ok_or}
 use Rattle.dpl_words.specs.Meaning.{RequestValues, request_view}
@@ -21,7 +21,3 @@ refuses asks o r same is bad = go o same (subst (λ y. IsErrOf y Usage) is bad)
     go : (o : Option Request) → asks ≡ option_map request_view o → IsErrOf (ok_or {E = WordsFault} o Usage) Usage → asks ≡ None
     go None same bad = same
     go (Some x) same bad = absurd (cc)
-
-pub not_other : (b : Bool) → false ≡ not b → b ≡ true
-not_other true e = refl
-not_other false e = absurd (true≢false (sym e))

@@ -99,5 +99,15 @@ number_read k low high a rows fits parser read =
     let at : number_at k a.id rows ≡ Some got.0 = ap (λ (o : Option Text). o >>= number_below k) one ∙ got.1 in
     subst (IsFrom low high) (sym at) (got.2, got.3)
 
+-- a number that passed a test of whole numbers of 64 bits is there, and in its range
+pub word_read : (low high : ℕ) (a : Rule) (rows : List Row) → a.parser ≡ Some (vp.Unsigned low high) → IsRead a rows → IsFrom low high (number_at 64 a.id rows)
+word_read low high a rows parser read =
+    let ok = subst (λ p. accepts a.ignore_case (parser_of_value p) read.text ≡ true) parser read.passes in
+    let passed = accepts-Accepts a.ignore_case (vp.Unsigned low high) read.text ok in
+    let one : one_of a.id rows ≡ Some read.text = read.one ∙ ap (λ p. Some (read_as (reading_of (parser_of_value p)) read.text)) parser in
+    let below : is_below 64 read.text ≡ true = below_back 64 read.text (passed.0, passed.1) in
+    let at : number_at 64 a.id rows ≡ Some (digits_value 10 (without_leading_plus read.text)) = ap (λ (o : Option Text). o >>= number_below 64) one ∙ ap (λ (b : Bool). cond b (Some (digits_value 10 (without_leading_plus read.text))) None) below in
+    subst (IsFrom low high) (sym at) (passed.2, passed.3)
+
 pub text_read : (a : Rule) (rows : List Row) → IsRead a rows → IsThere (first_of a.id rows)
 text_read a rows read = ap (λ (o : Option Text). is_some o) read.first

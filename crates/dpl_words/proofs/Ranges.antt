@@ -1,5 +1,5 @@
--- The words that `clap` takes give each value of `split`, in its range.
-use Rattle.std.proofs.Common.{◌≡◌, ◌≤◌, Bool, ◌&&◌, not, cond, true, false, List, [], ◌∷◌, Option, Some, None, option_map, is_some, refl, sym, subst, inl, inr, arith, ℕ}
+-- The words that `clap` takes give each value of their subcommand, in its range.
+use Rattle.std.proofs.Common.{◌≡◌, ◌≤◌, Bool, ◌&&◌, not, cond, true, false, true≢false, List, [], ◌∷◌, Option, Some, None, option_map, is_some, refl, sym, subst, inl, inr, arith, ℕ}
 use Rattle.std.specs.Prelude.{find, slice_get, unwrap_or, IfSome}
 use Rattle.std.specs.List.{list_any}
 use Rattle.clap.specs.Kinds.{check_kinds}
@@ -13,19 +13,28 @@ use Rattle.clap.specs.declared.builder.action.ArgAction.TheVariants.{Set}
 use Rattle.clap.specs.Faults.{check_fault, entered_fault, fault_of, level_fault, walk_fault}
 use Rattle.clap.proofs.OnLiterals.{clap_on_literals}
 use Rattle.dpl_words.specs.Definition.{dpl_app, split_shape}
-use Rattle.dpl_words.specs.Ranges.{AreInRange, AreThere, HasItsValues, IsFrom}
-use Rattle.dpl_words.specs.Meaning.{is_taken, split_values}
+use Rattle.dpl_words.specs.Ranges.{AreInRange, AreInRangeForCheck, AreInRangeForDemo, AreThere, AreThereForCheck, AreThereForDemo, HasItsValues, IsFrom}
+use Rattle.dpl_words.specs.Meaning.{check_values, demo_values, is_taken, split_values}
 use Rattle.clap.proofs.SimpleLemmas.{is_nil}
-use Rattle.dpl_words.proofs.Level.{IsPlainLevel, IsRead, default_read, each_row, number_read, required_read, text_read}
+use Rattle.dpl_words.proofs.Level.{IsPlainLevel, IsRead, default_read, each_row, number_read, required_read, text_read, word_read}
 use Rattle.dpl_words.proofs.Walking.{IsIn, TakesOne, none_of}
 
--- the level of `split`, as it is built
-abbrev pub level : Shape
-level = unwrap_or (slice_get (built dpl_app).subs 0) split_shape
+-- the level of the subcommand at this place, as it is built
+abbrev level_at : ℕ → Shape
+level_at i = unwrap_or (slice_get (built dpl_app).subs i) split_shape
+
+abbrev split_level : Shape
+split_level = level_at 0
+
+abbrev check_level : Shape
+check_level = level_at 1
+
+abbrev demo_level : Shape
+demo_level = level_at 2
 
 -- the argument at this place
-abbrev at : ℕ → Rule
-at i = unwrap_or (slice_get level.rules i) (new_rule [])
+abbrev at : Shape → ℕ → Rule
+at level i = unwrap_or (slice_get level.rules i) (new_rule [])
 
 -- each argument of the level takes one value
 abbrev Each : List Rule → Type 0
@@ -40,58 +49,147 @@ of_each (x ∷ xs) each a (inr of) = of_each xs each.1 a of
 one : (a : Rule) → action_of a ≡ Set → takes_values a ≡ true → (unwrap_or_range a.range).start_inclusive ≡ 1 → TakesOne a
 one a x y z = record { action = x; takes = y; least = z }
 
-each : Each level.rules
+each_split : Each split_level.rules
 unfolding clap_on_literals
-each = (one _ refl refl refl, (one _ refl refl refl, (one _ refl refl refl, (one _ refl refl refl, (one _ refl refl refl, (one _ refl refl refl, (one _ refl refl refl, (one _ refl refl refl, (one _ refl refl refl, (one _ refl refl refl, (one _ refl refl refl, (one _ refl refl refl, tt))))))))))))
+each_split = (one _ refl refl refl, (one _ refl refl refl, (one _ refl refl refl, (one _ refl refl refl, (one _ refl refl refl, (one _ refl refl refl, (one _ refl refl refl, (one _ refl refl refl, (one _ refl refl refl, (one _ refl refl refl, (one _ refl refl refl, (one _ refl refl refl, tt))))))))))))
 
-plain : IsPlainLevel level
+plain_split : IsPlainLevel split_level
 unfolding clap_on_literals
-plain = record { single = of_each level.rules each; no_short = λ x. refl; apart = refl }
+plain_split = record { single = of_each split_level.rules each_split; no_short = λ x. refl; apart = refl }
 
--- what is read of the arguments gives each value
-there : (rows : List Row) → ((a : Rule) → IsIn a level.rules → a.required ≡ true → IsRead a rows) → ((a : Rule) → IsIn a level.rules → HasDefault a → IsRead a rows) → AreThere rows
+each_check : Each check_level.rules
 unfolding clap_on_literals
-there rows wanted given = record {
-  layer = number_read 16 0 65535 (at 0) rows (omega arith) refl (wanted (at 0) (inl refl) refl);
-  rule = number_read 32 1 1000000 (at 1) rows (omega arith) refl (wanted (at 1) (inr (inl refl)) refl);
-  overlap = number_read 32 1 1000000 (at 2) rows (omega arith) refl (wanted (at 2) (inr (inr (inl refl))) refl);
-  datatype = number_read 16 0 65535 (at 3) rows (omega arith) refl (given (at 3) (inr (inr (inr (inl refl)))) (_, _, refl));
-  a = number_read 16 0 65535 (at 5) rows (omega arith) refl (given (at 5) (inr (inr (inr (inr (inr (inl refl)))))) (_, _, refl));
-  b = number_read 16 0 65535 (at 6) rows (omega arith) refl (given (at 6) (inr (inr (inr (inr (inr (inr (inl refl))))))) (_, _, refl));
-  tile = number_read 32 1 1073741824 (at 7) rows (omega arith) refl (given (at 7) (inr (inr (inr (inr (inr (inr (inr (inl refl)))))))) (_, _, refl));
-  workers = number_read 32 1 64 (at 8) rows (omega arith) refl (given (at 8) (inr (inr (inr (inr (inr (inr (inr (inr (inl refl))))))))) (_, _, refl));
-  input = text_read (at 9) rows (wanted (at 9) (inr (inr (inr (inr (inr (inr (inr (inr (inr (inl refl)))))))))) refl);
-  output = text_read (at 10) rows (wanted (at 10) (inr (inr (inr (inr (inr (inr (inr (inr (inr (inr (inl refl))))))))))) refl);
-  certificate = text_read (at 11) rows (wanted (at 11) (inr (inr (inr (inr (inr (inr (inr (inr (inr (inr (inr (inl refl)))))))))))) refl);
+each_check = (one _ refl refl refl, (one _ refl refl refl, (one _ refl refl refl, (one _ refl refl refl, (one _ refl refl refl, (one _ refl refl refl, (one _ refl refl refl, (one _ refl refl refl, (one _ refl refl refl, (one _ refl refl refl, tt))))))))))
+
+plain_check : IsPlainLevel check_level
+unfolding clap_on_literals
+plain_check = record { single = of_each check_level.rules each_check; no_short = λ x. refl; apart = refl }
+
+each_demo : Each demo_level.rules
+unfolding clap_on_literals
+each_demo = (one _ refl refl refl, (one _ refl refl refl, (one _ refl refl refl, (one _ refl refl refl, tt))))
+
+plain_demo : IsPlainLevel demo_level
+unfolding clap_on_literals
+plain_demo = record { single = of_each demo_level.rules each_demo; no_short = λ x. refl; apart = refl }
+
+-- what is read of the arguments of `split` gives each value
+split_there : (rows : List Row) → ((a : Rule) → IsIn a split_level.rules → a.required ≡ true → IsRead a rows) → ((a : Rule) → IsIn a split_level.rules → HasDefault a → IsRead a rows) → AreThere rows
+unfolding clap_on_literals
+split_there rows wanted given = record {
+  layer = number_read 16 0 65535 (at split_level 0) rows (omega arith) refl (wanted (at split_level 0) (inl refl) refl);
+  rule = number_read 32 1 1000000 (at split_level 1) rows (omega arith) refl (wanted (at split_level 1) (inr (inl refl)) refl);
+  overlap = number_read 32 1 1000000 (at split_level 2) rows (omega arith) refl (wanted (at split_level 2) (inr (inr (inl refl))) refl);
+  datatype = number_read 16 0 65535 (at split_level 3) rows (omega arith) refl (given (at split_level 3) (inr (inr (inr (inl refl)))) (_, _, refl));
+  a = number_read 16 0 65535 (at split_level 5) rows (omega arith) refl (given (at split_level 5) (inr (inr (inr (inr (inr (inl refl)))))) (_, _, refl));
+  b = number_read 16 0 65535 (at split_level 6) rows (omega arith) refl (given (at split_level 6) (inr (inr (inr (inr (inr (inr (inl refl))))))) (_, _, refl));
+  tile = number_read 32 1 1073741824 (at split_level 7) rows (omega arith) refl (given (at split_level 7) (inr (inr (inr (inr (inr (inr (inr (inl refl)))))))) (_, _, refl));
+  workers = number_read 32 1 64 (at split_level 8) rows (omega arith) refl (given (at split_level 8) (inr (inr (inr (inr (inr (inr (inr (inr (inl refl))))))))) (_, _, refl));
+  input = text_read (at split_level 9) rows (wanted (at split_level 9) (inr (inr (inr (inr (inr (inr (inr (inr (inr (inl refl)))))))))) refl);
+  output = text_read (at split_level 10) rows (wanted (at split_level 10) (inr (inr (inr (inr (inr (inr (inr (inr (inr (inr (inl refl))))))))))) refl);
+  certificate = text_read (at split_level 11) rows (wanted (at split_level 11) (inr (inr (inr (inr (inr (inr (inr (inr (inr (inr (inr (inl refl)))))))))))) refl);
 }
 
-wanted_given : (rows : List Row) → check_fault level rows false ≡ [] → list_any (λ a. a.required && not (is_given a.id rows)) level.rules ≡ false
+-- what is read of the arguments of `check` gives each value
+check_there : (rows : List Row) → ((a : Rule) → IsIn a check_level.rules → a.required ≡ true → IsRead a rows) → ((a : Rule) → IsIn a check_level.rules → HasDefault a → IsRead a rows) → AreThereForCheck rows
 unfolding clap_on_literals
-wanted_given rows e = go (list_any (λ a. a.required && not (is_given a.id rows)) level.rules) e
+check_there rows wanted given = record {
+  layer = number_read 16 0 65535 (at check_level 0) rows (omega arith) refl (wanted (at check_level 0) (inl refl) refl);
+  rule = number_read 32 1 1000000 (at check_level 1) rows (omega arith) refl (wanted (at check_level 1) (inr (inl refl)) refl);
+  overlap = number_read 32 1 1000000 (at check_level 2) rows (omega arith) refl (wanted (at check_level 2) (inr (inr (inl refl))) refl);
+  datatype = number_read 16 0 65535 (at check_level 3) rows (omega arith) refl (given (at check_level 3) (inr (inr (inr (inl refl)))) (_, _, refl));
+  a = number_read 16 0 65535 (at check_level 5) rows (omega arith) refl (given (at check_level 5) (inr (inr (inr (inr (inr (inl refl)))))) (_, _, refl));
+  b = number_read 16 0 65535 (at check_level 6) rows (omega arith) refl (given (at check_level 6) (inr (inr (inr (inr (inr (inr (inl refl))))))) (_, _, refl));
+  input = text_read (at check_level 7) rows (wanted (at check_level 7) (inr (inr (inr (inr (inr (inr (inr (inl refl)))))))) refl);
+  output = text_read (at check_level 8) rows (wanted (at check_level 8) (inr (inr (inr (inr (inr (inr (inr (inr (inl refl))))))))) refl);
+  certificate = text_read (at check_level 9) rows (wanted (at check_level 9) (inr (inr (inr (inr (inr (inr (inr (inr (inr (inl refl)))))))))) refl);
+}
+
+-- what is read of the arguments of `demo` gives each value
+demo_there : (rows : List Row) → ((a : Rule) → IsIn a demo_level.rules → a.required ≡ true → IsRead a rows) → ((a : Rule) → IsIn a demo_level.rules → HasDefault a → IsRead a rows) → AreThereForDemo rows
+unfolding clap_on_literals
+demo_there rows wanted given = record {
+  seed = word_read 0 18446744073709551615 (at demo_level 0) rows refl (wanted (at demo_level 0) (inl refl) refl);
+  rows = number_read 32 1 1000000 (at demo_level 1) rows (omega arith) refl (wanted (at demo_level 1) (inr (inl refl)) refl);
+  tile = number_read 32 1 1073741824 (at demo_level 2) rows (omega arith) refl (given (at demo_level 2) (inr (inr (inl refl))) (_, _, refl));
+  workers = number_read 32 1 64 (at demo_level 3) rows (omega arith) refl (given (at demo_level 3) (inr (inr (inr (inl refl)))) (_, _, refl));
+}
+
+split_given : (rows : List Row) → check_fault split_level rows false ≡ [] → list_any (λ a. a.required && not (is_given a.id rows)) split_level.rules ≡ false
+unfolding clap_on_literals
+split_given rows e = go (list_any (λ a. a.required && not (is_given a.id rows)) split_level.rules) e
   where
     go : (b : Bool) → check_kinds false false b ≡ [] → b ≡ false
     go false e = refl
     go true e = absurd (cc)
 
-level_there : (words : List Text) → level_fault level [] nothing_held words false [] ≡ [] → AreThere (rows_after level.rules [] words)
-level_there words e =
-    let parts = each_row level plain words false e in
-    there (rows_after level.rules [] words)
-    (λ a of wanted. required_read level plain a of wanted (rows_after level.rules [] words) (wanted_given (rows_after level.rules [] words) parts.1) parts.0)
-    (λ a of d. default_read level plain a of d words parts.0)
+split_level_there : (words : List Text) → level_fault split_level [] nothing_held words false [] ≡ [] → AreThere (rows_after split_level.rules [] words)
+split_level_there words e =
+    let parts = each_row split_level plain_split words false e in
+    split_there (rows_after split_level.rules [] words)
+    (λ a of wanted. required_read split_level plain_split a of wanted (rows_after split_level.rules [] words) (split_given (rows_after split_level.rules [] words) parts.1) parts.0)
+    (λ a of d. default_read split_level plain_split a of d words parts.0)
 
-subs : (built dpl_app).subs ≡ level ∷ []
+check_given : (rows : List Row) → check_fault check_level rows false ≡ [] → list_any (λ a. a.required && not (is_given a.id rows)) check_level.rules ≡ false
+unfolding clap_on_literals
+check_given rows e = go (list_any (λ a. a.required && not (is_given a.id rows)) check_level.rules) e
+  where
+    go : (b : Bool) → check_kinds false false b ≡ [] → b ≡ false
+    go false e = refl
+    go true e = absurd (cc)
+
+check_level_there : (words : List Text) → level_fault check_level [] nothing_held words false [] ≡ [] → AreThereForCheck (rows_after check_level.rules [] words)
+check_level_there words e =
+    let parts = each_row check_level plain_check words false e in
+    check_there (rows_after check_level.rules [] words)
+    (λ a of wanted. required_read check_level plain_check a of wanted (rows_after check_level.rules [] words) (check_given (rows_after check_level.rules [] words) parts.1) parts.0)
+    (λ a of d. default_read check_level plain_check a of d words parts.0)
+
+demo_given : (rows : List Row) → check_fault demo_level rows false ≡ [] → list_any (λ a. a.required && not (is_given a.id rows)) demo_level.rules ≡ false
+unfolding clap_on_literals
+demo_given rows e = go (list_any (λ a. a.required && not (is_given a.id rows)) demo_level.rules) e
+  where
+    go : (b : Bool) → check_kinds false false b ≡ [] → b ≡ false
+    go false e = refl
+    go true e = absurd (cc)
+
+demo_level_there : (words : List Text) → level_fault demo_level [] nothing_held words false [] ≡ [] → AreThereForDemo (rows_after demo_level.rules [] words)
+demo_level_there words e =
+    let parts = each_row demo_level plain_demo words false e in
+    demo_there (rows_after demo_level.rules [] words)
+    (λ a of wanted. required_read demo_level plain_demo a of wanted (rows_after demo_level.rules [] words) (demo_given (rows_after demo_level.rules [] words) parts.1) parts.0)
+    (λ a of d. default_read demo_level plain_demo a of d words parts.0)
+
+-- a subcommand's entries have what its name says
+split_has : (rows : List Row) → AreThere rows → HasItsValues (split_level.name, rows)
+unfolding clap_on_literals
+split_has rows h = record { split = λ e. h; check = λ e. absurd (true≢false (sym e)); demo = λ e. absurd (true≢false (sym e)) }
+
+check_has : (rows : List Row) → AreThereForCheck rows → HasItsValues (check_level.name, rows)
+unfolding clap_on_literals
+check_has rows h = record { split = λ e. absurd (true≢false (sym e)); check = λ e. h; demo = λ e. absurd (true≢false (sym e)) }
+
+demo_has : (rows : List Row) → AreThereForDemo rows → HasItsValues (demo_level.name, rows)
+unfolding clap_on_literals
+demo_has rows h = record { split = λ e. absurd (true≢false (sym e)); check = λ e. absurd (true≢false (sym e)); demo = λ e. h }
+
+subs : (built dpl_app).subs ≡ split_level ∷ check_level ∷ demo_level ∷ []
 unfolding clap_on_literals
 subs = refl
 
 entered_there : (stop : Option (Text × List Text)) → entered_fault (built dpl_app) stop ≡ [] → IfSome (entered (built dpl_app) stop) HasItsValues
 entered_there None e = tt
-entered_there (Some p) e = go (answers_to p.0 (label_of level)) (subst (λ xs. option_map_or (λ s. level_fault s [] nothing_held p.1 false []) (find (λ s. answers_to p.0 (label_of s)) xs) [] ≡ []) subs e)
+entered_there (Some p) e =
+    let mine = subst (λ xs. option_map_or (λ s. level_fault s [] nothing_held p.1 false []) (find (λ s. answers_to p.0 (label_of s)) xs) [] ≡ []) subs e in
+    subst (λ xs. IfSome (option_map (λ s. rows_at s p.1) (find (λ s. answers_to p.0 (label_of s)) xs)) HasItsValues) (sym subs)
+    (go (answers_to p.0 (label_of split_level)) (answers_to p.0 (label_of check_level)) (answers_to p.0 (label_of demo_level)) mine)
   where
-    go : (b : Bool) → option_map_or (λ s. level_fault s [] nothing_held p.1 false []) (cond b (Some level) None) [] ≡ []
-        → IfSome (option_map (λ s. rows_at s p.1) (cond b (Some level) None)) HasItsValues
-    go true e = λ split. level_there p.1 e
-    go false e = tt
+    go : (x y z : Bool) → option_map_or (λ s. level_fault s [] nothing_held p.1 false []) (cond x (Some split_level) (cond y (Some check_level) (cond z (Some demo_level) None))) [] ≡ []
+        → IfSome (option_map (λ s. rows_at s p.1) (cond x (Some split_level) (cond y (Some check_level) (cond z (Some demo_level) None)))) HasItsValues
+    go true y z e = split_has (rows_after split_level.rules [] p.1) (split_level_there p.1 e)
+    go false true z e = check_has (rows_after check_level.rules [] p.1) (check_level_there p.1 e)
+    go false false true e = demo_has (rows_after demo_level.rules [] p.1) (demo_level_there p.1 e)
+    go false false false e = tt
 
 -- the subcommand that was met has its values, where `clap` takes the words
 pub taken_there : (words : List Text) → is_taken words ≡ true → IfSome (subcommand_of dpl_app words) HasItsValues
@@ -114,6 +212,24 @@ in_range rows h = record {
   overlap = from_range _ _ _ h.overlap;
   a = (from_range _ _ _ h.a).1;
   b = (from_range _ _ _ h.b).1;
+  tile = from_range _ _ _ h.tile;
+  workers = from_range _ _ _ h.workers;
+}
+
+pub check_in_range : (rows : List Row) → AreThereForCheck rows → AreInRangeForCheck (check_values rows)
+check_in_range rows h = record {
+  layer = (from_range _ _ _ h.layer).1;
+  datatype = (from_range _ _ _ h.datatype).1;
+  rule = from_range _ _ _ h.rule;
+  overlap = from_range _ _ _ h.overlap;
+  a = (from_range _ _ _ h.a).1;
+  b = (from_range _ _ _ h.b).1;
+}
+
+pub demo_in_range : (entries : List Row) → AreThereForDemo entries → AreInRangeForDemo (demo_values entries)
+demo_in_range entries h = record {
+  seed = (from_range _ _ _ h.seed).1;
+  rows = from_range _ _ _ h.rows;
   tile = from_range _ _ _ h.tile;
   workers = from_range _ _ _ h.workers;
 }

@@ -12,6 +12,14 @@ required_number id low high = record (new_rule id) {
   parser = Some (vp.Signed (pos low) (pos high));
 }
 
+-- an option that must be given, with any whole number of 64 bits
+abbrev pub required_word : Text → Rule
+required_word id = record (new_rule id) {
+  long = Some id;
+  required = true;
+  parser = Some (vp.Unsigned 0 18446744073709551615);
+}
+
 -- an option with a whole number from low to high, and a default
 abbrev pub optional_number : Text → ℕ → ℕ → Text → Rule
 optional_number id low high default = record (new_rule id) {
@@ -42,6 +50,26 @@ split_shape = record (new_shape (codes "split")) {
       ∷ file_name (codes "in") ∷ file_name (codes "out") ∷ file_name (codes "cert") ∷ [];
 }
 
+abbrev pub check_shape : Shape
+check_shape = record (new_shape (codes "check")) {
+  rules = required_number (codes "layer") 0 65535
+      ∷ required_number (codes "rule") 1 1000000
+      ∷ required_number (codes "overlap") 1 1000000
+      ∷ optional_number (codes "datatype") 0 65535 (codes "0")
+      ∷ optional_text (codes "top")
+      ∷ optional_number (codes "a") 0 65535 (codes "101")
+      ∷ optional_number (codes "b") 0 65535 (codes "102")
+      ∷ file_name (codes "in") ∷ file_name (codes "out") ∷ file_name (codes "cert") ∷ [];
+}
+
+abbrev pub demo_shape : Shape
+demo_shape = record (new_shape (codes "demo")) {
+  rules = required_word (codes "seed")
+      ∷ required_number (codes "rows") 1 1000000
+      ∷ optional_number (codes "tile") 1 1073741824 (codes "4096")
+      ∷ optional_number (codes "workers") 1 64 (codes "4") ∷ [];
+}
+
 -- the program: a subcommand must be there, and nothing answers with help or a version
 abbrev pub top_shape : Shape
 top_shape = record (new_shape (codes "dpl")) {
@@ -54,5 +82,5 @@ top_shape = record (new_shape (codes "dpl")) {
 abbrev pub dpl_app : App
 dpl_app = record {
   top = record top_shape { is_leaf = false };
-  subs = split_shape ∷ [];
+  subs = split_shape ∷ check_shape ∷ demo_shape ∷ [];
 }

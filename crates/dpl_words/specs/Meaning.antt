@@ -9,8 +9,10 @@ use Rattle.clap.specs.Simple.{subcommand_of}
 use Rattle.clap.specs.Faults.{fault_of}
 use Rattle.dpl_words.specs.Definition.{dpl_app}
 use Rattle.dpl_words.specs.declared.values.SplitOptions.{SplitOptions}
+use Rattle.dpl_words.specs.declared.values.CheckOptions.{CheckOptions}
+use Rattle.dpl_words.specs.declared.values.DemoOptions.{DemoOptions}
 use Rattle.dpl_words.specs.declared.values.Request.{Request}
-use Rattle.dpl_words.specs.declared.values.Request.TheVariants.{Split}
+use Rattle.dpl_words.specs.declared.values.Request.TheVariants.{Split, Check, Demo}
 
 -- what a command line of `split` says
 pub record SplitValues : Type 0 where
@@ -27,8 +29,30 @@ pub record SplitValues : Type 0 where
   pub output : Text
   pub certificate : Text
 
+-- what a command line of `check` says
+pub record CheckValues : Type 0 where
+  pub layer : ℕ
+  pub datatype : ℕ
+  pub rule : ℕ
+  pub overlap : ℕ
+  pub top : Option Text
+  pub a : ℕ
+  pub b : ℕ
+  pub input : Text
+  pub output : Text
+  pub certificate : Text
+
+-- what a command line of `demo` says
+pub record DemoValues : Type 0 where
+  pub seed : ℕ
+  pub rows : ℕ
+  pub tile : ℕ
+  pub workers : ℕ
+
 pub data RequestValues : Type 0 where
   AsksSplit : SplitValues → RequestValues
+  AsksCheck : CheckValues → RequestValues
+  AsksDemo : DemoValues → RequestValues
 
 -- the number below 2 ^ k that a text writes, with a plus before it or not
 abbrev pub number_below : ℕ → Text → Option ℕ
@@ -68,6 +92,30 @@ split_values rows = record {
   certificate = text_in (codes "cert") rows;
 }
 
+-- the values of `check`
+abbrev pub check_values : List Row → CheckValues
+check_values rows = record {
+  layer = number_in 16 (codes "layer") rows;
+  datatype = number_in 16 (codes "datatype") rows;
+  rule = number_in 32 (codes "rule") rows;
+  overlap = number_in 32 (codes "overlap") rows;
+  top = first_of (codes "top") rows;
+  a = number_in 16 (codes "a") rows;
+  b = number_in 16 (codes "b") rows;
+  input = text_in (codes "in") rows;
+  output = text_in (codes "out") rows;
+  certificate = text_in (codes "cert") rows;
+}
+
+-- the values of `demo`
+abbrev pub demo_values : List Row → DemoValues
+demo_values rows = record {
+  seed = number_in 64 (codes "seed") rows;
+  rows = number_in 32 (codes "rows") rows;
+  tile = number_in 32 (codes "tile") rows;
+  workers = number_in 32 (codes "workers") rows;
+}
+
 -- `clap` takes the words
 abbrev pub is_taken : List Text → Bool
 is_taken words = is_empty (fault_of dpl_app words)
@@ -79,9 +127,15 @@ is_apart a b input output certificate = not (a == b) && (not (bytes_eq input out
 abbrev pub split_if_apart : SplitValues → Option RequestValues
 split_if_apart v = if is_apart v.a v.b v.input v.output v.certificate then Some (AsksSplit v) else None
 
+abbrev pub check_if_apart : CheckValues → Option RequestValues
+check_if_apart v = if is_apart v.a v.b v.input v.output v.certificate then Some (AsksCheck v) else None
+
 -- what the entries of a subcommand ask for, by its name
 abbrev pub asked_by : Text → List Row → Option RequestValues
-asked_by name rows = if bytes_eq name (codes "split") then split_if_apart (split_values rows) else None
+asked_by name rows =
+    if bytes_eq name (codes "split") then split_if_apart (split_values rows)
+    else (if bytes_eq name (codes "check") then check_if_apart (check_values rows)
+    else (if bytes_eq name (codes "demo") then Some (AsksDemo (demo_values rows)) else None))
 
 -- what the entries of the subcommand that was met ask for
 abbrev pub asked_of : Option (Text × List Row) → Option RequestValues
@@ -94,5 +148,13 @@ request_of words = if is_taken words then asked_of (subcommand_of dpl_app words)
 abbrev pub split_view : SplitOptions → SplitValues
 split_view s = record { layer = s.layer; datatype = s.datatype; rule = s.rule; overlap = s.overlap; top = option_map (λ t. t.now) s.top; a = s.a; b = s.b; tile = s.tile; workers = s.workers; input = s.input.now; output = s.output.now; certificate = s.certificate.now }
 
+abbrev pub check_view : CheckOptions → CheckValues
+check_view s = record { layer = s.layer; datatype = s.datatype; rule = s.rule; overlap = s.overlap; top = option_map (λ t. t.now) s.top; a = s.a; b = s.b; input = s.input.now; output = s.output.now; certificate = s.certificate.now }
+
+abbrev pub demo_view : DemoOptions → DemoValues
+demo_view s = record { seed = s.seed; rows = s.rows; tile = s.tile; workers = s.workers }
+
 abbrev pub request_view : Request → RequestValues
 request_view (Split s) = AsksSplit (split_view s)
+request_view (Check s) = AsksCheck (check_view s)
+request_view (Demo s) = AsksDemo (demo_view s)

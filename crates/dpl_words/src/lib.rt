@@ -6,7 +6,7 @@ mod law;
 mod values;
 
 pub use law::{taken_has_its_values, taken_names_a_subcommand};
-pub use values::{Request, SplitOptions, WordsFault, read_words};
+pub use values::{CheckOptions, DemoOptions, Request, SplitOptions, WordsFault, read_words};
 
 #[cfg(test)]
 mod tests;

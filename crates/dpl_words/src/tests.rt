@@ -1,5 +1,5 @@
 //! Word lists and what they ask for.
-use crate::{Request, SplitOptions, WordsFault, read_words};
+use crate::{CheckOptions, DemoOptions, Request, SplitOptions, WordsFault, read_words};
 use std::alloc::Global;
 use std::test::Fail;
 
@@ -25,6 +25,32 @@ fn values_of<'a>(options: &SplitOptions<'a>) -> Values<'a> {
     (numbers, options.top, files)
 }
 
+/// `check` has no tile and no workers.
+fn checked_values_of<'a>(options: &CheckOptions<'a>) -> Values<'a> {
+    let numbers = [
+        u32::from(options.layer),
+        u32::from(options.datatype),
+        options.rule,
+        options.overlap,
+        u32::from(options.a),
+        u32::from(options.b),
+        0,
+        0,
+    ];
+    let files = [options.input, options.output, options.certificate];
+    (numbers, options.top, files)
+}
+
+/// The seed, the rows, the tile and the workers.
+fn demo_values_of(options: &DemoOptions) -> [u64; 4] {
+    [
+        options.seed,
+        u64::from(options.rows),
+        u64::from(options.tile),
+        u64::from(options.workers),
+    ]
+}
+
 /// What the words of a line ask for; two blanks have an empty word between them.
 fn asks(alloc: Global, line: &str, want: Option<Values>) -> Result<bool, Fail> {
     let mut words = Vec::new(alloc);
@@ -33,6 +59,8 @@ fn asks(alloc: Global, line: &str, want: Option<Values>) -> Result<bool, Fail> {
     }
     match read_words(alloc, &words) {
         Ok(Request::Split(options)) => Ok(want == Some(values_of(&options))),
+        Ok(Request::Check(options)) => Ok(want == Some(checked_values_of(&options))),
+        Ok(Request::Demo(_)) => Ok(false),
         Err(WordsFault::Usage) => Ok(want.is_none()),
         Err(WordsFault::NoMemory) => Err("there is memory".into()),
     }
@@ -41,7 +69,7 @@ fn asks(alloc: Global, line: &str, want: Option<Values>) -> Result<bool, Fail> {
 #[test]
 fn lines_ask_for_what_they_say(rt: HostRuntime) -> Result<(), Fail> {
     let plain = Some((PLAIN, None, FILES));
-    let cases: [(&str, Option<Values>); 48] = [
+    let cases: [(&str, Option<Values>); 54] = [
         ("dpl split --layer 1 --rule 30 --overlap 10 i o c", plain),
         // behind `=`, and after or between the names
         ("dpl split i o c --layer=1 --rule=30 --overlap=10", plain),
@@ -158,10 +186,66 @@ fn lines_ask_for_what_they_say(rt: HostRuntime) -> Result<(), Fail> {
             "dpl split --layer 1 --rule 30 --overlap 10 -- -i o c",
             Some((PLAIN, None, ["-i", "o", "c"])),
         ),
+        // `check` has neither tiles nor workers
+        (
+            "dpl check --layer 1 --rule 30 --overlap 10 i o c",
+            Some(([1, 0, 30, 10, 101, 102, 0, 0], None, FILES)),
+        ),
+        (
+            "dpl check --layer 2 --datatype 3 --rule 4 --overlap 5 --top T --a 6 --b 7 i o c",
+            Some(([2, 3, 4, 5, 6, 7, 0, 0], Some("T"), FILES)),
+        ),
+        (
+            "dpl check --layer 1 --rule 30 --overlap 10 --tile 64 i o c",
+            None,
+        ),
+        ("dpl check --layer 1 --rule 30 --overlap 10 i o o", None),
+        (
+            "dpl check --layer 1 --rule 30 --overlap 10 --a 7 --b 7 i o c",
+            None,
+        ),
+        ("dpl check --layer 1 --rule 30 i o c", None),
     ];
     for (line, want) in cases {
         assert!(rt; asks(rt.alloc(), line, want)?, "at {line}");
     }
     assert!(rt; matches!(read_words(rt.alloc(), &[]), Err(WordsFault::Usage)));
+    Ok(())
+}
+
+/// What the words of a line of `demo` ask for.
+fn shows(alloc: Global, line: &str, want: Option<[u64; 4]>) -> Result<bool, Fail> {
+    let mut words = Vec::new(alloc);
+    for word in line.split(' ') {
+        words.push(word)?;
+    }
+    match read_words(alloc, &words) {
+        Ok(Request::Demo(options)) => Ok(want == Some(demo_values_of(&options))),
+        Ok(_) => Ok(false),
+        Err(WordsFault::Usage) => Ok(want.is_none()),
+        Err(WordsFault::NoMemory) => Err("there is memory".into()),
+    }
+}
+
+#[test]
+fn demo_has_a_seed_and_rows(rt: HostRuntime) -> Result<(), Fail> {
+    let cases: [(&str, Option<[u64; 4]>); 10] = [
+        ("dpl demo --seed 0 --rows 1", Some([0, 1, 4096, 4])),
+        (
+            "dpl demo --rows=+1000000 --seed=18446744073709551615 --tile 8 --workers 64",
+            Some([18446744073709551615, 1000000, 8, 64]),
+        ),
+        ("dpl demo --seed=18446744073709551616 --rows 1", None),
+        ("dpl demo --seed=-0 --rows 1", None),
+        ("dpl demo --seed 0 --rows=-0", None),
+        ("dpl demo --seed 0 --rows 0", None),
+        ("dpl demo --seed 0 --rows 1000001", None),
+        ("dpl demo --seed 0", None),
+        ("dpl demo --rows 1", None),
+        ("dpl demo --seed 0 --rows 1 i", None),
+    ];
+    for (line, want) in cases {
+        assert!(rt; shows(rt.alloc(), line, want)?, "at {line}");
+    }
     Ok(())
 }

@@ -4,8 +4,8 @@ ghost use Rattle.dpl_words.specs.declared.values.WordsFault.TheVariants.{NoMemor
 ghost use Rattle.clap.specs.Walk.{first_of, rows_of, texts};
 ghost use Rattle.clap.specs.Simple.{subcommand_rows_of};
 ghost use Rattle.clap.specs.Words.{found_of};
-ghost use Rattle.dpl_words.specs.Meaning.{asked_by, asked_of, is_apart as specs_is_apart, number_at, number_in, text_in, request_of, request_view, split_values, split_view};
-ghost use Rattle.dpl_words.specs.Ranges.{AreThere, HasItsValues, IsInRange, IsThere};
+ghost use Rattle.dpl_words.specs.Meaning.{asked_by, asked_of, check_if_apart, check_values, check_view, demo_values, demo_view, is_apart as specs_is_apart, number_at, number_in, text_in, request_of, request_view, split_if_apart, split_values, split_view};
+ghost use Rattle.dpl_words.specs.Ranges.{AreThere, AreThereForCheck, AreThereForDemo, HasItsValues, IsApart, IsInRange, IsThere};
 
 use crate::definition::dpl_command;
 use clap::ArgMatches;
@@ -29,10 +29,36 @@ pub struct SplitOptions<'a> {
     pub certificate: &'a str,
 }
 
+/// What a command line of `check` says.
+#[derive(Debug, Drop)]
+pub struct CheckOptions<'a> {
+    pub layer: u16,
+    pub datatype: u16,
+    pub rule: u32,
+    pub overlap: u32,
+    pub top: Option<&'a str>,
+    pub a: u16,
+    pub b: u16,
+    pub input: &'a str,
+    pub output: &'a str,
+    pub certificate: &'a str,
+}
+
+/// What a command line of `demo` says.
+#[derive(Debug, Drop)]
+pub struct DemoOptions {
+    pub seed: u64,
+    pub rows: u32,
+    pub tile: u32,
+    pub workers: u32,
+}
+
 /// What a command line asks for.
 #[derive(Debug, Drop)]
 pub enum Request<'a> {
     Split(SplitOptions<'a>),
+    Check(CheckOptions<'a>),
+    Demo(DemoOptions),
 }
 
 /// The number of an option, as a `u16`.
@@ -52,6 +78,17 @@ fn number_32(matches: &ArgMatches, id: &str) -> u32
     ensures { result ≡ number_in 32 id.now (rows_of (found_of matches.now)) }
 {
     let Some(number) = matches.get_one::<u32>(id) else {
+        unreachable!();
+    };
+    number
+}
+
+/// The number of an option, as a `u64`.
+fn number_64(matches: &ArgMatches, id: &str) -> u64
+    requires { is_some (number_at 64 id.now (rows_of (found_of matches.now))) ≡ true }
+    ensures { result ≡ number_in 64 id.now (rows_of (found_of matches.now)) }
+{
+    let Some(number) = matches.get_one::<u64>(id) else {
         unreachable!();
     };
     number
@@ -96,6 +133,38 @@ fn split_options<'a>(matches: &ArgMatches<'a>) -> SplitOptions<'a>
     }
 }
 
+/// The values of `check` among the entries.
+fn check_options<'a>(matches: &ArgMatches<'a>) -> CheckOptions<'a>
+    requires there { AreThereForCheck (rows_of (found_of matches.now)) }
+    ensures { check_view result ≡ check_values (rows_of (found_of matches.now)) }
+{
+    CheckOptions {
+        layer: number_16(matches, "layer"),
+        datatype: number_16(matches, "datatype"),
+        rule: number_32(matches, "rule"),
+        overlap: number_32(matches, "overlap"),
+        top: text(matches, "top"),
+        a: number_16(matches, "a"),
+        b: number_16(matches, "b"),
+        input: required_text(matches, "in"),
+        output: required_text(matches, "out"),
+        certificate: required_text(matches, "cert"),
+    }
+}
+
+/// The values of `demo` among the entries.
+fn demo_options(matches: &ArgMatches) -> DemoOptions
+    requires there { AreThereForDemo (rows_of (found_of matches.now)) }
+    ensures { demo_view result ≡ demo_values (rows_of (found_of matches.now)) }
+{
+    DemoOptions {
+        seed: number_64(matches, "seed"),
+        rows: number_32(matches, "rows"),
+        tile: number_32(matches, "tile"),
+        workers: number_32(matches, "workers"),
+    }
+}
+
 /// Why words are no command.
 #[derive(Clone, Copy, Debug, PartialEq, Eq)]
 pub enum WordsFault {
@@ -111,12 +180,14 @@ impl From<AllocError> for WordsFault {
     }
 }
 
-/// What the words ask for. Want of memory is answered only where `clap` was refused memory.
+/// What the words ask for.
 pub fn read_words<'a>(alloc: Global, words: &'a [&'a str]) -> Result<Request<'a>, WordsFault>
     // What is read is what the words ask for, by the written definition of the command line.
     ensures read { IfOk result (λ r. request_of (texts words.entry.now) ≡ Some (request_view r)) }
     // Each number lies in the range that its option states.
     ensures ranges { IfOk result (λ r. IsInRange (request_view r)) }
+    // Its masks have layers of their own, and its files names of their own.
+    ensures apart { IfOk result (λ r. IsApart (request_view r)) }
     // They are refused only where they ask for nothing.
     ensures usage { IsErrOf result WordsFault.Usage → request_of (texts words.entry.now) ≡ None }
 {
@@ -144,6 +215,7 @@ fn asked<'a>(matches: &ArgMatches<'a>) -> Option<Request<'a>>
     requires there { IfSome (subcommand_rows_of matches.now) HasItsValues }
     ensures read { option_map request_view result ≡ asked_of (subcommand_rows_of matches.now) }
     ensures ranges { IfSome result (λ r. IsInRange (request_view r)) }
+    ensures apart { IfSome result (λ r. IsApart (request_view r)) }
 {
     let (name, inner) = matches.subcommand()?;
     request_by(name, inner)
@@ -154,10 +226,23 @@ fn request_by<'a>(name: &str, inner: &ArgMatches<'a>) -> Option<Request<'a>>
     requires there { HasItsValues (name.now, rows_of (found_of inner.now)) }
     ensures read { option_map request_view result ≡ asked_by name.now (rows_of (found_of inner.now)) }
     ensures ranges { IfSome result (λ r. IsInRange (request_view r)) }
+    ensures apart { IfSome result (λ r. IsApart (request_view r)) }
 {
-    if name != "split" {
-        return None;
+    match name {
+        "split" => split_request(inner),
+        "check" => check_request(inner),
+        "demo" => Some(Request::Demo(demo_options(inner))),
+        _ => None,
     }
+}
+
+/// What the matches of `split` ask for.
+fn split_request<'a>(inner: &ArgMatches<'a>) -> Option<Request<'a>>
+    requires there { AreThere (rows_of (found_of inner.now)) }
+    ensures read { option_map request_view result ≡ split_if_apart (split_values (rows_of (found_of inner.now))) }
+    ensures ranges { IfSome result (λ r. IsInRange (request_view r)) }
+    ensures apart { IfSome result (λ r. IsApart (request_view r)) }
+{
     let options = split_options(inner);
     if !is_apart(
         options.a,
@@ -169,6 +254,26 @@ fn request_by<'a>(name: &str, inner: &ArgMatches<'a>) -> Option<Request<'a>>
         return None;
     }
     Some(Request::Split(options))
+}
+
+/// What the matches of `check` ask for.
+fn check_request<'a>(inner: &ArgMatches<'a>) -> Option<Request<'a>>
+    requires there { AreThereForCheck (rows_of (found_of inner.now)) }
+    ensures read { option_map request_view result ≡ check_if_apart (check_values (rows_of (found_of inner.now))) }
+    ensures ranges { IfSome result (λ r. IsInRange (request_view r)) }
+    ensures apart { IfSome result (λ r. IsApart (request_view r)) }
+{
+    let options = check_options(inner);
+    if !is_apart(
+        options.a,
+        options.b,
+        options.input,
+        options.output,
+        options.certificate,
+    ) {
+        return None;
+    }
+    Some(Request::Check(options))
 }
 
 /// Whether both masks have layers of their own, and each file a name of its own.

@@ -3,4 +3,4 @@ use Rattle.dpl_outcome.proofs.Runs.{run-same}
 use Rattle.dpl_outcome.proofs.one_outcome.Goals as goal
 
 pub returns : goal.returns
-returns c = record { file = outcome-same; words = run-same }
+returns c = record { files = outcome-same; words = run-same }

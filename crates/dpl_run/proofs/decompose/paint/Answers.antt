@@ -21,6 +21,7 @@ stitch_lines-requires-clause-known c = λ k h.
 pub returns-clause-painted : goal.returns-clause-painted
 returns-clause-painted c =
     let pieces = c.args.cut.now.pieces in
+    let (edges, are, sums) = c.requires.sums in
     let colours = c.in_ok-colours.colours in
     let joined = c.args.joined.now in
     let graph = subst (λ (n : ℕ). ColoursWhatSums joined n pieces.sides colours) (ap length c.keys.ensures.value ∙ c.keys.ensures.each)
@@ -30,18 +31,19 @@ returns-clause-painted c =
     ∙ (ap (λ (zs : List Zone). map (stitch_line zs c.sides-2.result.now) c.items-2.result.now) c.zones.ensures.value
     ∙ (ap (λ (ss : List (ℕ × ℕ)). map (stitch_line pieces.zones ss) c.items-2.result.now) c.sides-2.ensures.value
     ∙ ap (λ (ks : List ℕ). map (stitch_line pieces.zones pieces.sides) ks) c.items-2.ensures))) in
-    painted_from c.args.rule c.args.overlap (cut_view c.args.cut.now) c.args.edges.now joined colours c.in_ok-masks.masks.a c.in_ok-masks.masks.b c.in_ok-masks.masks.stitches c.head.result c.of.result c.of-2.result
-    c.requires.edges c.requires.sums c.requires.even graph c.in_ok-masks.ensures.masks.first c.in_ok-masks.ensures.masks.second c.in_ok-masks.ensures.masks.differing c.head.ensures.value lines stitches
+    painted_from c.args.rule c.args.overlap (cut_view c.args.cut.now) edges joined colours c.in_ok-masks.masks.a c.in_ok-masks.masks.b c.in_ok-masks.masks.stitches c.head.result c.of.result c.of-2.result
+    are sums c.requires.even graph c.in_ok-masks.ensures.masks.first c.in_ok-masks.ensures.masks.second c.in_ok-masks.ensures.masks.differing c.head.ensures.value lines stitches
 
 pub returns-clause-fits : goal.returns-clause-fits
 returns-clause-fits c =
     let pieces = c.args.cut.now.pieces in
+    let (edges, are, sums) = c.requires.sums in
     let colours = c.in_ok-colours.colours in
     let joined = c.args.joined.now in
     let graph = subst (λ (n : ℕ). ColoursWhatSums joined n pieces.sides colours) (ap length c.keys.ensures.value ∙ c.keys.ensures.each)
     (subst (λ (s : List (ℕ × ℕ)). ColoursWhatSums joined (length c.keys.result.now) s colours) c.sides.ensures.value c.in_ok-colours.ensures.graph) in
     let lines = c.of.ensures ∙ (c.in_ok-lines.ensures.lines ∙ (ap (λ (cs : List Bool). map piece_line (zip cs c.keys-2.result.now)) c.items.ensures ∙ ap (λ (ks : List Pt). map piece_line (zip colours ks)) c.keys-2.ensures.value)) in
-    let many = lines_many (length pieces.parts) colours pieces.keys c.of.result (as_many _ c.args.edges.now joined pieces.sides colours c.requires.sums graph) c.keys.ensures.each lines in
+    let many = lines_many (length pieces.parts) colours pieces.keys c.of.result (as_many _ edges joined pieces.sides colours sums graph) c.keys.ensures.each lines in
     let few : length c.in_ok-stitches.stitches.items < 2 ^ 64 = search rules in
     record {
       a = c.in_ok-masks.ensures.within.0;

@@ -1,13 +1,10 @@
-use Rattle.std.proofs.Common.{◌≡◌, refl}
-use Rattle.dpl_words.specs.declared.values.Request.{Request}
-use Rattle.dpl_words.specs.declared.values.Request.TheVariants.{Split}
-use Rattle.dpl_words.specs.declared.values.SplitOptions.{SplitOptions}
 use Rattle.dpl_run.proofs.program.output_of.Goals as goal
 
-request_is : (r : Request) → (s : SplitOptions) × (r ≡ Split s)
-request_is (Split s) = (s, refl)
+pub returns-in-Split-clause-made : goal.returns-in-Split-clause-made
+returns-in-Split-clause-made g c = rw c.in-Split.is c.split_output.ensures.made
 
-pub returns-clause-made : goal.returns-clause-made
-returns-clause-made g c =
-    let is = request_is c.args.request.now in
-    rw is.1 (rw is.1 at c.split_output.ensures.made)
+pub returns-in-Check-clause-made : goal.returns-in-Check-clause-made
+returns-in-Check-clause-made g c = rw c.in-Check.is c.check_output.ensures.made
+
+pub returns-in-Demo-clause-made : goal.returns-in-Demo-clause-made
+returns-in-Demo-clause-made g c = rw c.in-Demo.is c.made_up.ensures.made

@@ -2,7 +2,6 @@ use Rattle.std.proofs.Common.{subst, Option, List, ℕ, Global}
 use Rattle.std.specs.Prelude.{Vec, option_map}
 use Rattle.dpl_words.specs.Meaning.{split_view}
 use Rattle.dpl_run.specs.Program.{IsInput}
-use Rattle.dpl_run.specs.Split.{IsSplit}
 use Rattle.dpl_run.specs.View.{output_view}
 use Rattle.dpl_run.proofs.Inputs.{split_made, split_refused}
 use Rattle.dpl_run.proofs.split.split_output.Goals as goal
@@ -12,8 +11,7 @@ returns-in_ok-split-in-Ok-Some-clause-made g c =
     let v = split_view c.args.options.now in
     let told = g.H.Host.told c.args.host.now in
     let read = subst (λ (o : Option (Vec ℕ Global)). IsInput told c.args.options.now.input.now (option_map (λ v. v.items) o)) c.in-Ok-Some.field-0-is c.in-Ok-Some.ensures.read in
-    let made = subst (λ (b : List ℕ). IsSplit v b (output_view c.in_ok-split-in-Ok-Some.field-0)) c.as_slice.ensures.value c.in_ok-split-in-Ok-Some.ensures in
-    split_made told v c.in-Ok-Some.bytes.items _ read made
+    split_made told v c.in-Ok-Some.bytes.items _ read c.in_ok-split-in-Ok-Some.ensures
 
 pub returns-in_ok-refused-in-Ok-None-clause-made : goal.returns-in_ok-refused-in-Ok-None-clause-made
 returns-in_ok-refused-in-Ok-None-clause-made g c =

@@ -1,0 +1,36 @@
+use Rattle.std.proofs.Common.{subst, Option, List, ℕ, Global}
+use Rattle.std.specs.Prelude.{Vec, option_map}
+use Rattle.dpl_host.specs.Outside.{Outside}
+use Rattle.dpl_cert.specs.Grammar.{IsText}
+use Rattle.dpl_cert.specs.Reading.{IsBadLine, IsRefusal}
+use Rattle.dpl_cert.specs.declared.fault.CertFault.{CertFault}
+use Rattle.dpl_words.specs.Meaning.{check_view}
+use Rattle.dpl_run.specs.Program.{IsMadeOfCert, IsSeen}
+use Rattle.dpl_run.specs.View.{output_view}
+use Rattle.dpl_run.proofs.Checking.{cert_bad, cert_large, cert_read}
+use Rattle.dpl_run.proofs.check.check_layer.Goals as goal
+
+pub returns-in_default-clause-made : goal.returns-in_default-clause-made
+returns-in_default-clause-made g c =
+    let told = g.H.Host.told c.args.host.now in
+    let seen = subst (λ (o : Option (Vec ℕ Global)). IsSeen told c.args.options.now.certificate.now (option_map (λ v. v.items) o)) c.in_default.is c.in_ok-text.ensures.seen in
+    cert_large told (check_view c.args.options.now) c.args.layer.now _ seen c.in_ok-too_large.ensures
+
+pub returns-in-Ok-clause-made : goal.returns-in-Ok-clause-made
+returns-in-Ok-clause-made g c =
+    let told = g.H.Host.told c.args.host.now in
+    let v = check_view c.args.options.now in
+    let text = c.in-Some.text.items in
+    let seen = subst (λ (o : Option (Vec ℕ Global)). IsSeen told c.args.options.now.certificate.now (option_map (λ v. v.items) o)) c.in-Some.is c.in_ok-text.ensures.seen in
+    let read = subst (λ (b : List ℕ). IsText c.in-Ok.cert b) c.as_slice.ensures.value c.in-Ok.ensures.found in
+    let made = subst (λ (t : Option Outside). IsMadeOfCert t v c.args.layer.now c.in-Ok.cert (output_view c.in_ok-output-in-Ok.output)) c.in_ok-text.ensures.same c.in_ok-output-in-Ok.ensures.made in
+    cert_read told v c.args.layer.now text c.in-Ok.cert (output_view c.in_ok-output-in-Ok.output) seen read made
+
+pub returns-in-Err-BadLine-clause-made : goal.returns-in-Err-BadLine-clause-made
+returns-in-Err-BadLine-clause-made g c =
+    let told = g.H.Host.told c.args.host.now in
+    let text = c.in-Some.text.items in
+    let seen = subst (λ (o : Option (Vec ℕ Global)). IsSeen told c.args.options.now.certificate.now (option_map (λ v. v.items) o)) c.in-Some.is c.in_ok-text.ensures.seen in
+    let refusal = subst (λ (e : CertFault). IsRefusal c.as_slice.result.now e) c.in-Err-BadLine.field-0-is c.in-Err-BadLine.ensures.line in
+    let bad = subst (λ (b : List ℕ). IsBadLine b c.in-Err-BadLine.line) c.as_slice.ensures.value refusal in
+    cert_bad told (check_view c.args.options.now) c.args.layer.now text c.in-Err-BadLine.line _ seen bad c.in_ok-bad_line-in-Err-BadLine.ensures

@@ -1,0 +1,10 @@
+use Rattle.std.proofs.Common.{codes}
+use Rattle.std.specs.Fmt.{signed_decimal}
+use Rattle.std.specs.Prelude.{string_bytes}
+use Rattle.dpl_run.proofs.Numbers.{four_numbers}
+use Rattle.dpl_run.proofs.texts.spacing_a_line.Goals as goal
+
+pub returns : goal.returns
+returns c =
+    four_numbers (string_bytes c.in_ok-line.line) (codes "no SpacingA ") (signed_decimal c.args.first.now.x) (signed_decimal c.args.first.now.y) (signed_decimal c.args.second.now.x) (signed_decimal c.args.second.now.y)
+    c.in_ok-line.ensures.ok

@@ -1,0 +1,23 @@
+-- What `demo` does: as `split` does with a made-up file, but nothing is written.
+use Rattle.std.specs.Prelude.{◌≡◌, None, length}
+use Rattle.dpl_demo.specs.Demo.{demo_file}
+use Rattle.dpl_words.specs.Meaning.{DemoValues}
+use Rattle.dpl_run.specs.Reading.{Choice}
+use Rattle.dpl_run.specs.Flat.{Clashes, Paints}
+use Rattle.dpl_run.specs.Outcome.{Outcome, says}
+use Rattle.dpl_run.specs.Split.{Decides, Decision, IsDecision, Refuses}
+use Rattle.dpl_run.specs.Texts.{conflict_line, demo_line, refused_line}
+use Rattle.dpl_run.specs.declared.status.Status.TheVariants.{Done, Conflict, Refused}
+
+-- layer 1 of the only structure
+abbrev pub demo_choice : Choice
+demo_choice = record { top = None; layer = 1; datatype = 0 }
+
+abbrev pub demo_plan : Decision → Outcome
+demo_plan (Refuses name at) = says Refused (refused_line name at)
+demo_plan (Decides front (Paints p)) = says Done (demo_line p.head (length p.stitches) (length p.a) (length p.b))
+demo_plan (Decides front (Clashes x)) = says Conflict (conflict_line (length x.cycle))
+
+-- The made-up file is decided by the rule of 30 and the overlap of 10. The numbers of tiles and workers occur nowhere.
+abbrev pub IsDemo : DemoValues → Outcome → Type 0
+IsDemo v x = (d : Decision) × IsDecision demo_choice 30 10 (demo_file v.seed v.rows) d × (x ≡ demo_plan d)

@@ -1,0 +1,243 @@
+//! What `check` makes of three files.
+ghost use Rattle.std.specs.Prelude.{◌≡◌, ◌≤◌, IfOk, IsErrOf, Some, length};
+ghost use Rattle.dpl_host.specs.Outside.{Rose};
+ghost use Rattle.dpl_words.specs.Meaning.{AsksCheck, check_view};
+ghost use Rattle.dpl_words.specs.Ranges.{AreInRangeForCheck, IsApart};
+ghost use Rattle.dpl_cert.specs.Grammar.{IsCert};
+ghost use Rattle.dpl_verdict.specs.Masks.{IsOfMasks};
+ghost use Rattle.dpl_run.specs.Check.{IsCheckOfMasks, mask_choice as mask_choice_of, refusal_of, verdict_outcome, verdict_status};
+ghost use Rattle.dpl_run.specs.Program.{IsMade, IsMadeOfCert, IsMadeOfLayer};
+ghost use Rattle.dpl_run.specs.Reading.{limit};
+ghost use Rattle.dpl_run.specs.Outcome.{says};
+ghost use Rattle.dpl_run.specs.Texts.{bad_line_line as bad_line_line_of};
+ghost use Rattle.dpl_run.specs.View.{choice_view, file_word, output_view};
+ghost use Rattle.dpl_cert.specs.declared.name.Name.TheVariants.{TooLarge};
+ghost use Rattle.dpl_run.specs.declared.status.Status.TheVariants.{Refused};
+
+use crate::fault::LayerFault;
+use crate::input::read_input;
+use crate::layer::{LayerChoice, layer_of};
+use crate::output::{Output, said};
+use crate::status::Status;
+use crate::texts::{CheckedFile, bad_line_line, refused_file_line, verdict_line};
+use dpl_cert::{Cert, CertFault, Name, read_cert};
+use dpl_check::{Verdict, check_conflict, check_masks};
+use dpl_host::{Host, MAX_BYTES, ReadFault};
+use dpl_slabs::Slabs;
+use dpl_words::CheckOptions;
+use std::alloc::{AllocError, Global};
+
+/// What is made of a command line of `check`.
+pub(crate) fn check_output<'a, H: Host>(
+    alloc: Global,
+    options: &CheckOptions<'_>,
+    host: &mut H,
+) -> Result<Output<'a>, ReadFault>
+    requires ranges { AreInRangeForCheck (check_view options.now) }
+    requires apart { IsApart (AsksCheck (check_view options.now)) }
+    ensures made { IfOk result (λ x. IsMade (Some (AsksCheck (check_view options.now))) (H.told host.old) (output_view x)) }
+    ensures failed { IsErrOf result ReadFault.Failed → Rose (H.read_faults host.old) (H.read_faults host.new) }
+    ensures not_large { IsErrOf result ReadFault.TooLarge → ⊥ }
+    ensures same { H.told host.new ≡ H.told host.old }
+    ensures later { (H.read_faults host.old ≤ H.read_faults host.new) × (H.write_faults host.old ≤ H.write_faults host.new) }
+{
+    let Some(bytes) = read_input(alloc, host, options.input)? else {
+        return Ok(too_large(alloc, CheckedFile::Layout)?);
+    };
+    let choice = LayerChoice {
+        top: options.top,
+        layer: options.layer,
+        datatype: options.datatype,
+    };
+    match layer_of(alloc, &choice, bytes.as_slice()) {
+        Ok(layer) => {
+            let output = check_layer(alloc, options, &layer.slabs, host)?;
+            Ok(output)
+        }
+        Err(LayerFault::Refused { name, at }) => Ok(refused(alloc, CheckedFile::Layout, name, at)?),
+        Err(LayerFault::NoMemory) => Err(ReadFault::NoMemory),
+    }
+}
+
+/// What is made of the certificate of a layer.
+fn check_layer<'a, H: Host>(
+    alloc: Global,
+    options: &CheckOptions<'_>,
+    layer: &Slabs,
+    host: &mut H,
+) -> Result<Output<'a>, ReadFault>
+    requires ranges { AreInRangeForCheck (check_view options.now) }
+    ensures made { IfOk result (λ x. IsMadeOfLayer (H.told host.old) (check_view options.now) layer.now (output_view x)) }
+    ensures failed { IsErrOf result ReadFault.Failed → Rose (H.read_faults host.old) (H.read_faults host.new) }
+    ensures not_large { IsErrOf result ReadFault.TooLarge → ⊥ }
+    ensures same { H.told host.new ≡ H.told host.old }
+    ensures later { (H.read_faults host.old ≤ H.read_faults host.new) × (H.write_faults host.old ≤ H.write_faults host.new) }
+{
+    let Some(text) = read_input(alloc, host, options.certificate)? else {
+        return Ok(too_large(alloc, CheckedFile::Certificate)?);
+    };
+    match read_cert(alloc, text.as_slice()) {
+        Ok(cert) => {
+            let output = check_cert(alloc, options, layer, &cert, host)?;
+            Ok(output)
+        }
+        Err(CertFault::BadLine { line }) => Ok(bad_line(alloc, line)?),
+        Err(CertFault::NoMemory) => Err(ReadFault::NoMemory),
+    }
+}
+
+/// What is made of a certificate that was read.
+fn check_cert<'a, H: Host>(
+    alloc: Global,
+    options: &CheckOptions<'_>,
+    layer: &Slabs,
+    cert: &Cert,
+    host: &mut H,
+) -> Result<Output<'a>, ReadFault>
+    requires ranges { AreInRangeForCheck (check_view options.now) }
+    requires cert { IsCert cert.now }
+    ensures made { IfOk result (λ x. IsMadeOfCert (H.told host.old) (check_view options.now) layer.now cert.now (output_view x)) }
+    ensures failed { IsErrOf result ReadFault.Failed → Rose (H.read_faults host.old) (H.read_faults host.new) }
+    ensures not_large { IsErrOf result ReadFault.TooLarge → ⊥ }
+    ensures same { H.told host.new ≡ H.told host.old }
+    ensures later { (H.read_faults host.old ≤ H.read_faults host.new) × (H.write_faults host.old ≤ H.write_faults host.new) }
+{
+    match cert {
+        Cert::Masks { .. } => {
+            let output = check_out(alloc, options, layer, cert, host)?;
+            Ok(output)
+        }
+        Cert::Conflict { .. } => {
+            let verdict = check_conflict(alloc, layer, cert, options.rule, options.overlap)?;
+            let output = judged(alloc, cert, verdict)?;
+            Ok(output)
+        }
+        Cert::Fault { name, at } => {
+            let verdict = Verdict::WasFault {
+                name: *name,
+                at: *at,
+            };
+            let output = judged(alloc, cert, verdict)?;
+            Ok(output)
+        }
+    }
+}
+
+/// What is made of the file of masks.
+fn check_out<'a, H: Host>(
+    alloc: Global,
+    options: &CheckOptions<'_>,
+    layer: &Slabs,
+    cert: &Cert,
+    host: &mut H,
+) -> Result<Output<'a>, ReadFault>
+    requires ranges { AreInRangeForCheck (check_view options.now) }
+    requires cert { IsCert cert.now }
+    requires kind { IsOfMasks cert.now }
+    ensures made { IfOk result (λ x. IsMadeOfCert (H.told host.old) (check_view options.now) layer.now cert.now (output_view x)) }
+    ensures failed { IsErrOf result ReadFault.Failed → Rose (H.read_faults host.old) (H.read_faults host.new) }
+    ensures not_large { IsErrOf result ReadFault.TooLarge → ⊥ }
+    ensures same { H.told host.new ≡ H.told host.old }
+    ensures later { (H.read_faults host.old ≤ H.read_faults host.new) × (H.write_faults host.old ≤ H.write_faults host.new) }
+{
+    let Some(bytes) = read_input(alloc, host, options.output)? else {
+        return Ok(too_large(alloc, CheckedFile::Masks)?);
+    };
+    let output = check_bytes(alloc, options, layer, cert, bytes.as_slice())?;
+    Ok(output)
+}
+
+/// What is made of the bytes of a file of masks.
+fn check_bytes<'a>(
+    alloc: Global,
+    options: &CheckOptions<'_>,
+    layer: &Slabs,
+    cert: &Cert,
+    bytes: &[u8],
+) -> Result<Output<'a>, AllocError>
+    requires size { length bytes.now ≤ limit }
+    requires ranges { AreInRangeForCheck (check_view options.now) }
+    requires cert { IsCert cert.now }
+    requires kind { IsOfMasks cert.now }
+    ensures { IfOk result (λ x. IsCheckOfMasks (check_view options.now) layer.now cert.now bytes.now (output_view x)) }
+{
+    let a = match layer_of(alloc, &mask_choice(options.a), bytes) {
+        Ok(a) => a.slabs,
+        Err(LayerFault::Refused { name, at }) => return refused(
+            alloc,
+            CheckedFile::Masks,
+            name,
+            at,
+        ),
+        Err(LayerFault::NoMemory) => return Err(AllocError),
+    };
+    let b = match layer_of(alloc, &mask_choice(options.b), bytes) {
+        Ok(b) => b.slabs,
+        Err(LayerFault::Refused { name, at }) => return refused(
+            alloc,
+            CheckedFile::Masks,
+            name,
+            at,
+        ),
+        Err(LayerFault::NoMemory) => return Err(AllocError),
+    };
+    let verdict = check_masks(alloc, layer, &a, &b, cert, options.rule, options.overlap)?;
+    let output = judged(alloc, cert, verdict)?;
+    Ok(output)
+}
+
+/// The layer of a mask, in the structure that no reference names.
+fn mask_choice<'a>(layer: u16) -> LayerChoice<'a>
+    ensures { choice_view result ≡ mask_choice_of layer }
+{
+    LayerChoice {
+        top: None,
+        layer,
+        datatype: 0,
+    }
+}
+
+/// What is said of a verdict.
+fn judged<'a>(alloc: Global, cert: &Cert, verdict: Verdict) -> Result<Output<'a>, AllocError>
+    ensures { IfOk result (λ x. output_view x ≡ verdict_outcome cert.now verdict) }
+{
+    let line = verdict_line(alloc, cert, verdict)?;
+    Ok(said(alloc, status_by(verdict), line))
+}
+
+fn status_by(verdict: Verdict) -> Status
+    ensures { result ≡ verdict_status verdict }
+{
+    match verdict {
+        Verdict::Valid => Status::Done,
+        _ => Status::CheckNo,
+    }
+}
+
+/// A file is refused.
+fn refused<'a>(
+    alloc: Global,
+    file: CheckedFile,
+    name: Name,
+    at: u64,
+) -> Result<Output<'a>, AllocError>
+    ensures { IfOk result (λ x. output_view x ≡ refusal_of (file_word file) name at) }
+{
+    let line = refused_file_line(alloc, file, name, at)?;
+    Ok(said(alloc, Status::Refused, line))
+}
+
+/// A file has more bytes than are read.
+fn too_large<'a>(alloc: Global, file: CheckedFile) -> Result<Output<'a>, AllocError>
+    ensures { IfOk result (λ x. output_view x ≡ refusal_of (file_word file) TooLarge limit) }
+{
+    refused(alloc, file, Name::TooLarge, MAX_BYTES as u64)
+}
+
+/// A text is no certificate from this line on.
+fn bad_line<'a>(alloc: Global, line: u64) -> Result<Output<'a>, AllocError>
+    ensures { IfOk result (λ x. output_view x ≡ says Refused (bad_line_line_of line)) }
+{
+    let line = bad_line_line(alloc, line)?;
+    Ok(said(alloc, Status::Refused, line))
+}
