@@ -3,9 +3,10 @@
 #
 # usage: sh bench/growth.sh DPL [KIND [SIZE ..]]
 #
-# DPL is the program; KIND one or more of layouts.py (default: bars dense mesh scatter polygons). Each line has the
-# kind, the size, the seconds, the greatest memory in MiB, the answer, and how many times
-# as long as the line before it took.
+# DPL is the program; KIND one or more of layouts.py (default: bars dense mesh scatter polygons). Each
+# line has the kind, the size, the seconds, the greatest memory in MiB, the answer, and how many times
+# as long as the line before it took. OPTIONS, from the environment, is passed to split, as
+# OPTIONS="--tile 64 --workers 1"; with CHECK=1 the result is checked too, on a line of its own.
 set -eu
 dpl=$1
 kinds=${2:-"bars dense mesh scatter polygons"}
@@ -19,23 +20,29 @@ here=$(cd "$(dirname "$0")" && pwd)
 work=$(mktemp -d)
 trap 'rm -rf "$work"' EXIT
 for kind in $kinds; do
-    before=
+    : >"$work/before"
     for size in $sizes; do
         python3 "$here/layouts.py" "$kind" "$size" 1 "$work/in.gds"
-        python3 - "$dpl" "$kind" "$size" "$work" "$before" <<'PY'
-import os, resource, subprocess, sys, time
-dpl, kind, size, work, before = sys.argv[1:6]
-begun = time.monotonic()
-done = subprocess.run(
-    [dpl, "split", "--layer", "1", "--rule", "30", "--overlap", "10",
-     work + "/in.gds", work + "/out.gds", work + "/cert"], stdout=subprocess.PIPE)
-seconds = time.monotonic() - begun
-memory = resource.getrusage(resource.RUSAGE_CHILDREN).ru_maxrss / 1024
-answer = done.stdout.decode().strip()[:60]
-growth = " x%.1f" % (seconds / float(before)) if before and float(before) > 0 else ""
-print("%-9s %8s %8.2f s %7.0f MiB %d %s%s" % (kind, size, seconds, memory, done.returncode, answer, growth), flush=True)
-open(work + "/before", "w").write(str(seconds))
+        python3 - "$dpl" "$kind" "$size" "$work" "${OPTIONS:-}" "${CHECK:-}" <<'PY'
+import os, subprocess, sys, time
+dpl, kind, size, work, options, check = sys.argv[1:7]
+rules = ["--layer", "1", "--rule", "30", "--overlap", "10"]
+files = [work + "/" + name for name in ("in.gds", "out.gds", "cert")]
+before = dict(line.split() for line in open(work + "/before"))
+for command in ["split"] + ["check"] * bool(check):
+    words = [dpl, command] + rules + (options.split() if command == "split" else []) + files
+    begun = time.monotonic()
+    with open(work + "/line", "w") as said:
+        child = subprocess.Popen(words, stdout=said)
+        _, status, usage = os.wait4(child.pid, 0)
+    seconds = time.monotonic() - begun
+    answer = open(work + "/line").read().strip()[:60]
+    growth = " x%.1f" % (seconds / float(before[command])) if float(before.get(command, 0)) > 0 else ""
+    print("%-9s %-5s %8s %8.2f s %7.0f MiB %d %s%s" % (
+        kind, command, size, seconds, usage.ru_maxrss / 1024, os.waitstatus_to_exitcode(status), answer, growth), flush=True)
+    before[command] = seconds
+with open(work + "/before", "w") as out:
+    out.writelines("%s %s\n" % pair for pair in before.items())
 PY
-        before=$(cat "$work/before")
     done
 done

@@ -11,8 +11,19 @@ KIND is one of
   scatter  rectangles of 10 to 100 units scattered over a square, about one to 200 by 200 units
   polygons combs of 8,000 points each, COUNT teeth in all
   plate    bars under one covering plate
-All shapes are boundaries on layer 1, datatype 0, in one structure, TOP. The same KIND, COUNT and
-SEED give the same file.
+  ragged   bars with ragged ends that lie on one another, row by row
+  rising   upright bars side by side, each a little higher than the one before it
+  teeth    one comb of rectangles: COUNT teeth on one bar
+  nested   rectangles one inside the other
+  stacked  squares one over the other, each a little further right and up
+  flood    pairs of loops that turn opposite ways over the same squares
+  holes    squares whose hole is cut by a doubled edge
+  chain    COUNT structures, each with one reference of the next, over one bar
+  doubling COUNT structures, each with two references of the next at (0,0), over one unit square
+  twisted  the same, but the last refers to the first
+  ring     COUNT structures, each with one reference of the next, the last of the first
+All shapes are boundaries on layer 1, datatype 0, in one structure, TOP; chain, doubling, twisted
+and ring have structures named 0, 1 and so on. The same KIND, COUNT and SEED give the same file.
 """
 import random
 import struct
@@ -23,17 +34,29 @@ def record(kind, data_type, body=b""):
     return struct.pack(">HBB", len(body) + 4, kind, data_type) + body
 
 
-HEAD = (
+FRONT = (
     record(0x00, 2, b"\x02\x58")
     + record(0x01, 2, bytes(24))
     + record(0x02, 6, b"LIB\0")
     + record(0x03, 5, bytes.fromhex("3E4189374BC6A7F03944B82FA09B5A54"))
-    + record(0x05, 2, bytes(24))
-    + record(0x06, 6, b"TOP\0")
 )
-TAIL = record(0x07, 0) + record(0x04, 0)
+BACK = record(0x04, 0)
 BEGIN = record(0x08, 0) + record(0x0D, 2, b"\0\1") + record(0x0E, 2, b"\0\0")
 END = record(0x11, 0)
+
+
+def structure(name, elements):
+    """The parts of a structure, in order."""
+    text = name.encode()
+    yield record(0x05, 2, bytes(24)) + record(0x06, 6, text + bytes(len(text) % 2))
+    yield from elements
+    yield record(0x07, 0)
+
+
+def reference(name):
+    """One reference at (0,0)."""
+    text = name.encode()
+    return record(0x0A, 0) + record(0x12, 6, text + bytes(len(text) % 2)) + record(0x10, 3, bytes(8)) + END
 
 
 def boundary(points):
@@ -100,23 +123,95 @@ def plate(count, rng):
         yield rect(x, y, x + 2000, y + 20)
 
 
-KINDS = {f.__name__: f for f in (bars, dense, mesh, scatter, polygons, plate)}
+def chain(count):
+    for k in range(count):
+        yield from structure(str(k), [reference(str(k + 1))])
+    yield from structure(str(count), [rect(0, 0, 100, 20)])
+
+
+def doubling(count):
+    for k in range(count):
+        yield from structure(str(k), [reference(str(k + 1))] * 2)
+    yield from structure(str(count), [rect(0, 0, 1, 1)])
+
+
+def twisted(count):
+    for k in range(count):
+        yield from structure(str(k), [reference(str(k + 1))] * 2)
+    yield from structure(str(count), [rect(0, 0, 1, 1), reference("0")])
+
+
+def ring(count):
+    for k in range(count):
+        yield from structure(str(k), [reference(str((k + 1) % count))])
+
+
+def ragged(count, rng):
+    for i in range(count):
+        yield rect(rng.randrange(10_000_000), 20 * i, 10_000_000 + rng.randrange(10_000_000), 20 * i + 20)
+
+
+def rising(count, rng):
+    for i in range(count):
+        yield rect(100 * i, 0, 100 * i + 100, 1000 + 10 * i)
+
+
+def teeth(count, rng):
+    yield rect(0, 0, 40 * count, 100)
+    for i in range(count):
+        yield rect(40 * i, 100, 40 * i + 20, 300 + rng.randrange(500))
+
+
+def nested(count, rng):
+    for i in range(count):
+        yield rect(10 * i, 10 * i, 30 * count - 10 * i, 30 * count - 10 * i)
+
+
+def stacked(count, rng):
+    for i in range(count):
+        yield rect(10 * i, 10 * i, 10 * (i + count), 10 * (i + count))
+
+
+def flood(count, rng):
+    for i in range(count // 2):
+        x, y = 100 * (i % 1000), 100 * (i // 1000)
+        yield boundary([(x, y), (x + 40, y), (x + 40, y + 40), (x, y + 40), (x, y)])
+        yield boundary([(x, y), (x, y + 40), (x + 40, y + 40), (x + 40, y), (x, y)])
+
+
+def holes(count, rng):
+    per_row = max(1, int(count**0.5))
+    for i in range(count):
+        x, y = 200 * (i % per_row), 200 * (i // per_row)
+        points = [(0, 0), (100, 0), (100, 100), (0, 100), (0, 50), (40, 50), (40, 60)]
+        points += [(60, 60), (60, 40), (40, 40), (40, 50), (0, 50), (0, 0)]
+        yield boundary([(x + u, y + v) for u, v in points])
+
+
+KINDS = {f.__name__: f for f in (
+    bars, dense, mesh, scatter, polygons, plate,
+    ragged, rising, teeth, nested, stacked, flood, holes,
+)}
+TREES = {f.__name__: f for f in (chain, doubling, twisted, ring)}
 
 
 def main(words):
     if len(words) > 2 and words[0] == "rects":
-        shapes = (rect(*map(int, w.split(","))) for w in words[2:])
+        parts = structure("TOP", (rect(*map(int, w.split(","))) for w in words[2:]))
         path = words[1]
     elif len(words) == 4 and words[0] in KINDS:
-        shapes = KINDS[words[0]](int(words[1]), random.Random(int(words[2])))
+        parts = structure("TOP", KINDS[words[0]](int(words[1]), random.Random(int(words[2]))))
+        path = words[3]
+    elif len(words) == 4 and words[0] in TREES:
+        parts = TREES[words[0]](int(words[1]))
         path = words[3]
     else:
         sys.exit(__doc__)
     with open(path, "wb") as out:
-        out.write(HEAD)
-        for shape in shapes:
-            out.write(shape)
-        out.write(TAIL)
+        out.write(FRONT)
+        for part in parts:
+            out.write(part)
+        out.write(BACK)
 
 
 if __name__ == "__main__":
