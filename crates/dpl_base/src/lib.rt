@@ -5,6 +5,7 @@ mod listed;
 mod loops;
 
 ghost use Rattle.std.specs.Prelude.{◌≡◌, ◌+◌, ◌*◌, ◌^◌, ◌<◌, ◌≤◌, ◌<ℤ◌, ◌↔◌, IsTrue, IsNone, IfSome, unsigned_abs};
+ghost use Rattle.dpl_spec.specs.Loops.{IsPointWithin, farthest};
 ghost use Rattle.dpl_spec.specs.Squares.{Has, IsSquaredDistance, IsSolidWithin, AreNear, AreTouching, IsReach};
 ghost use Rattle.dpl_base.specs.Spans.{IsSpanGap};
 
@@ -20,6 +21,13 @@ pub type Edge = (Id, Id);
 
 /// How far from 0 a coordinate of a layer may lie, in database units.
 pub const FARTHEST: i64 = 1_000_000_000;
+
+/// Whether neither coordinate of a point lies farther than `FARTHEST` from 0.
+pub fn is_in_range(point: &Pt) -> bool
+    ensures { IsTrue result ↔ IsPointWithin farthest point.now }
+{
+    point.x.unsigned_abs() <= FARTHEST as u64 && point.y.unsigned_abs() <= FARTHEST as u64
+}
 
 /// How many units lie between the columns `a0` to `a1 - 1` and the columns `b0` to `b1 - 1`.
 pub fn span_gap(a0: i64, a1: i64, b0: i64, b1: i64) -> u64

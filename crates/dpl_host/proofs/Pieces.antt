@@ -1,7 +1,7 @@
 -- Fronts of lists.
 use Rattle.std.proofs.Common.{◌≡◌, ◌∙◌, ◌++◌, ◌∷◌, ◌+◌, ◌-◌, ◌≤◌, ◌<◌, ap, ap₂, sym, subst, refl, List, [], ℕ, zero, suc, take, drop, length, arith, min, zero-add, length-append, Option, Some, None, length-drop}
 use Rattle.std.proofs.Math.Seq.{take-length}
-use Rattle.std.proofs.lemmas.List.{length-take, length-take-le}
+use Rattle.std.proofs.lemmas.List.{length-take, length-take-le, take_all}
 use Rattle.std.specs.Prelude.{IfSome, unwrap_or}
 use Rattle.dpl_host.specs.Outside.{Gave, GivesOf, Outside, file_of}
 
@@ -34,6 +34,20 @@ front_on (Some o) now name bytes chunk buffer n at front reads is place same fit
     let size : length (bytes ++ chunk) ≡ length bytes + n = omega (arith, length-append bytes chunk, long) in
     let old : bytes ≡ take (length bytes) file = front ∙ ap (take (length bytes)) there in
     ap₂ (λ (a b : List ℕ). a ++ b) old got ∙ sym (take_on (length bytes) n file) ∙ ap₂ (λ (k : ℕ) (f : List ℕ). take k f) (sym size) (sym there)
+
+-- a read that gives nothing into some room ends the file
+pub whole_read : (told now : Option Outside) (name bytes buffer : List ℕ) (n at : ℕ)
+    → IfSome told (λ o. bytes ≡ take (length bytes) (unwrap_or (file_of o name) []))
+    → GivesOf now name at buffer n → now ≡ told → at ≡ length bytes → n ≡ 0 → 0 < length buffer
+    → IfSome told (λ o. file_of o name ≡ Some bytes)
+whole_read None now name bytes buffer n at front reads is place none room = tt
+whole_read (Some o) now name bytes buffer n at front reads is place none room =
+    let here : GivesOf (Some o) name at buffer n = subst (λ (x : Option Outside). GivesOf x name at buffer n) is reads in
+    let file = here.0 in
+    let there : unwrap_or (file_of o name) [] ≡ file = ap (λ (f : Option (List ℕ)). unwrap_or f []) here.1 in
+    let ended : length file ≤ at = here.2.some none room in
+    let all : take (length bytes) file ≡ file = take_all (length bytes) file (omega (arith, ended, place)) in
+    here.1 ∙ ap Some (sym (front ∙ ap (take (length bytes)) there ∙ all))
 
 short_of_nothing : (n : ℕ) → length (take {A = ℕ} n []) ≡ 0
 short_of_nothing n = ap length (sym (take_nothing {X = ℕ} n))

@@ -1,7 +1,7 @@
 //! A host in memory, which fails where it is told to.
-ghost use Rattle.std.specs.Prelude.{◌≡◌, ◌<◌, ◌≤◌, ◌||◌, ◌⊎◌, ◌^◌, ◌-◌, true, false, not, is_some, is_err, length, min, take, Some, None, IfOk, IfSome, IsErr, OnErr, OnOk, option_map, []};
+ghost use Rattle.std.specs.Prelude.{◌≡◌, ◌<◌, ◌≤◌, ◌||◌, ◌⊎◌, ◌^◌, ◌-◌, true, false, not, is_some, is_err, length, min, take, drop, Some, None, IfOk, IfSome, IsErr, OnErr, OnOk, option_map, []};
 ghost use Rattle.std.specs.FinMap as map;
-ghost use Rattle.dpl_host.specs.Outside.{Changes, Gave, Gives, HasCause, IsThere, Reads, Rose, Takes, file_of, with_file, with_more, with_said};
+ghost use Rattle.dpl_host.specs.Outside.{Changes, Gave, Gives, HasCause, IsThere, LeavesRest, Reads, Rose, Takes, file_of, with_file, with_more, with_said};
 ghost use Rattle.dpl_host.specs.Memory.{files_of};
 ghost use Rattle.dpl_host.specs.MemHost.{append_is_listed, create_is_listed, lists, next_count, plan_of, outside_of, read_is_listed, refusals, same_kind, say_is_listed};
 
@@ -72,6 +72,7 @@ impl MemHost {
         ensures counts { refusals result ≡ 0 }
         ensures no_read_fault { result.read_faults ≡ 0 }
         ensures no_write_fault { result.write_faults ≡ 0 }
+        ensures none_given { result.given ≡ 0 }
         ensures plan { plan_of result ≡ record { step = step; failing = failing.items; reads = 0; creates = 0; appends = 0; says = 0 } }
     {
         MemHost {
@@ -128,6 +129,7 @@ impl Host for MemHost {
     fn read(&mut self, name: &str, at: u64, into: &mut [u8]) -> Result<usize, Failed>
         ensures bound { IfOk result (λ n. n ≤ length into.new) }
         ensures bytes { Reads (Some (outside_of self.old)) name.now at result into.new }
+        ensures rest { LeavesRest result into.old into.new }
         ensures same { outside_of self.new ≡ outside_of self.old }
         ensures cause { HasCause self.old.read_faults self.new.read_faults result }
         ensures others { self.new.write_faults ≡ self.old.write_faults }
@@ -242,6 +244,7 @@ pub(crate) fn copy(file: &[u8], at: u64, step: usize, into: &mut [u8]) -> usize
     ensures bound { result ≤ length into.new }
     ensures most { result ≡ min (min (length file.now - at) step) (length into.new) }
     ensures gives { Gives file.now at result into.new }
+    ensures rest { drop result into.new ≡ drop result into.old }
 {
     let left = match usize::try_from(at) {
         Ok(at) if at < file.len() => &file[at..],

@@ -1,6 +1,6 @@
 //! What the program asks of its outside.
 ghost use Rattle.std.specs.Prelude.{◌≡◌, ◌≤◌, ℕ, List, Option, IfOk, OnOk, length, take, []};
-ghost use Rattle.dpl_host.specs.Outside.{Changes, Gave, HasCause, IsThere, Outside, Reads, Takes, with_file, with_more, with_said};
+ghost use Rattle.dpl_host.specs.Outside.{Changes, Gave, HasCause, IsThere, LeavesRest, Outside, Reads, Takes, with_file, with_more, with_said};
 
 /// A call that failed.
 #[derive(Clone, Copy, Debug, PartialEq, Eq)]
@@ -20,10 +20,11 @@ pub trait Host {
     /// How many bytes its reads gave, up to the last value of a `u64`.
     ghost given: { Self → ℕ };
 
-    /// Reads bytes of a file from a place on. It reads none only at the end of the file, or into no room.
+    /// Reads bytes of a file from a place on into the front of `into`, whose rest stays. It reads none only at the end of the file, or into no room.
     fn read(&mut self, name: &str, at: u64, into: &mut [u8]) -> Result<usize, Failed>
         ensures bound { IfOk result (λ n. n ≤ length into.new) }
         ensures bytes { Reads (told self.old) name.now at result into.new }
+        ensures rest { LeavesRest result into.old into.new }
         ensures same { told self.new ≡ told self.old }
         ensures cause { HasCause (read_faults self.old) (read_faults self.new) result }
         ensures others { write_faults self.old ≤ write_faults self.new }

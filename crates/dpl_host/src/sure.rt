@@ -1,6 +1,6 @@
 //! A host whose calls never fail.
 ghost use Rattle.std.specs.Prelude.{◌≡◌, ◌≤◌, ◌+◌, ◌-◌, ◌^◌, IfOk, IsOk, OnOk, [], length, take, unwrap_or};
-ghost use Rattle.dpl_host.specs.Outside.{Changes, Gave, Gives, HasCause, IsThere, Reads, Takes, with_file, with_more, with_said};
+ghost use Rattle.dpl_host.specs.Outside.{Changes, Gave, Gives, HasCause, IsThere, LeavesRest, Reads, Takes, with_file, with_more, with_said};
 ghost use Rattle.std.specs.FinMap as map;
 ghost use Rattle.dpl_host.specs.Memory.{files_of};
 ghost use Rattle.dpl_host.specs.SureHost.{borrowed, counted, untold};
@@ -23,6 +23,7 @@ impl<'a> SureHost<'a> {
     pub fn new(files: &'a BTreeMap<String, Vec<u8>>) -> SureHost<'a>
         ensures files { borrowed result ≡ files_of files.entry.now.entries }
         ensures none { result.taken ≡ 0 }
+        ensures none_given { result.given ≡ 0 }
     {
         SureHost {
             files,
@@ -64,6 +65,7 @@ impl<'a> Host for SureHost<'a> {
         ensures sure { IsOk result }
         ensures bound { IfOk result (λ n. n ≤ length into.new) }
         ensures bytes { Reads untold name.now at result into.new }
+        ensures rest { LeavesRest result into.old into.new }
         ensures same { untold ≡ untold }
         ensures cause { HasCause 0 0 result }
         ensures others { 0 ≤ 0 }

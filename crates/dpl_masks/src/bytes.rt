@@ -1,9 +1,9 @@
 //! The bytes of a file of masks, by the GDSII Stream Format, Release 6.
-ghost use Rattle.std.specs.Prelude.{◌≡◌, ◌≤◌, ◌++◌, IfOk, OnOk, map, unsigned_abs};
+ghost use Rattle.std.specs.Prelude.{◌≡◌, ◌≤◌, ◌+◌, ◌++◌, IfOk, OnErr, OnOk, map, unsigned_abs};
 ghost use Rattle.std.specs.List.{concat};
 ghost use Rattle.dpl_spec.specs.Loops.{AreRectsWithin, IsRectWithin, farthest};
 ghost use Rattle.dpl_spec.specs.Zones.{at};
-ghost use Rattle.dpl_masks.specs.Bytes.{boundaries_bytes, boundary_bytes, coordinate_bytes, corners, file_bytes as file_bytes_of, point_bytes};
+ghost use Rattle.dpl_masks.specs.Bytes.{FillsRoom, boundaries_bytes, boundary_bytes, coordinate_bytes, corners, file_bytes as file_bytes_of, point_bytes};
 
 use dpl_base::Rect;
 use std::alloc::{AllocError, Global};
@@ -18,12 +18,16 @@ const XY_5: [u8; 4] = [0, 44, 16, 3];
 
 const ENDEL: [u8; 4] = [0, 4, 17, 0];
 
+/// How many bytes a slab takes.
+const BOUNDARY_SIZE: usize = 64;
+
 const ENDSTR_ENDLIB: [u8; 8] = [0, 4, 7, 0, 0, 4, 4, 0];
 
 /// A coordinate in four bytes.
 fn put_coordinate(out: &mut Vec<u8>, z: i64) -> Result<(), AllocError>
     requires { unsigned_abs z ≤ farthest }
-    ensures { OnOk result (out.new.items ≡ out.old.items ++ coordinate_bytes z) }
+    ensures bytes { OnOk result (out.new.items ≡ out.old.items ++ coordinate_bytes z) }
+    ensures room { FillsRoom 4 result out.old out.new }
 {
     out.extend_from_slice(&(z as i32).to_be_bytes())
 }
@@ -32,7 +36,8 @@ fn put_coordinate(out: &mut Vec<u8>, z: i64) -> Result<(), AllocError>
 fn put_point(out: &mut Vec<u8>, x: i64, y: i64) -> Result<(), AllocError>
     requires x { unsigned_abs x ≤ farthest }
     requires y { unsigned_abs y ≤ farthest }
-    ensures { OnOk result (out.new.items ≡ out.old.items ++ point_bytes (at x y)) }
+    ensures bytes { OnOk result (out.new.items ≡ out.old.items ++ point_bytes (at x y)) }
+    ensures room { FillsRoom 8 result out.old out.new }
 {
     put_coordinate(out, x)?;
     put_coordinate(out, y)?;
@@ -42,7 +47,8 @@ fn put_point(out: &mut Vec<u8>, x: i64, y: i64) -> Result<(), AllocError>
 /// The corners of a slab, from the lower left one round to it again.
 fn put_corners(out: &mut Vec<u8>, r: &Rect) -> Result<(), AllocError>
     requires { IsRectWithin farthest r.now }
-    ensures { OnOk result (out.new.items ≡ out.old.items ++ concat (map point_bytes (corners r.now))) }
+    ensures bytes { OnOk result (out.new.items ≡ out.old.items ++ concat (map point_bytes (corners r.now))) }
+    ensures room { FillsRoom 40 result out.old out.new }
 {
     put_point(out, r.x0, r.y0)?;
     put_point(out, r.x1, r.y0)?;
@@ -52,11 +58,13 @@ fn put_corners(out: &mut Vec<u8>, r: &Rect) -> Result<(), AllocError>
     Ok(())
 }
 
-/// Puts a slab on a layer as one BOUNDARY of data type 0 behind `out`, 64 bytes.
+/// Puts a slab on a layer as one BOUNDARY of data type 0 behind `out`, 64 bytes. Without memory `out` stays as it was.
 pub fn put_boundary(out: &mut Vec<u8>, layer: u16, r: &Rect) -> Result<(), AllocError>
     requires { IsRectWithin farthest r.now }
-    ensures { OnOk result (out.new.items ≡ out.old.items ++ boundary_bytes layer r.now) }
+    ensures ok { OnOk result (out.new.items ≡ out.old.items ++ boundary_bytes layer r.now) }
+    ensures err { OnErr result (out.new.items ≡ out.old.items) }
 {
+    out.reserve(BOUNDARY_SIZE)?;
     out.extend_from_slice(&BOUNDARY)?;
     out.extend_from_slice(&LAYER)?;
     out.extend_from_slice(&layer.to_be_bytes())?;
@@ -92,6 +100,12 @@ pub fn file_bytes(
     ensures { IfOk result (λ v. v.items ≡ file_bytes_of front.now la lb a.now b.now) }
 {
     let mut out = Vec::from_slice(alloc, front)?;
+    let slabs = a.len().saturating_add(b.len());
+    out.reserve(
+        slabs
+            .saturating_mul(BOUNDARY_SIZE)
+            .saturating_add(ENDSTR_ENDLIB.len()),
+    )?;
     put_boundaries(&mut out, la, a)?;
     put_boundaries(&mut out, lb, b)?;
     out.extend_from_slice(&ENDSTR_ENDLIB)?;

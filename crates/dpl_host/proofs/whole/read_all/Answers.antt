@@ -1,7 +1,7 @@
 use Rattle.std.proofs.Common.{◌≡◌, ◌∙◌, sym, subst, List, ℕ, arith, take, length, [], refl, rules}
 use Rattle.std.specs.Prelude.{IfSome, unwrap_or}
 use Rattle.dpl_host.specs.Outside.{file_of}
-use Rattle.dpl_host.proofs.Pieces.{front_on, given_more, too_long}
+use Rattle.dpl_host.proofs.Pieces.{front_on, given_more, too_long, whole_read}
 use Rattle.dpl_host.proofs.whole.read_all.Goals as goal
 
 pub loop-chunk-preserved : goal.loop-chunk-preserved
@@ -24,3 +24,8 @@ pub returns-clause-large : goal.returns-clause-large
 returns-clause-large g c = λ h.
     let same : c.len.result ≡ length c.loop-chunk.bytes.items = c.len.ensures ∙ search rules in
     too_long (g.H.Host.told c.args.host.now) c.args.name.now c.loop-chunk.bytes.items c.loop-chunk.invariant.front (omega (arith, same, c.loop-chunk-test.false))
+
+pub returns-then-count-eq0-clause-bytes : goal.returns-then-count-eq0-clause-bytes
+returns-then-count-eq0-clause-bytes g c =
+    whole_read (g.H.Host.told c.args.host.now) (g.H.Host.told c.loop-chunk.host) c.args.name.now c.loop-chunk.bytes.items c.read.new.into c.in_ok-count.count _
+    c.loop-chunk.invariant.front c.in_ok-count.ensures.bytes c.loop-chunk.invariant.same (c.len-in-loop-chunk.ensures ∙ search rules) (search rules) (search rules)
