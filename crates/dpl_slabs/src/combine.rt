@@ -64,7 +64,8 @@ pub fn combine(
     ensures slabs { IfOk result (λ v. AreSlabsOf (λ p. Holds rule (cells (pos 1) first.now p) (cells (pos 1) second.now p)) v.items) }
     ensures within { IfOk result (λ v. AreRectsWithin farthest v.items) }
 {
-    let mut edges = Vec::new(alloc);
+    let rects = first.len().saturating_add(second.len());
+    let mut edges = Vec::with_capacity(alloc, rects.saturating_mul(3))?;
     add_rects(&mut edges, first, 1, 0)?;
     add_rects(&mut edges, second, 0, 1)?;
     let slabs = slabs_of_edges(alloc, edges, rule)?;

@@ -5,7 +5,9 @@ mod combine;
 mod corners;
 mod loops;
 mod parts;
+mod row;
 mod slabs;
+mod strips;
 #[cfg(test)]
 mod tests;
 

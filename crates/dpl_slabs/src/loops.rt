@@ -108,7 +108,7 @@ pub fn rects_of_loops(alloc: Global, loops: &[Loop]) -> Result<Vec<Rect>, AllocE
     ensures covers { IfOk result (λ v. (p : Pt) → Covers v.items p ↔ SomeLoopCovers loops.now p) }
     ensures within { IfOk result (λ v. AreRectsWithin farthest v.items) }
 {
-    let mut rects = Vec::new(alloc);
+    let mut rects = Vec::with_capacity(alloc, loops.len())?;
     for i in 0..loops.len() {
         add_loop(alloc, &mut rects, loops[i].items())?;
     }

@@ -7,6 +7,7 @@ ghost use Rattle.dpl_spec.specs.Zones.{at, turned};
 
 use crate::combine::{combine, exchanged};
 use crate::loops::rects_of_loops;
+use crate::strips::slabs_of_rects;
 use dpl_base::{Loop, Pt, Rect};
 use dpl_sweep::Rule;
 use std::alloc::{AllocError, Global};
@@ -93,7 +94,8 @@ impl Slabs {
         requires { AreRectsWithin farthest rects.now }
         ensures { IfOk result (λ s. AreSlabsOf (Covers rects.now) s) }
     {
-        let rects = combine(alloc, rects, &[], Rule::Either)?;
+        let all = Vec::from_slice(alloc, rects)?;
+        let rects = slabs_of_rects(alloc, all)?;
         Ok(Slabs { rects })
     }
 
@@ -112,12 +114,13 @@ impl Slabs {
     }
 
     /// The squares of loops, in any order, that may overlap, each by the signed sum over its upright edges.
-    pub fn of_loops(alloc: Global, loops: &[Loop]) -> Result<Slabs, AllocError>
-        requires { AreLoopsWithin farthest loops.now }
-        ensures { IfOk result (λ s. AreSlabsOf (SomeLoopCovers loops.now) s) }
+    pub fn of_loops(alloc: Global, loops: Vec<Loop>) -> Result<Slabs, AllocError>
+        requires { AreLoopsWithin farthest loops.items }
+        ensures { IfOk result (λ s. AreSlabsOf (SomeLoopCovers loops.items) s) }
     {
-        let all = rects_of_loops(alloc, loops)?;
-        let rects = combine(alloc, &all, &[], Rule::Either)?;
+        let all = rects_of_loops(alloc, &loops)?;
+        drop(loops);
+        let rects = slabs_of_rects(alloc, all)?;
         Ok(Slabs { rects })
     }
 

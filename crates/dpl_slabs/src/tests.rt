@@ -34,7 +34,7 @@ fn slabs_of(alloc: Global, loops: &[&[(i16, i16)]]) -> Result<Slabs, AllocError>
     for i in 0..loops.len() {
         all.push(loop_of(alloc, loops[i])?)?;
     }
-    let slabs = Slabs::of_loops(alloc, &all)?;
+    let slabs = Slabs::of_loops(alloc, all)?;
     Ok(slabs)
 }
 
@@ -102,5 +102,24 @@ fn sets_are_combined(rt: HostRuntime) -> Result<(), Fail> {
     assert_eq!(rt; left.least(), Some(Pt { x: 0, y: 0 }));
     assert!(rt; left.has(9, 4));
     assert!(rt; !left.has(5, 5));
+    Ok(())
+}
+
+#[test]
+fn strips_and_rows_have_their_slabs(rt: HostRuntime) -> Result<(), Fail> {
+    let alloc = rt.alloc();
+    let low = [(0, 0), (10, 0), (10, 10), (0, 10)];
+    let high = [(0, 10), (10, 10), (10, 20), (0, 20)];
+    let last = [(26, 21), (30, 21), (30, 30), (26, 30)];
+    let left = [(0, 21), (10, 21), (10, 30), (0, 30)];
+    let over = [(5, 21), (20, 21), (20, 30), (5, 30)];
+    let beside = [(20, 21), (25, 21), (25, 30), (20, 30)];
+    let set = slabs_of(alloc, &[&last, &high, &beside, &over, &left, &low])?;
+    let want = [
+        rect(0, 0, 10, 20),
+        rect(0, 21, 25, 30),
+        rect(26, 21, 30, 30),
+    ];
+    assert_eq!(rt; set.rects(), want.as_slice());
     Ok(())
 }

@@ -4,6 +4,3 @@ use Rattle.dpl_slabs.proofs.tests.slabs_of.Goals as goal
 
 pub loop-i-preserved : goal.loop-i-preserved
 loop-i-preserved c = rw c.in_ok-push.ensures.items (All-push (ArePointsWithin farthest) c.loop-i.all.items c.in_ok-loop_of.field-0 c.loop-i.invariant c.in_ok-loop_of.ensures)
-
-pub of_loops-requires : goal.of_loops-requires
-of_loops-requires c = rw c.deref.ensures.value c.loop-i.invariant

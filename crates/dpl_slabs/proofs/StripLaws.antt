@@ -1,0 +1,210 @@
+-- Slabs of strips put together.
+use Rattle.std.proofs.Common.{◌≡◌, ℕ, zero, suc, ◌+◌, ◌≤◌, ◌<◌, inl, inr, List, [], ◌∷◌, ◌++◌, ◌⊎◌, length, get_or, take, drop, sym, ap, ◌∙◌, subst, true, arith}
+use Rattle.std.specs.Prelude.{ℤ, pos, ◌-ℤ◌, ◌≤ℤ◌, ◌<ℤ◌}
+use Rattle.std.specs.List.{AllPairs, Contains}
+use Rattle.std.specs.List.Sorted.{IsPermutation}
+use lib.Signed.{lt_z, lt_z_yes}
+use Rattle.std.proofs.lemmas.Float.{T_from_true}
+use Rattle.std.proofs.lemmas.Int.{ints}
+use Rattle.std.proofs.lemmas.List.{get_or-drop, get_or-take, get_or_default, length-drop, length-take, take-append-drop, drop_all}
+use Rattle.std.proofs.lemmas.List.Elements.{All-append, All-contains, Contains-append_left, Contains-append_right, Contains-append_cases, Contains-get_or, Contains-push_cases}
+use Rattle.std.proofs.lemmas.List.Sorted.{IsPermutation-sym, Contains-permutation}
+use Rattle.std.proofs.Math.Seq.{take-suc}
+use Rattle.dpl_spec.specs.declared.Pt.{Pt}
+use Rattle.dpl_spec.specs.declared.Rect.{Rect}
+use Rattle.dpl_spec.specs.Squares.{Covers}
+use Rattle.dpl_spec.specs.Slabs.{IsSolid, Follows, IsCanonical, AreSlabsOf}
+use Rattle.dpl_spec.specs.Loops.{farthest, AreRectsWithin}
+use Rattle.dpl_spec.proofs.Ordered.{AllPairs-rest, AllPairs-first, Contains-head, Contains-later, Contains-nil}
+use Rattle.dpl_spec.proofs.SlabLaws.{Covers-member, member-Covers}
+use Rattle.dpl_sweep.proofs.JoinLaws.{covers-same}
+use Rattle.dpl_sweep.specs.Orders.{CornerBefore, CornersRise}
+use Rattle.dpl_slabs.specs.Strips.{LieBelow, AddsStrip, AreStripsOf}
+use Rattle.dpl_slabs.proofs.LoopLaws.{covers-appended, rects-appended}
+use Rattle.dpl_slabs.proofs.SetLaws.{rects-none}
+
+-- a relation of all pairs of two lists
+AllPairs-append : {X : Type 0} (R : X → X → Type 0) (xs ys : List X) → AllPairs R xs → AllPairs R ys → ((x y : X) → Contains xs x → Contains ys y → R x y) → AllPairs R (xs ++ ys)
+AllPairs-append R [] ys a b c i j d l k = b i j d l k
+AllPairs-append R (x ∷ xs) ys a b c zero zero d l k = absurd (omega (arith, l))
+AllPairs-append R (x ∷ xs) ys a b c zero (suc j) d l k =
+    let there : Contains (xs ++ ys) (get_or (xs ++ ys) j d) = Contains-get_or (xs ++ ys) j d (omega (arith, k)) in
+    elim (Contains-append_cases xs ys (get_or (xs ++ ys) j d) there) [
+      | inl h ↦ AllPairs-first R x (get_or (xs ++ ys) j d) xs a h
+      | inr h ↦ c x (get_or (xs ++ ys) j d) (Contains-head x xs) h
+    ]
+AllPairs-append R (x ∷ xs) ys a b c (suc i) zero d l k = absurd (omega (arith, l))
+AllPairs-append R (x ∷ xs) ys a b c (suc i) (suc j) d l k = AllPairs-append R xs ys (AllPairs-rest R x xs a) b (λ u v u_in v_in. c u v (Contains-later x u xs u_in) v_in) i j d (omega (arith, l)) (omega (arith, k))
+
+-- some rectangle begins no higher than the slab
+slab-over : (rs slabs : List Rect) (s : Rect) → AreSlabsOf (Covers rs) slabs → Contains slabs s → (r : Rect) × Contains rs r × (r.y0 ≤ℤ s.y0)
+slab-over rs slabs s a s_in =
+    let solid : IsSolid s = All-contains IsSolid slabs s a.canonical.solid s_in in
+    let wide = solid.wide in
+    let tall = solid.tall in
+    let low : Pt = record { x = s.x0; y = s.y0 } in
+    let (r, r_in, has) = member-Covers rs low ((a.covers low).0 (Covers-member slabs s low s_in (record { left = omega (arith, ints); right = wide; low = omega (arith, ints); high = tall }))) in
+    (r, r_in, has.low)
+
+-- some rectangle ends no lower
+slab-under : (rs slabs : List Rect) (s : Rect) → AreSlabsOf (Covers rs) slabs → Contains slabs s → (r : Rect) × Contains rs r × (s.y1 ≤ℤ r.y1)
+slab-under rs slabs s a s_in =
+    let solid : IsSolid s = All-contains IsSolid slabs s a.canonical.solid s_in in
+    let wide = solid.wide in
+    let tall = solid.tall in
+    let high : Pt = record { x = s.x0; y = s.y1 -ℤ pos 1 } in
+    let (r, r_in, has) = member-Covers rs high ((a.covers high).0 (Covers-member slabs s high s_in (record { left = omega (arith, ints); right = wide; low = omega (arith, ints, tall); high = omega (arith, ints) }))) in
+    let top = has.high in
+    (r, r_in, omega (arith, ints, top))
+
+follows-below : (r s : Rect) → IsSolid r → IsSolid s → r.y1 <ℤ s.y0 → Follows r s
+follows-below r s solid other l =
+    let tall = solid.tall in
+    record {
+      before = inl (omega (arith, ints, l, tall));
+      apart = λ (low, high). absurd (omega (arith, ints, l, high));
+      separate = λ on. (let row = on.row in omega (arith, ints, l, row));
+    }
+
+pub adds-strip : (old more strip : List Rect) → IsCanonical old → LieBelow old strip → AreSlabsOf (Covers strip) more → AreRectsWithin farthest more → AddsStrip old (old ++ more) strip
+adds-strip old more strip c below a w =
+    let under : LieBelow old more = λ r s r_in s_in. (let (t, t_in, l) = slab-over strip more s a s_in in let h = below r t r_in t_in in omega (arith, ints, l, h)) in
+    record {
+      canonical = record {
+        solid = All-append IsSolid old more c.solid a.canonical.solid;
+        follow = AllPairs-append Follows old more c.follow a.canonical.follow (λ r s r_in s_in. follows-below r s (All-contains IsSolid old r c.solid r_in) (All-contains IsSolid more s a.canonical.solid s_in) (under r s r_in s_in));
+      };
+      covers = covers-appended (Covers strip) old more a;
+      within = λ v. rects-appended farthest old more v w;
+      below = λ others f g r s r_in s_in. elim (Contains-append_cases old more r r_in) [
+        | inl h ↦ f r s h s_in
+        | inr h ↦ (let (t, t_in, l) = slab-under strip more r a h in let k = g t s t_in s_in in omega (arith, ints, l, k))
+      ];
+    }
+
+pub strips-none : (rects sorted : List Rect) → IsPermutation rects sorted → CornersRise sorted → AreRectsWithin farthest rects → AreStripsOf rects [] sorted
+strips-none rects sorted same rise w =
+    record {
+      canonical = record { solid = λ i d k. absurd (omega (arith, k)); follow = λ i j d l k. absurd (omega (arith, k)) };
+      covers = λ p. (
+        (λ h. elim h [ inl c ↦ absurd (let found = member-Covers [] p c in Contains-nil found.0 found.1) | inr c ↦ (covers-same rects sorted same p).1 c ]),
+        λ c. inr ((covers-same rects sorted same p).0 c),
+      );
+      within = rects-none farthest;
+      rest_within = λ r r_in. w r (Contains-permutation sorted rects r (IsPermutation-sym rects sorted same) r_in);
+      rise = rise;
+      below = λ r s r_in s_in. absurd (Contains-nil r r_in);
+    }
+
+rise-drop : (n : ℕ) (rs : List Rect) → CornersRise rs → CornersRise (drop n rs)
+rise-drop n rs rise i j d l j_in =
+    let len = length-drop n rs in
+    let h = rise (n + i) (n + j) d (omega (arith, l)) (omega (arith, len, j_in)) in
+    rw (get_or-drop n rs i d, get_or-drop n rs j d) h
+
+pub rise-take : (n : ℕ) (rs : List Rect) → CornersRise rs → CornersRise (take n rs)
+rise-take n rs rise i j d l j_in =
+    let len = length-take n rs in
+    let j_n : j < n = omega (arith, len, j_in) in
+    let i_n : i < n = omega (arith, l, j_n) in
+    rw (get_or-take n rs i d i_n, get_or-take n rs j d j_n) (rise i j d l (omega (arith, len, j_in)))
+
+-- a corner that isn't before another begins no lower
+corner-above : (a b : Rect) → CornerBefore a b → a.y0 ≤ℤ b.y0
+corner-above a b (inl l) = omega (arith, ints, l)
+corner-above a b (inr (e, l)) = omega (arith, ints, e)
+
+covers-parts : (strip others rest : List Rect) (p : Pt) → strip ++ others ≡ rest → Covers rest p → Covers strip p ⊎ Covers others p
+covers-parts strip others rest p e c =
+    let (r, r_in, has) = member-Covers rest p c in
+    elim (Contains-append_cases strip others r (subst (λ xs. Contains xs r) (sym e) r_in)) [
+      | inl h ↦ inl (Covers-member strip r p h has)
+      | inr h ↦ inr (Covers-member others r p h has)
+    ]
+
+left-in : (strip others rest : List Rect) (r : Rect) → strip ++ others ≡ rest → Contains strip r → Contains rest r
+left-in strip others rest r e r_in = subst (λ xs. Contains xs r) e (Contains-append_left strip others r r_in)
+
+right-in : (strip others rest : List Rect) (r : Rect) → strip ++ others ≡ rest → Contains others r → Contains rest r
+right-in strip others rest r e r_in = subst (λ xs. Contains xs r) e (Contains-append_right strip others r r_in)
+
+-- what a strip of the rest is
+module _ (rects slabs rest : List Rect) (n : ℕ) (s : AreStripsOf rects slabs rest) where
+  whole : take n rest ++ drop n rest ≡ rest
+  whole = take-append-drop n rest
+
+  pub strip-within : AreRectsWithin farthest (take n rest)
+  strip-within r r_in = s.rest_within r (left-in (take n rest) (drop n rest) rest r whole r_in)
+
+  pub strip-above : LieBelow slabs (take n rest)
+  strip-above r t r_in t_in = s.below r t r_in (left-in (take n rest) (drop n rest) rest t whole t_in)
+
+  pub strips-next : (new : List Rect) → LieBelow (take n rest) (drop n rest) → AddsStrip slabs new (take n rest) → AreStripsOf rects new (drop n rest)
+  strips-next new gap a =
+      record {
+        canonical = a.canonical;
+        covers = λ p. (
+          (λ h. elim h [
+            | inl c ↦ elim ((a.covers p).0 c) [
+              | inl old ↦ (s.covers p).0 (inl old)
+              | inr k ↦ (let (r, r_in, has) = member-Covers (take n rest) p k in (s.covers p).0 (inr (Covers-member rest r p (left-in (take n rest) (drop n rest) rest r whole r_in) has)))
+            ]
+            | inr k ↦ (let (r, r_in, has) = member-Covers (drop n rest) p k in (s.covers p).0 (inr (Covers-member rest r p (right-in (take n rest) (drop n rest) rest r whole r_in) has)))
+          ]),
+          λ h. elim ((s.covers p).1 h) [
+            | inl old ↦ inl ((a.covers p).1 (inl old))
+            | inr c ↦ elim (covers-parts (take n rest) (drop n rest) rest p whole c) [
+              | inl k ↦ inl ((a.covers p).1 (inr k))
+              | inr k ↦ inr k
+            ]
+          ],
+        );
+        within = a.within s.within;
+        rest_within = λ r r_in. s.rest_within r (right-in (take n rest) (drop n rest) rest r whole r_in);
+        rise = rise-drop n rest s.rise;
+        below = a.below (drop n rest) (λ r t r_in t_in. s.below r t r_in (right-in (take n rest) (drop n rest) rest t whole t_in)) gap;
+      }
+
+pub strips-all : (rects slabs rest : List Rect) → length rest ≤ 0 → AreStripsOf rects slabs rest → AreSlabsOf (Covers rects) slabs
+strips-all rects slabs [] none s =
+    record {
+      canonical = s.canonical;
+      covers = λ p. (
+        (λ c. (s.covers p).0 (inl c)),
+        λ c. elim ((s.covers p).1 c) [ inl k ↦ k | inr k ↦ absurd (let found = member-Covers [] p k in Contains-nil found.0 found.1) ],
+      );
+    }
+strips-all rects slabs (r ∷ rest) none s = absurd (omega (arith, none))
+
+-- the first n end at row top or below it
+abbrev pub EndBy : List Rect → ℕ → ℤ → Type 0
+EndBy rs n top = (r : Rect) → Contains (take n rs) r → r.y1 ≤ℤ top
+
+pub end-next : (rs : List Rect) (n : ℕ) (r : Rect) (top new : ℤ) → n < length rs → r ≡ get_or rs n r → top ≤ℤ new → r.y1 ≤ℤ new → EndBy rs n top → EndBy rs (n + 1) new
+end-next rs n r top new n_in r_is l m h q q_in =
+    let one : n + 1 ≡ suc n = omega arith in
+    let step : take (n + 1) rs ≡ take n rs ++ r ∷ [] = ap (λ k. take k rs) one ∙ (take-suc rs n r n_in ∙ ap (λ s. take n rs ++ s ∷ []) (sym r_is)) in
+    elim (Contains-push_cases (take n rs) r q (subst (λ xs. Contains xs q) step q_in)) [
+      | inl old ↦ (let k = h q old in omega (arith, ints, k, l))
+      | inr e ↦ subst (λ t. t.y1 ≤ℤ new) e m
+    ]
+
+pub end-first : (rs : List Rect) (r : Rect) → 0 < length rs → r ≡ get_or rs 0 r → EndBy rs 1 r.y1
+end-first rs r some r_is = end-next rs 0 r r.y1 r.y1 some r_is (omega (arith, ints)) (omega (arith, ints)) (λ q q_in. absurd (Contains-nil q q_in))
+
+pub gap-here : (rs : List Rect) (n : ℕ) (r : Rect) (top : ℤ) → n < length rs → r ≡ get_or rs n r → CornersRise rs → EndBy rs n top → top <ℤ r.y0 → LieBelow (take n rs) (drop n rs)
+gap-here rs n r top n_in r_is rise h l q s q_in (k, k_in, s_is) =
+    let len = length-drop n rs in
+    let at : get_or rs (n + k) s ≡ s = sym (get_or-drop n rs k s) ∙ s_is in
+    let here : get_or rs n s ≡ r = get_or_default rs n s r n_in ∙ sym r_is in
+    let m = corner-above (get_or rs n s) (get_or rs (n + k) s) (rise n (n + k) s (omega arith) (omega (arith, len, k_in))) in
+    let o = rw (at, here) at m in
+    let e = h q q_in in
+    omega (arith, ints, e, l, o)
+
+pub gap-none : (rs : List Rect) → LieBelow (take (length rs) rs) (drop (length rs) rs)
+gap-none rs q s q_in s_in = absurd (Contains-nil s (subst (λ xs. Contains xs s) (drop_all (length rs) rs (omega arith)) s_in))
+
+-- what a test of two numbers says, the second by another name
+pub lt-from : (a b c : ℤ) → b ≡ c → lt_z a b ≡ true → a <ℤ c
+lt-from a b c e h = subst (λ z. a <ℤ z) e (lt_z_yes {a = a} {b = b} (T_from_true (lt_z a b) h))

@@ -1,0 +1,15 @@
+use Rattle.std.proofs.Common.{◌<◌, length, rules, arith}
+use Rattle.std.proofs.lemmas.List.{get_or_default}
+use Rattle.dpl_slabs.proofs.RowLaws.{bars-first, bars-next, bars-all}
+use Rattle.dpl_slabs.proofs.row.slabs_of_row.Goals as goal
+
+pub loop-i-init : goal.loop-i-init
+loop-i-init c = rw c.in_ok-done.ensures.items (bars-first c.args.row.now c.requires.row c.requires.rise _ c.requires.some (get_or_default _ _ _ _ c.requires.some))
+
+pub loop-i-preserved : goal.loop-i-preserved
+loop-i-preserved c =
+    let here : c.loop-i.i < length c.args.row.now = search rules in
+    bars-next c.args.row.now c.requires.row c.requires.rise c.loop-i.i _ _ _ _ _ here (get_or_default _ _ _ _ here) c.loop-i.invariant c.in_ok-last.ensures
+
+pub returns : goal.returns
+returns c = rw c.in_ok-push.ensures.items (bars-all c.args.row.now c.loop-i.i _ _ (omega arith) c.loop-i.invariant)

@@ -1,0 +1,18 @@
+use Rattle.std.proofs.Common.{refl}
+use Rattle.std.specs.Prelude.{pos, []}
+use Rattle.dpl_spec.specs.Squares.{Covers}
+use Rattle.dpl_spec.specs.Loops.{farthest}
+use Rattle.dpl_sweep.specs.declared.edge.Rule.TheVariants.{Either}
+use Rattle.dpl_sweep.specs.Edges.{Holds}
+use Rattle.dpl_slabs.specs.Cells.{cells}
+use Rattle.dpl_slabs.proofs.SetLaws.{told-first, slabs-of-same}
+use Rattle.dpl_slabs.proofs.RowLaws.{within-slabs}
+use Rattle.dpl_slabs.proofs.strips.slabs_of_strip.Goals as goal
+
+pub returns-then-is_row-clause-within : goal.returns-then-is_row-clause-within
+returns-then-is_row-clause-within c = within-slabs farthest c.args.strip.now _ c.requires.within c.in_ok-bars.ensures
+
+pub returns-clause-slabs : goal.returns-clause-slabs
+returns-clause-slabs c =
+    let strip = c.args.strip.now in
+    slabs-of-same (λ p. Holds Either (cells (pos 1) strip p) (cells (pos 1) [] p)) (Covers strip) _ (told-first strip) c.in_ok-slabs.ensures.slabs

@@ -1,0 +1,79 @@
+//! The slabs of bars side by side in one row.
+ghost use Rattle.std.specs.Prelude.{◌≡◌, ◌<◌, ◌⊎◌, ◌≤ℤ◌, IfOk, IsTrue, length};
+ghost use Rattle.dpl_spec.specs.Squares.{Covers};
+ghost use Rattle.dpl_spec.specs.Slabs.{AreSlabsOf, IsSolid};
+ghost use Rattle.dpl_sweep.specs.Orders.{CornersRise};
+ghost use Rattle.dpl_slabs.specs.Rows.{AreLevel, IsBarJoined, IsRow};
+
+use dpl_base::Rect;
+use std::alloc::{AllocError, Global};
+
+/// The greater number.
+pub fn greater(x: i64, y: i64) -> i64
+    ensures first { x ≤ℤ result }
+    ensures second { y ≤ℤ result }
+    ensures known { (result ≡ x) ⊎ (result ≡ y) }
+{
+    if x < y {
+        return y;
+    }
+    x
+}
+
+/// Whether the rectangle has squares, in the same rows as the first one.
+fn is_beside(first: &Rect, r: &Rect) -> bool
+    ensures { IsTrue result → IsSolid r.now × AreLevel first.now r.now }
+{
+    if r.y0 != first.y0 {
+        return false;
+    }
+    if r.y1 != first.y1 {
+        return false;
+    }
+    r.x0 < r.x1 && r.y0 < r.y1
+}
+
+/// Whether all rectangles have squares, in the same rows.
+pub fn is_row(rects: &[Rect]) -> bool
+    requires { 0 < length rects.now }
+    ensures { IsTrue result → IsRow rects.now }
+{
+    for i in 0..rects.len() {
+        if !is_beside(&rects[0], &rects[i]) {
+            return false;
+        }
+    }
+    true
+}
+
+/// Makes the last slab wider by a bar that meets or touches it, or puts the bar after it.
+fn add_bar(done: &mut Vec<Rect>, last: Rect, bar: &Rect) -> Result<Rect, AllocError>
+    ensures { IfOk result (λ next. IsBarJoined done.old.items last bar.now done.new.items next) }
+{
+    if last.x1 < bar.x0 {
+        done.push(last)?;
+        return Ok(*bar);
+    }
+    Ok(Rect {
+        x0: last.x0,
+        y0: last.y0,
+        x1: greater(last.x1, bar.x1),
+        y1: last.y1,
+    })
+}
+
+/// The canonical slabs of bars of one row, which go by left column.
+pub fn slabs_of_row(alloc: Global, row: &[Rect]) -> Result<Vec<Rect>, AllocError>
+    requires some { 0 < length row.now }
+    requires row { IsRow row.now }
+    requires rise { CornersRise row.now }
+    ensures { IfOk result (λ v. AreSlabsOf (Covers row.now) v.items) }
+{
+    let mut done = Vec::with_capacity(alloc, row.len())?;
+    let mut last = row[0];
+    for i in 1..row.len() {
+        last = add_bar(&mut done, last, &row[i])?;
+    }
+    done.push(last)?;
+    Ok(done)
+}

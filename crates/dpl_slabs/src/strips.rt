@@ -1,0 +1,79 @@
+//! The slabs of rectangles, strip by strip of rows.
+ghost use Rattle.std.specs.Prelude.{◌<◌, ◌≤◌, IfOk, OnOk, length, take, drop};
+ghost use Rattle.dpl_spec.specs.Squares.{Covers};
+ghost use Rattle.dpl_spec.specs.Slabs.{AreSlabsOf, IsCanonical};
+ghost use Rattle.dpl_spec.specs.Loops.{farthest, AreRectsWithin};
+ghost use Rattle.dpl_sweep.specs.Orders.{CornersRise};
+ghost use Rattle.dpl_slabs.specs.Strips.{LieBelow, AddsStrip};
+
+use crate::combine::combine;
+use crate::row::{greater, is_row, slabs_of_row};
+use dpl_base::Rect;
+use dpl_sweep::{Rule, sort_by_corner};
+use std::alloc::{AllocError, Global};
+
+/// How many rectangles, which go by first row, are in the lowest strip: a row lies between them and all others.
+fn strip_length(rects: &[Rect]) -> usize
+    requires some { 0 < length rects.now }
+    requires rise { CornersRise rects.now }
+    ensures some { 0 < result }
+    ensures within { result ≤ length rects.now }
+    ensures below { LieBelow (take result rects.now) (drop result rects.now) }
+{
+    let mut top = rects[0].y1;
+    for i in 1..rects.len() {
+        if top < rects[i].y0 {
+            return i;
+        }
+        top = greater(top, rects[i].y1);
+    }
+    rects.len()
+}
+
+/// The slabs of a strip: bars of one row are put together by column, all else is swept.
+fn slabs_of_strip(alloc: Global, strip: &[Rect]) -> Result<Vec<Rect>, AllocError>
+    requires some { 0 < length strip.now }
+    requires rise { CornersRise strip.now }
+    requires within { AreRectsWithin farthest strip.now }
+    ensures slabs { IfOk result (λ v. AreSlabsOf (Covers strip.now) v.items) }
+    ensures within { IfOk result (λ v. AreRectsWithin farthest v.items) }
+{
+    if is_row(strip) {
+        let bars = slabs_of_row(alloc, strip)?;
+        return Ok(bars);
+    }
+    let slabs = combine(alloc, strip, &[], Rule::Either)?;
+    Ok(slabs)
+}
+
+/// Adds the slabs of a strip that lies above all slabs.
+fn add_strip(alloc: Global, slabs: &mut Vec<Rect>, strip: &[Rect]) -> Result<(), AllocError>
+    requires some { 0 < length strip.now }
+    requires rise { CornersRise strip.now }
+    requires canonical { IsCanonical slabs.old.items }
+    requires below { LieBelow slabs.old.items strip.now }
+    requires within { AreRectsWithin farthest strip.now }
+    ensures { OnOk result (AddsStrip slabs.old.items slabs.new.items strip.now) }
+{
+    let more = slabs_of_strip(alloc, strip)?;
+    slabs.extend_from_slice(&more)?;
+    Ok(())
+}
+
+/// The canonical slabs of rectangles, in any order, that may overlap.
+pub fn slabs_of_rects(alloc: Global, rects: Vec<Rect>) -> Result<Vec<Rect>, AllocError>
+    requires { AreRectsWithin farthest rects.items }
+    ensures slabs { IfOk result (λ v. AreSlabsOf (Covers rects.items) v.items) }
+    ensures within { IfOk result (λ v. AreRectsWithin farthest v.items) }
+{
+    let mut rects = rects;
+    sort_by_corner(&mut rects);
+    let mut slabs = Vec::with_capacity(alloc, rects.len())?;
+    let mut rest = rects.as_slice();
+    while !rest.is_empty() {
+        let (strip, others) = rest.split_at(strip_length(rest));
+        add_strip(alloc, &mut slabs, strip)?;
+        rest = others;
+    }
+    Ok(slabs)
+}
