@@ -52,7 +52,7 @@ pub fn split(alloc: Global, rects: &[Rect], parents: &[usize]) -> Result<Vec<Sla
     ensures parts { IfOk result (λ v. AreParts v.items) }
 {
     let mut parts = Vec::new(alloc);
-    let mut numbers = Vec::new(alloc);
+    let mut numbers = Vec::with_capacity(alloc, rects.len())?;
     for i in 0..rects.len() {
         deal(alloc, &mut parts, &mut numbers, rects, parents, i)?;
     }

@@ -3,8 +3,6 @@
 
 mod least;
 mod rects;
-#[cfg(test)]
-mod tests;
 
 ghost use Rattle.std.specs.Prelude.{IfNone, IfOk, IfSome};
 ghost use Rattle.dpl_spec.specs.Loops.{AreRectsWithin, farthest};

@@ -7,7 +7,6 @@ use Rattle.dpl_spec.specs.declared.Pt.{Pt}
 use Rattle.dpl_spec.specs.declared.Rect.{Rect}
 use Rattle.dpl_spec.specs.declared.Zone.{Zone}
 use Rattle.dpl_spec.specs.Squares.{Region, Covers, IsLeast, IsSolidWithin}
-use Rattle.dpl_spec.specs.Slabs.{AreSlabsOf}
 use Rattle.dpl_spec.specs.Loops.{farthest, AreRectsWithin}
 use Rattle.dpl_spec.specs.Components.{here, AreComponents}
 use Rattle.dpl_spec.specs.Pieces.{without, AreSides, IsOwner}
@@ -43,12 +42,9 @@ module _ (features : List (List Rect)) (zones : List Zone) (given : AreFeatures 
   pub features-some : All (λ part. part ≢ []) features
   features-some = some-square (union_of features) features comps
 
-  module _ (rest : List Rect) (pieces : List (List Rect)) (left : AreSlabsOf (without (union_of features) zones) rest) (cut : AreComponents (Covers rest) pieces) where
-    ps : AreComponents (without (union_of features) zones) pieces
-    ps = components-same (Covers rest) (without (union_of features) zones) pieces left.covers cut
-
+  module _ (pieces : List (List Rect)) (ps : AreComponents (without (union_of features) zones) pieces) where
     pub pieces-some : All (λ part. part ≢ []) pieces
-    pieces-some = some-square (Covers rest) pieces cut
+    pieces-some = some-square (without (union_of features) zones) pieces ps
 
     pub stands : All (λ z. (side : ℕ × ℕ) × StandBeside pieces z side) zones
     stands k z k_in =

@@ -7,7 +7,6 @@ pub mod OwnerLaws
 pub mod Regions
 pub mod Whole
 pub mod Cuts
-pub mod Onces
-pub mod Merges
+pub mod Weaves
 pub mod Marks
 pub mod Lefts

@@ -102,7 +102,7 @@ written n new items n_is same =
     let none : drop (length new) items ≡ [] = drop_all (length new) items (omega (arith, same)) in
     rw none (rw (append-nil new) (take_all n new (omega (arith, n_is, same))))
 
-same_point : (p q : Pt) → p.x ≡ q.x → p.y ≡ q.y → p ≡ q
+pub same_point : (p q : Pt) → p.x ≡ q.x → p.y ≡ q.y → p ≡ q
 same_point p q e f = ap (λ x. let r : Pt = record { x = x; y = p.y } in r) e ∙ ap (λ y. let r : Pt = record { x = q.x; y = y } in r) f
 
 module _ (features : List (List Rect)) (leasts keys : List Pt) (firsts : List Corner) (zones : List Zone) (sides : List (ℕ × ℕ)) (old new : List ℕ)

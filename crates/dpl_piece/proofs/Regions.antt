@@ -8,7 +8,7 @@ use Rattle.dpl_spec.specs.Components.{Linked, here, on, component, AreComponents
 use Rattle.dpl_spec.specs.Pieces.{without}
 use Rattle.dpl_spec.proofs.SquareLaws.{SameSquares-trans}
 
-linked-same : (a b : Region) → ((p : Pt) → a p → b p) → {p q : Pt} → Linked a p q → Linked b p q
+pub linked-same : (a b : Region) → ((p : Pt) → a p → b p) → {p q : Pt} → Linked a p q → Linked b p q
 linked-same a b into (here h) = here (into _ h)
 linked-same a b into (on h t l) = on (into _ h) t (linked-same a b into l)
 

@@ -1,8 +1,12 @@
--- Slabs of features with and without zones, and slabs by their lower left corners.
-use Rattle.std.specs.Prelude.{◌≡◌, ℕ, ◌<◌, ◌≤◌, ◌⊎◌, ◌≤ℤ◌, ◌<ℤ◌, Bool, false, List, [], length, slice_index_or}
-use Rattle.std.specs.List.{Contains}
+-- Features with and without zones, what zones leave of those that have some, and both woven into one list.
+use Rattle.std.specs.Prelude.{◌≡◌, ◌≢◌, ℕ, ◌<◌, ◌≤◌, ◌⊎◌, ◌↔◌, Bool, true, false, List, [], length, slice_index_or}
+use Rattle.std.specs.List.{All, AllPairs, Any, Contains}
 use Rattle.dpl_spec.specs.declared.Rect.{Rect}
 use Rattle.dpl_spec.specs.declared.Zone.{Zone}
+use Rattle.dpl_spec.specs.Squares.{Region, Has}
+use Rattle.dpl_spec.specs.Components.{ComesFirst}
+use Rattle.dpl_spec.specs.Zones.{part_at}
+use Rattle.dpl_slabs.specs.Parts.{AreApart}
 
 -- feature k has a zone
 abbrev pub HasZone : List Zone → ℕ → Type 0
@@ -12,14 +16,35 @@ HasZone zones k = (z : Zone) × Contains zones z × (z.feature ≡ k)
 abbrev pub IsPicked : List (List Rect) → List Bool → Bool → ℕ → Rect → Type 0
 IsPicked parts marks wanted n r = (k : ℕ) × (k < n) × (k < length parts) × (slice_index_or marks k false ≡ wanted) × Contains (slice_index_or parts k []) r
 
-pub record HasLow (a b : Rect) : Type 0 where
-  pub column : a.x0 ≡ b.x0
-  pub row : a.y0 ≡ b.y0
+-- the marks are those of the features that have a zone
+pub record MarkZoned (features : List (List Rect)) (zones : List Zone) (marks : List Bool) : Type 0 where
+  pub each : length marks ≡ length features
+  pub is : (k : ℕ) → k < length features → (slice_index_or marks k false ≡ true) ↔ HasZone zones k
 
--- by lowest row, then by leftmost column
-abbrev pub RiseByLow : List Rect → Type 0
-RiseByLow rs = (i j : ℕ) (d : Rect) → i ≤ j → j < length rs → ((slice_index_or rs i d).y0 <ℤ (slice_index_or rs j d).y0) ⊎ (((slice_index_or rs i d).y0 ≡ (slice_index_or rs j d).y0) × ((slice_index_or rs i d).x0 ≤ℤ (slice_index_or rs j d).x0))
+-- squares of features with a zone that no zone has
+abbrev pub left_region : List (List Rect) → List Zone → Region
+left_region features zones p = ((k : ℕ) × (k < length features) × HasZone zones k × part_at features k p) × ¬ Any (λ z. Has z.rect p) zones
 
--- slabs with one lower left corner are one
-abbrev pub AreOnePerLow : List Rect → Type 0
-AreOnePerLow rs = (a b : Rect) → Contains rs a → Contains rs b → HasLow a b → a ≡ b
+-- one of the first n parts that isn't marked
+abbrev pub IsFree : List (List Rect) → List Bool → ℕ → List Rect → Type 0
+IsFree parts marks n part = (k : ℕ) × (k < n) × (k < length parts) × (slice_index_or marks k false ≡ false) × (slice_index_or parts k part ≡ part)
+
+-- one of the first n parts
+abbrev pub IsFirstPart : List (List Rect) → ℕ → List Rect → Type 0
+IsFirstPart parts n part = (k : ℕ) × (k < n) × (k < length parts) × (slice_index_or parts k part ≡ part)
+
+-- two lists by least square, of which no part that isn't marked shares a square with one of the others
+pub record CanWeave (parts : List (List Rect)) (marks : List Bool) (others : List (List Rect)) : Type 0 where
+  pub each : length marks ≡ length parts
+  pub some : All (λ s. s ≢ []) parts
+  pub others_some : All (λ s. s ≢ []) others
+  pub ordered : AllPairs ComesFirst parts
+  pub others_ordered : AllPairs ComesFirst others
+  pub apart : (k j : ℕ) → k < length parts → j < length others → slice_index_or marks k false ≡ false → AreApart (slice_index_or parts k []) (slice_index_or others j [])
+
+-- of the first m parts those that aren't marked, and the first n others, by least square, before all the rest of both
+pub record IsWoven (parts : List (List Rect)) (marks : List Bool) (others : List (List Rect)) (m n : ℕ) (out : List (List Rect)) : Type 0 where
+  pub ordered : AllPairs ComesFirst out
+  pub members : (s : List Rect) → Contains out s ↔ (IsFree parts marks m s ⊎ IsFirstPart others n s)
+  pub before_parts : (s : List Rect) (k : ℕ) → Contains out s → m ≤ k → k < length parts → slice_index_or marks k false ≡ false → ComesFirst s (slice_index_or parts k [])
+  pub before_others : (s : List Rect) (k : ℕ) → Contains out s → n ≤ k → k < length others → ComesFirst s (slice_index_or others k [])

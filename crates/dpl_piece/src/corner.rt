@@ -64,12 +64,11 @@ fn add_corners(
 }
 
 /// Sorts by row, and then by column.
-pub fn sort_by_corner(corners: &mut Vec<Corner>) -> Result<(), AllocError>
+pub fn sort_by_corner(corners: &mut Vec<Corner>)
     ensures same { IsPermutation corners.old.items corners.new.items }
-    ensures rise { OnOk result (RiseByCorner corners.new.items) }
+    ensures rise { RiseByCorner corners.new.items }
 {
-    corners.sort_by_key(|c| (c.y, c.x))?;
-    Ok(())
+    corners.sort_unstable_by_key(|c| (c.y, c.x));
 }
 
 /// The corners of all parts' slabs, by row and then by column.
@@ -81,7 +80,7 @@ pub fn corners(alloc: Global, parts: &[Slabs], kind: Kind) -> Result<Vec<Corner>
     for k in 0..parts.len() {
         add_corners(&mut found, parts[k].rects(), k as Id, kind)?;
     }
-    sort_by_corner(&mut found)?;
+    sort_by_corner(&mut found);
     Ok(found)
 }
 

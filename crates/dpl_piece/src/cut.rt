@@ -11,7 +11,7 @@ ghost use Rattle.dpl_piece.specs.Cutting.{rects_of_zones, AreFeatures, AreTheirZ
 
 use crate::matched::Pieces;
 use crate::owner::{keys_of, owners_of};
-use crate::rest::rest_of;
+use crate::rest::parts_of;
 use crate::side::sides_of;
 use dpl_base::Zone;
 use dpl_slabs::Parts;
@@ -25,9 +25,7 @@ pub fn pieces(alloc: Global, features: &Parts, zones: &[Zone]) -> Result<Pieces,
     ensures pieces { IfOk result (λ p. AreTheirPieces features.now zones.now p) }
 {
     let items = features.items();
-    let rest = rest_of(alloc, items, zones)?;
-    let parts = dpl_feature::features(alloc, &rest)?;
-    drop(rest);
+    let parts = parts_of(alloc, items, zones)?;
     let sides = sides_of(alloc, parts.items(), zones)?;
     let keys = keys_of(alloc, parts.items())?;
     let owner = owners_of(alloc, items, &keys, zones, &sides)?;

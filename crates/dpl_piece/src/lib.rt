@@ -4,10 +4,10 @@
 mod corner;
 mod cut;
 mod matched;
-mod merged;
 mod owner;
 mod rest;
 mod side;
+mod weave;
 
 pub use cut::pieces;
 pub use matched::Pieces;

@@ -14,7 +14,7 @@ use dpl_slabs::Slabs;
 use std::alloc::{AllocError, Global};
 
 /// The least square of a part that has some.
-fn key(part: &Slabs) -> Pt
+pub fn key(part: &Slabs) -> Pt
     requires { part.now ≢ [] }
     ensures { IsLeast (Covers part.now) result }
 {
@@ -29,7 +29,7 @@ pub fn keys_of(alloc: Global, parts: &[Slabs]) -> Result<Vec<Pt>, AllocError>
     requires { All (λ part. part ≢ []) parts.now }
     ensures { IfOk result (λ v. AllZip (λ part p. IsLeast (Covers part) p) parts.now v.items) }
 {
-    let mut keys = Vec::new(alloc);
+    let mut keys = Vec::with_capacity(alloc, parts.len())?;
     for k in 0..parts.len() {
         keys.push(key(&parts[k]))?;
     }
@@ -41,7 +41,7 @@ fn numbered(alloc: Global, points: &[Pt]) -> Result<Vec<Corner>, AllocError>
     ensures rise { IfOk result (λ v. RiseByCorner v.items) }
     ensures members { IfOk result (λ v. (c : Corner) → Contains v.items c ↔ IsNumbered points.now (length points.now) c) }
 {
-    let mut found = Vec::new(alloc);
+    let mut found = Vec::with_capacity(alloc, points.len())?;
     for k in 0..points.len() {
         let p = points[k];
         found.push(Corner {
@@ -50,7 +50,7 @@ fn numbered(alloc: Global, points: &[Pt]) -> Result<Vec<Corner>, AllocError>
             part: k as Id,
         })?;
     }
-    sort_by_corner(&mut found)?;
+    sort_by_corner(&mut found);
     Ok(found)
 }
 
@@ -70,7 +70,7 @@ fn wholes(alloc: Global, firsts: &[Corner], keys: &[Pt]) -> Result<Vec<Id>, Allo
     requires { RiseByCorner firsts.now }
     ensures { IfOk result (λ v. AllZip (IsWholeOrNone firsts.now) keys.now v.items) }
 {
-    let mut owners = Vec::new(alloc);
+    let mut owners = Vec::with_capacity(alloc, keys.len())?;
     for key in keys {
         owners.push(whole(firsts, key))?;
     }

@@ -1,18 +1,19 @@
 //! What zones leave of features.
-ghost use Rattle.std.specs.Prelude.{◌≡◌, ℕ, ◌<◌, ◌⊎◌, ◌↔◌, Bool, false, IsTrue, IfOk, OnOk, length, slice_index_or};
+ghost use Rattle.std.specs.Prelude.{◌≡◌, ℕ, ◌<◌, ◌⊎◌, ◌↔◌, false, true, IsTrue, IfOk, OnOk, length, slice_index_or};
 ghost use Rattle.std.specs.List.{All, Contains};
 ghost use Rattle.dpl_spec.specs.declared.Rect.{Rect};
 ghost use Rattle.dpl_spec.specs.Squares.{IsSolidWithin};
 ghost use Rattle.dpl_spec.specs.Slabs.{AreSlabsOf};
+ghost use Rattle.dpl_spec.specs.Components.{AreComponents};
 ghost use Rattle.dpl_spec.specs.Loops.{farthest, AreRectsWithin};
 ghost use Rattle.dpl_spec.specs.Pieces.{without};
 ghost use Rattle.dpl_slabs.specs.Parts.{union_of};
 ghost use Rattle.dpl_piece.specs.Cutting.{rects_of_zones, AreFeatures, AreTheirZones};
-ghost use Rattle.dpl_piece.specs.Merging.{HasZone, IsPicked};
+ghost use Rattle.dpl_piece.specs.Merging.{HasZone, IsPicked, MarkZoned, left_region};
 
-use crate::merged::{each_once, sort_slabs};
+use crate::weave::woven;
 use dpl_base::{Rect, Zone};
-use dpl_slabs::Slabs;
+use dpl_slabs::{Parts, Slabs};
 use std::alloc::{AllocError, Global};
 
 /// Marks the features that have a zone.
@@ -37,13 +38,6 @@ fn marks_of(alloc: Global, count: usize, zones: &[Zone]) -> Result<Vec<bool>, Al
     Ok(marks)
 }
 
-/// Whether the two are one.
-fn is_same(a: bool, b: bool) -> bool
-    ensures { IsTrue result ↔ (a ≡ b) }
-{
-    a == b
-}
-
 /// Adds the slabs of a part, where they are wanted.
 fn add_slabs(rects: &mut Vec<Rect>, part: &Slabs, is_wanted: bool) -> Result<(), AllocError>
     ensures { OnOk result ((r : Rect) → Contains rects.new.items r ↔ (Contains rects.old.items r ⊎ (IsTrue is_wanted × Contains part.now r))) }
@@ -55,19 +49,14 @@ fn add_slabs(rects: &mut Vec<Rect>, part: &Slabs, is_wanted: bool) -> Result<(),
     Ok(())
 }
 
-/// The slabs of the features with this mark.
-fn slabs_with(
-    alloc: Global,
-    features: &[Slabs],
-    marks: &[bool],
-    mark: bool,
-) -> Result<Vec<Rect>, AllocError>
+/// The slabs of the features that are marked.
+fn marked_slabs(alloc: Global, features: &[Slabs], marks: &[bool]) -> Result<Vec<Rect>, AllocError>
     requires { length marks.now ≡ length features.now }
-    ensures { IfOk result (λ v. (r : Rect) → Contains v.items r ↔ IsPicked features.now marks.now mark (length features.now) r) }
+    ensures { IfOk result (λ v. (r : Rect) → Contains v.items r ↔ IsPicked features.now marks.now true (length features.now) r) }
 {
     let mut rects = Vec::new(alloc);
     for k in 0..features.len() {
-        add_slabs(&mut rects, &features[k], is_same(marks[k], mark))?;
+        add_slabs(&mut rects, &features[k], marks[k])?;
     }
     Ok(rects)
 }
@@ -79,20 +68,35 @@ fn holes_of(alloc: Global, zones: &[Zone]) -> Result<Vec<Rect>, AllocError>
     zones.iter().map(|z| z.rect).collect(alloc)
 }
 
-/// The squares of the features that no zone has. Only the features that have a zone are cut anew.
-pub fn rest_of(alloc: Global, features: &[Slabs], zones: &[Zone]) -> Result<Slabs, AllocError>
+/// What the zones leave of the features that have one.
+fn left_of(
+    alloc: Global,
+    features: &[Slabs],
+    marks: &[bool],
+    zones: &[Zone],
+) -> Result<Slabs, AllocError>
+    requires marks { MarkZoned features.now zones.now marks.now }
+    requires features { All (AreRectsWithin farthest) features.now }
+    requires zones { All (λ z. IsSolidWithin farthest z.rect) zones.now }
+    ensures { IfOk result (λ s. AreSlabsOf (left_region features.now zones.now) s) }
+{
+    let cut = marked_slabs(alloc, features, marks)?;
+    let holes = holes_of(alloc, zones)?;
+    let left = Slabs::of_rects_without(alloc, &cut, &holes)?;
+    Ok(left)
+}
+
+/// The components of what the zones leave of the features. Only the features that have a zone are cut anew.
+pub fn parts_of(alloc: Global, features: &[Slabs], zones: &[Zone]) -> Result<Parts, AllocError>
     requires features { AreFeatures features.now }
     requires zones { AreTheirZones features.now zones.now }
     requires within { All (AreRectsWithin farthest) features.now }
-    ensures { IfOk result (λ s. AreSlabsOf (without (union_of features.now) zones.now) s) }
+    ensures { IfOk result (λ parts. AreComponents (without (union_of features.now) zones.now) parts) }
 {
     let marks = marks_of(alloc, features.len(), zones)?;
-    let cut = slabs_with(alloc, features, &marks, true)?;
-    let holes = holes_of(alloc, zones)?;
-    let left = Slabs::of_rects_without(alloc, &cut, &holes)?;
-    let mut all = slabs_with(alloc, features, &marks, false)?;
-    all.extend_from_slice(left.rects())?;
-    sort_slabs(&mut all)?;
-    let rest = each_once(alloc, &all)?;
-    Ok(Slabs::of_canonical(rest))
+    let left = left_of(alloc, features, &marks, zones)?;
+    let broken = dpl_feature::features(alloc, &left)?;
+    drop(left);
+    let parts = woven(alloc, features, &marks, broken.items())?;
+    Ok(Parts::of(parts))
 }

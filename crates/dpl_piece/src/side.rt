@@ -48,7 +48,7 @@ pub fn sides_of(alloc: Global, parts: &[Slabs], zones: &[Zone]) -> Result<Vec<(I
     let lower_left = corners(alloc, parts, Kind::LowerLeft)?;
     let lower_right = corners(alloc, parts, Kind::LowerRight)?;
     let upper_left = corners(alloc, parts, Kind::UpperLeft)?;
-    let mut found = Vec::new(alloc);
+    let mut found = Vec::with_capacity(alloc, zones.len())?;
     for z in zones {
         found.push(sides(&lower_left, &lower_right, &upper_left, &z.rect))?;
     }

@@ -1,11 +1,11 @@
 -- Search trees, grown from items.
-use Rattle.std.proofs.Common.{◌≡◌, ◌≢◌, ℕ, ◌+◌, ◌-◌, ◌<◌, ◌≤◌, ◌⊎◌, inl, inr, List, [], ◌∷◌, ◌++◌, length, get_or, set, take, drop, length-drop, sym, refl, ap, ◌∙◌, subst, arith}
+use Rattle.std.proofs.Common.{◌≡◌, ◌≢◌, ℕ, ◌+◌, ◌-◌, ◌*◌, ◌/◌, ◌<◌, ◌≤◌, ◌⊎◌, inl, inr, List, [], ◌∷◌, ◌++◌, length, get_or, set, take, drop, length-drop, sym, refl, ap, ◌∙◌, subst, arith}
 use Rattle.std.specs.Prelude.{◌↔◌}
 use Rattle.std.specs.List.{Contains}
 use Rattle.std.specs.List.Sorted.{IsPermutation}
 use Rattle.std.proofs.lemmas.Int.{ints}
 use Rattle.std.proofs.lemmas.Bool.{cases_eq, cases_lt}
-use Rattle.std.proofs.lemmas.List.{get_or_default, get_or_append_left, get_or_push, length_push, length-set, get_or-set_same, get_or-set_other, take-append-drop, take_all}
+use Rattle.std.proofs.lemmas.List.{get_or_default, get_or_append_left, get_or_push, length_push, length-set, get_or-set_same, get_or-set_other, take-append-drop, take_all, length-take-le, length-append}
 use Rattle.std.proofs.lemmas.List.Sorted.{IsPermutation-sym, Contains-permutation}
 use Rattle.std.proofs.lemmas.List.Elements.{Contains-append_left, Contains-append_right, Contains-append_cases}
 use Rattle.dpl_spec.specs.declared.Rect.{Rect}
@@ -13,7 +13,7 @@ use Rattle.dpl_tree.specs.declared.items.Item.{Item}
 use Rattle.dpl_tree.specs.declared.tree.Node.{Node}
 use Rattle.dpl_tree.specs.declared.tree.Owners.{Owners}
 use Rattle.dpl_tree.specs.declared.tree.Owners.TheVariants.{All, But, Only, Above}
-use Rattle.dpl_tree.specs.Trees.{IsTree, IsLeftOut, IsMissed, IsUnder, IsTreeFrom, IsLeaf, HasLeafFrom, HasLeaf, HasItem, IsGrown}
+use Rattle.dpl_tree.specs.Trees.{IsTree, IsLeftOut, IsMissed, IsUnder, IsTreeFrom, size_at, HasHalves, IsBalanced, IsBalancedFrom, IsLeaf, HasLeafFrom, HasLeaf, HasItem, IsGrown}
 
 pub under-self : (a : Node) → IsUnder a a
 under-self a =
@@ -52,6 +52,8 @@ grown-leaf old new leaf items t new_is one is l =
       longer = omega (arith, len);
       same = λ i d m. get_or_append_left old (leaf ∷ []) d i m;
       root = λ d. rw (here (length old) d refl) (let s = l.size in omega (arith, len, s));
+      count = omega (arith, len, one);
+      balanced = λ i d a b. inl (ap (λ u. let v : Node = u in v.size) (here i d (at i a b)) ∙ l.size);
       tree = record {
         some = λ i d a b. rw (here i d (at i a b)) (let s = l.size in omega (arith, s));
         ends = λ i d a b. rw (here i d (at i a b)) (let s = l.size in omega (arith, s, b));
@@ -79,10 +81,31 @@ grown-leaf old new leaf items t new_is one is l =
     at : (i : ℕ) → length old ≤ i → i < length (old ++ leaf ∷ []) → length old ≡ i
     at i a b = omega (arith, a, b, len)
 
+-- a node that has halves has them also where the nodes below it stay
+halves-same : (xs ys : List Node) (i : ℕ) (d : Node) (h : HasHalves xs i d) → length xs ≤ length ys → get_or ys i d ≡ get_or xs i d → get_or ys (i + 1) d ≡ get_or xs (i + 1) d → get_or ys h.second d ≡ get_or xs h.second d → HasHalves ys i d
+halves-same xs ys i d h longer here first second =
+    let inside = h.inside in
+    let here' : size_at ys i d ≡ size_at xs i d = ap (λ u. let v : Node = u in v.size) here in
+    let first' : size_at ys (i + 1) d ≡ size_at xs (i + 1) d = ap (λ u. let v : Node = u in v.size) first in
+    let second' : size_at ys h.second d ≡ size_at xs h.second d = ap (λ u. let v : Node = u in v.size) second in
+    let a = h.first_ends in
+    let b = h.second_ends in
+    let c = h.first_most in
+    let e = h.second_most in
+    record {
+      second = h.second;
+      inside = omega (arith, inside, longer);
+      some = h.some;
+      first_ends = omega (arith, first', a);
+      second_ends = omega (arith, second', here', b);
+      first_most = omega (arith, first', second', c);
+      second_most = omega (arith, first', second', e);
+    }
+
 module _ (old mid a b new : List Node) (x top : Node) (items left right : List Item)
     (mid_is : mid ≡ old ++ x ∷ []) (ga : IsGrown mid a left) (gb : IsGrown a b right)
     (under_a : (d : Node) → IsUnder (get_or b (length old + 1) d) top) (under_b : (d : Node) → IsUnder (get_or b (length a) d) top)
-    (size : length old + top.size ≡ length b) (new_is : new ≡ set b (length old) top) (split : left ++ right ≡ items) where
+    (size : length old + top.size ≡ length b) (new_is : new ≡ set b (length old) top) (split : left ++ right ≡ items) (less : length left ≤ length right) (most : length right ≤ length left + 1) where
   mid_len : length mid ≡ length old + 1
   mid_len = ap (λ u. let v : List Node = u in length v) mid_is ∙ length_push old x
 
@@ -208,6 +231,56 @@ module _ (old mid a b new : List Node) (x top : Node) (items left right : List I
     | inr h ↦ leaf_right r k (t, h, e, f)
   ]
 
+  a_longer : length a ≤ length new
+  a_longer = let l = longer_b in let n = new_len in omega (arith, l, n)
+
+  total : length left + length right ≡ length items
+  total = sym (length-append left right) ∙ ap (λ s. let t : List Item = s in length t) split
+
+  new_count : length new + 1 ≡ length old + 2 * length items
+  new_count = let p = ga.count in let q = gb.count in let m = mid_len in let n = new_len in let t = total in omega (arith, p, q, m, n, t)
+
+  top_halves : (d : Node) → HasHalves new (length old) d
+  top_halves d =
+      let p = ga.count in
+      let q = gb.count in
+      let m = mid_len in
+      let n = new_len in
+      let la = longer_a in
+      let lb = longer_b in
+      let ra = root_a d in
+      let rb = gb.root d in
+      let s = size in
+      let first : size_at new (length old + 1) d ≡ (get_or a (length old + 1) d).size = ap (λ u. let v : Node = u in v.size) (a_at (length old + 1) d (omega arith) (omega (arith, la, m))) in
+      let second : size_at new (length a) d ≡ (get_or b (length a) d).size = ap (λ u. let v : Node = u in v.size) (b_at (length a) d (omega arith)) in
+      let here : size_at new (length old) d ≡ top.size = ap (λ u. let v : Node = u in v.size) (new_top (length old) d refl) in
+      record {
+        second = length a;
+        inside = omega (arith, lb, n);
+        some = omega (arith, la, m);
+        first_ends = omega (arith, first, ra);
+        second_ends = omega (arith, second, rb, here, s);
+        first_most = omega (arith, first, second, ra, rb, p, q, m, less);
+        second_most = omega (arith, first, second, ra, rb, p, q, m, most);
+      }
+
+  balanced : IsBalancedFrom (length old) new
+  balanced i d l m = elim (place i l) [
+    | inl e ↦ inr (subst (λ k. HasHalves new k d) (sym e) (top_halves d))
+    | inr q ↦ elim q [
+      | inl (p, r) ↦ elim (ga.balanced i d (let e = mid_len in omega (arith, e, p)) r) [
+        | inl one ↦ inl (ap (λ u. let v : Node = u in v.size) (a_at i d p r) ∙ one)
+        | inr h ↦ inr (let some = h.some in let inside = h.inside in
+            halves-same a new i d h a_longer (a_at i d p r) (a_at (i + 1) d (omega (arith, p)) (omega (arith, some, inside))) (a_at h.second d (omega (arith, p, some)) inside))
+      ]
+      | inr p ↦ elim (gb.balanced i d p (let e = new_len in omega (arith, e, m))) [
+        | inl one ↦ inl (ap (λ u. let v : Node = u in v.size) (b_at i d p) ∙ one)
+        | inr h ↦ inr (let some = h.some in let n = new_len in
+            halves-same b new i d h (omega (arith, n)) (b_at i d p) (b_at (i + 1) d (omega (arith, p))) (b_at h.second d (omega (arith, p, some))))
+      ]
+    ]
+  ]
+
   pub grown-two : IsGrown old new items
   grown-two =
       record {
@@ -216,6 +289,8 @@ module _ (old mid a b new : List Node) (x top : Node) (items left right : List I
             new_at i d (omega (arith, l)) ∙ (gb.same i d (omega (arith, l, n, m)) ∙ (ga.same i d (omega (arith, l, n)) ∙ (ap (λ u. get_or u i d) mid_is ∙ get_or_append_left old (x ∷ []) d i l))));
         root = λ d. rw (new_top (length old) d refl) (let n = new_len in let s = size in omega (arith, n, s));
         tree = tree;
+        count = new_count;
+        balanced = balanced;
         leaves = λ r k. (leaf_down r k, leaf_up r k);
       }
 
@@ -224,6 +299,14 @@ under-index b i k x top is e k_in u d = subst (λ y. IsUnder y top) (is ∙ (ap 
 
 pub halves : (items : List Item) (h : ℕ) → take h items ++ take (length items - h) (drop h items) ≡ items
 halves items h = ap (λ s. take h items ++ s) (take_all (length items - h) (drop h items) (omega (arith, length-drop h items))) ∙ take-append-drop h items
+
+-- the first half has as many items as the second, or one less
+pub halves-even : (items : List Item) (h : ℕ) → h ≡ length items / 2 → (length (take h items) ≤ length (take (length items - h) (drop h items))) × (length (take (length items - h) (drop h items)) ≤ length (take h items) + 1)
+halves-even items h is =
+    let first : length (take h items) ≡ h = length-take-le h items (omega (arith, is)) in
+    let dropped : length (drop h items) ≡ length items - h = length-drop h items in
+    let second : length (take (length items - h) (drop h items)) ≡ length items - h = length-take-le (length items - h) (drop h items) (omega (arith, dropped)) in
+    (omega (arith, first, second, is), omega (arith, first, second, is))
 
 -- where a node is missed, so is each leaf below it
 pub missed-under : (window : Rect) (owners : Owners) (lower upper : Node) → IsUnder lower upper → lower.least ≡ lower.greatest → IsMissed window owners upper → IsMissed window owners lower
@@ -297,6 +380,9 @@ leaves-none items sorted same none r k = (
   λ (i, node, a, b, e, f). absurd (omega (arith, b)),
   λ (t, c, e, f). (let (i, i_in, i_is) = Contains-permutation items sorted t same c in absurd (omega (arith, none, i_in))),
 )
+
+pub balanced-none : IsBalanced []
+balanced-none i d a b = absurd (omega (arith, b))
 
 pub tree-none : IsTree []
 tree-none =

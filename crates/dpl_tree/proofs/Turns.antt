@@ -1,5 +1,5 @@
 -- Trees with x and y exchanged.
-use Rattle.std.proofs.Common.{◌≡◌, ℕ, zero, suc, ◌<◌, ◌≤◌, inl, inr, Bool, true, false, List, [], ◌∷◌, length, get_or, map, refl, sym, ap, ◌∙◌, subst, arith}
+use Rattle.std.proofs.Common.{◌≡◌, ℕ, zero, suc, ◌<◌, ◌≤◌, inl, inr, Bool, true, false, List, [], ◌∷◌, length, get_or, map, refl, arith}
 use Rattle.std.proofs.lemmas.List.{length-map}
 use Rattle.dpl_tree.specs.declared.tree.Node.{Node}
 use Rattle.dpl_spec.specs.declared.Rect.{Rect}

@@ -1,5 +1,5 @@
 -- Search trees over rectangles, as lists of nodes.
-use Rattle.std.specs.Prelude.{◌≡◌, ℕ, ◌+◌, ◌<◌, ◌≤◌, ◌⊎◌, ◌↔◌, ◌≤ℤ◌, Bool, true, false, List, [], length, map, slice_index_or}
+use Rattle.std.specs.Prelude.{◌≡◌, ℕ, ◌+◌, ◌*◌, ◌<◌, ◌≤◌, ◌⊎◌, ◌↔◌, ◌≤ℤ◌, Bool, true, false, List, [], length, map, slice_index_or}
 use Rattle.std.specs.List.{Contains}
 use Rattle.dpl_spec.specs.declared.Rect.{Rect}
 use Rattle.dpl_spec.specs.Zones.{turned_rect}
@@ -30,6 +30,26 @@ pub record IsTreeFrom (n : ℕ) (nodes : List Node) : Type 0 where
 abbrev pub IsTree : List Node → Type 0
 IsTree nodes = IsTreeFrom 0 nodes
 
+abbrev pub size_at : List Node → ℕ → Node → ℕ
+size_at nodes i d = (slice_index_or nodes i d).size
+
+-- the nodes below node i are those of two halves, one from number i + 1 on and one from number second on, whose sizes differ by at most 2
+pub record HasHalves (nodes : List Node) (i : ℕ) (d : Node) : Type 0 where
+  pub second : ℕ
+  pub inside : second < length nodes
+  pub some : i + 1 < second
+  pub first_ends : (i + 1) + size_at nodes (i + 1) d ≡ second
+  pub second_ends : second + size_at nodes second d ≡ i + size_at nodes i d
+  pub first_most : size_at nodes (i + 1) d ≤ size_at nodes second d
+  pub second_most : size_at nodes second d ≤ size_at nodes (i + 1) d + 2
+
+-- each node from number n on is a leaf or has two halves: a search goes down at most as often as the number of leaves can be halved
+abbrev pub IsBalancedFrom : ℕ → List Node → Type 0
+IsBalancedFrom n nodes = (i : ℕ) (d : Node) → n ≤ i → i < length nodes → (size_at nodes i d ≡ 1) ⊎ HasHalves nodes i d
+
+abbrev pub IsBalanced : List Node → Type 0
+IsBalanced nodes = IsBalancedFrom 0 nodes
+
 -- the node of the rectangle of an owner
 pub record IsLeaf (node : Node) (r : Rect) (k : ℕ) : Type 0 where
   pub size : node.size ≡ 1
@@ -53,6 +73,8 @@ pub record IsGrown (old new : List Node) (items : List Item) : Type 0 where
   pub same : (i : ℕ) (d : Node) → i < length old → slice_index_or new i d ≡ slice_index_or old i d
   pub root : (d : Node) → length old + (slice_index_or new (length old) d).size ≡ length new
   pub tree : IsTreeFrom (length old) new
+  pub count : length new + 1 ≡ length old + 2 * length items
+  pub balanced : IsBalancedFrom (length old) new
   pub leaves : (r : Rect) (k : ℕ) → HasLeafFrom (length old) new r k ↔ HasItem items r k
 
 -- no square in common with the window

@@ -1,7 +1,7 @@
 //! Grows a tree from its items: each node stands before the nodes below it.
 ghost use Rattle.std.specs.Prelude.{◌≡◌, ℕ, ◌+◌, ◌<◌, ◌≤ℤ◌, ◌↔◌, IfOk, OnOk, length};
 ghost use Rattle.dpl_spec.specs.declared.Rect.{Rect};
-ghost use Rattle.dpl_tree.specs.Trees.{IsUnder, IsTree, IsLeaf, HasLeaf, HasItem, IsGrown};
+ghost use Rattle.dpl_tree.specs.Trees.{IsUnder, IsTree, IsBalanced, IsLeaf, HasLeaf, HasItem, IsGrown};
 
 use crate::items::Item;
 use crate::tree::Node;
@@ -77,13 +77,15 @@ fn add_items(nodes: &mut Vec<Node>, items: &[Item]) -> Result<(), AllocError>
 /// The nodes of the tree of some items.
 pub fn tree_of(alloc: Global, mut items: Vec<Item>) -> Result<Vec<Node>, AllocError>
     ensures tree { IfOk result (λ v. IsTree v.items) }
+    ensures balanced { IfOk result (λ v. IsBalanced v.items) }
     ensures leaves { IfOk result (λ v. (r : Rect) (k : ℕ) → HasLeaf v.items r k ↔ HasItem items.items r k) }
 {
-    items.sort_unstable_by_key(|t| t.place);
-    let mut nodes = Vec::new(alloc);
     if items.is_empty() {
-        return Ok(nodes);
+        return Ok(Vec::new(alloc));
     }
+    items.sort_unstable_by_key(|t| t.place);
+    let count = items.len().saturating_mul(2) - 1;
+    let mut nodes = Vec::with_capacity(alloc, count)?;
     add_items(&mut nodes, &items)?;
     Ok(nodes)
 }

@@ -2,7 +2,7 @@
 ghost use Rattle.std.specs.Prelude.{◌≡◌, ◌≢◌, ℕ, ◌<◌, ◌≤◌, ◌⊎◌, ◌↔◌, IsTrue, IfOk, length, slice_index_or};
 ghost use Rattle.dpl_spec.specs.declared.Rect.{Rect};
 ghost use Rattle.dpl_tree.specs.declared.tree.Node.{Node};
-ghost use Rattle.dpl_tree.specs.Trees.{IsTree, HasLeaf, HasItem, AreLeavesOf, LiesApart, IsLeftOut, IsMissed};
+ghost use Rattle.dpl_tree.specs.Trees.{IsTree, IsBalanced, HasLeaf, HasItem, AreLeavesOf, LiesApart, IsLeftOut, IsMissed};
 
 use crate::grow::tree_of;
 use crate::items::{Item, items_of};
@@ -118,13 +118,13 @@ pub struct Tree {
 impl Model for Tree {
     ghost use Rattle.std.specs.Prelude.{List};
     ghost use Rattle.dpl_tree.specs.declared.tree.Node.{Node};
-    ghost use Rattle.dpl_tree.specs.Trees.{IsTree};
+    ghost use Rattle.dpl_tree.specs.Trees.{IsTree, IsBalanced};
 
     ghost Value = { List Node };
 
     ghost view = { λ t. t.nodes.items };
 
-    ghost invariant = { λ t. IsTree t.nodes.items };
+    ghost invariant = { λ t. IsTree t.nodes.items × IsBalanced t.nodes.items };
 }
 
 impl Tree {
@@ -149,6 +149,7 @@ impl Tree {
     pub fn nodes(&self) -> &[Node]
         ensures value { result.now ≡ self.now }
         ensures tree { IsTree self.now }
+        ensures balanced { IsBalanced self.now }
     {
         self.nodes.as_slice()
     }

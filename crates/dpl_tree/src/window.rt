@@ -1,13 +1,12 @@
 //! Windows of a search.
-ghost use Rattle.dpl_spec.specs.Loops.{farthest};
-ghost use Rattle.dpl_spec.specs.Squares.{IsSolidWithin};
+ghost use Rattle.dpl_spec.specs.Loops.{IsRectWithin, farthest};
 ghost use Rattle.dpl_tree.specs.Windows.{IsWidened};
 
 use dpl_base::Rect;
 
 /// The rectangle with `by` columns and rows more on each side, in database units.
 pub fn widened(r: &Rect, by: u32) -> Rect
-    requires { IsSolidWithin farthest r.now }
+    requires { IsRectWithin farthest r.now }
     ensures { IsWidened r.now by result }
 {
     Rect {

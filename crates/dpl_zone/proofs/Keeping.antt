@@ -152,6 +152,13 @@ kept-more flat zs i z old new i_in is before step w = (
 pub kept-none : (flat zs kept : List Rect) → kept ≡ flat → (w : Rect) → Contains kept w ↔ (Contains flat w ⊎ KeptOf flat zs 0 w)
 kept-none flat zs kept is w = rw is ((λ h. inl h), (λ h. elim h [ inl a ↦ a | inr (k, l, k_in, k_is, f) ↦ absurd (omega (arith, l)) ]))
 
+-- where there is no horizontal zone, all vertical ones are kept
+pub kept-no_flat : (flat zs : List Rect) → length flat ≡ 0 → (w : Rect) → Contains zs w ↔ (Contains flat w ⊎ KeptOf flat zs (length zs) w)
+kept-no_flat flat zs none w = (
+  λ (k, k_in, k_is). inr (k, k_in, k_in, k_is, λ (i, h, i_in, i_is, touch). omega (arith, i_in, none)),
+  λ h. elim h [ inl (i, i_in, i_is) ↦ absurd (omega (arith, i_in, none)) | inr (k, l, k_in, k_is, f) ↦ (k, k_in, k_is) ],
+)
+
 pub kept-all : (rule overlap : ℕ) (l f : Region) (flat zs kept : List Rect) (n : ℕ) → length zs ≤ n
     → ((z : Rect) → Contains flat z ↔ IsHorizontalZone rule overlap l f z) → ((z : Rect) → Contains zs z ↔ IsVerticalZone rule overlap l f z)
     → ((w : Rect) → Contains kept w ↔ (Contains flat w ⊎ KeptOf flat zs n w)) → (z : Rect) → Contains kept z ↔ IsKeptZone rule overlap l f z

@@ -1,5 +1,5 @@
 -- A feature of one slab that no other comes near has no zone.
-use Rattle.std.proofs.Common.{◌≡◌, ℕ, ◌+◌, ◌*◌, ◌<◌, ◌≤◌, ◌⊎◌, inl, inr, List, [], length, get_or, sym, ap, ◌∙◌, subst, arith}
+use Rattle.std.proofs.Common.{◌≡◌, ℕ, ◌*◌, ◌≤◌, inl, inr, List, [], length, get_or, sym, ap, ◌∙◌, subst, arith}
 use Rattle.std.specs.Prelude.{ℤ, pos, ◌-ℤ◌, ◌≤ℤ◌, ◌<ℤ◌, ◌↔◌}
 use Rattle.std.specs.List.{Contains}
 use Rattle.std.proofs.lemmas.Int.{ints}
@@ -7,7 +7,7 @@ use Rattle.std.proofs.lemmas.Bool.{cases_lt}
 use Rattle.dpl_spec.specs.declared.Pt.{Pt}
 use Rattle.dpl_spec.specs.declared.Rect.{Rect}
 use Rattle.dpl_spec.specs.Squares.{Region, SameSquares, Has, Covers, d2}
-use Rattle.dpl_spec.specs.Zones.{at, IsClearRun, IsHorizontalZone, IsKeptZone, turned, turned_rect}
+use Rattle.dpl_spec.specs.Zones.{at, IsHorizontalZone, IsKeptZone, turned, turned_rect}
 use Rattle.dpl_zone.specs.Rows.{IsDark, layer_of}
 use Rattle.dpl_zone.proofs.Sides.{squares-turned}
 

@@ -78,6 +78,12 @@ pub fn kept_zones(
     }
     let flat = flat_zones(alloc, part, across, own, rule, overlap)?;
     let upright = upright_zones(alloc, part.rects(), tree, own, rule, overlap)?;
+    if flat.is_empty() {
+        return Ok(upright);
+    }
+    if upright.is_empty() {
+        return Ok(flat);
+    }
     let flat_tree = tree_of_zones(alloc, &flat)?;
     let flat_view = View::of(&flat_tree);
     let mut kept = flat;

@@ -115,7 +115,7 @@ pub fn shadows(
     ensures rows { IfOk result (λ v. (y : ℤ) → slab.now.y0 ≤ℤ y → y <ℤ slab.now.y1 → SomeRow v.items y ↔ IsDark rule (others_in tree.now own) slab.now y) }
 {
     let mut spans = gather(alloc, tree, own, slab, rule)?;
-    spans.sort_by_key(|s| s.from)?;
+    spans.sort_unstable_by_key(|s| s.from);
     Ok(spans)
 }
 

@@ -8,4 +8,4 @@ use Rattle.dpl_piece.proofs.corner.sort_by_corner.Goals as goal
 pub returns-clause-rise : goal.returns-clause-rise
 returns-clause-rise c =
     let key : Corner → ℤ × ℤ = λ e. (e.y, e.x) in
-    pairs-rise key _ (c.in_ok-sort_by_key.ensures.sorted key (answers_always _ _ _ (λ f a r g q. search rules)))
+    pairs-rise key _ (c.sort_unstable_by_key.ensures.sorted key (answers_always _ _ _ (λ f a r g q. search rules)))

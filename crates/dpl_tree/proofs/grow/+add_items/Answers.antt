@@ -1,8 +1,8 @@
-use Rattle.std.proofs.Common.{◌≡◌, ◌+◌, length, get_or, set, ap, arith, rules}
+use Rattle.std.proofs.Common.{◌≡◌, ◌+◌, ◌/◌, length, get_or, set, ap, refl, arith, rules}
 use Rattle.std.specs.Prelude.{pos}
 use Rattle.std.proofs.lemmas.List.{get_or_default}
 use Rattle.dpl_tree.specs.declared.items.Item.{Item}
-use Rattle.dpl_tree.proofs.TreeLaws.{grown-leaf, grown-two, under-index, halves}
+use Rattle.dpl_tree.proofs.TreeLaws.{grown-leaf, grown-two, under-index, halves, halves-even}
 use Rattle.dpl_tree.proofs.grow.+add_items.Goals as goal
 
 abbrev zero_item : Item
@@ -20,9 +20,10 @@ returns t c =
     let size : length c.args.nodes.now.items + c.over.result.size ≡ length c.add_items-2.new.nodes.items = omega (arith, n, c.in_ok-add_items.ensures.longer, c.in_ok-add_items-2.ensures.longer) in
     let longer = c.in_ok-add_items.ensures.longer in
     let longer' = c.in_ok-add_items-2.ensures.longer in
+    let even = halves-even c.args.items.now (length c.args.items.now / 2) refl in
     let pushed : length c.push.new.self.items ≡ length c.args.nodes.now.items + 1 = search rules in
     grown-two c.args.nodes.now.items c.push.new.self.items c.add_items.new.nodes.items c.add_items-2.new.nodes.items _ c.leaf.result c.over.result c.args.items.now _ _
     c.in_ok-push.ensures.items c.in_ok-add_items.ensures c.in_ok-add_items-2.ensures
     (under-index c.add_items-2.new.nodes.items _ _ _ c.over.result c.index.ensures (omega (arith, n)) (omega (arith, longer, longer', pushed)) c.over.ensures.first)
     (under-index c.add_items-2.new.nodes.items _ _ _ c.over.result c.index-2.ensures m longer' c.over.ensures.second)
-    size (ap (λ k. set c.add_items-2.new.nodes.items k c.over.result) n) (halves c.args.items.now _)
+    size (ap (λ k. set c.add_items-2.new.nodes.items k c.over.result) n) (halves c.args.items.now _) even.0 even.1

@@ -1,4 +1,4 @@
-use Rattle.std.proofs.Common.{[], refl, arith}
+use Rattle.std.proofs.Common.{[], refl}
 use Rattle.dpl_zone.proofs.Shades.{gather-none, gather-all, no-row}
 use Rattle.dpl_zone.proofs.rows.is_free.Goals as goal
 
