@@ -6,8 +6,6 @@ mod distinct;
 mod fault;
 mod headings;
 mod straight;
-#[cfg(test)]
-mod tests;
 
 ghost use Rattle.std.specs.Prelude.{◌≡◌, ◌^◌, ◌≤◌, ◌↔◌, ℤ, unsigned_abs, map, IfOk, IfErr, OnOk, MatchBool};
 ghost use Rattle.std.specs.List.{All};
