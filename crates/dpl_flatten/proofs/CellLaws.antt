@@ -20,13 +20,14 @@ use Rattle.dpl_layout.specs.Structures.{target_of}
 use Rattle.dpl_links.specs.Graph.{IsMarked}
 use Rattle.dpl_links.proofs.SpreadLaws.{marked_below}
 use Rattle.dpl_links.proofs.TakeLaws.{Contains-take_more, Contains-take_keeps, Contains-take_last}
-use Rattle.dpl_flatten.specs.declared.cells.Outline.{Outline}
-use Rattle.dpl_flatten.specs.declared.cells.Copies.{Copies}
-use Rattle.dpl_flatten.specs.declared.cells.Cell.{Cell}
+use Rattle.dpl_walk.specs.declared.cells.Outline.{Outline}
+use Rattle.dpl_walk.specs.declared.cells.Copies.{Copies}
+use Rattle.dpl_walk.specs.declared.cells.Cell.{Cell}
 use Rattle.dpl_flatten.specs.Totals.{IsBare}
-use Rattle.dpl_flatten.specs.Cells.{AreCopies, IsReady, IsDrawn, IsPlaced, IsCell, IsCopied, IsNoted, AreBareTargets, AreTaken}
-use Rattle.dpl_flatten.specs.Walk.{AreCells, outlines_at, copies_at, outlines_or_none, copies_or_none}
-use Rattle.dpl_flatten.proofs.ListLaws.{Contains-map, Contains-map_cases}
+use Rattle.dpl_flatten.specs.Cells.{AreCopies, IsDrawn, IsPlaced, IsCell, IsCopied, IsNoted, AreBareTargets, AreTaken, AreCells}
+use Rattle.dpl_walk.specs.Cells.{IsReady}
+use Rattle.dpl_walk.specs.Walk.{outlines_at, copies_at, outlines_or_none, copies_or_none}
+use Rattle.dpl_walk.proofs.ListLaws.{Contains-map, Contains-map_cases}
 use Rattle.dpl_flatten.proofs.LeastLaws.{seen_at, seen_length}
 
 pub cell_none : (lib : Library) (layer : Layer) → IsCell lib layer [] [] []
@@ -44,7 +45,7 @@ copies_kept : (lib : Library) (totals : List ℕ) (e : Element) (old new : List 
 copies_kept lib totals e old new n c h =
     ⊎_elim (λ a. rw a.0 h) (λ b. ⊎_elim (λ a. rw a.0 h) (λ a. rw a.1 (Contains-append_left old (a.0 ∷ []) c h)) b) n
 
-copies_cases : (lib : Library) (totals : List ℕ) (e : Element) (old new : List Copies) → IsCopied lib totals e old new → (c : Copies) → Contains new c → Contains old c ⊎ ((target_of lib e ≡ Some c.target) × AreCopies e.body c × IsReady c)
+copies_cases : (lib : Library) (totals : List ℕ) (e : Element) (old new : List Copies) → IsCopied lib totals e old new → (c : Copies) → Contains new c → Contains old c ⊎ ((target_of lib e ≡ Some c.target) × AreCopies e.body c × IsReady (2 ^ 31) c)
 copies_cases lib totals e old new n c h =
     ⊎_elim (λ a. inl (rw a.0 at h))
     (λ b. ⊎_elim (λ a. inl (rw a.0 at h)) (λ a. ⊎_elim (λ x. inl x) (λ (w : a.0 ≡ c). inr (rw (← w) a.2, rw (← w) a.3, rw (← w) a.4)) (Contains-push_cases old a.0 c (rw a.1 at h))) b)

@@ -16,7 +16,7 @@ use Rattle.dpl_format.specs.Tree.{Library, Element, elements_at}
 use Rattle.dpl_syntax.specs.declared.element.Element.{Element as Found}
 use Rattle.dpl_syntax.specs.Elements.{element_seen}
 use Rattle.dpl_layout.specs.declared.FlattenFault.{FlattenFault}
-use Rattle.dpl_flatten.proofs.ListLaws.{Contains-map}
+use Rattle.dpl_walk.proofs.ListLaws.{Contains-map}
 use Rattle.std.specs.Prelude.{Option, Some, None, unwrap_or}
 use Rattle.dpl_format.specs.Tree.{Aref, Path, is_aref, is_path}
 use Rattle.dpl_layout.specs.declared.Layer.{Layer}

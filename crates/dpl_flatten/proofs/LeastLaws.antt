@@ -9,7 +9,8 @@ use Rattle.dpl_syntax.specs.Elements.{element_seen}
 use Rattle.dpl_layout.specs.Faults.{Finding}
 use Rattle.dpl_links.proofs.TakeLaws.{Contains-take_more, Contains-take_keeps, Contains-take_last}
 use Rattle.dpl_spec.proofs.Ordered.{Contains-nil}
-use Rattle.dpl_flatten.specs.Least.{IsLeastOf, IsNoted, earlier, Among, AmongMarked}
+use Rattle.dpl_flatten.specs.Least.{IsLeastOf, IsNoted, Among, AmongMarked}
+use Rattle.dpl_walk.specs.Least.{earlier}
 
 -- what holds of the elements of either part holds of the whole
 pub least_join : (S T U : Finding) (a b : Option ℕ) → IsLeastOf S a → IsLeastOf T b → ((k : ℕ) (e : Element) → U k e → S k e ⊎ T k e) → ((k : ℕ) (e : Element) → S k e → U k e) → ((k : ℕ) (e : Element) → T k e → U k e) → IsLeastOf U (earlier a b)

@@ -1,4 +1,3 @@
-pub mod ListLaws
 pub mod LinkLaws
 pub mod LeastLaws
 pub mod ReachLaws
@@ -6,9 +5,6 @@ pub mod TotalLaws
 pub mod DrawnLaws
 pub mod FoundLaws
 pub mod CopyLaws
-pub mod WalkLaws
-pub mod StackLaws
-pub mod LeftLaws
 pub mod NearLaws
 pub mod BareLaws
 pub mod CellLaws

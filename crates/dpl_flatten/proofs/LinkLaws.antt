@@ -12,7 +12,7 @@ use Rattle.std.specs.Option.{option_and_then}
 use Rattle.std.specs.Cmp.Lexicographic.{pointwise}
 use Rattle.std.proofs.lemmas.List.Quantifiers.{position-Some}
 use Rattle.dpl_spec.proofs.Ordered.{Contains-head, Contains-nil}
-use Rattle.dpl_flatten.proofs.ListLaws.{Contains-map, Contains-map_cases, Contains-option, Contains-the_option}
+use Rattle.dpl_walk.proofs.ListLaws.{Contains-map, Contains-map_cases, Contains-option, Contains-the_option}
 use Rattle.dpl_format.specs.Tree.{Library, elements_at, elements_or_none}
 use Rattle.dpl_syntax.specs.declared.element.Element.{Element}
 use Rattle.dpl_syntax.specs.Elements.{element_seen, IsSized}

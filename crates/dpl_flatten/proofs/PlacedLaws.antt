@@ -1,5 +1,5 @@
 -- What the walk over cells shows is what the placements of the layout draw.
-use Rattle.std.proofs.Common.{◌≡◌, ℕ, ◌<◌, ◌⊎◌, inl, inr, ⊎_elim, Bool, true, false, ℤ, pos, ◌+ℤ◌, ◌*ℤ◌, List, [], ◌∷◌, Option, Some, None, map, length, get_or, refl, sym, ap, ◌∙◌, arith}
+use Rattle.std.proofs.Common.{◌≡◌, ℕ, ◌<◌, ◌≤◌, ◌^◌, ◌⊎◌, inl, inr, ⊎_elim, Bool, true, false, cond, ℤ, pos, ◌+ℤ◌, ◌*ℤ◌, List, [], ◌∷◌, Option, Some, None, map, length, get_or, refl, sym, ap, ◌∙◌, arith}
 use Rattle.std.specs.List.{Contains}
 use Rattle.std.proofs.lemmas.Int.{ints}
 use Rattle.std.proofs.lemmas.List.Elements.{Contains-get_or}
@@ -14,15 +14,16 @@ use Rattle.dpl_layout.specs.Placements.{Step, IsStep, Leads, IsPlacement, placed
 use Rattle.dpl_links.specs.Graph.{IsMarked, AreReached}
 use Rattle.dpl_layout.specs.Faults.{IsNowhere, IsRefused}
 use Rattle.dpl_flatten.proofs.ReachLaws.{reaches_in_layout}
-use Rattle.dpl_flatten.specs.declared.cells.Outline.{Outline}
-use Rattle.dpl_flatten.specs.declared.cells.Copies.{Copies}
-use Rattle.dpl_flatten.specs.declared.cells.Cell.{Cell}
+use Rattle.dpl_walk.specs.declared.cells.Outline.{Outline}
+use Rattle.dpl_walk.specs.declared.cells.Copies.{Copies}
+use Rattle.dpl_walk.specs.declared.cells.Cell.{Cell}
 use Rattle.dpl_flatten.specs.Links.{IsLinked, IsOrdered}
-use Rattle.dpl_flatten.specs.Cells.{copy_motion, AreCopies, AreBareTargets, AreTaken}
+use Rattle.dpl_walk.specs.Cells.{copy_motion}
+use Rattle.dpl_flatten.specs.Cells.{AreCopies, AreBareTargets, AreTaken, AreCells}
 use Rattle.dpl_flatten.specs.Totals.{AreTotals}
-use Rattle.dpl_flatten.specs.Walk.{Pass, Passes, through, IsShown, AreCells, AreKnown, AreDeep, outlines_at, copies_at}
+use Rattle.dpl_walk.specs.Walk.{Pass, Passes, through, IsShown, AreKnown, AreDeep, outlines_at, copies_at}
 use Rattle.dpl_flatten.proofs.LinkLaws.{target_known}
-use Rattle.dpl_flatten.proofs.StackLaws.{shown_by, shown_below}
+use Rattle.dpl_walk.proofs.StackLaws.{shown_by, shown_below}
 
 -- A loop of an element, where steps lead to it from structure k, which is placed by f.
 abbrev pub IsOfPlacement : Library → Layer → ℕ → (Pt → Pt) → List Pt → ℕ → Type 0
@@ -44,6 +45,10 @@ same_motion m n a b c d = λ i. record { reflect = a i; turns = b i; dx = c i; d
 
 one_copy : (b : Body) (i j : ℕ) (m n : Motion) → IsCopyMotion b i j m → IsCopyMotion b i j n → m ≡ n
 one_copy b i j m n x y = same_motion m n (x.reflect ∙ sym y.reflect) (turns_same _ m.turns n.turns x.turns y.turns) (x.x ∙ sym y.x) (x.y ∙ sym y.y)
+
+low : (b : Bool) (n m : ℕ) → (b ≡ true → n ≤ m) → cond b n 0 ≤ m
+low true n m h = h refl
+low false n m h = omega arith
 
 marked_or : (b : Bool) → (b ≡ true) ⊎ (b ≡ true → ⊥)
 marked_or true = inl refl
@@ -78,7 +83,7 @@ module _ (lib : Library) (layer : Layer) (graph : List (List ℕ)) (marks : List
       (shown_by cells d.0 x.0.target (λ p. f (image s.motion p)) (λ p. f (image (copy_motion x.0 s.column s.row) p)) (map (λ p. f (placed (s ∷ ss) p)) qs) e.at (sym x.2) (λ p. ap (λ (n : Motion). f (image n p)) same) r))
       ((are.marked k m).copied s.element d.0 d.1.inside d.1.target)
 
-  pub cells_known : AreKnown cells
+  pub cells_known : AreKnown (2 ^ 31) cells
   cells_known = record {
     targets = λ k c h. ⊎_elim (λ m. let p = (are.marked k m).placed c h in let t = target_known lib p.0 c.target p.2 in omega (arith, t, are.each)) (λ n. absurd (Contains-nil c (rw ((are.unmarked k n).0) at h))) (marked_or (get_or marks k false));
     ready = λ k c h. ⊎_elim (λ m. (are.marked k m).ready c h) (λ n. absurd (Contains-nil c (rw ((are.unmarked k n).0) at h))) (marked_or (get_or marks k false));
@@ -86,12 +91,20 @@ module _ (lib : Library) (layer : Layer) (graph : List (List ℕ)) (marks : List
   }
 
   -- copies lead to lower levels
-  pub cells_deep : (top : ℕ) (levels vertices : List ℕ) → IsMarked marks top → IsOrdered lib graph marks levels vertices → AreDeep cells top
-  cells_deep top levels vertices m o = record {
-    level = λ k. get_or levels k 0;
-    falls = λ k c h. ⊎_elim (λ m. let p = (are.marked k m).placed c h in o.falls k c.target m (links.graph_of.refers k c.target (p.0, p.1, p.2))) (λ n. absurd (Contains-nil c (rw ((are.unmarked k n).0) at h))) (marked_or (get_or marks k false));
-    few = let l = (o.placed top m).inside in omega (arith, l, o.few, are.each);
+  pub cells_deep : (levels vertices : List ℕ) → IsOrdered lib graph marks levels vertices → AreDeep cells
+  cells_deep levels vertices o = record {
+    level = λ k. cond (get_or marks k false) (get_or levels k 0) 0;
+    falls = λ k c h. ⊎_elim (λ m. below k c h m) (λ n. absurd (Contains-nil c (rw ((are.unmarked k n).0) at h))) (marked_or (get_or marks k false));
+    few = λ k. low (get_or marks k false) (get_or levels k 0) (length cells) (λ m. let l = (o.placed k m).inside in omega (arith, l, o.few, are.each));
   }
+    where
+      below : (k : ℕ) (c : Copies) → Contains (copies_at cells k) c → IsMarked marks k → cond (get_or marks c.target false) (get_or levels c.target 0) 0 < cond (get_or marks k false) (get_or levels k 0) 0
+      below k c h m =
+          let p = (are.marked k m).placed c h in
+          let edge = links.graph_of.refers k c.target (p.0, p.1, p.2) in
+          let there : get_or marks c.target false ≡ true = links.closed k c.target m edge in
+          let here : get_or marks k false ≡ true = m in
+          rw (here, there) (o.falls k c.target m edge)
 
 pub bare_targets : (lib : Library) (layer : Layer) (graph : List (List ℕ)) (marks : List Bool) (totals : List ℕ) → IsLinked lib graph marks → AreTotals lib layer marks totals → (k : ℕ) → IsMarked marks k → AreBareTargets lib layer totals (elements_at lib k)
 bare_targets lib layer graph marks totals links t k m e j c target none = t.bare j (links.closed k j m (links.graph_of.refers k j (e, c, target))) none

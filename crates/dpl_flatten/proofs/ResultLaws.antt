@@ -14,12 +14,13 @@ use Rattle.dpl_layout.specs.Structures.{Reaches, here, on}
 use Rattle.dpl_layout.specs.Placements.{Step, Leads, IsPlacement, placed, IsInLayer}
 use Rattle.dpl_layout.specs.Faults.{IsFound, IsOut, IsNowhere, IsFirst}
 use Rattle.dpl_links.specs.Graph.{IsMarked}
-use Rattle.dpl_flatten.specs.declared.cells.Cell.{Cell}
+use Rattle.dpl_walk.specs.declared.cells.Cell.{Cell}
 use Rattle.dpl_flatten.specs.Links.{IsLinked}
-use Rattle.dpl_flatten.specs.Cells.{copy_motion}
-use Rattle.dpl_flatten.specs.Least.{IsAtMost}
-use Rattle.dpl_flatten.specs.Walk.{Pass, Passes, through, IsShown, AreCells, IsWalk}
-use Rattle.dpl_flatten.proofs.ListLaws.{Contains-map, Contains-map_cases}
+use Rattle.dpl_walk.specs.Cells.{copy_motion}
+use Rattle.dpl_walk.specs.Least.{IsAtMost}
+use Rattle.dpl_walk.specs.Walk.{Pass, Passes, through, IsShown, IsWalk}
+use Rattle.dpl_flatten.specs.Cells.{AreCells}
+use Rattle.dpl_walk.proofs.ListLaws.{Contains-map, Contains-map_cases}
 use Rattle.dpl_flatten.proofs.PlacedLaws.{IsOfPlacement, to_layout, from_layout}
 
 -- ---- edges stay parallel to the axes

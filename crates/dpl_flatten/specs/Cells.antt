@@ -1,27 +1,21 @@
 -- What one structure draws, and the copies that it places.
-use Rattle.std.specs.Prelude.{◌≡◌, ℕ, ◌<◌, ◌⊎◌, ℤ, pos, ◌+ℤ◌, ◌-ℤ◌, ◌*ℤ◌, int_div, ◌*◌, ◌^◌, ◌≤◌, unsigned_abs, slice_index, ◌++◌, ◌∷◌, [], map, List, Some, None}
+use Rattle.std.specs.Prelude.{◌≡◌, ℕ, ◌<◌, ◌⊎◌, Bool, ℤ, pos, ◌-ℤ◌, int_div, ◌^◌, unsigned_abs, slice_index, ◌++◌, ◌∷◌, [], map, length, List, Some, None}
 use Rattle.std.specs.List.{All, Contains}
 use Rattle.dpl_spec.specs.declared.Pt.{Pt}
-use Rattle.dpl_spec.specs.Loops.{IsRectilinear, IsPointWithin, ArePointsWithin, AreLoopsWithin}
-use Rattle.dpl_elements.specs.Motions.{Motion}
-use Rattle.dpl_format.specs.Tree.{Library, Body, Trans, Element}
+use Rattle.dpl_spec.specs.Loops.{IsRectilinear, ArePointsWithin, AreLoopsWithin}
+use Rattle.dpl_format.specs.Tree.{Library, Body, Trans, Element, elements_at}
 use Rattle.dpl_layout.specs.declared.Layer.{Layer}
 use Rattle.dpl_layout.specs.declared.ElementFault.{ElementFault}
 use Rattle.dpl_layout.specs.Elements.{loops_of, point_in, columns_of, rows_of, IsCopyMotion, reflects, AreTurns, IsRefusedFor}
 use Rattle.dpl_layout.specs.Structures.{target_of}
 use Rattle.dpl_flatten.specs.Totals.{IsBare}
 use Rattle.dpl_flatten.specs.declared.copies.Turn.{Turn}
-use Rattle.dpl_flatten.specs.declared.cells.Outline.{Outline}
-use Rattle.dpl_flatten.specs.declared.cells.Copies.{Copies}
-
--- the motion of copy (i, j)
-abbrev pub copy_motion : Copies → ℕ → ℕ → Motion
-copy_motion c i j = record {
-  reflect = c.reflect;
-  turns = c.turns;
-  dx = (c.origin.x +ℤ (pos i *ℤ c.across.x)) +ℤ (pos j *ℤ c.up.x);
-  dy = (c.origin.y +ℤ (pos i *ℤ c.across.y)) +ℤ (pos j *ℤ c.up.y);
-}
+use Rattle.dpl_walk.specs.declared.cells.Outline.{Outline}
+use Rattle.dpl_walk.specs.declared.cells.Copies.{Copies}
+use Rattle.dpl_walk.specs.declared.cells.Cell.{Cell}
+use Rattle.dpl_walk.specs.Cells.{copy_motion, IsSmallCopies, IsReady}
+use Rattle.dpl_walk.specs.Walk.{outlines_at, copies_at}
+use Rattle.dpl_links.specs.Graph.{IsMarked}
 
 -- count equal spacings lie between two points
 abbrev pub spacing_of : Pt → Pt → ℤ → Pt
@@ -48,21 +42,6 @@ pub record IsTurn (t : Trans) (turn : Turn) : Type 0 where
   pub turns : AreTurns t.angle turn.turns
   pub few : turn.turns < 4
 
--- n steps lead no farther than bound
-pub record IsSpanWithin (bound n : ℕ) (step : Pt) : Type 0 where
-  pub column : n * unsigned_abs step.x ≤ bound
-  pub row : n * unsigned_abs step.y ≤ bound
-
--- there are copies, and they stand near the first
-pub record IsSmallCopies (c : Copies) : Type 0 where
-  pub origin : IsPointWithin (2 ^ 31) c.origin
-  pub across : IsSpanWithin (2 ^ 32) c.columns c.across
-  pub up : IsSpanWithin (2 ^ 32) c.rows c.up
-  pub columns : c.columns < 2 ^ 16
-  pub rows : c.rows < 2 ^ 16
-  pub some_columns : 0 < c.columns
-  pub some_rows : 0 < c.rows
-
 -- the one copy of a single reference
 pub record IsSingleCopy (t : Trans) (xy : List ℕ) (c : Copies) : Type 0 where
   pub reflect : c.reflect ≡ reflects t
@@ -73,7 +52,7 @@ pub record IsSingleCopy (t : Trans) (xy : List ℕ) (c : Copies) : Type 0 where
   pub up : c.up ≡ record { x = pos 0; y = pos 0 }
   pub columns : c.columns ≡ 1
   pub rows : c.rows ≡ 1
-  pub small : IsSmallCopies c
+  pub small : IsSmallCopies (2 ^ 31) c
 
 -- the copies of an array
 pub record IsArrayOfCopies (t : Trans) (across_count up_count : ℤ) (xy : List ℕ) (c : Copies) : Type 0 where
@@ -85,12 +64,7 @@ pub record IsArrayOfCopies (t : Trans) (across_count up_count : ℤ) (xy : List 
   pub up : c.up ≡ spacing_of (point_in xy 0) (point_in xy 2) up_count
   pub columns : c.columns ≡ unsigned_abs across_count
   pub rows : c.rows ≡ unsigned_abs up_count
-  pub small : IsSmallCopies c
-
--- the placements of its copies can be worked out
-pub record IsReady (c : Copies) : Type 0 where
-  pub small : IsSmallCopies c
-  pub few : c.turns < 4
+  pub small : IsSmallCopies (2 ^ 31) c
 
 -- what some elements draw and place; copies of what draws nothing may be left out
 pub record IsCell (lib : Library) (layer : Layer) (es : List Element) (outlines : List Outline) (copies : List Copies) : Type 0 where
@@ -99,7 +73,7 @@ pub record IsCell (lib : Library) (layer : Layer) (es : List Element) (outlines 
   pub straight : (o : Outline) → Contains outlines o → IsRectilinear o.points
   pub near : (o : Outline) → Contains outlines o → ArePointsWithin (2 ^ 61) o.points
   pub placed : (c : Copies) → Contains copies c → IsPlaced lib es c
-  pub ready : (c : Copies) → Contains copies c → IsReady c
+  pub ready : (c : Copies) → Contains copies c → IsReady (2 ^ 31) c
   pub copied : (e : Element) (j : ℕ) → Contains es e → target_of lib e ≡ Some j → IsBare lib layer j ⊎ ((c : Copies) × Contains copies c × (c.target ≡ j) × AreCopies e.body c)
 
 -- structures with no point in their totals, to which some of these elements refer, are bare
@@ -111,7 +85,7 @@ abbrev pub IsCopied : Library → List ℕ → Element → List Copies → List 
 IsCopied lib totals e old new =
     ((new ≡ old) × (target_of lib e ≡ None))
     ⊎ (((new ≡ old) × ((j : ℕ) × (target_of lib e ≡ Some j) × (slice_index totals j ≡ 0)))
-    ⊎ ((c : Copies) × (new ≡ old ++ c ∷ []) × (target_of lib e ≡ Some c.target) × AreCopies e.body c × IsReady c))
+    ⊎ ((c : Copies) × (new ≡ old ++ c ∷ []) × (target_of lib e ≡ Some c.target) × AreCopies e.body c × IsReady (2 ^ 31) c))
 
 -- what the element draws and places was noted
 pub record IsNoted (lib : Library) (layer : Layer) (totals : List ℕ) (e : Element) (old new : List Outline) (before after : List Copies) : Type 0 where
@@ -123,3 +97,9 @@ pub record IsNoted (lib : Library) (layer : Layer) (totals : List ℕ) (e : Elem
 -- no element is refused
 abbrev pub AreTaken : Layer → List Element → Type 0
 AreTaken layer es = (e : Element) (f : ElementFault) → Contains es e → ¬ IsRefusedFor layer e.body f
+
+-- the cells of the marked structures; the others place and draw nothing
+pub record AreCells (lib : Library) (layer : Layer) (marks : List Bool) (cells : List Cell) : Type 0 where
+  pub each : length cells ≡ length lib.structures
+  pub marked : (k : ℕ) → IsMarked marks k → IsCell lib layer (elements_at lib k) (outlines_at cells k) (copies_at cells k)
+  pub unmarked : (k : ℕ) → ¬ IsMarked marks k → (copies_at cells k ≡ []) × (outlines_at cells k ≡ [])

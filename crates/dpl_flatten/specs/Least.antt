@@ -1,20 +1,16 @@
 -- The least offset of the elements of which a fact holds.
-use Rattle.std.specs.Prelude.{◌≡◌, ℕ, ◌<◌, ◌≤◌, ◌⊎◌, min, Bool, List, Option, Some, None}
+use Rattle.std.specs.Prelude.{◌≡◌, ℕ, ◌<◌, ◌≤◌, ◌⊎◌, Bool, List, Option, Some, None}
 use Rattle.std.specs.List.{Contains}
 use Rattle.dpl_format.specs.Tree.{Library, Element, elements_at}
 use Rattle.dpl_layout.specs.Elements.{reference_name}
 use Rattle.dpl_layout.specs.Faults.{Finding}
 use Rattle.dpl_links.specs.Graph.{IsMarked}
+use Rattle.dpl_walk.specs.Least.{earlier}
 
 -- the least offset of an element that has it, and None where none has it
 abbrev pub IsLeastOf : Finding → Option ℕ → Type 0
 IsLeastOf P None = (k : ℕ) (e : Element) → ¬ P k e
 IsLeastOf P (Some at) = ((k : ℕ) × (e : Element) × P k e × (e.at ≡ at)) × ((k : ℕ) (e : Element) → P k e → at ≤ e.at)
-
-abbrev pub earlier : Option ℕ → Option ℕ → Option ℕ
-earlier None b = b
-earlier (Some a) None = Some a
-earlier (Some a) (Some b) = Some (min a b)
 
 -- it holds, and the element is one of these of structure k
 abbrev pub Among : ℕ → List Element → Finding → Finding
@@ -27,11 +23,6 @@ AmongMarked lib marks n P i e = (i < n) × IsMarked marks i × Contains (element
 -- the element names some structure
 abbrev pub IsReference : Element → Type 0
 IsReference e = (name : List ℕ) × (reference_name e.body ≡ Some name)
-
--- there is one, at this offset or before it
-abbrev pub IsAtMost : Option ℕ → ℕ → Type 0
-IsAtMost None at = ⊥
-IsAtMost (Some first) at = first ≤ at
 
 -- the least offset was brought up to one more element
 abbrev pub IsNoted : Finding → ℕ → Element → Option ℕ → Option ℕ → Type 0

@@ -3,4 +3,3 @@ pub mod Least
 pub mod Totals
 pub mod Drawn
 pub mod Cells
-pub mod Walk

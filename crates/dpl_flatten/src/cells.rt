@@ -10,8 +10,8 @@ ghost use Rattle.dpl_syntax.specs.Elements.{body_seen, element_seen, IsSized};
 ghost use Rattle.dpl_shapes.specs.declared.fault.ShapeFault.TheVariants.{NoMemory};
 ghost use Rattle.dpl_layout.specs.declared.ElementFault.{ElementFault};
 ghost use Rattle.dpl_layout.specs.Elements.{points_in, loops_of, AreTurns, IsTurnedAskew, IsPathFault, IsRefusedFor, reference_name};
-ghost use Rattle.dpl_flatten.specs.Cells.{AreCopies, IsReady, IsCopied, IsNoted, IsCell, AreBareTargets, AreTaken};
-ghost use Rattle.dpl_flatten.specs.Walk.{AreCells};
+ghost use Rattle.dpl_flatten.specs.Cells.{AreCopies, IsCopied, IsNoted, IsCell, AreBareTargets, AreTaken, AreCells};
+ghost use Rattle.dpl_walk.specs.Cells.{IsReady};
 ghost use Rattle.dpl_flatten.specs.Totals.{ceiling};
 ghost use Rattle.dpl_links.specs.Graph.{IsMarked};
 
@@ -19,43 +19,13 @@ use crate::copies::{array_copies, single_copy};
 use crate::count::{is_on, total_at};
 use crate::links::target;
 use crate::shapes::{Stroke, points_of};
-use dpl_base::{Listed, Loop, Pt};
+use dpl_base::{Listed, Loop};
 use dpl_layout::Layer;
 use dpl_reals::Real;
 use dpl_shapes::{ShapeFault, boundary_loop, path_loops};
 use dpl_syntax::{Body, Element, Library};
+use dpl_walk::{Cell, Copies, Outline};
 use std::alloc::{AllocError, Global};
-
-/// A loop that an element draws, in its structure's coordinates.
-#[derive(Drop)]
-pub(crate) struct Outline {
-    /// The offset of the element.
-    pub(crate) at: usize,
-    pub(crate) points: Loop,
-}
-
-/// The copies of a reference, in its structure's coordinates.
-#[derive(Clone, Copy)]
-pub(crate) struct Copies {
-    pub(crate) target: u32,
-    pub(crate) reflect: bool,
-    pub(crate) turns: u8,
-    /// Where copy (0,0) stands.
-    pub(crate) origin: Pt,
-    /// From one column to the next.
-    pub(crate) across: Pt,
-    /// From one row to the next.
-    pub(crate) up: Pt,
-    pub(crate) columns: u32,
-    pub(crate) rows: u32,
-}
-
-/// What a structure draws and places.
-#[derive(Drop)]
-pub(crate) struct Cell {
-    pub(crate) outlines: Listed<Outline>,
-    pub(crate) copies: Listed<Copies>,
-}
 
 /// How many quarter turns ANGLE makes.
 pub(crate) fn turns_of(angle: Option<[u8; 8]>) -> Option<u8>
@@ -204,7 +174,7 @@ fn copies_of(target: u32, chosen: Layer, body: &Body<'_>) -> Copies
     requires reference { (name : List ℕ) × (reference_name (body_seen body.now) ≡ Some name) }
     requires taken { (f : ElementFault) → ¬ IsRefusedFor chosen (body_seen body.now) f }
     ensures copies { AreCopies (body_seen body.now) result }
-    ensures ready { IsReady result }
+    ensures ready { IsReady (2 ^ 31) result }
     ensures target { result.target ≡ target }
 {
     match *body {

@@ -5,12 +5,14 @@ ghost use Rattle.std.specs.Option.{option_map};
 ghost use Rattle.dpl_spec.specs.Loops.{IsPointWithin};
 ghost use Rattle.dpl_syntax.specs.Elements.{trans_seen};
 ghost use Rattle.dpl_layout.specs.Elements.{plain, IsTurnedAskew};
-ghost use Rattle.dpl_flatten.specs.Cells.{spacing_of, IsSpanWithin, IsTurn, IsSingleCopy, IsArrayOfCopies};
+ghost use Rattle.dpl_flatten.specs.Cells.{spacing_of, IsTurn, IsSingleCopy, IsArrayOfCopies};
+ghost use Rattle.dpl_walk.specs.Cells.{IsSpanWithin};
 
-use crate::cells::{Copies, is_reflected, turns_of};
+use crate::cells::{is_reflected, turns_of};
 use crate::refs::point_at;
 use dpl_base::Pt;
 use dpl_syntax::Trans;
+use dpl_walk::Copies;
 
 /// How a reference turns its copies.
 #[derive(Clone, Copy)]

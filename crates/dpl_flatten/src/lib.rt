@@ -18,7 +18,6 @@ mod cells;
 mod copies;
 mod count;
 mod faults;
-mod least;
 mod links;
 mod missing;
 mod place;
@@ -27,7 +26,6 @@ mod refs;
 mod refused;
 mod shapes;
 mod top;
-mod walk;
 
 pub use crate::top::top_of;
 pub use dpl_layout::{ElementFault, FlattenFault, Layer, TopFault};
@@ -36,8 +34,7 @@ use std::alloc::Global;
 
 /// The loops that the structure `top` places on a layer, itself and through all references below it: those of its
 /// boundaries and boxes of that layer and datatype, and one for each rectangle of its paths. Together they cover the
-/// layer's squares. Coordinates are database units. The library has at most 2^26 structures: a file of at most 268,435,456
-/// bytes has fewer.
+/// layer's squares. Coordinates are database units.
 ///
 /// # Errors
 /// The first fault of the structures that the top reaches: the missing structure of least offset, then the recursion of
@@ -49,8 +46,7 @@ pub fn flatten(
     top: u32,
     layer: Layer,
 ) -> Result<Vec<Loop>, FlattenFault>
-    requires top { top < length lib.now.structures }
-    requires few { length lib.now.structures ≤ 2 ^ 26 }
+    requires { top < length lib.now.structures }
     ensures covers { IfOk result (λ loops. (s : Pt) → SomeLoopCovers loops.items s ↔ IsInLayer lib.now top layer s) }
     ensures straight { IfOk result (λ loops. All IsRectilinear loops.items) }
     ensures within { IfOk result (λ loops. AreLoopsWithin farthest loops.items) }

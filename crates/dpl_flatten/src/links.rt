@@ -1,6 +1,6 @@
 //! The graph of a layout's references.
 
-ghost use Rattle.std.specs.Prelude.{◌≡◌, ◌<◌, ◌↔◌, ◌++◌, ◌^◌, ℕ, length, IfOk, OnOk};
+ghost use Rattle.std.specs.Prelude.{◌≡◌, ◌<◌, ◌≤◌, ◌↔◌, ◌++◌, ◌^◌, ℕ, length, IfOk, OnOk};
 ghost use Rattle.std.specs.List.{Contains};
 ghost use Rattle.std.specs.Option.{option_to_list};
 ghost use Rattle.dpl_format.specs.Tree.{Element as TreeElement, elements_at, HasPoints};
@@ -63,7 +63,7 @@ fn targets(alloc: Global, lib: &Library<'_>, structure: u32) -> Result<Listed<u3
 pub(crate) fn graph_of(alloc: Global, lib: &Library<'_>) -> Result<Vec<Listed<u32>>, AllocError>
     ensures graph { IfOk result (λ v. IsGraphOf lib.now v.items) }
     ensures known { IfOk result (λ v. IsGraph v.items) }
-    ensures few { IfOk result (λ v. length v.items < 2 ^ 32) }
+    ensures few { IfOk result (λ v. length v.items ≤ 2 ^ 26) }
 {
     let mut graph = Vec::new(alloc);
     for structure in 0..lib.count() {

@@ -6,9 +6,9 @@ ghost use Rattle.dpl_syntax.specs.Elements.{element_seen};
 ghost use Rattle.dpl_layout.specs.Faults.{IsMissing};
 ghost use Rattle.dpl_flatten.specs.Least.{IsReference, IsLeastOf, Among, AmongMarked};
 
-use crate::least::{earlier, note};
 use crate::links::target;
 use dpl_syntax::{Body, Element, Library};
+use dpl_walk::{earlier, note};
 
 /// Whether an element is a reference.
 fn is_reference(element: &Element<'_>) -> bool

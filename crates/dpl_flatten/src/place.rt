@@ -13,10 +13,10 @@ ghost use Rattle.dpl_flatten.specs.Totals.{AreTotals};
 use crate::cells::make_cells;
 use crate::faults::Survey;
 use crate::links::Links;
-use crate::walk::walk_from;
 use dpl_base::Loop;
 use dpl_layout::{FlattenFault, Layer};
 use dpl_syntax::Library;
+use dpl_walk::gather;
 use std::alloc::Global;
 
 /// The loops that the top places, or the least offset of an element that is placed out of range.
@@ -42,7 +42,7 @@ pub(crate) fn place_all(
     ensures fault { IfErr result (λ f. IsFirstFault lib.now top layer f) }
 {
     let cells = make_cells(alloc, lib, layer, survey.totals.as_slice(), links.marks)?;
-    let found = walk_from(alloc, cells.as_slice(), top)?;
+    let found = gather(alloc, cells, survey.order.vertices.as_slice(), top)?;
     match found.far {
         Some(at) => Err(FlattenFault::OutOfRange { at }),
         None => Ok(found.loops),

@@ -8,9 +8,9 @@ ghost use Rattle.dpl_layout.specs.Faults.{IsOnCycle};
 ghost use Rattle.dpl_flatten.specs.Links.{IsLevelled};
 ghost use Rattle.dpl_flatten.specs.Least.{IsLeastOf, Among, AmongMarked};
 
-use crate::least::{earlier, note};
 use crate::links::{Links, target};
 use dpl_syntax::{Element, Library};
+use dpl_walk::{earlier, note};
 
 /// The level of a structure, and 0 past the end.
 fn level_at(levels: &[usize], structure: u32) -> usize

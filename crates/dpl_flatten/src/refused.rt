@@ -9,11 +9,11 @@ ghost use Rattle.dpl_flatten.specs.Least.{IsLeastOf, IsNoted, Among, AmongMarked
 ghost use Rattle.dpl_flatten.specs.Drawn.{IsFaultOf, IsRefusal, IsRefusalWhere, IsRefusalAmong, IsRefusalOf, IsTakenAt, HasRefusalAt};
 
 use crate::count::is_on;
-use crate::least::{earlier, note};
 use crate::refs::{array_fault, single_fault};
 use crate::shapes::{Stroke, boundary_fault, path_fault};
 use dpl_layout::{ElementFault, FlattenFault, Layer};
 use dpl_syntax::{Body, Element, Library};
+use dpl_walk::{earlier, note};
 use std::alloc::{AllocError, Global};
 
 /// What an element is refused for.

@@ -1,4 +1,3 @@
-pub mod Sizes
 pub mod Parts
 pub mod Cover
 pub mod Apart

@@ -258,6 +258,7 @@ search_all graph from found closed levels vertices path none s = record {
   falls = λ k j r e. (s.shut k (shut k r)).falls j e;
   alone = λ k c. s.reached k (s.alone k c);
   few = let c = s.count in omega (arith, c);
+  each = s.levels_each;
 }
   where
     begun : IsMarked closed from

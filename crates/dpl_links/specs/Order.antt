@@ -16,6 +16,7 @@ pub record IsOrder (graph : List (List ℕ)) (from : ℕ) (levels vertices : Lis
   pub falls : (k j : ℕ) → Reaches graph from k → LeadsTo graph k j → slice_index levels j < slice_index levels k
   pub alone : (k : ℕ) → Contains vertices k → Reaches graph from k
   pub few : length vertices ≤ length graph
+  pub each : length levels ≡ length graph
 
 -- from reaches a vertex of which an edge lies on a cycle
 abbrev pub HasCycle : List (List ℕ) → ℕ → Type 0

@@ -283,7 +283,8 @@ pub fn find_levels(
 ) -> Result<Vec<usize>, AllocError>
     requires graph { IsGraph graph.now }
     requires from { from < length graph.now }
-    ensures { IfOk result (λ v. AreLevels graph.now from v.items) }
+    ensures levels { IfOk result (λ v. AreLevels graph.now from v.items) }
+    ensures each { IfOk result (λ v. length v.items ≡ length graph.now) }
 {
     let mut search = Search::new(alloc, graph.len())?;
     search.find(alloc, from)?;

@@ -15,6 +15,3 @@ pub use crate::element::{Body, Element, Trans};
 pub use crate::fault::SyntaxFault;
 pub use crate::library::{Frame, Library};
 pub use crate::read::read_library;
-
-#[cfg(test)]
-mod tests;

@@ -1,6 +1,6 @@
 //! A library: its structures, by name and in the order of the file.
 
-ghost use Rattle.std.specs.Prelude.{◌≡◌, ◌<◌, ◌^◌, length, map, position, nat_eq, slice_get, All, IfSome};
+ghost use Rattle.std.specs.Prelude.{◌≡◌, ◌<◌, ◌≤◌, ◌^◌, length, map, position, nat_eq, slice_get, All, IfSome};
 ghost use Rattle.std.specs.Cmp.Lexicographic.{pointwise};
 ghost use Rattle.dpl_format.specs.Tree.{names_in, elements_at, frame_of};
 ghost use Rattle.dpl_syntax.specs.Elements.{element_seen, IsSized};
@@ -31,7 +31,7 @@ pub struct Library<'a> {
 }
 
 impl<'a> Model for Library<'a> {
-    ghost use Rattle.std.specs.Prelude.{◌<◌, ◌^◌, All};
+    ghost use Rattle.std.specs.Prelude.{◌≤◌, ◌^◌, All};
     ghost use Rattle.indexmap.specs.IndexMap.{index_map_len};
     ghost use Rattle.dpl_format.specs.Tree.{Library as Tree};
 
@@ -41,7 +41,7 @@ impl<'a> Model for Library<'a> {
 
     ghost view = { library_seen };
 
-    ghost invariant = { λ l. (index_map_len l.structures < 2 ^ 32) × IsSizedEach l.structures.entries };
+    ghost invariant = { λ l. (index_map_len l.structures ≤ 2 ^ 26) × IsSizedEach l.structures.entries };
 }
 
 /// The whole records of a file before the elements of one structure.
@@ -56,9 +56,11 @@ pub struct Frame<'a> {
 }
 
 impl<'a> Library<'a> {
-    /// How many structures there are. Their numbers are those below, in the order of the file.
+    /// How many structures there are, at most 2^26: a file of 268,435,456 bytes has no more. Their numbers are those below,
+    /// in the order of the file.
     pub fn count(&self) -> u32
-        ensures { result ≡ length self.now.structures }
+        ensures value { result ≡ length self.now.structures }
+        ensures few { result ≤ 2 ^ 26 }
     {
         self.structures.len() as u32
     }

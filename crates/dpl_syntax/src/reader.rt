@@ -1,6 +1,6 @@
 //! Reading a library record by record.
 
-ghost use Rattle.std.specs.Prelude.{◌≡◌, ◌<◌, ◌≤◌, length, IfOk, IfSome};
+ghost use Rattle.std.specs.Prelude.{◌≡◌, ◌+◌, ◌<◌, ◌≤◌, length, IfOk, IfSome};
 ghost use Rattle.std.specs.Option.{option_map};
 ghost use Rattle.dpl_format.specs.Records.{record_at};
 ghost use Rattle.dpl_format.specs.Table.{IsSizeOf};
@@ -23,7 +23,7 @@ impl<'a> Reader<'a> {
     pub(crate) fn peek(&self) -> Result<Record<'a>, SyntaxFault>
         ensures exact { Answers seen result (record_at self.now.bytes.now self.now.at) }
         ensures sized { IfOk result (λ r. IsSizeOf r.kind (length r.body.now)) }
-        ensures within { IfOk result (λ r. (r.at ≡ self.now.at) × (r.at < r.next) × (r.next ≤ length self.now.bytes.now)) }
+        ensures within { IfOk result (λ r. (r.at ≡ self.now.at) × (r.at + 4 ≤ r.next) × (r.next ≤ length self.now.bytes.now)) }
     {
         Ok(next_record(self.bytes, self.at)?)
     }
@@ -32,7 +32,7 @@ impl<'a> Reader<'a> {
     pub(crate) fn take(&mut self, kind: u8) -> Result<Record<'a>, SyntaxFault>
         ensures exact { Answers (λ r. (seen r, self.new.at)) result (take self.old.bytes.now kind self.old.at) }
         ensures sized { IfOk result (λ r. IsSizeOf kind (length r.body.now)) }
-        ensures within { IfOk result (λ r. (r.at ≡ self.old.at) × (r.at < r.next) × (r.next ≤ length self.old.bytes.now) × (self.new.at ≡ r.next)) }
+        ensures within { IfOk result (λ r. (r.at ≡ self.old.at) × (r.at + 4 ≤ r.next) × (r.next ≤ length self.old.bytes.now) × (self.new.at ≡ r.next)) }
         ensures on { self.old.at ≤ self.new.at }
         ensures bytes { self.new.bytes ≡ self.old.bytes }
     {

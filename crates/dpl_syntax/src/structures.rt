@@ -1,6 +1,6 @@
 //! Reading structures.
 
-ghost use Rattle.std.specs.Prelude.{◌≡◌, ◌<◌, ◌≤◌, ◌+◌, ◌++◌, ◌∷◌, false, [], length, nat_eq, All, IfOk, IfErr, OnOk, IfSome, IfNone, Err};
+ghost use Rattle.std.specs.Prelude.{◌≡◌, ◌<◌, ◌≤◌, ◌+◌, ◌*◌, ◌++◌, ◌∷◌, false, [], length, nat_eq, All, IfOk, IfErr, OnOk, IfSome, IfNone, Err};
 ghost use Rattle.std.specs.List.{list_any};
 ghost use Rattle.indexmap.specs.IndexMap.{index_map_len};
 ghost use Rattle.std.specs.Cmp.Lexicographic.{pointwise};
@@ -55,6 +55,7 @@ impl<'a> Reader<'a> {
         ensures exact { Answers (λ r. (seen r, self.new.at)) result (take_strname self.old.bytes.now (known_names known.now.entries) self.old.at) }
         ensures unknown { IfOk result (λ r. list_any (pointwise nat_eq (fields.name_of r.body.now)) (known_names known.now.entries) ≡ false) }
         ensures within { IfOk result (λ r. (r.at < r.next) × (r.next ≤ length self.old.bytes.now)) }
+        ensures further { OnOk result (self.old.at + 4 ≤ self.new.at) }
         ensures on { self.old.at ≤ self.new.at }
         ensures bytes { self.new.bytes ≡ self.old.bytes }
     {
@@ -81,7 +82,7 @@ impl<'a> Reader<'a> {
         ensures err { IfErr result (λ e. Refuses (FailsNamed self.old.bytes.now (known_names known.now.entries) structure_then self.old.at) e) }
         ensures unknown { IfOk result (λ s. list_any (pointwise nat_eq s.0.now) (known_names known.now.entries) ≡ false) }
         ensures sized { IfOk result (λ s. All IsSized s.1.elements.items) }
-        ensures further { OnOk result (self.old.at < self.new.at) }
+        ensures further { OnOk result (self.old.at + 4 ≤ self.new.at) }
         ensures on { self.old.at ≤ self.new.at }
         ensures bytes { self.new.bytes ≡ self.old.bytes }
     {
@@ -107,7 +108,7 @@ impl<'a> Reader<'a> {
         ensures ok { IfOk result (λ m. PassesNamed self.old.bytes.now [] structures_first endlib_first (AreStructures self.old.bytes.now (structures_seen m.entries)) self.old.at self.new.at) }
         ensures err { IfErr result (λ e. Refuses (FailsNamed self.old.bytes.now [] structures_first self.old.at) e) }
         ensures sized { IfOk result (λ m. IsSizedEach m.entries) }
-        ensures few { IfOk result (λ m. index_map_len m ≤ self.new.at) }
+        ensures few { IfOk result (λ m. 4 * index_map_len m ≤ self.new.at) }
         ensures bytes { self.new.bytes ≡ self.old.bytes }
     {
         let mut structures = IndexMap::new(alloc);

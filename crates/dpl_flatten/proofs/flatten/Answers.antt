@@ -1,3 +1,4 @@
+use Rattle.std.proofs.Common.{arith}
 use Rattle.dpl_flatten.proofs.ReachLaws.{linked_of}
 use Rattle.dpl_flatten.proofs.flatten.Goals as goal
 
@@ -17,3 +18,6 @@ place_all-requires-clause-links c =
     (linked_of c.args.lib.now c.in_ok-graph.graph.items c.args.top c.in_ok-marks.marks.items
     c.in_ok-graph.ensures.graph
     (rw c.as_slice.ensures.value at c.in_ok-marks.ensures))
+
+pub place_all-requires-clause-few : goal.place_all-requires-clause-few
+place_all-requires-clause-few c = omega (arith, c.in_ok-graph.ensures.graph.each, c.in_ok-graph.ensures.few)

@@ -18,6 +18,6 @@ loop-structure-preserved c =
 pub returns : goal.returns
 returns c =
     below_all c.args.lib.now c.args.chosen c.args.marks.now c.loop-structure.structure c.loop-structure.cells.items
-    (omega (arith, c.requires.marks, c.count-structure-end.ensures))
-    (omega (arith, c.count-structure-end.ensures))
+    (omega (arith, c.requires.marks, c.count-structure-end.ensures.value))
+    (omega (arith, c.count-structure-end.ensures.value))
     c.loop-structure.invariant

@@ -4,7 +4,7 @@ use Rattle.dpl_flatten.proofs.TotalLaws.{totalled_start, totalled_more, totalled
 use Rattle.dpl_flatten.proofs.count.totals.Goals as goal
 
 pub loop-structure-init : goal.loop-structure-init
-loop-structure-init c = totalled_start c.args.lib.now c.args.chosen c.args.links.now.graph.now c.args.links.now.marks.now c.args.order.now.levels.items c.requires.links c.requires.order.falls _ c.in_ok-totals.totals.items c.in_ok-totals.ensures c.count.ensures
+loop-structure-init c = totalled_start c.args.lib.now c.args.chosen c.args.links.now.graph.now c.args.links.now.marks.now c.args.order.now.levels.items c.requires.links c.requires.order.falls _ c.in_ok-totals.totals.items c.in_ok-totals.ensures c.count.ensures.value
 
 pub set_total-requires-clause-known : goal.set_total-requires-clause-known
 set_total-requires-clause-known c =

@@ -1,4 +1,4 @@
-use Rattle.std.proofs.Common.{◌≡◌, ◌-◌, ◌≤◌, length, []}
+use Rattle.std.proofs.Common.{◌≡◌, ◌-◌, ◌*◌, ◌≤◌, length, []}
 use Rattle.indexmap.specs.IndexMap.{index_map_len}
 use Rattle.dpl_syntax.specs.Libraries.{structures_seen, IsSizedEach}
 use Rattle.dpl_syntax.specs.Passing.{PassesNamed, structures_first, AreStructures}
@@ -8,7 +8,7 @@ abbrev pub invariant-loop-structures : goal.invariant-loop-structures
 invariant-loop-structures l = record {
   bytes : l.self.bytes ≡ l.initial.self.bytes;
   sized : IsSizedEach l.structures.entries;
-  few : index_map_len l.structures ≤ l.self.at;
+  few : 4 * index_map_len l.structures ≤ l.self.at;
   passes : PassesNamed l.initial.self.bytes.now [] structures_first structures_first (AreStructures l.initial.self.bytes.now (structures_seen l.structures.entries)) l.initial.self.at l.self.at;
 }
 

@@ -1,4 +1,0 @@
-use Rattle.dpl_flatten.proofs.walk.visit.Goals as goal
-
-pub gather_all-requires-clause-points : goal.gather_all-requires-clause-points
-gather_all-requires-clause-points c = rw c.items.ensures c.requires.points

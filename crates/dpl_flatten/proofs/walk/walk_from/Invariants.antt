@@ -1,9 +1,0 @@
-use Rattle.std.proofs.Common.{length}
-use Rattle.dpl_flatten.specs.Walk.{AreDeep, IsWalking, walk_left}
-use Rattle.dpl_flatten.proofs.walk.walk_from.Given as goal
-
-abbrev pub invariant-loop-frame : goal.invariant-loop-frame
-invariant-loop-frame l = (d : AreDeep l.cells l.top) × IsWalking l.cells l.top (length l.cells) d.level l.gathered.loops.items l.gathered.far l.stack.items
-
-abbrev pub decreases-loop-frame : goal.decreases-loop-frame
-decreases-loop-frame l = walk_left l.cells (length l.cells) l.stack.items

@@ -1,0 +1,6 @@
+pub mod ListLaws
+pub mod WalkLaws
+pub mod StackLaws
+pub mod LeftLaws
+pub mod WayLaws
+pub mod ShortLaws

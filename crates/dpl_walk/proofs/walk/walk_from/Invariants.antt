@@ -1,0 +1,9 @@
+use Rattle.std.proofs.Common.{length}
+use Rattle.dpl_walk.specs.Walk.{AreSteep, IsWalking, walk_left}
+use Rattle.dpl_walk.proofs.walk.walk_from.Given as goal
+
+abbrev pub invariant-loop-frame : goal.invariant-loop-frame
+invariant-loop-frame l = (d : AreSteep l.cells) × IsWalking l.cells l.top (length l.cells) d.level l.gathered.loops.items l.gathered.far l.stack.items
+
+abbrev pub decreases-loop-frame : goal.decreases-loop-frame
+decreases-loop-frame l = walk_left l.cells (length l.cells) l.stack.items

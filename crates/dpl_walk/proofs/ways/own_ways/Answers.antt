@@ -1,0 +1,15 @@
+use Rattle.std.proofs.Common.{◌∷◌, [], length-append, ap, length, arith}
+use Rattle.dpl_walk.proofs.ShortLaws.{own_none, own_more, own_all}
+use Rattle.dpl_walk.proofs.ways.own_ways.Goals as goal
+
+pub loop-structure-init : goal.loop-structure-init
+loop-structure-init c = record { each = ap length c.new-ways.ensures.items; own = own_none _ c.new-ways.ensures.items }
+
+pub loop-structure-preserved : goal.loop-structure-preserved
+loop-structure-preserved c = record {
+  each = omega (arith, ap length c.in_ok-push.ensures.items, length-append c.loop-structure.ways.items (c.own_way.result ∷ []), c.loop-structure.invariant.each);
+  own = own_more c.loop-structure.ways.items c.push.new.self.items c.own_way.result c.loop-structure.structure c.in_ok-push.ensures.items c.loop-structure.invariant.each c.own_way.ensures.target c.own_way.ensures.stays c.own_way.ensures.still c.loop-structure.invariant.own;
+}
+
+pub returns : goal.returns
+returns c = own_all c.args.cells.now c.loop-structure.ways.items c.requires.deep (omega (arith, c.loop-structure.invariant.each)) c.loop-structure.invariant.own

@@ -1,0 +1,21 @@
+use Rattle.std.proofs.Common.{arith}
+use Rattle.dpl_walk.proofs.ShortLaws.{below_start, below_next, below_end, all_ready, all_known, all_within}
+use Rattle.dpl_walk.proofs.ways.shorten.Goals as goal
+
+pub loop-structure-init : goal.loop-structure-init
+loop-structure-init c = below_start c.args.ways.now c.args.cells.now.items
+
+pub shorten_at-requires-clause-ready : goal.shorten_at-requires-clause-ready
+shorten_at-requires-clause-ready c = all_ready c.args.ways.now c.loop-structure.structure c.args.cells.now.items c.loop-structure.cells.items c.requires.known c.requires.ways c.loop-structure.invariant
+
+pub shorten_at-requires-clause-known : goal.shorten_at-requires-clause-known
+shorten_at-requires-clause-known c = all_known c.args.ways.now c.loop-structure.structure c.args.cells.now.items c.loop-structure.cells.items c.requires.known c.requires.ways c.loop-structure.invariant
+
+pub shorten_at-requires-clause-near : goal.shorten_at-requires-clause-near
+shorten_at-requires-clause-near c = all_within c.args.cells.now.items c.args.ways.now c.requires.few c.requires.ways
+
+pub loop-structure-preserved : goal.loop-structure-preserved
+loop-structure-preserved c = below_next c.args.ways.now c.loop-structure.structure c.args.cells.now.items c.loop-structure.cells.items c.shorten_at.new.cells.items c.loop-structure.invariant c.in_ok-shorten_at.ensures
+
+pub returns : goal.returns
+returns c = below_end c.args.ways.now c.loop-structure.structure c.args.cells.now.items c.loop-structure.cells.items (omega (arith, c.len-structure-end.ensures)) c.loop-structure.invariant

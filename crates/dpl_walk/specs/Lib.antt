@@ -1,0 +1,4 @@
+pub mod Cells
+pub mod Least
+pub mod Walk
+pub mod Ways

@@ -1,0 +1,42 @@
+//! The walk over what structures draw and place, with a stack of its own.
+#![tactic(auto)]
+
+ghost use Rattle.std.specs.Prelude.{◌^◌, ◌<◌, ◌≤◌, length, IfOk};
+ghost use Rattle.std.specs.List.{All};
+ghost use Rattle.dpl_walk.specs.Walk.{AreDeep, AreKnown, IsWalk};
+
+use crate::walk::walk_from;
+use crate::ways::{find_ways, shorten};
+use std::alloc::{AllocError, Global};
+
+mod cells;
+mod copies;
+mod least;
+mod walk;
+mod ways;
+
+pub use crate::cells::{Cell, Copies, Outline};
+pub use crate::least::{earlier, note};
+pub use crate::walk::Gathered;
+
+/// The loops that the structure `top` shows, itself and through all copies below it, and the least offset of an element
+/// that is placed too far out. Structures that draw nothing and place one copy are passed by: `order` lists structures,
+/// each behind those that it places, and may leave out any of them, at the cost of time alone.
+pub fn gather(
+    alloc: Global,
+    mut cells: Vec<Cell>,
+    order: &[u32],
+    top: u32,
+) -> Result<Gathered, AllocError>
+    requires known { AreKnown (2 ^ 31) cells.items }
+    requires deep { AreDeep cells.items }
+    requires few { length cells.items ≤ 2 ^ 26 }
+    requires order { All (λ k. k < length cells.items) order.now }
+    requires top { top < length cells.items }
+    ensures { IfOk result (λ g. IsWalk cells.items top g.loops.items g.far) }
+{
+    let ways = find_ways(alloc, cells.as_slice(), order)?;
+    shorten(alloc, &mut cells, ways.as_slice())?;
+    let gathered = walk_from(alloc, cells.as_slice(), top)?;
+    Ok(gathered)
+}

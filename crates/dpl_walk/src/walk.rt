@@ -1,0 +1,207 @@
+//! The walk over placements, which keeps a stack of its own.
+
+ghost use Rattle.std.specs.Prelude.{◌≡◌, ℕ, Option, ◌^◌, ◌*◌, ◌+◌, ◌<◌, ◌≤◌, ◌↔◌, ◌++◌, ◌∷◌, [], true, false, length, map, IsTrue, IfOk, OnOk, unsigned_abs, pos, ◌+ℤ◌, ◌*ℤ◌};
+ghost use Rattle.std.specs.List.{All};
+ghost use Rattle.std.specs.Option.{option_to_list};
+ghost use Rattle.dpl_walk.specs.declared.walk.Frame.{Frame};
+ghost use Rattle.dpl_spec.specs.Loops.{ArePointsWithin, farthest};
+ghost use Rattle.dpl_elements.specs.Motions.{image, IsMotionWithin, IsComposed};
+ghost use Rattle.dpl_walk.specs.Cells.{copy_motion, IsReady};
+ghost use Rattle.dpl_walk.specs.Walk.{Gathers, HasFarPoint, frame_of, IsNext, IsFrame, AreSteep, IsWalk, AreKnown, IsWalking, walk_left};
+
+use crate::cells::{Cell, Copies, Outline};
+use crate::copies::copy_place;
+use crate::least::note;
+use dpl_base::{Loop, Pt, is_in_range};
+use dpl_place::{Place, compose};
+use std::alloc::{AllocError, Global};
+
+/// The copies of a reference of a placed structure that the walk still has to go to: the one in this column and row,
+/// those above it in its column, and all in the columns behind.
+#[derive(Clone, Copy)]
+pub(crate) struct Frame {
+    pub(crate) copies: Copies,
+    /// Where the reference's structure is placed.
+    pub(crate) place: Place,
+    pub(crate) column: u32,
+    pub(crate) row: u32,
+}
+
+/// Whether all points lie no farther from 0 than the coordinates of a layer may.
+fn are_near(points: &[Pt]) -> bool
+    ensures near { result ≡ true → ArePointsWithin farthest points.now }
+    ensures far { result ≡ false → HasFarPoint points.now }
+{
+    for point in points {
+        if !is_in_range(point) {
+            return false;
+        }
+    }
+    true
+}
+
+/// Where a placement takes points.
+fn moved(alloc: Global, place: &Place, points: &[Pt]) -> Result<Vec<Pt>, AllocError>
+    requires place { IsMotionWithin (2 ^ 61) place.now }
+    requires points { ArePointsWithin (2 ^ 61) points.now }
+    ensures { IfOk result (λ v. v.items ≡ map (image place.now) points.now) }
+{
+    let mut images = Vec::new(alloc);
+    for point in points {
+        images.push(place.apply(*point))?;
+    }
+    Ok(images)
+}
+
+/// The placement of a frame's copy.
+fn place_of(frame: &Frame) -> Place
+    requires ready { IsReady (2 ^ 60) frame.now.copies }
+    requires frame { IsFrame frame.now }
+    requires place { IsMotionWithin (2 ^ 61) frame.now.place }
+    ensures { IsComposed frame.now.place (copy_motion frame.now.copies frame.now.column frame.now.row) result }
+{
+    compose(
+        &frame.place,
+        &copy_place(&frame.copies, frame.column, frame.row),
+    )
+}
+
+/// The loops that were gathered, and the least offset of an element with a point too far out.
+#[derive(Drop)]
+pub struct Gathered {
+    pub loops: Vec<Loop>,
+    /// In bytes; None where no point lies too far out.
+    pub far: Option<usize>,
+}
+
+/// Gathers an outline.
+fn gather(
+    alloc: Global,
+    place: &Place,
+    outline: &Outline,
+    gathered: &mut Gathered,
+) -> Result<(), AllocError>
+    requires place { IsMotionWithin (2 ^ 61) place.now }
+    requires points { ArePointsWithin (2 ^ 61) outline.now.points }
+    ensures { OnOk result (Gathers (outline.now ∷ []) (image place.now) gathered.old.loops.items gathered.new.loops.items gathered.old.far gathered.new.far) }
+{
+    let points = moved(alloc, place, outline.points.items())?;
+    let near = are_near(points.as_slice());
+    gathered.loops.push(Loop::of(points))?;
+    gathered.far = note(gathered.far, !near, outline.at);
+    Ok(())
+}
+
+/// Gathers the outlines of a structure.
+fn gather_all(
+    alloc: Global,
+    place: &Place,
+    outlines: &[Outline],
+    gathered: &mut Gathered,
+) -> Result<(), AllocError>
+    requires place { IsMotionWithin (2 ^ 61) place.now }
+    requires points { All (λ o. ArePointsWithin (2 ^ 61) o.points) outlines.now }
+    ensures { OnOk result (Gathers outlines.now (image place.now) gathered.old.loops.items gathered.new.loops.items gathered.old.far gathered.new.far) }
+{
+    for outline in outlines {
+        gather(alloc, place, outline, gathered)?;
+    }
+    Ok(())
+}
+
+/// Puts a frame for each reference of a placed structure on the stack.
+fn put_all(place: &Place, copies: &[Copies], stack: &mut Vec<Frame>) -> Result<(), AllocError>
+    ensures { OnOk result (stack.new.items ≡ stack.old.items ++ map (frame_of place.now) copies.now) }
+{
+    for array in copies {
+        stack.push(Frame {
+            copies: *array,
+            place: *place,
+            column: 0,
+            row: 0,
+        })?;
+    }
+    Ok(())
+}
+
+/// Gathers what a placed structure draws, and puts what it refers to on the stack.
+fn visit(
+    alloc: Global,
+    cell: &Cell,
+    place: &Place,
+    gathered: &mut Gathered,
+    stack: &mut Vec<Frame>,
+) -> Result<(), AllocError>
+    requires place { IsMotionWithin (2 ^ 61) place.now }
+    requires points { All (λ o. ArePointsWithin (2 ^ 61) o.points) cell.now.outlines }
+    ensures gathered { OnOk result (Gathers cell.now.outlines (image place.now) gathered.old.loops.items gathered.new.loops.items gathered.old.far gathered.new.far) }
+    ensures put { OnOk result (stack.new.items ≡ stack.old.items ++ map (frame_of place.now) cell.now.copies) }
+{
+    gather_all(alloc, place, cell.outlines.items(), gathered)?;
+    put_all(place, cell.copies.items(), stack)?;
+    Ok(())
+}
+
+/// What is left behind a frame's copy.
+fn next_of(frame: Frame) -> Option<Frame>
+    requires small { IsReady (2 ^ 60) frame.copies }
+    requires frame { IsFrame frame }
+    ensures { IsNext frame result }
+{
+    if frame.row + 1 < frame.copies.rows {
+        return Some(Frame {
+            row: frame.row + 1,
+            ..frame
+        });
+    }
+    if frame.column + 1 < frame.copies.columns {
+        return Some(Frame {
+            column: frame.column + 1,
+            row: 0,
+            ..frame
+        });
+    }
+    None
+}
+
+/// Puts back what is left behind a frame's copy.
+fn put_next(frame: Frame, stack: &mut Vec<Frame>) -> Result<(), AllocError>
+    requires small { IsReady (2 ^ 60) frame.copies }
+    requires frame { IsFrame frame }
+    ensures { OnOk result ((next : Option Frame) × IsNext frame next × (stack.new.items ≡ stack.old.items ++ option_to_list next)) }
+{
+    if let Some(next) = next_of(frame) {
+        stack.push(next)?;
+    }
+    Ok(())
+}
+
+/// Goes through all placements below a structure.
+pub(crate) fn walk_from(alloc: Global, cells: &[Cell], top: u32) -> Result<Gathered, AllocError>
+    requires known { AreKnown (2 ^ 60) cells.now }
+    requires steep { AreSteep cells.now }
+    requires few { length cells.now ≤ 2 ^ 26 }
+    requires top { top < length cells.now }
+    ensures { IfOk result (λ g. IsWalk cells.now top g.loops.items g.far) }
+{
+    let mut gathered = Gathered {
+        loops: Vec::new(alloc),
+        far: None,
+    };
+    let mut stack = Vec::new(alloc);
+    let start = Place::unit();
+    visit(
+        alloc,
+        &cells[top as usize],
+        &start,
+        &mut gathered,
+        &mut stack,
+    )?;
+    while let Some(frame) = stack.pop() {
+        put_next(frame, &mut stack)?;
+        let place = place_of(&frame);
+        let cell = &cells[frame.copies.target as usize];
+        visit(alloc, cell, &place, &mut gathered, &mut stack)?;
+    }
+    Ok(gathered)
+}
