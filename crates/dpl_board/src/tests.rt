@@ -39,6 +39,7 @@ fn tiles_are_posted_once_and_joined(rt: HostRuntime) -> Result<(), Fail> {
     assert_eq!(rt; board.post(4, 1, path), Ok(()));
     let again = board.post(5, 1, Joined::new(alloc));
     assert_eq!(rt; again, Err(PostFault::Twice { by: 4 }));
+    assert_eq!(rt; board.history(), [Entry { worker: 4, tile: 1 }].as_slice());
     assert_eq!(rt; board.first_missing(), Some(0));
     let more = stars(alloc, &[(2, 3)])?;
     assert_eq!(rt; board.post(5, 0, more), Ok(()));

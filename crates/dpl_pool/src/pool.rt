@@ -7,7 +7,7 @@ ghost use Rattle.dpl_deal.specs.Hands.{AreHandsOf, EachAt, IsDone, IsHandOf, all
 ghost use Rattle.dpl_turn.specs.Rule.{IsProper};
 ghost use Rattle.dpl_turn.specs.Seats.{IsSeatOf, knows};
 ghost use Rattle.dpl_pool.specs.Members.{Covers, IsMember, Leaves};
-ghost use Rattle.dpl_pool.specs.Replay.{events_of, workers_to};
+ghost use Rattle.dpl_turn.specs.Replay.{events_of, workers_to};
 
 use crate::gate::Gate;
 use crate::member::{Member, work};

@@ -96,6 +96,47 @@ fn posted_early(rt: HostRuntime) -> Result<(), Fail> {
     Ok(())
 }
 
+/// Holds each of two tiles until the other has come, so that two workers are inside at once, and notes whose they are.
+#[derive(Drop)]
+struct Meeting {
+    /// For each tile the number of the worker that came with it and one, or 0 before.
+    came: [AtomicU64; 2],
+    gave_up: AtomicU64,
+}
+
+impl Gate for Meeting {
+    fn enter(&self, worker: u32, tile: u32) {
+        let mine = (tile % 2) as usize;
+        self.came[mine].store(u64::from(worker) + 1, Ordering::SeqCst);
+        for _ in 0..100_000_000u32 {
+            if self.came[1 - mine].load(Ordering::SeqCst) != 0 {
+                return;
+            }
+            yield_now();
+        }
+        self.gave_up.store(1, Ordering::SeqCst);
+    }
+
+    fn posted(&self, _seat: &Seat, _tile: u32) {}
+}
+
+#[test]
+fn workers_come_and_post_under_their_numbers(rt: HostRuntime) -> Result<(), Fail> {
+    let gate = Meeting {
+        came: [AtomicU64::new(0), AtomicU64::new(0)],
+        gave_up: AtomicU64::new(0),
+    };
+    let state = run_pool(&rt, rt.alloc(), 2, &TwoTiles, &gate)?;
+    assert_eq!(rt; gate.gave_up.load(Ordering::SeqCst), 0);
+    let came = [0, 1].map(|k: usize| gate.came[k % 2].load(Ordering::SeqCst));
+    assert!(rt; came == [1, 2] || came == [2, 1]);
+    for tile in 0..2u32 {
+        let poster = state.poster(tile).map(|by| u64::from(by) + 1);
+        assert_eq!(rt; poster, Some(came[tile as usize]), "tile {tile}");
+    }
+    Ok(())
+}
+
 /// Tiles without edges.
 struct Bare {
     tiles: u32,
@@ -113,6 +154,13 @@ impl Job for Bare {
     }
 }
 
+fn has_no_rows(joined: &Joined) -> bool {
+    match joined {
+        Joined::Stars(rows) => rows.items().is_empty(),
+        Joined::Odd => false,
+    }
+}
+
 #[test]
 fn many_workers_post_few_tiles_once(rt: HostRuntime) -> Result<(), Fail> {
     let state = run_pool(&rt, rt.alloc(), 64, &Bare { tiles: 3 }, &OpenGate)?;
@@ -120,5 +168,7 @@ fn many_workers_post_few_tiles_once(rt: HostRuntime) -> Result<(), Fail> {
     assert_eq!(rt; state.first_missing(), None);
     let state = run_pool(&rt, rt.alloc(), 64, &Bare { tiles: 0 }, &OpenGate)?;
     assert_eq!(rt; state.history().len(), 0);
+    let joined = state.joined()?;
+    assert!(rt; has_no_rows(&joined));
     Ok(())
 }

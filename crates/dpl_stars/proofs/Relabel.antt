@@ -1,6 +1,7 @@
 -- A graph by the places of its numbers: its levels give the summary.
 use Rattle.std.proofs.Common.{◌≡◌, ℕ, ◌%◌, ◌<◌, ◌≤◌, inl, inr, Bool, List, map, length, get_or, sym, refl, ap, ◌∙◌, subst, arith}
 use Rattle.std.specs.Prelude.{◌==◌}
+use Rattle.std.proofs.lemmas.Bool.{cases_lt}
 use Rattle.std.specs.List.{All, Contains}
 use Rattle.std.proofs.lemmas.List.{get_or_default, get_or-map, length-map}
 use Rattle.std.proofs.lemmas.List.Elements.{All-contains, All-weaker, Contains-get_or}
@@ -10,11 +11,11 @@ use Rattle.dpl_spec.proofs.GraphLaws.{distance-unique, root-unique}
 use Rattle.dpl_spec.proofs.Uniqueness.{star-unique}
 use Rattle.dpl_graph.specs.Laws.{AreOrdered, HasLevelEdge}
 use Rattle.dpl_graph.specs.Levels.{AreLevels}
-use Rattle.dpl_graph.proofs.Walks.{IsUndirected, graph_of-undirected, Walk-reverse, Reaches-sym, root-along, distance-self}
+use Rattle.dpl_graph.proofs.Walks.{IsUndirected, graph_of-undirected, Walk-reverse, Reaches-sym, root-along, distance-self, Walk-nowhere}
 use Rattle.dpl_graph.proofs.Forks.{level-cycle}
 use Rattle.dpl_graph.proofs.OddLaws.{roots-show}
 use Rattle.dpl_stars.specs.declared.list.Star.{Star}
-use Rattle.dpl_stars.specs.Stars.{own_row, IsStarList}
+use Rattle.dpl_stars.specs.Stars.{odd_row, own_row, IsStarList}
 use Rattle.dpl_stars.specs.Sums.{row_of}
 use Rattle.dpl_stars.specs.Places.{AreTouched, edge_at, ArePlaced, IsLevelled, row_at, AreRows}
 use Rattle.dpl_stars.proofs.PlaceLaws.{numbers-rise, place-unique}
@@ -207,6 +208,29 @@ module _ (edges placed : List (ℕ × ℕ)) (numbers : List ℕ) (pairs : AreOrd
       own-at : (k : ℕ) → k < length numbers → row_at numbers roots levels (root k) ≡ own_row (num (root k))
       own-at k within = ap (λ r. star (num (root k)) (num r) (level (root k) % 2 == 1)) (root-root k within) ∙ ap (λ l. star (num (root k)) (num (root k)) (l % 2 == 1)) (root-level k within)
 
+      edge-far : (r j : ℕ) → H r j → IsDistance H r j 1
+      edge-far r j joins = record {
+        walk = step joins stay;
+        least = λ m walk. elim (cases_lt 0 m) [
+          | inl some ↦ some
+          | inr none ↦ absurd (un_h.different r j joins (Walk-nowhere H walk (omega (arith, none))))
+        ];
+      }
+
+      -- an edge leads from the root, so its other end is odd
+      odd-at : (k : ℕ) → k < length numbers → (j : ℕ) × (j < length numbers) × (row_at numbers roots levels j ≡ odd_row (num j) (num (root k)))
+      odd-at k within =
+          let top_in = root-in k within in
+          let (u, g) = (touched.exactly (num (root k))).0 (Contains-get_or numbers (root k) 0 top_in) in
+          let d = edge-down (num (root k)) u g in
+          let same : d.i ≡ root k = place-unique numbers touched.rising d.i (root k) d.i_in top_in d.first in
+          let joins : H (root k) d.j = subst (λ x. H x d.j) same d.joins in
+          let top : IsRoot H (root k) (root k) = root-along H un_h k (root k) (root k) (Reaches-sym H un_h (lv.root k within).reached) (lv.root k within) in
+          let along : IsRoot H d.j (root k) = root-along H un_h (root k) d.j (root k) (1, step joins stay) top in
+          let one : root d.j ≡ root k = root-unique H d.j (root d.j) (root k) (lv.root d.j d.j_in) along in
+          let far : level d.j ≡ 1 = distance-unique H (root k) d.j (level d.j) 1 (subst (λ r. IsDistance H r d.j (level d.j)) one (lv.level d.j d.j_in)) (edge-far (root k) d.j joins) in
+          (d.j, d.j_in, ap (λ r. star (num d.j) (num r) (level d.j % 2 == 1)) one ∙ ap (λ l. star (num d.j) (num (root k)) (l % 2 == 1)) far)
+
       pub are-listed : IsStarList rows
       are-listed = record {
         rising = λ i j d l within.
@@ -230,6 +254,12 @@ module _ (edges placed : List (ℕ × ℕ)) (numbers : List ℕ) (pairs : AreOrd
             let root_in = root-in k within in
             let is : (get_or rows k d).root ≡ num (root k) = ap (λ (r : Star). r.root) (rs.each k d within) in
             subst (λ v. Contains rows (own_row v)) (sym is) (root k, omega (arith, len, root_in), rs.each (root k) (own_row (num (root k))) root_in ∙ own-at k within));
+        paired = λ k d l.
+            (let len = rs.len in
+            let within : k < length numbers = omega (arith, len, l) in
+            let is : (get_or rows k d).root ≡ num (root k) = ap (λ (r : Star). r.root) (rs.each k d within) in
+            let (j, j_in, row) = odd-at k within in
+            (num j, subst (λ v. Contains rows (odd_row (num j) v)) (sym is) (j, omega (arith, len, j_in), rs.each j (odd_row (num j) (num (root k))) j_in ∙ row)));
       }
 
 pub roots-below : (placed : List (ℕ × ℕ)) (n : ℕ) (roots levels : List ℕ) → AreLevels placed n roots levels → All (λ r. r < n) roots

@@ -17,7 +17,7 @@ pub struct Star {
     pub odd: bool,
 }
 
-/// Rows by rising piece. Each root has a row of its own. A contract sees the list of the rows.
+/// Rows by rising piece. Each root has a row of its own, and a row at an odd distance. A contract sees the list of the rows.
 #[derive(Debug, Drop)]
 pub struct StarList {
     rows: Vec<Star>,

@@ -184,6 +184,7 @@ gets sheet workers step id v tile state history views at same fits within beyond
         subst (λ (l : List Entry). AreEntries l v.own) (sym same) (fits id v at).own,
         subst (λ (z : Sheet). Stands z state) (sym k.0) stands,
         subst (λ (z : Sheet). IsProper z v.workers state.history) (sym k.0) (subst (λ (n : ℕ). IsProper sheet n state.history) (sym k.1) (subst (λ (l : List Entry). IsProper sheet workers l) (sym same) proper)),
+        (fits id v at).rising,
       ),
     )
 

@@ -47,6 +47,10 @@ abbrev pub AreEntries : List Entry → List (ℕ × Entry) → Type 0
 AreEntries history [] = Unit {0}
 AreEntries history (x ∷ xs) = (slice_get history x.0 ≡ Some x.1) × AreEntries history xs
 
+-- by rising places
+abbrev pub Rise : List (ℕ × Entry) → Type 0
+Rise own = AllPairs (λ (a b : ℕ × Entry). a.0 < b.0) own
+
 -- each of these begins the history
 abbrev pub AllFronts : List Entry → List (List Entry) → Type 0
 AllFronts history [] = Unit {0}
@@ -67,7 +71,7 @@ IsNamed sheet workers history (Some e) = MayFollow sheet workers history e
 pub record Fits (history : List Entry) (v : View) : Type 0 where
   pub known : StartsWith history v.known
   pub own : AreEntries history v.own
-  pub rising : AllPairs (λ (a b : ℕ × Entry). a.0 < b.0) v.own
+  pub rising : Rise v.own
   pub older : AllFronts history v.older
 
 -- nobody has the turn, and the slot has a state with the history, which stands for the sheet
@@ -107,7 +111,7 @@ pub record IsKept (sheet : Sheet) (workers : ℕ) (s : State Slot View) : Type 0
 -- the seat has the turn, and the history that it found
 abbrev pub HasTurn : View → Me Slot View → Type 0
 HasTurn v m = (state : Board) × (m ≡ (record v { holds = true; found = state.history }, (0, Some state) ∷ [])) × StartsWith state.history v.known × AreEntries state.history v.own
-    × Stands v.sheet state × IsProper v.sheet v.workers state.history
+    × Stands v.sheet state × IsProper v.sheet v.workers state.history × Rise v.own
 
 -- what a try tells
 abbrev pub TriesTurn : Step Slot → Me Slot View → ℕ → Me Slot View → Type 0

@@ -3,8 +3,10 @@ ghost use Rattle.std.specs.Prelude.{◌≡◌, ◌<◌, length, [], ◌∷◌, �
 ghost use Rattle.dpl_stars.specs.Sums.{Sums};
 ghost use Rattle.dpl_board.specs.Sheets.{edges_at, entry};
 ghost use Rattle.dpl_board.specs.Boards.{Stands};
+ghost use Rattle.dpl_board.specs.Cores.{IsCore};
+ghost use Rattle.dpl_turn.specs.Replay.{events_of, workers_to};
 ghost use Rattle.dpl_turn.specs.Seats.{IsSeatOf, knows};
-ghost use Rattle.dpl_turn.specs.Rule.{Answers, AreEntries, HasTurn, Holding, Idle, IsProper, MayFollow, StartsWith, after_give, both_views, longer, named_list, newcomer};
+ghost use Rattle.dpl_turn.specs.Rule.{Answers, AreEntries, HasTurn, Holding, Idle, IsProper, MayFollow, Rise, StartsWith, after_give, both_views, longer, named_list, newcomer};
 
 use crate::seat::{Place, Seat, longest};
 use crate::view::{About, Copies, Gives, Law, Meet, Names, Pairs, Tries, View};
@@ -92,13 +94,15 @@ impl<J: Job> Board<J> {
     }
 
     /// Ends the board: a state that stands for the sheet, whose history begins with what the seat has seen and has the
-    /// seat's posts at their places. It may wait for the turn.
+    /// seat's posts at their places, in their order. The state is what the takes and posts of its history lead to. It
+    /// may wait for the turn.
     pub fn close<R: Wait>(self, rt: &R, seat: Seat) -> BoardState
         requires table { IsSeatOf self.table.shared.table_id seat }
         ensures seen { StartsWith result.history (knows seat).known }
-        ensures own { AreEntries result.history (knows seat).own }
+        ensures own { AreEntries result.history (knows seat).own × Rise (knows seat).own }
         ensures stands { Stands (knows seat).sheet result }
         ensures proper { IsProper (knows seat).sheet (knows seat).workers result.history }
+        ensures core { IsCore (knows seat).sheet (events_of result.history) (workers_to (length (knows seat).sheet) result.history) result }
     {
         let Seat {
             mut place,

@@ -1,10 +1,15 @@
-ghost use Rattle.std.specs.Prelude.{[], ◌∷◌};
+ghost use Rattle.std.specs.Prelude.{◌≡◌, ◌<◌, length, [], ◌∷◌};
+ghost use Rattle.dpl_stars.specs.Sums.{Sums};
+ghost use Rattle.dpl_board.specs.Sheets.{edges_at};
+ghost use Rattle.dpl_turn.specs.Seats.{IsSeatOf, knows};
 
 use super::*;
-use dpl_board::{Entry, Job, PostFault};
+use dpl_board::{BoardState, Entry, Job, PostFault};
 use dpl_stars::Joined;
 use std::alloc::{AllocError, Global};
+use std::sync::Wait;
 use std::test::*;
+use std::thread::{Threads, join};
 
 /// Two tiles without edges.
 struct TwoTiles;
@@ -43,5 +48,77 @@ fn seats_post_and_meet(rt: HostRuntime) -> Result<(), Fail> {
     let wanted = [Entry { worker: 1, tile: 1 }, Entry { worker: 0, tile: 0 }];
     assert_eq!(rt; state.history(), wanted.as_slice());
     assert_eq!(rt; state.first_missing(), None);
+    Ok(())
+}
+
+/// A seat, and what its post was answered.
+#[derive(Drop)]
+struct Answered {
+    seat: Seat,
+    answer: Result<(), PostFault>,
+}
+
+/// Posts a tile from a seat that is handed on.
+fn post_from<R: Wait>(
+    rt: &R,
+    board: &Board<TwoTiles>,
+    seat: Seat,
+    worker: u32,
+    tile: u32,
+    sum: Joined,
+) -> Answered
+    requires table { IsSeatOf board.now.table.shared.table_id seat }
+    requires entry { (worker < (knows seat).workers) × (tile < length (knows seat).sheet) }
+    requires sum { Sums (edges_at (knows seat).sheet tile) sum }
+    ensures table { IsSeatOf board.now.table.shared.table_id result.seat }
+    ensures sheet { (knows result.seat).sheet ≡ (knows seat).sheet }
+    ensures workers { (knows result.seat).workers ≡ (knows seat).workers }
+{
+    let mut seat = seat;
+    let answer = board.post(rt, &mut seat, worker, tile, sum);
+    Answered { seat, answer }
+}
+
+/// What two threads leave that post a tile each, and what a third post, of the first tile, is answered then.
+fn post_from_two_threads<R: Threads + Wait + Sync>(
+    rt: &R,
+    alloc: Global,
+) -> Result<Option<(BoardState, PostFault)>, AllocError> {
+    let (shared, mut seat) = Board::open(alloc, &TwoTiles, 2)?;
+    let board = &shared;
+    let other = board.split(&mut seat);
+    let (first, second) = join(
+        rt,
+        move || -> Answered
+            requires table { IsSeatOf board.now.table.shared.table_id seat }
+            requires sheet { ((knows seat).sheet ≡ [] ∷ [] ∷ []) × ((knows seat).workers ≡ 2) }
+            ensures table { IsSeatOf board.entry.now.table.shared.table_id result.seat }
+            ensures sheet { ((knows result.seat).sheet ≡ [] ∷ [] ∷ []) × ((knows result.seat).workers ≡ 2) }
+        { post_from(rt, board, seat, 0, 0, Joined::new(alloc)) },
+        move || -> Answered
+            requires table { IsSeatOf board.now.table.shared.table_id other }
+            requires sheet { ((knows other).sheet ≡ [] ∷ [] ∷ []) × ((knows other).workers ≡ 2) }
+            ensures table { IsSeatOf board.entry.now.table.shared.table_id result.seat }
+        { post_from(rt, board, other, 1, 1, Joined::new(alloc)) },
+    );
+    if first.answer.is_err() || second.answer.is_err() {
+        return Ok(None);
+    }
+    let Answered { mut seat, .. } = first;
+    board.rejoin(&mut seat, second.seat);
+    let third = board.post(rt, &mut seat, 1, 0, Joined::new(alloc));
+    let state = shared.close(rt, seat);
+    Ok(third.err().map(|fault| (state, fault)))
+}
+
+#[test]
+fn two_threads_post_a_tile_each(rt: HostRuntime) -> Result<(), Fail> {
+    let Some((state, third)) = post_from_two_threads(&rt, rt.alloc())? else {
+        return Err("both posts are made, and the third isn't".into());
+    };
+    assert_eq!(rt; third, PostFault::Twice { by: 0 });
+    assert_eq!(rt; state.history().len(), 2);
+    assert_eq!(rt; state.poster(0), Some(0));
+    assert_eq!(rt; state.poster(1), Some(1));
     Ok(())
 }

@@ -6,7 +6,7 @@ use Rattle.dpl_turn.specs.Rule.{IsProper}
 use Rattle.dpl_turn.specs.Seats.{knows}
 use Rattle.dpl_pool.specs.Members.{IsMember}
 use Rattle.dpl_pool.proofs.Members.{all_posted, some_done}
-use Rattle.dpl_pool.proofs.Replays.{replayed}
+use Rattle.dpl_turn.proofs.Replays.{replayed}
 use Rattle.dpl_pool.proofs.pool.run_pool.Goals as goal
 
 pub all_work-requires-clause-members : goal.all_work-requires-clause-members

@@ -10,9 +10,8 @@ use Rattle.dpl_board.specs.declared.entry.Entry.{Entry}
 use Rattle.dpl_board.specs.Sheets.{Sheet, poster_in}
 use Rattle.dpl_board.specs.Boards.{Board, Stands}
 use Rattle.dpl_board.specs.Cores.{IsCore, firsts, posts_of, takes_of, within}
-use Rattle.dpl_spec.proofs.Ordered.{AllPairs-rest}
 use Rattle.dpl_turn.specs.Rule.{IsProper}
-use Rattle.dpl_pool.specs.Replay.{events_of, workers_to}
+use Rattle.dpl_turn.specs.Replay.{events_of, workers_to}
 
 takes : (es : List Entry) → takes_of (events_of es) ≡ es
 takes [] = refl
@@ -42,7 +41,7 @@ first_apart e es h k d lt = h 0 (suc k) d (omega arith) (omega arith)
 all_firsts : (es : List Entry) → AllPairs (λ (d e : Entry). d.tile ≢ e.tile) es → firsts es ≡ es
 all_firsts [] h = refl
 all_firsts (e ∷ es) h =
-    let r = all_firsts es (AllPairs-rest (λ (d e : Entry). d.tile ≢ e.tile) e es h) in
+    let r = all_firsts es (λ i j d lt ltj. h (suc i) (suc j) d (omega arith) (omega arith)) in
     ap (λ (l : List Entry). e ∷ filter (λ (d : Entry). not (d.tile == e.tile)) l) r ∙ ap (λ (l : List Entry). e ∷ l) (none_lost e.tile es (first_apart e es h))
 
 workers_length : (n : ℕ) (es : List Entry) → length (workers_to n es) ≡ n
