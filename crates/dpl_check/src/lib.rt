@@ -10,8 +10,6 @@ mod masks;
 mod place;
 mod spacing;
 mod stitch;
-#[cfg(test)]
-mod tests;
 mod window;
 
 pub use crate::conflict::check_conflict;

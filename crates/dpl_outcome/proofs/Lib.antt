@@ -4,3 +4,5 @@ pub mod Outcomes
 pub mod Runs
 pub mod Masks
 pub mod Own
+pub mod Asked
+pub mod OwnFiles

@@ -1,5 +1,5 @@
 -- The same files have one outcome, whatever the tiles and the workers.
-use Rattle.std.proofs.Common.{◌≡◌, ◌<◌, ℕ, inl, inr, List, Option, Some, None, refl, sym, ap, ◌∙◌, subst, arith, codes}
+use Rattle.std.proofs.Common.{◌≡◌, ℕ, inl, inr, List, Option, Some, None, refl, sym, ap, ◌∙◌, subst, arith, codes}
 use Rattle.std.specs.FinMap as map
 use Rattle.std.proofs.lemmas.Bool.{cases_order}
 use Rattle.dpl_spec.specs.declared.Rect.{Rect}
@@ -11,16 +11,15 @@ use Rattle.dpl_cert.specs.Grammar.{IsText}
 use Rattle.dpl_cert.specs.Reading.{IsBadLine}
 use Rattle.dpl_cert.proofs.Whole.{lines-text}
 use Rattle.dpl_cert.proofs.Unique.{cert_same}
-use Rattle.dpl_verdict.specs.declared.Verdict.{Verdict}
 use Rattle.dpl_verdict.proofs.OrderLaws.{conflict-unique, masks-unique}
 use Rattle.dpl_words.specs.Meaning.{AsksCheck, AsksDemo, AsksSplit, CheckValues, DemoValues, SplitValues}
 use Rattle.dpl_demo.specs.Demo.{demo_file}
 use Rattle.dpl_run.specs.Flat.{Paints, Clashes, IsFlat}
 use Rattle.dpl_run.specs.Outcome.{Outcome, says}
-use Rattle.dpl_run.specs.Reading.{Choice, Reading, Faulty, Layer, IsReading}
+use Rattle.dpl_run.specs.Reading.{Choice, Faulty, Layer}
 use Rattle.dpl_run.specs.Split.{Decision, Refuses, Decides, IsDecision, IsSplit, IsSplitOf, plan_of, split_choice}
 use Rattle.dpl_run.specs.Demo.{IsDemo, demo_choice, demo_plan}
-use Rattle.dpl_run.specs.Check.{ByReading, IsCheck, IsCheckOfCert, IsCheckOfFile, IsCheckOfMasks, IsCheckOfText, IsJudged, WithFile, WithLayer, check_choice, mask_choice, refusal_of, verdict_outcome}
+use Rattle.dpl_run.specs.Check.{IsCheck, IsCheckOfCert, IsCheckOfFile, IsCheckOfMasks, IsCheckOfText, IsJudged, WithFile, WithLayer, check_choice, mask_choice, refusal_of, verdict_outcome}
 use Rattle.dpl_run.specs.Texts.{bad_line_line}
 use Rattle.dpl_run.specs.declared.status.Status.TheVariants.{Refused}
 use Rattle.dpl_outcome.specs.Laws.{OneOutcome}

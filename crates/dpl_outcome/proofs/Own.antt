@@ -1,5 +1,5 @@
 -- The results of the program are valid.
-use Rattle.std.proofs.Common.{sym, subst, map}
+use Rattle.std.proofs.Common.{sym, subst}
 use Rattle.dpl_cert.specs.declared.cert.Head.{Head}
 use Rattle.dpl_cert.specs.declared.cert.PlaceLine.{PlaceLine}
 use Rattle.std.specs.Prelude.{List}
@@ -7,7 +7,7 @@ use Rattle.dpl_cert.specs.declared.cert.Cert.TheVariants.{Masks, Conflict}
 use Rattle.dpl_verdict.specs.declared.Verdict.TheVariants.{Valid}
 use Rattle.dpl_verdict.specs.Masks.{IsVerdictOfMasks}
 use Rattle.dpl_verdict.specs.Conflicts.{IsVerdictOfConflict}
-use Rattle.dpl_run.specs.Flat.{Painted, head_of, place_line}
+use Rattle.dpl_run.specs.Flat.{Painted, head_of}
 use Rattle.dpl_valid.proofs.Passing.{kept-valid}
 use Rattle.dpl_valid.proofs.Painted.{painted-kept}
 use Rattle.dpl_valid.proofs.Clashing.{clash-verdict}

@@ -4,6 +4,7 @@
 
 ghost use Rattle.dpl_outcome.specs.Laws.{OneOutcome, OneRun, PaintedMasksAreRight};
 ghost use Rattle.dpl_outcome.specs.Own.{ClashIsValid, PaintedIsValid};
+ghost use Rattle.dpl_outcome.specs.OwnFiles.{OwnFilesAreValid, OwnRunsAreValid, SplitsAreDecided};
 
 /// For two command lines that differ in the values of `--tile` and `--workers` alone, the status, the files written and
 /// the line said are equal.
@@ -21,4 +22,12 @@ pub fn painted_masks_are_right()
 pub fn own_results_are_valid()
     ensures painted { PaintedIsValid }
     ensures clash { ClashIsValid }
+{}
+
+/// With the files that `split` has written, `check` of the same values says that they are valid, if each file has at most
+/// 268,435,456 bytes and each mask at most 3,355,443 rectangles: more aren't read again.
+pub fn own_files_are_valid()
+    ensures decided { SplitsAreDecided }
+    ensures files { OwnFilesAreValid }
+    ensures words { OwnRunsAreValid }
 {}

@@ -1,21 +1,20 @@
 -- Reading the records of the boundaries that are written.
-use Rattle.std.proofs.Common.{◌≡◌, ℕ, ◌+◌, ◌-◌, ◌<◌, ◌≤◌, Bool, true, false, cond, eqb, List, [], ◌∷◌, ◌++◌, length, map, Option, Some, None, Result, Ok, Err, refl, sym, subst, ap, ◌∙◌, append_assoc, arith}
-use Rattle.std.specs.List.{concat, Contains}
+use Rattle.std.proofs.Common.{◌≡◌, ℕ, ◌+◌, ◌<◌, Bool, true, false, cond, eqb, List, [], ◌∷◌, ◌++◌, length, Option, Some, None, Result, Ok, Err, refl, sym, subst, ap, ◌∙◌, append_assoc, arith}
+use Rattle.std.specs.List.{Contains}
 use Rattle.std.specs.Int.{w16, to_be_bytes}
 use Rattle.std.proofs.lemmas.List.{length-append, append-nil}
 use Rattle.dpl_spec.specs.declared.Rect.{Rect}
 use Rattle.dpl_spec.proofs.Ordered.{Contains-head, Contains-later}
 use Rattle.dpl_format.specs.Kinds as kinds
 use Rattle.dpl_format.specs.Faults.{Fault, unexpected}
-use Rattle.dpl_format.specs.Fields.{u16_at}
 use Rattle.dpl_format.specs.Records.{Record, record_at}
 use Rattle.dpl_format.specs.Table.{form_of, table}
 use Rattle.dpl_format.specs.Tree as Tree
 use Rattle.dpl_format.specs.Tree.{Element, Body, is_boundary}
-use Rattle.dpl_masks.specs.Bytes.{record_bytes, boundary_bytes, coordinate_bytes, point_bytes, corners}
+use Rattle.dpl_masks.specs.Bytes.{boundary_bytes, coordinate_bytes}
 use Rattle.dpl_syntax.specs.Reading as reading
 use Rattle.dpl_syntax.specs.Reading.{◌>>=◌, Item, must, may, Slots, body_at}
-use Rattle.dpl_syntax.specs.Passing.{Passes, same, element_then, elements_first, property_first, endel_first, properties_end, AreProperties, IsEnd, IsElement, AreElements, IsNextElement}
+use Rattle.dpl_syntax.specs.Passing.{Passes, same, element_then, elements_first, property_first, properties_end, AreProperties, IsEnd, IsElement, AreElements, IsNextElement}
 use Rattle.dpl_syntax.proofs.Ends.{passes_none, no_more, whole_end}
 use Rattle.dpl_syntax.proofs.WholeElements.{element_ok}
 use Rattle.dpl_syntax.proofs.ElementLists.{elements_more}

@@ -1,12 +1,11 @@
 -- What the bytes of numbers and points say.
-use Rattle.std.proofs.Common.{◌≡◌, ℕ, ◌+◌, ◌*◌, ◌/◌, ◌%◌, ◌<◌, ◌≤◌, List, [], ◌∷◌, ◌++◌, length, refl, sym, ap, ◌∙◌, arith}
+use Rattle.std.proofs.Common.{◌≡◌, ℕ, ◌<◌, ◌≤◌, List, [], ◌∷◌, refl, ap, ◌∙◌, arith}
 use Rattle.std.proofs.Common.{rules}
 use Rattle.std.proofs.lemmas.Nat.{from_be_bytes-to_be_bytes_4}
 use Rattle.std.specs.Prelude.{ℤ, pos, negsuc, unsigned_abs, FitsSigned, map}
 use Rattle.std.specs.List.{concat}
 use Rattle.std.specs.Int.{w16, w32, to_be_bytes, cast_unsigned, cast_signed}
-use Rattle.std.proofs.lemmas.Int.{ints, to_z-of_z}
-use Rattle.dpl_spec.specs.declared.Pt.{Pt}
+use Rattle.std.proofs.lemmas.Int.{to_z-of_z}
 use Rattle.dpl_spec.specs.declared.Rect.{Rect}
 use Rattle.dpl_spec.specs.Zones.{at}
 use Rattle.dpl_spec.specs.Loops.{IsRectWithin, farthest}

@@ -1,8 +1,8 @@
 -- The six records before the elements of a structure of a library that a file holds.
-use Rattle.std.proofs.Common.{◌≡◌, ◌≢◌, ℕ, ◌+◌, ◌<◌, ◌⊎◌, inl, inr, Bool, true, false, not, ◌&&◌, cond, eqb, List, [], ◌∷◌, ◌++◌, length, map, Option, Some, None, Result, Ok, Err, refl, sym, subst, ap, ◌∙◌, append_assoc, arith}
+use Rattle.std.proofs.Common.{◌≡◌, ℕ, ◌⊎◌, inl, inr, Bool, true, false, not, ◌&&◌, cond, eqb, List, [], ◌∷◌, ◌++◌, map, Some, None, Ok, refl, sym, subst, ap, ◌∙◌, arith}
 use Rattle.std.specs.Cmp.Lexicographic.{pointwise}
 use Rattle.dpl_format.specs.Faults.{bad_name, duplicate_structure}
-use Rattle.std.specs.Prelude.{nat_eq, IsTrue, if◌then◌else◌, ◌==◌}
+use Rattle.std.specs.Prelude.{nat_eq, if◌then◌else◌, ◌==◌}
 use Rattle.std.specs.List.{Contains, flat_map, AllByRecursion, list_any}
 use Rattle.std.proofs.lemmas.Bool.{eqb-true, eq-eqb}
 use Rattle.std.proofs.lemmas.List.Concat.{flat_map-cons}
@@ -13,7 +13,7 @@ use Rattle.dpl_format.specs.Grammar as grammar
 use Rattle.dpl_format.specs.Grammar.{Grammar, one, both, either, maybe, many, a, Has, library}
 use Rattle.dpl_format.specs.Records.{Record, record_at, Lies}
 use Rattle.dpl_format.specs.Stream.{kinds_of, refusal, refusal_in, is_empty, owner, names}
-use Rattle.dpl_format.specs.Tree.{Library, Structure, first_of, before, parts, whole, whole_of, whole_or_none, structure_of, library_of, data_or_none}
+use Rattle.dpl_format.specs.Tree.{Library, Structure, first_of, before, parts, whole, whole_of, whole_or_none, structure_of, library_of}
 use Rattle.dpl_format.specs.Layout.{Holds, IsSound}
 use Rattle.dpl_reread.proofs.Moving.{built-of}
 use Rattle.dpl_reread.proofs.Putting.{IsRecord, lifted}

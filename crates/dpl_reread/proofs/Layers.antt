@@ -1,7 +1,7 @@
 -- The layers of a library whose one structure has one boundary for each rectangle.
-use Rattle.std.proofs.Common.{◌≡◌, ◌≢◌, ℕ, ◌+◌, ◌<◌, ◌⊎◌, inl, inr, Bool, true, false, ◌&&◌, eqb, cond, List, [], ◌∷◌, ◌++◌, length, map, slice_get, Option, Some, None, zero, suc, refl, sym, subst, ap, ◌∙◌, arith, rules}
+use Rattle.std.proofs.Common.{◌≡◌, ◌≢◌, ℕ, ◌+◌, ◌<◌, ◌⊎◌, inl, inr, Bool, true, false, ◌&&◌, eqb, List, [], ◌∷◌, ◌++◌, length, map, slice_get, Some, None, zero, suc, refl, sym, subst, ap, ◌∙◌, arith, rules}
 use Rattle.std.specs.Prelude.{◌↔◌, if◌then◌else◌}
-use Rattle.std.specs.List.{Contains, All, Any}
+use Rattle.std.specs.List.{Contains}
 use Rattle.std.proofs.lemmas.Bool.{eqb-true, eq-eqb}
 use Rattle.std.proofs.lemmas.List.{map-id, map-append}
 use Rattle.std.proofs.lemmas.List.Elements.{Contains-append_left, Contains-append_right, Contains-append_cases}
@@ -14,10 +14,9 @@ use Rattle.dpl_spec.specs.Slabs.{IsSolid}
 use Rattle.dpl_spec.specs.Loops.{LoopCovers, SomeLoopCovers, IsRectWithin, farthest}
 use Rattle.dpl_format.specs.Tree.{Library, Structure, Element, Body, is_boundary, elements_at, elements_or_none}
 use Rattle.dpl_layout.specs.declared.Layer.{Layer}
-use Rattle.dpl_layout.specs.Elements.{points_in, loops_of, is_on}
-use Rattle.dpl_layout.specs.Structures.{target_of, Refers, IsRoot, AreRoots, IsTop}
-use Rattle.dpl_layout.specs.Placements.{Step, IsStep, Leads, IsPlacement, IsInLayer, placed_loops}
-use Rattle.dpl_masks.specs.Bytes.{corners}
+use Rattle.dpl_layout.specs.Elements.{points_in, loops_of}
+use Rattle.dpl_layout.specs.Structures.{target_of, Refers, IsRoot, IsTop}
+use Rattle.dpl_layout.specs.Placements.{Step, IsStep, Leads, IsInLayer, placed_loops}
 use Rattle.dpl_reread.specs.ReadBack.{boundary_round}
 use Rattle.dpl_reread.proofs.Decoding.{xy_of, points-read}
 use Rattle.dpl_reread.proofs.Rounds.{round-covers}
@@ -60,7 +59,7 @@ one-loop l p (k, m, k_in, is, covers) = elim (Contains-cases l m [] (k, k_in, is
 no-loop : (p : Pt) → SomeLoopCovers [] p → ⊥
 no-loop p (k, m, k_in, is, covers) = omega (arith, k_in)
 
-unmoved : (layer : Layer) (e : Element) → placed_loops layer [] e ≡ loops_of layer e.body
+pub unmoved : (layer : Layer) (e : Element) → placed_loops layer [] e ≡ loops_of layer e.body
 unmoved layer e = (λ i. map (λ (ps : List Pt). map-id ps i) (loops_of layer e.body)) ∙ map-id (loops_of layer e.body)
 
 module _ (lib : Library) (at : ℕ) (ss : List Shape) (good : (s : Shape) → Contains ss s → IsGoodShape s) (elements : elements_at lib 0 ≡ elements_from at ss) where

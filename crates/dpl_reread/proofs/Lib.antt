@@ -7,3 +7,5 @@ pub mod Boundaries
 pub mod Whole
 pub mod Fronts
 pub mod Masks
+pub mod Faultless
+pub mod Taken

@@ -1,23 +1,19 @@
 -- A file of two masks, read back, holds just the two masks.
-use Rattle.std.proofs.Common.{◌≡◌, ◌≢◌, ℕ, ◌<◌, ◌⊎◌, inl, inr, List, [], ◌∷◌, ◌++◌, map, refl, sym, subst, ap, ◌∙◌, append_assoc}
+use Rattle.std.proofs.Common.{◌≡◌, ◌≢◌, ℕ, ◌<◌, List, [], ◌∷◌, ◌++◌, refl, sym, subst, ap, ◌∙◌, append_assoc}
 use Rattle.std.specs.Prelude.{◌↔◌}
-use Rattle.std.specs.List.{Contains, concat}
-use Rattle.std.proofs.lemmas.List.{append-nil}
+use Rattle.std.specs.List.{Contains}
 use Rattle.std.proofs.lemmas.List.Elements.{All-contains}
-use Rattle.dpl_spec.specs.declared.Pt.{Pt}
 use Rattle.dpl_spec.specs.declared.Rect.{Rect}
-use Rattle.dpl_spec.specs.Squares.{Covers, Has}
 use Rattle.dpl_spec.specs.Slabs.{IsSolid}
 use Rattle.dpl_format.specs.Tree.{Library, Structure, frame_of}
 use Rattle.dpl_format.specs.Layout.{Holds}
-use Rattle.dpl_layout.specs.Placements.{IsInLayer}
 use Rattle.dpl_masks.specs.Bytes.{boundary_bytes, boundaries_bytes, closing_bytes, file_bytes}
 use Rattle.dpl_run.specs.Reading.{frame_bytes}
-use Rattle.dpl_reread.specs.ReadBack.{IsLayerOf, AreMasksOf, IsMask}
+use Rattle.dpl_reread.specs.ReadBack.{AreMasksOf, IsMask}
 use Rattle.dpl_reread.proofs.Layers.{Shape, IsGoodShape, on_layer, shapes_of, both_shapes, layer-is, top-is, bodies-both, first-mask, second-mask, all-shapes}
 use Rattle.dpl_reread.proofs.Boundaries.{shapes_bytes}
-use Rattle.dpl_reread.proofs.Whole.{whole_file, library_made, top_made, file-holds}
-use Rattle.dpl_reread.proofs.Fronts.{IsFront, front-whole}
+use Rattle.dpl_reread.proofs.Whole.{library_made, top_made, file-holds}
+use Rattle.dpl_reread.proofs.Fronts.{front-whole}
 
 mask-bytes : (layer : ℕ) (rs : List Rect) → shapes_bytes (shapes_of layer rs) ≡ boundaries_bytes layer rs
 mask-bytes layer [] = refl

@@ -1,14 +1,11 @@
 -- A whole record's bytes, put elsewhere, give the same record there.
-use Rattle.std.proofs.Common.{◌≡◌, ℕ, ◌+◌, ◌-◌, ◌*◌, ◌<◌, ◌≤◌, Bool, true, false, ◌||◌, List, [], ◌∷◌, ◌++◌, length, get_or, take, drop, Option, Some, None, Result, Ok, Err, refl, sym, subst, ap, ◌∙◌, arith}
+use Rattle.std.proofs.Common.{◌≡◌, ℕ, ◌+◌, ◌-◌, ◌*◌, ◌<◌, ◌≤◌, Bool, true, false, ◌||◌, List, length, Option, Some, None, Result, Ok, Err, refl, sym, subst, ap, ◌∙◌, arith}
 use Rattle.std.specs.Prelude.{nat_lt, ◌%◌, ◌==◌, not, slice_index, slice_range, if◌then◌else◌}
 use Rattle.std.proofs.lemmas.Bool.{ltb-false, le-ltb}
-use Rattle.std.proofs.lemmas.List.{get_or-take, get_or-drop, get_or_append_left, get_or-append-add, drop-append-le, drop-take, length-append, length-take-le, length-drop, take-append-le}
-use Rattle.std.proofs.Math.Seq.{drop-append-add, take-append_seam, drop-append_seam, take-length}
 use Rattle.dpl_format.specs.Fields.{u16_at}
 use Rattle.dpl_format.specs.Table.{Form, form_of, type_fits, size_fits}
 use Rattle.dpl_format.specs.Faults.{Fault, truncated, bad_length, unknown_record, bad_data_type, bad_size}
 use Rattle.dpl_format.specs.Records.{Record, record_at, checked}
-use Rattle.dpl_format.specs.Tree.{whole}
 
 -- the same record at another offset
 abbrev pub moved : ℕ → Record → Record

@@ -1,7 +1,7 @@
 -- A whole file: six records, one boundary for each shape, and the end.
-use Rattle.std.proofs.Common.{◌≡◌, ℕ, ◌+◌, ◌-◌, ◌<◌, ◌≤◌, Bool, true, false, cond, eqb, List, [], ◌∷◌, ◌++◌, length, map, Option, Some, None, Result, Ok, Err, refl, sym, subst, ap, ◌∙◌, append_assoc, arith}
+use Rattle.std.proofs.Common.{◌≡◌, ℕ, ◌+◌, ◌<◌, ◌≤◌, Bool, true, false, cond, eqb, List, [], ◌∷◌, ◌++◌, length, Result, Ok, Err, refl, sym, subst, ap, ◌∙◌, append_assoc, arith}
 use Rattle.std.specs.Prelude.{nat_eq}
-use Rattle.std.specs.List.{concat, Contains, list_any}
+use Rattle.std.specs.List.{Contains, list_any}
 use Rattle.std.specs.Cmp.Lexicographic.{pointwise}
 use Rattle.std.proofs.lemmas.List.{length-append, append-nil}
 use Rattle.dpl_format.specs.Kinds as kinds
@@ -17,7 +17,7 @@ use Rattle.dpl_format.specs.Layout.{Holds}
 use Rattle.dpl_masks.specs.Bytes.{closing_bytes, boundary_bytes}
 use Rattle.dpl_syntax.specs.Reading as reading
 use Rattle.dpl_syntax.specs.Reading.{◌>>=◌}
-use Rattle.dpl_syntax.specs.Passing.{Passes, PassesSkips, PassesPart, PassesNamed, IsNoneSkipped, is_part, same, skips_then, class_first, elements_first, endstr_first, structure_then, structures_first, endlib_first, IsNext, IsStructure, AreElements, AreStructures}
+use Rattle.dpl_syntax.specs.Passing.{Passes, PassesPart, PassesNamed, is_part, same, class_first, elements_first, endstr_first, structure_then, structures_first, endlib_first, IsNext, IsStructure, AreElements, AreStructures}
 use Rattle.dpl_syntax.proofs.Languages.{ends_many, exists_rest}
 use Rattle.dpl_syntax.proofs.Steps.{agreed}
 use Rattle.dpl_syntax.proofs.Taking.{same_record}

@@ -1,5 +1,5 @@
 -- What a file of two masks holds when it is read back.
-use Rattle.std.specs.Prelude.{◌≡◌, ◌≢◌, ◌<◌, ◌↔◌, ◌++◌, ℕ, List, [], ◌∷◌, map, None}
+use Rattle.std.specs.Prelude.{◌≡◌, ◌≢◌, ◌<◌, ◌≤◌, ◌↔◌, ◌++◌, ℕ, List, [], ◌∷◌, length, map, None}
 use Rattle.std.specs.List.{Contains, concat}
 use Rattle.dpl_spec.specs.declared.Pt.{Pt}
 use Rattle.dpl_spec.specs.declared.Rect.{Rect}
@@ -11,7 +11,8 @@ use Rattle.dpl_format.specs.Tree.{Library, Structure, Element, Body, is_boundary
 use Rattle.dpl_layout.specs.Structures.{IsTop}
 use Rattle.dpl_layout.specs.Placements.{IsInLayer}
 use Rattle.dpl_masks.specs.Bytes.{corners, point_bytes, file_bytes}
-use Rattle.dpl_run.specs.Reading.{frame_bytes}
+use Rattle.dpl_run.specs.Reading.{IsReading, Layer, frame_bytes, limit}
+use Rattle.dpl_run.specs.Check.{mask_choice}
 
 -- In structure 0 of the library, the layer of data type 0 has the squares that the slabs cover.
 abbrev pub IsLayerOf : Library → ℕ → List Rect → Type 0
@@ -45,3 +46,17 @@ pub record IsMask (slabs : List Rect) : Type 0 where
 abbrev pub MasksReadBack : Type 0
 MasksReadBack = (bytes : List ℕ) (lib : Library) (s : Structure) (la lb : ℕ) (a b : List Rect) → Holds bytes lib → Contains lib.structures s → la ≢ lb → la < 65536 → lb < 65536 → IsMask a → IsMask b
     → AreMasksOf (file_bytes (frame_bytes (frame_of lib s)) la lb a b) la lb a b
+
+-- how many slabs of a mask are read: each places five points
+abbrev pub most_slabs : ℕ
+most_slabs = 3355443
+
+-- the file is read without a fault, and has the mask on the layer
+abbrev pub IsReadAs : List ℕ → ℕ → List Rect → Type 0
+IsReadAs bytes layer slabs = (front : List ℕ) × IsReading (mask_choice layer) bytes (Layer front slabs)
+
+-- Where such a file isn't too large, and its masks have not too many slabs, it is read without a fault.
+abbrev pub MasksAreRead : Type 0
+MasksAreRead = (bytes : List ℕ) (lib : Library) (s : Structure) (la lb : ℕ) (a b : List Rect) → Holds bytes lib → Contains lib.structures s → la ≢ lb → la < 65536 → lb < 65536 → IsMask a → IsMask b
+    → length (file_bytes (frame_bytes (frame_of lib s)) la lb a b) ≤ limit → length a ≤ most_slabs → length b ≤ most_slabs
+    → IsReadAs (file_bytes (frame_bytes (frame_of lib s)) la lb a b) la a × IsReadAs (file_bytes (frame_bytes (frame_of lib s)) la lb a b) lb b

@@ -40,7 +40,7 @@ not_same Equal h = absurd (h refl)
 not_same Greater h = refl
 
 -- another file stays
-put_other : (o : Outside) (name bytes other : Text) → (other ≡ name → ⊥) → file_of (with_file name bytes o) other ≡ file_of o other
+pub put_other : (o : Outside) (name bytes other : Text) → (other ≡ name → ⊥) → file_of (with_file name bytes o) other ≡ file_of o other
 put_other o name bytes other apart =
     map.get-insert nat_list_cmp_total o.files name bytes other
     ∙ ap (λ (b : Bool). cond b (Some bytes) (map.get o.files other)) (not_same (slice_cmp nat_cmp other name) (λ e. apart (exact_names other name e)))
@@ -62,7 +62,7 @@ if_other name (Some bytes) o other apart = put_other o name bytes other apart
 none : (name : Text) → file_of nothing name ≡ None
 none name = map.get-empty (slice_cmp nat_cmp) name
 
-differ : (x y : Text) → not (bytes_eq x y) ≡ true → x ≡ y → ⊥
+pub differ : (x y : Text) → not (bytes_eq x y) ≡ true → x ≡ y → ⊥
 differ x y h e = go (bytes_eq x y) ((bytes_eq-Decides x y).1 e) h
   where
     go : (b : Bool) → b ≡ true → not b ≡ true → ⊥

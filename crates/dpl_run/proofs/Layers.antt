@@ -9,7 +9,8 @@ use Rattle.dpl_spec.specs.Squares.{Region}
 use Rattle.dpl_spec.specs.Slabs.{AreSlabsOf}
 use Rattle.dpl_spec.proofs.SquareLaws.{SameSquares-trans}
 use Rattle.dpl_format.specs.Tree.{Frame, Library, Structure, frame_of}
-use Rattle.dpl_run.specs.Reading.{frame_bytes, front_of}
+use Rattle.dpl_spec.specs.Loops.{SomeLoopCovers}
+use Rattle.dpl_run.specs.Reading.{Choice, HasShapes, IsLayout, Layer, frame_bytes, front_of}
 
 -- six parts put one behind another
 six_parts : (a b c d e f : List ℕ) → ((((a ++ b) ++ c) ++ d) ++ e) ++ f ≡ a ++ (b ++ (c ++ (d ++ (e ++ f))))
@@ -34,3 +35,18 @@ fronted lib top f bytes within h e = elim (slice_get_cases lib.structures top).1
 -- slabs of the same squares
 pub slabs_same : (a b : Region) (rs : List Rect) → AreSlabsOf a rs → ((p : Pt) → a p ↔ b p) → AreSlabsOf b rs
 slabs_same a b rs s same = record { canonical = s.canonical; covers = SameSquares-trans _ _ _ s.covers same }
+
+-- the canonical slabs of the shapes of some bytes are their layer
+pub swept_layer : (v : Choice) (bytes front before : List ℕ) (loops : List (List Pt)) (slabs : List Rect) → HasShapes v bytes front loops → before ≡ front → AreSlabsOf (SomeLoopCovers loops) slabs
+    → IsLayout v bytes (Layer before slabs)
+swept_layer v bytes front before loops slabs (lib, holds, are) same swept = (
+  lib,
+  holds,
+  record {
+    top = are.top;
+    is_top = are.is_top;
+    faultless = are.faultless;
+    before = are.before ∙ ap Some (sym same);
+    squares = slabs_same _ _ _ swept are.covers;
+  },
+)

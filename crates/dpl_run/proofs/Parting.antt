@@ -25,6 +25,7 @@ use Rattle.dpl_run.specs.Program.{IsOutcome, IsPlan}
 use Rattle.dpl_run.specs.Outcome.{Outcome, says, silent}
 use Rattle.dpl_run.specs.Texts.{bad_line_line, usage_line}
 use Rattle.dpl_run.specs.Parted.{ArePartingMasks, IsParted, IsPartedBy, WritesParting, rects_of_lines}
+use Rattle.dpl_run.proofs.Judged.{check_right}
 use Rattle.dpl_run.specs.declared.status.Status.{Status}
 use Rattle.dpl_run.specs.declared.status.Status.TheVariants.{Done, Conflict, Refused, Usage, ReadFault}
 
@@ -132,7 +133,10 @@ plan_done None o x is done = absurd (usage_not (status_as x (says Usage usage_li
 plan_done (Some (AsksSplit v)) o x is done =
     let (bytes, there, parted) = file_done v (files.get o.files v.input) x is done in
     record { bytes = bytes; read = there; parted = parted }
-plan_done (Some (AsksCheck v)) o x is done = check_writes v (files.get o.files v.input) (files.get o.files v.certificate) (files.get o.files v.output) x is
+plan_done (Some (AsksCheck v)) o x is done = (
+  check_writes v (files.get o.files v.input) (files.get o.files v.certificate) (files.get o.files v.output) x is,
+  check_right v o (files.get o.files v.input) (files.get o.files v.certificate) (files.get o.files v.output) x refl refl refl is done,
+)
 plan_done (Some (AsksDemo v)) o x is done = ap (λ (y : Outcome). y.writes) is.2 ∙ demo_writes is.0
 
 -- an outcome that is done

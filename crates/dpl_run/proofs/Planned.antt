@@ -1,10 +1,8 @@
 -- The conflicts of a plan are those of the cut that it was made of.
-use Rattle.std.proofs.Common.{◌≡◌, ◌<◌, ◌≤◌, ℕ, List, length, get_or, sym, refl, subst, inl, inr}
-use Rattle.std.specs.Prelude.{◌↔◌}
-use Rattle.std.specs.List.{All, Contains}
+use Rattle.std.proofs.Common.{◌≤◌, ℕ, List, length, get_or, sym, subst}
 use Rattle.std.proofs.lemmas.List.Elements.{Contains-get_or}
 use Rattle.dpl_spec.specs.declared.Rect.{Rect}
-use Rattle.dpl_spec.specs.Graphs.{Graph, AreEdges, graph_of}
+use Rattle.dpl_spec.specs.Graphs.{AreEdges, graph_of}
 use Rattle.dpl_spec.specs.Pieces.{Conflict}
 use Rattle.dpl_spec.specs.Summary.{HasOddCycle}
 use Rattle.dpl_spec.specs.Decomposition.{Cut, conflicts}

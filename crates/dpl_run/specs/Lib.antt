@@ -6,6 +6,7 @@ pub mod Texts
 pub mod Split
 pub mod Demo
 pub mod Check
+pub mod Checked
 pub mod Program
 pub mod LayerFaults
 pub mod View

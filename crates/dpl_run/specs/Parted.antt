@@ -21,6 +21,7 @@ use Rattle.dpl_words.specs.Meaning.{AsksCheck, AsksDemo, AsksSplit, RequestValue
 use Rattle.dpl_run.specs.Reading.{chosen, front_of}
 use Rattle.dpl_run.specs.Split.{certified, split_choice}
 use Rattle.dpl_run.specs.Outcome.{Outcome, Shows, carried_out}
+use Rattle.dpl_run.specs.Checked.{IsRight}
 
 abbrev pub rects_of_lines : List StitchLine → List Rect
 rects_of_lines lines = map (λ (line : StitchLine). line.rect) lines
@@ -61,13 +62,13 @@ pub record WritesMasks (v : SplitValues) (o : Outside) (writes : List (Text × L
   pub read : files.get o.files v.input ≡ Some bytes
   pub parted : WritesParting v bytes writes
 
--- what a request that is done writes: `split` the masks, the others nothing
+-- what a request that is done writes: `split` the masks, the others nothing; and `check` has found that all is right
 abbrev pub IsPartedBy : Option RequestValues → Outside → List (Text × List ℕ) → Type 0
 IsPartedBy (Some (AsksSplit v)) o writes = WritesMasks v o writes
-IsPartedBy (Some (AsksCheck v)) o writes = writes ≡ []
+IsPartedBy (Some (AsksCheck v)) o writes = (writes ≡ []) × IsRight v o
 IsPartedBy (Some (AsksDemo v)) o writes = writes ≡ []
 IsPartedBy None o writes = ⊥
 
--- What the words ask for was done: if they ask for masks, these were written, and else nothing was.
+-- What the words ask for was done: if they ask for masks, these were written, and else nothing was; if they ask for a check, what the files hold is right.
 abbrev pub IsParted : List Text → Option Outside → Option Outside → Type 0
 IsParted words old new = (o : Outside) × Shows old o × ((x : Outcome) × IsPartedBy (request_of words) o x.writes × (new ≡ option_map (carried_out x) old))

@@ -1,7 +1,9 @@
 -- What is read of a layout: the squares of one layer, or its first fault.
-use Rattle.std.specs.Prelude.{◌≡◌, ◌⊎◌, ◌<◌, ◌≤◌, ◌++◌, ℕ, List, length, Option, Some, slice_get}
+use Rattle.std.specs.Prelude.{◌≡◌, ◌⊎◌, ◌↔◌, ◌<◌, ◌≤◌, ◌++◌, ℕ, List, length, Option, Some, slice_get}
 use Rattle.std.specs.Option.{option_map}
+use Rattle.dpl_spec.specs.declared.Pt.{Pt}
 use Rattle.dpl_spec.specs.declared.Rect.{Rect}
+use Rattle.dpl_spec.specs.Loops.{SomeLoopCovers}
 use Rattle.dpl_spec.specs.Slabs.{AreSlabsOf}
 use Rattle.dpl_format.specs.Tree.{Frame, Library, frame_of}
 use Rattle.dpl_format.specs.Layout.{Holds, IsFirstFault as IsFirstSyntaxFault}
@@ -56,6 +58,18 @@ pub record IsLayerIn (v : Choice) (lib : Library) (front : List ℕ) (slabs : Li
   pub faultless : IsFaultless lib top (chosen v)
   pub before : front_of lib top ≡ Some front
   pub squares : AreSlabsOf (IsInLayer lib top (chosen v)) slabs
+
+-- loops that cover the layer of the library, which has no fault
+pub record HasShapesIn (v : Choice) (lib : Library) (front : List ℕ) (loops : List (List Pt)) : Type 0 where
+  pub top : ℕ
+  pub is_top : IsTop lib v.top top
+  pub faultless : IsFaultless lib top (chosen v)
+  pub before : front_of lib top ≡ Some front
+  pub covers : (p : Pt) → SomeLoopCovers loops p ↔ IsInLayer lib top (chosen v) p
+
+-- loops that cover the layer of what these bytes hold
+abbrev pub HasShapes : Choice → List ℕ → List ℕ → List (List Pt) → Type 0
+HasShapes v bytes front loops = (lib : Library) × Holds bytes lib × HasShapesIn v lib front loops
 
 -- what these bytes hold
 abbrev pub IsLayout : Choice → List ℕ → Reading → Type 0

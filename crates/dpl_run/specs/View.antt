@@ -1,5 +1,5 @@
 -- What the program has made, in the words of the definitions.
-use Rattle.std.specs.Prelude.{ℕ, List, codes, map, option_map, string_bytes}
+use Rattle.std.specs.Prelude.{◌≡◌, ℕ, List, codes, length, map, option_map, string_bytes}
 use Rattle.clap.specs.Walk.{Text}
 use Rattle.dpl_run.specs.Outcome.{Outcome}
 use Rattle.dpl_format.specs.Tree.{Library}
@@ -10,7 +10,10 @@ use Rattle.dpl_run.specs.declared.output.Write.{Write}
 use Rattle.dpl_run.specs.declared.layer.Layer.{Layer}
 use Rattle.dpl_run.specs.declared.layer.LayerChoice.{LayerChoice}
 use Rattle.dpl_run.specs.declared.cut.LayerCut.{LayerCut}
-use Rattle.dpl_spec.specs.Decomposition.{Cut}
+use Rattle.dpl_spec.specs.declared.Rect.{Rect}
+use Rattle.dpl_spec.specs.Squares.{Region}
+use Rattle.dpl_spec.specs.Decomposition.{Cut, IsCut}
+use Rattle.dpl_piece.specs.Cutting.{CutPieces}
 use Rattle.dpl_run.specs.declared.fault.LayerFault.{LayerFault}
 use Rattle.dpl_run.specs.declared.fault.LayerFault.TheVariants.{NoMemory, Refused}
 use Rattle.dpl_run.specs.declared.decomposed.Painted.{Painted}
@@ -52,8 +55,17 @@ abbrev pub IsLayerFaultIn : Choice → Library → LayerFault → Type 0
 IsLayerFaultIn v lib NoMemory = Unit {0}
 IsLayerFaultIn v lib (Refused name at) = IsFaultIn v lib name at
 
-abbrev pub cut_view : LayerCut → Cut
-cut_view c = record { features = c.features; zones = c.pieces.zones; pieces = c.pieces.parts; owners = c.pieces.owners; keys = c.pieces.keys; sides = c.pieces.sides }
+-- the cut of these features into pieces
+abbrev pub cut_view : List (List Rect) → CutPieces → Cut
+cut_view features p = record { features = features; zones = p.zones; pieces = p.parts; owners = p.owners; keys = p.keys; sides = p.sides }
+
+-- the pieces are those of so many features of the layer
+abbrev pub IsCutOf : ℕ → ℕ → Region → LayerCut → Type 0
+IsCutOf rule overlap layer c = (features : List (List Rect)) × (length features ≡ c.features) × IsCut rule overlap layer (cut_view features c.pieces)
+
+-- it holds of a cut into these pieces, whatever its features are, of which there are so many
+abbrev pub OfAnyCut : LayerCut → (Cut → Type 0) → Type 0
+OfAnyCut c P = (features : List (List Rect)) → length features ≡ c.features → P (cut_view features c.pieces)
 
 -- how the lines name a file of `check`
 abbrev pub file_word : CheckedFile → List ℕ

@@ -16,7 +16,7 @@ ghost use Rattle.dpl_run.specs.declared.status.Status.TheVariants.{Refused};
 
 use crate::fault::LayerFault;
 use crate::input::read_input;
-use crate::layer::{LayerChoice, layer_of};
+use crate::layer::{LayerChoice, layer_of, layer_within};
 use crate::output::{Output, said};
 use crate::status::Status;
 use crate::texts::{CheckedFile, bad_line_line, refused_file_line, verdict_line};
@@ -49,7 +49,7 @@ pub(crate) fn check_output<'a, H: Host>(
         layer: options.layer,
         datatype: options.datatype,
     };
-    match layer_of(alloc, &choice, bytes.as_slice()) {
+    match layer_of(alloc, &choice, bytes) {
         Ok(layer) => {
             let output = check_layer(alloc, options, &layer.slabs, host)?;
             Ok(output)
@@ -78,6 +78,7 @@ fn check_layer<'a, H: Host>(
     };
     match read_cert(alloc, text.as_slice()) {
         Ok(cert) => {
+            drop(text);
             let output = check_cert(alloc, options, layer, &cert, host)?;
             Ok(output)
         }
@@ -143,7 +144,7 @@ fn check_out<'a, H: Host>(
     let Some(bytes) = read_input(alloc, host, options.output)? else {
         return Ok(too_large(alloc, CheckedFile::Masks)?);
     };
-    let output = check_bytes(alloc, options, layer, cert, bytes.as_slice())?;
+    let output = check_bytes(alloc, options, layer, cert, bytes)?;
     Ok(output)
 }
 
@@ -153,15 +154,15 @@ fn check_bytes<'a>(
     options: &CheckOptions<'_>,
     layer: &Slabs,
     cert: &Cert,
-    bytes: &[u8],
+    bytes: Vec<u8>,
 ) -> Result<Output<'a>, AllocError>
-    requires size { length bytes.now ≤ limit }
+    requires size { length bytes.items ≤ limit }
     requires ranges { AreInRangeForCheck (check_view options.now) }
     requires cert { IsCert cert.now }
     requires kind { IsOfMasks cert.now }
-    ensures { IfOk result (λ x. IsCheckOfMasks (check_view options.now) layer.now cert.now bytes.now (output_view x)) }
+    ensures { IfOk result (λ x. IsCheckOfMasks (check_view options.now) layer.now cert.now bytes.items (output_view x)) }
 {
-    let a = match layer_of(alloc, &mask_choice(options.a), bytes) {
+    let a = match layer_within(alloc, &mask_choice(options.a), bytes.as_slice()) {
         Ok(a) => a.slabs,
         Err(LayerFault::Refused { name, at }) => return refused(
             alloc,

@@ -4,13 +4,13 @@ ghost use Rattle.std.specs.List.{Contains};
 ghost use Rattle.dpl_spec.specs.declared.Pt.{Pt};
 ghost use Rattle.dpl_spec.specs.Graphs.{AreEdges, graph_of};
 ghost use Rattle.dpl_spec.specs.Summary.{HasOddCycle};
-ghost use Rattle.dpl_spec.specs.Decomposition.{conflicts};
+ghost use Rattle.dpl_spec.specs.Pieces.{Conflict};
 ghost use Rattle.dpl_graph.specs.Levels.{AreEdgesBelow};
 ghost use Rattle.dpl_job.specs.Conflicts.{SumsGraph};
 ghost use Rattle.dpl_orient.specs.Oriented.{IsEvenBelow};
 ghost use Rattle.dpl_cert.specs.Grammar.{IsPoint, IsRule};
 ghost use Rattle.dpl_run.specs.Flat.{Fits, FitsClash, FitsPainted, IsClashOfCut, IsFlat, IsFlatCut, IsPaintedCut, AreWorkers, IsTile};
-ghost use Rattle.dpl_run.specs.View.{clash_view, cut_view, flat_view, painted_view};
+ghost use Rattle.dpl_run.specs.View.{OfAnyCut, clash_view, flat_view, painted_view};
 
 use crate::cut::{LayerCut, cut_of, head, tiles_of};
 use crate::decomposed::{Clash, Decomposed, Painted};
@@ -53,8 +53,7 @@ pub(crate) fn decompose<R: Threads + Wait + Sync, G: Gate + Sync>(
     ensures flat { IfOk result (λ d. IsFlat rule overlap layer (flat_view d)) }
     ensures fits { IfOk result (λ d. Fits (flat_view d)) }
 {
-    let cut = cut_of(alloc, &layer, rule, overlap)?;
-    drop(layer);
+    let cut = cut_of(alloc, layer, rule, overlap)?;
     let decomposed = decompose_cut(rt, alloc, &cut, rule, overlap, sharing, gate)?;
     Ok(decomposed)
 }
@@ -74,13 +73,14 @@ fn decompose_cut<R: Threads + Wait + Sync, G: Gate + Sync>(
     requires tile { IsTile sharing.tile }
     requires workers { AreWorkers sharing.workers }
     requires keys { (p : Pt) → Contains cut.now.pieces.keys p → IsPoint p }
-    ensures flat { IfOk result (λ d. IsFlatCut rule overlap (cut_view cut.now) (flat_view d)) }
+    ensures flat { IfOk result (λ d. OfAnyCut cut.now (λ c. IsFlatCut rule overlap c (flat_view d))) }
     ensures fits { IfOk result (λ d. Fits (flat_view d)) }
 {
     let job = tiles_of(alloc, &cut.pieces, rule, sharing.tile)?;
     let joined = joined_conflicts(rt, alloc, sharing.workers, &job, gate)?;
     match &joined {
         Joined::Stars(_) => {
+            drop(job);
             let painted = paint(alloc, cut, &joined, rule, overlap)?;
             Ok(Decomposed::Masks(painted))
         }
@@ -103,9 +103,9 @@ fn paint(
     requires rule { IsRule rule }
     requires overlap { IsRule overlap }
     requires keys { (p : Pt) → Contains cut.now.pieces.keys p → IsPoint p }
-    requires sums { SumsGraph (conflicts rule (cut_view cut.now)) joined.now }
+    requires sums { SumsGraph (Conflict rule cut.now.pieces.parts cut.now.pieces.owners) joined.now }
     requires even { IsEvenBelow (length cut.now.pieces.parts) joined.now }
-    ensures painted { IfOk result (λ p. IsPaintedCut rule overlap (cut_view cut.now) (painted_view p)) }
+    ensures painted { IfOk result (λ p. OfAnyCut cut.now (λ c. IsPaintedCut rule overlap c (painted_view p))) }
     ensures fits { IfOk result (λ p. FitsPainted (painted_view p)) }
 {
     let pieces = &cut.pieces;
@@ -139,10 +139,10 @@ fn clash(
     requires rule { IsRule rule }
     requires overlap { IsRule overlap }
     requires keys { (p : Pt) → Contains cut.now.pieces.keys p → IsPoint p }
-    requires edges { AreEdges (conflicts rule (cut_view cut.now)) edges.now }
+    requires edges { AreEdges (Conflict rule cut.now.pieces.parts cut.now.pieces.owners) edges.now }
     requires below { AreEdgesBelow (length cut.now.pieces.parts) edges.now }
     requires odd { HasOddCycle (graph_of edges.now) }
-    ensures clash { IfOk result (λ x. IsClashOfCut rule overlap (cut_view cut.now) (clash_view x)) }
+    ensures clash { IfOk result (λ x. OfAnyCut cut.now (λ c. IsClashOfCut rule overlap c (clash_view x))) }
     ensures fits { IfOk result (λ x. FitsClash (clash_view x)) }
 {
     let pieces = &cut.pieces;

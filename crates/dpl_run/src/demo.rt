@@ -42,9 +42,8 @@ pub(crate) fn demo_output<'a, R: Threads + Wait + Sync, G: Gate + Sync>(
         layer: 1,
         datatype: 0,
     };
-    match layer_of(alloc, &choice, bytes.as_slice()) {
+    match layer_of(alloc, &choice, bytes) {
         Ok(layer) => {
-            drop(bytes);
             let sharing = Sharing {
                 tile: options.tile,
                 workers: options.workers,

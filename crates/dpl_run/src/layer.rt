@@ -1,9 +1,12 @@
 //! The layer of a layout.
-ghost use Rattle.std.specs.Prelude.{◌≡◌, ◌^◌, ◌<◌, ◌≤◌, IfErr, IfOk, Some, length};
-ghost use Rattle.dpl_run.specs.Reading.{IsLayerIn, IsLayout, front_of, limit};
+ghost use Rattle.std.specs.Prelude.{◌≡◌, ◌<◌, ◌≤◌, IfErr, IfOk, Some, length};
+ghost use Rattle.dpl_spec.specs.Loops.{AreLoopsWithin, SomeLoopCovers, farthest};
+ghost use Rattle.dpl_spec.specs.Slabs.{AreSlabsOf};
+ghost use Rattle.dpl_run.specs.Reading.{HasShapes, HasShapesIn, IsLayout, front_of, limit};
 ghost use Rattle.dpl_run.specs.View.{IsLayerFault, IsLayerFaultIn, choice_view, layer_view};
 
 use crate::fault::LayerFault;
+use dpl_base::Loop;
 use dpl_flatten::{Layer as ChosenLayer, flatten, top_of};
 use dpl_slabs::Slabs;
 use dpl_syntax::{Library, read_library};
@@ -26,8 +29,31 @@ pub(crate) struct Layer {
     pub(crate) slabs: Slabs,
 }
 
-/// The squares of the chosen layer, or the first fault of the layout.
+/// The records of the file before the elements of the top structure, and loops that cover the layer.
+#[derive(Drop)]
+struct Shapes {
+    front: Vec<u8>,
+    loops: Vec<Loop>,
+}
+
+/// The squares of the chosen layer, or the first fault of the layout. The bytes are let go before the squares are swept.
 pub(crate) fn layer_of(
+    alloc: Global,
+    choice: &LayerChoice,
+    bytes: Vec<u8>,
+) -> Result<Layer, LayerFault>
+    requires { length bytes.items ≤ limit }
+    ensures layer { IfOk result (λ l. IsLayout (choice_view choice.now) bytes.items (layer_view l)) }
+    ensures fault { IfErr result (IsLayerFault (choice_view choice.now) bytes.items) }
+{
+    let shapes = shapes_of(alloc, choice, bytes.as_slice())?;
+    drop(bytes);
+    let layer = swept(alloc, shapes)?;
+    Ok(layer)
+}
+
+/// The same of bytes that are read again.
+pub(crate) fn layer_within(
     alloc: Global,
     choice: &LayerChoice,
     bytes: &[u8],
@@ -36,25 +62,47 @@ pub(crate) fn layer_of(
     ensures layer { IfOk result (λ l. IsLayout (choice_view choice.now) bytes.now (layer_view l)) }
     ensures fault { IfErr result (IsLayerFault (choice_view choice.now) bytes.now) }
 {
-    let lib = read_library(alloc, bytes)?;
-    let layer = layer_in(alloc, choice, &lib)?;
+    let shapes = shapes_of(alloc, choice, bytes)?;
+    let layer = swept(alloc, shapes)?;
     Ok(layer)
 }
 
-/// The squares of the layer of a library, or its first fault.
-fn layer_in(alloc: Global, choice: &LayerChoice, lib: &Library<'_>) -> Result<Layer, LayerFault>
-    requires { length lib.now.structures ≤ 2 ^ 26 }
-    ensures layer { IfOk result (λ l. IsLayerIn (choice_view choice.now) lib.now l.front.items l.slabs) }
+/// The shapes of the chosen layer, or the first fault of the layout.
+fn shapes_of(alloc: Global, choice: &LayerChoice, bytes: &[u8]) -> Result<Shapes, LayerFault>
+    requires { length bytes.now ≤ limit }
+    ensures shapes { IfOk result (λ s. HasShapes (choice_view choice.now) bytes.now s.front.items s.loops.items) }
+    ensures within { IfOk result (λ s. AreLoopsWithin farthest s.loops.items) }
+    ensures fault { IfErr result (IsLayerFault (choice_view choice.now) bytes.now) }
+{
+    let lib = read_library(alloc, bytes)?;
+    let shapes = shapes_in(alloc, choice, &lib)?;
+    Ok(shapes)
+}
+
+/// The shapes of the layer of a library, or its first fault.
+fn shapes_in(alloc: Global, choice: &LayerChoice, lib: &Library<'_>) -> Result<Shapes, LayerFault>
+    ensures shapes { IfOk result (λ s. HasShapesIn (choice_view choice.now) lib.now s.front.items s.loops.items) }
+    ensures within { IfOk result (λ s. AreLoopsWithin farthest s.loops.items) }
     ensures fault { IfErr result (IsLayerFaultIn (choice_view choice.now) lib.now) }
 {
     let top = top_of(alloc, lib, choice.top)?;
+    let front = front(alloc, lib, top)?;
     let chosen = ChosenLayer {
         layer: choice.layer,
         datatype: choice.datatype,
     };
     let loops = flatten(alloc, lib, top, chosen)?;
-    let slabs = Slabs::of_loops(alloc, &loops)?;
-    let front = front(alloc, lib, top)?;
+    Ok(Shapes { front, loops })
+}
+
+/// The squares of shapes.
+fn swept(alloc: Global, shapes: Shapes) -> Result<Layer, AllocError>
+    requires { AreLoopsWithin farthest shapes.loops.items }
+    ensures front { IfOk result (λ l. l.front.items ≡ shapes.front.items) }
+    ensures squares { IfOk result (λ l. AreSlabsOf (SomeLoopCovers shapes.loops.items) l.slabs) }
+{
+    let Shapes { front, loops } = shapes;
+    let slabs = Slabs::of_loops(alloc, loops)?;
     Ok(Layer { front, slabs })
 }
 

@@ -66,9 +66,8 @@ fn split<'a, R: Threads + Wait + Sync, G: Gate + Sync>(
         layer: options.layer,
         datatype: options.datatype,
     };
-    match layer_of(alloc, &choice, bytes.as_slice()) {
+    match layer_of(alloc, &choice, bytes) {
         Ok(layer) => {
-            drop(bytes);
             let sharing = Sharing {
                 tile: options.tile,
                 workers: options.workers,
@@ -140,6 +139,8 @@ fn painted_output<'a>(
         a.rects().len(),
         b.rects().len(),
     )?;
+    drop(a);
+    drop(b);
     let cert = Cert::Masks {
         head,
         pieces,

@@ -27,7 +27,7 @@ piece-at keys [] (suc n) = refl
 piece-at keys (k ∷ ks) zero = refl
 piece-at keys (k ∷ ks) (suc n) = piece-at keys ks n
 
-conflicts-undirected : (rule : ℕ) (c : Cut) → IsUndirected (conflicts rule c)
+pub conflicts-undirected : (rule : ℕ) (c : Cut) → IsUndirected (conflicts rule c)
 conflicts-undirected rule c = record {
   both = λ u v h. record { first = h.second; second = h.first; apart = λ e. h.apart (sym e); near = AreNear-sym rule _ _ h.near };
   different = λ u v h e. h.apart (ap (λ k. get_or c.owners k 0) e);

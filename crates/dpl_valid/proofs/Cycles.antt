@@ -4,18 +4,18 @@ use Rattle.std.specs.Prelude.{pos}
 use Rattle.std.specs.List.{AllPairs}
 use Rattle.std.proofs.lemmas.Bool.{cases_eq, cases_lt}
 use Rattle.std.proofs.lemmas.List.{get_or_default, length-map, get_or-map}
-use Rattle.dpl_spec.specs.Squares.{Covers, d2}
+use Rattle.dpl_spec.specs.Squares.{d2}
 use Rattle.dpl_spec.specs.Zones.{at, part_at}
 use Rattle.dpl_spec.specs.Pieces.{Conflict}
 use Rattle.dpl_spec.specs.Graphs.{IsOddCycle}
-use Rattle.dpl_spec.specs.Decomposition.{Cut, IsCut, conflicts}
+use Rattle.dpl_spec.specs.Decomposition.{Cut, conflicts}
 use Rattle.dpl_cert.specs.declared.cert.PlaceLine.{PlaceLine}
 use Rattle.dpl_cert.specs.declared.cert.NearLine.{NearLine}
 use Rattle.dpl_cert.specs.Grammar.{IsCycleLength}
 use Rattle.dpl_verdict.specs.declared.Verdict.TheVariants.{Valid}
 use Rattle.dpl_verdict.specs.Order.{HasBad, RulesDiffer, ShowsRules, ShowsCounts, IsValid}
 use Rattle.dpl_verdict.specs.Conflicts.{Claim, CountsDiffer, IsBadPlace, IsGoodPlace, ShowsCycle, VerdictFromCounts, VerdictFromCycle, VerdictOfClaim, piece_of}
-use Rattle.dpl_valid.specs.Valid.{pieces_of}
+use Rattle.dpl_valid.specs.Valid.{IsCycleOf, pieces_of}
 use Rattle.dpl_valid.proofs.Parting.{unbroken, covered_or_not, part-known}
 
 abbrev no_place : PlaceLine
@@ -93,7 +93,7 @@ module _ (rule : ℕ) (cut : Cut) (cycle : List PlaceLine) (near : List NearLine
       }
 
 pub there-is : (rule overlap : ℕ) (c : Claim) → IsCycleLength (length c.cycle) → length c.near ≡ length c.cycle → VerdictOfClaim rule overlap c Valid
-    → (cut : Cut) × IsCut rule overlap (Covers c.layer) cut × IsOddCycle (conflicts rule cut) (pieces_of c.cycle)
+    → IsCycleOf rule overlap c.layer c.cycle
 there-is rule overlap c long each valid =
     let one = unbroken (RulesDiffer rule overlap c.head) (ShowsRules c.head) (VerdictFromCounts rule overlap c) Valid (λ e. cc) valid in
     let two = unbroken (CountsDiffer rule overlap c.layer c.head) (ShowsCounts rule overlap c.layer) (VerdictFromCycle rule overlap c) Valid (λ (f, p, z, are, e). cc) one.1 in

@@ -4,3 +4,6 @@ pub mod Passing
 pub mod Lines
 pub mod Painted
 pub mod Clashing
+pub mod Ranges
+pub mod Counting
+pub mod Written

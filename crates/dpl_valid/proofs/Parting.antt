@@ -8,17 +8,14 @@ use Rattle.std.proofs.lemmas.List.{get_or_default, get_or_past}
 use Rattle.dpl_spec.specs.declared.Pt.{Pt}
 use Rattle.dpl_spec.specs.declared.Rect.{Rect}
 use Rattle.dpl_spec.specs.Squares.{Covers, Has, d2}
-use Rattle.dpl_spec.specs.Components.{AreComponents}
 use Rattle.dpl_spec.specs.Zones.{part_at}
-use Rattle.dpl_spec.proofs.ComponentLaws.{Linked-trans}
-use Rattle.dpl_spec.proofs.WholeLaws.{part-unique}
 use Rattle.dpl_cert.specs.declared.cert.PieceLine.{PieceLine}
 use Rattle.dpl_cert.specs.declared.cert.StitchLine.{StitchLine}
 use Rattle.dpl_verdict.specs.declared.Verdict.{Verdict}
 use Rattle.dpl_verdict.specs.declared.Verdict.TheVariants.{Valid}
 use Rattle.dpl_verdict.specs.Order.{FirstOf, HasBad, HasSquare, RulesDiffer, ShowsRules, ShowsCounts}
 use Rattle.dpl_verdict.specs.Masks.{Claim, CountDiffers, IsTight, IsBadStitch, is_doubled, is_uncovered, ShowsCover, ShowsOverlap, ShowsSpacingA, ShowsSpacingB, ShowsStitch, VerdictFromCounts, VerdictFromCover, VerdictFromOverlap, VerdictFromSpacingA, VerdictFromSpacingB, VerdictFromStitches, VerdictFromPieces, VerdictOfClaim}
-use Rattle.dpl_valid.specs.Valid.{AreRight, KeepsApart}
+use Rattle.dpl_valid.specs.Valid.{AreRight, StandsApart}
 
 -- what isn't shown isn't broken
 pub unbroken : (broken : Type 0) (shows rest : Verdict → Type 0) (v : Verdict) → (shows v → ⊥) → FirstOf broken shows rest v → (broken → ⊥) × rest v
@@ -62,27 +59,10 @@ part-known parts k p has = elim (cases_lt k (length parts)) [
   | inr past ↦ absurd (nothing p (subst (λ (s : List Rect). Covers s p) (get_or_past parts k [] past) has))
 ]
 
-keeps-apart : (rule : ℕ) (layer mask : List Rect) (features : List (List Rect)) → AreComponents (Covers layer) features → (IsTight rule layer mask → ⊥) → KeepsApart rule features mask
-keeps-apart rule layer mask features are loose i j p q ne at_p at_q in_p in_q = elim (cases_lt (d2 p q) (rule * rule)) [
+stands-apart : (rule : ℕ) (layer mask : List Rect) → ((p : Pt) → Covers mask p → Covers layer p) → (IsTight rule layer mask → ⊥) → StandsApart rule layer mask
+stands-apart rule layer mask inside loose p q in_p in_q apart = elim (cases_lt (d2 p q) (rule * rule)) [
   | inr far ↦ far
-  | inl close ↦ (
-      let i_in = part-known features i p at_p in
-      let j_in = part-known features j q at_q in
-      let whole = are.whole i [] i_in in
-      absurd (loose (
-        p,
-        q,
-        record {
-          first = in_p;
-          second = in_q;
-          of_layer = (
-            (are.together p).0 (i, get_or features i [], i_in, get_or_default features i (get_or features i []) [] i_in, at_p),
-            (are.together q).0 (j, get_or features j [], j_in, get_or_default features j (get_or features j []) [] j_in, at_q),
-          );
-          apart = λ linked. ne (part-unique (Covers layer) features i j q are i_in j_in ((whole.2 q).1 (Linked-trans (Covers layer) ((whole.2 p).0 at_p) linked)) at_q);
-          close = close;
-        },
-      )))
+  | inl close ↦ absurd (loose (p, q, record { first = in_p; second = in_q; of_layer = (inside p in_p, inside q in_q); apart = apart; close = close }))
 ]
 
 cover-kept : (layer a b : List Rect) → (HasSquare (is_uncovered layer a b) → ⊥) → (p : Pt) → (Covers a p ⊎ Covers b p) ↔ Covers layer p
@@ -110,8 +90,8 @@ overlap-kept overlap a b pieces stitches none right p = (
   ),
 )
 
-pub right-masks : (rule overlap : ℕ) (c : Claim) (features : List (List Rect)) → AreComponents (Covers c.layer) features → VerdictOfClaim rule overlap c Valid → AreRight rule c.layer c.a c.b features c.stitches
-right-masks rule overlap c features are valid =
+pub right-masks : (rule overlap : ℕ) (c : Claim) → VerdictOfClaim rule overlap c Valid → AreRight rule c.layer c.a c.b c.stitches
+right-masks rule overlap c valid =
     let one = unbroken (RulesDiffer rule overlap c.head) (ShowsRules c.head) (VerdictFromCounts rule overlap c) Valid (λ e. cc) valid in
     let two = unbroken (CountDiffers c.layer c.head) (ShowsCounts rule overlap c.layer) (VerdictFromCover rule overlap c) Valid (λ (f, p, z, are, e). cc) one.1 in
     let cover = unbroken (HasSquare (is_uncovered c.layer c.a c.b)) (ShowsCover c) (VerdictFromOverlap rule overlap c) Valid (λ (p, least, e). cc) two.1 in
@@ -119,9 +99,10 @@ right-masks rule overlap c features are valid =
     let on_a = unbroken (IsTight rule c.layer c.a) (ShowsSpacingA rule c) (VerdictFromSpacingB rule overlap c) Valid (λ (p, q, least, e). cc) doubled.1 in
     let on_b = unbroken (IsTight rule c.layer c.b) (ShowsSpacingB rule c) (VerdictFromStitches overlap c) Valid (λ (p, q, least, e). cc) on_a.1 in
     let stitches = unbroken (HasBad (IsBadStitch overlap c.a c.b c.pieces) c.stitches) (ShowsStitch overlap c) (VerdictFromPieces c) Valid (λ (k, bad, e). cc) on_b.1 in
+    let covered = cover-kept c.layer c.a c.b cover.0 in
     record {
-      cover = cover-kept c.layer c.a c.b cover.0;
-      apart_on_a = keeps-apart rule c.layer c.a features are on_a.0;
-      apart_on_b = keeps-apart rule c.layer c.b features are on_b.0;
+      cover = covered;
+      apart_on_a = stands-apart rule c.layer c.a (λ p here. (covered p).0 (inl here)) on_a.0;
+      apart_on_b = stands-apart rule c.layer c.b (λ p here. (covered p).0 (inr here)) on_b.0;
       overlap = overlap-kept overlap c.a c.b c.pieces c.stitches doubled.0 stitches.0;
     }

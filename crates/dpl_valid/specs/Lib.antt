@@ -1,3 +1,4 @@
 pub mod Valid
 pub mod Lines
 pub mod Own
+pub mod Written

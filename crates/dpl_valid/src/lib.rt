@@ -4,6 +4,7 @@
 ghost use Rattle.dpl_valid.specs.Lines.{ValidLinesAreGood};
 ghost use Rattle.dpl_valid.specs.Own.{OwnCyclesAreValid, OwnMasksAreValid};
 ghost use Rattle.dpl_valid.specs.Valid.{ValidConflictsAreThere, ValidMasksAreRight};
+ghost use Rattle.dpl_valid.specs.Written.{FaultlessLayersAreWithin, OwnCyclesAreWritten, OwnMasksAreWritten};
 
 /// Valid masks cover the layer and nothing else, keep different features on one mask at least the rule apart, and are both on a square exactly where it lies in a listed stitch.
 pub fn valid_masks_are_right()
@@ -28,4 +29,12 @@ pub fn own_masks_are_valid()
 /// The odd cycle reported of a layer is valid by its pieces and their nearest squares.
 pub fn own_cycles_are_valid()
     ensures { OwnCyclesAreValid }
+{}
+
+/// A layer of a file without a fault lies within the range of coordinates; so do its masks, and what is told of them, or of
+/// the odd cycle reported of it, is a certificate, whose every number fits.
+pub fn own_results_are_written()
+    ensures layer { FaultlessLayersAreWithin }
+    ensures masks { OwnMasksAreWritten }
+    ensures cycle { OwnCyclesAreWritten }
 {}

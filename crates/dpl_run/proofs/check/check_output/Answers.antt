@@ -1,4 +1,4 @@
-use Rattle.std.proofs.Common.{subst, Option, List, ℕ, Global}
+use Rattle.std.proofs.Common.{subst, Option, ℕ, Global}
 use Rattle.std.specs.Prelude.{Vec, option_map}
 use Rattle.dpl_host.specs.Outside.{Outside}
 use Rattle.dpl_words.specs.Meaning.{check_view}
@@ -17,25 +17,24 @@ returns-in_default-clause-made g c =
     let seen = subst (λ (o : Option (Vec ℕ Global)). IsSeen told c.args.options.now.input.now (option_map (λ v. v.items) o)) c.in_default.is c.in_ok-bytes.ensures.seen in
     check_made told v _ c.requires.apart (layout_large told v _ seen c.in_ok-too_large.ensures)
 
-pub returns-in-Ok-clause-made : goal.returns-in-Ok-clause-made
-returns-in-Ok-clause-made g c =
+pub returns-in_ok-output-in-Ok-clause-made : goal.returns-in_ok-output-in-Ok-clause-made
+returns-in_ok-output-in-Ok-clause-made g c =
     let told = g.H.Host.told c.args.host.now in
     let v = check_view c.args.options.now in
     let bytes = c.in-Some.bytes.items in
     let layer = c.in-Ok.layer in
     let seen = subst (λ (o : Option (Vec ℕ Global)). IsSeen told c.args.options.now.input.now (option_map (λ v. v.items) o)) c.in-Some.is c.in_ok-bytes.ensures.seen in
-    let read = subst (λ (b : List ℕ). IsLayout (check_choice v) b (Layer layer.front.items layer.slabs)) c.as_slice.ensures.value c.in-Ok.ensures.layer in
+    let read : IsLayout (check_choice v) bytes (Layer layer.front.items layer.slabs) = c.in-Ok.ensures.layer in
     let made = subst (λ (t : Option Outside). IsMadeOfLayer t v layer.slabs (output_view c.in_ok-output-in-Ok.output)) c.in_ok-bytes.ensures.same c.in_ok-output-in-Ok.ensures.made in
     check_made told v (output_view c.in_ok-output-in-Ok.output) c.requires.apart (layout_read told v bytes layer.front.items layer.slabs (output_view c.in_ok-output-in-Ok.output) seen read made)
 
-pub returns-in-Err-Refused-clause-made : goal.returns-in-Err-Refused-clause-made
-returns-in-Err-Refused-clause-made g c =
+pub returns-in_ok-refused-in-Err-Refused-clause-made : goal.returns-in_ok-refused-in-Err-Refused-clause-made
+returns-in_ok-refused-in-Err-Refused-clause-made g c =
     let told = g.H.Host.told c.args.host.now in
     let v = check_view c.args.options.now in
     let bytes = c.in-Some.bytes.items in
     let name = c.in-Err-Refused.name in
     let at = c.in-Err-Refused.at in
     let seen = subst (λ (o : Option (Vec ℕ Global)). IsSeen told c.args.options.now.input.now (option_map (λ v. v.items) o)) c.in-Some.is c.in_ok-bytes.ensures.seen in
-    let own = subst (λ (e : LayerFault). IsLayerFault (check_choice v) c.as_slice.result.now e) c.in-Err-Refused.field-0-is c.in-Err-Refused.ensures.fault in
-    let fault = subst (λ (b : List ℕ). IsLayout (check_choice v) b (Faulty name at)) c.as_slice.ensures.value own in
+    let fault : IsLayout (check_choice v) bytes (Faulty name at) = subst (λ (e : LayerFault). IsLayerFault (check_choice v) bytes e) c.in-Err-Refused.field-0-is c.in-Err-Refused.ensures.fault in
     check_made told v _ c.requires.apart (layout_faulty told v bytes name at _ seen fault c.in_ok-refused-in-Err-Refused.ensures)

@@ -1,4 +1,4 @@
-use Rattle.std.proofs.Common.{◌∙◌, ◌<◌, ◌^◌, ap, subst, sym, arith, rules, List, ℕ, Option, Global, length, map}
+use Rattle.std.proofs.Common.{◌∙◌, ◌<◌, ◌^◌, ap, subst, sym, arith, rules, List, [], ℕ, Option, Global, length, map}
 use Rattle.std.specs.Prelude.{IfSome, Vec}
 use Rattle.std.specs.List.{AllByRecursion, Contains}
 use Rattle.dpl_spec.specs.declared.Pt.{Pt}
@@ -15,29 +15,29 @@ use Rattle.dpl_run.proofs.decompose.clash.Goals as goal
 pub place_lines-requires-clause-known : goal.place_lines-requires-clause-known
 place_lines-requires-clause-known c = λ k h.
     let odd = subst (λ (o : Option (Vec ℕ Global)). IfSome o (λ cycle. IsOddCycle (graph_of c.args.edges.now) cycle.items)) c.in-Some.is c.in_ok-cycle.ensures.odd in
-    let known = piece_known c.args.rule (cut_view c.args.cut.now) c.args.edges.now c.in-Some.cycle.items k c.requires.edges odd (subst (λ (l : List ℕ). Contains l k) c.deref.ensures.value h) in
+    let known = piece_known c.args.rule (cut_view [] c.args.cut.now.pieces) c.args.edges.now c.in-Some.cycle.items k c.requires.edges odd (subst (λ (l : List ℕ). Contains l k) c.deref.ensures.value h) in
     omega (arith, known, ap length c.keys-2.ensures.value, c.keys-2.ensures.each)
 
 pub near_lines-requires-clause-known : goal.near_lines-requires-clause-known
 near_lines-requires-clause-known c = λ k h.
     let odd = subst (λ (o : Option (Vec ℕ Global)). IfSome o (λ cycle. IsOddCycle (graph_of c.args.edges.now) cycle.items)) c.in-Some.is c.in_ok-cycle.ensures.odd in
     let here = subst (λ (l : List ℕ). IsOddCycle (graph_of c.args.edges.now) l) (sym c.deref-2.ensures.value) odd in
-    cycle_known c.args.rule (cut_view c.args.cut.now) c.args.edges.now c.deref-2.result.now k c.requires.edges here h
+    cycle_known c.args.rule (cut_view [] c.args.cut.now.pieces) c.args.edges.now c.deref-2.result.now k c.requires.edges here h
 
 pub near_lines-requires-clause-near : goal.near_lines-requires-clause-near
 near_lines-requires-clause-near c = λ k h.
     let odd = subst (λ (o : Option (Vec ℕ Global)). IfSome o (λ cycle. IsOddCycle (graph_of c.args.edges.now) cycle.items)) c.in-Some.is c.in_ok-cycle.ensures.odd in
     let here = subst (λ (l : List ℕ). IsOddCycle (graph_of c.args.edges.now) l) (sym c.deref-2.ensures.value) odd in
-    cycle_near c.args.rule (cut_view c.args.cut.now) c.args.edges.now c.deref-2.result.now k c.requires.edges here h
+    cycle_near c.args.rule (cut_view [] c.args.cut.now.pieces) c.args.edges.now c.deref-2.result.now k c.requires.edges here h
 
 pub returns-clause-clash : goal.returns-clause-clash
-returns-clause-clash c =
+returns-clause-clash c = λ features many.
     let pieces = c.args.cut.now.pieces in
     let reported = subst (λ (o : Option (Vec ℕ Global)). IfSome o (λ cycle. IsReported (graph_of c.args.edges.now) cycle.items)) c.in-Some.is c.in_ok-cycle.ensures.reported in
     let nearest = subst (λ (ns : List NearLine). AreNearest c.args.rule pieces.parts c.in-Some.cycle.items ns) (sym c.of-2.ensures)
     (subst (λ (l : List ℕ). AreNearest c.args.rule pieces.parts l c.in_ok-near.near.items) c.deref-2.ensures.value c.in_ok-near.ensures.nearest) in
     let places = c.of.ensures ∙ (c.in_ok-places.ensures.lines ∙ (ap (λ (ks : List Pt). map (place_line ks) c.deref.result.now) c.keys-2.ensures.value ∙ ap (λ (l : List ℕ). map (place_line pieces.keys) l) c.deref.ensures.value)) in
-    clash_from c.args.rule c.args.overlap (cut_view c.args.cut.now) c.args.edges.now c.in-Some.cycle.items c.head.result c.of.result c.of-2.result c.requires.edges c.requires.odd reported nearest c.head.ensures.value places
+    clash_from c.args.rule c.args.overlap (cut_view features pieces) c.args.edges.now c.in-Some.cycle.items c.head.result c.of.result c.of-2.result c.requires.edges c.requires.odd reported nearest (c.head.ensures.value features many) places
 
 pub returns-clause-fits : goal.returns-clause-fits
 returns-clause-fits c =

@@ -3,7 +3,6 @@ use Rattle.std.specs.List.{AllByRecursion, Contains, zip}
 use Rattle.dpl_spec.specs.declared.Pt.{Pt}
 use Rattle.dpl_spec.specs.declared.Zone.{Zone}
 use Rattle.dpl_orient.specs.Oriented.{ColoursWhatSums}
-use Rattle.dpl_cert.specs.declared.cert.Head.{Head}
 use Rattle.dpl_cert.specs.declared.cert.PieceLine.{PieceLine}
 use Rattle.dpl_cert.specs.declared.cert.StitchLine.{StitchLine}
 use Rattle.dpl_cert.specs.Grammar.{IsNumber, IsPiece, IsStitch}
@@ -19,7 +18,7 @@ stitch_lines-requires-clause-known c = λ k h.
     omega (arith, side.1, ap length c.sides-2.ensures.value)
 
 pub returns-clause-painted : goal.returns-clause-painted
-returns-clause-painted c =
+returns-clause-painted c = λ features many.
     let pieces = c.args.cut.now.pieces in
     let (edges, are, sums) = c.requires.sums in
     let colours = c.in_ok-colours.colours in
@@ -31,8 +30,8 @@ returns-clause-painted c =
     ∙ (ap (λ (zs : List Zone). map (stitch_line zs c.sides-2.result.now) c.items-2.result.now) c.zones.ensures.value
     ∙ (ap (λ (ss : List (ℕ × ℕ)). map (stitch_line pieces.zones ss) c.items-2.result.now) c.sides-2.ensures.value
     ∙ ap (λ (ks : List ℕ). map (stitch_line pieces.zones pieces.sides) ks) c.items-2.ensures))) in
-    painted_from c.args.rule c.args.overlap (cut_view c.args.cut.now) edges joined colours c.in_ok-masks.masks.a c.in_ok-masks.masks.b c.in_ok-masks.masks.stitches c.head.result c.of.result c.of-2.result
-    are sums c.requires.even graph c.in_ok-masks.ensures.masks.first c.in_ok-masks.ensures.masks.second c.in_ok-masks.ensures.masks.differing c.head.ensures.value lines stitches
+    painted_from c.args.rule c.args.overlap (cut_view features pieces) edges joined colours c.in_ok-masks.masks.a c.in_ok-masks.masks.b c.in_ok-masks.masks.stitches c.head.result c.of.result c.of-2.result
+    are sums c.requires.even graph c.in_ok-masks.ensures.masks.first c.in_ok-masks.ensures.masks.second c.in_ok-masks.ensures.masks.differing (c.head.ensures.value features many) lines stitches
 
 pub returns-clause-fits : goal.returns-clause-fits
 returns-clause-fits c =
@@ -50,7 +49,7 @@ returns-clause-fits c =
       b = c.in_ok-masks.ensures.within.1;
       cert = (
         c.head.ensures.fits,
-        many ∙ sym (ap (λ (h : Head). h.pieces) c.head.ensures.value),
+        many ∙ sym c.head.ensures.pieces,
         subst (λ (ls : List PieceLine). AllByRecursion IsPiece ls) (sym c.of.ensures) c.in_ok-lines.ensures.within,
         subst (λ (ls : List StitchLine). IsNumber (length ls)) (sym c.of-2.ensures) few,
         subst (λ (ls : List StitchLine). AllByRecursion IsStitch ls) (sym c.of-2.ensures) c.in_ok-stitches.ensures.within,

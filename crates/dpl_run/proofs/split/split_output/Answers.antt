@@ -1,8 +1,7 @@
-use Rattle.std.proofs.Common.{subst, Option, List, ℕ, Global}
+use Rattle.std.proofs.Common.{subst, Option, ℕ, Global}
 use Rattle.std.specs.Prelude.{Vec, option_map}
 use Rattle.dpl_words.specs.Meaning.{split_view}
 use Rattle.dpl_run.specs.Program.{IsInput}
-use Rattle.dpl_run.specs.View.{output_view}
 use Rattle.dpl_run.proofs.Inputs.{split_made, split_refused}
 use Rattle.dpl_run.proofs.split.split_output.Goals as goal
 

@@ -1,0 +1,116 @@
+-- What a check that is done has found.
+use Rattle.std.proofs.Common.{◌≡◌, ◌∙◌, ap, sym, refl, subst, inl, inr, List, ℕ, Option, Some, None, codes}
+use Rattle.std.specs.FinMap as files
+use Rattle.dpl_host.specs.Outside.{Outside}
+use Rattle.dpl_spec.specs.declared.Rect.{Rect}
+use Rattle.dpl_cert.specs.declared.name.Name.TheVariants.{TooLarge}
+use Rattle.dpl_cert.specs.declared.cert.Head.{Head}
+use Rattle.dpl_cert.specs.declared.cert.PieceLine.{PieceLine}
+use Rattle.dpl_cert.specs.declared.cert.StitchLine.{StitchLine}
+use Rattle.dpl_cert.specs.declared.cert.Cert.{Cert}
+use Rattle.dpl_cert.specs.declared.cert.Cert.TheVariants.{Masks, Conflict, Fault}
+use Rattle.dpl_cert.specs.Grammar.{IsText}
+use Rattle.dpl_verdict.specs.declared.Verdict.{Verdict}
+use Rattle.dpl_verdict.specs.declared.Verdict.TheVariants.{Valid, Rules, WasFault, Counts, Cover, Overlap, SpacingA, SpacingB, Stitch, Piece, Cycle}
+use Rattle.dpl_verdict.specs.Masks.{IsVerdictOfMasks}
+use Rattle.dpl_verdict.specs.Conflicts.{IsVerdictOfConflict}
+use Rattle.dpl_valid.proofs.Cycles.{there-is}
+use Rattle.dpl_valid.proofs.Lines.{good-lines}
+use Rattle.dpl_valid.proofs.Parting.{right-masks}
+use Rattle.dpl_words.specs.Meaning.{CheckValues}
+use Rattle.dpl_run.specs.Check.{IsCheck, IsCheckOfCert, IsCheckOfFile, IsCheckOfMasks, WithFile, check_choice, mask_choice, refusal_of, verdict_outcome, verdict_status}
+use Rattle.dpl_run.specs.Checked.{HasLayer, HasRightMasks, IsRight, IsRightBy}
+use Rattle.dpl_run.specs.Outcome.{Outcome, says, silent}
+use Rattle.dpl_run.specs.Reading.{Choice, Faulty, IsReading, Layer, limit}
+use Rattle.dpl_run.specs.Texts.{bad_line_line}
+use Rattle.dpl_run.specs.declared.status.Status.{Status}
+use Rattle.dpl_run.specs.declared.status.Status.TheVariants.{Done, Refused, ReadFault, CheckNo}
+
+-- an outcome of another status isn't done
+other : (x y : Outcome) (s : Status) → x ≡ y → y.status ≡ s → (s ≡ Done → ⊥) → x.status ≡ Done → ⊥
+other x y s is named never done = never (sym named ∙ (sym (ap (λ (z : Outcome). z.status) is) ∙ done))
+
+refused : Refused ≡ Done → ⊥
+refused e = cc
+
+unread : ReadFault ≡ Done → ⊥
+unread e = cc
+
+broken : CheckNo ≡ Done → ⊥
+broken e = cc
+
+-- only a valid verdict is done
+valid_is : (w : Verdict) → verdict_status w ≡ Done → w ≡ Valid
+valid_is Valid e = refl
+valid_is (Rules r o) e = absurd (broken e)
+valid_is (WasFault name at) e = absurd (broken e)
+valid_is (Counts f p z) e = absurd (broken e)
+valid_is (Cover at) e = absurd (broken e)
+valid_is (Overlap at) e = absurd (broken e)
+valid_is (SpacingA p q) e = absurd (broken e)
+valid_is (SpacingB p q) e = absurd (broken e)
+valid_is (Stitch k) e = absurd (broken e)
+valid_is (Piece k) e = absurd (broken e)
+valid_is (Cycle k) e = absurd (broken e)
+
+judged_valid : (cert : Cert) (w : Verdict) (x : Outcome) → x ≡ verdict_outcome cert w → x.status ≡ Done → w ≡ Valid
+judged_valid cert w x is done = valid_is w (sym (ap (λ (z : Outcome). z.status) is) ∙ done)
+
+-- a layer that was read is the file's
+layer_of_file : (choice : Choice) (bytes front : List ℕ) (slabs : List Rect) → IsReading choice bytes (Layer front slabs) → HasLayer choice bytes slabs
+layer_of_file choice bytes front slabs reading = elim reading [
+  | inl large ↦ cc
+  | inr read ↦ (let (lib, holds, l) = read.1 in record { lib = lib; holds = holds; top = l.top; is_top = l.is_top; squares = l.squares })
+]
+
+masks_right : (v : CheckValues) (layer : List Rect) (head : Head) (pieces : List PieceLine) (stitches : List StitchLine) (bytes : List ℕ) (x : Outcome)
+    → IsCheckOfMasks v layer (Masks head pieces stitches) bytes x → x.status ≡ Done → HasRightMasks v layer head pieces stitches bytes
+masks_right v layer head pieces stitches bytes x (Faulty name at, read, is) done = absurd (other x (refusal_of (codes "out") name at) Refused is refl refused done)
+masks_right v layer head pieces stitches bytes x (Layer front a, read, (Faulty name at, more, is)) done = absurd (other x (refusal_of (codes "out") name at) Refused is refl refused done)
+masks_right v layer head pieces stitches bytes x (Layer front a, read, (Layer back b, more, (w, said, is))) done =
+    let valid : w ≡ Valid = judged_valid (Masks head pieces stitches) w x is done in
+    let kept : IsVerdictOfMasks v.rule v.overlap layer a b (Masks head pieces stitches) Valid = subst (λ (u : Verdict). IsVerdictOfMasks v.rule v.overlap layer a b (Masks head pieces stitches) u) valid said in
+    record {
+      a = a;
+      b = b;
+      first = layer_of_file (mask_choice v.a) bytes front a read;
+      second = layer_of_file (mask_choice v.b) bytes back b more;
+      right = right-masks v.rule v.overlap (record { layer = layer; a = a; b = b; head = head; pieces = pieces; stitches = stitches }) kept;
+      lines = good-lines v.rule v.overlap layer a b head pieces stitches kept;
+    }
+
+cert_right : (v : CheckValues) (o : Outside) (layer : List Rect) (out : Option (List ℕ)) (cert : Cert) (text : List ℕ) (x : Outcome)
+    → files.get o.files v.output ≡ out → IsText cert text → IsCheckOfCert v layer out cert x → x.status ≡ Done → IsRightBy v o layer cert
+cert_right v o layer None (Masks head pieces stitches) text x there t is done = absurd (other x (silent ReadFault) ReadFault is refl unread done)
+cert_right v o layer (Some bytes) (Masks head pieces stitches) text x there t is done = (bytes, there, masks_right v layer head pieces stitches bytes x is done)
+cert_right v o layer out (Conflict head cycle near) text x there t (w, said, is) done =
+    let valid : w ≡ Valid = judged_valid (Conflict head cycle near) w x is done in
+    let (fits, long, places, each, nears) = t.0 in
+    there-is v.rule v.overlap (record { layer = layer; head = head; cycle = cycle; near = near }) long each
+    (subst (λ (u : Verdict). IsVerdictOfConflict v.rule v.overlap layer (Conflict head cycle near) u) valid said)
+cert_right v o layer out (Fault name at) text x there t is done = absurd (other x (verdict_outcome (Fault name at) (WasFault name at)) CheckNo is refl broken done)
+
+-- what follows the layer of the layout
+module _ (v : CheckValues) (o : Outside) (bytes : List ℕ) (layer : List Rect) (read : files.get o.files v.input ≡ Some bytes) (has : HasLayer (check_choice v) bytes layer) where
+  layer_right : (cert out : Option (List ℕ)) (x : Outcome) → files.get o.files v.certificate ≡ cert → files.get o.files v.output ≡ out → WithFile cert (IsCheckOfFile v layer out) x → x.status ≡ Done → IsRight v o
+  layer_right None out x told there is done = absurd (other x (silent ReadFault) ReadFault is refl unread done)
+  layer_right (Some text) out x told there (inl (large, is)) done = absurd (other x (refusal_of (codes "cert") TooLarge limit) Refused is refl refused done)
+  layer_right (Some text) out x told there (inr (small, inl (cert, t, is))) done = record {
+    bytes = bytes;
+    read = read;
+    layer = layer;
+    has = has;
+    text = text;
+    told = told;
+    cert = cert;
+    certifies = t;
+    right = cert_right v o layer out cert text x there t is done;
+  }
+  layer_right (Some text) out x told there (inr (small, inr (n, bad, is))) done = absurd (other x (says Refused (bad_line_line n)) Refused is refl refused done)
+
+pub check_right : (v : CheckValues) (o : Outside) (layout cert out : Option (List ℕ)) (x : Outcome) → files.get o.files v.input ≡ layout → files.get o.files v.certificate ≡ cert → files.get o.files v.output ≡ out
+    → IsCheck v layout cert out x → x.status ≡ Done → IsRight v o
+check_right v o None cert out x read told there is done = absurd (other x (silent ReadFault) ReadFault is refl unread done)
+check_right v o (Some bytes) cert out x read told there (Faulty name at, found, is) done = absurd (other x (refusal_of (codes "in") name at) Refused is refl refused done)
+check_right v o (Some bytes) cert out x read told there (Layer front layer, found, is) done =
+    layer_right v o bytes layer read (layer_of_file (check_choice v) bytes front layer found) cert out x told there is done

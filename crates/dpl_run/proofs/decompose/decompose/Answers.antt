@@ -1,0 +1,7 @@
+use Rattle.dpl_run.specs.View.{cut_view}
+use Rattle.dpl_run.proofs.decompose.decompose.Goals as goal
+
+pub returns-clause-flat : goal.returns-clause-flat
+returns-clause-flat g c =
+    let (features, many, is) = c.in_ok-cut.ensures.cut in
+    (cut_view features c.in_ok-cut.cut.pieces, is, c.in_ok-decomposed.ensures.flat features many)

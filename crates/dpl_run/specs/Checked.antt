@@ -1,0 +1,56 @@
+-- What a check that is done has found of the files: the masks are right for the layer, or the conflict is there.
+use Rattle.std.specs.Prelude.{◌≡◌, List, ℕ, Some}
+use Rattle.std.specs.FinMap as files
+use Rattle.dpl_host.specs.Outside.{Outside}
+use Rattle.dpl_spec.specs.declared.Rect.{Rect}
+use Rattle.dpl_spec.specs.Slabs.{AreSlabsOf}
+use Rattle.dpl_format.specs.Tree.{Library}
+use Rattle.dpl_format.specs.Layout.{Holds}
+use Rattle.dpl_layout.specs.Structures.{IsTop}
+use Rattle.dpl_layout.specs.Placements.{IsInLayer}
+use Rattle.dpl_cert.specs.declared.cert.Head.{Head}
+use Rattle.dpl_cert.specs.declared.cert.PieceLine.{PieceLine}
+use Rattle.dpl_cert.specs.declared.cert.StitchLine.{StitchLine}
+use Rattle.dpl_cert.specs.declared.cert.Cert.{Cert}
+use Rattle.dpl_cert.specs.declared.cert.Cert.TheVariants.{Masks, Conflict, Fault}
+use Rattle.dpl_cert.specs.Grammar.{IsText}
+use Rattle.dpl_valid.specs.Lines.{AreGoodLines}
+use Rattle.dpl_valid.specs.Valid.{AreRight, IsCycleOf}
+use Rattle.dpl_words.specs.Meaning.{CheckValues}
+use Rattle.dpl_run.specs.Reading.{Choice, chosen}
+use Rattle.dpl_run.specs.Check.{check_choice, mask_choice}
+
+-- The bytes hold a library with a top, whose chosen layer has the squares of these slabs.
+pub record HasLayer (choice : Choice) (bytes : List ℕ) (slabs : List Rect) : Type 0 where
+  pub lib : Library
+  pub holds : Holds bytes lib
+  pub top : ℕ
+  pub is_top : IsTop lib choice.top top
+  pub squares : AreSlabsOf (IsInLayer lib top (chosen choice)) slabs
+
+-- The file has both masks, each on its layer. They are right for the layer, and so is what the certificate lists of them.
+pub record HasRightMasks (v : CheckValues) (layer : List Rect) (head : Head) (pieces : List PieceLine) (stitches : List StitchLine) (bytes : List ℕ) : Type 0 where
+  pub a : List Rect
+  pub b : List Rect
+  pub first : HasLayer (mask_choice v.a) bytes a
+  pub second : HasLayer (mask_choice v.b) bytes b
+  pub right : AreRight v.rule layer a b stitches
+  pub lines : AreGoodLines v.rule v.overlap layer a b head pieces stitches
+
+-- what is right is the masks of a file that is there, or the cycle that is listed
+abbrev pub IsRightBy : CheckValues → Outside → List Rect → Cert → Type 0
+IsRightBy v o layer (Masks head pieces stitches) = (bytes : List ℕ) × (files.get o.files v.output ≡ Some bytes) × HasRightMasks v layer head pieces stitches bytes
+IsRightBy v o layer (Conflict head cycle near) = IsCycleOf v.rule v.overlap layer cycle
+IsRightBy v o layer (Fault name at) = ⊥
+
+-- The layout and the certificate are there, and what the certificate tells is right for the layout's layer.
+pub record IsRight (v : CheckValues) (o : Outside) : Type 0 where
+  pub bytes : List ℕ
+  pub read : files.get o.files v.input ≡ Some bytes
+  pub layer : List Rect
+  pub has : HasLayer (check_choice v) bytes layer
+  pub text : List ℕ
+  pub told : files.get o.files v.certificate ≡ Some text
+  pub cert : Cert
+  pub certifies : IsText cert text
+  pub right : IsRightBy v o layer cert
