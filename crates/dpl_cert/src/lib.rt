@@ -17,6 +17,3 @@ pub use fault::CertFault;
 pub use name::Name;
 pub use reading::{one_certificate, read_cert};
 pub use writing::cert_bytes;
-
-#[cfg(test)]
-mod tests;

@@ -1,18 +1,10 @@
-//! Worked layouts, from file to file: what the whole program answers to them.
+//! Worked layouts, from file to file: how the whole program splits them.
 #![tactic(auto)]
 
 #[cfg(test)]
-mod checks;
-#[cfg(test)]
 mod demos;
 #[cfg(test)]
-mod faults;
-#[cfg(test)]
 mod hierarchy;
-#[cfg(test)]
-mod layouts;
-#[cfg(test)]
-mod outside;
 #[cfg(test)]
 mod rectangles;
 #[cfg(test)]
@@ -21,5 +13,3 @@ mod shapes;
 mod tiles;
 #[cfg(test)]
 mod trial;
-#[cfg(test)]
-mod workers;

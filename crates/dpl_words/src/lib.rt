@@ -7,6 +7,3 @@ mod values;
 
 pub use law::{taken_has_its_values, taken_names_a_subcommand};
 pub use values::{CheckOptions, DemoOptions, Request, SplitOptions, WordsFault, read_words};
-
-#[cfg(test)]
-mod tests;

@@ -1,5 +1,7 @@
-//! Word lists and what they ask for.
-use crate::{CheckOptions, DemoOptions, Request, SplitOptions, WordsFault, read_words};
+//! Words and what they ask for.
+
+use dpl_sample::words;
+use dpl_words::{CheckOptions, DemoOptions, Request, SplitOptions, WordsFault, read_words};
 use std::alloc::Global;
 use std::test::Fail;
 
@@ -53,10 +55,7 @@ fn demo_values_of(options: &DemoOptions) -> [u64; 4] {
 
 /// What the words of a line ask for; two blanks have an empty word between them.
 fn asks(alloc: Global, line: &str, want: Option<Values>) -> Result<bool, Fail> {
-    let mut words = Vec::new(alloc);
-    for word in line.split(' ') {
-        words.push(word)?;
-    }
+    let words = words(alloc, line)?;
     match read_words(alloc, &words) {
         Ok(Request::Split(options)) => Ok(want == Some(values_of(&options))),
         Ok(Request::Check(options)) => Ok(want == Some(checked_values_of(&options))),
@@ -215,10 +214,7 @@ fn lines_ask_for_what_they_say(rt: HostRuntime) -> Result<(), Fail> {
 
 /// What the words of a line of `demo` ask for.
 fn shows(alloc: Global, line: &str, want: Option<[u64; 4]>) -> Result<bool, Fail> {
-    let mut words = Vec::new(alloc);
-    for word in line.split(' ') {
-        words.push(word)?;
-    }
+    let words = words(alloc, line)?;
     match read_words(alloc, &words) {
         Ok(Request::Demo(options)) => Ok(want == Some(demo_values_of(&options))),
         Ok(_) => Ok(false),
