@@ -9,6 +9,9 @@ use std::io;
 use std::io::Write;
 use std::os::unix::fs::FileExt;
 
+/// How many bytes a read takes at most.
+const CHUNK: usize = 8192;
+
 /// A file that stays open from call to call.
 #[derive(Drop)]
 struct Opened {
@@ -28,8 +31,12 @@ pub struct FileHost<'a> {
 }
 
 impl<'a> FileHost<'a> {
-    /// A host whose calls have not failed yet.
-    pub fn new(rt: &'a HostRuntime) -> FileHost<'a> {
+    /// A host whose calls have not failed yet, and gave nothing.
+    pub fn new(rt: &'a HostRuntime) -> FileHost<'a>
+        ensures reads { result.read_faults ≡ 0 }
+        ensures writes { result.write_faults ≡ 0 }
+        ensures given { result.given ≡ 0 }
+    {
         FileHost {
             rt,
             input: None,
@@ -53,6 +60,7 @@ impl<'a> FileHost<'a> {
         ensures taken { IfOk result (Takes piece.now) }
         ensures cause { HasCause self.old.write_faults self.new.write_faults result }
         ensures others { self.new.read_faults ≡ self.old.read_faults }
+        ensures given { self.new.given ≡ self.old.given }
     {
         match written {
             Ok(count) if count > 0 || piece.is_empty() => Ok(count),
@@ -76,8 +84,11 @@ impl<'a> Host for FileHost<'a> {
     ghost given = { λ h. h.given };
 
     fn read(&mut self, name: &str, at: u64, into: &mut [u8]) -> Result<usize, Failed> {
-        match read_from(self.rt, &mut self.input, name, at, into) {
+        let mut chunk = [0u8; CHUNK];
+        let room = into.len().min(CHUNK);
+        match read_from(self.rt, &mut self.input, name, at, &mut chunk[..room]) {
             Ok(count) => {
+                into[..count].copy_from_slice(&chunk[..count]);
                 self.given = self.given.saturating_add(count as u64);
                 Ok(count)
             }

@@ -5,6 +5,11 @@ mod files;
 #[cfg(test)]
 mod tests;
 
+ghost use Rattle.std.specs.Prelude.{◌≡◌, IfOk, List, map, string_bytes};
+ghost use Rattle.std.specs.Process.{exit_status};
+ghost use Rattle.clap.specs.Walk.{texts};
+ghost use Rattle.dpl_run.specs.Outcome.{code_of};
+
 use crate::files::FileHost;
 use dpl_pool::OpenGate;
 use dpl_run::{Status, run};
@@ -19,6 +24,13 @@ fn main(rt: HostRuntime) -> ExitCode {
         Ok(words) => run_on(&rt, &rt, words),
         Err(error) => without_words(&rt, &rt, &error),
     };
+    exit_code(status)
+}
+
+/// The code with which the program ends.
+fn exit_code(status: Status) -> ExitCode
+    ensures { exit_status result ≡ code_of status }
+{
     ExitCode::from(status.code())
 }
 
@@ -40,7 +52,9 @@ fn kept(alloc: Global, words: env::Args) -> Result<Vec<String>, AllocError> {
 }
 
 /// The words as texts.
-fn texts_of(alloc: Global, words: &[String]) -> Result<Vec<&str>, AllocError> {
+fn texts_of(alloc: Global, words: &[String]) -> Result<Vec<&str>, AllocError>
+    ensures { IfOk result (λ v. texts v.items ≡ map string_bytes words.now) }
+{
     let mut texts = Vec::new(alloc);
     for word in words {
         texts.push(word.as_str())?;
@@ -48,6 +62,7 @@ fn texts_of(alloc: Global, words: &[String]) -> Result<Vec<&str>, AllocError> {
     Ok(texts)
 }
 
+/// Does what the words ask for.
 fn run_texts<R: Threads + Wait + Sync>(threads: &R, rt: &HostRuntime, words: &[String]) -> Status {
     match texts_of(rt.alloc(), words) {
         Ok(texts) => run(
