@@ -22,8 +22,9 @@ KIND is one of
   doubling COUNT structures, each with two references of the next at (0,0), over one unit square
   twisted  the same, but the last refers to the first
   ring     COUNT structures, each with one reference of the next, the last of the first
-All shapes are boundaries on layer 1, datatype 0, in one structure, TOP; chain, doubling, twisted
-and ring have structures named 0, 1 and so on. The same KIND, COUNT and SEED give the same file.
+  tower    a chain under an array of 1,000 by 1,000 copies, all at one place
+All shapes are boundaries on layer 1, datatype 0, in one structure, TOP; chain, doubling, twisted,
+ring and tower have structures named 0, 1 and so on, and tower TOP too. The same KIND, COUNT and SEED give the same file.
 """
 import random
 import struct
@@ -129,6 +130,13 @@ def chain(count):
     yield from structure(str(count), [rect(0, 0, 100, 20)])
 
 
+def tower(count):
+    points = record(0x10, 3, bytes(24))
+    size = record(0x13, 2, struct.pack(">hh", 1000, 1000))
+    yield from structure("TOP", [record(0x0B, 0) + record(0x12, 6, b"0\0") + size + points + END])
+    yield from chain(count)
+
+
 def doubling(count):
     for k in range(count):
         yield from structure(str(k), [reference(str(k + 1))] * 2)
@@ -192,7 +200,7 @@ KINDS = {f.__name__: f for f in (
     bars, dense, mesh, scatter, polygons, plate,
     ragged, rising, teeth, nested, stacked, flood, holes,
 )}
-TREES = {f.__name__: f for f in (chain, doubling, twisted, ring)}
+TREES = {f.__name__: f for f in (chain, doubling, twisted, ring, tower)}
 
 
 def main(words):
