@@ -1,9 +1,8 @@
 -- Summaries of entries' edges, one after the other.
-use Rattle.std.specs.Prelude.{◌≡◌, List, [], ◌∷◌, ◌++◌, map}
+use Rattle.std.specs.Prelude.{◌≡◌, List, [], ◌∷◌, ◌++◌}
 use Rattle.dpl_stars.specs.declared.joined.Joined.{Joined}
 use Rattle.dpl_stars.specs.Sums.{Sums}
 use Rattle.dpl_board.specs.declared.entry.Entry.{Entry}
-use Rattle.dpl_board.specs.declared.block.Block.{Block}
 use Rattle.dpl_board.specs.Sheets.{Sheet, IsSheet, edges_of}
 
 -- The first sums up the edges of some first entries, the second those of the next ones, and so on to the last.
@@ -14,10 +13,3 @@ AreSums sheet entries (j ∷ js) = (front rest : List Entry) × (entries ≡ fro
 -- whatever the first sum up, the second do
 abbrev pub KeepsSums : List Joined → List Joined → Type 0
 KeepsSums old new = (sheet : Sheet) (entries : List Entry) → IsSheet sheet → AreSums sheet entries old → AreSums sheet entries new
-
--- whatever these sum up one after the other, this one sums up by itself
-abbrev pub SumsUp : List Joined → Joined → Type 0
-SumsUp sums j = (sheet : Sheet) (entries : List Entry) → IsSheet sheet → AreSums sheet entries sums → Sums (edges_of sheet entries) j
-
-abbrev pub sums_of : List Block → List Joined
-sums_of blocks = map (λ (b : Block). b.sum) blocks

@@ -1,13 +1,12 @@
 //! The state of a board.
 ghost use Rattle.std.specs.Prelude.{◌≡◌, ◌<◌, [], ◌∷◌, ◌++◌, IfOk, OnOk, OnErr, MatchOption};
 ghost use Rattle.dpl_board.specs.Sheets.{entry, poster_in};
+ghost use Rattle.dpl_board.specs.Summing.{KeepsSums};
 ghost use Rattle.dpl_board.specs.Boards.{AllPostedSumUp, AreAllPosted, ArePosts, IsFirstMissing, PostLeaves, SumsPosted, board};
-ghost use Rattle.dpl_board.specs.Summing.{sums_of};
 
-use crate::block::{Block, joined, settle};
 use crate::entry::Entry;
 use crate::fault::PostFault;
-use dpl_stars::Joined;
+use dpl_stars::{Joined, merge_all};
 use std::alloc::{AllocError, Global};
 use std::marker::Model;
 
@@ -20,7 +19,8 @@ pub struct BoardState {
     posters: Vec<Option<u32>>,
     history: Vec<Entry>,
     /// Summaries of all posts, earlier posts first.
-    blocks: Vec<Block>,
+    sums: Vec<Joined>,
+    rows: Rows,
 }
 
 impl Model for BoardState {
@@ -29,9 +29,8 @@ impl Model for BoardState {
     ghost Value = { Board };
 
     ghost use Rattle.dpl_board.specs.Boards.{board, ArePosters};
-    ghost use Rattle.dpl_board.specs.Summing.{sums_of};
 
-    ghost view = { λ b. board b.tiles b.history.items (sums_of b.blocks.items) };
+    ghost view = { λ b. board b.tiles b.history.items b.sums.items };
 
     ghost invariant = { λ b. ArePosters b.tiles b.posters.items b.history.items };
 }
@@ -46,7 +45,8 @@ impl BoardState {
             tiles,
             posters: vec![in alloc; None; tiles as usize]?,
             history: Vec::new(alloc),
-            blocks: Vec::new(alloc),
+            sums: Vec::new(alloc),
+            rows: Rows { held: 0, joined: 0 },
         })
     }
 
@@ -59,14 +59,15 @@ impl BoardState {
         if let Some(by) = self.posters[tile as usize] {
             return Err(PostFault::Twice { by });
         }
+        let rows = size(&sum);
         add(
             &mut self.history,
-            &mut self.blocks,
+            &mut self.sums,
             Entry { worker, tile },
             sum,
         )?;
         self.posters[tile as usize] = Some(worker);
-        settle(self.alloc, &mut self.blocks);
+        self.rows = settled(self.alloc, &mut self.sums, self.rows, rows);
         Ok(())
     }
 
@@ -105,7 +106,7 @@ impl BoardState {
     pub fn joined(&self) -> Result<Joined, AllocError>
         ensures { IfOk result (λ j. SumsPosted self.now j) }
     {
-        let whole = joined(self.alloc, &self.blocks)?;
+        let whole = merge_all(self.alloc, &self.sums)?;
         Ok(whole)
     }
 }
@@ -115,19 +116,92 @@ pub fn all_posted_law()
     ensures { AllPostedSumUp }
 {}
 
-/// Adds a post that is a block by itself. For want of memory nothing changes.
+/// How many rows a summary has.
+fn size(sum: &Joined) -> u64 {
+    match sum {
+        Joined::Stars(rows) => rows.items().len() as u64,
+        Joined::Odd => 0,
+    }
+}
+
+/// How many rows summaries have together.
+fn sizes(sums: &[Joined]) -> u64 {
+    let mut rows: u64 = 0;
+    for sum in sums {
+        rows = rows.saturating_add(size(sum));
+    }
+    rows
+}
+
+/// How many rows the summaries of a board have, and how many they had when they were last put together.
+#[derive(Clone, Copy, Drop)]
+struct Rows {
+    held: u64,
+    joined: u64,
+}
+
+/// Whether most of the rows are new.
+fn is_crowded(rows: Rows) -> bool {
+    rows.held > rows.joined.saturating_mul(4).saturating_add(65_536)
+}
+
+/// A list of one summary.
+fn list_of(alloc: Global, sum: Joined) -> Result<Vec<Joined>, AllocError>
+    ensures { IfOk result (λ v. v.items ≡ sum ∷ []) }
+{
+    let mut list = Vec::with_capacity(alloc, 1)?;
+    list.push(sum)?;
+    Ok(list)
+}
+
+/// The summaries in one.
+fn whole(alloc: Global, sums: &[Joined]) -> Result<Vec<Joined>, AllocError>
+    ensures { IfOk result (λ v. KeepsSums sums.now v.items) }
+{
+    let sum = merge_all(alloc, sums)?;
+    let list = list_of(alloc, sum)?;
+    Ok(list)
+}
+
+/// Puts the summaries into one. For want of memory they stay.
+fn put_together(alloc: Global, sums: &mut Vec<Joined>)
+    ensures { KeepsSums sums.old.items sums.new.items }
+{
+    if let Ok(list) = whole(alloc, sums) {
+        *sums = list;
+    }
+}
+
+/// Puts the summaries into one where most of their rows are new, now that there are so many more. So each row is looked
+/// at few times, and a piece that is in many tiles has few rows.
+fn settled(alloc: Global, sums: &mut Vec<Joined>, rows: Rows, more: u64) -> Rows
+    ensures { KeepsSums sums.old.items sums.new.items }
+{
+    let rows = Rows {
+        held: rows.held.saturating_add(more),
+        joined: rows.joined,
+    };
+    if !is_crowded(rows) {
+        return rows;
+    }
+    put_together(alloc, sums);
+    let held = sizes(sums);
+    Rows { held, joined: held }
+}
+
+/// Adds a post. For want of memory nothing changes.
 fn add(
     history: &mut Vec<Entry>,
-    blocks: &mut Vec<Block>,
+    sums: &mut Vec<Joined>,
     entry: Entry,
     sum: Joined,
 ) -> Result<(), AllocError>
     ensures history { OnOk result (history.new.items ≡ history.old.items ++ entry ∷ []) }
-    ensures blocks { OnOk result (sums_of blocks.new.items ≡ sums_of blocks.old.items ++ sum ∷ []) }
-    ensures same { OnErr result ((history.new.items ≡ history.old.items) × (sums_of blocks.new.items ≡ sums_of blocks.old.items)) }
+    ensures sums { OnOk result (sums.new.items ≡ sums.old.items ++ sum ∷ []) }
+    ensures same { OnErr result ((history.new.items ≡ history.old.items) × (sums.new.items ≡ sums.old.items)) }
 {
     history.try_reserve(1)?;
-    blocks.push(Block { posts: 1, sum })?;
+    sums.push(sum)?;
     if history.push(entry).is_err() {
         unreachable!();
     }

@@ -1,7 +1,6 @@
 //! The board on which the summaries of tiles are joined, and the events that lead to its state.
 #![tactic(auto)]
 
-mod block;
 mod board;
 mod entry;
 mod events;

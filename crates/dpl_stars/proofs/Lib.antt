@@ -1,5 +1,6 @@
 pub mod Finding
 pub mod PlaceLaws
+pub mod TableLaws
 pub mod RowLaws
 pub mod Relabel
 pub mod Solved
@@ -9,3 +10,4 @@ pub mod Linking
 pub mod Merging
 pub mod OneSummary
 pub mod SameGraph
+pub mod Many

@@ -79,32 +79,35 @@ module _ (es : List (ℕ × ℕ)) (pairs : AreOrdered es) (rows : List Star) (st
         let one : star v r true ≡ own_row r = row-unique rows listed.rising (star v r true) (own_row r) c own same in
         true≢false (ap (λ (s : Star). s.odd) one)
 
-    odd-edge : (v r m : ℕ) → Contains rows (star m r true) → Contains rows (star v r true) → graph_of links r v
-    odd-edge v r m mate c = elim (All-contains (IsLinked rows links) rows (star v r true) l.linked c (not-both v r c) m mate) [
-      | inl is ↦ is.1
-      | inr is ↦ absurd (true≢false is.0)
-    ]
+    odd-edge : (v r : ℕ) → Contains rows (star v r true) → graph_of links r v
+    odd-edge v r c =
+        let (u, next, joins) = All-contains (IsLinked rows links) rows (star v r true) l.linked c (not-both v r c) in
+        elim next [
+          | inl is ↦ subst (λ x. graph_of links x v) is.1 joins
+          | inr is ↦ absurd (true≢false is.0)
+        ]
 
     -- the links lead from a root to each of its pieces, by a walk of the right parity
-    linked-walk : (m v r : ℕ) (odd : Bool) → Contains rows (star m r true) → Contains rows (star v r odd) → (k : ℕ) × Walk (graph_of links) r v k × (odd ≡ (k % 2 == 1))
-    linked-walk m v r odd mate c = elim (cases_eq v r) [
+    linked-walk : (v r : ℕ) (odd : Bool) → Contains rows (star v r odd) → (k : ℕ) × Walk (graph_of links) r v k × (odd ≡ (k % 2 == 1))
+    linked-walk v r odd c = elim (cases_eq v r) [
       | inl same ↦ (let own : Contains rows (own_row r) = All-contains (λ s. Contains rows (own_row s.root)) rows (star v r odd) listed.rooted c in
           let one : star v r odd ≡ own_row r = row-unique rows listed.rising (star v r odd) (own_row r) c own same in
           (0, subst (λ x. Walk (graph_of links) r x 0) (sym same) stay, ap (λ (s : Star). s.odd) one))
-      | inr apart ↦ elim (All-contains (IsLinked rows links) rows (star v r odd) l.linked c apart m mate) [
-        | inl is ↦ (1, step is.1 stay, is.0)
-        | inr is ↦ (2, step (odd-edge is.1.0 r m mate is.1.1) (step is.1.2 stay), is.0)
-      ]
+      | inr apart ↦ (let (u, next, joins) = All-contains (IsLinked rows links) rows (star v r odd) l.linked c apart in
+          elim next [
+            | inl is ↦ (1, step (subst (λ x. graph_of links x v) is.1 joins) stay, is.0)
+            | inr is ↦ (2, step (odd-edge u r is.1) (step joins stay), is.0)
+          ])
     ]
 
     pub links-carried : Carries (graph_of links) (graph_of es)
     links-carried u v e = mates-walk u v (l.mates u v e)
 
     -- two pieces of one component whose parities differ
-    between : (u v r a b m : ℕ) → Contains rows (star m r true) → Contains rows (star u r (a % 2 == 1)) → Contains rows (star v r (b % 2 == 1)) → (a + b) % 2 ≡ 1 → OddWalk (graph_of links) u v
-    between u v r a b m mate first second odd =
-        let (i, to_u, i_is) = linked-walk m u r (a % 2 == 1) mate first in
-        let (j, to_v, j_is) = linked-walk m v r (b % 2 == 1) mate second in
+    between : (u v r a b : ℕ) → Contains rows (star u r (a % 2 == 1)) → Contains rows (star v r (b % 2 == 1)) → (a + b) % 2 ≡ 1 → OddWalk (graph_of links) u v
+    between u v r a b first second odd =
+        let (i, to_u, i_is) = linked-walk u r (a % 2 == 1) first in
+        let (j, to_v, j_is) = linked-walk v r (b % 2 == 1) second in
         (i + j, Walk-trans (graph_of links) (Walk-reverse (graph_of links) (graph_of-undirected links l.pairs) to_u) to_v, parities a b i j i_is j_is odd)
 
     pub graph-carried : Carries (graph_of es) (graph_of links)
@@ -120,7 +123,4 @@ module _ (es : List (ℕ × ℕ)) (pairs : AreOrdered es) (rows : List Star) (st
           | inl is ↦ is
           | inr other ↦ absurd (stars.even (closed-odd es pairs r (suc a + b) (Walk-trans (graph_of es) (Walk-snoc (graph_of es) u_far.walk e) (Walk-reverse (graph_of es) un v_far.walk)) (omega (arith, other))))
         ] in
-        elim (cases_eq (a % 2) 1) [
-          | inl is ↦ between u v r a b u (subst (λ o. Contains rows (star u r o)) (eq-eqb (a % 2) 1 is) first) first second odd
-          | inr other ↦ between u v r a b v (subst (λ o. Contains rows (star v r o)) (eq-eqb (b % 2) 1 (omega (arith, other, odd))) second) first second odd
-        ]
+        between u v r a b first second odd

@@ -1,5 +1,5 @@
 -- What the steps of a summary leave.
-use Rattle.std.proofs.Common.{◌≡◌, ℕ, ◌<◌, List, map, length, sym, subst, ◌∙◌, ap}
+use Rattle.std.proofs.Common.{◌≡◌, ℕ, ◌<◌, List, map, length, sym, subst}
 use Rattle.std.specs.List.{All}
 use Rattle.dpl_spec.specs.Graphs.{graph_of}
 use Rattle.dpl_spec.specs.Summary.{AreStars, HasOddCycle}
@@ -18,12 +18,12 @@ pub record Solved (edges placed : List (ℕ × ℕ)) (pieces roots levels : List
   pub placed_by : ArePlaced pieces edges placed
   pub levelled : AreLevels placed (length pieces) roots levels
 
-pub solved-from : (edges placed q : List (ℕ × ℕ)) (pieces p roots levels : List ℕ) (n : ℕ) → AreOrdered edges → AreTouched edges pieces → p ≡ pieces → ArePlaced p edges placed → n ≡ length p → q ≡ placed → AreLevels q n roots levels → Solved edges placed pieces roots levels
-solved-from edges placed q pieces p roots levels n pairs touched p_is placed_by n_is q_is lv = record {
+pub solved-from : (edges placed q : List (ℕ × ℕ)) (pieces roots levels : List ℕ) (n : ℕ) → AreOrdered edges → AreTouched edges pieces → ArePlaced pieces edges placed → n ≡ length pieces → q ≡ placed → AreLevels q n roots levels → Solved edges placed pieces roots levels
+solved-from edges placed q pieces roots levels n pairs touched placed_by n_is q_is lv = record {
   pairs = pairs;
   touched = touched;
-  placed_by = subst (λ x. ArePlaced x edges placed) p_is placed_by;
-  levelled = subst (λ k. AreLevels placed k roots levels) (n_is ∙ ap length p_is) (subst (λ x. AreLevels x n roots levels) q_is lv);
+  placed_by = placed_by;
+  levelled = subst (λ k. AreLevels placed k roots levels) n_is (subst (λ x. AreLevels x n roots levels) q_is lv);
 }
 
 module _ (edges placed : List (ℕ × ℕ)) (pieces roots levels : List ℕ) (s : Solved edges placed pieces roots levels) where

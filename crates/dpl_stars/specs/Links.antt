@@ -1,8 +1,11 @@
 -- Edges that stand for the rows of a summary.
-use Rattle.std.specs.Prelude.{◌≡◌, ◌≢◌, ℕ, ◌<◌, ◌⊎◌, Bool, true, false, not, List}
+use Rattle.std.specs.Prelude.{◌≡◌, ◌≢◌, ℕ, ◌<◌, ◌⊎◌, Bool, true, false, not, List, [], ◌∷◌, ◌++◌, length, slice_index}
 use Rattle.std.specs.List.{All, Contains}
 use Rattle.dpl_spec.specs.Graphs.{graph_of}
 use Rattle.dpl_stars.specs.declared.list.Star.{Star}
+use Rattle.dpl_stars.specs.declared.joined.Joined.{Joined}
+use Rattle.dpl_stars.specs.declared.joined.Joined.TheVariants.{Stars}
+use Rattle.dpl_stars.specs.Stars.{odd_row, IsStarList}
 use Rattle.dpl_stars.specs.Sums.{AreEdgePairs}
 
 abbrev pub star : ℕ → ℕ → Bool → Star
@@ -12,27 +15,34 @@ star v r odd = record { piece = v; root = r; odd = odd }
 abbrev pub Joins : ℕ × ℕ → ℕ → ℕ → Type 0
 Joins e a b = ((e.0 ≡ a) × (e.1 ≡ b)) ⊎ ((e.0 ≡ b) × (e.1 ≡ a))
 
--- an odd row goes to its root, an even one to an odd one of its root
-abbrev pub IsLink : List Star → Star → ℕ × ℕ → Type 0
-IsLink odds row e =
-    (e.0 < e.1) × (((row.odd ≡ true) × Joins e row.root row.piece) ⊎ ((row.odd ≡ false) × ((mate : Star) × Contains odds mate × (mate.root ≡ row.root) × Joins e mate.piece row.piece)))
+-- at the place of each front odd row's root stands the piece of an odd row of that root
+pub record HasMates (pieces : List ℕ) (rows front : List Star) (mates : List ℕ) : Type 0 where
+  pub each : length mates ≡ length pieces
+  pub odd : (k : ℕ) (s : Star) → k < length pieces → Contains front s → s.odd ≡ true → slice_index pieces k ≡ s.root → Contains rows (odd_row (slice_index mates k) s.root)
 
--- the row of a root, or an even one whose root has no odd ones
-abbrev pub NeedsNoLink : List Star → Star → Type 0
-NeedsNoLink odds row = (row.piece ≡ row.root) ⊎ ((row.odd ≡ false) × All (λ s. s.root ≢ row.root) odds)
+-- what a row is joined to: an odd one to its root, an even one to an odd one of its root
+abbrev pub IsNext : List Star → Star → ℕ → Type 0
+IsNext rows row v = ((row.odd ≡ true) × (v ≡ row.root)) ⊎ ((row.odd ≡ false) × Contains rows (odd_row v row.root))
 
 -- one root, and one is odd where the other is even
 abbrev pub AreMates : List Star → ℕ → ℕ → Type 0
 AreMates rows u v = (r : ℕ) × (odd : Bool) × Contains rows (star u r odd) × Contains rows (star v r (not odd))
 
--- what joins the row to its component, where that has an odd one
+-- what joins the row to its component
 abbrev pub IsLinked : List Star → List (ℕ × ℕ) → Star → Type 0
-IsLinked rows es row =
-    row.piece ≢ row.root → ((m : ℕ) → Contains rows (star m row.root true) →
-    ((row.odd ≡ true) × graph_of es row.root row.piece) ⊎ ((row.odd ≡ false) × ((mate : ℕ) × Contains rows (star mate row.root true) × graph_of es mate row.piece)))
+IsLinked rows es row = row.piece ≢ row.root → (v : ℕ) × IsNext rows row v × graph_of es v row.piece
 
 -- edges between mates that link the front rows
 pub record AreLinks (rows front : List Star) (es : List (ℕ × ℕ)) : Type 0 where
   pub pairs : AreEdgePairs es
   pub mates : (u v : ℕ) → graph_of es u v → AreMates rows u v
   pub linked : All (IsLinked rows es) front
+
+-- edges that stand for these rows come behind the old ones
+abbrev pub AddsLinks : List Star → List (ℕ × ℕ) → List (ℕ × ℕ) → Type 0
+AddsLinks rows old new = (more : List (ℕ × ℕ)) × IsStarList rows × AreLinks rows rows more × (new ≡ old ++ more)
+
+-- edges that stand for the rows of these summaries, none of which has an odd cycle, one after the other
+abbrev pub StandFor : List Joined → List (ℕ × ℕ) → Type 0
+StandFor [] es = es ≡ []
+StandFor (j ∷ js) es = (rows : List Star) × (front rest : List (ℕ × ℕ)) × (j ≡ Stars rows) × IsStarList rows × AreLinks rows rows front × (es ≡ front ++ rest) × StandFor js rest

@@ -1,5 +1,5 @@
 -- A summary as the definitions see it.
-use Rattle.std.specs.Prelude.{◌≡◌, ℕ, ◌<◌, List, ◌++◌, map}
+use Rattle.std.specs.Prelude.{◌≡◌, ℕ, ◌<◌, List, [], ◌∷◌, ◌++◌, map}
 use Rattle.std.specs.List.{All}
 use Rattle.dpl_spec.specs.Graphs.{graph_of}
 use Rattle.dpl_spec.specs.Summary as summary
@@ -29,6 +29,15 @@ SumsBoth j k both = (es fs : List (ℕ × ℕ)) → AreEdgePairs es → AreEdgeP
 -- The one summary of both: where one sums up some edges and the other sums up some, it is what sums up all of them.
 abbrev pub IsTheSummaryOfBoth : Joined → Joined → Joined → Type 0
 IsTheSummaryOfBoth j k both = (es fs : List (ℕ × ℕ)) (all : Joined) → AreEdgePairs es → AreEdgePairs fs → Sums es j → Sums fs k → Sums (es ++ fs) all → both ≡ all
+
+-- Edges one after the other: the first sums up some first ones, the second the next ones, and so on to the last.
+abbrev pub AreSummed : List (ℕ × ℕ) → List Joined → Type 0
+AreSummed edges [] = edges ≡ []
+AreSummed edges (j ∷ js) = (front rest : List (ℕ × ℕ)) × (edges ≡ front ++ rest) × AreEdgePairs front × Sums front j × AreSummed rest js
+
+-- What sums up the edges of all: whatever edges these sum up, one after the other, it sums up all of them.
+abbrev pub SumsAll : List Joined → Joined → Type 0
+SumsAll sums all = (edges : List (ℕ × ℕ)) → AreSummed edges sums → Sums edges all
 
 -- a list of edges has one summary
 abbrev pub IsOneSummary : Type 0

@@ -7,10 +7,12 @@ mod list;
 mod places;
 mod rows;
 mod sums;
+mod table;
+mod touched;
 
 pub use crate::joined::Joined;
 pub use crate::list::{Star, StarList};
-pub use crate::sums::{merge, one_summary, stars};
+pub use crate::sums::{merge, merge_all, one_summary, stars};
 
 #[cfg(test)]
 mod tests;

@@ -1,42 +1,33 @@
 //! Edges that stand for the rows of a summary.
-ghost use Rattle.std.specs.Prelude.{◌≡◌, ◌≢◌, ◌≤◌, ◌<◌, false, IfOk, OnOk, MatchOption, filter};
-ghost use Rattle.std.specs.List.{All, Contains};
-ghost use Rattle.std.specs.List.Sorted.{IsPermutation, IsNonDecreasingBy};
+ghost use Rattle.std.specs.Prelude.{◌≡◌, ◌≢◌, ◌<◌, IfOk, map};
 ghost use Rattle.dpl_stars.specs.Stars.{IsStarList};
-ghost use Rattle.dpl_stars.specs.Links.{Joins, IsLink, NeedsNoLink, AreLinks};
+ghost use Rattle.dpl_stars.specs.Links.{Joins, HasMates, AreLinks};
 
 use crate::list::Star;
+use crate::places::Places;
 use dpl_base::{Edge, Id};
 use std::alloc::{AllocError, Global};
 
-/// Puts rows in order of their roots.
-fn sort_by_root(rows: &mut Vec<Star>) -> Result<(), AllocError>
-    ensures same { IsPermutation rows.old.items rows.new.items }
-    ensures grouped { OnOk result (IsNonDecreasingBy (λ r. r.root) rows.new.items) }
+/// The pieces of rows.
+fn pieces_of(alloc: Global, rows: &[Star]) -> Result<Vec<Id>, AllocError>
+    ensures { IfOk result (λ v. v.items ≡ map (λ r. r.piece) rows.now) }
 {
-    rows.sort_by_key(|r| r.root)?;
-    Ok(())
+    rows.iter().map(|r| r.piece).collect(alloc)
 }
 
-/// The odd rows, in order of their roots.
-fn odd_rows(alloc: Global, rows: &[Star]) -> Result<Vec<Star>, AllocError>
-    ensures same { IfOk result (λ v. IsPermutation (filter (λ r. r.odd) rows.now) v.items) }
-    ensures grouped { IfOk result (λ v. IsNonDecreasingBy (λ r. r.root) v.items) }
+/// At the place of each root the piece of an odd row of that root, elsewhere 0.
+fn mates_of(alloc: Global, places: &Places, rows: &[Star]) -> Result<Vec<Id>, AllocError>
+    requires rows { IsStarList rows.now }
+    requires places { places.now ≡ map (λ r. r.piece) rows.now }
+    ensures { IfOk result (λ v. HasMates places.now rows.now rows.now v.items) }
 {
-    let mut odds = rows.iter().copied().filter(|r| r.odd).collect(alloc)?;
-    sort_by_root(&mut odds)?;
-    Ok(odds)
-}
-
-/// A row of this root.
-fn mate(odds: &[Star], root: Id) -> Option<Star>
-    requires { IsNonDecreasingBy (λ r. r.root) odds.now }
-    ensures { MatchOption result (All (λ r. r.root ≢ root) odds.now) (λ r. Contains odds.now r × (r.root ≡ root)) }
-{
-    match odds.binary_search_by_key(&root, |r| r.root) {
-        Ok(k) => Some(odds[k]),
-        Err(_) => None,
+    let mut mates = vec![in alloc; 0; rows.len()]?;
+    for row in rows {
+        if row.odd {
+            mates[places.place(row.root) as usize] = row.piece;
+        }
     }
+    Ok(mates)
 }
 
 /// The edge between two pieces.
@@ -48,35 +39,23 @@ fn edge(a: Id, b: Id) -> Edge
     if a < b { (a, b) } else { (b, a) }
 }
 
-/// The edge that links a row to its component.
-fn link(odds: &[Star], row: Star) -> Option<Edge>
-    requires grouped { IsNonDecreasingBy (λ r. r.root) odds.now }
-    requires low { row.root ≤ row.piece }
-    requires apart { row.odd ≡ false → All (λ s. s.piece ≢ row.piece) odds.now }
-    ensures { MatchOption result (NeedsNoLink odds.now row) (IsLink odds.now row) }
-{
-    if row.piece == row.root {
-        return None;
-    }
-    if row.odd {
-        return Some((row.root, row.piece));
-    }
-    match mate(odds, row.root) {
-        Some(other) => Some(edge(other.piece, row.piece)),
-        None => None,
-    }
-}
-
-/// Edges whose graph has these rows as its summary, if they are the summary of a graph.
+/// Edges whose graph has these rows as its summary, if they are the summary of a graph: an odd row is joined to its
+/// root, an even one to an odd row of its root.
 pub fn links(alloc: Global, rows: &[Star]) -> Result<Vec<Edge>, AllocError>
     requires { IsStarList rows.now }
     ensures { IfOk result (λ v. AreLinks rows.now rows.now v.items) }
 {
-    let odds = odd_rows(alloc, rows)?;
+    let places = Places::of(alloc, pieces_of(alloc, rows)?)?;
+    let mates = mates_of(alloc, &places, rows)?;
     let mut links = Vec::new(alloc);
     for row in rows {
-        if let Some(edge) = link(&odds, *row) {
-            links.push(edge)?;
+        if row.piece != row.root {
+            let other = if row.odd {
+                row.root
+            } else {
+                mates[places.place(row.root) as usize]
+            };
+            links.push(edge(other, row.piece))?;
         }
     }
     Ok(links)

@@ -1,36 +1,36 @@
 //! Numbers the pieces that edges touch.
-ghost use Rattle.std.specs.Prelude.{◌≡◌, ◌≤◌, ◌<◌, length, slice_index, IfOk, IsTrue, ◌↔◌};
+ghost use Rattle.std.specs.Prelude.{◌≡◌, ◌≤◌, ◌<◌, length, slice_index, IfOk};
 ghost use Rattle.std.specs.List.{AllPairs, Contains};
-ghost use Rattle.dpl_stars.specs.Places.{ends_of, AreTouched, ArePlaced};
+ghost use Rattle.dpl_stars.specs.Places.{AreTouched, ArePlaced};
 ghost use Rattle.dpl_stars.specs.Sums.{AreEdgePairs};
 
+use crate::table::{Table, table_of};
 use dpl_base::{Edge, Id};
 use std::alloc::{AllocError, Global};
+use std::marker::Model;
 
-/// Both ends of each edge.
-fn ends(alloc: Global, edges: &[Edge]) -> Result<Vec<Id>, AllocError>
-    ensures { IfOk result (λ v. v.items ≡ ends_of edges.now) }
-{
-    let mut ends = Vec::new(alloc);
-    for edge in edges {
-        ends.push(edge.0)?;
-        ends.push(edge.1)?;
-    }
-    Ok(ends)
+/// Pieces in order, and where each of them stands. A contract sees the list of the pieces.
+#[derive(Debug, Drop)]
+pub struct Places {
+    pieces: Vec<Id>,
+    /// Where each piece stands, if they lie close together.
+    table: Option<Table>,
 }
 
-/// The pieces that some edge touches, in order.
-pub fn touched(alloc: Global, edges: &[Edge]) -> Result<Vec<Id>, AllocError>
-    ensures { IfOk result (λ v. AreTouched edges.now v.items) }
-{
-    let mut pieces = ends(alloc, edges)?;
-    pieces.sort_unstable();
-    pieces.dedup();
-    Ok(pieces)
+impl Model for Places {
+    ghost use Rattle.std.specs.Prelude.{ℕ, List};
+
+    ghost Value = { List ℕ };
+
+    ghost view = { λ p. p.pieces.items };
+
+    ghost use Rattle.dpl_stars.specs.Tables.{HasPlaces};
+
+    ghost invariant = { λ p. HasPlaces p.pieces.items p.table };
 }
 
 /// Where a piece stands among the pieces.
-fn place(pieces: &[Id], piece: Id) -> Id
+fn search(pieces: &[Id], piece: Id) -> Id
     requires rising { AllPairs (λ a b. a < b) pieces.now }
     requires there { Contains pieces.now piece }
     ensures within { result < length pieces.now }
@@ -42,15 +42,45 @@ fn place(pieces: &[Id], piece: Id) -> Id
     }
 }
 
+impl Places {
+    /// The places of these pieces.
+    pub fn of(alloc: Global, pieces: Vec<Id>) -> Result<Places, AllocError>
+        requires { AllPairs (λ a b. a < b) pieces.items }
+        ensures { IfOk result (λ places. places ≡ pieces.items) }
+    {
+        let table = table_of(alloc, &pieces)?;
+        Ok(Places { pieces, table })
+    }
+
+    /// The pieces.
+    pub fn pieces(&self) -> &[Id]
+        ensures { result.now ≡ self.now }
+    {
+        self.pieces.as_slice()
+    }
+
+    /// Where a piece stands.
+    pub fn place(&self, piece: Id) -> Id
+        requires { Contains self.now piece }
+        ensures within { result < length self.now }
+        ensures at { slice_index self.now result ≡ piece }
+    {
+        match &self.table {
+            Some(table) => table.places[(piece - table.least) as usize] as Id,
+            None => search(self.pieces.as_slice(), piece),
+        }
+    }
+}
+
 /// The edges by the places of their ends.
-pub fn placed(alloc: Global, pieces: &[Id], edges: &[Edge]) -> Result<Vec<Edge>, AllocError>
+pub fn placed(alloc: Global, places: &Places, edges: &[Edge]) -> Result<Vec<Edge>, AllocError>
     requires pairs { AreEdgePairs edges.now }
-    requires touched { AreTouched edges.now pieces.now }
-    ensures { IfOk result (λ v. ArePlaced pieces.now edges.now v.items) }
+    requires touched { AreTouched edges.now places.now }
+    ensures { IfOk result (λ v. ArePlaced places.now edges.now v.items) }
 {
     let mut placed = Vec::new(alloc);
     for edge in edges {
-        placed.push((place(pieces, edge.0), place(pieces, edge.1)))?;
+        placed.push((places.place(edge.0), places.place(edge.1)))?;
     }
     Ok(placed)
 }

@@ -1,13 +1,16 @@
 //! Summing up edges.
-ghost use Rattle.std.specs.Prelude.{◌≡◌, IfOk, [], IsTrue, ◌↔◌};
-ghost use Rattle.dpl_stars.specs.Sums.{AreEdgePairs, Sums, SumsBoth, IsTheSummaryOfBoth, IsOneSummary};
+ghost use Rattle.std.specs.Prelude.{◌≡◌, IfOk, OnOk, MatchOption, [], IsTrue, ◌↔◌};
+ghost use Rattle.std.specs.List.{Contains};
+ghost use Rattle.dpl_stars.specs.Links.{AddsLinks, StandFor};
+ghost use Rattle.dpl_stars.specs.Sums.{AreEdgePairs, Sums, SumsAll, SumsBoth, IsTheSummaryOfBoth, IsOneSummary};
 ghost use Rattle.dpl_stars.specs.declared.joined.Joined.TheVariants.{Odd};
 
 use crate::joined::Joined;
 use crate::links::links;
 use crate::list::StarList;
-use crate::places::{placed, touched};
+use crate::places::{Places, placed};
 use crate::rows::{is_levelled, rows};
+use crate::touched::touched;
 use dpl_base::{Edge, Id};
 use dpl_graph::levels_of;
 use std::alloc::{AllocError, Global};
@@ -18,13 +21,14 @@ pub fn stars(alloc: Global, edges: &[Edge]) -> Result<Joined, AllocError>
     requires { AreEdgePairs edges.now }
     ensures { IfOk result (λ joined. Sums edges.now joined) }
 {
-    let pieces = touched(alloc, edges)?;
-    let placed = placed(alloc, &pieces, edges)?;
+    let places = Places::of(alloc, touched(alloc, edges)?)?;
+    let placed = placed(alloc, &places, edges)?;
+    let pieces = places.pieces();
     let levels = levels_of(alloc, pieces.len() as Id, &placed)?;
     if is_levelled(&placed, &levels.levels) {
         return Ok(Joined::Odd);
     }
-    let rows = rows(alloc, &pieces, &levels.roots, &levels.levels)?;
+    let rows = rows(alloc, pieces, &levels.roots, &levels.levels)?;
     Ok(Joined::Stars(StarList::of(rows)))
 }
 
@@ -44,6 +48,42 @@ pub fn merge(alloc: Global, one: &Joined, other: &Joined) -> Result<Joined, Allo
     edges.extend_from_slice(&more)?;
     let joined = stars(alloc, &edges)?;
     Ok(joined)
+}
+
+/// Adds edges that stand for the rows of a summary.
+fn add_links(alloc: Global, edges: &mut Vec<Edge>, rows: &StarList) -> Result<(), AllocError>
+    ensures { OnOk result (AddsLinks rows.now edges.old.items edges.new.items) }
+{
+    let more = links(alloc, rows.items())?;
+    edges.extend_from_slice(&more)?;
+    Ok(())
+}
+
+/// Edges that stand for the rows of all summaries, where none of these has an odd cycle.
+fn all_links(alloc: Global, sums: &[Joined]) -> Result<Option<Vec<Edge>>, AllocError>
+    ensures { IfOk result (λ found. MatchOption found (Contains sums.now Odd) (λ v. StandFor sums.now v.items)) }
+{
+    let mut edges = Vec::new(alloc);
+    for sum in sums {
+        let Joined::Stars(rows) = sum else {
+            return Ok(None);
+        };
+        add_links(alloc, &mut edges, rows)?;
+    }
+    Ok(Some(edges))
+}
+
+/// The summary of the edges of all summaries together, in one pass over their rows.
+pub fn merge_all(alloc: Global, sums: &[Joined]) -> Result<Joined, AllocError>
+    ensures { IfOk result (λ all. SumsAll sums.now all) }
+{
+    match all_links(alloc, sums)? {
+        Some(edges) => {
+            let joined = stars(alloc, &edges)?;
+            Ok(joined)
+        }
+        None => Ok(Joined::Odd),
+    }
 }
 
 /// A list of edges has one summary.

@@ -58,3 +58,54 @@ fn rows_are_found_and_copied(rt: HostRuntime) -> Result<(), Fail> {
     assert!(rt; stars(alloc, &[(0, 1), (1, 2), (0, 2)])?.is_odd());
     Ok(())
 }
+
+#[test]
+fn pieces_may_lie_close_together_or_far_apart(rt: HostRuntime) -> Result<(), Fail> {
+    let alloc = rt.alloc();
+    for [a, b, c, d] in [
+        [0, 1, 2, 3],
+        [7, 9, 20, 37],
+        [7, 9, 20, 39],
+        [0, 4_000_000, 4_000_001, 5_000_000_000],
+        [0, 1, 2, u64::MAX],
+        [u64::MAX - 5, u64::MAX - 3, u64::MAX - 2, u64::MAX],
+    ] {
+        assert!(rt; a < b && b < c && c < d);
+        let path = stars(alloc, &[(a, b), (b, c), (c, d)])?;
+        let along = [
+            row(a, a, false),
+            row(b, a, true),
+            row(c, a, false),
+            row(d, a, true),
+        ];
+        assert_eq!(rt;
+            rows_of(&path),
+            Some(along.as_slice()),
+            "a path from {a} to {d}"
+        );
+
+        let spread = stars(alloc, &[(a, d), (b, d)])?;
+        let more = stars(alloc, &[(c, d)])?;
+        let last = [
+            row(a, a, false),
+            row(b, a, false),
+            row(c, a, false),
+            row(d, a, true),
+        ];
+        assert_eq!(rt;
+            rows_of(&merge(alloc, &spread, &more)?),
+            Some(last.as_slice()),
+            "from {a} and others to {d}"
+        );
+        assert_eq!(rt;
+            rows_of(&merge(alloc, &path, &more)?),
+            Some(along.as_slice()),
+            "{c} to {d} once more"
+        );
+        assert!(rt;
+            merge(alloc, &path, &spread)?.is_odd(),
+            "from {b} to {d} by two ways"
+        );
+    }
+    Ok(())
+}

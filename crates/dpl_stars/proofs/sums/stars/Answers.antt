@@ -1,28 +1,34 @@
-use Rattle.std.proofs.Common.{sym, refl, ◌∙◌}
+use Rattle.std.proofs.Common.{length, ap, refl}
 use Rattle.std.proofs.lemmas.Bool.{false≢true}
 use Rattle.dpl_stars.proofs.Solved.{solved-from, solved-odd, solved-roots, solved-list, solved-stars}
 use Rattle.dpl_stars.proofs.sums.stars.Goals as goal
 
+pub of-requires : goal.of-requires
+of-requires c = c.in_ok-touched.ensures.rising
+
+pub placed-requires-clause-touched : goal.placed-requires-clause-touched
+placed-requires-clause-touched c = rw c.in_ok-places.ensures c.in_ok-touched.ensures
+
 pub returns-then-is_levelled : goal.returns-then-is_levelled
 returns-then-is_levelled c =
-    let s = solved-from c.args.edges.now c.in_ok-placed.placed.items _ c.in_ok-pieces.pieces.items _ c.in_ok-levels.levels.roots.items c.in_ok-levels.levels.levels.items _
-    c.requires c.in_ok-pieces.ensures c.deref.ensures.value c.in_ok-placed.ensures (c.len.ensures ∙ sym c.deref.ensures.len) c.deref-2.ensures.value c.in_ok-levels.ensures in
-    solved-odd _ _ _ _ _ s _ _ c.deref-4.ensures.value c.deref-3.ensures.value (c.if-is_levelled.ensures.0 refl)
+    let s = solved-from c.args.edges.now c.in_ok-placed.placed.items _ c.in_ok-places.places c.in_ok-levels.levels.roots.items c.in_ok-levels.levels.levels.items _
+    c.requires (rw c.in_ok-places.ensures c.in_ok-touched.ensures) c.in_ok-placed.ensures (ap length c.pieces-pieces.ensures) c.deref.ensures.value c.in_ok-levels.ensures in
+    solved-odd _ _ _ _ _ s _ _ c.deref-3.ensures.value c.deref-2.ensures.value (c.if-is_levelled.ensures.0 refl)
 
 pub rows-requires-clause-below : goal.rows-requires-clause-below
 rows-requires-clause-below c =
-    let s = solved-from c.args.edges.now c.in_ok-placed.placed.items _ c.in_ok-pieces.pieces.items _ c.in_ok-levels.levels.roots.items c.in_ok-levels.levels.levels.items _
-    c.requires c.in_ok-pieces.ensures c.deref.ensures.value c.in_ok-placed.ensures (c.len.ensures ∙ sym c.deref.ensures.len) c.deref-2.ensures.value c.in_ok-levels.ensures in
-    solved-roots _ _ _ _ _ s _ _ c.deref-6.ensures.value c.deref-5.ensures.value
+    let s = solved-from c.args.edges.now c.in_ok-placed.placed.items _ c.in_ok-places.places c.in_ok-levels.levels.roots.items c.in_ok-levels.levels.levels.items _
+    c.requires (rw c.in_ok-places.ensures c.in_ok-touched.ensures) c.in_ok-placed.ensures (ap length c.pieces-pieces.ensures) c.deref.ensures.value c.in_ok-levels.ensures in
+    solved-roots _ _ _ _ _ s _ _ c.deref-4.ensures.value c.pieces-pieces.ensures
 
-pub of-requires : goal.of-requires
-of-requires c =
-    let s = solved-from c.args.edges.now c.in_ok-placed.placed.items _ c.in_ok-pieces.pieces.items _ c.in_ok-levels.levels.roots.items c.in_ok-levels.levels.levels.items _
-    c.requires c.in_ok-pieces.ensures c.deref.ensures.value c.in_ok-placed.ensures (c.len.ensures ∙ sym c.deref.ensures.len) c.deref-2.ensures.value c.in_ok-levels.ensures in
-    solved-list _ _ _ _ _ s _ _ _ _ c.deref-5.ensures.value c.deref-6.ensures.value c.deref-7.ensures.value c.in_ok-rows.ensures
+pub of-requires-2 : goal.of-requires-2
+of-requires-2 c =
+    let s = solved-from c.args.edges.now c.in_ok-placed.placed.items _ c.in_ok-places.places c.in_ok-levels.levels.roots.items c.in_ok-levels.levels.levels.items _
+    c.requires (rw c.in_ok-places.ensures c.in_ok-touched.ensures) c.in_ok-placed.ensures (ap length c.pieces-pieces.ensures) c.deref.ensures.value c.in_ok-levels.ensures in
+    solved-list _ _ _ _ _ s _ _ _ _ c.pieces-pieces.ensures c.deref-4.ensures.value c.deref-5.ensures.value c.in_ok-rows.ensures
 
 pub returns : goal.returns
 returns c =
-    let s = solved-from c.args.edges.now c.in_ok-placed.placed.items _ c.in_ok-pieces.pieces.items _ c.in_ok-levels.levels.roots.items c.in_ok-levels.levels.levels.items _
-    c.requires c.in_ok-pieces.ensures c.deref.ensures.value c.in_ok-placed.ensures (c.len.ensures ∙ sym c.deref.ensures.len) c.deref-2.ensures.value c.in_ok-levels.ensures in
-    solved-stars _ _ _ _ _ s _ _ _ _ _ _ _ c.deref-5.ensures.value c.deref-6.ensures.value c.deref-7.ensures.value c.in_ok-rows.ensures c.of.ensures c.deref-4.ensures.value c.deref-3.ensures.value (λ on. false≢true (c.if-is_levelled.ensures.1 on))
+    let s = solved-from c.args.edges.now c.in_ok-placed.placed.items _ c.in_ok-places.places c.in_ok-levels.levels.roots.items c.in_ok-levels.levels.levels.items _
+    c.requires (rw c.in_ok-places.ensures c.in_ok-touched.ensures) c.in_ok-placed.ensures (ap length c.pieces-pieces.ensures) c.deref.ensures.value c.in_ok-levels.ensures in
+    solved-stars _ _ _ _ _ s _ _ _ _ _ _ _ c.pieces-pieces.ensures c.deref-4.ensures.value c.deref-5.ensures.value c.in_ok-rows.ensures c.of-2.ensures c.deref-3.ensures.value c.deref-2.ensures.value (λ on. false≢true (c.if-is_levelled.ensures.1 on))
