@@ -1,8 +1,9 @@
 -- What a window leaves out.
 use Rattle.std.proofs.Common.{ℕ, ◌*◌, ◌<◌, ◌≤◌, inl, inr, List, [], get_or, length, subst, arith}
-use Rattle.std.specs.Prelude.{◌↔◌, ℤ, ◌+ℤ◌, ◌-ℤ◌, pos, ◌≤ℤ◌, ◌<ℤ◌}
+use Rattle.std.specs.Prelude.{◌≡◌, ◌↔◌, ℤ, ◌+ℤ◌, ◌-ℤ◌, pos, ◌≤ℤ◌, ◌<ℤ◌}
+use Rattle.std.specs.Int.{int_min, int_max}
 use Rattle.std.specs.List.{Contains}
-use Rattle.std.proofs.lemmas.Int.{ints, by_lt_z}
+use Rattle.std.proofs.lemmas.Int.{ints, clamps, by_lt_z}
 use Rattle.dpl_spec.specs.declared.Pt.{Pt}
 use Rattle.dpl_spec.specs.declared.Rect.{Rect}
 use Rattle.dpl_spec.specs.Squares.{AreNear, Has, IsSolidWithin, gap}
@@ -12,7 +13,7 @@ use Rattle.dpl_slabs.specs.Parts.{AreParts}
 use Rattle.dpl_tree.specs.Trees.{LiesApart}
 use Rattle.dpl_tree.specs.Windows.{IsWidened}
 use Rattle.dpl_edges.specs.InCells.{in_cell}
-use Rattle.dpl_edges.specs.Meetings.{HaveCommon, IsGreater, IsSmaller}
+use Rattle.dpl_edges.specs.Meetings.{HaveCommon}
 
 square_up : (m n : ℕ) → m ≤ n → m * m ≤ n * n
 square_up m n a = grind arith
@@ -73,7 +74,43 @@ slab-within parts k r h k_in c =
     let w : IsRectWithin farthest r = within r c in
     record { wide = solid.wide; tall = solid.tall; left = w.left; right = w.right; low = w.low; high = w.high }
 
-module _ (r cell : Rect) (x0 y0 x1 y1 : ℤ) (left : IsGreater r.x0 cell.x0 x0) (low : IsGreater r.y0 cell.y0 y0) (right : IsSmaller r.x1 cell.x1 x1) (high : IsSmaller r.y1 cell.y1 y1) where
+record IsGreater (a b n : ℤ) : Type 0 where
+  pub first : a ≤ℤ n
+  pub second : b ≤ℤ n
+  pub least : (i : ℤ) → a ≤ℤ i → b ≤ℤ i → n ≤ℤ i
+
+greater-of : (a b n : ℤ) → n ≡ int_max a b → IsGreater a b n
+greater-of a b n e = record {
+  first = omega (arith, ints, clamps, e);
+  second = omega (arith, ints, clamps, e);
+  least = λ i h k. omega (arith, ints, clamps, e, h, k);
+}
+
+record IsSmaller (a b n : ℤ) : Type 0 where
+  pub first : n ≤ℤ a
+  pub second : n ≤ℤ b
+  pub greatest : (i : ℤ) → i ≤ℤ a → i ≤ℤ b → i ≤ℤ n
+
+smaller-of : (a b n : ℤ) → n ≡ int_min a b → IsSmaller a b n
+smaller-of a b n e = record {
+  first = omega (arith, ints, clamps, e);
+  second = omega (arith, ints, clamps, e);
+  greatest = λ i h k. omega (arith, ints, clamps, e, h, k);
+}
+
+module _ (r cell : Rect) (x0 y0 x1 y1 : ℤ) (left_is : x0 ≡ int_max r.x0 cell.x0) (low_is : y0 ≡ int_max r.y0 cell.y0) (right_is : x1 ≡ int_min r.x1 cell.x1) (high_is : y1 ≡ int_min r.y1 cell.y1) where
+  left : IsGreater r.x0 cell.x0 x0
+  left = greater-of r.x0 cell.x0 x0 left_is
+
+  low : IsGreater r.y0 cell.y0 y0
+  low = greater-of r.y0 cell.y0 y0 low_is
+
+  right : IsSmaller r.x1 cell.x1 x1
+  right = smaller-of r.x1 cell.x1 x1 right_is
+
+  high : IsSmaller r.y1 cell.y1 y1
+  high = smaller-of r.y1 cell.y1 y1 high_is
+
   -- the squares of both
   pub clip-squares : (p : Pt) → Has (record { x0 = x0; y0 = y0; x1 = x1; y1 = y1 }) p ↔ in_cell cell (Has r) p
   clip-squares p = (

@@ -1,5 +1,5 @@
 -- Edges between pieces, found slab by slab.
-use Rattle.std.specs.Prelude.{◌≡◌, ◌≢◌, ◌⊎◌, ℕ, ◌<◌, ◌≤◌, ℤ, ◌≤ℤ◌, ◌<ℤ◌, ◌+ℤ◌, pos, List, length, slice_index}
+use Rattle.std.specs.Prelude.{◌≡◌, ◌≢◌, ◌⊎◌, ℕ, ◌<◌, ◌≤◌, ◌≤ℤ◌, ◌<ℤ◌, ◌+ℤ◌, pos, List, length, slice_index}
 use Rattle.std.specs.List.{Contains}
 use Rattle.dpl_spec.specs.declared.Rect.{Rect}
 use Rattle.dpl_spec.specs.Squares.{Region, AreNear, Has}
@@ -29,18 +29,6 @@ IsEndsOfAny i ks e = (k : ℕ) × Contains ks k × IsEnds i k e
 -- an edge of piece i, found by its slab r in the cell
 abbrev pub IsSlabEdge : ℕ → List (List Rect) → List ℕ → Rect → ℕ → Rect → ℕ × ℕ → Type 0
 IsSlabEdge rule pieces owners cell i r e = (k : ℕ) × IsNearPiece rule pieces owners i (in_cell cell (Has r)) k × IsEnds i k e
-
--- the greater of two coordinates
-pub record IsGreater (a b n : ℤ) : Type 0 where
-  pub first : a ≤ℤ n
-  pub second : b ≤ℤ n
-  pub least : (i : ℤ) → a ≤ℤ i → b ≤ℤ i → n ≤ℤ i
-
--- the smaller of two coordinates
-pub record IsSmaller (a b n : ℤ) : Type 0 where
-  pub first : n ≤ℤ a
-  pub second : n ≤ℤ b
-  pub greatest : (i : ℤ) → i ≤ℤ a → i ≤ℤ b → i ≤ℤ n
 
 -- some square is in both
 pub record HaveCommon (a b : Rect) : Type 0 where

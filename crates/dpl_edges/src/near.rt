@@ -7,27 +7,13 @@ ghost use Rattle.dpl_spec.specs.Slabs.{IsSolid};
 ghost use Rattle.dpl_spec.specs.Squares.{Has, IsSolidWithin};
 ghost use Rattle.dpl_tile.specs.Adding.{Adds};
 ghost use Rattle.dpl_edges.specs.InCells.{in_cell};
-ghost use Rattle.dpl_edges.specs.Meetings.{AreMeeting, HaveCommon, IsGreater, IsNearPiece, IsSmaller};
+ghost use Rattle.dpl_edges.specs.Meetings.{AreMeeting, HaveCommon, IsNearPiece};
 
 use dpl_base::{Id, Rect, near};
 use dpl_tile::Plan;
 use dpl_tree::{Node, Owners, widened};
 use smallvec::SmallVec;
 use std::alloc::{AllocError, Global};
-
-/// The greater of two coordinates.
-fn greater(a: i64, b: i64) -> i64
-    ensures { IsGreater a b result }
-{
-    if b <= a { a } else { b }
-}
-
-/// The smaller of two coordinates.
-fn smaller(a: i64, b: i64) -> i64
-    ensures { IsSmaller a b result }
-{
-    if a <= b { a } else { b }
-}
 
 /// The squares of a rectangle in a cell.
 pub fn clipped(r: &Rect, cell: &Rect) -> Rect
@@ -38,10 +24,10 @@ pub fn clipped(r: &Rect, cell: &Rect) -> Rect
     ensures solid { IsSolidWithin farthest result }
 {
     Rect {
-        x0: greater(r.x0, cell.x0),
-        y0: greater(r.y0, cell.y0),
-        x1: smaller(r.x1, cell.x1),
-        y1: smaller(r.y1, cell.y1),
+        x0: r.x0.max(cell.x0),
+        y0: r.y0.max(cell.y0),
+        x1: r.x1.min(cell.x1),
+        y1: r.y1.min(cell.y1),
     }
 }
 

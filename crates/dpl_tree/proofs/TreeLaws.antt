@@ -13,7 +13,7 @@ use Rattle.dpl_tree.specs.declared.items.Item.{Item}
 use Rattle.dpl_tree.specs.declared.tree.Node.{Node}
 use Rattle.dpl_tree.specs.declared.tree.Owners.{Owners}
 use Rattle.dpl_tree.specs.declared.tree.Owners.TheVariants.{All, But, Only, Above}
-use Rattle.dpl_tree.specs.Trees.{IsTree, IsLeftOut, IsMissed, IsUnder, IsTreeFrom, size_at, HasHalves, IsBalanced, IsBalancedFrom, IsLeaf, HasLeafFrom, HasLeaf, HasItem, IsGrown}
+use Rattle.dpl_tree.specs.Trees.{IsTree, IsLeftOut, IsMissed, IsPace, IsUnder, IsTreeFrom, size_at, HasHalves, IsBalanced, IsBalancedFrom, IsLeaf, HasLeafFrom, HasLeaf, HasItem, IsGrown}
 
 pub under-self : (a : Node) → IsUnder a a
 under-self a =
@@ -333,7 +333,7 @@ abbrev pub ArePassed : Rect → Owners → List Node → ℕ → ℕ → Type 0
 ArePassed window owners nodes from i = (j : ℕ) (d : Node) → from ≤ j → j < i → j < length nodes → (get_or nodes j d).size ≡ 1 → IsMissed window owners (get_or nodes j d)
 
 pub passed-more : (window : Rect) (owners : Owners) (nodes : List Node) (from i n : ℕ) (d : Node) → IsTree nodes → i < length nodes → ArePassed window owners nodes from i
-    → ((n ≡ (get_or nodes i d).size) × IsMissed window owners (get_or nodes i d)) ⊎ (((n ≡ 0) × ((get_or nodes i d).size ≡ 1) × (IsMissed window owners (get_or nodes i d) → ⊥)) ⊎ ((n ≡ 1) × ((get_or nodes i d).size ≢ 1)))
+    → IsPace window owners (get_or nodes i d) n
     → n ≢ 0 → ArePassed window owners nodes from (i + n)
 passed-more window owners nodes from i n d tree i_in before (inl (size, missed)) some j e a b j_in one = elim (cases_lt j i) [
   | inl l ↦ before j e a l j_in one
@@ -343,7 +343,7 @@ passed-more window owners nodes from i n d tree i_in before (inl (size, missed))
       missed-under window owners (get_or nodes j e) (get_or nodes i e) (tree.under i j e (omega arith) l (omega (arith, b, size')) j_in) (tree.one j e (omega arith) j_in one) upper)
 ]
 passed-more window owners nodes from i n d tree i_in before (inr (inl (zero', q, r))) some j e a b j_in one = absurd (some zero')
-passed-more window owners nodes from i n d tree i_in before (inr (inr (step, big))) some j e a b j_in one = elim (cases_lt j i) [
+passed-more window owners nodes from i n d tree i_in before (inr (inr (step, big, entered))) some j e a b j_in one = elim (cases_lt j i) [
   | inl l ↦ before j e a l j_in one
   | inr l ↦ absurd (let j_is : j ≡ i = omega (arith, l, b, step) in
       big (ap (λ u. let v : Node = u in v.size) (get_or_default nodes i d e i_in) ∙ (ap (λ m. (get_or nodes m e).size) (sym j_is) ∙ one)))
@@ -351,20 +351,20 @@ passed-more window owners nodes from i n d tree i_in before (inr (inr (step, big
 
 -- how far a search goes
 pub pace-ends : (window : Rect) (owners : Owners) (nodes : List Node) (i n : ℕ) (d : Node) → IsTree nodes → i < length nodes
-    → ((n ≡ (get_or nodes i d).size) × IsMissed window owners (get_or nodes i d)) ⊎ (((n ≡ 0) × ((get_or nodes i d).size ≡ 1) × (IsMissed window owners (get_or nodes i d) → ⊥)) ⊎ ((n ≡ 1) × ((get_or nodes i d).size ≢ 1)))
+    → IsPace window owners (get_or nodes i d) n
     → i + n ≤ length nodes
 pace-ends window owners nodes i n d tree i_in (inl (size, missed)) = let e = tree.ends i d (omega arith) i_in in omega (arith, e, size)
 pace-ends window owners nodes i n d tree i_in (inr (inl (none, q, r))) = omega (arith, none, i_in)
-pace-ends window owners nodes i n d tree i_in (inr (inr (step, q))) = omega (arith, step, i_in)
+pace-ends window owners nodes i n d tree i_in (inr (inr (step, q, entered))) = omega (arith, step, i_in)
 
 pub found-here : (window : Rect) (owners : Owners) (nodes : List Node) (i n : ℕ) (d : Node) → IsTree nodes → i < length nodes
-    → ((n ≡ (get_or nodes i d).size) × IsMissed window owners (get_or nodes i d)) ⊎ (((n ≡ 0) × ((get_or nodes i d).size ≡ 1) × (IsMissed window owners (get_or nodes i d) → ⊥)) ⊎ ((n ≡ 1) × ((get_or nodes i d).size ≢ 1)))
+    → IsPace window owners (get_or nodes i d) n
     → n ≡ 0 → (e : Node) → ((get_or nodes i e).size ≡ 1) × (IsMissed window owners (get_or nodes i e) → ⊥)
 found-here window owners nodes i n d tree i_in (inl (size, missed)) none e = absurd (let s = tree.some i d (omega arith) i_in in omega (arith, s, size, none))
 found-here window owners nodes i n d tree i_in (inr (inl (zero', one, free))) none e =
     let same : get_or nodes i d ≡ get_or nodes i e = get_or_default nodes i d e i_in in
     (sym (ap (λ u. let v : Node = u in v.size) same) ∙ one, subst (λ u. IsMissed window owners u → ⊥) same free)
-found-here window owners nodes i n d tree i_in (inr (inr (step, big))) none e = absurd (omega (arith, step, none))
+found-here window owners nodes i n d tree i_in (inr (inr (step, big, entered))) none e = absurd (omega (arith, step, none))
 
 item-sorted : (items sorted : List Item) (r : Rect) (k : ℕ) → IsPermutation items sorted → HasItem items r k → HasItem sorted r k
 item-sorted items sorted r k same (t, c, e, f) = (t, Contains-permutation items sorted t same c, e, f)

@@ -1,5 +1,5 @@
 -- Search trees over rectangles, as lists of nodes.
-use Rattle.std.specs.Prelude.{◌≡◌, ℕ, ◌+◌, ◌*◌, ◌<◌, ◌≤◌, ◌⊎◌, ◌↔◌, ◌≤ℤ◌, Bool, true, false, List, [], length, map, slice_index_or}
+use Rattle.std.specs.Prelude.{◌≡◌, ◌≢◌, ℕ, ◌+◌, ◌*◌, ◌<◌, ◌≤◌, ◌⊎◌, ◌↔◌, ◌≤ℤ◌, Bool, true, false, List, [], length, map, slice_index_or}
 use Rattle.std.specs.List.{Contains}
 use Rattle.dpl_spec.specs.declared.Rect.{Rect}
 use Rattle.dpl_spec.specs.Zones.{turned_rect}
@@ -90,6 +90,13 @@ IsLeftOut (Above k) node = node.greatest ≤ k
 
 abbrev pub IsMissed : Rect → Owners → Node → Type 0
 IsMissed window owners node = LiesApart window node.bounds ⊎ IsLeftOut owners node
+
+-- a search goes n nodes on: past all below a missed node, from a node that has two halves into the first, and from a leaf that is found nowhere
+abbrev pub IsPace : Rect → Owners → Node → ℕ → Type 0
+IsPace window owners node n =
+    ((n ≡ node.size) × IsMissed window owners node)
+    ⊎ (((n ≡ 0) × (node.size ≡ 1) × ¬ IsMissed window owners node)
+    ⊎ ((n ≡ 1) × (node.size ≢ 1) × ¬ IsMissed window owners node))
 
 -- x and y exchanged
 abbrev pub turned_node : Node → Node

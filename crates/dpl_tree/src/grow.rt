@@ -1,8 +1,9 @@
 //! Grows a tree from its items: each node stands before the nodes below it.
-ghost use Rattle.std.specs.Prelude.{◌≡◌, ℕ, ◌+◌, ◌<◌, ◌≤ℤ◌, ◌↔◌, IfOk, OnOk, length};
+ghost use Rattle.std.specs.Prelude.{◌≡◌, ℕ, ◌+◌, ◌<◌, ◌↔◌, IfOk, OnOk, length};
 ghost use Rattle.dpl_spec.specs.declared.Rect.{Rect};
 ghost use Rattle.dpl_tree.specs.Trees.{IsUnder, IsTree, IsBalanced, IsLeaf, HasLeaf, HasItem, IsGrown};
 
+use crate::arrange::arrange;
 use crate::items::Item;
 use crate::tree::Node;
 use dpl_base::Rect;
@@ -20,22 +21,6 @@ fn leaf(item: &Item) -> Node
     }
 }
 
-/// The smaller of two coordinates.
-fn smaller(a: i64, b: i64) -> i64
-    ensures first { result ≤ℤ a }
-    ensures second { result ≤ℤ b }
-{
-    if a <= b { a } else { b }
-}
-
-/// The greater of two coordinates.
-fn greater(a: i64, b: i64) -> i64
-    ensures first { a ≤ℤ result }
-    ensures second { b ≤ℤ result }
-{
-    if b <= a { a } else { b }
-}
-
 /// A node over two others.
 fn over(a: &Node, b: &Node, size: usize) -> Node
     ensures first { IsUnder a.now result }
@@ -44,10 +29,10 @@ fn over(a: &Node, b: &Node, size: usize) -> Node
 {
     Node {
         bounds: Rect {
-            x0: smaller(a.bounds.x0, b.bounds.x0),
-            y0: smaller(a.bounds.y0, b.bounds.y0),
-            x1: greater(a.bounds.x1, b.bounds.x1),
-            y1: greater(a.bounds.y1, b.bounds.y1),
+            x0: a.bounds.x0.min(b.bounds.x0),
+            y0: a.bounds.y0.min(b.bounds.y0),
+            x1: a.bounds.x1.max(b.bounds.x1),
+            y1: a.bounds.y1.max(b.bounds.y1),
         },
         least: a.least.min(b.least),
         greatest: a.greatest.max(b.greatest),
@@ -83,7 +68,7 @@ pub fn tree_of(alloc: Global, mut items: Vec<Item>) -> Result<Vec<Node>, AllocEr
     if items.is_empty() {
         return Ok(Vec::new(alloc));
     }
-    items.sort_unstable_by_key(|t| t.place);
+    arrange(&mut items);
     let count = items.len().saturating_mul(2) - 1;
     let mut nodes = Vec::with_capacity(alloc, count)?;
     add_items(&mut nodes, &items)?;

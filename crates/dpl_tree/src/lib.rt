@@ -1,6 +1,7 @@
 //! A static search tree over rectangles, each with its owner: which of them have a square in a window.
 #![tactic(auto)]
 
+mod arrange;
 mod grow;
 mod items;
 mod tree;

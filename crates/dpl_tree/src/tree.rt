@@ -1,8 +1,8 @@
 //! Searches for the rectangles in a window.
-ghost use Rattle.std.specs.Prelude.{◌≡◌, ◌≢◌, ℕ, ◌<◌, ◌≤◌, ◌⊎◌, ◌↔◌, IsTrue, IfOk, length, slice_index_or};
+ghost use Rattle.std.specs.Prelude.{◌≡◌, ℕ, ◌<◌, ◌≤◌, ◌↔◌, IsTrue, IfOk, length, slice_index_or};
 ghost use Rattle.dpl_spec.specs.declared.Rect.{Rect};
 ghost use Rattle.dpl_tree.specs.declared.tree.Node.{Node};
-ghost use Rattle.dpl_tree.specs.Trees.{IsTree, IsBalanced, HasLeaf, HasItem, AreLeavesOf, LiesApart, IsLeftOut, IsMissed};
+ghost use Rattle.dpl_tree.specs.Trees.{IsTree, IsBalanced, HasLeaf, HasItem, AreLeavesOf, LiesApart, IsLeftOut, IsMissed, IsPace};
 
 use crate::grow::tree_of;
 use crate::items::{Item, items_of};
@@ -77,10 +77,9 @@ fn is_missed(window: &Rect, owners: Owners, node: &Node) -> bool
     false
 }
 
-/// How many nodes a search goes on from this one: all below it where it is missed, and none where it is found.
+/// How many nodes a search goes on from this one: all below it where it is missed, one where it has halves, and none where it is found.
 fn pace(window: &Rect, owners: Owners, node: &Node) -> usize
-    ensures { ((result ≡ node.now.size) × IsMissed window.now owners node.now)
-        ⊎ (((result ≡ 0) × (node.now.size ≡ 1) × (IsMissed window.now owners node.now → ⊥)) ⊎ ((result ≡ 1) × (node.now.size ≢ 1))) }
+    ensures { IsPace window.now owners node.now result }
 {
     if is_missed(window, owners, node) {
         return node.size;

@@ -6,7 +6,7 @@ use Rattle.dpl_tree.proofs.TreeLaws.{grown-leaf, grown-two, under-index, halves,
 use Rattle.dpl_tree.proofs.grow.+add_items.Goals as goal
 
 abbrev zero_item : Item
-zero_item = record { rect = record { x0 = pos 0; y0 = pos 0; x1 = pos 0; y1 = pos 0 }; owner = 0; place = 0 }
+zero_item = record { rect = record { x0 = pos 0; y0 = pos 0; x1 = pos 0; y1 = pos 0 }; owner = 0 }
 
 pub returns-then-items-eq1 : goal.returns-then-items-eq1
 returns-then-items-eq1 t c =

@@ -1,7 +1,7 @@
 use Rattle.std.proofs.Common.{◌+◌, ◌≤◌, length}
 use Rattle.std.specs.Prelude.{vec_len, vec_capacity}
 use Rattle.dpl_tree.proofs.ItemLaws.{AddsRects}
-use Rattle.dpl_tree.proofs.items.add_placed.Given as goal
+use Rattle.dpl_tree.proofs.items.add_items_of.Given as goal
 
 abbrev pub invariant-loop-rect : goal.invariant-loop-rect
 invariant-loop-rect l =

@@ -1,0 +1,57 @@
+//! Puts items in an order in which those near one another mostly stand near one another.
+ghost use Rattle.std.specs.List.Sorted.{IsPermutation};
+
+use crate::items::Item;
+
+/// How many items stand in a stretch that is as wide as the stack of items is high.
+const NEIGHBOURS: u64 = 4;
+
+/// How far the left sides of items lie apart.
+fn width(items: &[Item]) -> u64 {
+    let mut left = i64::MAX;
+    let mut right = i64::MIN;
+    for item in items {
+        left = left.min(item.rect.x0);
+        right = right.max(item.rect.x0);
+    }
+    right.abs_diff(left)
+}
+
+/// How far the bottoms of the first and the last item lie apart.
+fn height(items: &[Item]) -> u64 {
+    match (items.first(), items.last()) {
+        (Some(first), Some(last)) => last.rect.y0.abs_diff(first.rect.y0),
+        _ => 0,
+    }
+}
+
+/// Whether items that rise by rows are so low a stack that those next to one another by column lie near one another.
+fn is_low(items: &[Item]) -> bool {
+    let count = items.len() as u64;
+    count.saturating_mul(height(items)) <= width(items).saturating_mul(NEIGHBOURS)
+}
+
+/// Halves items that rise by rows until the halves are low stacks, and puts each of these in order of columns.
+fn arrange_stack(items: &mut [Item])
+    ensures { IsPermutation items.old items.new }
+{
+    if items.len() < 2 {
+        return;
+    }
+    if is_low(items) {
+        items.sort_unstable_by_key(|t| t.rect.x0);
+        return;
+    }
+    let half = items.len() / 2;
+    let (low, high) = items.split_at_mut(half);
+    arrange_stack(low);
+    arrange_stack(high);
+}
+
+/// Puts items in order for a tree that halves them: so that the halves of halves lie apart, as far as they can.
+pub fn arrange(items: &mut [Item])
+    ensures { IsPermutation items.old items.new }
+{
+    items.sort_unstable_by_key(|t| t.rect.y0);
+    arrange_stack(items);
+}
