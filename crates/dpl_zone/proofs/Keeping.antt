@@ -1,7 +1,7 @@
 -- Horizontal zones, and the vertical ones beside them.
 use Rattle.std.proofs.Common.{◌≡◌, ℕ, ◌+◌, ◌<◌, ◌≤◌, ◌⊎◌, inl, inr, List, [], ◌∷◌, ◌++◌, length, get_or, sym, refl, ap, ◌∙◌, subst, arith}
 use Rattle.std.specs.Prelude.{pos, ◌-ℤ◌, ◌≤ℤ◌, ◌<ℤ◌, ◌↔◌}
-use Rattle.std.specs.List.{Any, Contains}
+use Rattle.std.specs.List.{Contains}
 use Rattle.std.proofs.lemmas.Int.{ints}
 use Rattle.std.proofs.lemmas.Bool.{cases_eq}
 use Rattle.std.proofs.lemmas.List.{get_or_default}
@@ -13,7 +13,7 @@ use Rattle.dpl_spec.specs.Zones.{at, IsHorizontalZone, IsVerticalZone, IsKeptZon
 use Rattle.dpl_tree.specs.declared.tree.Node.{Node}
 use Rattle.dpl_tree.specs.Trees.{HasLeaf}
 use Rattle.dpl_zone.specs.Leaves.{AreLeavesWithin}
-use Rattle.dpl_zone.specs.Rows.{AddsZones, AreWithin, layer_of}
+use Rattle.dpl_zone.specs.Rows.{AddsZones, AreWithin, TouchesAny, layer_of}
 
 -- a zone of some rows has its squares in the feature
 pub record IsInside (f : Region) (z : Rect) : Type 0 where
@@ -90,9 +90,6 @@ module _ (rule overlap : ℕ) (rects others : List Rect) (some : 1 ≤ overlap) 
   upright-within zs h k d l = inside-within rects (get_or zs k d) within
       (upright-inside rule overlap (layer_of rects others) (Covers rects) (get_or zs k d) some ((h (get_or zs k d)).0 (k, l, get_or_default zs k (get_or zs k d) d l)))
 
-abbrev pub TouchesAny : List Rect → Rect → Type 0
-TouchesAny flat w = Any (λ h. AreTouching (Has h) (Has w)) flat
-
 abbrev pub KeptOf : List Rect → List Rect → ℕ → Rect → Type 0
 KeptOf flat zs n w = (k : ℕ) × (k < n) × (k < length zs) × (get_or zs k w ≡ w) × (TouchesAny flat w → ⊥)
 
@@ -153,24 +150,31 @@ pub kept-none : (flat zs kept : List Rect) → kept ≡ flat → (w : Rect) → 
 kept-none flat zs kept is w = rw is ((λ h. inl h), (λ h. elim h [ inl a ↦ a | inr (k, l, k_in, k_is, f) ↦ absurd (omega (arith, l)) ]))
 
 -- where there is no horizontal zone, all vertical ones are kept
-pub kept-no_flat : (flat zs : List Rect) → length flat ≡ 0 → (w : Rect) → Contains zs w ↔ (Contains flat w ⊎ KeptOf flat zs (length zs) w)
-kept-no_flat flat zs none w = (
-  λ (k, k_in, k_is). inr (k, k_in, k_in, k_is, λ (i, h, i_in, i_is, touch). omega (arith, i_in, none)),
-  λ h. elim h [ inl (i, i_in, i_is) ↦ absurd (omega (arith, i_in, none)) | inr (k, l, k_in, k_is, f) ↦ (k, k_in, k_is) ],
+pub joined-no_flat : (flat zs : List Rect) → length flat ≡ 0 → (w : Rect) → Contains zs w ↔ (Contains flat w ⊎ (Contains zs w × (TouchesAny flat w → ⊥)))
+joined-no_flat flat zs none w = (
+  λ h. inr (h, λ (i, g, i_in, i_is, touch). omega (arith, i_in, none)),
+  λ h. elim h [ inl (i, i_in, i_is) ↦ absurd (omega (arith, i_in, none)) | inr (a, free) ↦ a ],
 )
 
-pub kept-all : (rule overlap : ℕ) (l f : Region) (flat zs kept : List Rect) (n : ℕ) → length zs ≤ n
-    → ((z : Rect) → Contains flat z ↔ IsHorizontalZone rule overlap l f z) → ((z : Rect) → Contains zs z ↔ IsVerticalZone rule overlap l f z)
-    → ((w : Rect) → Contains kept w ↔ (Contains flat w ⊎ KeptOf flat zs n w)) → (z : Rect) → Contains kept z ↔ IsKeptZone rule overlap l f z
-kept-all rule overlap l f flat zs kept n all is_flat is_upright h z = (
+pub joined-no_upright : (flat zs : List Rect) → length zs ≡ 0 → (w : Rect) → Contains flat w ↔ (Contains flat w ⊎ (Contains zs w × (TouchesAny flat w → ⊥)))
+joined-no_upright flat zs none w = (λ h. inl h, λ h. elim h [ inl a ↦ a | inr ((i, i_in, i_is), free) ↦ absurd (omega (arith, i_in, none)) ])
+
+pub joined-all : (flat zs kept : List Rect) (n : ℕ) → length zs ≤ n → ((w : Rect) → Contains kept w ↔ (Contains flat w ⊎ KeptOf flat zs n w)) → (w : Rect) → Contains kept w ↔ (Contains flat w ⊎ (Contains zs w × (TouchesAny flat w → ⊥)))
+joined-all flat zs kept n all h w = (
+  λ a. elim ((h w).0 a) [ inl b ↦ inl b | inr (k, l, k_in, k_is, free) ↦ inr ((k, k_in, k_is), free) ],
+  λ a. (h w).1 (elim a [ inl b ↦ inl b | inr ((k, k_in, k_is), free) ↦ inr (k, omega (arith, all, k_in), k_in, k_is, free) ]),
+)
+
+pub kept-all : (rule overlap : ℕ) (l f : Region) (flat zs kept : List Rect) → ((z : Rect) → Contains flat z ↔ IsHorizontalZone rule overlap l f z) → ((z : Rect) → Contains zs z ↔ IsVerticalZone rule overlap l f z)
+    → ((w : Rect) → Contains kept w ↔ (Contains flat w ⊎ (Contains zs w × (TouchesAny flat w → ⊥)))) → (z : Rect) → Contains kept z ↔ IsKeptZone rule overlap l f z
+kept-all rule overlap l f flat zs kept is_flat is_upright h z = (
   λ a. elim ((h z).0 a) [
     | inl b ↦ inl ((is_flat z).0 b)
-    | inr (k, m, k_in, k_is, free) ↦ inr ((is_upright z).0 (k, k_in, k_is), λ g zone touch. (let (i, i_in, i_is) = (is_flat g).1 zone in free (i, g, i_in, i_is, touch)))
+    | inr (b, free) ↦ inr ((is_upright z).0 b, λ g zone touch. (let (i, i_in, i_is) = (is_flat g).1 zone in free (i, g, i_in, i_is, touch)))
   ],
   λ a. elim a [
     | inl b ↦ (h z).1 (inl ((is_flat z).1 b))
-    | inr (b, free) ↦ (let (k, k_in, k_is) = (is_upright z).1 b in
-        (h z).1 (inr (k, omega (arith, all, k_in), k_in, k_is, λ (i, g, i_in, i_is, touch). free g ((is_flat g).0 (i, i_in, i_is)) touch)))
+    | inr (b, free) ↦ (h z).1 (inr ((is_upright z).1 b, λ (i, g, i_in, i_is, touch). free g ((is_flat g).0 (i, i_in, i_is)) touch))
   ],
 )
 

@@ -1,12 +1,12 @@
 -- What a search of a tree by a window finds.
-use Rattle.std.proofs.Common.{◌≡◌, ℕ, ◌<◌, ◌⊎◌, inl, inr, List, length, get_or, sym, refl, ap, ◌∙◌, subst, arith}
+use Rattle.std.proofs.Common.{◌≡◌, ℕ, ◌<◌, ◌⊎◌, inl, inr, List, length, get_or, sym, refl, subst, arith}
 use Rattle.std.specs.Prelude.{ℤ, pos, ◌+ℤ◌, ◌-ℤ◌, ◌≤ℤ◌, ◌<ℤ◌}
 use Rattle.std.proofs.lemmas.Int.{ints, by_lt_z}
 use Rattle.std.proofs.lemmas.Bool.{cases_lt}
 use Rattle.std.proofs.lemmas.List.{get_or_default}
 use Rattle.dpl_spec.specs.declared.Rect.{Rect}
 use Rattle.dpl_spec.specs.Loops.{farthest}
-use Rattle.dpl_spec.specs.Squares.{SameSquares, Has, Covers, AreTouching, IsSolidWithin}
+use Rattle.dpl_spec.specs.Squares.{Has, Covers, AreTouching, IsSolidWithin}
 use Rattle.dpl_spec.specs.Zones.{at, GoesOn, turned}
 use Rattle.dpl_spec.proofs.SquareLaws.{Touch-from_close}
 use Rattle.dpl_spec.proofs.ZoneLaws.{close-from_touch}
@@ -189,17 +189,9 @@ module _ (nodes : List Node) (z : Rect) (window : Rect) (n : ℕ) (tree : IsTree
       ])
 
 -- a feature that is all in a slab has nothing below or above it
-pub nothing-outside : (nodes : List Node) (own : ℕ) (slab : Rect) (y : ℤ) → ((y <ℤ slab.y0) ⊎ (slab.y1 ≤ℤ y)) → AllIn (own_in nodes own) slab → GoesOn (turned (Covers (own_in nodes own))) slab.x0 slab.x1 y → ⊥
-nothing-outside nodes own slab y outside all (v, a, b, in_own) =
+pub nothing-outside : (own : List Rect) (slab : Rect) (y : ℤ) → ((y <ℤ slab.y0) ⊎ (slab.y1 ≤ℤ y)) → AllIn own slab → GoesOn (turned (Covers own)) slab.x0 slab.x1 y → ⊥
+nothing-outside own slab y outside all (v, a, b, in_own) =
     let here : Has slab (at v y) = all (at v y) in_own in
     let low : slab.y0 ≤ℤ y = here.low in
     let high : y <ℤ slab.y1 = here.high in
     elim outside [ inl l ↦ omega (arith, ints, l, low) | inr l ↦ omega (arith, ints, l, high) ]
-
--- so is a feature of one slab
-pub all-in_one : (slabs own : List Rect) (i : ℕ) (d : Rect) → length slabs ≡ 1 → i < length slabs → SameSquares (Covers slabs) (Covers own) → AllIn own (get_or slabs i d)
-all-in_one slabs own i d one i_in same p in_own =
-    let (k, r, k_in, is, has) = (same p).1 in_own in
-    let e : k ≡ i = omega (arith, one, i_in, k_in) in
-    let r_is : r ≡ get_or slabs i d = sym is ∙ (ap (λ m. get_or slabs m r) e ∙ get_or_default slabs i r d i_in) in
-    subst (λ u. Has u p) r_is has

@@ -122,8 +122,3 @@ module _ (rects columns : List Rect) (one : length rects ≡ 1) (is : columns �
 
   pub one-column : IsCanonical rects → AreSlabsOf (turned (Covers rects)) columns
   one-column canonical = rw is (record { canonical = record { solid = solid-columns canonical; follow = follow-columns }; covers = turned-covers rects })
-
-  pub one-within : AreRectsWithin farthest rects → AreRectsWithin farthest columns
-  one-within within r r_in =
-      let w = within (turned_rect r) ((contains-turned rects r).0 (subst (λ rs. Contains rs r) is r_in)) in
-      record { left = w.low; right = w.high; low = w.left; high = w.right }

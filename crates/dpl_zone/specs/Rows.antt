@@ -4,7 +4,7 @@ use Rattle.std.specs.List.{Any, Contains}
 use Rattle.dpl_spec.specs.declared.Pt.{Pt}
 use Rattle.dpl_spec.specs.declared.Rect.{Rect}
 use Rattle.dpl_spec.specs.Loops.{farthest}
-use Rattle.dpl_spec.specs.Squares.{Region, Has, Covers, d2, IsSolidWithin}
+use Rattle.dpl_spec.specs.Squares.{Region, AreTouching, Has, Covers, d2, IsSolidWithin}
 use Rattle.dpl_spec.specs.Zones.{at, turned, GoesOn}
 use Rattle.dpl_zone.specs.declared.rows.Span.{Span}
 
@@ -100,3 +100,7 @@ layer_of rects others p = Covers rects p ⊎ Covers others p
 -- solid rectangles in the range of a layer
 abbrev pub AreWithin : List Rect → Type 0
 AreWithin rs = (k : ℕ) (d : Rect) → k < length rs → IsSolidWithin farthest (slice_index_or rs k d)
+
+-- some rectangle of the list touches this one
+abbrev pub TouchesAny : List Rect → Rect → Type 0
+TouchesAny flat w = Any (λ h. AreTouching (Has h) (Has w)) flat

@@ -1,18 +1,17 @@
 //! The zones of a feature that are kept.
-ghost use Rattle.std.specs.Prelude.{◌≡◌, ℕ, ◌≤◌, ◌↔◌, map, IsTrue, IfOk, OnOk};
+ghost use Rattle.std.specs.Prelude.{◌≡◌, ℕ, ◌≤◌, ◌⊎◌, ◌↔◌, map, IfOk, OnOk};
 ghost use Rattle.std.specs.List.{Contains};
 ghost use Rattle.dpl_spec.specs.declared.Pt.{Pt};
 ghost use Rattle.dpl_spec.specs.declared.Rect.{Rect};
 ghost use Rattle.dpl_spec.specs.Loops.{farthest};
 ghost use Rattle.dpl_spec.specs.Squares.{AreTouching, Covers, Has, IsSolidWithin, SameSquares};
 ghost use Rattle.dpl_spec.specs.Zones.{IsKeptZone};
-ghost use Rattle.dpl_zone.specs.Rows.{AddsZones, layer_of};
+ghost use Rattle.dpl_zone.specs.Rows.{AddsZones, AreWithin, TouchesAny, layer_of};
 ghost use Rattle.dpl_tree.specs.Trees.{IsTree, HasLeaf, turned_node};
 ghost use Rattle.dpl_zone.specs.Leaves.{AreLeavesWithin, others_in, own_in};
 
-use crate::flat::flat_zones;
-use crate::rows::{is_free, touches_leaf};
-use crate::slab_zones::upright_zones;
+use crate::near::touches_leaf;
+use crate::ways::found_in;
 use dpl_base::Rect;
 use dpl_slabs::Slabs;
 use dpl_tree::{Tree, View, add_items_of};
@@ -41,18 +40,25 @@ fn add_apart(kept: &mut Vec<Rect>, flat: &View, z: &Rect) -> Result<(), AllocErr
     Ok(())
 }
 
-/// Whether the feature is one slab that no other comes near. It has no zone then.
-fn is_lonely(part: &Slabs, tree: &View, own: usize, rule: u32) -> bool
-    ensures { IsTrue result → (overlap : ℕ) (z : Rect) → IsKeptZone rule overlap (layer_of part.now (others_in tree.now own)) (Covers part.now) z → ⊥ }
+/// The horizontal zones, and the vertical ones that touch none of them.
+fn joined(alloc: Global, flat: Vec<Rect>, upright: Vec<Rect>) -> Result<Vec<Rect>, AllocError>
+    requires flat { AreWithin flat.items }
+    requires upright { AreWithin upright.items }
+    ensures { IfOk result (λ v. (z : Rect) → Contains v.items z ↔ (Contains flat.items z ⊎ (Contains upright.items z × (TouchesAny flat.items z → ⊥)))) }
 {
-    let rects = part.rects();
-    if rects.len() != 1 {
-        return false;
+    if flat.is_empty() {
+        return Ok(upright);
     }
-    if !is_free(tree, own, &rects[0], rule) {
-        return false;
+    if upright.is_empty() {
+        return Ok(flat);
     }
-    true
+    let flat_tree = tree_of_zones(alloc, &flat)?;
+    let flat_view = View::of(&flat_tree);
+    let mut kept = flat;
+    for z in &upright {
+        add_apart(&mut kept, &flat_view, z)?;
+    }
+    Ok(kept)
 }
 
 /// The horizontal zones of a feature, and the vertical ones that touch none of them.
@@ -73,22 +79,7 @@ pub fn kept_zones(
     requires apart { (p : Pt) → Covers part.now p → Covers (others_in tree.now own) p → ⊥ }
     ensures { IfOk result (λ v. (z : Rect) → Contains v.items z ↔ IsKeptZone rule overlap (layer_of part.now (others_in tree.now own)) (Covers part.now) z) }
 {
-    if is_lonely(part, tree, own, rule) {
-        return Ok(Vec::new(alloc));
-    }
-    let flat = flat_zones(alloc, part, across, own, rule, overlap)?;
-    let upright = upright_zones(alloc, part.rects(), tree, own, rule, overlap)?;
-    if flat.is_empty() {
-        return Ok(upright);
-    }
-    if upright.is_empty() {
-        return Ok(flat);
-    }
-    let flat_tree = tree_of_zones(alloc, &flat)?;
-    let flat_view = View::of(&flat_tree);
-    let mut kept = flat;
-    for z in &upright {
-        add_apart(&mut kept, &flat_view, z)?;
-    }
+    let found = found_in(alloc, part, tree, across, own, rule, overlap)?;
+    let kept = joined(alloc, found.flat, found.upright)?;
     Ok(kept)
 }

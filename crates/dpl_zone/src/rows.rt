@@ -1,25 +1,29 @@
-//! The zones of slabs, by rows.
-ghost use Rattle.std.specs.Prelude.{◌≡◌, ℕ, ◌+◌, ◌^◌, ◌<◌, ◌≤◌, ◌⊎◌, ◌↔◌, ℤ, pos, ◌+ℤ◌, ◌≤ℤ◌, ◌<ℤ◌, IsTrue, IsNone, IfSome, IfOk, OnOk, length, unsigned_abs};
+//! The rows of a slab that are near leaves of a tree, and those between them.
+ghost use Rattle.std.specs.Prelude.{◌≡◌, ◌+◌, ◌^◌, ◌<◌, ◌≤◌, ◌⊎◌, ◌↔◌, ℤ, pos, ◌+ℤ◌, ◌≤ℤ◌, ◌<ℤ◌, IsTrue, IsNone, IfSome, IfOk, OnOk, length, unsigned_abs};
 ghost use Rattle.std.specs.List.{Contains};
 ghost use Rattle.dpl_zone.specs.declared.rows.Span.{Span};
 ghost use Rattle.dpl_spec.specs.declared.Rect.{Rect};
 ghost use Rattle.dpl_spec.specs.Loops.{farthest};
-ghost use Rattle.dpl_spec.specs.Squares.{AreTouching, Covers, Has, IsSolidWithin};
-ghost use Rattle.dpl_spec.specs.Zones.{GoesOn, turned};
-ghost use Rattle.dpl_zone.specs.Rows.{SomeRow, AreTall, RiseByFrom, IsShaded, IsShadow, IsDark, IsGap, AddsSpan};
-ghost use Rattle.dpl_tree.specs.Trees.{HasLeaf};
-ghost use Rattle.dpl_zone.specs.Leaves.{AllIn, AreLeavesWithin, IsStrip, others_in, own_in};
+ghost use Rattle.dpl_spec.specs.Squares.{IsSolidWithin};
+ghost use Rattle.dpl_zone.specs.Rows.{SomeRow, AreTall, RiseByFrom, IsShaded, IsShadow, IsGap, AddsSpan};
+ghost use Rattle.dpl_zone.specs.Near.{AreLeaves, IsDarkBy};
+ghost use Rattle.dpl_zone.specs.Leaves.{AreLeavesWithin};
+ghost use Rattle.dpl_tree.specs.Trees.{IsTree};
 
 use dpl_base::{Rect, reach, span_gap};
-use dpl_tree::{Owners, View, widened};
+use dpl_tree::View;
+use smallvec::SmallVec;
 use std::alloc::{AllocError, Global};
 
 /// The rows from `from` up to but not `to`.
-#[derive(Clone, Copy, Drop)]
+#[derive(Clone, Copy, Default, Drop)]
 pub struct Span {
     pub from: i64,
     pub to: i64,
 }
+
+/// Spans of one slab.
+pub type Spans = SmallVec<Span, 16>;
 
 /// The rows at which the slab is closer than `rule` to another rectangle.
 fn shadow(slab: &Rect, other: &Rect, rule: u32) -> Option<Span>
@@ -39,7 +43,7 @@ fn shadow(slab: &Rect, other: &Rect, rule: u32) -> Option<Span>
 }
 
 /// Adds the shadow of a rectangle.
-fn add_shadow(spans: &mut Vec<Span>, slab: &Rect, other: &Rect, rule: u32) -> Result<(), AllocError>
+fn add_shadow(spans: &mut Spans, slab: &Rect, other: &Rect, rule: u32) -> Result<(), AllocError>
     requires slab { IsSolidWithin farthest slab.now }
     requires other { IsSolidWithin farthest other.now }
     requires tall { AreTall spans.old.items }
@@ -72,65 +76,50 @@ fn is_covered(spans: &[Span], slab: &Rect) -> bool
     true
 }
 
-/// The shadows of other owners' rectangles on a slab, up to one that has all its rows.
+/// The shadows of leaves on a slab, up to one that has all its rows.
 fn gather(
     alloc: Global,
     tree: &View,
-    own: usize,
+    near: &[usize],
     slab: &Rect,
     rule: u32,
-) -> Result<Vec<Span>, AllocError>
+) -> Result<Spans, AllocError>
+    requires tree { IsTree tree.now }
     requires leaves { AreLeavesWithin tree.now }
+    requires near { AreLeaves tree.now near.now }
     requires slab { IsSolidWithin farthest slab.now }
     ensures tall { IfOk result (λ v. AreTall v.items) }
-    ensures rows { IfOk result (λ v. (y : ℤ) → slab.now.y0 ≤ℤ y → y <ℤ slab.now.y1 → SomeRow v.items y ↔ IsDark rule (others_in tree.now own) slab.now y) }
+    ensures rows { IfOk result (λ v. (y : ℤ) → slab.now.y0 ≤ℤ y → y <ℤ slab.now.y1 → SomeRow v.items y ↔ IsDarkBy rule tree.now near.now slab.now y) }
 {
-    let window = widened(slab, rule);
-    let mut spans = Vec::new(alloc);
-    let count = tree.count();
-    let mut i = tree.seek(0, &window, Owners::But(own));
-    while i < count {
-        let other = tree.bounds(i);
-        add_shadow(&mut spans, slab, &other, rule)?;
-        if is_covered(&spans, slab) {
+    let mut spans = SmallVec::new(alloc);
+    for n in near {
+        add_shadow(&mut spans, slab, &tree.bounds(*n), rule)?;
+        if is_covered(spans.as_slice(), slab) {
             return Ok(spans);
         }
-        i = tree.seek(i + 1, &window, Owners::But(own));
     }
     Ok(spans)
 }
 
-/// The shadows of other owners' rectangles on a slab, lowest first.
+/// The shadows of leaves on a slab, lowest first.
 pub fn shadows(
     alloc: Global,
     tree: &View,
-    own: usize,
+    near: &[usize],
     slab: &Rect,
     rule: u32,
-) -> Result<Vec<Span>, AllocError>
+) -> Result<Spans, AllocError>
+    requires tree { IsTree tree.now }
     requires leaves { AreLeavesWithin tree.now }
+    requires near { AreLeaves tree.now near.now }
     requires slab { IsSolidWithin farthest slab.now }
     ensures tall { IfOk result (λ v. AreTall v.items) }
     ensures rise { IfOk result (λ v. RiseByFrom v.items) }
-    ensures rows { IfOk result (λ v. (y : ℤ) → slab.now.y0 ≤ℤ y → y <ℤ slab.now.y1 → SomeRow v.items y ↔ IsDark rule (others_in tree.now own) slab.now y) }
+    ensures rows { IfOk result (λ v. (y : ℤ) → slab.now.y0 ≤ℤ y → y <ℤ slab.now.y1 → SomeRow v.items y ↔ IsDarkBy rule tree.now near.now slab.now y) }
 {
-    let mut spans = gather(alloc, tree, own, slab, rule)?;
+    let mut spans = gather(alloc, tree, near, slab, rule)?;
     spans.sort_unstable_by_key(|s| s.from);
     Ok(spans)
-}
-
-/// Whether no rectangle of another owner has a square in the slab's window, so that none is near.
-pub fn is_free(tree: &View, own: usize, slab: &Rect, rule: u32) -> bool
-    requires { IsSolidWithin farthest slab.now }
-    ensures { IsTrue result → (y : ℤ) → slab.now.y0 ≤ℤ y → y <ℤ slab.now.y1 → IsDark rule (others_in tree.now own) slab.now y → ⊥ }
-{
-    let window = widened(slab, rule);
-    let count = tree.count();
-    let n = tree.seek(0, &window, Owners::But(own));
-    if n < count {
-        return false;
-    }
-    true
 }
 
 /// The lower of two rows.
@@ -148,7 +137,7 @@ fn higher(a: i64, b: i64) -> i64
 }
 
 /// Adds a span, where it has a row.
-fn add_span(spans: &mut Vec<Span>, from: i64, to: i64) -> Result<(), AllocError>
+fn add_span(spans: &mut Spans, from: i64, to: i64) -> Result<(), AllocError>
     ensures { OnOk result (AddsSpan from to spans.old.items spans.new.items) }
 {
     if to <= from {
@@ -159,12 +148,12 @@ fn add_span(spans: &mut Vec<Span>, from: i64, to: i64) -> Result<(), AllocError>
 }
 
 /// The longest spans between rows `low` and `high` that no span meets.
-pub fn gaps(alloc: Global, spans: &[Span], low: i64, high: i64) -> Result<Vec<Span>, AllocError>
+pub fn gaps(alloc: Global, spans: &[Span], low: i64, high: i64) -> Result<Spans, AllocError>
     requires tall { AreTall spans.now }
     requires rise { RiseByFrom spans.now }
     ensures { IfOk result (λ v. (g : Span) → Contains v.items g ↔ IsGap low high spans.now g) }
 {
-    let mut free = Vec::new(alloc);
+    let mut free = SmallVec::new(alloc);
     let mut at = low;
     for s in spans {
         let end = lower(s.from, high);
@@ -173,54 +162,4 @@ pub fn gaps(alloc: Global, spans: &[Span], low: i64, high: i64) -> Result<Vec<Sp
     }
     add_span(&mut free, at, high)?;
     Ok(free)
-}
-
-/// Row `y`, from one column left of the slab to one right of it.
-fn strip(slab: &Rect, y: i64) -> Rect
-    requires slab { IsSolidWithin farthest slab.now }
-    requires row { y <ℤ pos 2000000000 }
-    ensures { IsStrip slab.now y result }
-{
-    Rect {
-        x0: slab.x0 - 1,
-        y0: y,
-        x1: slab.x1 + 1,
-        y1: y + 1,
-    }
-}
-
-/// Whether the owner has a square in row `y`, below or above the slab, that is at most one column beside it.
-pub fn has_row(tree: &View, own: usize, slab: &Rect, is_whole: bool, y: i64) -> bool
-    requires leaves { AreLeavesWithin tree.now }
-    requires slab { IsSolidWithin farthest slab.now }
-    requires row { y <ℤ pos 2000000000 }
-    requires outside { (y <ℤ slab.now.y0) ⊎ (slab.now.y1 ≤ℤ y) }
-    requires whole { IsTrue is_whole → AllIn (own_in tree.now own) slab.now }
-    ensures { IsTrue result ↔ GoesOn (turned (Covers (own_in tree.now own))) slab.now.x0 slab.now.x1 y }
-{
-    if is_whole {
-        return false;
-    }
-    let window = strip(slab, y);
-    let count = tree.count();
-    let n = tree.seek(0, &window, Owners::Only(own));
-    if n < count {
-        return true;
-    }
-    false
-}
-
-/// Whether the rectangle touches a leaf.
-pub fn touches_leaf(tree: &View, r: &Rect) -> bool
-    requires leaves { AreLeavesWithin tree.now }
-    requires solid { IsSolidWithin farthest r.now }
-    ensures { IsTrue result ↔ ((h : Rect) × (k : ℕ) × HasLeaf tree.now h k × AreTouching (Has h) (Has r.now)) }
-{
-    let window = widened(r, 1);
-    let count = tree.count();
-    let n = tree.seek(0, &window, Owners::All);
-    if n < count {
-        return true;
-    }
-    false
 }

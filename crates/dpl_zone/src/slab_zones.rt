@@ -9,10 +9,12 @@ ghost use Rattle.dpl_spec.specs.Slabs.{IsCanonical};
 ghost use Rattle.dpl_spec.specs.Zones.{IsVerticalZone};
 ghost use Rattle.dpl_zone.specs.declared.rows.Span.{Span};
 ghost use Rattle.dpl_zone.specs.Rows.{IsDark, GoesBelow, GoesAbove, IsOpenSpan, IsMiddleOf, IsSlabZone, AddsZones, layer_of};
+ghost use Rattle.dpl_zone.specs.Near.{HasAllNear};
 ghost use Rattle.dpl_tree.specs.Trees.{IsTree};
 ghost use Rattle.dpl_zone.specs.Leaves.{AllIn, AreLeavesWithin, others_in, own_in};
 
-use crate::rows::{Span, gaps, has_row, shadows};
+use crate::near::{has_row, others_near};
+use crate::rows::{Span, gaps, shadows};
 use dpl_base::Rect;
 use dpl_tree::View;
 use std::alloc::{AllocError, Global};
@@ -117,14 +119,14 @@ fn add_zone(
 }
 
 /// Whether the slab has too few rows for a zone.
-fn is_short(slab: &Rect, overlap: u32) -> bool
+pub fn is_short(slab: &Rect, overlap: u32) -> bool
     requires { IsSolidWithin farthest slab.now }
     ensures { IsTrue result → slab.now.y1 <ℤ (slab.now.y0 +ℤ pos (overlap + 2)) }
 {
     slab.y1 - slab.y0 < overlap as i64 + 2
 }
 
-/// Adds the zones of a slab.
+/// Adds the zones of a slab among the leaves near it.
 fn add_zones(
     alloc: Global,
     zones: &mut Vec<Rect>,
@@ -132,23 +134,82 @@ fn add_zones(
     own: usize,
     slab: &Rect,
     is_whole: bool,
+    near: &[usize],
     rule: u32,
     overlap: u32,
 ) -> Result<(), AllocError>
+    requires tree { IsTree tree.now }
     requires leaves { AreLeavesWithin tree.now }
     requires slab { IsSolidWithin farthest slab.now }
     requires whole { IsTrue is_whole → AllIn (own_in tree.now own) slab.now }
+    requires near { HasAllNear rule slab.now tree.now own near.now }
+    ensures { OnOk result (AddsZones (IsSlabZone rule overlap (own_in tree.now own) (others_in tree.now own) slab.now) zones.old.items zones.new.items) }
+{
+    let spans = shadows(alloc, tree, near, slab, rule)?;
+    let free = gaps(alloc, spans.as_slice(), slab.y0, slab.y1)?;
+    for g in free.as_slice() {
+        add_zone(zones, tree, own, slab, is_whole, g, overlap)?;
+    }
+    Ok(())
+}
+
+/// The zones of a slab that is a whole feature, among the leaves near it.
+pub fn whole_zones(
+    alloc: Global,
+    tree: &View,
+    own: usize,
+    slab: &Rect,
+    near: &[usize],
+    rule: u32,
+    overlap: u32,
+) -> Result<Vec<Rect>, AllocError>
+    requires tree { IsTree tree.now }
+    requires leaves { AreLeavesWithin tree.now }
+    requires slab { IsSolidWithin farthest slab.now }
+    requires whole { AllIn (own_in tree.now own) slab.now }
+    requires near { HasAllNear rule slab.now tree.now own near.now }
+    ensures { IfOk result (λ v. (z : Rect) → Contains v.items z ↔ IsSlabZone rule overlap (own_in tree.now own) (others_in tree.now own) slab.now z) }
+{
+    let mut zones = Vec::new(alloc);
+    if is_short(slab, overlap) {
+        return Ok(zones);
+    }
+    add_zones(
+        alloc, &mut zones, tree, own, slab, true, near, rule, overlap,
+    )?;
+    Ok(zones)
+}
+
+/// Adds the zones of one slab of a feature.
+fn add_slab(
+    alloc: Global,
+    zones: &mut Vec<Rect>,
+    tree: &View,
+    own: usize,
+    slab: &Rect,
+    rule: u32,
+    overlap: u32,
+) -> Result<(), AllocError>
+    requires tree { IsTree tree.now }
+    requires leaves { AreLeavesWithin tree.now }
+    requires slab { IsSolidWithin farthest slab.now }
     ensures { OnOk result (AddsZones (IsSlabZone rule overlap (own_in tree.now own) (others_in tree.now own) slab.now) zones.old.items zones.new.items) }
 {
     if is_short(slab, overlap) {
         return Ok(());
     }
-    let spans = shadows(alloc, tree, own, slab, rule)?;
-    let free = gaps(alloc, &spans, slab.y0, slab.y1)?;
-    for g in &free {
-        add_zone(zones, tree, own, slab, is_whole, g, overlap)?;
-    }
-    Ok(())
+    let near = others_near(alloc, tree, own, slab, rule)?;
+    add_zones(
+        alloc,
+        zones,
+        tree,
+        own,
+        slab,
+        false,
+        near.as_slice(),
+        rule,
+        overlap,
+    )
 }
 
 /// The vertical zones of a feature among the others.
@@ -169,9 +230,8 @@ pub fn upright_zones(
     ensures { IfOk result (λ v. (z : Rect) → Contains v.items z ↔ IsVerticalZone rule overlap (layer_of slabs.now (others_in tree.now own)) (Covers slabs.now) z) }
 {
     let mut zones = Vec::new(alloc);
-    let is_whole = slabs.len() == 1;
     for slab in slabs {
-        add_zones(alloc, &mut zones, tree, own, slab, is_whole, rule, overlap)?;
+        add_slab(alloc, &mut zones, tree, own, slab, rule, overlap)?;
     }
     Ok(zones)
 }

@@ -4,7 +4,7 @@ use Rattle.std.proofs.lemmas.Bool.{false≢true}
 use Rattle.dpl_tree.specs.declared.tree.Node.{Node}
 use Rattle.dpl_tree.specs.declared.tree.Owners.TheVariants.{All}
 use Rattle.dpl_zone.proofs.Probes.{IsSought, touch-found, found-touch}
-use Rattle.dpl_zone.proofs.rows.touches_leaf.Goals as goal
+use Rattle.dpl_zone.proofs.near.touches_leaf.Goals as goal
 
 abbrev zero_node : Node
 zero_node = record { bounds = record { x0 = pos 0; y0 = pos 0; x1 = pos 0; y1 = pos 0 }; least = 0; greatest = 0; size = 1 }

@@ -4,15 +4,15 @@ use Rattle.std.proofs.lemmas.Bool.{false≢true}
 use Rattle.std.proofs.lemmas.Int.{to_z-of_z}
 use Rattle.dpl_tree.specs.declared.tree.Node.{Node}
 use Rattle.dpl_tree.specs.declared.tree.Owners.TheVariants.{Only}
-use Rattle.dpl_zone.specs.Leaves.{IsStrip}
+use Rattle.dpl_zone.specs.Leaves.{IsStrip, own_in}
 use Rattle.dpl_zone.proofs.Probes.{IsSought, row-found, found-row, nothing-outside}
-use Rattle.dpl_zone.proofs.rows.has_row.Goals as goal
+use Rattle.dpl_zone.proofs.near.has_row.Goals as goal
 
 abbrev zero_node : Node
 zero_node = record { bounds = record { x0 = pos 0; y0 = pos 0; x1 = pos 0; y1 = pos 0 }; least = 0; greatest = 0; size = 1 }
 
 pub returns-then-is_whole : goal.returns-then-is_whole
-returns-then-is_whole c = (λ h. absurd (false≢true h), λ on. absurd (nothing-outside c.args.tree.now c.args.own c.args.slab.now c.args.y c.requires.outside (c.requires.whole c.if-is_whole.true) on))
+returns-then-is_whole c = (λ h. absurd (false≢true h), λ on. absurd (nothing-outside (own_in c.args.tree.now c.args.own) c.args.slab.now c.args.y c.requires.outside (c.requires.whole c.if-is_whole.true) on))
 
 pub returns-then-n-count : goal.returns-then-n-count
 returns-then-n-count c =

@@ -1,0 +1,156 @@
+-- A feature of one slab.
+use Rattle.std.proofs.Common.{◌≡◌, ℕ, ◌+◌, ◌<◌, inl, inr, List, [], ◌∷◌, length, get_or, map, sym, refl, ap, ◌∙◌, subst, arith}
+use Rattle.std.specs.Prelude.{ℤ, pos, ◌+ℤ◌, ◌-ℤ◌, ◌≤ℤ◌, ◌<ℤ◌, ◌↔◌}
+use Rattle.std.specs.List.{Contains}
+use Rattle.std.proofs.lemmas.Int.{ints}
+use Rattle.std.proofs.lemmas.List.{get_or-map, get_or_default, length-map}
+use Rattle.dpl_spec.specs.declared.Pt.{Pt}
+use Rattle.dpl_spec.specs.declared.Rect.{Rect}
+use Rattle.dpl_spec.specs.Squares.{Covers, Has, SameSquares}
+use Rattle.dpl_spec.specs.Slabs.{IsCanonical}
+use Rattle.dpl_spec.specs.Zones.{IsVerticalZone, turned_rect}
+use Rattle.dpl_tree.specs.declared.tree.Node.{Node}
+use Rattle.dpl_tree.specs.Trees.{IsTree, turned_node}
+use Rattle.dpl_tree.proofs.Turns.{turned-tree}
+use Rattle.dpl_zone.specs.declared.rows.Span.{Span}
+use Rattle.dpl_zone.specs.Rows.{AreWithin, IsDark, IsSlabZone, layer_of}
+use Rattle.dpl_zone.specs.Near.{HasAllNear}
+use Rattle.dpl_zone.specs.Leaves.{AllIn, AreLeavesWithin, others_in, own_in}
+use Rattle.dpl_zone.specs.declared.ways.Found.{Found}
+use Rattle.dpl_zone.specs.Ways.{AreFound}
+use Rattle.dpl_zone.proofs.LeafLaws.{others-turned_in, others-within, own-turned_in, turned-leaves}
+use Rattle.dpl_zone.proofs.Nearby.{dark-near, near-turned}
+use Rattle.dpl_zone.proofs.Probes.{nothing-outside}
+use Rattle.dpl_zone.proofs.Turns.{apart-turned, flat-from_upright, one-column, own-turned, turned-covers}
+use Rattle.dpl_zone.proofs.Whole.{zones-of_covered}
+use Rattle.dpl_zone.proofs.Zoning.{added-to_none, short-none}
+
+abbrev pub zero_rect : Rect
+zero_rect = record { x0 = pos 0; y0 = pos 0; x1 = pos 0; y1 = pos 0 }
+
+abbrev pub OfSlab : ℕ → ℕ → List Rect → List Rect → Rect → List Rect → Type 0
+OfSlab rule overlap own others s zs = (z : Rect) → Contains zs z ↔ IsSlabZone rule overlap own others s z
+
+short-of : (rule overlap : ℕ) (own others : List Rect) (s : Rect) (zs : List Rect) → zs ≡ [] → s.y1 <ℤ (s.y0 +ℤ pos (overlap + 2)) → OfSlab rule overlap own others s zs
+short-of rule overlap own others s zs none short = added-to_none (IsSlabZone rule overlap own others s) zs zs none (short-none rule overlap own others s zs short)
+
+-- a slab that is the whole feature goes on beyond no span that ends where the slab does
+unlit-none : (rule overlap : ℕ) (own others : List Rect) (s z : Rect) → AllIn own s → ((y : ℤ) → s.y0 ≤ℤ y → y <ℤ s.y1 → IsDark rule others s y → ⊥) → IsSlabZone rule overlap own others s z → ⊥
+unlit-none rule overlap own others s z all light h =
+    let g : Span = h.g in
+    let some = h.lit.some in
+    let to = h.lit.to in
+    elim h.open_span.low [
+      | inl l ↦ elim h.lit.bottom [ inl e ↦ omega (arith, ints, l, e) | inr d ↦ light (g.from -ℤ pos 1) (omega (arith, ints, l)) (omega (arith, ints, some, to)) d ]
+      | inr b ↦ nothing-outside own s (s.y0 -ℤ pos 1) (inl (omega (arith, ints))) all b
+    ]
+
+lonely-of : (rule overlap : ℕ) (nodes : List Node) (k : ℕ) (near : List ℕ) (own : List Rect) (s : Rect) (zs : List Rect) → IsTree nodes → AllIn own s → HasAllNear rule s nodes k near → near ≡ [] → zs ≡ [] → OfSlab rule overlap own (others_in nodes k) s zs
+lonely-of rule overlap nodes k near own s zs tree all h none empty z =
+    rw empty (
+      (λ (i, i_in, is). absurd (omega (arith, i_in))),
+      (λ zone. absurd (unlit-none rule overlap own (others_in nodes k) s z all light zone)),
+    )
+  where
+    light : (y : ℤ) → s.y0 ≤ℤ y → y <ℤ s.y1 → IsDark rule (others_in nodes k) s y → ⊥
+    light y low high dark =
+        let (n, c, shade) = (dark-near rule s nodes k near y tree h low high).1 dark in
+        let (i, i_in, is) = subst (λ t. let ns : List ℕ = t in Contains ns n) none c in
+        omega (arith, i_in)
+
+pub none-near : (near : List ℕ) → length near ≡ 0 → near ≡ []
+none-near [] e = refl
+none-near (n ∷ ns) e = absurd (omega (arith, e))
+
+-- the list has just the slab, which is a feature beside the others
+record IsOne (part own others : List Rect) (s : Rect) : Type 0 where
+  size : length part ≡ 1
+  first : (d : Rect) → get_or part 0 d ≡ s
+  canonical : IsCanonical part
+  same : SameSquares (Covers part) (Covers own)
+  within : AreWithin others
+  apart : (p : Pt) → Covers part p → Covers others p → ⊥
+
+is-first : (part own others : List Rect) (s : Rect) → IsOne part own others s → (k : ℕ) (r : Rect) → k < length part → get_or part k r ≡ r → s ≡ r
+is-first part own others s one k r k_in is =
+    let size = one.size in
+    let none : 0 ≡ k = omega (arith, k_in, size) in
+    sym (one.first r) ∙ (ap (λ m. get_or part m r) none ∙ is)
+
+all-in : (part own others : List Rect) (s : Rect) → IsOne part own others s → AllIn own s
+all-in part own others s one p in_own =
+    let (k, r, k_in, is, has) = (one.same p).1 in_own in
+    subst (λ u. Has u p) (sym (is-first part own others s one k r k_in is)) has
+
+upright-one : (rule overlap : ℕ) (part own others : List Rect) (s : Rect) → IsOne part own others s → (zs : List Rect) → OfSlab rule overlap own others s zs → (z : Rect) → Contains zs z ↔ IsVerticalZone rule overlap (layer_of part others) (Covers part) z
+upright-one rule overlap part own others s one zs h =
+    let size = one.size in
+    zones-of_covered rule overlap part own others one.canonical one.within one.same one.apart zs (λ z. (
+      (λ a. (s, (0, omega (arith, size), one.first s), (h z).0 a)),
+      (λ (t, (k, k_in, is), zone). (h z).1 (subst (λ u. IsSlabZone rule overlap own others u z) (sym (is-first part own others s one k t k_in is)) zone)),
+    ))
+
+one-turned : (part own others own' others' : List Rect) (s : Rect) → IsOne part own others s → own' ≡ map turned_rect own → others' ≡ map turned_rect others → AreWithin others' → IsOne (map turned_rect part) own' others' (turned_rect s)
+one-turned part own others own' others' s one own_is others_is within =
+    let size = one.size in
+    record {
+      size = length-map part turned_rect ∙ one.size;
+      first = λ d. get_or-map turned_rect part 0 s d (omega (arith, size)) ∙ ap turned_rect (one.first s);
+      canonical = (one-column part (map turned_rect part) one.size refl one.canonical).canonical;
+      same = λ p. (let a = turned-covers part p in let b = own-turned part own own' own_is one.same p in ((λ h. b.0 (a.0 h)), (λ h. a.1 (b.1 h))));
+      within = within;
+      apart = λ p a b. apart-turned part others others' others_is one.apart p ((turned-covers part p).0 a) b;
+    }
+
+-- a feature of one slab in a tree, and in the tree with x and y exchanged
+module _ (rule overlap : ℕ) (part rects : List Rect) (nodes across : List Node) (k : ℕ) (is : rects ≡ part) (size : length part ≡ 1) (canonical : IsCanonical part) (tree : IsTree nodes) (leaves : AreLeavesWithin nodes) (turn : across ≡ map turned_node nodes)
+    (same : SameSquares (Covers part) (Covers (own_in nodes k))) (apart : (p : Pt) → Covers part p → Covers (others_in nodes k) p → ⊥) where
+  abbrev pub slab : Rect
+  slab = get_or rects 0 zero_rect
+
+  one : IsOne part (own_in nodes k) (others_in nodes k) slab
+  one = record {
+    size = size;
+    first = λ d. rw is (get_or_default part 0 d zero_rect (omega (arith, size)));
+    canonical = canonical;
+    same = same;
+    within = others-within nodes k tree leaves;
+    apart = apart;
+  }
+
+  pub across-tree : IsTree across
+  across-tree = turned-tree nodes across turn tree
+
+  pub across-leaves : AreLeavesWithin across
+  across-leaves = turned-leaves nodes across turn leaves
+
+  column : IsOne (map turned_rect part) (own_in across k) (others_in across k) (turned_rect slab)
+  column = one-turned part (own_in nodes k) (others_in nodes k) (own_in across k) (others_in across k) slab one (own-turned_in nodes across k turn) (others-turned_in nodes across k turn) (others-within across k across-tree across-leaves)
+
+  pub slab-whole : AllIn (own_in nodes k) slab
+  slab-whole = all-in part (own_in nodes k) (others_in nodes k) slab one
+
+  pub column-whole : AllIn (own_in across k) (turned_rect slab)
+  column-whole = all-in (map turned_rect part) (own_in across k) (others_in across k) (turned_rect slab) column
+
+  pub found-one : (found : Found) (flat : List Rect) → OfSlab rule overlap (own_in nodes k) (others_in nodes k) slab found.upright.items → OfSlab rule overlap (own_in across k) (others_in across k) (turned_rect slab) flat
+      → found.flat.items ≡ map turned_rect flat → AreFound rule overlap (layer_of part (others_in nodes k)) (Covers part) found
+  found-one found flat upright_is flat_is turned_is =
+      record {
+        flat = flat-from_upright rule overlap part (others_in nodes k) (map turned_rect part) flat found.flat.items (turned-covers part)
+            (subst (λ t. let os : List Rect = t in (z : Rect) → Contains flat z ↔ IsVerticalZone rule overlap (layer_of (map turned_rect part) os) (Covers (map turned_rect part)) z) (others-turned_in nodes across k turn)
+            (upright-one rule overlap (map turned_rect part) (own_in across k) (others_in across k) (turned_rect slab) column flat flat_is)) turned_is;
+        upright = upright-one rule overlap part (own_in nodes k) (others_in nodes k) slab one found.upright.items upright_is;
+      }
+
+  -- too few rows and columns
+  pub found-small : (found : Found) → found.flat.items ≡ [] → found.upright.items ≡ [] → slab.y1 <ℤ (slab.y0 +ℤ pos (overlap + 2)) → slab.x1 <ℤ (slab.x0 +ℤ pos (overlap + 2)) → AreFound rule overlap (layer_of part (others_in nodes k)) (Covers part) found
+  found-small found flat_is upright_is rows columns =
+      found-one found [] (short-of rule overlap (own_in nodes k) (others_in nodes k) slab found.upright.items upright_is rows)
+      (short-of rule overlap (own_in across k) (others_in across k) (turned_rect slab) [] refl columns) flat_is
+
+  -- nothing near
+  pub found-lonely : (found : Found) (near : List ℕ) → found.flat.items ≡ [] → found.upright.items ≡ [] → HasAllNear rule slab nodes k near → near ≡ [] → AreFound rule overlap (layer_of part (others_in nodes k)) (Covers part) found
+  found-lonely found near flat_is upright_is h none =
+      found-one found [] (lonely-of rule overlap nodes k near (own_in nodes k) slab found.upright.items tree slab-whole h none upright_is)
+      (lonely-of rule overlap across k near (own_in across k) (turned_rect slab) [] across-tree column-whole (near-turned rule slab nodes across k near turn h) none refl) flat_is

@@ -1,0 +1,11 @@
+-- The zones of a feature, horizontal and vertical.
+use Rattle.std.specs.Prelude.{ℕ, ◌↔◌}
+use Rattle.std.specs.List.{Contains}
+use Rattle.dpl_spec.specs.declared.Rect.{Rect}
+use Rattle.dpl_spec.specs.Squares.{Region}
+use Rattle.dpl_spec.specs.Zones.{IsHorizontalZone, IsVerticalZone}
+use Rattle.dpl_zone.specs.declared.ways.Found.{Found}
+
+pub record AreFound (rule overlap : ℕ) (layer feature : Region) (found : Found) : Type 0 where
+  pub flat : (z : Rect) → Contains found.flat.items z ↔ IsHorizontalZone rule overlap layer feature z
+  pub upright : (z : Rect) → Contains found.upright.items z ↔ IsVerticalZone rule overlap layer feature z

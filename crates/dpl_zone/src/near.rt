@@ -1,0 +1,89 @@
+//! Searches for rectangles near a slab.
+ghost use Rattle.std.specs.Prelude.{◌≡◌, ℕ, ◌<◌, ◌⊎◌, ◌↔◌, ℤ, pos, ◌≤ℤ◌, ◌<ℤ◌, IsTrue, IfOk, length};
+ghost use Rattle.dpl_spec.specs.declared.Rect.{Rect};
+ghost use Rattle.dpl_spec.specs.Loops.{farthest};
+ghost use Rattle.dpl_spec.specs.Squares.{AreTouching, Covers, Has, IsSolidWithin};
+ghost use Rattle.dpl_spec.specs.Zones.{GoesOn, turned};
+ghost use Rattle.dpl_zone.specs.Near.{HasAllNear};
+ghost use Rattle.dpl_tree.specs.Trees.{HasLeaf};
+ghost use Rattle.dpl_zone.specs.Leaves.{AllIn, AreLeavesWithin, IsStrip, own_in};
+
+use dpl_base::Rect;
+use dpl_tree::{Owners, View, widened};
+use smallvec::SmallVec;
+use std::alloc::{AllocError, Global};
+
+/// The numbers of some leaves of a tree.
+pub type Leaves = SmallVec<usize, 16>;
+
+/// The leaves of other owners in the slab's window, and so all that are near it. A tree with x and y exchanged has the same numbers.
+pub fn others_near(
+    alloc: Global,
+    tree: &View,
+    own: usize,
+    slab: &Rect,
+    rule: u32,
+) -> Result<Leaves, AllocError>
+    requires { IsSolidWithin farthest slab.now }
+    ensures { IfOk result (λ v. HasAllNear rule slab.now tree.now own v.items) }
+{
+    let window = widened(slab, rule);
+    let count = tree.count();
+    let mut near = SmallVec::new(alloc);
+    let mut i = tree.seek(0, &window, Owners::But(own));
+    while i < count {
+        near.push(i)?;
+        i = tree.seek(i + 1, &window, Owners::But(own));
+    }
+    Ok(near)
+}
+
+/// Row `y`, from one column left of the slab to one right of it.
+fn strip(slab: &Rect, y: i64) -> Rect
+    requires slab { IsSolidWithin farthest slab.now }
+    requires row { y <ℤ pos 2000000000 }
+    ensures { IsStrip slab.now y result }
+{
+    Rect {
+        x0: slab.x0 - 1,
+        y0: y,
+        x1: slab.x1 + 1,
+        y1: y + 1,
+    }
+}
+
+/// Whether the owner has a square in row `y`, below or above the slab, that is at most one column beside it.
+pub fn has_row(tree: &View, own: usize, slab: &Rect, is_whole: bool, y: i64) -> bool
+    requires leaves { AreLeavesWithin tree.now }
+    requires slab { IsSolidWithin farthest slab.now }
+    requires row { y <ℤ pos 2000000000 }
+    requires outside { (y <ℤ slab.now.y0) ⊎ (slab.now.y1 ≤ℤ y) }
+    requires whole { IsTrue is_whole → AllIn (own_in tree.now own) slab.now }
+    ensures { IsTrue result ↔ GoesOn (turned (Covers (own_in tree.now own))) slab.now.x0 slab.now.x1 y }
+{
+    if is_whole {
+        return false;
+    }
+    let window = strip(slab, y);
+    let count = tree.count();
+    let n = tree.seek(0, &window, Owners::Only(own));
+    if n < count {
+        return true;
+    }
+    false
+}
+
+/// Whether the rectangle touches a leaf.
+pub fn touches_leaf(tree: &View, r: &Rect) -> bool
+    requires leaves { AreLeavesWithin tree.now }
+    requires solid { IsSolidWithin farthest r.now }
+    ensures { IsTrue result ↔ ((h : Rect) × (k : ℕ) × HasLeaf tree.now h k × AreTouching (Has h) (Has r.now)) }
+{
+    let window = widened(r, 1);
+    let count = tree.count();
+    let n = tree.seek(0, &window, Owners::All);
+    if n < count {
+        return true;
+    }
+    false
+}
