@@ -1,6 +1,6 @@
 -- Slabs of bars side by side in one row.
 use Rattle.std.proofs.Common.{◌≡◌, ℕ, suc, ◌+◌, ◌≤◌, ◌<◌, ◌⊎◌, inl, inr, List, [], ◌∷◌, ◌++◌, length, get_or, take, sym, ap, ◌∙◌, subst, arith}
-use Rattle.std.specs.Prelude.{◌↔◌, pos, ◌≤ℤ◌, ◌<ℤ◌}
+use Rattle.std.specs.Prelude.{◌↔◌, pos, ◌≤ℤ◌}
 use Rattle.std.specs.List.{Contains}
 use Rattle.std.proofs.lemmas.Int.{ints, by_lt_z}
 use Rattle.std.proofs.lemmas.List.{get_or_default, take_all}
@@ -198,3 +198,6 @@ row-from rs first h =
       level = λ r s (k, k_in, r_is) (j, j_in, s_is).
           level-on r first s (level-flip first r (subst (AreLevel first) r_is (h k k_in r).1)) (subst (AreLevel first) s_is (h j j_in s).1);
     }
+
+pub row-beside : (rs : List Rect) (i : ℕ) (a b : Rect) → 0 < length rs → i < length rs → IsRow rs → IsSolid (get_or rs i b) × AreLevel (get_or rs 0 a) (get_or rs i b)
+row-beside rs i a b some i_in row = (row.solid (get_or rs i b) (Contains-get_or rs i b i_in), row.level (get_or rs 0 a) (get_or rs i b) (Contains-get_or rs 0 a some) (Contains-get_or rs i b i_in))

@@ -1,13 +1,15 @@
 -- Slabs of strips put together.
-use Rattle.std.proofs.Common.{◌≡◌, ℕ, zero, suc, ◌+◌, ◌≤◌, ◌<◌, inl, inr, List, [], ◌∷◌, ◌++◌, ◌⊎◌, length, get_or, take, drop, sym, ap, ◌∙◌, subst, true, arith}
-use Rattle.std.specs.Prelude.{ℤ, pos, ◌-ℤ◌, ◌≤ℤ◌, ◌<ℤ◌}
+use Rattle.std.proofs.Common.{◌≡◌, ℕ, zero, suc, ◌+◌, ◌≤◌, ◌<◌, inl, inr, List, [], ◌∷◌, ◌++◌, ◌⊎◌, length, get_or, take, drop, sym, ap, ◌∙◌, subst, true, false, arith}
+use Rattle.std.specs.Prelude.{ℤ, pos, ◌-ℤ◌, ◌≤ℤ◌, ◌<ℤ◌, int_lt}
+use Rattle.std.specs.Int.{int_max}
 use Rattle.std.specs.List.{AllPairs, Contains}
 use Rattle.std.specs.List.Sorted.{IsPermutation}
-use lib.Signed.{lt_z, lt_z_yes}
-use Rattle.std.proofs.lemmas.Float.{T_from_true}
+use lib.Signed.{lt_z, lt_z_yes, lt_z_no}
+use Rattle.std.proofs.lemmas.Float.{T_from_true, T_from_false}
 use Rattle.std.proofs.lemmas.Int.{ints}
 use Rattle.std.proofs.lemmas.List.{get_or-drop, get_or-take, get_or_default, length-drop, length-take, take-append-drop, drop_all}
-use Rattle.std.proofs.lemmas.List.Elements.{All-append, All-contains, Contains-append_left, Contains-append_right, Contains-append_cases, Contains-get_or, Contains-push_cases}
+use Rattle.std.proofs.lemmas.List.Elements.{All-append, All-contains, Contains-append_left, Contains-append_right, Contains-append_cases, Contains-get_or, Contains-push, Contains-push_cases}
+use Rattle.std.proofs.lemmas.Bool.{cases_lt, cases_cond}
 use Rattle.std.proofs.lemmas.List.Sorted.{IsPermutation-sym, Contains-permutation}
 use Rattle.std.proofs.Math.Seq.{take-suc}
 use Rattle.dpl_spec.specs.declared.Pt.{Pt}
@@ -192,6 +194,48 @@ end-next rs n r top new n_in r_is l m h q q_in =
 pub end-first : (rs : List Rect) (r : Rect) → 0 < length rs → r ≡ get_or rs 0 r → EndBy rs 1 r.y1
 end-first rs r some r_is = end-next rs 0 r r.y1 r.y1 some r_is (omega (arith, ints)) (omega (arith, ints)) (λ q q_in. absurd (Contains-nil q q_in))
 
+-- and one of them ends there, and no fewer are a strip
+pub record IsOpen (rs : List Rect) (n : ℕ) (top : ℤ) : Type 0 where
+  pub ends : EndBy rs n top
+  pub reached : (r : Rect) × Contains (take n rs) r × (top ≤ℤ r.y1)
+  pub least : (k : ℕ) → 0 < k → k < n → ¬ LieBelow (take k rs) (drop k rs)
+
+no-gap : (rs : List Rect) (n : ℕ) (r q : Rect) (top : ℤ) → n < length rs → r ≡ get_or rs n r → Contains (take n rs) q → top ≤ℤ q.y1 → r.y0 ≤ℤ top → ¬ LieBelow (take n rs) (drop n rs)
+no-gap rs n r q top n_in r_is q_in l m below =
+    let here : n + 0 ≡ n = omega arith in
+    let first : get_or (drop n rs) 0 r ≡ r = get_or-drop n rs 0 r ∙ (ap (λ k. get_or rs k r) here ∙ sym r_is) in
+    let k = below q r q_in (0, omega (arith, length-drop n rs, n_in), first) in
+    omega (arith, ints, k, l, m)
+
+pub open-next : (rs : List Rect) (n : ℕ) (r : Rect) (top new : ℤ) → n < length rs → r ≡ get_or rs n r → top ≤ℤ new → r.y1 ≤ℤ new → (new ≡ top) ⊎ (new ≡ r.y1) → r.y0 ≤ℤ top → IsOpen rs n top → IsOpen rs (n + 1) new
+open-next rs n r top new n_in r_is l m known over o = record {
+  ends = end-next rs n r top new n_in r_is l m o.ends;
+  reached = subst (λ xs. (q : Rect) × Contains xs q × (new ≤ℤ q.y1)) (sym step) (elim known [
+    | inl e ↦ (o.reached.0, Contains-append_left (take n rs) (r ∷ []) o.reached.0 o.reached.1, (let k = o.reached.2 in omega (arith, ints, k, e)))
+    | inr e ↦ (r, Contains-push (take n rs) r, omega (arith, ints, e))
+  ]);
+  least = λ k some less. elim (cases_lt k n) [
+    | inl before ↦ o.least k some before
+    | inr after ↦ (let here : k ≡ n = omega (arith, after, less) in rw here (no-gap rs n r o.reached.0 top n_in r_is o.reached.1 o.reached.2 over))
+  ];
+}
+  where
+    one : n + 1 ≡ suc n
+    one = omega arith
+
+    step : take (n + 1) rs ≡ take n rs ++ r ∷ []
+    step = ap (λ k. take k rs) one ∙ (take-suc rs n r n_in ∙ ap (λ s. take n rs ++ s ∷ []) (sym r_is))
+
+pub open-first : (rs : List Rect) (r : Rect) → 0 < length rs → r ≡ get_or rs 0 r → IsOpen rs 1 r.y1
+open-first rs r some r_is = record {
+  ends = end-first rs r some r_is;
+  reached = subst (λ xs. (q : Rect) × Contains xs q × (r.y1 ≤ℤ q.y1)) (sym step) (r, Contains-push [] r, omega (arith, ints));
+  least = λ k a b. absurd (omega (arith, a, b));
+}
+  where
+    step : take 1 rs ≡ r ∷ []
+    step = take-suc rs 0 r some ∙ ap (λ s. s ∷ []) (sym r_is)
+
 pub gap-here : (rs : List Rect) (n : ℕ) (r : Rect) (top : ℤ) → n < length rs → r ≡ get_or rs n r → CornersRise rs → EndBy rs n top → top <ℤ r.y0 → LieBelow (take n rs) (drop n rs)
 gap-here rs n r top n_in r_is rise h l q s q_in (k, k_in, s_is) =
     let len = length-drop n rs in
@@ -208,3 +252,10 @@ gap-none rs q s q_in s_in = absurd (Contains-nil s (subst (λ xs. Contains xs s)
 -- what a test of two numbers says, the second by another name
 pub lt-from : (a b c : ℤ) → b ≡ c → lt_z a b ≡ true → a <ℤ c
 lt-from a b c e h = subst (λ z. a <ℤ z) e (lt_z_yes {a = a} {b = b} (T_from_true (lt_z a b) h))
+
+pub le-from : (a b c : ℤ) → b ≡ c → lt_z a b ≡ false → c ≤ℤ a
+le-from a b c e h = subst (λ z. z ≤ℤ a) e (lt_z_no {a = a} {b = b} (T_from_false (lt_z a b) h))
+
+-- what a maximum of two numbers is, the second by another name
+pub max-known : (a b c m : ℤ) → b ≡ c → m ≡ int_max a b → (m ≡ a) ⊎ (m ≡ c)
+max-known a b c m e h = subst (λ z. (m ≡ a) ⊎ (m ≡ z)) e (cases_cond (int_lt b a) a b m h)

@@ -1,5 +1,5 @@
 //! The slabs of bars side by side in one row.
-ghost use Rattle.std.specs.Prelude.{◌≡◌, ◌<◌, ◌⊎◌, ◌≤ℤ◌, IfOk, IsTrue, length};
+ghost use Rattle.std.specs.Prelude.{◌<◌, ◌↔◌, IfOk, IsTrue, length};
 ghost use Rattle.dpl_spec.specs.Squares.{Covers};
 ghost use Rattle.dpl_spec.specs.Slabs.{AreSlabsOf, IsSolid};
 ghost use Rattle.dpl_sweep.specs.Orders.{CornersRise};
@@ -8,21 +8,9 @@ ghost use Rattle.dpl_slabs.specs.Rows.{AreLevel, IsBarJoined, IsRow};
 use dpl_base::Rect;
 use std::alloc::{AllocError, Global};
 
-/// The greater number.
-pub fn greater(x: i64, y: i64) -> i64
-    ensures first { x ≤ℤ result }
-    ensures second { y ≤ℤ result }
-    ensures known { (result ≡ x) ⊎ (result ≡ y) }
-{
-    if x < y {
-        return y;
-    }
-    x
-}
-
 /// Whether the rectangle has squares, in the same rows as the first one.
 fn is_beside(first: &Rect, r: &Rect) -> bool
-    ensures { IsTrue result → IsSolid r.now × AreLevel first.now r.now }
+    ensures { IsTrue result ↔ (IsSolid r.now × AreLevel first.now r.now) }
 {
     if r.y0 != first.y0 {
         return false;
@@ -36,7 +24,7 @@ fn is_beside(first: &Rect, r: &Rect) -> bool
 /// Whether all rectangles have squares, in the same rows.
 pub fn is_row(rects: &[Rect]) -> bool
     requires { 0 < length rects.now }
-    ensures { IsTrue result → IsRow rects.now }
+    ensures { IsTrue result ↔ IsRow rects.now }
 {
     for i in 0..rects.len() {
         if !is_beside(&rects[0], &rects[i]) {
@@ -57,7 +45,7 @@ fn add_bar(done: &mut Vec<Rect>, last: Rect, bar: &Rect) -> Result<Rect, AllocEr
     Ok(Rect {
         x0: last.x0,
         y0: last.y0,
-        x1: greater(last.x1, bar.x1),
+        x1: last.x1.max(bar.x1),
         y1: last.y1,
     })
 }

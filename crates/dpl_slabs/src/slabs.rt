@@ -10,13 +10,15 @@ use crate::loops::rects_of_loops;
 use crate::strips::slabs_of_rects;
 use dpl_base::{Loop, Pt, Rect};
 use dpl_sweep::Rule;
+use smallvec::SmallVec;
 use std::alloc::{AllocError, Global};
 use std::marker::Model;
 
-/// A set of squares. A contract sees its canonical slabs.
+/// A set of squares. A contract sees its canonical slabs. A single slab takes no memory of its own, since most sets of a
+/// layer are features of one slab.
 #[derive(Drop)]
 pub struct Slabs {
-    rects: Vec<Rect>,
+    rects: SmallVec<Rect, 1>,
 }
 
 impl Model for Slabs {
@@ -70,7 +72,7 @@ impl Slabs {
     pub fn has(&self, x: i64, y: i64) -> bool
         ensures { IsTrue result ↔ Covers self.now (at x y) }
     {
-        for r in &self.rects {
+        for r in self.rects() {
             if covers(r, x, y) {
                 return true;
             }
@@ -83,7 +85,7 @@ impl Slabs {
         ensures none { IsNone result ↔ (self.now ≡ []) }
         ensures some { IfSome result (λ p. IsLeast (Covers self.now) p) }
     {
-        match self.rects.first() {
+        match self.rects().first() {
             None => None,
             Some(r) => Some(Pt { x: r.x0, y: r.y0 }),
         }
@@ -96,7 +98,7 @@ impl Slabs {
     {
         let all = Vec::from_slice(alloc, rects)?;
         let rects = slabs_of_rects(alloc, all)?;
-        Ok(Slabs { rects })
+        Ok(Slabs::of_canonical(rects))
     }
 
     /// The squares of rectangles that none of the holes has.
@@ -110,7 +112,7 @@ impl Slabs {
         ensures { IfOk result (λ s. AreSlabsOf (λ p. Covers rects.now p × ¬ Covers holes.now p) s) }
     {
         let rects = combine(alloc, rects, holes, Rule::Minus)?;
-        Ok(Slabs { rects })
+        Ok(Slabs::of_canonical(rects))
     }
 
     /// The squares of loops, in any order, that may overlap, each by the signed sum over its upright edges.
@@ -121,7 +123,7 @@ impl Slabs {
         let all = rects_of_loops(alloc, &loops)?;
         drop(loops);
         let rects = slabs_of_rects(alloc, all)?;
-        Ok(Slabs { rects })
+        Ok(Slabs::of_canonical(rects))
     }
 
     /// The set of these canonical slabs, without taking memory.
@@ -130,7 +132,9 @@ impl Slabs {
         requires within { AreRectsWithin farthest rects.items }
         ensures { result ≡ rects.items }
     {
-        Slabs { rects }
+        Slabs {
+            rects: SmallVec::from_vec(rects),
+        }
     }
 
     /// The squares of one rectangle.
@@ -139,7 +143,7 @@ impl Slabs {
         requires within { IsRectWithin farthest r }
         ensures { IfOk result (λ s. s ≡ r ∷ []) }
     {
-        let mut rects = Vec::with_capacity(alloc, 1)?;
+        let mut rects = SmallVec::new(alloc);
         rects.push(r)?;
         Ok(Slabs { rects })
     }
@@ -159,24 +163,24 @@ impl Slabs {
     pub fn union(&self, alloc: Global, other: &Slabs) -> Result<Slabs, AllocError>
         ensures { IfOk result (λ s. AreSlabsOf (λ p. Covers self.now p ⊎ Covers other.now p) s) }
     {
-        let rects = combine(alloc, &self.rects, &other.rects, Rule::Either)?;
-        Ok(Slabs { rects })
+        let rects = combine(alloc, self.rects(), other.rects(), Rule::Either)?;
+        Ok(Slabs::of_canonical(rects))
     }
 
     /// The squares of the set that aren't in the other.
     pub fn minus(&self, alloc: Global, other: &Slabs) -> Result<Slabs, AllocError>
         ensures { IfOk result (λ s. AreSlabsOf (λ p. Covers self.now p × ¬ Covers other.now p) s) }
     {
-        let rects = combine(alloc, &self.rects, &other.rects, Rule::Minus)?;
-        Ok(Slabs { rects })
+        let rects = combine(alloc, self.rects(), other.rects(), Rule::Minus)?;
+        Ok(Slabs::of_canonical(rects))
     }
 
     /// The squares of both sets.
     pub fn meet(&self, alloc: Global, other: &Slabs) -> Result<Slabs, AllocError>
         ensures { IfOk result (λ s. AreSlabsOf (λ p. Covers self.now p × Covers other.now p) s) }
     {
-        let rects = combine(alloc, &self.rects, &other.rects, Rule::Both)?;
-        Ok(Slabs { rects })
+        let rects = combine(alloc, self.rects(), other.rects(), Rule::Both)?;
+        Ok(Slabs::of_canonical(rects))
     }
 
     /// The canonical slabs of the set with x and y exchanged.
@@ -184,7 +188,7 @@ impl Slabs {
         ensures slabs { IfOk result (λ v. AreSlabsOf (turned (Covers self.now)) v.items) }
         ensures within { IfOk result (λ v. AreRectsWithin farthest v.items) }
     {
-        let turned = exchanged(alloc, &self.rects)?;
+        let turned = exchanged(alloc, self.rects())?;
         if turned.len() == 1 {
             return Ok(turned);
         }
@@ -196,11 +200,13 @@ impl Slabs {
     pub fn equal(&self, other: &Slabs) -> bool
         ensures { IsTrue result ↔ SameSquares (Covers self.now) (Covers other.now) }
     {
-        if self.rects.len() != other.rects.len() {
+        let rects = self.rects();
+        let others = other.rects();
+        if rects.len() != others.len() {
             return false;
         }
-        for i in 0..self.rects.len() {
-            if !same(&self.rects[i], &other.rects[i]) {
+        for i in 0..rects.len() {
+            if !same(&rects[i], &others[i]) {
                 return false;
             }
         }

@@ -1,5 +1,5 @@
 //! The slabs of rectangles, strip by strip of rows.
-ghost use Rattle.std.specs.Prelude.{◌<◌, ◌≤◌, IfOk, OnOk, length, take, drop};
+ghost use Rattle.std.specs.Prelude.{ℕ, ◌<◌, ◌≤◌, IfOk, OnOk, length, take, drop};
 ghost use Rattle.dpl_spec.specs.Squares.{Covers};
 ghost use Rattle.dpl_spec.specs.Slabs.{AreSlabsOf, IsCanonical};
 ghost use Rattle.dpl_spec.specs.Loops.{farthest, AreRectsWithin};
@@ -7,25 +7,26 @@ ghost use Rattle.dpl_sweep.specs.Orders.{CornersRise};
 ghost use Rattle.dpl_slabs.specs.Strips.{LieBelow, AddsStrip};
 
 use crate::combine::combine;
-use crate::row::{greater, is_row, slabs_of_row};
+use crate::row::{is_row, slabs_of_row};
 use dpl_base::Rect;
 use dpl_sweep::{Rule, sort_by_corner};
 use std::alloc::{AllocError, Global};
 
-/// How many rectangles, which go by first row, are in the lowest strip: a row lies between them and all others.
+/// How many rectangles, which go by first row, are in the lowest strip: a row lies between them and all others, and between no fewer and the others.
 fn strip_length(rects: &[Rect]) -> usize
     requires some { 0 < length rects.now }
     requires rise { CornersRise rects.now }
     ensures some { 0 < result }
     ensures within { result ≤ length rects.now }
     ensures below { LieBelow (take result rects.now) (drop result rects.now) }
+    ensures least { (n : ℕ) → 0 < n → n < result → ¬ LieBelow (take n rects.now) (drop n rects.now) }
 {
     let mut top = rects[0].y1;
     for i in 1..rects.len() {
         if top < rects[i].y0 {
             return i;
         }
-        top = greater(top, rects[i].y1);
+        top = top.max(rects[i].y1);
     }
     rects.len()
 }

@@ -80,28 +80,60 @@ fn loops_have_their_slabs(rt: HostRuntime) -> Result<(), Fail> {
     Ok(())
 }
 
-#[test]
-fn sets_are_combined(rt: HostRuntime) -> Result<(), Fail> {
-    let alloc = rt.alloc();
+/// What two sets are put together by.
+#[derive(Clone, Copy, Debug)]
+enum Together {
+    Union,
+    Minus,
+    Without,
+    Meet,
+}
+
+/// Two squares that overlap at a corner, put together.
+fn put_together(alloc: Global, by: Together) -> Result<Slabs, AllocError> {
     let a = slabs_of(alloc, &[&[(0, 0), (10, 0), (10, 10), (0, 10)]])?;
     let b = slabs_of(alloc, &[&[(5, 5), (15, 5), (15, 15), (5, 15)]])?;
-    let union = [rect(0, 0, 10, 5), rect(0, 5, 15, 10), rect(5, 10, 15, 15)];
-    let minus = [rect(0, 0, 10, 5), rect(0, 5, 5, 10)];
-    let meet = [rect(5, 5, 10, 10)];
-    assert_eq!(rt; a.union(alloc, &b)?.rects(), union.as_slice());
-    let left = a.minus(alloc, &b)?;
-    assert_eq!(rt; left.rects(), minus.as_slice());
-    assert_eq!(rt; a.meet(alloc, &b)?.rects(), meet.as_slice());
-    let bar = slabs_of(alloc, &[&[(0, 0), (30, 0), (30, 10), (0, 10)]])?;
-    assert_eq!(rt;
-        bar.columns(alloc)?.as_slice(),
-        [rect(0, 0, 10, 30)].as_slice()
-    );
-    assert!(rt; Slabs::of_rects(alloc, a.rects())?.equal(&a));
-    assert!(rt; Slabs::of_rects_without(alloc, a.rects(), b.rects())?.equal(&left));
+    match by {
+        Together::Union => a.union(alloc, &b),
+        Together::Minus => a.minus(alloc, &b),
+        Together::Without => Slabs::of_rects_without(alloc, a.rects(), b.rects()),
+        Together::Meet => a.meet(alloc, &b),
+    }
+}
+
+#[test]
+fn sets_are_combined(rt: HostRuntime) -> Result<(), Fail> {
+    let cases: [(Together, &[Rect]); 4] = [
+        (
+            Together::Union,
+            &[rect(0, 0, 10, 5), rect(0, 5, 15, 10), rect(5, 10, 15, 15)],
+        ),
+        (Together::Minus, &[rect(0, 0, 10, 5), rect(0, 5, 5, 10)]),
+        (Together::Without, &[rect(0, 0, 10, 5), rect(0, 5, 5, 10)]),
+        (Together::Meet, &[rect(5, 5, 10, 10)]),
+    ];
+    for (by, want) in cases {
+        let set = put_together(rt.alloc(), by)?;
+        assert_eq!(rt; set.rects(), want);
+    }
+    Ok(())
+}
+
+#[test]
+fn sets_tell_their_squares(rt: HostRuntime) -> Result<(), Fail> {
+    let left = put_together(rt.alloc(), Together::Minus)?;
+    assert!(rt; left.equal(&Slabs::of_rects(rt.alloc(), left.rects())?));
     assert_eq!(rt; left.least(), Some(Pt { x: 0, y: 0 }));
     assert!(rt; left.has(9, 4));
     assert!(rt; !left.has(5, 5));
+    Ok(())
+}
+
+#[test]
+fn columns_are_rows_exchanged(rt: HostRuntime) -> Result<(), Fail> {
+    let bar = slabs_of(rt.alloc(), &[&[(0, 0), (30, 0), (30, 10), (0, 10)]])?;
+    let turned = bar.columns(rt.alloc())?;
+    assert_eq!(rt; turned.as_slice(), [rect(0, 0, 10, 30)].as_slice());
     Ok(())
 }
 

@@ -1,4 +1,4 @@
-use Rattle.std.proofs.Common.{◌≤◌, ◌<◌, length, take, arith, length-take}
+use Rattle.std.proofs.Common.{arith}
 use Rattle.dpl_slabs.proofs.StripLaws.{strips-none, strips-next, strips-all, strip-within, strip-above, rise-take}
 use Rattle.dpl_slabs.proofs.strips.slabs_of_rects.Goals as goal
 

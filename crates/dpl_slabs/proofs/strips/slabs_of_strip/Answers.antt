@@ -1,4 +1,3 @@
-use Rattle.std.proofs.Common.{refl}
 use Rattle.std.specs.Prelude.{pos, []}
 use Rattle.dpl_spec.specs.Squares.{Covers}
 use Rattle.dpl_spec.specs.Loops.{farthest}

@@ -10,20 +10,20 @@ use Rattle.dpl_slabs.proofs.slabs.Slabs.columns.Goals as goal
 
 pub returns-clause-slabs : goal.returns-clause-slabs
 returns-clause-slabs c =
-    let s = rw (c.deref-2.ensures.value, c.in_ok-turned.ensures, c.deref.ensures.value, c.self.view_is) at c.in_ok-rects.ensures.slabs in
+    let s = rw (c.deref.ensures.value, c.in_ok-turned.ensures, c.rects.ensures.value) at c.in_ok-rects.ensures.slabs in
     slabs-of-same (λ p. Holds Either (cells (pos 1) (turned_rects c.args.self.now) p) (cells (pos 1) [] p)) (turned (Covers c.args.self.now)) _ (told-turned c.args.self.now) s
 
 pub combine-requires-clause-first : goal.combine-requires-clause-first
 combine-requires-clause-first c =
-    rw (c.deref-2.ensures.value, c.in_ok-turned.ensures, c.deref.ensures.value, c.self.view_is) (turned-within 1000000000 c.args.self.now (rw c.self.view_is at c.self.invariant.1))
+    rw (c.deref.ensures.value, c.in_ok-turned.ensures, c.rects.ensures.value) (turned-within 1000000000 c.args.self.now c.rects.ensures.within)
 
 pub returns-then-len-eq1-clause-slabs : goal.returns-then-len-eq1-clause-slabs
 returns-then-len-eq1-clause-slabs c =
-    let is = rw (c.deref.ensures.value, c.self.view_is) at c.in_ok-turned.ensures in
+    let is = rw c.rects.ensures.value at c.in_ok-turned.ensures in
     let one : length c.in_ok-turned.turned.items ≡ 1 = omega arith in
-    rw is (turned-one c.args.self.now (rw c.self.view_is at c.self.invariant.0) (rw is at one))
+    rw is (turned-one c.args.self.now c.rects.ensures.canonical (rw is at one))
 
 pub returns-then-len-eq1-clause-within : goal.returns-then-len-eq1-clause-within
 returns-then-len-eq1-clause-within c =
-    let is = rw (c.deref.ensures.value, c.self.view_is) at c.in_ok-turned.ensures in
-    rw is (turned-within 1000000000 c.args.self.now (rw c.self.view_is at c.self.invariant.1))
+    let is = rw c.rects.ensures.value at c.in_ok-turned.ensures in
+    rw is (turned-within 1000000000 c.args.self.now c.rects.ensures.within)

@@ -8,5 +8,5 @@ use Rattle.dpl_slabs.proofs.slabs.Slabs.of_rects_without.Goals as goal
 
 pub returns : goal.returns
 returns c =
-    slabs-of-same (λ p. Holds Minus (cells (pos 1) c.args.rects.now p) (cells (pos 1) c.args.holes.now p)) (λ p. Covers c.args.rects.now p × ¬ Covers c.args.holes.now p) _
-    (told-minus c.args.rects.now c.args.holes.now) c.in_ok-rects.ensures.slabs
+    rw c.of_canonical.ensures (slabs-of-same (λ p. Holds Minus (cells (pos 1) c.args.rects.now p) (cells (pos 1) c.args.holes.now p)) (λ p. Covers c.args.rects.now p × ¬ Covers c.args.holes.now p) _
+    (told-minus c.args.rects.now c.args.holes.now) c.in_ok-rects.ensures.slabs)
