@@ -1,28 +1,20 @@
 -- The cut of a layer, from its parts.
-use Rattle.std.proofs.Common.{◌≡◌, ◌≤◌, ℕ, inl, inr, List, [], ◌∷◌, subst, sym, refl, arith, ℤ, ◌≤ℤ◌, ◌<ℤ◌, unsigned_abs}
-use Rattle.std.specs.List.{All, AllZip, Contains}
-use Rattle.std.proofs.lemmas.Int.{ints}
-use Rattle.dpl_spec.specs.declared.Pt.{Pt}
+use Rattle.std.proofs.Common.{◌≡◌, ℕ, List, subst, sym}
 use Rattle.dpl_spec.specs.declared.Rect.{Rect}
 use Rattle.dpl_spec.specs.declared.Zone.{Zone}
-use Rattle.dpl_spec.specs.Squares.{Covers, Has, IsLeast}
-use Rattle.dpl_spec.specs.Loops.{AreRectsWithin, IsRectWithin, farthest}
+use Rattle.dpl_spec.specs.Squares.{Covers}
 use Rattle.dpl_spec.specs.Components.{AreComponents}
 use Rattle.dpl_spec.specs.Zones.{AreZones}
-use Rattle.dpl_spec.specs.Pieces.{ArePieces, without}
-use Rattle.dpl_spec.specs.Decomposition.{Cut, IsCut}
-use Rattle.dpl_spec.proofs.Ordered.{Contains-cases, Contains-later, Contains-nil}
+use Rattle.dpl_spec.specs.Pieces.{ArePieces}
+use Rattle.dpl_spec.specs.Decomposition.{IsCut}
 use Rattle.dpl_slabs.specs.Parts.{union_of}
 use Rattle.dpl_piece.specs.Cutting.{AreTheirPieces, CutPieces}
-use Rattle.dpl_cert.specs.Grammar.{IsCoordinate, IsPoint}
+use Rattle.dpl_check.specs.Cutting.{cut_view}
 use Rattle.dpl_check.proofs.SameZones.{zones_same}
-
-abbrev pub cut_from : List (List Rect) → CutPieces → Cut
-cut_from features c = record { features = features; zones = c.zones; pieces = c.parts; owners = c.owners; keys = c.keys; sides = c.sides }
 
 pub is_cut : (rule overlap : ℕ) (layer : List Rect) (features : List (List Rect)) (zones : List Zone) (c : CutPieces)
     → AreComponents (Covers layer) features → AreZones rule overlap (union_of features) features zones → c.zones ≡ zones → AreTheirPieces features zones c
-    → IsCut rule overlap (Covers layer) (cut_from features c)
+    → IsCut rule overlap (Covers layer) (cut_view features c)
 is_cut rule overlap layer features zones c components are same pieces = record {
   features = components;
   zones = subst (λ (zs : List Zone). AreZones rule overlap (Covers layer) features zs) (sym same) (zones_same rule overlap (union_of features) (Covers layer) features zones components.together are);

@@ -1,14 +1,11 @@
 -- Places of a cycle, and the pieces that squares lie in.
-use Rattle.std.proofs.Common.{◌≡◌, ◌≢◌, ℕ, ◌+◌, ◌*◌, ◌%◌, ◌<◌, ◌≤◌, inl, inr, Bool, true, false, List, [], length, get_or, set, replicate, sym, refl, ap, ◌∙◌, subst, arith}
-use Rattle.std.specs.Prelude.{◌↔◌, unsigned_abs}
-use Rattle.std.specs.List.{Contains}
-use Rattle.std.proofs.lemmas.Int.{ints}
+use Rattle.std.proofs.Common.{◌≡◌, ℕ, ◌+◌, ◌*◌, ◌%◌, ◌<◌, inl, inr, Bool, true, false, List, [], length, get_or, set, sym, ap, ◌∙◌, subst, arith}
+use Rattle.std.specs.Prelude.{◌↔◌}
 use Rattle.std.proofs.lemmas.Bool.{cases_eq, cases_lt, cases_order, false≢true}
 use Rattle.std.proofs.lemmas.List.{get_or_default, get_or_past, get_or-set_same, get_or-set_other, length-set}
 use Rattle.dpl_spec.specs.declared.Pt.{Pt}
 use Rattle.dpl_spec.specs.declared.Rect.{Rect}
-use Rattle.dpl_spec.specs.Squares.{AreNear, Covers, Has, IsSolidWithin, d2}
-use Rattle.dpl_spec.specs.Loops.{farthest}
+use Rattle.dpl_spec.specs.Squares.{AreNear, Covers, Has, d2}
 use Rattle.dpl_spec.specs.Zones.{part_at}
 use Rattle.dpl_spec.proofs.SlabLaws.{Covers-member, member-Covers}
 use Rattle.dpl_slabs.specs.Parts.{AreParts}
@@ -16,11 +13,12 @@ use Rattle.dpl_tree.specs.declared.tree.Node.{Node}
 use Rattle.dpl_tree.specs.declared.tree.Owners.TheVariants.{All as Everyone, Only}
 use Rattle.dpl_tree.specs.Trees.{AreLeavesOf}
 use Rattle.dpl_nearest.specs.Search.{LeafCovers, unit_of}
-use Rattle.dpl_spec.specs.Decomposition.{Cut}
+use Rattle.dpl_piece.specs.Cutting.{CutPieces}
 use Rattle.dpl_cert.specs.declared.cert.PlaceLine.{PlaceLine}
 use Rattle.dpl_cert.specs.declared.cert.NearLine.{NearLine}
 use Rattle.dpl_verdict.specs.Conflicts.{IsBadPlace, IsGoodPlace, piece_of}
-use Rattle.dpl_check.specs.Places.{AreMarked, IsNearLine, IsRightPlace}
+use Rattle.dpl_check.specs.Cutting.{cut_view}
+use Rattle.dpl_check.specs.Places.{AreMarked, IsRightPlace}
 use Rattle.dpl_check.proofs.Windows.{unit-only, unit-self}
 
 nothing : (p : Pt) → Covers [] p → ⊥
@@ -57,8 +55,8 @@ near-units rule p q u v e f = (
   λ close. (p, q, subst (λ (w : Rect). Has w p) (sym e) (unit-self p), subst (λ (w : Rect). Has w q) (sym f) (unit-self q), close),
 )
 
-module _ (rule : ℕ) (cut : Cut) (cycle : List PlaceLine) (near : List NearLine) (k : ℕ) (k_in : k < length near) (place : PlaceLine) (e : NearLine) where
-  good-right : (line : NearLine) → IsGoodPlace rule cut cycle place (piece_of cycle ((k + 1) % length cycle)) k line → IsRightPlace rule cut place (piece_of cycle ((k + 1) % length cycle)) line
+module _ (rule : ℕ) (features : List (List Rect)) (pieces : CutPieces) (cycle : List PlaceLine) (near : List NearLine) (k : ℕ) (k_in : k < length near) (place : PlaceLine) (e : NearLine) where
+  good-right : (line : NearLine) → IsGoodPlace rule (cut_view features pieces) cycle place (piece_of cycle ((k + 1) % length cycle)) k line → IsRightPlace rule pieces place (piece_of cycle ((k + 1) % length cycle)) line
   good-right line good = record {
     known = good.known;
     key = good.key;
@@ -66,13 +64,13 @@ module _ (rule : ℕ) (cut : Cut) (cycle : List PlaceLine) (near : List NearLine
     apart = good.apart;
   }
 
-  pub not-right-bad : (IsRightPlace rule cut place (piece_of cycle ((k + 1) % length cycle)) (get_or near k e) → ⊥) → IsBadPlace rule cut cycle near k place
-  not-right-bad never d good = never (subst (λ line. IsRightPlace rule cut place (piece_of cycle ((k + 1) % length cycle)) line) (get_or_default near k d e k_in) (good-right (get_or near k d) good))
+  pub not-right-bad : (IsRightPlace rule pieces place (piece_of cycle ((k + 1) % length cycle)) (get_or near k e) → ⊥) → IsBadPlace rule (cut_view features pieces) cycle near k place
+  not-right-bad never d good = never (subst (λ line. IsRightPlace rule pieces place (piece_of cycle ((k + 1) % length cycle)) line) (get_or_default near k d e k_in) (good-right (get_or near k d) good))
 
-  pub stood-bad : (stood : List Bool) (b : Bool) → AreMarked (length cut.pieces) cycle k stood → IsRightPlace rule cut place (piece_of cycle ((k + 1) % length cycle)) (get_or near k e) → get_or stood place.piece b ≡ true → IsBadPlace rule cut cycle near k place
+  pub stood-bad : (stood : List Bool) (b : Bool) → AreMarked (length pieces.parts) cycle k stood → IsRightPlace rule pieces place (piece_of cycle ((k + 1) % length cycle)) (get_or near k e) → get_or stood place.piece b ≡ true → IsBadPlace rule (cut_view features pieces) cycle near k place
   stood-bad stood b marked right is d good = let (j, l, same) = (marked.exactly place.piece b right.known).0 is in good.new j l same
 
-  pub right-good : (stood : List Bool) (b : Bool) → AreMarked (length cut.pieces) cycle k stood → IsRightPlace rule cut place (piece_of cycle ((k + 1) % length cycle)) (get_or near k e) → get_or stood place.piece b ≡ false → IsBadPlace rule cut cycle near k place → ⊥
+  pub right-good : (stood : List Bool) (b : Bool) → AreMarked (length pieces.parts) cycle k stood → IsRightPlace rule pieces place (piece_of cycle ((k + 1) % length cycle)) (get_or near k e) → get_or stood place.piece b ≡ false → IsBadPlace rule (cut_view features pieces) cycle near k place → ⊥
   right-good stood b marked right is bad = bad e (record {
     known = right.known;
     new = λ j l same. false≢true (sym is ∙ (marked.exactly place.piece b right.known).1 (j, l, same));

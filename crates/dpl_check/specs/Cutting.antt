@@ -1,16 +1,24 @@
 -- A layer cut into pieces, in the words of the definitions.
-use Rattle.std.specs.Prelude.{◌≡◌, ◌≢◌, ◌⊎◌, length}
-use Rattle.dpl_spec.specs.Decomposition.{Cut}
+use Rattle.std.specs.Prelude.{◌≡◌, ◌≢◌, ◌⊎◌, ℕ, List, length}
+use Rattle.dpl_spec.specs.declared.Rect.{Rect}
+use Rattle.dpl_spec.specs.Squares.{Region}
+use Rattle.dpl_spec.specs.Decomposition.{Cut, IsCut}
+use Rattle.dpl_piece.specs.Cutting.{CutPieces}
 use Rattle.dpl_cert.specs.declared.cert.Head.{Head}
 use Rattle.dpl_verdict.specs.declared.Verdict.{Verdict}
 use Rattle.dpl_verdict.specs.declared.Verdict.TheVariants.{Counts}
 use Rattle.dpl_check.specs.declared.cut.LayerCut.{LayerCut}
 
-abbrev pub cut_view : LayerCut → Cut
-cut_view c = record { features = c.features; zones = c.pieces.zones; pieces = c.pieces.parts; owners = c.pieces.owners; keys = c.pieces.keys; sides = c.pieces.sides }
+-- the cut of these features into pieces
+abbrev pub cut_view : List (List Rect) → CutPieces → Cut
+cut_view features c = record { features = features; zones = c.zones; pieces = c.parts; owners = c.owners; keys = c.keys; sides = c.sides }
 
-abbrev pub ShowsCountsOf : Cut → Verdict → Type 0
-ShowsCountsOf c v = v ≡ Counts (length c.features) (length c.pieces) (length c.zones)
+-- the pieces are those of so many features of the layer
+abbrev pub IsCutOf : ℕ → ℕ → Region → LayerCut → Type 0
+IsCutOf rule overlap layer c = (features : List (List Rect)) × (length features ≡ c.features) × IsCut rule overlap layer (cut_view features c.pieces)
 
-abbrev pub HasOtherCounts : Head → Cut → Type 0
-HasOtherCounts head c = (length c.features ≢ head.features) ⊎ ((length c.pieces ≢ head.pieces) ⊎ (length c.zones ≢ head.zones))
+abbrev pub ShowsCountsOf : LayerCut → Verdict → Type 0
+ShowsCountsOf c v = v ≡ Counts c.features (length c.pieces.parts) (length c.pieces.zones)
+
+abbrev pub HasOtherCounts : Head → LayerCut → Type 0
+HasOtherCounts head c = (c.features ≢ head.features) ⊎ ((length c.pieces.parts ≢ head.pieces) ⊎ (length c.pieces.zones ≢ head.zones))

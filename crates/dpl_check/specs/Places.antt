@@ -1,10 +1,10 @@
 -- Places of a cycle, by the tree of the layer's pieces.
-use Rattle.std.specs.Prelude.{◌≡◌, ◌≢◌, ℕ, ◌+◌, ◌*◌, ◌%◌, ◌<◌, ◌↔◌, List, length, slice_index, slice_index_or, Bool, true, false}
+use Rattle.std.specs.Prelude.{◌≡◌, ◌≢◌, ℕ, ◌*◌, ◌<◌, ◌↔◌, List, length, slice_index, slice_index_or, Bool, true}
 use Rattle.dpl_spec.specs.declared.Pt.{Pt}
 use Rattle.dpl_spec.specs.declared.Rect.{Rect}
 use Rattle.dpl_spec.specs.Squares.{d2}
 use Rattle.dpl_spec.specs.Zones.{part_at}
-use Rattle.dpl_spec.specs.Decomposition.{Cut}
+use Rattle.dpl_piece.specs.Cutting.{CutPieces}
 use Rattle.dpl_cert.specs.declared.cert.PlaceLine.{PlaceLine}
 use Rattle.dpl_cert.specs.declared.cert.NearLine.{NearLine}
 use Rattle.dpl_verdict.specs.Conflicts.{piece_of}
@@ -26,8 +26,8 @@ pub record AreMarked (count : ℕ) (cycle : List PlaceLine) (k : ℕ) (stood : L
   pub exactly : (n : ℕ) (d : Bool) → n < count → (slice_index_or stood n d ≡ true) ↔ ((j : ℕ) × (j < k) × (piece_of cycle j ≡ n))
 
 -- a piece of the layer with its key that conflicts with the next one, as the line shows
-pub record IsRightPlace (rule : ℕ) (cut : Cut) (place : PlaceLine) (next : ℕ) (line : NearLine) : Type 0 where
-  pub known : place.piece < length cut.pieces
-  pub key : place.key ≡ slice_index_or cut.keys place.piece place.key
-  pub conflict : IsNearLine rule cut.pieces place.piece next line
-  pub apart : slice_index cut.owners place.piece ≢ slice_index cut.owners next
+pub record IsRightPlace (rule : ℕ) (pieces : CutPieces) (place : PlaceLine) (next : ℕ) (line : NearLine) : Type 0 where
+  pub known : place.piece < length pieces.parts
+  pub key : place.key ≡ slice_index_or pieces.keys place.piece place.key
+  pub conflict : IsNearLine rule pieces.parts place.piece next line
+  pub apart : slice_index pieces.owners place.piece ≢ slice_index pieces.owners next

@@ -1,9 +1,8 @@
 //! Whether a certificate is for the rules and the layer that are checked.
 ghost use Rattle.std.specs.Prelude.{◌≡◌, ◌≤◌, ◌↔◌, ℕ, IsTrue, IfOk, length};
 ghost use Rattle.dpl_spec.specs.Squares.{Covers};
-ghost use Rattle.dpl_spec.specs.Decomposition.{IsCut};
 ghost use Rattle.dpl_verdict.specs.Order.{AreCounts, RulesDiffer, ShowsCounts};
-ghost use Rattle.dpl_check.specs.Cutting.{HasOtherCounts, ShowsCountsOf, cut_view};
+ghost use Rattle.dpl_check.specs.Cutting.{HasOtherCounts, ShowsCountsOf};
 
 use crate::cut::{LayerCut, cut_of};
 use dpl_cert::Head;
@@ -26,10 +25,10 @@ pub(crate) fn rules_differ(head: &Head, rule: u32, overlap: u32) -> bool
 
 /// Tells how many features, pieces and zones a cut has.
 pub(crate) fn counts_of(cut: &LayerCut) -> Verdict
-    ensures { ShowsCountsOf (cut_view cut.now) result }
+    ensures { ShowsCountsOf cut.now result }
 {
     Verdict::Counts {
-        features: cut.features.items().len() as u64,
+        features: cut.features,
         pieces: cut.pieces.parts().items().len() as u64,
         zones: cut.pieces.zones().len() as u64,
     }
@@ -51,9 +50,9 @@ pub(crate) fn counts(
 
 /// Whether the certificate counts other features, pieces or zones than the cut has.
 pub(crate) fn counts_differ(head: &Head, cut: &LayerCut) -> bool
-    ensures { IsTrue result ↔ HasOtherCounts head.now (cut_view cut.now) }
+    ensures { IsTrue result ↔ HasOtherCounts head.now cut.now }
 {
-    if cut.features.items().len() as u64 != head.features {
+    if cut.features != head.features {
         return true;
     }
     if cut.pieces.parts().items().len() as u64 != head.pieces {

@@ -1,20 +1,18 @@
 //! Features, zones and pieces of a layer.
 ghost use Rattle.std.specs.Prelude.{◌≤◌, IfOk};
 ghost use Rattle.dpl_spec.specs.Squares.{Covers};
-ghost use Rattle.dpl_spec.specs.Components.{AreComponents};
-ghost use Rattle.dpl_spec.specs.Decomposition.{IsCut};
-ghost use Rattle.dpl_check.specs.Cutting.{cut_view};
+ghost use Rattle.dpl_check.specs.Cutting.{IsCutOf};
 
 use dpl_feature::features;
 use dpl_piece::{Pieces, pieces};
-use dpl_slabs::{Parts, Slabs};
+use dpl_slabs::Slabs;
 use dpl_zone::zones;
 use std::alloc::{AllocError, Global};
 
-/// A layer cut into pieces.
+/// A layer cut into pieces: how many features it has, and their pieces.
 #[derive(Drop)]
 pub(crate) struct LayerCut {
-    pub(crate) features: Parts,
+    pub(crate) features: u64,
     pub(crate) pieces: Pieces,
 }
 
@@ -26,10 +24,14 @@ pub(crate) fn cut_of(
     overlap: u32,
 ) -> Result<LayerCut, AllocError>
     requires { 1 ≤ overlap }
-    ensures { IfOk result (λ c. IsCut rule overlap (Covers layer.now) (cut_view c)) }
+    ensures { IfOk result (IsCutOf rule overlap (Covers layer.now)) }
 {
     let features = features(alloc, layer)?;
     let zones = zones(alloc, &features, rule, overlap)?;
-    let pieces = pieces(alloc, &features, &zones)?;
-    Ok(LayerCut { features, pieces })
+    let count = features.items().len() as u64;
+    let pieces = pieces(alloc, features, &zones)?;
+    Ok(LayerCut {
+        features: count,
+        pieces,
+    })
 }

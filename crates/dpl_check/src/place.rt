@@ -1,6 +1,7 @@
 //! Places of a cycle whose pieces aren't the layer's, or don't conflict.
-ghost use Rattle.std.specs.Prelude.{◌≡◌, ◌≢◌, ◌+◌, ◌*◌, ◌<◌, ◌↔◌, IsTrue, IfOk, length, slice_index};
+ghost use Rattle.std.specs.Prelude.{◌≡◌, ◌≢◌, ◌+◌, ◌*◌, ◌<◌, ◌↔◌, List, IsTrue, IfOk, length, slice_index};
 ghost use Rattle.std.specs.List.{All};
+ghost use Rattle.dpl_spec.specs.declared.Rect.{Rect};
 ghost use Rattle.dpl_spec.specs.Squares.{d2};
 ghost use Rattle.dpl_spec.specs.Loops.{farthest};
 ghost use Rattle.dpl_spec.specs.Zones.{part_at};
@@ -90,7 +91,7 @@ fn is_right(
 ) -> bool
     requires line { IsNear line.now }
     requires leaves { AreLeavesOf cut.now.pieces.parts tree.now }
-    ensures { IsTrue result ↔ IsRightPlace rule (cut_view cut.now) place.now next line.now }
+    ensures { IsTrue result ↔ IsRightPlace rule cut.now.pieces place.now next line.now }
 {
     let parts = cut.pieces.parts().items();
     let owner = cut.pieces.owner();
@@ -116,7 +117,7 @@ fn first_wrong(
     requires lines { All IsNear near.now }
     requires leaves { AreLeavesOf cut.now.pieces.parts tree.now }
     requires stood { AreMarked (length cut.now.pieces.parts) cycle.now 0 stood.items }
-    ensures { IsFirstBadOf (IsBadPlace rule (cut_view cut.now) cycle.now near.now) cycle.now result }
+    ensures { (features : List (List Rect)) → IsFirstBadOf (IsBadPlace rule (cut_view features cut.now.pieces) cycle.now near.now) cycle.now result }
 {
     for k in 0..cycle.len() {
         let piece = cycle[k].piece;
@@ -142,7 +143,7 @@ pub(crate) fn bad_place(
 ) -> Result<Option<u64>, AllocError>
     requires each { length near.now ≡ length cycle.now }
     requires lines { All IsNear near.now }
-    ensures { IfOk result (λ found. IsFirstBadOf (IsBadPlace rule (cut_view cut.now) cycle.now near.now) cycle.now found) }
+    ensures { IfOk result (λ found. (features : List (List Rect)) → IsFirstBadOf (IsBadPlace rule (cut_view features cut.now.pieces) cycle.now near.now) cycle.now found) }
 {
     let parts = cut.pieces.parts().items();
     let tree = Tree::of_parts(alloc, parts)?;

@@ -29,7 +29,35 @@ fn bar(alloc: Global, x0: u16, y0: u16, x1: u16, y1: u16) -> Result<Slabs, Alloc
 fn cut(alloc: Global, layer: &Slabs) -> Result<Pieces, AllocError> {
     let features = features(alloc, layer)?;
     let zones = zones(alloc, &features, 30, 10)?;
-    pieces(alloc, &features, &zones)
+    pieces(alloc, features, &zones)
+}
+
+/// A long bar, and two that stand over its ends.
+fn three_bars(alloc: Global) -> Result<Slabs, AllocError> {
+    let long = bar(alloc, 0, 0, 158, 20)?;
+    let left = bar(alloc, 0, 40, 50, 60)?;
+    let two = long.union(alloc, &left)?;
+    let right = bar(alloc, 108, 40, 158, 60)?;
+    two.union(alloc, &right)
+}
+
+/// A square with a hole in its middle.
+fn ring(alloc: Global) -> Result<Slabs, AllocError> {
+    let square = bar(alloc, 0, 0, 100, 100)?;
+    let hole = bar(alloc, 40, 40, 60, 60)?;
+    square.minus(alloc, &hole)
+}
+
+/// The pieces of the three bars.
+fn cut_bars(alloc: Global) -> Result<Pieces, AllocError> {
+    let layer = three_bars(alloc)?;
+    cut(alloc, &layer)
+}
+
+/// The pieces of the ring.
+fn cut_ring(alloc: Global) -> Result<Pieces, AllocError> {
+    let layer = ring(alloc)?;
+    cut(alloc, &layer)
 }
 
 fn at(x: i64, y: i64) -> Pt {
@@ -38,12 +66,7 @@ fn at(x: i64, y: i64) -> Pt {
 
 #[test]
 fn a_bar_is_cut_between_two_others(rt: HostRuntime) -> Result<(), Fail> {
-    let alloc = rt.alloc();
-    let long = bar(alloc, 0, 0, 158, 20)?;
-    let left = bar(alloc, 0, 40, 50, 60)?;
-    let right = bar(alloc, 108, 40, 158, 60)?;
-    let layer = long.union(alloc, &left)?.union(alloc, &right)?;
-    let cut = cut(alloc, &layer)?;
+    let cut = cut_bars(rt.alloc())?;
     let zone = Rect {
         x0: 74,
         y0: 0,
@@ -64,11 +87,7 @@ fn a_bar_is_cut_between_two_others(rt: HostRuntime) -> Result<(), Fail> {
 
 #[test]
 fn a_ring_is_cut_in_four(rt: HostRuntime) -> Result<(), Fail> {
-    let alloc = rt.alloc();
-    let square = bar(alloc, 0, 0, 100, 100)?;
-    let hole = bar(alloc, 40, 40, 60, 60)?;
-    let ring = square.minus(alloc, &hole)?;
-    let cut = cut(alloc, &ring)?;
+    let cut = cut_ring(rt.alloc())?;
     assert_eq!(rt;
         cut.keys(),
         [at(0, 0), at(55, 0), at(0, 55), at(60, 55)].as_slice()

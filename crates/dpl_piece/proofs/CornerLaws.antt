@@ -15,7 +15,8 @@ use Rattle.dpl_piece.specs.declared.corner.Corner.{Corner}
 use Rattle.dpl_piece.specs.declared.corner.Kind.{Kind}
 use Rattle.dpl_spec.specs.declared.Zone.{Zone}
 use Rattle.dpl_piece.specs.declared.corner.Kind.TheVariants.{LowerLeft, LowerRight, UpperLeft}
-use Rattle.dpl_piece.specs.Corners.{corner_at, corner_of, IsFirstCorner, IsCornerOf, IsBelow, RiseByCorner, StandBeside, AreFound}
+use Rattle.dpl_piece.specs.declared.origin.Origin.{Origin}
+use Rattle.dpl_piece.specs.Corners.{corner_at, corner_of, IsFirstCorner, IsCornerOf, IsBelow, IsBroken, RiseByCorner, StandBeside, StandBroken, AreFound}
 
 -- a corner that stands no later than one before a point comes before the point too
 pub below-earlier : (a b : Corner) (x y : ℤ) → (a.y <ℤ b.y) ⊎ ((a.y ≡ b.y) × (a.x ≤ℤ b.x)) → IsBelow b x y → IsBelow a x y
@@ -59,24 +60,47 @@ map-Contains f (s ∷ rs) r h = elim (Contains-cases s r rs h) [
   | inr later ↦ Contains-later (f s) (f r) (map f rs) (map-Contains f rs r later)
 ]
 
-pub corners-none : (kind : Kind) (parts : List (List Rect)) (c : Corner) → Contains [] c ↔ IsFirstCorner kind parts 0 c
-corners-none kind parts c = (λ h. absurd (Contains-nil c h), λ (k, r, l, r_in, is). absurd (omega (arith, l)))
+-- a corner of one of the first n parts, which is broken
+abbrev pub IsFirstBroken : Kind → List (List Rect) → List Origin → ℕ → Corner → Type 0
+IsFirstBroken kind parts origins n c = IsFirstCorner kind parts n c × IsBroken origins c.part
 
-pub corners-next : (kind : Kind) (parts : List (List Rect)) (n : ℕ) (old new : List Corner) (part : List Rect) → n < length parts → part ≡ get_or parts n part → ((c : Corner) → Contains old c ↔ IsFirstCorner kind parts n c)
-    → new ≡ old ++ map (corner_of kind n) part → (c : Corner) → Contains new c ↔ IsFirstCorner kind parts (n + 1) c
-corners-next kind parts n old new part n_in part_is before new_is c =
-    let own : part ≡ get_or parts n [] = part_is ∙ get_or_default parts n part [] n_in in (
-      λ h. elim (Contains-append_cases old (map (corner_of kind n) part) c (subst (λ l. Contains l c) new_is h)) [
-        | inl a ↦ (let (k, r, l, r_in, is) = (before c).0 a in (k, r, omega (arith, l), r_in, is))
-        | inr b ↦ (let (r, r_in, is) = Contains-map (corner_of kind n) part c b in (n, r, omega arith, subst (λ p. Contains p r) own r_in, is))
-      ],
-      λ (k, r, l, r_in, is). subst (λ t. Contains t c) (sym new_is) (elim (cases_eq k n) [
-        | inl e ↦ (
-            let mine : Contains part r = subst (λ p. Contains p r) (ap (λ q. get_or parts q []) e ∙ sym own) r_in in
-            Contains-append_right old (map (corner_of kind n) part) c (subst (λ t. Contains (map (corner_of kind n) part) t) (ap (λ q. corner_of kind q r) (sym e) ∙ is) (map-Contains (corner_of kind n) part r mine)))
-        | inr ne ↦ Contains-append_left old (map (corner_of kind n) part) c ((before c).1 (k, r, omega (arith, l, ne), r_in, is))
-      ]),
-    )
+corner-part : (kind : Kind) (k : ℕ) (r : Rect) → (corner_of kind k r).part ≡ k
+corner-part LowerLeft k r = refl
+corner-part LowerRight k r = refl
+corner-part UpperLeft k r = refl
+
+pub corners-none : (kind : Kind) (parts : List (List Rect)) (origins : List Origin) (c : Corner) → Contains [] c ↔ IsFirstBroken kind parts origins 0 c
+corners-none kind parts origins c = (λ h. absurd (Contains-nil c h), λ ((k, r, l, r_in, is), broken). absurd (omega (arith, l)))
+
+module _ (kind : Kind) (parts : List (List Rect)) (origins : List Origin) (n : ℕ) (old : List Corner) (before : (c : Corner) → Contains old c ↔ IsFirstBroken kind parts origins n c) where
+  earlier : (c : Corner) → IsFirstBroken kind parts origins n c → IsFirstBroken kind parts origins (n + 1) c
+  earlier c ((k, r, l, r_in, is), broken) = ((k, r, omega (arith, l), r_in, is), broken)
+
+  -- a whole part has no corner that counts
+  pub corners-skip : (IsBroken origins n → ⊥) → (c : Corner) → Contains old c ↔ IsFirstBroken kind parts origins (n + 1) c
+  corners-skip none c = (
+    λ h. earlier c ((before c).0 h),
+    λ ((k, r, l, r_in, is), broken). (before c).1 (elim (cases_eq k n) [
+      | inl e ↦ absurd (none (subst (IsBroken origins) (ap (λ t. let u : Corner = t in u.part) (sym is) ∙ (corner-part kind k r ∙ e)) broken))
+      | inr ne ↦ ((k, r, omega (arith, l, ne), r_in, is), broken)
+    ]),
+  )
+
+  pub corners-next : (new : List Corner) (part : List Rect) → n < length parts → part ≡ get_or parts n part → IsBroken origins n → new ≡ old ++ map (corner_of kind n) part → (c : Corner) → Contains new c ↔ IsFirstBroken kind parts origins (n + 1) c
+  corners-next new part n_in part_is broken new_is c =
+      let own : part ≡ get_or parts n [] = part_is ∙ get_or_default parts n part [] n_in in (
+        λ h. elim (Contains-append_cases old (map (corner_of kind n) part) c (subst (λ l. Contains l c) new_is h)) [
+          | inl a ↦ earlier c ((before c).0 a)
+          | inr b ↦ (let (r, r_in, is) = Contains-map (corner_of kind n) part c b in
+              ((n, r, omega arith, subst (λ p. Contains p r) own r_in, is), subst (IsBroken origins) (sym (corner-part kind n r) ∙ ap (λ t. let u : Corner = t in u.part) is) broken))
+        ],
+        λ ((k, r, l, r_in, is), so). subst (λ t. Contains t c) (sym new_is) (elim (cases_eq k n) [
+          | inl e ↦ (
+              let mine : Contains part r = subst (λ p. Contains p r) (ap (λ q. get_or parts q []) e ∙ sym own) r_in in
+              Contains-append_right old (map (corner_of kind n) part) c (subst (λ t. Contains (map (corner_of kind n) part) t) (ap (λ q. corner_of kind q r) (sym e) ∙ is) (map-Contains (corner_of kind n) part r mine)))
+          | inr ne ↦ Contains-append_left old (map (corner_of kind n) part) c ((before c).1 ((k, r, omega (arith, l, ne), r_in, is), so))
+        ]),
+      )
 
 -- where the corner at n comes before a point, so do all up to it
 pub all-below : (cs : List Corner) (n : ℕ) (x y : ℤ) → RiseByCorner cs → n < length cs → (e : Corner) → IsBelow (get_or cs n e) x y → (k : ℕ) (d : Corner) → k < n + 1 → IsBelow (get_or cs k d) x y
@@ -100,26 +124,28 @@ zip-next R xs ys n x y n_in x_is h r =
     let step : take (n + 1) xs ≡ take n xs ++ x ∷ [] = ap (λ k. take k xs) one ∙ (take-suc xs n x n_in ∙ ap (λ s. take n xs ++ s ∷ []) (sym x_is)) in
     rw step (zip-push R (take n xs) ys x y h r)
 
-pub corners-sorted : (kind : Kind) (parts : List (List Rect)) (old new : List Corner) → IsPermutation old new → ((c : Corner) → Contains old c ↔ IsFirstCorner kind parts (length parts) c) → (c : Corner) → Contains new c ↔ IsFirstCorner kind parts (length parts) c
-corners-sorted kind parts old new same h c = (
+pub corners-sorted : (kind : Kind) (parts : List (List Rect)) (origins : List Origin) (old new : List Corner) → IsPermutation old new → ((c : Corner) → Contains old c ↔ IsFirstBroken kind parts origins (length parts) c)
+    → (c : Corner) → Contains new c ↔ IsFirstBroken kind parts origins (length parts) c
+corners-sorted kind parts origins old new same h c = (
   λ g. (h c).0 (Contains-permutation new old c (IsPermutation-sym old new same) g),
   λ g. Contains-permutation old new c same ((h c).1 g),
 )
 
-abbrev pub AreCornersOf : Kind → List (List Rect) → List Corner → Type 0
-AreCornersOf kind parts cs = (c : Corner) → Contains cs c ↔ IsCornerOf kind parts c
+abbrev pub AreCornersOf : Kind → List (List Rect) → List Origin → List Corner → Type 0
+AreCornersOf kind parts origins cs = (c : Corner) → Contains cs c ↔ (IsCornerOf kind parts c × IsBroken origins c.part)
 
-pub found-to : (ll lr ul : List Corner) (parts : List (List Rect)) (z : Zone) (side : ℕ × ℕ) → AreCornersOf LowerLeft parts ll → AreCornersOf LowerRight parts lr → AreCornersOf UpperLeft parts ul → StandBeside parts z side → AreFound ll lr ul z.rect side
-found-to ll lr ul parts z side a b e (first, second) = (
-  elim first [ inl h ↦ inl ((b _).1 h) | inr h ↦ inr ((e _).1 h) ],
-  elim second [ inl h ↦ inl ((a _).1 h) | inr h ↦ inr ((a _).1 h) ],
-)
+module _ (ll lr ul : List Corner) (parts : List (List Rect)) (origins : List Origin) (z : Zone) (side : ℕ × ℕ) (a : AreCornersOf LowerLeft parts origins ll) (b : AreCornersOf LowerRight parts origins lr) (e : AreCornersOf UpperLeft parts origins ul) where
+  pub found-to : StandBroken parts origins z side → AreFound ll lr ul z.rect side
+  found-to ((first, second), one, two) = (
+    elim first [ inl h ↦ inl ((b _).1 (h, one)) | inr h ↦ inr ((e _).1 (h, one)) ],
+    elim second [ inl h ↦ inl ((a _).1 (h, two)) | inr h ↦ inr ((a _).1 (h, two)) ],
+  )
 
-pub found-from : (ll lr ul : List Corner) (parts : List (List Rect)) (z : Zone) (side : ℕ × ℕ) → AreCornersOf LowerLeft parts ll → AreCornersOf LowerRight parts lr → AreCornersOf UpperLeft parts ul → AreFound ll lr ul z.rect side → StandBeside parts z side
-found-from ll lr ul parts z side a b e (first, second) = (
-  elim first [ inl h ↦ inl ((b _).0 h) | inr h ↦ inr ((e _).0 h) ],
-  elim second [ inl h ↦ inl ((a _).0 h) | inr h ↦ inr ((a _).0 h) ],
-)
+  pub found-from : AreFound ll lr ul z.rect side → StandBeside parts z side
+  found-from (first, second) = (
+    elim first [ inl h ↦ inl ((b _).0 h).0 | inr h ↦ inr ((e _).0 h).0 ],
+    elim second [ inl h ↦ inl ((a _).0 h).0 | inr h ↦ inr ((a _).0 h).0 ],
+  )
 
 pub not-at : (cs : List Corner) (n : ℕ) (x y : ℤ) (z : Corner) → n < length cs → (((get_or cs n z).x ≡ x) × ((get_or cs n z).y ≡ y) → ⊥) → (d : Corner) → (get_or cs n d).x ≡ x → (get_or cs n d).y ≡ y → ⊥
 not-at cs n x y z n_in none d e f =
@@ -144,6 +170,12 @@ zip-at R [] ys k d e h l = absurd (omega (arith, l))
 zip-at R (x ∷ xs) [] k d e h l = absurd h
 zip-at R (x ∷ xs) (y ∷ ys) zero d e h l = h.0
 zip-at R (x ∷ xs) (y ∷ ys) (suc k) d e h l = zip-at R xs ys k d e h.1 (omega (arith, l))
+
+pub zip-weaker : {A B : Type 0} (R S : A → B → Type 0) → ((x : A) (y : B) → R x y → S x y) → (xs : List A) (ys : List B) → AllZip R xs ys → AllZip S xs ys
+zip-weaker R S weaker [] [] h = tt
+zip-weaker R S weaker [] (y ∷ ys) h = absurd h
+zip-weaker R S weaker (x ∷ xs) [] h = absurd h
+zip-weaker R S weaker (x ∷ xs) (y ∷ ys) h = (weaker x y h.0, zip-weaker R S weaker xs ys h.1)
 
 pub zip-from : {A B : Type 0} (R : A → B → Type 0) (xs : List A) (ys : List B) → length xs ≡ length ys → ((k : ℕ) (d : A) (e : B) → k < length xs → R (get_or xs k d) (get_or ys k e)) → AllZip R xs ys
 zip-from R [] [] same h = tt

@@ -1,5 +1,5 @@
 -- What the cut of features at their zones gives.
-use Rattle.std.proofs.Common.{◌≡◌, ◌≢◌, ℕ, ◌<◌, List, [], length, get_or, sym, ◌∙◌, subst}
+use Rattle.std.proofs.Common.{◌≡◌, ◌≢◌, ℕ, ◌<◌, List, [], length, get_or, map, sym, subst}
 use Rattle.std.specs.Prelude.{pos}
 use Rattle.std.specs.List.{All, AllZip}
 use Rattle.std.proofs.lemmas.List.{get_or_default}
@@ -13,14 +13,16 @@ use Rattle.dpl_spec.specs.Pieces.{without, AreSides, IsOwner}
 use Rattle.dpl_spec.proofs.Ordered.{Contains-nil}
 use Rattle.dpl_spec.proofs.SquareLaws.{SameSquares-sym}
 use Rattle.dpl_spec.proofs.SlabLaws.{member-Covers}
-use Rattle.dpl_slabs.specs.Parts.{AreParts, union_of}
+use Rattle.dpl_slabs.specs.Parts.{union_of}
 use Rattle.dpl_piece.specs.Cutting.{cut_pieces, AreMatched, AreFeatures, AreTheirZones, AreTheirPieces}
-use Rattle.dpl_piece.specs.Corners.{StandBeside}
-use Rattle.dpl_piece.specs.Owners.{AreSidesKnown, AreOwnersBy}
+use Rattle.dpl_piece.specs.declared.origin.Origin.{Origin}
+use Rattle.dpl_piece.specs.Corners.{StandBeside, StandBroken}
+use Rattle.dpl_piece.specs.Merging.{AreCut, HasLeft, IsOrigin}
+use Rattle.dpl_piece.specs.Owners.{AreMarked, AreSidesKnown, whole_number}
 use Rattle.dpl_piece.proofs.CornerLaws.{zip-length, zip-at}
 use Rattle.dpl_piece.proofs.Regions.{components-same, without-same}
-use Rattle.dpl_piece.proofs.Stands.{stand, zone-within}
-use Rattle.dpl_piece.proofs.Whole.{sided, owned}
+use Rattle.dpl_piece.proofs.Stands.{zone-within}
+use Rattle.dpl_piece.proofs.Whole.{stand-broken, sided, owned, owners-each}
 
 -- a component has some square
 pub some-square : (a : Region) (parts : List (List Rect)) → AreComponents a parts → All (λ part. part ≢ []) parts
@@ -39,17 +41,20 @@ module _ (features : List (List Rect)) (zones : List Zone) (given : AreFeatures 
       let (rule, overlap, some, zs) = theirs in
       zone-within rule overlap (union_of features) features zones some comps zs (get_or zones k z) (k, k_in, get_or_default zones k (get_or zones k z) z k_in) within
 
-  pub features-some : All (λ part. part ≢ []) features
-  features-some = some-square (union_of features) features comps
+  module _ (pieces : List (List Rect)) (origins : List Origin) (cut : AreCut features zones pieces origins) where
+    abbrev ps : AreComponents (without (union_of features) zones) pieces
+    ps = cut.components
 
-  module _ (pieces : List (List Rect)) (ps : AreComponents (without (union_of features) zones) pieces) where
+    pub origins-each : length origins ≡ length pieces
+    origins-each = sym (zip-length (IsOrigin features (HasLeft features zones)) pieces origins cut.known)
+
     pub pieces-some : All (λ part. part ≢ []) pieces
     pieces-some = some-square (without (union_of features) zones) pieces ps
 
-    pub stands : All (λ z. (side : ℕ × ℕ) × StandBeside pieces z side) zones
+    pub stands : All (λ z. (side : ℕ × ℕ) × StandBroken pieces origins z side) zones
     stands k z k_in =
         let (rule, overlap, some, zs) = theirs in
-        stand rule overlap (union_of features) features pieces zones some comps zs ps (get_or zones k z) (k, k_in, get_or_default zones k (get_or zones k z) z k_in)
+        stand-broken rule overlap (union_of features) features pieces zones some comps zs ps origins (HasLeft features zones) cut.known (get_or zones k z) (k, k_in, get_or_default zones k (get_or zones k z) z k_in)
 
     module _ (sides : List (ℕ × ℕ)) (stand_so : AllZip (StandBeside pieces) zones sides) where
       all-sided : AllZip (AreSides features pieces) zones sides
@@ -60,17 +65,20 @@ module _ (features : List (List Rect)) (zones : List Zone) (given : AreFeatures 
       pub sides-each : length zones ≡ length sides
       sides-each = zip-length (StandBeside pieces) zones sides stand_so
 
-      pub sides-known : AreSidesKnown (length pieces) sides
-      sides-known k d k_in =
+      sides-at : AreSidesKnown (length pieces) sides
+      sides-at k d k_in =
           let zone : Zone = record { rect = record { x0 = pos 0; y0 = pos 0; x1 = pos 0; y1 = pos 0 }; feature = 0 } in
           let s : AreSides features pieces (get_or zones k zone) (get_or sides k d) = zip-at (AreSides features pieces) zones sides k zone d all-sided (subst (λ n. k < n) (sym sides-each) k_in) in
           s.known
 
-      module _ (keys : List Pt) (owners : List ℕ) (keyed : AllZip (λ piece key. IsLeast (Covers piece) key) pieces keys) (by : AreOwnersBy features keys zones sides owners) where
+      pub sides-known : AreSidesKnown (length origins) sides
+      sides-known = subst (λ n. AreSidesKnown n sides) (sym origins-each) sides-at
+
+      module _ (keys : List Pt) (owners : List ℕ) (keyed : AllZip (λ piece key. IsLeast (Covers piece) key) pieces keys) (by : AreMarked zones sides (length zones) (map whole_number origins) owners) where
         all-owned : AllZip (IsOwner features) pieces owners
         all-owned =
             let (rule, overlap, some, zs) = theirs in
-            owned rule overlap (union_of features) features pieces zones some comps zs ps sides stand_so keys owners keyed by
+            owned rule overlap (union_of features) features pieces zones some comps zs ps sides stand_so origins owners cut.known by
 
         pub their-pieces : AreTheirPieces features zones (cut_pieces pieces owners keys zones sides)
         their-pieces layer c =
@@ -81,14 +89,14 @@ module _ (features : List (List Rect)) (zones : List Zone) (given : AreFeatures 
               sided = all-sided;
             }
 
-        pub matched : AreParts pieces → All (AreRectsWithin farthest) features → AreMatched (cut_pieces pieces owners keys zones sides)
-        matched parts within =
-            let long : length pieces ≡ length keys = zip-length (λ piece key. IsLeast (Covers piece) key) pieces keys keyed in
+        pub matched : All (AreRectsWithin farthest) features → AreMatched (cut_pieces pieces owners keys zones sides)
+        matched within =
+            let (rule, overlap, some, zs) = theirs in
             record {
-              parts = parts;
-              owners = by.each ∙ sym long;
-              keys = sym long;
+              parts = cut.apart;
+              owners = owners-each rule overlap (union_of features) features pieces zones some comps zs ps sides stand_so origins owners cut.known by;
+              keys = sym (zip-length (λ piece key. IsLeast (Covers piece) key) pieces keys keyed);
               sides = sym sides-each;
-              known = sides-known;
+              known = sides-at;
               zones = zones-within within;
             }

@@ -1,7 +1,7 @@
 -- Features without a zone, and the components of what zones leave of the others, are together the components of all that is left.
 use Rattle.std.proofs.Common.{◌≡◌, ℕ, ◌<◌, ◌⊎◌, inl, inr, Bool, true, false, List, [], length, get_or, sym, refl, ◌∙◌, subst, arith}
 use Rattle.std.specs.Prelude.{◌↔◌}
-use Rattle.std.specs.List.{All, AllPairs, Any, Contains}
+use Rattle.std.specs.List.{All, AllPairs, AllZip, Any, Contains}
 use Rattle.std.proofs.lemmas.List.{get_or_default}
 use Rattle.dpl_spec.specs.declared.Pt.{Pt}
 use Rattle.dpl_spec.specs.declared.Rect.{Rect}
@@ -18,7 +18,10 @@ use Rattle.dpl_spec.proofs.ComponentLaws.{Linked-start, Linked-end}
 use Rattle.dpl_spec.proofs.WholeLaws.{part-unique}
 use Rattle.dpl_slabs.specs.Parts.{AreApart, AreParts, union_of}
 use Rattle.dpl_piece.specs.Cutting.{rects_of_zones, AreTheirZones}
-use Rattle.dpl_piece.specs.Merging.{HasZone, IsPicked, MarkZoned, left_region, IsFree, CanWeave}
+use Rattle.dpl_piece.specs.declared.origin.Origin.{Origin}
+use Rattle.dpl_piece.specs.declared.origin.Origin.TheVariants.{Whole, Broken}
+use Rattle.dpl_piece.specs.Merging.{AreCut, HasLeft, HasZone, IsOrigin, IsPicked, MarkZoned, left_region, IsFree, CanWeave}
+use Rattle.dpl_piece.proofs.CornerLaws.{zip-weaker}
 use Rattle.dpl_piece.proofs.Beside.{in-set, closed, kept, kept-inside}
 use Rattle.dpl_piece.proofs.Regions.{linked-same}
 use Rattle.dpl_piece.proofs.Cuts.{some-square}
@@ -94,6 +97,12 @@ module _ (rule overlap : ℕ) (features : List (List Rect)) (zones : List Zone) 
         let (k, k_in, zone, in_f) = in_l.0 in
         (p, left-under p in_l, λ q. (λ h. linked-same (left_region features zones) (without (union_of features) zones) left-under ((squares q).0 h), λ l. (squares q).1 (linked-left k k_in zone l in_f)))
 
+    left-origin : (part : List Rect) (o : Origin) → IsOrigin features (Contains broken) part o → IsOrigin features (HasLeft features zones) part o
+    left-origin part (Whole k) h = h
+    left-origin part Broken (j, j_in, is) =
+        let (p, in_l, squares) = b.whole j part j_in in
+        (p, subst (λ s. Covers s p) is ((squares p).1 (here in_l)), in_l)
+
     apart-from : (k j : ℕ) → k < length features → j < length broken → get_or marks k false ≡ false → AreApart (get_or features k []) (get_or broken j [])
     apart-from k j k_in j_in mark p in_k in_j =
         let in_l = in-set (left_region features zones) broken j p b j_in in_j in
@@ -133,7 +142,7 @@ module _ (rule overlap : ℕ) (features : List (List Rect)) (zones : List Zone) 
         λ h. (let (k, part, k_in, is, has) = h.0 in covered p k (get_or marks k false) k_in refl (subst (λ s. Covers s p) (sym is ∙ get_or_default features k part [] k_in) has) h.1),
       )
 
-      pub woven-components : AreComponents (without (union_of features) zones) out
+      woven-components : AreComponents (without (union_of features) zones) out
       woven-components =
           record {
             canonical = each-part IsCanonical (λ k k_in mark. c.canonical k [] k_in) (λ j j_in. b.canonical j [] j_in);
@@ -142,7 +151,7 @@ module _ (rule overlap : ℕ) (features : List (List Rect)) (zones : List Zone) 
             ordered = ordered;
           }
 
-      pub woven-parts : All (AreRectsWithin farthest) features → All (AreRectsWithin farthest) broken → AreParts out
+      woven-parts : All (AreRectsWithin farthest) features → All (AreRectsWithin farthest) broken → AreParts out
       woven-parts in_features in_broken =
           record {
             apart = λ i j d l j_in p in_i in_j.
@@ -151,4 +160,12 @@ module _ (rule overlap : ℕ) (features : List (List Rect)) (zones : List Zone) 
                 omega (arith, l, same));
             canonical = woven-components.canonical;
             within = each-part (AreRectsWithin farthest) (λ k k_in mark. in_features k [] k_in) (λ j j_in. in_broken j [] j_in);
+          }
+
+      pub woven-cut : All (AreRectsWithin farthest) features → All (AreRectsWithin farthest) broken → (origins : List Origin) → AllZip (IsOrigin features (Contains broken)) out origins → AreCut features zones out origins
+      woven-cut in_features in_broken origins are =
+          record {
+            components = woven-components;
+            apart = woven-parts in_features in_broken;
+            known = zip-weaker (IsOrigin features (Contains broken)) (IsOrigin features (HasLeft features zones)) left-origin out origins are;
           }

@@ -1,12 +1,12 @@
 -- Two lists of sets woven into one.
-use Rattle.std.proofs.Common.{◌≡◌, ℕ, ◌+◌, ◌<◌, ◌≤◌, ◌⊎◌, inl, inr, Bool, true, false, List, [], ◌∷◌, ◌++◌, length, get_or, sym, ap, ◌∙◌, subst, arith}
+use Rattle.std.proofs.Common.{◌≡◌, ◌≢◌, ℕ, ◌+◌, ◌<◌, ◌≤◌, ◌⊎◌, inl, inr, Bool, true, false, List, [], ◌∷◌, ◌++◌, length, get_or, drop, refl, sym, ap, ◌∙◌, subst, arith}
 use Rattle.std.specs.Prelude.{◌↔◌}
-use Rattle.std.specs.List.{Contains}
+use Rattle.std.specs.List.{All, AllZip, Contains}
 use Rattle.std.proofs.lemmas.Int.{ints, by_lt_z}
-use Rattle.std.proofs.lemmas.Bool.{cases_eq}
-use Rattle.std.proofs.lemmas.List.{get_or_default}
+use Rattle.std.proofs.lemmas.Bool.{cases_eq, cases_lt}
+use Rattle.std.proofs.lemmas.List.{append_assoc, get_or_at, get_or_default, drop_more, drop_all, length-append, length-drop}
 use Rattle.std.proofs.lemmas.List.Quantifiers.{all_pairs_push}
-use Rattle.std.proofs.lemmas.List.Elements.{Contains-append_left, Contains-push, Contains-push_cases}
+use Rattle.std.proofs.lemmas.List.Elements.{All-drop, Contains-append_left, Contains-push, Contains-push_cases}
 use Rattle.dpl_spec.specs.declared.Pt.{Pt}
 use Rattle.dpl_spec.specs.declared.Rect.{Rect}
 use Rattle.dpl_spec.specs.Squares.{Covers, IsLeast, Precedes}
@@ -14,7 +14,10 @@ use Rattle.dpl_spec.specs.Components.{ComesFirst}
 use Rattle.dpl_spec.proofs.Ordered.{Contains-nil}
 use Rattle.dpl_spec.proofs.SquareLaws.{IsLeast-unique, SameSquares-refl}
 use Rattle.dpl_slabs.specs.Parts.{AreApart}
-use Rattle.dpl_piece.specs.Merging.{IsFree, IsFirstPart, CanWeave, IsWoven}
+use Rattle.dpl_piece.specs.declared.origin.Origin.{Origin}
+use Rattle.dpl_piece.specs.declared.origin.Origin.TheVariants.{Whole, Broken}
+use Rattle.dpl_piece.specs.Merging.{IsFree, IsFirstPart, CanWeave, IsOrigin, IsWoven}
+use Rattle.dpl_piece.proofs.CornerLaws.{zip-push}
 use Rattle.dpl_piece.proofs.OwnerLaws.{same_point}
 
 Precedes-trans : (p q r : Pt) → Precedes p q → Precedes q r → Precedes p r
@@ -172,3 +175,89 @@ woven-all parts others marks out w s = (
   λ h. elim ((w.members s).0 h) [ inl a ↦ inl a | inr (k, l, k_in, is) ↦ inr (k, k_in, is) ],
   λ h. (w.members s).1 (elim h [ inl a ↦ inl a | inr (k, k_in, is) ↦ inr (k, k_in, k_in, is) ]),
 )
+
+-- the first m parts and some of the others are woven, and the rest of the others are left
+pub record IsWeaving (parts : List (List Rect)) (marks : List Bool) (others : List (List Rect)) (m : ℕ) (rest out : List (List Rect)) (origins : List Origin) : Type 0 where
+  pub taken : ℕ
+  pub few : taken ≤ length others
+  pub rest_is : rest ≡ drop taken others
+  pub woven : IsWoven parts marks others m taken out
+  pub are : AllZip (IsOrigin parts (Contains others)) out origins
+
+pub weaving-none : (parts others : List (List Rect)) (marks : List Bool) (rest out : List (List Rect)) (origins : List Origin) → rest ≡ others → out ≡ [] → origins ≡ [] → IsWeaving parts marks others 0 rest out origins
+weaving-none parts others marks rest out origins rest_is none no_origin = record {
+  taken = 0;
+  few = omega arith;
+  rest_is = rest_is;
+  woven = woven-none parts others marks out none;
+  are = rw (none, no_origin) tt;
+}
+
+first-of : {A : Type 0} (xs rest : List A) (n : ℕ) (d : A) → n < length xs → rest ≡ drop n xs → (0 < length rest) × (get_or rest 0 d ≡ get_or xs n d)
+first-of xs rest n d l rest_is = rw (rest_is, drop_more xs n d l) (omega arith, refl)
+
+-- the next of a list from n on
+next-at : {A : Type 0} (xs rest later : List A) (n : ℕ) (x d : A) → rest ≡ drop n xs → rest ≡ x ∷ later → (n < length xs) × (x ≡ get_or xs n d) × (later ≡ drop (n + 1) xs)
+next-at xs rest later n x d rest_is more = elim (cases_lt n (length xs)) [
+  | inl l ↦ (let e : x ∷ later ≡ get_or xs n d ∷ drop (n + 1) xs = sym more ∙ (rest_is ∙ drop_more xs n d l) in (l, cc, cc))
+  | inr m ↦ absurd (let e : x ∷ later ≡ [] = sym more ∙ (rest_is ∙ drop_all n xs m) in cc)
+]
+
+module _ (parts others : List (List Rect)) (marks : List Bool) (can : CanWeave parts marks others) (m : ℕ) (rest out : List (List Rect)) (origins : List Origin) (w : IsWeaving parts marks others m rest out origins) where
+  pub weaving-skip : get_or marks m false ≡ true → IsWeaving parts marks others (m + 1) rest out origins
+  weaving-skip marked = record { taken = w.taken; few = w.few; rest_is = w.rest_is; woven = woven-skip parts others marks can m w.taken out w.woven marked; are = w.are }
+
+  pub rest-some : All (λ s. s ≢ []) rest
+  rest-some = rw w.rest_is (All-drop (λ s. s ≢ []) w.taken others can.others_some)
+
+  pub rest-apart : (part : List Rect) → m < length parts → part ≡ get_or parts m [] → get_or marks m false ≡ false → All (AreApart part) rest
+  rest-apart part m_in part_is mark =
+      rw (w.rest_is, part_is)
+      (All-drop (AreApart (get_or parts m [])) w.taken others (λ k d k_in. subst (AreApart (get_or parts m [])) (get_or_default others k [] d k_in) (can.apart m k m_in k_in mark)))
+
+  module _ (x : List Rect) (new : List (List Rect)) (new_is : new ≡ out ++ x ∷ []) where
+    pub weaving-part : (names : List Origin) → names ≡ origins ++ Whole m ∷ [] → m < length parts → x ≡ get_or parts m [] → get_or marks m false ≡ false → (0 < length rest → ComesFirst x (get_or rest 0 [])) → IsWeaving parts marks others (m + 1) rest new names
+    weaving-part names names_are m_in x_is mark before = record {
+      taken = w.taken;
+      few = w.few;
+      rest_is = w.rest_is;
+      woven = woven-part parts others marks can m w.taken out w.woven new x new_is m_in x_is mark (λ l.
+          let (some, same) = first-of others rest w.taken [] l w.rest_is in
+          subst (λ s. ComesFirst s (get_or others w.taken [])) x_is (subst (ComesFirst x) same (before some)));
+      are = rw (new_is, names_are) (zip-push (IsOrigin parts (Contains others)) out origins x (Whole m) w.are (m_in, sym x_is));
+    }
+
+    module _ (later : List (List Rect)) (names : List Origin) (more : rest ≡ x ∷ later) (names_are : names ≡ origins ++ Broken ∷ []) where
+      others-more : IsWoven parts marks others m (w.taken + 1) new → IsWeaving parts marks others m later new names
+      others-more next =
+          let (n_in, x_is, later_is) = next-at others rest later w.taken x [] w.rest_is more in
+          record {
+            taken = w.taken + 1;
+            few = omega (arith, n_in);
+            rest_is = later_is;
+            woven = next;
+            are = rw (new_is, names_are) (zip-push (IsOrigin parts (Contains others)) out origins x Broken w.are (w.taken, n_in, get_or_default others w.taken x [] n_in ∙ sym x_is));
+          }
+
+      pub weaving-other : m < length parts → ComesFirst x (get_or parts m []) → IsWeaving parts marks others m later new names
+      weaving-other m_in next =
+          let (n_in, x_is, later_is) = next-at others rest later w.taken x [] w.rest_is more in
+          others-more (woven-other parts others marks can m w.taken out w.woven new x new_is n_in x_is m_in (subst (λ s. ComesFirst s (get_or parts m [])) x_is next))
+
+      pub weaving-rest : length parts ≤ m → IsWeaving parts marks others m later new names
+      weaving-rest all =
+          let (n_in, x_is, later_is) = next-at others rest later w.taken x [] w.rest_is more in
+          others-more (woven-rest parts others marks can m w.taken out w.woven new x new_is n_in x_is all)
+
+pub weaving-all : (parts others : List (List Rect)) (marks : List Bool) (rest out : List (List Rect)) (origins : List Origin) → length rest ≡ 0 → IsWeaving parts marks others (length parts) rest out origins
+    → (s : List Rect) → Contains out s ↔ (IsFree parts marks (length parts) s ⊎ Contains others s)
+weaving-all parts others marks rest out origins none w =
+    let long : w.taken ≡ length others = omega (arith, w.few, ap length w.rest_is, length-drop w.taken others, none) in
+    woven-all parts others marks out (subst (λ n. IsWoven parts marks others (length parts) n out) long w.woven)
+
+-- one more of a list that is gone through
+pub turn : (xs done rest later : List (List Rect)) (x : List Rect) (n : ℕ) → done ++ rest ≡ xs → rest ≡ x ∷ later → n ≡ length done → ((done ++ x ∷ []) ++ later ≡ xs) × (n < length xs) × (x ≡ get_or xs n []) × (n + 1 ≡ length (done ++ x ∷ []))
+turn xs done rest later x n all next n_is =
+    let whole : done ++ (x ∷ later) ≡ xs = ap (λ t. done ++ t) (sym next) ∙ all in
+    let long : length done + length (x ∷ later) ≡ length xs = sym (length-append done (x ∷ later)) ∙ ap length whole in
+    (append_assoc done (x ∷ []) later ∙ whole, omega (arith, n_is, long), sym (get_or_at done x later [] n (sym n_is)) ∙ ap (λ t. get_or t n []) whole, omega (arith, n_is, length-append done (x ∷ [])))

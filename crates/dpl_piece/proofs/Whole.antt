@@ -1,24 +1,27 @@
 -- Pieces, with their owners, keys and sides.
-use Rattle.std.proofs.Common.{◌≡◌, ℕ, zero, suc, ◌≤◌, ◌<◌, ◌⊎◌, inl, inr, List, [], ◌∷◌, length, get_or, sym, refl, ap, ◌∙◌, subst, arith}
-use Rattle.std.specs.Prelude.{pos, ◌≤ℤ◌, ◌<ℤ◌}
+use Rattle.std.proofs.Common.{◌≡◌, ℕ, zero, suc, ◌≤◌, ◌<◌, ◌⊎◌, inl, inr, List, [], ◌∷◌, length, get_or, map, sym, refl, ap, ◌∙◌, subst, arith}
+use Rattle.std.specs.Prelude.{◌≤ℤ◌, ◌<ℤ◌}
 use Rattle.std.specs.List.{AllZip, Any, Contains}
 use Rattle.std.proofs.lemmas.Int.{ints, by_lt_z}
-use Rattle.std.proofs.lemmas.List.{get_or_default}
+use Rattle.std.proofs.lemmas.List.{get_or_default, get_or-map, length-map}
 use Rattle.dpl_spec.specs.declared.Pt.{Pt}
 use Rattle.dpl_spec.specs.declared.Rect.{Rect}
 use Rattle.dpl_spec.specs.declared.Zone.{Zone}
-use Rattle.dpl_spec.specs.Squares.{Region, Covers, Has, Touch, IsLeast}
+use Rattle.dpl_spec.specs.Squares.{Region, Covers, Has, Touch}
 use Rattle.dpl_spec.specs.Components.{Linked, here, on, AreComponents}
 use Rattle.dpl_spec.specs.Zones.{AreZones, part_at}
 use Rattle.dpl_spec.specs.Pieces.{without, IsFirstSide, IsSecondSide, AreSides, IsOwner}
 use Rattle.dpl_spec.proofs.SquareLaws.{Touch-sym}
 use Rattle.dpl_spec.proofs.ComponentLaws.{Linked-start, Linked-trans, Linked-sym}
 use Rattle.dpl_spec.proofs.SideLaws.{sides-unique}
-use Rattle.dpl_piece.specs.Corners.{StandBeside}
-use Rattle.dpl_piece.specs.Owners.{IsSideOf, AreOwnersBy}
+use Rattle.dpl_piece.specs.declared.origin.Origin.{Origin}
+use Rattle.dpl_piece.specs.declared.origin.Origin.TheVariants.{Whole, Broken}
+use Rattle.dpl_piece.specs.Corners.{IsBroken, StandBeside, StandBroken}
+use Rattle.dpl_piece.specs.Merging.{HasLeft, IsOrigin}
+use Rattle.dpl_piece.specs.Owners.{IsSideOf, AreMarked, whole_number}
 use Rattle.dpl_piece.proofs.CornerLaws.{zip-length, zip-at, zip-from}
-use Rattle.dpl_piece.proofs.Beside.{in-set, some-part, closed}
-use Rattle.dpl_piece.proofs.Stands.{touching-in, sides-from_stand}
+use Rattle.dpl_piece.proofs.Beside.{in-set, closed, kept, kept-inside}
+use Rattle.dpl_piece.proofs.Stands.{touching-in, sides-from_stand, solid-zone, stand}
 
 has_or_not : (r : Rect) (p : Pt) → Has r p ⊎ (Has r p → ⊥)
 has_or_not r p =
@@ -50,11 +53,38 @@ place_beside r p none =
     by_lt_z p.x r.x1 (λ d. by_lt_z p.y r.y1 (λ e. absurd (none (record { left = a; right = d; low = b; high = e }))) (λ l. inr (inr l)))
     (λ l. inr (inl l))))
 
+is-broken : (features : List (List Rect)) (P : List Rect → Type 0) (part : List Rect) (o : Origin) → IsOrigin features P part o → ((k : ℕ) → k < length features → get_or features k [] ≡ part → ⊥) → o ≡ Broken
+is-broken features P part (Whole k) h none = absurd (none k h.0 h.1)
+is-broken features P part Broken h none = refl
+
+-- the pieces beside a zone are broken
 module _ (rule overlap : ℕ) (layer : Region) (features pieces : List (List Rect)) (zones : List Zone) (some : 1 ≤ overlap) (c : AreComponents layer features) (zs : AreZones rule overlap layer features zones) (ps : AreComponents (without layer zones) pieces)
-    (sides : List (ℕ × ℕ)) (stand : AllZip (StandBeside pieces) zones sides) where
+    (origins : List Origin) (P : List Rect → Type 0) (are : AllZip (IsOrigin features P) pieces origins) (z : Zone) (z_in : Contains zones z) where
+  touching-broken : (i : ℕ) (p q : Pt) → i < length pieces → part_at pieces i p → Has z.rect q → Touch p q → IsBroken origins i
+  touching-broken i p q i_in in_p in_z touch =
+      let (f_in, kept_z) = kept rule overlap layer features zones c zs z z_in in
+      let in_layer : layer q = in-set layer features z.feature q c f_in (kept-inside rule overlap layer features zones c zs (part_at features z.feature) z.rect q kept_z in_z) in (
+        subst (λ n. i < n) (zip-length (IsOrigin features P) pieces origins are) i_in,
+        is-broken features P (get_or pieces i []) (get_or origins i Broken) (zip-at (IsOrigin features P) pieces origins i [] Broken are i_in) (λ k k_in same.
+            let in_k : part_at features k q = closed layer features k q p c k_in in_layer (subst (λ s. Covers s p) (sym same) in_p) (Touch-sym p q touch) in
+            let rest : without layer zones q = in-set (without layer zones) pieces i q ps i_in (subst (λ s. Covers s q) same in_k) in
+            let (n, n_in, n_is) = z_in in
+            rest.1 (n, z, n_in, n_is, in_z)),
+      )
+
+  pub stand-broken : (side : ℕ × ℕ) × StandBroken pieces origins z side
+  stand-broken =
+      let (side, st) = stand rule overlap layer features pieces zones some c zs ps z z_in in
+      let are_sides : AreSides features pieces z side = sides-from_stand rule overlap layer features pieces zones some c zs ps z z_in side st in
+      let (p, q, in_p, in_z, touch, before) = are_sides.first in
+      let (r, t, in_r, in_y, meet, after) = are_sides.second in
+      (side, (st, touching-broken side.0 p q are_sides.known.0 in_p in_z touch, touching-broken side.1 r t are_sides.known.1 in_r in_y meet))
+
+module _ (rule overlap : ℕ) (layer : Region) (features pieces : List (List Rect)) (zones : List Zone) (some : 1 ≤ overlap) (c : AreComponents layer features) (zs : AreZones rule overlap layer features zones) (ps : AreComponents (without layer zones) pieces)
+    (sides : List (ℕ × ℕ)) (stand_so : AllZip (StandBeside pieces) zones sides) where
   pub sided : AllZip (AreSides features pieces) zones sides
-  sided = zip-from (AreSides features pieces) zones sides (zip-length (StandBeside pieces) zones sides stand)
-      (λ k z s k_in. sides-from_stand rule overlap layer features pieces zones some c zs ps (get_or zones k z) (k, k_in, get_or_default zones k (get_or zones k z) z k_in) (get_or sides k s) (zip-at (StandBeside pieces) zones sides k z s stand k_in))
+  sided = zip-from (AreSides features pieces) zones sides (zip-length (StandBeside pieces) zones sides stand_so)
+      (λ k z s k_in. sides-from_stand rule overlap layer features pieces zones some c zs ps (get_or zones k z) (k, k_in, get_or_default zones k (get_or zones k z) z k_in) (get_or sides k s) (zip-at (StandBeside pieces) zones sides k z s stand_so k_in))
 
   side-at : (j : ℕ) (z : Zone) (s : ℕ × ℕ) → j < length zones → get_or zones j z ≡ z → AreSides features pieces z (get_or sides j s)
   side-at j z s j_in is = subst (λ y. AreSides features pieces y (get_or sides j s)) is (zip-at (AreSides features pieces) zones sides j z s sided j_in)
@@ -113,36 +143,44 @@ module _ (rule overlap : ℕ) (layer : Region) (features pieces : List (List Rec
       ] in
       stays-on i i_in none l next
 
-  -- a piece on no side is a whole feature
-  whole-feature : (i : ℕ) (key : Pt) → i < length pieces → ((j : ℕ) → j < length zones → IsSideOf sides j i → ⊥) → IsLeast (part_at pieces i) key → (k : ℕ) × (k < length features) × IsLeast (part_at features k) key
-  whole-feature i key i_in none least =
-      let rest : without layer zones key = in-set (without layer zones) pieces i key ps i_in least.inside in
-      let (k, k_in, in_k) = some-part layer features key c rest.0 in
+  -- a piece with squares of a feature that has a zone is on a side of a zone
+  left-beside : (i : ℕ) → i < length pieces → ((j : ℕ) → j < length zones → IsSideOf sides j i → ⊥) → HasLeft features zones (get_or pieces i []) → ⊥
+  left-beside i i_in none (p, in_p, ((k, k_in, (z, z_in, z_is), in_k), free)) =
+      let solid = solid-zone rule overlap layer features zones some c zs z z_in in
+      let wide = solid.0 in
+      let tall = solid.1 in
+      let q : Pt = record { x = z.rect.x0; y = z.rect.y0 } in
+      let q_in : Has z.rect q = record { left = omega (arith, ints); right = wide; low = omega (arith, ints); high = tall } in
+      let (f_in, kept_z) = kept rule overlap layer features zones c zs z z_in in
+      let in_q : part_at features k q = subst (λ n. part_at features n q) z_is (kept-inside rule overlap layer features zones c zs (part_at features z.feature) z.rect q kept_z q_in) in
       let whole = c.whole k [] k_in in
-      let inside : (q : Pt) → part_at features k q → part_at pieces i q = λ q in_q.
-      stays-on i i_in none (Linked-trans layer (Linked-sym layer ((whole.2 key).0 in_k)) ((whole.2 q).0 in_q)) least.inside in
-      (k, k_in, record { inside = in_k; first = λ q in_q. least.first q (inside q in_q) })
+      let reached : part_at pieces i q = stays-on i i_in none (Linked-trans layer (Linked-sym layer ((whole.2 p).0 in_k)) ((whole.2 q).0 in_q)) in_p in
+      let rest : without layer zones q = in-set (without layer zones) pieces i q ps i_in reached in
+      let (n, n_in, n_is) = z_in in
+      rest.1 (n, z, n_in, n_is, q_in)
 
-  module _ (keys : List Pt) (owners : List ℕ) (keyed : AllZip (λ piece key. IsLeast (Covers piece) key) pieces keys) (by : AreOwnersBy features keys zones sides owners) where
-    owner-at : (i : ℕ) (o : ℕ) → i < length pieces → o ≡ get_or owners i 0 → IsOwner features (get_or pieces i []) o
-    owner-at i o i_in o_is =
-        let z : Pt = record { x = pos 0; y = pos 0 } in
-        let key : Pt = get_or keys i z in
-        let long : length pieces ≡ length keys = zip-length (λ piece k. IsLeast (Covers piece) k) pieces keys keyed in
-        let key_in : i < length keys = subst (λ n. i < n) long i_in in
-        let least : IsLeast (part_at pieces i) key = zip-at (λ piece k. IsLeast (Covers piece) k) pieces keys i [] z keyed i_in in
-        elim (by.owner i key key_in (get_or_default keys i key z key_in)) [
-          | inl (j, y, l, j_in, is, side, feature) ↦ subst (λ n. IsOwner features (get_or pieces i []) n) (sym (o_is ∙ feature)) (side-in i j y i_in j_in is side)
-          | inr (none, found) ↦ elim found [
-            | inl (k_in, first) ↦ subst (λ n. IsOwner features (get_or pieces i []) n) (sym o_is) (lies-in i (get_or owners i 0) key i_in k_in least.inside first.inside)
-            | inr missing ↦ (let (k, k_in, first) = whole-feature i key i_in none least in absurd (missing k k_in first))
-          ]
+  -- the owner of a piece on no side
+  owner-of : (i : ℕ) (o : Origin) → i < length pieces → ((j : ℕ) → j < length zones → IsSideOf sides j i → ⊥) → IsOrigin features (HasLeft features zones) (get_or pieces i []) o → IsOwner features (get_or pieces i []) (whole_number o)
+  owner-of i (Whole k) i_in none (k_in, same) = (k_in, λ q in_q. subst (λ s. Covers s q) (sym same) in_q)
+  owner-of i Broken i_in none left = absurd (left-beside i i_in none left)
+
+  module _ (origins : List Origin) (owners : List ℕ) (are : AllZip (IsOrigin features (HasLeft features zones)) pieces origins) (by : AreMarked zones sides (length zones) (map whole_number origins) owners) where
+    owner-at : (i : ℕ) → i < length pieces → IsOwner features (get_or pieces i []) (get_or owners i 0)
+    owner-at i i_in =
+        let o_in : i < length origins = subst (λ n. i < n) (zip-length (IsOrigin features (HasLeft features zones)) pieces origins are) i_in in
+        let first : get_or (map whole_number origins) i 0 ≡ whole_number (get_or origins i Broken) = get_or-map whole_number origins i Broken 0 o_in in
+        elim (by.marked i (subst (λ n. i < n) (sym (length-map origins whole_number)) o_in)) [
+          | inl (j, y, l, j_in, is, side, feature) ↦ subst (λ n. IsOwner features (get_or pieces i []) n) (sym feature) (side-in i j y i_in j_in is side)
+          | inr (none, kept_so) ↦ subst (λ n. IsOwner features (get_or pieces i []) n) (sym (kept_so ∙ first))
+              (owner-of i (get_or origins i Broken) i_in none (zip-at (IsOrigin features (HasLeft features zones)) pieces origins i [] Broken are i_in))
         ]
+
+    pub owners-each : length owners ≡ length pieces
+    owners-each = by.each ∙ (length-map origins whole_number ∙ sym (zip-length (IsOrigin features (HasLeft features zones)) pieces origins are))
 
     pub owned : AllZip (IsOwner features) pieces owners
     owned =
-        let long : length pieces ≡ length owners = zip-length (λ piece k. IsLeast (Covers piece) k) pieces keys keyed ∙ sym by.each in
-        zip-from (IsOwner features) pieces owners long
+        zip-from (IsOwner features) pieces owners (sym owners-each)
         (λ i d e i_in.
         subst (λ s. IsOwner features s (get_or owners i e)) (get_or_default pieces i [] d i_in)
-        (owner-at i (get_or owners i e) i_in (get_or_default owners i e 0 (subst (λ n. i < n) long i_in))))
+        (subst (λ n. IsOwner features (get_or pieces i []) n) (get_or_default owners i 0 e (subst (λ n. i < n) (sym owners-each) i_in)) (owner-at i i_in)))

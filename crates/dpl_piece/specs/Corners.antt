@@ -6,6 +6,8 @@ use Rattle.dpl_spec.specs.declared.Zone.{Zone}
 use Rattle.dpl_piece.specs.declared.corner.Corner.{Corner}
 use Rattle.dpl_piece.specs.declared.corner.Kind.{Kind}
 use Rattle.dpl_piece.specs.declared.corner.Kind.TheVariants.{LowerLeft, LowerRight, UpperLeft}
+use Rattle.dpl_piece.specs.declared.origin.Origin.{Origin}
+use Rattle.dpl_piece.specs.declared.origin.Origin.TheVariants.{Broken}
 
 abbrev pub corner_at : ℤ → ℤ → ℕ → Corner
 corner_at x y k = record { x = x; y = y; part = k }
@@ -35,7 +37,15 @@ StandBeside parts z side =
     (IsCornerOf LowerRight parts (corner_at z.rect.x0 z.rect.y0 side.0) ⊎ IsCornerOf UpperLeft parts (corner_at z.rect.x0 z.rect.y0 side.0))
     × (IsCornerOf LowerLeft parts (corner_at z.rect.x1 z.rect.y0 side.1) ⊎ IsCornerOf LowerLeft parts (corner_at z.rect.x0 z.rect.y1 side.1))
 
--- the same of lists of all corners
+-- a part of this number is broken
+abbrev pub IsBroken : List Origin → ℕ → Type 0
+IsBroken origins k = (k < length origins) × (slice_index_or origins k Broken ≡ Broken)
+
+-- the same, of parts that are broken
+abbrev pub StandBroken : List (List Rect) → List Origin → Zone → ℕ × ℕ → Type 0
+StandBroken parts origins z side = StandBeside parts z side × IsBroken origins side.0 × IsBroken origins side.1
+
+-- the parts have the corners, by lists of corners
 abbrev pub AreFound : List Corner → List Corner → List Corner → Rect → ℕ × ℕ → Type 0
 AreFound lower_left lower_right upper_left z side =
     (Contains lower_right (corner_at z.x0 z.y0 side.0) ⊎ Contains upper_left (corner_at z.x0 z.y0 side.0))

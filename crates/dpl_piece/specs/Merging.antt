@@ -1,12 +1,16 @@
 -- Features with and without zones, what zones leave of those that have some, and both woven into one list.
 use Rattle.std.specs.Prelude.{◌≡◌, ◌≢◌, ℕ, ◌<◌, ◌≤◌, ◌⊎◌, ◌↔◌, Bool, true, false, List, [], length, slice_index_or}
-use Rattle.std.specs.List.{All, AllPairs, Any, Contains}
+use Rattle.std.specs.List.{All, AllPairs, AllZip, Any, Contains}
 use Rattle.dpl_spec.specs.declared.Rect.{Rect}
 use Rattle.dpl_spec.specs.declared.Zone.{Zone}
-use Rattle.dpl_spec.specs.Squares.{Region, Has}
-use Rattle.dpl_spec.specs.Components.{ComesFirst}
+use Rattle.dpl_spec.specs.declared.Pt.{Pt}
+use Rattle.dpl_spec.specs.Squares.{Region, Covers, Has}
+use Rattle.dpl_spec.specs.Components.{AreComponents, ComesFirst}
 use Rattle.dpl_spec.specs.Zones.{part_at}
-use Rattle.dpl_slabs.specs.Parts.{AreApart}
+use Rattle.dpl_spec.specs.Pieces.{without}
+use Rattle.dpl_slabs.specs.Parts.{AreApart, AreParts, union_of}
+use Rattle.dpl_piece.specs.declared.origin.Origin.{Origin}
+use Rattle.dpl_piece.specs.declared.origin.Origin.TheVariants.{Whole, Broken}
 
 -- feature k has a zone
 abbrev pub HasZone : List Zone → ℕ → Type 0
@@ -24,6 +28,21 @@ pub record MarkZoned (features : List (List Rect)) (zones : List Zone) (marks : 
 -- squares of features with a zone that no zone has
 abbrev pub left_region : List (List Rect) → List Zone → Region
 left_region features zones p = ((k : ℕ) × (k < length features) × HasZone zones k × part_at features k p) × ¬ Any (λ z. Has z.rect p) zones
+
+-- a square of the part is one of those
+abbrev pub HasLeft : List (List Rect) → List Zone → List Rect → Type 0
+HasLeft features zones part = (p : Pt) × Covers part p × left_region features zones p
+
+-- the part is the whole feature of the origin's number, or a broken one, of which P holds
+abbrev pub IsOrigin : List (List Rect) → (List Rect → Type 0) → List Rect → Origin → Type 0
+IsOrigin features P part (Whole k) = (k < length features) × (slice_index_or features k [] ≡ part)
+IsOrigin features P part Broken = P part
+
+-- the components of what the zones leave of the features, each with its origin
+pub record AreCut (features : List (List Rect)) (zones : List Zone) (parts : List (List Rect)) (origins : List Origin) : Type 0 where
+  pub components : AreComponents (without (union_of features) zones) parts
+  pub apart : AreParts parts
+  pub known : AllZip (IsOrigin features (HasLeft features zones)) parts origins
 
 -- one of the first n parts that isn't marked
 abbrev pub IsFree : List (List Rect) → List Bool → ℕ → List Rect → Type 0

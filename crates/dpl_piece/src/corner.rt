@@ -3,8 +3,9 @@ ghost use Rattle.std.specs.Prelude.{ℕ, slice_index_or, ◌≡◌, ◌≤◌, �
 ghost use Rattle.std.specs.List.{Contains};
 ghost use Rattle.std.specs.List.Sorted.{IsPermutation};
 ghost use Rattle.dpl_piece.specs.declared.corner.Corner.{Corner};
-ghost use Rattle.dpl_piece.specs.Corners.{corner_at, corner_of, IsFirstCorner, IsCornerOf, IsBelow, RiseByCorner};
+ghost use Rattle.dpl_piece.specs.Corners.{corner_at, corner_of, IsCornerOf, IsBroken, IsBelow, RiseByCorner};
 
+use crate::origin::Origin;
 use dpl_base::{Id, Rect};
 use dpl_slabs::Slabs;
 use std::alloc::{AllocError, Global};
@@ -64,20 +65,29 @@ fn add_corners(
 }
 
 /// Sorts by row, and then by column.
-pub fn sort_by_corner(corners: &mut Vec<Corner>)
+fn sort_by_corner(corners: &mut Vec<Corner>)
     ensures same { IsPermutation corners.old.items corners.new.items }
     ensures rise { RiseByCorner corners.new.items }
 {
     corners.sort_unstable_by_key(|c| (c.y, c.x));
 }
 
-/// The corners of all parts' slabs, by row and then by column.
-pub fn corners(alloc: Global, parts: &[Slabs], kind: Kind) -> Result<Vec<Corner>, AllocError>
+/// The corners of the slabs of the parts that are broken, by row and then by column.
+pub fn corners(
+    alloc: Global,
+    parts: &[Slabs],
+    origins: &[Origin],
+    kind: Kind,
+) -> Result<Vec<Corner>, AllocError>
+    requires { length origins.now ≡ length parts.now }
     ensures rise { IfOk result (λ v. RiseByCorner v.items) }
-    ensures members { IfOk result (λ v. (c : Corner) → Contains v.items c ↔ IsCornerOf kind parts.now c) }
+    ensures members { IfOk result (λ v. (c : Corner) → Contains v.items c ↔ (IsCornerOf kind parts.now c × IsBroken origins.now c.part)) }
 {
     let mut found = Vec::new(alloc);
     for k in 0..parts.len() {
+        let Origin::Broken = origins[k] else {
+            continue;
+        };
         add_corners(&mut found, parts[k].rects(), k as Id, kind)?;
     }
     sort_by_corner(&mut found);

@@ -10,6 +10,7 @@ ghost use Rattle.dpl_slabs.specs.Parts.{union_of};
 ghost use Rattle.dpl_piece.specs.Cutting.{rects_of_zones, AreFeatures, AreTheirZones, AreTheirPieces};
 
 use crate::matched::Pieces;
+use crate::origin::Woven;
 use crate::owner::{keys_of, owners_of};
 use crate::rest::parts_of;
 use crate::side::sides_of;
@@ -17,18 +18,19 @@ use dpl_base::Zone;
 use dpl_slabs::Parts;
 use std::alloc::{AllocError, Global};
 
-/// The pieces that the zones of features leave of them.
-pub fn pieces(alloc: Global, features: &Parts, zones: &[Zone]) -> Result<Pieces, AllocError>
-    requires features { AreFeatures features.now }
-    requires zones { AreTheirZones features.now zones.now }
+/// The pieces that the zones of features leave of them. A feature without a zone is moved, as it is.
+pub fn pieces(alloc: Global, features: Parts, zones: &[Zone]) -> Result<Pieces, AllocError>
+    requires features { AreFeatures features }
+    requires zones { AreTheirZones features zones.now }
     ensures zones { IfOk result (λ p. p.zones ≡ zones.now) }
-    ensures pieces { IfOk result (λ p. AreTheirPieces features.now zones.now p) }
+    ensures pieces { IfOk result (λ p. AreTheirPieces features zones.now p) }
 {
-    let items = features.items();
-    let parts = parts_of(alloc, items, zones)?;
-    let sides = sides_of(alloc, parts.items(), zones)?;
+    let Woven { parts, origins } = parts_of(alloc, features.into_vec(), zones)?;
+    let parts = Parts::of(parts);
+    let sides = sides_of(alloc, parts.items(), &origins, zones)?;
+    let owner = owners_of(alloc, &origins, zones, &sides)?;
+    drop(origins);
     let keys = keys_of(alloc, parts.items())?;
-    let owner = owners_of(alloc, items, &keys, zones, &sides)?;
     let zones = Vec::from_slice(alloc, zones)?;
     Ok(Pieces::of(parts, owner, keys, zones, sides))
 }

@@ -4,6 +4,7 @@
 mod corner;
 mod cut;
 mod matched;
+mod origin;
 mod owner;
 mod rest;
 mod side;

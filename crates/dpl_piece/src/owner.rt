@@ -1,14 +1,10 @@
 //! The key of each piece, and the feature that it lies in.
-ghost use Rattle.std.specs.Prelude.{ℕ, ◌≡◌, ◌≢◌, ◌<◌, ◌⊎◌, ◌↔◌, [], length, slice_index, slice_index_or, IfOk};
-ghost use Rattle.std.specs.List.{All, AllZip, Contains};
-ghost use Rattle.dpl_spec.specs.declared.Pt.{Pt};
+ghost use Rattle.std.specs.Prelude.{◌≡◌, ◌≢◌, ◌<◌, [], length, map, IfOk};
+ghost use Rattle.std.specs.List.{All, AllZip};
 ghost use Rattle.dpl_spec.specs.Squares.{Covers, IsLeast};
-ghost use Rattle.dpl_spec.specs.Zones.{at};
-ghost use Rattle.dpl_piece.specs.declared.corner.Corner.{Corner};
-ghost use Rattle.dpl_piece.specs.Corners.{corner_at, RiseByCorner};
-ghost use Rattle.dpl_piece.specs.Owners.{IsNumbered, IsWholeOrNone, AreMarked, AreSidesKnown, AreOwnersBy};
+ghost use Rattle.dpl_piece.specs.Owners.{AreMarked, AreSidesKnown, whole_number};
 
-use crate::corner::{Corner, find, sort_by_corner};
+use crate::origin::Origin;
 use dpl_base::{Id, Pt, Zone};
 use dpl_slabs::Slabs;
 use std::alloc::{AllocError, Global};
@@ -36,45 +32,14 @@ pub fn keys_of(alloc: Global, parts: &[Slabs]) -> Result<Vec<Pt>, AllocError>
     Ok(keys)
 }
 
-/// Points with their numbers, by row and then by column.
-fn numbered(alloc: Global, points: &[Pt]) -> Result<Vec<Corner>, AllocError>
-    ensures rise { IfOk result (λ v. RiseByCorner v.items) }
-    ensures members { IfOk result (λ v. (c : Corner) → Contains v.items c ↔ IsNumbered points.now (length points.now) c) }
+/// The number of the feature that a piece is the whole of, or 0 for now.
+fn first_owner(origin: Origin) -> Id
+    ensures { result ≡ whole_number origin }
 {
-    let mut found = Vec::with_capacity(alloc, points.len())?;
-    for k in 0..points.len() {
-        let p = points[k];
-        found.push(Corner {
-            x: p.x,
-            y: p.y,
-            part: k as Id,
-        })?;
+    match origin {
+        Origin::Whole(number) => number,
+        Origin::Broken => 0,
     }
-    sort_by_corner(&mut found);
-    Ok(found)
-}
-
-/// The number of the feature whose least square is the key, or 0 where there is none.
-fn whole(firsts: &[Corner], key: &Pt) -> Id
-    requires { RiseByCorner firsts.now }
-    ensures { IsWholeOrNone firsts.now key.now result }
-{
-    match find(firsts, key.x, key.y) {
-        Some(k) => k,
-        None => 0,
-    }
-}
-
-/// The same for each key.
-fn wholes(alloc: Global, firsts: &[Corner], keys: &[Pt]) -> Result<Vec<Id>, AllocError>
-    requires { RiseByCorner firsts.now }
-    ensures { IfOk result (λ v. AllZip (IsWholeOrNone firsts.now) keys.now v.items) }
-{
-    let mut owners = Vec::with_capacity(alloc, keys.len())?;
-    for key in keys {
-        owners.push(whole(firsts, key))?;
-    }
-    Ok(owners)
 }
 
 /// Gives the pieces on the sides of each zone the zone's feature as their owner.
@@ -91,22 +56,21 @@ fn mark(owners: &mut [Id], zones: &[Zone], sides: &[(Id, Id)])
     }
 }
 
-/// The feature that each piece lies in: a piece beside a zone lies in the zone's feature, and any other is a whole feature, with the feature's key.
+/// The feature that each piece lies in: a piece beside a zone lies in the zone's feature, and any other is a whole feature.
 pub fn owners_of(
     alloc: Global,
-    features: &[Slabs],
-    keys: &[Pt],
+    origins: &[Origin],
     zones: &[Zone],
     sides: &[(Id, Id)],
 ) -> Result<Vec<Id>, AllocError>
-    requires some { All (λ part. part ≢ []) features.now }
     requires each { length zones.now ≡ length sides.now }
-    requires known { AreSidesKnown (length keys.now) sides.now }
-    ensures { IfOk result (λ v. AreOwnersBy features.now keys.now zones.now sides.now v.items) }
+    requires known { AreSidesKnown (length origins.now) sides.now }
+    ensures { IfOk result (λ v. AreMarked zones.now sides.now (length zones.now) (map whole_number origins.now) v.items) }
 {
-    let least = keys_of(alloc, features)?;
-    let firsts = numbered(alloc, &least)?;
-    let mut owners = wholes(alloc, &firsts, keys)?;
+    let mut owners: Vec<Id> = origins
+        .iter()
+        .map(|origin| first_owner(*origin))
+        .collect(alloc)?;
     mark(&mut owners, zones, sides);
     Ok(owners)
 }

@@ -9,11 +9,12 @@ ghost use Rattle.dpl_spec.specs.Loops.{farthest, AreRectsWithin};
 ghost use Rattle.dpl_spec.specs.Pieces.{without};
 ghost use Rattle.dpl_slabs.specs.Parts.{union_of};
 ghost use Rattle.dpl_piece.specs.Cutting.{rects_of_zones, AreFeatures, AreTheirZones};
-ghost use Rattle.dpl_piece.specs.Merging.{HasZone, IsPicked, MarkZoned, left_region};
+ghost use Rattle.dpl_piece.specs.Merging.{AreCut, HasZone, IsPicked, MarkZoned, left_region};
 
+use crate::origin::Woven;
 use crate::weave::woven;
 use dpl_base::{Rect, Zone};
-use dpl_slabs::{Parts, Slabs};
+use dpl_slabs::Slabs;
 use std::alloc::{AllocError, Global};
 
 /// Marks the features that have a zone.
@@ -86,17 +87,17 @@ fn left_of(
     Ok(left)
 }
 
-/// The components of what the zones leave of the features. Only the features that have a zone are cut anew.
-pub fn parts_of(alloc: Global, features: &[Slabs], zones: &[Zone]) -> Result<Parts, AllocError>
-    requires features { AreFeatures features.now }
-    requires zones { AreTheirZones features.now zones.now }
-    requires within { All (AreRectsWithin farthest) features.now }
-    ensures { IfOk result (λ parts. AreComponents (without (union_of features.now) zones.now) parts) }
+/// The components of what the zones leave of the features, each with its origin. Only the features that have a zone are cut anew; the others are moved.
+pub fn parts_of(alloc: Global, features: Vec<Slabs>, zones: &[Zone]) -> Result<Woven, AllocError>
+    requires features { AreFeatures features.items }
+    requires zones { AreTheirZones features.items zones.now }
+    requires within { All (AreRectsWithin farthest) features.items }
+    ensures { IfOk result (λ w. AreCut features.items zones.now w.parts.items w.origins.items) }
 {
     let marks = marks_of(alloc, features.len(), zones)?;
-    let left = left_of(alloc, features, &marks, zones)?;
+    let left = left_of(alloc, &features, &marks, zones)?;
     let broken = dpl_feature::features(alloc, &left)?;
     drop(left);
-    let parts = woven(alloc, features, &marks, broken.items())?;
-    Ok(Parts::of(parts))
+    let parts = woven(alloc, features, &marks, broken.into_vec())?;
+    Ok(parts)
 }

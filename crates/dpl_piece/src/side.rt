@@ -1,9 +1,10 @@
 //! The pieces on the two sides of a zone.
-ghost use Rattle.std.specs.Prelude.{ℕ, ◌≡◌, ◌⊎◌, ◌↔◌, IfOk};
+ghost use Rattle.std.specs.Prelude.{ℕ, ◌≡◌, ◌⊎◌, ◌↔◌, length, IfOk};
 ghost use Rattle.std.specs.List.{All, AllZip, Contains};
-ghost use Rattle.dpl_piece.specs.Corners.{corner_at, AreFound, StandBeside, RiseByCorner};
+ghost use Rattle.dpl_piece.specs.Corners.{corner_at, AreFound, StandBeside, StandBroken, RiseByCorner};
 
 use crate::corner::{Corner, Kind, corners, find};
+use crate::origin::Origin;
 use dpl_base::{Id, Rect, Zone};
 use dpl_slabs::Slabs;
 use std::alloc::{AllocError, Global};
@@ -38,16 +39,22 @@ fn sides(lower_left: &[Corner], lower_right: &[Corner], upper_left: &[Corner], z
 }
 
 /// The parts on the two sides of each zone, the left or lower one first.
-pub fn sides_of(alloc: Global, parts: &[Slabs], zones: &[Zone]) -> Result<Vec<(Id, Id)>, AllocError>
-    requires { All (λ z. (side : ℕ × ℕ) × StandBeside parts.now z side) zones.now }
+pub fn sides_of(
+    alloc: Global,
+    parts: &[Slabs],
+    origins: &[Origin],
+    zones: &[Zone],
+) -> Result<Vec<(Id, Id)>, AllocError>
+    requires each { length origins.now ≡ length parts.now }
+    requires some { All (λ z. (side : ℕ × ℕ) × StandBroken parts.now origins.now z side) zones.now }
     ensures { IfOk result (λ v. AllZip (StandBeside parts.now) zones.now v.items) }
 {
     if zones.is_empty() {
         return Ok(Vec::new(alloc));
     }
-    let lower_left = corners(alloc, parts, Kind::LowerLeft)?;
-    let lower_right = corners(alloc, parts, Kind::LowerRight)?;
-    let upper_left = corners(alloc, parts, Kind::UpperLeft)?;
+    let lower_left = corners(alloc, parts, origins, Kind::LowerLeft)?;
+    let lower_right = corners(alloc, parts, origins, Kind::LowerRight)?;
+    let upper_left = corners(alloc, parts, origins, Kind::UpperLeft)?;
     let mut found = Vec::with_capacity(alloc, zones.len())?;
     for z in zones {
         found.push(sides(&lower_left, &lower_right, &upper_left, &z.rect))?;

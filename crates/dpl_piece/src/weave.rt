@@ -1,23 +1,19 @@
 //! Weaves two lists of sets into one, by least square.
-ghost use Rattle.std.specs.Prelude.{◌≡◌, ◌≢◌, ◌+◌, ◌<◌, ◌≤◌, ◌⊎◌, ◌↔◌, ◌∷◌, ◌++◌, List, [], IsTrue, IsFalse, IfOk, OnOk, length, slice_index_or};
-ghost use Rattle.std.specs.List.{All, AllPairs, Contains};
+ghost use Rattle.std.specs.Prelude.{◌≡◌, ◌≢◌, ◌<◌, ◌⊎◌, ◌↔◌, ◌∷◌, ◌++◌, List, [], IsTrue, IsFalse, IsNone, IfOk, IfSome, OnOk, length, slice_index_or};
+ghost use Rattle.std.specs.List.{All, AllPairs, AllZip, Contains};
 ghost use Rattle.dpl_spec.specs.declared.Rect.{Rect};
 ghost use Rattle.dpl_spec.specs.Squares.{Precedes};
 ghost use Rattle.dpl_spec.specs.Components.{ComesFirst};
 ghost use Rattle.dpl_slabs.specs.Parts.{AreApart};
-ghost use Rattle.dpl_piece.specs.Merging.{CanWeave, IsFree, IsWoven};
+ghost use Rattle.dpl_piece.specs.declared.origin.Origin.TheVariants.{Whole, Broken};
+ghost use Rattle.dpl_piece.specs.Merging.{CanWeave, IsFree, IsOrigin};
 
+use crate::origin::{Origin, Woven};
 use crate::owner::key;
-use dpl_base::Pt;
+use dpl_base::{Id, Pt};
 use dpl_slabs::Slabs;
 use std::alloc::{AllocError, Global};
-
-/// How many of the parts, and of the others, are done with.
-#[derive(Clone, Copy, Debug, Drop)]
-struct Place {
-    part: usize,
-    other: usize,
-}
+use std::collections::VecDeque;
 
 /// Whether one square comes before another, by row and then by column.
 fn precedes(p: Pt, q: Pt) -> bool
@@ -43,104 +39,51 @@ fn comes_first(s: &Slabs, t: &Slabs) -> bool
     precedes(key(s), key(t))
 }
 
-/// Whether there is another set of this number, and it comes before the part.
-fn is_next(part: &Slabs, others: &[Slabs], number: usize) -> bool
+/// Takes the next set of a list, where it comes before the part.
+fn next_before(rest: &mut VecDeque<Slabs>, part: &Slabs) -> Option<Slabs>
     requires some { part.now ≢ [] }
-    requires others_some { All (λ s. s ≢ []) others.now }
-    requires apart { number < length others.now → AreApart part.now (slice_index_or others.now number []) }
-    ensures yes { IsTrue result → (number < length others.now) × ComesFirst (slice_index_or others.now number []) part.now }
-    ensures no { IsFalse result → number < length others.now → ComesFirst part.now (slice_index_or others.now number []) }
+    requires rest_some { All (λ s. s ≢ []) rest.old.items }
+    requires apart { All (AreApart part.now) rest.old.items }
+    ensures next { IfSome result (λ s. (rest.old.items ≡ s ∷ rest.new.items) × ComesFirst s part.now) }
+    ensures none { IsNone result → (rest.new.items ≡ rest.old.items) × (0 < length rest.old.items → ComesFirst part.now (slice_index_or rest.old.items 0 [])) }
 {
-    if number >= others.len() {
-        return false;
+    let Some(next) = rest.front() else {
+        return None;
+    };
+    if !comes_first(next, part) {
+        return None;
     }
-    comes_first(&others[number], part)
+    rest.pop_front()
 }
 
-/// Adds a copy of a set.
-fn add_copy(alloc: Global, out: &mut Vec<Slabs>, part: &Slabs) -> Result<(), AllocError>
-    ensures { OnOk result (out.new.items ≡ out.old.items ++ part.now ∷ []) }
-{
-    let rects = Vec::from_slice(alloc, part.rects())?;
-    out.push(Slabs::of_canonical(rects))?;
-    Ok(())
-}
-
-/// Takes the next of both lists, or passes over a part that is marked.
-fn step(
-    alloc: Global,
-    out: &mut Vec<Slabs>,
-    parts: &[Slabs],
-    marks: &[bool],
-    others: &[Slabs],
-    at: Place,
-) -> Result<Place, AllocError>
-    requires can { CanWeave parts.now marks.now others.now }
-    requires part { at.part < length parts.now }
-    requires other { at.other ≤ length others.now }
-    requires woven { IsWoven parts.now marks.now others.now at.part at.other out.old.items }
-    ensures part { IfOk result (λ to. to.part ≤ length parts.now) }
-    ensures other { IfOk result (λ to. to.other ≤ length others.now) }
-    ensures on { IfOk result (λ to. at.part + at.other < to.part + to.other) }
-    ensures woven { IfOk result (λ to. IsWoven parts.now marks.now others.now to.part to.other out.new.items) }
-{
-    if marks[at.part] {
-        return Ok(Place {
-            part: at.part + 1,
-            other: at.other,
-        });
-    }
-    let part = &parts[at.part];
-    if is_next(part, others, at.other) {
-        add_copy(alloc, out, &others[at.other])?;
-        return Ok(Place {
-            part: at.part,
-            other: at.other + 1,
-        });
-    }
-    add_copy(alloc, out, part)?;
-    Ok(Place {
-        part: at.part + 1,
-        other: at.other,
-    })
-}
-
-/// Adds copies of the others that are left, where no part is.
-fn add_rest(
-    alloc: Global,
-    out: &mut Vec<Slabs>,
-    parts: &[Slabs],
-    marks: &[bool],
-    others: &[Slabs],
-    from: usize,
-) -> Result<(), AllocError>
-    requires can { CanWeave parts.now marks.now others.now }
-    requires from { from ≤ length others.now }
-    requires woven { IsWoven parts.now marks.now others.now (length parts.now) from out.old.items }
-    ensures { OnOk result (IsWoven parts.now marks.now others.now (length parts.now) (length others.now) out.new.items) }
-{
-    for j in from..others.len() {
-        add_copy(alloc, out, &others[j])?;
-    }
-    Ok(())
-}
-
-/// Copies of the parts that aren't marked and of all others, by least square.
+/// The parts that aren't marked and all others, by least square, each with its origin.
 pub fn woven(
     alloc: Global,
-    parts: &[Slabs],
+    parts: Vec<Slabs>,
     marks: &[bool],
-    others: &[Slabs],
-) -> Result<Vec<Slabs>, AllocError>
-    requires { CanWeave parts.now marks.now others.now }
-    ensures ordered { IfOk result (λ v. AllPairs ComesFirst v.items) }
-    ensures members { IfOk result (λ v. (s : List Rect) → Contains v.items s ↔ (IsFree parts.now marks.now (length parts.now) s ⊎ Contains others.now s)) }
+    others: Vec<Slabs>,
+) -> Result<Woven, AllocError>
+    requires { CanWeave parts.items marks.now others.items }
+    ensures ordered { IfOk result (λ w. AllPairs ComesFirst w.parts.items) }
+    ensures members { IfOk result (λ w. (s : List Rect) → Contains w.parts.items s ↔ (IsFree parts.items marks.now (length parts.items) s ⊎ Contains others.items s)) }
+    ensures origins { IfOk result (λ w. AllZip (IsOrigin parts.items (Contains others.items)) w.parts.items w.origins.items) }
 {
-    let mut out = Vec::new(alloc);
-    let mut at = Place { part: 0, other: 0 };
-    while at.part < parts.len() {
-        at = step(alloc, &mut out, parts, marks, others, at)?;
+    let mut woven = Woven::with_capacity(alloc, parts.len() + others.len())?;
+    let mut rest = VecDeque::from_vec(others);
+    let mut count = 0;
+    for part in parts {
+        let number = count;
+        count += 1;
+        if marks[number] {
+            continue;
+        }
+        while let Some(other) = next_before(&mut rest, &part) {
+            woven.push(other, Origin::Broken)?;
+        }
+        woven.push(part, Origin::Whole(number as Id))?;
     }
-    add_rest(alloc, &mut out, parts, marks, others, at.other)?;
-    Ok(out)
+    while let Some(other) = rest.pop_front() {
+        woven.push(other, Origin::Broken)?;
+    }
+    Ok(woven)
 }

@@ -9,38 +9,41 @@ use Rattle.dpl_check.proofs.conflict.check_conflict.Goals as goal
 
 pub returns-then-counts_differ : goal.returns-then-counts_differ
 returns-then-counts_differ c =
-    let cut = cut_view c.in_ok-cut.cut in
+    let (features, many, is) = c.in_ok-cut.ensures in
+    let cut = cut_view features c.in_ok-cut.cut.pieces in
     subst (λ (x : Cert). IsVerdictOfConflict c.args.rule c.args.overlap c.args.layer.now x c.counts_of.result) (sym c.in-Conflict.is)
     (inr (
       (λ differ. false≢true (c.if-rules_differ.ensures.1 differ)),
       inl (
-        counts-differ c.args.rule c.args.overlap c.args.layer.now c.in-Conflict.head cut c.in_ok-cut.ensures (c.counts_differ.ensures.0 c.if-counts_differ.true),
-        (length cut.features, length cut.pieces, length cut.zones, (cut, c.in_ok-cut.ensures, refl, refl, refl), c.counts_of.ensures),
+        counts-differ c.args.rule c.args.overlap c.args.layer.now c.in-Conflict.head c.in_ok-cut.cut features many is (c.counts_differ.ensures.0 c.if-counts_differ.true),
+        (c.in_ok-cut.cut.features, length cut.pieces, length cut.zones, (cut, is, sym many, refl, refl), c.counts_of.ensures),
       ),
     ))
 
 pub returns-in-Some : goal.returns-in-Some
 returns-in-Some c =
-    let cut = cut_view c.in_ok-cut.cut in
-    let found = rw (c.in-Some.is, c.items.ensures, c.items-2.ensures) at c.in_ok-place.ensures in
+    let (features, many, is) = c.in_ok-cut.ensures in
+    let cut = cut_view features c.in_ok-cut.cut.pieces in
+    let found = rw (c.in-Some.is, c.items.ensures, c.items-2.ensures) at (c.in_ok-place.ensures features) in
     subst (λ (x : Cert). IsVerdictOfConflict c.args.rule c.args.overlap c.args.layer.now x (Cycle c.in-Some.place)) (sym c.in-Conflict.is)
     (inr (
       (λ differ. false≢true (c.if-rules_differ.ensures.1 differ)),
       inr (
-        counts-kept c.args.rule c.args.overlap c.args.layer.now c.in-Conflict.head cut c.in_ok-cut.ensures (λ other. false≢true (c.if-counts_differ.ensures.1 other)),
-        (cut, c.in_ok-cut.ensures, inl ((c.in-Some.place, found.inside, found.is), (c.in-Some.place, found, refl))),
+        counts-kept c.args.rule c.args.overlap c.args.layer.now c.in-Conflict.head c.in_ok-cut.cut features many is (λ other. false≢true (c.if-counts_differ.ensures.1 other)),
+        (cut, is, inl ((c.in-Some.place, found.inside, found.is), (c.in-Some.place, found, refl))),
       ),
     ))
 
 pub returns : goal.returns
 returns c =
-    let cut = cut_view c.in_ok-cut.cut in
-    let none = rw (c.in_default-2.is, c.items.ensures, c.items-2.ensures) at c.in_ok-place.ensures in
+    let (features, many, is) = c.in_ok-cut.ensures in
+    let cut = cut_view features c.in_ok-cut.cut.pieces in
+    let none = rw (c.in_default-2.is, c.items.ensures, c.items-2.ensures) at (c.in_ok-place.ensures features) in
     subst (λ (x : Cert). IsVerdictOfConflict c.args.rule c.args.overlap c.args.layer.now x Valid) (sym c.in-Conflict.is)
     (inr (
       (λ differ. false≢true (c.if-rules_differ.ensures.1 differ)),
       inr (
-        counts-kept c.args.rule c.args.overlap c.args.layer.now c.in-Conflict.head cut c.in_ok-cut.ensures (λ other. false≢true (c.if-counts_differ.ensures.1 other)),
-        (cut, c.in_ok-cut.ensures, inr (none, refl)),
+        counts-kept c.args.rule c.args.overlap c.args.layer.now c.in-Conflict.head c.in_ok-cut.cut features many is (λ other. false≢true (c.if-counts_differ.ensures.1 other)),
+        (cut, is, inr (none, refl)),
       ),
     ))
