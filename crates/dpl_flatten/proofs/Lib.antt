@@ -10,3 +10,4 @@ pub mod BareLaws
 pub mod CellLaws
 pub mod PlacedLaws
 pub mod ResultLaws
+pub mod DrawingLaws

@@ -93,12 +93,6 @@ module _ (lib : Library) (layer : Layer) (graph : List (List ℕ)) (marks : List
       last_marked [] k l h e = rw (← e) h
       last_marked (s ∷ ss) k l h e = let p = (are.marked k h).placed s.copies e.0 in last_marked ss s.copies.target l (links.closed k s.copies.target h (links.graph_of.refers k s.copies.target (p.0, p.1, p.2))) e.3
 
-  pub within : far ≡ None → AreLoopsWithin farthest loops
-  within none k d h =
-      let w = walk.sound (get_or loops k d) (Contains-get_or loops k d h) in
-      let g = walk.complete (get_or loops k d) w.0 w.1 in
-      ⊎_elim (λ x. x) (λ (x : IsAtMost far w.0). absurd (rw none at x)) g.1
-
   pub nowhere_out : far ≡ None → IsNowhere lib top (IsOut lib top layer)
   nowhere_out none k e f =
       let o = f.holds in

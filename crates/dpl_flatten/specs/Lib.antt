@@ -3,3 +3,4 @@ pub mod Least
 pub mod Totals
 pub mod Drawn
 pub mod Cells
+pub mod Drawing

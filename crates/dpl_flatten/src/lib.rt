@@ -7,30 +7,58 @@ ghost use Rattle.dpl_spec.specs.declared.Pt.{Pt};
 ghost use Rattle.dpl_spec.specs.Loops.{SomeLoopCovers, IsRectilinear, AreLoopsWithin, farthest};
 ghost use Rattle.dpl_layout.specs.Placements.{IsInLayer};
 ghost use Rattle.dpl_layout.specs.Faults.{IsFaultless, IsFirstFault};
+ghost use Rattle.dpl_flatten.specs.Drawing.{IsDrawingOf};
 
+use crate::drawing::draw_all;
 use crate::faults::find_faults;
 use crate::links::{Links, graph_of};
-use crate::place::place_all;
 use dpl_base::Loop;
 use dpl_links::reach;
 
 mod cells;
 mod copies;
 mod count;
+mod drawing;
 mod faults;
 mod links;
 mod missing;
-mod place;
 mod recursion;
 mod refs;
 mod refused;
 mod shapes;
 mod top;
 
+pub use crate::drawing::Drawing;
 pub use crate::top::top_of;
 pub use dpl_layout::{ElementFault, FlattenFault, Layer, TopFault};
 use dpl_syntax::Library;
 use std::alloc::Global;
+
+/// What the structure `top` draws of a layer, itself and through all references below it.
+///
+/// # Errors
+/// The first fault of the structures that the top reaches: the missing structure of least offset, then the recursion of
+/// least offset, then the refused element of least offset, then more than 16,777,216 placed points; `NoMemory`.
+pub fn draw(
+    alloc: Global,
+    lib: &Library<'_>,
+    top: u32,
+    layer: Layer,
+) -> Result<Drawing, FlattenFault>
+    requires { top < length lib.now.structures }
+    ensures drawing { IfOk result (IsDrawingOf lib.now top layer) }
+    ensures fault { IfErr result (IsFirstFault lib.now top layer) }
+{
+    let graph = graph_of(alloc, lib)?;
+    let marks = reach(alloc, graph.as_slice(), top)?;
+    let links = Links {
+        graph: graph.as_slice(),
+        marks: marks.as_slice(),
+    };
+    let survey = find_faults(alloc, lib, top, layer, &links)?;
+    let drawing = draw_all(alloc, lib, top, layer, &links, survey)?;
+    Ok(drawing)
+}
 
 /// The loops that the structure `top` places on a layer, itself and through all references below it: those of its
 /// boundaries and boxes of that layer and datatype, and one for each rectangle of its paths. Together they cover the
@@ -53,13 +81,7 @@ pub fn flatten(
     ensures faultless { OnOk result (IsFaultless lib.now top layer) }
     ensures fault { IfErr result (λ f. IsFirstFault lib.now top layer f) }
 {
-    let graph = graph_of(alloc, lib)?;
-    let marks = reach(alloc, graph.as_slice(), top)?;
-    let links = Links {
-        graph: graph.as_slice(),
-        marks: marks.as_slice(),
-    };
-    let survey = find_faults(alloc, lib, top, layer, &links)?;
-    let loops = place_all(alloc, lib, top, layer, &links, &survey)?;
+    let drawing = draw(alloc, lib, top, layer)?;
+    let loops = drawing.loops(alloc)?;
     Ok(loops)
 }

@@ -9,7 +9,7 @@ ghost use Rattle.dpl_flatten.specs.Drawn.{IsFaultOfBoundary, IsFaultOfPath};
 use crate::refs::point_at;
 use dpl_base::Pt;
 use dpl_layout::ElementFault;
-use dpl_shapes::{ShapeFault, boundary_loop, path_loops};
+use dpl_shapes::{ShapeFault, is_rectilinear, path_loops};
 use std::alloc::{AllocError, Global};
 
 /// The points in the data of XY.
@@ -17,7 +17,7 @@ pub(crate) fn points_of(alloc: Global, xy: &[u8]) -> Result<Vec<Pt>, AllocError>
     ensures value { IfOk result (λ v. v.items ≡ points_in xy.now) }
     ensures within { IfOk result (λ v. ArePointsWithin (2 ^ 31) v.items) }
 {
-    let mut points = Vec::new(alloc);
+    let mut points = Vec::with_capacity(alloc, xy.len() / 8)?;
     for i in 0..xy.len() / 8 {
         points.push(point_at(xy, i))?;
     }
@@ -36,12 +36,10 @@ pub(crate) fn boundary_fault(
         return Ok(None);
     }
     let points = points_of(alloc, xy)?;
-    match boundary_loop(alloc, points.as_slice()) {
-        Ok(_) => Ok(None),
-        Err(ShapeFault::SlantedBoundary) => Ok(Some(ElementFault::SlantedBoundary)),
-        Err(ShapeFault::NoMemory) => Err(AllocError),
-        Err(_) => unreachable!(),
+    if is_rectilinear(&points) {
+        return Ok(None);
     }
+    Ok(Some(ElementFault::SlantedBoundary))
 }
 
 /// The widths and ends of a path, in database units; what the file leaves out is 0.

@@ -23,66 +23,66 @@ unchecked = Some (record { data_type = None; size = any })
 -- by type, from 0x00 on; None is no type of record
 unfoldable pub table : List (Option Form)
 table =
-    of 2 (exactly 2)  -- 00 HEADER
-    ∷ of 2 (exactly 24)  -- 01 BGNLIB
-    ∷ of 6 any  -- 02 LIBNAME
-    ∷ of 5 (exactly 16)  -- 03 UNITS
-    ∷ of 0 (exactly 0)  -- 04 ENDLIB
-    ∷ of 2 (exactly 24)  -- 05 BGNSTR
-    ∷ of 6 any  -- 06 STRNAME
-    ∷ of 0 (exactly 0)  -- 07 ENDSTR
-    ∷ of 0 (exactly 0)  -- 08 BOUNDARY
-    ∷ of 0 (exactly 0)  -- 09 PATH
-    ∷ of 0 (exactly 0)  -- 0A SREF
-    ∷ of 0 (exactly 0)  -- 0B AREF
-    ∷ of 0 (exactly 0)  -- 0C TEXT
-    ∷ of 2 (exactly 2)  -- 0D LAYER
-    ∷ of 2 (exactly 2)  -- 0E DATATYPE
-    ∷ of 3 (exactly 4)  -- 0F WIDTH
-    ∷ of 3 points  -- 10 XY
-    ∷ of 0 (exactly 0)  -- 11 ENDEL
-    ∷ of 6 any  -- 12 SNAME
-    ∷ of 2 (exactly 4)  -- 13 COLROW
-    ∷ None  -- 14
-    ∷ of 0 (exactly 0)  -- 15 NODE
-    ∷ of 2 (exactly 2)  -- 16 TEXTTYPE
-    ∷ of 1 (exactly 2)  -- 17 PRESENTATION
-    ∷ None  -- 18
-    ∷ of 6 any  -- 19 STRING
-    ∷ of 1 (exactly 2)  -- 1A STRANS
-    ∷ of 5 (exactly 8)  -- 1B MAG
-    ∷ of 5 (exactly 8)  -- 1C ANGLE
-    ∷ None  -- 1D
-    ∷ None  -- 1E
-    ∷ unchecked  -- 1F REFLIBS
-    ∷ unchecked  -- 20 FONTS
-    ∷ of 2 (exactly 2)  -- 21 PATHTYPE
-    ∷ unchecked  -- 22 GENERATIONS
-    ∷ unchecked  -- 23 ATTRTABLE
-    ∷ None  -- 24
-    ∷ None  -- 25
-    ∷ of 1 (exactly 2)  -- 26 ELFLAGS
-    ∷ None  -- 27
-    ∷ None  -- 28
-    ∷ None  -- 29
-    ∷ of 2 (exactly 2)  -- 2A NODETYPE
-    ∷ of 2 (exactly 2)  -- 2B PROPATTR
-    ∷ of 6 any  -- 2C PROPVALUE
-    ∷ of 0 (exactly 0)  -- 2D BOX
-    ∷ of 2 (exactly 2)  -- 2E BOXTYPE
-    ∷ of 3 (exactly 4)  -- 2F PLEX
-    ∷ of 3 (exactly 4)  -- 30 BGNEXTN
-    ∷ of 3 (exactly 4)  -- 31 ENDEXTN
-    ∷ unchecked  -- 32
-    ∷ unchecked  -- 33
-    ∷ unchecked  -- 34
-    ∷ unchecked  -- 35
-    ∷ unchecked  -- 36
-    ∷ unchecked  -- 37
-    ∷ unchecked  -- 38
-    ∷ unchecked  -- 39
-    ∷ unchecked  -- 3A
-    ∷ unchecked  -- 3B
+    of 2 (exactly 2)  -- 0x00 HEADER
+    ∷ of 2 (exactly 24)  -- 0x01 BGNLIB
+    ∷ of 6 any  -- 0x02 LIBNAME
+    ∷ of 5 (exactly 16)  -- 0x03 UNITS
+    ∷ of 0 (exactly 0)  -- 0x04 ENDLIB
+    ∷ of 2 (exactly 24)  -- 0x05 BGNSTR
+    ∷ of 6 any  -- 0x06 STRNAME
+    ∷ of 0 (exactly 0)  -- 0x07 ENDSTR
+    ∷ of 0 (exactly 0)  -- 0x08 BOUNDARY
+    ∷ of 0 (exactly 0)  -- 0x09 PATH
+    ∷ of 0 (exactly 0)  -- 0x0A SREF
+    ∷ of 0 (exactly 0)  -- 0x0B AREF
+    ∷ of 0 (exactly 0)  -- 0x0C TEXT
+    ∷ of 2 (exactly 2)  -- 0x0D LAYER
+    ∷ of 2 (exactly 2)  -- 0x0E DATATYPE
+    ∷ of 3 (exactly 4)  -- 0x0F WIDTH
+    ∷ of 3 points  -- 0x10 XY
+    ∷ of 0 (exactly 0)  -- 0x11 ENDEL
+    ∷ of 6 any  -- 0x12 SNAME
+    ∷ of 2 (exactly 4)  -- 0x13 COLROW
+    ∷ None  -- 0x14
+    ∷ of 0 (exactly 0)  -- 0x15 NODE
+    ∷ of 2 (exactly 2)  -- 0x16 TEXTTYPE
+    ∷ of 1 (exactly 2)  -- 0x17 PRESENTATION
+    ∷ None  -- 0x18
+    ∷ of 6 any  -- 0x19 STRING
+    ∷ of 1 (exactly 2)  -- 0x1A STRANS
+    ∷ of 5 (exactly 8)  -- 0x1B MAG
+    ∷ of 5 (exactly 8)  -- 0x1C ANGLE
+    ∷ None  -- 0x1D
+    ∷ None  -- 0x1E
+    ∷ unchecked  -- 0x1F REFLIBS
+    ∷ unchecked  -- 0x20 FONTS
+    ∷ of 2 (exactly 2)  -- 0x21 PATHTYPE
+    ∷ unchecked  -- 0x22 GENERATIONS
+    ∷ unchecked  -- 0x23 ATTRTABLE
+    ∷ None  -- 0x24
+    ∷ None  -- 0x25
+    ∷ of 1 (exactly 2)  -- 0x26 ELFLAGS
+    ∷ None  -- 0x27
+    ∷ None  -- 0x28
+    ∷ None  -- 0x29
+    ∷ of 2 (exactly 2)  -- 0x2A NODETYPE
+    ∷ of 2 (exactly 2)  -- 0x2B PROPATTR
+    ∷ of 6 any  -- 0x2C PROPVALUE
+    ∷ of 0 (exactly 0)  -- 0x2D BOX
+    ∷ of 2 (exactly 2)  -- 0x2E BOXTYPE
+    ∷ of 3 (exactly 4)  -- 0x2F PLEX
+    ∷ of 3 (exactly 4)  -- 0x30 BGNEXTN
+    ∷ of 3 (exactly 4)  -- 0x31 ENDEXTN
+    ∷ unchecked  -- 0x32
+    ∷ unchecked  -- 0x33
+    ∷ unchecked  -- 0x34
+    ∷ unchecked  -- 0x35
+    ∷ unchecked  -- 0x36
+    ∷ unchecked  -- 0x37
+    ∷ unchecked  -- 0x38
+    ∷ unchecked  -- 0x39
+    ∷ unchecked  -- 0x3A
+    ∷ unchecked  -- 0x3B
     ∷ []
 
 abbrev pub row_or_none : Option (Option Form) → Option Form

@@ -12,7 +12,7 @@ use Rattle.std.specs.List.{Contains, sum_by}
 use Rattle.dpl_spec.proofs.Ordered.{Contains-nil}
 use Rattle.dpl_links.specs.Graph.{targets_at, LeadsTo, Reaches, here, on, IsMarked}
 use Rattle.dpl_links.specs.Marks.{unmarked}
-use Rattle.dpl_links.specs.Order.{IsOrder, HasCycle, end_of, IsPathTo, begins, goes_on, IsLast, IsShut, IsSearch, to_go, left}
+use Rattle.dpl_links.specs.Order.{IsOrder, HasCycle, end_of, IsPathTo, begins, goes_on, IsLast, IsOwnPlace, IsShut, IsSearch, to_go, left}
 use Rattle.dpl_links.specs.declared.order.Visit.{Visit}
 use Rattle.dpl_links.proofs.MarkLaws.{marked_here, marked_there, marked_cases, one_less}
 use Rattle.dpl_links.proofs.SpreadLaws.{Reaches-then, kept_closed, marked_below, none_marked}
@@ -105,6 +105,7 @@ module _ (graph : List (List ℕ)) (from : ℕ) (found closed : List Bool) (leve
     last = λ r t e. let same = snoc_same rest r u t e in rw (← same.0, ← same.1) now_last;
     shut = s.shut;
     alone = s.alone;
+    own = s.own;
     count = let c = s.count in omega (arith, c, length-append rest (v ∷ []), length-append rest (u ∷ []));
   }
     where
@@ -131,6 +132,7 @@ module _ (graph : List (List ℕ)) (from : ℕ) (found closed : List Bool) (leve
     last = λ r t q. let same = snoc_same (rest ++ u ∷ []) r w t q in rw (← same.0, ← same.1) now_last;
     shut = s.shut;
     alone = λ k c. marked_there found w.vertex k inside (s.alone k c);
+    own = s.own;
     count = let c = s.count in let o = one_less found w.vertex inside (unmarked_is (get_or found w.vertex false) refl) in omega (arith, c, o, length-append rest (v ∷ []), length-append rest (u ∷ []), length-append (rest ++ u ∷ []) (w ∷ []));
   })
     where
@@ -173,6 +175,7 @@ module _ (graph : List (List ℕ)) (from : ℕ) (found closed : List Bool) (leve
     last = λ r t e. last_after r t inside e last.path;
     shut = λ k m. ⊎_elim (λ c. old k c) (λ q. rw q this) (marked_cases closed v.vertex k m);
     alone = λ k c. ⊎_elim (λ x. s.alone k x) (λ (q : v.vertex ≡ k). rw (← q) last.was_found) (Contains-push_cases vertices v.vertex k c);
+    own = λ i l. ⊎_elim (λ (h : i < length vertices). own_before i h) (λ (h : length vertices ≤ i). let e : i ≡ length vertices = omega (arith, l, h, length-append vertices (v.vertex ∷ [])) in rw e own_last) (cases_lt i (length vertices));
     count = let c = s.count in omega (arith, c, length-append rest (v ∷ []), length-append vertices (v.vertex ∷ []));
   })
     where
@@ -194,6 +197,23 @@ module _ (graph : List (List ℕ)) (from : ℕ) (found closed : List Bool) (leve
 
       here_level : get_or (set levels v.vertex (length vertices)) v.vertex 0 ≡ length vertices
       here_level = let h : v.vertex < length levels = in_levels in rw get_or-set_same refl
+
+      own_before : (i : ℕ) → i < length vertices → IsOwnPlace (set closed v.vertex true) (set levels v.vertex (length vertices)) (vertices ++ v.vertex ∷ []) i
+      own_before i h =
+          let o = s.own i h in
+          let e = get_or_append_left vertices (v.vertex ∷ []) 0 i h in
+          record {
+            shut = rw e (there (get_or vertices i 0) o.shut);
+            level = rw e (stays (get_or vertices i 0) o.shut ∙ o.level);
+          }
+
+      own_last : IsOwnPlace (set closed v.vertex true) (set levels v.vertex (length vertices)) (vertices ++ v.vertex ∷ []) (length vertices)
+      own_last =
+          let e = get_or-append_seam vertices v.vertex [] 0 in
+          record {
+            shut = rw e (marked_here closed v.vertex inside);
+            level = rw e here_level;
+          }
 
       this : IsShut graph (set closed v.vertex true) (set levels v.vertex (length vertices)) (vertices ++ v.vertex ∷ []) v.vertex
       this = record {
@@ -239,6 +259,7 @@ search_start graph from fresh found closed levels vertices none path v h is gone
   });
   shut = λ k m. absurd (none_marked (length graph) k m);
   alone = λ k c. absurd (Contains-nil k c);
+  own = λ i l. absurd (omega (arith, l));
   count = let o = one_less empty from inside (not_marked (get_or empty from false) refl) in omega (arith, o, all_unmarked (length graph));
 })
   where
@@ -257,6 +278,7 @@ search_all graph from found closed levels vertices path none s = record {
   placed = λ k r. (s.shut k (shut k r)).placed;
   falls = λ k j r e. (s.shut k (shut k r)).falls j e;
   alone = λ k c. s.reached k (s.alone k c);
+  once = λ i l. (s.own i l).level;
   few = let c = s.count in omega (arith, c);
   each = s.levels_each;
 }

@@ -10,11 +10,12 @@ pub record IsPlaced (levels vertices : List ℕ) (k : ℕ) : Type 0 where
   pub inside : slice_index levels k < length vertices
   pub stands : slice_index vertices (slice_index levels k) ≡ k
 
--- The vertices that from reaches, each behind all those to which it leads. The level of each is its place in the order.
+-- The vertices that from reaches, each once, behind all those to which it leads. The level of each is its place in the order.
 pub record IsOrder (graph : List (List ℕ)) (from : ℕ) (levels vertices : List ℕ) : Type 0 where
   pub placed : (k : ℕ) → Reaches graph from k → IsPlaced levels vertices k
   pub falls : (k j : ℕ) → Reaches graph from k → LeadsTo graph k j → slice_index levels j < slice_index levels k
   pub alone : (k : ℕ) → Contains vertices k → Reaches graph from k
+  pub once : (i : ℕ) → i < length vertices → slice_index levels (slice_index vertices i) ≡ i
   pub few : length vertices ≤ length graph
   pub each : length levels ≡ length graph
 
@@ -53,6 +54,11 @@ pub record IsShut (graph : List (List ℕ)) (closed : List Bool) (levels vertice
   pub below : (j : ℕ) → LeadsTo graph k j → IsMarked closed j
   pub falls : (j : ℕ) → LeadsTo graph k j → slice_index levels j < slice_index levels k
 
+-- the vertex at place i is done with, and i is its level
+pub record IsOwnPlace (closed : List Bool) (levels vertices : List ℕ) (i : ℕ) : Type 0 where
+  pub shut : IsMarked closed (slice_index vertices i)
+  pub level : slice_index levels (slice_index vertices i) ≡ i
+
 -- how far a search is
 pub record IsSearch (graph : List (List ℕ)) (from : ℕ) (found closed : List Bool) (levels vertices : List ℕ) (path : List Visit) : Type 0 where
   pub found_each : length found ≡ length graph
@@ -64,6 +70,7 @@ pub record IsSearch (graph : List (List ℕ)) (from : ℕ) (found closed : List 
   pub last : (rest : List Visit) (v : Visit) → path ≡ rest ++ v ∷ [] → IsLast graph found closed rest v
   pub shut : (k : ℕ) → IsMarked closed k → IsShut graph closed levels vertices k
   pub alone : (k : ℕ) → Contains vertices k → IsMarked found k
+  pub own : (i : ℕ) → i < length vertices → IsOwnPlace closed levels vertices i
   pub count : (unmarked found + length path) + length vertices ≡ length graph
 
 -- how many edges of a vertex are still to be gone down, and the way back from it

@@ -8,7 +8,7 @@ use crate::reached::unset;
 use dpl_base::Listed;
 use std::alloc::{AllocError, Global};
 
-/// The vertices that a vertex reaches, each behind all those to which it leads.
+/// The vertices that a vertex reaches, each once, behind all those to which it leads.
 #[derive(Drop)]
 pub struct Order {
     /// For each vertex of the graph its place in the order; those of vertices out of reach say nothing.
@@ -149,7 +149,7 @@ pub(crate) fn target(graph: &[Listed<u32>], vertex: u32, i: usize) -> Option<u32
     graph[vertex as usize].items().get(i).copied()
 }
 
-/// The vertices that `from` reaches, each behind all those to which it leads; None exactly where one of them lies on a
+/// The vertices that `from` reaches, each once, behind all those to which it leads; None exactly where one of them lies on a
 /// cycle.
 pub fn find_order(
     alloc: Global,

@@ -19,7 +19,8 @@ use crate::bars::{Margins, loops_along};
 use crate::distinct::distinct_points;
 pub use crate::fault::ShapeFault;
 use crate::headings::turns_back;
-use crate::straight::{is_rectilinear, is_straight};
+pub use crate::straight::is_rectilinear;
+use crate::straight::is_straight;
 use dpl_base::{Loop, Pt};
 use std::alloc::Global;
 

@@ -1,6 +1,6 @@
 -- Lists of ways, and copies that are shortened one after the other.
 use Rattle.std.proofs.Common.{◌≡◌, ◌≢◌, ℕ, zero, suc, ◌+◌, ◌^◌, ◌<◌, ◌≤◌, ◌⊎◌, inl, inr, ⊎_elim, List, [], ◌∷◌, ◌++◌, Some, None, length, get_or, take, unwrap_or, refl, sym, ap, ◌∙◌, arith}
-use Rattle.std.specs.List.{All}
+use Rattle.std.specs.List.{All, Contains}
 use Rattle.std.specs.Prelude.{slice_get}
 use Rattle.std.proofs.Math.ListN.{set, length-set}
 use Rattle.std.proofs.lemmas.Bool.{cases_lt}
@@ -16,7 +16,7 @@ use Rattle.dpl_walk.specs.declared.cells.Cell.{Cell}
 use Rattle.dpl_walk.specs.declared.ways.Way.{Way}
 use Rattle.dpl_walk.specs.Cells.{IsReady}
 use Rattle.dpl_walk.specs.Walk.{outlines_at, copies_at, outlines_or_none, copies_or_none, AreDeep, AreKnown}
-use Rattle.dpl_walk.specs.Ways.{IsWay, AreWays, HasWays, IsShort, IsShortBy, AreShort, IsCellShort, AreCellsShort}
+use Rattle.dpl_walk.specs.Ways.{IsWay, AreWays, HasWays, IsShort, IsShortBy, AreShort, IsCellShort, AreCellsShort, IsWhole, AreWhole, AreBehind}
 use Rattle.dpl_walk.proofs.StackLaws.{outlines_are}
 use Rattle.dpl_walk.proofs.WayLaws.{own_is_way, way_within}
 
@@ -85,6 +85,15 @@ ways_set cells ways new k w h e is a = (
         let l = a.1.each in
         let t : w ≡ v = some_is w v (sym (set_here ways k w (omega (arith, h, l))) ∙ rw q at s) in
         rw (q, ← t) (is a.0 a.1)
+
+pub whole_set : (cells : List Cell) (order : List ℕ) (i d : ℕ) (ways new : List Way) (w : Way) → i < length order → get_or order i d < length ways → new ≡ set ways (get_or order i d) w → (((c : Copies) (v : Way) → Contains (copies_at cells (get_or order i d)) c → slice_get ways c.target ≡ Some v → IsWhole cells v) → IsWhole cells w) → (AreBehind cells order → AreWhole cells ways (take i order)) → AreBehind cells order → AreWhole cells new (take (i + 1) order)
+whole_set cells order i d ways new w h l e is a behind k v m s =
+    ⊎_elim here (λ n. ⊎_elim (λ x. a behind k v x (sym (set_elsewhere ways (get_or order i d) k w n) ∙ rw e at s)) (λ q. absurd (n q)) (Contains-take_more order i d k h m)) (same_or_not k (get_or order i d))
+  where
+    here : k ≡ get_or order i d → IsWhole cells v
+    here q =
+        let t : w ≡ v = some_is w v (sym (set_here ways (get_or order i d) w l) ∙ rw (e, q) at s) in
+        rw (← t) (is (λ c u inside there. a behind c.target u (behind i (get_or order i d) c (slice_get-get_or order i d h) inside) there))
 
 pub all_within : (cells : List Cell) (ways : List Way) → length cells ≤ 2 ^ 26 → HasWays cells ways → All (λ (w : Way). IsMotionWithin (2 ^ 60) w.place) ways
 all_within cells ways few a k d h = way_within cells a.0 k (get_or ways k d) few (a.1.way k (get_or ways k d) (slice_get-get_or ways k d h))

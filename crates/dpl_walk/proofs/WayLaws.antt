@@ -14,7 +14,7 @@ use Rattle.dpl_walk.specs.declared.cells.Cell.{Cell}
 use Rattle.dpl_walk.specs.declared.ways.Way.{Way}
 use Rattle.dpl_walk.specs.Cells.{copy_motion, IsReady, IsSpanWithin}
 use Rattle.dpl_walk.specs.Walk.{outlines_at, copies_at, IsShown, AreOf, AreDeep, AreSteep, AreKnown, IsWalk}
-use Rattle.dpl_walk.specs.Ways.{IsPassage, IsWay, AreWays, HasWays, IsShort, AreCellsShort}
+use Rattle.dpl_walk.specs.Ways.{IsPassage, IsWay, AreWays, HasWays, IsShort, AreCellsShort, IsWhole}
 use Rattle.dpl_walk.proofs.StackLaws.{shown_by, shown_cases, shown_here, shown_below, composed_within, outlines_are, copies_are}
 
 -- ---- motions of copies
@@ -154,6 +154,17 @@ module _ (cells : List Cell) (ways : List Way) (k : ℕ) (x : Cell) (c : Copies)
 
   pub way_there : (w : Way) → w ≡ get_or ways c.target w → slice_get ways c.target ≡ Some w
   way_there w is = slice_get-get_or ways c.target w target_below ∙ ap Some (sym is)
+
+  pub whole_there : (rest w : Way) → rest ≡ get_or ways c.target rest → w.target ≡ rest.target → ((d : Copies) (v : Way) → Contains (copies_at cells k) d → slice_get ways d.target ≡ Some v → IsWhole cells v) → IsWhole cells w
+  whole_there rest w is t all = rw t (all c rest there (way_there rest is))
+
+pub own_whole : (cells : List Cell) (k : ℕ) (x : Cell) (w : Way) → k < length cells → x ≡ get_or cells k x → ((c : Copies) → ¬ IsPassage x.outlines x.copies c) → w.target ≡ k → IsWhole cells w
+own_whole cells k x w h e none t = rw t (λ p. none p.0 (record {
+  bare = outlines_are cells k x h e ∙ p.1.bare;
+  alone = copies_are cells k x h e ∙ p.1.alone;
+  columns = p.1.columns;
+  rows = p.1.rows;
+}))
 
 pub passage_way : (cells : List Cell) (d : AreDeep cells) (k : ℕ) (c : Copies) (rest w : Way) → IsReady (2 ^ 31) c → IsPassage (outlines_at cells k) (copies_at cells k) c → IsWay cells d.level c.target rest → w.target ≡ rest.target → IsComposed (copy_motion c 0 0) rest.place w.place → IsWay cells d.level k w
 passage_way cells d k c rest w ready p r e is = record {

@@ -1,5 +1,5 @@
 -- Ways past structures that do no more than place one copy of another one.
-use Rattle.std.specs.Prelude.{◌≡◌, ◌≢◌, ℕ, ◌-◌, ◌*◌, ◌^◌, ◌<◌, ◌≤◌, ◌↔◌, List, [], ◌∷◌, length, slice_get, Some}
+use Rattle.std.specs.Prelude.{◌≡◌, ◌≢◌, ℕ, ◌-◌, ◌*◌, ◌^◌, ◌<◌, ◌≤◌, ◌↔◌, List, [], ◌∷◌, length, take, slice_get, Some}
 use Rattle.std.specs.List.{Contains}
 use Rattle.dpl_spec.specs.declared.Pt.{Pt}
 use Rattle.dpl_elements.specs.Motions.{image, IsComposed, IsMotionWithin}
@@ -17,6 +17,9 @@ pub record IsPassage (outlines : List Outline) (copies : List Copies) (c : Copie
   pub columns : c.columns ≡ 1
   pub rows : c.rows ≡ 1
 
+abbrev pub HasPassage : List Cell → ℕ → Type 0
+HasPassage cells k = (c : Copies) × IsPassage (outlines_at cells k) (copies_at cells k) c
+
 -- What structure k shows is what the way's target shows, placed by the way's motion; the motion moves by at most 2 ^ 34 for each level that the way leads down.
 pub record IsWay (cells : List Cell) (level : ℕ → ℕ) (k : ℕ) (w : Way) : Type 0 where
   pub known : w.target < length cells
@@ -31,6 +34,18 @@ pub record AreWays (cells : List Cell) (level : ℕ → ℕ) (ways : List Way) :
 
 abbrev pub HasWays : List Cell → List Way → Type 0
 HasWays cells ways = (d : AreDeep cells) × AreWays cells d.level ways
+
+-- the way goes on as long as structures have passages
+abbrev pub IsWhole : List Cell → Way → Type 0
+IsWhole cells w = ¬ HasPassage cells w.target
+
+-- and so does the way of each of these structures
+abbrev pub AreWhole : List Cell → List Way → List ℕ → Type 0
+AreWhole cells ways ks = (k : ℕ) (w : Way) → Contains ks k → slice_get ways k ≡ Some w → IsWhole cells w
+
+-- each structure of the order stands behind those that it places
+abbrev pub AreBehind : List Cell → List ℕ → Type 0
+AreBehind cells order = (i k : ℕ) (c : Copies) → slice_get order i ≡ Some k → Contains (copies_at cells k) c → Contains (take i order) c.target
 
 -- as many copies, as far apart, of the way's target, the first of which is where the first copy's way leads
 pub record IsShort (c : Copies) (w : Way) (short : Copies) : Type 0 where

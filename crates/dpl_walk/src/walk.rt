@@ -46,7 +46,7 @@ fn moved(alloc: Global, place: &Place, points: &[Pt]) -> Result<Vec<Pt>, AllocEr
     requires points { ArePointsWithin (2 ^ 61) points.now }
     ensures { IfOk result (λ v. v.items ≡ map (image place.now) points.now) }
 {
-    let mut images = Vec::new(alloc);
+    let mut images = Vec::with_capacity(alloc, points.len())?;
     for point in points {
         images.push(place.apply(*point))?;
     }

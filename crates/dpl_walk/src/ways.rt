@@ -1,13 +1,15 @@
 //! Ways past structures that draw nothing themselves and place one copy of another one. A walk that takes them goes to no
 //! such structure below an array of many copies.
 
-ghost use Rattle.std.specs.Prelude.{◌≡◌, ℕ, ◌^◌, ◌<◌, ◌≤◌, length, slice_get, Some, IfOk, OnOk, IfSome};
-ghost use Rattle.std.specs.List.{All};
+ghost use Rattle.std.specs.Prelude.{◌≡◌, ℕ, ◌^◌, ◌<◌, ◌≤◌, length, slice_get, Some, IfOk, OnOk, IfSome, IfNone};
+ghost use Rattle.std.specs.List.{All, Contains};
 ghost use Rattle.dpl_spec.specs.declared.Pt.{Pt};
 ghost use Rattle.dpl_elements.specs.Motions.{image, IsComposed, IsMotionWithin};
+ghost use Rattle.dpl_walk.specs.declared.cells.Copies.{Copies};
+ghost use Rattle.dpl_walk.specs.declared.ways.Way.{Way};
 ghost use Rattle.dpl_walk.specs.Cells.{copy_motion, IsReady};
 ghost use Rattle.dpl_walk.specs.Walk.{copies_at, AreDeep, AreKnown};
-ghost use Rattle.dpl_walk.specs.Ways.{IsPassage, IsWay, AreWays, HasWays, IsShort, AreShort, IsCellShort, AreCellsShort};
+ghost use Rattle.dpl_walk.specs.Ways.{IsPassage, IsWay, AreWays, HasWays, IsShort, AreShort, IsCellShort, AreCellsShort, HasPassage, IsWhole, AreWhole, AreBehind};
 
 use crate::cells::{Cell, Copies};
 use crate::copies::copy_place;
@@ -36,7 +38,8 @@ fn own_way(structure: u32) -> Way
 
 /// The only copy that a structure places, where it draws nothing itself.
 fn passage(cell: &Cell) -> Option<Copies>
-    ensures { IfSome result (λ c. IsPassage cell.now.outlines cell.now.copies c) }
+    ensures some { IfSome result (λ c. IsPassage cell.now.outlines cell.now.copies c) }
+    ensures none { IfNone result ((c : Copies) → ¬ IsPassage cell.now.outlines cell.now.copies c) }
 {
     if !cell.outlines.items().is_empty() {
         return None;
@@ -66,7 +69,8 @@ fn way_of(cells: &[Cell], structure: u32, ways: &[Way]) -> Way
     requires few { length cells.now ≤ 2 ^ 26 }
     requires ways { HasWays cells.now ways.now }
     requires structure { structure < length cells.now }
-    ensures { (d : AreDeep cells.now) → AreWays cells.now d.level ways.now → IsWay cells.now d.level structure result }
+    ensures way { (d : AreDeep cells.now) → AreWays cells.now d.level ways.now → IsWay cells.now d.level structure result }
+    ensures whole { ((c : Copies) (w : Way) → Contains (copies_at cells.now structure) c → slice_get ways.now c.target ≡ Some w → IsWhole cells.now w) → IsWhole cells.now result }
 {
     match passage(&cells[structure as usize]) {
         Some(copies) => through(&copies, &ways[copies.target as usize]),
@@ -97,7 +101,8 @@ pub(crate) fn find_ways(
     requires deep { AreDeep cells.now }
     requires few { length cells.now ≤ 2 ^ 26 }
     requires order { All (λ k. k < length cells.now) order.now }
-    ensures { IfOk result (λ v. HasWays cells.now v.items) }
+    ensures ways { IfOk result (λ v. HasWays cells.now v.items) }
+    ensures whole { IfOk result (λ v. AreBehind cells.now order.now → AreWhole cells.now v.items order.now) }
 {
     let mut ways = own_ways(alloc, cells)?;
     for structure in order {

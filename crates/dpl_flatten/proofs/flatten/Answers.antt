@@ -1,23 +1,13 @@
-use Rattle.std.proofs.Common.{arith}
-use Rattle.dpl_flatten.proofs.ReachLaws.{linked_of}
 use Rattle.dpl_flatten.proofs.flatten.Goals as goal
 
-pub reach-requires-clause-graph : goal.reach-requires-clause-graph
-reach-requires-clause-graph c = rw c.as_slice.ensures.value c.in_ok-graph.ensures.known
+pub returns-clause-covers : goal.returns-clause-covers
+returns-clause-covers c = (c.in_ok-loops.ensures.layer c.args.lib.now c.args.top c.args.layer c.in_ok-drawing.ensures.drawing).covers
 
-pub find_faults-requires-clause-links : goal.find_faults-requires-clause-links
-find_faults-requires-clause-links c =
-    rw (c.as_slice-2.ensures.value, c.as_slice-3.ensures.value)
-    (linked_of c.args.lib.now c.in_ok-graph.graph.items c.args.top c.in_ok-marks.marks.items
-    c.in_ok-graph.ensures.graph
-    (rw c.as_slice.ensures.value at c.in_ok-marks.ensures))
+pub returns-clause-straight : goal.returns-clause-straight
+returns-clause-straight c = (c.in_ok-loops.ensures.layer c.args.lib.now c.args.top c.args.layer c.in_ok-drawing.ensures.drawing).straight
 
-pub place_all-requires-clause-links : goal.place_all-requires-clause-links
-place_all-requires-clause-links c =
-    rw (c.as_slice-2.ensures.value, c.as_slice-3.ensures.value)
-    (linked_of c.args.lib.now c.in_ok-graph.graph.items c.args.top c.in_ok-marks.marks.items
-    c.in_ok-graph.ensures.graph
-    (rw c.as_slice.ensures.value at c.in_ok-marks.ensures))
+pub returns-clause-within : goal.returns-clause-within
+returns-clause-within c = (c.in_ok-loops.ensures.layer c.args.lib.now c.args.top c.args.layer c.in_ok-drawing.ensures.drawing).within
 
-pub place_all-requires-clause-few : goal.place_all-requires-clause-few
-place_all-requires-clause-few c = omega (arith, c.in_ok-graph.ensures.graph.each, c.in_ok-graph.ensures.few)
+pub returns-clause-faultless : goal.returns-clause-faultless
+returns-clause-faultless c = (c.in_ok-loops.ensures.layer c.args.lib.now c.args.top c.args.layer c.in_ok-drawing.ensures.drawing).faultless

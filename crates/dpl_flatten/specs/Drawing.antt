@@ -1,0 +1,45 @@
+-- What a drawing of a layer is, and what its loops are.
+use Rattle.std.specs.Prelude.{◌^◌, ◌<◌, ◌≤◌, ◌↔◌, ℕ, List, Option, Some, None, length}
+use Rattle.std.specs.List.{All}
+use Rattle.dpl_spec.specs.declared.Pt.{Pt}
+use Rattle.dpl_spec.specs.Loops.{SomeLoopCovers, IsRectilinear, AreLoopsWithin, farthest}
+use Rattle.dpl_format.specs.Tree.{Library}
+use Rattle.dpl_layout.specs.declared.Layer.{Layer}
+use Rattle.dpl_layout.specs.declared.FlattenFault.TheVariants.{OutOfRange}
+use Rattle.dpl_layout.specs.Placements.{IsInLayer}
+use Rattle.dpl_layout.specs.Faults.{IsFaultless, IsFirstFault}
+use Rattle.dpl_walk.specs.declared.cells.Cell.{Cell}
+use Rattle.dpl_walk.specs.Walk.{AreDeep, AreKnown, IsWalk}
+
+-- what structures draw and place, an order of them, and the top
+pub record Drawn : Type 0 where
+  pub cells : List Cell
+  pub order : List ℕ
+  pub top : ℕ
+
+abbrev pub drawn : List Cell → List ℕ → ℕ → Drawn
+drawn cells order top = record { cells = cells; order = order; top = top }
+
+-- it can be walked through
+pub record IsWalkable (d : Drawn) : Type 0 where
+  pub known : AreKnown (2 ^ 31) d.cells
+  pub deep : AreDeep d.cells
+  pub few : length d.cells ≤ 2 ^ 26
+  pub order : All (λ k. k < length d.cells) d.order
+  pub top : d.top < length d.cells
+
+-- The loops cover the layer, have edges parallel to the axes and lie in range. The layer has no fault.
+pub record AreLoopsOf (lib : Library) (top : ℕ) (layer : Layer) (loops : List (List Pt)) : Type 0 where
+  pub covers : (s : Pt) → SomeLoopCovers loops s ↔ IsInLayer lib top layer s
+  pub straight : All IsRectilinear loops
+  pub within : AreLoopsWithin farthest loops
+  pub faultless : IsFaultless lib top layer
+
+-- loops of the layer, where none goes out of range, and else its first fault
+abbrev pub IsLaidOut : Library → ℕ → Layer → List (List Pt) → Option ℕ → Type 0
+IsLaidOut lib top layer loops None = AreLoopsOf lib top layer loops
+IsLaidOut lib top layer loops (Some at) = IsFirstFault lib top layer (OutOfRange at)
+
+-- whatever a walk gathers of the drawing is of the layer
+abbrev pub IsDrawingOf : Library → ℕ → Layer → Drawn → Type 0
+IsDrawingOf lib top layer d = (loops : List (List Pt)) (far : Option ℕ) → IsWalk d.cells d.top loops far → IsLaidOut lib top layer loops far
