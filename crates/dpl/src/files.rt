@@ -1,7 +1,9 @@
 //! Real files and standard output.
-ghost use Rattle.std.specs.Prelude.{◌≡◌, IfOk};
+ghost use Rattle.std.specs.Prelude.{◌≡◌, ◌≤◌, IfOk, MatchResult, OnErr, OnOk, [], length, take};
 ghost use Rattle.std.specs.Io.{ReadsAtMost, WritesAtMost};
-ghost use Rattle.dpl_host.specs.Outside.{HasCause, Takes};
+ghost use Rattle.dpl_host.specs.MemHost.{next_count};
+ghost use Rattle.dpl_host.specs.Outside.{Changes, Gave, HasCause, IsThere, LeavesRest, Reads, Takes, with_file, with_more, with_said};
+ghost use Rattle.dpl_host.specs.SureHost.{counted, untold};
 
 use dpl_host::{Failed, Host};
 use std::fs::{File, OpenOptions};
@@ -60,6 +62,8 @@ impl<'a> FileHost<'a> {
         ensures taken { IfOk result (Takes piece.now) }
         ensures cause { HasCause self.old.write_faults self.new.write_faults result }
         ensures others { self.new.read_faults ≡ self.old.read_faults }
+        ensures raises { OnErr result (self.new.write_faults ≡ next_count self.old.write_faults) }
+        ensures keeps { OnOk result (self.new.write_faults ≡ self.old.write_faults) }
         ensures given { self.new.given ≡ self.old.given }
     {
         match written {
@@ -73,9 +77,9 @@ impl<'a> FileHost<'a> {
 }
 
 impl<'a> Host for FileHost<'a> {
-    ghost use Rattle.std.specs.Prelude.{None};
+    ghost use Rattle.dpl_host.specs.SureHost.{untold};
 
-    ghost told = { λ h. None };
+    ghost told = { λ h. untold };
 
     ghost read_faults = { λ h. h.read_faults };
 
@@ -83,7 +87,19 @@ impl<'a> Host for FileHost<'a> {
 
     ghost given = { λ h. h.given };
 
-    fn read(&mut self, name: &str, at: u64, into: &mut [u8]) -> Result<usize, Failed> {
+    fn read(&mut self, name: &str, at: u64, into: &mut [u8]) -> Result<usize, Failed>
+        ensures bound { IfOk result (λ n. n ≤ length into.new) }
+        ensures bytes { Reads untold name.now at result into.new }
+        ensures rest { LeavesRest result into.old into.new }
+        ensures same { untold ≡ untold }
+        ensures cause { HasCause self.old.read_faults self.new.read_faults result }
+        ensures others { self.old.write_faults ≤ self.new.write_faults }
+        ensures alone { self.new.write_faults ≡ self.old.write_faults }
+        ensures raises { OnErr result (self.new.read_faults ≡ next_count self.old.read_faults) }
+        ensures keeps { OnOk result (self.new.read_faults ≡ self.old.read_faults) }
+        ensures given { IfOk result (λ n. Gave self.old.given n self.new.given) }
+        ensures exactly { MatchResult result (λ n. self.new.given ≡ counted self.old.given n) (λ _. self.new.given ≡ self.old.given) }
+    {
         let mut chunk = [0u8; CHUNK];
         let room = into.len().min(CHUNK);
         match read_from(self.rt, &mut self.input, name, at, &mut chunk[..room]) {
@@ -99,7 +115,15 @@ impl<'a> Host for FileHost<'a> {
         }
     }
 
-    fn create(&mut self, name: &str) -> Result<(), Failed> {
+    fn create(&mut self, name: &str) -> Result<(), Failed>
+        ensures made { Changes result untold untold (λ _. with_file name.now []) }
+        ensures cause { HasCause self.old.write_faults self.new.write_faults result }
+        ensures others { self.old.read_faults ≤ self.new.read_faults }
+        ensures alone { self.new.read_faults ≡ self.old.read_faults }
+        ensures raises { OnErr result (self.new.write_faults ≡ next_count self.old.write_faults) }
+        ensures keeps { OnOk result (self.new.write_faults ≡ self.old.write_faults) }
+        ensures given { self.new.given ≡ self.old.given }
+    {
         match create_anew(self.rt, &mut self.output, name) {
             Ok(()) => Ok(()),
             Err(_) => {
@@ -109,12 +133,31 @@ impl<'a> Host for FileHost<'a> {
         }
     }
 
-    fn append(&mut self, name: &str, piece: &[u8]) -> Result<usize, Failed> {
+    fn append(&mut self, name: &str, piece: &[u8]) -> Result<usize, Failed>
+        ensures taken { IfOk result (Takes piece.now) }
+        ensures there { OnOk result (IsThere untold name.now) }
+        ensures added { Changes result untold untold (λ n. with_more name.now (take n piece.now)) }
+        ensures cause { HasCause self.old.write_faults self.new.write_faults result }
+        ensures others { self.old.read_faults ≤ self.new.read_faults }
+        ensures alone { self.new.read_faults ≡ self.old.read_faults }
+        ensures raises { OnErr result (self.new.write_faults ≡ next_count self.old.write_faults) }
+        ensures keeps { OnOk result (self.new.write_faults ≡ self.old.write_faults) }
+        ensures given { self.new.given ≡ self.old.given }
+    {
         let written = append_to(self.rt, &mut self.output, name, piece);
         self.taken(written, piece)
     }
 
-    fn say(&mut self, piece: &[u8]) -> Result<usize, Failed> {
+    fn say(&mut self, piece: &[u8]) -> Result<usize, Failed>
+        ensures taken { IfOk result (Takes piece.now) }
+        ensures said { Changes result untold untold (λ n. with_said (take n piece.now)) }
+        ensures cause { HasCause self.old.write_faults self.new.write_faults result }
+        ensures others { self.old.read_faults ≤ self.new.read_faults }
+        ensures alone { self.new.read_faults ≡ self.old.read_faults }
+        ensures raises { OnErr result (self.new.write_faults ≡ next_count self.old.write_faults) }
+        ensures keeps { OnOk result (self.new.write_faults ≡ self.old.write_faults) }
+        ensures given { self.new.given ≡ self.old.given }
+    {
         let written = io::writer(self.rt).write(piece);
         self.taken(written, piece)
     }

@@ -1,8 +1,9 @@
 //! A host in memory, which fails where it is told to.
-ghost use Rattle.std.specs.Prelude.{◌≡◌, ◌<◌, ◌≤◌, ◌||◌, ◌⊎◌, ◌^◌, ◌-◌, true, false, not, is_some, is_err, length, min, take, drop, Some, None, IfOk, IfSome, IsErr, OnErr, OnOk, option_map, []};
+ghost use Rattle.std.specs.Prelude.{◌≡◌, ◌<◌, ◌≤◌, ◌||◌, ◌⊎◌, ◌^◌, ◌-◌, true, false, not, is_some, is_err, length, min, take, drop, Some, None, IfOk, IfSome, IsErr, MatchResult, OnErr, OnOk, option_map, []};
 ghost use Rattle.std.specs.FinMap as map;
 ghost use Rattle.dpl_host.specs.Outside.{Changes, Gave, Gives, HasCause, IsThere, LeavesRest, Reads, Rose, Takes, file_of, with_file, with_more, with_said};
 ghost use Rattle.dpl_host.specs.Memory.{files_of};
+ghost use Rattle.dpl_host.specs.SureHost.{counted};
 ghost use Rattle.dpl_host.specs.MemHost.{append_is_listed, create_is_listed, lists, next_count, plan_of, outside_of, read_is_listed, refusals, same_kind, say_is_listed};
 
 use crate::names;
@@ -138,6 +139,7 @@ impl Host for MemHost {
         ensures plan { plan_of self.new ≡ record (plan_of self.old) { reads = next_count (plan_of self.old).reads } }
         ensures refused { refusals self.new ≡ refusals self.old }
         ensures given { IfOk result (λ n. Gave self.old.given n self.new.given) }
+        ensures exactly { MatchResult result (λ n. self.new.given ≡ counted self.old.given n) (λ _. self.new.given ≡ self.old.given) }
         ensures raises { OnErr result (self.new.read_faults ≡ next_count self.old.read_faults) }
         ensures keeps { OnOk result (self.new.read_faults ≡ self.old.read_faults) }
     {
@@ -163,6 +165,7 @@ impl Host for MemHost {
         ensures fails { OnErr result ((create_is_listed self.old ≡ true) ⊎ Rose (refusals self.old) (refusals self.new)) }
         ensures works { OnOk result ((create_is_listed self.old ≡ false) × (refusals self.new ≡ refusals self.old)) }
         ensures plan { plan_of self.new ≡ record (plan_of self.old) { creates = next_count (plan_of self.old).creates } }
+        ensures given { self.new.given ≡ self.old.given }
         ensures raises { OnErr result (self.new.write_faults ≡ next_count self.old.write_faults) }
         ensures keeps { OnOk result (self.new.write_faults ≡ self.old.write_faults) }
         ensures spared { create_is_listed self.old ≡ true → refusals self.new ≡ refusals self.old }
@@ -190,6 +193,7 @@ impl Host for MemHost {
         ensures works { OnOk result ((append_is_listed self.old ≡ false) × (refusals self.new ≡ refusals self.old)) }
         ensures most { IfOk result (λ n. n ≡ min (length piece.now) (plan_of self.old).step) }
         ensures plan { plan_of self.new ≡ record (plan_of self.old) { appends = next_count (plan_of self.old).appends } }
+        ensures given { self.new.given ≡ self.old.given }
         ensures raises { OnErr result (self.new.write_faults ≡ next_count self.old.write_faults) }
         ensures keeps { OnOk result (self.new.write_faults ≡ self.old.write_faults) }
         ensures spared { append_is_listed self.old ≡ true → refusals self.new ≡ refusals self.old }
@@ -219,6 +223,7 @@ impl Host for MemHost {
         ensures works { OnOk result ((say_is_listed self.old ≡ false) × (refusals self.new ≡ refusals self.old)) }
         ensures most { IfOk result (λ n. n ≡ min (length piece.now) (plan_of self.old).step) }
         ensures plan { plan_of self.new ≡ record (plan_of self.old) { says = next_count (plan_of self.old).says } }
+        ensures given { self.new.given ≡ self.old.given }
         ensures raises { OnErr result (self.new.write_faults ≡ next_count self.old.write_faults) }
         ensures keeps { OnOk result (self.new.write_faults ≡ self.old.write_faults) }
         ensures spared { say_is_listed self.old ≡ true → refusals self.new ≡ refusals self.old }

@@ -44,6 +44,7 @@ impl<'a> SureHost<'a> {
         ensures all { result ≡ length piece.now }
         ensures counted { self.new.taken ≡ counted self.old.taken (length piece.now) }
         ensures files { borrowed self.new ≡ borrowed self.old }
+        ensures given { self.new.given ≡ self.old.given }
     {
         self.taken = self.taken.saturating_add(piece.len() as u64);
         piece.len()
@@ -71,6 +72,7 @@ impl<'a> Host for SureHost<'a> {
         ensures others { 0 ≤ 0 }
         ensures gives { IfOk result (λ n. Gives (unwrap_or (map.get (borrowed self.old) name.now) []) at n into.new) }
         ensures given { IfOk result (λ n. Gave self.old.given n self.new.given) }
+        ensures exactly { IfOk result (λ n. self.new.given ≡ counted self.old.given n) }
         ensures files { borrowed self.new ≡ borrowed self.old }
         ensures count { self.new.taken ≡ self.old.taken }
     {
@@ -89,6 +91,7 @@ impl<'a> Host for SureHost<'a> {
         ensures others { 0 ≤ 0 }
         ensures sure { IsOk result }
         ensures files { borrowed self.new ≡ borrowed self.old }
+        ensures given { self.new.given ≡ self.old.given }
         ensures count { self.new.taken ≡ self.old.taken }
     {
         Ok(())
@@ -104,6 +107,7 @@ impl<'a> Host for SureHost<'a> {
         ensures sure { IsOk result }
         ensures count { self.new.taken ≡ counted self.old.taken (length piece.now) }
         ensures files { borrowed self.new ≡ borrowed self.old }
+        ensures given { self.new.given ≡ self.old.given }
     {
         Ok(self.count(piece))
     }
@@ -117,6 +121,7 @@ impl<'a> Host for SureHost<'a> {
         ensures sure { IsOk result }
         ensures count { self.new.taken ≡ counted self.old.taken (length piece.now) }
         ensures files { borrowed self.new ≡ borrowed self.old }
+        ensures given { self.new.given ≡ self.old.given }
     {
         Ok(self.count(piece))
     }
