@@ -4,7 +4,11 @@ ghost use Rattle.std.specs.Prelude.{◌≡◌, unwrap_or};
 ghost use Rattle.std.specs.Option.{option_map};
 ghost use Rattle.dpl_format.specs.Table as format;
 ghost use Rattle.dpl_format.specs.Records as records;
-ghost use Rattle.dpl_records.specs.Forms.{form_seen, size_seen};
+ghost use Rattle.dpl_records.specs.Forms.{form_in, form_seen, size_seen};
+
+use Data::{
+    Bits, Dates, Empty, Long, Points, Real, Reals, Short, Shorts, Text, Unchecked, Unknown,
+};
 
 /// How many bytes of data a record has.
 #[derive(Clone, Copy, Debug, Drop)]
@@ -44,74 +48,70 @@ impl Form {
     }
 }
 
-const UNKNOWN: Option<Form> = None;
-
-const UNCHECKED: Option<Form> = Some(Form {
-    data_type: None,
-    size: Size::Any,
-});
-
-const EMPTY: Option<Form> = Some(Form {
-    data_type: Some(0),
-    size: Size::Exactly(0),
-});
-
-const BITS: Option<Form> = Some(Form {
-    data_type: Some(1),
-    size: Size::Exactly(2),
-});
-
-const SHORT: Option<Form> = Some(Form {
-    data_type: Some(2),
-    size: Size::Exactly(2),
-});
-
-const SHORTS: Option<Form> = Some(Form {
-    data_type: Some(2),
-    size: Size::Exactly(4),
-});
-
-const DATES: Option<Form> = Some(Form {
-    data_type: Some(2),
-    size: Size::Exactly(24),
-});
-
-const LONG: Option<Form> = Some(Form {
-    data_type: Some(3),
-    size: Size::Exactly(4),
-});
-
-const POINTS: Option<Form> = Some(Form {
-    data_type: Some(3),
-    size: Size::Points,
-});
-
-const REAL: Option<Form> = Some(Form {
-    data_type: Some(5),
-    size: Size::Exactly(8),
-});
-
-const REALS: Option<Form> = Some(Form {
-    data_type: Some(5),
-    size: Size::Exactly(16),
-});
-
-const TEXT: Option<Form> = Some(Form {
-    data_type: Some(6),
-    size: Size::Any,
-});
+/// What the data of a type of record is, by a name.
+#[derive(Clone, Copy)]
+enum Data {
+    /// There is no such type of record.
+    Unknown,
+    Unchecked,
+    Empty,
+    Bits,
+    Short,
+    Shorts,
+    Dates,
+    Long,
+    Points,
+    Real,
+    Reals,
+    Text,
+}
 
 /// By type, from HEADER on.
-const TABLE: [Option<Form>; 60] = [
-    SHORT, DATES, TEXT, REALS, EMPTY, DATES, TEXT, EMPTY, // HEADER to ENDSTR
-    EMPTY, EMPTY, EMPTY, EMPTY, EMPTY, SHORT, SHORT, LONG, // BOUNDARY to WIDTH
-    POINTS, EMPTY, TEXT, SHORTS, UNKNOWN, EMPTY, SHORT, BITS, // XY to PRESENTATION
-    UNKNOWN, TEXT, BITS, REAL, REAL, UNKNOWN, UNKNOWN, UNCHECKED, // STRING to REFLIBS
-    UNCHECKED, SHORT, UNCHECKED, UNCHECKED, UNKNOWN, UNKNOWN, BITS, UNKNOWN, // FONTS to ELFLAGS
-    UNKNOWN, UNKNOWN, SHORT, SHORT, TEXT, EMPTY, SHORT, LONG, // NODETYPE to PLEX
-    LONG, LONG, UNCHECKED, UNCHECKED, UNCHECKED, UNCHECKED, UNCHECKED, UNCHECKED, // BGNEXTN on
-    UNCHECKED, UNCHECKED, UNCHECKED, UNCHECKED,
+const TABLE: [Data; 60] = [
+    Short, Dates, Text, Reals, Empty, Dates, Text, Empty, // HEADER to ENDSTR
+    Empty, Empty, Empty, Empty, Empty, Short, Short, Long, // BOUNDARY to WIDTH
+    Points, Empty, Text, Shorts, Unknown, Empty, Short, Bits, // XY to PRESENTATION
+    Unknown, Text, Bits, Real, Real, Unknown, Unknown, Unchecked, // STRING to REFLIBS
+    Unchecked, Short, Unchecked, Unchecked, Unknown, Unknown, Bits, Unknown, // FONTS to ELFLAGS
+    Unknown, Unknown, Short, Short, Text, Empty, Short, Long, // NODETYPE to PLEX
+    Long, Long, Unchecked, Unchecked, Unchecked, Unchecked, Unchecked, Unchecked, // BGNEXTN on
+    Unchecked, Unchecked, Unchecked, Unchecked,
 ];
+
+impl Data {
+    /// The data type and the size.
+    fn form(self) -> Option<Form>
+        ensures { option_map form_seen result ≡ form_in self }
+    {
+        match self {
+            Unknown => None,
+            Unchecked => Some(Form {
+                data_type: None,
+                size: Size::Any,
+            }),
+            Empty => of_type(0, Size::Exactly(0)),
+            Bits => of_type(1, Size::Exactly(2)),
+            Short => of_type(2, Size::Exactly(2)),
+            Shorts => of_type(2, Size::Exactly(4)),
+            Dates => of_type(2, Size::Exactly(24)),
+            Long => of_type(3, Size::Exactly(4)),
+            Points => of_type(3, Size::Points),
+            Real => of_type(5, Size::Exactly(8)),
+            Reals => of_type(5, Size::Exactly(16)),
+            Text => of_type(6, Size::Any),
+        }
+    }
+}
+
+/// Data of this type.
+fn of_type(data_type: u8, size: Size) -> Option<Form>
+    ensures { option_map form_seen result ≡ format.of data_type (size_seen size) }
+{
+    Some(Form {
+        data_type: Some(data_type),
+        size,
+    })
+}
 
 /// What the data of a type of record is, where there is such a type.
 pub fn form_of(kind: u8) -> Option<Form>
@@ -119,7 +119,7 @@ pub fn form_of(kind: u8) -> Option<Form>
 {
     let place = kind as usize;
     if place < TABLE.len() {
-        TABLE[place]
+        TABLE[place].form()
     } else {
         None
     }

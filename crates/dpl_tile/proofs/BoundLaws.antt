@@ -1,9 +1,9 @@
 -- The least rectangle round some squares.
-use Rattle.std.proofs.Common.{◌≡◌, inl, inr, ◌⊎◌, Bool, true, false, cond, List, [], ◌∷◌, sym, refl, ap, ◌∙◌, subst, arith, rules}
+use Rattle.std.proofs.Common.{◌≡◌, inl, inr, ◌⊎◌, List, [], ◌∷◌, sym, refl, ap, ◌∙◌, subst, arith, rules}
 use Rattle.std.specs.Prelude.{◌↔◌, ℤ, pos, ◌+ℤ◌, ◌-ℤ◌, ◌≤ℤ◌, Option, Some, None, IsNone, IfSome}
 use Rattle.std.specs.List.{Any, Contains, fold}
-use Rattle.std.proofs.lemmas.Int.{ints}
-use lib.Signed.{le_z}
+use Rattle.std.proofs.lemmas.Int.{ints, clamps, by_lt_z}
+use Rattle.std.specs.Int.{int_min, int_max}
 use Rattle.dpl_spec.specs.declared.Pt.{Pt}
 use Rattle.dpl_spec.specs.declared.Rect.{Rect}
 use Rattle.dpl_spec.specs.Squares.{Region, Has, Covers}
@@ -11,7 +11,7 @@ use Rattle.dpl_spec.specs.Slabs.{IsSolid}
 use Rattle.dpl_spec.proofs.SlabLaws.{same_rect}
 use Rattle.dpl_spec.proofs.Ordered.{Contains-head, Contains-later, Contains-cases, Contains-nil}
 use Rattle.dpl_slabs.specs.Parts.{union_of}
-use Rattle.dpl_tile.specs.Bounds.{smaller, greater, round_one, round_all}
+use Rattle.dpl_tile.specs.Bounds.{round_one, round_all}
 use Rattle.dpl_tile.specs.Tiles.{IsBounds}
 
 -- none, or the least rectangle round the set
@@ -19,31 +19,17 @@ abbrev pub AreRound : Region → Option Rect → Type 0
 AreRound a None = (p : Pt) → a p → ⊥
 AreRound a (Some b) = IsBounds a b
 
-smaller_by : (b : Bool) (x y : ℤ) → le_z x y ≡ b → ((cond b x y ≡ x) × (x ≤ℤ y)) ⊎ ((cond b x y ≡ y) × (y ≤ℤ x))
-smaller_by true x y e = inl (refl, grind (arith, ints))
-smaller_by false x y e = inr (refl, grind (arith, ints))
+smaller-is : (x y : ℤ) → ((int_min x y ≡ x) × (x ≤ℤ y)) ⊎ ((int_min x y ≡ y) × (y ≤ℤ x))
+smaller-is x y = by_lt_z y x (λ l. inr (omega (arith, ints, clamps, l), omega (arith, ints, l))) (λ l. inl (omega (arith, ints, clamps, l), l))
 
-greater_by : (b : Bool) (x y : ℤ) → le_z y x ≡ b → ((cond b x y ≡ x) × (y ≤ℤ x)) ⊎ ((cond b x y ≡ y) × (x ≤ℤ y))
-greater_by true x y e = inl (refl, grind (arith, ints))
-greater_by false x y e = inr (refl, grind (arith, ints))
+greater-is : (x y : ℤ) → ((int_max x y ≡ x) × (y ≤ℤ x)) ⊎ ((int_max x y ≡ y) × (x ≤ℤ y))
+greater-is x y = by_lt_z y x (λ l. inl (omega (arith, ints, clamps, l), omega (arith, ints, l))) (λ l. inr (omega (arith, ints, clamps, l), l))
 
-smaller-is : (x y : ℤ) → ((smaller x y ≡ x) × (x ≤ℤ y)) ⊎ ((smaller x y ≡ y) × (y ≤ℤ x))
-smaller-is x y = smaller_by (le_z x y) x y refl
+smaller-le : (x y : ℤ) → (int_min x y ≤ℤ x) × (int_min x y ≤ℤ y)
+smaller-le x y = (omega (arith, ints, clamps), omega (arith, ints, clamps))
 
-greater-is : (x y : ℤ) → ((greater x y ≡ x) × (y ≤ℤ x)) ⊎ ((greater x y ≡ y) × (x ≤ℤ y))
-greater-is x y = greater_by (le_z y x) x y refl
-
-smaller-le : (x y : ℤ) → (smaller x y ≤ℤ x) × (smaller x y ≤ℤ y)
-smaller-le x y = elim (smaller-is x y) [
-  | inl (e, l) ↦ (omega (arith, ints, e, l), omega (arith, ints, e, l))
-  | inr (e, l) ↦ (omega (arith, ints, e, l), omega (arith, ints, e, l))
-]
-
-greater-ge : (x y : ℤ) → (x ≤ℤ greater x y) × (y ≤ℤ greater x y)
-greater-ge x y = elim (greater-is x y) [
-  | inl (e, l) ↦ (omega (arith, ints, e, l), omega (arith, ints, e, l))
-  | inr (e, l) ↦ (omega (arith, ints, e, l), omega (arith, ints, e, l))
-]
+greater-ge : (x y : ℤ) → (x ≤ℤ int_max x y) × (y ≤ℤ int_max x y)
+greater-ge x y = (omega (arith, ints, clamps), omega (arith, ints, clamps))
 
 -- one set and a rectangle more
 abbrev Or : Region → Rect → Region
@@ -62,7 +48,7 @@ round_none a r solid none =
     }
 
 module _ (a : Region) (b r : Rect) (solid : IsSolid r) (old : IsBounds a b) where
-  within_old : (p : Pt) → Has b p → Has (record { x0 = smaller b.x0 r.x0; y0 = smaller b.y0 r.y0; x1 = greater b.x1 r.x1; y1 = greater b.y1 r.y1 }) p
+  within_old : (p : Pt) → Has b p → Has (record { x0 = int_min b.x0 r.x0; y0 = int_min b.y0 r.y0; x1 = int_max b.x1 r.x1; y1 = int_max b.y1 r.y1 }) p
   within_old p h =
       let l = (smaller-le b.x0 r.x0).0 in
       let m = (smaller-le b.y0 r.y0).0 in
@@ -74,7 +60,7 @@ module _ (a : Region) (b r : Rect) (solid : IsSolid r) (old : IsBounds a b) wher
       let f = h.high in
       record { left = omega (arith, ints, l, c); right = omega (arith, ints, n, d); low = omega (arith, ints, m, e); high = omega (arith, ints, k, f) }
 
-  within_new : (p : Pt) → Has r p → Has (record { x0 = smaller b.x0 r.x0; y0 = smaller b.y0 r.y0; x1 = greater b.x1 r.x1; y1 = greater b.y1 r.y1 }) p
+  within_new : (p : Pt) → Has r p → Has (record { x0 = int_min b.x0 r.x0; y0 = int_min b.y0 r.y0; x1 = int_max b.x1 r.x1; y1 = int_max b.y1 r.y1 }) p
   within_new p h =
       let l = (smaller-le b.x0 r.x0).1 in
       let m = (smaller-le b.y0 r.y0).1 in
@@ -86,7 +72,7 @@ module _ (a : Region) (b r : Rect) (solid : IsSolid r) (old : IsBounds a b) wher
       let f = h.high in
       record { left = omega (arith, ints, l, c); right = omega (arith, ints, n, d); low = omega (arith, ints, m, e); high = omega (arith, ints, k, f) }
 
-  new_left : (p : Pt) × Or a r p × (p.x ≡ smaller b.x0 r.x0)
+  new_left : (p : Pt) × Or a r p × (p.x ≡ int_min b.x0 r.x0)
   new_left =
       let none = round_none (λ p. ⊥) r solid (λ p h. h) in
       elim (smaller-is b.x0 r.x0) [
@@ -94,7 +80,7 @@ module _ (a : Region) (b r : Rect) (solid : IsSolid r) (old : IsBounds a b) wher
         | inr (e, l) ↦ (let (p, h, is) = none.left in (p, elim h [ inl q ↦ absurd q | inr q ↦ inr q ], is ∙ sym e))
       ]
 
-  new_right : (p : Pt) × Or a r p × (p.x +ℤ pos 1 ≡ greater b.x1 r.x1)
+  new_right : (p : Pt) × Or a r p × (p.x +ℤ pos 1 ≡ int_max b.x1 r.x1)
   new_right =
       let none = round_none (λ p. ⊥) r solid (λ p h. h) in
       elim (greater-is b.x1 r.x1) [
@@ -102,7 +88,7 @@ module _ (a : Region) (b r : Rect) (solid : IsSolid r) (old : IsBounds a b) wher
         | inr (e, l) ↦ (let (p, h, is) = none.right in (p, elim h [ inl q ↦ absurd q | inr q ↦ inr q ], is ∙ sym e))
       ]
 
-  new_low : (p : Pt) × Or a r p × (p.y ≡ smaller b.y0 r.y0)
+  new_low : (p : Pt) × Or a r p × (p.y ≡ int_min b.y0 r.y0)
   new_low =
       let none = round_none (λ p. ⊥) r solid (λ p h. h) in
       elim (smaller-is b.y0 r.y0) [
@@ -110,7 +96,7 @@ module _ (a : Region) (b r : Rect) (solid : IsSolid r) (old : IsBounds a b) wher
         | inr (e, l) ↦ (let (p, h, is) = none.low in (p, elim h [ inl q ↦ absurd q | inr q ↦ inr q ], is ∙ sym e))
       ]
 
-  new_high : (p : Pt) × Or a r p × (p.y +ℤ pos 1 ≡ greater b.y1 r.y1)
+  new_high : (p : Pt) × Or a r p × (p.y +ℤ pos 1 ≡ int_max b.y1 r.y1)
   new_high =
       let none = round_none (λ p. ⊥) r solid (λ p h. h) in
       elim (greater-is b.y1 r.y1) [
@@ -118,7 +104,7 @@ module _ (a : Region) (b r : Rect) (solid : IsSolid r) (old : IsBounds a b) wher
         | inr (e, l) ↦ (let (p, h, is) = none.high in (p, elim h [ inl q ↦ absurd q | inr q ↦ inr q ], is ∙ sym e))
       ]
 
-  round_some : IsBounds (Or a r) (record { x0 = smaller b.x0 r.x0; y0 = smaller b.y0 r.y0; x1 = greater b.x1 r.x1; y1 = greater b.y1 r.y1 })
+  round_some : IsBounds (Or a r) (record { x0 = int_min b.x0 r.x0; y0 = int_min b.y0 r.y0; x1 = int_max b.x1 r.x1; y1 = int_max b.y1 r.y1 })
   round_some =
       record {
         inside = λ p h. elim h [ inl q ↦ within_old p (old.inside p q) | inr q ↦ within_new p q ];
@@ -181,9 +167,9 @@ pub parts-round : (parts : List (List Rect)) → ((part : List Rect) (r : Rect) 
 parts-round parts solid =
     region_same (λ p. ⊥ ⊎ union_of parts p) (union_of parts) (fold round_all None parts) (λ p. (λ q. elim q [ inl b ↦ absurd b | inr b ↦ b ], λ q. inr q)) (parts_round parts (λ p. ⊥) None solid (λ p h. h))
 
-pub round-one-is : (before : Option Rect) (b r made : Rect) → before ≡ Some b → made.x0 ≡ smaller b.x0 r.x0 → made.y0 ≡ smaller b.y0 r.y0 → made.x1 ≡ greater b.x1 r.x1 → made.y1 ≡ greater b.y1 r.y1 → Some made ≡ round_one before r
+pub round-one-is : (before : Option Rect) (b r made : Rect) → before ≡ Some b → made.x0 ≡ int_min b.x0 r.x0 → made.y0 ≡ int_min b.y0 r.y0 → made.x1 ≡ int_max b.x1 r.x1 → made.y1 ≡ int_max b.y1 r.y1 → Some made ≡ round_one before r
 round-one-is before b r made is x0 y0 x1 y1 =
-    rw is (ap (λ u. Some u) (same_rect made (record { x0 = smaller b.x0 r.x0; y0 = smaller b.y0 r.y0; x1 = greater b.x1 r.x1; y1 = greater b.y1 r.y1 }) x0 y0 x1 y1))
+    rw is (ap (λ u. Some u) (same_rect made (record { x0 = int_min b.x0 r.x0; y0 = int_min b.y0 r.y0; x1 = int_max b.x1 r.x1; y1 = int_max b.y1 r.y1 }) x0 y0 x1 y1))
 
 pub none-round : (a : Region) (o : Option Rect) → AreRound a o → IsNone o → (p : Pt) → a p → ⊥
 none-round a None h n = h

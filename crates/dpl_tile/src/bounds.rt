@@ -3,25 +3,11 @@ ghost use Rattle.std.specs.Prelude.{◌≡◌, ◌<◌, IsNone, IfSome, None};
 ghost use Rattle.std.specs.List.{fold};
 ghost use Rattle.dpl_spec.specs.declared.Pt.{Pt};
 ghost use Rattle.dpl_slabs.specs.Parts.{AreParts, union_of};
-ghost use Rattle.dpl_tile.specs.Bounds.{smaller, greater, round_one, round_all};
+ghost use Rattle.dpl_tile.specs.Bounds.{round_one, round_all};
 ghost use Rattle.dpl_tile.specs.Tiles.{IsBounds};
 
 use dpl_base::Rect;
 use dpl_slabs::Slabs;
-
-/// The smaller of two coordinates.
-fn smaller(a: i64, b: i64) -> i64
-    ensures { result ≡ smaller a b }
-{
-    if a <= b { a } else { b }
-}
-
-/// The greater of two coordinates.
-fn greater(a: i64, b: i64) -> i64
-    ensures { result ≡ greater a b }
-{
-    if b <= a { a } else { b }
-}
 
 /// The least rectangle round those before and one more.
 fn round_one(before: Option<Rect>, r: &Rect) -> Option<Rect>
@@ -31,10 +17,10 @@ fn round_one(before: Option<Rect>, r: &Rect) -> Option<Rect>
         return Some(*r);
     };
     Some(Rect {
-        x0: smaller(b.x0, r.x0),
-        y0: smaller(b.y0, r.y0),
-        x1: greater(b.x1, r.x1),
-        y1: greater(b.y1, r.y1),
+        x0: b.x0.min(r.x0),
+        y0: b.y0.min(r.y0),
+        x1: b.x1.max(r.x1),
+        y1: b.y1.max(r.y1),
     })
 }
 

@@ -1,8 +1,10 @@
 -- The command line, as `clap` is told of it.
-use Rattle.std.specs.Prelude.{ℕ, true, false, pos, Some, [], ◌∷◌, codes}
+use Rattle.std.specs.Prelude.{ℕ, true, false, pos, Some, List, [], ◌∷◌, codes}
 use Rattle.clap.specs.Walk.{Rule, Text}
 use Rattle.clap.specs.Simple.{App, Shape, new_rule, new_shape}
 use Rattle.clap.specs.declared.builder.value_parser.ValueParser.TheVariants as vp
+use Rattle.dpl_words.specs.declared.definition.Argument.{Argument}
+use Rattle.dpl_words.specs.declared.definition.Argument.TheVariants.{RequiredNumber, OptionalNumber, RequiredWord, OptionalText, FileName}
 
 -- an option that must be given, with a whole number from low to high
 abbrev pub required_number : Text → ℕ → ℕ → Rule
@@ -35,6 +37,18 @@ optional_text id = record (new_rule id) { long = Some id }
 -- a name of a file, by its place
 abbrev pub file_name : Text → Rule
 file_name id = record (new_rule id) { required = true }
+
+-- the rule of an argument
+abbrev pub rule_for : Argument → Rule
+rule_for (RequiredNumber id low high) = required_number id.now low high
+rule_for (OptionalNumber id low high default) = optional_number id.now low high default.now
+rule_for (RequiredWord id) = required_word id.now
+rule_for (OptionalText id) = optional_text id.now
+rule_for (FileName id) = file_name id.now
+
+-- a command of this name, with these rules
+abbrev pub shape_with : Text → List Rule → Shape
+shape_with name rules = record (new_shape name) { rules = rules }
 
 abbrev pub split_shape : Shape
 split_shape = record (new_shape (codes "split")) {

@@ -1,25 +1,64 @@
 //! What `clap` is told of the command line.
-ghost use Rattle.std.specs.Prelude.{◌≡◌, ℕ, pos, Some, IfOk, false, true, []};
+ghost use Rattle.std.specs.Prelude.{◌≡◌, ℕ, pos, Some, IfOk, false, true, [], map};
 ghost use Rattle.clap.specs.Walk.{rule_of};
-ghost use Rattle.clap.specs.Simple.{app_of};
+ghost use Rattle.clap.specs.Simple.{app_of, with_subcommand};
 ghost use Rattle.clap.specs.declared.builder.command.Command.TheViews.{out-Command as fields_of};
-ghost use Rattle.dpl_words.specs.Definition.{check_shape, demo_shape, dpl_app, file_name, optional_number, optional_text, required_number, required_word, split_shape, top_shape};
+ghost use Rattle.dpl_words.specs.Definition.{check_shape, demo_shape, dpl_app, file_name, optional_number, optional_text, required_number, required_word, rule_for, shape_with, split_shape, top_shape};
 ghost use Rattle.clap.specs.declared.builder.value_parser.ValueParser.TheVariants as vp;
 
 use clap::builder::ValueParser;
 use clap::{Arg, Command, value_parser};
 use std::alloc::{AllocError, Global};
 
+/// An argument of a subcommand, by its name.
+#[derive(Clone, Copy)]
+enum Argument<'a> {
+    /// An option that must be given, with a whole number from the first to the second.
+    RequiredNumber(&'a str, u32, u32),
+    /// An option with a whole number from the first to the second, and a default.
+    OptionalNumber(&'a str, u32, u32, &'a str),
+    /// An option that must be given, with any whole number of 64 bits.
+    RequiredWord(&'a str),
+    /// An option with a text.
+    OptionalText(&'a str),
+    /// The name of a file, by its place.
+    FileName(&'a str),
+}
+
+impl<'a> Argument<'a> {
+    /// The argument as `clap` takes it.
+    fn arg(self, alloc: Global) -> Arg<'a>
+        ensures rule { rule_of result ≡ rule_for self.entry }
+        ensures local { result.global ≡ false }
+    {
+        match self {
+            Argument::RequiredNumber(id, low, high) => { required_number_arg(alloc, id, low, high) }
+            Argument::OptionalNumber(id, low, high, default) => {
+                optional_number_arg(alloc, id, low, high, default)
+            }
+            Argument::RequiredWord(id) => required_word_arg(alloc, id),
+            Argument::OptionalText(id) => Arg::new(alloc, id).long(id),
+            Argument::FileName(id) => Arg::new(alloc, id).required(true),
+        }
+    }
+}
+
+/// What reads a whole number within a range.
+fn number_parser<'a>(low: u32, high: u32) -> ValueParser<'a>
+    ensures { result ≡ vp.Signed (pos low) (pos high) }
+{
+    value_parser!(u32).range(i64::from(low)..=i64::from(high))
+}
+
 /// An option that must be given, with a whole number.
 fn required_number_arg<'a>(alloc: Global, id: &'a str, low: u32, high: u32) -> Arg<'a>
     ensures rule { rule_of result ≡ required_number id.entry.now low high }
     ensures local { result.global ≡ false }
 {
-    let parser = value_parser!(u32).range(i64::from(low)..=i64::from(high));
     Arg::new(alloc, id)
         .long(id)
         .required(true)
-        .value_parser(parser)
+        .value_parser(number_parser(low, high))
 }
 
 /// An option with a whole number, and a default.
@@ -33,11 +72,10 @@ fn optional_number_arg<'a>(
     ensures rule { rule_of result ≡ optional_number id.entry.now low high default.entry.now }
     ensures local { result.global ≡ false }
 {
-    let parser = value_parser!(u32).range(i64::from(low)..=i64::from(high));
     Arg::new(alloc, id)
         .long(id)
         .default_value(default)
-        .value_parser(parser)
+        .value_parser(number_parser(low, high))
 }
 
 /// An option that must be given, with any whole number of 64 bits.
@@ -52,76 +90,86 @@ fn required_word_arg<'a>(alloc: Global, id: &'a str) -> Arg<'a>
         .value_parser(parser)
 }
 
-/// An option with a text.
-fn optional_text_arg<'a>(alloc: Global, id: &'a str) -> Arg<'a>
-    ensures rule { rule_of result ≡ optional_text id.entry.now }
-    ensures local { result.global ≡ false }
-{
-    Arg::new(alloc, id).long(id)
-}
-
-/// The name of a file, by its place.
-fn file_name_arg<'a>(alloc: Global, id: &'a str) -> Arg<'a>
-    ensures rule { rule_of result ≡ file_name id.entry.now }
-    ensures local { result.global ≡ false }
-{
-    Arg::new(alloc, id).required(true)
-}
-
-/// The subcommand `split`.
-fn split_command<'a>(alloc: Global) -> Result<Command<'a>, AllocError>
-    ensures shape { IfOk result (λ c. app_of c ≡ record { top = split_shape; subs = [] }) }
+/// A command of this name, with these arguments.
+fn command_with<'a>(
+    alloc: Global,
+    name: &'a str,
+    arguments: &[Argument<'a>],
+) -> Result<Command<'a>, AllocError>
+    ensures shape { IfOk result (λ c. app_of c ≡ record { top = shape_with name.entry.now (map rule_for arguments.now); subs = [] }) }
     ensures local { IfOk result (λ c. (fields_of c).has_globals ≡ false) }
 {
-    Ok(
-        Command::new(alloc, "split")
-            .arg(required_number_arg(alloc, "layer", 0, 65_535))?
-            .arg(required_number_arg(alloc, "rule", 1, 1_000_000))?
-            .arg(required_number_arg(alloc, "overlap", 1, 1_000_000))?
-            .arg(optional_number_arg(alloc, "datatype", 0, 65_535, "0"))?
-            .arg(optional_text_arg(alloc, "top"))?
-            .arg(optional_number_arg(alloc, "a", 0, 65_535, "101"))?
-            .arg(optional_number_arg(alloc, "b", 0, 65_535, "102"))?
-            .arg(optional_number_arg(alloc, "tile", 1, 1_073_741_824, "4096"))?
-            .arg(optional_number_arg(alloc, "workers", 1, 64, "4"))?
-            .arg(file_name_arg(alloc, "in"))?
-            .arg(file_name_arg(alloc, "out"))?
-            .arg(file_name_arg(alloc, "cert"))?,
-    )
+    let mut command = Command::new(alloc, name);
+    for argument in arguments {
+        command = command.arg(argument.arg(alloc))?;
+    }
+    Ok(command)
 }
 
-/// The subcommand `check`.
-fn check_command<'a>(alloc: Global) -> Result<Command<'a>, AllocError>
-    ensures shape { IfOk result (λ c. app_of c ≡ record { top = check_shape; subs = [] }) }
-    ensures local { IfOk result (λ c. (fields_of c).has_globals ≡ false) }
+/// Adds a subcommand of this name, with these arguments.
+fn with_level<'a>(
+    alloc: Global,
+    command: Command<'a>,
+    name: &'a str,
+    arguments: &[Argument<'a>],
+) -> Result<Command<'a>, AllocError>
+    ensures { IfOk result (λ c. app_of c ≡ with_subcommand (app_of command.entry) (shape_with name.entry.now (map rule_for arguments.now))) }
 {
-    Ok(
-        Command::new(alloc, "check")
-            .arg(required_number_arg(alloc, "layer", 0, 65_535))?
-            .arg(required_number_arg(alloc, "rule", 1, 1_000_000))?
-            .arg(required_number_arg(alloc, "overlap", 1, 1_000_000))?
-            .arg(optional_number_arg(alloc, "datatype", 0, 65_535, "0"))?
-            .arg(optional_text_arg(alloc, "top"))?
-            .arg(optional_number_arg(alloc, "a", 0, 65_535, "101"))?
-            .arg(optional_number_arg(alloc, "b", 0, 65_535, "102"))?
-            .arg(file_name_arg(alloc, "in"))?
-            .arg(file_name_arg(alloc, "out"))?
-            .arg(file_name_arg(alloc, "cert"))?,
-    )
+    let level = command_with(alloc, name, arguments)?;
+    command.subcommand(level)
 }
 
-/// The subcommand `demo`.
-fn demo_command<'a>(alloc: Global) -> Result<Command<'a>, AllocError>
-    ensures shape { IfOk result (λ c. app_of c ≡ record { top = demo_shape; subs = [] }) }
-    ensures local { IfOk result (λ c. (fields_of c).has_globals ≡ false) }
+/// Adds the subcommand `split`.
+fn with_split<'a>(alloc: Global, command: Command<'a>) -> Result<Command<'a>, AllocError>
+    ensures { IfOk result (λ c. app_of c ≡ with_subcommand (app_of command.entry) split_shape) }
 {
-    Ok(
-        Command::new(alloc, "demo")
-            .arg(required_word_arg(alloc, "seed"))?
-            .arg(required_number_arg(alloc, "rows", 1, 1_000_000))?
-            .arg(optional_number_arg(alloc, "tile", 1, 1_073_741_824, "4096"))?
-            .arg(optional_number_arg(alloc, "workers", 1, 64, "4"))?,
-    )
+    let arguments = [
+        Argument::RequiredNumber("layer", 0, 65_535),
+        Argument::RequiredNumber("rule", 1, 1_000_000),
+        Argument::RequiredNumber("overlap", 1, 1_000_000),
+        Argument::OptionalNumber("datatype", 0, 65_535, "0"),
+        Argument::OptionalText("top"),
+        Argument::OptionalNumber("a", 0, 65_535, "101"),
+        Argument::OptionalNumber("b", 0, 65_535, "102"),
+        Argument::OptionalNumber("tile", 1, 1_073_741_824, "4096"),
+        Argument::OptionalNumber("workers", 1, 64, "4"),
+        Argument::FileName("in"),
+        Argument::FileName("out"),
+        Argument::FileName("cert"),
+    ];
+    with_level(alloc, command, "split", &arguments)
+}
+
+/// Adds the subcommand `check`.
+fn with_check<'a>(alloc: Global, command: Command<'a>) -> Result<Command<'a>, AllocError>
+    ensures { IfOk result (λ c. app_of c ≡ with_subcommand (app_of command.entry) check_shape) }
+{
+    let arguments = [
+        Argument::RequiredNumber("layer", 0, 65_535),
+        Argument::RequiredNumber("rule", 1, 1_000_000),
+        Argument::RequiredNumber("overlap", 1, 1_000_000),
+        Argument::OptionalNumber("datatype", 0, 65_535, "0"),
+        Argument::OptionalText("top"),
+        Argument::OptionalNumber("a", 0, 65_535, "101"),
+        Argument::OptionalNumber("b", 0, 65_535, "102"),
+        Argument::FileName("in"),
+        Argument::FileName("out"),
+        Argument::FileName("cert"),
+    ];
+    with_level(alloc, command, "check", &arguments)
+}
+
+/// Adds the subcommand `demo`.
+fn with_demo<'a>(alloc: Global, command: Command<'a>) -> Result<Command<'a>, AllocError>
+    ensures { IfOk result (λ c. app_of c ≡ with_subcommand (app_of command.entry) demo_shape) }
+{
+    let arguments = [
+        Argument::RequiredWord("seed"),
+        Argument::RequiredNumber("rows", 1, 1_000_000),
+        Argument::OptionalNumber("tile", 1, 1_073_741_824, "4096"),
+        Argument::OptionalNumber("workers", 1, 64, "4"),
+    ];
+    with_level(alloc, command, "demo", &arguments)
 }
 
 /// The program's own command, before its subcommands.
@@ -139,13 +187,7 @@ fn top_command<'a>(alloc: Global) -> Command<'a>
 pub fn dpl_command<'a>(alloc: Global) -> Result<Command<'a>, AllocError>
     ensures { IfOk result (λ c. app_of c ≡ dpl_app) }
 {
-    let split = split_command(alloc)?;
-    let check = check_command(alloc)?;
-    let demo = demo_command(alloc)?;
-    Ok(
-        top_command(alloc)
-            .subcommand(split)?
-            .subcommand(check)?
-            .subcommand(demo)?,
-    )
+    let command = with_split(alloc, top_command(alloc))?;
+    let command = with_check(alloc, command)?;
+    with_demo(alloc, command)
 }

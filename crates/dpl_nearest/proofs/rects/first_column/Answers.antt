@@ -1,4 +1,4 @@
-use Rattle.std.proofs.Common.{rules, arith, FitsSigned, w64, to_z}
+use Rattle.std.proofs.Common.{rules, arith, refl, sym, true≢false, FitsSigned, w64, to_z}
 use Rattle.std.specs.Prelude.{◌-ℤ◌}
 use Rattle.std.proofs.lemmas.Int.{ints, to_z-of_z}
 use borrow.Author.Rules.{sfits_of}
@@ -33,3 +33,19 @@ loop-high-smaller c =
 
 pub returns-clause-near : goal.returns-clause-near
 returns-clause-near c = near_column c.args.rule c.args.r.now (LeafCovers c.args.owners c.args.others.now) _ _ c.loop-high.invariant.low (omega (arith, ints)) c.loop-high.invariant.none c.loop-high.invariant.some
+
+pub loop-high-preserved-then-near_left : goal.loop-high-preserved-then-near_left
+loop-high-preserved-then-near_left c =
+    let m : FitsSigned w64 c.halfway-middle.result = search rules in
+    let old = c.loop-high.invariant in
+    let below = c.halfway-middle.ensures.below in
+    let same = to_z-of_z w64 c.halfway-middle.result m in
+    record { low = old.low; between = rw same c.halfway-middle.ensures.above; high = rw same (omega (arith, ints, below, old.high)); none = old.none; some = (c.if-near_left.ensures).0 refl }
+
+pub loop-high-preserved : goal.loop-high-preserved
+loop-high-preserved c =
+    let m : FitsSigned w64 c.halfway-middle.result = search rules in
+    let old = c.loop-high.invariant in
+    let above = c.halfway-middle.ensures.above in
+    let same = to_z-of_z w64 c.halfway-middle.result m in
+    record { low = rw same (omega (arith, ints, above, old.low)); between = rw same c.halfway-middle.ensures.below; high = old.high; none = λ near. true≢false (sym ((c.if-near_left.ensures).1 near)); some = old.some }

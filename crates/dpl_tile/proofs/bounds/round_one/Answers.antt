@@ -6,10 +6,10 @@ use Rattle.dpl_tile.proofs.bounds.round_one.Goals as goal
 
 pub returns : goal.returns
 returns c =
-    let a : FitsSigned w64 c.smaller.result = search rules in
-    let b : FitsSigned w64 c.smaller-2.result = search rules in
-    let d : FitsSigned w64 c.greater.result = search rules in
-    let e : FitsSigned w64 c.greater-2.result = search rules in
+    let a : FitsSigned w64 c.min.result = search rules in
+    let b : FitsSigned w64 c.min-2.result = search rules in
+    let d : FitsSigned w64 c.max.result = search rules in
+    let e : FitsSigned w64 c.max-2.result = search rules in
     let p : FitsSigned w64 c.in-Some.b.x0 = search rules in
     let q : FitsSigned w64 c.in-Some.b.y0 = search rules in
     let r : FitsSigned w64 c.in-Some.b.x1 = search rules in
@@ -19,7 +19,7 @@ returns c =
     let v : FitsSigned w64 c.args.r.now.x1 = search rules in
     let x : FitsSigned w64 c.args.r.now.y1 = search rules in
     round-one-is c.args.before c.in-Some.b c.args.r.now _ c.in-Some.is
-    (to_z-of_z w64 _ a ∙ rw (to_z-of_z w64 _ p, to_z-of_z w64 _ t) at c.smaller.ensures)
-    (to_z-of_z w64 _ b ∙ rw (to_z-of_z w64 _ q, to_z-of_z w64 _ u) at c.smaller-2.ensures)
-    (to_z-of_z w64 _ d ∙ rw (to_z-of_z w64 _ r, to_z-of_z w64 _ v) at c.greater.ensures)
-    (to_z-of_z w64 _ e ∙ rw (to_z-of_z w64 _ s, to_z-of_z w64 _ x) at c.greater-2.ensures)
+    (to_z-of_z w64 _ a ∙ rw (to_z-of_z w64 _ p, to_z-of_z w64 _ t) at c.min.ensures.value)
+    (to_z-of_z w64 _ b ∙ rw (to_z-of_z w64 _ q, to_z-of_z w64 _ u) at c.min-2.ensures.value)
+    (to_z-of_z w64 _ d ∙ rw (to_z-of_z w64 _ r, to_z-of_z w64 _ v) at c.max.ensures.value)
+    (to_z-of_z w64 _ e ∙ rw (to_z-of_z w64 _ s, to_z-of_z w64 _ x) at c.max-2.ensures.value)
