@@ -9,7 +9,8 @@ use Rattle.dpl_laws.specs.Masks.{KeepsApart, OverlapAt, rect_at, rects_of}
 use Rattle.dpl_laws.proofs.Cover.{cover}
 use Rattle.dpl_laws.proofs.Apart.{far-on-a, far-on-b}
 use Rattle.dpl_laws.proofs.Overlap.{overlap-at}
-use Rattle.dpl_run.specs.Flat.{Painted, Paints, stitch_line, IsFlat}
+use Rattle.dpl_run.specs.Flat.{Painted, Paints, IsFlat}
+use Rattle.dpl_valid.specs.Own.{stitch_line}
 use Rattle.dpl_outcome.specs.Laws.{AreRight}
 
 rects-same : (zones : List Zone) (sides : List (ℕ × ℕ)) (ks : List ℕ) → rects_of zones ks ≡ map (λ (s : StitchLine). s.rect) (map (stitch_line zones sides) ks)

@@ -7,7 +7,8 @@ use Rattle.dpl_cert.specs.declared.cert.Cert.TheVariants.{Masks, Conflict}
 use Rattle.dpl_verdict.specs.declared.Verdict.TheVariants.{Valid}
 use Rattle.dpl_verdict.specs.Masks.{IsVerdictOfMasks}
 use Rattle.dpl_verdict.specs.Conflicts.{IsVerdictOfConflict}
-use Rattle.dpl_run.specs.Flat.{Painted, head_of}
+use Rattle.dpl_run.specs.Flat.{Painted}
+use Rattle.dpl_valid.specs.Own.{head_of}
 use Rattle.dpl_valid.proofs.Passing.{kept-valid}
 use Rattle.dpl_valid.proofs.Painted.{painted-kept}
 use Rattle.dpl_valid.proofs.Clashing.{clash-verdict}

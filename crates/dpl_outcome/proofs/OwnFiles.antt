@@ -24,11 +24,12 @@ use Rattle.dpl_valid.proofs.Written.{cycle-cert, masks-cert, masks-within}
 use Rattle.dpl_reread.specs.ReadBack.{IsMask, IsReadAs}
 use Rattle.dpl_reread.proofs.Taken.{masks-read}
 use Rattle.dpl_words.specs.Meaning.{AsksCheck, AsksSplit, SplitValues}
-use Rattle.dpl_words.specs.Ranges.{AreInRange, IsApart}
+use Rattle.dpl_words.specs.Ranges.{AreInRangeForCheck, IsApart}
 use Rattle.dpl_run.specs.declared.status.Status.{Status}
 use Rattle.dpl_run.specs.declared.status.Status.TheVariants.{Done, Conflict as InConflict, ReadFault, Refused}
 use Rattle.dpl_run.specs.Check.{IsCheck}
-use Rattle.dpl_run.specs.Flat.{Clash, Clashes, Flat, Painted, Paints, IsClashOfCut, IsFlatCut, IsPaintedCut, head_of}
+use Rattle.dpl_run.specs.Flat.{Clash, Clashes, Flat, Painted, Paints, IsClashOfCut, IsFlatCut, IsPaintedCut}
+use Rattle.dpl_valid.specs.Own.{head_of}
 use Rattle.dpl_run.specs.Outcome.{Outcome, Shows, carried_out, says, silent}
 use Rattle.dpl_run.specs.Program.{IsPlan}
 use Rattle.dpl_run.specs.Reading.{IsLayerIn, IsReading, Layer, chosen, frame_bytes, front_of, limit}
@@ -73,7 +74,7 @@ fronted lib top front is = elim (slice_get_cases lib.structures top).1 [
 
 -- ---- masks
 
-module _ (v : SplitValues) (o : Outside) (bytes front : List ℕ) (layer : List Rect) (in_range : AreInRange v) (apart : IsApart (AsksSplit v)) (read : file_of o v.input ≡ Some bytes)
+module _ (v : SplitValues) (o : Outside) (bytes front : List ℕ) (layer : List Rect) (in_range : AreInRangeForCheck (checking v)) (apart : IsApart (AsksSplit v)) (read : file_of o v.input ≡ Some bytes)
     (reading : IsReading (split_choice v) bytes (Layer front layer)) (lib : Library) (holds : Holds bytes lib) (l : IsLayerIn (split_choice v) lib front layer) (cut : Cut) (is_cut : IsCut v.rule v.overlap (Covers layer) cut) where
   within : AreRectsWithin farthest layer
   within = layer-within lib l.top (chosen (split_choice v)) layer l.faultless l.squares
@@ -200,7 +201,8 @@ split-plan v o front flat (bytes, read, decided) = subst (λ (file : Option (Lis
 
 pub own-runs : OwnRunsAreValid
 own-runs v words others o front flat s t new last asks asks_check decided small (p, p_is, (x, x_plan, s_is, new_is)) (q, q_is, (z, z_plan, t_is, last_is)) =
-    let (in_range, apart) = asked-split words v asks in
+    let (ranges, apart) = asked-split words v asks in
+    let in_range : AreInRangeForCheck (checking v) = record { layer = ranges.layer; datatype = ranges.datatype; rule = ranges.rule; overlap = ranges.overlap; a = ranges.a; b = ranges.b } in
     let y : Outcome = plan_of v (Decides front flat) in
     let done : Outcome = says Done (valid_line (cert_of flat)) in
     let mine : IsPlan (Some (AsksSplit v)) o.files x = subst (λ (out : Outside). IsPlan (Some (AsksSplit v)) out.files x) (sym p_is) (subst (λ r. IsPlan r p.files x) asks x_plan) in

@@ -7,7 +7,7 @@ use Rattle.dpl_cert.specs.declared.cert.Cert.TheVariants.{Masks, Conflict}
 use Rattle.dpl_masks.specs.Bytes.{file_bytes}
 use Rattle.dpl_reread.specs.ReadBack.{most_slabs}
 use Rattle.dpl_words.specs.Meaning.{AsksCheck, AsksSplit, CheckValues, SplitValues, request_of}
-use Rattle.dpl_words.specs.Ranges.{AreInRange, IsApart}
+use Rattle.dpl_words.specs.Ranges.{AreInRangeForCheck, IsApart}
 use Rattle.dpl_run.specs.declared.status.Status.{Status}
 use Rattle.dpl_run.specs.declared.status.Status.TheVariants.{Done, Conflict as InConflict}
 use Rattle.dpl_run.specs.Flat.{Clashes, Flat, Painted, Paints}
@@ -49,7 +49,7 @@ SplitsAreDecided = (v : SplitValues) (o : Outside) (x : Outcome) → IsPlan (Som
 
 -- With the files that `split` writes, `check` of the same values is done, and says that they are valid.
 abbrev pub OwnFilesAreValid : Type 0
-OwnFilesAreValid = (v : SplitValues) (o : Outside) (front : List ℕ) (flat : Flat) → AreInRange v → IsApart (AsksSplit v) → IsDecided v o front flat → CanBeRead v front flat
+OwnFilesAreValid = (v : SplitValues) (o : Outside) (front : List ℕ) (flat : Flat) → AreInRangeForCheck (checking v) → IsApart (AsksSplit v) → IsDecided v o front flat → CanBeRead v front flat
     → IsPlan (Some (AsksCheck (checking v))) (carried_out (plan_of v (Decides front flat)) o).files (says Done (valid_line (cert_of flat)))
 
 -- After a command line of `split`, one of `check` with the same values ends so.

@@ -28,7 +28,8 @@ use Rattle.dpl_cert.specs.declared.cert.StitchLine.{StitchLine}
 use Rattle.dpl_cert.specs.declared.cert.PlaceLine.{PlaceLine}
 use Rattle.dpl_cert.specs.declared.cert.NearLine.{NearLine}
 use Rattle.dpl_cert.specs.Grammar.{IsCycleLength}
-use Rattle.dpl_run.specs.Flat.{AreNearest, IsClashOfCut, IsPaintedCut, Painted, head_of, piece_line, place_line, stitch_line}
+use Rattle.dpl_run.specs.Flat.{AreNearest, IsClashOfCut, IsPaintedCut, Painted}
+use Rattle.dpl_valid.specs.Own.{head_of, piece_line, place_line, stitch_line}
 use Rattle.dpl_run.proofs.SameGraphs.{SameEdges, odd_same, reported_same, roots_same, same_back}
 
 -- what holds of all elements holds of each

@@ -60,7 +60,7 @@ judged_valid cert w x is done = valid_is w (sym (ap (λ (z : Outcome). z.status)
 layer_of_file : (choice : Choice) (bytes front : List ℕ) (slabs : List Rect) → IsReading choice bytes (Layer front slabs) → HasLayer choice bytes slabs
 layer_of_file choice bytes front slabs reading = elim reading [
   | inl large ↦ cc
-  | inr read ↦ (let (lib, holds, l) = read.1 in record { lib = lib; holds = holds; top = l.top; is_top = l.is_top; squares = l.squares })
+  | inr read ↦ (let (lib, holds, l) = read.1 in record { lib = lib; holds = holds; top = l.top; is_top = l.is_top; faultless = l.faultless; squares = l.squares })
 ]
 
 masks_right : (v : CheckValues) (layer : List Rect) (head : Head) (pieces : List PieceLine) (stitches : List StitchLine) (bytes : List ℕ) (x : Outcome)

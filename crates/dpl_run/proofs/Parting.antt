@@ -19,7 +19,8 @@ use Rattle.dpl_verdict.specs.declared.Verdict.TheVariants.{WasFault}
 use Rattle.dpl_run.specs.Check.{IsCheck, IsCheckOfCert, IsCheckOfFile, IsCheckOfMasks, WithFile, refusal_of, verdict_outcome}
 use Rattle.dpl_run.specs.Demo.{demo_plan}
 use Rattle.dpl_run.specs.Reading.{Faulty, Layer, limit}
-use Rattle.dpl_run.specs.Flat.{Clashes, IsPaintedCut, Painted, Paints, stitch_line}
+use Rattle.dpl_run.specs.Flat.{Clashes, IsPaintedCut, Painted, Paints}
+use Rattle.dpl_valid.specs.Own.{stitch_line}
 use Rattle.dpl_run.specs.Split.{Decides, Decision, IsDecision, IsSplitOf, Refuses, clash, painting, plan_of, refusal, split_choice}
 use Rattle.dpl_run.specs.Program.{IsOutcome, IsPlan}
 use Rattle.dpl_run.specs.Outcome.{Outcome, says, silent}
@@ -58,6 +59,7 @@ paints v bytes front p x d is =
         holds = holds;
         top = l.top;
         is_top = l.is_top;
+        faultless = l.faultless;
         layer = layer;
         squares = l.squares;
         a = p.a;

@@ -8,6 +8,7 @@ use Rattle.dpl_format.specs.Tree.{Library}
 use Rattle.dpl_format.specs.Layout.{Holds}
 use Rattle.dpl_layout.specs.Structures.{IsTop}
 use Rattle.dpl_layout.specs.Placements.{IsInLayer}
+use Rattle.dpl_layout.specs.Faults.{IsFaultless}
 use Rattle.dpl_cert.specs.declared.cert.Head.{Head}
 use Rattle.dpl_cert.specs.declared.cert.PieceLine.{PieceLine}
 use Rattle.dpl_cert.specs.declared.cert.StitchLine.{StitchLine}
@@ -20,12 +21,13 @@ use Rattle.dpl_words.specs.Meaning.{CheckValues}
 use Rattle.dpl_run.specs.Reading.{Choice, chosen}
 use Rattle.dpl_run.specs.Check.{check_choice, mask_choice}
 
--- The bytes hold a library with a top, whose chosen layer has the squares of these slabs.
+-- The bytes hold a library with a top, whose chosen layer has no fault, and the squares of these slabs.
 pub record HasLayer (choice : Choice) (bytes : List ℕ) (slabs : List Rect) : Type 0 where
   pub lib : Library
   pub holds : Holds bytes lib
   pub top : ℕ
   pub is_top : IsTop lib choice.top top
+  pub faultless : IsFaultless lib top (chosen choice)
   pub squares : AreSlabsOf (IsInLayer lib top (chosen choice)) slabs
 
 -- The file has both masks, each on its layer. They are right for the layer, and so is what the certificate lists of them.
@@ -40,7 +42,7 @@ pub record HasRightMasks (v : CheckValues) (layer : List Rect) (head : Head) (pi
 -- what is right is the masks of a file that is there, or the cycle that is listed
 abbrev pub IsRightBy : CheckValues → Outside → List Rect → Cert → Type 0
 IsRightBy v o layer (Masks head pieces stitches) = (bytes : List ℕ) × (files.get o.files v.output ≡ Some bytes) × HasRightMasks v layer head pieces stitches bytes
-IsRightBy v o layer (Conflict head cycle near) = IsCycleOf v.rule v.overlap layer cycle
+IsRightBy v o layer (Conflict head cycle near) = IsCycleOf v.rule v.overlap layer head cycle near
 IsRightBy v o layer (Fault name at) = ⊥
 
 -- The layout and the certificate are there, and what the certificate tells is right for the layout's layer.

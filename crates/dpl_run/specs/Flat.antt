@@ -1,16 +1,13 @@
 -- The decomposition of a layer, as a certificate tells it.
-use Rattle.std.specs.Prelude.{◌≡◌, ◌+◌, ◌%◌, ◌<◌, ◌≤◌, ℕ, pos, Bool, List, length, map, slice_index, slice_index_or}
+use Rattle.std.specs.Prelude.{◌≡◌, ◌≤◌, ℕ, List, length, map}
 use Rattle.std.specs.List.{zip}
-use Rattle.dpl_spec.specs.declared.Pt.{Pt}
 use Rattle.dpl_spec.specs.declared.Rect.{Rect}
-use Rattle.dpl_spec.specs.declared.Zone.{Zone}
 use Rattle.dpl_spec.specs.Squares.{Covers}
-use Rattle.dpl_spec.specs.Zones.{at, part_at}
 use Rattle.dpl_spec.specs.Decomposition.{Cut, IsCut, Masks, AreMasks, conflicts}
 use Rattle.dpl_spec.specs.Summary.{HasOddCycle}
 use Rattle.dpl_spec.specs.Cycle.{IsReported}
 use Rattle.dpl_spec.specs.Loops.{AreRectsWithin, farthest}
-use Rattle.dpl_nearest.specs.Nearest.{IsNearestPair}
+use Rattle.dpl_valid.specs.Own.{ShowNearest, head_of, piece_line, place_line, stitch_line}
 use Rattle.dpl_cert.specs.declared.cert.Cert.TheVariants.{Masks as MasksText, Conflict as ConflictText}
 use Rattle.dpl_cert.specs.Grammar.{IsCert}
 use Rattle.dpl_cert.specs.declared.cert.Head.{Head}
@@ -37,29 +34,10 @@ pub data Flat : Type 0 where
   Paints : Painted → Flat
   Clashes : Clash → Flat
 
-abbrev pub head_of : ℕ → ℕ → Cut → Head
-head_of rule overlap c = record { rule = rule; overlap = overlap; features = length c.features; pieces = length c.pieces; zones = length c.zones }
-
--- a piece's letter and least square
-abbrev pub piece_line : Bool × Pt → PieceLine
-piece_line p = record { b = p.0; key = p.1 }
-
-abbrev pub no_zone : Zone
-no_zone = record { rect = record { x0 = pos 0; y0 = pos 0; x1 = pos 0; y1 = pos 0 }; feature = 0 }
-
--- a zone, with its two sides
-abbrev pub stitch_line : List Zone → List (ℕ × ℕ) → ℕ → StitchLine
-stitch_line zones sides k = record { rect = (slice_index_or zones k no_zone).rect; p = (slice_index_or sides k (0, 0)).0; q = (slice_index_or sides k (0, 0)).1 }
-
--- a piece of the cycle, with its least square
-abbrev pub place_line : List Pt → ℕ → PlaceLine
-place_line keys k = record { piece = k; key = slice_index_or keys k (at (pos 0) (pos 0)) }
-
 -- for each piece of the cycle the least pair of near squares with the next one, the last with the first
 pub record AreNearest (rule : ℕ) (pieces : List (List Rect)) (cycle : List ℕ) (near : List NearLine) : Type 0 where
   pub each : length near ≡ length cycle
-  pub pair : (k : ℕ) (d : NearLine) → k < length cycle
-      → IsNearestPair rule (part_at pieces (slice_index cycle k)) (part_at pieces (slice_index cycle ((k + 1) % length cycle))) (slice_index_or near k d).from (slice_index_or near k d).to
+  pub pair : ShowNearest rule pieces cycle near
 
 -- the masks of a cut whose conflict graph has no odd cycle
 pub record IsPaintedCut (rule overlap : ℕ) (cut : Cut) (p : Painted) : Type 0 where

@@ -11,6 +11,7 @@ use Rattle.dpl_format.specs.Tree.{Library}
 use Rattle.dpl_format.specs.Layout.{Holds}
 use Rattle.dpl_layout.specs.Structures.{IsTop}
 use Rattle.dpl_layout.specs.Placements.{IsInLayer}
+use Rattle.dpl_layout.specs.Faults.{IsFaultless}
 use Rattle.dpl_laws.specs.Masks.{AreCover, KeepsApart, OverlapAt}
 use Rattle.dpl_cert.specs.declared.cert.Cert.TheVariants.{Masks}
 use Rattle.dpl_cert.specs.declared.cert.Head.{Head}
@@ -37,11 +38,12 @@ pub record ArePartingMasks (rule : ℕ) (layer stitches a b : List Rect) : Type 
 
 -- what is written of a file: its layer's masks, and a certificate that lists their stitches
 pub record WritesParting (v : SplitValues) (bytes : List ℕ) (writes : List (Text × List ℕ)) : Type 0 where
-  -- the layer of the library that the file holds
+  -- the layer of the library that the file holds, which has no fault
   pub lib : Library
   pub holds : Holds bytes lib
   pub top : ℕ
   pub is_top : IsTop lib v.top top
+  pub faultless : IsFaultless lib top (chosen (split_choice v))
   pub layer : List Rect
   pub squares : AreSlabsOf (IsInLayer lib top (chosen (split_choice v))) layer
   -- its masks, and the lines of their certificate

@@ -13,6 +13,7 @@ use Rattle.dpl_layout.specs.declared.FlattenFault.{FlattenFault}
 use Rattle.dpl_layout.specs.Structures.{IsTop, IsTopFault}
 use Rattle.dpl_layout.specs.Placements.{IsInLayer}
 use Rattle.dpl_layout.specs.Faults.{IsFaultless, IsFirstFault}
+use Rattle.dpl_flatten.specs.Drawing.{Drawn, IsDrawingOf}
 use Rattle.dpl_format.specs.Faults.{Fault}
 use Rattle.dpl_cert.specs.declared.name.Name.{Name}
 use Rattle.dpl_cert.specs.declared.name.Name.TheVariants.{TooLarge}
@@ -59,17 +60,16 @@ pub record IsLayerIn (v : Choice) (lib : Library) (front : List ℕ) (slabs : Li
   pub before : front_of lib top ≡ Some front
   pub squares : AreSlabsOf (IsInLayer lib top (chosen v)) slabs
 
--- loops that cover the layer of the library, which has no fault
-pub record HasShapesIn (v : Choice) (lib : Library) (front : List ℕ) (loops : List (List Pt)) : Type 0 where
+-- a drawing of the layer of the library
+pub record HasDrawingIn (v : Choice) (lib : Library) (front : List ℕ) (d : Drawn) : Type 0 where
   pub top : ℕ
   pub is_top : IsTop lib v.top top
-  pub faultless : IsFaultless lib top (chosen v)
   pub before : front_of lib top ≡ Some front
-  pub covers : (p : Pt) → SomeLoopCovers loops p ↔ IsInLayer lib top (chosen v) p
+  pub drawing : IsDrawingOf lib top (chosen v) d
 
--- loops that cover the layer of what these bytes hold
-abbrev pub HasShapes : Choice → List ℕ → List ℕ → List (List Pt) → Type 0
-HasShapes v bytes front loops = (lib : Library) × Holds bytes lib × HasShapesIn v lib front loops
+-- a drawing of the layer of what these bytes hold
+abbrev pub HasDrawing : Choice → List ℕ → List ℕ → Drawn → Type 0
+HasDrawing v bytes front drawing = (lib : Library) × Holds bytes lib × HasDrawingIn v lib front drawing
 
 -- what these bytes hold
 abbrev pub IsLayout : Choice → List ℕ → Reading → Type 0

@@ -5,7 +5,8 @@ ghost use Rattle.dpl_spec.specs.declared.Pt.{Pt};
 ghost use Rattle.dpl_spec.specs.Squares.{Covers};
 ghost use Rattle.dpl_tile.specs.Plans.{IsPlan};
 ghost use Rattle.dpl_cert.specs.Grammar.{IsHead, IsPoint, IsRule};
-ghost use Rattle.dpl_run.specs.Flat.{IsTile, head_of};
+ghost use Rattle.dpl_run.specs.Flat.{IsTile};
+ghost use Rattle.dpl_valid.specs.Own.{head_of};
 ghost use Rattle.dpl_run.specs.View.{IsCutOf, OfAnyCut};
 
 use dpl_cert::Head;
@@ -47,9 +48,10 @@ pub(crate) fn cut_of(
     let features = features(alloc, &layer)?;
     drop(layer);
     let zones = zones(alloc, &features, rule, overlap)?;
-    let pieces = pieces(alloc, &features, &zones)?;
+    let count = features.items().len() as u64;
+    let pieces = pieces(alloc, features, &zones)?;
     Ok(LayerCut {
-        features: features.items().len() as u64,
+        features: count,
         pieces,
     })
 }

@@ -1,13 +1,11 @@
 //! The layer of a layout.
 ghost use Rattle.std.specs.Prelude.{◌≡◌, ◌<◌, ◌≤◌, IfErr, IfOk, Some, length};
-ghost use Rattle.dpl_spec.specs.Loops.{AreLoopsWithin, SomeLoopCovers, farthest};
-ghost use Rattle.dpl_spec.specs.Slabs.{AreSlabsOf};
-ghost use Rattle.dpl_run.specs.Reading.{HasShapes, HasShapesIn, IsLayout, front_of, limit};
+ghost use Rattle.std.specs.Prelude.{ℕ, List};
+ghost use Rattle.dpl_run.specs.Reading.{Choice, HasDrawing, HasDrawingIn, IsLayout, front_of, limit};
 ghost use Rattle.dpl_run.specs.View.{IsLayerFault, IsLayerFaultIn, choice_view, layer_view};
 
 use crate::fault::LayerFault;
-use dpl_base::Loop;
-use dpl_flatten::{Layer as ChosenLayer, flatten, top_of};
+use dpl_flatten::{Drawing, Layer as ChosenLayer, draw, top_of};
 use dpl_slabs::Slabs;
 use dpl_syntax::{Library, read_library};
 use std::alloc::{AllocError, Global};
@@ -29,14 +27,14 @@ pub(crate) struct Layer {
     pub(crate) slabs: Slabs,
 }
 
-/// The records of the file before the elements of the top structure, and loops that cover the layer.
+/// The records of the file before the elements of the top structure, and a drawing of the layer.
 #[derive(Drop)]
 struct Shapes {
     front: Vec<u8>,
-    loops: Vec<Loop>,
+    drawing: Drawing,
 }
 
-/// The squares of the chosen layer, or the first fault of the layout. The bytes are let go before the squares are swept.
+/// The squares of the chosen layer, or the first fault of the layout. The bytes are let go before the layer is laid out and swept.
 pub(crate) fn layer_of(
     alloc: Global,
     choice: &LayerChoice,
@@ -70,8 +68,7 @@ pub(crate) fn layer_within(
 /// The shapes of the chosen layer, or the first fault of the layout.
 fn shapes_of(alloc: Global, choice: &LayerChoice, bytes: &[u8]) -> Result<Shapes, LayerFault>
     requires { length bytes.now ≤ limit }
-    ensures shapes { IfOk result (λ s. HasShapes (choice_view choice.now) bytes.now s.front.items s.loops.items) }
-    ensures within { IfOk result (λ s. AreLoopsWithin farthest s.loops.items) }
+    ensures shapes { IfOk result (λ s. HasDrawing (choice_view choice.now) bytes.now s.front.items s.drawing) }
     ensures fault { IfErr result (IsLayerFault (choice_view choice.now) bytes.now) }
 {
     let lib = read_library(alloc, bytes)?;
@@ -81,8 +78,7 @@ fn shapes_of(alloc: Global, choice: &LayerChoice, bytes: &[u8]) -> Result<Shapes
 
 /// The shapes of the layer of a library, or its first fault.
 fn shapes_in(alloc: Global, choice: &LayerChoice, lib: &Library<'_>) -> Result<Shapes, LayerFault>
-    ensures shapes { IfOk result (λ s. HasShapesIn (choice_view choice.now) lib.now s.front.items s.loops.items) }
-    ensures within { IfOk result (λ s. AreLoopsWithin farthest s.loops.items) }
+    ensures shapes { IfOk result (λ s. HasDrawingIn (choice_view choice.now) lib.now s.front.items s.drawing) }
     ensures fault { IfErr result (IsLayerFaultIn (choice_view choice.now) lib.now) }
 {
     let top = top_of(alloc, lib, choice.top)?;
@@ -91,17 +87,17 @@ fn shapes_in(alloc: Global, choice: &LayerChoice, lib: &Library<'_>) -> Result<S
         layer: choice.layer,
         datatype: choice.datatype,
     };
-    let loops = flatten(alloc, lib, top, chosen)?;
-    Ok(Shapes { front, loops })
+    let drawing = draw(alloc, lib, top, chosen)?;
+    Ok(Shapes { front, drawing })
 }
 
 /// The squares of shapes.
-fn swept(alloc: Global, shapes: Shapes) -> Result<Layer, AllocError>
-    requires { AreLoopsWithin farthest shapes.loops.items }
-    ensures front { IfOk result (λ l. l.front.items ≡ shapes.front.items) }
-    ensures squares { IfOk result (λ l. AreSlabsOf (SomeLoopCovers shapes.loops.items) l.slabs) }
+fn swept(alloc: Global, shapes: Shapes) -> Result<Layer, LayerFault>
+    ensures layer { (v : Choice) (bytes : List ℕ) → HasDrawing v bytes shapes.front.items shapes.drawing → IfOk result (λ l. IsLayout v bytes (layer_view l)) }
+    ensures fault { (v : Choice) (bytes : List ℕ) → HasDrawing v bytes shapes.front.items shapes.drawing → IfErr result (IsLayerFault v bytes) }
 {
-    let Shapes { front, loops } = shapes;
+    let Shapes { front, drawing } = shapes;
+    let loops = drawing.loops(alloc)?;
     let slabs = Slabs::of_loops(alloc, loops)?;
     Ok(Layer { front, slabs })
 }

@@ -6,7 +6,7 @@ ghost use Rattle.dpl_spec.specs.Loops.{farthest};
 ghost use Rattle.dpl_spec.specs.Squares.{IsSolidWithin};
 ghost use Rattle.dpl_orient.specs.Masks.{is_second};
 ghost use Rattle.dpl_cert.specs.Grammar.{IsNumber, IsPiece, IsPlace, IsPoint, IsStitch};
-ghost use Rattle.dpl_run.specs.Flat.{piece_line, place_line, stitch_line};
+ghost use Rattle.dpl_valid.specs.Own.{piece_line, place_line, stitch_line};
 
 use dpl_base::{Id, Pt, Zone};
 use dpl_cert::{PieceLine, PlaceLine, StitchLine};

@@ -1,21 +1,28 @@
 -- The cycle of a valid verdict.
-use Rattle.std.proofs.Common.{◌≡◌, ◌≢◌, ℕ, ◌+◌, ◌*◌, ◌%◌, ◌<◌, ◌⊎◌, inl, inr, List, [], length, get_or, sym, ◌∙◌, subst, arith}
+use Rattle.std.proofs.Common.{◌≡◌, ◌≢◌, ℕ, ◌+◌, ◌*◌, ◌%◌, ◌<◌, ◌⊎◌, inl, inr, List, [], length, get_or, sym, ap, ◌∙◌, subst, arith}
 use Rattle.std.specs.Prelude.{pos}
-use Rattle.std.specs.List.{AllPairs}
+use Rattle.std.specs.List.{All, AllPairs}
+use Rattle.std.proofs.lemmas.Int.{ints, by_lt_z}
 use Rattle.std.proofs.lemmas.Bool.{cases_eq, cases_lt}
 use Rattle.std.proofs.lemmas.List.{get_or_default, length-map, get_or-map}
-use Rattle.dpl_spec.specs.Squares.{d2}
+use Rattle.dpl_spec.specs.declared.Pt.{Pt}
+use Rattle.dpl_spec.specs.declared.Rect.{Rect}
+use Rattle.dpl_spec.specs.Squares.{Region, Covers, IsLeast, d2}
 use Rattle.dpl_spec.specs.Zones.{at, part_at}
 use Rattle.dpl_spec.specs.Pieces.{Conflict}
 use Rattle.dpl_spec.specs.Graphs.{IsOddCycle}
-use Rattle.dpl_spec.specs.Decomposition.{Cut, conflicts}
+use Rattle.dpl_spec.specs.Decomposition.{Cut, IsCut, conflicts}
+use Rattle.dpl_laws.proofs.Parts.{zip-at}
+use Rattle.dpl_cert.specs.declared.cert.Head.{Head}
 use Rattle.dpl_cert.specs.declared.cert.PlaceLine.{PlaceLine}
 use Rattle.dpl_cert.specs.declared.cert.NearLine.{NearLine}
 use Rattle.dpl_cert.specs.Grammar.{IsCycleLength}
 use Rattle.dpl_verdict.specs.declared.Verdict.TheVariants.{Valid}
 use Rattle.dpl_verdict.specs.Order.{HasBad, RulesDiffer, ShowsRules, ShowsCounts, IsValid}
 use Rattle.dpl_verdict.specs.Conflicts.{Claim, CountsDiffer, IsBadPlace, IsGoodPlace, ShowsCycle, VerdictFromCounts, VerdictFromCycle, VerdictOfClaim, piece_of}
-use Rattle.dpl_valid.specs.Valid.{IsCycleOf, pieces_of}
+use Rattle.dpl_valid.specs.Valid.{IsCycleOf, ShowsNear, pieces_of}
+use Rattle.dpl_verdict.proofs.OrderLaws.{one-cut}
+use Rattle.dpl_valid.proofs.Passing.{equal-where}
 use Rattle.dpl_valid.proofs.Parting.{unbroken, covered_or_not, part-known}
 
 abbrev no_place : PlaceLine
@@ -23,6 +30,14 @@ no_place = record { piece = 0; key = at (pos 0) (pos 0) }
 
 abbrev no_line : NearLine
 no_line = record { from = at (pos 0) (pos 0); to = at (pos 0) (pos 0) }
+
+point_or_not : (p q : Pt) → (p ≡ q) ⊎ ((p ≡ q) → ⊥)
+point_or_not p q =
+    by_lt_z p.x q.x (λ l. inr (λ e. let x = ap (λ (s : Pt). s.x) e in omega (arith, ints, l, x)))
+    (λ a. by_lt_z q.x p.x (λ l. inr (λ e. let x = ap (λ (s : Pt). s.x) e in omega (arith, ints, l, x)))
+    (λ b. by_lt_z p.y q.y (λ l. inr (λ e. let y = ap (λ (s : Pt). s.y) e in omega (arith, ints, l, y)))
+    (λ c. by_lt_z q.y p.y (λ l. inr (λ e. let y = ap (λ (s : Pt). s.y) e in omega (arith, ints, l, y)))
+    (λ d. inl (let x : p.x ≡ q.x = omega (arith, ints, a, b) in let y : p.y ≡ q.y = omega (arith, ints, c, d) in λ i. record { x = x i; y = y i })))))
 
 module _ (rule : ℕ) (cut : Cut) (cycle : List PlaceLine) (near : List NearLine) (each : length near ≡ length cycle) (good : HasBad (IsBadPlace rule cut cycle near) cycle → ⊥) where
   abbrev place : ℕ → PlaceLine
@@ -51,17 +66,23 @@ module _ (rule : ℕ) (cut : Cut) (cycle : List PlaceLine) (near : List NearLine
   differs : (m n : ℕ) → (m ≡ n → ⊥) ⊎ ((m ≡ n → ⊥) → ⊥)
   differs m n = elim (cases_eq m n) [ inl e ↦ inr (λ ne. ne e) | inr ne ↦ inl ne ]
 
+  from-at : (k : ℕ) → k < length cycle → part_at cut.pieces (piece_of cycle k) (line k).from
+  from-at k k_in = told k k_in (part_at cut.pieces (piece_of cycle k) (line k).from) (covered_or_not (get_or cut.pieces (piece_of cycle k) []) (line k).from) (λ h. h.from)
+
+  to-at : (k : ℕ) → k < length cycle → part_at cut.pieces (piece_of cycle (after k)) (line k).to
+  to-at k k_in = told k k_in (part_at cut.pieces (piece_of cycle (after k)) (line k).to) (covered_or_not (get_or cut.pieces (piece_of cycle (after k)) []) (line k).to) (λ h. h.to)
+
+  close-at : (k : ℕ) → k < length cycle → d2 (line k).from (line k).to < rule * rule
+  close-at k k_in = told k k_in (d2 (line k).from (line k).to < rule * rule) (less_or_not (d2 (line k).from (line k).to) (rule * rule)) (λ h. h.near)
+
   conflict : (k : ℕ) → k < length cycle → Conflict rule cut.pieces cut.owners (piece_of cycle k) (piece_of cycle (after k))
   conflict k k_in =
-      let from = told k k_in (part_at cut.pieces (piece_of cycle k) (line k).from) (covered_or_not (get_or cut.pieces (piece_of cycle k) []) (line k).from) (λ h. h.from) in
-      let to = told k k_in (part_at cut.pieces (piece_of cycle (after k)) (line k).to) (covered_or_not (get_or cut.pieces (piece_of cycle (after k)) []) (line k).to) (λ h. h.to) in
-      let close = told k k_in (d2 (line k).from (line k).to < rule * rule) (less_or_not (d2 (line k).from (line k).to) (rule * rule)) (λ h. h.near) in
       record {
-        first = part-known cut.pieces (piece_of cycle k) (line k).from from;
-        second = part-known cut.pieces (piece_of cycle (after k)) (line k).to to;
+        first = part-known cut.pieces (piece_of cycle k) (line k).from (from-at k k_in);
+        second = part-known cut.pieces (piece_of cycle (after k)) (line k).to (to-at k k_in);
         apart = told k k_in (get_or cut.owners (piece_of cycle k) 0 ≡ get_or cut.owners (piece_of cycle (after k)) 0 → ⊥)
             (differs (get_or cut.owners (piece_of cycle k) 0) (get_or cut.owners (piece_of cycle (after k)) 0)) (λ h. h.apart);
-        near = ((line k).from, (line k).to, from, to, close);
+        near = ((line k).from, (line k).to, from-at k k_in, to-at k k_in, close-at k k_in);
       }
 
   piece-at : (k d : ℕ) → k < length cycle → get_or (pieces_of cycle) k d ≡ piece_of cycle k
@@ -92,11 +113,47 @@ module _ (rule : ℕ) (cut : Cut) (cycle : List PlaceLine) (near : List NearLine
             (subst (λ v. Conflict rule cut.pieces cut.owners (piece_of cycle k) v) (sym same) (conflict k k_is)));
       }
 
+  -- the piece's least square is the place's
+  keyed-at : (layer : Region) (overlap : ℕ) → IsCut rule overlap layer cut → (k : ℕ) → k < length cycle → IsLeast (part_at cut.pieces (place k).piece) (place k).key
+  keyed-at layer overlap is k k_in =
+      let known = told k k_in ((place k).piece < length cut.pieces) (less_or_not (place k).piece (length cut.pieces)) (λ h. h.known) in
+      let key = told k k_in ((place k).key ≡ get_or cut.keys (place k).piece (place k).key) (point_or_not (place k).key (get_or cut.keys (place k).piece (place k).key)) (λ h. h.key) in
+      subst (λ q. IsLeast (part_at cut.pieces (place k).piece) q) (sym key) (zip-at (λ piece q. IsLeast (Covers piece) q) cut.pieces cut.keys (place k).piece [] (place k).key is.pieces.keyed known)
+
+  pub all-keyed : (layer : Region) (overlap : ℕ) → IsCut rule overlap layer cut → All (λ (p : PlaceLine). IsLeast (part_at cut.pieces p.piece) p.key) cycle
+  all-keyed layer overlap is k d k_in =
+      subst (λ (p : PlaceLine). IsLeast (part_at cut.pieces p.piece) p.key) (get_or_default cycle k no_place d k_in) (keyed-at layer overlap is k k_in)
+
+  pub all-shown : (k : ℕ) (d : NearLine) → k < length cycle → ShowsNear rule (part_at cut.pieces (get_or (pieces_of cycle) k 0)) (part_at cut.pieces (get_or (pieces_of cycle) (after k) 0)) (get_or near k d)
+  all-shown k d k_in =
+      let next_in : after k < length cycle = omega (arith, k_in) in
+      subst (λ u. ShowsNear rule (part_at cut.pieces u) (part_at cut.pieces (get_or (pieces_of cycle) (after k) 0)) (get_or near k d)) (sym (piece-at k 0 k_in))
+      (subst (λ v. ShowsNear rule (part_at cut.pieces (piece_of cycle k)) (part_at cut.pieces v) (get_or near k d)) (sym (piece-at (after k) 0 next_in))
+      (subst (λ (l : NearLine). ShowsNear rule (part_at cut.pieces (piece_of cycle k)) (part_at cut.pieces (piece_of cycle (after k))) l) (get_or_default near k no_line d (omega (arith, each, k_in)))
+      (record { from = from-at k k_in; to = to-at k k_in; close = close-at k k_in })))
+
+-- what is counted of a layer is what any cut of it has
+count-of : (rule overlap : ℕ) (layer : List Rect) (head : Head) (cut : Cut) → IsCut rule overlap (Covers layer) cut → (CountsDiffer rule overlap layer head → ⊥)
+    → (head.features ≡ length cut.features) × (head.pieces ≡ length cut.pieces) × (head.zones ≡ length cut.zones)
+count-of rule overlap layer head cut is none = (
+  equal-where head.features (length cut.features) (λ ne. none (λ (c, c_is, f, p, z). ne (f ∙ ap (λ (x : Cut). length x.features) (one-cut rule overlap (Covers layer) c cut c_is is)))),
+  equal-where head.pieces (length cut.pieces) (λ ne. none (λ (c, c_is, f, p, z). ne (p ∙ ap (λ (x : Cut). length x.pieces) (one-cut rule overlap (Covers layer) c cut c_is is)))),
+  equal-where head.zones (length cut.zones) (λ ne. none (λ (c, c_is, f, p, z). ne (z ∙ ap (λ (x : Cut). length x.zones) (one-cut rule overlap (Covers layer) c cut c_is is)))),
+)
+
 pub there-is : (rule overlap : ℕ) (c : Claim) → IsCycleLength (length c.cycle) → length c.near ≡ length c.cycle → VerdictOfClaim rule overlap c Valid
-    → IsCycleOf rule overlap c.layer c.cycle
+    → IsCycleOf rule overlap c.layer c.head c.cycle c.near
 there-is rule overlap c long each valid =
     let one = unbroken (RulesDiffer rule overlap c.head) (ShowsRules c.head) (VerdictFromCounts rule overlap c) Valid (λ e. cc) valid in
     let two = unbroken (CountsDiffer rule overlap c.layer c.head) (ShowsCounts rule overlap c.layer) (VerdictFromCycle rule overlap c) Valid (λ (f, p, z, are, e). cc) one.1 in
     let (cut, is, found) = two.1 in
     let good = unbroken (HasBad (IsBadPlace rule cut c.cycle c.near) c.cycle) (ShowsCycle rule cut c) IsValid Valid (λ (k, bad, e). cc) found in
-    (cut, is, odd-cycle rule cut c.cycle c.near each good.0 long)
+    record {
+      cut = cut;
+      is_cut = is;
+      rules = (equal-where c.head.rule rule (λ ne. one.0 (inl ne)), equal-where c.head.overlap overlap (λ ne. one.0 (inr ne)));
+      counted = count-of rule overlap c.layer c.head cut is two.0;
+      odd = odd-cycle rule cut c.cycle c.near each good.0 long;
+      keyed = all-keyed rule cut c.cycle c.near each good.0 (Covers c.layer) overlap is;
+      shown = all-shown rule cut c.cycle c.near each good.0;
+    }

@@ -179,7 +179,7 @@ module _ (rule overlap : ℕ) (layer : List Rect) (c : Cut) (ruled : IsRule rule
     )
 
   -- the lines of a cycle
-  module _ (cycle : List ℕ) (near : List NearLine) (reported : IsReported (conflicts rule c) cycle) (each : length near ≡ length cycle) (pairs : ShowNearest rule c cycle near) where
+  module _ (cycle : List ℕ) (near : List NearLine) (reported : IsReported (conflicts rule c) cycle) (each : length near ≡ length cycle) (pairs : ShowNearest rule c.pieces cycle near) where
     odd : IsOddCycle (conflicts rule c) cycle
     odd = reported-odd (conflicts rule c) (conflicts-undirected rule c) cycle reported
 

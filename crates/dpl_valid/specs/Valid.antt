@@ -1,9 +1,10 @@
 -- What a valid verdict gives.
-use Rattle.std.specs.Prelude.{ℕ, ◌*◌, ◌≤◌, ◌↔◌, List, map}
-use Rattle.std.specs.List.{Any}
+use Rattle.std.specs.Prelude.{◌≡◌, ℕ, ◌+◌, ◌*◌, ◌%◌, ◌<◌, ◌≤◌, ◌↔◌, List, length, map, slice_index, slice_index_or}
+use Rattle.std.specs.List.{All, Any}
 use Rattle.dpl_spec.specs.declared.Pt.{Pt}
 use Rattle.dpl_spec.specs.declared.Rect.{Rect}
-use Rattle.dpl_spec.specs.Squares.{Covers, Has, d2}
+use Rattle.dpl_spec.specs.Squares.{Region, Covers, Has, IsLeast, d2}
+use Rattle.dpl_spec.specs.Zones.{part_at}
 use Rattle.dpl_spec.specs.Components.{Linked}
 use Rattle.dpl_spec.specs.Graphs.{IsOddCycle}
 use Rattle.dpl_spec.specs.Decomposition.{Cut, IsCut, conflicts}
@@ -38,10 +39,23 @@ ValidMasksAreRight = (rule overlap : ℕ) (layer a b : List Rect) (head : Head) 
 abbrev pub pieces_of : List PlaceLine → List ℕ
 pieces_of cycle = map (λ (place : PlaceLine). place.piece) cycle
 
--- the pieces at these places are an odd cycle of conflicts of the layer
-abbrev pub IsCycleOf : ℕ → ℕ → List Rect → List PlaceLine → Type 0
-IsCycleOf rule overlap layer cycle = (cut : Cut) × IsCut rule overlap (Covers layer) cut × IsOddCycle (conflicts rule cut) (pieces_of cycle)
+-- squares of the two sets, closer than the rule
+pub record ShowsNear (rule : ℕ) (a b : Region) (line : NearLine) : Type 0 where
+  pub from : a line.from
+  pub to : b line.to
+  pub close : d2 line.from line.to < rule * rule
+
+-- The pieces at these places are an odd cycle of conflicts of the layer, each named by its least square, with near squares of it and of the next one, the last with the first. The head has the rules, and how many features, pieces and zones the layer has.
+pub record IsCycleOf (rule overlap : ℕ) (layer : List Rect) (head : Head) (cycle : List PlaceLine) (near : List NearLine) : Type 0 where
+  pub cut : Cut
+  pub is_cut : IsCut rule overlap (Covers layer) cut
+  pub rules : (head.rule ≡ rule) × (head.overlap ≡ overlap)
+  pub counted : (head.features ≡ length cut.features) × (head.pieces ≡ length cut.pieces) × (head.zones ≡ length cut.zones)
+  pub odd : IsOddCycle (conflicts rule cut) (pieces_of cycle)
+  pub keyed : All (λ (place : PlaceLine). IsLeast (part_at cut.pieces place.piece) place.key) cycle
+  pub shown : (k : ℕ) (d : NearLine) → k < length cycle
+      → ShowsNear rule (part_at cut.pieces (slice_index (pieces_of cycle) k)) (part_at cut.pieces (slice_index (pieces_of cycle) ((k + 1) % length cycle))) (slice_index_or near k d)
 
 abbrev pub ValidConflictsAreThere : Type 0
 ValidConflictsAreThere = (rule overlap : ℕ) (layer : List Rect) (head : Head) (cycle : List PlaceLine) (near : List NearLine)
-    → IsCert (Conflict head cycle near) → IsVerdictOfConflict rule overlap layer (Conflict head cycle near) Valid → IsCycleOf rule overlap layer cycle
+    → IsCert (Conflict head cycle near) → IsVerdictOfConflict rule overlap layer (Conflict head cycle near) Valid → IsCycleOf rule overlap layer head cycle near

@@ -28,4 +28,4 @@ OwnMasksAreWritten = (rule overlap : ℕ) (layer : List Rect) (c : Cut) (m : Mas
 -- and so are the lines of the cycle that is reported of it
 abbrev pub OwnCyclesAreWritten : Type 0
 OwnCyclesAreWritten = (rule overlap : ℕ) (layer : List Rect) (c : Cut) (cycle : List ℕ) (near : List NearLine) → IsRule rule → IsRule overlap → AreRectsWithin farthest layer → IsCut rule overlap (Covers layer) c → IsReported (conflicts rule c) cycle
-    → length near ≡ length cycle → ShowNearest rule c cycle near → IsCert (ConflictText (head_of rule overlap c) (map (place_line c.keys) cycle) near)
+    → length near ≡ length cycle → ShowNearest rule c.pieces cycle near → IsCert (ConflictText (head_of rule overlap c) (map (place_line c.keys) cycle) near)

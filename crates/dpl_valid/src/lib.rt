@@ -16,7 +16,7 @@ pub fn valid_lines_are_good()
     ensures { ValidLinesAreGood }
 {}
 
-/// A valid certificate of a conflict lists an odd cycle of the layer's pieces, each in conflict with the next.
+/// A valid certificate of a conflict lists an odd cycle of the layer's pieces, each by its least square, and squares of it and of the next piece that are closer than the rule; it names the rule, the overlap, and how many features, pieces and zones there are.
 pub fn valid_conflicts_are_there()
     ensures { ValidConflictsAreThere }
 {}

@@ -81,7 +81,7 @@ pair-shown related make v w (p, q, one, e) (r, s, other, f) =
     e ∙ (ap (λ x. make x q) same.0 ∙ (ap (λ y. make r y) same.1 ∙ sym f))
 
 -- a layer has one cut
-one-cut : (rule overlap : ℕ) (layer : Region) (c d : Cut) → IsCut rule overlap layer c → IsCut rule overlap layer d → c ≡ d
+pub one-cut : (rule overlap : ℕ) (layer : Region) (c d : Cut) → IsCut rule overlap layer c → IsCut rule overlap layer d → c ≡ d
 one-cut rule overlap layer c d a b =
     cut-unique rule overlap layer c d (sides-unique rule overlap layer c.features c.pieces c.zones a.features a.zones a.pieces.components) a b
 

@@ -7,7 +7,8 @@ use Rattle.dpl_spec.specs.Cycle.{IsReported}
 use Rattle.dpl_cert.specs.declared.cert.PlaceLine.{PlaceLine}
 use Rattle.dpl_cert.specs.declared.cert.NearLine.{NearLine}
 use Rattle.dpl_cert.specs.Grammar.{IsNear, IsPlace}
-use Rattle.dpl_run.specs.Flat.{AreNearest, place_line}
+use Rattle.dpl_run.specs.Flat.{AreNearest}
+use Rattle.dpl_valid.specs.Own.{place_line}
 use Rattle.dpl_run.specs.View.{cut_view}
 use Rattle.dpl_run.proofs.Deciding.{clash_from, cycle_known, cycle_length, cycle_near, piece_known, places_many}
 use Rattle.dpl_run.proofs.decompose.clash.Goals as goal

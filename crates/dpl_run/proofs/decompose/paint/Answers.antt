@@ -6,7 +6,7 @@ use Rattle.dpl_orient.specs.Oriented.{ColoursWhatSums}
 use Rattle.dpl_cert.specs.declared.cert.PieceLine.{PieceLine}
 use Rattle.dpl_cert.specs.declared.cert.StitchLine.{StitchLine}
 use Rattle.dpl_cert.specs.Grammar.{IsNumber, IsPiece, IsStitch}
-use Rattle.dpl_run.specs.Flat.{piece_line, stitch_line}
+use Rattle.dpl_valid.specs.Own.{piece_line, stitch_line}
 use Rattle.dpl_run.specs.View.{cut_view}
 use Rattle.dpl_run.proofs.Deciding.{as_many, lines_many, painted_from}
 use Rattle.dpl_run.proofs.decompose.paint.Goals as goal

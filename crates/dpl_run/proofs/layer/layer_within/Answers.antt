@@ -1,9 +1,11 @@
 use Rattle.dpl_run.specs.View.{choice_view}
-use Rattle.dpl_run.proofs.Layers.{swept_layer}
+use Rattle.dpl_run.proofs.Layers.{given_fault}
 use Rattle.dpl_run.proofs.layer.layer_within.Goals as goal
 
 pub returns-clause-layer : goal.returns-clause-layer
-returns-clause-layer c =
-    let shapes = c.in_ok-shapes.shapes in
-    let layer = c.in_ok-layer.layer in
-    swept_layer (choice_view c.args.choice.now) c.args.bytes.now shapes.front.items layer.front.items shapes.loops.items layer.slabs c.in_ok-shapes.ensures.shapes c.in_ok-layer.ensures.front c.in_ok-layer.ensures.squares
+returns-clause-layer c = c.in_ok-layer.ensures.layer (choice_view c.args.choice.now) c.args.bytes.now c.in_ok-shapes.ensures.shapes
+
+pub returns-in_err-layer-clause-fault : goal.returns-in_err-layer-clause-fault
+returns-in_err-layer-clause-fault c =
+    given_fault (choice_view c.args.choice.now) c.args.bytes.now c.from_residual-in_err-layer.result c.in_err-layer.field-0.0 c.from_residual-in_err-layer.ensures.1
+    (c.in_err-layer.ensures.fault (choice_view c.args.choice.now) c.args.bytes.now c.in_ok-shapes.ensures.shapes)

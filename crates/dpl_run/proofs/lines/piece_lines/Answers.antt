@@ -5,7 +5,7 @@ use Rattle.std.specs.Prelude.{pos}
 use Rattle.dpl_spec.specs.Zones.{at}
 use Rattle.dpl_orient.specs.Masks.{is_second}
 use Rattle.dpl_cert.specs.Grammar.{IsPiece}
-use Rattle.dpl_run.specs.Flat.{piece_line}
+use Rattle.dpl_valid.specs.Own.{piece_line}
 use Rattle.dpl_run.proofs.LineLaws.{fits_push, zip_more}
 use Rattle.dpl_run.proofs.lines.piece_lines.Goals as goal
 

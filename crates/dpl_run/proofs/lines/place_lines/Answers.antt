@@ -3,7 +3,7 @@ use Rattle.std.proofs.lemmas.List.Elements.{Contains-get_or}
 use Rattle.std.specs.Prelude.{pos}
 use Rattle.dpl_spec.specs.Zones.{at}
 use Rattle.dpl_cert.specs.Grammar.{IsPlace}
-use Rattle.dpl_run.specs.Flat.{place_line}
+use Rattle.dpl_valid.specs.Own.{place_line}
 use Rattle.dpl_run.proofs.LineLaws.{fits_push, map_more}
 use Rattle.dpl_run.proofs.lines.place_lines.Goals as goal
 
