@@ -59,7 +59,7 @@ const ROWS: [Row; 12] = [
             b: &[[28, 33, 38, 43]],
         },
     },
-    // Three features that no two masks keep apart unless they are cut: four zones and one stitch.
+    // Three features that no two masks keep apart unless they are cut: five zones and one stitch.
     Row {
         layer: &[
             [0, 0, 400, 20],
