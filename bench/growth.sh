@@ -8,17 +8,12 @@
 # as long as the line before it took. OPTIONS, from the environment, is passed to split, as
 # OPTIONS="--tile 64 --workers 1"; with CHECK=1 the result is checked too, on a line of its own.
 set -eu
-dpl=$1
-kinds=${2:-"bars dense mesh scatter polygons"}
-if [ $# -gt 2 ]; then
-    shift 2
-    sizes=$*
-else
-    sizes="1000 10000 100000 1000000"
-fi
 here=$(cd "$(dirname "$0")" && pwd)
-work=$(mktemp -d)
-trap 'rm -rf "$work"' EXIT
+. "$here/words.sh"
+read_words "bars dense mesh scatter polygons" "1000 10000 100000 1000000" "$@"
+dpl=$first
+kinds=$second
+sizes=$rest
 for kind in $kinds; do
     : >"$work/before"
     for size in $sizes; do

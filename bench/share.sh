@@ -9,17 +9,12 @@
 # outside them. A pool runs each worker in a thread of its own while the caller's thread waits, so these
 # are the seconds of the pool.
 set -eu
-dpl=$1
-size=${2:-1000000}
-if [ $# -gt 2 ]; then
-    shift 2
-    workers=$*
-else
-    workers="1 2 4"
-fi
 here=$(cd "$(dirname "$0")" && pwd)
-work=$(mktemp -d)
-trap 'rm -rf "$work"' EXIT
+. "$here/words.sh"
+read_words "1000000" "1 2 4" "$@"
+dpl=$first
+size=$second
+workers=$rest
 python3 "$here/layouts.py" bars "$size" 1 "$work/in.gds"
 for n in $workers; do
     python3 - "$dpl" "$size" "$work" "$n" <<'PY'

@@ -1,0 +1,15 @@
+# Read by growth.sh and share.sh.
+#
+# read_words SECOND REST WORD ..: takes the words of a script. Sets `first`, `second` and `rest`, what stands
+# behind them, where SECOND and REST stand for what isn't given, and `work`, a folder that goes with the script.
+read_words() {
+    first=$3
+    second=${4:-$1}
+    rest=$2
+    if [ $# -gt 4 ]; then
+        shift 4
+        rest=$*
+    fi
+    work=$(mktemp -d)
+    trap 'rm -rf "$work"' EXIT
+}
