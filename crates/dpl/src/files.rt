@@ -93,8 +93,7 @@ impl<'a> Host for FileHost<'a> {
         ensures rest { LeavesRest result into.old into.new }
         ensures same { untold ≡ untold }
         ensures cause { HasCause self.old.read_faults self.new.read_faults result }
-        ensures others { self.old.write_faults ≤ self.new.write_faults }
-        ensures alone { self.new.write_faults ≡ self.old.write_faults }
+        ensures others { self.new.write_faults ≡ self.old.write_faults }
         ensures raises { OnErr result (self.new.read_faults ≡ next_count self.old.read_faults) }
         ensures keeps { OnOk result (self.new.read_faults ≡ self.old.read_faults) }
         ensures given { IfOk result (λ n. Gave self.old.given n self.new.given) }
@@ -118,8 +117,7 @@ impl<'a> Host for FileHost<'a> {
     fn create(&mut self, name: &str) -> Result<(), Failed>
         ensures made { Changes result untold untold (λ _. with_file name.now []) }
         ensures cause { HasCause self.old.write_faults self.new.write_faults result }
-        ensures others { self.old.read_faults ≤ self.new.read_faults }
-        ensures alone { self.new.read_faults ≡ self.old.read_faults }
+        ensures others { self.new.read_faults ≡ self.old.read_faults }
         ensures raises { OnErr result (self.new.write_faults ≡ next_count self.old.write_faults) }
         ensures keeps { OnOk result (self.new.write_faults ≡ self.old.write_faults) }
         ensures given { self.new.given ≡ self.old.given }
@@ -138,8 +136,7 @@ impl<'a> Host for FileHost<'a> {
         ensures there { OnOk result (IsThere untold name.now) }
         ensures added { Changes result untold untold (λ n. with_more name.now (take n piece.now)) }
         ensures cause { HasCause self.old.write_faults self.new.write_faults result }
-        ensures others { self.old.read_faults ≤ self.new.read_faults }
-        ensures alone { self.new.read_faults ≡ self.old.read_faults }
+        ensures others { self.new.read_faults ≡ self.old.read_faults }
         ensures raises { OnErr result (self.new.write_faults ≡ next_count self.old.write_faults) }
         ensures keeps { OnOk result (self.new.write_faults ≡ self.old.write_faults) }
         ensures given { self.new.given ≡ self.old.given }
@@ -152,8 +149,7 @@ impl<'a> Host for FileHost<'a> {
         ensures taken { IfOk result (Takes piece.now) }
         ensures said { Changes result untold untold (λ n. with_said (take n piece.now)) }
         ensures cause { HasCause self.old.write_faults self.new.write_faults result }
-        ensures others { self.old.read_faults ≤ self.new.read_faults }
-        ensures alone { self.new.read_faults ≡ self.old.read_faults }
+        ensures others { self.new.read_faults ≡ self.old.read_faults }
         ensures raises { OnErr result (self.new.write_faults ≡ next_count self.old.write_faults) }
         ensures keeps { OnOk result (self.new.write_faults ≡ self.old.write_faults) }
         ensures given { self.new.given ≡ self.old.given }

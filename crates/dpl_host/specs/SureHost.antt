@@ -1,6 +1,5 @@
 -- What is seen of a host that never fails.
 use Rattle.std.specs.Prelude.{ℕ, ◌+◌, ◌-◌, ◌^◌, Option, None, min}
-use Rattle.std.specs.FinMap as map
 use Rattle.dpl_host.specs.Outside.{Files, Outside}
 use Rattle.dpl_host.specs.Memory.{files_of}
 use Rattle.dpl_host.specs.declared.sure.SureHost.{SureHost}
@@ -8,6 +7,10 @@ use Rattle.dpl_host.specs.declared.sure.SureHost.{SureHost}
 -- It tells nothing.
 abbrev pub untold : Option Outside
 untold = None
+
+-- None of its calls fails.
+abbrev pub no_faults : ℕ
+no_faults = 0
 
 -- the files that it reads
 abbrev pub borrowed : SureHost → Files

@@ -27,14 +27,14 @@ pub trait Host {
         ensures rest { LeavesRest result into.old into.new }
         ensures same { told self.new ≡ told self.old }
         ensures cause { HasCause (read_faults self.old) (read_faults self.new) result }
-        ensures others { write_faults self.old ≤ write_faults self.new }
+        ensures others { write_faults self.new ≡ write_faults self.old }
         ensures given { IfOk result (λ n. Gave (given self.old) n (given self.new)) };
 
     /// Makes a file empty, whether it was there or not.
     fn create(&mut self, name: &str) -> Result<(), Failed>
         ensures made { Changes result (told self.old) (told self.new) (λ _. with_file name.now []) }
         ensures cause { HasCause (write_faults self.old) (write_faults self.new) result }
-        ensures others { read_faults self.old ≤ read_faults self.new };
+        ensures others { read_faults self.new ≡ read_faults self.old };
 
     /// Puts bytes from the front of the piece behind a file, and says how many.
     fn append(&mut self, name: &str, piece: &[u8]) -> Result<usize, Failed>
@@ -42,12 +42,12 @@ pub trait Host {
         ensures there { OnOk result (IsThere (told self.old) name.now) }
         ensures added { Changes result (told self.old) (told self.new) (λ n. with_more name.now (take n piece.now)) }
         ensures cause { HasCause (write_faults self.old) (write_faults self.new) result }
-        ensures others { read_faults self.old ≤ read_faults self.new };
+        ensures others { read_faults self.new ≡ read_faults self.old };
 
     /// Says bytes from the front of the piece, and says how many.
     fn say(&mut self, piece: &[u8]) -> Result<usize, Failed>
         ensures taken { IfOk result (Takes piece.now) }
         ensures said { Changes result (told self.old) (told self.new) (λ n. with_said (take n piece.now)) }
         ensures cause { HasCause (write_faults self.old) (write_faults self.new) result }
-        ensures others { read_faults self.old ≤ read_faults self.new };
+        ensures others { read_faults self.new ≡ read_faults self.old };
 }

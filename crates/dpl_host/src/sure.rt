@@ -3,7 +3,7 @@ ghost use Rattle.std.specs.Prelude.{◌≡◌, ◌≤◌, ◌+◌, ◌-◌, ◌^
 ghost use Rattle.dpl_host.specs.Outside.{Changes, Gave, Gives, HasCause, IsThere, LeavesRest, Reads, Takes, with_file, with_more, with_said};
 ghost use Rattle.std.specs.FinMap as map;
 ghost use Rattle.dpl_host.specs.Memory.{files_of};
-ghost use Rattle.dpl_host.specs.SureHost.{borrowed, counted, untold};
+ghost use Rattle.dpl_host.specs.SureHost.{borrowed, counted, no_faults, untold};
 
 use crate::memory::copy;
 use crate::names;
@@ -52,13 +52,13 @@ impl<'a> SureHost<'a> {
 }
 
 impl<'a> Host for SureHost<'a> {
-    ghost use Rattle.dpl_host.specs.SureHost.{untold};
+    ghost use Rattle.dpl_host.specs.SureHost.{no_faults, untold};
 
     ghost told = { λ h. untold };
 
-    ghost read_faults = { λ h. 0 };
+    ghost read_faults = { λ h. no_faults };
 
-    ghost write_faults = { λ h. 0 };
+    ghost write_faults = { λ h. no_faults };
 
     ghost given = { λ h. h.given };
 
@@ -68,8 +68,8 @@ impl<'a> Host for SureHost<'a> {
         ensures bytes { Reads untold name.now at result into.new }
         ensures rest { LeavesRest result into.old into.new }
         ensures same { untold ≡ untold }
-        ensures cause { HasCause 0 0 result }
-        ensures others { 0 ≤ 0 }
+        ensures cause { HasCause no_faults no_faults result }
+        ensures others { no_faults ≡ no_faults }
         ensures gives { IfOk result (λ n. Gives (unwrap_or (map.get (borrowed self.old) name.now) []) at n into.new) }
         ensures given { IfOk result (λ n. Gave self.old.given n self.new.given) }
         ensures exactly { IfOk result (λ n. self.new.given ≡ counted self.old.given n) }
@@ -87,8 +87,8 @@ impl<'a> Host for SureHost<'a> {
 
     fn create(&mut self, name: &str) -> Result<(), Failed>
         ensures made { Changes result untold untold (λ _. with_file name.now []) }
-        ensures cause { HasCause 0 0 result }
-        ensures others { 0 ≤ 0 }
+        ensures cause { HasCause no_faults no_faults result }
+        ensures others { no_faults ≡ no_faults }
         ensures sure { IsOk result }
         ensures files { borrowed self.new ≡ borrowed self.old }
         ensures given { self.new.given ≡ self.old.given }
@@ -101,8 +101,8 @@ impl<'a> Host for SureHost<'a> {
         ensures taken { IfOk result (Takes piece.now) }
         ensures there { OnOk result (IsThere untold name.now) }
         ensures added { Changes result untold untold (λ n. with_more name.now (take n piece.now)) }
-        ensures cause { HasCause 0 0 result }
-        ensures others { 0 ≤ 0 }
+        ensures cause { HasCause no_faults no_faults result }
+        ensures others { no_faults ≡ no_faults }
         ensures all { IfOk result (λ n. n ≡ length piece.now) }
         ensures sure { IsOk result }
         ensures count { self.new.taken ≡ counted self.old.taken (length piece.now) }
@@ -115,8 +115,8 @@ impl<'a> Host for SureHost<'a> {
     fn say(&mut self, piece: &[u8]) -> Result<usize, Failed>
         ensures taken { IfOk result (Takes piece.now) }
         ensures said { Changes result untold untold (λ n. with_said (take n piece.now)) }
-        ensures cause { HasCause 0 0 result }
-        ensures others { 0 ≤ 0 }
+        ensures cause { HasCause no_faults no_faults result }
+        ensures others { no_faults ≡ no_faults }
         ensures all { IfOk result (λ n. n ≡ length piece.now) }
         ensures sure { IsOk result }
         ensures count { self.new.taken ≡ counted self.old.taken (length piece.now) }

@@ -1,6 +1,7 @@
 //! Whole files, and whole texts.
 ghost use Rattle.std.specs.Prelude.{◌≡◌, ◌<◌, ◌≤◌, ◌+◌, ℕ, List, Some, IfOk, IfSome, IsErrOf, OnErr, OnOk, length, option_map};
-ghost use Rattle.dpl_host.specs.Outside.{Gave, HasCause, IsPartSaid, IsPartWritten, Rose, file_of, with_file, with_said};
+ghost use Rattle.dpl_host.specs.Outside.{Gave, HasCause, IsPartSaid, IsPartWritten, file_of, with_file, with_said};
+ghost use Rattle.dpl_host.specs.Whole.{HasReadCause};
 ghost use Rattle.dpl_host.specs.declared.whole.ReadFault.TheVariants.{NoMemory as MemoryFault, Failed as ReadFailed};
 
 use crate::outside::{Failed, Host};
@@ -39,10 +40,10 @@ impl From<Failed> for ReadFault {
 pub fn read_all<H: Host>(alloc: Global, host: &mut H, name: &str) -> Result<Vec<u8>, ReadFault>
     ensures bytes { IfOk result (λ v. IfSome (H.told host.old) (λ o. file_of o name.now ≡ Some v.items)) }
     ensures size { IfOk result (λ v. length v.items ≤ MAX_BYTES) }
-    ensures failed { IsErrOf result ReadFault.Failed → Rose (H.read_faults host.old) (H.read_faults host.new) }
+    ensures cause { HasReadCause (H.read_faults host.old) (H.read_faults host.new) result }
+    ensures others { H.write_faults host.new ≡ H.write_faults host.old }
     ensures large { IsErrOf result ReadFault.TooLarge → IfSome (H.told host.old) (λ o. (file : List ℕ) × (file_of o name.now ≡ Some file) × (MAX_BYTES < length file)) }
     ensures same { H.told host.new ≡ H.told host.old }
-    ensures later { (H.read_faults host.old ≤ H.read_faults host.new) × (H.write_faults host.old ≤ H.write_faults host.new) }
     // Told or not: all that it answers was given, and it is too large only where a byte past the limit was.
     ensures given { IfOk result (λ v. Gave (H.given host.old) (length v.items) (H.given host.new)) }
     ensures past { IsErrOf result ReadFault.TooLarge → Gave (H.given host.old) (MAX_BYTES + 1) (H.given host.new) }
@@ -64,7 +65,7 @@ pub fn write_all<H: Host>(host: &mut H, name: &str, bytes: &[u8]) -> Result<(), 
     ensures ok { OnOk result (H.told host.new ≡ option_map (with_file name.now bytes.now) (H.told host.old)) }
     ensures err { OnErr result (IsPartWritten name.now bytes.now (H.told host.old) (H.told host.new)) }
     ensures cause { HasCause (H.write_faults host.old) (H.write_faults host.new) result }
-    ensures others { H.read_faults host.old ≤ H.read_faults host.new }
+    ensures others { H.read_faults host.new ≡ H.read_faults host.old }
 {
     host.create(name)?;
     let mut done = 0;
@@ -79,7 +80,7 @@ pub fn say_all<H: Host>(host: &mut H, bytes: &[u8]) -> Result<(), Failed>
     ensures ok { OnOk result (H.told host.new ≡ option_map (with_said bytes.now) (H.told host.old)) }
     ensures err { OnErr result (IsPartSaid bytes.now (H.told host.old) (H.told host.new)) }
     ensures cause { HasCause (H.write_faults host.old) (H.write_faults host.new) result }
-    ensures others { H.read_faults host.old ≤ H.read_faults host.new }
+    ensures others { H.read_faults host.new ≡ H.read_faults host.old }
 {
     let mut done = 0;
     while done < bytes.len() {

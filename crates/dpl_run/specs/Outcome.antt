@@ -1,7 +1,7 @@
 -- What a run leaves: its answer, the files that it wrote, and what it said.
 use Rattle.std.specs.Prelude.{◌≡◌, ◌⊎◌, ◌<◌, ◌^◌, ◌-◌, ℕ, Bool, true, false, List, [], ◌∷◌, Option, option_map, IfSome}
 use Rattle.clap.specs.Walk.{Text}
-use Rattle.dpl_host.specs.Outside.{IsPartSaid, IsPartWritten, Outside, with_file, with_said}
+use Rattle.dpl_host.specs.Outside.{IsPartSaid, IsPartWritten, Outside, Rose, with_file, with_said}
 use Rattle.dpl_run.specs.declared.status.Status.{Status}
 use Rattle.dpl_run.specs.declared.status.Status.TheVariants.{Done, Conflict, Refused, Usage, ReadFault, WriteFault, NoMemory, CheckNo}
 
@@ -50,6 +50,12 @@ is_answered ReadFault = false
 is_answered WriteFault = false
 is_answered NoMemory = false
 is_answered _ = true
+
+-- What an answer tells of the calls that failed, by the count of failed reads and that of the other failed calls, before and now. A failed read is answered as one, and so is another failed call; at any other answer, want of memory too, no call failed.
+abbrev pub TellsFaults : Status → ℕ → ℕ → ℕ → ℕ → Type 0
+TellsFaults ReadFault reads reads_now writes writes_now = Rose reads reads_now × (writes_now ≡ writes)
+TellsFaults WriteFault reads reads_now writes writes_now = (reads_now ≡ reads) × Rose writes writes_now
+TellsFaults _ reads reads_now writes writes_now = (reads_now ≡ reads) × (writes_now ≡ writes)
 
 -- the outside is o, where it tells
 abbrev pub Shows : Option Outside → Outside → Type 0

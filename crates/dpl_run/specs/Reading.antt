@@ -1,9 +1,7 @@
 -- What is read of a layout: the squares of one layer, or its first fault.
-use Rattle.std.specs.Prelude.{◌≡◌, ◌⊎◌, ◌↔◌, ◌<◌, ◌≤◌, ◌++◌, ℕ, List, length, Option, Some, slice_get}
+use Rattle.std.specs.Prelude.{◌≡◌, ◌⊎◌, ◌<◌, ◌≤◌, ◌++◌, ℕ, List, length, Option, Some, slice_get}
 use Rattle.std.specs.Option.{option_map}
-use Rattle.dpl_spec.specs.declared.Pt.{Pt}
 use Rattle.dpl_spec.specs.declared.Rect.{Rect}
-use Rattle.dpl_spec.specs.Loops.{SomeLoopCovers}
 use Rattle.dpl_spec.specs.Slabs.{AreSlabsOf}
 use Rattle.dpl_format.specs.Tree.{Frame, Library, frame_of}
 use Rattle.dpl_format.specs.Layout.{Holds, IsFirstFault as IsFirstSyntaxFault}

@@ -1,6 +1,6 @@
 //! What `check` makes of three files.
 ghost use Rattle.std.specs.Prelude.{◌≡◌, ◌≤◌, IfOk, IsErrOf, Some, length};
-ghost use Rattle.dpl_host.specs.Outside.{Rose};
+ghost use Rattle.dpl_host.specs.Whole.{HasReadCause};
 ghost use Rattle.dpl_words.specs.Meaning.{AsksCheck, check_view};
 ghost use Rattle.dpl_words.specs.Ranges.{AreInRangeForCheck, IsApart};
 ghost use Rattle.dpl_cert.specs.Grammar.{IsCert};
@@ -36,10 +36,10 @@ pub(crate) fn check_output<'a, H: Host>(
     requires ranges { AreInRangeForCheck (check_view options.now) }
     requires apart { IsApart (AsksCheck (check_view options.now)) }
     ensures made { IfOk result (λ x. IsMade (Some (AsksCheck (check_view options.now))) (H.told host.old) (output_view x)) }
-    ensures failed { IsErrOf result ReadFault.Failed → Rose (H.read_faults host.old) (H.read_faults host.new) }
+    ensures cause { HasReadCause (H.read_faults host.old) (H.read_faults host.new) result }
     ensures not_large { IsErrOf result ReadFault.TooLarge → ⊥ }
     ensures same { H.told host.new ≡ H.told host.old }
-    ensures later { (H.read_faults host.old ≤ H.read_faults host.new) × (H.write_faults host.old ≤ H.write_faults host.new) }
+    ensures others { H.write_faults host.new ≡ H.write_faults host.old }
 {
     let Some(bytes) = read_input(alloc, host, options.input)? else {
         return Ok(too_large(alloc, CheckedFile::Layout)?);
@@ -68,10 +68,10 @@ fn check_layer<'a, H: Host>(
 ) -> Result<Output<'a>, ReadFault>
     requires ranges { AreInRangeForCheck (check_view options.now) }
     ensures made { IfOk result (λ x. IsMadeOfLayer (H.told host.old) (check_view options.now) layer.now (output_view x)) }
-    ensures failed { IsErrOf result ReadFault.Failed → Rose (H.read_faults host.old) (H.read_faults host.new) }
+    ensures cause { HasReadCause (H.read_faults host.old) (H.read_faults host.new) result }
     ensures not_large { IsErrOf result ReadFault.TooLarge → ⊥ }
     ensures same { H.told host.new ≡ H.told host.old }
-    ensures later { (H.read_faults host.old ≤ H.read_faults host.new) × (H.write_faults host.old ≤ H.write_faults host.new) }
+    ensures others { H.write_faults host.new ≡ H.write_faults host.old }
 {
     let Some(text) = read_input(alloc, host, options.certificate)? else {
         return Ok(too_large(alloc, CheckedFile::Certificate)?);
@@ -98,10 +98,10 @@ fn check_cert<'a, H: Host>(
     requires ranges { AreInRangeForCheck (check_view options.now) }
     requires cert { IsCert cert.now }
     ensures made { IfOk result (λ x. IsMadeOfCert (H.told host.old) (check_view options.now) layer.now cert.now (output_view x)) }
-    ensures failed { IsErrOf result ReadFault.Failed → Rose (H.read_faults host.old) (H.read_faults host.new) }
+    ensures cause { HasReadCause (H.read_faults host.old) (H.read_faults host.new) result }
     ensures not_large { IsErrOf result ReadFault.TooLarge → ⊥ }
     ensures same { H.told host.new ≡ H.told host.old }
-    ensures later { (H.read_faults host.old ≤ H.read_faults host.new) × (H.write_faults host.old ≤ H.write_faults host.new) }
+    ensures others { H.write_faults host.new ≡ H.write_faults host.old }
 {
     match cert {
         Cert::Masks { .. } => {
@@ -136,10 +136,10 @@ fn check_out<'a, H: Host>(
     requires cert { IsCert cert.now }
     requires kind { IsOfMasks cert.now }
     ensures made { IfOk result (λ x. IsMadeOfCert (H.told host.old) (check_view options.now) layer.now cert.now (output_view x)) }
-    ensures failed { IsErrOf result ReadFault.Failed → Rose (H.read_faults host.old) (H.read_faults host.new) }
+    ensures cause { HasReadCause (H.read_faults host.old) (H.read_faults host.new) result }
     ensures not_large { IsErrOf result ReadFault.TooLarge → ⊥ }
     ensures same { H.told host.new ≡ H.told host.old }
-    ensures later { (H.read_faults host.old ≤ H.read_faults host.new) × (H.write_faults host.old ≤ H.write_faults host.new) }
+    ensures others { H.write_faults host.new ≡ H.write_faults host.old }
 {
     let Some(bytes) = read_input(alloc, host, options.output)? else {
         return Ok(too_large(alloc, CheckedFile::Masks)?);

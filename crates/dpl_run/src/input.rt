@@ -1,6 +1,6 @@
 //! Files that are read whole.
-ghost use Rattle.std.specs.Prelude.{◌≡◌, ◌≤◌, IfOk, IsErrOf, option_map};
-ghost use Rattle.dpl_host.specs.Outside.{Rose};
+ghost use Rattle.std.specs.Prelude.{◌≡◌, IfOk, IsErrOf, option_map};
+ghost use Rattle.dpl_host.specs.Whole.{HasReadCause};
 ghost use Rattle.dpl_run.specs.Program.{IsInput, IsSeen};
 
 use dpl_host::{Host, ReadFault, read_all};
@@ -14,10 +14,10 @@ pub(crate) fn read_input<H: Host>(
 ) -> Result<Option<Vec<u8>>, ReadFault>
     ensures read { IfOk result (λ r. IsInput (H.told host.old) name.now (option_map (λ v. v.items) r)) }
     ensures seen { IfOk result (λ r. IsSeen (H.told host.old) name.now (option_map (λ v. v.items) r)) }
-    ensures failed { IsErrOf result ReadFault.Failed → Rose (H.read_faults host.old) (H.read_faults host.new) }
+    ensures cause { HasReadCause (H.read_faults host.old) (H.read_faults host.new) result }
     ensures not_large { IsErrOf result ReadFault.TooLarge → ⊥ }
     ensures same { H.told host.new ≡ H.told host.old }
-    ensures later { (H.read_faults host.old ≤ H.read_faults host.new) × (H.write_faults host.old ≤ H.write_faults host.new) }
+    ensures others { H.write_faults host.new ≡ H.write_faults host.old }
 {
     match read_all(alloc, host, name) {
         Ok(bytes) => Ok(Some(bytes)),

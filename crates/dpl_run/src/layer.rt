@@ -1,6 +1,5 @@
 //! The layer of a layout.
-ghost use Rattle.std.specs.Prelude.{◌≡◌, ◌<◌, ◌≤◌, IfErr, IfOk, Some, length};
-ghost use Rattle.std.specs.Prelude.{ℕ, List};
+ghost use Rattle.std.specs.Prelude.{◌≡◌, ◌<◌, ◌≤◌, ℕ, IfErr, IfOk, List, Some, length};
 ghost use Rattle.dpl_run.specs.Reading.{Choice, HasDrawing, HasDrawingIn, IsLayout, front_of, limit};
 ghost use Rattle.dpl_run.specs.View.{IsLayerFault, IsLayerFaultIn, choice_view, layer_view};
 

@@ -1,5 +1,5 @@
 //! All that a run writes and says, made before the first of it is written.
-ghost use Rattle.std.specs.Prelude.{◌≡◌, ◌≤◌, OnErr, OnOk, option_map, string_bytes};
+ghost use Rattle.std.specs.Prelude.{◌≡◌, OnErr, OnOk, option_map, string_bytes};
 ghost use Rattle.dpl_host.specs.Outside.{HasCause};
 ghost use Rattle.dpl_run.specs.Outcome.{IsPartDone, carried_out, says};
 ghost use Rattle.dpl_run.specs.View.{output_view};
@@ -39,7 +39,7 @@ pub(crate) fn perform<H: Host>(host: &mut H, output: &Output) -> Result<(), Fail
     ensures ok { OnOk result (H.told host.new ≡ option_map (carried_out (output_view output.now)) (H.told host.old)) }
     ensures err { OnErr result (IsPartDone (output_view output.now).writes (output_view output.now).line (H.told host.old) (H.told host.new)) }
     ensures cause { HasCause (H.write_faults host.old) (H.write_faults host.new) result }
-    ensures others { H.read_faults host.old ≤ H.read_faults host.new }
+    ensures others { H.read_faults host.new ≡ H.read_faults host.old }
 {
     for write in &output.writes {
         write_all(host, write.name, write.bytes.as_slice())?;

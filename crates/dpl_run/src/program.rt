@@ -1,10 +1,10 @@
 //! The whole program over an outside.
-ghost use Rattle.std.specs.Prelude.{◌≡◌, ◌≤◌, ◌⊎◌, IfErr, IfOk, IsErrOf, None, Some, is_some, true};
+ghost use Rattle.std.specs.Prelude.{◌≡◌, ◌≤◌, ◌⊎◌, IfErr, IfOk, IsErrOf, None, OnOk, Some, is_some, true};
 ghost use Rattle.clap.specs.Walk.{texts};
-ghost use Rattle.dpl_host.specs.Outside.{Rose};
+ghost use Rattle.dpl_host.specs.Whole.{HasReadCause};
 ghost use Rattle.dpl_words.specs.Meaning.{AsksDemo, demo_view, request_of, request_view};
 ghost use Rattle.dpl_words.specs.Ranges.{AreInRangeForDemo, IsApart, IsInRange};
-ghost use Rattle.dpl_run.specs.Outcome.{IsStill, is_answered, says};
+ghost use Rattle.dpl_run.specs.Outcome.{IsStill, TellsFaults, is_answered, says};
 ghost use Rattle.dpl_run.specs.Parted.{IsParted};
 ghost use Rattle.dpl_run.specs.Program.{IsCutShort, IsMade, IsOutcome};
 ghost use Rattle.dpl_run.specs.Texts.{usage_line as usage_line_of};
@@ -44,9 +44,8 @@ pub fn run<'a, R: Threads + Wait + Sync, H: Host, G: Gate + Sync>(
     // The words decide alone whether they are a command.
     ensures usage { result ≡ Status.Usage → request_of (texts words.entry.now) ≡ None }
     ensures no_other { request_of (texts words.entry.now) ≡ None → (result ≡ Status.Usage) ⊎ (result ≡ Status.WriteFault) ⊎ (result ≡ Status.NoMemory) }
-    // A read or a write failed.
-    ensures read { result ≡ Status.ReadFault → Rose (H.read_faults host.old) (H.read_faults host.new) }
-    ensures write { result ≡ Status.WriteFault → Rose (H.write_faults host.old) (H.write_faults host.new) }
+    // A read failed, or another call; or, at any other answer, want of memory too, none.
+    ensures faults { TellsFaults result (H.read_faults host.old) (H.read_faults host.new) (H.write_faults host.old) (H.write_faults host.new) }
     // What these leave.
     ensures unread { result ≡ Status.ReadFault → H.told host.new ≡ H.told host.old }
     ensures memory { result ≡ Status.NoMemory → H.told host.new ≡ H.told host.old }
@@ -74,10 +73,12 @@ fn made<'a, R: Threads + Wait + Sync, H: Host, G: Gate + Sync>(
 ) -> Result<Output<'a>, Status>
     ensures made { IfOk result (λ x. IsMade (request_of (texts words.entry.now)) (H.told host.old) (output_view x)) }
     ensures only { IfErr result (λ s. (s ≡ Status.ReadFault) ⊎ (s ≡ Status.NoMemory)) }
-    ensures read { IsErrOf result Status.ReadFault → Rose (H.read_faults host.old) (H.read_faults host.new) }
+    ensures faults { IfErr result (λ s. TellsFaults s (H.read_faults host.old) (H.read_faults host.new) (H.write_faults host.old) (H.write_faults host.new)) }
+    ensures worked { OnOk result (H.read_faults host.new ≡ H.read_faults host.old) }
     ensures asked { IsErrOf result Status.ReadFault → is_some (request_of (texts words.entry.now)) ≡ true }
     ensures same { H.told host.new ≡ H.told host.old }
-    ensures later { (H.read_faults host.old ≤ H.read_faults host.new) × (H.write_faults host.old ≤ H.write_faults host.new) }
+    ensures later { H.read_faults host.old ≤ H.read_faults host.new }
+    ensures others { H.write_faults host.new ≡ H.write_faults host.old }
 {
     match read_words(alloc, words) {
         Ok(request) => match output_of(rt, alloc, &request, host, gate) {
@@ -104,10 +105,10 @@ fn output_of<'a, R: Threads + Wait + Sync, H: Host, G: Gate + Sync>(
     requires ranges { IsInRange (request_view request.now) }
     requires apart { IsApart (request_view request.now) }
     ensures made { IfOk result (λ x. IsMade (Some (request_view request.now)) (H.told host.old) (output_view x)) }
-    ensures failed { IsErrOf result ReadFault.Failed → Rose (H.read_faults host.old) (H.read_faults host.new) }
+    ensures cause { HasReadCause (H.read_faults host.old) (H.read_faults host.new) result }
     ensures not_large { IsErrOf result ReadFault.TooLarge → ⊥ }
     ensures same { H.told host.new ≡ H.told host.old }
-    ensures later { (H.read_faults host.old ≤ H.read_faults host.new) × (H.write_faults host.old ≤ H.write_faults host.new) }
+    ensures others { H.write_faults host.new ≡ H.write_faults host.old }
 {
     match request {
         Request::Split(options) => split_output(rt, alloc, options, host, gate),
@@ -126,10 +127,10 @@ fn made_up<'a, R: Threads + Wait + Sync, H: Host, G: Gate + Sync>(
 ) -> Result<Output<'a>, ReadFault>
     requires ranges { AreInRangeForDemo (demo_view options.now) }
     ensures made { IfOk result (λ x. IsMade (Some (AsksDemo (demo_view options.now))) (H.told host.old) (output_view x)) }
-    ensures failed { IsErrOf result ReadFault.Failed → Rose (H.read_faults host.old) (H.read_faults host.new) }
+    ensures cause { HasReadCause (H.read_faults host.old) (H.read_faults host.new) result }
     ensures not_large { IsErrOf result ReadFault.TooLarge → ⊥ }
     ensures same { H.told host.new ≡ H.told host.old }
-    ensures later { (H.read_faults host.old ≤ H.read_faults host.new) × (H.write_faults host.old ≤ H.write_faults host.new) }
+    ensures others { H.write_faults host.new ≡ H.write_faults host.old }
 {
     let output = demo_output(rt, alloc, options, gate)?;
     Ok(output)

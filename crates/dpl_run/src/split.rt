@@ -1,6 +1,6 @@
 //! What `split` makes of a file, before anything is written.
 ghost use Rattle.std.specs.Prelude.{◌≡◌, ◌≤◌, IfOk, IsErrOf, Some, length};
-ghost use Rattle.dpl_host.specs.Outside.{Rose};
+ghost use Rattle.dpl_host.specs.Whole.{HasReadCause};
 ghost use Rattle.dpl_words.specs.Meaning.{AsksSplit, split_view};
 ghost use Rattle.dpl_words.specs.Ranges.{AreInRange};
 ghost use Rattle.dpl_cert.specs.Grammar.{IsCert};
@@ -37,10 +37,10 @@ pub(crate) fn split_output<'a, R: Threads + Wait + Sync, H: Host, G: Gate + Sync
 ) -> Result<Output<'a>, ReadFault>
     requires { AreInRange (split_view options.now) }
     ensures made { IfOk result (λ x. IsMade (Some (AsksSplit (split_view options.now))) (H.told host.old) (output_view x)) }
-    ensures failed { IsErrOf result ReadFault.Failed → Rose (H.read_faults host.old) (H.read_faults host.new) }
+    ensures cause { HasReadCause (H.read_faults host.old) (H.read_faults host.new) result }
     ensures not_large { IsErrOf result ReadFault.TooLarge → ⊥ }
     ensures same { H.told host.new ≡ H.told host.old }
-    ensures later { (H.read_faults host.old ≤ H.read_faults host.new) × (H.write_faults host.old ≤ H.write_faults host.new) }
+    ensures others { H.write_faults host.new ≡ H.write_faults host.old }
 {
     match read_input(alloc, host, options.input) {
         Ok(Some(bytes)) => Ok(split(rt, alloc, options, bytes, gate)?),

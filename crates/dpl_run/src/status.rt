@@ -17,7 +17,7 @@ pub enum Status {
     ReadFault,
     /// A write failed; what came before it is written.
     WriteFault,
-    /// Memory ran out; nothing was written.
+    /// Memory ran out, and no read or write failed; nothing was written.
     NoMemory,
     /// Of what `check` looks at something is broken, and the line tells what.
     CheckNo,

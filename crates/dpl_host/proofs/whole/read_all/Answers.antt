@@ -15,8 +15,8 @@ loop-chunk-preserved g c =
     record {
       front = subst (λ (l : List ℕ). IfSome (g.H.Host.told c.args.host.now) (λ o. l ≡ take (length l) (unwrap_or (file_of o c.args.name.now) []))) (sym grown) front;
       same = c.in_ok-count.ensures.same ∙ c.loop-chunk.invariant.same;
-      later = omega (arith, c.loop-chunk.invariant.later, c.in_ok-count.ensures.cause.later);
-      others = omega (arith, c.loop-chunk.invariant.others, c.in_ok-count.ensures.others);
+      counted = c.in_ok-count.ensures.cause.worked ∙ c.loop-chunk.invariant.counted;
+      others = c.in_ok-count.ensures.others ∙ c.loop-chunk.invariant.others;
       given = given_more _ _ _ bytes (take n buffer) buffer n _ c.loop-chunk.invariant.given c.in_ok-count.ensures.given refl c.in_ok-count.ensures.bound grown;
     }
 

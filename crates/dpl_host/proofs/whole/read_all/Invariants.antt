@@ -1,4 +1,4 @@
-use Rattle.std.proofs.Common.{length, ◌-◌, ◌≡◌, ◌≤◌, take, []}
+use Rattle.std.proofs.Common.{length, ◌-◌, ◌≡◌, take, []}
 use Rattle.std.specs.Prelude.{IfSome, unwrap_or}
 use Rattle.dpl_host.specs.Outside.{Gave, file_of}
 use Rattle.dpl_host.proofs.whole.read_all.Given as goal
@@ -7,8 +7,8 @@ abbrev pub invariant-loop-chunk : goal.invariant-loop-chunk
 invariant-loop-chunk g l = record {
   front : IfSome (g.H.Host.told l.fn.host) (λ o. (l.bytes.items ≡ take (length l.bytes.items) (unwrap_or (file_of o l.name) [])));
   same : g.H.Host.told l.host ≡ g.H.Host.told l.fn.host;
-  later : g.H.Host.read_faults l.fn.host ≤ g.H.Host.read_faults l.host;
-  others : g.H.Host.write_faults l.fn.host ≤ g.H.Host.write_faults l.host;
+  counted : g.H.Host.read_faults l.host ≡ g.H.Host.read_faults l.fn.host;
+  others : g.H.Host.write_faults l.host ≡ g.H.Host.write_faults l.fn.host;
   given : Gave (g.H.Host.given l.fn.host) (length l.bytes.items) (g.H.Host.given l.host);
 }
 

@@ -7,8 +7,8 @@ abbrev pub invariant-loop-done : goal.invariant-loop-done
 invariant-loop-done g l = record {
   within : l.done ≤ length l.bytes;
   said : g.H.Host.told l.host ≡ option_map (with_said (take l.done l.bytes)) (g.H.Host.told l.fn.host);
-  later : g.H.Host.write_faults l.fn.host ≤ g.H.Host.write_faults l.host;
-  others : g.H.Host.read_faults l.fn.host ≤ g.H.Host.read_faults l.host;
+  counted : g.H.Host.write_faults l.host ≡ g.H.Host.write_faults l.fn.host;
+  others : g.H.Host.read_faults l.host ≡ g.H.Host.read_faults l.fn.host;
 }
 
 abbrev pub decreases-loop-done : goal.decreases-loop-done

@@ -21,6 +21,6 @@ loop-done-preserved g c =
           ∙ ap (option_map (with_more name (take n (drop done bytes)))) c.loop-done.invariant.written
           ∙ written_on (g.H.Host.told c.args.host.now) name (take done bytes) (take n (drop done bytes))
           ∙ ap (λ (p : List ℕ). option_map (with_file name p) (g.H.Host.told c.args.host.now)) (sym (take_on done n bytes));
-      later = omega (arith, c.loop-done.invariant.later, c.in_ok-done.ensures.cause.later);
-      others = omega (arith, c.loop-done.invariant.others, c.in_ok-done.ensures.others);
+      counted = c.in_ok-done.ensures.cause.worked ∙ c.loop-done.invariant.counted;
+      others = c.in_ok-done.ensures.others ∙ c.loop-done.invariant.others;
     }
