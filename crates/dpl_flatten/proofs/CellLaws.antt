@@ -1,5 +1,5 @@
 -- What the elements that were gone through draw and place.
-use Rattle.std.proofs.Common.{◌≡◌, ℕ, ◌+◌, ◌^◌, ◌<◌, ◌≤◌, ◌⊎◌, inl, inr, ⊎_elim, Bool, true, false, List, [], ◌∷◌, ◌++◌, Some, None, map, length, get_or, take, refl, sym, ap, ◌∙◌, arith, length-append}
+use Rattle.std.proofs.Common.{◌≡◌, ◌≢◌, ℕ, ◌+◌, ◌^◌, ◌<◌, ◌≤◌, ◌⊎◌, inl, inr, ⊎_elim, Bool, true, false, List, [], ◌∷◌, ◌++◌, Some, None, map, length, get_or, take, refl, sym, ap, ◌∙◌, arith, length-append}
 use Rattle.std.proofs.lemmas.Bool.{cases_lt, cases_order}
 use Rattle.std.proofs.lemmas.List.{take_all, get_or_append_left}
 use Rattle.std.proofs.Math.Seq.{get_or-append_seam}
@@ -24,7 +24,7 @@ use Rattle.dpl_walk.specs.declared.cells.Outline.{Outline}
 use Rattle.dpl_walk.specs.declared.cells.Copies.{Copies}
 use Rattle.dpl_walk.specs.declared.cells.Cell.{Cell}
 use Rattle.dpl_flatten.specs.Totals.{IsBare}
-use Rattle.dpl_flatten.specs.Cells.{AreCopies, IsDrawn, IsPlaced, IsCell, IsCopied, IsNoted, AreBareTargets, AreTaken, AreCells}
+use Rattle.dpl_flatten.specs.Cells.{AreCopies, IsDrawn, IsPlaced, IsCell, IsCopied, IsNoted, AreCountedTargets, AreTaken, AreCells}
 use Rattle.dpl_walk.specs.Cells.{IsReady}
 use Rattle.dpl_walk.specs.Walk.{outlines_at, copies_at, outlines_or_none, copies_or_none}
 use Rattle.dpl_walk.proofs.ListLaws.{Contains-map, Contains-map_cases}
@@ -38,6 +38,7 @@ cell_none lib layer = record {
   near = λ o c. absurd (Contains-nil o c);
   placed = λ x c. absurd (Contains-nil x c);
   ready = λ x c. absurd (Contains-nil x c);
+  full = λ x c. absurd (Contains-nil x c);
   copied = λ e j c t. absurd (Contains-nil e c);
 }
 
@@ -45,10 +46,10 @@ copies_kept : (lib : Library) (totals : List ℕ) (e : Element) (old new : List 
 copies_kept lib totals e old new n c h =
     ⊎_elim (λ a. rw a.0 h) (λ b. ⊎_elim (λ a. rw a.0 h) (λ a. rw a.1 (Contains-append_left old (a.0 ∷ []) c h)) b) n
 
-copies_cases : (lib : Library) (totals : List ℕ) (e : Element) (old new : List Copies) → IsCopied lib totals e old new → (c : Copies) → Contains new c → Contains old c ⊎ ((target_of lib e ≡ Some c.target) × AreCopies e.body c × IsReady (2 ^ 31) c)
+copies_cases : (lib : Library) (totals : List ℕ) (e : Element) (old new : List Copies) → IsCopied lib totals e old new → (c : Copies) → Contains new c → Contains old c ⊎ ((target_of lib e ≡ Some c.target) × AreCopies e.body c × IsReady (2 ^ 31) c × (get_or totals c.target 0 ≢ 0))
 copies_cases lib totals e old new n c h =
     ⊎_elim (λ a. inl (rw a.0 at h))
-    (λ b. ⊎_elim (λ a. inl (rw a.0 at h)) (λ a. ⊎_elim (λ x. inl x) (λ (w : a.0 ≡ c). inr (rw (← w) a.2, rw (← w) a.3, rw (← w) a.4)) (Contains-push_cases old a.0 c (rw a.1 at h))) b)
+    (λ b. ⊎_elim (λ a. inl (rw a.0 at h)) (λ a. ⊎_elim (λ x. inl x) (λ (w : a.0 ≡ c). inr (rw (← w) a.2, rw (← w) a.3, rw (← w) a.4, rw (← w) a.5)) (Contains-push_cases old a.0 c (rw a.1 at h))) b)
     n
 
 copies_made : (lib : Library) (layer : Layer) (totals : List ℕ) (e : Element) (j : ℕ) (old new : List Copies) → IsCopied lib totals e old new → ((i : ℕ) → target_of lib e ≡ Some i → get_or totals i 0 ≡ 0 → IsBare lib layer i) → target_of lib e ≡ Some j → IsBare lib layer j ⊎ ((c : Copies) × Contains new c × (c.target ≡ j) × AreCopies e.body c)
@@ -60,7 +61,7 @@ copies_made lib layer totals e j old new n bare t =
     some_is : {a b : ℕ} → Some a ≡ Some b → a ≡ b
     some_is e = cc
 
-pub cell_more : (lib : Library) (layer : Layer) (totals : List ℕ) (es : List Element) (i : ℕ) (d : Element) (os os' : List Outline) (cs cs' : List Copies) → i < length es → AreBareTargets lib layer totals es → IsNoted lib layer totals (get_or es i d) os os' cs cs' → IsCell lib layer (take i es) os cs → IsCell lib layer (take (i + 1) es) os' cs'
+pub cell_more : (lib : Library) (layer : Layer) (totals : List ℕ) (es : List Element) (i : ℕ) (d : Element) (os os' : List Outline) (cs cs' : List Copies) → i < length es → AreCountedTargets lib layer totals es → IsNoted lib layer totals (get_or es i d) os os' cs cs' → IsCell lib layer (take i es) os cs → IsCell lib layer (take (i + 1) es) os' cs'
 cell_more lib layer totals es i d os os' cs cs' h bare n c = record {
   drawn = λ o k. ⊎_elim (λ x. old_drawn o (c.drawn o x)) (λ x. new_drawn o x) (Contains-append_cases os more o (rw n.drawn at k));
   outlined = λ x qs k q. rw n.drawn (⊎_elim (λ y. Contains-append_left os more _ (c.outlined x qs y q)) (λ (w : x ≡ e). Contains-append_right os more _ (rw w (Contains-map outline (loops_of layer e.body) qs (rw w at q)))) (Contains-take_more es i d x h k));
@@ -68,6 +69,7 @@ cell_more lib layer totals es i d os os' cs cs' h bare n c = record {
   near = λ o k. ⊎_elim (λ x. c.near o x) (λ x. new_near o x) (Contains-append_cases os more o (rw n.drawn at k));
   placed = λ x k. ⊎_elim (λ y. old_placed x (c.placed x y)) (λ y. (e, Contains-take_last es i d e h refl, y.0, y.1)) (copies_cases lib totals e cs cs' n.copied x k);
   ready = λ x k. ⊎_elim (λ y. c.ready x y) (λ y. y.2) (copies_cases lib totals e cs cs' n.copied x k);
+  full = λ x k. ⊎_elim (λ y. c.full x y) (λ y. bare.full e x.target (Contains-get_or es i d h) y.0 y.3) (copies_cases lib totals e cs cs' n.copied x k);
   copied = λ x j k t. ⊎_elim (λ y. old_copied x j (c.copied x j y t)) (λ (w : x ≡ e). new_copied x j w t) (Contains-take_more es i d x h k);
 }
   where
@@ -99,9 +101,9 @@ cell_more lib layer totals es i d os os' cs cs' h bare n c = record {
     old_copied x j y = ⊎_elim (λ z. inl z) (λ z. inr (z.0, copies_kept lib totals (get_or es i d) cs cs' n.copied z.0 z.1, z.2, z.3)) y
 
     new_copied : (x : Element) (j : ℕ) → x ≡ get_or es i d → target_of lib x ≡ Some j → IsBare lib layer j ⊎ ((c : Copies) × Contains cs' c × (c.target ≡ j) × AreCopies x.body c)
-    new_copied x j w t = rw w (copies_made lib layer totals (get_or es i d) j cs cs' n.copied (λ a b z. bare (get_or es i d) a (Contains-get_or es i d h) b z) (rw w at t))
+    new_copied x j w t = rw w (copies_made lib layer totals (get_or es i d) j cs cs' n.copied (λ a b z. bare.bare (get_or es i d) a (Contains-get_or es i d h) b z) (rw w at t))
 
-pub cell_seen : (lib : Library) (layer : Layer) (totals : List ℕ) (es : List Found) (ts : List Element) (i : ℕ) (d : Found) (os os' : List Outline) (cs cs' : List Copies) → map element_seen es ≡ ts → i < length es → AreBareTargets lib layer totals ts → IsNoted lib layer totals (element_seen (get_or es i d)) os os' cs cs' → IsCell lib layer (take i ts) os cs → IsCell lib layer (take (i + 1) ts) os' cs'
+pub cell_seen : (lib : Library) (layer : Layer) (totals : List ℕ) (es : List Found) (ts : List Element) (i : ℕ) (d : Found) (os os' : List Outline) (cs cs' : List Copies) → map element_seen es ≡ ts → i < length es → AreCountedTargets lib layer totals ts → IsNoted lib layer totals (element_seen (get_or es i d)) os os' cs cs' → IsCell lib layer (take i ts) os cs → IsCell lib layer (take (i + 1) ts) os' cs'
 cell_seen lib layer totals es ts i d os os' cs cs' e h bare n c =
     cell_more lib layer totals ts i (element_seen d) os os' cs cs' (omega (arith, h, seen_length es ts e)) bare (rw (seen_at es ts i d (element_seen d) e h) n) c
 

@@ -1,10 +1,12 @@
 -- What the walk over cells shows is what the placements of the layout draw.
-use Rattle.std.proofs.Common.{◌≡◌, ℕ, ◌<◌, ◌≤◌, ◌^◌, ◌⊎◌, inl, inr, ⊎_elim, Bool, true, false, cond, ℤ, pos, ◌+ℤ◌, ◌*ℤ◌, List, [], ◌∷◌, Option, Some, None, map, length, get_or, refl, sym, ap, ◌∙◌, arith}
+use Rattle.std.proofs.Common.{◌≡◌, ℕ, ◌<◌, ◌≤◌, ◌^◌, ◌⊎◌, inl, inr, ⊎_elim, Bool, true, false, cond, ℤ, pos, ◌+ℤ◌, ◌*ℤ◌, List, [], ◌∷◌, Option, Some, None, map, length, get_or, take, refl, sym, ap, ◌∙◌, arith}
 use Rattle.std.specs.List.{Contains}
 use Rattle.std.proofs.lemmas.Int.{ints}
 use Rattle.std.proofs.lemmas.List.Elements.{Contains-get_or}
+use Rattle.std.proofs.lemmas.List.{get_or-take, length-take}
+use Rattle.std.proofs.lemmas.Option.{slice_get-get_or, slice_get_within}
 use Rattle.dpl_spec.specs.declared.Pt.{Pt}
-use Rattle.dpl_spec.proofs.Ordered.{Contains-nil}
+use Rattle.dpl_spec.proofs.Ordered.{Contains-nil, Contains-head}
 use Rattle.dpl_elements.specs.Reals.{Excess64, real_of, IsWhole, IsQuarterTurns}
 use Rattle.dpl_elements.specs.Motions.{Motion, image}
 use Rattle.dpl_format.specs.Tree.{Library, Element, Body, elements_at}
@@ -19,8 +21,11 @@ use Rattle.dpl_walk.specs.declared.cells.Copies.{Copies}
 use Rattle.dpl_walk.specs.declared.cells.Cell.{Cell}
 use Rattle.dpl_flatten.specs.Links.{IsLinked, IsOrdered}
 use Rattle.dpl_walk.specs.Cells.{copy_motion}
-use Rattle.dpl_flatten.specs.Cells.{AreCopies, AreBareTargets, AreTaken, AreCells}
+use Rattle.dpl_flatten.specs.Cells.{AreCopies, AreCountedTargets, AreTaken, AreCells}
 use Rattle.dpl_flatten.specs.Totals.{AreTotals}
+use Rattle.dpl_flatten.specs.Drawing.{IsTrimmed, drawn}
+use Rattle.dpl_layout.specs.Structures.{target_of}
+use Rattle.dpl_walk.specs.Ways.{AreBehind, IsOrderOf}
 use Rattle.dpl_walk.specs.Walk.{Pass, Passes, through, IsShown, AreKnown, AreDeep, outlines_at, copies_at}
 use Rattle.dpl_flatten.proofs.LinkLaws.{target_known}
 use Rattle.dpl_walk.proofs.StackLaws.{shown_by, shown_below}
@@ -45,6 +50,9 @@ same_motion m n a b c d = λ i. record { reflect = a i; turns = b i; dx = c i; d
 
 one_copy : (b : Body) (i j : ℕ) (m n : Motion) → IsCopyMotion b i j m → IsCopyMotion b i j n → m ≡ n
 one_copy b i j m n x y = same_motion m n (x.reflect ∙ sym y.reflect) (turns_same _ m.turns n.turns x.turns y.turns) (x.x ∙ sym y.x) (x.y ∙ sym y.y)
+
+some_is : {a b : ℕ} → Some a ≡ Some b → a ≡ b
+some_is e = cc
 
 low : (b : Bool) (n m : ℕ) → (b ≡ true → n ≤ m) → cond b n 0 ≤ m
 low true n m h = h refl
@@ -106,8 +114,50 @@ module _ (lib : Library) (layer : Layer) (graph : List (List ℕ)) (marks : List
           let here : get_or marks k false ≡ true = m in
           rw (here, there) (o.falls k c.target m edge)
 
-pub bare_targets : (lib : Library) (layer : Layer) (graph : List (List ℕ)) (marks : List Bool) (totals : List ℕ) → IsLinked lib graph marks → AreTotals lib layer marks totals → (k : ℕ) → IsMarked marks k → AreBareTargets lib layer totals (elements_at lib k)
-bare_targets lib layer graph marks totals links t k m e j c target none = t.bare j (links.closed k j m (links.graph_of.refers k j (e, c, target))) none
+module _ (lib : Library) (layer : Layer) (graph : List (List ℕ)) (marks : List Bool) (cells : List Cell) (links : IsLinked lib graph marks) (are : AreCells lib layer marks cells) (levels vertices : List ℕ) (o : IsOrdered lib graph marks levels vertices) where
+  -- what places copies is marked
+  placing : (k : ℕ) (c : Copies) → Contains (copies_at cells k) c → IsMarked marks k
+  placing k c h = ⊎_elim (λ m. m) (λ n. absurd (Contains-nil c (rw ((are.unmarked k n).0) at h))) (marked_or (get_or marks k false))
+
+  standing : (n k : ℕ) → IsMarked marks k → get_or levels k 0 < n → n ≤ length vertices → Contains (take n vertices) k
+  standing n k m h l =
+      let p = o.placed k m in
+      let there : get_or (take n vertices) (get_or levels k 0) 0 ≡ k = get_or-take n vertices (get_or levels k 0) 0 h ∙ p.stands in
+      rw there at (Contains-get_or (take n vertices) (get_or levels k 0) 0 (omega (arith, length-take n vertices, h, l)))
+
+  behind : AreBehind cells vertices
+  behind i k c s h =
+      let m = placing k c h in
+      let p = (are.marked k m).placed c h in
+      let edge = links.graph_of.refers k c.target (p.0, p.1, p.2) in
+      let falls = o.falls k c.target m edge in
+      let low = slice_get_within vertices i k s in
+      let here : get_or vertices i 0 ≡ k = some_is (sym (slice_get-get_or vertices i 0 low) ∙ s) in
+      let level : get_or levels k 0 ≡ i = rw here at (o.own i low).1 in
+      standing i c.target (links.closed k c.target m edge) (omega (arith, falls, level)) (omega (arith, low))
+
+  pub order_of : IsOrderOf cells vertices
+  order_of = record {
+    known = λ i d h. let q = o.known (get_or vertices i d) (Contains-get_or vertices i d h) in omega (arith, q, are.each);
+    behind = behind;
+    whole = λ k p.
+        let m = placing k p.0 (rw p.1.alone (Contains-head p.0 [])) in
+        let x = o.placed k m in
+        rw x.stands at (Contains-get_or vertices (get_or levels k 0) 0 x.inside);
+  }
+
+-- structures that place no point are copied nowhere
+pub trimmed : (lib : Library) (layer : Layer) (marks : List Bool) (cells : List Cell) (top : ℕ) (order : List ℕ) → AreCells lib layer marks cells → IsTrimmed lib layer (drawn cells order top)
+trimmed lib layer marks cells top order are k c h = ⊎_elim (λ m. (are.marked k m).full c h) (λ n. absurd (Contains-nil c (rw ((are.unmarked k n).0) at h))) (marked_or (get_or marks k false))
+
+pub bare_targets : (lib : Library) (layer : Layer) (graph : List (List ℕ)) (marks : List Bool) (totals : List ℕ) → IsLinked lib graph marks → AreTotals lib layer marks totals → (k : ℕ) → IsMarked marks k → AreCountedTargets lib layer totals (elements_at lib k)
+bare_targets lib layer graph marks totals links t k m = record {
+  bare = λ e j c target none. t.bare j (below e j c target) none;
+  full = λ e j c target some. let right = t.right j (below e j c target) in omega (arith, right, some);
+}
+  where
+    below : (e : Element) (j : ℕ) → Contains (elements_at lib k) e → target_of lib e ≡ Some j → IsMarked marks j
+    below e j c target = links.closed k j m (links.graph_of.refers k j (e, c, target))
 
 pub all_taken : (lib : Library) (layer : Layer) (graph : List (List ℕ)) (top : ℕ) (marks : List Bool) → IsLinked lib graph marks → AreReached graph top marks → IsNowhere lib top (IsRefused layer) → (k : ℕ) → IsMarked marks k → AreTaken layer (elements_at lib k)
 all_taken lib layer graph top marks links reached none k m e f c r = none k e (record { reached = reaches_in_layout links.graph_of (reached.sound k m); inside = c; holds = (f, r) })

@@ -3,6 +3,7 @@ use Rattle.std.proofs.Common.{◌≡◌, ℕ, ◌<◌, ◌≤◌, ⊎_elim, Bool
 use Rattle.std.proofs.lemmas.Bool.{cases_lt}
 use Rattle.std.proofs.lemmas.Option.{slice_get_past}
 use Rattle.std.specs.List.{Contains}
+use Rattle.std.proofs.lemmas.List.Elements.{Contains-get_or}
 use Rattle.std.specs.Prelude.{◌↔◌, slice_get}
 use Rattle.dpl_format.specs.Tree.{Library, Element, elements_at, elements_or_none}
 use Rattle.dpl_layout.specs.Structures.{target_of, Reaches, here, on}
@@ -80,6 +81,7 @@ ordered_of lib graph top marks levels vertices g r o = record {
   placed = λ k m. o.placed k (r.sound k m);
   falls = λ k j m e. o.falls k j (r.sound k m) e;
   known = λ k c. let b = marked_below marks k (r.complete k (o.alone k c)) in omega (arith, b, r.each, g.each);
+  own = λ i h. (r.complete (get_or vertices i 0) (o.alone (get_or vertices i 0) (Contains-get_or vertices i 0 h)), o.once i h);
   few = omega (arith, o.few, g.each);
 }
 

@@ -1,5 +1,5 @@
 -- What one structure draws, and the copies that it places.
-use Rattle.std.specs.Prelude.{◌≡◌, ℕ, ◌<◌, ◌⊎◌, Bool, ℤ, pos, ◌-ℤ◌, int_div, ◌^◌, unsigned_abs, slice_index, ◌++◌, ◌∷◌, [], map, length, List, Some, None}
+use Rattle.std.specs.Prelude.{◌≡◌, ◌≢◌, ℕ, ◌<◌, ◌⊎◌, Bool, ℤ, pos, ◌-ℤ◌, int_div, ◌^◌, unsigned_abs, slice_index, ◌++◌, ◌∷◌, [], map, length, List, Some, None}
 use Rattle.std.specs.List.{All, Contains}
 use Rattle.dpl_spec.specs.declared.Pt.{Pt}
 use Rattle.dpl_spec.specs.Loops.{IsRectilinear, ArePointsWithin, AreLoopsWithin}
@@ -8,7 +8,7 @@ use Rattle.dpl_layout.specs.declared.Layer.{Layer}
 use Rattle.dpl_layout.specs.declared.ElementFault.{ElementFault}
 use Rattle.dpl_layout.specs.Elements.{loops_of, point_in, columns_of, rows_of, IsCopyMotion, reflects, AreTurns, IsRefusedFor}
 use Rattle.dpl_layout.specs.Structures.{target_of}
-use Rattle.dpl_flatten.specs.Totals.{IsBare}
+use Rattle.dpl_flatten.specs.Totals.{IsBare, PlacesSome}
 use Rattle.dpl_flatten.specs.declared.copies.Turn.{Turn}
 use Rattle.dpl_walk.specs.declared.cells.Outline.{Outline}
 use Rattle.dpl_walk.specs.declared.cells.Copies.{Copies}
@@ -66,7 +66,7 @@ pub record IsArrayOfCopies (t : Trans) (across_count up_count : ℤ) (xy : List 
   pub rows : c.rows ≡ unsigned_abs up_count
   pub small : IsSmallCopies (2 ^ 31) c
 
--- what some elements draw and place; copies of what draws nothing may be left out
+-- what some elements draw and place; copies of what draws nothing may be left out, and those of what places no point are
 pub record IsCell (lib : Library) (layer : Layer) (es : List Element) (outlines : List Outline) (copies : List Copies) : Type 0 where
   pub drawn : (o : Outline) → Contains outlines o → IsDrawn layer es o
   pub outlined : (e : Element) (qs : List Pt) → Contains es e → Contains (loops_of layer e.body) qs → Contains outlines (record { at = e.at; points = qs })
@@ -74,18 +74,20 @@ pub record IsCell (lib : Library) (layer : Layer) (es : List Element) (outlines 
   pub near : (o : Outline) → Contains outlines o → ArePointsWithin (2 ^ 61) o.points
   pub placed : (c : Copies) → Contains copies c → IsPlaced lib es c
   pub ready : (c : Copies) → Contains copies c → IsReady (2 ^ 31) c
+  pub full : (c : Copies) → Contains copies c → PlacesSome lib layer c.target
   pub copied : (e : Element) (j : ℕ) → Contains es e → target_of lib e ≡ Some j → IsBare lib layer j ⊎ ((c : Copies) × Contains copies c × (c.target ≡ j) × AreCopies e.body c)
 
--- structures with no point in their totals, to which some of these elements refer, are bare
-abbrev pub AreBareTargets : Library → Layer → List ℕ → List Element → Type 0
-AreBareTargets lib layer totals es = (e : Element) (j : ℕ) → Contains es e → target_of lib e ≡ Some j → slice_index totals j ≡ 0 → IsBare lib layer j
+-- of the structures to which some of these elements refer, those with no point in their totals are bare, and the others place some
+pub record AreCountedTargets (lib : Library) (layer : Layer) (totals : List ℕ) (es : List Element) : Type 0 where
+  pub bare : (e : Element) (j : ℕ) → Contains es e → target_of lib e ≡ Some j → slice_index totals j ≡ 0 → IsBare lib layer j
+  pub full : (e : Element) (j : ℕ) → Contains es e → target_of lib e ≡ Some j → slice_index totals j ≢ 0 → PlacesSome lib layer j
 
--- the element's copies were noted, if it has some and they may draw something
+-- the element's copies were noted, if it has some and they place a point
 abbrev pub IsCopied : Library → List ℕ → Element → List Copies → List Copies → Type 0
 IsCopied lib totals e old new =
     ((new ≡ old) × (target_of lib e ≡ None))
     ⊎ (((new ≡ old) × ((j : ℕ) × (target_of lib e ≡ Some j) × (slice_index totals j ≡ 0)))
-    ⊎ ((c : Copies) × (new ≡ old ++ c ∷ []) × (target_of lib e ≡ Some c.target) × AreCopies e.body c × IsReady (2 ^ 31) c))
+    ⊎ ((c : Copies) × (new ≡ old ++ c ∷ []) × (target_of lib e ≡ Some c.target) × AreCopies e.body c × IsReady (2 ^ 31) c × (slice_index totals c.target ≢ 0)))
 
 -- what the element draws and places was noted
 pub record IsNoted (lib : Library) (layer : Layer) (totals : List ℕ) (e : Element) (old new : List Outline) (before after : List Copies) : Type 0 where

@@ -1,6 +1,6 @@
 -- What a drawing of a layer is, and what its loops are.
 use Rattle.std.specs.Prelude.{◌^◌, ◌<◌, ◌≤◌, ◌↔◌, ℕ, List, Option, Some, None, length}
-use Rattle.std.specs.List.{All}
+use Rattle.std.specs.List.{All, Contains}
 use Rattle.dpl_spec.specs.declared.Pt.{Pt}
 use Rattle.dpl_spec.specs.Loops.{SomeLoopCovers, IsRectilinear, AreLoopsWithin, farthest}
 use Rattle.dpl_format.specs.Tree.{Library}
@@ -8,8 +8,11 @@ use Rattle.dpl_layout.specs.declared.Layer.{Layer}
 use Rattle.dpl_layout.specs.declared.FlattenFault.TheVariants.{OutOfRange}
 use Rattle.dpl_layout.specs.Placements.{IsInLayer}
 use Rattle.dpl_layout.specs.Faults.{IsFaultless, IsFirstFault}
+use Rattle.dpl_flatten.specs.Totals.{PlacesSome}
 use Rattle.dpl_walk.specs.declared.cells.Cell.{Cell}
-use Rattle.dpl_walk.specs.Walk.{AreDeep, AreKnown, IsWalk}
+use Rattle.dpl_walk.specs.declared.cells.Copies.{Copies}
+use Rattle.dpl_walk.specs.Walk.{AreDeep, AreKnown, IsWalk, copies_at}
+use Rattle.dpl_walk.specs.Ways.{IsOrderOf}
 
 -- what structures draw and place, an order of them, and the top
 pub record Drawn : Type 0 where
@@ -25,7 +28,7 @@ pub record IsWalkable (d : Drawn) : Type 0 where
   pub known : AreKnown (2 ^ 31) d.cells
   pub deep : AreDeep d.cells
   pub few : length d.cells ≤ 2 ^ 26
-  pub order : All (λ k. k < length d.cells) d.order
+  pub order : IsOrderOf d.cells d.order
   pub top : d.top < length d.cells
 
 -- The loops cover the layer, have edges parallel to the axes and lie in range. The layer has no fault.
@@ -39,6 +42,10 @@ pub record AreLoopsOf (lib : Library) (top : ℕ) (layer : Layer) (loops : List 
 abbrev pub IsLaidOut : Library → ℕ → Layer → List (List Pt) → Option ℕ → Type 0
 IsLaidOut lib top layer loops None = AreLoopsOf lib top layer loops
 IsLaidOut lib top layer loops (Some at) = IsFirstFault lib top layer (OutOfRange at)
+
+-- copies are placed of structures alone that place some point of the layer
+abbrev pub IsTrimmed : Library → Layer → Drawn → Type 0
+IsTrimmed lib layer d = (k : ℕ) (c : Copies) → Contains (copies_at d.cells k) c → PlacesSome lib layer c.target
 
 -- whatever a walk gathers of the drawing is of the layer
 abbrev pub IsDrawingOf : Library → ℕ → Layer → Drawn → Type 0

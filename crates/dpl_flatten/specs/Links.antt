@@ -28,9 +28,10 @@ pub record IsLevelled (lib : Library) (graph : List (List ℕ)) (marks : List Bo
 abbrev pub AlwaysFalls : List (List ℕ) → List Bool → List ℕ → Type 0
 AlwaysFalls graph marks levels = (k j : ℕ) → IsMarked marks k → LeadsTo graph k j → slice_index levels j < slice_index levels k
 
--- the marked structures, each behind those to which it refers; the level of each is its place in the order
+-- the marked structures, each once, behind those to which it refers; the level of each is its place in the order
 pub record IsOrdered (lib : Library) (graph : List (List ℕ)) (marks : List Bool) (levels vertices : List ℕ) : Type 0 where
   pub placed : (k : ℕ) → IsMarked marks k → IsPlaced levels vertices k
   pub falls : AlwaysFalls graph marks levels
   pub known : (k : ℕ) → Contains vertices k → k < length lib.structures
+  pub own : (i : ℕ) → i < length vertices → IsMarked marks (slice_index vertices i) × (slice_index levels (slice_index vertices i) ≡ i)
   pub few : length vertices ≤ length lib.structures

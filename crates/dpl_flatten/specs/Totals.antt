@@ -1,5 +1,5 @@
 -- How many points the structures place, up to a ceiling.
-use Rattle.std.specs.Prelude.{◌≡◌, ℕ, ◌≤◌, min, Bool, List, length, slice_index}
+use Rattle.std.specs.Prelude.{◌≡◌, ℕ, ◌<◌, ◌≤◌, min, Bool, List, length, slice_index}
 use Rattle.std.specs.List.{All, Contains}
 use Rattle.dpl_spec.specs.declared.Pt.{Pt}
 use Rattle.dpl_format.specs.Tree.{Library, Element}
@@ -16,6 +16,10 @@ ceiling = 16777217
 -- nothing that structure k places draws a loop
 abbrev pub IsBare : Library → Layer → ℕ → Type 0
 IsBare lib layer k = (steps : List Step) (l : ℕ) (e : Element) (qs : List Pt) → IsPlacement lib k steps l e → Contains (loops_of layer e.body) qs → ⊥
+
+-- structure k places some point of the layer
+abbrev pub PlacesSome : Library → Layer → ℕ → Type 0
+PlacesSome lib layer k = 0 < placed_points lib layer k
 
 -- what each marked structure places
 pub record AreTotals (lib : Library) (layer : Layer) (marks : List Bool) (totals : List ℕ) : Type 0 where

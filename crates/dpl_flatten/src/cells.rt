@@ -10,7 +10,7 @@ ghost use Rattle.dpl_syntax.specs.Elements.{body_seen, element_seen, IsSized};
 ghost use Rattle.dpl_shapes.specs.declared.fault.ShapeFault.TheVariants.{NoMemory};
 ghost use Rattle.dpl_layout.specs.declared.ElementFault.{ElementFault};
 ghost use Rattle.dpl_layout.specs.Elements.{points_in, loops_of, AreTurns, IsTurnedAskew, IsPathFault, IsRefusedFor, reference_name};
-ghost use Rattle.dpl_flatten.specs.Cells.{AreCopies, IsCopied, IsNoted, IsCell, AreBareTargets, AreTaken, AreCells};
+ghost use Rattle.dpl_flatten.specs.Cells.{AreCopies, IsCopied, IsNoted, IsCell, AreCountedTargets, AreTaken, AreCells};
 ghost use Rattle.dpl_walk.specs.Cells.{IsReady};
 ghost use Rattle.dpl_flatten.specs.Totals.{ceiling};
 ghost use Rattle.dpl_links.specs.Graph.{IsMarked};
@@ -244,7 +244,7 @@ fn cell_of(
 ) -> Result<Cell, AllocError>
     requires known { structure < length lib.now.structures }
     requires totals { All (λ n. n ≤ ceiling) totals.now }
-    requires bare { AreBareTargets lib.now chosen totals.now (elements_at lib.now structure) }
+    requires bare { AreCountedTargets lib.now chosen totals.now (elements_at lib.now structure) }
     requires taken { AreTaken chosen (elements_at lib.now structure) }
     ensures { IfOk result (λ c. IsCell lib.now chosen (elements_at lib.now structure) c.outlines c.copies) }
 {
@@ -278,7 +278,7 @@ fn cell_where(
 ) -> Result<Cell, AllocError>
     requires known { structure < length lib.now.structures }
     requires totals { All (λ n. n ≤ ceiling) totals.now }
-    requires bare { marked ≡ true → AreBareTargets lib.now chosen totals.now (elements_at lib.now structure) }
+    requires bare { marked ≡ true → AreCountedTargets lib.now chosen totals.now (elements_at lib.now structure) }
     requires taken { marked ≡ true → AreTaken chosen (elements_at lib.now structure) }
     ensures cell { IfOk result (λ c. marked ≡ true → IsCell lib.now chosen (elements_at lib.now structure) c.outlines c.copies) }
     ensures empty { IfOk result (λ c. marked ≡ false → (c.copies ≡ []) × (c.outlines ≡ [])) }
@@ -303,7 +303,7 @@ pub(crate) fn make_cells(
 ) -> Result<Vec<Cell>, AllocError>
     requires marks { length marks.now ≡ length lib.now.structures }
     requires totals { All (λ n. n ≤ ceiling) totals.now }
-    requires bare { (k : ℕ) → IsMarked marks.now k → AreBareTargets lib.now chosen totals.now (elements_at lib.now k) }
+    requires bare { (k : ℕ) → IsMarked marks.now k → AreCountedTargets lib.now chosen totals.now (elements_at lib.now k) }
     requires taken { (k : ℕ) → IsMarked marks.now k → AreTaken chosen (elements_at lib.now k) }
     ensures { IfOk result (λ v. AreCells lib.now chosen marks.now v.items) }
 {

@@ -6,7 +6,7 @@ ghost use Rattle.dpl_format.specs.Tree.{Library};
 ghost use Rattle.dpl_layout.specs.Faults.{IsFirstFault, IsSmall};
 ghost use Rattle.dpl_layout.specs.declared.Layer.{Layer};
 ghost use Rattle.dpl_links.specs.Graph.{AreReached};
-ghost use Rattle.dpl_flatten.specs.Drawing.{AreLoopsOf, IsDrawingOf, IsWalkable, drawn};
+ghost use Rattle.dpl_flatten.specs.Drawing.{AreLoopsOf, IsDrawingOf, IsTrimmed, IsWalkable, drawn};
 ghost use Rattle.dpl_flatten.specs.Links.{IsLinked, IsOrdered};
 ghost use Rattle.dpl_flatten.specs.Totals.{AreTotals};
 
@@ -25,7 +25,7 @@ use std::marker::Model;
 #[derive(Drop)]
 pub struct Drawing {
     cells: Vec<Cell>,
-    /// Structures, each behind those that it places.
+    /// Structures, each behind those that it places; among them is each that does no more than place one copy.
     order: Vec<u32>,
     top: u32,
 }
@@ -75,7 +75,8 @@ pub(crate) fn draw_all(
     requires order { IsOrdered lib.now links.now.graph.now links.now.marks.now survey.order.levels.items survey.order.vertices.items }
     requires totals { AreTotals lib.now layer links.now.marks.now survey.totals.items }
     requires few { length lib.now.structures ≤ 2 ^ 26 }
-    ensures { IfOk result (IsDrawingOf lib.now top layer) }
+    ensures drawing { IfOk result (IsDrawingOf lib.now top layer) }
+    ensures trimmed { IfOk result (IsTrimmed lib.now layer) }
 {
     let cells = make_cells(alloc, lib, layer, survey.totals.as_slice(), links.marks)?;
     Ok(Drawing {

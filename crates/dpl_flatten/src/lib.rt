@@ -7,7 +7,7 @@ ghost use Rattle.dpl_spec.specs.declared.Pt.{Pt};
 ghost use Rattle.dpl_spec.specs.Loops.{SomeLoopCovers, IsRectilinear, AreLoopsWithin, farthest};
 ghost use Rattle.dpl_layout.specs.Placements.{IsInLayer};
 ghost use Rattle.dpl_layout.specs.Faults.{IsFaultless, IsFirstFault};
-ghost use Rattle.dpl_flatten.specs.Drawing.{IsDrawingOf};
+ghost use Rattle.dpl_flatten.specs.Drawing.{IsDrawingOf, IsTrimmed};
 
 use crate::drawing::draw_all;
 use crate::faults::find_faults;
@@ -47,6 +47,8 @@ pub fn draw(
 ) -> Result<Drawing, FlattenFault>
     requires { top < length lib.now.structures }
     ensures drawing { IfOk result (IsDrawingOf lib.now top layer) }
+    // What places no point isn't walked.
+    ensures trimmed { IfOk result (IsTrimmed lib.now layer) }
     ensures fault { IfErr result (IsFirstFault lib.now top layer) }
 {
     let graph = graph_of(alloc, lib)?;

@@ -5,10 +5,10 @@ use Rattle.std.specs.Prelude.{slice_get}
 use Rattle.std.proofs.Math.ListN.{set, length-set}
 use Rattle.std.proofs.lemmas.Bool.{cases_lt}
 use Rattle.std.proofs.lemmas.Option.{slice_get-get_or, slice_get_past, slice_get_within}
-use Rattle.std.proofs.lemmas.List.{take_all, get_or-set_same, get_or-set_other}
+use Rattle.std.proofs.lemmas.List.{take_all, length-take, length-append, get_or-set_same, get_or-set_other}
 use Rattle.std.proofs.lemmas.List.Elements.{Contains-append_left, Contains-push, Contains-push_cases, Contains-get_or}
 use Rattle.dpl_spec.specs.declared.Pt.{Pt}
-use Rattle.dpl_spec.proofs.Ordered.{Contains-nil}
+use Rattle.dpl_spec.proofs.Ordered.{Contains-nil, Contains-head, Contains-later, Contains-cases}
 use Rattle.dpl_elements.specs.Motions.{image, IsMotionWithin}
 use Rattle.dpl_links.proofs.TakeLaws.{Contains-take_more, Contains-take_keeps, Contains-take_last}
 use Rattle.dpl_walk.specs.declared.cells.Copies.{Copies}
@@ -16,7 +16,7 @@ use Rattle.dpl_walk.specs.declared.cells.Cell.{Cell}
 use Rattle.dpl_walk.specs.declared.ways.Way.{Way}
 use Rattle.dpl_walk.specs.Cells.{IsReady}
 use Rattle.dpl_walk.specs.Walk.{outlines_at, copies_at, outlines_or_none, copies_or_none, AreDeep, AreKnown}
-use Rattle.dpl_walk.specs.Ways.{IsWay, AreWays, HasWays, IsShort, IsShortBy, AreShort, IsCellShort, AreCellsShort, IsWhole, AreWhole, AreBehind}
+use Rattle.dpl_walk.specs.Ways.{IsWay, AreWays, HasWays, IsShort, IsShortBy, AreShort, IsCellShort, AreCellsShort, IsWhole, AreWhole, AreBehind, IsOrderOf}
 use Rattle.dpl_walk.proofs.StackLaws.{outlines_are}
 use Rattle.dpl_walk.proofs.WayLaws.{own_is_way, way_within}
 
@@ -62,6 +62,9 @@ own_more ways new w k e l target stays still own j v s =
     (λ (a : (j ≡ length ways) × (v ≡ w)). let there : v.target ≡ j = ap (λ (x : Way). x.target) a.1 ∙ (target ∙ (sym l ∙ sym a.0)) in (there, rw a.1 stays, rw a.1 still))
     (slice_get_push ways w j v (rw e at s))
 
+pub own_targets : (ways : List Way) → AreOwn ways → (k : ℕ) (w : Way) → slice_get ways k ≡ Some w → w.target ≡ k
+own_targets ways own k w s = (own k w s).0
+
 pub own_all : (cells : List Cell) (ways : List Way) → AreDeep cells → length ways ≡ length cells → AreOwn ways → HasWays cells ways
 own_all cells ways d e own = (
   d,
@@ -95,6 +98,28 @@ whole_set cells order i d ways new w h l e is a behind k v m s =
         let t : w ≡ v = some_is w v (sym (set_here ways (get_or order i d) w l) ∙ rw (e, q) at s) in
         rw (← t) (is (λ c u inside there. a behind c.target u (behind i (get_or order i d) c (slice_get-get_or order i d h) inside) there))
 
+contains_or_not : (ks : List ℕ) (k : ℕ) → Contains ks k ⊎ ¬ Contains ks k
+contains_or_not [] k = inr (λ h. Contains-nil k h)
+contains_or_not (j ∷ js) k =
+    ⊎_elim (λ (e : j ≡ k). inl (rw e (Contains-head k js)))
+    (λ n. ⊎_elim (λ h. inl (Contains-later j k js h)) (λ m. inr (λ h. ⊎_elim (λ e. n e) (λ x. m x) (Contains-cases j k js h))) (contains_or_not js k))
+    (same_or_not j k)
+
+-- the ways of structures that aren't among these lead to the structures themselves
+abbrev pub AreOwnBeside : List Way → List ℕ → Type 0
+AreOwnBeside ways ks = (k : ℕ) (w : Way) → slice_get ways k ≡ Some w → ¬ Contains ks k → w.target ≡ k
+
+pub own_set : (order : List ℕ) (i d : ℕ) (ways new : List Way) (w : Way) → i < length order → new ≡ set ways (get_or order i d) w → AreOwnBeside ways (take i order) → AreOwnBeside new (take (i + 1) order)
+own_set order i d ways new w h e own k v s n =
+    ⊎_elim (λ (q : k ≡ get_or order i d). absurd (n (Contains-take_last order i d k h q)))
+    (λ m. own k v (sym (set_elsewhere ways (get_or order i d) k w m) ∙ rw e at s) (λ x. n (Contains-take_keeps order i d k h x)))
+    (same_or_not k (get_or order i d))
+
+-- once the order is through, each way is as long as can be
+pub whole_all : (cells : List Cell) (order : List ℕ) (ways : List Way) → IsOrderOf cells order → AreWhole cells ways order → AreOwnBeside ways order → (k : ℕ) (w : Way) → slice_get ways k ≡ Some w → IsWhole cells w
+whole_all cells order ways o whole own k w s =
+    ⊎_elim (λ h. whole k w h s) (λ n p. let e = own k w s n in n (o.whole k (rw e at p))) (contains_or_not order k)
+
 pub all_within : (cells : List Cell) (ways : List Way) → length cells ≤ 2 ^ 26 → HasWays cells ways → All (λ (w : Way). IsMotionWithin (2 ^ 60) w.place) ways
 all_within cells ways few a k d h = way_within cells a.0 k (get_or ways k d) few (a.1.way k (get_or ways k d) (slice_get-get_or ways k d h))
 
@@ -102,12 +127,14 @@ all_within cells ways few a k d h = way_within cells a.0 k (get_or ways k d) few
 
 pub short_none : (ways : List Way) (new : List Copies) → new ≡ [] → AreShort ways [] new
 short_none ways new e = record {
+  each = ap length e;
   kept = λ c h. absurd (Contains-nil c h);
   alone = λ s h. absurd (Contains-nil s (rw e at h));
 }
 
 pub short_more : (ways : List Way) (cs : List Copies) (i : ℕ) (d s : Copies) (old new : List Copies) → i < length cs → new ≡ old ++ s ∷ [] → IsShortBy ways (get_or cs i d) s → AreShort ways (take i cs) old → AreShort ways (take (i + 1) cs) new
 short_more ways cs i d s old new h e is a = record {
+  each = omega (arith, ap length e, length-append old (s ∷ []), length-take i cs, length-take (i + 1) cs, a.each, h);
   kept = λ c k. ⊎_elim (λ x. let b = a.kept c x in (b.0, rw e (Contains-append_left old (s ∷ []) b.0 b.1), b.2)) (λ (q : c ≡ get_or cs i d). (s, rw e (Contains-push old s), rw q is)) (Contains-take_more cs i d c h k);
   alone = λ t k. ⊎_elim (λ x. let b = a.alone t x in (b.0, Contains-take_keeps cs i d b.0 h b.1, b.2)) (λ (q : s ≡ t). (get_or cs i d, Contains-take_last cs i d (get_or cs i d) h refl, rw (← q) is)) (Contains-push_cases old s t (rw e at k));
 }

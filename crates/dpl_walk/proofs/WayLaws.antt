@@ -1,5 +1,5 @@
 -- Ways past structures that place one copy of another one.
-use Rattle.std.proofs.Common.{◌≡◌, ℕ, zero, suc, ◌+◌, ◌-◌, ◌*◌, ◌^◌, ◌<◌, ◌≤◌, ⊎_elim, Bool, ℤ, pos, ◌+ℤ◌, ◌*ℤ◌, List, [], Option, Some, length, get_or, refl, sym, ap, subst, ◌∙◌, cond, arith}
+use Rattle.std.proofs.Common.{◌≡◌, ℕ, zero, suc, ◌+◌, ◌-◌, ◌*◌, ◌^◌, ◌<◌, ◌≤◌, ⊎_elim, Bool, ℤ, pos, ◌+ℤ◌, ◌*ℤ◌, List, [], ◌∷◌, Option, Some, length, get_or, refl, sym, ap, subst, ◌∙◌, cond, arith}
 use Rattle.std.specs.List.{Contains}
 use Rattle.std.specs.Prelude.{slice_get, ◌↔◌, unsigned_abs}
 use Rattle.std.proofs.Math.Nat.{mul-le-mul_right}
@@ -14,7 +14,7 @@ use Rattle.dpl_walk.specs.declared.cells.Cell.{Cell}
 use Rattle.dpl_walk.specs.declared.ways.Way.{Way}
 use Rattle.dpl_walk.specs.Cells.{copy_motion, IsReady, IsSpanWithin}
 use Rattle.dpl_walk.specs.Walk.{outlines_at, copies_at, IsShown, AreOf, AreDeep, AreSteep, AreKnown, IsWalk}
-use Rattle.dpl_walk.specs.Ways.{IsPassage, IsWay, AreWays, HasWays, IsShort, AreCellsShort, IsWhole}
+use Rattle.dpl_walk.specs.Ways.{IsPassage, IsWay, AreWays, HasWays, IsShort, AreCellsShort, HasPassage, IsWhole, ArePassed}
 use Rattle.dpl_walk.proofs.StackLaws.{shown_by, shown_cases, shown_here, shown_below, composed_within, outlines_are, copies_are}
 
 -- ---- motions of copies
@@ -237,6 +237,30 @@ module _ (cells new : List Cell) (ways : List Way) (d : AreDeep cells) (are : Ar
     sound = λ ps c. let x = w.sound ps c in (x.0, (same_shown top (λ p. p) ps x.0).1 x.1);
     out = λ at e. let x = w.out at e in (x.0, (same_shown top (λ p. p) x.0 at).1 x.1, x.2);
   }
+
+  -- a structure that has a passage had one
+  had_passage : (k : ℕ) (b : Copies) → IsPassage (outlines_at new k) (copies_at new k) b → HasPassage cells k
+  had_passage k b p = by_copies (copies_at cells k) refl
+    where
+      inside : Contains (copies_at new k) b
+      inside = rw p.alone (Contains-head b [])
+
+      one : length (copies_at cells k) ≡ 1
+      one = sym (short.copies k).each ∙ ap length p.alone
+
+      by_copies : (cs : List Copies) → copies_at cells k ≡ cs → HasPassage cells k
+      by_copies [] e = let n = ap length e in absurd (omega (arith, one, n))
+      by_copies (c ∷ []) e =
+          let (d, there, (w, s, is)) = (short.copies k).alone b inside in
+          let same : c ≡ d = ⊎_elim (λ x. x) (λ x. absurd (Contains-nil d x)) (Contains-cases c d [] (rw e at there)) in
+          (c, record { bare = sym (short.draws k) ∙ p.bare; alone = e; columns = rw same (sym is.columns ∙ p.columns); rows = rw same (sym is.rows ∙ p.rows) })
+      by_copies (c ∷ d ∷ cs) e = let n = ap length e in absurd (omega (arith, one, n))
+
+  -- where each way is as long as can be, copies lead to no passage
+  pub passed_of : ((k : ℕ) (w : Way) → slice_get ways k ≡ Some w → IsWhole cells w) → ArePassed new
+  passed_of whole k b h p =
+      let (c, inside, (w, e, is)) = (short.copies k).alone b h in
+      whole c.target w e (rw is.target at (had_passage b.target p.0 p.1))
 
   moves : (k : ℕ) (b : Copies) (i j : ℕ) → AreOf (copies_at new k) b i j → IsMotionWithin (2 ^ 34 * (d.level k - d.level b.target)) (copy_motion b i j)
   moves k b i j a =

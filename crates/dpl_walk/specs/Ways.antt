@@ -1,6 +1,6 @@
 -- Ways past structures that do no more than place one copy of another one.
 use Rattle.std.specs.Prelude.{◌≡◌, ◌≢◌, ℕ, ◌-◌, ◌*◌, ◌^◌, ◌<◌, ◌≤◌, ◌↔◌, List, [], ◌∷◌, length, take, slice_get, Some}
-use Rattle.std.specs.List.{Contains}
+use Rattle.std.specs.List.{All, Contains}
 use Rattle.dpl_spec.specs.declared.Pt.{Pt}
 use Rattle.dpl_elements.specs.Motions.{image, IsComposed, IsMotionWithin}
 use Rattle.dpl_walk.specs.declared.cells.Outline.{Outline}
@@ -39,13 +39,23 @@ HasWays cells ways = (d : AreDeep cells) × AreWays cells d.level ways
 abbrev pub IsWhole : List Cell → Way → Type 0
 IsWhole cells w = ¬ HasPassage cells w.target
 
--- and so does the way of each of these structures
+-- the way of each of these structures goes on so
 abbrev pub AreWhole : List Cell → List Way → List ℕ → Type 0
 AreWhole cells ways ks = (k : ℕ) (w : Way) → Contains ks k → slice_get ways k ≡ Some w → IsWhole cells w
 
 -- each structure of the order stands behind those that it places
 abbrev pub AreBehind : List Cell → List ℕ → Type 0
 AreBehind cells order = (i k : ℕ) (c : Copies) → slice_get order i ≡ Some k → Contains (copies_at cells k) c → Contains (take i order) c.target
+
+-- Structures, each behind those that it places. Each one that has a passage is among them.
+pub record IsOrderOf (cells : List Cell) (order : List ℕ) : Type 0 where
+  pub known : All (λ k. k < length cells) order
+  pub behind : AreBehind cells order
+  pub whole : (k : ℕ) → HasPassage cells k → Contains order k
+
+-- no copies lead to a structure that has a passage
+abbrev pub ArePassed : List Cell → Type 0
+ArePassed cells = (k : ℕ) (c : Copies) → Contains (copies_at cells k) c → ¬ HasPassage cells c.target
 
 -- as many copies, as far apart, of the way's target, the first of which is where the first copy's way leads
 pub record IsShort (c : Copies) (w : Way) (short : Copies) : Type 0 where
@@ -62,6 +72,7 @@ IsShortBy ways c short = (w : Way) × (slice_get ways c.target ≡ Some w) × Is
 
 -- each of the copies was shortened
 pub record AreShort (ways : List Way) (old new : List Copies) : Type 0 where
+  pub each : length new ≡ length old
   pub kept : (c : Copies) → Contains old c → (short : Copies) × Contains new short × IsShortBy ways c short
   pub alone : (short : Copies) → Contains new short → (c : Copies) × Contains old c × IsShortBy ways c short
 

@@ -2,8 +2,8 @@
 #![tactic(auto)]
 
 ghost use Rattle.std.specs.Prelude.{◌^◌, ◌<◌, ◌≤◌, length, IfOk};
-ghost use Rattle.std.specs.List.{All};
 ghost use Rattle.dpl_walk.specs.Walk.{AreDeep, AreKnown, IsWalk};
+ghost use Rattle.dpl_walk.specs.Ways.{IsOrderOf};
 
 use crate::walk::walk_from;
 use crate::ways::{find_ways, shorten};
@@ -20,8 +20,8 @@ pub use crate::least::{earlier, note};
 pub use crate::walk::Gathered;
 
 /// The loops that the structure `top` shows, itself and through all copies below it, and the least offset of an element
-/// that is placed too far out. Structures that draw nothing and place one copy are passed by: `order` lists structures,
-/// each behind those that it places, and may leave out any of them, at the cost of time alone.
+/// that is placed too far out. Structures that draw nothing and place one copy are passed by; `order` lists them, and may list
+/// others, each behind those that it places.
 pub fn gather(
     alloc: Global,
     mut cells: Vec<Cell>,
@@ -31,7 +31,7 @@ pub fn gather(
     requires known { AreKnown (2 ^ 31) cells.items }
     requires deep { AreDeep cells.items }
     requires few { length cells.items ≤ 2 ^ 26 }
-    requires order { All (λ k. k < length cells.items) order.now }
+    requires order { IsOrderOf cells.items order.now }
     requires top { top < length cells.items }
     ensures { IfOk result (λ g. IsWalk cells.items top g.loops.items g.far) }
 {

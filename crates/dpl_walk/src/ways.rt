@@ -9,7 +9,7 @@ ghost use Rattle.dpl_walk.specs.declared.cells.Copies.{Copies};
 ghost use Rattle.dpl_walk.specs.declared.ways.Way.{Way};
 ghost use Rattle.dpl_walk.specs.Cells.{copy_motion, IsReady};
 ghost use Rattle.dpl_walk.specs.Walk.{copies_at, AreDeep, AreKnown};
-ghost use Rattle.dpl_walk.specs.Ways.{IsPassage, IsWay, AreWays, HasWays, IsShort, AreShort, IsCellShort, AreCellsShort, HasPassage, IsWhole, AreWhole, AreBehind};
+ghost use Rattle.dpl_walk.specs.Ways.{IsPassage, IsWay, AreWays, HasWays, IsShort, AreShort, IsCellShort, AreCellsShort, HasPassage, IsWhole, AreWhole, AreBehind, IsOrderOf};
 
 use crate::cells::{Cell, Copies};
 use crate::copies::copy_place;
@@ -82,7 +82,8 @@ fn way_of(cells: &[Cell], structure: u32, ways: &[Way]) -> Way
 fn own_ways(alloc: Global, cells: &[Cell]) -> Result<Vec<Way>, AllocError>
     requires deep { AreDeep cells.now }
     requires few { length cells.now ≤ 2 ^ 26 }
-    ensures { IfOk result (λ v. HasWays cells.now v.items) }
+    ensures ways { IfOk result (λ v. HasWays cells.now v.items) }
+    ensures own { IfOk result (λ v. (k : ℕ) (w : Way) → slice_get v.items k ≡ Some w → w.target ≡ k) }
 {
     let mut ways = Vec::new(alloc);
     for structure in 0..cells.len() {
@@ -91,7 +92,7 @@ fn own_ways(alloc: Global, cells: &[Cell]) -> Result<Vec<Way>, AllocError>
     Ok(ways)
 }
 
-/// A way for each structure. It is as long as can be where each structure stands in the order behind those that it places.
+/// A way for each structure, as long as can be.
 pub(crate) fn find_ways(
     alloc: Global,
     cells: &[Cell],
@@ -100,9 +101,9 @@ pub(crate) fn find_ways(
     requires known { AreKnown (2 ^ 31) cells.now }
     requires deep { AreDeep cells.now }
     requires few { length cells.now ≤ 2 ^ 26 }
-    requires order { All (λ k. k < length cells.now) order.now }
+    requires order { IsOrderOf cells.now order.now }
     ensures ways { IfOk result (λ v. HasWays cells.now v.items) }
-    ensures whole { IfOk result (λ v. AreBehind cells.now order.now → AreWhole cells.now v.items order.now) }
+    ensures whole { IfOk result (λ v. (k : ℕ) (w : Way) → slice_get v.items k ≡ Some w → IsWhole cells.now w) }
 {
     let mut ways = own_ways(alloc, cells)?;
     for structure in order {

@@ -1,13 +1,8 @@
-use Rattle.std.proofs.Common.{◌<◌, ℕ, List, get_or, arith}
-use Rattle.std.specs.List.{All, Contains}
-use Rattle.std.proofs.lemmas.List.Elements.{Contains-get_or}
+use Rattle.std.proofs.Common.{arith}
 use Rattle.dpl_flatten.proofs.FoundLaws.{top_marked}
-use Rattle.dpl_flatten.proofs.PlacedLaws.{bare_targets, all_taken, cells_known, cells_deep}
+use Rattle.dpl_flatten.proofs.PlacedLaws.{bare_targets, all_taken, cells_known, cells_deep, order_of, trimmed}
 use Rattle.dpl_flatten.proofs.DrawingLaws.{laid_out}
 use Rattle.dpl_flatten.proofs.drawing.draw_all.Goals as goal
-
-in_order : (vertices : List ℕ) (n : ℕ) → ((k : ℕ) → Contains vertices k → k < n) → All (λ k. k < n) vertices
-in_order vertices n known i d h = known (get_or vertices i d) (Contains-get_or vertices i d h)
 
 pub make_cells-requires-clause-bare : goal.make_cells-requires-clause-bare
 make_cells-requires-clause-bare c = rw c.as_slice.ensures.value (bare_targets c.args.lib.now c.args.layer c.args.links.now.graph.now c.args.links.now.marks.now c.args.survey.totals.items c.requires.links c.requires.totals)
@@ -20,10 +15,13 @@ invariant_of-result c = record {
   known = cells_known c.args.lib.now c.args.layer c.args.links.now.graph.now c.args.links.now.marks.now c.in_ok-cells.cells.items c.requires.links c.in_ok-cells.ensures;
   deep = cells_deep c.args.lib.now c.args.layer c.args.links.now.graph.now c.args.links.now.marks.now c.in_ok-cells.cells.items c.requires.links c.in_ok-cells.ensures c.args.survey.order.levels.items c.args.survey.order.vertices.items c.requires.order;
   few = omega (arith, c.in_ok-cells.ensures.each, c.requires.few);
-  order = in_order c.args.survey.order.vertices.items _ (λ k h. let q = c.requires.order.known k h in omega (arith, q, c.in_ok-cells.ensures.each));
+  order = order_of c.args.lib.now c.args.layer c.args.links.now.graph.now c.args.links.now.marks.now c.in_ok-cells.cells.items c.requires.links c.in_ok-cells.ensures c.args.survey.order.levels.items c.args.survey.order.vertices.items c.requires.order;
   top = omega (arith, c.in_ok-cells.ensures.each, c.requires.top);
 }
 
-pub returns : goal.returns
-returns c = laid_out c.args.lib.now c.args.layer c.args.links.now.graph.now c.args.links.now.marks.now c.in_ok-cells.cells.items c.requires.links c.in_ok-cells.ensures c.args.top
+pub returns-clause-trimmed : goal.returns-clause-trimmed
+returns-clause-trimmed c = trimmed c.args.lib.now c.args.layer c.args.links.now.marks.now c.in_ok-cells.cells.items c.args.top c.args.survey.order.vertices.items c.in_ok-cells.ensures
+
+pub returns-clause-drawing : goal.returns-clause-drawing
+returns-clause-drawing c = laid_out c.args.lib.now c.args.layer c.args.links.now.graph.now c.args.links.now.marks.now c.in_ok-cells.cells.items c.requires.links c.in_ok-cells.ensures c.args.top
     (top_marked c.args.lib.now c.args.links.now.graph.now c.args.top c.args.links.now.marks.now c.requires.links.graph_of c.requires.reached) c.requires.small

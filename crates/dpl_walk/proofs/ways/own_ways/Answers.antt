@@ -1,5 +1,5 @@
 use Rattle.std.proofs.Common.{◌∷◌, [], length-append, ap, length, arith}
-use Rattle.dpl_walk.proofs.ShortLaws.{own_none, own_more, own_all}
+use Rattle.dpl_walk.proofs.ShortLaws.{own_none, own_more, own_all, own_targets}
 use Rattle.dpl_walk.proofs.ways.own_ways.Goals as goal
 
 pub loop-structure-init : goal.loop-structure-init
@@ -11,5 +11,8 @@ loop-structure-preserved c = record {
   own = own_more c.loop-structure.ways.items c.push.new.self.items c.own_way.result c.loop-structure.structure c.in_ok-push.ensures.items c.loop-structure.invariant.each c.own_way.ensures.target c.own_way.ensures.stays c.own_way.ensures.still c.loop-structure.invariant.own;
 }
 
-pub returns : goal.returns
-returns c = own_all c.args.cells.now c.loop-structure.ways.items c.requires.deep (omega (arith, c.loop-structure.invariant.each)) c.loop-structure.invariant.own
+pub returns-clause-own : goal.returns-clause-own
+returns-clause-own c = own_targets c.loop-structure.ways.items c.loop-structure.invariant.own
+
+pub returns-clause-ways : goal.returns-clause-ways
+returns-clause-ways c = own_all c.args.cells.now c.loop-structure.ways.items c.requires.deep (omega (arith, c.loop-structure.invariant.each)) c.loop-structure.invariant.own
