@@ -1,5 +1,17 @@
-//! Worked layers, from their squares to their pieces.
+//! Worked layers, from their squares to their pieces and conflicts.
 #![tactic(auto)]
 
 #[cfg(test)]
-mod tests;
+mod bars;
+#[cfg(test)]
+mod conflicts;
+#[cfg(test)]
+mod pieces;
+#[cfg(test)]
+mod sets;
+#[cfg(test)]
+mod tall;
+#[cfg(test)]
+mod tiles;
+#[cfg(test)]
+mod zones;

@@ -1,6 +1,6 @@
 -- Steps of dealing, of giving grips, and of the end.
-use Rattle.std.proofs.Common.{◌≡◌, ◌≢◌, ◌∙◌, ◌+◌, ◌%◌, ◌<◌, ◌≤◌, ◌==◌, ℕ, zero, suc, true, false, List, [], ◌∷◌, ◌++◌, length, map, set, get_or, take, replicate, refl, sym, ap, subst, arith, ⊎_elim, slice_get, Some}
-use Rattle.std.specs.Prelude.{All, Contains, OnOk, Result, Ok, Err, if◌then◌else◌}
+use Rattle.std.proofs.Common.{Bool, ◌≡◌, ◌≢◌, ◌∙◌, ◌+◌, ◌%◌, ◌<◌, ◌≤◌, ◌==◌, ℕ, zero, suc, true, false, List, [], ◌∷◌, ◌++◌, length, map, set, get_or, take, replicate, refl, sym, ap, subst, arith, ⊎_elim, slice_get, Some}
+use Rattle.std.specs.Prelude.{All, Contains, if◌then◌else◌}
 use Rattle.std.specs.List.{AllByRecursion as Each}
 use Rattle.std.specs.declared.alloc.Global.{Global}
 use Rattle.std.proofs.lemmas.List.{get_or-set_same, get_or-set_other, length-set, length-map, map-set, get_or-map, append-nil, take_more}
@@ -16,7 +16,7 @@ use Rattle.dpl_deal.specs.declared.hand.Hand.{Hand}
 use Rattle.dpl_deal.specs.declared.deal.Deal.{Deal}
 use Rattle.dpl_deal.specs.Rule.{after_deal, after_grip, after_seal, cut_off, dealer}
 use Rattle.dpl_deal.specs.Grips.{AllEnded, grip_deque, grip_view, joined, took_by}
-use Rattle.dpl_deal.specs.Hands.{AreHandsOf, EachAt, HasEachOnce, IsArmed, IsDealing, IsDone, IsHandOf, IsOut, all_taken, deal_deques, dealt_times, dealt_to, deques_of, joined_all, own_deque, own_view, row_of, rows_of, taken, took_times, views_of}
+use Rattle.dpl_deal.specs.Hands.{AreHandsOf, EachAt, HasEachOnce, IsArmed, IsDealing, IsDone, IsHandOf, IsOut, all_taken, deal_deques, dealt_times, dealt_to, deques_of, joined_all, marks_of, own_deque, own_view, row_of, rows_of, taken, took_times, views_of}
 use Rattle.dpl_deal.proofs.Dealings.{dealt_all, joined_all_more, view_here, ended_all, parts_all, put_owner, took_nothing, took_total, within_cut}
 use Rattle.dpl_deal.proofs.Turns.{dealt_once}
 
@@ -115,6 +115,21 @@ armed_more deques tiles os i new rows lt same h a j d jlt =
     below : (j i : ℕ) → j < i + 1 → j ≢ i → j < i
     below j i lt ne = ⊎_elim (λ (a : j < i). a) (λ (b : i ≤ j). absurd (ne (omega arith))) (cases_lt j i)
 
+pub marked_more : (os : List Hand) (i : ℕ) (new : Hand) (ms : List Bool) → i < length os → marks_of os ≡ ms → ((j : ℕ) (d : Bool) → j < i → get_or ms j d ≡ true) → new.marked ≡ true
+    → (j : ℕ) (d : Bool) → j < i + 1 → get_or (marks_of (set os i new)) j d ≡ true
+marked_more os i new ms lt same h a j d jlt =
+    let len : i < length (marks_of os) = omega (arith, lt, length-map os (λ (h : Hand). h.marked)) in
+    ap (λ (l : List Bool). get_or l j d) (map-set (λ (h : Hand). h.marked) os i new)
+    ∙ dite (ℕ_discrete j i)
+    (λ (e : j ≡ i). ap (λ (k : ℕ). get_or (set (marks_of os) i new.marked) k d) e ∙ get_or-set_same (marks_of os) i new.marked d len ∙ a)
+    (λ (ne : j ≢ i). get_or-set_other (marks_of os) i j new.marked d ne ∙ ap (λ (l : List Bool). get_or l j d) same ∙ h j d (below j i jlt ne))
+  where
+    below : (j i : ℕ) → j < i + 1 → j ≢ i → j < i
+    below j i lt ne = ⊎_elim (λ (a : j < i). a) (λ (b : i ≤ j). absurd (ne (omega arith))) (cases_lt j i)
+
+pub marked_all : (os : List Hand) (i : ℕ) → length os ≤ i → ((j : ℕ) (d : Bool) → j < i → get_or (marks_of os) j d ≡ true) → All (λ m. m ≡ true) (marks_of os)
+marked_all os i le h j d lt = h j d (omega (arith, le, lt, length-map os (λ (h : Hand). h.marked)))
+
 pub armed_row : (deques : List (RowsId × Global)) (k n w : ℕ) (gs : List Grip) (vs : List View) → map grip_deque gs ≡ deques → map grip_view gs ≡ map cut_off vs → EachAt (IsOut k n w) vs → IsArmed deques n gs
 armed_row deques k n w gs vs ds e out = record { grips = ds; within = within_cut n gs vs e (λ i d lt. (out i d lt).limit); took = took_nothing gs vs e }
 
@@ -125,13 +140,14 @@ get_of_map f [] i d lt = absurd (omega arith)
 get_of_map f (x ∷ xs) zero d lt = refl
 get_of_map f (x ∷ xs) (suc i) d lt = get_of_map f xs i d (omega arith)
 
-pub opened : (deal : Deal) (hs : List Hand) → deal_deques deal ≡ deques_of hs → EachAt (IsOut (length hs) deal.tiles (length hs)) (views_of hs) → All (IsArmed (deques_of hs) deal.tiles) (rows_of hs) → AreHandsOf deal hs
-opened deal hs ds out armed = (
+pub opened : (deal : Deal) (hs : List Hand) → deal_deques deal ≡ deques_of hs → EachAt (IsOut (length hs) deal.tiles (length hs)) (views_of hs) → All (IsArmed (deques_of hs) deal.tiles) (rows_of hs) → All (λ m. m ≡ true) (marks_of hs) → AreHandsOf deal hs
+opened deal hs ds out armed marked = (
   sym len,
   λ i d lt.
       let v : get_or (views_of hs) i (own_view d) ≡ own_view (get_or hs i d) = get_or-map own_view hs i d (own_view d) lt in
       let o = subst (IsOut (length hs) deal.tiles (length hs) i) v (out i (own_view d) (omega (arith, lt, length-map hs own_view))) in
       let r : get_or (rows_of hs) i (row_of d) ≡ row_of (get_or hs i d) = get_or-map row_of hs i d (row_of d) lt in
+      let m : (get_or hs i d).marked ≡ true = sym (get_or-map (λ (h : Hand). h.marked) hs i d d.marked lt) ∙ marked i d.marked (omega (arith, lt, length-map hs (λ (h : Hand). h.marked))) in
       let a = subst (IsArmed (deques_of hs) deal.tiles) r (armed i (row_of d) (omega (arith, lt, length-map hs row_of))) in record {
         deque = ap (λ l. slice_get l i) ds ∙ get_of_map own_deque hs i d lt;
         dealt = o.dealt ∙ ap (λ (k : ℕ). dealt_to deal.tiles k i) (sym len);
@@ -139,6 +155,7 @@ opened deal hs ds out armed = (
         limit = o.limit;
         grips = a.grips ∙ sym ds;
         within = a.within;
+        notes = λ f. absurd (let w : false ≡ true = sym f ∙ m in cc);
       },
 )
   where
@@ -232,18 +249,3 @@ pub row_fits : (init now : List Hand) (at : ℕ) (row : List Grip) → at < leng
     → All (λ h. map grip_deque (row_of h) ≡ deques_of init) init → map grip_deque row ≡ deques_of init
 row_fits init now at row lt rest is h =
     let d = first_of init at lt in ap (map grip_deque) (is d ∙ rest at d (omega arith) lt) ∙ h at d lt
-
--- a hand at its place, after it took
-
-pub hand_at : (deal : Deal) (hs : List Hand) (i : ℕ) (h : Hand) → AreHandsOf deal hs → i < length hs → h ≡ get_or hs i h → IsHandOf deal i h
-hand_at deal hs i h all lt is = subst (IsHandOf deal i) (sym is) (all.1 i h lt)
-
-pub hands_put : (deal : Deal) (hs : List Hand) (i : ℕ) (old new : Hand) → AreHandsOf deal hs → i < length hs → old ≡ get_or hs i old → (IsHandOf deal i old → IsHandOf deal i new) → AreHandsOf deal (set hs i new)
-hands_put deal hs i old new all lt is f = (length-set hs i new ∙ all.0, each_put (IsHandOf deal) (IsHandOf deal) hs i new lt all.1 (λ j x ne p. p) (f (hand_at deal hs i old all lt is)))
-
-pub hand_there : (hs : List Hand) (i : ℕ) (new : Hand) → i < length hs → IsDone new → (h : Hand) × Contains (set hs i new) h × IsDone h
-hand_there hs i new lt done = (new, (i, omega (arith, lt, length-set hs i new), get_or-set_same hs i new new lt), done)
-
-pub on_ok : {A E : Type 0} {P Q : Type 0} (r : Result A E) → (P → Q) → OnOk r P → OnOk r Q
-on_ok (Ok x) f p = f p
-on_ok (Err e) f p = tt

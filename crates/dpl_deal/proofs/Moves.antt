@@ -344,5 +344,12 @@ below_one n t x is h = by_lt n t (λ le. absurd (let z : times t (tiles_in (Tile
 pub took_one : (v w : View) (t : ℕ) (x : Item) → x ≡ Tile t → w ≡ after_takes v (x ∷ []) → w.took ≡ v.took ++ t ∷ []
 took_one v w t x is e = ap (λ (u : View). u.took) e ∙ ap (λ (y : Item). v.took ++ tiles_in (y ∷ [])) is
 
+or_true : (b : Bool) → (b || true) ≡ true
+or_true true = refl
+or_true false = refl
+
+pub end_one : (v w : View) (x : Item) → x ≡ End → w ≡ after_takes v (x ∷ []) → w.ended ≡ true
+end_one v w x is e = ap (λ (u : View). u.ended) e ∙ ap (λ (y : Item). v.ended || has_end (y ∷ [])) is ∙ or_true v.ended
+
 pub cuts_sealed : (port : ℕ) (v u : View) → u ≡ after_seal v → 1 < v.parts → Forks IsKept port u (after_cut u) (cut_off u)
 cuts_sealed port v u is two = cuts port u (let p : u.parts ≡ v.parts = ap (λ (y : View). y.parts) is in omega arith) (let p : u.due ≡ suc v.due = ap (λ (y : View). y.due) is in omega arith)

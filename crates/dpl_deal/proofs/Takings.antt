@@ -49,6 +49,10 @@ pub if_some : {A : Type 0} {P Q : A → Type 0} (t : Option A) → ((u : A) → 
 if_some None f p = tt
 if_some (Some u) f p = f u p
 
+pub of_any : {A : Type 0} {P : A → Type 0} (t : Option A) → ((u : A) → P u) → IfSome t P
+of_any None f = tt
+of_any (Some u) f = f u
+
 pub still : (gs : List Grip) → Tried gs None gs
 still gs = record { deques = refl; within = λ tiles h. h; below = tt; some = tt; none = refl; ended = λ n h. h }
 

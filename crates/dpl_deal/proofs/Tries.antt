@@ -1,5 +1,5 @@
 -- What a pop and the tries to steal leave of a hand.
-use Rattle.std.proofs.Common.{◌≡◌, ◌∙◌, ◌+◌, ◌<◌, ℕ, List, [], ◌∷◌, ◌++◌, length, map, get_or, sym, ap, subst, arith, Option, Some, None}
+use Rattle.std.proofs.Common.{◌≡◌, ◌∙◌, ◌+◌, ◌<◌, ℕ, true, false, List, [], ◌∷◌, ◌++◌, length, map, get_or, sym, ap, subst, arith, Option, Some, None}
 use Rattle.std.specs.Prelude.{IfSome}
 use Rattle.std.proofs.lemmas.List.{length-map, get_or-map}
 use Rattle.crossbeam_deque.specs.Handles.{worker_deque, worker_view}
@@ -37,8 +37,8 @@ stolen deal old mid new (Some u) is took g own h = (
 )
 
 pub kept : (deal : Deal) (me : ℕ) (old mid new : Hand) (t : Option ℕ) → own_deque mid ≡ own_deque old → (own_view mid).parts ≡ (own_view old).parts → (own_view mid).limit ≡ (own_view old).limit → (own_view mid).dealt ≡ (own_view old).dealt
-    → mid.grips ≡ old.grips → new.own ≡ mid.own → Tried (row_of mid) t (row_of new) → IsHandOf deal me old → IsHandOf deal me new
-kept deal me old mid new t q p l d g own h is =
+    → mid.grips ≡ old.grips → new.own ≡ mid.own → Tried (row_of mid) t (row_of new) → ((old.marked ≡ false → (own_view old).ended ≡ true) → mid.marked ≡ false → (own_view mid).ended ≡ true) → new.marked ≡ mid.marked → IsHandOf deal me old → IsHandOf deal me new
+kept deal me old mid new t q p l d g own h notes marked is =
     let w = view_of new mid own in record {
       deque = is.deque ∙ ap Some (sym (ap (λ o. worker_deque o) own ∙ q));
       dealt = ap (λ (v : View). v.dealt) w ∙ d ∙ is.dealt;
@@ -46,7 +46,12 @@ kept deal me old mid new t q p l d g own h is =
       limit = (let a = ap (λ (v : View). v.limit) w in let b = is.limit in omega (arith, a, b, l));
       grips = h.deques ∙ ap (λ v. map grip_deque v.items) g ∙ is.grips;
       within = h.within deal.tiles (subst (λ v. AreWithin deal.tiles v.items) (sym g) is.within);
+      notes = λ f. ap (λ (v : View). v.ended) w ∙ notes is.notes (sym marked ∙ f);
     }
+
+-- where no tile was popped none is left in the hand's own deque
+pub noted : (deal : Deal) (old mid new : Hand) → ((me : ℕ) × IsHandOf deal me old) → mid.marked ≡ false → ((old.marked ≡ false → (own_view old).ended ≡ true) → mid.marked ≡ false → (own_view mid).ended ≡ true) → new.own ≡ mid.own → (own_view new).ended ≡ true
+noted deal old mid new is m notes own = ap (λ (v : View). v.ended) (view_of new mid own) ∙ notes is.1.notes m
 
 pub grip_place : (deal : Deal) (gs : List Grip) (i : ℕ) → map grip_deque gs ≡ deal_deques deal → i < length deal.thieves.items → i < length gs
 grip_place deal gs i e lt = omega (arith, lt, ap length e, length-map gs grip_deque, length-map deal.thieves.items thief_deque)

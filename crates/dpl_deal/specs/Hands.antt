@@ -1,5 +1,5 @@
 -- The hands of a deal, and the tiles that they took.
-use Rattle.std.specs.Prelude.{◌≡◌, ◌+◌, ◌%◌, ◌==◌, ◌<◌, ◌≤◌, ℕ, zero, suc, false, if◌then◌else◌, List, [], ◌∷◌, ◌++◌, map, length, slice_get, slice_index_or, Some}
+use Rattle.std.specs.Prelude.{◌≡◌, ◌+◌, ◌%◌, ◌==◌, ◌<◌, ◌≤◌, ℕ, zero, suc, Bool, true, false, if◌then◌else◌, List, [], ◌∷◌, ◌++◌, map, length, slice_get, slice_index_or, Some}
 use Rattle.std.specs.declared.alloc.Global.{Global}
 use Rattle.atomic_blocks.specs.Lent.{RowsId}
 use Rattle.crossbeam_deque.specs.Handles.{worker_deque, worker_view}
@@ -27,6 +27,10 @@ deques_of hs = map own_deque hs
 
 abbrev pub rows_of : List Hand → List (List Grip)
 rows_of hs = map row_of hs
+
+-- whether an end mark is due to the hand
+abbrev pub marks_of : List Hand → List Bool
+marks_of hs = map (λ (h : Hand). h.marked) hs
 
 -- the tiles that a hand took: of its own deque, and then deque by deque
 abbrev pub taken : Hand → List ℕ
@@ -95,7 +99,8 @@ abbrev pub deal_deques : Deal → List (RowsId × Global)
 deal_deques deal = map thief_deque deal.thieves.items
 
 -- It is the hand of this number of the deal. Its deque is the deal's deque of that number, to which each tile whose number
--- leaves the hand's number as its rest was dealt. It has a grip on each deque of the deal
+-- leaves the hand's number as its rest was dealt; where no end mark is due to it, it has noted that no tile is left there.
+-- It has a grip on each deque of the deal
 pub record IsHandOf (deal : Deal) (me : ℕ) (h : Hand) : Type 0 where
   pub deque : slice_get (deal_deques deal) me ≡ Some (own_deque h)
   pub dealt : (own_view h).dealt ≡ dealt_to deal.tiles (length (deal_deques deal)) me
@@ -103,6 +108,7 @@ pub record IsHandOf (deal : Deal) (me : ℕ) (h : Hand) : Type 0 where
   pub limit : (own_view h).limit ≤ deal.tiles
   pub grips : map grip_deque (row_of h) ≡ deal_deques deal
   pub within : AreWithin deal.tiles (row_of h)
+  pub notes : h.marked ≡ false → (own_view h).ended ≡ true
 
 -- they are all hands of the deal, in order
 abbrev pub AreHandsOf : Deal → List Hand → Type 0

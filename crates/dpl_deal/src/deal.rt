@@ -1,7 +1,7 @@
 //! Deals.
-ghost use Rattle.std.specs.Prelude.{◌≡◌, ◌<◌, ◌≤◌, ◌+◌, ◌∷◌, [], All, Contains, IfNone, IfOk, IfSome, ℕ, vec_len};
+ghost use Rattle.std.specs.Prelude.{◌≡◌, ◌<◌, ◌≤◌, ◌+◌, ◌⊎◌, ◌∷◌, ◌++◌, [], true, All, Contains, IfNone, IfOk, IfSome, ℕ, vec_len};
 ghost use Rattle.dpl_deal.specs.Rule.{times};
-ghost use Rattle.dpl_deal.specs.Hands.{AreHandsOf, HasEachOnce, IsDone, IsHandOf, all_taken, taken};
+ghost use Rattle.dpl_deal.specs.Hands.{AreHandsOf, HasEachOnce, IsDone, IsHandOf, all_taken, own_view, taken};
 
 use crate::closing::{join_rows, learn_all};
 use crate::dealing::{arm_all, fresh, spread, thieves_of};
@@ -46,6 +46,8 @@ impl Deal {
         requires hand { (me : ℕ) × IsHandOf self.now me hand.old }
         ensures hand { (me : ℕ) → IsHandOf self.now me hand.old → IsHandOf self.now me hand.new }
         ensures some { IfSome result (λ t. (t < self.now.tiles) × ((x : ℕ) → times x (taken hand.new) ≡ times x (taken hand.old) + times x (t ∷ []))) }
+        // A tile is stolen only where it was noted that none is left in the hand's own deque.
+        ensures own { IfSome result (λ t. ((own_view hand.new).took ≡ (own_view hand.old).took ++ t ∷ []) ⊎ ((own_view hand.new).ended ≡ true)) }
         ensures none { IfNone result ((taken hand.new ≡ taken hand.old) × IsDone hand.new) }
         ensures done { IsDone hand.old → IsDone hand.new }
     {

@@ -1,8 +1,8 @@
 //! The steps of dealing.
-ghost use Rattle.std.specs.Prelude.{◌≡◌, ◌<◌, ◌≤◌, ◌+◌, [], All, IfOk, OnOk, ℕ, List, map, replicate, vec_len};
+ghost use Rattle.std.specs.Prelude.{◌≡◌, ◌<◌, ◌≤◌, ◌+◌, [], All, IfOk, OnOk, ℕ, true, List, map, replicate, vec_len};
 ghost use Rattle.dpl_deal.specs.Rule.{after_grip, cut_off, dealer};
 ghost use Rattle.dpl_deal.specs.Grips.{grip_deque, grip_view, thief_deque};
-ghost use Rattle.dpl_deal.specs.Hands.{EachAt, IsArmed, IsDealing, IsOut, deques_of, rows_of, views_of};
+ghost use Rattle.dpl_deal.specs.Hands.{EachAt, IsArmed, IsDealing, IsOut, deques_of, marks_of, rows_of, views_of};
 
 use crate::grip::{Grip, Thief};
 use crate::hand::Hand;
@@ -39,6 +39,7 @@ fn grip_all(alloc: Global, hands: &mut Vec<Hand>) -> Result<Vec<Grip>, AllocErro
     ensures views { OnOk result (views_of hands.new.items ≡ map after_grip (views_of hands.old.items)) }
     ensures deques { OnOk result (deques_of hands.new.items ≡ deques_of hands.old.items) }
     ensures rows { OnOk result (rows_of hands.new.items ≡ rows_of hands.old.items) }
+    ensures marks { OnOk result (marks_of hands.new.items ≡ marks_of hands.old.items) }
     ensures grips { IfOk result (λ gs. (map grip_deque gs.items ≡ deques_of hands.old.items) × (map grip_view gs.items ≡ map cut_off (views_of hands.old.items))) }
 {
     let mut grips = Vec::new(alloc);
@@ -56,6 +57,7 @@ pub(crate) fn arm_all(alloc: Global, hands: &mut Vec<Hand>, tiles: u32) -> Resul
     ensures len { OnOk result (vec_len hands.new ≡ vec_len hands.old) }
     ensures views { OnOk result (EachAt (IsOut (vec_len hands.old) tiles (vec_len hands.old)) (views_of hands.new.items)) }
     ensures hands { OnOk result (All (IsArmed (deques_of hands.new.items) tiles) (rows_of hands.new.items)) }
+    ensures marks { OnOk result (All (λ m. m ≡ true) (marks_of hands.new.items)) }
 {
     for me in 0..hands.len() {
         let grips = grip_all(alloc, hands)?;

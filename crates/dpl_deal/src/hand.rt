@@ -62,6 +62,7 @@ impl Hand {
         ensures deque { OnOk result (worker_deque self.new.own ≡ worker_deque self.old.own) }
         ensures view { OnOk result (worker_view self.new.own ≡ after_grip (worker_view self.old.own)) }
         ensures grips { OnOk result (self.new.grips ≡ self.old.grips) }
+        ensures marked { OnOk result (self.new.marked ≡ self.old.marked) }
         ensures grip { IfOk result (λ g. (grip_deque g ≡ worker_deque self.old.own) × (grip_view g ≡ cut_off (worker_view self.old.own))) }
     {
         if self.own.push_as::<Seals>(Item::End).is_err() {
@@ -76,6 +77,7 @@ impl Hand {
         ensures deque { OnOk result (worker_deque self.new.own ≡ worker_deque self.old.own) }
         ensures view { OnOk result (worker_view self.new.own ≡ after_seal (worker_view self.old.own)) }
         ensures grips { OnOk result (self.new.grips ≡ grips) }
+        ensures marked { OnOk result (self.new.marked ≡ true) }
     {
         if self.own.push_as::<Seals>(Item::End).is_err() {
             return Err(AllocError);
@@ -93,7 +95,8 @@ impl Hand {
         ensures dealt { (worker_view self.new.own).dealt ≡ (worker_view self.old.own).dealt }
         ensures grips { self.new.grips ≡ self.old.grips }
         ensures some { IfSome result (λ t. ((worker_view self.new.own).took ≡ (worker_view self.old.own).took ++ t ∷ []) × (t < (worker_view self.old.own).limit)) }
-        ensures none { IfNone result ((worker_view self.new.own).took ≡ (worker_view self.old.own).took) }
+        ensures none { IfNone result (((worker_view self.new.own).took ≡ (worker_view self.old.own).took) × (self.new.marked ≡ false)) }
+        ensures notes { (self.old.marked ≡ false → (worker_view self.old.own).ended ≡ true) → self.new.marked ≡ false → (worker_view self.new.own).ended ≡ true }
     {
         if !self.marked {
             return None;
@@ -113,6 +116,7 @@ impl Hand {
         ensures deque { worker_deque self.new.own ≡ worker_deque self.old.own }
         ensures took { worker_view self.new.own ≡ after_takes (worker_view self.old.own) (result ∷ []) }
         ensures below { AreBelow (worker_view self.old.own).limit (result ∷ []) }
+        ensures marked { self.new.marked ≡ false }
         ensures grips { self.new.grips ≡ self.old.grips }
     {
         self.marked = false;
@@ -127,6 +131,7 @@ impl Hand {
         requires place { at < vec_len self.old.grips }
         requires deque { (d : Grip) → grip_deque (slice_index_or self.old.grips.items at d) ≡ thief_deque thief.now }
         ensures own { self.new.own ≡ self.old.own }
+        ensures marked { self.new.marked ≡ self.old.marked }
         ensures tried { Tried self.old.grips.items result self.new.grips.items }
         ensures ended { IfNone result (EndedBelow at self.old.grips.items → EndedBelow (at + 1) self.new.grips.items) }
     {

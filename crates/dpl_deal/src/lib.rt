@@ -6,8 +6,6 @@ mod deal;
 mod dealing;
 mod grip;
 mod hand;
-#[cfg(test)]
-mod tests;
 mod view;
 
 pub use deal::Deal;

@@ -5,6 +5,3 @@ mod layout;
 mod numbers;
 
 pub use layout::demo_bytes;
-
-#[cfg(test)]
-mod tests;

@@ -13,8 +13,6 @@ ghost use Rattle.dpl_edges.specs.Meetings.{IsWhole};
 mod gather;
 mod laws;
 mod near;
-#[cfg(test)]
-mod tests;
 
 use crate::gather::edges_in;
 pub use crate::laws::tiles_make_the_graph;

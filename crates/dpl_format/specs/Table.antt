@@ -23,66 +23,66 @@ unchecked = Some (record { data_type = None; size = any })
 -- by type, from 0x00 on; None is no type of record
 unfoldable pub table : List (Option Form)
 table =
-    of 2 (exactly 2)  -- 0x00 HEADER
-    ∷ of 2 (exactly 24)  -- 0x01 BGNLIB
-    ∷ of 6 any  -- 0x02 LIBNAME
-    ∷ of 5 (exactly 16)  -- 0x03 UNITS
-    ∷ of 0 (exactly 0)  -- 0x04 ENDLIB
-    ∷ of 2 (exactly 24)  -- 0x05 BGNSTR
-    ∷ of 6 any  -- 0x06 STRNAME
-    ∷ of 0 (exactly 0)  -- 0x07 ENDSTR
-    ∷ of 0 (exactly 0)  -- 0x08 BOUNDARY
-    ∷ of 0 (exactly 0)  -- 0x09 PATH
-    ∷ of 0 (exactly 0)  -- 0x0A SREF
-    ∷ of 0 (exactly 0)  -- 0x0B AREF
-    ∷ of 0 (exactly 0)  -- 0x0C TEXT
-    ∷ of 2 (exactly 2)  -- 0x0D LAYER
-    ∷ of 2 (exactly 2)  -- 0x0E DATATYPE
-    ∷ of 3 (exactly 4)  -- 0x0F WIDTH
-    ∷ of 3 points  -- 0x10 XY
-    ∷ of 0 (exactly 0)  -- 0x11 ENDEL
-    ∷ of 6 any  -- 0x12 SNAME
-    ∷ of 2 (exactly 4)  -- 0x13 COLROW
-    ∷ None  -- 0x14
-    ∷ of 0 (exactly 0)  -- 0x15 NODE
-    ∷ of 2 (exactly 2)  -- 0x16 TEXTTYPE
-    ∷ of 1 (exactly 2)  -- 0x17 PRESENTATION
-    ∷ None  -- 0x18
-    ∷ of 6 any  -- 0x19 STRING
-    ∷ of 1 (exactly 2)  -- 0x1A STRANS
-    ∷ of 5 (exactly 8)  -- 0x1B MAG
-    ∷ of 5 (exactly 8)  -- 0x1C ANGLE
-    ∷ None  -- 0x1D
-    ∷ None  -- 0x1E
-    ∷ unchecked  -- 0x1F REFLIBS
-    ∷ unchecked  -- 0x20 FONTS
-    ∷ of 2 (exactly 2)  -- 0x21 PATHTYPE
-    ∷ unchecked  -- 0x22 GENERATIONS
-    ∷ unchecked  -- 0x23 ATTRTABLE
-    ∷ None  -- 0x24
-    ∷ None  -- 0x25
-    ∷ of 1 (exactly 2)  -- 0x26 ELFLAGS
-    ∷ None  -- 0x27
-    ∷ None  -- 0x28
-    ∷ None  -- 0x29
-    ∷ of 2 (exactly 2)  -- 0x2A NODETYPE
-    ∷ of 2 (exactly 2)  -- 0x2B PROPATTR
-    ∷ of 6 any  -- 0x2C PROPVALUE
-    ∷ of 0 (exactly 0)  -- 0x2D BOX
-    ∷ of 2 (exactly 2)  -- 0x2E BOXTYPE
-    ∷ of 3 (exactly 4)  -- 0x2F PLEX
-    ∷ of 3 (exactly 4)  -- 0x30 BGNEXTN
-    ∷ of 3 (exactly 4)  -- 0x31 ENDEXTN
-    ∷ unchecked  -- 0x32
-    ∷ unchecked  -- 0x33
-    ∷ unchecked  -- 0x34
-    ∷ unchecked  -- 0x35
-    ∷ unchecked  -- 0x36
-    ∷ unchecked  -- 0x37
-    ∷ unchecked  -- 0x38
-    ∷ unchecked  -- 0x39
-    ∷ unchecked  -- 0x3A
-    ∷ unchecked  -- 0x3B
+    of 2 (exactly 2)  -- HEADER, type 0x00
+    ∷ of 2 (exactly 24)  -- BGNLIB, type 0x01
+    ∷ of 6 any  -- LIBNAME, type 0x02
+    ∷ of 5 (exactly 16)  -- UNITS, type 0x03
+    ∷ of 0 (exactly 0)  -- ENDLIB, type 0x04
+    ∷ of 2 (exactly 24)  -- BGNSTR, type 0x05
+    ∷ of 6 any  -- STRNAME, type 0x06
+    ∷ of 0 (exactly 0)  -- ENDSTR, type 0x07
+    ∷ of 0 (exactly 0)  -- BOUNDARY, type 0x08
+    ∷ of 0 (exactly 0)  -- PATH, type 0x09
+    ∷ of 0 (exactly 0)  -- SREF, type 0x0A
+    ∷ of 0 (exactly 0)  -- AREF, type 0x0B
+    ∷ of 0 (exactly 0)  -- TEXT, type 0x0C
+    ∷ of 2 (exactly 2)  -- LAYER, type 0x0D
+    ∷ of 2 (exactly 2)  -- DATATYPE, type 0x0E
+    ∷ of 3 (exactly 4)  -- WIDTH, type 0x0F
+    ∷ of 3 points  -- XY, type 0x10
+    ∷ of 0 (exactly 0)  -- ENDEL, type 0x11
+    ∷ of 6 any  -- SNAME, type 0x12
+    ∷ of 2 (exactly 4)  -- COLROW, type 0x13
+    ∷ None  -- type 0x14
+    ∷ of 0 (exactly 0)  -- NODE, type 0x15
+    ∷ of 2 (exactly 2)  -- TEXTTYPE, type 0x16
+    ∷ of 1 (exactly 2)  -- PRESENTATION, type 0x17
+    ∷ None  -- type 0x18
+    ∷ of 6 any  -- STRING, type 0x19
+    ∷ of 1 (exactly 2)  -- STRANS, type 0x1A
+    ∷ of 5 (exactly 8)  -- MAG, type 0x1B
+    ∷ of 5 (exactly 8)  -- ANGLE, type 0x1C
+    ∷ None  -- type 0x1D
+    ∷ None  -- type 0x1E
+    ∷ unchecked  -- REFLIBS, type 0x1F
+    ∷ unchecked  -- FONTS, type 0x20
+    ∷ of 2 (exactly 2)  -- PATHTYPE, type 0x21
+    ∷ unchecked  -- GENERATIONS, type 0x22
+    ∷ unchecked  -- ATTRTABLE, type 0x23
+    ∷ None  -- type 0x24
+    ∷ None  -- type 0x25
+    ∷ of 1 (exactly 2)  -- ELFLAGS, type 0x26
+    ∷ None  -- type 0x27
+    ∷ None  -- type 0x28
+    ∷ None  -- type 0x29
+    ∷ of 2 (exactly 2)  -- NODETYPE, type 0x2A
+    ∷ of 2 (exactly 2)  -- PROPATTR, type 0x2B
+    ∷ of 6 any  -- PROPVALUE, type 0x2C
+    ∷ of 0 (exactly 0)  -- BOX, type 0x2D
+    ∷ of 2 (exactly 2)  -- BOXTYPE, type 0x2E
+    ∷ of 3 (exactly 4)  -- PLEX, type 0x2F
+    ∷ of 3 (exactly 4)  -- BGNEXTN, type 0x30
+    ∷ of 3 (exactly 4)  -- ENDEXTN, type 0x31
+    ∷ unchecked  -- type 0x32
+    ∷ unchecked  -- type 0x33
+    ∷ unchecked  -- type 0x34
+    ∷ unchecked  -- type 0x35
+    ∷ unchecked  -- type 0x36
+    ∷ unchecked  -- type 0x37
+    ∷ unchecked  -- type 0x38
+    ∷ unchecked  -- type 0x39
+    ∷ unchecked  -- type 0x3A
+    ∷ unchecked  -- type 0x3B
     ∷ []
 
 abbrev pub row_or_none : Option (Option Form) → Option Form

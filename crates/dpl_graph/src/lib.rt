@@ -53,19 +53,3 @@ pub fn odd_cycle_laws()
     ensures least { OddRootsAreRoots }
     ensures reported { ReportedIsOdd }
 {}
-
-#[cfg(test)]
-mod tests {
-    use super::*;
-    use std::test::Fail;
-
-    #[test]
-    fn finds_roots_and_levels(rt: HostRuntime) -> Result<(), Fail> {
-        let edges = [(1, 4), (0, 2), (2, 5), (3, 5), (0, 3)];
-        assert!(rt; are_edges_below(7, &edges));
-        let found = levels_of(rt.alloc(), 7, &edges)?;
-        assert_eq!(rt; found.roots.as_slice(), [0, 1, 0, 0, 1, 0, 6].as_slice());
-        assert_eq!(rt; found.levels.as_slice(), [0, 0, 1, 1, 1, 2, 0].as_slice());
-        Ok(())
-    }
-}

@@ -9,6 +9,3 @@ mod turning;
 
 pub use crate::colouring::{are_sides_below, is_even_below, orient};
 pub use crate::mask::{Colours, Mask};
-
-#[cfg(test)]
-mod tests;

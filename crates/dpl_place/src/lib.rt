@@ -185,29 +185,3 @@ pub fn composing_has_a_unit()
     ensures outer { (u m x : Motion) → ((p : Pt) → image u p ≡ p) → m.turns < 4 → IsComposed u m x → x ≡ m }
     ensures inner { (u m x : Motion) → ((p : Pt) → image u p ≡ p) → m.turns < 4 → IsComposed m u x → x ≡ m }
 {}
-
-#[cfg(test)]
-mod tests {
-    use super::*;
-
-    /// A placement, and where it takes (30,10).
-    const ROWS: [(bool, u8, i64, i64, i64, i64); 5] = [
-        (false, 0, 5, 6, 35, 16),
-        (false, 1, 0, 0, -10, 30),
-        (false, 3, 0, 0, 10, -30),
-        (true, 0, 0, 0, 30, -10),
-        (true, 1, 100, 200, 110, 230),
-    ];
-
-    #[test]
-    fn placements_of_a_table(rt: HostRuntime) {
-        for (reflect, turns, dx, dy, x, y) in ROWS {
-            assert!(rt; turns < 4);
-            assert!(rt; dx.unsigned_abs() <= 1000);
-            assert!(rt; dy.unsigned_abs() <= 1000);
-            let place = Place::new(reflect, turns, dx, dy);
-            assert_eq!(rt; place.apply(Pt { x: 30, y: 10 }), Pt { x, y });
-            assert_eq!(rt; compose(&place, &Place::unit()), place);
-        }
-    }
-}

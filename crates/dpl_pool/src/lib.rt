@@ -4,8 +4,6 @@
 mod gate;
 mod member;
 mod pool;
-#[cfg(test)]
-mod tests;
 
 pub use gate::{Gate, OpenGate};
 pub use pool::run_pool;

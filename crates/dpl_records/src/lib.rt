@@ -10,6 +10,3 @@ mod record;
 pub use crate::fault::RecordFault;
 pub use crate::field::{i16_at, i32_at, name_of, real_at, u16_at};
 pub use crate::record::{Record, next_record, put_record};
-
-#[cfg(test)]
-mod tests;

@@ -13,6 +13,3 @@ mod touched;
 pub use crate::joined::Joined;
 pub use crate::list::{Star, StarList};
 pub use crate::sums::{merge, merge_all, one_summary, stars};
-
-#[cfg(test)]
-mod tests;

@@ -7,6 +7,3 @@ mod view;
 
 pub use board::Board;
 pub use seat::Seat;
-
-#[cfg(test)]
-mod tests;

@@ -1,14 +1,19 @@
-use Rattle.std.proofs.Common.{◌≡◌, ◌∙◌, ◌+◌, ◌<◌, refl, sym, ap, subst, rules, length, get_or, map, arith, vec_len}
+use Rattle.std.proofs.Common.{◌≡◌, ◌∙◌, ◌+◌, ◌<◌, ◌≤◌, true, refl, sym, ap, subst, rules, length, get_or, map, arith, vec_len}
 use Rattle.std.proofs.lemmas.List.{length-map}
 use Rattle.dpl_deal.specs.Rule.{after_grip, after_seal, cut_off}
 use Rattle.dpl_deal.specs.Grips.{grip_deque, grip_view}
-use Rattle.dpl_deal.specs.Hands.{IsArmed, deques_of, own_deque, own_view, rows_of, views_of}
+use Rattle.dpl_deal.specs.Hands.{IsArmed, deques_of, marks_of, own_deque, own_view, rows_of, views_of}
 use Rattle.dpl_deal.proofs.Takings.{map_put}
-use Rattle.dpl_deal.proofs.Arming.{armed_more, armed_row, none_out, out_more, out_sealed, parts_left}
+use Rattle.dpl_deal.proofs.Arming.{armed_more, armed_row, marked_all, marked_more, none_out, out_more, out_sealed, parts_left}
 use Rattle.dpl_deal.proofs.dealing.arm_all.Goals as goal
 
 pub loop-me-init : goal.loop-me-init
-loop-me-init c = (refl, none_out _ _ _ c.requires.views, refl, λ j d lt. absurd (omega arith))
+loop-me-init c = (refl, none_out _ _ _ c.requires.views, refl, λ j d lt. absurd (omega arith), λ j d lt. absurd (omega arith))
+
+pub returns-clause-marks : goal.returns-clause-marks
+returns-clause-marks c =
+    let le : length c.loop-me.hands.items ≤ c.loop-me.me = search rules in
+    marked_all c.loop-me.hands.items c.loop-me.me le c.loop-me.invariant.4
 
 pub grip_all-requires : goal.grip_all-requires
 grip_all-requires c = record { parts = parts_left _ _ _ (views_of c.loop-me.hands.items) (search rules) c.loop-me.invariant.1 }
@@ -19,6 +24,8 @@ loop-me-preserved c =
     let e : views_of c.grip_all.new.hands.items ≡ map after_grip (views_of c.loop-me.hands.items) = search rules in
     let d : deques_of c.grip_all.new.hands.items ≡ deques_of c.loop-me.hands.items = search rules in
     let r : rows_of c.grip_all.new.hands.items ≡ rows_of c.loop-me.hands.items = search rules in
+    let mm : marks_of c.grip_all.new.hands.items ≡ marks_of c.loop-me.hands.items = search rules in
+    let mk : c.arm.new.self.marked ≡ true = search rules in
     let ds = ap length d in
     let a : vec_len c.grip_all.new.hands ≡ length c.grip_all.new.hands.items = search rules in
     let b : vec_len c.loop-me.hands ≡ length c.loop-me.hands.items = search rules in
@@ -37,4 +44,5 @@ loop-me-preserved c =
       map_put own_deque c.grip_all.new.hands.items c.loop-me.me c.index_mut.result.now c.arm.new.self lt is q ∙ d ∙ c.loop-me.invariant.2,
       armed_more (deques_of c.args.hands.now.items) c.args.tiles c.grip_all.new.hands.items c.loop-me.me c.arm.new.self (rows_of c.loop-me.hands.items) lt r c.loop-me.invariant.3
           (subst (λ v. IsArmed (deques_of c.args.hands.now.items) c.args.tiles v.items) (sym g) row),
+      marked_more c.grip_all.new.hands.items c.loop-me.me c.arm.new.self (marks_of c.loop-me.hands.items) lt mm c.loop-me.invariant.4 mk,
     )

@@ -6,6 +6,7 @@ use Rattle.dpl_deal.specs.Hands.{deques_of, own_deque, own_view, row_of, views_o
 use Rattle.dpl_deal.proofs.Takings.{map_put}
 use Rattle.dpl_deal.proofs.Dealings.{grip_step, gripped_all, gripped_view, map_take_next}
 use Rattle.dpl_deal.specs.declared.view.View.{View}
+use Rattle.dpl_deal.specs.declared.hand.Hand.{Hand}
 use Rattle.dpl_deal.proofs.dealing.grip_all.Goals as goal
 
 pub grip-requires : goal.grip-requires
@@ -24,6 +25,7 @@ loop-at-preserved c =
     let w : own_view c.grip.new.self ≡ after_grip (own_view c.index_mut.result.now) = search rules in
     let q : own_deque c.grip.new.self ≡ own_deque c.index_mut.result.now = search rules in
     let gs : c.grip.new.self.grips ≡ c.index_mut.result.now.grips = search rules in
+    let mk : c.grip.new.self.marked ≡ c.index_mut.result.now.marked = search rules in
     let pushed : c.push.new.self.items ≡ c.loop-at.grips.items ++ c.in_ok-grip.grip ∷ [] = search rules in
     let gd : grip_deque c.in_ok-grip.grip ≡ own_deque c.index_mut.result.now = search rules in
     let gv : grip_view c.in_ok-grip.grip ≡ cut_off (own_view c.index_mut.result.now) = search rules in
@@ -36,6 +38,7 @@ loop-at-preserved c =
       ap (map grip_view) pushed ∙ map_take_next grip_view c.loop-at.grips.items c.in_ok-grip.grip (map cut_off (views_of c.args.hands.now.items)) c.loop-at.at (cut_off (own_view c.index_mut.result.now)) (omega (arith, lt, lens, length-map (views_of c.args.hands.now.items) cut_off, length-map c.args.hands.now.items own_view)) c.loop-at.invariant.4
           (gv ∙ ap cut_off ve ∙ sym (get_or-map cut_off (views_of c.args.hands.now.items) c.loop-at.at (own_view c.index_mut.result.now) (cut_off (own_view c.index_mut.result.now)) (omega (arith, lt, lens, length-map c.args.hands.now.items own_view)))),
       map_put row_of c.loop-at.hands.items c.loop-at.at c.index_mut.result.now c.grip.new.self lt is (ap (λ g. g.items) gs) ∙ c.loop-at.invariant.5,
+      map_put (λ (h : Hand). h.marked) c.loop-at.hands.items c.loop-at.at c.index_mut.result.now c.grip.new.self lt is mk ∙ c.loop-at.invariant.6,
     )
 
 pub returns-clause-views : goal.returns-clause-views

@@ -12,7 +12,7 @@ returns-clause-hands c =
     let ds : map thief_deque c.in_ok-thieves.thieves.items ≡ deques_of c.arm_all.new.hands.items = search rules in
     let out = c.in_ok-arm_all.ensures.views in
     let armed : All (IsArmed (deques_of c.arm_all.new.hands.items) c.args.tiles) (rows_of c.arm_all.new.hands.items) = c.in_ok-arm_all.ensures.hands in
-    opened deal c.arm_all.new.hands.items ds (subst (λ (k : ℕ). EachAt (IsOut k c.args.tiles k) (views_of c.arm_all.new.hands.items)) n out) armed
+    opened deal c.arm_all.new.hands.items ds (subst (λ (k : ℕ). EachAt (IsOut k c.args.tiles k) (views_of c.arm_all.new.hands.items)) n out) armed c.in_ok-arm_all.ensures.marks
 
 pub returns-clause-taken : goal.returns-clause-taken
 returns-clause-taken c = none_taken _ _ _ _ _ c.arm_all.new.hands.items c.in_ok-arm_all.ensures.views c.in_ok-arm_all.ensures.hands

@@ -1,6 +1,6 @@
 use Rattle.std.proofs.Common.{arith}
 use Rattle.std.proofs.lemmas.Int.{ints}
-use Rattle.dpl_cuts.proofs.tests.bar.Goals as goal
+use Rattle.dpl_cuts.proofs.pieces.bar.Goals as goal
 
 pub one-requires-clause-solid : goal.one-requires-clause-solid
 one-requires-clause-solid c = let w = c.requires.wide in let t = c.requires.tall in record { wide = omega (arith, ints, w); tall = omega (arith, ints, t) }

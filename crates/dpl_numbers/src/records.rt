@@ -1,4 +1,5 @@
-use super::*;
+//! Worked records, written and read, and their faults.
+use dpl_records::{Record, RecordFault, kinds, name_of, next_record, put_record, u16_at};
 use std::test::*;
 
 #[test]

@@ -1,29 +1,15 @@
+//! Workers of a pool, held at gates.
 ghost use Rattle.std.specs.Prelude.{[], ◌∷◌, ◌<◌, replicate};
 
-use super::*;
-use dpl_board::Job;
+use crate::jobs::{Bare, TwoTiles};
+use dpl_pool::{Gate, OpenGate, run_pool};
 use dpl_stars::Joined;
 use dpl_turn::Seat;
-use std::alloc::{AllocError, Global};
+use std::alloc::Global;
 use std::sync::Wait;
 use std::sync::atomic::{AtomicU64, Ordering};
 use std::test::*;
 use std::thread::{Threads, yield_now};
-
-/// Two tiles without edges.
-struct TwoTiles;
-
-impl Job for TwoTiles {
-    ghost sheet = { λ _. [] ∷ [] ∷ [] };
-
-    fn tiles(&self) -> u32 {
-        2
-    }
-
-    fn summary(&self, alloc: Global, _tile: u32) -> Result<Joined, AllocError> {
-        Ok(Joined::new(alloc))
-    }
-}
 
 /// Holds one tile until the other has come, or was posted, and gives up after a number of turns.
 #[derive(Drop)]
@@ -135,23 +121,6 @@ fn workers_come_and_post_under_their_numbers(rt: HostRuntime) -> Result<(), Fail
         assert_eq!(rt; poster, Some(came[tile as usize]), "tile {tile}");
     }
     Ok(())
-}
-
-/// Tiles without edges.
-struct Bare {
-    tiles: u32,
-}
-
-impl Job for Bare {
-    ghost sheet = { λ job. replicate job.tiles [] };
-
-    fn tiles(&self) -> u32 {
-        self.tiles
-    }
-
-    fn summary(&self, alloc: Global, _tile: u32) -> Result<Joined, AllocError> {
-        Ok(Joined::new(alloc))
-    }
 }
 
 fn has_no_rows(joined: &Joined) -> bool {

@@ -1,30 +1,17 @@
+//! Seats at a board that post by turns, and from two threads.
 ghost use Rattle.std.specs.Prelude.{◌≡◌, ◌<◌, length, [], ◌∷◌};
 ghost use Rattle.dpl_stars.specs.Sums.{Sums};
 ghost use Rattle.dpl_board.specs.Sheets.{edges_at};
 ghost use Rattle.dpl_turn.specs.Seats.{IsSeatOf, knows};
 
-use super::*;
-use dpl_board::{BoardState, Entry, Job, PostFault};
+use crate::jobs::TwoTiles;
+use dpl_board::{BoardState, Entry, PostFault};
 use dpl_stars::Joined;
+use dpl_turn::{Board, Seat};
 use std::alloc::{AllocError, Global};
 use std::sync::Wait;
 use std::test::*;
 use std::thread::{Threads, join};
-
-/// Two tiles without edges.
-struct TwoTiles;
-
-impl Job for TwoTiles {
-    ghost sheet = { λ _. [] ∷ [] ∷ [] };
-
-    fn tiles(&self) -> u32 {
-        2
-    }
-
-    fn summary(&self, alloc: Global, _tile: u32) -> Result<Joined, AllocError> {
-        Ok(Joined::new(alloc))
-    }
-}
 
 #[test]
 fn seats_post_and_meet(rt: HostRuntime) -> Result<(), Fail> {

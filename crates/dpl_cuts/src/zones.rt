@@ -1,53 +1,9 @@
 //! Worked layouts, by a rule of 30 and an overlap of 10.
-ghost use Rattle.std.specs.Prelude.{◌≤◌, ◌<ℤ◌, IsTrue, unsigned_abs};
-ghost use Rattle.dpl_spec.specs.Loops.{farthest};
-
-use crate::zones;
-use dpl_base::{FARTHEST, Rect, Zone};
+use crate::bars::{Corners, set_of};
+use dpl_base::{FARTHEST, Zone};
 use dpl_feature::features;
-use dpl_slabs::Slabs;
-use std::alloc::{AllocError, Global};
+use dpl_zone::zones;
 use std::test::Fail;
-
-/// The corners of a rectangle: left, low, right, high.
-type Corners = (i64, i64, i64, i64);
-
-/// Whether the columns, or the rows, are some of a layer's.
-fn is_span(low: i64, high: i64) -> bool
-    ensures { IsTrue result → (low <ℤ high) × (unsigned_abs low ≤ farthest) × (unsigned_abs high ≤ farthest) }
-{
-    if low >= high {
-        return false;
-    }
-    if low < -FARTHEST {
-        return false;
-    }
-    if high > FARTHEST {
-        return false;
-    }
-    true
-}
-
-/// The squares of a rectangle, where it has some.
-fn one(alloc: Global, corners: Corners) -> Result<Slabs, AllocError> {
-    let (x0, y0, x1, y1) = corners;
-    if is_span(x0, x1) {
-        if is_span(y0, y1) {
-            return Slabs::one(alloc, Rect { x0, y0, x1, y1 });
-        }
-    }
-    Slabs::of_rects(alloc, &[])
-}
-
-/// The squares of some rectangles.
-fn set_of(alloc: Global, rects: &[Corners]) -> Result<Slabs, AllocError> {
-    let mut set = Slabs::of_rects(alloc, &[])?;
-    for corners in rects {
-        let next = one(alloc, *corners)?;
-        set = set.union(alloc, &next)?;
-    }
-    Ok(set)
-}
 
 fn corners_of(z: &Zone) -> (Corners, u64) {
     ((z.rect.x0, z.rect.y0, z.rect.x1, z.rect.y1), z.feature)

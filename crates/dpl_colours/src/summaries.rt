@@ -1,17 +1,11 @@
-use super::*;
+//! Summaries of edges, and of two summaries together.
+use crate::jobs::rows_of;
+use dpl_stars::{Joined, Star, merge, stars};
 use std::test::Fail;
 
 /// A row with its piece, its root and whether it is odd.
 fn row(piece: u64, root: u64, odd: bool) -> Star {
     Star { piece, root, odd }
-}
-
-/// The rows of a summary, if there is no odd cycle.
-fn rows_of(joined: &Joined) -> Option<&[Star]> {
-    match joined {
-        Joined::Stars(rows) => Some(rows.items()),
-        Joined::Odd => None,
-    }
 }
 
 #[test]

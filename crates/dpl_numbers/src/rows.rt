@@ -1,5 +1,5 @@
 //! Made-up layouts of one row and of two.
-use crate::demo_bytes;
+use dpl_demo::demo_bytes;
 use std::test::Fail;
 
 /// The bytes of a bar's element.

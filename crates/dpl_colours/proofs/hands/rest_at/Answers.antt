@@ -1,6 +1,6 @@
 use Rattle.std.proofs.Common.{rules}
-use Rattle.dpl_deal.proofs.Arming.{hand_at, hand_there, hands_put, on_ok}
-use Rattle.dpl_deal.proofs.tests.rest_at.Goals as goal
+use Rattle.dpl_colours.proofs.Places.{hand_at, hand_there, hands_put, on_ok}
+use Rattle.dpl_colours.proofs.hands.rest_at.Goals as goal
 
 pub rest_of-requires : goal.rest_of-requires
 rest_of-requires g c = (c.args.at, hand_at c.args.deal.now c.args.hands.now.items c.args.at c.index_mut.result.now c.requires.0 (search rules) (search rules))

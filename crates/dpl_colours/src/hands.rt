@@ -1,7 +1,8 @@
+//! Hands that take the tiles dealt to them, and then those of others.
 ghost use Rattle.std.specs.Prelude.{◌≡◌, ◌<◌, ℕ, Contains, OnOk, vec_len};
 ghost use Rattle.dpl_deal.specs.Hands.{AreHandsOf, IsDone, IsHandOf};
 
-use super::*;
+use dpl_deal::{Deal, Hand};
 use std::alloc::{AllocError, Global};
 use std::sync::Wait;
 use std::test::*;

@@ -1,54 +1,10 @@
 //! Worked layouts of one bar or square to a piece, by a rule of 30.
-ghost use Rattle.std.specs.Prelude.{◌≤◌, ◌<ℤ◌, IsTrue, unsigned_abs};
-ghost use Rattle.dpl_spec.specs.Loops.{farthest};
-
-use crate::{all_edges, edges_of};
-use dpl_base::{Edge, FARTHEST, Id, Rect};
+use crate::bars::{Corners, set_of};
+use dpl_base::{Edge, Id, Rect};
+use dpl_edges::{all_edges, edges_of};
 use dpl_feature::features;
-use dpl_slabs::Slabs;
 use dpl_tile::plan;
-use std::alloc::{AllocError, Global};
 use std::test::Fail;
-
-/// The corners of a rectangle: left, low, right, high.
-type Corners = (i64, i64, i64, i64);
-
-/// Whether the columns, or the rows, are some of a layer's.
-fn is_span(low: i64, high: i64) -> bool
-    ensures { IsTrue result → (low <ℤ high) × (unsigned_abs low ≤ farthest) × (unsigned_abs high ≤ farthest) }
-{
-    if low >= high {
-        return false;
-    }
-    if low < -FARTHEST {
-        return false;
-    }
-    if high > FARTHEST {
-        return false;
-    }
-    true
-}
-
-/// The squares of a rectangle, where it has some.
-fn one(alloc: Global, corners: Corners) -> Result<Slabs, AllocError> {
-    let (x0, y0, x1, y1) = corners;
-    if is_span(x0, x1) {
-        if is_span(y0, y1) {
-            return Slabs::one(alloc, Rect { x0, y0, x1, y1 });
-        }
-    }
-    Slabs::of_rects(alloc, &[])
-}
-
-/// The squares of some rectangles.
-fn set_of(alloc: Global, rects: &[Corners]) -> Result<Slabs, AllocError> {
-    let mut set = Slabs::of_rects(alloc, &[])?;
-    for corners in rects {
-        let next = one(alloc, *corners)?;
-        set = set.union(alloc, &next)?;
-    }
-    Ok(set)
-}
 
 #[test]
 fn finds_the_conflicts(rt: HostRuntime) -> Result<(), Fail> {
