@@ -17,7 +17,7 @@ use Rattle.dpl_sweep.specs.declared.edge.Rule.TheVariants.{Either}
 use Rattle.dpl_sweep.specs.Edges.{Told, part, sum_left, change_a, change_b}
 use Rattle.dpl_sweep.specs.Passes.{IsWithin as EdgeWithin, AreWithin, IsClosed}
 use Rattle.dpl_sweep.proofs.EdgeLaws.{none-told, sum_left-push, part-before, part-off}
-use Rattle.dpl_spec.specs.Loops.{step, steps, winding, LoopCovers, SomeLoopCovers, IsPointWithin, ArePointsWithin, AreRectsWithin}
+use Rattle.dpl_spec.specs.Loops.{step, steps, winding, LoopCovers, SomeLoopCovers, IsPointWithin, AreRectsWithin}
 use Rattle.dpl_slabs.specs.Loops.{above, AddsStep, AreStepsOf, AreEdgesOf, SomeFirstCovers}
 use Rattle.std.proofs.lemmas.Bool.{cases_eq}
 
@@ -221,6 +221,3 @@ loops-all ls n rs all h p = (
   λ c. (let (k, l, b, k_in, is, has) = (h p).0 c in (k, l, k_in, is, has)),
   λ (k, l, k_in, is, has). (h p).1 (k, l, omega (arith, all, k_in), k_in, is, has),
 )
-
-pub points-more : (bound : ℕ) (ps : List Pt) (p : Pt) → ArePointsWithin bound ps → IsPointWithin bound p → ArePointsWithin bound (ps ++ p ∷ [])
-points-more bound ps p w v q q_in = elim (Contains-push_cases ps p q q_in) [ inl old ↦ w q old | inr same ↦ subst (IsPointWithin bound) same v ]

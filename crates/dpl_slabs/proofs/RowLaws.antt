@@ -38,7 +38,7 @@ corner-beside : (a b : Rect) → AreLevel a b → CornerBefore a b → a.x0 ≤�
 corner-beside a b level (inl l) = let low = level.low in absurd (omega (arith, ints, l, low))
 corner-beside a b level (inr (e, l)) = l
 
-covers-step : (row : List Rect) (n : ℕ) (bar : Rect) (p : Pt) → n < length row → bar ≡ get_or row n bar → Covers (take (n + 1) row) p ↔ (Covers (take n row) p ⊎ Has bar p)
+pub covers-step : (row : List Rect) (n : ℕ) (bar : Rect) (p : Pt) → n < length row → bar ≡ get_or row n bar → Covers (take (n + 1) row) p ↔ (Covers (take n row) p ⊎ Has bar p)
 covers-step row n bar p n_in bar_is =
     let one : n + 1 ≡ suc n = omega arith in
     let step : take (n + 1) row ≡ take n row ++ bar ∷ [] = ap (λ k. take k row) one ∙ (take-suc row n bar n_in ∙ ap (λ s. take n row ++ s ∷ []) (sym bar_is)) in

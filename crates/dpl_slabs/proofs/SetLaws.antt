@@ -144,8 +144,8 @@ to-turned (r ∷ rs) p h =
           Covers-member (turned_rect r ∷ turned_rects rs) there.0 p (Contains-later (turned_rect r) there.0 (turned_rects rs) there.1) there.2)
     ]
 
-pub told-turned : (rs : List Rect) (p : Pt) → Holds Either (cells (pos 1) (turned_rects rs) p) (cells (pos 1) [] p) ↔ turned (Covers rs) p
-told-turned rs p = (λ h. from-turned rs p ((told-first (turned_rects rs) p).0 h), λ h. (told-first (turned_rects rs) p).1 (to-turned rs p h))
+pub covers-turned : (rs : List Rect) (p : Pt) → Covers (turned_rects rs) p ↔ turned (Covers rs) p
+covers-turned rs p = (from-turned rs p, to-turned rs p)
 
 pub turned-within : (bound : ℕ) (rs : List Rect) → AreRectsWithin bound rs → AreRectsWithin bound (turned_rects rs)
 turned-within bound [] w r r_in = absurd (Contains-nil r r_in)

@@ -26,7 +26,7 @@ use Rattle.dpl_slabs.proofs.LoopLaws.{covers-appended, rects-appended}
 use Rattle.dpl_slabs.proofs.SetLaws.{rects-none}
 
 -- a relation of all pairs of two lists
-AllPairs-append : {X : Type 0} (R : X → X → Type 0) (xs ys : List X) → AllPairs R xs → AllPairs R ys → ((x y : X) → Contains xs x → Contains ys y → R x y) → AllPairs R (xs ++ ys)
+pub AllPairs-append : {X : Type 0} (R : X → X → Type 0) (xs ys : List X) → AllPairs R xs → AllPairs R ys → ((x y : X) → Contains xs x → Contains ys y → R x y) → AllPairs R (xs ++ ys)
 AllPairs-append R [] ys a b c i j d l k = b i j d l k
 AllPairs-append R (x ∷ xs) ys a b c zero zero d l k = absurd (omega (arith, l))
 AllPairs-append R (x ∷ xs) ys a b c zero (suc j) d l k =

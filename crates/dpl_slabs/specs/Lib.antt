@@ -4,3 +4,4 @@ pub mod Corners
 pub mod Parts
 pub mod Strips
 pub mod Rows
+pub mod Slices

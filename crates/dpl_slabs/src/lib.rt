@@ -7,9 +7,8 @@ mod loops;
 mod parts;
 mod row;
 mod slabs;
+mod slices;
 mod strips;
-#[cfg(test)]
-mod tests;
 
 pub use parts::Parts;
 pub use slabs::Slabs;

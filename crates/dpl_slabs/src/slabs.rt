@@ -14,8 +14,8 @@ use smallvec::SmallVec;
 use std::alloc::{AllocError, Global};
 use std::marker::Model;
 
-/// A set of squares. A contract sees its canonical slabs. A single slab takes no memory of its own, since most sets of a
-/// layer are features of one slab.
+/// A set of squares. A contract sees its canonical slabs. A set of one rectangle that `Slabs::one` made takes no memory of
+/// its own.
 #[derive(Drop)]
 pub struct Slabs {
     rects: SmallVec<Rect, 1>,
@@ -192,7 +192,7 @@ impl Slabs {
         if turned.len() == 1 {
             return Ok(turned);
         }
-        let rects = combine(alloc, &turned, &[], Rule::Either)?;
+        let rects = slabs_of_rects(alloc, turned)?;
         Ok(rects)
     }
 

@@ -8,6 +8,7 @@ ghost use Rattle.dpl_slabs.specs.Strips.{LieBelow, AddsStrip};
 
 use crate::combine::combine;
 use crate::row::{is_row, slabs_of_row};
+use crate::slices::slabs_of_slices;
 use dpl_base::Rect;
 use dpl_sweep::{Rule, sort_by_corner};
 use std::alloc::{AllocError, Global};
@@ -31,7 +32,10 @@ fn strip_length(rects: &[Rect]) -> usize
     rects.len()
 }
 
-/// The slabs of a strip: bars of one row are put together by column, all else is swept.
+/// From how many rectangles on a strip is swept slice by slice.
+const TALL: usize = 4096;
+
+/// The slabs of a strip: bars of one row are put together by column, all else is swept, where there are many of them slice by slice.
 fn slabs_of_strip(alloc: Global, strip: &[Rect]) -> Result<Vec<Rect>, AllocError>
     requires some { 0 < length strip.now }
     requires rise { CornersRise strip.now }
@@ -42,6 +46,10 @@ fn slabs_of_strip(alloc: Global, strip: &[Rect]) -> Result<Vec<Rect>, AllocError
     if is_row(strip) {
         let bars = slabs_of_row(alloc, strip)?;
         return Ok(bars);
+    }
+    if strip.len() >= TALL {
+        let slabs = slabs_of_slices(alloc, strip)?;
+        return Ok(slabs);
     }
     let slabs = combine(alloc, strip, &[], Rule::Either)?;
     Ok(slabs)

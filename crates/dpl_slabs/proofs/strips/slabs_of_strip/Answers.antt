@@ -14,4 +14,4 @@ returns-then-is_row-clause-within c = within-slabs farthest c.args.strip.now _ c
 pub returns-clause-slabs : goal.returns-clause-slabs
 returns-clause-slabs c =
     let strip = c.args.strip.now in
-    slabs-of-same (λ p. Holds Either (cells (pos 1) strip p) (cells (pos 1) [] p)) (Covers strip) _ (told-first strip) c.in_ok-slabs.ensures.slabs
+    slabs-of-same (λ p. Holds Either (cells (pos 1) strip p) (cells (pos 1) [] p)) (Covers strip) _ (told-first strip) c.in_ok-slabs-2.ensures.slabs

@@ -1,21 +1,17 @@
 use Rattle.std.proofs.Common.{◌≡◌, length, arith}
-use Rattle.std.specs.Prelude.{pos, []}
 use Rattle.dpl_spec.specs.Squares.{Covers}
-use Rattle.dpl_sweep.specs.declared.edge.Rule.TheVariants.{Either}
-use Rattle.dpl_sweep.specs.Edges.{Holds}
 use Rattle.dpl_spec.specs.Zones.{turned}
-use Rattle.dpl_slabs.specs.Cells.{cells, turned_rects}
-use Rattle.dpl_slabs.proofs.SetLaws.{told-turned, turned-one, turned-within, slabs-of-same}
+use Rattle.dpl_slabs.specs.Cells.{turned_rects}
+use Rattle.dpl_slabs.proofs.SetLaws.{covers-turned, turned-one, turned-within, slabs-of-same}
 use Rattle.dpl_slabs.proofs.slabs.Slabs.columns.Goals as goal
 
 pub returns-clause-slabs : goal.returns-clause-slabs
 returns-clause-slabs c =
-    let s = rw (c.deref.ensures.value, c.in_ok-turned.ensures, c.rects.ensures.value) at c.in_ok-rects.ensures.slabs in
-    slabs-of-same (λ p. Holds Either (cells (pos 1) (turned_rects c.args.self.now) p) (cells (pos 1) [] p)) (turned (Covers c.args.self.now)) _ (told-turned c.args.self.now) s
+    let s = rw (c.in_ok-turned.ensures, c.rects.ensures.value) at c.in_ok-rects.ensures.slabs in
+    slabs-of-same (Covers (turned_rects c.args.self.now)) (turned (Covers c.args.self.now)) _ (covers-turned c.args.self.now) s
 
-pub combine-requires-clause-first : goal.combine-requires-clause-first
-combine-requires-clause-first c =
-    rw (c.deref.ensures.value, c.in_ok-turned.ensures, c.rects.ensures.value) (turned-within 1000000000 c.args.self.now c.rects.ensures.within)
+pub slabs_of_rects-requires : goal.slabs_of_rects-requires
+slabs_of_rects-requires c = rw (c.in_ok-turned.ensures, c.rects.ensures.value) (turned-within 1000000000 c.args.self.now c.rects.ensures.within)
 
 pub returns-then-len-eq1-clause-slabs : goal.returns-then-len-eq1-clause-slabs
 returns-then-len-eq1-clause-slabs c =

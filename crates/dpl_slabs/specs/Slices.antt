@@ -1,0 +1,49 @@
+-- Rectangles in slices of rows.
+use Rattle.std.specs.Prelude.{◌≡◌, ◌⊎◌, ◌↔◌, ℤ, ◌≤ℤ◌, ◌<ℤ◌, List}
+use Rattle.std.specs.List.{Contains}
+use Rattle.dpl_spec.specs.declared.Pt.{Pt}
+use Rattle.dpl_spec.specs.declared.Rect.{Rect}
+use Rattle.dpl_spec.specs.Squares.{Region, Has, Covers}
+use Rattle.dpl_spec.specs.Slabs.{IsSolid}
+use Rattle.dpl_spec.specs.Loops.{farthest, IsRectWithin, AreRectsWithin}
+use Rattle.dpl_sweep.specs.Pieces.{AreApart}
+
+-- the squares of a set in rows low to high - 1
+abbrev pub InRows : ℤ → ℤ → Region → Region
+InRows low high a p = a p × (low ≤ℤ p.y) × (p.y <ℤ high)
+
+-- the part of a rectangle in rows low to high - 1, which may have no square
+pub record IsPartOf (low high : ℤ) (r part : Rect) : Type 0 where
+  pub has : (p : Pt) → Has part p ↔ InRows low high (Has r) p
+  pub within : IsSolid part → IsRectWithin farthest r → IsRectWithin farthest part
+
+-- a bar has all of the rows
+pub record IsBar (low high : ℤ) (r : Rect) : Type 0 where
+  pub solid : IsSolid r
+  pub first : r.y0 ≡ low
+  pub end : r.y1 ≡ high
+
+-- bars and other rectangles that have the squares of these rectangles in the rows
+pub record ArePartsOf (low high : ℤ) (rects bars others : List Rect) : Type 0 where
+  pub full : (r : Rect) → Contains bars r → IsBar low high r
+  pub covers : (p : Pt) → (Covers bars p ⊎ Covers others p) ↔ InRows low high (Covers rects) p
+  pub full_within : AreRectsWithin farthest bars
+  pub within : AreRectsWithin farthest others
+
+-- the part of one more rectangle was added to the bars, or to the others
+pub record AddsPart (low high : ℤ) (r : Rect) (bars others new new_others : List Rect) : Type 0 where
+  pub full : (s : Rect) → Contains new s → Contains bars s ⊎ IsBar low high s
+  pub covers : (p : Pt) → (Covers new p ⊎ Covers new_others p) ↔ ((Covers bars p ⊎ Covers others p) ⊎ InRows low high (Has r) p)
+  pub full_within : AreRectsWithin farthest bars → AreRectsWithin farthest new
+  pub within : AreRectsWithin farthest others → AreRectsWithin farthest new_others
+
+-- the squares of bars were added
+pub record AddsBars (bars others new : List Rect) : Type 0 where
+  pub covers : (p : Pt) → Covers new p ↔ (Covers others p ⊎ Covers bars p)
+  pub within : AreRectsWithin farthest bars → AreRectsWithin farthest others → AreRectsWithin farthest new
+
+-- pieces of the squares below a row
+pub record ArePiecesBelow (row : ℤ) (rects pieces : List Rect) : Type 0 where
+  pub apart : AreApart pieces
+  pub under : (r : Rect) → Contains pieces r → r.y1 ≤ℤ row
+  pub covers : (p : Pt) → Covers pieces p ↔ (Covers rects p × (p.y <ℤ row))
