@@ -116,15 +116,15 @@ pub fn all_posted_law()
     ensures { AllPostedSumUp }
 {}
 
-/// How many rows a summary has.
+/// How many rows a summary has, and one more for the summary itself.
 fn size(sum: &Joined) -> u64 {
     match sum {
-        Joined::Stars(rows) => rows.items().len() as u64,
-        Joined::Odd => 0,
+        Joined::Stars(rows) => (rows.items().len() as u64).saturating_add(1),
+        Joined::Odd => 1,
     }
 }
 
-/// How many rows summaries have together.
+/// How many rows summaries have together, and one more for each.
 fn sizes(sums: &[Joined]) -> u64 {
     let mut rows: u64 = 0;
     for sum in sums {
@@ -133,7 +133,7 @@ fn sizes(sums: &[Joined]) -> u64 {
     rows
 }
 
-/// How many rows the summaries of a board have, and how many they had when they were last put together.
+/// How many rows the summaries of a board have, each counted with one row more, and how many they had when they were last put together.
 #[derive(Clone, Copy, Drop)]
 struct Rows {
     held: u64,

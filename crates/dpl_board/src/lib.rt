@@ -12,6 +12,3 @@ pub use crate::entry::Entry;
 pub use crate::events::{Core, Event, replay};
 pub use crate::fault::PostFault;
 pub use crate::job::Job;
-
-#[cfg(test)]
-mod tests;

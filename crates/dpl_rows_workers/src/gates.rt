@@ -69,3 +69,17 @@ impl Gate for Crowd {
         self.inside.fetch_sub(1, Ordering::SeqCst);
     }
 }
+
+/// Counts how often a tile is entered.
+#[derive(Drop)]
+pub struct Counts {
+    pub entered: AtomicU64,
+}
+
+impl Gate for Counts {
+    fn enter(&self, _worker: u32, _tile: u32) {
+        self.entered.fetch_add(1, Ordering::SeqCst);
+    }
+
+    fn posted(&self, _seat: &Seat, _tile: u32) {}
+}

@@ -1,6 +1,6 @@
 //! Two workers at work on the tiles of one layer.
 
-use crate::gates::{Crowd, Holds};
+use crate::gates::{Counts, Crowd, Holds};
 use dpl_pool::Gate;
 use dpl_run::{Status, run};
 use dpl_sample::{bars, host, words};
@@ -102,5 +102,20 @@ fn no_more_workers_come_than_asked_for(rt: HostRuntime) -> Result<(), Fail> {
         assert!(rt; gate.most.load(Ordering::SeqCst) <= 2);
         assert_eq!(rt; gate.strangers.load(Ordering::SeqCst), 0);
     }
+    Ok(())
+}
+
+#[test]
+fn a_plate_has_few_tiles(rt: HostRuntime) -> Result<(), Fail> {
+    let alloc = rt.alloc();
+    let files = vec![in alloc; ("in", bars(alloc, &[[0, 0, 30_000, 30_000]])?)]?;
+    let mut host = host(alloc, files, 4096, Vec::new(alloc))?;
+    let line = "dpl split --layer 1 --rule 30 --overlap 10 --tile 64 in out cert";
+    let words = words(alloc, line)?;
+    let gate = Counts {
+        entered: AtomicU64::new(0),
+    };
+    assert!(rt; run(&rt, alloc, &words, &mut host, &gate) == Status::Done);
+    assert!(rt; gate.entered.load(Ordering::SeqCst) <= 65_540);
     Ok(())
 }

@@ -1,5 +1,5 @@
 //! Features, zones and pieces of a layer.
-ghost use Rattle.std.specs.Prelude.{◌≡◌, ◌≤◌, IfOk, length};
+ghost use Rattle.std.specs.Prelude.{◌≡◌, ◌≤◌, ℕ, IfOk, length};
 ghost use Rattle.std.specs.List.{Contains};
 ghost use Rattle.dpl_spec.specs.declared.Pt.{Pt};
 ghost use Rattle.dpl_spec.specs.Squares.{Covers};
@@ -14,7 +14,7 @@ use dpl_feature::features;
 use dpl_job::EdgeJob;
 use dpl_piece::{Pieces, pieces};
 use dpl_slabs::Slabs;
-use dpl_tile::plan;
+use dpl_tile::{plan, side_for};
 use dpl_zone::zones;
 use std::alloc::{AllocError, Global};
 
@@ -82,8 +82,9 @@ pub(crate) fn tiles_of<'a>(
 ) -> Result<EdgeJob<'a>, AllocError>
     requires rule { IsRule rule }
     requires tile { IsTile tile }
-    ensures { IfOk result (λ job. IsPlan pieces.now.parts pieces.now.owners rule tile job.plan) }
+    ensures { IfOk result (λ job. (side : ℕ) × (1 ≤ side) × IsPlan pieces.now.parts pieces.now.owners rule side job.plan) }
 {
-    let plan = plan(alloc, pieces.parts(), pieces.owner(), rule, tile)?;
+    let side = side_for(pieces.parts(), tile);
+    let plan = plan(alloc, pieces.parts(), pieces.owner(), rule, side)?;
     Ok(EdgeJob { plan })
 }

@@ -34,7 +34,6 @@ fn lay_over(alloc: Global, parts: &[Slabs], bounds: &Rect, tile: u32) -> Result<
     requires parts { AreParts parts.now }
     requires bounds { IsBounds (union_of parts.now) bounds.now }
     requires some { 1 ≤ tile }
-    requires most { tile ≤ 1073741824 }
     ensures { IfOk result (λ l. AreLaid parts.now tile l.grid l.places.items) }
 {
     let grid = grid_of(parts, bounds, tile);
@@ -50,7 +49,6 @@ fn lay_over(alloc: Global, parts: &[Slabs], bounds: &Rect, tile: u32) -> Result<
 pub(crate) fn lay(alloc: Global, parts: &[Slabs], tile: u32) -> Result<Laid, AllocError>
     requires parts { AreParts parts.now }
     requires some { 1 ≤ tile }
-    requires most { tile ≤ 1073741824 }
     ensures { IfOk result (λ l. AreLaid parts.now tile l.grid l.places.items) }
 {
     let Some(bounds) = bounds(parts) else {

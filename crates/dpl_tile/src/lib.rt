@@ -7,12 +7,12 @@ mod count;
 mod grid;
 mod laws;
 mod laying;
+mod least;
 mod planning;
 mod plans;
 mod sides;
-#[cfg(test)]
-mod tests;
 
 pub use laws::squares_have_one_cell;
+pub use least::side_for;
 pub use planning::plan;
 pub use plans::Plan;

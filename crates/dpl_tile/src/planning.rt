@@ -9,7 +9,7 @@ use dpl_slabs::Parts;
 use dpl_tree::Tree;
 use std::alloc::{AllocError, Global};
 
-/// The tiles of the pieces of a layer, one owner to each piece, for a rule of 1 to 1,000,000 and a tile of 1 to 1,073,741,824 database units. The grid begins at the least column and the least row of all pieces; a tile's side is `tile`, doubled until there are at most 16,777,216 pairs of a piece's slab and a cell that it meets, or one cell has all; a cell with no square is no tile. Fails for want of memory alone.
+/// The tiles of the pieces of a layer, one owner to each piece. The rule and the tile, which is at least 1, are in database units. The grid begins at the least column and the least row of all pieces; a tile's side is `tile`, doubled until there are at most 16,777,216 pairs of a piece's slab and a cell that it meets, or one cell has all; a cell with no square is no tile. Fails for want of memory alone.
 pub fn plan<'a>(
     alloc: Global,
     parts: &'a Parts,
@@ -18,8 +18,7 @@ pub fn plan<'a>(
     tile: u32,
 ) -> Result<Plan<'a>, AllocError>
     requires owners { length owner.now ≡ length parts.now }
-    requires rule { (1 ≤ rule) × (rule ≤ 1000000) }
-    requires tile { (1 ≤ tile) × (tile ≤ 1073741824) }
+    requires tile { 1 ≤ tile }
     ensures { IfOk result (λ p. IsPlan parts.now owner.now rule tile p) }
 {
     let laid = lay(alloc, parts.items(), tile)?;

@@ -14,7 +14,6 @@ pub(crate) fn grid_of(parts: &[Slabs], bounds: &Rect, tile: u32) -> Grid
     requires parts { AreParts parts.now }
     requires bounds { IsBounds (union_of parts.now) bounds.now }
     requires some { 1 ≤ tile }
-    requires most { tile ≤ 1073741824 }
     ensures grid { IsGrid parts.now tile result }
     ensures sound { IsSound result }
     ensures left { result.x ≡ bounds.now.x0 }

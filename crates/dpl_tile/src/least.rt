@@ -1,0 +1,53 @@
+//! How small the tiles of a layer may be.
+ghost use Rattle.std.specs.Prelude.{◌≤◌};
+
+use dpl_base::Rect;
+use dpl_slabs::{Parts, Slabs};
+
+/// How many cells a slab may meet, at the most on the average.
+const CELLS_A_SLAB: u64 = 4;
+
+/// How many cells more all slabs may meet.
+const CELLS_MORE: u64 = 65_536;
+
+/// About how many cells of this side a slab meets: no fewer than it would in a grid that begins at its corner.
+fn cells(r: &Rect, side: u32) -> u64
+    requires { 1 ≤ side }
+{
+    let columns = r.x0.abs_diff(r.x1) / side as u64;
+    let rows = r.y0.abs_diff(r.y1) / side as u64;
+    columns
+        .saturating_add(1)
+        .saturating_mul(rows.saturating_add(1))
+}
+
+/// Whether so small cells are many for the slabs.
+fn are_many(parts: &[Slabs], side: u32) -> bool
+    requires { 1 ≤ side }
+{
+    let mut met: u64 = 0;
+    let mut most = CELLS_MORE;
+    for part in parts {
+        for r in part.rects() {
+            met = met.saturating_add(cells(r, side));
+            most = most.saturating_add(CELLS_A_SLAB);
+        }
+    }
+    met > most
+}
+
+/// The side with which to lay tiles over a layer: `tile`, doubled while the slabs would meet many more cells than there are
+/// slabs. So a large shape isn't cut into more tiles than the layer has slabs to compare. Both sides are in database units.
+pub fn side_for(parts: &Parts, tile: u32) -> u32
+    requires { 1 ≤ tile }
+    ensures { tile ≤ result }
+{
+    let mut side = tile;
+    for _ in 0..31 {
+        if !are_many(parts.items(), side) {
+            return side;
+        }
+        side = side.saturating_mul(2);
+    }
+    side
+}
