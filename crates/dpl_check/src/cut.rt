@@ -29,7 +29,7 @@ pub(crate) fn cut_of(
     let features = features(alloc, layer)?;
     let zones = zones(alloc, &features, rule, overlap)?;
     let count = features.items().len() as u64;
-    let pieces = pieces(alloc, features, &zones)?;
+    let pieces = pieces(alloc, features, zones)?;
     Ok(LayerCut {
         features: count,
         pieces,

@@ -33,12 +33,12 @@ fn one(alloc: Global, corners: Corners) -> Result<Slabs, AllocError> {
             return Slabs::one(alloc, Rect { x0, y0, x1, y1 });
         }
     }
-    Slabs::of_rects(alloc, &[])
+    Slabs::of_rects(alloc, Vec::new(alloc))
 }
 
 /// The squares of some rectangles.
 pub fn set_of(alloc: Global, rects: &[Corners]) -> Result<Slabs, AllocError> {
-    let mut set = Slabs::of_rects(alloc, &[])?;
+    let mut set = Slabs::of_rects(alloc, Vec::new(alloc))?;
     for corners in rects {
         let next = one(alloc, *corners)?;
         set = set.union(alloc, &next)?;

@@ -29,7 +29,7 @@ fn bar(alloc: Global, x0: u16, y0: u16, x1: u16, y1: u16) -> Result<Slabs, Alloc
 fn cut(alloc: Global, layer: &Slabs) -> Result<Pieces, AllocError> {
     let features = features(alloc, layer)?;
     let zones = zones(alloc, &features, 30, 10)?;
-    pieces(alloc, features, &zones)
+    pieces(alloc, features, zones)
 }
 
 /// A long bar, and two that stand over its ends.

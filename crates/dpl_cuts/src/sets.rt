@@ -122,7 +122,9 @@ fn sets_are_combined(rt: HostRuntime) -> Result<(), Fail> {
 #[test]
 fn sets_tell_their_squares(rt: HostRuntime) -> Result<(), Fail> {
     let left = put_together(rt.alloc(), Together::Minus)?;
-    assert!(rt; left.equal(&Slabs::of_rects(rt.alloc(), left.rects())?));
+    assert!(rt;
+        left.equal(&Slabs::of_rects(rt.alloc(), Vec::from_slice(rt.alloc(), left.rects())?)?)
+    );
     assert_eq!(rt; left.least(), Some(Pt { x: 0, y: 0 }));
     assert!(rt; left.has(9, 4));
     assert!(rt; !left.has(5, 5));

@@ -1,5 +1,5 @@
-//! Tall strips, which are swept slice by slice.
-ghost use Rattle.std.specs.Prelude.{IfOk, OnOk};
+//! Tall strips, which are swept slice by slice, block by block or at once.
+ghost use Rattle.std.specs.Prelude.{◌≤◌, IfOk, OnOk};
 ghost use Rattle.dpl_spec.specs.Loops.{farthest, IsRectWithin, AreRectsWithin};
 
 use dpl_base::Rect;
@@ -7,50 +7,84 @@ use dpl_slabs::Slabs;
 use std::alloc::{AllocError, Global};
 use std::test::Fail;
 
-/// One of the rectangles of a stair: each lies a little further right and up than the one before it.
-fn step(k: u16) -> Rect
+/// How far right a rectangle of a stair begins.
+fn left_of(pace: u8, k: u16) -> u32
+    ensures { result ≤ 2000000 }
+{
+    let pair = 2 * pace as u32 * (k / 2) as u32;
+    (pair + 50 * (k % 2) as u32).min(2_000_000)
+}
+
+/// One of the rectangles of a stair of pairs: each pair lies twice `pace` further right than the one before it, and each rectangle a little further up.
+fn step(pace: u8, k: u16) -> Rect
     ensures { IsRectWithin farthest result }
 {
     let at = k as i64;
+    let left = left_of(pace, k) as i64;
     Rect {
-        x0: at,
+        x0: left,
         y0: 2 * at,
-        x1: at + 300,
+        x1: left + 200,
         y1: 2 * at + 5000,
     }
 }
 
 /// Adds a rectangle of a stair.
-fn add_step(rects: &mut Vec<Rect>, k: u16) -> Result<(), AllocError>
+fn add_step(rects: &mut Vec<Rect>, pace: u8, k: u16) -> Result<(), AllocError>
     requires { AreRectsWithin farthest rects.old.items }
     ensures { OnOk result (AreRectsWithin farthest rects.new.items) }
 {
-    rects.push(step(k))?;
+    rects.push(step(pace, k))?;
+    Ok(())
+}
+
+/// Adds the bar below a stair.
+fn add_bar(rects: &mut Vec<Rect>) -> Result<(), AllocError>
+    requires { AreRectsWithin farthest rects.old.items }
+    ensures { OnOk result (AreRectsWithin farthest rects.new.items) }
+{
+    rects.push(BELOW)?;
     Ok(())
 }
 
 /// The rectangles of a stair from one number up to another.
-fn stair(alloc: Global, from: u16, to: u16) -> Result<Vec<Rect>, AllocError>
+fn stair(alloc: Global, pace: u8, from: u16, to: u16) -> Result<Vec<Rect>, AllocError>
     ensures { IfOk result (λ v. AreRectsWithin farthest v.items) }
 {
     let mut rects = Vec::new(alloc);
     for k in from..to {
-        add_step(&mut rects, k)?;
+        add_step(&mut rects, pace, k)?;
     }
     Ok(rects)
 }
 
-/// The squares of both halves of a stair, each of which is swept at once.
-fn halves(alloc: Global) -> Result<Slabs, AllocError> {
-    let low = Slabs::of_rects(alloc, &stair(alloc, 0, 2500)?)?;
-    let high = Slabs::of_rects(alloc, &stair(alloc, 2500, 5000)?)?;
-    low.union(alloc, &high)
+/// A bar below all of a stair, as long as the longest one. By it there is no column between the stair's rectangles.
+const BELOW: Rect = Rect {
+    x0: 0,
+    y0: -20,
+    x1: 1_250_000,
+    y1: -10,
+};
+
+/// The squares of a stair from one number up to another, and where that is asked for those of the bar below it.
+fn squares(alloc: Global, pace: u8, from: u16, to: u16, barred: bool) -> Result<Slabs, AllocError> {
+    let mut rects = stair(alloc, pace, from, to)?;
+    if barred {
+        add_bar(&mut rects)?;
+    }
+    Slabs::of_rects(alloc, rects)
 }
 
 #[test]
 fn slices_make_the_slabs_of_one_sweep(rt: HostRuntime) -> Result<(), Fail> {
-    let whole = Slabs::of_rects(rt.alloc(), &stair(rt.alloc(), 0, 5000)?)?;
-    assert_eq!(rt; whole.rects().len(), 7499);
-    assert!(rt; whole.equal(&halves(rt.alloc())?));
+    // Rectangles that overlap are swept slice by slice, and wires that stand apart block by block, or at once with a bar below them.
+    for (pace, barred, count) in [(1, false, 5001), (250, false, 7500), (250, true, 7501)] {
+        let whole = squares(rt.alloc(), pace, 0, 5000, barred)?;
+        assert_eq!(rt; whole.rects().len(), count);
+        // The halves are swept at once.
+        let low = squares(rt.alloc(), pace, 0, 2500, barred)?;
+        let high = squares(rt.alloc(), pace, 2500, 5000, barred)?;
+        assert!(rt; whole.equal(&low.union(rt.alloc(), &high)?));
+    }
     Ok(())
 }

@@ -51,7 +51,7 @@ fn mask(
         colours.items(),
         letter,
     )?;
-    let slabs = Slabs::of_rects(alloc, &rects)?;
+    let slabs = Slabs::of_rects(alloc, rects)?;
     Ok(slabs)
 }
 

@@ -19,18 +19,17 @@ use dpl_slabs::Parts;
 use std::alloc::{AllocError, Global};
 
 /// The pieces that the zones of features leave of them. A feature without a zone is moved, as it is.
-pub fn pieces(alloc: Global, features: Parts, zones: &[Zone]) -> Result<Pieces, AllocError>
+pub fn pieces(alloc: Global, features: Parts, zones: Vec<Zone>) -> Result<Pieces, AllocError>
     requires features { AreFeatures features }
-    requires zones { AreTheirZones features zones.now }
-    ensures zones { IfOk result (λ p. p.zones ≡ zones.now) }
-    ensures pieces { IfOk result (λ p. AreTheirPieces features zones.now p) }
+    requires zones { AreTheirZones features zones.items }
+    ensures zones { IfOk result (λ p. p.zones ≡ zones.items) }
+    ensures pieces { IfOk result (λ p. AreTheirPieces features zones.items p) }
 {
-    let Woven { parts, origins } = parts_of(alloc, features.into_vec(), zones)?;
+    let Woven { parts, origins } = parts_of(alloc, features.into_vec(), &zones)?;
     let parts = Parts::of(parts);
-    let sides = sides_of(alloc, parts.items(), &origins, zones)?;
-    let owner = owners_of(alloc, &origins, zones, &sides)?;
+    let sides = sides_of(alloc, parts.items(), &origins, &zones)?;
+    let owner = owners_of(alloc, &origins, &zones, &sides)?;
     drop(origins);
     let keys = keys_of(alloc, parts.items())?;
-    let zones = Vec::from_slice(alloc, zones)?;
     Ok(Pieces::of(parts, owner, keys, zones, sides))
 }

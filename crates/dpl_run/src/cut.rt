@@ -49,7 +49,7 @@ pub(crate) fn cut_of(
     drop(layer);
     let zones = zones(alloc, &features, rule, overlap)?;
     let count = features.items().len() as u64;
-    let pieces = pieces(alloc, features, &zones)?;
+    let pieces = pieces(alloc, features, zones)?;
     Ok(LayerCut {
         features: count,
         pieces,
@@ -73,7 +73,7 @@ pub(crate) fn head(cut: &LayerCut, rule: u32, overlap: u32) -> Head
     }
 }
 
-/// The tiles of the pieces.
+/// The tiles of the pieces, whose side is `tile` or longer.
 pub(crate) fn tiles_of<'a>(
     alloc: Global,
     pieces: &'a Pieces,
@@ -82,7 +82,7 @@ pub(crate) fn tiles_of<'a>(
 ) -> Result<EdgeJob<'a>, AllocError>
     requires rule { IsRule rule }
     requires tile { IsTile tile }
-    ensures { IfOk result (λ job. (side : ℕ) × (1 ≤ side) × IsPlan pieces.now.parts pieces.now.owners rule side job.plan) }
+    ensures { IfOk result (λ job. (side : ℕ) × (tile ≤ side) × IsPlan pieces.now.parts pieces.now.owners rule side job.plan) }
 {
     let side = side_for(pieces.parts(), tile);
     let plan = plan(alloc, pieces.parts(), pieces.owner(), rule, side)?;

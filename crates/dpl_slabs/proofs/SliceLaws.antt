@@ -19,7 +19,7 @@ use Rattle.dpl_spec.proofs.SlabLaws.{Covers-member, member-Covers}
 use Rattle.dpl_sweep.specs.Pieces.{AreApart}
 use Rattle.dpl_sweep.proofs.JoinLaws.{covers-same}
 use Rattle.dpl_slabs.specs.Rows.{IsRow}
-use Rattle.dpl_slabs.specs.Slices.{InRows, IsPartOf, IsBar, ArePartsOf, AddsPart, AddsBars, ArePiecesBelow}
+use Rattle.dpl_slabs.specs.Slices.{InRows, IsPartOf, IsBar, ArePartsOf, AddsPart, AddsBars, ArePiecesBelow, ArePiecesOf}
 use Rattle.dpl_slabs.proofs.LoopLaws.{covers-pushed, covers-appended, rects-appended}
 use Rattle.dpl_slabs.proofs.SetLaws.{rects-none, rects-more, slabs-of-same}
 use Rattle.dpl_slabs.proofs.RowLaws.{covers-step, within-slabs}
@@ -223,11 +223,11 @@ pieces-none low rects low_is w = record {
 }
 
 -- above all rectangles
-pub pieces-all : (row : ℤ) (rects pieces slabs : List Rect) → pos farthest <ℤ row → AreRectsWithin farthest rects → ArePiecesBelow row rects pieces → AreSlabsOf (Covers pieces) slabs → AreSlabsOf (Covers rects) slabs
-pieces-all row rects pieces slabs over w b s =
-    slabs-of-same (Covers pieces) (Covers rects) slabs
-    (λ p. (
-      (λ c. ((b.covers p).0 c).0),
-      λ c. (b.covers p).1 (c, (let (r, r_in, has) = member-Covers rects p c in let a = (w r r_in).high in let h = has.high in omega (arith, ints, over, a, h))),
-    ))
-    s
+pub pieces-all : (row : ℤ) (rects pieces : List Rect) → pos farthest <ℤ row → AreRectsWithin farthest rects → ArePiecesBelow row rects pieces → ArePiecesOf rects pieces
+pieces-all row rects pieces over w b = record {
+  apart = b.apart;
+  covers = λ p. (
+    (λ c. ((b.covers p).0 c).0),
+    λ c. (b.covers p).1 (c, (let (r, r_in, has) = member-Covers rects p c in let a = (w r r_in).high in let h = has.high in omega (arith, ints, over, a, h))),
+  );
+}

@@ -23,7 +23,7 @@ use Rattle.dpl_sweep.proofs.JoinLaws.{covers-same}
 use Rattle.dpl_sweep.specs.Orders.{CornerBefore, CornersRise}
 use Rattle.dpl_slabs.specs.Strips.{LieBelow, AddsStrip, AreStripsOf}
 use Rattle.dpl_slabs.proofs.LoopLaws.{covers-appended, rects-appended}
-use Rattle.dpl_slabs.proofs.SetLaws.{rects-none}
+use Rattle.dpl_slabs.proofs.SetLaws.{rects-none, slabs-of-same}
 
 -- a relation of all pairs of two lists
 pub AllPairs-append : {X : Type 0} (R : X → X → Type 0) (xs ys : List X) → AllPairs R xs → AllPairs R ys → ((x y : X) → Contains xs x → Contains ys y → R x y) → AllPairs R (xs ++ ys)
@@ -84,21 +84,28 @@ adds-strip old more strip c below a w =
       ];
     }
 
-pub strips-none : (rects sorted : List Rect) → IsPermutation rects sorted → CornersRise sorted → AreRectsWithin farthest rects → AreStripsOf rects [] sorted
-strips-none rects sorted same rise w =
+-- rectangles in another order
+pub sorted-within : (rects sorted : List Rect) → IsPermutation rects sorted → AreRectsWithin farthest rects → AreRectsWithin farthest sorted
+sorted-within rects sorted same w r r_in = w r (Contains-permutation sorted rects r (IsPermutation-sym rects sorted same) r_in)
+
+pub sorted-slabs : (rects sorted slabs : List Rect) → IsPermutation rects sorted → AreSlabsOf (Covers sorted) slabs → AreSlabsOf (Covers rects) slabs
+sorted-slabs rects sorted slabs same s = slabs-of-same (Covers sorted) (Covers rects) slabs (λ p. ((covers-same rects sorted same p).1, (covers-same rects sorted same p).0)) s
+
+pub strips-none : (rects : List Rect) → CornersRise rects → AreRectsWithin farthest rects → AreStripsOf rects [] rects
+strips-none rects rise w =
     record {
       canonical = record { solid = λ i d k. absurd (omega (arith, k)); follow = λ i j d l k. absurd (omega (arith, k)) };
       covers = λ p. (
-        (λ h. elim h [ inl c ↦ absurd (let found = member-Covers [] p c in Contains-nil found.0 found.1) | inr c ↦ (covers-same rects sorted same p).1 c ]),
-        λ c. inr ((covers-same rects sorted same p).0 c),
+        (λ h. elim h [ inl c ↦ absurd (let found = member-Covers [] p c in Contains-nil found.0 found.1) | inr c ↦ c ]),
+        λ c. inr c,
       );
       within = rects-none farthest;
-      rest_within = λ r r_in. w r (Contains-permutation sorted rects r (IsPermutation-sym rects sorted same) r_in);
+      rest_within = w;
       rise = rise;
       below = λ r s r_in s_in. absurd (Contains-nil r r_in);
     }
 
-rise-drop : (n : ℕ) (rs : List Rect) → CornersRise rs → CornersRise (drop n rs)
+pub rise-drop : (n : ℕ) (rs : List Rect) → CornersRise rs → CornersRise (drop n rs)
 rise-drop n rs rise i j d l j_in =
     let len = length-drop n rs in
     let h = rise (n + i) (n + j) d (omega (arith, l)) (omega (arith, len, j_in)) in
@@ -116,7 +123,7 @@ corner-above : (a b : Rect) → CornerBefore a b → a.y0 ≤ℤ b.y0
 corner-above a b (inl l) = omega (arith, ints, l)
 corner-above a b (inr (e, l)) = omega (arith, ints, e)
 
-covers-parts : (strip others rest : List Rect) (p : Pt) → strip ++ others ≡ rest → Covers rest p → Covers strip p ⊎ Covers others p
+pub covers-parts : (strip others rest : List Rect) (p : Pt) → strip ++ others ≡ rest → Covers rest p → Covers strip p ⊎ Covers others p
 covers-parts strip others rest p e c =
     let (r, r_in, has) = member-Covers rest p c in
     elim (Contains-append_cases strip others r (subst (λ xs. Contains xs r) (sym e) r_in)) [
@@ -124,10 +131,10 @@ covers-parts strip others rest p e c =
       | inr h ↦ inr (Covers-member others r p h has)
     ]
 
-left-in : (strip others rest : List Rect) (r : Rect) → strip ++ others ≡ rest → Contains strip r → Contains rest r
+pub left-in : (strip others rest : List Rect) (r : Rect) → strip ++ others ≡ rest → Contains strip r → Contains rest r
 left-in strip others rest r e r_in = subst (λ xs. Contains xs r) e (Contains-append_left strip others r r_in)
 
-right-in : (strip others rest : List Rect) (r : Rect) → strip ++ others ≡ rest → Contains others r → Contains rest r
+pub right-in : (strip others rest : List Rect) (r : Rect) → strip ++ others ≡ rest → Contains others r → Contains rest r
 right-in strip others rest r e r_in = subst (λ xs. Contains xs r) e (Contains-append_right strip others r r_in)
 
 -- what a strip of the rest is

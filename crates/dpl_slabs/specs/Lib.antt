@@ -5,3 +5,4 @@ pub mod Parts
 pub mod Strips
 pub mod Rows
 pub mod Slices
+pub mod Blocks

@@ -47,3 +47,8 @@ pub record ArePiecesBelow (row : ℤ) (rects pieces : List Rect) : Type 0 where
   pub apart : AreApart pieces
   pub under : (r : Rect) → Contains pieces r → r.y1 ≤ℤ row
   pub covers : (p : Pt) → Covers pieces p ↔ (Covers rects p × (p.y <ℤ row))
+
+-- pieces of all of the squares
+pub record ArePiecesOf (rects pieces : List Rect) : Type 0 where
+  pub apart : AreApart pieces
+  pub covers : (p : Pt) → Covers pieces p ↔ Covers rects p

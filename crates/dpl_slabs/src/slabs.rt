@@ -7,9 +7,9 @@ ghost use Rattle.dpl_spec.specs.Zones.{at, turned};
 
 use crate::combine::{combine, exchanged};
 use crate::loops::rects_of_loops;
-use crate::strips::slabs_of_rects;
+use crate::strips::{slabs_by_rows, slabs_of_rects};
 use dpl_base::{Loop, Pt, Rect};
-use dpl_sweep::Rule;
+use dpl_sweep::{Rule, sort_by_corner};
 use smallvec::SmallVec;
 use std::alloc::{AllocError, Global};
 use std::marker::Model;
@@ -92,13 +92,12 @@ impl Slabs {
     }
 
     /// The squares of rectangles, in any order, that may overlap.
-    pub fn of_rects(alloc: Global, rects: &[Rect]) -> Result<Slabs, AllocError>
-        requires { AreRectsWithin farthest rects.now }
-        ensures { IfOk result (λ s. AreSlabsOf (Covers rects.now) s) }
+    pub fn of_rects(alloc: Global, rects: Vec<Rect>) -> Result<Slabs, AllocError>
+        requires { AreRectsWithin farthest rects.items }
+        ensures { IfOk result (λ s. AreSlabsOf (Covers rects.items) s) }
     {
-        let all = Vec::from_slice(alloc, rects)?;
-        let rects = slabs_of_rects(alloc, all)?;
-        Ok(Slabs::of_canonical(rects))
+        let slabs = slabs_of_rects(alloc, rects)?;
+        Ok(Slabs::of_canonical(slabs))
     }
 
     /// The squares of rectangles that none of the holes has.
@@ -188,11 +187,12 @@ impl Slabs {
         ensures slabs { IfOk result (λ v. AreSlabsOf (turned (Covers self.now)) v.items) }
         ensures within { IfOk result (λ v. AreRectsWithin farthest v.items) }
     {
-        let turned = exchanged(alloc, self.rects())?;
+        let mut turned = exchanged(alloc, self.rects())?;
         if turned.len() == 1 {
             return Ok(turned);
         }
-        let rects = slabs_of_rects(alloc, turned)?;
+        sort_by_corner(&mut turned);
+        let rects = slabs_by_rows(alloc, &turned)?;
         Ok(rects)
     }
 

@@ -1,20 +1,23 @@
-//! The slabs of a tall strip, slice by slice of its rows. What reaches through a slice is put together by columns first, so that a sweep holds no more than what begins or ends there.
-ghost use Rattle.std.specs.Prelude.{◌≤ℤ◌, IfOk, OnOk};
+//! A tall strip, slice by slice of its rows. What reaches through a slice is put together by columns first, so that a sweep holds what begins or ends there, and of the rest only what touches nothing.
+ghost use Rattle.std.specs.Prelude.{◌≤ℤ◌, IfOk, IfSome, OnOk};
 ghost use Rattle.std.specs.List.{Contains};
 ghost use Rattle.dpl_spec.specs.declared.Rect.{Rect};
 ghost use Rattle.dpl_spec.specs.Squares.{Covers};
 ghost use Rattle.dpl_spec.specs.Slabs.{AreSlabsOf};
 ghost use Rattle.dpl_spec.specs.Loops.{farthest, IsRectWithin, AreRectsWithin};
-ghost use Rattle.dpl_slabs.specs.Slices.{InRows, IsPartOf, IsBar, AddsPart, AddsBars, ArePiecesBelow};
+ghost use Rattle.dpl_slabs.specs.Slices.{InRows, IsPartOf, IsBar, AddsPart, AddsBars, ArePiecesBelow, ArePiecesOf};
 
 use crate::combine::combine;
 use crate::row::slabs_of_row;
 use dpl_base::{FARTHEST, Rect};
-use dpl_sweep::{Rule, slabs_of, sort_by_corner};
+use dpl_sweep::{Rule, sort_by_corner};
 use std::alloc::{AllocError, Global};
 
-/// How many slices a strip is cut into, or one more.
+/// How many slices a strip is cut into at most.
 const SLICES: usize = 16;
+
+/// How many pieces there may be for each rectangle. Wires that stand apart, or cross others, and reach through many slices have one or more in each.
+const PIECES: usize = 3;
 
 /// A row above all rectangles.
 const TOP: i64 = FARTHEST + 1;
@@ -132,19 +135,21 @@ fn cuts(alloc: Global, rects: &[Rect]) -> Result<Vec<i64>, AllocError> {
     Ok(cuts)
 }
 
-/// The canonical slabs of rectangles, in any order, that may overlap.
-pub fn slabs_of_slices(alloc: Global, rects: &[Rect]) -> Result<Vec<Rect>, AllocError>
+/// Pieces of the rectangles' squares, of which no two share one, or none where slices would make too many of them.
+pub fn pieces_of_slices(alloc: Global, rects: &[Rect]) -> Result<Option<Vec<Rect>>, AllocError>
     requires { AreRectsWithin farthest rects.now }
-    ensures slabs { IfOk result (λ v. AreSlabsOf (Covers rects.now) v.items) }
-    ensures within { IfOk result (λ v. AreRectsWithin farthest v.items) }
+    ensures { IfOk result (λ found. IfSome found (λ v. ArePiecesOf rects.now v.items)) }
 {
     let cuts = cuts(alloc, rects)?;
+    let most = rects.len().saturating_mul(PIECES);
     let mut pieces = Vec::new(alloc);
     let mut low = -FARTHEST;
     for &cut in &cuts {
         low = add_slice(alloc, &mut pieces, rects, low, cut)?;
+        if pieces.len() > most {
+            return Ok(None);
+        }
     }
     add_slice(alloc, &mut pieces, rects, low, TOP)?;
-    let slabs = slabs_of(alloc, pieces)?;
-    Ok(slabs)
+    Ok(Some(pieces))
 }

@@ -1,20 +1,22 @@
 //! The slabs of rectangles, strip by strip of rows.
-ghost use Rattle.std.specs.Prelude.{ℕ, ◌<◌, ◌≤◌, IfOk, OnOk, length, take, drop};
+ghost use Rattle.std.specs.Prelude.{ℕ, ◌<◌, ◌≤◌, IfOk, IfSome, OnOk, length, take, drop};
 ghost use Rattle.dpl_spec.specs.Squares.{Covers};
 ghost use Rattle.dpl_spec.specs.Slabs.{AreSlabsOf, IsCanonical};
 ghost use Rattle.dpl_spec.specs.Loops.{farthest, AreRectsWithin};
 ghost use Rattle.dpl_sweep.specs.Orders.{CornersRise};
+ghost use Rattle.dpl_slabs.specs.Slices.{ArePiecesOf};
 ghost use Rattle.dpl_slabs.specs.Strips.{LieBelow, AddsStrip};
 
+use crate::blocks::blocked;
 use crate::combine::combine;
 use crate::row::{is_row, slabs_of_row};
-use crate::slices::slabs_of_slices;
+use crate::slices::pieces_of_slices;
 use dpl_base::Rect;
-use dpl_sweep::{Rule, sort_by_corner};
+use dpl_sweep::{Rule, slabs_of, sort_by_corner};
 use std::alloc::{AllocError, Global};
 
 /// How many rectangles, which go by first row, are in the lowest strip: a row lies between them and all others, and between no fewer and the others.
-fn strip_length(rects: &[Rect]) -> usize
+pub fn strip_length(rects: &[Rect]) -> usize
     requires some { 0 < length rects.now }
     requires rise { CornersRise rects.now }
     ensures some { 0 < result }
@@ -33,7 +35,18 @@ fn strip_length(rects: &[Rect]) -> usize
 }
 
 /// From how many rectangles on a strip is swept slice by slice.
-const TALL: usize = 4096;
+pub const TALL: usize = 4096;
+
+/// The pieces of a strip's slices, or none where the strip is to be swept at once.
+fn sliced(alloc: Global, strip: &[Rect]) -> Result<Option<Vec<Rect>>, AllocError>
+    requires { AreRectsWithin farthest strip.now }
+    ensures { IfOk result (λ found. IfSome found (λ v. ArePiecesOf strip.now v.items)) }
+{
+    if strip.len() < TALL {
+        return Ok(None);
+    }
+    pieces_of_slices(alloc, strip)
+}
 
 /// The slabs of a strip: bars of one row are put together by column, all else is swept, where there are many of them slice by slice.
 fn slabs_of_strip(alloc: Global, strip: &[Rect]) -> Result<Vec<Rect>, AllocError>
@@ -47,8 +60,8 @@ fn slabs_of_strip(alloc: Global, strip: &[Rect]) -> Result<Vec<Rect>, AllocError
         let bars = slabs_of_row(alloc, strip)?;
         return Ok(bars);
     }
-    if strip.len() >= TALL {
-        let slabs = slabs_of_slices(alloc, strip)?;
+    if let Some(pieces) = sliced(alloc, strip)? {
+        let slabs = slabs_of(alloc, pieces)?;
         return Ok(slabs);
     }
     let slabs = combine(alloc, strip, &[], Rule::Either)?;
@@ -69,7 +82,24 @@ fn add_strip(alloc: Global, slabs: &mut Vec<Rect>, strip: &[Rect]) -> Result<(),
     Ok(())
 }
 
-/// The canonical slabs of rectangles, in any order, that may overlap.
+/// The canonical slabs of rectangles, which go by first row and may overlap, strip by strip.
+pub fn slabs_by_rows(alloc: Global, rects: &[Rect]) -> Result<Vec<Rect>, AllocError>
+    requires within { AreRectsWithin farthest rects.now }
+    requires rise { CornersRise rects.now }
+    ensures slabs { IfOk result (λ v. AreSlabsOf (Covers rects.now) v.items) }
+    ensures within { IfOk result (λ v. AreRectsWithin farthest v.items) }
+{
+    let mut slabs = Vec::with_capacity(alloc, rects.len())?;
+    let mut rest = rects;
+    while !rest.is_empty() {
+        let (strip, others) = rest.split_at(strip_length(rest));
+        add_strip(alloc, &mut slabs, strip)?;
+        rest = others;
+    }
+    Ok(slabs)
+}
+
+/// The canonical slabs of rectangles, in any order, that may overlap: block by block of columns where strips of rows would be tall.
 pub fn slabs_of_rects(alloc: Global, rects: Vec<Rect>) -> Result<Vec<Rect>, AllocError>
     requires { AreRectsWithin farthest rects.items }
     ensures slabs { IfOk result (λ v. AreSlabsOf (Covers rects.items) v.items) }
@@ -77,12 +107,11 @@ pub fn slabs_of_rects(alloc: Global, rects: Vec<Rect>) -> Result<Vec<Rect>, Allo
 {
     let mut rects = rects;
     sort_by_corner(&mut rects);
-    let mut slabs = Vec::with_capacity(alloc, rects.len())?;
-    let mut rest = rects.as_slice();
-    while !rest.is_empty() {
-        let (strip, others) = rest.split_at(strip_length(rest));
-        add_strip(alloc, &mut slabs, strip)?;
-        rest = others;
+    if let Some(pieces) = blocked(alloc, &rects)? {
+        drop(rects);
+        let slabs = slabs_of(alloc, pieces)?;
+        return Ok(slabs);
     }
+    let slabs = slabs_by_rows(alloc, &rects)?;
     Ok(slabs)
 }

@@ -75,5 +75,6 @@ pub(crate) fn places_of(
     add_parts(&mut places, grid, parts)?;
     places.sort_unstable();
     places.dedup();
+    places.shrink_to_fit();
     Ok(places)
 }

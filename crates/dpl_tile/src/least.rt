@@ -4,8 +4,8 @@ ghost use Rattle.std.specs.Prelude.{◌≤◌};
 use dpl_base::Rect;
 use dpl_slabs::{Parts, Slabs};
 
-/// How many cells a slab may meet, at the most on the average.
-const CELLS_A_SLAB: u64 = 4;
+/// How many cells a slab may meet on the average.
+const CELLS_A_SLAB: u64 = 2;
 
 /// How many cells more all slabs may meet.
 const CELLS_MORE: u64 = 65_536;
@@ -36,14 +36,18 @@ fn are_many(parts: &[Slabs], side: u32) -> bool
     met > most
 }
 
-/// The side with which to lay tiles over a layer: `tile`, doubled while the slabs would meet many more cells than there are
-/// slabs. So a large shape isn't cut into more tiles than the layer has slabs to compare. Both sides are in database units.
+/// How often a side of 1 is doubled before it is longer than the range of coordinates.
+const DOUBLINGS: u32 = 31;
+
+/// The side with which to lay tiles over a layer: `tile`, doubled while the slabs would meet more than about two cells
+/// a slab and 65,536 more. So a large shape isn't cut into many more tiles than the layer has slabs. Both sides are in
+/// database units.
 pub fn side_for(parts: &Parts, tile: u32) -> u32
     requires { 1 ≤ tile }
     ensures { tile ≤ result }
 {
     let mut side = tile;
-    for _ in 0..31 {
+    for _ in 0..DOUBLINGS {
         if !are_many(parts.items(), side) {
             return side;
         }

@@ -31,14 +31,40 @@ fn is_low(items: &[Item]) -> bool {
     count.saturating_mul(height(items)) <= width(items).saturating_mul(NEIGHBOURS)
 }
 
-/// Halves items that rise by rows until the halves are low stacks, and puts each of these in order of columns.
+/// Whether the bottoms of the first and the last item lie no farther apart than twice the items' height on the average, so that halves by rows would lie beside each other.
+fn is_of_tall_items(items: &[Item]) -> bool {
+    let mut heights: u64 = 0;
+    for item in items {
+        heights = heights.saturating_add(item.rect.y0.abs_diff(item.rect.y1));
+    }
+    (items.len() as u64).saturating_mul(height(items)) <= heights.saturating_mul(2)
+}
+
+/// Whether left sides lie no farther apart than twice the items' width on the average, so that halves by columns would lie over one another.
+fn is_of_wide_items(items: &[Item]) -> bool {
+    let mut widths: u64 = 0;
+    for item in items {
+        widths = widths.saturating_add(item.rect.x0.abs_diff(item.rect.x1));
+    }
+    (items.len() as u64).saturating_mul(width(items)) <= widths.saturating_mul(2)
+}
+
+/// Whether items that rise by rows lie farther apart when they go by columns.
+fn goes_by_columns(items: &[Item]) -> bool {
+    if is_of_wide_items(items) {
+        return false;
+    }
+    is_low(items) || is_of_tall_items(items)
+}
+
+/// Halves items that rise by rows until the halves are low stacks, or their items tall, and puts each of these in order of columns.
 fn arrange_stack(items: &mut [Item])
     ensures { IsPermutation items.old items.new }
 {
     if items.len() < 2 {
         return;
     }
-    if is_low(items) {
+    if goes_by_columns(items) {
         items.sort_unstable_by_key(|t| t.rect.x0);
         return;
     }

@@ -20,5 +20,4 @@ returns-clause-squares c =
     let second = subst (λ (zs : List Zone). Adds r1 r2 (in_zones (length zs) zs p.sides c.args.colours.now l)) c.zones.ensures.value
     (subst (λ (ss : List (ℕ × ℕ)). Adds r1 r2 (in_zones (length c.zones.result.now) c.zones.result.now ss c.args.colours.now l)) c.sides.ensures.value
     (subst (λ (cs : List Bool). Adds r1 r2 (in_zones (length c.zones.result.now) c.zones.result.now c.sides.result.now cs l)) c.items-3.ensures c.in_ok-add_zones.ensures.adds)) in
-    let slabs = subst (λ (rs : List Rect). AreSlabsOf (Covers rs) c.in_ok-slabs.slabs) c.deref.ensures.value c.in_ok-slabs.ensures in
-    mask_is p.parts p.zones p.sides c.args.colours.now l c.new-rects.result.items r1 r2 c.in_ok-slabs.slabs c.new-rects.ensures.items first second slabs
+    mask_is p.parts p.zones p.sides c.args.colours.now l c.new-rects.result.items r1 r2 c.in_ok-slabs.slabs c.new-rects.ensures.items first second c.in_ok-slabs.ensures

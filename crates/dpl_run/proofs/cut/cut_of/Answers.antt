@@ -1,10 +1,7 @@
-use Rattle.std.proofs.Common.{subst, List, sym, rules}
-use Rattle.dpl_spec.specs.declared.Zone.{Zone}
+use Rattle.std.proofs.Common.{subst, List, rules}
 use Rattle.std.specs.List.{All}
 use Rattle.dpl_spec.specs.declared.Rect.{Rect}
 use Rattle.dpl_spec.specs.Loops.{AreRectsWithin, farthest}
-use Rattle.dpl_spec.specs.Zones.{AreZones}
-use Rattle.dpl_slabs.specs.Parts.{union_of}
 use Rattle.dpl_check.proofs.Cuts.{is_cut}
 use Rattle.dpl_run.proofs.Cuts.{keys_within}
 use Rattle.dpl_run.proofs.cut.cut_of.Goals as goal
@@ -14,8 +11,8 @@ returns-clause-cut c =
     let features = c.in_ok-features.features in (
       features,
       search rules,
-      is_cut c.args.rule c.args.overlap c.args.layer c.in_ok-features.features c.deref.result.now c.in_ok-pieces.pieces c.in_ok-features.ensures (subst (λ (zs : List Zone). AreZones c.args.rule c.args.overlap (union_of c.in_ok-features.features) c.in_ok-features.features zs) (sym c.deref.ensures.value) c.in_ok-zones.ensures) c.in_ok-pieces.ensures.zones c.in_ok-pieces.ensures.pieces,
+      is_cut c.args.rule c.args.overlap c.args.layer c.in_ok-features.features c.in_ok-zones.zones.items c.in_ok-pieces.pieces c.in_ok-features.ensures c.in_ok-zones.ensures c.in_ok-pieces.ensures.zones c.in_ok-pieces.ensures.pieces,
     )
 
 pub returns-clause-keys : goal.returns-clause-keys
-returns-clause-keys c = λ p key. keys_within c.args.layer c.in_ok-features.features c.deref.result.now c.in_ok-pieces.pieces p c.in_ok-features.ensures (subst (λ (fs : List (List Rect)). All (AreRectsWithin farthest) fs) c.features-2.view_is c.features-2.invariant.within) c.in_ok-pieces.ensures.pieces key
+returns-clause-keys c = λ p key. keys_within c.args.layer c.in_ok-features.features c.in_ok-zones.zones.items c.in_ok-pieces.pieces p c.in_ok-features.ensures (subst (λ (fs : List (List Rect)). All (AreRectsWithin farthest) fs) c.features-2.view_is c.features-2.invariant.within) c.in_ok-pieces.ensures.pieces key

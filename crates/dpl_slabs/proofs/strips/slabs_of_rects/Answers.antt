@@ -1,30 +1,24 @@
-use Rattle.std.proofs.Common.{arith}
-use Rattle.dpl_slabs.proofs.StripLaws.{strips-none, strips-next, strips-all, strip-within, strip-above, rise-take}
+use Rattle.dpl_spec.specs.Loops.{farthest}
+use Rattle.dpl_slabs.proofs.RowLaws.{within-slabs}
+use Rattle.dpl_slabs.proofs.StripLaws.{sorted-within, sorted-slabs}
+use Rattle.dpl_slabs.proofs.BlockLaws.{pieces-slabs}
 use Rattle.dpl_slabs.proofs.strips.slabs_of_rects.Goals as goal
 
-pub loop-rest-init : goal.loop-rest-init
-loop-rest-init c = rw (c.in_ok-slabs.ensures.items, c.as_slice-rest.ensures.value) (strips-none c.args.rects.items _ c.sort_by_corner.ensures.same c.sort_by_corner.ensures.rise c.requires)
+pub blocked-requires-clause-within : goal.blocked-requires-clause-within
+blocked-requires-clause-within c = rw c.deref.ensures.value (sorted-within c.args.rects.items _ c.sort_by_corner.ensures.same c.requires)
 
-pub add_strip-requires-clause-some : goal.add_strip-requires-clause-some
-add_strip-requires-clause-some c =
-    let some = c.strip_length.ensures.some in
-    let within = c.strip_length.ensures.within in
-    let len = c.split_at.ensures.front_len in
-    omega (arith, some, within, len)
+pub slabs_by_rows-requires-clause-within : goal.slabs_by_rows-requires-clause-within
+slabs_by_rows-requires-clause-within c = rw c.deref-2.ensures.value (sorted-within c.args.rects.items _ c.sort_by_corner.ensures.same c.requires)
 
-pub add_strip-requires-clause-rise : goal.add_strip-requires-clause-rise
-add_strip-requires-clause-rise c = rw c.split_at.ensures.front (rise-take c.strip_length.result _ c.loop-rest.invariant.rise)
+pub returns-in-Some-clause-slabs : goal.returns-in-Some-clause-slabs
+returns-in-Some-clause-slabs c =
+    let pieces = rw (c.in-Some.is, c.deref.ensures.value) at c.in_ok-pieces.ensures in
+    pieces-slabs c.args.rects.items _ _ _ c.sort_by_corner.ensures.same pieces c.in_ok-slabs.ensures
 
-pub add_strip-requires-clause-below : goal.add_strip-requires-clause-below
-add_strip-requires-clause-below c = rw c.split_at.ensures.front (strip-above c.args.rects.items _ _ c.strip_length.result c.loop-rest.invariant)
-
-pub add_strip-requires-clause-within : goal.add_strip-requires-clause-within
-add_strip-requires-clause-within c = rw c.split_at.ensures.front (strip-within c.args.rects.items _ _ c.strip_length.result c.loop-rest.invariant)
-
-pub loop-rest-preserved : goal.loop-rest-preserved
-loop-rest-preserved c =
-    let adds = rw c.split_at.ensures.front at c.in_ok-add_strip.ensures in
-    rw c.split_at.ensures.back (strips-next c.args.rects.items _ _ c.strip_length.result c.loop-rest.invariant _ c.strip_length.ensures.below adds)
+pub returns-in-Some-clause-within : goal.returns-in-Some-clause-within
+returns-in-Some-clause-within c = within-slabs farthest c.args.rects.items _ c.requires (returns-in-Some-clause-slabs c)
 
 pub returns-clause-slabs : goal.returns-clause-slabs
-returns-clause-slabs c = strips-all c.args.rects.items _ _ (let h = c.is_empty.ensures in grind arith) c.loop-rest.invariant
+returns-clause-slabs c =
+    let slabs = rw c.deref-2.ensures.value at c.in_ok-slabs-2.ensures.slabs in
+    sorted-slabs c.args.rects.items _ _ c.sort_by_corner.ensures.same slabs

@@ -11,6 +11,14 @@ use Rattle.dpl_slabs.proofs.strips.slabs_of_strip.Goals as goal
 pub returns-then-is_row-clause-within : goal.returns-then-is_row-clause-within
 returns-then-is_row-clause-within c = within-slabs farthest c.args.strip.now _ c.requires.within c.in_ok-bars.ensures
 
+pub returns-in-Some-clause-slabs : goal.returns-in-Some-clause-slabs
+returns-in-Some-clause-slabs c =
+    let pieces = rw c.in-Some.is at c.in_ok-pieces.ensures in
+    slabs-of-same (Covers c.in-Some.pieces.items) (Covers c.args.strip.now) _ pieces.covers c.in_ok-slabs.ensures
+
+pub returns-in-Some-clause-within : goal.returns-in-Some-clause-within
+returns-in-Some-clause-within c = within-slabs farthest c.args.strip.now _ c.requires.within (returns-in-Some-clause-slabs c)
+
 pub returns-clause-slabs : goal.returns-clause-slabs
 returns-clause-slabs c =
     let strip = c.args.strip.now in

@@ -13,7 +13,7 @@ returns c =
     let count = c.in_ok-add_parts.ensures.count in
     let len = c.sort_unstable.ensures.len in
     let bound = c.dedup.ensures.bound in
-    record {
+    rw c.shrink_to_fit.ensures.items record {
       ordered = pairs-ordered (IsMetByPart c.args.grid.now c.args.parts.now) _ _ _ all c.sort_unstable.ensures.permutation c.sort_unstable.ensures.sorted once;
       exactly = pairs-members (IsMetByPart c.args.grid.now c.args.parts.now) _ _ _ all c.sort_unstable.ensures.permutation c.sort_unstable.ensures.sorted once;
       few = omega (arith, zero_is, count, len, bound);

@@ -3,15 +3,19 @@ use Rattle.dpl_spec.specs.Squares.{Covers}
 use Rattle.dpl_spec.specs.Zones.{turned}
 use Rattle.dpl_slabs.specs.Cells.{turned_rects}
 use Rattle.dpl_slabs.proofs.SetLaws.{covers-turned, turned-one, turned-within, slabs-of-same}
+use Rattle.dpl_slabs.proofs.StripLaws.{sorted-within, sorted-slabs}
 use Rattle.dpl_slabs.proofs.slabs.Slabs.columns.Goals as goal
 
 pub returns-clause-slabs : goal.returns-clause-slabs
 returns-clause-slabs c =
-    let s = rw (c.in_ok-turned.ensures, c.rects.ensures.value) at c.in_ok-rects.ensures.slabs in
+    let same = rw (c.in_ok-turned.ensures, c.rects.ensures.value) at c.sort_by_corner.ensures.same in
+    let s = sorted-slabs (turned_rects c.args.self.now) _ _ same (rw c.deref.ensures.value at c.in_ok-rects.ensures.slabs) in
     slabs-of-same (Covers (turned_rects c.args.self.now)) (turned (Covers c.args.self.now)) _ (covers-turned c.args.self.now) s
 
-pub slabs_of_rects-requires : goal.slabs_of_rects-requires
-slabs_of_rects-requires c = rw (c.in_ok-turned.ensures, c.rects.ensures.value) (turned-within 1000000000 c.args.self.now c.rects.ensures.within)
+pub slabs_by_rows-requires-clause-within : goal.slabs_by_rows-requires-clause-within
+slabs_by_rows-requires-clause-within c =
+    let same = rw (c.in_ok-turned.ensures, c.rects.ensures.value) at c.sort_by_corner.ensures.same in
+    rw c.deref.ensures.value (sorted-within (turned_rects c.args.self.now) _ same (turned-within 1000000000 c.args.self.now c.rects.ensures.within))
 
 pub returns-then-len-eq1-clause-slabs : goal.returns-then-len-eq1-clause-slabs
 returns-then-len-eq1-clause-slabs c =

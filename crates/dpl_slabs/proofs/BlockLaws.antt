@@ -1,0 +1,130 @@
+-- Pieces of blocks put together.
+use Rattle.std.proofs.Common.{◌≡◌, ℕ, ◌≤◌, ◌⊎◌, inl, inr, List, [], ◌∷◌, ◌++◌, length, take, drop, arith}
+use Rattle.std.specs.Prelude.{pos, ◌-ℤ◌, ◌≤ℤ◌, ◌<ℤ◌}
+use Rattle.std.specs.List.{Contains}
+use Rattle.std.specs.List.Sorted.{IsPermutation}
+use Rattle.std.proofs.lemmas.Int.{ints}
+use Rattle.std.proofs.lemmas.List.{take-append-drop}
+use Rattle.std.proofs.lemmas.List.Elements.{All-append, All-contains, Contains-append_cases}
+use Rattle.dpl_spec.specs.declared.Pt.{Pt}
+use Rattle.dpl_spec.specs.declared.Rect.{Rect}
+use Rattle.dpl_spec.specs.Squares.{Covers}
+use Rattle.dpl_spec.specs.Slabs.{IsSolid, ShareRow, StandApart, AreSlabsOf}
+use Rattle.dpl_spec.specs.Loops.{farthest, AreRectsWithin}
+use Rattle.dpl_spec.specs.Zones.{at, turned}
+use Rattle.dpl_spec.proofs.Ordered.{Contains-nil}
+use Rattle.dpl_spec.proofs.SlabLaws.{Covers-member, member-Covers}
+use Rattle.dpl_sweep.specs.Orders.{CornersRise}
+use Rattle.dpl_sweep.specs.Pieces.{AreApart}
+use Rattle.dpl_sweep.proofs.JoinLaws.{covers-same}
+use Rattle.dpl_slabs.specs.Blocks.{LieLeft, AddsBlock, AreBlocksOf}
+use Rattle.dpl_slabs.specs.Cells.{turned_rects}
+use Rattle.dpl_slabs.specs.Slices.{ArePiecesOf}
+use Rattle.dpl_slabs.specs.Strips.{LieBelow}
+use Rattle.dpl_slabs.proofs.LoopLaws.{covers-appended}
+use Rattle.dpl_slabs.proofs.SetLaws.{covers-turned, turned-within, slabs-of-same}
+use Rattle.dpl_slabs.proofs.StripLaws.{AllPairs-append, covers-parts, left-in, right-in, rise-drop, sorted-within, sorted-slabs}
+
+-- where the slabs of a block lie
+module _ (block slabs : List Rect) (s : AreSlabsOf (Covers (turned_rects block)) slabs) where
+  slab-left : (t : Rect) → Contains slabs t → (r : Rect) × Contains block r × (r.y0 ≤ℤ t.x0)
+  slab-left t t_in =
+      let solid : IsSolid t = All-contains IsSolid slabs t s.canonical.solid t_in in
+      let wide = solid.wide in
+      let tall = solid.tall in
+      let first : Pt = record { x = t.x0; y = t.y0 } in
+      let c = (s.covers first).0 (Covers-member slabs t first t_in (record { left = omega (arith, ints); right = wide; low = omega (arith, ints); high = tall })) in
+      let (r, r_in, has) = member-Covers block (at t.y0 t.x0) ((covers-turned block first).0 c) in
+      (r, r_in, has.low)
+
+  slab-right : (t : Rect) → Contains slabs t → (r : Rect) × Contains block r × (t.x1 ≤ℤ r.y1)
+  slab-right t t_in =
+      let solid : IsSolid t = All-contains IsSolid slabs t s.canonical.solid t_in in
+      let wide = solid.wide in
+      let tall = solid.tall in
+      let last : Pt = record { x = t.x1 -ℤ pos 1; y = t.y0 } in
+      let c = (s.covers last).0 (Covers-member slabs t last t_in (record { left = omega (arith, ints, wide); right = omega (arith, ints); low = omega (arith, ints); high = tall })) in
+      let (r, r_in, has) = member-Covers block (at t.y0 (t.x1 -ℤ pos 1)) ((covers-turned block last).0 c) in
+      let h = has.high in
+      (r, r_in, omega (arith, ints, h))
+
+pub adds-block : (old slabs sorted block : List Rect) → IsPermutation (turned_rects block) sorted → AreApart old → LieLeft old block → AreSlabsOf (Covers sorted) slabs → AddsBlock old (old ++ slabs) block
+adds-block old slabs sorted block same a left by = record {
+  apart = record {
+    solid = All-append IsSolid old slabs a.solid s.canonical.solid;
+    apart = AllPairs-append (λ r t. ShareRow r t → StandApart r t) old slabs a.apart (λ i j d l k. (s.canonical.follow i j d l k).apart)
+        (λ r t r_in t_in share. (let (q, q_in, l) = slab-left block slabs s t t_in in let h = left r q r_in q_in in inl (omega (arith, ints, h, l))));
+  };
+  covers = covers-appended (turned (Covers block)) old slabs (slabs-of-same (Covers (turned_rects block)) (turned (Covers block)) slabs (covers-turned block) s);
+  left = λ others f g r o r_in o_in. elim (Contains-append_cases old slabs r r_in) [
+    | inl h ↦ f r o h o_in
+    | inr h ↦ (let (q, q_in, l) = slab-right block slabs s r h in let k = g q o q_in o_in in omega (arith, ints, l, k))
+  ];
+}
+  where
+    s : AreSlabsOf (Covers (turned_rects block)) slabs
+    s = sorted-slabs (turned_rects block) sorted slabs same by
+
+pub blocks-none : (rects sorted : List Rect) → IsPermutation (turned_rects rects) sorted → CornersRise sorted → AreRectsWithin farthest rects → AreBlocksOf rects [] sorted
+blocks-none rects sorted same rise w = record {
+  apart = record { solid = λ i d k. absurd (omega (arith, k)); apart = λ i j d l k. absurd (omega (arith, k)) };
+  covers = λ p. (
+    (λ h. elim h [
+      | inl c ↦ absurd (let found = member-Covers [] p c in Contains-nil found.0 found.1)
+      | inr c ↦ (covers-turned rects (at p.y p.x)).0 ((covers-same (turned_rects rects) sorted same (at p.y p.x)).1 c)
+    ]),
+    λ c. inr ((covers-same (turned_rects rects) sorted same (at p.y p.x)).0 ((covers-turned rects (at p.y p.x)).1 c)),
+  );
+  rest_within = sorted-within (turned_rects rects) sorted same (turned-within farthest rects w);
+  rise = rise;
+  left = λ r s r_in s_in. absurd (Contains-nil r r_in);
+}
+
+-- the next block
+module _ (rects pieces rest : List Rect) (n : ℕ) (s : AreBlocksOf rects pieces rest) where
+  whole : take n rest ++ drop n rest ≡ rest
+  whole = take-append-drop n rest
+
+  pub block-within : AreRectsWithin farthest (take n rest)
+  block-within r r_in = s.rest_within r (left-in (take n rest) (drop n rest) rest r whole r_in)
+
+  pub block-left : LieLeft pieces (take n rest)
+  block-left r t r_in t_in = s.left r t r_in (left-in (take n rest) (drop n rest) rest t whole t_in)
+
+  pub blocks-next : (new : List Rect) → LieBelow (take n rest) (drop n rest) → AddsBlock pieces new (take n rest) → AreBlocksOf rects new (drop n rest)
+  blocks-next new gap a = record {
+    apart = a.apart;
+    covers = λ p. (
+      (λ h. elim h [
+        | inl c ↦ elim ((a.covers p).0 c) [
+          | inl old ↦ (s.covers p).0 (inl old)
+          | inr k ↦ (let (r, r_in, has) = member-Covers (take n rest) (at p.y p.x) k in (s.covers p).0 (inr (Covers-member rest r (at p.y p.x) (left-in (take n rest) (drop n rest) rest r whole r_in) has)))
+        ]
+        | inr k ↦ (let (r, r_in, has) = member-Covers (drop n rest) (at p.y p.x) k in (s.covers p).0 (inr (Covers-member rest r (at p.y p.x) (right-in (take n rest) (drop n rest) rest r whole r_in) has)))
+      ]),
+      λ h. elim ((s.covers p).1 h) [
+        | inl old ↦ inl ((a.covers p).1 (inl old))
+        | inr c ↦ elim (covers-parts (take n rest) (drop n rest) rest (at p.y p.x) whole c) [
+          | inl k ↦ inl ((a.covers p).1 (inr k))
+          | inr k ↦ inr k
+        ]
+      ],
+    );
+    rest_within = λ r r_in. s.rest_within r (right-in (take n rest) (drop n rest) rest r whole r_in);
+    rise = rise-drop n rest s.rise;
+    left = a.left (drop n rest) (λ r t r_in t_in. s.left r t r_in (right-in (take n rest) (drop n rest) rest t whole t_in)) gap;
+  }
+
+pub blocks-all : (rects pieces rest : List Rect) → length rest ≤ 0 → AreBlocksOf rects pieces rest → ArePiecesOf rects pieces
+blocks-all rects pieces [] none s = record {
+  apart = s.apart;
+  covers = λ p. (
+    (λ c. (s.covers p).0 (inl c)),
+    λ c. elim ((s.covers p).1 c) [ inl k ↦ k | inr k ↦ absurd (let found = member-Covers [] (at p.y p.x) k in Contains-nil found.0 found.1) ],
+  );
+}
+blocks-all rects pieces (r ∷ rest) none s = absurd (omega (arith, none))
+
+-- pieces of rectangles in another order
+pub pieces-slabs : (rects sorted pieces slabs : List Rect) → IsPermutation rects sorted → ArePiecesOf sorted pieces → AreSlabsOf (Covers pieces) slabs → AreSlabsOf (Covers rects) slabs
+pieces-slabs rects sorted pieces slabs same of s = sorted-slabs rects sorted slabs same (slabs-of-same (Covers pieces) (Covers sorted) slabs of.covers s)

@@ -1,0 +1,28 @@
+-- Rectangles in blocks of columns. Those of a block are given with x and y exchanged.
+use Rattle.std.specs.Prelude.{◌⊎◌, ◌↔◌, ◌<ℤ◌, List}
+use Rattle.std.specs.List.{Contains}
+use Rattle.dpl_spec.specs.declared.Pt.{Pt}
+use Rattle.dpl_spec.specs.declared.Rect.{Rect}
+use Rattle.dpl_spec.specs.Squares.{Covers}
+use Rattle.dpl_spec.specs.Loops.{farthest, AreRectsWithin}
+use Rattle.dpl_spec.specs.Zones.{turned}
+use Rattle.dpl_sweep.specs.Orders.{CornersRise}
+use Rattle.dpl_sweep.specs.Pieces.{AreApart}
+
+-- a column lies between each of the pieces and each of the rectangles of blocks
+abbrev pub LieLeft : List Rect → List Rect → Type 0
+LieLeft pieces block = (r s : Rect) → Contains pieces r → Contains block s → r.x1 <ℤ s.y0
+
+-- pieces of a block's squares were added
+pub record AddsBlock (old new block : List Rect) : Type 0 where
+  pub apart : AreApart new
+  pub covers : (p : Pt) → Covers new p ↔ (Covers old p ⊎ turned (Covers block) p)
+  pub left : (others : List Rect) → LieLeft old others → ((r s : Rect) → Contains block r → Contains others s → r.y1 <ℤ s.y0) → LieLeft new others
+
+-- pieces of some of the rectangles, and the others in blocks, which lie right of them
+pub record AreBlocksOf (rects pieces rest : List Rect) : Type 0 where
+  pub apart : AreApart pieces
+  pub covers : (p : Pt) → (Covers pieces p ⊎ turned (Covers rest) p) ↔ Covers rects p
+  pub rest_within : AreRectsWithin farthest rest
+  pub rise : CornersRise rest
+  pub left : LieLeft pieces rest
