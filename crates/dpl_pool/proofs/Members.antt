@@ -55,15 +55,16 @@ answers_twice v worker tile (Err NoMemory) f w e is h = absurd (let k : NoMemory
     err_of (Err g) d = g
 
 -- a tile more, taken and posted
-pub goes_on : (table : TableId) (sheet : Sheet) (deal : Deal) (i : ℕ) (old new : Member) (tile : ℕ) → IsMember table sheet deal i old → new.number ≡ old.number → IsSeatOf table new.seat → Keeps (knows old.seat) (knows new.seat)
+pub goes_on : (table : TableId) (sheet : Sheet) (deal : Deal) (i : ℕ) (old new : Member) (tile : ℕ) → IsMember table sheet deal i old → new.number ≡ old.number → new.wants ≡ old.wants → IsSeatOf table new.seat → Keeps (knows old.seat) (knows new.seat)
     → (IsHandOf deal i old.hand → IsHandOf deal i new.hand) → ((x : ℕ) → times x (taken new.hand) ≡ times x (taken old.hand) + times x (tile ∷ [])) → IsPosted tile (knows new.seat).known
     → IsMember table sheet deal i new
-goes_on table sheet deal i old new tile m same seat keeps hand more posted = record {
+goes_on table sheet deal i old new tile m same same_wants seat keeps hand more posted = record {
   seat = seat;
   sheet_is = keeps.sheet ∙ m.sheet_is;
   number = same ∙ m.number;
   below = (let b = m.below in let w = keeps.workers in omega arith);
   hand = hand m.hand;
+  well = same_wants ∙ m.well;
   covers = λ x lt. ⊎_elim
       (λ (a : 0 < times x (taken old.hand)). keeps.seen x (m.covers x a))
       (λ (a : times x (taken old.hand) ≤ 0). subst (λ (t : ℕ). IsPosted t (knows new.seat).known) (is_it tile x (let e = more x in omega arith)) posted)
@@ -106,13 +107,14 @@ each_snoc P xs x h p k d lt = ⊎_elim
 
 -- a new worker
 pub joins_in : (table : TableId) (deal : Deal) (i : ℕ) (m : Member) (old : View) → IsSeatOf table m.seat → knows m.seat ≡ newcomer old.sheet old.workers old.known → m.number ≡ i → m.number < old.workers
-    → IsHandOf deal i m.hand → taken m.hand ≡ [] → IsMember table old.sheet deal i m
-joins_in table deal i m old t is n lt h none = record {
+    → IsHandOf deal i m.hand → taken m.hand ≡ [] → m.wants ≡ false → IsMember table old.sheet deal i m
+joins_in table deal i m old t is n lt h none well = record {
   seat = t;
   sheet_is = ap (λ (v : View). v.sheet) is;
   number = n;
   below = (let w = ap (λ (v : View). v.workers) is in omega arith);
   hand = h;
+  well = well;
   covers = λ x lt. absurd (let z : times x (taken m.hand) ≡ 0 = ap (times x) none in omega arith);
 }
 
@@ -146,9 +148,9 @@ all_posted tiles n hs known history is all covers starts t lt =
 
 -- one worker more
 pub members_next : (table : TableId) (deal : Deal) (v : View) (ms : List Member) (m : Member) (i : ℕ) → length ms ≡ i → EachAt (IsMember table v.sheet deal) ms → IsSeatOf table m.seat → knows m.seat ≡ newcomer v.sheet v.workers v.known
-    → m.number ≡ i → m.number < v.workers → IsHandOf deal i m.hand → taken m.hand ≡ [] → EachAt (IsMember table v.sheet deal) (ms ++ m ∷ [])
-members_next table deal v ms m i len all t me n lt h none = each_snoc (IsMember table v.sheet deal) ms m all
-    (subst (λ (k : ℕ). IsMember table v.sheet deal k m) (sym len) (joins_in table deal i m v t me n lt h none))
+    → m.number ≡ i → m.number < v.workers → IsHandOf deal i m.hand → taken m.hand ≡ [] → m.wants ≡ false → EachAt (IsMember table v.sheet deal) (ms ++ m ∷ [])
+members_next table deal v ms m i len all t me n lt h none well = each_snoc (IsMember table v.sheet deal) ms m all
+    (subst (λ (k : ℕ). IsMember table v.sheet deal k m) (sym len) (joins_in table deal i m v t me n lt h none well))
 
 -- one hand more
 pub hands_next : (deal : Deal) (hs : List Hand) (h : Hand) (i : ℕ) → length hs ≡ i → EachAt (IsHandOf deal) hs → IsHandOf deal i h → EachAt (IsHandOf deal) (hs ++ h ∷ [])

@@ -1,5 +1,5 @@
 -- What holds of a worker between two tiles.
-use Rattle.std.specs.Prelude.{◌≡◌, ◌<◌, ℕ, List, false}
+use Rattle.std.specs.Prelude.{◌≡◌, ◌+◌, ◌<◌, ℕ, List, [], ◌∷◌, false}
 use Rattle.atomic_table.specs.Seated.{TableId}
 use Rattle.dpl_board.specs.declared.entry.Entry.{Entry}
 use Rattle.dpl_board.specs.declared.fault.PostFault.{PostFault}
@@ -16,14 +16,15 @@ use Rattle.dpl_pool.specs.declared.member.Member.{Member}
 abbrev pub Covers : List ℕ → List Entry → Type 0
 Covers tiles history = (x : ℕ) → 0 < times x tiles → IsPosted x history
 
--- It is the worker of this number at the board with this table, of a job with this sheet, with the hand of that number. Its seat has seen each
--- tile that the hand took
+-- It is the worker of this number at the board with this table, of a job with this sheet, with the hand of that number. It hasn't wanted
+-- memory, and its seat has seen each tile that the hand took
 pub record IsMember (table : TableId) (sheet : Sheet) (deal : Deal) (i : ℕ) (m : Member) : Type 0 where
   pub seat : IsSeatOf table m.seat
   pub sheet_is : (knows m.seat).sheet ≡ sheet
   pub number : m.number ≡ i
   pub below : m.number < (knows m.seat).workers
   pub hand : IsHandOf deal i m.hand
+  pub well : m.wants ≡ false
   pub covers : Covers (taken m.hand) (knows m.seat).known
 
 -- it wanted memory, or its hand has found each deque empty
@@ -35,6 +36,10 @@ pub record Keeps (v w : View) : Type 0 where
   pub sheet : w.sheet ≡ v.sheet
   pub workers : w.workers ≡ v.workers
   pub seen : (x : ℕ) → IsPosted x v.known → IsPosted x w.known
+
+-- one tile more
+abbrev pub TookOne : List ℕ → List ℕ → Type 0
+TookOne old new = (t : ℕ) × ((x : ℕ) → times x new ≡ times x old + times x (t ∷ []))
 
 abbrev pub IsTwice : PostFault → Type 0
 IsTwice f = (by : ℕ) × (f ≡ Twice by)

@@ -1,9 +1,10 @@
 //! One worker of the pool.
-ghost use Rattle.std.specs.Prelude.{◌≡◌, ◌<◌, ℕ, true, false, length};
+ghost use Rattle.std.specs.Prelude.{◌≡◌, ◌<◌, ◌↔◌, ℕ, true, false, length};
 ghost use Rattle.dpl_stars.specs.Sums.{Sums};
 ghost use Rattle.dpl_board.specs.Sheets.{IsPosted, edges_at};
+ghost use Rattle.dpl_deal.specs.Hands.{taken};
 ghost use Rattle.dpl_turn.specs.Seats.{IsSeatOf, knows};
-ghost use Rattle.dpl_pool.specs.Members.{IsMember, IsTwice, Keeps, Leaves};
+ghost use Rattle.dpl_pool.specs.Members.{IsMember, IsTwice, Keeps, Leaves, TookOne};
 
 use crate::gate::Gate;
 use dpl_board::{Job, PostFault};
@@ -46,7 +47,7 @@ fn post_tile<J: Job, R: Wait>(
 
 /// Whether the tile stood there before.
 fn is_posted(fault: PostFault) -> bool
-    ensures { result ≡ true → IsTwice fault }
+    ensures { result ≡ true ↔ IsTwice fault }
 {
     match fault {
         PostFault::Twice { by: _ } => true,
@@ -68,6 +69,7 @@ fn step<J: Job, G: Gate, R: Wait>(
     requires member { IsMember board.now.table.shared.table_id (J.sheet job.now) deal.now member.old.number member.old }
     ensures number { member.new.number ≡ member.old.number }
     ensures goes { result ≡ true → IsMember board.now.table.shared.table_id (J.sheet job.now) deal.now member.old.number member.new }
+    ensures took { result ≡ true → TookOne (taken member.old.hand) (taken member.new.hand) }
     ensures done { result ≡ false → Leaves board.now.table.shared.table_id (J.sheet job.now) deal.now member.old.number member.new }
 {
     let Some(tile) = deal.take(rt, &mut member.hand) else {

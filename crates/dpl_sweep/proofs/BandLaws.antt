@@ -1,6 +1,6 @@
 -- Bands taken apart and put together.
-use Rattle.std.proofs.Common.{◌≡◌, ℕ, ◌+◌, ◌≤◌, inl, inr, true, false, cond, Option, Some, None, refl, sym, ap, subst, arith}
-use Rattle.std.specs.Prelude.{ℤ, ◌+ℤ◌, ◌≤ℤ◌, ◌<ℤ◌, unsigned_abs, IfSome}
+use Rattle.std.proofs.Common.{◌≡◌, ℕ, ◌+◌, ◌≤◌, inl, inr, true, false, cond, Option, Some, None, refl, sym, ◌∙◌, ap, subst, arith}
+use Rattle.std.specs.Prelude.{ℤ, pos, ◌+ℤ◌, ◌≤ℤ◌, ◌<ℤ◌, unsigned_abs}
 use Rattle.std.proofs.lemmas.Int.{ints, by_lt_z}
 use lib.Signed.{lt_z}
 use Rattle.dpl_sweep.specs.declared.edge.Rule.{Rule}
@@ -10,7 +10,7 @@ use Rattle.dpl_sweep.specs.declared.bands.Lag.{Lag}
 use Rattle.dpl_sweep.specs.declared.bands.Bands.{Bands, One, Two'}
 use Rattle.dpl_sweep.specs.Runs.{Reaches, AreOneRun}
 use Rattle.dpl_sweep.specs.Rows.{lagged, shift_of, IsLagTo, run_at, lowest_sum, bands_size, AreRows, IsSmall, IsCutOver, Follows, ArePartsOf, AreTwo, AreOneTree, IsReached, IsMended, Mends}
-use Rattle.dpl_sweep.proofs.RunLaws.{reach-refl, reach-trans}
+use Rattle.dpl_sweep.proofs.RunLaws.{reach-refl, reach-sums, reach-trans}
 
 -- below row the runs are those of b, from it on those of a
 pub record IsSplit (t : Bands) (row : ℤ) (b a : Bands) : Type 0 where
@@ -156,11 +156,6 @@ mended-two rule b a t row two =
       rows = λ low high x l m r s. (rows-two low row high x t b a two l m r s, reached-two rule t b a row two);
     }
 
-reach-sums : (rule : Rule) (run later : Run) → Reaches rule run later → (later.a ≡ run.a) × (later.b ≡ run.b)
-reach-sums rule run later (inl e) = (ap (λ r. let s : Run = r in s.a) (sym e), ap (λ r. let s : Run = r in s.b) (sym e))
-reach-sums rule run later (inr (inl h)) = (h.a, h.b)
-reach-sums rule run later (inr (inr h)) = (h.a, h.b)
-
 pub mended-one : (rule : Rule) (b a : Bands) (row : ℤ) (run : Run) → AreOneTree rule b a run → IsMended rule b row a (One run)
 mended-one rule b a row run o =
     record {
@@ -289,6 +284,8 @@ rows-more low high x z (One run) l h = omega (arith, ints, l, h)
 rows-more low high x z (Two' p c cut q d) l (e, f, k, g1, g2, g, h) =
     (e, f, lag-more x z cut.lag l k, g1, g2, rows-more low cut.row x z c l g, rows-more cut.row high x z d l h)
 
-pub shared-tree : (rule : Rule) (b a : Bands) (r s : Run) (o : Option Run) → b ≡ One r → a ≡ One s → IfSome o (λ t. AreOneRun rule r s t) → IfSome o (λ t. AreOneTree rule b a t)
-shared-tree rule b a r s None e f h = tt
-shared-tree rule b a r s (Some t) e f h = record { first = r; second = s; below_is = e; above_is = f; one = h }
+pub shared-runs : (rule : Rule) (b a : Bands) (r s t : Run) → b ≡ One r → a ≡ One s → AreOneTree rule b a t → AreOneRun rule r s t
+shared-runs rule b a r s t e f o =
+    let first : o.first ≡ r = ap (λ u. run_at u (pos 0)) (sym o.below_is ∙ e) in
+    let second : o.second ≡ s = ap (λ u. run_at u (pos 0)) (sym o.above_is ∙ f) in
+    subst (λ q. AreOneRun rule q s t) first (subst (λ q. AreOneRun rule o.first q t) second o.one)

@@ -1,5 +1,6 @@
 //! Bands put together, so that their tree stays shallow.
-ghost use Rattle.std.specs.Prelude.{◌≡◌, ◌^◌, IfOk, IfSome};
+ghost use Rattle.std.specs.Prelude.{◌≡◌, ◌^◌, IfOk, IfSome, IsNone};
+ghost use Rattle.dpl_sweep.specs.declared.run.Run.{Run};
 ghost use Rattle.dpl_sweep.specs.Rows.{AreOneTree, IsSmall, IsMended, Mends};
 
 use crate::bands::{Bands, Parts, cut_over, take_apart};
@@ -9,7 +10,8 @@ use std::alloc::{AllocError, Global};
 
 /// The run of both, where each is one band and one run can stand for theirs.
 fn shared(rule: Rule, below: &Bands, above: &Bands) -> Option<Run>
-    ensures { IfSome result (λ run. AreOneTree rule below.now above.now run) }
+    ensures some { IfSome result (λ run. AreOneTree rule below.now above.now run) }
+    ensures none { IsNone result → (run : Run) → AreOneTree rule below.now above.now run → ⊥ }
 {
     match below.run() {
         None => None,

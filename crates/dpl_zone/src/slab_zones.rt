@@ -121,9 +121,12 @@ fn add_zone(
 /// Whether the slab has too few rows for a zone.
 pub fn is_short(slab: &Rect, overlap: u32) -> bool
     requires { IsSolidWithin farthest slab.now }
-    ensures { IsTrue result → slab.now.y1 <ℤ (slab.now.y0 +ℤ pos (overlap + 2)) }
+    ensures { IsTrue result ↔ (slab.now.y1 <ℤ (slab.now.y0 +ℤ pos (overlap + 2))) }
 {
-    slab.y1 - slab.y0 < overlap as i64 + 2
+    if slab.y1 - slab.y0 < overlap as i64 + 2 {
+        return true;
+    }
+    false
 }
 
 /// Adds the zones of a slab among the leaves near it.

@@ -1,5 +1,5 @@
 //! The zones of a feature, horizontal and vertical.
-ghost use Rattle.std.specs.Prelude.{◌≡◌, ◌+◌, ℤ, pos, ◌+ℤ◌, ◌<ℤ◌, map, [], IsTrue, IfOk, length};
+ghost use Rattle.std.specs.Prelude.{◌≡◌, ◌+◌, ◌↔◌, ℤ, pos, ◌+ℤ◌, ◌<ℤ◌, map, [], IsTrue, IfOk, length};
 ghost use Rattle.dpl_spec.specs.declared.Pt.{Pt};
 ghost use Rattle.dpl_spec.specs.declared.Rect.{Rect};
 ghost use Rattle.dpl_spec.specs.Loops.{farthest};
@@ -40,8 +40,7 @@ fn none_found(alloc: Global) -> Found
 fn is_small(slab: &Rect, column: &Rect, overlap: u32) -> bool
     requires slab { IsSolidWithin farthest slab.now }
     requires column { IsSolidWithin farthest column.now }
-    ensures rows { IsTrue result → slab.now.y1 <ℤ (slab.now.y0 +ℤ pos (overlap + 2)) }
-    ensures columns { IsTrue result → column.now.y1 <ℤ (column.now.y0 +ℤ pos (overlap + 2)) }
+    ensures { IsTrue result ↔ ((slab.now.y1 <ℤ (slab.now.y0 +ℤ pos (overlap + 2))) × (column.now.y1 <ℤ (column.now.y0 +ℤ pos (overlap + 2)))) }
 {
     if !is_short(slab, overlap) {
         return false;

@@ -1,4 +1,4 @@
-use Rattle.std.proofs.Common.{◌≡◌, ◌∙◌, ◌+◌, ◌++◌, ◌∷◌, [], sym, ap, subst, rules, length, vec_len, arith, ◌≤◌, false, All, append_assoc, length-append}
+use Rattle.std.proofs.Common.{◌≡◌, ◌∙◌, ◌+◌, ◌++◌, ◌∷◌, [], refl, sym, ap, subst, rules, length, vec_len, arith, ◌≤◌, false, All, append_assoc, length-append}
 use Rattle.dpl_deal.specs.declared.hand.Hand.{Hand}
 use Rattle.dpl_deal.specs.Hands.{EachAt, IsHandOf, taken}
 use Rattle.dpl_turn.specs.Rule.{newcomer}
@@ -31,7 +31,7 @@ loop-hand-preserved g c =
       old ∙ same,
       λ deal hs. subst (EachAt (IsMember table v.sheet deal)) (sym pushed)
           (members_next table deal v c.loop-hand.members.items m (length c.loop-hand.yielded) (sym count ∙ c.loop-hand.invariant.2) (c.loop-hand.invariant.5 deal hs) t me c.loop-hand.invariant.1 n
-          (each_mid (IsHandOf deal) c.loop-hand.yielded c.in-Some.hand c.next.new.self.rest.items (subst (EachAt (IsHandOf deal)) (sym all) hs)) none),
+          (each_mid (IsHandOf deal) c.loop-hand.yielded c.in-Some.hand c.next.new.self.rest.items (subst (EachAt (IsHandOf deal)) (sym all) hs)) none refl),
     )
 
 pub returns-clause-members : goal.returns-clause-members

@@ -1,5 +1,5 @@
-use Rattle.dpl_sweep.proofs.BandLaws.{shared-tree}
+use Rattle.dpl_sweep.proofs.BandLaws.{shared-runs}
 use Rattle.dpl_sweep.proofs.balance.shared.Goals as goal
 
-pub returns-in-Some-run : goal.returns-in-Some-run
-returns-in-Some-run c = shared-tree c.args.rule _ _ _ _ c.one_run.result c.in-Some.ensures c.in-Some-run.ensures c.one_run.ensures
+pub returns-in-Some-run-clause-none : goal.returns-in-Some-run-clause-none
+returns-in-Some-run-clause-none c n t o = c.one_run.ensures.none n t (shared-runs c.args.rule _ _ _ _ t c.in-Some.ensures.some c.in-Some-run.ensures.some o)

@@ -5,8 +5,8 @@ use Rattle.dpl_zone.proofs.ways.found_in_one.Goals as goal
 
 pub returns-then-is_small : goal.returns-then-is_small
 returns-then-is_small c =
-    found-small c.args.rule c.args.overlap c.args.part.now c.rects.result.now c.args.tree.now c.args.across.now c.args.own c.rects.ensures.value c.requires.one c.rects.ensures.canonical c.requires.tree c.requires.leaves c.requires.turned c.requires.own c.requires.apart _ c.none_found.ensures.flat c.none_found.ensures.upright (c.if-is_small.ensures.rows refl)
-    (rw c.turned-column.ensures at (c.if-is_small.ensures.columns refl))
+    found-small c.args.rule c.args.overlap c.args.part.now c.rects.result.now c.args.tree.now c.args.across.now c.args.own c.rects.ensures.value c.requires.one c.rects.ensures.canonical c.requires.tree c.requires.leaves c.requires.turned c.requires.own c.requires.apart _ c.none_found.ensures.flat c.none_found.ensures.upright (c.if-is_small.ensures.0 refl).0
+    (rw c.turned-column.ensures at (c.if-is_small.ensures.0 refl).1)
 
 pub returns-then-is_empty : goal.returns-then-is_empty
 returns-then-is_empty c =
