@@ -7,6 +7,9 @@ usage: layouts.py KIND COUNT SEED FILE
 KIND is one of
   bars     routing-like rows: bars of random length on tracks 60 units apart, gaps of 29 to 200 units
   dense    the same on tracks 40 units apart, which a rule of 30 can't split
+  upright  bars with x and y exchanged
+  wires    upright wires side by side, with random ends
+  through  upright wires side by side, from the lowest rows to the highest
   mesh     long horizontal wires over as many vertical ones, with COUNT crossings: one feature
   scatter  rectangles of 10 to 100 units scattered over a square, about one to 200 by 200 units
   polygons combs of 8,000 points each, COUNT teeth in all
@@ -84,6 +87,29 @@ def bars(count, rng, pitch=60):
 
 def dense(count, rng):
     return bars(count, rng, 40)
+
+
+def upright(count, rng):
+    made, column = 0, 0
+    while made < count:
+        y = rng.randrange(0, 300)
+        for _ in range(min(max(1, int(count**0.5)), count - made)):
+            length = rng.randrange(60, 900)
+            yield rect(60 * column, y, 60 * column + 20, y + length)
+            y += length + rng.randrange(29, 200)
+            made += 1
+        column += 1
+
+
+def wires(count, rng):
+    for i in range(count):
+        y = rng.randrange(10_000_000)
+        yield rect(60 * i, y, 60 * i + 20, y + rng.randrange(1000, 5_000_000))
+
+
+def through(count, rng):
+    for i in range(count):
+        yield rect(60 * i, rng.randrange(20), 60 * i + 20, 10_000_000 + rng.randrange(20))
 
 
 def mesh(count, rng):
@@ -197,7 +223,7 @@ def holes(count, rng):
 
 
 KINDS = {f.__name__: f for f in (
-    bars, dense, mesh, scatter, polygons, plate,
+    bars, dense, upright, wires, through, mesh, scatter, polygons, plate,
     ragged, rising, teeth, nested, stacked, flood, holes,
 )}
 TREES = {f.__name__: f for f in (chain, doubling, twisted, ring, tower)}
