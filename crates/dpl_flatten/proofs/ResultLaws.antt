@@ -5,7 +5,7 @@ use Rattle.std.specs.Prelude.{◌↔◌}
 use Rattle.std.proofs.lemmas.List.{get_or-map, length-map}
 use Rattle.std.proofs.lemmas.List.Elements.{Contains-get_or}
 use Rattle.dpl_spec.specs.declared.Pt.{Pt}
-use Rattle.dpl_spec.specs.Loops.{SomeLoopCovers, IsRectilinear, IsLevelOrUpright, AreLoopsWithin, ArePointsWithin, farthest}
+use Rattle.dpl_spec.specs.Loops.{SomeLoopCovers, IsRectilinear, IsLevelOrUpright, ArePointsWithin, farthest}
 use Rattle.dpl_elements.specs.Motions.{Motion, image, turned, reflected, moved}
 use Rattle.dpl_format.specs.Tree.{Library, Element}
 use Rattle.dpl_layout.specs.declared.Layer.{Layer}

@@ -1,6 +1,6 @@
 //! Elements that are refused.
 
-ghost use Rattle.std.specs.Prelude.{◌≡◌, ◌<◌, true, length, None, IfOk, IfSome};
+ghost use Rattle.std.specs.Prelude.{◌≡◌, ◌<◌, ℕ, true, length, None, IfOk, IfSome};
 ghost use Rattle.std.specs.List.{Contains};
 ghost use Rattle.dpl_format.specs.Tree.{Element as TreeElement, elements_at};
 ghost use Rattle.dpl_syntax.specs.Elements.{body_seen, element_seen, IsSized};
@@ -70,12 +70,11 @@ fn fault_of(
 fn note_refused(
     alloc: Global,
     chosen: Layer,
-    structure: u32,
     element: &Element<'_>,
     first: Option<usize>,
 ) -> Result<Option<usize>, AllocError>
     requires { IsSized element.now }
-    ensures { IfOk result (λ new. IsNoted (IsRefused chosen) structure (element_seen element.now) first new) }
+    ensures { IfOk result (λ new. (structure : ℕ) → IsNoted (IsRefused chosen) structure (element_seen element.now) first new) }
 {
     let fault = fault_of(alloc, chosen, element)?;
     match fault {
@@ -96,7 +95,7 @@ fn refused_in(
 {
     let mut first = None;
     for element in lib.elements(structure) {
-        first = note_refused(alloc, chosen, structure, element, first)?;
+        first = note_refused(alloc, chosen, element, first)?;
     }
     Ok(first)
 }

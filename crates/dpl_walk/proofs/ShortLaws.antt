@@ -16,7 +16,7 @@ use Rattle.dpl_walk.specs.declared.cells.Cell.{Cell}
 use Rattle.dpl_walk.specs.declared.ways.Way.{Way}
 use Rattle.dpl_walk.specs.Cells.{IsReady}
 use Rattle.dpl_walk.specs.Walk.{outlines_at, copies_at, outlines_or_none, copies_or_none, AreDeep, AreKnown}
-use Rattle.dpl_walk.specs.Ways.{IsWay, AreWays, HasWays, IsShort, IsShortBy, AreShort, IsCellShort, AreCellsShort, IsWhole, AreWhole, AreBehind, IsOrderOf}
+use Rattle.dpl_walk.specs.Ways.{IsWay, AreWays, HasWays, IsShort, IsShortBy, AreShort, IsCellShort, AreCellsShort, IsWhole, AreWhole, AreAllWhole, AreBehind, IsOrderOf}
 use Rattle.dpl_walk.proofs.StackLaws.{outlines_are}
 use Rattle.dpl_walk.proofs.WayLaws.{own_is_way, way_within}
 
@@ -116,7 +116,7 @@ own_set order i d ways new w h e own k v s n =
     (same_or_not k (get_or order i d))
 
 -- once the order is through, each way is as long as can be
-pub whole_all : (cells : List Cell) (order : List ℕ) (ways : List Way) → IsOrderOf cells order → AreWhole cells ways order → AreOwnBeside ways order → (k : ℕ) (w : Way) → slice_get ways k ≡ Some w → IsWhole cells w
+pub whole_all : (cells : List Cell) (order : List ℕ) (ways : List Way) → IsOrderOf cells order → AreWhole cells ways order → AreOwnBeside ways order → AreAllWhole cells ways
 whole_all cells order ways o whole own k w s =
     ⊎_elim (λ h. whole k w h s) (λ n p. let e = own k w s n in n (o.whole k (rw e at p))) (contains_or_not order k)
 

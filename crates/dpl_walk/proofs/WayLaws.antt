@@ -14,7 +14,7 @@ use Rattle.dpl_walk.specs.declared.cells.Cell.{Cell}
 use Rattle.dpl_walk.specs.declared.ways.Way.{Way}
 use Rattle.dpl_walk.specs.Cells.{copy_motion, IsReady, IsSpanWithin}
 use Rattle.dpl_walk.specs.Walk.{outlines_at, copies_at, IsShown, AreOf, AreDeep, AreSteep, AreKnown, IsWalk}
-use Rattle.dpl_walk.specs.Ways.{IsPassage, IsWay, AreWays, HasWays, IsShort, AreCellsShort, HasPassage, IsWhole, ArePassed}
+use Rattle.dpl_walk.specs.Ways.{IsPassage, IsWay, AreWays, HasWays, IsShort, AreCellsShort, HasPassage, IsWhole, AreAllWhole, ArePassed, ShowsSame}
 use Rattle.dpl_walk.proofs.StackLaws.{shown_by, shown_cases, shown_here, shown_below, composed_within, outlines_are, copies_are}
 
 -- ---- motions of copies
@@ -192,6 +192,14 @@ way_within cells d k w few r = let m = r.moves in let l = d.few k in record { co
 
 -- ---- what shortened copies show
 
+-- where structures show the same, so do walks
+pub same_walk : (cells new : List Cell) (top : ℕ) (loops : List (List Pt)) (far : Option ℕ) → ShowsSame cells new → IsWalk new top loops far → IsWalk cells top loops far
+same_walk cells new top loops far same w = record {
+  complete = λ ps at s. w.complete ps at ((same top (λ p. p) ps at).0 s);
+  sound = λ ps c. let x = w.sound ps c in (x.0, (same top (λ p. p) ps x.0).1 x.1);
+  out = λ at e. let x = w.out at e in (x.0, (same top (λ p. p) x.0 at).1 x.1, x.2);
+}
+
 module _ (cells new : List Cell) (ways : List Way) (d : AreDeep cells) (are : AreWays cells d.level ways) (known : AreKnown (2 ^ 31) cells) (few : length cells ≤ 2 ^ 26) (short : AreCellsShort ways cells new) where
   way_of : (k : ℕ) (c : Copies) (w : Way) → Contains (copies_at cells k) c → slice_get ways c.target ≡ Some w → IsWay cells d.level c.target w
   way_of k c w h e = are.way c.target w e
@@ -228,15 +236,8 @@ module _ (cells new : List Cell) (ways : List Way) (d : AreDeep cells) (are : Ar
   from_new (suc n) k h f ps at s =
       ⊎_elim (λ x. shown_here cells k f ps at (rw (short.draws k) at x)) (λ x. from_below k f ps at (λ l q g t. from_new n l (omega (arith, h, q)) g ps at t) x.0 x.1 x.2 x.3 x.4) (shown_cases new k f ps at s)
 
-  pub same_shown : (k : ℕ) (f : Pt → Pt) (ps : List Pt) (at : ℕ) → IsShown cells k f ps at ↔ IsShown new k f ps at
+  pub same_shown : ShowsSame cells new
   same_shown k f ps at = (to_new (suc (d.level k)) k (omega arith) f ps at, from_new (suc (d.level k)) k (omega arith) f ps at)
-
-  pub same_walk : (top : ℕ) (loops : List (List Pt)) (far : Option ℕ) → IsWalk new top loops far → IsWalk cells top loops far
-  same_walk top loops far w = record {
-    complete = λ ps at s. w.complete ps at ((same_shown top (λ p. p) ps at).0 s);
-    sound = λ ps c. let x = w.sound ps c in (x.0, (same_shown top (λ p. p) ps x.0).1 x.1);
-    out = λ at e. let x = w.out at e in (x.0, (same_shown top (λ p. p) x.0 at).1 x.1, x.2);
-  }
 
   -- a structure that has a passage had one
   had_passage : (k : ℕ) (b : Copies) → IsPassage (outlines_at new k) (copies_at new k) b → HasPassage cells k
@@ -257,7 +258,7 @@ module _ (cells new : List Cell) (ways : List Way) (d : AreDeep cells) (are : Ar
       by_copies (c ∷ d ∷ cs) e = let n = ap length e in absurd (omega (arith, one, n))
 
   -- where each way is as long as can be, copies lead to no passage
-  pub passed_of : ((k : ℕ) (w : Way) → slice_get ways k ≡ Some w → IsWhole cells w) → ArePassed new
+  pub passed_of : AreAllWhole cells ways → ArePassed new
   passed_of whole k b h p =
       let (c, inside, (w, e, is)) = (short.copies k).alone b h in
       whole c.target w e (rw is.target at (had_passage b.target p.0 p.1))

@@ -43,6 +43,10 @@ IsWhole cells w = ¬ HasPassage cells w.target
 abbrev pub AreWhole : List Cell → List Way → List ℕ → Type 0
 AreWhole cells ways ks = (k : ℕ) (w : Way) → Contains ks k → slice_get ways k ≡ Some w → IsWhole cells w
 
+-- the way of every structure goes on as long as structures have passages
+abbrev pub AreAllWhole : List Cell → List Way → Type 0
+AreAllWhole cells ways = (k : ℕ) (w : Way) → slice_get ways k ≡ Some w → IsWhole cells w
+
 -- each structure of the order stands behind those that it places
 abbrev pub AreBehind : List Cell → List ℕ → Type 0
 AreBehind cells order = (i k : ℕ) (c : Copies) → slice_get order i ≡ Some k → Contains (copies_at cells k) c → Contains (take i order) c.target
@@ -56,6 +60,10 @@ pub record IsOrderOf (cells : List Cell) (order : List ℕ) : Type 0 where
 -- no copies lead to a structure that has a passage
 abbrev pub ArePassed : List Cell → Type 0
 ArePassed cells = (k : ℕ) (c : Copies) → Contains (copies_at cells k) c → ¬ HasPassage cells c.target
+
+-- each structure shows what it showed
+abbrev pub ShowsSame : List Cell → List Cell → Type 0
+ShowsSame old new = (k : ℕ) (f : Pt → Pt) (ps : List Pt) (at : ℕ) → IsShown old k f ps at ↔ IsShown new k f ps at
 
 -- as many copies, as far apart, of the way's target, the first of which is where the first copy's way leads
 pub record IsShort (c : Copies) (w : Way) (short : Copies) : Type 0 where

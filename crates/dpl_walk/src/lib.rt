@@ -2,11 +2,11 @@
 #![tactic(auto)]
 
 ghost use Rattle.std.specs.Prelude.{◌^◌, ◌<◌, ◌≤◌, length, IfOk};
+ghost use Rattle.std.specs.List.{All};
 ghost use Rattle.dpl_walk.specs.Walk.{AreDeep, AreKnown, IsWalk};
-ghost use Rattle.dpl_walk.specs.Ways.{IsOrderOf};
 
 use crate::walk::walk_from;
-use crate::ways::{find_ways, shorten};
+use crate::ways::pass_by;
 use std::alloc::{AllocError, Global};
 
 mod cells;
@@ -20,8 +20,8 @@ pub use crate::least::{earlier, note};
 pub use crate::walk::Gathered;
 
 /// The loops that the structure `top` shows, itself and through all copies below it, and the least offset of an element
-/// that is placed too far out. Structures that draw nothing and place one copy are passed by; `order` lists them, and may list
-/// others, each behind those that it places.
+/// that is placed too far out. Structures that draw nothing and place one copy are passed by where `order` lists them,
+/// and each structure that it lists stands behind all that it places. Another order gives the same loops in more time.
 pub fn gather(
     alloc: Global,
     mut cells: Vec<Cell>,
@@ -31,12 +31,11 @@ pub fn gather(
     requires known { AreKnown (2 ^ 31) cells.items }
     requires deep { AreDeep cells.items }
     requires few { length cells.items ≤ 2 ^ 26 }
-    requires order { IsOrderOf cells.items order.now }
+    requires order { All (λ k. k < length cells.items) order.now }
     requires top { top < length cells.items }
     ensures { IfOk result (λ g. IsWalk cells.items top g.loops.items g.far) }
 {
-    let ways = find_ways(alloc, cells.as_slice(), order)?;
-    shorten(alloc, &mut cells, ways.as_slice())?;
+    pass_by(alloc, &mut cells, order)?;
     let gathered = walk_from(alloc, cells.as_slice(), top)?;
     Ok(gathered)
 }

@@ -7,7 +7,6 @@ ghost use Rattle.dpl_walk.specs.declared.walk.Frame.{Frame};
 ghost use Rattle.dpl_spec.specs.Loops.{ArePointsWithin, farthest};
 ghost use Rattle.dpl_elements.specs.Motions.{image, IsMotionWithin, IsComposed};
 ghost use Rattle.dpl_walk.specs.Cells.{copy_motion, IsReady};
-ghost use Rattle.dpl_walk.specs.Ways.{ArePassed};
 ghost use Rattle.dpl_walk.specs.Walk.{Gathers, HasFarPoint, frame_of, IsNext, IsFrame, AreSteep, IsWalk, AreKnown, IsWalking, walk_left};
 
 use crate::cells::{Cell, Copies, Outline};
@@ -177,13 +176,12 @@ fn put_next(frame: Frame, stack: &mut Vec<Frame>) -> Result<(), AllocError>
     Ok(())
 }
 
-/// Goes through all placements below a structure. None leads to a structure that does no more than place one copy.
+/// Goes through all placements below a structure.
 pub(crate) fn walk_from(alloc: Global, cells: &[Cell], top: u32) -> Result<Gathered, AllocError>
     requires known { AreKnown (2 ^ 60) cells.now }
     requires steep { AreSteep cells.now }
     requires few { length cells.now ≤ 2 ^ 26 }
     requires top { top < length cells.now }
-    requires passed { ArePassed cells.now }
     ensures { IfOk result (λ g. IsWalk cells.now top g.loops.items g.far) }
 {
     let mut gathered = Gathered {

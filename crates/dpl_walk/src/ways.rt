@@ -8,8 +8,8 @@ ghost use Rattle.dpl_elements.specs.Motions.{image, IsComposed, IsMotionWithin};
 ghost use Rattle.dpl_walk.specs.declared.cells.Copies.{Copies};
 ghost use Rattle.dpl_walk.specs.declared.ways.Way.{Way};
 ghost use Rattle.dpl_walk.specs.Cells.{copy_motion, IsReady};
-ghost use Rattle.dpl_walk.specs.Walk.{copies_at, AreDeep, AreKnown};
-ghost use Rattle.dpl_walk.specs.Ways.{IsPassage, IsWay, AreWays, HasWays, IsShort, AreShort, IsCellShort, AreCellsShort, HasPassage, IsWhole, AreWhole, AreBehind, IsOrderOf};
+ghost use Rattle.dpl_walk.specs.Walk.{copies_at, AreDeep, AreKnown, AreSteep};
+ghost use Rattle.dpl_walk.specs.Ways.{IsPassage, IsWay, AreWays, HasWays, IsShort, AreShort, IsCellShort, AreCellsShort, HasPassage, IsWhole, AreWhole, AreAllWhole, AreBehind, IsOrderOf, ArePassed, ShowsSame};
 
 use crate::cells::{Cell, Copies};
 use crate::copies::copy_place;
@@ -92,18 +92,15 @@ fn own_ways(alloc: Global, cells: &[Cell]) -> Result<Vec<Way>, AllocError>
     Ok(ways)
 }
 
-/// A way for each structure, as long as can be.
-pub(crate) fn find_ways(
-    alloc: Global,
-    cells: &[Cell],
-    order: &[u32],
-) -> Result<Vec<Way>, AllocError>
+/// A way for each structure, as long as can be where the order has each structure with a passage, and each that it has
+/// stands behind all that it places.
+fn find_ways(alloc: Global, cells: &[Cell], order: &[u32]) -> Result<Vec<Way>, AllocError>
     requires known { AreKnown (2 ^ 31) cells.now }
     requires deep { AreDeep cells.now }
     requires few { length cells.now ≤ 2 ^ 26 }
-    requires order { IsOrderOf cells.now order.now }
+    requires order { All (λ k. k < length cells.now) order.now }
     ensures ways { IfOk result (λ v. HasWays cells.now v.items) }
-    ensures whole { IfOk result (λ v. (k : ℕ) (w : Way) → slice_get v.items k ≡ Some w → IsWhole cells.now w) }
+    ensures whole { IfOk result (λ v. IsOrderOf cells.now order.now → AreAllWhole cells.now v.items) }
 {
     let mut ways = own_ways(alloc, cells)?;
     for structure in order {
@@ -169,14 +166,33 @@ fn shorten_at(
 }
 
 /// Shortens the copies that the structures place.
-pub(crate) fn shorten(alloc: Global, cells: &mut Vec<Cell>, ways: &[Way]) -> Result<(), AllocError>
+fn shorten(alloc: Global, cells: &mut Vec<Cell>, ways: &[Way]) -> Result<(), AllocError>
     requires known { AreKnown (2 ^ 31) cells.old.items }
     requires few { length cells.old.items ≤ 2 ^ 26 }
     requires ways { HasWays cells.old.items ways.now }
-    ensures { OnOk result (AreCellsShort ways.now cells.old.items cells.new.items) }
+    ensures short { OnOk result (AreCellsShort ways.now cells.old.items cells.new.items) }
+    ensures passed { OnOk result (AreAllWhole cells.old.items ways.now → ArePassed cells.new.items) }
 {
     for structure in 0..cells.len() {
         shorten_at(alloc, cells, structure, ways)?;
     }
+    Ok(())
+}
+
+/// Has copies lead past the structures that draw nothing and place one copy, where the order has each of these, and each
+/// that it has stands behind all that it places. What the structures show stays the same with any order.
+pub(crate) fn pass_by(alloc: Global, cells: &mut Vec<Cell>, order: &[u32]) -> Result<(), AllocError>
+    requires known { AreKnown (2 ^ 31) cells.old.items }
+    requires deep { AreDeep cells.old.items }
+    requires few { length cells.old.items ≤ 2 ^ 26 }
+    requires order { All (λ k. k < length cells.old.items) order.now }
+    ensures each { OnOk result (length cells.new.items ≡ length cells.old.items) }
+    ensures known { OnOk result (AreKnown (2 ^ 60) cells.new.items) }
+    ensures steep { OnOk result (AreSteep cells.new.items) }
+    ensures same { OnOk result (ShowsSame cells.old.items cells.new.items) }
+    ensures passed { OnOk result (IsOrderOf cells.old.items order.now → ArePassed cells.new.items) }
+{
+    let ways = find_ways(alloc, cells.as_slice(), order)?;
+    shorten(alloc, cells, ways.as_slice())?;
     Ok(())
 }

@@ -8,7 +8,7 @@ loop-element-preserved c =
     noted_seen (IsRefused c.args.chosen) c.args.structure c.loop-element.element-index c.elements-element-items.result.now (elements_at c.args.lib.now c.args.structure) _ c.loop-element.first c.in_ok-first.first
     c.elements-element-items.ensures.same
     c.loop-element-test.true
-    c.in_ok-first.ensures
+    (c.in_ok-first.ensures c.args.structure)
     c.loop-element.invariant
 
 pub returns : goal.returns

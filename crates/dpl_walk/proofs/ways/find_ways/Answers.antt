@@ -16,7 +16,7 @@ way_of-way-requires-clause-ways c = rw c.as_slice.ensures.value c.loop-structure
 
 pub loop-structure-preserved : goal.loop-structure-preserved
 loop-structure-preserved c =
-    let inside : get_or c.args.order.now c.loop-structure.structure-index 0 < length c.args.cells.now = c.requires.order.known c.loop-structure.structure-index 0 c.loop-structure-test.true in
+    let inside : get_or c.args.order.now c.loop-structure.structure-index 0 < length c.args.cells.now = c.requires.order c.loop-structure.structure-index 0 c.loop-structure-test.true in
     record {
       ways = ways_set c.args.cells.now c.loop-structure.ways.items _ (get_or c.args.order.now c.loop-structure.structure-index 0) c.way_of-way.result inside refl (rw c.as_slice.ensures.value at c.way_of-way.ensures.way) c.loop-structure.invariant.ways;
       whole = whole_set c.args.cells.now c.args.order.now c.loop-structure.structure-index 0 c.loop-structure.ways.items _ c.way_of-way.result c.loop-structure-test.true (let e = c.loop-structure.invariant.ways.1.each in omega (arith, e, inside)) refl (rw c.as_slice.ensures.value at c.way_of-way.ensures.whole) c.loop-structure.invariant.whole;
@@ -27,6 +27,6 @@ pub returns-clause-ways : goal.returns-clause-ways
 returns-clause-ways c = c.loop-structure.invariant.ways
 
 pub returns-clause-whole : goal.returns-clause-whole
-returns-clause-whole c =
-    let all = take_all c.loop-structure.structure-index c.args.order.now c.loop-structure-test.false in
-    whole_all c.args.cells.now c.args.order.now c.loop-structure.ways.items c.requires.order (rw all at c.loop-structure.invariant.whole c.requires.order.behind) (rw all at c.loop-structure.invariant.own)
+returns-clause-whole c = λ is.
+    (let all = take_all c.loop-structure.structure-index c.args.order.now c.loop-structure-test.false in
+    whole_all c.args.cells.now c.args.order.now c.loop-structure.ways.items is (rw all at c.loop-structure.invariant.whole is.behind) (rw all at c.loop-structure.invariant.own))

@@ -1,5 +1,6 @@
 use Rattle.std.proofs.Common.{arith}
 use Rattle.dpl_walk.proofs.ShortLaws.{below_start, below_next, below_end, all_ready, all_known, all_within}
+use Rattle.dpl_walk.proofs.WayLaws.{passed_of}
 use Rattle.dpl_walk.proofs.ways.shorten.Goals as goal
 
 pub loop-structure-init : goal.loop-structure-init
@@ -17,5 +18,10 @@ shorten_at-requires-clause-near c = all_within c.args.cells.now.items c.args.way
 pub loop-structure-preserved : goal.loop-structure-preserved
 loop-structure-preserved c = below_next c.args.ways.now c.loop-structure.structure c.args.cells.now.items c.loop-structure.cells.items c.shorten_at.new.cells.items c.loop-structure.invariant c.in_ok-shorten_at.ensures
 
-pub returns : goal.returns
-returns c = below_end c.args.ways.now c.loop-structure.structure c.args.cells.now.items c.loop-structure.cells.items (omega (arith, c.len-structure-end.ensures)) c.loop-structure.invariant
+pub returns-clause-passed : goal.returns-clause-passed
+returns-clause-passed c =
+    passed_of c.args.cells.now.items c.loop-structure.cells.items c.args.ways.now c.requires.ways.0 c.requires.ways.1 c.requires.known c.requires.few
+    (below_end c.args.ways.now c.loop-structure.structure c.args.cells.now.items c.loop-structure.cells.items (omega (arith, c.len-structure-end.ensures)) c.loop-structure.invariant)
+
+pub returns-clause-short : goal.returns-clause-short
+returns-clause-short c = below_end c.args.ways.now c.loop-structure.structure c.args.cells.now.items c.loop-structure.cells.items (omega (arith, c.len-structure-end.ensures)) c.loop-structure.invariant
