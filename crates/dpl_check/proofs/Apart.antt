@@ -1,28 +1,26 @@
 -- Rectangles of a mask by the features that they lie in.
-use Rattle.std.proofs.Common.{◌≡◌, ◌≢◌, ℕ, ◌+◌, ◌*◌, ◌<◌, ◌≤◌, inl, inr, List, [], length, get_or, Option, Some, None, sym, refl, ◌∙◌, subst, arith}
+use Rattle.std.proofs.Common.{◌≡◌, ℕ, ◌+◌, ◌<◌, List, [], length, get_or, Option, Some, None, sym, ◌∙◌, subst, arith}
 use Rattle.std.specs.Prelude.{◌↔◌}
-use Rattle.std.specs.List.{All, AllZip, Contains}
+use Rattle.std.specs.List.{All, Contains}
 use Rattle.std.proofs.lemmas.Int.{ints}
-use Rattle.std.proofs.lemmas.Bool.{cases_eq}
 use Rattle.std.proofs.lemmas.List.{get_or_default}
 use Rattle.dpl_spec.specs.declared.Pt.{Pt}
 use Rattle.dpl_spec.specs.declared.Rect.{Rect}
-use Rattle.dpl_spec.specs.Squares.{Region, Covers, Has, d2}
+use Rattle.dpl_spec.specs.Squares.{Covers, Has}
 use Rattle.dpl_spec.specs.Slabs.{IsSolid}
-use Rattle.dpl_spec.specs.Components.{Linked, here, AreComponents}
+use Rattle.dpl_spec.specs.Components.{Linked, AreComponents}
 use Rattle.dpl_spec.specs.Zones.{part_at}
 use Rattle.dpl_spec.proofs.ComponentLaws.{Linked-trans, Linked-sym}
 use Rattle.dpl_spec.proofs.SlabLaws.{Covers-member, member-Covers}
 use Rattle.dpl_spec.proofs.WholeLaws.{part-unique}
 use Rattle.dpl_feature.proofs.Links.{linked-within}
 use Rattle.dpl_piece.proofs.CornerLaws.{zip-at}
-use Rattle.dpl_tree.specs.declared.tree.Node.{Node}
-use Rattle.dpl_tree.specs.declared.tree.Owners.TheVariants.{All as Everyone, Only}
-use Rattle.dpl_tree.specs.Trees.{AreLeavesOf}
+use Rattle.dpl_tree.specs.declared.items.Item.{Item}
+use Rattle.dpl_tree.specs.declared.owners.Owners.TheVariants.{All as Everyone, Only}
+use Rattle.dpl_tree.specs.Trees.{AreItemsOf}
 use Rattle.dpl_slabs.specs.Parts.{AreParts}
 use Rattle.dpl_spec.specs.Loops.{farthest}
-use Rattle.dpl_nearest.specs.Search.{AreLeavesWithin, LeafCovers}
-use Rattle.dpl_verdict.specs.Order.{IsLeastPair}
+use Rattle.dpl_nearest.specs.Search.{AreItemsWithin, ItemCovers}
 use Rattle.dpl_verdict.specs.Masks.{AreTooClose}
 use Rattle.dpl_check.specs.Findings.{IsLeastPairOf}
 use Rattle.dpl_check.specs.Owned.{IsAt, AreForeign, AreOwners, IsOwnedOnce, corner}
@@ -35,23 +33,23 @@ pair-same related other (Some pair) same least = record { are = (same pair.0 pai
 pub has-corner : (r : Rect) → IsSolid r → Has r (corner r)
 has-corner r s = record { left = omega (arith, ints); right = s.wide; low = omega (arith, ints); high = s.tall }
 
-module _ (layer : List Rect) (features : List (List Rect)) (nodes : List Node) (mask : List Rect)
-    (are : AreComponents (Covers layer) features) (leaves : AreLeavesOf features nodes) (solid : All IsSolid mask) (within : (p : Pt) → Covers mask p → Covers layer p) where
+module _ (layer : List Rect) (features : List (List Rect)) (items : List Item) (mask : List Rect)
+    (are : AreComponents (Covers layer) features) (of_features : AreItemsOf features items) (solid : All IsSolid mask) (within : (p : Pt) → Covers mask p → Covers layer p) where
   -- each corner is some feature's
-  pub corners-covered : All (λ r. LeafCovers Everyone nodes (corner r)) mask
+  pub corners-covered : All (λ r. ItemCovers Everyone items (corner r)) mask
   corners-covered i d i_in =
       let r = get_or mask i d in
       let in_layer = within (corner r) (Covers-member mask r (corner r) (i, i_in, get_or_default mask i r d i_in) (has-corner r (solid i d i_in))) in
       let (k, part, k_in, is, c) = (are.together (corner r)).1 in_layer in
       let found = member-Covers part (corner r) c in
-      (found.0, k, (leaves found.0 k).1 (k_in, subst (λ (t : List Rect). Contains t found.0) (sym is ∙ get_or_default features k part [] k_in) found.1), tt, found.2)
+      (found.0, k, (of_features found.0 k).1 (k_in, subst (λ (t : List Rect). Contains t found.0) (sym is ∙ get_or_default features k part [] k_in) found.1), tt, found.2)
 
-  module _ (owners : List ℕ) (own : AreOwners nodes mask owners) where
+  module _ (owners : List ℕ) (own : AreOwners items mask owners) where
     -- a rectangle lies in the feature of its owner
     pub slab-feature : (i : ℕ) (p : Pt) → IsAt mask i p → (get_or owners i 0 < length features) × part_at features (get_or owners i 0) p
     slab-feature i p (r, i_in, is, has) =
-        let (s, j, leaf, e, s_has) = subst (λ (u : Rect). LeafCovers (Only (get_or owners i 0)) nodes (corner u)) is (zip-at (λ r k. LeafCovers (Only k) nodes (corner r)) mask owners i r 0 own i_in) in
-        let (j_in, c) = (leaves s j).0 leaf in
+        let (s, j, item, e, s_has) = subst (λ (u : Rect). ItemCovers (Only (get_or owners i 0)) items (corner u)) is (zip-at (λ r k. ItemCovers (Only k) items (corner r)) mask owners i r 0 own i_in) in
+        let (j_in, c) = (of_features s j).0 item in
         let whole = are.whole j [] j_in in
         let r_solid : IsSolid r = subst (λ u. IsSolid u) is (solid i r i_in) in
         let to_corner : Linked (Covers layer) whole.0 (corner r) = (whole.2 (corner r)).0 (Covers-member (get_or features j []) s (corner r) c s_has) in
@@ -103,12 +101,12 @@ module _ (layer : List Rect) (features : List (List Rect)) (nodes : List Node) (
           (i, j, at_p, at_q, (λ e. h.apart (linked-one (get_or owners i 0) p q a.0 a.1 (subst (λ k. part_at features k q) (sym e) b.1))), h.close)),
     )
 
--- the leaves of a tree of features lie within range
-pub feature-leaves : (features items : List (List Rect)) (nodes : List Node) → items ≡ features → AreParts features → AreLeavesOf items nodes → AreLeavesWithin (farthest + 1) nodes
-feature-leaves features items nodes same parts leaves r k leaf =
-    let (k_in, c) = (leaves r k).0 leaf in
+-- the items of a tree of features lie within range
+pub feature-items : (features parts : List (List Rect)) (items : List Item) → parts ≡ features → AreParts features → AreItemsOf parts items → AreItemsWithin (farthest + 1) items
+feature-items features parts items same are of_parts r k item =
+    let (k_in, c) = (of_parts r k).0 item in
     let l_in : k < length features = subst (λ (t : List (List Rect)). k < length t) same k_in in
     let d : Contains (get_or features k []) r = subst (λ (t : List (List Rect)). Contains (get_or t k []) r) same c in
-    let w = parts.within k [] l_in r d in
-    let s : IsSolid r = subst (λ u. IsSolid u) d.2 ((parts.canonical k [] l_in).solid d.0 r d.1) in
+    let w = are.within k [] l_in r d in
+    let s : IsSolid r = subst (λ u. IsSolid u) d.2 ((are.canonical k [] l_in).solid d.0 r d.1) in
     record { wide = s.wide; tall = s.tall; left = omega (arith, w.left); right = omega (arith, w.right); low = omega (arith, w.low); high = omega (arith, w.high) }

@@ -1,26 +1,25 @@
 -- Rectangles with owners, and the least pair of near squares of two owners.
-use Rattle.std.proofs.Common.{◌≡◌, ◌≢◌, ℕ, zero, suc, ◌+◌, ◌*◌, ◌<◌, ◌≤◌, ◌⊎◌, inl, inr, List, [], ◌∷◌, length, get_or, Option, Some, None, sym, refl, ap, ◌∙◌, subst, arith}
-use Rattle.std.specs.Prelude.{◌↔◌, unsigned_abs, pos, ◌+ℤ◌, ◌≤ℤ◌, ◌<ℤ◌}
-use Rattle.std.specs.List.{All, AllZip, Contains}
+use Rattle.std.proofs.Common.{◌≡◌, ℕ, zero, suc, ◌+◌, ◌*◌, ◌<◌, ◌≤◌, ◌⊎◌, inl, inr, List, [], ◌∷◌, length, get_or, Option, Some, None, sym, refl, ap, ◌∙◌, subst, arith}
+use Rattle.std.specs.Prelude.{◌↔◌, unsigned_abs, pos, ◌+ℤ◌, ◌<ℤ◌}
+use Rattle.std.specs.List.{All, Contains}
 use Rattle.std.proofs.lemmas.Int.{ints}
 use Rattle.std.proofs.lemmas.Bool.{cases_eq}
 use Rattle.std.proofs.lemmas.List.{get_or_default}
 use Rattle.dpl_spec.specs.declared.Pt.{Pt}
 use Rattle.dpl_spec.specs.declared.Rect.{Rect}
 use Rattle.dpl_spec.specs.Squares.{Region, Has, IsSolidWithin, Precedes, IsLeast, d2}
-use Rattle.dpl_spec.specs.Loops.{farthest, AreRectsWithin, IsRectWithin}
+use Rattle.dpl_spec.specs.Loops.{farthest, AreRectsWithin}
 use Rattle.dpl_spec.specs.Slabs.{IsSolid}
 use Rattle.dpl_spec.proofs.SquareLaws.{d2-sym}
 use Rattle.dpl_spec.proofs.Ordered.{Contains-nil}
 use Rattle.dpl_tree.specs.declared.items.Item.{Item}
-use Rattle.dpl_tree.specs.declared.tree.Node.{Node}
-use Rattle.dpl_tree.specs.declared.tree.Owners.TheVariants.{All as Everyone, But, Only}
-use Rattle.dpl_tree.specs.Trees.{HasItem, HasLeaf}
-use Rattle.dpl_nearest.specs.Search.{AreLeavesWithin, LeafCovers, near_part, unit_of, IsImproved}
+use Rattle.dpl_tree.specs.declared.owners.Owners.TheVariants.{All as Everyone, But, Only}
+use Rattle.dpl_tree.specs.Trees.{HasItem}
+use Rattle.dpl_nearest.specs.Search.{AreItemsWithin, ItemCovers, near_part, unit_of, IsImproved}
 use Rattle.dpl_nearest.proofs.NearLaws.{Precedes-trans}
 use Rattle.dpl_verdict.specs.Order.{IsLeastPair}
 use Rattle.dpl_check.specs.Findings.{IsLeastOf, IsLeastPairOf}
-use Rattle.dpl_check.specs.Owned.{IsAt, IsOwnedBelow, AreOwnedLeaves, foreign, AreForeign, IsOwnedOnce, IsSingle}
+use Rattle.dpl_check.specs.Owned.{IsAt, IsOwnedBelow, AreOwnedItems, foreign, AreForeign, IsOwnedOnce, IsSingle}
 use Rattle.dpl_check.proofs.Windows.{unit-only, unit-self}
 
 only-one : (x r : Rect) → Contains (x ∷ []) r → x ≡ r
@@ -52,22 +51,22 @@ owns-more rects owners n x o old new n_in x_is o_is before step r k = (
   ]),
 )
 
-pub owns-all : (rects : List Rect) (owners : List ℕ) (n : ℕ) (items : List Item) (nodes : List Node) → length rects ≤ n → OwnsBelow rects owners n items
-    → ((r : Rect) (k : ℕ) → HasLeaf nodes r k ↔ HasItem items r k) → AreOwnedLeaves rects owners nodes
-owns-all rects owners n items nodes all before leaves r k = (
-  λ h. (let (i, l, i_in, is, own) = (before r k).0 ((leaves r k).0 h) in (i, i_in, i_in, is, own)),
-  λ (i, l, i_in, is, own). (leaves r k).1 ((before r k).1 (i, omega (arith, all, i_in), i_in, is, own)),
+pub owns-all : (rects : List Rect) (owners : List ℕ) (n : ℕ) (items tree : List Item) → length rects ≤ n → OwnsBelow rects owners n items
+    → ((r : Rect) (k : ℕ) → HasItem tree r k ↔ HasItem items r k) → AreOwnedItems rects owners tree
+owns-all rects owners n items tree all before same r k = (
+  λ h. (let (i, l, i_in, is, own) = (before r k).0 ((same r k).0 h) in (i, i_in, i_in, is, own)),
+  λ (i, l, i_in, is, own). (same r k).1 ((before r k).1 (i, omega (arith, all, i_in), i_in, is, own)),
 )
 
-pub single-are : (p : Pt) (u : Rect) (owner : ℕ) (old new : List Item) (nodes : List Node) → u ≡ unit_of p → old ≡ []
+pub single-are : (p : Pt) (u : Rect) (owner : ℕ) (old new tree : List Item) → u ≡ unit_of p → old ≡ []
     → ((r : Rect) (k : ℕ) → HasItem new r k ↔ (HasItem old r k ⊎ ((k ≡ owner) × Contains (u ∷ []) r)))
-    → ((r : Rect) (k : ℕ) → HasLeaf nodes r k ↔ HasItem new r k) → IsSingle p owner nodes
-single-are p u owner old new nodes u_is none step leaves r k = (
-  λ h. elim ((step r k).0 ((leaves r k).0 h)) [
+    → ((r : Rect) (k : ℕ) → HasItem tree r k ↔ HasItem new r k) → IsSingle p owner tree
+single-are p u owner old new tree u_is none step same r k = (
+  λ h. elim ((step r k).0 ((same r k).0 h)) [
     | inl a ↦ absurd (no-items r k (subst (λ t. HasItem t r k) none a))
     | inr (e, c) ↦ (e, sym u_is ∙ only-one u r c)
   ],
-  λ (e, is). (leaves r k).1 ((step r k).1 (inr (e, (0, omega arith, u_is ∙ is)))),
+  λ (e, is). (same r k).1 ((step r k).1 (inr (e, (0, omega arith, u_is ∙ is)))),
 )
 
 abbrev IsUpTo : Pt → Pt → Type 0
@@ -93,26 +92,26 @@ improved-least rule x b a c (Some p) (Some m) split wide near least low = record
   first = λ q q_in. elim (split q q_in) [ inl h ↦ up-to-trans m p q low.before (least.first q h) | inr h ↦ low.first q h ];
 }
 
-module _ (rule : ℕ) (rects : List Rect) (owners : List ℕ) (nodes : List Node) where
-  pub foreign-none : IsLeastOf (foreign rule rects owners nodes 0) None
+module _ (rule : ℕ) (rects : List Rect) (owners : List ℕ) (items : List Item) where
+  pub foreign-none : IsLeastOf (foreign rule rects owners items 0) None
   foreign-none = λ (p, (i, l, at, near)). omega (arith, l)
 
-  pub foreign-more : (n : ℕ) (x : Rect) (o : ℕ) (old new : Option Pt) → n < length rects → x ≡ get_or rects n x → o ≡ get_or owners n 0 → IsLeastOf (foreign rule rects owners nodes n) old
-      → IsImproved rule (Has x) (LeafCovers (But o) nodes) old new → IsLeastOf (foreign rule rects owners nodes (n + 1)) new
+  pub foreign-more : (n : ℕ) (x : Rect) (o : ℕ) (old new : Option Pt) → n < length rects → x ≡ get_or rects n x → o ≡ get_or owners n 0 → IsLeastOf (foreign rule rects owners items n) old
+      → IsImproved rule (Has x) (ItemCovers (But o) items) old new → IsLeastOf (foreign rule rects owners items (n + 1)) new
   foreign-more n x o old new n_in x_is o_is =
-      improved-least rule (Has x) (LeafCovers (But o) nodes) (foreign rule rects owners nodes n) (foreign rule rects owners nodes (n + 1)) old new
+      improved-least rule (Has x) (ItemCovers (But o) items) (foreign rule rects owners items n) (foreign rule rects owners items (n + 1)) old new
       (λ p (i, l, (r, i_in, is, has), near). elim (cases_eq i n) [
         | inl e ↦ inr (
           subst (λ (u : Rect). Has u p) (sym is ∙ (ap (λ m. get_or rects m r) e ∙ (get_or_default rects n r x n_in ∙ sym x_is))) has,
-          subst (λ k. (q : Pt) × LeafCovers (But k) nodes q × (d2 p q < rule * rule)) (ap (λ m. get_or owners m 0) e ∙ sym o_is) near,
+          subst (λ k. (q : Pt) × ItemCovers (But k) items q × (d2 p q < rule * rule)) (ap (λ m. get_or owners m 0) e ∙ sym o_is) near,
         )
         | inr ne ↦ inl (i, omega (arith, l, ne), (r, i_in, is, has), near)
       ])
       (λ p (i, l, at, near). (i, omega (arith, l), at, near))
-      (λ p (has, near). (n, omega arith, (x, n_in, sym x_is, has), subst (λ k. (q : Pt) × LeafCovers (But k) nodes q × (d2 p q < rule * rule)) o_is near))
+      (λ p (has, near). (n, omega arith, (x, n_in, sym x_is, has), subst (λ k. (q : Pt) × ItemCovers (But k) items q × (d2 p q < rule * rule)) o_is near))
 
-  pub foreign-all : (n : ℕ) (o : Option Pt) → n ≡ length rects → IsLeastOf (foreign rule rects owners nodes n) o → IsLeastOf (foreign rule rects owners nodes (length rects)) o
-  foreign-all n o all h = subst (λ m. IsLeastOf (foreign rule rects owners nodes m) o) all h
+  pub foreign-all : (n : ℕ) (o : Option Pt) → n ≡ length rects → IsLeastOf (foreign rule rects owners items n) o → IsLeastOf (foreign rule rects owners items (length rects)) o
+  foreign-all n o all h = subst (λ m. IsLeastOf (foreign rule rects owners items m) o) all h
 
 -- a square of rectangles within range
 pub at-within : (rects : List Rect) (i : ℕ) (p : Pt) → AreRectsWithin farthest rects → IsAt rects i p → (unsigned_abs p.x ≤ farthest) × (unsigned_abs p.y ≤ farthest)
@@ -124,21 +123,21 @@ at-within rects i p within (r, i_in, is, has) =
     let d = has.high in
     (omega (arith, ints, w.left, w.right, a, b), omega (arith, ints, w.low, w.high, c, d))
 
-pub foreign-within : (rule : ℕ) (rects : List Rect) (owners : List ℕ) (nodes : List Node) (n : ℕ) (p : Pt) → AreRectsWithin farthest rects → foreign rule rects owners nodes n p
+pub foreign-within : (rule : ℕ) (rects : List Rect) (owners : List ℕ) (items : List Item) (n : ℕ) (p : Pt) → AreRectsWithin farthest rects → foreign rule rects owners items n p
     → (unsigned_abs p.x ≤ farthest) × (unsigned_abs p.y ≤ farthest)
-foreign-within rule rects owners nodes n p within (i, l, at, near) = at-within rects i p within at
+foreign-within rule rects owners items n p within (i, l, at, near) = at-within rects i p within at
 
--- the leaves are rectangles within range
-pub owned-within : (rects : List Rect) (owners : List ℕ) (nodes : List Node) → AreOwnedLeaves rects owners nodes → All IsSolid rects → AreRectsWithin farthest rects → AreLeavesWithin (farthest + 1) nodes
-owned-within rects owners nodes leaves solid within r k leaf =
-    let (i, l, i_in, is, own) = (leaves r k).0 leaf in
+-- the items are rectangles within range
+pub owned-within : (rects : List Rect) (owners : List ℕ) (items : List Item) → AreOwnedItems rects owners items → All IsSolid rects → AreRectsWithin farthest rects → AreItemsWithin (farthest + 1) items
+owned-within rects owners items are solid within r k item =
+    let (i, l, i_in, is, own) = (are r k).0 item in
     let s : IsSolid r = subst (λ u. IsSolid u) is (solid i r i_in) in
     let w = within r (i, i_in, is) in
     record { wide = s.wide; tall = s.tall; left = omega (arith, w.left); right = omega (arith, w.right); low = omega (arith, w.low); high = omega (arith, w.high) }
 
-pub single-within : (p : Pt) (owner : ℕ) (nodes : List Node) → IsSingle p owner nodes → unsigned_abs p.x ≤ farthest → unsigned_abs p.y ≤ farthest → AreLeavesWithin (farthest + 1) nodes
-single-within p owner nodes single x y r k leaf =
-    let (e, is) = (single r k).0 leaf in
+pub single-within : (p : Pt) (owner : ℕ) (items : List Item) → IsSingle p owner items → unsigned_abs p.x ≤ farthest → unsigned_abs p.y ≤ farthest → AreItemsWithin (farthest + 1) items
+single-within p owner items single x y r k item =
+    let (e, is) = (single r k).0 item in
     subst (λ (u : Rect). IsSolidWithin (farthest + 1) u) is (record {
       wide = let t : p.x <ℤ (p.x +ℤ pos 1) = omega (arith, ints) in t;
       tall = let t : p.y <ℤ (p.y +ℤ pos 1) = omega (arith, ints) in t;
@@ -148,33 +147,30 @@ single-within p owner nodes single x y r k leaf =
       high = let t : unsigned_abs (p.y +ℤ pos 1) ≤ farthest + 1 = omega (arith, ints, y) in t;
     })
 
-module _ (rule : ℕ) (rects : List Rect) (owners : List ℕ) (nodes : List Node) (leaves : AreOwnedLeaves rects owners nodes) where
-  leaf-at : (j : ℕ) (q : Pt) → IsAt rects j q → (s : Rect) × HasLeaf nodes s (get_or owners j 0) × Has s q
-  leaf-at j q (s, j_in, is, has) = (s, (leaves s (get_or owners j 0)).1 (j, j_in, j_in, is, refl), has)
+module _ (rule : ℕ) (rects : List Rect) (owners : List ℕ) (items : List Item) (are : AreOwnedItems rects owners items) where
+  owned-rect : (j : ℕ) (q : Pt) → IsAt rects j q → (s : Rect) × HasItem items s (get_or owners j 0) × Has s q
+  owned-rect j q (s, j_in, is, has) = (s, (are s (get_or owners j 0)).1 (j, j_in, j_in, is, refl), has)
 
-  pub foreign-first : (p q : Pt) → AreForeign rule rects owners p q → foreign rule rects owners nodes (length rects) p
+  pub foreign-first : (p q : Pt) → AreForeign rule rects owners p q → foreign rule rects owners items (length rects) p
   foreign-first p q (i, j, (r, i_in, is, has), at_q, apart, close) =
-      let (s, leaf, has_q) = leaf-at j q at_q in
-      (i, i_in, (r, i_in, is, has), (q, (s, get_or owners j 0, leaf, λ e. apart (sym e), has_q), close))
+      let (s, item, has_q) = owned-rect j q at_q in
+      (i, i_in, (r, i_in, is, has), (q, (s, get_or owners j 0, item, λ e. apart (sym e), has_q), close))
 
-  pub none-foreign : IsLeastOf (foreign rule rects owners nodes (length rects)) None → IsLeastPairOf (AreForeign rule rects owners) None
+  pub none-foreign : IsLeastOf (foreign rule rects owners items (length rects)) None → IsLeastPairOf (AreForeign rule rects owners) None
   none-foreign none = λ p q h. none (p, foreign-first p q h)
 
-  pub foreign-covered : (n : ℕ) (p : Pt) → foreign rule rects owners nodes n p → LeafCovers Everyone nodes p
-  foreign-covered n p (i, l, at, near) = let (s, leaf, has) = leaf-at i p at in (s, get_or owners i 0, leaf, tt, has)
+  pub foreign-covered : (n : ℕ) (p : Pt) → foreign rule rects owners items n p → ItemCovers Everyone items p
+  foreign-covered n p (i, l, at, near) = let (s, item, has) = owned-rect i p at in (s, get_or owners i 0, item, tt, has)
 
-  module _ (once : IsOwnedOnce rects owners) (first : Pt) (owner : ℕ) (own : LeafCovers (Only owner) nodes first) (single : List Node) (one : IsSingle first owner single) where
+  module _ (once : IsOwnedOnce rects owners) (first : Pt) (owner : ℕ) (own : ItemCovers (Only owner) items first) (single : List Item) (one : IsSingle first owner single) where
     -- a rectangle of the owner that has the first square
     owned-at : (i : ℕ) × IsAt rects i first × (get_or owners i 0 ≡ owner)
-    owned-at = let (r, k, leaf, is_k, has) = own in
-        let (i, l, i_in, is, own_i) = (leaves r k).0 leaf in
+    owned-at = let (r, k, item, is_k, has) = own in
+        let (i, l, i_in, is, own_i) = (are r k).0 item in
         (i, (r, i_in, is, has), own_i ∙ is_k)
 
     owner-of : (i : ℕ) → IsAt rects i first → get_or owners i 0 ≡ owner
     owner-of i at = let (j, at_j, is) = owned-at in once i j first at at_j ∙ is
-
-    leaf-single : LeafCovers Everyone single first
-    leaf-single = (unit_of first, owner, (one (unit_of first) owner).1 (refl, refl), tt, unit-self first)
 
     second-single : (q : Pt) → AreForeign rule rects owners first q → foreign rule rects owners single (length rects) q
     second-single q (i, j, at, (s, j_in, is, has), apart, close) = (
@@ -185,19 +181,19 @@ module _ (rule : ℕ) (rects : List Rect) (owners : List ℕ) (nodes : List Node
     )
 
     single-second : (n : ℕ) (q : Pt) → foreign rule rects owners single n q → AreForeign rule rects owners first q
-    single-second n q (j, l, at_q, (t, (r, k, leaf, apart, has), close)) =
-        let (e, is) = (one r k).0 leaf in
+    single-second n q (j, l, at_q, (t, (r, k, item, apart, has), close)) =
+        let (e, is) = (one r k).0 item in
         let same : t ≡ first = unit-only first t (subst (λ (u : Rect). Has u t) (sym is) has) in
         let (i, at, own_i) = owned-at in
         (i, j, at, at_q, (λ f. apart (e ∙ (sym own_i ∙ f))), subst (λ n. n < rule * rule) (d2-sym q first) (subst (λ (u : Pt). d2 q u < rule * rule) same close))
 
     -- some second square is there
-    pub some-second : foreign rule rects owners nodes (length rects) first → IsLeastOf (foreign rule rects owners single (length rects)) None → ⊥
-    some-second (i, l, at, (q, (s, k, leaf, apart, has), close)) none =
-        let (j, m, j_in, is, own_j) = (leaves s k).0 leaf in
+    pub some-second : foreign rule rects owners items (length rects) first → IsLeastOf (foreign rule rects owners single (length rects)) None → ⊥
+    some-second (i, l, at, (q, (s, k, item, apart, has), close)) none =
+        let (j, m, j_in, is, own_j) = (are s k).0 item in
         none (q, second-single q (i, j, at, (s, j_in, is, has), (λ e. apart (sym own_j ∙ sym e)), close))
 
-    pub least-foreign : (second : Pt) → IsLeast (foreign rule rects owners nodes (length rects)) first → IsLeast (foreign rule rects owners single (length rects)) second
+    pub least-foreign : (second : Pt) → IsLeast (foreign rule rects owners items (length rects)) first → IsLeast (foreign rule rects owners single (length rects)) second
         → IsLeastPair (AreForeign rule rects owners) first second
     least-foreign second a b = record {
       are = single-second (length rects) second b.inside;

@@ -9,10 +9,10 @@ use Rattle.dpl_spec.specs.Squares.{AreNear, Covers, Has, d2}
 use Rattle.dpl_spec.specs.Zones.{part_at}
 use Rattle.dpl_spec.proofs.SlabLaws.{Covers-member, member-Covers}
 use Rattle.dpl_slabs.specs.Parts.{AreParts}
-use Rattle.dpl_tree.specs.declared.tree.Node.{Node}
-use Rattle.dpl_tree.specs.declared.tree.Owners.TheVariants.{All as Everyone, Only}
-use Rattle.dpl_tree.specs.Trees.{AreLeavesOf}
-use Rattle.dpl_nearest.specs.Search.{LeafCovers, unit_of}
+use Rattle.dpl_tree.specs.declared.items.Item.{Item}
+use Rattle.dpl_tree.specs.declared.owners.Owners.TheVariants.{All as Everyone, Only}
+use Rattle.dpl_tree.specs.Trees.{AreItemsOf}
+use Rattle.dpl_nearest.specs.Search.{ItemCovers, unit_of}
 use Rattle.dpl_piece.specs.Cutting.{CutPieces}
 use Rattle.dpl_cert.specs.declared.cert.PlaceLine.{PlaceLine}
 use Rattle.dpl_cert.specs.declared.cert.NearLine.{NearLine}
@@ -38,16 +38,16 @@ part-once parts i j p are a b = elim (cases_order i j) [
 ]
 
 -- the owner of a square is its piece
-pub of-some : (parts : List (List Rect)) (nodes : List Node) (p : Pt) (piece k : ℕ) → AreParts parts → AreLeavesOf parts nodes → LeafCovers (Only k) nodes p → (k ≡ piece) ↔ part_at parts piece p
-of-some parts nodes p piece k are leaves (r, j, leaf, is, has) =
-    let (j_in, c) = (leaves r j).0 leaf in
+pub of-some : (parts : List (List Rect)) (items : List Item) (p : Pt) (piece k : ℕ) → AreParts parts → AreItemsOf parts items → ItemCovers (Only k) items p → (k ≡ piece) ↔ part_at parts piece p
+of-some parts items p piece k are of_parts (r, j, item, is, has) =
+    let (j_in, c) = (of_parts r j).0 item in
     let there : part_at parts k p = subst (λ n. part_at parts n p) is (Covers-member (get_or parts j []) r p c has) in
     (λ e. subst (λ n. part_at parts n p) e there, λ other. part-once parts k piece p are there other)
 
-pub of-none : (parts : List (List Rect)) (nodes : List Node) (p : Pt) (piece : ℕ) → AreLeavesOf parts nodes → (LeafCovers Everyone nodes p → ⊥) → part_at parts piece p → ⊥
-of-none parts nodes p piece leaves none there =
+pub of-none : (parts : List (List Rect)) (items : List Item) (p : Pt) (piece : ℕ) → AreItemsOf parts items → (ItemCovers Everyone items p → ⊥) → part_at parts piece p → ⊥
+of-none parts items p piece of_parts none there =
     let found = member-Covers (get_or parts piece []) p there in
-    none (found.0, piece, (leaves found.0 piece).1 (part-known parts piece p there, found.1), tt, found.2)
+    none (found.0, piece, (of_parts found.0 piece).1 (part-known parts piece p there, found.1), tt, found.2)
 
 pub near-units : (rule : ℕ) (p q : Pt) (u v : Rect) → u ≡ unit_of p → v ≡ unit_of q → AreNear rule (Has u) (Has v) ↔ (d2 p q < rule * rule)
 near-units rule p q u v e f = (

@@ -1,6 +1,6 @@
 -- Sets of squares by their slabs.
-use Rattle.std.proofs.Common.{◌≡◌, ℕ, zero, suc, ◌+◌, ◌<◌, ◌⊎◌, inl, inr, List, [], ◌∷◌, length, get_or, map, Option, Some, None, sym, refl, ap, ◌∙◌, subst, arith, rules}
-use Rattle.std.specs.Prelude.{◌↔◌, IsNone, IfSome, unsigned_abs, ◌≤ℤ◌}
+use Rattle.std.proofs.Common.{◌≡◌, ℕ, zero, suc, ◌<◌, ◌⊎◌, inl, inr, List, [], ◌∷◌, length, get_or, map, Option, Some, None, sym, refl, ap, ◌∙◌, subst, arith, rules}
+use Rattle.std.specs.Prelude.{◌↔◌, IsNone, IfSome}
 use Rattle.std.specs.List.{All, Any, Contains}
 use Rattle.std.proofs.lemmas.Int.{ints, by_lt_z}
 use Rattle.dpl_spec.specs.declared.Pt.{Pt}

@@ -1,6 +1,6 @@
--- Leaves of a search tree that have a square in a window.
-use Rattle.std.proofs.Common.{◌≡◌, ℕ, ◌+◌, ◌<◌, ◌≤◌, ◌⊎◌, inl, inr, List, length, get_or, sym, ap, refl, ◌∙◌, subst, arith}
-use Rattle.std.specs.Prelude.{ℤ, pos, ◌+ℤ◌, ◌≤ℤ◌, ◌<ℤ◌, ◌↔◌, Option, Some, None, Bool, true, false, IsTrue, IfSome, IsNone}
+-- Items of a search tree that have a square in a window.
+use Rattle.std.proofs.Common.{◌≡◌, ℕ, ◌+◌, ◌<◌, ◌≤◌, inl, inr, List, length, get_or, sym, ap, refl, ◌∙◌, subst, arith}
+use Rattle.std.specs.Prelude.{ℤ, pos, ◌+ℤ◌, ◌≤ℤ◌, ◌<ℤ◌, Option, Some, None, IfSome}
 use Rattle.std.proofs.lemmas.Int.{ints, by_lt_z}
 use Rattle.dpl_spec.specs.declared.Pt.{Pt}
 use Rattle.dpl_spec.specs.declared.Rect.{Rect}
@@ -8,11 +8,11 @@ use Rattle.dpl_spec.specs.Squares.{Has}
 use Rattle.dpl_spec.specs.Slabs.{IsSolid}
 use Rattle.dpl_spec.specs.Loops.{farthest}
 use Rattle.dpl_spec.specs.Zones.{at}
-use Rattle.dpl_tree.specs.declared.tree.Node.{Node}
-use Rattle.dpl_tree.specs.declared.tree.Owners.TheVariants.{All as Everyone, Only}
-use Rattle.dpl_tree.specs.Trees.{IsTree, HasLeaf, LiesApart, IsMissed}
-use Rattle.dpl_nearest.specs.Search.{AreLeavesWithin, LeafCovers, unit_of}
-use Rattle.dpl_nearest.proofs.LeafLaws.{found-leaf}
+use Rattle.dpl_tree.specs.declared.items.Item.{Item}
+use Rattle.dpl_tree.specs.declared.owners.Owners.TheVariants.{All as Everyone, Only}
+use Rattle.dpl_tree.specs.Trees.{LiesApart, IsMissed, ArePassed}
+use Rattle.dpl_tree.proofs.ItemLaws.{item-at}
+use Rattle.dpl_nearest.specs.Search.{AreItemsWithin, ItemCovers, unit_of}
 use Rattle.dpl_verdict.specs.Order.{HasSquare}
 
 -- two spans that aren't apart share a number
@@ -33,23 +33,18 @@ apart-none window r p (inr (inl h)) a b = let k = a.right in let l = b.left in o
 apart-none window r p (inr (inr (inl h))) a b = let k = a.low in let l = b.high in omega (arith, ints, h, k, l)
 apart-none window r p (inr (inr (inr h))) a b = let k = a.high in let l = b.low in omega (arith, ints, h, k, l)
 
-pub found-in : (nodes : List Node) (window : Rect) (n : ℕ) (d : Node) → IsTree nodes → n < length nodes → IsSolid window → AreLeavesWithin (farthest + 1) nodes
-    → ((get_or nodes n d).size ≡ 1) × (IsMissed window Everyone (get_or nodes n d) → ⊥)
-    → HasSquare (λ p. Has window p × LeafCovers (Only (get_or nodes n d).least) nodes p)
-found-in nodes window n d tree n_in w leaves (one, free) =
-    let leaf = found-leaf nodes n d tree n_in one in
-    let solid = leaves (get_or nodes n d).bounds (get_or nodes n d).least leaf in
-    let (p, (a, b)) = in-both window (get_or nodes n d).bounds w (record { wide = solid.wide; tall = solid.tall }) (λ h. free (inl h)) in
-    (p, (a, ((get_or nodes n d).bounds, (get_or nodes n d).least, leaf, refl, b)))
+pub found-in : (items : List Item) (window : Rect) (n : ℕ) (d : Item) → n < length items → IsSolid window → AreItemsWithin (farthest + 1) items → (IsMissed window Everyone (get_or items n d) → ⊥)
+    → HasSquare (λ p. Has window p × ItemCovers (Only (get_or items n d).owner) items p)
+found-in items window n d n_in w within free =
+    let item = item-at items n d n_in in
+    let solid = within (get_or items n d).rect (get_or items n d).owner item in
+    let (p, (a, b)) = in-both window (get_or items n d).rect w (record { wide = solid.wide; tall = solid.tall }) (λ h. free (inl h)) in
+    (p, (a, ((get_or items n d).rect, (get_or items n d).owner, item, refl, b)))
 
-pub none-in : (nodes : List Node) (window : Rect) (n : ℕ) → length nodes ≤ n
-    → ((j : ℕ) (d : Node) → 0 ≤ j → j < n → j < length nodes → (get_or nodes j d).size ≡ 1 → IsMissed window Everyone (get_or nodes j d))
-    → HasSquare (λ p. Has window p × LeafCovers Everyone nodes p) → ⊥
-none-in nodes window n all passed (p, (a, (r, k, (j, node, from, j_in, is, leaf), sought, b))) =
-    let one : (get_or nodes j node).size ≡ 1 = subst (λ u. let v : Node = u in v.size ≡ 1) (sym is) leaf.size in
-    let missed : IsMissed window Everyone node = subst (λ u. let v : Node = u in IsMissed window Everyone v) is (passed j node (omega arith) (omega (arith, all, j_in)) j_in one) in
-    elim missed [
-      | inl apart ↦ apart-none window node.bounds p apart a (subst (λ (u : Rect). Has u p) (sym leaf.rect) b)
+pub none-in : (items : List Item) (window : Rect) (n : ℕ) → length items ≤ n → ArePassed window Everyone items 0 n → HasSquare (λ p. Has window p × ItemCovers Everyone items p) → ⊥
+none-in items window n all passed (p, (a, (r, k, (item, (j, j_in, is), rect, own), sought, b))) =
+    elim (subst (λ t. IsMissed window Everyone t) is (passed j item (omega arith) (omega (arith, all, j_in)) j_in)) [
+      | inl apart ↦ apart-none window item.rect p apart a (subst (λ (u : Rect). Has u p) (sym rect) b)
       | inr bad ↦ absurd bad
     ]
 
@@ -67,10 +62,10 @@ pub unit-self : (p : Pt) → Has (unit_of p) p
 unit-self p = record { left = omega (arith, ints); right = omega (arith, ints); low = omega (arith, ints); high = omega (arith, ints) }
 
 -- an owner in the window of a square is the square's
-pub at-some : (nodes : List Node) (p : Pt) (u : Rect) (o : Option ℕ) → u ≡ unit_of p → IfSome o (λ k. HasSquare (λ q. Has u q × LeafCovers (Only k) nodes q)) → IfSome o (λ k. LeafCovers (Only k) nodes p)
-at-some nodes p u None is none = none
-at-some nodes p u (Some k) is (q, (in-unit, leaf)) = subst (λ r. LeafCovers (Only k) nodes r) (unit-only p q (subst (λ (v : Rect). Has v q) is in-unit)) leaf
+pub at-some : (items : List Item) (p : Pt) (u : Rect) (o : Option ℕ) → u ≡ unit_of p → IfSome o (λ k. HasSquare (λ q. Has u q × ItemCovers (Only k) items q)) → IfSome o (λ k. ItemCovers (Only k) items p)
+at-some items p u None is none = none
+at-some items p u (Some k) is (q, (in-unit, own)) = subst (λ r. ItemCovers (Only k) items r) (unit-only p q (subst (λ (v : Rect). Has v q) is in-unit)) own
 
 -- an owner is one of everyone
-pub of-everyone : (nodes : List Node) (k : ℕ) (p : Pt) → LeafCovers (Only k) nodes p → LeafCovers Everyone nodes p
-of-everyone nodes k p (r, j, leaf, sought, h) = (r, j, leaf, tt, h)
+pub of-everyone : (items : List Item) (k : ℕ) (p : Pt) → ItemCovers (Only k) items p → ItemCovers Everyone items p
+of-everyone items k p (r, j, item, sought, h) = (r, j, item, tt, h)

@@ -2,9 +2,9 @@
 use Rattle.std.specs.Prelude.{◌≢◌, ℕ, pos, ◌<◌, ◌⊎◌, ◌-ℤ◌, ◌≤ℤ◌, cond, List, Option, Some, None, length}
 use Rattle.dpl_spec.specs.declared.Pt.{Pt}
 use Rattle.dpl_spec.specs.Squares.{Region, Has, IsLeast}
-use Rattle.dpl_tree.specs.declared.tree.Node.{Node}
-use Rattle.dpl_tree.specs.declared.tree.Owners.TheVariants.{All as Everyone}
-use Rattle.dpl_nearest.specs.Search.{LeafCovers}
+use Rattle.dpl_tree.specs.declared.items.Item.{Item}
+use Rattle.dpl_tree.specs.declared.owners.Owners.TheVariants.{All as Everyone}
+use Rattle.dpl_nearest.specs.Search.{ItemCovers}
 use Rattle.dpl_cert.specs.declared.cert.PieceLine.{PieceLine}
 use Rattle.dpl_cert.specs.declared.cert.StitchLine.{StitchLine}
 use Rattle.dpl_verdict.specs.Masks.{piece_at}
@@ -32,5 +32,5 @@ abbrev pub IsWrongStitch : ℕ → Region → List PieceLine → ℕ → StitchL
 IsWrongStitch overlap off pieces k s = ¬ IsRightStitch overlap off pieces s
 
 -- the square isn't in the tree of the mask that the line names
-abbrev pub IsOffMask : List Node → List Node → ℕ → PieceLine → Type 0
-IsOffMask a b k line = ¬ LeafCovers Everyone (cond line.b b a) line.key
+abbrev pub IsOffMask : List Item → List Item → ℕ → PieceLine → Type 0
+IsOffMask a b k line = ¬ ItemCovers Everyone (cond line.b b a) line.key

@@ -5,17 +5,17 @@ use Rattle.dpl_spec.specs.declared.Pt.{Pt}
 use Rattle.dpl_spec.specs.declared.Rect.{Rect}
 use Rattle.dpl_spec.specs.Squares.{Region, Has, d2}
 use Rattle.dpl_spec.specs.Zones.{at}
-use Rattle.dpl_tree.specs.declared.tree.Node.{Node}
-use Rattle.dpl_tree.specs.declared.tree.Owners.TheVariants.{But, Only}
-use Rattle.dpl_tree.specs.Trees.{HasLeaf}
-use Rattle.dpl_nearest.specs.Search.{LeafCovers, unit_of}
+use Rattle.dpl_tree.specs.declared.items.Item.{Item}
+use Rattle.dpl_tree.specs.declared.owners.Owners.TheVariants.{But, Only}
+use Rattle.dpl_tree.specs.Trees.{HasItem}
+use Rattle.dpl_nearest.specs.Search.{ItemCovers, unit_of}
 
 abbrev pub corner : Rect → Pt
 corner r = at r.x0 r.y0
 
 -- each rectangle's corner is the owner's
-abbrev pub AreOwners : List Node → List Rect → List ℕ → Type 0
-AreOwners nodes rects owners = AllZip (λ r k. LeafCovers (Only k) nodes (corner r)) rects owners
+abbrev pub AreOwners : List Item → List Rect → List ℕ → Type 0
+AreOwners items rects owners = AllZip (λ r k. ItemCovers (Only k) items (corner r)) rects owners
 
 -- rectangle number i, which has the square
 abbrev pub IsAt : List Rect → ℕ → Pt → Type 0
@@ -25,14 +25,14 @@ IsAt rects i p = (r : Rect) × (i < length rects) × (slice_index_or rects i r �
 abbrev pub IsOwnedBelow : ℕ → List Rect → List ℕ → Rect → ℕ → Type 0
 IsOwnedBelow n rects owners r k = (i : ℕ) × (i < n) × (i < length rects) × (slice_index_or rects i r ≡ r) × (slice_index owners i ≡ k)
 
--- the leaves are the rectangles, each with its owner
-abbrev pub AreOwnedLeaves : List Rect → List ℕ → List Node → Type 0
-AreOwnedLeaves rects owners nodes = (r : Rect) (k : ℕ) → HasLeaf nodes r k ↔ IsOwnedBelow (length rects) rects owners r k
+-- the items are the rectangles, each with its owner
+abbrev pub AreOwnedItems : List Rect → List ℕ → List Item → Type 0
+AreOwnedItems rects owners items = (r : Rect) (k : ℕ) → HasItem items r k ↔ IsOwnedBelow (length rects) rects owners r k
 
--- the squares of the first n rectangles that are near another owner's leaf
-abbrev pub foreign : ℕ → List Rect → List ℕ → List Node → ℕ → Region
-foreign rule rects owners nodes n p =
-    (i : ℕ) × (i < n) × IsAt rects i p × ((q : Pt) × LeafCovers (But (slice_index owners i)) nodes q × (d2 p q < rule * rule))
+-- the squares of the first n rectangles that are near another owner's item
+abbrev pub foreign : ℕ → List Rect → List ℕ → List Item → ℕ → Region
+foreign rule rects owners items n p =
+    (i : ℕ) × (i < n) × IsAt rects i p × ((q : Pt) × ItemCovers (But (slice_index owners i)) items q × (d2 p q < rule * rule))
 
 -- squares of rectangles of two owners that are near
 abbrev pub AreForeign : ℕ → List Rect → List ℕ → Pt → Pt → Type 0
@@ -43,6 +43,6 @@ AreForeign rule rects owners p q =
 abbrev pub IsOwnedOnce : List Rect → List ℕ → Type 0
 IsOwnedOnce rects owners = (i j : ℕ) (p : Pt) → IsAt rects i p → IsAt rects j p → slice_index owners i ≡ slice_index owners j
 
--- the one leaf is the square's, with this owner
-abbrev pub IsSingle : Pt → ℕ → List Node → Type 0
-IsSingle p owner nodes = (r : Rect) (k : ℕ) → HasLeaf nodes r k ↔ ((k ≡ owner) × (unit_of p ≡ r))
+-- the one item is the square's, with this owner
+abbrev pub IsSingle : Pt → ℕ → List Item → Type 0
+IsSingle p owner items = (r : Rect) (k : ℕ) → HasItem items r k ↔ ((k ≡ owner) × (unit_of p ≡ r))

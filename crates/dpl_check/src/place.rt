@@ -7,7 +7,7 @@ ghost use Rattle.dpl_spec.specs.Loops.{farthest};
 ghost use Rattle.dpl_spec.specs.Zones.{part_at};
 ghost use Rattle.dpl_cert.specs.Grammar.{IsNear, IsPlace, IsPoint};
 ghost use Rattle.dpl_slabs.specs.Parts.{AreParts};
-ghost use Rattle.dpl_tree.specs.Trees.{AreLeavesOf};
+ghost use Rattle.dpl_tree.specs.Trees.{AreItemsOf};
 ghost use Rattle.dpl_verdict.specs.Conflicts.{IsBadPlace};
 ghost use Rattle.dpl_check.specs.Findings.{IsFirstBadOf};
 ghost use Rattle.dpl_check.specs.Places.{AreMarked, IsKeyed, IsNearLine, IsRightPlace};
@@ -26,7 +26,7 @@ use std::alloc::{AllocError, Global};
 fn is_of_piece(parts: &[Slabs], tree: &Tree, p: Pt, piece: u64) -> bool
     requires point { IsPoint p }
     requires parts { AreParts parts.now }
-    requires leaves { AreLeavesOf parts.now tree.now }
+    requires items { AreItemsOf parts.now tree.now }
     ensures { IsTrue result ↔ part_at parts.now piece p }
 {
     match owner_at(tree, p) {
@@ -57,7 +57,7 @@ fn is_near_line(
 ) -> bool
     requires line { IsNear line.now }
     requires parts { AreParts parts.now }
-    requires leaves { AreLeavesOf parts.now tree.now }
+    requires items { AreItemsOf parts.now tree.now }
     ensures { IsTrue result ↔ IsNearLine rule parts.now piece next line.now }
 {
     if !is_of_piece(parts, tree, line.from, piece) {
@@ -90,7 +90,7 @@ fn is_right(
     rule: u32,
 ) -> bool
     requires line { IsNear line.now }
-    requires leaves { AreLeavesOf cut.now.pieces.parts tree.now }
+    requires items { AreItemsOf cut.now.pieces.parts tree.now }
     ensures { IsTrue result ↔ IsRightPlace rule cut.now.pieces place.now next line.now }
 {
     let parts = cut.pieces.parts().items();
@@ -115,7 +115,7 @@ fn first_wrong(
 ) -> Option<u64>
     requires each { length near.now ≡ length cycle.now }
     requires lines { All IsNear near.now }
-    requires leaves { AreLeavesOf cut.now.pieces.parts tree.now }
+    requires items { AreItemsOf cut.now.pieces.parts tree.now }
     requires stood { AreMarked (length cut.now.pieces.parts) cycle.now 0 stood.items }
     ensures { (features : List (List Rect)) → IsFirstBadOf (IsBadPlace rule (cut_view features cut.now.pieces) cycle.now near.now) cycle.now result }
 {

@@ -7,12 +7,11 @@ ghost use Rattle.dpl_spec.specs.Components.{AreComponents};
 ghost use Rattle.dpl_spec.specs.Loops.{farthest, AreRectsWithin, IsRectWithin};
 ghost use Rattle.dpl_spec.specs.Slabs.{IsSolid};
 ghost use Rattle.dpl_spec.specs.Squares.{Covers};
-ghost use Rattle.dpl_tree.specs.Trees.{HasLeaf};
-ghost use Rattle.dpl_tree.specs.declared.tree.Owners.TheVariants.{All as Everyone, Only};
-ghost use Rattle.dpl_nearest.specs.Search.{AreLeavesWithin, LeafCovers, unit_of};
+ghost use Rattle.dpl_tree.specs.declared.owners.Owners.TheVariants.{All as Everyone, Only};
+ghost use Rattle.dpl_nearest.specs.Search.{AreItemsWithin, ItemCovers, unit_of};
 ghost use Rattle.dpl_verdict.specs.Masks.{AreTooClose};
 ghost use Rattle.dpl_check.specs.Findings.{IsLeastOf, IsLeastPairOf};
-ghost use Rattle.dpl_check.specs.Owned.{AreForeign, AreOwnedLeaves, AreOwners, IsOwnedOnce, IsSingle, corner, foreign};
+ghost use Rattle.dpl_check.specs.Owned.{AreForeign, AreOwnedItems, AreOwners, IsOwnedOnce, IsSingle, corner, foreign};
 
 use crate::window::owner_at;
 use dpl_base::{Pt, Rect};
@@ -24,9 +23,9 @@ use std::alloc::{AllocError, Global};
 /// The owner of the tree's rectangle that has the lower left square of `r`.
 fn owner_of(r: &Rect, tree: &Tree) -> usize
     requires within { IsRectWithin farthest r.now }
-    requires leaves { AreLeavesWithin (farthest + 1) tree.now }
-    requires inside { LeafCovers Everyone tree.now (corner r.now) }
-    ensures { LeafCovers (Only result) tree.now (corner r.now) }
+    requires items { AreItemsWithin (farthest + 1) tree.now }
+    requires inside { ItemCovers Everyone tree.now (corner r.now) }
+    ensures { ItemCovers (Only result) tree.now (corner r.now) }
 {
     let p = Pt { x: r.x0, y: r.y0 };
     match owner_at(tree, p) {
@@ -38,8 +37,8 @@ fn owner_of(r: &Rect, tree: &Tree) -> usize
 /// The same for each rectangle.
 fn owners_of(alloc: Global, rects: &[Rect], tree: &Tree) -> Result<Vec<usize>, AllocError>
     requires within { AreRectsWithin farthest rects.now }
-    requires leaves { AreLeavesWithin (farthest + 1) tree.now }
-    requires inside { All (λ r. LeafCovers Everyone tree.now (corner r)) rects.now }
+    requires items { AreItemsWithin (farthest + 1) tree.now }
+    requires inside { All (λ r. ItemCovers Everyone tree.now (corner r)) rects.now }
     ensures { IfOk result (λ v. AreOwners tree.now rects.now v.items) }
 {
     let mut owners = Vec::new(alloc);
@@ -52,9 +51,9 @@ fn owners_of(alloc: Global, rects: &[Rect], tree: &Tree) -> Result<Vec<usize>, A
 /// The tree of rectangles, each with its owner.
 fn owned_tree(alloc: Global, rects: &[Rect], owners: &[usize]) -> Result<Tree, AllocError>
     requires { length owners.now ≡ length rects.now }
-    ensures { IfOk result (λ t. AreOwnedLeaves rects.now owners.now t) }
+    ensures { IfOk result (λ t. AreOwnedItems rects.now owners.now t) }
 {
-    let mut items = Vec::new(alloc);
+    let mut items = Vec::with_capacity(alloc, rects.len())?;
     for i in 0..rects.len() {
         add_items_of(&mut items, &[rects[i]], owners[i])?;
     }
@@ -74,12 +73,12 @@ fn single_tree(alloc: Global, p: Pt, owner: usize) -> Result<Tree, AllocError>
     Ok(tree)
 }
 
-/// The least square of rectangles that is near a leaf of another owner.
+/// The least square of rectangles that is near a rectangle of another owner.
 fn first_foreign(rects: &[Rect], owners: &[usize], tree: &Tree, rule: u32) -> Option<Pt>
     requires each { length owners.now ≡ length rects.now }
     requires solid { All IsSolid rects.now }
     requires within { AreRectsWithin farthest rects.now }
-    requires leaves { AreLeavesWithin (farthest + 1) tree.now }
+    requires items { AreItemsWithin (farthest + 1) tree.now }
     ensures { IsLeastOf (foreign rule rects.now owners.now tree.now (length rects.now)) result }
 {
     let mut best = None;

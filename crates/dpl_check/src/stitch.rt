@@ -4,8 +4,8 @@ ghost use Rattle.std.specs.List.{All};
 ghost use Rattle.dpl_cert.specs.Grammar.{IsCoordinate, IsRect, IsStitch};
 ghost use Rattle.dpl_spec.specs.Squares.{Covers, Has};
 ghost use Rattle.dpl_spec.specs.Loops.{farthest};
-ghost use Rattle.dpl_tree.specs.declared.tree.Owners.TheVariants.{All as Everyone};
-ghost use Rattle.dpl_nearest.specs.Search.{AreLeavesWithin, LeafCovers};
+ghost use Rattle.dpl_tree.specs.declared.owners.Owners.TheVariants.{All as Everyone};
+ghost use Rattle.dpl_nearest.specs.Search.{AreItemsWithin, ItemCovers};
 ghost use Rattle.dpl_verdict.specs.Order.{HasSquare};
 ghost use Rattle.dpl_verdict.specs.Masks.{IsBadStitch, piece_at};
 ghost use Rattle.dpl_check.specs.Findings.{IsFirstBadOf, IsRightStitch, IsWrongStitch};
@@ -58,8 +58,8 @@ fn are_parted(pieces: &[PieceLine], p: u64, q: u64) -> bool
 /// Whether a stitch has no square among those that aren't on both masks, and is long and parts pieces of two letters.
 fn is_right(s: &StitchLine, pieces: &[PieceLine], off: &Tree, overlap: u32) -> bool
     requires fits { IsStitch s.now }
-    requires leaves { AreLeavesWithin (farthest + 1) off.now }
-    ensures { IsTrue result ↔ IsRightStitch overlap (LeafCovers Everyone off.now) pieces.now s.now }
+    requires items { AreItemsWithin (farthest + 1) off.now }
+    ensures { IsTrue result ↔ IsRightStitch overlap (ItemCovers Everyone off.now) pieces.now s.now }
 {
     if is_met(off, &s.rect) {
         return false;
@@ -78,8 +78,8 @@ fn first_wrong(
     overlap: u32,
 ) -> Option<u64>
     requires fits { All IsStitch stitches.now }
-    requires leaves { AreLeavesWithin (farthest + 1) off.now }
-    ensures { IsFirstBadOf (IsWrongStitch overlap (LeafCovers Everyone off.now) pieces.now) stitches.now result }
+    requires items { AreItemsWithin (farthest + 1) off.now }
+    ensures { IsFirstBadOf (IsWrongStitch overlap (ItemCovers Everyone off.now) pieces.now) stitches.now result }
 {
     for k in 0..stitches.len() {
         if !is_right(&stitches[k], pieces, off, overlap) {

@@ -3,8 +3,8 @@ ghost use Rattle.std.specs.Prelude.{◌+◌, ◌≤◌, ◌^◌, ◌↔◌, IsTr
 ghost use Rattle.dpl_spec.specs.Loops.{farthest};
 ghost use Rattle.dpl_spec.specs.Slabs.{IsSolid};
 ghost use Rattle.dpl_spec.specs.Squares.{Has};
-ghost use Rattle.dpl_tree.specs.declared.tree.Owners.TheVariants.{All as Everyone, Only};
-ghost use Rattle.dpl_nearest.specs.Search.{AreLeavesWithin, LeafCovers};
+ghost use Rattle.dpl_tree.specs.declared.owners.Owners.TheVariants.{All as Everyone, Only};
+ghost use Rattle.dpl_nearest.specs.Search.{AreItemsWithin, ItemCovers};
 ghost use Rattle.dpl_verdict.specs.Order.{HasSquare};
 
 use dpl_base::{Pt, Rect};
@@ -14,14 +14,14 @@ use dpl_tree::{Owners, Tree};
 /// The owner of a rectangle that has a square in the window, if there is one.
 pub(crate) fn owner_in(tree: &Tree, window: &Rect) -> Option<usize>
     requires window { IsSolid window.now }
-    requires leaves { AreLeavesWithin (farthest + 1) tree.now }
-    ensures none { IsNone result → ¬ HasSquare (λ p. Has window.now p × LeafCovers Everyone tree.now p) }
-    ensures some { IfSome result (λ k. HasSquare (λ p. Has window.now p × LeafCovers (Only k) tree.now p)) }
+    requires items { AreItemsWithin (farthest + 1) tree.now }
+    ensures none { IsNone result → ¬ HasSquare (λ p. Has window.now p × ItemCovers Everyone tree.now p) }
+    ensures some { IfSome result (λ k. HasSquare (λ p. Has window.now p × ItemCovers (Only k) tree.now p)) }
 {
-    let nodes = tree.nodes();
+    let items = tree.items();
     let n = tree.seek(0, window, Owners::All);
-    if n < nodes.len() {
-        return Some(nodes[n].least);
+    if n < items.len() {
+        return Some(items[n].owner);
     }
     None
 }
@@ -30,9 +30,9 @@ pub(crate) fn owner_in(tree: &Tree, window: &Rect) -> Option<usize>
 pub(crate) fn owner_at(tree: &Tree, p: Pt) -> Option<usize>
     requires x { unsigned_abs p.x ≤ 2 ^ 61 }
     requires y { unsigned_abs p.y ≤ 2 ^ 61 }
-    requires leaves { AreLeavesWithin (farthest + 1) tree.now }
-    ensures none { IsNone result → ¬ LeafCovers Everyone tree.now p }
-    ensures some { IfSome result (λ k. LeafCovers (Only k) tree.now p) }
+    requires items { AreItemsWithin (farthest + 1) tree.now }
+    ensures none { IsNone result → ¬ ItemCovers Everyone tree.now p }
+    ensures some { IfSome result (λ k. ItemCovers (Only k) tree.now p) }
 {
     let window = unit(p);
     owner_in(tree, &window)
@@ -41,8 +41,8 @@ pub(crate) fn owner_at(tree: &Tree, p: Pt) -> Option<usize>
 /// Whether some rectangle has a square in the window.
 pub(crate) fn is_met(tree: &Tree, window: &Rect) -> bool
     requires window { IsSolid window.now }
-    requires leaves { AreLeavesWithin (farthest + 1) tree.now }
-    ensures { IsTrue result ↔ HasSquare (λ p. Has window.now p × LeafCovers Everyone tree.now p) }
+    requires items { AreItemsWithin (farthest + 1) tree.now }
+    ensures { IsTrue result ↔ HasSquare (λ p. Has window.now p × ItemCovers Everyone tree.now p) }
 {
     match owner_in(tree, window) {
         Some(_) => true,
@@ -54,8 +54,8 @@ pub(crate) fn is_met(tree: &Tree, window: &Rect) -> bool
 pub(crate) fn has(tree: &Tree, p: Pt) -> bool
     requires x { unsigned_abs p.x ≤ 2 ^ 61 }
     requires y { unsigned_abs p.y ≤ 2 ^ 61 }
-    requires leaves { AreLeavesWithin (farthest + 1) tree.now }
-    ensures { IsTrue result ↔ LeafCovers Everyone tree.now p }
+    requires items { AreItemsWithin (farthest + 1) tree.now }
+    ensures { IsTrue result ↔ ItemCovers Everyone tree.now p }
 {
     match owner_at(tree, p) {
         Some(_) => true,

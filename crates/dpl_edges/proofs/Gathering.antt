@@ -11,8 +11,8 @@ use Rattle.dpl_spec.specs.declared.Rect.{Rect}
 use Rattle.dpl_spec.specs.Squares.{AreNear, Has}
 use Rattle.dpl_spec.specs.Zones.{part_at}
 use Rattle.dpl_spec.proofs.SquareLaws.{AreNear-sym}
-use Rattle.dpl_tree.specs.declared.tree.Node.{Node}
-use Rattle.dpl_tree.specs.declared.tree.Owners.TheVariants.{All, But}
+use Rattle.dpl_tree.specs.declared.items.Item.{Item}
+use Rattle.dpl_tree.specs.declared.owners.Owners.TheVariants.{All, But}
 use Rattle.dpl_tree.specs.Trees.{IsMissed}
 use Rattle.dpl_tree.specs.Windows.{IsWidened}
 use Rattle.dpl_tile.specs.Adding.{Adds}
@@ -28,9 +28,9 @@ abbrev pub IsNearSlab : ℕ → List ℕ → ℕ → Rect → ℕ → Rect → �
 IsNearSlab rule owners i s k r y = (y ≡ k) × AreMeeting rule owners i s k r
 
 -- a slab that a search round the rectangle goes past isn't such
-pub near-missed : (rule : ℕ) (owners : List ℕ) (i : ℕ) (s window : Rect) → IsWidened s rule window → (node : Node) (y : ℕ) → node.least ≡ node.greatest → IsMissed window (But i) node → IsNearSlab rule owners i s node.least node.bounds y → ⊥
-near-missed rule owners i s window wide node y same (inl apart) (is, meet) = apart-far rule s window node.bounds wide apart meet.near
-near-missed rule owners i s window wide node y same (inr (least, greatest)) (is, meet) = meet.apart (ap (slice_index owners) (sym least))
+pub near-missed : (rule : ℕ) (owners : List ℕ) (i : ℕ) (s window : Rect) → IsWidened s rule window → (item : Item) (y : ℕ) → IsMissed window (But i) item → IsNearSlab rule owners i s item.owner item.rect y → ⊥
+near-missed rule owners i s window wide item y (inl apart) (is, meet) = apart-far rule s window item.rect wide apart meet.near
+near-missed rule owners i s window wide item y (inr own) (is, meet) = meet.apart (ap (slice_index owners) (sym own))
 
 pub near-pieces : (rule : ℕ) (parts : List (List Rect)) (owners : List ℕ) (i : ℕ) (s : Rect) (k : ℕ) → OfSlab (IsNearSlab rule owners i s) parts k ↔ IsNearPiece rule parts owners i (Has s) k
 near-pieces rule parts owners i s k = (
@@ -60,9 +60,9 @@ ends-push i k old new e h is = adds-same (λ f. f ≡ e) (IsEnds i k) old new (�
 
 module _ (rule : ℕ) (parts : List (List Rect)) (owners : List ℕ) (cell : Rect) where
   -- a slab without a square in the cell finds no edge
-  pub cell-missed : (node : Node) (e : ℕ × ℕ) → node.least ≡ node.greatest → IsMissed cell All node → IsSlabEdge rule parts owners cell node.least node.bounds e → ⊥
-  cell-missed node e same (inl apart) (k, h, is) = let (p, q, a, b, near) = h.near in apart-none cell node.bounds p apart a.0 a.1
-  cell-missed node e same (inr none) h = none
+  pub cell-missed : (item : Item) (e : ℕ × ℕ) → IsMissed cell All item → IsSlabEdge rule parts owners cell item.owner item.rect e → ⊥
+  cell-missed item e (inl apart) (k, h, is) = let (p, q, a, b, near) = h.near in apart-none cell item.rect p apart a.0 a.1
+  cell-missed item e (inr none) h = none
 
   edge_to : (e : ℕ × ℕ) → OfSlab (IsSlabEdge rule parts owners cell) parts e → (e.0 < e.1) × ConflictIn rule parts owners cell e.0 e.1
   edge_to e (r, i, i_in, (j, j_in, j_is), (k, h, inl (l, is))) =

@@ -12,7 +12,7 @@ ghost use Rattle.dpl_edges.specs.Meetings.{HaveCommon, IsEnds, IsEndsOfAny, IsSl
 use crate::near::{clipped, near_pieces};
 use dpl_base::{Edge, Id, Rect};
 use dpl_tile::Plan;
-use dpl_tree::{Node, Owners};
+use dpl_tree::{Item, Owners};
 use std::alloc::{AllocError, Global};
 
 /// The two numbers, the smaller first.
@@ -37,18 +37,18 @@ fn add_slab(
     found: &mut Vec<Edge>,
     alloc: Global,
     plan: &Plan,
-    node: &Node,
+    item: &Item,
     cell: &Rect,
 ) -> Result<(), AllocError>
-    requires piece { node.now.least < length plan.now.parts }
-    requires slab { IsSolidWithin farthest node.now.bounds }
+    requires piece { item.now.owner < length plan.now.parts }
+    requires slab { IsSolidWithin farthest item.now.rect }
     requires cell { IsSolid cell.now }
-    requires common { HaveCommon cell.now node.now.bounds }
-    ensures { OnOk result (Adds (IsSlabEdge plan.now.rule plan.now.parts plan.now.owners cell.now node.now.least node.now.bounds) found.old.items found.new.items) }
+    requires common { HaveCommon cell.now item.now.rect }
+    ensures { OnOk result (Adds (IsSlabEdge plan.now.rule plan.now.parts plan.now.owners cell.now item.now.owner item.now.rect) found.old.items found.new.items) }
 {
-    let part = clipped(&node.bounds, cell);
-    let others = near_pieces(alloc, plan, &part, node.least)?;
-    add_ends(found, node.least as Id, others.as_slice())?;
+    let part = clipped(&item.rect, cell);
+    let others = near_pieces(alloc, plan, &part, item.owner)?;
+    add_ends(found, item.owner as Id, others.as_slice())?;
     Ok(())
 }
 
@@ -59,11 +59,11 @@ pub fn edges_in(alloc: Global, plan: &Plan, cell: &Rect) -> Result<Vec<Edge>, Al
     ensures edges { IfOk result (λ v. (e : ℕ × ℕ) → Contains v.items e ↔ ((e.0 < e.1) × ConflictIn plan.now.rule plan.now.parts plan.now.owners cell.now e.0 e.1)) }
 {
     let tree = plan.tree();
-    let nodes = tree.nodes();
+    let items = tree.items();
     let mut found = Vec::new(alloc);
     let mut n = tree.seek(0, cell, Owners::All);
-    while n < nodes.len() {
-        add_slab(&mut found, alloc, plan, &nodes[n], cell)?;
+    while n < items.len() {
+        add_slab(&mut found, alloc, plan, &items[n], cell)?;
         n = tree.seek(n + 1, cell, Owners::All);
     }
     Ok(found)

@@ -11,7 +11,7 @@ ghost use Rattle.dpl_edges.specs.Meetings.{AreMeeting, HaveCommon, IsNearPiece};
 
 use dpl_base::{Id, Rect, near};
 use dpl_tile::Plan;
-use dpl_tree::{Node, Owners, widened};
+use dpl_tree::{Item, Owners, widened};
 use smallvec::SmallVec;
 use std::alloc::{AllocError, Global};
 
@@ -31,39 +31,39 @@ pub fn clipped(r: &Rect, cell: &Rect) -> Rect
     }
 }
 
-/// Whether piece `i` and that of a leaf conflict by a rectangle of piece `i` and the leaf.
-fn meets(node: &Node, part: &Rect, i: usize, owner: &[Id], rule: u32) -> bool
+/// Whether piece `i` and that of an item conflict by a rectangle of piece `i` and the item's.
+fn meets(item: &Item, part: &Rect, i: usize, owner: &[Id], rule: u32) -> bool
     requires piece { i < length owner.now }
-    requires other { node.now.least < length owner.now }
+    requires other { item.now.owner < length owner.now }
     requires part { IsSolidWithin farthest part.now }
-    requires leaf { IsSolidWithin farthest node.now.bounds }
-    ensures { IsTrue result ↔ AreMeeting rule owner.now i part.now node.now.least node.now.bounds }
+    requires slab { IsSolidWithin farthest item.now.rect }
+    ensures { IsTrue result ↔ AreMeeting rule owner.now i part.now item.now.owner item.now.rect }
 {
-    if owner[i] == owner[node.least] {
+    if owner[i] == owner[item.owner] {
         return false;
     }
-    near(part, &node.bounds, rule)
+    near(part, &item.rect, rule)
 }
 
-/// Adds the piece of a leaf, where it and piece `i` conflict by a rectangle of piece `i` and the leaf.
+/// Adds the piece of an item, where it and piece `i` conflict by a rectangle of piece `i` and the item's.
 fn add_near(
     found: &mut SmallVec<Id, 8>,
-    node: &Node,
+    item: &Item,
     part: &Rect,
     i: usize,
     owner: &[Id],
     rule: u32,
 ) -> Result<(), AllocError>
     requires piece { i < length owner.now }
-    requires other { node.now.least < length owner.now }
+    requires other { item.now.owner < length owner.now }
     requires part { IsSolidWithin farthest part.now }
-    requires leaf { IsSolidWithin farthest node.now.bounds }
-    ensures { OnOk result (Adds (λ k. (k ≡ node.now.least) × AreMeeting rule owner.now i part.now node.now.least node.now.bounds) found.old.items found.new.items) }
+    requires slab { IsSolidWithin farthest item.now.rect }
+    ensures { OnOk result (Adds (λ k. (k ≡ item.now.owner) × AreMeeting rule owner.now i part.now item.now.owner item.now.rect) found.old.items found.new.items) }
 {
-    if !meets(node, part, i, owner, rule) {
+    if !meets(item, part, i, owner, rule) {
         return Ok(());
     }
-    found.push(node.least as Id)?;
+    found.push(item.owner as Id)?;
     Ok(())
 }
 
@@ -79,12 +79,12 @@ fn all_near(
     ensures { IfOk result (λ v. (k : ℕ) → Contains v.items k ↔ IsNearPiece plan.now.rule plan.now.parts plan.now.owners i (Has part.now) k) }
 {
     let tree = plan.tree();
-    let nodes = tree.nodes();
+    let items = tree.items();
     let window = widened(part, plan.rule());
     let mut found = SmallVec::new(alloc);
     let mut n = tree.seek(0, &window, Owners::But(i));
-    while n < nodes.len() {
-        add_near(&mut found, &nodes[n], part, i, plan.owners(), plan.rule())?;
+    while n < items.len() {
+        add_near(&mut found, &items[n], part, i, plan.owners(), plan.rule())?;
         n = tree.seek(n + 1, &window, Owners::But(i));
     }
     Ok(found)

@@ -1,4 +1,4 @@
 pub mod NearLaws
 pub mod UnitLaws
-pub mod LeafLaws
+pub mod ItemLaws
 pub mod PairLaws

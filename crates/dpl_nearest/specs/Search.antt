@@ -2,10 +2,10 @@
 use Rattle.std.specs.Prelude.{◌≡◌, ◌≢◌, ℕ, ◌*◌, ◌<◌, ◌⊎◌, ℤ, ◌+ℤ◌, pos, List, Option, Some, None, length, slice_index_or}
 use Rattle.dpl_spec.specs.declared.Pt.{Pt}
 use Rattle.dpl_spec.specs.declared.Rect.{Rect}
-use Rattle.dpl_tree.specs.declared.tree.Node.{Node}
-use Rattle.dpl_tree.specs.declared.tree.Owners.{Owners}
-use Rattle.dpl_tree.specs.declared.tree.Owners.TheVariants.{All, But, Only, Above}
-use Rattle.dpl_tree.specs.Trees.{HasLeaf}
+use Rattle.dpl_tree.specs.declared.items.Item.{Item}
+use Rattle.dpl_tree.specs.declared.owners.Owners.{Owners}
+use Rattle.dpl_tree.specs.declared.owners.Owners.TheVariants.{All, But, Only, Above}
+use Rattle.dpl_tree.specs.Trees.{HasItem}
 use Rattle.dpl_spec.specs.Squares.{Region, IsSolidWithin, Has, AreNear, IsLeast, Precedes, d2}
 
 -- the squares of a that are closer than rule to some square of b
@@ -59,8 +59,8 @@ IsSought (Only j) k = k ≡ j
 IsSought (Above j) k = j < k
 
 -- the squares of the rectangles of the sought owners in a search tree
-abbrev pub LeafCovers : Owners → List Node → Region
-LeafCovers owners nodes p = (r : Rect) × (k : ℕ) × HasLeaf nodes r k × IsSought owners k × Has r p
+abbrev pub ItemCovers : Owners → List Item → Region
+ItemCovers owners items p = (r : Rect) × (k : ℕ) × HasItem items r k × IsSought owners k × Has r p
 
-abbrev pub AreLeavesWithin : ℕ → List Node → Type 0
-AreLeavesWithin bound nodes = (r : Rect) (k : ℕ) → HasLeaf nodes r k → IsSolidWithin bound r
+abbrev pub AreItemsWithin : ℕ → List Item → Type 0
+AreItemsWithin bound items = (r : Rect) (k : ℕ) → HasItem items r k → IsSolidWithin bound r

@@ -5,9 +5,9 @@ ghost use Rattle.dpl_spec.specs.Loops.{AreRectsWithin, IsRectWithin, farthest};
 ghost use Rattle.dpl_spec.specs.Slabs.{IsSolid};
 ghost use Rattle.dpl_spec.specs.Squares.{Covers, Has, Precedes};
 ghost use Rattle.dpl_spec.specs.declared.Rect.{Rect};
-ghost use Rattle.dpl_tree.specs.Trees.{HasLeaf};
-ghost use Rattle.dpl_tree.specs.declared.tree.Owners.TheVariants.{All as Everyone};
-ghost use Rattle.dpl_nearest.specs.Search.{AreLeavesWithin, IsLeastNear, LeafCovers, IsLowered, IsImproved};
+ghost use Rattle.dpl_tree.specs.Trees.{HasItem};
+ghost use Rattle.dpl_tree.specs.declared.owners.Owners.TheVariants.{All as Everyone};
+ghost use Rattle.dpl_nearest.specs.Search.{AreItemsWithin, IsLeastNear, ItemCovers, IsLowered, IsImproved};
 
 use crate::rects::least_of;
 use dpl_base::{Pt, Rect};
@@ -34,8 +34,8 @@ fn lesser(p: Pt, q: Pt) -> Pt
 fn lowered(p: Pt, r: &Rect, others: &Tree, owners: Owners, rule: u32) -> Pt
     requires solid { IsSolid r.now }
     requires within { IsRectWithin farthest r.now }
-    requires others { AreLeavesWithin (farthest + 1) others.now }
-    ensures { IsLowered rule (Has r.now) (LeafCovers owners others.now) p result }
+    requires others { AreItemsWithin (farthest + 1) others.now }
+    ensures { IsLowered rule (Has r.now) (ItemCovers owners others.now) p result }
 {
     if p.y < r.y0 {
         return p;
@@ -50,8 +50,8 @@ fn lowered(p: Pt, r: &Rect, others: &Tree, owners: Owners, rule: u32) -> Pt
 pub fn improved(best: Option<Pt>, r: &Rect, others: &Tree, owners: Owners, rule: u32) -> Option<Pt>
     requires solid { IsSolid r.now }
     requires within { IsRectWithin farthest r.now }
-    requires others { AreLeavesWithin (farthest + 1) others.now }
-    ensures { IsImproved rule (Has r.now) (LeafCovers owners others.now) best result }
+    requires others { AreItemsWithin (farthest + 1) others.now }
+    ensures { IsImproved rule (Has r.now) (ItemCovers owners others.now) best result }
 {
     match best {
         None => least_of(r, others, owners, rule),
@@ -63,8 +63,8 @@ pub fn improved(best: Option<Pt>, r: &Rect, others: &Tree, owners: Owners, rule:
 fn least_in_tree(rects: &[Rect], others: &Tree, rule: u32) -> Option<Pt>
     requires solid { All IsSolid rects.now }
     requires within { AreRectsWithin farthest rects.now }
-    requires others { AreLeavesWithin (farthest + 1) others.now }
-    ensures { IsLeastNear rule (Covers rects.now) (LeafCovers Everyone others.now) result }
+    requires others { AreItemsWithin (farthest + 1) others.now }
+    ensures { IsLeastNear rule (Covers rects.now) (ItemCovers Everyone others.now) result }
 {
     let mut best = None;
     for r in rects {
@@ -75,7 +75,7 @@ fn least_in_tree(rects: &[Rect], others: &Tree, rule: u32) -> Option<Pt>
 
 /// A search tree of rectangles, all of owner 0.
 pub fn tree_of(alloc: Global, rects: &[Rect]) -> Result<Tree, AllocError>
-    ensures { IfOk result (λ t. (r : Rect) (k : ℕ) → HasLeaf t r k ↔ ((k ≡ 0) × Contains rects.now r)) }
+    ensures { IfOk result (λ t. (r : Rect) (k : ℕ) → HasItem t r k ↔ ((k ≡ 0) × Contains rects.now r)) }
 {
     let mut items = Vec::new(alloc);
     add_items_of(&mut items, rects, 0)?;

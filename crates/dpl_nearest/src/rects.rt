@@ -3,7 +3,7 @@ ghost use Rattle.std.specs.Prelude.{◌≡◌, ◌≤◌, ◌<◌, ◌+◌, ◌^
 ghost use Rattle.dpl_spec.specs.Loops.{IsRectWithin, farthest};
 ghost use Rattle.dpl_spec.specs.Slabs.{IsSolid};
 ghost use Rattle.dpl_spec.specs.Squares.{AreNear, Has};
-ghost use Rattle.dpl_nearest.specs.Search.{AreLeavesWithin, IsLeastNear, LeafCovers, column_at, columns_left, row_at, rows_below, unit_of};
+ghost use Rattle.dpl_nearest.specs.Search.{AreItemsWithin, IsLeastNear, ItemCovers, column_at, columns_left, row_at, rows_below, unit_of};
 
 use dpl_base::{Pt, Rect, near};
 use dpl_tree::{Owners, Tree, widened};
@@ -63,14 +63,14 @@ fn halfway(low: i64, high: i64) -> i64
 fn near_any(r: &Rect, others: &Tree, owners: Owners, rule: u32) -> bool
     requires solid { IsSolid r.now }
     requires within { IsRectWithin farthest r.now }
-    requires others { AreLeavesWithin (farthest + 1) others.now }
-    ensures { IsTrue result ↔ AreNear rule (Has r.now) (LeafCovers owners others.now) }
+    requires others { AreItemsWithin (farthest + 1) others.now }
+    ensures { IsTrue result ↔ AreNear rule (Has r.now) (ItemCovers owners others.now) }
 {
     let window = widened(r, rule);
-    let nodes = others.nodes();
+    let items = others.items();
     let mut n = others.seek(0, &window, owners);
-    while n < nodes.len() {
-        if near(r, &nodes[n].bounds, rule) {
+    while n < items.len() {
+        if near(r, &items[n].rect, rule) {
             return true;
         }
         n = others.seek(n + 1, &window, owners);
@@ -84,8 +84,8 @@ fn near_below(r: &Rect, y: i64, others: &Tree, owners: Owners, rule: u32) -> boo
     requires within { IsRectWithin farthest r.now }
     requires low { r.now.y0 <ℤ y }
     requires high { y <ℤ r.now.y1 }
-    requires others { AreLeavesWithin (farthest + 1) others.now }
-    ensures { IsTrue result ↔ AreNear rule (Has (rows_below r.now y)) (LeafCovers owners others.now) }
+    requires others { AreItemsWithin (farthest + 1) others.now }
+    ensures { IsTrue result ↔ AreNear rule (Has (rows_below r.now y)) (ItemCovers owners others.now) }
 {
     let part = below(r, y);
     near_any(&part, others, owners, rule)
@@ -97,8 +97,8 @@ fn near_left(r: &Rect, x: i64, others: &Tree, owners: Owners, rule: u32) -> bool
     requires within { IsRectWithin farthest r.now }
     requires low { r.now.x0 <ℤ x }
     requires high { x <ℤ r.now.x1 }
-    requires others { AreLeavesWithin (farthest + 1) others.now }
-    ensures { IsTrue result ↔ AreNear rule (Has (columns_left r.now x)) (LeafCovers owners others.now) }
+    requires others { AreItemsWithin (farthest + 1) others.now }
+    ensures { IsTrue result ↔ AreNear rule (Has (columns_left r.now x)) (ItemCovers owners others.now) }
 {
     let part = left(r, x);
     near_any(&part, others, owners, rule)
@@ -108,12 +108,12 @@ fn near_left(r: &Rect, x: i64, others: &Tree, owners: Owners, rule: u32) -> bool
 fn first_row(r: &Rect, others: &Tree, owners: Owners, rule: u32) -> i64
     requires solid { IsSolid r.now }
     requires within { IsRectWithin farthest r.now }
-    requires others { AreLeavesWithin (farthest + 1) others.now }
-    requires near { AreNear rule (Has r.now) (LeafCovers owners others.now) }
+    requires others { AreItemsWithin (farthest + 1) others.now }
+    requires near { AreNear rule (Has r.now) (ItemCovers owners others.now) }
     ensures low { r.now.y0 ≤ℤ result }
     ensures high { result <ℤ r.now.y1 }
-    ensures near { AreNear rule (Has (row_at r.now result)) (LeafCovers owners others.now) }
-    ensures first { ¬ AreNear rule (Has (rows_below r.now result)) (LeafCovers owners others.now) }
+    ensures near { AreNear rule (Has (row_at r.now result)) (ItemCovers owners others.now) }
+    ensures first { ¬ AreNear rule (Has (rows_below r.now result)) (ItemCovers owners others.now) }
 {
     let mut low = r.y0;
     let mut high = r.y1;
@@ -132,12 +132,12 @@ fn first_row(r: &Rect, others: &Tree, owners: Owners, rule: u32) -> i64
 fn first_column(r: &Rect, others: &Tree, owners: Owners, rule: u32) -> i64
     requires solid { IsSolid r.now }
     requires within { IsRectWithin farthest r.now }
-    requires others { AreLeavesWithin (farthest + 1) others.now }
-    requires near { AreNear rule (Has r.now) (LeafCovers owners others.now) }
+    requires others { AreItemsWithin (farthest + 1) others.now }
+    requires near { AreNear rule (Has r.now) (ItemCovers owners others.now) }
     ensures low { r.now.x0 ≤ℤ result }
     ensures high { result <ℤ r.now.x1 }
-    ensures near { AreNear rule (Has (column_at r.now result)) (LeafCovers owners others.now) }
-    ensures first { ¬ AreNear rule (Has (columns_left r.now result)) (LeafCovers owners others.now) }
+    ensures near { AreNear rule (Has (column_at r.now result)) (ItemCovers owners others.now) }
+    ensures first { ¬ AreNear rule (Has (columns_left r.now result)) (ItemCovers owners others.now) }
 {
     let mut low = r.x0;
     let mut high = r.x1;
@@ -156,8 +156,8 @@ fn first_column(r: &Rect, others: &Tree, owners: Owners, rule: u32) -> i64
 pub(crate) fn least_of(r: &Rect, others: &Tree, owners: Owners, rule: u32) -> Option<Pt>
     requires solid { IsSolid r.now }
     requires within { IsRectWithin farthest r.now }
-    requires others { AreLeavesWithin (farthest + 1) others.now }
-    ensures { IsLeastNear rule (Has r.now) (LeafCovers owners others.now) result }
+    requires others { AreItemsWithin (farthest + 1) others.now }
+    ensures { IsLeastNear rule (Has r.now) (ItemCovers owners others.now) result }
 {
     if !near_any(r, others, owners, rule) {
         return None;

@@ -12,7 +12,7 @@ use Rattle.dpl_spec.specs.Squares.{Has}
 use Rattle.dpl_slabs.specs.Parts.{AreParts, union_of}
 use Rattle.dpl_tree.specs.Trees.{LiesIn}
 use Rattle.dpl_tile.specs.declared.grid.Grid.{Grid}
-use Rattle.dpl_tile.specs.Tiles.{IsBounds, IsCoarse, IsGrid, AreCells, cell_at, number_in, pairs_of, most_pairs}
+use Rattle.dpl_tile.specs.Tiles.{IsBounds, IsCoarse, IsDoubled, IsGrid, AreCells, cell_at, number_in, pairs_of, most_pairs}
 use Rattle.dpl_tile.specs.Kept.{IsSound, AreOver, ArePlaces, AreLaid}
 use Rattle.dpl_tile.specs.Laws.{SquaresHaveOneCell}
 use Rattle.dpl_tile.proofs.CellLaws.{own-cell, one-cell, met-occupied, places-cells, first-cells, parts-over, close-from_occupied}
@@ -51,8 +51,8 @@ product : (t m : ℕ) → t * m * 2 ≡ t * (m * 2)
 product t m = grind arith
 
 -- a side that was doubled some times, each time because it wasn't enough
-abbrev pub IsDoubled : List (List Rect) → ℕ → Grid → Type 0
-IsDoubled parts tile g = (n : ℕ) × (g.side ≡ tile * 2 ^ n) × AreTooFine parts g tile n
+abbrev pub IsDoubledAtNeed : List (List Rect) → ℕ → Grid → Type 0
+IsDoubledAtNeed parts tile g = (n : ℕ) × (g.side ≡ tile * 2 ^ n) × AreTooFine parts g tile n
 
 twice : (t n : ℕ) → t * 2 ^ n * 2 ≡ t * 2 ^ (n + 1)
 twice t n =
@@ -60,7 +60,13 @@ twice t n =
     let e : 2 ^ (n + 1) ≡ 2 ^ n * 2 = ap (λ m. 2 ^ m) s ∙ pow-suc 2 n in
     rw e (product t (2 ^ n))
 
-pub doubled-more : (parts : List (List Rect)) (tile : ℕ) (g h : Grid) → h.x ≡ g.x → h.y ≡ g.y → h.side ≡ g.side * 2 → (IsCoarse parts g → ⊥) → IsDoubled parts tile g → IsDoubled parts tile h
+pub doubled-some : (tile side : ℕ) → 0 < tile → IsDoubled tile side → 1 ≤ side
+doubled-some tile side some (n, is) = let p = pow_pos n in let m : 1 * 1 ≤ tile * 2 ^ n = mul-le 1 1 tile (2 ^ n) (omega (arith, some)) (omega (arith, p)) in omega (arith, m, is)
+
+pub doubled-twice : (tile side more : ℕ) → more ≡ side * 2 → IsDoubled tile side → IsDoubled tile more
+doubled-twice tile side more is (n, before) = (n + 1, is ∙ (ap (λ s. s * 2) before ∙ twice tile n))
+
+pub doubled-more : (parts : List (List Rect)) (tile : ℕ) (g h : Grid) → h.x ≡ g.x → h.y ≡ g.y → h.side ≡ g.side * 2 → (IsCoarse parts g → ⊥) → IsDoubledAtNeed parts tile g → IsDoubledAtNeed parts tile h
 doubled-more parts tile g h x_is y_is side_is fine (n, is, before) = (
   n + 1,
   side_is ∙ (ap (λ s. s * 2) is ∙ twice tile n),
@@ -70,7 +76,7 @@ doubled-more parts tile g h x_is y_is side_is fine (n, is, before) = (
   ]),
 )
 
-pub grid-is : (parts : List (List Rect)) (tile : ℕ) (g : Grid) (b : Rect) → IsBounds (union_of parts) b → g.x ≡ b.x0 → g.y ≡ b.y0 → IsCoarse parts g → IsDoubled parts tile g → IsGrid parts tile g
+pub grid-is : (parts : List (List Rect)) (tile : ℕ) (g : Grid) (b : Rect) → IsBounds (union_of parts) b → g.x ≡ b.x0 → g.y ≡ b.y0 → IsCoarse parts g → IsDoubledAtNeed parts tile g → IsGrid parts tile g
 grid-is parts tile g b bounds x_is y_is coarse (n, is, fine) = record { bounds = b; bounded = bounds; left = x_is; low = y_is; doublings = n; side = is; coarse = coarse; least = fine }
 
 -- tiles of few pairs
@@ -97,13 +103,10 @@ laid-by_first parts tile g b places bounds sound grid all is =
 pub laid-by_none : (parts : List (List Rect)) (tile : ℕ) (g : Grid) (places : List (ℕ × ℕ)) → IsSound g → ((p : Pt) → union_of parts p → ⊥) → places ≡ [] → AreLaid parts tile g places
 laid-by_none parts tile g places sound none is = rw is (record { sound = sound; few = omega arith; close = λ k d k_in. omega (arith, k_in); tiles = inl (refl, none) })
 
-side_some : (tile n side : ℕ) → 0 < tile → side ≡ tile * 2 ^ n → 1 ≤ side
-side_some tile n side some is = let p = pow_pos n in let m : 1 * 1 ≤ tile * 2 ^ n = mul-le 1 1 tile (2 ^ n) (omega (arith, some)) (omega (arith, p)) in omega (arith, m, is)
-
 pub squares-one_cell : SquaresHaveOneCell
 squares-one_cell parts tile cells some (inl (is, none)) p p_in = absurd (none p p_in)
 squares-one_cell parts tile cells some (inr (g, grid, h)) p p_in =
-    let one : 1 ≤ g.side = side_some tile grid.doublings g.side some grid.side in
+    let one : 1 ≤ g.side = doubled-some tile g.side some (grid.doublings, grid.side) in
     let c = grid.bounded.inside p p_in in
     let l = c.left in
     let lo = c.low in

@@ -6,8 +6,8 @@ use Rattle.dpl_spec.specs.Loops.{farthest}
 use Rattle.dpl_spec.specs.Graphs.{Precedes}
 use Rattle.dpl_spec.specs.Squares.{IsSolidWithin}
 use Rattle.dpl_slabs.specs.Parts.{AreParts}
-use Rattle.dpl_tree.specs.declared.tree.Node.{Node}
-use Rattle.dpl_tree.specs.Trees.{AreLeavesOf}
+use Rattle.dpl_tree.specs.declared.items.Item.{Item}
+use Rattle.dpl_tree.specs.Trees.{AreItemsOf}
 use Rattle.dpl_tile.specs.declared.grid.Grid.{Grid}
 use Rattle.dpl_tile.specs.declared.grid.Block.{Block}
 use Rattle.dpl_tile.specs.Tiles.{AreTiles, cell_at, number_in, pairs_of}
@@ -79,10 +79,10 @@ pub record AreLaid (parts : List (List Rect)) (tile : ℕ) (g : Grid) (places : 
   pub close : All (IsClose g) places
   pub tiles : AreTiles parts tile (map (cell_at g) places)
 
-pub record IsKept (parts : List (List Rect)) (owners : List ℕ) (tree : List Node) (grid : Grid) (places : List (ℕ × ℕ)) : Type 0 where
+pub record IsKept (parts : List (List Rect)) (owners : List ℕ) (tree : List Item) (grid : Grid) (places : List (ℕ × ℕ)) : Type 0 where
   pub owned : length owners ≡ length parts
   pub parted : AreParts parts
-  pub leaves : AreLeavesOf parts tree
+  pub items : AreItemsOf parts tree
   pub few : length places < 2 ^ 32
   pub sound : IsSound grid
   pub close : All (IsClose grid) places

@@ -43,6 +43,10 @@ most_pairs = 16777216
 abbrev pub IsCoarse : List (List Rect) → Grid → Type 0
 IsCoarse parts g = (pairs_of g parts ≤ most_pairs) ⊎ ((p : Pt) → union_of parts p → Has (cell_at g (0, 0)) p)
 
+-- the side, doubled some number of times
+abbrev pub IsDoubled : ℕ → ℕ → Type 0
+IsDoubled tile side = (n : ℕ) × (side ≡ tile * 2 ^ n)
+
 -- the grid from the least column and the least row on, its side as asked, doubled until it is coarse
 pub record IsGrid (parts : List (List Rect)) (tile : ℕ) (g : Grid) : Type 0 where
   pub bounds : Rect

@@ -1,5 +1,6 @@
 //! How small the tiles of a layer may be.
 ghost use Rattle.std.specs.Prelude.{◌≤◌};
+ghost use Rattle.dpl_tile.specs.Tiles.{IsDoubled};
 
 use dpl_base::Rect;
 use dpl_slabs::{Parts, Slabs};
@@ -36,22 +37,19 @@ fn are_many(parts: &[Slabs], side: u32) -> bool
     met > most
 }
 
-/// How often a side of 1 is doubled before it is longer than the range of coordinates.
-const DOUBLINGS: u32 = 31;
-
 /// The side with which to lay tiles over a layer: `tile`, doubled while the slabs would meet more than about two cells
-/// a slab and 65,536 more. So a large shape isn't cut into many more tiles than the layer has slabs. Both sides are in
-/// database units.
+/// a slab and 65,536 more and twice the side fits a `u32`. So a large shape isn't cut into many more tiles than the
+/// layer has slabs. Both sides are in database units.
 pub fn side_for(parts: &Parts, tile: u32) -> u32
     requires { 1 ≤ tile }
-    ensures { tile ≤ result }
+    ensures { IsDoubled tile result }
 {
     let mut side = tile;
-    for _ in 0..DOUBLINGS {
-        if !are_many(parts.items(), side) {
+    while are_many(parts.items(), side) {
+        let Some(twice) = side.checked_mul(2) else {
             return side;
-        }
-        side = side.saturating_mul(2);
+        };
+        side = twice;
     }
     side
 }

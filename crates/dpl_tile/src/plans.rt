@@ -2,7 +2,7 @@
 ghost use Rattle.std.specs.Prelude.{◌≡◌, ◌<◌, length, slice_get, Some};
 ghost use Rattle.dpl_spec.specs.Slabs.{IsSolid};
 ghost use Rattle.dpl_slabs.specs.Parts.{AreParts};
-ghost use Rattle.dpl_tree.specs.Trees.{AreLeavesOf};
+ghost use Rattle.dpl_tree.specs.Trees.{AreItemsOf};
 
 use crate::grid::{Grid, Place};
 use dpl_base::{Id, Rect};
@@ -23,7 +23,7 @@ pub struct Plan<'a> {
 
 impl<'a> Model for Plan<'a> {
     ghost use Rattle.std.specs.Prelude.{◌≡◌, ◌<◌, ◌≤◌, ◌^◌, length, map};
-    ghost use Rattle.dpl_tree.specs.Trees.{AreLeavesOf};
+    ghost use Rattle.dpl_tree.specs.Trees.{AreItemsOf};
     ghost use Rattle.dpl_tile.specs.Tiles.{cell_at};
     ghost use Rattle.dpl_tile.specs.Plans.{Planned};
     ghost use Rattle.dpl_tile.specs.Kept.{IsKept};
@@ -76,7 +76,7 @@ impl<'a> Plan<'a> {
 
     /// The search tree over the slabs of all pieces.
     pub fn tree(&self) -> &Tree
-        ensures leaves { AreLeavesOf self.now.parts result.now }
+        ensures items { AreItemsOf self.now.parts result.now }
         ensures parts { AreParts self.now.parts }
     {
         &self.tree

@@ -1,14 +1,15 @@
 -- Items of rectangles.
-use Rattle.std.proofs.Common.{◌≡◌, ℕ, ◌+◌, ◌<◌, ◌≤◌, ◌⊎◌, inl, inr, List, [], ◌∷◌, ◌++◌, length, get_or, sym, ap, ◌∙◌, subst, arith}
+use Rattle.std.proofs.Common.{◌≡◌, ℕ, ◌+◌, ◌<◌, ◌≤◌, ◌⊎◌, inl, inr, List, [], ◌∷◌, ◌++◌, length, get_or, sym, ap, refl, ◌∙◌, subst, arith}
 use Rattle.std.specs.Prelude.{◌↔◌}
 use Rattle.std.specs.List.{Contains}
 use Rattle.std.proofs.lemmas.Bool.{cases_eq}
+use Rattle.std.specs.List.Sorted.{IsPermutation}
 use Rattle.std.proofs.lemmas.List.{get_or_default}
 use Rattle.std.proofs.lemmas.List.Elements.{Contains-append_left, Contains-push, Contains-push_cases}
+use Rattle.std.proofs.lemmas.List.Sorted.{IsPermutation-sym, Contains-permutation}
 use Rattle.dpl_spec.specs.declared.Rect.{Rect}
 use Rattle.dpl_tree.specs.declared.items.Item.{Item}
-use Rattle.dpl_tree.specs.declared.tree.Node.{Node}
-use Rattle.dpl_tree.specs.Trees.{HasItem, HasLeaf}
+use Rattle.dpl_tree.specs.Trees.{HasItem}
 
 -- one of the first n rectangles
 abbrev pub AmongRects : List Rect → ℕ → Rect → Type 0
@@ -76,13 +77,23 @@ parts-all parts n items all h r k = (
   λ (k_in, c). (h r k).1 (omega (arith, all, k_in), k_in, c),
 )
 
--- the leaves of a tree of one owner's rectangles
-pub leaves-one : (rects : List Rect) (none items : List Item) (nodes : List Node) → none ≡ [] → ((r : Rect) (k : ℕ) → HasItem items r k ↔ (HasItem none r k ⊎ ((k ≡ 0) × Contains rects r)))
-    → ((r : Rect) (k : ℕ) → HasLeaf nodes r k ↔ HasItem items r k) → (r : Rect) (k : ℕ) → HasLeaf nodes r k ↔ ((k ≡ 0) × Contains rects r)
-leaves-one rects none items nodes e added leaves r k = (
-  λ h. elim ((added r k).0 ((leaves r k).0 h)) [
+-- the items of a tree of one owner's rectangles
+pub items-one : (rects : List Rect) (none items : List Item) (tree : List Item) → none ≡ [] → ((r : Rect) (k : ℕ) → HasItem items r k ↔ (HasItem none r k ⊎ ((k ≡ 0) × Contains rects r)))
+    → ((r : Rect) (k : ℕ) → HasItem tree r k ↔ HasItem items r k) → (r : Rect) (k : ℕ) → HasItem tree r k ↔ ((k ≡ 0) × Contains rects r)
+items-one rects none items tree e added same r k = (
+  λ h. elim ((added r k).0 ((same r k).0 h)) [
     | inl (t, c, q, q') ↦ absurd (let (i, i_in, is) = subst (λ s. Contains s t) e c in omega (arith, i_in))
     | inr h' ↦ h'
   ],
-  λ h. (leaves r k).1 ((added r k).1 (inr h)),
+  λ h. (same r k).1 ((added r k).1 (inr h)),
+)
+
+-- an item of the list is one
+pub item-at : (items : List Item) (n : ℕ) (d : Item) → n < length items → HasItem items (get_or items n d).rect (get_or items n d).owner
+item-at items n d n_in = (get_or items n d, (n, n_in, get_or_default items n (get_or items n d) d n_in), refl, refl)
+
+pub items-sorted : (items sorted : List Item) → IsPermutation items sorted → (r : Rect) (k : ℕ) → HasItem sorted r k ↔ HasItem items r k
+items-sorted items sorted same r k = (
+  λ (t, c, e, f). (t, Contains-permutation sorted items t (IsPermutation-sym items sorted same) c, e, f),
+  λ (t, c, e, f). (t, Contains-permutation items sorted t same c, e, f),
 )

@@ -1,3 +1,4 @@
-pub mod TreeLaws
+pub mod BlockLaws
 pub mod ItemLaws
+pub mod SearchLaws
 pub mod Turns

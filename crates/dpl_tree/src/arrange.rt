@@ -1,6 +1,8 @@
 //! Puts items in an order in which those near one another mostly stand near one another.
+ghost use Rattle.std.specs.Prelude.{◌<◌};
 ghost use Rattle.std.specs.List.Sorted.{IsPermutation};
 
+use crate::blocks::FAN;
 use crate::items::Item;
 
 /// How many items stand in a stretch that is as wide as the stack of items is high.
@@ -31,7 +33,7 @@ fn is_low(items: &[Item]) -> bool {
     count.saturating_mul(height(items)) <= width(items).saturating_mul(NEIGHBOURS)
 }
 
-/// Whether the bottoms of the first and the last item lie no farther apart than twice the items' height on the average, so that halves by rows would lie beside each other.
+/// Whether the bottoms of the first and the last item lie no farther apart than twice the items' height on the average, so that blocks by rows would lie beside each other.
 fn is_of_tall_items(items: &[Item]) -> bool {
     let mut heights: u64 = 0;
     for item in items {
@@ -40,7 +42,7 @@ fn is_of_tall_items(items: &[Item]) -> bool {
     (items.len() as u64).saturating_mul(height(items)) <= heights.saturating_mul(2)
 }
 
-/// Whether left sides lie no farther apart than twice the items' width on the average, so that halves by columns would lie over one another.
+/// Whether left sides lie no farther apart than twice the items' width on the average, so that blocks by columns would lie over one another.
 fn is_of_wide_items(items: &[Item]) -> bool {
     let mut widths: u64 = 0;
     for item in items {
@@ -57,24 +59,37 @@ fn goes_by_columns(items: &[Item]) -> bool {
     is_low(items) || is_of_tall_items(items)
 }
 
-/// Halves items that rise by rows until the halves are low stacks, or their items tall, and puts each of these in order of columns.
+/// Where so many items are halved: at the end of a block of the widest kind that doesn't hold them all, so no block of that width or less stands across the two halves.
+fn half_of(count: usize) -> usize
+    requires { 8 < count }
+    ensures some { 0 < result }
+    ensures less { result < count }
+{
+    let mut wide = FAN;
+    while wide.saturating_mul(FAN) < count {
+        wide *= FAN;
+    }
+    count.div_ceil(wide) / 2 * wide
+}
+
+/// Halves items that rise by rows. A part that is a low stack, or of tall items, is put in order of columns; one of a single block stays as it is.
 fn arrange_stack(items: &mut [Item])
     ensures { IsPermutation items.old items.new }
 {
-    if items.len() < 2 {
+    if items.len() <= FAN {
         return;
     }
     if goes_by_columns(items) {
         items.sort_unstable_by_key(|t| t.rect.x0);
         return;
     }
-    let half = items.len() / 2;
+    let half = half_of(items.len());
     let (low, high) = items.split_at_mut(half);
     arrange_stack(low);
     arrange_stack(high);
 }
 
-/// Puts items in order for a tree that halves them: so that the halves of halves lie apart, as far as they can.
+/// Puts items in order for a tree of blocks of them: so that the blocks lie apart, as far as they can.
 pub fn arrange(items: &mut [Item])
     ensures { IsPermutation items.old items.new }
 {

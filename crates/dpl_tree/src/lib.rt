@@ -2,13 +2,16 @@
 #![tactic(auto)]
 
 mod arrange;
-mod grow;
+mod blocks;
 mod items;
+mod owners;
+mod search;
 mod tree;
 mod view;
 mod window;
 
 pub use items::{Item, add_items_of, items_of};
-pub use tree::{Node, Owners, Tree};
+pub use owners::Owners;
+pub use tree::Tree;
 pub use view::View;
 pub use window::widened;

@@ -1,10 +1,12 @@
 //! A search tree, as it is or with x and y exchanged.
 ghost use Rattle.std.specs.Prelude.{◌≡◌, ℕ, ◌<◌, ◌≤◌, length, map, slice_index_or};
 ghost use Rattle.dpl_spec.specs.Zones.{turned_rect};
-ghost use Rattle.dpl_tree.specs.declared.tree.Node.{Node};
-ghost use Rattle.dpl_tree.specs.Trees.{IsTree, IsMissed, turned_node};
+ghost use Rattle.dpl_tree.specs.declared.items.Item.{Item};
+ghost use Rattle.dpl_tree.specs.Trees.{ArePassed, IsMissed, turned_item};
 
-use crate::tree::{Node, Owners, Tree, seek_in};
+use crate::items::Item;
+use crate::owners::Owners;
+use crate::tree::Tree;
 use dpl_base::Rect;
 use std::marker::Model;
 
@@ -20,84 +22,82 @@ fn turned(r: &Rect) -> Rect
     }
 }
 
-/// The rectangle of a node.
-fn bounds_of(nodes: &[Node], i: usize) -> Rect
-    requires { i < length nodes.now }
-    ensures { (d : Node) → result ≡ (slice_index_or nodes.now i d).bounds }
+/// The rectangle of an item.
+fn rect_of(items: &[Item], i: usize) -> Rect
+    requires { i < length items.now }
+    ensures { (d : Item) → result ≡ (slice_index_or items.now i d).rect }
 {
-    nodes[i].bounds
+    items[i].rect
 }
 
-/// A tree that is borrowed, as it is or with x and y exchanged. A contract sees the nodes.
+/// A tree that is borrowed, as it is or with x and y exchanged. A contract sees the items.
 #[derive(Drop)]
 pub struct View<'a> {
-    nodes: &'a [Node],
+    tree: &'a Tree,
     is_turned: bool,
 }
 
 impl<'a> Model for View<'a> {
     ghost use Rattle.std.specs.Prelude.{List};
-    ghost use Rattle.dpl_tree.specs.declared.tree.Node.{Node};
-    ghost use Rattle.dpl_tree.specs.Trees.{IsTree, seen};
+    ghost use Rattle.dpl_tree.specs.declared.items.Item.{Item};
+    ghost use Rattle.dpl_tree.specs.Trees.{seen};
 
-    ghost Value = { List Node };
+    ghost Value = { List Item };
 
-    ghost view = { λ v. seen v.is_turned v.nodes.now };
+    ghost view = { λ v. seen v.is_turned v.tree.now };
 
-    ghost invariant = { λ v. IsTree v.nodes.now };
+    ghost invariant = { λ v. Unit {0} };
 }
 
 impl<'a> View<'a> {
     /// The tree as it is.
     pub fn of(tree: &'a Tree) -> View<'a>
-        ensures value { result ≡ tree.now }
-        ensures tree { IsTree tree.now }
+        ensures { result ≡ tree.now }
     {
         View {
-            nodes: tree.nodes(),
+            tree,
             is_turned: false,
         }
     }
 
     /// The tree with x and y exchanged.
     pub fn turned(tree: &'a Tree) -> View<'a>
-        ensures { result ≡ map turned_node tree.now }
+        ensures { result ≡ map turned_item tree.now }
     {
         View {
-            nodes: tree.nodes(),
+            tree,
             is_turned: true,
         }
     }
 
-    /// How many nodes there are.
+    /// How many items there are.
     pub fn count(&self) -> usize
-        ensures value { result ≡ length self.now }
-        ensures tree { IsTree self.now }
+        ensures { result ≡ length self.now }
     {
-        self.nodes.len()
+        self.tree.items().len()
     }
 
-    /// The rectangle of a leaf, or what bounds the nodes below another node.
-    pub fn bounds(&self, i: usize) -> Rect
+    /// The rectangle of an item.
+    pub fn rect(&self, i: usize) -> Rect
         requires { i < length self.now }
-        ensures { (d : Node) → result ≡ (slice_index_or self.now i d).bounds }
+        ensures { (d : Item) → result ≡ (slice_index_or self.now i d).rect }
     {
-        let bounds = bounds_of(self.nodes, i);
+        let rect = rect_of(self.tree.items(), i);
         if self.is_turned {
-            return turned(&bounds);
+            return turned(&rect);
         }
-        bounds
+        rect
     }
 
-    /// The number of the first leaf from number `from` on that has a square in the window and one of the owners, or a number past all nodes.
+    /// The number of the first item from number `from` on that has a square in the window and an owner that is sought, or a number past all items.
     pub fn seek(&self, from: usize, window: &Rect, owners: Owners) -> usize
         ensures from { from ≤ result }
-        ensures passed { (j : ℕ) (d : Node) → from ≤ j → j < result → j < length self.now → (slice_index_or self.now j d).size ≡ 1 → IsMissed window.now owners (slice_index_or self.now j d) }
-        ensures found { (d : Node) → result < length self.now → ((slice_index_or self.now result d).size ≡ 1) × (IsMissed window.now owners (slice_index_or self.now result d) → ⊥) }
+        ensures passed { ArePassed window.now owners self.now from result }
+        ensures found { (d : Item) → result < length self.now → ¬ IsMissed window.now owners (slice_index_or self.now result d) }
     {
         if self.is_turned {
-            return seek_in(self.nodes, from, &turned(window), owners);
+            return self.tree.seek(from, &turned(window), owners);
         }
-        seek_in(self.nodes, from, window, owners)
+        self.tree.seek(from, window, owners)
     }
 }

@@ -1,5 +1,7 @@
 //! Windows of a search.
+ghost use Rattle.std.specs.Prelude.{◌↔◌, IsTrue};
 ghost use Rattle.dpl_spec.specs.Loops.{IsRectWithin, farthest};
+ghost use Rattle.dpl_tree.specs.Trees.{LiesApart};
 ghost use Rattle.dpl_tree.specs.Windows.{IsWidened};
 
 use dpl_base::Rect;
@@ -15,4 +17,23 @@ pub fn widened(r: &Rect, by: u32) -> Rect
         x1: r.x1 + by as i64,
         y1: r.y1 + by as i64,
     }
+}
+
+/// Whether the rectangles have no square in common.
+pub(crate) fn lies_apart(window: &Rect, r: &Rect) -> bool
+    ensures { IsTrue result ↔ LiesApart window.now r.now }
+{
+    if r.x1 <= window.x0 {
+        return true;
+    }
+    if window.x1 <= r.x0 {
+        return true;
+    }
+    if r.y1 <= window.y0 {
+        return true;
+    }
+    if window.y1 <= r.y0 {
+        return true;
+    }
+    false
 }

@@ -14,10 +14,10 @@ use Rattle.dpl_spec.specs.Zones.{at, IsKeptZone, turned, part_at}
 use Rattle.dpl_slabs.specs.Parts.{AreApart, AreParts, union_of}
 use Rattle.dpl_zone.specs.Rows.{layer_of}
 use Rattle.dpl_zone.specs.Layers.{AreOthers, IsPartZone}
-use Rattle.dpl_tree.specs.Trees.{AreLeavesOf, IsTree}
-use Rattle.dpl_tree.specs.declared.tree.Node.{Node}
-use Rattle.dpl_zone.specs.Leaves.{AreLeavesWithin, others_in, own_in}
-use Rattle.dpl_zone.proofs.LeafLaws.{others-in, in-others, own-in, in-own, one-in_tree}
+use Rattle.dpl_tree.specs.Trees.{AreItemsOf}
+use Rattle.dpl_tree.specs.declared.items.Item.{Item}
+use Rattle.dpl_zone.specs.Items.{AreItemsWithin, others_in, own_in}
+use Rattle.dpl_zone.proofs.ItemLaws.{others-in, in-others, own-in, in-own}
 use Rattle.dpl_zone.proofs.Turns.{zone-as, within-slabs}
 
 abbrev pub FirstOf : List Rect → ℕ → Rect → Type 0
@@ -129,25 +129,24 @@ found-more rule overlap parts k old new before step z = (
   ],
 )
 
-module _ (parts : List (List Rect)) (nodes : List Node) (k : ℕ) (tree : IsTree nodes) (leaves : AreLeavesOf parts nodes) (k_in : k < length parts) where
-  -- the leaves of other owners are the rectangles of the other parts
-  pub others-of_leaves : AreOthers parts k (length parts) (others_in nodes k)
-  others-of_leaves r = (
-    λ a. (let (j, ne, leaf) = others-in nodes k (one-in_tree nodes tree) r a in
-        let (j_in, c) = (leaves r j).0 leaf in (j, j_in, j_in, ne, c)),
-    λ (j, l, j_in, ne, c). in-others nodes k r j ne ((leaves r j).1 (j_in, c)),
+module _ (parts : List (List Rect)) (items : List Item) (k : ℕ) (are : AreItemsOf parts items) (k_in : k < length parts) where
+  -- the items of other owners are the rectangles of the other parts
+  pub others-of_items : AreOthers parts k (length parts) (others_in items k)
+  others-of_items r = (
+    λ a. (let (j, ne, has) = others-in items k r a in let (j_in, c) = (are r j).0 has in (j, j_in, j_in, ne, c)),
+    λ (j, l, j_in, ne, c). in-others items k r j ne ((are r j).1 (j_in, c)),
   )
 
-  pub own-of_leaves : SameSquares (Covers (get_or parts k [])) (Covers (own_in nodes k))
-  own-of_leaves p = (
-    λ (i, r, i_in, i_is, has). (let (m, m_in, m_is) = in-own nodes k r ((leaves r k).1 (k_in, (i, i_in, i_is))) in (m, r, m_in, m_is, has)),
-    λ (m, r, m_in, m_is, has). (let (i, i_in, i_is) = ((leaves r k).0 (own-in nodes k (one-in_tree nodes tree) r (m, m_in, m_is))).1 in (i, r, i_in, i_is, has)),
+  pub own-of_items : SameSquares (Covers (get_or parts k [])) (Covers (own_in items k))
+  own-of_items p = (
+    λ (i, r, i_in, i_is, has). (let (m, m_in, m_is) = in-own items k r ((are r k).1 (k_in, (i, i_in, i_is))) in (m, r, m_in, m_is, has)),
+    λ (m, r, m_in, m_is, has). (let (i, i_in, i_is) = ((are r k).0 (own-in items k r (m, m_in, m_is))).1 in (i, r, i_in, i_is, has)),
   )
 
-pub within-of_leaves : (parts : List (List Rect)) (nodes : List Node) → AreParts parts → AreLeavesOf parts nodes → AreLeavesWithin nodes
-within-of_leaves parts nodes are leaves r k leaf =
-    let (k_in, (i, i_in, i_is)) = (leaves r k).0 leaf in
-    subst (λ u. IsSolidWithin farthest u) i_is (within-slabs (get_or parts k []) (are.canonical k [] k_in) (are.within k [] k_in) i r i_in)
+pub within-of_items : (parts : List (List Rect)) (items : List Item) → AreParts parts → AreItemsOf parts items → AreItemsWithin items
+within-of_items parts items of are r k has =
+    let (k_in, (i, i_in, i_is)) = (are r k).0 has in
+    subst (λ u. IsSolidWithin farthest u) i_is (within-slabs (get_or parts k []) (of.canonical k [] k_in) (of.within k [] k_in) i r i_in)
 
 pub first-none : (zs : List Rect) (k : ℕ) (base : List Zone) → (z : Zone) → Contains base z ↔ (Contains base z ⊎ ((z.feature ≡ k) × FirstOf zs 0 z.rect))
 first-none zs k base z = (λ h. inl h, λ h. elim h [ inl a ↦ a | inr (e, (i, l, i_in, is)) ↦ absurd (omega (arith, l)) ])

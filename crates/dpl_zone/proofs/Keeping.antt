@@ -10,9 +10,9 @@ use Rattle.dpl_spec.specs.declared.Rect.{Rect}
 use Rattle.dpl_spec.specs.Loops.{farthest}
 use Rattle.dpl_spec.specs.Squares.{Region, AreTouching, Has, Covers, IsSolidWithin}
 use Rattle.dpl_spec.specs.Zones.{at, IsHorizontalZone, IsVerticalZone, IsKeptZone, turned, turned_rect}
-use Rattle.dpl_tree.specs.declared.tree.Node.{Node}
-use Rattle.dpl_tree.specs.Trees.{HasLeaf}
-use Rattle.dpl_zone.specs.Leaves.{AreLeavesWithin}
+use Rattle.dpl_tree.specs.declared.items.Item.{Item}
+use Rattle.dpl_tree.specs.Trees.{HasItem}
+use Rattle.dpl_zone.specs.Items.{AreItemsWithin}
 use Rattle.dpl_zone.specs.Rows.{AddsZones, AreWithin, TouchesAny, layer_of}
 
 -- a zone of some rows has its squares in the feature
@@ -93,40 +93,40 @@ module _ (rule overlap : ℕ) (rects others : List Rect) (some : 1 ≤ overlap) 
 abbrev pub KeptOf : List Rect → List Rect → ℕ → Rect → Type 0
 KeptOf flat zs n w = (k : ℕ) × (k < n) × (k < length zs) × (get_or zs k w ≡ w) × (TouchesAny flat w → ⊥)
 
--- the zone touches no leaf
-abbrev pub TouchesNone : List Node → Rect → Type 0
-TouchesNone nodes w = (h : Rect) (k : ℕ) → HasLeaf nodes h k → AreTouching (Has h) (Has w) → ⊥
+-- the zone touches no item
+abbrev pub TouchesNone : List Item → Rect → Type 0
+TouchesNone items w = (h : Rect) (k : ℕ) → HasItem items h k → AreTouching (Has h) (Has w) → ⊥
 
-pub apart-added : (kept : List Rect) (nodes : List Node) (z : Rect) → TouchesNone nodes z → AddsZones (λ w. (z ≡ w) × TouchesNone nodes w) kept (kept ++ z ∷ [])
-apart-added kept nodes z free w = (
-  λ h. elim (Contains-push_cases kept z w h) [ inl a ↦ inl a | inr e ↦ inr (e, subst (λ u. TouchesNone nodes u) e free) ],
+pub apart-added : (kept : List Rect) (items : List Item) (z : Rect) → TouchesNone items z → AddsZones (λ w. (z ≡ w) × TouchesNone items w) kept (kept ++ z ∷ [])
+apart-added kept items z free w = (
+  λ h. elim (Contains-push_cases kept z w h) [ inl a ↦ inl a | inr e ↦ inr (e, subst (λ u. TouchesNone items u) e free) ],
   λ h. elim h [ inl a ↦ Contains-append_left kept (z ∷ []) w a | inr (e, f) ↦ subst (λ u. Contains (kept ++ z ∷ []) u) e (Contains-push kept z) ],
 )
 
-pub apart-none : (kept : List Rect) (nodes : List Node) (z : Rect) → ((h : Rect) × (k : ℕ) × HasLeaf nodes h k × AreTouching (Has h) (Has z)) → AddsZones (λ w. (z ≡ w) × TouchesNone nodes w) kept kept
-apart-none kept nodes z (h, k, leaf, touch) w = (
+pub apart-none : (kept : List Rect) (items : List Item) (z : Rect) → ((h : Rect) × (k : ℕ) × HasItem items h k × AreTouching (Has h) (Has z)) → AddsZones (λ w. (z ≡ w) × TouchesNone items w) kept kept
+apart-none kept items z (h, k, has, touch) w = (
   λ a. inl a,
-  λ a. elim a [ inl b ↦ b | inr (e, f) ↦ absurd (f h k leaf (subst (λ u. AreTouching (Has h) (Has u)) e touch)) ],
+  λ a. elim a [ inl b ↦ b | inr (e, f) ↦ absurd (f h k has (subst (λ u. AreTouching (Has h) (Has u)) e touch)) ],
 )
 
--- the leaves are the zones of the list
-pub apart-of_list : (flat : List Rect) (nodes : List Node) (z : Rect) (old new : List Rect) → ((r : Rect) (k : ℕ) → HasLeaf nodes r k ↔ ((k ≡ 0) × Contains flat r))
-    → AddsZones (λ w. (z ≡ w) × TouchesNone nodes w) old new → AddsZones (λ w. (z ≡ w) × (TouchesAny flat w → ⊥)) old new
-apart-of_list flat nodes z old new leaves adds w = (
+-- the items are the zones of the list
+pub apart-of_list : (flat : List Rect) (items : List Item) (z : Rect) (old new : List Rect) → ((r : Rect) (k : ℕ) → HasItem items r k ↔ ((k ≡ 0) × Contains flat r))
+    → AddsZones (λ w. (z ≡ w) × TouchesNone items w) old new → AddsZones (λ w. (z ≡ w) × (TouchesAny flat w → ⊥)) old new
+apart-of_list flat items z old new are adds w = (
   λ a. elim ((adds w).0 a) [
     | inl b ↦ inl b
-    | inr (e, none) ↦ inr (e, λ (i, h, i_in, i_is, touch). none h 0 ((leaves h 0).1 (refl, (i, i_in, i_is))) touch)
+    | inr (e, none) ↦ inr (e, λ (i, h, i_in, i_is, touch). none h 0 ((are h 0).1 (refl, (i, i_in, i_is))) touch)
   ],
   λ a. elim a [
     | inl b ↦ (adds w).1 (inl b)
-    | inr (e, none) ↦ (adds w).1 (inr (e, λ h k leaf touch. (let (i, i_in, i_is) = ((leaves h k).0 leaf).1 in none (i, h, i_in, i_is, touch))))
+    | inr (e, none) ↦ (adds w).1 (inr (e, λ h k has touch. (let (i, i_in, i_is) = ((are h k).0 has).1 in none (i, h, i_in, i_is, touch))))
   ],
 )
 
--- zones of a list in the range are leaves in the range
-pub leaves-within_list : (flat : List Rect) (nodes : List Node) → AreWithin flat → ((r : Rect) (k : ℕ) → HasLeaf nodes r k ↔ ((k ≡ 0) × Contains flat r)) → AreLeavesWithin nodes
-leaves-within_list flat nodes within leaves r k leaf =
-    let (i, i_in, i_is) = ((leaves r k).0 leaf).1 in
+-- zones of a list in the range are items in the range
+pub items-within_list : (flat : List Rect) (items : List Item) → AreWithin flat → ((r : Rect) (k : ℕ) → HasItem items r k ↔ ((k ≡ 0) × Contains flat r)) → AreItemsWithin items
+items-within_list flat items within are r k has =
+    let (i, i_in, i_is) = ((are r k).0 has).1 in
     subst (λ u. IsSolidWithin farthest u) i_is (within i r i_in)
 
 pub kept-more : (flat zs : List Rect) (i : ℕ) (z : Rect) (old new : List Rect) → i < length zs → z ≡ get_or zs i z

@@ -9,16 +9,15 @@ use Rattle.dpl_spec.specs.declared.Rect.{Rect}
 use Rattle.dpl_spec.specs.Squares.{Covers, Has, SameSquares}
 use Rattle.dpl_spec.specs.Slabs.{IsCanonical}
 use Rattle.dpl_spec.specs.Zones.{IsVerticalZone, turned_rect}
-use Rattle.dpl_tree.specs.declared.tree.Node.{Node}
-use Rattle.dpl_tree.specs.Trees.{IsTree, turned_node}
-use Rattle.dpl_tree.proofs.Turns.{turned-tree}
+use Rattle.dpl_tree.specs.declared.items.Item.{Item}
+use Rattle.dpl_tree.specs.Trees.{turned_item}
 use Rattle.dpl_zone.specs.declared.rows.Span.{Span}
 use Rattle.dpl_zone.specs.Rows.{AreWithin, IsDark, IsSlabZone, layer_of}
 use Rattle.dpl_zone.specs.Near.{HasAllNear}
-use Rattle.dpl_zone.specs.Leaves.{AllIn, AreLeavesWithin, others_in, own_in}
+use Rattle.dpl_zone.specs.Items.{AllIn, AreItemsWithin, others_in, own_in}
 use Rattle.dpl_zone.specs.declared.ways.Found.{Found}
 use Rattle.dpl_zone.specs.Ways.{AreFound}
-use Rattle.dpl_zone.proofs.LeafLaws.{others-turned_in, others-within, own-turned_in, turned-leaves}
+use Rattle.dpl_zone.proofs.ItemLaws.{others-turned_in, others-within, own-turned_in, turned-items}
 use Rattle.dpl_zone.proofs.Nearby.{dark-near, near-turned}
 use Rattle.dpl_zone.proofs.Probes.{nothing-outside}
 use Rattle.dpl_zone.proofs.Turns.{apart-turned, flat-from_upright, one-column, own-turned, turned-covers}
@@ -45,16 +44,16 @@ unlit-none rule overlap own others s z all light h =
       | inr b ↦ nothing-outside own s (s.y0 -ℤ pos 1) (inl (omega (arith, ints))) all b
     ]
 
-lonely-of : (rule overlap : ℕ) (nodes : List Node) (k : ℕ) (near : List ℕ) (own : List Rect) (s : Rect) (zs : List Rect) → IsTree nodes → AllIn own s → HasAllNear rule s nodes k near → near ≡ [] → zs ≡ [] → OfSlab rule overlap own (others_in nodes k) s zs
-lonely-of rule overlap nodes k near own s zs tree all h none empty z =
+lonely-of : (rule overlap : ℕ) (items : List Item) (k : ℕ) (near : List ℕ) (own : List Rect) (s : Rect) (zs : List Rect) → AllIn own s → HasAllNear rule s items k near → near ≡ [] → zs ≡ [] → OfSlab rule overlap own (others_in items k) s zs
+lonely-of rule overlap items k near own s zs all h none empty z =
     rw empty (
       (λ (i, i_in, is). absurd (omega (arith, i_in))),
-      (λ zone. absurd (unlit-none rule overlap own (others_in nodes k) s z all light zone)),
+      (λ zone. absurd (unlit-none rule overlap own (others_in items k) s z all light zone)),
     )
   where
-    light : (y : ℤ) → s.y0 ≤ℤ y → y <ℤ s.y1 → IsDark rule (others_in nodes k) s y → ⊥
+    light : (y : ℤ) → s.y0 ≤ℤ y → y <ℤ s.y1 → IsDark rule (others_in items k) s y → ⊥
     light y low high dark =
-        let (n, c, shade) = (dark-near rule s nodes k near y tree h low high).1 dark in
+        let (n, c, shade) = (dark-near rule s items k near y h low high).1 dark in
         let (i, i_in, is) = subst (λ t. let ns : List ℕ = t in Contains ns n) none c in
         omega (arith, i_in)
 
@@ -103,54 +102,51 @@ one-turned part own others own' others' s one own_is others_is within =
     }
 
 -- a feature of one slab in a tree, and in the tree with x and y exchanged
-module _ (rule overlap : ℕ) (part rects : List Rect) (nodes across : List Node) (k : ℕ) (is : rects ≡ part) (size : length part ≡ 1) (canonical : IsCanonical part) (tree : IsTree nodes) (leaves : AreLeavesWithin nodes) (turn : across ≡ map turned_node nodes)
-    (same : SameSquares (Covers part) (Covers (own_in nodes k))) (apart : (p : Pt) → Covers part p → Covers (others_in nodes k) p → ⊥) where
+module _ (rule overlap : ℕ) (part rects : List Rect) (items across : List Item) (k : ℕ) (is : rects ≡ part) (size : length part ≡ 1) (canonical : IsCanonical part) (inside : AreItemsWithin items) (turn : across ≡ map turned_item items)
+    (same : SameSquares (Covers part) (Covers (own_in items k))) (apart : (p : Pt) → Covers part p → Covers (others_in items k) p → ⊥) where
   abbrev pub slab : Rect
   slab = get_or rects 0 zero_rect
 
-  one : IsOne part (own_in nodes k) (others_in nodes k) slab
+  one : IsOne part (own_in items k) (others_in items k) slab
   one = record {
     size = size;
     first = λ d. rw is (get_or_default part 0 d zero_rect (omega (arith, size)));
     canonical = canonical;
     same = same;
-    within = others-within nodes k tree leaves;
+    within = others-within items k inside;
     apart = apart;
   }
 
-  pub across-tree : IsTree across
-  across-tree = turned-tree nodes across turn tree
-
-  pub across-leaves : AreLeavesWithin across
-  across-leaves = turned-leaves nodes across turn leaves
+  pub across-items : AreItemsWithin across
+  across-items = turned-items items across turn inside
 
   column : IsOne (map turned_rect part) (own_in across k) (others_in across k) (turned_rect slab)
-  column = one-turned part (own_in nodes k) (others_in nodes k) (own_in across k) (others_in across k) slab one (own-turned_in nodes across k turn) (others-turned_in nodes across k turn) (others-within across k across-tree across-leaves)
+  column = one-turned part (own_in items k) (others_in items k) (own_in across k) (others_in across k) slab one (own-turned_in items across k turn) (others-turned_in items across k turn) (others-within across k across-items)
 
-  pub slab-whole : AllIn (own_in nodes k) slab
-  slab-whole = all-in part (own_in nodes k) (others_in nodes k) slab one
+  pub slab-whole : AllIn (own_in items k) slab
+  slab-whole = all-in part (own_in items k) (others_in items k) slab one
 
   pub column-whole : AllIn (own_in across k) (turned_rect slab)
   column-whole = all-in (map turned_rect part) (own_in across k) (others_in across k) (turned_rect slab) column
 
-  pub found-one : (found : Found) (flat : List Rect) → OfSlab rule overlap (own_in nodes k) (others_in nodes k) slab found.upright.items → OfSlab rule overlap (own_in across k) (others_in across k) (turned_rect slab) flat
-      → found.flat.items ≡ map turned_rect flat → AreFound rule overlap (layer_of part (others_in nodes k)) (Covers part) found
+  pub found-one : (found : Found) (flat : List Rect) → OfSlab rule overlap (own_in items k) (others_in items k) slab found.upright.items → OfSlab rule overlap (own_in across k) (others_in across k) (turned_rect slab) flat
+      → found.flat.items ≡ map turned_rect flat → AreFound rule overlap (layer_of part (others_in items k)) (Covers part) found
   found-one found flat upright_is flat_is turned_is =
       record {
-        flat = flat-from_upright rule overlap part (others_in nodes k) (map turned_rect part) flat found.flat.items (turned-covers part)
-            (subst (λ t. let os : List Rect = t in (z : Rect) → Contains flat z ↔ IsVerticalZone rule overlap (layer_of (map turned_rect part) os) (Covers (map turned_rect part)) z) (others-turned_in nodes across k turn)
+        flat = flat-from_upright rule overlap part (others_in items k) (map turned_rect part) flat found.flat.items (turned-covers part)
+            (subst (λ t. let os : List Rect = t in (z : Rect) → Contains flat z ↔ IsVerticalZone rule overlap (layer_of (map turned_rect part) os) (Covers (map turned_rect part)) z) (others-turned_in items across k turn)
             (upright-one rule overlap (map turned_rect part) (own_in across k) (others_in across k) (turned_rect slab) column flat flat_is)) turned_is;
-        upright = upright-one rule overlap part (own_in nodes k) (others_in nodes k) slab one found.upright.items upright_is;
+        upright = upright-one rule overlap part (own_in items k) (others_in items k) slab one found.upright.items upright_is;
       }
 
   -- too few rows and columns
-  pub found-small : (found : Found) → found.flat.items ≡ [] → found.upright.items ≡ [] → slab.y1 <ℤ (slab.y0 +ℤ pos (overlap + 2)) → slab.x1 <ℤ (slab.x0 +ℤ pos (overlap + 2)) → AreFound rule overlap (layer_of part (others_in nodes k)) (Covers part) found
+  pub found-small : (found : Found) → found.flat.items ≡ [] → found.upright.items ≡ [] → slab.y1 <ℤ (slab.y0 +ℤ pos (overlap + 2)) → slab.x1 <ℤ (slab.x0 +ℤ pos (overlap + 2)) → AreFound rule overlap (layer_of part (others_in items k)) (Covers part) found
   found-small found flat_is upright_is rows columns =
-      found-one found [] (short-of rule overlap (own_in nodes k) (others_in nodes k) slab found.upright.items upright_is rows)
+      found-one found [] (short-of rule overlap (own_in items k) (others_in items k) slab found.upright.items upright_is rows)
       (short-of rule overlap (own_in across k) (others_in across k) (turned_rect slab) [] refl columns) flat_is
 
   -- nothing near
-  pub found-lonely : (found : Found) (near : List ℕ) → found.flat.items ≡ [] → found.upright.items ≡ [] → HasAllNear rule slab nodes k near → near ≡ [] → AreFound rule overlap (layer_of part (others_in nodes k)) (Covers part) found
+  pub found-lonely : (found : Found) (near : List ℕ) → found.flat.items ≡ [] → found.upright.items ≡ [] → HasAllNear rule slab items k near → near ≡ [] → AreFound rule overlap (layer_of part (others_in items k)) (Covers part) found
   found-lonely found near flat_is upright_is h none =
-      found-one found [] (lonely-of rule overlap nodes k near (own_in nodes k) slab found.upright.items tree slab-whole h none upright_is)
-      (lonely-of rule overlap across k near (own_in across k) (turned_rect slab) [] across-tree column-whole (near-turned rule slab nodes across k near turn h) none refl) flat_is
+      found-one found [] (lonely-of rule overlap items k near (own_in items k) slab found.upright.items slab-whole h none upright_is)
+      (lonely-of rule overlap across k near (own_in across k) (turned_rect slab) [] column-whole (near-turned rule slab items across k near turn h) none refl) flat_is

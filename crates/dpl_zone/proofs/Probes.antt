@@ -1,24 +1,22 @@
 -- What a search of a tree by a window finds.
-use Rattle.std.proofs.Common.{◌≡◌, ℕ, ◌<◌, ◌⊎◌, inl, inr, List, length, get_or, sym, refl, subst, arith}
+use Rattle.std.proofs.Common.{◌≡◌, ℕ, ◌<◌, ◌⊎◌, inl, inr, List, length, get_or, subst, arith}
 use Rattle.std.specs.Prelude.{ℤ, pos, ◌+ℤ◌, ◌-ℤ◌, ◌≤ℤ◌, ◌<ℤ◌}
 use Rattle.std.proofs.lemmas.Int.{ints, by_lt_z}
-use Rattle.std.proofs.lemmas.Bool.{cases_lt}
-use Rattle.std.proofs.lemmas.List.{get_or_default}
+use Rattle.std.proofs.lemmas.Bool.{cases_lt, cases_eq}
 use Rattle.dpl_spec.specs.declared.Rect.{Rect}
 use Rattle.dpl_spec.specs.Loops.{farthest}
 use Rattle.dpl_spec.specs.Squares.{Has, Covers, AreTouching, IsSolidWithin}
 use Rattle.dpl_spec.specs.Zones.{at, GoesOn, turned}
 use Rattle.dpl_spec.proofs.SquareLaws.{Touch-from_close}
 use Rattle.dpl_spec.proofs.ZoneLaws.{close-from_touch}
-use Rattle.dpl_tree.specs.declared.tree.Node.{Node}
-use Rattle.dpl_tree.specs.declared.tree.Owners.{Owners}
-use Rattle.dpl_tree.specs.declared.tree.Owners.TheVariants.{All, Only}
-use Rattle.dpl_tree.specs.Trees.{IsTree, IsLeaf, HasLeaf, LiesApart, IsMissed}
+use Rattle.dpl_tree.specs.declared.items.Item.{Item}
+use Rattle.dpl_tree.specs.declared.owners.Owners.{Owners}
+use Rattle.dpl_tree.specs.declared.owners.Owners.TheVariants.{All, Only}
+use Rattle.dpl_tree.specs.Trees.{HasItem, LiesApart, IsMissed, ArePassed}
 use Rattle.dpl_tree.specs.Windows.{IsWidened}
-use Rattle.dpl_zone.specs.Leaves.{AllIn, AreLeavesWithin, IsStrip, own_in}
-use Rattle.dpl_tree.proofs.TreeLaws.{ArePassed}
-use Rattle.dpl_zone.proofs.LeafLaws.{own-in, in-own, one-in_tree}
-use Rattle.dpl_zone.proofs.Shades.{leaf-within}
+use Rattle.dpl_zone.specs.Items.{AllIn, AreItemsWithin, IsStrip, own_in}
+use Rattle.dpl_tree.proofs.ItemLaws.{item-at}
+use Rattle.dpl_zone.proofs.ItemLaws.{own-in, in-own, item-within}
 
 record Overlaps (w r : Rect) : Type 0 where
   left : w.x0 <ℤ r.x1
@@ -42,37 +40,20 @@ not_apart w r o (inr (inr (inl h))) = let a = o.low in omega (arith, ints, h, a)
 not_apart w r o (inr (inr (inr h))) = let a = o.high in omega (arith, ints, h, a)
 
 -- what a search comes to
-pub record IsSought (nodes : List Node) (window : Rect) (owners : Owners) (n : ℕ) : Type 0 where
-  pub passed : ArePassed window owners nodes 0 n
-  pub found : (d : Node) → n < length nodes → ((get_or nodes n d).size ≡ 1) × (IsMissed window owners (get_or nodes n d) → ⊥)
+pub record IsSought (items : List Item) (window : Rect) (owners : Owners) (n : ℕ) : Type 0 where
+  pub passed : ArePassed window owners items 0 n
+  pub found : (d : Item) → n < length items → ¬ IsMissed window owners (get_or items n d)
 
-module _ (nodes : List Node) (window : Rect) (owners : Owners) (n : ℕ) (tree : IsTree nodes) (sought : IsSought nodes window owners n) where
-  -- a leaf that isn't missed is found, or another one
-  leaf_found : (r : Rect) (k : ℕ) → HasLeaf nodes r k → ((node : Node) → IsLeaf node r k → IsMissed window owners node → ⊥) → n < length nodes
-  leaf_found r k (j, node, z, j_in, is, leaf) never = elim (cases_lt n (length nodes)) [
+module _ (items : List Item) (window : Rect) (owners : Owners) (n : ℕ) (sought : IsSought items window owners n) where
+  -- a rectangle that isn't missed is found, or another one
+  item_found : (r : Rect) (k : ℕ) → HasItem items r k → ((item : Item) → item.rect ≡ r → item.owner ≡ k → ¬ IsMissed window owners item) → n < length items
+  item_found r k (item, (j, j_in, is), e, f) never = elim (cases_lt n (length items)) [
     | inl l ↦ l
-    | inr l ↦ absurd (never node leaf (subst (λ u. IsMissed window owners u) is
-        (sought.passed j node (omega arith) (omega (arith, l, j_in)) j_in (subst (λ u. let v : Node = u in v.size ≡ 1) (sym is) leaf.size))))
+    | inr l ↦ absurd (never item e f (subst (λ u. IsMissed window owners u) is (sought.passed j item (omega arith) (omega (arith, l, j_in)) j_in)))
   ]
 
-  found_leaf : (d : Node) → n < length nodes → HasLeaf nodes (get_or nodes n d).bounds (get_or nodes n d).least
-  found_leaf d l = (
-    n,
-    get_or nodes n d,
-    omega arith,
-    l,
-    get_or_default nodes n (get_or nodes n d) d l,
-    record { size = (sought.found d l).0; rect = refl; least = refl; greatest = sym (tree.one n d (omega arith) l (sought.found d l).0) },
-  )
-
-  found_overlap : (d : Node) → n < length nodes → Overlaps window (get_or nodes n d).bounds
-  found_overlap d l = overlap window (get_or nodes n d).bounds (λ h. (sought.found d l).1 (inl h))
-
-only-one : (own least greatest : ℕ) → least ≡ greatest → ((own < least) ⊎ (greatest < own) → ⊥) → least ≡ own
-only-one own least greatest one h = elim (cases_lt own least) [
-  | inl l ↦ absurd (h (inl l))
-  | inr l ↦ elim (cases_lt greatest own) [ inl m ↦ absurd (h (inr m)) | inr m ↦ omega (arith, one, l, m) ]
-]
+  found_overlap : (d : Item) → n < length items → Overlaps window (get_or items n d).rect
+  found_overlap d l = overlap window (get_or items n d).rect (λ h. sought.found d l (inl h))
 
 -- a column of the slab, or one beside it, at which the rectangle has the row
 shared : (s r : Rect) (y : ℤ) → IsSolidWithin farthest s → IsSolidWithin farthest r → (s.x0 -ℤ pos 1) <ℤ r.x1 → r.x0 <ℤ (s.x1 +ℤ pos 1) → r.y0 ≤ℤ y → y <ℤ r.y1 → (x : ℤ) × ((s.x0 -ℤ pos 1) ≤ℤ x) × (x ≤ℤ s.x1) × Has r (at x y)
@@ -83,16 +64,13 @@ shared s r y solid within a b c d =
     (λ l. (s.x0 -ℤ pos 1, omega (arith, ints), omega (arith, ints, wide), record { left = omega (arith, ints, l); right = a; low = c; high = d }))
     (λ l. (r.x0, l, omega (arith, ints, b), record { left = omega (arith, ints); right = own; low = c; high = d }))
 
-module _ (nodes : List Node) (own : ℕ) (s : Rect) (y : ℤ) (window : Rect) (n : ℕ) (tree : IsTree nodes) (within : AreLeavesWithin nodes) (solid : IsSolidWithin farthest s)
-    (strip : IsStrip s y window) (sought : IsSought nodes window (Only own) n) where
-  pub row-found : (d : Node) → n < length nodes → GoesOn (turned (Covers (own_in nodes own))) s.x0 s.x1 y
+module _ (items : List Item) (own : ℕ) (s : Rect) (y : ℤ) (window : Rect) (n : ℕ) (within : AreItemsWithin items) (solid : IsSolidWithin farthest s)
+    (strip : IsStrip s y window) (sought : IsSought items window (Only own) n) where
+  pub row-found : (d : Item) → n < length items → GoesOn (turned (Covers (own_in items own))) s.x0 s.x1 y
   row-found d l =
-      let r : Rect = (get_or nodes n d).bounds in
-      let o = found_overlap nodes window (Only own) n tree sought d l in
-      let one = (sought.found d l).0 in
-      let owner : (get_or nodes n d).least ≡ own =
-      only-one own (get_or nodes n d).least (get_or nodes n d).greatest (tree.one n d (omega arith) l one) (λ h. (sought.found d l).1 (inr h)) in
-      let in_own = in-own nodes own (get_or nodes n d).bounds (subst (λ k. HasLeaf nodes (get_or nodes n d).bounds k) owner (found_leaf nodes window (Only own) n tree sought d l)) in
+      let o = found_overlap items window (Only own) n sought d l in
+      let owner : (get_or items n d).owner ≡ own = elim (cases_eq (get_or items n d).owner own) [ inl e ↦ e | inr ne ↦ absurd (sought.found d l (inr ne)) ] in
+      let in_own = in-own items own (get_or items n d).rect (subst (λ k. HasItem items (get_or items n d).rect k) owner (item-at items n d l)) in
       let e0 = strip.left in
       let e1 = strip.right in
       let e2 = strip.low in
@@ -101,14 +79,14 @@ module _ (nodes : List Node) (own : ℕ) (s : Rect) (y : ℤ) (window : Rect) (n
       let o1 = o.right in
       let o2 = o.low in
       let o3 = o.high in
-      let (x, a, b, has) = shared s (get_or nodes n d).bounds y solid (leaf-within nodes n d tree within l one)
+      let (x, a, b, has) = shared s (get_or items n d).rect y solid (item-within items n d within l)
       (omega (arith, ints, e0, o0)) (omega (arith, ints, e1, o1)) (omega (arith, ints, e3, o3)) (omega (arith, ints, e2, o2)) in
       let (m, m_in, m_is) = in_own in
-      (x, a, b, (m, (get_or nodes n d).bounds, m_in, m_is, has))
+      (x, a, b, (m, (get_or items n d).rect, m_in, m_is, has))
 
-  pub found-row : GoesOn (turned (Covers (own_in nodes own))) s.x0 s.x1 y → n < length nodes
+  pub found-row : GoesOn (turned (Covers (own_in items own))) s.x0 s.x1 y → n < length items
   found-row (x, a, b, (m, r, m_in, m_is, has)) =
-      let leaf = own-in nodes own (one-in_tree nodes tree) r (m, m_in, m_is) in
+      let mine = own-in items own r (m, m_in, m_is) in
       let e0 = strip.left in
       let e1 = strip.right in
       let e2 = strip.low in
@@ -118,9 +96,9 @@ module _ (nodes : List Node) (own : ℕ) (s : Rect) (y : ℤ) (window : Rect) (n
       let h2 = has.low in
       let h3 = has.high in
       let o : Overlaps window r = record { left = omega (arith, ints, e0, a, h1); right = omega (arith, ints, e1, b, h0); low = omega (arith, ints, e2, h3); high = omega (arith, ints, e3, h2) } in
-      leaf_found nodes window (Only own) n tree sought r own leaf (λ node is missed. elim missed [
-        | inl h ↦ not_apart window r o (subst (λ t. LiesApart window t) is.rect h)
-        | inr h ↦ elim h [ inl l ↦ (let c = is.least in omega (arith, l, c)) | inr l ↦ (let c = is.greatest in omega (arith, l, c)) ]
+      item_found items window (Only own) n sought r own mine (λ item e f missed. elim missed [
+        | inl h ↦ not_apart window r o (subst (λ t. LiesApart window t) e h)
+        | inr h ↦ h f
       ])
 
 -- a row, or a column, of one span and one of the other at most one apart
@@ -142,12 +120,12 @@ close_pair a0 a1 b0 b1 a b c d =
     (λ m. record { i = a0; j = a0; i_from = omega (arith, ints); i_below = a; j_from = l; j_below = m; up = omega (arith, ints); down = omega (arith, ints) })
     (λ m. record { i = a0; j = b1 -ℤ pos 1; i_from = omega (arith, ints); i_below = a; j_from = omega (arith, ints, b); j_below = omega (arith, ints); up = omega (arith, ints, m); down = omega (arith, ints, c, m) }))
 
-module _ (nodes : List Node) (z : Rect) (window : Rect) (n : ℕ) (tree : IsTree nodes) (within : AreLeavesWithin nodes) (solid : IsSolidWithin farthest z)
-    (wide : IsWidened z 1 window) (sought : IsSought nodes window All n) where
-  pub touch-found : (d : Node) → n < length nodes → (h : Rect) × (k : ℕ) × HasLeaf nodes h k × AreTouching (Has h) (Has z)
+module _ (items : List Item) (z : Rect) (window : Rect) (n : ℕ) (within : AreItemsWithin items) (solid : IsSolidWithin farthest z)
+    (wide : IsWidened z 1 window) (sought : IsSought items window All n) where
+  pub touch-found : (d : Item) → n < length items → (h : Rect) × (k : ℕ) × HasItem items h k × AreTouching (Has h) (Has z)
   touch-found d l =
-      let o = found_overlap nodes window All n tree sought d l in
-      let r = leaf-within nodes n d tree within l (sought.found d l).0 in
+      let o = found_overlap items window All n sought d l in
+      let r = item-within items n d within l in
       let e0 = wide.left in
       let e1 = wide.right in
       let e2 = wide.low in
@@ -156,11 +134,11 @@ module _ (nodes : List Node) (z : Rect) (window : Rect) (n : ℕ) (tree : IsTree
       let o1 = o.right in
       let o2 = o.low in
       let o3 = o.high in
-      let p = close_pair (get_or nodes n d).bounds.x0 (get_or nodes n d).bounds.x1 z.x0 z.x1 r.wide solid.wide (omega (arith, ints, e1, o1)) (omega (arith, ints, e0, o0)) in
-      let q = close_pair (get_or nodes n d).bounds.y0 (get_or nodes n d).bounds.y1 z.y0 z.y1 r.tall solid.tall (omega (arith, ints, e3, o3)) (omega (arith, ints, e2, o2)) in (
-        (get_or nodes n d).bounds,
-        (get_or nodes n d).least,
-        found_leaf nodes window All n tree sought d l,
+      let p = close_pair (get_or items n d).rect.x0 (get_or items n d).rect.x1 z.x0 z.x1 r.wide solid.wide (omega (arith, ints, e1, o1)) (omega (arith, ints, e0, o0)) in
+      let q = close_pair (get_or items n d).rect.y0 (get_or items n d).rect.y1 z.y0 z.y1 r.tall solid.tall (omega (arith, ints, e3, o3)) (omega (arith, ints, e2, o2)) in (
+        (get_or items n d).rect,
+        (get_or items n d).owner,
+        item-at items n d l,
         (
           at p.i q.i,
           at p.j q.j,
@@ -170,8 +148,8 @@ module _ (nodes : List Node) (z : Rect) (window : Rect) (n : ℕ) (tree : IsTree
         ),
       )
 
-  pub found-touch : (h : Rect) (k : ℕ) → HasLeaf nodes h k → AreTouching (Has h) (Has z) → n < length nodes
-  found-touch h k leaf (p, q, hp, hq, touch) =
+  pub found-touch : (h : Rect) (k : ℕ) → HasItem items h k → AreTouching (Has h) (Has z) → n < length items
+  found-touch h k has (p, q, hp, hq, touch) =
       let c = close-from_touch p q touch in
       let e0 = wide.left in
       let e1 = wide.right in
@@ -183,8 +161,8 @@ module _ (nodes : List Node) (z : Rect) (window : Rect) (n : ℕ) (tree : IsTree
         low = omega (arith, ints, e2, hq.low, c.low, hp.high);
         high = omega (arith, ints, e3, hq.high, c.high, hp.low);
       } in
-      leaf_found nodes window All n tree sought h k leaf (λ node is missed. elim missed [
-        | inl a ↦ not_apart window h o (subst (λ t. LiesApart window t) is.rect a)
+      item_found items window All n sought h k has (λ item e f missed. elim missed [
+        | inl a ↦ not_apart window h o (subst (λ t. LiesApart window t) e a)
         | inr a ↦ absurd a
       ])
 

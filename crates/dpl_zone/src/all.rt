@@ -5,7 +5,7 @@ ghost use Rattle.dpl_spec.specs.declared.Zone.{Zone};
 ghost use Rattle.dpl_slabs.specs.Parts.{AreParts, union_of};
 ghost use Rattle.dpl_spec.specs.Zones.{AreZones};
 ghost use Rattle.dpl_zone.specs.Layers.{IsPartZone};
-ghost use Rattle.dpl_tree.specs.Trees.{AreLeavesOf, IsTree, turned_node};
+ghost use Rattle.dpl_tree.specs.Trees.{AreItemsOf, turned_item};
 
 use crate::kept::kept_zones;
 use crate::order::{each_once, sort_zones};
@@ -28,9 +28,8 @@ fn add_feature(
     requires some { 1 ≤ overlap }
     requires part { k < length parts.now }
     requires parts { AreParts parts.now }
-    requires tree { IsTree tree.now }
-    requires leaves { AreLeavesOf parts.now tree.now }
-    requires turned { across.now ≡ map turned_node tree.now }
+    requires items { AreItemsOf parts.now tree.now }
+    requires turned { across.now ≡ map turned_item tree.now }
     ensures { OnOk result ((z : Zone) → Contains found.new.items z ↔ (Contains found.old.items z ⊎ ((z.feature ≡ k) × IsPartZone rule overlap parts.now z))) }
 {
     let kept = kept_zones(alloc, &parts[k], tree, across, k, rule, overlap)?;

@@ -7,10 +7,10 @@ ghost use Rattle.dpl_spec.specs.Loops.{farthest};
 ghost use Rattle.dpl_spec.specs.Squares.{AreTouching, Covers, Has, IsSolidWithin, SameSquares};
 ghost use Rattle.dpl_spec.specs.Zones.{IsKeptZone};
 ghost use Rattle.dpl_zone.specs.Rows.{AddsZones, AreWithin, TouchesAny, layer_of};
-ghost use Rattle.dpl_tree.specs.Trees.{IsTree, HasLeaf, turned_node};
-ghost use Rattle.dpl_zone.specs.Leaves.{AreLeavesWithin, others_in, own_in};
+ghost use Rattle.dpl_tree.specs.Trees.{HasItem, turned_item};
+ghost use Rattle.dpl_zone.specs.Items.{AreItemsWithin, others_in, own_in};
 
-use crate::near::touches_leaf;
+use crate::near::touches_item;
 use crate::ways::found_in;
 use dpl_base::Rect;
 use dpl_slabs::Slabs;
@@ -19,7 +19,7 @@ use std::alloc::{AllocError, Global};
 
 /// The tree of zones.
 fn tree_of_zones(alloc: Global, zones: &[Rect]) -> Result<Tree, AllocError>
-    ensures { IfOk result (λ t. (r : Rect) (k : ℕ) → HasLeaf t r k ↔ ((k ≡ 0) × Contains zones.now r)) }
+    ensures { IfOk result (λ t. (r : Rect) (k : ℕ) → HasItem t r k ↔ ((k ≡ 0) × Contains zones.now r)) }
 {
     let mut items = Vec::new(alloc);
     add_items_of(&mut items, zones, 0)?;
@@ -29,11 +29,11 @@ fn tree_of_zones(alloc: Global, zones: &[Rect]) -> Result<Tree, AllocError>
 
 /// Adds a zone that touches none of the others.
 fn add_apart(kept: &mut Vec<Rect>, flat: &View, z: &Rect) -> Result<(), AllocError>
-    requires leaves { AreLeavesWithin flat.now }
+    requires items { AreItemsWithin flat.now }
     requires zone { IsSolidWithin farthest z.now }
-    ensures { OnOk result (AddsZones (λ w. (z.now ≡ w) × ((h : Rect) (k : ℕ) → HasLeaf flat.now h k → AreTouching (Has h) (Has w) → ⊥)) kept.old.items kept.new.items) }
+    ensures { OnOk result (AddsZones (λ w. (z.now ≡ w) × ((h : Rect) (k : ℕ) → HasItem flat.now h k → AreTouching (Has h) (Has w) → ⊥)) kept.old.items kept.new.items) }
 {
-    if touches_leaf(flat, z) {
+    if touches_item(flat, z) {
         return Ok(());
     }
     kept.push(*z)?;
@@ -72,9 +72,8 @@ pub fn kept_zones(
     overlap: u32,
 ) -> Result<Vec<Rect>, AllocError>
     requires some { 1 ≤ overlap }
-    requires tree { IsTree tree.now }
-    requires leaves { AreLeavesWithin tree.now }
-    requires turned { across.now ≡ map turned_node tree.now }
+    requires items { AreItemsWithin tree.now }
+    requires turned { across.now ≡ map turned_item tree.now }
     requires own { SameSquares (Covers part.now) (Covers (own_in tree.now own)) }
     requires apart { (p : Pt) → Covers part.now p → Covers (others_in tree.now own) p → ⊥ }
     ensures { IfOk result (λ v. (z : Rect) → Contains v.items z ↔ IsKeptZone rule overlap (layer_of part.now (others_in tree.now own)) (Covers part.now) z) }

@@ -5,25 +5,25 @@ ghost use Rattle.dpl_spec.specs.Loops.{farthest};
 ghost use Rattle.dpl_spec.specs.Squares.{AreTouching, Covers, Has, IsSolidWithin};
 ghost use Rattle.dpl_spec.specs.Zones.{GoesOn, turned};
 ghost use Rattle.dpl_zone.specs.Near.{HasAllNear};
-ghost use Rattle.dpl_tree.specs.Trees.{HasLeaf};
-ghost use Rattle.dpl_zone.specs.Leaves.{AllIn, AreLeavesWithin, IsStrip, own_in};
+ghost use Rattle.dpl_tree.specs.Trees.{HasItem};
+ghost use Rattle.dpl_zone.specs.Items.{AllIn, AreItemsWithin, IsStrip, own_in};
 
 use dpl_base::Rect;
 use dpl_tree::{Owners, View, widened};
 use smallvec::SmallVec;
 use std::alloc::{AllocError, Global};
 
-/// The numbers of some leaves of a tree.
-pub type Leaves = SmallVec<usize, 16>;
+/// The numbers of some items of a tree.
+pub type Numbers = SmallVec<usize, 16>;
 
-/// The leaves of other owners in the slab's window, and so all that are near it. A tree with x and y exchanged has the same numbers.
+/// The items of other owners in the slab's window, and so all that are near it. A tree with x and y exchanged has the same numbers.
 pub fn others_near(
     alloc: Global,
     tree: &View,
     own: usize,
     slab: &Rect,
     rule: u32,
-) -> Result<Leaves, AllocError>
+) -> Result<Numbers, AllocError>
     requires { IsSolidWithin farthest slab.now }
     ensures { IfOk result (λ v. HasAllNear rule slab.now tree.now own v.items) }
 {
@@ -54,7 +54,7 @@ fn strip(slab: &Rect, y: i64) -> Rect
 
 /// Whether the owner has a square in row `y`, below or above the slab, that is at most one column beside it.
 pub fn has_row(tree: &View, own: usize, slab: &Rect, is_whole: bool, y: i64) -> bool
-    requires leaves { AreLeavesWithin tree.now }
+    requires items { AreItemsWithin tree.now }
     requires slab { IsSolidWithin farthest slab.now }
     requires row { y <ℤ pos 2000000000 }
     requires outside { (y <ℤ slab.now.y0) ⊎ (slab.now.y1 ≤ℤ y) }
@@ -73,11 +73,11 @@ pub fn has_row(tree: &View, own: usize, slab: &Rect, is_whole: bool, y: i64) -> 
     false
 }
 
-/// Whether the rectangle touches a leaf.
-pub fn touches_leaf(tree: &View, r: &Rect) -> bool
-    requires leaves { AreLeavesWithin tree.now }
+/// Whether the rectangle touches an item.
+pub fn touches_item(tree: &View, r: &Rect) -> bool
+    requires items { AreItemsWithin tree.now }
     requires solid { IsSolidWithin farthest r.now }
-    ensures { IsTrue result ↔ ((h : Rect) × (k : ℕ) × HasLeaf tree.now h k × AreTouching (Has h) (Has r.now)) }
+    ensures { IsTrue result ↔ ((h : Rect) × (k : ℕ) × HasItem tree.now h k × AreTouching (Has h) (Has r.now)) }
 {
     let window = widened(r, 1);
     let count = tree.count();

@@ -1,4 +1,4 @@
-//! The rows of a slab that are near leaves of a tree, and those between them.
+//! The rows of a slab that are near items of a tree, and those between them.
 ghost use Rattle.std.specs.Prelude.{◌≡◌, ◌+◌, ◌^◌, ◌<◌, ◌≤◌, ◌⊎◌, ◌↔◌, ℤ, pos, ◌+ℤ◌, ◌≤ℤ◌, ◌<ℤ◌, IsTrue, IsNone, IfSome, IfOk, OnOk, length, unsigned_abs};
 ghost use Rattle.std.specs.List.{Contains};
 ghost use Rattle.dpl_zone.specs.declared.rows.Span.{Span};
@@ -6,9 +6,8 @@ ghost use Rattle.dpl_spec.specs.declared.Rect.{Rect};
 ghost use Rattle.dpl_spec.specs.Loops.{farthest};
 ghost use Rattle.dpl_spec.specs.Squares.{IsSolidWithin};
 ghost use Rattle.dpl_zone.specs.Rows.{SomeRow, AreTall, RiseByFrom, IsShaded, IsShadow, IsGap, AddsSpan};
-ghost use Rattle.dpl_zone.specs.Near.{AreLeaves, IsDarkBy};
-ghost use Rattle.dpl_zone.specs.Leaves.{AreLeavesWithin};
-ghost use Rattle.dpl_tree.specs.Trees.{IsTree};
+ghost use Rattle.dpl_zone.specs.Near.{AreNumbers, IsDarkBy};
+ghost use Rattle.dpl_zone.specs.Items.{AreItemsWithin};
 
 use dpl_base::{Rect, reach, span_gap};
 use dpl_tree::View;
@@ -76,7 +75,7 @@ fn is_covered(spans: &[Span], slab: &Rect) -> bool
     true
 }
 
-/// The shadows of leaves on a slab, up to one that has all its rows.
+/// The shadows of items on a slab, up to one that has all its rows.
 fn gather(
     alloc: Global,
     tree: &View,
@@ -84,16 +83,15 @@ fn gather(
     slab: &Rect,
     rule: u32,
 ) -> Result<Spans, AllocError>
-    requires tree { IsTree tree.now }
-    requires leaves { AreLeavesWithin tree.now }
-    requires near { AreLeaves tree.now near.now }
+    requires items { AreItemsWithin tree.now }
+    requires near { AreNumbers tree.now near.now }
     requires slab { IsSolidWithin farthest slab.now }
     ensures tall { IfOk result (λ v. AreTall v.items) }
     ensures rows { IfOk result (λ v. (y : ℤ) → slab.now.y0 ≤ℤ y → y <ℤ slab.now.y1 → SomeRow v.items y ↔ IsDarkBy rule tree.now near.now slab.now y) }
 {
     let mut spans = SmallVec::new(alloc);
     for n in near {
-        add_shadow(&mut spans, slab, &tree.bounds(*n), rule)?;
+        add_shadow(&mut spans, slab, &tree.rect(*n), rule)?;
         if is_covered(spans.as_slice(), slab) {
             return Ok(spans);
         }
@@ -101,7 +99,7 @@ fn gather(
     Ok(spans)
 }
 
-/// The shadows of leaves on a slab, lowest first.
+/// The shadows of items on a slab, lowest first.
 pub fn shadows(
     alloc: Global,
     tree: &View,
@@ -109,9 +107,8 @@ pub fn shadows(
     slab: &Rect,
     rule: u32,
 ) -> Result<Spans, AllocError>
-    requires tree { IsTree tree.now }
-    requires leaves { AreLeavesWithin tree.now }
-    requires near { AreLeaves tree.now near.now }
+    requires items { AreItemsWithin tree.now }
+    requires near { AreNumbers tree.now near.now }
     requires slab { IsSolidWithin farthest slab.now }
     ensures tall { IfOk result (λ v. AreTall v.items) }
     ensures rise { IfOk result (λ v. RiseByFrom v.items) }

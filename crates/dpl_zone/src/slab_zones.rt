@@ -10,8 +10,7 @@ ghost use Rattle.dpl_spec.specs.Zones.{IsVerticalZone};
 ghost use Rattle.dpl_zone.specs.declared.rows.Span.{Span};
 ghost use Rattle.dpl_zone.specs.Rows.{IsDark, GoesBelow, GoesAbove, IsOpenSpan, IsMiddleOf, IsSlabZone, AddsZones, layer_of};
 ghost use Rattle.dpl_zone.specs.Near.{HasAllNear};
-ghost use Rattle.dpl_tree.specs.Trees.{IsTree};
-ghost use Rattle.dpl_zone.specs.Leaves.{AllIn, AreLeavesWithin, others_in, own_in};
+ghost use Rattle.dpl_zone.specs.Items.{AllIn, AreItemsWithin, others_in, own_in};
 
 use crate::near::{has_row, others_near};
 use crate::rows::{Span, gaps, shadows};
@@ -21,7 +20,7 @@ use std::alloc::{AllocError, Global};
 
 /// Whether the feature goes on below the span: in the slab itself, or below that, where it isn't the whole feature.
 fn goes_below(tree: &View, own: usize, slab: &Rect, is_whole: bool, g: &Span) -> bool
-    requires leaves { AreLeavesWithin tree.now }
+    requires items { AreItemsWithin tree.now }
     requires slab { IsSolidWithin farthest slab.now }
     requires whole { IsTrue is_whole → AllIn (own_in tree.now own) slab.now }
     ensures { IsTrue result ↔ ((slab.now.y0 <ℤ g.now.from) ⊎ GoesBelow (own_in tree.now own) slab.now) }
@@ -37,7 +36,7 @@ fn goes_below(tree: &View, own: usize, slab: &Rect, is_whole: bool, g: &Span) ->
 
 /// Whether the feature goes on above the span: in the slab itself, or above that, where it isn't the whole feature.
 fn goes_above(tree: &View, own: usize, slab: &Rect, is_whole: bool, g: &Span) -> bool
-    requires leaves { AreLeavesWithin tree.now }
+    requires items { AreItemsWithin tree.now }
     requires slab { IsSolidWithin farthest slab.now }
     requires whole { IsTrue is_whole → AllIn (own_in tree.now own) slab.now }
     ensures { IsTrue result ↔ ((g.now.to <ℤ slab.now.y1) ⊎ GoesAbove (own_in tree.now own) slab.now) }
@@ -53,7 +52,7 @@ fn goes_above(tree: &View, own: usize, slab: &Rect, is_whole: bool, g: &Span) ->
 
 /// Whether a span is long enough for a zone, and the feature goes on beyond both its ends.
 fn is_open(tree: &View, own: usize, slab: &Rect, is_whole: bool, g: &Span, overlap: u32) -> bool
-    requires leaves { AreLeavesWithin tree.now }
+    requires items { AreItemsWithin tree.now }
     requires slab { IsSolidWithin farthest slab.now }
     requires whole { IsTrue is_whole → AllIn (own_in tree.now own) slab.now }
     requires from { slab.now.y0 ≤ℤ g.now.from }
@@ -102,7 +101,7 @@ fn add_zone(
     g: &Span,
     overlap: u32,
 ) -> Result<(), AllocError>
-    requires leaves { AreLeavesWithin tree.now }
+    requires items { AreItemsWithin tree.now }
     requires slab { IsSolidWithin farthest slab.now }
     requires whole { IsTrue is_whole → AllIn (own_in tree.now own) slab.now }
     requires from { slab.now.y0 ≤ℤ g.now.from }
@@ -129,7 +128,7 @@ pub fn is_short(slab: &Rect, overlap: u32) -> bool
     false
 }
 
-/// Adds the zones of a slab among the leaves near it.
+/// Adds the zones of a slab among the items near it.
 fn add_zones(
     alloc: Global,
     zones: &mut Vec<Rect>,
@@ -141,8 +140,7 @@ fn add_zones(
     rule: u32,
     overlap: u32,
 ) -> Result<(), AllocError>
-    requires tree { IsTree tree.now }
-    requires leaves { AreLeavesWithin tree.now }
+    requires items { AreItemsWithin tree.now }
     requires slab { IsSolidWithin farthest slab.now }
     requires whole { IsTrue is_whole → AllIn (own_in tree.now own) slab.now }
     requires near { HasAllNear rule slab.now tree.now own near.now }
@@ -156,7 +154,7 @@ fn add_zones(
     Ok(())
 }
 
-/// The zones of a slab that is a whole feature, among the leaves near it.
+/// The zones of a slab that is a whole feature, among the items near it.
 pub fn whole_zones(
     alloc: Global,
     tree: &View,
@@ -166,8 +164,7 @@ pub fn whole_zones(
     rule: u32,
     overlap: u32,
 ) -> Result<Vec<Rect>, AllocError>
-    requires tree { IsTree tree.now }
-    requires leaves { AreLeavesWithin tree.now }
+    requires items { AreItemsWithin tree.now }
     requires slab { IsSolidWithin farthest slab.now }
     requires whole { AllIn (own_in tree.now own) slab.now }
     requires near { HasAllNear rule slab.now tree.now own near.now }
@@ -193,8 +190,7 @@ fn add_slab(
     rule: u32,
     overlap: u32,
 ) -> Result<(), AllocError>
-    requires tree { IsTree tree.now }
-    requires leaves { AreLeavesWithin tree.now }
+    requires items { AreItemsWithin tree.now }
     requires slab { IsSolidWithin farthest slab.now }
     ensures { OnOk result (AddsZones (IsSlabZone rule overlap (own_in tree.now own) (others_in tree.now own) slab.now) zones.old.items zones.new.items) }
 {
@@ -226,8 +222,7 @@ pub fn upright_zones(
 ) -> Result<Vec<Rect>, AllocError>
     requires canonical { IsCanonical slabs.now }
     requires within { AreRectsWithin farthest slabs.now }
-    requires tree { IsTree tree.now }
-    requires leaves { AreLeavesWithin tree.now }
+    requires items { AreItemsWithin tree.now }
     requires own { SameSquares (Covers slabs.now) (Covers (own_in tree.now own)) }
     requires apart { (p : Pt) → Covers slabs.now p → Covers (others_in tree.now own) p → ⊥ }
     ensures { IfOk result (λ v. (z : Rect) → Contains v.items z ↔ IsVerticalZone rule overlap (layer_of slabs.now (others_in tree.now own)) (Covers slabs.now) z) }

@@ -7,8 +7,8 @@ ghost use Rattle.dpl_spec.specs.Squares.{Covers, IsSolidWithin, SameSquares};
 ghost use Rattle.dpl_spec.specs.Zones.{turned_rect};
 ghost use Rattle.dpl_zone.specs.Rows.{AreWithin, layer_of};
 ghost use Rattle.dpl_zone.specs.Ways.{AreFound};
-ghost use Rattle.dpl_tree.specs.Trees.{IsTree, turned_node};
-ghost use Rattle.dpl_zone.specs.Leaves.{AreLeavesWithin, others_in, own_in};
+ghost use Rattle.dpl_tree.specs.Trees.{turned_item};
+ghost use Rattle.dpl_zone.specs.Items.{AreItemsWithin, others_in, own_in};
 
 use crate::flat::{flat_zones, turn_all, turned};
 use crate::near::others_near;
@@ -59,9 +59,8 @@ fn found_in_one(
     overlap: u32,
 ) -> Result<Found, AllocError>
     requires one { length part.now ≡ 1 }
-    requires tree { IsTree tree.now }
-    requires leaves { AreLeavesWithin tree.now }
-    requires turned { across.now ≡ map turned_node tree.now }
+    requires items { AreItemsWithin tree.now }
+    requires turned { across.now ≡ map turned_item tree.now }
     requires own { SameSquares (Covers part.now) (Covers (own_in tree.now own)) }
     requires apart { (p : Pt) → Covers part.now p → Covers (others_in tree.now own) p → ⊥ }
     ensures { IfOk result (AreFound rule overlap (layer_of part.now (others_in tree.now own)) (Covers part.now)) }
@@ -91,9 +90,8 @@ pub fn found_in(
     rule: u32,
     overlap: u32,
 ) -> Result<Found, AllocError>
-    requires tree { IsTree tree.now }
-    requires leaves { AreLeavesWithin tree.now }
-    requires turned { across.now ≡ map turned_node tree.now }
+    requires items { AreItemsWithin tree.now }
+    requires turned { across.now ≡ map turned_item tree.now }
     requires own { SameSquares (Covers part.now) (Covers (own_in tree.now own)) }
     requires apart { (p : Pt) → Covers part.now p → Covers (others_in tree.now own) p → ⊥ }
     ensures within { AreWithin part.now }

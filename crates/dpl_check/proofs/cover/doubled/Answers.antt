@@ -1,6 +1,3 @@
-use Rattle.std.proofs.Common.{subst, sym, List}
-use Rattle.dpl_spec.specs.declared.Rect.{Rect}
-use Rattle.dpl_spec.specs.Loops.{farthest, AreRectsWithin}
 use Rattle.dpl_verdict.specs.Masks.{is_doubled}
 use Rattle.dpl_check.proofs.Sets.{least-of, doubled-are, stitches-within}
 use Rattle.dpl_check.proofs.cover.doubled.Goals as goal

@@ -1,4 +1,4 @@
-use Rattle.std.proofs.Common.{sym, refl, inl, inr, subst, length, arith}
+use Rattle.std.proofs.Common.{sym, refl, inl, inr, subst}
 use Rattle.std.proofs.lemmas.Bool.{false≢true}
 use Rattle.dpl_cert.specs.declared.cert.Cert.{Cert}
 use Rattle.dpl_verdict.specs.declared.Verdict.TheVariants.{Valid, Cover, Overlap, SpacingA, SpacingB, Stitch, Piece}

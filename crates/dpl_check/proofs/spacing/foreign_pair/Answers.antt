@@ -2,8 +2,8 @@ use Rattle.std.proofs.Common.{length, arith, rules}
 use Rattle.dpl_check.proofs.Owning.{owned-within, single-within, foreign-within, none-foreign, foreign-covered, some-second, least-foreign}
 use Rattle.dpl_check.proofs.spacing.foreign_pair.Goals as goal
 
-pub first_foreign-requires-clause-leaves : goal.first_foreign-requires-clause-leaves
-first_foreign-requires-clause-leaves c = owned-within c.args.rects.now c.args.owners.now c.in_ok-tree.tree c.in_ok-tree.ensures c.requires.solid c.requires.within
+pub first_foreign-requires-clause-items : goal.first_foreign-requires-clause-items
+first_foreign-requires-clause-items c = owned-within c.args.rects.now c.args.owners.now c.in_ok-tree.tree c.in_ok-tree.ensures c.requires.solid c.requires.within
 
 pub returns-in_default : goal.returns-in_default
 returns-in_default c = none-foreign c.args.rule c.args.rects.now c.args.owners.now c.in_ok-tree.tree c.in_ok-tree.ensures (rw c.in_default.is at c.first_foreign.ensures)
@@ -20,8 +20,8 @@ owner_at-requires-clause-y c =
     let near = (foreign-within c.args.rule c.args.rects.now c.args.owners.now c.in_ok-tree.tree (length c.args.rects.now) c.in-Some.first c.requires.within first.inside).1 in
     omega (arith, near)
 
-pub owner_at-requires-clause-leaves : goal.owner_at-requires-clause-leaves
-owner_at-requires-clause-leaves c = owned-within c.args.rects.now c.args.owners.now c.in_ok-tree.tree c.in_ok-tree.ensures c.requires.solid c.requires.within
+pub owner_at-requires-clause-items : goal.owner_at-requires-clause-items
+owner_at-requires-clause-items c = owned-within c.args.rects.now c.args.owners.now c.in_ok-tree.tree c.in_ok-tree.ensures c.requires.solid c.requires.within
 
 pub unreachable-requires : goal.unreachable-requires
 unreachable-requires c =
@@ -41,8 +41,8 @@ single_tree-requires-clause-y c =
     let near = (foreign-within c.args.rule c.args.rects.now c.args.owners.now c.in_ok-tree.tree (length c.args.rects.now) c.in-Some.first c.requires.within first.inside).1 in
     omega (arith, near)
 
-pub first_foreign-requires-2-clause-leaves : goal.first_foreign-requires-2-clause-leaves
-first_foreign-requires-2-clause-leaves c =
+pub first_foreign-requires-2-clause-items : goal.first_foreign-requires-2-clause-items
+first_foreign-requires-2-clause-items c =
     let first = rw c.in-Some.is at c.first_foreign.ensures in
     let near = foreign-within c.args.rule c.args.rects.now c.args.owners.now c.in_ok-tree.tree (length c.args.rects.now) c.in-Some.first c.requires.within first.inside in
     single-within c.in-Some.first c.in-Some-owner_at.owner c.in_ok-single.single c.in_ok-single.ensures near.0 near.1

@@ -1,18 +1,12 @@
-use Rattle.std.proofs.Common.{◌-◌, ◌<◌, length, get_or}
-use Rattle.dpl_tree.specs.declared.tree.Node.{Node}
-use Rattle.dpl_tree.specs.declared.tree.Owners.TheVariants.{But}
+use Rattle.std.proofs.Common.{◌-◌, length}
 use Rattle.dpl_tile.specs.Adding.{Adds}
 use Rattle.dpl_tile.proofs.Adding.{OfFirst}
-use Rattle.dpl_edges.proofs.Searches.{IsFound, OfLeaf}
+use Rattle.dpl_tile.proofs.Loops.{Nth}
 use Rattle.dpl_edges.proofs.Gathering.{IsNearSlab}
 use Rattle.dpl_edges.proofs.near.all_near.Given as goal
 
 abbrev pub invariant-loop-n : goal.invariant-loop-n
-invariant-loop-n l =
-    record {
-      here : (d : Node) → l.n < length l.tree → IsFound l.window (But l.i) (get_or l.tree l.n d);
-      added : Adds (OfFirst (OfLeaf (λ node. IsNearSlab l.plan.rule l.plan.owners l.i l.part node.least node.bounds) l.tree) l.n) l.initial.found.items l.found.items;
-    }
+invariant-loop-n l = Adds (OfFirst (Nth (λ item. IsNearSlab l.plan.rule l.plan.owners l.i l.part item.owner item.rect) l.tree) l.n) l.initial.found.items l.found.items
 
 abbrev pub decreases-loop-n : goal.decreases-loop-n
-decreases-loop-n l = length l.nodes - l.n
+decreases-loop-n l = length l.items - l.n

@@ -2,7 +2,7 @@ use Rattle.std.proofs.Common.{rules, arith, refl, sym, true≢false, FitsSigned,
 use Rattle.std.specs.Prelude.{◌-ℤ◌}
 use Rattle.std.proofs.lemmas.Int.{ints, to_z-of_z}
 use borrow.Author.Rules.{sfits_of}
-use Rattle.dpl_nearest.specs.Search.{LeafCovers}
+use Rattle.dpl_nearest.specs.Search.{ItemCovers}
 use Rattle.dpl_nearest.proofs.NearLaws.{no_columns, near_column}
 use Rattle.dpl_nearest.proofs.rects.first_column.Goals as goal
 
@@ -11,7 +11,7 @@ loop-high-init c =
     let low : FitsSigned w64 c.args.r.now.x0 = search rules in
     let high : FitsSigned w64 c.args.r.now.x1 = search rules in
     rw (to_z-of_z w64 c.args.r.now.x0 low, to_z-of_z w64 c.args.r.now.x1 high)
-    (record { low = omega (arith, ints); between = search rules; high = omega (arith, ints); none = no_columns c.args.rule c.args.r.now (LeafCovers c.args.owners c.args.others.now); some = c.requires.near })
+    (record { low = omega (arith, ints); between = search rules; high = omega (arith, ints); none = no_columns c.args.rule c.args.r.now (ItemCovers c.args.owners c.args.others.now); some = c.requires.near })
 
 pub loop-high-smaller-then-near_left : goal.loop-high-smaller-then-near_left
 loop-high-smaller-then-near_left c =
@@ -32,7 +32,7 @@ loop-high-smaller c =
     rw (to_z-of_z w64 c.halfway-middle.result m) (omega (arith, ints))
 
 pub returns-clause-near : goal.returns-clause-near
-returns-clause-near c = near_column c.args.rule c.args.r.now (LeafCovers c.args.owners c.args.others.now) _ _ c.loop-high.invariant.low (omega (arith, ints)) c.loop-high.invariant.none c.loop-high.invariant.some
+returns-clause-near c = near_column c.args.rule c.args.r.now (ItemCovers c.args.owners c.args.others.now) _ _ c.loop-high.invariant.low (omega (arith, ints)) c.loop-high.invariant.none c.loop-high.invariant.some
 
 pub loop-high-preserved-then-near_left : goal.loop-high-preserved-then-near_left
 loop-high-preserved-then-near_left c =

@@ -2,7 +2,7 @@ use Rattle.std.proofs.Common.{rules, arith, refl, sym, true≢false, FitsSigned,
 use Rattle.std.specs.Prelude.{◌-ℤ◌}
 use Rattle.std.proofs.lemmas.Int.{ints, to_z-of_z}
 use borrow.Author.Rules.{sfits_of}
-use Rattle.dpl_nearest.specs.Search.{LeafCovers}
+use Rattle.dpl_nearest.specs.Search.{ItemCovers}
 use Rattle.dpl_nearest.proofs.NearLaws.{no_rows, near_row}
 use Rattle.dpl_nearest.proofs.rects.first_row.Goals as goal
 
@@ -11,7 +11,7 @@ loop-high-init c =
     let low : FitsSigned w64 c.args.r.now.y0 = search rules in
     let high : FitsSigned w64 c.args.r.now.y1 = search rules in
     rw (to_z-of_z w64 c.args.r.now.y0 low, to_z-of_z w64 c.args.r.now.y1 high)
-    (record { low = omega (arith, ints); between = search rules; high = omega (arith, ints); none = no_rows c.args.rule c.args.r.now (LeafCovers c.args.owners c.args.others.now); some = c.requires.near })
+    (record { low = omega (arith, ints); between = search rules; high = omega (arith, ints); none = no_rows c.args.rule c.args.r.now (ItemCovers c.args.owners c.args.others.now); some = c.requires.near })
 
 pub loop-high-smaller-then-near_below : goal.loop-high-smaller-then-near_below
 loop-high-smaller-then-near_below c =
@@ -32,7 +32,7 @@ loop-high-smaller c =
     rw (to_z-of_z w64 c.halfway-middle.result m) (omega (arith, ints))
 
 pub returns-clause-near : goal.returns-clause-near
-returns-clause-near c = near_row c.args.rule c.args.r.now (LeafCovers c.args.owners c.args.others.now) _ _ c.loop-high.invariant.low (omega (arith, ints)) c.loop-high.invariant.none c.loop-high.invariant.some
+returns-clause-near c = near_row c.args.rule c.args.r.now (ItemCovers c.args.owners c.args.others.now) _ _ c.loop-high.invariant.low (omega (arith, ints)) c.loop-high.invariant.none c.loop-high.invariant.some
 
 pub loop-high-preserved-then-near_below : goal.loop-high-preserved-then-near_below
 loop-high-preserved-then-near_below c =

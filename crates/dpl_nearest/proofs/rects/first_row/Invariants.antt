@@ -1,7 +1,7 @@
 use Rattle.std.proofs.Common.{◌≤ℤ◌, ◌<ℤ◌, ◌-ℤ◌}
 use Rattle.std.specs.Prelude.{unsigned_abs}
 use Rattle.dpl_spec.specs.Squares.{AreNear, Has}
-use Rattle.dpl_nearest.specs.Search.{LeafCovers, rows_below}
+use Rattle.dpl_nearest.specs.Search.{ItemCovers, rows_below}
 use Rattle.dpl_nearest.proofs.rects.first_row.Given as goal
 
 abbrev pub invariant-loop-high : goal.invariant-loop-high
@@ -9,8 +9,8 @@ invariant-loop-high l = record {
   low : l.r.y0 ≤ℤ l.low;
   between : l.low <ℤ l.high;
   high : l.high ≤ℤ l.r.y1;
-  none : ¬ AreNear l.rule (Has (rows_below l.r l.low)) (LeafCovers l.owners l.others);
-  some : AreNear l.rule (Has (rows_below l.r l.high)) (LeafCovers l.owners l.others);
+  none : ¬ AreNear l.rule (Has (rows_below l.r l.low)) (ItemCovers l.owners l.others);
+  some : AreNear l.rule (Has (rows_below l.r l.high)) (ItemCovers l.owners l.others);
 }
 
 abbrev pub decreases-loop-high : goal.decreases-loop-high

@@ -7,7 +7,7 @@ invariant_of-result c =
     record {
       owned = c.requires.owners;
       parted = c.items.ensures.parts;
-      leaves = rw c.items-2.ensures.value at c.in_ok-tree.ensures;
+      items = rw c.items-2.ensures.value at c.in_ok-tree.ensures;
       few = laid.few;
       sound = laid.sound;
       close = laid.close;

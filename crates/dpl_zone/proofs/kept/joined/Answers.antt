@@ -1,6 +1,6 @@
 use Rattle.std.proofs.Common.{◌≡◌, length, vec_len, refl, arith, rules}
 use Rattle.dpl_zone.specs.Rows.{AreWithin}
-use Rattle.dpl_zone.proofs.Keeping.{leaves-within_list, apart-of_list, kept-none, kept-more, joined-no_flat, joined-no_upright, joined-all}
+use Rattle.dpl_zone.proofs.Keeping.{items-within_list, apart-of_list, kept-none, kept-more, joined-no_flat, joined-no_upright, joined-all}
 use Rattle.dpl_zone.proofs.kept.joined.Goals as goal
 
 pub returns-then-is_empty : goal.returns-then-is_empty
@@ -12,9 +12,9 @@ returns-then-is_empty-2 c = joined-no_upright c.args.flat.items c.args.upright.i
 pub loop-z-init : goal.loop-z-init
 loop-z-init c = kept-none c.args.flat.items c.deref-z-items.result.now c.args.flat.items refl
 
-pub add_apart-requires-clause-leaves : goal.add_apart-requires-clause-leaves
-add_apart-requires-clause-leaves c =
-    rw c.of-flat_view.ensures.value (leaves-within_list c.args.flat.items c.in_ok-flat_tree.flat_tree c.requires.flat (rw c.deref.ensures.value at c.in_ok-flat_tree.ensures))
+pub add_apart-requires-clause-items : goal.add_apart-requires-clause-items
+add_apart-requires-clause-items c =
+    rw c.of-flat_view.ensures (items-within_list c.args.flat.items c.in_ok-flat_tree.flat_tree c.requires.flat (rw c.deref.ensures.value at c.in_ok-flat_tree.ensures))
 
 pub add_apart-requires-clause-zone : goal.add_apart-requires-clause-zone
 add_apart-requires-clause-zone c =
@@ -24,7 +24,7 @@ add_apart-requires-clause-zone c =
 pub loop-z-preserved : goal.loop-z-preserved
 loop-z-preserved c =
     kept-more c.args.flat.items c.deref-z-items.result.now c.loop-z.z-index _ _ _ (omega arith) (search rules) c.loop-z.invariant
-    (apart-of_list c.args.flat.items c.in_ok-flat_tree.flat_tree _ _ _ (rw c.deref.ensures.value at c.in_ok-flat_tree.ensures) (rw c.of-flat_view.ensures.value at c.in_ok-add_apart.ensures))
+    (apart-of_list c.args.flat.items c.in_ok-flat_tree.flat_tree _ _ _ (rw c.deref.ensures.value at c.in_ok-flat_tree.ensures) (rw c.of-flat_view.ensures at c.in_ok-add_apart.ensures))
 
 pub returns : goal.returns
 returns c =

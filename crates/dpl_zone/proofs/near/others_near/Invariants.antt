@@ -1,6 +1,6 @@
-use Rattle.std.proofs.Common.{◌≡◌, ◌-◌, ◌<◌, length, get_or}
-use Rattle.dpl_tree.specs.declared.tree.Node.{Node}
-use Rattle.dpl_tree.specs.declared.tree.Owners.TheVariants.{But}
+use Rattle.std.proofs.Common.{◌-◌, ◌<◌, length, get_or}
+use Rattle.dpl_tree.specs.declared.items.Item.{Item}
+use Rattle.dpl_tree.specs.declared.owners.Owners.TheVariants.{But}
 use Rattle.dpl_tree.specs.Trees.{IsMissed}
 use Rattle.dpl_zone.proofs.Nearby.{IsSearched}
 use Rattle.dpl_zone.proofs.near.others_near.Given as goal
@@ -8,7 +8,7 @@ use Rattle.dpl_zone.proofs.near.others_near.Given as goal
 abbrev pub invariant-loop-i : goal.invariant-loop-i
 invariant-loop-i l =
     record {
-      found : (d : Node) → l.i < length l.tree → ((get_or l.tree l.i d).size ≡ 1) × (IsMissed l.window (But l.own) (get_or l.tree l.i d) → ⊥);
+      found : (d : Item) → l.i < length l.tree → ¬ IsMissed l.window (But l.own) (get_or l.tree l.i d);
       searched : IsSearched l.rule l.slab l.tree l.own l.i l.near.items;
     }
 

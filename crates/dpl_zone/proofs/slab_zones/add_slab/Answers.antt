@@ -1,5 +1,5 @@
 use Rattle.std.proofs.Common.{refl}
-use Rattle.dpl_zone.specs.Leaves.{others_in, own_in}
+use Rattle.dpl_zone.specs.Items.{others_in, own_in}
 use Rattle.dpl_zone.proofs.Zoning.{short-none}
 use Rattle.dpl_zone.proofs.slab_zones.add_slab.Goals as goal
 

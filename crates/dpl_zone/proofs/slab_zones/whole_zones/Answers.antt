@@ -1,6 +1,6 @@
 use Rattle.std.proofs.Common.{refl}
 use Rattle.dpl_zone.specs.Rows.{IsSlabZone}
-use Rattle.dpl_zone.specs.Leaves.{others_in, own_in}
+use Rattle.dpl_zone.specs.Items.{others_in, own_in}
 use Rattle.dpl_zone.proofs.Zoning.{short-none, added-to_none}
 use Rattle.dpl_zone.proofs.slab_zones.whole_zones.Goals as goal
 

@@ -1,6 +1,5 @@
-use Rattle.dpl_zone.specs.Leaves.{others_in, own_in}
-use Rattle.dpl_tree.proofs.Turns.{turned-tree}
-use Rattle.dpl_zone.proofs.LeafLaws.{turned-leaves, others-turned_in, own-turned_in, others-back}
+use Rattle.dpl_zone.specs.Items.{others_in, own_in}
+use Rattle.dpl_zone.proofs.ItemLaws.{turned-items, others-turned_in, own-turned_in, others-back}
 use Rattle.dpl_zone.proofs.Turns.{own-turned, apart-turned}
 use Rattle.dpl_zone.proofs.Keeping.{flat-as}
 use Rattle.dpl_zone.proofs.ways.found_in.Goals as goal
@@ -8,11 +7,8 @@ use Rattle.dpl_zone.proofs.ways.found_in.Goals as goal
 pub found_in_one-requires-clause-one : goal.found_in_one-requires-clause-one
 found_in_one-requires-clause-one c = rw c.rects.ensures.value at c.if-rects-eq1.true
 
-pub flat_zones-requires-clause-tree : goal.flat_zones-requires-clause-tree
-flat_zones-requires-clause-tree c = turned-tree c.args.tree.now c.args.across.now c.requires.turned c.requires.tree
-
-pub flat_zones-requires-clause-leaves : goal.flat_zones-requires-clause-leaves
-flat_zones-requires-clause-leaves c = turned-leaves c.args.tree.now c.args.across.now c.requires.turned c.requires.leaves
+pub flat_zones-requires-clause-items : goal.flat_zones-requires-clause-items
+flat_zones-requires-clause-items c = turned-items c.args.tree.now c.args.across.now c.requires.turned c.requires.items
 
 pub flat_zones-requires-clause-own : goal.flat_zones-requires-clause-own
 flat_zones-requires-clause-own c = own-turned c.args.part.now (own_in c.args.tree.now c.args.own) (own_in c.args.across.now c.args.own) (own-turned_in c.args.tree.now c.args.across.now c.args.own c.requires.turned) c.requires.own

@@ -1,0 +1,120 @@
+-- The rectangles of a tree.
+use Rattle.std.proofs.Common.{◌≡◌, ◌≢◌, ℕ, zero, suc, ◌<◌, ◌⊎◌, inl, inr, Bool, true, false, not, cond, ◌==◌, List, [], ◌∷◌, length, get_or, map, sym, refl, ap, ◌∙◌, subst, arith, rules}
+use Rattle.std.specs.List.{Contains}
+use Rattle.std.proofs.lemmas.List.{get_or_default, length-map}
+use Rattle.dpl_spec.specs.declared.Rect.{Rect}
+use Rattle.dpl_spec.specs.Loops.{farthest}
+use Rattle.dpl_spec.specs.Squares.{IsSolidWithin}
+use Rattle.dpl_spec.specs.Zones.{turned_rect}
+use Rattle.dpl_tree.specs.declared.items.Item.{Item}
+use Rattle.dpl_tree.specs.Trees.{turned_item, HasItem}
+use Rattle.dpl_zone.specs.Items.{AreItemsWithin, others_in, own_in}
+use Rattle.dpl_zone.specs.Rows.{AreWithin}
+use Rattle.dpl_tree.proofs.ItemLaws.{item-at}
+use Rattle.dpl_tree.proofs.Turns.{turned-get}
+use Rattle.dpl_zone.proofs.Turns.{turned-back}
+
+is-other : (own : ℕ) (item : Item) → not (item.owner == own) ≡ true → item.owner ≢ own
+is-other own item h = search rules
+
+other-is : (own : ℕ) (item : Item) → item.owner ≢ own → not (item.owner == own) ≡ true
+other-is own item h = search rules
+
+is-own : (own : ℕ) (item : Item) → (item.owner == own) ≡ true → item.owner ≡ own
+is-own own item h = search rules
+
+own-is : (own : ℕ) (item : Item) → item.owner ≡ own → (item.owner == own) ≡ true
+own-is own item h = search rules
+
+item-first : (item : Item) (items : List Item) (r : Rect) (k : ℕ) → item.rect ≡ r → item.owner ≡ k → HasItem (item ∷ items) r k
+item-first item items r k e f = (item, (0, omega arith, refl), e, f)
+
+item-later : (item : Item) (items : List Item) (r : Rect) (k : ℕ) → HasItem items r k → HasItem (item ∷ items) r k
+item-later item items r k (t, (i, l, is), e, f) = (t, (suc i, omega (arith, l), is), e, f)
+
+item-cases : (item : Item) (items : List Item) (r : Rect) (k : ℕ) → HasItem (item ∷ items) r k → ((item.rect ≡ r) × (item.owner ≡ k)) ⊎ HasItem items r k
+item-cases item items r k (t, (zero, l, is), e, f) = inl (ap (λ (u : Item). u.rect) is ∙ e, ap (λ (u : Item). u.owner) is ∙ f)
+item-cases item items r k (t, (suc i, l, is), e, f) = inr (t, (i, omega (arith, l), is), e, f)
+
+contains-cond : (b : Bool) (x : Rect) (xs : List Rect) (r : Rect) → Contains (cond b (x ∷ xs) xs) r → ((b ≡ true) × (x ≡ r)) ⊎ Contains xs r
+contains-cond true x xs r (zero, l, is) = inl (refl, is)
+contains-cond true x xs r (suc i, l, is) = inr (i, omega (arith, l), is)
+contains-cond false x xs r h = inr h
+
+cond-first : (b : Bool) (x : Rect) (xs : List Rect) → b ≡ true → Contains (cond b (x ∷ xs) xs) x
+cond-first true x xs e = (0, omega arith, refl)
+cond-first false x xs e = absurd (let q : ⊥ = cc in q)
+
+cond-later : (b : Bool) (x : Rect) (xs : List Rect) (r : Rect) → Contains xs r → Contains (cond b (x ∷ xs) xs) r
+cond-later true x xs r (i, l, is) = (suc i, omega (arith, l), is)
+cond-later false x xs r h = h
+
+pub others-in : (items : List Item) (own : ℕ) (r : Rect) → Contains (others_in items own) r → (k : ℕ) × (k ≢ own) × HasItem items r k
+others-in [] own r (i, l, is) = absurd (omega (arith, l))
+others-in (item ∷ items) own r h = elim (contains-cond (not (item.owner == own)) item.rect (others_in items own) r h) [
+  | inl (t, e) ↦ (item.owner, is-other own item t, item-first item items r item.owner e refl)
+  | inr c ↦ (let (k, ne, has) = others-in items own r c in (k, ne, item-later item items r k has))
+]
+
+pub in-others : (items : List Item) (own : ℕ) (r : Rect) (k : ℕ) → k ≢ own → HasItem items r k → Contains (others_in items own) r
+in-others [] own r k ne (t, (i, l, is), e, f) = absurd (omega (arith, l))
+in-others (item ∷ items) own r k ne h = elim (item-cases item items r k h) [
+  | inl (e, f) ↦ subst (λ s. Contains (others_in (item ∷ items) own) s) e
+      (cond-first (not (item.owner == own)) item.rect (others_in items own) (other-is own item (λ q. ne (sym f ∙ q))))
+  | inr later ↦ cond-later (not (item.owner == own)) item.rect (others_in items own) r (in-others items own r k ne later)
+]
+
+pub own-in : (items : List Item) (own : ℕ) (r : Rect) → Contains (own_in items own) r → HasItem items r own
+own-in [] own r (i, l, is) = absurd (omega (arith, l))
+own-in (item ∷ items) own r h = elim (contains-cond (item.owner == own) item.rect (own_in items own) r h) [
+  | inl (t, e) ↦ item-first item items r own e (is-own own item t)
+  | inr c ↦ item-later item items r own (own-in items own r c)
+]
+
+pub in-own : (items : List Item) (own : ℕ) (r : Rect) → HasItem items r own → Contains (own_in items own) r
+in-own [] own r (t, (i, l, is), e, f) = absurd (omega (arith, l))
+in-own (item ∷ items) own r h = elim (item-cases item items r own h) [
+  | inl (e, f) ↦ subst (λ s. Contains (own_in (item ∷ items) own) s) e (cond-first (item.owner == own) item.rect (own_in items own) (own-is own item f))
+  | inr later ↦ cond-later (item.owner == own) item.rect (own_in items own) r (in-own items own r later)
+]
+
+-- an item is a solid rectangle in the range
+pub item-within : (items : List Item) (i : ℕ) (d : Item) → AreItemsWithin items → i < length items → IsSolidWithin farthest (get_or items i d).rect
+item-within items i d within i_in = within (get_or items i d).rect (get_or items i d).owner (item-at items i d i_in)
+
+pub others-within : (items : List Item) (own : ℕ) → AreItemsWithin items → AreWithin (others_in items own)
+others-within items own within i d l =
+    let (k, ne, has) = others-in items own (get_or (others_in items own) i d) (i, l, get_or_default (others_in items own) i (get_or (others_in items own) i d) d l) in
+    within (get_or (others_in items own) i d) k has
+
+turned-cond : (b : Bool) (r : Rect) (xs ys : List Rect) → ys ≡ map turned_rect xs → cond b (turned_rect r ∷ ys) ys ≡ map turned_rect (cond b (r ∷ xs) xs)
+turned-cond true r xs ys e = ap (λ t. let s : List Rect = t in turned_rect r ∷ s) e
+turned-cond false r xs ys e = e
+
+-- x and y exchanged
+turned-others : (own : ℕ) (items : List Item) → others_in (map turned_item items) own ≡ map turned_rect (others_in items own)
+turned-others own [] = refl
+turned-others own (item ∷ items) = turned-cond (not (item.owner == own)) item.rect (others_in items own) (others_in (map turned_item items) own) (turned-others own items)
+
+turned-own : (own : ℕ) (items : List Item) → own_in (map turned_item items) own ≡ map turned_rect (own_in items own)
+turned-own own [] = refl
+turned-own own (item ∷ items) = turned-cond (item.owner == own) item.rect (own_in items own) (own_in (map turned_item items) own) (turned-own own items)
+
+-- the others' rectangles in the tree with x and y exchanged, turned back
+pub others-back : (items across : List Item) (own : ℕ) → across ≡ map turned_item items → map turned_rect (others_in across own) ≡ others_in items own
+others-back items across own e = ap (λ t. let s : List Item = t in map turned_rect (others_in s own)) e ∙ (ap (λ t. let s : List Rect = t in map turned_rect s) (turned-others own items) ∙ turned-back (others_in items own))
+
+pub turned-items : (items across : List Item) → across ≡ map turned_item items → AreItemsWithin items → AreItemsWithin across
+turned-items items across e within r k has = turned-one (rw e at has)
+  where
+    turned-one : HasItem (map turned_item items) r k → IsSolidWithin farthest r
+    turned-one (t, (i, l, is), rect, owner) =
+        let here : get_or items i (turned_item t) ≡ turned_item t = ap turned_item (sym (turned-get items i t) ∙ is) in
+        let w = within (turned_rect r) k (turned_item t, (i, omega (arith, l, length-map items turned_item), here), ap turned_rect rect, owner) in
+        record { wide = w.tall; tall = w.wide; left = w.low; right = w.high; low = w.left; high = w.right }
+
+pub others-turned_in : (items across : List Item) (own : ℕ) → across ≡ map turned_item items → others_in across own ≡ map turned_rect (others_in items own)
+others-turned_in items across own e = ap (λ t. let s : List Item = t in others_in s own) e ∙ turned-others own items
+
+pub own-turned_in : (items across : List Item) (own : ℕ) → across ≡ map turned_item items → own_in across own ≡ map turned_rect (own_in items own)
+own-turned_in items across own e = ap (λ t. let s : List Item = t in own_in s own) e ∙ turned-own own items
