@@ -4,6 +4,7 @@ ghost use Rattle.std.specs.List.{Contains};
 ghost use Rattle.dpl_spec.specs.declared.Pt.{Pt};
 ghost use Rattle.dpl_spec.specs.Squares.{Covers};
 ghost use Rattle.dpl_tile.specs.Plans.{IsPlan};
+ghost use Rattle.dpl_tile.specs.Tiles.{IsDoubled};
 ghost use Rattle.dpl_cert.specs.Grammar.{IsHead, IsPoint, IsRule};
 ghost use Rattle.dpl_run.specs.Flat.{IsTile};
 ghost use Rattle.dpl_valid.specs.Own.{head_of};
@@ -73,7 +74,7 @@ pub(crate) fn head(cut: &LayerCut, rule: u32, overlap: u32) -> Head
     }
 }
 
-/// The tiles of the pieces, whose side is `tile` or longer.
+/// The tiles of the pieces, whose side is `tile`, doubled some number of times.
 pub(crate) fn tiles_of<'a>(
     alloc: Global,
     pieces: &'a Pieces,
@@ -82,7 +83,7 @@ pub(crate) fn tiles_of<'a>(
 ) -> Result<EdgeJob<'a>, AllocError>
     requires rule { IsRule rule }
     requires tile { IsTile tile }
-    ensures { IfOk result (λ job. (side : ℕ) × (tile ≤ side) × IsPlan pieces.now.parts pieces.now.owners rule side job.plan) }
+    ensures { IfOk result (λ job. (side : ℕ) × IsDoubled tile side × IsPlan pieces.now.parts pieces.now.owners rule side job.plan) }
 {
     let side = side_for(pieces.parts(), tile);
     let plan = plan(alloc, pieces.parts(), pieces.owner(), rule, side)?;

@@ -1,13 +1,13 @@
-use Rattle.std.proofs.Common.{[], arith}
+use Rattle.std.proofs.Common.{[]}
+use Rattle.dpl_tile.proofs.TileLaws.{doubled-some}
 use Rattle.dpl_run.specs.View.{cut_view}
 use Rattle.dpl_run.proofs.Planned.{conflicts_below, edges_planned, odd_listed, stars_below, sums_planned, tiled}
 use Rattle.dpl_run.proofs.decompose.decompose_cut.Goals as goal
 
 pub joined_conflicts-requires-clause-tiled : goal.joined_conflicts-requires-clause-tiled
 joined_conflicts-requires-clause-tiled g c κs within =
-    let some = c.requires.tile.0 in
-    let more = c.in_ok-job.ensures.1 in
-    tiled c.args.cut.now.pieces.parts c.args.cut.now.pieces.owners c.args.rule c.in_ok-job.ensures.0 c.in_ok-job.job.plan (omega (arith, some, more)) c.in_ok-job.ensures.2
+    let some = doubled-some c.args.sharing.tile c.in_ok-job.ensures.0 c.requires.tile.0 c.in_ok-job.ensures.1 in
+    tiled c.args.cut.now.pieces.parts c.args.cut.now.pieces.owners c.args.rule c.in_ok-job.ensures.0 c.in_ok-job.job.plan some c.in_ok-job.ensures.2
 
 pub paint-requires-clause-sums : goal.paint-requires-clause-sums
 paint-requires-clause-sums g c = sums_planned c.args.cut.now.pieces.parts c.args.cut.now.pieces.owners c.args.rule c.in_ok-job.ensures.0 c.in_ok-job.job.plan c.in_ok-joined.joined c.in_ok-job.ensures.2 c.in_ok-joined.ensures
