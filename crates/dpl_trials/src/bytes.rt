@@ -1,6 +1,6 @@
 //! One bar's file of 170 bytes, changed, cut or followed by others.
 
-use crate::trial::{ONE_BAR, ONE_LINE, SPLIT, answer, is_one_bar, is_refused};
+use crate::runs::{ONE_BAR, ONE_LINE, SPLIT, answer, is_one_bar, is_refused};
 use dpl_run::Status;
 use dpl_sample::{Rectangle, bars, host, is_text, masks};
 use std::test::*;

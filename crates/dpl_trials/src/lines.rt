@@ -1,6 +1,6 @@
 //! Words that are no command.
 
-use crate::trial::answer;
+use crate::runs::answer;
 use dpl_run::{Status, USAGE};
 use dpl_sample::{bars, host};
 use std::test::*;

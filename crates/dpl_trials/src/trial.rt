@@ -1,9 +1,8 @@
-//! One run of the program over files in memory, and what it says.
+//! A check of files in memory, and what it says.
 
+use crate::runs::answer;
 use dpl_host::MemHost;
-use dpl_pool::OpenGate;
-use dpl_run::{Status, run};
-use dpl_sample::words;
+use dpl_run::Status;
 use std::alloc::{AllocError, Global};
 use std::sync::Wait;
 use std::thread::Threads;
@@ -23,9 +22,8 @@ pub fn says<R: Threads + Wait + Sync>(
     status: Status,
     text: &str,
 ) -> Result<bool, AllocError> {
-    let words = words(alloc, line)?;
-    let answer = run(rt, alloc, &words, host, &OpenGate);
-    Ok(answer == status && host.said() == text.as_bytes())
+    let ended = answer(rt, alloc, line, host)?;
+    Ok(ended == status && host.said() == text.as_bytes())
 }
 
 /// The bytes of a text in parts.

@@ -1,6 +1,6 @@
 //! Records that stand where the grammar has none, and names.
 
-use crate::trial::{SPLIT, is_one_bar, is_refused};
+use crate::runs::{SPLIT, is_one_bar, is_refused};
 use dpl_sample::{Part, layout};
 use std::test::*;
 

@@ -1,6 +1,6 @@
 //! Calls of the outside that fail.
 
-use crate::trial::{ONE_BAR, ONE_LINE, SPLIT, answer};
+use crate::runs::{ONE_BAR, ONE_LINE, SPLIT, answer};
 use dpl_host::{Kind, MemHost, SureHost};
 use dpl_pool::OpenGate;
 use dpl_run::{Status, run};

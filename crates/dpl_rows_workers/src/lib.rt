@@ -1,7 +1,0 @@
-//! Workers that share the tiles of a layout, from file to file.
-#![tactic(auto)]
-
-#[cfg(test)]
-mod gates;
-#[cfg(test)]
-mod workers;

@@ -1,0 +1,26 @@
+//! From file to file: masks and conflicts that are checked; files with a fault, calls of the outside that fail and words
+//! that are no command; workers that share the tiles of a layout.
+#![tactic(auto)]
+
+#[cfg(test)]
+mod bytes;
+#[cfg(test)]
+mod calls;
+#[cfg(test)]
+mod certificates;
+#[cfg(test)]
+mod files;
+#[cfg(test)]
+mod gates;
+#[cfg(test)]
+mod lines;
+#[cfg(test)]
+mod records;
+#[cfg(test)]
+mod runs;
+#[cfg(test)]
+mod trial;
+#[cfg(test)]
+mod verdicts;
+#[cfg(test)]
+mod workers;
