@@ -12,49 +12,51 @@ use dpl_base::Rect;
 use dpl_slabs::Slabs;
 use std::alloc::{AllocError, Global};
 
-/// Puts the next slab into the part of its parent, or into a part of its own.
+/// Puts the next slab into the part of its parent, or into a part of its own, and writes the part's number in place of the parent.
 fn deal(
     alloc: Global,
     parts: &mut Vec<Slabs>,
-    numbers: &mut Vec<usize>,
+    numbers: &mut [usize],
     rects: &[Rect],
-    parents: &[usize],
     i: usize,
 ) -> Result<(), AllocError>
     requires inside { i < length rects.now }
     requires canonical { IsCanonical rects.now }
     requires within { AreRectsWithin farthest rects.now }
-    requires met { AreMet rects.now parents.now }
-    requires dealt { IsDealt rects.now parents.now i numbers.old.items parts.old.items }
-    ensures { OnOk result (IsDealt rects.now parents.now (i + 1) numbers.new.items parts.new.items) }
+    requires dealt { IsDealt rects.now i numbers.old parts.old.items }
+    ensures { OnOk result (IsDealt rects.now (i + 1) numbers.new parts.new.items) }
 {
     let rect = rects[i];
-    let parent = parents[i];
+    let parent = numbers[i];
     if parent == i {
-        let number = parts.len();
+        numbers[i] = parts.len();
         let part = Slabs::one(alloc, rect)?;
         parts.push(part)?;
-        numbers.push(number)?;
         return Ok(());
     }
     let number = numbers[parent];
+    numbers[i] = number;
     parts[number].add(rect)?;
-    numbers.push(number)?;
     Ok(())
 }
 
-/// The components.
-pub fn split(alloc: Global, rects: &[Rect], parents: &[usize]) -> Result<Vec<Slabs>, AllocError>
+/// The components, one for each root.
+pub fn split(alloc: Global, rects: &[Rect], parents: Vec<usize>) -> Result<Vec<Slabs>, AllocError>
     requires canonical { IsCanonical rects.now }
     requires within { AreRectsWithin farthest rects.now }
-    requires met { AreMet rects.now parents.now }
+    requires met { AreMet rects.now parents.items }
     ensures components { IfOk result (λ v. AreComponents (Covers rects.now) v.items) }
     ensures parts { IfOk result (λ v. AreParts v.items) }
 {
-    let mut parts = Vec::new(alloc);
-    let mut numbers = Vec::with_capacity(alloc, rects.len())?;
+    let roots = parents
+        .iter()
+        .enumerate()
+        .filter(|(i, parent)| *i == **parent)
+        .count();
+    let mut parts = Vec::with_capacity(alloc, roots)?;
+    let mut numbers = parents;
     for i in 0..rects.len() {
-        deal(alloc, &mut parts, &mut numbers, rects, parents, i)?;
+        deal(alloc, &mut parts, &mut numbers, rects, i)?;
     }
     Ok(parts)
 }

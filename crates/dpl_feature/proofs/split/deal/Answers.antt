@@ -11,8 +11,8 @@ zero_rect = record { x0 = pos 0; y0 = pos 0; x1 = pos 0; y1 = pos 0 }
 pub returns-then-parent-i : goal.returns-then-parent-i
 returns-then-parent-i c =
     let counted : vec_len c.args.parts.now ≡ length c.args.parts.now.items = search rules in
-    rw (c.in_ok-push-2.ensures.items, c.len-number.ensures, counted)
-    (dealt-begun c.args.rects.now c.args.parents.now c.args.i c.args.numbers.now.items c.args.parts.now.items c.requires.canonical c.requires.met c.requires.dealt c.requires.inside
+    rw (c.len.ensures, counted)
+    (dealt-begun c.args.rects.now c.args.i c.args.numbers.now c.args.parts.now.items c.requires.canonical c.requires.dealt c.requires.inside
     (get_or c.args.rects.now c.args.i zero_rect) (get_or_default _ _ _ _ c.requires.inside) c.if-parent-i.true
     _ (c.in_ok-push.ensures.items ∙ ap (λ s. c.args.parts.now.items ++ s ∷ []) c.in_ok-part.ensures))
 
@@ -24,13 +24,12 @@ add-requires-clause-within c = c.requires.within (get_or c.args.rects.now c.args
 
 pub add-requires-clause-canonical : goal.add-requires-clause-canonical
 add-requires-clause-canonical c =
-    canonical-read c.args.rects.now c.args.parents.now c.args.i c.args.numbers.now.items c.args.parts.now.items c.requires.canonical c.requires.met c.requires.dealt c.requires.inside
+    canonical-read c.args.rects.now c.args.i c.args.numbers.now c.args.parts.now.items c.requires.canonical c.requires.dealt c.requires.inside
     (get_or c.args.rects.now c.args.i zero_rect) (get_or_default _ _ _ _ c.requires.inside) c.if-parent-i.false
-    _ c.index-number.ensures _ c.index_mut.ensures.value
+    _ c.index_mut.ensures.value
 
 pub returns : goal.returns
 returns c =
-    rw c.in_ok-push-3.ensures.items
-    (dealt-read c.args.rects.now c.args.parents.now c.args.i c.args.numbers.now.items c.args.parts.now.items c.requires.canonical c.requires.met c.requires.dealt c.requires.inside
+    dealt-read c.args.rects.now c.args.i c.args.numbers.now c.args.parts.now.items c.requires.canonical c.requires.dealt c.requires.inside
     (get_or c.args.rects.now c.args.i zero_rect) (get_or_default _ _ _ _ c.requires.inside) c.if-parent-i.false
-    _ c.index-number.ensures _ c.index_mut.ensures.value _ c.in_ok-add.ensures.added)
+    _ c.index_mut.ensures.value _ c.in_ok-add.ensures.added
