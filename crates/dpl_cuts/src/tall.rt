@@ -77,7 +77,7 @@ fn squares(alloc: Global, pace: u8, from: u16, to: u16, barred: bool) -> Result<
 
 #[test]
 fn slices_make_the_slabs_of_one_sweep(rt: HostRuntime) -> Result<(), Fail> {
-    // Rectangles that overlap are swept slice by slice, and wires that stand apart block by block, or at once with a bar below them.
+    // Rectangles that overlap are swept slice by slice, and wires that stand apart block by block, or slice by slice with a bar below them.
     for (pace, barred, count) in [(1, false, 5001), (250, false, 7500), (250, true, 7501)] {
         let whole = squares(rt.alloc(), pace, 0, 5000, barred)?;
         assert_eq!(rt; whole.rects().len(), count);
@@ -85,6 +85,25 @@ fn slices_make_the_slabs_of_one_sweep(rt: HostRuntime) -> Result<(), Fail> {
         let low = squares(rt.alloc(), pace, 0, 2500, barred)?;
         let high = squares(rt.alloc(), pace, 2500, 5000, barred)?;
         assert!(rt; whole.equal(&low.union(rt.alloc(), &high)?));
+    }
+    Ok(())
+}
+
+#[test]
+fn slices_have_no_square_of_a_hole(rt: HostRuntime) -> Result<(), Fail> {
+    // Holes are taken out slice by slice, in rectangles that overlap and in wires that stand apart.
+    for (pace, turn, holes, count) in [
+        (1, 2, 5000, 2500),
+        (2, 1, 5000, 3687),
+        (250, 1, 500, 7620),
+    ] {
+        let rects = stair(rt.alloc(), pace, 0, 5000)?;
+        let gone = stair(rt.alloc(), turn, 0, holes)?;
+        let left = Slabs::of_rects_without(rt.alloc(), &rects, &gone)?;
+        assert_eq!(rt; left.rects().len(), count);
+        let whole = Slabs::of_rects(rt.alloc(), rects)?;
+        let gone = Slabs::of_rects(rt.alloc(), gone)?;
+        assert!(rt; left.equal(&whole.minus(rt.alloc(), &gone)?));
     }
     Ok(())
 }

@@ -1,6 +1,6 @@
 -- Pieces of blocks put together.
-use Rattle.std.proofs.Common.{◌≡◌, ℕ, ◌≤◌, ◌⊎◌, inl, inr, List, [], ◌∷◌, ◌++◌, length, take, drop, arith}
-use Rattle.std.specs.Prelude.{pos, ◌-ℤ◌, ◌≤ℤ◌, ◌<ℤ◌}
+use Rattle.std.proofs.Common.{◌≡◌, ℕ, ◌≤◌, inl, inr, List, [], ◌∷◌, ◌++◌, length, take, drop, arith}
+use Rattle.std.specs.Prelude.{pos, ◌-ℤ◌, ◌≤ℤ◌}
 use Rattle.std.specs.List.{Contains}
 use Rattle.std.specs.List.Sorted.{IsPermutation}
 use Rattle.std.proofs.lemmas.Int.{ints}
@@ -8,7 +8,7 @@ use Rattle.std.proofs.lemmas.List.{take-append-drop}
 use Rattle.std.proofs.lemmas.List.Elements.{All-append, All-contains, Contains-append_cases}
 use Rattle.dpl_spec.specs.declared.Pt.{Pt}
 use Rattle.dpl_spec.specs.declared.Rect.{Rect}
-use Rattle.dpl_spec.specs.Squares.{Covers}
+use Rattle.dpl_spec.specs.Squares.{Region, Covers, SameSquares}
 use Rattle.dpl_spec.specs.Slabs.{IsSolid, ShareRow, StandApart, AreSlabsOf}
 use Rattle.dpl_spec.specs.Loops.{farthest, AreRectsWithin}
 use Rattle.dpl_spec.specs.Zones.{at, turned}
@@ -55,7 +55,7 @@ adds-block old slabs sorted block same a left by = record {
     apart = AllPairs-append (λ r t. ShareRow r t → StandApart r t) old slabs a.apart (λ i j d l k. (s.canonical.follow i j d l k).apart)
         (λ r t r_in t_in share. (let (q, q_in, l) = slab-left block slabs s t t_in in let h = left r q r_in q_in in inl (omega (arith, ints, h, l))));
   };
-  covers = covers-appended (turned (Covers block)) old slabs (slabs-of-same (Covers (turned_rects block)) (turned (Covers block)) slabs (covers-turned block) s);
+  covers = covers-appended (turned (Covers block)) old slabs (λ p. (λ c. (covers-turned block p).0 ((s.covers p).0 c), λ c. (s.covers p).1 ((covers-turned block p).1 c)));
   left = λ others f g r o r_in o_in. elim (Contains-append_cases old slabs r r_in) [
     | inl h ↦ f r o h o_in
     | inr h ↦ (let (q, q_in, l) = slab-right block slabs s r h in let k = g q o q_in o_in in omega (arith, ints, l, k))
@@ -65,23 +65,20 @@ adds-block old slabs sorted block same a left by = record {
     s : AreSlabsOf (Covers (turned_rects block)) slabs
     s = sorted-slabs (turned_rects block) sorted slabs same by
 
-pub blocks-none : (rects sorted : List Rect) → IsPermutation (turned_rects rects) sorted → CornersRise sorted → AreRectsWithin farthest rects → AreBlocksOf rects [] sorted
-blocks-none rects sorted same rise w = record {
+pub blocks-none : (rects : List Rect) → CornersRise rects → AreRectsWithin farthest rects → AreBlocksOf (turned (Covers rects)) [] rects
+blocks-none rects rise w = record {
   apart = record { solid = λ i d k. absurd (omega (arith, k)); apart = λ i j d l k. absurd (omega (arith, k)) };
   covers = λ p. (
-    (λ h. elim h [
-      | inl c ↦ absurd (let found = member-Covers [] p c in Contains-nil found.0 found.1)
-      | inr c ↦ (covers-turned rects (at p.y p.x)).0 ((covers-same (turned_rects rects) sorted same (at p.y p.x)).1 c)
-    ]),
-    λ c. inr ((covers-same (turned_rects rects) sorted same (at p.y p.x)).0 ((covers-turned rects (at p.y p.x)).1 c)),
+    (λ h. elim h [ inl c ↦ absurd (let found = member-Covers [] p c in Contains-nil found.0 found.1) | inr c ↦ c ]),
+    λ c. inr c,
   );
-  rest_within = sorted-within (turned_rects rects) sorted same (turned-within farthest rects w);
+  rest_within = w;
   rise = rise;
   left = λ r s r_in s_in. absurd (Contains-nil r r_in);
 }
 
 -- the next block
-module _ (rects pieces rest : List Rect) (n : ℕ) (s : AreBlocksOf rects pieces rest) where
+module _ (a : Region) (pieces rest : List Rect) (n : ℕ) (s : AreBlocksOf a pieces rest) where
   whole : take n rest ++ drop n rest ≡ rest
   whole = take-append-drop n rest
 
@@ -91,40 +88,60 @@ module _ (rects pieces rest : List Rect) (n : ℕ) (s : AreBlocksOf rects pieces
   pub block-left : LieLeft pieces (take n rest)
   block-left r t r_in t_in = s.left r t r_in (left-in (take n rest) (drop n rest) rest t whole t_in)
 
-  pub blocks-next : (new : List Rect) → LieBelow (take n rest) (drop n rest) → AddsBlock pieces new (take n rest) → AreBlocksOf rects new (drop n rest)
-  blocks-next new gap a = record {
-    apart = a.apart;
+  pub blocks-next : (new : List Rect) → LieBelow (take n rest) (drop n rest) → AddsBlock pieces new (take n rest) → AreBlocksOf a new (drop n rest)
+  blocks-next new gap adds = record {
+    apart = adds.apart;
     covers = λ p. (
       (λ h. elim h [
-        | inl c ↦ elim ((a.covers p).0 c) [
+        | inl c ↦ elim ((adds.covers p).0 c) [
           | inl old ↦ (s.covers p).0 (inl old)
           | inr k ↦ (let (r, r_in, has) = member-Covers (take n rest) (at p.y p.x) k in (s.covers p).0 (inr (Covers-member rest r (at p.y p.x) (left-in (take n rest) (drop n rest) rest r whole r_in) has)))
         ]
         | inr k ↦ (let (r, r_in, has) = member-Covers (drop n rest) (at p.y p.x) k in (s.covers p).0 (inr (Covers-member rest r (at p.y p.x) (right-in (take n rest) (drop n rest) rest r whole r_in) has)))
       ]),
       λ h. elim ((s.covers p).1 h) [
-        | inl old ↦ inl ((a.covers p).1 (inl old))
+        | inl old ↦ inl ((adds.covers p).1 (inl old))
         | inr c ↦ elim (covers-parts (take n rest) (drop n rest) rest (at p.y p.x) whole c) [
-          | inl k ↦ inl ((a.covers p).1 (inr k))
+          | inl k ↦ inl ((adds.covers p).1 (inr k))
           | inr k ↦ inr k
         ]
       ],
     );
     rest_within = λ r r_in. s.rest_within r (right-in (take n rest) (drop n rest) rest r whole r_in);
     rise = rise-drop n rest s.rise;
-    left = a.left (drop n rest) (λ r t r_in t_in. s.left r t r_in (right-in (take n rest) (drop n rest) rest t whole t_in)) gap;
+    left = adds.left (drop n rest) (λ r t r_in t_in. s.left r t r_in (right-in (take n rest) (drop n rest) rest t whole t_in)) gap;
   }
 
-pub blocks-all : (rects pieces rest : List Rect) → length rest ≤ 0 → AreBlocksOf rects pieces rest → ArePiecesOf rects pieces
-blocks-all rects pieces [] none s = record {
+pub blocks-all : (a : Region) (pieces rest : List Rect) → length rest ≤ 0 → AreBlocksOf a pieces rest → ArePiecesOf a pieces
+blocks-all a pieces [] none s = record {
   apart = s.apart;
   covers = λ p. (
     (λ c. (s.covers p).0 (inl c)),
     λ c. elim ((s.covers p).1 c) [ inl k ↦ k | inr k ↦ absurd (let found = member-Covers [] (at p.y p.x) k in Contains-nil found.0 found.1) ],
   );
 }
-blocks-all rects pieces (r ∷ rest) none s = absurd (omega (arith, none))
+blocks-all a pieces (r ∷ rest) none s = absurd (omega (arith, none))
 
--- pieces of rectangles in another order
-pub pieces-slabs : (rects sorted pieces slabs : List Rect) → IsPermutation rects sorted → ArePiecesOf sorted pieces → AreSlabsOf (Covers pieces) slabs → AreSlabsOf (Covers rects) slabs
-pieces-slabs rects sorted pieces slabs same of s = sorted-slabs rects sorted slabs same (slabs-of-same (Covers pieces) (Covers sorted) slabs of.covers s)
+-- rectangles exchanged, in another order, have their squares exchanged
+pub exchanged-covers : (rects sorted : List Rect) → IsPermutation (turned_rects rects) sorted → SameSquares (turned (Covers sorted)) (Covers rects)
+exchanged-covers rects sorted same p =
+    let q : Pt = at p.y p.x in (
+      λ c. (covers-turned rects q).0 ((covers-same (turned_rects rects) sorted same q).1 c),
+      λ c. (covers-same (turned_rects rects) sorted same q).0 ((covers-turned rects q).1 c),
+    )
+
+pub exchanged-within : (rects sorted : List Rect) → IsPermutation (turned_rects rects) sorted → AreRectsWithin farthest rects → AreRectsWithin farthest sorted
+exchanged-within rects sorted same w = sorted-within (turned_rects rects) sorted same (turned-within farthest rects w)
+
+-- rectangles exchanged twice have their squares again
+pub exchanged-twice : (rects once twice : List Rect) → IsPermutation (turned_rects rects) once → IsPermutation (turned_rects once) twice → SameSquares (Covers twice) (Covers rects)
+exchanged-twice rects once twice same again p =
+    let q : Pt = at p.y p.x in (
+      λ c. (exchanged-covers rects once same p).0 ((exchanged-covers once twice again q).0 c),
+      λ c. (exchanged-covers once twice again q).1 ((exchanged-covers rects once same p).1 c),
+    )
+
+-- slabs of pieces of rectangles that were exchanged
+pub blocks-slabs : (rects sorted pieces slabs : List Rect) → IsPermutation (turned_rects rects) sorted → ArePiecesOf (turned (Covers sorted)) pieces → AreSlabsOf (Covers pieces) slabs → AreSlabsOf (Covers rects) slabs
+blocks-slabs rects sorted pieces slabs same of s =
+    slabs-of-same (Covers pieces) (Covers rects) slabs (λ p. (λ c. (exchanged-covers rects sorted same p).0 ((of.covers p).0 c), λ c. (of.covers p).1 ((exchanged-covers rects sorted same p).1 c))) s

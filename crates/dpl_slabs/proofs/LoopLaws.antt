@@ -7,7 +7,7 @@ use Rattle.std.proofs.lemmas.List.{get_or_default}
 use Rattle.std.proofs.lemmas.List.Elements.{All-contains, Contains-append_left, Contains-push, Contains-push_cases, Contains-append_right, Contains-append_cases}
 use Rattle.dpl_spec.specs.declared.Pt.{Pt}
 use Rattle.dpl_spec.specs.declared.Rect.{Rect}
-use Rattle.dpl_spec.specs.Squares.{Covers, Has}
+use Rattle.dpl_spec.specs.Squares.{SameSquares, Covers, Has}
 use Rattle.dpl_spec.specs.Slabs.{IsSolid, AreSlabsOf}
 use Rattle.dpl_spec.proofs.Ordered.{Contains-head, Contains-later, Contains-nil}
 use Rattle.dpl_spec.proofs.SlabLaws.{Covers-member, member-Covers}
@@ -172,16 +172,16 @@ slabs-inside a bound slabs inside s r r_in =
     let (b0, b1, b2, b3) = inside high ((s.covers high).0 (Covers-member slabs r high r_in (record { left = omega (arith, ints, wide); right = omega (arith, ints); low = omega (arith, ints, tall); high = omega (arith, ints) }))) in
     record { left = a0; low = a1; right = omega (arith, ints, b2); high = omega (arith, ints, b3) }
 
-pub covers-appended : (a : Pt → Type 0) (rs ss : List Rect) → AreSlabsOf a ss → (p : Pt) → Covers (rs ++ ss) p ↔ (Covers rs p ⊎ a p)
+pub covers-appended : (a : Pt → Type 0) (rs ss : List Rect) → SameSquares (Covers ss) a → (p : Pt) → Covers (rs ++ ss) p ↔ (Covers rs p ⊎ a p)
 covers-appended a rs ss s p = (
   (λ h. let found = member-Covers (rs ++ ss) p h in
       elim (Contains-append_cases rs ss found.0 found.1) [
         | inl one ↦ inl (Covers-member rs found.0 p one found.2)
-        | inr other ↦ inr ((s.covers p).0 (Covers-member ss found.0 p other found.2))
+        | inr other ↦ inr ((s p).0 (Covers-member ss found.0 p other found.2))
       ]),
   λ h. elim h [
     | inl one ↦ (let found = member-Covers rs p one in Covers-member (rs ++ ss) found.0 p (Contains-append_left rs ss found.0 found.1) found.2)
-    | inr other ↦ (let found = member-Covers ss p ((s.covers p).1 other) in Covers-member (rs ++ ss) found.0 p (Contains-append_right rs ss found.0 found.1) found.2)
+    | inr other ↦ (let found = member-Covers ss p ((s p).1 other) in Covers-member (rs ++ ss) found.0 p (Contains-append_right rs ss found.0 found.1) found.2)
   ],
 )
 

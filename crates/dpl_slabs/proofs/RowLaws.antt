@@ -1,7 +1,7 @@
 -- Slabs of bars side by side in one row.
 use Rattle.std.proofs.Common.{◌≡◌, ℕ, suc, ◌+◌, ◌≤◌, ◌<◌, ◌⊎◌, inl, inr, List, [], ◌∷◌, ◌++◌, length, get_or, take, sym, ap, ◌∙◌, subst, arith}
 use Rattle.std.specs.Prelude.{◌↔◌, pos, ◌≤ℤ◌}
-use Rattle.std.specs.List.{Contains}
+use Rattle.std.specs.List.{AllPairs, Contains}
 use Rattle.std.proofs.lemmas.Int.{ints, by_lt_z}
 use Rattle.std.proofs.lemmas.List.{get_or_default, take_all}
 use Rattle.std.proofs.lemmas.List.Elements.{All-contains, All-push, Contains-get_or, Contains-push_cases}
@@ -10,7 +10,7 @@ use Rattle.std.proofs.Math.Seq.{take-suc}
 use Rattle.dpl_spec.specs.declared.Pt.{Pt}
 use Rattle.dpl_spec.specs.declared.Rect.{Rect}
 use Rattle.dpl_spec.specs.Squares.{Has, Covers}
-use Rattle.dpl_spec.specs.Slabs.{IsSolid, Follows, AreSlabsOf}
+use Rattle.dpl_spec.specs.Slabs.{IsSolid, StandApart, Follows, AreSlabsOf}
 use Rattle.dpl_spec.specs.Loops.{AreRectsWithin}
 use Rattle.dpl_spec.proofs.Ordered.{Contains-nil}
 use Rattle.dpl_spec.proofs.SlabLaws.{member-Covers}
@@ -183,6 +183,21 @@ bars-all row n done last all s =
         λ c. (covers-pushed (Has last) done last (λ q. (λ g. g, λ g. g)) p).1 ((s.covers p).1 (rw whole c)),
       );
     }
+
+-- in one row, a column lies between any two slabs
+pub bars-apart : (row : List Rect) (n : ℕ) (done : List Rect) (last : Rect) → AreBarsSoFar row n done last → AllPairs StandApart (done ++ last ∷ [])
+bars-apart row n done last s =
+    all_pairs_push StandApart done last
+    (λ i j d l k.
+    let a = s.before (get_or done i d) (Contains-get_or done i d (omega (arith, l, k))) in
+    let b = s.before (get_or done j d) (Contains-get_or done j d k) in
+    let al = a.level.low in
+    let ah = a.level.high in
+    let bl = b.level.low in
+    let bh = b.level.high in
+    let tall = s.last_solid.tall in
+    (s.follow i j d l k).apart (omega (arith, ints, al, bh, tall), omega (arith, ints, bl, ah, tall)))
+    (λ k d k_in. inl (s.before (get_or done k d) (Contains-get_or done k d k_in)).apart)
 
 -- slabs of rectangles within the bound lie within it
 pub within-slabs : (bound : ℕ) (rs slabs : List Rect) → AreRectsWithin bound rs → AreSlabsOf (Covers rs) slabs → AreRectsWithin bound slabs

@@ -1,7 +1,9 @@
 -- Sets told by sums.
-use Rattle.std.proofs.Common.{◌≡◌, ℕ, ◌+◌, ◌^◌, ◌≤◌, ◌⊎◌, inl, inr, List, [], ◌∷◌, ◌++◌, length, refl, sym, subst, arith}
+use Rattle.std.proofs.Common.{◌≡◌, ℕ, ◌+◌, ◌^◌, ◌≤◌, ◌<◌, ◌⊎◌, inl, inr, List, [], ◌∷◌, ◌++◌, length, get_or, set, map, take, drop, refl, sym, ap, ◌∙◌, subst, append-nil, arith}
 use Rattle.std.specs.Prelude.{◌↔◌, ℤ, pos, ◌+ℤ◌, ◌-ℤ◌, unsigned_abs}
 use Rattle.std.proofs.lemmas.Int.{ints, by_lt_z}
+use Rattle.std.proofs.lemmas.List.{take_all, drop_all}
+use Rattle.std.proofs.lemmas.List.Edits.{map_over_more}
 use Rattle.std.proofs.lemmas.List.Elements.{All-contains, Contains-push_cases}
 use Rattle.dpl_spec.specs.declared.Pt.{Pt}
 use Rattle.dpl_spec.specs.declared.Rect.{Rect}
@@ -18,6 +20,7 @@ use Rattle.dpl_sweep.specs.Edges.{Holds, Told, sum_left, change_a, change_b}
 use Rattle.dpl_sweep.specs.Passes.{IsWithin as EdgeWithin, AreWithin, IsClosed}
 use Rattle.dpl_sweep.proofs.EdgeLaws.{none-told}
 use Rattle.dpl_slabs.specs.Cells.{cells, AddsRects, turned_rects}
+use Rattle.dpl_slabs.specs.Slices.{Without}
 use Rattle.dpl_slabs.proofs.CellLaws.{cells-zero, cells-least, covered-sum, sum-covered, adds-closed}
 
 pub told-either : (rs ss : List Rect) (p : Pt) → Holds Either (cells (pos 1) rs p) (cells (pos 1) ss p) ↔ (Covers rs p ⊎ Covers ss p)
@@ -31,11 +34,16 @@ told-either rs ss p = (
 pub told-first : (rs : List Rect) (p : Pt) → Holds Either (cells (pos 1) rs p) (cells (pos 1) [] p) ↔ Covers rs p
 told-first rs p = (λ h. sum-covered rs p (λ e. h e refl), λ h e f. covered-sum rs p h e)
 
-pub told-minus : (rs ss : List Rect) (p : Pt) → Holds Minus (cells (pos 1) rs p) (cells (pos 1) ss p) ↔ (Covers rs p × (Covers ss p → ⊥))
+pub told-minus : (rs ss : List Rect) (p : Pt) → Holds Minus (cells (pos 1) rs p) (cells (pos 1) ss p) ↔ Without rs ss p
 told-minus rs ss p = (
   λ (h, k). (sum-covered rs p h, λ c. covered-sum ss p c k),
   λ (h, k). (covered-sum rs p h, by_lt_z (pos 0) (cells (pos 1) ss p) (λ l. absurd (k (sum-covered ss p (λ e. omega (arith, ints, l, e))))) (λ m. (let least = cells-least ss p in omega (arith, ints, m, least)))),
 )
+
+-- what no holes leave of rectangles
+pub without-none : (rs ss : List Rect) (p : Pt) → length ss ≤ 0 → Covers rs p ↔ Without rs ss p
+without-none rs [] p none = ((λ c. (c, λ h. (let found = member-Covers [] p h in Contains-nil found.0 found.1))), λ c. c.0)
+without-none rs (s ∷ ss) p none = absurd (omega (arith, none))
 
 pub told-both : (rs ss : List Rect) (p : Pt) → Holds Both (cells (pos 1) rs p) (cells (pos 1) ss p) ↔ (Covers rs p × Covers ss p)
 told-both rs ss p = (λ (h, k). (sum-covered rs p h, sum-covered ss p k), λ (h, k). (covered-sum rs p h, covered-sum ss p k))
@@ -169,3 +177,10 @@ turned-one (r ∷ []) c one =
       };
       covers = λ p. (from-turned (r ∷ []) p, to-turned (r ∷ []) p);
     }
+
+-- one more rectangle exchanged where it stands
+pub turned-next : (old rects : List Rect) (i : ℕ) (r t : Rect) → i < length old → rects ≡ map turned_rect (take i old) ++ drop i old → r ≡ get_or rects i r → t ≡ turned_rect r → set rects i t ≡ map turned_rect (take (i + 1) old) ++ drop (i + 1) old
+turned-next old rects i r t i_in so_far r_is t_is = ap (set rects i) t_is ∙ map_over_more turned_rect old rects i r i_in so_far r_is
+
+pub turned-all : (old rects : List Rect) (i : ℕ) → length old ≤ i → rects ≡ map turned_rect (take i old) ++ drop i old → rects ≡ turned_rects old
+turned-all old rects i all so_far = so_far ∙ (ap (λ l. map turned_rect l ++ drop i old) (take_all i old all) ∙ (ap (λ l. map turned_rect old ++ l) (drop_all i old all) ∙ append-nil (map turned_rect old)))

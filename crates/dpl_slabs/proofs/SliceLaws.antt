@@ -1,27 +1,29 @@
 -- Slabs of slices put together.
-use Rattle.std.proofs.Common.{◌≡◌, ℕ, suc, ◌+◌, ◌≤◌, ◌<◌, ◌⊎◌, inl, inr, List, [], ◌∷◌, ◌++◌, length, get_or, take, sym, subst, arith}
+use Rattle.std.proofs.Common.{◌≡◌, ℕ, ◌+◌, ◌≤◌, ◌<◌, ◌⊎◌, inl, inr, List, [], ◌∷◌, ◌++◌, length, get_or, take, subst, arith}
 use Rattle.std.specs.Prelude.{◌↔◌, ℤ, pos, ◌-ℤ◌, ◌≤ℤ◌, ◌<ℤ◌, neg_ℤ, int_lt}
 use Rattle.std.specs.Int.{int_min}
 use Rattle.std.proofs.lemmas.Bool.{cases_cond}
-use Rattle.std.specs.List.{Contains}
+use Rattle.std.specs.List.{All, AllPairs, Contains}
 use Rattle.std.specs.List.Sorted.{IsPermutation}
 use Rattle.std.proofs.lemmas.Int.{ints, by_lt_z}
 use Rattle.std.proofs.lemmas.List.{take_all}
-use Rattle.std.proofs.lemmas.List.Elements.{All-append, All-contains, Contains-append_cases, Contains-push_cases}
+use Rattle.std.proofs.lemmas.List.Elements.{All-append, All-contains, Contains-append_cases, Contains-get_or, Contains-push_cases}
 use Rattle.std.proofs.lemmas.List.Sorted.{IsPermutation-sym, Contains-permutation}
 use Rattle.dpl_spec.specs.declared.Pt.{Pt}
 use Rattle.dpl_spec.specs.declared.Rect.{Rect}
-use Rattle.dpl_spec.specs.Squares.{Has, Covers}
-use Rattle.dpl_spec.specs.Slabs.{IsSolid, ShareRow, StandApart, Follows, AreSlabsOf}
+use Rattle.dpl_spec.specs.Squares.{Region, Has, Covers}
+use Rattle.dpl_spec.specs.Slabs.{IsSolid, ShareRow, StandApart, AreSlabsOf}
 use Rattle.dpl_spec.specs.Loops.{farthest, IsRectWithin, AreRectsWithin}
-use Rattle.dpl_spec.proofs.Ordered.{AllPairs-rest, AllPairs-first, Contains-head, Contains-later, Contains-nil}
+use Rattle.dpl_spec.proofs.Ordered.{Contains-nil}
 use Rattle.dpl_spec.proofs.SlabLaws.{Covers-member, member-Covers}
-use Rattle.dpl_sweep.specs.Pieces.{AreApart}
-use Rattle.dpl_sweep.proofs.JoinLaws.{covers-same}
+use Rattle.dpl_sweep.specs.declared.edge.Rule.TheVariants.{Minus}
+use Rattle.dpl_sweep.specs.Edges.{Holds}
+use Rattle.dpl_slabs.specs.Cells.{cells}
 use Rattle.dpl_slabs.specs.Rows.{IsRow}
-use Rattle.dpl_slabs.specs.Slices.{InRows, IsPartOf, IsBar, ArePartsOf, AddsPart, AddsBars, ArePiecesBelow, ArePiecesOf}
+use Rattle.dpl_slabs.specs.Alone.{AreAlone}
+use Rattle.dpl_slabs.specs.Slices.{InRows, Without, IsPartOf, IsBar, ArePartsOf, AddsPart, IsCutTo, IsSliceOf, ArePiecesBelow, ArePiecesOf}
 use Rattle.dpl_slabs.proofs.LoopLaws.{covers-pushed, covers-appended, rects-appended}
-use Rattle.dpl_slabs.proofs.SetLaws.{rects-none, rects-more, slabs-of-same}
+use Rattle.dpl_slabs.proofs.SetLaws.{told-minus, rects-none, rects-more, slabs-of-same, slabs-within}
 use Rattle.dpl_slabs.proofs.RowLaws.{covers-step, within-slabs}
 use Rattle.dpl_slabs.proofs.StripLaws.{AllPairs-append}
 
@@ -129,105 +131,196 @@ parts-next low high rects bars others new new_others n r n_in r_is s a = record 
 }
 
 -- bars of the same rows are a row
-pub bars-row : (low high : ℤ) (bars sorted : List Rect) → IsPermutation bars sorted → ((r : Rect) → Contains bars r → IsBar low high r) → IsRow sorted
-bars-row low high bars sorted same h = record {
-  solid = λ r r_in. (from r r_in).solid;
-  level = λ r s r_in s_in. (let a = from r r_in in let b = from s s_in in
+pub bars-row : (low high : ℤ) (bars : List Rect) → ((r : Rect) → Contains bars r → IsBar low high r) → IsRow bars
+bars-row low high bars h = record {
+  solid = λ r r_in. (h r r_in).solid;
+  level = λ r s r_in s_in. (let a = h r r_in in let b = h s s_in in
       let al = a.first in let ah = a.end in let bl = b.first in let bh = b.end in
       record { low = omega (arith, ints, al, bl); high = omega (arith, ints, ah, bh) });
 }
-  where
-    from : (r : Rect) → Contains sorted r → IsBar low high r
-    from r r_in = h r (Contains-permutation sorted bars r (IsPermutation-sym bars sorted same) r_in)
 
-pub adds-no-bars : (bars others : List Rect) → length bars ≤ 0 → AddsBars bars others others
-adds-no-bars [] others none = record {
-  covers = λ p. (
-    (λ h. inl h),
-    λ h. elim h [ inl c ↦ c | inr c ↦ absurd (let found = member-Covers [] p c in Contains-nil found.0 found.1) ],
-  );
-  within = λ v w. w;
-}
-adds-no-bars (r ∷ bars) others none = absurd (omega (arith, none))
-
-pub adds-bars : (bars sorted row others : List Rect) → IsPermutation bars sorted → AreSlabsOf (Covers sorted) row → AddsBars bars others (others ++ row)
-adds-bars bars sorted row others same s = record {
-  covers = covers-appended (Covers bars) others row mine;
-  within = λ v w. rects-appended farthest others row w (within-slabs farthest bars row v mine);
+-- in any order
+pub row-sorted : (bars sorted : List Rect) → IsPermutation bars sorted → IsRow bars → IsRow sorted
+row-sorted bars sorted same row = record {
+  solid = λ r r_in. row.solid r (from r r_in);
+  level = λ r s r_in s_in. row.level r s (from r r_in) (from s s_in);
 }
   where
-    mine : AreSlabsOf (Covers bars) row
-    mine = slabs-of-same (Covers sorted) (Covers bars) row (λ p. ((covers-same bars sorted same p).1, (covers-same bars sorted same p).0)) s
+    from : (r : Rect) → Contains sorted r → Contains bars r
+    from r r_in = Contains-permutation sorted bars r (IsPermutation-sym bars sorted same) r_in
 
--- slabs of all parts are those of the rectangles in the rows
-pub slice-slabs : (low high : ℤ) (rects bars others new slabs : List Rect) (n : ℕ) → length rects ≤ n → ArePartsOf low high (take n rects) bars others → AddsBars bars others new → AreSlabsOf (Covers new) slabs → AreSlabsOf (InRows low high (Covers rects)) slabs
-slice-slabs low high rects bars others new slabs n all s a t =
+-- all parts of all rectangles, the bars put together
+pub cut-whole : (low high : ℤ) (rects bars row others : List Rect) (n : ℕ) → length rects ≤ n → ArePartsOf low high (take n rects) bars others → AreSlabsOf (Covers bars) row → AllPairs StandApart row → IsCutTo low high rects row others
+cut-whole low high rects bars row others n all s by apart =
     let whole : take n rects ≡ rects = take_all n rects all in
     let covers = rw whole at s.covers in
-    slabs-of-same (Covers new) (InRows low high (Covers rects)) slabs
-    (λ p. (
-      (λ h. elim ((a.covers p).0 h) [ inl c ↦ (covers p).0 (inr c) | inr c ↦ (covers p).0 (inl c) ]),
-      λ h. elim ((covers p).1 h) [ inl c ↦ (a.covers p).1 (inr c) | inr c ↦ (a.covers p).1 (inl c) ],
-    ))
-    t
+    record {
+      solid = by.canonical.solid;
+      apart = apart;
+      covers = λ p. (
+        (λ h. elim h [ inl c ↦ (covers p).0 (inl ((by.covers p).0 c)) | inr c ↦ (covers p).0 (inr c) ]),
+        λ h. elim ((covers p).1 h) [ inl c ↦ inl ((by.covers p).1 c) | inr c ↦ inr c ],
+      );
+      bars_within = within-slabs farthest bars row s.full_within by;
+      within = s.within;
+    }
 
--- slabs of a slice lie in its rows
-module _ (low high : ℤ) (rects slabs : List Rect) (s : AreSlabsOf (InRows low high (Covers rects)) slabs) where
-  slab-low : (r : Rect) → Contains slabs r → low ≤ℤ r.y0
-  slab-low r r_in =
-      let solid : IsSolid r = All-contains IsSolid slabs r s.canonical.solid r_in in
-      let wide = solid.wide in
-      let tall = solid.tall in
-      let first : Pt = record { x = r.x0; y = r.y0 } in
-      ((s.covers first).0 (Covers-member slabs r first r_in (record { left = omega (arith, ints); right = wide; low = omega (arith, ints); high = tall }))).1
+pub slice-whole : (low high : ℤ) (rects bars others : List Rect) → IsCutTo low high rects bars others → IsSliceOf low high rects (others ++ bars)
+slice-whole low high rects bars others s = record {
+  covers = λ p. (
+    (λ h. elim ((both p).0 h) [ inl c ↦ (s.covers p).0 (inr c) | inr c ↦ (s.covers p).0 (inl c) ]),
+    λ h. elim ((s.covers p).1 h) [ inl c ↦ (both p).1 (inr c) | inr c ↦ (both p).1 (inl c) ],
+  );
+  within = rects-appended farthest others bars s.within s.bars_within;
+}
+  where
+    both : (p : Pt) → Covers (others ++ bars) p ↔ (Covers others p ⊎ Covers bars p)
+    both = covers-appended (Covers bars) others bars (λ p. (λ c. c, λ c. c))
 
-  slab-high : (r : Rect) → Contains slabs r → r.y1 ≤ℤ high
-  slab-high r r_in =
-      let solid : IsSolid r = All-contains IsSolid slabs r s.canonical.solid r_in in
-      let wide = solid.wide in
-      let tall = solid.tall in
-      let last : Pt = record { x = r.x0; y = r.y1 -ℤ pos 1 } in
-      let l = ((s.covers last).0 (Covers-member slabs r last r_in (record { left = omega (arith, ints); right = wide; low = omega (arith, ints, tall); high = omega (arith, ints) }))).2 in
-      omega (arith, ints, l)
+-- bars that stand alone, and the slabs of all else
+module _ (low high : ℤ) (rects holes bars old new gaps alone : List Rect) (s : IsCutTo low high rects bars old) (t : IsSliceOf low high holes gaps) (a : AreAlone bars gaps old new alone) where
+  pub rest-within : AreRectsWithin farthest new
+  rest-within r r_in = elim (a.others r r_in) [ inl h ↦ s.within r h | inr h ↦ s.bars_within r h ]
 
-pub pieces-next : (low high : ℤ) (rects pieces slabs : List Rect) → low <ℤ high → ArePiecesBelow low rects pieces → AreSlabsOf (InRows low high (Covers rects)) slabs → ArePiecesBelow high rects (pieces ++ slabs)
-pieces-next low high rects pieces slabs order b s = record {
+  alone-solid : (r : Rect) → Contains alone r → IsSolid r
+  alone-solid r r_in = All-contains IsSolid bars r s.solid (a.members r r_in)
+
+  -- no gap has a square of such a bar
+  no-gap : (p : Pt) → Covers alone p → Covers gaps p → ⊥
+  no-gap p c k =
+      let (r, r_in, has) = member-Covers alone p c in
+      let (g, g_in, has_too) = member-Covers gaps p k in
+      let b = has.left in
+      let d = has.right in
+      let e = has_too.left in
+      let f = has_too.right in
+      elim (a.off_gaps r g r_in g_in) [ inl l ↦ omega (arith, ints, l, d, e) | inr l ↦ omega (arith, ints, l, b, f) ]
+
+  alone-covers : (p : Pt) → Covers alone p → InRows low high (Without rects holes) p
+  alone-covers p c =
+      let (r, r_in, has) = member-Covers alone p c in
+      let (h, l, m) = (s.covers p).0 (inl (Covers-member bars r p (a.members r r_in) has)) in
+      ((h, λ k. no-gap p c ((t.covers p).1 (k, l, m))), l, m)
+
+  module _ (slabs : List Rect) (by : AreSlabsOf (Without new gaps) slabs) where
+    -- no square of a slab lies in a column of such a bar or beside it
+    no-square : (r q : Rect) (p : Pt) → Contains alone r → Contains slabs q → Has q p → p.x ≤ℤ r.x1 → (r.x0 -ℤ pos 1) ≤ℤ p.x → ⊥
+    no-square r q p r_in q_in has l m =
+        let c = (by.covers p).0 (Covers-member slabs q p q_in has) in
+        let (o, o_in, o_has) = member-Covers new p c.0 in
+        let b = o_has.left in
+        let d = o_has.right in
+        elim (a.off r o r_in o_in) [ inl k ↦ omega (arith, ints, k, b, l) | inr k ↦ omega (arith, ints, k, d, m) ]
+
+    slab-apart : (r q : Rect) → Contains alone r → Contains slabs q → StandApart r q
+    slab-apart r q r_in q_in =
+        let solid : IsSolid q = All-contains IsSolid slabs q by.canonical.solid q_in in
+        let wide = solid.wide in
+        let tall = solid.tall in
+        let bar : IsSolid r = alone-solid r r_in in
+        let some = bar.wide in
+        by_lt_z r.x1 q.x0 inl
+        (λ l. by_lt_z q.x1 r.x0 inr
+        (λ m. absurd (by_lt_z q.x0 r.x0
+        (λ k. no-square r q (record { x = r.x0 -ℤ pos 1; y = q.y0 }) r_in q_in (record { left = omega (arith, ints, k); right = omega (arith, ints, m); low = omega (arith, ints); high = tall }) (omega (arith, ints, some)) (omega (arith, ints)))
+        (λ k. no-square r q (record { x = q.x0; y = q.y0 }) r_in q_in (record { left = omega (arith, ints); right = wide; low = omega (arith, ints); high = tall }) l (omega (arith, ints, k))))))
+
+    slabs-covers : (p : Pt) → Covers slabs p → InRows low high (Without rects holes) p
+    slabs-covers p c =
+        let (h, none) = (by.covers p).0 c in
+        let (k, l, m) = (s.covers p).0 ((a.covers p).0 (inr h)) in
+        ((k, λ g. none ((t.covers p).1 (g, l, m))), l, m)
+
+    pub slice-pieces : ArePiecesOf (InRows low high (Without rects holes)) (alone ++ slabs)
+    slice-pieces = record {
+      apart = record {
+        solid = All-append IsSolid alone slabs (λ i d k. alone-solid (get_or alone i d) (Contains-get_or alone i d k)) by.canonical.solid;
+        apart = AllPairs-append (λ r q. ShareRow r q → StandApart r q) alone slabs (λ i j d l k share. a.apart i j d l k) (λ i j d l k. (by.canonical.follow i j d l k).apart)
+            (λ r q r_in q_in share. slab-apart r q r_in q_in);
+      };
+      covers = λ p. (
+        (λ h. elim ((covers-appended (Without new gaps) alone slabs by.covers p).0 h) [ inl c ↦ alone-covers p c | inr c ↦ slabs-covers p ((by.covers p).1 c) ]),
+        λ ((c, none), l, m). elim ((a.covers p).1 ((s.covers p).1 (c, l, m))) [
+          | inl k ↦ (covers-appended (Without new gaps) alone slabs by.covers p).1 (inl k)
+          | inr k ↦ (covers-appended (Without new gaps) alone slabs by.covers p).1 (inr (k, λ g. none ((t.covers p).0 g).0))
+        ],
+      );
+    }
+
+-- rectangles with no square below a row begin there or above it
+begin-over : (row : ℤ) (rs : List Rect) → All IsSolid rs → ((p : Pt) → Covers rs p → row ≤ℤ p.y) → (r : Rect) → Contains rs r → row ≤ℤ r.y0
+begin-over row rs solid over r r_in =
+    let s : IsSolid r = All-contains IsSolid rs r solid r_in in
+    let wide = s.wide in
+    let tall = s.tall in
+    over (record { x = r.x0; y = r.y0 }) (Covers-member rs r (record { x = r.x0; y = r.y0 }) r_in (record { left = omega (arith, ints); right = wide; low = omega (arith, ints); high = tall }))
+
+-- and those with all squares below it end there or below it
+end-below : (row : ℤ) (rs : List Rect) → All IsSolid rs → ((p : Pt) → Covers rs p → p.y <ℤ row) → (r : Rect) → Contains rs r → r.y1 ≤ℤ row
+end-below row rs solid below r r_in =
+    let s : IsSolid r = All-contains IsSolid rs r solid r_in in
+    let wide = s.wide in
+    let tall = s.tall in
+    let last : Pt = record { x = r.x0; y = r.y1 -ℤ pos 1 } in
+    let l = below last (Covers-member rs r last r_in (record { left = omega (arith, ints); right = wide; low = omega (arith, ints, tall); high = omega (arith, ints) })) in
+    omega (arith, ints, l)
+
+pub pieces-next : (low high : ℤ) (a : Region) (pieces more : List Rect) → low <ℤ high → ArePiecesBelow low a pieces → ArePiecesOf (InRows low high a) more → ArePiecesBelow high a (pieces ++ more)
+pieces-next low high a pieces more order b s = record {
   apart = record {
-    solid = All-append IsSolid pieces slabs b.apart.solid s.canonical.solid;
-    apart = AllPairs-append (λ r t. ShareRow r t → StandApart r t) pieces slabs b.apart.apart (λ i j d l k. (s.canonical.follow i j d l k).apart)
-        (λ r t r_in t_in share. (let u = b.under r r_in in let v = slab-low low high rects slabs s t t_in in let w = share.1 in absurd (omega (arith, ints, u, v, w))));
+    solid = All-append IsSolid pieces more b.apart.solid s.apart.solid;
+    apart = AllPairs-append (λ r t. ShareRow r t → StandApart r t) pieces more b.apart.apart s.apart.apart
+        (λ r t r_in t_in share. (let u = b.under r r_in in let v = begin-over low more s.apart.solid (λ p c. ((s.covers p).0 c).1) t t_in in let w = share.1 in absurd (omega (arith, ints, u, v, w))));
   };
-  under = λ r r_in. elim (Contains-append_cases pieces slabs r r_in) [
+  under = λ r r_in. elim (Contains-append_cases pieces more r r_in) [
     | inl h ↦ (let u = b.under r h in omega (arith, ints, u, order))
-    | inr h ↦ slab-high low high rects slabs s r h
+    | inr h ↦ end-below high more s.apart.solid (λ p c. ((s.covers p).0 c).2) r h
   ];
   covers = λ p. (
-    (λ h. elim ((covers-appended (InRows low high (Covers rects)) pieces slabs s p).0 h) [
+    (λ h. elim ((both p).0 h) [
       | inl c ↦ (let k = (b.covers p).0 c in let l = k.1 in (k.0, omega (arith, ints, l, order)))
       | inr c ↦ (c.0, c.2)
     ]),
-    λ (h, l). by_lt_z p.y low
-        (λ m. (covers-appended (InRows low high (Covers rects)) pieces slabs s p).1 (inl ((b.covers p).1 (h, m))))
-        (λ m. (covers-appended (InRows low high (Covers rects)) pieces slabs s p).1 (inr (h, m, l))),
+    λ (h, l). by_lt_z p.y low (λ m. (both p).1 (inl ((b.covers p).1 (h, m)))) (λ m. (both p).1 (inr (h, m, l))),
   );
 }
+  where
+    both : (p : Pt) → Covers (pieces ++ more) p ↔ (Covers pieces p ⊎ InRows low high a p)
+    both = covers-appended (InRows low high a) pieces more s.covers
 
-pub pieces-none : (low : ℤ) (rects : List Rect) → low ≡ neg_ℤ (pos farthest) → AreRectsWithin farthest rects → ArePiecesBelow low rects []
-pieces-none low rects low_is w = record {
+-- the slabs of pieces are pieces of the same squares
+pub pieces-joined : (row : ℤ) (a : Region) (pieces slabs : List Rect) → ArePiecesBelow row a pieces → AreSlabsOf (Covers pieces) slabs → ArePiecesBelow row a slabs
+pieces-joined row a pieces slabs b s = record {
+  apart = record { solid = s.canonical.solid; apart = λ i j d l k. (s.canonical.follow i j d l k).apart };
+  under = end-below row slabs s.canonical.solid (λ p c. ((covers p).0 c).1);
+  covers = covers;
+}
+  where
+    covers : (p : Pt) → Covers slabs p ↔ (a p × (p.y <ℤ row))
+    covers p = (λ c. (b.covers p).0 ((s.covers p).0 c), λ h. (s.covers p).1 ((b.covers p).1 h))
+
+pub pieces-none : (low : ℤ) (rects holes : List Rect) → low ≡ neg_ℤ (pos farthest) → AreRectsWithin farthest rects → ArePiecesBelow low (Without rects holes) []
+pieces-none low rects holes low_is w = record {
   apart = record { solid = λ i d k. absurd (omega (arith, k)); apart = λ i j d l k. absurd (omega (arith, k)) };
   under = λ r r_in. absurd (Contains-nil r r_in);
   covers = λ p. (
     (λ c. absurd (let found = member-Covers [] p c in Contains-nil found.0 found.1)),
-    λ (c, l). (let (r, r_in, has) = member-Covers rects p c in let a = (w r r_in).low in let h = has.low in absurd (omega (arith, ints, low_is, l, a, h))),
+    λ (c, l). (let (r, r_in, has) = member-Covers rects p c.0 in let a = (w r r_in).low in let h = has.low in absurd (omega (arith, ints, low_is, l, a, h))),
   );
 }
 
 -- above all rectangles
-pub pieces-all : (row : ℤ) (rects pieces : List Rect) → pos farthest <ℤ row → AreRectsWithin farthest rects → ArePiecesBelow row rects pieces → ArePiecesOf rects pieces
-pieces-all row rects pieces over w b = record {
+pub pieces-all : (row : ℤ) (rects holes pieces : List Rect) → pos farthest <ℤ row → AreRectsWithin farthest rects → ArePiecesBelow row (Without rects holes) pieces → ArePiecesOf (Without rects holes) pieces
+pieces-all row rects holes pieces over w b = record {
   apart = b.apart;
   covers = λ p. (
     (λ c. ((b.covers p).0 c).0),
-    λ c. (b.covers p).1 (c, (let (r, r_in, has) = member-Covers rects p c in let a = (w r r_in).high in let h = has.high in omega (arith, ints, over, a, h))),
+    λ c. (b.covers p).1 (c, (let (r, r_in, has) = member-Covers rects p c.0 in let a = (w r r_in).high in let h = has.high in omega (arith, ints, over, a, h))),
   );
 }
+
+-- slabs of what holes leave of rectangles within the range lie within it
+pub without-within : (rects holes slabs : List Rect) → AreRectsWithin farthest rects → AreRectsWithin farthest holes → AreSlabsOf (Without rects holes) slabs → AreRectsWithin farthest slabs
+without-within rects holes slabs v w s =
+    slabs-within Minus farthest rects holes slabs v w
+    (slabs-of-same (Without rects holes) (λ p. Holds Minus (cells (pos 1) rects p) (cells (pos 1) holes p)) slabs (λ p. ((told-minus rects holes p).1, (told-minus rects holes p).0)) s)

@@ -76,7 +76,7 @@ adds-strip old more strip c below a w =
         solid = All-append IsSolid old more c.solid a.canonical.solid;
         follow = AllPairs-append Follows old more c.follow a.canonical.follow (λ r s r_in s_in. follows-below r s (All-contains IsSolid old r c.solid r_in) (All-contains IsSolid more s a.canonical.solid s_in) (under r s r_in s_in));
       };
-      covers = covers-appended (Covers strip) old more a;
+      covers = covers-appended (Covers strip) old more a.covers;
       within = λ v. rects-appended farthest old more v w;
       below = λ others f g r s r_in s_in. elim (Contains-append_cases old more r r_in) [
         | inl h ↦ f r s h s_in

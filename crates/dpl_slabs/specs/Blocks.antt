@@ -3,7 +3,7 @@ use Rattle.std.specs.Prelude.{◌⊎◌, ◌↔◌, ◌<ℤ◌, List}
 use Rattle.std.specs.List.{Contains}
 use Rattle.dpl_spec.specs.declared.Pt.{Pt}
 use Rattle.dpl_spec.specs.declared.Rect.{Rect}
-use Rattle.dpl_spec.specs.Squares.{Covers}
+use Rattle.dpl_spec.specs.Squares.{Region, Covers}
 use Rattle.dpl_spec.specs.Loops.{farthest, AreRectsWithin}
 use Rattle.dpl_spec.specs.Zones.{turned}
 use Rattle.dpl_sweep.specs.Orders.{CornersRise}
@@ -19,10 +19,10 @@ pub record AddsBlock (old new block : List Rect) : Type 0 where
   pub covers : (p : Pt) → Covers new p ↔ (Covers old p ⊎ turned (Covers block) p)
   pub left : (others : List Rect) → LieLeft old others → ((r s : Rect) → Contains block r → Contains others s → r.y1 <ℤ s.y0) → LieLeft new others
 
--- pieces of some of the rectangles, and the others in blocks, which lie right of them
-pub record AreBlocksOf (rects pieces rest : List Rect) : Type 0 where
+-- pieces of some of a set's squares, and rectangles of the others in blocks, which lie right of them
+pub record AreBlocksOf (a : Region) (pieces rest : List Rect) : Type 0 where
   pub apart : AreApart pieces
-  pub covers : (p : Pt) → (Covers pieces p ⊎ turned (Covers rest) p) ↔ Covers rects p
+  pub covers : (p : Pt) → (Covers pieces p ⊎ turned (Covers rest) p) ↔ a p
   pub rest_within : AreRectsWithin farthest rest
   pub rise : CornersRise rest
   pub left : LieLeft pieces rest

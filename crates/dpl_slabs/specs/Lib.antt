@@ -6,3 +6,4 @@ pub mod Strips
 pub mod Rows
 pub mod Slices
 pub mod Blocks
+pub mod Alone

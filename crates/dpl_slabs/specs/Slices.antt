@@ -1,16 +1,20 @@
 -- Rectangles in slices of rows.
 use Rattle.std.specs.Prelude.{◌≡◌, ◌⊎◌, ◌↔◌, ℤ, ◌≤ℤ◌, ◌<ℤ◌, List}
-use Rattle.std.specs.List.{Contains}
+use Rattle.std.specs.List.{All, AllPairs, Contains}
 use Rattle.dpl_spec.specs.declared.Pt.{Pt}
 use Rattle.dpl_spec.specs.declared.Rect.{Rect}
-use Rattle.dpl_spec.specs.Squares.{Region, Has, Covers}
-use Rattle.dpl_spec.specs.Slabs.{IsSolid}
+use Rattle.dpl_spec.specs.Squares.{Region, SameSquares, Has, Covers}
+use Rattle.dpl_spec.specs.Slabs.{IsSolid, StandApart}
 use Rattle.dpl_spec.specs.Loops.{farthest, IsRectWithin, AreRectsWithin}
 use Rattle.dpl_sweep.specs.Pieces.{AreApart}
 
 -- the squares of a set in rows low to high - 1
 abbrev pub InRows : ℤ → ℤ → Region → Region
 InRows low high a p = a p × (low ≤ℤ p.y) × (p.y <ℤ high)
+
+-- the squares that rectangles have and no hole has
+abbrev pub Without : List Rect → List Rect → Region
+Without rects holes p = Covers rects p × ¬ Covers holes p
 
 -- the part of a rectangle in rows low to high - 1, which may have no square
 pub record IsPartOf (low high : ℤ) (r part : Rect) : Type 0 where
@@ -37,18 +41,26 @@ pub record AddsPart (low high : ℤ) (r : Rect) (bars others new new_others : Li
   pub full_within : AreRectsWithin farthest bars → AreRectsWithin farthest new
   pub within : AreRectsWithin farthest others → AreRectsWithin farthest new_others
 
--- the squares of bars were added
-pub record AddsBars (bars others new : List Rect) : Type 0 where
-  pub covers : (p : Pt) → Covers new p ↔ (Covers others p ⊎ Covers bars p)
-  pub within : AreRectsWithin farthest bars → AreRectsWithin farthest others → AreRectsWithin farthest new
+-- bars with a column between any two, and other rectangles, that have the squares of these rectangles in the rows
+pub record IsCutTo (low high : ℤ) (rects bars others : List Rect) : Type 0 where
+  pub solid : All IsSolid bars
+  pub apart : AllPairs StandApart bars
+  pub covers : (p : Pt) → (Covers bars p ⊎ Covers others p) ↔ InRows low high (Covers rects) p
+  pub bars_within : AreRectsWithin farthest bars
+  pub within : AreRectsWithin farthest others
 
--- pieces of the squares below a row
-pub record ArePiecesBelow (row : ℤ) (rects pieces : List Rect) : Type 0 where
+-- rectangles that have the squares of these in rows low to high - 1
+pub record IsSliceOf (low high : ℤ) (rects slice : List Rect) : Type 0 where
+  pub covers : SameSquares (Covers slice) (InRows low high (Covers rects))
+  pub within : AreRectsWithin farthest slice
+
+-- pieces of a set's squares below a row
+pub record ArePiecesBelow (row : ℤ) (a : Region) (pieces : List Rect) : Type 0 where
   pub apart : AreApart pieces
   pub under : (r : Rect) → Contains pieces r → r.y1 ≤ℤ row
-  pub covers : (p : Pt) → Covers pieces p ↔ (Covers rects p × (p.y <ℤ row))
+  pub covers : (p : Pt) → Covers pieces p ↔ (a p × (p.y <ℤ row))
 
--- pieces of all of the squares
-pub record ArePiecesOf (rects pieces : List Rect) : Type 0 where
+-- pieces of all squares of a set
+pub record ArePiecesOf (a : Region) (pieces : List Rect) : Type 0 where
   pub apart : AreApart pieces
-  pub covers : (p : Pt) → Covers pieces p ↔ Covers rects p
+  pub covers : SameSquares (Covers pieces) a

@@ -2,7 +2,9 @@
 ghost use Rattle.std.specs.Prelude.{IfOk, IfSome, OnOk};
 ghost use Rattle.std.specs.List.{Contains};
 ghost use Rattle.dpl_spec.specs.declared.Rect.{Rect};
+ghost use Rattle.dpl_spec.specs.Squares.{Covers};
 ghost use Rattle.dpl_spec.specs.Loops.{farthest, AreRectsWithin};
+ghost use Rattle.dpl_spec.specs.Zones.{turned};
 ghost use Rattle.dpl_sweep.specs.Pieces.{AreApart};
 ghost use Rattle.dpl_sweep.specs.Orders.{CornersRise};
 ghost use Rattle.dpl_slabs.specs.Blocks.{AddsBlock, LieLeft};
@@ -10,13 +12,14 @@ ghost use Rattle.dpl_slabs.specs.Slices.{ArePiecesOf};
 
 use crate::combine::exchanged;
 use crate::row::is_row;
-use crate::strips::{TALL, slabs_by_rows, strip_length};
+use crate::slices::TALL;
+use crate::strips::{slabs_by_rows, strip_length};
 use dpl_base::Rect;
 use dpl_sweep::sort_by_corner;
 use std::alloc::{AllocError, Global};
 
 /// Whether a strip of rectangles, which go by first row, has so many that they are better told apart by columns first.
-fn has_tall_strip(rects: &[Rect]) -> bool
+pub fn has_tall_strip(rects: &[Rect]) -> bool
     requires { CornersRise rects.now }
 {
     let mut rest = rects;
@@ -44,15 +47,14 @@ fn add_block(alloc: Global, pieces: &mut Vec<Rect>, block: &[Rect]) -> Result<()
     Ok(())
 }
 
-/// Pieces of the rectangles' squares, block by block, of which no two share a square, or none where all rectangles are in one block.
-fn pieces_of_blocks(alloc: Global, rects: &[Rect]) -> Result<Option<Vec<Rect>>, AllocError>
-    requires { AreRectsWithin farthest rects.now }
-    ensures { IfOk result (λ found. IfSome found (λ v. ArePiecesOf rects.now v.items)) }
+/// Pieces of rectangles' squares, block by block, of which no two share a square, or none where all rectangles are in one block. The rectangles are given with x and y exchanged.
+pub fn pieces_of_blocks(alloc: Global, rects: &[Rect]) -> Result<Option<Vec<Rect>>, AllocError>
+    requires within { AreRectsWithin farthest rects.now }
+    requires rise { CornersRise rects.now }
+    ensures { IfOk result (λ found. IfSome found (λ v. ArePiecesOf (turned (Covers rects.now)) v.items)) }
 {
-    let mut turned = exchanged(alloc, rects)?;
-    sort_by_corner(&mut turned);
     let mut pieces = Vec::with_capacity(alloc, rects.len())?;
-    let mut rest = turned.as_slice();
+    let mut rest = rects;
     while !rest.is_empty() {
         let (block, others) = rest.split_at(strip_length(rest));
         if block.len() == rects.len() {
@@ -62,16 +64,4 @@ fn pieces_of_blocks(alloc: Global, rects: &[Rect]) -> Result<Option<Vec<Rect>>, 
         rest = others;
     }
     Ok(Some(pieces))
-}
-
-/// The pieces of blocks of columns, or none where there are no columns between them or strips of rows will do.
-pub fn blocked(alloc: Global, rects: &[Rect]) -> Result<Option<Vec<Rect>>, AllocError>
-    requires within { AreRectsWithin farthest rects.now }
-    requires rise { CornersRise rects.now }
-    ensures { IfOk result (λ found. IfSome found (λ v. ArePiecesOf rects.now v.items)) }
-{
-    if !has_tall_strip(rects) {
-        return Ok(None);
-    }
-    pieces_of_blocks(alloc, rects)
 }

@@ -4,7 +4,9 @@ ghost use Rattle.dpl_spec.specs.declared.Rect.{Rect};
 ghost use Rattle.dpl_spec.specs.Slabs.{AreSlabsOf};
 ghost use Rattle.dpl_sweep.specs.Edges.{Holds};
 ghost use Rattle.dpl_spec.specs.Loops.{farthest, IsRectWithin, AreRectsWithin};
+ghost use Rattle.dpl_spec.specs.Zones.{turned_rect};
 ghost use Rattle.dpl_slabs.specs.Cells.{cells, AddsRects, turned_rects};
+ghost use Rattle.dpl_slabs.specs.Slices.{Without};
 
 use dpl_base::Rect;
 use dpl_sweep::{Edge, Rule, slabs_of_edges};
@@ -72,17 +74,50 @@ pub fn combine(
     Ok(slabs)
 }
 
+/// The slabs of the squares that rectangles have and no hole has, by one sweep.
+pub fn combine_without(
+    alloc: Global,
+    rects: &[Rect],
+    holes: &[Rect],
+) -> Result<Vec<Rect>, AllocError>
+    requires rects { AreRectsWithin farthest rects.now }
+    requires holes { AreRectsWithin farthest holes.now }
+    ensures slabs { IfOk result (λ v. AreSlabsOf (Without rects.now holes.now) v.items) }
+    ensures within { IfOk result (λ v. AreRectsWithin farthest v.items) }
+{
+    if holes.is_empty() {
+        // The sweep of a union passes over what lies under other rectangles.
+        let slabs = combine(alloc, rects, &[], Rule::Either)?;
+        return Ok(slabs);
+    }
+    let slabs = combine(alloc, rects, holes, Rule::Minus)?;
+    Ok(slabs)
+}
+
+/// The rectangle with x and y exchanged.
+fn turned(r: &Rect) -> Rect
+    ensures { result ≡ turned_rect r.now }
+{
+    Rect {
+        x0: r.y0,
+        y0: r.x0,
+        x1: r.y1,
+        y1: r.x1,
+    }
+}
+
 /// The rectangles with x and y exchanged.
 pub fn exchanged(alloc: Global, rects: &[Rect]) -> Result<Vec<Rect>, AllocError>
     ensures { IfOk result (λ v. v.items ≡ turned_rects rects.now) }
 {
-    rects
-        .iter()
-        .map(|r| Rect {
-            x0: r.y0,
-            y0: r.x0,
-            x1: r.y1,
-            y1: r.x1,
-        })
-        .collect(alloc)
+    rects.iter().map(turned).collect(alloc)
+}
+
+/// Exchanges x and y of each of the rectangles.
+pub fn exchange(rects: &mut Vec<Rect>)
+    ensures { rects.new.items ≡ turned_rects rects.old.items }
+{
+    for i in 0..rects.len() {
+        rects[i] = turned(&rects[i]);
+    }
 }

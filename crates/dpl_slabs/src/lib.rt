@@ -1,6 +1,7 @@
 //! Sets of squares, kept as canonical slabs.
 #![tactic(auto)]
 
+mod alone;
 mod blocks;
 mod combine;
 mod corners;

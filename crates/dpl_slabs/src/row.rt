@@ -1,7 +1,8 @@
 //! The slabs of bars side by side in one row.
 ghost use Rattle.std.specs.Prelude.{◌<◌, ◌↔◌, IfOk, IsTrue, length};
+ghost use Rattle.std.specs.List.{AllPairs};
 ghost use Rattle.dpl_spec.specs.Squares.{Covers};
-ghost use Rattle.dpl_spec.specs.Slabs.{AreSlabsOf, IsSolid};
+ghost use Rattle.dpl_spec.specs.Slabs.{AreSlabsOf, IsSolid, StandApart};
 ghost use Rattle.dpl_sweep.specs.Orders.{CornersRise};
 ghost use Rattle.dpl_slabs.specs.Rows.{AreLevel, IsBarJoined, IsRow};
 
@@ -50,12 +51,13 @@ fn add_bar(done: &mut Vec<Rect>, last: Rect, bar: &Rect) -> Result<Rect, AllocEr
     })
 }
 
-/// The canonical slabs of bars of one row, which go by left column.
+/// The canonical slabs of bars of one row, which go by left column: a column lies between any two.
 pub fn slabs_of_row(alloc: Global, row: &[Rect]) -> Result<Vec<Rect>, AllocError>
     requires some { 0 < length row.now }
     requires row { IsRow row.now }
     requires rise { CornersRise row.now }
-    ensures { IfOk result (λ v. AreSlabsOf (Covers row.now) v.items) }
+    ensures slabs { IfOk result (λ v. AreSlabsOf (Covers row.now) v.items) }
+    ensures apart { IfOk result (λ v. AllPairs StandApart v.items) }
 {
     let mut done = Vec::with_capacity(alloc, row.len())?;
     let mut last = row[0];

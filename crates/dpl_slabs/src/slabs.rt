@@ -7,6 +7,7 @@ ghost use Rattle.dpl_spec.specs.Zones.{at, turned};
 
 use crate::combine::{combine, exchanged};
 use crate::loops::rects_of_loops;
+use crate::slices::slabs_without;
 use crate::strips::{slabs_by_rows, slabs_of_rects};
 use dpl_base::{Loop, Pt, Rect};
 use dpl_sweep::{Rule, sort_by_corner};
@@ -14,11 +15,11 @@ use smallvec::SmallVec;
 use std::alloc::{AllocError, Global};
 use std::marker::Model;
 
-/// A set of squares. A contract sees its canonical slabs. A set of one rectangle that `Slabs::one` made takes no memory of
-/// its own.
+/// A set of squares. A contract sees its canonical slabs. A set that `Slabs::one` began takes no memory of its own up to two
+/// rectangles.
 #[derive(Drop)]
 pub struct Slabs {
-    rects: SmallVec<Rect, 1>,
+    rects: SmallVec<Rect, 2>,
 }
 
 impl Model for Slabs {
@@ -110,7 +111,7 @@ impl Slabs {
         requires holes { AreRectsWithin farthest holes.now }
         ensures { IfOk result (λ s. AreSlabsOf (λ p. Covers rects.now p × ¬ Covers holes.now p) s) }
     {
-        let rects = combine(alloc, rects, holes, Rule::Minus)?;
+        let rects = slabs_without(alloc, rects, holes)?;
         Ok(Slabs::of_canonical(rects))
     }
 

@@ -1,23 +1,30 @@
-//! A tall strip, slice by slice of its rows. What reaches through a slice is put together by columns first, so that a sweep holds what begins or ends there, and of the rest only what touches nothing.
-ghost use Rattle.std.specs.Prelude.{◌≤ℤ◌, IfOk, IfSome, OnOk};
-ghost use Rattle.std.specs.List.{Contains};
-ghost use Rattle.dpl_spec.specs.declared.Rect.{Rect};
+//! Many rectangles, without holes in them, slice by slice of their rows. What reaches through a slice is put together by columns first, so that a sweep holds what begins or ends there, and of the rest only what touches that.
+ghost use Rattle.std.specs.Prelude.{◌<◌, ◌≤ℤ◌, IfOk, IfSome, OnOk};
+ghost use Rattle.std.specs.List.{AllPairs};
 ghost use Rattle.dpl_spec.specs.Squares.{Covers};
-ghost use Rattle.dpl_spec.specs.Slabs.{AreSlabsOf};
+ghost use Rattle.dpl_spec.specs.Slabs.{StandApart, AreSlabsOf};
 ghost use Rattle.dpl_spec.specs.Loops.{farthest, IsRectWithin, AreRectsWithin};
-ghost use Rattle.dpl_slabs.specs.Slices.{InRows, IsPartOf, IsBar, AddsPart, AddsBars, ArePiecesBelow, ArePiecesOf};
+ghost use Rattle.dpl_slabs.specs.Rows.{IsRow};
+ghost use Rattle.dpl_slabs.specs.Slices.{InRows, Without, IsPartOf, AddsPart, IsCutTo, IsSliceOf, ArePiecesBelow, ArePiecesOf};
 
-use crate::combine::combine;
+use crate::alone::alone_of;
+use crate::combine::combine_without;
 use crate::row::slabs_of_row;
 use dpl_base::{FARTHEST, Rect};
-use dpl_sweep::{Rule, sort_by_corner};
+use dpl_sweep::{slabs_of, sort_by_corner};
 use std::alloc::{AllocError, Global};
 
-/// How many slices a strip is cut into at most.
+/// From how many rectangles and holes on they are swept slice by slice.
+pub const TALL: usize = 4096;
+
+/// How many slices there are at most.
 const SLICES: usize = 16;
 
-/// How many pieces there may be for each rectangle. Wires that stand apart, or cross others, and reach through many slices have one or more in each.
+/// How many pieces there may be for each rectangle and hole once they are joined. Wires that cross others make many.
 const PIECES: usize = 3;
+
+/// How many rectangles and holes are asked at most where they begin and end, before slices are cut.
+const ASKED: usize = 16_384;
 
 /// A row above all rectangles.
 const TOP: i64 = FARTHEST + 1;
@@ -57,45 +64,69 @@ fn add_part(
     Ok(())
 }
 
-/// Adds bars of the same rows, put together by columns.
-fn add_bars(
-    alloc: Global,
-    others: &mut Vec<Rect>,
-    bars: Vec<Rect>,
-    low: i64,
-    high: i64,
-) -> Result<(), AllocError>
-    requires { (r : Rect) → Contains bars.items r → IsBar low high r }
-    ensures { OnOk result (AddsBars bars.items others.old.items others.new.items) }
+/// The slabs of bars of the same rows.
+fn row_of(alloc: Global, bars: Vec<Rect>) -> Result<Vec<Rect>, AllocError>
+    requires { IsRow bars.items }
+    ensures slabs { IfOk result (λ v. AreSlabsOf (Covers bars.items) v.items) }
+    ensures apart { IfOk result (λ v. AllPairs StandApart v.items) }
 {
     if bars.is_empty() {
-        return Ok(());
+        return Ok(bars);
     }
     let mut bars = bars;
     sort_by_corner(&mut bars);
     let row = slabs_of_row(alloc, &bars)?;
-    others.extend_from_slice(&row)?;
-    Ok(())
+    Ok(row)
 }
 
-/// The slabs of the rectangles' squares in rows `low` to `high - 1`.
-fn slabs_of_slice(
+/// The parts of rectangles in rows `low` to `high - 1`: the bars among them, put together by columns, and the others.
+fn parts_of(
     alloc: Global,
     rects: &[Rect],
     low: i64,
     high: i64,
-) -> Result<Vec<Rect>, AllocError>
+) -> Result<(Vec<Rect>, Vec<Rect>), AllocError>
     requires { AreRectsWithin farthest rects.now }
-    ensures { IfOk result (λ v. AreSlabsOf (InRows low high (Covers rects.now)) v.items) }
+    ensures { IfOk result (λ v. IsCutTo low high rects.now v.0.items v.1.items) }
 {
     let mut bars = Vec::new(alloc);
     let mut others = Vec::new(alloc);
     for r in rects {
         add_part(&mut bars, &mut others, r, low, high)?;
     }
-    add_bars(alloc, &mut others, bars, low, high)?;
-    let slabs = combine(alloc, &others, &[], Rule::Either)?;
-    Ok(slabs)
+    let row = row_of(alloc, bars)?;
+    Ok((row, others))
+}
+
+/// All parts of rectangles in rows `low` to `high - 1`.
+fn slice_of(alloc: Global, rects: &[Rect], low: i64, high: i64) -> Result<Vec<Rect>, AllocError>
+    requires { AreRectsWithin farthest rects.now }
+    ensures { IfOk result (λ v. IsSliceOf low high rects.now v.items) }
+{
+    let (bars, mut parts) = parts_of(alloc, rects, low, high)?;
+    parts.extend_from_slice(&bars)?;
+    Ok(parts)
+}
+
+/// Pieces of the squares in rows `low` to `high - 1` that rectangles have and no hole has: bars that stand apart from all else, and the slabs of what is left.
+fn pieces_of_slice(
+    alloc: Global,
+    rects: &[Rect],
+    holes: &[Rect],
+    low: i64,
+    high: i64,
+) -> Result<Vec<Rect>, AllocError>
+    requires rects { AreRectsWithin farthest rects.now }
+    requires holes { AreRectsWithin farthest holes.now }
+    ensures { IfOk result (λ v. ArePiecesOf (InRows low high (Without rects.now holes.now)) v.items) }
+{
+    let (bars, mut parts) = parts_of(alloc, rects, low, high)?;
+    let holes = slice_of(alloc, holes, low, high)?;
+    let mut pieces = alone_of(alloc, &bars, &mut parts, &holes)?;
+    drop(bars);
+    let slabs = combine_without(alloc, &parts, &holes)?;
+    pieces.extend_from_slice(&slabs)?;
+    Ok(pieces)
 }
 
 /// Adds pieces of the squares from row `low` up to `high`, and says below which row all squares are in pieces now.
@@ -103,53 +134,108 @@ fn add_slice(
     alloc: Global,
     pieces: &mut Vec<Rect>,
     rects: &[Rect],
+    holes: &[Rect],
     low: i64,
     high: i64,
 ) -> Result<i64, AllocError>
-    requires within { AreRectsWithin farthest rects.now }
-    requires below { ArePiecesBelow low rects.now pieces.old.items }
-    ensures below { IfOk result (λ row. ArePiecesBelow row rects.now pieces.new.items) }
+    requires rects { AreRectsWithin farthest rects.now }
+    requires holes { AreRectsWithin farthest holes.now }
+    requires below { ArePiecesBelow low (Without rects.now holes.now) pieces.old.items }
+    ensures below { IfOk result (λ row. ArePiecesBelow row (Without rects.now holes.now) pieces.new.items) }
     ensures over { IfOk result (λ row. high ≤ℤ row) }
 {
     if high <= low {
         return Ok(low);
     }
-    let slabs = slabs_of_slice(alloc, rects, low, high)?;
-    pieces.extend_from_slice(&slabs)?;
+    let more = pieces_of_slice(alloc, rects, holes, low, high)?;
+    pieces.extend_from_slice(&more)?;
     Ok(high)
 }
 
-/// Rows that cut the rectangles' rows into slices, in which about as many of them begin or end.
-fn cuts(alloc: Global, rects: &[Rect]) -> Result<Vec<i64>, AllocError> {
-    let mut ends = Vec::with_capacity(alloc, rects.len().saturating_mul(2))?;
-    for r in rects {
-        ends.push(r.y0)?;
-        ends.push(r.y1)?;
+/// Adds the rows in which some rectangles begin and end, one of so many.
+fn add_ends(ends: &mut Vec<i64>, rects: &[Rect], of: usize) -> Result<(), AllocError>
+    requires { 0 < of }
+{
+    for i in (0..rects.len()).step_by(of) {
+        ends.push(rects[i].y0)?;
+        ends.push(rects[i].y1)?;
     }
+    Ok(())
+}
+
+/// Rows that cut the rows of rectangles and holes into slices, in which about as many of both begin or end.
+fn cuts(alloc: Global, rects: &[Rect], holes: &[Rect]) -> Result<Vec<i64>, AllocError> {
+    let of = rects.len().saturating_add(holes.len()) / ASKED + 1;
+    let mut ends = Vec::with_capacity(alloc, 2 * ASKED)?;
+    add_ends(&mut ends, rects, of)?;
+    add_ends(&mut ends, holes, of)?;
     ends.sort_unstable();
     let step = ends.len() / SLICES + 1;
-    let mut cuts = Vec::new(alloc);
+    let mut cuts = Vec::with_capacity(alloc, SLICES)?;
+    let mut last = -FARTHEST;
     for i in (step..ends.len()).step_by(step) {
-        cuts.push(ends[i])?;
+        if last < ends[i] {
+            last = ends[i];
+            cuts.push(last)?;
+        }
     }
     Ok(cuts)
 }
 
-/// Pieces of the rectangles' squares, of which no two share one, or none where slices would make too many of them.
-pub fn pieces_of_slices(alloc: Global, rects: &[Rect]) -> Result<Option<Vec<Rect>>, AllocError>
-    requires { AreRectsWithin farthest rects.now }
-    ensures { IfOk result (λ found. IfSome found (λ v. ArePiecesOf rects.now v.items)) }
+/// Pieces of the squares that rectangles have and no hole has, of which no two share one, or none where slices would make too many of them.
+fn pieces_of_slices(
+    alloc: Global,
+    rects: &[Rect],
+    holes: &[Rect],
+) -> Result<Option<Vec<Rect>>, AllocError>
+    requires rects { AreRectsWithin farthest rects.now }
+    requires holes { AreRectsWithin farthest holes.now }
+    ensures { IfOk result (λ found. IfSome found (λ v. ArePiecesOf (Without rects.now holes.now) v.items)) }
 {
-    let cuts = cuts(alloc, rects)?;
-    let most = rects.len().saturating_mul(PIECES);
+    let cuts = cuts(alloc, rects, holes)?;
+    let count = rects.len().saturating_add(holes.len());
+    let most = count.saturating_mul(PIECES);
+    let mut room = count;
     let mut pieces = Vec::new(alloc);
     let mut low = -FARTHEST;
     for &cut in &cuts {
-        low = add_slice(alloc, &mut pieces, rects, low, cut)?;
-        if pieces.len() > most {
-            return Ok(None);
+        low = add_slice(alloc, &mut pieces, rects, holes, low, cut)?;
+        if pieces.len() > room {
+            // A shape that reaches through many slices has a piece in each: they stand on one another.
+            pieces = slabs_of(alloc, pieces)?;
+            if pieces.len() > most {
+                return Ok(None);
+            }
+            room = pieces.len().saturating_mul(2).max(count);
         }
     }
-    add_slice(alloc, &mut pieces, rects, low, TOP)?;
+    add_slice(alloc, &mut pieces, rects, holes, low, TOP)?;
     Ok(Some(pieces))
+}
+
+/// The pieces of slices, or none where all is to be swept at once.
+fn sliced(alloc: Global, rects: &[Rect], holes: &[Rect]) -> Result<Option<Vec<Rect>>, AllocError>
+    requires rects { AreRectsWithin farthest rects.now }
+    requires holes { AreRectsWithin farthest holes.now }
+    ensures { IfOk result (λ found. IfSome found (λ v. ArePiecesOf (Without rects.now holes.now) v.items)) }
+{
+    if rects.len().saturating_add(holes.len()) < TALL {
+        return Ok(None);
+    }
+    pieces_of_slices(alloc, rects, holes)
+}
+
+/// The slabs of the squares that rectangles have and no hole has: where there are many of both, slice by slice.
+pub fn slabs_without(alloc: Global, rects: &[Rect], holes: &[Rect]) -> Result<Vec<Rect>, AllocError>
+    requires rects { AreRectsWithin farthest rects.now }
+    requires holes { AreRectsWithin farthest holes.now }
+    ensures slabs { IfOk result (λ v. AreSlabsOf (Without rects.now holes.now) v.items) }
+    ensures within { IfOk result (λ v. AreRectsWithin farthest v.items) }
+{
+    if let Some(pieces) = sliced(alloc, rects, holes)? {
+        let slabs = slabs_of(alloc, pieces)?;
+        return Ok(slabs);
+    }
+    let slabs = combine_without(alloc, rects, holes)?;
+    Ok(slabs)
 }

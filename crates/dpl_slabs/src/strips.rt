@@ -1,18 +1,17 @@
 //! The slabs of rectangles, strip by strip of rows.
-ghost use Rattle.std.specs.Prelude.{ℕ, ◌<◌, ◌≤◌, IfOk, IfSome, OnOk, length, take, drop};
+ghost use Rattle.std.specs.Prelude.{ℕ, ◌<◌, ◌≤◌, IfOk, OnOk, length, take, drop};
 ghost use Rattle.dpl_spec.specs.Squares.{Covers};
 ghost use Rattle.dpl_spec.specs.Slabs.{AreSlabsOf, IsCanonical};
 ghost use Rattle.dpl_spec.specs.Loops.{farthest, AreRectsWithin};
 ghost use Rattle.dpl_sweep.specs.Orders.{CornersRise};
-ghost use Rattle.dpl_slabs.specs.Slices.{ArePiecesOf};
 ghost use Rattle.dpl_slabs.specs.Strips.{LieBelow, AddsStrip};
 
-use crate::blocks::blocked;
-use crate::combine::combine;
+use crate::blocks::{has_tall_strip, pieces_of_blocks};
+use crate::combine::exchange;
 use crate::row::{is_row, slabs_of_row};
-use crate::slices::pieces_of_slices;
+use crate::slices::slabs_without;
 use dpl_base::Rect;
-use dpl_sweep::{Rule, slabs_of, sort_by_corner};
+use dpl_sweep::{slabs_of, sort_by_corner};
 use std::alloc::{AllocError, Global};
 
 /// How many rectangles, which go by first row, are in the lowest strip: a row lies between them and all others, and between no fewer and the others.
@@ -34,21 +33,7 @@ pub fn strip_length(rects: &[Rect]) -> usize
     rects.len()
 }
 
-/// From how many rectangles on a strip is swept slice by slice.
-pub const TALL: usize = 4096;
-
-/// The pieces of a strip's slices, or none where the strip is to be swept at once.
-fn sliced(alloc: Global, strip: &[Rect]) -> Result<Option<Vec<Rect>>, AllocError>
-    requires { AreRectsWithin farthest strip.now }
-    ensures { IfOk result (λ found. IfSome found (λ v. ArePiecesOf strip.now v.items)) }
-{
-    if strip.len() < TALL {
-        return Ok(None);
-    }
-    pieces_of_slices(alloc, strip)
-}
-
-/// The slabs of a strip: bars of one row are put together by column, all else is swept, where there are many of them slice by slice.
+/// The slabs of a strip: bars of one row are put together by column, all else is swept.
 fn slabs_of_strip(alloc: Global, strip: &[Rect]) -> Result<Vec<Rect>, AllocError>
     requires some { 0 < length strip.now }
     requires rise { CornersRise strip.now }
@@ -60,11 +45,7 @@ fn slabs_of_strip(alloc: Global, strip: &[Rect]) -> Result<Vec<Rect>, AllocError
         let bars = slabs_of_row(alloc, strip)?;
         return Ok(bars);
     }
-    if let Some(pieces) = sliced(alloc, strip)? {
-        let slabs = slabs_of(alloc, pieces)?;
-        return Ok(slabs);
-    }
-    let slabs = combine(alloc, strip, &[], Rule::Either)?;
+    let slabs = slabs_without(alloc, strip, &[])?;
     Ok(slabs)
 }
 
@@ -99,6 +80,26 @@ pub fn slabs_by_rows(alloc: Global, rects: &[Rect]) -> Result<Vec<Rect>, AllocEr
     Ok(slabs)
 }
 
+/// The canonical slabs of rectangles in any order, block by block of columns where there are some between them. They are exchanged where they stand, so that there is one list of them.
+fn slabs_by_blocks(alloc: Global, rects: Vec<Rect>) -> Result<Vec<Rect>, AllocError>
+    requires { AreRectsWithin farthest rects.items }
+    ensures slabs { IfOk result (λ v. AreSlabsOf (Covers rects.items) v.items) }
+    ensures within { IfOk result (λ v. AreRectsWithin farthest v.items) }
+{
+    let mut rects = rects;
+    exchange(&mut rects);
+    sort_by_corner(&mut rects);
+    if let Some(pieces) = pieces_of_blocks(alloc, &rects)? {
+        drop(rects);
+        let slabs = slabs_of(alloc, pieces)?;
+        return Ok(slabs);
+    }
+    exchange(&mut rects);
+    sort_by_corner(&mut rects);
+    let slabs = slabs_by_rows(alloc, &rects)?;
+    Ok(slabs)
+}
+
 /// The canonical slabs of rectangles, in any order, that may overlap: block by block of columns where strips of rows would be tall.
 pub fn slabs_of_rects(alloc: Global, rects: Vec<Rect>) -> Result<Vec<Rect>, AllocError>
     requires { AreRectsWithin farthest rects.items }
@@ -107,9 +108,8 @@ pub fn slabs_of_rects(alloc: Global, rects: Vec<Rect>) -> Result<Vec<Rect>, Allo
 {
     let mut rects = rects;
     sort_by_corner(&mut rects);
-    if let Some(pieces) = blocked(alloc, &rects)? {
-        drop(rects);
-        let slabs = slabs_of(alloc, pieces)?;
+    if has_tall_strip(&rects) {
+        let slabs = slabs_by_blocks(alloc, rects)?;
         return Ok(slabs);
     }
     let slabs = slabs_by_rows(alloc, &rects)?;

@@ -1,4 +1,3 @@
-use Rattle.std.proofs.Common.{arith}
 use Rattle.dpl_slabs.proofs.StripLaws.{rise-drop}
 use Rattle.dpl_slabs.proofs.blocks.has_tall_strip.Goals as goal
 

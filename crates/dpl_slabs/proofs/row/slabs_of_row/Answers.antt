@@ -1,6 +1,6 @@
 use Rattle.std.proofs.Common.{◌<◌, length, rules, arith}
 use Rattle.std.proofs.lemmas.List.{get_or_default}
-use Rattle.dpl_slabs.proofs.RowLaws.{bars-first, bars-next, bars-all}
+use Rattle.dpl_slabs.proofs.RowLaws.{bars-first, bars-next, bars-all, bars-apart}
 use Rattle.dpl_slabs.proofs.row.slabs_of_row.Goals as goal
 
 pub loop-i-init : goal.loop-i-init
@@ -11,5 +11,8 @@ loop-i-preserved c =
     let here : c.loop-i.i < length c.args.row.now = search rules in
     bars-next c.args.row.now c.requires.row c.requires.rise c.loop-i.i _ _ _ _ _ here (get_or_default _ _ _ _ here) c.loop-i.invariant c.in_ok-last.ensures
 
-pub returns : goal.returns
-returns c = rw c.in_ok-push.ensures.items (bars-all c.args.row.now c.loop-i.i _ _ (omega arith) c.loop-i.invariant)
+pub returns-clause-slabs : goal.returns-clause-slabs
+returns-clause-slabs c = rw c.in_ok-push.ensures.items (bars-all c.args.row.now c.loop-i.i _ _ (omega arith) c.loop-i.invariant)
+
+pub returns-clause-apart : goal.returns-clause-apart
+returns-clause-apart c = rw c.in_ok-push.ensures.items (bars-apart c.args.row.now c.loop-i.i _ _ c.loop-i.invariant)

@@ -1,0 +1,86 @@
+//! Bars of a slice of rows that stand apart from all else in it.
+ghost use Rattle.std.specs.Prelude.{◌⊎◌, IfOk};
+ghost use Rattle.std.specs.List.{AllPairs, Contains};
+ghost use Rattle.std.specs.List.Sorted.{IsPermutation};
+ghost use Rattle.dpl_spec.specs.declared.Rect.{Rect};
+ghost use Rattle.dpl_spec.specs.Slabs.{StandApart};
+ghost use Rattle.dpl_slabs.specs.Alone.{LeftsRise, ReachTo, IsFrontAt, AreAlone};
+
+use dpl_base::Rect;
+use std::alloc::{AllocError, Global};
+
+/// How many rectangles, by left column, were passed, and up to which column they reach.
+#[derive(Clone, Copy, Drop)]
+struct Front {
+    passed: usize,
+    reach: i64,
+}
+
+/// Goes on past all rectangles that begin in the column or left of it.
+fn advanced(rects: &[Rect], front: Front, x: i64) -> Front
+    requires rise { LeftsRise rects.now }
+    requires reach { ReachTo rects.now front.passed front.reach }
+    ensures { IsFrontAt rects.now x result.passed result.reach }
+{
+    let mut reach = front.reach;
+    for i in front.passed..rects.len() {
+        if x < rects[i].x0 {
+            return Front { passed: i, reach };
+        }
+        reach = reach.max(rects[i].x1);
+    }
+    Front {
+        passed: rects.len(),
+        reach,
+    }
+}
+
+/// Sorts by left column.
+fn sort_by_left(rects: &mut Vec<Rect>)
+    ensures same { IsPermutation rects.old.items rects.new.items }
+    ensures rise { LeftsRise rects.new.items }
+{
+    rects.sort_unstable_by_key(|r| r.x0);
+}
+
+/// The rectangles of both lists, by left column.
+fn by_left(alloc: Global, others: &[Rect], gaps: &[Rect]) -> Result<Vec<Rect>, AllocError>
+    ensures all { IfOk result (λ v. (r : Rect) → (Contains others.now r ⊎ Contains gaps.now r) → Contains v.items r) }
+    ensures rise { IfOk result (λ v. LeftsRise v.items) }
+{
+    let mut near = Vec::with_capacity(alloc, others.len().saturating_add(gaps.len()))?;
+    near.extend_from_slice(others)?;
+    near.extend_from_slice(gaps)?;
+    sort_by_left(&mut near);
+    Ok(near)
+}
+
+/// The bars that stand apart from all others and all gaps. The rest of the bars is added to the others.
+pub fn alone_of(
+    alloc: Global,
+    bars: &[Rect],
+    others: &mut Vec<Rect>,
+    gaps: &[Rect],
+) -> Result<Vec<Rect>, AllocError>
+    requires { AllPairs StandApart bars.now }
+    ensures { IfOk result (λ v. AreAlone bars.now gaps.now others.old.items others.new.items v.items) }
+{
+    let mut alone = Vec::new(alloc);
+    if bars.is_empty() {
+        return Ok(alone);
+    }
+    let near = by_left(alloc, others, gaps)?;
+    let mut front = Front {
+        passed: 0,
+        reach: i64::MIN,
+    };
+    for bar in bars {
+        front = advanced(&near, front, bar.x1);
+        if front.reach < bar.x0 {
+            alone.push(*bar)?;
+        } else {
+            others.push(*bar)?;
+        }
+    }
+    Ok(alone)
+}
