@@ -1,10 +1,14 @@
 -- Corners of slabs, in order.
-use Rattle.std.proofs.Common.{◌≡◌, ℕ, zero, suc, ◌+◌, ◌<◌, ◌⊎◌, inl, inr, List, [], ◌∷◌, ◌++◌, length, get_or, take, map, refl, sym, ap, ◌∙◌, subst, arith}
-use Rattle.std.specs.Prelude.{◌↔◌, ℤ, ◌≤ℤ◌, ◌<ℤ◌}
-use Rattle.std.specs.List.{AllZip, Contains}
-use Rattle.std.specs.List.Sorted.{IsPermutation}
-use Rattle.std.proofs.lemmas.List.Sorted.{Contains-permutation, IsPermutation-sym}
-use Rattle.std.proofs.lemmas.Int.{ints, by_lt_z}
+use Rattle.std.proofs.Common.{◌≡◌, ℕ, zero, suc, ◌+◌, ◌<◌, ◌⊎◌, inl, inr, List, [], ◌∷◌, ◌++◌, length, get_or, take, map, Option, None, Some, Err, refl, sym, ap, ◌∙◌, subst, arith}
+use Rattle.std.specs.Prelude.{◌↔◌, ℤ, MatchOption, IfNone}
+use Rattle.std.specs.List.{AllZip, Contains, HoldsAt, zip}
+use Rattle.std.specs.List.Sorted.{IsPermutation, IsBinarySearchResult}
+use Rattle.std.specs.Ordering.{int_cmp}
+use Rattle.std.specs.Cmp.{IsTotalOrder}
+use Rattle.std.specs.declared.cmp.Ordering.TheVariants.{Equal}
+use Rattle.std.proofs.lemmas.Cmp.{int_cmp_total, then_total, on_total, tied_itself}
+use Rattle.std.proofs.lemmas.Map.Lookups.{exact_pairs, exact_signed}
+use Rattle.std.proofs.lemmas.List.Sorted.{Contains-permutation, IsPermutation-sym, searchable_from_sorted}
 use Rattle.std.proofs.lemmas.Bool.{cases_eq, cases_lt}
 use Rattle.std.proofs.lemmas.List.{get_or_default}
 use Rattle.std.proofs.Math.Seq.{take-suc}
@@ -13,47 +17,41 @@ use Rattle.dpl_spec.specs.declared.Rect.{Rect}
 use Rattle.dpl_spec.proofs.Ordered.{Contains-head, Contains-later, Contains-cases, Contains-nil}
 use Rattle.dpl_piece.specs.declared.corner.Corner.{Corner}
 use Rattle.dpl_piece.specs.declared.corner.Kind.{Kind}
-use Rattle.dpl_spec.specs.declared.Zone.{Zone}
 use Rattle.dpl_piece.specs.declared.corner.Kind.TheVariants.{LowerLeft, LowerRight, UpperLeft}
-use Rattle.dpl_piece.specs.declared.origin.Origin.{Origin}
-use Rattle.dpl_piece.specs.Corners.{corner_at, corner_of, IsFirstCorner, IsCornerOf, IsBelow, IsBroken, RiseByCorner, StandBeside, StandBroken, AreFound}
+use Rattle.dpl_piece.specs.declared.piece.Origin.{Origin}
+use Rattle.dpl_piece.specs.Corners.{corner_at, corner_of, row_cmp, IsFirstCorner, IsBroken, IsAnswer, RiseByCorner}
 
--- a corner that stands no later than one before a point comes before the point too
-pub below-earlier : (a b : Corner) (x y : ℤ) → (a.y <ℤ b.y) ⊎ ((a.y ≡ b.y) × (a.x ≤ℤ b.x)) → IsBelow b x y → IsBelow a x y
-below-earlier a b x y (inl l) (inl m) = inl (omega (arith, ints, l, m))
-below-earlier a b x y (inl l) (inr (e, m)) = inl (omega (arith, ints, l, e))
-below-earlier a b x y (inr (e, l)) (inl m) = inl (omega (arith, ints, e, m))
-below-earlier a b x y (inr (e, l)) (inr (f, m)) = inr (e ∙ f, omega (arith, ints, l, m))
+rows_total : IsTotalOrder row_cmp
+rows_total = then_total (on_total (λ t. t.0) int_cmp_total) (on_total (λ t. t.1) int_cmp_total)
 
-not_below_itself : (a : Corner) (x y : ℤ) → IsBelow a x y → a.x ≡ x → a.y ≡ y → ⊥
-not_below_itself a x y (inl l) e f = omega (arith, ints, l, f)
-not_below_itself a x y (inr (g, l)) e f = omega (arith, ints, l, e)
+-- a corner that the order doesn't tell from a point is at the point
+corner-is : (c : Corner) (x y : ℤ) → row_cmp (c.y, c.x) (y, x) ≡ Equal → c ≡ corner_at x y c.part
+corner-is c x y e = ap (λ (p : ℤ × ℤ). corner_at p.1 p.0 c.part) (exact_pairs int_cmp int_cmp exact_signed exact_signed (c.y, c.x) (y, x) e)
 
-stuck : (a b : Corner) (x y : ℤ) → (a.y <ℤ b.y) ⊎ ((a.y ≡ b.y) × (a.x ≤ℤ b.x)) → (IsBelow a x y → ⊥) → (a.x ≡ x → a.y ≡ y → ⊥) → b.x ≡ x → b.y ≡ y → ⊥
-stuck a b x y (inl l) above other e f = above (inl (omega (arith, ints, l, f)))
-stuck a b x y (inr (g, l)) above other e f =
-    by_lt_z a.x b.x (λ m. above (inr (g ∙ f, omega (arith, ints, m, e)))) (λ m. other (omega (arith, ints, l, m, e)) (g ∙ f))
+-- what a search finds is a corner at the point
+pub found-at : (cs : List Corner) (x y : ℤ) (i : ℕ) (z : Corner) → i < length cs → HoldsAt (λ c. row_cmp (c.y, c.x) (y, x) ≡ Equal) cs i → Contains cs (corner_at x y (get_or cs i z).part)
+found-at cs x y i z i_in equal = (i, i_in, get_or_default cs i (corner_at x y (get_or cs i z).part) z i_in ∙ corner-is (get_or cs i z) x y (equal z))
 
--- no corner is at a point that stands between a corner before it and one that isn't
-pub none-found : (cs : List Corner) (n : ℕ) (x y : ℤ) → RiseByCorner cs → ((k : ℕ) (d : Corner) → k < n → IsBelow (get_or cs k d) x y) → (n < length cs → (d : Corner) → IsBelow (get_or cs n d) x y → ⊥)
-    → (n < length cs → (d : Corner) → (get_or cs n d).x ≡ x → (get_or cs n d).y ≡ y → ⊥) → (k : ℕ) → Contains cs (corner_at x y k) → ⊥
-none-found cs n x y rise below above other k (j, j_in, is) =
+-- no corner is at a point that stands between those below it and those above
+pub none-at : (cs : List Corner) (x y : ℤ) (i : ℕ) → RiseByCorner cs → IsBinarySearchResult (λ c. row_cmp (c.y, c.x) (y, x)) cs (Err i) → (k : ℕ) → Contains cs (corner_at x y k) → ⊥
+none-at cs x y i rise parted k (j, j_in, is) =
     let c : Corner = corner_at x y k in
-    elim (cases_lt j n) [
-      | inl l ↦ not_below_itself (get_or cs j c) x y (below j c l) (ap (λ t. let u : Corner = t in u.x) is) (ap (λ t. let u : Corner = t in u.y) is)
-      | inr m ↦ (let n_in : n < length cs = omega (arith, m, j_in) in
-          stuck (get_or cs n c) (get_or cs j c) x y (rise n j c m j_in) (above n_in c) (other n_in c) (ap (λ t. let u : Corner = t in u.x) is) (ap (λ t. let u : Corner = t in u.y) is))
+    let (below, above) = parted (searchable_from_sorted rows_total (λ e. (e.y, e.x)) cs (y, x) rise) in
+    let tied : row_cmp ((get_or cs j c).y, (get_or cs j c).x) (y, x) ≡ Equal = subst (λ e. row_cmp (e.y, e.x) (y, x) ≡ Equal) (sym is) (tied_itself rows_total (y, x)) in
+    elim (cases_lt j i) [
+      | inl l ↦ (let less = below j c (omega arith) l in cc)
+      | inr m ↦ (let more = above j c m j_in in cc)
     ]
 
--- the corners of one more part
-Contains-map : (f : Rect → Corner) (rs : List Rect) (c : Corner) → Contains (map f rs) c → (r : Rect) × Contains rs r × (f r ≡ c)
+-- the elements of a mapped list
+pub Contains-map : {A B : Type 0} (f : A → B) (rs : List A) (c : B) → Contains (map f rs) c → (r : A) × Contains rs r × (f r ≡ c)
 Contains-map f [] c h = absurd (Contains-nil c h)
 Contains-map f (r ∷ rs) c h = elim (Contains-cases (f r) c (map f rs) h) [
   | inl e ↦ (r, Contains-head r rs, e)
   | inr later ↦ (let (s, s_in, e) = Contains-map f rs c later in (s, Contains-later r s rs s_in, e))
 ]
 
-map-Contains : (f : Rect → Corner) (rs : List Rect) (r : Rect) → Contains rs r → Contains (map f rs) (f r)
+pub map-Contains : {A B : Type 0} (f : A → B) (rs : List A) (r : A) → Contains rs r → Contains (map f rs) (f r)
 map-Contains f [] r h = absurd (Contains-nil r h)
 map-Contains f (s ∷ rs) r h = elim (Contains-cases s r rs h) [
   | inl e ↦ subst (λ t. Contains (f s ∷ map f rs) (f t)) e (Contains-head (f s) (map f rs))
@@ -68,9 +66,6 @@ corner-part : (kind : Kind) (k : ℕ) (r : Rect) → (corner_of kind k r).part �
 corner-part LowerLeft k r = refl
 corner-part LowerRight k r = refl
 corner-part UpperLeft k r = refl
-
-pub corners-none : (kind : Kind) (parts : List (List Rect)) (origins : List Origin) (c : Corner) → Contains [] c ↔ IsFirstBroken kind parts origins 0 c
-corners-none kind parts origins c = (λ h. absurd (Contains-nil c h), λ ((k, r, l, r_in, is), broken). absurd (omega (arith, l)))
 
 module _ (kind : Kind) (parts : List (List Rect)) (origins : List Origin) (n : ℕ) (old : List Corner) (before : (c : Corner) → Contains old c ↔ IsFirstBroken kind parts origins n c) where
   earlier : (c : Corner) → IsFirstBroken kind parts origins n c → IsFirstBroken kind parts origins (n + 1) c
@@ -102,16 +97,7 @@ module _ (kind : Kind) (parts : List (List Rect)) (origins : List Origin) (n : �
         ]),
       )
 
--- where the corner at n comes before a point, so do all up to it
-pub all-below : (cs : List Corner) (n : ℕ) (x y : ℤ) → RiseByCorner cs → n < length cs → (e : Corner) → IsBelow (get_or cs n e) x y → (k : ℕ) (d : Corner) → k < n + 1 → IsBelow (get_or cs k d) x y
-all-below cs n x y rise n_in e h k d l =
-    let same : get_or cs n e ≡ get_or cs n d = get_or_default cs n e d n_in in
-    below-earlier (get_or cs k d) (get_or cs n d) x y (rise k n d (omega (arith, l)) n_in) (subst (λ c. IsBelow c x y) same h)
-
 -- lists place by place
-pub zip-none : {A B : Type 0} (R : A → B → Type 0) → AllZip R [] []
-zip-none R = tt
-
 pub zip-push : {A B : Type 0} (R : A → B → Type 0) (xs : List A) (ys : List B) (x : A) (y : B) → AllZip R xs ys → R x y → AllZip R (xs ++ x ∷ []) (ys ++ y ∷ [])
 zip-push R [] [] x y h r = (r, tt)
 zip-push R [] (b ∷ ys) x y h r = absurd h
@@ -131,33 +117,20 @@ corners-sorted kind parts origins old new same h c = (
   λ g. Contains-permutation old new c same ((h c).1 g),
 )
 
-abbrev pub AreCornersOf : Kind → List (List Rect) → List Origin → List Corner → Type 0
-AreCornersOf kind parts origins cs = (c : Corner) → Contains cs c ↔ (IsCornerOf kind parts c × IsBroken origins c.part)
+-- answers to two questions that the same numbers answer
+pub answer-same : (P Q : ℕ → Type 0) → ((k : ℕ) → P k ↔ Q k) → (known : Option ℕ) → IsAnswer P known → IsAnswer Q known
+answer-same P Q same None none = λ k q. none k ((same k).1 q)
+answer-same P Q same (Some k) p = (same k).0 p
 
-module _ (ll lr ul : List Corner) (parts : List (List Rect)) (origins : List Origin) (z : Zone) (side : ℕ × ℕ) (a : AreCornersOf LowerLeft parts origins ll) (b : AreCornersOf LowerRight parts origins lr) (e : AreCornersOf UpperLeft parts origins ul) where
-  pub found-to : StandBroken parts origins z side → AreFound ll lr ul z.rect side
-  found-to ((first, second), one, two) = (
-    elim first [ inl h ↦ inl ((b _).1 (h, one)) | inr h ↦ inr ((e _).1 (h, one)) ],
-    elim second [ inl h ↦ inl ((a _).1 (h, two)) | inr h ↦ inr ((a _).1 (h, two)) ],
-  )
+-- where no number has the first of two properties, and some number has either, some has the second
+pub some-other : (P Q : ℕ → Type 0) (known : Option ℕ) → IsAnswer P known → (k : ℕ) × (P k ⊎ Q k) → IfNone known ((k : ℕ) × Q k)
+some-other P Q None none (k, either) = elim either [ inl p ↦ absurd (none k p) | inr q ↦ (k, q) ]
+some-other P Q (Some k) p some = tt
 
-  pub found-from : AreFound ll lr ul z.rect side → StandBeside parts z side
-  found-from (first, second) = (
-    elim first [ inl h ↦ inl ((b _).0 h).0 | inr h ↦ inr ((e _).0 h).0 ],
-    elim second [ inl h ↦ inl ((a _).0 h).0 | inr h ↦ inr ((a _).0 h).0 ],
-  )
-
-pub not-at : (cs : List Corner) (n : ℕ) (x y : ℤ) (z : Corner) → n < length cs → (((get_or cs n z).x ≡ x) × ((get_or cs n z).y ≡ y) → ⊥) → (d : Corner) → (get_or cs n d).x ≡ x → (get_or cs n d).y ≡ y → ⊥
-not-at cs n x y z n_in none d e f =
-    let same : get_or cs n z ≡ get_or cs n d = get_or_default cs n z d n_in in
-    none (ap (λ t. let u : Corner = t in u.x) same ∙ e, ap (λ t. let u : Corner = t in u.y) same ∙ f)
-
-corner-is : (c : Corner) (x y : ℤ) → c.x ≡ x → c.y ≡ y → c ≡ corner_at x y c.part
-corner-is c x y e f = ap (λ u. corner_at u c.y c.part) e ∙ ap (λ u. corner_at x u c.part) f
-
-pub found-at : (cs : List Corner) (n : ℕ) (x y : ℤ) (z : Corner) → n < length cs → (get_or cs n z).x ≡ x → (get_or cs n z).y ≡ y → Contains cs (corner_at x y (get_or cs n z).part)
-found-at cs n x y z n_in e f =
-    (n, n_in, get_or_default cs n (corner_at x y (get_or cs n z).part) z n_in ∙ corner-is (get_or cs n z) x y e f)
+-- a number that was known to have the first property, or else has the second
+pub first-or-other : (P Q : ℕ → Type 0) (known : Option ℕ) (n : ℕ) → IsAnswer P known → MatchOption known (Q n) (λ k. n ≡ k) → P n ⊎ Q n
+first-or-other P Q None n none q = inr q
+first-or-other P Q (Some k) n p same = inl (subst P (sym same) p)
 
 pub zip-length : {A B : Type 0} (R : A → B → Type 0) (xs : List A) (ys : List B) → AllZip R xs ys → length xs ≡ length ys
 zip-length R [] [] h = refl
@@ -171,14 +144,15 @@ zip-at R (x ∷ xs) [] k d e h l = absurd h
 zip-at R (x ∷ xs) (y ∷ ys) zero d e h l = h.0
 zip-at R (x ∷ xs) (y ∷ ys) (suc k) d e h l = zip-at R xs ys k d e h.1 (omega (arith, l))
 
-pub zip-weaker : {A B : Type 0} (R S : A → B → Type 0) → ((x : A) (y : B) → R x y → S x y) → (xs : List A) (ys : List B) → AllZip R xs ys → AllZip S xs ys
-zip-weaker R S weaker [] [] h = tt
-zip-weaker R S weaker [] (y ∷ ys) h = absurd h
-zip-weaker R S weaker (x ∷ xs) [] h = absurd h
-zip-weaker R S weaker (x ∷ xs) (y ∷ ys) h = (weaker x y h.0, zip-weaker R S weaker xs ys h.1)
-
 pub zip-from : {A B : Type 0} (R : A → B → Type 0) (xs : List A) (ys : List B) → length xs ≡ length ys → ((k : ℕ) (d : A) (e : B) → k < length xs → R (get_or xs k d) (get_or ys k e)) → AllZip R xs ys
 zip-from R [] [] same h = tt
 zip-from R [] (y ∷ ys) same h = absurd (omega (arith, same))
 zip-from R (x ∷ xs) [] same h = absurd (omega (arith, same))
 zip-from R (x ∷ xs) (y ∷ ys) same h = (h 0 x y (omega arith), zip-from R xs ys (omega (arith, same)) (λ k d e l. h (suc k) d e (omega (arith, l))))
+
+pub zip-both : {A B C : Type 0} (R : A → B → Type 0) (S : A → C → Type 0) (xs : List A) (ys : List B) (zs : List C) → AllZip R xs ys → AllZip S xs zs → AllZip (λ x p. R x p.0 × S x p.1) xs (zip ys zs)
+zip-both R S [] [] zs g h = tt
+zip-both R S [] (y ∷ ys) zs g h = absurd g
+zip-both R S (x ∷ xs) [] zs g h = absurd g
+zip-both R S (x ∷ xs) (y ∷ ys) [] g h = absurd h
+zip-both R S (x ∷ xs) (y ∷ ys) (z ∷ zs) g h = ((g.0, h.0), zip-both R S xs ys zs g.1 h.1)

@@ -1,12 +1,9 @@
-pub mod Orders
 pub mod CornerLaws
 pub mod Beside
 pub mod Stands
-pub mod Rests
-pub mod OwnerLaws
 pub mod Regions
-pub mod Whole
+pub mod Broken
+pub mod Sorted
+pub mod Turns
+pub mod Sides
 pub mod Cuts
-pub mod Weaves
-pub mod Marks
-pub mod Lefts

@@ -1,13 +1,16 @@
 -- Corners of slabs, and the slabs on the two sides of a zone.
-use Rattle.std.specs.Prelude.{◌≡◌, ℕ, ◌<◌, ◌≤◌, ◌⊎◌, ℤ, ◌≤ℤ◌, ◌<ℤ◌, List, [], length, slice_index_or}
+use Rattle.std.specs.Prelude.{◌≡◌, ℕ, ◌<◌, ◌⊎◌, ℤ, List, [], length, slice_index_or, Option, MatchOption}
+use Rattle.std.specs.Ordering.{int_cmp, ordering_then}
+use Rattle.std.specs.declared.cmp.Ordering.{Ordering}
+use Rattle.std.specs.List.Sorted.{IsSortedByKey}
 use Rattle.std.specs.List.{Contains}
 use Rattle.dpl_spec.specs.declared.Rect.{Rect}
 use Rattle.dpl_spec.specs.declared.Zone.{Zone}
 use Rattle.dpl_piece.specs.declared.corner.Corner.{Corner}
 use Rattle.dpl_piece.specs.declared.corner.Kind.{Kind}
 use Rattle.dpl_piece.specs.declared.corner.Kind.TheVariants.{LowerLeft, LowerRight, UpperLeft}
-use Rattle.dpl_piece.specs.declared.origin.Origin.{Origin}
-use Rattle.dpl_piece.specs.declared.origin.Origin.TheVariants.{Broken}
+use Rattle.dpl_piece.specs.declared.piece.Origin.{Origin}
+use Rattle.dpl_piece.specs.declared.piece.Origin.TheVariants.{Broken}
 
 abbrev pub corner_at : ℤ → ℤ → ℕ → Corner
 corner_at x y k = record { x = x; y = y; part = k }
@@ -24,18 +27,28 @@ IsFirstCorner kind parts n c = (k : ℕ) × (r : Rect) × (k < n) × Contains (s
 abbrev pub IsCornerOf : Kind → List (List Rect) → Corner → Type 0
 IsCornerOf kind parts c = IsFirstCorner kind parts (length parts) c
 
--- the corner comes before the point, by row and then by column
-abbrev pub IsBelow : Corner → ℤ → ℤ → Type 0
-IsBelow c x y = (c.y <ℤ y) ⊎ ((c.y ≡ y) × (c.x <ℤ x))
+-- by row, and then by column
+abbrev pub row_cmp : (ℤ × ℤ) → (ℤ × ℤ) → Ordering
+row_cmp p q = ordering_then (int_cmp p.0 q.0) (int_cmp p.1 q.1)
 
 abbrev pub RiseByCorner : List Corner → Type 0
-RiseByCorner cs = (i j : ℕ) (d : Corner) → i ≤ j → j < length cs → ((slice_index_or cs i d).y <ℤ (slice_index_or cs j d).y) ⊎ (((slice_index_or cs i d).y ≡ (slice_index_or cs j d).y) × ((slice_index_or cs i d).x ≤ℤ (slice_index_or cs j d).x))
+RiseByCorner cs = IsSortedByKey (λ c. (c.y, c.x)) row_cmp cs
 
--- the zone's lower left corner is the lower right or the upper left one of a slab of part number side.0, and its lower right or upper left corner is the lower left one of a slab of part number side.1
+-- a number with the property, or none where no number has it
+abbrev pub IsAnswer : (ℕ → Type 0) → Option ℕ → Type 0
+IsAnswer P found = MatchOption found ((k : ℕ) → P k → ⊥) P
+
+-- the zone's lower left corner is the lower right or the upper left one of a slab of part number k
+abbrev pub StandsBefore : List (List Rect) → Zone → ℕ → Type 0
+StandsBefore parts z k = IsCornerOf LowerRight parts (corner_at z.rect.x0 z.rect.y0 k) ⊎ IsCornerOf UpperLeft parts (corner_at z.rect.x0 z.rect.y0 k)
+
+-- the zone's lower right or upper left corner is the lower left one of a slab of part number k
+abbrev pub StandsAfter : List (List Rect) → Zone → ℕ → Type 0
+StandsAfter parts z k = IsCornerOf LowerLeft parts (corner_at z.rect.x1 z.rect.y0 k) ⊎ IsCornerOf LowerLeft parts (corner_at z.rect.x0 z.rect.y1 k)
+
+-- part number side.0 stands before the zone, and part number side.1 after it
 abbrev pub StandBeside : List (List Rect) → Zone → ℕ × ℕ → Type 0
-StandBeside parts z side =
-    (IsCornerOf LowerRight parts (corner_at z.rect.x0 z.rect.y0 side.0) ⊎ IsCornerOf UpperLeft parts (corner_at z.rect.x0 z.rect.y0 side.0))
-    × (IsCornerOf LowerLeft parts (corner_at z.rect.x1 z.rect.y0 side.1) ⊎ IsCornerOf LowerLeft parts (corner_at z.rect.x0 z.rect.y1 side.1))
+StandBeside parts z side = StandsBefore parts z side.0 × StandsAfter parts z side.1
 
 -- a part of this number is broken
 abbrev pub IsBroken : List Origin → ℕ → Type 0
@@ -45,8 +58,6 @@ IsBroken origins k = (k < length origins) × (slice_index_or origins k Broken �
 abbrev pub StandBroken : List (List Rect) → List Origin → Zone → ℕ × ℕ → Type 0
 StandBroken parts origins z side = StandBeside parts z side × IsBroken origins side.0 × IsBroken origins side.1
 
--- the parts have the corners, by lists of corners
-abbrev pub AreFound : List Corner → List Corner → List Corner → Rect → ℕ × ℕ → Type 0
-AreFound lower_left lower_right upper_left z side =
-    (Contains lower_right (corner_at z.x0 z.y0 side.0) ⊎ Contains upper_left (corner_at z.x0 z.y0 side.0))
-    × (Contains lower_left (corner_at z.x1 z.y0 side.1) ⊎ Contains lower_left (corner_at z.x0 z.y1 side.1))
+-- a slab of a broken part of number k has such a corner at the point
+abbrev pub HasCornerAt : Kind → List (List Rect) → List Origin → ℤ → ℤ → ℕ → Type 0
+HasCornerAt kind parts origins x y k = IsCornerOf kind parts (corner_at x y k) × IsBroken origins k

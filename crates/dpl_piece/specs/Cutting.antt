@@ -1,5 +1,5 @@
 -- The pieces of a layer as one value.
-use Rattle.std.specs.Prelude.{◌≡◌, ℕ, ◌<◌, ◌≤◌, List, length, map}
+use Rattle.std.specs.Prelude.{◌≡◌, ℕ, ◌<◌, ◌≤◌, List, length}
 use Rattle.std.specs.List.{All}
 use Rattle.dpl_spec.specs.declared.Pt.{Pt}
 use Rattle.dpl_spec.specs.declared.Rect.{Rect}
@@ -42,6 +42,3 @@ AreTheirZones features zones = (rule overlap : ℕ) × (1 ≤ overlap) × AreZon
 -- the pieces that the zones leave of each layer whose features these are
 abbrev pub AreTheirPieces : List (List Rect) → List Zone → CutPieces → Type 0
 AreTheirPieces features zones c = (layer : List Rect) → AreComponents (Covers layer) features → ArePieces (Covers layer) features zones c.parts c.owners c.keys c.sides
-
-abbrev pub rects_of_zones : List Zone → List Rect
-rects_of_zones zones = map (λ z. z.rect) zones

@@ -1,4 +1,3 @@
 pub mod Cutting
 pub mod Corners
-pub mod Owners
-pub mod Merging
+pub mod Pieces

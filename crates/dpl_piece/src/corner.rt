@@ -1,11 +1,11 @@
 //! Corners of slabs, in order, each with the part that its slab belongs to.
-ghost use Rattle.std.specs.Prelude.{ℕ, slice_index_or, ◌≡◌, ◌≤◌, ◌<◌, ◌++◌, ◌⊎◌, ◌↔◌, map, length, IsTrue, IsNone, IfSome, IfOk, OnOk};
+ghost use Rattle.std.specs.Prelude.{◌≡◌, ◌++◌, ◌↔◌, map, length, IfOk, OnOk};
 ghost use Rattle.std.specs.List.{Contains};
 ghost use Rattle.std.specs.List.Sorted.{IsPermutation};
 ghost use Rattle.dpl_piece.specs.declared.corner.Corner.{Corner};
-ghost use Rattle.dpl_piece.specs.Corners.{corner_at, corner_of, IsCornerOf, IsBroken, IsBelow, RiseByCorner};
+ghost use Rattle.dpl_piece.specs.Corners.{corner_at, corner_of, IsAnswer, IsCornerOf, IsBroken, RiseByCorner};
 
-use crate::origin::Origin;
+use crate::piece::Origin;
 use dpl_base::{Id, Rect};
 use dpl_slabs::Slabs;
 use std::alloc::{AllocError, Global};
@@ -72,6 +72,17 @@ fn sort_by_corner(corners: &mut Vec<Corner>)
     corners.sort_unstable_by_key(|c| (c.y, c.x));
 }
 
+/// How many slabs the broken parts have, up to the last value of a `usize`.
+fn slab_count(parts: &[Slabs], origins: &[Origin]) -> usize {
+    let mut count: usize = 0;
+    for (part, origin) in parts.iter().zip(origins) {
+        if let Origin::Broken = origin {
+            count = count.saturating_add(part.rects().len());
+        }
+    }
+    count
+}
+
 /// The corners of the slabs of the parts that are broken, by row and then by column.
 pub fn corners(
     alloc: Global,
@@ -83,7 +94,7 @@ pub fn corners(
     ensures rise { IfOk result (λ v. RiseByCorner v.items) }
     ensures members { IfOk result (λ v. (c : Corner) → Contains v.items c ↔ (IsCornerOf kind parts.now c × IsBroken origins.now c.part)) }
 {
-    let mut found = Vec::new(alloc);
+    let mut found = Vec::with_capacity(alloc, slab_count(parts, origins))?;
     for k in 0..parts.len() {
         let Origin::Broken = origins[k] else {
             continue;
@@ -94,59 +105,13 @@ pub fn corners(
     Ok(found)
 }
 
-/// Whether the corner comes before the point, by row and then by column.
-fn is_below(c: &Corner, x: i64, y: i64) -> bool
-    ensures { IsTrue result ↔ IsBelow c.now x y }
-{
-    if c.y < y {
-        return true;
-    }
-    if y < c.y {
-        return false;
-    }
-    c.x < x
-}
-
-/// How many corners come before the point.
-fn count_below(corners: &[Corner], x: i64, y: i64) -> usize
-    requires { RiseByCorner corners.now }
-    ensures inside { result ≤ length corners.now }
-    ensures below { (k : ℕ) (d : Corner) → k < result → IsBelow (slice_index_or corners.now k d) x y }
-    ensures above { result < length corners.now → (d : Corner) → IsBelow (slice_index_or corners.now result d) x y → ⊥ }
-{
-    let mut low = 0;
-    let mut high = corners.len();
-    while low < high {
-        let middle = low + (high - low) / 2;
-        if is_below(&corners[middle], x, y) {
-            low = middle + 1;
-        } else {
-            high = middle;
-        }
-    }
-    low
-}
-
-/// Whether the corner is at the point.
-fn is_at(c: &Corner, x: i64, y: i64) -> bool
-    ensures { IsTrue result ↔ ((c.now.x ≡ x) × (c.now.y ≡ y)) }
-{
-    c.x == x && c.y == y
-}
-
 /// The part of some corner at the point.
 pub fn find(corners: &[Corner], x: i64, y: i64) -> Option<Id>
     requires { RiseByCorner corners.now }
-    ensures none { IsNone result → (k : ℕ) → Contains corners.now (corner_at x y k) → ⊥ }
-    ensures some { IfSome result (λ k. Contains corners.now (corner_at x y k)) }
+    ensures { IsAnswer (λ k. Contains corners.now (corner_at x y k)) result }
 {
-    let i = count_below(corners, x, y);
-    if i >= corners.len() {
-        return None;
+    match corners.binary_search_by_key(&(y, x), |c| (c.y, c.x)) {
+        Ok(i) => Some(corners[i].part),
+        Err(_) => None,
     }
-    let c = &corners[i];
-    if !is_at(c, x, y) {
-        return None;
-    }
-    Some(c.part)
 }

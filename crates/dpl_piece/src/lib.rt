@@ -3,12 +3,11 @@
 
 mod corner;
 mod cut;
+mod key;
 mod matched;
-mod origin;
-mod owner;
+mod piece;
 mod rest;
 mod side;
-mod weave;
 
 pub use cut::pieces;
-pub use matched::Pieces;
+pub use matched::{Cut, Pieces};

@@ -19,6 +19,14 @@ pub struct Pieces {
     sides: Vec<(Id, Id)>,
 }
 
+/// The squares of pieces, and the zones that cut them, each with the pieces on its two sides.
+#[derive(Drop)]
+pub struct Cut {
+    pub parts: Parts,
+    pub zones: Vec<Zone>,
+    pub sides: Vec<(Id, Id)>,
+}
+
 impl Model for Pieces {
     ghost use Rattle.dpl_piece.specs.Cutting.{CutPieces, cut_pieces, AreMatched};
 
@@ -88,5 +96,21 @@ impl Pieces {
         ensures known { All (λ side. (side.0 < length self.now.parts) × (side.1 < length self.now.parts)) self.now.sides }
     {
         self.sides.as_slice()
+    }
+
+    /// The squares of the pieces and the zones with their sides, without taking memory. Owners and keys are let go.
+    pub fn into_cut(self) -> Cut
+        ensures parts { result.parts ≡ self.parts }
+        ensures zones { result.zones.items ≡ self.zones }
+        ensures sides { result.sides.items ≡ self.sides }
+        ensures each { length self.sides ≡ length self.zones }
+        ensures known { All (λ side. (side.0 < length self.parts) × (side.1 < length self.parts)) self.sides }
+        ensures within { All (λ z. IsSolidWithin farthest z.rect) self.zones }
+    {
+        Cut {
+            parts: self.parts,
+            zones: self.zones,
+            sides: self.sides,
+        }
     }
 }

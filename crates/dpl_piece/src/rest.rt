@@ -1,103 +1,171 @@
 //! What zones leave of features.
-ghost use Rattle.std.specs.Prelude.{◌≡◌, ℕ, ◌<◌, ◌⊎◌, ◌↔◌, false, true, IsTrue, IfOk, OnOk, length, slice_index_or};
-ghost use Rattle.std.specs.List.{All, Contains};
-ghost use Rattle.dpl_spec.specs.declared.Rect.{Rect};
-ghost use Rattle.dpl_spec.specs.Squares.{IsSolidWithin};
-ghost use Rattle.dpl_spec.specs.Slabs.{AreSlabsOf};
-ghost use Rattle.dpl_spec.specs.Components.{AreComponents};
+ghost use Rattle.std.specs.Prelude.{◌≡◌, ◌≢◌, ℕ, ◌<◌, ◌≤◌, ◌++◌, IfOk, OnOk, length, map, take, slice_index_or};
+ghost use Rattle.std.specs.List.{All};
+ghost use Rattle.std.specs.List.Sorted.{IsNonDecreasingBy, IsPermutation};
 ghost use Rattle.dpl_spec.specs.Loops.{farthest, AreRectsWithin};
-ghost use Rattle.dpl_spec.specs.Pieces.{without};
-ghost use Rattle.dpl_slabs.specs.Parts.{union_of};
-ghost use Rattle.dpl_piece.specs.Cutting.{rects_of_zones, AreFeatures, AreTheirZones};
-ghost use Rattle.dpl_piece.specs.Merging.{AreCut, HasZone, IsPicked, MarkZoned, left_region};
+ghost use Rattle.dpl_piece.specs.Cutting.{AreFeatures, AreTheirZones};
+ghost use Rattle.dpl_piece.specs.Pieces.{broken_piece, least_key, feature_at, rect_at, AddsBroken, AddsPieces, AreCut, AreNumbersBelow, RiseByLeast};
 
-use crate::origin::Woven;
-use crate::weave::woven;
-use dpl_base::{Rect, Zone};
+use crate::piece::{Origin, Piece};
+use dpl_base::{Id, Rect, Zone};
 use dpl_slabs::Slabs;
 use std::alloc::{AllocError, Global};
 
-/// Marks the features that have a zone.
-fn mark_all(marks: &mut [bool], zones: &[Zone])
-    requires { All (λ z. z.feature < length marks.old) zones.now }
-    ensures each { length marks.new ≡ length marks.old }
-    ensures marks { (k : ℕ) → k < length marks.old → IsTrue (slice_index_or marks.new k false) ↔ (IsTrue (slice_index_or marks.old k false) ⊎ HasZone zones.now k) }
+/// The feature of a zone by the zone's number, and 0 past the end.
+fn feature_of(zones: &[Zone], number: usize) -> Id
+    ensures { result ≡ feature_at zones.now number }
 {
-    for z in zones {
-        marks[z.feature as usize] = true;
+    match zones.get(number) {
+        Some(zone) => zone.feature,
+        None => 0,
     }
 }
 
-/// Which of the features have a zone.
-fn marks_of(alloc: Global, count: usize, zones: &[Zone]) -> Result<Vec<bool>, AllocError>
-    requires { All (λ z. z.feature < count) zones.now }
-    ensures each { IfOk result (λ v. length v.items ≡ count) }
-    ensures marks { IfOk result (λ v. (k : ℕ) → k < count → IsTrue (slice_index_or v.items k false) ↔ HasZone zones.now k) }
+/// The numbers below `count`.
+fn numbers_below(alloc: Global, count: usize) -> Result<Vec<usize>, AllocError>
+    ensures { IfOk result (λ v. AreNumbersBelow count v.items) }
 {
-    let mut marks = vec![in alloc; false; count]?;
-    mark_all(&mut marks, zones);
-    Ok(marks)
+    let mut numbers = Vec::with_capacity(alloc, count)?;
+    for i in 0..count {
+        numbers.push(i)?;
+    }
+    Ok(numbers)
 }
 
-/// Adds the slabs of a part, where they are wanted.
-fn add_slabs(rects: &mut Vec<Rect>, part: &Slabs, is_wanted: bool) -> Result<(), AllocError>
-    ensures { OnOk result ((r : Rect) → Contains rects.new.items r ↔ (Contains rects.old.items r ⊎ (IsTrue is_wanted × Contains part.now r))) }
+/// The numbers of the zones, by feature.
+fn by_feature(alloc: Global, zones: &[Zone]) -> Result<Vec<usize>, AllocError>
+    ensures members { IfOk result (λ v. AreNumbersBelow (length zones.now) v.items) }
+    ensures rise { IfOk result (λ v. IsNonDecreasingBy (feature_at zones.now) v.items) }
 {
-    if !is_wanted {
-        return Ok(());
+    let mut numbers = numbers_below(alloc, zones.len())?;
+    numbers.sort_unstable_by_key(|number| feature_of(zones, *number));
+    Ok(numbers)
+}
+
+/// How many of the first numbers are of zones of the feature.
+fn own_count(zones: &[Zone], numbers: &[usize], feature: Id) -> usize
+    ensures inside { result ≤ length numbers.now }
+    ensures own { All (λ j. feature_at zones.now j ≡ feature) (take result numbers.now) }
+    ensures next { result < length numbers.now → (d : ℕ) → feature_at zones.now (slice_index_or numbers.now result d) ≢ feature }
+{
+    for i in 0..numbers.len() {
+        if feature_of(zones, numbers[i]) != feature {
+            return i;
+        }
     }
-    rects.extend_from_slice(part.rects())?;
+    numbers.len()
+}
+
+/// The rectangles of the zones of these numbers.
+fn holes_at(alloc: Global, zones: &[Zone], numbers: &[usize]) -> Result<Vec<Rect>, AllocError>
+    requires { All (λ j. j < length zones.now) numbers.now }
+    ensures { IfOk result (λ v. v.items ≡ map (rect_at zones.now) numbers.now) }
+{
+    let mut holes = Vec::with_capacity(alloc, numbers.len())?;
+    for &number in numbers {
+        holes.push(zones[number].rect)?;
+    }
+    Ok(holes)
+}
+
+/// Adds pieces that zones broke off a feature.
+fn add_parts(pieces: &mut Vec<Piece>, parts: Vec<Slabs>, number: Id) -> Result<(), AllocError>
+    ensures { OnOk result (pieces.new.items ≡ pieces.old.items ++ map (broken_piece number) parts.items) }
+{
+    for part in parts {
+        pieces.push(Piece {
+            part,
+            owner: number,
+            origin: Origin::Broken,
+        })?;
+    }
     Ok(())
 }
 
-/// The slabs of the features that are marked.
-fn marked_slabs(alloc: Global, features: &[Slabs], marks: &[bool]) -> Result<Vec<Rect>, AllocError>
-    requires { length marks.now ≡ length features.now }
-    ensures { IfOk result (λ v. (r : Rect) → Contains v.items r ↔ IsPicked features.now marks.now true (length features.now) r) }
-{
-    let mut rects = Vec::new(alloc);
-    for k in 0..features.len() {
-        add_slabs(&mut rects, &features[k], marks[k])?;
-    }
-    Ok(rects)
-}
-
-/// The rectangles of the zones.
-fn holes_of(alloc: Global, zones: &[Zone]) -> Result<Vec<Rect>, AllocError>
-    ensures { IfOk result (λ v. v.items ≡ rects_of_zones zones.now) }
-{
-    zones.iter().map(|z| z.rect).collect(alloc)
-}
-
-/// What the zones leave of the features that have one.
-fn left_of(
+/// Adds the pieces into which holes break a feature.
+fn add_broken(
     alloc: Global,
-    features: &[Slabs],
-    marks: &[bool],
-    zones: &[Zone],
-) -> Result<Slabs, AllocError>
-    requires marks { MarkZoned features.now zones.now marks.now }
-    requires features { All (AreRectsWithin farthest) features.now }
-    requires zones { All (λ z. IsSolidWithin farthest z.rect) zones.now }
-    ensures { IfOk result (λ s. AreSlabsOf (left_region features.now zones.now) s) }
+    pieces: &mut Vec<Piece>,
+    feature: Slabs,
+    holes: Vec<Rect>,
+    number: Id,
+) -> Result<(), AllocError>
+    requires { AreRectsWithin farthest holes.items }
+    ensures { OnOk result (AddsBroken feature holes.items number pieces.old.items pieces.new.items) }
 {
-    let cut = marked_slabs(alloc, features, marks)?;
-    let holes = holes_of(alloc, zones)?;
-    let left = Slabs::of_rects_without(alloc, &cut, &holes)?;
-    Ok(left)
+    let left = Slabs::of_rects_without(alloc, feature.rects(), &holes)?;
+    drop(feature);
+    drop(holes);
+    let parts = dpl_feature::features(alloc, &left)?;
+    drop(left);
+    add_parts(pieces, parts.into_vec(), number)?;
+    Ok(())
 }
 
-/// The components of what the zones leave of the features, each with its origin. Only the features that have a zone are cut anew; the others are moved.
-pub fn parts_of(alloc: Global, features: Vec<Slabs>, zones: &[Zone]) -> Result<Woven, AllocError>
+/// Adds the pieces of a feature: what its holes leave of it, or, where there is none, the feature, moved as it is.
+fn add_pieces(
+    alloc: Global,
+    pieces: &mut Vec<Piece>,
+    feature: Slabs,
+    holes: Vec<Rect>,
+    number: Id,
+) -> Result<(), AllocError>
+    requires { AreRectsWithin farthest holes.items }
+    ensures { OnOk result (AddsPieces feature holes.items number pieces.old.items pieces.new.items) }
+{
+    if holes.is_empty() {
+        pieces.push(Piece {
+            part: feature,
+            owner: number,
+            origin: Origin::Whole,
+        })?;
+        return Ok(());
+    }
+    add_broken(alloc, pieces, feature, holes, number)?;
+    Ok(())
+}
+
+/// The row and the column of the first slab's lower left corner.
+fn least_key(part: &Slabs) -> (i64, i64)
+    ensures { result ≡ least_key part.now }
+{
+    match part.rects().first() {
+        Some(r) => (r.y0, r.x0),
+        None => (0, 0),
+    }
+}
+
+/// Sorts pieces by their least squares.
+fn sort_by_least(pieces: &mut Vec<Piece>)
+    ensures same { IsPermutation pieces.old.items pieces.new.items }
+    ensures rise { RiseByLeast pieces.new.items }
+{
+    pieces.sort_unstable_by_key(|piece| least_key(&piece.part));
+}
+
+/// The components of what the zones leave of the features, each with the feature that it lies in. A feature without a zone is moved, as it is; any other is cut by its own zones, feature by feature.
+pub fn pieces_of(
+    alloc: Global,
+    features: Vec<Slabs>,
+    zones: &[Zone],
+) -> Result<Vec<Piece>, AllocError>
     requires features { AreFeatures features.items }
     requires zones { AreTheirZones features.items zones.now }
     requires within { All (AreRectsWithin farthest) features.items }
-    ensures { IfOk result (λ w. AreCut features.items zones.now w.parts.items w.origins.items) }
+    ensures { IfOk result (λ v. AreCut features.items zones.now v.items) }
 {
-    let marks = marks_of(alloc, features.len(), zones)?;
-    let left = left_of(alloc, &features, &marks, zones)?;
-    let broken = dpl_feature::features(alloc, &left)?;
-    drop(left);
-    let parts = woven(alloc, features, &marks, broken.into_vec())?;
-    Ok(parts)
+    let sorted = by_feature(alloc, zones)?;
+    let count = features.len().saturating_add(zones.len());
+    let mut pieces = Vec::with_capacity(alloc, count)?;
+    let mut rest = sorted.as_slice();
+    let mut number = 0;
+    for feature in features {
+        let (own, others) = rest.split_at(own_count(zones, rest, number));
+        let holes = holes_at(alloc, zones, own)?;
+        add_pieces(alloc, &mut pieces, feature, holes, number)?;
+        rest = others;
+        number += 1;
+    }
+    sort_by_least(&mut pieces);
+    Ok(pieces)
 }

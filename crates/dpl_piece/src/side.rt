@@ -1,41 +1,100 @@
 //! The pieces on the two sides of a zone.
-ghost use Rattle.std.specs.Prelude.{ℕ, ◌≡◌, ◌⊎◌, ◌↔◌, length, IfOk};
-ghost use Rattle.std.specs.List.{All, AllZip, Contains};
-ghost use Rattle.dpl_piece.specs.Corners.{corner_at, AreFound, StandBeside, StandBroken, RiseByCorner};
+ghost use Rattle.std.specs.Prelude.{ℕ, ◌≡◌, length, IfNone, MatchOption, IfOk};
+ghost use Rattle.std.specs.List.{All, AllZip, Contains, zip};
+ghost use Rattle.dpl_piece.specs.declared.corner.Kind.TheVariants.{LowerRight};
+ghost use Rattle.dpl_piece.specs.Corners.{corner_at, HasCornerAt, IsAnswer, IsBroken, StandsBefore, StandsAfter, StandBeside, StandBroken, RiseByCorner};
 
 use crate::corner::{Corner, Kind, corners, find};
-use crate::origin::Origin;
+use crate::piece::Origin;
 use dpl_base::{Id, Rect, Zone};
 use dpl_slabs::Slabs;
 use std::alloc::{AllocError, Global};
 
-/// The part of a corner at one of two points.
-fn either(first: &[Corner], x: i64, y: i64, second: &[Corner], u: i64, v: i64) -> Id
-    requires first { RiseByCorner first.now }
-    requires second { RiseByCorner second.now }
-    requires some { (k : ℕ) × (Contains first.now (corner_at x y k) ⊎ Contains second.now (corner_at u v k)) }
-    ensures { Contains first.now (corner_at x y result) ⊎ Contains second.now (corner_at u v result) }
+/// The part that is known, or else the part of some corner at the point.
+fn known_or_at(known: Option<Id>, corners: &[Corner], x: i64, y: i64) -> Id
+    requires rise { RiseByCorner corners.now }
+    requires some { IfNone known ((k : ℕ) × Contains corners.now (corner_at x y k)) }
+    ensures { MatchOption known (Contains corners.now (corner_at x y result)) (λ k. result ≡ k) }
 {
-    match find(first, x, y) {
+    match known {
         Some(k) => k,
-        None => match find(second, u, v) {
+        None => match find(corners, x, y) {
             Some(k) => k,
             None => unreachable!(),
         },
     }
 }
 
-/// The parts on the two sides of a zone, the left or lower one first.
-fn sides(lower_left: &[Corner], lower_right: &[Corner], upper_left: &[Corner], z: &Rect) -> (Id, Id)
-    requires lower_left { RiseByCorner lower_left.now }
-    requires lower_right { RiseByCorner lower_right.now }
-    requires upper_left { RiseByCorner upper_left.now }
-    requires some { (side : ℕ × ℕ) × AreFound lower_left.now lower_right.now upper_left.now z.now side }
-    ensures { AreFound lower_left.now lower_right.now upper_left.now z.now result }
+/// The part to the left of each zone, if there is one.
+fn lefts(
+    alloc: Global,
+    parts: &[Slabs],
+    origins: &[Origin],
+    zones: &[Zone],
+) -> Result<Vec<Option<Id>>, AllocError>
+    requires { length origins.now ≡ length parts.now }
+    ensures { IfOk result (λ v. AllZip (λ z. IsAnswer (HasCornerAt LowerRight parts.now origins.now z.rect.x0 z.rect.y0)) zones.now v.items) }
 {
-    let first = either(lower_right, z.x0, z.y0, upper_left, z.x0, z.y0);
-    let second = either(lower_left, z.x1, z.y0, lower_left, z.x0, z.y1);
-    (first, second)
+    let corners = corners(alloc, parts, origins, Kind::LowerRight)?;
+    let mut found = Vec::with_capacity(alloc, zones.len())?;
+    for z in zones {
+        let Rect { x0, y0, .. } = z.rect;
+        found.push(find(&corners, x0, y0))?;
+    }
+    Ok(found)
+}
+
+/// The part to the left of each zone, or below it.
+fn firsts(
+    alloc: Global,
+    parts: &[Slabs],
+    origins: &[Origin],
+    zones: &[Zone],
+) -> Result<Vec<Id>, AllocError>
+    requires each { length origins.now ≡ length parts.now }
+    requires some { All (λ z. (k : ℕ) × StandsBefore parts.now z k × IsBroken origins.now k) zones.now }
+    ensures { IfOk result (λ v. AllZip (StandsBefore parts.now) zones.now v.items) }
+{
+    let lefts = lefts(alloc, parts, origins, zones)?;
+    let corners = corners(alloc, parts, origins, Kind::UpperLeft)?;
+    let mut found = Vec::with_capacity(alloc, zones.len())?;
+    for (z, left) in zones.iter().zip(&lefts) {
+        let Rect { x0, y0, .. } = z.rect;
+        found.push(known_or_at(*left, &corners, x0, y0))?;
+    }
+    Ok(found)
+}
+
+/// The part to the right of each zone, or above it.
+fn seconds(
+    alloc: Global,
+    parts: &[Slabs],
+    origins: &[Origin],
+    zones: &[Zone],
+) -> Result<Vec<Id>, AllocError>
+    requires each { length origins.now ≡ length parts.now }
+    requires some { All (λ z. (k : ℕ) × StandsAfter parts.now z k × IsBroken origins.now k) zones.now }
+    ensures { IfOk result (λ v. AllZip (StandsAfter parts.now) zones.now v.items) }
+{
+    let corners = corners(alloc, parts, origins, Kind::LowerLeft)?;
+    let mut found = Vec::with_capacity(alloc, zones.len())?;
+    for z in zones {
+        let Rect { x0, y0, x1, y1 } = z.rect;
+        let right = find(&corners, x1, y0);
+        found.push(known_or_at(right, &corners, x0, y1))?;
+    }
+    Ok(found)
+}
+
+/// The numbers of both lists in pairs, place by place.
+fn pairs(alloc: Global, firsts: &[Id], seconds: &[Id]) -> Result<Vec<(Id, Id)>, AllocError>
+    ensures { IfOk result (λ v. v.items ≡ zip firsts.now seconds.now) }
+{
+    firsts
+        .iter()
+        .copied()
+        .zip(seconds.iter().copied())
+        .collect(alloc)
 }
 
 /// The parts on the two sides of each zone, the left or lower one first.
@@ -52,12 +111,7 @@ pub fn sides_of(
     if zones.is_empty() {
         return Ok(Vec::new(alloc));
     }
-    let lower_left = corners(alloc, parts, origins, Kind::LowerLeft)?;
-    let lower_right = corners(alloc, parts, origins, Kind::LowerRight)?;
-    let upper_left = corners(alloc, parts, origins, Kind::UpperLeft)?;
-    let mut found = Vec::with_capacity(alloc, zones.len())?;
-    for z in zones {
-        found.push(sides(&lower_left, &lower_right, &upper_left, &z.rect))?;
-    }
-    Ok(found)
+    let firsts = firsts(alloc, parts, origins, zones)?;
+    let seconds = seconds(alloc, parts, origins, zones)?;
+    pairs(alloc, &firsts, &seconds)
 }

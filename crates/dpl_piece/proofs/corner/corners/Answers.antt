@@ -1,13 +1,13 @@
 use Rattle.std.proofs.Common.{◌≡◌, ◌<◌, length, sym, ◌∙◌, subst, arith, rules}
 use Rattle.std.proofs.lemmas.List.{get_or_default}
-use Rattle.dpl_piece.specs.declared.origin.Origin.TheVariants.{Whole, Broken}
+use Rattle.dpl_piece.specs.declared.piece.Origin.TheVariants.{Whole, Broken}
 use Rattle.dpl_piece.proofs.CornerLaws.{corners-skip, corners-next, corners-sorted}
 use Rattle.dpl_piece.proofs.corner.corners.Goals as goal
 
 pub loop-k-preserved-in_default : goal.loop-k-preserved-in_default
 loop-k-preserved-in_default c =
     corners-skip c.args.kind c.args.parts.now c.args.origins.now c.loop-k.k c.loop-k.found.items c.loop-k.invariant
-    (λ (l, broken). (let e : Broken ≡ Whole c.in_default.field-0 = sym broken ∙ (get_or_default _ _ _ _ l ∙ c.in_default.is) in cc))
+    (λ (l, broken). (let e : Broken ≡ Whole = sym broken ∙ (get_or_default _ _ _ _ l ∙ c.in_default.is) in cc))
 
 pub loop-k-preserved : goal.loop-k-preserved
 loop-k-preserved c =

@@ -1,0 +1,84 @@
+-- Pieces that zones leave of features, each with the feature that it lies in.
+use Rattle.std.specs.Prelude.{◌≡◌, ℕ, ◌<◌, ◌⊎◌, ◌↔◌, ℤ, pos, List, [], ◌∷◌, ◌++◌, length, map, slice_index_or}
+use Rattle.std.specs.List.{All, Contains}
+use Rattle.std.specs.List.Sorted.{IsSortedByKey}
+use Rattle.dpl_spec.specs.declared.Rect.{Rect}
+use Rattle.dpl_spec.specs.declared.Zone.{Zone}
+use Rattle.dpl_spec.specs.Squares.{Region, Covers}
+use Rattle.dpl_spec.specs.Components.{AreComponents}
+use Rattle.dpl_spec.specs.Pieces.{without, IsOwner}
+use Rattle.dpl_slabs.specs.Parts.{AreParts, union_of}
+use Rattle.dpl_piece.specs.declared.piece.Origin.{Origin}
+use Rattle.dpl_piece.specs.declared.piece.Origin.TheVariants.{Whole, Broken}
+use Rattle.dpl_piece.specs.declared.piece.Piece.{Piece}
+use Rattle.dpl_piece.specs.Corners.{row_cmp}
+
+abbrev pub parts_in : List Piece → List (List Rect)
+parts_in pieces = map (λ x. x.part) pieces
+
+abbrev pub owners_in : List Piece → List ℕ
+owners_in pieces = map (λ x. x.owner) pieces
+
+abbrev pub origins_in : List Piece → List Origin
+origins_in pieces = map (λ x. x.origin) pieces
+
+-- a zone of no size
+abbrev pub no_zone : Zone
+no_zone = record { rect = record { x0 = pos 0; y0 = pos 0; x1 = pos 0; y1 = pos 0 }; feature = 0 }
+
+-- the zone of a number, or one of no size past the end
+abbrev pub zone_at : List Zone → ℕ → Zone
+zone_at zones j = slice_index_or zones j no_zone
+
+abbrev pub feature_at : List Zone → ℕ → ℕ
+feature_at zones j = (zone_at zones j).feature
+
+abbrev pub rect_at : List Zone → ℕ → Rect
+rect_at zones j = (zone_at zones j).rect
+
+-- each number below n, and no other
+abbrev pub AreNumbersBelow : ℕ → List ℕ → Type 0
+AreNumbersBelow n numbers = (j : ℕ) → Contains numbers j ↔ (j < n)
+
+-- the row and the column of the first slab's lower left corner
+abbrev pub least_key : List Rect → ℤ × ℤ
+least_key [] = (pos 0, pos 0)
+least_key (r ∷ rs) = (r.y0, r.x0)
+
+abbrev pub RiseByLeast : List Piece → Type 0
+RiseByLeast pieces = IsSortedByKey (λ x. least_key x.part) row_cmp pieces
+
+-- feature number k as one piece
+abbrev pub whole_piece : ℕ → List Rect → Piece
+whole_piece k part = record { part = part; owner = k; origin = Whole }
+
+-- a piece that zones broke off feature number k
+abbrev pub broken_piece : ℕ → List Rect → Piece
+broken_piece k part = record { part = part; owner = k; origin = Broken }
+
+-- squares of the feature that no hole has
+abbrev pub left_of : List Rect → List Rect → Region
+left_of feature holes p = Covers feature p × ¬ Covers holes p
+
+-- the components of what holes leave of feature number k were added
+pub record AddsBroken (feature holes : List Rect) (k : ℕ) (old new : List Piece) : Type 0 where
+  pub parts : List (List Rect)
+  pub components : AreComponents (left_of feature holes) parts
+  pub apart : AreParts parts
+  pub added : new ≡ old ++ map (broken_piece k) parts
+
+-- feature number k was added, as it is where there is no hole, or else broken by its holes
+abbrev pub AddsPieces : List Rect → List Rect → ℕ → List Piece → List Piece → Type 0
+AddsPieces feature holes k old new = ((length holes ≡ 0) × (new ≡ old ++ whole_piece k feature ∷ [])) ⊎ ((0 < length holes) × AddsBroken feature holes k old new)
+
+-- some zone is of feature k
+abbrev pub HasZone : List Zone → ℕ → Type 0
+HasZone zones k = (z : Zone) × Contains zones z × (z.feature ≡ k)
+
+-- the components of what the zones leave of the features, each in its feature: a whole one is its feature as it is, and a broken one is of a feature with a zone
+pub record AreCut (features : List (List Rect)) (zones : List Zone) (pieces : List Piece) : Type 0 where
+  pub components : AreComponents (without (union_of features) zones) (parts_in pieces)
+  pub apart : AreParts (parts_in pieces)
+  pub owned : All (λ x. IsOwner features x.part x.owner) pieces
+  pub kept : All (λ x. x.origin ≡ Whole → slice_index_or features x.owner [] ≡ x.part) pieces
+  pub cut : All (λ x. x.origin ≡ Broken → HasZone zones x.owner) pieces

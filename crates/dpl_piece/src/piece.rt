@@ -1,0 +1,57 @@
+//! Pieces with their features.
+ghost use Rattle.std.specs.Prelude.{◌≡◌, IfOk};
+ghost use Rattle.dpl_piece.specs.Pieces.{parts_in, owners_in, origins_in};
+
+use dpl_base::Id;
+use dpl_slabs::Slabs;
+use std::alloc::{AllocError, Global};
+
+/// What a piece is: a whole feature, or one of the pieces into which zones broke a feature.
+#[derive(Clone, Copy, Debug, Drop)]
+pub enum Origin {
+    Whole,
+    Broken,
+}
+
+/// A piece, and the number of the feature that it lies in.
+#[derive(Drop)]
+pub struct Piece {
+    pub part: Slabs,
+    pub owner: Id,
+    pub origin: Origin,
+}
+
+/// The squares, the features and the origins of pieces, a list of each.
+#[derive(Drop)]
+pub struct Lists {
+    pub parts: Vec<Slabs>,
+    pub owners: Vec<Id>,
+    pub origins: Vec<Origin>,
+}
+
+/// The squares, the features and the origins of the pieces.
+pub fn lists_of(alloc: Global, pieces: Vec<Piece>) -> Result<Lists, AllocError>
+    ensures parts { IfOk result (λ l. l.parts.items ≡ parts_in pieces.items) }
+    ensures owners { IfOk result (λ l. l.owners.items ≡ owners_in pieces.items) }
+    ensures origins { IfOk result (λ l. l.origins.items ≡ origins_in pieces.items) }
+{
+    let count = pieces.len();
+    let mut parts = Vec::with_capacity(alloc, count)?;
+    let mut owners = Vec::with_capacity(alloc, count)?;
+    let mut origins = Vec::with_capacity(alloc, count)?;
+    for piece in pieces {
+        let Piece {
+            part,
+            owner,
+            origin,
+        } = piece;
+        parts.push(part)?;
+        owners.push(owner)?;
+        origins.push(origin)?;
+    }
+    Ok(Lists {
+        parts,
+        owners,
+        origins,
+    })
+}
