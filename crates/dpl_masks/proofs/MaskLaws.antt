@@ -10,11 +10,12 @@ use Rattle.dpl_spec.specs.declared.Pt.{Pt}
 use Rattle.dpl_spec.specs.declared.Rect.{Rect}
 use Rattle.dpl_spec.specs.declared.Zone.{Zone}
 use Rattle.dpl_spec.specs.Squares.{Covers, Has, Region}
+use Rattle.dpl_spec.specs.Loops.{AreRectsWithin, farthest}
 use Rattle.dpl_spec.specs.Zones.{part_at}
 use Rattle.dpl_spec.specs.Slabs.{AreSlabsOf}
 use Rattle.dpl_spec.specs.Colours.{AreStitches, colour_at, differ, on_mask}
 use Rattle.dpl_spec.proofs.Ordered.{Contains-cases, Contains-head, Contains-nil}
-use Rattle.dpl_masks.specs.Painting.{Adds, AreFirstStitches, IsEither, in_pieces, in_zones}
+use Rattle.dpl_masks.specs.Painting.{Adds, AreFirstStitches, AreRectsOn, IsEither, in_pieces, in_zones}
 
 covers_append : (rs ss : List Rect) (p : Pt) → Covers (rs ++ ss) p ↔ (Covers rs p ⊎ Covers ss p)
 covers_append rs ss p = (
@@ -145,15 +146,26 @@ are_stitches n sides colours v e first =
 covers_none : (p : Pt) → Covers [] p → ⊥
 covers_none p c = absurd (omega (arith, c.2))
 
-pub mask_is : (pieces : List (List Rect)) (zones : List Zone) (sides : List (ℕ × ℕ)) (colours : List Bool) (letter : Bool) (r0 r1 r2 slabs : List Rect)
-    → r0 ≡ [] → Adds r0 r1 (in_pieces (length pieces) pieces colours letter) → Adds r1 r2 (in_zones (length zones) zones sides colours letter) → AreSlabsOf (Covers r2) slabs
-    → AreSlabsOf (on_mask pieces zones sides colours letter) slabs
-mask_is pieces zones sides colours letter r0 r1 r2 slabs none first second are =
+pub rects_on : (pieces : List (List Rect)) (zones : List Zone) (sides : List (ℕ × ℕ)) (colours : List Bool) (letter : Bool) (r0 r1 r2 : List Rect)
+    → r0 ≡ [] → Adds r0 r1 (in_zones (length zones) zones sides colours letter) → Adds r1 r2 (in_pieces (length pieces) pieces colours letter) → AreRectsWithin farthest r2
+    → AreRectsOn pieces zones sides colours letter r2
+rects_on pieces zones sides colours letter r0 r1 r2 none first second within =
     let both = adds_then r0 r1 r2 _ _ first second in
     record {
-      canonical = are.canonical;
       covers = λ p. (
-        λ h. elim ((both p).0 ((are.covers p).0 h)) [ inl c ↦ absurd (covers_none p (subst (λ (r : List Rect). Covers r p) none c)) | inr x ↦ x ],
-        λ x. (are.covers p).1 ((both p).1 (inr x)),
+        λ h. elim ((both p).0 h) [
+          | inl c ↦ absurd (covers_none p (subst (λ (r : List Rect). Covers r p) none c))
+          | inr x ↦ elim x [ inl z ↦ inr z | inr i ↦ inl i ]
+        ],
+        λ x. (both p).1 (inr (elim x [ inl i ↦ inr i | inr z ↦ inl z ])),
       );
+      within = within;
     }
+
+-- slabs of such rectangles are those of the mask
+pub mask_is : (pieces : List (List Rect)) (zones : List Zone) (sides : List (ℕ × ℕ)) (colours : List Bool) (letter : Bool) (rects slabs : List Rect)
+    → AreRectsOn pieces zones sides colours letter rects → AreSlabsOf (Covers rects) slabs → AreSlabsOf (on_mask pieces zones sides colours letter) slabs
+mask_is pieces zones sides colours letter rects slabs on are = record {
+  canonical = are.canonical;
+  covers = λ p. (λ h. (on.covers p).0 ((are.covers p).0 h), λ x. (are.covers p).1 ((on.covers p).1 x));
+}

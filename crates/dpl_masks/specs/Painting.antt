@@ -4,18 +4,23 @@ use Rattle.std.specs.List.{AllPairs, Contains}
 use Rattle.dpl_spec.specs.declared.Pt.{Pt}
 use Rattle.dpl_spec.specs.declared.Rect.{Rect}
 use Rattle.dpl_spec.specs.declared.Zone.{Zone}
-use Rattle.dpl_spec.specs.Squares.{Covers, Has, Region}
+use Rattle.dpl_spec.specs.Squares.{Covers, Has, Region, SameSquares}
+use Rattle.dpl_spec.specs.Loops.{AreRectsWithin, farthest}
 use Rattle.dpl_spec.specs.Zones.{part_at}
 use Rattle.dpl_spec.specs.Slabs.{AreSlabsOf}
-use Rattle.dpl_spec.specs.Colours.{AreStitches, colour_at, differ, on_mask}
+use Rattle.dpl_spec.specs.Colours.{colour_at, differ, on_mask}
 use Rattle.dpl_piece.specs.Cutting.{CutPieces}
 use Rattle.dpl_masks.specs.declared.pair.Masks.{Masks}
 
--- both masks of the pieces in these colours, and the zones whose sides differ
+-- both masks of the pieces in these colours
 pub record AreMasksOf (c : CutPieces) (colours : List Bool) (m : Masks) : Type 0 where
   pub first : AreSlabsOf (on_mask c.parts c.zones c.sides colours false) m.a
   pub second : AreSlabsOf (on_mask c.parts c.zones c.sides colours true) m.b
-  pub differing : AreStitches c.sides colours m.stitches
+
+-- rectangles with the squares of one mask
+pub record AreRectsOn (pieces : List (List Rect)) (zones : List Zone) (sides : List (ℕ × ℕ)) (colours : List Bool) (letter : Bool) (rects : List Rect) : Type 0 where
+  pub covers : SameSquares (Covers rects) (on_mask pieces zones sides colours letter)
+  pub within : AreRectsWithin farthest rects
 
 -- the squares of those of the first n pieces that have this letter
 abbrev pub in_pieces : ℕ → List (List Rect) → List Bool → Bool → Region

@@ -6,5 +6,5 @@ mod painting;
 mod pair;
 
 pub use bytes::{file_bytes, put_boundary};
-pub use painting::masks;
+pub use painting::{masks, stitches};
 pub use pair::Masks;

@@ -2,57 +2,61 @@
 ghost use Rattle.std.specs.Prelude.{◌≡◌, ◌<◌, ◌⊎◌, ◌↔◌, ◌++◌, ◌∷◌, [], false, true, map, IfOk, IsTrue, OnOk, length};
 ghost use Rattle.std.specs.List.{All};
 ghost use Rattle.dpl_spec.specs.Loops.{AreRectsWithin, farthest};
-ghost use Rattle.dpl_spec.specs.Slabs.{AreSlabsOf};
 ghost use Rattle.dpl_spec.specs.Squares.{Covers, Has, IsSolidWithin};
-ghost use Rattle.dpl_spec.specs.Colours.{AreStitches, differ, on_mask};
+ghost use Rattle.dpl_spec.specs.Colours.{AreStitches, differ};
 ghost use Rattle.dpl_orient.specs.Masks.{is_second};
-ghost use Rattle.dpl_masks.specs.Painting.{Adds, AreMasksOf, in_pieces, in_zones};
+ghost use Rattle.dpl_masks.specs.Painting.{Adds, AreMasksOf, AreRectsOn, in_pieces, in_zones};
 
 use crate::pair::Masks;
-use dpl_base::{Id, Listed, Rect, Zone};
+use dpl_base::{Id, Rect, Zone};
 use dpl_orient::{Colours, Mask};
-use dpl_piece::Pieces;
-use dpl_slabs::Slabs;
+use dpl_piece::{Cut, Pieces};
+use dpl_slabs::{Parts, Slabs};
 use std::alloc::{AllocError, Global};
 
 /// The masks of coloured pieces. A piece is on the mask of its letter, and a zone on the masks of both its sides.
-pub fn masks(alloc: Global, pieces: &Pieces, colours: &Colours) -> Result<Masks, AllocError>
-    requires { length colours.now ≡ length pieces.now.parts }
-    ensures masks { IfOk result (AreMasksOf pieces.now colours.now) }
+pub fn masks(alloc: Global, pieces: Pieces, colours: &Colours) -> Result<Masks, AllocError>
+    requires { length colours.now ≡ length pieces.parts }
+    ensures masks { IfOk result (AreMasksOf pieces colours.now) }
     ensures within { IfOk result (λ m. AreRectsWithin farthest m.a × AreRectsWithin farthest m.b) }
 {
-    let a = mask(alloc, pieces, colours, Mask::A)?;
-    let b = mask(alloc, pieces, colours, Mask::B)?;
-    let stitches = stitches(alloc, pieces.sides(), colours.items())?;
-    Ok(Masks {
-        a,
-        b,
-        stitches: Listed::of(stitches),
-    })
+    let rects = rects_of(alloc, pieces.into_cut(), colours.items())?;
+    let Rects { a, b } = rects;
+    let a = Slabs::of_rects(alloc, a)?;
+    let b = Slabs::of_rects(alloc, b)?;
+    Ok(Masks { a, b })
 }
 
-/// The squares of one mask.
-fn mask(
-    alloc: Global,
-    pieces: &Pieces,
-    colours: &Colours,
-    letter: Mask,
-) -> Result<Slabs, AllocError>
-    requires { length colours.now ≡ length pieces.now.parts }
-    ensures squares { IfOk result (λ s. AreSlabsOf (on_mask pieces.now.parts pieces.now.zones pieces.now.sides colours.now (is_second letter)) s) }
-    ensures within { IfOk result (AreRectsWithin farthest) }
+/// Rectangles of both masks, which may overlap.
+#[derive(Drop)]
+struct Rects {
+    a: Vec<Rect>,
+    b: Vec<Rect>,
+}
+
+/// The rectangles of both masks, the zones' first: so the zones are let go before room is taken for those of the pieces, and the pieces at the end.
+fn rects_of(alloc: Global, cut: Cut, colours: &[Mask]) -> Result<Rects, AllocError>
+    requires colours { length colours.now ≡ length cut.parts }
+    requires each { length cut.sides.items ≡ length cut.zones.items }
+    requires known { All (λ side. (side.0 < length cut.parts) × (side.1 < length cut.parts)) cut.sides.items }
+    requires zones { All (λ z. IsSolidWithin farthest z.rect) cut.zones.items }
+    ensures a { IfOk result (λ r. AreRectsOn cut.parts cut.zones.items cut.sides.items (map is_second colours.now) false r.a.items) }
+    ensures b { IfOk result (λ r. AreRectsOn cut.parts cut.zones.items cut.sides.items (map is_second colours.now) true r.b.items) }
 {
-    let mut rects = Vec::new(alloc);
-    add_pieces(&mut rects, pieces.parts().items(), colours.items(), letter)?;
-    add_zones(
-        &mut rects,
-        pieces.zones(),
-        pieces.sides(),
-        colours.items(),
-        letter,
-    )?;
-    let slabs = Slabs::of_rects(alloc, rects)?;
-    Ok(slabs)
+    let Cut {
+        parts,
+        zones,
+        sides,
+    } = cut;
+    let mut a = Vec::with_capacity(alloc, count_on(&parts, &zones, colours, Mask::A))?;
+    let mut b = Vec::with_capacity(alloc, count_on(&parts, &zones, colours, Mask::B))?;
+    add_zones(&mut a, &zones, &sides, colours, Mask::A)?;
+    add_zones(&mut b, &zones, &sides, colours, Mask::B)?;
+    drop(zones);
+    drop(sides);
+    add_pieces(&mut a, parts.items(), colours, Mask::A)?;
+    add_pieces(&mut b, parts.items(), colours, Mask::B)?;
+    Ok(Rects { a, b })
 }
 
 /// Whether two letters are one.
@@ -65,6 +69,17 @@ fn is_same(a: Mask, b: Mask) -> bool
         (Mask::A, Mask::B) => false,
         (Mask::B, Mask::A) => false,
     }
+}
+
+/// How many rectangles the pieces of a letter and all zones have, up to the last value of a `usize`.
+fn count_on(parts: &Parts, zones: &[Zone], colours: &[Mask], letter: Mask) -> usize {
+    let mut count: usize = 0;
+    for (part, colour) in parts.items().iter().zip(colours) {
+        if is_same(*colour, letter) {
+            count = count.saturating_add(part.rects().len());
+        }
+    }
+    count.saturating_add(zones.len())
 }
 
 /// Adds the squares of a piece, if it has the letter.
@@ -178,8 +193,8 @@ fn add_stitch(
     }
 }
 
-/// The numbers of the zones whose sides differ.
-fn stitches(alloc: Global, sides: &[(Id, Id)], colours: &[Mask]) -> Result<Vec<Id>, AllocError>
+/// The stitches: the numbers of the zones whose sides differ.
+pub fn stitches(alloc: Global, sides: &[(Id, Id)], colours: &[Mask]) -> Result<Vec<Id>, AllocError>
     requires { All (λ side. (side.0 < length colours.now) × (side.1 < length colours.now)) sides.now }
     ensures { IfOk result (λ v. AreStitches sides.now (map is_second colours.now) v.items) }
 {

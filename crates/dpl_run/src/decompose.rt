@@ -19,7 +19,7 @@ use crate::near::near_lines;
 use dpl_base::{Edge, Listed};
 use dpl_edges::all_edges;
 use dpl_job::joined_conflicts;
-use dpl_masks::masks;
+use dpl_masks::{masks, stitches};
 use dpl_odd::odd_cycle;
 use dpl_orient::orient;
 use dpl_pool::Gate;
@@ -54,7 +54,7 @@ pub(crate) fn decompose<R: Threads + Wait + Sync, G: Gate + Sync>(
     ensures fits { IfOk result (λ d. Fits (flat_view d)) }
 {
     let cut = cut_of(alloc, layer, rule, overlap)?;
-    let decomposed = decompose_cut(rt, alloc, &cut, rule, overlap, sharing, gate)?;
+    let decomposed = decompose_cut(rt, alloc, cut, rule, overlap, sharing, gate)?;
     Ok(decomposed)
 }
 
@@ -62,7 +62,7 @@ pub(crate) fn decompose<R: Threads + Wait + Sync, G: Gate + Sync>(
 fn decompose_cut<R: Threads + Wait + Sync, G: Gate + Sync>(
     rt: &R,
     alloc: Global,
-    cut: &LayerCut,
+    cut: LayerCut,
     rule: u32,
     overlap: u32,
     sharing: Sharing,
@@ -72,8 +72,8 @@ fn decompose_cut<R: Threads + Wait + Sync, G: Gate + Sync>(
     requires overlap { IsRule overlap }
     requires tile { IsTile sharing.tile }
     requires workers { AreWorkers sharing.workers }
-    requires keys { (p : Pt) → Contains cut.now.pieces.keys p → IsPoint p }
-    ensures flat { IfOk result (λ d. OfAnyCut cut.now (λ c. IsFlatCut rule overlap c (flat_view d))) }
+    requires keys { (p : Pt) → Contains cut.pieces.keys p → IsPoint p }
+    ensures flat { IfOk result (λ d. OfAnyCut cut (λ c. IsFlatCut rule overlap c (flat_view d))) }
     ensures fits { IfOk result (λ d. Fits (flat_view d)) }
 {
     let job = tiles_of(alloc, &cut.pieces, rule, sharing.tile)?;
@@ -86,7 +86,7 @@ fn decompose_cut<R: Threads + Wait + Sync, G: Gate + Sync>(
         }
         Joined::Odd => {
             let edges = all_edges(alloc, &job.plan)?;
-            let clash = clash(alloc, cut, &edges, rule, overlap)?;
+            let clash = clash(alloc, &cut, &edges, rule, overlap)?;
             Ok(Decomposed::Cycle(clash))
         }
     }
@@ -95,34 +95,32 @@ fn decompose_cut<R: Threads + Wait + Sync, G: Gate + Sync>(
 /// The masks of a cut layer whose conflicts `joined` sums up.
 fn paint(
     alloc: Global,
-    cut: &LayerCut,
+    cut: LayerCut,
     joined: &Joined,
     rule: u32,
     overlap: u32,
 ) -> Result<Painted, AllocError>
     requires rule { IsRule rule }
     requires overlap { IsRule overlap }
-    requires keys { (p : Pt) → Contains cut.now.pieces.keys p → IsPoint p }
-    requires sums { SumsGraph (Conflict rule cut.now.pieces.parts cut.now.pieces.owners) joined.now }
-    requires even { IsEvenBelow (length cut.now.pieces.parts) joined.now }
-    ensures painted { IfOk result (λ p. OfAnyCut cut.now (λ c. IsPaintedCut rule overlap c (painted_view p))) }
+    requires keys { (p : Pt) → Contains cut.pieces.keys p → IsPoint p }
+    requires sums { SumsGraph (Conflict rule cut.pieces.parts cut.pieces.owners) joined.now }
+    requires even { IsEvenBelow (length cut.pieces.parts) joined.now }
+    ensures painted { IfOk result (λ p. OfAnyCut cut (λ c. IsPaintedCut rule overlap c (painted_view p))) }
     ensures fits { IfOk result (λ p. FitsPainted (painted_view p)) }
 {
-    let pieces = &cut.pieces;
+    let head = head(&cut, rule, overlap);
+    let LayerCut { pieces, .. } = cut;
     let count = pieces.keys().len() as u64;
     let colours = orient(alloc, count, pieces.sides(), joined)?;
-    let masks = masks(alloc, pieces, &colours)?;
     let lines = piece_lines(alloc, colours.items(), pieces.keys())?;
-    let stitches = stitch_lines(
-        alloc,
-        pieces.zones(),
-        pieces.sides(),
-        masks.stitches.items(),
-    )?;
+    let numbers = stitches(alloc, pieces.sides(), colours.items())?;
+    let stitches = stitch_lines(alloc, pieces.zones(), pieces.sides(), &numbers)?;
+    drop(numbers);
+    let masks = masks(alloc, pieces, &colours)?;
     Ok(Painted {
         a: masks.a,
         b: masks.b,
-        head: head(cut, rule, overlap),
+        head,
         pieces: Listed::of(lines),
         stitches: Listed::of(stitches),
     })

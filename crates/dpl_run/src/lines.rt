@@ -24,7 +24,7 @@ pub(crate) fn piece_lines(
     ensures lines { IfOk result (λ v. v.items ≡ map piece_line (zip (map is_second masks.now) keys.now)) }
     ensures within { IfOk result (λ v. AllByRecursion IsPiece v.items) }
 {
-    let mut lines = Vec::new(alloc);
+    let mut lines = Vec::with_capacity(alloc, keys.len())?;
     for (i, key) in keys.iter().enumerate() {
         lines.push(PieceLine {
             b: is_b(masks[i]),

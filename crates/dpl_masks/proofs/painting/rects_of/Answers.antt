@@ -1,0 +1,14 @@
+use Rattle.std.proofs.Common.{false, true, map}
+use Rattle.dpl_orient.specs.Masks.{is_second}
+use Rattle.dpl_masks.proofs.MaskLaws.{rects_on}
+use Rattle.dpl_masks.proofs.painting.rects_of.Goals as goal
+
+pub returns-clause-a : goal.returns-clause-a
+returns-clause-a c =
+    rects_on c.args.cut.parts c.args.cut.zones.items c.args.cut.sides.items (map is_second c.args.colours.now) false _ _ _ c.in_ok-a.ensures.items
+    (rw (c.deref-3.ensures.value, c.deref-4.ensures.value) at c.in_ok-add_zones.ensures.adds) (rw c.items.ensures.value at c.in_ok-add_pieces.ensures.adds) c.in_ok-add_pieces.ensures.within
+
+pub returns-clause-b : goal.returns-clause-b
+returns-clause-b c =
+    rects_on c.args.cut.parts c.args.cut.zones.items c.args.cut.sides.items (map is_second c.args.colours.now) true _ _ _ c.in_ok-b.ensures.items
+    (rw (c.deref-5.ensures.value, c.deref-6.ensures.value) at c.in_ok-add_zones-2.ensures.adds) (rw c.items-2.ensures.value at c.in_ok-add_pieces-2.ensures.adds) c.in_ok-add_pieces-2.ensures.within
