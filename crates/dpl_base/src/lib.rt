@@ -3,6 +3,7 @@
 
 mod listed;
 mod loops;
+mod room;
 
 ghost use Rattle.std.specs.Prelude.{◌≡◌, ◌+◌, ◌*◌, ◌^◌, ◌<◌, ◌≤◌, ◌<ℤ◌, ◌↔◌, IsTrue, IsNone, IfSome, unsigned_abs};
 ghost use Rattle.dpl_spec.specs.Loops.{IsPointWithin, farthest};
@@ -11,6 +12,7 @@ ghost use Rattle.dpl_base.specs.Spans.{IsSpanGap};
 
 pub use crate::listed::Listed;
 pub use crate::loops::Loop;
+pub use crate::room::give_back;
 pub use dpl_spec::{Pt, Rect, Zone};
 
 /// The number of a piece, a feature or a zone.

@@ -16,7 +16,7 @@ use Rattle.dpl_spec.specs.declared.Pt.{Pt}
 use Rattle.dpl_spec.specs.declared.Rect.{Rect}
 use Rattle.dpl_spec.specs.Squares.{Has, Covers}
 use Rattle.dpl_spec.specs.Slabs.{StandApart}
-use Rattle.dpl_slabs.specs.Alone.{LeftsRise, ReachTo, IsFrontAt, AreAlone}
+use Rattle.dpl_slabs.specs.Alone.{LeftsRise, ReachTo, IsFrontAt, AreAlone, AddsTouching}
 use Rattle.dpl_slabs.proofs.LoopLaws.{covers-pushed}
 use Rattle.dpl_slabs.proofs.RowLaws.{covers-step}
 
@@ -67,7 +67,7 @@ flip : (r s : Rect) → StandApart r s → StandApart s r
 flip r s (inl l) = inr l
 flip r s (inr l) = inl l
 
-module _ (bars gaps old new alone : List Rect) (n : ℕ) (bar : Rect) (n_in : n < length bars) (bar_is : bar ≡ get_or bars n bar) (apart : AllPairs StandApart bars) (a : AreAlone (take n bars) gaps old new alone) where
+module _ (bars beside old new alone : List Rect) (n : ℕ) (bar : Rect) (n_in : n < length bars) (bar_is : bar ≡ get_or bars n bar) (apart : AllPairs StandApart bars) (a : AreAlone (take n bars) beside old new alone) where
   earlier : (r : Rect) → Contains (take n bars) r → StandApart r bar
   earlier r (k, k_in, r_is) =
       let less : k < n = omega (arith, k_in, length-take n bars) in
@@ -88,7 +88,7 @@ module _ (bars gaps old new alone : List Rect) (n : ℕ) (bar : Rect) (n_in : n 
   pushed rs = covers-pushed (Has bar) rs bar (λ q. (λ h. h, λ h. h))
 
   -- a bar that stands apart from all else is one more
-  pub alone-more : ((r : Rect) → Contains old r ⊎ Contains gaps r → StandApart bar r) → AreAlone (take (n + 1) bars) gaps old new (alone ++ bar ∷ [])
+  pub alone-more : ((r : Rect) → Contains old r ⊎ Contains beside r → StandApart bar r) → AreAlone (take (n + 1) bars) beside old new (alone ++ bar ∷ [])
   alone-more off = record {
     apart = all_pairs_push StandApart alone bar a.apart (λ k d k_in. (let there = Contains-get_or alone k d k_in in earlier (get_or alone k d) (a.members (get_or alone k d) there)));
     members = λ r r_in. elim (Contains-push_cases alone bar r r_in) [ inl h ↦ later r (a.members r h) | inr e ↦ subst (Contains (take (n + 1) bars)) e last ];
@@ -97,8 +97,8 @@ module _ (bars gaps old new alone : List Rect) (n : ℕ) (bar : Rect) (n_in : n 
       | inl h ↦ a.off r s h s_in
       | inr e ↦ subst (λ t. StandApart t s) e (elim (a.others s s_in) [ inl h ↦ off s (inl h) | inr h ↦ flip s bar (earlier s h) ])
     ];
-    off_gaps = λ r s r_in s_in. elim (Contains-push_cases alone bar r r_in) [
-      | inl h ↦ a.off_gaps r s h s_in
+    off_beside = λ r s r_in s_in. elim (Contains-push_cases alone bar r r_in) [
+      | inl h ↦ a.off_beside r s h s_in
       | inr e ↦ subst (λ t. StandApart t s) e (off s (inr s_in))
     ];
     covers = λ p. (
@@ -120,7 +120,7 @@ module _ (bars gaps old new alone : List Rect) (n : ℕ) (bar : Rect) (n_in : n 
   }
 
   -- another bar is one of the others
-  pub beside-more : AreAlone (take (n + 1) bars) gaps old (new ++ bar ∷ []) alone
+  pub beside-more : AreAlone (take (n + 1) bars) beside old (new ++ bar ∷ []) alone
   beside-more = record {
     apart = a.apart;
     members = λ r r_in. later r (a.members r r_in);
@@ -132,7 +132,7 @@ module _ (bars gaps old new alone : List Rect) (n : ℕ) (bar : Rect) (n_in : n 
       | inl h ↦ a.off r s r_in h
       | inr e ↦ subst (StandApart r) e (earlier r (a.members r r_in))
     ];
-    off_gaps = a.off_gaps;
+    off_beside = a.off_beside;
     covers = λ p. (
       (λ h. elim h [
         | inl c ↦ elim ((a.covers p).0 (inl c)) [ inl b ↦ inl ((covers-step bars n bar p n_in bar_is).1 (inl b)) | inr o ↦ inr o ]
@@ -149,4 +149,35 @@ module _ (bars gaps old new alone : List Rect) (n : ℕ) (bar : Rect) (n_in : n 
         | inr o ↦ elim ((a.covers p).1 (inr o)) [ inl k ↦ inl k | inr q ↦ inr ((pushed new p).1 (inl q)) ]
       ],
     );
+  }
+
+module _ (bars beside old new : List Rect) (n : ℕ) (bar : Rect) (n_in : n < length bars) (bar_is : bar ≡ get_or bars n bar) (a : AddsTouching (take n bars) beside old new) where
+  one-more : take (n + 1) bars ≡ take n bars ++ bar ∷ []
+  one-more = take_more bars n bar n_in ∙ ap (λ b. take n bars ++ b ∷ []) (sym bar_is)
+
+  before : (r : Rect) → Contains (take n bars) r → Contains (take (n + 1) bars) r
+  before r h = rw one-more (Contains-append_left (take n bars) (bar ∷ []) r h)
+
+  which : (r : Rect) → Contains (take (n + 1) bars) r → Contains (take n bars) r ⊎ (bar ≡ r)
+  which r h = Contains-push_cases (take n bars) bar r (rw one-more at h)
+
+  -- a bar that stands apart isn't added
+  pub touching-apart : ((s : Rect) → Contains beside s → StandApart bar s) → AddsTouching (take (n + 1) bars) beside old new
+  touching-apart off = record {
+    kept = a.kept;
+    others = λ r r_in. elim (a.others r r_in) [ inl h ↦ inl h | inr h ↦ inr (before r h) ];
+    apart = λ r r_in. elim (which r r_in) [ inl h ↦ a.apart r h | inr e ↦ inr (subst (λ t. (s : Rect) → Contains beside s → StandApart t s) e off) ];
+  }
+
+  pub touching-more : AddsTouching (take (n + 1) bars) beside old (new ++ bar ∷ [])
+  touching-more = record {
+    kept = λ r h. Contains-append_left new (bar ∷ []) r (a.kept r h);
+    others = λ r r_in. elim (Contains-push_cases new bar r r_in) [
+      | inl h ↦ elim (a.others r h) [ inl k ↦ inl k | inr k ↦ inr (before r k) ]
+      | inr e ↦ inr (rw one-more (subst (Contains (take n bars ++ bar ∷ [])) e (Contains-push (take n bars) bar)))
+    ];
+    apart = λ r r_in. elim (which r r_in) [
+      | inl h ↦ elim (a.apart r h) [ inl k ↦ inl (Contains-append_left new (bar ∷ []) r k) | inr off ↦ inr off ]
+      | inr e ↦ inl (subst (Contains (new ++ bar ∷ [])) e (Contains-push new bar))
+    ];
   }

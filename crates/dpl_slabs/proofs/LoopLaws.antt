@@ -40,16 +40,6 @@ step-left p q s left =
 pub step-level : (p q s : Pt) → p.y ≡ q.y → step p q s ≡ pos 0
 step-level p q s e = by_lt_z s.y p.y (λ a. grind (arith, ints, a, e)) (λ a. grind (arith, ints, a, e))
 
-pub adds-level : (es : List Edge) (p q : Pt) → p.y ≡ q.y → AddsStep es es p q
-adds-level es p q e =
-    record {
-      sums_a = λ s. (let h = step-level p q s e in omega (arith, ints, h));
-      sums_b = λ s. refl;
-      within = λ bound v w h. h;
-      keeps = λ f h. h;
-      level = λ s left. (let h = step-level p q s e in let same = ap (above s) e in omega (arith, ints, h, same));
-    }
-
 adds-edge : (es : List Edge) (e : Edge) (p q : Pt) → ((s : Pt) → part change_a e s ≡ step p q s) → e.x ≡ p.x → e.b ≡ pos 0 → ((bound : ℕ) → IsPointWithin bound p → IsPointWithin bound q → EdgeWithin bound e) → AddsStep es (es ++ e ∷ []) p q
 adds-edge es e p q sums x b fits =
     record {
@@ -69,15 +59,6 @@ pub adds-down : (es : List Edge) (e : Edge) (p q : Pt) → q.y <ℤ p.y → e.x 
 adds-down es e p q down x y0 y1 a b =
     adds-edge es e p q (λ s. part-down e p q s down x y0 y1 a) x b
     (λ bound v w. (let vx = v.column in let vy = v.row in let wy = w.row in record { column = omega (arith, ints, vx, x); low = omega (arith, ints, wy, y0); high = omega (arith, ints, vy, y1); a = omega (arith, ints, a); b = omega (arith, ints, b) }))
-
-pub steps-none : (ps : List Pt) → AreStepsOf ps 0 []
-steps-none ps =
-    record {
-      sums_a = λ s. refl;
-      sums_b = λ s. refl;
-      within = λ bound w e e_in. absurd (Contains-nil e e_in);
-      level = λ s left. omega (arith, ints);
-    }
 
 pub steps-next : (ps : List Pt) (n m : ℕ) (es fs : List Edge) (p q : Pt) → m ≡ n + 1 → m < length ps → p ≡ get_or ps n p → q ≡ get_or ps m q → AreStepsOf ps n es → AddsStep es fs p q → AreStepsOf ps m fs
 steps-next ps n m es fs p q m_is m_in p_is q_is h a =
@@ -200,9 +181,6 @@ covers-pushed a rs r same p = (
 
 pub rects-appended : (bound : ℕ) (rs ss : List Rect) → AreRectsWithin bound rs → AreRectsWithin bound ss → AreRectsWithin bound (rs ++ ss)
 rects-appended bound rs ss v w r r_in = elim (Contains-append_cases rs ss r r_in) [ inl one ↦ v r one | inr other ↦ w r other ]
-
-pub loops-none : (ls : List (List Pt)) (p : Pt) → Covers [] p ↔ SomeFirstCovers ls 0 p
-loops-none ls p = (λ (k, r, k_in, is, has). absurd (omega (arith, k_in)), λ (k, l, b, k_in, is, has). absurd (omega (arith, b)))
 
 pub loops-next : (ls : List (List Pt)) (n : ℕ) (l : List Pt) (old new : List Rect) → n < length ls → l ≡ get_or ls n l → ((p : Pt) → Covers old p ↔ SomeFirstCovers ls n p) → ((p : Pt) → Covers new p ↔ (Covers old p ⊎ LoopCovers l p)) → (p : Pt) → Covers new p ↔ SomeFirstCovers ls (n + 1) p
 loops-next ls n l old new n_in l_is before step p = (

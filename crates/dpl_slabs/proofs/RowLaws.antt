@@ -1,7 +1,8 @@
 -- Slabs of bars side by side in one row.
-use Rattle.std.proofs.Common.{◌≡◌, ℕ, suc, ◌+◌, ◌≤◌, ◌<◌, ◌⊎◌, inl, inr, List, [], ◌∷◌, ◌++◌, length, get_or, take, sym, ap, ◌∙◌, subst, arith}
-use Rattle.std.specs.Prelude.{◌↔◌, pos, ◌≤ℤ◌}
-use Rattle.std.specs.List.{AllPairs, Contains}
+use Rattle.std.proofs.Common.{◌≡◌, ℕ, suc, ◌+◌, ◌≤◌, ◌<◌, ◌⊎◌, inl, inr, List, [], ◌∷◌, ◌++◌, length, get_or, take, refl, sym, ap, ◌∙◌, subst, arith}
+use Rattle.std.specs.Prelude.{◌↔◌, pos, ◌≤ℤ◌, ◌<ℤ◌}
+use Rattle.std.proofs.lemmas.Bool.{cases_order}
+use Rattle.std.specs.List.{Contains}
 use Rattle.std.proofs.lemmas.Int.{ints, by_lt_z}
 use Rattle.std.proofs.lemmas.List.{get_or_default, take_all}
 use Rattle.std.proofs.lemmas.List.Elements.{All-contains, All-push, Contains-get_or, Contains-push_cases}
@@ -10,7 +11,7 @@ use Rattle.std.proofs.Math.Seq.{take-suc}
 use Rattle.dpl_spec.specs.declared.Pt.{Pt}
 use Rattle.dpl_spec.specs.declared.Rect.{Rect}
 use Rattle.dpl_spec.specs.Squares.{Has, Covers}
-use Rattle.dpl_spec.specs.Slabs.{IsSolid, StandApart, Follows, AreSlabsOf}
+use Rattle.dpl_spec.specs.Slabs.{IsSolid, Follows, IsCanonical, AreSlabsOf}
 use Rattle.dpl_spec.specs.Loops.{AreRectsWithin}
 use Rattle.dpl_spec.proofs.Ordered.{Contains-nil}
 use Rattle.dpl_spec.proofs.SlabLaws.{member-Covers}
@@ -18,7 +19,8 @@ use Rattle.dpl_sweep.specs.declared.edge.Rule.TheVariants.{Either}
 use Rattle.dpl_sweep.specs.Edges.{Holds}
 use Rattle.dpl_sweep.specs.Orders.{CornerBefore, CornersRise}
 use Rattle.dpl_slabs.specs.Cells.{cells}
-use Rattle.dpl_slabs.specs.Rows.{AreLevel, IsRow, IsLeftOf, IsWider, IsBarJoined, AreBarsSoFar}
+use Rattle.dpl_slabs.specs.Slices.{Without}
+use Rattle.dpl_slabs.specs.Rows.{AreLevel, AreAllLevel, AreSpaced, IsRow, IsLeftOf, IsWider, IsBarJoined, AreBarsSoFar, RisesTo}
 use Rattle.dpl_slabs.proofs.LoopLaws.{covers-pushed}
 use Rattle.dpl_slabs.proofs.SetLaws.{told-first, slabs-of-same, slabs-within, rects-none}
 
@@ -71,10 +73,10 @@ has-wider last bar next p level l m w =
       ],
     )
 
-level-flip : (a b : Rect) → AreLevel a b → AreLevel b a
+pub level-flip : (a b : Rect) → AreLevel a b → AreLevel b a
 level-flip a b l = record { low = sym l.low; high = sym l.high }
 
-level-on : (a b c : Rect) → AreLevel a b → AreLevel b c → AreLevel a c
+pub level-on : (a b c : Rect) → AreLevel a b → AreLevel b c → AreLevel a c
 level-on a b c l m = record { low = l.low ∙ m.low; high = l.high ∙ m.high }
 
 module _ (row : List Rect) (is : IsRow row) (rise : CornersRise row) where
@@ -93,7 +95,7 @@ module _ (row : List Rect) (is : IsRow row) (rise : CornersRise row) where
         solid = λ i d k. absurd (omega (arith, k));
         last_solid = is.solid first first_in;
         level = λ q q_in. is.level first q first_in q_in;
-        follow = λ i j d l k. absurd (omega (arith, k));
+        apart = λ i j d l k. absurd (omega (arith, k));
         before = λ a a_in. absurd (Contains-nil a a_in);
         left = λ k d l k_in. bar-left 0 k first d (omega (arith, l)) k_in first_is;
         covers = λ p. (
@@ -117,7 +119,7 @@ module _ (row : List Rect) (is : IsRow row) (rise : CornersRise row) where
         solid = All-push IsSolid done last s.solid s.last_solid;
         last_solid = is.solid bar bar_in;
         level = λ q q_in. is.level bar q bar_in q_in;
-        follow = all_pairs_push Follows done last s.follow (λ k d k_in. (let there = Contains-get_or done k d k_in in follows-left (get_or done k d) last (All-contains IsSolid done (get_or done k d) s.solid there) (s.before (get_or done k d) there)));
+        apart = all_pairs_push IsLeftOf done last s.apart (λ k d k_in. s.before (get_or done k d) (Contains-get_or done k d k_in));
         before = λ a a_in. elim (Contains-push_cases done last a a_in) [
           | inl old ↦ (let b = s.before a old in let apart = b.apart in record { apart = omega (arith, ints, apart, wide, l); level = level-on a last bar b.level level })
           | inr e ↦ subst (λ t. IsLeftOf t bar) e (record { apart = l; level = level })
@@ -149,7 +151,7 @@ module _ (row : List Rect) (is : IsRow row) (rise : CornersRise row) where
         solid = s.solid;
         last_solid = record { wide = omega (arith, ints, left, wide, over); tall = omega (arith, ints, tall, low, high) };
         level = λ q q_in. level-on next last q (level-flip last next w.level) (s.level q q_in);
-        follow = s.follow;
+        apart = s.apart;
         before = λ a a_in. (let b = s.before a a_in in let apart = b.apart in record { apart = omega (arith, ints, apart, left); level = level-on a last next b.level w.level });
         left = λ k d l k_in. (let h = s.left k d (omega (arith, l)) k_in in omega (arith, ints, h, left));
         covers = λ p. (
@@ -170,34 +172,73 @@ module _ (row : List Rect) (is : IsRow row) (rise : CornersRise row) where
         );
       })
 
+-- what goes for one more slab
+pushed-cases : (P : Rect → Type 0) (done : List Rect) (last : Rect) → ((r : Rect) → Contains done r → P r) → P last → (r : Rect) → Contains (done ++ last ∷ []) r → P r
+pushed-cases P done last h here r r_in = elim (Contains-push_cases done last r r_in) [ inl old ↦ h r old | inr e ↦ subst P e here ]
+
+-- one more bar right of all others
+pub spaced-pushed : (done : List Rect) (last : Rect) → AreSpaced done → IsSolid last → ((a : Rect) → Contains done a → IsLeftOf a last) → AreSpaced (done ++ last ∷ [])
+spaced-pushed done last s solid before = record {
+  row = record {
+    solid = pushed-cases IsSolid done last s.row.solid solid;
+    level = λ r q r_in q_in. level-on r last q (beside r r_in) (level-flip q last (beside q q_in));
+  };
+  left = all_pairs_push IsLeftOf done last s.left (λ k d k_in. before (get_or done k d) (Contains-get_or done k d k_in));
+}
+  where
+    beside : (r : Rect) → Contains (done ++ last ∷ []) r → AreLevel r last
+    beside = pushed-cases (λ r. AreLevel r last) done last (λ r r_in. (before r r_in).level) (record { low = refl; high = refl })
+
+pub spaced-none : AreSpaced []
+spaced-none = record {
+  row = record { solid = λ r r_in. absurd (Contains-nil r r_in); level = λ r s r_in s_in. absurd (Contains-nil r r_in) };
+  left = λ i j d l k. absurd (omega (arith, k));
+}
+
+-- spaced bars are the slabs of their squares
+pub spaced-canonical : (bars : List Rect) → AreSpaced bars → IsCanonical bars
+spaced-canonical bars s = record {
+  solid = λ i d k. s.row.solid (get_or bars i d) (Contains-get_or bars i d k);
+  follow = λ i j d l k. follows-left (get_or bars i d) (get_or bars j d) (s.row.solid (get_or bars i d) (Contains-get_or bars i d (omega (arith, l, k)))) (s.left i j d l k);
+}
+
+-- nothing is left of no rectangles
+pub slabs-none : (rects holes : List Rect) → length rects ≤ 0 → AreSlabsOf (Without rects holes) []
+slabs-none [] holes none = record {
+  canonical = spaced-canonical [] spaced-none;
+  covers = λ p. ((λ c. absurd (nothing p c)), λ h. absurd (nothing p h.0));
+}
+  where
+    nothing : (p : Pt) → Covers [] p → ⊥
+    nothing p c = let found = member-Covers [] p c in Contains-nil found.0 found.1
+slabs-none (r ∷ rects) holes none = absurd (omega (arith, none))
+
+pub bars-spaced : (row : List Rect) (n : ℕ) (done : List Rect) (last : Rect) → AreBarsSoFar row n done last → AreSpaced (done ++ last ∷ [])
+bars-spaced row n done last s =
+    spaced-pushed done last
+    (record {
+      row = record {
+        solid = λ r r_in. All-contains IsSolid done r s.solid r_in;
+        level = λ r q r_in q_in. level-on r last q (s.before r r_in).level (level-flip q last (s.before q q_in).level);
+      };
+      left = s.apart;
+    })
+    s.last_solid s.before
+
+pub bars-level : (row : List Rect) (n : ℕ) (done : List Rect) (last : Rect) → AreBarsSoFar row n done last → AreAllLevel (done ++ last ∷ []) row
+bars-level row n done last s r q r_in q_in =
+    pushed-cases (λ t. AreLevel t q) done last (λ t t_in. level-on t last q (s.before t t_in).level (s.level q q_in)) (s.level q q_in) r r_in
+
 pub bars-all : (row : List Rect) (n : ℕ) (done : List Rect) (last : Rect) → length row ≤ n → AreBarsSoFar row n done last → AreSlabsOf (Covers row) (done ++ last ∷ [])
 bars-all row n done last all s =
     let whole : take n row ≡ row = take_all n row all in
     record {
-      canonical = record {
-        solid = All-push IsSolid done last s.solid s.last_solid;
-        follow = all_pairs_push Follows done last s.follow (λ k d k_in. (let there = Contains-get_or done k d k_in in follows-left (get_or done k d) last (All-contains IsSolid done (get_or done k d) s.solid there) (s.before (get_or done k d) there)));
-      };
+      canonical = spaced-canonical (done ++ last ∷ []) (bars-spaced row n done last s);
       covers = λ p. (
         (λ c. (let h = (s.covers p).0 ((covers-pushed (Has last) done last (λ q. (λ g. g, λ g. g)) p).0 c) in rw whole at h)),
         λ c. (covers-pushed (Has last) done last (λ q. (λ g. g, λ g. g)) p).1 ((s.covers p).1 (rw whole c)),
       );
     }
-
--- in one row, a column lies between any two slabs
-pub bars-apart : (row : List Rect) (n : ℕ) (done : List Rect) (last : Rect) → AreBarsSoFar row n done last → AllPairs StandApart (done ++ last ∷ [])
-bars-apart row n done last s =
-    all_pairs_push StandApart done last
-    (λ i j d l k.
-    let a = s.before (get_or done i d) (Contains-get_or done i d (omega (arith, l, k))) in
-    let b = s.before (get_or done j d) (Contains-get_or done j d k) in
-    let al = a.level.low in
-    let ah = a.level.high in
-    let bl = b.level.low in
-    let bh = b.level.high in
-    let tall = s.last_solid.tall in
-    (s.follow i j d l k).apart (omega (arith, ints, al, bh, tall), omega (arith, ints, bl, ah, tall)))
-    (λ k d k_in. inl (s.before (get_or done k d) (Contains-get_or done k d k_in)).apart)
 
 -- slabs of rectangles within the bound lie within it
 pub within-slabs : (bound : ℕ) (rs slabs : List Rect) → AreRectsWithin bound rs → AreSlabsOf (Covers rs) slabs → AreRectsWithin bound slabs
@@ -216,3 +257,39 @@ row-from rs first h =
 
 pub row-beside : (rs : List Rect) (i : ℕ) (a b : Rect) → 0 < length rs → i < length rs → IsRow rs → IsSolid (get_or rs i b) × AreLevel (get_or rs 0 a) (get_or rs i b)
 row-beside rs i a b some i_in row = (row.solid (get_or rs i b) (Contains-get_or rs i b i_in), row.level (get_or rs 0 a) (get_or rs i b) (Contains-get_or rs 0 a some) (Contains-get_or rs i b i_in))
+
+-- one more bar begins right of the one before it, and so of all others
+pub rises-next : (row : List Rect) (m n : ℕ) (prev bar : Rect) → IsRow row → n ≡ m + 1 → n < length row → prev ≡ get_or row m prev → bar ≡ get_or row n bar → prev.x1 <ℤ bar.x0 → RisesTo row n → RisesTo row (n + 1)
+rises-next row m n prev bar is n_is n_in prev_is bar_is right h j k d l k_less k_in = elim (cases_order k n) [
+  | inl e ↦ (
+      let m_in : m < length row = omega (arith, n_is, n_in) in
+      let here : get_or row k d ≡ bar = ap (λ i. get_or row i d) e ∙ (get_or_default row n d bar n_in ∙ sym bar_is) in
+      let there : get_or row m d ≡ prev = get_or_default row m d prev m_in ∙ sym prev_is in
+      let solid = is.solid prev (m, m_in, sym prev_is) in
+      let wide = solid.wide in
+      elim (cases_order j m) [
+        | inl same ↦ (let before : get_or row j d ≡ prev = ap (λ i. get_or row i d) same ∙ there in rw (here, before) right)
+        | inr o ↦ elim o [
+          | inl less ↦ (let a = rw there at (h j m d less (omega (arith, n_is)) m_in) in rw here (omega (arith, ints, a, wide, right)))
+          | inr more ↦ absurd (omega (arith, more, l, e, n_is))
+        ]
+      ])
+  | inr o ↦ elim o [
+    | inl less ↦ h j k d l less k_in
+    | inr more ↦ absurd (omega (arith, more, k_less))
+  ]
+]
+
+-- bars that go by column are spaced
+pub rises-spaced : (row : List Rect) (n : ℕ) → IsRow row → length row ≤ n → RisesTo row n → AreSpaced row
+rises-spaced row n is all h = record {
+  row = is;
+  left = λ j k d l k_in. record {
+    apart = h j k d l (omega (arith, all, k_in)) k_in;
+    level = is.level (get_or row j d) (get_or row k d) (Contains-get_or row j d (omega (arith, l, k_in))) (Contains-get_or row k d k_in);
+  };
+}
+
+-- and the slabs of their own squares
+pub spaced-slabs : (bars : List Rect) → AreSpaced bars → AreSlabsOf (Covers bars) bars
+spaced-slabs bars s = record { canonical = spaced-canonical bars s; covers = λ p. (λ c. c, λ c. c) }

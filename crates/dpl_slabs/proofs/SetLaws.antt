@@ -51,12 +51,6 @@ told-both rs ss p = (λ (h, k). (sum-covered rs p h, sum-covered ss p k), λ (h,
 pub slabs-of-same : (a b : Pt → Type 0) (rs : List Rect) → ((p : Pt) → a p ↔ b p) → AreSlabsOf a rs → AreSlabsOf b rs
 slabs-of-same a b rs same s = record { canonical = s.canonical; covers = λ p. (λ h. (same p).0 ((s.covers p).0 h), λ h. (s.covers p).1 ((same p).1 h)) }
 
-pub rects-wider : (m n : ℕ) (rs : List Rect) → m ≤ n → AreRectsWithin m rs → AreRectsWithin n rs
-rects-wider m n rs l w r r_in =
-    let h : IsRectWithin m r = w r r_in in
-    let a = h.left in let b = h.low in let c = h.right in let d = h.high in
-    record { left = omega (arith, l, a); low = omega (arith, l, b); right = omega (arith, l, c); high = omega (arith, l, d) }
-
 pub rects-more : (n : ℕ) (rs : List Rect) (r : Rect) → AreRectsWithin n rs → IsRectWithin n r → AreRectsWithin n (rs ++ r ∷ [])
 rects-more n rs r w v s s_in = elim (Contains-push_cases rs r s s_in) [ inl old ↦ w s old | inr same ↦ subst (IsRectWithin n) same v ]
 

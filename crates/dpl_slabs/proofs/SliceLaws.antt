@@ -1,9 +1,9 @@
 -- Slabs of slices put together.
-use Rattle.std.proofs.Common.{◌≡◌, ℕ, ◌+◌, ◌≤◌, ◌<◌, ◌⊎◌, inl, inr, List, [], ◌∷◌, ◌++◌, length, get_or, take, subst, arith}
+use Rattle.std.proofs.Common.{◌≡◌, ℕ, ◌+◌, ◌≤◌, ◌<◌, ◌⊎◌, inl, inr, List, [], ◌∷◌, ◌++◌, length, get_or, take, sym, ◌∙◌, subst, arith}
 use Rattle.std.specs.Prelude.{◌↔◌, ℤ, pos, ◌-ℤ◌, ◌≤ℤ◌, ◌<ℤ◌, neg_ℤ, int_lt}
 use Rattle.std.specs.Int.{int_min}
 use Rattle.std.proofs.lemmas.Bool.{cases_cond}
-use Rattle.std.specs.List.{All, AllPairs, Contains}
+use Rattle.std.specs.List.{All, Contains}
 use Rattle.std.specs.List.Sorted.{IsPermutation}
 use Rattle.std.proofs.lemmas.Int.{ints, by_lt_z}
 use Rattle.std.proofs.lemmas.List.{take_all}
@@ -19,10 +19,10 @@ use Rattle.dpl_spec.proofs.SlabLaws.{Covers-member, member-Covers}
 use Rattle.dpl_sweep.specs.declared.edge.Rule.TheVariants.{Minus}
 use Rattle.dpl_sweep.specs.Edges.{Holds}
 use Rattle.dpl_slabs.specs.Cells.{cells}
-use Rattle.dpl_slabs.specs.Rows.{IsRow}
-use Rattle.dpl_slabs.specs.Alone.{AreAlone}
-use Rattle.dpl_slabs.specs.Slices.{InRows, Without, IsPartOf, IsBar, ArePartsOf, AddsPart, IsCutTo, IsSliceOf, ArePiecesBelow, ArePiecesOf}
-use Rattle.dpl_slabs.proofs.LoopLaws.{covers-pushed, covers-appended, rects-appended}
+use Rattle.dpl_slabs.specs.Rows.{AreAllLevel, AreSpaced, IsRow}
+use Rattle.dpl_slabs.specs.Alone.{KeepOff, AreAlone, AddsTouching}
+use Rattle.dpl_slabs.specs.Slices.{InRows, Without, IsPartOf, IsBar, ArePartsOf, AddsPart, IsCutTo, ArePiecesBelow, ArePiecesOf}
+use Rattle.dpl_slabs.proofs.LoopLaws.{covers-pushed, covers-appended}
 use Rattle.dpl_slabs.proofs.SetLaws.{told-minus, rects-none, rects-more, slabs-of-same, slabs-within}
 use Rattle.dpl_slabs.proofs.RowLaws.{covers-step, within-slabs}
 use Rattle.dpl_slabs.proofs.StripLaws.{AllPairs-append}
@@ -150,13 +150,19 @@ row-sorted bars sorted same row = record {
     from r r_in = Contains-permutation sorted bars r (IsPermutation-sym bars sorted same) r_in
 
 -- all parts of all rectangles, the bars put together
-pub cut-whole : (low high : ℤ) (rects bars row others : List Rect) (n : ℕ) → length rects ≤ n → ArePartsOf low high (take n rects) bars others → AreSlabsOf (Covers bars) row → AllPairs StandApart row → IsCutTo low high rects row others
-cut-whole low high rects bars row others n all s by apart =
+pub cut-whole : (low high : ℤ) (rects bars row others : List Rect) (n : ℕ) → length rects ≤ n → ArePartsOf low high (take n rects) bars others → AreSlabsOf (Covers bars) row → AreSpaced row → AreAllLevel row bars → IsCutTo low high rects row others
+cut-whole low high rects bars row others n all s by spaced level =
     let whole : take n rects ≡ rects = take_all n rects all in
     let covers = rw whole at s.covers in
     record {
-      solid = by.canonical.solid;
-      apart = apart;
+      full = λ r r_in.
+          let solid = spaced.row.solid r r_in in
+          let wide = solid.wide in
+          let tall = solid.tall in
+          let first : Pt = record { x = r.x0; y = r.y0 } in
+          let (bar, bar_in, _) = member-Covers bars first ((by.covers first).0 (Covers-member row r first r_in (record { left = omega (arith, ints); right = wide; low = omega (arith, ints); high = tall }))) in
+          record { solid = solid; first = (level r bar r_in bar_in).low ∙ (s.full bar bar_in).first; end = (level r bar r_in bar_in).high ∙ (s.full bar bar_in).end };
+      left = spaced.left;
       covers = λ p. (
         (λ h. elim h [ inl c ↦ (covers p).0 (inl ((by.covers p).0 c)) | inr c ↦ (covers p).0 (inr c) ]),
         λ h. elim ((covers p).1 h) [ inl c ↦ inl ((by.covers p).1 c) | inr c ↦ inr c ],
@@ -165,47 +171,104 @@ cut-whole low high rects bars row others n all s by apart =
       within = s.within;
     }
 
-pub slice-whole : (low high : ℤ) (rects bars others : List Rect) → IsCutTo low high rects bars others → IsSliceOf low high rects (others ++ bars)
-slice-whole low high rects bars others s = record {
-  covers = λ p. (
-    (λ h. elim ((both p).0 h) [ inl c ↦ (s.covers p).0 (inr c) | inr c ↦ (s.covers p).0 (inl c) ]),
-    λ h. elim ((s.covers p).1 h) [ inl c ↦ (both p).1 (inr c) | inr c ↦ (both p).1 (inl c) ],
-  );
-  within = rects-appended farthest others bars s.within s.bars_within;
+pub cut-spaced : (low high : ℤ) (rects bars others : List Rect) → IsCutTo low high rects bars others → AreSpaced bars
+cut-spaced low high rects bars others s = record { row = bars-row low high bars s.full; left = s.left }
+
+pub cut-level : (low high : ℤ) (rects holes bars gaps others more : List Rect) → IsCutTo low high rects bars others → IsCutTo low high holes gaps more → AreAllLevel bars gaps
+cut-level low high rects holes bars gaps others more s t r g r_in g_in = record {
+  low = (s.full r r_in).first ∙ sym (t.full g g_in).first;
+  high = (s.full r r_in).end ∙ sym (t.full g g_in).end;
 }
+
+-- slabs of what holes leave of rectangles within the range lie within it
+pub without-within : (rects holes slabs : List Rect) → AreRectsWithin farthest rects → AreRectsWithin farthest holes → AreSlabsOf (Without rects holes) slabs → AreRectsWithin farthest slabs
+without-within rects holes slabs v w s =
+    slabs-within Minus farthest rects holes slabs v w
+    (slabs-of-same (Without rects holes) (λ p. Holds Minus (cells (pos 1) rects p) (cells (pos 1) holes p)) slabs (λ p. ((told-minus rects holes p).1, (told-minus rects holes p).0)) s)
+
+-- rectangles with a column between them share no square
+none-shared : (r s : Rect) (p : Pt) → StandApart r s → Has r p → Has s p → ⊥
+none-shared r s p off has has_too =
+    let b = has.left in
+    let d = has.right in
+    let e = has_too.left in
+    let f = has_too.right in
+    elim off [ inl l ↦ omega (arith, ints, l, d, e) | inr l ↦ omega (arith, ints, l, b, f) ]
+
+no-square : (others rs : List Rect) → KeepOff rs others → (p : Pt) → Covers rs p → Covers others p → ⊥
+no-square others rs off p c k =
+    let (r, r_in, has) = member-Covers rs p c in
+    let (g, g_in, has_too) = member-Covers others p k in
+    none-shared r g p (off r g r_in g_in) has has_too
+
+-- gaps that stand apart from all parts take nothing of them
+pub parts-slabs : (parts holes near gaps slabs : List Rect) → AddsTouching gaps parts holes near → AreSlabsOf (Without parts near) slabs → AreSlabsOf (Without parts (holes ++ gaps)) slabs
+parts-slabs parts holes near gaps slabs a by =
+    slabs-of-same (Without parts near) (Without parts (holes ++ gaps)) slabs
+    (λ p. (
+      (λ (c, none). (c, λ h. elim ((both p).0 h) [ inl k ↦ none (holed p k) | inr k ↦ far p c none k ])),
+      λ (c, none). (c, λ k. none ((both p).1 (from p k))),
+    )) by
   where
-    both : (p : Pt) → Covers (others ++ bars) p ↔ (Covers others p ⊎ Covers bars p)
-    both = covers-appended (Covers bars) others bars (λ p. (λ c. c, λ c. c))
+    both : (p : Pt) → Covers (holes ++ gaps) p ↔ (Covers holes p ⊎ Covers gaps p)
+    both = covers-appended (Covers gaps) holes gaps (λ p. (λ c. c, λ c. c))
+
+    holed : (p : Pt) → Covers holes p → Covers near p
+    holed p k = let (r, r_in, has) = member-Covers holes p k in Covers-member near r p (a.kept r r_in) has
+
+    far : (p : Pt) → Covers parts p → ¬ Covers near p → Covers gaps p → ⊥
+    far p c none k =
+        let (r, r_in, has) = member-Covers gaps p k in
+        let (s, s_in, has_too) = member-Covers parts p c in
+        elim (a.apart r r_in) [
+          | inl there ↦ none (Covers-member near r p there has)
+          | inr off ↦ none-shared r s p (off s s_in) has has_too
+        ]
+
+    from : (p : Pt) → Covers near p → Covers holes p ⊎ Covers gaps p
+    from p k =
+        let (r, r_in, has) = member-Covers near p k in
+        elim (a.others r r_in) [ inl h ↦ inl (Covers-member holes r p h has) | inr h ↦ inr (Covers-member gaps r p h has) ]
+
+-- and what of the gaps is left lies within the range
+pub near-within : (parts holes near gaps : List Rect) → AddsTouching gaps parts holes near → AreRectsWithin farthest holes → AreRectsWithin farthest gaps → AreRectsWithin farthest near
+near-within parts holes near gaps a v w r r_in = elim (a.others r r_in) [ inl h ↦ v r h | inr h ↦ w r h ]
 
 -- bars that stand alone, and the slabs of all else
-module _ (low high : ℤ) (rects holes bars old new gaps alone : List Rect) (s : IsCutTo low high rects bars old) (t : IsSliceOf low high holes gaps) (a : AreAlone bars gaps old new alone) where
+module _ (low high : ℤ) (rects holes whole bars old new gaps rest alone : List Rect) (s : IsCutTo low high rects whole old) (t : IsCutTo low high holes gaps rest) (b : AreSlabsOf (Without whole gaps) bars) (a : AreAlone bars rest old new alone) where
   pub rest-within : AreRectsWithin farthest new
-  rest-within r r_in = elim (a.others r r_in) [ inl h ↦ s.within r h | inr h ↦ s.bars_within r h ]
+  rest-within r r_in = elim (a.others r r_in) [ inl h ↦ s.within r h | inr h ↦ without-within whole gaps bars s.bars_within t.bars_within b r h ]
 
   alone-solid : (r : Rect) → Contains alone r → IsSolid r
-  alone-solid r r_in = All-contains IsSolid bars r s.solid (a.members r r_in)
+  alone-solid r r_in = All-contains IsSolid bars r b.canonical.solid (a.members r r_in)
 
-  -- no gap has a square of such a bar
-  no-gap : (p : Pt) → Covers alone p → Covers gaps p → ⊥
-  no-gap p c k =
-      let (r, r_in, has) = member-Covers alone p c in
-      let (g, g_in, has_too) = member-Covers gaps p k in
-      let b = has.left in
-      let d = has.right in
-      let e = has_too.left in
-      let f = has_too.right in
-      elim (a.off_gaps r g r_in g_in) [ inl l ↦ omega (arith, ints, l, d, e) | inr l ↦ omega (arith, ints, l, b, f) ]
+  -- squares of holes in the rows
+  holed : (p : Pt) → Covers (rest ++ gaps) p ↔ InRows low high (Covers holes) p
+  holed p = (
+    λ c. elim ((both p).0 c) [ inl k ↦ (t.covers p).0 (inr k) | inr k ↦ (t.covers p).0 (inl k) ],
+    λ h. elim ((t.covers p).1 h) [ inl k ↦ (both p).1 (inr k) | inr k ↦ (both p).1 (inl k) ],
+  )
+    where
+      both : (p : Pt) → Covers (rest ++ gaps) p ↔ (Covers rest p ⊎ Covers gaps p)
+      both = covers-appended (Covers gaps) rest gaps (λ p. (λ c. c, λ c. c))
+
+  -- no hole has a square of such a bar
+  no-hole : (p : Pt) → Covers alone p → InRows low high (Covers holes) p → ⊥
+  no-hole p c h = elim ((t.covers p).1 h) [
+    | inl k ↦ (let (r, r_in, has) = member-Covers alone p c in ((b.covers p).0 (Covers-member bars r p (a.members r r_in) has)).1 k)
+    | inr k ↦ no-square rest alone a.off_beside p c k
+  ]
 
   alone-covers : (p : Pt) → Covers alone p → InRows low high (Without rects holes) p
   alone-covers p c =
       let (r, r_in, has) = member-Covers alone p c in
-      let (h, l, m) = (s.covers p).0 (inl (Covers-member bars r p (a.members r r_in) has)) in
-      ((h, λ k. no-gap p c ((t.covers p).1 (k, l, m))), l, m)
+      let (h, l, m) = (s.covers p).0 (inl ((b.covers p).0 (Covers-member bars r p (a.members r r_in) has)).0) in
+      ((h, λ k. no-hole p c (k, l, m)), l, m)
 
-  module _ (slabs : List Rect) (by : AreSlabsOf (Without new gaps) slabs) where
+  module _ (slabs : List Rect) (by : AreSlabsOf (Without new (rest ++ gaps)) slabs) where
     -- no square of a slab lies in a column of such a bar or beside it
-    no-square : (r q : Rect) (p : Pt) → Contains alone r → Contains slabs q → Has q p → p.x ≤ℤ r.x1 → (r.x0 -ℤ pos 1) ≤ℤ p.x → ⊥
-    no-square r q p r_in q_in has l m =
+    off-slab : (r q : Rect) (p : Pt) → Contains alone r → Contains slabs q → Has q p → p.x ≤ℤ r.x1 → (r.x0 -ℤ pos 1) ≤ℤ p.x → ⊥
+    off-slab r q p r_in q_in has l m =
         let c = (by.covers p).0 (Covers-member slabs q p q_in has) in
         let (o, o_in, o_has) = member-Covers new p c.0 in
         let b = o_has.left in
@@ -222,14 +285,18 @@ module _ (low high : ℤ) (rects holes bars old new gaps alone : List Rect) (s :
         by_lt_z r.x1 q.x0 inl
         (λ l. by_lt_z q.x1 r.x0 inr
         (λ m. absurd (by_lt_z q.x0 r.x0
-        (λ k. no-square r q (record { x = r.x0 -ℤ pos 1; y = q.y0 }) r_in q_in (record { left = omega (arith, ints, k); right = omega (arith, ints, m); low = omega (arith, ints); high = tall }) (omega (arith, ints, some)) (omega (arith, ints)))
-        (λ k. no-square r q (record { x = q.x0; y = q.y0 }) r_in q_in (record { left = omega (arith, ints); right = wide; low = omega (arith, ints); high = tall }) l (omega (arith, ints, k))))))
+        (λ k. off-slab r q (record { x = r.x0 -ℤ pos 1; y = q.y0 }) r_in q_in (record { left = omega (arith, ints, k); right = omega (arith, ints, m); low = omega (arith, ints); high = tall }) (omega (arith, ints, some)) (omega (arith, ints)))
+        (λ k. off-slab r q (record { x = q.x0; y = q.y0 }) r_in q_in (record { left = omega (arith, ints); right = wide; low = omega (arith, ints); high = tall }) l (omega (arith, ints, k))))))
 
     slabs-covers : (p : Pt) → Covers slabs p → InRows low high (Without rects holes) p
     slabs-covers p c =
         let (h, none) = (by.covers p).0 c in
-        let (k, l, m) = (s.covers p).0 ((a.covers p).0 (inr h)) in
-        ((k, λ g. none ((t.covers p).1 (g, l, m))), l, m)
+        let (k, l, m) = (s.covers p).0 (elim ((a.covers p).0 (inr h)) [ inl g ↦ inl ((b.covers p).0 g).0 | inr g ↦ inr g ]) in
+        ((k, λ g. none ((holed p).1 (g, l, m))), l, m)
+
+    -- a square of a rectangle that no hole has is one of a bar or a part
+    is-left : (p : Pt) → InRows low high (Without rects holes) p → Covers bars p ⊎ Covers old p
+    is-left p ((c, none), l, m) = elim ((s.covers p).1 (c, l, m)) [ inl k ↦ inl ((b.covers p).1 (k, λ g. none ((t.covers p).0 (inl g)).0)) | inr k ↦ inr k ]
 
     pub slice-pieces : ArePiecesOf (InRows low high (Without rects holes)) (alone ++ slabs)
     slice-pieces = record {
@@ -239,10 +306,10 @@ module _ (low high : ℤ) (rects holes bars old new gaps alone : List Rect) (s :
             (λ r q r_in q_in share. slab-apart r q r_in q_in);
       };
       covers = λ p. (
-        (λ h. elim ((covers-appended (Without new gaps) alone slabs by.covers p).0 h) [ inl c ↦ alone-covers p c | inr c ↦ slabs-covers p ((by.covers p).1 c) ]),
-        λ ((c, none), l, m). elim ((a.covers p).1 ((s.covers p).1 (c, l, m))) [
-          | inl k ↦ (covers-appended (Without new gaps) alone slabs by.covers p).1 (inl k)
-          | inr k ↦ (covers-appended (Without new gaps) alone slabs by.covers p).1 (inr (k, λ g. none ((t.covers p).0 g).0))
+        (λ h. elim ((covers-appended (Without new (rest ++ gaps)) alone slabs by.covers p).0 h) [ inl c ↦ alone-covers p c | inr c ↦ slabs-covers p ((by.covers p).1 c) ]),
+        λ h. elim ((a.covers p).1 (is-left p h)) [
+          | inl k ↦ (covers-appended (Without new (rest ++ gaps)) alone slabs by.covers p).1 (inl k)
+          | inr k ↦ (covers-appended (Without new (rest ++ gaps)) alone slabs by.covers p).1 (inr (k, λ g. h.0.1 ((holed p).0 g).0))
         ],
       );
     }
@@ -318,9 +385,3 @@ pieces-all row rects holes pieces over w b = record {
     λ c. (b.covers p).1 (c, (let (r, r_in, has) = member-Covers rects p c.0 in let a = (w r r_in).high in let h = has.high in omega (arith, ints, over, a, h))),
   );
 }
-
--- slabs of what holes leave of rectangles within the range lie within it
-pub without-within : (rects holes slabs : List Rect) → AreRectsWithin farthest rects → AreRectsWithin farthest holes → AreSlabsOf (Without rects holes) slabs → AreRectsWithin farthest slabs
-without-within rects holes slabs v w s =
-    slabs-within Minus farthest rects holes slabs v w
-    (slabs-of-same (Without rects holes) (λ p. Holds Minus (cells (pos 1) rects p) (cells (pos 1) holes p)) slabs (λ p. ((told-minus rects holes p).1, (told-minus rects holes p).0)) s)

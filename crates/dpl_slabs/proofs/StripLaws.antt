@@ -38,24 +38,24 @@ AllPairs-append R (x ∷ xs) ys a b c zero (suc j) d l k =
 AllPairs-append R (x ∷ xs) ys a b c (suc i) zero d l k = absurd (omega (arith, l))
 AllPairs-append R (x ∷ xs) ys a b c (suc i) (suc j) d l k = AllPairs-append R xs ys (AllPairs-rest R x xs a) b (λ u v u_in v_in. c u v (Contains-later x u xs u_in) v_in) i j d (omega (arith, l)) (omega (arith, k))
 
--- some rectangle begins no higher than the slab
-slab-over : (rs slabs : List Rect) (s : Rect) → AreSlabsOf (Covers rs) slabs → Contains slabs s → (r : Rect) × Contains rs r × (r.y0 ≤ℤ s.y0)
-slab-over rs slabs s a s_in =
-    let solid : IsSolid s = All-contains IsSolid slabs s a.canonical.solid s_in in
+-- some rectangle begins no higher than a slab of some of the rectangles' squares
+pub slab-over : (rs slabs : List Rect) (s : Rect) → IsCanonical slabs → ((p : Pt) → Covers slabs p → Covers rs p) → Contains slabs s → (r : Rect) × Contains rs r × (r.y0 ≤ℤ s.y0)
+slab-over rs slabs s c inside s_in =
+    let solid : IsSolid s = All-contains IsSolid slabs s c.solid s_in in
     let wide = solid.wide in
     let tall = solid.tall in
     let low : Pt = record { x = s.x0; y = s.y0 } in
-    let (r, r_in, has) = member-Covers rs low ((a.covers low).0 (Covers-member slabs s low s_in (record { left = omega (arith, ints); right = wide; low = omega (arith, ints); high = tall }))) in
+    let (r, r_in, has) = member-Covers rs low (inside low (Covers-member slabs s low s_in (record { left = omega (arith, ints); right = wide; low = omega (arith, ints); high = tall }))) in
     (r, r_in, has.low)
 
 -- some rectangle ends no lower
-slab-under : (rs slabs : List Rect) (s : Rect) → AreSlabsOf (Covers rs) slabs → Contains slabs s → (r : Rect) × Contains rs r × (s.y1 ≤ℤ r.y1)
-slab-under rs slabs s a s_in =
-    let solid : IsSolid s = All-contains IsSolid slabs s a.canonical.solid s_in in
+pub slab-under : (rs slabs : List Rect) (s : Rect) → IsCanonical slabs → ((p : Pt) → Covers slabs p → Covers rs p) → Contains slabs s → (r : Rect) × Contains rs r × (s.y1 ≤ℤ r.y1)
+slab-under rs slabs s c inside s_in =
+    let solid : IsSolid s = All-contains IsSolid slabs s c.solid s_in in
     let wide = solid.wide in
     let tall = solid.tall in
     let high : Pt = record { x = s.x0; y = s.y1 -ℤ pos 1 } in
-    let (r, r_in, has) = member-Covers rs high ((a.covers high).0 (Covers-member slabs s high s_in (record { left = omega (arith, ints); right = wide; low = omega (arith, ints, tall); high = omega (arith, ints) }))) in
+    let (r, r_in, has) = member-Covers rs high (inside high (Covers-member slabs s high s_in (record { left = omega (arith, ints); right = wide; low = omega (arith, ints, tall); high = omega (arith, ints) }))) in
     let top = has.high in
     (r, r_in, omega (arith, ints, top))
 
@@ -70,7 +70,7 @@ follows-below r s solid other l =
 
 pub adds-strip : (old more strip : List Rect) → IsCanonical old → LieBelow old strip → AreSlabsOf (Covers strip) more → AreRectsWithin farthest more → AddsStrip old (old ++ more) strip
 adds-strip old more strip c below a w =
-    let under : LieBelow old more = λ r s r_in s_in. (let (t, t_in, l) = slab-over strip more s a s_in in let h = below r t r_in t_in in omega (arith, ints, l, h)) in
+    let under : LieBelow old more = λ r s r_in s_in. (let (t, t_in, l) = slab-over strip more s a.canonical (λ p. (a.covers p).0) s_in in let h = below r t r_in t_in in omega (arith, ints, l, h)) in
     record {
       canonical = record {
         solid = All-append IsSolid old more c.solid a.canonical.solid;
@@ -80,7 +80,7 @@ adds-strip old more strip c below a w =
       within = λ v. rects-appended farthest old more v w;
       below = λ others f g r s r_in s_in. elim (Contains-append_cases old more r r_in) [
         | inl h ↦ f r s h s_in
-        | inr h ↦ (let (t, t_in, l) = slab-under strip more r a h in let k = g t s t_in s_in in omega (arith, ints, l, k))
+        | inr h ↦ (let (t, t_in, l) = slab-under strip more r a.canonical (λ p. (a.covers p).0) h in let k = g t s t_in s_in in omega (arith, ints, l, k))
       ];
     }
 
@@ -119,7 +119,7 @@ rise-take n rs rise i j d l j_in =
     rw (get_or-take n rs i d i_n, get_or-take n rs j d j_n) (rise i j d l (omega (arith, len, j_in)))
 
 -- a corner that isn't before another begins no lower
-corner-above : (a b : Rect) → CornerBefore a b → a.y0 ≤ℤ b.y0
+pub corner-above : (a b : Rect) → CornerBefore a b → a.y0 ≤ℤ b.y0
 corner-above a b (inl l) = omega (arith, ints, l)
 corner-above a b (inr (e, l)) = omega (arith, ints, e)
 

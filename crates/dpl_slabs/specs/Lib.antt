@@ -7,3 +7,5 @@ pub mod Rows
 pub mod Slices
 pub mod Blocks
 pub mod Alone
+pub mod Gaps
+pub mod Joints

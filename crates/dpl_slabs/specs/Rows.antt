@@ -4,7 +4,7 @@ use Rattle.std.specs.List.{All, AllPairs, Contains}
 use Rattle.dpl_spec.specs.declared.Pt.{Pt}
 use Rattle.dpl_spec.specs.declared.Rect.{Rect}
 use Rattle.dpl_spec.specs.Squares.{Has, Covers}
-use Rattle.dpl_spec.specs.Slabs.{IsSolid, Follows}
+use Rattle.dpl_spec.specs.Slabs.{IsSolid}
 
 -- the two have the same rows
 pub record AreLevel (r s : Rect) : Type 0 where
@@ -20,6 +20,15 @@ pub record IsRow (rs : List Rect) : Type 0 where
 pub record IsLeftOf (a b : Rect) : Type 0 where
   pub apart : a.x1 <ℤ b.x0
   pub level : AreLevel a b
+
+-- bars of the same rows, with a column between any two
+pub record AreSpaced (bars : List Rect) : Type 0 where
+  pub row : IsRow bars
+  pub left : AllPairs IsLeftOf bars
+
+-- each of the one has the rows of each of the other
+abbrev pub AreAllLevel : List Rect → List Rect → Type 0
+AreAllLevel rs ss = (r s : Rect) → Contains rs r → Contains ss s → AreLevel r s
 
 -- the bar from the last one's first column up to the later end of both
 pub record IsWider (last bar next : Rect) : Type 0 where
@@ -40,7 +49,11 @@ pub record AreBarsSoFar (row : List Rect) (n : ℕ) (done : List Rect) (last : R
   pub solid : All IsSolid done
   pub last_solid : IsSolid last
   pub level : (q : Rect) → Contains row q → AreLevel last q
-  pub follow : AllPairs Follows done
+  pub apart : AllPairs IsLeftOf done
   pub before : (a : Rect) → Contains done a → IsLeftOf a last
   pub left : (k : ℕ) (d : Rect) → n ≤ k → k < length row → last.x0 ≤ℤ (slice_index_or row k d).x0
   pub covers : (p : Pt) → (Covers done p ⊎ Has last p) ↔ Covers (take n row) p
+
+-- of the first n bars a column lies between any two, which go by column
+abbrev pub RisesTo : List Rect → ℕ → Type 0
+RisesTo row n = (j k : ℕ) (d : Rect) → j < k → k < n → k < length row → (slice_index_or row j d).x1 <ℤ (slice_index_or row k d).x0

@@ -1,12 +1,13 @@
 -- Rectangles in slices of rows.
 use Rattle.std.specs.Prelude.{◌≡◌, ◌⊎◌, ◌↔◌, ℤ, ◌≤ℤ◌, ◌<ℤ◌, List}
-use Rattle.std.specs.List.{All, AllPairs, Contains}
+use Rattle.std.specs.List.{AllPairs, Contains}
 use Rattle.dpl_spec.specs.declared.Pt.{Pt}
 use Rattle.dpl_spec.specs.declared.Rect.{Rect}
 use Rattle.dpl_spec.specs.Squares.{Region, SameSquares, Has, Covers}
-use Rattle.dpl_spec.specs.Slabs.{IsSolid, StandApart}
+use Rattle.dpl_spec.specs.Slabs.{IsSolid}
 use Rattle.dpl_spec.specs.Loops.{farthest, IsRectWithin, AreRectsWithin}
 use Rattle.dpl_sweep.specs.Pieces.{AreApart}
+use Rattle.dpl_slabs.specs.Rows.{IsLeftOf}
 
 -- the squares of a set in rows low to high - 1
 abbrev pub InRows : ℤ → ℤ → Region → Region
@@ -41,18 +42,13 @@ pub record AddsPart (low high : ℤ) (r : Rect) (bars others new new_others : Li
   pub full_within : AreRectsWithin farthest bars → AreRectsWithin farthest new
   pub within : AreRectsWithin farthest others → AreRectsWithin farthest new_others
 
--- bars with a column between any two, and other rectangles, that have the squares of these rectangles in the rows
+-- bars of all of the rows with a column between any two, and other rectangles, that have the squares of these rectangles in the rows
 pub record IsCutTo (low high : ℤ) (rects bars others : List Rect) : Type 0 where
-  pub solid : All IsSolid bars
-  pub apart : AllPairs StandApart bars
+  pub full : (r : Rect) → Contains bars r → IsBar low high r
+  pub left : AllPairs IsLeftOf bars
   pub covers : (p : Pt) → (Covers bars p ⊎ Covers others p) ↔ InRows low high (Covers rects) p
   pub bars_within : AreRectsWithin farthest bars
   pub within : AreRectsWithin farthest others
-
--- rectangles that have the squares of these in rows low to high - 1
-pub record IsSliceOf (low high : ℤ) (rects slice : List Rect) : Type 0 where
-  pub covers : SameSquares (Covers slice) (InRows low high (Covers rects))
-  pub within : AreRectsWithin farthest slice
 
 -- pieces of a set's squares below a row
 pub record ArePiecesBelow (row : ℤ) (a : Region) (pieces : List Rect) : Type 0 where

@@ -1,10 +1,10 @@
 //! Bars of a slice of rows that stand apart from all else in it.
-ghost use Rattle.std.specs.Prelude.{◌⊎◌, IfOk};
+ghost use Rattle.std.specs.Prelude.{◌⊎◌, IfOk, OnOk};
 ghost use Rattle.std.specs.List.{AllPairs, Contains};
 ghost use Rattle.std.specs.List.Sorted.{IsPermutation};
 ghost use Rattle.dpl_spec.specs.declared.Rect.{Rect};
 ghost use Rattle.dpl_spec.specs.Slabs.{StandApart};
-ghost use Rattle.dpl_slabs.specs.Alone.{LeftsRise, ReachTo, IsFrontAt, AreAlone};
+ghost use Rattle.dpl_slabs.specs.Alone.{LeftsRise, ReachTo, IsFrontAt, AreAlone, AddsTouching};
 
 use dpl_base::Rect;
 use std::alloc::{AllocError, Global};
@@ -15,6 +15,12 @@ struct Front {
     passed: usize,
     reach: i64,
 }
+
+/// Before the first of the rectangles.
+const START: Front = Front {
+    passed: 0,
+    reach: i64::MIN,
+};
 
 /// Goes on past all rectangles that begin in the column or left of it.
 fn advanced(rects: &[Rect], front: Front, x: i64) -> Front
@@ -44,36 +50,33 @@ fn sort_by_left(rects: &mut Vec<Rect>)
 }
 
 /// The rectangles of both lists, by left column.
-fn by_left(alloc: Global, others: &[Rect], gaps: &[Rect]) -> Result<Vec<Rect>, AllocError>
-    ensures all { IfOk result (λ v. (r : Rect) → (Contains others.now r ⊎ Contains gaps.now r) → Contains v.items r) }
+fn by_left(alloc: Global, others: &[Rect], beside: &[Rect]) -> Result<Vec<Rect>, AllocError>
+    ensures all { IfOk result (λ v. (r : Rect) → (Contains others.now r ⊎ Contains beside.now r) → Contains v.items r) }
     ensures rise { IfOk result (λ v. LeftsRise v.items) }
 {
-    let mut near = Vec::with_capacity(alloc, others.len().saturating_add(gaps.len()))?;
+    let mut near = Vec::with_capacity(alloc, others.len().saturating_add(beside.len()))?;
     near.extend_from_slice(others)?;
-    near.extend_from_slice(gaps)?;
+    near.extend_from_slice(beside)?;
     sort_by_left(&mut near);
     Ok(near)
 }
 
-/// The bars that stand apart from all others and all gaps. The rest of the bars is added to the others.
+/// Bars that stand apart from all others and from all rectangles beside them. The rest of the bars is added to the others.
 pub fn alone_of(
     alloc: Global,
     bars: &[Rect],
     others: &mut Vec<Rect>,
-    gaps: &[Rect],
+    beside: &[Rect],
 ) -> Result<Vec<Rect>, AllocError>
     requires { AllPairs StandApart bars.now }
-    ensures { IfOk result (λ v. AreAlone bars.now gaps.now others.old.items others.new.items v.items) }
+    ensures { IfOk result (λ v. AreAlone bars.now beside.now others.old.items others.new.items v.items) }
 {
-    let mut alone = Vec::new(alloc);
     if bars.is_empty() {
-        return Ok(alone);
+        return Ok(Vec::new(alloc));
     }
-    let near = by_left(alloc, others, gaps)?;
-    let mut front = Front {
-        passed: 0,
-        reach: i64::MIN,
-    };
+    let mut alone = Vec::with_capacity(alloc, bars.len())?;
+    let near = by_left(alloc, others, beside)?;
+    let mut front = START;
     for bar in bars {
         front = advanced(&near, front, bar.x1);
         if front.reach < bar.x0 {
@@ -83,4 +86,27 @@ pub fn alone_of(
         }
     }
     Ok(alone)
+}
+
+/// Adds those bars to the others that don't stand apart from all rectangles beside them.
+pub fn add_touching(
+    alloc: Global,
+    others: &mut Vec<Rect>,
+    bars: &[Rect],
+    beside: &[Rect],
+) -> Result<(), AllocError>
+    ensures { OnOk result (AddsTouching bars.now beside.now others.old.items others.new.items) }
+{
+    if bars.is_empty() {
+        return Ok(());
+    }
+    let near = by_left(alloc, &[], beside)?;
+    let mut front = START;
+    for bar in bars {
+        front = advanced(&near, front, bar.x1);
+        if bar.x0 <= front.reach {
+            others.push(*bar)?;
+        }
+    }
+    Ok(())
 }

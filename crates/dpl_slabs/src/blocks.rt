@@ -47,19 +47,19 @@ fn add_block(alloc: Global, pieces: &mut Vec<Rect>, block: &[Rect]) -> Result<()
     Ok(())
 }
 
-/// Pieces of rectangles' squares, block by block, of which no two share a square, or none where all rectangles are in one block. The rectangles are given with x and y exchanged.
+/// Pieces of rectangles' squares, block by block, of which no two share a square, or none where there are no two blocks. The rectangles are given with x and y exchanged.
 pub fn pieces_of_blocks(alloc: Global, rects: &[Rect]) -> Result<Option<Vec<Rect>>, AllocError>
     requires within { AreRectsWithin farthest rects.now }
     requires rise { CornersRise rects.now }
     ensures { IfOk result (λ found. IfSome found (λ v. ArePiecesOf (turned (Covers rects.now)) v.items)) }
 {
+    if rects.is_empty() || strip_length(rects) == rects.len() {
+        return Ok(None);
+    }
     let mut pieces = Vec::with_capacity(alloc, rects.len())?;
     let mut rest = rects;
     while !rest.is_empty() {
         let (block, others) = rest.split_at(strip_length(rest));
-        if block.len() == rects.len() {
-            return Ok(None);
-        }
         add_block(alloc, &mut pieces, block)?;
         rest = others;
     }

@@ -85,6 +85,9 @@ pub fn combine_without(
     ensures slabs { IfOk result (λ v. AreSlabsOf (Without rects.now holes.now) v.items) }
     ensures within { IfOk result (λ v. AreRectsWithin farthest v.items) }
 {
+    if rects.is_empty() {
+        return Ok(Vec::new(alloc));
+    }
     if holes.is_empty() {
         // The sweep of a union passes over what lies under other rectangles.
         let slabs = combine(alloc, rects, &[], Rule::Either)?;

@@ -5,6 +5,8 @@ mod alone;
 mod blocks;
 mod combine;
 mod corners;
+mod gaps;
+mod joint;
 mod loops;
 mod parts;
 mod row;

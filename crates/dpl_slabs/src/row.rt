@@ -1,10 +1,9 @@
 //! The slabs of bars side by side in one row.
 ghost use Rattle.std.specs.Prelude.{◌<◌, ◌↔◌, IfOk, IsTrue, length};
-ghost use Rattle.std.specs.List.{AllPairs};
 ghost use Rattle.dpl_spec.specs.Squares.{Covers};
-ghost use Rattle.dpl_spec.specs.Slabs.{AreSlabsOf, IsSolid, StandApart};
+ghost use Rattle.dpl_spec.specs.Slabs.{AreSlabsOf, IsSolid};
 ghost use Rattle.dpl_sweep.specs.Orders.{CornersRise};
-ghost use Rattle.dpl_slabs.specs.Rows.{AreLevel, IsBarJoined, IsRow};
+ghost use Rattle.dpl_slabs.specs.Rows.{AreLevel, AreAllLevel, AreSpaced, IsBarJoined, IsRow};
 
 use dpl_base::Rect;
 use std::alloc::{AllocError, Global};
@@ -51,13 +50,27 @@ fn add_bar(done: &mut Vec<Rect>, last: Rect, bar: &Rect) -> Result<Rect, AllocEr
     })
 }
 
+/// Whether a column lies between each bar of one row and the next one, which begins right of it.
+pub fn is_spaced(row: &[Rect]) -> bool
+    requires { IsRow row.now }
+    ensures { IsTrue result ↔ AreSpaced row.now }
+{
+    for i in 1..row.len() {
+        if row[i].x0 <= row[i - 1].x1 {
+            return false;
+        }
+    }
+    true
+}
+
 /// The canonical slabs of bars of one row, which go by left column: a column lies between any two.
 pub fn slabs_of_row(alloc: Global, row: &[Rect]) -> Result<Vec<Rect>, AllocError>
     requires some { 0 < length row.now }
     requires row { IsRow row.now }
     requires rise { CornersRise row.now }
     ensures slabs { IfOk result (λ v. AreSlabsOf (Covers row.now) v.items) }
-    ensures apart { IfOk result (λ v. AllPairs StandApart v.items) }
+    ensures spaced { IfOk result (λ v. AreSpaced v.items) }
+    ensures level { IfOk result (λ v. AreAllLevel v.items row.now) }
 {
     let mut done = Vec::with_capacity(alloc, row.len())?;
     let mut last = row[0];

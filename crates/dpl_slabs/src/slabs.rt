@@ -5,7 +5,8 @@ ghost use Rattle.dpl_spec.specs.Slabs.{IsCanonical, IsSolid, AreSlabsOf};
 ghost use Rattle.dpl_spec.specs.Loops.{farthest, SomeLoopCovers, IsRectWithin, AreRectsWithin, AreLoopsWithin};
 ghost use Rattle.dpl_spec.specs.Zones.{at, turned};
 
-use crate::combine::{combine, exchanged};
+use crate::combine::exchanged;
+use crate::joint::combine_by_rows;
 use crate::loops::rects_of_loops;
 use crate::slices::slabs_without;
 use crate::strips::{slabs_by_rows, slabs_of_rects};
@@ -163,15 +164,19 @@ impl Slabs {
     pub fn union(&self, alloc: Global, other: &Slabs) -> Result<Slabs, AllocError>
         ensures { IfOk result (λ s. AreSlabsOf (λ p. Covers self.now p ⊎ Covers other.now p) s) }
     {
-        let rects = combine(alloc, self.rects(), other.rects(), Rule::Either)?;
-        Ok(Slabs::of_canonical(rects))
+        let (firsts, others) = (self.rects(), other.rects());
+        let mut rects = Vec::with_capacity(alloc, firsts.len().saturating_add(others.len()))?;
+        rects.extend_from_slice(firsts)?;
+        rects.extend_from_slice(others)?;
+        let slabs = slabs_of_rects(alloc, rects)?;
+        Ok(Slabs::of_canonical(slabs))
     }
 
     /// The squares of the set that aren't in the other.
     pub fn minus(&self, alloc: Global, other: &Slabs) -> Result<Slabs, AllocError>
         ensures { IfOk result (λ s. AreSlabsOf (λ p. Covers self.now p × ¬ Covers other.now p) s) }
     {
-        let rects = combine(alloc, self.rects(), other.rects(), Rule::Minus)?;
+        let rects = combine_by_rows(alloc, self.rects(), other.rects(), Rule::Minus)?;
         Ok(Slabs::of_canonical(rects))
     }
 
@@ -179,7 +184,7 @@ impl Slabs {
     pub fn meet(&self, alloc: Global, other: &Slabs) -> Result<Slabs, AllocError>
         ensures { IfOk result (λ s. AreSlabsOf (λ p. Covers self.now p × Covers other.now p) s) }
     {
-        let rects = combine(alloc, self.rects(), other.rects(), Rule::Both)?;
+        let rects = combine_by_rows(alloc, self.rects(), other.rects(), Rule::Both)?;
         Ok(Slabs::of_canonical(rects))
     }
 

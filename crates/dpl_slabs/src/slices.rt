@@ -1,15 +1,16 @@
-//! Many rectangles, without holes in them, slice by slice of their rows. What reaches through a slice is put together by columns first, so that a sweep holds what begins or ends there, and of the rest only what touches that.
-ghost use Rattle.std.specs.Prelude.{◌<◌, ◌≤ℤ◌, IfOk, IfSome, OnOk};
+//! Holes taken out of many rectangles, slice by slice of their rows. What reaches through a slice is put together by columns first, and so is what reaches through it of the holes. So a sweep holds what begins or ends in the slice, the bars in the columns of that, and those of the holes beside a swept rectangle.
+ghost use Rattle.std.specs.Prelude.{◌<◌, ◌≤ℤ◌, ◌++◌, IfOk, IfSome, OnOk};
 ghost use Rattle.std.specs.List.{AllPairs};
 ghost use Rattle.dpl_spec.specs.Squares.{Covers};
 ghost use Rattle.dpl_spec.specs.Slabs.{StandApart, AreSlabsOf};
 ghost use Rattle.dpl_spec.specs.Loops.{farthest, IsRectWithin, AreRectsWithin};
-ghost use Rattle.dpl_slabs.specs.Rows.{IsRow};
-ghost use Rattle.dpl_slabs.specs.Slices.{InRows, Without, IsPartOf, AddsPart, IsCutTo, IsSliceOf, ArePiecesBelow, ArePiecesOf};
+ghost use Rattle.dpl_slabs.specs.Rows.{AreAllLevel, AreSpaced, IsRow};
+ghost use Rattle.dpl_slabs.specs.Slices.{InRows, Without, IsPartOf, AddsPart, IsCutTo, ArePiecesBelow, ArePiecesOf};
 
-use crate::alone::alone_of;
+use crate::alone::{add_touching, alone_of};
 use crate::combine::combine_without;
-use crate::row::slabs_of_row;
+use crate::gaps::bars_without;
+use crate::row::{is_spaced, slabs_of_row};
 use dpl_base::{FARTHEST, Rect};
 use dpl_sweep::{slabs_of, sort_by_corner};
 use std::alloc::{AllocError, Global};
@@ -17,8 +18,11 @@ use std::alloc::{AllocError, Global};
 /// From how many rectangles and holes on they are swept slice by slice.
 pub const TALL: usize = 4096;
 
-/// How many slices there are at most.
+/// How many slices there are at most, but for those that wide rectangles make.
 const SLICES: usize = 16;
+
+/// How many rectangles there are at most among the widest, where slices begin and end with these.
+const WIDE: usize = 16;
 
 /// How many pieces there may be for each rectangle and hole once they are joined. Wires that cross others make many.
 const PIECES: usize = 3;
@@ -68,13 +72,17 @@ fn add_part(
 fn row_of(alloc: Global, bars: Vec<Rect>) -> Result<Vec<Rect>, AllocError>
     requires { IsRow bars.items }
     ensures slabs { IfOk result (λ v. AreSlabsOf (Covers bars.items) v.items) }
-    ensures apart { IfOk result (λ v. AllPairs StandApart v.items) }
+    ensures spaced { IfOk result (λ v. AreSpaced v.items) }
+    ensures level { IfOk result (λ v. AreAllLevel v.items bars.items) }
 {
     if bars.is_empty() {
         return Ok(bars);
     }
     let mut bars = bars;
     sort_by_corner(&mut bars);
+    if is_spaced(&bars) {
+        return Ok(bars);
+    }
     let row = slabs_of_row(alloc, &bars)?;
     Ok(row)
 }
@@ -98,17 +106,29 @@ fn parts_of(
     Ok((row, others))
 }
 
-/// All parts of rectangles in rows `low` to `high - 1`.
-fn slice_of(alloc: Global, rects: &[Rect], low: i64, high: i64) -> Result<Vec<Rect>, AllocError>
-    requires { AreRectsWithin farthest rects.now }
-    ensures { IfOk result (λ v. IsSliceOf low high rects.now v.items) }
+/// The slabs of what holes and gaps leave of parts. Gaps that stand apart from all parts are let go.
+fn slabs_of_parts(
+    alloc: Global,
+    parts: &[Rect],
+    holes: Vec<Rect>,
+    gaps: Vec<Rect>,
+) -> Result<Vec<Rect>, AllocError>
+    requires parts { AreRectsWithin farthest parts.now }
+    requires holes { AreRectsWithin farthest holes.items }
+    requires gaps { AreRectsWithin farthest gaps.items }
+    ensures { IfOk result (λ v. AreSlabsOf (Without parts.now (holes.items ++ gaps.items)) v.items) }
 {
-    let (bars, mut parts) = parts_of(alloc, rects, low, high)?;
-    parts.extend_from_slice(&bars)?;
-    Ok(parts)
+    if parts.is_empty() {
+        return Ok(Vec::new(alloc));
+    }
+    let mut swept = holes;
+    add_touching(alloc, &mut swept, &gaps, parts)?;
+    drop(gaps);
+    let slabs = combine_without(alloc, parts, &swept)?;
+    Ok(slabs)
 }
 
-/// Pieces of the squares in rows `low` to `high - 1` that rectangles have and no hole has: bars that stand apart from all else, and the slabs of what is left.
+/// Pieces of the squares in rows `low` to `high - 1` that rectangles have and no hole has: what gaps, the holes' bars, leave of bars, where it stands apart from all parts and all other holes, and the slabs of what is left.
 fn pieces_of_slice(
     alloc: Global,
     rects: &[Rect],
@@ -121,10 +141,11 @@ fn pieces_of_slice(
     ensures { IfOk result (λ v. ArePiecesOf (InRows low high (Without rects.now holes.now)) v.items) }
 {
     let (bars, mut parts) = parts_of(alloc, rects, low, high)?;
-    let holes = slice_of(alloc, holes, low, high)?;
+    let (gaps, holes) = parts_of(alloc, holes, low, high)?;
+    let bars = bars_without(alloc, bars, &gaps)?;
     let mut pieces = alone_of(alloc, &bars, &mut parts, &holes)?;
     drop(bars);
-    let slabs = combine_without(alloc, &parts, &holes)?;
+    let slabs = slabs_of_parts(alloc, &parts, holes, gaps)?;
     pieces.extend_from_slice(&slabs)?;
     Ok(pieces)
 }
@@ -163,22 +184,62 @@ fn add_ends(ends: &mut Vec<i64>, rects: &[Rect], of: usize) -> Result<(), AllocE
     Ok(())
 }
 
-/// Rows that cut the rows of rectangles and holes into slices, in which about as many of both begin or end.
-fn cuts(alloc: Global, rects: &[Rect], holes: &[Rect]) -> Result<Vec<i64>, AllocError> {
+/// Adds rows that cut the rows of rectangles and holes into slices, in which about as many of both begin or end.
+fn add_even_cuts(
+    alloc: Global,
+    cuts: &mut Vec<i64>,
+    rects: &[Rect],
+    holes: &[Rect],
+) -> Result<(), AllocError> {
     let of = rects.len().saturating_add(holes.len()) / ASKED + 1;
     let mut ends = Vec::with_capacity(alloc, 2 * ASKED)?;
     add_ends(&mut ends, rects, of)?;
     add_ends(&mut ends, holes, of)?;
     ends.sort_unstable();
     let step = ends.len() / SLICES + 1;
-    let mut cuts = Vec::with_capacity(alloc, SLICES)?;
-    let mut last = -FARTHEST;
     for i in (step..ends.len()).step_by(step) {
-        if last < ends[i] {
-            last = ends[i];
-            cuts.push(last)?;
-        }
+        cuts.push(ends[i])?;
     }
+    Ok(())
+}
+
+/// How many columns a rectangle has.
+fn width(r: &Rect) -> u64 {
+    r.x0.abs_diff(r.x1)
+}
+
+/// How many columns the widest rectangle has.
+fn widest(rects: &[Rect]) -> u64 {
+    let mut widest = 0;
+    for r in rects {
+        widest = widest.max(width(r));
+    }
+    widest
+}
+
+/// The rows in which rectangles wider than half of the widest one begin and end, or none where there are many of these.
+fn wide_ends(alloc: Global, rects: &[Rect]) -> Result<Vec<i64>, AllocError> {
+    let half = widest(rects) / 2;
+    let mut ends = Vec::with_capacity(alloc, 2 * WIDE)?;
+    for r in rects {
+        if width(r) <= half {
+            continue;
+        }
+        if ends.len() >= 2 * WIDE {
+            return Ok(Vec::new(alloc));
+        }
+        ends.push(r.y0)?;
+        ends.push(r.y1)?;
+    }
+    Ok(ends)
+}
+
+/// Rows that cut rectangles and holes into slices, from the lowest row up. Where few rectangles are far wider than the others, slices begin and end with these: with a part of one all bars in its columns would be swept.
+fn cuts(alloc: Global, rects: &[Rect], holes: &[Rect]) -> Result<Vec<i64>, AllocError> {
+    let mut cuts = wide_ends(alloc, rects)?;
+    add_even_cuts(alloc, &mut cuts, rects, holes)?;
+    cuts.sort_unstable();
+    cuts.dedup();
     Ok(cuts)
 }
 
@@ -202,11 +263,11 @@ fn pieces_of_slices(
         low = add_slice(alloc, &mut pieces, rects, holes, low, cut)?;
         if pieces.len() > room {
             // A shape that reaches through many slices has a piece in each: they stand on one another.
-            pieces = slabs_of(alloc, pieces)?;
+            pieces = slabs_of(pieces);
             if pieces.len() > most {
                 return Ok(None);
             }
-            room = pieces.len().saturating_mul(2).max(count);
+            room = pieces.len().saturating_add(pieces.len() / 2).max(count);
         }
     }
     add_slice(alloc, &mut pieces, rects, holes, low, TOP)?;
@@ -233,8 +294,7 @@ pub fn slabs_without(alloc: Global, rects: &[Rect], holes: &[Rect]) -> Result<Ve
     ensures within { IfOk result (λ v. AreRectsWithin farthest v.items) }
 {
     if let Some(pieces) = sliced(alloc, rects, holes)? {
-        let slabs = slabs_of(alloc, pieces)?;
-        return Ok(slabs);
+        return Ok(slabs_of(pieces));
     }
     let slabs = combine_without(alloc, rects, holes)?;
     Ok(slabs)

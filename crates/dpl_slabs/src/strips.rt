@@ -86,14 +86,14 @@ fn slabs_by_blocks(alloc: Global, rects: Vec<Rect>) -> Result<Vec<Rect>, AllocEr
     ensures slabs { IfOk result (λ v. AreSlabsOf (Covers rects.items) v.items) }
     ensures within { IfOk result (λ v. AreRectsWithin farthest v.items) }
 {
-    let mut rects = rects;
-    exchange(&mut rects);
-    sort_by_corner(&mut rects);
-    if let Some(pieces) = pieces_of_blocks(alloc, &rects)? {
-        drop(rects);
-        let slabs = slabs_of(alloc, pieces)?;
-        return Ok(slabs);
+    let mut turned = rects;
+    exchange(&mut turned);
+    sort_by_corner(&mut turned);
+    if let Some(pieces) = pieces_of_blocks(alloc, &turned)? {
+        drop(turned);
+        return Ok(slabs_of(pieces));
     }
+    let mut rects = turned;
     exchange(&mut rects);
     sort_by_corner(&mut rects);
     let slabs = slabs_by_rows(alloc, &rects)?;

@@ -28,11 +28,11 @@ loop-bar-preserved c =
             let test = rw (to_z-of_z w64 c.advanced-front.result.reach reach) at w.if-front-bar.true in
             let less = lt-from _ _ _ (to_z-of_z w64 bar.x0 left) test in
             rw (w.others-is, w.alone-is, w.in_ok-push.ensures.items)
-            (alone-more bars c.args.gaps.now c.args.others.now.items _ _ c.loop-bar.bar-index bar here bar_is c.requires before
+            (alone-more bars c.args.beside.now c.args.others.now.items _ _ c.loop-bar.bar-index bar here bar_is c.requires before
             (λ r h. front-apart c.in_ok-near.near.items bar _ _ front less r (near r h)))
         | else-front-bar+in_ok-push-2 w ↦
             rw (w.others-is, w.alone-is, w.in_ok-push-2.ensures.items)
-            (beside-more bars c.args.gaps.now c.args.others.now.items _ _ c.loop-bar.bar-index bar here bar_is c.requires before)
+            (beside-more bars c.args.beside.now c.args.others.now.items _ _ c.loop-bar.bar-index bar here bar_is c.requires before)
       ],
       front.passed,
     )

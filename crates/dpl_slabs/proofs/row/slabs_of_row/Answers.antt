@@ -1,6 +1,6 @@
 use Rattle.std.proofs.Common.{◌<◌, length, rules, arith}
 use Rattle.std.proofs.lemmas.List.{get_or_default}
-use Rattle.dpl_slabs.proofs.RowLaws.{bars-first, bars-next, bars-all, bars-apart}
+use Rattle.dpl_slabs.proofs.RowLaws.{bars-first, bars-next, bars-all, bars-spaced, bars-level}
 use Rattle.dpl_slabs.proofs.row.slabs_of_row.Goals as goal
 
 pub loop-i-init : goal.loop-i-init
@@ -14,5 +14,8 @@ loop-i-preserved c =
 pub returns-clause-slabs : goal.returns-clause-slabs
 returns-clause-slabs c = rw c.in_ok-push.ensures.items (bars-all c.args.row.now c.loop-i.i _ _ (omega arith) c.loop-i.invariant)
 
-pub returns-clause-apart : goal.returns-clause-apart
-returns-clause-apart c = rw c.in_ok-push.ensures.items (bars-apart c.args.row.now c.loop-i.i _ _ c.loop-i.invariant)
+pub returns-clause-spaced : goal.returns-clause-spaced
+returns-clause-spaced c = rw c.in_ok-push.ensures.items (bars-spaced c.args.row.now c.loop-i.i _ _ c.loop-i.invariant)
+
+pub returns-clause-level : goal.returns-clause-level
+returns-clause-level c = rw c.in_ok-push.ensures.items (bars-level c.args.row.now c.loop-i.i _ _ c.loop-i.invariant)

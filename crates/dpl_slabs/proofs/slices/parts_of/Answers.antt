@@ -21,4 +21,4 @@ row_of-requires c = bars-row _ _ _ c.loop-r.invariant.full
 pub returns : goal.returns
 returns c =
     let parts = rw (to_z-of_z w64 c.args.low c.ranges.low, to_z-of_z w64 c.args.high c.ranges.high) at c.loop-r.invariant in
-    cut-whole c.args.low c.args.high c.args.rects.now _ _ _ c.loop-r.r-index (omega arith) parts c.in_ok-row.ensures.slabs c.in_ok-row.ensures.apart
+    cut-whole c.args.low c.args.high c.args.rects.now _ _ _ c.loop-r.r-index (omega arith) parts c.in_ok-row.ensures.slabs c.in_ok-row.ensures.spaced c.in_ok-row.ensures.level

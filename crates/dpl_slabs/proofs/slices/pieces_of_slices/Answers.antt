@@ -1,7 +1,7 @@
 use Rattle.std.proofs.Common.{refl, rules, w64, FitsSigned, arith}
 use Rattle.std.proofs.lemmas.Int.{ints, to_z-of_z}
 use Rattle.dpl_slabs.proofs.SliceLaws.{pieces-none, pieces-joined, pieces-all}
-use Rattle.dpl_slabs.proofs.slices.pieces_of_slices.Goals.{then-len-room+in_ok-pieces+else-len-most, else-len-room}
+use Rattle.dpl_slabs.proofs.slices.pieces_of_slices.Goals.{then-len-room+else-len-most, else-len-room}
 use Rattle.dpl_slabs.proofs.slices.pieces_of_slices.Goals as goal
 
 pub loop-cut-init : goal.loop-cut-init
@@ -13,7 +13,7 @@ loop-cut-preserved c =
     let below = c.in_ok-low.ensures.below in
     rw (to_z-of_z w64 c.in_ok-low.low fits)
     (elim c.if-len-room.branch [
-      | then-len-room+in_ok-pieces+else-len-most w ↦ rw w.pieces-is (pieces-joined c.in_ok-low.low _ c.add_slice.new.pieces.items _ below w.in_ok-pieces.ensures)
+      | then-len-room+else-len-most w ↦ rw w.pieces-is (pieces-joined c.in_ok-low.low _ c.add_slice.new.pieces.items _ below w.slabs_of-pieces.ensures)
       | else-len-room w ↦ rw w.pieces-is below
     ])
 

@@ -1,0 +1,29 @@
+use Rattle.std.proofs.Common.{◌<◌, length, get_or, rules, w64, FitsSigned}
+use Rattle.std.specs.Prelude.{pos}
+use Rattle.std.proofs.lemmas.Int.{to_z-of_z}
+use Rattle.std.proofs.lemmas.List.{get_or_default}
+use Rattle.dpl_spec.specs.declared.Rect.{Rect}
+use Rattle.dpl_slabs.proofs.StripLaws.{lt-from}
+use Rattle.dpl_slabs.proofs.JointLaws.{above-top, raised-by}
+use Rattle.dpl_slabs.proofs.joint.raised.Goals as goal
+
+abbrev zero : Rect
+zero = record { x0 = pos 0; y0 = pos 0; x1 = pos 0; y1 = pos 0 }
+
+pub returns-then-top-rects-clause-none : goal.returns-then-top-rects-clause-none
+returns-then-top-rects-clause-none c none =
+    let here : c.args.n < length c.args.rects.now = search rules in
+    let r : Rect = get_or c.args.rects.now c.args.n zero in
+    let fits : FitsSigned w64 r.y0 = search rules in
+    let over = rw (to_z-of_z w64 c.args.top c.ranges.top) at c.if-top-rects.true in
+    above-top c.args.rects.now c.args.n c.args.top r here (get_or_default c.args.rects.now c.args.n zero r here) c.requires (lt-from _ _ _ (to_z-of_z w64 r.y0 fits) over)
+
+pub returns-clause-some : goal.returns-clause-some
+returns-clause-some c =
+    let here : c.args.n < length c.args.rects.now = search rules in
+    let r : Rect = get_or c.args.rects.now c.args.n zero in
+    let fits : FitsSigned w64 r.y1 = search rules in
+    let new : FitsSigned w64 c.max.result = search rules in
+    let keeps = rw (to_z-of_z w64 c.args.top c.ranges.top) at c.max.ensures.self_bound in
+    let reaches = rw (to_z-of_z w64 r.y1 fits) at c.max.ensures.other_bound in
+    rw (to_z-of_z w64 c.max.result new) (raised-by c.args.rects.now c.args.n c.args.top c.max.result r here (get_or_default c.args.rects.now c.args.n zero r here) keeps reaches)
