@@ -59,11 +59,10 @@ pub fn edges_in(alloc: Global, plan: &Plan, cell: &Rect) -> Result<Vec<Edge>, Al
     ensures edges { IfOk result (λ v. (e : ℕ × ℕ) → Contains v.items e ↔ ((e.0 < e.1) × ConflictIn plan.now.rule plan.now.parts plan.now.owners cell.now e.0 e.1)) }
 {
     let tree = plan.tree();
-    let items = tree.items();
     let mut found = Vec::new(alloc);
     let mut n = tree.seek(0, cell, Owners::All);
-    while n < items.len() {
-        add_slab(&mut found, alloc, plan, &items[n], cell)?;
+    while n < tree.count() {
+        add_slab(&mut found, alloc, plan, &tree.item(n), cell)?;
         n = tree.seek(n + 1, cell, Owners::All);
     }
     Ok(found)

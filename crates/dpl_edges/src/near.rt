@@ -79,12 +79,18 @@ fn all_near(
     ensures { IfOk result (λ v. (k : ℕ) → Contains v.items k ↔ IsNearPiece plan.now.rule plan.now.parts plan.now.owners i (Has part.now) k) }
 {
     let tree = plan.tree();
-    let items = tree.items();
     let window = widened(part, plan.rule());
     let mut found = SmallVec::new(alloc);
     let mut n = tree.seek(0, &window, Owners::But(i));
-    while n < items.len() {
-        add_near(&mut found, &items[n], part, i, plan.owners(), plan.rule())?;
+    while n < tree.count() {
+        add_near(
+            &mut found,
+            &tree.item(n),
+            part,
+            i,
+            plan.owners(),
+            plan.rule(),
+        )?;
         n = tree.seek(n + 1, &window, Owners::But(i));
     }
     Ok(found)

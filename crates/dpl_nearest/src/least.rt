@@ -11,7 +11,7 @@ ghost use Rattle.dpl_nearest.specs.Search.{AreItemsWithin, IsLeastNear, ItemCove
 
 use crate::rects::least_of;
 use dpl_base::{Pt, Rect};
-use dpl_tree::{Owners, Tree, add_items_of};
+use dpl_tree::{Items, Owners, Tree};
 use std::alloc::{AllocError, Global};
 
 /// The first of two squares, by row and then by column.
@@ -75,10 +75,11 @@ fn least_in_tree(rects: &[Rect], others: &Tree, rule: u32) -> Option<Pt>
 
 /// A search tree of rectangles, all of owner 0.
 pub fn tree_of(alloc: Global, rects: &[Rect]) -> Result<Tree, AllocError>
+    requires { AreRectsWithin (farthest + 1) rects.now }
     ensures { IfOk result (λ t. (r : Rect) (k : ℕ) → HasItem t r k ↔ ((k ≡ 0) × Contains rects.now r)) }
 {
-    let mut items = Vec::new(alloc);
-    add_items_of(&mut items, rects, 0)?;
+    let mut items = Items::new(alloc);
+    items.add(rects, 0)?;
     let tree = Tree::of(alloc, items)?;
     Ok(tree)
 }

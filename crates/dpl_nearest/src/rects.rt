@@ -67,10 +67,9 @@ fn near_any(r: &Rect, others: &Tree, owners: Owners, rule: u32) -> bool
     ensures { IsTrue result ↔ AreNear rule (Has r.now) (ItemCovers owners others.now) }
 {
     let window = widened(r, rule);
-    let items = others.items();
     let mut n = others.seek(0, &window, owners);
-    while n < items.len() {
-        if near(r, &items[n].rect, rule) {
+    while n < others.count() {
+        if near(r, &others.item(n).rect, rule) {
             return true;
         }
         n = others.seek(n + 1, &window, owners);

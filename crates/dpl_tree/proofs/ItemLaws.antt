@@ -92,6 +92,9 @@ items-one rects none items tree e added same r k = (
 pub item-at : (items : List Item) (n : ℕ) (d : Item) → n < length items → HasItem items (get_or items n d).rect (get_or items n d).owner
 item-at items n d n_in = (get_or items n d, (n, n_in, get_or_default items n (get_or items n d) d n_in), refl, refl)
 
+pub item-is : (items : List Item) (n : ℕ) (item : Item) → n < length items → ((d : Item) → item ≡ get_or items n d) → HasItem items item.rect item.owner
+item-is items n item n_in is = (item, (n, n_in, sym (is item)), refl, refl)
+
 pub items-sorted : (items sorted : List Item) → IsPermutation items sorted → (r : Rect) (k : ℕ) → HasItem sorted r k ↔ HasItem items r k
 items-sorted items sorted same r k = (
   λ (t, c, e, f). (t, Contains-permutation sorted items t (IsPermutation-sym items sorted same) c, e, f),

@@ -1,3 +1,4 @@
 pub mod Blocks
+pub mod NarrowItems
 pub mod Trees
 pub mod Windows

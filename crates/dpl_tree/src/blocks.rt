@@ -1,11 +1,12 @@
 //! Blocks over items, and levels of them, each over the one below.
-ghost use Rattle.std.specs.Prelude.{◌≡◌, ℕ, ◌+◌, ◌*◌, ◌<◌, ◌≤◌, IfOk, length, slice_index_or};
-ghost use Rattle.dpl_tree.specs.declared.items.Item.{Item};
+ghost use Rattle.std.specs.Prelude.{◌≡◌, ℕ, ◌+◌, ◌*◌, ◌<◌, ◌≤◌, IfOk, length, map, slice_index_or};
 ghost use Rattle.dpl_tree.specs.declared.blocks.Block.{Block};
-ghost use Rattle.dpl_tree.specs.Blocks.{IsIndex, IsLevelOver, IsUnder, item_block, same_block};
+ghost use Rattle.dpl_tree.specs.Blocks.{IsIndex, IsLevelOver, IsUnder, narrow_block, same_block};
+ghost use Rattle.dpl_tree.specs.NarrowItems.{item_of};
 
-use crate::items::Item;
-use dpl_base::{Listed, Rect};
+use crate::items::NarrowItem;
+use crate::narrow::Narrow;
+use dpl_base::Listed;
 use std::alloc::{AllocError, Global};
 
 /// How many items stand in a block, and how many blocks in a block of the next level.
@@ -14,7 +15,7 @@ pub(crate) const FAN: usize = 8;
 /// What bounds the items of a block, and their owners, from the least to the greatest.
 #[derive(Clone, Copy, Drop)]
 pub(crate) struct Block {
-    pub(crate) bounds: Rect,
+    pub(crate) bounds: Narrow,
     pub(crate) least: usize,
     pub(crate) greatest: usize,
 }
@@ -27,11 +28,11 @@ pub(crate) trait Bounded {
         ensures { result ≡ block_of self.now };
 }
 
-impl Bounded for Item {
-    ghost block_of = { item_block };
+impl Bounded for NarrowItem {
+    ghost block_of = { narrow_block };
 
     fn block(&self) -> Block
-        ensures { result ≡ item_block self.now }
+        ensures { result ≡ narrow_block self.now }
     {
         Block {
             bounds: self.rect,
@@ -57,7 +58,7 @@ fn over(a: &Block, b: &Block) -> Block
     ensures second { IsUnder b.now result }
 {
     Block {
-        bounds: Rect {
+        bounds: Narrow {
             x0: a.bounds.x0.min(b.bounds.x0),
             y0: a.bounds.y0.min(b.bounds.y0),
             x1: a.bounds.x1.max(b.bounds.x1),
@@ -95,8 +96,11 @@ fn level_over<T: Bounded>(alloc: Global, things: &[T]) -> Result<Vec<Block>, All
 }
 
 /// The levels over items, each over the one below it, until one has no more than eight blocks.
-pub(crate) fn levels_over(alloc: Global, items: &[Item]) -> Result<Vec<Listed<Block>>, AllocError>
-    ensures { IfOk result (λ v. IsIndex items.now v.items) }
+pub(crate) fn levels_over(
+    alloc: Global,
+    items: &[NarrowItem],
+) -> Result<Vec<Listed<Block>>, AllocError>
+    ensures { IfOk result (λ v. IsIndex (map item_of items.now) v.items) }
 {
     let mut levels = Vec::new(alloc);
     if items.len() <= FAN {

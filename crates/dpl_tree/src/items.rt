@@ -1,12 +1,16 @@
 //! Rectangles for a search tree, each with its owner.
-ghost use Rattle.std.specs.Prelude.{◌≡◌, ℕ, ◌<◌, ◌⊎◌, ◌↔◌, [], IfOk, MatchResult, length, slice_index_or};
+ghost use Rattle.std.specs.Prelude.{◌≡◌, ℕ, ◌+◌, ◌<◌, ◌⊎◌, ◌↔◌, [], IfOk, MatchResult, length, map, slice_index_or};
 ghost use Rattle.std.specs.List.{Contains};
 ghost use Rattle.dpl_spec.specs.declared.Rect.{Rect};
+ghost use Rattle.dpl_spec.specs.Loops.{AreRectsWithin, farthest};
 ghost use Rattle.dpl_tree.specs.Trees.{HasItem};
+ghost use Rattle.dpl_tree.specs.NarrowItems.{item_of};
 
+use crate::narrow::Narrow;
 use dpl_base::Rect;
 use dpl_slabs::Slabs;
 use std::alloc::{AllocError, Global};
+use std::marker::Model;
 
 /// A rectangle with the number of its owner.
 #[derive(Clone, Copy, Drop)]
@@ -15,13 +19,86 @@ pub struct Item {
     pub owner: usize,
 }
 
+/// An item as a tree keeps it.
+#[derive(Clone, Copy, Drop)]
+pub(crate) struct NarrowItem {
+    pub(crate) rect: Narrow,
+    pub(crate) owner: usize,
+}
+
+impl NarrowItem {
+    /// The item.
+    pub(crate) fn item(&self) -> Item
+        ensures { result ≡ item_of self.now }
+    {
+        Item {
+            rect: self.rect.wide(),
+            owner: self.owner,
+        }
+    }
+}
+
+/// Items for a tree, in any order. A contract sees them as a list.
+#[derive(Drop)]
+pub struct Items {
+    items: Vec<NarrowItem>,
+}
+
+impl Model for Items {
+    ghost use Rattle.std.specs.Prelude.{List, map};
+    ghost use Rattle.dpl_tree.specs.declared.items.Item.{Item};
+    ghost use Rattle.dpl_tree.specs.NarrowItems.{item_of};
+
+    ghost Value = { List Item };
+
+    ghost view = { λ t. map item_of t.items.items };
+
+    ghost invariant = { λ t. Unit {0} };
+}
+
+impl Items {
+    /// No items.
+    pub fn new(alloc: Global) -> Items
+        ensures { result ≡ [] }
+    {
+        Items {
+            items: Vec::new(alloc),
+        }
+    }
+
+    /// No items, with room for so many.
+    pub fn with_capacity(alloc: Global, count: usize) -> Result<Items, AllocError>
+        ensures { IfOk result (λ t. t ≡ []) }
+    {
+        let items = Vec::with_capacity(alloc, count)?;
+        Ok(Items { items })
+    }
+
+    /// Adds rectangles of an owner, with no corner farther than `FARTHEST + 1` database units from 0. Where memory runs out, it adds none.
+    pub fn add(&mut self, rects: &[Rect], owner: usize) -> Result<(), AllocError>
+        requires { AreRectsWithin (farthest + 1) rects.now }
+        ensures { MatchResult result (λ _. (r : Rect) (k : ℕ) → HasItem self.new r k ↔ (HasItem self.old r k ⊎ ((k ≡ owner) × Contains rects.now r))) (λ _. self.new ≡ self.old) }
+    {
+        add_rects(&mut self.items, rects, owner)
+    }
+
+    /// The items as a tree keeps them.
+    pub(crate) fn into_items(self) -> Vec<NarrowItem>
+        ensures { map item_of result.items ≡ self }
+    {
+        self.items
+    }
+}
+
 /// Adds rectangles of an owner. Where memory runs out, it adds none.
-pub fn add_items_of(items: &mut Vec<Item>, rects: &[Rect], owner: usize) -> Result<(), AllocError>
-    ensures { MatchResult result (λ _. (r : Rect) (k : ℕ) → HasItem items.new.items r k ↔ (HasItem items.old.items r k ⊎ ((k ≡ owner) × Contains rects.now r))) (λ _. items.new.items ≡ items.old.items) }
+fn add_rects(items: &mut Vec<NarrowItem>, rects: &[Rect], owner: usize) -> Result<(), AllocError>
+    requires { AreRectsWithin (farthest + 1) rects.now }
+    ensures { MatchResult result (λ _. (r : Rect) (k : ℕ) → HasItem (map item_of items.new.items) r k ↔ (HasItem (map item_of items.old.items) r k ⊎ ((k ≡ owner) × Contains rects.now r))) (λ _. map item_of items.new.items ≡ map item_of items.old.items) }
 {
     items.reserve(rects.len())?;
     for rect in rects {
-        items.push(Item { rect: *rect, owner })?;
+        let rect = Narrow::of(rect);
+        items.push(NarrowItem { rect, owner })?;
     }
     Ok(())
 }
@@ -36,12 +113,12 @@ fn count_of(parts: &[Slabs]) -> usize {
 }
 
 /// The rectangles of all parts, each with the number of its part.
-pub fn items_of(alloc: Global, parts: &[Slabs]) -> Result<Vec<Item>, AllocError>
-    ensures { IfOk result (λ v. (r : Rect) (k : ℕ) → HasItem v.items r k ↔ ((k < length parts.now) × Contains (slice_index_or parts.now k []) r)) }
+pub(crate) fn items_of(alloc: Global, parts: &[Slabs]) -> Result<Items, AllocError>
+    ensures { IfOk result (λ t. (r : Rect) (k : ℕ) → HasItem t r k ↔ ((k < length parts.now) × Contains (slice_index_or parts.now k []) r)) }
 {
-    let mut items = Vec::with_capacity(alloc, count_of(parts))?;
+    let mut items = Items::with_capacity(alloc, count_of(parts))?;
     for k in 0..parts.len() {
-        add_items_of(&mut items, parts[k].rects(), k)?;
+        items.add(parts[k].rects(), k)?;
     }
     Ok(items)
 }

@@ -4,13 +4,14 @@
 mod arrange;
 mod blocks;
 mod items;
+mod narrow;
 mod owners;
 mod search;
 mod tree;
 mod view;
 mod window;
 
-pub use items::{Item, add_items_of, items_of};
+pub use items::{Item, Items};
 pub use owners::Owners;
 pub use tree::Tree;
 pub use view::View;

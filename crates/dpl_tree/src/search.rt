@@ -1,11 +1,12 @@
 //! Searches through levels of blocks.
-ghost use Rattle.std.specs.Prelude.{◌≡◌, ℕ, ◌<◌, ◌≤◌, ◌↔◌, IsTrue, length, slice_index_or};
+ghost use Rattle.std.specs.Prelude.{◌≡◌, ℕ, ◌<◌, ◌≤◌, ◌↔◌, IsTrue, length, map, slice_index_or};
 ghost use Rattle.dpl_tree.specs.declared.items.Item.{Item};
 ghost use Rattle.dpl_tree.specs.Trees.{ArePassed, IsMissed};
-ghost use Rattle.dpl_tree.specs.Blocks.{AreLeftOut, IsBarred, IsFoundAt, IsIndex, IsFoundAmong, start_of, item_block};
+ghost use Rattle.dpl_tree.specs.Blocks.{AreLeftOut, IsBarred, IsFoundAt, IsIndex, IsFoundAmong, start_of};
+ghost use Rattle.dpl_tree.specs.NarrowItems.{item_of};
 
 use crate::blocks::{Block, Bounded, FAN};
-use crate::items::Item;
+use crate::items::NarrowItem;
 use crate::owners::Owners;
 use crate::window::lies_apart;
 use dpl_base::{Listed, Rect};
@@ -44,7 +45,7 @@ fn are_left_out(owners: Owners, block: &Block) -> bool
 fn is_barred(window: &Rect, owners: Owners, block: &Block) -> bool
     ensures { IsTrue result ↔ IsBarred window.now owners block.now }
 {
-    if lies_apart(window, &block.bounds) {
+    if lies_apart(window, &block.bounds.wide()) {
         return true;
     }
     if are_left_out(owners, block) {
@@ -71,15 +72,15 @@ fn find_in<T: Bounded>(things: &[T], at: usize, window: &Rect, owners: Owners) -
 
 /// What a search finds from a place on, to the end of the eight blocks, or items, in a row that it stands in.
 fn find_at(
-    items: &[Item],
+    items: &[NarrowItem],
     levels: &[Listed<Block>],
     place: Place,
     window: &Rect,
     owners: Owners,
 ) -> Finding
-    requires index { IsIndex items.now levels.now }
+    requires index { IsIndex (map item_of items.now) levels.now }
     requires level { place.level ≤ length levels.now }
-    ensures { IsFoundAt items.now place window.now owners result }
+    ensures { IsFoundAt (map item_of items.now) place window.now owners result }
 {
     if place.level == 0 {
         return find_in(items, place.at, window, owners);
@@ -104,16 +105,16 @@ fn highest(place: Place, levels: usize) -> Place
 
 /// The number of the first item from number `from` on that has a square in the window, of the owners that are sought, or a number past all items.
 pub(crate) fn seek_in(
-    items: &[Item],
+    items: &[NarrowItem],
     levels: &[Listed<Block>],
     from: usize,
     window: &Rect,
     owners: Owners,
 ) -> usize
-    requires index { IsIndex items.now levels.now }
+    requires index { IsIndex (map item_of items.now) levels.now }
     ensures from { from ≤ result }
-    ensures passed { ArePassed window.now owners items.now from result }
-    ensures found { (d : Item) → result < length items.now → ¬ IsMissed window.now owners (slice_index_or items.now result d) }
+    ensures passed { ArePassed window.now owners (map item_of items.now) from result }
+    ensures found { (d : Item) → result < length items.now → ¬ IsMissed window.now owners (slice_index_or (map item_of items.now) result d) }
 {
     let count = items.len();
     let start = Place { level: 0, at: from };

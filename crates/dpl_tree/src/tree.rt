@@ -6,7 +6,7 @@ ghost use Rattle.dpl_tree.specs.Trees.{AreItemsOf, ArePassed, HasItem, IsMissed}
 
 use crate::arrange::arrange;
 use crate::blocks::{Block, levels_over};
-use crate::items::{Item, items_of};
+use crate::items::{Item, Items, NarrowItem, items_of};
 use crate::owners::Owners;
 use crate::search::seek_in;
 use dpl_base::{Listed, Rect};
@@ -17,27 +17,29 @@ use std::marker::Model;
 /// A search tree over rectangles with owners. A contract sees its items, in an order of its own.
 #[derive(Drop)]
 pub struct Tree {
-    items: Vec<Item>,
+    items: Vec<NarrowItem>,
     levels: Vec<Listed<Block>>,
 }
 
 impl Model for Tree {
-    ghost use Rattle.std.specs.Prelude.{List};
+    ghost use Rattle.std.specs.Prelude.{List, map};
     ghost use Rattle.dpl_tree.specs.declared.items.Item.{Item};
     ghost use Rattle.dpl_tree.specs.Blocks.{IsIndex};
+    ghost use Rattle.dpl_tree.specs.NarrowItems.{item_of};
 
     ghost Value = { List Item };
 
-    ghost view = { λ t. t.items.items };
+    ghost view = { λ t. map item_of t.items.items };
 
-    ghost invariant = { λ t. IsIndex t.items.items t.levels.items };
+    ghost invariant = { λ t. IsIndex (map item_of t.items.items) t.levels.items };
 }
 
 impl Tree {
     /// The tree of items, in any order.
-    pub fn of(alloc: Global, mut items: Vec<Item>) -> Result<Tree, AllocError>
-        ensures { IfOk result (λ t. (r : Rect) (k : ℕ) → HasItem t r k ↔ HasItem items.items r k) }
+    pub fn of(alloc: Global, items: Items) -> Result<Tree, AllocError>
+        ensures { IfOk result (λ t. (r : Rect) (k : ℕ) → HasItem t r k ↔ HasItem items r k) }
     {
+        let mut items = items.into_items();
         arrange(&mut items);
         let levels = levels_over(alloc, &items)?;
         Ok(Tree { items, levels })
@@ -52,11 +54,19 @@ impl Tree {
         Ok(tree)
     }
 
-    /// The items.
-    pub fn items(&self) -> &[Item]
-        ensures { result.now ≡ self.now }
+    /// How many items there are.
+    pub fn count(&self) -> usize
+        ensures { result ≡ length self.now }
     {
-        self.items.as_slice()
+        self.items.len()
+    }
+
+    /// An item, by its number.
+    pub fn item(&self, i: usize) -> Item
+        requires { i < length self.now }
+        ensures { (d : Item) → result ≡ slice_index_or self.now i d }
+    {
+        self.items[i].item()
     }
 
     /// The number of the first item from number `from` on that has a square in the window and an owner that is sought, or a number past all items.

@@ -4,7 +4,6 @@ ghost use Rattle.dpl_spec.specs.Zones.{turned_rect};
 ghost use Rattle.dpl_tree.specs.declared.items.Item.{Item};
 ghost use Rattle.dpl_tree.specs.Trees.{ArePassed, IsMissed, turned_item};
 
-use crate::items::Item;
 use crate::owners::Owners;
 use crate::tree::Tree;
 use dpl_base::Rect;
@@ -20,14 +19,6 @@ fn turned(r: &Rect) -> Rect
         x1: r.y1,
         y1: r.x1,
     }
-}
-
-/// The rectangle of an item.
-fn rect_of(items: &[Item], i: usize) -> Rect
-    requires { i < length items.now }
-    ensures { (d : Item) → result ≡ (slice_index_or items.now i d).rect }
-{
-    items[i].rect
 }
 
 /// A tree that is borrowed, as it is or with x and y exchanged. A contract sees the items.
@@ -74,7 +65,7 @@ impl<'a> View<'a> {
     pub fn count(&self) -> usize
         ensures { result ≡ length self.now }
     {
-        self.tree.items().len()
+        self.tree.count()
     }
 
     /// The rectangle of an item.
@@ -82,7 +73,7 @@ impl<'a> View<'a> {
         requires { i < length self.now }
         ensures { (d : Item) → result ≡ (slice_index_or self.now i d).rect }
     {
-        let rect = rect_of(self.tree.items(), i);
+        let rect = self.tree.item(i).rect;
         if self.is_turned {
             return turned(&rect);
         }

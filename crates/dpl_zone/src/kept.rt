@@ -14,15 +14,16 @@ use crate::near::touches_item;
 use crate::ways::found_in;
 use dpl_base::Rect;
 use dpl_slabs::Slabs;
-use dpl_tree::{Tree, View, add_items_of};
+use dpl_tree::{Items, Tree, View};
 use std::alloc::{AllocError, Global};
 
 /// The tree of zones.
 fn tree_of_zones(alloc: Global, zones: &[Rect]) -> Result<Tree, AllocError>
+    requires { AreWithin zones.now }
     ensures { IfOk result (λ t. (r : Rect) (k : ℕ) → HasItem t r k ↔ ((k ≡ 0) × Contains zones.now r)) }
 {
-    let mut items = Vec::new(alloc);
-    add_items_of(&mut items, zones, 0)?;
+    let mut items = Items::new(alloc);
+    items.add(zones, 0)?;
     let tree = Tree::of(alloc, items)?;
     Ok(tree)
 }

@@ -9,4 +9,4 @@ abbrev pub invariant-loop-n : goal.invariant-loop-n
 invariant-loop-n l = Adds (OfFirst (Nth (λ item. IsNearSlab l.plan.rule l.plan.owners l.i l.part item.owner item.rect) l.tree) l.n) l.initial.found.items l.found.items
 
 abbrev pub decreases-loop-n : goal.decreases-loop-n
-decreases-loop-n l = length l.items - l.n
+decreases-loop-n l = length l.tree - l.n

@@ -1,6 +1,6 @@
 use Rattle.std.proofs.Common.{◌<◌, length, refl, arith, inr}
 use Rattle.std.proofs.lemmas.Bool.{false≢true}
-use Rattle.dpl_tree.proofs.ItemLaws.{item-at}
+use Rattle.dpl_tree.proofs.ItemLaws.{item-is}
 use Rattle.dpl_nearest.proofs.ItemLaws.{far-first, far-more, found-sought, item-near, none-near}
 use Rattle.dpl_nearest.proofs.rects.near_any.Goals as goal
 
@@ -12,14 +12,14 @@ loop-n-init c = record {
 
 pub near-requires-clause-solid_b : goal.near-requires-clause-solid_b
 near-requires-clause-solid_b c =
-    let inside : c.loop-n.n < length c.args.others.now = rw c.items-items.ensures at c.loop-n-test.true in
-    let solid = c.requires.others _ _ (item-at c.args.others.now c.loop-n.n _ inside) in
-    rw c.items-items.ensures (record { wide = solid.wide; tall = solid.tall; left = omega (arith, solid.left); right = omega (arith, solid.right); low = omega (arith, solid.low); high = omega (arith, solid.high) })
+    let inside : c.loop-n.n < length c.args.others.now = rw c.count.ensures at c.loop-n-test.true in
+    let solid = c.requires.others _ _ (item-is c.args.others.now c.loop-n.n c.item.result inside c.item.ensures) in
+    record { wide = solid.wide; tall = solid.tall; left = omega (arith, solid.left); right = omega (arith, solid.right); low = omega (arith, solid.low); high = omega (arith, solid.high) }
 
 pub loop-n-preserved : goal.loop-n-preserved
 loop-n-preserved c =
-    let inside : c.loop-n.n < length c.args.others.now = rw c.items-items.ensures at c.loop-n-test.true in
-    let near = rw c.items-items.ensures at c.if-near.ensures in
+    let inside : c.loop-n.n < length c.args.others.now = rw c.count.ensures at c.loop-n-test.true in
+    let near = rw (c.item.ensures c.item.result) at c.if-near.ensures in
     record {
       here = λ d l out. c.seek-n-in-loop-n.ensures.found d l (inr out);
       far = far-more c.args.rule c.args.owners c.args.r.now c.widened-window.result c.args.others.now c.loop-n.n c.seek-n-in-loop-n.result _ c.widened-window.ensures inside c.loop-n.invariant.far
@@ -28,11 +28,10 @@ loop-n-preserved c =
 
 pub returns-then-near : goal.returns-then-near
 returns-then-near c =
-    let inside : c.loop-n.n < length c.args.others.now = rw c.items-items.ensures at c.loop-n-test.true in
-    let near = rw c.items-items.ensures at (c.near.ensures.0 c.if-near.true) in
-    (λ h. item-near c.args.rule c.args.owners c.args.r.now c.args.others.now _ _ (item-at c.args.others.now c.loop-n.n _ inside) (found-sought c.args.owners _ (c.loop-n.invariant.here _ inside)) near, λ h. refl)
+    let inside : c.loop-n.n < length c.args.others.now = rw c.count.ensures at c.loop-n-test.true in
+    (λ h. item-near c.args.rule c.args.owners c.args.r.now c.args.others.now _ _ (item-is c.args.others.now c.loop-n.n c.item.result inside c.item.ensures) (found-sought c.args.owners c.item.result.owner (rw (← c.item.ensures c.item.result) at (c.loop-n.invariant.here c.item.result inside))) (c.near.ensures.0 c.if-near.true), λ h. refl)
 
 pub returns : goal.returns
 returns c =
-    let all = rw c.items-items.ensures at c.loop-n-test.false in
+    let all = rw c.count.ensures at c.loop-n-test.false in
     (λ h. absurd (false≢true h), λ near. absurd (none-near c.args.rule c.args.owners c.args.r.now c.args.others.now c.loop-n.n all c.loop-n.invariant.far near))

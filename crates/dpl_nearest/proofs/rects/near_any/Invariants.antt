@@ -12,4 +12,4 @@ invariant-loop-n l =
     }
 
 abbrev pub decreases-loop-n : goal.decreases-loop-n
-decreases-loop-n l = length l.items - l.n
+decreases-loop-n l = length l.others - l.n

@@ -2,4 +2,4 @@ use Rattle.dpl_tree.proofs.ItemLaws.{OfParts}
 use Rattle.dpl_tree.proofs.items.items_of.Given as goal
 
 abbrev pub invariant-loop-k : goal.invariant-loop-k
-invariant-loop-k l = OfParts l.parts l.k l.items.items
+invariant-loop-k l = OfParts l.parts l.k l.items

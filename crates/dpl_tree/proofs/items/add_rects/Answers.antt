@@ -1,6 +1,7 @@
 use Rattle.std.proofs.Common.{arith, refl, rules}
 use Rattle.dpl_tree.proofs.ItemLaws.{item-none, item-more, item-all}
-use Rattle.dpl_tree.proofs.items.add_items_of.Goals as goal
+use Rattle.dpl_tree.proofs.NarrowLaws.{items-push}
+use Rattle.dpl_tree.proofs.items.add_rects.Goals as goal
 
 pub loop-rect-init : goal.loop-rect-init
 loop-rect-init c = record {
@@ -10,7 +11,7 @@ loop-rect-init c = record {
 
 pub loop-rect-preserved : goal.loop-rect-preserved
 loop-rect-preserved c = record {
-  added = item-more c.args.owner c.args.rects.now c.loop-rect.rect-index _ c.loop-rect.items.items _ _ c.in_ok-push.ensures.items (omega arith) (search rules) refl c.loop-rect.invariant.added;
+  added = item-more c.args.owner c.args.rects.now c.loop-rect.rect-index _ _ _ _ (items-push c.loop-rect.items.items _ _ c.in_ok-push.ensures.items) (omega arith) (search rules) refl c.loop-rect.invariant.added;
   room = omega (arith, c.in_ok-push.ensures.len, c.in_ok-push.ensures.capacity, c.loop-rect.invariant.room);
 }
 
