@@ -1,16 +1,15 @@
 -- Features one by one, each with its own zones.
 use Rattle.std.proofs.Common.{◌≡◌, ◌≢◌, ℕ, suc, ◌+◌, ◌≤◌, ◌<◌, ◌⊎◌, inl, inr, List, [], ◌∷◌, ◌++◌, length, get_or, map, take, drop, sym, ap, ◌∙◌, subst, arith}
 use Rattle.std.specs.Prelude.{◌↔◌}
-use Rattle.std.specs.List.{All, Contains}
+use Rattle.std.specs.List.{All, Contains, range_with_len}
 use Rattle.std.specs.List.Sorted.{IsNonDecreasingBy, IsPermutation}
-use Rattle.std.proofs.lemmas.Bool.{cases_eq}
 use Rattle.std.proofs.lemmas.List.{append_assoc, get_or_at, get_or_default, get_or-drop, length-append, length-drop, take-append-drop}
-use Rattle.std.proofs.lemmas.List.Elements.{All-contains, All-push, Contains-get_or, Contains-append_left, Contains-append_right, Contains-append_cases, Contains-push, Contains-push_cases}
+use Rattle.std.proofs.lemmas.List.Elements.{All-contains, All-push, Contains-get_or, Contains-append_left, Contains-append_right, Contains-append_cases}
+use Rattle.std.proofs.lemmas.List.FromFn.{length-range_with_len, get_or-range_with_len}
 use Rattle.std.proofs.lemmas.List.Sorted.{Contains-permutation, IsPermutation-sym}
 use Rattle.std.proofs.Math.Seq.{take-suc}
 use Rattle.dpl_spec.specs.declared.Rect.{Rect}
 use Rattle.dpl_spec.specs.declared.Zone.{Zone}
-use Rattle.dpl_spec.proofs.Ordered.{Contains-nil}
 use Rattle.dpl_piece.proofs.CornerLaws.{Contains-map, map-Contains}
 use Rattle.dpl_piece.specs.Pieces.{zone_at, feature_at, rect_at, AreNumbersBelow}
 use Rattle.dpl_piece.proofs.Broken.{AreHolesOf}
@@ -20,20 +19,15 @@ pub record AreZonesFrom (zones : List Zone) (n : ℕ) (rest : List ℕ) : Type 0
   pub rise : IsNonDecreasingBy (feature_at zones) rest
   pub members : (j : ℕ) → Contains rest j ↔ ((j < length zones) × (n ≤ feature_at zones j))
 
-pub numbers-none : AreNumbersBelow 0 []
-numbers-none j = (λ h. absurd (Contains-nil j h), λ l. absurd (omega (arith, l)))
-
-pub numbers-next : (n : ℕ) (numbers : List ℕ) → AreNumbersBelow n numbers → AreNumbersBelow (n + 1) (numbers ++ n ∷ [])
-numbers-next n numbers are j = (
-  λ h. elim (Contains-push_cases numbers n j h) [ inl a ↦ (let l = (are j).0 a in omega (arith, l)) | inr e ↦ omega (arith, e) ],
-  λ l. elim (cases_eq j n) [ inl e ↦ subst (Contains (numbers ++ n ∷ [])) (sym e) (Contains-push numbers n) | inr ne ↦ Contains-append_left numbers (n ∷ []) j ((are j).1 (omega (arith, l, ne))) ],
-)
-
-pub numbers-permuted : (n : ℕ) (numbers sorted : List ℕ) → AreNumbersBelow n numbers → IsPermutation numbers sorted → AreNumbersBelow n sorted
-numbers-permuted n numbers sorted are same j = (
-  λ h. (are j).0 (Contains-permutation sorted numbers j (IsPermutation-sym numbers sorted same) h),
-  λ l. Contains-permutation numbers sorted j same ((are j).1 l),
-)
+-- the numbers below n in any order are each number below n, and no other
+pub numbers-permuted : (n : ℕ) (sorted : List ℕ) → IsPermutation (range_with_len 0 n) sorted → AreNumbersBelow n sorted
+numbers-permuted n sorted same j =
+    let l : length (range_with_len 0 n) ≡ n = length-range_with_len 0 n in (
+      λ h. (let (i, i_in, is) = Contains-permutation sorted (range_with_len 0 n) j (IsPermutation-sym (range_with_len 0 n) sorted same) h in
+          let e = get_or-range_with_len 0 n i j (omega (arith, l, i_in)) in
+          omega (arith, l, i_in, is, e)),
+      λ j_in. (let e = get_or-range_with_len 0 n j j j_in in Contains-permutation (range_with_len 0 n) sorted j same (j, omega (arith, l, j_in), omega (arith, e))),
+    )
 
 -- one more number of a zone of the feature
 pub own-next : (zones : List Zone) (numbers : List ℕ) (i n : ℕ) → i < length numbers → feature_at zones (get_or numbers i 0) ≡ n → All (λ j. feature_at zones j ≡ n) (take i numbers) → All (λ j. feature_at zones j ≡ n) (take (i + 1) numbers)

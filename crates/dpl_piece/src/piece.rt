@@ -2,7 +2,7 @@
 ghost use Rattle.std.specs.Prelude.{◌≡◌, IfOk};
 ghost use Rattle.dpl_piece.specs.Pieces.{parts_in, owners_in, origins_in};
 
-use dpl_base::Id;
+use dpl_base::{Id, give_back};
 use dpl_slabs::Slabs;
 use std::alloc::{AllocError, Global};
 
@@ -29,8 +29,8 @@ pub struct Lists {
     pub origins: Vec<Origin>,
 }
 
-/// The squares, the features and the origins of the pieces.
-pub fn lists_of(alloc: Global, pieces: Vec<Piece>) -> Result<Lists, AllocError>
+/// The squares, the features and the origins of the pieces. The pieces are turned round and taken from the end, so that the room of their list is given back on the way.
+pub fn lists_of(alloc: Global, mut pieces: Vec<Piece>) -> Result<Lists, AllocError>
     ensures parts { IfOk result (λ l. l.parts.items ≡ parts_in pieces.items) }
     ensures owners { IfOk result (λ l. l.owners.items ≡ owners_in pieces.items) }
     ensures origins { IfOk result (λ l. l.origins.items ≡ origins_in pieces.items) }
@@ -39,7 +39,8 @@ pub fn lists_of(alloc: Global, pieces: Vec<Piece>) -> Result<Lists, AllocError>
     let mut parts = Vec::with_capacity(alloc, count)?;
     let mut owners = Vec::with_capacity(alloc, count)?;
     let mut origins = Vec::with_capacity(alloc, count)?;
-    for piece in pieces {
+    pieces.reverse();
+    while let Some(piece) = pieces.pop() {
         let Piece {
             part,
             owner,
@@ -48,6 +49,7 @@ pub fn lists_of(alloc: Global, pieces: Vec<Piece>) -> Result<Lists, AllocError>
         parts.push(part)?;
         owners.push(owner)?;
         origins.push(origin)?;
+        give_back(&mut pieces);
     }
     Ok(Lists {
         parts,

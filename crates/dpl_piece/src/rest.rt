@@ -1,6 +1,6 @@
 //! What zones leave of features.
 ghost use Rattle.std.specs.Prelude.{◌≡◌, ◌≢◌, ℕ, ◌<◌, ◌≤◌, ◌++◌, IfOk, OnOk, length, map, take, slice_index_or};
-ghost use Rattle.std.specs.List.{All};
+ghost use Rattle.std.specs.List.{All, range_with_len};
 ghost use Rattle.std.specs.List.Sorted.{IsNonDecreasingBy, IsPermutation};
 ghost use Rattle.dpl_spec.specs.Loops.{farthest, AreRectsWithin};
 ghost use Rattle.dpl_piece.specs.Cutting.{AreFeatures, AreTheirZones};
@@ -21,15 +21,11 @@ fn feature_of(zones: &[Zone], number: usize) -> Id
     }
 }
 
-/// The numbers below `count`.
+/// The numbers below `count`, in order.
 fn numbers_below(alloc: Global, count: usize) -> Result<Vec<usize>, AllocError>
-    ensures { IfOk result (λ v. AreNumbersBelow count v.items) }
+    ensures { IfOk result (λ v. v.items ≡ range_with_len 0 count) }
 {
-    let mut numbers = Vec::with_capacity(alloc, count)?;
-    for i in 0..count {
-        numbers.push(i)?;
-    }
-    Ok(numbers)
+    (0..count).collect(alloc)
 }
 
 /// The numbers of the zones, by feature.

@@ -1,14 +1,14 @@
-use Rattle.std.proofs.Common.{◌≡◌, ◌++◌, length}
-use Rattle.std.specs.Vec.Iter.{into_iter_items, into_iter_len}
+use Rattle.std.proofs.Common.{◌≡◌, ◌++◌, length, reverse}
 use Rattle.dpl_piece.specs.Pieces.{parts_in, owners_in, origins_in}
 use Rattle.dpl_piece.proofs.piece.lists_of.Given as goal
 
 abbrev pub invariant-loop-piece : goal.invariant-loop-piece
 invariant-loop-piece l =
     record {
-      all : l.yielded ++ into_iter_items l.piece-iterator ≡ l.fn.pieces.items;
-      left : into_iter_len l.piece-iterator ≡ length (into_iter_items l.piece-iterator);
-      parts : l.parts.items ≡ parts_in l.yielded;
-      owners : l.owners.items ≡ owners_in l.yielded;
-      origins : l.origins.items ≡ origins_in l.yielded;
+      parts : l.parts.items ++ parts_in (reverse l.pieces.items) ≡ parts_in l.fn.pieces.items;
+      owners : l.owners.items ++ owners_in (reverse l.pieces.items) ≡ owners_in l.fn.pieces.items;
+      origins : l.origins.items ++ origins_in (reverse l.pieces.items) ≡ origins_in l.fn.pieces.items;
     }
+
+abbrev pub decreases-loop-piece : goal.decreases-loop-piece
+decreases-loop-piece l = length l.pieces.items

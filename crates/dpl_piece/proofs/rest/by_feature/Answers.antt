@@ -6,7 +6,7 @@ use Rattle.dpl_piece.proofs.Turns.{numbers-permuted}
 use Rattle.dpl_piece.proofs.rest.by_feature.Goals as goal
 
 pub returns-clause-members : goal.returns-clause-members
-returns-clause-members c = numbers-permuted _ _ _ c.in_ok-numbers.ensures c.sort_unstable_by_key.ensures.permutation
+returns-clause-members c = numbers-permuted _ _ (rw c.in_ok-numbers.ensures at c.sort_unstable_by_key.ensures.permutation)
 
 pub returns-clause-rise : goal.returns-clause-rise
 returns-clause-rise c =

@@ -1,14 +1,12 @@
-use Rattle.std.proofs.Common.{◌≡◌, arith}
-use Rattle.dpl_piece.proofs.Turns.{numbers-none, numbers-next}
+use Rattle.std.proofs.Common.{◌≡◌, length, refl, arith}
+use Rattle.std.specs.Prelude.{vec_len}
+use Rattle.std.specs.List.{range_with_len}
+use Rattle.std.proofs.lemmas.Iterator.{YieldsList-from_range}
+use Rattle.std.proofs.lemmas.Iterator.Adapters.{fact_from_collect}
+use Rattle.std.proofs.lemmas.Result.{IfOk-weaker}
 use Rattle.dpl_piece.proofs.rest.numbers_below.Goals as goal
-
-pub loop-i-init : goal.loop-i-init
-loop-i-init c = rw c.in_ok-numbers.ensures.items numbers-none
-
-pub loop-i-preserved : goal.loop-i-preserved
-loop-i-preserved c = rw c.in_ok-push.ensures.items (numbers-next c.loop-i.i c.loop-i.numbers.items c.loop-i.invariant)
 
 pub returns : goal.returns
 returns c =
-    let all : c.loop-i.i ≡ c.args.count = omega arith in
-    rw all at c.loop-i.invariant
+    IfOk-weaker c.collect.result (λ v. (v.items ≡ range_with_len 0 c.args.count) × (vec_len v ≡ length (range_with_len 0 c.args.count))) _ (λ v h. h.0)
+    (fact_from_collect (λ xs v. (v.items ≡ xs) × (vec_len v ≡ length xs)) c.collect.result c.collect.ensures.ran (YieldsList-from_range 0 c.args.count c.args.count refl (omega arith)))
