@@ -1,9 +1,10 @@
 -- Squares that are added piece by piece and zone by zone, and stitches that are found one by one.
-use Rattle.std.proofs.Common.{◌≡◌, ◌∙◌, ◌<◌, ◌+◌, ℕ, inl, inr, Bool, false, true, List, [], ◌∷◌, ◌++◌, length, get_or, ap, sym, subst, arith}
+use Rattle.std.proofs.Common.{append_assoc, ◌≡◌, ◌∙◌, ◌≤◌, ◌<◌, ◌+◌, ℕ, inl, inr, Bool, false, true, List, [], ◌∷◌, ◌++◌, length, get_or, ap, sym, subst, arith}
 use Rattle.std.specs.Prelude.{◌↔◌, ◌⊎◌}
 use Rattle.std.specs.List.{Contains}
 use Rattle.std.proofs.lemmas.List.Elements.{Contains-append_cases, Contains-append_left, Contains-append_right, Contains-get_or}
-use Rattle.std.proofs.lemmas.List.{get_or_default}
+use Rattle.std.proofs.lemmas.List.{get_or_default, length-append}
+use Rattle.std.proofs.Math.Seq.{get_or-append_seam}
 use Rattle.std.proofs.lemmas.List.Quantifiers.{all_pairs_push}
 use Rattle.std.proofs.lemmas.Bool.{cases_lt}
 use Rattle.dpl_spec.specs.declared.Pt.{Pt}
@@ -15,7 +16,7 @@ use Rattle.dpl_spec.specs.Zones.{part_at}
 use Rattle.dpl_spec.specs.Slabs.{AreSlabsOf}
 use Rattle.dpl_spec.specs.Colours.{AreStitches, colour_at, differ, on_mask}
 use Rattle.dpl_spec.proofs.Ordered.{Contains-cases, Contains-head, Contains-nil}
-use Rattle.dpl_masks.specs.Painting.{Adds, AreFirstStitches, AreRectsOn, IsEither, in_pieces, in_zones}
+use Rattle.dpl_masks.specs.Painting.{Adds, AreFirstStitches, AreRectsOn, IsEither, in_pieces_from, in_zones}
 
 covers_append : (rs ss : List Rect) (p : Pt) → Covers (rs ++ ss) p ↔ (Covers rs p ⊎ Covers ss p)
 covers_append rs ss p = (
@@ -67,18 +68,43 @@ adds_same old new A B same adds p = (
 split_at : (n k : ℕ) → k < n + 1 → (k < n) ⊎ (k ≡ n)
 split_at n k h = elim (cases_lt k n) [ inl l ↦ inl l | inr g ↦ inr (omega (arith, g, h)) ]
 
-pub one_piece_more : (old mid new : List Rect) (n : ℕ) (pieces : List (List Rect)) (colours : List Bool) (letter : Bool)
-    → Adds old mid (in_pieces n pieces colours letter) → Adds mid new (λ p. (colour_at colours n ≡ letter) × part_at pieces n p) → Adds old new (in_pieces (n + 1) pieces colours letter)
-one_piece_more old mid new n pieces colours letter first second =
+split_above : (n k : ℕ) → n ≤ k → (n + 1 ≤ k) ⊎ (k ≡ n)
+split_above n k h = elim (cases_lt n k) [ inl l ↦ inl (omega (arith, l)) | inr g ↦ inr (omega (arith, g, h)) ]
+
+-- one more of the pieces, whose number is the one below
+one_piece_more : (old mid new : List Rect) (n : ℕ) (pieces : List (List Rect)) (colours : List Bool) (letter : Bool) → n < length pieces
+    → Adds old mid (in_pieces_from (n + 1) pieces colours letter) → Adds mid new (λ p. (colour_at colours n ≡ letter) × part_at pieces n p) → Adds old new (in_pieces_from n pieces colours letter)
+one_piece_more old mid new n pieces colours letter n_in first second =
     adds_same old new _ _
     (λ p. (
-      λ h. elim h [ inl a ↦ (a.0, omega (arith, a.1), a.2, a.3) | inr b ↦ (n, omega arith, b.0, b.1) ],
-      λ h. elim (split_at n h.0 h.1) [
-        | inl l ↦ inl (h.0, l, h.2, h.3)
-        | inr e ↦ inr (subst (λ (k : ℕ). colour_at colours k ≡ letter) e h.2, subst (λ (k : ℕ). part_at pieces k p) e h.3)
+      λ h. elim h [ inl a ↦ (a.0, omega (arith, a.1), a.2, a.3, a.4) | inr b ↦ (n, omega arith, n_in, b.0, b.1) ],
+      λ h. elim (split_above n h.0 h.1) [
+        | inl l ↦ inl (h.0, l, h.2, h.3, h.4)
+        | inr e ↦ inr (subst (λ (k : ℕ). colour_at colours k ≡ letter) e h.3, subst (λ (k : ℕ). part_at pieces k p) e h.4)
       ],
     ))
     (adds_then old mid new _ _ first second)
+
+piece_step : (mid new : List Rect) (a b l : Bool) (piece q : List Rect) → a ≡ b → piece ≡ q → Adds mid new (λ p. (a ≡ l) × Covers piece p) → Adds mid new (λ p. (b ≡ l) × Covers q p)
+piece_step mid new a b l piece q e f h = subst (λ (x : Bool). Adds mid new (λ p. (x ≡ l) × Covers q p)) e (subst (λ (r : List Rect). Adds mid new (λ p. (a ≡ l) × Covers r p)) f h)
+
+-- a list from whose end one element is taken
+pub one_taken : (all left new gone : List (List Rect)) (piece : List Rect) → all ≡ left ++ gone → left ≡ new ++ piece ∷ [] → all ≡ new ++ piece ∷ gone
+one_taken all left new gone piece e f = e ∙ (ap (λ (x : List (List Rect)). x ++ gone) f ∙ append_assoc new (piece ∷ []) gone)
+
+-- the last of the pieces that are left, with its letter
+pub last_piece_more : (old mid new : List Rect) (all left rest gone : List (List Rect)) (colours : List Bool) (letter a : Bool) (piece : List Rect) → all ≡ rest ++ piece ∷ gone → left ≡ rest ++ piece ∷ [] → a ≡ colour_at colours (length rest)
+    → Adds old mid (in_pieces_from (length left) all colours letter) → Adds mid new (λ p. (a ≡ letter) × Covers piece p) → Adds old new (in_pieces_from (length rest) all colours letter)
+last_piece_more old mid new all left rest gone colours letter a piece e f is first second =
+    let last : get_or all (length rest) [] ≡ piece = ap (λ (x : List (List Rect)). get_or x (length rest) []) e ∙ get_or-append_seam rest piece gone [] in
+    let one_less : length left ≡ length rest + 1 = ap (λ (x : List (List Rect)). length x) f ∙ length-append rest (piece ∷ []) in
+    let within : length rest < length all = rw (e, length-append rest (piece ∷ gone)) (omega arith) in
+    one_piece_more old mid new (length rest) all colours letter within (subst (λ (n : ℕ). Adds old mid (in_pieces_from n all colours letter)) one_less first)
+    (piece_step mid new a (colour_at colours (length rest)) letter piece (get_or all (length rest) []) is (sym last) second)
+
+-- there is no piece from a number on that is as many as there are
+pub no_pieces : (old : List Rect) (n : ℕ) (pieces : List (List Rect)) (colours : List Bool) (letter : Bool) → length pieces ≤ n → Adds old old (in_pieces_from n pieces colours letter)
+no_pieces old n pieces colours letter all = nothing_added old _ (λ p h. absurd (omega (arith, all, h.1, h.2)))
 
 same_element : {A : Type 0} (xs : List A) (n k : ℕ) (x d : A) → k ≡ n → get_or xs k x ≡ x → n < length xs → get_or xs n d ≡ x
 same_element xs n k x d e is h = get_or_default xs n d x h ∙ (ap (λ (i : ℕ). get_or xs i x) (sym e) ∙ is)
@@ -99,9 +125,6 @@ one_zone_more old mid new n zones sides colours letter z side z_in s_in z_is s_i
       ],
     ))
     (adds_then old mid new _ _ first second)
-
-pub piece_step : (mid new : List Rect) (a b l : Bool) (piece q : List Rect) → a ≡ b → piece ≡ q → Adds mid new (λ p. (a ≡ l) × Covers piece p) → Adds mid new (λ p. (b ≡ l) × Covers q p)
-piece_step mid new a b l piece q e f h = subst (λ (x : Bool). Adds mid new (λ p. (x ≡ l) × Covers q p)) e (subst (λ (r : List Rect). Adds mid new (λ p. (a ≡ l) × Covers r p)) f h)
 
 pub zone_step : (mid new : List Rect) (a c b d l : Bool) (r : Rect) → a ≡ c → b ≡ d → Adds mid new (λ p. ((a ≡ l) ⊎ (b ≡ l)) × Has r p) → Adds mid new (λ p. ((c ≡ l) ⊎ (d ≡ l)) × Has r p)
 zone_step mid new a c b d l r e f h = subst (λ (x : Bool). Adds mid new (λ p. ((x ≡ l) ⊎ (d ≡ l)) × Has r p)) e (subst (λ (x : Bool). Adds mid new (λ p. ((a ≡ l) ⊎ (x ≡ l)) × Has r p)) f h)
@@ -147,7 +170,7 @@ covers_none : (p : Pt) → Covers [] p → ⊥
 covers_none p c = absurd (omega (arith, c.2))
 
 pub rects_on : (pieces : List (List Rect)) (zones : List Zone) (sides : List (ℕ × ℕ)) (colours : List Bool) (letter : Bool) (r0 r1 r2 : List Rect)
-    → r0 ≡ [] → Adds r0 r1 (in_zones (length zones) zones sides colours letter) → Adds r1 r2 (in_pieces (length pieces) pieces colours letter) → AreRectsWithin farthest r2
+    → r0 ≡ [] → Adds r0 r1 (in_zones (length zones) zones sides colours letter) → Adds r1 r2 (in_pieces_from 0 pieces colours letter) → AreRectsWithin farthest r2
     → AreRectsOn pieces zones sides colours letter r2
 rects_on pieces zones sides colours letter r0 r1 r2 none first second within =
     let both = adds_then r0 r1 r2 _ _ first second in
@@ -155,9 +178,9 @@ rects_on pieces zones sides colours letter r0 r1 r2 none first second within =
       covers = λ p. (
         λ h. elim ((both p).0 h) [
           | inl c ↦ absurd (covers_none p (subst (λ (r : List Rect). Covers r p) none c))
-          | inr x ↦ elim x [ inl z ↦ inr z | inr i ↦ inl i ]
+          | inr x ↦ elim x [ inl z ↦ inr z | inr i ↦ inl (i.0, i.2, i.3, i.4) ]
         ],
-        λ x. (both p).1 (inr (elim x [ inl i ↦ inr i | inr z ↦ inl z ])),
+        λ x. (both p).1 (inr (elim x [ inl i ↦ inr (i.0, omega arith, i.1, i.2, i.3) | inr z ↦ inl z ])),
       );
       within = within;
     }

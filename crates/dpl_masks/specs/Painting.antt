@@ -1,5 +1,5 @@
 -- The masks of coloured pieces.
-use Rattle.std.specs.Prelude.{◌≡◌, ◌<◌, ◌⊎◌, ◌↔◌, ℕ, Bool, false, true, List, slice_index_or}
+use Rattle.std.specs.Prelude.{◌≡◌, ◌≤◌, ◌<◌, ◌⊎◌, ◌↔◌, ℕ, Bool, false, true, List, length, slice_index_or}
 use Rattle.std.specs.List.{AllPairs, Contains}
 use Rattle.dpl_spec.specs.declared.Pt.{Pt}
 use Rattle.dpl_spec.specs.declared.Rect.{Rect}
@@ -22,9 +22,9 @@ pub record AreRectsOn (pieces : List (List Rect)) (zones : List Zone) (sides : L
   pub covers : SameSquares (Covers rects) (on_mask pieces zones sides colours letter)
   pub within : AreRectsWithin farthest rects
 
--- the squares of those of the first n pieces that have this letter
-abbrev pub in_pieces : ℕ → List (List Rect) → List Bool → Bool → Region
-in_pieces n pieces colours letter p = (k : ℕ) × (k < n) × (colour_at colours k ≡ letter) × part_at pieces k p
+-- the squares of those of the pieces from number n on that have this letter
+abbrev pub in_pieces_from : ℕ → List (List Rect) → List Bool → Bool → Region
+in_pieces_from n pieces colours letter p = (k : ℕ) × (n ≤ k) × (k < length pieces) × (colour_at colours k ≡ letter) × part_at pieces k p
 
 -- one of both sides has this letter
 abbrev pub IsEither : List Bool → ℕ × ℕ → Bool → Type 0

@@ -5,10 +5,10 @@ ghost use Rattle.dpl_spec.specs.Loops.{AreRectsWithin, farthest};
 ghost use Rattle.dpl_spec.specs.Squares.{Covers, Has, IsSolidWithin};
 ghost use Rattle.dpl_spec.specs.Colours.{AreStitches, differ};
 ghost use Rattle.dpl_orient.specs.Masks.{is_second};
-ghost use Rattle.dpl_masks.specs.Painting.{Adds, AreMasksOf, AreRectsOn, in_pieces, in_zones};
+ghost use Rattle.dpl_masks.specs.Painting.{Adds, AreMasksOf, AreRectsOn, in_pieces_from, in_zones};
 
 use crate::pair::Masks;
-use dpl_base::{Id, Rect, Zone};
+use dpl_base::{Id, Rect, Zone, give_back};
 use dpl_orient::{Colours, Mask};
 use dpl_piece::{Cut, Pieces};
 use dpl_slabs::{Parts, Slabs};
@@ -34,7 +34,8 @@ struct Rects {
     b: Vec<Rect>,
 }
 
-/// The rectangles of both masks, the zones' first: so the zones are let go before room is taken for those of the pieces, and the pieces at the end.
+/// The rectangles of both masks, the zones' first, so that the zones and their sides are let go before room is used for those of the
+/// pieces. Each piece is let go as soon as its own are there.
 fn rects_of(alloc: Global, cut: Cut, colours: &[Mask]) -> Result<Rects, AllocError>
     requires colours { length colours.now ≡ length cut.parts }
     requires each { length cut.sides.items ≡ length cut.zones.items }
@@ -54,8 +55,7 @@ fn rects_of(alloc: Global, cut: Cut, colours: &[Mask]) -> Result<Rects, AllocErr
     add_zones(&mut b, &zones, &sides, colours, Mask::B)?;
     drop(zones);
     drop(sides);
-    add_pieces(&mut a, parts.items(), colours, Mask::A)?;
-    add_pieces(&mut b, parts.items(), colours, Mask::B)?;
+    add_pieces(&mut a, &mut b, parts.into_vec(), colours)?;
     Ok(Rects { a, b })
 }
 
@@ -100,20 +100,43 @@ fn add_piece(
     Ok(())
 }
 
-/// Adds the squares of the pieces that have the letter.
-fn add_pieces(
-    rects: &mut Vec<Rect>,
-    pieces: &[Slabs],
-    colours: &[Mask],
-    letter: Mask,
+/// Adds the squares of a piece to those of the mask of its letter, and lets the piece go.
+fn put_piece(
+    a: &mut Vec<Rect>,
+    b: &mut Vec<Rect>,
+    piece: Slabs,
+    colour: Mask,
 ) -> Result<(), AllocError>
-    requires each { length colours.now ≡ length pieces.now }
-    requires within { AreRectsWithin farthest rects.old.items }
-    ensures adds { OnOk result (Adds rects.old.items rects.new.items (in_pieces (length pieces.now) pieces.now (map is_second colours.now) (is_second letter))) }
-    ensures within { OnOk result (AreRectsWithin farthest rects.new.items) }
+    requires a_within { AreRectsWithin farthest a.old.items }
+    requires b_within { AreRectsWithin farthest b.old.items }
+    ensures a { OnOk result (Adds a.old.items a.new.items (λ p. (is_second colour ≡ false) × Covers piece p)) }
+    ensures b { OnOk result (Adds b.old.items b.new.items (λ p. (is_second colour ≡ true) × Covers piece p)) }
+    ensures a_within { OnOk result (AreRectsWithin farthest a.new.items) }
+    ensures b_within { OnOk result (AreRectsWithin farthest b.new.items) }
 {
-    for (k, piece) in pieces.iter().enumerate() {
-        add_piece(rects, piece, colours[k], letter)?;
+    add_piece(a, &piece, colour, Mask::A)?;
+    add_piece(b, &piece, colour, Mask::B)?;
+    Ok(())
+}
+
+/// Adds the squares of each piece to those of the mask of its letter. The pieces are let go one by one from the last, and the room of their list is given back on the way.
+fn add_pieces(
+    a: &mut Vec<Rect>,
+    b: &mut Vec<Rect>,
+    mut pieces: Vec<Slabs>,
+    colours: &[Mask],
+) -> Result<(), AllocError>
+    requires each { length colours.now ≡ length pieces.items }
+    requires a_within { AreRectsWithin farthest a.old.items }
+    requires b_within { AreRectsWithin farthest b.old.items }
+    ensures a { OnOk result (Adds a.old.items a.new.items (in_pieces_from 0 pieces.items (map is_second colours.now) false)) }
+    ensures b { OnOk result (Adds b.old.items b.new.items (in_pieces_from 0 pieces.items (map is_second colours.now) true)) }
+    ensures a_within { OnOk result (AreRectsWithin farthest a.new.items) }
+    ensures b_within { OnOk result (AreRectsWithin farthest b.new.items) }
+{
+    while let Some(piece) = pieces.pop() {
+        put_piece(a, b, piece, colours[pieces.len()])?;
+        give_back(&mut pieces);
     }
     Ok(())
 }
