@@ -5,7 +5,7 @@ use Rattle.std.specs.List.{All, Any, Contains}
 use Rattle.std.proofs.lemmas.Int.{ints, by_lt_z}
 use Rattle.dpl_spec.specs.declared.Pt.{Pt}
 use Rattle.dpl_spec.specs.declared.Rect.{Rect}
-use Rattle.dpl_spec.specs.Squares.{Region, Covers, Has, IsLeast}
+use Rattle.dpl_spec.specs.Squares.{Region, SameSquares, Covers, Has, IsLeast}
 use Rattle.dpl_spec.specs.Slabs.{AreSlabsOf}
 use Rattle.dpl_spec.specs.Loops.{farthest, AreRectsWithin, IsRectWithin}
 use Rattle.dpl_spec.proofs.Ordered.{Contains-head, Contains-later, Contains-cases, Contains-nil}
@@ -17,7 +17,7 @@ use Rattle.dpl_spec.proofs.ComponentLaws.{components-unique}
 use Rattle.dpl_cert.specs.declared.cert.Head.{Head}
 use Rattle.dpl_verdict.specs.Order.{HasSquare}
 use Rattle.dpl_verdict.specs.Masks.{CountDiffers, is_doubled, is_uncovered}
-use Rattle.dpl_check.specs.Findings.{IsLeastOf}
+use Rattle.dpl_check.specs.Findings.{IsLeastOf, is_unlisted}
 
 pub has_or_not : (r : Rect) (p : Pt) → Has r p ⊎ (Has r p → ⊥)
 has_or_not r p =
@@ -67,10 +67,15 @@ uncovered-are layer a b masks missing added all m l n s = record {
   );
 }
 
+-- where the masks together are the layer no square is uncovered
+pub none-uncovered : (layer a b masks : List Rect) → AreSlabsOf (λ p. Covers a p ⊎ Covers b p) masks → SameSquares (Covers layer) (Covers masks) → HasSquare (is_uncovered layer a b) → ⊥
+none-uncovered layer a b masks m same (p, inl (in_layer, none)) = none ((m.covers p).0 ((same p).0 in_layer))
+none-uncovered layer a b masks m same (p, inr (masked, none)) = none ((same p).1 ((m.covers p).1 masked))
+
 abbrev pub rects_of_stitches : List StitchLine → List Rect
 rects_of_stitches ss = map (λ s. let t : StitchLine = s in t.rect) ss
 
-stitch-rect : (ss : List StitchLine) (s : StitchLine) → Contains ss s → Contains (rects_of_stitches ss) s.rect
+pub stitch-rect : (ss : List StitchLine) (s : StitchLine) → Contains ss s → Contains (rects_of_stitches ss) s.rect
 stitch-rect [] s h = absurd (Contains-nil s h)
 stitch-rect (t ∷ ss) s h = elim (Contains-cases t s ss h) [
   | inl e ↦ subst (λ u. let v : StitchLine = u in Contains (t.rect ∷ rects_of_stitches ss) v.rect) e (Contains-head t.rect (rects_of_stitches ss))
@@ -103,16 +108,30 @@ stitches-within ss fit r r_in =
     let within : IsRectWithin farthest s.rect = record { left = omega (arith, ints, f.rect.x0.0, f.rect.x0.1); low = omega (arith, ints, f.rect.y0.0, f.rect.y0.1); right = omega (arith, ints, f.rect.x1.0, f.rect.x1.1); high = omega (arith, ints, f.rect.y1.0, f.rect.y1.1) } in
     subst (λ u. IsRectWithin farthest u) same within
 
-pub doubled-are : (a b both left : List Rect) (ss : List StitchLine) → AreSlabsOf (λ p. Covers a p × Covers b p) both → AreSlabsOf (λ p. Covers both p × ¬ Covers (rects_of_stitches ss) p) left → AreSlabsOf (is_doubled a b ss) left
-doubled-are a b both left ss m s = record {
+-- an empty set has no square that isn't listed
+pub unlisted-none : (both : List Rect) (ss : List StitchLine) → length both ≡ 0 → IsLeastOf (is_unlisted both ss) None
+unlisted-none both ss none (p, ((k, r, k_in, is, has), out)) = omega (arith, k_in, none)
+
+pub unlisted-are : (both left : List Rect) (ss : List StitchLine) → AreSlabsOf (λ p. Covers both p × ¬ Covers (rects_of_stitches ss) p) left → AreSlabsOf (is_unlisted both ss) left
+unlisted-are both left ss s = record {
   canonical = s.canonical;
   covers = λ p. (
-    λ h. (let (one, none) = (s.covers p).0 h in
-        let (in_a, in_b) = (m.covers p).0 one in
-        (in_a, in_b, λ listed. none ((rects-any ss p).1 listed))),
-    λ (in_a, in_b, none). (s.covers p).1 ((m.covers p).1 (in_a, in_b), λ c. none ((rects-any ss p).0 c)),
+    λ h. (let (one, none) = (s.covers p).0 h in (one, λ listed. none ((rects-any ss p).1 listed))),
+    λ (one, none). (s.covers p).1 (one, λ c. none ((rects-any ss p).0 c)),
   );
 }
+
+-- the least square of the same set
+least-same : (a b : Region) (o : Option Pt) → SameSquares a b → IsLeastOf a o → IsLeastOf b o
+least-same a b None same none = λ (p, p_in). none (p, (same p).1 p_in)
+least-same a b (Some p) same least = record { inside = (same p).0 least.inside; first = λ q q_in. least.first q ((same q).1 q_in) }
+
+-- the squares on both masks that no stitch lists are the doubled ones
+pub least-doubled : (a b both : List Rect) (ss : List StitchLine) (o : Option Pt) → AreSlabsOf (λ p. Covers a p × Covers b p) both → IsLeastOf (is_unlisted both ss) o → IsLeastOf (is_doubled a b ss) o
+least-doubled a b both ss o m least = least-same (is_unlisted both ss) (is_doubled a b ss) o (λ p. (
+  λ (one, none). (let (in_a, in_b) = (m.covers p).0 one in (in_a, in_b, none)),
+  λ (in_a, in_b, none). ((m.covers p).1 (in_a, in_b), none),
+)) least
 
 -- where no square is uncovered the masks lie in the layer
 pub a-inside : (layer a b : List Rect) → (HasSquare (is_uncovered layer a b) → ⊥) → (p : Pt) → Covers a p → Covers layer p

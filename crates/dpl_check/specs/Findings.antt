@@ -1,7 +1,9 @@
 -- What a search finds: the least square of a set, the first bad item of a list, the least pair of squares.
 use Rattle.std.specs.Prelude.{◌≢◌, ℕ, pos, ◌<◌, ◌⊎◌, ◌-ℤ◌, ◌≤ℤ◌, cond, List, Option, Some, None, length}
+use Rattle.std.specs.List.{Any}
 use Rattle.dpl_spec.specs.declared.Pt.{Pt}
-use Rattle.dpl_spec.specs.Squares.{Region, Has, IsLeast}
+use Rattle.dpl_spec.specs.declared.Rect.{Rect}
+use Rattle.dpl_spec.specs.Squares.{Region, Covers, Has, IsLeast}
 use Rattle.dpl_tree.specs.declared.items.Item.{Item}
 use Rattle.dpl_tree.specs.declared.owners.Owners.TheVariants.{All as Everyone}
 use Rattle.dpl_nearest.specs.Search.{ItemCovers}
@@ -13,6 +15,10 @@ use Rattle.dpl_verdict.specs.Order.{HasBad, HasSquare, IsFirstBad, IsLeastPair}
 abbrev pub IsLeastOf : Region → Option Pt → Type 0
 IsLeastOf a None = ¬ HasSquare a
 IsLeastOf a (Some p) = IsLeast a p
+
+-- in the set and in no listed stitch
+abbrev pub is_unlisted : List Rect → List StitchLine → Region
+is_unlisted rects stitches p = Covers rects p × ¬ Any (λ s. Has s.rect p) stitches
 
 abbrev pub IsFirstBadOf : {X : Type 0} → (ℕ → X → Type 0) → List X → Option ℕ → Type 0
 IsFirstBadOf bad xs None = ¬ HasBad bad xs

@@ -52,7 +52,8 @@ pub fn check_masks(
     if let Some(at) = uncovered(alloc, layer, a, b)? {
         return Ok(Verdict::Cover { at });
     }
-    if let Some(at) = doubled(alloc, a, b, stitches.items())? {
+    let both = a.meet(alloc, b)?;
+    if let Some(at) = doubled(alloc, &both, stitches.items())? {
         return Ok(Verdict::Overlap { at });
     }
     if let Some((first, second)) = too_close(alloc, layer, &features, a, rule)? {
@@ -61,7 +62,7 @@ pub fn check_masks(
     if let Some((first, second)) = too_close(alloc, layer, &features, b, rule)? {
         return Ok(Verdict::SpacingB { first, second });
     }
-    if let Some(index) = bad_stitch(alloc, a, b, pieces.items(), stitches.items(), overlap)? {
+    if let Some(index) = bad_stitch(alloc, &both, pieces.items(), stitches.items(), overlap)? {
         return Ok(Verdict::Stitch { index });
     }
     if let Some(index) = bad_piece(alloc, a, b, pieces.items())? {

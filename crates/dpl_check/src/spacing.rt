@@ -17,7 +17,7 @@ use crate::window::owner_at;
 use dpl_base::{Pt, Rect};
 use dpl_nearest::{improved, unit};
 use dpl_slabs::{Parts, Slabs};
-use dpl_tree::{Owners, Tree, add_items_of};
+use dpl_tree::{Items, Owners, Tree};
 use std::alloc::{AllocError, Global};
 
 /// The owner of the tree's rectangle that has the lower left square of `r`.
@@ -50,12 +50,13 @@ fn owners_of(alloc: Global, rects: &[Rect], tree: &Tree) -> Result<Vec<usize>, A
 
 /// The tree of rectangles, each with its owner.
 fn owned_tree(alloc: Global, rects: &[Rect], owners: &[usize]) -> Result<Tree, AllocError>
-    requires { length owners.now ≡ length rects.now }
+    requires each { length owners.now ≡ length rects.now }
+    requires within { AreRectsWithin farthest rects.now }
     ensures { IfOk result (λ t. AreOwnedItems rects.now owners.now t) }
 {
-    let mut items = Vec::with_capacity(alloc, rects.len())?;
+    let mut items = Items::with_capacity(alloc, rects.len())?;
     for i in 0..rects.len() {
-        add_items_of(&mut items, &[rects[i]], owners[i])?;
+        items.add(&[rects[i]], owners[i])?;
     }
     let tree = Tree::of(alloc, items)?;
     Ok(tree)
@@ -63,12 +64,12 @@ fn owned_tree(alloc: Global, rects: &[Rect], owners: &[usize]) -> Result<Tree, A
 
 /// The tree of one square with its owner.
 fn single_tree(alloc: Global, p: Pt, owner: usize) -> Result<Tree, AllocError>
-    requires x { unsigned_abs p.x ≤ 2 ^ 61 }
-    requires y { unsigned_abs p.y ≤ 2 ^ 61 }
+    requires x { unsigned_abs p.x ≤ farthest }
+    requires y { unsigned_abs p.y ≤ farthest }
     ensures { IfOk result (λ t. IsSingle p owner t) }
 {
-    let mut items = Vec::new(alloc);
-    add_items_of(&mut items, &[unit(p)], owner)?;
+    let mut items = Items::new(alloc);
+    items.add(&[unit(p)], owner)?;
     let tree = Tree::of(alloc, items)?;
     Ok(tree)
 }

@@ -2,17 +2,18 @@
 ghost use Rattle.std.specs.Prelude.{◌+◌, ◌≢◌, ◌<◌, ◌⊎◌, ◌↔◌, pos, ◌-ℤ◌, ◌≤ℤ◌, IsTrue, IfOk, length};
 ghost use Rattle.std.specs.List.{All};
 ghost use Rattle.dpl_cert.specs.Grammar.{IsCoordinate, IsRect, IsStitch};
+ghost use Rattle.dpl_spec.specs.declared.Pt.{Pt};
+ghost use Rattle.dpl_spec.specs.declared.Rect.{Rect};
 ghost use Rattle.dpl_spec.specs.Squares.{Covers, Has};
-ghost use Rattle.dpl_spec.specs.Loops.{farthest};
+ghost use Rattle.dpl_spec.specs.Loops.{farthest, IsRectWithin};
 ghost use Rattle.dpl_tree.specs.declared.owners.Owners.TheVariants.{All as Everyone};
 ghost use Rattle.dpl_nearest.specs.Search.{AreItemsWithin, ItemCovers};
 ghost use Rattle.dpl_verdict.specs.Order.{HasSquare};
-ghost use Rattle.dpl_verdict.specs.Masks.{IsBadStitch, piece_at};
+ghost use Rattle.dpl_verdict.specs.Masks.{piece_at};
 ghost use Rattle.dpl_check.specs.Findings.{IsFirstBadOf, IsRightStitch, IsWrongStitch};
 
-use crate::cover::rects_of;
 use crate::window::is_met;
-use dpl_base::Rect;
+use dpl_base::{FARTHEST, Rect};
 use dpl_cert::{PieceLine, StitchLine};
 use dpl_nearest::tree_of;
 use dpl_slabs::Slabs;
@@ -89,21 +90,31 @@ fn first_wrong(
     None
 }
 
-/// The first stitch that isn't on both masks, is shorter than `overlap` database units both ways, or doesn't part pieces of two letters.
+/// All squares that a stitch may have.
+fn whole() -> Rect
+    ensures within { IsRectWithin farthest result }
+    ensures all { (r : Rect) (p : Pt) → IsRectWithin farthest r → Has r p → Has result p }
+{
+    Rect {
+        x0: -FARTHEST,
+        y0: -FARTHEST,
+        x1: FARTHEST,
+        y1: FARTHEST,
+    }
+}
+
+/// The first stitch that has a square outside those on both masks, is shorter than `overlap` database units both ways, or doesn't part pieces of two letters.
 pub(crate) fn bad_stitch(
     alloc: Global,
-    a: &Slabs,
-    b: &Slabs,
+    both: &Slabs,
     pieces: &[PieceLine],
     stitches: &[StitchLine],
     overlap: u32,
 ) -> Result<Option<u64>, AllocError>
     requires { All IsStitch stitches.now }
-    ensures { IfOk result (λ found. IsFirstBadOf (IsBadStitch overlap a.now b.now pieces.now) stitches.now found) }
+    ensures { IfOk result (λ found. IsFirstBadOf (IsWrongStitch overlap (λ p. ¬ Covers both.now p) pieces.now) stitches.now found) }
 {
-    let both = a.meet(alloc, b)?;
-    let rects = rects_of(alloc, stitches)?;
-    let off = Slabs::of_rects_without(alloc, &rects, both.rects())?;
+    let off = Slabs::of_rects_without(alloc, &[whole()], both.rects())?;
     let tree = tree_of(alloc, off.rects())?;
     Ok(first_wrong(stitches, pieces, &tree, overlap))
 }

@@ -18,10 +18,9 @@ pub(crate) fn owner_in(tree: &Tree, window: &Rect) -> Option<usize>
     ensures none { IsNone result → ¬ HasSquare (λ p. Has window.now p × ItemCovers Everyone tree.now p) }
     ensures some { IfSome result (λ k. HasSquare (λ p. Has window.now p × ItemCovers (Only k) tree.now p)) }
 {
-    let items = tree.items();
     let n = tree.seek(0, window, Owners::All);
-    if n < items.len() {
-        return Some(items[n].owner);
+    if n < tree.count() {
+        return Some(tree.item(n).owner);
     }
     None
 }

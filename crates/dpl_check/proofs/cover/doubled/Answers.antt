@@ -1,13 +1,19 @@
-use Rattle.dpl_verdict.specs.Masks.{is_doubled}
-use Rattle.dpl_check.proofs.Sets.{least-of, doubled-are, stitches-within}
+use Rattle.std.proofs.Common.{◌≡◌, length, arith}
+use Rattle.dpl_check.specs.Findings.{is_unlisted}
+use Rattle.dpl_check.proofs.Sets.{least-of, unlisted-are, unlisted-none, stitches-within}
 use Rattle.dpl_check.proofs.cover.doubled.Goals as goal
 
+pub returns-then-is_empty : goal.returns-then-is_empty
+returns-then-is_empty c =
+    let empty : length c.rects.result.now ≡ 0 = (let h = c.if-is_empty.ensures in grind arith) in
+    unlisted-none c.args.both.now c.args.stitches.now (rw c.rects.ensures.value at empty)
+
 pub of_rects_without-requires-clause-holes : goal.of_rects_without-requires-clause-holes
-of_rects_without-requires-clause-holes c = rw (c.deref.ensures.value, c.in_ok-rects.ensures) (stitches-within c.args.stitches.now c.requires)
+of_rects_without-requires-clause-holes c = rw (c.deref.ensures.value, c.in_ok-listed.ensures) (stitches-within c.args.stitches.now c.requires)
 
 pub returns : goal.returns
 returns c =
-    let left = rw (c.rects.ensures.value, c.deref.ensures.value, c.in_ok-rects.ensures) at c.in_ok-left.ensures in
-    least-of (is_doubled c.args.a.now c.args.b.now c.args.stitches.now) c.in_ok-left.left c.least.result
-    (doubled-are c.args.a.now c.args.b.now c.in_ok-both.both c.in_ok-left.left c.args.stitches.now c.in_ok-both.ensures left)
+    let left = rw (c.rects-2.ensures.value, c.deref.ensures.value, c.in_ok-listed.ensures) at c.in_ok-left.ensures in
+    least-of (is_unlisted c.args.both.now c.args.stitches.now) c.in_ok-left.left c.least.result
+    (unlisted-are c.args.both.now c.in_ok-left.left c.args.stitches.now left)
     c.least.ensures.none c.least.ensures.some

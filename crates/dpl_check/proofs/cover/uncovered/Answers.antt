@@ -1,6 +1,9 @@
 use Rattle.dpl_verdict.specs.Masks.{is_uncovered}
-use Rattle.dpl_check.proofs.Sets.{least-of, uncovered-are}
+use Rattle.dpl_check.proofs.Sets.{least-of, none-uncovered, uncovered-are}
 use Rattle.dpl_check.proofs.cover.uncovered.Goals as goal
+
+pub returns-then-equal : goal.returns-then-equal
+returns-then-equal c = none-uncovered c.args.layer.now c.args.a.now c.args.b.now c.in_ok-masks.masks c.in_ok-masks.ensures (c.equal.ensures.0 c.if-equal.true)
 
 pub returns : goal.returns
 returns c = least-of (is_uncovered c.args.layer.now c.args.a.now c.args.b.now) c.in_ok-all.all c.least.result

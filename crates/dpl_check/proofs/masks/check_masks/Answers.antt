@@ -1,9 +1,10 @@
-use Rattle.std.proofs.Common.{sym, refl, inl, inr, subst}
+use Rattle.std.proofs.Common.{sym, refl, inl, inr, Some, None, subst}
 use Rattle.std.proofs.lemmas.Bool.{false≢true}
 use Rattle.dpl_cert.specs.declared.cert.Cert.{Cert}
 use Rattle.dpl_verdict.specs.declared.Verdict.TheVariants.{Valid, Cover, Overlap, SpacingA, SpacingB, Stitch, Piece}
 use Rattle.dpl_verdict.specs.Masks.{IsVerdictOfMasks}
-use Rattle.dpl_check.proofs.Sets.{a-inside, b-inside, count-kept, count-differs}
+use Rattle.dpl_check.proofs.Sets.{a-inside, b-inside, count-kept, count-differs, least-doubled}
+use Rattle.dpl_check.proofs.Stitches.{first-bad-stitch}
 use Rattle.dpl_check.proofs.masks.check_masks.Goals as goal
 
 pub too_close-requires-clause-inside : goal.too_close-requires-clause-inside
@@ -26,14 +27,16 @@ returns-in-Some c =
 pub returns-in-Some-2 : goal.returns-in-Some-2
 returns-in-Some-2 c =
     let cover = rw c.in_default-2.is at c.in_ok-at.ensures in
-    let found = rw (c.in-Some-2.is, c.items-2.ensures) at c.in_ok-at-2.ensures in
+    let least = rw (c.in-Some-2.is, c.items-2.ensures) at c.in_ok-at-2.ensures in
+    let found = least-doubled c.args.a.now c.args.b.now c.in_ok-both.both c.in-Masks.stitches (Some c.in-Some-2.at) c.in_ok-both.ensures least in
     subst (λ (x : Cert). IsVerdictOfMasks c.args.rule c.args.overlap c.args.layer.now c.args.a.now c.args.b.now x (Overlap c.in-Some-2.at)) (sym c.in-Masks.is)
     (inr ((λ differ. false≢true (c.if-rules_differ.ensures.1 differ)), inr ((count-kept c.args.layer.now c.in_ok-features.features c.items.result.now c.in-Masks.head c.in_ok-features.ensures c.items.ensures.value c.if-items-head.false), inr (cover, inl ((c.in-Some-2.at, found.inside), (c.in-Some-2.at, found, refl))))))
 
 pub returns-in-Some-3 : goal.returns-in-Some-3
 returns-in-Some-3 c =
     let cover = rw c.in_default-2.is at c.in_ok-at.ensures in
-    let doubled = rw (c.in_default-3.is, c.items-2.ensures) at c.in_ok-at-2.ensures in
+    let unlisted = rw (c.in_default-3.is, c.items-2.ensures) at c.in_ok-at-2.ensures in
+    let doubled = least-doubled c.args.a.now c.args.b.now c.in_ok-both.both c.in-Masks.stitches None c.in_ok-both.ensures unlisted in
     let found = rw c.in-Some-3.is at c.in_ok-first.ensures in
     subst (λ (x : Cert). IsVerdictOfMasks c.args.rule c.args.overlap c.args.layer.now c.args.a.now c.args.b.now x (SpacingA c.in-Some-3.first c.in-Some-3.second)) (sym c.in-Masks.is)
     (inr ((λ differ. false≢true (c.if-rules_differ.ensures.1 differ)), inr ((count-kept c.args.layer.now c.in_ok-features.features c.items.result.now c.in-Masks.head c.in_ok-features.ensures c.items.ensures.value c.if-items-head.false), inr (cover, inr (doubled, inl ((c.in-Some-3.first, c.in-Some-3.second, found.are), (c.in-Some-3.first, c.in-Some-3.second, found, refl)))))))
@@ -41,7 +44,8 @@ returns-in-Some-3 c =
 pub returns-in-Some-4 : goal.returns-in-Some-4
 returns-in-Some-4 c =
     let cover = rw c.in_default-2.is at c.in_ok-at.ensures in
-    let doubled = rw (c.in_default-3.is, c.items-2.ensures) at c.in_ok-at-2.ensures in
+    let unlisted = rw (c.in_default-3.is, c.items-2.ensures) at c.in_ok-at-2.ensures in
+    let doubled = least-doubled c.args.a.now c.args.b.now c.in_ok-both.both c.in-Masks.stitches None c.in_ok-both.ensures unlisted in
     let tight_a = rw c.in_default-4.is at c.in_ok-first.ensures in
     let found = rw c.in-Some-4.is at c.in_ok-first-2.ensures in
     subst (λ (x : Cert). IsVerdictOfMasks c.args.rule c.args.overlap c.args.layer.now c.args.a.now c.args.b.now x (SpacingB c.in-Some-4.first c.in-Some-4.second)) (sym c.in-Masks.is)
@@ -50,20 +54,24 @@ returns-in-Some-4 c =
 pub returns-in-Some-5 : goal.returns-in-Some-5
 returns-in-Some-5 c =
     let cover = rw c.in_default-2.is at c.in_ok-at.ensures in
-    let doubled = rw (c.in_default-3.is, c.items-2.ensures) at c.in_ok-at-2.ensures in
+    let unlisted = rw (c.in_default-3.is, c.items-2.ensures) at c.in_ok-at-2.ensures in
+    let doubled = least-doubled c.args.a.now c.args.b.now c.in_ok-both.both c.in-Masks.stitches None c.in_ok-both.ensures unlisted in
     let tight_a = rw c.in_default-4.is at c.in_ok-first.ensures in
     let tight_b = rw c.in_default-5.is at c.in_ok-first-2.ensures in
-    let found = rw (c.in-Some-5.is, c.items-3.ensures, c.items-4.ensures) at c.in_ok-index.ensures in
+    let first = rw (c.in-Some-5.is, c.items-3.ensures, c.items-4.ensures) at c.in_ok-index.ensures in
+    let found = first-bad-stitch c.args.overlap c.args.a.now c.args.b.now c.in_ok-both.both c.in-Masks.pieces c.in_ok-both.ensures c.in-Masks.stitches (Some c.in-Some-5.index) first in
     subst (λ (x : Cert). IsVerdictOfMasks c.args.rule c.args.overlap c.args.layer.now c.args.a.now c.args.b.now x (Stitch c.in-Some-5.index)) (sym c.in-Masks.is)
     (inr ((λ differ. false≢true (c.if-rules_differ.ensures.1 differ)), inr ((count-kept c.args.layer.now c.in_ok-features.features c.items.result.now c.in-Masks.head c.in_ok-features.ensures c.items.ensures.value c.if-items-head.false), inr (cover, inr (doubled, inr ((λ (p, q, h). tight_a p q h), inr ((λ (p, q, h). tight_b p q h), inl ((c.in-Some-5.index, found.inside, found.is), (c.in-Some-5.index, found, refl)))))))))
 
 pub returns-in-Some-6 : goal.returns-in-Some-6
 returns-in-Some-6 c =
     let cover = rw c.in_default-2.is at c.in_ok-at.ensures in
-    let doubled = rw (c.in_default-3.is, c.items-2.ensures) at c.in_ok-at-2.ensures in
+    let unlisted = rw (c.in_default-3.is, c.items-2.ensures) at c.in_ok-at-2.ensures in
+    let doubled = least-doubled c.args.a.now c.args.b.now c.in_ok-both.both c.in-Masks.stitches None c.in_ok-both.ensures unlisted in
     let tight_a = rw c.in_default-4.is at c.in_ok-first.ensures in
     let tight_b = rw c.in_default-5.is at c.in_ok-first-2.ensures in
-    let stitches = rw (c.in_default-6.is, c.items-3.ensures, c.items-4.ensures) at c.in_ok-index.ensures in
+    let right = rw (c.in_default-6.is, c.items-3.ensures, c.items-4.ensures) at c.in_ok-index.ensures in
+    let stitches = first-bad-stitch c.args.overlap c.args.a.now c.args.b.now c.in_ok-both.both c.in-Masks.pieces c.in_ok-both.ensures c.in-Masks.stitches None right in
     let found = rw (c.in-Some-6.is, c.items-5.ensures) at c.in_ok-index-2.ensures in
     subst (λ (x : Cert). IsVerdictOfMasks c.args.rule c.args.overlap c.args.layer.now c.args.a.now c.args.b.now x (Piece c.in-Some-6.index)) (sym c.in-Masks.is)
     (inr ((λ differ. false≢true (c.if-rules_differ.ensures.1 differ)), inr ((count-kept c.args.layer.now c.in_ok-features.features c.items.result.now c.in-Masks.head c.in_ok-features.ensures c.items.ensures.value c.if-items-head.false), inr (cover, inr (doubled, inr ((λ (p, q, h). tight_a p q h), inr ((λ (p, q, h). tight_b p q h), inr (stitches, inl ((c.in-Some-6.index, found.inside, found.is), (c.in-Some-6.index, found, refl))))))))))
@@ -71,10 +79,12 @@ returns-in-Some-6 c =
 pub returns : goal.returns
 returns c =
     let cover = rw c.in_default-2.is at c.in_ok-at.ensures in
-    let doubled = rw (c.in_default-3.is, c.items-2.ensures) at c.in_ok-at-2.ensures in
+    let unlisted = rw (c.in_default-3.is, c.items-2.ensures) at c.in_ok-at-2.ensures in
+    let doubled = least-doubled c.args.a.now c.args.b.now c.in_ok-both.both c.in-Masks.stitches None c.in_ok-both.ensures unlisted in
     let tight_a = rw c.in_default-4.is at c.in_ok-first.ensures in
     let tight_b = rw c.in_default-5.is at c.in_ok-first-2.ensures in
-    let stitches = rw (c.in_default-6.is, c.items-3.ensures, c.items-4.ensures) at c.in_ok-index.ensures in
+    let right = rw (c.in_default-6.is, c.items-3.ensures, c.items-4.ensures) at c.in_ok-index.ensures in
+    let stitches = first-bad-stitch c.args.overlap c.args.a.now c.args.b.now c.in_ok-both.both c.in-Masks.pieces c.in_ok-both.ensures c.in-Masks.stitches None right in
     let letters = rw (c.in_default-7.is, c.items-5.ensures) at c.in_ok-index-2.ensures in
     subst (λ (x : Cert). IsVerdictOfMasks c.args.rule c.args.overlap c.args.layer.now c.args.a.now c.args.b.now x Valid) (sym c.in-Masks.is)
     (inr ((λ differ. false≢true (c.if-rules_differ.ensures.1 differ)), inr ((count-kept c.args.layer.now c.in_ok-features.features c.items.result.now c.in-Masks.head c.in_ok-features.ensures c.items.ensures.value c.if-items-head.false), inr (cover, inr (doubled, inr ((λ (p, q, h). tight_a p q h), inr ((λ (p, q, h). tight_b p q h), inr (stitches, inr (letters, refl)))))))))

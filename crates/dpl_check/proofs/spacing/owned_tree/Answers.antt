@@ -3,10 +3,10 @@ use Rattle.dpl_check.proofs.Owning.{owns-none, owns-more, owns-all}
 use Rattle.dpl_check.proofs.spacing.owned_tree.Goals as goal
 
 pub loop-i-init : goal.loop-i-init
-loop-i-init c = owns-none c.args.rects.now c.args.owners.now _ c.in_ok-items.ensures.items
+loop-i-init c = owns-none c.args.rects.now c.args.owners.now _ c.in_ok-items.ensures
 
 pub loop-i-preserved : goal.loop-i-preserved
-loop-i-preserved c = owns-more c.args.rects.now c.args.owners.now c.loop-i.i _ _ c.loop-i.items.items c.add_items_of.new.items.items c.loop-i-test.true (search rules) (search rules) c.loop-i.invariant c.in_ok-add_items_of.ensures
+loop-i-preserved c = owns-more c.args.rects.now c.args.owners.now c.loop-i.i _ _ c.loop-i.items _ c.loop-i-test.true (search rules) (search rules) c.loop-i.invariant c.in_ok-add.ensures
 
 pub returns : goal.returns
 returns c = owns-all c.args.rects.now c.args.owners.now c.loop-i.i _ c.in_ok-tree.tree (omega arith) c.loop-i.invariant c.in_ok-tree.ensures
