@@ -38,12 +38,25 @@ fn add_step(rects: &mut Vec<Rect>, pace: u8, k: u16) -> Result<(), AllocError>
     Ok(())
 }
 
-/// Adds the bar below a stair.
-fn add_bar(rects: &mut Vec<Rect>) -> Result<(), AllocError>
+/// One of the long bars of a stair: the first lies below all of it, each other 100 units above the one before it. By the first there is no column between the stair's rectangles.
+fn bar(b: u8) -> Rect
+    ensures { IsRectWithin farthest result }
+{
+    let low = 100 * b as i64 - 20;
+    Rect {
+        x0: 0,
+        y0: low,
+        x1: 1_250_000,
+        y1: low + 10,
+    }
+}
+
+/// Adds a long bar.
+fn add_bar(rects: &mut Vec<Rect>, b: u8) -> Result<(), AllocError>
     requires { AreRectsWithin farthest rects.old.items }
     ensures { OnOk result (AreRectsWithin farthest rects.new.items) }
 {
-    rects.push(BELOW)?;
+    rects.push(bar(b))?;
     Ok(())
 }
 
@@ -58,44 +71,53 @@ fn stair(alloc: Global, pace: u8, from: u16, to: u16) -> Result<Vec<Rect>, Alloc
     Ok(rects)
 }
 
-/// A bar below all of a stair, as long as the longest one. By it there is no column between the stair's rectangles.
-const BELOW: Rect = Rect {
-    x0: 0,
-    y0: -20,
-    x1: 1_250_000,
-    y1: -10,
-};
-
-/// The squares of a stair from one number up to another, and where that is asked for those of the bar below it.
-fn squares(alloc: Global, pace: u8, from: u16, to: u16, barred: bool) -> Result<Slabs, AllocError> {
+/// The rectangles of a stair from one number up to another, and so many long bars.
+fn barred(alloc: Global, pace: u8, from: u16, to: u16, bars: u8) -> Result<Vec<Rect>, AllocError>
+    ensures { IfOk result (λ v. AreRectsWithin farthest v.items) }
+{
     let mut rects = stair(alloc, pace, from, to)?;
-    if barred {
-        add_bar(&mut rects)?;
+    for b in 0..bars {
+        add_bar(&mut rects, b)?;
     }
+    Ok(rects)
+}
+
+/// The squares of a stair from one number up to another, and of so many long bars.
+fn squares(alloc: Global, pace: u8, from: u16, to: u16, bars: u8) -> Result<Slabs, AllocError> {
+    let rects = barred(alloc, pace, from, to, bars)?;
     Slabs::of_rects(alloc, rects)
 }
 
 #[test]
 fn slices_make_the_slabs_of_one_sweep(rt: HostRuntime) -> Result<(), Fail> {
-    // Rectangles that overlap are swept slice by slice, and wires that stand apart block by block, or slice by slice with a bar below them.
-    for (pace, barred, count) in [(1, false, 5001), (250, false, 7500), (250, true, 7501)] {
-        let whole = squares(rt.alloc(), pace, 0, 5000, barred)?;
+    // Rectangles that overlap are swept slice by slice, and wires that stand apart block by block, or slice by slice with a bar below them. Where many bars cross them, slices are given up.
+    for (pace, bars, count) in [
+        (1, 0, 5001),
+        (250, 0, 7500),
+        (250, 1, 7501),
+        (250, 66, 57_656),
+    ] {
+        let whole = squares(rt.alloc(), pace, 0, 5000, bars)?;
         assert_eq!(rt; whole.rects().len(), count);
-        // The halves are swept at once.
-        let low = squares(rt.alloc(), pace, 0, 2500, barred)?;
-        let high = squares(rt.alloc(), pace, 2500, 5000, barred)?;
-        assert!(rt; whole.equal(&low.union(rt.alloc(), &high)?));
+        // The halves are swept at once, and each is in the whole, which has no square beside them.
+        let low = squares(rt.alloc(), pace, 0, 2500, bars)?;
+        let high = squares(rt.alloc(), pace, 2500, 5000, bars)?;
+        assert!(rt; low.equal(&whole.meet(rt.alloc(), &low)?));
+        assert!(rt; high.equal(&whole.meet(rt.alloc(), &high)?));
+        let rest = whole.minus(rt.alloc(), &low)?;
+        assert!(rt; rest.minus(rt.alloc(), &high)?.least().is_none());
     }
     Ok(())
 }
 
 #[test]
 fn slices_have_no_square_of_a_hole(rt: HostRuntime) -> Result<(), Fail> {
-    // Holes are taken out slice by slice, in rectangles that overlap and in wires that stand apart.
+    // Holes are taken out slice by slice, in rectangles that overlap and in wires that stand apart, some of them as long as the wires.
     for (pace, turn, holes, count) in [
         (1, 2, 5000, 2500),
         (2, 1, 5000, 3687),
         (250, 1, 500, 7620),
+        (250, 251, 5000, 9724),
     ] {
         let rects = stair(rt.alloc(), pace, 0, 5000)?;
         let gone = stair(rt.alloc(), turn, 0, holes)?;
