@@ -1,18 +1,20 @@
-//! Points and rectangles, and how far two rectangles lie apart.
+//! Points and rectangles, how far two rectangles lie apart, and the least one round some.
 #![tactic(auto)]
 
+mod bounds;
 mod listed;
+mod lists;
 mod loops;
-mod room;
 
 ghost use Rattle.std.specs.Prelude.{◌≡◌, ◌+◌, ◌*◌, ◌^◌, ◌<◌, ◌≤◌, ◌<ℤ◌, ◌↔◌, IsTrue, IsNone, IfSome, unsigned_abs};
 ghost use Rattle.dpl_spec.specs.Loops.{IsPointWithin, farthest};
 ghost use Rattle.dpl_spec.specs.Squares.{Has, IsSquaredDistance, IsSolidWithin, AreNear, AreTouching, IsReach};
 ghost use Rattle.dpl_base.specs.Spans.{IsSpanGap};
 
+pub use crate::bounds::round_one;
 pub use crate::listed::Listed;
+pub use crate::lists::{give_back, numbers_below};
 pub use crate::loops::Loop;
-pub use crate::room::give_back;
 pub use dpl_spec::{Pt, Rect, Zone};
 
 /// The number of a piece, a feature or a zone.

@@ -8,3 +8,4 @@ pub mod Owning
 pub mod Apart
 pub mod Placing
 pub mod Counting
+pub mod Around

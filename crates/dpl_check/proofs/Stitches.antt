@@ -1,16 +1,15 @@
 -- Stitches and pieces by the trees of their squares.
 use Rattle.std.proofs.Common.{◌≡◌, ℕ, ◌+◌, ◌<◌, inl, inr, Bool, true, false, List, [], ◌∷◌, length, get_or, Option, subst, arith}
 use Rattle.std.specs.Prelude.{◌↔◌, cond}
-use Rattle.std.specs.List.{All, Contains}
+use Rattle.std.specs.List.{Contains}
 use Rattle.std.proofs.lemmas.List.{get_or_default}
 use Rattle.dpl_spec.specs.declared.Pt.{Pt}
 use Rattle.dpl_spec.specs.declared.Rect.{Rect}
 use Rattle.dpl_spec.specs.Squares.{Covers, Has}
 use Rattle.dpl_spec.specs.Slabs.{AreSlabsOf, IsCanonical}
-use Rattle.dpl_spec.specs.Loops.{farthest, AreRectsWithin, IsRectWithin}
+use Rattle.dpl_spec.specs.Loops.{farthest, AreRectsWithin}
 use Rattle.dpl_spec.proofs.Ordered.{Contains-head}
 use Rattle.dpl_spec.proofs.SlabLaws.{Covers-member}
-use Rattle.dpl_cert.specs.Grammar.{IsStitch}
 use Rattle.dpl_cert.specs.declared.cert.PieceLine.{PieceLine}
 use Rattle.dpl_cert.specs.declared.cert.StitchLine.{StitchLine}
 use Rattle.dpl_tree.specs.declared.items.Item.{Item}
@@ -20,7 +19,7 @@ use Rattle.dpl_nearest.proofs.ItemLaws.{AreItemsOfRects, items-within, items-cov
 use Rattle.dpl_verdict.specs.Masks.{IsGoodStitch, IsBadStitch, IsBadPiece}
 use Rattle.dpl_check.specs.Findings.{IsFirstBadOf, IsRightStitch, IsWrongStitch, IsOffMask}
 use Rattle.dpl_check.proofs.Finding.{first-same}
-use Rattle.dpl_check.proofs.Sets.{covered_or_not, stitches-within, stitch-rect}
+use Rattle.dpl_check.proofs.Sets.{covered_or_not}
 
 -- stitches without a square of the tree are those without a square that isn't in the set
 module _ (overlap : ℕ) (all both off : List Rect) (pieces : List PieceLine) (ss : List StitchLine) (items : List Item)
@@ -47,9 +46,9 @@ module _ (overlap : ℕ) (all both off : List Rect) (pieces : List PieceLine) (s
     λ outside right. outside (right-inside (get_or ss k d) (k, k_in, get_or_default ss k (get_or ss k d) d k_in) right),
   )
 
--- a rectangle with all squares that a stitch may have has those of each stitch
-pub stitch-inside : (ss : List StitchLine) (whole : Rect) → All IsStitch ss → ((r : Rect) (p : Pt) → IsRectWithin farthest r → Has r p → Has whole p) → (s : StitchLine) (p : Pt) → Contains ss s → Has s.rect p → Covers (whole ∷ []) p
-stitch-inside ss whole fit all s p s_in has = Covers-member (whole ∷ []) whole p (Contains-head whole []) (all s.rect p (stitches-within ss fit s.rect (stitch-rect ss s s_in)) has)
+-- a rectangle round each stitch has the squares of each
+pub stitch-inside : (ss : List StitchLine) (bounds : Rect) → ((s : StitchLine) (p : Pt) → Contains ss s → Has s.rect p → Has bounds p) → (s : StitchLine) (p : Pt) → Contains ss s → Has s.rect p → Covers (bounds ∷ []) p
+stitch-inside ss bounds all s p s_in has = Covers-member (bounds ∷ []) bounds p (Contains-head bounds []) (all s p s_in has)
 
 -- a good stitch has no square that isn't on both masks
 module _ (overlap : ℕ) (a b both : List Rect) (pieces : List PieceLine) (meet : AreSlabsOf (λ p. Covers a p × Covers b p) both) where

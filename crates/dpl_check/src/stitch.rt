@@ -1,7 +1,8 @@
 //! Stitches that don't stand where, or aren't what, a certificate says.
-ghost use Rattle.std.specs.Prelude.{◌+◌, ◌≢◌, ◌<◌, ◌⊎◌, ◌↔◌, pos, ◌-ℤ◌, ◌≤ℤ◌, IsTrue, IfOk, length};
-ghost use Rattle.std.specs.List.{All};
+ghost use Rattle.std.specs.Prelude.{◌≡◌, ◌+◌, ◌≢◌, ◌<◌, ◌⊎◌, ◌↔◌, pos, ◌-ℤ◌, ◌≤ℤ◌, IsTrue, IsNone, IfSome, IfOk, [], length};
+ghost use Rattle.std.specs.List.{All, Contains};
 ghost use Rattle.dpl_cert.specs.Grammar.{IsCoordinate, IsRect, IsStitch};
+ghost use Rattle.dpl_cert.specs.declared.cert.StitchLine.{StitchLine};
 ghost use Rattle.dpl_spec.specs.declared.Pt.{Pt};
 ghost use Rattle.dpl_spec.specs.declared.Rect.{Rect};
 ghost use Rattle.dpl_spec.specs.Squares.{Covers, Has};
@@ -13,7 +14,7 @@ ghost use Rattle.dpl_verdict.specs.Masks.{piece_at};
 ghost use Rattle.dpl_check.specs.Findings.{IsFirstBadOf, IsRightStitch, IsWrongStitch};
 
 use crate::window::is_met;
-use dpl_base::{FARTHEST, Rect};
+use dpl_base::{Rect, round_one};
 use dpl_cert::{PieceLine, StitchLine};
 use dpl_nearest::tree_of;
 use dpl_slabs::Slabs;
@@ -90,17 +91,18 @@ fn first_wrong(
     None
 }
 
-/// All squares that a stitch may have.
-fn whole() -> Rect
-    ensures within { IsRectWithin farthest result }
-    ensures all { (r : Rect) (p : Pt) → IsRectWithin farthest r → Has r p → Has result p }
+/// A rectangle in range that has all squares of all stitches; none only where there are no stitches.
+fn bounds_of(stitches: &[StitchLine]) -> Option<Rect>
+    requires { All IsStitch stitches.now }
+    ensures none { IsNone result → stitches.now ≡ [] }
+    ensures within { IfSome result (IsRectWithin farthest) }
+    ensures all { IfSome result (λ b. (s : StitchLine) (p : Pt) → Contains stitches.now s → Has s.rect p → Has b p) }
 {
-    Rect {
-        x0: -FARTHEST,
-        y0: -FARTHEST,
-        x1: FARTHEST,
-        y1: FARTHEST,
+    let mut bounds = None;
+    for stitch in stitches {
+        bounds = round_one(bounds, &stitch.rect);
     }
+    bounds
 }
 
 /// The first stitch that has a square outside those on both masks, is shorter than `overlap` database units both ways, or doesn't part pieces of two letters.
@@ -114,7 +116,10 @@ pub(crate) fn bad_stitch(
     requires { All IsStitch stitches.now }
     ensures { IfOk result (λ found. IsFirstBadOf (IsWrongStitch overlap (λ p. ¬ Covers both.now p) pieces.now) stitches.now found) }
 {
-    let off = Slabs::of_rects_without(alloc, &[whole()], both.rects())?;
+    let Some(bounds) = bounds_of(stitches) else {
+        return Ok(None);
+    };
+    let off = Slabs::of_rects_without(alloc, &[bounds], both.rects())?;
     let tree = tree_of(alloc, off.rects())?;
     Ok(first_wrong(stitches, pieces, &tree, overlap))
 }

@@ -33,18 +33,22 @@ covers_one r p = (
   λ has. let c = Contains-head r [] in (c.0, r, c.1, c.2, has),
 )
 
--- rectangles put behind others add their squares
-pub piece_added : (P : Type 0) (old new piece : List Rect) → P → new ≡ old ++ piece → Adds old new (λ p. P × Covers piece p)
-piece_added P old new piece holds is = λ p. rw is (
-  λ h. elim ((covers_append old piece p).0 h) [ inl c ↦ inl c | inr c ↦ inr (holds, c) ],
-  λ h. elim h [ inl c ↦ (covers_append old piece p).1 (inl c) | inr c ↦ (covers_append old piece p).1 (inr c.1) ],
+adds_same : (old new : List Rect) (A B : Region) → ((p : Pt) → A p ↔ B p) → Adds old new A → Adds old new B
+adds_same old new A B same adds p = (
+  λ h. elim ((adds p).0 h) [ inl o ↦ inl o | inr a ↦ inr ((same p).0 a) ],
+  λ h. elim h [ inl o ↦ (adds p).1 (inl o) | inr b ↦ (adds p).1 (inr ((same p).1 b)) ],
 )
 
+-- what is added, said under a fact that holds
+pub adds_where : (P : Type 0) (old new : List Rect) (A : Region) → P → Adds old new A → Adds old new (λ p. P × A p)
+adds_where P old new A holds = adds_same old new A _ (λ p. (λ a. (holds, a), λ h. h.1))
+
+-- rectangles put behind others add their squares
+pub piece_added : (old new piece : List Rect) → new ≡ old ++ piece → Adds old new (Covers piece)
+piece_added old new piece is p = rw is (covers_append old piece p)
+
 pub zone_added : (P : Type 0) (old new : List Rect) (r : Rect) → P → new ≡ old ++ r ∷ [] → Adds old new (λ p. P × Has r p)
-zone_added P old new r holds is = λ p. let whole = piece_added P old new (r ∷ []) holds is p in (
-  λ h. elim (whole.0 h) [ inl c ↦ inl c | inr c ↦ inr (holds, (covers_one r p).0 c.1) ],
-  λ h. elim h [ inl c ↦ whole.1 (inl c) | inr c ↦ whole.1 (inr (holds, (covers_one r p).1 c.1)) ],
-)
+zone_added P old new r holds is = adds_where P old new _ holds (adds_same old new _ _ (covers_one r) (piece_added old new (r ∷ []) is))
 
 pub nothing_added : (old : List Rect) (Q : Region) → ((p : Pt) → Q p → ⊥) → Adds old old Q
 nothing_added old Q none = λ p. (λ h. inl h, λ h. elim h [ inl c ↦ c | inr q ↦ absurd (none p q) ])
@@ -57,12 +61,6 @@ adds_then old mid new A B first second p = (
     | inl o ↦ (second p).1 (inl ((first p).1 (inl o)))
     | inr either ↦ elim either [ inl a ↦ (second p).1 (inl ((first p).1 (inr a))) | inr b ↦ (second p).1 (inr b) ]
   ],
-)
-
-adds_same : (old new : List Rect) (A B : Region) → ((p : Pt) → A p ↔ B p) → Adds old new A → Adds old new B
-adds_same old new A B same adds p = (
-  λ h. elim ((adds p).0 h) [ inl o ↦ inl o | inr a ↦ inr ((same p).0 a) ],
-  λ h. elim h [ inl o ↦ (adds p).1 (inl o) | inr b ↦ (adds p).1 (inr ((same p).1 b)) ],
 )
 
 split_at : (n k : ℕ) → k < n + 1 → (k < n) ⊎ (k ≡ n)

@@ -49,8 +49,8 @@ fn rects_of(alloc: Global, cut: Cut, colours: &[Mask]) -> Result<Rects, AllocErr
         zones,
         sides,
     } = cut;
-    let mut a = Vec::with_capacity(alloc, count_on(&parts, &zones, colours, Mask::A))?;
-    let mut b = Vec::with_capacity(alloc, count_on(&parts, &zones, colours, Mask::B))?;
+    let mut a = Vec::with_capacity(alloc, count_on(&parts, &sides, colours, Mask::A))?;
+    let mut b = Vec::with_capacity(alloc, count_on(&parts, &sides, colours, Mask::B))?;
     add_zones(&mut a, &zones, &sides, colours, Mask::A)?;
     add_zones(&mut b, &zones, &sides, colours, Mask::B)?;
     drop(zones);
@@ -71,32 +71,39 @@ fn is_same(a: Mask, b: Mask) -> bool
     }
 }
 
-/// How many rectangles the pieces of a letter and all zones have, up to the last value of a `usize`.
-fn count_on(parts: &Parts, zones: &[Zone], colours: &[Mask], letter: Mask) -> usize {
+/// How many zones have a side of the letter.
+fn count_zones(sides: &[(Id, Id)], colours: &[Mask], letter: Mask) -> usize
+    requires { All (λ side. (side.0 < length colours.now) × (side.1 < length colours.now)) sides.now }
+{
     let mut count: usize = 0;
+    for side in sides {
+        if is_same(colours[side.0 as usize], letter) || is_same(colours[side.1 as usize], letter) {
+            count = count.saturating_add(1);
+        }
+    }
+    count
+}
+
+/// How many rectangles the pieces of a letter and the zones with a side of it have, up to the last value of a `usize`.
+fn count_on(parts: &Parts, sides: &[(Id, Id)], colours: &[Mask], letter: Mask) -> usize
+    requires { All (λ side. (side.0 < length colours.now) × (side.1 < length colours.now)) sides.now }
+{
+    let mut count = count_zones(sides, colours, letter);
     for (part, colour) in parts.items().iter().zip(colours) {
         if is_same(*colour, letter) {
             count = count.saturating_add(part.rects().len());
         }
     }
-    count.saturating_add(zones.len())
+    count
 }
 
-/// Adds the squares of a piece, if it has the letter.
-fn add_piece(
-    rects: &mut Vec<Rect>,
-    piece: &Slabs,
-    colour: Mask,
-    letter: Mask,
-) -> Result<(), AllocError>
+/// Adds the squares of a piece.
+fn add_piece(rects: &mut Vec<Rect>, piece: &Slabs) -> Result<(), AllocError>
     requires { AreRectsWithin farthest rects.old.items }
-    ensures adds { OnOk result (Adds rects.old.items rects.new.items (λ p. (is_second colour ≡ is_second letter) × Covers piece.now p)) }
+    ensures adds { OnOk result (Adds rects.old.items rects.new.items (Covers piece.now)) }
     ensures within { OnOk result (AreRectsWithin farthest rects.new.items) }
 {
-    if is_same(colour, letter) {
-        rects.extend_from_slice(piece.rects())?;
-        return Ok(());
-    }
+    rects.extend_from_slice(piece.rects())?;
     Ok(())
 }
 
@@ -114,9 +121,10 @@ fn put_piece(
     ensures a_within { OnOk result (AreRectsWithin farthest a.new.items) }
     ensures b_within { OnOk result (AreRectsWithin farthest b.new.items) }
 {
-    add_piece(a, &piece, colour, Mask::A)?;
-    add_piece(b, &piece, colour, Mask::B)?;
-    Ok(())
+    match colour {
+        Mask::A => add_piece(a, &piece),
+        Mask::B => add_piece(b, &piece),
+    }
 }
 
 /// Adds the squares of each piece to those of the mask of its letter. The pieces are let go one by one from the last, and the room of their list is given back on the way.

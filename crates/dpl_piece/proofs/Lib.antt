@@ -1,3 +1,4 @@
+pub mod Taken
 pub mod CornerLaws
 pub mod Beside
 pub mod Stands

@@ -1,13 +1,13 @@
 //! What zones leave of features.
 ghost use Rattle.std.specs.Prelude.{◌≡◌, ◌≢◌, ℕ, ◌<◌, ◌≤◌, ◌++◌, IfOk, OnOk, length, map, take, slice_index_or};
-ghost use Rattle.std.specs.List.{All, range_with_len};
+ghost use Rattle.std.specs.List.{All};
 ghost use Rattle.std.specs.List.Sorted.{IsNonDecreasingBy, IsPermutation};
 ghost use Rattle.dpl_spec.specs.Loops.{farthest, AreRectsWithin};
 ghost use Rattle.dpl_piece.specs.Cutting.{AreFeatures, AreTheirZones};
 ghost use Rattle.dpl_piece.specs.Pieces.{broken_piece, least_key, feature_at, rect_at, AddsBroken, AddsPieces, AreCut, AreNumbersBelow, RiseByLeast};
 
 use crate::piece::{Origin, Piece};
-use dpl_base::{Id, Rect, Zone};
+use dpl_base::{Id, Rect, Zone, give_back, numbers_below};
 use dpl_slabs::Slabs;
 use std::alloc::{AllocError, Global};
 
@@ -19,13 +19,6 @@ fn feature_of(zones: &[Zone], number: usize) -> Id
         Some(zone) => zone.feature,
         None => 0,
     }
-}
-
-/// The numbers below `count`, in order.
-fn numbers_below(alloc: Global, count: usize) -> Result<Vec<usize>, AllocError>
-    ensures { IfOk result (λ v. v.items ≡ range_with_len 0 count) }
-{
-    (0..count).collect(alloc)
 }
 
 /// The numbers of the zones, by feature.
@@ -64,16 +57,18 @@ fn holes_at(alloc: Global, zones: &[Zone], numbers: &[usize]) -> Result<Vec<Rect
     Ok(holes)
 }
 
-/// Adds pieces that zones broke off a feature.
-fn add_parts(pieces: &mut Vec<Piece>, parts: Vec<Slabs>, number: Id) -> Result<(), AllocError>
+/// Adds pieces that zones broke off a feature. Their list is turned round and emptied from the end, so that its room is given back on the way.
+fn add_parts(pieces: &mut Vec<Piece>, mut parts: Vec<Slabs>, number: Id) -> Result<(), AllocError>
     ensures { OnOk result (pieces.new.items ≡ pieces.old.items ++ map (broken_piece number) parts.items) }
 {
-    for part in parts {
+    parts.reverse();
+    while let Some(part) = parts.pop() {
         pieces.push(Piece {
             part,
             owner: number,
             origin: Origin::Broken,
         })?;
+        give_back(&mut parts);
     }
     Ok(())
 }

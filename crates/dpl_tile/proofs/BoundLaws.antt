@@ -1,5 +1,5 @@
 -- The least rectangle round some squares.
-use Rattle.std.proofs.Common.{◌≡◌, inl, inr, ◌⊎◌, List, [], ◌∷◌, sym, refl, ap, ◌∙◌, subst, arith, rules}
+use Rattle.std.proofs.Common.{◌≡◌, inl, inr, ◌⊎◌, List, [], ◌∷◌, sym, refl, ◌∙◌, subst, arith, rules}
 use Rattle.std.specs.Prelude.{◌↔◌, ℤ, pos, ◌+ℤ◌, ◌-ℤ◌, ◌≤ℤ◌, Option, Some, None, IsNone, IfSome}
 use Rattle.std.specs.List.{Any, Contains, fold}
 use Rattle.std.proofs.lemmas.Int.{ints, clamps, by_lt_z}
@@ -8,10 +8,10 @@ use Rattle.dpl_spec.specs.declared.Pt.{Pt}
 use Rattle.dpl_spec.specs.declared.Rect.{Rect}
 use Rattle.dpl_spec.specs.Squares.{Region, Has, Covers}
 use Rattle.dpl_spec.specs.Slabs.{IsSolid}
-use Rattle.dpl_spec.proofs.SlabLaws.{same_rect}
 use Rattle.dpl_spec.proofs.Ordered.{Contains-head, Contains-later, Contains-cases, Contains-nil}
 use Rattle.dpl_slabs.specs.Parts.{union_of}
-use Rattle.dpl_tile.specs.Bounds.{round_one, round_all}
+use Rattle.dpl_base.specs.Bounds.{round_one}
+use Rattle.dpl_tile.specs.Bounds.{round_all}
 use Rattle.dpl_tile.specs.Tiles.{IsBounds}
 
 -- none, or the least rectangle round the set
@@ -166,10 +166,6 @@ parts_round (s ∷ parts) a o solid h =
 pub parts-round : (parts : List (List Rect)) → ((part : List Rect) (r : Rect) → Contains parts part → Contains part r → IsSolid r) → AreRound (union_of parts) (fold round_all None parts)
 parts-round parts solid =
     region_same (λ p. ⊥ ⊎ union_of parts p) (union_of parts) (fold round_all None parts) (λ p. (λ q. elim q [ inl b ↦ absurd b | inr b ↦ b ], λ q. inr q)) (parts_round parts (λ p. ⊥) None solid (λ p h. h))
-
-pub round-one-is : (before : Option Rect) (b r made : Rect) → before ≡ Some b → made.x0 ≡ int_min b.x0 r.x0 → made.y0 ≡ int_min b.y0 r.y0 → made.x1 ≡ int_max b.x1 r.x1 → made.y1 ≡ int_max b.y1 r.y1 → Some made ≡ round_one before r
-round-one-is before b r made is x0 y0 x1 y1 =
-    rw is (ap (λ u. Some u) (same_rect made (record { x0 = int_min b.x0 r.x0; y0 = int_min b.y0 r.y0; x1 = int_max b.x1 r.x1; y1 = int_max b.y1 r.y1 }) x0 y0 x1 y1))
 
 pub none-round : (a : Region) (o : Option Rect) → AreRound a o → IsNone o → (p : Pt) → a p → ⊥
 none-round a None h n = h

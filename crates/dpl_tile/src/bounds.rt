@@ -3,26 +3,11 @@ ghost use Rattle.std.specs.Prelude.{◌≡◌, ◌<◌, IsNone, IfSome, None};
 ghost use Rattle.std.specs.List.{fold};
 ghost use Rattle.dpl_spec.specs.declared.Pt.{Pt};
 ghost use Rattle.dpl_slabs.specs.Parts.{AreParts, union_of};
-ghost use Rattle.dpl_tile.specs.Bounds.{round_one, round_all};
+ghost use Rattle.dpl_tile.specs.Bounds.{round_all};
 ghost use Rattle.dpl_tile.specs.Tiles.{IsBounds};
 
-use dpl_base::Rect;
+use dpl_base::{Rect, round_one};
 use dpl_slabs::Slabs;
-
-/// The least rectangle round those before and one more.
-fn round_one(before: Option<Rect>, r: &Rect) -> Option<Rect>
-    ensures { result ≡ round_one before r.now }
-{
-    let Some(b) = before else {
-        return Some(*r);
-    };
-    Some(Rect {
-        x0: b.x0.min(r.x0),
-        y0: b.y0.min(r.y0),
-        x1: b.x1.max(r.x1),
-        y1: b.y1.max(r.y1),
-    })
-}
 
 /// The least rectangle round those before and these.
 fn round_all(before: Option<Rect>, rects: &[Rect]) -> Option<Rect>

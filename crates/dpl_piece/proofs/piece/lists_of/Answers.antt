@@ -1,16 +1,7 @@
-use Rattle.std.proofs.Common.{◌≡◌, List, [], ◌∷◌, ◌++◌, refl, ap, sym, ◌∙◌, reverse, map, length, arith, append-nil}
-use Rattle.std.proofs.lemmas.List.{append_assoc, reverse-append, reverse-reverse}
-use Rattle.dpl_piece.specs.declared.piece.Piece.{Piece}
+use Rattle.std.proofs.Common.{refl, arith}
+use Rattle.std.proofs.lemmas.List.{reverse-reverse}
+use Rattle.dpl_piece.proofs.Taken.{taken-next, taken-all}
 use Rattle.dpl_piece.proofs.piece.lists_of.Goals as goal
-
--- one more piece from the end of those that are turned round
-taken-next : {A : Type 0} (f : Piece → A) (done all : List A) (left rest : List Piece) (x : Piece) → done ++ map f (reverse left) ≡ all → left ≡ rest ++ x ∷ [] → (done ++ f x ∷ []) ++ map f (reverse rest) ≡ all
-taken-next f done all left rest x same is =
-    append_assoc done (f x ∷ []) (map f (reverse rest)) ∙ ap (λ l. done ++ map f l) (sym (reverse-append rest (x ∷ [])) ∙ ap reverse (sym is)) ∙ same
-
-taken-all : {A : Type 0} (f : Piece → A) (done all : List A) (left : List Piece) → done ++ map f (reverse left) ≡ all → length left ≡ 0 → done ≡ all
-taken-all f done all [] same none = sym (append-nil done) ∙ same
-taken-all f done all (x ∷ left) same none = absurd (omega (arith, none))
 
 pub loop-piece-init : goal.loop-piece-init
 loop-piece-init c =

@@ -4,7 +4,7 @@ use Rattle.std.specs.List.{range_with_len}
 use Rattle.std.proofs.lemmas.Iterator.{YieldsList-from_range}
 use Rattle.std.proofs.lemmas.Iterator.Adapters.{fact_from_collect}
 use Rattle.std.proofs.lemmas.Result.{IfOk-weaker}
-use Rattle.dpl_piece.proofs.rest.numbers_below.Goals as goal
+use Rattle.dpl_base.proofs.lists.numbers_below.Goals as goal
 
 pub returns : goal.returns
 returns c =

@@ -1,8 +1,8 @@
 use Rattle.std.proofs.Common.{rules, w64, ◌∙◌}
 use Rattle.std.specs.Int.RustNames.{FitsSigned}
 use Rattle.std.proofs.lemmas.Int.{to_z-of_z}
-use Rattle.dpl_tile.proofs.BoundLaws.{round-one-is}
-use Rattle.dpl_tile.proofs.bounds.round_one.Goals as goal
+use Rattle.dpl_base.proofs.BoundLaws.{round-one-is}
+use Rattle.dpl_base.proofs.bounds.round_one.Goals as goal
 
 pub returns : goal.returns
 returns c =
