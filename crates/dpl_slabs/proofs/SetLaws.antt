@@ -45,6 +45,10 @@ pub without-none : (rs ss : List Rect) (p : Pt) → length ss ≤ 0 → Covers r
 without-none rs [] p none = ((λ c. (c, λ h. (let found = member-Covers [] p h in Contains-nil found.0 found.1))), λ c. c.0)
 without-none rs (s ∷ ss) p none = absurd (omega (arith, none))
 
+pub told-without_none : (rs ss : List Rect) (p : Pt) → length ss ≤ 0 → Holds Either (cells (pos 1) rs p) (cells (pos 1) ss p) ↔ Without rs ss p
+told-without_none rs [] p none = let same = without-none rs [] p none in (λ h. same.0 ((told-first rs p).0 h), λ h. (told-first rs p).1 (same.1 h))
+told-without_none rs (s ∷ ss) p none = absurd (omega (arith, none))
+
 pub told-both : (rs ss : List Rect) (p : Pt) → Holds Both (cells (pos 1) rs p) (cells (pos 1) ss p) ↔ (Covers rs p × Covers ss p)
 told-both rs ss p = (λ (h, k). (sum-covered rs p h, sum-covered ss p k), λ (h, k). (covered-sum rs p h, covered-sum ss p k))
 

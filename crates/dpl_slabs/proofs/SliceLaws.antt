@@ -3,12 +3,12 @@ use Rattle.std.proofs.Common.{◌≡◌, ℕ, ◌+◌, ◌≤◌, ◌<◌, ◌�
 use Rattle.std.specs.Prelude.{◌↔◌, ℤ, pos, ◌-ℤ◌, ◌≤ℤ◌, ◌<ℤ◌, neg_ℤ, int_lt}
 use Rattle.std.specs.Int.{int_min}
 use Rattle.std.proofs.lemmas.Bool.{cases_cond}
-use Rattle.std.specs.List.{All, Contains}
+use Rattle.std.specs.List.{All, AllPairs, Contains}
 use Rattle.std.specs.List.Sorted.{IsPermutation}
 use Rattle.std.proofs.lemmas.Int.{ints, by_lt_z}
-use Rattle.std.proofs.lemmas.List.{take_all}
-use Rattle.std.proofs.lemmas.List.Elements.{All-append, All-contains, Contains-append_cases, Contains-get_or, Contains-push_cases}
-use Rattle.std.proofs.lemmas.List.Sorted.{IsPermutation-sym, Contains-permutation}
+use Rattle.std.proofs.lemmas.List.{append_assoc, get_or_append_left, get_or-append-add, get_or_default, length-append, take_all}
+use Rattle.std.proofs.lemmas.List.Elements.{All-append, All-contains, Contains-append_cases, Contains-append_left, Contains-append_right, Contains-get_or, Contains-push, Contains-push_cases}
+use Rattle.std.proofs.lemmas.List.Sorted.{IsPermutation-append_comm, IsPermutation-append_left, IsPermutation-append_right, IsPermutation-sym, IsPermutation-trans, Contains-permutation}
 use Rattle.dpl_spec.specs.declared.Pt.{Pt}
 use Rattle.dpl_spec.specs.declared.Rect.{Rect}
 use Rattle.dpl_spec.specs.Squares.{Region, Has, Covers}
@@ -18,10 +18,12 @@ use Rattle.dpl_spec.proofs.Ordered.{Contains-nil}
 use Rattle.dpl_spec.proofs.SlabLaws.{Covers-member, member-Covers}
 use Rattle.dpl_sweep.specs.declared.edge.Rule.TheVariants.{Minus}
 use Rattle.dpl_sweep.specs.Edges.{Holds}
+use Rattle.dpl_sweep.specs.Pieces.{AreApart}
+use Rattle.dpl_sweep.proofs.JoinLaws.{apart-permutation, covers-same}
 use Rattle.dpl_slabs.specs.Cells.{cells}
 use Rattle.dpl_slabs.specs.Rows.{AreAllLevel, AreSpaced, IsRow}
 use Rattle.dpl_slabs.specs.Alone.{KeepOff, AreAlone, AddsTouching}
-use Rattle.dpl_slabs.specs.Slices.{InRows, Without, IsPartOf, IsBar, ArePartsOf, AddsPart, IsCutTo, ArePiecesBelow, ArePiecesOf}
+use Rattle.dpl_slabs.specs.Slices.{InRows, Without, IsPartOf, IsBar, Widens, PushesBar, ArePartsOf, AddsPart, IsCutTo, ArePiecesBelow, ArePiecesOf}
 use Rattle.dpl_slabs.proofs.LoopLaws.{covers-pushed, covers-appended}
 use Rattle.dpl_slabs.proofs.SetLaws.{told-minus, rects-none, rects-more, slabs-of-same, slabs-within}
 use Rattle.dpl_slabs.proofs.RowLaws.{covers-step, within-slabs}
@@ -65,20 +67,83 @@ adds-empty_part low high r part bars others is none = record {
   within = λ w. w;
 }
 
-pub adds-bar : (low high : ℤ) (r part : Rect) (bars others : List Rect) → IsPartOf low high r part → IsRectWithin farthest r → IsBar low high part → AddsPart low high r bars others (bars ++ part ∷ []) others
-adds-bar low high r part bars others is w bar = record {
-  full = λ s s_in. elim (Contains-push_cases bars part s s_in) [ inl h ↦ inl h | inr e ↦ inr (subst (IsBar low high) e bar) ];
+pub pushed-bar : (bars : List Rect) (bar : Rect) → PushesBar bars (bars ++ bar ∷ []) bar
+pushed-bar bars bar = record {
+  full = λ low high is s s_in. elim (Contains-push_cases bars bar s s_in) [ inl h ↦ inl h | inr e ↦ inr (subst (IsBar low high) e is) ];
+  covers = covers-pushed (Has bar) bars bar (λ p. (λ h. h, λ h. h));
+  within = λ w v. rects-more farthest bars bar v w;
+}
+
+module _ (bars : List Rect) (last bar : Rect) (x1 : ℤ) (by : Widens last bar) (over : last.x1 ≤ℤ x1) (over_too : bar.x1 ≤ℤ x1) (known : (x1 ≡ last.x1) ⊎ (x1 ≡ bar.x1)) where
+  abbrev wider : Rect
+  wider = record { x0 = last.x0; y0 = last.y0; x1 = x1; y1 = last.y1 }
+
+  wider-has : (p : Pt) → Has wider p ↔ (Has last p ⊎ Has bar p)
+  wider-has p =
+      let low = by.low in
+      let high = by.high in
+      let after = by.after in
+      let touches = by.touches in (
+        (λ h. (let a = h.left in let b = h.right in let c = h.low in let d = h.high in
+            by_lt_z p.x last.x1
+            (λ l. inl (record { left = a; right = l; low = c; high = d }))
+            (λ m. inr (record {
+              left = omega (arith, ints, m, touches);
+              right = elim known [ inl e ↦ absurd (omega (arith, ints, e, b, m)) | inr e ↦ omega (arith, ints, e, b) ];
+              low = omega (arith, ints, c, low);
+              high = omega (arith, ints, d, high);
+            })))),
+        λ h. elim h [
+          | inl k ↦ (let b = k.right in record { left = k.left; right = omega (arith, ints, b, over); low = k.low; high = k.high })
+          | inr k ↦ (let a = k.left in let b = k.right in let c = k.low in let d = k.high in
+              record { left = omega (arith, ints, a, after); right = omega (arith, ints, b, over_too); low = omega (arith, ints, c, low); high = omega (arith, ints, d, high) })
+        ],
+      )
+
+  pub widened-bar : PushesBar (bars ++ last ∷ []) (bars ++ wider ∷ []) bar
+  widened-bar = record {
+    full = λ low high is s s_in. elim (Contains-push_cases bars wider s s_in) [
+      | inl h ↦ inl (Contains-append_left bars (last ∷ []) s h)
+      | inr e ↦ inr (subst (IsBar low high) e (
+          let wide = is.solid.wide in
+          let tall = is.solid.tall in
+          let after = by.after in
+          let a = by.low in
+          let b = by.high in
+          record { solid = record { wide = omega (arith, ints, wide, after, over_too); tall = omega (arith, ints, tall, a, b) }; first = a ∙ is.first; end = b ∙ is.end }))
+    ];
+    covers = λ p. (
+      (λ h. elim ((covers-pushed (λ q. Has last q ⊎ Has bar q) bars wider wider-has p).0 h) [
+        | inl c ↦ inl ((covers-pushed (Has last) bars last (λ q. (λ k. k, λ k. k)) p).1 (inl c))
+        | inr k ↦ elim k [ inl l ↦ inl ((covers-pushed (Has last) bars last (λ q. (λ m. m, λ m. m)) p).1 (inr l)) | inr b ↦ inr b ]
+      ]),
+      λ h. (covers-pushed (λ q. Has last q ⊎ Has bar q) bars wider wider-has p).1 (elim h [
+        | inl c ↦ elim ((covers-pushed (Has last) bars last (λ q. (λ k. k, λ k. k)) p).0 c) [ inl k ↦ inl k | inr l ↦ inr (inl l) ]
+        | inr b ↦ inr (inr b)
+      ]),
+    );
+    within = λ w v.
+        let of_last = v last (Contains-push bars last) in
+        let right = of_last.right in
+        let right_too = w.right in
+        rects-more farthest bars wider (λ r r_in. v r (Contains-append_left bars (last ∷ []) r r_in))
+        (record { left = of_last.left; low = of_last.low; right = elim known [ inl e ↦ omega (arith, ints, e, right) | inr e ↦ omega (arith, ints, e, right_too) ]; high = of_last.high });
+  }
+
+pub adds-bar : (low high : ℤ) (r part : Rect) (bars others new : List Rect) → IsPartOf low high r part → IsRectWithin farthest r → IsBar low high part → PushesBar bars new part → AddsPart low high r bars others new others
+adds-bar low high r part bars others new is w bar a = record {
+  full = a.full low high bar;
   covers = λ p. (
     (λ h. elim h [
-      | inl c ↦ elim ((covers-pushed (InRows low high (Has r)) bars part is.has p).0 c) [ inl k ↦ inl (inl k) | inr k ↦ inr k ]
+      | inl c ↦ elim ((a.covers p).0 c) [ inl k ↦ inl (inl k) | inr k ↦ inr ((is.has p).0 k) ]
       | inr c ↦ inl (inr c)
     ]),
     λ h. elim h [
-      | inl k ↦ elim k [ inl c ↦ inl ((covers-pushed (InRows low high (Has r)) bars part is.has p).1 (inl c)) | inr c ↦ inr c ]
-      | inr k ↦ inl ((covers-pushed (InRows low high (Has r)) bars part is.has p).1 (inr k))
+      | inl k ↦ elim k [ inl c ↦ inl ((a.covers p).1 (inl c)) | inr c ↦ inr c ]
+      | inr k ↦ inl ((a.covers p).1 (inr ((is.has p).1 k)))
     ],
   );
-  full_within = λ v. rects-more farthest bars part v (is.within bar.solid w);
+  full_within = a.within (is.within bar.solid w);
   within = λ v. v;
 }
 
@@ -201,62 +266,47 @@ no-square others rs off p c k =
     let (g, g_in, has_too) = member-Covers others p k in
     none-shared r g p (off r g r_in g_in) has has_too
 
--- gaps that stand apart from all parts take nothing of them
-pub parts-slabs : (parts holes near gaps slabs : List Rect) → AddsTouching gaps parts holes near → AreSlabsOf (Without parts near) slabs → AreSlabsOf (Without parts (holes ++ gaps)) slabs
-parts-slabs parts holes near gaps slabs a by =
-    slabs-of-same (Without parts near) (Without parts (holes ++ gaps)) slabs
-    (λ p. (
-      (λ (c, none). (c, λ h. elim ((both p).0 h) [ inl k ↦ none (holed p k) | inr k ↦ far p c none k ])),
-      λ (c, none). (c, λ k. none ((both p).1 (from p k))),
-    )) by
-  where
-    both : (p : Pt) → Covers (holes ++ gaps) p ↔ (Covers holes p ⊎ Covers gaps p)
-    both = covers-appended (Covers gaps) holes gaps (λ p. (λ c. c, λ c. c))
-
-    holed : (p : Pt) → Covers holes p → Covers near p
-    holed p k = let (r, r_in, has) = member-Covers holes p k in Covers-member near r p (a.kept r r_in) has
-
-    far : (p : Pt) → Covers parts p → ¬ Covers near p → Covers gaps p → ⊥
-    far p c none k =
-        let (r, r_in, has) = member-Covers gaps p k in
-        let (s, s_in, has_too) = member-Covers parts p c in
-        elim (a.apart r r_in) [
-          | inl there ↦ none (Covers-member near r p there has)
-          | inr off ↦ none-shared r s p (off s s_in) has has_too
-        ]
-
-    from : (p : Pt) → Covers near p → Covers holes p ⊎ Covers gaps p
-    from p k =
-        let (r, r_in, has) = member-Covers near p k in
-        elim (a.others r r_in) [ inl h ↦ inl (Covers-member holes r p h has) | inr h ↦ inr (Covers-member gaps r p h has) ]
-
--- and what of the gaps is left lies within the range
+-- holes and some gaps lie within the range
 pub near-within : (parts holes near gaps : List Rect) → AddsTouching gaps parts holes near → AreRectsWithin farthest holes → AreRectsWithin farthest gaps → AreRectsWithin farthest near
 near-within parts holes near gaps a v w r r_in = elim (a.others r r_in) [ inl h ↦ v r h | inr h ↦ w r h ]
 
 -- bars that stand alone, and the slabs of all else
-module _ (low high : ℤ) (rects holes whole bars old new gaps rest alone : List Rect) (s : IsCutTo low high rects whole old) (t : IsCutTo low high holes gaps rest) (b : AreSlabsOf (Without whole gaps) bars) (a : AreAlone bars rest old new alone) where
+module _ (low high : ℤ) (rects holes whole bars old new gaps rest near alone : List Rect) (s : IsCutTo low high rects whole old) (t : IsCutTo low high holes gaps rest) (b : AreSlabsOf (Without whole gaps) bars) (g : AddsTouching gaps old rest near) (a : AreAlone bars near old new alone) where
   pub rest-within : AreRectsWithin farthest new
   rest-within r r_in = elim (a.others r r_in) [ inl h ↦ s.within r h | inr h ↦ without-within whole gaps bars s.bars_within t.bars_within b r h ]
 
   alone-solid : (r : Rect) → Contains alone r → IsSolid r
   alone-solid r r_in = All-contains IsSolid bars r b.canonical.solid (a.members r r_in)
 
-  -- squares of holes in the rows
-  holed : (p : Pt) → Covers (rest ++ gaps) p ↔ InRows low high (Covers holes) p
-  holed p = (
-    λ c. elim ((both p).0 c) [ inl k ↦ (t.covers p).0 (inr k) | inr k ↦ (t.covers p).0 (inl k) ],
-    λ h. elim ((t.covers p).1 h) [ inl k ↦ (both p).1 (inr k) | inr k ↦ (both p).1 (inl k) ],
-  )
-    where
-      both : (p : Pt) → Covers (rest ++ gaps) p ↔ (Covers rest p ⊎ Covers gaps p)
-      both = covers-appended (Covers gaps) rest gaps (λ p. (λ c. c, λ c. c))
+  -- a hole that doesn't reach through the rows is swept
+  rest-near : (p : Pt) → Covers rest p → Covers near p
+  rest-near p k = let (r, r_in, has) = member-Covers rest p k in Covers-member near r p (g.kept r r_in) has
 
-  -- no hole has a square of such a bar
+  -- what is swept of the holes is theirs
+  near-holed : (p : Pt) → Covers near p → InRows low high (Covers holes) p
+  near-holed p k =
+      let (r, r_in, has) = member-Covers near p k in
+      (t.covers p).0 (elim (g.others r r_in) [ inl h ↦ inr (Covers-member rest r p h has) | inr h ↦ inl (Covers-member gaps r p h has) ])
+
+  -- a gap with a square of another part is swept; bars have no square of a gap
+  gap-near : (p : Pt) → Covers new p → Covers gaps p → Covers near p
+  gap-near p c k =
+      let (o, o_in, o_has) = member-Covers new p c in
+      let (r, r_in, has) = member-Covers gaps p k in
+      elim (a.others o o_in) [
+        | inl h ↦ elim (g.apart r r_in) [ inl there ↦ Covers-member near r p there has | inr off ↦ absurd (none-shared r o p (off o h) has o_has) ]
+        | inr h ↦ absurd (((b.covers p).0 (Covers-member bars o p h o_has)).1 k)
+      ]
+
+  -- squares of holes in the rows that are squares of what is swept
+  holed : (p : Pt) → Covers new p → InRows low high (Covers holes) p → Covers near p
+  holed p c h = elim ((t.covers p).1 h) [ inl k ↦ gap-near p c k | inr k ↦ rest-near p k ]
+
+  -- no hole has a square of a bar that stands alone
   no-hole : (p : Pt) → Covers alone p → InRows low high (Covers holes) p → ⊥
   no-hole p c h = elim ((t.covers p).1 h) [
     | inl k ↦ (let (r, r_in, has) = member-Covers alone p c in ((b.covers p).0 (Covers-member bars r p (a.members r r_in) has)).1 k)
-    | inr k ↦ no-square rest alone a.off_beside p c k
+    | inr k ↦ no-square near alone a.off_beside p c (rest-near p k)
   ]
 
   alone-covers : (p : Pt) → Covers alone p → InRows low high (Without rects holes) p
@@ -265,7 +315,7 @@ module _ (low high : ℤ) (rects holes whole bars old new gaps rest alone : List
       let (h, l, m) = (s.covers p).0 (inl ((b.covers p).0 (Covers-member bars r p (a.members r r_in) has)).0) in
       ((h, λ k. no-hole p c (k, l, m)), l, m)
 
-  module _ (slabs : List Rect) (by : AreSlabsOf (Without new (rest ++ gaps)) slabs) where
+  module _ (slabs : List Rect) (by : AreSlabsOf (Without new near) slabs) where
     -- no square of a slab lies in a column of such a bar or beside it
     off-slab : (r q : Rect) (p : Pt) → Contains alone r → Contains slabs q → Has q p → p.x ≤ℤ r.x1 → (r.x0 -ℤ pos 1) ≤ℤ p.x → ⊥
     off-slab r q p r_in q_in has l m =
@@ -292,7 +342,7 @@ module _ (low high : ℤ) (rects holes whole bars old new gaps rest alone : List
     slabs-covers p c =
         let (h, none) = (by.covers p).0 c in
         let (k, l, m) = (s.covers p).0 (elim ((a.covers p).0 (inr h)) [ inl g ↦ inl ((b.covers p).0 g).0 | inr g ↦ inr g ]) in
-        ((k, λ g. none ((holed p).1 (g, l, m))), l, m)
+        ((k, λ hole. none (holed p h (hole, l, m))), l, m)
 
     -- a square of a rectangle that no hole has is one of a bar or a part
     is-left : (p : Pt) → InRows low high (Without rects holes) p → Covers bars p ⊎ Covers old p
@@ -306,10 +356,10 @@ module _ (low high : ℤ) (rects holes whole bars old new gaps rest alone : List
             (λ r q r_in q_in share. slab-apart r q r_in q_in);
       };
       covers = λ p. (
-        (λ h. elim ((covers-appended (Without new (rest ++ gaps)) alone slabs by.covers p).0 h) [ inl c ↦ alone-covers p c | inr c ↦ slabs-covers p ((by.covers p).1 c) ]),
+        (λ h. elim ((covers-appended (Without new near) alone slabs by.covers p).0 h) [ inl c ↦ alone-covers p c | inr c ↦ slabs-covers p ((by.covers p).1 c) ]),
         λ h. elim ((a.covers p).1 (is-left p h)) [
-          | inl k ↦ (covers-appended (Without new (rest ++ gaps)) alone slabs by.covers p).1 (inl k)
-          | inr k ↦ (covers-appended (Without new (rest ++ gaps)) alone slabs by.covers p).1 (inr (k, λ g. h.0.1 ((holed p).0 g).0))
+          | inl k ↦ (covers-appended (Without new near) alone slabs by.covers p).1 (inl k)
+          | inr k ↦ (covers-appended (Without new near) alone slabs by.covers p).1 (inr (k, λ n. h.0.1 (near-holed p n).0))
         ],
       );
     }
@@ -355,16 +405,19 @@ pieces-next low high a pieces more order b s = record {
     both : (p : Pt) → Covers (pieces ++ more) p ↔ (Covers pieces p ⊎ InRows low high a p)
     both = covers-appended (InRows low high a) pieces more s.covers
 
--- the slabs of pieces are pieces of the same squares
-pub pieces-joined : (row : ℤ) (a : Region) (pieces slabs : List Rect) → ArePiecesBelow row a pieces → AreSlabsOf (Covers pieces) slabs → ArePiecesBelow row a slabs
-pieces-joined row a pieces slabs b s = record {
-  apart = record { solid = s.canonical.solid; apart = λ i j d l k. (s.canonical.follow i j d l k).apart };
-  under = end-below row slabs s.canonical.solid (λ p c. ((covers p).0 c).1);
-  covers = covers;
+-- pieces in another order
+pub pieces-permuted : (a : Region) (xs ys : List Rect) → IsPermutation xs ys → ArePiecesOf a xs → ArePiecesOf a ys
+pieces-permuted a xs ys same s = record {
+  apart = apart-permutation xs ys same s.apart;
+  covers = λ p. ((λ c. (s.covers p).0 ((covers-same xs ys same p).1 c)), λ c. (covers-same xs ys same p).0 ((s.covers p).1 c));
 }
-  where
-    covers : (p : Pt) → Covers slabs p ↔ (a p × (p.y <ℤ row))
-    covers p = (λ c. (b.covers p).0 ((s.covers p).0 c), λ h. (s.covers p).1 ((b.covers p).1 h))
+
+pub below-permuted : (row : ℤ) (a : Region) (xs ys : List Rect) → IsPermutation xs ys → ArePiecesBelow row a xs → ArePiecesBelow row a ys
+below-permuted row a xs ys same s = record {
+  apart = apart-permutation xs ys same s.apart;
+  under = λ r r_in. s.under r (Contains-permutation ys xs r (IsPermutation-sym xs ys same) r_in);
+  covers = λ p. ((λ c. (s.covers p).0 ((covers-same xs ys same p).1 c)), λ c. (covers-same xs ys same p).0 ((s.covers p).1 c));
+}
 
 pub pieces-none : (low : ℤ) (rects holes : List Rect) → low ≡ neg_ℤ (pos farthest) → AreRectsWithin farthest rects → ArePiecesBelow low (Without rects holes) []
 pieces-none low rects holes low_is w = record {
@@ -385,3 +438,103 @@ pieces-all row rects holes pieces over w b = record {
     λ c. (b.covers p).1 (c, (let (r, r_in, has) = member-Covers rects p c.0 in let a = (w r r_in).high in let h = has.high in omega (arith, ints, over, a, h))),
   );
 }
+
+-- a relation of all pairs holds of each of the former and each of the latter
+pairs-across : {X : Type 0} (R : X → X → Type 0) (xs ys : List X) (x y : X) → AllPairs R (xs ++ ys) → Contains xs x → Contains ys y → R x y
+pairs-across R xs ys x y all (i, i_in, x_is) (k, k_in, y_is) =
+    let left : get_or (xs ++ ys) i x ≡ x = get_or_append_left xs ys x i i_in ∙ x_is in
+    let right : get_or (xs ++ ys) (length xs + k) x ≡ y = get_or-append-add xs ys k x ∙ (get_or_default ys k x y k_in ∙ y_is) in
+    let whole = length-append xs ys in
+    rw (left, right) at (all i (length xs + k) x (omega (arith, i_in)) (omega (arith, whole, k_in)))
+
+apart-before : (xs ys : List Rect) → AreApart (xs ++ ys) → AreApart xs
+apart-before xs ys a = record {
+  solid = λ i d k. All-contains IsSolid (xs ++ ys) (get_or xs i d) a.solid (Contains-append_left xs ys (get_or xs i d) (Contains-get_or xs i d k));
+  apart = λ i j d l k.
+      let whole = length-append xs ys in
+      rw (get_or_append_left xs ys d i (omega (arith, l, k)), get_or_append_left xs ys d j k) at (a.apart i j d l (omega (arith, whole, k)));
+}
+
+pub apart-after : (xs ys : List Rect) → AreApart (xs ++ ys) → AreApart ys
+apart-after xs ys a = record {
+  solid = λ i d k. All-contains IsSolid (xs ++ ys) (get_or ys i d) a.solid (Contains-append_right xs ys (get_or ys i d) (Contains-get_or ys i d k));
+  apart = λ i j d l k.
+      let whole = length-append xs ys in
+      rw (get_or-append-add xs ys i d, get_or-append-add xs ys j d) at (a.apart (length xs + i) (length xs + j) d (omega (arith, l)) (omega (arith, whole, k)));
+}
+
+-- pieces with the squares of the latter stand beside the former as these do
+module _ (row : ℤ) (a : Region) (xs ys zs : List Rect) (b : ArePiecesBelow row a (xs ++ ys)) (s : ArePiecesOf (Covers ys) zs) where
+  module _ (d j : Rect) (d_in : Contains xs d) (j_in : Contains zs j) where
+    near-none : (p : Pt) → Has j p → d.y0 ≤ℤ p.y → p.y <ℤ d.y1 → (d.x0 -ℤ pos 1) ≤ℤ p.x → p.x ≤ℤ d.x1 → ⊥
+    near-none p has low high left right =
+        let (o, o_in, o_has) = member-Covers ys p ((s.covers p).0 (Covers-member zs j p j_in has)) in
+        let e = o_has.left in
+        let f = o_has.right in
+        let g = o_has.low in
+        let h = o_has.high in
+        elim (pairs-across (λ u v. ShareRow u v → StandApart u v) xs ys d o b.apart.apart d_in o_in (omega (arith, ints, low, h), omega (arith, ints, high, g))) [
+          | inl k ↦ omega (arith, ints, k, e, right)
+          | inr k ↦ omega (arith, ints, k, f, left)
+        ]
+
+    beside-at : (y : ℤ) → j.y0 ≤ℤ y → y <ℤ j.y1 → d.y0 ≤ℤ y → y <ℤ d.y1 → StandApart d j
+    beside-at y from to low high =
+        let wide = (All-contains IsSolid zs j s.apart.solid j_in).wide in
+        let wide_too = (All-contains IsSolid (xs ++ ys) d b.apart.solid (Contains-append_left xs ys d d_in)).wide in
+        by_lt_z d.x1 j.x0 inl
+        (λ l. by_lt_z j.x1 d.x0 inr
+        (λ m. absurd (by_lt_z j.x0 d.x0
+        (λ k. near-none (record { x = d.x0 -ℤ pos 1; y = y }) (record { left = omega (arith, ints, k); right = omega (arith, ints, m); low = from; high = to }) low high (omega (arith, ints)) (omega (arith, ints, wide_too)))
+        (λ k. near-none (record { x = j.x0; y = y }) (record { left = omega (arith, ints); right = wide; low = from; high = to }) low high (omega (arith, ints, k)) l))))
+
+    beside : ShareRow d j → StandApart d j
+    beside (l, m) =
+        let tall = (All-contains IsSolid zs j s.apart.solid j_in).tall in
+        let tall_too = (All-contains IsSolid (xs ++ ys) d b.apart.solid (Contains-append_left xs ys d d_in)).tall in
+        by_lt_z d.y0 j.y0
+        (λ k. beside-at j.y0 (omega (arith, ints)) tall (omega (arith, ints, k)) m)
+        (λ k. beside-at d.y0 k l (omega (arith, ints)) tall_too)
+
+  ends : (p : Pt) → Covers zs p → p.y <ℤ row
+  ends p c = let (r, r_in, has) = member-Covers ys p ((s.covers p).0 c) in ((b.covers p).0 (Covers-member (xs ++ ys) r p (Contains-append_right xs ys r r_in) has)).1
+
+  pub below-beside : ArePiecesBelow row a (xs ++ zs)
+  below-beside =
+      let former = apart-before xs ys b.apart in
+      record {
+        apart = record {
+          solid = All-append IsSolid xs zs former.solid s.apart.solid;
+          apart = AllPairs-append (λ u v. ShareRow u v → StandApart u v) xs zs former.apart s.apart.apart beside;
+        };
+        under = λ r r_in. elim (Contains-append_cases xs zs r r_in) [
+          | inl h ↦ b.under r (Contains-append_left xs ys r h)
+          | inr h ↦ end-below row zs s.apart.solid ends r h
+        ];
+        covers = λ p. (
+          (λ c. (b.covers p).0 ((covers-appended (Covers ys) xs ys (λ q. (λ k. k, λ k. k)) p).1 ((covers-appended (Covers ys) xs zs s.covers p).0 c))),
+          λ h. (covers-appended (Covers ys) xs zs s.covers p).1 ((covers-appended (Covers ys) xs ys (λ q. (λ k. k, λ k. k)) p).0 ((b.covers p).1 h)),
+        );
+      }
+
+-- where nothing grows
+pub pieces-own : (growing more : List Rect) → length growing ≤ 0 → AreApart (growing ++ more) → ArePiecesOf (Covers (growing ++ more)) more
+pieces-own [] more none a = record { apart = a; covers = λ p. (λ c. c, λ c. c) }
+pieces-own (r ∷ growing) more none a = absurd (omega (arith, none))
+
+-- slabs of all that stood in two lists
+pub pieces-slabs : (both list slabs : List Rect) → IsPermutation both list → AreSlabsOf (Covers list) slabs → ArePiecesOf (Covers both) slabs
+pieces-slabs both list slabs same s = record {
+  apart = record { solid = s.canonical.solid; apart = λ i j d l k. (s.canonical.follow i j d l k).apart };
+  covers = λ p. ((λ c. (covers-same both list same p).1 ((s.covers p).0 c)), λ c. (s.covers p).1 ((covers-same both list same p).0 c));
+}
+
+-- one more of some is behind others, or behind those that are before these
+module _ {X : Type 0} (all done growing : List X) (x : X) (same : IsPermutation all (done ++ growing)) where
+  pub settled-growing : IsPermutation (all ++ x ∷ []) (done ++ (growing ++ x ∷ []))
+  settled-growing = rw (sym (append_assoc done growing (x ∷ []))) (IsPermutation-append_left (x ∷ []) all (done ++ growing) same)
+
+  pub settled-done : IsPermutation (all ++ x ∷ []) ((done ++ x ∷ []) ++ growing)
+  settled-done =
+      let behind = rw (sym (append_assoc done (x ∷ []) growing)) at (IsPermutation-append_right done (growing ++ x ∷ []) (x ∷ growing) (IsPermutation-append_comm growing (x ∷ []))) in
+      IsPermutation-trans (all ++ x ∷ []) (done ++ (growing ++ x ∷ [])) ((done ++ x ∷ []) ++ growing) settled-growing behind

@@ -14,7 +14,7 @@ use Rattle.std.proofs.lemmas.List.Sorted.{IsPermutation-sym, Contains-permutatio
 use Rattle.std.proofs.Math.Seq.{take-suc}
 use Rattle.dpl_spec.specs.declared.Pt.{Pt}
 use Rattle.dpl_spec.specs.declared.Rect.{Rect}
-use Rattle.dpl_spec.specs.Squares.{Covers}
+use Rattle.dpl_spec.specs.Squares.{Region, Covers}
 use Rattle.dpl_spec.specs.Slabs.{IsSolid, Follows, IsCanonical, AreSlabsOf}
 use Rattle.dpl_spec.specs.Loops.{farthest, AreRectsWithin}
 use Rattle.dpl_spec.proofs.Ordered.{AllPairs-rest, AllPairs-first, Contains-head, Contains-later, Contains-nil}
@@ -39,7 +39,7 @@ AllPairs-append R (x ∷ xs) ys a b c (suc i) zero d l k = absurd (omega (arith,
 AllPairs-append R (x ∷ xs) ys a b c (suc i) (suc j) d l k = AllPairs-append R xs ys (AllPairs-rest R x xs a) b (λ u v u_in v_in. c u v (Contains-later x u xs u_in) v_in) i j d (omega (arith, l)) (omega (arith, k))
 
 -- some rectangle begins no higher than a slab of some of the rectangles' squares
-pub slab-over : (rs slabs : List Rect) (s : Rect) → IsCanonical slabs → ((p : Pt) → Covers slabs p → Covers rs p) → Contains slabs s → (r : Rect) × Contains rs r × (r.y0 ≤ℤ s.y0)
+slab-over : (rs slabs : List Rect) (s : Rect) → IsCanonical slabs → ((p : Pt) → Covers slabs p → Covers rs p) → Contains slabs s → (r : Rect) × Contains rs r × (r.y0 ≤ℤ s.y0)
 slab-over rs slabs s c inside s_in =
     let solid : IsSolid s = All-contains IsSolid slabs s c.solid s_in in
     let wide = solid.wide in
@@ -49,7 +49,7 @@ slab-over rs slabs s c inside s_in =
     (r, r_in, has.low)
 
 -- some rectangle ends no lower
-pub slab-under : (rs slabs : List Rect) (s : Rect) → IsCanonical slabs → ((p : Pt) → Covers slabs p → Covers rs p) → Contains slabs s → (r : Rect) × Contains rs r × (s.y1 ≤ℤ r.y1)
+slab-under : (rs slabs : List Rect) (s : Rect) → IsCanonical slabs → ((p : Pt) → Covers slabs p → Covers rs p) → Contains slabs s → (r : Rect) × Contains rs r × (s.y1 ≤ℤ r.y1)
 slab-under rs slabs s c inside s_in =
     let solid : IsSolid s = All-contains IsSolid slabs s c.solid s_in in
     let wide = solid.wide in
@@ -68,19 +68,21 @@ follows-below r s solid other l =
       separate = λ on. (let row = on.row in omega (arith, ints, l, row));
     }
 
-pub adds-strip : (old more strip : List Rect) → IsCanonical old → LieBelow old strip → AreSlabsOf (Covers strip) more → AreRectsWithin farthest more → AddsStrip old (old ++ more) strip
-adds-strip old more strip c below a w =
-    let under : LieBelow old more = λ r s r_in s_in. (let (t, t_in, l) = slab-over strip more s a.canonical (λ p. (a.covers p).0) s_in in let h = below r t r_in t_in in omega (arith, ints, l, h)) in
+-- the slabs of some of a strip's squares are added above others
+pub adds-strip : (a : Region) (old more strip : List Rect) → IsCanonical old → LieBelow old strip → ((p : Pt) → a p → Covers strip p) → AreSlabsOf a more → AreRectsWithin farthest more → AddsStrip a old (old ++ more) strip
+adds-strip a old more strip c below own s w =
+    let inside : (p : Pt) → Covers more p → Covers strip p = λ p h. own p ((s.covers p).0 h) in
+    let under : LieBelow old more = λ r t r_in t_in. (let (q, q_in, l) = slab-over strip more t s.canonical inside t_in in let h = below r q r_in q_in in omega (arith, ints, l, h)) in
     record {
       canonical = record {
-        solid = All-append IsSolid old more c.solid a.canonical.solid;
-        follow = AllPairs-append Follows old more c.follow a.canonical.follow (λ r s r_in s_in. follows-below r s (All-contains IsSolid old r c.solid r_in) (All-contains IsSolid more s a.canonical.solid s_in) (under r s r_in s_in));
+        solid = All-append IsSolid old more c.solid s.canonical.solid;
+        follow = AllPairs-append Follows old more c.follow s.canonical.follow (λ r t r_in t_in. follows-below r t (All-contains IsSolid old r c.solid r_in) (All-contains IsSolid more t s.canonical.solid t_in) (under r t r_in t_in));
       };
-      covers = covers-appended (Covers strip) old more a.covers;
+      covers = covers-appended a old more s.covers;
       within = λ v. rects-appended farthest old more v w;
-      below = λ others f g r s r_in s_in. elim (Contains-append_cases old more r r_in) [
-        | inl h ↦ f r s h s_in
-        | inr h ↦ (let (t, t_in, l) = slab-under strip more r a.canonical (λ p. (a.covers p).0) h in let k = g t s t_in s_in in omega (arith, ints, l, k))
+      below = λ others f g r t r_in t_in. elim (Contains-append_cases old more r r_in) [
+        | inl h ↦ f r t h t_in
+        | inr h ↦ (let (q, q_in, l) = slab-under strip more r s.canonical inside h in let k = g q t q_in t_in in omega (arith, ints, l, k))
       ];
     }
 
@@ -148,7 +150,7 @@ module _ (rects slabs rest : List Rect) (n : ℕ) (s : AreStripsOf rects slabs r
   pub strip-above : LieBelow slabs (take n rest)
   strip-above r t r_in t_in = s.below r t r_in (left-in (take n rest) (drop n rest) rest t whole t_in)
 
-  pub strips-next : (new : List Rect) → LieBelow (take n rest) (drop n rest) → AddsStrip slabs new (take n rest) → AreStripsOf rects new (drop n rest)
+  pub strips-next : (new : List Rect) → LieBelow (take n rest) (drop n rest) → AddsStrip (Covers (take n rest)) slabs new (take n rest) → AreStripsOf rects new (drop n rest)
   strips-next new gap a =
       record {
         canonical = a.canonical;

@@ -4,10 +4,12 @@ use Rattle.std.specs.List.{Contains}
 use lib.Signed.{lt_z, le_z}
 use Rattle.dpl_spec.specs.declared.Pt.{Pt}
 use Rattle.dpl_spec.specs.declared.Rect.{Rect}
+use Rattle.dpl_spec.specs.Squares.{Region}
 use Rattle.dpl_spec.specs.Loops.{AreRectsWithin}
 use Rattle.dpl_spec.specs.Zones.{turned_rect}
 use Rattle.dpl_sweep.specs.declared.edge.Edge.{Edge}
-use Rattle.dpl_sweep.specs.Edges.{sum_left, change_a, change_b}
+use Rattle.dpl_sweep.specs.declared.edge.Rule.{Rule}
+use Rattle.dpl_sweep.specs.Edges.{Holds, sum_left, change_a, change_b}
 use Rattle.dpl_sweep.specs.Passes.{AreWithin}
 
 -- whether the rectangle has the square
@@ -18,6 +20,10 @@ has_square r p = (le_z r.x0 p.x && lt_z p.x r.x1) && (le_z r.y0 p.y && lt_z p.y 
 abbrev pub cells : ℤ → List Rect → Pt → ℤ
 cells a [] p = pos 0
 cells a (r ∷ rs) p = cond (has_square r p) a (pos 0) +ℤ cells a rs p
+
+-- the squares of two lists of rectangles that the rule takes
+abbrev pub Chosen : Rule → List Rect → List Rect → Region
+Chosen rule first second p = Holds rule (cells (pos 1) first p) (cells (pos 1) second p)
 
 -- the rectangles' edges were added, whose squares' sums change by a and b
 pub record AddsRects (a b : ℤ) (old new : List Edge) (rs : List Rect) : Type 0 where

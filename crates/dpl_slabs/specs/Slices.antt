@@ -28,6 +28,19 @@ pub record IsBar (low high : ℤ) (r : Rect) : Type 0 where
   pub first : r.y0 ≡ low
   pub end : r.y1 ≡ high
 
+-- in the same rows, and it begins in the columns of the last one or at their end
+pub record Widens (last bar : Rect) : Type 0 where
+  pub low : last.y0 ≡ bar.y0
+  pub high : last.y1 ≡ bar.y1
+  pub after : last.x0 ≤ℤ bar.x0
+  pub touches : bar.x0 ≤ℤ last.x1
+
+-- a bar was added, by itself or to another one
+pub record PushesBar (old new : List Rect) (bar : Rect) : Type 0 where
+  pub full : (low high : ℤ) → IsBar low high bar → (s : Rect) → Contains new s → Contains old s ⊎ IsBar low high s
+  pub covers : (p : Pt) → Covers new p ↔ (Covers old p ⊎ Has bar p)
+  pub within : IsRectWithin farthest bar → AreRectsWithin farthest old → AreRectsWithin farthest new
+
 -- bars and other rectangles that have the squares of these rectangles in the rows
 pub record ArePartsOf (low high : ℤ) (rects bars others : List Rect) : Type 0 where
   pub full : (r : Rect) → Contains bars r → IsBar low high r

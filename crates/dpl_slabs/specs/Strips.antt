@@ -3,7 +3,7 @@ use Rattle.std.specs.Prelude.{◌⊎◌, ◌↔◌, ◌<ℤ◌, List}
 use Rattle.std.specs.List.{Contains}
 use Rattle.dpl_spec.specs.declared.Pt.{Pt}
 use Rattle.dpl_spec.specs.declared.Rect.{Rect}
-use Rattle.dpl_spec.specs.Squares.{Covers}
+use Rattle.dpl_spec.specs.Squares.{Region, Covers}
 use Rattle.dpl_spec.specs.Slabs.{IsCanonical}
 use Rattle.dpl_spec.specs.Loops.{farthest, AreRectsWithin}
 use Rattle.dpl_sweep.specs.Orders.{CornersRise}
@@ -12,10 +12,10 @@ use Rattle.dpl_sweep.specs.Orders.{CornersRise}
 abbrev pub LieBelow : List Rect → List Rect → Type 0
 LieBelow low high = (r s : Rect) → Contains low r → Contains high s → r.y1 <ℤ s.y0
 
--- the slabs of a strip were added
-pub record AddsStrip (old new strip : List Rect) : Type 0 where
+-- the slabs of a set of a strip's squares were added
+pub record AddsStrip (a : Region) (old new strip : List Rect) : Type 0 where
   pub canonical : IsCanonical new
-  pub covers : (p : Pt) → Covers new p ↔ (Covers old p ⊎ Covers strip p)
+  pub covers : (p : Pt) → Covers new p ↔ (Covers old p ⊎ a p)
   pub within : AreRectsWithin farthest old → AreRectsWithin farthest new
   pub below : (others : List Rect) → LieBelow old others → LieBelow strip others → LieBelow new others
 

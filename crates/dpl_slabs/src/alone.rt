@@ -6,7 +6,7 @@ ghost use Rattle.dpl_spec.specs.declared.Rect.{Rect};
 ghost use Rattle.dpl_spec.specs.Slabs.{StandApart};
 ghost use Rattle.dpl_slabs.specs.Alone.{LeftsRise, ReachTo, IsFrontAt, AreAlone, AddsTouching};
 
-use dpl_base::Rect;
+use dpl_base::{Rect, give_back};
 use std::alloc::{AllocError, Global};
 
 /// How many rectangles, by left column, were passed, and up to which column they reach.
@@ -61,30 +61,35 @@ fn by_left(alloc: Global, others: &[Rect], beside: &[Rect]) -> Result<Vec<Rect>,
     Ok(near)
 }
 
-/// Bars that stand apart from all others and from all rectangles beside them. The rest of the bars is added to the others.
+/// Bars that stand apart from all others and from all rectangles beside them; they are kept in the bars' own list. The rest of the bars is added to the others.
 pub fn alone_of(
     alloc: Global,
-    bars: &[Rect],
+    bars: Vec<Rect>,
     others: &mut Vec<Rect>,
     beside: &[Rect],
 ) -> Result<Vec<Rect>, AllocError>
-    requires { AllPairs StandApart bars.now }
-    ensures { IfOk result (λ v. AreAlone bars.now beside.now others.old.items others.new.items v.items) }
+    requires { AllPairs StandApart bars.items }
+    ensures { IfOk result (λ v. AreAlone bars.items beside.now others.old.items others.new.items v.items) }
 {
     if bars.is_empty() {
-        return Ok(Vec::new(alloc));
+        return Ok(bars);
     }
-    let mut alone = Vec::with_capacity(alloc, bars.len())?;
     let near = by_left(alloc, others, beside)?;
+    let mut alone = bars;
     let mut front = START;
-    for bar in bars {
+    let mut kept = 0;
+    for i in 0..alone.len() {
+        let bar = alone[i];
         front = advanced(&near, front, bar.x1);
         if front.reach < bar.x0 {
-            alone.push(*bar)?;
+            alone[kept] = bar;
+            kept += 1;
         } else {
-            others.push(*bar)?;
+            others.push(bar)?;
         }
     }
+    alone.truncate(kept);
+    give_back(&mut alone);
     Ok(alone)
 }
 

@@ -1,11 +1,14 @@
 //! Any two sets in one.
-ghost use Rattle.std.specs.Prelude.{◌≡◌, ◌≤◌, [], ◌∷◌, ◌<ℤ◌, pos, IfOk, OnOk, length, unsigned_abs};
+ghost use Rattle.std.specs.Prelude.{◌≡◌, ◌≤◌, ◌^◌, [], ◌∷◌, List, IfOk, OnOk, unsigned_abs};
 ghost use Rattle.dpl_spec.specs.declared.Rect.{Rect};
+ghost use Rattle.dpl_spec.specs.Squares.{SameSquares};
 ghost use Rattle.dpl_spec.specs.Slabs.{AreSlabsOf};
-ghost use Rattle.dpl_sweep.specs.Edges.{Holds};
+ghost use Rattle.dpl_sweep.specs.declared.edge.Rule.{Rule};
+ghost use Rattle.dpl_sweep.specs.Edges.{Told};
+ghost use Rattle.dpl_sweep.specs.Passes.{AreWithin, IsClosed};
 ghost use Rattle.dpl_spec.specs.Loops.{farthest, IsRectWithin, AreRectsWithin};
 ghost use Rattle.dpl_spec.specs.Zones.{turned_rect};
-ghost use Rattle.dpl_slabs.specs.Cells.{cells, AddsRects, turned_rects};
+ghost use Rattle.dpl_slabs.specs.Cells.{AddsRects, Chosen, turned_rects};
 ghost use Rattle.dpl_slabs.specs.Slices.{Without};
 
 use dpl_base::Rect;
@@ -54,6 +57,21 @@ fn add_rects(edges: &mut Vec<Edge>, rects: &[Rect], a: i64, b: i64) -> Result<()
     Ok(())
 }
 
+/// The edges of two lists of rectangles, one list for each of the two sums.
+fn edges_of(alloc: Global, first: &[Rect], second: &[Rect]) -> Result<Vec<Edge>, AllocError>
+    requires first { AreRectsWithin farthest first.now }
+    requires second { AreRectsWithin farthest second.now }
+    ensures within { IfOk result (λ v. AreWithin (2 ^ 32) v.items) }
+    ensures closed { IfOk result (λ v. (rule : Rule) → IsClosed rule v.items) }
+    ensures told { IfOk result (λ v. (rule : Rule) → SameSquares (Told rule v.items) (Chosen rule first.now second.now)) }
+{
+    let rects = first.len().saturating_add(second.len());
+    let mut edges = Vec::with_capacity(alloc, rects.saturating_mul(3))?;
+    add_rects(&mut edges, first, 1, 0)?;
+    add_rects(&mut edges, second, 0, 1)?;
+    Ok(edges)
+}
+
 /// The slabs of the squares of two lists of rectangles that the rule takes.
 pub fn combine(
     alloc: Global,
@@ -63,15 +81,22 @@ pub fn combine(
 ) -> Result<Vec<Rect>, AllocError>
     requires first { AreRectsWithin farthest first.now }
     requires second { AreRectsWithin farthest second.now }
-    ensures slabs { IfOk result (λ v. AreSlabsOf (λ p. Holds rule (cells (pos 1) first.now p) (cells (pos 1) second.now p)) v.items) }
+    ensures slabs { IfOk result (λ v. AreSlabsOf (Chosen rule first.now second.now) v.items) }
     ensures within { IfOk result (λ v. AreRectsWithin farthest v.items) }
 {
-    let rects = first.len().saturating_add(second.len());
-    let mut edges = Vec::with_capacity(alloc, rects.saturating_mul(3))?;
-    add_rects(&mut edges, first, 1, 0)?;
-    add_rects(&mut edges, second, 0, 1)?;
+    let edges = edges_of(alloc, first, second)?;
     let slabs = slabs_of_edges(alloc, edges, rule)?;
     Ok(slabs)
+}
+
+/// The rule that takes the squares of rectangles that no hole has. Where there are no holes, it is that of a union, whose sweep passes over what lies under other rectangles.
+fn rule_without(holes: &[Rect]) -> Rule
+    ensures { (rects : List Rect) → SameSquares (Chosen result rects holes.now) (Without rects holes.now) }
+{
+    if holes.is_empty() {
+        return Rule::Either;
+    }
+    Rule::Minus
 }
 
 /// The slabs of the squares that rectangles have and no hole has, by one sweep.
@@ -88,12 +113,28 @@ pub fn combine_without(
     if rects.is_empty() {
         return Ok(Vec::new(alloc));
     }
-    if holes.is_empty() {
-        // The sweep of a union passes over what lies under other rectangles.
-        let slabs = combine(alloc, rects, &[], Rule::Either)?;
-        return Ok(slabs);
+    let slabs = combine(alloc, rects, holes, rule_without(holes))?;
+    Ok(slabs)
+}
+
+/// The slabs of the squares that rectangles have and no hole has, by one sweep. The lists are let go before it.
+pub fn combine_lists_without(
+    alloc: Global,
+    rects: Vec<Rect>,
+    holes: Vec<Rect>,
+) -> Result<Vec<Rect>, AllocError>
+    requires rects { AreRectsWithin farthest rects.items }
+    requires holes { AreRectsWithin farthest holes.items }
+    ensures { IfOk result (λ v. AreSlabsOf (Without rects.items holes.items) v.items) }
+{
+    if rects.is_empty() {
+        return Ok(Vec::new(alloc));
     }
-    let slabs = combine(alloc, rects, holes, Rule::Minus)?;
+    let rule = rule_without(&holes);
+    let edges = edges_of(alloc, &rects, &holes)?;
+    drop(rects);
+    drop(holes);
+    let slabs = slabs_of_edges(alloc, edges, rule)?;
     Ok(slabs)
 }
 

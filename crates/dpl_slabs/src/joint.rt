@@ -1,14 +1,13 @@
 //! Two sets in one, joint strip by joint strip of rows.
-ghost use Rattle.std.specs.Prelude.{◌+◌, ◌<◌, ◌≤ℤ◌, ◌++◌, pos, IfOk, IfSome, OnOk, IsNone, length};
+ghost use Rattle.std.specs.Prelude.{◌+◌, ◌<◌, ◌≤ℤ◌, ◌++◌, IfOk, IfSome, OnOk, IsNone, length, slice_index_or};
 ghost use Rattle.std.specs.List.{Contains};
 ghost use Rattle.dpl_spec.specs.declared.Rect.{Rect};
 ghost use Rattle.dpl_spec.specs.Slabs.{AreSlabsOf, IsCanonical};
-ghost use Rattle.dpl_sweep.specs.Edges.{Holds};
 ghost use Rattle.dpl_sweep.specs.Orders.{CornersRise};
 ghost use Rattle.dpl_spec.specs.Loops.{farthest, AreRectsWithin};
-ghost use Rattle.dpl_slabs.specs.Cells.{cells};
-ghost use Rattle.dpl_slabs.specs.Strips.{LieBelow};
-ghost use Rattle.dpl_slabs.specs.Joints.{Chosen, IsRaised, BeginAbove, IsJointStrip, AddsJoint};
+ghost use Rattle.dpl_slabs.specs.Cells.{Chosen};
+ghost use Rattle.dpl_slabs.specs.Strips.{LieBelow, AddsStrip};
+ghost use Rattle.dpl_slabs.specs.Joints.{IsRaised, BeginAbove, IsJointStrip};
 
 use crate::combine::combine;
 use dpl_base::Rect;
@@ -18,7 +17,9 @@ use std::alloc::{AllocError, Global};
 /// The first row of the lowest rectangle of two lists that go by first row.
 fn lowest_row(first: &[Rect], second: &[Rect]) -> i64
     requires { 0 < length first.now + length second.now }
-    ensures { (r : Rect) × Contains (first.now ++ second.now) r × (r.y0 ≤ℤ result) }
+    ensures some { (r : Rect) × Contains (first.now ++ second.now) r × (r.y0 ≤ℤ result) }
+    ensures first { (d : Rect) → 0 < length first.now → result ≤ℤ (slice_index_or first.now 0 d).y0 }
+    ensures second { (d : Rect) → 0 < length second.now → result ≤ℤ (slice_index_or second.now 0 d).y0 }
 {
     if second.is_empty() {
         return first[0].y0;
@@ -44,7 +45,7 @@ fn raised(rects: &[Rect], n: usize, top: i64) -> Option<i64>
     Some(top.max(rects[n].y1))
 }
 
-/// How many rectangles of two lists, which go by first row, are in the lowest joint strip: a row lies between them and all others of both.
+/// How many rectangles of two lists, which go by first row, are in the lowest joint strip: a row lies between them and all others of both, and where all have squares, between no fewer and the others.
 fn joint_strip(first: &[Rect], second: &[Rect]) -> (usize, usize)
     requires some { 0 < length first.now + length second.now }
     requires first { CornersRise first.now }
@@ -67,34 +68,7 @@ fn joint_strip(first: &[Rect], second: &[Rect]) -> (usize, usize)
     }
 }
 
-/// The slabs of a joint strip. What the rule takes where only one list has rectangles needs no sweep.
-fn slabs_of_joint(
-    alloc: Global,
-    first: &[Rect],
-    second: &[Rect],
-    rule: Rule,
-) -> Result<Vec<Rect>, AllocError>
-    requires first { IsCanonical first.now }
-    requires first_within { AreRectsWithin farthest first.now }
-    requires second_within { AreRectsWithin farthest second.now }
-    ensures slabs { IfOk result (λ v. AreSlabsOf (Chosen rule first.now second.now) v.items) }
-    ensures within { IfOk result (λ v. AreRectsWithin farthest v.items) }
-{
-    if first.is_empty() || second.is_empty() {
-        match rule {
-            Rule::Both => return Ok(Vec::new(alloc)),
-            Rule::Minus => {
-                let slabs = Vec::from_slice(alloc, first)?;
-                return Ok(slabs);
-            }
-            Rule::Either => {}
-        }
-    }
-    let slabs = combine(alloc, first, second, rule)?;
-    Ok(slabs)
-}
-
-/// Adds the slabs of a joint strip that lies above all slabs.
+/// Adds the slabs of a joint strip that lies above all slabs. `Both` and `Minus` need no sweep where one of the lists is empty.
 fn add_joint(
     alloc: Global,
     slabs: &mut Vec<Rect>,
@@ -106,9 +80,19 @@ fn add_joint(
     requires canonical { IsCanonical slabs.old.items }
     requires below { LieBelow slabs.old.items (first.now ++ second.now) }
     requires within { AreRectsWithin farthest (first.now ++ second.now) }
-    ensures { OnOk result (AddsJoint rule slabs.old.items slabs.new.items first.now second.now) }
+    ensures { OnOk result (AddsStrip (Chosen rule first.now second.now) slabs.old.items slabs.new.items (first.now ++ second.now)) }
 {
-    let more = slabs_of_joint(alloc, first, second, rule)?;
+    if first.is_empty() || second.is_empty() {
+        match rule {
+            Rule::Both => return Ok(()),
+            Rule::Minus => {
+                slabs.extend_from_slice(first)?;
+                return Ok(());
+            }
+            Rule::Either => {}
+        }
+    }
+    let more = combine(alloc, first, second, rule)?;
     slabs.extend_from_slice(&more)?;
     Ok(())
 }
@@ -124,18 +108,18 @@ pub fn combine_by_rows(
     requires second { IsCanonical second.now }
     requires first_within { AreRectsWithin farthest first.now }
     requires second_within { AreRectsWithin farthest second.now }
-    ensures slabs { IfOk result (λ v. AreSlabsOf (λ p. Holds rule (cells (pos 1) first.now p) (cells (pos 1) second.now p)) v.items) }
+    ensures slabs { IfOk result (λ v. AreSlabsOf (Chosen rule first.now second.now) v.items) }
     ensures within { IfOk result (λ v. AreRectsWithin farthest v.items) }
 {
     let mut slabs = Vec::new(alloc);
-    let (mut lefts, mut others) = (first, second);
-    while !lefts.is_empty() || !others.is_empty() {
-        let (n, m) = joint_strip(lefts, others);
-        let (low, high) = lefts.split_at(n);
-        let (beside, above) = others.split_at(m);
-        add_joint(alloc, &mut slabs, low, beside, rule)?;
-        lefts = high;
-        others = above;
+    let (mut first_rest, mut second_rest) = (first, second);
+    while !first_rest.is_empty() || !second_rest.is_empty() {
+        let (n, m) = joint_strip(first_rest, second_rest);
+        let (first_strip, first_above) = first_rest.split_at(n);
+        let (second_strip, second_above) = second_rest.split_at(m);
+        add_joint(alloc, &mut slabs, first_strip, second_strip, rule)?;
+        first_rest = first_above;
+        second_rest = second_above;
     }
     Ok(slabs)
 }

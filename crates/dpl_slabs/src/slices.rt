@@ -1,14 +1,16 @@
-//! Holes taken out of many rectangles, slice by slice of their rows. What reaches through a slice is put together by columns first, and so is what reaches through it of the holes. So a sweep holds what begins or ends in the slice, the bars in the columns of that, and those of the holes beside a swept rectangle.
-ghost use Rattle.std.specs.Prelude.{◌<◌, ◌≤ℤ◌, ◌++◌, IfOk, IfSome, OnOk};
+//! Many rectangles, less holes or none, slice by slice of their rows. What reaches through a slice, of the rectangles and of the holes, goes by columns in one walk. Only what begins or ends in a slice is swept, with the bars and holes in its columns or beside them.
+ghost use Rattle.std.specs.Prelude.{◌<◌, ◌↔◌, ◌≤ℤ◌, ◌++◌, IsTrue, IfOk, IfSome, OnOk};
 ghost use Rattle.std.specs.List.{AllPairs};
+ghost use Rattle.std.specs.List.Sorted.{IsPermutation};
 ghost use Rattle.dpl_spec.specs.Squares.{Covers};
 ghost use Rattle.dpl_spec.specs.Slabs.{StandApart, AreSlabsOf};
 ghost use Rattle.dpl_spec.specs.Loops.{farthest, IsRectWithin, AreRectsWithin};
 ghost use Rattle.dpl_slabs.specs.Rows.{AreAllLevel, AreSpaced, IsRow};
-ghost use Rattle.dpl_slabs.specs.Slices.{InRows, Without, IsPartOf, AddsPart, IsCutTo, ArePiecesBelow, ArePiecesOf};
+ghost use Rattle.dpl_sweep.specs.Pieces.{AreApart};
+ghost use Rattle.dpl_slabs.specs.Slices.{InRows, Without, IsPartOf, Widens, PushesBar, AddsPart, IsCutTo, ArePiecesBelow, ArePiecesOf};
 
 use crate::alone::{add_touching, alone_of};
-use crate::combine::combine_without;
+use crate::combine::{combine_lists_without, combine_without};
 use crate::gaps::bars_without;
 use crate::row::{is_spaced, slabs_of_row};
 use dpl_base::{FARTHEST, Rect};
@@ -18,16 +20,19 @@ use std::alloc::{AllocError, Global};
 /// From how many rectangles and holes on they are swept slice by slice.
 pub const TALL: usize = 4096;
 
-/// How many slices there are at most, but for those that wide rectangles make.
-const SLICES: usize = 16;
+/// How many slices there are at most, but for those that begin and end with wide rectangles.
+const SLICES: usize = 24;
 
-/// How many rectangles there are at most among the widest, where slices begin and end with these.
+/// With how many wide rectangles slices begin and end at most.
 const WIDE: usize = 16;
 
-/// How many pieces there may be for each rectangle and hole once they are joined. Wires that cross others make many.
+/// More than how many times as wide as the average the widest rectangle is, where slices begin and end with wide ones.
+const TIMES_AVERAGE: u64 = 8;
+
+/// How many pieces there may be for each rectangle and hole. Wires that cross others make many.
 const PIECES: usize = 3;
 
-/// How many rectangles and holes are asked at most where they begin and end, before slices are cut.
+/// How many rectangles and holes are asked about where they begin and end, at most, before slices are cut.
 const ASKED: usize = 16_384;
 
 /// A row above all rectangles.
@@ -42,6 +47,44 @@ fn part_of(r: &Rect, low: i64, high: i64) -> Rect
         y0: r.y0.max(low),
         x1: r.x1,
         y1: r.y1.min(high),
+    }
+}
+
+/// Whether the bar begins in the columns of the last one or at their end, in the same rows.
+fn widens(last: &Rect, bar: &Rect) -> bool
+    ensures { IsTrue result ↔ Widens last.now bar.now }
+{
+    if last.y0 != bar.y0 {
+        return false;
+    }
+    if last.y1 != bar.y1 {
+        return false;
+    }
+    if bar.x0 < last.x0 {
+        return false;
+    }
+    bar.x0 <= last.x1
+}
+
+/// Adds a bar, or makes the last one wider by it.
+fn push_bar(bars: &mut Vec<Rect>, bar: Rect) -> Result<(), AllocError>
+    ensures { OnOk result (PushesBar bars.old.items bars.new.items bar) }
+{
+    match bars.pop() {
+        None => {
+            bars.push(bar)?;
+            Ok(())
+        }
+        Some(last) => {
+            if widens(&last, &bar) {
+                let x1 = last.x1.max(bar.x1);
+                bars.push(Rect { x1, ..last })?;
+                return Ok(());
+            }
+            bars.push(last)?;
+            bars.push(bar)?;
+            Ok(())
+        }
     }
 }
 
@@ -61,7 +104,7 @@ fn add_part(
         return Ok(());
     }
     if part.y0 == low && part.y1 == high {
-        bars.push(part)?;
+        push_bar(bars, part)?;
         return Ok(());
     }
     others.push(part)?;
@@ -106,29 +149,20 @@ fn parts_of(
     Ok((row, others))
 }
 
-/// The slabs of what holes and gaps leave of parts. Gaps that stand apart from all parts are let go.
-fn slabs_of_parts(
-    alloc: Global,
-    parts: &[Rect],
-    holes: Vec<Rect>,
-    gaps: Vec<Rect>,
-) -> Result<Vec<Rect>, AllocError>
-    requires parts { AreRectsWithin farthest parts.now }
-    requires holes { AreRectsWithin farthest holes.items }
-    requires gaps { AreRectsWithin farthest gaps.items }
-    ensures { IfOk result (λ v. AreSlabsOf (Without parts.now (holes.items ++ gaps.items)) v.items) }
+/// Both lists in one, in any order: the shorter one is copied.
+fn put_together(first: Vec<Rect>, second: Vec<Rect>) -> Result<Vec<Rect>, AllocError>
+    ensures { IfOk result (λ v. IsPermutation (first.items ++ second.items) v.items) }
 {
-    if parts.is_empty() {
-        return Ok(Vec::new(alloc));
-    }
-    let mut swept = holes;
-    add_touching(alloc, &mut swept, &gaps, parts)?;
-    drop(gaps);
-    let slabs = combine_without(alloc, parts, &swept)?;
-    Ok(slabs)
+    let (mut all, more) = if first.len() < second.len() {
+        (second, first)
+    } else {
+        (first, second)
+    };
+    all.extend_from_slice(&more)?;
+    Ok(all)
 }
 
-/// Pieces of the squares in rows `low` to `high - 1` that rectangles have and no hole has: what gaps, the holes' bars, leave of bars, where it stands apart from all parts and all other holes, and the slabs of what is left.
+/// Pieces of the squares in rows `low` to `high - 1` that rectangles have and no hole has: what gaps, the bars of the holes, leave of bars, where it stands apart from all that is swept, and the slabs of this. Gaps that stand apart from the other parts aren't swept.
 fn pieces_of_slice(
     alloc: Global,
     rects: &[Rect],
@@ -141,36 +175,71 @@ fn pieces_of_slice(
     ensures { IfOk result (λ v. ArePiecesOf (InRows low high (Without rects.now holes.now)) v.items) }
 {
     let (bars, mut parts) = parts_of(alloc, rects, low, high)?;
-    let (gaps, holes) = parts_of(alloc, holes, low, high)?;
+    let (gaps, mut holes) = parts_of(alloc, holes, low, high)?;
     let bars = bars_without(alloc, bars, &gaps)?;
-    let mut pieces = alone_of(alloc, &bars, &mut parts, &holes)?;
-    drop(bars);
-    let slabs = slabs_of_parts(alloc, &parts, holes, gaps)?;
-    pieces.extend_from_slice(&slabs)?;
+    add_touching(alloc, &mut holes, &gaps, &parts)?;
+    drop(gaps);
+    let alone = alone_of(alloc, bars, &mut parts, &holes)?;
+    let slabs = combine_lists_without(alloc, parts, holes)?;
+    let pieces = put_together(alone, slabs)?;
     Ok(pieces)
 }
 
-/// Adds pieces of the squares from row `low` up to `high`, and says below which row all squares are in pieces now.
+/// Pieces of the squares of both lists. Where some of `more` stand on some of `growing`, they are joined.
+fn joined(growing: Vec<Rect>, more: Vec<Rect>) -> Result<Vec<Rect>, AllocError>
+    requires { AreApart (growing.items ++ more.items) }
+    ensures { IfOk result (λ v. ArePiecesOf (Covers (growing.items ++ more.items)) v.items) }
+{
+    if growing.is_empty() {
+        return Ok(more);
+    }
+    let both = put_together(growing, more)?;
+    Ok(slabs_of(both))
+}
+
+/// Adds those of the pieces that end below row `high` to the ones that are done, and gives the others.
+fn settle(
+    alloc: Global,
+    done: &mut Vec<Rect>,
+    pieces: Vec<Rect>,
+    high: i64,
+) -> Result<Vec<Rect>, AllocError>
+    ensures { IfOk result (λ v. IsPermutation (done.old.items ++ pieces.items) (done.new.items ++ v.items)) }
+{
+    let mut growing = Vec::new(alloc);
+    for piece in &pieces {
+        if piece.y1 < high {
+            done.push(*piece)?;
+        } else {
+            growing.push(*piece)?;
+        }
+    }
+    Ok(growing)
+}
+
+/// Adds pieces of the squares from row `low` up to `high`, where `done` and `growing` have all squares below. Those that end at row `high` may grow, as others may stand on them. Gives them, and the row below which all squares are in pieces then.
 fn add_slice(
     alloc: Global,
-    pieces: &mut Vec<Rect>,
+    done: &mut Vec<Rect>,
+    growing: Vec<Rect>,
     rects: &[Rect],
     holes: &[Rect],
     low: i64,
     high: i64,
-) -> Result<i64, AllocError>
+) -> Result<(Vec<Rect>, i64), AllocError>
     requires rects { AreRectsWithin farthest rects.now }
     requires holes { AreRectsWithin farthest holes.now }
-    requires below { ArePiecesBelow low (Without rects.now holes.now) pieces.old.items }
-    ensures below { IfOk result (λ row. ArePiecesBelow row (Without rects.now holes.now) pieces.new.items) }
-    ensures over { IfOk result (λ row. high ≤ℤ row) }
+    requires below { ArePiecesBelow low (Without rects.now holes.now) (done.old.items ++ growing.items) }
+    ensures below { IfOk result (λ v. ArePiecesBelow v.1 (Without rects.now holes.now) (done.new.items ++ v.0.items)) }
+    ensures over { IfOk result (λ v. high ≤ℤ v.1) }
 {
     if high <= low {
-        return Ok(low);
+        return Ok((growing, low));
     }
     let more = pieces_of_slice(alloc, rects, holes, low, high)?;
-    pieces.extend_from_slice(&more)?;
-    Ok(high)
+    let pieces = joined(growing, more)?;
+    let growing = settle(alloc, done, pieces, high)?;
+    Ok((growing, high))
 }
 
 /// Adds the rows in which some rectangles begin and end, one of so many.
@@ -205,21 +274,32 @@ fn add_even_cuts(
 
 /// How many columns a rectangle has.
 fn width(r: &Rect) -> u64 {
+    if r.x1 <= r.x0 {
+        return 0;
+    }
     r.x0.abs_diff(r.x1)
 }
 
-/// How many columns the widest rectangle has.
-fn widest(rects: &[Rect]) -> u64 {
-    let mut widest = 0;
+/// Half of the columns of the widest rectangle, where that is far wider than the average or where there are few.
+fn half_of_widest(rects: &[Rect]) -> Option<u64> {
+    let mut widest: u64 = 0;
+    let mut sum: u64 = 0;
     for r in rects {
         widest = widest.max(width(r));
+        sum = sum.saturating_add(width(r));
     }
-    widest
+    let average = sum / (rects.len() as u64).max(1);
+    if rects.len() > WIDE && widest / TIMES_AVERAGE <= average {
+        return None;
+    }
+    Some(widest / 2)
 }
 
-/// The rows in which rectangles wider than half of the widest one begin and end, or none where there are many of these.
+/// The rows in which rectangles wider than half of the widest one begin and end. There are none where many are as wide as that, or where the widest one isn't far wider than the average.
 fn wide_ends(alloc: Global, rects: &[Rect]) -> Result<Vec<i64>, AllocError> {
-    let half = widest(rects) / 2;
+    let Some(half) = half_of_widest(rects) else {
+        return Ok(Vec::new(alloc));
+    };
     let mut ends = Vec::with_capacity(alloc, 2 * WIDE)?;
     for r in rects {
         if width(r) <= half {
@@ -234,7 +314,7 @@ fn wide_ends(alloc: Global, rects: &[Rect]) -> Result<Vec<i64>, AllocError> {
     Ok(ends)
 }
 
-/// Rows that cut rectangles and holes into slices, from the lowest row up. Where few rectangles are far wider than the others, slices begin and end with these: with a part of one all bars in its columns would be swept.
+/// Rows that cut rectangles and holes into slices, from the lowest row up. Slices begin and end with wide rectangles: with a part of one all bars in its columns would be swept.
 fn cuts(alloc: Global, rects: &[Rect], holes: &[Rect]) -> Result<Vec<i64>, AllocError> {
     let mut cuts = wide_ends(alloc, rects)?;
     add_even_cuts(alloc, &mut cuts, rects, holes)?;
@@ -254,23 +334,20 @@ fn pieces_of_slices(
     ensures { IfOk result (λ found. IfSome found (λ v. ArePiecesOf (Without rects.now holes.now) v.items)) }
 {
     let cuts = cuts(alloc, rects, holes)?;
-    let count = rects.len().saturating_add(holes.len());
-    let most = count.saturating_mul(PIECES);
-    let mut room = count;
-    let mut pieces = Vec::new(alloc);
+    let most = rects
+        .len()
+        .saturating_add(holes.len())
+        .saturating_mul(PIECES);
+    let (mut done, mut growing) = (Vec::new(alloc), Vec::new(alloc));
     let mut low = -FARTHEST;
     for &cut in &cuts {
-        low = add_slice(alloc, &mut pieces, rects, holes, low, cut)?;
-        if pieces.len() > room {
-            // A shape that reaches through many slices has a piece in each: they stand on one another.
-            pieces = slabs_of(pieces);
-            if pieces.len() > most {
-                return Ok(None);
-            }
-            room = pieces.len().saturating_add(pieces.len() / 2).max(count);
+        (growing, low) = add_slice(alloc, &mut done, growing, rects, holes, low, cut)?;
+        if done.len().saturating_add(growing.len()) > most {
+            return Ok(None);
         }
     }
-    add_slice(alloc, &mut pieces, rects, holes, low, TOP)?;
+    let (growing, _) = add_slice(alloc, &mut done, growing, rects, holes, low, TOP)?;
+    let pieces = put_together(done, growing)?;
     Ok(Some(pieces))
 }
 

@@ -56,7 +56,7 @@ fn add_strip(alloc: Global, slabs: &mut Vec<Rect>, strip: &[Rect]) -> Result<(),
     requires canonical { IsCanonical slabs.old.items }
     requires below { LieBelow slabs.old.items strip.now }
     requires within { AreRectsWithin farthest strip.now }
-    ensures { OnOk result (AddsStrip slabs.old.items slabs.new.items strip.now) }
+    ensures { OnOk result (AddsStrip (Covers strip.now) slabs.old.items slabs.new.items strip.now) }
 {
     let more = slabs_of_strip(alloc, strip)?;
     slabs.extend_from_slice(&more)?;

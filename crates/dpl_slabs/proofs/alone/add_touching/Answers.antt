@@ -1,15 +1,12 @@
 use Rattle.std.proofs.Common.{◌<◌, inr, length, get_or, rules, w64, FitsSigned, arith}
-use Rattle.std.specs.Prelude.{pos}
 use Rattle.std.proofs.lemmas.Int.{to_z-of_z}
 use Rattle.std.proofs.lemmas.List.{get_or_default}
 use Rattle.dpl_spec.specs.declared.Rect.{Rect}
+use Rattle.dpl_slabs.proofs.Firsts.{zero}
 use Rattle.dpl_slabs.proofs.GapLaws.{le-false}
 use Rattle.dpl_slabs.proofs.AloneLaws.{front-apart, touching-apart, touching-more}
 use Rattle.dpl_slabs.proofs.alone.add_touching.Goals.{then-bar-front+in_ok-push, else-bar-front}
 use Rattle.dpl_slabs.proofs.alone.add_touching.Goals as goal
-
-abbrev zero : Rect
-zero = record { x0 = pos 0; y0 = pos 0; x1 = pos 0; y1 = pos 0 }
 
 pub loop-bar-preserved : goal.loop-bar-preserved
 loop-bar-preserved c =

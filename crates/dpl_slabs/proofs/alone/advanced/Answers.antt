@@ -1,14 +1,11 @@
 use Rattle.std.proofs.Common.{◌<◌, length, get_or, rules, w64, FitsSigned}
-use Rattle.std.specs.Prelude.{pos}
 use Rattle.std.proofs.lemmas.Int.{to_z-of_z}
 use Rattle.std.proofs.lemmas.List.{get_or_default}
 use Rattle.dpl_spec.specs.declared.Rect.{Rect}
+use Rattle.dpl_slabs.proofs.Firsts.{zero}
 use Rattle.dpl_slabs.proofs.StripLaws.{lt-from}
 use Rattle.dpl_slabs.proofs.AloneLaws.{end-more, front-here}
 use Rattle.dpl_slabs.proofs.alone.advanced.Goals as goal
-
-abbrev zero : Rect
-zero = record { x0 = pos 0; y0 = pos 0; x1 = pos 0; y1 = pos 0 }
 
 pub loop-i-preserved : goal.loop-i-preserved
 loop-i-preserved c =

@@ -1,6 +1,12 @@
-use Rattle.std.proofs.Common.{take}
+use Rattle.std.proofs.Common.{◌≡◌, ℕ, ◌≤◌, ◌<◌, length, get_or, take}
+use Rattle.dpl_spec.specs.declared.Rect.{Rect}
 use Rattle.dpl_slabs.specs.Alone.{ReachTo, AreAlone}
 use Rattle.dpl_slabs.proofs.alone.alone_of.Given as goal
 
-abbrev pub invariant-loop-bar : goal.invariant-loop-bar
-invariant-loop-bar l = AreAlone (take l.bar-index l.bars) l.beside l.fn.others.items l.others.items l.alone.items × ReachTo l.near.items l.front.passed l.front.reach
+abbrev pub invariant-loop-i : goal.invariant-loop-i
+invariant-loop-i l =
+    AreAlone (take l.i l.fn.bars.items) l.beside l.fn.others.items l.others.items (take l.kept l.alone.items)
+    × ReachTo l.near.items l.front.passed l.front.reach
+    × (l.kept ≤ l.i)
+    × (length l.alone.items ≡ length l.fn.bars.items)
+    × ((k : ℕ) (d : Rect) → l.i ≤ k → k < length l.fn.bars.items → get_or l.alone.items k d ≡ get_or l.fn.bars.items k d)

@@ -1,14 +1,12 @@
 use Rattle.std.proofs.Common.{◌<◌, length, get_or, rules, w64, FitsSigned, arith}
-use Rattle.std.specs.Prelude.{pos, ◌≤ℤ◌}
+use Rattle.std.specs.Prelude.{◌≤ℤ◌}
 use Rattle.std.proofs.lemmas.Int.{ints, to_z-of_z}
 use Rattle.std.proofs.lemmas.List.{get_or_default}
 use Rattle.dpl_spec.specs.declared.Rect.{Rect}
+use Rattle.dpl_slabs.proofs.Firsts.{zero}
 use Rattle.dpl_slabs.proofs.StripLaws.{max-known}
 use Rattle.dpl_slabs.proofs.GapLaws.{le-true, le-false, cut-end, cut-next, cut-last, spaced-rise}
 use Rattle.dpl_slabs.proofs.gaps.add_bar_without.Goals as goal
-
-abbrev zero : Rect
-zero = record { x0 = pos 0; y0 = pos 0; x1 = pos 0; y1 = pos 0 }
 
 pub returns-then-bar-gap : goal.returns-then-bar-gap
 returns-then-bar-gap c =

@@ -1,13 +1,9 @@
 use Rattle.std.proofs.Common.{◌<◌, length, get_or, arith}
-use Rattle.std.specs.Prelude.{pos}
 use Rattle.std.proofs.lemmas.List.{get_or_default}
 use Rattle.std.proofs.lemmas.List.Elements.{Contains-get_or}
-use Rattle.dpl_spec.specs.declared.Rect.{Rect}
+use Rattle.dpl_slabs.proofs.Firsts.{zero}
 use Rattle.dpl_slabs.proofs.GapLaws.{left-whole, left-next, left-all}
 use Rattle.dpl_slabs.proofs.gaps.bars_without.Goals as goal
-
-abbrev zero : Rect
-zero = record { x0 = pos 0; y0 = pos 0; x1 = pos 0; y1 = pos 0 }
 
 pub returns-then-is_empty-clause-slabs : goal.returns-then-is_empty-clause-slabs
 returns-then-is_empty-clause-slabs c = left-whole c.args.bars.items c.args.gaps.now c.requires.bars (let h = c.is_empty.ensures in grind arith)

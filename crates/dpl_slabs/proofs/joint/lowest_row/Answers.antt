@@ -1,16 +1,13 @@
 use Rattle.std.proofs.Common.{◌<◌, inl, inr, length, get_or, rules, w64, FitsSigned, arith}
-use Rattle.std.specs.Prelude.{pos}
 use Rattle.std.proofs.lemmas.Int.{ints, to_z-of_z}
 use Rattle.std.proofs.lemmas.List.{get_or_default}
 use Rattle.dpl_spec.specs.declared.Rect.{Rect}
+use Rattle.dpl_slabs.proofs.Firsts.{zero}
 use Rattle.dpl_slabs.proofs.JointLaws.{lowest-left, lowest-right, min-known}
 use Rattle.dpl_slabs.proofs.joint.lowest_row.Goals as goal
 
-abbrev zero : Rect
-zero = record { x0 = pos 0; y0 = pos 0; x1 = pos 0; y1 = pos 0 }
-
-pub returns : goal.returns
-returns c =
+pub returns-clause-some : goal.returns-clause-some
+returns-clause-some c =
     let first = c.args.first.now in
     let second = c.args.second.now in
     let some : 0 < length first = search rules in

@@ -1,14 +1,11 @@
 use Rattle.std.proofs.Common.{◌<◌, length, get_or, rules, w64, FitsSigned}
-use Rattle.std.specs.Prelude.{pos}
 use Rattle.std.proofs.lemmas.Int.{to_z-of_z}
 use Rattle.std.proofs.lemmas.List.{get_or_default}
 use Rattle.dpl_spec.specs.declared.Rect.{Rect}
-use Rattle.dpl_slabs.proofs.StripLaws.{lt-from}
+use Rattle.dpl_slabs.proofs.Firsts.{zero}
+use Rattle.dpl_slabs.proofs.StripLaws.{lt-from, le-from, max-known}
 use Rattle.dpl_slabs.proofs.JointLaws.{above-top, raised-by}
 use Rattle.dpl_slabs.proofs.joint.raised.Goals as goal
-
-abbrev zero : Rect
-zero = record { x0 = pos 0; y0 = pos 0; x1 = pos 0; y1 = pos 0 }
 
 pub returns-then-top-rects-clause-none : goal.returns-then-top-rects-clause-none
 returns-then-top-rects-clause-none c none =
@@ -23,7 +20,11 @@ returns-clause-some c =
     let here : c.args.n < length c.args.rects.now = search rules in
     let r : Rect = get_or c.args.rects.now c.args.n zero in
     let fits : FitsSigned w64 r.y1 = search rules in
+    let low : FitsSigned w64 r.y0 = search rules in
     let new : FitsSigned w64 c.max.result = search rules in
-    let keeps = rw (to_z-of_z w64 c.args.top c.ranges.top) at c.max.ensures.self_bound in
+    let top = to_z-of_z w64 c.args.top c.ranges.top in
+    let keeps = rw top at c.max.ensures.self_bound in
     let reaches = rw (to_z-of_z w64 r.y1 fits) at c.max.ensures.other_bound in
-    rw (to_z-of_z w64 c.max.result new) (raised-by c.args.rects.now c.args.n c.args.top c.max.result r here (get_or_default c.args.rects.now c.args.n zero r here) keeps reaches)
+    let begins = le-from _ _ _ (to_z-of_z w64 r.y0 low) (rw top at c.if-top-rects.false) in
+    let known = max-known _ _ r.y1 _ (to_z-of_z w64 r.y1 fits) (rw top at c.max.ensures.value) in
+    rw (to_z-of_z w64 c.max.result new) (raised-by c.args.rects.now c.args.n c.args.top c.max.result r here (get_or_default c.args.rects.now c.args.n zero r here) keeps reaches begins known)

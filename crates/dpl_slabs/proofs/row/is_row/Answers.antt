@@ -1,14 +1,11 @@
 use Rattle.std.proofs.Common.{◌≡◌, true, false, ◌<◌, length, get_or, below_more, refl, rules, arith}
-use Rattle.std.specs.Prelude.{pos}
 use Rattle.std.proofs.lemmas.List.{get_or_default}
 use Rattle.dpl_spec.specs.declared.Rect.{Rect}
 use Rattle.dpl_spec.specs.Slabs.{IsSolid}
 use Rattle.dpl_slabs.specs.Rows.{AreLevel}
+use Rattle.dpl_slabs.proofs.Firsts.{zero}
 use Rattle.dpl_slabs.proofs.RowLaws.{row-from, row-beside}
 use Rattle.dpl_slabs.proofs.row.is_row.Goals as goal
-
-abbrev zero : Rect
-zero = record { x0 = pos 0; y0 = pos 0; x1 = pos 0; y1 = pos 0 }
 
 pub loop-i-preserved : goal.loop-i-preserved
 loop-i-preserved c =

@@ -1,13 +1,11 @@
 use Rattle.std.proofs.Common.{◌≡◌, true, false, ◌<◌, ◌-◌, length, get_or, refl, rules, arith}
-use Rattle.std.specs.Prelude.{pos, ◌<ℤ◌, ◌≤ℤ◌}
+use Rattle.std.specs.Prelude.{◌<ℤ◌, ◌≤ℤ◌}
 use Rattle.std.proofs.lemmas.Int.{ints}
 use Rattle.std.proofs.lemmas.List.{get_or_default}
 use Rattle.dpl_spec.specs.declared.Rect.{Rect}
+use Rattle.dpl_slabs.proofs.Firsts.{zero}
 use Rattle.dpl_slabs.proofs.RowLaws.{rises-next, rises-spaced}
 use Rattle.dpl_slabs.proofs.row.is_spaced.Goals as goal
-
-abbrev zero : Rect
-zero = record { x0 = pos 0; y0 = pos 0; x1 = pos 0; y1 = pos 0 }
 
 no : false ≡ true → ⊥
 no e = cc

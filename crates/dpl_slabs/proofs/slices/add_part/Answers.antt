@@ -11,12 +11,12 @@ returns-then-part c =
 pub returns-then-part-high : goal.returns-then-part-high
 returns-then-part-high c =
     let part = rw (to_z-of_z w64 c.args.low c.ranges.low, to_z-of_z w64 c.args.high c.ranges.high) at c.part_of-part.ensures in
-    rw c.in_ok-push.ensures.items
-    (adds-bar c.args.low c.args.high c.args.r.now c.part_of-part.result _ _ part c.requires
-    (record { solid = record { wide = grind (arith, ints); tall = grind (arith, ints) }; first = grind (arith, ints); end = grind (arith, ints) }))
+    adds-bar c.args.low c.args.high c.args.r.now c.part_of-part.result _ _ _ part c.requires
+    (record { solid = record { wide = grind (arith, ints); tall = grind (arith, ints) }; first = grind (arith, ints); end = grind (arith, ints) })
+    c.in_ok-push_bar.ensures
 
 pub returns : goal.returns
 returns c =
     let part = rw (to_z-of_z w64 c.args.low c.ranges.low, to_z-of_z w64 c.args.high c.ranges.high) at c.part_of-part.ensures in
-    rw c.in_ok-push-2.ensures.items
+    rw c.in_ok-push.ensures.items
     (adds-other c.args.low c.args.high c.args.r.now c.part_of-part.result _ _ part c.requires (record { wide = grind (arith, ints); tall = grind (arith, ints) }))

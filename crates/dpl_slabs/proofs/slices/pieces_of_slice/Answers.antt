@@ -1,6 +1,7 @@
 use Rattle.std.proofs.Common.{w64}
 use Rattle.std.proofs.lemmas.Int.{to_z-of_z}
-use Rattle.dpl_slabs.proofs.SliceLaws.{cut-spaced, cut-level, rest-within, slice-pieces}
+use Rattle.dpl_slabs.specs.Slices.{InRows, Without}
+use Rattle.dpl_slabs.proofs.SliceLaws.{cut-spaced, cut-level, near-within, pieces-permuted, rest-within, slice-pieces}
 use Rattle.dpl_slabs.proofs.slices.pieces_of_slice.Goals as goal
 
 pub bars_without-requires-clause-bars : goal.bars_without-requires-clause-bars
@@ -12,21 +13,24 @@ bars_without-requires-clause-gaps c = rw c.deref.ensures.value (cut-spaced _ _ c
 pub bars_without-requires-clause-level : goal.bars_without-requires-clause-level
 bars_without-requires-clause-level c = rw c.deref.ensures.value (cut-level _ _ c.args.rects.now c.args.holes.now _ _ _ _ c.in_ok-bars.ensures c.in_ok-gaps.ensures)
 
-pub alone_of-requires : goal.alone_of-requires
-alone_of-requires c = rw c.deref-2.ensures.value c.in_ok-bars-2.ensures.apart
-
-pub slabs_of_parts-requires-clause-parts : goal.slabs_of_parts-requires-clause-parts
-slabs_of_parts-requires-clause-parts c =
+pub combine_lists_without-requires-clause-rects : goal.combine_lists_without-requires-clause-rects
+combine_lists_without-requires-clause-rects c =
     let left = rw c.deref.ensures.value at c.in_ok-bars-2.ensures.slabs in
-    let alone = rw (c.deref-2.ensures.value, c.deref-3.ensures.value) at c.in_ok-pieces.ensures in
-    rw c.deref-4.ensures.value (rest-within _ _ c.args.rects.now c.args.holes.now _ _ _ _ _ _ _ c.in_ok-bars.ensures c.in_ok-gaps.ensures left alone)
+    let touching = rw (c.deref-2.ensures.value, c.deref-3.ensures.value) at c.in_ok-add_touching.ensures in
+    let alone = rw c.deref-4.ensures.value at c.in_ok-alone.ensures in
+    rest-within _ _ c.args.rects.now c.args.holes.now _ _ _ _ _ _ _ _ c.in_ok-bars.ensures c.in_ok-gaps.ensures left touching alone
+
+pub combine_lists_without-requires-clause-holes : goal.combine_lists_without-requires-clause-holes
+combine_lists_without-requires-clause-holes c =
+    let touching = rw (c.deref-2.ensures.value, c.deref-3.ensures.value) at c.in_ok-add_touching.ensures in
+    near-within c.in_ok-bars.parts.items c.in_ok-gaps.holes.items _ c.in_ok-gaps.gaps.items touching c.in_ok-gaps.ensures.within c.in_ok-gaps.ensures.bars_within
 
 pub returns : goal.returns
 returns c =
     let rects = rw (to_z-of_z w64 c.args.low c.ranges.low, to_z-of_z w64 c.args.high c.ranges.high) at c.in_ok-bars.ensures in
     let holes = rw (to_z-of_z w64 c.args.low c.ranges.low, to_z-of_z w64 c.args.high c.ranges.high) at c.in_ok-gaps.ensures in
     let left = rw c.deref.ensures.value at c.in_ok-bars-2.ensures.slabs in
-    let alone = rw (c.deref-2.ensures.value, c.deref-3.ensures.value) at c.in_ok-pieces.ensures in
-    let slabs = rw c.deref-4.ensures.value at c.in_ok-slabs.ensures in
-    rw (c.in_ok-extend_from_slice.ensures.items, c.deref-5.ensures.value)
-    (slice-pieces c.args.low c.args.high c.args.rects.now c.args.holes.now _ _ _ _ _ _ _ rects holes left alone _ slabs)
+    let touching = rw (c.deref-2.ensures.value, c.deref-3.ensures.value) at c.in_ok-add_touching.ensures in
+    let alone = rw c.deref-4.ensures.value at c.in_ok-alone.ensures in
+    pieces-permuted (InRows c.args.low c.args.high (Without c.args.rects.now c.args.holes.now)) _ _ c.in_ok-pieces.ensures
+    (slice-pieces c.args.low c.args.high c.args.rects.now c.args.holes.now _ _ _ _ _ _ _ _ rects holes left touching alone _ c.in_ok-slabs.ensures)

@@ -1,7 +1,8 @@
+use Rattle.dpl_spec.specs.Squares.{Covers}
 use Rattle.dpl_slabs.proofs.StripLaws.{adds-strip}
 use Rattle.dpl_slabs.proofs.strips.add_strip.Goals as goal
 
 pub returns : goal.returns
 returns c =
     rw (c.in_ok-extend_from_slice.ensures.items, c.deref.ensures.value)
-    (adds-strip c.args.slabs.now.items c.in_ok-more.more.items c.args.strip.now c.requires.canonical c.requires.below c.in_ok-more.ensures.slabs c.in_ok-more.ensures.within)
+    (adds-strip (Covers c.args.strip.now) c.args.slabs.now.items c.in_ok-more.more.items c.args.strip.now c.requires.canonical c.requires.below (λ p h. h) c.in_ok-more.ensures.slabs c.in_ok-more.ensures.within)

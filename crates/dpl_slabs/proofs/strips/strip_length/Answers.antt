@@ -1,13 +1,10 @@
 use Rattle.std.proofs.Common.{◌<◌, length, get_or, rules, w64, FitsSigned, arith}
-use Rattle.std.specs.Prelude.{pos}
 use Rattle.std.proofs.lemmas.Int.{to_z-of_z}
 use Rattle.std.proofs.lemmas.List.{get_or_default}
 use Rattle.dpl_spec.specs.declared.Rect.{Rect}
+use Rattle.dpl_slabs.proofs.Firsts.{zero}
 use Rattle.dpl_slabs.proofs.StripLaws.{open-first, open-next, gap-here, gap-none, lt-from, le-from, max-known}
 use Rattle.dpl_slabs.proofs.strips.strip_length.Goals as goal
-
-abbrev zero : Rect
-zero = record { x0 = pos 0; y0 = pos 0; x1 = pos 0; y1 = pos 0 }
 
 pub loop-i-init : goal.loop-i-init
 loop-i-init c =
