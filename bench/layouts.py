@@ -21,6 +21,7 @@ KIND is one of
   stacked  squares one over the other, each a little further right and up
   flood    pairs of loops that turn opposite ways over the same squares
   holes    squares whose hole is cut by a doubled edge
+  stitched COUNT times three features that need a stitch
   chain    COUNT structures, each with one reference of the next, over one bar
   doubling COUNT structures, each with two references of the next at (0,0), over one unit square
   twisted  the same, but the last refers to the first
@@ -222,9 +223,19 @@ def holes(count, rng):
         yield boundary([(x + u, y + v) for u, v in points])
 
 
+def stitched(count, rng):
+    shapes = [(0, 0, 400, 20), (0, 40, 50, 60), (0, 40, 20, 200), (0, 180, 190, 200)]
+    shapes += [(350, 40, 400, 60), (380, 40, 400, 200), (215, 180, 400, 200)]
+    per_row = max(1, int(count**0.5))
+    for i in range(count):
+        x, y = 600 * (i % per_row), 400 * (i // per_row)
+        for x0, y0, x1, y1 in shapes:
+            yield rect(x + x0, y + y0, x + x1, y + y1)
+
+
 KINDS = {f.__name__: f for f in (
     bars, dense, upright, wires, through, mesh, scatter, polygons, plate,
-    ragged, rising, teeth, nested, stacked, flood, holes,
+    ragged, rising, teeth, nested, stacked, flood, holes, stitched,
 )}
 TREES = {f.__name__: f for f in (chain, doubling, twisted, ring, tower)}
 
