@@ -21,7 +21,7 @@ KIND is one of
   stacked  squares one over the other, each a little further right and up
   flood    pairs of loops that turn opposite ways over the same squares
   holes    squares whose hole is cut by a doubled edge
-  stitched COUNT times three features that need a stitch
+  stitched COUNT times three features, of seven shapes, that need a stitch
   chain    COUNT structures, each with one reference of the next, over one bar
   doubling COUNT structures, each with two references of the next at (0,0), over one unit square
   twisted  the same, but the last refers to the first
