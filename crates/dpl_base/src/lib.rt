@@ -1,10 +1,11 @@
-//! Points and rectangles, how far two rectangles lie apart, and the least one round some.
+//! Points and rectangles, how far two rectangles lie apart, the least one round some, and lists of numbers and others.
 #![tactic(auto)]
 
 mod bounds;
 mod listed;
 mod lists;
 mod loops;
+mod wide;
 
 ghost use Rattle.std.specs.Prelude.{◌≡◌, ◌+◌, ◌*◌, ◌^◌, ◌<◌, ◌≤◌, ◌<ℤ◌, ◌↔◌, IsTrue, IsNone, IfSome, unsigned_abs};
 ghost use Rattle.dpl_spec.specs.Loops.{IsPointWithin, farthest};
@@ -15,6 +16,7 @@ pub use crate::bounds::round_one;
 pub use crate::listed::Listed;
 pub use crate::lists::{give_back, numbers_below};
 pub use crate::loops::Loop;
+pub use crate::wide::WideRect;
 pub use dpl_spec::{Pt, Rect, Zone};
 
 /// The number of a piece, a feature or a zone.
@@ -34,20 +36,16 @@ pub fn is_in_range(point: &Pt) -> bool
 }
 
 /// How many units lie between the columns `a0` to `a1 - 1` and the columns `b0` to `b1 - 1`.
-pub fn span_gap(a0: i64, a1: i64, b0: i64, b1: i64) -> u64
+pub fn span_gap(a0: i32, a1: i32, b0: i32, b1: i32) -> u64
     requires some_a { a0 <ℤ a1 }
     requires some_b { b0 <ℤ b1 }
-    requires low_a { unsigned_abs a0 ≤ 2 ^ 61 }
-    requires high_a { unsigned_abs a1 ≤ 2 ^ 61 }
-    requires low_b { unsigned_abs b0 ≤ 2 ^ 61 }
-    requires high_b { unsigned_abs b1 ≤ 2 ^ 61 }
     ensures gap { IsSpanGap a0 a1 b0 b1 result }
     ensures small { result ≤ 2 ^ 62 }
 {
     if a1 <= b0 {
-        (b0 - a1) as u64
+        (b0 as i64 - a1 as i64) as u64
     } else if b1 <= a0 {
-        (a0 - b1) as u64
+        (a0 as i64 - b1 as i64) as u64
     } else {
         0
     }

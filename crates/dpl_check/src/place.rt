@@ -18,6 +18,7 @@ use crate::window::owner_at;
 use dpl_base::{Pt, near};
 use dpl_cert::{NearLine, PlaceLine};
 use dpl_nearest::unit;
+use dpl_piece::Pieces;
 use dpl_slabs::Slabs;
 use dpl_tree::Tree;
 use std::alloc::{AllocError, Global};
@@ -70,13 +71,13 @@ fn is_near_line(
 }
 
 /// Whether the place's piece is one of the layer's, with its key.
-fn is_keyed(keys: &[Pt], place: &PlaceLine) -> bool
-    ensures { IsTrue result ↔ IsKeyed keys.now place.now }
+fn is_keyed(pieces: &Pieces, place: &PlaceLine) -> bool
+    ensures { IsTrue result ↔ IsKeyed pieces.now.keys place.now }
 {
-    if place.piece >= keys.len() as u64 {
+    if place.piece >= pieces.parts().items().len() as u64 {
         return false;
     }
-    let key = keys[place.piece as usize];
+    let key = pieces.key(place.piece as usize);
     key.x == place.key.x && key.y == place.key.y
 }
 
@@ -95,7 +96,7 @@ fn is_right(
 {
     let parts = cut.pieces.parts().items();
     let owner = cut.pieces.owner();
-    if !is_keyed(cut.pieces.keys(), place) {
+    if !is_keyed(&cut.pieces, place) {
         return false;
     }
     if !is_near_line(parts, tree, line, place.piece, next, rule) {

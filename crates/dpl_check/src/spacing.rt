@@ -27,7 +27,10 @@ fn owner_of(r: &Rect, tree: &Tree) -> usize
     requires inside { ItemCovers Everyone tree.now (corner r.now) }
     ensures { ItemCovers (Only result) tree.now (corner r.now) }
 {
-    let p = Pt { x: r.x0, y: r.y0 };
+    let p = Pt {
+        x: r.x0 as i64,
+        y: r.y0 as i64,
+    };
     match owner_at(tree, p) {
         Some(k) => k,
         None => unreachable!(),

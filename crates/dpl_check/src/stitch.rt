@@ -14,7 +14,7 @@ ghost use Rattle.dpl_verdict.specs.Masks.{piece_at};
 ghost use Rattle.dpl_check.specs.Findings.{IsFirstBadOf, IsRightStitch, IsWrongStitch};
 
 use crate::window::is_met;
-use dpl_base::{Rect, round_one};
+use dpl_base::{Rect, WideRect, round_one};
 use dpl_cert::{PieceLine, StitchLine};
 use dpl_nearest::tree_of;
 use dpl_slabs::Slabs;
@@ -35,10 +35,10 @@ fn is_long(r: &Rect, overlap: u32) -> bool
     requires { IsRect r.now }
     ensures { IsTrue result ↔ ((pos overlap ≤ℤ (r.now.x1 -ℤ r.now.x0)) ⊎ (pos overlap ≤ℤ (r.now.y1 -ℤ r.now.y0))) }
 {
-    if is_span(r.x0, r.x1, overlap) {
+    if is_span(r.x0 as i64, r.x1 as i64, overlap) {
         return true;
     }
-    is_span(r.y0, r.y1, overlap)
+    is_span(r.y0 as i64, r.y1 as i64, overlap)
 }
 
 /// Whether both are pieces, of different letters.
@@ -63,7 +63,7 @@ fn is_right(s: &StitchLine, pieces: &[PieceLine], off: &Tree, overlap: u32) -> b
     requires items { AreItemsWithin (farthest + 1) off.now }
     ensures { IsTrue result ↔ IsRightStitch overlap (ItemCovers Everyone off.now) pieces.now s.now }
 {
-    if is_met(off, &s.rect) {
+    if is_met(off, &WideRect::of(&s.rect)) {
         return false;
     }
     if !is_long(&s.rect, overlap) {

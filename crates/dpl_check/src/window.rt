@@ -7,12 +7,12 @@ ghost use Rattle.dpl_tree.specs.declared.owners.Owners.TheVariants.{All as Every
 ghost use Rattle.dpl_nearest.specs.Search.{AreItemsWithin, ItemCovers};
 ghost use Rattle.dpl_verdict.specs.Order.{HasSquare};
 
-use dpl_base::{Pt, Rect};
-use dpl_nearest::unit;
+use dpl_base::{Pt, WideRect};
+use dpl_nearest::window_at;
 use dpl_tree::{Owners, Tree};
 
 /// The owner of a rectangle that has a square in the window, if there is one.
-pub(crate) fn owner_in(tree: &Tree, window: &Rect) -> Option<usize>
+pub(crate) fn owner_in(tree: &Tree, window: &WideRect) -> Option<usize>
     requires window { IsSolid window.now }
     requires items { AreItemsWithin (farthest + 1) tree.now }
     ensures none { IsNone result → ¬ HasSquare (λ p. Has window.now p × ItemCovers Everyone tree.now p) }
@@ -33,12 +33,12 @@ pub(crate) fn owner_at(tree: &Tree, p: Pt) -> Option<usize>
     ensures none { IsNone result → ¬ ItemCovers Everyone tree.now p }
     ensures some { IfSome result (λ k. ItemCovers (Only k) tree.now p) }
 {
-    let window = unit(p);
+    let window = window_at(p);
     owner_in(tree, &window)
 }
 
 /// Whether some rectangle has a square in the window.
-pub(crate) fn is_met(tree: &Tree, window: &Rect) -> bool
+pub(crate) fn is_met(tree: &Tree, window: &WideRect) -> bool
     requires window { IsSolid window.now }
     requires items { AreItemsWithin (farthest + 1) tree.now }
     ensures { IsTrue result ↔ HasSquare (λ p. Has window.now p × ItemCovers Everyone tree.now p) }

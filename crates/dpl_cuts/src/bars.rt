@@ -7,19 +7,19 @@ use dpl_slabs::Slabs;
 use std::alloc::{AllocError, Global};
 
 /// The corners of a rectangle: left, low, right, high.
-pub type Corners = (i64, i64, i64, i64);
+pub type Corners = (i32, i32, i32, i32);
 
 /// Whether the columns, or the rows, are some of a layer's.
-fn is_span(low: i64, high: i64) -> bool
+fn is_span(low: i32, high: i32) -> bool
     ensures { IsTrue result → (low <ℤ high) × (unsigned_abs low ≤ farthest) × (unsigned_abs high ≤ farthest) }
 {
     if low >= high {
         return false;
     }
-    if low < -FARTHEST {
+    if (low as i64) < -FARTHEST {
         return false;
     }
-    if high > FARTHEST {
+    if high as i64 > FARTHEST {
         return false;
     }
     true

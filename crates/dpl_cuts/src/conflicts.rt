@@ -1,6 +1,6 @@
 //! Worked layouts of one bar or square to a piece, by a rule of 30.
 use crate::bars::{Corners, set_of};
-use dpl_base::{Edge, Id, Rect};
+use dpl_base::{Edge, Id, WideRect};
 use dpl_edges::{all_edges, edges_of};
 use dpl_feature::features;
 use dpl_tile::plan;
@@ -52,11 +52,11 @@ fn finds_the_conflicts(rt: HostRuntime) -> Result<(), Fail> {
 }
 
 /// Whether the cell of one square is one of four that are near the other piece.
-fn is_near_the_other(cell: &Rect) -> bool {
-    if cell.y0 == 9 {
-        return cell.x0 == 8 || cell.x0 == 9;
+fn is_near_the_other(cell: &WideRect) -> bool {
+    if cell.y0() == 9 {
+        return cell.x0() == 8 || cell.x0() == 9;
     }
-    cell.y0 == 33 && (cell.x0 == 28 || cell.x0 == 29)
+    cell.y0() == 33 && (cell.x0() == 28 || cell.x0() == 29)
 }
 
 #[test]

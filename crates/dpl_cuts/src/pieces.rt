@@ -17,10 +17,10 @@ fn bar(alloc: Global, x0: u16, y0: u16, x1: u16, y1: u16) -> Result<Slabs, Alloc
     Slabs::one(
         alloc,
         Rect {
-            x0: x0 as i64,
-            y0: y0 as i64,
-            x1: x1 as i64,
-            y1: y1 as i64,
+            x0: x0 as i32,
+            y0: y0 as i32,
+            x1: x1 as i32,
+            y1: y1 as i32,
         },
     )
 }
@@ -64,6 +64,20 @@ fn at(x: i64, y: i64) -> Pt {
     Pt { x, y }
 }
 
+/// Whether the pieces have just these keys, one after the other.
+fn has_keys(cut: &Pieces, want: &[Pt]) -> bool {
+    let count = cut.parts().items().len();
+    if count != want.len() {
+        return false;
+    }
+    for k in 0..count {
+        if cut.key(k) != want[k] {
+            return false;
+        }
+    }
+    true
+}
+
 #[test]
 fn a_bar_is_cut_between_two_others(rt: HostRuntime) -> Result<(), Fail> {
     let cut = cut_bars(rt.alloc())?;
@@ -74,10 +88,7 @@ fn a_bar_is_cut_between_two_others(rt: HostRuntime) -> Result<(), Fail> {
         y1: 20,
     };
     assert_eq!(rt; cut.parts().items().len(), 4);
-    assert_eq!(rt;
-        cut.keys(),
-        [at(0, 0), at(84, 0), at(0, 40), at(108, 40)].as_slice()
-    );
+    assert!(rt; has_keys(&cut, &[at(0, 0), at(84, 0), at(0, 40), at(108, 40)]));
     assert_eq!(rt; cut.owner(), [0, 0, 1, 2].as_slice());
     assert_eq!(rt; cut.zones().len(), 1);
     assert_eq!(rt; cut.zones()[0].rect, zone);
@@ -88,10 +99,7 @@ fn a_bar_is_cut_between_two_others(rt: HostRuntime) -> Result<(), Fail> {
 #[test]
 fn a_ring_is_cut_in_four(rt: HostRuntime) -> Result<(), Fail> {
     let cut = cut_ring(rt.alloc())?;
-    assert_eq!(rt;
-        cut.keys(),
-        [at(0, 0), at(55, 0), at(0, 55), at(60, 55)].as_slice()
-    );
+    assert!(rt; has_keys(&cut, &[at(0, 0), at(55, 0), at(0, 55), at(60, 55)]));
     assert_eq!(rt; cut.owner(), [0, 0, 0, 0].as_slice());
     assert_eq!(rt; cut.sides(), [(0, 1), (0, 2), (1, 3), (2, 3)].as_slice());
     Ok(())

@@ -38,7 +38,7 @@ fn slabs_of(alloc: Global, loops: &[&[(i16, i16)]]) -> Result<Slabs, AllocError>
     Ok(slabs)
 }
 
-fn rect(x0: i64, y0: i64, x1: i64, y1: i64) -> Rect {
+fn rect(x0: i32, y0: i32, x1: i32, y1: i32) -> Rect {
     Rect { x0, y0, x1, y1 }
 }
 

@@ -19,8 +19,8 @@ fn left_of(pace: u8, k: u16) -> u32
 fn step(pace: u8, k: u16) -> Rect
     ensures { IsRectWithin farthest result }
 {
-    let at = k as i64;
-    let left = left_of(pace, k) as i64;
+    let at = k as i32;
+    let left = left_of(pace, k) as i32;
     Rect {
         x0: left,
         y0: 2 * at,
@@ -42,7 +42,7 @@ fn add_step(rects: &mut Vec<Rect>, pace: u8, k: u16) -> Result<(), AllocError>
 fn bar(b: u8) -> Rect
     ensures { IsRectWithin farthest result }
 {
-    let low = 100 * b as i64 - 20;
+    let low = 100 * b as i32 - 20;
     Rect {
         x0: 0,
         y0: low,

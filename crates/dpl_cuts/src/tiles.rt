@@ -5,13 +5,16 @@ use dpl_feature::features;
 use dpl_tile::plan;
 use std::test::Fail;
 
+/// The corners of a cell, which may reach past the layer.
+type CellCorners = (i64, i64, i64, i64);
+
 #[test]
 fn lays_tiles(rt: HostRuntime) -> Result<(), Fail> {
     let bars: [Corners; 2] = [(0, 0, 64000, 20), (0, 40, 64000, 60)];
     let squares: [Corners; 2] = [(0, 0, 10, 10), (28, 33, 38, 43)];
     let plate: [Corners; 1] = [(-3, 7, 4094, 4103)];
     // rectangles, the owners of their pieces, a tile's side as asked, the number of tiles, and the last cell
-    let cases: [(&[Corners], &[Id], u32, u32, Corners); 6] = [
+    let cases: [(&[Corners], &[Id], u32, u32, CellCorners); 6] = [
         (&[], &[], 64, 0, (0, 0, 0, 0)),
         (&bars, &[0, 1], 64, 1000, (63936, 0, 64000, 64)),
         (
@@ -35,7 +38,7 @@ fn lays_tiles(rt: HostRuntime) -> Result<(), Fail> {
         assert!(rt; plan.tiles() == tiles);
         if plan.tiles() > 0 {
             let cell = plan.cell(plan.tiles() - 1);
-            assert!(rt; (cell.x0, cell.y0, cell.x1, cell.y1) == last);
+            assert!(rt; (cell.x0(), cell.y0(), cell.x1(), cell.y1()) == last);
         }
     }
     Ok(())

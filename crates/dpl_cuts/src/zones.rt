@@ -5,6 +5,9 @@ use dpl_feature::features;
 use dpl_zone::zones;
 use std::test::Fail;
 
+/// How far from 0 a coordinate may lie.
+const FAR: i32 = FARTHEST as i32;
+
 fn corners_of(z: &Zone) -> (Corners, u64) {
     ((z.rect.x0, z.rect.y0, z.rect.x1, z.rect.y1), z.feature)
 }
@@ -70,9 +73,9 @@ fn finds_the_zones(rt: HostRuntime) -> Result<(), Fail> {
         ),
         (
             &[
-                (-FARTHEST, 0, FARTHEST, 20),
-                (-FARTHEST, 40, -FARTHEST + 50, 60),
-                (FARTHEST - 50, 40, FARTHEST, 60),
+                (-FAR, 0, FAR, 20),
+                (-FAR, 40, -FAR + 50, 60),
+                (FAR - 50, 40, FAR, 60),
             ],
             &[((-5, 0, 5, 20), 0)],
         ),

@@ -54,14 +54,16 @@ fn put_row(out: &mut Vec<u8>, row: u32, gap: u32) -> Result<(), AllocError>
 
 /// The bar of a row from the column `x0` up to `x1`.
 fn bar(row: u32, x0: u32, x1: u32) -> Rect
-    requires { row < 1000000 }
+    requires row { row < 1000000 }
+    requires x0 { x0 ≤ 2000 }
+    requires x1 { x1 ≤ 2000 }
     ensures { result ≡ bar_of row x0 x1 }
 {
     let y0 = 40 * row;
     Rect {
-        x0: i64::from(x0),
-        y0: i64::from(y0),
-        x1: i64::from(x1),
-        y1: i64::from(y0 + 20),
+        x0: x0 as i32,
+        y0: y0 as i32,
+        x1: x1 as i32,
+        y1: (y0 + 20) as i32,
     }
 }

@@ -1,9 +1,12 @@
 -- What a window leaves out.
-use Rattle.std.proofs.Common.{ℕ, ◌*◌, ◌<◌, ◌≤◌, inl, inr, List, [], get_or, length, subst, arith}
-use Rattle.std.specs.Prelude.{◌≡◌, ◌↔◌, ℤ, ◌+ℤ◌, ◌-ℤ◌, pos, ◌≤ℤ◌, ◌<ℤ◌}
+use Rattle.std.proofs.Common.{ℕ, ◌*◌, ◌<◌, ◌≤◌, inl, inr, List, [], get_or, length, subst, arith, w32, w64}
+use mir.Val.{to_z, of_z}
+use borrow.Author.Rules.{sfits_of}
+use Rattle.std.specs.Prelude.{◌≡◌, ◌↔◌, ℤ, ◌+ℤ◌, ◌-ℤ◌, pos, ◌≤ℤ◌, ◌<ℤ◌, unsigned_abs}
 use Rattle.std.specs.Int.{int_min, int_max}
+use Rattle.std.specs.Int.RustNames.{FitsSigned}
 use Rattle.std.specs.List.{Contains}
-use Rattle.std.proofs.lemmas.Int.{ints, clamps, by_lt_z}
+use Rattle.std.proofs.lemmas.Int.{ints, clamps, by_lt_z, fits_signed_from_abs, to_z-of_z}
 use Rattle.dpl_spec.specs.declared.Pt.{Pt}
 use Rattle.dpl_spec.specs.declared.Rect.{Rect}
 use Rattle.dpl_spec.specs.Squares.{AreNear, Has, IsSolidWithin, gap}
@@ -12,6 +15,7 @@ use Rattle.dpl_spec.specs.Loops.{farthest, AreRectsWithin, IsRectWithin}
 use Rattle.dpl_slabs.specs.Parts.{AreParts}
 use Rattle.dpl_tree.specs.Trees.{LiesApart}
 use Rattle.dpl_tree.specs.Windows.{IsWidened}
+use Rattle.dpl_tile.proofs.Numbers.{same-wide}
 use Rattle.dpl_edges.specs.InCells.{in_cell}
 use Rattle.dpl_edges.specs.Meetings.{HaveCommon}
 
@@ -97,6 +101,31 @@ smaller-of a b n e = record {
   second = omega (arith, ints, clamps, e);
   greatest = λ i h k. omega (arith, ints, clamps, e, h, k);
 }
+
+-- a side of what a rectangle and a cell have in common, as a number of 64 bits, lies between two of the rectangle's, and so it fits 32
+fits-between : (a n b : ℤ) → unsigned_abs a ≤ farthest → unsigned_abs b ≤ farthest → a ≤ℤ n → n ≤ℤ b → FitsSigned w32 n
+fits-between a n b p q l m = fits_signed_from_abs w32 n (let u : unsigned_abs n ≤ farthest = omega (arith, ints, p, q, l, m) in omega (arith, u))
+
+same-long : (n : ℤ) → FitsSigned w32 n → to_z w64 (of_z w64 n) ≡ n
+same-long n f = to_z-of_z w64 n (sfits_of (let l = f.sfits in omega (arith, ints, l)))
+
+pub long-fits : (n : ℤ) → FitsSigned w32 n → FitsSigned w32 (to_z w64 (of_z w64 n))
+long-fits n f = rw (same-long n f) f
+
+pub same-short : (n : ℤ) → FitsSigned w32 n → to_z w32 (of_z w32 (to_z w64 (of_z w64 n))) ≡ n
+same-short n f = rw (same-long n f) (to_z-of_z w32 n f)
+
+pub greater-fits : (a b c n : ℤ) → unsigned_abs a ≤ farthest → unsigned_abs c ≤ farthest → a <ℤ c → b <ℤ c → n ≡ int_max a b → FitsSigned w32 n
+greater-fits a b c n p q l m e = let g = greater-of a b n e in fits-between a n c p q g.first (g.least c (omega (arith, ints, l)) (omega (arith, ints, m)))
+
+pub smaller-fits : (a b c n : ℤ) → unsigned_abs c ≤ farthest → unsigned_abs a ≤ farthest → c <ℤ a → c <ℤ b → n ≡ int_min a b → FitsSigned w32 n
+smaller-fits a b c n p q l m e = let g = smaller-of a b n e in fits-between c n a p q (g.greatest c (omega (arith, ints, l)) (omega (arith, ints, m))) g.first
+
+pub greater-as : (a b c n : ℤ) → FitsSigned w32 a → FitsSigned w64 b → b ≡ c → n ≡ int_max (to_z w64 (of_z w64 (to_z w32 (of_z w32 a)))) (to_z w64 (of_z w64 b)) → n ≡ int_max a c
+greater-as a b c n f g same e = rw (same-wide a f, to_z-of_z w64 b g, same) at e
+
+pub smaller-as : (a b c n : ℤ) → FitsSigned w32 a → FitsSigned w64 b → b ≡ c → n ≡ int_min (to_z w64 (of_z w64 (to_z w32 (of_z w32 a)))) (to_z w64 (of_z w64 b)) → n ≡ int_min a c
+smaller-as a b c n f g same e = rw (same-wide a f, to_z-of_z w64 b g, same) at e
 
 module _ (r cell : Rect) (x0 y0 x1 y1 : ℤ) (left_is : x0 ≡ int_max r.x0 cell.x0) (low_is : y0 ≡ int_max r.y0 cell.y0) (right_is : x1 ≡ int_min r.x1 cell.x1) (high_is : y1 ≡ int_min r.y1 cell.y1) where
   left : IsGreater r.x0 cell.x0 x0

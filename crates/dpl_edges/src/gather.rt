@@ -10,7 +10,7 @@ ghost use Rattle.dpl_edges.specs.InCells.{ConflictIn};
 ghost use Rattle.dpl_edges.specs.Meetings.{HaveCommon, IsEnds, IsEndsOfAny, IsSlabEdge};
 
 use crate::near::{clipped, near_pieces};
-use dpl_base::{Edge, Id, Rect};
+use dpl_base::{Edge, Id, WideRect};
 use dpl_tile::Plan;
 use dpl_tree::{Item, Owners};
 use std::alloc::{AllocError, Global};
@@ -38,7 +38,7 @@ fn add_slab(
     alloc: Global,
     plan: &Plan,
     item: &Item,
-    cell: &Rect,
+    cell: &WideRect,
 ) -> Result<(), AllocError>
     requires piece { item.now.owner < length plan.now.parts }
     requires slab { IsSolidWithin farthest item.now.rect }
@@ -53,7 +53,7 @@ fn add_slab(
 }
 
 /// The edges that a cell finds, in no order, and some of them more than once.
-pub fn edges_in(alloc: Global, plan: &Plan, cell: &Rect) -> Result<Vec<Edge>, AllocError>
+pub fn edges_in(alloc: Global, plan: &Plan, cell: &WideRect) -> Result<Vec<Edge>, AllocError>
     requires { IsSolid cell.now }
     ensures parts { AreParts plan.now.parts }
     ensures edges { IfOk result (λ v. (e : ℕ × ℕ) → Contains v.items e ↔ ((e.0 < e.1) × ConflictIn plan.now.rule plan.now.parts plan.now.owners cell.now e.0 e.1)) }

@@ -16,12 +16,12 @@ mod near;
 
 use crate::gather::edges_in;
 pub use crate::laws::tiles_make_the_graph;
-use dpl_base::{Edge, FARTHEST, Rect};
+use dpl_base::{Edge, FARTHEST, WideRect};
 use dpl_tile::Plan;
 use std::alloc::{AllocError, Global};
 
 /// The edges that a cell finds, in order, each once.
-fn sorted_edges(alloc: Global, plan: &Plan, cell: &Rect) -> Result<Vec<Edge>, AllocError>
+fn sorted_edges(alloc: Global, plan: &Plan, cell: &WideRect) -> Result<Vec<Edge>, AllocError>
     requires { IsSolid cell.now }
     ensures parts { AreParts plan.now.parts }
     ensures edges { IfOk result (λ v. AreEdges (ConflictIn plan.now.rule plan.now.parts plan.now.owners cell.now) v.items) }
@@ -34,16 +34,11 @@ fn sorted_edges(alloc: Global, plan: &Plan, cell: &Rect) -> Result<Vec<Edge>, Al
 }
 
 /// The squares of every layer.
-fn whole() -> Rect
+fn whole() -> WideRect
     ensures whole { IsWhole result }
     ensures solid { IsSolid result }
 {
-    Rect {
-        x0: -FARTHEST,
-        y0: -FARTHEST,
-        x1: FARTHEST,
-        y1: FARTHEST,
-    }
+    WideRect::new(-FARTHEST, -FARTHEST, FARTHEST, FARTHEST)
 }
 
 /// The conflicts that a tile finds, smaller number first, in order, each once: two pieces of different owners, of which some square of one in the tile's cell lies closer than the plan's rule, in database units, to some square of the other, wherever that is. The distance of two squares is that of the closed squares, as the crow flies.

@@ -9,14 +9,14 @@ ghost use Rattle.dpl_tile.specs.Adding.{Adds};
 ghost use Rattle.dpl_edges.specs.InCells.{in_cell};
 ghost use Rattle.dpl_edges.specs.Meetings.{AreMeeting, HaveCommon, IsNearPiece};
 
-use dpl_base::{Id, Rect, near};
+use dpl_base::{Id, Rect, WideRect, near};
 use dpl_tile::Plan;
 use dpl_tree::{Item, Owners, widened};
 use smallvec::SmallVec;
 use std::alloc::{AllocError, Global};
 
 /// The squares of a rectangle in a cell.
-pub fn clipped(r: &Rect, cell: &Rect) -> Rect
+pub fn clipped(r: &Rect, cell: &WideRect) -> Rect
     requires slab { IsSolidWithin farthest r.now }
     requires cell { IsSolid cell.now }
     requires common { HaveCommon cell.now r.now }
@@ -24,10 +24,10 @@ pub fn clipped(r: &Rect, cell: &Rect) -> Rect
     ensures solid { IsSolidWithin farthest result }
 {
     Rect {
-        x0: r.x0.max(cell.x0),
-        y0: r.y0.max(cell.y0),
-        x1: r.x1.min(cell.x1),
-        y1: r.y1.min(cell.y1),
+        x0: (r.x0 as i64).max(cell.x0()) as i32,
+        y0: (r.y0 as i64).max(cell.y0()) as i32,
+        x1: (r.x1 as i64).min(cell.x1()) as i32,
+        y1: (r.y1 as i64).min(cell.y1()) as i32,
     }
 }
 

@@ -30,10 +30,10 @@ in_pieces_from n pieces colours letter p = (k : ℕ) × (n ≤ k) × (k < length
 abbrev pub IsEither : List Bool → ℕ × ℕ → Bool → Type 0
 IsEither colours side letter = (colour_at colours side.0 ≡ letter) ⊎ (colour_at colours side.1 ≡ letter)
 
--- the squares of those of the first n zones that have a side of this letter
-abbrev pub in_zones : ℕ → List Zone → List (ℕ × ℕ) → List Bool → Bool → Region
-in_zones n zones sides colours letter p =
-    (k : ℕ) × (z : Zone) × (side : ℕ × ℕ) × (k < n) × (slice_index_or zones k z ≡ z) × (slice_index_or sides k side ≡ side) × IsEither colours side letter × Has z.rect p
+-- the squares of those of the zones from number n on that have a side of this letter
+abbrev pub in_zones_from : ℕ → List Zone → List (ℕ × ℕ) → List Bool → Bool → Region
+in_zones_from n zones sides colours letter p =
+    (k : ℕ) × (z : Zone) × (side : ℕ × ℕ) × (n ≤ k) × (k < length zones) × (slice_index_or zones k z ≡ z) × (slice_index_or sides k side ≡ side) × IsEither colours side letter × Has z.rect p
 
 -- the squares that are added to those of rectangles
 abbrev pub Adds : List Rect → List Rect → Region → Type 0

@@ -1,5 +1,5 @@
 //! The bytes of a file of masks, by the GDSII Stream Format, Release 6.
-ghost use Rattle.std.specs.Prelude.{◌≡◌, ◌≤◌, ◌+◌, ◌++◌, IfOk, OnErr, OnOk, map, unsigned_abs};
+ghost use Rattle.std.specs.Prelude.{◌≡◌, ◌+◌, ◌++◌, IfOk, OnErr, OnOk, map};
 ghost use Rattle.std.specs.List.{concat};
 ghost use Rattle.dpl_spec.specs.Loops.{AreRectsWithin, IsRectWithin, farthest};
 ghost use Rattle.dpl_spec.specs.Zones.{at};
@@ -24,18 +24,15 @@ const BOUNDARY_SIZE: usize = 64;
 const ENDSTR_ENDLIB: [u8; 8] = [0, 4, 7, 0, 0, 4, 4, 0];
 
 /// A coordinate in four bytes.
-fn put_coordinate(out: &mut Vec<u8>, z: i64) -> Result<(), AllocError>
-    requires { unsigned_abs z ≤ farthest }
+fn put_coordinate(out: &mut Vec<u8>, z: i32) -> Result<(), AllocError>
     ensures bytes { OnOk result (out.new.items ≡ out.old.items ++ coordinate_bytes z) }
     ensures room { FillsRoom 4 result out.old out.new }
 {
-    out.extend_from_slice(&(z as i32).to_be_bytes())
+    out.extend_from_slice(&z.to_be_bytes())
 }
 
 /// A point, column first.
-fn put_point(out: &mut Vec<u8>, x: i64, y: i64) -> Result<(), AllocError>
-    requires x { unsigned_abs x ≤ farthest }
-    requires y { unsigned_abs y ≤ farthest }
+fn put_point(out: &mut Vec<u8>, x: i32, y: i32) -> Result<(), AllocError>
     ensures bytes { OnOk result (out.new.items ≡ out.old.items ++ point_bytes (at x y)) }
     ensures room { FillsRoom 8 result out.old out.new }
 {
@@ -46,7 +43,6 @@ fn put_point(out: &mut Vec<u8>, x: i64, y: i64) -> Result<(), AllocError>
 
 /// The corners of a slab, from the lower left one round to it again.
 fn put_corners(out: &mut Vec<u8>, r: &Rect) -> Result<(), AllocError>
-    requires { IsRectWithin farthest r.now }
     ensures bytes { OnOk result (out.new.items ≡ out.old.items ++ concat (map point_bytes (corners r.now))) }
     ensures room { FillsRoom 40 result out.old out.new }
 {

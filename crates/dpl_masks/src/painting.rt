@@ -5,7 +5,7 @@ ghost use Rattle.dpl_spec.specs.Loops.{AreRectsWithin, farthest};
 ghost use Rattle.dpl_spec.specs.Squares.{Covers, Has, IsSolidWithin};
 ghost use Rattle.dpl_spec.specs.Colours.{AreStitches, differ};
 ghost use Rattle.dpl_orient.specs.Masks.{is_second};
-ghost use Rattle.dpl_masks.specs.Painting.{Adds, AreMasksOf, AreRectsOn, in_pieces_from, in_zones};
+ghost use Rattle.dpl_masks.specs.Painting.{Adds, AreMasksOf, AreRectsOn, in_pieces_from, in_zones_from};
 
 use crate::pair::Masks;
 use dpl_base::{Id, Rect, Zone, give_back};
@@ -34,8 +34,7 @@ struct Rects {
     b: Vec<Rect>,
 }
 
-/// The rectangles of both masks, the zones' first, so that the zones and their sides are let go before room is used for those of the
-/// pieces. Each piece is let go as soon as its own are there.
+/// The rectangles of both masks. Each zone and each piece is let go as soon as its own are there, and the zones' come first.
 fn rects_of(alloc: Global, cut: Cut, colours: &[Mask]) -> Result<Rects, AllocError>
     requires colours { length colours.now ≡ length cut.parts }
     requires each { length cut.sides.items ≡ length cut.zones.items }
@@ -51,10 +50,7 @@ fn rects_of(alloc: Global, cut: Cut, colours: &[Mask]) -> Result<Rects, AllocErr
     } = cut;
     let mut a = Vec::with_capacity(alloc, count_on(&parts, &sides, colours, Mask::A))?;
     let mut b = Vec::with_capacity(alloc, count_on(&parts, &sides, colours, Mask::B))?;
-    add_zones(&mut a, &zones, &sides, colours, Mask::A)?;
-    add_zones(&mut b, &zones, &sides, colours, Mask::B)?;
-    drop(zones);
-    drop(sides);
+    add_zones(&mut a, &mut b, zones, sides, colours)?;
     add_pieces(&mut a, &mut b, parts.into_vec(), colours)?;
     Ok(Rects { a, b })
 }
@@ -173,30 +169,55 @@ fn add_zone(
     Ok(())
 }
 
-/// Adds the squares of the zones that have a side of the letter.
-fn add_zones(
-    rects: &mut Vec<Rect>,
-    zones: &[Zone],
-    sides: &[(Id, Id)],
-    colours: &[Mask],
-    letter: Mask,
+/// Adds the squares of a zone to those of the masks of both its sides.
+fn put_zone(
+    a: &mut Vec<Rect>,
+    b: &mut Vec<Rect>,
+    zone: &Zone,
+    first: Mask,
+    second: Mask,
 ) -> Result<(), AllocError>
-    requires each { length sides.now ≡ length zones.now }
-    requires known { All (λ side. (side.0 < length colours.now) × (side.1 < length colours.now)) sides.now }
-    requires zones { All (λ z. IsSolidWithin farthest z.rect) zones.now }
-    requires within { AreRectsWithin farthest rects.old.items }
-    ensures adds { OnOk result (Adds rects.old.items rects.new.items (in_zones (length zones.now) zones.now sides.now (map is_second colours.now) (is_second letter))) }
-    ensures within { OnOk result (AreRectsWithin farthest rects.new.items) }
+    requires zone { IsSolidWithin farthest zone.now.rect }
+    requires a_within { AreRectsWithin farthest a.old.items }
+    requires b_within { AreRectsWithin farthest b.old.items }
+    ensures a { OnOk result (Adds a.old.items a.new.items (λ p. ((is_second first ≡ false) ⊎ (is_second second ≡ false)) × Has zone.now.rect p)) }
+    ensures b { OnOk result (Adds b.old.items b.new.items (λ p. ((is_second first ≡ true) ⊎ (is_second second ≡ true)) × Has zone.now.rect p)) }
+    ensures a_within { OnOk result (AreRectsWithin farthest a.new.items) }
+    ensures b_within { OnOk result (AreRectsWithin farthest b.new.items) }
 {
-    for (k, zone) in zones.iter().enumerate() {
-        let side = sides[k];
-        add_zone(
-            rects,
-            zone,
+    add_zone(a, zone, first, second, Mask::A)?;
+    add_zone(b, zone, first, second, Mask::B)?;
+    Ok(())
+}
+
+/// Adds the squares of each zone to those of the masks of both its sides. The zones and their sides are let go one by one from the last, and the room of their lists is given back on the way.
+fn add_zones(
+    a: &mut Vec<Rect>,
+    b: &mut Vec<Rect>,
+    mut zones: Vec<Zone>,
+    mut sides: Vec<(Id, Id)>,
+    colours: &[Mask],
+) -> Result<(), AllocError>
+    requires each { length sides.items ≡ length zones.items }
+    requires known { All (λ side. (side.0 < length colours.now) × (side.1 < length colours.now)) sides.items }
+    requires zones { All (λ z. IsSolidWithin farthest z.rect) zones.items }
+    requires a_within { AreRectsWithin farthest a.old.items }
+    requires b_within { AreRectsWithin farthest b.old.items }
+    ensures a { OnOk result (Adds a.old.items a.new.items (in_zones_from 0 zones.items sides.items (map is_second colours.now) false)) }
+    ensures b { OnOk result (Adds b.old.items b.new.items (in_zones_from 0 zones.items sides.items (map is_second colours.now) true)) }
+    ensures a_within { OnOk result (AreRectsWithin farthest a.new.items) }
+    ensures b_within { OnOk result (AreRectsWithin farthest b.new.items) }
+{
+    while let (Some(zone), Some(side)) = (zones.pop(), sides.pop()) {
+        put_zone(
+            a,
+            b,
+            &zone,
             colours[side.0 as usize],
             colours[side.1 as usize],
-            letter,
         )?;
+        give_back(&mut zones);
+        give_back(&mut sides);
     }
     Ok(())
 }

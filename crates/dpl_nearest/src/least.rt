@@ -37,7 +37,7 @@ fn lowered(p: Pt, r: &Rect, others: &Tree, owners: Owners, rule: u32) -> Pt
     requires others { AreItemsWithin (farthest + 1) others.now }
     ensures { IsLowered rule (Has r.now) (ItemCovers owners others.now) p result }
 {
-    if p.y < r.y0 {
+    if p.y < r.y0 as i64 {
         return p;
     }
     match least_of(r, others, owners, rule) {
@@ -75,7 +75,6 @@ fn least_in_tree(rects: &[Rect], others: &Tree, rule: u32) -> Option<Pt>
 
 /// A search tree of rectangles, all of owner 0.
 pub fn tree_of(alloc: Global, rects: &[Rect]) -> Result<Tree, AllocError>
-    requires { AreRectsWithin (farthest + 1) rects.now }
     ensures { IfOk result (λ t. (r : Rect) (k : ℕ) → HasItem t r k ↔ ((k ≡ 0) × Contains rects.now r)) }
 {
     let mut items = Items::new(alloc);

@@ -13,7 +13,7 @@ ghost use Rattle.std.specs.List.{All};
 
 use crate::least::least_near;
 pub use crate::least::{improved, tree_of};
-pub use crate::rects::unit;
+pub use crate::rects::{unit, window_at};
 use dpl_base::{Pt, Rect};
 use std::alloc::{AllocError, Global};
 

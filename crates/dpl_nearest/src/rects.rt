@@ -5,33 +5,44 @@ ghost use Rattle.dpl_spec.specs.Slabs.{IsSolid};
 ghost use Rattle.dpl_spec.specs.Squares.{AreNear, Has};
 ghost use Rattle.dpl_nearest.specs.Search.{AreItemsWithin, IsLeastNear, ItemCovers, column_at, columns_left, row_at, rows_below, unit_of};
 
-use dpl_base::{Pt, Rect, near};
+use dpl_base::{Pt, Rect, WideRect, near};
 use dpl_tree::{Owners, Tree, widened};
 
 /// The rectangle of one square.
 pub fn unit(p: Pt) -> Rect
+    requires x { unsigned_abs p.x ≤ farthest }
+    requires y { unsigned_abs p.y ≤ farthest }
+    ensures { result ≡ unit_of p }
+{
+    let x0 = p.x as i32;
+    let y0 = p.y as i32;
+    Rect {
+        x0,
+        y0,
+        x1: x0 + 1,
+        y1: y0 + 1,
+    }
+}
+
+/// The window of one square.
+pub fn window_at(p: Pt) -> WideRect
     requires x { unsigned_abs p.x ≤ 2 ^ 61 }
     requires y { unsigned_abs p.y ≤ 2 ^ 61 }
     ensures { result ≡ unit_of p }
 {
-    Rect {
-        x0: p.x,
-        y0: p.y,
-        x1: p.x + 1,
-        y1: p.y + 1,
-    }
+    WideRect::new(p.x, p.y, p.x + 1, p.y + 1)
 }
 
 /// The rows of `r` below row `y`.
-fn below(r: &Rect, y: i64) -> Rect
+fn below(r: &Rect, y: i32) -> Rect
     ensures { result ≡ rows_below r.now y }
 {
     Rect { y1: y, ..*r }
 }
 
 /// Row `y` of `r`.
-fn row(r: &Rect, y: i64) -> Rect
-    requires { unsigned_abs y ≤ 2 ^ 61 }
+fn row(r: &Rect, y: i32) -> Rect
+    requires { unsigned_abs y ≤ farthest }
     ensures { result ≡ row_at r.now y }
 {
     Rect {
@@ -42,17 +53,17 @@ fn row(r: &Rect, y: i64) -> Rect
 }
 
 /// The columns of `r` left of column `x`.
-fn left(r: &Rect, x: i64) -> Rect
+fn left(r: &Rect, x: i32) -> Rect
     ensures { result ≡ columns_left r.now x }
 {
     Rect { x1: x, ..*r }
 }
 
 /// A number about halfway between two others.
-fn halfway(low: i64, high: i64) -> i64
+fn halfway(low: i32, high: i32) -> i32
     requires apart { (low +ℤ pos 1) <ℤ high }
-    requires low { unsigned_abs low ≤ 2 ^ 61 }
-    requires high { unsigned_abs high ≤ 2 ^ 61 }
+    requires low { unsigned_abs low ≤ farthest }
+    requires high { unsigned_abs high ≤ farthest }
     ensures above { low <ℤ result }
     ensures below { result <ℤ high }
 {
@@ -78,7 +89,7 @@ fn near_any(r: &Rect, others: &Tree, owners: Owners, rule: u32) -> bool
 }
 
 /// Whether some square of `r` below row `y` is near the others.
-fn near_below(r: &Rect, y: i64, others: &Tree, owners: Owners, rule: u32) -> bool
+fn near_below(r: &Rect, y: i32, others: &Tree, owners: Owners, rule: u32) -> bool
     requires solid { IsSolid r.now }
     requires within { IsRectWithin farthest r.now }
     requires low { r.now.y0 <ℤ y }
@@ -91,7 +102,7 @@ fn near_below(r: &Rect, y: i64, others: &Tree, owners: Owners, rule: u32) -> boo
 }
 
 /// Whether some square of `r` left of column `x` is near the others.
-fn near_left(r: &Rect, x: i64, others: &Tree, owners: Owners, rule: u32) -> bool
+fn near_left(r: &Rect, x: i32, others: &Tree, owners: Owners, rule: u32) -> bool
     requires solid { IsSolid r.now }
     requires within { IsRectWithin farthest r.now }
     requires low { r.now.x0 <ℤ x }
@@ -104,7 +115,7 @@ fn near_left(r: &Rect, x: i64, others: &Tree, owners: Owners, rule: u32) -> bool
 }
 
 /// The first row of `r` with a square that is near the others.
-fn first_row(r: &Rect, others: &Tree, owners: Owners, rule: u32) -> i64
+fn first_row(r: &Rect, others: &Tree, owners: Owners, rule: u32) -> i32
     requires solid { IsSolid r.now }
     requires within { IsRectWithin farthest r.now }
     requires others { AreItemsWithin (farthest + 1) others.now }
@@ -128,7 +139,7 @@ fn first_row(r: &Rect, others: &Tree, owners: Owners, rule: u32) -> i64
 }
 
 /// The first column of `r` with a square that is near the others.
-fn first_column(r: &Rect, others: &Tree, owners: Owners, rule: u32) -> i64
+fn first_column(r: &Rect, others: &Tree, owners: Owners, rule: u32) -> i32
     requires solid { IsSolid r.now }
     requires within { IsRectWithin farthest r.now }
     requires others { AreItemsWithin (farthest + 1) others.now }
@@ -164,5 +175,8 @@ pub(crate) fn least_of(r: &Rect, others: &Tree, owners: Owners, rule: u32) -> Op
     let y = first_row(r, others, owners, rule);
     let only = row(r, y);
     let x = first_column(&only, others, owners, rule);
-    Some(Pt { x, y })
+    Some(Pt {
+        x: x as i64,
+        y: y as i64,
+    })
 }

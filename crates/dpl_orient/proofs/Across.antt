@@ -1,44 +1,53 @@
 -- Zones across, as crossings.
-use Rattle.std.proofs.Common.{◌≡◌, ℕ, ◌+◌, ◌<◌, inl, inr, Bool, true, false, not, ◌&&◌, ◌||◌, ltb, eqb, cond, List, [], ◌∷◌, length, get_or, sym, refl, ap, ◌∙◌, subst, arith}
-use Rattle.std.specs.List.{Contains}
+use Rattle.std.proofs.Common.{◌≡◌, ◌≢◌, ℕ, ◌+◌, ◌<◌, inl, inr, Bool, true, false, not, ◌&&◌, ◌||◌, ltb, eqb, cond, List, [], ◌∷◌, length, get_or, sym, refl, ap, ◌∙◌, subst, arith}
 use Rattle.std.specs.List.Sorted.{IsPermutation}
-use Rattle.std.proofs.lemmas.Bool.{cases_eq, cases_order, eq-eqb, ne_eqb, lt-ltb, le-ltb, and_left, and_right, ltb-true, cond_both}
+use Rattle.std.proofs.lemmas.Bool.{cases_eq, cases_lt, cases_order, eq-eqb, ne_eqb, lt-ltb, le-ltb, and_left, and_right}
 use Rattle.std.proofs.lemmas.List.{get_or-map, length-map}
 use Rattle.std.proofs.lemmas.List.Elements.{All-head, All-tail, All-cons, All-nil, All-append}
 use Rattle.std.proofs.lemmas.List.Sums.{sum_by-cons, sum_by-append}
 use Rattle.std.proofs.lemmas.List.Sorted.{sum_by-IsPermutation, All-permutation as permuted}
 use Rattle.dpl_spec.specs.Colours.{differ, crosses, zones_across, is_flipped, AreColours}
 use Rattle.dpl_stars.specs.declared.list.Star.{Star}
-use Rattle.dpl_stars.specs.Stars.{own_row}
+use Rattle.dpl_orient.specs.declared.chart.Rooted.{Rooted}
+use Rattle.dpl_orient.specs.declared.crossing.Across.{Across}
 use Rattle.dpl_orient.specs.declared.crossing.Crossing.{Crossing}
-use Rattle.dpl_orient.specs.Rooted.{AreRooted, AreSidesBelow, star}
-use Rattle.dpl_orient.specs.Chart.{row, IsChart, AreLow, roots_in, odds_in}
+use Rattle.dpl_orient.specs.Rooted.{AreRooted, AreSidesBelow}
+use Rattle.dpl_orient.specs.Chart.{own_root, row, IsChart, AreLow, roots_in, odds_in}
 use Rattle.dpl_orient.specs.Oriented.{AreColoursOfRows}
-use Rattle.dpl_orient.specs.Crossings.{crossing, crossings_between, crossings_of, GoUp, AreFlips, tally, is_turned, colours_of}
+use Rattle.dpl_orient.specs.Crossings.{crossing, crossing_between, crossings_of, crossings_at, GoUp, AreFlips, tally, is_turned, colours_of}
 use Rattle.dpl_orient.proofs.Letters.{differ-assoc, first-holds, none-holds, second-holds, neither-holds, third-none}
 use Rattle.dpl_orient.proofs.Settling.{counts, unit}
 
--- crossings go up
-between-up : (s t : Star) → GoUp (crossings_between s t)
-between-up s t = cond_both (ltb t.root s.root) (crossing s.root t.root (differ s.odd t.odd) ∷ []) (cond (ltb s.root t.root) (crossing t.root s.root (differ t.odd s.odd) ∷ []) []) GoUp
-    (λ l. All-cons (λ c. c.earlier < c.later) _ [] (ltb-true t.root s.root l) (All-nil (λ c. c.earlier < c.later)))
-    (λ m. cond_both (ltb s.root t.root) (crossing t.root s.root (differ t.odd s.odd) ∷ []) [] GoUp
-    (λ l. All-cons (λ c. c.earlier < c.later) _ [] (ltb-true s.root t.root l) (All-nil (λ c. c.earlier < c.later)))
-    (λ l. All-nil (λ c. c.earlier < c.later)))
+-- the crossing of a zone between these pieces, if it is one
+abbrev crossings_between : Rooted → Rooted → List Crossing
+crossings_between s t = cond (not (eqb s.root t.root)) (crossing_between s t ∷ []) []
 
-crossings-up : (chart : List Star) (sides : List (ℕ × ℕ)) → GoUp (crossings_of chart sides)
+-- crossings go up
+one-up : (s t : Rooted) → s.root ≢ t.root → (crossing_between s t).earlier < (crossing_between s t).later
+one-up s t apart = elim (cases_lt t.root s.root) [
+  | inl l ↦ rw (lt-ltb t.root s.root l) l
+  | inr m ↦ rw (le-ltb t.root s.root m) (omega (arith, m, apart))
+]
+
+between-up : (s t : Rooted) → GoUp (crossings_between s t)
+between-up s t = elim (cases_eq s.root t.root) [
+  | inl same ↦ rw (eq-eqb s.root t.root same) (All-nil (λ c. c.earlier < c.later))
+  | inr apart ↦ rw (ne_eqb s.root t.root apart) (All-cons (λ c. c.earlier < c.later) (crossing_between s t) [] (one-up s t apart) (All-nil (λ c. c.earlier < c.later)))
+]
+
+crossings-up : (chart : List Rooted) (sides : List (ℕ × ℕ)) → GoUp (crossings_of chart sides)
 crossings-up chart [] = All-nil (λ c. c.earlier < c.later)
 crossings-up chart (s ∷ sides) = All-append (λ c. c.earlier < c.later) (crossings_between (row chart s.0) (row chart s.1)) (crossings_of chart sides) (between-up (row chart s.0) (row chart s.1)) (crossings-up chart sides)
 
-pub sorted-up : (chart : List Star) (sides : List (ℕ × ℕ)) (xs : List Crossing) → IsPermutation (crossings_of chart sides) xs → GoUp xs
+pub sorted-up : (chart : List Rooted) (sides : List (ℕ × ℕ)) (xs : List Crossing) → IsPermutation (crossings_of chart sides) xs → GoUp xs
 sorted-up chart sides xs p = permuted (λ c. c.earlier < c.later) (crossings_of chart sides) xs p (crossings-up chart sides)
 
--- the letter of a row's piece
-abbrev letter : List Bool → Star → Bool
+-- the letter of a piece
+abbrev letter : List Bool → Rooted → Bool
 letter flips r = differ r.odd (get_or flips r.root false)
 
-module _ (flips : List Bool) (root : ℕ) (wanted : Bool) (s t : Star) where
-  -- what a zone between the pieces of these rows adds
+module _ (flips : List Bool) (root : ℕ) (wanted : Bool) (s t : Rooted) where
+  -- what a zone between these pieces adds
   abbrev adds : Bool
   adds = ((eqb s.root root && ltb t.root root) && not (differ wanted (differ s.odd (letter flips t)))) || ((eqb t.root root && ltb s.root root) && not (differ wanted (differ t.odd (letter flips s))))
 
@@ -85,10 +94,10 @@ module _ (flips : List Bool) (root : ℕ) (wanted : Bool) (s t : Star) where
 
   pub adds-is : unit adds ≡ tally flips root wanted (crossings_between s t)
   adds-is = elim (cases_order s.root t.root) [
-    | inl same ↦ rw (le-ltb t.root s.root (omega (arith, same)), le-ltb s.root t.root (omega (arith, same))) (ap unit (adds-none same))
+    | inl same ↦ rw (eq-eqb s.root t.root same) (ap unit (adds-none same))
     | inr apart ↦ elim apart [
-      | inl l ↦ rw (le-ltb t.root s.root (omega (arith, l)), lt-ltb s.root t.root l) (one _ (adds-second l))
-      | inr l ↦ rw (lt-ltb t.root s.root l) (one _ (adds-first l))
+      | inl l ↦ rw (ne_eqb s.root t.root (λ e. omega (arith, l, e)), le-ltb t.root s.root (omega (arith, l))) (one _ (adds-second l))
+      | inr l ↦ rw (ne_eqb s.root t.root (λ e. omega (arith, l, e)), lt-ltb t.root s.root l) (one _ (adds-first l))
     ]
   ]
 
@@ -98,15 +107,15 @@ told roots odds colours root wanted side =
     (crosses roots root side.0 side.1 && not (differ wanted (differ (get_or odds side.0 false) (get_or colours side.1 false))))
     || (crosses roots root side.1 side.0 && not (differ wanted (differ (get_or odds side.1 false) (get_or colours side.0 false))))
 
-module _ (chart : List Star) (flips : List Bool) where
+module _ (chart : List Rooted) (flips : List Bool) where
   root-at : (v : ℕ) → v < length chart → get_or (roots_in chart) v 0 ≡ (row chart v).root
-  root-at v l = get_or-map (λ s. s.root) chart v (own_row v) 0 l
+  root-at v l = get_or-map (λ s. s.root) chart v (own_root v) 0 l
 
   odd-at : (v : ℕ) → v < length chart → get_or (odds_in chart) v false ≡ (row chart v).odd
-  odd-at v l = get_or-map (λ s. s.odd) chart v (own_row v) false l
+  odd-at v l = get_or-map (λ s. s.odd) chart v (own_root v) false l
 
   letter-at : (v : ℕ) → v < length chart → get_or (colours_of chart flips) v false ≡ letter flips (row chart v)
-  letter-at v l = get_or-map (λ s. differ s.odd (get_or flips s.root false)) chart v (own_row v) false l
+  letter-at v l = get_or-map (λ s. differ s.odd (get_or flips s.root false)) chart v (own_root v) false l
 
   side-adds : (root : ℕ) (wanted : Bool) (side : ℕ × ℕ) → side.0 < length chart → side.1 < length chart →
       told (roots_in chart) (odds_in chart) (colours_of chart flips) root wanted side ≡ adds flips root wanted (row chart side.0) (row chart side.1)
@@ -142,27 +151,23 @@ module _ (chart : List Star) (flips : List Bool) where
     }
 
 -- the roots and the parities of a chart are those that the rows give
-pub chart-rooted : (rows : List Star) (n : ℕ) (chart : List Star) → IsChart rows n chart → AreRooted rows n (roots_in chart) (odds_in chart)
+pub chart-rooted : (rows : List Star) (n : ℕ) (chart : List Rooted) → IsChart rows n chart → AreRooted rows n (roots_in chart) (odds_in chart)
 chart-rooted rows n chart h = record {
   as_many_roots = length-map chart (λ s. s.root) ∙ h.len;
   as_many_odds = length-map chart (λ s. s.odd) ∙ h.len;
-  star = λ v l. (let within : v < length chart = omega (arith, l, h.len) in
-      let (is, has) = h.each v l in
-      rw (root-at chart [] v within, odd-at chart [] v within) (elim has [
-        | inl in_rows ↦ inl (subst (λ p. Contains rows (star p (row chart v).root (row chart v).odd)) is in_rows)
-        | inr (none, own) ↦ inr (none, ap (λ s. s.root) own, ap (λ s. s.odd) own)
-      ]));
+  star = λ v l. (let within : v < length chart = omega (arith, l, h.len) in rw (root-at chart [] v within, odd-at chart [] v within) (h.each v l));
 }
 
 -- the colours of the rows, step by step
-pub rows-coloured : (rows : List Star) (n : ℕ) (sides : List (ℕ × ℕ)) (chart c d : List Star) (xs x : List Crossing) (flips f : List Bool) (colours : List Bool) →
-    AreSidesBelow n sides → IsChart rows n chart → AreLow chart → c ≡ chart → IsPermutation (crossings_of c sides) xs → x ≡ xs → length flips ≡ n → AreFlips x flips → d ≡ chart → f ≡ flips → colours ≡ colours_of d f → AreColoursOfRows rows n sides colours
-rows-coloured rows n sides chart c d xs x flips f colours below h low c_is same x_is len settled d_is f_is colours_is = record {
+pub rows-coloured : (rows : List Star) (n : ℕ) (sides : List (ℕ × ℕ)) (chart c b d : List Rooted) (across ks : List Across) (flips f : List Bool) (colours : List Bool) →
+    AreSidesBelow n sides → IsChart rows n chart → AreLow chart → c ≡ chart → IsPermutation (crossings_of c sides) (crossings_at c sides across) → b ≡ chart → ks ≡ across → length flips ≡ n → AreFlips (crossings_at b sides ks) flips → d ≡ chart → f ≡ flips → colours ≡ colours_of d f → AreColoursOfRows rows n sides colours
+rows-coloured rows n sides chart c b d across ks flips f colours below h low c_is same b_is ks_is len settled d_is f_is colours_is = record {
   roots = roots_in chart;
   odds = odds_in chart;
   rooted = chart-rooted rows n chart h;
   coloured =
       (let e : colours ≡ colours_of chart flips = colours_is ∙ (ap (λ r. colours_of r f) d_is ∙ ap (λ g. colours_of chart g) f_is) in
+      let xs : crossings_at b sides ks ≡ crossings_at chart sides across = ap (λ r. crossings_at r sides ks) b_is ∙ ap (λ k. crossings_at chart sides k) ks_is in
       subst (λ cs. AreColours (roots_in chart) (odds_in chart) sides cs) (sym e)
-      (are-colours chart flips xs sides (subst (λ r. IsPermutation (crossings_of r sides) xs) c_is same) (subst (λ k. AreSidesBelow k sides) (sym h.len) below) low (len ∙ sym h.len) (subst (λ ys. AreFlips ys flips) x_is settled)));
+      (are-colours chart flips (crossings_at chart sides across) sides (subst (λ r. IsPermutation (crossings_of r sides) (crossings_at r sides across)) c_is same) (subst (λ k. AreSidesBelow k sides) (sym h.len) below) low (len ∙ sym h.len) (subst (λ ys. AreFlips ys flips) xs settled)));
 }

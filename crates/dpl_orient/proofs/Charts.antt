@@ -4,46 +4,50 @@ use Rattle.std.proofs.lemmas.Bool.{cases_lt, cases_eq}
 use Rattle.std.proofs.lemmas.List.{get_or_append_left, get_or_push, get_or-set_same, get_or-set_other, length-set, length_push, take_more}
 use Rattle.std.proofs.lemmas.List.Elements.{All-push, All-nil, Contains-push, Contains-append_left, All-contains}
 use Rattle.dpl_stars.specs.declared.list.Star.{Star}
-use Rattle.dpl_stars.specs.Stars.{own_row, IsStarList}
-use Rattle.dpl_orient.specs.Chart.{row, IsRowOf, IsChart, AreLow}
+use Rattle.dpl_stars.specs.Stars.{IsStarList}
+use Rattle.dpl_orient.specs.declared.chart.Rooted.{Rooted}
+use Rattle.dpl_orient.specs.Rooted.{HasStar, star}
+use Rattle.dpl_orient.specs.Chart.{own_root, rooted_by, row, IsChart, AreLow}
+
+-- the rows give piece v this root and parity
+abbrev Gives : List Star → ℕ → Rooted → Type 0
+Gives rows v s = HasStar rows v s.root s.odd
 
 pub chart-none : IsChart [] 0 []
 chart-none = record { len = refl; each = λ v l. absurd (omega (arith, l)) }
 
-pub chart-own_more : (n : ℕ) (chart : List Star) → IsChart [] n chart → IsChart [] (n + 1) (chart ++ own_row n ∷ [])
+pub chart-own_more : (n : ℕ) (chart : List Rooted) → IsChart [] n chart → IsChart [] (n + 1) (chart ++ own_root n ∷ [])
 chart-own_more n chart h = record {
-  len = length_push chart (own_row n) ∙ ap (λ k. k + 1) h.len;
+  len = length_push chart (own_root n) ∙ ap (λ k. k + 1) h.len;
   each = λ v l. elim (cases_lt v n) [
-    | inl below ↦ subst (λ s. IsRowOf [] v s) (sym (get_or_append_left chart (own_row n ∷ []) (own_row v) v (omega (arith, below, h.len)))) (h.each v below)
+    | inl below ↦ subst (λ s. Gives [] v s) (sym (get_or_append_left chart (own_root n ∷ []) (own_root v) v (omega (arith, below, h.len)))) (h.each v below)
     | inr above ↦ (let same : n ≡ v = omega (arith, l, above) in
-        subst (λ u. IsRowOf [] u (row (chart ++ own_row n ∷ []) u)) same
-        (subst (λ s. IsRowOf [] n s) (sym (get_or_push chart (own_row n) (own_row n) n h.len)) (refl, inr (All-nil (λ r. r.piece ≢ n), refl))))
+        subst (λ u. Gives [] u (row (chart ++ own_root n ∷ []) u)) same
+        (subst (λ s. Gives [] n s) (sym (get_or_push chart (own_root n) (own_root n) n h.len)) (inr (All-nil (λ r. r.piece ≢ n), refl, refl))))
   ];
 }
 
-pub chart-put : (front : List Star) (n : ℕ) (chart : List Star) (r : Star) → IsChart front n chart → r.piece < n → IsChart (front ++ r ∷ []) n (set chart r.piece r)
+pub chart-put : (front : List Star) (n : ℕ) (chart : List Rooted) (r : Star) → IsChart front n chart → r.piece < n → IsChart (front ++ r ∷ []) n (set chart r.piece (rooted_by r))
 chart-put front n chart r h within = record {
-  len = length-set chart r.piece r ∙ h.len;
+  len = length-set chart r.piece (rooted_by r) ∙ h.len;
   each = λ v l. elim (cases_eq v r.piece) [
-    | inl same ↦ subst (λ u. IsRowOf (front ++ r ∷ []) u (row (set chart r.piece r) u)) (sym same)
-        (subst (λ s. IsRowOf (front ++ r ∷ []) r.piece s) (sym (get_or-set_same chart r.piece r (own_row r.piece) (omega (arith, within, h.len)))) (refl, inl (Contains-push front r)))
-    | inr other ↦ subst (λ s. IsRowOf (front ++ r ∷ []) v s) (sym (get_or-set_other chart r.piece v r (own_row v) other))
-        (elim (h.each v l).1 [
-          | inl in_front ↦ ((h.each v l).0, inl (Contains-append_left front (r ∷ []) _ in_front))
-          | inr (none, own) ↦ ((h.each v l).0, inr (All-push (λ s. s.piece ≢ v) front r none (λ e. other (sym e)), own))
+    | inl same ↦ subst (λ u. Gives (front ++ r ∷ []) u (row (set chart r.piece (rooted_by r)) u)) (sym same)
+        (subst (λ s. Gives (front ++ r ∷ []) r.piece s) (sym (get_or-set_same chart r.piece (rooted_by r) (own_root r.piece) (omega (arith, within, h.len)))) (inl (Contains-push front r)))
+    | inr other ↦ subst (λ s. Gives (front ++ r ∷ []) v s) (sym (get_or-set_other chart r.piece v (rooted_by r) (own_root v) other))
+        (elim (h.each v l) [
+          | inl in_front ↦ inl (Contains-append_left front (r ∷ []) _ in_front)
+          | inr (none, root_is, odd_is) ↦ inr (All-push (λ s. s.piece ≢ v) front r none (λ e. other (sym e)), root_is, odd_is)
         ])
   ];
 }
 
-pub chart-put_more : (rows : List Star) (i n : ℕ) (chart : List Star) (r : Star) → i < length rows → r ≡ get_or rows i r → IsChart (take i rows) n chart → r.piece < n → IsChart (take (i + 1) rows) n (set chart r.piece r)
+pub chart-put_more : (rows : List Star) (i n : ℕ) (chart : List Rooted) (r : Star) → i < length rows → r ≡ get_or rows i r → IsChart (take i rows) n chart → r.piece < n → IsChart (take (i + 1) rows) n (set chart r.piece (rooted_by r))
 chart-put_more rows i n chart r within is h below =
     let e : take (i + 1) rows ≡ take i rows ++ r ∷ [] = take_more rows i r within ∙ ap (λ s. take i rows ++ s ∷ []) (sym is) in
-    subst (λ front. IsChart front n (set chart r.piece r)) (sym e) (chart-put (take i rows) n chart r h below)
+    subst (λ front. IsChart front n (set chart r.piece (rooted_by r))) (sym e) (chart-put (take i rows) n chart r h below)
 
-pub chart-low : (rows : List Star) (n : ℕ) (chart : List Star) → IsStarList rows → IsChart rows n chart → AreLow chart
-chart-low rows n chart ordered h v within =
-    let (is, has) = h.each v (omega (arith, within, h.len)) in
-    elim has [
-      | inl in_rows ↦ (let low = All-contains (λ r. r.root < r.piece + 1) rows (row chart v) (λ k d l. (let m = ordered.low k d l in omega (arith, m))) in_rows in omega (arith, low, is))
-      | inr (none, own) ↦ (let e : (row chart v).root ≡ v = ap (λ s. s.root) own in omega (arith, e))
-    ]
+pub chart-low : (rows : List Star) (n : ℕ) (chart : List Rooted) → IsStarList rows → IsChart rows n chart → AreLow chart
+chart-low rows n chart ordered h v within = elim (h.each v (omega (arith, within, h.len))) [
+  | inl in_rows ↦ All-contains (λ r. r.root < r.piece + 1) rows (star v (row chart v).root (row chart v).odd) (λ k d l. (let m = ordered.low k d l in omega (arith, m))) in_rows
+  | inr (none, root_is, odd_is) ↦ omega (arith, root_is)
+]

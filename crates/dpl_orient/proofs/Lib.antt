@@ -5,3 +5,4 @@ pub mod Turns
 pub mod Across
 pub mod Roots
 pub mod Below
+pub mod Numbers

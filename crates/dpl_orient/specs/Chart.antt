@@ -1,27 +1,31 @@
--- A row for each piece below n, its own one where the summary has none.
-use Rattle.std.specs.Prelude.{◌≡◌, ◌≢◌, ℕ, ◌+◌, ◌<◌, ◌⊎◌, Bool, List, length, slice_index_or, map}
-use Rattle.std.specs.List.{All, Contains}
+-- The root and the parity of each piece below n, by the piece's place.
+use Rattle.std.specs.Prelude.{◌≡◌, ℕ, ◌+◌, ◌<◌, false, Bool, List, length, slice_index_or, map}
 use Rattle.dpl_stars.specs.declared.list.Star.{Star}
-use Rattle.dpl_stars.specs.Stars.{own_row}
+use Rattle.dpl_orient.specs.declared.chart.Rooted.{Rooted}
+use Rattle.dpl_orient.specs.Rooted.{HasStar}
 
--- the row of piece v
-abbrev pub row : List Star → ℕ → Star
-row chart v = slice_index_or chart v (own_row v)
+-- of a piece that no edge touches
+abbrev pub own_root : ℕ → Rooted
+own_root v = record { root = v; odd = false }
 
--- s is the row of piece v, or v has no row and s is its own
-abbrev pub IsRowOf : List Star → ℕ → Star → Type 0
-IsRowOf rows v s = (s.piece ≡ v) × (Contains rows s ⊎ (All (λ r. r.piece ≢ v) rows × (s ≡ own_row v)))
+-- of a row's piece
+abbrev pub rooted_by : Star → Rooted
+rooted_by r = record { root = r.root; odd = r.odd }
 
-pub record IsChart (rows : List Star) (n : ℕ) (chart : List Star) : Type 0 where
+-- of piece v
+abbrev pub row : List Rooted → ℕ → Rooted
+row chart v = slice_index_or chart v (own_root v)
+
+pub record IsChart (rows : List Star) (n : ℕ) (chart : List Rooted) : Type 0 where
   pub len : length chart ≡ n
-  pub each : (v : ℕ) → v < n → IsRowOf rows v (row chart v)
+  pub each : (v : ℕ) → v < n → HasStar rows v (row chart v).root (row chart v).odd
 
-abbrev pub roots_in : List Star → List ℕ
+abbrev pub roots_in : List Rooted → List ℕ
 roots_in = map (λ s. s.root)
 
-abbrev pub odds_in : List Star → List Bool
+abbrev pub odds_in : List Rooted → List Bool
 odds_in = map (λ s. s.odd)
 
 -- roots aren't above their pieces
-abbrev pub AreLow : List Star → Type 0
+abbrev pub AreLow : List Rooted → Type 0
 AreLow chart = (v : ℕ) → v < length chart → (row chart v).root < v + 1

@@ -3,22 +3,42 @@ use Rattle.std.specs.Prelude.{◌≡◌, ℕ, ◌<◌, ◌≤◌, Bool, true, fa
 use Rattle.std.specs.List.{All, flat_map}
 use Rattle.std.specs.List.Sorted.{IsNonDecreasingBy}
 use Rattle.dpl_spec.specs.Colours.{differ}
-use Rattle.dpl_stars.specs.declared.list.Star.{Star}
+use Rattle.dpl_orient.specs.declared.chart.Rooted.{Rooted}
 use Rattle.dpl_orient.specs.Chart.{row}
+use Rattle.dpl_orient.specs.declared.crossing.Across.{Across}
 use Rattle.dpl_orient.specs.declared.crossing.Crossing.{Crossing}
 
 abbrev pub crossing : ℕ → ℕ → Bool → Crossing
 crossing later earlier odd = record { later = later; earlier = earlier; odd = odd }
 
--- between the pieces of two rows, where their roots differ
-abbrev pub crossings_between : Star → Star → List Crossing
-crossings_between s t =
-    if nat_lt t.root s.root then crossing s.root t.root (differ s.odd t.odd) ∷ []
-    else (if nat_lt s.root t.root then crossing t.root s.root (differ t.odd s.odd) ∷ [] else [])
+-- between two pieces, the one with the higher root later
+abbrev pub crossing_between : Rooted → Rooted → Crossing
+crossing_between s t =
+    if nat_lt t.root s.root then crossing s.root t.root (differ s.odd t.odd) else crossing t.root s.root (differ t.odd s.odd)
+
+-- of a zone with these sides
+abbrev pub crossing_of : List Rooted → ℕ × ℕ → Crossing
+crossing_of chart side = crossing_between (row chart side.0) (row chart side.1)
+
+-- whether its sides are in two components
+abbrev pub is_across : List Rooted → ℕ × ℕ → Bool
+is_across chart side = not ((row chart side.0).root == (row chart side.1).root)
 
 -- of the zones with these sides
-abbrev pub crossings_of : List Star → List (ℕ × ℕ) → List Crossing
-crossings_of chart sides = flat_map (λ side. crossings_between (row chart side.0) (row chart side.1)) sides
+abbrev pub crossings_of : List Rooted → List (ℕ × ℕ) → List Crossing
+crossings_of chart sides = flat_map (λ side. if is_across chart side then crossing_of chart side ∷ [] else []) sides
+
+-- of the zone with this number, past the last zone that of piece 0 with itself
+abbrev pub crossing_at : List Rooted → List (ℕ × ℕ) → ℕ → Crossing
+crossing_at chart sides number = crossing_of chart (slice_index_or sides number (0, 0))
+
+-- of these zones
+abbrev pub crossings_at : List Rooted → List (ℕ × ℕ) → List Across → List Crossing
+crossings_at chart sides across = map (λ a. crossing_at chart sides a.zone) across
+
+-- with the later component of each
+abbrev pub HaveLater : List Rooted → List (ℕ × ℕ) → List Across → Type 0
+HaveLater chart sides across = All (λ a. a.later ≡ (crossing_at chart sides a.zone).later) across
 
 abbrev pub GoUp : List Crossing → Type 0
 GoUp crossings = All (λ c. c.earlier < c.later) crossings
@@ -47,5 +67,5 @@ abbrev pub AreFlips : List Crossing → List Bool → Type 0
 AreFlips crossings flips = (root : ℕ) → root < length flips → slice_index_or flips root false ≡ is_turned flips root crossings
 
 -- each piece's letter
-abbrev pub colours_of : List Star → List Bool → List Bool
+abbrev pub colours_of : List Rooted → List Bool → List Bool
 colours_of chart flips = map (λ s. differ s.odd (slice_index_or flips s.root false)) chart

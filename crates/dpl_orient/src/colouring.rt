@@ -6,7 +6,7 @@ ghost use Rattle.dpl_orient.specs.Crossings.{colours_of};
 ghost use Rattle.dpl_orient.specs.Oriented.{AreColoursOfRows, IsEvenBelow, AreColoursOf, ColoursWhatSums};
 ghost use Rattle.dpl_orient.specs.Rooted.{ArePiecesBelow, AreSidesBelow};
 
-use crate::chart::chart;
+use crate::chart::{Rooted, chart};
 use crate::crossing::{crossings, differs};
 use crate::mask::{Colours, Mask};
 use crate::turning::flips;
@@ -15,14 +15,14 @@ use dpl_stars::{Joined, Star};
 use std::alloc::{AllocError, Global};
 
 /// The masks of the pieces, where `flips` says which components are flipped.
-fn masks(alloc: Global, chart: &[Star], flips: &[bool]) -> Result<Colours, AllocError>
+fn masks(alloc: Global, chart: &[Rooted], flips: &[bool]) -> Result<Colours, AllocError>
     requires low { AreLow chart.now }
     requires len { length flips.now ≡ length chart.now }
     ensures { IfOk result (λ colours. colours ≡ colours_of chart.now flips.now) }
 {
-    let mut masks = Vec::new(alloc);
-    for star in chart {
-        masks.push(Mask::of(differs(star.odd, flips[star.root as usize])))?;
+    let mut masks = Vec::with_capacity(alloc, chart.len())?;
+    for rooted in chart {
+        masks.push(Mask::of(differs(rooted.odd, flips[rooted.root as usize])))?;
     }
     Ok(Colours::of(masks))
 }
@@ -40,8 +40,8 @@ fn orient_rows(
     ensures { IfOk result (λ colours. AreColoursOfRows rows.now n sides.now colours) }
 {
     let chart = chart(alloc, n, rows)?;
-    let crossings = crossings(alloc, &chart, sides)?;
-    let flips = flips(alloc, n, &crossings)?;
+    let across = crossings(alloc, &chart, sides)?;
+    let flips = flips(alloc, n, &chart, sides, &across)?;
     let colours = masks(alloc, &chart, &flips)?;
     Ok(colours)
 }

@@ -1,12 +1,11 @@
 //! Stitch zones between two components.
-ghost use Rattle.std.specs.Prelude.{◌≡◌, ◌<◌, ◌+◌, [], ◌∷◌, ◌++◌, length, IfOk, OnOk, option_to_list};
-ghost use Rattle.std.specs.List.Sorted.{IsPermutation};
+ghost use Rattle.std.specs.Prelude.{◌≡◌, ◌<◌, ◌+◌, [], ◌∷◌, ◌++◌, length, IfOk};
+ghost use Rattle.std.specs.List.Sorted.{IsPermutation, IsNonDecreasingBy};
 ghost use Rattle.dpl_spec.specs.Colours.{differ};
-ghost use Rattle.dpl_orient.specs.Rooted.{AreSidesBelow};
-ghost use Rattle.dpl_orient.specs.Crossings.{crossings_between, crossings_of, AreGrouped, GoUp};
+ghost use Rattle.dpl_orient.specs.Crossings.{crossing_between, crossing_at, is_across, crossings_at, HaveLater, crossings_of, AreGrouped, GoUp};
 
+use crate::chart::{Rooted, row};
 use dpl_base::Id;
-use dpl_stars::Star;
 use std::alloc::{AllocError, Global};
 
 /// A stitch zone with its sides in two components, each named by its least piece.
@@ -18,6 +17,13 @@ pub struct Crossing {
     pub odd: bool,
 }
 
+/// The number of a zone that is a crossing, with the crossing's later component, by which they are sorted.
+#[derive(Clone, Copy, Debug, Drop)]
+pub struct Across {
+    pub later: Id,
+    pub zone: usize,
+}
+
 /// Whether two letters differ.
 pub fn differs(a: bool, b: bool) -> bool
     ensures { result ≡ differ a b }
@@ -25,62 +31,90 @@ pub fn differs(a: bool, b: bool) -> bool
     a != b
 }
 
-/// The crossing of a zone between the pieces of two rows.
-fn between(s: Star, t: Star) -> Option<Crossing>
-    ensures { option_to_list result ≡ crossings_between s t }
+/// The crossing of a zone between two pieces, where their roots differ.
+fn between(s: Rooted, t: Rooted) -> Crossing
+    ensures { result ≡ crossing_between s t }
 {
     if t.root < s.root {
-        Some(Crossing {
+        Crossing {
             later: s.root,
             earlier: t.root,
             odd: differs(s.odd, t.odd),
-        })
-    } else if s.root < t.root {
-        Some(Crossing {
+        }
+    } else {
+        Crossing {
             later: t.root,
             earlier: s.root,
             odd: differs(t.odd, s.odd),
-        })
-    } else {
-        None
-    }
-}
-
-/// The crossings of zones with these sides.
-fn listed(alloc: Global, chart: &[Star], sides: &[(Id, Id)]) -> Result<Vec<Crossing>, AllocError>
-    requires { AreSidesBelow (length chart.now) sides.now }
-    ensures { IfOk result (λ v. v.items ≡ crossings_of chart.now sides.now) }
-{
-    let mut crossings = Vec::new(alloc);
-    for side in sides {
-        if let Some(crossing) = between(chart[side.0 as usize], chart[side.1 as usize]) {
-            crossings.push(crossing)?;
         }
     }
-    Ok(crossings)
 }
 
-/// Puts the crossings in order of their later component.
-fn group(crossings: &mut Vec<Crossing>) -> Result<(), AllocError>
-    ensures same { IsPermutation crossings.old.items crossings.new.items }
-    ensures grouped { OnOk result (AreGrouped crossings.new.items) }
+/// The crossing of the zone with this number, made from what the chart says of its sides. Past the last zone it is that
+/// of piece 0 with itself.
+pub fn crossing_at(chart: &[Rooted], sides: &[(Id, Id)], number: usize) -> Crossing
+    ensures { result ≡ crossing_at chart.now sides.now number }
 {
-    crossings.sort_by_key(|c| c.later)?;
-    Ok(())
+    match sides.get(number) {
+        Some(side) => between(row(chart, side.0), row(chart, side.1)),
+        None => between(row(chart, 0), row(chart, 0)),
+    }
 }
 
-/// The crossings of zones with these sides, in order of their later component.
+/// Whether the sides of a zone lie in two components.
+fn is_across(chart: &[Rooted], side: (Id, Id)) -> bool
+    ensures { result ≡ is_across chart.now side }
+{
+    row(chart, side.0).root != row(chart, side.1).root
+}
+
+/// How many of the zones with these sides are crossings.
+fn crossing_count(chart: &[Rooted], sides: &[(Id, Id)]) -> usize
+    ensures { result ≡ length (crossings_of chart.now sides.now) }
+{
+    let mut count = 0usize;
+    for side in sides {
+        if is_across(chart, *side) {
+            count += 1;
+        }
+    }
+    count
+}
+
+/// The crossings among zones with these sides.
+fn listed(alloc: Global, chart: &[Rooted], sides: &[(Id, Id)]) -> Result<Vec<Across>, AllocError>
+    ensures later { IfOk result (λ v. HaveLater chart.now sides.now v.items) }
+    ensures crossings { IfOk result (λ v. crossings_at chart.now sides.now v.items ≡ crossings_of chart.now sides.now) }
+{
+    let mut across = Vec::with_capacity(alloc, crossing_count(chart, sides))?;
+    for zone in 0..sides.len() {
+        if is_across(chart, sides[zone]) {
+            let later = crossing_at(chart, sides, zone).later;
+            across.push(Across { later, zone })?;
+        }
+    }
+    Ok(across)
+}
+
+/// Puts crossings in order of the later component.
+fn group(across: &mut Vec<Across>)
+    ensures same { IsPermutation across.old.items across.new.items }
+    ensures grouped { IsNonDecreasingBy (λ a. a.later) across.new.items }
+{
+    across.sort_unstable_by_key(|a| a.later);
+}
+
+/// The crossings among zones with these sides, in order of the later component.
 pub fn crossings(
     alloc: Global,
-    chart: &[Star],
+    chart: &[Rooted],
     sides: &[(Id, Id)],
-) -> Result<Vec<Crossing>, AllocError>
-    requires { AreSidesBelow (length chart.now) sides.now }
-    ensures same { IfOk result (λ v. IsPermutation (crossings_of chart.now sides.now) v.items) }
-    ensures grouped { IfOk result (λ v. AreGrouped v.items) }
-    ensures up { IfOk result (λ v. GoUp v.items) }
+) -> Result<Vec<Across>, AllocError>
+    ensures same { IfOk result (λ v. IsPermutation (crossings_of chart.now sides.now) (crossings_at chart.now sides.now v.items)) }
+    ensures grouped { IfOk result (λ v. AreGrouped (crossings_at chart.now sides.now v.items)) }
+    ensures up { IfOk result (λ v. GoUp (crossings_at chart.now sides.now v.items)) }
 {
-    let mut crossings = listed(alloc, chart, sides)?;
-    group(&mut crossings)?;
-    Ok(crossings)
+    let mut across = listed(alloc, chart, sides)?;
+    group(&mut across);
+    Ok(across)
 }

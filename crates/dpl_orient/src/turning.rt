@@ -1,8 +1,9 @@
 //! Which components are flipped.
 ghost use Rattle.std.specs.Prelude.{◌≡◌, ◌<◌, ◌≤◌, ◌+◌, length, IfOk};
-ghost use Rattle.dpl_orient.specs.Crossings.{AreGrouped, GoUp, IsSplit, AreFlips, is_turned};
+ghost use Rattle.dpl_orient.specs.Crossings.{crossings_at, AreGrouped, GoUp, IsSplit, AreFlips, is_turned};
 
-use crate::crossing::{Crossing, differs};
+use crate::chart::Rooted;
+use crate::crossing::{Across, crossing_at, differs};
 use dpl_base::Id;
 use std::alloc::{AllocError, Global};
 
@@ -15,18 +16,25 @@ struct Settled {
 }
 
 /// Whether the component of `root` is flipped. Its crossings begin at `start`.
-fn settle(crossings: &[Crossing], start: usize, root: Id, flips: &[bool]) -> Settled
-    requires grouped { AreGrouped crossings.now }
-    requires up { GoUp crossings.now }
-    requires split { IsSplit crossings.now root start }
+fn settle(
+    chart: &[Rooted],
+    sides: &[(Id, Id)],
+    across: &[Across],
+    start: usize,
+    root: Id,
+    flips: &[bool],
+) -> Settled
+    requires grouped { AreGrouped (crossings_at chart.now sides.now across.now) }
+    requires up { GoUp (crossings_at chart.now sides.now across.now) }
+    requires split { IsSplit (crossings_at chart.now sides.now across.now) root start }
     requires earlier { root ≡ length flips.now }
-    ensures split { IsSplit crossings.now (root + 1) result.next }
-    ensures flip { result.flip ≡ is_turned flips.now root crossings.now }
+    ensures split { IsSplit (crossings_at chart.now sides.now across.now) (root + 1) result.next }
+    ensures flip { result.flip ≡ is_turned flips.now root (crossings_at chart.now sides.now across.now) }
 {
     let mut agreeing = 0usize;
     let mut differing = 0usize;
-    for next in start..crossings.len() {
-        let crossing = crossings[next];
+    for next in start..across.len() {
+        let crossing = crossing_at(chart, sides, across[next].zone);
         if crossing.later != root {
             let flip = agreeing < differing;
             return Settled { next, flip };
@@ -39,22 +47,28 @@ fn settle(crossings: &[Crossing], start: usize, root: Id, flips: &[bool]) -> Set
     }
     let flip = agreeing < differing;
     Settled {
-        next: crossings.len(),
+        next: across.len(),
         flip,
     }
 }
 
-/// For each number below `n` whether the component of that root is flipped.
-pub fn flips(alloc: Global, n: Id, crossings: &[Crossing]) -> Result<Vec<bool>, AllocError>
-    requires grouped { AreGrouped crossings.now }
-    requires up { GoUp crossings.now }
+/// For each number below `n` whether the component of that root is flipped, by these crossings.
+pub fn flips(
+    alloc: Global,
+    n: Id,
+    chart: &[Rooted],
+    sides: &[(Id, Id)],
+    across: &[Across],
+) -> Result<Vec<bool>, AllocError>
+    requires grouped { AreGrouped (crossings_at chart.now sides.now across.now) }
+    requires up { GoUp (crossings_at chart.now sides.now across.now) }
     ensures len { IfOk result (λ v. length v.items ≡ n) }
-    ensures flips { IfOk result (λ v. AreFlips crossings.now v.items) }
+    ensures flips { IfOk result (λ v. AreFlips (crossings_at chart.now sides.now across.now) v.items) }
 {
-    let mut flips = Vec::new(alloc);
+    let mut flips = Vec::with_capacity(alloc, n as usize)?;
     let mut next = 0;
     for root in 0..n {
-        let settled = settle(crossings, next, root, &flips);
+        let settled = settle(chart, sides, across, next, root, &flips);
         flips.push(settled.flip)?;
         next = settled.next;
     }

@@ -21,7 +21,7 @@ use Rattle.dpl_piece.specs.declared.corner.Kind.TheVariants.{LowerLeft, LowerRig
 use Rattle.dpl_piece.specs.declared.piece.Origin.{Origin}
 use Rattle.dpl_piece.specs.Corners.{corner_at, corner_of, row_cmp, IsFirstCorner, IsBroken, IsAnswer, RiseByCorner}
 
-rows_total : IsTotalOrder row_cmp
+pub rows_total : IsTotalOrder row_cmp
 rows_total = then_total (on_total (λ t. t.0) int_cmp_total) (on_total (λ t. t.1) int_cmp_total)
 
 -- a corner that the order doesn't tell from a point is at the point
@@ -62,7 +62,7 @@ map-Contains f (s ∷ rs) r h = elim (Contains-cases s r rs h) [
 abbrev pub IsFirstBroken : Kind → List (List Rect) → List Origin → ℕ → Corner → Type 0
 IsFirstBroken kind parts origins n c = IsFirstCorner kind parts n c × IsBroken origins c.part
 
-corner-part : (kind : Kind) (k : ℕ) (r : Rect) → (corner_of kind k r).part ≡ k
+pub corner-part : (kind : Kind) (k : ℕ) (r : Rect) → (corner_of kind k r).part ≡ k
 corner-part LowerLeft k r = refl
 corner-part LowerRight k r = refl
 corner-part UpperLeft k r = refl
@@ -116,11 +116,6 @@ corners-sorted kind parts origins old new same h c = (
   λ g. (h c).0 (Contains-permutation new old c (IsPermutation-sym old new same) g),
   λ g. Contains-permutation old new c same ((h c).1 g),
 )
-
--- answers to two questions that the same numbers answer
-pub answer-same : (P Q : ℕ → Type 0) → ((k : ℕ) → P k ↔ Q k) → (known : Option ℕ) → IsAnswer P known → IsAnswer Q known
-answer-same P Q same None none = λ k q. none k ((same k).1 q)
-answer-same P Q same (Some k) p = (same k).0 p
 
 -- where no number has the first of two properties, and some number has either, some has the second
 pub some-other : (P Q : ℕ → Type 0) (known : Option ℕ) → IsAnswer P known → (k : ℕ) × (P k ⊎ Q k) → IfNone known ((k : ℕ) × Q k)

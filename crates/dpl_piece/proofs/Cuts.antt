@@ -1,26 +1,31 @@
 -- What the cut of features at their zones gives.
-use Rattle.std.proofs.Common.{◌≡◌, ◌≢◌, ℕ, ◌<◌, List, [], ◌∷◌, length, get_or, map, sym, ◌∙◌, subst}
+use Rattle.std.proofs.Common.{◌≡◌, ◌≢◌, ℕ, ◌<◌, List, [], ◌∷◌, length, get_or, map, refl, sym, ap, ◌∙◌, subst, inl, inr}
+use Rattle.std.specs.Prelude.{ℤ}
 use Rattle.std.specs.List.{All, AllZip}
 use Rattle.std.proofs.lemmas.List.{get_or_default, get_or-map, length-map}
 use Rattle.std.proofs.lemmas.List.Elements.{All-contains, All-head, All-tail}
-use Rattle.dpl_spec.specs.declared.Pt.{Pt}
 use Rattle.dpl_spec.specs.declared.Rect.{Rect}
 use Rattle.dpl_spec.specs.declared.Zone.{Zone}
 use Rattle.dpl_spec.specs.Squares.{Region, Covers, IsLeast, IsSolidWithin}
 use Rattle.dpl_spec.specs.Loops.{farthest, IsRectWithin, AreRectsWithin}
+use Rattle.dpl_spec.specs.Slabs.{IsCanonical}
 use Rattle.dpl_spec.specs.Components.{here, AreComponents}
-use Rattle.dpl_spec.specs.Pieces.{without, AreSides, IsOwner}
+use Rattle.dpl_spec.specs.Pieces.{without, IsOwner}
 use Rattle.dpl_spec.proofs.Ordered.{Contains-nil}
 use Rattle.dpl_spec.proofs.SquareLaws.{SameSquares-sym}
-use Rattle.dpl_spec.proofs.SlabLaws.{member-Covers}
+use Rattle.dpl_spec.proofs.SlabLaws.{member-Covers, IsLeast-first}
 use Rattle.dpl_slabs.specs.Parts.{union_of}
-use Rattle.dpl_piece.specs.Cutting.{cut_pieces, AreMatched, AreFeatures, AreTheirZones, AreTheirPieces}
+use Rattle.dpl_piece.specs.Cutting.{cut_pieces, first_square, keys_in, AreMatched, BareCut, bare_cut, AreBare, AreBarePieces, AreFeatures, AreTheirZones, AreTheirPieces}
+use Rattle.dpl_piece.specs.declared.corner.Corner.{Corner}
+use Rattle.dpl_piece.specs.declared.corner.Kind.{Kind}
+use Rattle.dpl_piece.specs.declared.corner.Kind.TheVariants.{LowerLeft, LowerRight, UpperLeft}
+use Rattle.dpl_piece.specs.declared.piece.Origin.{Origin}
 use Rattle.dpl_piece.specs.declared.piece.Origin.TheVariants.{Whole, Broken}
 use Rattle.dpl_piece.specs.declared.piece.Piece.{Piece}
-use Rattle.dpl_piece.specs.Corners.{StandBeside, StandBroken}
+use Rattle.dpl_piece.specs.Corners.{corner_at, IsCornerOf, StandBeside, StandBroken}
 use Rattle.dpl_piece.specs.Pieces.{parts_in, owners_in, origins_in, whole_piece, AreCut, no_zone}
 use Rattle.dpl_piece.proofs.Broken.{AreHolesOf}
-use Rattle.dpl_piece.proofs.CornerLaws.{zip-length, zip-at}
+use Rattle.dpl_piece.proofs.CornerLaws.{corner-part, zip-length, zip-at}
 use Rattle.dpl_piece.proofs.Regions.{components-same, without-same}
 use Rattle.dpl_piece.proofs.Stands.{zone-within}
 use Rattle.dpl_piece.proofs.Sides.{stand-broken, sided}
@@ -32,6 +37,18 @@ some-square a parts c k d k_in empty =
     let covered : Covers (get_or parts k d) whole.0 = (whole.2 whole.0).1 (here whole.1) in
     let found = member-Covers [] whole.0 (subst (λ s. Covers s whole.0) empty covered) in
     Contains-nil found.0 found.1
+
+-- the corner of the first slab is the least square
+first-least : (part : List Rect) → IsCanonical part → part ≢ [] → IsLeast (Covers part) (first_square part)
+first-least [] c some = absurd (some refl)
+first-least (r ∷ rs) c some = IsLeast-first r rs c
+
+all-keyed : (parts : List (List Rect)) → All IsCanonical parts → All (λ part. part ≢ []) parts → AllZip (λ piece key. IsLeast (Covers piece) key) parts (keys_in parts)
+all-keyed [] c some = tt
+all-keyed (part ∷ parts) c some = (
+  first-least part (All-head IsCanonical part parts c) (All-head (λ p. p ≢ []) part parts some),
+  all-keyed parts (All-tail IsCanonical part parts c) (All-tail (λ p. p ≢ []) part parts some),
+)
 
 -- a relation of two fields of each piece
 zip-of : {A B : Type 0} (R : A → B → Type 0) (f : Piece → A) (g : Piece → B) (xs : List Piece) → All (λ x. R (f x) (g x)) xs → AllZip R (map f xs) (map g xs)
@@ -82,37 +99,65 @@ module _ (features : List (List Rect)) (zones : List Zone) (given : AreFeatures 
         let (rule, overlap, some, zs) = theirs in
         stand-broken rule overlap (union_of features) features (parts_in pieces) zones some comps zs cut.components (origins_in pieces) origins-each whole-feature (get_or zones k z) (k, k_in, get_or_default zones k (get_or zones k z) z k_in)
 
-    module _ (sides : List (ℕ × ℕ)) (stand_so : AllZip (StandBeside (parts_in pieces)) zones sides) where
-      all-sided : AllZip (AreSides features (parts_in pieces)) zones sides
-      all-sided =
-          let (rule, overlap, some, zs) = theirs in
-          sided rule overlap (union_of features) features (parts_in pieces) zones some comps zs cut.components sides stand_so
+    pub owners-each : length (owners_in pieces) ≡ length (parts_in pieces)
+    owners-each = length-map pieces (λ x. x.owner) ∙ sym (length-map pieces (λ x. x.part))
 
-      sides-each : length zones ≡ length sides
-      sides-each = zip-length (StandBeside (parts_in pieces)) zones sides stand_so
+    pub bare : All (AreRectsWithin farthest) features → AreBare (bare_cut (parts_in pieces) (owners_in pieces) zones) (origins_in pieces)
+    bare within =
+        record {
+          parts = cut.apart;
+          some = pieces-some;
+          owners = owners-each;
+          origins = origins-each;
+          rise = theirs.3.ordered;
+          stand = stands;
+          zones = zones-within within;
+        }
 
-      sides-known : All (λ side. (side.0 < length (parts_in pieces)) × (side.1 < length (parts_in pieces))) sides
-      sides-known k d k_in =
-          let s : AreSides features (parts_in pieces) (get_or zones k no_zone) (get_or sides k d) = zip-at (AreSides features (parts_in pieces)) zones sides k no_zone d all-sided (subst (λ n. k < n) (sym sides-each) k_in) in
-          s.known
+    their-pieces : (sides : List (ℕ × ℕ)) → AllZip (StandBeside (parts_in pieces)) zones sides → AreTheirPieces features zones (cut_pieces (parts_in pieces) (owners_in pieces) (keys_in (parts_in pieces)) zones sides)
+    their-pieces sides stand_so layer c =
+        let (rule, overlap, some, zs) = theirs in
+        record {
+          components = components-same left (without (Covers layer) zones) (parts_in pieces) (without-same (union_of features) (Covers layer) zones c.together) cut.components;
+          owned = all-owned;
+          keyed = all-keyed (parts_in pieces) cut.apart.canonical pieces-some;
+          sided = sided rule overlap (union_of features) features (parts_in pieces) zones some comps zs cut.components sides stand_so;
+        }
 
-      module _ (keys : List Pt) (keyed : AllZip (λ piece key. IsLeast (Covers piece) key) (parts_in pieces) keys) where
-        pub their-pieces : AreTheirPieces features zones (cut_pieces (parts_in pieces) (owners_in pieces) keys zones sides)
-        their-pieces layer c =
-            record {
-              components = components-same left (without (Covers layer) zones) (parts_in pieces) (without-same (union_of features) (Covers layer) zones c.together) cut.components;
-              owned = all-owned;
-              keyed = keyed;
-              sided = all-sided;
-            }
+    pub bare-pieces : AreBarePieces features zones (bare_cut (parts_in pieces) (owners_in pieces) zones)
+    bare-pieces c done =
+        let stand_so : AllZip (StandBeside (parts_in pieces)) zones c.sides = rw (done.parts, done.zones) at done.sides in
+        let keys : c.keys ≡ keys_in (parts_in pieces) = rw done.parts at done.keys in
+        rw (done.parts, done.owners, keys) (their-pieces c.sides stand_so)
 
-        pub matched : All (AreRectsWithin farthest) features → AreMatched (cut_pieces (parts_in pieces) (owners_in pieces) keys zones sides)
-        matched within =
-            record {
-              parts = cut.apart;
-              owners = length-map pieces (λ x. x.owner) ∙ sym (length-map pieces (λ x. x.part));
-              keys = sym (zip-length (λ piece key. IsLeast (Covers piece) key) (parts_in pieces) keys keyed);
-              sides = sym sides-each;
-              known = sides-known;
-              zones = zones-within within;
-            }
+-- a part with a corner is one of the parts
+corner-known : (kind : Kind) (parts : List (List Rect)) (x y : ℤ) (k : ℕ) → IsCornerOf kind parts (corner_at x y k) → k < length parts
+corner-known kind parts x y k (i, r, i_in, r_in, is) =
+    let same : i ≡ k = sym (corner-part kind i r) ∙ ap (λ t. let u : Corner = t in u.part) is in
+    subst (λ n. n < length parts) same i_in
+
+beside-known : (parts : List (List Rect)) (z : Zone) (side : ℕ × ℕ) → StandBeside parts z side → (side.0 < length parts) × (side.1 < length parts)
+beside-known parts z side (one, two) = (
+  elim one [
+    | inl h ↦ corner-known LowerRight parts z.rect.x0 z.rect.y0 side.0 h
+    | inr h ↦ corner-known UpperLeft parts z.rect.x0 z.rect.y0 side.0 h
+  ],
+  elim two [
+    | inl h ↦ corner-known LowerLeft parts z.rect.x1 z.rect.y0 side.1 h
+    | inr h ↦ corner-known LowerLeft parts z.rect.x0 z.rect.y1 side.1 h
+  ],
+)
+
+-- with the pieces beside each zone they are complete
+pub matched : (b : BareCut) (kinds : List Origin) (sides : List (ℕ × ℕ)) → AreBare b kinds → AllZip (StandBeside b.parts) b.zones sides → AreMatched (cut_pieces b.parts b.owners (keys_in b.parts) b.zones sides)
+matched b kinds sides h stand_so =
+    let each : length b.zones ≡ length sides = zip-length (StandBeside b.parts) b.zones sides stand_so in
+    record {
+      parts = h.parts;
+      owners = h.owners;
+      keys = refl;
+      sides = sym each;
+      known = λ k d k_in. beside-known b.parts (get_or b.zones k no_zone) (get_or sides k d)
+          (zip-at (StandBeside b.parts) b.zones sides k no_zone d stand_so (subst (λ n. k < n) (sym each) k_in));
+      zones = h.zones;
+    }

@@ -1,5 +1,6 @@
 pub mod Taken
 pub mod CornerLaws
+pub mod Noting
 pub mod Beside
 pub mod Stands
 pub mod Regions

@@ -1,11 +1,12 @@
 -- Corners of slabs, and the slabs on the two sides of a zone.
-use Rattle.std.specs.Prelude.{◌≡◌, ℕ, ◌<◌, ◌⊎◌, ℤ, List, [], length, slice_index_or, Option, MatchOption}
+use Rattle.std.specs.Prelude.{◌≡◌, ℕ, ◌<◌, ◌⊎◌, ◌↔◌, ℤ, List, [], length, slice_index_or, Option, MatchOption}
 use Rattle.std.specs.Ordering.{int_cmp, ordering_then}
 use Rattle.std.specs.declared.cmp.Ordering.{Ordering}
 use Rattle.std.specs.List.Sorted.{IsSortedByKey}
-use Rattle.std.specs.List.{Contains}
+use Rattle.std.specs.List.{AllPairs, Contains, HoldsAt}
 use Rattle.dpl_spec.specs.declared.Rect.{Rect}
 use Rattle.dpl_spec.specs.declared.Zone.{Zone}
+use Rattle.dpl_spec.specs.Slabs.{Before}
 use Rattle.dpl_piece.specs.declared.corner.Corner.{Corner}
 use Rattle.dpl_piece.specs.declared.corner.Kind.{Kind}
 use Rattle.dpl_piece.specs.declared.corner.Kind.TheVariants.{LowerLeft, LowerRight, UpperLeft}
@@ -58,6 +59,25 @@ IsBroken origins k = (k < length origins) × (slice_index_or origins k Broken �
 abbrev pub StandBroken : List (List Rect) → List Origin → Zone → ℕ × ℕ → Type 0
 StandBroken parts origins z side = StandBeside parts z side × IsBroken origins side.0 × IsBroken origins side.1
 
--- a slab of a broken part of number k has such a corner at the point
-abbrev pub HasCornerAt : Kind → List (List Rect) → List Origin → ℤ → ℤ → ℕ → Type 0
-HasCornerAt kind parts origins x y k = IsCornerOf kind parts (corner_at x y k) × IsBroken origins k
+-- zones go by row, and then by column, of their lower left corners
+abbrev pub RiseByRow : List Zone → Type 0
+RiseByRow zones = AllPairs (λ a b. Before a.rect b.rect) zones
+
+-- the lower left corner of zone number i is at the point
+abbrev pub BeginsAt : List Zone → ℤ → ℤ → ℕ → Type 0
+BeginsAt zones x y i = (i < length zones) × HoldsAt (λ z. (z.rect.x0 ≡ x) × (z.rect.y0 ≡ y)) zones i
+
+-- the number noted for the zone is now the part of one of the corners that is where the zone begins, or stays where there is none
+abbrev pub IsNoted : List Corner → Zone → ℕ → ℕ → Type 0
+IsNoted cs z old new = Contains cs (corner_at z.rect.x0 z.rect.y0 new) ⊎ (((k : ℕ) → ¬ Contains cs (corner_at z.rect.x0 z.rect.y0 k)) × (new ≡ old))
+
+-- the same of each zone
+pub record AreNoted (cs : List Corner) (zones : List Zone) (old new : List ℕ) : Type 0 where
+  pub each : length new ≡ length zones
+  pub noted : (i : ℕ) (z : Zone) (n : ℕ) → i < length zones → IsNoted cs (slice_index_or zones i z) (slice_index_or old i n) (slice_index_or new i n)
+
+-- such corners of slabs of the broken parts were noted
+pub record AreAllNoted (kind : Kind) (parts : List (List Rect)) (origins : List Origin) (zones : List Zone) (old new : List ℕ) : Type 0 where
+  pub corners : List Corner
+  pub members : (c : Corner) → Contains corners c ↔ (IsCornerOf kind parts c × IsBroken origins c.part)
+  pub noted : AreNoted corners zones old new

@@ -3,6 +3,7 @@ ghost use Rattle.std.specs.Prelude.{◌≡◌, ◌++◌, ◌↔◌, map, length,
 ghost use Rattle.std.specs.List.{Contains};
 ghost use Rattle.std.specs.List.Sorted.{IsPermutation};
 ghost use Rattle.dpl_piece.specs.declared.corner.Corner.{Corner};
+ghost use Rattle.dpl_piece.specs.declared.corner.Kind.TheVariants.{LowerLeft};
 ghost use Rattle.dpl_piece.specs.Corners.{corner_at, corner_of, IsAnswer, IsCornerOf, IsBroken, RiseByCorner};
 
 use crate::piece::Origin;
@@ -13,8 +14,8 @@ use std::alloc::{AllocError, Global};
 /// A corner of a slab of a part.
 #[derive(Clone, Copy, Debug, Drop)]
 pub struct Corner {
-    pub x: i64,
-    pub y: i64,
+    pub x: i32,
+    pub y: i32,
     pub part: Id,
 }
 
@@ -27,7 +28,7 @@ pub enum Kind {
 }
 
 /// The corner of a slab.
-fn slab_corner(r: &Rect, part: Id, kind: Kind) -> Corner
+pub fn slab_corner(r: &Rect, part: Id, kind: Kind) -> Corner
     ensures { result ≡ corner_of kind part r.now }
 {
     match kind {
@@ -49,17 +50,12 @@ fn slab_corner(r: &Rect, part: Id, kind: Kind) -> Corner
     }
 }
 
-/// Adds the corners of a part's slabs.
-fn add_corners(
-    found: &mut Vec<Corner>,
-    rects: &[Rect],
-    part: Id,
-    kind: Kind,
-) -> Result<(), AllocError>
-    ensures { OnOk result (found.new.items ≡ found.old.items ++ map (corner_of kind part) rects.now) }
+/// Adds the lower left corners of a part's slabs.
+fn add_corners(found: &mut Vec<Corner>, rects: &[Rect], part: Id) -> Result<(), AllocError>
+    ensures { OnOk result (found.new.items ≡ found.old.items ++ map (corner_of LowerLeft part) rects.now) }
 {
     for r in rects {
-        found.push(slab_corner(r, part, kind))?;
+        found.push(slab_corner(r, part, Kind::LowerLeft))?;
     }
     Ok(())
 }
@@ -83,30 +79,29 @@ fn slab_count(parts: &[Slabs], origins: &[Origin]) -> usize {
     count
 }
 
-/// The corners of the slabs of the parts that are broken, by row and then by column.
+/// The lower left corners of the slabs of the parts that are broken, by row and then by column.
 pub fn corners(
     alloc: Global,
     parts: &[Slabs],
     origins: &[Origin],
-    kind: Kind,
 ) -> Result<Vec<Corner>, AllocError>
     requires { length origins.now ≡ length parts.now }
     ensures rise { IfOk result (λ v. RiseByCorner v.items) }
-    ensures members { IfOk result (λ v. (c : Corner) → Contains v.items c ↔ (IsCornerOf kind parts.now c × IsBroken origins.now c.part)) }
+    ensures members { IfOk result (λ v. (c : Corner) → Contains v.items c ↔ (IsCornerOf LowerLeft parts.now c × IsBroken origins.now c.part)) }
 {
     let mut found = Vec::with_capacity(alloc, slab_count(parts, origins))?;
     for k in 0..parts.len() {
         let Origin::Broken = origins[k] else {
             continue;
         };
-        add_corners(&mut found, parts[k].rects(), k as Id, kind)?;
+        add_corners(&mut found, parts[k].rects(), k as Id)?;
     }
     sort_by_corner(&mut found);
     Ok(found)
 }
 
 /// The part of some corner at the point.
-pub fn find(corners: &[Corner], x: i64, y: i64) -> Option<Id>
+pub fn find(corners: &[Corner], x: i32, y: i32) -> Option<Id>
     requires { RiseByCorner corners.now }
     ensures { IsAnswer (λ k. Contains corners.now (corner_at x y k)) result }
 {

@@ -1,22 +1,28 @@
 //! Cuts features at their zones.
-ghost use Rattle.std.specs.Prelude.{◌≡◌, IfOk};
-ghost use Rattle.dpl_piece.specs.Cutting.{AreFeatures, AreTheirZones, AreTheirPieces};
+ghost use Rattle.std.specs.Prelude.{ℕ, ◌≡◌, IfOk};
+ghost use Rattle.std.specs.List.{All};
+ghost use Rattle.dpl_piece.specs.Corners.{StandBeside};
+ghost use Rattle.dpl_piece.specs.Cutting.{AreBarePieces, AreFeatures, AreTheirZones, AreTheirPieces};
 
-use crate::key::keys_of;
+use crate::bare::BarePieces;
 use crate::matched::Pieces;
 use crate::piece::{Lists, lists_of};
 use crate::rest::pieces_of;
-use crate::side::sides_of;
 use dpl_base::Zone;
 use dpl_slabs::Parts;
 use std::alloc::{AllocError, Global};
 
-/// The pieces that the zones of features leave of them. A feature without a zone is moved, as it is.
-pub fn pieces(alloc: Global, features: Parts, zones: Vec<Zone>) -> Result<Pieces, AllocError>
+/// The pieces that the zones of features leave of them, before it is known which stand beside which zone. A feature without a zone is moved, as it is.
+pub fn bare_pieces(
+    alloc: Global,
+    features: Parts,
+    zones: Vec<Zone>,
+) -> Result<BarePieces, AllocError>
     requires features { AreFeatures features }
     requires zones { AreTheirZones features zones.items }
-    ensures zones { IfOk result (λ p. p.zones ≡ zones.items) }
-    ensures pieces { IfOk result (λ p. AreTheirPieces features zones.items p) }
+    ensures zones { IfOk result (λ b. b.zones ≡ zones.items) }
+    ensures pieces { IfOk result (AreBarePieces features zones.items) }
+    ensures stand { IfOk result (λ b. All (λ z. (side : ℕ × ℕ) × StandBeside b.parts z side) b.zones) }
 {
     let pieces = pieces_of(alloc, features.into_vec(), &zones)?;
     let Lists {
@@ -25,8 +31,17 @@ pub fn pieces(alloc: Global, features: Parts, zones: Vec<Zone>) -> Result<Pieces
         origins,
     } = lists_of(alloc, pieces)?;
     let parts = Parts::of(parts);
-    let sides = sides_of(alloc, parts.items(), &origins, &zones)?;
-    drop(origins);
-    let keys = keys_of(alloc, parts.items())?;
-    Ok(Pieces::of(parts, owners, keys, zones, sides))
+    Ok(BarePieces::of(parts, owners, origins, zones))
+}
+
+/// The pieces that the zones of features leave of them, with the pieces on the two sides of each zone. A feature without a zone is moved, as it is.
+pub fn pieces(alloc: Global, features: Parts, zones: Vec<Zone>) -> Result<Pieces, AllocError>
+    requires features { AreFeatures features }
+    requires zones { AreTheirZones features zones.items }
+    ensures zones { IfOk result (λ p. p.zones ≡ zones.items) }
+    ensures pieces { IfOk result (λ p. AreTheirPieces features zones.items p) }
+{
+    let bare = bare_pieces(alloc, features, zones)?;
+    let pieces = bare.completed(alloc)?;
+    Ok(pieces)
 }

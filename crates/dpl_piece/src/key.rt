@@ -1,31 +1,19 @@
-//! The key of each piece.
-ghost use Rattle.std.specs.Prelude.{◌≢◌, [], IfOk};
-ghost use Rattle.std.specs.List.{All, AllZip};
-ghost use Rattle.dpl_spec.specs.Squares.{Covers, IsLeast};
+//! The key of a piece.
+ghost use Rattle.std.specs.Prelude.{◌≡◌};
+ghost use Rattle.dpl_piece.specs.Cutting.{first_square};
 
 use dpl_base::Pt;
 use dpl_slabs::Slabs;
-use std::alloc::{AllocError, Global};
 
-/// The least square of a part that has some.
+/// The least square of a piece: the lower left one of its first slab. A set of no squares has the square (0, 0) for it.
 pub fn key(part: &Slabs) -> Pt
-    requires { part.now ≢ [] }
-    ensures { IsLeast (Covers part.now) result }
+    ensures { result ≡ first_square part.now }
 {
-    match part.least() {
-        Some(p) => p,
-        None => unreachable!(),
+    match part.rects().first() {
+        Some(r) => Pt {
+            x: r.x0 as i64,
+            y: r.y0 as i64,
+        },
+        None => Pt { x: 0, y: 0 },
     }
-}
-
-/// The least square of each part.
-pub fn keys_of(alloc: Global, parts: &[Slabs]) -> Result<Vec<Pt>, AllocError>
-    requires { All (λ part. part ≢ []) parts.now }
-    ensures { IfOk result (λ v. AllZip (λ part p. IsLeast (Covers part) p) parts.now v.items) }
-{
-    let mut keys = Vec::with_capacity(alloc, parts.len())?;
-    for k in 0..parts.len() {
-        keys.push(key(&parts[k]))?;
-    }
-    Ok(keys)
 }

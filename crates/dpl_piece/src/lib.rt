@@ -1,13 +1,16 @@
 //! The pieces that stitch zones leave of features.
 #![tactic(auto)]
 
+mod bare;
 mod corner;
 mod cut;
 mod key;
 mod matched;
+mod noted;
 mod piece;
 mod rest;
 mod side;
 
-pub use cut::pieces;
+pub use bare::BarePieces;
+pub use cut::{bare_pieces, pieces};
 pub use matched::{Cut, Pieces};

@@ -1,20 +1,20 @@
 //! The pieces of a layer.
-ghost use Rattle.std.specs.Prelude.{◌≡◌, ◌<◌, length};
+ghost use Rattle.std.specs.Prelude.{◌≡◌, ◌<◌, length, slice_index_or};
 ghost use Rattle.std.specs.List.{All};
 ghost use Rattle.dpl_spec.specs.Squares.{IsSolidWithin};
 ghost use Rattle.dpl_spec.specs.Loops.{farthest};
-ghost use Rattle.dpl_piece.specs.Cutting.{cut_pieces, AreMatched};
+ghost use Rattle.dpl_piece.specs.Cutting.{cut_pieces, keys_in, AreMatched};
 
+use crate::key::key;
 use dpl_base::{Id, Pt, Zone};
 use dpl_slabs::Parts;
 use std::marker::Model;
 
-/// Pieces, numbered from 0 by least square, each with the feature that it lies in and its key, and the zones that cut them, each with the pieces on its two sides.
+/// Pieces, numbered from 0 by least square, each with the feature that it lies in, and the zones that cut them, each with the pieces on its two sides. A contract sees the pieces' keys beside them; they are read off the pieces.
 #[derive(Drop)]
 pub struct Pieces {
     parts: Parts,
     owner: Vec<Id>,
-    keys: Vec<Pt>,
     zones: Vec<Zone>,
     sides: Vec<(Id, Id)>,
 }
@@ -28,31 +28,24 @@ pub struct Cut {
 }
 
 impl Model for Pieces {
-    ghost use Rattle.dpl_piece.specs.Cutting.{CutPieces, cut_pieces, AreMatched};
+    ghost use Rattle.dpl_piece.specs.Cutting.{CutPieces, cut_pieces, keys_in, AreMatched};
 
     ghost Value = { CutPieces };
 
-    ghost view = { λ p. cut_pieces p.parts p.owner.items p.keys.items p.zones.items p.sides.items };
+    ghost view = { λ p. cut_pieces p.parts p.owner.items (keys_in p.parts) p.zones.items p.sides.items };
 
-    ghost invariant = { λ p. AreMatched (cut_pieces p.parts p.owner.items p.keys.items p.zones.items p.sides.items) };
+    ghost invariant = { λ p. AreMatched (cut_pieces p.parts p.owner.items (keys_in p.parts) p.zones.items p.sides.items) };
 }
 
 impl Pieces {
-    /// Pieces with their owners and keys, and zones with their sides.
-    pub(crate) fn of(
-        parts: Parts,
-        owner: Vec<Id>,
-        keys: Vec<Pt>,
-        zones: Vec<Zone>,
-        sides: Vec<(Id, Id)>,
-    ) -> Pieces
-        requires { AreMatched (cut_pieces parts owner.items keys.items zones.items sides.items) }
-        ensures { result ≡ cut_pieces parts owner.items keys.items zones.items sides.items }
+    /// Pieces with their owners, and zones with their sides.
+    pub(crate) fn of(parts: Parts, owner: Vec<Id>, zones: Vec<Zone>, sides: Vec<(Id, Id)>) -> Pieces
+        requires { AreMatched (cut_pieces parts owner.items (keys_in parts) zones.items sides.items) }
+        ensures { result ≡ cut_pieces parts owner.items (keys_in parts) zones.items sides.items }
     {
         Pieces {
             parts,
             owner,
-            keys,
             zones,
             sides,
         }
@@ -60,7 +53,8 @@ impl Pieces {
 
     /// The squares of each piece.
     pub fn parts(&self) -> &Parts
-        ensures { result.now ≡ self.now.parts }
+        ensures value { result.now ≡ self.now.parts }
+        ensures keys { length self.now.keys ≡ length self.now.parts }
     {
         &self.parts
     }
@@ -73,12 +67,12 @@ impl Pieces {
         self.owner.as_slice()
     }
 
-    /// The least square of each piece.
-    pub fn keys(&self) -> &[Pt]
-        ensures value { result.now ≡ self.now.keys }
-        ensures each { length self.now.keys ≡ length self.now.parts }
+    /// The key of a piece: its least square.
+    pub fn key(&self, k: usize) -> Pt
+        requires { k < length self.now.parts }
+        ensures value { (d : Pt) → slice_index_or self.now.keys k d ≡ result }
     {
-        self.keys.as_slice()
+        key(&self.parts.items()[k])
     }
 
     /// The zones.
@@ -98,7 +92,7 @@ impl Pieces {
         self.sides.as_slice()
     }
 
-    /// The squares of the pieces and the zones with their sides, without taking memory. Owners and keys are let go.
+    /// The squares of the pieces and the zones with their sides, without taking memory. Owners are let go.
     pub fn into_cut(self) -> Cut
         ensures parts { result.parts ≡ self.parts }
         ensures zones { result.zones.items ≡ self.zones }

@@ -117,7 +117,7 @@ fn add_pieces(
 }
 
 /// The row and the column of the first slab's lower left corner.
-fn least_key(part: &Slabs) -> (i64, i64)
+fn least_key(part: &Slabs) -> (i32, i32)
     ensures { result ≡ least_key part.now }
 {
     match part.rects().first() {

@@ -1,17 +1,17 @@
 //! The pieces on the two sides of a zone.
 ghost use Rattle.std.specs.Prelude.{ℕ, ◌≡◌, length, IfNone, MatchOption, IfOk};
 ghost use Rattle.std.specs.List.{All, AllZip, Contains, zip};
-ghost use Rattle.dpl_piece.specs.declared.corner.Kind.TheVariants.{LowerRight};
-ghost use Rattle.dpl_piece.specs.Corners.{corner_at, HasCornerAt, IsAnswer, IsBroken, StandsBefore, StandsAfter, StandBeside, StandBroken, RiseByCorner};
+ghost use Rattle.dpl_piece.specs.Corners.{corner_at, IsBroken, StandsBefore, StandsAfter, StandBeside, StandBroken, RiseByCorner, RiseByRow};
 
 use crate::corner::{Corner, Kind, corners, find};
+use crate::noted::note_all;
 use crate::piece::Origin;
 use dpl_base::{Id, Rect, Zone};
 use dpl_slabs::Slabs;
 use std::alloc::{AllocError, Global};
 
 /// The part that is known, or else the part of some corner at the point.
-fn known_or_at(known: Option<Id>, corners: &[Corner], x: i64, y: i64) -> Id
+fn known_or_at(known: Option<Id>, corners: &[Corner], x: i32, y: i32) -> Id
     requires rise { RiseByCorner corners.now }
     requires some { IfNone known ((k : ℕ) × Contains corners.now (corner_at x y k)) }
     ensures { MatchOption known (Contains corners.now (corner_at x y result)) (λ k. result ≡ k) }
@@ -25,26 +25,7 @@ fn known_or_at(known: Option<Id>, corners: &[Corner], x: i64, y: i64) -> Id
     }
 }
 
-/// The part to the left of each zone, if there is one.
-fn lefts(
-    alloc: Global,
-    parts: &[Slabs],
-    origins: &[Origin],
-    zones: &[Zone],
-) -> Result<Vec<Option<Id>>, AllocError>
-    requires { length origins.now ≡ length parts.now }
-    ensures { IfOk result (λ v. AllZip (λ z. IsAnswer (HasCornerAt LowerRight parts.now origins.now z.rect.x0 z.rect.y0)) zones.now v.items) }
-{
-    let corners = corners(alloc, parts, origins, Kind::LowerRight)?;
-    let mut found = Vec::with_capacity(alloc, zones.len())?;
-    for z in zones {
-        let Rect { x0, y0, .. } = z.rect;
-        found.push(find(&corners, x0, y0))?;
-    }
-    Ok(found)
-}
-
-/// The part to the left of each zone, or below it.
+/// The part to the left of each zone, or below it. Slabs are gone through, and each zone that begins at a corner of one gets the number of its part.
 fn firsts(
     alloc: Global,
     parts: &[Slabs],
@@ -52,16 +33,13 @@ fn firsts(
     zones: &[Zone],
 ) -> Result<Vec<Id>, AllocError>
     requires each { length origins.now ≡ length parts.now }
+    requires rise { RiseByRow zones.now }
     requires some { All (λ z. (k : ℕ) × StandsBefore parts.now z k × IsBroken origins.now k) zones.now }
     ensures { IfOk result (λ v. AllZip (StandsBefore parts.now) zones.now v.items) }
 {
-    let lefts = lefts(alloc, parts, origins, zones)?;
-    let corners = corners(alloc, parts, origins, Kind::UpperLeft)?;
-    let mut found = Vec::with_capacity(alloc, zones.len())?;
-    for (z, left) in zones.iter().zip(&lefts) {
-        let Rect { x0, y0, .. } = z.rect;
-        found.push(known_or_at(*left, &corners, x0, y0))?;
-    }
+    let mut found = vec![in alloc; 0; zones.len()]?;
+    note_all(&mut found, zones, parts, origins, Kind::UpperLeft);
+    note_all(&mut found, zones, parts, origins, Kind::LowerRight);
     Ok(found)
 }
 
@@ -76,7 +54,7 @@ fn seconds(
     requires some { All (λ z. (k : ℕ) × StandsAfter parts.now z k × IsBroken origins.now k) zones.now }
     ensures { IfOk result (λ v. AllZip (StandsAfter parts.now) zones.now v.items) }
 {
-    let corners = corners(alloc, parts, origins, Kind::LowerLeft)?;
+    let corners = corners(alloc, parts, origins)?;
     let mut found = Vec::with_capacity(alloc, zones.len())?;
     for z in zones {
         let Rect { x0, y0, x1, y1 } = z.rect;
@@ -105,6 +83,7 @@ pub fn sides_of(
     zones: &[Zone],
 ) -> Result<Vec<(Id, Id)>, AllocError>
     requires each { length origins.now ≡ length parts.now }
+    requires rise { RiseByRow zones.now }
     requires some { All (λ z. (side : ℕ × ℕ) × StandBroken parts.now origins.now z side) zones.now }
     ensures { IfOk result (λ v. AllZip (StandBeside parts.now) zones.now v.items) }
 {

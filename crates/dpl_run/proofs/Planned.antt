@@ -11,6 +11,7 @@ use Rattle.dpl_stars.specs.declared.list.Star.{Star}
 use Rattle.dpl_stars.specs.declared.joined.Joined.{Joined}
 use Rattle.dpl_stars.specs.declared.joined.Joined.TheVariants.{Stars, Odd}
 use Rattle.dpl_orient.specs.Rooted.{ArePiecesBelow}
+use Rattle.dpl_piece.specs.Cutting.{BareCut, Completes, CutPieces}
 use Rattle.dpl_tile.specs.Tiles.{AreTiles}
 use Rattle.dpl_tile.specs.Plans.{IsPlan, Planned}
 use Rattle.dpl_job.specs.Conflicts.{IsTiled, SumsGraph}
@@ -33,8 +34,14 @@ module _ (parts : List (List Rect)) (owners : List ℕ) (rule tile : ℕ) (plan 
       (subst (λ (ps : List (List Rect)). AreEdges (Conflict rule ps plan.owners) es) is.of_parts
       (subst (λ (r : ℕ). AreEdges (Conflict r plan.parts plan.owners) es) is.of_rule are))
 
+-- a plan of bare pieces is one of what they are completed to
+pub plan_completed : (bare : BareCut) (pieces : CutPieces) (rule tile : ℕ) (plan : Planned) → Completes bare pieces → IsPlan bare.parts bare.owners rule tile plan → IsPlan pieces.parts pieces.owners rule tile plan
+plan_completed bare pieces rule tile plan completed is =
+    subst (λ (os : List ℕ). IsPlan pieces.parts os rule tile plan) (sym completed.owners)
+    (subst (λ (ps : List (List Rect)). IsPlan ps bare.owners rule tile plan) (sym completed.parts) is)
+
 -- conflicts are pairs of pieces
-pub conflicts_below : (rule : ℕ) (cut : Cut) (es : List (ℕ × ℕ)) → AreEdges (conflicts rule cut) es → AreEdgesBelow (length cut.pieces) es
+conflicts_below : (rule : ℕ) (cut : Cut) (es : List (ℕ × ℕ)) → AreEdges (conflicts rule cut) es → AreEdgesBelow (length cut.pieces) es
 conflicts_below rule cut es are k d l = let e = get_or es k d in let (less, c) = (are.exactly e.0 e.1).0 (Contains-get_or es k d l) in (less, c.second)
 
 pub stars_below : (rule : ℕ) (cut : Cut) (rows : List Star) → SumsGraph (conflicts rule cut) (Stars rows) → ArePiecesBelow (length cut.pieces) rows

@@ -10,10 +10,11 @@ use Rattle.dpl_run.specs.declared.output.Write.{Write}
 use Rattle.dpl_run.specs.declared.layer.Layer.{Layer}
 use Rattle.dpl_run.specs.declared.layer.LayerChoice.{LayerChoice}
 use Rattle.dpl_run.specs.declared.cut.LayerCut.{LayerCut}
+use Rattle.dpl_run.specs.declared.cut.BareLayerCut.{BareLayerCut}
 use Rattle.dpl_spec.specs.declared.Rect.{Rect}
 use Rattle.dpl_spec.specs.Squares.{Region}
 use Rattle.dpl_spec.specs.Decomposition.{Cut, IsCut}
-use Rattle.dpl_piece.specs.Cutting.{CutPieces}
+use Rattle.dpl_piece.specs.Cutting.{Completes, CutPieces}
 use Rattle.dpl_run.specs.declared.fault.LayerFault.{LayerFault}
 use Rattle.dpl_run.specs.declared.fault.LayerFault.TheVariants.{NoMemory, Refused}
 use Rattle.dpl_run.specs.declared.decomposed.Painted.{Painted}
@@ -59,9 +60,13 @@ IsLayerFaultIn v lib (Refused name at) = IsFaultIn v lib name at
 abbrev pub cut_view : List (List Rect) → CutPieces → Cut
 cut_view features p = record { features = features; zones = p.zones; pieces = p.parts; owners = p.owners; keys = p.keys; sides = p.sides }
 
--- the pieces are those of so many features of the layer
-abbrev pub IsCutOf : ℕ → ℕ → Region → LayerCut → Type 0
-IsCutOf rule overlap layer c = (features : List (List Rect)) × (length features ≡ c.features) × IsCut rule overlap layer (cut_view features c.pieces)
+-- the pieces, once completed, are those of so many features of the layer
+abbrev pub IsBareCutOf : ℕ → ℕ → Region → BareLayerCut → Type 0
+IsBareCutOf rule overlap layer c = (features : List (List Rect)) × (length features ≡ c.features) × ((p : CutPieces) → Completes c.pieces p → IsCut rule overlap layer (cut_view features p))
+
+-- it holds of a cut into these pieces, completed in some way, whatever its features are, of which there are so many
+abbrev pub OfCompleted : BareLayerCut → (Cut → Type 0) → Type 0
+OfCompleted c P = (p : CutPieces) × Completes c.pieces p × ((features : List (List Rect)) → length features ≡ c.features → P (cut_view features p))
 
 -- it holds of a cut into these pieces, whatever its features are, of which there are so many
 abbrev pub OfAnyCut : LayerCut → (Cut → Type 0) → Type 0

@@ -8,12 +8,13 @@ ghost use Rattle.dpl_tile.specs.Tiles.{IsDoubled};
 ghost use Rattle.dpl_cert.specs.Grammar.{IsHead, IsPoint, IsRule};
 ghost use Rattle.dpl_run.specs.Flat.{IsTile};
 ghost use Rattle.dpl_valid.specs.Own.{head_of};
-ghost use Rattle.dpl_run.specs.View.{IsCutOf, OfAnyCut};
+ghost use Rattle.dpl_piece.specs.Cutting.{Completes, CutPieces};
+ghost use Rattle.dpl_run.specs.View.{IsBareCutOf, OfAnyCut};
 
 use dpl_cert::Head;
 use dpl_feature::features;
 use dpl_job::EdgeJob;
-use dpl_piece::{Pieces, pieces};
+use dpl_piece::{BarePieces, Pieces, bare_pieces};
 use dpl_slabs::Slabs;
 use dpl_tile::{plan, side_for};
 use dpl_zone::zones;
@@ -35,23 +36,44 @@ impl LayerCut {
     }
 }
 
+/// A layer cut into pieces, before it is known which of them stand beside which zone.
+#[derive(Drop)]
+pub(crate) struct BareLayerCut {
+    pub(crate) features: u64,
+    pub(crate) pieces: BarePieces,
+}
+
+impl BareLayerCut {
+    /// The same, with the pieces on the two sides of each zone.
+    pub(crate) fn completed(self, alloc: Global) -> Result<LayerCut, AllocError>
+        ensures features { IfOk result (λ c. c.features ≡ self.features) }
+        ensures pieces { IfOk result (λ c. Completes self.pieces c.pieces) }
+    {
+        let pieces = self.pieces.completed(alloc)?;
+        Ok(LayerCut {
+            features: self.features,
+            pieces,
+        })
+    }
+}
+
 /// The features of a layer, cut at their zones. The layer is let go as soon as its features are known.
 pub(crate) fn cut_of(
     alloc: Global,
     layer: Slabs,
     rule: u32,
     overlap: u32,
-) -> Result<LayerCut, AllocError>
+) -> Result<BareLayerCut, AllocError>
     requires { 1 ≤ overlap }
-    ensures cut { IfOk result (IsCutOf rule overlap (Covers layer)) }
-    ensures keys { IfOk result (λ c. (p : Pt) → Contains c.pieces.keys p → IsPoint p) }
+    ensures cut { IfOk result (IsBareCutOf rule overlap (Covers layer)) }
+    ensures keys { IfOk result (λ c. (p : CutPieces) (key : Pt) → Completes c.pieces p → Contains p.keys key → IsPoint key) }
 {
     let features = features(alloc, &layer)?;
     drop(layer);
     let zones = zones(alloc, &features, rule, overlap)?;
     let count = features.items().len() as u64;
-    let pieces = pieces(alloc, features, zones)?;
-    Ok(LayerCut {
+    let pieces = bare_pieces(alloc, features, zones)?;
+    Ok(BareLayerCut {
         features: count,
         pieces,
     })
@@ -77,7 +99,7 @@ pub(crate) fn head(cut: &LayerCut, rule: u32, overlap: u32) -> Head
 /// The tiles of the pieces, whose side is `tile`, doubled some number of times.
 pub(crate) fn tiles_of<'a>(
     alloc: Global,
-    pieces: &'a Pieces,
+    pieces: &'a BarePieces,
     rule: u32,
     tile: u32,
 ) -> Result<EdgeJob<'a>, AllocError>

@@ -8,11 +8,12 @@ ghost use Rattle.dpl_spec.specs.Pieces.{Conflict};
 ghost use Rattle.dpl_graph.specs.Levels.{AreEdgesBelow};
 ghost use Rattle.dpl_job.specs.Conflicts.{SumsGraph};
 ghost use Rattle.dpl_orient.specs.Oriented.{IsEvenBelow};
+ghost use Rattle.dpl_piece.specs.Cutting.{Completes, CutPieces};
 ghost use Rattle.dpl_cert.specs.Grammar.{IsPoint, IsRule};
 ghost use Rattle.dpl_run.specs.Flat.{Fits, FitsClash, FitsPainted, IsClashOfCut, IsFlat, IsFlatCut, IsPaintedCut, AreWorkers, IsTile};
-ghost use Rattle.dpl_run.specs.View.{OfAnyCut, clash_view, flat_view, painted_view};
+ghost use Rattle.dpl_run.specs.View.{OfAnyCut, OfCompleted, clash_view, flat_view, painted_view};
 
-use crate::cut::{LayerCut, cut_of, head, tiles_of};
+use crate::cut::{BareLayerCut, LayerCut, cut_of, head, tiles_of};
 use crate::decomposed::{Clash, Decomposed, Painted};
 use crate::lines::{piece_lines, place_lines, stitch_lines};
 use crate::near::near_lines;
@@ -62,7 +63,7 @@ pub(crate) fn decompose<R: Threads + Wait + Sync, G: Gate + Sync>(
 fn decompose_cut<R: Threads + Wait + Sync, G: Gate + Sync>(
     rt: &R,
     alloc: Global,
-    cut: LayerCut,
+    cut: BareLayerCut,
     rule: u32,
     overlap: u32,
     sharing: Sharing,
@@ -72,8 +73,8 @@ fn decompose_cut<R: Threads + Wait + Sync, G: Gate + Sync>(
     requires overlap { IsRule overlap }
     requires tile { IsTile sharing.tile }
     requires workers { AreWorkers sharing.workers }
-    requires keys { (p : Pt) → Contains cut.pieces.keys p → IsPoint p }
-    ensures flat { IfOk result (λ d. OfAnyCut cut (λ c. IsFlatCut rule overlap c (flat_view d))) }
+    requires keys { (p : CutPieces) (key : Pt) → Completes cut.pieces p → Contains p.keys key → IsPoint key }
+    ensures flat { IfOk result (λ d. OfCompleted cut (λ c. IsFlatCut rule overlap c (flat_view d))) }
     ensures fits { IfOk result (λ d. Fits (flat_view d)) }
 {
     let job = tiles_of(alloc, &cut.pieces, rule, sharing.tile)?;
@@ -81,11 +82,14 @@ fn decompose_cut<R: Threads + Wait + Sync, G: Gate + Sync>(
     match &joined {
         Joined::Stars(_) => {
             drop(job);
+            let cut = cut.completed(alloc)?;
             let painted = paint(alloc, cut, &joined, rule, overlap)?;
             Ok(Decomposed::Masks(painted))
         }
         Joined::Odd => {
             let edges = all_edges(alloc, &job.plan)?;
+            drop(job);
+            let cut = cut.completed(alloc)?;
             let clash = clash(alloc, &cut, &edges, rule, overlap)?;
             Ok(Decomposed::Cycle(clash))
         }
@@ -110,9 +114,9 @@ fn paint(
 {
     let head = head(&cut, rule, overlap);
     let LayerCut { pieces, .. } = cut;
-    let count = pieces.keys().len() as u64;
+    let count = pieces.parts().items().len() as u64;
     let colours = orient(alloc, count, pieces.sides(), joined)?;
-    let lines = piece_lines(alloc, colours.items(), pieces.keys())?;
+    let lines = piece_lines(alloc, colours.items(), &pieces)?;
     let numbers = stitches(alloc, pieces.sides(), colours.items())?;
     let stitches = stitch_lines(alloc, pieces.zones(), pieces.sides(), &numbers)?;
     drop(numbers);
@@ -144,11 +148,11 @@ fn clash(
     ensures fits { IfOk result (λ x. FitsClash (clash_view x)) }
 {
     let pieces = &cut.pieces;
-    let count = pieces.keys().len() as u64;
+    let count = pieces.parts().items().len() as u64;
     let Some(cycle) = odd_cycle(alloc, count, edges)? else {
         unreachable!()
     };
-    let places = place_lines(alloc, pieces.keys(), &cycle)?;
+    let places = place_lines(alloc, pieces, &cycle)?;
     let near = near_lines(alloc, pieces, &cycle, rule)?;
     Ok(Clash {
         head: head(cut, rule, overlap),

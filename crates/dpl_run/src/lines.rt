@@ -8,27 +8,28 @@ ghost use Rattle.dpl_orient.specs.Masks.{is_second};
 ghost use Rattle.dpl_cert.specs.Grammar.{IsNumber, IsPiece, IsPlace, IsPoint, IsStitch};
 ghost use Rattle.dpl_valid.specs.Own.{piece_line, place_line, stitch_line};
 
-use dpl_base::{Id, Pt, Zone};
+use dpl_base::{Id, Zone};
 use dpl_cert::{PieceLine, PlaceLine, StitchLine};
 use dpl_orient::Mask;
+use dpl_piece::Pieces;
 use std::alloc::{AllocError, Global};
 
 /// A line for each piece: its mask and its least square.
 pub(crate) fn piece_lines(
     alloc: Global,
     masks: &[Mask],
-    keys: &[Pt],
+    pieces: &Pieces,
 ) -> Result<Vec<PieceLine>, AllocError>
-    requires each { length masks.now ≡ length keys.now }
-    requires within { (p : Pt) → Contains keys.now p → IsPoint p }
-    ensures lines { IfOk result (λ v. v.items ≡ map piece_line (zip (map is_second masks.now) keys.now)) }
+    requires each { length masks.now ≡ length pieces.now.parts }
+    requires within { (p : Pt) → Contains pieces.now.keys p → IsPoint p }
+    ensures lines { IfOk result (λ v. v.items ≡ map piece_line (zip (map is_second masks.now) pieces.now.keys)) }
     ensures within { IfOk result (λ v. AllByRecursion IsPiece v.items) }
 {
-    let mut lines = Vec::with_capacity(alloc, keys.len())?;
-    for (i, key) in keys.iter().enumerate() {
+    let mut lines = Vec::with_capacity(alloc, masks.len())?;
+    for (i, mask) in masks.iter().enumerate() {
         lines.push(PieceLine {
-            b: is_b(masks[i]),
-            key: *key,
+            b: is_b(*mask),
+            key: pieces.key(i),
         })?;
     }
     Ok(lines)
@@ -72,19 +73,19 @@ pub(crate) fn stitch_lines(
 /// A line for each piece of a cycle: its number and its least square.
 pub(crate) fn place_lines(
     alloc: Global,
-    keys: &[Pt],
+    pieces: &Pieces,
     cycle: &[Id],
 ) -> Result<Vec<PlaceLine>, AllocError>
-    requires within { (p : Pt) → Contains keys.now p → IsPoint p }
-    requires known { (k : ℕ) → Contains cycle.now k → k < length keys.now }
-    ensures lines { IfOk result (λ v. v.items ≡ map (place_line keys.now) cycle.now) }
+    requires within { (p : Pt) → Contains pieces.now.keys p → IsPoint p }
+    requires known { (k : ℕ) → Contains cycle.now k → k < length pieces.now.parts }
+    ensures lines { IfOk result (λ v. v.items ≡ map (place_line pieces.now.keys) cycle.now) }
     ensures within { IfOk result (λ v. AllByRecursion IsPlace v.items) }
 {
     let mut lines = Vec::new(alloc);
     for piece in cycle {
         lines.push(PlaceLine {
             piece: *piece,
-            key: keys[*piece as usize],
+            key: pieces.key(*piece as usize),
         })?;
     }
     Ok(lines)

@@ -6,7 +6,7 @@ ghost use Rattle.dpl_elements.specs.Paths.{segments_from, bar, bars, square_roun
 ghost use Rattle.dpl_shapes.specs.Strokes.{IsSegmentWithin, IsStrokeWithin, AreMarginsWithin, DrawsTo, rects_along};
 
 use crate::headings::{go_the_same_way, heading_to};
-use dpl_base::{Loop, Pt, Rect};
+use dpl_base::{Loop, Pt, WideRect};
 use dpl_elements::{Heading, Segment};
 use std::alloc::{AllocError, Global};
 
@@ -29,31 +29,31 @@ pub struct Stroke {
 }
 
 /// The corners of a rectangle, counterclockwise from the lower left one.
-fn loop_round(alloc: Global, rect: Rect) -> Result<Loop, AllocError>
+fn loop_round(alloc: Global, rect: WideRect) -> Result<Loop, AllocError>
     ensures { IfOk result (λ l. l ≡ corners_of rect) }
 {
     let mut corners = Vec::with_capacity(alloc, 4)?;
     corners.push(Pt {
-        x: rect.x0,
-        y: rect.y0,
+        x: rect.x0(),
+        y: rect.y0(),
     })?;
     corners.push(Pt {
-        x: rect.x1,
-        y: rect.y0,
+        x: rect.x1(),
+        y: rect.y0(),
     })?;
     corners.push(Pt {
-        x: rect.x1,
-        y: rect.y1,
+        x: rect.x1(),
+        y: rect.y1(),
     })?;
     corners.push(Pt {
-        x: rect.x0,
-        y: rect.y1,
+        x: rect.x0(),
+        y: rect.y1(),
     })?;
     Ok(Loop::of(corners))
 }
 
 /// The rectangle along a segment that goes on by `begin` before it and by `end` after it.
-fn bar_round(segment: &Segment, half: i64, begin: i64, end: i64) -> Rect
+fn bar_round(segment: &Segment, half: i64, begin: i64, end: i64) -> WideRect
     requires segment { IsSegmentWithin (2 ^ 31) segment.now }
     requires half { unsigned_abs half ≤ 2 ^ 31 }
     requires begin { unsigned_abs begin ≤ 2 ^ 31 }
@@ -63,45 +63,25 @@ fn bar_round(segment: &Segment, half: i64, begin: i64, end: i64) -> Rect
     let from = segment.from;
     let to = segment.to;
     match heading_to(&from, &to) {
-        Heading::East => Rect {
-            x0: from.x - begin,
-            y0: from.y - half,
-            x1: to.x + end,
-            y1: from.y + half,
-        },
-        Heading::North => Rect {
-            x0: from.x - half,
-            y0: from.y - begin,
-            x1: from.x + half,
-            y1: to.y + end,
-        },
-        Heading::West => Rect {
-            x0: to.x - end,
-            y0: from.y - half,
-            x1: from.x + begin,
-            y1: from.y + half,
-        },
-        Heading::South => Rect {
-            x0: from.x - half,
-            y0: to.y - end,
-            x1: from.x + half,
-            y1: from.y + begin,
-        },
+        Heading::East => WideRect::new(from.x - begin, from.y - half, to.x + end, from.y + half),
+        Heading::North => WideRect::new(from.x - half, from.y - begin, from.x + half, to.y + end),
+        Heading::West => WideRect::new(to.x - end, from.y - half, from.x + begin, from.y + half),
+        Heading::South => WideRect::new(from.x - half, to.y - end, from.x + half, from.y + begin),
     }
 }
 
 /// The square round a point.
-fn square_at(point: &Pt, half: i64) -> Rect
+fn square_at(point: &Pt, half: i64) -> WideRect
     requires point { IsPointWithin (2 ^ 31) point.now }
     requires half { unsigned_abs half ≤ 2 ^ 31 }
     ensures { result ≡ square_round half point.now }
 {
-    Rect {
-        x0: point.x - half,
-        y0: point.y - half,
-        x1: point.x + half,
-        y1: point.y + half,
-    }
+    WideRect::new(
+        point.x - half,
+        point.y - half,
+        point.x + half,
+        point.y + half,
+    )
 }
 
 /// Adds the loop of a bar.

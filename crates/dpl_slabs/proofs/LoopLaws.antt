@@ -1,5 +1,5 @@
 -- Edges of loops.
-use Rattle.std.proofs.Common.{◌≡◌, ℕ, suc, ◌+◌, ◌-◌, ◌≤◌, ◌<◌, ◌⊎◌, inl, inr, List, [], ◌∷◌, ◌++◌, length, get_or, refl, sym, ap, ◌∙◌, subst, arith}
+use Rattle.std.proofs.Common.{◌≡◌, ℕ, suc, ◌+◌, ◌-◌, ◌≤◌, ◌<◌, ◌⊎◌, inl, inr, List, [], ◌∷◌, ◌++◌, length, get_or, refl, sym, ap, ◌∙◌, subst, arith, w32, w64, to_z, of_z}
 use Rattle.std.specs.Prelude.{◌↔◌, ℤ, pos, negsuc, ◌+ℤ◌, ◌-ℤ◌, neg_ℤ, ◌≤ℤ◌, ◌<ℤ◌, unsigned_abs}
 use Rattle.std.specs.List.{Contains}
 use Rattle.std.proofs.lemmas.Int.{ints, by_lt_z}
@@ -17,9 +17,13 @@ use Rattle.dpl_sweep.specs.declared.edge.Rule.TheVariants.{Either}
 use Rattle.dpl_sweep.specs.Edges.{Told, part, sum_left, change_a, change_b}
 use Rattle.dpl_sweep.specs.Passes.{IsWithin as EdgeWithin, AreWithin, IsClosed}
 use Rattle.dpl_sweep.proofs.EdgeLaws.{none-told, sum_left-push, part-before, part-off}
-use Rattle.dpl_spec.specs.Loops.{step, steps, winding, LoopCovers, SomeLoopCovers, IsPointWithin, AreRectsWithin}
+use Rattle.dpl_spec.specs.Loops.{farthest, step, steps, winding, LoopCovers, SomeLoopCovers, IsPointWithin, AreRectsWithin}
 use Rattle.dpl_slabs.specs.Loops.{above, AddsStep, AreStepsOf, AreEdgesOf, SomeFirstCovers}
 use Rattle.std.proofs.lemmas.Bool.{cases_eq}
+
+-- a coordinate of a point within the bound is what it is in fewer bits
+pub narrowed : (i : ℤ) → unsigned_abs i ≤ farthest → to_z w32 (of_z w32 (to_z w64 (of_z w64 i))) ≡ i
+narrowed i small = omega (arith, ints)
 
 -- an edge that goes up
 part-up : (e : Edge) (p q s : Pt) → p.y <ℤ q.y → e.x ≡ p.x → e.y0 ≡ p.y → e.y1 ≡ q.y → e.a ≡ pos 1 → part change_a e s ≡ step p q s

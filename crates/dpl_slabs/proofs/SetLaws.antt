@@ -122,8 +122,8 @@ module _ (rule : Rule) (rs ss : List Rect) (mid new : List Edge) (f : AddsRects 
       (adds-closed (pos 1) (pos 0) (pos 1) mid new ss p g left)
       ((both-told p).0 told)
 
-  pub both-within : AreRectsWithin farthest rs → AreRectsWithin farthest ss → AreWithin (2 ^ 32) new
-  both-within v w = edges-wider (farthest + 1) (2 ^ 32) new (omega arith) (g.within farthest (f.within farthest (edges-none (farthest + 1)) v) w)
+  pub both-within : AreRectsWithin farthest rs → AreRectsWithin farthest ss → AreWithin (2 ^ 30) new
+  both-within v w = edges-wider (farthest + 1) (2 ^ 30) new (omega arith) (g.within farthest (f.within farthest (edges-none (farthest + 1)) v) w)
 
 -- with x and y exchanged
 from-turned : (rs : List Rect) (p : Pt) → Covers (turned_rects rs) p → turned (Covers rs) p

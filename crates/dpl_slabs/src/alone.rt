@@ -13,17 +13,17 @@ use std::alloc::{AllocError, Global};
 #[derive(Clone, Copy, Drop)]
 struct Front {
     passed: usize,
-    reach: i64,
+    reach: i32,
 }
 
 /// Before the first of the rectangles.
 const START: Front = Front {
     passed: 0,
-    reach: i64::MIN,
+    reach: i32::MIN,
 };
 
 /// Goes on past all rectangles that begin in the column or left of it.
-fn advanced(rects: &[Rect], front: Front, x: i64) -> Front
+fn advanced(rects: &[Rect], front: Front, x: i32) -> Front
     requires rise { LeftsRise rects.now }
     requires reach { ReachTo rects.now front.passed front.reach }
     ensures { IsFrontAt rects.now x result.passed result.reach }

@@ -16,7 +16,7 @@ use dpl_sweep::{Edge, Rule, slabs_of_edges};
 use std::alloc::{AllocError, Global};
 
 /// An edge in a column, beside the rows of a rectangle.
-fn edge_of(r: &Rect, x: i64, a: i64, b: i64) -> Edge
+fn edge_of(r: &Rect, x: i32, a: i8, b: i8) -> Edge
     ensures { result ≡ record { x = x; y0 = r.now.y0; y1 = r.now.y1; a = a; b = b } }
 {
     Edge {
@@ -29,7 +29,7 @@ fn edge_of(r: &Rect, x: i64, a: i64, b: i64) -> Edge
 }
 
 /// Adds the two edges of a rectangle, and one right of them that changes nothing: by it the sweep is done with the rectangle's rows early.
-fn add_rect(edges: &mut Vec<Edge>, r: &Rect, a: i64, b: i64) -> Result<(), AllocError>
+fn add_rect(edges: &mut Vec<Edge>, r: &Rect, a: i8, b: i8) -> Result<(), AllocError>
     requires first { unsigned_abs a ≤ 1 }
     requires second { unsigned_abs b ≤ 1 }
     requires within { IsRectWithin farthest r.now }
@@ -45,7 +45,7 @@ fn add_rect(edges: &mut Vec<Edge>, r: &Rect, a: i64, b: i64) -> Result<(), Alloc
 }
 
 /// Adds the edges of rectangles.
-fn add_rects(edges: &mut Vec<Edge>, rects: &[Rect], a: i64, b: i64) -> Result<(), AllocError>
+fn add_rects(edges: &mut Vec<Edge>, rects: &[Rect], a: i8, b: i8) -> Result<(), AllocError>
     requires first { unsigned_abs a ≤ 1 }
     requires second { unsigned_abs b ≤ 1 }
     requires within { AreRectsWithin farthest rects.now }
@@ -61,7 +61,7 @@ fn add_rects(edges: &mut Vec<Edge>, rects: &[Rect], a: i64, b: i64) -> Result<()
 fn edges_of(alloc: Global, first: &[Rect], second: &[Rect]) -> Result<Vec<Edge>, AllocError>
     requires first { AreRectsWithin farthest first.now }
     requires second { AreRectsWithin farthest second.now }
-    ensures within { IfOk result (λ v. AreWithin (2 ^ 32) v.items) }
+    ensures within { IfOk result (λ v. AreWithin (2 ^ 30) v.items) }
     ensures closed { IfOk result (λ v. (rule : Rule) → IsClosed rule v.items) }
     ensures told { IfOk result (λ v. (rule : Rule) → SameSquares (Told rule v.items) (Chosen rule first.now second.now)) }
 {

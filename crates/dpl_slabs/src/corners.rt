@@ -1,5 +1,6 @@
 //! Rectangles by their corners.
-ghost use Rattle.std.specs.Prelude.{◌≡◌, ◌↔◌, IfSome, IsTrue};
+ghost use Rattle.std.specs.Prelude.{◌≡◌, ◌≤◌, ◌↔◌, IfSome, IsTrue, unsigned_abs};
+ghost use Rattle.dpl_spec.specs.Loops.{farthest, IsPointWithin};
 ghost use Rattle.dpl_slabs.specs.Corners.{AreOrdered, IsSpanned, IsUpright, IsThrough};
 
 use dpl_base::{Pt, Rect};
@@ -12,17 +13,21 @@ pub fn is_same(p: &Pt, q: &Pt) -> bool
 }
 
 /// The two numbers, the lesser first.
-fn ordered(x: i64, y: i64) -> (i64, i64)
+fn ordered(x: i64, y: i64) -> (i32, i32)
+    requires x { unsigned_abs x ≤ farthest }
+    requires y { unsigned_abs y ≤ farthest }
     ensures { AreOrdered x y result.0 result.1 }
 {
     if y < x {
-        return (y, x);
+        return (y as i32, x as i32);
     }
-    (x, y)
+    (x as i32, y as i32)
 }
 
 /// The rectangle with these opposite corners.
 fn spanned(p: &Pt, q: &Pt) -> Rect
+    requires p { IsPointWithin farthest p.now }
+    requires q { IsPointWithin farthest q.now }
     ensures { IsSpanned p.now q.now result }
 {
     let (x0, x1) = ordered(p.x, q.x);
@@ -48,6 +53,10 @@ fn is_upright(p: &Pt, q: &Pt, r: &Pt, t: &Pt) -> bool
 
 /// The rectangle whose corners are the four points, each beside the one before it.
 pub fn rect_through(p: &Pt, q: &Pt, r: &Pt, t: &Pt) -> Option<Rect>
+    requires p { IsPointWithin farthest p.now }
+    requires q { IsPointWithin farthest q.now }
+    requires r { IsPointWithin farthest r.now }
+    requires t { IsPointWithin farthest t.now }
     ensures { IfSome result (λ b. IsThrough p.now q.now r.now t.now b) }
 {
     if is_upright(p, q, r, t) {

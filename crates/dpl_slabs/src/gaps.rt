@@ -12,7 +12,7 @@ use dpl_base::Rect;
 use std::alloc::{AllocError, Global};
 
 /// Adds columns `from` to `to - 1` of a bar, where there are any.
-fn add_columns(left: &mut Vec<Rect>, bar: &Rect, from: i64, to: i64) -> Result<(), AllocError>
+fn add_columns(left: &mut Vec<Rect>, bar: &Rect, from: i32, to: i32) -> Result<(), AllocError>
     ensures { OnOk result (AddsColumns bar.now from to left.old.items left.new.items) }
 {
     if to <= from {

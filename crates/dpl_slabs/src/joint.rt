@@ -15,7 +15,7 @@ use dpl_sweep::Rule;
 use std::alloc::{AllocError, Global};
 
 /// The first row of the lowest rectangle of two lists that go by first row.
-fn lowest_row(first: &[Rect], second: &[Rect]) -> i64
+fn lowest_row(first: &[Rect], second: &[Rect]) -> i32
     requires { 0 < length first.now + length second.now }
     ensures some { (r : Rect) × Contains (first.now ++ second.now) r × (r.y0 ≤ℤ result) }
     ensures first { (d : Rect) → 0 < length first.now → result ≤ℤ (slice_index_or first.now 0 d).y0 }
@@ -31,7 +31,7 @@ fn lowest_row(first: &[Rect], second: &[Rect]) -> i64
 }
 
 /// The top of a strip with the `n`-th rectangle of a list, if that begins no higher than it. All later ones begin no lower.
-fn raised(rects: &[Rect], n: usize, top: i64) -> Option<i64>
+fn raised(rects: &[Rect], n: usize, top: i32) -> Option<i32>
     requires { CornersRise rects.now }
     ensures none { IsNone result → BeginAbove top n rects.now }
     ensures some { IfSome result (λ new. IsRaised rects.now n top new) }

@@ -4,7 +4,7 @@ ghost use Rattle.dpl_spec.specs.declared.Rect.{Rect};
 ghost use Rattle.dpl_spec.specs.declared.Pt.{Pt};
 ghost use Rattle.dpl_spec.specs.Squares.{Covers, Has};
 ghost use Rattle.dpl_spec.specs.Slabs.{AreSlabsOf};
-ghost use Rattle.dpl_spec.specs.Loops.{farthest, LoopCovers, SomeLoopCovers, ArePointsWithin, AreLoopsWithin, IsRectWithin, AreRectsWithin};
+ghost use Rattle.dpl_spec.specs.Loops.{farthest, LoopCovers, SomeLoopCovers, ArePointsWithin, IsPointWithin, AreLoopsWithin, IsRectWithin, AreRectsWithin};
 ghost use Rattle.dpl_slabs.specs.Loops.{AddsStep, AreStepsOf, AreEdgesOf};
 
 use crate::corners::{is_same, rect_through};
@@ -14,13 +14,15 @@ use std::alloc::{AllocError, Global};
 
 /// Adds the edge from one point to the next, unless it is level.
 fn add_step(edges: &mut Vec<Edge>, p: &Pt, q: &Pt) -> Result<(), AllocError>
+    requires p { IsPointWithin farthest p.now }
+    requires q { IsPointWithin farthest q.now }
     ensures { OnOk result (AddsStep edges.old.items edges.new.items p.now q.now) }
 {
     if p.y < q.y {
         edges.push(Edge {
-            x: p.x,
-            y0: p.y,
-            y1: q.y,
+            x: p.x as i32,
+            y0: p.y as i32,
+            y1: q.y as i32,
             a: 1,
             b: 0,
         })?;
@@ -28,9 +30,9 @@ fn add_step(edges: &mut Vec<Edge>, p: &Pt, q: &Pt) -> Result<(), AllocError>
     }
     if q.y < p.y {
         edges.push(Edge {
-            x: p.x,
-            y0: q.y,
-            y1: p.y,
+            x: p.x as i32,
+            y0: q.y as i32,
+            y1: p.y as i32,
             a: -1,
             b: 0,
         })?;
@@ -41,6 +43,7 @@ fn add_step(edges: &mut Vec<Edge>, p: &Pt, q: &Pt) -> Result<(), AllocError>
 
 /// The edges of a loop.
 fn edges_of(alloc: Global, points: &[Pt]) -> Result<Vec<Edge>, AllocError>
+    requires { ArePointsWithin farthest points.now }
     ensures { IfOk result (λ v. AreEdgesOf points.now v.items) }
 {
     let mut edges = Vec::new(alloc);
@@ -67,6 +70,7 @@ pub fn slabs_of_loop(alloc: Global, points: &[Pt]) -> Result<Vec<Rect>, AllocErr
 
 /// The rectangle whose corners are the points, each beside the one before it. The last may be the first again.
 fn rect_of(points: &[Pt]) -> Option<Rect>
+    requires { ArePointsWithin farthest points.now }
     ensures squares { IfSome result (λ r. (p : Pt) → Has r p ↔ LoopCovers points.now p) }
     ensures within { (bound : ℕ) → ArePointsWithin bound points.now → IfSome result (λ r. IsRectWithin bound r) }
 {

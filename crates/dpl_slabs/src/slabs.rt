@@ -41,16 +41,19 @@ impl Model for Slabs {
 fn covers(r: &Rect, x: i64, y: i64) -> bool
     ensures { IsTrue result ↔ Has r.now (at x y) }
 {
-    if x < r.x0 {
+    if x < r.x0 as i64 {
         return false;
     }
-    if x >= r.x1 {
+    if x >= r.x1 as i64 {
         return false;
     }
-    if y < r.y0 {
+    if y < r.y0 as i64 {
         return false;
     }
-    y < r.y1
+    if y >= r.y1 as i64 {
+        return false;
+    }
+    true
 }
 
 /// Whether the two rectangles are one.
@@ -89,7 +92,10 @@ impl Slabs {
     {
         match self.rects().first() {
             None => None,
-            Some(r) => Some(Pt { x: r.x0, y: r.y0 }),
+            Some(r) => Some(Pt {
+                x: r.x0 as i64,
+                y: r.y0 as i64,
+            }),
         }
     }
 

@@ -26,7 +26,7 @@ const SLICES: usize = 24;
 /// With how many wide rectangles slices begin and end at most.
 const WIDE: usize = 16;
 
-/// More than how many times as wide as the average the widest rectangle is, where slices begin and end with wide ones.
+/// About more than how many times as wide as the average the widest of many rectangles is, where slices begin and end with wide ones.
 const TIMES_AVERAGE: u64 = 8;
 
 /// How many pieces there may be for each rectangle and hole. Wires that cross others make many.
@@ -36,10 +36,13 @@ const PIECES: usize = 3;
 const ASKED: usize = 16_384;
 
 /// A row above all rectangles.
-const TOP: i64 = FARTHEST + 1;
+const TOP: i32 = FARTHEST as i32 + 1;
+
+/// The lowest row of rectangles.
+const BOTTOM: i32 = -(FARTHEST as i32);
 
 /// The part of a rectangle in rows `low` to `high - 1`.
-fn part_of(r: &Rect, low: i64, high: i64) -> Rect
+fn part_of(r: &Rect, low: i32, high: i32) -> Rect
     ensures { IsPartOf low high r.now result }
 {
     Rect {
@@ -93,8 +96,8 @@ fn add_part(
     bars: &mut Vec<Rect>,
     others: &mut Vec<Rect>,
     r: &Rect,
-    low: i64,
-    high: i64,
+    low: i32,
+    high: i32,
 ) -> Result<(), AllocError>
     requires { IsRectWithin farthest r.now }
     ensures { OnOk result (AddsPart low high r.now bars.old.items others.old.items bars.new.items others.new.items) }
@@ -134,8 +137,8 @@ fn row_of(alloc: Global, bars: Vec<Rect>) -> Result<Vec<Rect>, AllocError>
 fn parts_of(
     alloc: Global,
     rects: &[Rect],
-    low: i64,
-    high: i64,
+    low: i32,
+    high: i32,
 ) -> Result<(Vec<Rect>, Vec<Rect>), AllocError>
     requires { AreRectsWithin farthest rects.now }
     ensures { IfOk result (λ v. IsCutTo low high rects.now v.0.items v.1.items) }
@@ -167,8 +170,8 @@ fn pieces_of_slice(
     alloc: Global,
     rects: &[Rect],
     holes: &[Rect],
-    low: i64,
-    high: i64,
+    low: i32,
+    high: i32,
 ) -> Result<Vec<Rect>, AllocError>
     requires rects { AreRectsWithin farthest rects.now }
     requires holes { AreRectsWithin farthest holes.now }
@@ -202,7 +205,7 @@ fn settle(
     alloc: Global,
     done: &mut Vec<Rect>,
     pieces: Vec<Rect>,
-    high: i64,
+    high: i32,
 ) -> Result<Vec<Rect>, AllocError>
     ensures { IfOk result (λ v. IsPermutation (done.old.items ++ pieces.items) (done.new.items ++ v.items)) }
 {
@@ -224,9 +227,9 @@ fn add_slice(
     growing: Vec<Rect>,
     rects: &[Rect],
     holes: &[Rect],
-    low: i64,
-    high: i64,
-) -> Result<(Vec<Rect>, i64), AllocError>
+    low: i32,
+    high: i32,
+) -> Result<(Vec<Rect>, i32), AllocError>
     requires rects { AreRectsWithin farthest rects.now }
     requires holes { AreRectsWithin farthest holes.now }
     requires below { ArePiecesBelow low (Without rects.now holes.now) (done.old.items ++ growing.items) }
@@ -243,7 +246,7 @@ fn add_slice(
 }
 
 /// Adds the rows in which some rectangles begin and end, one of so many.
-fn add_ends(ends: &mut Vec<i64>, rects: &[Rect], of: usize) -> Result<(), AllocError>
+fn add_ends(ends: &mut Vec<i32>, rects: &[Rect], of: usize) -> Result<(), AllocError>
     requires { 0 < of }
 {
     for i in (0..rects.len()).step_by(of) {
@@ -256,7 +259,7 @@ fn add_ends(ends: &mut Vec<i64>, rects: &[Rect], of: usize) -> Result<(), AllocE
 /// Adds rows that cut the rows of rectangles and holes into slices, in which about as many of both begin or end.
 fn add_even_cuts(
     alloc: Global,
-    cuts: &mut Vec<i64>,
+    cuts: &mut Vec<i32>,
     rects: &[Rect],
     holes: &[Rect],
 ) -> Result<(), AllocError> {
@@ -277,7 +280,7 @@ fn width(r: &Rect) -> u64 {
     if r.x1 <= r.x0 {
         return 0;
     }
-    r.x0.abs_diff(r.x1)
+    r.x0.abs_diff(r.x1) as u64
 }
 
 /// Half of the columns of the widest rectangle, where that is far wider than the average or where there are few.
@@ -295,8 +298,8 @@ fn half_of_widest(rects: &[Rect]) -> Option<u64> {
     Some(widest / 2)
 }
 
-/// The rows in which rectangles wider than half of the widest one begin and end. There are none where many are as wide as that, or where the widest one isn't far wider than the average.
-fn wide_ends(alloc: Global, rects: &[Rect]) -> Result<Vec<i64>, AllocError> {
+/// The rows in which rectangles wider than half of the widest one begin and end. There are none where more than 16 are as wide as that, and none where there are more than 16 rectangles and the widest isn't far wider than the average.
+fn wide_ends(alloc: Global, rects: &[Rect]) -> Result<Vec<i32>, AllocError> {
     let Some(half) = half_of_widest(rects) else {
         return Ok(Vec::new(alloc));
     };
@@ -314,8 +317,8 @@ fn wide_ends(alloc: Global, rects: &[Rect]) -> Result<Vec<i64>, AllocError> {
     Ok(ends)
 }
 
-/// Rows that cut rectangles and holes into slices, from the lowest row up. Slices begin and end with wide rectangles: with a part of one all bars in its columns would be swept.
-fn cuts(alloc: Global, rects: &[Rect], holes: &[Rect]) -> Result<Vec<i64>, AllocError> {
+/// Rows that cut rectangles and holes into slices, from the lowest row up. Slices begin and end with wide rectangles where at most 16 are wide, and where the widest is far wider than the average or there are at most 16 rectangles in all: with a part of a wide one all bars in its columns would be swept.
+fn cuts(alloc: Global, rects: &[Rect], holes: &[Rect]) -> Result<Vec<i32>, AllocError> {
     let mut cuts = wide_ends(alloc, rects)?;
     add_even_cuts(alloc, &mut cuts, rects, holes)?;
     cuts.sort_unstable();
@@ -339,7 +342,7 @@ fn pieces_of_slices(
         .saturating_add(holes.len())
         .saturating_mul(PIECES);
     let (mut done, mut growing) = (Vec::new(alloc), Vec::new(alloc));
-    let mut low = -FARTHEST;
+    let mut low = BOTTOM;
     for &cut in &cuts {
         (growing, low) = add_slice(alloc, &mut done, growing, rects, holes, low, cut)?;
         if done.len().saturating_add(growing.len()) > most {
@@ -363,7 +366,7 @@ fn sliced(alloc: Global, rects: &[Rect], holes: &[Rect]) -> Result<Option<Vec<Re
     pieces_of_slices(alloc, rects, holes)
 }
 
-/// The slabs of the squares that rectangles have and no hole has: where there are many of both, slice by slice.
+/// The slabs of the squares that rectangles have and no hole has: where there are many of both together, slice by slice, unless that makes too many pieces.
 pub fn slabs_without(alloc: Global, rects: &[Rect], holes: &[Rect]) -> Result<Vec<Rect>, AllocError>
     requires rects { AreRectsWithin farthest rects.now }
     requires holes { AreRectsWithin farthest holes.now }

@@ -23,7 +23,7 @@ fn shared(rule: Rule, below: &Bands, above: &Bands) -> Option<Run>
 }
 
 /// The two parts as they are, or as one band.
-fn two(alloc: Global, rule: Rule, below: Bands, row: i64, above: Bands) -> Result<Bands, AllocError>
+fn two(alloc: Global, rule: Rule, below: Bands, row: i32, above: Bands) -> Result<Bands, AllocError>
     requires below { IsSmall (2 ^ 62) below }
     requires above { IsSmall (2 ^ 62) above }
     ensures { IfOk result (λ t. IsMended rule below row above t) }
@@ -44,7 +44,7 @@ fn lift_above(
     alloc: Global,
     rule: Rule,
     below: Bands,
-    row: i64,
+    row: i32,
     above: Bands,
 ) -> Result<Bands, AllocError>
     requires below { IsSmall (2 ^ 62) below }
@@ -66,7 +66,7 @@ fn lift_below(
     alloc: Global,
     rule: Rule,
     below: Bands,
-    row: i64,
+    row: i32,
     above: Bands,
 ) -> Result<Bands, AllocError>
     requires below { IsSmall (2 ^ 62) below }
@@ -148,7 +148,7 @@ fn balanced(
     alloc: Global,
     rule: Rule,
     below: Bands,
-    row: i64,
+    row: i32,
     above: Bands,
 ) -> Result<Bands, AllocError>
     requires below { IsSmall (2 ^ 62) below }
@@ -173,7 +173,7 @@ pub fn join(
     alloc: Global,
     rule: Rule,
     below: Bands,
-    row: i64,
+    row: i32,
     above: Bands,
 ) -> Result<Bands, AllocError>
     requires below { IsSmall (2 ^ 62) below }

@@ -14,7 +14,7 @@ use std::alloc::{AllocError, Global};
 use std::mem;
 
 /// A row at which the edge begins or ends, inside a band that it doesn't span.
-fn end_inside(edge: &Edge, low: i64, high: i64) -> i64
+fn end_inside(edge: &Edge, low: i32, high: i32) -> i32
     requires meets { (low <ℤ edge.now.y1) × (edge.now.y0 <ℤ high) }
     requires part { (edge.now.y0 ≤ℤ low) × (high ≤ℤ edge.now.y1) → ⊥ }
     ensures above { low <ℤ result }
@@ -27,7 +27,7 @@ fn end_inside(edge: &Edge, low: i64, high: i64) -> i64
 }
 
 /// Whether the edge is beside no row of the band.
-fn misses(edge: &Edge, low: i64, high: i64) -> bool
+fn misses(edge: &Edge, low: i32, high: i32) -> bool
     ensures yes { IsTrue result → (edge.now.y1 ≤ℤ low) ⊎ (high ≤ℤ edge.now.y0) }
     ensures no { IsFalse result → (low <ℤ edge.now.y1) × (edge.now.y0 <ℤ high) }
 {
@@ -35,7 +35,7 @@ fn misses(edge: &Edge, low: i64, high: i64) -> bool
 }
 
 /// Whether the edge is beside all rows of the band.
-fn spans(edge: &Edge, low: i64, high: i64) -> bool
+fn spans(edge: &Edge, low: i32, high: i32) -> bool
     ensures { IsTrue result ↔ ((edge.now.y0 ≤ℤ low) × (high ≤ℤ edge.now.y1)) }
 {
     edge.y0 <= low && high <= edge.y1
@@ -47,14 +47,12 @@ fn parted(
     run: Run,
     rule: Rule,
     edge: &Edge,
-    low: i64,
-    high: i64,
+    low: i32,
+    high: i32,
     count: usize,
     pieces: &mut Vec<Rect>,
 ) -> Result<Bands, AllocError>
     requires order { low <ℤ high }
-    requires low { unsigned_abs low ≤ 2 ^ 40 }
-    requires high { unsigned_abs high ≤ 2 ^ 40 }
     requires room { count < 2 ^ 62 }
     requires small { (unsigned_abs edge.now.a ≤ 1) × (unsigned_abs edge.now.b ≤ 1) }
     requires rows { AreRows low high edge.now.x (One run) }
@@ -84,14 +82,12 @@ impl Bands {
         alloc: Global,
         rule: Rule,
         edge: &Edge,
-        low: i64,
-        high: i64,
+        low: i32,
+        high: i32,
         count: usize,
         pieces: &mut Vec<Rect>,
     ) -> Result<(), AllocError>
         requires order { low <ℤ high }
-        requires low { unsigned_abs low ≤ 2 ^ 40 }
-        requires high { unsigned_abs high ≤ 2 ^ 40 }
         requires room { count < 2 ^ 62 }
         requires small { (unsigned_abs edge.now.a ≤ 1) × (unsigned_abs edge.now.b ≤ 1) }
         requires rows { AreRows low high edge.now.x self.old }
@@ -106,7 +102,7 @@ impl Bands {
         if spans(edge, low, high) && self.is_deep(rule, edge) {
             self.follow(Lag {
                 at: edge.x,
-                a: edge.a,
+                a: edge.a as i64,
             });
             return Ok(());
         }

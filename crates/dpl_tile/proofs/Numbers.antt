@@ -1,10 +1,13 @@
 -- Rows and columns of cells.
-use Rattle.std.proofs.Common.{◌≡◌, ℕ, ◌+◌, ◌*◌, ◌/◌, ◌<◌, ◌≤◌, inl, inr, subst, arith}
+use Rattle.std.proofs.Common.{◌≡◌, ℕ, ◌+◌, ◌*◌, ◌/◌, ◌<◌, ◌≤◌, inl, inr, subst, arith, rules, w32, w64}
+use mir.Val.{to_z, of_z}
+use borrow.Author.Rules.{sfits_of}
+use Rattle.std.specs.Int.RustNames.{FitsSigned}
 use Rattle.std.specs.Prelude.{ℤ, pos, ◌+ℤ◌, ◌-ℤ◌, ◌≤ℤ◌, ◌<ℤ◌, unsigned_abs}
 use Rattle.std.proofs.Math.Nat.{le-div_iff_mul-le, div-mul-le_self, lt-div-mul-add}
 use Rattle.std.proofs.lemmas.Nat.{mul-le}
 use Rattle.std.proofs.lemmas.Bool.{cases_lt}
-use Rattle.std.proofs.lemmas.Int.{ints}
+use Rattle.std.proofs.lemmas.Int.{ints, to_z-of_z}
 use Rattle.dpl_tile.specs.Tiles.{number_in}
 
 div_le : (s a b : ℕ) → 1 ≤ s → a ≤ b → a / s ≤ b / s
@@ -66,3 +69,16 @@ met-from_span side low a b i n some from l m h =
 
 pub number-as : (side n : ℕ) (a b c d : ℤ) → n ≡ number_in side a b → a ≡ c → b ≡ d → n ≡ number_in side c d
 number-as side n a b c d h l r = subst (λ u. n ≡ number_in side u d) l (subst (λ u. n ≡ number_in side a u) r h)
+
+-- a coordinate of a rectangle is the same in 64 bits, and the one before it fits them
+pub same-wide : (i : ℤ) → FitsSigned w32 i → to_z w64 (of_z w64 (to_z w32 (of_z w32 i))) ≡ i
+same-wide i f = rw (to_z-of_z w32 i f) (to_z-of_z w64 i (sfits_of (let l = f.sfits in omega (arith, ints, l))))
+
+before-short : (i : ℤ) → FitsSigned w32 i → FitsSigned w64 (i -ℤ pos 1)
+before-short i f = search (rules, ints)
+
+pub before-fits : (i : ℤ) → FitsSigned w32 i → FitsSigned w64 (to_z w64 (of_z w64 (to_z w32 (of_z w32 i))) -ℤ pos 1)
+before-fits i f = rw (same-wide i f) (before-short i f)
+
+pub before-wide : (i : ℤ) → FitsSigned w32 i → to_z w64 (of_z w64 (to_z w64 (of_z w64 (to_z w32 (of_z w32 i))) -ℤ pos 1)) ≡ i -ℤ pos 1
+before-wide i f = rw (same-wide i f) (to_z-of_z w64 (i -ℤ pos 1) (before-short i f))

@@ -54,10 +54,10 @@ pub(crate) fn is_one_cell(bounds: &Rect, grid: &Grid) -> bool
     ensures one { IsTrue result ↔ LiesIn bounds.now (cell_at grid.now (0, 0)) }
     ensures short { IsFalse result → grid.now.side ≤ 2 ^ 31 }
 {
-    if (bounds.x1 - grid.x) as u64 > grid.side {
+    if (bounds.x1 as i64 - grid.x) as u64 > grid.side {
         return false;
     }
-    if (bounds.y1 - grid.y) as u64 > grid.side {
+    if (bounds.y1 as i64 - grid.y) as u64 > grid.side {
         return false;
     }
     true

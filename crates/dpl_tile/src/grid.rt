@@ -5,7 +5,7 @@ ghost use Rattle.dpl_spec.specs.Slabs.{IsSolid};
 ghost use Rattle.dpl_tile.specs.Kept.{IsSound, IsOver, IsClose, IsBlockOf, IsSomeBlock};
 ghost use Rattle.dpl_tile.specs.Tiles.{cell_at, number_in, cells_met};
 
-use dpl_base::Rect;
+use dpl_base::{Rect, WideRect};
 
 /// The row and the column of a cell.
 pub type Place = (u64, u64);
@@ -50,19 +50,19 @@ fn above(low: i64, by: u64) -> i64
 
 impl Grid {
     /// The cell of a place.
-    pub(crate) fn cell(&self, place: Place) -> Rect
+    pub(crate) fn cell(&self, place: Place) -> WideRect
         requires sound { IsSound self.now }
         requires close { IsClose self.now place }
         ensures value { result ≡ cell_at self.now place }
         ensures solid { IsSolid result }
     {
         let (row, column) = place;
-        Rect {
-            x0: above(self.x, column * self.side),
-            y0: above(self.y, row * self.side),
-            x1: above(self.x, column * self.side + self.side),
-            y1: above(self.y, row * self.side + self.side),
-        }
+        WideRect::new(
+            above(self.x, column * self.side),
+            above(self.y, row * self.side),
+            above(self.x, column * self.side + self.side),
+            above(self.y, row * self.side + self.side),
+        )
     }
 
     /// The rows and columns of the cells that a rectangle meets.
@@ -73,10 +73,10 @@ impl Grid {
         ensures some { IsSomeBlock result }
     {
         Block {
-            row0: number(self.side, self.y, r.y0),
-            row1: number(self.side, self.y, r.y1 - 1) + 1,
-            column0: number(self.side, self.x, r.x0),
-            column1: number(self.side, self.x, r.x1 - 1) + 1,
+            row0: number(self.side, self.y, r.y0 as i64),
+            row1: number(self.side, self.y, r.y1 as i64 - 1) + 1,
+            column0: number(self.side, self.x, r.x0 as i64),
+            column1: number(self.side, self.x, r.x1 as i64 - 1) + 1,
         }
     }
 

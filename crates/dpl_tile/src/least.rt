@@ -15,8 +15,8 @@ const CELLS_MORE: u64 = 65_536;
 fn cells(r: &Rect, side: u32) -> u64
     requires { 1 ≤ side }
 {
-    let columns = r.x0.abs_diff(r.x1) / side as u64;
-    let rows = r.y0.abs_diff(r.y1) / side as u64;
+    let columns = r.x0.abs_diff(r.x1) as u64 / side as u64;
+    let rows = r.y0.abs_diff(r.y1) as u64 / side as u64;
     columns
         .saturating_add(1)
         .saturating_mul(rows.saturating_add(1))

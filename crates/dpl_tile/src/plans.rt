@@ -5,7 +5,7 @@ ghost use Rattle.dpl_slabs.specs.Parts.{AreParts};
 ghost use Rattle.dpl_tree.specs.Trees.{AreItemsOf};
 
 use crate::grid::{Grid, Place};
-use dpl_base::{Id, Rect};
+use dpl_base::{Id, WideRect};
 use dpl_slabs::Parts;
 use dpl_tree::Tree;
 use std::marker::Model;
@@ -44,7 +44,7 @@ impl<'a> Plan<'a> {
     }
 
     /// The cell of a tile: its columns and rows, in database units. Tiles are numbered by row, then by column.
-    pub fn cell(&self, tile: u32) -> Rect
+    pub fn cell(&self, tile: u32) -> WideRect
         requires { tile < length self.now.cells }
         ensures value { slice_get self.now.cells tile ≡ Some result }
         ensures solid { IsSolid result }

@@ -20,8 +20,8 @@ pub(crate) fn grid_of(parts: &[Slabs], bounds: &Rect, tile: u32) -> Grid
     ensures low { result.y ≡ bounds.now.y0 }
 {
     let mut grid = Grid {
-        x: bounds.x0,
-        y: bounds.y0,
+        x: bounds.x0 as i64,
+        y: bounds.y0 as i64,
         side: tile as u64,
     };
     while !is_coarse(bounds, &grid, parts) {

@@ -10,7 +10,6 @@ use Rattle.dpl_tree.specs.declared.blocks.Block.{Block}
 use Rattle.dpl_tree.specs.declared.owners.Owners.{Owners}
 use Rattle.dpl_tree.specs.declared.owners.Owners.TheVariants.{All, But, Only, Above}
 use Rattle.dpl_tree.specs.Trees.{LiesIn, LiesApart, IsLeftOut, IsMissed}
-use Rattle.dpl_tree.specs.NarrowItems.{narrow_rect, wide_rect}
 use Rattle.dpl_tree.specs.Blocks.{item_block, same_block, IsUnder, IsLevelOver, AreCovered, IsIndex, AreLeftOut, IsBarred}
 
 pub under-self : (a : Block) → IsUnder a a
@@ -210,7 +209,7 @@ apart-down window inner outer u (inr (inr (inr a))) = let v = u.low in inr (inr 
 
 -- a search finds no item of a block in which it finds nothing
 pub barred-down : (window : Rect) (owners : Owners) (item : Item) (block : Block) → IsUnder (item_block item) block → IsBarred window owners block → IsMissed window owners item
-barred-down window owners item block u (inl a) = inl (apart-down window (wide_rect (narrow_rect item.rect)) (wide_rect block.bounds) u.inside a)
+barred-down window owners item block u (inl a) = inl (apart-down window item.rect block.bounds u.inside a)
 barred-down window owners item block u (inr a) = inr (out-down owners item block u a)
 
 missed-out : (owners : Owners) (item : Item) → IsLeftOut owners item.owner → AreLeftOut owners (item_block item)

@@ -1,5 +1,5 @@
 pub mod BlockLaws
 pub mod ItemLaws
-pub mod NarrowLaws
 pub mod SearchLaws
+pub mod StoredLaws
 pub mod Turns

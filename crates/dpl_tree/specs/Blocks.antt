@@ -2,7 +2,7 @@
 use Rattle.std.specs.Prelude.{◌≡◌, ℕ, suc, ◌+◌, ◌*◌, ◌^◌, ◌<◌, ◌≤◌, ◌⊎◌, List, [], length, slice_index_or}
 use Rattle.dpl_spec.specs.declared.Rect.{Rect}
 use Rattle.dpl_tree.specs.declared.items.Item.{Item}
-use Rattle.dpl_tree.specs.declared.items.NarrowItem.{NarrowItem}
+use Rattle.dpl_tree.specs.declared.items.StoredItem.{StoredItem}
 use Rattle.dpl_tree.specs.declared.blocks.Block.{Block}
 use Rattle.dpl_tree.specs.declared.owners.Owners.{Owners}
 use Rattle.dpl_tree.specs.declared.owners.Owners.TheVariants.{All, But, Only, Above}
@@ -10,22 +10,22 @@ use Rattle.dpl_tree.specs.declared.search.Place.{Place}
 use Rattle.dpl_tree.specs.declared.search.Finding.{Finding}
 use Rattle.dpl_tree.specs.declared.search.Finding.TheVariants.{Found, Passed, Over}
 use Rattle.dpl_tree.specs.Trees.{LiesIn, LiesApart, IsMissed, ArePassed}
-use Rattle.dpl_tree.specs.NarrowItems.{item_of, narrow_rect, wide_rect}
+use Rattle.dpl_tree.specs.StoredItems.{item_of}
 
 -- the block of one item
 abbrev pub item_block : Item → Block
-item_block item = record { bounds = narrow_rect item.rect; least = item.owner; greatest = item.owner }
+item_block item = record { bounds = item.rect; least = item.owner; greatest = item.owner }
 
 -- the block of one item as a tree keeps it
-abbrev pub narrow_block : NarrowItem → Block
-narrow_block item = item_block (item_of item)
+abbrev pub stored_block : StoredItem → Block
+stored_block item = item_block (item_of item)
 
 abbrev pub same_block : Block → Block
 same_block block = block
 
 -- the upper block bounds the lower one and its owners
 pub record IsUnder (lower upper : Block) : Type 0 where
-  pub inside : LiesIn (wide_rect lower.bounds) (wide_rect upper.bounds)
+  pub inside : LiesIn lower.bounds upper.bounds
   pub least : upper.least ≤ lower.least
   pub greatest : lower.greatest ≤ upper.greatest
 
@@ -53,7 +53,7 @@ AreLeftOut (Above k) block = block.greatest ≤ k
 
 -- a search finds nothing in the block
 abbrev pub IsBarred : Rect → Owners → Block → Type 0
-IsBarred window owners block = LiesApart window (wide_rect block.bounds) ⊎ AreLeftOut owners block
+IsBarred window owners block = LiesApart window block.bounds ⊎ AreLeftOut owners block
 
 -- What is found among things from number at on: the first that isn't barred; or a later number, before which all are; or that there are no more things.
 abbrev pub IsFoundAmong : {T : Type 0} → (T → Block) → List T → ℕ → Rect → Owners → Finding → Type 0

@@ -1,4 +1,4 @@
 pub mod Blocks
-pub mod NarrowItems
+pub mod StoredItems
 pub mod Trees
 pub mod Windows

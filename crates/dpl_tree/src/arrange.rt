@@ -3,13 +3,13 @@ ghost use Rattle.std.specs.Prelude.{◌<◌};
 ghost use Rattle.std.specs.List.Sorted.{IsPermutation};
 
 use crate::blocks::FAN;
-use crate::items::NarrowItem;
+use crate::items::StoredItem;
 
 /// How many items stand in a stretch that is as wide as the stack of items is high.
 const NEIGHBOURS: u64 = 4;
 
 /// How far the left sides of items lie apart.
-fn width(items: &[NarrowItem]) -> u64 {
+fn width(items: &[StoredItem]) -> u64 {
     let mut left = i32::MAX;
     let mut right = i32::MIN;
     for item in items {
@@ -20,7 +20,7 @@ fn width(items: &[NarrowItem]) -> u64 {
 }
 
 /// How far the bottoms of the first and the last item lie apart.
-fn height(items: &[NarrowItem]) -> u64 {
+fn height(items: &[StoredItem]) -> u64 {
     match (items.first(), items.last()) {
         (Some(first), Some(last)) => last.rect.y0.abs_diff(first.rect.y0) as u64,
         _ => 0,
@@ -28,13 +28,13 @@ fn height(items: &[NarrowItem]) -> u64 {
 }
 
 /// Whether items that rise by rows are so low a stack that those next to one another by column lie near one another.
-fn is_low(items: &[NarrowItem]) -> bool {
+fn is_low(items: &[StoredItem]) -> bool {
     let count = items.len() as u64;
     count.saturating_mul(height(items)) <= width(items).saturating_mul(NEIGHBOURS)
 }
 
 /// Whether the bottoms of the first and the last item lie no farther apart than twice the items' height on the average, so that blocks by rows would lie beside each other.
-fn is_of_tall_items(items: &[NarrowItem]) -> bool {
+fn is_of_tall_items(items: &[StoredItem]) -> bool {
     let mut heights: u64 = 0;
     for item in items {
         heights = heights.saturating_add(item.rect.y0.abs_diff(item.rect.y1) as u64);
@@ -43,7 +43,7 @@ fn is_of_tall_items(items: &[NarrowItem]) -> bool {
 }
 
 /// Whether left sides lie no farther apart than twice the items' width on the average, so that blocks by columns would lie over one another.
-fn is_of_wide_items(items: &[NarrowItem]) -> bool {
+fn is_of_wide_items(items: &[StoredItem]) -> bool {
     let mut widths: u64 = 0;
     for item in items {
         widths = widths.saturating_add(item.rect.x0.abs_diff(item.rect.x1) as u64);
@@ -52,7 +52,7 @@ fn is_of_wide_items(items: &[NarrowItem]) -> bool {
 }
 
 /// Whether items that rise by rows lie farther apart when they go by columns.
-fn goes_by_columns(items: &[NarrowItem]) -> bool {
+fn goes_by_columns(items: &[StoredItem]) -> bool {
     if is_of_wide_items(items) {
         return false;
     }
@@ -73,7 +73,7 @@ fn half_of(count: usize) -> usize
 }
 
 /// Halves items that rise by rows. A part that is a low stack, or of tall items, is put in order of columns; one of a single block stays as it is.
-fn arrange_stack(items: &mut [NarrowItem])
+fn arrange_stack(items: &mut [StoredItem])
     ensures { IsPermutation items.old items.new }
 {
     if items.len() <= FAN {
@@ -90,7 +90,7 @@ fn arrange_stack(items: &mut [NarrowItem])
 }
 
 /// Puts items in order for a tree of blocks of them: so that the blocks lie apart, as far as they can.
-pub fn arrange(items: &mut [NarrowItem])
+pub fn arrange(items: &mut [StoredItem])
     ensures { IsPermutation items.old items.new }
 {
     items.sort_unstable_by_key(|t| t.rect.y0);

@@ -1,12 +1,11 @@
 //! Blocks over items, and levels of them, each over the one below.
 ghost use Rattle.std.specs.Prelude.{◌≡◌, ℕ, ◌+◌, ◌*◌, ◌<◌, ◌≤◌, IfOk, length, map, slice_index_or};
 ghost use Rattle.dpl_tree.specs.declared.blocks.Block.{Block};
-ghost use Rattle.dpl_tree.specs.Blocks.{IsIndex, IsLevelOver, IsUnder, narrow_block, same_block};
-ghost use Rattle.dpl_tree.specs.NarrowItems.{item_of};
+ghost use Rattle.dpl_tree.specs.Blocks.{IsIndex, IsLevelOver, IsUnder, same_block, stored_block};
+ghost use Rattle.dpl_tree.specs.StoredItems.{item_of};
 
-use crate::items::NarrowItem;
-use crate::narrow::Narrow;
-use dpl_base::Listed;
+use crate::items::StoredItem;
+use dpl_base::{Listed, Rect};
 use std::alloc::{AllocError, Global};
 
 /// How many items stand in a block, and how many blocks in a block of the next level.
@@ -15,9 +14,9 @@ pub(crate) const FAN: usize = 8;
 /// What bounds the items of a block, and their owners, from the least to the greatest.
 #[derive(Clone, Copy, Drop)]
 pub(crate) struct Block {
-    pub(crate) bounds: Narrow,
-    pub(crate) least: usize,
-    pub(crate) greatest: usize,
+    pub(crate) bounds: Rect,
+    pub(crate) least: u32,
+    pub(crate) greatest: u32,
 }
 
 /// What has a block of its own.
@@ -28,11 +27,11 @@ pub(crate) trait Bounded {
         ensures { result ≡ block_of self.now };
 }
 
-impl Bounded for NarrowItem {
-    ghost block_of = { narrow_block };
+impl Bounded for StoredItem {
+    ghost block_of = { stored_block };
 
     fn block(&self) -> Block
-        ensures { result ≡ narrow_block self.now }
+        ensures { result ≡ stored_block self.now }
     {
         Block {
             bounds: self.rect,
@@ -58,7 +57,7 @@ fn over(a: &Block, b: &Block) -> Block
     ensures second { IsUnder b.now result }
 {
     Block {
-        bounds: Narrow {
+        bounds: Rect {
             x0: a.bounds.x0.min(b.bounds.x0),
             y0: a.bounds.y0.min(b.bounds.y0),
             x1: a.bounds.x1.max(b.bounds.x1),
@@ -98,7 +97,7 @@ fn level_over<T: Bounded>(alloc: Global, things: &[T]) -> Result<Vec<Block>, All
 /// The levels over items, each over the one below it, until one has no more than eight blocks.
 pub(crate) fn levels_over(
     alloc: Global,
-    items: &[NarrowItem],
+    items: &[StoredItem],
 ) -> Result<Vec<Listed<Block>>, AllocError>
     ensures { IfOk result (λ v. IsIndex (map item_of items.now) v.items) }
 {

@@ -1,12 +1,10 @@
 //! Rectangles for a search tree, each with its owner.
-ghost use Rattle.std.specs.Prelude.{◌≡◌, ℕ, ◌+◌, ◌<◌, ◌⊎◌, ◌↔◌, [], IfOk, MatchResult, length, map, slice_index_or};
+ghost use Rattle.std.specs.Prelude.{◌≡◌, ℕ, ◌^◌, ◌<◌, ◌≤◌, ◌⊎◌, ◌↔◌, [], IfOk, IfSome, IsNone, MatchResult, length, map, slice_index_or};
 ghost use Rattle.std.specs.List.{Contains};
 ghost use Rattle.dpl_spec.specs.declared.Rect.{Rect};
-ghost use Rattle.dpl_spec.specs.Loops.{AreRectsWithin, farthest};
 ghost use Rattle.dpl_tree.specs.Trees.{HasItem};
-ghost use Rattle.dpl_tree.specs.NarrowItems.{item_of};
+ghost use Rattle.dpl_tree.specs.StoredItems.{item_of};
 
-use crate::narrow::Narrow;
 use dpl_base::Rect;
 use dpl_slabs::Slabs;
 use std::alloc::{AllocError, Global};
@@ -21,19 +19,19 @@ pub struct Item {
 
 /// An item as a tree keeps it.
 #[derive(Clone, Copy, Drop)]
-pub(crate) struct NarrowItem {
-    pub(crate) rect: Narrow,
-    pub(crate) owner: usize,
+pub(crate) struct StoredItem {
+    pub(crate) rect: Rect,
+    pub(crate) owner: u32,
 }
 
-impl NarrowItem {
+impl StoredItem {
     /// The item.
     pub(crate) fn item(&self) -> Item
         ensures { result ≡ item_of self.now }
     {
         Item {
-            rect: self.rect.wide(),
-            owner: self.owner,
+            rect: self.rect,
+            owner: self.owner as usize,
         }
     }
 }
@@ -41,13 +39,13 @@ impl NarrowItem {
 /// Items for a tree, in any order. A contract sees them as a list.
 #[derive(Drop)]
 pub struct Items {
-    items: Vec<NarrowItem>,
+    items: Vec<StoredItem>,
 }
 
 impl Model for Items {
     ghost use Rattle.std.specs.Prelude.{List, map};
     ghost use Rattle.dpl_tree.specs.declared.items.Item.{Item};
-    ghost use Rattle.dpl_tree.specs.NarrowItems.{item_of};
+    ghost use Rattle.dpl_tree.specs.StoredItems.{item_of};
 
     ghost Value = { List Item };
 
@@ -74,31 +72,42 @@ impl Items {
         Ok(Items { items })
     }
 
-    /// Adds rectangles of an owner, with no corner farther than `FARTHEST + 1` database units from 0. Where memory runs out, it adds none.
+    /// Adds rectangles of an owner. Where memory runs out, it adds none. An owner of number 2^32 or more is refused as want of memory, which so many owners with rectangles would be.
     pub fn add(&mut self, rects: &[Rect], owner: usize) -> Result<(), AllocError>
-        requires { AreRectsWithin (farthest + 1) rects.now }
         ensures { MatchResult result (λ _. (r : Rect) (k : ℕ) → HasItem self.new r k ↔ (HasItem self.old r k ⊎ ((k ≡ owner) × Contains rects.now r))) (λ _. self.new ≡ self.old) }
     {
+        let Some(owner) = stored_owner(owner) else {
+            return Err(AllocError);
+        };
         add_rects(&mut self.items, rects, owner)
     }
 
     /// The items as a tree keeps them.
-    pub(crate) fn into_items(self) -> Vec<NarrowItem>
+    pub(crate) fn into_items(self) -> Vec<StoredItem>
         ensures { map item_of result.items ≡ self }
     {
         self.items
     }
 }
 
+/// An owner's number as a tree stores it; none where it is 2^32 or more.
+fn stored_owner(owner: usize) -> Option<u32>
+    ensures none { IsNone result → 2 ^ 32 ≤ owner }
+    ensures some { IfSome result (λ n. n ≡ owner) }
+{
+    match u32::try_from(owner) {
+        Ok(n) => Some(n),
+        Err(_) => None,
+    }
+}
+
 /// Adds rectangles of an owner. Where memory runs out, it adds none.
-fn add_rects(items: &mut Vec<NarrowItem>, rects: &[Rect], owner: usize) -> Result<(), AllocError>
-    requires { AreRectsWithin (farthest + 1) rects.now }
+fn add_rects(items: &mut Vec<StoredItem>, rects: &[Rect], owner: u32) -> Result<(), AllocError>
     ensures { MatchResult result (λ _. (r : Rect) (k : ℕ) → HasItem (map item_of items.new.items) r k ↔ (HasItem (map item_of items.old.items) r k ⊎ ((k ≡ owner) × Contains rects.now r))) (λ _. map item_of items.new.items ≡ map item_of items.old.items) }
 {
     items.reserve(rects.len())?;
     for rect in rects {
-        let rect = Narrow::of(rect);
-        items.push(NarrowItem { rect, owner })?;
+        items.push(StoredItem { rect: *rect, owner })?;
     }
     Ok(())
 }

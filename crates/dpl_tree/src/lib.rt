@@ -4,7 +4,6 @@
 mod arrange;
 mod blocks;
 mod items;
-mod narrow;
 mod owners;
 mod search;
 mod tree;

@@ -3,13 +3,13 @@ ghost use Rattle.std.specs.Prelude.{◌≡◌, ℕ, ◌<◌, ◌≤◌, ◌↔�
 ghost use Rattle.dpl_tree.specs.declared.items.Item.{Item};
 ghost use Rattle.dpl_tree.specs.Trees.{ArePassed, IsMissed};
 ghost use Rattle.dpl_tree.specs.Blocks.{AreLeftOut, IsBarred, IsFoundAt, IsIndex, IsFoundAmong, start_of};
-ghost use Rattle.dpl_tree.specs.NarrowItems.{item_of};
+ghost use Rattle.dpl_tree.specs.StoredItems.{item_of};
 
 use crate::blocks::{Block, Bounded, FAN};
-use crate::items::NarrowItem;
+use crate::items::StoredItem;
 use crate::owners::Owners;
 use crate::window::lies_apart;
-use dpl_base::{Listed, Rect};
+use dpl_base::{Listed, WideRect};
 
 /// Where a search stands: before a block of a level, where the things of level 0 are the items.
 #[derive(Clone, Copy, Drop)]
@@ -33,19 +33,21 @@ pub(crate) enum Finding {
 fn are_left_out(owners: Owners, block: &Block) -> bool
     ensures { IsTrue result ↔ AreLeftOut owners block.now }
 {
+    let least = block.least as usize;
+    let greatest = block.greatest as usize;
     match owners {
         Owners::All => false,
-        Owners::But(k) => block.least == k && block.greatest == k,
-        Owners::Only(k) => k < block.least || block.greatest < k,
-        Owners::Above(k) => block.greatest <= k,
+        Owners::But(k) => least == k && greatest == k,
+        Owners::Only(k) => k < least || greatest < k,
+        Owners::Above(k) => greatest <= k,
     }
 }
 
 /// Whether a search finds nothing in the block.
-fn is_barred(window: &Rect, owners: Owners, block: &Block) -> bool
+fn is_barred(window: &WideRect, owners: Owners, block: &Block) -> bool
     ensures { IsTrue result ↔ IsBarred window.now owners block.now }
 {
-    if lies_apart(window, &block.bounds.wide()) {
+    if lies_apart(window, &block.bounds) {
         return true;
     }
     if are_left_out(owners, block) {
@@ -55,7 +57,7 @@ fn is_barred(window: &Rect, owners: Owners, block: &Block) -> bool
 }
 
 /// What a search finds among things from number `at` on, to the end of the eight in a row that it stands in.
-fn find_in<T: Bounded>(things: &[T], at: usize, window: &Rect, owners: Owners) -> Finding
+fn find_in<T: Bounded>(things: &[T], at: usize, window: &WideRect, owners: Owners) -> Finding
     ensures { IsFoundAmong T.block_of things.now at window.now owners result }
 {
     if at >= things.len() {
@@ -72,10 +74,10 @@ fn find_in<T: Bounded>(things: &[T], at: usize, window: &Rect, owners: Owners) -
 
 /// What a search finds from a place on, to the end of the eight blocks, or items, in a row that it stands in.
 fn find_at(
-    items: &[NarrowItem],
+    items: &[StoredItem],
     levels: &[Listed<Block>],
     place: Place,
-    window: &Rect,
+    window: &WideRect,
     owners: Owners,
 ) -> Finding
     requires index { IsIndex (map item_of items.now) levels.now }
@@ -105,10 +107,10 @@ fn highest(place: Place, levels: usize) -> Place
 
 /// The number of the first item from number `from` on that has a square in the window, of the owners that are sought, or a number past all items.
 pub(crate) fn seek_in(
-    items: &[NarrowItem],
+    items: &[StoredItem],
     levels: &[Listed<Block>],
     from: usize,
-    window: &Rect,
+    window: &WideRect,
     owners: Owners,
 ) -> usize
     requires index { IsIndex (map item_of items.now) levels.now }

@@ -6,10 +6,10 @@ ghost use Rattle.dpl_tree.specs.Trees.{AreItemsOf, ArePassed, HasItem, IsMissed}
 
 use crate::arrange::arrange;
 use crate::blocks::{Block, levels_over};
-use crate::items::{Item, Items, NarrowItem, items_of};
+use crate::items::{Item, Items, StoredItem, items_of};
 use crate::owners::Owners;
 use crate::search::seek_in;
-use dpl_base::{Listed, Rect};
+use dpl_base::{Listed, WideRect};
 use dpl_slabs::Slabs;
 use std::alloc::{AllocError, Global};
 use std::marker::Model;
@@ -17,7 +17,7 @@ use std::marker::Model;
 /// A search tree over rectangles with owners. A contract sees its items, in an order of its own.
 #[derive(Drop)]
 pub struct Tree {
-    items: Vec<NarrowItem>,
+    items: Vec<StoredItem>,
     levels: Vec<Listed<Block>>,
 }
 
@@ -25,7 +25,7 @@ impl Model for Tree {
     ghost use Rattle.std.specs.Prelude.{List, map};
     ghost use Rattle.dpl_tree.specs.declared.items.Item.{Item};
     ghost use Rattle.dpl_tree.specs.Blocks.{IsIndex};
-    ghost use Rattle.dpl_tree.specs.NarrowItems.{item_of};
+    ghost use Rattle.dpl_tree.specs.StoredItems.{item_of};
 
     ghost Value = { List Item };
 
@@ -70,7 +70,7 @@ impl Tree {
     }
 
     /// The number of the first item from number `from` on that has a square in the window and an owner that is sought, or a number past all items.
-    pub fn seek(&self, from: usize, window: &Rect, owners: Owners) -> usize
+    pub fn seek(&self, from: usize, window: &WideRect, owners: Owners) -> usize
         ensures from { from ≤ result }
         ensures passed { ArePassed window.now owners self.now from result }
         ensures found { (d : Item) → result < length self.now → ¬ IsMissed window.now owners (slice_index_or self.now result d) }

@@ -6,7 +6,7 @@ ghost use Rattle.dpl_tree.specs.Trees.{ArePassed, IsMissed, turned_item};
 
 use crate::owners::Owners;
 use crate::tree::Tree;
-use dpl_base::Rect;
+use dpl_base::{Rect, WideRect};
 use std::marker::Model;
 
 /// The rectangle with x and y exchanged.
@@ -19,6 +19,13 @@ fn turned(r: &Rect) -> Rect
         x1: r.y1,
         y1: r.x1,
     }
+}
+
+/// The window with x and y exchanged.
+fn turned_window(w: &WideRect) -> WideRect
+    ensures { result ≡ turned_rect w.now }
+{
+    WideRect::new(w.y0(), w.x0(), w.y1(), w.x1())
 }
 
 /// A tree that is borrowed, as it is or with x and y exchanged. A contract sees the items.
@@ -81,13 +88,13 @@ impl<'a> View<'a> {
     }
 
     /// The number of the first item from number `from` on that has a square in the window and an owner that is sought, or a number past all items.
-    pub fn seek(&self, from: usize, window: &Rect, owners: Owners) -> usize
+    pub fn seek(&self, from: usize, window: &WideRect, owners: Owners) -> usize
         ensures from { from ≤ result }
         ensures passed { ArePassed window.now owners self.now from result }
         ensures found { (d : Item) → result < length self.now → ¬ IsMissed window.now owners (slice_index_or self.now result d) }
     {
         if self.is_turned {
-            return self.tree.seek(from, &turned(window), owners);
+            return self.tree.seek(from, &turned_window(window), owners);
         }
         self.tree.seek(from, window, owners)
     }

@@ -7,7 +7,7 @@ use Rattle.std.proofs.lemmas.Bool.{cases_eq}
 use Rattle.std.proofs.lemmas.List.{get_or_default}
 use Rattle.std.proofs.lemmas.List.Elements.{Contains-append_left, Contains-push, Contains-push_cases}
 use Rattle.dpl_spec.specs.declared.Rect.{Rect}
-use Rattle.dpl_spec.specs.Loops.{farthest, AreRectsWithin}
+use Rattle.dpl_spec.specs.Loops.{farthest}
 use Rattle.dpl_spec.specs.Squares.{Region, AreTouching, Has, Covers, IsSolidWithin}
 use Rattle.dpl_spec.specs.Zones.{at, IsHorizontalZone, IsVerticalZone, IsKeptZone, turned, turned_rect}
 use Rattle.dpl_tree.specs.declared.items.Item.{Item}
@@ -123,12 +123,7 @@ apart-of_list flat items z old new are adds w = (
   ],
 )
 
--- zones of a list in the range are in a wider one, and are items in the range
-pub within-rects : (zones : List Rect) → AreWithin zones → AreRectsWithin (farthest + 1) zones
-within-rects zones within r (i, i_in, is) =
-    let s : IsSolidWithin farthest r = subst (λ u. IsSolidWithin farthest u) is (within i r i_in) in
-    record { left = omega (arith, s.left); low = omega (arith, s.low); right = omega (arith, s.right); high = omega (arith, s.high) }
-
+-- zones of a list in the range are items in the range
 pub items-within_list : (flat : List Rect) (items : List Item) → AreWithin flat → ((r : Rect) (k : ℕ) → HasItem items r k ↔ ((k ≡ 0) × Contains flat r)) → AreItemsWithin items
 items-within_list flat items within are r k has =
     let (i, i_in, i_is) = ((are r k).0 has).1 in

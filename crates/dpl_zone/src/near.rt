@@ -8,7 +8,7 @@ ghost use Rattle.dpl_zone.specs.Near.{HasAllNear};
 ghost use Rattle.dpl_tree.specs.Trees.{HasItem};
 ghost use Rattle.dpl_zone.specs.Items.{AllIn, AreItemsWithin, IsStrip, own_in};
 
-use dpl_base::Rect;
+use dpl_base::{Rect, WideRect};
 use dpl_tree::{Owners, View, widened};
 use smallvec::SmallVec;
 use std::alloc::{AllocError, Global};
@@ -39,17 +39,12 @@ pub fn others_near(
 }
 
 /// Row `y`, from one column left of the slab to one right of it.
-fn strip(slab: &Rect, y: i64) -> Rect
+fn strip(slab: &Rect, y: i64) -> WideRect
     requires slab { IsSolidWithin farthest slab.now }
     requires row { y <ℤ pos 2000000000 }
     ensures { IsStrip slab.now y result }
 {
-    Rect {
-        x0: slab.x0 - 1,
-        y0: y,
-        x1: slab.x1 + 1,
-        y1: y + 1,
-    }
+    WideRect::new(slab.x0 as i64 - 1, y, slab.x1 as i64 + 1, y + 1)
 }
 
 /// Whether the owner has a square in row `y`, below or above the slab, that is at most one column beside it.

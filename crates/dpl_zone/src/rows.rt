@@ -35,8 +35,8 @@ fn shadow(slab: &Rect, other: &Rect, rule: u32) -> Option<Span>
     match reach(rule, across) {
         None => None,
         Some(r) => Some(Span {
-            from: other.y0 - 1 - r as i64,
-            to: other.y1 + 1 + r as i64,
+            from: other.y0 as i64 - 1 - r as i64,
+            to: other.y1 as i64 + 1 + r as i64,
         }),
     }
 }
@@ -66,10 +66,10 @@ fn is_covered(spans: &[Span], slab: &Rect) -> bool
         return false;
     }
     let last = spans[spans.len() - 1];
-    if slab.y0 < last.from {
+    if (slab.y0 as i64) < last.from {
         return false;
     }
-    if last.to < slab.y1 {
+    if last.to < slab.y1 as i64 {
         return false;
     }
     true

@@ -25,10 +25,10 @@ fn goes_below(tree: &View, own: usize, slab: &Rect, is_whole: bool, g: &Span) ->
     requires whole { IsTrue is_whole → AllIn (own_in tree.now own) slab.now }
     ensures { IsTrue result ↔ ((slab.now.y0 <ℤ g.now.from) ⊎ GoesBelow (own_in tree.now own) slab.now) }
 {
-    if slab.y0 < g.from {
+    if (slab.y0 as i64) < g.from {
         return true;
     }
-    if has_row(tree, own, slab, is_whole, slab.y0 - 1) {
+    if has_row(tree, own, slab, is_whole, slab.y0 as i64 - 1) {
         return true;
     }
     false
@@ -41,10 +41,10 @@ fn goes_above(tree: &View, own: usize, slab: &Rect, is_whole: bool, g: &Span) ->
     requires whole { IsTrue is_whole → AllIn (own_in tree.now own) slab.now }
     ensures { IsTrue result ↔ ((g.now.to <ℤ slab.now.y1) ⊎ GoesAbove (own_in tree.now own) slab.now) }
 {
-    if g.to < slab.y1 {
+    if g.to < slab.y1 as i64 {
         return true;
     }
-    if has_row(tree, own, slab, is_whole, slab.y1) {
+    if has_row(tree, own, slab, is_whole, slab.y1 as i64) {
         return true;
     }
     false
@@ -85,9 +85,9 @@ fn middle(slab: &Rect, g: &Span, overlap: u32) -> Rect
     let y0 = g.from + before as i64;
     Rect {
         x0: slab.x0,
-        y0,
+        y0: y0 as i32,
         x1: slab.x1,
-        y1: y0 + overlap as i64,
+        y1: (y0 + overlap as i64) as i32,
     }
 }
 
@@ -122,7 +122,7 @@ pub fn is_short(slab: &Rect, overlap: u32) -> bool
     requires { IsSolidWithin farthest slab.now }
     ensures { IsTrue result ↔ (slab.now.y1 <ℤ (slab.now.y0 +ℤ pos (overlap + 2))) }
 {
-    if slab.y1 - slab.y0 < overlap as i64 + 2 {
+    if slab.y1 as i64 - (slab.y0 as i64) < overlap as i64 + 2 {
         return true;
     }
     false
@@ -147,7 +147,7 @@ fn add_zones(
     ensures { OnOk result (AddsZones (IsSlabZone rule overlap (own_in tree.now own) (others_in tree.now own) slab.now) zones.old.items zones.new.items) }
 {
     let spans = shadows(alloc, tree, near, slab, rule)?;
-    let free = gaps(alloc, spans.as_slice(), slab.y0, slab.y1)?;
+    let free = gaps(alloc, spans.as_slice(), slab.y0 as i64, slab.y1 as i64)?;
     for g in free.as_slice() {
         add_zone(zones, tree, own, slab, is_whole, g, overlap)?;
     }

@@ -6,9 +6,9 @@ use Rattle.dpl_masks.proofs.painting.rects_of.Goals as goal
 pub returns-clause-a : goal.returns-clause-a
 returns-clause-a c =
     rects_on c.args.cut.parts c.args.cut.zones.items c.args.cut.sides.items (map is_second c.args.colours.now) false _ _ _ c.in_ok-a.ensures.items
-    (rw (c.deref-3.ensures.value, c.deref-4.ensures.value) at c.in_ok-add_zones.ensures.adds) (rw c.into_vec.ensures.value at c.in_ok-add_pieces.ensures.a) c.in_ok-add_pieces.ensures.a_within
+    c.in_ok-add_zones.ensures.a (rw c.into_vec.ensures.value at c.in_ok-add_pieces.ensures.a) c.in_ok-add_pieces.ensures.a_within
 
 pub returns-clause-b : goal.returns-clause-b
 returns-clause-b c =
     rects_on c.args.cut.parts c.args.cut.zones.items c.args.cut.sides.items (map is_second c.args.colours.now) true _ _ _ c.in_ok-b.ensures.items
-    (rw (c.deref-5.ensures.value, c.deref-6.ensures.value) at c.in_ok-add_zones-2.ensures.adds) (rw c.into_vec.ensures.value at c.in_ok-add_pieces.ensures.b) c.in_ok-add_pieces.ensures.b_within
+    c.in_ok-add_zones.ensures.b (rw c.into_vec.ensures.value at c.in_ok-add_pieces.ensures.b) c.in_ok-add_pieces.ensures.b_within

@@ -1,4 +1,4 @@
-use Rattle.std.proofs.Common.{subst, IsTrue, ◌↔◌, w64}
+use Rattle.std.proofs.Common.{subst, IsTrue, ◌↔◌, w32}
 use Rattle.std.proofs.lemmas.Int.{to_z-of_z}
 use Rattle.dpl_spec.specs.declared.Rect.{Rect}
 use Rattle.dpl_spec.specs.Squares.{AreNear, Has}
@@ -7,5 +7,5 @@ use Rattle.dpl_nearest.proofs.rects.near_below.Goals as goal
 
 pub returns : goal.returns
 returns c =
-    let is = rw (to_z-of_z w64 c.args.y c.ranges.y) at c.below-part.ensures in
+    let is = rw (to_z-of_z w32 c.args.y c.ranges.y) at c.below-part.ensures in
     subst (λ (u : Rect). IsTrue c.near_any.result ↔ AreNear c.args.rule (Has u) (ItemCovers c.args.owners c.args.others.now)) is c.near_any.ensures

@@ -1,16 +1,13 @@
-use Rattle.std.proofs.Common.{◌≡◌, ◌∙◌, ◌<◌, ◌^◌, ap, subst, sym, arith, rules, List, ℕ, Bool, length, map}
-use Rattle.std.specs.List.{All, AllByRecursion, zip}
+use Rattle.std.proofs.Common.{◌≡◌, ◌∙◌, ◌<◌, ◌^◌, ap, subst, sym, arith, rules, List, Bool, length, map}
+use Rattle.std.specs.List.{AllByRecursion, zip}
 use Rattle.std.proofs.lemmas.List.{length-map}
-use Rattle.dpl_spec.specs.declared.Pt.{Pt}
-use Rattle.dpl_spec.specs.declared.Zone.{Zone}
 use Rattle.dpl_spec.specs.Colours.{AreStitches}
 use Rattle.dpl_orient.specs.Masks.{is_second}
 use Rattle.dpl_orient.specs.Oriented.{ColoursWhatSums}
 use Rattle.dpl_cert.specs.declared.cert.PieceLine.{PieceLine}
 use Rattle.dpl_cert.specs.declared.cert.StitchLine.{StitchLine}
 use Rattle.dpl_cert.specs.Grammar.{IsNumber, IsPiece, IsStitch}
-use Rattle.dpl_masks.specs.Painting.{AreMasksOf}
-use Rattle.dpl_valid.specs.Own.{piece_line, stitch_line}
+use Rattle.dpl_valid.specs.Own.{piece_line}
 use Rattle.dpl_run.specs.View.{cut_view}
 use Rattle.dpl_run.proofs.Deciding.{as_many, lines_many, painted_from}
 use Rattle.dpl_run.proofs.decompose.paint.Goals as goal
@@ -20,9 +17,9 @@ stitches-requires c =
     let pieces = c.args.cut.pieces in
     let (edges, are, sums) = c.requires.sums in
     let colours = c.in_ok-colours.colours in
-    let graph : ColoursWhatSums c.args.joined.now (length pieces.parts) pieces.sides colours = rw (c.sides.ensures.value, c.keys.ensures.value, c.keys.ensures.each) at c.in_ok-colours.ensures.graph in
+    let graph : ColoursWhatSums c.args.joined.now (length pieces.parts) pieces.sides colours = rw (c.sides.ensures.value, c.items.ensures.value, c.parts.ensures.value) at c.in_ok-colours.ensures.graph in
     let many : length colours ≡ length pieces.parts = as_many _ edges c.args.joined.now pieces.sides colours sums graph in
-    let long : length c.items-2.result.now ≡ length pieces.parts = sym (length-map c.items-2.result.now is_second) ∙ (ap length c.items-2.ensures ∙ many) in
+    let long : length c.items-3.result.now ≡ length pieces.parts = sym (length-map c.items-3.result.now is_second) ∙ (ap length c.items-3.ensures ∙ many) in
     rw (c.sides-2.ensures.value, long) c.sides.ensures.known
 
 pub stitch_lines-requires-clause-each : goal.stitch_lines-requires-clause-each
@@ -30,8 +27,8 @@ stitch_lines-requires-clause-each c = rw (c.sides-3.ensures.value, c.zones.ensur
 
 pub stitch_lines-requires-clause-numbers : goal.stitch_lines-requires-clause-numbers
 stitch_lines-requires-clause-numbers c =
-    let few : length c.keys.result.now < 2 ^ 64 = search rules in
-    let each = ap length c.keys.ensures.value ∙ c.keys.ensures.each in
+    let few : length c.items.result.now < 2 ^ 64 = search rules in
+    let each = ap length (c.items.ensures.value ∙ c.parts.ensures.value) in
     rw c.sides-3.ensures.value (λ k d k_in. (let known = c.sides.ensures.known k d k_in in (omega (arith, known.0, few, each), omega (arith, known.1, few, each))))
 
 pub stitch_lines-requires-clause-known : goal.stitch_lines-requires-clause-known
@@ -44,9 +41,9 @@ returns-clause-painted c = λ features many.
     let (edges, are, sums) = c.requires.sums in
     let colours = c.in_ok-colours.colours in
     let joined = c.args.joined.now in
-    let graph : ColoursWhatSums joined (length pieces.parts) pieces.sides colours = rw (c.sides.ensures.value, c.keys.ensures.value, c.keys.ensures.each) at c.in_ok-colours.ensures.graph in
-    let lines = c.of.ensures ∙ (c.in_ok-lines.ensures.lines ∙ (ap (λ (cs : List Bool). map piece_line (zip cs c.keys-2.result.now)) c.items.ensures ∙ ap (λ (ks : List Pt). map piece_line (zip colours ks)) c.keys-2.ensures.value)) in
-    let differing : AreStitches pieces.sides colours c.in_ok-numbers.numbers.items = rw (c.sides-2.ensures.value, c.items-2.ensures) at c.in_ok-numbers.ensures in
+    let graph : ColoursWhatSums joined (length pieces.parts) pieces.sides colours = rw (c.sides.ensures.value, c.items.ensures.value, c.parts.ensures.value) at c.in_ok-colours.ensures.graph in
+    let lines = c.of.ensures ∙ (c.in_ok-lines.ensures.lines ∙ ap (λ (cs : List Bool). map piece_line (zip cs pieces.keys)) c.items-2.ensures) in
+    let differing : AreStitches pieces.sides colours c.in_ok-numbers.numbers.items = rw (c.sides-2.ensures.value, c.items-3.ensures) at c.in_ok-numbers.ensures in
     let stitches = c.of-2.ensures ∙ rw (c.zones.ensures.value, c.sides-3.ensures.value, c.deref.ensures.value) at c.in_ok-stitches.ensures.lines in
     painted_from c.args.rule c.args.overlap (cut_view features pieces) edges joined colours c.in_ok-masks.masks.a c.in_ok-masks.masks.b c.in_ok-numbers.numbers.items c.head-head.result c.of.result c.of-2.result
     are sums c.requires.even graph c.in_ok-masks.ensures.masks.first c.in_ok-masks.ensures.masks.second differing (c.head-head.ensures.value features many) lines stitches
@@ -56,9 +53,9 @@ returns-clause-fits c =
     let pieces = c.args.cut.pieces in
     let (edges, are, sums) = c.requires.sums in
     let colours = c.in_ok-colours.colours in
-    let graph : ColoursWhatSums c.args.joined.now (length pieces.parts) pieces.sides colours = rw (c.sides.ensures.value, c.keys.ensures.value, c.keys.ensures.each) at c.in_ok-colours.ensures.graph in
-    let lines = c.of.ensures ∙ (c.in_ok-lines.ensures.lines ∙ (ap (λ (cs : List Bool). map piece_line (zip cs c.keys-2.result.now)) c.items.ensures ∙ ap (λ (ks : List Pt). map piece_line (zip colours ks)) c.keys-2.ensures.value)) in
-    let many = lines_many (length pieces.parts) colours pieces.keys c.of.result (as_many _ edges c.args.joined.now pieces.sides colours sums graph) c.keys.ensures.each lines in
+    let graph : ColoursWhatSums c.args.joined.now (length pieces.parts) pieces.sides colours = rw (c.sides.ensures.value, c.items.ensures.value, c.parts.ensures.value) at c.in_ok-colours.ensures.graph in
+    let lines = c.of.ensures ∙ (c.in_ok-lines.ensures.lines ∙ ap (λ (cs : List Bool). map piece_line (zip cs pieces.keys)) c.items-2.ensures) in
+    let many = lines_many (length pieces.parts) colours pieces.keys c.of.result (as_many _ edges c.args.joined.now pieces.sides colours sums graph) c.parts.ensures.keys lines in
     let few : length c.in_ok-stitches.stitches.items < 2 ^ 64 = search rules in
     record {
       a = c.in_ok-masks.ensures.within.0;

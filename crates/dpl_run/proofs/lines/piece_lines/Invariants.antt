@@ -7,6 +7,6 @@ use Rattle.dpl_run.proofs.lines.piece_lines.Given as goal
 
 abbrev pub invariant-loop-i : goal.invariant-loop-i
 invariant-loop-i l = record {
-  put : l.lines.items ≡ map piece_line (zip (take l.i (map is_second l.masks)) (take l.i l.keys));
+  put : l.lines.items ≡ map piece_line (zip (take l.i (map is_second l.masks)) l.pieces.keys);
   fits : AllByRecursion IsPiece l.lines.items;
 }

@@ -6,6 +6,6 @@ use Rattle.dpl_run.proofs.lines.place_lines.Given as goal
 
 abbrev pub invariant-loop-piece : goal.invariant-loop-piece
 invariant-loop-piece l = record {
-  put : l.lines.items ≡ map (place_line l.keys) (take l.piece-index l.cycle);
+  put : l.lines.items ≡ map (place_line l.pieces.keys) (take l.piece-index l.cycle);
   fits : AllByRecursion IsPlace l.lines.items;
 }

@@ -1,4 +1,4 @@
-use Rattle.std.proofs.Common.{◌<◌, inr, length, get_or, rules, w64, FitsSigned, arith}
+use Rattle.std.proofs.Common.{◌<◌, inr, length, get_or, rules, w32, FitsSigned, arith}
 use Rattle.std.proofs.lemmas.Int.{to_z-of_z}
 use Rattle.std.proofs.lemmas.List.{get_or_default}
 use Rattle.dpl_spec.specs.declared.Rect.{Rect}
@@ -14,17 +14,17 @@ loop-bar-preserved c =
     let here : c.loop-bar.bar-index < length bars = omega arith in
     let bar : Rect = get_or bars c.loop-bar.bar-index zero in
     let bar_is = get_or_default bars c.loop-bar.bar-index zero bar here in
-    let right : FitsSigned w64 bar.x1 = search rules in
-    let front = rw (to_z-of_z w64 bar.x1 right, c.deref.ensures.value) at c.advanced-front.ensures in
+    let right : FitsSigned w32 bar.x1 = search rules in
+    let front = rw (to_z-of_z w32 bar.x1 right, c.deref.ensures.value) at c.advanced-front.ensures in
     let (before, _) = c.loop-bar.invariant in (
       elim c.if-bar-front.branch [
         | then-bar-front+in_ok-push w ↦
             rw (w.others-is, w.in_ok-push.ensures.items)
             (touching-more bars c.args.beside.now c.args.others.now.items _ c.loop-bar.bar-index bar here bar_is before)
         | else-bar-front w ↦
-            let left : FitsSigned w64 bar.x0 = search rules in
-            let reach : FitsSigned w64 c.advanced-front.result.reach = search rules in
-            let less = le-false _ _ (rw (to_z-of_z w64 c.advanced-front.result.reach reach, to_z-of_z w64 bar.x0 left) at w.if-bar-front.false) in
+            let left : FitsSigned w32 bar.x0 = search rules in
+            let reach : FitsSigned w32 c.advanced-front.result.reach = search rules in
+            let less = le-false _ _ (rw (to_z-of_z w32 c.advanced-front.result.reach reach, to_z-of_z w32 bar.x0 left) at w.if-bar-front.false) in
             rw w.others-is
             (touching-apart bars c.args.beside.now c.args.others.now.items _ c.loop-bar.bar-index bar here bar_is before
             (λ s h. front-apart c.in_ok-near.near.items bar _ _ front less s (c.in_ok-near.ensures.all s (inr h))))

@@ -1,4 +1,4 @@
-use Rattle.std.proofs.Common.{◌≡◌, ◌<◌, ◌∙◌, sym, length, get_or, set, rules, w64, FitsSigned, arith}
+use Rattle.std.proofs.Common.{◌≡◌, ◌<◌, ◌∙◌, sym, length, get_or, set, rules, w32, FitsSigned, arith}
 use Rattle.std.proofs.lemmas.Int.{to_z-of_z}
 use Rattle.std.proofs.lemmas.List.{get_or-set_other, length-set, take_more_set}
 use Rattle.dpl_spec.specs.declared.Rect.{Rect}
@@ -16,15 +16,15 @@ loop-i-preserved c =
     let bar : Rect = c.index-bar.result.now in
     let read : get_or c.loop-i.alone.items i bar ≡ bar = search rules in
     let bar_is : bar ≡ get_or bars i bar = sym read ∙ ahead i bar (omega arith) here in
-    let right : FitsSigned w64 bar.x1 = search rules in
-    let front = rw (to_z-of_z w64 bar.x1 right, c.deref-in-loop-i.ensures.value) at c.advanced-front.ensures in
+    let right : FitsSigned w32 bar.x1 = search rules in
+    let front = rw (to_z-of_z w32 bar.x1 right, c.deref-in-loop-i.ensures.value) at c.advanced-front.ensures in
     let near = rw c.deref.ensures.value at c.in_ok-near.ensures.all in
     elim c.if-front-bar.branch [
       | then-front-bar w ↦
-          let left : FitsSigned w64 bar.x0 = search rules in
-          let reach : FitsSigned w64 c.advanced-front.result.reach = search rules in
-          let test = rw (to_z-of_z w64 c.advanced-front.result.reach reach) at w.if-front-bar.true in
-          let less = lt-from _ _ _ (to_z-of_z w64 bar.x0 left) test in
+          let left : FitsSigned w32 bar.x0 = search rules in
+          let reach : FitsSigned w32 c.advanced-front.result.reach = search rules in
+          let test = rw (to_z-of_z w32 c.advanced-front.result.reach reach) at w.if-front-bar.true in
+          let less = lt-from _ _ _ (to_z-of_z w32 bar.x0 left) test in
           let stored : c.if-front-bar.alone.items ≡ set c.loop-i.alone.items c.loop-i.kept bar = search rules in
           let there : c.loop-i.kept < length c.loop-i.alone.items = omega (arith, few, here, size) in
           rw (w.others-is, w.kept-is, stored, take_more_set c.loop-i.alone.items c.loop-i.kept bar there) (

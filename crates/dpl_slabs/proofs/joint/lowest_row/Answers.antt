@@ -1,4 +1,4 @@
-use Rattle.std.proofs.Common.{◌<◌, inl, inr, length, get_or, rules, w64, FitsSigned, arith}
+use Rattle.std.proofs.Common.{◌<◌, inl, inr, length, get_or, rules, w32, FitsSigned, arith}
 use Rattle.std.proofs.lemmas.Int.{ints, to_z-of_z}
 use Rattle.std.proofs.lemmas.List.{get_or_default}
 use Rattle.dpl_spec.specs.declared.Rect.{Rect}
@@ -14,10 +14,10 @@ returns-clause-some c =
     let others : 0 < length second = search rules in
     let r : Rect = get_or first 0 zero in
     let s : Rect = get_or second 0 zero in
-    let a : FitsSigned w64 r.y0 = search rules in
-    let b : FitsSigned w64 s.y0 = search rules in
-    let low : FitsSigned w64 c.min.result = search rules in
-    rw (to_z-of_z w64 c.min.result low) (elim (min-known _ _ r.y0 s.y0 c.min.result (to_z-of_z w64 r.y0 a) (to_z-of_z w64 s.y0 b) c.min.ensures.value) [
+    let a : FitsSigned w32 r.y0 = search rules in
+    let b : FitsSigned w32 s.y0 = search rules in
+    let low : FitsSigned w32 c.min.result = search rules in
+    rw (to_z-of_z w32 c.min.result low) (elim (min-known _ _ r.y0 s.y0 c.min.result (to_z-of_z w32 r.y0 a) (to_z-of_z w32 s.y0 b) c.min.ensures.value) [
       | inl e ↦ lowest-left first second r c.min.result some (get_or_default first 0 zero r some) (omega (arith, ints, e))
       | inr e ↦ lowest-right first second s c.min.result others (get_or_default second 0 zero s others) (omega (arith, ints, e))
     ])

@@ -7,7 +7,7 @@ use Rattle.dpl_slabs.proofs.LoopLaws.{loop-told, loop-closed, told-inside, slabs
 use Rattle.dpl_slabs.proofs.loops.slabs_of_loop.Goals as goal
 
 pub slabs_of_edges-requires-clause-within : goal.slabs_of_edges-requires-clause-within
-slabs_of_edges-requires-clause-within c = edges-wider 1000000000 (2 ^ 32) _ (omega arith) (c.in_ok-edges.ensures.within 1000000000 c.requires)
+slabs_of_edges-requires-clause-within c = edges-wider 1000000000 (2 ^ 30) _ (omega arith) (c.in_ok-edges.ensures.within 1000000000 c.requires)
 
 pub slabs_of_edges-requires-clause-closed : goal.slabs_of_edges-requires-clause-closed
 slabs_of_edges-requires-clause-closed c = loop-closed c.args.points.now _ c.in_ok-edges.ensures

@@ -1,11 +1,11 @@
-use Rattle.std.proofs.Common.{◌≡◌, ◌⊎◌, rules, w64, FitsSigned}
+use Rattle.std.proofs.Common.{◌≡◌, ◌⊎◌, rules, w32, FitsSigned}
 use Rattle.std.proofs.lemmas.Int.{to_z-of_z}
 use Rattle.dpl_slabs.proofs.StripLaws.{max-known}
 use Rattle.dpl_slabs.proofs.row.add_bar.Goals as goal
 
 pub returns : goal.returns
 returns c =
-    let fits : FitsSigned w64 c.args.bar.now.x1 = search rules in
-    let old : FitsSigned w64 c.args.last.x1 = search rules in
-    let known : (c.max.result ≡ c.args.last.x1) ⊎ (c.max.result ≡ c.args.bar.now.x1) = max-known _ _ _ _ (to_z-of_z w64 c.args.bar.now.x1 fits) (rw (to_z-of_z w64 c.args.last.x1 old) at c.max.ensures.value) in
+    let fits : FitsSigned w32 c.args.bar.now.x1 = search rules in
+    let old : FitsSigned w32 c.args.last.x1 = search rules in
+    let known : (c.max.result ≡ c.args.last.x1) ⊎ (c.max.result ≡ c.args.bar.now.x1) = max-known _ _ _ _ (to_z-of_z w32 c.args.bar.now.x1 fits) (rw (to_z-of_z w32 c.args.last.x1 old) at c.max.ensures.value) in
     search (rules, known)

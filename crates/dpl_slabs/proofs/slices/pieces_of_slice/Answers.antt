@@ -1,4 +1,4 @@
-use Rattle.std.proofs.Common.{w64}
+use Rattle.std.proofs.Common.{w32}
 use Rattle.std.proofs.lemmas.Int.{to_z-of_z}
 use Rattle.dpl_slabs.specs.Slices.{InRows, Without}
 use Rattle.dpl_slabs.proofs.SliceLaws.{cut-spaced, cut-level, near-within, pieces-permuted, rest-within, slice-pieces}
@@ -27,8 +27,8 @@ combine_lists_without-requires-clause-holes c =
 
 pub returns : goal.returns
 returns c =
-    let rects = rw (to_z-of_z w64 c.args.low c.ranges.low, to_z-of_z w64 c.args.high c.ranges.high) at c.in_ok-bars.ensures in
-    let holes = rw (to_z-of_z w64 c.args.low c.ranges.low, to_z-of_z w64 c.args.high c.ranges.high) at c.in_ok-gaps.ensures in
+    let rects = rw (to_z-of_z w32 c.args.low c.ranges.low, to_z-of_z w32 c.args.high c.ranges.high) at c.in_ok-bars.ensures in
+    let holes = rw (to_z-of_z w32 c.args.low c.ranges.low, to_z-of_z w32 c.args.high c.ranges.high) at c.in_ok-gaps.ensures in
     let left = rw c.deref.ensures.value at c.in_ok-bars-2.ensures.slabs in
     let touching = rw (c.deref-2.ensures.value, c.deref-3.ensures.value) at c.in_ok-add_touching.ensures in
     let alone = rw c.deref-4.ensures.value at c.in_ok-alone.ensures in

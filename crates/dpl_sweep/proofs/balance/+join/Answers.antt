@@ -1,19 +1,19 @@
-use Rattle.std.proofs.Common.{◌^◌, rules, w64, arith, FitsSigned}
+use Rattle.std.proofs.Common.{◌^◌, rules, w32, arith, FitsSigned}
 use Rattle.std.proofs.lemmas.Int.{to_z-of_z}
 use Rattle.dpl_sweep.proofs.BandLaws.{size-some, mended-below, mended-above}
 use Rattle.dpl_sweep.proofs.balance.+join.Goals as goal
 
 pub returns-in_ok-whole-in-Split : goal.returns-in_ok-whole-in-Split
 returns-in_ok-whole-in-Split t c =
-    let r : FitsSigned w64 c.in-Split.first = search rules in
+    let r : FitsSigned w32 c.in-Split.first = search rules in
     mended-below c.args.rule _ _ c.args.below c.args.above _ _ _ c.args.row c.in-Split.ensures
-    (rw (to_z-of_z w64 c.args.row c.ranges.row) at c.in_ok-upper-in-Split.ensures) (rw (to_z-of_z w64 c.in-Split.first r) at c.in_ok-whole-in-Split.ensures)
+    (rw (to_z-of_z w32 c.args.row c.ranges.row) at c.in_ok-upper-in-Split.ensures) (rw (to_z-of_z w32 c.in-Split.first r) at c.in_ok-whole-in-Split.ensures)
 
 pub returns-in_ok-all-in-Split-take_apart : goal.returns-in_ok-all-in-Split-take_apart
 returns-in_ok-all-in-Split-take_apart t c =
-    let r : FitsSigned w64 c.in-Split-take_apart.last = search rules in
+    let r : FitsSigned w32 c.in-Split-take_apart.last = search rules in
     mended-above c.args.rule _ _ c.args.below c.args.above _ _ _ c.args.row c.in-Split-take_apart.ensures
-    (rw (to_z-of_z w64 c.args.row c.ranges.row) at c.in_ok-lower-in-Split-take_apart.ensures) (rw (to_z-of_z w64 c.in-Split-take_apart.last r) at c.in_ok-all-in-Split-take_apart.ensures)
+    (rw (to_z-of_z w32 c.args.row c.ranges.row) at c.in_ok-lower-in-Split-take_apart.ensures) (rw (to_z-of_z w32 c.in-Split-take_apart.last r) at c.in_ok-all-in-Split-take_apart.ensures)
 
 pub join-requires : goal.join-requires
 join-requires t c =

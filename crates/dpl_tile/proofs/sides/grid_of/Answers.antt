@@ -1,18 +1,18 @@
-use Rattle.std.proofs.Common.{◌<◌, ◌^◌, arith, rules, refl, w64}
+use Rattle.std.proofs.Common.{◌<◌, ◌^◌, arith, rules, refl, w32}
 use Rattle.std.specs.Int.RustNames.{FitsSigned}
-use Rattle.std.proofs.lemmas.Int.{to_z-of_z}
+use Rattle.dpl_tile.proofs.Numbers.{same-wide}
 use Rattle.dpl_tile.proofs.TileLaws.{doubled-more}
 use Rattle.dpl_tile.proofs.CellLaws.{parts-over, bounds-over}
 use Rattle.dpl_tile.proofs.sides.grid_of.Goals as goal
 
 pub loop-grid-init : goal.loop-grid-init
 loop-grid-init c =
-    let x : FitsSigned w64 c.args.bounds.now.x0 = search rules in
-    let y : FitsSigned w64 c.args.bounds.now.y0 = search rules in
+    let x : FitsSigned w32 c.args.bounds.now.x0 = search rules in
+    let y : FitsSigned w32 c.args.bounds.now.y0 = search rules in
     let s = c.requires.some in
     let m : c.args.tile < 2 ^ 32 = search rules in
     let over = (bounds-over (record { x = c.args.bounds.now.x0; y = c.args.bounds.now.y0; side = c.args.tile }) c.args.parts.now c.args.bounds.now c.requires.parts c.requires.bounds refl refl).solid in
-    rw (to_z-of_z w64 _ x, to_z-of_z w64 _ y)
+    rw (same-wide _ x, same-wide _ y)
     (record {
       left = refl;
       low = refl;

@@ -1,8 +1,8 @@
 use Rattle.std.proofs.Common.{◌≤◌, ◌<◌, length, map, arith, rules}
 use Rattle.std.proofs.lemmas.List.{length-map}
 use Rattle.dpl_tree.proofs.BlockLaws.{covered-none, covered-higher, covered-push, high-none, high-push, index-none, index-push, more-items}
-use Rattle.dpl_tree.proofs.NarrowLaws.{level-items}
-use Rattle.dpl_tree.specs.NarrowItems.{item_of}
+use Rattle.dpl_tree.proofs.StoredLaws.{level-items}
+use Rattle.dpl_tree.specs.StoredItems.{item_of}
 use Rattle.dpl_tree.proofs.blocks.levels_over.Goals as goal
 
 pub returns-then-items-le-FAN : goal.returns-then-items-le-FAN

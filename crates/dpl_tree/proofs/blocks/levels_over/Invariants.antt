@@ -1,5 +1,5 @@
 use Rattle.std.proofs.Common.{◌^◌, ◌<◌, suc, length, map}
-use Rattle.dpl_tree.specs.NarrowItems.{item_of}
+use Rattle.dpl_tree.specs.StoredItems.{item_of}
 use Rattle.dpl_tree.specs.Blocks.{AreCovered, IsLevelOver, item_block}
 use Rattle.dpl_tree.proofs.BlockLaws.{AreHigh}
 use Rattle.dpl_tree.proofs.blocks.levels_over.Given as goal

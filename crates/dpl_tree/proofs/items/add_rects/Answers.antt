@@ -1,6 +1,6 @@
 use Rattle.std.proofs.Common.{arith, refl, rules}
 use Rattle.dpl_tree.proofs.ItemLaws.{item-none, item-more, item-all}
-use Rattle.dpl_tree.proofs.NarrowLaws.{items-push}
+use Rattle.dpl_tree.proofs.StoredLaws.{items-push}
 use Rattle.dpl_tree.proofs.items.add_rects.Goals as goal
 
 pub loop-rect-init : goal.loop-rect-init

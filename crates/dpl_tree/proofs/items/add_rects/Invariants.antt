@@ -1,6 +1,6 @@
 use Rattle.std.proofs.Common.{◌+◌, ◌≤◌, length, map}
 use Rattle.std.specs.Prelude.{vec_len, vec_capacity}
-use Rattle.dpl_tree.specs.NarrowItems.{item_of}
+use Rattle.dpl_tree.specs.StoredItems.{item_of}
 use Rattle.dpl_tree.proofs.ItemLaws.{AddsRects}
 use Rattle.dpl_tree.proofs.items.add_rects.Given as goal
 

@@ -1,14 +1,10 @@
 use Rattle.std.proofs.Common.{[], ◌∙◌, arith}
 use Rattle.std.proofs.lemmas.List.{get_or_default}
 use Rattle.dpl_tree.proofs.ItemLaws.{parts-none, parts-more, parts-all}
-use Rattle.dpl_tree.proofs.NarrowLaws.{rects-wider}
 use Rattle.dpl_tree.proofs.items.items_of.Goals as goal
 
 pub loop-k-init : goal.loop-k-init
 loop-k-init c = parts-none c.args.parts.now _ c.in_ok-items.ensures
-
-pub add-requires : goal.add-requires
-add-requires c = rw c.rects.ensures.value (rects-wider _ c.rects.ensures.within)
 
 pub loop-k-preserved : goal.loop-k-preserved
 loop-k-preserved c =

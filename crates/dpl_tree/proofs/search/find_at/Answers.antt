@@ -1,8 +1,8 @@
 use Rattle.std.proofs.Common.{◌-◌, ◌<◌, arith, ◌∙◌, [], length, map}
 use Rattle.std.proofs.lemmas.List.{get_or_default}
 use Rattle.dpl_tree.proofs.SearchLaws.{found-first, found-above}
-use Rattle.dpl_tree.proofs.NarrowLaws.{found-items_of}
-use Rattle.dpl_tree.specs.NarrowItems.{item_of}
+use Rattle.dpl_tree.proofs.StoredLaws.{found-items_of}
+use Rattle.dpl_tree.specs.StoredItems.{item_of}
 use Rattle.dpl_tree.proofs.search.find_at.Goals as goal
 
 pub returns-then-place-eq0 : goal.returns-then-place-eq0

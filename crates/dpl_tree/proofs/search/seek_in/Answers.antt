@@ -1,7 +1,7 @@
 use Rattle.std.proofs.Common.{◌≡◌, ◌*◌, ◌-◌, ◌^◌, length, map, arith, ◌∙◌, rules, Fits, w64, refl, subst}
 use Rattle.std.proofs.lemmas.List.{length-map}
 use Rattle.dpl_tree.specs.Trees.{ArePassed}
-use Rattle.dpl_tree.specs.NarrowItems.{item_of}
+use Rattle.dpl_tree.specs.StoredItems.{item_of}
 use Rattle.dpl_tree.specs.Blocks.{start_of}
 use Rattle.dpl_tree.proofs.SearchLaws.{first-start, level-wide, start-up, start-up_more, down-start, fewer-left, lower-left, passed-on}
 use Rattle.dpl_tree.proofs.search.seek_in.Goals as goal

@@ -1,5 +1,5 @@
 use Rattle.std.proofs.Common.{◌+◌, ◌*◌, ◌-◌, ◌≤◌, length, map}
-use Rattle.dpl_tree.specs.NarrowItems.{item_of}
+use Rattle.dpl_tree.specs.StoredItems.{item_of}
 use Rattle.dpl_tree.specs.Trees.{ArePassed}
 use Rattle.dpl_tree.specs.Blocks.{start_of}
 use Rattle.dpl_tree.proofs.search.seek_in.Given as goal

@@ -2,7 +2,7 @@ use Rattle.std.proofs.Common.{◌≡◌, drop, length, map, ◌∙◌, rules}
 use Rattle.std.proofs.lemmas.List.{take_at}
 use Rattle.std.specs.List.Sorted.{IsPermutation}
 use Rattle.std.proofs.lemmas.List.Sorted.{IsPermutation-map, length_permutation}
-use Rattle.dpl_tree.specs.NarrowItems.{item_of}
+use Rattle.dpl_tree.specs.StoredItems.{item_of}
 use Rattle.dpl_tree.proofs.ItemLaws.{items-sorted}
 use Rattle.dpl_tree.proofs.tree.Tree.of.Goals as goal
 

@@ -1,0 +1,80 @@
+//! The pieces of a layer before it is known which of them stand beside which zone.
+ghost use Rattle.std.specs.Prelude.{◌≡◌, IfOk, length};
+ghost use Rattle.dpl_piece.specs.Cutting.{AreBare, Completes, bare_cut};
+
+use crate::matched::Pieces;
+use crate::piece::Origin;
+use crate::side::sides_of;
+use dpl_base::{Id, Zone};
+use dpl_slabs::Parts;
+use std::alloc::{AllocError, Global};
+use std::marker::Model;
+
+/// Pieces, numbered from 0 by least square, each with the feature that it lies in, and the zones that cut them. Conflicts are found from these alone, and which pieces stand beside which zone need not be kept meanwhile.
+#[derive(Drop)]
+pub struct BarePieces {
+    parts: Parts,
+    owner: Vec<Id>,
+    origins: Vec<Origin>,
+    zones: Vec<Zone>,
+}
+
+impl Model for BarePieces {
+    ghost use Rattle.dpl_piece.specs.Cutting.{BareCut, bare_cut, AreBare};
+
+    ghost Value = { BareCut };
+
+    ghost view = { λ b. bare_cut b.parts b.owner.items b.zones.items };
+
+    ghost invariant = { λ b. AreBare (bare_cut b.parts b.owner.items b.zones.items) b.origins.items };
+}
+
+impl BarePieces {
+    /// Pieces with their owners and origins, and the zones.
+    pub(crate) fn of(
+        parts: Parts,
+        owner: Vec<Id>,
+        origins: Vec<Origin>,
+        zones: Vec<Zone>,
+    ) -> BarePieces
+        requires { AreBare (bare_cut parts owner.items zones.items) origins.items }
+        ensures { result ≡ bare_cut parts owner.items zones.items }
+    {
+        BarePieces {
+            parts,
+            owner,
+            origins,
+            zones,
+        }
+    }
+
+    /// The squares of each piece.
+    pub fn parts(&self) -> &Parts
+        ensures { result.now ≡ self.now.parts }
+    {
+        &self.parts
+    }
+
+    /// The number of the feature that each piece lies in.
+    pub fn owner(&self) -> &[Id]
+        ensures value { result.now ≡ self.now.owners }
+        ensures each { length self.now.owners ≡ length self.now.parts }
+    {
+        self.owner.as_slice()
+    }
+
+    /// The same, with the pieces on the two sides of each zone.
+    pub fn completed(self, alloc: Global) -> Result<Pieces, AllocError>
+        ensures { IfOk result (Completes self) }
+    {
+        let BarePieces {
+            parts,
+            owner,
+            origins,
+            zones,
+        } = self;
+        let sides = sides_of(alloc, parts.items(), &origins, &zones)?;
+        drop(origins);
+        Ok(Pieces::of(parts, owner, zones, sides))
+    }
+}

@@ -1,0 +1,6 @@
+use Rattle.std.proofs.Common.{arith}
+use Rattle.std.proofs.lemmas.Int.{ints}
+use Rattle.dpl_tree.proofs.window.widened.Goals as goal
+
+pub returns : goal.returns
+returns c = rw c.new.ensures (record { left = omega (arith, ints); right = omega (arith, ints); low = omega (arith, ints); high = omega (arith, ints) })
