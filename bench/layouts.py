@@ -13,6 +13,7 @@ KIND is one of
   mesh     long horizontal wires over as many vertical ones, with COUNT crossings: one feature
   scatter  rectangles of 10 to 100 units scattered over a square, about one to 200 by 200 units
   polygons combs of 8,000 points each, COUNT teeth in all
+  stairs   staircases of 7,983 points each, COUNT steps in all
   plate    bars under one covering plate
   ragged   bars with ragged ends that lie on one another, row by row
   rising   upright bars side by side, each a little higher than the one before it
@@ -144,6 +145,16 @@ def polygons(count, rng):
         yield boundary(points)
 
 
+def stairs(count, rng):
+    steps = 3990
+    for k in range(max(1, count // steps)):
+        x, y = 400_000 * (k // 900), 1_000_000 * (k % 900)
+        points = [(x, y), (x + 60 * steps, y)]
+        for i in range(steps, 0, -1):
+            points += [(x + 60 * i, y + 60 * i), (x + 60 * (i - 1), y + 60 * i)]
+        yield boundary(points + [(x, y)])
+
+
 def plate(count, rng):
     yield rect(-10, -10, 2_000_000, 40 * (count // 100 + 2))
     for i in range(count):
@@ -234,7 +245,7 @@ def stitched(count, rng):
 
 
 KINDS = {f.__name__: f for f in (
-    bars, dense, upright, wires, through, mesh, scatter, polygons, plate,
+    bars, dense, upright, wires, through, mesh, scatter, polygons, stairs, plate,
     ragged, rising, teeth, nested, stacked, flood, holes, stitched,
 )}
 TREES = {f.__name__: f for f in (chain, doubling, twisted, ring, tower)}
