@@ -12,7 +12,7 @@ use Rattle.dpl_orient.specs.declared.chart.Rooted.{Rooted}
 use Rattle.dpl_orient.specs.declared.crossing.Across.{Across}
 use Rattle.dpl_orient.specs.declared.crossing.Crossing.{Crossing}
 use Rattle.dpl_orient.specs.Rooted.{AreRooted, AreSidesBelow}
-use Rattle.dpl_orient.specs.Chart.{own_root, row, IsChart, AreLow, roots_in, odds_in}
+use Rattle.dpl_orient.specs.Chart.{own_root, rooted_at, IsChart, AreLow, roots_in, odds_in}
 use Rattle.dpl_orient.specs.Oriented.{AreColoursOfRows}
 use Rattle.dpl_orient.specs.Crossings.{crossing, crossing_between, crossings_of, crossings_at, GoUp, AreFlips, tally, is_turned, colours_of}
 use Rattle.dpl_orient.proofs.Letters.{differ-assoc, first-holds, none-holds, second-holds, neither-holds, third-none}
@@ -37,7 +37,7 @@ between-up s t = elim (cases_eq s.root t.root) [
 
 crossings-up : (chart : List Rooted) (sides : List (ℕ × ℕ)) → GoUp (crossings_of chart sides)
 crossings-up chart [] = All-nil (λ c. c.earlier < c.later)
-crossings-up chart (s ∷ sides) = All-append (λ c. c.earlier < c.later) (crossings_between (row chart s.0) (row chart s.1)) (crossings_of chart sides) (between-up (row chart s.0) (row chart s.1)) (crossings-up chart sides)
+crossings-up chart (s ∷ sides) = All-append (λ c. c.earlier < c.later) (crossings_between (rooted_at chart s.0) (rooted_at chart s.1)) (crossings_of chart sides) (between-up (rooted_at chart s.0) (rooted_at chart s.1)) (crossings-up chart sides)
 
 pub sorted-up : (chart : List Rooted) (sides : List (ℕ × ℕ)) (xs : List Crossing) → IsPermutation (crossings_of chart sides) xs → GoUp xs
 sorted-up chart sides xs p = permuted (λ c. c.earlier < c.later) (crossings_of chart sides) xs p (crossings-up chart sides)
@@ -108,17 +108,17 @@ told roots odds colours root wanted side =
     || (crosses roots root side.1 side.0 && not (differ wanted (differ (get_or odds side.1 false) (get_or colours side.0 false))))
 
 module _ (chart : List Rooted) (flips : List Bool) where
-  root-at : (v : ℕ) → v < length chart → get_or (roots_in chart) v 0 ≡ (row chart v).root
+  root-at : (v : ℕ) → v < length chart → get_or (roots_in chart) v 0 ≡ (rooted_at chart v).root
   root-at v l = get_or-map (λ s. s.root) chart v (own_root v) 0 l
 
-  odd-at : (v : ℕ) → v < length chart → get_or (odds_in chart) v false ≡ (row chart v).odd
+  odd-at : (v : ℕ) → v < length chart → get_or (odds_in chart) v false ≡ (rooted_at chart v).odd
   odd-at v l = get_or-map (λ s. s.odd) chart v (own_root v) false l
 
-  letter-at : (v : ℕ) → v < length chart → get_or (colours_of chart flips) v false ≡ letter flips (row chart v)
+  letter-at : (v : ℕ) → v < length chart → get_or (colours_of chart flips) v false ≡ letter flips (rooted_at chart v)
   letter-at v l = get_or-map (λ s. differ s.odd (get_or flips s.root false)) chart v (own_root v) false l
 
   side-adds : (root : ℕ) (wanted : Bool) (side : ℕ × ℕ) → side.0 < length chart → side.1 < length chart →
-      told (roots_in chart) (odds_in chart) (colours_of chart flips) root wanted side ≡ adds flips root wanted (row chart side.0) (row chart side.1)
+      told (roots_in chart) (odds_in chart) (colours_of chart flips) root wanted side ≡ adds flips root wanted (rooted_at chart side.0) (rooted_at chart side.1)
   side-adds root wanted side l m = rw (root-at side.0 l, root-at side.1 m, odd-at side.0 l, odd-at side.1 m, letter-at side.0 l, letter-at side.1 m) refl
 
   across-crossings : (root : ℕ) (wanted : Bool) (sides : List (ℕ × ℕ)) → AreSidesBelow (length chart) sides →
@@ -128,9 +128,9 @@ module _ (chart : List Rooted) (flips : List Bool) where
       let within : (side.0 < length chart) × (side.1 < length chart) = All-head (λ (s : ℕ × ℕ). (s.0 < length chart) × (s.1 < length chart)) side sides below in
       let rest = across-crossings root wanted sides (All-tail (λ (s : ℕ × ℕ). (s.0 < length chart) × (s.1 < length chart)) side sides below) in
       sum_by-cons (λ s. unit (told (roots_in chart) (odds_in chart) (colours_of chart flips) root wanted s)) side sides
-      ∙ (ap (λ n. n + zones_across (roots_in chart) (odds_in chart) (colours_of chart flips) root wanted sides) (ap unit (side-adds root wanted side within.0 within.1) ∙ adds-is flips root wanted (row chart side.0) (row chart side.1))
-      ∙ (ap (λ n. tally flips root wanted (crossings_between (row chart side.0) (row chart side.1)) + n) rest
-      ∙ sym (sum_by-append (λ c. unit (counts flips root wanted c)) (crossings_between (row chart side.0) (row chart side.1)) (crossings_of chart sides))))
+      ∙ (ap (λ n. n + zones_across (roots_in chart) (odds_in chart) (colours_of chart flips) root wanted sides) (ap unit (side-adds root wanted side within.0 within.1) ∙ adds-is flips root wanted (rooted_at chart side.0) (rooted_at chart side.1))
+      ∙ (ap (λ n. tally flips root wanted (crossings_between (rooted_at chart side.0) (rooted_at chart side.1)) + n) rest
+      ∙ sym (sum_by-append (λ c. unit (counts flips root wanted c)) (crossings_between (rooted_at chart side.0) (rooted_at chart side.1)) (crossings_of chart sides))))
 
   module _ (xs : List Crossing) (sides : List (ℕ × ℕ)) (same : IsPermutation (crossings_of chart sides) xs) (below : AreSidesBelow (length chart) sides) (low : AreLow chart) (len : length flips ≡ length chart) (settled : AreFlips xs flips) where
     across-sorted : (root : ℕ) (wanted : Bool) → zones_across (roots_in chart) (odds_in chart) (colours_of chart flips) root wanted sides ≡ tally flips root wanted xs
@@ -144,9 +144,9 @@ module _ (chart : List Rooted) (flips : List Bool) where
       each = length-map chart (λ s. differ s.odd (get_or flips s.root false)) ∙ sym (length-map chart (λ s. s.root));
       colour = λ v l. (let within : v < length chart = omega (arith, l, length-map chart (λ s. s.root)) in
           let down = low v within in
-          let flip : get_or flips (row chart v).root false ≡ is_flipped (roots_in chart) (odds_in chart) (colours_of chart flips) sides (row chart v).root = settled (row chart v).root (omega (arith, down, len, within)) ∙ sym (flipped-is (row chart v).root) in
-          letter-at v within ∙ (ap (λ b. differ (row chart v).odd b) flip
-          ∙ (ap (λ o. differ o (is_flipped (roots_in chart) (odds_in chart) (colours_of chart flips) sides (row chart v).root)) (sym (odd-at v within))
+          let flip : get_or flips (rooted_at chart v).root false ≡ is_flipped (roots_in chart) (odds_in chart) (colours_of chart flips) sides (rooted_at chart v).root = settled (rooted_at chart v).root (omega (arith, down, len, within)) ∙ sym (flipped-is (rooted_at chart v).root) in
+          letter-at v within ∙ (ap (λ b. differ (rooted_at chart v).odd b) flip
+          ∙ (ap (λ o. differ o (is_flipped (roots_in chart) (odds_in chart) (colours_of chart flips) sides (rooted_at chart v).root)) (sym (odd-at v within))
           ∙ ap (λ r. differ (get_or (odds_in chart) v false) (is_flipped (roots_in chart) (odds_in chart) (colours_of chart flips) sides r)) (sym (root-at v within)))));
     }
 

@@ -7,7 +7,7 @@ use Rattle.dpl_stars.specs.declared.list.Star.{Star}
 use Rattle.dpl_stars.specs.Stars.{IsStarList}
 use Rattle.dpl_orient.specs.declared.chart.Rooted.{Rooted}
 use Rattle.dpl_orient.specs.Rooted.{HasStar, star}
-use Rattle.dpl_orient.specs.Chart.{own_root, rooted_by, row, IsChart, AreLow}
+use Rattle.dpl_orient.specs.Chart.{own_root, rooted_by, rooted_at, IsChart, AreLow}
 
 -- the rows give piece v this root and parity
 abbrev Gives : List Star → ℕ → Rooted → Type 0
@@ -22,7 +22,7 @@ chart-own_more n chart h = record {
   each = λ v l. elim (cases_lt v n) [
     | inl below ↦ subst (λ s. Gives [] v s) (sym (get_or_append_left chart (own_root n ∷ []) (own_root v) v (omega (arith, below, h.len)))) (h.each v below)
     | inr above ↦ (let same : n ≡ v = omega (arith, l, above) in
-        subst (λ u. Gives [] u (row (chart ++ own_root n ∷ []) u)) same
+        subst (λ u. Gives [] u (rooted_at (chart ++ own_root n ∷ []) u)) same
         (subst (λ s. Gives [] n s) (sym (get_or_push chart (own_root n) (own_root n) n h.len)) (inr (All-nil (λ r. r.piece ≢ n), refl, refl))))
   ];
 }
@@ -31,7 +31,7 @@ pub chart-put : (front : List Star) (n : ℕ) (chart : List Rooted) (r : Star) �
 chart-put front n chart r h within = record {
   len = length-set chart r.piece (rooted_by r) ∙ h.len;
   each = λ v l. elim (cases_eq v r.piece) [
-    | inl same ↦ subst (λ u. Gives (front ++ r ∷ []) u (row (set chart r.piece (rooted_by r)) u)) (sym same)
+    | inl same ↦ subst (λ u. Gives (front ++ r ∷ []) u (rooted_at (set chart r.piece (rooted_by r)) u)) (sym same)
         (subst (λ s. Gives (front ++ r ∷ []) r.piece s) (sym (get_or-set_same chart r.piece (rooted_by r) (own_root r.piece) (omega (arith, within, h.len)))) (inl (Contains-push front r)))
     | inr other ↦ subst (λ s. Gives (front ++ r ∷ []) v s) (sym (get_or-set_other chart r.piece v (rooted_by r) (own_root v) other))
         (elim (h.each v l) [
@@ -48,6 +48,6 @@ chart-put_more rows i n chart r within is h below =
 
 pub chart-low : (rows : List Star) (n : ℕ) (chart : List Rooted) → IsStarList rows → IsChart rows n chart → AreLow chart
 chart-low rows n chart ordered h v within = elim (h.each v (omega (arith, within, h.len))) [
-  | inl in_rows ↦ All-contains (λ r. r.root < r.piece + 1) rows (star v (row chart v).root (row chart v).odd) (λ k d l. (let m = ordered.low k d l in omega (arith, m))) in_rows
+  | inl in_rows ↦ All-contains (λ r. r.root < r.piece + 1) rows (star v (rooted_at chart v).root (rooted_at chart v).odd) (λ k d l. (let m = ordered.low k d l in omega (arith, m))) in_rows
   | inr (none, root_is, odd_is) ↦ omega (arith, root_is)
 ]

@@ -4,5 +4,4 @@ pub mod Settling
 pub mod Turns
 pub mod Across
 pub mod Roots
-pub mod Below
 pub mod Numbers

@@ -13,12 +13,12 @@ abbrev pub rooted_by : Star → Rooted
 rooted_by r = record { root = r.root; odd = r.odd }
 
 -- of piece v
-abbrev pub row : List Rooted → ℕ → Rooted
-row chart v = slice_index_or chart v (own_root v)
+abbrev pub rooted_at : List Rooted → ℕ → Rooted
+rooted_at chart v = slice_index_or chart v (own_root v)
 
 pub record IsChart (rows : List Star) (n : ℕ) (chart : List Rooted) : Type 0 where
   pub len : length chart ≡ n
-  pub each : (v : ℕ) → v < n → HasStar rows v (row chart v).root (row chart v).odd
+  pub each : (v : ℕ) → v < n → HasStar rows v (rooted_at chart v).root (rooted_at chart v).odd
 
 abbrev pub roots_in : List Rooted → List ℕ
 roots_in = map (λ s. s.root)
@@ -28,4 +28,4 @@ odds_in = map (λ s. s.odd)
 
 -- roots aren't above their pieces
 abbrev pub AreLow : List Rooted → Type 0
-AreLow chart = (v : ℕ) → v < length chart → (row chart v).root < v + 1
+AreLow chart = (v : ℕ) → v < length chart → (rooted_at chart v).root < v + 1

@@ -4,7 +4,7 @@ use Rattle.std.specs.List.{All, flat_map}
 use Rattle.std.specs.List.Sorted.{IsNonDecreasingBy}
 use Rattle.dpl_spec.specs.Colours.{differ}
 use Rattle.dpl_orient.specs.declared.chart.Rooted.{Rooted}
-use Rattle.dpl_orient.specs.Chart.{row}
+use Rattle.dpl_orient.specs.Chart.{rooted_at}
 use Rattle.dpl_orient.specs.declared.crossing.Across.{Across}
 use Rattle.dpl_orient.specs.declared.crossing.Crossing.{Crossing}
 
@@ -18,11 +18,11 @@ crossing_between s t =
 
 -- of a zone with these sides
 abbrev pub crossing_of : List Rooted → ℕ × ℕ → Crossing
-crossing_of chart side = crossing_between (row chart side.0) (row chart side.1)
+crossing_of chart side = crossing_between (rooted_at chart side.0) (rooted_at chart side.1)
 
 -- whether its sides are in two components
 abbrev pub is_across : List Rooted → ℕ × ℕ → Bool
-is_across chart side = not ((row chart side.0).root == (row chart side.1).root)
+is_across chart side = not ((rooted_at chart side.0).root == (rooted_at chart side.1).root)
 
 -- of the zones with these sides
 abbrev pub crossings_of : List Rooted → List (ℕ × ℕ) → List Crossing

@@ -20,6 +20,10 @@ pub record AreRooted (rows : List Star) (n : ℕ) (roots : List ℕ) (odds : Lis
 abbrev pub ArePiecesBelow : ℕ → List Star → Type 0
 ArePiecesBelow n rows = All (λ r. r.piece < n) rows
 
+-- the rows' roots are below n
+abbrev pub AreRootsBelow : ℕ → List Star → Type 0
+AreRootsBelow n rows = All (λ r. r.root < n) rows
+
 -- the sides of zones are below n
 abbrev pub AreSidesBelow : ℕ → List (ℕ × ℕ) → Type 0
 AreSidesBelow n sides = All (λ (s : ℕ × ℕ). (s.0 < n) × (s.1 < n)) sides

@@ -1,8 +1,8 @@
 //! The root and the parity of each piece.
-ghost use Rattle.std.specs.Prelude.{◌≡◌, [], length, IfOk};
+ghost use Rattle.std.specs.Prelude.{◌≡◌, ◌^◌, ◌<◌, ◌≤◌, [], length, IfOk, OnErr};
 ghost use Rattle.dpl_stars.specs.Stars.{IsStarList};
-ghost use Rattle.dpl_orient.specs.Rooted.{ArePiecesBelow};
-ghost use Rattle.dpl_orient.specs.Chart.{own_root, rooted_by, row, IsChart, AreLow};
+ghost use Rattle.dpl_orient.specs.Rooted.{ArePiecesBelow, AreRootsBelow};
+ghost use Rattle.dpl_orient.specs.Chart.{own_root, rooted_by, rooted_at, IsChart, AreLow};
 
 use dpl_base::Id;
 use dpl_stars::Star;
@@ -12,12 +12,24 @@ use std::alloc::{AllocError, Global};
 /// piece's number is its place in the chart.
 #[derive(Clone, Copy, Debug, Drop)]
 pub struct Rooted {
-    pub root: Id,
+    pub root: u32,
     pub odd: bool,
 }
 
+/// A number of a piece or a zone in 32 bits. One of 2^32 or more is refused as want of memory, which so many pieces or
+/// zones would be.
+pub fn short(number: u64) -> Result<u32, AllocError>
+    ensures same { IfOk result (λ n. n ≡ number) }
+    ensures refused { OnErr result (2 ^ 32 ≤ number) }
+{
+    match u32::try_from(number) {
+        Ok(n) => Ok(n),
+        Err(_) => Err(AllocError),
+    }
+}
+
 /// A piece that no edge touches, as its own root.
-fn own_root(piece: Id) -> Rooted
+fn own_root(piece: u32) -> Rooted
     ensures { result ≡ own_root piece }
 {
     Rooted {
@@ -28,28 +40,41 @@ fn own_root(piece: Id) -> Rooted
 
 /// What a row says of its piece.
 fn rooted_by(row: &Star) -> Rooted
+    requires { row.now.root < 2 ^ 32 }
     ensures { result ≡ rooted_by row.now }
 {
     Rooted {
-        root: row.root,
+        root: row.root as u32,
         odd: row.odd,
     }
 }
 
-/// What the chart says of a piece. Past the end of the chart a piece is its own root.
-pub fn row(chart: &[Rooted], piece: Id) -> Rooted
-    ensures { result ≡ row chart.now piece }
+/// The root of a piece. Past the end of the chart a piece is its own root.
+pub fn root_at(chart: &[Rooted], piece: Id) -> Id
+    ensures { result ≡ (rooted_at chart.now piece).root }
 {
     match chart.get(piece as usize) {
-        Some(rooted) => *rooted,
-        None => own_root(piece),
+        Some(rooted) => rooted.root as Id,
+        None => piece,
     }
 }
 
-/// The chart of the pieces below `n`, as if no edge touched them.
-fn own_roots(alloc: Global, n: Id) -> Result<Vec<Rooted>, AllocError>
-    ensures { IfOk result (λ v. IsChart [] n v.items) }
+/// Whether a piece is at an odd distance from its root. Past the end of the chart none is.
+pub fn is_odd_at(chart: &[Rooted], piece: Id) -> bool
+    ensures { result ≡ (rooted_at chart.now piece).odd }
 {
+    match chart.get(piece as usize) {
+        Some(rooted) => rooted.odd,
+        None => false,
+    }
+}
+
+/// The chart of the pieces below `n`, as if no edge touched them. 2^32 pieces or more are refused as want of memory.
+fn own_roots(alloc: Global, n: Id) -> Result<Vec<Rooted>, AllocError>
+    ensures chart { IfOk result (λ v. IsChart [] n v.items) }
+    ensures few { IfOk result (λ _. n < 2 ^ 32) }
+{
+    let n = short(n)?;
     let mut chart = Vec::with_capacity(alloc, n as usize)?;
     for v in 0..n {
         chart.push(own_root(v))?;
@@ -61,6 +86,7 @@ fn own_roots(alloc: Global, n: Id) -> Result<Vec<Rooted>, AllocError>
 fn put_rows(chart: &mut [Rooted], rows: &[Star])
     requires own { IsChart [] (length chart.old) chart.old }
     requires below { ArePiecesBelow (length chart.old) rows.now }
+    requires roots { AreRootsBelow (2 ^ 32) rows.now }
     ensures { IsChart rows.now (length chart.old) chart.new }
 {
     for row in rows {
@@ -69,6 +95,7 @@ fn put_rows(chart: &mut [Rooted], rows: &[Star])
 }
 
 /// The root and the parity of each piece below `n`: by its row, or its own root where no edge touches it.
+/// 2^32 pieces or more are refused as want of memory, which so many pieces would be.
 pub fn chart(alloc: Global, n: Id, rows: &[Star]) -> Result<Vec<Rooted>, AllocError>
     requires ordered { IsStarList rows.now }
     requires below { ArePiecesBelow n rows.now }

@@ -65,7 +65,9 @@ pub fn are_sides_below(n: Id, sides: &[(Id, Id)]) -> bool
 
 /// The masks of the pieces below `n`, where `joined` sums up the conflicts and `sides` has the pieces on both sides of
 /// each stitch zone. A component alternates from mask A at its least piece. Components are taken by least piece, and
-/// one is flipped where fewer of its zones with earlier components then have sides on different masks.
+/// one is flipped where fewer of its zones with earlier components then have sides on different masks. 2^32 pieces or
+/// more, and a zone between two components whose number is 2^32 or more, are refused as want of memory, which so many
+/// would be.
 pub fn orient(
     alloc: Global,
     n: Id,

@@ -2,9 +2,10 @@
 ghost use Rattle.std.specs.Prelude.{◌≡◌, ◌<◌, ◌+◌, [], ◌∷◌, ◌++◌, length, IfOk};
 ghost use Rattle.std.specs.List.Sorted.{IsPermutation, IsNonDecreasingBy};
 ghost use Rattle.dpl_spec.specs.Colours.{differ};
+ghost use Rattle.dpl_orient.specs.Chart.{rooted_at};
 ghost use Rattle.dpl_orient.specs.Crossings.{crossing_between, crossing_at, is_across, crossings_at, HaveLater, crossings_of, AreGrouped, GoUp};
 
-use crate::chart::{Rooted, row};
+use crate::chart::{Rooted, is_odd_at, root_at, short};
 use dpl_base::Id;
 use std::alloc::{AllocError, Global};
 
@@ -20,8 +21,8 @@ pub struct Crossing {
 /// The number of a zone that is a crossing, with the crossing's later component, by which they are sorted.
 #[derive(Clone, Copy, Debug, Drop)]
 pub struct Across {
-    pub later: Id,
-    pub zone: usize,
+    pub later: u32,
+    pub zone: u32,
 }
 
 /// Whether two letters differ.
@@ -32,20 +33,22 @@ pub fn differs(a: bool, b: bool) -> bool
 }
 
 /// The crossing of a zone between two pieces, where their roots differ.
-fn between(s: Rooted, t: Rooted) -> Crossing
-    ensures { result ≡ crossing_between s t }
+fn between(chart: &[Rooted], s: Id, t: Id) -> Crossing
+    ensures { result ≡ crossing_between (rooted_at chart.now s) (rooted_at chart.now t) }
 {
-    if t.root < s.root {
+    let s_root = root_at(chart, s);
+    let t_root = root_at(chart, t);
+    if t_root < s_root {
         Crossing {
-            later: s.root,
-            earlier: t.root,
-            odd: differs(s.odd, t.odd),
+            later: s_root,
+            earlier: t_root,
+            odd: differs(is_odd_at(chart, s), is_odd_at(chart, t)),
         }
     } else {
         Crossing {
-            later: t.root,
-            earlier: s.root,
-            odd: differs(t.odd, s.odd),
+            later: t_root,
+            earlier: s_root,
+            odd: differs(is_odd_at(chart, t), is_odd_at(chart, s)),
         }
     }
 }
@@ -56,8 +59,8 @@ pub fn crossing_at(chart: &[Rooted], sides: &[(Id, Id)], number: usize) -> Cross
     ensures { result ≡ crossing_at chart.now sides.now number }
 {
     match sides.get(number) {
-        Some(side) => between(row(chart, side.0), row(chart, side.1)),
-        None => between(row(chart, 0), row(chart, 0)),
+        Some(side) => between(chart, side.0, side.1),
+        None => between(chart, 0, 0),
     }
 }
 
@@ -65,7 +68,7 @@ pub fn crossing_at(chart: &[Rooted], sides: &[(Id, Id)], number: usize) -> Cross
 fn is_across(chart: &[Rooted], side: (Id, Id)) -> bool
     ensures { result ≡ is_across chart.now side }
 {
-    row(chart, side.0).root != row(chart, side.1).root
+    root_at(chart, side.0) != root_at(chart, side.1)
 }
 
 /// How many of the zones with these sides are crossings.
@@ -81,7 +84,8 @@ fn crossing_count(chart: &[Rooted], sides: &[(Id, Id)]) -> usize
     count
 }
 
-/// The crossings among zones with these sides.
+/// The crossings among zones with these sides. A zone or a later component of number 2^32 or more is refused as want of
+/// memory, which so many zones or pieces would be.
 fn listed(alloc: Global, chart: &[Rooted], sides: &[(Id, Id)]) -> Result<Vec<Across>, AllocError>
     ensures later { IfOk result (λ v. HaveLater chart.now sides.now v.items) }
     ensures crossings { IfOk result (λ v. crossings_at chart.now sides.now v.items ≡ crossings_of chart.now sides.now) }
@@ -89,7 +93,8 @@ fn listed(alloc: Global, chart: &[Rooted], sides: &[(Id, Id)]) -> Result<Vec<Acr
     let mut across = Vec::with_capacity(alloc, crossing_count(chart, sides))?;
     for zone in 0..sides.len() {
         if is_across(chart, sides[zone]) {
-            let later = crossing_at(chart, sides, zone).later;
+            let later = short(crossing_at(chart, sides, zone).later)?;
+            let zone = short(zone as u64)?;
             across.push(Across { later, zone })?;
         }
     }
@@ -104,7 +109,8 @@ fn group(across: &mut Vec<Across>)
     across.sort_unstable_by_key(|a| a.later);
 }
 
-/// The crossings among zones with these sides, in order of the later component.
+/// The crossings among zones with these sides, in order of the later component. A zone or a later component of number
+/// 2^32 or more is refused as want of memory, which so many zones or pieces would be.
 pub fn crossings(
     alloc: Global,
     chart: &[Rooted],

@@ -34,7 +34,7 @@ fn settle(
     let mut agreeing = 0usize;
     let mut differing = 0usize;
     for next in start..across.len() {
-        let crossing = crossing_at(chart, sides, across[next].zone);
+        let crossing = crossing_at(chart, sides, across[next].zone as usize);
         if crossing.later != root {
             let flip = agreeing < differing;
             return Settled { next, flip };

@@ -1,10 +1,11 @@
 -- Pieces of blocks put together.
-use Rattle.std.proofs.Common.{◌≡◌, ℕ, ◌≤◌, inl, inr, List, [], ◌∷◌, ◌++◌, length, take, drop, arith}
+use Rattle.std.proofs.Common.{◌≡◌, ◌∙◌, sym, ap, ℕ, ◌+◌, ◌≤◌, inl, inr, List, [], ◌∷◌, ◌++◌, length, take, drop, arith}
+use Rattle.std.proofs.Math.Seq.{drop-append-add, drop-append_seam}
 use Rattle.std.specs.Prelude.{pos, ◌-ℤ◌, ◌≤ℤ◌}
 use Rattle.std.specs.List.{Contains}
 use Rattle.std.specs.List.Sorted.{IsPermutation}
 use Rattle.std.proofs.lemmas.Int.{ints}
-use Rattle.std.proofs.lemmas.List.{take-append-drop}
+use Rattle.std.proofs.lemmas.List.{take-append-drop, take_at}
 use Rattle.std.proofs.lemmas.List.Elements.{All-append, All-contains, Contains-append_cases}
 use Rattle.dpl_spec.specs.declared.Pt.{Pt}
 use Rattle.dpl_spec.specs.declared.Rect.{Rect}
@@ -17,7 +18,7 @@ use Rattle.dpl_spec.proofs.SlabLaws.{Covers-member, member-Covers}
 use Rattle.dpl_sweep.specs.Orders.{CornersRise}
 use Rattle.dpl_sweep.specs.Pieces.{AreApart}
 use Rattle.dpl_sweep.proofs.JoinLaws.{covers-same}
-use Rattle.dpl_slabs.specs.Blocks.{LieLeft, AddsBlock, AreBlocksOf}
+use Rattle.dpl_slabs.specs.Blocks.{LieLeft, AddsBlock, AreBlocksOf, PiecesAndBlocks}
 use Rattle.dpl_slabs.specs.Cells.{turned_rects}
 use Rattle.dpl_slabs.specs.Slices.{ArePiecesOf}
 use Rattle.dpl_slabs.specs.Strips.{LieBelow}
@@ -112,6 +113,32 @@ module _ (a : Region) (pieces rest : List Rect) (n : ℕ) (s : AreBlocksOf a pie
     left = adds.left (drop n rest) (λ r t r_in t_in. s.left r t r_in (right-in (take n rest) (drop n rest) rest t whole t_in)) gap;
   }
 
+-- blocks of a set are blocks of what the pieces and the rectangles have, and the other way round
+pub blocks-here : (a : Region) (pieces rest : List Rect) → AreBlocksOf a pieces rest → AreBlocksOf (PiecesAndBlocks pieces rest) pieces rest
+blocks-here a pieces rest s = record {
+  apart = s.apart;
+  covers = λ p. (λ h. h, λ h. h);
+  rest_within = s.rest_within;
+  rise = s.rise;
+  left = s.left;
+}
+
+pub blocks-same : (a : Region) (pieces rest new others : List Rect) → AreBlocksOf a pieces rest → AreBlocksOf (PiecesAndBlocks pieces rest) new others → AreBlocksOf a new others
+blocks-same a pieces rest new others s t = record {
+  apart = t.apart;
+  covers = λ p. (λ h. (s.covers p).0 ((t.covers p).0 h), λ h. (t.covers p).1 ((s.covers p).1 h));
+  rest_within = t.rest_within;
+  rise = t.rise;
+  left = t.left;
+}
+
+-- the next block where it stands in a list: what follows stays
+pub block-done : (a : Region) (pieces new rects front rest block changed more : List Rect) (n m : ℕ) → length front ≡ n → length block ≡ m → length changed ≡ length block → rest ≡ drop n rects → block ≡ take m rest → more ≡ drop m rest → LieBelow (take m rest) (drop m rest) → AddsBlock pieces new block → AreBlocksOf a pieces (drop n rects) → AreBlocksOf a new (drop (n + m) (front ++ (changed ++ more)))
+block-done a pieces new rects front rest block changed more n m front_len block_len kept rest_is block_is more_is gap adds s =
+    let next : AreBlocksOf a new (drop m rest) = blocks-next a pieces rest m (rw rest_is s) new gap (rw block_is at adds) in
+    let at_front : drop (n + m) (front ++ (changed ++ more)) ≡ more = rw (sym front_len, sym block_len, sym kept) (drop-append-add front (changed ++ more) (length changed) ∙ drop-append_seam changed more) in
+    rw (at_front, more_is) next
+
 pub blocks-all : (a : Region) (pieces rest : List Rect) → length rest ≤ 0 → AreBlocksOf a pieces rest → ArePiecesOf a pieces
 blocks-all a pieces [] none s = record {
   apart = s.apart;
@@ -140,6 +167,12 @@ exchanged-twice rects once twice same again p =
       λ c. (exchanged-covers rects once same p).0 ((exchanged-covers once twice again q).0 c),
       λ c. (exchanged-covers once twice again q).1 ((exchanged-covers rects once same p).1 c),
     )
+
+-- a list whose rectangles were handed out and stayed as they were
+pub exchanged-kept : (old kept more sorted : List Rect) (len : ℕ) → kept ≡ old → length old ≡ len → IsPermutation (turned_rects (take len (kept ++ more))) sorted → IsPermutation (turned_rects old) sorted
+exchanged-kept old kept more sorted len same old_len by =
+    let all : IsPermutation (turned_rects kept) sorted = rw (take_at kept more len (ap length same ∙ old_len)) at by in
+    rw same at all
 
 -- slabs of pieces of rectangles that were exchanged
 pub blocks-slabs : (rects sorted pieces slabs : List Rect) → IsPermutation (turned_rects rects) sorted → ArePiecesOf (turned (Covers sorted)) pieces → AreSlabsOf (Covers pieces) slabs → AreSlabsOf (Covers rects) slabs

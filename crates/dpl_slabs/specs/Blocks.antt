@@ -19,6 +19,10 @@ pub record AddsBlock (old new block : List Rect) : Type 0 where
   pub covers : (p : Pt) → Covers new p ↔ (Covers old p ⊎ turned (Covers block) p)
   pub left : (others : List Rect) → LieLeft old others → ((r s : Rect) → Contains block r → Contains others s → r.y1 <ℤ s.y0) → LieLeft new others
 
+-- the squares of pieces, and of rectangles in blocks
+abbrev pub PiecesAndBlocks : List Rect → List Rect → Region
+PiecesAndBlocks pieces rest p = Covers pieces p ⊎ turned (Covers rest) p
+
 -- pieces of some of a set's squares, and rectangles of the others in blocks, which lie right of them
 pub record AreBlocksOf (a : Region) (pieces rest : List Rect) : Type 0 where
   pub apart : AreApart pieces

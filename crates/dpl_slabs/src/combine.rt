@@ -157,9 +157,9 @@ pub fn exchanged(alloc: Global, rects: &[Rect]) -> Result<Vec<Rect>, AllocError>
     rects.iter().map(turned).collect(alloc)
 }
 
-/// Exchanges x and y of each of the rectangles.
-pub fn exchange(rects: &mut Vec<Rect>)
-    ensures { rects.new.items ≡ turned_rects rects.old.items }
+/// Exchanges x and y of each of the rectangles where it stands.
+pub fn exchange(rects: &mut [Rect])
+    ensures { rects.new ≡ turned_rects rects.old }
 {
     for i in 0..rects.len() {
         rects[i] = turned(&rects[i]);

@@ -1,9 +1,11 @@
 //! The slabs of rectangles, strip by strip of rows.
 ghost use Rattle.std.specs.Prelude.{ℕ, ◌<◌, ◌≤◌, IfOk, OnOk, length, take, drop};
+ghost use Rattle.std.specs.List.Sorted.{IsPermutation};
 ghost use Rattle.dpl_spec.specs.Squares.{Covers};
 ghost use Rattle.dpl_spec.specs.Slabs.{AreSlabsOf, IsCanonical};
 ghost use Rattle.dpl_spec.specs.Loops.{farthest, AreRectsWithin};
 ghost use Rattle.dpl_sweep.specs.Orders.{CornersRise};
+ghost use Rattle.dpl_slabs.specs.Cells.{turned_rects};
 ghost use Rattle.dpl_slabs.specs.Strips.{LieBelow, AddsStrip};
 
 use crate::blocks::{has_tall_strip, pieces_of_blocks};
@@ -80,22 +82,29 @@ pub fn slabs_by_rows(alloc: Global, rects: &[Rect]) -> Result<Vec<Rect>, AllocEr
     Ok(slabs)
 }
 
-/// The canonical slabs of rectangles in any order, block by block of columns where there are some between them. They are exchanged where they stand, so that there is one list of them.
+/// Exchanges x and y of each of the rectangles where it stands, and sorts them by first row, then by left column.
+fn turn(rects: &mut Vec<Rect>)
+    ensures same { IsPermutation (turned_rects rects.old.items) rects.new.items }
+    ensures rise { CornersRise rects.new.items }
+{
+    exchange(rects);
+    sort_by_corner(rects);
+}
+
+/// The canonical slabs of rectangles in any order, block by block of columns where there are some between them. They are exchanged where they stand, each block too, so that there is one list of them.
 fn slabs_by_blocks(alloc: Global, rects: Vec<Rect>) -> Result<Vec<Rect>, AllocError>
     requires { AreRectsWithin farthest rects.items }
     ensures slabs { IfOk result (λ v. AreSlabsOf (Covers rects.items) v.items) }
     ensures within { IfOk result (λ v. AreRectsWithin farthest v.items) }
 {
     let mut turned = rects;
-    exchange(&mut turned);
-    sort_by_corner(&mut turned);
-    if let Some(pieces) = pieces_of_blocks(alloc, &turned)? {
+    turn(&mut turned);
+    if let Some(pieces) = pieces_of_blocks(alloc, &mut turned)? {
         drop(turned);
         return Ok(slabs_of(pieces));
     }
     let mut rects = turned;
-    exchange(&mut rects);
-    sort_by_corner(&mut rects);
+    turn(&mut rects);
     let slabs = slabs_by_rows(alloc, &rects)?;
     Ok(slabs)
 }

@@ -38,6 +38,10 @@ adds-same Kind Other old new same h e = (
   λ c. elim c [ inl a ↦ (h e).1 (inl a) | inr k ↦ (h e).1 (inr ((same e).1 k)) ],
 )
 
+-- the new list may have its elements in another order, and each less often
+pub adds-members : {X : Type 0} (Kind : X → Type 0) (old more new : List X) → ((e : X) → Contains new e ↔ Contains more e) → Adds Kind old more → Adds Kind old new
+adds-members Kind old more new same h e = (λ c. (h e).0 ((same e).0 c), λ k. (same e).1 ((h e).1 k))
+
 pub added-to_none : {X : Type 0} (Kind : X → Type 0) (none new : List X) → none ≡ [] → Adds Kind none new → (e : X) → Contains new e ↔ Kind e
 added-to_none Kind none new is h e = (
   λ c. elim ((h e).0 c) [ inl a ↦ absurd (let (m, m_in, same) = subst (λ xs. Contains xs e) is a in omega (arith, m_in)) | inr k ↦ k ],

@@ -145,15 +145,15 @@ block-small b h =
     let m : (b.row1 - b.row0) * (b.column1 - b.column0) ≤ 2000000001 * 2000000001 = mul-le (b.row1 - b.row0) (b.column1 - b.column0) 2000000001 2000000001 (omega (arith, low)) (omega (arith, left)) in
     omega (arith, m)
 
-pub rects-count : (g : Grid) (rects : List Rect) (n : ℕ) (d : Rect) (b : Block) (a m k : ℕ) → n < length rects → IsBlockOf g (get_or rects n d) b → IsSomeBlock b → m ≡ a + sum_by (cells_met g) (take n rects)
-    → k ≡ m + (b.row1 - b.row0) * (b.column1 - b.column0) → k ≡ a + sum_by (cells_met g) (take (n + 1) rects)
+pub rects-count : (g : Grid) (rects : List Rect) (n : ℕ) (d : Rect) (b : Block) (a m k : ℕ) → n < length rects → IsBlockOf g (get_or rects n d) b → IsSomeBlock b → m ≤ a + sum_by (cells_met g) (take n rects)
+    → k ≤ m + (b.row1 - b.row0) * (b.column1 - b.column0) → k ≤ a + sum_by (cells_met g) (take (n + 1) rects)
 rects-count g rects n d b a m k n_in h some before more =
     let cells = block-cells g (get_or rects n d) b h some in
     let sum = sum_by_more (cells_met g) rects n d n_in in
-    more ∙ omega (arith, before, cells, sum)
+    omega (arith, more, before, cells, sum)
 
-pub parts-count : (g : Grid) (parts : List (List Rect)) (n : ℕ) (x : List Rect) (a m k : ℕ) → n < length parts → get_or parts n x ≡ x → m ≡ a + pairs_of g (take n parts) → k ≡ m + sum_by (cells_met g) x → k ≡ a + pairs_of g (take (n + 1) parts)
+pub parts-count : (g : Grid) (parts : List (List Rect)) (n : ℕ) (x : List Rect) (a m k : ℕ) → n < length parts → get_or parts n x ≡ x → m ≤ a + pairs_of g (take n parts) → k ≤ m + sum_by (cells_met g) x → k ≤ a + pairs_of g (take (n + 1) parts)
 parts-count g parts n x a m k n_in is before more =
     let sum = sum_by_more (λ part. sum_by (cells_met g) part) parts n x n_in in
     let same : sum_by (cells_met g) (get_or parts n x) ≡ sum_by (cells_met g) x = ap (λ part. sum_by (cells_met g) part) is in
-    more ∙ omega (arith, before, sum, same)
+    omega (arith, more, before, sum, same)

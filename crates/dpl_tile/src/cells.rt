@@ -1,6 +1,7 @@
 //! The places of the cells that slabs meet.
-ghost use Rattle.std.specs.Prelude.{◌≡◌, ◌+◌, ◌-◌, ◌*◌, IfOk, OnOk, length, sum_by};
-ghost use Rattle.std.specs.List.{All};
+ghost use Rattle.std.specs.Prelude.{◌≡◌, ◌↔◌, ℕ, ◌+◌, ◌-◌, ◌*◌, ◌≤◌, IfOk, OnOk, length, sum_by};
+ghost use Rattle.std.specs.List.{All, AllPairs, Contains};
+ghost use Rattle.dpl_spec.specs.Graphs.{Precedes};
 ghost use Rattle.dpl_tile.specs.Adding.{Adds};
 ghost use Rattle.dpl_tile.specs.Kept.{IsSound, AreOver, IsSomeBlock, IsInRow, IsInBlock, IsMetByAny, IsMetByPart, ArePlaces};
 ghost use Rattle.dpl_tile.specs.Tiles.{cells_met, pairs_of};
@@ -10,8 +11,32 @@ use dpl_base::Rect;
 use dpl_slabs::Slabs;
 use std::alloc::{AllocError, Global};
 
+/// A list shorter than this isn't put in order until all places are in it.
+const LEAST_LIMIT: usize = 65_536;
+
+/// Puts places in order, each once.
+fn put_in_order(places: &mut Vec<Place>)
+    ensures ordered { AllPairs Precedes places.new.items }
+    ensures members { (e : ℕ × ℕ) → Contains places.new.items e ↔ Contains places.old.items e }
+    ensures few { length places.new.items ≤ length places.old.items }
+{
+    places.sort_unstable();
+    places.dedup();
+}
+
+/// Keeps a list short to which places are added again and again: once it is as long as the limit, it is put in order, each place once, and the next limit is twice what is left, but not below the least. So each time at least half of the places that are put in order were added since the last time.
+fn tidy(places: &mut Vec<Place>, limit: &mut usize)
+    ensures members { (e : ℕ × ℕ) → Contains places.new.items e ↔ Contains places.old.items e }
+    ensures few { length places.new.items ≤ length places.old.items }
+{
+    if places.len() >= *limit {
+        put_in_order(places);
+        *limit = places.len().saturating_mul(2).max(LEAST_LIMIT);
+    }
+}
+
 /// Adds the places of a block in one row of cells.
-fn add_row(places: &mut Vec<Place>, row: u64, block: &Block) -> Result<(), AllocError>
+fn add_row(places: &mut Vec<Place>, row: u32, block: &Block) -> Result<(), AllocError>
     requires { IsSomeBlock block.now }
     ensures added { OnOk result (Adds (IsInRow row block.now) places.old.items places.new.items) }
     ensures count { OnOk result (length places.new.items ≡ length places.old.items + (block.now.column1 - block.now.column0)) }
@@ -23,45 +48,56 @@ fn add_row(places: &mut Vec<Place>, row: u64, block: &Block) -> Result<(), Alloc
 }
 
 /// Adds the places of a block.
-fn add_block(places: &mut Vec<Place>, block: &Block) -> Result<(), AllocError>
+fn add_block(places: &mut Vec<Place>, limit: &mut usize, block: &Block) -> Result<(), AllocError>
     requires { IsSomeBlock block.now }
     ensures added { OnOk result (Adds (IsInBlock block.now) places.old.items places.new.items) }
-    ensures count { OnOk result (length places.new.items ≡ length places.old.items + (block.now.row1 - block.now.row0) * (block.now.column1 - block.now.column0)) }
+    ensures count { OnOk result (length places.new.items ≤ length places.old.items + (block.now.row1 - block.now.row0) * (block.now.column1 - block.now.column0)) }
 {
     for row in block.row0..block.row1 {
         add_row(places, row, block)?;
+        tidy(places, limit);
     }
     Ok(())
 }
 
 /// Adds the places of the cells that the rectangles meet.
-fn add_rects(places: &mut Vec<Place>, grid: &Grid, rects: &[Rect]) -> Result<(), AllocError>
+fn add_rects(
+    places: &mut Vec<Place>,
+    limit: &mut usize,
+    grid: &Grid,
+    rects: &[Rect],
+) -> Result<(), AllocError>
     requires sound { IsSound grid.now }
     requires over { AreOver grid.now rects.now }
     ensures added { OnOk result (Adds (IsMetByAny grid.now rects.now) places.old.items places.new.items) }
-    ensures count { OnOk result (length places.new.items ≡ length places.old.items + sum_by (cells_met grid.now) rects.now) }
+    ensures count { OnOk result (length places.new.items ≤ length places.old.items + sum_by (cells_met grid.now) rects.now) }
 {
     for r in rects {
         let block = grid.block(r);
-        add_block(places, &block)?;
+        add_block(places, limit, &block)?;
     }
     Ok(())
 }
 
 /// Adds the places of the cells that slabs of the parts meet.
-fn add_parts(places: &mut Vec<Place>, grid: &Grid, parts: &[Slabs]) -> Result<(), AllocError>
+fn add_parts(
+    places: &mut Vec<Place>,
+    limit: &mut usize,
+    grid: &Grid,
+    parts: &[Slabs],
+) -> Result<(), AllocError>
     requires sound { IsSound grid.now }
     requires over { All (AreOver grid.now) parts.now }
     ensures added { OnOk result (Adds (IsMetByPart grid.now parts.now) places.old.items places.new.items) }
-    ensures count { OnOk result (length places.new.items ≡ length places.old.items + pairs_of grid.now parts.now) }
+    ensures count { OnOk result (length places.new.items ≤ length places.old.items + pairs_of grid.now parts.now) }
 {
     for part in parts {
-        add_rects(places, grid, part.rects())?;
+        add_rects(places, limit, grid, part.rects())?;
     }
     Ok(())
 }
 
-/// The places of the cells that slabs of the parts meet, by row, then by column.
+/// The places of the cells that slabs of the parts meet, by row, then by column. While they are found, the list has at most three times as many places as there are such cells, and 65,536 more, however many slabs meet a cell.
 pub(crate) fn places_of(
     alloc: Global,
     grid: &Grid,
@@ -72,9 +108,9 @@ pub(crate) fn places_of(
     ensures { IfOk result (λ v. ArePlaces grid.now parts.now v.items) }
 {
     let mut places = Vec::new(alloc);
-    add_parts(&mut places, grid, parts)?;
-    places.sort_unstable();
-    places.dedup();
+    let mut limit = LEAST_LIMIT;
+    add_parts(&mut places, &mut limit, grid, parts)?;
+    put_in_order(&mut places);
     places.shrink_to_fit();
     Ok(places)
 }

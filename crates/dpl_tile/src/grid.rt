@@ -7,8 +7,8 @@ ghost use Rattle.dpl_tile.specs.Tiles.{cell_at, number_in, cells_met};
 
 use dpl_base::{Rect, WideRect};
 
-/// The row and the column of a cell.
-pub type Place = (u64, u64);
+/// The row and the column of a cell, each at most 2,000,000,000.
+pub type Place = (u32, u32);
 
 /// A grid of square cells: where its first cell begins, and the length of the cells' sides, in database units.
 #[derive(Clone, Copy, Drop)]
@@ -21,14 +21,14 @@ pub struct Grid {
 /// The rows and columns of cells from the first up to but not the last.
 #[derive(Clone, Copy, Drop)]
 pub struct Block {
-    pub row0: u64,
-    pub row1: u64,
-    pub column0: u64,
-    pub column1: u64,
+    pub row0: u32,
+    pub row1: u32,
+    pub column0: u32,
+    pub column1: u32,
 }
 
 /// Which row or column of cells a row or column of squares is in.
-fn number(side: u64, low: i64, i: i64) -> u64
+fn number(side: u64, low: i64, i: i64) -> u32
     requires some { 1 ≤ side }
     requires from { low ≤ℤ i }
     requires low { unsigned_abs low ≤ farthest }
@@ -36,7 +36,7 @@ fn number(side: u64, low: i64, i: i64) -> u64
     ensures value { result ≡ number_in side low i }
     ensures small { result ≤ 2000000000 }
 {
-    (i - low) as u64 / side
+    ((i - low) as u64 / side) as u32
 }
 
 /// The coordinate so far above another.
@@ -56,7 +56,8 @@ impl Grid {
         ensures value { result ≡ cell_at self.now place }
         ensures solid { IsSolid result }
     {
-        let (row, column) = place;
+        let row = place.0 as u64;
+        let column = place.1 as u64;
         WideRect::new(
             above(self.x, column * self.side),
             above(self.y, row * self.side),
@@ -88,6 +89,6 @@ impl Grid {
         ensures small { result ≤ 2 ^ 63 }
     {
         let block = self.block(r);
-        (block.row1 - block.row0) * (block.column1 - block.column0)
+        (block.row1 - block.row0) as u64 * (block.column1 - block.column0) as u64
     }
 }

@@ -3,4 +3,4 @@ use Rattle.dpl_spec.specs.Zones.{turned_rect}
 use Rattle.dpl_slabs.proofs.combine.exchange.Given as goal
 
 abbrev pub invariant-loop-i : goal.invariant-loop-i
-invariant-loop-i l = l.rects.items ≡ map turned_rect (take l.i l.initial.rects.items) ++ drop l.i l.initial.rects.items
+invariant-loop-i l = l.rects ≡ map turned_rect (take l.i l.initial.rects) ++ drop l.i l.initial.rects
