@@ -1,47 +1,30 @@
--- Corners of slabs, in order.
-use Rattle.std.proofs.Common.{◌≡◌, ℕ, zero, suc, ◌+◌, ◌<◌, ◌⊎◌, inl, inr, List, [], ◌∷◌, ◌++◌, length, get_or, take, map, Option, None, Some, Err, refl, sym, ap, ◌∙◌, subst, arith}
-use Rattle.std.specs.Prelude.{◌↔◌, ℤ, MatchOption, IfNone}
-use Rattle.std.specs.List.{AllZip, Contains, HoldsAt, zip}
-use Rattle.std.specs.List.Sorted.{IsPermutation, IsBinarySearchResult}
-use Rattle.std.specs.Ordering.{int_cmp}
+-- Corners of slabs and of zones, in order.
+use Rattle.std.proofs.Common.{◌≡◌, ℕ, zero, suc, ◌+◌, ◌<◌, ◌≤◌, ◌⊎◌, inl, inr, List, [], ◌∷◌, ◌++◌, length, get_or, take, map, true, false, refl, sym, ap, ◌∙◌, subst, arith}
+use Rattle.std.specs.Prelude.{◌↔◌, ℤ}
+use Rattle.std.specs.List.{All, AllZip, Contains, HoldsAt, zip}
+use Rattle.std.specs.List.Sorted.{IsPermutation, IsNonDecreasingBy, IsPartitionedBy, IsPartitionPoint}
+use Rattle.std.specs.Ordering.{is_lt, int_cmp, ordering_index}
 use Rattle.std.specs.Cmp.{IsTotalOrder}
-use Rattle.std.specs.declared.cmp.Ordering.TheVariants.{Equal}
+use Rattle.std.specs.declared.cmp.Ordering.{Ordering}
+use Rattle.std.specs.declared.cmp.Ordering.TheVariants.{Less, Equal, Greater}
 use Rattle.std.proofs.lemmas.Cmp.{int_cmp_total, then_total, on_total, tied_itself}
 use Rattle.std.proofs.lemmas.Map.Lookups.{exact_pairs, exact_signed}
 use Rattle.std.proofs.lemmas.List.Sorted.{Contains-permutation, IsPermutation-sym, searchable_from_sorted}
-use Rattle.std.proofs.lemmas.Bool.{cases_eq, cases_lt}
+use Rattle.std.proofs.lemmas.Bool.{cases_eq}
 use Rattle.std.proofs.lemmas.List.{get_or_default}
 use Rattle.std.proofs.Math.Seq.{take-suc}
 use Rattle.std.proofs.lemmas.List.Elements.{Contains-append_left, Contains-append_right, Contains-append_cases}
 use Rattle.dpl_spec.specs.declared.Rect.{Rect}
+use Rattle.dpl_spec.specs.declared.Zone.{Zone}
 use Rattle.dpl_spec.proofs.Ordered.{Contains-head, Contains-later, Contains-cases, Contains-nil}
 use Rattle.dpl_piece.specs.declared.corner.Corner.{Corner}
 use Rattle.dpl_piece.specs.declared.corner.Kind.{Kind}
 use Rattle.dpl_piece.specs.declared.corner.Kind.TheVariants.{LowerLeft, LowerRight, UpperLeft}
 use Rattle.dpl_piece.specs.declared.piece.Origin.{Origin}
-use Rattle.dpl_piece.specs.Corners.{corner_at, corner_of, row_cmp, IsFirstCorner, IsBroken, IsAnswer, RiseByCorner}
+use Rattle.dpl_piece.specs.Corners.{corner_of, row_cmp, IsFirstCorner, IsBroken, IsZoneCorner, RiseByCorner}
 
 pub rows_total : IsTotalOrder row_cmp
 rows_total = then_total (on_total (λ t. t.0) int_cmp_total) (on_total (λ t. t.1) int_cmp_total)
-
--- a corner that the order doesn't tell from a point is at the point
-corner-is : (c : Corner) (x y : ℤ) → row_cmp (c.y, c.x) (y, x) ≡ Equal → c ≡ corner_at x y c.part
-corner-is c x y e = ap (λ (p : ℤ × ℤ). corner_at p.1 p.0 c.part) (exact_pairs int_cmp int_cmp exact_signed exact_signed (c.y, c.x) (y, x) e)
-
--- what a search finds is a corner at the point
-pub found-at : (cs : List Corner) (x y : ℤ) (i : ℕ) (z : Corner) → i < length cs → HoldsAt (λ c. row_cmp (c.y, c.x) (y, x) ≡ Equal) cs i → Contains cs (corner_at x y (get_or cs i z).part)
-found-at cs x y i z i_in equal = (i, i_in, get_or_default cs i (corner_at x y (get_or cs i z).part) z i_in ∙ corner-is (get_or cs i z) x y (equal z))
-
--- no corner is at a point that stands between those below it and those above
-pub none-at : (cs : List Corner) (x y : ℤ) (i : ℕ) → RiseByCorner cs → IsBinarySearchResult (λ c. row_cmp (c.y, c.x) (y, x)) cs (Err i) → (k : ℕ) → Contains cs (corner_at x y k) → ⊥
-none-at cs x y i rise parted k (j, j_in, is) =
-    let c : Corner = corner_at x y k in
-    let (below, above) = parted (searchable_from_sorted rows_total (λ e. (e.y, e.x)) cs (y, x) rise) in
-    let tied : row_cmp ((get_or cs j c).y, (get_or cs j c).x) (y, x) ≡ Equal = subst (λ e. row_cmp (e.y, e.x) (y, x) ≡ Equal) (sym is) (tied_itself rows_total (y, x)) in
-    elim (cases_lt j i) [
-      | inl l ↦ (let less = below j c (omega arith) l in cc)
-      | inr m ↦ (let more = above j c m j_in in cc)
-    ]
 
 -- the elements of a mapped list
 pub Contains-map : {A B : Type 0} (f : A → B) (rs : List A) (c : B) → Contains (map f rs) c → (r : A) × Contains rs r × (f r ≡ c)
@@ -60,12 +43,12 @@ map-Contains f (s ∷ rs) r h = elim (Contains-cases s r rs h) [
 
 -- a corner of one of the first n parts, which is broken
 abbrev pub IsFirstBroken : Kind → List (List Rect) → List Origin → ℕ → Corner → Type 0
-IsFirstBroken kind parts origins n c = IsFirstCorner kind parts n c × IsBroken origins c.part
+IsFirstBroken kind parts origins n c = IsFirstCorner kind parts n c × IsBroken origins c.number
 
-pub corner-part : (kind : Kind) (k : ℕ) (r : Rect) → (corner_of kind k r).part ≡ k
-corner-part LowerLeft k r = refl
-corner-part LowerRight k r = refl
-corner-part UpperLeft k r = refl
+pub corner-number : (kind : Kind) (k : ℕ) (r : Rect) → (corner_of kind k r).number ≡ k
+corner-number LowerLeft k r = refl
+corner-number LowerRight k r = refl
+corner-number UpperLeft k r = refl
 
 module _ (kind : Kind) (parts : List (List Rect)) (origins : List Origin) (n : ℕ) (old : List Corner) (before : (c : Corner) → Contains old c ↔ IsFirstBroken kind parts origins n c) where
   earlier : (c : Corner) → IsFirstBroken kind parts origins n c → IsFirstBroken kind parts origins (n + 1) c
@@ -76,7 +59,7 @@ module _ (kind : Kind) (parts : List (List Rect)) (origins : List Origin) (n : �
   corners-skip none c = (
     λ h. earlier c ((before c).0 h),
     λ ((k, r, l, r_in, is), broken). (before c).1 (elim (cases_eq k n) [
-      | inl e ↦ absurd (none (subst (IsBroken origins) (ap (λ t. let u : Corner = t in u.part) (sym is) ∙ (corner-part kind k r ∙ e)) broken))
+      | inl e ↦ absurd (none (subst (IsBroken origins) (ap (λ t. let u : Corner = t in u.number) (sym is) ∙ (corner-number kind k r ∙ e)) broken))
       | inr ne ↦ ((k, r, omega (arith, l, ne), r_in, is), broken)
     ]),
   )
@@ -87,7 +70,7 @@ module _ (kind : Kind) (parts : List (List Rect)) (origins : List Origin) (n : �
         λ h. elim (Contains-append_cases old (map (corner_of kind n) part) c (subst (λ l. Contains l c) new_is h)) [
           | inl a ↦ earlier c ((before c).0 a)
           | inr b ↦ (let (r, r_in, is) = Contains-map (corner_of kind n) part c b in
-              ((n, r, omega arith, subst (λ p. Contains p r) own r_in, is), subst (IsBroken origins) (sym (corner-part kind n r) ∙ ap (λ t. let u : Corner = t in u.part) is) broken))
+              ((n, r, omega arith, subst (λ p. Contains p r) own r_in, is), subst (IsBroken origins) (sym (corner-number kind n r) ∙ ap (λ t. let u : Corner = t in u.number) is) broken))
         ],
         λ ((k, r, l, r_in, is), so). subst (λ t. Contains t c) (sym new_is) (elim (cases_eq k n) [
           | inl e ↦ (
@@ -96,6 +79,82 @@ module _ (kind : Kind) (parts : List (List Rect)) (origins : List Origin) (n : �
           | inr ne ↦ Contains-append_left old (map (corner_of kind n) part) c ((before c).1 ((k, r, omega (arith, l, ne), r_in, is), so))
         ]),
       )
+
+-- corners of the first n zones
+abbrev pub IsFirstZoneCorner : Kind → List Zone → ℕ → Corner → Type 0
+IsFirstZoneCorner kind zones n c = (c.number < n) × HoldsAt (λ z. corner_of kind c.number z.rect ≡ c) zones c.number
+
+pub only-one : (c d : Corner) → Contains (c ∷ []) d → c ≡ d
+only-one c d h = elim (Contains-cases c d [] h) [ inl e ↦ e | inr none ↦ absurd (Contains-nil d none) ]
+
+module _ (kind : Kind) (zones : List Zone) where
+  pub zones-next : (n : ℕ) (old : List Corner) (z : Zone) → n < length zones → z ≡ get_or zones n z → ((c : Corner) → Contains old c ↔ IsFirstZoneCorner kind zones n c) → (c : Corner) → Contains (old ++ corner_of kind n z.rect ∷ []) c ↔ IsFirstZoneCorner kind zones (n + 1) c
+  zones-next n old z n_in z_is before c =
+      let one : Corner = corner_of kind n z.rect in (
+        λ h. elim (Contains-append_cases old (one ∷ []) c h) [
+          | inl a ↦ (let (l, is) = (before c).0 a in (omega (arith, l), is))
+          | inr b ↦ (
+              let e : one ≡ c = only-one one c b in
+              let own : c.number ≡ n = ap (λ t. let u : Corner = t in u.number) (sym e) ∙ corner-number kind n z.rect in (
+                omega (arith, own),
+                λ d. ap (λ m. corner_of kind m (get_or zones m d).rect) own ∙ (ap (λ t. let u : Zone = t in corner_of kind n u.rect) (sym (z_is ∙ get_or_default zones n z d n_in)) ∙ e),
+              ))
+        ],
+        λ (l, is). elim (cases_eq c.number n) [
+          | inl e ↦ (
+              let same : one ≡ c = ap (λ t. let u : Zone = t in corner_of kind n u.rect) z_is ∙ (ap (λ m. corner_of kind m (get_or zones m z).rect) (sym e) ∙ is z) in
+              Contains-append_right old (one ∷ []) c (subst (Contains (one ∷ [])) same (Contains-head one [])))
+          | inr ne ↦ Contains-append_left old (one ∷ []) c ((before c).1 (omega (arith, l, ne), is))
+        ],
+      )
+
+  pub zones-sorted : (old new : List Corner) → IsPermutation old new → ((c : Corner) → Contains old c ↔ IsZoneCorner kind zones c) → (c : Corner) → Contains new c ↔ IsZoneCorner kind zones c
+  zones-sorted old new same h c = (
+    λ g. (h c).0 (Contains-permutation new old c (IsPermutation-sym old new same) g),
+    λ g. Contains-permutation old new c same ((h c).1 g),
+  )
+
+  -- their numbers are those of zones
+  pub zone-numbers : (corners : List Corner) (n : ℕ) → length zones ≡ n → ((c : Corner) → Contains corners c ↔ IsZoneCorner kind zones c) → All (λ c. c.number < n) corners
+  zone-numbers corners n each members i d l = subst (λ m. (get_or corners i d).number < m) each ((members (get_or corners i d)).0 (i, l, get_or_default corners i (get_or corners i d) d l)).0
+
+-- what comes before something less is less, and what comes before something equal, and isn't less, is equal
+index-less : (o p : Ordering) → ordering_index o ≤ ordering_index p → is_lt p ≡ true → is_lt o ≡ true
+index-less Less p h t = refl
+index-less Equal Less h t = absurd (omega (arith, h))
+index-less Greater Less h t = absurd (omega (arith, h))
+index-less Equal Equal h t = t
+index-less Greater Equal h t = t
+index-less Equal Greater h t = t
+index-less Greater Greater h t = t
+
+index-equal : (o p : Ordering) → ordering_index o ≤ ordering_index p → is_lt o ≡ false → p ≡ Equal → o ≡ Equal
+index-equal Less p h l e = absurd (let f : true ≡ false = l in cc)
+index-equal Equal p h l e = refl
+index-equal Greater Less h l e = absurd (omega (arith, h))
+index-equal Greater Equal h l e = absurd (omega (arith, h))
+index-equal Greater Greater h l e = e
+
+module _ (corners : List Corner) (rise : RiseByCorner corners) (x y : ℤ) where
+  rises : IsNonDecreasingBy (λ c. ordering_index (row_cmp (c.y, c.x) (y, x))) corners
+  rises = searchable_from_sorted rows_total (λ c. (c.y, c.x)) corners (y, x) rise
+
+  pub corners-parted : IsPartitionedBy (λ c. is_lt (row_cmp (c.y, c.x) (y, x))) corners
+  corners-parted i j d a b t = index-less (row_cmp ((get_or corners i d).y, (get_or corners i d).x) (y, x)) (row_cmp ((get_or corners j d).y, (get_or corners j d).x) (y, x)) (rises i j d a b) t
+
+  -- no corner is at the point before those that come before it end, nor from the first one on that is elsewhere
+  pub none-elsewhere : (first i k : ℕ) (d : Corner) → IsPartitionPoint (λ c. is_lt (row_cmp (c.y, c.x) (y, x)) ≡ true) (λ c. is_lt (row_cmp (c.y, c.x) (y, x)) ≡ false) corners first → first ≤ i → k < length corners
+      → (i < length corners → (get_or corners i d).x ≡ x → (get_or corners i d).y ≡ y → ⊥) → ((k < first) ⊎ (i ≤ k)) → (get_or corners k d).x ≡ x → (get_or corners k d).y ≡ y → ⊥
+  none-elsewhere first i k d parted l k_in stop where_k at_x at_y =
+      let tied : row_cmp ((get_or corners k d).y, (get_or corners k d).x) (y, x) ≡ Equal = rw (at_x, at_y) (tied_itself rows_total (y, x)) in
+      elim where_k [
+        | inl before ↦ (let less = parted.0 k d (omega arith) before in cc)
+        | inr after ↦ (
+            let i_in : i < length corners = omega (arith, after, k_in) in
+            let same = index-equal (row_cmp ((get_or corners i d).y, (get_or corners i d).x) (y, x)) (row_cmp ((get_or corners k d).y, (get_or corners k d).x) (y, x)) (rises i k d after k_in) (parted.1 i d l i_in) tied in
+            let e = exact_pairs int_cmp int_cmp exact_signed exact_signed ((get_or corners i d).y, (get_or corners i d).x) (y, x) same in
+            stop i_in (ap (λ (p : ℤ × ℤ). p.1) e) (ap (λ (p : ℤ × ℤ). p.0) e))
+      ]
 
 -- lists place by place
 pub zip-push : {A B : Type 0} (R : A → B → Type 0) (xs : List A) (ys : List B) (x : A) (y : B) → AllZip R xs ys → R x y → AllZip R (xs ++ x ∷ []) (ys ++ y ∷ [])
@@ -109,23 +168,6 @@ zip-next R xs ys n x y n_in x_is h r =
     let one : n + 1 ≡ suc n = omega arith in
     let step : take (n + 1) xs ≡ take n xs ++ x ∷ [] = ap (λ k. take k xs) one ∙ (take-suc xs n x n_in ∙ ap (λ s. take n xs ++ s ∷ []) (sym x_is)) in
     rw step (zip-push R (take n xs) ys x y h r)
-
-pub corners-sorted : (kind : Kind) (parts : List (List Rect)) (origins : List Origin) (old new : List Corner) → IsPermutation old new → ((c : Corner) → Contains old c ↔ IsFirstBroken kind parts origins (length parts) c)
-    → (c : Corner) → Contains new c ↔ IsFirstBroken kind parts origins (length parts) c
-corners-sorted kind parts origins old new same h c = (
-  λ g. (h c).0 (Contains-permutation new old c (IsPermutation-sym old new same) g),
-  λ g. Contains-permutation old new c same ((h c).1 g),
-)
-
--- where no number has the first of two properties, and some number has either, some has the second
-pub some-other : (P Q : ℕ → Type 0) (known : Option ℕ) → IsAnswer P known → (k : ℕ) × (P k ⊎ Q k) → IfNone known ((k : ℕ) × Q k)
-some-other P Q None none (k, either) = elim either [ inl p ↦ absurd (none k p) | inr q ↦ (k, q) ]
-some-other P Q (Some k) p some = tt
-
--- a number that was known to have the first property, or else has the second
-pub first-or-other : (P Q : ℕ → Type 0) (known : Option ℕ) (n : ℕ) → IsAnswer P known → MatchOption known (Q n) (λ k. n ≡ k) → P n ⊎ Q n
-first-or-other P Q None n none q = inr q
-first-or-other P Q (Some k) n p same = inl (subst P (sym same) p)
 
 pub zip-length : {A B : Type 0} (R : A → B → Type 0) (xs : List A) (ys : List B) → AllZip R xs ys → length xs ≡ length ys
 zip-length R [] [] h = refl

@@ -25,7 +25,7 @@ use Rattle.dpl_piece.specs.declared.piece.Piece.{Piece}
 use Rattle.dpl_piece.specs.Corners.{corner_at, IsCornerOf, StandBeside, StandBroken}
 use Rattle.dpl_piece.specs.Pieces.{parts_in, owners_in, origins_in, whole_piece, AreCut, no_zone}
 use Rattle.dpl_piece.proofs.Broken.{AreHolesOf}
-use Rattle.dpl_piece.proofs.CornerLaws.{corner-part, zip-length, zip-at}
+use Rattle.dpl_piece.proofs.CornerLaws.{corner-number, zip-length, zip-at}
 use Rattle.dpl_piece.proofs.Regions.{components-same, without-same}
 use Rattle.dpl_piece.proofs.Stands.{zone-within}
 use Rattle.dpl_piece.proofs.Sides.{stand-broken, sided}
@@ -133,7 +133,7 @@ module _ (features : List (List Rect)) (zones : List Zone) (given : AreFeatures 
 -- a part with a corner is one of the parts
 corner-known : (kind : Kind) (parts : List (List Rect)) (x y : ℤ) (k : ℕ) → IsCornerOf kind parts (corner_at x y k) → k < length parts
 corner-known kind parts x y k (i, r, i_in, r_in, is) =
-    let same : i ≡ k = sym (corner-part kind i r) ∙ ap (λ t. let u : Corner = t in u.part) is in
+    let same : i ≡ k = sym (corner-number kind i r) ∙ ap (λ t. let u : Corner = t in u.number) is in
     subst (λ n. n < length parts) same i_in
 
 beside-known : (parts : List (List Rect)) (z : Zone) (side : ℕ × ℕ) → StandBeside parts z side → (side.0 < length parts) × (side.1 < length parts)

@@ -254,7 +254,7 @@ module _ (rule overlap : ℕ) (layer : Region) (features pieces : List (List Rec
     -- a piece whose slab has the corner
     from-left : (k : ℕ) → IsCornerOf LowerRight pieces (corner_at z.rect.x0 z.rect.y0 k) → (k < length pieces) × IsFirstSide (part_at pieces k) z.rect
     from-left k (i, r, i_in, r_in, is) =
-        let same : i ≡ k = ap (λ t. let u : Corner = t in u.part) is in
+        let same : i ≡ k = ap (λ t. let u : Corner = t in u.number) is in
         let x : r.x1 ≡ z.rect.x0 = ap (λ t. let u : Corner = t in u.x) is in
         let y : r.y0 ≡ z.rect.y0 = ap (λ t. let u : Corner = t in u.y) is in
         let s = slab-solid i r i_in r_in in
@@ -271,7 +271,7 @@ module _ (rule overlap : ℕ) (layer : Region) (features pieces : List (List Rec
 
     from-below : (k : ℕ) → IsCornerOf UpperLeft pieces (corner_at z.rect.x0 z.rect.y0 k) → (k < length pieces) × IsFirstSide (part_at pieces k) z.rect
     from-below k (i, r, i_in, r_in, is) =
-        let same : i ≡ k = ap (λ t. let u : Corner = t in u.part) is in
+        let same : i ≡ k = ap (λ t. let u : Corner = t in u.number) is in
         let x : r.x0 ≡ z.rect.x0 = ap (λ t. let u : Corner = t in u.x) is in
         let y : r.y1 ≡ z.rect.y0 = ap (λ t. let u : Corner = t in u.y) is in
         let s = slab-solid i r i_in r_in in
@@ -288,7 +288,7 @@ module _ (rule overlap : ℕ) (layer : Region) (features pieces : List (List Rec
 
     from-right : (k : ℕ) → IsCornerOf LowerLeft pieces (corner_at z.rect.x1 z.rect.y0 k) → (k < length pieces) × IsSecondSide (part_at pieces k) z.rect
     from-right k (i, r, i_in, r_in, is) =
-        let same : i ≡ k = ap (λ t. let u : Corner = t in u.part) is in
+        let same : i ≡ k = ap (λ t. let u : Corner = t in u.number) is in
         let x : r.x0 ≡ z.rect.x1 = ap (λ t. let u : Corner = t in u.x) is in
         let y : r.y0 ≡ z.rect.y0 = ap (λ t. let u : Corner = t in u.y) is in
         let s = slab-solid i r i_in r_in in
@@ -305,7 +305,7 @@ module _ (rule overlap : ℕ) (layer : Region) (features pieces : List (List Rec
 
     from-above : (k : ℕ) → IsCornerOf LowerLeft pieces (corner_at z.rect.x0 z.rect.y1 k) → (k < length pieces) × IsSecondSide (part_at pieces k) z.rect
     from-above k (i, r, i_in, r_in, is) =
-        let same : i ≡ k = ap (λ t. let u : Corner = t in u.part) is in
+        let same : i ≡ k = ap (λ t. let u : Corner = t in u.number) is in
         let x : r.x0 ≡ z.rect.x0 = ap (λ t. let u : Corner = t in u.x) is in
         let y : r.y0 ≡ z.rect.y1 = ap (λ t. let u : Corner = t in u.y) is in
         let s = slab-solid i r i_in r_in in

@@ -1,5 +1,5 @@
--- Corners of slabs, and the slabs on the two sides of a zone.
-use Rattle.std.specs.Prelude.{◌≡◌, ℕ, ◌<◌, ◌⊎◌, ◌↔◌, ℤ, List, [], length, slice_index_or, Option, MatchOption}
+-- Corners of slabs and of zones, and the slabs on the two sides of a zone.
+use Rattle.std.specs.Prelude.{◌≡◌, ℕ, ◌<◌, ◌⊎◌, ◌↔◌, ℤ, List, [], length, slice_index_or}
 use Rattle.std.specs.Ordering.{int_cmp, ordering_then}
 use Rattle.std.specs.declared.cmp.Ordering.{Ordering}
 use Rattle.std.specs.List.Sorted.{IsSortedByKey}
@@ -14,7 +14,7 @@ use Rattle.dpl_piece.specs.declared.piece.Origin.{Origin}
 use Rattle.dpl_piece.specs.declared.piece.Origin.TheVariants.{Broken}
 
 abbrev pub corner_at : ℤ → ℤ → ℕ → Corner
-corner_at x y k = record { x = x; y = y; part = k }
+corner_at x y k = record { x = x; y = y; number = k }
 
 abbrev pub corner_of : Kind → ℕ → Rect → Corner
 corner_of LowerLeft k r = corner_at r.x0 r.y0 k
@@ -35,9 +35,9 @@ row_cmp p q = ordering_then (int_cmp p.0 q.0) (int_cmp p.1 q.1)
 abbrev pub RiseByCorner : List Corner → Type 0
 RiseByCorner cs = IsSortedByKey (λ c. (c.y, c.x)) row_cmp cs
 
--- a number with the property, or none where no number has it
-abbrev pub IsAnswer : (ℕ → Type 0) → Option ℕ → Type 0
-IsAnswer P found = MatchOption found ((k : ℕ) → P k → ⊥) P
+-- a corner of a zone, with the zone's number
+abbrev pub IsZoneCorner : Kind → List Zone → Corner → Type 0
+IsZoneCorner kind zones c = (c.number < length zones) × HoldsAt (λ z. corner_of kind c.number z.rect ≡ c) zones c.number
 
 -- the zone's lower left corner is the lower right or the upper left one of a slab of part number k
 abbrev pub StandsBefore : List (List Rect) → Zone → ℕ → Type 0
@@ -63,21 +63,17 @@ StandBroken parts origins z side = StandBeside parts z side × IsBroken origins 
 abbrev pub RiseByRow : List Zone → Type 0
 RiseByRow zones = AllPairs (λ a b. Before a.rect b.rect) zones
 
--- the lower left corner of zone number i is at the point
-abbrev pub BeginsAt : List Zone → ℤ → ℤ → ℕ → Type 0
-BeginsAt zones x y i = (i < length zones) × HoldsAt (λ z. (z.rect.x0 ≡ x) × (z.rect.y0 ≡ y)) zones i
-
--- the number noted for the zone is now the part of one of the corners that is where the zone begins, or stays where there is none
-abbrev pub IsNoted : List Corner → Zone → ℕ → ℕ → Type 0
-IsNoted cs z old new = Contains cs (corner_at z.rect.x0 z.rect.y0 new) ⊎ (((k : ℕ) → ¬ Contains cs (corner_at z.rect.x0 z.rect.y0 k)) × (new ≡ old))
+-- the number noted for zone number i is now that of one of the slabs' corners at which the zone has a corner, or stays where there is none
+abbrev pub IsNoted : List Corner → List Corner → ℕ → ℕ → ℕ → Type 0
+IsNoted slabs corners i old new = ((c : Corner) × Contains slabs c × Contains corners (corner_at c.x c.y i) × (c.number ≡ new)) ⊎ (((c : Corner) → Contains slabs c → ¬ Contains corners (corner_at c.x c.y i)) × (new ≡ old))
 
 -- the same of each zone
-pub record AreNoted (cs : List Corner) (zones : List Zone) (old new : List ℕ) : Type 0 where
-  pub each : length new ≡ length zones
-  pub noted : (i : ℕ) (z : Zone) (n : ℕ) → i < length zones → IsNoted cs (slice_index_or zones i z) (slice_index_or old i n) (slice_index_or new i n)
+pub record AreNoted (slabs corners : List Corner) (old new : List ℕ) : Type 0 where
+  pub each : length new ≡ length old
+  pub noted : (i n : ℕ) → i < length old → IsNoted slabs corners i (slice_index_or old i n) (slice_index_or new i n)
 
 -- such corners of slabs of the broken parts were noted
-pub record AreAllNoted (kind : Kind) (parts : List (List Rect)) (origins : List Origin) (zones : List Zone) (old new : List ℕ) : Type 0 where
-  pub corners : List Corner
-  pub members : (c : Corner) → Contains corners c ↔ (IsCornerOf kind parts c × IsBroken origins c.part)
-  pub noted : AreNoted corners zones old new
+pub record AreAllNoted (kind : Kind) (parts : List (List Rect)) (origins : List Origin) (corners : List Corner) (old new : List ℕ) : Type 0 where
+  pub slabs : List Corner
+  pub members : (c : Corner) → Contains slabs c ↔ (IsCornerOf kind parts c × IsBroken origins c.number)
+  pub noted : AreNoted slabs corners old new

@@ -1,25 +1,23 @@
-//! Corners of slabs, in order, each with the part that its slab belongs to.
-ghost use Rattle.std.specs.Prelude.{◌≡◌, ◌++◌, ◌↔◌, map, length, IfOk, OnOk};
+//! Corners of slabs and of zones.
+ghost use Rattle.std.specs.Prelude.{◌≡◌, ◌≤◌, ◌↔◌, length, true, false, IfOk};
 ghost use Rattle.std.specs.List.{Contains};
-ghost use Rattle.std.specs.List.Sorted.{IsPermutation};
+ghost use Rattle.std.specs.List.Sorted.{IsPermutation, IsPartitionPoint};
+ghost use Rattle.std.specs.Ordering.{is_lt};
 ghost use Rattle.dpl_piece.specs.declared.corner.Corner.{Corner};
-ghost use Rattle.dpl_piece.specs.declared.corner.Kind.TheVariants.{LowerLeft};
-ghost use Rattle.dpl_piece.specs.Corners.{corner_at, corner_of, IsAnswer, IsCornerOf, IsBroken, RiseByCorner};
+ghost use Rattle.dpl_piece.specs.Corners.{corner_of, row_cmp, IsZoneCorner, RiseByCorner};
 
-use crate::piece::Origin;
-use dpl_base::{Id, Rect};
-use dpl_slabs::Slabs;
+use dpl_base::{Id, Rect, Zone};
 use std::alloc::{AllocError, Global};
 
-/// A corner of a slab of a part.
+/// A corner of a slab, with its part's number, or a corner of a zone, with the zone's number.
 #[derive(Clone, Copy, Debug, Drop)]
 pub struct Corner {
     pub x: i32,
     pub y: i32,
-    pub part: Id,
+    pub number: Id,
 }
 
-/// Which corner of a slab.
+/// Which corner of a rectangle.
 #[derive(Clone, Copy, Debug, Drop)]
 pub enum Kind {
     LowerLeft,
@@ -27,37 +25,16 @@ pub enum Kind {
     UpperLeft,
 }
 
-/// The corner of a slab.
-pub fn slab_corner(r: &Rect, part: Id, kind: Kind) -> Corner
-    ensures { result ≡ corner_of kind part r.now }
+/// The corner of a rectangle.
+pub fn rect_corner(r: &Rect, number: Id, kind: Kind) -> Corner
+    ensures { result ≡ corner_of kind number r.now }
 {
-    match kind {
-        Kind::LowerLeft => Corner {
-            x: r.x0,
-            y: r.y0,
-            part,
-        },
-        Kind::LowerRight => Corner {
-            x: r.x1,
-            y: r.y0,
-            part,
-        },
-        Kind::UpperLeft => Corner {
-            x: r.x0,
-            y: r.y1,
-            part,
-        },
-    }
-}
-
-/// Adds the lower left corners of a part's slabs.
-fn add_corners(found: &mut Vec<Corner>, rects: &[Rect], part: Id) -> Result<(), AllocError>
-    ensures { OnOk result (found.new.items ≡ found.old.items ++ map (corner_of LowerLeft part) rects.now) }
-{
-    for r in rects {
-        found.push(slab_corner(r, part, Kind::LowerLeft))?;
-    }
-    Ok(())
+    let (x, y) = match kind {
+        Kind::LowerLeft => (r.x0, r.y0),
+        Kind::LowerRight => (r.x1, r.y0),
+        Kind::UpperLeft => (r.x0, r.y1),
+    };
+    Corner { x, y, number }
 }
 
 /// Sorts by row, and then by column.
@@ -68,45 +45,24 @@ fn sort_by_corner(corners: &mut Vec<Corner>)
     corners.sort_unstable_by_key(|c| (c.y, c.x));
 }
 
-/// How many slabs the broken parts have, up to the last value of a `usize`.
-fn slab_count(parts: &[Slabs], origins: &[Origin]) -> usize {
-    let mut count: usize = 0;
-    for (part, origin) in parts.iter().zip(origins) {
-        if let Origin::Broken = origin {
-            count = count.saturating_add(part.rects().len());
-        }
-    }
-    count
-}
-
-/// The lower left corners of the slabs of the parts that are broken, by row and then by column.
-pub fn corners(
-    alloc: Global,
-    parts: &[Slabs],
-    origins: &[Origin],
-) -> Result<Vec<Corner>, AllocError>
-    requires { length origins.now ≡ length parts.now }
+/// One corner of each zone, by row and then by column.
+pub fn zone_corners(alloc: Global, zones: &[Zone], kind: Kind) -> Result<Vec<Corner>, AllocError>
     ensures rise { IfOk result (λ v. RiseByCorner v.items) }
-    ensures members { IfOk result (λ v. (c : Corner) → Contains v.items c ↔ (IsCornerOf LowerLeft parts.now c × IsBroken origins.now c.part)) }
+    ensures members { IfOk result (λ v. (c : Corner) → Contains v.items c ↔ IsZoneCorner kind zones.now c) }
 {
-    let mut found = Vec::with_capacity(alloc, slab_count(parts, origins))?;
-    for k in 0..parts.len() {
-        let Origin::Broken = origins[k] else {
-            continue;
-        };
-        add_corners(&mut found, parts[k].rects(), k as Id)?;
+    let mut found = Vec::with_capacity(alloc, zones.len())?;
+    for i in 0..zones.len() {
+        found.push(rect_corner(&zones[i].rect, i as Id, kind))?;
     }
     sort_by_corner(&mut found);
     Ok(found)
 }
 
-/// The part of some corner at the point.
-pub fn find(corners: &[Corner], x: i32, y: i32) -> Option<Id>
+/// How many of the corners come before the point.
+pub fn count_before(corners: &[Corner], x: i32, y: i32) -> usize
     requires { RiseByCorner corners.now }
-    ensures { IsAnswer (λ k. Contains corners.now (corner_at x y k)) result }
+    ensures bound { result ≤ length corners.now }
+    ensures parted { IsPartitionPoint (λ c. is_lt (row_cmp (c.y, c.x) (y, x)) ≡ true) (λ c. is_lt (row_cmp (c.y, c.x) (y, x)) ≡ false) corners.now result }
 {
-    match corners.binary_search_by_key(&(y, x), |c| (c.y, c.x)) {
-        Ok(i) => Some(corners[i].part),
-        Err(_) => None,
-    }
+    corners.partition_point(|c| (c.y, c.x) < (y, x))
 }

@@ -1,29 +1,14 @@
 //! The pieces on the two sides of a zone.
-ghost use Rattle.std.specs.Prelude.{ℕ, ◌≡◌, length, IfNone, MatchOption, IfOk};
-ghost use Rattle.std.specs.List.{All, AllZip, Contains, zip};
-ghost use Rattle.dpl_piece.specs.Corners.{corner_at, IsBroken, StandsBefore, StandsAfter, StandBeside, StandBroken, RiseByCorner, RiseByRow};
+ghost use Rattle.std.specs.Prelude.{ℕ, ◌≡◌, length, IfOk};
+ghost use Rattle.std.specs.List.{All, AllZip, zip};
+ghost use Rattle.dpl_piece.specs.Corners.{IsBroken, StandsBefore, StandsAfter, StandBeside, StandBroken, RiseByRow};
 
-use crate::corner::{Corner, Kind, corners, find};
+use crate::corner::{Kind, zone_corners};
 use crate::noted::note_all;
 use crate::piece::Origin;
-use dpl_base::{Id, Rect, Zone};
+use dpl_base::{Id, Zone};
 use dpl_slabs::Slabs;
 use std::alloc::{AllocError, Global};
-
-/// The part that is known, or else the part of some corner at the point.
-fn known_or_at(known: Option<Id>, corners: &[Corner], x: i32, y: i32) -> Id
-    requires rise { RiseByCorner corners.now }
-    requires some { IfNone known ((k : ℕ) × Contains corners.now (corner_at x y k)) }
-    ensures { MatchOption known (Contains corners.now (corner_at x y result)) (λ k. result ≡ k) }
-{
-    match known {
-        Some(k) => k,
-        None => match find(corners, x, y) {
-            Some(k) => k,
-            None => unreachable!(),
-        },
-    }
-}
 
 /// The part to the left of each zone, or below it. Slabs are gone through, and each zone that begins at a corner of one gets the number of its part.
 fn firsts(
@@ -33,17 +18,17 @@ fn firsts(
     zones: &[Zone],
 ) -> Result<Vec<Id>, AllocError>
     requires each { length origins.now ≡ length parts.now }
-    requires rise { RiseByRow zones.now }
     requires some { All (λ z. (k : ℕ) × StandsBefore parts.now z k × IsBroken origins.now k) zones.now }
     ensures { IfOk result (λ v. AllZip (StandsBefore parts.now) zones.now v.items) }
 {
     let mut found = vec![in alloc; 0; zones.len()]?;
-    note_all(&mut found, zones, parts, origins, Kind::UpperLeft);
-    note_all(&mut found, zones, parts, origins, Kind::LowerRight);
+    let corners = zone_corners(alloc, zones, Kind::LowerLeft)?;
+    note_all(&mut found, &corners, parts, origins, Kind::LowerRight);
+    note_all(&mut found, &corners, parts, origins, Kind::UpperLeft);
     Ok(found)
 }
 
-/// The part to the right of each zone, or above it.
+/// The part to the right of each zone, or above it, by the slabs that begin at another corner of the zone. There is one list of corners at a time.
 fn seconds(
     alloc: Global,
     parts: &[Slabs],
@@ -54,13 +39,12 @@ fn seconds(
     requires some { All (λ z. (k : ℕ) × StandsAfter parts.now z k × IsBroken origins.now k) zones.now }
     ensures { IfOk result (λ v. AllZip (StandsAfter parts.now) zones.now v.items) }
 {
-    let corners = corners(alloc, parts, origins)?;
-    let mut found = Vec::with_capacity(alloc, zones.len())?;
-    for z in zones {
-        let Rect { x0, y0, x1, y1 } = z.rect;
-        let right = find(&corners, x1, y0);
-        found.push(known_or_at(right, &corners, x0, y1))?;
-    }
+    let mut found = vec![in alloc; 0; zones.len()]?;
+    let right = zone_corners(alloc, zones, Kind::LowerRight)?;
+    note_all(&mut found, &right, parts, origins, Kind::LowerLeft);
+    drop(right);
+    let upper = zone_corners(alloc, zones, Kind::UpperLeft)?;
+    note_all(&mut found, &upper, parts, origins, Kind::LowerLeft);
     Ok(found)
 }
 

@@ -1,36 +1,27 @@
-use Rattle.std.proofs.Common.{get_or, inl, inr, w32, FitsSigned, rules}
-use Rattle.std.specs.List.{Contains}
-use Rattle.std.proofs.lemmas.Int.{to_z-of_z}
-use Rattle.std.proofs.lemmas.List.{get_or_default}
-use Rattle.dpl_piece.specs.Corners.{corner_at, StandsAfter}
-use Rattle.dpl_spec.specs.declared.Zone.{Zone}
-use Rattle.dpl_piece.specs.Pieces.{no_zone}
-use Rattle.dpl_piece.proofs.CornerLaws.{zip-next, some-other, first-or-other}
+use Rattle.std.proofs.Common.{◌≡◌, length, drop, sym, ◌∙◌, subst, arith}
+use Rattle.std.specs.List.{AllZip}
+use Rattle.dpl_piece.specs.declared.corner.Kind.TheVariants.{LowerLeft, LowerRight, UpperLeft}
+use Rattle.dpl_piece.specs.Corners.{StandsAfter}
+use Rattle.dpl_piece.proofs.CornerLaws.{zone-numbers}
+use Rattle.dpl_piece.proofs.Noting.{either-stands, written-back}
 use Rattle.dpl_piece.proofs.side.seconds.Goals as goal
 
-pub known_or_at-requires-clause-some : goal.known_or_at-requires-clause-some
-known_or_at-requires-clause-some c =
-    let z : Zone = get_or c.args.zones.now c.loop-z.z-index no_zone in
-    let x0 : FitsSigned w32 z.rect.x0 = search rules in
-    let y0 : FitsSigned w32 z.rect.y0 = search rules in
-    let x1 : FitsSigned w32 z.rect.x1 = search rules in
-    let y1 : FitsSigned w32 z.rect.y1 = search rules in
-    let right = rw (to_z-of_z w32 _ x1, to_z-of_z w32 _ y0, c.deref.ensures.value) at c.find-right.ensures in
-    let (k, after, broken) = c.requires.some c.loop-z.z-index no_zone c.loop-z-test.true in
-    rw (to_z-of_z w32 _ x0, to_z-of_z w32 _ y1, c.deref-in-loop-z.ensures.value)
-    (some-other (λ i. Contains c.in_ok-corners.corners.items (corner_at z.rect.x1 z.rect.y0 i)) (λ i. Contains c.in_ok-corners.corners.items (corner_at z.rect.x0 z.rect.y1 i)) _ right
-    (k, elim after [ inl h ↦ inl ((c.in_ok-corners.ensures.members _).1 (h, broken)) | inr h ↦ inr ((c.in_ok-corners.ensures.members _).1 (h, broken)) ]))
+pub note_all-requires-clause-numbers : goal.note_all-requires-clause-numbers
+note_all-requires-clause-numbers c =
+    let each : length c.args.zones.now ≡ length c.deref_mut.result.now = omega (arith, c.deref_mut.ensures.len, c.in_ok-found.ensures.len) in
+    rw c.deref.ensures.value (zone-numbers LowerRight c.args.zones.now c.in_ok-right.right.items _ each c.in_ok-right.ensures.members)
 
-pub loop-z-preserved : goal.loop-z-preserved
-loop-z-preserved c =
-    let z : Zone = get_or c.args.zones.now c.loop-z.z-index no_zone in
-    let x0 : FitsSigned w32 z.rect.x0 = search rules in
-    let y0 : FitsSigned w32 z.rect.y0 = search rules in
-    let x1 : FitsSigned w32 z.rect.x1 = search rules in
-    let y1 : FitsSigned w32 z.rect.y1 = search rules in
-    let right = rw (to_z-of_z w32 _ x1, to_z-of_z w32 _ y0, c.deref.ensures.value) at c.find-right.ensures in
-    let part = rw (to_z-of_z w32 _ x0, to_z-of_z w32 _ y1, c.deref-in-loop-z.ensures.value) at c.known_or_at.ensures in
-    let here = first-or-other (λ i. Contains c.in_ok-corners.corners.items (corner_at z.rect.x1 z.rect.y0 i)) (λ i. Contains c.in_ok-corners.corners.items (corner_at z.rect.x0 z.rect.y1 i)) _ _ right part in
-    let after : StandsAfter c.args.parts.now z c.known_or_at.result = elim here [ inl h ↦ inl ((c.in_ok-corners.ensures.members _).0 h).0 | inr h ↦ inr ((c.in_ok-corners.ensures.members _).0 h).0 ] in
-    rw c.in_ok-push.ensures.items
-    (zip-next (StandsAfter c.args.parts.now) c.args.zones.now c.loop-z.found.items c.loop-z.z-index z _ c.loop-z-test.true (get_or_default _ _ _ _ c.loop-z-test.true) c.loop-z.invariant after)
+pub note_all-requires-2-clause-numbers : goal.note_all-requires-2-clause-numbers
+note_all-requires-2-clause-numbers c =
+    let each : length c.args.zones.now ≡ length c.deref_mut-2.result.now = omega (arith, c.deref_mut-2.ensures.len, c.in_ok-found.ensures.len) in
+    rw c.deref-2.ensures.value (zone-numbers UpperLeft c.args.zones.now c.in_ok-upper.upper.items _ each c.in_ok-upper.ensures.members)
+
+pub returns : goal.returns
+returns c =
+    let each : c.in_ok-found.found.len ≡ length c.args.zones.now = omega (arith, c.in_ok-found.ensures.len) in
+    let first = rw c.deref.ensures.value at c.note_all.ensures in
+    let one = written-back c.note_all.new.noted (drop (length c.note_all.new.noted) c.in_ok-found.found.items) c.in_ok-found.found.len (c.note_all.ensures.noted.each ∙ c.deref_mut.ensures.len) in
+    let second = rw (c.deref-2.ensures.value, c.deref_mut-2.ensures.value, one) at c.note_all-2.ensures in
+    subst (AllZip (StandsAfter c.args.parts.now) c.args.zones.now) (sym (written-back c.note_all-2.new.noted _ c.in_ok-found.found.len (c.note_all-2.ensures.noted.each ∙ c.deref_mut-2.ensures.len)))
+    (either-stands c.args.parts.now c.args.origins.now c.args.zones.now LowerRight LowerLeft UpperLeft LowerLeft c.in_ok-right.right.items c.in_ok-upper.upper.items c.deref_mut.result.now c.note_all.new.noted c.note_all-2.new.noted (c.deref_mut.ensures.len ∙ each)
+    c.in_ok-right.ensures.members c.in_ok-upper.ensures.members c.requires.some first second)
