@@ -1,4 +1,5 @@
 //! What a certificate says.
+use crate::key::Key;
 use crate::name::Name;
 use dpl_base::Listed;
 use dpl_spec::{Pt, Rect};
@@ -17,7 +18,7 @@ pub struct Head {
 #[derive(Clone, Copy, Debug, Drop, PartialEq, Eq)]
 pub struct PieceLine {
     pub b: bool,
-    pub key: Pt,
+    pub key: Key,
 }
 
 /// A stitch, and the pieces on both its sides.

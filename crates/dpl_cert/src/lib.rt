@@ -5,6 +5,7 @@
 mod cert;
 mod fault;
 mod heads;
+mod key;
 mod name;
 mod reading;
 mod rows;
@@ -14,6 +15,7 @@ mod writing;
 pub use cert::{Cert, Head, NearLine, PieceLine, PlaceLine, StitchLine};
 pub use dpl_base::{Id, Listed};
 pub use fault::CertFault;
+pub use key::Key;
 pub use name::Name;
 pub use reading::{one_certificate, read_cert};
 pub use writing::cert_bytes;

@@ -23,10 +23,11 @@ fn is_on_mask(line: &PieceLine, a: &Tree, b: &Tree) -> bool
     requires items_b { AreItemsWithin (farthest + 1) b.now }
     ensures { IsTrue result ↔ ItemCovers Everyone (cond line.now.b b.now a.now) line.now.key }
 {
+    let key = line.key.point();
     if line.b {
-        return has(b, line.key);
+        return has(b, key);
     }
-    has(a, line.key)
+    has(a, key)
 }
 
 /// The first piece whose square isn't on the mask that its line names.

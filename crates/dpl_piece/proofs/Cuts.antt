@@ -109,7 +109,6 @@ module _ (features : List (List Rect)) (zones : List Zone) (given : AreFeatures 
           some = pieces-some;
           owners = owners-each;
           origins = origins-each;
-          rise = theirs.3.ordered;
           stand = stands;
           zones = zones-within within;
         }

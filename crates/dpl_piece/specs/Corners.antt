@@ -3,10 +3,9 @@ use Rattle.std.specs.Prelude.{◌≡◌, ℕ, ◌<◌, ◌⊎◌, ◌↔◌, ℤ
 use Rattle.std.specs.Ordering.{int_cmp, ordering_then}
 use Rattle.std.specs.declared.cmp.Ordering.{Ordering}
 use Rattle.std.specs.List.Sorted.{IsSortedByKey}
-use Rattle.std.specs.List.{AllPairs, Contains, HoldsAt}
+use Rattle.std.specs.List.{Contains, HoldsAt}
 use Rattle.dpl_spec.specs.declared.Rect.{Rect}
 use Rattle.dpl_spec.specs.declared.Zone.{Zone}
-use Rattle.dpl_spec.specs.Slabs.{Before}
 use Rattle.dpl_piece.specs.declared.corner.Corner.{Corner}
 use Rattle.dpl_piece.specs.declared.corner.Kind.{Kind}
 use Rattle.dpl_piece.specs.declared.corner.Kind.TheVariants.{LowerLeft, LowerRight, UpperLeft}
@@ -58,10 +57,6 @@ IsBroken origins k = (k < length origins) × (slice_index_or origins k Broken �
 -- the same, of parts that are broken
 abbrev pub StandBroken : List (List Rect) → List Origin → Zone → ℕ × ℕ → Type 0
 StandBroken parts origins z side = StandBeside parts z side × IsBroken origins side.0 × IsBroken origins side.1
-
--- zones go by row, and then by column, of their lower left corners
-abbrev pub RiseByRow : List Zone → Type 0
-RiseByRow zones = AllPairs (λ a b. Before a.rect b.rect) zones
 
 -- the number noted for zone number i is now that of one of the slabs' corners at which the zone has a corner, or stays where there is none
 abbrev pub IsNoted : List Corner → List Corner → ℕ → ℕ → ℕ → Type 0

@@ -11,7 +11,7 @@ use Rattle.dpl_spec.specs.Zones.{AreZones, at}
 use Rattle.dpl_spec.specs.Pieces.{ArePieces}
 use Rattle.dpl_slabs.specs.Parts.{AreParts, union_of}
 use Rattle.dpl_piece.specs.declared.piece.Origin.{Origin}
-use Rattle.dpl_piece.specs.Corners.{StandBeside, StandBroken, RiseByRow}
+use Rattle.dpl_piece.specs.Corners.{StandBeside, StandBroken}
 
 -- pieces with the features that they lie in and their keys, and zones with their sides
 pub record CutPieces : Type 0 where
@@ -63,13 +63,12 @@ pub record BareCut : Type 0 where
 abbrev pub bare_cut : List (List Rect) → List ℕ → List Zone → BareCut
 bare_cut parts owners zones = record { parts = parts; owners = owners; zones = zones }
 
--- one owner and one origin for each piece, which has squares, and broken pieces on both sides of each zone, where zones are in order and within the range of a layer
+-- one owner and one origin for each piece, which has squares, and broken pieces on both sides of each zone, which lies within the range of a layer
 pub record AreBare (b : BareCut) (kinds : List Origin) : Type 0 where
   pub parts : AreParts b.parts
   pub some : All (λ part. part ≢ []) b.parts
   pub owners : length b.owners ≡ length b.parts
   pub origins : length kinds ≡ length b.parts
-  pub rise : RiseByRow b.zones
   pub stand : All (λ z. (side : ℕ × ℕ) × StandBroken b.parts kinds z side) b.zones
   pub zones : All (λ z. IsSolidWithin farthest z.rect) b.zones
 

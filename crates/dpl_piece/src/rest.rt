@@ -1,13 +1,13 @@
 //! What zones leave of features.
 ghost use Rattle.std.specs.Prelude.{◌≡◌, ◌≢◌, ℕ, ◌<◌, ◌≤◌, ◌++◌, IfOk, OnOk, length, map, take, slice_index_or};
-ghost use Rattle.std.specs.List.{All};
+ghost use Rattle.std.specs.List.{All, range_with_len};
 ghost use Rattle.std.specs.List.Sorted.{IsNonDecreasingBy, IsPermutation};
 ghost use Rattle.dpl_spec.specs.Loops.{farthest, AreRectsWithin};
 ghost use Rattle.dpl_piece.specs.Cutting.{AreFeatures, AreTheirZones};
 ghost use Rattle.dpl_piece.specs.Pieces.{broken_piece, least_key, feature_at, rect_at, AddsBroken, AddsPieces, AreCut, AreNumbersBelow, RiseByLeast};
 
 use crate::piece::{Origin, Piece};
-use dpl_base::{Id, Rect, Zone, give_back, numbers_below};
+use dpl_base::{Id, Rect, Zone, give_back};
 use dpl_slabs::Slabs;
 use std::alloc::{AllocError, Global};
 
@@ -21,24 +21,34 @@ fn feature_of(zones: &[Zone], number: usize) -> Id
     }
 }
 
+/// The numbers below `count`, in order, in 32 bits each. 2^32 of them or more are refused as want of memory, which so many zones would be.
+fn short_numbers(alloc: Global, count: usize) -> Result<Vec<u32>, AllocError>
+    ensures { IfOk result (λ v. v.items ≡ range_with_len 0 count) }
+{
+    match u32::try_from(count) {
+        Ok(count) => (0..count).collect(alloc),
+        Err(_) => Err(AllocError),
+    }
+}
+
 /// The numbers of the zones, by feature.
-fn by_feature(alloc: Global, zones: &[Zone]) -> Result<Vec<usize>, AllocError>
+fn by_feature(alloc: Global, zones: &[Zone]) -> Result<Vec<u32>, AllocError>
     ensures members { IfOk result (λ v. AreNumbersBelow (length zones.now) v.items) }
     ensures rise { IfOk result (λ v. IsNonDecreasingBy (feature_at zones.now) v.items) }
 {
-    let mut numbers = numbers_below(alloc, zones.len())?;
-    numbers.sort_unstable_by_key(|number| feature_of(zones, *number));
+    let mut numbers = short_numbers(alloc, zones.len())?;
+    numbers.sort_unstable_by_key(|number| feature_of(zones, *number as usize));
     Ok(numbers)
 }
 
 /// How many of the first numbers are of zones of the feature.
-fn own_count(zones: &[Zone], numbers: &[usize], feature: Id) -> usize
+fn own_count(zones: &[Zone], numbers: &[u32], feature: Id) -> usize
     ensures inside { result ≤ length numbers.now }
     ensures own { All (λ j. feature_at zones.now j ≡ feature) (take result numbers.now) }
     ensures next { result < length numbers.now → (d : ℕ) → feature_at zones.now (slice_index_or numbers.now result d) ≢ feature }
 {
     for i in 0..numbers.len() {
-        if feature_of(zones, numbers[i]) != feature {
+        if feature_of(zones, numbers[i] as usize) != feature {
             return i;
         }
     }
@@ -46,13 +56,13 @@ fn own_count(zones: &[Zone], numbers: &[usize], feature: Id) -> usize
 }
 
 /// The rectangles of the zones of these numbers.
-fn holes_at(alloc: Global, zones: &[Zone], numbers: &[usize]) -> Result<Vec<Rect>, AllocError>
+fn holes_at(alloc: Global, zones: &[Zone], numbers: &[u32]) -> Result<Vec<Rect>, AllocError>
     requires { All (λ j. j < length zones.now) numbers.now }
     ensures { IfOk result (λ v. v.items ≡ map (rect_at zones.now) numbers.now) }
 {
     let mut holes = Vec::with_capacity(alloc, numbers.len())?;
     for &number in numbers {
-        holes.push(zones[number].rect)?;
+        holes.push(zones[number as usize].rect)?;
     }
     Ok(holes)
 }

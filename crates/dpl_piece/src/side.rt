@@ -1,7 +1,7 @@
 //! The pieces on the two sides of a zone.
 ghost use Rattle.std.specs.Prelude.{ℕ, ◌≡◌, length, IfOk};
 ghost use Rattle.std.specs.List.{All, AllZip, zip};
-ghost use Rattle.dpl_piece.specs.Corners.{IsBroken, StandsBefore, StandsAfter, StandBeside, StandBroken, RiseByRow};
+ghost use Rattle.dpl_piece.specs.Corners.{IsBroken, StandsBefore, StandsAfter, StandBeside, StandBroken};
 
 use crate::corner::{Kind, zone_corners};
 use crate::noted::note_all;
@@ -67,7 +67,6 @@ pub fn sides_of(
     zones: &[Zone],
 ) -> Result<Vec<(Id, Id)>, AllocError>
     requires each { length origins.now ≡ length parts.now }
-    requires rise { RiseByRow zones.now }
     requires some { All (λ z. (side : ℕ × ℕ) × StandBroken parts.now origins.now z side) zones.now }
     ensures { IfOk result (λ v. AllZip (StandBeside parts.now) zones.now v.items) }
 {

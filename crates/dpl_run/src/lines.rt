@@ -9,7 +9,7 @@ ghost use Rattle.dpl_cert.specs.Grammar.{IsNumber, IsPiece, IsPlace, IsPoint, Is
 ghost use Rattle.dpl_valid.specs.Own.{piece_line, place_line, stitch_line};
 
 use dpl_base::{Id, Zone};
-use dpl_cert::{PieceLine, PlaceLine, StitchLine};
+use dpl_cert::{Key, PieceLine, PlaceLine, StitchLine};
 use dpl_orient::Mask;
 use dpl_piece::Pieces;
 use std::alloc::{AllocError, Global};
@@ -27,9 +27,10 @@ pub(crate) fn piece_lines(
 {
     let mut lines = Vec::with_capacity(alloc, masks.len())?;
     for (i, mask) in masks.iter().enumerate() {
+        let key = pieces.key(i);
         lines.push(PieceLine {
             b: is_b(*mask),
-            key: pieces.key(i),
+            key: Key::new(key.x as i32, key.y as i32),
         })?;
     }
     Ok(lines)

@@ -1,0 +1,43 @@
+//! The least square of a piece.
+ghost use Rattle.std.specs.Prelude.{◌≡◌};
+
+use dpl_spec::Pt;
+use std::marker::Model;
+
+/// The least square of a piece, in 32 bits a coordinate, in database units. A contract sees it as a `Pt`.
+#[derive(Clone, Copy, Debug, Drop, PartialEq, Eq)]
+pub struct Key {
+    x: i32,
+    y: i32,
+}
+
+impl Model for Key {
+    ghost use Rattle.dpl_spec.specs.declared.Pt.{Pt};
+
+    ghost Value = { Pt };
+
+    ghost view = { λ k. record { x = k.x; y = k.y } };
+
+    ghost invariant = { λ k. Unit {0} };
+
+    ghost inverse = { λ p. record { x = p.x; y = p.y } };
+}
+
+impl Key {
+    /// The square of column `x` and row `y`.
+    pub fn new(x: i32, y: i32) -> Key
+        ensures { result ≡ record { x = x; y = y } }
+    {
+        Key { x, y }
+    }
+
+    /// The square as a point.
+    pub fn point(self) -> Pt
+        ensures { result ≡ self }
+    {
+        Pt {
+            x: self.x as i64,
+            y: self.y as i64,
+        }
+    }
+}
