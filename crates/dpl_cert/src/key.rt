@@ -1,5 +1,6 @@
 //! The least square of a piece.
 ghost use Rattle.std.specs.Prelude.{◌≡◌};
+ghost use Rattle.dpl_cert.specs.Grammar.{IsPoint};
 
 use dpl_spec::Pt;
 use std::marker::Model;
@@ -24,11 +25,15 @@ impl Model for Key {
 }
 
 impl Key {
-    /// The square of column `x` and row `y`.
-    pub fn new(x: i32, y: i32) -> Key
-        ensures { result ≡ record { x = x; y = y } }
+    /// The square of a point of a layer.
+    pub fn of(point: Pt) -> Key
+        requires { IsPoint point }
+        ensures { result ≡ point }
     {
-        Key { x, y }
+        Key {
+            x: point.x as i32,
+            y: point.y as i32,
+        }
     }
 
     /// The square as a point.

@@ -91,25 +91,25 @@ noted-next kind part rects n r corners old mid new n_in r_is a b =
 
 -- the corners of the first n parts were noted
 pub record AreFirstNoted (kind : Kind) (parts : List (List Rect)) (origins : List Origin) (corners : List Corner) (n : ℕ) (old new : List ℕ) : Type 0 where
-  pub slabs : List Corner
-  pub members : (c : Corner) → Contains slabs c ↔ IsFirstBroken kind parts origins n c
-  pub noted : AreNoted slabs corners old new
+  pub found : List Corner
+  pub members : (c : Corner) → Contains found c ↔ IsFirstBroken kind parts origins n c
+  pub noted : AreNoted found corners old new
 
 module _ (kind : Kind) (parts : List (List Rect)) (origins : List Origin) (corners : List Corner) where
   pub first-skip : (n : ℕ) (old new : List ℕ) → AreFirstNoted kind parts origins corners n old new → (IsBroken origins n → ⊥) → AreFirstNoted kind parts origins corners (n + 1) old new
-  first-skip n old new h whole = record { slabs = h.slabs; members = corners-skip kind parts origins n h.slabs h.members whole; noted = h.noted }
+  first-skip n old new h whole = record { found = h.found; members = corners-skip kind parts origins n h.found h.members whole; noted = h.noted }
 
   pub first-next : (n : ℕ) (part : List Rect) (old mid new : List ℕ) → AreFirstNoted kind parts origins corners n old mid → n < length parts → part ≡ get_or parts n part → IsBroken origins n → AreNoted (map (corner_of kind n) part) corners mid new
       → AreFirstNoted kind parts origins corners (n + 1) old new
   first-next n part old mid new h n_in part_is broken more =
       record {
-        slabs = h.slabs ++ map (corner_of kind n) part;
-        members = corners-next kind parts origins n h.slabs h.members (h.slabs ++ map (corner_of kind n) part) part n_in part_is broken refl;
-        noted = noted-both h.slabs (map (corner_of kind n) part) corners old mid new h.noted more;
+        found = h.found ++ map (corner_of kind n) part;
+        members = corners-next kind parts origins n h.found h.members (h.found ++ map (corner_of kind n) part) part n_in part_is broken refl;
+        noted = noted-both h.found (map (corner_of kind n) part) corners old mid new h.noted more;
       }
 
   pub all-noted : (n : ℕ) (old new : List ℕ) → n ≡ length parts → AreFirstNoted kind parts origins corners n old new → AreAllNoted kind parts origins corners old new
-  all-noted n old new all h = record { slabs = h.slabs; members = rw all at h.members; noted = h.noted }
+  all-noted n old new all h = record { found = h.found; members = rw all at h.members; noted = h.noted }
 
 same-point : (kind : Kind) (i m : ℕ) (r : Rect) (x y : ℤ) → corner_of kind i r ≡ corner_at x y i → corner_of kind m r ≡ corner_at x y m
 same-point LowerLeft i m r x y e = ap (λ t. let u : Corner = t in corner_at u.x u.y m) e

@@ -60,15 +60,15 @@ StandBroken parts origins z side = StandBeside parts z side × IsBroken origins 
 
 -- the number noted for zone number i is now that of one of the slabs' corners at which the zone has a corner, or stays where there is none
 abbrev pub IsNoted : List Corner → List Corner → ℕ → ℕ → ℕ → Type 0
-IsNoted slabs corners i old new = ((c : Corner) × Contains slabs c × Contains corners (corner_at c.x c.y i) × (c.number ≡ new)) ⊎ (((c : Corner) → Contains slabs c → ¬ Contains corners (corner_at c.x c.y i)) × (new ≡ old))
+IsNoted found corners i old new = ((c : Corner) × Contains found c × Contains corners (corner_at c.x c.y i) × (c.number ≡ new)) ⊎ (((c : Corner) → Contains found c → ¬ Contains corners (corner_at c.x c.y i)) × (new ≡ old))
 
 -- the same of each zone
-pub record AreNoted (slabs corners : List Corner) (old new : List ℕ) : Type 0 where
+pub record AreNoted (found corners : List Corner) (old new : List ℕ) : Type 0 where
   pub each : length new ≡ length old
-  pub noted : (i n : ℕ) → i < length old → IsNoted slabs corners i (slice_index_or old i n) (slice_index_or new i n)
+  pub noted : (i n : ℕ) → i < length old → IsNoted found corners i (slice_index_or old i n) (slice_index_or new i n)
 
 -- such corners of slabs of the broken parts were noted
 pub record AreAllNoted (kind : Kind) (parts : List (List Rect)) (origins : List Origin) (corners : List Corner) (old new : List ℕ) : Type 0 where
-  pub slabs : List Corner
-  pub members : (c : Corner) → Contains slabs c ↔ (IsCornerOf kind parts c × IsBroken origins c.number)
-  pub noted : AreNoted slabs corners old new
+  pub found : List Corner
+  pub members : (c : Corner) → Contains found c ↔ (IsCornerOf kind parts c × IsBroken origins c.number)
+  pub noted : AreNoted found corners old new

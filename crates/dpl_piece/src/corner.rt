@@ -47,6 +47,7 @@ fn sort_by_corner(corners: &mut Vec<Corner>)
 
 /// One corner of each zone, by row and then by column.
 pub fn zone_corners(alloc: Global, zones: &[Zone], kind: Kind) -> Result<Vec<Corner>, AllocError>
+    ensures each { IfOk result (λ v. length v.items ≡ length zones.now) }
     ensures rise { IfOk result (λ v. RiseByCorner v.items) }
     ensures members { IfOk result (λ v. (c : Corner) → Contains v.items c ↔ IsZoneCorner kind zones.now c) }
 {

@@ -9,18 +9,18 @@ use dpl_base::{Id, Rect};
 use dpl_slabs::Slabs;
 
 /// Notes the number of a slab's corner for each zone that has a corner there.
-fn note(noted: &mut [Id], corners: &[Corner], slab: Corner)
+fn note(noted: &mut [Id], corners: &[Corner], corner: Corner)
     requires numbers { All (λ c. c.number < length noted.old) corners.now }
     requires rise { RiseByCorner corners.now }
-    ensures { AreNoted (slab ∷ []) corners.now noted.old noted.new }
+    ensures { AreNoted (corner ∷ []) corners.now noted.old noted.new }
 {
-    let first = count_before(corners, slab.x, slab.y);
+    let first = count_before(corners, corner.x, corner.y);
     for i in first..corners.len() {
         let c = corners[i];
-        if c.x != slab.x || c.y != slab.y {
+        if c.x != corner.x || c.y != corner.y {
             return;
         }
-        noted[c.number as usize] = slab.number;
+        noted[c.number as usize] = corner.number;
     }
 }
 

@@ -1,8 +1,7 @@
 -- One line more.
 use Rattle.std.proofs.Common.{◌≡◌, ◌∙◌, ◌<◌, ◌+◌, ℕ, zero, suc, List, [], ◌∷◌, ◌++◌, length, map, take, get_or, ap, sym, refl, arith, add-one}
-use Rattle.std.proofs.Common.{ℤ, ◌≤◌, unsigned_abs, to_z, of_z, w32, w64}
-use Rattle.std.proofs.lemmas.Int.{ints, fits_signed_from_abs}
-use Rattle.std.specs.Int.RustNames.{FitsSigned}
+use Rattle.std.proofs.Common.{ℤ, ◌≤◌, unsigned_abs}
+use Rattle.std.proofs.lemmas.Int.{ints}
 use Rattle.std.specs.Prelude.{pos}
 use Rattle.dpl_spec.specs.declared.Pt.{Pt}
 use Rattle.dpl_spec.specs.declared.Rect.{Rect}
@@ -43,16 +42,6 @@ key_there (p ∷ keys) (suc k) key is = let less = key_there keys k key is in om
 -- such a key is a point, where all of them are
 pub key_within : (keys : List Pt) → ((p : Pt) → Contains keys p → IsPoint p) → (k : ℕ) (key : Pt) → ((d : Pt) → get_or keys k d ≡ key) → IsPoint key
 key_within keys within k key is = within key (k, key_there keys k key is, is key)
-
-coordinate_long : (z : ℤ) → IsCoordinate z → to_z w64 (of_z w64 z) ≡ z
-coordinate_long z h = omega (arith, ints, h.0, h.1)
-
--- a coordinate fits 32 bits
-pub coordinate_fits : (z : ℤ) → IsCoordinate z → FitsSigned w32 (to_z w64 (of_z w64 z))
-coordinate_fits z h = rw (coordinate_long z h) (fits_signed_from_abs w32 z (let near : unsigned_abs z ≤ 1000000000 = omega (arith, ints, h.0, h.1) in omega (arith, near)))
-
-pub coordinate_kept : (z : ℤ) → IsCoordinate z → to_z w32 (of_z w32 (to_z w64 (of_z w64 z))) ≡ z
-coordinate_kept z h = omega (arith, ints, h.0, h.1)
 
 coordinate : (z : ℤ) → unsigned_abs z ≤ farthest → IsCoordinate z
 coordinate z h = (omega (arith, ints), omega (arith, ints))

@@ -27,10 +27,9 @@ pub(crate) fn piece_lines(
 {
     let mut lines = Vec::with_capacity(alloc, masks.len())?;
     for (i, mask) in masks.iter().enumerate() {
-        let key = pieces.key(i);
         lines.push(PieceLine {
             b: is_b(*mask),
-            key: Key::new(key.x as i32, key.y as i32),
+            key: Key::of(pieces.key(i)),
         })?;
     }
     Ok(lines)

@@ -18,7 +18,7 @@ use Rattle.dpl_spec.proofs.SlabLaws.{Covers-member, member-Covers}
 use Rattle.dpl_sweep.specs.Orders.{CornersRise}
 use Rattle.dpl_sweep.specs.Pieces.{AreApart}
 use Rattle.dpl_sweep.proofs.JoinLaws.{covers-same}
-use Rattle.dpl_slabs.specs.Blocks.{LieLeft, AddsBlock, AreBlocksOf, PiecesAndBlocks}
+use Rattle.dpl_slabs.specs.Blocks.{LieLeft, AddsBlock, AreBlocksOf, EitherCovers}
 use Rattle.dpl_slabs.specs.Cells.{turned_rects}
 use Rattle.dpl_slabs.specs.Slices.{ArePiecesOf}
 use Rattle.dpl_slabs.specs.Strips.{LieBelow}
@@ -83,12 +83,6 @@ module _ (a : Region) (pieces rest : List Rect) (n : ℕ) (s : AreBlocksOf a pie
   whole : take n rest ++ drop n rest ≡ rest
   whole = take-append-drop n rest
 
-  pub block-within : AreRectsWithin farthest (take n rest)
-  block-within r r_in = s.rest_within r (left-in (take n rest) (drop n rest) rest r whole r_in)
-
-  pub block-left : LieLeft pieces (take n rest)
-  block-left r t r_in t_in = s.left r t r_in (left-in (take n rest) (drop n rest) rest t whole t_in)
-
   pub blocks-next : (new : List Rect) → LieBelow (take n rest) (drop n rest) → AddsBlock pieces new (take n rest) → AreBlocksOf a new (drop n rest)
   blocks-next new gap adds = record {
     apart = adds.apart;
@@ -114,7 +108,7 @@ module _ (a : Region) (pieces rest : List Rect) (n : ℕ) (s : AreBlocksOf a pie
   }
 
 -- blocks of a set are blocks of what the pieces and the rectangles have, and the other way round
-pub blocks-here : (a : Region) (pieces rest : List Rect) → AreBlocksOf a pieces rest → AreBlocksOf (PiecesAndBlocks pieces rest) pieces rest
+pub blocks-here : (a : Region) (pieces rest : List Rect) → AreBlocksOf a pieces rest → AreBlocksOf (EitherCovers pieces rest) pieces rest
 blocks-here a pieces rest s = record {
   apart = s.apart;
   covers = λ p. (λ h. h, λ h. h);
@@ -123,7 +117,7 @@ blocks-here a pieces rest s = record {
   left = s.left;
 }
 
-pub blocks-same : (a : Region) (pieces rest new others : List Rect) → AreBlocksOf a pieces rest → AreBlocksOf (PiecesAndBlocks pieces rest) new others → AreBlocksOf a new others
+pub blocks-same : (a : Region) (pieces rest new others : List Rect) → AreBlocksOf a pieces rest → AreBlocksOf (EitherCovers pieces rest) new others → AreBlocksOf a new others
 blocks-same a pieces rest new others s t = record {
   apart = t.apart;
   covers = λ p. (λ h. (s.covers p).0 ((t.covers p).0 h), λ h. (t.covers p).1 ((s.covers p).1 h));

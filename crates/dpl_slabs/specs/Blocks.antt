@@ -13,20 +13,20 @@ use Rattle.dpl_sweep.specs.Pieces.{AreApart}
 abbrev pub LieLeft : List Rect → List Rect → Type 0
 LieLeft pieces block = (r s : Rect) → Contains pieces r → Contains block s → r.x1 <ℤ s.y0
 
+-- a square of a piece, or of a rectangle in a block
+abbrev pub EitherCovers : List Rect → List Rect → Region
+EitherCovers pieces rest p = Covers pieces p ⊎ turned (Covers rest) p
+
 -- pieces of a block's squares were added
 pub record AddsBlock (old new block : List Rect) : Type 0 where
   pub apart : AreApart new
-  pub covers : (p : Pt) → Covers new p ↔ (Covers old p ⊎ turned (Covers block) p)
+  pub covers : (p : Pt) → Covers new p ↔ EitherCovers old block p
   pub left : (others : List Rect) → LieLeft old others → ((r s : Rect) → Contains block r → Contains others s → r.y1 <ℤ s.y0) → LieLeft new others
-
--- the squares of pieces, and of rectangles in blocks
-abbrev pub PiecesAndBlocks : List Rect → List Rect → Region
-PiecesAndBlocks pieces rest p = Covers pieces p ⊎ turned (Covers rest) p
 
 -- pieces of some of a set's squares, and rectangles of the others in blocks, which lie right of them
 pub record AreBlocksOf (a : Region) (pieces rest : List Rect) : Type 0 where
   pub apart : AreApart pieces
-  pub covers : (p : Pt) → (Covers pieces p ⊎ turned (Covers rest) p) ↔ a p
+  pub covers : (p : Pt) → EitherCovers pieces rest p ↔ a p
   pub rest_within : AreRectsWithin farthest rest
   pub rise : CornersRise rest
   pub left : LieLeft pieces rest

@@ -6,7 +6,7 @@ ghost use Rattle.dpl_spec.specs.Loops.{farthest, AreRectsWithin};
 ghost use Rattle.dpl_spec.specs.Zones.{turned};
 ghost use Rattle.dpl_sweep.specs.Pieces.{AreApart};
 ghost use Rattle.dpl_sweep.specs.Orders.{CornersRise};
-ghost use Rattle.dpl_slabs.specs.Blocks.{AddsBlock, AreBlocksOf, LieLeft, PiecesAndBlocks};
+ghost use Rattle.dpl_slabs.specs.Blocks.{AddsBlock, AreBlocksOf, LieLeft, EitherCovers};
 ghost use Rattle.dpl_slabs.specs.Slices.{ArePiecesOf};
 
 use crate::combine::exchange;
@@ -54,7 +54,7 @@ fn add_block(alloc: Global, pieces: &mut Vec<Rect>, block: &mut [Rect]) -> Resul
     Ok(())
 }
 
-/// Adds the slabs of the first block of the rectangles from a place on, which are given with x and y exchanged and lie right of all pieces. Answers where the block ends: from there on the rectangles are as they were.
+/// Adds the slabs of the first block of the rectangles from a place on, which are given with x and y exchanged and lie right of all pieces. Answers where the block ends.
 fn add_block_at(
     alloc: Global,
     pieces: &mut Vec<Rect>,
@@ -62,11 +62,11 @@ fn add_block_at(
     start: usize,
 ) -> Result<usize, AllocError>
     requires some { start < length rects.old }
-    requires blocks { AreBlocksOf (PiecesAndBlocks pieces.old.items (drop start rects.old)) pieces.old.items (drop start rects.old) }
+    requires blocks { AreBlocksOf (EitherCovers pieces.old.items (drop start rects.old)) pieces.old.items (drop start rects.old) }
     ensures more { IfOk result (λ end. start < end) }
     ensures within { IfOk result (λ end. end ≤ length rects.new) }
     ensures len { length rects.new ≡ length rects.old }
-    ensures blocks { IfOk result (λ end. AreBlocksOf (PiecesAndBlocks pieces.old.items (drop start rects.old)) pieces.new.items (drop end rects.new)) }
+    ensures blocks { IfOk result (λ end. AreBlocksOf (EitherCovers pieces.old.items (drop start rects.old)) pieces.new.items (drop end rects.new)) }
 {
     let (_, rest) = rects.split_at_mut(start);
     let count = strip_length(rest);

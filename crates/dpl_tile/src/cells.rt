@@ -1,5 +1,5 @@
 //! The places of the cells that slabs meet.
-ghost use Rattle.std.specs.Prelude.{◌≡◌, ◌↔◌, ℕ, ◌+◌, ◌-◌, ◌*◌, ◌≤◌, IfOk, OnOk, length, sum_by};
+ghost use Rattle.std.specs.Prelude.{◌≡◌, ◌↔◌, ℕ, ◌+◌, ◌-◌, ◌*◌, ◌<◌, ◌≤◌, IfOk, OnOk, length, sum_by};
 ghost use Rattle.std.specs.List.{All, AllPairs, Contains};
 ghost use Rattle.dpl_spec.specs.Graphs.{Precedes};
 ghost use Rattle.dpl_tile.specs.Adding.{Adds};
@@ -28,6 +28,7 @@ fn put_in_order(places: &mut Vec<Place>)
 fn tidy(places: &mut Vec<Place>, limit: &mut usize)
     ensures members { (e : ℕ × ℕ) → Contains places.new.items e ↔ Contains places.old.items e }
     ensures few { length places.new.items ≤ length places.old.items }
+    ensures short { length places.new.items < limit.new }
 {
     if places.len() >= *limit {
         put_in_order(places);
