@@ -13,7 +13,7 @@ use Rattle.dpl_spec.proofs.Ordered.{Contains-head, Contains-later, Contains-case
 use Rattle.dpl_spec.proofs.SlabLaws.{Covers-member, member-Covers}
 use Rattle.dpl_sweep.specs.declared.edge.Edge.{Edge}
 use Rattle.dpl_sweep.specs.Edges.{is_left, part, change_a, change_b}
-use Rattle.dpl_sweep.specs.Passes.{IsWithin as EdgeWithin, AreLeft}
+use Rattle.dpl_sweep.specs.Passes.{IsUnitEdge, AreLeft}
 use Rattle.dpl_sweep.proofs.EdgeLaws.{sum_left-push, part-on, part-before, part-off}
 use Rattle.dpl_slabs.specs.Cells.{has_square, cells, AddsRects}
 
@@ -93,7 +93,7 @@ adds-none a b old =
     record {
       sums_a = λ p. omega (arith, ints);
       sums_b = λ p. omega (arith, ints);
-      within = λ bound h g. h;
+      units = λ h. h;
       keeps = λ e h. h;
       ends = λ r r_in. absurd (Contains-nil r r_in);
     }
@@ -107,7 +107,7 @@ adds-empty a b old r none =
     record {
       sums_a = λ p. rw (out p) (omega (arith, ints));
       sums_b = λ p. rw (out p) (omega (arith, ints));
-      within = λ bound h g. h;
+      units = λ h. h;
       keeps = λ e h. h;
       ends = λ s s_in. inl (subst (λ t. let u : Rect = t in u.x1 ≤ℤ u.x0) (one_rect r s s_in) none);
     }
@@ -143,22 +143,16 @@ adds-three a b old r e f g small_a small_b wide ex fx gx ey fy gy ea fa ga eb fb
     record {
       sums_a = λ p. (let s = sum_left-push change_a old e p in let t = sum_left-push change_a (old ++ e ∷ []) f p in let v = sum_left-push change_a two g p in let w = still change_a g p ga in let u = two_parts change_a a e f r p wide ex fx ey fy ea fa in omega (arith, ints, s, t, u, v, w));
       sums_b = λ p. (let s = sum_left-push change_b old e p in let t = sum_left-push change_b (old ++ e ∷ []) f p in let v = sum_left-push change_b two g p in let w = still change_b g p gb in let u = two_parts change_b b e f r p wide ex fx ey fy eb fb in omega (arith, ints, s, t, u, v, w));
-      within = λ bound h i k k_in. (
-          let w : IsRectWithin bound r = i r (Contains-head r []) in
-          let wl = w.left in let wr = w.right in let wb = w.low in let wt = w.high in
-          let (y0, y1) = ey in
-          let (z0, z1) = fy in
-          let (u0, u1) = gy in
-          elim (Contains-push_cases two g k k_in) [
-            | inl pair ↦ elim (Contains-push_cases (old ++ e ∷ []) f k pair) [
-              | inl before ↦ elim (Contains-push_cases old e k before) [
-                | inl there ↦ h k there
-                | inr same ↦ subst (EdgeWithin (bound + 1)) same (record { column = omega (arith, ints, ex, wl); low = omega (arith, ints, y0, wb); high = omega (arith, ints, y1, wt); a = omega (arith, ints, ea, small_a); b = omega (arith, ints, eb, small_b) })
-              ]
-              | inr same ↦ subst (EdgeWithin (bound + 1)) same (record { column = omega (arith, ints, fx, wr); low = omega (arith, ints, z0, wb); high = omega (arith, ints, z1, wt); a = omega (arith, ints, fa, small_a); b = omega (arith, ints, fb, small_b) })
-            ]
-            | inr same ↦ subst (EdgeWithin (bound + 1)) same (record { column = omega (arith, ints, gx, wr); low = omega (arith, ints, u0, wb); high = omega (arith, ints, u1, wt); a = omega (arith, ints, ga); b = omega (arith, ints, gb) })
-          ]);
+      units = λ h k k_in. elim (Contains-push_cases two g k k_in) [
+        | inl pair ↦ elim (Contains-push_cases (old ++ e ∷ []) f k pair) [
+          | inl before ↦ elim (Contains-push_cases old e k before) [
+            | inl there ↦ h k there
+            | inr same ↦ subst IsUnitEdge same (record { a = omega (arith, ints, ea, small_a); b = omega (arith, ints, eb, small_b) })
+          ]
+          | inr same ↦ subst IsUnitEdge same (record { a = omega (arith, ints, fa, small_a); b = omega (arith, ints, fb, small_b) })
+        ]
+        | inr same ↦ subst IsUnitEdge same (record { a = omega (arith, ints, ga); b = omega (arith, ints, gb) })
+      ];
       keeps = λ k k_in. Contains-append_left two (g ∷ []) k (Contains-append_left (old ++ e ∷ []) (f ∷ []) k (Contains-append_left old (e ∷ []) k k_in));
       ends = λ s s_in. inr (f, Contains-append_left two (g ∷ []) f (Contains-push (old ++ e ∷ []) f), fx ∙ ap (λ t. let u : Rect = t in u.x1) (one_rect r s s_in));
     }
@@ -168,7 +162,7 @@ adds-on a b old mid new rs ss f g =
     record {
       sums_a = λ p. (let s = f.sums_a p in let t = g.sums_a p in let u = cells-append a rs ss p in omega (arith, ints, s, t, u));
       sums_b = λ p. (let s = f.sums_b p in let t = g.sums_b p in let u = cells-append b rs ss p in omega (arith, ints, s, t, u));
-      within = λ bound h w. g.within bound (f.within bound h (λ r r_in. w r (Contains-append_left rs ss r r_in))) (λ r r_in. w r (Contains-append_right rs ss r r_in));
+      units = λ h. g.units (f.units h);
       keeps = λ e e_in. g.keeps e (f.keeps e e_in);
       ends = λ r r_in. elim (Contains-append_cases rs ss r r_in) [
         | inl left ↦ elim (f.ends r left) [ inl l ↦ inl l | inr (e, e_in, at) ↦ inr (e, g.keeps e e_in, at) ]

@@ -17,7 +17,7 @@ use Rattle.dpl_sweep.specs.declared.edge.Edge.{Edge}
 use Rattle.dpl_sweep.specs.declared.edge.Rule.{Rule}
 use Rattle.dpl_sweep.specs.declared.edge.Rule.TheVariants.{Either, Minus, Both}
 use Rattle.dpl_sweep.specs.Edges.{Holds, Told, sum_left, change_a, change_b}
-use Rattle.dpl_sweep.specs.Passes.{IsWithin as EdgeWithin, AreWithin, IsClosed}
+use Rattle.dpl_sweep.specs.Passes.{AreUnitEdges, IsClosed}
 use Rattle.dpl_sweep.proofs.EdgeLaws.{none-told}
 use Rattle.dpl_slabs.specs.Cells.{cells, AddsRects, turned_rects}
 use Rattle.dpl_slabs.specs.Slices.{Without}
@@ -60,15 +60,6 @@ rects-more n rs r w v s s_in = elim (Contains-push_cases rs r s s_in) [ inl old 
 
 pub rects-none : (n : ℕ) → AreRectsWithin n []
 rects-none n r r_in = absurd (Contains-nil r r_in)
-
-pub edges-none : (n : ℕ) → AreWithin n []
-edges-none n e e_in = absurd (Contains-nil e e_in)
-
-pub edges-wider : (m n : ℕ) (es : List Edge) → m ≤ n → AreWithin m es → AreWithin n es
-edges-wider m n es l w e e_in =
-    let h : EdgeWithin m e = w e e_in in
-    let a = h.column in let b = h.low in let c = h.high in
-    record { column = omega (arith, l, a); low = omega (arith, l, b); high = omega (arith, l, c); a = h.a; b = h.b }
 
 -- some sum isn't 0 of squares in the set
 holds-some : (rule : Rule) (x y : ℤ) → Holds rule x y → x ≡ pos 0 → y ≡ pos 0 → ⊥
@@ -122,8 +113,8 @@ module _ (rule : Rule) (rs ss : List Rect) (mid new : List Edge) (f : AddsRects 
       (adds-closed (pos 1) (pos 0) (pos 1) mid new ss p g left)
       ((both-told p).0 told)
 
-  pub both-within : AreRectsWithin farthest rs → AreRectsWithin farthest ss → AreWithin (2 ^ 30) new
-  both-within v w = edges-wider (farthest + 1) (2 ^ 30) new (omega arith) (g.within farthest (f.within farthest (edges-none (farthest + 1)) v) w)
+  pub both-units : AreUnitEdges new
+  both-units = g.units (f.units (λ e e_in. absurd (Contains-nil e e_in)))
 
 -- with x and y exchanged
 from-turned : (rs : List Rect) (p : Pt) → Covers (turned_rects rs) p → turned (Covers rs) p

@@ -1,16 +1,15 @@
 -- Rectangles, by sums over their squares and over their edges.
-use Rattle.std.specs.Prelude.{◌≡◌, ℕ, ◌+◌, ◌⊎◌, Bool, cond, ◌&&◌, ℤ, pos, ◌+ℤ◌, ◌≤ℤ◌, List, [], ◌∷◌, map}
+use Rattle.std.specs.Prelude.{◌≡◌, ◌⊎◌, Bool, cond, ◌&&◌, ℤ, pos, ◌+ℤ◌, ◌≤ℤ◌, List, [], ◌∷◌, map}
 use Rattle.std.specs.List.{Contains}
 use lib.Signed.{lt_z, le_z}
 use Rattle.dpl_spec.specs.declared.Pt.{Pt}
 use Rattle.dpl_spec.specs.declared.Rect.{Rect}
 use Rattle.dpl_spec.specs.Squares.{Region}
-use Rattle.dpl_spec.specs.Loops.{AreRectsWithin}
 use Rattle.dpl_spec.specs.Zones.{turned_rect}
 use Rattle.dpl_sweep.specs.declared.edge.Edge.{Edge}
 use Rattle.dpl_sweep.specs.declared.edge.Rule.{Rule}
 use Rattle.dpl_sweep.specs.Edges.{Holds, sum_left, change_a, change_b}
-use Rattle.dpl_sweep.specs.Passes.{AreWithin}
+use Rattle.dpl_sweep.specs.Passes.{AreUnitEdges}
 
 -- whether the rectangle has the square
 abbrev pub has_square : Rect → Pt → Bool
@@ -29,7 +28,7 @@ Chosen rule first second p = Holds rule (cells (pos 1) first p) (cells (pos 1) s
 pub record AddsRects (a b : ℤ) (old new : List Edge) (rs : List Rect) : Type 0 where
   pub sums_a : (p : Pt) → sum_left change_a new p ≡ sum_left change_a old p +ℤ cells a rs p
   pub sums_b : (p : Pt) → sum_left change_b new p ≡ sum_left change_b old p +ℤ cells b rs p
-  pub within : (bound : ℕ) → AreWithin (bound + 1) old → AreRectsWithin bound rs → AreWithin (bound + 1) new
+  pub units : AreUnitEdges old → AreUnitEdges new
   pub keeps : (e : Edge) → Contains old e → Contains new e
   pub ends : (r : Rect) → Contains rs r → (r.x1 ≤ℤ r.x0) ⊎ ((e : Edge) × Contains new e × (e.x ≡ r.x1))
 

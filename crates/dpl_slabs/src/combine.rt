@@ -1,11 +1,11 @@
 //! Any two sets in one.
-ghost use Rattle.std.specs.Prelude.{◌≡◌, ◌≤◌, ◌^◌, [], ◌∷◌, List, IfOk, OnOk, unsigned_abs};
+ghost use Rattle.std.specs.Prelude.{◌≡◌, ◌≤◌, [], ◌∷◌, List, IfOk, OnOk, unsigned_abs};
 ghost use Rattle.dpl_spec.specs.declared.Rect.{Rect};
 ghost use Rattle.dpl_spec.specs.Squares.{SameSquares};
 ghost use Rattle.dpl_spec.specs.Slabs.{AreSlabsOf};
 ghost use Rattle.dpl_sweep.specs.declared.edge.Rule.{Rule};
 ghost use Rattle.dpl_sweep.specs.Edges.{Told};
-ghost use Rattle.dpl_sweep.specs.Passes.{AreWithin, IsClosed};
+ghost use Rattle.dpl_sweep.specs.Passes.{AreUnitEdges, IsClosed};
 ghost use Rattle.dpl_spec.specs.Loops.{farthest, IsRectWithin, AreRectsWithin};
 ghost use Rattle.dpl_spec.specs.Zones.{turned_rect};
 ghost use Rattle.dpl_slabs.specs.Cells.{AddsRects, Chosen, turned_rects};
@@ -61,7 +61,7 @@ fn add_rects(edges: &mut Vec<Edge>, rects: &[Rect], a: i8, b: i8) -> Result<(), 
 fn edges_of(alloc: Global, first: &[Rect], second: &[Rect]) -> Result<Vec<Edge>, AllocError>
     requires first { AreRectsWithin farthest first.now }
     requires second { AreRectsWithin farthest second.now }
-    ensures within { IfOk result (λ v. AreWithin (2 ^ 30) v.items) }
+    ensures units { IfOk result (λ v. AreUnitEdges v.items) }
     ensures closed { IfOk result (λ v. (rule : Rule) → IsClosed rule v.items) }
     ensures told { IfOk result (λ v. (rule : Rule) → SameSquares (Told rule v.items) (Chosen rule first.now second.now)) }
 {
