@@ -1,7 +1,6 @@
 //! The bytes of a file of masks, by the GDSII Stream Format, Release 6.
 ghost use Rattle.std.specs.Prelude.{◌≡◌, ◌+◌, ◌++◌, IfOk, OnErr, OnOk, map};
 ghost use Rattle.std.specs.List.{concat};
-ghost use Rattle.dpl_spec.specs.Loops.{AreRectsWithin, IsRectWithin, farthest};
 ghost use Rattle.dpl_spec.specs.Zones.{at};
 ghost use Rattle.dpl_masks.specs.Bytes.{FillsRoom, boundaries_bytes, boundary_bytes, coordinate_bytes, corners, file_bytes as file_bytes_of, point_bytes};
 
@@ -56,7 +55,6 @@ fn put_corners(out: &mut Vec<u8>, r: &Rect) -> Result<(), AllocError>
 
 /// Puts a slab on a layer as one BOUNDARY of data type 0 behind `out`, 64 bytes. Without memory `out` stays as it was.
 pub fn put_boundary(out: &mut Vec<u8>, layer: u16, r: &Rect) -> Result<(), AllocError>
-    requires { IsRectWithin farthest r.now }
     ensures ok { OnOk result (out.new.items ≡ out.old.items ++ boundary_bytes layer r.now) }
     ensures err { OnErr result (out.new.items ≡ out.old.items) }
 {
@@ -73,7 +71,6 @@ pub fn put_boundary(out: &mut Vec<u8>, layer: u16, r: &Rect) -> Result<(), Alloc
 
 /// The elements of all slabs on a layer.
 fn put_boundaries(out: &mut Vec<u8>, layer: u16, slabs: &[Rect]) -> Result<(), AllocError>
-    requires { AreRectsWithin farthest slabs.now }
     ensures { OnOk result (out.new.items ≡ out.old.items ++ boundaries_bytes layer slabs.now) }
 {
     for slab in slabs {
@@ -91,8 +88,6 @@ pub fn file_bytes(
     la: u16,
     lb: u16,
 ) -> Result<Vec<u8>, AllocError>
-    requires a { AreRectsWithin farthest a.now }
-    requires b { AreRectsWithin farthest b.now }
     ensures { IfOk result (λ v. v.items ≡ file_bytes_of front.now la lb a.now b.now) }
 {
     let mut out = Vec::from_slice(alloc, front)?;

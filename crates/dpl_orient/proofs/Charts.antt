@@ -2,12 +2,11 @@
 use Rattle.std.proofs.Common.{◌≡◌, ◌≢◌, ℕ, ◌+◌, ◌<◌, inl, inr, List, [], ◌∷◌, ◌++◌, length, get_or, set, take, sym, refl, ap, ◌∙◌, subst, arith}
 use Rattle.std.proofs.lemmas.Bool.{cases_lt, cases_eq}
 use Rattle.std.proofs.lemmas.List.{get_or_append_left, get_or_push, get_or-set_same, get_or-set_other, length-set, length_push, take_more}
-use Rattle.std.proofs.lemmas.List.Elements.{All-push, All-nil, Contains-push, Contains-append_left, All-contains}
+use Rattle.std.proofs.lemmas.List.Elements.{All-push, All-nil, Contains-push, Contains-append_left}
 use Rattle.dpl_stars.specs.declared.list.Star.{Star}
-use Rattle.dpl_stars.specs.Stars.{IsStarList}
 use Rattle.dpl_orient.specs.declared.chart.Rooted.{Rooted}
-use Rattle.dpl_orient.specs.Rooted.{HasStar, star}
-use Rattle.dpl_orient.specs.Chart.{own_root, rooted_by, rooted_at, IsChart, AreLow}
+use Rattle.dpl_orient.specs.Rooted.{HasStar}
+use Rattle.dpl_orient.specs.Chart.{own_root, rooted_by, rooted_at, IsChart}
 
 -- the rows give piece v this root and parity
 abbrev Gives : List Star → ℕ → Rooted → Type 0
@@ -45,9 +44,3 @@ pub chart-put_more : (rows : List Star) (i n : ℕ) (chart : List Rooted) (r : S
 chart-put_more rows i n chart r within is h below =
     let e : take (i + 1) rows ≡ take i rows ++ r ∷ [] = take_more rows i r within ∙ ap (λ s. take i rows ++ s ∷ []) (sym is) in
     subst (λ front. IsChart front n (set chart r.piece (rooted_by r))) (sym e) (chart-put (take i rows) n chart r h below)
-
-pub chart-low : (rows : List Star) (n : ℕ) (chart : List Rooted) → IsStarList rows → IsChart rows n chart → AreLow chart
-chart-low rows n chart ordered h v within = elim (h.each v (omega (arith, within, h.len))) [
-  | inl in_rows ↦ All-contains (λ r. r.root < r.piece + 1) rows (star v (rooted_at chart v).root (rooted_at chart v).odd) (λ k d l. (let m = ordered.low k d l in omega (arith, m))) in_rows
-  | inr (none, root_is, odd_is) ↦ omega (arith, root_is)
-]

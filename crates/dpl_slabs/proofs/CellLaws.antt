@@ -3,12 +3,11 @@ use Rattle.std.proofs.Common.{◌≡◌, ℕ, suc, ◌+◌, ◌≤◌, ◌<◌, 
 use Rattle.std.specs.Prelude.{ℤ, pos, ◌+ℤ◌, neg_ℤ, ◌≤ℤ◌, ◌<ℤ◌, unsigned_abs}
 use Rattle.std.specs.List.{Contains}
 use Rattle.std.proofs.lemmas.Int.{ints, by_lt_z}
-use Rattle.std.proofs.lemmas.List.Elements.{Contains-append_left, Contains-append_right, Contains-append_cases, Contains-push, Contains-push_cases}
+use Rattle.std.proofs.lemmas.List.Elements.{Contains-append_left, Contains-append_cases, Contains-push, Contains-push_cases}
 use Rattle.std.proofs.Math.Seq.{take-suc}
 use Rattle.dpl_spec.specs.declared.Pt.{Pt}
 use Rattle.dpl_spec.specs.declared.Rect.{Rect}
 use Rattle.dpl_spec.specs.Squares.{Has, Covers}
-use Rattle.dpl_spec.specs.Loops.{IsRectWithin}
 use Rattle.dpl_spec.proofs.Ordered.{Contains-head, Contains-later, Contains-cases, Contains-nil}
 use Rattle.dpl_spec.proofs.SlabLaws.{Covers-member, member-Covers}
 use Rattle.dpl_sweep.specs.declared.edge.Edge.{Edge}

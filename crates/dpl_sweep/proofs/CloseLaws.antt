@@ -1,5 +1,5 @@
 -- Runs put down once all edges are passed.
-use Rattle.std.proofs.Common.{◌≡◌, ◌⊎◌, inl, inr, List, refl, sym, subst, arith}
+use Rattle.std.proofs.Common.{◌⊎◌, inl, inr, List, sym, subst, arith}
 use Rattle.std.specs.Prelude.{ℤ, ◌≤ℤ◌, ◌<ℤ◌}
 use Rattle.std.proofs.lemmas.Int.{ints, by_lt_z}
 use Rattle.std.proofs.lemmas.List.Elements.{All-contains}
@@ -8,7 +8,7 @@ use Rattle.dpl_spec.specs.declared.Rect.{Rect}
 use Rattle.dpl_spec.specs.Slabs.{IsSolid}
 use Rattle.dpl_sweep.specs.declared.run.Run.{Run}
 use Rattle.dpl_sweep.specs.declared.bands.Bands.{Bands, One}
-use Rattle.dpl_sweep.specs.Pieces.{AreApart, EndBefore, Puts}
+use Rattle.dpl_sweep.specs.Pieces.{EndBefore, Puts}
 use Rattle.dpl_sweep.specs.Runs.{piece_of}
 use Rattle.dpl_sweep.specs.Rows.{run_at, ArePartsOf}
 use Rattle.dpl_sweep.specs.Closing.{IsOfRun, PutsDown}

@@ -3,7 +3,6 @@ use Rattle.std.specs.Prelude.{◌⊎◌, ◌↔◌, ℤ, ◌≤ℤ◌, ◌<ℤ�
 use Rattle.dpl_spec.specs.declared.Pt.{Pt}
 use Rattle.dpl_spec.specs.declared.Rect.{Rect}
 use Rattle.dpl_spec.specs.Squares.{Covers}
-use Rattle.dpl_sweep.specs.declared.run.Run.{Run}
 use Rattle.dpl_sweep.specs.declared.bands.Bands.{Bands}
 use Rattle.dpl_sweep.specs.Pieces.{AreApart, EndBefore}
 use Rattle.dpl_sweep.specs.Rows.{run_at}
