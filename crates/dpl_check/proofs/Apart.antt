@@ -1,5 +1,5 @@
 -- Rectangles of a mask by the features that they lie in.
-use Rattle.std.proofs.Common.{◌≡◌, ℕ, ◌+◌, ◌<◌, List, [], length, get_or, Option, Some, None, sym, ◌∙◌, subst, arith}
+use Rattle.std.proofs.Common.{◌≡◌, ℕ, ◌<◌, List, [], length, get_or, Option, Some, None, sym, ◌∙◌, subst, arith}
 use Rattle.std.specs.Prelude.{◌↔◌}
 use Rattle.std.specs.List.{All, Contains}
 use Rattle.std.proofs.lemmas.Int.{ints}
@@ -19,8 +19,7 @@ use Rattle.dpl_tree.specs.declared.items.Item.{Item}
 use Rattle.dpl_tree.specs.declared.owners.Owners.TheVariants.{All as Everyone, Only}
 use Rattle.dpl_tree.specs.Trees.{AreItemsOf}
 use Rattle.dpl_slabs.specs.Parts.{AreParts}
-use Rattle.dpl_spec.specs.Loops.{farthest}
-use Rattle.dpl_nearest.specs.Search.{AreItemsWithin, ItemCovers}
+use Rattle.dpl_nearest.specs.Search.{AreSolidItems, ItemCovers}
 use Rattle.dpl_verdict.specs.Masks.{AreTooClose}
 use Rattle.dpl_check.specs.Findings.{IsLeastPairOf}
 use Rattle.dpl_check.specs.Owned.{IsAt, AreForeign, AreOwners, IsOwnedOnce, corner}
@@ -101,12 +100,10 @@ module _ (layer : List Rect) (features : List (List Rect)) (items : List Item) (
           (i, j, at_p, at_q, (λ e. h.apart (linked-one (get_or owners i 0) p q a.0 a.1 (subst (λ k. part_at features k q) (sym e) b.1))), h.close)),
     )
 
--- the items of a tree of features lie within range
-pub feature-items : (features parts : List (List Rect)) (items : List Item) → parts ≡ features → AreParts features → AreItemsOf parts items → AreItemsWithin (farthest + 1) items
+-- the items of a tree of features are solid
+pub feature-items : (features parts : List (List Rect)) (items : List Item) → parts ≡ features → AreParts features → AreItemsOf parts items → AreSolidItems items
 feature-items features parts items same are of_parts r k item =
     let (k_in, c) = (of_parts r k).0 item in
     let l_in : k < length features = subst (λ (t : List (List Rect)). k < length t) same k_in in
     let d : Contains (get_or features k []) r = subst (λ (t : List (List Rect)). Contains (get_or t k []) r) same c in
-    let w = are.within k [] l_in r d in
-    let s : IsSolid r = subst (λ u. IsSolid u) d.2 ((are.canonical k [] l_in).solid d.0 r d.1) in
-    record { wide = s.wide; tall = s.tall; left = omega (arith, w.left); right = omega (arith, w.right); low = omega (arith, w.low); high = omega (arith, w.high) }
+    subst (λ u. IsSolid u) d.2 ((are.canonical k [] l_in).solid d.0 r d.1)

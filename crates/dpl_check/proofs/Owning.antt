@@ -7,7 +7,7 @@ use Rattle.std.proofs.lemmas.Bool.{cases_eq}
 use Rattle.std.proofs.lemmas.List.{get_or_default}
 use Rattle.dpl_spec.specs.declared.Pt.{Pt}
 use Rattle.dpl_spec.specs.declared.Rect.{Rect}
-use Rattle.dpl_spec.specs.Squares.{Region, Has, IsSolidWithin, Precedes, IsLeast, d2}
+use Rattle.dpl_spec.specs.Squares.{Region, Has, Precedes, IsLeast, d2}
 use Rattle.dpl_spec.specs.Loops.{farthest, AreRectsWithin}
 use Rattle.dpl_spec.specs.Slabs.{IsSolid}
 use Rattle.dpl_spec.proofs.SquareLaws.{d2-sym}
@@ -15,7 +15,7 @@ use Rattle.dpl_spec.proofs.Ordered.{Contains-nil}
 use Rattle.dpl_tree.specs.declared.items.Item.{Item}
 use Rattle.dpl_tree.specs.declared.owners.Owners.TheVariants.{All as Everyone, But, Only}
 use Rattle.dpl_tree.specs.Trees.{HasItem}
-use Rattle.dpl_nearest.specs.Search.{AreItemsWithin, ItemCovers, near_part, unit_of, IsImproved}
+use Rattle.dpl_nearest.specs.Search.{AreSolidItems, ItemCovers, near_part, unit_of, IsImproved}
 use Rattle.dpl_nearest.proofs.NearLaws.{Precedes-trans}
 use Rattle.dpl_verdict.specs.Order.{IsLeastPair}
 use Rattle.dpl_check.specs.Findings.{IsLeastOf, IsLeastPairOf}
@@ -127,24 +127,18 @@ pub foreign-within : (rule : ℕ) (rects : List Rect) (owners : List ℕ) (items
     → (unsigned_abs p.x ≤ farthest) × (unsigned_abs p.y ≤ farthest)
 foreign-within rule rects owners items n p within (i, l, at, near) = at-within rects i p within at
 
--- the items are rectangles within range
-pub owned-within : (rects : List Rect) (owners : List ℕ) (items : List Item) → AreOwnedItems rects owners items → All IsSolid rects → AreRectsWithin farthest rects → AreItemsWithin (farthest + 1) items
-owned-within rects owners items are solid within r k item =
+-- the items are solid rectangles
+pub owned-solid : (rects : List Rect) (owners : List ℕ) (items : List Item) → AreOwnedItems rects owners items → All IsSolid rects → AreSolidItems items
+owned-solid rects owners items are solid r k item =
     let (i, l, i_in, is, own) = (are r k).0 item in
-    let s : IsSolid r = subst (λ u. IsSolid u) is (solid i r i_in) in
-    let w = within r (i, i_in, is) in
-    record { wide = s.wide; tall = s.tall; left = omega (arith, w.left); right = omega (arith, w.right); low = omega (arith, w.low); high = omega (arith, w.high) }
+    subst (λ u. IsSolid u) is (solid i r i_in)
 
-pub single-within : (p : Pt) (owner : ℕ) (items : List Item) → IsSingle p owner items → unsigned_abs p.x ≤ farthest → unsigned_abs p.y ≤ farthest → AreItemsWithin (farthest + 1) items
-single-within p owner items single x y r k item =
+pub single-solid : (p : Pt) (owner : ℕ) (items : List Item) → IsSingle p owner items → AreSolidItems items
+single-solid p owner items single r k item =
     let (e, is) = (single r k).0 item in
-    subst (λ (u : Rect). IsSolidWithin (farthest + 1) u) is (record {
+    subst (λ (u : Rect). IsSolid u) is (record {
       wide = let t : p.x <ℤ (p.x +ℤ pos 1) = omega (arith, ints) in t;
       tall = let t : p.y <ℤ (p.y +ℤ pos 1) = omega (arith, ints) in t;
-      left = omega (arith, ints, x);
-      right = let t : unsigned_abs (p.x +ℤ pos 1) ≤ farthest + 1 = omega (arith, ints, x) in t;
-      low = omega (arith, ints, y);
-      high = let t : unsigned_abs (p.y +ℤ pos 1) ≤ farthest + 1 = omega (arith, ints, y) in t;
     })
 
 module _ (rule : ℕ) (rects : List Rect) (owners : List ℕ) (items : List Item) (are : AreOwnedItems rects owners items) where

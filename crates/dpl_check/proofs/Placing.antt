@@ -1,6 +1,7 @@
 -- Places of a cycle, and the pieces that squares lie in.
 use Rattle.std.proofs.Common.{◌≡◌, ℕ, ◌+◌, ◌*◌, ◌%◌, ◌<◌, inl, inr, Bool, true, false, List, [], length, get_or, set, sym, ap, ◌∙◌, subst, arith}
 use Rattle.std.specs.Prelude.{◌↔◌}
+use Rattle.std.proofs.lemmas.Int.{ints}
 use Rattle.std.proofs.lemmas.Bool.{cases_eq, cases_lt, cases_order, false≢true}
 use Rattle.std.proofs.lemmas.List.{get_or_default, get_or_past, get_or-set_same, get_or-set_other, length-set}
 use Rattle.dpl_spec.specs.declared.Pt.{Pt}
@@ -12,7 +13,9 @@ use Rattle.dpl_slabs.specs.Parts.{AreParts}
 use Rattle.dpl_tree.specs.declared.items.Item.{Item}
 use Rattle.dpl_tree.specs.declared.owners.Owners.TheVariants.{All as Everyone, Only}
 use Rattle.dpl_tree.specs.Trees.{AreItemsOf}
-use Rattle.dpl_nearest.specs.Search.{ItemCovers, unit_of}
+use Rattle.dpl_nearest.specs.Search.{FitsIn32Bits, ItemCovers, unit_of}
+use Rattle.dpl_nearest.proofs.UnitLaws.{unit_fits}
+use Rattle.dpl_cert.specs.Grammar.{IsPoint}
 use Rattle.dpl_piece.specs.Cutting.{CutPieces}
 use Rattle.dpl_cert.specs.declared.cert.PlaceLine.{PlaceLine}
 use Rattle.dpl_cert.specs.declared.cert.NearLine.{NearLine}
@@ -48,6 +51,9 @@ pub of-none : (parts : List (List Rect)) (items : List Item) (p : Pt) (piece : �
 of-none parts items p piece of_parts none there =
     let found = member-Covers (get_or parts piece []) p there in
     none (found.0, piece, (of_parts found.0 piece).1 (part-known parts piece p there, found.1), tt, found.2)
+
+pub point-fits : (p : Pt) → IsPoint p → FitsIn32Bits (unit_of p)
+point-fits p point = unit_fits p (omega (arith, ints, point.x.0, point.x.1)) (omega (arith, ints, point.y.0, point.y.1))
 
 pub near-units : (rule : ℕ) (p q : Pt) (u v : Rect) → u ≡ unit_of p → v ≡ unit_of q → AreNear rule (Has u) (Has v) ↔ (d2 p q < rule * rule)
 near-units rule p q u v e f = (

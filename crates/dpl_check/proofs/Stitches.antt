@@ -1,5 +1,5 @@
 -- Stitches and pieces by the trees of their squares.
-use Rattle.std.proofs.Common.{◌≡◌, ℕ, ◌+◌, ◌<◌, inl, inr, Bool, true, false, List, [], ◌∷◌, length, get_or, Option, subst, arith}
+use Rattle.std.proofs.Common.{◌≡◌, ℕ, ◌<◌, inl, inr, Bool, true, false, List, [], ◌∷◌, length, get_or, Option, subst}
 use Rattle.std.specs.Prelude.{◌↔◌, cond}
 use Rattle.std.specs.List.{Contains}
 use Rattle.std.proofs.lemmas.List.{get_or_default}
@@ -7,15 +7,14 @@ use Rattle.dpl_spec.specs.declared.Pt.{Pt}
 use Rattle.dpl_spec.specs.declared.Rect.{Rect}
 use Rattle.dpl_spec.specs.Squares.{Covers, Has}
 use Rattle.dpl_spec.specs.Slabs.{AreSlabsOf, IsCanonical}
-use Rattle.dpl_spec.specs.Loops.{farthest, AreRectsWithin}
 use Rattle.dpl_spec.proofs.Ordered.{Contains-head}
 use Rattle.dpl_spec.proofs.SlabLaws.{Covers-member}
 use Rattle.dpl_cert.specs.declared.cert.PieceLine.{PieceLine}
 use Rattle.dpl_cert.specs.declared.cert.StitchLine.{StitchLine}
 use Rattle.dpl_tree.specs.declared.items.Item.{Item}
 use Rattle.dpl_tree.specs.declared.owners.Owners.TheVariants.{All as Everyone}
-use Rattle.dpl_nearest.specs.Search.{ItemCovers, AreItemsWithin}
-use Rattle.dpl_nearest.proofs.ItemLaws.{AreItemsOfRects, items-within, items-cover, covers-items}
+use Rattle.dpl_nearest.specs.Search.{AreSolidItems, ItemCovers}
+use Rattle.dpl_nearest.proofs.ItemLaws.{AreItemsOfRects, items-solid, items-cover, covers-items}
 use Rattle.dpl_verdict.specs.Masks.{IsGoodStitch, IsBadStitch, IsBadPiece}
 use Rattle.dpl_check.specs.Findings.{IsFirstBadOf, IsRightStitch, IsWrongStitch, IsOffMask}
 use Rattle.dpl_check.proofs.Finding.{first-same}
@@ -79,8 +78,6 @@ by-letter a b items_a items_b are_a are_b p false = (λ off c. off (covers-items
 pub off-bad : (a b : List Rect) (items_a items_b : List Item) → AreItemsOfRects a items_a → AreItemsOfRects b items_b → (k : ℕ) (line : PieceLine) → IsOffMask items_a items_b k line ↔ IsBadPiece a b k line
 off-bad a b items_a items_b are_a are_b k line = by-letter a b items_a items_b are_a are_b line.key line.b
 
--- the items of a tree of slabs lie within range
-pub slab-items : (s rects : List Rect) (items : List Item) → rects ≡ s → IsCanonical s → AreRectsWithin farthest s → AreItemsOfRects rects items → AreItemsWithin (farthest + 1) items
-slab-items s rects items is canonical within are =
-    items-within s items (subst (λ (t : List Rect). AreItemsOfRects t items) is are) canonical.solid
-    (λ r r_in. let w = within r r_in in record { left = omega (arith, w.left); low = omega (arith, w.low); right = omega (arith, w.right); high = omega (arith, w.high) })
+-- the items of a tree of slabs are solid
+pub slab-items : (s rects : List Rect) (items : List Item) → rects ≡ s → IsCanonical s → AreItemsOfRects rects items → AreSolidItems items
+slab-items s rects items is canonical are = items-solid s items (subst (λ (t : List Rect). AreItemsOfRects t items) is are) canonical.solid

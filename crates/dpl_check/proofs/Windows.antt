@@ -1,18 +1,17 @@
 -- Items of a search tree that have a square in a window.
-use Rattle.std.proofs.Common.{◌≡◌, ℕ, ◌+◌, ◌<◌, ◌≤◌, inl, inr, List, length, get_or, sym, ap, refl, ◌∙◌, subst, arith}
+use Rattle.std.proofs.Common.{◌≡◌, ℕ, ◌<◌, ◌≤◌, inl, inr, List, length, get_or, sym, ap, refl, ◌∙◌, subst, arith}
 use Rattle.std.specs.Prelude.{ℤ, pos, ◌+ℤ◌, ◌≤ℤ◌, ◌<ℤ◌, Option, Some, None, IfSome}
 use Rattle.std.proofs.lemmas.Int.{ints, by_lt_z}
 use Rattle.dpl_spec.specs.declared.Pt.{Pt}
 use Rattle.dpl_spec.specs.declared.Rect.{Rect}
 use Rattle.dpl_spec.specs.Squares.{Has}
 use Rattle.dpl_spec.specs.Slabs.{IsSolid}
-use Rattle.dpl_spec.specs.Loops.{farthest}
 use Rattle.dpl_spec.specs.Zones.{at}
 use Rattle.dpl_tree.specs.declared.items.Item.{Item}
 use Rattle.dpl_tree.specs.declared.owners.Owners.TheVariants.{All as Everyone, Only}
 use Rattle.dpl_tree.specs.Trees.{LiesApart, IsMissed, ArePassed}
 use Rattle.dpl_tree.proofs.ItemLaws.{item-at}
-use Rattle.dpl_nearest.specs.Search.{AreItemsWithin, ItemCovers, unit_of}
+use Rattle.dpl_nearest.specs.Search.{AreSolidItems, ItemCovers, unit_of}
 use Rattle.dpl_verdict.specs.Order.{HasSquare}
 
 -- two spans that aren't apart share a number
@@ -33,12 +32,12 @@ apart-none window r p (inr (inl h)) a b = let k = a.right in let l = b.left in o
 apart-none window r p (inr (inr (inl h))) a b = let k = a.low in let l = b.high in omega (arith, ints, h, k, l)
 apart-none window r p (inr (inr (inr h))) a b = let k = a.high in let l = b.low in omega (arith, ints, h, k, l)
 
-pub found-in : (items : List Item) (window : Rect) (n : ℕ) (d : Item) → n < length items → IsSolid window → AreItemsWithin (farthest + 1) items → (IsMissed window Everyone (get_or items n d) → ⊥)
+pub found-in : (items : List Item) (window : Rect) (n : ℕ) (d : Item) → n < length items → IsSolid window → AreSolidItems items → (IsMissed window Everyone (get_or items n d) → ⊥)
     → HasSquare (λ p. Has window p × ItemCovers (Only (get_or items n d).owner) items p)
-found-in items window n d n_in w within free =
+found-in items window n d n_in w all_solid free =
     let item = item-at items n d n_in in
-    let solid = within (get_or items n d).rect (get_or items n d).owner item in
-    let (p, (a, b)) = in-both window (get_or items n d).rect w (record { wide = solid.wide; tall = solid.tall }) (λ h. free (inl h)) in
+    let solid = all_solid (get_or items n d).rect (get_or items n d).owner item in
+    let (p, (a, b)) = in-both window (get_or items n d).rect w solid (λ h. free (inl h)) in
     (p, (a, ((get_or items n d).rect, (get_or items n d).owner, item, refl, b)))
 
 pub none-in : (items : List Item) (window : Rect) (n : ℕ) → length items ≤ n → ArePassed window Everyone items 0 n → HasSquare (λ p. Has window p × ItemCovers Everyone items p) → ⊥

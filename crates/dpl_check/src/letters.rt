@@ -1,11 +1,10 @@
 //! Pieces that aren't on the masks that a certificate names.
-ghost use Rattle.std.specs.Prelude.{◌+◌, ◌≢◌, ◌⊎◌, ◌↔◌, cond, IsTrue, IfOk};
+ghost use Rattle.std.specs.Prelude.{◌≢◌, ◌⊎◌, ◌↔◌, cond, IsTrue, IfOk};
 ghost use Rattle.std.specs.List.{All};
 ghost use Rattle.dpl_cert.specs.Grammar.{IsPiece};
 ghost use Rattle.dpl_spec.specs.Squares.{Covers};
-ghost use Rattle.dpl_spec.specs.Loops.{farthest};
 ghost use Rattle.dpl_tree.specs.declared.owners.Owners.TheVariants.{All as Everyone};
-ghost use Rattle.dpl_nearest.specs.Search.{AreItemsWithin, ItemCovers};
+ghost use Rattle.dpl_nearest.specs.Search.{AreSolidItems, ItemCovers};
 ghost use Rattle.dpl_verdict.specs.Masks.{IsBadPiece};
 ghost use Rattle.dpl_check.specs.Findings.{IsFirstBadOf, IsOffMask};
 
@@ -19,8 +18,8 @@ use std::alloc::{AllocError, Global};
 /// Whether the piece's square is on the mask that the line names.
 fn is_on_mask(line: &PieceLine, a: &Tree, b: &Tree) -> bool
     requires fits { IsPiece line.now }
-    requires items_a { AreItemsWithin (farthest + 1) a.now }
-    requires items_b { AreItemsWithin (farthest + 1) b.now }
+    requires items_a { AreSolidItems a.now }
+    requires items_b { AreSolidItems b.now }
     ensures { IsTrue result ↔ ItemCovers Everyone (cond line.now.b b.now a.now) line.now.key }
 {
     let key = line.key.point();
@@ -33,8 +32,8 @@ fn is_on_mask(line: &PieceLine, a: &Tree, b: &Tree) -> bool
 /// The first piece whose square isn't on the mask that its line names.
 fn first_off(pieces: &[PieceLine], a: &Tree, b: &Tree) -> Option<u64>
     requires fits { All IsPiece pieces.now }
-    requires items_a { AreItemsWithin (farthest + 1) a.now }
-    requires items_b { AreItemsWithin (farthest + 1) b.now }
+    requires items_a { AreSolidItems a.now }
+    requires items_b { AreSolidItems b.now }
     ensures { IsFirstBadOf (IsOffMask a.now b.now) pieces.now result }
 {
     for k in 0..pieces.len() {

@@ -42,8 +42,10 @@ fn are_near(p: Pt, q: Pt, rule: u32) -> bool
     requires second { IsPoint q }
     ensures { IsTrue result ↔ (d2 p q < rule * rule) }
 {
-    let first = unit(p);
-    let second = unit(q);
+    let Some(first) = unit(p) else { unreachable!() };
+    let Some(second) = unit(q) else {
+        unreachable!()
+    };
     near(&first, &second, rule)
 }
 

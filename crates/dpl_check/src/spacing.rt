@@ -1,14 +1,13 @@
 //! The least pair of squares of different features on a mask that are too close.
-ghost use Rattle.std.specs.Prelude.{◌+◌, ◌≡◌, ◌<◌, ◌≤◌, ◌^◌, ℕ, List, IfOk, length, unsigned_abs};
+ghost use Rattle.std.specs.Prelude.{◌≡◌, ◌≤◌, IfOk, length, unsigned_abs};
 ghost use Rattle.std.specs.List.{All};
 ghost use Rattle.dpl_spec.specs.declared.Pt.{Pt};
-ghost use Rattle.dpl_spec.specs.declared.Rect.{Rect};
 ghost use Rattle.dpl_spec.specs.Components.{AreComponents};
 ghost use Rattle.dpl_spec.specs.Loops.{farthest, AreRectsWithin, IsRectWithin};
 ghost use Rattle.dpl_spec.specs.Slabs.{IsSolid};
 ghost use Rattle.dpl_spec.specs.Squares.{Covers};
 ghost use Rattle.dpl_tree.specs.declared.owners.Owners.TheVariants.{All as Everyone, Only};
-ghost use Rattle.dpl_nearest.specs.Search.{AreItemsWithin, ItemCovers, unit_of};
+ghost use Rattle.dpl_nearest.specs.Search.{AreSolidItems, ItemCovers};
 ghost use Rattle.dpl_verdict.specs.Masks.{AreTooClose};
 ghost use Rattle.dpl_check.specs.Findings.{IsLeastOf, IsLeastPairOf};
 ghost use Rattle.dpl_check.specs.Owned.{AreForeign, AreOwnedItems, AreOwners, IsOwnedOnce, IsSingle, corner, foreign};
@@ -23,7 +22,7 @@ use std::alloc::{AllocError, Global};
 /// The owner of the tree's rectangle that has the lower left square of `r`.
 fn owner_of(r: &Rect, tree: &Tree) -> usize
     requires within { IsRectWithin farthest r.now }
-    requires items { AreItemsWithin (farthest + 1) tree.now }
+    requires items { AreSolidItems tree.now }
     requires inside { ItemCovers Everyone tree.now (corner r.now) }
     ensures { ItemCovers (Only result) tree.now (corner r.now) }
 {
@@ -40,7 +39,7 @@ fn owner_of(r: &Rect, tree: &Tree) -> usize
 /// The same for each rectangle.
 fn owners_of(alloc: Global, rects: &[Rect], tree: &Tree) -> Result<Vec<usize>, AllocError>
     requires within { AreRectsWithin farthest rects.now }
-    requires items { AreItemsWithin (farthest + 1) tree.now }
+    requires items { AreSolidItems tree.now }
     requires inside { All (λ r. ItemCovers Everyone tree.now (corner r)) rects.now }
     ensures { IfOk result (λ v. AreOwners tree.now rects.now v.items) }
 {
@@ -71,8 +70,11 @@ fn single_tree(alloc: Global, p: Pt, owner: usize) -> Result<Tree, AllocError>
     requires y { unsigned_abs p.y ≤ farthest }
     ensures { IfOk result (λ t. IsSingle p owner t) }
 {
+    let Some(square) = unit(p) else {
+        unreachable!()
+    };
     let mut items = Items::new(alloc);
-    items.add(&[unit(p)], owner)?;
+    items.add(&[square], owner)?;
     let tree = Tree::of(alloc, items)?;
     Ok(tree)
 }
@@ -82,7 +84,7 @@ fn first_foreign(rects: &[Rect], owners: &[usize], tree: &Tree, rule: u32) -> Op
     requires each { length owners.now ≡ length rects.now }
     requires solid { All IsSolid rects.now }
     requires within { AreRectsWithin farthest rects.now }
-    requires items { AreItemsWithin (farthest + 1) tree.now }
+    requires items { AreSolidItems tree.now }
     ensures { IsLeastOf (foreign rule rects.now owners.now tree.now (length rects.now)) result }
 {
     let mut best = None;

@@ -1,15 +1,13 @@
 //! Stitches that don't stand where, or aren't what, a certificate says.
-ghost use Rattle.std.specs.Prelude.{◌≡◌, ◌+◌, ◌≢◌, ◌<◌, ◌⊎◌, ◌↔◌, pos, ◌-ℤ◌, ◌≤ℤ◌, IsTrue, IsNone, IfSome, IfOk, [], length};
+ghost use Rattle.std.specs.Prelude.{◌≡◌, ◌≢◌, ◌<◌, ◌⊎◌, ◌↔◌, pos, ◌-ℤ◌, ◌≤ℤ◌, IsTrue, IsNone, IfSome, IfOk, [], length};
 ghost use Rattle.std.specs.List.{All, Contains};
 ghost use Rattle.dpl_cert.specs.Grammar.{IsCoordinate, IsRect, IsStitch};
 ghost use Rattle.dpl_cert.specs.declared.cert.StitchLine.{StitchLine};
 ghost use Rattle.dpl_spec.specs.declared.Pt.{Pt};
-ghost use Rattle.dpl_spec.specs.declared.Rect.{Rect};
 ghost use Rattle.dpl_spec.specs.Squares.{Covers, Has};
 ghost use Rattle.dpl_spec.specs.Loops.{farthest, IsRectWithin};
 ghost use Rattle.dpl_tree.specs.declared.owners.Owners.TheVariants.{All as Everyone};
-ghost use Rattle.dpl_nearest.specs.Search.{AreItemsWithin, ItemCovers};
-ghost use Rattle.dpl_verdict.specs.Order.{HasSquare};
+ghost use Rattle.dpl_nearest.specs.Search.{AreSolidItems, ItemCovers};
 ghost use Rattle.dpl_verdict.specs.Masks.{piece_at};
 ghost use Rattle.dpl_check.specs.Findings.{IsFirstBadOf, IsRightStitch, IsWrongStitch};
 
@@ -60,7 +58,7 @@ fn are_parted(pieces: &[PieceLine], p: u64, q: u64) -> bool
 /// Whether a stitch has no square among those that aren't on both masks, and is long and parts pieces of two letters.
 fn is_right(s: &StitchLine, pieces: &[PieceLine], off: &Tree, overlap: u32) -> bool
     requires fits { IsStitch s.now }
-    requires items { AreItemsWithin (farthest + 1) off.now }
+    requires items { AreSolidItems off.now }
     ensures { IsTrue result ↔ IsRightStitch overlap (ItemCovers Everyone off.now) pieces.now s.now }
 {
     if is_met(off, &WideRect::of(&s.rect)) {
@@ -80,7 +78,7 @@ fn first_wrong(
     overlap: u32,
 ) -> Option<u64>
     requires fits { All IsStitch stitches.now }
-    requires items { AreItemsWithin (farthest + 1) off.now }
+    requires items { AreSolidItems off.now }
     ensures { IsFirstBadOf (IsWrongStitch overlap (ItemCovers Everyone off.now) pieces.now) stitches.now result }
 {
     for k in 0..stitches.len() {

@@ -1,10 +1,9 @@
 //! Searches a tree for a rectangle that has a square in a window.
-ghost use Rattle.std.specs.Prelude.{◌+◌, ◌≤◌, ◌^◌, ◌↔◌, IsTrue, IsNone, IfSome, unsigned_abs};
-ghost use Rattle.dpl_spec.specs.Loops.{farthest};
+ghost use Rattle.std.specs.Prelude.{◌≤◌, ◌^◌, ◌↔◌, IsTrue, IsNone, IfSome, unsigned_abs};
 ghost use Rattle.dpl_spec.specs.Slabs.{IsSolid};
 ghost use Rattle.dpl_spec.specs.Squares.{Has};
 ghost use Rattle.dpl_tree.specs.declared.owners.Owners.TheVariants.{All as Everyone, Only};
-ghost use Rattle.dpl_nearest.specs.Search.{AreItemsWithin, ItemCovers};
+ghost use Rattle.dpl_nearest.specs.Search.{AreSolidItems, ItemCovers};
 ghost use Rattle.dpl_verdict.specs.Order.{HasSquare};
 
 use dpl_base::{Pt, WideRect};
@@ -14,7 +13,7 @@ use dpl_tree::{Owners, Tree};
 /// The owner of a rectangle that has a square in the window, if there is one.
 pub(crate) fn owner_in(tree: &Tree, window: &WideRect) -> Option<usize>
     requires window { IsSolid window.now }
-    requires items { AreItemsWithin (farthest + 1) tree.now }
+    requires items { AreSolidItems tree.now }
     ensures none { IsNone result → ¬ HasSquare (λ p. Has window.now p × ItemCovers Everyone tree.now p) }
     ensures some { IfSome result (λ k. HasSquare (λ p. Has window.now p × ItemCovers (Only k) tree.now p)) }
 {
@@ -29,7 +28,7 @@ pub(crate) fn owner_in(tree: &Tree, window: &WideRect) -> Option<usize>
 pub(crate) fn owner_at(tree: &Tree, p: Pt) -> Option<usize>
     requires x { unsigned_abs p.x ≤ 2 ^ 61 }
     requires y { unsigned_abs p.y ≤ 2 ^ 61 }
-    requires items { AreItemsWithin (farthest + 1) tree.now }
+    requires items { AreSolidItems tree.now }
     ensures none { IsNone result → ¬ ItemCovers Everyone tree.now p }
     ensures some { IfSome result (λ k. ItemCovers (Only k) tree.now p) }
 {
@@ -40,7 +39,7 @@ pub(crate) fn owner_at(tree: &Tree, p: Pt) -> Option<usize>
 /// Whether some rectangle has a square in the window.
 pub(crate) fn is_met(tree: &Tree, window: &WideRect) -> bool
     requires window { IsSolid window.now }
-    requires items { AreItemsWithin (farthest + 1) tree.now }
+    requires items { AreSolidItems tree.now }
     ensures { IsTrue result ↔ HasSquare (λ p. Has window.now p × ItemCovers Everyone tree.now p) }
 {
     match owner_in(tree, window) {
@@ -53,7 +52,7 @@ pub(crate) fn is_met(tree: &Tree, window: &WideRect) -> bool
 pub(crate) fn has(tree: &Tree, p: Pt) -> bool
     requires x { unsigned_abs p.x ≤ 2 ^ 61 }
     requires y { unsigned_abs p.y ≤ 2 ^ 61 }
-    requires items { AreItemsWithin (farthest + 1) tree.now }
+    requires items { AreSolidItems tree.now }
     ensures { IsTrue result ↔ ItemCovers Everyone tree.now p }
 {
     match owner_at(tree, p) {

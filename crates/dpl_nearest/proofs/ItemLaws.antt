@@ -9,13 +9,12 @@ use Rattle.dpl_spec.specs.declared.Pt.{Pt}
 use Rattle.dpl_spec.specs.declared.Rect.{Rect}
 use Rattle.dpl_spec.specs.Squares.{Region, AreNear, Covers, Has, gap}
 use Rattle.dpl_spec.specs.Slabs.{IsSolid}
-use Rattle.dpl_spec.specs.Loops.{farthest, AreRectsWithin, IsRectWithin}
 use Rattle.dpl_tree.specs.declared.items.Item.{Item}
 use Rattle.dpl_tree.specs.declared.owners.Owners.{Owners}
 use Rattle.dpl_tree.specs.declared.owners.Owners.TheVariants.{All as Everyone, But, Only, Above}
 use Rattle.dpl_tree.specs.Trees.{HasItem, LiesApart, IsLeftOut, IsMissed, ArePassed}
 use Rattle.dpl_tree.specs.Windows.{IsWidened}
-use Rattle.dpl_nearest.specs.Search.{ItemCovers, IsSought, AreItemsWithin, IsLeastNear}
+use Rattle.dpl_nearest.specs.Search.{ItemCovers, IsSought, AreSolidItems, IsLeastNear}
 
 square_up : (m n : ℕ) → m ≤ n → m * m ≤ n * n
 square_up m n a = grind arith
@@ -87,12 +86,10 @@ none-near rule owners r items n all far (p, q, a, (s, k, (item, (j, j_in, is), r
 abbrev pub AreItemsOfRects : List Rect → List Item → Type 0
 AreItemsOfRects rects items = (r : Rect) (k : ℕ) → HasItem items r k ↔ ((k ≡ 0) × Contains rects r)
 
-pub items-within : (rects : List Rect) (items : List Item) → AreItemsOfRects rects items → All IsSolid rects → AreRectsWithin (farthest + 1) rects → AreItemsWithin (farthest + 1) items
-items-within rects items are solid within r k item =
+pub items-solid : (rects : List Rect) (items : List Item) → AreItemsOfRects rects items → All IsSolid rects → AreSolidItems items
+items-solid rects items are solid r k item =
     let (zero, (m, m_in, is)) = (are r k).0 item in
-    let s : IsSolid r = subst (λ u. IsSolid u) is (solid m r m_in) in
-    let w : IsRectWithin (farthest + 1) r = within r (m, m_in, is) in
-    record { wide = s.wide; tall = s.tall; left = w.left; right = w.right; low = w.low; high = w.high }
+    subst (λ u. IsSolid u) is (solid m r m_in)
 
 pub items-cover : (rects : List Rect) (items : List Item) → AreItemsOfRects rects items → (p : Pt) → ItemCovers Everyone items p → Covers rects p
 items-cover rects items are p (r, k, item, sought, h) = let (zero, (m, m_in, is)) = (are r k).0 item in (m, r, m_in, is, h)

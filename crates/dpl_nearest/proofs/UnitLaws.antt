@@ -1,14 +1,15 @@
 -- The nearest pair, by the least near squares of either set.
-use Rattle.std.proofs.Common.{◌≡◌, ℕ, ◌*◌, ◌<◌, ◌≤◌, ◌+◌, inl, inr, sym, refl, ◌∙◌, subst, arith, List, [], ◌∷◌, length, get_or}
+use Rattle.std.proofs.Common.{◌≡◌, ℕ, ◌*◌, ◌<◌, ◌≤◌, inl, inr, sym, refl, subst, arith, List, [], ◌∷◌, length, get_or}
 use Rattle.std.specs.Prelude.{pos, unsigned_abs, ◌+ℤ◌, ◌≤ℤ◌, ◌<ℤ◌}
-use Rattle.std.proofs.lemmas.Int.{ints}
+use Rattle.std.specs.Int.{w32}
+use Rattle.std.proofs.lemmas.Int.{fits_signed_from_abs, ints}
 use Rattle.dpl_spec.specs.declared.Pt.{Pt}
 use Rattle.dpl_spec.specs.declared.Rect.{Rect}
 use Rattle.dpl_spec.specs.Squares.{Region, Has, Covers, IsLeast, AreNear, d2}
 use Rattle.dpl_spec.specs.Loops.{IsRectWithin, AreRectsWithin, farthest}
 use Rattle.dpl_spec.proofs.SquareLaws.{d2-sym}
 use Rattle.dpl_nearest.specs.Nearest.{IsNearestPair}
-use Rattle.dpl_nearest.specs.Search.{near_part, unit_of}
+use Rattle.dpl_nearest.specs.Search.{FitsIn32Bits, near_part, unit_of}
 use Rattle.dpl_nearest.proofs.NearLaws.{same_square}
 
 -- the only rectangle of a list of one
@@ -35,20 +36,19 @@ covers_only p u q e (k, r, k_in, k_is, h) =
 covers_self : (p : Pt) (u : Rect) → u ≡ unit_of p → Covers (u ∷ []) p
 covers_self p u e = (0, u, omega arith, refl, subst (λ (v : Rect). Has v p) (sym e) (unit_self p))
 
-unit_range : (p : Pt) (r : Rect) → Has r p → IsRectWithin farthest r → IsRectWithin (farthest + 1) (unit_of p)
-unit_range p r h w = record {
-  left = omega (arith, ints);
-  low = omega (arith, ints);
-  right = let t : unsigned_abs (p.x +ℤ pos 1) ≤ farthest + 1 = omega (arith, ints) in t;
-  high = let t : unsigned_abs (p.y +ℤ pos 1) ≤ farthest + 1 = omega (arith, ints) in t;
+-- a square within range fits in a rectangle
+pub unit_fits : (p : Pt) → unsigned_abs p.x ≤ farthest → unsigned_abs p.y ≤ farthest → FitsIn32Bits (unit_of p)
+unit_fits p x y = record {
+  left = fits_signed_from_abs w32 p.x (omega (arith, x));
+  right = fits_signed_from_abs w32 (p.x +ℤ pos 1) (omega (arith, ints, x));
+  low = fits_signed_from_abs w32 p.y (omega (arith, y));
+  high = fits_signed_from_abs w32 (p.y +ℤ pos 1) (omega (arith, ints, y));
 }
 
--- a square of rectangles within range, as a rectangle
-pub unit_within : (rs : List Rect) (p : Pt) (u : Rect) → AreRectsWithin farthest rs → Covers rs p → u ≡ unit_of p → AreRectsWithin (farthest + 1) (u ∷ [])
-unit_within rs p u within (k, r, k_in, k_is, h) e s (j, j_in, j_is) =
-    let is : u ≡ s = only_rect (λ (v : Rect). v ≡ s) u j s j_in j_is in
+pub covered_fits : (rs : List Rect) (p : Pt) → AreRectsWithin farthest rs → Covers rs p → FitsIn32Bits (unit_of p)
+covered_fits rs p within (k, r, k_in, k_is, h) =
     let r_in : IsRectWithin farthest r = within r (k, k_in, k_is) in
-    subst (λ (v : Rect). IsRectWithin (farthest + 1) v) (sym e ∙ is) (unit_range p r h r_in)
+    unit_fits p (omega (arith, ints, r_in.left, r_in.right, h.left, h.right)) (omega (arith, ints, r_in.low, r_in.high, h.low, h.high))
 
 -- the square that a least near one is near
 pub has_partner : (rule : ℕ) (a b : Region) (p : Pt) (u : Rect) → u ≡ unit_of p → IsLeast (near_part rule a b) p → AreNear rule b (Covers (u ∷ []))

@@ -1,12 +1,14 @@
 -- The search for the least square of a set that is near another.
-use Rattle.std.specs.Prelude.{◌≡◌, ◌≢◌, ℕ, ◌*◌, ◌<◌, ◌⊎◌, ℤ, ◌+ℤ◌, pos, List, Option, Some, None, length, slice_index_or}
+use Rattle.std.specs.Prelude.{◌≡◌, ◌≢◌, ℕ, ◌*◌, ◌<◌, ◌⊎◌, ℤ, ◌+ℤ◌, pos, FitsSigned, List, Option, Some, None, length, slice_index_or}
+use Rattle.std.specs.Int.{w32}
 use Rattle.dpl_spec.specs.declared.Pt.{Pt}
 use Rattle.dpl_spec.specs.declared.Rect.{Rect}
 use Rattle.dpl_tree.specs.declared.items.Item.{Item}
 use Rattle.dpl_tree.specs.declared.owners.Owners.{Owners}
 use Rattle.dpl_tree.specs.declared.owners.Owners.TheVariants.{All, But, Only, Above}
 use Rattle.dpl_tree.specs.Trees.{HasItem}
-use Rattle.dpl_spec.specs.Squares.{Region, IsSolidWithin, Has, AreNear, IsLeast, Precedes, d2}
+use Rattle.dpl_spec.specs.Slabs.{IsSolid}
+use Rattle.dpl_spec.specs.Squares.{Region, Has, AreNear, IsLeast, Precedes, d2}
 
 -- the squares of a that are closer than rule to some square of b
 abbrev pub near_part : ℕ → Region → Region → Region
@@ -29,6 +31,13 @@ column_at r x = record r { x0 = x; x1 = x +ℤ pos 1 }
 -- the rectangle of one square
 abbrev pub unit_of : Pt → Rect
 unit_of p = record { x0 = p.x; y0 = p.y; x1 = p.x +ℤ pos 1; y1 = p.y +ℤ pos 1 }
+
+-- the corners of a rectangle have 32 bits a coordinate: each lies from -2^31 up to but not 2^31
+pub record FitsIn32Bits (r : Rect) : Type 0 where
+  pub left : FitsSigned w32 r.x0
+  pub right : FitsSigned w32 r.x1
+  pub low : FitsSigned w32 r.y0
+  pub high : FitsSigned w32 r.y1
 
 -- the least square of a set that is near another, if there is one
 abbrev pub IsLeastNear : ℕ → Region → Region → Option Pt → Type 0
@@ -62,5 +71,6 @@ IsSought (Above j) k = j < k
 abbrev pub ItemCovers : Owners → List Item → Region
 ItemCovers owners items p = (r : Rect) × (k : ℕ) × HasItem items r k × IsSought owners k × Has r p
 
-abbrev pub AreItemsWithin : ℕ → List Item → Type 0
-AreItemsWithin bound items = (r : Rect) (k : ℕ) → HasItem items r k → IsSolidWithin bound r
+-- each rectangle of a search tree has some square
+abbrev pub AreSolidItems : List Item → Type 0
+AreSolidItems items = (r : Rect) (k : ℕ) → HasItem items r k → IsSolid r

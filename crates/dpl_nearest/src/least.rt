@@ -1,5 +1,5 @@
 //! The least square of rectangles that is near others.
-ghost use Rattle.std.specs.Prelude.{◌≡◌, ℕ, ◌⊎◌, ◌+◌, ◌↔◌, IfOk};
+ghost use Rattle.std.specs.Prelude.{◌≡◌, ℕ, ◌⊎◌, ◌↔◌, IfOk};
 ghost use Rattle.std.specs.List.{All, Contains};
 ghost use Rattle.dpl_spec.specs.Loops.{AreRectsWithin, IsRectWithin, farthest};
 ghost use Rattle.dpl_spec.specs.Slabs.{IsSolid};
@@ -7,7 +7,7 @@ ghost use Rattle.dpl_spec.specs.Squares.{Covers, Has, Precedes};
 ghost use Rattle.dpl_spec.specs.declared.Rect.{Rect};
 ghost use Rattle.dpl_tree.specs.Trees.{HasItem};
 ghost use Rattle.dpl_tree.specs.declared.owners.Owners.TheVariants.{All as Everyone};
-ghost use Rattle.dpl_nearest.specs.Search.{AreItemsWithin, IsLeastNear, ItemCovers, IsLowered, IsImproved};
+ghost use Rattle.dpl_nearest.specs.Search.{AreSolidItems, IsLeastNear, ItemCovers, IsLowered, IsImproved};
 
 use crate::rects::least_of;
 use dpl_base::{Pt, Rect};
@@ -34,7 +34,7 @@ fn lesser(p: Pt, q: Pt) -> Pt
 fn lowered(p: Pt, r: &Rect, others: &Tree, owners: Owners, rule: u32) -> Pt
     requires solid { IsSolid r.now }
     requires within { IsRectWithin farthest r.now }
-    requires others { AreItemsWithin (farthest + 1) others.now }
+    requires others { AreSolidItems others.now }
     ensures { IsLowered rule (Has r.now) (ItemCovers owners others.now) p result }
 {
     if p.y < r.y0 as i64 {
@@ -50,7 +50,7 @@ fn lowered(p: Pt, r: &Rect, others: &Tree, owners: Owners, rule: u32) -> Pt
 pub fn improved(best: Option<Pt>, r: &Rect, others: &Tree, owners: Owners, rule: u32) -> Option<Pt>
     requires solid { IsSolid r.now }
     requires within { IsRectWithin farthest r.now }
-    requires others { AreItemsWithin (farthest + 1) others.now }
+    requires others { AreSolidItems others.now }
     ensures { IsImproved rule (Has r.now) (ItemCovers owners others.now) best result }
 {
     match best {
@@ -63,7 +63,7 @@ pub fn improved(best: Option<Pt>, r: &Rect, others: &Tree, owners: Owners, rule:
 fn least_in_tree(rects: &[Rect], others: &Tree, rule: u32) -> Option<Pt>
     requires solid { All IsSolid rects.now }
     requires within { AreRectsWithin farthest rects.now }
-    requires others { AreItemsWithin (farthest + 1) others.now }
+    requires others { AreSolidItems others.now }
     ensures { IsLeastNear rule (Covers rects.now) (ItemCovers Everyone others.now) result }
 {
     let mut best = None;
@@ -93,7 +93,6 @@ pub(crate) fn least_near(
     requires solid { All IsSolid rects.now }
     requires within { AreRectsWithin farthest rects.now }
     requires others_solid { All IsSolid others.now }
-    requires others_within { AreRectsWithin (farthest + 1) others.now }
     ensures { IfOk result (λ found. IsLeastNear rule (Covers rects.now) (Covers others.now) found) }
 {
     let tree = tree_of(alloc, others)?;

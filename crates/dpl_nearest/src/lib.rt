@@ -34,7 +34,10 @@ pub fn nearest(
     let Some(from) = least_near(alloc, a, b, rule)? else {
         return Ok(None);
     };
-    let Some(to) = least_near(alloc, b, &[unit(from)], rule)? else {
+    let Some(square) = unit(from) else {
+        unreachable!()
+    };
+    let Some(to) = least_near(alloc, b, &[square], rule)? else {
         return Ok(None);
     };
     Ok(Some((from, to)))

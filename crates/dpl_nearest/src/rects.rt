@@ -1,27 +1,23 @@
 //! Parts of a rectangle that are near the rectangles of a search tree, or of some owners there.
-ghost use Rattle.std.specs.Prelude.{◌≡◌, ◌≤◌, ◌<◌, ◌+◌, ◌^◌, ◌≤ℤ◌, ◌<ℤ◌, ◌+ℤ◌, pos, ◌↔◌, IsTrue, unsigned_abs};
+ghost use Rattle.std.specs.Prelude.{◌≡◌, ◌≤◌, ◌^◌, ◌≤ℤ◌, ◌<ℤ◌, ◌+ℤ◌, pos, ◌↔◌, IsTrue, IsNone, IfSome, unsigned_abs};
 ghost use Rattle.dpl_spec.specs.Loops.{IsRectWithin, farthest};
 ghost use Rattle.dpl_spec.specs.Slabs.{IsSolid};
 ghost use Rattle.dpl_spec.specs.Squares.{AreNear, Has};
-ghost use Rattle.dpl_nearest.specs.Search.{AreItemsWithin, IsLeastNear, ItemCovers, column_at, columns_left, row_at, rows_below, unit_of};
+ghost use Rattle.dpl_nearest.specs.Search.{AreSolidItems, FitsIn32Bits, IsLeastNear, ItemCovers, column_at, columns_left, row_at, rows_below, unit_of};
 
 use dpl_base::{Pt, Rect, WideRect, near};
 use dpl_tree::{Owners, Tree, widened};
 
-/// The rectangle of one square.
-pub fn unit(p: Pt) -> Rect
-    requires x { unsigned_abs p.x ≤ farthest }
-    requires y { unsigned_abs p.y ≤ farthest }
-    ensures { result ≡ unit_of p }
+/// The rectangle of one square, where its corners fit in one: none where a corner's column or row, in database units, doesn't fit in 32 bits.
+pub fn unit(p: Pt) -> Option<Rect>
+    ensures some { IfSome result (λ r. r ≡ unit_of p) }
+    ensures none { IsNone result → ¬ FitsIn32Bits (unit_of p) }
 {
-    let x0 = p.x as i32;
-    let y0 = p.y as i32;
-    Rect {
-        x0,
-        y0,
-        x1: x0 + 1,
-        y1: y0 + 1,
-    }
+    let x0 = i32::try_from(p.x).ok()?;
+    let y0 = i32::try_from(p.y).ok()?;
+    let x1 = x0.checked_add(1)?;
+    let y1 = y0.checked_add(1)?;
+    Some(Rect { x0, y0, x1, y1 })
 }
 
 /// The window of one square.
@@ -74,7 +70,7 @@ fn halfway(low: i32, high: i32) -> i32
 fn near_any(r: &Rect, others: &Tree, owners: Owners, rule: u32) -> bool
     requires solid { IsSolid r.now }
     requires within { IsRectWithin farthest r.now }
-    requires others { AreItemsWithin (farthest + 1) others.now }
+    requires others { AreSolidItems others.now }
     ensures { IsTrue result ↔ AreNear rule (Has r.now) (ItemCovers owners others.now) }
 {
     let window = widened(r, rule);
@@ -94,7 +90,7 @@ fn near_below(r: &Rect, y: i32, others: &Tree, owners: Owners, rule: u32) -> boo
     requires within { IsRectWithin farthest r.now }
     requires low { r.now.y0 <ℤ y }
     requires high { y <ℤ r.now.y1 }
-    requires others { AreItemsWithin (farthest + 1) others.now }
+    requires others { AreSolidItems others.now }
     ensures { IsTrue result ↔ AreNear rule (Has (rows_below r.now y)) (ItemCovers owners others.now) }
 {
     let part = below(r, y);
@@ -107,7 +103,7 @@ fn near_left(r: &Rect, x: i32, others: &Tree, owners: Owners, rule: u32) -> bool
     requires within { IsRectWithin farthest r.now }
     requires low { r.now.x0 <ℤ x }
     requires high { x <ℤ r.now.x1 }
-    requires others { AreItemsWithin (farthest + 1) others.now }
+    requires others { AreSolidItems others.now }
     ensures { IsTrue result ↔ AreNear rule (Has (columns_left r.now x)) (ItemCovers owners others.now) }
 {
     let part = left(r, x);
@@ -118,7 +114,7 @@ fn near_left(r: &Rect, x: i32, others: &Tree, owners: Owners, rule: u32) -> bool
 fn first_row(r: &Rect, others: &Tree, owners: Owners, rule: u32) -> i32
     requires solid { IsSolid r.now }
     requires within { IsRectWithin farthest r.now }
-    requires others { AreItemsWithin (farthest + 1) others.now }
+    requires others { AreSolidItems others.now }
     requires near { AreNear rule (Has r.now) (ItemCovers owners others.now) }
     ensures low { r.now.y0 ≤ℤ result }
     ensures high { result <ℤ r.now.y1 }
@@ -142,7 +138,7 @@ fn first_row(r: &Rect, others: &Tree, owners: Owners, rule: u32) -> i32
 fn first_column(r: &Rect, others: &Tree, owners: Owners, rule: u32) -> i32
     requires solid { IsSolid r.now }
     requires within { IsRectWithin farthest r.now }
-    requires others { AreItemsWithin (farthest + 1) others.now }
+    requires others { AreSolidItems others.now }
     requires near { AreNear rule (Has r.now) (ItemCovers owners others.now) }
     ensures low { r.now.x0 ≤ℤ result }
     ensures high { result <ℤ r.now.x1 }
@@ -166,7 +162,7 @@ fn first_column(r: &Rect, others: &Tree, owners: Owners, rule: u32) -> i32
 pub(crate) fn least_of(r: &Rect, others: &Tree, owners: Owners, rule: u32) -> Option<Pt>
     requires solid { IsSolid r.now }
     requires within { IsRectWithin farthest r.now }
-    requires others { AreItemsWithin (farthest + 1) others.now }
+    requires others { AreSolidItems others.now }
     ensures { IsLeastNear rule (Has r.now) (ItemCovers owners others.now) result }
 {
     if !near_any(r, others, owners, rule) {

@@ -1,20 +1,24 @@
+use Rattle.std.proofs.Common.{rules}
 use Rattle.dpl_spec.specs.Squares.{Covers}
-use Rattle.dpl_nearest.proofs.UnitLaws.{unit_within, has_partner, nearest_pair}
+use Rattle.dpl_nearest.proofs.UnitLaws.{covered_fits, has_partner, nearest_pair}
 use Rattle.dpl_nearest.proofs.nearest.Goals as goal
 
-pub least_near-requires-2-clause-others_within : goal.least_near-requires-2-clause-others_within
-least_near-requires-2-clause-others_within c =
+pub unreachable-requires : goal.unreachable-requires
+unreachable-requires c =
     let from = rw c.in-Some.is at c.in_ok-from.ensures in
-    unit_within c.args.a.now c.in-Some.from c.unit.result c.requires.within_a from.inside.0 c.unit.ensures
+    let none = rw c.in_default-unit.is at c.unit.ensures.none in
+    none (search rules) (covered_fits c.args.a.now c.in-Some.from c.requires.within_a from.inside.0)
 
 pub returns-in_default-2-clause-none : goal.returns-in_default-2-clause-none
 returns-in_default-2-clause-none c =
     let from = rw c.in-Some.is at c.in_ok-from.ensures in
+    let square = rw c.in-Some-unit.is at c.unit.ensures.some in
     let none = rw c.in_default-2.is at c.in_ok-to.ensures in
-    absurd (none (has_partner c.args.rule (Covers c.args.a.now) (Covers c.args.b.now) c.in-Some.from c.unit.result c.unit.ensures from))
+    absurd (none (has_partner c.args.rule (Covers c.args.a.now) (Covers c.args.b.now) c.in-Some.from c.in-Some-unit.square square from))
 
 pub returns-clause-some : goal.returns-clause-some
 returns-clause-some c =
     let from = rw c.in-Some.is at c.in_ok-from.ensures in
+    let square = rw c.in-Some-unit.is at c.unit.ensures.some in
     let to = rw c.in-Some-2.is at c.in_ok-to.ensures in
-    nearest_pair c.args.rule (Covers c.args.a.now) (Covers c.args.b.now) c.in-Some.from c.in-Some-2.to c.unit.result c.unit.ensures from to
+    nearest_pair c.args.rule (Covers c.args.a.now) (Covers c.args.b.now) c.in-Some.from c.in-Some-2.to c.in-Some-unit.square square from to

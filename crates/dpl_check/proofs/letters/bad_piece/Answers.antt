@@ -6,10 +6,10 @@ use Rattle.dpl_check.proofs.Stitches.{off-bad, slab-items}
 use Rattle.dpl_check.proofs.letters.bad_piece.Goals as goal
 
 pub first_off-requires-clause-items_a : goal.first_off-requires-clause-items_a
-first_off-requires-clause-items_a c = slab-items c.args.a.now c.rects.result.now c.in_ok-on_a.on_a c.rects.ensures.value c.rects.ensures.canonical c.rects.ensures.within c.in_ok-on_a.ensures
+first_off-requires-clause-items_a c = slab-items c.args.a.now c.rects.result.now c.in_ok-on_a.on_a c.rects.ensures.value c.rects.ensures.canonical c.in_ok-on_a.ensures
 
 pub first_off-requires-clause-items_b : goal.first_off-requires-clause-items_b
-first_off-requires-clause-items_b c = slab-items c.args.b.now c.rects-2.result.now c.in_ok-on_b.on_b c.rects-2.ensures.value c.rects-2.ensures.canonical c.rects-2.ensures.within c.in_ok-on_b.ensures
+first_off-requires-clause-items_b c = slab-items c.args.b.now c.rects-2.result.now c.in_ok-on_b.on_b c.rects-2.ensures.value c.rects-2.ensures.canonical c.in_ok-on_b.ensures
 
 pub returns : goal.returns
 returns c =

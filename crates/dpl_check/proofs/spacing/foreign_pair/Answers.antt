@@ -1,9 +1,9 @@
 use Rattle.std.proofs.Common.{length, arith, rules}
-use Rattle.dpl_check.proofs.Owning.{owned-within, single-within, foreign-within, none-foreign, foreign-covered, some-second, least-foreign}
+use Rattle.dpl_check.proofs.Owning.{owned-solid, single-solid, foreign-within, none-foreign, foreign-covered, some-second, least-foreign}
 use Rattle.dpl_check.proofs.spacing.foreign_pair.Goals as goal
 
 pub first_foreign-requires-clause-items : goal.first_foreign-requires-clause-items
-first_foreign-requires-clause-items c = owned-within c.args.rects.now c.args.owners.now c.in_ok-tree.tree c.in_ok-tree.ensures c.requires.solid c.requires.within
+first_foreign-requires-clause-items c = owned-solid c.args.rects.now c.args.owners.now c.in_ok-tree.tree c.in_ok-tree.ensures c.requires.solid
 
 pub returns-in_default : goal.returns-in_default
 returns-in_default c = none-foreign c.args.rule c.args.rects.now c.args.owners.now c.in_ok-tree.tree c.in_ok-tree.ensures (rw c.in_default.is at c.first_foreign.ensures)
@@ -21,7 +21,7 @@ owner_at-requires-clause-y c =
     omega (arith, near)
 
 pub owner_at-requires-clause-items : goal.owner_at-requires-clause-items
-owner_at-requires-clause-items c = owned-within c.args.rects.now c.args.owners.now c.in_ok-tree.tree c.in_ok-tree.ensures c.requires.solid c.requires.within
+owner_at-requires-clause-items c = owned-solid c.args.rects.now c.args.owners.now c.in_ok-tree.tree c.in_ok-tree.ensures c.requires.solid
 
 pub unreachable-requires : goal.unreachable-requires
 unreachable-requires c =
@@ -42,10 +42,7 @@ single_tree-requires-clause-y c =
     omega (arith, near)
 
 pub first_foreign-requires-2-clause-items : goal.first_foreign-requires-2-clause-items
-first_foreign-requires-2-clause-items c =
-    let first = rw c.in-Some.is at c.first_foreign.ensures in
-    let near = foreign-within c.args.rule c.args.rects.now c.args.owners.now c.in_ok-tree.tree (length c.args.rects.now) c.in-Some.first c.requires.within first.inside in
-    single-within c.in-Some.first c.in-Some-owner_at.owner c.in_ok-single.single c.in_ok-single.ensures near.0 near.1
+first_foreign-requires-2-clause-items c = single-solid c.in-Some.first c.in-Some-owner_at.owner c.in_ok-single.single c.in_ok-single.ensures
 
 pub unreachable-requires-in_default-first_foreign : goal.unreachable-requires-in_default-first_foreign
 unreachable-requires-in_default-first_foreign c =

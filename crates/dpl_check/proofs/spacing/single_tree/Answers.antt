@@ -1,5 +1,14 @@
+use Rattle.std.proofs.Common.{rules}
+use Rattle.dpl_nearest.proofs.UnitLaws.{unit_fits}
 use Rattle.dpl_check.proofs.Owning.{single-are}
 use Rattle.dpl_check.proofs.spacing.single_tree.Goals as goal
 
+pub unreachable-requires : goal.unreachable-requires
+unreachable-requires c =
+    let none = rw c.in_default.is at c.unit.ensures.none in
+    none (search rules) (unit_fits c.args.p c.requires.x c.requires.y)
+
 pub returns : goal.returns
-returns c = single-are c.args.p c.unit.result c.args.owner _ _ c.in_ok-tree.tree c.unit.ensures c.new-items.ensures c.in_ok-add.ensures c.in_ok-tree.ensures
+returns c =
+    let square = rw c.in-Some.is at c.unit.ensures.some in
+    single-are c.args.p c.in-Some.square c.args.owner _ _ c.in_ok-tree.tree square c.new-items.ensures c.in_ok-add.ensures c.in_ok-tree.ensures

@@ -8,7 +8,7 @@ use Rattle.dpl_check.proofs.Stitches.{wrong-outside, stitch-inside, slab-items}
 use Rattle.dpl_check.proofs.stitch.bad_stitch.Goals as goal
 
 pub first_wrong-requires-clause-items : goal.first_wrong-requires-clause-items
-first_wrong-requires-clause-items c = slab-items c.in_ok-off.off c.rects-2.result.now c.in_ok-tree.tree c.rects-2.ensures.value c.rects-2.ensures.canonical c.rects-2.ensures.within c.in_ok-tree.ensures
+first_wrong-requires-clause-items c = slab-items c.in_ok-off.off c.rects-2.result.now c.in_ok-tree.tree c.rects-2.ensures.value c.rects-2.ensures.canonical c.in_ok-tree.ensures
 
 pub returns : goal.returns
 returns c =

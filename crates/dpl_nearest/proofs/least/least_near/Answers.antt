@@ -1,11 +1,11 @@
 use Rattle.dpl_spec.specs.Squares.{Covers}
 use Rattle.dpl_tree.specs.declared.owners.Owners.TheVariants.{All as Everyone}
 use Rattle.dpl_nearest.specs.Search.{ItemCovers}
-use Rattle.dpl_nearest.proofs.ItemLaws.{items-within, items-cover, covers-items, least-beside}
+use Rattle.dpl_nearest.proofs.ItemLaws.{items-solid, items-cover, covers-items, least-beside}
 use Rattle.dpl_nearest.proofs.least.least_near.Goals as goal
 
 pub least_in_tree-requires-clause-others : goal.least_in_tree-requires-clause-others
-least_in_tree-requires-clause-others c = items-within c.args.others.now c.in_ok-tree.tree c.in_ok-tree.ensures c.requires.others_solid c.requires.others_within
+least_in_tree-requires-clause-others c = items-solid c.args.others.now c.in_ok-tree.tree c.in_ok-tree.ensures c.requires.others_solid
 
 pub returns : goal.returns
 returns c = least-beside c.args.rule (Covers c.args.rects.now) (ItemCovers Everyone c.in_ok-tree.tree) (Covers c.args.others.now) c.least_in_tree.result

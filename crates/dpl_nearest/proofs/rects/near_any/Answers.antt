@@ -1,4 +1,5 @@
-use Rattle.std.proofs.Common.{◌<◌, length, refl, arith, inr}
+use Rattle.std.proofs.Common.{◌<◌, length, refl, arith, inr, rules, FitsSigned, w32}
+use Rattle.std.proofs.lemmas.Int.{ints}
 use Rattle.std.proofs.lemmas.Bool.{false≢true}
 use Rattle.dpl_tree.proofs.ItemLaws.{item-is}
 use Rattle.dpl_nearest.proofs.ItemLaws.{far-first, far-more, found-sought, item-near, none-near}
@@ -14,7 +15,11 @@ pub near-requires-clause-solid_b : goal.near-requires-clause-solid_b
 near-requires-clause-solid_b c =
     let inside : c.loop-n.n < length c.args.others.now = rw c.count.ensures at c.loop-n-test.true in
     let solid = c.requires.others _ _ (item-is c.args.others.now c.loop-n.n c.item.result inside c.item.ensures) in
-    record { wide = solid.wide; tall = solid.tall; left = omega (arith, solid.left); right = omega (arith, solid.right); low = omega (arith, solid.low); high = omega (arith, solid.high) }
+    let left : FitsSigned w32 c.item.result.rect.x0 = search rules in
+    let right : FitsSigned w32 c.item.result.rect.x1 = search rules in
+    let low : FitsSigned w32 c.item.result.rect.y0 = search rules in
+    let high : FitsSigned w32 c.item.result.rect.y1 = search rules in
+    record { wide = solid.wide; tall = solid.tall; left = omega (arith, ints, left.sfits); right = omega (arith, ints, right.sfits); low = omega (arith, ints, low.sfits); high = omega (arith, ints, high.sfits) }
 
 pub loop-n-preserved : goal.loop-n-preserved
 loop-n-preserved c =
