@@ -8,7 +8,7 @@ ghost use Rattle.dpl_nearest.specs.Search.{AreSolidItems, FitsIn32Bits, IsLeastN
 use dpl_base::{Pt, Rect, WideRect, near};
 use dpl_tree::{Owners, Tree, widened};
 
-/// The rectangle of one square, where its corners fit in one: none where a corner's column or row, in database units, doesn't fit in 32 bits.
+/// The rectangle of one square; none where the column or the row of one of its corners, in database units, doesn't fit in 32 bits.
 pub fn unit(p: Pt) -> Option<Rect>
     ensures some { IfSome result (λ r. r ≡ unit_of p) }
     ensures none { IsNone result → ¬ FitsIn32Bits (unit_of p) }

@@ -15,7 +15,7 @@ use Rattle.dpl_sweep.specs.declared.edge.Edge.{Edge}
 use Rattle.dpl_sweep.specs.declared.edge.Rule.{Rule}
 use Rattle.dpl_sweep.specs.declared.edge.Rule.TheVariants.{Either}
 use Rattle.dpl_sweep.specs.Edges.{Told, part, sum_left, change_a, change_b}
-use Rattle.dpl_sweep.specs.Passes.{AreUnitEdges, IsClosed}
+use Rattle.dpl_sweep.specs.Passes.{IsClosed, IsUnitEdge}
 use Rattle.dpl_sweep.proofs.EdgeLaws.{none-told, sum_left-push, part-before, part-off}
 use Rattle.dpl_spec.specs.Loops.{farthest, step, steps, winding, LoopCovers, SomeLoopCovers, IsPointWithin, AreRectsWithin}
 use Rattle.dpl_slabs.specs.Loops.{above, IsEdgeWithin, AreEdgesWithin, AddsStep, AreStepsOf, AreEdgesOf, SomeFirstCovers}
@@ -44,25 +44,26 @@ step-left p q s left =
 pub step-level : (p q s : Pt) → p.y ≡ q.y → step p q s ≡ pos 0
 step-level p q s e = by_lt_z s.y p.y (λ a. grind (arith, ints, a, e)) (λ a. grind (arith, ints, a, e))
 
-adds-edge : (es : List Edge) (e : Edge) (p q : Pt) → ((s : Pt) → part change_a e s ≡ step p q s) → e.x ≡ p.x → e.b ≡ pos 0 → ((bound : ℕ) → IsPointWithin bound p → IsPointWithin bound q → IsEdgeWithin bound e) → AddsStep es (es ++ e ∷ []) p q
-adds-edge es e p q sums x b fits =
+adds-edge : (es : List Edge) (e : Edge) (p q : Pt) → ((s : Pt) → part change_a e s ≡ step p q s) → e.x ≡ p.x → e.b ≡ pos 0 → IsUnitEdge e → ((bound : ℕ) → IsPointWithin bound p → IsPointWithin bound q → IsEdgeWithin bound e) → AddsStep es (es ++ e ∷ []) p q
+adds-edge es e p q sums x b unit fits =
     record {
       sums_a = λ s. (let h = sum_left-push change_a es e s in let k = sums s in omega (arith, ints, h, k));
       sums_b = λ s. (let h = sum_left-push change_b es e s in let k = part-zero e s b in omega (arith, ints, h, k));
       within = λ bound v w h f f_in. elim (Contains-push_cases es e f f_in) [ inl old ↦ h f old | inr same ↦ subst (IsEdgeWithin bound) same (fits bound v w) ];
+      units = λ h f f_in. elim (Contains-push_cases es e f f_in) [ inl old ↦ h f old | inr same ↦ subst IsUnitEdge same unit ];
       keeps = λ f h. Contains-append_left es (e ∷ []) f h;
       level = λ s left. (let l = left e (Contains-push es e) in step-left p q s (omega (arith, ints, l, x)));
     }
 
 pub adds-up : (es : List Edge) (e : Edge) (p q : Pt) → p.y <ℤ q.y → e.x ≡ p.x → e.y0 ≡ p.y → e.y1 ≡ q.y → e.a ≡ pos 1 → e.b ≡ pos 0 → AddsStep es (es ++ e ∷ []) p q
 adds-up es e p q up x y0 y1 a b =
-    adds-edge es e p q (λ s. part-up e p q s up x y0 y1 a) x b
-    (λ bound v w. (let vx = v.column in let vy = v.row in let wy = w.row in record { column = omega (arith, ints, vx, x); low = omega (arith, ints, vy, y0); high = omega (arith, ints, wy, y1); unit = record { a = omega (arith, ints, a); b = omega (arith, ints, b) } }))
+    adds-edge es e p q (λ s. part-up e p q s up x y0 y1 a) x b (record { a = omega (arith, ints, a); b = omega (arith, ints, b) })
+    (λ bound v w. (let vx = v.column in let vy = v.row in let wy = w.row in record { column = omega (arith, ints, vx, x); low = omega (arith, ints, vy, y0); high = omega (arith, ints, wy, y1) }))
 
 pub adds-down : (es : List Edge) (e : Edge) (p q : Pt) → q.y <ℤ p.y → e.x ≡ p.x → e.y0 ≡ q.y → e.y1 ≡ p.y → e.a ≡ negsuc 0 → e.b ≡ pos 0 → AddsStep es (es ++ e ∷ []) p q
 adds-down es e p q down x y0 y1 a b =
-    adds-edge es e p q (λ s. part-down e p q s down x y0 y1 a) x b
-    (λ bound v w. (let vx = v.column in let vy = v.row in let wy = w.row in record { column = omega (arith, ints, vx, x); low = omega (arith, ints, wy, y0); high = omega (arith, ints, vy, y1); unit = record { a = omega (arith, ints, a); b = omega (arith, ints, b) } }))
+    adds-edge es e p q (λ s. part-down e p q s down x y0 y1 a) x b (record { a = omega (arith, ints, a); b = omega (arith, ints, b) })
+    (λ bound v w. (let vx = v.column in let vy = v.row in let wy = w.row in record { column = omega (arith, ints, vx, x); low = omega (arith, ints, wy, y0); high = omega (arith, ints, vy, y1) }))
 
 pub steps-next : (ps : List Pt) (n m : ℕ) (es fs : List Edge) (p q : Pt) → m ≡ n + 1 → m < length ps → p ≡ get_or ps n p → q ≡ get_or ps m q → AreStepsOf ps n es → AddsStep es fs p q → AreStepsOf ps m fs
 steps-next ps n m es fs p q m_is m_in p_is q_is h a =
@@ -76,6 +77,7 @@ steps-next ps n m es fs p q m_is m_in p_is q_is h a =
       sums_a = λ s. (let x = h.sums_a s in let y = a.sums_a s in let z = more s in omega (arith, ints, x, y, z));
       sums_b = λ s. (let x = h.sums_b s in let y = a.sums_b s in omega (arith, ints, x, y));
       within = λ bound w. a.within bound (w p p_in) (w q q_in) (h.within bound w);
+      units = a.units h.units;
       level = λ s left. (
           let x = h.level s (λ e e_in. left e (a.keeps e e_in)) in
           let y = a.level s left in
@@ -96,6 +98,7 @@ edges-closed ps n es fs p q n_is some p_is q_is h a =
       sums_a = λ s. (let x = h.sums_a s in let y = a.sums_a s in let z = more s in omega (arith, ints, x, y, z));
       sums_b = λ s. (let x = h.sums_b s in let y = a.sums_b s in omega (arith, ints, x, y));
       within = λ bound w. a.within bound (w p p_in) (w q q_in) (h.within bound w);
+      units = a.units h.units;
       level = λ s left. (
           let x = h.level s (λ e e_in. left e (a.keeps e e_in)) in
           let y = a.level s left in
@@ -111,6 +114,7 @@ edges-none [] none =
       sums_a = λ s. (let h = step-level s s s refl in sym (omega (arith, ints, h)));
       sums_b = λ s. refl;
       within = λ bound w e e_in. absurd (Contains-nil e e_in);
+      units = λ e e_in. absurd (Contains-nil e e_in);
       level = λ s left. (let h = step-level s s s refl in omega (arith, ints, h));
     }
 edges-none (p ∷ ps) none = absurd (omega (arith, none))
@@ -123,9 +127,6 @@ loop-told ps es h s =
 
 pub loop-closed : (ps : List Pt) (es : List Edge) → AreEdgesOf ps es → IsClosed Either es
 loop-closed ps es h p left told = told (h.sums_a p ∙ h.level p left) (h.sums_b p)
-
-pub edges-units : (bound : ℕ) (es : List Edge) → AreEdgesWithin bound es → AreUnitEdges es
-edges-units bound es w e e_in = let h : IsEdgeWithin bound e = w e e_in in h.unit
 
 -- where no edge stands left of the square beside its row, the sum is 0
 sum-none : (change : Edge → ℤ) (es : List Edge) (p : Pt) → ((e : Edge) → Contains es e → (p.x <ℤ e.x) ⊎ ((p.y <ℤ e.y0) ⊎ (e.y1 ≤ℤ p.y))) → sum_left change es p ≡ pos 0

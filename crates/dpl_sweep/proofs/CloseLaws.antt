@@ -1,5 +1,5 @@
 -- Runs put down once all edges are passed.
-use Rattle.std.proofs.Common.{◌⊎◌, inl, inr, List, sym, subst, arith}
+use Rattle.std.proofs.Common.{◌≡◌, ◌⊎◌, inl, inr, List, sym, subst, arith}
 use Rattle.std.specs.Prelude.{ℤ, ◌≤ℤ◌, ◌<ℤ◌}
 use Rattle.std.proofs.lemmas.Int.{ints, by_lt_z}
 use Rattle.std.proofs.lemmas.List.Elements.{All-contains}
@@ -9,12 +9,12 @@ use Rattle.dpl_spec.specs.Slabs.{IsSolid}
 use Rattle.dpl_sweep.specs.declared.run.Run.{Run}
 use Rattle.dpl_sweep.specs.declared.bands.Bands.{Bands, One}
 use Rattle.dpl_sweep.specs.Pieces.{EndBefore, Puts}
-use Rattle.dpl_sweep.specs.Runs.{piece_of}
+use Rattle.dpl_sweep.specs.Runs.{PutsRun, piece_of}
 use Rattle.dpl_sweep.specs.Rows.{run_at, ArePartsOf}
 use Rattle.dpl_sweep.specs.Closing.{IsOfRun, PutsDown}
 
 -- a band without a run
-pub put-down-none : (low high : ℤ) (run : Run) (pieces : List Rect) → run.at ≤ℤ run.from → PutsDown low high (One run) pieces pieces
+put-down-none : (low high : ℤ) (run : Run) (pieces : List Rect) → run.at ≤ℤ run.from → PutsDown low high (One run) pieces pieces
 put-down-none low high run pieces none =
     record {
       covers = λ p. (λ h. inl h, λ h. elim h [ inl a ↦ a | inr b ↦ absurd (let f = b.from in let t = b.to in omega (arith, ints, f, t, none)) ]);
@@ -23,7 +23,7 @@ put-down-none low high run pieces none =
     }
 
 -- a band with a run
-pub put-down-one : (low high : ℤ) (run : Run) (old new : List Rect) → low <ℤ high → run.from <ℤ run.at → Puts old new (piece_of run low high) → PutsDown low high (One run) old new
+put-down-one : (low high : ℤ) (run : Run) (old new : List Rect) → low <ℤ high → run.from <ℤ run.at → Puts old new (piece_of run low high) → PutsDown low high (One run) old new
 put-down-one low high run old new up some put =
     record {
       covers = λ p. (
@@ -38,6 +38,13 @@ put-down-one low high run old new up some put =
           (λ m. (let solid : IsSolid r = All-contains IsSolid old r before.solid r_in in ends r.y0 m rows.0 r r_in (omega (arith, ints)) solid.tall)))
           before;
     }
+
+-- one band
+pub put-down-run : (low high : ℤ) (t : Bands) (run : Run) (old new : List Rect) → low <ℤ high → t ≡ One run → PutsRun run low high old new → PutsDown low high t old new
+put-down-run low high t run old new up is put = subst (λ u. PutsDown low high u old new) (sym is) (elim put [
+  | inl (none, same) ↦ subst (PutsDown low high (One run) old) (sym same) (put-down-none low high run old none)
+  | inr (some, piece) ↦ put-down-one low high run old new up some piece
+])
 
 -- the lower rows, then the upper
 module _ (low row high : ℤ) (t b a : Bands) (old mid new : List Rect) (up : low <ℤ row) (on : row <ℤ high) (parts : ArePartsOf t row b a) (first : PutsDown low row b old mid) (second : PutsDown row high a mid new) where

@@ -2,11 +2,11 @@ use Rattle.dpl_sweep.specs.declared.edge.Rule.TheVariants.{Either}
 use Rattle.dpl_sweep.specs.Edges.{Told}
 use Rattle.dpl_spec.specs.Loops.{LoopCovers}
 use Rattle.dpl_slabs.proofs.SetLaws.{slabs-of-same}
-use Rattle.dpl_slabs.proofs.LoopLaws.{edges-units, loop-told, loop-closed, told-inside, slabs-inside}
+use Rattle.dpl_slabs.proofs.LoopLaws.{loop-told, loop-closed, told-inside, slabs-inside}
 use Rattle.dpl_slabs.proofs.loops.slabs_of_loop.Goals as goal
 
 pub slabs_of_edges-requires-clause-units : goal.slabs_of_edges-requires-clause-units
-slabs_of_edges-requires-clause-units c = edges-units 1000000000 _ (c.in_ok-edges.ensures.within 1000000000 c.requires)
+slabs_of_edges-requires-clause-units c = c.in_ok-edges.ensures.units
 
 pub slabs_of_edges-requires-clause-closed : goal.slabs_of_edges-requires-clause-closed
 slabs_of_edges-requires-clause-closed c = loop-closed c.args.points.now _ c.in_ok-edges.ensures
