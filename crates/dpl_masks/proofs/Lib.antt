@@ -1,2 +1,5 @@
 mod Joining
 mod MaskLaws
+pub mod SheetLaws
+pub mod InkLaws
+pub mod RestLaws

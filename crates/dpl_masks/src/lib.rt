@@ -2,6 +2,7 @@
 #![tactic(auto)]
 
 mod bytes;
+mod ink;
 mod painting;
 mod pair;
 

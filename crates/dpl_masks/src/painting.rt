@@ -1,29 +1,40 @@
 //! Which squares lie on which mask.
-ghost use Rattle.std.specs.Prelude.{◌≡◌, ◌<◌, ◌⊎◌, ◌↔◌, ◌++◌, ◌∷◌, [], false, true, map, IfOk, IsTrue, OnOk, length};
+ghost use Rattle.std.specs.Prelude.{◌≡◌, ℕ, ◌<◌, ◌⊎◌, ◌↔◌, ◌++◌, ◌∷◌, [], false, true, map, IfOk, OnOk, length};
 ghost use Rattle.std.specs.List.{All};
 ghost use Rattle.dpl_spec.specs.Loops.{AreRectsWithin, farthest};
 ghost use Rattle.dpl_spec.specs.Squares.{Covers, Has, IsSolidWithin};
+ghost use Rattle.dpl_spec.specs.Slabs.{AreSlabsOf};
 ghost use Rattle.dpl_spec.specs.Colours.{AreStitches, differ};
 ghost use Rattle.dpl_orient.specs.Masks.{is_second};
-ghost use Rattle.dpl_masks.specs.Painting.{Adds, AreMasksOf, AreRectsOn, in_pieces_from, in_zones_from};
+ghost use Rattle.dpl_masks.specs.Inks.{IsMixed};
+ghost use Rattle.dpl_masks.specs.Painting.{Adds, AreMasksOf};
+ghost use Rattle.dpl_masks.specs.Sheets.{AreRest, AreSheets, Puts, PutsOne, PutsUncut, rest_pieces, rest_zones};
 
+use crate::ink::{Ink, inks_of, is_mixed, is_same};
 use crate::pair::Masks;
-use dpl_base::{Id, Rect, Zone, give_back};
+use dpl_base::{Id, Rect, Zone};
 use dpl_orient::{Colours, Mask};
-use dpl_piece::{Cut, Pieces};
-use dpl_slabs::{Parts, Slabs};
+use dpl_piece::{Cut, Pieces, Whole};
+use dpl_slabs::Slabs;
 use std::alloc::{AllocError, Global};
 
-/// The masks of coloured pieces. A piece is on the mask of its letter, and a zone on the masks of both its sides.
+/// The masks of coloured pieces. A piece is on the mask of its letter, and a zone on the masks of both its sides. A feature that lies on one mask is put there as it is; what others have on a mask is united.
 pub fn masks(alloc: Global, pieces: Pieces, colours: &Colours) -> Result<Masks, AllocError>
     requires { length colours.now ≡ length pieces.parts }
     ensures masks { IfOk result (AreMasksOf pieces colours.now) }
     ensures within { IfOk result (λ m. AreRectsWithin farthest m.a × AreRectsWithin farthest m.b) }
 {
-    let rects = rects_of(alloc, pieces.into_cut(), colours.items())?;
-    let Rects { a, b } = rects;
-    let a = Slabs::of_rects(alloc, a)?;
-    let b = Slabs::of_rects(alloc, b)?;
+    let cut = pieces.into_cut();
+    let letters = colours.items();
+    let inks = inks_of(alloc, cut.count, &cut.owners, &cut.wholes, letters)?;
+    let rest = rest_of(alloc, &cut, &inks, letters)?;
+    let Rects { a, b } = rest;
+    let mut a = united(alloc, a)?;
+    let mut b = united(alloc, b)?;
+    add_uncut(&mut a, &mut b, &cut, &inks, letters)?;
+    add_wholes(&mut a, &mut b, &cut, &inks, letters)?;
+    let a = Slabs::of_scattered(a);
+    let b = Slabs::of_scattered(b);
     Ok(Masks { a, b })
 }
 
@@ -34,113 +45,232 @@ struct Rects {
     b: Vec<Rect>,
 }
 
-/// The rectangles of both masks. Each zone and each piece is let go as soon as its own are there, and the zones' come first.
-fn rects_of(alloc: Global, cut: Cut, colours: &[Mask]) -> Result<Rects, AllocError>
-    requires colours { length colours.now ≡ length cut.parts }
-    requires each { length cut.sides.items ≡ length cut.zones.items }
-    requires known { All (λ side. (side.0 < length cut.parts) × (side.1 < length cut.parts)) cut.sides.items }
-    requires zones { All (λ z. IsSolidWithin farthest z.rect) cut.zones.items }
-    ensures a { IfOk result (λ r. AreRectsOn cut.parts cut.zones.items cut.sides.items (map is_second colours.now) false r.a.items) }
-    ensures b { IfOk result (λ r. AreRectsOn cut.parts cut.zones.items cut.sides.items (map is_second colours.now) true r.b.items) }
+/// The rectangles that features on both masks have on each.
+fn rest_of(alloc: Global, cut: &Cut, inks: &[Ink], colours: &[Mask]) -> Result<Rects, AllocError>
+    requires each { length colours.now ≡ length cut.now.parts }
+    requires owners { length cut.now.owners.items ≡ length cut.now.parts }
+    requires sides { length cut.now.sides.items ≡ length cut.now.zones.items }
+    requires known { All (λ side. (side.0 < length cut.now.parts) × (side.1 < length cut.now.parts)) cut.now.sides.items }
+    requires zones { All (λ z. IsSolidWithin farthest z.rect) cut.now.zones.items }
+    requires owned { All (λ k. k < length inks.now) cut.now.owners.items }
+    requires zoned { All (λ z. z.feature < length inks.now) cut.now.zones.items }
+    ensures a { IfOk result (λ r. AreRest cut.now.parts cut.now.owners.items cut.now.zones.items cut.now.sides.items (map is_second colours.now) inks.now false r.a.items) }
+    ensures b { IfOk result (λ r. AreRest cut.now.parts cut.now.owners.items cut.now.zones.items cut.now.sides.items (map is_second colours.now) inks.now true r.b.items) }
 {
-    let Cut {
-        parts,
-        zones,
-        sides,
-    } = cut;
-    let mut a = Vec::with_capacity(alloc, count_on(&parts, &sides, colours, Mask::A))?;
-    let mut b = Vec::with_capacity(alloc, count_on(&parts, &sides, colours, Mask::B))?;
-    add_zones(&mut a, &mut b, zones, sides, colours)?;
-    add_pieces(&mut a, &mut b, parts.into_vec(), colours)?;
+    let mut a = Vec::new(alloc);
+    let mut b = Vec::new(alloc);
+    add_rest_zones(&mut a, &mut b, &cut.zones, &cut.sides, inks, colours)?;
+    add_rest_pieces(
+        &mut a,
+        &mut b,
+        cut.parts.items(),
+        &cut.owners,
+        inks,
+        colours,
+    )?;
     Ok(Rects { a, b })
 }
 
-/// Whether two letters are one.
-fn is_same(a: Mask, b: Mask) -> bool
-    ensures { IsTrue result ↔ (is_second a ≡ is_second b) }
+/// The slabs of rectangles that may overlap.
+fn united(alloc: Global, rects: Vec<Rect>) -> Result<Vec<Rect>, AllocError>
+    requires { AreRectsWithin farthest rects.items }
+    ensures slabs { IfOk result (λ v. AreSlabsOf (Covers rects.items) v.items) }
+    ensures within { IfOk result (λ v. AreRectsWithin farthest v.items) }
 {
-    match (a, b) {
-        (Mask::A, Mask::A) => true,
-        (Mask::B, Mask::B) => true,
-        (Mask::A, Mask::B) => false,
-        (Mask::B, Mask::A) => false,
-    }
+    let slabs = Slabs::of_rects(alloc, rects)?;
+    let mut all = Vec::with_capacity(alloc, slabs.rects().len())?;
+    all.extend_from_slice(slabs.rects())?;
+    Ok(all)
 }
 
-/// How many zones have a side of the letter.
-fn count_zones(sides: &[(Id, Id)], colours: &[Mask], letter: Mask) -> usize
-    requires { All (λ side. (side.0 < length colours.now) × (side.1 < length colours.now)) sides.now }
+/// Puts slabs on the mask of a letter.
+fn put(a: &mut Vec<Rect>, b: &mut Vec<Rect>, slabs: &[Rect], letter: Mask) -> Result<(), AllocError>
+    ensures { OnOk result (Puts (is_second letter) slabs.now a.old.items b.old.items a.new.items b.new.items) }
 {
-    let mut count: usize = 0;
-    for side in sides {
-        if is_same(colours[side.0 as usize], letter) || is_same(colours[side.1 as usize], letter) {
-            count = count.saturating_add(1);
+    match letter {
+        Mask::A => {
+            a.extend_from_slice(slabs)?;
+            Ok(())
+        }
+        Mask::B => {
+            b.extend_from_slice(slabs)?;
+            Ok(())
         }
     }
-    count
 }
 
-/// How many rectangles the pieces of a letter and the zones with a side of it have, up to the last value of a `usize`.
-fn count_on(parts: &Parts, sides: &[(Id, Id)], colours: &[Mask], letter: Mask) -> usize
-    requires { All (λ side. (side.0 < length colours.now) × (side.1 < length colours.now)) sides.now }
+/// Adds the squares of a piece to those of the mask of its letter, where its feature lies on both masks.
+fn add_rest_piece(
+    a: &mut Vec<Rect>,
+    b: &mut Vec<Rect>,
+    piece: &[Rect],
+    letter: Mask,
+    ink: Ink,
+) -> Result<(), AllocError>
+    requires within { AreRectsWithin farthest piece.now }
+    requires a_within { AreRectsWithin farthest a.old.items }
+    requires b_within { AreRectsWithin farthest b.old.items }
+    ensures a { OnOk result (Adds a.old.items a.new.items (λ p. IsMixed ink × (is_second letter ≡ false) × Covers piece.now p)) }
+    ensures b { OnOk result (Adds b.old.items b.new.items (λ p. IsMixed ink × (is_second letter ≡ true) × Covers piece.now p)) }
+    ensures a_within { OnOk result (AreRectsWithin farthest a.new.items) }
+    ensures b_within { OnOk result (AreRectsWithin farthest b.new.items) }
 {
-    let mut count = count_zones(sides, colours, letter);
-    for (part, colour) in parts.items().iter().zip(colours) {
-        if is_same(*colour, letter) {
-            count = count.saturating_add(part.rects().len());
-        }
+    if is_mixed(ink) {
+        put(a, b, piece, letter)?;
     }
-    count
-}
-
-/// Adds the squares of a piece.
-fn add_piece(rects: &mut Vec<Rect>, piece: &Slabs) -> Result<(), AllocError>
-    requires { AreRectsWithin farthest rects.old.items }
-    ensures adds { OnOk result (Adds rects.old.items rects.new.items (Covers piece.now)) }
-    ensures within { OnOk result (AreRectsWithin farthest rects.new.items) }
-{
-    rects.extend_from_slice(piece.rects())?;
     Ok(())
 }
 
-/// Adds the squares of a piece to those of the mask of its letter, and lets the piece go.
-fn put_piece(
+/// Adds the squares of those pieces whose features lie on both masks.
+fn add_rest_pieces(
     a: &mut Vec<Rect>,
     b: &mut Vec<Rect>,
-    piece: Slabs,
-    colour: Mask,
+    parts: &[Slabs],
+    owners: &[Id],
+    inks: &[Ink],
+    colours: &[Mask],
 ) -> Result<(), AllocError>
+    requires each { length colours.now ≡ length parts.now }
+    requires owners { length owners.now ≡ length parts.now }
+    requires owned { All (λ k. k < length inks.now) owners.now }
     requires a_within { AreRectsWithin farthest a.old.items }
     requires b_within { AreRectsWithin farthest b.old.items }
-    ensures a { OnOk result (Adds a.old.items a.new.items (λ p. (is_second colour ≡ false) × Covers piece p)) }
-    ensures b { OnOk result (Adds b.old.items b.new.items (λ p. (is_second colour ≡ true) × Covers piece p)) }
+    ensures a { OnOk result (Adds a.old.items a.new.items (rest_pieces (length parts.now) parts.now owners.now (map is_second colours.now) inks.now false)) }
+    ensures b { OnOk result (Adds b.old.items b.new.items (rest_pieces (length parts.now) parts.now owners.now (map is_second colours.now) inks.now true)) }
     ensures a_within { OnOk result (AreRectsWithin farthest a.new.items) }
     ensures b_within { OnOk result (AreRectsWithin farthest b.new.items) }
 {
-    match colour {
-        Mask::A => add_piece(a, &piece),
-        Mask::B => add_piece(b, &piece),
+    for k in 0..parts.len() {
+        add_rest_piece(a, b, parts[k].rects(), colours[k], inks[owners[k] as usize])?;
+    }
+    Ok(())
+}
+
+/// Adds the squares of a zone to those of the masks of both its sides, where its feature lies on both masks.
+fn add_rest_zone(
+    a: &mut Vec<Rect>,
+    b: &mut Vec<Rect>,
+    zone: &Zone,
+    first: Mask,
+    second: Mask,
+    ink: Ink,
+) -> Result<(), AllocError>
+    requires zone { IsSolidWithin farthest zone.now.rect }
+    requires a_within { AreRectsWithin farthest a.old.items }
+    requires b_within { AreRectsWithin farthest b.old.items }
+    ensures a { OnOk result (Adds a.old.items a.new.items (λ p. IsMixed ink × ((is_second first ≡ false) ⊎ (is_second second ≡ false)) × Has zone.now.rect p)) }
+    ensures b { OnOk result (Adds b.old.items b.new.items (λ p. IsMixed ink × ((is_second first ≡ true) ⊎ (is_second second ≡ true)) × Has zone.now.rect p)) }
+    ensures a_within { OnOk result (AreRectsWithin farthest a.new.items) }
+    ensures b_within { OnOk result (AreRectsWithin farthest b.new.items) }
+{
+    if is_mixed(ink) {
+        put_zone(a, b, zone, first, second)?;
+    }
+    Ok(())
+}
+
+/// Adds the squares of those zones whose features lie on both masks.
+fn add_rest_zones(
+    a: &mut Vec<Rect>,
+    b: &mut Vec<Rect>,
+    zones: &[Zone],
+    sides: &[(Id, Id)],
+    inks: &[Ink],
+    colours: &[Mask],
+) -> Result<(), AllocError>
+    requires each { length sides.now ≡ length zones.now }
+    requires known { All (λ side. (side.0 < length colours.now) × (side.1 < length colours.now)) sides.now }
+    requires zones { All (λ z. IsSolidWithin farthest z.rect) zones.now }
+    requires zoned { All (λ z. z.feature < length inks.now) zones.now }
+    requires a_within { AreRectsWithin farthest a.old.items }
+    requires b_within { AreRectsWithin farthest b.old.items }
+    ensures a { OnOk result (Adds a.old.items a.new.items (rest_zones (length zones.now) zones.now sides.now (map is_second colours.now) inks.now false)) }
+    ensures b { OnOk result (Adds b.old.items b.new.items (rest_zones (length zones.now) zones.now sides.now (map is_second colours.now) inks.now true)) }
+    ensures a_within { OnOk result (AreRectsWithin farthest a.new.items) }
+    ensures b_within { OnOk result (AreRectsWithin farthest b.new.items) }
+{
+    for k in 0..zones.len() {
+        let zone = zones[k];
+        let side = sides[k];
+        add_rest_zone(
+            a,
+            b,
+            &zone,
+            colours[side.0 as usize],
+            colours[side.1 as usize],
+            inks[zone.feature as usize],
+        )?;
+    }
+    Ok(())
+}
+
+/// Puts a piece on the mask of its letter, if no zone cuts its feature.
+fn put_uncut(
+    a: &mut Vec<Rect>,
+    b: &mut Vec<Rect>,
+    piece: &[Rect],
+    letter: Mask,
+    ink: Ink,
+) -> Result<(), AllocError>
+    ensures { OnOk result (PutsUncut ink (is_second letter) piece.now a.old.items b.old.items a.new.items b.new.items) }
+{
+    match ink {
+        Ink::Uncut => put(a, b, piece, letter),
+        Ink::Blank => Ok(()),
+        Ink::One(_) => Ok(()),
+        Ink::Both => Ok(()),
     }
 }
 
-/// Adds the squares of each piece to those of the mask of its letter. The pieces are let go one by one from the last, and the room of their list is given back on the way.
-fn add_pieces(
+/// Puts the features without a zone on the masks of their letters.
+fn add_uncut(
     a: &mut Vec<Rect>,
     b: &mut Vec<Rect>,
-    mut pieces: Vec<Slabs>,
+    cut: &Cut,
+    inks: &[Ink],
     colours: &[Mask],
 ) -> Result<(), AllocError>
-    requires each { length colours.now ≡ length pieces.items }
-    requires a_within { AreRectsWithin farthest a.old.items }
-    requires b_within { AreRectsWithin farthest b.old.items }
-    ensures a { OnOk result (Adds a.old.items a.new.items (in_pieces_from 0 pieces.items (map is_second colours.now) false)) }
-    ensures b { OnOk result (Adds b.old.items b.new.items (in_pieces_from 0 pieces.items (map is_second colours.now) true)) }
-    ensures a_within { OnOk result (AreRectsWithin farthest a.new.items) }
-    ensures b_within { OnOk result (AreRectsWithin farthest b.new.items) }
+    requires each { length colours.now ≡ length cut.now.parts }
+    requires owners { length cut.now.owners.items ≡ length cut.now.parts }
+    requires owned { All (λ k. k < length inks.now) cut.now.owners.items }
+    requires sheets { AreSheets cut.now.parts cut.now.owners.items cut.now.zones.items cut.now.sides.items cut.now.wholes.items (map is_second colours.now) inks.now 0 0 a.old.items b.old.items }
+    ensures { OnOk result (AreSheets cut.now.parts cut.now.owners.items cut.now.zones.items cut.now.sides.items cut.now.wholes.items (map is_second colours.now) inks.now (length cut.now.parts) 0 a.new.items b.new.items) }
 {
-    while let Some(piece) = pieces.pop() {
-        put_piece(a, b, piece, colours[pieces.len()])?;
-        give_back(&mut pieces);
+    let parts = cut.parts.items();
+    let owners = cut.owners.as_slice();
+    for k in 0..parts.len() {
+        put_uncut(a, b, parts[k].rects(), colours[k], inks[owners[k] as usize])?;
+    }
+    Ok(())
+}
+
+/// Puts a feature that was cut, if it lies on one mask.
+fn put_whole(a: &mut Vec<Rect>, b: &mut Vec<Rect>, set: &[Rect], ink: Ink) -> Result<(), AllocError>
+    ensures { OnOk result (PutsOne ink set.now a.old.items b.old.items a.new.items b.new.items) }
+{
+    match ink {
+        Ink::Uncut => Ok(()),
+        Ink::Blank => Ok(()),
+        Ink::One(letter) => put(a, b, set, letter),
+        Ink::Both => Ok(()),
+    }
+}
+
+/// Puts the features that were cut, and lie on one mask, there as they were.
+fn add_wholes(
+    a: &mut Vec<Rect>,
+    b: &mut Vec<Rect>,
+    cut: &Cut,
+    inks: &[Ink],
+    colours: &[Mask],
+) -> Result<(), AllocError>
+    requires sheets { AreSheets cut.now.parts cut.now.owners.items cut.now.zones.items cut.now.sides.items cut.now.wholes.items (map is_second colours.now) inks.now (length cut.now.parts) 0 a.old.items b.old.items }
+    ensures { OnOk result (AreSheets cut.now.parts cut.now.owners.items cut.now.zones.items cut.now.sides.items cut.now.wholes.items (map is_second colours.now) inks.now (length cut.now.parts) (length cut.now.wholes.items) a.new.items b.new.items) }
+{
+    let wholes = cut.wholes.as_slice();
+    for k in 0..wholes.len() {
+        let whole = &wholes[k];
+        put_whole(a, b, whole.set.rects(), inks[whole.feature as usize])?;
     }
     Ok(())
 }
@@ -187,38 +317,6 @@ fn put_zone(
 {
     add_zone(a, zone, first, second, Mask::A)?;
     add_zone(b, zone, first, second, Mask::B)?;
-    Ok(())
-}
-
-/// Adds the squares of each zone to those of the masks of both its sides. The zones and their sides are let go one by one from the last, and the room of their lists is given back on the way.
-fn add_zones(
-    a: &mut Vec<Rect>,
-    b: &mut Vec<Rect>,
-    mut zones: Vec<Zone>,
-    mut sides: Vec<(Id, Id)>,
-    colours: &[Mask],
-) -> Result<(), AllocError>
-    requires each { length sides.items ≡ length zones.items }
-    requires known { All (λ side. (side.0 < length colours.now) × (side.1 < length colours.now)) sides.items }
-    requires zones { All (λ z. IsSolidWithin farthest z.rect) zones.items }
-    requires a_within { AreRectsWithin farthest a.old.items }
-    requires b_within { AreRectsWithin farthest b.old.items }
-    ensures a { OnOk result (Adds a.old.items a.new.items (in_zones_from 0 zones.items sides.items (map is_second colours.now) false)) }
-    ensures b { OnOk result (Adds b.old.items b.new.items (in_zones_from 0 zones.items sides.items (map is_second colours.now) true)) }
-    ensures a_within { OnOk result (AreRectsWithin farthest a.new.items) }
-    ensures b_within { OnOk result (AreRectsWithin farthest b.new.items) }
-{
-    while let (Some(zone), Some(side)) = (zones.pop(), sides.pop()) {
-        put_zone(
-            a,
-            b,
-            &zone,
-            colours[side.0 as usize],
-            colours[side.1 as usize],
-        )?;
-        give_back(&mut zones);
-        give_back(&mut sides);
-    }
     Ok(())
 }
 

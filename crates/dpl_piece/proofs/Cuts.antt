@@ -83,7 +83,7 @@ module _ (features : List (List Rect)) (zones : List Zone) (given : AreFeatures 
     pub pieces-some : All (λ part. part ≢ []) (parts_in pieces)
     pieces-some = some-square left (parts_in pieces) cut.components
 
-    all-owned : AllZip (IsOwner features) (parts_in pieces) (owners_in pieces)
+    pub all-owned : AllZip (IsOwner features) (parts_in pieces) (owners_in pieces)
     all-owned = zip-of (IsOwner features) (λ x. x.part) (λ x. x.owner) pieces cut.owned
 
     -- a piece that isn't broken is its feature

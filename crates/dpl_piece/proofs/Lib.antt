@@ -9,3 +9,4 @@ pub mod Sorted
 pub mod Turns
 pub mod Sides
 pub mod Cuts
+pub mod WholeLaws

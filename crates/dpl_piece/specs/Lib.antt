@@ -1,3 +1,4 @@
 pub mod Cutting
 pub mod Corners
 pub mod Pieces
+pub mod Wholes

@@ -1,9 +1,10 @@
 //! The pieces of a layer before it is known which of them stand beside which zone.
 ghost use Rattle.std.specs.Prelude.{◌≡◌, IfOk, length};
 ghost use Rattle.dpl_piece.specs.Cutting.{AreBare, Completes, bare_cut};
+ghost use Rattle.dpl_piece.specs.Wholes.{LieInSome};
 
 use crate::matched::Pieces;
-use crate::piece::Origin;
+use crate::piece::{Origin, Whole};
 use crate::side::sides_of;
 use dpl_base::{Id, Zone};
 use dpl_slabs::Parts;
@@ -17,27 +18,33 @@ pub struct BarePieces {
     owner: Vec<Id>,
     origins: Vec<Origin>,
     zones: Vec<Zone>,
+    wholes: Vec<Whole>,
+    count: usize,
 }
 
 impl Model for BarePieces {
     ghost use Rattle.dpl_piece.specs.Cutting.{BareCut, bare_cut, AreBare};
+    ghost use Rattle.dpl_piece.specs.Wholes.{LieInSome};
 
     ghost Value = { BareCut };
 
     ghost view = { λ b. bare_cut b.parts b.owner.items b.zones.items };
 
-    ghost invariant = { λ b. AreBare (bare_cut b.parts b.owner.items b.zones.items) b.origins.items };
+    ghost invariant = { λ b. AreBare (bare_cut b.parts b.owner.items b.zones.items) b.origins.items × LieInSome b.count b.parts b.owner.items b.zones.items b.wholes.items };
 }
 
 impl BarePieces {
-    /// Pieces with their owners and origins, and the zones.
+    /// Pieces with their owners and origins, the zones, and those of so many features that were cut.
     pub(crate) fn of(
         parts: Parts,
         owner: Vec<Id>,
         origins: Vec<Origin>,
         zones: Vec<Zone>,
+        wholes: Vec<Whole>,
+        count: usize,
     ) -> BarePieces
-        requires { AreBare (bare_cut parts owner.items zones.items) origins.items }
+        requires bare { AreBare (bare_cut parts owner.items zones.items) origins.items }
+        requires wholes { LieInSome count parts owner.items zones.items wholes.items }
         ensures { result ≡ bare_cut parts owner.items zones.items }
     {
         BarePieces {
@@ -45,6 +52,8 @@ impl BarePieces {
             owner,
             origins,
             zones,
+            wholes,
+            count,
         }
     }
 
@@ -72,9 +81,11 @@ impl BarePieces {
             owner,
             origins,
             zones,
+            wholes,
+            count,
         } = self;
         let sides = sides_of(alloc, parts.items(), &origins, &zones)?;
         drop(origins);
-        Ok(Pieces::of(parts, owner, zones, sides))
+        Ok(Pieces::of(parts, owner, zones, sides, wholes, count))
     }
 }

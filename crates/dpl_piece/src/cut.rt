@@ -6,7 +6,7 @@ ghost use Rattle.dpl_piece.specs.Cutting.{AreBarePieces, AreFeatures, AreTheirZo
 
 use crate::bare::BarePieces;
 use crate::matched::Pieces;
-use crate::piece::{Lists, lists_of};
+use crate::piece::{CutUp, Lists, lists_of};
 use crate::rest::pieces_of;
 use dpl_base::Zone;
 use dpl_slabs::Parts;
@@ -24,14 +24,16 @@ pub fn bare_pieces(
     ensures pieces { IfOk result (AreBarePieces features zones.items) }
     ensures stand { IfOk result (λ b. All (λ z. (side : ℕ × ℕ) × StandBeside b.parts z side) b.zones) }
 {
-    let pieces = pieces_of(alloc, features.into_vec(), &zones)?;
+    let count = features.items().len();
+    let cut = pieces_of(alloc, features.into_vec(), &zones)?;
+    let CutUp { pieces, wholes } = cut;
     let Lists {
         parts,
         owners,
         origins,
     } = lists_of(alloc, pieces)?;
     let parts = Parts::of(parts);
-    Ok(BarePieces::of(parts, owners, origins, zones))
+    Ok(BarePieces::of(parts, owners, origins, zones, wholes, count))
 }
 
 /// The pieces that the zones of features leave of them, with the pieces on the two sides of each zone. A feature without a zone is moved, as it is. 2^32 zones or more are refused as want of memory, which so many would be.

@@ -14,3 +14,4 @@ mod side;
 pub use bare::BarePieces;
 pub use cut::{bare_pieces, pieces};
 pub use matched::{Cut, Pieces};
+pub use piece::Whole;

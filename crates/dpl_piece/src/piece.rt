@@ -21,6 +21,20 @@ pub struct Piece {
     pub origin: Origin,
 }
 
+/// A feature that zones cut, as it was before, and its number.
+#[derive(Drop)]
+pub struct Whole {
+    pub feature: Id,
+    pub set: Slabs,
+}
+
+/// Pieces, and the features that were cut.
+#[derive(Drop)]
+pub struct CutUp {
+    pub pieces: Vec<Piece>,
+    pub wholes: Vec<Whole>,
+}
+
 /// The squares, the features and the origins of pieces, a list of each.
 #[derive(Drop)]
 pub struct Lists {

@@ -1,12 +1,13 @@
 //! What zones leave of features.
-ghost use Rattle.std.specs.Prelude.{◌≡◌, ◌≢◌, ℕ, ◌<◌, ◌≤◌, ◌++◌, IfOk, OnOk, length, map, take, slice_index_or};
+ghost use Rattle.std.specs.Prelude.{◌≡◌, ◌≢◌, ℕ, ◌<◌, ◌≤◌, [], ◌∷◌, ◌++◌, IfOk, OnOk, length, map, take, slice_index_or};
 ghost use Rattle.std.specs.List.{All, range_with_len};
 ghost use Rattle.std.specs.List.Sorted.{IsNonDecreasingBy, IsPermutation};
 ghost use Rattle.dpl_spec.specs.Loops.{farthest, AreRectsWithin};
 ghost use Rattle.dpl_piece.specs.Cutting.{AreFeatures, AreTheirZones};
 ghost use Rattle.dpl_piece.specs.Pieces.{broken_piece, least_key, feature_at, rect_at, AddsBroken, AddsPieces, AreCut, AreNumbersBelow, RiseByLeast};
+ghost use Rattle.dpl_piece.specs.Wholes.{whole_of, AreWholes, KeepsWhole};
 
-use crate::piece::{Origin, Piece};
+use crate::piece::{CutUp, Origin, Piece, Whole};
 use dpl_base::{Id, Rect, Zone, give_back};
 use dpl_slabs::Slabs;
 use std::alloc::{AllocError, Global};
@@ -83,23 +84,28 @@ fn add_parts(pieces: &mut Vec<Piece>, mut parts: Vec<Slabs>, number: Id) -> Resu
     Ok(())
 }
 
-/// Adds the pieces into which holes break a feature.
+/// Adds the pieces into which holes break a feature, and keeps the feature.
 fn add_broken(
     alloc: Global,
     pieces: &mut Vec<Piece>,
+    wholes: &mut Vec<Whole>,
     feature: Slabs,
     holes: Vec<Rect>,
     number: Id,
 ) -> Result<(), AllocError>
     requires { AreRectsWithin farthest holes.items }
-    ensures { OnOk result (AddsBroken feature holes.items number pieces.old.items pieces.new.items) }
+    ensures adds { OnOk result (AddsBroken feature holes.items number pieces.old.items pieces.new.items) }
+    ensures keeps { OnOk result (wholes.new.items ≡ wholes.old.items ++ whole_of number feature ∷ []) }
 {
     let left = Slabs::of_rects_without(alloc, feature.rects(), &holes)?;
-    drop(feature);
     drop(holes);
     let parts = dpl_feature::features(alloc, &left)?;
     drop(left);
     add_parts(pieces, parts.into_vec(), number)?;
+    wholes.push(Whole {
+        feature: number,
+        set: feature,
+    })?;
     Ok(())
 }
 
@@ -107,12 +113,14 @@ fn add_broken(
 fn add_pieces(
     alloc: Global,
     pieces: &mut Vec<Piece>,
+    wholes: &mut Vec<Whole>,
     feature: Slabs,
     holes: Vec<Rect>,
     number: Id,
 ) -> Result<(), AllocError>
     requires { AreRectsWithin farthest holes.items }
-    ensures { OnOk result (AddsPieces feature holes.items number pieces.old.items pieces.new.items) }
+    ensures adds { OnOk result (AddsPieces feature holes.items number pieces.old.items pieces.new.items) }
+    ensures keeps { OnOk result (KeepsWhole feature holes.items number wholes.old.items wholes.new.items) }
 {
     if holes.is_empty() {
         pieces.push(Piece {
@@ -122,7 +130,7 @@ fn add_pieces(
         })?;
         return Ok(());
     }
-    add_broken(alloc, pieces, feature, holes, number)?;
+    add_broken(alloc, pieces, wholes, feature, holes, number)?;
     Ok(())
 }
 
@@ -145,28 +153,26 @@ fn sort_by_least(pieces: &mut Vec<Piece>)
 }
 
 /// The components of what the zones leave of the features, each with the feature that it lies in. A feature without a zone is moved, as it is; any other is cut by its own zones, feature by feature.
-pub fn pieces_of(
-    alloc: Global,
-    features: Vec<Slabs>,
-    zones: &[Zone],
-) -> Result<Vec<Piece>, AllocError>
+pub fn pieces_of(alloc: Global, features: Vec<Slabs>, zones: &[Zone]) -> Result<CutUp, AllocError>
     requires features { AreFeatures features.items }
     requires zones { AreTheirZones features.items zones.now }
     requires within { All (AreRectsWithin farthest) features.items }
-    ensures { IfOk result (λ v. AreCut features.items zones.now v.items) }
+    ensures cut { IfOk result (λ v. AreCut features.items zones.now v.pieces.items) }
+    ensures wholes { IfOk result (λ v. AreWholes features.items zones.now v.wholes.items) }
 {
     let sorted = by_feature(alloc, zones)?;
     let count = features.len().saturating_add(zones.len());
     let mut pieces = Vec::with_capacity(alloc, count)?;
+    let mut wholes = Vec::new(alloc);
     let mut rest = sorted.as_slice();
     let mut number = 0;
     for feature in features {
         let (own, others) = rest.split_at(own_count(zones, rest, number));
         let holes = holes_at(alloc, zones, own)?;
-        add_pieces(alloc, &mut pieces, feature, holes, number)?;
+        add_pieces(alloc, &mut pieces, &mut wholes, feature, holes, number)?;
         rest = others;
         number += 1;
     }
     sort_by_least(&mut pieces);
-    Ok(pieces)
+    Ok(CutUp { pieces, wholes })
 }

@@ -59,7 +59,7 @@ slab-under rs slabs s c inside s_in =
     let top = has.high in
     (r, r_in, omega (arith, ints, top))
 
-follows-below : (r s : Rect) → IsSolid r → IsSolid s → r.y1 <ℤ s.y0 → Follows r s
+pub follows-below : (r s : Rect) → IsSolid r → IsSolid s → r.y1 <ℤ s.y0 → Follows r s
 follows-below r s solid other l =
     let tall = solid.tall in
     record {

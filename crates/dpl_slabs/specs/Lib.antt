@@ -9,3 +9,4 @@ pub mod Blocks
 pub mod Alone
 pub mod Gaps
 pub mod Joints
+pub mod Scattered

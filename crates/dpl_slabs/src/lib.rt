@@ -10,6 +10,7 @@ mod joint;
 mod loops;
 mod parts;
 mod row;
+mod scattered;
 mod slabs;
 mod slices;
 mod strips;

@@ -1,13 +1,17 @@
 //! A set of squares.
+ghost use Rattle.std.specs.List.{AllPairs};
 ghost use Rattle.std.specs.Prelude.{◌≡◌, ◌↔◌, ◌⊎◌, IsTrue, IfSome, IfOk, OnOk, IsErr, IsNone, [], ◌∷◌, ◌++◌};
 ghost use Rattle.dpl_spec.specs.Squares.{Covers, Has, SameSquares, IsLeast};
 ghost use Rattle.dpl_spec.specs.Slabs.{IsCanonical, IsSolid, AreSlabsOf};
 ghost use Rattle.dpl_spec.specs.Loops.{farthest, SomeLoopCovers, IsRectWithin, AreRectsWithin, AreLoopsWithin};
 ghost use Rattle.dpl_spec.specs.Zones.{at, turned};
+ghost use Rattle.dpl_slabs.specs.Parts.{union_of};
+ghost use Rattle.dpl_slabs.specs.Scattered.{AreScattered, AreUntouched};
 
 use crate::combine::exchanged;
 use crate::joint::combine_by_rows;
 use crate::loops::rects_of_loops;
+use crate::scattered::slabs_of_all;
 use crate::slices::slabs_without;
 use crate::strips::{slabs_by_rows, slabs_of_rects};
 use dpl_base::{Loop, Pt, Rect};
@@ -142,6 +146,26 @@ impl Slabs {
         Slabs {
             rects: SmallVec::from_vec(rects),
         }
+    }
+
+    /// The set of these canonical slabs, which may go in any order, without taking memory.
+    pub fn of_scattered(rects: Vec<Rect>) -> Slabs
+        requires scattered { AreScattered rects.items }
+        requires within { AreRectsWithin farthest rects.items }
+        ensures { AreSlabsOf (Covers rects.items) result }
+    {
+        let mut slabs = rects;
+        sort_by_corner(&mut slabs);
+        Slabs::of_canonical(slabs)
+    }
+
+    /// The squares of sets that don't touch one another. Their slabs are put in order, and nothing is swept.
+    pub fn of_apart(alloc: Global, sets: &[Slabs]) -> Result<Slabs, AllocError>
+        requires { AllPairs AreUntouched sets.now }
+        ensures { IfOk result (λ s. AreSlabsOf (union_of sets.now) s) }
+    {
+        let rects = slabs_of_all(alloc, sets)?;
+        Ok(Slabs::of_scattered(rects))
     }
 
     /// The squares of one rectangle.

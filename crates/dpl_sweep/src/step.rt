@@ -27,7 +27,7 @@ fn end_inside(edge: &Edge, low: i32, high: i32) -> i32
 }
 
 /// Whether the edge is beside no row of the band.
-fn misses(edge: &Edge, low: i32, high: i32) -> bool
+pub fn misses(edge: &Edge, low: i32, high: i32) -> bool
     ensures yes { IsTrue result → (edge.now.y1 ≤ℤ low) ⊎ (high ≤ℤ edge.now.y0) }
     ensures no { IsFalse result → (low <ℤ edge.now.y1) × (edge.now.y0 <ℤ high) }
 {

@@ -1,5 +1,7 @@
 use Rattle.dpl_piece.specs.Pieces.{AreCut}
 use Rattle.dpl_piece.proofs.Cuts.{bare, bare-pieces, stands}
+use Rattle.dpl_piece.specs.Wholes.{AreWholes}
+use Rattle.dpl_piece.proofs.WholeLaws.{lie-in}
 use Rattle.dpl_piece.proofs.cut.bare_pieces.Goals as goal
 
 pub pieces_of-requires-clause-within : goal.pieces_of-requires-clause-within
@@ -7,25 +9,32 @@ pieces_of-requires-clause-within c = rw c.into_vec.ensures.value c.into_vec.ensu
 
 pub of-parts-requires : goal.of-parts-requires
 of-parts-requires c =
-    let cut : AreCut c.args.features c.args.zones.items c.in_ok-pieces.pieces.items = rw (c.into_vec.ensures.value, c.deref.ensures.value) at c.in_ok-pieces.ensures in
+    let cut : AreCut c.args.features c.args.zones.items c.in_ok-cut.cut.pieces.items = rw (c.into_vec.ensures.value, c.deref.ensures.value) at c.in_ok-cut.ensures.cut in
     rw c.in_ok-parts.ensures.parts cut.apart
 
-pub of-requires : goal.of-requires
-of-requires c =
-    let cut : AreCut c.args.features c.args.zones.items c.in_ok-pieces.pieces.items = rw (c.into_vec.ensures.value, c.deref.ensures.value) at c.in_ok-pieces.ensures in
+pub of-requires-clause-bare : goal.of-requires-clause-bare
+of-requires-clause-bare c =
+    let cut : AreCut c.args.features c.args.zones.items c.in_ok-cut.cut.pieces.items = rw (c.into_vec.ensures.value, c.deref.ensures.value) at c.in_ok-cut.ensures.cut in
     rw (c.of-parts.ensures, c.in_ok-parts.ensures.parts, c.in_ok-parts.ensures.owners, c.in_ok-parts.ensures.origins)
-    (bare c.args.features c.args.zones.items c.requires.features c.requires.zones c.in_ok-pieces.pieces.items cut c.into_vec.ensures.parts.within)
+    (bare c.args.features c.args.zones.items c.requires.features c.requires.zones c.in_ok-cut.cut.pieces.items cut c.into_vec.ensures.parts.within)
+
+pub of-requires-clause-wholes : goal.of-requires-clause-wholes
+of-requires-clause-wholes c =
+    let cut : AreCut c.args.features c.args.zones.items c.in_ok-cut.cut.pieces.items = rw (c.into_vec.ensures.value, c.deref.ensures.value) at c.in_ok-cut.ensures.cut in
+    let wholes : AreWholes c.args.features c.args.zones.items c.in_ok-cut.cut.wholes.items = rw (c.into_vec.ensures.value, c.deref.ensures.value) at c.in_ok-cut.ensures.wholes in
+    rw (c.of-parts.ensures, c.in_ok-parts.ensures.parts, c.in_ok-parts.ensures.owners, c.items-count.ensures.value)
+    (lie-in c.args.features c.args.zones.items c.requires.features c.requires.zones c.in_ok-cut.cut.pieces.items cut c.in_ok-cut.cut.wholes.items wholes)
 
 pub returns-clause-pieces : goal.returns-clause-pieces
 returns-clause-pieces c =
-    let cut : AreCut c.args.features c.args.zones.items c.in_ok-pieces.pieces.items = rw (c.into_vec.ensures.value, c.deref.ensures.value) at c.in_ok-pieces.ensures in
+    let cut : AreCut c.args.features c.args.zones.items c.in_ok-cut.cut.pieces.items = rw (c.into_vec.ensures.value, c.deref.ensures.value) at c.in_ok-cut.ensures.cut in
     rw (c.of.ensures, c.of-parts.ensures, c.in_ok-parts.ensures.parts, c.in_ok-parts.ensures.owners)
-    (bare-pieces c.args.features c.args.zones.items c.requires.features c.requires.zones c.in_ok-pieces.pieces.items cut)
+    (bare-pieces c.args.features c.args.zones.items c.requires.features c.requires.zones c.in_ok-cut.cut.pieces.items cut)
 
 pub returns-clause-stand : goal.returns-clause-stand
 returns-clause-stand c =
-    let cut : AreCut c.args.features c.args.zones.items c.in_ok-pieces.pieces.items = rw (c.into_vec.ensures.value, c.deref.ensures.value) at c.in_ok-pieces.ensures in
+    let cut : AreCut c.args.features c.args.zones.items c.in_ok-cut.cut.pieces.items = rw (c.into_vec.ensures.value, c.deref.ensures.value) at c.in_ok-cut.ensures.cut in
     rw (c.of.ensures, c.of-parts.ensures, c.in_ok-parts.ensures.parts)
     (λ k z k_in.
-    let (side, broken) = stands c.args.features c.args.zones.items c.requires.features c.requires.zones c.in_ok-pieces.pieces.items cut k z k_in in
+    let (side, broken) = stands c.args.features c.args.zones.items c.requires.features c.requires.zones c.in_ok-cut.cut.pieces.items cut k z k_in in
     (side, broken.0))

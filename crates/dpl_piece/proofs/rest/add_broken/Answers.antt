@@ -3,8 +3,8 @@ use Rattle.dpl_piece.specs.Pieces.{left_of}
 use Rattle.dpl_piece.proofs.Regions.{components-same}
 use Rattle.dpl_piece.proofs.rest.add_broken.Goals as goal
 
-pub returns : goal.returns
-returns c =
+pub returns-clause-adds : goal.returns-clause-adds
+returns-clause-adds c =
     let left = rw (c.rects.ensures.value, c.deref.ensures.value) at c.in_ok-left.ensures in
     record {
       parts = c.in_ok-parts.parts;

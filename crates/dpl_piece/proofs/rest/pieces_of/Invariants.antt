@@ -2,6 +2,7 @@ use Rattle.std.proofs.Common.{◌≡◌, ◌++◌, length}
 use Rattle.std.specs.Vec.Iter.{into_iter_items, into_iter_len}
 use Rattle.dpl_piece.proofs.Broken.{ArePiecesBelow}
 use Rattle.dpl_piece.proofs.Turns.{AreZonesFrom}
+use Rattle.dpl_piece.specs.Wholes.{AreWholesBelow}
 use Rattle.dpl_piece.proofs.rest.pieces_of.Given as goal
 
 abbrev pub invariant-loop-feature : goal.invariant-loop-feature
@@ -12,4 +13,5 @@ invariant-loop-feature l =
       count : l.number ≡ length l.yielded;
       zones : AreZonesFrom l.zones l.number l.rest;
       pieces : ArePiecesBelow l.fn.features.items l.zones l.number l.pieces.items;
+      wholes : AreWholesBelow l.fn.features.items l.zones l.number l.wholes.items;
     }

@@ -1,0 +1,34 @@
+use Rattle.std.proofs.Common.{◌≡◌, ℕ, ◌<◌, subst, false, true, length, get_or, map, refl, sym, arith}
+use Rattle.std.proofs.lemmas.List.{get_or-map, get_or_default}
+use Rattle.dpl_orient.specs.Masks.{is_second}
+use Rattle.dpl_orient.specs.declared.mask.Mask.TheVariants.{A}
+use Rattle.dpl_masks.specs.Painting.{Adds}
+use Rattle.dpl_masks.specs.Sheets.{rest_zones}
+use Rattle.dpl_masks.proofs.RestLaws.{rest-zone-more}
+use Rattle.dpl_masks.proofs.painting.add_rest_zones.Goals as goal
+
+pub loop-k-preserved : goal.loop-k-preserved
+loop-k-preserved c =
+    let k_in : c.loop-k.k < length c.args.zones.now = omega arith in
+    let each = c.requires.each in
+    let s_in : c.loop-k.k < length c.args.sides.now = omega (arith, each, k_in) in
+    let side = get_or c.args.sides.now c.loop-k.k (0, 0) in
+    let known = c.requires.known c.loop-k.k (0, 0) s_in in
+    let first = sym (get_or-map is_second c.args.colours.now side.0 A false known.0) in
+    let second = sym (get_or-map is_second c.args.colours.now side.1 A false known.1) in
+    record {
+      a = rest-zone-more _ _ _ c.args.zones.now c.args.sides.now (map is_second c.args.colours.now) c.args.inks.now false c.loop-k.k _ side _ _ _ k_in s_in (get_or_default c.args.zones.now c.loop-k.k _ _ k_in) (get_or_default c.args.sides.now c.loop-k.k _ _ s_in) first second refl c.loop-k.invariant.a c.in_ok-add_rest_zone.ensures.a;
+      b = rest-zone-more _ _ _ c.args.zones.now c.args.sides.now (map is_second c.args.colours.now) c.args.inks.now true c.loop-k.k _ side _ _ _ k_in s_in (get_or_default c.args.zones.now c.loop-k.k _ _ k_in) (get_or_default c.args.sides.now c.loop-k.k _ _ s_in) first second refl c.loop-k.invariant.b c.in_ok-add_rest_zone.ensures.b;
+      a_within = c.in_ok-add_rest_zone.ensures.a_within;
+      b_within = c.in_ok-add_rest_zone.ensures.b_within;
+    }
+
+pub returns-clause-a : goal.returns-clause-a
+returns-clause-a c =
+    let all : c.loop-k.k ≡ length c.args.zones.now = omega arith in
+    subst (λ (n : ℕ). Adds c.args.a.now.items c.loop-k.a.items (rest_zones n c.args.zones.now c.args.sides.now (map is_second c.args.colours.now) c.args.inks.now false)) all c.loop-k.invariant.a
+
+pub returns-clause-b : goal.returns-clause-b
+returns-clause-b c =
+    let all : c.loop-k.k ≡ length c.args.zones.now = omega arith in
+    subst (λ (n : ℕ). Adds c.args.b.now.items c.loop-k.b.items (rest_zones n c.args.zones.now c.args.sides.now (map is_second c.args.colours.now) c.args.inks.now true)) all c.loop-k.invariant.b

@@ -1,0 +1,78 @@
+-- Features put on masks.
+use Rattle.std.specs.Prelude.{◌≡◌, ℕ, ◌<◌, ◌⊎◌, ◌↔◌, ◌++◌, Bool, true, false, List, length, slice_index, slice_index_or}
+use Rattle.std.specs.List.{All, AllZip}
+use Rattle.dpl_spec.specs.declared.Pt.{Pt}
+use Rattle.dpl_spec.specs.declared.Rect.{Rect}
+use Rattle.dpl_spec.specs.declared.Zone.{Zone}
+use Rattle.dpl_spec.specs.Squares.{Covers, Has, Region}
+use Rattle.dpl_spec.specs.Loops.{AreRectsWithin, farthest}
+use Rattle.dpl_spec.specs.Colours.{colour_at, on_mask}
+use Rattle.dpl_spec.specs.Zones.{part_at}
+use Rattle.dpl_slabs.specs.Parts.{AreParts}
+use Rattle.dpl_slabs.specs.Scattered.{AreScattered}
+use Rattle.dpl_piece.specs.declared.piece.Whole.{Whole}
+use Rattle.dpl_piece.specs.Wholes.{AreOwnSides, LieIn}
+use Rattle.dpl_orient.specs.declared.mask.Mask.{Mask}
+use Rattle.dpl_orient.specs.Masks.{is_second}
+use Rattle.dpl_masks.specs.declared.ink.Ink.{Ink}
+use Rattle.dpl_masks.specs.declared.ink.Ink.TheVariants.{One}
+use Rattle.dpl_masks.specs.Inks.{AreInks, IsMixed, IsOne, IsUncut, ink_at}
+use Rattle.dpl_masks.specs.Painting.{IsEither}
+
+-- the slabs were put on the mask of the letter
+abbrev pub Puts : Bool → List Rect → List Rect → List Rect → List Rect → List Rect → Type 0
+Puts letter slabs old_a old_b new_a new_b = ((letter ≡ false) × (new_a ≡ old_a ++ slabs) × (new_b ≡ old_b)) ⊎ ((letter ≡ true) × (new_a ≡ old_a) × (new_b ≡ old_b ++ slabs))
+
+-- a piece was put, if no zone cuts its feature
+abbrev pub PutsUncut : Ink → Bool → List Rect → List Rect → List Rect → List Rect → List Rect → Type 0
+PutsUncut ink letter slabs old_a old_b new_a new_b = (IsUncut ink × Puts letter slabs old_a old_b new_a new_b) ⊎ (¬ IsUncut ink × (new_a ≡ old_a) × (new_b ≡ old_b))
+
+-- a feature was put, if it lies on one mask
+abbrev pub PutsOne : Ink → List Rect → List Rect → List Rect → List Rect → List Rect → Type 0
+PutsOne ink slabs old_a old_b new_a new_b = ((letter : Mask) × (ink ≡ One letter) × Puts (is_second letter) slabs old_a old_b new_a new_b) ⊎ (¬ IsOne ink × (new_a ≡ old_a) × (new_b ≡ old_b))
+
+-- the squares of some of the features
+abbrev pub in_some : List (List Rect) → (ℕ → Type 0) → Region
+in_some features done p = (f : ℕ) × done f × part_at features f p
+
+-- what a mask has of some of the features, as slabs in any order
+pub record IsSheet (features : List (List Rect)) (mask : Region) (done : ℕ → Type 0) (out : List Rect) : Type 0 where
+  pub scattered : AreScattered out
+  pub covers : (p : Pt) → Covers out p ↔ (mask p × in_some features done p)
+  pub within : AreRectsWithin farthest out
+
+-- pieces and zones of features, the features that were cut, and on which masks features lie
+pub record AreKnown (features parts : List (List Rect)) (owners : List ℕ) (zones : List Zone) (sides : List (ℕ × ℕ)) (wholes : List Whole) (colours : List Bool) (inks : List Ink) : Type 0 where
+  pub apart : AreParts parts
+  pub lie : LieIn features parts owners zones wholes
+  pub own : AllZip (AreOwnSides owners) zones sides
+  pub known : All (λ side. (side.0 < length parts) × (side.1 < length parts)) sides
+  pub inked : AreInks (length features) owners colours wholes inks
+
+-- a feature that lies on both masks, one of the first n pieces, or one of the first m features that were cut
+abbrev pub IsDone : List ℕ → List Whole → List Ink → ℕ → ℕ → ℕ → Type 0
+IsDone owners wholes inks n m f =
+    IsMixed (ink_at inks f)
+    ⊎ (((k : ℕ) × (k < n) × (slice_index owners k ≡ f) × IsUncut (ink_at inks f))
+    ⊎ ((k : ℕ) × (w : Whole) × (k < m) × (k < length wholes) × (slice_index_or wholes k w ≡ w) × (w.feature ≡ f) × IsOne (ink_at inks f)))
+
+-- both masks with all that is done
+pub record AreSheets (parts : List (List Rect)) (owners : List ℕ) (zones : List Zone) (sides : List (ℕ × ℕ)) (wholes : List Whole) (colours : List Bool) (inks : List Ink) (n m : ℕ) (a b : List Rect) : Type 0 where
+  pub features : List (List Rect)
+  pub facts : AreKnown features parts owners zones sides wholes colours inks
+  pub first : IsSheet features (on_mask parts zones sides colours false) (IsDone owners wholes inks n m) a
+  pub second : IsSheet features (on_mask parts zones sides colours true) (IsDone owners wholes inks n m) b
+
+-- the squares of those of the first n pieces that have the letter and lie in features on both masks
+abbrev pub rest_pieces : ℕ → List (List Rect) → List ℕ → List Bool → List Ink → Bool → Region
+rest_pieces n parts owners colours inks letter p = (k : ℕ) × (k < n) × (k < length parts) × (colour_at colours k ≡ letter) × IsMixed (ink_at inks (slice_index owners k)) × part_at parts k p
+
+-- the same of zones with a side of the letter
+abbrev pub rest_zones : ℕ → List Zone → List (ℕ × ℕ) → List Bool → List Ink → Bool → Region
+rest_zones n zones sides colours inks letter p =
+    (k : ℕ) × (z : Zone) × (side : ℕ × ℕ) × (k < n) × (k < length zones) × (slice_index_or zones k z ≡ z) × (slice_index_or sides k side ≡ side) × IsEither colours side letter × IsMixed (ink_at inks z.feature) × Has z.rect p
+
+-- rectangles with what the features on both masks have on one
+pub record AreRest (parts : List (List Rect)) (owners : List ℕ) (zones : List Zone) (sides : List (ℕ × ℕ)) (colours : List Bool) (inks : List Ink) (letter : Bool) (rects : List Rect) : Type 0 where
+  pub covers : (p : Pt) → Covers rects p ↔ (rest_zones (length zones) zones sides colours inks letter p ⊎ rest_pieces (length parts) parts owners colours inks letter p)
+  pub within : AreRectsWithin farthest rects

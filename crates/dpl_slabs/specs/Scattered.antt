@@ -1,0 +1,24 @@
+-- Slabs of one set in any order, and sets that don't touch one another.
+use Rattle.std.specs.Prelude.{◌≡◌, ℕ, ◌<◌, ◌⊎◌, List, length, slice_index_or}
+use Rattle.std.specs.List.{All, AllPairs}
+use Rattle.dpl_spec.specs.declared.Pt.{Pt}
+use Rattle.dpl_spec.specs.declared.Rect.{Rect}
+use Rattle.dpl_spec.specs.Squares.{AreTouching, Covers}
+use Rattle.dpl_spec.specs.Slabs.{IsSolid, Follows}
+
+-- no square of one touches a square of the other
+abbrev pub AreUntouched : List Rect → List Rect → Type 0
+AreUntouched s t = ¬ AreTouching (Covers s) (Covers t)
+
+-- one of the two follows the other
+abbrev pub FollowEither : Rect → Rect → Type 0
+FollowEither a b = Follows a b ⊎ Follows b a
+
+-- the canonical slabs of some set, in any order
+pub record AreScattered (rs : List Rect) : Type 0 where
+  pub solid : All IsSolid rs
+  pub follow : AllPairs FollowEither rs
+
+-- the squares of the first n sets
+abbrev pub InFirst : List (List Rect) → ℕ → Pt → Type 0
+InFirst sets n p = (k : ℕ) × (s : List Rect) × (k < n) × (k < length sets) × (slice_index_or sets k s ≡ s) × Covers s p
