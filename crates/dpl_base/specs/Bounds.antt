@@ -1,7 +1,7 @@
 -- The least rectangle round some rectangles, one after the other.
 use Rattle.std.specs.Prelude.{Option, Some, None}
 use Rattle.std.specs.Int.{int_min, int_max}
-use Rattle.dpl_spec.specs.declared.Rect.{Rect}
+use Rattle.dpl_spec_split.specs.declared.Rect.{Rect}
 
 -- round one rectangle more
 abbrev pub round_one : Option Rect → Rect → Option Rect

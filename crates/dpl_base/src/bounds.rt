@@ -2,7 +2,7 @@
 ghost use Rattle.std.specs.Prelude.{◌≡◌};
 ghost use Rattle.dpl_base.specs.Bounds.{round_one};
 
-use dpl_spec::Rect;
+use dpl_spec_split::Rect;
 
 /// The least rectangle round those before and one more.
 pub fn round_one(before: Option<Rect>, r: &Rect) -> Option<Rect>

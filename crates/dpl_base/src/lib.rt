@@ -8,8 +8,8 @@ mod loops;
 mod wide;
 
 ghost use Rattle.std.specs.Prelude.{◌≡◌, ◌+◌, ◌*◌, ◌^◌, ◌<◌, ◌≤◌, ◌<ℤ◌, ◌↔◌, IsTrue, IsNone, IfSome, unsigned_abs};
-ghost use Rattle.dpl_spec.specs.Loops.{IsPointWithin, farthest};
-ghost use Rattle.dpl_spec.specs.Squares.{Has, IsSquaredDistance, IsSolidWithin, AreNear, AreTouching, IsReach};
+ghost use Rattle.dpl_spec_split.specs.Loops.{IsPointWithin, farthest};
+ghost use Rattle.dpl_spec_split.specs.Squares.{Has, IsSquaredDistance, IsSolidWithin, AreNear, AreTouching, IsReach};
 ghost use Rattle.dpl_base.specs.Spans.{IsSpanGap};
 
 pub use crate::bounds::round_one;
@@ -17,7 +17,7 @@ pub use crate::listed::Listed;
 pub use crate::lists::{give_back, numbers_below};
 pub use crate::loops::Loop;
 pub use crate::wide::WideRect;
-pub use dpl_spec::{Pt, Rect, Zone};
+pub use dpl_spec_split::{Pt, Rect, Zone};
 
 /// The number of a piece, a feature or a zone.
 pub type Id = u64;

@@ -12,7 +12,7 @@ pub struct Loop {
 
 impl Model for Loop {
     ghost use Rattle.std.specs.Prelude.{List};
-    ghost use Rattle.dpl_spec.specs.declared.Pt.{Pt};
+    ghost use Rattle.dpl_spec_split.specs.declared.Pt.{Pt};
 
     ghost Value = { List Pt };
 

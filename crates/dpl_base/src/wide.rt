@@ -1,7 +1,7 @@
 //! Rectangles that may reach past all layers.
 ghost use Rattle.std.specs.Prelude.{◌≡◌};
 
-use dpl_spec::Rect;
+use dpl_spec_split::Rect;
 use std::marker::Model;
 
 /// A rectangle in 64 bits a coordinate, which may reach past all layers: the window of a search, the cell of a grid, the outline of a path's segment. A contract sees it as a `Rect`.
@@ -14,7 +14,7 @@ pub struct WideRect {
 }
 
 impl Model for WideRect {
-    ghost use Rattle.dpl_spec.specs.declared.Rect.{Rect};
+    ghost use Rattle.dpl_spec_split.specs.declared.Rect.{Rect};
 
     ghost Value = { Rect };
 

@@ -2,7 +2,7 @@
 use crate::key::Key;
 use crate::name::Name;
 use dpl_base::Listed;
-use dpl_spec::{Pt, Rect};
+use dpl_spec_split::{Pt, Rect};
 
 /// The rules that a decomposition kept to, and what it counted.
 #[derive(Clone, Copy, Debug, Drop, PartialEq, Eq)]

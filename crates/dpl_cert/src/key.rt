@@ -2,7 +2,7 @@
 ghost use Rattle.std.specs.Prelude.{◌≡◌};
 ghost use Rattle.dpl_cert.specs.Grammar.{IsPoint};
 
-use dpl_spec::Pt;
+use dpl_spec_split::Pt;
 use std::marker::Model;
 
 /// The least square of a piece, in 32 bits a coordinate, in database units. A contract sees it as a `Pt`.
@@ -13,7 +13,7 @@ pub struct Key {
 }
 
 impl Model for Key {
-    ghost use Rattle.dpl_spec.specs.declared.Pt.{Pt};
+    ghost use Rattle.dpl_spec_split.specs.declared.Pt.{Pt};
 
     ghost Value = { Pt };
 

@@ -4,15 +4,15 @@ use Rattle.std.specs.Prelude.{◌↔◌}
 use Rattle.std.specs.List.{All, Contains}
 use Rattle.std.proofs.lemmas.Int.{ints}
 use Rattle.std.proofs.lemmas.List.{get_or_default}
-use Rattle.dpl_spec.specs.declared.Pt.{Pt}
-use Rattle.dpl_spec.specs.declared.Rect.{Rect}
-use Rattle.dpl_spec.specs.Squares.{Covers, Has}
-use Rattle.dpl_spec.specs.Slabs.{IsSolid}
-use Rattle.dpl_spec.specs.Components.{Linked, AreComponents}
-use Rattle.dpl_spec.specs.Zones.{part_at}
-use Rattle.dpl_spec.proofs.ComponentLaws.{Linked-trans, Linked-sym}
-use Rattle.dpl_spec.proofs.SlabLaws.{Covers-member, member-Covers}
-use Rattle.dpl_spec.proofs.WholeLaws.{part-unique}
+use Rattle.dpl_spec_split.specs.declared.Pt.{Pt}
+use Rattle.dpl_spec_split.specs.declared.Rect.{Rect}
+use Rattle.dpl_spec_split.specs.Squares.{Covers, Has}
+use Rattle.dpl_spec_split.specs.Slabs.{IsSolid}
+use Rattle.dpl_spec_split.specs.Components.{Linked, AreComponents}
+use Rattle.dpl_spec_split.specs.Zones.{part_at}
+use Rattle.dpl_spec_split.proofs.ComponentLaws.{Linked-trans, Linked-sym}
+use Rattle.dpl_spec_split.proofs.SlabLaws.{Covers-member, member-Covers}
+use Rattle.dpl_spec_split.proofs.WholeLaws.{part-unique}
 use Rattle.dpl_feature.proofs.Links.{linked-within}
 use Rattle.dpl_piece.proofs.CornerLaws.{zip-at}
 use Rattle.dpl_tree.specs.declared.items.Item.{Item}
@@ -20,7 +20,7 @@ use Rattle.dpl_tree.specs.declared.owners.Owners.TheVariants.{All as Everyone, O
 use Rattle.dpl_tree.specs.Trees.{AreItemsOf}
 use Rattle.dpl_slabs.specs.Parts.{AreParts}
 use Rattle.dpl_nearest.specs.Search.{AreSolidItems, ItemCovers}
-use Rattle.dpl_verdict.specs.Masks.{AreTooClose}
+use Rattle.dpl_spec_verdict.specs.Masks.{AreTooClose}
 use Rattle.dpl_check.specs.Findings.{IsLeastPairOf}
 use Rattle.dpl_check.specs.Owned.{IsAt, AreForeign, AreOwners, IsOwnedOnce, corner}
 

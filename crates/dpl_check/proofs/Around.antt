@@ -6,10 +6,10 @@ use Rattle.std.specs.List.{All, Contains}
 use Rattle.std.proofs.lemmas.Bool.{cases_eq}
 use Rattle.std.proofs.lemmas.Int.{ints, clamps}
 use Rattle.std.proofs.lemmas.List.{get_or_default}
-use Rattle.dpl_spec.specs.declared.Pt.{Pt}
-use Rattle.dpl_spec.specs.declared.Rect.{Rect}
-use Rattle.dpl_spec.specs.Squares.{Has}
-use Rattle.dpl_spec.specs.Loops.{farthest, IsRectWithin}
+use Rattle.dpl_spec_split.specs.declared.Pt.{Pt}
+use Rattle.dpl_spec_split.specs.declared.Rect.{Rect}
+use Rattle.dpl_spec_split.specs.Squares.{Has}
+use Rattle.dpl_spec_split.specs.Loops.{farthest, IsRectWithin}
 use Rattle.dpl_base.specs.Bounds.{round_one}
 use Rattle.dpl_cert.specs.Grammar.{IsCoordinate, IsRect, IsStitch}
 use Rattle.dpl_cert.specs.declared.cert.StitchLine.{StitchLine}

@@ -1,12 +1,12 @@
 -- The counts of a layer's cut.
 use Rattle.std.proofs.Common.{◌≡◌, ℕ, inl, inr, List, length, sym, ap, ◌∙◌}
 use Rattle.std.proofs.lemmas.Bool.{cases_eq}
-use Rattle.dpl_spec.specs.declared.Rect.{Rect}
-use Rattle.dpl_spec.specs.Squares.{Covers}
-use Rattle.dpl_spec.specs.Decomposition.{Cut, IsCut}
-use Rattle.dpl_verdict.proofs.OrderLaws.{one-cut}
+use Rattle.dpl_spec_split.specs.declared.Rect.{Rect}
+use Rattle.dpl_spec_split.specs.Squares.{Covers}
+use Rattle.dpl_spec_split.specs.Decomposition.{Cut, IsCut}
+use Rattle.dpl_spec_verdict.proofs.OrderLaws.{one-cut}
 use Rattle.dpl_cert.specs.declared.cert.Head.{Head}
-use Rattle.dpl_verdict.specs.Conflicts.{CountsDiffer}
+use Rattle.dpl_spec_verdict.specs.Conflicts.{CountsDiffer}
 use Rattle.dpl_check.specs.declared.cut.LayerCut.{LayerCut}
 use Rattle.dpl_check.specs.Cutting.{HasOtherCounts, cut_view}
 

@@ -1,12 +1,12 @@
 -- The cut of a layer, from its parts.
 use Rattle.std.proofs.Common.{◌≡◌, ℕ, List, subst, sym}
-use Rattle.dpl_spec.specs.declared.Rect.{Rect}
-use Rattle.dpl_spec.specs.declared.Zone.{Zone}
-use Rattle.dpl_spec.specs.Squares.{Covers}
-use Rattle.dpl_spec.specs.Components.{AreComponents}
-use Rattle.dpl_spec.specs.Zones.{AreZones}
-use Rattle.dpl_spec.specs.Pieces.{ArePieces}
-use Rattle.dpl_spec.specs.Decomposition.{IsCut}
+use Rattle.dpl_spec_split.specs.declared.Rect.{Rect}
+use Rattle.dpl_spec_split.specs.declared.Zone.{Zone}
+use Rattle.dpl_spec_split.specs.Squares.{Covers}
+use Rattle.dpl_spec_split.specs.Components.{AreComponents}
+use Rattle.dpl_spec_split.specs.Zones.{AreZones}
+use Rattle.dpl_spec_split.specs.Pieces.{ArePieces}
+use Rattle.dpl_spec_split.specs.Decomposition.{IsCut}
 use Rattle.dpl_slabs.specs.Parts.{union_of}
 use Rattle.dpl_piece.specs.Cutting.{AreTheirPieces, CutPieces}
 use Rattle.dpl_check.specs.Cutting.{cut_view}

@@ -4,7 +4,7 @@ use Rattle.std.specs.Prelude.{◌↔◌}
 use Rattle.std.specs.List.{All, AllByRecursion}
 use Rattle.std.proofs.lemmas.Bool.{cases_eq}
 use Rattle.std.proofs.lemmas.List.{get_or_default}
-use Rattle.dpl_verdict.specs.Order.{HasBad, IsFirstBad}
+use Rattle.dpl_spec_verdict.specs.Order.{HasBad, IsFirstBad}
 use Rattle.dpl_check.specs.Findings.{IsFirstBadOf}
 
 -- none of the first n is bad

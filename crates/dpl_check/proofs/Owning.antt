@@ -5,19 +5,19 @@ use Rattle.std.specs.List.{All, Contains}
 use Rattle.std.proofs.lemmas.Int.{ints}
 use Rattle.std.proofs.lemmas.Bool.{cases_eq}
 use Rattle.std.proofs.lemmas.List.{get_or_default}
-use Rattle.dpl_spec.specs.declared.Pt.{Pt}
-use Rattle.dpl_spec.specs.declared.Rect.{Rect}
-use Rattle.dpl_spec.specs.Squares.{Region, Has, Precedes, IsLeast, d2}
-use Rattle.dpl_spec.specs.Loops.{farthest, AreRectsWithin}
-use Rattle.dpl_spec.specs.Slabs.{IsSolid}
-use Rattle.dpl_spec.proofs.SquareLaws.{d2-sym}
-use Rattle.dpl_spec.proofs.Ordered.{Contains-nil}
+use Rattle.dpl_spec_split.specs.declared.Pt.{Pt}
+use Rattle.dpl_spec_split.specs.declared.Rect.{Rect}
+use Rattle.dpl_spec_split.specs.Squares.{Region, Has, Precedes, IsLeast, d2}
+use Rattle.dpl_spec_split.specs.Loops.{farthest, AreRectsWithin}
+use Rattle.dpl_spec_split.specs.Slabs.{IsSolid}
+use Rattle.dpl_spec_split.proofs.SquareLaws.{d2-sym}
+use Rattle.dpl_spec_split.proofs.Ordered.{Contains-nil}
 use Rattle.dpl_tree.specs.declared.items.Item.{Item}
 use Rattle.dpl_tree.specs.declared.owners.Owners.TheVariants.{All as Everyone, But, Only}
 use Rattle.dpl_tree.specs.Trees.{HasItem}
 use Rattle.dpl_nearest.specs.Search.{AreSolidItems, ItemCovers, near_part, unit_of, IsImproved}
 use Rattle.dpl_nearest.proofs.NearLaws.{Precedes-trans}
-use Rattle.dpl_verdict.specs.Order.{IsLeastPair}
+use Rattle.dpl_spec_verdict.specs.Order.{IsLeastPair}
 use Rattle.dpl_check.specs.Findings.{IsLeastOf, IsLeastPairOf}
 use Rattle.dpl_check.specs.Owned.{IsAt, IsOwnedBelow, AreOwnedItems, foreign, AreForeign, IsOwnedOnce, IsSingle}
 use Rattle.dpl_check.proofs.Windows.{unit-only, unit-self}

@@ -4,11 +4,11 @@ use Rattle.std.specs.Prelude.{◌↔◌}
 use Rattle.std.proofs.lemmas.Int.{ints}
 use Rattle.std.proofs.lemmas.Bool.{cases_eq, cases_lt, cases_order, false≢true}
 use Rattle.std.proofs.lemmas.List.{get_or_default, get_or_past, get_or-set_same, get_or-set_other, length-set}
-use Rattle.dpl_spec.specs.declared.Pt.{Pt}
-use Rattle.dpl_spec.specs.declared.Rect.{Rect}
-use Rattle.dpl_spec.specs.Squares.{AreNear, Covers, Has, d2}
-use Rattle.dpl_spec.specs.Zones.{part_at}
-use Rattle.dpl_spec.proofs.SlabLaws.{Covers-member, member-Covers}
+use Rattle.dpl_spec_split.specs.declared.Pt.{Pt}
+use Rattle.dpl_spec_split.specs.declared.Rect.{Rect}
+use Rattle.dpl_spec_split.specs.Squares.{AreNear, Covers, Has, d2}
+use Rattle.dpl_spec_split.specs.Zones.{part_at}
+use Rattle.dpl_spec_split.proofs.SlabLaws.{Covers-member, member-Covers}
 use Rattle.dpl_slabs.specs.Parts.{AreParts}
 use Rattle.dpl_tree.specs.declared.items.Item.{Item}
 use Rattle.dpl_tree.specs.declared.owners.Owners.TheVariants.{All as Everyone, Only}
@@ -19,7 +19,7 @@ use Rattle.dpl_cert.specs.Grammar.{IsPoint}
 use Rattle.dpl_piece.specs.Cutting.{CutPieces}
 use Rattle.dpl_cert.specs.declared.cert.PlaceLine.{PlaceLine}
 use Rattle.dpl_cert.specs.declared.cert.NearLine.{NearLine}
-use Rattle.dpl_verdict.specs.Conflicts.{IsBadPlace, IsGoodPlace, piece_of}
+use Rattle.dpl_spec_verdict.specs.Conflicts.{IsBadPlace, IsGoodPlace, piece_of}
 use Rattle.dpl_check.specs.Cutting.{cut_view}
 use Rattle.dpl_check.specs.Places.{AreMarked, IsRightPlace}
 use Rattle.dpl_check.proofs.Windows.{unit-only, unit-self}

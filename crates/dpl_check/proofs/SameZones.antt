@@ -1,10 +1,10 @@
 -- Layers of the same squares have the same zones.
 use Rattle.std.proofs.Common.{ℕ, inl, inr, ℤ, List}
-use Rattle.dpl_spec.specs.declared.Rect.{Rect}
-use Rattle.dpl_spec.specs.declared.Zone.{Zone}
-use Rattle.dpl_spec.specs.Squares.{Region, SameSquares}
-use Rattle.dpl_spec.specs.Zones.{AreZones, IsClearRun, IsHorizontalZone, IsKeptZone, IsStretch, IsVerticalZone, at, part_at, turned, turned_rect}
-use Rattle.dpl_spec.proofs.SquareLaws.{SameSquares-sym}
+use Rattle.dpl_spec_split.specs.declared.Rect.{Rect}
+use Rattle.dpl_spec_split.specs.declared.Zone.{Zone}
+use Rattle.dpl_spec_split.specs.Squares.{Region, SameSquares}
+use Rattle.dpl_spec_split.specs.Zones.{AreZones, IsClearRun, IsHorizontalZone, IsKeptZone, IsStretch, IsVerticalZone, at, part_at, turned, turned_rect}
+use Rattle.dpl_spec_split.proofs.SquareLaws.{SameSquares-sym}
 
 run_same : (rule : ℕ) (l m f : Region) (y0 y1 x : ℤ) → SameSquares l m → IsClearRun rule l f y0 y1 x → IsClearRun rule m f y0 y1 x
 run_same rule l m f y0 y1 x same r = record { some = r.some; inside = r.inside; clear = λ y a b q h no. r.clear y a b q ((same q).1 h) no; below = r.below; above = r.above }

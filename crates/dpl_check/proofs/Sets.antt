@@ -3,20 +3,20 @@ use Rattle.std.proofs.Common.{◌≡◌, ℕ, zero, suc, ◌<◌, ◌⊎◌, inl
 use Rattle.std.specs.Prelude.{◌↔◌, IsNone, IfSome}
 use Rattle.std.specs.List.{All, Any, Contains}
 use Rattle.std.proofs.lemmas.Int.{ints, by_lt_z}
-use Rattle.dpl_spec.specs.declared.Pt.{Pt}
-use Rattle.dpl_spec.specs.declared.Rect.{Rect}
-use Rattle.dpl_spec.specs.Squares.{Region, SameSquares, Covers, Has, IsLeast}
-use Rattle.dpl_spec.specs.Slabs.{AreSlabsOf}
-use Rattle.dpl_spec.specs.Loops.{farthest, AreRectsWithin, IsRectWithin}
-use Rattle.dpl_spec.proofs.Ordered.{Contains-head, Contains-later, Contains-cases, Contains-nil}
-use Rattle.dpl_spec.proofs.SlabLaws.{Covers-member, member-Covers}
+use Rattle.dpl_spec_split.specs.declared.Pt.{Pt}
+use Rattle.dpl_spec_split.specs.declared.Rect.{Rect}
+use Rattle.dpl_spec_split.specs.Squares.{Region, SameSquares, Covers, Has, IsLeast}
+use Rattle.dpl_spec_split.specs.Slabs.{AreSlabsOf}
+use Rattle.dpl_spec_split.specs.Loops.{farthest, AreRectsWithin, IsRectWithin}
+use Rattle.dpl_spec_split.proofs.Ordered.{Contains-head, Contains-later, Contains-cases, Contains-nil}
+use Rattle.dpl_spec_split.proofs.SlabLaws.{Covers-member, member-Covers}
 use Rattle.dpl_cert.specs.declared.cert.StitchLine.{StitchLine}
 use Rattle.dpl_cert.specs.Grammar.{IsStitch}
-use Rattle.dpl_spec.specs.Components.{AreComponents}
-use Rattle.dpl_spec.proofs.ComponentLaws.{components-unique}
+use Rattle.dpl_spec_split.specs.Components.{AreComponents}
+use Rattle.dpl_spec_split.proofs.ComponentLaws.{components-unique}
 use Rattle.dpl_cert.specs.declared.cert.Head.{Head}
-use Rattle.dpl_verdict.specs.Order.{HasSquare}
-use Rattle.dpl_verdict.specs.Masks.{CountDiffers, is_doubled, is_uncovered}
+use Rattle.dpl_spec_verdict.specs.Order.{HasSquare}
+use Rattle.dpl_spec_verdict.specs.Masks.{CountDiffers, is_doubled, is_uncovered}
 use Rattle.dpl_check.specs.Findings.{IsLeastOf, is_unlisted}
 
 pub has_or_not : (r : Rect) (p : Pt) → Has r p ⊎ (Has r p → ⊥)

@@ -3,19 +3,19 @@ use Rattle.std.proofs.Common.{◌≡◌, ℕ, ◌<◌, inl, inr, Bool, true, fal
 use Rattle.std.specs.Prelude.{◌↔◌, cond}
 use Rattle.std.specs.List.{Contains}
 use Rattle.std.proofs.lemmas.List.{get_or_default}
-use Rattle.dpl_spec.specs.declared.Pt.{Pt}
-use Rattle.dpl_spec.specs.declared.Rect.{Rect}
-use Rattle.dpl_spec.specs.Squares.{Covers, Has}
-use Rattle.dpl_spec.specs.Slabs.{AreSlabsOf, IsCanonical}
-use Rattle.dpl_spec.proofs.Ordered.{Contains-head}
-use Rattle.dpl_spec.proofs.SlabLaws.{Covers-member}
+use Rattle.dpl_spec_split.specs.declared.Pt.{Pt}
+use Rattle.dpl_spec_split.specs.declared.Rect.{Rect}
+use Rattle.dpl_spec_split.specs.Squares.{Covers, Has}
+use Rattle.dpl_spec_split.specs.Slabs.{AreSlabsOf, IsCanonical}
+use Rattle.dpl_spec_split.proofs.Ordered.{Contains-head}
+use Rattle.dpl_spec_split.proofs.SlabLaws.{Covers-member}
 use Rattle.dpl_cert.specs.declared.cert.PieceLine.{PieceLine}
 use Rattle.dpl_cert.specs.declared.cert.StitchLine.{StitchLine}
 use Rattle.dpl_tree.specs.declared.items.Item.{Item}
 use Rattle.dpl_tree.specs.declared.owners.Owners.TheVariants.{All as Everyone}
 use Rattle.dpl_nearest.specs.Search.{AreSolidItems, ItemCovers}
 use Rattle.dpl_nearest.proofs.ItemLaws.{AreItemsOfRects, items-solid, items-cover, covers-items}
-use Rattle.dpl_verdict.specs.Masks.{IsGoodStitch, IsBadStitch, IsBadPiece}
+use Rattle.dpl_spec_verdict.specs.Masks.{IsGoodStitch, IsBadStitch, IsBadPiece}
 use Rattle.dpl_check.specs.Findings.{IsFirstBadOf, IsRightStitch, IsWrongStitch, IsOffMask}
 use Rattle.dpl_check.proofs.Finding.{first-same}
 use Rattle.dpl_check.proofs.Sets.{covered_or_not}

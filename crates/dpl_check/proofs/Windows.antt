@@ -2,17 +2,17 @@
 use Rattle.std.proofs.Common.{◌≡◌, ℕ, ◌<◌, ◌≤◌, inl, inr, List, length, get_or, sym, ap, refl, ◌∙◌, subst, arith}
 use Rattle.std.specs.Prelude.{ℤ, pos, ◌+ℤ◌, ◌≤ℤ◌, ◌<ℤ◌, Option, Some, None, IfSome}
 use Rattle.std.proofs.lemmas.Int.{ints, by_lt_z}
-use Rattle.dpl_spec.specs.declared.Pt.{Pt}
-use Rattle.dpl_spec.specs.declared.Rect.{Rect}
-use Rattle.dpl_spec.specs.Squares.{Has}
-use Rattle.dpl_spec.specs.Slabs.{IsSolid}
-use Rattle.dpl_spec.specs.Zones.{at}
+use Rattle.dpl_spec_split.specs.declared.Pt.{Pt}
+use Rattle.dpl_spec_split.specs.declared.Rect.{Rect}
+use Rattle.dpl_spec_split.specs.Squares.{Has}
+use Rattle.dpl_spec_split.specs.Slabs.{IsSolid}
+use Rattle.dpl_spec_split.specs.Zones.{at}
 use Rattle.dpl_tree.specs.declared.items.Item.{Item}
 use Rattle.dpl_tree.specs.declared.owners.Owners.TheVariants.{All as Everyone, Only}
 use Rattle.dpl_tree.specs.Trees.{LiesApart, IsMissed, ArePassed}
 use Rattle.dpl_tree.proofs.ItemLaws.{item-at}
 use Rattle.dpl_nearest.specs.Search.{AreSolidItems, ItemCovers, unit_of}
-use Rattle.dpl_verdict.specs.Order.{HasSquare}
+use Rattle.dpl_spec_verdict.specs.Order.{HasSquare}
 
 -- two spans that aren't apart share a number
 shared : (a b c d : ℤ) → a <ℤ b → c <ℤ d → (d ≤ℤ a → ⊥) → (b ≤ℤ c → ⊥) → (x : ℤ) × (a ≤ℤ x) × (x <ℤ b) × (c ≤ℤ x) × (x <ℤ d)

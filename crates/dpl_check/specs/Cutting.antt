@@ -1,12 +1,12 @@
 -- A layer cut into pieces, in the words of the definitions.
 use Rattle.std.specs.Prelude.{◌≡◌, ◌≢◌, ◌⊎◌, ℕ, List, length}
-use Rattle.dpl_spec.specs.declared.Rect.{Rect}
-use Rattle.dpl_spec.specs.Squares.{Region}
-use Rattle.dpl_spec.specs.Decomposition.{Cut, IsCut}
+use Rattle.dpl_spec_split.specs.declared.Rect.{Rect}
+use Rattle.dpl_spec_split.specs.Squares.{Region}
+use Rattle.dpl_spec_split.specs.Decomposition.{Cut, IsCut}
 use Rattle.dpl_piece.specs.Cutting.{CutPieces}
 use Rattle.dpl_cert.specs.declared.cert.Head.{Head}
-use Rattle.dpl_verdict.specs.declared.Verdict.{Verdict}
-use Rattle.dpl_verdict.specs.declared.Verdict.TheVariants.{Counts}
+use Rattle.dpl_spec_verdict.specs.declared.Verdict.{Verdict}
+use Rattle.dpl_spec_verdict.specs.declared.Verdict.TheVariants.{Counts}
 use Rattle.dpl_check.specs.declared.cut.LayerCut.{LayerCut}
 
 -- the cut of these features into pieces

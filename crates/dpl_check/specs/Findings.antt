@@ -1,16 +1,16 @@
 -- What a search finds: the least square of a set, the first bad item of a list, the least pair of squares.
 use Rattle.std.specs.Prelude.{◌≢◌, ℕ, pos, ◌<◌, ◌⊎◌, ◌-ℤ◌, ◌≤ℤ◌, cond, List, Option, Some, None, length}
 use Rattle.std.specs.List.{Any}
-use Rattle.dpl_spec.specs.declared.Pt.{Pt}
-use Rattle.dpl_spec.specs.declared.Rect.{Rect}
-use Rattle.dpl_spec.specs.Squares.{Region, Covers, Has, IsLeast}
+use Rattle.dpl_spec_split.specs.declared.Pt.{Pt}
+use Rattle.dpl_spec_split.specs.declared.Rect.{Rect}
+use Rattle.dpl_spec_split.specs.Squares.{Region, Covers, Has, IsLeast}
 use Rattle.dpl_tree.specs.declared.items.Item.{Item}
 use Rattle.dpl_tree.specs.declared.owners.Owners.TheVariants.{All as Everyone}
 use Rattle.dpl_nearest.specs.Search.{ItemCovers}
 use Rattle.dpl_cert.specs.declared.cert.PieceLine.{PieceLine}
 use Rattle.dpl_cert.specs.declared.cert.StitchLine.{StitchLine}
-use Rattle.dpl_verdict.specs.Masks.{piece_at}
-use Rattle.dpl_verdict.specs.Order.{HasBad, HasSquare, IsFirstBad, IsLeastPair}
+use Rattle.dpl_spec_verdict.specs.Masks.{piece_at}
+use Rattle.dpl_spec_verdict.specs.Order.{HasBad, HasSquare, IsFirstBad, IsLeastPair}
 
 abbrev pub IsLeastOf : Region → Option Pt → Type 0
 IsLeastOf a None = ¬ HasSquare a

@@ -1,13 +1,13 @@
 -- Places of a cycle, by the tree of the layer's pieces.
 use Rattle.std.specs.Prelude.{◌≡◌, ◌≢◌, ℕ, ◌*◌, ◌<◌, ◌↔◌, List, length, slice_index, slice_index_or, Bool, true}
-use Rattle.dpl_spec.specs.declared.Pt.{Pt}
-use Rattle.dpl_spec.specs.declared.Rect.{Rect}
-use Rattle.dpl_spec.specs.Squares.{d2}
-use Rattle.dpl_spec.specs.Zones.{part_at}
+use Rattle.dpl_spec_split.specs.declared.Pt.{Pt}
+use Rattle.dpl_spec_split.specs.declared.Rect.{Rect}
+use Rattle.dpl_spec_split.specs.Squares.{d2}
+use Rattle.dpl_spec_split.specs.Zones.{part_at}
 use Rattle.dpl_piece.specs.Cutting.{CutPieces}
 use Rattle.dpl_cert.specs.declared.cert.PlaceLine.{PlaceLine}
 use Rattle.dpl_cert.specs.declared.cert.NearLine.{NearLine}
-use Rattle.dpl_verdict.specs.Conflicts.{piece_of}
+use Rattle.dpl_spec_verdict.specs.Conflicts.{piece_of}
 
 -- a piece of the layer, with its key
 pub record IsKeyed (keys : List Pt) (place : PlaceLine) : Type 0 where

@@ -1,14 +1,14 @@
 //! Checks an odd cycle of a layer's pieces.
 ghost use Rattle.std.specs.Prelude.{IfOk};
 ghost use Rattle.dpl_cert.specs.Grammar.{IsCert, IsRule};
-ghost use Rattle.dpl_verdict.specs.Conflicts.{IsOfConflict, IsVerdictOfConflict};
+ghost use Rattle.dpl_spec_verdict.specs.Conflicts.{IsOfConflict, IsVerdictOfConflict};
 
 use crate::counts::{counts_differ, counts_of, rules_differ};
 use crate::cut::cut_of;
 use crate::place::bad_place;
 use dpl_cert::Cert;
 use dpl_slabs::Slabs;
-use dpl_verdict::Verdict;
+use dpl_spec_verdict::Verdict;
 use std::alloc::{AllocError, Global};
 
 /// Whether the odd cycle of a certificate is one of the layer's, for a rule and an overlap in database units: the first property that is broken, or that none is.

@@ -1,13 +1,13 @@
 //! Whether a certificate is for the rules and the layer that are checked.
 ghost use Rattle.std.specs.Prelude.{◌≡◌, ◌≤◌, ◌↔◌, ℕ, IsTrue, IfOk, length};
-ghost use Rattle.dpl_spec.specs.Squares.{Covers};
-ghost use Rattle.dpl_verdict.specs.Order.{AreCounts, RulesDiffer, ShowsCounts};
+ghost use Rattle.dpl_spec_split.specs.Squares.{Covers};
+ghost use Rattle.dpl_spec_verdict.specs.Order.{AreCounts, RulesDiffer, ShowsCounts};
 ghost use Rattle.dpl_check.specs.Cutting.{HasOtherCounts, ShowsCountsOf};
 
 use crate::cut::{LayerCut, cut_of};
 use dpl_cert::Head;
 use dpl_slabs::Slabs;
-use dpl_verdict::Verdict;
+use dpl_spec_verdict::Verdict;
 use std::alloc::{AllocError, Global};
 
 /// Whether the certificate is for another rule or another overlap.

@@ -3,8 +3,8 @@ ghost use Rattle.std.specs.Prelude.{◌≡◌, IfOk, map};
 ghost use Rattle.std.specs.List.{All};
 ghost use Rattle.dpl_cert.specs.declared.cert.StitchLine.{StitchLine};
 ghost use Rattle.dpl_cert.specs.Grammar.{IsStitch};
-ghost use Rattle.dpl_spec.specs.Squares.{Covers};
-ghost use Rattle.dpl_verdict.specs.Masks.{is_uncovered};
+ghost use Rattle.dpl_spec_split.specs.Squares.{Covers};
+ghost use Rattle.dpl_spec_verdict.specs.Masks.{is_uncovered};
 ghost use Rattle.dpl_check.specs.Findings.{IsLeastOf, is_unlisted};
 
 use dpl_base::{Pt, Rect};

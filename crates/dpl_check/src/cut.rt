@@ -1,6 +1,6 @@
 //! Features, zones and pieces of a layer.
 ghost use Rattle.std.specs.Prelude.{◌≤◌, IfOk};
-ghost use Rattle.dpl_spec.specs.Squares.{Covers};
+ghost use Rattle.dpl_spec_split.specs.Squares.{Covers};
 ghost use Rattle.dpl_check.specs.Cutting.{IsCutOf};
 
 use dpl_feature::features;

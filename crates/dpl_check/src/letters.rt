@@ -2,10 +2,10 @@
 ghost use Rattle.std.specs.Prelude.{◌≢◌, ◌⊎◌, ◌↔◌, cond, IsTrue, IfOk};
 ghost use Rattle.std.specs.List.{All};
 ghost use Rattle.dpl_cert.specs.Grammar.{IsPiece};
-ghost use Rattle.dpl_spec.specs.Squares.{Covers};
+ghost use Rattle.dpl_spec_split.specs.Squares.{Covers};
 ghost use Rattle.dpl_tree.specs.declared.owners.Owners.TheVariants.{All as Everyone};
 ghost use Rattle.dpl_nearest.specs.Search.{AreSolidItems, ItemCovers};
-ghost use Rattle.dpl_verdict.specs.Masks.{IsBadPiece};
+ghost use Rattle.dpl_spec_verdict.specs.Masks.{IsBadPiece};
 ghost use Rattle.dpl_check.specs.Findings.{IsFirstBadOf, IsOffMask};
 
 use crate::window::has;

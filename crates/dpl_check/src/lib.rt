@@ -14,4 +14,4 @@ mod window;
 
 pub use crate::conflict::check_conflict;
 pub use crate::masks::check_masks;
-pub use dpl_verdict::Verdict;
+pub use dpl_spec_verdict::Verdict;

@@ -1,7 +1,7 @@
 //! Checks two masks of a layer.
 ghost use Rattle.std.specs.Prelude.{IfOk};
 ghost use Rattle.dpl_cert.specs.Grammar.{IsCert, IsRule};
-ghost use Rattle.dpl_verdict.specs.Masks.{IsOfMasks, IsVerdictOfMasks};
+ghost use Rattle.dpl_spec_verdict.specs.Masks.{IsOfMasks, IsVerdictOfMasks};
 
 use crate::counts::{counts, rules_differ};
 use crate::cover::{doubled, uncovered};
@@ -11,7 +11,7 @@ use crate::stitch::bad_stitch;
 use dpl_cert::Cert;
 use dpl_feature::features;
 use dpl_slabs::Slabs;
-use dpl_verdict::Verdict;
+use dpl_spec_verdict::Verdict;
 use std::alloc::{AllocError, Global};
 
 /// Whether masks `a` and `b` of a layer, with their certificate, are right for a rule and an overlap in database units: the first property that is broken, or that none is.

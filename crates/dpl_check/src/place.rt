@@ -1,14 +1,14 @@
 //! Places of a cycle whose pieces aren't the layer's, or don't conflict.
 ghost use Rattle.std.specs.Prelude.{◌≡◌, ◌≢◌, ◌+◌, ◌*◌, ◌<◌, ◌↔◌, List, IsTrue, IfOk, length, slice_index};
 ghost use Rattle.std.specs.List.{All};
-ghost use Rattle.dpl_spec.specs.declared.Rect.{Rect};
-ghost use Rattle.dpl_spec.specs.Squares.{d2};
-ghost use Rattle.dpl_spec.specs.Loops.{farthest};
-ghost use Rattle.dpl_spec.specs.Zones.{part_at};
+ghost use Rattle.dpl_spec_split.specs.declared.Rect.{Rect};
+ghost use Rattle.dpl_spec_split.specs.Squares.{d2};
+ghost use Rattle.dpl_spec_split.specs.Loops.{farthest};
+ghost use Rattle.dpl_spec_split.specs.Zones.{part_at};
 ghost use Rattle.dpl_cert.specs.Grammar.{IsNear, IsPlace, IsPoint};
 ghost use Rattle.dpl_slabs.specs.Parts.{AreParts};
 ghost use Rattle.dpl_tree.specs.Trees.{AreItemsOf};
-ghost use Rattle.dpl_verdict.specs.Conflicts.{IsBadPlace};
+ghost use Rattle.dpl_spec_verdict.specs.Conflicts.{IsBadPlace};
 ghost use Rattle.dpl_check.specs.Findings.{IsFirstBadOf};
 ghost use Rattle.dpl_check.specs.Places.{AreMarked, IsKeyed, IsNearLine, IsRightPlace};
 ghost use Rattle.dpl_check.specs.Cutting.{cut_view};

@@ -1,14 +1,14 @@
 //! The least pair of squares of different features on a mask that are too close.
 ghost use Rattle.std.specs.Prelude.{◌≡◌, ◌≤◌, IfOk, length, unsigned_abs};
 ghost use Rattle.std.specs.List.{All};
-ghost use Rattle.dpl_spec.specs.declared.Pt.{Pt};
-ghost use Rattle.dpl_spec.specs.Components.{AreComponents};
-ghost use Rattle.dpl_spec.specs.Loops.{farthest, AreRectsWithin, IsRectWithin};
-ghost use Rattle.dpl_spec.specs.Slabs.{IsSolid};
-ghost use Rattle.dpl_spec.specs.Squares.{Covers};
+ghost use Rattle.dpl_spec_split.specs.declared.Pt.{Pt};
+ghost use Rattle.dpl_spec_split.specs.Components.{AreComponents};
+ghost use Rattle.dpl_spec_split.specs.Loops.{farthest, AreRectsWithin, IsRectWithin};
+ghost use Rattle.dpl_spec_split.specs.Slabs.{IsSolid};
+ghost use Rattle.dpl_spec_split.specs.Squares.{Covers};
 ghost use Rattle.dpl_tree.specs.declared.owners.Owners.TheVariants.{All as Everyone, Only};
 ghost use Rattle.dpl_nearest.specs.Search.{AreSolidItems, ItemCovers};
-ghost use Rattle.dpl_verdict.specs.Masks.{AreTooClose};
+ghost use Rattle.dpl_spec_verdict.specs.Masks.{AreTooClose};
 ghost use Rattle.dpl_check.specs.Findings.{IsLeastOf, IsLeastPairOf};
 ghost use Rattle.dpl_check.specs.Owned.{AreForeign, AreOwnedItems, AreOwners, IsOwnedOnce, IsSingle, corner, foreign};
 

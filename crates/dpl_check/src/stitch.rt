@@ -3,12 +3,12 @@ ghost use Rattle.std.specs.Prelude.{◌≡◌, ◌≢◌, ◌<◌, ◌⊎◌, �
 ghost use Rattle.std.specs.List.{All, Contains};
 ghost use Rattle.dpl_cert.specs.Grammar.{IsCoordinate, IsRect, IsStitch};
 ghost use Rattle.dpl_cert.specs.declared.cert.StitchLine.{StitchLine};
-ghost use Rattle.dpl_spec.specs.declared.Pt.{Pt};
-ghost use Rattle.dpl_spec.specs.Squares.{Covers, Has};
-ghost use Rattle.dpl_spec.specs.Loops.{farthest, IsRectWithin};
+ghost use Rattle.dpl_spec_split.specs.declared.Pt.{Pt};
+ghost use Rattle.dpl_spec_split.specs.Squares.{Covers, Has};
+ghost use Rattle.dpl_spec_split.specs.Loops.{farthest, IsRectWithin};
 ghost use Rattle.dpl_tree.specs.declared.owners.Owners.TheVariants.{All as Everyone};
 ghost use Rattle.dpl_nearest.specs.Search.{AreSolidItems, ItemCovers};
-ghost use Rattle.dpl_verdict.specs.Masks.{piece_at};
+ghost use Rattle.dpl_spec_verdict.specs.Masks.{piece_at};
 ghost use Rattle.dpl_check.specs.Findings.{IsFirstBadOf, IsRightStitch, IsWrongStitch};
 
 use crate::window::is_met;

@@ -1,10 +1,10 @@
 //! Searches a tree for a rectangle that has a square in a window.
 ghost use Rattle.std.specs.Prelude.{◌≤◌, ◌^◌, ◌↔◌, IsTrue, IsNone, IfSome, unsigned_abs};
-ghost use Rattle.dpl_spec.specs.Slabs.{IsSolid};
-ghost use Rattle.dpl_spec.specs.Squares.{Has};
+ghost use Rattle.dpl_spec_split.specs.Slabs.{IsSolid};
+ghost use Rattle.dpl_spec_split.specs.Squares.{Has};
 ghost use Rattle.dpl_tree.specs.declared.owners.Owners.TheVariants.{All as Everyone, Only};
 ghost use Rattle.dpl_nearest.specs.Search.{AreSolidItems, ItemCovers};
-ghost use Rattle.dpl_verdict.specs.Order.{HasSquare};
+ghost use Rattle.dpl_spec_verdict.specs.Order.{HasSquare};
 
 use dpl_base::{Pt, WideRect};
 use dpl_nearest::window_at;

@@ -1,6 +1,6 @@
 -- A made-up layout of any number of rows, from a number.
 use Rattle.std.specs.Prelude.{ℕ, zero, suc, pos, ◌+◌, ◌*◌, ◌/◌, ◌%◌, ◌^◌, List, [], ◌∷◌, ◌++◌, codes}
-use Rattle.dpl_spec.specs.declared.Rect.{Rect}
+use Rattle.dpl_spec_split.specs.declared.Rect.{Rect}
 use Rattle.dpl_masks.specs.Bytes.{boundaries_bytes, closing_bytes, record_bytes}
 
 -- the number behind x, by a linear congruence modulo 2 ^ 64

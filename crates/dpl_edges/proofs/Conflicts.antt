@@ -6,13 +6,13 @@ use Rattle.std.specs.List.Sorted.{IsSorted, IsPermutation}
 use Rattle.std.proofs.lemmas.Int.{ints}
 use Rattle.std.proofs.lemmas.List.{get_or_default}
 use Rattle.std.proofs.lemmas.List.Elements.{Contains-get_or}
-use Rattle.dpl_spec.specs.declared.Pt.{Pt}
-use Rattle.dpl_spec.specs.declared.Rect.{Rect}
-use Rattle.dpl_spec.specs.Squares.{Has, IsSolidWithin}
-use Rattle.dpl_spec.specs.Zones.{part_at}
-use Rattle.dpl_spec.specs.Graphs.{AreEdges}
-use Rattle.dpl_spec.specs.Pieces.{Conflict}
-use Rattle.dpl_spec.specs.Loops.{farthest}
+use Rattle.dpl_spec_split.specs.declared.Pt.{Pt}
+use Rattle.dpl_spec_split.specs.declared.Rect.{Rect}
+use Rattle.dpl_spec_split.specs.Squares.{Has, IsSolidWithin}
+use Rattle.dpl_spec_split.specs.Zones.{part_at}
+use Rattle.dpl_spec_split.specs.Graphs.{AreEdges}
+use Rattle.dpl_spec_split.specs.Pieces.{Conflict}
+use Rattle.dpl_spec_split.specs.Loops.{farthest}
 use Rattle.dpl_slabs.specs.Parts.{AreParts, union_of}
 use Rattle.dpl_tile.proofs.TileLaws.{squares-one_cell}
 use Rattle.dpl_tile.proofs.Orders.{pair_cmp, pair_eq, pairs-members, pairs-ordered}

@@ -6,11 +6,11 @@ use Rattle.std.specs.List.Sorted.{IsPermutation}
 use Rattle.std.proofs.lemmas.List.Sorted.{Contains-permutation, IsPermutation-sym}
 use Rattle.std.proofs.lemmas.List.Kept.{Contains-dedup_nat, Contains-from_dedup}
 use Rattle.std.proofs.lemmas.Bool.{cases_eq}
-use Rattle.dpl_spec.specs.declared.Pt.{Pt}
-use Rattle.dpl_spec.specs.declared.Rect.{Rect}
-use Rattle.dpl_spec.specs.Squares.{AreNear, Has}
-use Rattle.dpl_spec.specs.Zones.{part_at}
-use Rattle.dpl_spec.proofs.SquareLaws.{AreNear-sym}
+use Rattle.dpl_spec_split.specs.declared.Pt.{Pt}
+use Rattle.dpl_spec_split.specs.declared.Rect.{Rect}
+use Rattle.dpl_spec_split.specs.Squares.{AreNear, Has}
+use Rattle.dpl_spec_split.specs.Zones.{part_at}
+use Rattle.dpl_spec_split.proofs.SquareLaws.{AreNear-sym}
 use Rattle.dpl_tree.specs.declared.items.Item.{Item}
 use Rattle.dpl_tree.specs.declared.owners.Owners.TheVariants.{All, But}
 use Rattle.dpl_tree.specs.Trees.{IsMissed}

@@ -7,11 +7,11 @@ use Rattle.std.specs.Int.{int_min, int_max}
 use Rattle.std.specs.Int.RustNames.{FitsSigned}
 use Rattle.std.specs.List.{Contains}
 use Rattle.std.proofs.lemmas.Int.{ints, clamps, by_lt_z, fits_signed_from_abs, to_z-of_z}
-use Rattle.dpl_spec.specs.declared.Pt.{Pt}
-use Rattle.dpl_spec.specs.declared.Rect.{Rect}
-use Rattle.dpl_spec.specs.Squares.{AreNear, Has, IsSolidWithin, gap}
-use Rattle.dpl_spec.specs.Slabs.{IsSolid, IsCanonical}
-use Rattle.dpl_spec.specs.Loops.{farthest, AreRectsWithin, IsRectWithin}
+use Rattle.dpl_spec_split.specs.declared.Pt.{Pt}
+use Rattle.dpl_spec_split.specs.declared.Rect.{Rect}
+use Rattle.dpl_spec_split.specs.Squares.{AreNear, Has, IsSolidWithin, gap}
+use Rattle.dpl_spec_split.specs.Slabs.{IsSolid, IsCanonical}
+use Rattle.dpl_spec_split.specs.Loops.{farthest, AreRectsWithin, IsRectWithin}
 use Rattle.dpl_slabs.specs.Parts.{AreParts}
 use Rattle.dpl_tree.specs.Trees.{LiesApart}
 use Rattle.dpl_tree.specs.Windows.{IsWidened}

@@ -1,11 +1,11 @@
 -- Conflicts by the squares in one cell.
 use Rattle.std.specs.Prelude.{◌≢◌, ◌⊎◌, ◌↔◌, ℕ, ◌<◌, List, length, slice_get, slice_index, IfSome}
 use Rattle.std.specs.List.{Any}
-use Rattle.dpl_spec.specs.declared.Rect.{Rect}
-use Rattle.dpl_spec.specs.Squares.{Region, AreNear, Has}
-use Rattle.dpl_spec.specs.Zones.{part_at}
-use Rattle.dpl_spec.specs.Pieces.{Conflict}
-use Rattle.dpl_spec.specs.Graphs.{AreEdges}
+use Rattle.dpl_spec_split.specs.declared.Rect.{Rect}
+use Rattle.dpl_spec_split.specs.Squares.{Region, AreNear, Has}
+use Rattle.dpl_spec_split.specs.Zones.{part_at}
+use Rattle.dpl_spec_split.specs.Pieces.{Conflict}
+use Rattle.dpl_spec_split.specs.Graphs.{AreEdges}
 use Rattle.dpl_tile.specs.Tiles.{AreTiles}
 use Rattle.dpl_tile.specs.Plans.{Planned}
 

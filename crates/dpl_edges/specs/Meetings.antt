@@ -1,10 +1,10 @@
 -- Edges between pieces, found slab by slab.
 use Rattle.std.specs.Prelude.{◌≡◌, ◌≢◌, ◌⊎◌, ℕ, ◌<◌, ◌≤◌, ◌≤ℤ◌, ◌<ℤ◌, ◌+ℤ◌, pos, List, length, slice_index}
 use Rattle.std.specs.List.{Contains}
-use Rattle.dpl_spec.specs.declared.Rect.{Rect}
-use Rattle.dpl_spec.specs.Squares.{Region, AreNear, Has}
-use Rattle.dpl_spec.specs.Loops.{farthest}
-use Rattle.dpl_spec.specs.Zones.{part_at}
+use Rattle.dpl_spec_split.specs.declared.Rect.{Rect}
+use Rattle.dpl_spec_split.specs.Squares.{Region, AreNear, Has}
+use Rattle.dpl_spec_split.specs.Loops.{farthest}
+use Rattle.dpl_spec_split.specs.Zones.{part_at}
 use Rattle.dpl_edges.specs.InCells.{in_cell}
 
 -- pieces i and k have different owners, and rectangle s of the one is near slab r of the other

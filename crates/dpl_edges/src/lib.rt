@@ -3,9 +3,9 @@
 
 ghost use Rattle.std.specs.Prelude.{ℕ, ◌<◌, IfOk, length};
 ghost use Rattle.std.specs.List.{All};
-ghost use Rattle.dpl_spec.specs.Graphs.{AreEdges};
-ghost use Rattle.dpl_spec.specs.Pieces.{Conflict};
-ghost use Rattle.dpl_spec.specs.Slabs.{IsSolid};
+ghost use Rattle.dpl_spec_split.specs.Graphs.{AreEdges};
+ghost use Rattle.dpl_spec_split.specs.Pieces.{Conflict};
+ghost use Rattle.dpl_spec_split.specs.Slabs.{IsSolid};
 ghost use Rattle.dpl_slabs.specs.Parts.{AreParts};
 ghost use Rattle.dpl_edges.specs.InCells.{AreEdgesOf, ConflictIn};
 ghost use Rattle.dpl_edges.specs.Meetings.{IsWhole};

@@ -1,10 +1,10 @@
 //! Finds the pieces near a rectangle.
 ghost use Rattle.std.specs.Prelude.{◌≡◌, ◌<◌, ◌↔◌, ℕ, IsTrue, IfOk, OnOk, length};
 ghost use Rattle.std.specs.List.{Contains};
-ghost use Rattle.dpl_spec.specs.declared.Pt.{Pt};
-ghost use Rattle.dpl_spec.specs.Loops.{farthest};
-ghost use Rattle.dpl_spec.specs.Slabs.{IsSolid};
-ghost use Rattle.dpl_spec.specs.Squares.{Has, IsSolidWithin};
+ghost use Rattle.dpl_spec_split.specs.declared.Pt.{Pt};
+ghost use Rattle.dpl_spec_split.specs.Loops.{farthest};
+ghost use Rattle.dpl_spec_split.specs.Slabs.{IsSolid};
+ghost use Rattle.dpl_spec_split.specs.Squares.{Has, IsSolidWithin};
 ghost use Rattle.dpl_tile.specs.Adding.{Adds};
 ghost use Rattle.dpl_edges.specs.InCells.{in_cell};
 ghost use Rattle.dpl_edges.specs.Meetings.{AreMeeting, HaveCommon, IsNearPiece};

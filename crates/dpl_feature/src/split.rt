@@ -1,9 +1,9 @@
 //! Deals slabs out to components.
 ghost use Rattle.std.specs.Prelude.{◌≡◌, ℕ, ◌<◌, ◌≤◌, ◌+◌, length, OnOk, IfOk};
-ghost use Rattle.dpl_spec.specs.Squares.{Covers};
-ghost use Rattle.dpl_spec.specs.Slabs.{IsCanonical, IsSolid};
-ghost use Rattle.dpl_spec.specs.Loops.{farthest, AreRectsWithin};
-ghost use Rattle.dpl_spec.specs.Components.{AreComponents};
+ghost use Rattle.dpl_spec_split.specs.Squares.{Covers};
+ghost use Rattle.dpl_spec_split.specs.Slabs.{IsCanonical, IsSolid};
+ghost use Rattle.dpl_spec_split.specs.Loops.{farthest, AreRectsWithin};
+ghost use Rattle.dpl_spec_split.specs.Components.{AreComponents};
 ghost use Rattle.dpl_slabs.specs.Parts.{AreParts};
 ghost use Rattle.dpl_feature.specs.Meeting.{AreMet};
 ghost use Rattle.dpl_feature.specs.Dealt.{IsDealt};

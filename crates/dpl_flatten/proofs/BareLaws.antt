@@ -3,16 +3,16 @@ use Rattle.std.proofs.Common.{◌≡◌, ℕ, zero, suc, ◌+◌, ◌*◌, ◌/�
 use Rattle.std.proofs.Math.Nat.{mul-suc}
 use Rattle.std.proofs.lemmas.List.Sums.{sum_by-cons}
 use Rattle.std.specs.List.{Contains, sum_by}
-use Rattle.dpl_spec.specs.declared.Pt.{Pt}
-use Rattle.dpl_spec.specs.declared.Rect.{Rect}
-use Rattle.dpl_spec.proofs.Ordered.{Contains-cases, Contains-nil}
-use Rattle.dpl_elements.specs.Paths.{same, corners_of, rects_through, distinct}
-use Rattle.dpl_format.specs.Tree.{Library, Element, Body, is_boundary, is_path, is_sref, is_aref, is_text, is_node, is_box, elements_at, HasPoints}
-use Rattle.dpl_layout.specs.declared.Layer.{Layer}
-use Rattle.dpl_layout.specs.Elements.{loops_of, point_count, columns_of, rows_of, is_on, path_shape, points_in}
-use Rattle.dpl_layout.specs.Structures.{target_of}
-use Rattle.dpl_layout.specs.Placements.{Step, Leads}
-use Rattle.dpl_layout.specs.Points.{points_by, points_at, points_through}
+use Rattle.dpl_spec_split.specs.declared.Pt.{Pt}
+use Rattle.dpl_spec_split.specs.declared.Rect.{Rect}
+use Rattle.dpl_spec_split.proofs.Ordered.{Contains-cases, Contains-nil}
+use Rattle.dpl_spec_elements.specs.Paths.{same, corners_of, rects_through, distinct}
+use Rattle.dpl_spec_format.specs.Tree.{Library, Element, Body, is_boundary, is_path, is_sref, is_aref, is_text, is_node, is_box, elements_at, HasPoints}
+use Rattle.dpl_spec_layout.specs.declared.Layer.{Layer}
+use Rattle.dpl_spec_layout.specs.Elements.{loops_of, point_count, columns_of, rows_of, is_on, path_shape, points_in}
+use Rattle.dpl_spec_layout.specs.Structures.{target_of}
+use Rattle.dpl_spec_layout.specs.Placements.{Step, Leads}
+use Rattle.dpl_spec_layout.specs.Points.{points_by, points_at, points_through}
 use Rattle.dpl_links.specs.Graph.{IsMarked}
 use Rattle.dpl_flatten.specs.Links.{IsLinked, AlwaysFalls}
 use Rattle.dpl_flatten.specs.Totals.{IsBare}

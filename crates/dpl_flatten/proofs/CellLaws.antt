@@ -7,16 +7,16 @@ use Rattle.std.proofs.lemmas.Option.{slice_get_past, slice_get-get_or}
 use Rattle.std.proofs.lemmas.List.Elements.{Contains-append_left, Contains-append_right, Contains-append_cases, Contains-push, Contains-push_cases, All-contains, Contains-get_or}
 use Rattle.std.specs.List.{Contains}
 use Rattle.std.specs.Prelude.{slice_get}
-use Rattle.dpl_spec.specs.declared.Pt.{Pt}
-use Rattle.dpl_spec.specs.Loops.{IsRectilinear, ArePointsWithin}
-use Rattle.dpl_spec.proofs.Ordered.{Contains-nil}
-use Rattle.dpl_format.specs.Tree.{Library, Element, elements_at}
+use Rattle.dpl_spec_split.specs.declared.Pt.{Pt}
+use Rattle.dpl_spec_split.specs.Loops.{IsRectilinear, ArePointsWithin}
+use Rattle.dpl_spec_split.proofs.Ordered.{Contains-nil}
+use Rattle.dpl_spec_format.specs.Tree.{Library, Element, elements_at}
 use Rattle.dpl_syntax.specs.declared.element.Element.{Element as Found}
 use Rattle.dpl_syntax.specs.Elements.{element_seen}
-use Rattle.dpl_layout.specs.declared.Layer.{Layer}
-use Rattle.dpl_layout.specs.declared.ElementFault.{ElementFault}
-use Rattle.dpl_layout.specs.Elements.{loops_of, IsRefusedFor}
-use Rattle.dpl_layout.specs.Structures.{target_of}
+use Rattle.dpl_spec_layout.specs.declared.Layer.{Layer}
+use Rattle.dpl_spec_layout.specs.declared.ElementFault.{ElementFault}
+use Rattle.dpl_spec_layout.specs.Elements.{loops_of, IsRefusedFor}
+use Rattle.dpl_spec_layout.specs.Structures.{target_of}
 use Rattle.dpl_links.specs.Graph.{IsMarked}
 use Rattle.dpl_links.proofs.SpreadLaws.{marked_below}
 use Rattle.dpl_links.proofs.TakeLaws.{Contains-take_more, Contains-take_keeps, Contains-take_last}

@@ -2,8 +2,8 @@
 use Rattle.std.proofs.Common.{◌*◌, ◌/◌, ◌≡◌, ℕ, suc, ◌≤◌, ℤ, pos, negsuc, ◌+ℤ◌, ◌*ℤ◌, refl, unwrap_or, arith}
 use Rattle.std.specs.Prelude.{unsigned_abs, int_div}
 use Rattle.std.proofs.lemmas.Int.{ints}
-use Rattle.dpl_format.specs.Tree.{Sref, Aref, is_sref, is_aref}
-use Rattle.dpl_layout.specs.Elements.{plain, point_in}
+use Rattle.dpl_spec_format.specs.Tree.{Sref, Aref, is_sref, is_aref}
+use Rattle.dpl_spec_layout.specs.Elements.{plain, point_in}
 use Rattle.dpl_walk.specs.declared.cells.Copies.{Copies}
 use Rattle.dpl_flatten.specs.Cells.{IsSingleCopy, IsArrayOfCopies, AreCopies}
 use Rattle.std.proofs.Math.Nat.{mul-div-le}

@@ -1,12 +1,12 @@
 -- What a walk gathers of a drawing is of the layer.
 use Rattle.std.proofs.Common.{ℕ, List, Option, Some, None, Bool, get_or, refl, ⊎_elim}
 use Rattle.std.proofs.lemmas.List.Elements.{Contains-get_or}
-use Rattle.dpl_spec.specs.Loops.{AreLoopsWithin, farthest}
+use Rattle.dpl_spec_split.specs.Loops.{AreLoopsWithin, farthest}
 use Rattle.dpl_walk.specs.Least.{IsAtMost}
-use Rattle.dpl_spec.specs.declared.Pt.{Pt}
-use Rattle.dpl_format.specs.Tree.{Library}
-use Rattle.dpl_layout.specs.declared.Layer.{Layer}
-use Rattle.dpl_layout.specs.Faults.{IsSmall}
+use Rattle.dpl_spec_split.specs.declared.Pt.{Pt}
+use Rattle.dpl_spec_format.specs.Tree.{Library}
+use Rattle.dpl_spec_layout.specs.declared.Layer.{Layer}
+use Rattle.dpl_spec_layout.specs.Faults.{IsSmall}
 use Rattle.dpl_links.specs.Graph.{IsMarked}
 use Rattle.dpl_walk.specs.declared.cells.Cell.{Cell}
 use Rattle.dpl_walk.specs.Walk.{IsWalk}

@@ -1,9 +1,9 @@
 -- What elements are refused for.
 use Rattle.std.proofs.Common.{◌≡◌, ⊎_elim}
-use Rattle.dpl_elements.specs.Paths as paths
-use Rattle.dpl_elements.specs.Paths.{PathElement, PathFault, IsFaultless}
-use Rattle.dpl_layout.specs.declared.ElementFault.{ElementFault}
-use Rattle.dpl_layout.specs.declared.ElementFault.TheVariants.{AbsoluteTransform, Magnified, AngleNotRight, BadArray, SlantedBoundary, RoundPath, BadPathType, OddWidth, SlantedPath, PathTurnsBack, NegativeExtension}
+use Rattle.dpl_spec_elements.specs.Paths as paths
+use Rattle.dpl_spec_elements.specs.Paths.{PathElement, PathFault, IsFaultless}
+use Rattle.dpl_spec_layout.specs.declared.ElementFault.{ElementFault}
+use Rattle.dpl_spec_layout.specs.declared.ElementFault.TheVariants.{AbsoluteTransform, Magnified, AngleNotRight, BadArray, SlantedBoundary, RoundPath, BadPathType, OddWidth, SlantedPath, PathTurnsBack, NegativeExtension}
 use Rattle.std.proofs.Common.{ℕ, ◌+◌, ◌<◌, ◌≤◌, Bool, true, false, List, map, length, get_or, take, sym, ◌∙◌, arith}
 use Rattle.std.proofs.lemmas.Bool.{cases_lt}
 use Rattle.std.proofs.lemmas.List.{take_all}
@@ -12,15 +12,15 @@ use Rattle.dpl_links.proofs.TakeLaws.{Contains-take_more}
 use Rattle.dpl_flatten.proofs.LeastLaws.{seen_at, seen_length}
 use Rattle.std.proofs.lemmas.List.Elements.{Contains-get_or}
 use Rattle.std.specs.List.{Contains}
-use Rattle.dpl_format.specs.Tree.{Library, Element, elements_at}
+use Rattle.dpl_spec_format.specs.Tree.{Library, Element, elements_at}
 use Rattle.dpl_syntax.specs.declared.element.Element.{Element as Found}
 use Rattle.dpl_syntax.specs.Elements.{element_seen}
-use Rattle.dpl_layout.specs.declared.FlattenFault.{FlattenFault}
+use Rattle.dpl_spec_layout.specs.declared.FlattenFault.{FlattenFault}
 use Rattle.dpl_walk.proofs.ListLaws.{Contains-map}
 use Rattle.std.specs.Prelude.{Option, Some, None, unwrap_or}
-use Rattle.dpl_format.specs.Tree.{Aref, Path, is_aref, is_path}
-use Rattle.dpl_layout.specs.declared.Layer.{Layer}
-use Rattle.dpl_layout.specs.Elements.{IsPathFault, IsArray, plain, is_on, path_shape}
+use Rattle.dpl_spec_format.specs.Tree.{Aref, Path, is_aref, is_path}
+use Rattle.dpl_spec_layout.specs.declared.Layer.{Layer}
+use Rattle.dpl_spec_layout.specs.Elements.{IsPathFault, IsArray, plain, is_on, path_shape}
 use Rattle.dpl_flatten.specs.Drawn.{IsFaultOf, IsRefusal, IsTakenAt, HasRefusalAt, IsFaultOfReference, IsFaultOfPath}
 
 no_first : (p : PathElement) (g : PathFault) → IsFaultless p → paths.IsFirstFault p g → ⊥

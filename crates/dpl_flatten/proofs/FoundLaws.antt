@@ -1,9 +1,9 @@
 -- The marked structures are those that the top reaches.
 use Rattle.std.proofs.Common.{◌≡◌, ℕ, Bool, List, Some, None, length, ◌∙◌}
-use Rattle.dpl_format.specs.Tree.{Library, Element}
-use Rattle.dpl_layout.specs.declared.Layer.{Layer}
-use Rattle.dpl_layout.specs.declared.FlattenFault.{FlattenFault}
-use Rattle.dpl_layout.specs.Faults.{Finding, IsFound, IsNowhere, IsNoneBefore, IsFirst, IsFirstFault, IsRefused, IsWhole}
+use Rattle.dpl_spec_format.specs.Tree.{Library, Element}
+use Rattle.dpl_spec_layout.specs.declared.Layer.{Layer}
+use Rattle.dpl_spec_layout.specs.declared.FlattenFault.{FlattenFault}
+use Rattle.dpl_spec_layout.specs.Faults.{Finding, IsFound, IsNowhere, IsNoneBefore, IsFirst, IsFirstFault, IsRefused, IsWhole}
 use Rattle.dpl_links.specs.Graph.{AreReached, IsMarked, here}
 use Rattle.dpl_links.proofs.SpreadLaws.{marked_below}
 use Rattle.dpl_flatten.specs.Links.{IsGraphOf}

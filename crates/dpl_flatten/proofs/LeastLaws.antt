@@ -3,12 +3,12 @@ use Rattle.std.proofs.Common.{◌≡◌, ℕ, ◌+◌, ◌<◌, ◌≤◌, ◌�
 use Rattle.std.proofs.lemmas.Bool.{cases_lt}
 use Rattle.std.proofs.lemmas.List.{take_all, get_or-map, length-map}
 use Rattle.std.specs.Prelude.{◌↔◌, IsTrue}
-use Rattle.dpl_format.specs.Tree.{Library, Element, elements_at}
+use Rattle.dpl_spec_format.specs.Tree.{Library, Element, elements_at}
 use Rattle.dpl_syntax.specs.declared.element.Element.{Element as Found}
 use Rattle.dpl_syntax.specs.Elements.{element_seen}
-use Rattle.dpl_layout.specs.Faults.{Finding}
+use Rattle.dpl_spec_layout.specs.Faults.{Finding}
 use Rattle.dpl_links.proofs.TakeLaws.{Contains-take_more, Contains-take_keeps, Contains-take_last}
-use Rattle.dpl_spec.proofs.Ordered.{Contains-nil}
+use Rattle.dpl_spec_split.proofs.Ordered.{Contains-nil}
 use Rattle.dpl_flatten.specs.Least.{IsLeastOf, IsNoted, Among, AmongMarked}
 use Rattle.dpl_walk.specs.Least.{earlier}
 

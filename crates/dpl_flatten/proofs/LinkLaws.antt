@@ -11,14 +11,14 @@ use Rattle.std.specs.Prelude.{◌↔◌, slice_get, nat_eq}
 use Rattle.std.specs.Option.{option_and_then}
 use Rattle.std.specs.Cmp.Lexicographic.{pointwise}
 use Rattle.std.proofs.lemmas.List.Quantifiers.{position-Some}
-use Rattle.dpl_spec.proofs.Ordered.{Contains-head, Contains-nil}
+use Rattle.dpl_spec_split.proofs.Ordered.{Contains-head, Contains-nil}
 use Rattle.dpl_walk.proofs.ListLaws.{Contains-map, Contains-map_cases, Contains-option, Contains-the_option}
-use Rattle.dpl_format.specs.Tree.{Library, elements_at, elements_or_none}
+use Rattle.dpl_spec_format.specs.Tree.{Library, elements_at, elements_or_none}
 use Rattle.dpl_syntax.specs.declared.element.Element.{Element}
 use Rattle.dpl_syntax.specs.Elements.{element_seen, IsSized}
-use Rattle.dpl_format.specs.Tree.{Element as TreeElement, Structure, names_in, HasPoints}
-use Rattle.dpl_layout.specs.Elements.{reference_name}
-use Rattle.dpl_layout.specs.Structures.{target_of, structure_named, Refers, AreRoots}
+use Rattle.dpl_spec_format.specs.Tree.{Element as TreeElement, Structure, names_in, HasPoints}
+use Rattle.dpl_spec_layout.specs.Elements.{reference_name}
+use Rattle.dpl_spec_layout.specs.Structures.{target_of, structure_named, Refers, AreRoots}
 use Rattle.dpl_links.specs.Sources.{AreSources}
 use Rattle.dpl_links.specs.Graph.{LeadsTo, targets_at, IsGraph}
 use Rattle.dpl_flatten.specs.Links.{IsGraphOf}

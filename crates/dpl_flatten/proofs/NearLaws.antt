@@ -5,25 +5,25 @@ use Rattle.std.proofs.lemmas.Int.{ints, by_lt_z}
 use Rattle.std.proofs.lemmas.List.Elements.{All-cons, All-tail, All-head}
 use Rattle.std.specs.List.{All}
 use Rattle.std.specs.Prelude.{unsigned_abs}
-use Rattle.dpl_spec.specs.declared.Pt.{Pt}
-use Rattle.dpl_spec.specs.declared.Rect.{Rect}
-use Rattle.dpl_spec.specs.Loops.{IsPointWithin, ArePointsWithin, AreLoopsWithin, IsRectWithin}
-use Rattle.dpl_spec.proofs.Ordered.{Contains-head, Contains-later, Contains-cases, Contains-nil}
-use Rattle.dpl_elements.specs.declared.Heading.{Heading}
-use Rattle.dpl_elements.specs.declared.Heading.TheVariants.{East, North, West, South}
-use Rattle.dpl_elements.specs.declared.Segment.{Segment}
-use Rattle.dpl_elements.specs.Boundaries.{IsSlanted}
-use Rattle.dpl_elements.specs.Paths.{same, heading, same_heading, segments_from, bar, bar_to, bars, square_round, half_of, past_end, rects_through, path_rects, path_of, corners_of, distinct, PathElement}
+use Rattle.dpl_spec_split.specs.declared.Pt.{Pt}
+use Rattle.dpl_spec_split.specs.declared.Rect.{Rect}
+use Rattle.dpl_spec_split.specs.Loops.{IsPointWithin, ArePointsWithin, AreLoopsWithin, IsRectWithin}
+use Rattle.dpl_spec_split.proofs.Ordered.{Contains-head, Contains-later, Contains-cases, Contains-nil}
+use Rattle.dpl_spec_elements.specs.declared.Heading.{Heading}
+use Rattle.dpl_spec_elements.specs.declared.Heading.TheVariants.{East, North, West, South}
+use Rattle.dpl_spec_elements.specs.declared.Segment.{Segment}
+use Rattle.dpl_spec_elements.specs.Boundaries.{IsSlanted}
+use Rattle.dpl_spec_elements.specs.Paths.{same, heading, same_heading, segments_from, bar, bar_to, bars, square_round, half_of, past_end, rects_through, path_rects, path_of, corners_of, distinct, PathElement}
 use Rattle.dpl_shapes.specs.declared.fault.ShapeFault.{ShapeFault}
 use Rattle.dpl_shapes.specs.declared.fault.ShapeFault.TheVariants.{SlantedBoundary, RoundPath, BadPathType, OddWidth, SlantedPath, PathTurnsBack, NegativeExtension, NoMemory}
 use Rattle.dpl_shapes.specs.Refusals.{RefusesBoundary, RefusesPath}
 use Rattle.dpl_shapes.specs.Strokes.{IsSegmentWithin}
 use Rattle.dpl_shapes.proofs.Members.{Contains-distinct}
 use Rattle.dpl_shapes.proofs.Ends.{past-within}
-use Rattle.dpl_layout.specs.declared.ElementFault.{ElementFault}
-use Rattle.dpl_layout.specs.declared.ElementFault.TheVariants as faults
-use Rattle.dpl_layout.specs.Elements.{IsPathFault, IsReferenceFault, IsTurnedAskew, IsArray}
-use Rattle.dpl_format.specs.Tree.{Trans}
+use Rattle.dpl_spec_layout.specs.declared.ElementFault.{ElementFault}
+use Rattle.dpl_spec_layout.specs.declared.ElementFault.TheVariants as faults
+use Rattle.dpl_spec_layout.specs.Elements.{IsPathFault, IsReferenceFault, IsTurnedAskew, IsArray}
+use Rattle.dpl_spec_format.specs.Tree.{Trans}
 
 all_nil : {X : Type 0} (P : X → Type 0) → All P []
 all_nil P k d h = absurd (omega (arith, h))

@@ -5,16 +5,16 @@ use Rattle.std.proofs.lemmas.Int.{ints}
 use Rattle.std.proofs.lemmas.List.Elements.{Contains-get_or}
 use Rattle.std.proofs.lemmas.List.{get_or-take, length-take}
 use Rattle.std.proofs.lemmas.Option.{slice_get-get_or, slice_get_within}
-use Rattle.dpl_spec.specs.declared.Pt.{Pt}
-use Rattle.dpl_spec.proofs.Ordered.{Contains-nil, Contains-head}
-use Rattle.dpl_elements.specs.Reals.{Excess64, real_of, IsWhole, IsQuarterTurns}
-use Rattle.dpl_elements.specs.Motions.{Motion, image}
-use Rattle.dpl_format.specs.Tree.{Library, Element, Body, elements_at}
-use Rattle.dpl_layout.specs.declared.Layer.{Layer}
-use Rattle.dpl_layout.specs.Elements.{loops_of, AreTurns, IsCopyMotion}
-use Rattle.dpl_layout.specs.Placements.{Step, IsStep, Leads, IsPlacement, placed}
+use Rattle.dpl_spec_split.specs.declared.Pt.{Pt}
+use Rattle.dpl_spec_split.proofs.Ordered.{Contains-nil, Contains-head}
+use Rattle.dpl_spec_elements.specs.Reals.{Excess64, real_of, IsWhole, IsQuarterTurns}
+use Rattle.dpl_spec_elements.specs.Motions.{Motion, image}
+use Rattle.dpl_spec_format.specs.Tree.{Library, Element, Body, elements_at}
+use Rattle.dpl_spec_layout.specs.declared.Layer.{Layer}
+use Rattle.dpl_spec_layout.specs.Elements.{loops_of, AreTurns, IsCopyMotion}
+use Rattle.dpl_spec_layout.specs.Placements.{Step, IsStep, Leads, IsPlacement, placed}
 use Rattle.dpl_links.specs.Graph.{IsMarked, AreReached}
-use Rattle.dpl_layout.specs.Faults.{IsNowhere, IsRefused}
+use Rattle.dpl_spec_layout.specs.Faults.{IsNowhere, IsRefused}
 use Rattle.dpl_flatten.proofs.ReachLaws.{reaches_in_layout}
 use Rattle.dpl_walk.specs.declared.cells.Outline.{Outline}
 use Rattle.dpl_walk.specs.declared.cells.Copies.{Copies}
@@ -24,7 +24,7 @@ use Rattle.dpl_walk.specs.Cells.{copy_motion}
 use Rattle.dpl_flatten.specs.Cells.{AreCopies, AreCountedTargets, AreTaken, AreCells}
 use Rattle.dpl_flatten.specs.Totals.{AreTotals}
 use Rattle.dpl_flatten.specs.Drawing.{IsTrimmed, drawn}
-use Rattle.dpl_layout.specs.Structures.{target_of}
+use Rattle.dpl_spec_layout.specs.Structures.{target_of}
 use Rattle.dpl_walk.specs.Ways.{AreBehind, IsOrderOf}
 use Rattle.dpl_walk.specs.Walk.{Pass, Passes, through, IsShown, AreKnown, AreDeep, outlines_at, copies_at}
 use Rattle.dpl_flatten.proofs.LinkLaws.{target_known}

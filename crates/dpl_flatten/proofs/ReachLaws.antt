@@ -5,18 +5,18 @@ use Rattle.std.proofs.lemmas.Option.{slice_get_past}
 use Rattle.std.specs.List.{Contains}
 use Rattle.std.proofs.lemmas.List.Elements.{Contains-get_or}
 use Rattle.std.specs.Prelude.{◌↔◌, slice_get}
-use Rattle.dpl_format.specs.Tree.{Library, Element, elements_at, elements_or_none}
-use Rattle.dpl_layout.specs.Structures.{target_of, Reaches, here, on}
-use Rattle.dpl_layout.specs.Faults.{IsOnCycle}
+use Rattle.dpl_spec_format.specs.Tree.{Library, Element, elements_at, elements_or_none}
+use Rattle.dpl_spec_layout.specs.Structures.{target_of, Reaches, here, on}
+use Rattle.dpl_spec_layout.specs.Faults.{IsOnCycle}
 use Rattle.dpl_links.specs.Graph as links
 use Rattle.dpl_links.specs.Graph.{LeadsTo, IsMarked}
 use Rattle.dpl_links.proofs.SpreadLaws.{Reaches-then}
 use Rattle.dpl_links.specs.Parts.{AreLevels}
 use Rattle.dpl_links.specs.Order.{IsOrder, HasCycle}
 use Rattle.dpl_links.proofs.SpreadLaws.{marked_below}
-use Rattle.dpl_layout.specs.Faults.{IsNowhere}
+use Rattle.dpl_spec_layout.specs.Faults.{IsNowhere}
 use Rattle.dpl_flatten.specs.Least.{IsLeastOf, AmongMarked}
-use Rattle.dpl_spec.proofs.Ordered.{Contains-nil}
+use Rattle.dpl_spec_split.proofs.Ordered.{Contains-nil}
 use Rattle.dpl_flatten.specs.Links.{IsGraphOf, IsLinked, IsLevelled, IsOrdered}
 
 pub reaches_in_layout : {lib : Library} {graph : List (List ℕ)} {k l : ℕ} → IsGraphOf lib graph → links.Reaches graph k l → Reaches lib k l

@@ -4,15 +4,15 @@ use Rattle.std.specs.List.{All, Contains}
 use Rattle.std.specs.Prelude.{◌↔◌}
 use Rattle.std.proofs.lemmas.List.{get_or-map, length-map}
 use Rattle.std.proofs.lemmas.List.Elements.{Contains-get_or}
-use Rattle.dpl_spec.specs.declared.Pt.{Pt}
-use Rattle.dpl_spec.specs.Loops.{SomeLoopCovers, IsRectilinear, IsLevelOrUpright, ArePointsWithin, farthest}
-use Rattle.dpl_elements.specs.Motions.{Motion, image, turned, reflected, moved}
-use Rattle.dpl_format.specs.Tree.{Library, Element}
-use Rattle.dpl_layout.specs.declared.Layer.{Layer}
-use Rattle.dpl_layout.specs.Elements.{loops_of}
-use Rattle.dpl_layout.specs.Structures.{Reaches, here, on}
-use Rattle.dpl_layout.specs.Placements.{Step, Leads, IsPlacement, placed, IsInLayer}
-use Rattle.dpl_layout.specs.Faults.{IsFound, IsOut, IsNowhere, IsFirst}
+use Rattle.dpl_spec_split.specs.declared.Pt.{Pt}
+use Rattle.dpl_spec_split.specs.Loops.{SomeLoopCovers, IsRectilinear, IsLevelOrUpright, ArePointsWithin, farthest}
+use Rattle.dpl_spec_elements.specs.Motions.{Motion, image, turned, reflected, moved}
+use Rattle.dpl_spec_format.specs.Tree.{Library, Element}
+use Rattle.dpl_spec_layout.specs.declared.Layer.{Layer}
+use Rattle.dpl_spec_layout.specs.Elements.{loops_of}
+use Rattle.dpl_spec_layout.specs.Structures.{Reaches, here, on}
+use Rattle.dpl_spec_layout.specs.Placements.{Step, Leads, IsPlacement, placed, IsInLayer}
+use Rattle.dpl_spec_layout.specs.Faults.{IsFound, IsOut, IsNowhere, IsFirst}
 use Rattle.dpl_links.specs.Graph.{IsMarked}
 use Rattle.dpl_walk.specs.declared.cells.Cell.{Cell}
 use Rattle.dpl_flatten.specs.Links.{IsLinked}

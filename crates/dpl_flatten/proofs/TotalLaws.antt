@@ -5,14 +5,14 @@ use Rattle.std.proofs.lemmas.List.{length-replicate}
 use Rattle.std.proofs.lemmas.List.Sums.{sum_by-cons, sum_by_more}
 use Rattle.std.proofs.lemmas.List.Elements.{All-set, All-replicate}
 use Rattle.std.specs.List.{Contains, All, sum_by}
-use Rattle.dpl_spec.proofs.Ordered.{Contains-head, Contains-later}
-use Rattle.dpl_format.specs.Tree.{Library, Element, elements_at}
+use Rattle.dpl_spec_split.proofs.Ordered.{Contains-head, Contains-later}
+use Rattle.dpl_spec_format.specs.Tree.{Library, Element, elements_at}
 use Rattle.dpl_syntax.specs.declared.element.Element.{Element as Found}
 use Rattle.dpl_syntax.specs.Elements.{element_seen}
-use Rattle.dpl_layout.specs.declared.Layer.{Layer}
-use Rattle.dpl_layout.specs.Elements.{point_count, columns_of, rows_of}
-use Rattle.dpl_layout.specs.Structures.{target_of}
-use Rattle.dpl_layout.specs.Points.{points_by, points_at, points_through, placed_points}
+use Rattle.dpl_spec_layout.specs.declared.Layer.{Layer}
+use Rattle.dpl_spec_layout.specs.Elements.{point_count, columns_of, rows_of}
+use Rattle.dpl_spec_layout.specs.Structures.{target_of}
+use Rattle.dpl_spec_layout.specs.Points.{points_by, points_at, points_through, placed_points}
 use Rattle.dpl_links.specs.Graph.{IsMarked}
 use Rattle.dpl_links.specs.Order.{IsPlaced}
 use Rattle.dpl_links.proofs.SpreadLaws.{marked_below}

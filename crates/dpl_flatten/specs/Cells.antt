@@ -1,13 +1,13 @@
 -- What one structure draws, and the copies that it places.
 use Rattle.std.specs.Prelude.{◌≡◌, ◌≢◌, ℕ, ◌<◌, ◌⊎◌, Bool, ℤ, pos, ◌-ℤ◌, int_div, ◌^◌, unsigned_abs, slice_index, ◌++◌, ◌∷◌, [], map, length, List, Some, None}
 use Rattle.std.specs.List.{All, Contains}
-use Rattle.dpl_spec.specs.declared.Pt.{Pt}
-use Rattle.dpl_spec.specs.Loops.{IsRectilinear, ArePointsWithin, AreLoopsWithin}
-use Rattle.dpl_format.specs.Tree.{Library, Body, Trans, Element, elements_at}
-use Rattle.dpl_layout.specs.declared.Layer.{Layer}
-use Rattle.dpl_layout.specs.declared.ElementFault.{ElementFault}
-use Rattle.dpl_layout.specs.Elements.{loops_of, point_in, columns_of, rows_of, IsCopyMotion, reflects, AreTurns, IsRefusedFor}
-use Rattle.dpl_layout.specs.Structures.{target_of}
+use Rattle.dpl_spec_split.specs.declared.Pt.{Pt}
+use Rattle.dpl_spec_split.specs.Loops.{IsRectilinear, ArePointsWithin, AreLoopsWithin}
+use Rattle.dpl_spec_format.specs.Tree.{Library, Body, Trans, Element, elements_at}
+use Rattle.dpl_spec_layout.specs.declared.Layer.{Layer}
+use Rattle.dpl_spec_layout.specs.declared.ElementFault.{ElementFault}
+use Rattle.dpl_spec_layout.specs.Elements.{loops_of, point_in, columns_of, rows_of, IsCopyMotion, reflects, AreTurns, IsRefusedFor}
+use Rattle.dpl_spec_layout.specs.Structures.{target_of}
 use Rattle.dpl_flatten.specs.Totals.{IsBare, PlacesSome}
 use Rattle.dpl_flatten.specs.declared.copies.Turn.{Turn}
 use Rattle.dpl_walk.specs.declared.cells.Outline.{Outline}

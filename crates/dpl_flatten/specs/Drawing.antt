@@ -1,13 +1,13 @@
 -- What a drawing of a layer is, and what its loops are.
 use Rattle.std.specs.Prelude.{◌^◌, ◌<◌, ◌≤◌, ◌↔◌, ℕ, List, Option, Some, None, length}
 use Rattle.std.specs.List.{All, Contains}
-use Rattle.dpl_spec.specs.declared.Pt.{Pt}
-use Rattle.dpl_spec.specs.Loops.{SomeLoopCovers, IsRectilinear, AreLoopsWithin, farthest}
-use Rattle.dpl_format.specs.Tree.{Library}
-use Rattle.dpl_layout.specs.declared.Layer.{Layer}
-use Rattle.dpl_layout.specs.declared.FlattenFault.TheVariants.{OutOfRange}
-use Rattle.dpl_layout.specs.Placements.{IsInLayer}
-use Rattle.dpl_layout.specs.Faults.{IsFaultless, IsFirstFault}
+use Rattle.dpl_spec_split.specs.declared.Pt.{Pt}
+use Rattle.dpl_spec_split.specs.Loops.{SomeLoopCovers, IsRectilinear, AreLoopsWithin, farthest}
+use Rattle.dpl_spec_format.specs.Tree.{Library}
+use Rattle.dpl_spec_layout.specs.declared.Layer.{Layer}
+use Rattle.dpl_spec_layout.specs.declared.FlattenFault.TheVariants.{OutOfRange}
+use Rattle.dpl_spec_layout.specs.Placements.{IsInLayer}
+use Rattle.dpl_spec_layout.specs.Faults.{IsFaultless, IsFirstFault}
 use Rattle.dpl_flatten.specs.Totals.{PlacesSome}
 use Rattle.dpl_walk.specs.declared.cells.Cell.{Cell}
 use Rattle.dpl_walk.specs.declared.cells.Copies.{Copies}

@@ -1,17 +1,17 @@
 -- What an element is refused for, and what it draws.
 use Rattle.std.specs.Prelude.{length, ◌<◌, ◌≡◌, ℕ, Bool, true, ℤ, ◌-ℤ◌, List, Option, Some, None}
 use Rattle.std.specs.List.{Contains}
-use Rattle.dpl_spec.specs.declared.Pt.{Pt}
-use Rattle.dpl_elements.specs.Boundaries.{IsSlanted}
-use Rattle.dpl_elements.specs.Paths.{PathElement}
-use Rattle.dpl_format.specs.Tree.{Library, Element, Trans, Body, elements_at}
-use Rattle.dpl_layout.specs.declared.Layer.{Layer}
-use Rattle.dpl_layout.specs.declared.ElementFault.{ElementFault}
-use Rattle.dpl_layout.specs.declared.ElementFault.TheVariants.{SlantedBoundary}
-use Rattle.dpl_layout.specs.declared.FlattenFault.{FlattenFault}
-use Rattle.dpl_layout.specs.declared.FlattenFault.TheVariants.{Element as Refused}
+use Rattle.dpl_spec_split.specs.declared.Pt.{Pt}
+use Rattle.dpl_spec_elements.specs.Boundaries.{IsSlanted}
+use Rattle.dpl_spec_elements.specs.Paths.{PathElement}
+use Rattle.dpl_spec_format.specs.Tree.{Library, Element, Trans, Body, elements_at}
+use Rattle.dpl_spec_layout.specs.declared.Layer.{Layer}
+use Rattle.dpl_spec_layout.specs.declared.ElementFault.{ElementFault}
+use Rattle.dpl_spec_layout.specs.declared.ElementFault.TheVariants.{SlantedBoundary}
+use Rattle.dpl_spec_layout.specs.declared.FlattenFault.{FlattenFault}
+use Rattle.dpl_spec_layout.specs.declared.FlattenFault.TheVariants.{Element as Refused}
 use Rattle.dpl_links.specs.Graph.{IsMarked}
-use Rattle.dpl_layout.specs.Elements.{IsAbsolute, IsMagnified, IsTurnedAskew, IsReferenceFault, Divides, IsPathFault, IsRefusedFor}
+use Rattle.dpl_spec_layout.specs.Elements.{IsAbsolute, IsMagnified, IsTurnedAskew, IsReferenceFault, Divides, IsPathFault, IsRefusedFor}
 
 -- the fault of a transform that is refused, whatever it belongs to
 abbrev pub IsTransformFault : Trans → Option ElementFault → Type 0

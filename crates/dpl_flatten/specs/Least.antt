@@ -1,9 +1,9 @@
 -- The least offset of the elements of which a fact holds.
 use Rattle.std.specs.Prelude.{◌≡◌, ℕ, ◌<◌, ◌≤◌, ◌⊎◌, Bool, List, Option, Some, None}
 use Rattle.std.specs.List.{Contains}
-use Rattle.dpl_format.specs.Tree.{Library, Element, elements_at}
-use Rattle.dpl_layout.specs.Elements.{reference_name}
-use Rattle.dpl_layout.specs.Faults.{Finding}
+use Rattle.dpl_spec_format.specs.Tree.{Library, Element, elements_at}
+use Rattle.dpl_spec_layout.specs.Elements.{reference_name}
+use Rattle.dpl_spec_layout.specs.Faults.{Finding}
 use Rattle.dpl_links.specs.Graph.{IsMarked}
 use Rattle.dpl_walk.specs.Least.{earlier}
 

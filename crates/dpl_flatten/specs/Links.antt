@@ -1,8 +1,8 @@
 -- The graph of a layout's references.
 use Rattle.std.specs.Prelude.{◌≡◌, ℕ, ◌<◌, ◌≤◌, List, length, slice_index, Bool}
 use Rattle.std.specs.List.{Contains}
-use Rattle.dpl_format.specs.Tree.{Library, Element, elements_at, HasPoints}
-use Rattle.dpl_layout.specs.Structures.{Refers}
+use Rattle.dpl_spec_format.specs.Tree.{Library, Element, elements_at, HasPoints}
+use Rattle.dpl_spec_layout.specs.Structures.{Refers}
 use Rattle.dpl_links.specs.Graph.{LeadsTo, IsMarked}
 use Rattle.dpl_links.specs.Parts.{IsLevelAt}
 use Rattle.dpl_links.specs.Order.{IsPlaced}

@@ -1,12 +1,12 @@
 -- How many points the structures place, up to a ceiling.
 use Rattle.std.specs.Prelude.{◌≡◌, ℕ, ◌<◌, ◌≤◌, min, Bool, List, length, slice_index}
 use Rattle.std.specs.List.{All, Contains}
-use Rattle.dpl_spec.specs.declared.Pt.{Pt}
-use Rattle.dpl_format.specs.Tree.{Library, Element}
-use Rattle.dpl_layout.specs.declared.Layer.{Layer}
-use Rattle.dpl_layout.specs.Elements.{loops_of}
-use Rattle.dpl_layout.specs.Placements.{Step, IsPlacement}
-use Rattle.dpl_layout.specs.Points.{placed_points}
+use Rattle.dpl_spec_split.specs.declared.Pt.{Pt}
+use Rattle.dpl_spec_format.specs.Tree.{Library, Element}
+use Rattle.dpl_spec_layout.specs.declared.Layer.{Layer}
+use Rattle.dpl_spec_layout.specs.Elements.{loops_of}
+use Rattle.dpl_spec_layout.specs.Placements.{Step, IsPlacement}
+use Rattle.dpl_spec_layout.specs.Points.{placed_points}
 use Rattle.dpl_links.specs.Graph.{IsMarked}
 
 -- one more than a layer may have

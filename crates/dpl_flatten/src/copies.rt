@@ -2,9 +2,9 @@
 
 ghost use Rattle.std.specs.Prelude.{◌≡◌, ◌*◌, ◌^◌, ◌<◌, ◌≤◌, pos, ◌≤ℤ◌, length, unwrap_or, unsigned_abs, ◌-ℤ◌, int_div};
 ghost use Rattle.std.specs.Option.{option_map};
-ghost use Rattle.dpl_spec.specs.Loops.{IsPointWithin};
+ghost use Rattle.dpl_spec_split.specs.Loops.{IsPointWithin};
 ghost use Rattle.dpl_syntax.specs.Elements.{trans_seen};
-ghost use Rattle.dpl_layout.specs.Elements.{plain, IsTurnedAskew};
+ghost use Rattle.dpl_spec_layout.specs.Elements.{plain, IsTurnedAskew};
 ghost use Rattle.dpl_flatten.specs.Cells.{spacing_of, IsTurn, IsSingleCopy, IsArrayOfCopies};
 ghost use Rattle.dpl_walk.specs.Cells.{IsSpanWithin};
 

@@ -2,16 +2,16 @@
 
 ghost use Rattle.std.specs.Prelude.{◌≡◌, ◌<◌, ◌≤◌, ◌*◌, ◌^◌, ◌/◌, length, min, replicate, slice_set, sum_by, slice_index, if◌then◌else◌, IfOk};
 ghost use Rattle.std.specs.List.{All};
-ghost use Rattle.dpl_format.specs.Tree.{elements_at};
+ghost use Rattle.dpl_spec_format.specs.Tree.{elements_at};
 ghost use Rattle.dpl_syntax.specs.Elements.{body_seen, element_seen};
-ghost use Rattle.dpl_layout.specs.Elements.{point_count, columns_of, rows_of, is_on as is_on_layer};
-ghost use Rattle.dpl_layout.specs.Points.{points_by};
+ghost use Rattle.dpl_spec_layout.specs.Elements.{point_count, columns_of, rows_of, is_on as is_on_layer};
+ghost use Rattle.dpl_spec_layout.specs.Points.{points_by};
 ghost use Rattle.dpl_flatten.specs.Links.{IsLinked, IsOrdered};
 ghost use Rattle.dpl_flatten.specs.Totals.{ceiling, AreTotals};
 
 use crate::links::{Links, target};
-use dpl_layout::Layer;
 use dpl_links::Order;
+use dpl_spec_layout::Layer;
 use dpl_syntax::{Body, Element, Library};
 use std::alloc::{AllocError, Global};
 

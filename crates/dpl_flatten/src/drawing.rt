@@ -1,10 +1,10 @@
 //! What structures draw of a layer, apart from the library that it is read of.
 
 ghost use Rattle.std.specs.Prelude.{◌≡◌, ◌^◌, ◌<◌, ◌≤◌, ℕ, length, IfOk, MatchResult};
-ghost use Rattle.dpl_spec.specs.Loops.{AreLoopsWithin, farthest};
-ghost use Rattle.dpl_format.specs.Tree.{Library};
-ghost use Rattle.dpl_layout.specs.Faults.{IsFirstFault, IsSmall};
-ghost use Rattle.dpl_layout.specs.declared.Layer.{Layer};
+ghost use Rattle.dpl_spec_split.specs.Loops.{AreLoopsWithin, farthest};
+ghost use Rattle.dpl_spec_format.specs.Tree.{Library};
+ghost use Rattle.dpl_spec_layout.specs.Faults.{IsFirstFault, IsSmall};
+ghost use Rattle.dpl_spec_layout.specs.declared.Layer.{Layer};
 ghost use Rattle.dpl_links.specs.Graph.{AreReached};
 ghost use Rattle.dpl_flatten.specs.Drawing.{AreLoopsOf, IsDrawingOf, IsTrimmed, IsWalkable, drawn};
 ghost use Rattle.dpl_flatten.specs.Links.{IsLinked, IsOrdered};
@@ -14,7 +14,7 @@ use crate::cells::make_cells;
 use crate::faults::Survey;
 use crate::links::Links;
 use dpl_base::Loop;
-use dpl_layout::{FlattenFault, Layer};
+use dpl_spec_layout::{FlattenFault, Layer};
 use dpl_syntax::Library;
 use dpl_walk::{Cell, gather};
 use std::alloc::{AllocError, Global};

@@ -1,7 +1,7 @@
 //! The faults that are tried before anything is placed, in their order.
 
 ghost use Rattle.std.specs.Prelude.{◌≡◌, ◌<◌, ◌^◌, length, IfOk, IfErr, OnOk};
-ghost use Rattle.dpl_layout.specs.Faults.{IsFirst, IsFirstFault, IsNowhere, IsMissing, IsOnCycle, IsWhole, IsSound, IsSmall};
+ghost use Rattle.dpl_spec_layout.specs.Faults.{IsFirst, IsFirstFault, IsNowhere, IsMissing, IsOnCycle, IsWhole, IsSound, IsSmall};
 ghost use Rattle.dpl_links.specs.Graph.{AreReached};
 ghost use Rattle.dpl_links.specs.Order.{HasCycle};
 ghost use Rattle.dpl_flatten.specs.Links.{IsLinked, IsOrdered};
@@ -12,8 +12,8 @@ use crate::links::Links;
 use crate::missing::missing;
 use crate::recursion::recursion;
 use crate::refused::{refusal, refused};
-use dpl_layout::{FlattenFault, Layer};
 use dpl_links::{Order, find_levels, find_order};
+use dpl_spec_layout::{FlattenFault, Layer};
 use dpl_syntax::Library;
 use std::alloc::{AllocError, Global};
 

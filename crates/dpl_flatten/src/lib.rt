@@ -3,10 +3,10 @@
 
 ghost use Rattle.std.specs.Prelude.{◌^◌, ◌<◌, ◌≤◌, ◌↔◌, length, IfOk, IfErr, OnOk};
 ghost use Rattle.std.specs.List.{All};
-ghost use Rattle.dpl_spec.specs.declared.Pt.{Pt};
-ghost use Rattle.dpl_spec.specs.Loops.{SomeLoopCovers, IsRectilinear, AreLoopsWithin, farthest};
-ghost use Rattle.dpl_layout.specs.Placements.{IsInLayer};
-ghost use Rattle.dpl_layout.specs.Faults.{IsFaultless, IsFirstFault};
+ghost use Rattle.dpl_spec_split.specs.declared.Pt.{Pt};
+ghost use Rattle.dpl_spec_split.specs.Loops.{SomeLoopCovers, IsRectilinear, AreLoopsWithin, farthest};
+ghost use Rattle.dpl_spec_layout.specs.Placements.{IsInLayer};
+ghost use Rattle.dpl_spec_layout.specs.Faults.{IsFaultless, IsFirstFault};
 ghost use Rattle.dpl_flatten.specs.Drawing.{IsDrawingOf, IsTrimmed};
 
 use crate::drawing::draw_all;
@@ -30,7 +30,7 @@ mod top;
 
 pub use crate::drawing::Drawing;
 pub use crate::top::top_of;
-pub use dpl_layout::{ElementFault, FlattenFault, Layer, TopFault};
+pub use dpl_spec_layout::{ElementFault, FlattenFault, Layer, TopFault};
 use dpl_syntax::Library;
 use std::alloc::Global;
 

@@ -3,9 +3,9 @@
 ghost use Rattle.std.specs.Prelude.{◌≡◌, ◌<◌, ◌≤◌, ◌↔◌, ◌++◌, ◌^◌, ℕ, length, IfOk, OnOk};
 ghost use Rattle.std.specs.List.{Contains};
 ghost use Rattle.std.specs.Option.{option_to_list};
-ghost use Rattle.dpl_format.specs.Tree.{Element as TreeElement, elements_at, HasPoints};
+ghost use Rattle.dpl_spec_format.specs.Tree.{Element as TreeElement, elements_at, HasPoints};
 ghost use Rattle.dpl_syntax.specs.Elements.{element_seen};
-ghost use Rattle.dpl_layout.specs.Structures.{target_of, Refers};
+ghost use Rattle.dpl_spec_layout.specs.Structures.{target_of, Refers};
 ghost use Rattle.dpl_links.specs.Graph.{IsGraph};
 ghost use Rattle.dpl_flatten.specs.Links.{IsGraphOf};
 

@@ -1,9 +1,9 @@
 //! References that name a structure that isn't there.
 
 ghost use Rattle.std.specs.Prelude.{◌≡◌, ◌<◌, ◌↔◌, length, true, IsTrue};
-ghost use Rattle.dpl_format.specs.Tree.{elements_at};
+ghost use Rattle.dpl_spec_format.specs.Tree.{elements_at};
 ghost use Rattle.dpl_syntax.specs.Elements.{element_seen};
-ghost use Rattle.dpl_layout.specs.Faults.{IsMissing};
+ghost use Rattle.dpl_spec_layout.specs.Faults.{IsMissing};
 ghost use Rattle.dpl_flatten.specs.Least.{IsReference, IsLeastOf, Among, AmongMarked};
 
 use crate::links::target;

@@ -2,9 +2,9 @@
 
 ghost use Rattle.std.specs.Prelude.{◌≡◌, ◌<◌, ◌↔◌, true, false, length, slice_index, slice_index_or, IsTrue};
 ghost use Rattle.std.specs.List.{Contains};
-ghost use Rattle.dpl_format.specs.Tree.{elements_at};
+ghost use Rattle.dpl_spec_format.specs.Tree.{elements_at};
 ghost use Rattle.dpl_syntax.specs.Elements.{element_seen};
-ghost use Rattle.dpl_layout.specs.Faults.{IsOnCycle};
+ghost use Rattle.dpl_spec_layout.specs.Faults.{IsOnCycle};
 ghost use Rattle.dpl_flatten.specs.Links.{IsLevelled};
 ghost use Rattle.dpl_flatten.specs.Least.{IsLeastOf, Among, AmongMarked};
 

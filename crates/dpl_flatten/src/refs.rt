@@ -2,15 +2,15 @@
 
 ghost use Rattle.std.specs.Prelude.{◌≡◌, ◌≢◌, ◌+◌, ◌*◌, ◌^◌, ◌<◌, ◌≤◌, ◌↔◌, pos, ◌-ℤ◌, ◌≤ℤ◌, unsigned_abs, bit_and, length, unwrap_or, IsTrue};
 ghost use Rattle.std.specs.Option.{option_map};
-ghost use Rattle.dpl_spec.specs.Loops.{IsPointWithin};
+ghost use Rattle.dpl_spec_split.specs.Loops.{IsPointWithin};
 ghost use Rattle.dpl_syntax.specs.Elements.{trans_seen};
-ghost use Rattle.dpl_layout.specs.Elements.{point_in, plain, IsMagnified, IsTurnedAskew, Divides, IsArray};
+ghost use Rattle.dpl_spec_layout.specs.Elements.{point_in, plain, IsMagnified, IsTurnedAskew, Divides, IsArray};
 ghost use Rattle.dpl_flatten.specs.Drawn.{IsTransformFault, IsFaultOfReference, DividesBoth};
 
 use dpl_base::Pt;
-use dpl_layout::ElementFault;
 use dpl_reals::Real;
 use dpl_records::i32_at;
+use dpl_spec_layout::ElementFault;
 use dpl_syntax::Trans;
 
 /// The point `i` in the data of XY.

@@ -2,16 +2,16 @@
 
 ghost use Rattle.std.specs.Prelude.{◌≡◌, ◌<◌, ℕ, true, length, None, IfOk, IfSome};
 ghost use Rattle.std.specs.List.{Contains};
-ghost use Rattle.dpl_format.specs.Tree.{Element as TreeElement, elements_at};
+ghost use Rattle.dpl_spec_format.specs.Tree.{Element as TreeElement, elements_at};
 ghost use Rattle.dpl_syntax.specs.Elements.{body_seen, element_seen, IsSized};
-ghost use Rattle.dpl_layout.specs.Faults.{IsRefused};
+ghost use Rattle.dpl_spec_layout.specs.Faults.{IsRefused};
 ghost use Rattle.dpl_flatten.specs.Least.{IsLeastOf, IsNoted, Among, AmongMarked};
 ghost use Rattle.dpl_flatten.specs.Drawn.{IsFaultOf, IsRefusal, IsRefusalWhere, IsRefusalAmong, IsRefusalOf, IsTakenAt, HasRefusalAt};
 
 use crate::count::is_on;
 use crate::refs::{array_fault, single_fault};
 use crate::shapes::{Stroke, boundary_fault, path_fault};
-use dpl_layout::{ElementFault, FlattenFault, Layer};
+use dpl_spec_layout::{ElementFault, FlattenFault, Layer};
 use dpl_syntax::{Body, Element, Library};
 use dpl_walk::{earlier, note};
 use std::alloc::{AllocError, Global};

@@ -1,15 +1,15 @@
 //! What boundaries, boxes and paths draw.
 
 ghost use Rattle.std.specs.Prelude.{◌≡◌, ◌+◌, ◌*◌, ◌^◌, ◌≤◌, ◌%◌, ℤ, pos, length, unwrap_or, IfOk, OnOk};
-ghost use Rattle.dpl_spec.specs.Loops.{ArePointsWithin};
-ghost use Rattle.dpl_elements.specs.Paths.{path_of};
-ghost use Rattle.dpl_layout.specs.Elements.{points_in};
+ghost use Rattle.dpl_spec_split.specs.Loops.{ArePointsWithin};
+ghost use Rattle.dpl_spec_elements.specs.Paths.{path_of};
+ghost use Rattle.dpl_spec_layout.specs.Elements.{points_in};
 ghost use Rattle.dpl_flatten.specs.Drawn.{IsFaultOfBoundary, IsFaultOfPath};
 
 use crate::refs::point_at;
 use dpl_base::Pt;
-use dpl_layout::ElementFault;
 use dpl_shapes::{ShapeFault, is_rectilinear, path_loops};
+use dpl_spec_layout::ElementFault;
 use std::alloc::{AllocError, Global};
 
 /// The points in the data of XY.

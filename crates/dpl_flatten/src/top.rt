@@ -2,11 +2,11 @@
 
 ghost use Rattle.std.specs.Prelude.{◌<◌, length, Some, None, IfOk, IfErr};
 ghost use Rattle.std.specs.Option.{option_copied};
-ghost use Rattle.dpl_layout.specs.Structures.{AreRoots, IsTop, IsTopFault};
+ghost use Rattle.dpl_spec_layout.specs.Structures.{AreRoots, IsTop, IsTopFault};
 
 use crate::links::graph_of;
-use dpl_layout::TopFault;
 use dpl_links::find_sources;
+use dpl_spec_layout::TopFault;
 use dpl_syntax::Library;
 use std::alloc::{AllocError, Global};
 

@@ -4,7 +4,7 @@ use Rattle.std.specs.List.{Contains}
 use Rattle.std.proofs.lemmas.Bool.{cases_eq, cases_lt}
 use Rattle.std.proofs.lemmas.List.{get_or_default, get_or-map, length-set, get_or_append_left, get_or-append-add, get_or_push, get_or-set_same, get_or-set_other, get_or-replicate, length-replicate}
 use Rattle.std.proofs.lemmas.List.Elements.{All-contains}
-use Rattle.dpl_spec.specs.Graphs.{graph_of}
+use Rattle.dpl_spec_split.specs.Graphs.{graph_of}
 use Rattle.dpl_graph.specs.Levels.{AreEdgesBelow}
 use Rattle.dpl_graph.specs.Laws.{AreOrdered}
 use Rattle.dpl_graph.specs.Arcs.{swapped, arc_at, IsLastArc, AreLinks}

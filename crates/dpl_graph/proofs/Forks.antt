@@ -4,9 +4,9 @@ use Rattle.std.proofs.lemmas.Bool.{cases_eq, cases_lt}
 use Rattle.std.proofs.lemmas.List.{get_or_default, get_or-reverse, length-reverse, get_or_append_left, get_or-append-add}
 use Rattle.std.proofs.Math.Nat.{mod_self, mod-eq_of_lt}
 use Rattle.std.specs.List.{All}
-use Rattle.dpl_spec.specs.Graphs.{Graph, IsDistance, Reaches, IsOddCycle}
-use Rattle.dpl_spec.specs.Cycle.{Climb, last, up, IsReported}
-use Rattle.dpl_spec.proofs.GraphLaws.{distance-unique}
+use Rattle.dpl_spec_split.specs.Graphs.{Graph, IsDistance, Reaches, IsOddCycle}
+use Rattle.dpl_spec_split.specs.Cycle.{Climb, last, up, IsReported}
+use Rattle.dpl_spec_split.proofs.GraphLaws.{distance-unique}
 use Rattle.dpl_graph.specs.Laws.{HasLevelEdge, HasOddCycleAt}
 use Rattle.dpl_graph.proofs.Walks.{IsUndirected, distance-zero, distance-before}
 

@@ -4,7 +4,7 @@ use Rattle.std.specs.Prelude.{◌==◌, count_by}
 use Rattle.std.proofs.lemmas.Bool.{cases_eq, eq-eqb, ne_eqb}
 use Rattle.std.proofs.lemmas.List.{length-set, get_or_append_left, get_or_push, get_or-set_same, get_or-set_other}
 use Rattle.std.proofs.lemmas.List.Sums.{sum_by-set}
-use Rattle.dpl_spec.specs.Graphs.{Walk, graph_of}
+use Rattle.dpl_spec_split.specs.Graphs.{Walk, graph_of}
 use Rattle.dpl_graph.specs.declared.reached.Reached.{Reached}
 use Rattle.dpl_graph.specs.Growing.{root_in, level_in, place_in, reached_count, IsGrown, IsNoted}
 

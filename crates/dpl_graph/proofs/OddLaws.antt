@@ -1,7 +1,7 @@
 -- Odd cycles and levels of a graph that is given by its edges.
 use Rattle.std.proofs.Common.{ℕ, List, get_or, arith}
-use Rattle.dpl_spec.specs.Graphs.{stay, IsRoot, graph_of}
-use Rattle.dpl_spec.specs.Summary.{HasOddCycle}
+use Rattle.dpl_spec_split.specs.Graphs.{stay, IsRoot, graph_of}
+use Rattle.dpl_spec_split.specs.Summary.{HasOddCycle}
 use Rattle.dpl_graph.specs.Laws.{AreOrdered, HasLevelEdge, HasOddCycleAt, LevelsShowOddCycles, RootsShowOddCycles, OddRootsAreRoots, ReportedIsOdd}
 use Rattle.dpl_graph.proofs.Walks.{graph_of-undirected, root-along, Reaches-sym}
 use Rattle.dpl_graph.proofs.Parity.{cycle-level, level-at_root}

@@ -2,8 +2,8 @@
 use Rattle.std.proofs.Common.{◌≡◌, ◌≢◌, ℕ, zero, suc, ◌+◌, ◌-◌, ◌%◌, ◌<◌, ◌≤◌, ◌⊎◌, inl, inr, List, length, get_or, sym, ap, subst, ◌∙◌, arith}
 use Rattle.std.proofs.lemmas.Bool.{cases_order, cases_eq}
 use Rattle.std.proofs.Math.Nat.{mod_self, mod-eq_of_lt}
-use Rattle.dpl_spec.specs.Graphs.{Graph, Walk, stay, step, IsDistance, Reaches, IsOddCycle}
-use Rattle.dpl_spec.proofs.GraphLaws.{distance-unique, Walk-trans}
+use Rattle.dpl_spec_split.specs.Graphs.{Graph, Walk, stay, step, IsDistance, Reaches, IsOddCycle}
+use Rattle.dpl_spec_split.proofs.GraphLaws.{distance-unique, Walk-trans}
 use Rattle.dpl_graph.specs.Laws.{HasLevelEdge}
 use Rattle.dpl_graph.proofs.Walks.{IsUndirected, walk_to, Walk-snoc, Walk-reverse, distance-step}
 

@@ -2,8 +2,8 @@
 use Rattle.std.proofs.Common.{◌≡◌, ℕ, zero, suc, ◌<◌, ◌≤◌, ◌⊎◌, inl, inr, List, [], ◌∷◌, sym, refl, ap, subst, arith}
 use Rattle.std.specs.List.{Contains}
 use Rattle.std.proofs.lemmas.Bool.{cases_order, cases_eq}
-use Rattle.dpl_spec.specs.Graphs.{Walk, stay, step, Reaches, IsRoot, graph_of}
-use Rattle.dpl_spec.proofs.Ordered.{Contains-head, Contains-later, Contains-cases, Contains-nil}
+use Rattle.dpl_spec_split.specs.Graphs.{Walk, stay, step, Reaches, IsRoot, graph_of}
+use Rattle.dpl_spec_split.proofs.Ordered.{Contains-head, Contains-later, Contains-cases, Contains-nil}
 use Rattle.dpl_graph.proofs.Walks.{Walk-first, Walk-nowhere, Reaches-trans, Reaches-edge}
 use Rattle.dpl_graph.proofs.Parity.{HasDistances}
 

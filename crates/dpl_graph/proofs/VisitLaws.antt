@@ -1,7 +1,7 @@
 -- Visiting the neighbours of a number, and starting and ending a component.
 use Rattle.std.proofs.Common.{◌≡◌, ◌≢◌, ℕ, suc, ◌+◌, ◌<◌, ◌≤◌, inl, inr, List, length, get_or, sym, refl, ap, subst, ◌∙◌, arith}
 use Rattle.std.proofs.lemmas.Bool.{cases_eq, cases_lt}
-use Rattle.dpl_spec.specs.Graphs.{Walk, stay, step, IsDistance, IsRoot, graph_of}
+use Rattle.dpl_spec_split.specs.Graphs.{Walk, stay, step, IsDistance, IsRoot, graph_of}
 use Rattle.dpl_graph.specs.declared.reached.Reached.{Reached}
 use Rattle.dpl_graph.specs.Levels.{AreEdgesBelow, AreLevels}
 use Rattle.dpl_graph.specs.Arcs.{arc_at, IsLastArc, AreLinks}

@@ -1,8 +1,8 @@
 -- Walks and distances in a graph whose edges go both ways.
 use Rattle.std.proofs.Common.{◌≡◌, ◌≢◌, ℕ, suc, ◌+◌, ◌<◌, ◌≤◌, inl, inr, List, refl, subst, arith}
 use Rattle.std.proofs.lemmas.List.Elements.{All-contains}
-use Rattle.dpl_spec.specs.Graphs.{Graph, Walk, stay, step, IsDistance, Reaches, IsRoot, graph_of}
-use Rattle.dpl_spec.proofs.GraphLaws.{Walk-trans}
+use Rattle.dpl_spec_split.specs.Graphs.{Graph, Walk, stay, step, IsDistance, Reaches, IsRoot, graph_of}
+use Rattle.dpl_spec_split.proofs.GraphLaws.{Walk-trans}
 use Rattle.dpl_graph.specs.Laws.{AreOrdered}
 
 pub record IsUndirected (joined : Graph) : Type 0 where

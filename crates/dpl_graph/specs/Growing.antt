@@ -1,6 +1,6 @@
 -- How far a breadth-first walk has come.
 use Rattle.std.specs.Prelude.{◌≡◌, ◌≢◌, ℕ, suc, ◌+◌, ◌<◌, ◌≤◌, ◌==◌, [], ◌∷◌, ◌++◌, List, length, count_by, slice_index, slice_set}
-use Rattle.dpl_spec.specs.Graphs.{Walk, graph_of}
+use Rattle.dpl_spec_split.specs.Graphs.{Walk, graph_of}
 use Rattle.dpl_graph.specs.declared.reached.Reached.{Reached}
 
 abbrev pub root_in : Reached → ℕ → ℕ

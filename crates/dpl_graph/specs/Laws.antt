@@ -1,9 +1,9 @@
 -- Odd cycles and levels.
 use Rattle.std.specs.Prelude.{ℕ, ◌<◌, ◌↔◌, List}
 use Rattle.std.specs.List.{All}
-use Rattle.dpl_spec.specs.Graphs.{Graph, Reaches, IsRoot, IsOddCycle, graph_of}
-use Rattle.dpl_spec.specs.Cycle.{IsLevelEdge, IsOddRoot, IsReported}
-use Rattle.dpl_spec.specs.Summary.{HasOddCycle}
+use Rattle.dpl_spec_split.specs.Graphs.{Graph, Reaches, IsRoot, IsOddCycle, graph_of}
+use Rattle.dpl_spec_split.specs.Cycle.{IsLevelEdge, IsOddRoot, IsReported}
+use Rattle.dpl_spec_split.specs.Summary.{HasOddCycle}
 
 -- an odd cycle in the component of root
 abbrev pub HasOddCycleAt : Graph → ℕ → Type 0

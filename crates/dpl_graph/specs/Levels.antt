@@ -1,7 +1,7 @@
 -- The least number of each component, and how far its numbers lie from it.
 use Rattle.std.specs.Prelude.{◌≡◌, ℕ, ◌<◌, List, length, slice_index}
 use Rattle.std.specs.List.{All}
-use Rattle.dpl_spec.specs.Graphs.{IsDistance, IsRoot, graph_of}
+use Rattle.dpl_spec_split.specs.Graphs.{IsDistance, IsRoot, graph_of}
 
 -- edges on the numbers below n: two different numbers, the smaller first
 abbrev pub AreEdgesBelow : ℕ → List (ℕ × ℕ) → Type 0

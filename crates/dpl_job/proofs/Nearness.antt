@@ -4,10 +4,10 @@ use Rattle.std.proofs.lemmas.Int.{ints}
 use Rattle.std.specs.Prelude.{◌&&◌, nat_lt, int_le, int_lt, unsigned_abs}
 use Rattle.std.specs.List.{Any, Contains, filter, flat_map, list_any}
 use Rattle.std.proofs.lemmas.Bool.{and_parts, and_from, ltb-true, lt-ltb}
-use Rattle.dpl_spec.specs.declared.Pt.{Pt}
-use Rattle.dpl_spec.specs.declared.Rect.{Rect}
-use Rattle.dpl_spec.specs.Squares.{AreNear, Covers, Has, d2}
-use Rattle.dpl_spec.specs.Zones.{at}
+use Rattle.dpl_spec_split.specs.declared.Pt.{Pt}
+use Rattle.dpl_spec_split.specs.declared.Rect.{Rect}
+use Rattle.dpl_spec_split.specs.Squares.{AreNear, Covers, Has, d2}
+use Rattle.dpl_spec_split.specs.Zones.{at}
 use Rattle.dpl_edges.specs.InCells.{in_cell}
 use Rattle.dpl_board.proofs.AllPosted.{from-flat, in-flat}
 use Rattle.dpl_job.specs.Sheets.{all_squares, below, is_in, is_near_in, squares_of}

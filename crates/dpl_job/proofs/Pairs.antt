@@ -4,7 +4,7 @@ use Rattle.std.specs.List.{All, AllPairs, Contains, flat_map, range_with_len}
 use Rattle.std.proofs.lemmas.List.Elements.{All-nil, All-append, All-head, All-map, All-tail, All-weaker}
 use Rattle.std.proofs.lemmas.List.FromFn.{get_or-range_with_len, length-range_with_len}
 use Rattle.std.proofs.lemmas.List.Kept.{AllPairs-cons}
-use Rattle.dpl_spec.specs.Graphs.{Precedes}
+use Rattle.dpl_spec_split.specs.Graphs.{Precedes}
 use Rattle.dpl_board.proofs.AllPosted.{from-flat, in-flat}
 use Rattle.dpl_job.specs.Sheets.{below, pairs_below}
 use Rattle.dpl_job.proofs.Members.{below-has, has-below, has-map, map-has}

@@ -5,12 +5,12 @@ use Rattle.std.specs.List.{All, AllPairs, Any, Contains, filter, list_any}
 use Rattle.std.proofs.lemmas.Bool.{and_parts, and_from, or_cases, or_left, or_right, ltb-true, lt-ltb, eqb-false, ne_eqb, not-true}
 use Rattle.std.proofs.lemmas.List.Elements.{All-map, All-weaker, filter_passes}
 use Rattle.std.proofs.lemmas.List.Kept.{AllPairs-filter}
-use Rattle.dpl_spec.specs.declared.Rect.{Rect}
-use Rattle.dpl_spec.specs.Squares.{AreNear, Covers}
-use Rattle.dpl_spec.specs.Zones.{part_at}
-use Rattle.dpl_spec.specs.Pieces.{Conflict}
-use Rattle.dpl_spec.specs.Graphs.{AreEdges, Precedes, graph_of}
-use Rattle.dpl_spec.proofs.SquareLaws.{AreNear-sym}
+use Rattle.dpl_spec_split.specs.declared.Rect.{Rect}
+use Rattle.dpl_spec_split.specs.Squares.{AreNear, Covers}
+use Rattle.dpl_spec_split.specs.Zones.{part_at}
+use Rattle.dpl_spec_split.specs.Pieces.{Conflict}
+use Rattle.dpl_spec_split.specs.Graphs.{AreEdges, Precedes, graph_of}
+use Rattle.dpl_spec_split.proofs.SquareLaws.{AreNear-sym}
 use Rattle.dpl_stars.specs.declared.joined.Joined.{Joined}
 use Rattle.dpl_stars.specs.Sums.{AreEdgePairs, Sums, summary_of}
 use Rattle.dpl_stars.proofs.SameGraph.{same-members, summary-along}

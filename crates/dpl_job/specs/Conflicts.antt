@@ -1,6 +1,6 @@
 -- The summary of a graph's edges, and plans whose tiles are those of their parts.
 use Rattle.std.specs.Prelude.{ℕ, ◌<◌, List}
-use Rattle.dpl_spec.specs.Graphs.{Graph, AreEdges}
+use Rattle.dpl_spec_split.specs.Graphs.{Graph, AreEdges}
 use Rattle.dpl_stars.specs.declared.joined.Joined.{Joined}
 use Rattle.dpl_stars.specs.Sums.{Sums}
 use Rattle.dpl_tile.specs.Plans.{Planned}

@@ -2,7 +2,7 @@
 #![tactic(auto)]
 
 ghost use Rattle.std.specs.Prelude.{◌≡◌, ◌<◌, ◌≤◌, IfOk};
-ghost use Rattle.dpl_spec.specs.Pieces.{Conflict};
+ghost use Rattle.dpl_spec_split.specs.Pieces.{Conflict};
 ghost use Rattle.dpl_job.specs.Conflicts.{IsTiled, SumsGraph};
 ghost use Rattle.dpl_job.specs.Sheets.{sheet_of};
 

@@ -9,7 +9,7 @@ use Rattle.std.proofs.lemmas.List.Sums.{sum_by-append, sum_by-cons, get_or-le-su
 use Rattle.std.proofs.lemmas.List.Folds.{sum_by-replicate}
 use Rattle.std.proofs.lemmas.List.Elements.{Contains-append_left, Contains-push, Contains-push_cases, Contains-get_or}
 use Rattle.std.specs.List.{Contains, sum_by}
-use Rattle.dpl_spec.proofs.Ordered.{Contains-nil}
+use Rattle.dpl_spec_split.proofs.Ordered.{Contains-nil}
 use Rattle.dpl_links.specs.Graph.{targets_at, LeadsTo, Reaches, here, on, IsMarked}
 use Rattle.dpl_links.specs.Marks.{unmarked}
 use Rattle.dpl_links.specs.Order.{IsOrder, HasCycle, end_of, IsPathTo, begins, goes_on, IsLast, IsOwnPlace, IsShut, IsSearch, to_go, left}

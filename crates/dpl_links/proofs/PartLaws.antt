@@ -6,7 +6,7 @@ use Rattle.std.proofs.lemmas.List.Sums.{sum_by-append, sum_by-cons, get_or-le-su
 use Rattle.std.proofs.lemmas.List.Elements.{Contains-append_left, Contains-append_right, Contains-append_cases, Contains-push, Contains-push_cases, Contains-get_or}
 use Rattle.std.specs.List.{Contains, sum_by}
 use Rattle.std.specs.Prelude.{◌↔◌}
-use Rattle.dpl_spec.proofs.Ordered.{Contains-nil}
+use Rattle.dpl_spec_split.proofs.Ordered.{Contains-nil}
 use Rattle.dpl_links.specs.Graph.{targets_at, LeadsTo, Reaches, here, on, IsMarked}
 use Rattle.dpl_links.specs.Marks.{unmarked}
 use Rattle.dpl_links.specs.Order.{end_of, to_go}

@@ -6,7 +6,7 @@ use Rattle.std.proofs.lemmas.List.Elements.{Contains-append_left, Contains-push,
 use Rattle.std.proofs.lemmas.List.Quantifiers.{all_pairs_push}
 use Rattle.std.specs.List.{Contains, AllPairs}
 use Rattle.std.specs.Prelude.{◌↔◌}
-use Rattle.dpl_spec.proofs.Ordered.{Contains-nil}
+use Rattle.dpl_spec_split.proofs.Ordered.{Contains-nil}
 use Rattle.dpl_links.specs.Graph.{LeadsTo, targets_at, IsMarked}
 use Rattle.dpl_links.specs.Marks.{Marks}
 use Rattle.dpl_links.specs.Sources.{IsEntered, AreSources, AreUnmarked}

@@ -4,7 +4,7 @@ use Rattle.std.proofs.lemmas.Bool.{cases_eq}
 use Rattle.std.proofs.lemmas.Grind.{elements}
 use Rattle.std.proofs.Math.ListN.{replicate}
 use Rattle.std.proofs.lemmas.List.{get_or_default, get_or-replicate, length-replicate}
-use Rattle.dpl_spec.specs.Colours.{colour_at}
+use Rattle.dpl_spec_split.specs.Colours.{colour_at}
 use Rattle.dpl_orient.specs.declared.mask.Mask.{Mask}
 use Rattle.dpl_orient.specs.declared.mask.Mask.TheVariants.{A, B}
 use Rattle.dpl_orient.specs.Masks.{is_second}

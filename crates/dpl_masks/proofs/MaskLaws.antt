@@ -6,11 +6,11 @@ use Rattle.std.proofs.lemmas.List.Elements.{Contains-append_cases, Contains-appe
 use Rattle.std.proofs.lemmas.List.{get_or_default}
 use Rattle.std.proofs.lemmas.List.Quantifiers.{all_pairs_push}
 use Rattle.std.proofs.lemmas.Bool.{cases_lt}
-use Rattle.dpl_spec.specs.declared.Pt.{Pt}
-use Rattle.dpl_spec.specs.declared.Rect.{Rect}
-use Rattle.dpl_spec.specs.Squares.{Covers, Has, Region}
-use Rattle.dpl_spec.specs.Colours.{AreStitches, colour_at, differ}
-use Rattle.dpl_spec.proofs.Ordered.{Contains-cases, Contains-head, Contains-nil}
+use Rattle.dpl_spec_split.specs.declared.Pt.{Pt}
+use Rattle.dpl_spec_split.specs.declared.Rect.{Rect}
+use Rattle.dpl_spec_split.specs.Squares.{Covers, Has, Region}
+use Rattle.dpl_spec_split.specs.Colours.{AreStitches, colour_at, differ}
+use Rattle.dpl_spec_split.proofs.Ordered.{Contains-cases, Contains-head, Contains-nil}
 use Rattle.dpl_masks.specs.Painting.{Adds, AreFirstStitches}
 
 pub covers_append : (rs ss : List Rect) (p : Pt) → Covers (rs ++ ss) p ↔ (Covers rs p ⊎ Covers ss p)

@@ -2,12 +2,12 @@
 use Rattle.std.proofs.Common.{◌≡◌, ℕ, ◌+◌, ◌<◌, ◌⊎◌, inl, inr, List, [], Bool, true, false, length, get_or, sym, ap, ◌∙◌, subst, true≢false, arith}
 use Rattle.std.proofs.lemmas.Bool.{cases_eq}
 use Rattle.std.proofs.lemmas.List.{get_or_default}
-use Rattle.dpl_spec.specs.declared.Rect.{Rect}
-use Rattle.dpl_spec.specs.declared.Zone.{Zone}
-use Rattle.dpl_spec.specs.Squares.{Covers, Has}
-use Rattle.dpl_spec.specs.Loops.{AreRectsWithin, farthest}
-use Rattle.dpl_spec.specs.Colours.{colour_at}
-use Rattle.dpl_spec.specs.Zones.{part_at}
+use Rattle.dpl_spec_split.specs.declared.Rect.{Rect}
+use Rattle.dpl_spec_split.specs.declared.Zone.{Zone}
+use Rattle.dpl_spec_split.specs.Squares.{Covers, Has}
+use Rattle.dpl_spec_split.specs.Loops.{AreRectsWithin, farthest}
+use Rattle.dpl_spec_split.specs.Colours.{colour_at}
+use Rattle.dpl_spec_split.specs.Zones.{part_at}
 use Rattle.dpl_slabs.proofs.LoopLaws.{rects-appended}
 use Rattle.dpl_masks.specs.declared.ink.Ink.{Ink}
 use Rattle.dpl_masks.specs.Inks.{IsMixed, ink_at}

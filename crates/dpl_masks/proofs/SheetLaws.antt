@@ -5,17 +5,17 @@ use Rattle.std.specs.List.{All, AllPairs, Any}
 use Rattle.std.proofs.lemmas.Bool.{cases_eq, cases_order}
 use Rattle.std.proofs.lemmas.Int.{ints, by_lt_z}
 use Rattle.std.proofs.lemmas.List.{get_or_default}
-use Rattle.dpl_spec.specs.declared.Pt.{Pt}
-use Rattle.dpl_spec.specs.declared.Rect.{Rect}
-use Rattle.dpl_spec.specs.declared.Zone.{Zone}
-use Rattle.dpl_spec.specs.Squares.{Covers, Has, Region, Touch}
-use Rattle.dpl_spec.specs.Slabs.{IsCanonical, AreSlabsOf}
-use Rattle.dpl_spec.specs.Loops.{AreRectsWithin, farthest}
-use Rattle.dpl_spec.specs.Colours.{colour_at, on_mask}
-use Rattle.dpl_spec.specs.Zones.{part_at}
-use Rattle.dpl_spec.proofs.Ordered.{Contains-cases, Contains-head, Contains-later}
-use Rattle.dpl_spec.specs.Pieces.{IsOwner}
-use Rattle.dpl_spec.proofs.SquareLaws.{Touch-from_close, Touch-sym}
+use Rattle.dpl_spec_split.specs.declared.Pt.{Pt}
+use Rattle.dpl_spec_split.specs.declared.Rect.{Rect}
+use Rattle.dpl_spec_split.specs.declared.Zone.{Zone}
+use Rattle.dpl_spec_split.specs.Squares.{Covers, Has, Region, Touch}
+use Rattle.dpl_spec_split.specs.Slabs.{IsCanonical, AreSlabsOf}
+use Rattle.dpl_spec_split.specs.Loops.{AreRectsWithin, farthest}
+use Rattle.dpl_spec_split.specs.Colours.{colour_at, on_mask}
+use Rattle.dpl_spec_split.specs.Zones.{part_at}
+use Rattle.dpl_spec_split.proofs.Ordered.{Contains-cases, Contains-head, Contains-later}
+use Rattle.dpl_spec_split.specs.Pieces.{IsOwner}
+use Rattle.dpl_spec_split.proofs.SquareLaws.{Touch-from_close, Touch-sym}
 use Rattle.dpl_slabs.specs.Parts.{union_of}
 use Rattle.dpl_slabs.specs.Scattered.{AreUntouched}
 use Rattle.dpl_slabs.proofs.LoopLaws.{covers-appended, rects-appended}

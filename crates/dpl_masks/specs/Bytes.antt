@@ -3,9 +3,9 @@ use Rattle.std.specs.Prelude.{◌≡◌, ◌≤◌, ℕ, ◌+◌, ℤ, List, [],
 use Rattle.std.specs.List.{concat}
 use Rattle.std.specs.Int.{w16, w32, to_be_bytes, cast_unsigned}
 use Rattle.std.specs.declared.alloc.Global.{Global}
-use Rattle.dpl_spec.specs.declared.Pt.{Pt}
-use Rattle.dpl_spec.specs.declared.Rect.{Rect}
-use Rattle.dpl_spec.specs.Zones.{at}
+use Rattle.dpl_spec_split.specs.declared.Pt.{Pt}
+use Rattle.dpl_spec_split.specs.declared.Rect.{Rect}
+use Rattle.dpl_spec_split.specs.Zones.{at}
 
 -- where there is room for so many bytes more, they are put, and the room is no less
 pub record FillsRoom {E : Type 0} (n : ℕ) (result : Result (Unit {0}) E) (old new : Vec ℕ Global) : Type 0 where

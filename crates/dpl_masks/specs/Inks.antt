@@ -1,6 +1,6 @@
 -- On which masks features lie.
 use Rattle.std.specs.Prelude.{◌≡◌, ℕ, ◌<◌, ◌⊎◌, Bool, List, length, slice_index, slice_index_or, if◌then◌else◌}
-use Rattle.dpl_spec.specs.Colours.{colour_at, differ}
+use Rattle.dpl_spec_split.specs.Colours.{colour_at, differ}
 use Rattle.dpl_orient.specs.declared.mask.Mask.{Mask}
 use Rattle.dpl_orient.specs.Masks.{is_second}
 use Rattle.dpl_piece.specs.declared.piece.Whole.{Whole}

@@ -1,11 +1,11 @@
 -- The masks of coloured pieces.
 use Rattle.std.specs.Prelude.{◌≡◌, ◌<◌, ◌⊎◌, ◌↔◌, ℕ, Bool, false, true, List, slice_index_or}
 use Rattle.std.specs.List.{AllPairs, Contains}
-use Rattle.dpl_spec.specs.declared.Pt.{Pt}
-use Rattle.dpl_spec.specs.declared.Rect.{Rect}
-use Rattle.dpl_spec.specs.Squares.{Covers, Region}
-use Rattle.dpl_spec.specs.Slabs.{AreSlabsOf}
-use Rattle.dpl_spec.specs.Colours.{colour_at, differ, on_mask}
+use Rattle.dpl_spec_split.specs.declared.Pt.{Pt}
+use Rattle.dpl_spec_split.specs.declared.Rect.{Rect}
+use Rattle.dpl_spec_split.specs.Squares.{Covers, Region}
+use Rattle.dpl_spec_split.specs.Slabs.{AreSlabsOf}
+use Rattle.dpl_spec_split.specs.Colours.{colour_at, differ, on_mask}
 use Rattle.dpl_piece.specs.Cutting.{CutPieces}
 use Rattle.dpl_masks.specs.declared.pair.Masks.{Masks}
 

@@ -1,13 +1,13 @@
 -- Features put on masks.
 use Rattle.std.specs.Prelude.{◌≡◌, ℕ, ◌<◌, ◌⊎◌, ◌↔◌, ◌++◌, Bool, true, false, List, length, slice_index, slice_index_or}
 use Rattle.std.specs.List.{All, AllZip}
-use Rattle.dpl_spec.specs.declared.Pt.{Pt}
-use Rattle.dpl_spec.specs.declared.Rect.{Rect}
-use Rattle.dpl_spec.specs.declared.Zone.{Zone}
-use Rattle.dpl_spec.specs.Squares.{Covers, Has, Region}
-use Rattle.dpl_spec.specs.Loops.{AreRectsWithin, farthest}
-use Rattle.dpl_spec.specs.Colours.{colour_at, on_mask}
-use Rattle.dpl_spec.specs.Zones.{part_at}
+use Rattle.dpl_spec_split.specs.declared.Pt.{Pt}
+use Rattle.dpl_spec_split.specs.declared.Rect.{Rect}
+use Rattle.dpl_spec_split.specs.declared.Zone.{Zone}
+use Rattle.dpl_spec_split.specs.Squares.{Covers, Has, Region}
+use Rattle.dpl_spec_split.specs.Loops.{AreRectsWithin, farthest}
+use Rattle.dpl_spec_split.specs.Colours.{colour_at, on_mask}
+use Rattle.dpl_spec_split.specs.Zones.{part_at}
 use Rattle.dpl_slabs.specs.Parts.{AreParts}
 use Rattle.dpl_slabs.specs.Scattered.{AreScattered}
 use Rattle.dpl_piece.specs.declared.piece.Whole.{Whole}

@@ -1,7 +1,7 @@
 //! The bytes of a file of masks, by the GDSII Stream Format, Release 6.
 ghost use Rattle.std.specs.Prelude.{◌≡◌, ◌+◌, ◌++◌, IfOk, OnErr, OnOk, map};
 ghost use Rattle.std.specs.List.{concat};
-ghost use Rattle.dpl_spec.specs.Zones.{at};
+ghost use Rattle.dpl_spec_split.specs.Zones.{at};
 ghost use Rattle.dpl_masks.specs.Bytes.{FillsRoom, boundaries_bytes, boundary_bytes, coordinate_bytes, corners, file_bytes as file_bytes_of, point_bytes};
 
 use dpl_base::Rect;

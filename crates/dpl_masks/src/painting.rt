@@ -1,10 +1,10 @@
 //! Which squares lie on which mask.
 ghost use Rattle.std.specs.Prelude.{◌≡◌, ℕ, ◌<◌, ◌⊎◌, ◌↔◌, ◌++◌, ◌∷◌, [], false, true, map, IfOk, OnOk, length};
 ghost use Rattle.std.specs.List.{All};
-ghost use Rattle.dpl_spec.specs.Loops.{AreRectsWithin, farthest};
-ghost use Rattle.dpl_spec.specs.Squares.{Covers, Has, IsSolidWithin};
-ghost use Rattle.dpl_spec.specs.Slabs.{AreSlabsOf};
-ghost use Rattle.dpl_spec.specs.Colours.{AreStitches, differ};
+ghost use Rattle.dpl_spec_split.specs.Loops.{AreRectsWithin, farthest};
+ghost use Rattle.dpl_spec_split.specs.Squares.{Covers, Has, IsSolidWithin};
+ghost use Rattle.dpl_spec_split.specs.Slabs.{AreSlabsOf};
+ghost use Rattle.dpl_spec_split.specs.Colours.{AreStitches, differ};
 ghost use Rattle.dpl_orient.specs.Masks.{is_second};
 ghost use Rattle.dpl_masks.specs.Inks.{IsMixed};
 ghost use Rattle.dpl_masks.specs.Painting.{Adds, AreMasksOf};

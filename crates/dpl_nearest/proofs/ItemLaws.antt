@@ -5,10 +5,10 @@ use Rattle.std.specs.List.{All, Contains}
 use Rattle.std.proofs.lemmas.Int.{ints}
 use Rattle.std.proofs.lemmas.List.{get_or_default}
 use Rattle.std.proofs.lemmas.Bool.{cases_eq, cases_lt, cases_order}
-use Rattle.dpl_spec.specs.declared.Pt.{Pt}
-use Rattle.dpl_spec.specs.declared.Rect.{Rect}
-use Rattle.dpl_spec.specs.Squares.{Region, AreNear, Covers, Has, gap}
-use Rattle.dpl_spec.specs.Slabs.{IsSolid}
+use Rattle.dpl_spec_split.specs.declared.Pt.{Pt}
+use Rattle.dpl_spec_split.specs.declared.Rect.{Rect}
+use Rattle.dpl_spec_split.specs.Squares.{Region, AreNear, Covers, Has, gap}
+use Rattle.dpl_spec_split.specs.Slabs.{IsSolid}
 use Rattle.dpl_tree.specs.declared.items.Item.{Item}
 use Rattle.dpl_tree.specs.declared.owners.Owners.{Owners}
 use Rattle.dpl_tree.specs.declared.owners.Owners.TheVariants.{All as Everyone, But, Only, Above}

@@ -4,10 +4,10 @@ use Rattle.std.specs.Prelude.{ℤ, pos, ◌+ℤ◌, ◌≤ℤ◌, ◌<ℤ◌}
 use Rattle.std.proofs.lemmas.Int.{ints, by_lt_z}
 use Rattle.std.proofs.lemmas.Bool.{cases_eq}
 use Rattle.std.proofs.lemmas.List.{get_or_default}
-use Rattle.dpl_spec.specs.declared.Pt.{Pt}
-use Rattle.dpl_spec.specs.declared.Rect.{Rect}
-use Rattle.dpl_spec.specs.Squares.{Region, Has, Covers, Precedes, IsLeast, AreNear}
-use Rattle.dpl_spec.specs.Zones.{at}
+use Rattle.dpl_spec_split.specs.declared.Pt.{Pt}
+use Rattle.dpl_spec_split.specs.declared.Rect.{Rect}
+use Rattle.dpl_spec_split.specs.Squares.{Region, Has, Covers, Precedes, IsLeast, AreNear}
+use Rattle.dpl_spec_split.specs.Zones.{at}
 use Rattle.dpl_nearest.specs.Search.{near_part, row_at, rows_below, column_at, columns_left, IsLeastNear, IsLowered, IsImproved, CoversFirst}
 
 pub same_square : (p q : Pt) → p.x ≡ q.x → p.y ≡ q.y → p ≡ q

@@ -1,8 +1,8 @@
 -- Two sets have one nearest pair.
 use Rattle.std.proofs.Common.{◌≡◌, ℕ, inl, inr, sym, subst}
-use Rattle.dpl_spec.specs.declared.Pt.{Pt}
-use Rattle.dpl_spec.specs.Squares.{Region, Precedes}
-use Rattle.dpl_spec.proofs.SquareLaws.{Precedes-strict}
+use Rattle.dpl_spec_split.specs.declared.Pt.{Pt}
+use Rattle.dpl_spec_split.specs.Squares.{Region, Precedes}
+use Rattle.dpl_spec_split.proofs.SquareLaws.{Precedes-strict}
 use Rattle.dpl_nearest.specs.Nearest.{IsNearestPair}
 
 not-before : (p q : Pt) → p ≡ q → Precedes p q → ⊥

@@ -3,11 +3,11 @@ use Rattle.std.proofs.Common.{◌≡◌, ℕ, ◌*◌, ◌<◌, ◌≤◌, inl, 
 use Rattle.std.specs.Prelude.{pos, unsigned_abs, ◌+ℤ◌, ◌≤ℤ◌, ◌<ℤ◌}
 use Rattle.std.specs.Int.{w32}
 use Rattle.std.proofs.lemmas.Int.{fits_signed_from_abs, ints}
-use Rattle.dpl_spec.specs.declared.Pt.{Pt}
-use Rattle.dpl_spec.specs.declared.Rect.{Rect}
-use Rattle.dpl_spec.specs.Squares.{Region, Has, Covers, IsLeast, AreNear, d2}
-use Rattle.dpl_spec.specs.Loops.{IsRectWithin, AreRectsWithin, farthest}
-use Rattle.dpl_spec.proofs.SquareLaws.{d2-sym}
+use Rattle.dpl_spec_split.specs.declared.Pt.{Pt}
+use Rattle.dpl_spec_split.specs.declared.Rect.{Rect}
+use Rattle.dpl_spec_split.specs.Squares.{Region, Has, Covers, IsLeast, AreNear, d2}
+use Rattle.dpl_spec_split.specs.Loops.{IsRectWithin, AreRectsWithin, farthest}
+use Rattle.dpl_spec_split.proofs.SquareLaws.{d2-sym}
 use Rattle.dpl_nearest.specs.Nearest.{IsNearestPair}
 use Rattle.dpl_nearest.specs.Search.{FitsIn32Bits, near_part, unit_of}
 use Rattle.dpl_nearest.proofs.NearLaws.{same_square}

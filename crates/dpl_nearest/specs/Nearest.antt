@@ -1,7 +1,7 @@
 -- The least pair of near squares of two sets.
 use Rattle.std.specs.Prelude.{◌≡◌, ℕ, ◌*◌, ◌<◌, ◌⊎◌}
-use Rattle.dpl_spec.specs.declared.Pt.{Pt}
-use Rattle.dpl_spec.specs.Squares.{Region, Precedes, d2}
+use Rattle.dpl_spec_split.specs.declared.Pt.{Pt}
+use Rattle.dpl_spec_split.specs.Squares.{Region, Precedes, d2}
 
 -- two squares of the two sets that are near
 pub record AreNearAt (rule : ℕ) (a b : Region) (p q : Pt) : Type 0 where

@@ -1,14 +1,14 @@
 -- The search for the least square of a set that is near another.
 use Rattle.std.specs.Prelude.{◌≡◌, ◌≢◌, ℕ, ◌*◌, ◌<◌, ◌⊎◌, ℤ, ◌+ℤ◌, pos, FitsSigned, List, Option, Some, None, length, slice_index_or}
 use Rattle.std.specs.Int.{w32}
-use Rattle.dpl_spec.specs.declared.Pt.{Pt}
-use Rattle.dpl_spec.specs.declared.Rect.{Rect}
+use Rattle.dpl_spec_split.specs.declared.Pt.{Pt}
+use Rattle.dpl_spec_split.specs.declared.Rect.{Rect}
 use Rattle.dpl_tree.specs.declared.items.Item.{Item}
 use Rattle.dpl_tree.specs.declared.owners.Owners.{Owners}
 use Rattle.dpl_tree.specs.declared.owners.Owners.TheVariants.{All, But, Only, Above}
 use Rattle.dpl_tree.specs.Trees.{HasItem}
-use Rattle.dpl_spec.specs.Slabs.{IsSolid}
-use Rattle.dpl_spec.specs.Squares.{Region, Has, AreNear, IsLeast, Precedes, d2}
+use Rattle.dpl_spec_split.specs.Slabs.{IsSolid}
+use Rattle.dpl_spec_split.specs.Squares.{Region, Has, AreNear, IsLeast, Precedes, d2}
 
 -- the squares of a that are closer than rule to some square of b
 abbrev pub near_part : ℕ → Region → Region → Region

@@ -1,10 +1,10 @@
 //! The least square of rectangles that is near others.
 ghost use Rattle.std.specs.Prelude.{◌≡◌, ℕ, ◌⊎◌, ◌↔◌, IfOk};
 ghost use Rattle.std.specs.List.{All, Contains};
-ghost use Rattle.dpl_spec.specs.Loops.{AreRectsWithin, IsRectWithin, farthest};
-ghost use Rattle.dpl_spec.specs.Slabs.{IsSolid};
-ghost use Rattle.dpl_spec.specs.Squares.{Covers, Has, Precedes};
-ghost use Rattle.dpl_spec.specs.declared.Rect.{Rect};
+ghost use Rattle.dpl_spec_split.specs.Loops.{AreRectsWithin, IsRectWithin, farthest};
+ghost use Rattle.dpl_spec_split.specs.Slabs.{IsSolid};
+ghost use Rattle.dpl_spec_split.specs.Squares.{Covers, Has, Precedes};
+ghost use Rattle.dpl_spec_split.specs.declared.Rect.{Rect};
 ghost use Rattle.dpl_tree.specs.Trees.{HasItem};
 ghost use Rattle.dpl_tree.specs.declared.owners.Owners.TheVariants.{All as Everyone};
 ghost use Rattle.dpl_nearest.specs.Search.{AreSolidItems, IsLeastNear, ItemCovers, IsLowered, IsImproved};

@@ -5,9 +5,9 @@ mod least;
 mod rects;
 
 ghost use Rattle.std.specs.Prelude.{IfNone, IfOk, IfSome};
-ghost use Rattle.dpl_spec.specs.Loops.{AreRectsWithin, farthest};
-ghost use Rattle.dpl_spec.specs.Slabs.{IsSolid};
-ghost use Rattle.dpl_spec.specs.Squares.{AreNear, Covers};
+ghost use Rattle.dpl_spec_split.specs.Loops.{AreRectsWithin, farthest};
+ghost use Rattle.dpl_spec_split.specs.Slabs.{IsSolid};
+ghost use Rattle.dpl_spec_split.specs.Squares.{AreNear, Covers};
 ghost use Rattle.dpl_nearest.specs.Nearest.{IsNearestPair};
 ghost use Rattle.std.specs.List.{All};
 

@@ -1,8 +1,8 @@
 //! Parts of a rectangle that are near the rectangles of a search tree, or of some owners there.
 ghost use Rattle.std.specs.Prelude.{◌≡◌, ◌≤◌, ◌^◌, ◌≤ℤ◌, ◌<ℤ◌, ◌+ℤ◌, pos, ◌↔◌, IsTrue, IsNone, IfSome, unsigned_abs};
-ghost use Rattle.dpl_spec.specs.Loops.{IsRectWithin, farthest};
-ghost use Rattle.dpl_spec.specs.Slabs.{IsSolid};
-ghost use Rattle.dpl_spec.specs.Squares.{AreNear, Has};
+ghost use Rattle.dpl_spec_split.specs.Loops.{IsRectWithin, farthest};
+ghost use Rattle.dpl_spec_split.specs.Slabs.{IsSolid};
+ghost use Rattle.dpl_spec_split.specs.Squares.{AreNear, Has};
 ghost use Rattle.dpl_nearest.specs.Search.{AreSolidItems, FitsIn32Bits, IsLeastNear, ItemCovers, column_at, columns_left, row_at, rows_below, unit_of};
 
 use dpl_base::{Pt, Rect, WideRect, near};

@@ -3,7 +3,7 @@ use Rattle.std.proofs.Common.{◌≡◌, ℕ, ◌+◌, ◌<◌, ◌⊎◌, inl, 
 use Rattle.std.specs.Prelude.{IfSome}
 use Rattle.std.proofs.lemmas.Bool.{cases_eq}
 use Rattle.std.proofs.lemmas.List.{get_or_read}
-use Rattle.dpl_spec.specs.Graphs.{Precedes}
+use Rattle.dpl_spec_split.specs.Graphs.{Precedes}
 use Rattle.dpl_odd.specs.Paths.{IsLevel, IsNotAfter, IsLesser, slanted, first, older, newer, edge_at, IsLeastLevel}
 
 precedes_trans : (e f g : ℕ × ℕ) → Precedes e f → Precedes f g → Precedes e g

@@ -2,7 +2,7 @@
 use Rattle.std.proofs.Common.{◌≡◌, ◌≢◌, ℕ, ◌+◌, ◌<◌, ◌≤◌, ◌⊎◌, inl, inr, List, ◌++◌, replicate, take, drop, length, set, get_or, sym, refl, ap, subst, ◌∙◌, arith}
 use Rattle.std.proofs.lemmas.Bool.{cases_eq}
 use Rattle.std.proofs.lemmas.List.{get_or_default, length-set, get_or-set_same, get_or-set_other, get_or-replicate, length-replicate, take-append-le, take_all}
-use Rattle.dpl_spec.specs.Graphs.{Graph, graph_of}
+use Rattle.dpl_spec_split.specs.Graphs.{Graph, graph_of}
 use Rattle.dpl_odd.specs.Paths.{edge_at, AreLowest, IsLowered, stays, falls}
 
 -- a graph with an edge from child to other more

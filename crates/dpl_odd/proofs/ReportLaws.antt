@@ -3,11 +3,11 @@ use Rattle.std.proofs.Common.{◌≡◌, ℕ, suc, ◌+◌, ◌-◌, ◌<◌, �
 use Rattle.std.proofs.lemmas.List.{get_or_default}
 use Rattle.std.specs.List.{Contains}
 use Rattle.std.proofs.lemmas.List.Elements.{All-contains}
-use Rattle.dpl_spec.specs.Graphs.{stay, step, IsDistance, IsRoot, IsOddCycle, Precedes, graph_of}
-use Rattle.dpl_spec.specs.Cycle.{IsLevelEdge, IsParent, Climb, IsOddRoot, IsReported}
-use Rattle.dpl_spec.specs.Cycle as cycle
-use Rattle.dpl_spec.specs.Summary.{HasOddCycle}
-use Rattle.dpl_spec.proofs.GraphLaws.{distance-unique, root-unique}
+use Rattle.dpl_spec_split.specs.Graphs.{stay, step, IsDistance, IsRoot, IsOddCycle, Precedes, graph_of}
+use Rattle.dpl_spec_split.specs.Cycle.{IsLevelEdge, IsParent, Climb, IsOddRoot, IsReported}
+use Rattle.dpl_spec_split.specs.Cycle as cycle
+use Rattle.dpl_spec_split.specs.Summary.{HasOddCycle}
+use Rattle.dpl_spec_split.proofs.GraphLaws.{distance-unique, root-unique}
 use Rattle.dpl_graph.specs.Levels.{AreEdgesBelow, AreLevels}
 use Rattle.dpl_graph.proofs.Walks.{graph_of-undirected, root-along, Reaches-sym, distance-step, distance-zero, distance-before}
 use Rattle.dpl_graph.proofs.Parity.{level-at_root}

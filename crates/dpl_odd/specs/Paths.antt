@@ -1,6 +1,6 @@
 -- The least level edge, the parents, and the paths through them. Roots, levels and parents are lists by number.
 use Rattle.std.specs.Prelude.{◌≡◌, ◌≢◌, ℕ, suc, ◌+◌, ◌<◌, ◌≤◌, ◌⊎◌, Option, Some, None, List, [], ◌∷◌, ◌++◌, reverse, length, slice_index, slice_index_or, slice_set}
-use Rattle.dpl_spec.specs.Graphs.{Graph, Precedes}
+use Rattle.dpl_spec_split.specs.Graphs.{Graph, Precedes}
 
 -- both numbers of an edge lie on one level
 abbrev pub IsLevel : List ℕ → ℕ × ℕ → Type 0

@@ -1,6 +1,6 @@
 //! The parents of the numbers of a graph, and the paths through them.
 ghost use Rattle.std.specs.Prelude.{◌≡◌, ◌≢◌, ◌<◌, length, vec_len, slice_index, IfOk};
-ghost use Rattle.dpl_spec.specs.Graphs.{graph_of};
+ghost use Rattle.dpl_spec_split.specs.Graphs.{graph_of};
 ghost use Rattle.dpl_graph.specs.Levels.{AreEdgesBelow};
 ghost use Rattle.dpl_odd.specs.Paths.{AreLowest, IsLowered, IsForest, IsClosed};
 

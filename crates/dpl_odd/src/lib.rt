@@ -5,9 +5,9 @@ mod forest;
 mod level;
 
 ghost use Rattle.std.specs.Prelude.{IfOk, IfNone, IfSome};
-ghost use Rattle.dpl_spec.specs.Graphs.{IsOddCycle, graph_of};
-ghost use Rattle.dpl_spec.specs.Cycle.{IsReported};
-ghost use Rattle.dpl_spec.specs.Summary.{HasOddCycle};
+ghost use Rattle.dpl_spec_split.specs.Graphs.{IsOddCycle, graph_of};
+ghost use Rattle.dpl_spec_split.specs.Cycle.{IsReported};
+ghost use Rattle.dpl_spec_split.specs.Summary.{HasOddCycle};
 ghost use Rattle.dpl_graph.specs.Levels.{AreEdgesBelow};
 
 use crate::forest::{Forest, parents_of};

@@ -6,7 +6,7 @@ use Rattle.std.proofs.lemmas.List.{get_or-map, length-map}
 use Rattle.std.proofs.lemmas.List.Elements.{All-head, All-tail, All-cons, All-nil, All-append}
 use Rattle.std.proofs.lemmas.List.Sums.{sum_by-cons, sum_by-append}
 use Rattle.std.proofs.lemmas.List.Sorted.{sum_by-IsPermutation, All-permutation as permuted}
-use Rattle.dpl_spec.specs.Colours.{differ, crosses, zones_across, is_flipped, AreColours}
+use Rattle.dpl_spec_split.specs.Colours.{differ, crosses, zones_across, is_flipped, AreColours}
 use Rattle.dpl_stars.specs.declared.list.Star.{Star}
 use Rattle.dpl_orient.specs.declared.chart.Rooted.{Rooted}
 use Rattle.dpl_orient.specs.declared.crossing.Across.{Across}

@@ -1,6 +1,6 @@
 -- Tests on letters.
 use Rattle.std.proofs.Common.{◌≡◌, Bool, true, false, not, ◌&&◌, ◌||◌, refl}
-use Rattle.dpl_spec.specs.Colours.{differ}
+use Rattle.dpl_spec_split.specs.Colours.{differ}
 
 not-not : (a : Bool) → not (not a) ≡ a
 not-not true = refl

@@ -5,9 +5,9 @@ use Rattle.std.specs.List.{All, Contains}
 use Rattle.std.proofs.lemmas.Bool.{cases_lt}
 use Rattle.std.proofs.lemmas.List.{get_or-map, length-map}
 use Rattle.std.proofs.lemmas.List.Elements.{All-contains, All-map}
-use Rattle.dpl_spec.specs.Graphs.{Graph, Walk, stay, step, IsDistance, IsRoot, Reaches, graph_of}
-use Rattle.dpl_spec.specs.Summary.{Row, IsStar, AreStars}
-use Rattle.dpl_spec.specs.Colours.{AreRoots}
+use Rattle.dpl_spec_split.specs.Graphs.{Graph, Walk, stay, step, IsDistance, IsRoot, Reaches, graph_of}
+use Rattle.dpl_spec_split.specs.Summary.{Row, IsStar, AreStars}
+use Rattle.dpl_spec_split.specs.Colours.{AreRoots}
 use Rattle.dpl_stars.specs.declared.list.Star.{Star}
 use Rattle.dpl_stars.specs.Sums.{row_of}
 use Rattle.dpl_orient.specs.Oriented.{AreColoursOfRows, IsColouring}

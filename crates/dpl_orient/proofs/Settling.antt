@@ -4,7 +4,7 @@ use Rattle.std.specs.List.{All}
 use Rattle.std.proofs.lemmas.Bool.{and_left, ne_eqb, eq-eqb, cond-false, cases_lt, cases_eq}
 use Rattle.std.proofs.lemmas.List.{get_or_default, get_or-take, get_or-drop, length-take-le, length-drop}
 use Rattle.std.proofs.lemmas.List.Sums.{sum_by-le, sum_by-take-drop, count_by_more_yes, count_by_more_no}
-use Rattle.dpl_spec.specs.Colours.{differ}
+use Rattle.dpl_spec_split.specs.Colours.{differ}
 use Rattle.dpl_orient.specs.declared.crossing.Crossing.{Crossing}
 use Rattle.dpl_orient.specs.Crossings.{AreGrouped, IsSplit, tally, is_turned}
 

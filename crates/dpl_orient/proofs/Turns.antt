@@ -4,7 +4,7 @@ use Rattle.std.proofs.lemmas.Bool.{cases_lt, eqb-true}
 use Rattle.std.proofs.lemmas.List.{get_or_append_left, get_or_push, length_push}
 use Rattle.std.proofs.lemmas.List.Elements.{All-head, All-tail}
 use Rattle.std.proofs.lemmas.List.Sums.{sum_by-cons}
-use Rattle.dpl_spec.specs.Colours.{differ}
+use Rattle.dpl_spec_split.specs.Colours.{differ}
 use Rattle.dpl_orient.specs.declared.crossing.Crossing.{Crossing}
 use Rattle.dpl_orient.specs.Crossings.{GoUp, IsSplit, AreFlips, tally, is_turned}
 use Rattle.dpl_orient.proofs.Letters.{and-agree}

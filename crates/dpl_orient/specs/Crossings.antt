@@ -2,7 +2,7 @@
 use Rattle.std.specs.Prelude.{◌≡◌, ℕ, ◌<◌, ◌≤◌, Bool, true, false, not, ◌&&◌, ◌==◌, nat_lt, List, [], ◌∷◌, length, slice_index_or, count_by, map, if◌then◌else◌}
 use Rattle.std.specs.List.{All, flat_map}
 use Rattle.std.specs.List.Sorted.{IsNonDecreasingBy}
-use Rattle.dpl_spec.specs.Colours.{differ}
+use Rattle.dpl_spec_split.specs.Colours.{differ}
 use Rattle.dpl_orient.specs.declared.chart.Rooted.{Rooted}
 use Rattle.dpl_orient.specs.Chart.{rooted_at}
 use Rattle.dpl_orient.specs.declared.crossing.Across.{Across}

@@ -1,7 +1,7 @@
 -- Colours of a summary, and of a graph.
 use Rattle.std.specs.Prelude.{ℕ, Bool, List}
-use Rattle.dpl_spec.specs.Graphs.{Graph, graph_of}
-use Rattle.dpl_spec.specs.Colours.{AreRoots, AreColours}
+use Rattle.dpl_spec_split.specs.Graphs.{Graph, graph_of}
+use Rattle.dpl_spec_split.specs.Colours.{AreRoots, AreColours}
 use Rattle.dpl_stars.specs.declared.list.Star.{Star}
 use Rattle.dpl_stars.specs.declared.joined.Joined.{Joined}
 use Rattle.dpl_stars.specs.declared.joined.Joined.TheVariants.{Stars, Odd}

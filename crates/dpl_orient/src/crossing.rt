@@ -1,7 +1,7 @@
 //! Stitch zones between two components.
 ghost use Rattle.std.specs.Prelude.{◌≡◌, ◌<◌, ◌+◌, [], ◌∷◌, ◌++◌, length, IfOk};
 ghost use Rattle.std.specs.List.Sorted.{IsPermutation, IsNonDecreasingBy};
-ghost use Rattle.dpl_spec.specs.Colours.{differ};
+ghost use Rattle.dpl_spec_split.specs.Colours.{differ};
 ghost use Rattle.dpl_orient.specs.Chart.{rooted_at};
 ghost use Rattle.dpl_orient.specs.Crossings.{crossing_between, crossing_at, is_across, crossings_at, HaveLater, crossings_of, AreGrouped, GoUp};
 

@@ -4,17 +4,17 @@ use Rattle.std.specs.Prelude.{ℤ, pos, ◌+ℤ◌, ◌-ℤ◌, ◌≤ℤ◌, �
 use Rattle.std.specs.List.{Contains}
 use Rattle.std.proofs.lemmas.Int.{ints}
 use Rattle.std.proofs.lemmas.List.{get_or_default}
-use Rattle.dpl_spec.specs.declared.Pt.{Pt}
-use Rattle.dpl_spec.specs.declared.Rect.{Rect}
-use Rattle.dpl_spec.specs.declared.Zone.{Zone}
-use Rattle.dpl_spec.specs.Squares.{Region, Covers, Has, Touch, AreTouching}
-use Rattle.dpl_spec.specs.Components.{Linked, here, on, AreComponents}
-use Rattle.dpl_spec.specs.Zones.{at, IsHorizontalZone, IsVerticalZone, IsKeptZone, turned, turned_rect, AreZones, part_at}
-use Rattle.dpl_spec.specs.Pieces.{without}
-use Rattle.dpl_spec.proofs.SquareLaws.{Touch-from_close, Touch-sym}
-use Rattle.dpl_spec.proofs.ComponentLaws.{Linked-trans}
-use Rattle.dpl_spec.proofs.ZoneLaws.{zone-in-feature, beside-in-feature, beside-same}
-use Rattle.dpl_spec.proofs.WholeLaws.{part-unique}
+use Rattle.dpl_spec_split.specs.declared.Pt.{Pt}
+use Rattle.dpl_spec_split.specs.declared.Rect.{Rect}
+use Rattle.dpl_spec_split.specs.declared.Zone.{Zone}
+use Rattle.dpl_spec_split.specs.Squares.{Region, Covers, Has, Touch, AreTouching}
+use Rattle.dpl_spec_split.specs.Components.{Linked, here, on, AreComponents}
+use Rattle.dpl_spec_split.specs.Zones.{at, IsHorizontalZone, IsVerticalZone, IsKeptZone, turned, turned_rect, AreZones, part_at}
+use Rattle.dpl_spec_split.specs.Pieces.{without}
+use Rattle.dpl_spec_split.proofs.SquareLaws.{Touch-from_close, Touch-sym}
+use Rattle.dpl_spec_split.proofs.ComponentLaws.{Linked-trans}
+use Rattle.dpl_spec_split.proofs.ZoneLaws.{zone-in-feature, beside-in-feature, beside-same}
+use Rattle.dpl_spec_split.proofs.WholeLaws.{part-unique}
 
 -- a square of some part is one of the set
 pub in-set : (a : Region) (parts : List (List Rect)) (k : ℕ) (p : Pt) → AreComponents a parts → k < length parts → part_at parts k p → a p

@@ -5,19 +5,19 @@ use Rattle.std.specs.List.{All, AllPairs, Any, Contains}
 use Rattle.std.proofs.lemmas.Bool.{cases_eq}
 use Rattle.std.proofs.lemmas.List.{get_or_default, get_or-map, length-map}
 use Rattle.std.proofs.lemmas.List.Elements.{All-append, All-contains, Contains-get_or, Contains-append_left, Contains-append_right}
-use Rattle.dpl_spec.specs.declared.Pt.{Pt}
-use Rattle.dpl_spec.specs.declared.Rect.{Rect}
-use Rattle.dpl_spec.specs.declared.Zone.{Zone}
-use Rattle.dpl_spec.specs.Squares.{Region, Covers, Has, SameSquares}
-use Rattle.dpl_spec.specs.Slabs.{IsCanonical}
-use Rattle.dpl_spec.specs.Loops.{farthest, AreRectsWithin}
-use Rattle.dpl_spec.specs.Components.{Linked, here, on, component, AreComponents}
-use Rattle.dpl_spec.specs.Zones.{AreZones, part_at}
-use Rattle.dpl_spec.specs.Pieces.{without}
-use Rattle.dpl_spec.proofs.SlabLaws.{Covers-member, member-Covers}
-use Rattle.dpl_spec.proofs.SquareLaws.{Touch-sym, SameSquares-trans}
-use Rattle.dpl_spec.proofs.ComponentLaws.{Linked-start}
-use Rattle.dpl_spec.proofs.WholeLaws.{part-unique}
+use Rattle.dpl_spec_split.specs.declared.Pt.{Pt}
+use Rattle.dpl_spec_split.specs.declared.Rect.{Rect}
+use Rattle.dpl_spec_split.specs.declared.Zone.{Zone}
+use Rattle.dpl_spec_split.specs.Squares.{Region, Covers, Has, SameSquares}
+use Rattle.dpl_spec_split.specs.Slabs.{IsCanonical}
+use Rattle.dpl_spec_split.specs.Loops.{farthest, AreRectsWithin}
+use Rattle.dpl_spec_split.specs.Components.{Linked, here, on, component, AreComponents}
+use Rattle.dpl_spec_split.specs.Zones.{AreZones, part_at}
+use Rattle.dpl_spec_split.specs.Pieces.{without}
+use Rattle.dpl_spec_split.proofs.SlabLaws.{Covers-member, member-Covers}
+use Rattle.dpl_spec_split.proofs.SquareLaws.{Touch-sym, SameSquares-trans}
+use Rattle.dpl_spec_split.proofs.ComponentLaws.{Linked-start}
+use Rattle.dpl_spec_split.proofs.WholeLaws.{part-unique}
 use Rattle.dpl_slabs.specs.Parts.{AreApart, AreParts, union_of}
 use Rattle.dpl_slabs.proofs.StripLaws.{AllPairs-append}
 use Rattle.dpl_piece.specs.declared.piece.Origin.TheVariants.{Whole, Broken}

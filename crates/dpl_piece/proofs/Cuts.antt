@@ -4,16 +4,16 @@ use Rattle.std.specs.Prelude.{ℤ}
 use Rattle.std.specs.List.{All, AllZip}
 use Rattle.std.proofs.lemmas.List.{get_or_default, get_or-map, length-map}
 use Rattle.std.proofs.lemmas.List.Elements.{All-contains, All-head, All-tail}
-use Rattle.dpl_spec.specs.declared.Rect.{Rect}
-use Rattle.dpl_spec.specs.declared.Zone.{Zone}
-use Rattle.dpl_spec.specs.Squares.{Region, Covers, IsLeast, IsSolidWithin}
-use Rattle.dpl_spec.specs.Loops.{farthest, IsRectWithin, AreRectsWithin}
-use Rattle.dpl_spec.specs.Slabs.{IsCanonical}
-use Rattle.dpl_spec.specs.Components.{here, AreComponents}
-use Rattle.dpl_spec.specs.Pieces.{without, IsOwner}
-use Rattle.dpl_spec.proofs.Ordered.{Contains-nil}
-use Rattle.dpl_spec.proofs.SquareLaws.{SameSquares-sym}
-use Rattle.dpl_spec.proofs.SlabLaws.{member-Covers, IsLeast-first}
+use Rattle.dpl_spec_split.specs.declared.Rect.{Rect}
+use Rattle.dpl_spec_split.specs.declared.Zone.{Zone}
+use Rattle.dpl_spec_split.specs.Squares.{Region, Covers, IsLeast, IsSolidWithin}
+use Rattle.dpl_spec_split.specs.Loops.{farthest, IsRectWithin, AreRectsWithin}
+use Rattle.dpl_spec_split.specs.Slabs.{IsCanonical}
+use Rattle.dpl_spec_split.specs.Components.{here, AreComponents}
+use Rattle.dpl_spec_split.specs.Pieces.{without, IsOwner}
+use Rattle.dpl_spec_split.proofs.Ordered.{Contains-nil}
+use Rattle.dpl_spec_split.proofs.SquareLaws.{SameSquares-sym}
+use Rattle.dpl_spec_split.proofs.SlabLaws.{member-Covers, IsLeast-first}
 use Rattle.dpl_slabs.specs.Parts.{union_of}
 use Rattle.dpl_piece.specs.Cutting.{cut_pieces, first_square, keys_in, AreMatched, BareCut, bare_cut, AreBare, AreBarePieces, AreFeatures, AreTheirZones, AreTheirPieces}
 use Rattle.dpl_piece.specs.declared.corner.Corner.{Corner}

@@ -1,12 +1,12 @@
 -- Components of sets that have the same squares, and what zones leave of them.
 use Rattle.std.proofs.Common.{List}
-use Rattle.dpl_spec.specs.declared.Pt.{Pt}
-use Rattle.dpl_spec.specs.declared.Rect.{Rect}
-use Rattle.dpl_spec.specs.declared.Zone.{Zone}
-use Rattle.dpl_spec.specs.Squares.{Region, SameSquares}
-use Rattle.dpl_spec.specs.Components.{Linked, here, on, component, AreComponents}
-use Rattle.dpl_spec.specs.Pieces.{without}
-use Rattle.dpl_spec.proofs.SquareLaws.{SameSquares-trans}
+use Rattle.dpl_spec_split.specs.declared.Pt.{Pt}
+use Rattle.dpl_spec_split.specs.declared.Rect.{Rect}
+use Rattle.dpl_spec_split.specs.declared.Zone.{Zone}
+use Rattle.dpl_spec_split.specs.Squares.{Region, SameSquares}
+use Rattle.dpl_spec_split.specs.Components.{Linked, here, on, component, AreComponents}
+use Rattle.dpl_spec_split.specs.Pieces.{without}
+use Rattle.dpl_spec_split.proofs.SquareLaws.{SameSquares-trans}
 
 pub linked-same : (a b : Region) → ((p : Pt) → a p → b p) → {p q : Pt} → Linked a p q → Linked b p q
 linked-same a b into (here h) = here (into _ h)

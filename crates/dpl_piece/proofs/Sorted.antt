@@ -7,17 +7,17 @@ use Rattle.std.proofs.lemmas.Int.{ints, by_lt_z}
 use Rattle.std.proofs.lemmas.List.{get_or_default, get_or-map, length-map}
 use Rattle.std.proofs.lemmas.List.Elements.{All-contains, Contains-get_or}
 use Rattle.std.proofs.lemmas.List.Sorted.{Contains-permutation, IsPermutation-sym}
-use Rattle.dpl_spec.specs.declared.Pt.{Pt}
-use Rattle.dpl_spec.specs.declared.Rect.{Rect}
-use Rattle.dpl_spec.specs.declared.Zone.{Zone}
-use Rattle.dpl_spec.specs.Squares.{Region, Covers, IsLeast, SameSquares}
-use Rattle.dpl_spec.specs.Slabs.{IsCanonical}
-use Rattle.dpl_spec.specs.Loops.{farthest, AreRectsWithin}
-use Rattle.dpl_spec.specs.Components.{component, here, ComesFirst}
-use Rattle.dpl_spec.specs.Pieces.{without}
-use Rattle.dpl_spec.proofs.Ordered.{Contains-nil}
-use Rattle.dpl_spec.proofs.SlabLaws.{IsLeast-first, member-Covers}
-use Rattle.dpl_spec.proofs.ComponentLaws.{Linked-end}
+use Rattle.dpl_spec_split.specs.declared.Pt.{Pt}
+use Rattle.dpl_spec_split.specs.declared.Rect.{Rect}
+use Rattle.dpl_spec_split.specs.declared.Zone.{Zone}
+use Rattle.dpl_spec_split.specs.Squares.{Region, Covers, IsLeast, SameSquares}
+use Rattle.dpl_spec_split.specs.Slabs.{IsCanonical}
+use Rattle.dpl_spec_split.specs.Loops.{farthest, AreRectsWithin}
+use Rattle.dpl_spec_split.specs.Components.{component, here, ComesFirst}
+use Rattle.dpl_spec_split.specs.Pieces.{without}
+use Rattle.dpl_spec_split.proofs.Ordered.{Contains-nil}
+use Rattle.dpl_spec_split.proofs.SlabLaws.{IsLeast-first, member-Covers}
+use Rattle.dpl_spec_split.proofs.ComponentLaws.{Linked-end}
 use Rattle.dpl_sweep.proofs.Permuted.{AllPairs-permutation}
 use Rattle.dpl_slabs.specs.Parts.{AreApart, union_of}
 use Rattle.dpl_piece.specs.declared.piece.Piece.{Piece}

@@ -4,17 +4,17 @@ use Rattle.std.specs.Prelude.{ℤ, pos, ◌+ℤ◌, ◌-ℤ◌, ◌<ℤ◌, unsi
 use Rattle.std.specs.List.{All, Contains}
 use Rattle.std.proofs.lemmas.Int.{ints, by_lt_z}
 use Rattle.std.proofs.lemmas.List.Elements.{All-contains}
-use Rattle.dpl_spec.specs.declared.Pt.{Pt}
-use Rattle.dpl_spec.specs.declared.Rect.{Rect}
-use Rattle.dpl_spec.specs.declared.Zone.{Zone}
-use Rattle.dpl_spec.specs.Squares.{Region, Covers, Has, Touch, AreTouching, IsSolidWithin}
-use Rattle.dpl_spec.specs.Slabs.{IsSolid, IsCanonical}
-use Rattle.dpl_spec.specs.Loops.{farthest, IsRectWithin, AreRectsWithin}
-use Rattle.dpl_spec.specs.Components.{AreComponents}
-use Rattle.dpl_spec.specs.Zones.{at, IsHorizontalZone, IsVerticalZone, IsKeptZone, turned, turned_rect, AreZones, part_at}
-use Rattle.dpl_spec.specs.Pieces.{without, IsFirstSide, IsSecondSide, AreSides}
-use Rattle.dpl_spec.proofs.SquareLaws.{Touch-from_close}
-use Rattle.dpl_spec.proofs.SlabLaws.{Covers-member, member-Covers}
+use Rattle.dpl_spec_split.specs.declared.Pt.{Pt}
+use Rattle.dpl_spec_split.specs.declared.Rect.{Rect}
+use Rattle.dpl_spec_split.specs.declared.Zone.{Zone}
+use Rattle.dpl_spec_split.specs.Squares.{Region, Covers, Has, Touch, AreTouching, IsSolidWithin}
+use Rattle.dpl_spec_split.specs.Slabs.{IsSolid, IsCanonical}
+use Rattle.dpl_spec_split.specs.Loops.{farthest, IsRectWithin, AreRectsWithin}
+use Rattle.dpl_spec_split.specs.Components.{AreComponents}
+use Rattle.dpl_spec_split.specs.Zones.{at, IsHorizontalZone, IsVerticalZone, IsKeptZone, turned, turned_rect, AreZones, part_at}
+use Rattle.dpl_spec_split.specs.Pieces.{without, IsFirstSide, IsSecondSide, AreSides}
+use Rattle.dpl_spec_split.proofs.SquareLaws.{Touch-from_close}
+use Rattle.dpl_spec_split.proofs.SlabLaws.{Covers-member, member-Covers}
 use Rattle.dpl_piece.specs.declared.corner.Corner.{Corner}
 use Rattle.dpl_piece.specs.declared.corner.Kind.TheVariants.{LowerLeft, LowerRight, UpperLeft}
 use Rattle.dpl_piece.specs.Corners.{corner_at, IsCornerOf, StandBeside}

@@ -7,18 +7,18 @@ use Rattle.std.proofs.lemmas.Int.{ints}
 use Rattle.std.proofs.lemmas.List.{get_or_default, get_or-map, get_or_past, length-map}
 use Rattle.std.proofs.lemmas.List.Elements.{All-contains, All-push, Contains-append_left, Contains-get_or, Contains-push}
 use Rattle.std.proofs.lemmas.List.Quantifiers.{all_pairs_push}
-use Rattle.dpl_spec.specs.declared.Pt.{Pt}
-use Rattle.dpl_spec.specs.declared.Rect.{Rect}
-use Rattle.dpl_spec.specs.declared.Zone.{Zone}
-use Rattle.dpl_spec.specs.Squares.{Covers, Has, IsSolidWithin, Touch}
-use Rattle.dpl_spec.specs.Loops.{farthest}
-use Rattle.dpl_spec.specs.Slabs.{IsCanonical, IsSolid}
-use Rattle.dpl_spec.specs.Components.{AreComponents}
-use Rattle.dpl_spec.specs.Zones.{at, part_at}
-use Rattle.dpl_spec.specs.Pieces.{IsOwner}
-use Rattle.dpl_spec.proofs.SlabLaws.{Covers-member}
-use Rattle.dpl_spec.proofs.SquareLaws.{Touch-from_close, Touch-sym}
-use Rattle.dpl_spec.proofs.WholeLaws.{part-unique}
+use Rattle.dpl_spec_split.specs.declared.Pt.{Pt}
+use Rattle.dpl_spec_split.specs.declared.Rect.{Rect}
+use Rattle.dpl_spec_split.specs.declared.Zone.{Zone}
+use Rattle.dpl_spec_split.specs.Squares.{Covers, Has, IsSolidWithin, Touch}
+use Rattle.dpl_spec_split.specs.Loops.{farthest}
+use Rattle.dpl_spec_split.specs.Slabs.{IsCanonical, IsSolid}
+use Rattle.dpl_spec_split.specs.Components.{AreComponents}
+use Rattle.dpl_spec_split.specs.Zones.{at, part_at}
+use Rattle.dpl_spec_split.specs.Pieces.{IsOwner}
+use Rattle.dpl_spec_split.proofs.SlabLaws.{Covers-member}
+use Rattle.dpl_spec_split.proofs.SquareLaws.{Touch-from_close, Touch-sym}
+use Rattle.dpl_spec_split.proofs.WholeLaws.{part-unique}
 use Rattle.dpl_slabs.specs.Parts.{union_of}
 use Rattle.dpl_slabs.specs.Scattered.{AreUntouched}
 use Rattle.dpl_piece.specs.declared.corner.Corner.{Corner}

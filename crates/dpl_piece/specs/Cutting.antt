@@ -1,14 +1,14 @@
 -- The pieces of a layer as one value.
 use Rattle.std.specs.Prelude.{◌≡◌, ◌≢◌, ℕ, ◌<◌, ◌≤◌, pos, List, [], ◌∷◌, length, map}
 use Rattle.std.specs.List.{All, AllZip}
-use Rattle.dpl_spec.specs.declared.Pt.{Pt}
-use Rattle.dpl_spec.specs.declared.Rect.{Rect}
-use Rattle.dpl_spec.specs.declared.Zone.{Zone}
-use Rattle.dpl_spec.specs.Squares.{Covers, IsSolidWithin}
-use Rattle.dpl_spec.specs.Loops.{farthest}
-use Rattle.dpl_spec.specs.Components.{AreComponents}
-use Rattle.dpl_spec.specs.Zones.{AreZones, at}
-use Rattle.dpl_spec.specs.Pieces.{ArePieces}
+use Rattle.dpl_spec_split.specs.declared.Pt.{Pt}
+use Rattle.dpl_spec_split.specs.declared.Rect.{Rect}
+use Rattle.dpl_spec_split.specs.declared.Zone.{Zone}
+use Rattle.dpl_spec_split.specs.Squares.{Covers, IsSolidWithin}
+use Rattle.dpl_spec_split.specs.Loops.{farthest}
+use Rattle.dpl_spec_split.specs.Components.{AreComponents}
+use Rattle.dpl_spec_split.specs.Zones.{AreZones, at}
+use Rattle.dpl_spec_split.specs.Pieces.{ArePieces}
 use Rattle.dpl_slabs.specs.Parts.{AreParts, union_of}
 use Rattle.dpl_piece.specs.declared.piece.Origin.{Origin}
 use Rattle.dpl_piece.specs.Corners.{StandBeside, StandBroken}

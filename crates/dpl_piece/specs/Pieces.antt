@@ -2,11 +2,11 @@
 use Rattle.std.specs.Prelude.{◌≡◌, ℕ, ◌<◌, ◌⊎◌, ◌↔◌, ℤ, pos, List, [], ◌∷◌, ◌++◌, length, map, slice_index_or}
 use Rattle.std.specs.List.{All, Contains}
 use Rattle.std.specs.List.Sorted.{IsSortedByKey}
-use Rattle.dpl_spec.specs.declared.Rect.{Rect}
-use Rattle.dpl_spec.specs.declared.Zone.{Zone}
-use Rattle.dpl_spec.specs.Squares.{Region, Covers}
-use Rattle.dpl_spec.specs.Components.{AreComponents}
-use Rattle.dpl_spec.specs.Pieces.{without, IsOwner}
+use Rattle.dpl_spec_split.specs.declared.Rect.{Rect}
+use Rattle.dpl_spec_split.specs.declared.Zone.{Zone}
+use Rattle.dpl_spec_split.specs.Squares.{Region, Covers}
+use Rattle.dpl_spec_split.specs.Components.{AreComponents}
+use Rattle.dpl_spec_split.specs.Pieces.{without, IsOwner}
 use Rattle.dpl_slabs.specs.Parts.{AreParts, union_of}
 use Rattle.dpl_piece.specs.declared.piece.Origin.{Origin}
 use Rattle.dpl_piece.specs.declared.piece.Origin.TheVariants.{Whole, Broken}

@@ -1,8 +1,8 @@
 //! The pieces of a layer.
 ghost use Rattle.std.specs.Prelude.{◌≡◌, ◌<◌, length, slice_index_or};
 ghost use Rattle.std.specs.List.{All, AllZip};
-ghost use Rattle.dpl_spec.specs.Squares.{IsSolidWithin};
-ghost use Rattle.dpl_spec.specs.Loops.{farthest};
+ghost use Rattle.dpl_spec_split.specs.Squares.{IsSolidWithin};
+ghost use Rattle.dpl_spec_split.specs.Loops.{farthest};
 ghost use Rattle.dpl_slabs.specs.Parts.{AreParts};
 ghost use Rattle.dpl_piece.specs.Cutting.{cut_pieces, keys_in, AreMatched};
 ghost use Rattle.dpl_piece.specs.Wholes.{AreOwnSides, LieInSome};

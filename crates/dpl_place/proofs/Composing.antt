@@ -2,8 +2,8 @@
 use Rattle.std.proofs.Common.{◌≡◌, ℕ, ◌+◌, ◌-◌, ◌%◌, ◌<◌, Bool, true, false, not, refl, sym, ap, ◌∙◌, arith}
 use Rattle.std.specs.Prelude.{if◌then◌else◌}
 use mathlib.Core.Bool.{beq}
-use Rattle.dpl_spec.specs.declared.Pt.{Pt}
-use Rattle.dpl_elements.specs.Motions.{Motion, reflected, turned, moved, image, IsComposed}
+use Rattle.dpl_spec_split.specs.declared.Pt.{Pt}
+use Rattle.dpl_spec_elements.specs.Motions.{Motion, reflected, turned, moved, image, IsComposed}
 use Rattle.dpl_place.proofs.Turning.{turned-add, turned-mod, reflected-twice, reflected-turned, turned-moved, reflected-moved, moved-moved}
 
 -- reflected where b says so

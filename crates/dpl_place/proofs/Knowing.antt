@@ -3,8 +3,8 @@ use Rattle.std.proofs.Common.{◌≡◌, ℕ, zero, suc, ◌+◌, ◌-◌, ◌<�
 use Rattle.std.specs.Prelude.{ℤ, pos, ◌+ℤ◌, neg_ℤ, if◌then◌else◌}
 use Rattle.std.proofs.lemmas.Int.{ints}
 use Rattle.std.proofs.lemmas.Bool.{cases_lt}
-use Rattle.dpl_spec.specs.declared.Pt.{Pt}
-use Rattle.dpl_elements.specs.Motions.{Motion, reflected, quarter_turned, turned, moved, image, IsComposed}
+use Rattle.dpl_spec_split.specs.declared.Pt.{Pt}
+use Rattle.dpl_spec_elements.specs.Motions.{Motion, reflected, quarter_turned, turned, moved, image, IsComposed}
 use Rattle.dpl_place.proofs.Turning.{same_point, turned-four, turned-add}
 use Rattle.dpl_place.proofs.Composing.{mirrored, turn_of}
 

@@ -3,8 +3,8 @@ use Rattle.std.proofs.Common.{◌≡◌, ℕ, zero, suc, ◌+◌, ◌-◌, ◌%�
 use Rattle.std.specs.Prelude.{ℤ, ◌+ℤ◌, if◌then◌else◌}
 use Rattle.std.proofs.lemmas.Int.{ints}
 use Rattle.std.proofs.lemmas.Bool.{cases_lt}
-use Rattle.dpl_spec.specs.declared.Pt.{Pt}
-use Rattle.dpl_elements.specs.Motions.{Motion, reflected, quarter_turned, turned, moved, image}
+use Rattle.dpl_spec_split.specs.declared.Pt.{Pt}
+use Rattle.dpl_spec_elements.specs.Motions.{Motion, reflected, quarter_turned, turned, moved, image}
 
 pub same_point : (p q : Pt) → p.x ≡ q.x → p.y ≡ q.y → p ≡ q
 same_point p q x y = λ i. record { x = x i; y = y i }

@@ -2,9 +2,9 @@
 #![tactic(auto)]
 
 ghost use Rattle.std.specs.Prelude.{◌≡◌, ◌+◌, ◌-◌, ◌%◌, ◌^◌, ◌<◌, ◌≤◌, false, ℤ, pos, if◌then◌else◌};
-ghost use Rattle.dpl_spec.specs.declared.Pt.{Pt};
-ghost use Rattle.dpl_spec.specs.Loops.{IsPointWithin};
-ghost use Rattle.dpl_elements.specs.Motions.{Motion, reflected, turned, image, IsComposed, IsMotionWithin};
+ghost use Rattle.dpl_spec_split.specs.declared.Pt.{Pt};
+ghost use Rattle.dpl_spec_split.specs.Loops.{IsPointWithin};
+ghost use Rattle.dpl_spec_elements.specs.Motions.{Motion, reflected, turned, image, IsComposed, IsMotionWithin};
 
 use dpl_base::Pt;
 use std::marker::Model;

@@ -2,7 +2,7 @@
 use Rattle.std.proofs.Common.{◌≡◌, ℕ, zero, suc, ◌+◌, ◌-◌, ◌*◌, ◌/◌, ◌%◌, ◌^◌, ◌<◌, Bool, true, false, refl, sym, ap, ◌∙◌, subst, arith}
 use Rattle.std.specs.Prelude.{ℤ, pos, negsuc, ◌+ℤ◌, ◌*ℤ◌, neg_ℤ, unsigned_abs, if◌then◌else◌}
 use Rattle.std.proofs.lemmas.Int.{ints, unsigned_abs-mul}
-use Rattle.dpl_elements.specs.Reals.{Excess64, sign, IsWhole, IsQuarterTurns, IsRightAngle}
+use Rattle.dpl_spec_elements.specs.Reals.{Excess64, sign, IsWhole, IsQuarterTurns, IsRightAngle}
 use Rattle.dpl_reals.proofs.Powers.{magnitude-one}
 use Rattle.dpl_reals.specs.Magnitudes.{IsMagnitude, IsDegrees}
 

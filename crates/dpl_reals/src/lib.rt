@@ -2,7 +2,7 @@
 #![tactic(auto)]
 
 ghost use Rattle.std.specs.Prelude.{◌≡◌, ℕ, ◌+◌, ◌-◌, ◌*◌, ◌%◌, ◌^◌, ◌<◌, ◌↔◌, ℤ, pos, ◌*ℤ◌, List, length, drop, fold, slice_index, if◌then◌else◌, IsTrue, IfNone, IfSome};
-ghost use Rattle.dpl_elements.specs.Reals.{Excess64, big_endian, real_of, IsWhole, IsQuarterTurns, IsRightAngle};
+ghost use Rattle.dpl_spec_elements.specs.Reals.{Excess64, big_endian, real_of, IsWhole, IsQuarterTurns, IsRightAngle};
 ghost use Rattle.dpl_reals.specs.Magnitudes.{IsMagnitude, IsDegrees};
 
 use std::marker::Model;

@@ -2,7 +2,7 @@
 use Rattle.std.proofs.Common.{◌≡◌, ◌≢◌, ℕ, ◌+◌, ◌-◌, ◌<◌, ◌≤◌, Bool, cond, List, [], ◌∷◌, ◌++◌, length, take, get_or, refl, sym, subst, ap, ◌∙◌, arith}
 use Rattle.std.proofs.lemmas.List.{take_more}
 use Rattle.std.proofs.lemmas.Bool.{ne_eqb}
-use Rattle.dpl_format.specs.Fields.{in_front, name_of}
+use Rattle.dpl_spec_format.specs.Fields.{in_front, name_of}
 
 pub drops_zero : (bs : List ℕ) → name_of (bs ++ 0 ∷ []) ≡ name_of bs
 unfolding name_of

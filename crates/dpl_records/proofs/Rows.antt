@@ -3,7 +3,7 @@ use Rattle.std.proofs.Common.{◌≡◌, ℕ, ◌<◌, ◌≤◌, List, map, len
 use Rattle.std.specs.Prelude.{slice_get}
 use Rattle.std.specs.Option.{option_map}
 use Rattle.std.proofs.lemmas.Option.{slice_get-map, slice_get_past, slice_get-get_or}
-use Rattle.dpl_format.specs.Table.{Form, table, form_of, row_or_none}
+use Rattle.dpl_spec_format.specs.Table.{Form, table, form_of, row_or_none}
 use Rattle.dpl_records.specs.declared.form.Data.{Data}
 use Rattle.dpl_records.specs.Forms.{form_in}
 

@@ -1,6 +1,6 @@
 -- What the rows of the table stand for.
 use Rattle.std.specs.Prelude.{Option, None}
-use Rattle.dpl_format.specs.Table.{Size, exactly, any, points, Form, of, unchecked}
+use Rattle.dpl_spec_format.specs.Table.{Size, exactly, any, points, Form, of, unchecked}
 use Rattle.dpl_records.specs.declared.form.Data.{Data}
 use Rattle.dpl_records.specs.declared.form.Data.TheVariants as data_of
 use Rattle.dpl_records.specs.declared.form.Form.{Form as Row}

@@ -1,7 +1,7 @@
 -- What the types of this crate stand for.
 use Rattle.std.specs.Prelude.{◌≡◌, Result, Ok, Err}
-use Rattle.dpl_format.specs.Faults.{Fault, truncated, bad_length, unknown_record, bad_data_type, bad_size}
-use Rattle.dpl_format.specs.Records.{Record as Layout}
+use Rattle.dpl_spec_format.specs.Faults.{Fault, truncated, bad_length, unknown_record, bad_data_type, bad_size}
+use Rattle.dpl_spec_format.specs.Records.{Record as Layout}
 use Rattle.dpl_records.specs.declared.record.Record.{Record}
 use Rattle.dpl_records.specs.declared.fault.RecordFault.{RecordFault}
 use Rattle.dpl_records.specs.declared.fault.RecordFault.TheVariants.{Truncated, BadLength, UnknownRecord, BadDataType, BadSize}

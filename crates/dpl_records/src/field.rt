@@ -1,7 +1,7 @@
 //! The fields in a record's data. All integers are big-endian.
 
 ghost use Rattle.std.specs.Prelude.{◌≡◌, ◌+◌, ◌≤◌, length};
-ghost use Rattle.dpl_format.specs.Fields as fields;
+ghost use Rattle.dpl_spec_format.specs.Fields as fields;
 
 /// The number in the two bytes from `i` on.
 pub fn u16_at(body: &[u8], i: usize) -> u16

@@ -2,8 +2,8 @@
 
 ghost use Rattle.std.specs.Prelude.{◌≡◌, unwrap_or};
 ghost use Rattle.std.specs.Option.{option_map};
-ghost use Rattle.dpl_format.specs.Table as format;
-ghost use Rattle.dpl_format.specs.Records as records;
+ghost use Rattle.dpl_spec_format.specs.Table as format;
+ghost use Rattle.dpl_spec_format.specs.Records as records;
 ghost use Rattle.dpl_records.specs.Forms.{form_in, form_seen, size_seen};
 
 use Data::{

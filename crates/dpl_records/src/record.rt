@@ -1,8 +1,8 @@
 //! A record, its bytes, and which one stands at an offset.
 
 ghost use Rattle.std.specs.Prelude.{◌≡◌, ◌+◌, ◌%◌, ◌<◌, ◌≤◌, ◌++◌, length, IsSome, IfOk, OnOk, OnErr};
-ghost use Rattle.dpl_format.specs.Records.{record_at, record_bytes, data_type_of};
-ghost use Rattle.dpl_format.specs.Table.{IsSizeOf};
+ghost use Rattle.dpl_spec_format.specs.Records.{record_at, record_bytes, data_type_of};
+ghost use Rattle.dpl_spec_format.specs.Table.{IsSizeOf};
 ghost use Rattle.dpl_records.specs.Seen.{Gives};
 
 use crate::fault::RecordFault;
@@ -23,7 +23,7 @@ pub struct Record<'a> {
     pub body: &'a [u8],
 }
 
-#[tactic(auto, unfolding(dpl_format::specs::Records::record_at))]
+#[tactic(auto, unfolding(dpl_spec_format::specs::Records::record_at))]
 /// The record at the offset `at`, or the first cause by which there is none: fewer than four bytes are left, the length is
 /// below 4 or odd, it passes the end, the type is unknown, the data type isn't that of the type, the size of the data isn't.
 pub fn next_record(bytes: &[u8], at: usize) -> Result<Record<'_>, RecordFault>

@@ -11,17 +11,17 @@ use Rattle.clap.specs.Walk.{Text}
 use Rattle.clap.proofs.WalkLemmas.{both}
 use Rattle.dpl_host.specs.Outside.{Outside, file_of, with_file}
 use Rattle.dpl_host.proofs.Files.{exact_names, file_put}
-use Rattle.dpl_spec.specs.declared.Rect.{Rect}
+use Rattle.dpl_spec_split.specs.declared.Rect.{Rect}
 use Rattle.dpl_cert.specs.declared.name.Name.{Name}
 use Rattle.dpl_cert.specs.declared.name.Name.TheVariants.{TooLarge}
 use Rattle.dpl_cert.specs.declared.cert.Cert.{Cert}
 use Rattle.dpl_cert.specs.declared.cert.Cert.TheVariants.{Masks, Conflict, Fault}
 use Rattle.dpl_cert.specs.Grammar.{IsText}
 use Rattle.dpl_cert.specs.Reading.{IsBadLine}
-use Rattle.dpl_verdict.specs.declared.Verdict.{Verdict}
-use Rattle.dpl_verdict.specs.declared.Verdict.TheVariants.{Valid, Rules, WasFault, Counts, Cover, Overlap, SpacingA, SpacingB, Stitch, Piece, Cycle}
-use Rattle.dpl_verdict.specs.Masks.{IsOfMasks, IsVerdictOfMasks}
-use Rattle.dpl_verdict.specs.Conflicts.{IsOfConflict, IsVerdictOfConflict}
+use Rattle.dpl_spec_verdict.specs.declared.Verdict.{Verdict}
+use Rattle.dpl_spec_verdict.specs.declared.Verdict.TheVariants.{Valid, Rules, WasFault, Counts, Cover, Overlap, SpacingA, SpacingB, Stitch, Piece, Cycle}
+use Rattle.dpl_spec_verdict.specs.Masks.{IsOfMasks, IsVerdictOfMasks}
+use Rattle.dpl_spec_verdict.specs.Conflicts.{IsOfConflict, IsVerdictOfConflict}
 use Rattle.dpl_words.specs.Meaning.{AsksCheck, CheckValues}
 use Rattle.dpl_words.specs.Ranges.{IsApart}
 use Rattle.dpl_run.specs.Check.{IsCheck, IsCheckOfMasks, check_choice, mask_choice, refusal_of, verdict_outcome, verdict_status}

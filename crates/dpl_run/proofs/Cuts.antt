@@ -2,14 +2,14 @@
 use Rattle.std.proofs.Common.{◌≤◌, inl, inr, List, [], ◌∷◌, subst, refl, arith, ℤ, ◌≤ℤ◌, ◌<ℤ◌, unsigned_abs}
 use Rattle.std.specs.List.{All, AllZip, Contains}
 use Rattle.std.proofs.lemmas.Int.{ints}
-use Rattle.dpl_spec.specs.declared.Pt.{Pt}
-use Rattle.dpl_spec.specs.declared.Rect.{Rect}
-use Rattle.dpl_spec.specs.declared.Zone.{Zone}
-use Rattle.dpl_spec.specs.Squares.{Covers, Has, IsLeast}
-use Rattle.dpl_spec.specs.Loops.{AreRectsWithin, IsRectWithin, farthest}
-use Rattle.dpl_spec.specs.Components.{AreComponents}
-use Rattle.dpl_spec.specs.Pieces.{without}
-use Rattle.dpl_spec.proofs.Ordered.{Contains-cases, Contains-later, Contains-nil}
+use Rattle.dpl_spec_split.specs.declared.Pt.{Pt}
+use Rattle.dpl_spec_split.specs.declared.Rect.{Rect}
+use Rattle.dpl_spec_split.specs.declared.Zone.{Zone}
+use Rattle.dpl_spec_split.specs.Squares.{Covers, Has, IsLeast}
+use Rattle.dpl_spec_split.specs.Loops.{AreRectsWithin, IsRectWithin, farthest}
+use Rattle.dpl_spec_split.specs.Components.{AreComponents}
+use Rattle.dpl_spec_split.specs.Pieces.{without}
+use Rattle.dpl_spec_split.proofs.Ordered.{Contains-cases, Contains-later, Contains-nil}
 use Rattle.dpl_piece.specs.Cutting.{AreTheirPieces, CutPieces}
 use Rattle.dpl_cert.specs.Grammar.{IsCoordinate, IsPoint}
 

@@ -4,17 +4,17 @@ use Rattle.std.specs.Prelude.{slice_index}
 use Rattle.std.specs.List.{All, Contains, zip}
 use Rattle.std.proofs.lemmas.Bool.{cases_order}
 use Rattle.std.proofs.lemmas.List.{get_or-map, get_or_default, length-map}
-use Rattle.dpl_spec.specs.declared.Pt.{Pt}
-use Rattle.dpl_spec.specs.declared.Rect.{Rect}
-use Rattle.dpl_spec.specs.Squares.{AreNear}
-use Rattle.dpl_spec.specs.Slabs.{AreSlabsOf}
-use Rattle.dpl_spec.specs.Zones.{part_at}
-use Rattle.dpl_spec.specs.Graphs.{AreEdges, IsOddCycle, graph_of}
-use Rattle.dpl_spec.specs.Summary.{HasOddCycle}
-use Rattle.dpl_spec.specs.Cycle.{IsReported}
-use Rattle.dpl_spec.specs.Colours.{AreStitches, on_mask}
-use Rattle.dpl_spec.specs.Decomposition.{Cut, conflicts}
-use Rattle.dpl_spec.proofs.SquareLaws.{AreNear-sym}
+use Rattle.dpl_spec_split.specs.declared.Pt.{Pt}
+use Rattle.dpl_spec_split.specs.declared.Rect.{Rect}
+use Rattle.dpl_spec_split.specs.Squares.{AreNear}
+use Rattle.dpl_spec_split.specs.Slabs.{AreSlabsOf}
+use Rattle.dpl_spec_split.specs.Zones.{part_at}
+use Rattle.dpl_spec_split.specs.Graphs.{AreEdges, IsOddCycle, graph_of}
+use Rattle.dpl_spec_split.specs.Summary.{HasOddCycle}
+use Rattle.dpl_spec_split.specs.Cycle.{IsReported}
+use Rattle.dpl_spec_split.specs.Colours.{AreStitches, on_mask}
+use Rattle.dpl_spec_split.specs.Decomposition.{Cut, conflicts}
+use Rattle.dpl_spec_split.proofs.SquareLaws.{AreNear-sym}
 use Rattle.dpl_graph.specs.Levels.{AreEdgesBelow}
 use Rattle.dpl_stars.specs.declared.list.Star.{Star}
 use Rattle.dpl_stars.specs.declared.joined.Joined.{Joined}
@@ -29,7 +29,7 @@ use Rattle.dpl_cert.specs.declared.cert.PlaceLine.{PlaceLine}
 use Rattle.dpl_cert.specs.declared.cert.NearLine.{NearLine}
 use Rattle.dpl_cert.specs.Grammar.{IsCycleLength}
 use Rattle.dpl_run.specs.Flat.{AreNearest, IsClashOfCut, IsPaintedCut, Painted}
-use Rattle.dpl_valid.specs.Own.{head_of, piece_line, place_line, stitch_line}
+use Rattle.dpl_law_verdict.specs.Own.{head_of, piece_line, place_line, stitch_line}
 use Rattle.dpl_run.proofs.SameGraphs.{SameEdges, odd_same, reported_same, roots_same, same_back}
 
 -- what holds of all elements holds of each

@@ -13,7 +13,7 @@ use Rattle.dpl_run.specs.Demo.{IsDemo, demo_choice, demo_plan}
 use Rattle.dpl_demo.specs.Demo.{demo_file}
 use Rattle.dpl_run.specs.Flat.{Flat, IsFlat, Paints, Clashes}
 use Rattle.dpl_run.specs.Reading.{Faulty, IsLayout, IsReading, Layer}
-use Rattle.dpl_spec.specs.declared.Rect.{Rect}
+use Rattle.dpl_spec_split.specs.declared.Rect.{Rect}
 use Rattle.dpl_cert.specs.declared.name.Name.{Name}
 use Rattle.dpl_run.specs.Texts.{usage_line}
 use Rattle.dpl_run.specs.declared.status.Status.TheVariants.{Usage}

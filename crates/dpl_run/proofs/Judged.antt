@@ -2,7 +2,7 @@
 use Rattle.std.proofs.Common.{◌≡◌, ◌∙◌, ap, sym, refl, subst, inl, inr, List, ℕ, Option, Some, None, codes}
 use Rattle.std.specs.FinMap as files
 use Rattle.dpl_host.specs.Outside.{Outside}
-use Rattle.dpl_spec.specs.declared.Rect.{Rect}
+use Rattle.dpl_spec_split.specs.declared.Rect.{Rect}
 use Rattle.dpl_cert.specs.declared.name.Name.TheVariants.{TooLarge}
 use Rattle.dpl_cert.specs.declared.cert.Head.{Head}
 use Rattle.dpl_cert.specs.declared.cert.PieceLine.{PieceLine}
@@ -10,13 +10,13 @@ use Rattle.dpl_cert.specs.declared.cert.StitchLine.{StitchLine}
 use Rattle.dpl_cert.specs.declared.cert.Cert.{Cert}
 use Rattle.dpl_cert.specs.declared.cert.Cert.TheVariants.{Masks, Conflict, Fault}
 use Rattle.dpl_cert.specs.Grammar.{IsText}
-use Rattle.dpl_verdict.specs.declared.Verdict.{Verdict}
-use Rattle.dpl_verdict.specs.declared.Verdict.TheVariants.{Valid, Rules, WasFault, Counts, Cover, Overlap, SpacingA, SpacingB, Stitch, Piece, Cycle}
-use Rattle.dpl_verdict.specs.Masks.{IsVerdictOfMasks}
-use Rattle.dpl_verdict.specs.Conflicts.{IsVerdictOfConflict}
-use Rattle.dpl_valid.proofs.Cycles.{there-is}
-use Rattle.dpl_valid.proofs.Lines.{good-lines}
-use Rattle.dpl_valid.proofs.Parting.{right-masks}
+use Rattle.dpl_spec_verdict.specs.declared.Verdict.{Verdict}
+use Rattle.dpl_spec_verdict.specs.declared.Verdict.TheVariants.{Valid, Rules, WasFault, Counts, Cover, Overlap, SpacingA, SpacingB, Stitch, Piece, Cycle}
+use Rattle.dpl_spec_verdict.specs.Masks.{IsVerdictOfMasks}
+use Rattle.dpl_spec_verdict.specs.Conflicts.{IsVerdictOfConflict}
+use Rattle.dpl_law_verdict.proofs.Cycles.{there-is}
+use Rattle.dpl_law_verdict.proofs.Lines.{good-lines}
+use Rattle.dpl_law_verdict.proofs.Parting.{right-masks}
 use Rattle.dpl_words.specs.Meaning.{CheckValues}
 use Rattle.dpl_run.specs.Check.{IsCheck, IsCheckOfCert, IsCheckOfFile, IsCheckOfMasks, WithFile, check_choice, mask_choice, refusal_of, verdict_outcome, verdict_status}
 use Rattle.dpl_run.specs.Checked.{HasLayer, HasRightMasks, IsRight, IsRightBy}

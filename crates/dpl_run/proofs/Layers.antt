@@ -5,17 +5,17 @@ use Rattle.std.specs.Result.{IsErrAnd}
 use Rattle.dpl_run.specs.declared.fault.LayerFault.{LayerFault}
 use Rattle.std.specs.Option.{option_map}
 use Rattle.std.proofs.lemmas.Option.{slice_get_cases}
-use Rattle.dpl_spec.specs.declared.Pt.{Pt}
-use Rattle.dpl_spec.specs.declared.Rect.{Rect}
-use Rattle.dpl_spec.specs.Squares.{Region}
-use Rattle.dpl_spec.specs.Slabs.{AreSlabsOf}
-use Rattle.dpl_spec.proofs.SquareLaws.{SameSquares-trans}
-use Rattle.dpl_format.specs.Tree.{Frame, Library, Structure, frame_of}
-use Rattle.dpl_spec.specs.Loops.{SomeLoopCovers}
-use Rattle.dpl_layout.specs.declared.Layer.{Layer as ChosenLayer}
-use Rattle.dpl_layout.specs.declared.FlattenFault.{FlattenFault}
-use Rattle.dpl_layout.specs.declared.FlattenFault.TheVariants as flatten
-use Rattle.dpl_layout.specs.Faults.{IsFirstFault}
+use Rattle.dpl_spec_split.specs.declared.Pt.{Pt}
+use Rattle.dpl_spec_split.specs.declared.Rect.{Rect}
+use Rattle.dpl_spec_split.specs.Squares.{Region}
+use Rattle.dpl_spec_split.specs.Slabs.{AreSlabsOf}
+use Rattle.dpl_spec_split.proofs.SquareLaws.{SameSquares-trans}
+use Rattle.dpl_spec_format.specs.Tree.{Frame, Library, Structure, frame_of}
+use Rattle.dpl_spec_split.specs.Loops.{SomeLoopCovers}
+use Rattle.dpl_spec_layout.specs.declared.Layer.{Layer as ChosenLayer}
+use Rattle.dpl_spec_layout.specs.declared.FlattenFault.{FlattenFault}
+use Rattle.dpl_spec_layout.specs.declared.FlattenFault.TheVariants as flatten
+use Rattle.dpl_spec_layout.specs.Faults.{IsFirstFault}
 use Rattle.dpl_flatten.specs.Drawing.{Drawn, AreLoopsOf, IsDrawingOf}
 use Rattle.dpl_run.specs.Reading.{Choice, HasDrawing, IsLayout, Layer, chosen, frame_bytes, front_of}
 use Rattle.dpl_run.specs.LayerFaults.{of_flatten}

@@ -3,11 +3,11 @@ use Rattle.std.proofs.Common.{◌≡◌, ◌∙◌, ◌<◌, ◌+◌, ℕ, zero,
 use Rattle.std.proofs.Common.{ℤ, ◌≤◌, unsigned_abs}
 use Rattle.std.proofs.lemmas.Int.{ints}
 use Rattle.std.specs.Prelude.{pos}
-use Rattle.dpl_spec.specs.declared.Pt.{Pt}
-use Rattle.dpl_spec.specs.declared.Rect.{Rect}
-use Rattle.dpl_spec.specs.Zones.{at}
-use Rattle.dpl_spec.specs.Squares.{IsSolidWithin}
-use Rattle.dpl_spec.specs.Loops.{farthest}
+use Rattle.dpl_spec_split.specs.declared.Pt.{Pt}
+use Rattle.dpl_spec_split.specs.declared.Rect.{Rect}
+use Rattle.dpl_spec_split.specs.Zones.{at}
+use Rattle.dpl_spec_split.specs.Squares.{IsSolidWithin}
+use Rattle.dpl_spec_split.specs.Loops.{farthest}
 use Rattle.dpl_cert.specs.Grammar.{IsCoordinate, IsPoint, IsRect}
 use Rattle.std.specs.List.{AllByRecursion, Contains, zip}
 use Rattle.std.proofs.lemmas.List.{take_more, map-append}

@@ -3,24 +3,24 @@ use Rattle.std.proofs.Common.{◌≡◌, ◌∙◌, ap, sym, refl, subst, inl, i
 use Rattle.std.specs.FinMap as files
 use Rattle.clap.specs.Walk.{Text}
 use Rattle.dpl_host.specs.Outside.{Outside}
-use Rattle.dpl_spec.specs.declared.Rect.{Rect}
-use Rattle.dpl_spec.specs.declared.Zone.{Zone}
-use Rattle.dpl_spec.specs.Squares.{Covers}
-use Rattle.dpl_spec.specs.Decomposition.{Cut, IsCut}
-use Rattle.dpl_laws.specs.Masks.{OverlapAt, rect_at, rects_of}
-use Rattle.dpl_laws.proofs.Cover.{cover}
-use Rattle.dpl_laws.proofs.Apart.{far-on-a, far-on-b}
-use Rattle.dpl_laws.proofs.Overlap.{overlap-at}
+use Rattle.dpl_spec_split.specs.declared.Rect.{Rect}
+use Rattle.dpl_spec_split.specs.declared.Zone.{Zone}
+use Rattle.dpl_spec_split.specs.Squares.{Covers}
+use Rattle.dpl_spec_split.specs.Decomposition.{Cut, IsCut}
+use Rattle.dpl_law_split.specs.Masks.{OverlapAt, rect_at, rects_of}
+use Rattle.dpl_law_split.proofs.Cover.{cover}
+use Rattle.dpl_law_split.proofs.Apart.{far-on-a, far-on-b}
+use Rattle.dpl_law_split.proofs.Overlap.{overlap-at}
 use Rattle.dpl_words.specs.Meaning.{AsksCheck, AsksDemo, AsksSplit, CheckValues, RequestValues, SplitValues, request_of}
 use Rattle.dpl_cert.specs.declared.cert.Cert.{Cert}
 use Rattle.dpl_cert.specs.declared.cert.Cert.TheVariants.{Masks, Conflict as ConflictText, Fault}
 use Rattle.dpl_cert.specs.declared.name.Name.TheVariants.{TooLarge}
-use Rattle.dpl_verdict.specs.declared.Verdict.TheVariants.{WasFault}
+use Rattle.dpl_spec_verdict.specs.declared.Verdict.TheVariants.{WasFault}
 use Rattle.dpl_run.specs.Check.{IsCheck, IsCheckOfCert, IsCheckOfFile, IsCheckOfMasks, WithFile, refusal_of, verdict_outcome}
 use Rattle.dpl_run.specs.Demo.{demo_plan}
 use Rattle.dpl_run.specs.Reading.{Faulty, Layer, limit}
 use Rattle.dpl_run.specs.Flat.{Clashes, IsPaintedCut, Painted, Paints}
-use Rattle.dpl_valid.specs.Own.{stitch_line}
+use Rattle.dpl_law_verdict.specs.Own.{stitch_line}
 use Rattle.dpl_run.specs.Split.{Decides, Decision, IsDecision, IsSplitOf, Refuses, clash, painting, plan_of, refusal, split_choice}
 use Rattle.dpl_run.specs.Program.{IsOutcome, IsPlan}
 use Rattle.dpl_run.specs.Outcome.{Outcome, says, silent}

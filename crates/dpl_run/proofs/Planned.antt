@@ -1,11 +1,11 @@
 -- The conflicts of a plan are those of the cut that it was made of.
 use Rattle.std.proofs.Common.{◌≤◌, ℕ, List, length, get_or, sym, subst}
 use Rattle.std.proofs.lemmas.List.Elements.{Contains-get_or}
-use Rattle.dpl_spec.specs.declared.Rect.{Rect}
-use Rattle.dpl_spec.specs.Graphs.{AreEdges, graph_of}
-use Rattle.dpl_spec.specs.Pieces.{Conflict}
-use Rattle.dpl_spec.specs.Summary.{HasOddCycle}
-use Rattle.dpl_spec.specs.Decomposition.{Cut, conflicts}
+use Rattle.dpl_spec_split.specs.declared.Rect.{Rect}
+use Rattle.dpl_spec_split.specs.Graphs.{AreEdges, graph_of}
+use Rattle.dpl_spec_split.specs.Pieces.{Conflict}
+use Rattle.dpl_spec_split.specs.Summary.{HasOddCycle}
+use Rattle.dpl_spec_split.specs.Decomposition.{Cut, conflicts}
 use Rattle.dpl_graph.specs.Levels.{AreEdgesBelow}
 use Rattle.dpl_stars.specs.declared.list.Star.{Star}
 use Rattle.dpl_stars.specs.declared.joined.Joined.{Joined}

@@ -1,10 +1,10 @@
 -- Graphs with the same edges.
 use Rattle.std.proofs.Common.{◌+◌, ℕ, Bool, List}
 use Rattle.std.specs.Prelude.{◌↔◌}
-use Rattle.dpl_spec.specs.Graphs.{Graph, IsDistance, IsRoot, Walk, stay, step}
-use Rattle.dpl_spec.specs.Summary.{HasOddCycle, IsStar}
-use Rattle.dpl_spec.specs.Colours.{AreRoots}
-use Rattle.dpl_spec.specs.Cycle.{Climb, IsLevelEdge, IsOddRoot, IsParent, IsReported, last, up}
+use Rattle.dpl_spec_split.specs.Graphs.{Graph, IsDistance, IsRoot, Walk, stay, step}
+use Rattle.dpl_spec_split.specs.Summary.{HasOddCycle, IsStar}
+use Rattle.dpl_spec_split.specs.Colours.{AreRoots}
+use Rattle.dpl_spec_split.specs.Cycle.{Climb, IsLevelEdge, IsOddRoot, IsParent, IsReported, last, up}
 
 abbrev pub SameEdges : Graph → Graph → Type 0
 SameEdges g h = (u v : ℕ) → g u v ↔ h u v

@@ -1,16 +1,16 @@
 -- What `check` does with three files.
 use Rattle.std.specs.Prelude.{◌≡◌, ◌⊎◌, ◌<◌, ◌≤◌, ℕ, List, length, Option, Some, None, codes}
-use Rattle.dpl_spec.specs.declared.Rect.{Rect}
+use Rattle.dpl_spec_split.specs.declared.Rect.{Rect}
 use Rattle.dpl_cert.specs.declared.name.Name.{Name}
 use Rattle.dpl_cert.specs.declared.name.Name.TheVariants.{TooLarge}
 use Rattle.dpl_cert.specs.declared.cert.Cert.{Cert}
 use Rattle.dpl_cert.specs.declared.cert.Cert.TheVariants.{Masks, Conflict, Fault}
 use Rattle.dpl_cert.specs.Grammar.{IsText}
 use Rattle.dpl_cert.specs.Reading.{IsBadLine}
-use Rattle.dpl_verdict.specs.declared.Verdict.{Verdict}
-use Rattle.dpl_verdict.specs.declared.Verdict.TheVariants.{Valid, WasFault}
-use Rattle.dpl_verdict.specs.Masks.{IsVerdictOfMasks}
-use Rattle.dpl_verdict.specs.Conflicts.{IsVerdictOfConflict}
+use Rattle.dpl_spec_verdict.specs.declared.Verdict.{Verdict}
+use Rattle.dpl_spec_verdict.specs.declared.Verdict.TheVariants.{Valid, WasFault}
+use Rattle.dpl_spec_verdict.specs.Masks.{IsVerdictOfMasks}
+use Rattle.dpl_spec_verdict.specs.Conflicts.{IsVerdictOfConflict}
 use Rattle.dpl_words.specs.Meaning.{CheckValues}
 use Rattle.dpl_run.specs.Reading.{Choice, Faulty, IsReading, Layer, Reading, limit}
 use Rattle.dpl_run.specs.Outcome.{Outcome, says, silent}

@@ -2,21 +2,21 @@
 use Rattle.std.specs.Prelude.{◌≡◌, List, ℕ, Some}
 use Rattle.std.specs.FinMap as files
 use Rattle.dpl_host.specs.Outside.{Outside}
-use Rattle.dpl_spec.specs.declared.Rect.{Rect}
-use Rattle.dpl_spec.specs.Slabs.{AreSlabsOf}
-use Rattle.dpl_format.specs.Tree.{Library}
-use Rattle.dpl_format.specs.Layout.{Holds}
-use Rattle.dpl_layout.specs.Structures.{IsTop}
-use Rattle.dpl_layout.specs.Placements.{IsInLayer}
-use Rattle.dpl_layout.specs.Faults.{IsFaultless}
+use Rattle.dpl_spec_split.specs.declared.Rect.{Rect}
+use Rattle.dpl_spec_split.specs.Slabs.{AreSlabsOf}
+use Rattle.dpl_spec_format.specs.Tree.{Library}
+use Rattle.dpl_spec_format.specs.Layout.{Holds}
+use Rattle.dpl_spec_layout.specs.Structures.{IsTop}
+use Rattle.dpl_spec_layout.specs.Placements.{IsInLayer}
+use Rattle.dpl_spec_layout.specs.Faults.{IsFaultless}
 use Rattle.dpl_cert.specs.declared.cert.Head.{Head}
 use Rattle.dpl_cert.specs.declared.cert.PieceLine.{PieceLine}
 use Rattle.dpl_cert.specs.declared.cert.StitchLine.{StitchLine}
 use Rattle.dpl_cert.specs.declared.cert.Cert.{Cert}
 use Rattle.dpl_cert.specs.declared.cert.Cert.TheVariants.{Masks, Conflict, Fault}
 use Rattle.dpl_cert.specs.Grammar.{IsText}
-use Rattle.dpl_valid.specs.Lines.{AreGoodLines}
-use Rattle.dpl_valid.specs.Valid.{AreRight, IsCycleOf}
+use Rattle.dpl_law_verdict.specs.Lines.{AreGoodLines}
+use Rattle.dpl_law_verdict.specs.Valid.{AreRight, IsCycleOf}
 use Rattle.dpl_words.specs.Meaning.{CheckValues}
 use Rattle.dpl_run.specs.Reading.{Choice, chosen}
 use Rattle.dpl_run.specs.Check.{check_choice, mask_choice}

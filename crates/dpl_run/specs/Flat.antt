@@ -1,13 +1,13 @@
 -- The decomposition of a layer, as a certificate tells it.
 use Rattle.std.specs.Prelude.{◌≡◌, ◌≤◌, ℕ, List, length, map}
 use Rattle.std.specs.List.{zip}
-use Rattle.dpl_spec.specs.declared.Rect.{Rect}
-use Rattle.dpl_spec.specs.Squares.{Covers}
-use Rattle.dpl_spec.specs.Decomposition.{Cut, IsCut, Masks, AreMasks, conflicts}
-use Rattle.dpl_spec.specs.Summary.{HasOddCycle}
-use Rattle.dpl_spec.specs.Cycle.{IsReported}
-use Rattle.dpl_spec.specs.Loops.{AreRectsWithin, farthest}
-use Rattle.dpl_valid.specs.Own.{ShowNearest, head_of, piece_line, place_line, stitch_line}
+use Rattle.dpl_spec_split.specs.declared.Rect.{Rect}
+use Rattle.dpl_spec_split.specs.Squares.{Covers}
+use Rattle.dpl_spec_split.specs.Decomposition.{Cut, IsCut, Masks, AreMasks, conflicts}
+use Rattle.dpl_spec_split.specs.Summary.{HasOddCycle}
+use Rattle.dpl_spec_split.specs.Cycle.{IsReported}
+use Rattle.dpl_spec_split.specs.Loops.{AreRectsWithin, farthest}
+use Rattle.dpl_law_verdict.specs.Own.{ShowNearest, head_of, piece_line, place_line, stitch_line}
 use Rattle.dpl_cert.specs.declared.cert.Cert.TheVariants.{Masks as MasksText, Conflict as ConflictText}
 use Rattle.dpl_cert.specs.Grammar.{IsCert}
 use Rattle.dpl_cert.specs.declared.cert.Head.{Head}

@@ -1,10 +1,10 @@
 -- The faults of a layer as the program keeps them.
 use Rattle.dpl_syntax.specs.declared.fault.SyntaxFault.{SyntaxFault}
 use Rattle.dpl_syntax.specs.declared.fault.SyntaxFault.TheVariants as syntax
-use Rattle.dpl_layout.specs.declared.TopFault.{TopFault}
-use Rattle.dpl_layout.specs.declared.TopFault.TheVariants as top
-use Rattle.dpl_layout.specs.declared.FlattenFault.{FlattenFault}
-use Rattle.dpl_layout.specs.declared.FlattenFault.TheVariants as flatten
+use Rattle.dpl_spec_layout.specs.declared.TopFault.{TopFault}
+use Rattle.dpl_spec_layout.specs.declared.TopFault.TheVariants as top
+use Rattle.dpl_spec_layout.specs.declared.FlattenFault.{FlattenFault}
+use Rattle.dpl_spec_layout.specs.declared.FlattenFault.TheVariants as flatten
 use Rattle.dpl_cert.specs.declared.name.Name.TheVariants as name
 use Rattle.dpl_run.specs.Naming.{element_name}
 use Rattle.dpl_run.specs.declared.fault.LayerFault.{LayerFault}

@@ -1,12 +1,12 @@
 -- The names of faults in certificates, each with where the fault stands.
 use Rattle.std.specs.Prelude.{ℕ, Option, Some, None}
-use Rattle.dpl_format.specs.Faults.{Fault, truncated, bad_length, unknown_record, bad_data_type, bad_size, unexpected, bad_name, duplicate_structure}
-use Rattle.dpl_layout.specs.declared.ElementFault.{ElementFault}
-use Rattle.dpl_layout.specs.declared.ElementFault.TheVariants as element
-use Rattle.dpl_layout.specs.declared.TopFault.{TopFault}
-use Rattle.dpl_layout.specs.declared.TopFault.TheVariants as top
-use Rattle.dpl_layout.specs.declared.FlattenFault.{FlattenFault}
-use Rattle.dpl_layout.specs.declared.FlattenFault.TheVariants as flatten
+use Rattle.dpl_spec_format.specs.Faults.{Fault, truncated, bad_length, unknown_record, bad_data_type, bad_size, unexpected, bad_name, duplicate_structure}
+use Rattle.dpl_spec_layout.specs.declared.ElementFault.{ElementFault}
+use Rattle.dpl_spec_layout.specs.declared.ElementFault.TheVariants as element
+use Rattle.dpl_spec_layout.specs.declared.TopFault.{TopFault}
+use Rattle.dpl_spec_layout.specs.declared.TopFault.TheVariants as top
+use Rattle.dpl_spec_layout.specs.declared.FlattenFault.{FlattenFault}
+use Rattle.dpl_spec_layout.specs.declared.FlattenFault.TheVariants as flatten
 use Rattle.dpl_cert.specs.declared.name.Name.{Name}
 use Rattle.dpl_cert.specs.declared.name.Name.TheVariants as name
 

@@ -3,16 +3,16 @@ use Rattle.std.specs.Prelude.{◌≡◌, ℕ, List, [], ◌∷◌, Option, Some,
 use Rattle.std.specs.FinMap as files
 use Rattle.clap.specs.Walk.{Text}
 use Rattle.dpl_host.specs.Outside.{Outside}
-use Rattle.dpl_spec.specs.declared.Rect.{Rect}
-use Rattle.dpl_spec.specs.Squares.{Covers}
-use Rattle.dpl_spec.specs.Slabs.{AreSlabsOf}
-use Rattle.dpl_spec.specs.Components.{AreComponents}
-use Rattle.dpl_format.specs.Tree.{Library}
-use Rattle.dpl_format.specs.Layout.{Holds}
-use Rattle.dpl_layout.specs.Structures.{IsTop}
-use Rattle.dpl_layout.specs.Placements.{IsInLayer}
-use Rattle.dpl_layout.specs.Faults.{IsFaultless}
-use Rattle.dpl_laws.specs.Masks.{AreCover, KeepsApart, OverlapAt}
+use Rattle.dpl_spec_split.specs.declared.Rect.{Rect}
+use Rattle.dpl_spec_split.specs.Squares.{Covers}
+use Rattle.dpl_spec_split.specs.Slabs.{AreSlabsOf}
+use Rattle.dpl_spec_split.specs.Components.{AreComponents}
+use Rattle.dpl_spec_format.specs.Tree.{Library}
+use Rattle.dpl_spec_format.specs.Layout.{Holds}
+use Rattle.dpl_spec_layout.specs.Structures.{IsTop}
+use Rattle.dpl_spec_layout.specs.Placements.{IsInLayer}
+use Rattle.dpl_spec_layout.specs.Faults.{IsFaultless}
+use Rattle.dpl_law_split.specs.Masks.{AreCover, KeepsApart, OverlapAt}
 use Rattle.dpl_cert.specs.declared.cert.Cert.TheVariants.{Masks}
 use Rattle.dpl_cert.specs.declared.cert.Head.{Head}
 use Rattle.dpl_cert.specs.declared.cert.PieceLine.{PieceLine}

@@ -1,18 +1,18 @@
 -- What is read of a layout: the squares of one layer, or its first fault.
 use Rattle.std.specs.Prelude.{◌≡◌, ◌⊎◌, ◌<◌, ◌≤◌, ◌++◌, ℕ, List, length, Option, Some, slice_get}
 use Rattle.std.specs.Option.{option_map}
-use Rattle.dpl_spec.specs.declared.Rect.{Rect}
-use Rattle.dpl_spec.specs.Slabs.{AreSlabsOf}
-use Rattle.dpl_format.specs.Tree.{Frame, Library, frame_of}
-use Rattle.dpl_format.specs.Layout.{Holds, IsFirstFault as IsFirstSyntaxFault}
-use Rattle.dpl_layout.specs.declared.Layer.{Layer as ChosenLayer}
-use Rattle.dpl_layout.specs.declared.TopFault.{TopFault}
-use Rattle.dpl_layout.specs.declared.FlattenFault.{FlattenFault}
-use Rattle.dpl_layout.specs.Structures.{IsTop, IsTopFault}
-use Rattle.dpl_layout.specs.Placements.{IsInLayer}
-use Rattle.dpl_layout.specs.Faults.{IsFaultless, IsFirstFault}
+use Rattle.dpl_spec_split.specs.declared.Rect.{Rect}
+use Rattle.dpl_spec_split.specs.Slabs.{AreSlabsOf}
+use Rattle.dpl_spec_format.specs.Tree.{Frame, Library, frame_of}
+use Rattle.dpl_spec_format.specs.Layout.{Holds, IsFirstFault as IsFirstSyntaxFault}
+use Rattle.dpl_spec_layout.specs.declared.Layer.{Layer as ChosenLayer}
+use Rattle.dpl_spec_layout.specs.declared.TopFault.{TopFault}
+use Rattle.dpl_spec_layout.specs.declared.FlattenFault.{FlattenFault}
+use Rattle.dpl_spec_layout.specs.Structures.{IsTop, IsTopFault}
+use Rattle.dpl_spec_layout.specs.Placements.{IsInLayer}
+use Rattle.dpl_spec_layout.specs.Faults.{IsFaultless, IsFirstFault}
 use Rattle.dpl_flatten.specs.Drawing.{Drawn, IsDrawingOf}
-use Rattle.dpl_format.specs.Faults.{Fault}
+use Rattle.dpl_spec_format.specs.Faults.{Fault}
 use Rattle.dpl_cert.specs.declared.name.Name.{Name}
 use Rattle.dpl_cert.specs.declared.name.Name.TheVariants.{TooLarge}
 use Rattle.clap.specs.Walk.{Text}

@@ -1,11 +1,11 @@
 -- The lines that are said.
 use Rattle.std.specs.Prelude.{ℕ, List, [], ◌∷◌, ◌++◌, codes, length}
 use Rattle.std.specs.Fmt.{decimal, signed_decimal}
-use Rattle.dpl_spec.specs.declared.Pt.{Pt}
+use Rattle.dpl_spec_split.specs.declared.Pt.{Pt}
 use Rattle.dpl_cert.specs.declared.cert.Cert.{Cert}
 use Rattle.dpl_cert.specs.declared.cert.Cert.TheVariants.{Masks, Conflict, Fault}
-use Rattle.dpl_verdict.specs.declared.Verdict.{Verdict}
-use Rattle.dpl_verdict.specs.declared.Verdict.TheVariants.{Valid, Rules, WasFault, Counts, Cover, Overlap, SpacingA, SpacingB, Stitch, Piece, Cycle}
+use Rattle.dpl_spec_verdict.specs.declared.Verdict.{Verdict}
+use Rattle.dpl_spec_verdict.specs.declared.Verdict.TheVariants.{Valid, Rules, WasFault, Counts, Cover, Overlap, SpacingA, SpacingB, Stitch, Piece, Cycle}
 use Rattle.dpl_cert.specs.declared.name.Name.{Name}
 use Rattle.dpl_cert.specs.declared.cert.Head.{Head}
 use Rattle.dpl_cert.specs.Names.{spelling}

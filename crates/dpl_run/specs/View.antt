@@ -2,7 +2,7 @@
 use Rattle.std.specs.Prelude.{◌≡◌, ℕ, List, codes, length, map, option_map, string_bytes}
 use Rattle.clap.specs.Walk.{Text}
 use Rattle.dpl_run.specs.Outcome.{Outcome}
-use Rattle.dpl_format.specs.Tree.{Library}
+use Rattle.dpl_spec_format.specs.Tree.{Library}
 use Rattle.dpl_run.specs.Reading.{Choice, Faulty, IsFaultIn, IsLayout, Reading, Layer as LayerRead}
 use Rattle.dpl_run.specs.Flat.{Flat, Clashes, Paints, Painted as PaintedAs, Clash as ClashAs}
 use Rattle.dpl_run.specs.declared.output.Output.{Output}
@@ -11,9 +11,9 @@ use Rattle.dpl_run.specs.declared.layer.Layer.{Layer}
 use Rattle.dpl_run.specs.declared.layer.LayerChoice.{LayerChoice}
 use Rattle.dpl_run.specs.declared.cut.LayerCut.{LayerCut}
 use Rattle.dpl_run.specs.declared.cut.BareLayerCut.{BareLayerCut}
-use Rattle.dpl_spec.specs.declared.Rect.{Rect}
-use Rattle.dpl_spec.specs.Squares.{Region}
-use Rattle.dpl_spec.specs.Decomposition.{Cut, IsCut}
+use Rattle.dpl_spec_split.specs.declared.Rect.{Rect}
+use Rattle.dpl_spec_split.specs.Squares.{Region}
+use Rattle.dpl_spec_split.specs.Decomposition.{Cut, IsCut}
 use Rattle.dpl_piece.specs.Cutting.{Completes, CutPieces}
 use Rattle.dpl_run.specs.declared.fault.LayerFault.{LayerFault}
 use Rattle.dpl_run.specs.declared.fault.LayerFault.TheVariants.{NoMemory, Refused}

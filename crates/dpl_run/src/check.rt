@@ -4,7 +4,7 @@ ghost use Rattle.dpl_host.specs.Whole.{HasReadCause};
 ghost use Rattle.dpl_words.specs.Meaning.{AsksCheck, check_view};
 ghost use Rattle.dpl_words.specs.Ranges.{AreInRangeForCheck, IsApart};
 ghost use Rattle.dpl_cert.specs.Grammar.{IsCert};
-ghost use Rattle.dpl_verdict.specs.Masks.{IsOfMasks};
+ghost use Rattle.dpl_spec_verdict.specs.Masks.{IsOfMasks};
 ghost use Rattle.dpl_run.specs.Check.{IsCheckOfMasks, mask_choice as mask_choice_of, refusal_of, verdict_outcome, verdict_status};
 ghost use Rattle.dpl_run.specs.Program.{IsMade, IsMadeOfCert, IsMadeOfLayer};
 ghost use Rattle.dpl_run.specs.Reading.{limit};

@@ -1,13 +1,13 @@
 //! Features, zones and pieces of a layer.
 ghost use Rattle.std.specs.Prelude.{◌≡◌, ◌≤◌, ℕ, IfOk, length};
 ghost use Rattle.std.specs.List.{Contains};
-ghost use Rattle.dpl_spec.specs.declared.Pt.{Pt};
-ghost use Rattle.dpl_spec.specs.Squares.{Covers};
+ghost use Rattle.dpl_spec_split.specs.declared.Pt.{Pt};
+ghost use Rattle.dpl_spec_split.specs.Squares.{Covers};
 ghost use Rattle.dpl_tile.specs.Plans.{IsPlan};
 ghost use Rattle.dpl_tile.specs.Tiles.{IsDoubled};
 ghost use Rattle.dpl_cert.specs.Grammar.{IsHead, IsPoint, IsRule};
 ghost use Rattle.dpl_run.specs.Flat.{IsTile};
-ghost use Rattle.dpl_valid.specs.Own.{head_of};
+ghost use Rattle.dpl_law_verdict.specs.Own.{head_of};
 ghost use Rattle.dpl_piece.specs.Cutting.{Completes, CutPieces};
 ghost use Rattle.dpl_run.specs.View.{IsBareCutOf, OfAnyCut};
 

@@ -1,10 +1,10 @@
 //! The decomposition of a layer.
 ghost use Rattle.std.specs.Prelude.{◌≡◌, IfOk, length};
 ghost use Rattle.std.specs.List.{Contains};
-ghost use Rattle.dpl_spec.specs.declared.Pt.{Pt};
-ghost use Rattle.dpl_spec.specs.Graphs.{AreEdges, graph_of};
-ghost use Rattle.dpl_spec.specs.Summary.{HasOddCycle};
-ghost use Rattle.dpl_spec.specs.Pieces.{Conflict};
+ghost use Rattle.dpl_spec_split.specs.declared.Pt.{Pt};
+ghost use Rattle.dpl_spec_split.specs.Graphs.{AreEdges, graph_of};
+ghost use Rattle.dpl_spec_split.specs.Summary.{HasOddCycle};
+ghost use Rattle.dpl_spec_split.specs.Pieces.{Conflict};
 ghost use Rattle.dpl_graph.specs.Levels.{AreEdgesBelow};
 ghost use Rattle.dpl_job.specs.Conflicts.{SumsGraph};
 ghost use Rattle.dpl_orient.specs.Oriented.{IsEvenBelow};

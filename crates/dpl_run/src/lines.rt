@@ -1,12 +1,12 @@
 //! The lines of a certificate.
 ghost use Rattle.std.specs.Prelude.{◌≡◌, ◌<◌, ℕ, IfOk, length, map};
 ghost use Rattle.std.specs.List.{All, AllByRecursion, Contains, zip};
-ghost use Rattle.dpl_spec.specs.declared.Pt.{Pt};
-ghost use Rattle.dpl_spec.specs.Loops.{farthest};
-ghost use Rattle.dpl_spec.specs.Squares.{IsSolidWithin};
+ghost use Rattle.dpl_spec_split.specs.declared.Pt.{Pt};
+ghost use Rattle.dpl_spec_split.specs.Loops.{farthest};
+ghost use Rattle.dpl_spec_split.specs.Squares.{IsSolidWithin};
 ghost use Rattle.dpl_orient.specs.Masks.{is_second};
 ghost use Rattle.dpl_cert.specs.Grammar.{IsNumber, IsPiece, IsPlace, IsPoint, IsStitch};
-ghost use Rattle.dpl_valid.specs.Own.{piece_line, place_line, stitch_line};
+ghost use Rattle.dpl_law_verdict.specs.Own.{piece_line, place_line, stitch_line};
 
 use dpl_base::{Id, Zone};
 use dpl_cert::{Key, PieceLine, PlaceLine, StitchLine};

@@ -1,8 +1,8 @@
 //! Where the pieces of a cycle are near.
 ghost use Rattle.std.specs.Prelude.{◌<◌, ◌%◌, ◌+◌, ℕ, IfOk, length, slice_index};
 ghost use Rattle.std.specs.List.{AllByRecursion};
-ghost use Rattle.dpl_spec.specs.Squares.{AreNear};
-ghost use Rattle.dpl_spec.specs.Zones.{part_at};
+ghost use Rattle.dpl_spec_split.specs.Squares.{AreNear};
+ghost use Rattle.dpl_spec_split.specs.Zones.{part_at};
 ghost use Rattle.dpl_cert.specs.Grammar.{IsNear};
 ghost use Rattle.dpl_nearest.specs.Nearest.{IsNearestPair};
 ghost use Rattle.dpl_run.specs.Flat.{AreNearest};

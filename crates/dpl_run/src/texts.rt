@@ -1,6 +1,6 @@
 //! The lines that are said.
 ghost use Rattle.std.specs.Prelude.{◌≡◌, IfOk, string_bytes};
-ghost use Rattle.dpl_verdict.specs.declared.Verdict.TheVariants.{Counts, Cover, Overlap, Rules, SpacingA, SpacingB};
+ghost use Rattle.dpl_spec_verdict.specs.declared.Verdict.TheVariants.{Counts, Cover, Overlap, Rules, SpacingA, SpacingB};
 ghost use Rattle.dpl_run.specs.View.{file_word};
 ghost use Rattle.dpl_run.specs.Texts.{bad_line_line as bad_line_line_of, broken_line, conflict_line as conflict_line_of, demo_line as demo_line_of, done_line as done_line_of, refused_file_line as refused_file_line_of, refused_line as refused_line_of, usage_line as usage_line_of, valid_line as valid_line_of};
 ghost use Rattle.dpl_run.specs.Check.{verdict_line as verdict_line_of};

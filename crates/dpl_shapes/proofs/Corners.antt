@@ -5,11 +5,11 @@ use Rattle.std.specs.List.{All, Contains}
 use Rattle.std.proofs.lemmas.Int.{ints, by_lt_z}
 use Rattle.std.proofs.lemmas.List.{get_or-map, get_or_default}
 use Rattle.std.proofs.Math.ListN.{length-map}
-use Rattle.dpl_spec.specs.declared.Pt.{Pt}
-use Rattle.dpl_spec.specs.declared.Rect.{Rect}
-use Rattle.dpl_spec.specs.Squares.{Has, Covers}
-use Rattle.dpl_spec.specs.Loops.{step, winding, LoopCovers, SomeLoopCovers, IsLevelOrUpright, IsRectilinear}
-use Rattle.dpl_elements.specs.Paths.{corners_of}
+use Rattle.dpl_spec_split.specs.declared.Pt.{Pt}
+use Rattle.dpl_spec_split.specs.declared.Rect.{Rect}
+use Rattle.dpl_spec_split.specs.Squares.{Has, Covers}
+use Rattle.dpl_spec_split.specs.Loops.{step, winding, LoopCovers, SomeLoopCovers, IsLevelOrUpright, IsRectilinear}
+use Rattle.dpl_spec_elements.specs.Paths.{corners_of}
 
 -- its corners stand in order
 pub record IsProper (r : Rect) : Type 0 where

@@ -2,13 +2,13 @@
 use Rattle.std.proofs.Common.{◌≡◌, ◌^◌, ◌≤◌, sym, ap, ◌∙◌, arith, to_z, of_z, w64}
 use Rattle.std.specs.Prelude.{ℤ, ◌+ℤ◌, ◌-ℤ◌, unsigned_abs}
 use Rattle.std.proofs.lemmas.Int.{ints}
-use Rattle.dpl_spec.specs.declared.Pt.{Pt}
-use Rattle.dpl_spec.specs.declared.Rect.{Rect}
-use Rattle.dpl_spec.specs.Loops.{IsPointWithin}
-use Rattle.dpl_elements.specs.declared.Heading.{Heading}
-use Rattle.dpl_elements.specs.declared.Heading.TheVariants.{East, North, West, South}
-use Rattle.dpl_elements.specs.declared.Segment.{Segment}
-use Rattle.dpl_elements.specs.Paths.{heading, bar_to, bar, square_round}
+use Rattle.dpl_spec_split.specs.declared.Pt.{Pt}
+use Rattle.dpl_spec_split.specs.declared.Rect.{Rect}
+use Rattle.dpl_spec_split.specs.Loops.{IsPointWithin}
+use Rattle.dpl_spec_elements.specs.declared.Heading.{Heading}
+use Rattle.dpl_spec_elements.specs.declared.Heading.TheVariants.{East, North, West, South}
+use Rattle.dpl_spec_elements.specs.declared.Segment.{Segment}
+use Rattle.dpl_spec_elements.specs.Paths.{heading, bar_to, bar, square_round}
 use Rattle.dpl_shapes.specs.Strokes.{IsSegmentWithin}
 
 -- small numbers don't wrap

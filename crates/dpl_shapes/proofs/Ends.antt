@@ -6,12 +6,12 @@ use Rattle.std.proofs.lemmas.Int.{ints, by_lt_z}
 use Rattle.std.proofs.lemmas.Bool.{cases_eq}
 use lib.Dec.{eqb}
 use mir.Val.{SFits}
-use Rattle.dpl_spec.specs.declared.Pt.{Pt}
-use Rattle.dpl_spec.specs.declared.Rect.{Rect}
-use Rattle.dpl_spec.proofs.Ordered.{Contains-nil, Contains-cases}
-use Rattle.dpl_elements.specs.declared.Heading.TheVariants.{East, North, West, South}
-use Rattle.dpl_elements.specs.declared.Segment.{Segment}
-use Rattle.dpl_elements.specs.Paths.{PathElement, same, heading, bar_to, bar, bars, segments_from, half_of, past_end, square_round, rects_through, path_rects, distinct}
+use Rattle.dpl_spec_split.specs.declared.Pt.{Pt}
+use Rattle.dpl_spec_split.specs.declared.Rect.{Rect}
+use Rattle.dpl_spec_split.proofs.Ordered.{Contains-nil, Contains-cases}
+use Rattle.dpl_spec_elements.specs.declared.Heading.TheVariants.{East, North, West, South}
+use Rattle.dpl_spec_elements.specs.declared.Segment.{Segment}
+use Rattle.dpl_spec_elements.specs.Paths.{PathElement, same, heading, bar_to, bar, bars, segments_from, half_of, past_end, square_round, rects_through, path_rects, distinct}
 use Rattle.dpl_shapes.specs.declared.bars.Margins.{Margins}
 use Rattle.dpl_shapes.specs.Strokes.{rects_along}
 use Rattle.dpl_shapes.specs.Types.{HasNegativeEnd}

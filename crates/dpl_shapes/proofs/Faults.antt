@@ -3,11 +3,11 @@ use Rattle.std.proofs.Common.{◌≡◌, ℕ, ◌%◌, ◌<◌, inl, inr, List, 
 use Rattle.std.specs.Prelude.{ℤ, pos, ◌<ℤ◌, unsigned_abs}
 use Rattle.std.proofs.lemmas.Int.{ints}
 use Rattle.std.proofs.lemmas.List.{get_or_default}
-use Rattle.dpl_spec.specs.declared.Pt.{Pt}
-use Rattle.dpl_spec.specs.Loops.{IsLevelOrUpright}
+use Rattle.dpl_spec_split.specs.declared.Pt.{Pt}
+use Rattle.dpl_spec_split.specs.Loops.{IsLevelOrUpright}
 use Rattle.dpl_shapes.specs.Straight.{IsStraightBelow}
-use Rattle.dpl_elements.specs.Paths.{PathElement, PathFault, Applies, place, IsFirstFault, IsFaultless, distinct, HasSlant, HasTurnBack}
-use Rattle.dpl_elements.specs.Paths.PathFault.{Round, BadType, Odd, Slanted, TurnsBack, Negative}
+use Rattle.dpl_spec_elements.specs.Paths.{PathElement, PathFault, Applies, place, IsFirstFault, IsFaultless, distinct, HasSlant, HasTurnBack}
+use Rattle.dpl_spec_elements.specs.Paths.PathFault.{Round, BadType, Odd, Slanted, TurnsBack, Negative}
 use Rattle.dpl_shapes.specs.Types.{IsKnownType, HasNegativeEnd}
 
 -- a path without the first three faults

@@ -1,8 +1,8 @@
 -- Keeping distinct points.
 use Rattle.std.proofs.Common.{◌≡◌, ℕ, ◌-◌, ◌≤◌, List, [], ◌∷◌, ◌++◌, length, get_or, take, drop, sym, ap, ◌∙◌, arith}
 use Rattle.std.proofs.lemmas.List.{take_all, append-nil}
-use Rattle.dpl_spec.specs.declared.Pt.{Pt}
-use Rattle.dpl_elements.specs.Paths.{distinct_after, distinct}
+use Rattle.dpl_spec_split.specs.declared.Pt.{Pt}
+use Rattle.dpl_spec_elements.specs.Paths.{distinct_after, distinct}
 
 -- all points after the first were gone over
 pub distinct-done : (ps items kept none : List Pt) (n : ℕ) (d : Pt) → 1 ≤ length ps → none ≡ [] → kept ≡ none ++ get_or ps 0 d ∷ [] → length (take (length ps - 1) (drop 1 ps)) ≤ n → items ++ [] ≡ kept ++ distinct_after (get_or ps 0 d) (take n (take (length ps - 1) (drop 1 ps)) ++ []) → items ≡ distinct ps

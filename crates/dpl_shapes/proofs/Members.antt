@@ -2,9 +2,9 @@
 use Rattle.std.proofs.Common.{ℕ, zero, suc, true, false, inl, inr, List, [], ◌∷◌, take, drop, subst}
 use Rattle.std.specs.Prelude.{if◌then◌else◌}
 use Rattle.std.specs.List.{Contains}
-use Rattle.dpl_spec.specs.declared.Pt.{Pt}
-use Rattle.dpl_spec.proofs.Ordered.{Contains-head, Contains-later, Contains-nil, Contains-cases}
-use Rattle.dpl_elements.specs.Paths.{same_point, distinct_after, distinct}
+use Rattle.dpl_spec_split.specs.declared.Pt.{Pt}
+use Rattle.dpl_spec_split.proofs.Ordered.{Contains-head, Contains-later, Contains-nil, Contains-cases}
+use Rattle.dpl_spec_elements.specs.Paths.{same_point, distinct_after, distinct}
 
 pub Contains-drop : (n : ℕ) (ps : List Pt) (p : Pt) → Contains (drop n ps) p → Contains ps p
 Contains-drop zero ps p h = h

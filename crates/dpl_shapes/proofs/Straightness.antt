@@ -1,9 +1,9 @@
 -- Going over the segments of a list of points.
 use Rattle.std.proofs.Common.{◌≡◌, ℕ, ◌+◌, ◌-◌, ◌≤◌, ◌<◌, List, length, get_or, sym, ap, ◌∙◌, arith}
 use Rattle.std.proofs.lemmas.List.{get_or_default}
-use Rattle.dpl_spec.specs.declared.Pt.{Pt}
-use Rattle.dpl_elements.specs.declared.Heading.{Heading}
-use Rattle.dpl_elements.specs.Paths.{heading, back, HasTurnBack}
+use Rattle.dpl_spec_split.specs.declared.Pt.{Pt}
+use Rattle.dpl_spec_elements.specs.declared.Heading.{Heading}
+use Rattle.dpl_spec_elements.specs.Paths.{heading, back, HasTurnBack}
 
 -- the element at an index, whatever the default
 at-index : (ps : List Pt) (i j : ℕ) (p d : Pt) → i ≡ j → j < length ps → p ≡ get_or ps j p → get_or ps i d ≡ p

@@ -2,10 +2,10 @@
 use Rattle.std.proofs.Common.{◌≡◌, ℕ, ◌+◌, ◌<◌, ◌≤◌, length, get_or, take, Bool, true, false, List, [], ◌∷◌, ◌++◌, refl, sym, ap, ◌∙◌, subst, append_assoc}
 use Rattle.std.specs.Prelude.{ℤ, map, if◌then◌else◌}
 use Rattle.std.proofs.lemmas.List.{append-nil, take_more, take_all}
-use Rattle.dpl_spec.specs.declared.Pt.{Pt}
-use Rattle.dpl_elements.specs.declared.Heading.{Heading}
-use Rattle.dpl_elements.specs.declared.Segment.{Segment}
-use Rattle.dpl_elements.specs.Paths.{heading, same_heading, segments_from, bar, bars, corners_of}
+use Rattle.dpl_spec_split.specs.declared.Pt.{Pt}
+use Rattle.dpl_spec_elements.specs.declared.Heading.{Heading}
+use Rattle.dpl_spec_elements.specs.declared.Segment.{Segment}
+use Rattle.dpl_spec_elements.specs.Paths.{heading, same_heading, segments_from, bar, bars, corners_of}
 use Rattle.dpl_shapes.specs.declared.bars.Stroke.{Stroke}
 use Rattle.dpl_shapes.specs.Strokes.{loops_left, DrawsTo}
 

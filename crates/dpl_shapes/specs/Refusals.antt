@@ -1,9 +1,9 @@
 -- When a shape is refused.
 use Rattle.std.specs.Prelude.{List}
-use Rattle.dpl_spec.specs.declared.Pt.{Pt}
-use Rattle.dpl_elements.specs.Boundaries.{IsSlanted}
-use Rattle.dpl_elements.specs.Paths.{PathElement, IsFirstFault}
-use Rattle.dpl_elements.specs.Paths.PathFault.{Round, BadType, Odd, Slanted, TurnsBack, Negative}
+use Rattle.dpl_spec_split.specs.declared.Pt.{Pt}
+use Rattle.dpl_spec_elements.specs.Boundaries.{IsSlanted}
+use Rattle.dpl_spec_elements.specs.Paths.{PathElement, IsFirstFault}
+use Rattle.dpl_spec_elements.specs.Paths.PathFault.{Round, BadType, Odd, Slanted, TurnsBack, Negative}
 use Rattle.dpl_shapes.specs.declared.fault.ShapeFault.{ShapeFault}
 use Rattle.dpl_shapes.specs.declared.fault.ShapeFault.TheVariants.{SlantedBoundary, RoundPath, BadPathType, OddWidth, SlantedPath, PathTurnsBack, NegativeExtension, NoMemory}
 

@@ -1,8 +1,8 @@
 -- Points whose neighbours lie in one row or one column, and the ways that segments go.
 use Rattle.std.specs.Prelude.{◌≡◌, ℕ, ◌+◌, ◌<◌, List, slice_index_or}
-use Rattle.dpl_spec.specs.declared.Pt.{Pt}
-use Rattle.dpl_spec.specs.Loops.{IsLevelOrUpright}
-use Rattle.dpl_elements.specs.Paths.{heading, back}
+use Rattle.dpl_spec_split.specs.declared.Pt.{Pt}
+use Rattle.dpl_spec_split.specs.Loops.{IsLevelOrUpright}
+use Rattle.dpl_spec_elements.specs.Paths.{heading, back}
 
 -- each segment between the first n points is parallel to an axis
 abbrev pub IsStraightBelow : List Pt → ℕ → Type 0

@@ -1,10 +1,10 @@
 -- Drawing the rectangles of a path, point by point.
 use Rattle.std.specs.Prelude.{◌≡◌, ℕ, ◌≤◌, Bool, ℤ, unsigned_abs, List, [], ◌∷◌, ◌++◌, map, if◌then◌else◌}
-use Rattle.dpl_spec.specs.declared.Pt.{Pt}
-use Rattle.dpl_spec.specs.declared.Rect.{Rect}
-use Rattle.dpl_spec.specs.Loops.{IsPointWithin}
-use Rattle.dpl_elements.specs.declared.Segment.{Segment}
-use Rattle.dpl_elements.specs.Paths.{segments_from, bars, square_round, corners_of}
+use Rattle.dpl_spec_split.specs.declared.Pt.{Pt}
+use Rattle.dpl_spec_split.specs.declared.Rect.{Rect}
+use Rattle.dpl_spec_split.specs.Loops.{IsPointWithin}
+use Rattle.dpl_spec_elements.specs.declared.Segment.{Segment}
+use Rattle.dpl_spec_elements.specs.Paths.{segments_from, bars, square_round, corners_of}
 use Rattle.dpl_shapes.specs.declared.bars.Margins.{Margins}
 use Rattle.dpl_shapes.specs.declared.bars.Stroke.{Stroke}
 

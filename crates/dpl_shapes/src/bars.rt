@@ -1,13 +1,13 @@
 //! The rectangles along the segments of a path.
 ghost use Rattle.std.specs.Prelude.{◌≡◌, ◌≤◌, ◌^◌, List, [], ◌∷◌, ◌++◌, map, IfOk, OnOk, unsigned_abs, if◌then◌else◌};
-ghost use Rattle.dpl_spec.specs.declared.Pt.{Pt};
-ghost use Rattle.dpl_spec.specs.Loops.{IsPointWithin, ArePointsWithin};
-ghost use Rattle.dpl_elements.specs.Paths.{segments_from, bar, bars, square_round, corners_of};
+ghost use Rattle.dpl_spec_split.specs.declared.Pt.{Pt};
+ghost use Rattle.dpl_spec_split.specs.Loops.{IsPointWithin, ArePointsWithin};
+ghost use Rattle.dpl_spec_elements.specs.Paths.{segments_from, bar, bars, square_round, corners_of};
 ghost use Rattle.dpl_shapes.specs.Strokes.{IsSegmentWithin, IsStrokeWithin, AreMarginsWithin, DrawsTo, rects_along};
 
 use crate::headings::{go_the_same_way, heading_to};
 use dpl_base::{Loop, Pt, WideRect};
-use dpl_elements::{Heading, Segment};
+use dpl_spec_elements::{Heading, Segment};
 use std::alloc::{AllocError, Global};
 
 /// How far the rectangles of a path go on from its segments, in database units.

@@ -1,8 +1,8 @@
 //! Points of which no two neighbours are equal.
 ghost use Rattle.std.specs.Prelude.{◌≡◌, ◌≤◌, ◌^◌, List, ◌∷◌, ◌++◌, IfOk, IsTrue, unsigned_abs};
-ghost use Rattle.dpl_spec.specs.declared.Pt.{Pt};
-ghost use Rattle.dpl_spec.specs.Loops.{ArePointsWithin};
-ghost use Rattle.dpl_elements.specs.Paths.{same_point, distinct_after, distinct};
+ghost use Rattle.dpl_spec_split.specs.declared.Pt.{Pt};
+ghost use Rattle.dpl_spec_split.specs.Loops.{ArePointsWithin};
+ghost use Rattle.dpl_spec_elements.specs.Paths.{same_point, distinct_after, distinct};
 
 use dpl_base::Pt;
 use std::alloc::{AllocError, Global};

@@ -1,10 +1,10 @@
 //! Which way the segments of a path go.
 ghost use Rattle.std.specs.Prelude.{◌≡◌, ◌↔◌, IsTrue, MatchBool};
-ghost use Rattle.dpl_elements.specs.Paths.{heading, same_heading, back, HasTurnBack};
+ghost use Rattle.dpl_spec_elements.specs.Paths.{heading, same_heading, back, HasTurnBack};
 ghost use Rattle.dpl_shapes.specs.Straight.{GoesOnBelow};
 
 use dpl_base::Pt;
-use dpl_elements::Heading;
+use dpl_spec_elements::Heading;
 
 /// Which way a segment between two points goes.
 pub fn heading_to(p: &Pt, q: &Pt) -> Heading

@@ -9,9 +9,9 @@ mod straight;
 
 ghost use Rattle.std.specs.Prelude.{◌≡◌, ◌^◌, ◌≤◌, ◌↔◌, ℤ, unsigned_abs, map, IfOk, IfErr, OnOk, MatchBool};
 ghost use Rattle.std.specs.List.{All};
-ghost use Rattle.dpl_spec.specs.declared.Pt.{Pt};
-ghost use Rattle.dpl_spec.specs.Loops.{IsRectilinear, SomeLoopCovers, ArePointsWithin};
-ghost use Rattle.dpl_elements.specs.Paths.{path_of, path_rects, past_end, corners_of, PathCovers, IsFaultless};
+ghost use Rattle.dpl_spec_split.specs.declared.Pt.{Pt};
+ghost use Rattle.dpl_spec_split.specs.Loops.{IsRectilinear, SomeLoopCovers, ArePointsWithin};
+ghost use Rattle.dpl_spec_elements.specs.Paths.{path_of, path_rects, past_end, corners_of, PathCovers, IsFaultless};
 ghost use Rattle.dpl_shapes.specs.Types.{IsKnownType, IsUnknownType, HasNegativeEnd};
 ghost use Rattle.dpl_shapes.specs.Refusals.{RefusesBoundary, RefusesPath};
 

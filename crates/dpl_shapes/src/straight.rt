@@ -1,8 +1,8 @@
 //! Edges parallel to an axis.
 ghost use Rattle.std.specs.Prelude.{◌≡◌, ◌⊎◌, ◌↔◌, length, IsTrue, MatchBool};
-ghost use Rattle.dpl_spec.specs.declared.Pt.{Pt};
-ghost use Rattle.dpl_spec.specs.Loops.{IsLevelOrUpright, IsRectilinear};
-ghost use Rattle.dpl_elements.specs.Paths.{HasSlant};
+ghost use Rattle.dpl_spec_split.specs.declared.Pt.{Pt};
+ghost use Rattle.dpl_spec_split.specs.Loops.{IsLevelOrUpright, IsRectilinear};
+ghost use Rattle.dpl_spec_elements.specs.Paths.{HasSlant};
 ghost use Rattle.dpl_shapes.specs.Straight.{IsStraightBelow};
 
 use dpl_base::Pt;

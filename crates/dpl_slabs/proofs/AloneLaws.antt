@@ -12,10 +12,10 @@ use Rattle.std.proofs.lemmas.List.{get_or_default, get_or-take, take_more}
 use Rattle.std.proofs.lemmas.List.Elements.{Contains-append_left, Contains-get_or, Contains-push, Contains-push_cases}
 use Rattle.std.proofs.lemmas.List.Quantifiers.{all_pairs_push}
 use Rattle.std.proofs.lemmas.List.Sorted.{sorted_far, ranks_by}
-use Rattle.dpl_spec.specs.declared.Pt.{Pt}
-use Rattle.dpl_spec.specs.declared.Rect.{Rect}
-use Rattle.dpl_spec.specs.Squares.{Has, Covers}
-use Rattle.dpl_spec.specs.Slabs.{StandApart}
+use Rattle.dpl_spec_split.specs.declared.Pt.{Pt}
+use Rattle.dpl_spec_split.specs.declared.Rect.{Rect}
+use Rattle.dpl_spec_split.specs.Squares.{Has, Covers}
+use Rattle.dpl_spec_split.specs.Slabs.{StandApart}
 use Rattle.dpl_slabs.specs.Alone.{LeftsRise, ReachTo, IsFrontAt, AreAlone, AddsTouching}
 use Rattle.dpl_slabs.proofs.LoopLaws.{covers-pushed}
 use Rattle.dpl_slabs.proofs.RowLaws.{covers-step}

@@ -7,14 +7,14 @@ use Rattle.std.specs.List.Sorted.{IsPermutation}
 use Rattle.std.proofs.lemmas.Int.{ints}
 use Rattle.std.proofs.lemmas.List.{take-append-drop, take_at}
 use Rattle.std.proofs.lemmas.List.Elements.{All-append, All-contains, Contains-append_cases}
-use Rattle.dpl_spec.specs.declared.Pt.{Pt}
-use Rattle.dpl_spec.specs.declared.Rect.{Rect}
-use Rattle.dpl_spec.specs.Squares.{Region, Covers, SameSquares}
-use Rattle.dpl_spec.specs.Slabs.{IsSolid, ShareRow, StandApart, AreSlabsOf}
-use Rattle.dpl_spec.specs.Loops.{farthest, AreRectsWithin}
-use Rattle.dpl_spec.specs.Zones.{at, turned}
-use Rattle.dpl_spec.proofs.Ordered.{Contains-nil}
-use Rattle.dpl_spec.proofs.SlabLaws.{Covers-member, member-Covers}
+use Rattle.dpl_spec_split.specs.declared.Pt.{Pt}
+use Rattle.dpl_spec_split.specs.declared.Rect.{Rect}
+use Rattle.dpl_spec_split.specs.Squares.{Region, Covers, SameSquares}
+use Rattle.dpl_spec_split.specs.Slabs.{IsSolid, ShareRow, StandApart, AreSlabsOf}
+use Rattle.dpl_spec_split.specs.Loops.{farthest, AreRectsWithin}
+use Rattle.dpl_spec_split.specs.Zones.{at, turned}
+use Rattle.dpl_spec_split.proofs.Ordered.{Contains-nil}
+use Rattle.dpl_spec_split.proofs.SlabLaws.{Covers-member, member-Covers}
 use Rattle.dpl_sweep.specs.Orders.{CornersRise}
 use Rattle.dpl_sweep.specs.Pieces.{AreApart}
 use Rattle.dpl_sweep.proofs.JoinLaws.{covers-same}

@@ -3,10 +3,10 @@ use Rattle.std.proofs.Common.{◌≡◌, ℕ, ◌<◌, ◌⊎◌, inl, inr, List
 use Rattle.std.specs.Prelude.{◌↔◌, ℤ, pos, ◌+ℤ◌, ◌-ℤ◌, ◌≤ℤ◌, ◌<ℤ◌, IfSome}
 use Rattle.std.proofs.lemmas.Int.{ints, by_lt_z}
 use Rattle.std.proofs.lemmas.List.{get_or_default}
-use Rattle.dpl_spec.specs.declared.Pt.{Pt}
-use Rattle.dpl_spec.specs.declared.Rect.{Rect}
-use Rattle.dpl_spec.specs.Squares.{Has}
-use Rattle.dpl_spec.specs.Loops.{step, winding, LoopCovers, IsPointWithin, IsRectWithin, ArePointsWithin}
+use Rattle.dpl_spec_split.specs.declared.Pt.{Pt}
+use Rattle.dpl_spec_split.specs.declared.Rect.{Rect}
+use Rattle.dpl_spec_split.specs.Squares.{Has}
+use Rattle.dpl_spec_split.specs.Loops.{step, winding, LoopCovers, IsPointWithin, IsRectWithin, ArePointsWithin}
 use Rattle.dpl_slabs.specs.Loops.{above}
 use Rattle.dpl_slabs.specs.Corners.{AreOrdered, IsSpanned, IsUpright, four_steps, IsThrough}
 use Rattle.dpl_slabs.proofs.LoopLaws.{step-left, step-level}

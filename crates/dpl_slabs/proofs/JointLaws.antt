@@ -7,13 +7,13 @@ use Rattle.std.proofs.lemmas.Bool.{cases_lt, cases_cond}
 use Rattle.std.proofs.lemmas.Int.{ints, by_lt_z}
 use Rattle.std.proofs.lemmas.List.{get_or-drop, get_or-take, get_or_default, length-drop, length-take, take-append-drop, drop_all}
 use Rattle.std.proofs.lemmas.List.Elements.{Contains-append_left, Contains-append_right, Contains-append_cases}
-use Rattle.dpl_spec.specs.declared.Pt.{Pt}
-use Rattle.dpl_spec.specs.declared.Rect.{Rect}
-use Rattle.dpl_spec.specs.Squares.{Covers}
-use Rattle.dpl_spec.specs.Slabs.{IsSolid, IsCanonical, AreSlabsOf}
-use Rattle.dpl_spec.specs.Loops.{farthest, AreRectsWithin}
-use Rattle.dpl_spec.proofs.Ordered.{Contains-nil}
-use Rattle.dpl_spec.proofs.SlabLaws.{Covers-member, member-Covers}
+use Rattle.dpl_spec_split.specs.declared.Pt.{Pt}
+use Rattle.dpl_spec_split.specs.declared.Rect.{Rect}
+use Rattle.dpl_spec_split.specs.Squares.{Covers}
+use Rattle.dpl_spec_split.specs.Slabs.{IsSolid, IsCanonical, AreSlabsOf}
+use Rattle.dpl_spec_split.specs.Loops.{farthest, AreRectsWithin}
+use Rattle.dpl_spec_split.proofs.Ordered.{Contains-nil}
+use Rattle.dpl_spec_split.proofs.SlabLaws.{Covers-member, member-Covers}
 use Rattle.dpl_sweep.specs.declared.edge.Rule.{Rule}
 use Rattle.dpl_sweep.specs.declared.edge.Rule.TheVariants.{Minus, Both}
 use Rattle.dpl_sweep.specs.Orders.{CornersRise}

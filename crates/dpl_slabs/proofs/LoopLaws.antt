@@ -5,19 +5,19 @@ use Rattle.std.specs.List.{Contains}
 use Rattle.std.proofs.lemmas.Int.{ints, by_lt_z}
 use Rattle.std.proofs.lemmas.List.{get_or_default}
 use Rattle.std.proofs.lemmas.List.Elements.{All-contains, Contains-append_left, Contains-push, Contains-push_cases, Contains-append_right, Contains-append_cases}
-use Rattle.dpl_spec.specs.declared.Pt.{Pt}
-use Rattle.dpl_spec.specs.declared.Rect.{Rect}
-use Rattle.dpl_spec.specs.Squares.{SameSquares, Covers, Has}
-use Rattle.dpl_spec.specs.Slabs.{IsSolid, AreSlabsOf}
-use Rattle.dpl_spec.proofs.Ordered.{Contains-head, Contains-later, Contains-nil}
-use Rattle.dpl_spec.proofs.SlabLaws.{Covers-member, member-Covers}
+use Rattle.dpl_spec_split.specs.declared.Pt.{Pt}
+use Rattle.dpl_spec_split.specs.declared.Rect.{Rect}
+use Rattle.dpl_spec_split.specs.Squares.{SameSquares, Covers, Has}
+use Rattle.dpl_spec_split.specs.Slabs.{IsSolid, AreSlabsOf}
+use Rattle.dpl_spec_split.proofs.Ordered.{Contains-head, Contains-later, Contains-nil}
+use Rattle.dpl_spec_split.proofs.SlabLaws.{Covers-member, member-Covers}
 use Rattle.dpl_sweep.specs.declared.edge.Edge.{Edge}
 use Rattle.dpl_sweep.specs.declared.edge.Rule.{Rule}
 use Rattle.dpl_sweep.specs.declared.edge.Rule.TheVariants.{Either}
 use Rattle.dpl_sweep.specs.Edges.{Told, part, sum_left, change_a, change_b}
 use Rattle.dpl_sweep.specs.Passes.{IsClosed, IsUnitEdge}
 use Rattle.dpl_sweep.proofs.EdgeLaws.{none-told, sum_left-push, part-before, part-off}
-use Rattle.dpl_spec.specs.Loops.{farthest, step, steps, winding, LoopCovers, SomeLoopCovers, IsPointWithin, AreRectsWithin}
+use Rattle.dpl_spec_split.specs.Loops.{farthest, step, steps, winding, LoopCovers, SomeLoopCovers, IsPointWithin, AreRectsWithin}
 use Rattle.dpl_slabs.specs.Loops.{above, IsEdgeWithin, AreEdgesWithin, AddsStep, AreStepsOf, AreEdgesOf, SomeFirstCovers}
 use Rattle.std.proofs.lemmas.Bool.{cases_eq}
 

@@ -8,13 +8,13 @@ use Rattle.std.proofs.lemmas.Int.{ints, by_lt_z}
 use Rattle.std.proofs.lemmas.List.{get_or_default}
 use Rattle.std.proofs.lemmas.List.Elements.{All-append, All-contains}
 use Rattle.std.proofs.lemmas.List.Sorted.{All-permutation}
-use Rattle.dpl_spec.specs.declared.Pt.{Pt}
-use Rattle.dpl_spec.specs.declared.Rect.{Rect}
-use Rattle.dpl_spec.specs.Squares.{AreTouching, Covers, Has}
-use Rattle.dpl_spec.specs.Slabs.{IsSolid, Before, IsCanonical, AreSlabsOf}
-use Rattle.dpl_spec.specs.Zones.{at}
-use Rattle.dpl_spec.proofs.SlabLaws.{Covers-member}
-use Rattle.dpl_spec.proofs.SquareLaws.{Touch-from_close}
+use Rattle.dpl_spec_split.specs.declared.Pt.{Pt}
+use Rattle.dpl_spec_split.specs.declared.Rect.{Rect}
+use Rattle.dpl_spec_split.specs.Squares.{AreTouching, Covers, Has}
+use Rattle.dpl_spec_split.specs.Slabs.{IsSolid, Before, IsCanonical, AreSlabsOf}
+use Rattle.dpl_spec_split.specs.Zones.{at}
+use Rattle.dpl_spec_split.proofs.SlabLaws.{Covers-member}
+use Rattle.dpl_spec_split.proofs.SquareLaws.{Touch-from_close}
 use Rattle.dpl_sweep.specs.Orders.{CornerBefore, CornersRise}
 use Rattle.dpl_sweep.proofs.JoinLaws.{covers-same}
 use Rattle.dpl_sweep.proofs.Permuted.{AllPairs-permutation}

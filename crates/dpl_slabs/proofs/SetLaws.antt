@@ -5,14 +5,14 @@ use Rattle.std.proofs.lemmas.Int.{ints, by_lt_z}
 use Rattle.std.proofs.lemmas.List.{take_all, drop_all}
 use Rattle.std.proofs.lemmas.List.Edits.{map_over_more}
 use Rattle.std.proofs.lemmas.List.Elements.{All-contains, Contains-push_cases}
-use Rattle.dpl_spec.specs.declared.Pt.{Pt}
-use Rattle.dpl_spec.specs.declared.Rect.{Rect}
-use Rattle.dpl_spec.specs.Squares.{Has, Covers}
-use Rattle.dpl_spec.specs.Slabs.{IsSolid, IsCanonical, AreSlabsOf}
-use Rattle.dpl_spec.specs.Loops.{IsRectWithin, AreRectsWithin}
-use Rattle.dpl_spec.specs.Zones.{at, turned, turned_rect}
-use Rattle.dpl_spec.proofs.Ordered.{Contains-head, Contains-later, Contains-cases, Contains-nil}
-use Rattle.dpl_spec.proofs.SlabLaws.{Covers-member, member-Covers}
+use Rattle.dpl_spec_split.specs.declared.Pt.{Pt}
+use Rattle.dpl_spec_split.specs.declared.Rect.{Rect}
+use Rattle.dpl_spec_split.specs.Squares.{Has, Covers}
+use Rattle.dpl_spec_split.specs.Slabs.{IsSolid, IsCanonical, AreSlabsOf}
+use Rattle.dpl_spec_split.specs.Loops.{IsRectWithin, AreRectsWithin}
+use Rattle.dpl_spec_split.specs.Zones.{at, turned, turned_rect}
+use Rattle.dpl_spec_split.proofs.Ordered.{Contains-head, Contains-later, Contains-cases, Contains-nil}
+use Rattle.dpl_spec_split.proofs.SlabLaws.{Covers-member, member-Covers}
 use Rattle.dpl_sweep.specs.declared.edge.Edge.{Edge}
 use Rattle.dpl_sweep.specs.declared.edge.Rule.{Rule}
 use Rattle.dpl_sweep.specs.declared.edge.Rule.TheVariants.{Either, Minus, Both}

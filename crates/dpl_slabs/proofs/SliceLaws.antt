@@ -9,13 +9,13 @@ use Rattle.std.proofs.lemmas.Int.{ints, by_lt_z}
 use Rattle.std.proofs.lemmas.List.{append_assoc, get_or_append_left, get_or-append-add, get_or_default, length-append, take_all}
 use Rattle.std.proofs.lemmas.List.Elements.{All-append, All-contains, Contains-append_cases, Contains-append_left, Contains-append_right, Contains-get_or, Contains-push, Contains-push_cases}
 use Rattle.std.proofs.lemmas.List.Sorted.{IsPermutation-append_comm, IsPermutation-append_left, IsPermutation-append_right, IsPermutation-sym, IsPermutation-trans, Contains-permutation}
-use Rattle.dpl_spec.specs.declared.Pt.{Pt}
-use Rattle.dpl_spec.specs.declared.Rect.{Rect}
-use Rattle.dpl_spec.specs.Squares.{Region, Has, Covers}
-use Rattle.dpl_spec.specs.Slabs.{IsSolid, ShareRow, StandApart, AreSlabsOf}
-use Rattle.dpl_spec.specs.Loops.{farthest, IsRectWithin, AreRectsWithin}
-use Rattle.dpl_spec.proofs.Ordered.{Contains-nil}
-use Rattle.dpl_spec.proofs.SlabLaws.{Covers-member, member-Covers}
+use Rattle.dpl_spec_split.specs.declared.Pt.{Pt}
+use Rattle.dpl_spec_split.specs.declared.Rect.{Rect}
+use Rattle.dpl_spec_split.specs.Squares.{Region, Has, Covers}
+use Rattle.dpl_spec_split.specs.Slabs.{IsSolid, ShareRow, StandApart, AreSlabsOf}
+use Rattle.dpl_spec_split.specs.Loops.{farthest, IsRectWithin, AreRectsWithin}
+use Rattle.dpl_spec_split.proofs.Ordered.{Contains-nil}
+use Rattle.dpl_spec_split.proofs.SlabLaws.{Covers-member, member-Covers}
 use Rattle.dpl_sweep.specs.declared.edge.Rule.TheVariants.{Minus}
 use Rattle.dpl_sweep.specs.Edges.{Holds}
 use Rattle.dpl_sweep.specs.Pieces.{AreApart}

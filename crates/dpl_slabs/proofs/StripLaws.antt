@@ -12,13 +12,13 @@ use Rattle.std.proofs.lemmas.List.Elements.{All-append, All-contains, Contains-a
 use Rattle.std.proofs.lemmas.Bool.{cases_lt, cases_cond}
 use Rattle.std.proofs.lemmas.List.Sorted.{IsPermutation-sym, Contains-permutation}
 use Rattle.std.proofs.Math.Seq.{take-suc}
-use Rattle.dpl_spec.specs.declared.Pt.{Pt}
-use Rattle.dpl_spec.specs.declared.Rect.{Rect}
-use Rattle.dpl_spec.specs.Squares.{Region, Covers}
-use Rattle.dpl_spec.specs.Slabs.{IsSolid, Follows, IsCanonical, AreSlabsOf}
-use Rattle.dpl_spec.specs.Loops.{farthest, AreRectsWithin}
-use Rattle.dpl_spec.proofs.Ordered.{AllPairs-rest, AllPairs-first, Contains-head, Contains-later, Contains-nil}
-use Rattle.dpl_spec.proofs.SlabLaws.{Covers-member, member-Covers}
+use Rattle.dpl_spec_split.specs.declared.Pt.{Pt}
+use Rattle.dpl_spec_split.specs.declared.Rect.{Rect}
+use Rattle.dpl_spec_split.specs.Squares.{Region, Covers}
+use Rattle.dpl_spec_split.specs.Slabs.{IsSolid, Follows, IsCanonical, AreSlabsOf}
+use Rattle.dpl_spec_split.specs.Loops.{farthest, AreRectsWithin}
+use Rattle.dpl_spec_split.proofs.Ordered.{AllPairs-rest, AllPairs-first, Contains-head, Contains-later, Contains-nil}
+use Rattle.dpl_spec_split.proofs.SlabLaws.{Covers-member, member-Covers}
 use Rattle.dpl_sweep.proofs.JoinLaws.{covers-same}
 use Rattle.dpl_sweep.specs.Orders.{CornerBefore, CornersRise}
 use Rattle.dpl_slabs.specs.Strips.{LieBelow, AddsStrip, AreStripsOf}

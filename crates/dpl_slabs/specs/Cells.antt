@@ -2,10 +2,10 @@
 use Rattle.std.specs.Prelude.{◌≡◌, ◌⊎◌, Bool, cond, ◌&&◌, ℤ, pos, ◌+ℤ◌, ◌≤ℤ◌, List, [], ◌∷◌, map}
 use Rattle.std.specs.List.{Contains}
 use lib.Signed.{lt_z, le_z}
-use Rattle.dpl_spec.specs.declared.Pt.{Pt}
-use Rattle.dpl_spec.specs.declared.Rect.{Rect}
-use Rattle.dpl_spec.specs.Squares.{Region}
-use Rattle.dpl_spec.specs.Zones.{turned_rect}
+use Rattle.dpl_spec_split.specs.declared.Pt.{Pt}
+use Rattle.dpl_spec_split.specs.declared.Rect.{Rect}
+use Rattle.dpl_spec_split.specs.Squares.{Region}
+use Rattle.dpl_spec_split.specs.Zones.{turned_rect}
 use Rattle.dpl_sweep.specs.declared.edge.Edge.{Edge}
 use Rattle.dpl_sweep.specs.declared.edge.Rule.{Rule}
 use Rattle.dpl_sweep.specs.Edges.{Holds, sum_left, change_a, change_b}

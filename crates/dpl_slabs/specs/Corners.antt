@@ -1,9 +1,9 @@
 -- Rectangles by their corners.
 use Rattle.std.specs.Prelude.{◌≡◌, ℕ, ◌⊎◌, ◌↔◌, ℤ, pos, ◌+ℤ◌, ◌≤ℤ◌}
-use Rattle.dpl_spec.specs.declared.Pt.{Pt}
-use Rattle.dpl_spec.specs.declared.Rect.{Rect}
-use Rattle.dpl_spec.specs.Squares.{Has}
-use Rattle.dpl_spec.specs.Loops.{step, IsPointWithin, IsRectWithin}
+use Rattle.dpl_spec_split.specs.declared.Pt.{Pt}
+use Rattle.dpl_spec_split.specs.declared.Rect.{Rect}
+use Rattle.dpl_spec_split.specs.Squares.{Has}
+use Rattle.dpl_spec_split.specs.Loops.{step, IsPointWithin, IsRectWithin}
 
 -- u and v are x and y, the lesser first
 abbrev pub AreOrdered : ℤ → ℤ → ℤ → ℤ → Type 0

@@ -1,11 +1,11 @@
 -- Two lists of rectangles in joint strips of rows.
 use Rattle.std.specs.Prelude.{◌≡◌, ℕ, ◌+◌, ◌<◌, ◌≤◌, ◌⊎◌, ◌↔◌, ℤ, ◌≤ℤ◌, ◌<ℤ◌, List, ◌++◌, length, take, drop, slice_index_or}
 use Rattle.std.specs.List.{All, Contains}
-use Rattle.dpl_spec.specs.declared.Pt.{Pt}
-use Rattle.dpl_spec.specs.declared.Rect.{Rect}
-use Rattle.dpl_spec.specs.Squares.{Covers}
-use Rattle.dpl_spec.specs.Slabs.{IsSolid, IsCanonical}
-use Rattle.dpl_spec.specs.Loops.{farthest, AreRectsWithin}
+use Rattle.dpl_spec_split.specs.declared.Pt.{Pt}
+use Rattle.dpl_spec_split.specs.declared.Rect.{Rect}
+use Rattle.dpl_spec_split.specs.Squares.{Covers}
+use Rattle.dpl_spec_split.specs.Slabs.{IsSolid, IsCanonical}
+use Rattle.dpl_spec_split.specs.Loops.{farthest, AreRectsWithin}
 use Rattle.dpl_sweep.specs.declared.edge.Rule.{Rule}
 use Rattle.dpl_slabs.specs.Cells.{Chosen}
 use Rattle.dpl_slabs.specs.Strips.{LieBelow}

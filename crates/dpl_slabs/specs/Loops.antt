@@ -2,8 +2,8 @@
 use Rattle.std.specs.Prelude.{◌≡◌, ℕ, cond, ℤ, pos, ◌-ℤ◌, ◌+ℤ◌, ◌<◌, ◌≤◌, List, length, slice_index_or, unsigned_abs}
 use Rattle.std.specs.List.{Contains}
 use lib.Signed.{lt_z}
-use Rattle.dpl_spec.specs.declared.Pt.{Pt}
-use Rattle.dpl_spec.specs.Loops.{step, steps, winding, LoopCovers, IsPointWithin, ArePointsWithin}
+use Rattle.dpl_spec_split.specs.declared.Pt.{Pt}
+use Rattle.dpl_spec_split.specs.Loops.{step, steps, winding, LoopCovers, IsPointWithin, ArePointsWithin}
 use Rattle.dpl_sweep.specs.declared.edge.Edge.{Edge}
 use Rattle.dpl_sweep.specs.Edges.{sum_left, change_a, change_b}
 use Rattle.dpl_sweep.specs.Passes.{AreLeft, AreUnitEdges}

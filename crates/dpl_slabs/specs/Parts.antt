@@ -1,11 +1,11 @@
 -- Disjoint sets of squares.
 use Rattle.std.specs.Prelude.{List}
 use Rattle.std.specs.List.{All, AllPairs, Any}
-use Rattle.dpl_spec.specs.declared.Pt.{Pt}
-use Rattle.dpl_spec.specs.declared.Rect.{Rect}
-use Rattle.dpl_spec.specs.Squares.{Region, Covers}
-use Rattle.dpl_spec.specs.Slabs.{IsCanonical}
-use Rattle.dpl_spec.specs.Loops.{farthest, AreRectsWithin}
+use Rattle.dpl_spec_split.specs.declared.Pt.{Pt}
+use Rattle.dpl_spec_split.specs.declared.Rect.{Rect}
+use Rattle.dpl_spec_split.specs.Squares.{Region, Covers}
+use Rattle.dpl_spec_split.specs.Slabs.{IsCanonical}
+use Rattle.dpl_spec_split.specs.Loops.{farthest, AreRectsWithin}
 
 -- the two have no square in common
 abbrev pub AreApart : List Rect → List Rect → Type 0

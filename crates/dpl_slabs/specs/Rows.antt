@@ -1,10 +1,10 @@
 -- Bars side by side in one row.
 use Rattle.std.specs.Prelude.{◌≡◌, ℕ, ◌<◌, ◌≤◌, ◌⊎◌, ◌↔◌, ◌≤ℤ◌, ◌<ℤ◌, List, [], ◌∷◌, ◌++◌, length, take, slice_index_or}
 use Rattle.std.specs.List.{All, AllPairs, Contains}
-use Rattle.dpl_spec.specs.declared.Pt.{Pt}
-use Rattle.dpl_spec.specs.declared.Rect.{Rect}
-use Rattle.dpl_spec.specs.Squares.{Has, Covers}
-use Rattle.dpl_spec.specs.Slabs.{IsSolid}
+use Rattle.dpl_spec_split.specs.declared.Pt.{Pt}
+use Rattle.dpl_spec_split.specs.declared.Rect.{Rect}
+use Rattle.dpl_spec_split.specs.Squares.{Has, Covers}
+use Rattle.dpl_spec_split.specs.Slabs.{IsSolid}
 
 -- the two have the same rows
 pub record AreLevel (r s : Rect) : Type 0 where

@@ -1,10 +1,10 @@
 -- Slabs of one set in any order, and sets that don't touch one another.
 use Rattle.std.specs.Prelude.{◌≡◌, ℕ, ◌<◌, ◌⊎◌, List, length, slice_index_or}
 use Rattle.std.specs.List.{All, AllPairs}
-use Rattle.dpl_spec.specs.declared.Pt.{Pt}
-use Rattle.dpl_spec.specs.declared.Rect.{Rect}
-use Rattle.dpl_spec.specs.Squares.{AreTouching, Covers}
-use Rattle.dpl_spec.specs.Slabs.{IsSolid, Follows}
+use Rattle.dpl_spec_split.specs.declared.Pt.{Pt}
+use Rattle.dpl_spec_split.specs.declared.Rect.{Rect}
+use Rattle.dpl_spec_split.specs.Squares.{AreTouching, Covers}
+use Rattle.dpl_spec_split.specs.Slabs.{IsSolid, Follows}
 
 -- no square of one touches a square of the other
 abbrev pub AreUntouched : List Rect → List Rect → Type 0

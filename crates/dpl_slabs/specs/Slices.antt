@@ -1,11 +1,11 @@
 -- Rectangles in slices of rows.
 use Rattle.std.specs.Prelude.{◌≡◌, ◌⊎◌, ◌↔◌, ℤ, ◌≤ℤ◌, ◌<ℤ◌, List}
 use Rattle.std.specs.List.{AllPairs, Contains}
-use Rattle.dpl_spec.specs.declared.Pt.{Pt}
-use Rattle.dpl_spec.specs.declared.Rect.{Rect}
-use Rattle.dpl_spec.specs.Squares.{Region, SameSquares, Has, Covers}
-use Rattle.dpl_spec.specs.Slabs.{IsSolid}
-use Rattle.dpl_spec.specs.Loops.{farthest, IsRectWithin, AreRectsWithin}
+use Rattle.dpl_spec_split.specs.declared.Pt.{Pt}
+use Rattle.dpl_spec_split.specs.declared.Rect.{Rect}
+use Rattle.dpl_spec_split.specs.Squares.{Region, SameSquares, Has, Covers}
+use Rattle.dpl_spec_split.specs.Slabs.{IsSolid}
+use Rattle.dpl_spec_split.specs.Loops.{farthest, IsRectWithin, AreRectsWithin}
 use Rattle.dpl_sweep.specs.Pieces.{AreApart}
 use Rattle.dpl_slabs.specs.Rows.{IsLeftOf}
 

@@ -1,9 +1,9 @@
 //! Rectangles in blocks of columns, as upright wires are.
 ghost use Rattle.std.specs.Prelude.{◌≡◌, ◌<◌, ◌≤◌, IfOk, IfSome, OnOk, IsNone, length, drop};
 ghost use Rattle.std.specs.List.Sorted.{IsPermutation};
-ghost use Rattle.dpl_spec.specs.Squares.{Covers};
-ghost use Rattle.dpl_spec.specs.Loops.{farthest, AreRectsWithin};
-ghost use Rattle.dpl_spec.specs.Zones.{turned};
+ghost use Rattle.dpl_spec_split.specs.Squares.{Covers};
+ghost use Rattle.dpl_spec_split.specs.Loops.{farthest, AreRectsWithin};
+ghost use Rattle.dpl_spec_split.specs.Zones.{turned};
 ghost use Rattle.dpl_sweep.specs.Pieces.{AreApart};
 ghost use Rattle.dpl_sweep.specs.Orders.{CornersRise};
 ghost use Rattle.dpl_slabs.specs.Blocks.{AddsBlock, AreBlocksOf, LieLeft, EitherCovers};

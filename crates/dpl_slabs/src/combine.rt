@@ -1,13 +1,13 @@
 //! Any two sets in one.
 ghost use Rattle.std.specs.Prelude.{◌≡◌, ◌≤◌, [], ◌∷◌, List, IfOk, OnOk, unsigned_abs};
-ghost use Rattle.dpl_spec.specs.declared.Rect.{Rect};
-ghost use Rattle.dpl_spec.specs.Squares.{SameSquares};
-ghost use Rattle.dpl_spec.specs.Slabs.{AreSlabsOf};
+ghost use Rattle.dpl_spec_split.specs.declared.Rect.{Rect};
+ghost use Rattle.dpl_spec_split.specs.Squares.{SameSquares};
+ghost use Rattle.dpl_spec_split.specs.Slabs.{AreSlabsOf};
 ghost use Rattle.dpl_sweep.specs.declared.edge.Rule.{Rule};
 ghost use Rattle.dpl_sweep.specs.Edges.{Told};
 ghost use Rattle.dpl_sweep.specs.Passes.{AreUnitEdges, IsClosed};
-ghost use Rattle.dpl_spec.specs.Loops.{farthest, IsRectWithin, AreRectsWithin};
-ghost use Rattle.dpl_spec.specs.Zones.{turned_rect};
+ghost use Rattle.dpl_spec_split.specs.Loops.{farthest, IsRectWithin, AreRectsWithin};
+ghost use Rattle.dpl_spec_split.specs.Zones.{turned_rect};
 ghost use Rattle.dpl_slabs.specs.Cells.{AddsRects, Chosen, turned_rects};
 ghost use Rattle.dpl_slabs.specs.Slices.{Without};
 

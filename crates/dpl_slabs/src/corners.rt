@@ -1,6 +1,6 @@
 //! Rectangles by their corners.
 ghost use Rattle.std.specs.Prelude.{◌≡◌, ◌≤◌, ◌↔◌, IfSome, IsTrue, unsigned_abs};
-ghost use Rattle.dpl_spec.specs.Loops.{farthest, IsPointWithin};
+ghost use Rattle.dpl_spec_split.specs.Loops.{farthest, IsPointWithin};
 ghost use Rattle.dpl_slabs.specs.Corners.{AreOrdered, IsSpanned, IsUpright, IsThrough};
 
 use dpl_base::{Pt, Rect};

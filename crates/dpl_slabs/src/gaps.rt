@@ -1,8 +1,8 @@
 //! Bars of the same rows with gaps taken out of them, by one walk along the columns.
 ghost use Rattle.std.specs.Prelude.{IfOk, OnOk};
 ghost use Rattle.std.specs.List.{AllPairs, Contains};
-ghost use Rattle.dpl_spec.specs.declared.Rect.{Rect};
-ghost use Rattle.dpl_spec.specs.Slabs.{AreSlabsOf, IsSolid, StandApart};
+ghost use Rattle.dpl_spec_split.specs.declared.Rect.{Rect};
+ghost use Rattle.dpl_spec_split.specs.Slabs.{AreSlabsOf, IsSolid, StandApart};
 ghost use Rattle.dpl_slabs.specs.Rows.{AreLevel, AreAllLevel, AreSpaced};
 ghost use Rattle.dpl_slabs.specs.Alone.{ReachTo};
 ghost use Rattle.dpl_slabs.specs.Slices.{Without};

@@ -1,10 +1,10 @@
 //! Two sets in one, joint strip by joint strip of rows.
 ghost use Rattle.std.specs.Prelude.{◌+◌, ◌<◌, ◌≤ℤ◌, ◌++◌, IfOk, IfSome, OnOk, IsNone, length, slice_index_or};
 ghost use Rattle.std.specs.List.{Contains};
-ghost use Rattle.dpl_spec.specs.declared.Rect.{Rect};
-ghost use Rattle.dpl_spec.specs.Slabs.{AreSlabsOf, IsCanonical};
+ghost use Rattle.dpl_spec_split.specs.declared.Rect.{Rect};
+ghost use Rattle.dpl_spec_split.specs.Slabs.{AreSlabsOf, IsCanonical};
 ghost use Rattle.dpl_sweep.specs.Orders.{CornersRise};
-ghost use Rattle.dpl_spec.specs.Loops.{farthest, AreRectsWithin};
+ghost use Rattle.dpl_spec_split.specs.Loops.{farthest, AreRectsWithin};
 ghost use Rattle.dpl_slabs.specs.Cells.{Chosen};
 ghost use Rattle.dpl_slabs.specs.Strips.{LieBelow, AddsStrip};
 ghost use Rattle.dpl_slabs.specs.Joints.{IsRaised, BeginAbove, IsJointStrip};

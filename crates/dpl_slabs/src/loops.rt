@@ -1,10 +1,10 @@
 //! The squares of a loop.
 ghost use Rattle.std.specs.Prelude.{◌≡◌, ◌⊎◌, ◌↔◌, ℕ, IfOk, IfSome, OnOk};
-ghost use Rattle.dpl_spec.specs.declared.Rect.{Rect};
-ghost use Rattle.dpl_spec.specs.declared.Pt.{Pt};
-ghost use Rattle.dpl_spec.specs.Squares.{Covers, Has};
-ghost use Rattle.dpl_spec.specs.Slabs.{AreSlabsOf};
-ghost use Rattle.dpl_spec.specs.Loops.{farthest, LoopCovers, SomeLoopCovers, ArePointsWithin, IsPointWithin, AreLoopsWithin, IsRectWithin, AreRectsWithin};
+ghost use Rattle.dpl_spec_split.specs.declared.Rect.{Rect};
+ghost use Rattle.dpl_spec_split.specs.declared.Pt.{Pt};
+ghost use Rattle.dpl_spec_split.specs.Squares.{Covers, Has};
+ghost use Rattle.dpl_spec_split.specs.Slabs.{AreSlabsOf};
+ghost use Rattle.dpl_spec_split.specs.Loops.{farthest, LoopCovers, SomeLoopCovers, ArePointsWithin, IsPointWithin, AreLoopsWithin, IsRectWithin, AreRectsWithin};
 ghost use Rattle.dpl_slabs.specs.Loops.{AddsStep, AreStepsOf, AreEdgesOf};
 
 use crate::corners::{is_same, rect_through};

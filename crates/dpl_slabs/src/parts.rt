@@ -13,7 +13,7 @@ pub struct Parts {
 
 impl Model for Parts {
     ghost use Rattle.std.specs.Prelude.{List};
-    ghost use Rattle.dpl_spec.specs.declared.Rect.{Rect};
+    ghost use Rattle.dpl_spec_split.specs.declared.Rect.{Rect};
     ghost use Rattle.dpl_slabs.specs.Parts.{AreParts};
 
     ghost Value = { List (List Rect) };

@@ -1,7 +1,7 @@
 //! The slabs of bars side by side in one row.
 ghost use Rattle.std.specs.Prelude.{◌<◌, ◌↔◌, IfOk, IsTrue, length};
-ghost use Rattle.dpl_spec.specs.Squares.{Covers};
-ghost use Rattle.dpl_spec.specs.Slabs.{AreSlabsOf, IsSolid};
+ghost use Rattle.dpl_spec_split.specs.Squares.{Covers};
+ghost use Rattle.dpl_spec_split.specs.Slabs.{AreSlabsOf, IsSolid};
 ghost use Rattle.dpl_sweep.specs.Orders.{CornersRise};
 ghost use Rattle.dpl_slabs.specs.Rows.{AreLevel, AreAllLevel, AreSpaced, IsBarJoined, IsRow};
 

@@ -1,10 +1,10 @@
 //! A set of squares.
 ghost use Rattle.std.specs.List.{AllPairs};
 ghost use Rattle.std.specs.Prelude.{◌≡◌, ◌↔◌, ◌⊎◌, IsTrue, IfSome, IfOk, OnOk, IsErr, IsNone, [], ◌∷◌, ◌++◌};
-ghost use Rattle.dpl_spec.specs.Squares.{Covers, Has, SameSquares, IsLeast};
-ghost use Rattle.dpl_spec.specs.Slabs.{IsCanonical, IsSolid, AreSlabsOf};
-ghost use Rattle.dpl_spec.specs.Loops.{farthest, SomeLoopCovers, IsRectWithin, AreRectsWithin, AreLoopsWithin};
-ghost use Rattle.dpl_spec.specs.Zones.{at, turned};
+ghost use Rattle.dpl_spec_split.specs.Squares.{Covers, Has, SameSquares, IsLeast};
+ghost use Rattle.dpl_spec_split.specs.Slabs.{IsCanonical, IsSolid, AreSlabsOf};
+ghost use Rattle.dpl_spec_split.specs.Loops.{farthest, SomeLoopCovers, IsRectWithin, AreRectsWithin, AreLoopsWithin};
+ghost use Rattle.dpl_spec_split.specs.Zones.{at, turned};
 ghost use Rattle.dpl_slabs.specs.Parts.{union_of};
 ghost use Rattle.dpl_slabs.specs.Scattered.{AreScattered, AreUntouched};
 
@@ -29,14 +29,14 @@ pub struct Slabs {
 
 impl Model for Slabs {
     ghost use Rattle.std.specs.Prelude.{List};
-    ghost use Rattle.dpl_spec.specs.declared.Rect.{Rect};
+    ghost use Rattle.dpl_spec_split.specs.declared.Rect.{Rect};
 
     ghost Value = { List Rect };
 
     ghost view = { λ s. s.rects.items };
 
-    ghost use Rattle.dpl_spec.specs.Slabs.{IsCanonical};
-    ghost use Rattle.dpl_spec.specs.Loops.{farthest, AreRectsWithin};
+    ghost use Rattle.dpl_spec_split.specs.Slabs.{IsCanonical};
+    ghost use Rattle.dpl_spec_split.specs.Loops.{farthest, AreRectsWithin};
 
     ghost invariant = { λ s. IsCanonical s.rects.items × AreRectsWithin farthest s.rects.items };
 }

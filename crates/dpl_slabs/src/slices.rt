@@ -2,9 +2,9 @@
 ghost use Rattle.std.specs.Prelude.{◌<◌, ◌↔◌, ◌≤ℤ◌, ◌++◌, IsTrue, IfOk, IfSome, OnOk};
 ghost use Rattle.std.specs.List.{AllPairs};
 ghost use Rattle.std.specs.List.Sorted.{IsPermutation};
-ghost use Rattle.dpl_spec.specs.Squares.{Covers};
-ghost use Rattle.dpl_spec.specs.Slabs.{StandApart, AreSlabsOf};
-ghost use Rattle.dpl_spec.specs.Loops.{farthest, IsRectWithin, AreRectsWithin};
+ghost use Rattle.dpl_spec_split.specs.Squares.{Covers};
+ghost use Rattle.dpl_spec_split.specs.Slabs.{StandApart, AreSlabsOf};
+ghost use Rattle.dpl_spec_split.specs.Loops.{farthest, IsRectWithin, AreRectsWithin};
 ghost use Rattle.dpl_slabs.specs.Rows.{AreAllLevel, AreSpaced, IsRow};
 ghost use Rattle.dpl_sweep.specs.Pieces.{AreApart};
 ghost use Rattle.dpl_slabs.specs.Slices.{InRows, Without, IsPartOf, Widens, PushesBar, AddsPart, IsCutTo, ArePiecesBelow, ArePiecesOf};

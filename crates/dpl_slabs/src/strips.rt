@@ -1,9 +1,9 @@
 //! The slabs of rectangles, strip by strip of rows.
 ghost use Rattle.std.specs.Prelude.{ℕ, ◌<◌, ◌≤◌, IfOk, OnOk, length, take, drop};
 ghost use Rattle.std.specs.List.Sorted.{IsPermutation};
-ghost use Rattle.dpl_spec.specs.Squares.{Covers};
-ghost use Rattle.dpl_spec.specs.Slabs.{AreSlabsOf, IsCanonical};
-ghost use Rattle.dpl_spec.specs.Loops.{farthest, AreRectsWithin};
+ghost use Rattle.dpl_spec_split.specs.Squares.{Covers};
+ghost use Rattle.dpl_spec_split.specs.Slabs.{AreSlabsOf, IsCanonical};
+ghost use Rattle.dpl_spec_split.specs.Loops.{farthest, AreRectsWithin};
 ghost use Rattle.dpl_sweep.specs.Orders.{CornersRise};
 ghost use Rattle.dpl_slabs.specs.Cells.{turned_rects};
 ghost use Rattle.dpl_slabs.specs.Strips.{LieBelow, AddsStrip};

@@ -5,9 +5,9 @@ use Rattle.std.specs.List.{AllPairs, Contains}
 use Rattle.std.proofs.lemmas.Bool.{cases_eq, cases_order, eqb-true, eqb-false, eq-eqb, ne_eqb, true≢false}
 use Rattle.std.proofs.lemmas.List.{get_or_default}
 use Rattle.std.proofs.lemmas.List.Elements.{All-contains}
-use Rattle.dpl_spec.specs.Graphs.{Walk, stay, step, IsDistance, IsRoot, graph_of}
-use Rattle.dpl_spec.specs.Summary.{Row, IsStar, AreStars}
-use Rattle.dpl_spec.proofs.GraphLaws.{Walk-trans}
+use Rattle.dpl_spec_split.specs.Graphs.{Walk, stay, step, IsDistance, IsRoot, graph_of}
+use Rattle.dpl_spec_split.specs.Summary.{Row, IsStar, AreStars}
+use Rattle.dpl_spec_split.proofs.GraphLaws.{Walk-trans}
 use Rattle.dpl_graph.specs.Laws.{AreOrdered}
 use Rattle.dpl_graph.proofs.Walks.{graph_of-undirected, Walk-reverse, Walk-snoc, root-along}
 use Rattle.dpl_graph.proofs.Search.{graph_of-distances, graph_of-root}

@@ -4,7 +4,7 @@ use Rattle.std.specs.List.{AllPairs, Contains}
 use Rattle.std.proofs.lemmas.Bool.{true≢false, cases_eq}
 use Rattle.std.proofs.lemmas.List.{get_or_default, take_more, length-set, get_or-map, length-map, get_or-set_same, get_or-set_other}
 use Rattle.std.proofs.lemmas.List.Elements.{All-nil, All-push, All-contains, All-weaker, Contains-get_or, Contains-push, Contains-push_cases, Contains-append_left}
-use Rattle.dpl_spec.specs.Graphs.{graph_of}
+use Rattle.dpl_spec_split.specs.Graphs.{graph_of}
 use Rattle.dpl_stars.specs.declared.list.Star.{Star}
 use Rattle.dpl_stars.specs.Stars.{own_row, odd_row, IsStarList}
 use Rattle.dpl_stars.specs.Links.{star, Joins, HasMates, IsNext, AreMates, IsLinked, AreLinks}

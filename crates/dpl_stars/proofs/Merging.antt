@@ -1,8 +1,8 @@
 -- The summary of the links of two summaries is the summary of both edge lists.
 use Rattle.std.proofs.Common.{◌≡◌, ℕ, ◌<◌, List, ◌++◌, map, refl}
 use Rattle.std.proofs.lemmas.List.Elements.{All-append}
-use Rattle.dpl_spec.specs.Graphs.{graph_of}
-use Rattle.dpl_spec.specs.Summary.{AreStars, HasOddCycle}
+use Rattle.dpl_spec_split.specs.Graphs.{graph_of}
+use Rattle.dpl_spec_split.specs.Summary.{AreStars, HasOddCycle}
 use Rattle.dpl_stars.specs.declared.list.Star.{Star}
 use Rattle.dpl_stars.specs.declared.joined.Joined.{Joined}
 use Rattle.dpl_stars.specs.declared.joined.Joined.TheVariants.{Stars, Odd}

@@ -1,8 +1,8 @@
 -- A list of edges has one summary.
 use Rattle.std.proofs.Common.{◌≡◌, List, [], ◌∷◌, map, sym, refl, ap, ◌∙◌}
-use Rattle.dpl_spec.specs.Graphs.{graph_of}
-use Rattle.dpl_spec.specs.Summary as summary
-use Rattle.dpl_spec.proofs.Uniqueness.{summary-unique}
+use Rattle.dpl_spec_split.specs.Graphs.{graph_of}
+use Rattle.dpl_spec_split.specs.Summary as summary
+use Rattle.dpl_spec_split.proofs.Uniqueness.{summary-unique}
 use Rattle.dpl_stars.specs.declared.list.Star.{Star}
 use Rattle.dpl_stars.specs.declared.joined.Joined.{Joined}
 use Rattle.dpl_stars.specs.declared.joined.Joined.TheVariants.{Stars, Odd}

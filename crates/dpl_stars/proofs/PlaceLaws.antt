@@ -8,7 +8,7 @@ use Rattle.std.proofs.lemmas.List.{get_or_default, map_push, take_more, append_a
 use Rattle.std.proofs.lemmas.List.Concat.{flat_map-append}
 use Rattle.std.proofs.lemmas.List.Elements.{All-nil, All-push}
 use Rattle.std.proofs.lemmas.List.Sorted.{searched}
-use Rattle.dpl_spec.specs.Graphs.{graph_of}
+use Rattle.dpl_spec_split.specs.Graphs.{graph_of}
 use Rattle.dpl_stars.specs.Places.{ends_of, edge_at, ArePlaced}
 
 -- the first element, or a later one

@@ -5,10 +5,10 @@ use Rattle.std.proofs.lemmas.Bool.{cases_lt}
 use Rattle.std.specs.List.{All, Contains}
 use Rattle.std.proofs.lemmas.List.{get_or_default, get_or-map, length-map}
 use Rattle.std.proofs.lemmas.List.Elements.{All-contains, All-weaker, Contains-get_or}
-use Rattle.dpl_spec.specs.Graphs.{Graph, Walk, stay, step, IsDistance, IsRoot, graph_of}
-use Rattle.dpl_spec.specs.Summary.{Row, IsStar, AreStars, HasOddCycle}
-use Rattle.dpl_spec.proofs.GraphLaws.{distance-unique, root-unique}
-use Rattle.dpl_spec.proofs.Uniqueness.{star-unique}
+use Rattle.dpl_spec_split.specs.Graphs.{Graph, Walk, stay, step, IsDistance, IsRoot, graph_of}
+use Rattle.dpl_spec_split.specs.Summary.{Row, IsStar, AreStars, HasOddCycle}
+use Rattle.dpl_spec_split.proofs.GraphLaws.{distance-unique, root-unique}
+use Rattle.dpl_spec_split.proofs.Uniqueness.{star-unique}
 use Rattle.dpl_graph.specs.Laws.{AreOrdered, HasLevelEdge}
 use Rattle.dpl_graph.specs.Levels.{AreLevels}
 use Rattle.dpl_graph.proofs.Walks.{IsUndirected, graph_of-undirected, Walk-reverse, Reaches-sym, root-along, distance-self, Walk-nowhere}

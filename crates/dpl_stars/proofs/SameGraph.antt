@@ -3,10 +3,10 @@ use Rattle.std.proofs.Common.{◌≡◌, ℕ, ◌+◌, ◌%◌, inl, inr, Bool, 
 use Rattle.std.specs.Prelude.{◌↔◌}
 use Rattle.std.specs.List.{Contains}
 use Rattle.std.proofs.lemmas.Bool.{cases_order}
-use Rattle.dpl_spec.specs.Graphs.{Graph, Walk, stay, step, IsDistance, AreEdges, graph_of}
-use Rattle.dpl_spec.specs.Summary.{Stars, Odd, IsStar, IsSummary, HasOddCycle}
-use Rattle.dpl_spec.specs.Summary as summary
-use Rattle.dpl_spec.specs.Colours.{AreRoots}
+use Rattle.dpl_spec_split.specs.Graphs.{Graph, Walk, stay, step, IsDistance, AreEdges, graph_of}
+use Rattle.dpl_spec_split.specs.Summary.{Stars, Odd, IsStar, IsSummary, HasOddCycle}
+use Rattle.dpl_spec_split.specs.Summary as summary
+use Rattle.dpl_spec_split.specs.Colours.{AreRoots}
 
 -- the same pairs are joined
 abbrev pub SameEdges : Graph → Graph → Type 0

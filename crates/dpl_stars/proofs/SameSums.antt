@@ -3,10 +3,10 @@ use Rattle.std.proofs.Common.{◌≡◌, ℕ, ◌+◌, ◌-◌, ◌%◌, inl, in
 use Rattle.std.specs.Prelude.{◌==◌}
 use Rattle.std.proofs.lemmas.Bool.{cases_eq}
 use Rattle.std.proofs.lemmas.List.Elements.{Contains-append_left, Contains-append_right, Contains-append_cases}
-use Rattle.dpl_spec.specs.Graphs.{Graph, Walk, stay, step, IsRoot, graph_of}
-use Rattle.dpl_spec.specs.Summary.{Row, Stars, Odd, IsStar, AreStars, IsSummary, HasOddCycle}
-use Rattle.dpl_spec.specs.Summary as summary
-use Rattle.dpl_spec.proofs.GraphLaws.{Walk-trans}
+use Rattle.dpl_spec_split.specs.Graphs.{Graph, Walk, stay, step, IsRoot, graph_of}
+use Rattle.dpl_spec_split.specs.Summary.{Row, Stars, Odd, IsStar, AreStars, IsSummary, HasOddCycle}
+use Rattle.dpl_spec_split.specs.Summary as summary
+use Rattle.dpl_spec_split.proofs.GraphLaws.{Walk-trans}
 use Rattle.dpl_graph.specs.Laws.{AreOrdered}
 use Rattle.dpl_graph.proofs.Walks.{graph_of-undirected, Walk-reverse, Walk-first}
 use Rattle.dpl_graph.proofs.Parity.{cycle-closed, odd-closed}

@@ -1,8 +1,8 @@
 -- What the steps of a summary leave.
 use Rattle.std.proofs.Common.{◌≡◌, ℕ, ◌<◌, List, map, length, sym, subst}
 use Rattle.std.specs.List.{All}
-use Rattle.dpl_spec.specs.Graphs.{graph_of}
-use Rattle.dpl_spec.specs.Summary.{AreStars, HasOddCycle}
+use Rattle.dpl_spec_split.specs.Graphs.{graph_of}
+use Rattle.dpl_spec_split.specs.Summary.{AreStars, HasOddCycle}
 use Rattle.dpl_graph.specs.Laws.{AreOrdered}
 use Rattle.dpl_graph.specs.Levels.{AreLevels}
 use Rattle.dpl_stars.specs.declared.list.Star.{Star}

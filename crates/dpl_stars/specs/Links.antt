@@ -1,7 +1,7 @@
 -- Edges that stand for the rows of a summary.
 use Rattle.std.specs.Prelude.{◌≡◌, ◌≢◌, ℕ, ◌<◌, ◌⊎◌, Bool, true, false, not, List, [], ◌∷◌, ◌++◌, length, slice_index}
 use Rattle.std.specs.List.{All, Contains}
-use Rattle.dpl_spec.specs.Graphs.{graph_of}
+use Rattle.dpl_spec_split.specs.Graphs.{graph_of}
 use Rattle.dpl_stars.specs.declared.list.Star.{Star}
 use Rattle.dpl_stars.specs.declared.joined.Joined.{Joined}
 use Rattle.dpl_stars.specs.declared.joined.Joined.TheVariants.{Stars}

@@ -1,7 +1,7 @@
 -- The numbers that edges touch, and the edges by their places among them.
 use Rattle.std.specs.Prelude.{◌≡◌, ℕ, ◌%◌, ◌<◌, ◌↔◌, ◌==◌, List, [], ◌∷◌, length, slice_index, slice_index_or, map}
 use Rattle.std.specs.List.{AllPairs, Any, Contains, flat_map}
-use Rattle.dpl_spec.specs.Graphs.{graph_of}
+use Rattle.dpl_spec_split.specs.Graphs.{graph_of}
 use Rattle.dpl_graph.specs.Levels.{AreEdgesBelow}
 use Rattle.dpl_stars.specs.declared.list.Star.{Star}
 

@@ -1,8 +1,8 @@
 -- A summary as the definitions see it.
 use Rattle.std.specs.Prelude.{◌≡◌, ℕ, ◌<◌, List, [], ◌∷◌, ◌++◌, map}
 use Rattle.std.specs.List.{All}
-use Rattle.dpl_spec.specs.Graphs.{graph_of}
-use Rattle.dpl_spec.specs.Summary as summary
+use Rattle.dpl_spec_split.specs.Graphs.{graph_of}
+use Rattle.dpl_spec_split.specs.Summary as summary
 use Rattle.dpl_stars.specs.declared.list.Star.{Star}
 use Rattle.dpl_stars.specs.declared.joined.Joined.{Joined}
 use Rattle.dpl_stars.specs.declared.joined.Joined.TheVariants.{Stars, Odd}

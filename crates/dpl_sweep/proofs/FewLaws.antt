@@ -5,8 +5,8 @@ use Rattle.std.specs.Int.{int_min}
 use Rattle.std.specs.List.{All}
 use Rattle.std.proofs.lemmas.Int.{ints, by_lt_z}
 use Rattle.std.proofs.lemmas.List.Elements.{All-more, All-weaker, All-contains, Contains-push}
-use Rattle.dpl_spec.specs.declared.Rect.{Rect}
-use Rattle.dpl_spec.specs.Squares.{Covers, SameSquares}
+use Rattle.dpl_spec_split.specs.declared.Rect.{Rect}
+use Rattle.dpl_spec_split.specs.Squares.{Covers, SameSquares}
 use Rattle.dpl_sweep.specs.declared.edge.Edge.{Edge}
 use Rattle.dpl_sweep.specs.declared.edge.Rule.{Rule}
 use Rattle.dpl_sweep.specs.declared.run.Run.{Run}

@@ -1,8 +1,8 @@
 -- What is left once all edges are passed.
 use Rattle.std.specs.Prelude.{◌⊎◌, ◌↔◌, ℤ, ◌≤ℤ◌, ◌<ℤ◌, List}
-use Rattle.dpl_spec.specs.declared.Pt.{Pt}
-use Rattle.dpl_spec.specs.declared.Rect.{Rect}
-use Rattle.dpl_spec.specs.Squares.{Covers}
+use Rattle.dpl_spec_split.specs.declared.Pt.{Pt}
+use Rattle.dpl_spec_split.specs.declared.Rect.{Rect}
+use Rattle.dpl_spec_split.specs.Squares.{Covers}
 use Rattle.dpl_sweep.specs.declared.bands.Bands.{Bands}
 use Rattle.dpl_sweep.specs.Pieces.{AreApart, EndBefore}
 use Rattle.dpl_sweep.specs.Rows.{run_at}

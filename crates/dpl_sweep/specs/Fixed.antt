@@ -1,9 +1,9 @@
 -- Bands of rows that stay the same from the first edge to the last.
 use Rattle.std.specs.Prelude.{◌≡◌, ℕ, ◌+◌, ◌<◌, ◌≤◌, ◌⊎◌, ◌↔◌, ℤ, pos, ◌≤ℤ◌, ◌<ℤ◌, List, [], ◌∷◌, ◌++◌, length, slice_index_or}
 use Rattle.std.specs.List.{All, Contains}
-use Rattle.dpl_spec.specs.declared.Pt.{Pt}
-use Rattle.dpl_spec.specs.declared.Rect.{Rect}
-use Rattle.dpl_spec.specs.Squares.{Covers}
+use Rattle.dpl_spec_split.specs.declared.Pt.{Pt}
+use Rattle.dpl_spec_split.specs.declared.Rect.{Rect}
+use Rattle.dpl_spec_split.specs.Squares.{Covers}
 use Rattle.dpl_sweep.specs.declared.edge.Edge.{Edge}
 use Rattle.dpl_sweep.specs.declared.edge.Rule.{Rule}
 use Rattle.dpl_sweep.specs.declared.run.Run.{Run}

@@ -5,7 +5,7 @@ ghost use Rattle.dpl_sweep.specs.Closing.{PutsDown};
 
 use crate::bands::{Bands, Parts, take_apart};
 use crate::run::put_run;
-use dpl_spec::Rect;
+use dpl_spec_split::Rect;
 use std::alloc::AllocError;
 
 impl Bands {

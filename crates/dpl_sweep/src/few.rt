@@ -1,7 +1,7 @@
 //! Edges that begin and end at few rows, band by band: the rows between two neighbours of these have the same run at each column.
 ghost use Rattle.std.specs.Prelude.{◌≡◌, ◌⊎◌, ◌<◌, ◌^◌, ◌≤ℤ◌, ◌<ℤ◌, IfOk, OnOk, length};
 ghost use Rattle.std.specs.List.{All, Contains};
-ghost use Rattle.dpl_spec.specs.Squares.{Covers, SameSquares};
+ghost use Rattle.dpl_spec_split.specs.Squares.{Covers, SameSquares};
 ghost use Rattle.dpl_sweep.specs.declared.edge.Edge.{Edge};
 ghost use Rattle.dpl_sweep.specs.Edges.{Told};
 ghost use Rattle.dpl_sweep.specs.declared.bands.Bands.{One};
@@ -15,7 +15,7 @@ use crate::edge::{Edge, Rule};
 use crate::fixed::pieces_of_many;
 use crate::run::{Run, moved, put_run};
 use crate::step::misses;
-use dpl_spec::Rect;
+use dpl_spec_split::Rect;
 use std::alloc::{AllocError, Global};
 
 /// Up to how many edges are swept band by band, however many bands there are.

@@ -1,7 +1,7 @@
 //! Edges that are beside few bands each: the rows between two neighbours among all rows of edges keep one run from the first edge to the last.
 ghost use Rattle.std.specs.Prelude.{◌≡◌, ◌+◌, ◌-◌, ◌<◌, ◌≤◌, ◌^◌, ◌≤ℤ◌, ℕ, IfOk, OnOk, length, take};
 ghost use Rattle.std.specs.List.{All, Contains};
-ghost use Rattle.dpl_spec.specs.Squares.{Covers, SameSquares};
+ghost use Rattle.dpl_spec_split.specs.Squares.{Covers, SameSquares};
 ghost use Rattle.dpl_sweep.specs.declared.edge.Edge.{Edge};
 ghost use Rattle.dpl_sweep.specs.Edges.{Told};
 ghost use Rattle.dpl_sweep.specs.Fixed.{AddsStep, AreInOrder, AreReady, AreSpansOf, AreSteps, HasEnds, span_at};
@@ -14,7 +14,7 @@ use crate::engine::swept_pieces;
 use crate::few::pass_band;
 use crate::order::sort_rows;
 use crate::run::{Run, put_run};
-use dpl_spec::Rect;
+use dpl_spec_split::Rect;
 use std::alloc::{AllocError, Global};
 
 /// Beside how many spans an edge may be on average.

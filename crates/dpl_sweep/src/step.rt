@@ -1,6 +1,6 @@
 //! One edge's step over all bands.
 ghost use Rattle.std.specs.Prelude.{◌≡◌, ◌+◌, ◌<◌, ◌≤◌, ◌^◌, ◌<ℤ◌, ◌≤ℤ◌, ◌⊎◌, ◌↔◌, OnOk, IfOk, IsTrue, IsFalse, unsigned_abs};
-ghost use Rattle.dpl_spec.specs.declared.Rect.{Rect};
+ghost use Rattle.dpl_spec_split.specs.declared.Rect.{Rect};
 ghost use Rattle.dpl_sweep.specs.declared.bands.Bands.{Bands, One};
 ghost use Rattle.dpl_sweep.specs.Rows.{AreRows, IsSmall};
 ghost use Rattle.dpl_sweep.specs.Sweeping.{Sweeps};
@@ -9,7 +9,7 @@ use crate::balance::{is_mended, join, mended};
 use crate::bands::{Bands, Lag, cut_over, follow_both};
 use crate::edge::{Edge, Rule};
 use crate::run::{Run, moved};
-use dpl_spec::Rect;
+use dpl_spec_split::Rect;
 use std::alloc::{AllocError, Global};
 use std::mem;
 

@@ -2,14 +2,14 @@
 use Rattle.std.proofs.Common.{◌≡◌, ◌≢◌, ℕ, Bool, true, false, not, ◌&&◌, ◌||◌, ◌⊎◌, inl, inr, cond, eqb, List, [], ◌∷◌, ◌++◌, length, Option, Some, None, Result, Ok, Err, refl, sym, subst, ap, ◌∙◌, append_assoc}
 use Rattle.std.proofs.lemmas.Bool.{eqb-true, eqb-false, eq-eqb}
 use Rattle.std.proofs.lemmas.List.Sums.{fold_push}
-use Rattle.dpl_format.specs.Kinds as kinds
-use Rattle.dpl_format.specs.Faults.{Fault}
-use Rattle.dpl_format.specs.Records.{Record, record_at}
-use Rattle.dpl_format.specs.Grammar.{Grammar, one, both, either, many, maybe, Has, a}
-use Rattle.dpl_format.specs.Grammar as grammar
-use Rattle.dpl_format.specs.Stream.{owner, names, refusal, refusal_in}
-use Rattle.dpl_format.specs.Tree.{Body, body_of}
-use Rattle.dpl_format.specs.Layout.{IsFirstFault}
+use Rattle.dpl_spec_format.specs.Kinds as kinds
+use Rattle.dpl_spec_format.specs.Faults.{Fault}
+use Rattle.dpl_spec_format.specs.Records.{Record, record_at}
+use Rattle.dpl_spec_format.specs.Grammar.{Grammar, one, both, either, many, maybe, Has, a}
+use Rattle.dpl_spec_format.specs.Grammar as grammar
+use Rattle.dpl_spec_format.specs.Stream.{owner, names, refusal, refusal_in}
+use Rattle.dpl_spec_format.specs.Tree.{Body, body_of}
+use Rattle.dpl_spec_format.specs.Layout.{IsFirstFault}
 use Rattle.dpl_syntax.specs.Reading as reading
 use Rattle.dpl_syntax.specs.Reading.{◌>>=◌, Slots, Item, must, may, turned, named, points, items_of, pick, body_at}
 use Rattle.dpl_syntax.specs.Reached.{Reached}

@@ -2,15 +2,15 @@
 use Rattle.std.proofs.Common.{◌≡◌, ◌≢◌, ℕ, Bool, true, false, not, ◌&&◌, ◌||◌, ◌⊎◌, inl, inr, cond, eqb, List, [], ◌∷◌, ◌++◌, map, Option, Some, None, Result, Ok, Err, refl, sym, subst, ap, ◌∙◌, append_assoc}
 use Rattle.std.proofs.lemmas.Bool.{eqb-true, eqb-false, eq-eqb}
 use Rattle.std.proofs.lemmas.List.{append-nil, map-append}
-use Rattle.dpl_format.specs.Kinds as kinds
-use Rattle.dpl_format.specs.Faults.{Fault}
-use Rattle.dpl_format.specs.Records.{Record, record_at}
-use Rattle.dpl_format.specs.Grammar.{Grammar, both, many, maybe, a}
-use Rattle.dpl_format.specs.Grammar as grammar
-use Rattle.dpl_format.specs.Stream.{refusal_in}
-use Rattle.dpl_format.specs.Tree as tree
-use Rattle.dpl_format.specs.Tree.{parts, before, element_of}
-use Rattle.dpl_format.specs.Layout.{IsFirstFault}
+use Rattle.dpl_spec_format.specs.Kinds as kinds
+use Rattle.dpl_spec_format.specs.Faults.{Fault}
+use Rattle.dpl_spec_format.specs.Records.{Record, record_at}
+use Rattle.dpl_spec_format.specs.Grammar.{Grammar, both, many, maybe, a}
+use Rattle.dpl_spec_format.specs.Grammar as grammar
+use Rattle.dpl_spec_format.specs.Stream.{refusal_in}
+use Rattle.dpl_spec_format.specs.Tree as tree
+use Rattle.dpl_spec_format.specs.Tree.{parts, before, element_of}
+use Rattle.dpl_spec_format.specs.Layout.{IsFirstFault}
 use Rattle.dpl_syntax.specs.Reading as reading
 use Rattle.dpl_syntax.specs.Reached.{Reached}
 use Rattle.dpl_syntax.specs.Inner.{is_inner, AreInner}

@@ -2,12 +2,12 @@
 use Rattle.std.proofs.Common.{◌≡◌, ◌≢◌, ℕ, Bool, true, false, ◌⊎◌, inl, inr, cond, eqb, List, [], ◌∷◌, ◌++◌, Option, Some, None, Result, Ok, Err, refl, sym, subst, ap, ◌∙◌, append_assoc}
 use Rattle.std.proofs.lemmas.Bool.{eqb-true, eqb-false, eq-eqb}
 use Rattle.std.proofs.lemmas.List.{append-nil}
-use Rattle.dpl_format.specs.Kinds as kinds
-use Rattle.dpl_format.specs.Faults.{Fault}
-use Rattle.dpl_format.specs.Records.{Record, record_at}
-use Rattle.dpl_format.specs.Grammar.{Grammar, both, many, Has, a}
-use Rattle.dpl_format.specs.Stream.{owner, names, refusal, refusal_in}
-use Rattle.dpl_format.specs.Layout.{IsFirstFault}
+use Rattle.dpl_spec_format.specs.Kinds as kinds
+use Rattle.dpl_spec_format.specs.Faults.{Fault}
+use Rattle.dpl_spec_format.specs.Records.{Record, record_at}
+use Rattle.dpl_spec_format.specs.Grammar.{Grammar, both, many, Has, a}
+use Rattle.dpl_spec_format.specs.Stream.{owner, names, refusal, refusal_in}
+use Rattle.dpl_spec_format.specs.Layout.{IsFirstFault}
 use Rattle.dpl_syntax.specs.Reading as reading
 use Rattle.dpl_syntax.specs.Reached.{Reached}
 use Rattle.dpl_syntax.specs.Passing.{Passes, Fails, same, is_property, AreProperties, properties, properties_end, property_first, endel_first, IsEnd}

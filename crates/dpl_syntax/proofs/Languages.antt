@@ -3,7 +3,7 @@ use Rattle.std.proofs.Common.{◌≡◌, ℕ, Bool, true, false, ◌⊎◌, inl,
 use Rattle.std.specs.Prelude.{IsTrue}
 use Rattle.std.specs.List.{flat_map, AllByRecursion}
 use Rattle.std.proofs.lemmas.List.Concat.{flat_map-cons}
-use Rattle.dpl_format.specs.Grammar.{Grammar, one, both, either, maybe, many, Has}
+use Rattle.dpl_spec_format.specs.Grammar.{Grammar, one, both, either, maybe, many, Has}
 
 -- no list of the grammar begins with this type
 abbrev pub Avoids : Grammar → ℕ → Type 0

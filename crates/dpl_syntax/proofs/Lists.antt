@@ -1,14 +1,14 @@
 -- Reading all that an element has behind its first record.
 use Rattle.std.proofs.Common.{◌≡◌, ◌≢◌, ℕ, Bool, true, false, not, ◌&&◌, ◌||◌, ◌⊎◌, inl, inr, cond, eqb, List, [], ◌∷◌, ◌++◌, length, Option, Some, None, Result, Ok, Err, refl, sym, subst, ap, ◌∙◌, append_assoc}
 use Rattle.std.proofs.lemmas.List.{append-nil}
-use Rattle.dpl_format.specs.Kinds as kinds
-use Rattle.dpl_format.specs.Faults.{Fault, unexpected, bad_size, bad_name}
-use Rattle.dpl_format.specs.Fields.{name_of}
-use Rattle.dpl_format.specs.Records.{Record, record_at}
-use Rattle.dpl_format.specs.Grammar.{Grammar, one, both, maybe, Has, a}
-use Rattle.dpl_format.specs.Grammar as grammar
-use Rattle.dpl_format.specs.Stream.{owner, names, refusal, refusal_in, is_empty, is_wrong_size}
-use Rattle.dpl_format.specs.Layout.{IsFirstFault}
+use Rattle.dpl_spec_format.specs.Kinds as kinds
+use Rattle.dpl_spec_format.specs.Faults.{Fault, unexpected, bad_size, bad_name}
+use Rattle.dpl_spec_format.specs.Fields.{name_of}
+use Rattle.dpl_spec_format.specs.Records.{Record, record_at}
+use Rattle.dpl_spec_format.specs.Grammar.{Grammar, one, both, maybe, Has, a}
+use Rattle.dpl_spec_format.specs.Grammar as grammar
+use Rattle.dpl_spec_format.specs.Stream.{owner, names, refusal, refusal_in, is_empty, is_wrong_size}
+use Rattle.dpl_spec_format.specs.Layout.{IsFirstFault}
 use Rattle.dpl_syntax.specs.Reading as reading
 use Rattle.dpl_syntax.specs.Reading.{◌>>=◌, Slots, Item, must, may, turned, named, points}
 use Rattle.dpl_syntax.specs.Reached.{Reached}

@@ -1,10 +1,10 @@
 -- What is read is the only answer that the bytes have.
 use Rattle.std.proofs.Common.{◌≡◌, ℕ, List, Result, Ok, Err, refl}
 use Rattle.std.specs.Prelude.{IfOk, IfErr}
-use Rattle.dpl_format.specs.Faults.{Fault, truncated, bad_length, unknown_record, bad_data_type, bad_size, unexpected, bad_name, duplicate_structure}
-use Rattle.dpl_format.specs.Tree.{Library}
-use Rattle.dpl_format.specs.Layout.{Holds, IsFirstFault}
-use Rattle.dpl_format.proofs.Uniqueness.{one_library, one_fault, apart}
+use Rattle.dpl_spec_format.specs.Faults.{Fault, truncated, bad_length, unknown_record, bad_data_type, bad_size, unexpected, bad_name, duplicate_structure}
+use Rattle.dpl_spec_format.specs.Tree.{Library}
+use Rattle.dpl_spec_format.specs.Layout.{Holds, IsFirstFault}
+use Rattle.dpl_spec_format.proofs.Uniqueness.{one_library, one_fault, apart}
 use Rattle.dpl_syntax.specs.declared.fault.SyntaxFault.{SyntaxFault}
 use Rattle.dpl_syntax.specs.declared.fault.SyntaxFault.TheVariants.{NoMemory, Truncated, BadLength, UnknownRecord, BadDataType, BadSize, Unexpected, BadName, DuplicateStructure}
 use Rattle.dpl_syntax.specs.Outcome.{Refuses, Gives, Refused}

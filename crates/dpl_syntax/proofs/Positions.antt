@@ -4,7 +4,7 @@ use Rattle.std.specs.List.{prefix_len}
 use Rattle.std.specs.Map.{keys_of}
 use Rattle.std.specs.Cmp.Lexicographic.{pointwise}
 use Rattle.std.proofs.lemmas.List.{length-map}
-use Rattle.dpl_format.specs.Tree as tree
+use Rattle.dpl_spec_format.specs.Tree as tree
 
 module _ {X K M N : Type 0} (f : X → K) (g : X → M) (n : M → N) (p : K → Bool) (q : N → Bool) (same : (x : X) → p (f x) ≡ q (n (g x))) where
   same_prefix : (xs : List X) → prefix_len (λ k. not (p k)) (map f xs) ≡ prefix_len (λ m. not (q m)) (map n (map g xs))

@@ -4,11 +4,11 @@ use Rattle.std.specs.Prelude.{fold, filter, map}
 use Rattle.std.proofs.lemmas.List.{append-nil, map-append}
 use Rattle.std.proofs.lemmas.List.Sums.{fold-append}
 use Rattle.std.proofs.lemmas.List.Elements.{filter-append}
-use Rattle.dpl_format.specs.Fields.{name_of}
-use Rattle.dpl_format.specs.Kinds as kinds
-use Rattle.dpl_format.specs.Records.{Record}
-use Rattle.dpl_format.specs.Stream.{owner, names}
-use Rattle.dpl_format.specs.Tree.{first_of}
+use Rattle.dpl_spec_format.specs.Fields.{name_of}
+use Rattle.dpl_spec_format.specs.Kinds as kinds
+use Rattle.dpl_spec_format.specs.Records.{Record}
+use Rattle.dpl_spec_format.specs.Stream.{owner, names}
+use Rattle.dpl_spec_format.specs.Tree.{first_of}
 use Rattle.dpl_syntax.specs.Reading.{Slots, or_else, pick}
 use Rattle.dpl_syntax.specs.Inner.{is_inner, AreInner}
 

@@ -1,12 +1,12 @@
 -- Reading on by one record, and where it stops.
 use Rattle.std.proofs.Common.{◌≡◌, ◌≢◌, ℕ, List, [], ◌∷◌, ◌++◌, Option, Some, None, Result, Ok, Err, refl, sym, subst, ap, ◌∙◌, append_assoc}
 use Rattle.std.proofs.lemmas.List.{append-nil}
-use Rattle.dpl_format.specs.Kinds as kinds
-use Rattle.dpl_format.specs.Faults.{Fault, unexpected}
-use Rattle.dpl_format.specs.Records.{Record, record_at, Lies}
-use Rattle.dpl_format.specs.Grammar.{Grammar, Has, library}
-use Rattle.dpl_format.specs.Stream.{kinds_of, refusal}
-use Rattle.dpl_format.specs.Layout.{IsSound, IsOpen, IsReadTo, IsWrong, no_record, not_here, refused, IsFirstFault}
+use Rattle.dpl_spec_format.specs.Kinds as kinds
+use Rattle.dpl_spec_format.specs.Faults.{Fault, unexpected}
+use Rattle.dpl_spec_format.specs.Records.{Record, record_at, Lies}
+use Rattle.dpl_spec_format.specs.Grammar.{Grammar, Has, library}
+use Rattle.dpl_spec_format.specs.Stream.{kinds_of, refusal}
+use Rattle.dpl_spec_format.specs.Layout.{IsSound, IsOpen, IsReadTo, IsWrong, no_record, not_here, refused, IsFirstFault}
 use Rattle.dpl_syntax.specs.Reached.{Reached}
 use Rattle.dpl_syntax.proofs.Languages.{Exists, Moves, Agrees}
 

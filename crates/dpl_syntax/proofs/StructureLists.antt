@@ -4,15 +4,15 @@ use Rattle.std.specs.List.{list_any}
 use Rattle.std.proofs.lemmas.Bool.{eqb-true, eqb-false, eq-eqb}
 use Rattle.std.proofs.lemmas.List.{append-nil, map-append}
 use Rattle.indexmap.specs.IndexMap.{insert_entry}
-use Rattle.dpl_format.specs.Kinds as kinds
-use Rattle.dpl_format.specs.Faults.{Fault}
-use Rattle.dpl_format.specs.Records.{Record, record_at}
-use Rattle.dpl_format.specs.Grammar.{Grammar, both, many, a}
-use Rattle.dpl_format.specs.Grammar as grammar
-use Rattle.dpl_format.specs.Stream.{names}
-use Rattle.dpl_format.specs.Tree as tree
-use Rattle.dpl_format.specs.Tree.{structure_of}
-use Rattle.dpl_format.specs.Layout.{IsFirstFault}
+use Rattle.dpl_spec_format.specs.Kinds as kinds
+use Rattle.dpl_spec_format.specs.Faults.{Fault}
+use Rattle.dpl_spec_format.specs.Records.{Record, record_at}
+use Rattle.dpl_spec_format.specs.Grammar.{Grammar, both, many, a}
+use Rattle.dpl_spec_format.specs.Grammar as grammar
+use Rattle.dpl_spec_format.specs.Stream.{names}
+use Rattle.dpl_spec_format.specs.Tree as tree
+use Rattle.dpl_spec_format.specs.Tree.{structure_of}
+use Rattle.dpl_spec_format.specs.Layout.{IsFirstFault}
 use Rattle.dpl_syntax.specs.Reached.{Reached}
 use Rattle.dpl_syntax.specs.Libraries.{Entries, structure_seen, structures_seen, known_names}
 use Rattle.dpl_syntax.specs.Passing.{same, PassesNamed, FailsNamed, structure_then, structures_first, endlib_first, split_structures, IsNext, IsOther, IsStructure, AreStructures}

@@ -5,16 +5,16 @@ use Rattle.std.specs.List.{list_any}
 use Rattle.std.specs.Cmp.Lexicographic.{pointwise}
 use Rattle.std.proofs.lemmas.Bool.{eqb-true, eqb-false, eq-eqb}
 use Rattle.std.proofs.lemmas.List.{append-nil, map-append}
-use Rattle.dpl_format.specs.Kinds as kinds
-use Rattle.dpl_format.specs.Faults.{Fault, bad_name, duplicate_structure}
-use Rattle.dpl_format.specs.Fields.{name_of}
-use Rattle.dpl_format.specs.Records.{Record, record_at}
-use Rattle.dpl_format.specs.Grammar.{Grammar, both, many, a}
-use Rattle.dpl_format.specs.Grammar as grammar
-use Rattle.dpl_format.specs.Stream.{owner, names, refusal, refusal_in, is_empty}
-use Rattle.dpl_format.specs.Tree as tree
-use Rattle.dpl_format.specs.Tree.{parts, before, first_of, data_or_none, element_of, structure_of}
-use Rattle.dpl_format.specs.Layout.{IsFirstFault}
+use Rattle.dpl_spec_format.specs.Kinds as kinds
+use Rattle.dpl_spec_format.specs.Faults.{Fault, bad_name, duplicate_structure}
+use Rattle.dpl_spec_format.specs.Fields.{name_of}
+use Rattle.dpl_spec_format.specs.Records.{Record, record_at}
+use Rattle.dpl_spec_format.specs.Grammar.{Grammar, both, many, a}
+use Rattle.dpl_spec_format.specs.Grammar as grammar
+use Rattle.dpl_spec_format.specs.Stream.{owner, names, refusal, refusal_in, is_empty}
+use Rattle.dpl_spec_format.specs.Tree as tree
+use Rattle.dpl_spec_format.specs.Tree.{parts, before, first_of, data_or_none, element_of, structure_of}
+use Rattle.dpl_spec_format.specs.Layout.{IsFirstFault}
 use Rattle.dpl_syntax.specs.Reading as reading
 use Rattle.dpl_syntax.specs.Reading.{◌>>=◌}
 use Rattle.dpl_syntax.specs.Reached.{Reached}

@@ -1,7 +1,7 @@
 -- An element without where its parts lie in memory.
 use Rattle.std.specs.Prelude.{}
 use Rattle.std.specs.Option.{option_map}
-use Rattle.dpl_format.specs.Tree as tree
+use Rattle.dpl_spec_format.specs.Tree as tree
 use Rattle.dpl_syntax.specs.declared.element.Trans.{Trans}
 use Rattle.dpl_syntax.specs.declared.element.Body.{Body}
 use Rattle.dpl_syntax.specs.declared.element.Body.TheVariants.{Boundary, Path, Sref, Aref, Text, Node, BoxShape}

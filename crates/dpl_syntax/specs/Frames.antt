@@ -1,5 +1,5 @@
 -- A frame without where its records lie in memory.
-use Rattle.dpl_format.specs.Tree as tree
+use Rattle.dpl_spec_format.specs.Tree as tree
 use Rattle.dpl_syntax.specs.declared.library.Frame.{Frame}
 
 abbrev pub frame_seen : Frame → tree.Frame

@@ -1,7 +1,7 @@
 -- Records that stand between the first record of an element and its ENDEL.
 use Rattle.std.specs.Prelude.{◌≡◌, ℕ, Bool, true, not, ◌==◌, ◌&&◌, List, [], ◌∷◌}
-use Rattle.dpl_format.specs.Kinds as kinds
-use Rattle.dpl_format.specs.Records.{Record}
+use Rattle.dpl_spec_format.specs.Kinds as kinds
+use Rattle.dpl_spec_format.specs.Records.{Record}
 
 abbrev pub is_inner : ℕ → Bool
 is_inner k =

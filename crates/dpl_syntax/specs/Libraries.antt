@@ -1,7 +1,7 @@
 -- A library without where its parts lie in memory.
 use Rattle.std.specs.Prelude.{ℕ, List, map, All}
 use Rattle.std.specs.Borrow.{Bor}
-use Rattle.dpl_format.specs.Tree as tree
+use Rattle.dpl_spec_format.specs.Tree as tree
 use Rattle.dpl_syntax.specs.declared.library.Structure.{Structure}
 use Rattle.dpl_syntax.specs.declared.library.Library.TheInside.{Inside}
 use Rattle.dpl_syntax.specs.Elements.{element_seen, IsSized}

@@ -1,7 +1,7 @@
 -- What reading a file answers.
 use Rattle.std.specs.Prelude.{◌≡◌, Result, Ok, Err}
-use Rattle.dpl_format.specs.Faults.{Fault, truncated, bad_length, unknown_record, bad_data_type, bad_size, unexpected, bad_name, duplicate_structure}
-use Rattle.dpl_format.specs.Tree.{Library}
+use Rattle.dpl_spec_format.specs.Faults.{Fault, truncated, bad_length, unknown_record, bad_data_type, bad_size, unexpected, bad_name, duplicate_structure}
+use Rattle.dpl_spec_format.specs.Tree.{Library}
 use Rattle.dpl_records.specs.declared.fault.RecordFault.{RecordFault}
 use Rattle.dpl_records.specs.declared.fault.RecordFault.TheVariants as records
 use Rattle.dpl_syntax.specs.declared.fault.SyntaxFault.{SyntaxFault}

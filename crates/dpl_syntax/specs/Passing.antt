@@ -1,13 +1,13 @@
 -- What reading on from an offset finds.
 use Rattle.std.specs.Prelude.{◌≡◌, ℕ, ◌<◌, ◌≤◌, length, Ok, Bool, true, false, ◌==◌, ◌||◌, ◌&&◌, not, List, [], ◌∷◌, ◌++◌, map}
-use Rattle.dpl_format.specs.Kinds as kinds
-use Rattle.dpl_format.specs.Faults.{Fault}
-use Rattle.dpl_format.specs.Records.{Record, record_at}
-use Rattle.dpl_format.specs.Grammar.{Grammar, Has, both, many, a, skip, element, structure}
-use Rattle.dpl_format.specs.Layout.{IsFirstFault}
-use Rattle.dpl_format.specs.Stream.{names}
-use Rattle.dpl_format.specs.Tree as tree
-use Rattle.dpl_format.specs.Tree.{parts, element_of, structure_of}
+use Rattle.dpl_spec_format.specs.Kinds as kinds
+use Rattle.dpl_spec_format.specs.Faults.{Fault}
+use Rattle.dpl_spec_format.specs.Records.{Record, record_at}
+use Rattle.dpl_spec_format.specs.Grammar.{Grammar, Has, both, many, a, skip, element, structure}
+use Rattle.dpl_spec_format.specs.Layout.{IsFirstFault}
+use Rattle.dpl_spec_format.specs.Stream.{names}
+use Rattle.dpl_spec_format.specs.Tree as tree
+use Rattle.dpl_spec_format.specs.Tree.{parts, element_of, structure_of}
 use Rattle.dpl_syntax.specs.Reached.{Reached}
 use Rattle.dpl_syntax.specs.Inner.{AreInner}
 

@@ -1,9 +1,9 @@
 -- How far a file is read.
 use Rattle.std.specs.Prelude.{◌≡◌, ℕ, List, [], ◌∷◌, ◌++◌, Ok}
-use Rattle.dpl_format.specs.Records.{Record, record_at, Lies}
-use Rattle.dpl_format.specs.Grammar.{Grammar, Has, Begins, library}
-use Rattle.dpl_format.specs.Stream.{kinds_of}
-use Rattle.dpl_format.specs.Layout.{IsSound, IsOpen}
+use Rattle.dpl_spec_format.specs.Records.{Record, record_at, Lies}
+use Rattle.dpl_spec_format.specs.Grammar.{Grammar, Has, Begins, library}
+use Rattle.dpl_spec_format.specs.Stream.{kinds_of}
+use Rattle.dpl_spec_format.specs.Layout.{IsSound, IsOpen}
 
 -- The file begins with these records, up to an offset. Nothing is wrong with them, and a list that goes on with the next record
 -- is one of a library just where what is behind them is one of the grammar `rest`.

@@ -3,12 +3,12 @@ use Rattle.std.specs.Prelude.{◌≡◌, ℕ, Bool, ◌==◌, if◌then◌else�
 use Rattle.std.specs.Prelude.{nat_eq}
 use Rattle.std.specs.List.{list_any}
 use Rattle.std.specs.Cmp.Lexicographic.{pointwise}
-use Rattle.dpl_format.specs.Kinds as kinds
-use Rattle.dpl_format.specs.Faults.{Fault, unexpected, bad_size, bad_name, duplicate_structure}
-use Rattle.dpl_format.specs.Fields.{name_of}
-use Rattle.dpl_format.specs.Records.{Record, record_at}
-use Rattle.dpl_format.specs.Stream.{is_empty}
-use Rattle.dpl_format.specs.Tree.{Body, Finder, body_of}
+use Rattle.dpl_spec_format.specs.Kinds as kinds
+use Rattle.dpl_spec_format.specs.Faults.{Fault, unexpected, bad_size, bad_name, duplicate_structure}
+use Rattle.dpl_spec_format.specs.Fields.{name_of}
+use Rattle.dpl_spec_format.specs.Records.{Record, record_at}
+use Rattle.dpl_spec_format.specs.Stream.{is_empty}
+use Rattle.dpl_spec_format.specs.Tree.{Body, Finder, body_of}
 use Rattle.dpl_syntax.specs.declared.fault.SyntaxFault.{SyntaxFault}
 use Rattle.dpl_syntax.specs.Outcome.{Refuses}
 

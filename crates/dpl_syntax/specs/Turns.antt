@@ -1,7 +1,7 @@
 -- The records by which a reference is turned, as slots.
 use Rattle.std.specs.Prelude.{◌≤◌, length, List, [], ◌∷◌}
 use Rattle.std.specs.Option.{option_map, ForSome}
-use Rattle.dpl_format.specs.Kinds as kinds
+use Rattle.dpl_spec_format.specs.Kinds as kinds
 use Rattle.dpl_records.specs.Seen.{seen}
 use Rattle.dpl_syntax.specs.declared.bodies.Turns.{Turns}
 use Rattle.dpl_syntax.specs.Reading.{Slots}

@@ -2,9 +2,9 @@
 
 ghost use Rattle.std.specs.Prelude.{◌≡◌, ◌≤◌, length, IfOk, IsTrue};
 ghost use Rattle.std.specs.Option.{option_map, ForSome};
-ghost use Rattle.dpl_format.specs.Fields as fields;
-ghost use Rattle.dpl_format.specs.Kinds as format;
-ghost use Rattle.dpl_format.specs.Tree.{HasPoints, trans_of};
+ghost use Rattle.dpl_spec_format.specs.Fields as fields;
+ghost use Rattle.dpl_spec_format.specs.Kinds as format;
+ghost use Rattle.dpl_spec_format.specs.Tree.{HasPoints, trans_of};
 ghost use Rattle.dpl_syntax.specs.Elements.{body_seen, trans_seen};
 ghost use Rattle.dpl_syntax.specs.Turns.{turns_seen, IsSizedTurns};
 ghost use Rattle.dpl_syntax.specs.Reading.{Answers, item_at, turned, pick, body_at};
@@ -72,7 +72,7 @@ impl Turns<'_> {
 }
 
 impl<'a> Reader<'a> {
-    #[tactic(auto, unfolding(crate::specs::Reading::items_at, dpl_format::specs::Table::form_of, dpl_format::specs::Table::table))]
+    #[tactic(auto, unfolding(crate::specs::Reading::items_at, dpl_spec_format::specs::Table::form_of, dpl_spec_format::specs::Table::table))]
     fn take_turns(&mut self) -> Result<Turns<'a>, SyntaxFault>
         ensures exact { Answers (λ t. (turns_seen t, self.new.at)) result (item_at self.old.bytes.now turned self.old.at) }
         ensures sized { IfOk result (λ t. IsSizedTurns t) }
@@ -95,7 +95,7 @@ impl<'a> Reader<'a> {
         })
     }
 
-    #[tactic(auto, unfolding(crate::specs::Reading::items_at, dpl_format::specs::Table::form_of, dpl_format::specs::Table::table))]
+    #[tactic(auto, unfolding(crate::specs::Reading::items_at, dpl_spec_format::specs::Table::form_of, dpl_spec_format::specs::Table::table))]
     pub(crate) fn boundary(&mut self) -> Result<Body<'a>, SyntaxFault>
         ensures exact { Answers (λ b. (body_seen b, self.new.at)) result (body_at self.old.bytes.now format.boundary self.old.at) }
         ensures points { IfOk result (λ b. HasPoints (body_seen b)) }
@@ -114,7 +114,7 @@ impl<'a> Reader<'a> {
         })
     }
 
-    #[tactic(auto, unfolding(crate::specs::Reading::items_at, dpl_format::specs::Table::form_of, dpl_format::specs::Table::table))]
+    #[tactic(auto, unfolding(crate::specs::Reading::items_at, dpl_spec_format::specs::Table::form_of, dpl_spec_format::specs::Table::table))]
     pub(crate) fn path(&mut self) -> Result<Body<'a>, SyntaxFault>
         ensures exact { Answers (λ b. (body_seen b, self.new.at)) result (body_at self.old.bytes.now format.path self.old.at) }
         ensures points { IfOk result (λ b. HasPoints (body_seen b)) }
@@ -141,7 +141,7 @@ impl<'a> Reader<'a> {
         })
     }
 
-    #[tactic(auto, unfolding(crate::specs::Reading::items_at, dpl_format::specs::Table::form_of, dpl_format::specs::Table::table))]
+    #[tactic(auto, unfolding(crate::specs::Reading::items_at, dpl_spec_format::specs::Table::form_of, dpl_spec_format::specs::Table::table))]
     pub(crate) fn sref(&mut self) -> Result<Body<'a>, SyntaxFault>
         ensures exact { Answers (λ b. (body_seen b, self.new.at)) result (body_at self.old.bytes.now format.sref self.old.at) }
         ensures points { IfOk result (λ b. HasPoints (body_seen b)) }
@@ -160,7 +160,7 @@ impl<'a> Reader<'a> {
         })
     }
 
-    #[tactic(auto, unfolding(crate::specs::Reading::items_at, dpl_format::specs::Table::form_of, dpl_format::specs::Table::table))]
+    #[tactic(auto, unfolding(crate::specs::Reading::items_at, dpl_spec_format::specs::Table::form_of, dpl_spec_format::specs::Table::table))]
     pub(crate) fn aref(&mut self) -> Result<Body<'a>, SyntaxFault>
         ensures exact { Answers (λ b. (body_seen b, self.new.at)) result (body_at self.old.bytes.now format.aref self.old.at) }
         ensures points { IfOk result (λ b. HasPoints (body_seen b)) }
@@ -182,7 +182,7 @@ impl<'a> Reader<'a> {
         })
     }
 
-    #[tactic(auto, unfolding(crate::specs::Reading::items_at, dpl_format::specs::Table::form_of, dpl_format::specs::Table::table))]
+    #[tactic(auto, unfolding(crate::specs::Reading::items_at, dpl_spec_format::specs::Table::form_of, dpl_spec_format::specs::Table::table))]
     pub(crate) fn text(&mut self) -> Result<Body<'a>, SyntaxFault>
         ensures exact { Answers (λ b. (body_seen b, self.new.at)) result (body_at self.old.bytes.now format.text self.old.at) }
         ensures points { IfOk result (λ b. HasPoints (body_seen b)) }
@@ -207,7 +207,7 @@ impl<'a> Reader<'a> {
         })
     }
 
-    #[tactic(auto, unfolding(crate::specs::Reading::items_at, dpl_format::specs::Table::form_of, dpl_format::specs::Table::table))]
+    #[tactic(auto, unfolding(crate::specs::Reading::items_at, dpl_spec_format::specs::Table::form_of, dpl_spec_format::specs::Table::table))]
     pub(crate) fn node(&mut self) -> Result<Body<'a>, SyntaxFault>
         ensures exact { Answers (λ b. (body_seen b, self.new.at)) result (body_at self.old.bytes.now format.node self.old.at) }
         ensures points { IfOk result (λ b. HasPoints (body_seen b)) }
@@ -226,7 +226,7 @@ impl<'a> Reader<'a> {
         })
     }
 
-    #[tactic(auto, unfolding(crate::specs::Reading::items_at, dpl_format::specs::Table::form_of, dpl_format::specs::Table::table))]
+    #[tactic(auto, unfolding(crate::specs::Reading::items_at, dpl_spec_format::specs::Table::form_of, dpl_spec_format::specs::Table::table))]
     pub(crate) fn box_shape(&mut self) -> Result<Body<'a>, SyntaxFault>
         ensures exact { Answers (λ b. (body_seen b, self.new.at)) result (body_at self.old.bytes.now format.box self.old.at) }
         ensures points { IfOk result (λ b. HasPoints (body_seen b)) }

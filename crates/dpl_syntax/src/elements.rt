@@ -1,8 +1,8 @@
 //! Reading elements.
 
 ghost use Rattle.std.specs.Prelude.{◌≡◌, ◌<◌, ◌≤◌, true, length, map, [], All, IfOk, IfErr, OnOk, IfSome, IfNone, Ok, Err};
-ghost use Rattle.dpl_format.specs.Kinds as format;
-ghost use Rattle.dpl_format.specs.Records.{record_at};
+ghost use Rattle.dpl_spec_format.specs.Kinds as format;
+ghost use Rattle.dpl_spec_format.specs.Records.{record_at};
 ghost use Rattle.dpl_records.specs.Seen.{seen};
 ghost use Rattle.dpl_syntax.specs.Elements.{element_seen, IsSized};
 ghost use Rattle.dpl_syntax.specs.Outcome.{Refuses};

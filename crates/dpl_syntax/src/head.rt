@@ -1,8 +1,8 @@
 //! Reading the head of a library.
 
 ghost use Rattle.std.specs.Prelude.{◌≡◌, ◌<◌, ◌≤◌, true, length, IfOk, IfErr, OnOk, IfSome, IfNone, Err};
-ghost use Rattle.dpl_format.specs.Kinds as format;
-ghost use Rattle.dpl_format.specs.Records.{record_at};
+ghost use Rattle.dpl_spec_format.specs.Kinds as format;
+ghost use Rattle.dpl_spec_format.specs.Records.{record_at};
 ghost use Rattle.dpl_records.specs.Seen.{seen};
 ghost use Rattle.dpl_syntax.specs.Outcome.{Refuses};
 ghost use Rattle.dpl_syntax.specs.Passing.{PassesSkips, FailsSkips, skips_then, same, part_then, PassesPart, is_part, IsNextSkipped, IsNoneSkipped};

@@ -2,7 +2,7 @@
 
 ghost use Rattle.std.specs.Prelude.{◌≡◌, ◌<◌, ◌≤◌, ◌^◌, length, map, position, nat_eq, slice_get, All, IfSome};
 ghost use Rattle.std.specs.Cmp.Lexicographic.{pointwise};
-ghost use Rattle.dpl_format.specs.Tree.{names_in, elements_at, frame_of};
+ghost use Rattle.dpl_spec_format.specs.Tree.{names_in, elements_at, frame_of};
 ghost use Rattle.dpl_syntax.specs.Elements.{element_seen, IsSized};
 ghost use Rattle.dpl_syntax.specs.Frames.{frame_seen};
 
@@ -33,7 +33,7 @@ pub struct Library<'a> {
 impl<'a> Model for Library<'a> {
     ghost use Rattle.std.specs.Prelude.{◌≤◌, ◌^◌, All};
     ghost use Rattle.indexmap.specs.IndexMap.{index_map_len};
-    ghost use Rattle.dpl_format.specs.Tree.{Library as Tree};
+    ghost use Rattle.dpl_spec_format.specs.Tree.{Library as Tree};
 
     ghost Value = { Tree };
 

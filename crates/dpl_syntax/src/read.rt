@@ -1,9 +1,9 @@
 //! Reading a library.
 
 ghost use Rattle.std.specs.Prelude.{◌≡◌, ◌≤◌, length, IfOk, IfErr};
-ghost use Rattle.dpl_format.specs.Faults.{Fault};
-ghost use Rattle.dpl_format.specs.Tree.{Library as Tree};
-ghost use Rattle.dpl_format.specs.Layout.{Holds, IsFirstFault};
+ghost use Rattle.dpl_spec_format.specs.Faults.{Fault};
+ghost use Rattle.dpl_spec_format.specs.Tree.{Library as Tree};
+ghost use Rattle.dpl_spec_format.specs.Layout.{Holds, IsFirstFault};
 ghost use Rattle.dpl_syntax.specs.Outcome.{Refuses, Gives, Refused};
 
 use crate::fault::SyntaxFault;

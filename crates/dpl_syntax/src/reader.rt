@@ -2,8 +2,8 @@
 
 ghost use Rattle.std.specs.Prelude.{◌≡◌, ◌+◌, ◌<◌, ◌≤◌, length, IfOk, IfSome};
 ghost use Rattle.std.specs.Option.{option_map};
-ghost use Rattle.dpl_format.specs.Records.{record_at};
-ghost use Rattle.dpl_format.specs.Table.{IsSizeOf};
+ghost use Rattle.dpl_spec_format.specs.Records.{record_at};
+ghost use Rattle.dpl_spec_format.specs.Table.{IsSizeOf};
 ghost use Rattle.dpl_records.specs.Seen.{seen};
 ghost use Rattle.dpl_syntax.specs.Reading.{Answers, take, take_if, take_name, take_points};
 

@@ -4,10 +4,10 @@ ghost use Rattle.std.specs.Prelude.{◌≡◌, ◌<◌, ◌≤◌, ◌+◌, ◌*
 ghost use Rattle.std.specs.List.{list_any};
 ghost use Rattle.indexmap.specs.IndexMap.{index_map_len};
 ghost use Rattle.std.specs.Cmp.Lexicographic.{pointwise};
-ghost use Rattle.dpl_format.specs.Fields as fields;
-ghost use Rattle.dpl_format.specs.Kinds as format;
-ghost use Rattle.dpl_format.specs.Records.{record_at};
-ghost use Rattle.dpl_format.specs.Tree as tree;
+ghost use Rattle.dpl_spec_format.specs.Fields as fields;
+ghost use Rattle.dpl_spec_format.specs.Kinds as format;
+ghost use Rattle.dpl_spec_format.specs.Records.{record_at};
+ghost use Rattle.dpl_spec_format.specs.Tree as tree;
 ghost use Rattle.dpl_records.specs.Seen.{seen};
 ghost use Rattle.dpl_syntax.specs.declared.fault.SyntaxFault.TheVariants.{NoMemory};
 ghost use Rattle.dpl_syntax.specs.Elements.{IsSized};

@@ -5,12 +5,12 @@ use Rattle.std.specs.List.{All, AllPairs, Contains}
 use Rattle.std.proofs.lemmas.Int.{ints}
 use Rattle.std.proofs.lemmas.Nat.{mul-le}
 use Rattle.std.proofs.lemmas.List.{get_or-map, length-map, get_or_default}
-use Rattle.dpl_spec.specs.declared.Pt.{Pt}
-use Rattle.dpl_spec.specs.declared.Rect.{Rect}
-use Rattle.dpl_spec.specs.Squares.{Has, IsSolidWithin}
-use Rattle.dpl_spec.specs.Slabs.{Before, IsCanonical, IsSolid}
-use Rattle.dpl_spec.specs.Graphs.{Precedes}
-use Rattle.dpl_spec.specs.Loops.{farthest, AreRectsWithin, IsRectWithin}
+use Rattle.dpl_spec_split.specs.declared.Pt.{Pt}
+use Rattle.dpl_spec_split.specs.declared.Rect.{Rect}
+use Rattle.dpl_spec_split.specs.Squares.{Has, IsSolidWithin}
+use Rattle.dpl_spec_split.specs.Slabs.{Before, IsCanonical, IsSolid}
+use Rattle.dpl_spec_split.specs.Graphs.{Precedes}
+use Rattle.dpl_spec_split.specs.Loops.{farthest, AreRectsWithin, IsRectWithin}
 use Rattle.dpl_slabs.specs.Parts.{AreParts, union_of}
 use Rattle.dpl_tile.specs.declared.grid.Grid.{Grid}
 use Rattle.dpl_tile.specs.Tiles.{IsBounds, IsOccupied, AreCells, cell_at, number_in}

@@ -1,10 +1,10 @@
 -- What a plan keeps.
 use Rattle.std.specs.Prelude.{◌≡◌, ◌↔◌, ℕ, ◌+◌, ◌*◌, ◌^◌, ◌<◌, ◌≤◌, ◌≤ℤ◌, ◌-ℤ◌, pos, unsigned_abs, List, length, map}
 use Rattle.std.specs.List.{All, AllPairs, Contains}
-use Rattle.dpl_spec.specs.declared.Rect.{Rect}
-use Rattle.dpl_spec.specs.Loops.{farthest}
-use Rattle.dpl_spec.specs.Graphs.{Precedes}
-use Rattle.dpl_spec.specs.Squares.{IsSolidWithin}
+use Rattle.dpl_spec_split.specs.declared.Rect.{Rect}
+use Rattle.dpl_spec_split.specs.Loops.{farthest}
+use Rattle.dpl_spec_split.specs.Graphs.{Precedes}
+use Rattle.dpl_spec_split.specs.Squares.{IsSolidWithin}
 use Rattle.dpl_slabs.specs.Parts.{AreParts}
 use Rattle.dpl_tree.specs.declared.items.Item.{Item}
 use Rattle.dpl_tree.specs.Trees.{AreItemsOf}

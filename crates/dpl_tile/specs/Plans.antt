@@ -1,6 +1,6 @@
 -- Plans: parts, their owners, a rule, and tiles.
 use Rattle.std.specs.Prelude.{◌≡◌, ℕ, List}
-use Rattle.dpl_spec.specs.declared.Rect.{Rect}
+use Rattle.dpl_spec_split.specs.declared.Rect.{Rect}
 use Rattle.dpl_tile.specs.Tiles.{AreTiles}
 
 pub record Planned : Type 0 where

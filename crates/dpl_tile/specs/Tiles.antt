@@ -1,10 +1,10 @@
 -- Tiles: the cells of a grid that have a square of some part.
 use Rattle.std.specs.Prelude.{◌≡◌, ◌⊎◌, ◌↔◌, ℕ, ◌+◌, ◌-◌, ◌*◌, ◌/◌, ◌^◌, ◌<◌, ◌≤◌, ℤ, pos, ◌+ℤ◌, ◌-ℤ◌, unsigned_abs, List, [], sum_by}
 use Rattle.std.specs.List.{AllPairs, Contains}
-use Rattle.dpl_spec.specs.declared.Pt.{Pt}
-use Rattle.dpl_spec.specs.declared.Rect.{Rect}
-use Rattle.dpl_spec.specs.Squares.{Region, Has}
-use Rattle.dpl_spec.specs.Slabs.{Before}
+use Rattle.dpl_spec_split.specs.declared.Pt.{Pt}
+use Rattle.dpl_spec_split.specs.declared.Rect.{Rect}
+use Rattle.dpl_spec_split.specs.Squares.{Region, Has}
+use Rattle.dpl_spec_split.specs.Slabs.{Before}
 use Rattle.dpl_slabs.specs.Parts.{union_of}
 use Rattle.dpl_tile.specs.declared.grid.Grid.{Grid}
 

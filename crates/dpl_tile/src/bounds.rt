@@ -1,7 +1,7 @@
 //! The least rectangle round some squares.
 ghost use Rattle.std.specs.Prelude.{◌≡◌, ◌<◌, IsNone, IfSome, None};
 ghost use Rattle.std.specs.List.{fold};
-ghost use Rattle.dpl_spec.specs.declared.Pt.{Pt};
+ghost use Rattle.dpl_spec_split.specs.declared.Pt.{Pt};
 ghost use Rattle.dpl_slabs.specs.Parts.{AreParts, union_of};
 ghost use Rattle.dpl_tile.specs.Bounds.{round_all};
 ghost use Rattle.dpl_tile.specs.Tiles.{IsBounds};

@@ -1,7 +1,7 @@
 //! The places of the cells that slabs meet.
 ghost use Rattle.std.specs.Prelude.{◌≡◌, ◌↔◌, ℕ, ◌+◌, ◌-◌, ◌*◌, ◌<◌, ◌≤◌, IfOk, OnOk, length, sum_by};
 ghost use Rattle.std.specs.List.{All, AllPairs, Contains};
-ghost use Rattle.dpl_spec.specs.Graphs.{Precedes};
+ghost use Rattle.dpl_spec_split.specs.Graphs.{Precedes};
 ghost use Rattle.dpl_tile.specs.Adding.{Adds};
 ghost use Rattle.dpl_tile.specs.Kept.{IsSound, AreOver, IsSomeBlock, IsInRow, IsInBlock, IsMetByAny, IsMetByPart, ArePlaces};
 ghost use Rattle.dpl_tile.specs.Tiles.{cells_met, pairs_of};

@@ -1,7 +1,7 @@
 //! A grid of square cells.
 ghost use Rattle.std.specs.Prelude.{◌≡◌, ◌<◌, ◌≤◌, ◌^◌, pos, ◌+ℤ◌, ◌≤ℤ◌, unsigned_abs};
-ghost use Rattle.dpl_spec.specs.Loops.{farthest};
-ghost use Rattle.dpl_spec.specs.Slabs.{IsSolid};
+ghost use Rattle.dpl_spec_split.specs.Loops.{farthest};
+ghost use Rattle.dpl_spec_split.specs.Slabs.{IsSolid};
 ghost use Rattle.dpl_tile.specs.Kept.{IsSound, IsOver, IsClose, IsBlockOf, IsSomeBlock};
 ghost use Rattle.dpl_tile.specs.Tiles.{cell_at, number_in, cells_met};
 

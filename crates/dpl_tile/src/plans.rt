@@ -1,6 +1,6 @@
 //! A plan of tiles.
 ghost use Rattle.std.specs.Prelude.{◌≡◌, ◌<◌, length, slice_get, Some};
-ghost use Rattle.dpl_spec.specs.Slabs.{IsSolid};
+ghost use Rattle.dpl_spec_split.specs.Slabs.{IsSolid};
 ghost use Rattle.dpl_slabs.specs.Parts.{AreParts};
 ghost use Rattle.dpl_tree.specs.Trees.{AreItemsOf};
 

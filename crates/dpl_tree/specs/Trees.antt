@@ -1,8 +1,8 @@
 -- Search trees over rectangles, as lists of items.
 use Rattle.std.specs.Prelude.{◌≡◌, ◌≢◌, ℕ, ◌<◌, ◌≤◌, ◌⊎◌, ◌↔◌, ◌≤ℤ◌, Bool, true, false, List, [], length, map, slice_index_or}
 use Rattle.std.specs.List.{Contains}
-use Rattle.dpl_spec.specs.declared.Rect.{Rect}
-use Rattle.dpl_spec.specs.Zones.{turned_rect}
+use Rattle.dpl_spec_split.specs.declared.Rect.{Rect}
+use Rattle.dpl_spec_split.specs.Zones.{turned_rect}
 use Rattle.dpl_tree.specs.declared.items.Item.{Item}
 use Rattle.dpl_tree.specs.declared.owners.Owners.{Owners}
 use Rattle.dpl_tree.specs.declared.owners.Owners.TheVariants.{All, But, Only, Above}

@@ -1,6 +1,6 @@
 -- Windows of a search.
 use Rattle.std.specs.Prelude.{◌≡◌, ℕ, pos, ◌+ℤ◌, ◌-ℤ◌}
-use Rattle.dpl_spec.specs.declared.Rect.{Rect}
+use Rattle.dpl_spec_split.specs.declared.Rect.{Rect}
 
 -- the rectangle with so many columns and rows more on each side
 pub record IsWidened (r : Rect) (n : ℕ) (wide : Rect) : Type 0 where

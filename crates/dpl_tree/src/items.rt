@@ -1,7 +1,7 @@
 //! Rectangles for a search tree, each with its owner.
 ghost use Rattle.std.specs.Prelude.{◌≡◌, ℕ, ◌^◌, ◌<◌, ◌≤◌, ◌⊎◌, ◌↔◌, [], IfOk, IfSome, IsNone, MatchResult, length, map, slice_index_or};
 ghost use Rattle.std.specs.List.{Contains};
-ghost use Rattle.dpl_spec.specs.declared.Rect.{Rect};
+ghost use Rattle.dpl_spec_split.specs.declared.Rect.{Rect};
 ghost use Rattle.dpl_tree.specs.Trees.{HasItem};
 ghost use Rattle.dpl_tree.specs.StoredItems.{item_of};
 

@@ -1,6 +1,6 @@
 //! Searches for the rectangles in a window.
 ghost use Rattle.std.specs.Prelude.{◌≡◌, ℕ, ◌<◌, ◌≤◌, ◌↔◌, IfOk, length, slice_index_or};
-ghost use Rattle.dpl_spec.specs.declared.Rect.{Rect};
+ghost use Rattle.dpl_spec_split.specs.declared.Rect.{Rect};
 ghost use Rattle.dpl_tree.specs.declared.items.Item.{Item};
 ghost use Rattle.dpl_tree.specs.Trees.{AreItemsOf, ArePassed, HasItem, IsMissed};
 

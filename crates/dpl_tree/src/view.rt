@@ -1,6 +1,6 @@
 //! A search tree, as it is or with x and y exchanged.
 ghost use Rattle.std.specs.Prelude.{◌≡◌, ℕ, ◌<◌, ◌≤◌, length, map, slice_index_or};
-ghost use Rattle.dpl_spec.specs.Zones.{turned_rect};
+ghost use Rattle.dpl_spec_split.specs.Zones.{turned_rect};
 ghost use Rattle.dpl_tree.specs.declared.items.Item.{Item};
 ghost use Rattle.dpl_tree.specs.Trees.{ArePassed, IsMissed, turned_item};
 

@@ -3,8 +3,8 @@ use Rattle.std.proofs.Common.{◌≡◌, ℕ, zero, suc, ◌+◌, ◌-◌, ◌*�
 use Rattle.std.proofs.lemmas.List.Sums.{sum_by-append, sum_by-cons}
 use Rattle.std.specs.List.{Contains, sum_by}
 use Rattle.std.specs.Option.{option_to_list}
-use Rattle.dpl_spec.proofs.Ordered.{Contains-head, Contains-later}
-use Rattle.dpl_elements.specs.Motions.{Motion}
+use Rattle.dpl_spec_split.proofs.Ordered.{Contains-head, Contains-later}
+use Rattle.dpl_spec_elements.specs.Motions.{Motion}
 use Rattle.dpl_walk.specs.declared.cells.Copies.{Copies}
 use Rattle.dpl_walk.specs.declared.cells.Cell.{Cell}
 use Rattle.dpl_walk.specs.declared.walk.Frame.{Frame}

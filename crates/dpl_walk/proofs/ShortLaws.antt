@@ -7,9 +7,9 @@ use Rattle.std.proofs.lemmas.Bool.{cases_lt}
 use Rattle.std.proofs.lemmas.Option.{slice_get-get_or, slice_get_past, slice_get_within}
 use Rattle.std.proofs.lemmas.List.{take_all, length-take, length-append, get_or-set_same, get_or-set_other}
 use Rattle.std.proofs.lemmas.List.Elements.{Contains-append_left, Contains-push, Contains-push_cases, Contains-get_or}
-use Rattle.dpl_spec.specs.declared.Pt.{Pt}
-use Rattle.dpl_spec.proofs.Ordered.{Contains-nil, Contains-head, Contains-later, Contains-cases}
-use Rattle.dpl_elements.specs.Motions.{image, IsMotionWithin}
+use Rattle.dpl_spec_split.specs.declared.Pt.{Pt}
+use Rattle.dpl_spec_split.proofs.Ordered.{Contains-nil, Contains-head, Contains-later, Contains-cases}
+use Rattle.dpl_spec_elements.specs.Motions.{image, IsMotionWithin}
 use Rattle.dpl_links.proofs.TakeLaws.{Contains-take_more, Contains-take_keeps, Contains-take_last}
 use Rattle.dpl_walk.specs.declared.cells.Copies.{Copies}
 use Rattle.dpl_walk.specs.declared.cells.Cell.{Cell}

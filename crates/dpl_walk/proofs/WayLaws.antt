@@ -5,9 +5,9 @@ use Rattle.std.specs.Prelude.{slice_get, ◌↔◌, unsigned_abs}
 use Rattle.std.proofs.Math.Nat.{mul-le-mul_right}
 use Rattle.std.proofs.lemmas.Int.{ints, unsigned_abs-mul}
 use Rattle.std.proofs.lemmas.Option.{slice_get-get_or}
-use Rattle.dpl_spec.specs.declared.Pt.{Pt}
-use Rattle.dpl_spec.proofs.Ordered.{Contains-head, Contains-cases, Contains-nil}
-use Rattle.dpl_elements.specs.Motions.{Motion, image, reflected, turned, IsComposed, IsMotionWithin}
+use Rattle.dpl_spec_split.specs.declared.Pt.{Pt}
+use Rattle.dpl_spec_split.proofs.Ordered.{Contains-head, Contains-cases, Contains-nil}
+use Rattle.dpl_spec_elements.specs.Motions.{Motion, image, reflected, turned, IsComposed, IsMotionWithin}
 use Rattle.dpl_place.proofs.Turning.{same_point}
 use Rattle.dpl_walk.specs.declared.cells.Copies.{Copies}
 use Rattle.dpl_walk.specs.declared.cells.Cell.{Cell}

@@ -1,8 +1,8 @@
 -- The copies that a structure places.
 use Rattle.std.specs.Prelude.{ℕ, ◌<◌, ◌≤◌, ◌*◌, ◌^◌, pos, ◌+ℤ◌, ◌*ℤ◌, unsigned_abs}
-use Rattle.dpl_spec.specs.declared.Pt.{Pt}
-use Rattle.dpl_spec.specs.Loops.{IsPointWithin}
-use Rattle.dpl_elements.specs.Motions.{Motion}
+use Rattle.dpl_spec_split.specs.declared.Pt.{Pt}
+use Rattle.dpl_spec_split.specs.Loops.{IsPointWithin}
+use Rattle.dpl_spec_elements.specs.Motions.{Motion}
 use Rattle.dpl_walk.specs.declared.cells.Copies.{Copies}
 
 -- the motion of copy (i, j)

@@ -1,9 +1,9 @@
 -- What a walk over placements gathers.
 use Rattle.std.specs.Prelude.{◌≡◌, ℕ, zero, suc, ◌+◌, ◌-◌, ◌*◌, ◌^◌, ◌<◌, ◌≤◌, ◌⊎◌, List, [], ◌∷◌, map, length, sum_by, slice_get, Option, Some, None}
 use Rattle.std.specs.List.{All, Contains}
-use Rattle.dpl_spec.specs.declared.Pt.{Pt}
-use Rattle.dpl_spec.specs.Loops.{ArePointsWithin, IsPointWithin, farthest}
-use Rattle.dpl_elements.specs.Motions.{Motion, image, IsMotionWithin}
+use Rattle.dpl_spec_split.specs.declared.Pt.{Pt}
+use Rattle.dpl_spec_split.specs.Loops.{ArePointsWithin, IsPointWithin, farthest}
+use Rattle.dpl_spec_elements.specs.Motions.{Motion, image, IsMotionWithin}
 use Rattle.dpl_walk.specs.Least.{IsAtMost}
 use Rattle.dpl_walk.specs.Cells.{copy_motion, IsReady}
 use Rattle.dpl_walk.specs.declared.cells.Outline.{Outline}

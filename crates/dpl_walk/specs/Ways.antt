@@ -1,8 +1,8 @@
 -- Ways past structures that do no more than place one copy of another one.
 use Rattle.std.specs.Prelude.{◌≡◌, ◌≢◌, ℕ, ◌-◌, ◌*◌, ◌^◌, ◌<◌, ◌≤◌, ◌↔◌, List, [], ◌∷◌, length, take, slice_get, Some}
 use Rattle.std.specs.List.{All, Contains}
-use Rattle.dpl_spec.specs.declared.Pt.{Pt}
-use Rattle.dpl_elements.specs.Motions.{image, IsComposed, IsMotionWithin}
+use Rattle.dpl_spec_split.specs.declared.Pt.{Pt}
+use Rattle.dpl_spec_elements.specs.Motions.{image, IsComposed, IsMotionWithin}
 use Rattle.dpl_walk.specs.declared.cells.Outline.{Outline}
 use Rattle.dpl_walk.specs.declared.cells.Copies.{Copies}
 use Rattle.dpl_walk.specs.declared.cells.Cell.{Cell}

@@ -1,7 +1,7 @@
 //! Where the copies of a reference stand.
 
 ghost use Rattle.std.specs.Prelude.{◌≡◌, ◌^◌, ◌*◌, ◌<◌, ◌≤◌, unsigned_abs, pos, ◌+ℤ◌, ◌*ℤ◌};
-ghost use Rattle.dpl_elements.specs.Motions.{IsMotionWithin};
+ghost use Rattle.dpl_spec_elements.specs.Motions.{IsMotionWithin};
 ghost use Rattle.dpl_walk.specs.Cells.{copy_motion, IsReady};
 
 use crate::cells::Copies;

@@ -4,8 +4,8 @@ ghost use Rattle.std.specs.Prelude.{◌≡◌, ℕ, Option, ◌^◌, ◌*◌, �
 ghost use Rattle.std.specs.List.{All};
 ghost use Rattle.std.specs.Option.{option_to_list};
 ghost use Rattle.dpl_walk.specs.declared.walk.Frame.{Frame};
-ghost use Rattle.dpl_spec.specs.Loops.{ArePointsWithin, farthest};
-ghost use Rattle.dpl_elements.specs.Motions.{image, IsMotionWithin, IsComposed};
+ghost use Rattle.dpl_spec_split.specs.Loops.{ArePointsWithin, farthest};
+ghost use Rattle.dpl_spec_elements.specs.Motions.{image, IsMotionWithin, IsComposed};
 ghost use Rattle.dpl_walk.specs.Cells.{copy_motion, IsReady};
 ghost use Rattle.dpl_walk.specs.Walk.{Gathers, HasFarPoint, frame_of, IsNext, IsFrame, AreSteep, IsWalk, AreKnown, IsWalking, walk_left};
 

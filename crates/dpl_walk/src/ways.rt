@@ -3,8 +3,8 @@
 
 ghost use Rattle.std.specs.Prelude.{◌≡◌, ℕ, ◌^◌, ◌<◌, ◌≤◌, length, slice_get, Some, IfOk, OnOk, IfSome, IfNone};
 ghost use Rattle.std.specs.List.{All, Contains};
-ghost use Rattle.dpl_spec.specs.declared.Pt.{Pt};
-ghost use Rattle.dpl_elements.specs.Motions.{image, IsComposed, IsMotionWithin};
+ghost use Rattle.dpl_spec_split.specs.declared.Pt.{Pt};
+ghost use Rattle.dpl_spec_elements.specs.Motions.{image, IsComposed, IsMotionWithin};
 ghost use Rattle.dpl_walk.specs.declared.cells.Copies.{Copies};
 ghost use Rattle.dpl_walk.specs.declared.ways.Way.{Way};
 ghost use Rattle.dpl_walk.specs.Cells.{copy_motion, IsReady};

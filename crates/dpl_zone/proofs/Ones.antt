@@ -4,11 +4,11 @@ use Rattle.std.specs.Prelude.{ℤ, pos, ◌+ℤ◌, ◌-ℤ◌, ◌≤ℤ◌, �
 use Rattle.std.specs.List.{Contains}
 use Rattle.std.proofs.lemmas.Int.{ints}
 use Rattle.std.proofs.lemmas.List.{get_or-map, get_or_default, length-map}
-use Rattle.dpl_spec.specs.declared.Pt.{Pt}
-use Rattle.dpl_spec.specs.declared.Rect.{Rect}
-use Rattle.dpl_spec.specs.Squares.{Covers, Has, SameSquares}
-use Rattle.dpl_spec.specs.Slabs.{IsCanonical}
-use Rattle.dpl_spec.specs.Zones.{IsVerticalZone, turned_rect}
+use Rattle.dpl_spec_split.specs.declared.Pt.{Pt}
+use Rattle.dpl_spec_split.specs.declared.Rect.{Rect}
+use Rattle.dpl_spec_split.specs.Squares.{Covers, Has, SameSquares}
+use Rattle.dpl_spec_split.specs.Slabs.{IsCanonical}
+use Rattle.dpl_spec_split.specs.Zones.{IsVerticalZone, turned_rect}
 use Rattle.dpl_tree.specs.declared.items.Item.{Item}
 use Rattle.dpl_tree.specs.Trees.{turned_item}
 use Rattle.dpl_zone.specs.declared.rows.Span.{Span}

@@ -3,12 +3,12 @@ use Rattle.std.proofs.Common.{◌≡◌, ℕ, ◌<◌, ◌⊎◌, inl, inr, List
 use Rattle.std.specs.Prelude.{ℤ, pos, ◌+ℤ◌, ◌-ℤ◌, ◌≤ℤ◌, ◌<ℤ◌}
 use Rattle.std.proofs.lemmas.Int.{ints, by_lt_z}
 use Rattle.std.proofs.lemmas.Bool.{cases_lt, cases_eq}
-use Rattle.dpl_spec.specs.declared.Rect.{Rect}
-use Rattle.dpl_spec.specs.Loops.{farthest}
-use Rattle.dpl_spec.specs.Squares.{Has, Covers, AreTouching, IsSolidWithin}
-use Rattle.dpl_spec.specs.Zones.{at, GoesOn, turned}
-use Rattle.dpl_spec.proofs.SquareLaws.{Touch-from_close}
-use Rattle.dpl_spec.proofs.ZoneLaws.{close-from_touch}
+use Rattle.dpl_spec_split.specs.declared.Rect.{Rect}
+use Rattle.dpl_spec_split.specs.Loops.{farthest}
+use Rattle.dpl_spec_split.specs.Squares.{Has, Covers, AreTouching, IsSolidWithin}
+use Rattle.dpl_spec_split.specs.Zones.{at, GoesOn, turned}
+use Rattle.dpl_spec_split.proofs.SquareLaws.{Touch-from_close}
+use Rattle.dpl_spec_split.proofs.ZoneLaws.{close-from_touch}
 use Rattle.dpl_tree.specs.declared.items.Item.{Item}
 use Rattle.dpl_tree.specs.declared.owners.Owners.{Owners}
 use Rattle.dpl_tree.specs.declared.owners.Owners.TheVariants.{All, Only}

@@ -4,18 +4,18 @@ use Rattle.std.specs.Prelude.{ℤ, pos, ◌+ℤ◌, ◌-ℤ◌, ◌≤ℤ◌, �
 use Rattle.std.specs.List.{Contains}
 use Rattle.std.proofs.lemmas.Int.{ints, by_lt_z}
 use Rattle.std.proofs.lemmas.List.{get_or_default}
-use Rattle.dpl_spec.specs.declared.Pt.{Pt}
-use Rattle.dpl_spec.specs.declared.Rect.{Rect}
-use Rattle.dpl_spec.specs.declared.Zone.{Zone}
-use Rattle.dpl_spec.specs.Squares.{Region, SameSquares, AreNear, AreTouching, Covers, Has, Touch, d2}
-use Rattle.dpl_spec.specs.Components.{Linked, here, on, AreComponents}
-use Rattle.dpl_spec.specs.Zones.{at, IsHorizontalZone, IsVerticalZone, IsKeptZone, turned, turned_rect, AreZones, part_at}
-use Rattle.dpl_spec.specs.Pieces.{without, AreSides}
-use Rattle.dpl_spec.proofs.SquareLaws.{Touch-from_close, Touch-sym}
-use Rattle.dpl_spec.proofs.ComponentLaws.{Linked-trans}
-use Rattle.dpl_spec.proofs.ZoneLaws.{close-from_touch, zone-in-feature, beside-in-feature, beside-same, touching-beside}
-use Rattle.dpl_spec.proofs.WholeLaws.{part-unique}
-use Rattle.dpl_spec.proofs.SideLaws.{sides-unique}
+use Rattle.dpl_spec_split.specs.declared.Pt.{Pt}
+use Rattle.dpl_spec_split.specs.declared.Rect.{Rect}
+use Rattle.dpl_spec_split.specs.declared.Zone.{Zone}
+use Rattle.dpl_spec_split.specs.Squares.{Region, SameSquares, AreNear, AreTouching, Covers, Has, Touch, d2}
+use Rattle.dpl_spec_split.specs.Components.{Linked, here, on, AreComponents}
+use Rattle.dpl_spec_split.specs.Zones.{at, IsHorizontalZone, IsVerticalZone, IsKeptZone, turned, turned_rect, AreZones, part_at}
+use Rattle.dpl_spec_split.specs.Pieces.{without, AreSides}
+use Rattle.dpl_spec_split.proofs.SquareLaws.{Touch-from_close, Touch-sym}
+use Rattle.dpl_spec_split.proofs.ComponentLaws.{Linked-trans}
+use Rattle.dpl_spec_split.proofs.ZoneLaws.{close-from_touch, zone-in-feature, beside-in-feature, beside-same, touching-beside}
+use Rattle.dpl_spec_split.proofs.WholeLaws.{part-unique}
+use Rattle.dpl_spec_split.proofs.SideLaws.{sides-unique}
 use Rattle.dpl_slabs.specs.Parts.{union_of}
 use Rattle.dpl_zone.specs.Laws.{IsLeftOrBelow, IsRightOrAbove, HasTwoSides}
 use Rattle.dpl_zone.proofs.Features.{kept-as, same_zone}

@@ -1,9 +1,9 @@
 -- The rectangles of a search tree, by owner, and windows of a search.
 use Rattle.std.specs.Prelude.{◌≡◌, ℕ, ℤ, pos, ◌+ℤ◌, ◌-ℤ◌, not, cond, ◌==◌, List, [], ◌∷◌}
-use Rattle.dpl_spec.specs.declared.Rect.{Rect}
-use Rattle.dpl_spec.specs.declared.Pt.{Pt}
-use Rattle.dpl_spec.specs.Squares.{Covers, Has, IsSolidWithin}
-use Rattle.dpl_spec.specs.Loops.{farthest}
+use Rattle.dpl_spec_split.specs.declared.Rect.{Rect}
+use Rattle.dpl_spec_split.specs.declared.Pt.{Pt}
+use Rattle.dpl_spec_split.specs.Squares.{Covers, Has, IsSolidWithin}
+use Rattle.dpl_spec_split.specs.Loops.{farthest}
 use Rattle.dpl_tree.specs.declared.items.Item.{Item}
 use Rattle.dpl_tree.specs.Trees.{HasItem}
 

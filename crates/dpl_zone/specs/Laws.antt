@@ -1,13 +1,13 @@
 -- What follows for the zones of a layer.
 use Rattle.std.specs.Prelude.{◌≡◌, ℕ, ◌<◌, ◌≤◌, ◌⊎◌, ◌↔◌, ◌≤ℤ◌, ◌<ℤ◌, List, length}
 use Rattle.std.specs.List.{Contains}
-use Rattle.dpl_spec.specs.declared.Pt.{Pt}
-use Rattle.dpl_spec.specs.declared.Rect.{Rect}
-use Rattle.dpl_spec.specs.declared.Zone.{Zone}
-use Rattle.dpl_spec.specs.Squares.{SameSquares, AreNear, AreTouching, Covers, Has, Touch, d2}
-use Rattle.dpl_spec.specs.Components.{AreComponents}
-use Rattle.dpl_spec.specs.Zones.{at, turned, part_at, AreZones}
-use Rattle.dpl_spec.specs.Pieces.{without, IsFirstSide, IsSecondSide, AreSides}
+use Rattle.dpl_spec_split.specs.declared.Pt.{Pt}
+use Rattle.dpl_spec_split.specs.declared.Rect.{Rect}
+use Rattle.dpl_spec_split.specs.declared.Zone.{Zone}
+use Rattle.dpl_spec_split.specs.Squares.{SameSquares, AreNear, AreTouching, Covers, Has, Touch, d2}
+use Rattle.dpl_spec_split.specs.Components.{AreComponents}
+use Rattle.dpl_spec_split.specs.Zones.{at, turned, part_at, AreZones}
+use Rattle.dpl_spec_split.specs.Pieces.{without, IsFirstSide, IsSecondSide, AreSides}
 use Rattle.dpl_slabs.specs.Parts.{union_of}
 
 -- zones of one feature that touch are one

@@ -1,10 +1,10 @@
 -- The features of a layer, and zones by feature.
 use Rattle.std.specs.Prelude.{◌≢◌, ℕ, ◌<◌, ◌↔◌, [], List, length, slice_index_or}
 use Rattle.std.specs.List.{Contains}
-use Rattle.dpl_spec.specs.declared.Rect.{Rect}
-use Rattle.dpl_spec.specs.declared.Zone.{Zone}
+use Rattle.dpl_spec_split.specs.declared.Rect.{Rect}
+use Rattle.dpl_spec_split.specs.declared.Zone.{Zone}
 use Rattle.dpl_slabs.specs.Parts.{union_of}
-use Rattle.dpl_spec.specs.Zones.{IsKeptZone, part_at}
+use Rattle.dpl_spec_split.specs.Zones.{IsKeptZone, part_at}
 
 -- the rectangles of the first n parts but number k
 abbrev pub AreOthers : List (List Rect) → ℕ → ℕ → List Rect → Type 0

@@ -1,7 +1,7 @@
 -- The items of a search tree near a slab, by their numbers.
 use Rattle.std.specs.Prelude.{◌≢◌, ℕ, ◌<◌, ◌⊎◌, ℤ, pos, ◌+ℤ◌, ◌-ℤ◌, ◌≤ℤ◌, List, length, slice_index_or}
 use Rattle.std.specs.List.{Contains}
-use Rattle.dpl_spec.specs.declared.Rect.{Rect}
+use Rattle.dpl_spec_split.specs.declared.Rect.{Rect}
 use Rattle.dpl_tree.specs.declared.items.Item.{Item}
 use Rattle.dpl_zone.specs.Rows.{IsShaded}
 

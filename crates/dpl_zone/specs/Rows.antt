@@ -1,11 +1,11 @@
 -- Rows of a slab: those near other rectangles, the spans between them, and the zones in the spans.
 use Rattle.std.specs.Prelude.{◌≡◌, ℕ, ◌+◌, ◌*◌, ◌<◌, ◌≤◌, ◌⊎◌, ◌↔◌, ℤ, pos, ◌+ℤ◌, ◌-ℤ◌, ◌≤ℤ◌, ◌<ℤ◌, List, length, slice_index_or}
 use Rattle.std.specs.List.{Any, Contains}
-use Rattle.dpl_spec.specs.declared.Pt.{Pt}
-use Rattle.dpl_spec.specs.declared.Rect.{Rect}
-use Rattle.dpl_spec.specs.Loops.{farthest}
-use Rattle.dpl_spec.specs.Squares.{Region, AreTouching, Has, Covers, d2, IsSolidWithin}
-use Rattle.dpl_spec.specs.Zones.{at, turned, GoesOn}
+use Rattle.dpl_spec_split.specs.declared.Pt.{Pt}
+use Rattle.dpl_spec_split.specs.declared.Rect.{Rect}
+use Rattle.dpl_spec_split.specs.Loops.{farthest}
+use Rattle.dpl_spec_split.specs.Squares.{Region, AreTouching, Has, Covers, d2, IsSolidWithin}
+use Rattle.dpl_spec_split.specs.Zones.{at, turned, GoesOn}
 use Rattle.dpl_zone.specs.declared.rows.Span.{Span}
 
 pub record InRows (s : Span) (y : ℤ) : Type 0 where

@@ -1,9 +1,9 @@
 -- The zones of a feature, horizontal and vertical.
 use Rattle.std.specs.Prelude.{ℕ, ◌↔◌}
 use Rattle.std.specs.List.{Contains}
-use Rattle.dpl_spec.specs.declared.Rect.{Rect}
-use Rattle.dpl_spec.specs.Squares.{Region}
-use Rattle.dpl_spec.specs.Zones.{IsHorizontalZone, IsVerticalZone}
+use Rattle.dpl_spec_split.specs.declared.Rect.{Rect}
+use Rattle.dpl_spec_split.specs.Squares.{Region}
+use Rattle.dpl_spec_split.specs.Zones.{IsHorizontalZone, IsVerticalZone}
 use Rattle.dpl_zone.specs.declared.ways.Found.{Found}
 
 pub record AreFound (rule overlap : ℕ) (layer feature : Region) (found : Found) : Type 0 where

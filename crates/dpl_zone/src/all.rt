@@ -1,9 +1,9 @@
 //! The zones of all features.
 ghost use Rattle.std.specs.Prelude.{◌≡◌, ◌<◌, ◌≤◌, ◌⊎◌, ◌↔◌, map, IfOk, OnOk, length};
 ghost use Rattle.std.specs.List.{Contains};
-ghost use Rattle.dpl_spec.specs.declared.Zone.{Zone};
+ghost use Rattle.dpl_spec_split.specs.declared.Zone.{Zone};
 ghost use Rattle.dpl_slabs.specs.Parts.{AreParts, union_of};
-ghost use Rattle.dpl_spec.specs.Zones.{AreZones};
+ghost use Rattle.dpl_spec_split.specs.Zones.{AreZones};
 ghost use Rattle.dpl_zone.specs.Layers.{IsPartZone};
 ghost use Rattle.dpl_tree.specs.Trees.{AreItemsOf, turned_item};
 

@@ -1,11 +1,11 @@
 //! The zones of a feature that are kept.
 ghost use Rattle.std.specs.Prelude.{◌≡◌, ℕ, ◌≤◌, ◌⊎◌, ◌↔◌, map, IfOk, OnOk};
 ghost use Rattle.std.specs.List.{Contains};
-ghost use Rattle.dpl_spec.specs.declared.Pt.{Pt};
-ghost use Rattle.dpl_spec.specs.declared.Rect.{Rect};
-ghost use Rattle.dpl_spec.specs.Loops.{farthest};
-ghost use Rattle.dpl_spec.specs.Squares.{AreTouching, Covers, Has, IsSolidWithin, SameSquares};
-ghost use Rattle.dpl_spec.specs.Zones.{IsKeptZone};
+ghost use Rattle.dpl_spec_split.specs.declared.Pt.{Pt};
+ghost use Rattle.dpl_spec_split.specs.declared.Rect.{Rect};
+ghost use Rattle.dpl_spec_split.specs.Loops.{farthest};
+ghost use Rattle.dpl_spec_split.specs.Squares.{AreTouching, Covers, Has, IsSolidWithin, SameSquares};
+ghost use Rattle.dpl_spec_split.specs.Zones.{IsKeptZone};
 ghost use Rattle.dpl_zone.specs.Rows.{AddsZones, AreWithin, TouchesAny, layer_of};
 ghost use Rattle.dpl_tree.specs.Trees.{HasItem, turned_item};
 ghost use Rattle.dpl_zone.specs.Items.{AreItemsWithin, others_in, own_in};

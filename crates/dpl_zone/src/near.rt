@@ -1,9 +1,9 @@
 //! Searches for rectangles near a slab.
 ghost use Rattle.std.specs.Prelude.{◌≡◌, ℕ, ◌<◌, ◌⊎◌, ◌↔◌, ℤ, pos, ◌≤ℤ◌, ◌<ℤ◌, IsTrue, IfOk, length};
-ghost use Rattle.dpl_spec.specs.declared.Rect.{Rect};
-ghost use Rattle.dpl_spec.specs.Loops.{farthest};
-ghost use Rattle.dpl_spec.specs.Squares.{AreTouching, Covers, Has, IsSolidWithin};
-ghost use Rattle.dpl_spec.specs.Zones.{GoesOn, turned};
+ghost use Rattle.dpl_spec_split.specs.declared.Rect.{Rect};
+ghost use Rattle.dpl_spec_split.specs.Loops.{farthest};
+ghost use Rattle.dpl_spec_split.specs.Squares.{AreTouching, Covers, Has, IsSolidWithin};
+ghost use Rattle.dpl_spec_split.specs.Zones.{GoesOn, turned};
 ghost use Rattle.dpl_zone.specs.Near.{HasAllNear};
 ghost use Rattle.dpl_tree.specs.Trees.{HasItem};
 ghost use Rattle.dpl_zone.specs.Items.{AllIn, AreItemsWithin, IsStrip, own_in};

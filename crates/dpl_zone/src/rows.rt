@@ -2,9 +2,9 @@
 ghost use Rattle.std.specs.Prelude.{◌≡◌, ◌+◌, ◌^◌, ◌<◌, ◌≤◌, ◌⊎◌, ◌↔◌, ℤ, pos, ◌+ℤ◌, ◌≤ℤ◌, ◌<ℤ◌, IsTrue, IsNone, IfSome, IfOk, OnOk, length, unsigned_abs};
 ghost use Rattle.std.specs.List.{Contains};
 ghost use Rattle.dpl_zone.specs.declared.rows.Span.{Span};
-ghost use Rattle.dpl_spec.specs.declared.Rect.{Rect};
-ghost use Rattle.dpl_spec.specs.Loops.{farthest};
-ghost use Rattle.dpl_spec.specs.Squares.{IsSolidWithin};
+ghost use Rattle.dpl_spec_split.specs.declared.Rect.{Rect};
+ghost use Rattle.dpl_spec_split.specs.Loops.{farthest};
+ghost use Rattle.dpl_spec_split.specs.Squares.{IsSolidWithin};
 ghost use Rattle.dpl_zone.specs.Rows.{SomeRow, AreTall, RiseByFrom, IsShaded, IsShadow, IsGap, AddsSpan};
 ghost use Rattle.dpl_zone.specs.Near.{AreNumbers, IsDarkBy};
 ghost use Rattle.dpl_zone.specs.Items.{AreItemsWithin};

@@ -1,12 +1,12 @@
 //! The zones of a feature's slabs.
 ghost use Rattle.std.specs.Prelude.{◌≡◌, ℕ, ◌+◌, ◌<◌, ◌≤◌, ◌⊎◌, ◌↔◌, ℤ, pos, ◌+ℤ◌, ◌≤ℤ◌, ◌<ℤ◌, IsTrue, IfOk, OnOk, length, slice_index_or};
 ghost use Rattle.std.specs.List.{Contains};
-ghost use Rattle.dpl_spec.specs.declared.Pt.{Pt};
-ghost use Rattle.dpl_spec.specs.declared.Rect.{Rect};
-ghost use Rattle.dpl_spec.specs.Loops.{farthest, AreRectsWithin};
-ghost use Rattle.dpl_spec.specs.Squares.{IsSolidWithin, Covers, SameSquares};
-ghost use Rattle.dpl_spec.specs.Slabs.{IsCanonical};
-ghost use Rattle.dpl_spec.specs.Zones.{IsVerticalZone};
+ghost use Rattle.dpl_spec_split.specs.declared.Pt.{Pt};
+ghost use Rattle.dpl_spec_split.specs.declared.Rect.{Rect};
+ghost use Rattle.dpl_spec_split.specs.Loops.{farthest, AreRectsWithin};
+ghost use Rattle.dpl_spec_split.specs.Squares.{IsSolidWithin, Covers, SameSquares};
+ghost use Rattle.dpl_spec_split.specs.Slabs.{IsCanonical};
+ghost use Rattle.dpl_spec_split.specs.Zones.{IsVerticalZone};
 ghost use Rattle.dpl_zone.specs.declared.rows.Span.{Span};
 ghost use Rattle.dpl_zone.specs.Rows.{IsDark, GoesBelow, GoesAbove, IsOpenSpan, IsMiddleOf, IsSlabZone, AddsZones, layer_of};
 ghost use Rattle.dpl_zone.specs.Near.{HasAllNear};

@@ -1,10 +1,10 @@
 //! The zones of a feature, horizontal and vertical.
 ghost use Rattle.std.specs.Prelude.{◌≡◌, ◌+◌, ◌↔◌, ℤ, pos, ◌+ℤ◌, ◌<ℤ◌, map, [], IsTrue, IfOk, length};
-ghost use Rattle.dpl_spec.specs.declared.Pt.{Pt};
-ghost use Rattle.dpl_spec.specs.declared.Rect.{Rect};
-ghost use Rattle.dpl_spec.specs.Loops.{farthest};
-ghost use Rattle.dpl_spec.specs.Squares.{Covers, IsSolidWithin, SameSquares};
-ghost use Rattle.dpl_spec.specs.Zones.{turned_rect};
+ghost use Rattle.dpl_spec_split.specs.declared.Pt.{Pt};
+ghost use Rattle.dpl_spec_split.specs.declared.Rect.{Rect};
+ghost use Rattle.dpl_spec_split.specs.Loops.{farthest};
+ghost use Rattle.dpl_spec_split.specs.Squares.{Covers, IsSolidWithin, SameSquares};
+ghost use Rattle.dpl_spec_split.specs.Zones.{turned_rect};
 ghost use Rattle.dpl_zone.specs.Rows.{AreWithin, layer_of};
 ghost use Rattle.dpl_zone.specs.Ways.{AreFound};
 ghost use Rattle.dpl_tree.specs.Trees.{turned_item};

@@ -1,5 +1,5 @@
 use Rattle.std.proofs.Common.{rules}
-use Rattle.dpl_spec.specs.Squares.{Covers}
+use Rattle.dpl_spec_split.specs.Squares.{Covers}
 use Rattle.dpl_nearest.proofs.UnitLaws.{covered_fits, has_partner, nearest_pair}
 use Rattle.dpl_nearest.proofs.nearest.Goals as goal
 

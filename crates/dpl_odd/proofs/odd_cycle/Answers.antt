@@ -1,5 +1,5 @@
 use Rattle.std.proofs.Common.{◌≡◌, subst, arith}
-use Rattle.dpl_spec.specs.Graphs.{graph_of}
+use Rattle.dpl_spec_split.specs.Graphs.{graph_of}
 use Rattle.dpl_odd.specs.Paths.{AreLowest, IsForest}
 use Rattle.dpl_odd.proofs.ReportLaws.{none-even, forest-of, level-root, reported-of, reported-odd}
 use Rattle.dpl_odd.proofs.odd_cycle.Goals as goal

@@ -1,6 +1,6 @@
 use Rattle.std.proofs.Common.{arith, sym}
 use Rattle.std.proofs.lemmas.Int.{ints}
-use Rattle.dpl_elements.specs.Motions.{Motion}
+use Rattle.dpl_spec_elements.specs.Motions.{Motion}
 use Rattle.dpl_place.proofs.Composing.{composed, reflect_after-is}
 use Rattle.dpl_place.proofs.Turning.{image-same}
 use Rattle.dpl_place.proofs.compose.Goals as goal

@@ -2,8 +2,8 @@ use Rattle.std.proofs.Common.{◌≡◌, ◌/◌, ◌^◌, ◌≤◌, sym, subst
 use Rattle.std.specs.Prelude.{unsigned_abs, map, ◌↔◌}
 use Rattle.std.specs.List.{All, Contains}
 use Rattle.std.proofs.lemmas.Int.{ints}
-use Rattle.dpl_spec.specs.Loops.{IsRectilinear, SomeLoopCovers}
-use Rattle.dpl_elements.specs.Paths.{PathElement, path_of, past_end, corners_of, half_of, path_rects, PathCovers, distinct, HasSlant, HasTurnBack}
+use Rattle.dpl_spec_split.specs.Loops.{IsRectilinear, SomeLoopCovers}
+use Rattle.dpl_spec_elements.specs.Paths.{PathElement, path_of, past_end, corners_of, half_of, path_rects, PathCovers, distinct, HasSlant, HasTurnBack}
 use Rattle.dpl_shapes.specs.Types.{HasNegativeEnd}
 use Rattle.dpl_shapes.proofs.Corners.{loops-straight, loops-cover}
 use Rattle.dpl_shapes.proofs.Faults.{IsPlain, plain-as, no-slant, turns-first, negative-first, no-fault, negative-as}

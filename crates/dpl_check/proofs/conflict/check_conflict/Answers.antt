@@ -1,8 +1,8 @@
 use Rattle.std.proofs.Common.{sym, refl, inl, inr, subst, length}
 use Rattle.std.proofs.lemmas.Bool.{false≢true}
 use Rattle.dpl_cert.specs.declared.cert.Cert.{Cert}
-use Rattle.dpl_verdict.specs.declared.Verdict.TheVariants.{Valid, Cycle}
-use Rattle.dpl_verdict.specs.Conflicts.{IsVerdictOfConflict}
+use Rattle.dpl_spec_verdict.specs.declared.Verdict.TheVariants.{Valid, Cycle}
+use Rattle.dpl_spec_verdict.specs.Conflicts.{IsVerdictOfConflict}
 use Rattle.dpl_check.specs.Cutting.{cut_view}
 use Rattle.dpl_check.proofs.Counting.{counts-differ, counts-kept}
 use Rattle.dpl_check.proofs.conflict.check_conflict.Goals as goal

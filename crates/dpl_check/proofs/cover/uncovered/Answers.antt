@@ -1,4 +1,4 @@
-use Rattle.dpl_verdict.specs.Masks.{is_uncovered}
+use Rattle.dpl_spec_verdict.specs.Masks.{is_uncovered}
 use Rattle.dpl_check.proofs.Sets.{least-of, none-uncovered, uncovered-are}
 use Rattle.dpl_check.proofs.cover.uncovered.Goals as goal
 

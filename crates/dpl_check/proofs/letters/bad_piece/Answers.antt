@@ -1,5 +1,5 @@
 use Rattle.std.proofs.Common.{get_or}
-use Rattle.dpl_verdict.specs.Masks.{IsBadPiece}
+use Rattle.dpl_spec_verdict.specs.Masks.{IsBadPiece}
 use Rattle.dpl_check.specs.Findings.{IsOffMask}
 use Rattle.dpl_check.proofs.Finding.{first-same}
 use Rattle.dpl_check.proofs.Stitches.{off-bad, slab-items}

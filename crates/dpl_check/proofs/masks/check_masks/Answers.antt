@@ -1,8 +1,8 @@
 use Rattle.std.proofs.Common.{sym, refl, inl, inr, Some, None, subst}
 use Rattle.std.proofs.lemmas.Bool.{false≢true}
 use Rattle.dpl_cert.specs.declared.cert.Cert.{Cert}
-use Rattle.dpl_verdict.specs.declared.Verdict.TheVariants.{Valid, Cover, Overlap, SpacingA, SpacingB, Stitch, Piece}
-use Rattle.dpl_verdict.specs.Masks.{IsVerdictOfMasks}
+use Rattle.dpl_spec_verdict.specs.declared.Verdict.TheVariants.{Valid, Cover, Overlap, SpacingA, SpacingB, Stitch, Piece}
+use Rattle.dpl_spec_verdict.specs.Masks.{IsVerdictOfMasks}
 use Rattle.dpl_check.proofs.Sets.{a-inside, b-inside, count-kept, count-differs, least-doubled}
 use Rattle.dpl_check.proofs.Stitches.{first-bad-stitch}
 use Rattle.dpl_check.proofs.masks.check_masks.Goals as goal

@@ -1,7 +1,7 @@
 use Rattle.std.specs.Prelude.{pos}
 use Rattle.std.proofs.Common.{◌≡◌, get_or, take, arith}
 use Rattle.std.proofs.lemmas.List.{get_or_default, take_all}
-use Rattle.dpl_spec.specs.declared.Rect.{Rect}
+use Rattle.dpl_spec_split.specs.declared.Rect.{Rect}
 use Rattle.dpl_tree.specs.declared.owners.Owners.TheVariants.{Only}
 use Rattle.dpl_nearest.specs.Search.{ItemCovers}
 use Rattle.dpl_piece.proofs.CornerLaws.{zip-next}

@@ -1,9 +1,9 @@
 use Rattle.std.proofs.Common.{sym}
-use Rattle.dpl_spec.specs.Squares.{Covers}
+use Rattle.dpl_spec_split.specs.Squares.{Covers}
 use Rattle.dpl_tree.specs.declared.owners.Owners.TheVariants.{Only}
 use Rattle.dpl_nearest.specs.Search.{ItemCovers}
 use Rattle.dpl_piece.proofs.CornerLaws.{zip-length}
-use Rattle.dpl_verdict.specs.Masks.{AreTooClose}
+use Rattle.dpl_spec_verdict.specs.Masks.{AreTooClose}
 use Rattle.dpl_check.specs.Owned.{AreForeign, corner}
 use Rattle.dpl_check.proofs.Apart.{pair-same, corners-covered, owned-once, foreign-close, feature-items}
 use Rattle.dpl_check.proofs.spacing.too_close.Goals as goal

@@ -1,7 +1,7 @@
 use Rattle.std.proofs.Common.{◌≡◌, ◌++◌, ◌∷◌, [], length, get_or, vec_len, rules, ap, ◌∙◌}
 use Rattle.std.specs.Prelude.{pos}
 use Rattle.std.proofs.lemmas.List.{get_or_default}
-use Rattle.dpl_spec.specs.declared.Rect.{Rect}
+use Rattle.dpl_spec_split.specs.declared.Rect.{Rect}
 use Rattle.dpl_feature.proofs.Dealing.{dealt-begun, dealt-read, canonical-read}
 use Rattle.dpl_feature.proofs.split.deal.Goals as goal
 

@@ -1,4 +1,4 @@
-use Rattle.dpl_layout.specs.Elements.{points_in}
+use Rattle.dpl_spec_layout.specs.Elements.{points_in}
 use Rattle.dpl_flatten.proofs.NearLaws.{only_memory}
 use Rattle.dpl_flatten.proofs.cells.boundary_outlines.Goals as goal
 

@@ -1,4 +1,4 @@
-use Rattle.dpl_format.specs.Tree.{elements_at}
+use Rattle.dpl_spec_format.specs.Tree.{elements_at}
 use Rattle.dpl_flatten.proofs.CellLaws.{cell_none, cell_seen, cell_all, taken_here}
 use Rattle.dpl_flatten.proofs.cells.cell_of.Goals as goal
 

@@ -1,5 +1,5 @@
 use Rattle.std.proofs.Common.{take}
-use Rattle.dpl_format.specs.Tree.{elements_at}
+use Rattle.dpl_spec_format.specs.Tree.{elements_at}
 use Rattle.dpl_flatten.specs.Cells.{IsCell}
 use Rattle.dpl_flatten.proofs.cells.cell_of.Given as goal
 

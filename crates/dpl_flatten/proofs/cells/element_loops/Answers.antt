@@ -2,7 +2,7 @@ use Rattle.std.proofs.Common.{refl, sym, ◌∙◌, rules}
 use Rattle.std.specs.Prelude.{FitsSigned}
 use Rattle.std.specs.Int.{w16, w32}
 use Rattle.std.proofs.lemmas.Int.{to_z-of_z}
-use Rattle.dpl_layout.specs.declared.ElementFault.TheVariants.{SlantedBoundary}
+use Rattle.dpl_spec_layout.specs.declared.ElementFault.TheVariants.{SlantedBoundary}
 use Rattle.dpl_flatten.proofs.cells.element_loops.Goals as goal
 
 pub boundary_outlines-requires : goal.boundary_outlines-requires

@@ -2,8 +2,8 @@ use Rattle.std.proofs.Common.{rules}
 use Rattle.std.specs.Prelude.{FitsSigned}
 use Rattle.std.specs.Int.{w16, w32, w64}
 use Rattle.std.proofs.lemmas.Int.{to_z-of_z}
-use Rattle.dpl_elements.specs.Paths.{path_of}
-use Rattle.dpl_layout.specs.Elements.{points_in}
+use Rattle.dpl_spec_elements.specs.Paths.{path_of}
+use Rattle.dpl_spec_layout.specs.Elements.{points_in}
 use Rattle.dpl_flatten.proofs.NearLaws.{path_near, only_path_memory}
 use Rattle.dpl_flatten.proofs.cells.path_outlines.Goals as goal
 

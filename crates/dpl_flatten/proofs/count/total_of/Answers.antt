@@ -1,6 +1,6 @@
 use Rattle.std.proofs.Common.{get_or}
-use Rattle.dpl_format.specs.Tree.{elements_at}
-use Rattle.dpl_layout.specs.Points.{points_by}
+use Rattle.dpl_spec_format.specs.Tree.{elements_at}
+use Rattle.dpl_spec_layout.specs.Points.{points_by}
 use Rattle.dpl_flatten.proofs.TotalLaws.{total_more}
 use Rattle.dpl_flatten.proofs.count.total_of.Goals as goal
 

@@ -1,7 +1,7 @@
 use Rattle.std.proofs.Common.{◌≡◌, min, take, get_or}
 use Rattle.std.specs.List.{sum_by}
-use Rattle.dpl_format.specs.Tree.{elements_at}
-use Rattle.dpl_layout.specs.Points.{points_by}
+use Rattle.dpl_spec_format.specs.Tree.{elements_at}
+use Rattle.dpl_spec_layout.specs.Points.{points_by}
 use Rattle.dpl_flatten.specs.Totals.{ceiling}
 use Rattle.dpl_flatten.proofs.count.total_of.Given as goal
 

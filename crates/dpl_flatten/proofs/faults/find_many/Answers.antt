@@ -1,6 +1,6 @@
 use Rattle.std.proofs.Common.{◌≡◌, ◌<◌, min, length, arith, ◌∙◌}
 use Rattle.std.proofs.lemmas.List.{get_or_default}
-use Rattle.dpl_layout.specs.Points.{placed_points}
+use Rattle.dpl_spec_layout.specs.Points.{placed_points}
 use Rattle.dpl_flatten.specs.Totals.{ceiling}
 use Rattle.dpl_flatten.proofs.FoundLaws.{top_marked}
 use Rattle.dpl_flatten.proofs.faults.find_many.Goals as goal

@@ -1,4 +1,4 @@
-use Rattle.dpl_layout.specs.Faults.{IsMissing}
+use Rattle.dpl_spec_layout.specs.Faults.{IsMissing}
 use Rattle.dpl_flatten.proofs.FoundLaws.{first_of, nowhere_of}
 use Rattle.dpl_flatten.proofs.faults.find_missing.Goals as goal
 

@@ -1,4 +1,4 @@
-use Rattle.dpl_layout.specs.Faults.{IsRefused}
+use Rattle.dpl_spec_layout.specs.Faults.{IsRefused}
 use Rattle.dpl_flatten.proofs.FoundLaws.{refusal_first, refusal_there, nowhere_of}
 use Rattle.dpl_flatten.proofs.faults.find_refused.Goals as goal
 

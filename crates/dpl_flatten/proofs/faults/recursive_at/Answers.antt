@@ -1,5 +1,5 @@
 use Rattle.std.proofs.Common.{refl}
-use Rattle.dpl_layout.specs.Faults.{IsOnCycle}
+use Rattle.dpl_spec_layout.specs.Faults.{IsOnCycle}
 use Rattle.dpl_flatten.proofs.FoundLaws.{first_of}
 use Rattle.dpl_flatten.proofs.LinkLaws.{graph_known}
 use Rattle.dpl_flatten.proofs.ReachLaws.{cycle_there, levelled_of}

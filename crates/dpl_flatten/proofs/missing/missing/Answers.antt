@@ -1,5 +1,5 @@
 use Rattle.std.proofs.Common.{refl}
-use Rattle.dpl_layout.specs.Faults.{IsMissing}
+use Rattle.dpl_spec_layout.specs.Faults.{IsMissing}
 use Rattle.dpl_flatten.proofs.LeastLaws.{marked_more}
 use Rattle.dpl_flatten.proofs.missing.missing.Goals as goal
 

@@ -1,4 +1,4 @@
-use Rattle.dpl_layout.specs.Faults.{IsMissing}
+use Rattle.dpl_spec_layout.specs.Faults.{IsMissing}
 use Rattle.dpl_flatten.specs.Least.{IsLeastOf, AmongMarked}
 use Rattle.dpl_flatten.proofs.missing.missing.Given as goal
 

@@ -1,5 +1,5 @@
-use Rattle.dpl_format.specs.Tree.{elements_at}
-use Rattle.dpl_layout.specs.Faults.{IsMissing}
+use Rattle.dpl_spec_format.specs.Tree.{elements_at}
+use Rattle.dpl_spec_layout.specs.Faults.{IsMissing}
 use Rattle.dpl_flatten.proofs.LeastLaws.{least_seen, least_seen_all}
 use Rattle.dpl_flatten.proofs.missing.missing_in.Goals as goal
 

@@ -1,6 +1,6 @@
 use Rattle.std.proofs.Common.{take}
-use Rattle.dpl_format.specs.Tree.{elements_at}
-use Rattle.dpl_layout.specs.Faults.{IsMissing}
+use Rattle.dpl_spec_format.specs.Tree.{elements_at}
+use Rattle.dpl_spec_layout.specs.Faults.{IsMissing}
 use Rattle.dpl_flatten.specs.Least.{IsLeastOf, Among}
 use Rattle.dpl_flatten.proofs.missing.missing_in.Given as goal
 

@@ -1,5 +1,5 @@
-use Rattle.dpl_format.specs.Tree.{elements_at}
-use Rattle.dpl_layout.specs.Faults.{IsOnCycle}
+use Rattle.dpl_spec_format.specs.Tree.{elements_at}
+use Rattle.dpl_spec_layout.specs.Faults.{IsOnCycle}
 use Rattle.dpl_flatten.proofs.LeastLaws.{least_unmarked}
 use Rattle.dpl_flatten.proofs.recursion.recursion_where.Goals as goal
 

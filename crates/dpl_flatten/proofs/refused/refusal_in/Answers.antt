@@ -1,5 +1,5 @@
-use Rattle.dpl_format.specs.Tree.{elements_at}
-use Rattle.dpl_spec.proofs.Ordered.{Contains-nil}
+use Rattle.dpl_spec_format.specs.Tree.{elements_at}
+use Rattle.dpl_spec_split.proofs.Ordered.{Contains-nil}
 use Rattle.dpl_flatten.proofs.DrawnLaws.{refusal_is, taken_more, taken_all}
 use Rattle.dpl_flatten.proofs.refused.refusal_in.Goals as goal
 

@@ -1,6 +1,6 @@
 use Rattle.std.proofs.Common.{take}
 use Rattle.std.specs.List.{Contains}
-use Rattle.dpl_format.specs.Tree.{Element, elements_at}
+use Rattle.dpl_spec_format.specs.Tree.{Element, elements_at}
 use Rattle.dpl_flatten.specs.Drawn.{IsTakenAt}
 use Rattle.dpl_flatten.proofs.refused.refusal_in.Given as goal
 

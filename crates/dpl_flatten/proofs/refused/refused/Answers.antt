@@ -1,5 +1,5 @@
 use Rattle.std.proofs.Common.{refl, arith}
-use Rattle.dpl_layout.specs.Faults.{IsRefused}
+use Rattle.dpl_spec_layout.specs.Faults.{IsRefused}
 use Rattle.dpl_flatten.proofs.LeastLaws.{marked_more, marked_all}
 use Rattle.dpl_flatten.proofs.refused.refused.Goals as goal
 

@@ -1,6 +1,6 @@
 use Rattle.std.proofs.Common.{◌≡◌, ◌^◌}
-use Rattle.dpl_spec.specs.Loops.{ArePointsWithin}
-use Rattle.dpl_layout.specs.Elements.{first_points}
+use Rattle.dpl_spec_split.specs.Loops.{ArePointsWithin}
+use Rattle.dpl_spec_layout.specs.Elements.{first_points}
 use Rattle.dpl_flatten.proofs.shapes.points_of.Given as goal
 
 abbrev pub invariant-loop-i : goal.invariant-loop-i

@@ -1,6 +1,6 @@
 use Rattle.std.proofs.Common.{rules, w32, FitsSigned}
 use Rattle.std.proofs.lemmas.Int.{to_z-of_z}
-use Rattle.dpl_spec.specs.Zones.{at}
+use Rattle.dpl_spec_split.specs.Zones.{at}
 use Rattle.dpl_masks.specs.Bytes.{point_bytes}
 use Rattle.dpl_masks.proofs.Joining.{five_puts}
 use Rattle.dpl_masks.proofs.bytes.put_corners.Goals as goal

@@ -1,5 +1,5 @@
 use Rattle.std.proofs.Common.{false, true, map}
-use Rattle.dpl_spec.specs.Loops.{AreRectsWithin, farthest}
+use Rattle.dpl_spec_split.specs.Loops.{AreRectsWithin, farthest}
 use Rattle.dpl_orient.specs.Masks.{is_second}
 use Rattle.dpl_masks.specs.Painting.{Adds}
 use Rattle.dpl_masks.specs.Sheets.{rest_pieces}

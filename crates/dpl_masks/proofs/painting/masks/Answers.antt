@@ -1,6 +1,6 @@
 use Rattle.std.proofs.Common.{false, true, length}
 use Rattle.dpl_slabs.proofs.RowLaws.{within-slabs}
-use Rattle.dpl_spec.specs.Loops.{farthest}
+use Rattle.dpl_spec_split.specs.Loops.{farthest}
 use Rattle.dpl_masks.specs.Inks.{AreInks}
 use Rattle.dpl_masks.specs.Sheets.{AreKnown, AreRest, AreSheets}
 use Rattle.dpl_masks.proofs.SheetLaws.{first-slabs, owners-known, second-slabs, sheets-united}

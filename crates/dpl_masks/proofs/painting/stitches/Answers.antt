@@ -1,6 +1,6 @@
 use Rattle.std.proofs.Common.{◌≡◌, ◌∙◌, ◌<◌, Bool, ap, sym, arith, false, length, map, get_or}
 use Rattle.std.proofs.lemmas.List.{get_or-map, get_or_default}
-use Rattle.dpl_spec.specs.Colours.{differ}
+use Rattle.dpl_spec_split.specs.Colours.{differ}
 use Rattle.dpl_orient.specs.Masks.{is_second}
 use Rattle.dpl_orient.specs.declared.mask.Mask.TheVariants.{A}
 use Rattle.dpl_masks.proofs.MaskLaws.{are_stitches, one_stitch_more}

@@ -1,4 +1,4 @@
-use Rattle.dpl_spec.specs.Squares.{Covers}
+use Rattle.dpl_spec_split.specs.Squares.{Covers}
 use Rattle.dpl_tree.specs.declared.owners.Owners.TheVariants.{All as Everyone}
 use Rattle.dpl_nearest.specs.Search.{ItemCovers}
 use Rattle.dpl_nearest.proofs.ItemLaws.{items-solid, items-cover, covers-items, least-beside}

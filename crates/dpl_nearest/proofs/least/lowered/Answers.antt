@@ -1,5 +1,5 @@
 use Rattle.std.proofs.Common.{inl, refl}
-use Rattle.dpl_spec.specs.Squares.{Has}
+use Rattle.dpl_spec_split.specs.Squares.{Has}
 use Rattle.dpl_nearest.specs.Search.{ItemCovers}
 use Rattle.dpl_nearest.proofs.NearLaws.{lowered_to}
 use Rattle.dpl_nearest.proofs.least.lowered.Goals as goal

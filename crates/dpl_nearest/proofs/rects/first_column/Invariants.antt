@@ -1,6 +1,6 @@
 use Rattle.std.proofs.Common.{◌≤ℤ◌, ◌<ℤ◌, ◌-ℤ◌}
 use Rattle.std.specs.Prelude.{unsigned_abs}
-use Rattle.dpl_spec.specs.Squares.{AreNear, Has}
+use Rattle.dpl_spec_split.specs.Squares.{AreNear, Has}
 use Rattle.dpl_nearest.specs.Search.{ItemCovers, columns_left}
 use Rattle.dpl_nearest.proofs.rects.first_column.Given as goal
 

@@ -2,8 +2,8 @@ use Rattle.std.proofs.Common.{subst, sym, rules, w32, w64}
 use Rattle.std.specs.Int.RustNames.{FitsSigned}
 use Rattle.std.proofs.lemmas.Int.{to_z-of_z}
 use borrow.Author.Rules.{sfits_of}
-use Rattle.dpl_spec.specs.declared.Rect.{Rect}
-use Rattle.dpl_spec.specs.Squares.{AreNear, Has}
+use Rattle.dpl_spec_split.specs.declared.Rect.{Rect}
+use Rattle.dpl_spec_split.specs.Squares.{AreNear, Has}
 use Rattle.dpl_nearest.specs.Search.{ItemCovers}
 use Rattle.dpl_nearest.proofs.NearLaws.{least_square_in}
 use Rattle.dpl_nearest.proofs.rects.least_of.Goals as goal

@@ -1,7 +1,7 @@
 use Rattle.std.proofs.Common.{subst, IsTrue, ◌↔◌, w32}
 use Rattle.std.proofs.lemmas.Int.{to_z-of_z}
-use Rattle.dpl_spec.specs.declared.Rect.{Rect}
-use Rattle.dpl_spec.specs.Squares.{AreNear, Has}
+use Rattle.dpl_spec_split.specs.declared.Rect.{Rect}
+use Rattle.dpl_spec_split.specs.Squares.{AreNear, Has}
 use Rattle.dpl_nearest.specs.Search.{ItemCovers}
 use Rattle.dpl_nearest.proofs.rects.near_below.Goals as goal
 

@@ -2,7 +2,7 @@ use Rattle.std.proofs.Common.{◌≡◌, ◌<◌, length, get_or, arith, rules}
 use Rattle.dpl_piece.proofs.CornerLaws.{zones-next, zones-sorted}
 use Rattle.std.proofs.lemmas.List.{get_or_default, length-append}
 use Rattle.std.proofs.lemmas.List.Sorted.{length_permutation}
-use Rattle.dpl_spec.specs.declared.Zone.{Zone}
+use Rattle.dpl_spec_split.specs.declared.Zone.{Zone}
 use Rattle.dpl_piece.specs.Pieces.{no_zone}
 use Rattle.dpl_piece.proofs.corner.zone_corners.Goals as goal
 

@@ -1,6 +1,6 @@
 use Rattle.std.proofs.Common.{get_or}
 use Rattle.std.proofs.lemmas.List.{get_or_default}
-use Rattle.dpl_spec.specs.declared.Rect.{Rect}
+use Rattle.dpl_spec_split.specs.declared.Rect.{Rect}
 use Rattle.dpl_piece.specs.Pieces.{no_zone}
 use Rattle.dpl_piece.proofs.Noting.{noted-next}
 use Rattle.dpl_piece.proofs.noted.note_part.Goals as goal

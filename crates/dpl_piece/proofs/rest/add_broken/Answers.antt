@@ -1,4 +1,4 @@
-use Rattle.dpl_spec.specs.Squares.{Covers}
+use Rattle.dpl_spec_split.specs.Squares.{Covers}
 use Rattle.dpl_piece.specs.Pieces.{left_of}
 use Rattle.dpl_piece.proofs.Regions.{components-same}
 use Rattle.dpl_piece.proofs.rest.add_broken.Goals as goal

@@ -1,6 +1,6 @@
 use Rattle.std.proofs.Common.{◌≡◌, ◌^◌, arith, subst, sym, to_z, of_z, w64, ◌+ℤ◌}
 use Rattle.std.proofs.lemmas.Int.{ints}
-use Rattle.dpl_elements.specs.Motions.{Motion, IsMotionWithin}
+use Rattle.dpl_spec_elements.specs.Motions.{Motion, IsMotionWithin}
 use Rattle.dpl_place.proofs.Turning.{image-steps}
 use Rattle.dpl_place.proofs.Place.apply.Goals as goal
 

@@ -1,5 +1,5 @@
 use Rattle.std.proofs.Common.{arith, refl}
-use Rattle.dpl_elements.specs.Reals.{Excess64, IsRightAngle}
+use Rattle.dpl_spec_elements.specs.Reals.{Excess64, IsRightAngle}
 use Rattle.dpl_reals.proofs.Powers.{given_none}
 use Rattle.dpl_reals.proofs.Signs.{degrees-right, none-right, quarter-turns}
 use Rattle.dpl_reals.proofs.Real.quarter_turns.Goals as goal

@@ -1,5 +1,5 @@
 use Rattle.std.proofs.Common.{◌≡◌, ◌≤◌, length, take}
-use Rattle.dpl_format.specs.Fields as fields
+use Rattle.dpl_spec_format.specs.Fields as fields
 use Rattle.dpl_records.proofs.field.name_of.Given as goal
 
 abbrev pub invariant-loop-len : goal.invariant-loop-len

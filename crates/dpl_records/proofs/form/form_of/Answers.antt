@@ -1,5 +1,5 @@
 use Rattle.std.proofs.Common.{◌∙◌, refl, sym}
-use Rattle.dpl_format.specs.Table.{table}
+use Rattle.dpl_spec_format.specs.Table.{table}
 use Rattle.dpl_records.specs.declared.form.Data.TheVariants.{Unknown}
 use Rattle.dpl_records.specs.declared.form.TheConstants.{TABLE}
 use Rattle.dpl_records.proofs.Rows.{row_of, no_row}

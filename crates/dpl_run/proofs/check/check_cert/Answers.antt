@@ -1,5 +1,5 @@
 use Rattle.dpl_words.specs.Meaning.{check_view}
-use Rattle.dpl_verdict.specs.Conflicts.{IsOfConflict}
+use Rattle.dpl_spec_verdict.specs.Conflicts.{IsOfConflict}
 use Rattle.dpl_run.specs.View.{output_view}
 use Rattle.dpl_run.proofs.Checking.{conflict_made, fault_made}
 use Rattle.dpl_run.proofs.check.check_cert.Goals as goal

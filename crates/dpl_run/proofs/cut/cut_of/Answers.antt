@@ -1,7 +1,7 @@
 use Rattle.std.proofs.Common.{◌∙◌, subst, List, rules}
 use Rattle.std.specs.List.{All}
-use Rattle.dpl_spec.specs.declared.Rect.{Rect}
-use Rattle.dpl_spec.specs.Loops.{AreRectsWithin, farthest}
+use Rattle.dpl_spec_split.specs.declared.Rect.{Rect}
+use Rattle.dpl_spec_split.specs.Loops.{AreRectsWithin, farthest}
 use Rattle.dpl_check.proofs.Cuts.{is_cut}
 use Rattle.dpl_run.proofs.Cuts.{keys_within}
 use Rattle.dpl_run.proofs.cut.cut_of.Goals as goal

@@ -1,13 +1,13 @@
 use Rattle.std.proofs.Common.{◌∙◌, ◌<◌, ◌^◌, ap, subst, sym, rules, List, [], ℕ, Option, Global, length, map}
 use Rattle.std.specs.Prelude.{IfSome, Vec}
 use Rattle.std.specs.List.{AllByRecursion, Contains}
-use Rattle.dpl_spec.specs.Graphs.{IsOddCycle, graph_of}
-use Rattle.dpl_spec.specs.Cycle.{IsReported}
+use Rattle.dpl_spec_split.specs.Graphs.{IsOddCycle, graph_of}
+use Rattle.dpl_spec_split.specs.Cycle.{IsReported}
 use Rattle.dpl_cert.specs.declared.cert.PlaceLine.{PlaceLine}
 use Rattle.dpl_cert.specs.declared.cert.NearLine.{NearLine}
 use Rattle.dpl_cert.specs.Grammar.{IsNear, IsPlace}
 use Rattle.dpl_run.specs.Flat.{AreNearest}
-use Rattle.dpl_valid.specs.Own.{place_line}
+use Rattle.dpl_law_verdict.specs.Own.{place_line}
 use Rattle.dpl_run.specs.View.{cut_view}
 use Rattle.dpl_run.proofs.Deciding.{clash_from, cycle_known, cycle_length, cycle_near, piece_known, places_many}
 use Rattle.dpl_run.proofs.decompose.clash.Goals as goal

@@ -1,13 +1,13 @@
 use Rattle.std.proofs.Common.{◌≡◌, ◌∙◌, ◌<◌, ◌^◌, ap, subst, sym, arith, rules, List, Bool, length, map}
 use Rattle.std.specs.List.{AllByRecursion, zip}
 use Rattle.std.proofs.lemmas.List.{length-map}
-use Rattle.dpl_spec.specs.Colours.{AreStitches}
+use Rattle.dpl_spec_split.specs.Colours.{AreStitches}
 use Rattle.dpl_orient.specs.Masks.{is_second}
 use Rattle.dpl_orient.specs.Oriented.{ColoursWhatSums}
 use Rattle.dpl_cert.specs.declared.cert.PieceLine.{PieceLine}
 use Rattle.dpl_cert.specs.declared.cert.StitchLine.{StitchLine}
 use Rattle.dpl_cert.specs.Grammar.{IsNumber, IsPiece, IsStitch}
-use Rattle.dpl_valid.specs.Own.{piece_line}
+use Rattle.dpl_law_verdict.specs.Own.{piece_line}
 use Rattle.dpl_run.specs.View.{cut_view}
 use Rattle.dpl_run.proofs.Deciding.{as_many, lines_many, painted_from}
 use Rattle.dpl_run.proofs.decompose.paint.Goals as goal

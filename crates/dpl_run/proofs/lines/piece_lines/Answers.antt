@@ -2,7 +2,7 @@ use Rattle.std.proofs.Common.{◌<◌, length, ◌∙◌, sym, map, arith}
 use Rattle.std.proofs.lemmas.List.{get_or-map, length-map}
 use Rattle.dpl_orient.specs.Masks.{is_second}
 use Rattle.dpl_cert.specs.Grammar.{IsPiece}
-use Rattle.dpl_valid.specs.Own.{piece_line}
+use Rattle.dpl_law_verdict.specs.Own.{piece_line}
 use Rattle.dpl_run.proofs.LineLaws.{fits_push, key_there, key_within, zip_more}
 use Rattle.dpl_run.proofs.lines.piece_lines.Goals as goal
 

@@ -2,7 +2,7 @@ use Rattle.std.proofs.Common.{◌≡◌, map, take}
 use Rattle.std.specs.List.{AllByRecursion, zip}
 use Rattle.dpl_orient.specs.Masks.{is_second}
 use Rattle.dpl_cert.specs.Grammar.{IsPiece}
-use Rattle.dpl_valid.specs.Own.{piece_line}
+use Rattle.dpl_law_verdict.specs.Own.{piece_line}
 use Rattle.dpl_run.proofs.lines.piece_lines.Given as goal
 
 abbrev pub invariant-loop-i : goal.invariant-loop-i

@@ -1,10 +1,10 @@
 use Rattle.std.proofs.Common.{◌<◌, ◌∙◌, ◌++◌, ◌∷◌, [], length, arith, rules, get_or, ap, sym}
 use Rattle.std.proofs.lemmas.List.Elements.{Contains-get_or}
 use Rattle.std.specs.Prelude.{pos}
-use Rattle.dpl_spec.specs.declared.Pt.{Pt}
-use Rattle.dpl_spec.specs.Zones.{at}
+use Rattle.dpl_spec_split.specs.declared.Pt.{Pt}
+use Rattle.dpl_spec_split.specs.Zones.{at}
 use Rattle.dpl_cert.specs.Grammar.{IsPlace}
-use Rattle.dpl_valid.specs.Own.{place_line}
+use Rattle.dpl_law_verdict.specs.Own.{place_line}
 use Rattle.dpl_run.proofs.LineLaws.{fits_push, key_there, map_more}
 use Rattle.dpl_run.proofs.lines.place_lines.Goals as goal
 

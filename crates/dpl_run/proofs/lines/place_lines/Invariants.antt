@@ -1,7 +1,7 @@
 use Rattle.std.proofs.Common.{◌≡◌, map, take}
 use Rattle.std.specs.List.{AllByRecursion}
 use Rattle.dpl_cert.specs.Grammar.{IsPlace}
-use Rattle.dpl_valid.specs.Own.{place_line}
+use Rattle.dpl_law_verdict.specs.Own.{place_line}
 use Rattle.dpl_run.proofs.lines.place_lines.Given as goal
 
 abbrev pub invariant-loop-piece : goal.invariant-loop-piece

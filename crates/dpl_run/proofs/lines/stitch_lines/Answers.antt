@@ -1,7 +1,7 @@
 use Rattle.std.proofs.Common.{◌<◌, length, arith, rules, get_or}
 use Rattle.std.proofs.lemmas.List.Elements.{Contains-get_or}
 use Rattle.dpl_cert.specs.Grammar.{IsStitch}
-use Rattle.dpl_valid.specs.Own.{stitch_line, no_zone}
+use Rattle.dpl_law_verdict.specs.Own.{stitch_line, no_zone}
 use Rattle.dpl_run.proofs.LineLaws.{fits_push, map_more, rect_fits}
 use Rattle.dpl_run.proofs.lines.stitch_lines.Goals as goal
 

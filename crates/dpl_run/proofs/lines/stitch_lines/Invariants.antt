@@ -1,7 +1,7 @@
 use Rattle.std.proofs.Common.{◌≡◌, map, take}
 use Rattle.std.specs.List.{AllByRecursion}
 use Rattle.dpl_cert.specs.Grammar.{IsStitch}
-use Rattle.dpl_valid.specs.Own.{stitch_line}
+use Rattle.dpl_law_verdict.specs.Own.{stitch_line}
 use Rattle.dpl_run.proofs.lines.stitch_lines.Given as goal
 
 abbrev pub invariant-loop-k : goal.invariant-loop-k

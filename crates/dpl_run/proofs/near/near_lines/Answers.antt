@@ -1,8 +1,8 @@
 use Rattle.std.proofs.Common.{◌≡◌, ◌+◌, ◌%◌, ◌∷◌, [], List, length, get_or, sym, ap, ◌∙◌, subst, arith}
 use Rattle.std.proofs.lemmas.List.{length-append}
-use Rattle.dpl_spec.specs.declared.Rect.{Rect}
-use Rattle.dpl_spec.specs.Squares.{AreNear}
-use Rattle.dpl_spec.specs.Zones.{part_at}
+use Rattle.dpl_spec_split.specs.declared.Rect.{Rect}
+use Rattle.dpl_spec_split.specs.Squares.{AreNear}
+use Rattle.dpl_spec_split.specs.Zones.{part_at}
 use Rattle.dpl_cert.specs.Grammar.{IsNear}
 use Rattle.dpl_nearest.specs.Nearest.{IsNearestPair}
 use Rattle.dpl_run.proofs.LineLaws.{fits_push}

@@ -1,6 +1,6 @@
 use Rattle.std.proofs.Common.{◌≡◌, ◌^◌, List, ◌++◌, take}
 use Rattle.std.specs.Prelude.{ℤ}
-use Rattle.dpl_spec.specs.declared.Pt.{Pt}
+use Rattle.dpl_spec_split.specs.declared.Pt.{Pt}
 use Rattle.dpl_shapes.specs.Strokes.{IsStrokeWithin, loops_left}
 use Rattle.dpl_shapes.proofs.bars.bar_loops.Given as goal
 

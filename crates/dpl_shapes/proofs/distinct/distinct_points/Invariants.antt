@@ -1,6 +1,6 @@
 use Rattle.std.proofs.Common.{◌≡◌, List, ◌++◌, take}
-use Rattle.dpl_spec.specs.declared.Pt.{Pt}
-use Rattle.dpl_elements.specs.Paths.{distinct_after}
+use Rattle.dpl_spec_split.specs.declared.Pt.{Pt}
+use Rattle.dpl_spec_elements.specs.Paths.{distinct_after}
 use Rattle.dpl_shapes.proofs.distinct.distinct_points.Given as goal
 
 abbrev pub invariant-loop-point : goal.invariant-loop-point

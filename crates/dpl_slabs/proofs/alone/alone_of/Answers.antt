@@ -1,7 +1,7 @@
 use Rattle.std.proofs.Common.{◌≡◌, ◌<◌, ◌∙◌, sym, length, get_or, set, rules, w32, FitsSigned, arith}
 use Rattle.std.proofs.lemmas.Int.{to_z-of_z}
 use Rattle.std.proofs.lemmas.List.{get_or-set_other, length-set, take_more_set}
-use Rattle.dpl_spec.specs.declared.Rect.{Rect}
+use Rattle.dpl_spec_split.specs.declared.Rect.{Rect}
 use Rattle.dpl_slabs.proofs.StripLaws.{lt-from}
 use Rattle.dpl_slabs.proofs.AloneLaws.{front-apart, alone-more, beside-more}
 use Rattle.dpl_slabs.proofs.alone.alone_of.Goals.{then-front-bar, else-front-bar+in_ok-push}

@@ -1,4 +1,4 @@
-use Rattle.dpl_spec.specs.Loops.{farthest}
+use Rattle.dpl_spec_split.specs.Loops.{farthest}
 use Rattle.dpl_slabs.proofs.SetLaws.{turned-within}
 use Rattle.dpl_slabs.proofs.StripLaws.{sorted-within}
 use Rattle.dpl_slabs.proofs.BlockLaws.{adds-block}

@@ -1,7 +1,7 @@
 use Rattle.std.proofs.Common.{◌≤◌, length, drop, arith}
 use Rattle.std.proofs.lemmas.List.{length-drop}
-use Rattle.dpl_spec.specs.Squares.{Covers}
-use Rattle.dpl_spec.specs.Zones.{turned}
+use Rattle.dpl_spec_split.specs.Squares.{Covers}
+use Rattle.dpl_spec_split.specs.Zones.{turned}
 use Rattle.dpl_slabs.proofs.BlockLaws.{blocks-none, blocks-here, blocks-same, blocks-all}
 use Rattle.dpl_slabs.proofs.blocks.pieces_of_blocks.Goals as goal
 

@@ -1,6 +1,6 @@
 use Rattle.std.proofs.Common.{◌-◌, length, drop}
-use Rattle.dpl_spec.specs.Squares.{Covers}
-use Rattle.dpl_spec.specs.Zones.{turned}
+use Rattle.dpl_spec_split.specs.Squares.{Covers}
+use Rattle.dpl_spec_split.specs.Zones.{turned}
 use Rattle.dpl_slabs.specs.Blocks.{AreBlocksOf}
 use Rattle.dpl_slabs.proofs.blocks.pieces_of_blocks.Given as goal
 

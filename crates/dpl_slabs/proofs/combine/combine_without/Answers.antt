@@ -1,5 +1,5 @@
 use Rattle.std.proofs.Common.{arith}
-use Rattle.dpl_spec.specs.Loops.{farthest}
+use Rattle.dpl_spec_split.specs.Loops.{farthest}
 use Rattle.dpl_slabs.specs.Cells.{Chosen}
 use Rattle.dpl_slabs.specs.Slices.{Without}
 use Rattle.dpl_slabs.proofs.SetLaws.{slabs-of-same, rects-none}

@@ -1,5 +1,5 @@
 use Rattle.std.proofs.Common.{◌≡◌, ◌++◌, map, take, drop}
-use Rattle.dpl_spec.specs.Zones.{turned_rect}
+use Rattle.dpl_spec_split.specs.Zones.{turned_rect}
 use Rattle.dpl_slabs.proofs.combine.exchange.Given as goal
 
 abbrev pub invariant-loop-i : goal.invariant-loop-i

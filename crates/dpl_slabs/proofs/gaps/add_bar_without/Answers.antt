@@ -2,7 +2,7 @@ use Rattle.std.proofs.Common.{◌<◌, length, get_or, rules, w32, FitsSigned, a
 use Rattle.std.specs.Prelude.{◌≤ℤ◌}
 use Rattle.std.proofs.lemmas.Int.{ints, to_z-of_z}
 use Rattle.std.proofs.lemmas.List.{get_or_default}
-use Rattle.dpl_spec.specs.declared.Rect.{Rect}
+use Rattle.dpl_spec_split.specs.declared.Rect.{Rect}
 use Rattle.dpl_slabs.proofs.Firsts.{zero}
 use Rattle.dpl_slabs.proofs.StripLaws.{max-known}
 use Rattle.dpl_slabs.proofs.GapLaws.{le-true, le-false, cut-end, cut-next, cut-last, spaced-rise}

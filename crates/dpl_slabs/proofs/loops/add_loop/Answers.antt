@@ -1,4 +1,4 @@
-use Rattle.dpl_spec.specs.Loops.{LoopCovers}
+use Rattle.dpl_spec_split.specs.Loops.{LoopCovers}
 use Rattle.dpl_slabs.proofs.SetLaws.{rects-more}
 use Rattle.dpl_slabs.proofs.LoopLaws.{covers-appended, covers-pushed, rects-appended}
 use Rattle.dpl_slabs.proofs.loops.add_loop.Goals as goal

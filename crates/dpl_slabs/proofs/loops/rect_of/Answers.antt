@@ -1,6 +1,6 @@
 use Rattle.std.proofs.Common.{◌≡◌, ◌<◌, length, refl, arith}
 use Rattle.std.specs.Prelude.{pos}
-use Rattle.dpl_spec.specs.declared.Pt.{Pt}
+use Rattle.dpl_spec_split.specs.declared.Pt.{Pt}
 use Rattle.dpl_slabs.proofs.CornerLaws.{through-loop, through-closed, through-within}
 use Rattle.dpl_slabs.proofs.loops.rect_of.Goals as goal
 

@@ -1,5 +1,5 @@
 use Rattle.std.proofs.Common.{◌<◌, length, sym, subst, rules, arith}
-use Rattle.dpl_spec.specs.Loops.{farthest, ArePointsWithin}
+use Rattle.dpl_spec_split.specs.Loops.{farthest, ArePointsWithin}
 use Rattle.dpl_slabs.proofs.LoopLaws.{loops-next, loops-all}
 use Rattle.dpl_slabs.proofs.loops.rects_of_loops.Goals as goal
 

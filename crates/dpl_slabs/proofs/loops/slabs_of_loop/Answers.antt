@@ -1,6 +1,6 @@
 use Rattle.dpl_sweep.specs.declared.edge.Rule.TheVariants.{Either}
 use Rattle.dpl_sweep.specs.Edges.{Told}
-use Rattle.dpl_spec.specs.Loops.{LoopCovers}
+use Rattle.dpl_spec_split.specs.Loops.{LoopCovers}
 use Rattle.dpl_slabs.proofs.SetLaws.{slabs-of-same}
 use Rattle.dpl_slabs.proofs.LoopLaws.{loop-told, loop-closed, told-inside, slabs-inside}
 use Rattle.dpl_slabs.proofs.loops.slabs_of_loop.Goals as goal

@@ -1,7 +1,7 @@
 use Rattle.std.proofs.Common.{◌≡◌, true, false, ◌<◌, length, get_or, below_more, refl, rules, arith}
 use Rattle.std.proofs.lemmas.List.{get_or_default}
-use Rattle.dpl_spec.specs.declared.Rect.{Rect}
-use Rattle.dpl_spec.specs.Slabs.{IsSolid}
+use Rattle.dpl_spec_split.specs.declared.Rect.{Rect}
+use Rattle.dpl_spec_split.specs.Slabs.{IsSolid}
 use Rattle.dpl_slabs.specs.Rows.{AreLevel}
 use Rattle.dpl_slabs.proofs.Firsts.{zero}
 use Rattle.dpl_slabs.proofs.RowLaws.{row-from, row-beside}

@@ -1,6 +1,6 @@
 use Rattle.std.specs.Prelude.{ℕ, ◌<◌, pos, slice_index_or}
-use Rattle.dpl_spec.specs.declared.Rect.{Rect}
-use Rattle.dpl_spec.specs.Slabs.{IsSolid}
+use Rattle.dpl_spec_split.specs.declared.Rect.{Rect}
+use Rattle.dpl_spec_split.specs.Slabs.{IsSolid}
 use Rattle.dpl_slabs.specs.Rows.{AreLevel}
 use Rattle.dpl_slabs.proofs.row.is_row.Given as goal
 

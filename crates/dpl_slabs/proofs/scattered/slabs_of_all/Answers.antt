@@ -1,5 +1,5 @@
 use Rattle.std.proofs.Common.{◌<◌, length, rules, arith}
-use Rattle.dpl_spec.specs.Loops.{farthest}
+use Rattle.dpl_spec_split.specs.Loops.{farthest}
 use Rattle.dpl_slabs.proofs.LoopLaws.{rects-appended}
 use Rattle.dpl_slabs.proofs.ScatteredLaws.{scattered-more, first-untouched, first-more, first-all}
 use Rattle.dpl_slabs.proofs.scattered.slabs_of_all.Goals as goal

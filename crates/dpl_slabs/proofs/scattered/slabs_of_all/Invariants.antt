@@ -1,7 +1,7 @@
 use Rattle.std.specs.Prelude.{◌↔◌}
-use Rattle.dpl_spec.specs.declared.Pt.{Pt}
-use Rattle.dpl_spec.specs.Squares.{Covers}
-use Rattle.dpl_spec.specs.Loops.{farthest, AreRectsWithin}
+use Rattle.dpl_spec_split.specs.declared.Pt.{Pt}
+use Rattle.dpl_spec_split.specs.Squares.{Covers}
+use Rattle.dpl_spec_split.specs.Loops.{farthest, AreRectsWithin}
 use Rattle.dpl_slabs.specs.Scattered.{AreScattered, InFirst}
 use Rattle.dpl_slabs.proofs.scattered.slabs_of_all.Given as goal
 

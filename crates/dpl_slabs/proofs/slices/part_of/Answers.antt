@@ -1,6 +1,6 @@
 use Rattle.std.proofs.Common.{refl, rules, w32, FitsSigned}
 use Rattle.std.proofs.lemmas.Int.{to_z-of_z}
-use Rattle.dpl_spec.specs.declared.Rect.{Rect}
+use Rattle.dpl_spec_split.specs.declared.Rect.{Rect}
 use Rattle.dpl_slabs.proofs.StripLaws.{max-known}
 use Rattle.dpl_slabs.proofs.SliceLaws.{min-known, is-part}
 use Rattle.dpl_slabs.proofs.slices.part_of.Goals as goal

@@ -1,6 +1,6 @@
 use Rattle.std.proofs.Common.{◌≡◌, ◌+◌, ◌<◌, ◌++◌, ◌∷◌, [], ◌∙◌, ap, sym, length, get_or, take, arith}
 use Rattle.std.proofs.lemmas.List.{append_assoc, take_more}
-use Rattle.dpl_spec.specs.declared.Rect.{Rect}
+use Rattle.dpl_spec_split.specs.declared.Rect.{Rect}
 use Rattle.dpl_slabs.proofs.Firsts.{zero}
 use Rattle.dpl_slabs.proofs.SliceLaws.{settled-growing, settled-done}
 use Rattle.dpl_slabs.proofs.slices.settle.Goals.{then-piece-high+in_ok-push, else-piece-high+in_ok-push-2}

@@ -1,4 +1,4 @@
-use Rattle.dpl_spec.specs.Squares.{Covers}
+use Rattle.dpl_spec_split.specs.Squares.{Covers}
 use Rattle.dpl_slabs.specs.Slices.{Without}
 use Rattle.dpl_slabs.proofs.SetLaws.{slabs-of-same}
 use Rattle.dpl_slabs.proofs.SliceLaws.{without-within}

@@ -1,4 +1,4 @@
-use Rattle.dpl_spec.specs.Squares.{Covers}
+use Rattle.dpl_spec_split.specs.Squares.{Covers}
 use Rattle.dpl_slabs.proofs.StripLaws.{adds-strip}
 use Rattle.dpl_slabs.proofs.strips.add_strip.Goals as goal
 

@@ -1,6 +1,6 @@
 use Rattle.std.proofs.Common.{◌≡◌, ◌∙◌, rules}
-use Rattle.dpl_spec.specs.Squares.{Covers}
-use Rattle.dpl_spec.specs.Loops.{farthest}
+use Rattle.dpl_spec_split.specs.Squares.{Covers}
+use Rattle.dpl_spec_split.specs.Loops.{farthest}
 use Rattle.dpl_slabs.proofs.RowLaws.{within-slabs}
 use Rattle.dpl_slabs.proofs.SetLaws.{slabs-of-same}
 use Rattle.dpl_slabs.proofs.BlockLaws.{exchanged-within, exchanged-kept, exchanged-twice, blocks-slabs}

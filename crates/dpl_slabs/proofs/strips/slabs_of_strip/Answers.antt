@@ -1,7 +1,7 @@
 use Rattle.std.proofs.Common.{arith}
 use Rattle.std.specs.Prelude.{[]}
-use Rattle.dpl_spec.specs.Squares.{Covers}
-use Rattle.dpl_spec.specs.Loops.{farthest}
+use Rattle.dpl_spec_split.specs.Squares.{Covers}
+use Rattle.dpl_spec_split.specs.Loops.{farthest}
 use Rattle.dpl_slabs.specs.Slices.{Without}
 use Rattle.dpl_slabs.proofs.SetLaws.{without-none, slabs-of-same}
 use Rattle.dpl_slabs.proofs.RowLaws.{within-slabs}

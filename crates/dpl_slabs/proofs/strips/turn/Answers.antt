@@ -1,6 +1,6 @@
 use Rattle.std.proofs.Common.{◌≡◌, ◌∙◌, ap, length, drop, rules}
 use Rattle.std.proofs.lemmas.List.{length-map, take_at}
-use Rattle.dpl_spec.specs.Zones.{turned_rect}
+use Rattle.dpl_spec_split.specs.Zones.{turned_rect}
 use Rattle.dpl_slabs.specs.Cells.{turned_rects}
 use Rattle.dpl_slabs.proofs.strips.turn.Goals as goal
 

@@ -1,5 +1,5 @@
 use Rattle.std.proofs.Common.{take}
-use Rattle.dpl_spec.specs.Loops.{ArePointsWithin, farthest}
+use Rattle.dpl_spec_split.specs.Loops.{ArePointsWithin, farthest}
 use Rattle.dpl_walk.proofs.walk.are_near.Given as goal
 
 abbrev pub invariant-loop-point : goal.invariant-loop-point

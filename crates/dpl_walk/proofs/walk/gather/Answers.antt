@@ -1,4 +1,4 @@
-use Rattle.dpl_elements.specs.Motions.{image}
+use Rattle.dpl_spec_elements.specs.Motions.{image}
 use Rattle.dpl_walk.proofs.WalkLaws.{gathers_one}
 use Rattle.dpl_walk.proofs.walk.gather.Goals as goal
 

@@ -1,4 +1,4 @@
-use Rattle.dpl_elements.specs.Motions.{image}
+use Rattle.dpl_spec_elements.specs.Motions.{image}
 use Rattle.dpl_walk.proofs.WalkLaws.{gathers_more}
 use Rattle.dpl_walk.proofs.walk.gather_all.Goals as goal
 

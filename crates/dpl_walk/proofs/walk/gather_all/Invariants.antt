@@ -1,5 +1,5 @@
 use Rattle.std.proofs.Common.{take}
-use Rattle.dpl_elements.specs.Motions.{image}
+use Rattle.dpl_spec_elements.specs.Motions.{image}
 use Rattle.dpl_walk.specs.Walk.{Gathers}
 use Rattle.dpl_walk.proofs.walk.gather_all.Given as goal
 

@@ -1,5 +1,5 @@
 use Rattle.std.proofs.Common.{◌≡◌, map, take}
-use Rattle.dpl_elements.specs.Motions.{image}
+use Rattle.dpl_spec_elements.specs.Motions.{image}
 use Rattle.dpl_walk.proofs.walk.moved.Given as goal
 
 abbrev pub invariant-loop-point : goal.invariant-loop-point

@@ -1,5 +1,5 @@
 use Rattle.std.proofs.Common.{length, refl, ap, arith}
-use Rattle.dpl_elements.specs.Motions.{Motion}
+use Rattle.dpl_spec_elements.specs.Motions.{Motion}
 use Rattle.dpl_walk.proofs.StackLaws.{walking_start, walking_more, walking_all, popped, place_small, moved_small, outlines_are, copies_are}
 use Rattle.dpl_walk.proofs.LeftLaws.{less_left}
 use Rattle.dpl_walk.proofs.walk.walk_from.Goals as goal

@@ -1,6 +1,6 @@
 use Rattle.std.proofs.Common.{◌<◌, length, get_or, refl, arith}
 use Rattle.std.proofs.lemmas.List.{take_all}
-use Rattle.dpl_spec.proofs.Ordered.{Contains-nil}
+use Rattle.dpl_spec_split.proofs.Ordered.{Contains-nil}
 use Rattle.dpl_walk.proofs.ShortLaws.{ways_set, whole_set, own_set, whole_all}
 use Rattle.dpl_walk.proofs.ways.find_ways.Goals as goal
 

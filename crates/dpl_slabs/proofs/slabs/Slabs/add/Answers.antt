@@ -1,4 +1,4 @@
-use Rattle.dpl_spec.specs.Loops.{farthest}
+use Rattle.dpl_spec_split.specs.Loops.{farthest}
 use Rattle.dpl_slabs.proofs.SetLaws.{rects-more}
 use Rattle.dpl_slabs.proofs.slabs.Slabs.add.Goals as goal
 

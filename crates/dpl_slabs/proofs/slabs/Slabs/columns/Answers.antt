@@ -1,6 +1,6 @@
 use Rattle.std.proofs.Common.{◌≡◌, length, arith}
-use Rattle.dpl_spec.specs.Squares.{Covers}
-use Rattle.dpl_spec.specs.Zones.{turned}
+use Rattle.dpl_spec_split.specs.Squares.{Covers}
+use Rattle.dpl_spec_split.specs.Zones.{turned}
 use Rattle.dpl_slabs.specs.Cells.{turned_rects}
 use Rattle.dpl_slabs.proofs.SetLaws.{covers-turned, turned-one, turned-within, slabs-of-same}
 use Rattle.dpl_slabs.proofs.StripLaws.{sorted-within, sorted-slabs}

@@ -1,4 +1,4 @@
-use Rattle.dpl_spec.specs.Squares.{Covers}
+use Rattle.dpl_spec_split.specs.Squares.{Covers}
 use Rattle.dpl_sweep.specs.declared.edge.Rule.TheVariants.{Minus}
 use Rattle.dpl_slabs.specs.Cells.{Chosen}
 use Rattle.dpl_slabs.proofs.SetLaws.{told-minus, slabs-of-same}

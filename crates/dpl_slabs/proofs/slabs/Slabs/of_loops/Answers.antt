@@ -1,5 +1,5 @@
-use Rattle.dpl_spec.specs.Squares.{Covers}
-use Rattle.dpl_spec.specs.Loops.{SomeLoopCovers}
+use Rattle.dpl_spec_split.specs.Squares.{Covers}
+use Rattle.dpl_spec_split.specs.Loops.{SomeLoopCovers}
 use Rattle.dpl_slabs.proofs.SetLaws.{slabs-of-same}
 use Rattle.dpl_slabs.proofs.slabs.Slabs.of_loops.Goals as goal
 

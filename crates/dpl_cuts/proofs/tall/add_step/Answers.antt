@@ -1,5 +1,0 @@
-use Rattle.dpl_slabs.proofs.SetLaws.{rects-more}
-use Rattle.dpl_cuts.proofs.tall.add_step.Goals as goal
-
-pub returns : goal.returns
-returns c = rw c.in_ok-push.ensures.items (rects-more 1000000000 _ _ c.requires c.step.ensures)

@@ -1,5 +1,0 @@
-use Rattle.dpl_slabs.proofs.SetLaws.{rects-none}
-use Rattle.dpl_cuts.proofs.tall.stair.Goals as goal
-
-pub loop-k-init : goal.loop-k-init
-loop-k-init c = rw c.new-rects.ensures.items (rects-none 1000000000)

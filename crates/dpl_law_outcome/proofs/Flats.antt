@@ -1,0 +1,77 @@
+-- A layer has one decomposition, with one text of its certificate.
+use Rattle.std.proofs.Common.{◌≡◌, ℕ, ◌+◌, ◌%◌, Bool, List, length, map, get_or, sym, ap, ◌∙◌, subst, arith}
+use Rattle.std.specs.List.{zip}
+use Rattle.std.proofs.lemmas.List.{same_lists}
+use Rattle.dpl_spec_split.specs.declared.Pt.{Pt}
+use Rattle.dpl_spec_split.specs.declared.Rect.{Rect}
+use Rattle.dpl_spec_split.specs.Squares.{Region, Covers}
+use Rattle.dpl_spec_split.specs.Zones.{part_at}
+use Rattle.dpl_spec_split.specs.Colours.{AreColours}
+use Rattle.dpl_spec_split.specs.Decomposition.{Cut, Masks, AreMasks, Done, conflicts}
+use Rattle.dpl_spec_split.proofs.Uniqueness.{roots-unique}
+use Rattle.dpl_spec_split.proofs.ColourLaws.{colours-unique}
+use Rattle.dpl_spec_split.proofs.CycleLaws.{cycle-unique}
+use Rattle.dpl_spec_split.proofs.WholeLaws.{cut-unique, answer-unique}
+use Rattle.dpl_spec_split.proofs.SideLaws.{sides-unique}
+use Rattle.dpl_cert.specs.declared.cert.Head.{Head}
+use Rattle.dpl_cert.specs.declared.cert.PlaceLine.{PlaceLine}
+use Rattle.dpl_cert.specs.declared.cert.NearLine.{NearLine}
+use Rattle.dpl_nearest.specs.Nearest.{IsNearestPair}
+use Rattle.dpl_nearest.proofs.PairLaws.{nearest-unique}
+use Rattle.dpl_run.specs.Flat.{Painted, Clash, Flat, Paints, Clashes, AreNearest, IsPaintedCut, IsClashOfCut, IsFlatCut, IsFlat}
+use Rattle.dpl_law_verdict.specs.Own.{head_of, piece_line, stitch_line, place_line}
+
+-- ---- masks
+
+colours-same : (rule : ℕ) (c : Cut) (m n : Masks) (a : AreMasks rule c m) (b : AreMasks rule c n) → a.colours ≡ b.colours
+colours-same rule c m n a b =
+    let rooted = roots-unique (conflicts rule c) (length c.pieces) a.roots b.roots a.odds b.odds a.rooted b.rooted in
+    let mine : AreColours b.roots b.odds c.sides a.colours = subst (λ o. AreColours b.roots o c.sides a.colours) rooted.1 (subst (λ r. AreColours r a.odds c.sides a.colours) rooted.0 a.coloured) in
+    colours-unique b.roots b.odds c.sides a.colours b.colours mine b.coloured
+
+painted-same : (rule overlap : ℕ) (c : Cut) (x y : Painted) → IsPaintedCut rule overlap c x → IsPaintedCut rule overlap c y → x ≡ y
+painted-same rule overlap c x y a b =
+    let done : Done a.masks ≡ Done b.masks = answer-unique rule c (Done a.masks) (Done b.masks) (a.even, a.are_masks) (b.even, b.are_masks) in
+    let masks : a.masks ≡ b.masks = cc in
+    let colours : a.are_masks.colours ≡ b.are_masks.colours = colours-same rule c a.masks b.masks a.are_masks b.are_masks in
+    let paint : Masks → List Bool → Painted = λ m letters. record { a = m.a; b = m.b; head = head_of rule overlap c; pieces = map piece_line (zip letters c.keys); stitches = map (stitch_line c.zones c.sides) m.stitches } in
+    a.is ∙ (ap (λ m. paint m a.are_masks.colours) masks ∙ (ap (λ k. paint b.masks k) colours ∙ sym b.is))
+
+-- ---- cycles
+
+abbrev line_at : Pt → Pt → NearLine
+line_at p q = record { from = p; to = q }
+
+nearest-same : (rule : ℕ) (p q : Region) (m n : NearLine) → IsNearestPair rule p q m.from m.to → IsNearestPair rule p q n.from n.to → m ≡ n
+nearest-same rule p q m n a b = let one = nearest-unique rule p q m.from m.to n.from n.to a b in ap (λ r. line_at r m.to) one.0 ∙ ap (λ r. line_at n.from r) one.1
+
+near-same : (rule : ℕ) (pieces : List (List Rect)) (cycle : List ℕ) (ms ns : List NearLine) → AreNearest rule pieces cycle ms → AreNearest rule pieces cycle ns → ms ≡ ns
+near-same rule pieces cycle ms ns a b =
+    let many = a.each in
+    let many2 = b.each in
+    same_lists ms ns (many ∙ sym many2) (λ k d l.
+    nearest-same rule (part_at pieces (get_or cycle k 0)) (part_at pieces (get_or cycle ((k + 1) % length cycle) 0)) (get_or ms k d) (get_or ns k d) (a.pair k d (omega (arith, l, many))) (b.pair k d (omega (arith, l, many))))
+
+same-clash : (x y : Clash) → x.head ≡ y.head → x.cycle ≡ y.cycle → x.near ≡ y.near → x ≡ y
+same-clash x y a b c =
+    let of_parts : Head → List PlaceLine → List NearLine → Clash = λ h p n. record { head = h; cycle = p; near = n } in
+    ap (λ h. of_parts h x.cycle x.near) a ∙ (ap (λ p. of_parts y.head p x.near) b ∙ ap (λ n. of_parts y.head y.cycle n) c)
+
+clash-same : (rule overlap : ℕ) (c : Cut) (x y : Clash) → IsClashOfCut rule overlap c x → IsClashOfCut rule overlap c y → x ≡ y
+clash-same rule overlap c x y a b =
+    let cycle : a.cycle ≡ b.cycle = cycle-unique (conflicts rule c) a.cycle b.cycle a.reported b.reported in
+    let near : AreNearest rule c.pieces b.cycle x.near = subst (λ k. AreNearest rule c.pieces k x.near) cycle a.nearest in
+    same-clash x y (a.head ∙ sym b.head) (a.places ∙ (ap (λ k. map (place_line c.keys) k) cycle ∙ sym b.places)) (near-same rule c.pieces b.cycle x.near y.near near b.nearest)
+
+-- ---- decompositions
+
+flat_cut-same : (rule overlap : ℕ) (c : Cut) (x y : Flat) → IsFlatCut rule overlap c x → IsFlatCut rule overlap c y → x ≡ y
+flat_cut-same rule overlap c (Paints x) (Paints y) a b = ap (λ p. Paints p) (painted-same rule overlap c x y a b)
+flat_cut-same rule overlap c (Paints x) (Clashes y) a b = absurd (a.even b.odd)
+flat_cut-same rule overlap c (Clashes x) (Paints y) a b = absurd (b.even a.odd)
+flat_cut-same rule overlap c (Clashes x) (Clashes y) a b = ap (λ p. Clashes p) (clash-same rule overlap c x y a b)
+
+pub flat-same : (rule overlap : ℕ) (layer : List Rect) (x y : Flat) → IsFlat rule overlap layer x → IsFlat rule overlap layer y → x ≡ y
+flat-same rule overlap layer x y (c, is_c, a) (d, is_d, b) =
+    let same : c ≡ d = cut-unique rule overlap (Covers layer) c d (sides-unique rule overlap (Covers layer) c.features c.pieces c.zones is_c.features is_c.zones is_c.pieces.components) is_c is_d in
+    flat_cut-same rule overlap c x y a (subst (λ e. IsFlatCut rule overlap e y) (sym same) b)

@@ -1,0 +1,124 @@
+-- The same files have one outcome, whatever the tiles and the workers.
+use Rattle.std.proofs.Common.{◌≡◌, ℕ, inl, inr, List, Option, Some, None, refl, sym, ap, ◌∙◌, subst, arith, codes}
+use Rattle.std.specs.FinMap as map
+use Rattle.std.proofs.lemmas.Bool.{cases_order}
+use Rattle.dpl_spec_split.specs.declared.Rect.{Rect}
+use Rattle.dpl_cert.specs.declared.name.Name.{Name}
+use Rattle.dpl_cert.specs.declared.cert.Cert.{Cert}
+use Rattle.dpl_cert.specs.declared.cert.Cert.TheVariants.{Masks, Conflict, Fault}
+use Rattle.dpl_cert.specs.Lines.{lines}
+use Rattle.dpl_cert.specs.Grammar.{IsText}
+use Rattle.dpl_cert.specs.Reading.{IsBadLine}
+use Rattle.dpl_cert.proofs.Whole.{lines-text}
+use Rattle.dpl_cert.proofs.Unique.{cert_same}
+use Rattle.dpl_spec_verdict.proofs.OrderLaws.{conflict-unique, masks-unique}
+use Rattle.dpl_words.specs.Meaning.{AsksCheck, AsksDemo, AsksSplit, CheckValues, DemoValues, SplitValues}
+use Rattle.dpl_demo.specs.Demo.{demo_file}
+use Rattle.dpl_run.specs.Flat.{Paints, Clashes, IsFlat}
+use Rattle.dpl_run.specs.Outcome.{Outcome, says}
+use Rattle.dpl_run.specs.Reading.{Choice, Faulty, Layer}
+use Rattle.dpl_run.specs.Split.{Decision, Refuses, Decides, IsDecision, IsSplit, IsSplitOf, plan_of, split_choice}
+use Rattle.dpl_run.specs.Demo.{IsDemo, demo_choice, demo_plan}
+use Rattle.dpl_run.specs.Check.{IsCheck, IsCheckOfCert, IsCheckOfFile, IsCheckOfMasks, IsCheckOfText, IsJudged, WithFile, WithLayer, check_choice, mask_choice, refusal_of, verdict_outcome}
+use Rattle.dpl_run.specs.Texts.{bad_line_line}
+use Rattle.dpl_run.specs.declared.status.Status.TheVariants.{Refused}
+use Rattle.dpl_law_outcome.specs.Laws.{OneOutcome}
+use Rattle.dpl_law_outcome.proofs.Flats.{flat-same}
+use Rattle.dpl_law_outcome.proofs.Readings.{reading-same}
+
+decision-same : (v : Choice) (rule overlap : ℕ) (bytes : List ℕ) (d e : Decision) → IsDecision v rule overlap bytes d → IsDecision v rule overlap bytes e → d ≡ e
+decision-same v rule overlap bytes (Refuses m i) (Refuses n j) a b = (let same : Faulty m i ≡ Faulty n j = reading-same v bytes (Faulty m i) (Faulty n j) a b in cc)
+decision-same v rule overlap bytes (Refuses m i) (Decides q y) a (s, b, is) = (let same : Faulty m i ≡ Layer q s = reading-same v bytes (Faulty m i) (Layer q s) a b in absurd cc)
+decision-same v rule overlap bytes (Decides p x) (Refuses n j) (r, a, is) b = (let same : Faulty n j ≡ Layer p r = reading-same v bytes (Faulty n j) (Layer p r) b a in absurd cc)
+decision-same v rule overlap bytes (Decides p x) (Decides q y) (r, a, is_x) (s, b, is_y) =
+    let same : Layer p r ≡ Layer q s = reading-same v bytes (Layer p r) (Layer q s) a b in
+    let fronts : p ≡ q = cc in
+    let slabs : s ≡ r = cc in
+    let flats : x ≡ y = flat-same rule overlap r x y is_x (subst (λ l. IsFlat rule overlap l y) slabs is_y) in
+    ap (λ f. Decides f x) fronts ∙ ap (λ f. Decides q f) flats
+
+-- other tiles and workers plan alike
+plan-retiled : (v : SplitValues) (tile workers : ℕ) (d : Decision) → plan_of (record v { tile = tile; workers = workers }) d ≡ plan_of v d
+plan-retiled v tile workers (Refuses m i) = refl
+plan-retiled v tile workers (Decides p (Paints q)) = refl
+plan-retiled v tile workers (Decides p (Clashes q)) = refl
+
+split-same : (v : SplitValues) (tile workers : ℕ) (bytes : List ℕ) (x y : Outcome) → IsSplit v bytes x → IsSplit (record v { tile = tile; workers = workers }) bytes y → x ≡ y
+split-same v tile workers bytes x y (d, is_d, a) (e, is_e, b) =
+    a ∙ (ap (λ z. plan_of v z) (decision-same (split_choice v) v.rule v.overlap bytes d e is_d is_e) ∙ (sym (plan-retiled v tile workers e) ∙ sym b))
+
+split-of-same : (v : SplitValues) (tile workers : ℕ) (file : Option (List ℕ)) (x y : Outcome) → IsSplitOf v file x → IsSplitOf (record v { tile = tile; workers = workers }) file y → x ≡ y
+split-of-same v tile workers None x y a b = a ∙ sym b
+split-of-same v tile workers (Some bytes) x y a b = split-same v tile workers bytes x y a b
+
+demo-same : (v : DemoValues) (tile workers : ℕ) (x y : Outcome) → IsDemo v x → IsDemo (record v { tile = tile; workers = workers }) y → x ≡ y
+demo-same v tile workers x y (d, is_d, a) (e, is_e, b) = a ∙ (ap demo_plan (decision-same demo_choice 30 10 (demo_file v.seed v.rows) d e is_d is_e) ∙ sym b)
+
+-- ---- the files of `check`
+
+faults-same : (file : List ℕ) (m n : Name) (i j : ℕ) → Faulty m i ≡ Faulty n j → refusal_of file m i ≡ refusal_of file n j
+faults-same file m n i j e =
+    let names : m ≡ n = cc in
+    let ats : i ≡ j = cc in
+    ap (λ k. refusal_of file k i) names ∙ ap (λ k. refusal_of file n k) ats
+
+-- what follows a reading is one, where what follows each layer is
+module _ (file : List ℕ) (choice : Choice) (bytes : List ℕ) (next : List Rect → Outcome → Type 0) (each : (layer : List Rect) (x y : Outcome) → next layer x → next layer y → x ≡ y) where
+  layer-same : (x y : Outcome) → WithLayer file choice bytes next x → WithLayer file choice bytes next y → x ≡ y
+  layer-same x y (Faulty m i, a, p) (Faulty n j, b, q) = p ∙ faults-same file m n i j (reading-same choice bytes (Faulty m i) (Faulty n j) a b) ∙ sym q
+  layer-same x y (Faulty m i, a, p) (Layer f r, b, q) = (let same : Faulty m i ≡ Layer f r = reading-same choice bytes (Faulty m i) (Layer f r) a b in absurd cc)
+  layer-same x y (Layer f r, a, p) (Faulty n j, b, q) = (let same : Faulty n j ≡ Layer f r = reading-same choice bytes (Faulty n j) (Layer f r) b a in absurd cc)
+  layer-same x y (Layer f r, a, p) (Layer g s, b, q) =
+      let same : Layer f r ≡ Layer g s = reading-same choice bytes (Layer f r) (Layer g s) a b in
+      let slabs : s ≡ r = cc in
+      each r x y p (subst (λ l. next l y) slabs q)
+
+judged-same : (v : CheckValues) (layer : List Rect) (cert : Cert) (a b : List Rect) (x y : Outcome) → IsJudged v layer cert a b x → IsJudged v layer cert a b y → x ≡ y
+judged-same v layer cert a b x y (w, is_w, p) (u, is_u, q) = p ∙ (ap (verdict_outcome cert) (masks-unique v.rule v.overlap layer a b cert w u is_w is_u) ∙ sym q)
+
+masks-same : (v : CheckValues) (layer : List Rect) (cert : Cert) (bytes : List ℕ) (x y : Outcome) → IsCheckOfMasks v layer cert bytes x → IsCheckOfMasks v layer cert bytes y → x ≡ y
+masks-same v layer cert bytes x y =
+    layer-same (codes "out") (mask_choice v.a) bytes (λ a. WithLayer (codes "out") (mask_choice v.b) bytes (IsJudged v layer cert a))
+    (λ a. layer-same (codes "out") (mask_choice v.b) bytes (IsJudged v layer cert a) (λ b. judged-same v layer cert a b)) x y
+
+cert-same : (v : CheckValues) (layer : List Rect) (out : Option (List ℕ)) (cert : Cert) (x y : Outcome) → IsCheckOfCert v layer out cert x → IsCheckOfCert v layer out cert y → x ≡ y
+cert-same v layer None (Masks h ps ss) x y p q = p ∙ sym q
+cert-same v layer (Some bytes) (Masks h ps ss) x y p q = masks-same v layer (Masks h ps ss) bytes x y p q
+cert-same v layer out (Conflict h cs ns) x y (w, is_w, p) (u, is_u, q) =
+    p ∙ (ap (verdict_outcome (Conflict h cs ns)) (conflict-unique v.rule v.overlap layer (Conflict h cs ns) w u is_w is_u) ∙ sym q)
+cert-same v layer out (Fault name at) x y p q = p ∙ sym q
+
+texts-same : (c d : Cert) (text : List ℕ) → IsText c text → IsText d text → c ≡ d
+texts-same c d text t u = cert_same c d t.0 u.0 (sym (lines-text c t.0) ∙ ap lines (sym t.1 ∙ u.1) ∙ lines-text d u.0)
+
+bad-lines-same : (text : List ℕ) (m n : ℕ) → IsBadLine text m → IsBadLine text n → m ≡ n
+bad-lines-same text m n a b = elim (cases_order m n) [
+  | inl e ↦ e
+  | inr other ↦ elim other [
+    | inl l ↦ absurd (a.bad (b.good m l))
+    | inr l ↦ absurd (b.bad (a.good n l))
+  ]
+]
+
+text-same : (v : CheckValues) (layer : List Rect) (out : Option (List ℕ)) (text : List ℕ) (x y : Outcome) → IsCheckOfText v layer out text x → IsCheckOfText v layer out text y → x ≡ y
+text-same v layer out text x y (inl (c, t, p)) (inl (d, u, q)) = cert-same v layer out c x y p (subst (λ k. IsCheckOfCert v layer out k y) (sym (texts-same c d text t u)) q)
+text-same v layer out text x y (inl (c, t, p)) (inr (n, bad, q)) = absurd (bad.bad (c, text, t, refl))
+text-same v layer out text x y (inr (m, bad, p)) (inl (d, u, q)) = absurd (bad.bad (d, text, u, refl))
+text-same v layer out text x y (inr (m, bad, p)) (inr (n, other, q)) = p ∙ (ap (λ k. says Refused (bad_line_line k)) (bad-lines-same text m n bad other) ∙ sym q)
+
+file-same : (v : CheckValues) (layer : List Rect) (cert out : Option (List ℕ)) (x y : Outcome) → WithFile cert (IsCheckOfFile v layer out) x → WithFile cert (IsCheckOfFile v layer out) y → x ≡ y
+file-same v layer None out x y p q = p ∙ sym q
+file-same v layer (Some text) out x y (inl (large, p)) (inl (again, q)) = p ∙ sym q
+file-same v layer (Some text) out x y (inl (large, p)) (inr (small, q)) = absurd (omega (arith, large, small))
+file-same v layer (Some text) out x y (inr (small, p)) (inl (large, q)) = absurd (omega (arith, large, small))
+file-same v layer (Some text) out x y (inr (small, p)) (inr (again, q)) = text-same v layer out text x y p q
+
+check-same : (v : CheckValues) (layout cert out : Option (List ℕ)) (x y : Outcome) → IsCheck v layout cert out x → IsCheck v layout cert out y → x ≡ y
+check-same v None cert out x y p q = p ∙ sym q
+check-same v (Some bytes) cert out x y p q =
+    layer-same (codes "in") (check_choice v) bytes (λ layer. WithFile cert (IsCheckOfFile v layer out)) (λ layer. file-same v layer cert out) x y p q
+
+pub outcome-same : OneOutcome
+outcome-same (AsksSplit v) tile workers files x y a b = split-of-same v tile workers (map.get files v.input) x y a b
+outcome-same (AsksCheck v) tile workers files x y a b = check-same v (map.get files v.input) (map.get files v.certificate) (map.get files v.output) x y a b
+outcome-same (AsksDemo v) tile workers files x y a b = demo-same v tile workers x y a b

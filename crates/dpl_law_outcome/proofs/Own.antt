@@ -1,0 +1,26 @@
+-- The results of the program are valid.
+use Rattle.std.proofs.Common.{sym, subst}
+use Rattle.dpl_cert.specs.declared.cert.Head.{Head}
+use Rattle.dpl_cert.specs.declared.cert.PlaceLine.{PlaceLine}
+use Rattle.std.specs.Prelude.{List}
+use Rattle.dpl_cert.specs.declared.cert.Cert.TheVariants.{Masks, Conflict}
+use Rattle.dpl_spec_verdict.specs.declared.Verdict.TheVariants.{Valid}
+use Rattle.dpl_spec_verdict.specs.Masks.{IsVerdictOfMasks}
+use Rattle.dpl_spec_verdict.specs.Conflicts.{IsVerdictOfConflict}
+use Rattle.dpl_run.specs.Flat.{Painted}
+use Rattle.dpl_law_verdict.specs.Own.{head_of}
+use Rattle.dpl_law_verdict.proofs.Passing.{kept-valid}
+use Rattle.dpl_law_verdict.proofs.Painted.{painted-kept}
+use Rattle.dpl_law_verdict.proofs.Clashing.{clash-verdict}
+use Rattle.dpl_law_outcome.specs.Own.{PaintedIsValid, ClashIsValid}
+
+pub painted-valid : PaintedIsValid
+painted-valid rule overlap layer cut p is_cut a =
+    subst (λ (q : Painted). IsVerdictOfMasks rule overlap layer q.a q.b (Masks q.head q.pieces q.stitches) Valid) (sym a.is)
+    (kept-valid rule overlap _ (painted-kept rule overlap layer cut a.masks is_cut a.are_masks a.even))
+
+pub clash-valid : ClashIsValid
+clash-valid rule overlap layer cut x is_cut a =
+    subst (λ (h : Head). IsVerdictOfConflict rule overlap layer (Conflict h x.cycle x.near) Valid) (sym a.head)
+    (subst (λ (ps : List PlaceLine). IsVerdictOfConflict rule overlap layer (Conflict (head_of rule overlap cut) ps x.near) Valid) (sym a.places)
+    (clash-verdict rule overlap layer cut a.cycle x.near is_cut a.reported a.nearest.pair))

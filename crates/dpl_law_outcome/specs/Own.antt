@@ -1,0 +1,20 @@
+-- The results of the program are valid.
+use Rattle.std.specs.Prelude.{ℕ, List}
+use Rattle.dpl_spec_split.specs.declared.Rect.{Rect}
+use Rattle.dpl_spec_split.specs.Squares.{Covers}
+use Rattle.dpl_spec_split.specs.Decomposition.{Cut, IsCut}
+use Rattle.dpl_cert.specs.declared.cert.Cert.TheVariants.{Masks, Conflict}
+use Rattle.dpl_spec_verdict.specs.declared.Verdict.TheVariants.{Valid}
+use Rattle.dpl_spec_verdict.specs.Masks.{IsVerdictOfMasks}
+use Rattle.dpl_spec_verdict.specs.Conflicts.{IsVerdictOfConflict}
+use Rattle.dpl_run.specs.Flat.{Painted, Clash, IsPaintedCut, IsClashOfCut}
+
+-- nothing is wrong with the masks of a cut
+abbrev pub PaintedIsValid : Type 0
+PaintedIsValid = (rule overlap : ℕ) (layer : List Rect) (cut : Cut) (p : Painted) → IsCut rule overlap (Covers layer) cut → IsPaintedCut rule overlap cut p
+    → IsVerdictOfMasks rule overlap layer p.a p.b (Masks p.head p.pieces p.stitches) Valid
+
+-- nothing is wrong with the cycle of a cut
+abbrev pub ClashIsValid : Type 0
+ClashIsValid = (rule overlap : ℕ) (layer : List Rect) (cut : Cut) (x : Clash) → IsCut rule overlap (Covers layer) cut → IsClashOfCut rule overlap cut x
+    → IsVerdictOfConflict rule overlap layer (Conflict x.head x.cycle x.near) Valid

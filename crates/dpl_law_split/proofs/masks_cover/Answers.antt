@@ -1,0 +1,6 @@
+use Rattle.dpl_spec_split.specs.Squares.{Covers}
+use Rattle.dpl_law_split.proofs.Cover.{cover}
+use Rattle.dpl_law_split.proofs.masks_cover.Goals as goal
+
+pub returns : goal.returns
+returns c = λ rule overlap layer. cover rule overlap (Covers layer)

@@ -1,0 +1,33 @@
+//! What follows for the masks of a layer: they cover it, keep its features apart, and overlap at stitches alone.
+#![tactic(auto)]
+
+ghost use Rattle.dpl_law_split.specs.Faults.{FaultlessOrFault, OneFirstFault, OneTop, OneTopFault, TopOrFault};
+ghost use Rattle.dpl_law_split.specs.Masks.{MasksCover, MasksKeepApart, MasksOverlapAtStitches};
+
+/// A square is on one of the masks exactly where it is in the layer.
+pub fn masks_cover()
+    ensures { MasksCover }
+{}
+
+/// Where the conflict graph has no odd cycle, squares of different features on one mask are at least the rule apart.
+pub fn masks_keep_apart()
+    ensures { MasksKeepApart }
+{}
+
+/// A square is on both masks exactly where it lies in a stitch.
+pub fn masks_overlap_at_stitches()
+    ensures { MasksOverlapAtStitches }
+{}
+
+/// A library has one top, or one reason why it has none, and not both.
+pub fn one_top()
+    ensures top { OneTop }
+    ensures fault { OneTopFault }
+    ensures apart { TopOrFault }
+{}
+
+/// The library of a file has one first fault below its top, or none.
+pub fn one_first_fault()
+    ensures fault { OneFirstFault }
+    ensures apart { FaultlessOrFault }
+{}

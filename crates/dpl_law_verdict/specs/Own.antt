@@ -1,0 +1,54 @@
+-- The masks or the cycle of a layer's decomposition are valid.
+use Rattle.std.specs.Prelude.{ℕ, ◌+◌, ◌%◌, ◌<◌, Bool, pos, List, length, map, slice_index, slice_index_or}
+use Rattle.std.specs.List.{zip}
+use Rattle.dpl_spec_split.specs.declared.Pt.{Pt}
+use Rattle.dpl_spec_split.specs.declared.Rect.{Rect}
+use Rattle.dpl_spec_split.specs.declared.Zone.{Zone}
+use Rattle.dpl_spec_split.specs.Squares.{Covers}
+use Rattle.dpl_spec_split.specs.Zones.{at, part_at}
+use Rattle.dpl_spec_split.specs.Summary.{HasOddCycle}
+use Rattle.dpl_spec_split.specs.Cycle.{IsReported}
+use Rattle.dpl_spec_split.specs.Decomposition.{Cut, IsCut, Masks, AreMasks, conflicts}
+use Rattle.dpl_nearest.specs.Nearest.{IsNearestPair}
+use Rattle.dpl_cert.specs.declared.cert.Head.{Head}
+use Rattle.dpl_cert.specs.declared.cert.PieceLine.{PieceLine}
+use Rattle.dpl_cert.specs.declared.cert.StitchLine.{StitchLine}
+use Rattle.dpl_cert.specs.declared.cert.PlaceLine.{PlaceLine}
+use Rattle.dpl_cert.specs.declared.cert.NearLine.{NearLine}
+use Rattle.dpl_cert.specs.declared.cert.Cert.TheVariants.{Masks as MasksText, Conflict as ConflictText}
+use Rattle.dpl_spec_verdict.specs.declared.Verdict.TheVariants.{Valid}
+use Rattle.dpl_spec_verdict.specs.Masks.{IsVerdictOfMasks}
+use Rattle.dpl_spec_verdict.specs.Conflicts.{IsVerdictOfConflict}
+
+abbrev pub head_of : ℕ → ℕ → Cut → Head
+head_of rule overlap c = record { rule = rule; overlap = overlap; features = length c.features; pieces = length c.pieces; zones = length c.zones }
+
+-- a piece's letter and least square
+abbrev pub piece_line : Bool × Pt → PieceLine
+piece_line p = record { b = p.0; key = p.1 }
+
+abbrev pub no_zone : Zone
+no_zone = record { rect = record { x0 = pos 0; y0 = pos 0; x1 = pos 0; y1 = pos 0 }; feature = 0 }
+
+-- a zone, with its two sides
+abbrev pub stitch_line : List Zone → List (ℕ × ℕ) → ℕ → StitchLine
+stitch_line zones sides k = record { rect = (slice_index_or zones k no_zone).rect; p = (slice_index_or sides k (0, 0)).0; q = (slice_index_or sides k (0, 0)).1 }
+
+-- a piece of the cycle, with its least square
+abbrev pub place_line : List Pt → ℕ → PlaceLine
+place_line keys k = record { piece = k; key = slice_index_or keys k (at (pos 0) (pos 0)) }
+
+-- for each piece of the cycle the least pair of near squares with the next one, the last with the first
+abbrev pub ShowNearest : ℕ → List (List Rect) → List ℕ → List NearLine → Type 0
+ShowNearest rule pieces cycle near = (k : ℕ) (d : NearLine) → k < length cycle
+    → IsNearestPair rule (part_at pieces (slice_index cycle k)) (part_at pieces (slice_index cycle ((k + 1) % length cycle))) (slice_index_or near k d).from (slice_index_or near k d).to
+
+-- without an odd cycle of conflicts nothing is wrong with the masks and the lines of their certificate
+abbrev pub OwnMasksAreValid : Type 0
+OwnMasksAreValid = (rule overlap : ℕ) (layer : List Rect) (c : Cut) (m : Masks) → IsCut rule overlap (Covers layer) c → (are : AreMasks rule c m) → ¬ HasOddCycle (conflicts rule c)
+    → IsVerdictOfMasks rule overlap layer m.a m.b (MasksText (head_of rule overlap c) (map piece_line (zip are.colours c.keys)) (map (stitch_line c.zones c.sides) m.stitches)) Valid
+
+-- nothing is wrong with the reported cycle
+abbrev pub OwnCyclesAreValid : Type 0
+OwnCyclesAreValid = (rule overlap : ℕ) (layer : List Rect) (c : Cut) (cycle : List ℕ) (near : List NearLine) → IsCut rule overlap (Covers layer) c → IsReported (conflicts rule c) cycle → ShowNearest rule c.pieces cycle near
+    → IsVerdictOfConflict rule overlap layer (ConflictText (head_of rule overlap c) (map (place_line c.keys) cycle) near) Valid

@@ -1,0 +1,31 @@
+-- What is written of a decomposition lies within the bounds of what can be read.
+use Rattle.std.specs.Prelude.{◌≡◌, ℕ, List, length, map}
+use Rattle.std.specs.List.{zip}
+use Rattle.dpl_spec_split.specs.declared.Rect.{Rect}
+use Rattle.dpl_spec_split.specs.Squares.{Covers}
+use Rattle.dpl_spec_split.specs.Slabs.{AreSlabsOf}
+use Rattle.dpl_spec_split.specs.Loops.{AreRectsWithin, farthest}
+use Rattle.dpl_spec_split.specs.Cycle.{IsReported}
+use Rattle.dpl_spec_split.specs.Decomposition.{Cut, IsCut, Masks, AreMasks, conflicts}
+use Rattle.dpl_spec_format.specs.Tree.{Library}
+use Rattle.dpl_spec_layout.specs.declared.Layer.{Layer}
+use Rattle.dpl_spec_layout.specs.Placements.{IsInLayer}
+use Rattle.dpl_spec_layout.specs.Faults.{IsFaultless}
+use Rattle.dpl_cert.specs.declared.cert.NearLine.{NearLine}
+use Rattle.dpl_cert.specs.declared.cert.Cert.TheVariants.{Masks as MasksText, Conflict as ConflictText}
+use Rattle.dpl_cert.specs.Grammar.{IsCert, IsRule}
+use Rattle.dpl_law_verdict.specs.Own.{ShowNearest, head_of, piece_line, place_line, stitch_line}
+
+-- a layer without a fault lies within the range
+abbrev pub FaultlessLayersAreWithin : Type 0
+FaultlessLayersAreWithin = (lib : Library) (top : ℕ) (chosen : Layer) (layer : List Rect) → IsFaultless lib top chosen → AreSlabsOf (IsInLayer lib top chosen) layer → AreRectsWithin farthest layer
+
+-- so do its masks, and the lines that tell of them are a certificate
+abbrev pub OwnMasksAreWritten : Type 0
+OwnMasksAreWritten = (rule overlap : ℕ) (layer : List Rect) (c : Cut) (m : Masks) → IsRule rule → IsRule overlap → AreRectsWithin farthest layer → IsCut rule overlap (Covers layer) c → (are : AreMasks rule c m)
+    → AreRectsWithin farthest m.a × AreRectsWithin farthest m.b × IsCert (MasksText (head_of rule overlap c) (map piece_line (zip are.colours c.keys)) (map (stitch_line c.zones c.sides) m.stitches))
+
+-- and so are the lines of the cycle that is reported of it
+abbrev pub OwnCyclesAreWritten : Type 0
+OwnCyclesAreWritten = (rule overlap : ℕ) (layer : List Rect) (c : Cut) (cycle : List ℕ) (near : List NearLine) → IsRule rule → IsRule overlap → AreRectsWithin farthest layer → IsCut rule overlap (Covers layer) c → IsReported (conflicts rule c) cycle
+    → length near ≡ length cycle → ShowNearest rule c.pieces cycle near → IsCert (ConflictText (head_of rule overlap c) (map (place_line c.keys) cycle) near)

@@ -1,0 +1,40 @@
+//! What follows where a checker finds nothing broken, whatever tool made the masks or the certificate.
+#![tactic(auto)]
+
+ghost use Rattle.dpl_law_verdict.specs.Lines.{ValidLinesAreGood};
+ghost use Rattle.dpl_law_verdict.specs.Own.{OwnCyclesAreValid, OwnMasksAreValid};
+ghost use Rattle.dpl_law_verdict.specs.Valid.{ValidConflictsAreThere, ValidMasksAreRight};
+ghost use Rattle.dpl_law_verdict.specs.Written.{FaultlessLayersAreWithin, OwnCyclesAreWritten, OwnMasksAreWritten};
+
+/// Valid masks cover the layer and nothing else, keep different features on one mask at least the rule apart, and are both on a square exactly where it lies in a listed stitch.
+pub fn valid_masks_are_right()
+    ensures { ValidMasksAreRight }
+{}
+
+/// Each stitch listed for valid masks is on both of them, as long as the overlap, and between listed pieces of two letters; each listed piece is on the mask of its letter, and the certificate names the rule, the overlap and the number of features.
+pub fn valid_lines_are_good()
+    ensures { ValidLinesAreGood }
+{}
+
+/// A valid certificate of a conflict lists an odd cycle of the layer's pieces, each by its least square, and squares of it and of the next piece that are closer than the rule; it names the rule, the overlap, and how many features, pieces and zones there are.
+pub fn valid_conflicts_are_there()
+    ensures { ValidConflictsAreThere }
+{}
+
+/// The masks of a layer whose conflict graph has no odd cycle are valid by the lines that tell of them.
+pub fn own_masks_are_valid()
+    ensures { OwnMasksAreValid }
+{}
+
+/// The odd cycle reported of a layer is valid by its pieces and their nearest squares.
+pub fn own_cycles_are_valid()
+    ensures { OwnCyclesAreValid }
+{}
+
+/// A layer of a file without a fault lies within the range of coordinates; so do its masks, and what is told of them, or of
+/// the odd cycle reported of it, is a certificate, whose every number fits.
+pub fn own_results_are_written()
+    ensures layer { FaultlessLayersAreWithin }
+    ensures masks { OwnMasksAreWritten }
+    ensures cycle { OwnCyclesAreWritten }
+{}

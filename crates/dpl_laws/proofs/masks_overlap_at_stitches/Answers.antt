@@ -1,6 +1,0 @@
-use Rattle.dpl_spec.specs.Squares.{Covers}
-use Rattle.dpl_laws.proofs.Overlap.{overlap-at}
-use Rattle.dpl_laws.proofs.masks_overlap_at_stitches.Goals as goal
-
-pub returns : goal.returns
-returns c = λ rule overlap layer. overlap-at rule overlap (Covers layer)

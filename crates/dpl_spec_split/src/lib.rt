@@ -1,0 +1,41 @@
+//! The plain values of a layout, and in `specs/` what its decomposition is.
+#![tactic(auto)]
+
+ghost use Rattle.std.specs.Prelude.{◌≡◌, List};
+ghost use Rattle.dpl_spec_split.specs.declared.Rect.{Rect};
+ghost use Rattle.dpl_spec_split.specs.Slabs.{IsCanonical};
+ghost use Rattle.dpl_spec_split.specs.Laws.{IsOneDecomposition};
+ghost use Rattle.dpl_spec_split.specs.Squares.{Covers, SameSquares};
+
+/// A point. As a square it names the unit square whose lower left corner it is.
+#[derive(Clone, Copy, Debug, Default, Drop, PartialEq, Eq)]
+pub struct Pt {
+    pub x: i64,
+    pub y: i64,
+}
+
+/// The squares from column `x0` up to but not `x1`, and from row `y0` up to but not `y1`. A coordinate has 32 bits, as those of the GDSII Stream Format, Release 6, have.
+#[derive(Clone, Copy, Debug, Default, Drop, PartialEq, Eq)]
+pub struct Rect {
+    pub x0: i32,
+    pub y0: i32,
+    pub x1: i32,
+    pub y1: i32,
+}
+
+/// A stitch zone of a feature.
+#[derive(Clone, Copy, Debug, Drop, PartialEq, Eq)]
+pub struct Zone {
+    pub rect: Rect,
+    pub feature: u64,
+}
+
+/// A set of squares has one canonical list of slabs.
+pub fn one_form()
+    ensures { (rs ss : List Rect) → IsCanonical rs → IsCanonical ss → SameSquares (Covers rs) (Covers ss) → rs ≡ ss }
+{}
+
+/// A layer has one decomposition for a rule and an overlap.
+pub fn one_decomposition()
+    ensures { IsOneDecomposition }
+{}

@@ -1,0 +1,133 @@
+-- There is one verdict.
+use Rattle.std.proofs.Common.{◌≡◌, ℕ, inl, inr, sym, ap, ◌∙◌, subst, List, length, false}
+use Rattle.std.specs.Prelude.{pos}
+use Rattle.dpl_spec_split.specs.Zones.{at}
+use Rattle.std.proofs.lemmas.Bool.{cases_order}
+use Rattle.dpl_spec_split.specs.declared.Pt.{Pt}
+use Rattle.dpl_spec_split.specs.declared.Rect.{Rect}
+use Rattle.dpl_spec_split.specs.Squares.{Region, Covers, Precedes, IsLeast}
+use Rattle.dpl_spec_split.specs.Decomposition.{Cut, IsCut}
+use Rattle.dpl_spec_split.proofs.SquareLaws.{Precedes-strict, IsLeast-unique, SameSquares-refl}
+use Rattle.dpl_spec_split.proofs.SideLaws.{sides-unique}
+use Rattle.dpl_spec_split.proofs.WholeLaws.{cut-unique}
+use Rattle.dpl_cert.specs.declared.cert.Head.{Head}
+use Rattle.dpl_cert.specs.declared.cert.PieceLine.{PieceLine}
+use Rattle.dpl_cert.specs.declared.cert.StitchLine.{StitchLine}
+use Rattle.dpl_cert.specs.declared.cert.PlaceLine.{PlaceLine}
+use Rattle.dpl_cert.specs.declared.cert.Cert.{Cert}
+use Rattle.dpl_cert.specs.declared.cert.Cert.TheVariants.{Masks, Conflict, Fault}
+use Rattle.dpl_spec_verdict.specs.declared.Verdict.{Verdict}
+use Rattle.dpl_spec_verdict.specs.declared.Verdict.TheVariants.{Counts, Cover, Overlap, SpacingA, SpacingB, Stitch, Piece, Cycle}
+use Rattle.dpl_spec_verdict.specs.Order.{FirstOf, IsValid, HasSquare, HasBad, IsFirstBad, IsLeastPair, RulesDiffer, ShowsRules, ShowsCounts}
+use Rattle.dpl_spec_verdict.specs.Masks.{Claim, IsBadPiece, IsBadStitch, is_doubled, is_uncovered, AreTooClose, IsTight, CountDiffers, ShowsCover, ShowsOverlap, ShowsSpacingA, ShowsSpacingB, ShowsStitch, ShowsPiece, VerdictFromCounts, VerdictFromCover, VerdictFromOverlap, VerdictFromSpacingA, VerdictFromSpacingB, VerdictFromStitches, VerdictFromPieces, VerdictOfClaim, IsVerdictOfMasks}
+use Rattle.dpl_spec_verdict.specs.Conflicts.{IsBadPlace, CountsDiffer, ShowsCycle, VerdictOfCycle, VerdictFromCycle, IsVerdictOfConflict}
+use Rattle.dpl_spec_verdict.specs.Conflicts.{Claim as CycleClaim, VerdictOfClaim as CycleVerdict, VerdictFromCounts as CycleVerdictFromCounts}
+
+no_piece : PieceLine
+no_piece = record { b = false; key = at (pos 0) (pos 0) }
+
+no_stitch : StitchLine
+no_stitch = record { rect = record { x0 = pos 0; y0 = pos 0; x1 = pos 0; y1 = pos 0 }; p = 0; q = 0 }
+
+no_place : PlaceLine
+no_place = record { piece = 0; key = at (pos 0) (pos 0) }
+
+pub first-unique : (broken : Type 0) (shows rest : Verdict → Type 0) (v w : Verdict) → (shows v → shows w → v ≡ w) → (rest v → rest w → v ≡ w)
+    → FirstOf broken shows rest v → FirstOf broken shows rest w → v ≡ w
+first-unique broken shows rest v w one other (inl (b, s)) (inl (d, t)) = one s t
+first-unique broken shows rest v w one other (inl (b, s)) (inr (n, r)) = absurd (n b)
+first-unique broken shows rest v w one other (inr (n, r)) (inl (d, t)) = absurd (n d)
+first-unique broken shows rest v w one other (inr (n, r)) (inr (m, q)) = other r q
+
+-- two verdicts that show the same thing
+same-shown : {X : Type 0} (make : X → Verdict) (v w : Verdict) (x y : X) → x ≡ y → v ≡ make x → w ≡ make y → v ≡ w
+same-shown make v w x y e f g = f ∙ (ap make e ∙ sym g)
+
+first-bad-unique : {X : Type 0} (bad : ℕ → X → Type 0) (xs : List X) (d : X) (j k : ℕ) → IsFirstBad bad xs j → IsFirstBad bad xs k → j ≡ k
+first-bad-unique bad xs d j k f g = elim (cases_order j k) [
+  | inl e ↦ e
+  | inr (inl l) ↦ absurd (g.first j d l (f.is d))
+  | inr (inr l) ↦ absurd (f.first k d l (g.is d))
+]
+
+not-before : (p q : Pt) → p ≡ q → Precedes p q → ⊥
+not-before p q e before = let itself : Precedes q q = subst (λ r. Precedes r q) e before in Precedes-strict q q itself itself
+
+pair-unique : (related : Pt → Pt → Type 0) (p q r s : Pt) → IsLeastPair related p q → IsLeastPair related r s → (p ≡ r) × (q ≡ s)
+pair-unique related p q r s h k = elim (h.least r s k.are) [
+  | inl before ↦ elim (k.least p q h.are) [
+    | inl after ↦ absurd (Precedes-strict p r before after)
+    | inr (e, upto) ↦ absurd (not-before p r (sym e) before)
+  ]
+  | inr (e, inl f) ↦ (e, f)
+  | inr (e, inr before) ↦ elim (k.least p q h.are) [
+    | inl after ↦ absurd (not-before r p (sym e) after)
+    | inr (g, inl f) ↦ (e, sym f)
+    | inr (g, inr after) ↦ absurd (Precedes-strict q s before after)
+  ]
+]
+
+least-shown : (a : Region) (make : Pt → Verdict) (v w : Verdict) → (p : Pt) × IsLeast a p × (v ≡ make p) → (q : Pt) × IsLeast a q × (w ≡ make q) → v ≡ w
+least-shown a make v w (p, p_least, e) (q, q_least, f) = same-shown make v w p q (IsLeast-unique a a p q (SameSquares-refl a) p_least q_least) e f
+
+bad-shown : {X : Type 0} (bad : ℕ → X → Type 0) (xs : List X) (d : X) (make : ℕ → Verdict) (v w : Verdict)
+    → (j : ℕ) × IsFirstBad bad xs j × (v ≡ make j) → (k : ℕ) × IsFirstBad bad xs k × (w ≡ make k) → v ≡ w
+bad-shown bad xs d make v w (j, j_bad, e) (k, k_bad, f) = same-shown make v w j k (first-bad-unique bad xs d j k j_bad k_bad) e f
+
+pair-shown : (related : Pt → Pt → Type 0) (make : Pt → Pt → Verdict) (v w : Verdict)
+    → (p q : Pt) × IsLeastPair related p q × (v ≡ make p q) → (r s : Pt) × IsLeastPair related r s × (w ≡ make r s) → v ≡ w
+pair-shown related make v w (p, q, one, e) (r, s, other, f) =
+    let same = pair-unique related p q r s one other in
+    e ∙ (ap (λ x. make x q) same.0 ∙ (ap (λ y. make r y) same.1 ∙ sym f))
+
+-- a layer has one cut
+pub one-cut : (rule overlap : ℕ) (layer : Region) (c d : Cut) → IsCut rule overlap layer c → IsCut rule overlap layer d → c ≡ d
+one-cut rule overlap layer c d a b =
+    cut-unique rule overlap layer c d (sides-unique rule overlap layer c.features c.pieces c.zones a.features a.zones a.pieces.components) a b
+
+counts-shown : (rule overlap : ℕ) (layer : List Rect) (v w : Verdict) → ShowsCounts rule overlap layer v → ShowsCounts rule overlap layer w → v ≡ w
+counts-shown rule overlap layer v w (f, p, z, (c, c_is, cf, cp, cz), e) (g, q, y, (d, d_is, df, dp, dz), h) =
+    let same : c ≡ d = one-cut rule overlap (Covers layer) c d c_is d_is in
+    let ff : f ≡ g = cf ∙ (ap (λ (x : Cut). length x.features) same ∙ sym df) in
+    let pp : p ≡ q = cp ∙ (ap (λ (x : Cut). length x.pieces) same ∙ sym dp) in
+    let zz : z ≡ y = cz ∙ (ap (λ (x : Cut). length x.zones) same ∙ sym dz) in
+    e ∙ (ap (λ x. Counts x p z) ff ∙ (ap (λ x. Counts g x z) pp ∙ (ap (λ x. Counts g q x) zz ∙ sym h)))
+
+rules-shown : (head : Head) (v w : Verdict) → ShowsRules head v → ShowsRules head w → v ≡ w
+rules-shown head v w e f = e ∙ sym f
+
+valid-shown : (v w : Verdict) → IsValid v → IsValid w → v ≡ w
+valid-shown v w e f = e ∙ sym f
+
+claim-unique : (rule overlap : ℕ) (c : Claim) (v w : Verdict) → VerdictOfClaim rule overlap c v → VerdictOfClaim rule overlap c w → v ≡ w
+claim-unique rule overlap c v w =
+    first-unique (RulesDiffer rule overlap c.head) (ShowsRules c.head) (VerdictFromCounts rule overlap c) v w (rules-shown c.head v w)
+    (first-unique (CountDiffers c.layer c.head) (ShowsCounts rule overlap c.layer) (VerdictFromCover rule overlap c) v w (counts-shown rule overlap c.layer v w)
+    (first-unique (HasSquare (is_uncovered c.layer c.a c.b)) (ShowsCover c) (VerdictFromOverlap rule overlap c) v w (least-shown (is_uncovered c.layer c.a c.b) Cover v w)
+    (first-unique (HasSquare (is_doubled c.a c.b c.stitches)) (ShowsOverlap c) (VerdictFromSpacingA rule overlap c) v w (least-shown (is_doubled c.a c.b c.stitches) Overlap v w)
+    (first-unique (IsTight rule c.layer c.a) (ShowsSpacingA rule c) (VerdictFromSpacingB rule overlap c) v w (pair-shown (AreTooClose rule (Covers c.layer) (Covers c.a)) SpacingA v w)
+    (first-unique (IsTight rule c.layer c.b) (ShowsSpacingB rule c) (VerdictFromStitches overlap c) v w (pair-shown (AreTooClose rule (Covers c.layer) (Covers c.b)) SpacingB v w)
+    (first-unique (HasBad (IsBadStitch overlap c.a c.b c.pieces) c.stitches) (ShowsStitch overlap c) (VerdictFromPieces c) v w (bad-shown (IsBadStitch overlap c.a c.b c.pieces) c.stitches no_stitch Stitch v w)
+    (first-unique (HasBad (IsBadPiece c.a c.b) c.pieces) (ShowsPiece c) IsValid v w (bad-shown (IsBadPiece c.a c.b) c.pieces no_piece Piece v w) (valid-shown v w))))))))
+
+pub masks-unique : (rule overlap : ℕ) (layer a b : List Rect) (cert : Cert) (v w : Verdict) → IsVerdictOfMasks rule overlap layer a b cert v → IsVerdictOfMasks rule overlap layer a b cert w → v ≡ w
+masks-unique rule overlap layer a b (Masks h ps ss) v w e f = claim-unique rule overlap (record { layer = layer; a = a; b = b; head = h; pieces = ps; stitches = ss }) v w e f
+masks-unique rule overlap layer a b (Conflict h cs ns) v w e f = absurd e
+masks-unique rule overlap layer a b (Fault name at) v w e f = absurd e
+
+-- by the one cut
+cycle-unique : (rule overlap : ℕ) (c : CycleClaim) (v w : Verdict) → VerdictFromCycle rule overlap c v → VerdictFromCycle rule overlap c w → v ≡ w
+cycle-unique rule overlap c v w (k, k_is, e) (l, l_is, f) =
+    let same : k ≡ l = one-cut rule overlap (Covers c.layer) k l k_is l_is in
+    let g : VerdictOfCycle rule k c w = subst (λ (x : Cut). VerdictOfCycle rule x c w) (sym same) f in
+    first-unique (HasBad (IsBadPlace rule k c.cycle c.near) c.cycle) (ShowsCycle rule k c) IsValid v w (bad-shown (IsBadPlace rule k c.cycle c.near) c.cycle no_place Cycle v w) (valid-shown v w) e g
+
+conflict-claim-unique : (rule overlap : ℕ) (c : CycleClaim) (v w : Verdict) → CycleVerdict rule overlap c v → CycleVerdict rule overlap c w → v ≡ w
+conflict-claim-unique rule overlap c v w =
+    first-unique (RulesDiffer rule overlap c.head) (ShowsRules c.head) (CycleVerdictFromCounts rule overlap c) v w (rules-shown c.head v w)
+    (first-unique (CountsDiffer rule overlap c.layer c.head) (ShowsCounts rule overlap c.layer) (VerdictFromCycle rule overlap c) v w (counts-shown rule overlap c.layer v w) (cycle-unique rule overlap c v w))
+
+pub conflict-unique : (rule overlap : ℕ) (layer : List Rect) (cert : Cert) (v w : Verdict) → IsVerdictOfConflict rule overlap layer cert v → IsVerdictOfConflict rule overlap layer cert w → v ≡ w
+conflict-unique rule overlap layer (Masks h ps ss) v w e f = absurd e
+conflict-unique rule overlap layer (Conflict h cs ns) v w e f = conflict-claim-unique rule overlap (record { layer = layer; head = h; cycle = cs; near = ns }) v w e f
+conflict-unique rule overlap layer (Fault name at) v w e f = absurd e

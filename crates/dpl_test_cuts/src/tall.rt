@@ -1,0 +1,131 @@
+//! Tall strips, which are swept slice by slice, block by block or at once.
+ghost use Rattle.std.specs.Prelude.{◌≤◌, IfOk, OnOk};
+ghost use Rattle.dpl_spec_split.specs.Loops.{farthest, IsRectWithin, AreRectsWithin};
+
+use dpl_base::Rect;
+use dpl_slabs::Slabs;
+use std::alloc::{AllocError, Global};
+use std::test::Fail;
+
+/// How far right a rectangle of a stair begins.
+fn left_of(pace: u8, k: u16) -> u32
+    ensures { result ≤ 2000000 }
+{
+    let pair = 2 * pace as u32 * (k / 2) as u32;
+    (pair + 50 * (k % 2) as u32).min(2_000_000)
+}
+
+/// One of the rectangles of a stair of pairs: each pair lies twice `pace` further right than the one before it, and each rectangle a little further up.
+fn step(pace: u8, k: u16) -> Rect
+    ensures { IsRectWithin farthest result }
+{
+    let at = k as i32;
+    let left = left_of(pace, k) as i32;
+    Rect {
+        x0: left,
+        y0: 2 * at,
+        x1: left + 200,
+        y1: 2 * at + 5000,
+    }
+}
+
+/// Adds a rectangle of a stair.
+fn add_step(rects: &mut Vec<Rect>, pace: u8, k: u16) -> Result<(), AllocError>
+    requires { AreRectsWithin farthest rects.old.items }
+    ensures { OnOk result (AreRectsWithin farthest rects.new.items) }
+{
+    rects.push(step(pace, k))?;
+    Ok(())
+}
+
+/// One of the long bars of a stair: the first lies below all of it, each other 100 units above the one before it. By the first there is no column between the stair's rectangles.
+fn bar(b: u8) -> Rect
+    ensures { IsRectWithin farthest result }
+{
+    let low = 100 * b as i32 - 20;
+    Rect {
+        x0: 0,
+        y0: low,
+        x1: 1_250_000,
+        y1: low + 10,
+    }
+}
+
+/// Adds a long bar.
+fn add_bar(rects: &mut Vec<Rect>, b: u8) -> Result<(), AllocError>
+    requires { AreRectsWithin farthest rects.old.items }
+    ensures { OnOk result (AreRectsWithin farthest rects.new.items) }
+{
+    rects.push(bar(b))?;
+    Ok(())
+}
+
+/// The rectangles of a stair from one number up to another.
+fn stair(alloc: Global, pace: u8, from: u16, to: u16) -> Result<Vec<Rect>, AllocError>
+    ensures { IfOk result (λ v. AreRectsWithin farthest v.items) }
+{
+    let mut rects = Vec::new(alloc);
+    for k in from..to {
+        add_step(&mut rects, pace, k)?;
+    }
+    Ok(rects)
+}
+
+/// The rectangles of a stair from one number up to another, and so many long bars.
+fn barred(alloc: Global, pace: u8, from: u16, to: u16, bars: u8) -> Result<Vec<Rect>, AllocError>
+    ensures { IfOk result (λ v. AreRectsWithin farthest v.items) }
+{
+    let mut rects = stair(alloc, pace, from, to)?;
+    for b in 0..bars {
+        add_bar(&mut rects, b)?;
+    }
+    Ok(rects)
+}
+
+/// The squares of a stair from one number up to another, and of so many long bars.
+fn squares(alloc: Global, pace: u8, from: u16, to: u16, bars: u8) -> Result<Slabs, AllocError> {
+    let rects = barred(alloc, pace, from, to, bars)?;
+    Slabs::of_rects(alloc, rects)
+}
+
+#[test]
+fn slices_make_the_slabs_of_one_sweep(rt: HostRuntime) -> Result<(), Fail> {
+    // Rectangles that overlap are swept slice by slice, and wires that stand apart block by block, or slice by slice with a bar below them. Where many bars cross them, slices are given up.
+    for (pace, bars, count) in [
+        (1, 0, 5001),
+        (250, 0, 7500),
+        (250, 1, 7501),
+        (250, 66, 57_656),
+    ] {
+        let whole = squares(rt.alloc(), pace, 0, 5000, bars)?;
+        assert_eq!(rt; whole.rects().len(), count);
+        // The halves are swept at once, and each is in the whole, which has no square beside them.
+        let low = squares(rt.alloc(), pace, 0, 2500, bars)?;
+        let high = squares(rt.alloc(), pace, 2500, 5000, bars)?;
+        assert!(rt; low.equal(&whole.meet(rt.alloc(), &low)?));
+        assert!(rt; high.equal(&whole.meet(rt.alloc(), &high)?));
+        let rest = whole.minus(rt.alloc(), &low)?;
+        assert!(rt; rest.minus(rt.alloc(), &high)?.least().is_none());
+    }
+    Ok(())
+}
+
+#[test]
+fn slices_have_no_square_of_a_hole(rt: HostRuntime) -> Result<(), Fail> {
+    // Holes are taken out slice by slice, in rectangles that overlap and in wires that stand apart, some of them as long as the wires.
+    for (pace, turn, holes, count) in [
+        (1, 2, 5000, 2500),
+        (2, 1, 5000, 3687),
+        (250, 1, 500, 7620),
+        (250, 251, 5000, 9724),
+    ] {
+        let rects = stair(rt.alloc(), pace, 0, 5000)?;
+        let gone = stair(rt.alloc(), turn, 0, holes)?;
+        let left = Slabs::of_rects_without(rt.alloc(), &rects, &gone)?;
+        assert_eq!(rt; left.rects().len(), count);
+        let whole = Slabs::of_rects(rt.alloc(), rects)?;
+        let gone = Slabs::of_rects(rt.alloc(), gone)?;
+        assert!(rt; left.equal(&whole.minus(rt.alloc(), &gone)?));
+    }
+    Ok(())
+}

@@ -1,0 +1,110 @@
+//! Layers by tiles of several sizes and by several workers, which no answer shows.
+
+use crate::trial::{Done, is_conflict, is_done};
+use dpl_test_sample::{Rectangle, bars};
+use std::test::*;
+
+/// A layer that is done.
+#[derive(Clone, Copy)]
+struct Row {
+    layer: &'static [Rectangle],
+    done: Done<'static>,
+}
+
+/// Two bars one unit closer than the rule.
+const BARS: Row = Row {
+    layer: &[[0, 0, 100, 20], [0, 49, 100, 69]],
+    done: Done {
+        line: "features 2 pieces 2 zones 0 stitches 0 a 1 b 1",
+        cert: "features 2 pieces 2 zones 0 stitches 0\npiece 0 A 0 0\npiece 1 B 0 49\n",
+        a: &[[0, 0, 100, 20]],
+        b: &[[0, 49, 100, 69]],
+    },
+};
+
+/// Two squares across a corner, at the rule.
+const FAR: Row = Row {
+    layer: &[[0, 0, 10, 10], [28, 34, 38, 44]],
+    done: Done {
+        line: "features 2 pieces 2 zones 0 stitches 0 a 2 b 0",
+        cert: "features 2 pieces 2 zones 0 stitches 0\npiece 0 A 0 0\npiece 1 A 28 34\n",
+        a: &[[0, 0, 10, 10], [28, 34, 38, 44]],
+        b: &[],
+    },
+};
+
+/// Two squares across a corner, one unit closer.
+const CLOSE: Row = Row {
+    layer: &[[0, 0, 10, 10], [28, 33, 38, 43]],
+    done: Done {
+        line: "features 2 pieces 2 zones 0 stitches 0 a 1 b 1",
+        cert: "features 2 pieces 2 zones 0 stitches 0\npiece 0 A 0 0\npiece 1 B 28 33\n",
+        a: &[[0, 0, 10, 10]],
+        b: &[[28, 33, 38, 43]],
+    },
+};
+
+/// Two long bars.
+const LONG: Row = Row {
+    layer: &[[0, 0, 64_000, 20], [0, 40, 64_000, 60]],
+    done: Done {
+        line: "features 2 pieces 2 zones 0 stitches 0 a 1 b 1",
+        cert: "features 2 pieces 2 zones 0 stitches 0\npiece 0 A 0 0\npiece 1 B 0 40\n",
+        a: &[[0, 0, 64_000, 20]],
+        b: &[[0, 40, 64_000, 60]],
+    },
+};
+
+const TINY: &str = "dpl split --layer 1 --rule 30 --overlap 10 --tile 1 --workers 1 in out cert";
+
+const SMALL: &str = "dpl split --layer 1 --rule 30 --overlap 10 --tile 64 --workers 1 in out cert";
+
+const LARGEST: &str =
+    "dpl split --layer 1 --rule 30 --overlap 10 --tile 1073741824 --workers 1 in out cert";
+
+const TWO: &str = "dpl split --layer 1 --rule 30 --overlap 10 --tile 64 --workers 2 in out cert";
+
+const MANY: &str = "dpl split --layer 1 --rule 30 --overlap 10 --tile 64 --workers 64 in out cert";
+
+const CASES: [(&str, Row); 15] = [
+    (TINY, BARS),
+    (SMALL, BARS),
+    (LARGEST, BARS),
+    (TINY, FAR),
+    (LARGEST, FAR),
+    (TINY, CLOSE),
+    (LARGEST, CLOSE),
+    (SMALL, LONG),
+    (LARGEST, LONG),
+    (TWO, FAR),
+    (TWO, CLOSE),
+    (TWO, LONG),
+    (MANY, FAR),
+    (MANY, CLOSE),
+    (MANY, LONG),
+];
+
+#[test]
+fn answers_show_no_tiles_or_workers(rt: HostRuntime) -> Result<(), Fail> {
+    let alloc = rt.alloc();
+    for (line, row) in CASES {
+        let file = bars(alloc, row.layer)?;
+        assert!(rt; is_done(&rt, alloc, line, file, &row.done)?, "at {line}");
+    }
+    Ok(())
+}
+
+/// Three squares, each two closer than the rule.
+const CROWD: [Rectangle; 3] = [[0, 0, 10, 10], [20, 0, 30, 10], [10, 20, 20, 30]];
+
+#[test]
+fn tiles_do_not_show_in_a_conflict(rt: HostRuntime) -> Result<(), Fail> {
+    let alloc = rt.alloc();
+    let cert =
+        "features 3 pieces 3 zones 0\ncycle 3\npiece 0 0 0\npiece 1 20 0\npiece 2 10 20\nnear 0 0 20 0\nnear 20 0 10 20\nnear 10 20 0 0\n";
+    for line in [TINY, TWO, LARGEST] {
+        let file = bars(alloc, &CROWD)?;
+        assert!(rt; is_conflict(&rt, alloc, line, file, cert)?, "at {line}");
+    }
+    Ok(())
+}

@@ -1,0 +1,120 @@
+//! One bar's file of 170 bytes, changed, cut or followed by others.
+
+use crate::runs::{ONE_BAR, ONE_LINE, SPLIT, answer, is_one_bar, is_refused};
+use dpl_run::Status;
+use dpl_test_sample::{Rectangle, bars, host, is_text, masks};
+use std::test::*;
+
+const BAR: [Rectangle; 1] = [[0, 0, 100, 20]];
+
+/// A byte at a place, and what the file is then refused for.
+const CHANGED: [(usize, u8, &str); 6] = [
+    (115, 0x2D, "BadLength 114"),
+    (100, 0x3C, "UnknownRecord 98"),
+    (101, 2, "BadDataType 98"),
+    (115, 0x2A, "BadSize 114"),
+    (160, 7, "Unexpected 158"),
+    (115, 3, "BadLength 114"),
+];
+
+#[test]
+fn a_changed_byte_is_told(rt: HostRuntime) -> Result<(), Fail> {
+    let alloc = rt.alloc();
+    for (at, byte, fault) in CHANGED {
+        let mut file = bars(alloc, &BAR)?;
+        if let Some(place) = file.get_mut(at) {
+            *place = byte;
+        }
+        assert!(rt; is_refused(&rt, alloc, file, fault)?, "at {at}");
+    }
+    Ok(())
+}
+
+/// Where each record begins, and what a file that ends there or in it is refused for.
+const RECORDS: [(usize, &str); 13] = [
+    (0, "Truncated 0"),
+    (6, "Truncated 6"),
+    (34, "Truncated 34"),
+    (42, "Truncated 42"),
+    (62, "Truncated 62"),
+    (90, "Truncated 90"),
+    (98, "Truncated 98"),
+    (102, "Truncated 102"),
+    (108, "Truncated 108"),
+    (114, "Truncated 114"),
+    (158, "Truncated 158"),
+    (162, "Truncated 162"),
+    (166, "Truncated 166"),
+];
+
+#[test]
+fn a_cut_file_is_truncated_at_its_last_record(rt: HostRuntime) -> Result<(), Fail> {
+    let alloc = rt.alloc();
+    for length in 0..170 {
+        let mut fault = "";
+        for (at, name) in RECORDS {
+            if at <= length {
+                fault = name;
+            }
+        }
+        let mut file = bars(alloc, &BAR)?;
+        file.truncate(length);
+        assert!(rt; is_refused(&rt, alloc, file, fault)?, "at {length} bytes");
+    }
+    Ok(())
+}
+
+#[test]
+fn a_file_past_the_limit_is_too_large(rt: HostRuntime) -> Result<(), Fail> {
+    let alloc = rt.alloc();
+    let file = vec![in alloc; 0u8; 268_435_457]?;
+    assert!(rt; is_refused(&rt, alloc, file, "TooLarge 268435456")?);
+    Ok(())
+}
+
+/// Bytes 0 are no record.
+#[test]
+fn a_file_at_the_limit_is_read(rt: HostRuntime) -> Result<(), Fail> {
+    let alloc = rt.alloc();
+    let file = vec![in alloc; 0u8; 268_435_456]?;
+    assert!(rt; is_refused(&rt, alloc, file, "BadLength 0")?);
+    Ok(())
+}
+
+#[test]
+fn bytes_behind_the_library_are_ignored(rt: HostRuntime) -> Result<(), Fail> {
+    let alloc = rt.alloc();
+    let mut file = bars(alloc, &BAR)?;
+    file.extend_from_slice(&[0; 1878])?;
+    let mut host = host(alloc, vec![in alloc; ("in", file)]?, 4096, Vec::new(alloc))?;
+    assert!(rt; answer(&rt, alloc, SPLIT, &mut host)? == Status::Done);
+    let out = masks(alloc, &BAR, &[])?;
+    assert_eq!(rt; out.len(), 170);
+    assert_eq!(rt; host.file("out"), Some(out.as_slice()));
+    assert_eq!(rt; host.file("cert"), Some(ONE_BAR.as_bytes()));
+    assert_eq!(rt; host.said(), ONE_LINE.as_bytes());
+    Ok(())
+}
+
+#[test]
+fn a_layer_is_chosen_by_both_numbers(rt: HostRuntime) -> Result<(), Fail> {
+    let alloc = rt.alloc();
+    let files = vec![in alloc; ("in", bars(alloc, &BAR)?)]?;
+    let mut host = host(alloc, files, 4096, Vec::new(alloc))?;
+    let line = "dpl split --layer 9 --rule 30 --overlap 10 in out cert";
+    assert!(rt; answer(&rt, alloc, line, &mut host)? == Status::Done);
+    let nothing = masks(alloc, &[], &[])?;
+    assert_eq!(rt; nothing.len(), 106);
+    assert_eq!(rt; host.file("out"), Some(nothing.as_slice()));
+    let parts = ["done features 0 pieces 0 zones 0 stitches 0 a 0 b 0\n"];
+    assert!(rt; is_text(Some(host.said()), &parts));
+    let mut file = bars(alloc, &BAR)?;
+    for at in [112, 113] {
+        if let Some(place) = file.get_mut(at) {
+            *place = 0xFF;
+        }
+    }
+    let line = "dpl split --layer 1 --datatype 65535 --rule 30 --overlap 10 in out cert";
+    assert!(rt; is_one_bar(&rt, alloc, line, file)?);
+    Ok(())
+}

@@ -1,0 +1,121 @@
+//! Two workers at work on the tiles of one layer.
+
+use crate::gates::{Counts, Crowd, Holds};
+use dpl_pool::Gate;
+use dpl_run::{Status, run};
+use dpl_test_sample::{bars, host, words};
+use std::alloc::{AllocError, Global};
+use std::sync::Wait;
+use std::sync::atomic::{AtomicU64, Ordering};
+use std::test::*;
+use std::thread::Threads;
+
+/// A command that two workers share: its words, and what it says.
+type Shared = (&'static str, &'static str);
+
+const BAR_LINE: &str = "done features 1 pieces 1 zones 0 stitches 0 a 1 b 0\n";
+
+const DEMO_LINE: &str = "demo features 2 pieces 2 zones 0 stitches 0 a 2 b 0\n";
+
+const ON_TWO_TILES: [Shared; 2] = [
+    (
+        "dpl split --layer 1 --rule 30 --overlap 10 --tile 50 --workers 2 in out cert",
+        BAR_LINE,
+    ),
+    (
+        "dpl demo --seed 0 --rows 1 --tile 1000 --workers 2",
+        DEMO_LINE,
+    ),
+];
+
+const ON_MORE_TILES: [Shared; 2] = [
+    (
+        "dpl split --layer 1 --rule 30 --overlap 10 --tile 40 --workers 2 in out cert",
+        BAR_LINE,
+    ),
+    (
+        "dpl demo --seed 0 --rows 1 --tile 500 --workers 2",
+        DEMO_LINE,
+    ),
+];
+
+/// Whether a command is done with its line, where workers pass this gate.
+fn is_done<R: Threads + Wait + Sync, G: Gate + Sync>(
+    rt: &R,
+    alloc: Global,
+    shared: Shared,
+    gate: &G,
+) -> Result<bool, AllocError> {
+    let (line, text) = shared;
+    let files = vec![in alloc; ("in", bars(alloc, &[[0, 0, 100, 20]])?)]?;
+    let mut host = host(alloc, files, 4096, Vec::new(alloc))?;
+    let words = words(alloc, line)?;
+    let status = run(rt, alloc, &words, &mut host, gate);
+    Ok(status == Status::Done && host.said() == text.as_bytes())
+}
+
+/// Whether each command on two tiles is done, either tile held until the other has come or was posted, and no gate gave up.
+fn meets<R: Threads + Wait + Sync>(
+    rt: &R,
+    alloc: Global,
+    waits_for_post: bool,
+) -> Result<bool, AllocError> {
+    for shared in ON_TWO_TILES {
+        for (held, other) in [(0, 1), (1, 0)] {
+            let gate = Holds {
+                held,
+                other,
+                waits_for_post,
+                came: AtomicU64::new(0),
+                gave_up: AtomicU64::new(0),
+            };
+            if !is_done(rt, alloc, shared, &gate)? || gate.gave_up.load(Ordering::SeqCst) != 0 {
+                return Ok(false);
+            }
+        }
+    }
+    Ok(true)
+}
+
+#[test]
+fn two_tiles_meet(rt: HostRuntime) -> Result<(), Fail> {
+    assert!(rt; meets(&rt, rt.alloc(), false)?);
+    Ok(())
+}
+
+#[test]
+fn posted_early(rt: HostRuntime) -> Result<(), Fail> {
+    assert!(rt; meets(&rt, rt.alloc(), true)?);
+    Ok(())
+}
+
+#[test]
+fn no_more_workers_come_than_asked_for(rt: HostRuntime) -> Result<(), Fail> {
+    for shared in ON_MORE_TILES {
+        let gate = Crowd {
+            asked: 2,
+            inside: AtomicU64::new(0),
+            most: AtomicU64::new(0),
+            strangers: AtomicU64::new(0),
+        };
+        assert!(rt; is_done(&rt, rt.alloc(), shared, &gate)?);
+        assert!(rt; gate.most.load(Ordering::SeqCst) <= 2);
+        assert_eq!(rt; gate.strangers.load(Ordering::SeqCst), 0);
+    }
+    Ok(())
+}
+
+#[test]
+fn a_plate_has_few_tiles(rt: HostRuntime) -> Result<(), Fail> {
+    let alloc = rt.alloc();
+    let files = vec![in alloc; ("in", bars(alloc, &[[0, 0, 30_000, 30_000]])?)]?;
+    let mut host = host(alloc, files, 4096, Vec::new(alloc))?;
+    let line = "dpl split --layer 1 --rule 30 --overlap 10 --tile 64 in out cert";
+    let words = words(alloc, line)?;
+    let gate = Counts {
+        entered: AtomicU64::new(0),
+    };
+    assert!(rt; run(&rt, alloc, &words, &mut host, &gate) == Status::Done);
+    assert!(rt; gate.entered.load(Ordering::SeqCst) <= 65_540);
+    Ok(())
+}

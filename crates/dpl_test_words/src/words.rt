@@ -1,0 +1,247 @@
+//! Words and what they ask for.
+
+use dpl_test_sample::words;
+use dpl_words::{CheckOptions, DemoOptions, Request, SplitOptions, WordsFault, read_words};
+use std::alloc::Global;
+use std::test::Fail;
+
+/// The layer, the datatype, the rule, the overlap, the layers of both masks, the tile and the workers; the name of the top; the names of the files.
+type Values<'a> = ([u32; 8], Option<&'a str>, [&'a str; 3]);
+
+const PLAIN: [u32; 8] = [1, 0, 30, 10, 101, 102, 4096, 4];
+
+const FILES: [&str; 3] = ["i", "o", "c"];
+
+fn values_of<'a>(options: &SplitOptions<'a>) -> Values<'a> {
+    let numbers = [
+        u32::from(options.layer),
+        u32::from(options.datatype),
+        options.rule,
+        options.overlap,
+        u32::from(options.a),
+        u32::from(options.b),
+        options.tile,
+        options.workers,
+    ];
+    let files = [options.input, options.output, options.certificate];
+    (numbers, options.top, files)
+}
+
+/// `check` has no tile and no workers.
+fn checked_values_of<'a>(options: &CheckOptions<'a>) -> Values<'a> {
+    let numbers = [
+        u32::from(options.layer),
+        u32::from(options.datatype),
+        options.rule,
+        options.overlap,
+        u32::from(options.a),
+        u32::from(options.b),
+        0,
+        0,
+    ];
+    let files = [options.input, options.output, options.certificate];
+    (numbers, options.top, files)
+}
+
+/// The seed, the rows, the tile and the workers.
+fn demo_values_of(options: &DemoOptions) -> [u64; 4] {
+    [
+        options.seed,
+        u64::from(options.rows),
+        u64::from(options.tile),
+        u64::from(options.workers),
+    ]
+}
+
+/// What the words of a line ask for; two blanks have an empty word between them.
+fn asks(alloc: Global, line: &str, want: Option<Values>) -> Result<bool, Fail> {
+    let words = words(alloc, line)?;
+    match read_words(alloc, &words) {
+        Ok(Request::Split(options)) => Ok(want == Some(values_of(&options))),
+        Ok(Request::Check(options)) => Ok(want == Some(checked_values_of(&options))),
+        Ok(Request::Demo(_)) => Ok(false),
+        Err(WordsFault::Usage) => Ok(want.is_none()),
+        Err(WordsFault::NoMemory) => Err("there is memory".into()),
+    }
+}
+
+#[test]
+fn lines_ask_for_what_they_say(rt: HostRuntime) -> Result<(), Fail> {
+    let plain = Some((PLAIN, None, FILES));
+    let cases: [(&str, Option<Values>); 54] = [
+        ("dpl split --layer 1 --rule 30 --overlap 10 i o c", plain),
+        // behind `=`, and after or between the names
+        ("dpl split i o c --layer=1 --rule=30 --overlap=10", plain),
+        ("dpl split i --layer 1 o --rule 30 c --overlap 10", plain),
+        // every option
+        (
+            "dpl split --layer 2 --datatype 3 --rule 4 --overlap 5 --top T --a 6 --b 7 --tile 8 --workers 9 i o c",
+            Some(([2, 3, 4, 5, 6, 7, 8, 9], Some("T"), FILES)),
+        ),
+        // zeros and a sign before a number; `-0` as a word of its own looks like an option
+        (
+            "dpl split --layer=-0 --rule 30 --overlap 10 i o c",
+            Some(([0, 0, 30, 10, 101, 102, 4096, 4], None, FILES)),
+        ),
+        ("dpl split --layer -0 --rule 30 --overlap 10 i o c", None),
+        (
+            "dpl split --layer=+010 --rule 30 --overlap 10 i o c",
+            Some(([10, 0, 30, 10, 101, 102, 4096, 4], None, FILES)),
+        ),
+        (
+            "dpl split --layer +010 --rule 30 --overlap 10 i o c",
+            Some(([10, 0, 30, 10, 101, 102, 4096, 4], None, FILES)),
+        ),
+        ("dpl split --layer=-1 --rule 30 --overlap 10 i o c", None),
+        ("dpl split --layer=+-1 --rule 30 --overlap 10 i o c", None),
+        ("dpl split --layer= --rule 30 --overlap 10 i o c", None),
+        ("dpl split --layer=1x --rule 30 --overlap 10 i o c", None),
+        // the ends of the ranges
+        (
+            "dpl split --layer=65535 --rule=1000000 --overlap=1000000 --tile=1073741824 --workers=64 i o c",
+            Some((
+                [65535, 0, 1000000, 1000000, 101, 102, 1073741824, 64],
+                None,
+                FILES,
+            )),
+        ),
+        ("dpl split --layer=65536 --rule 30 --overlap 10 i o c", None),
+        ("dpl split --layer 1 --rule=0 --overlap 10 i o c", None),
+        (
+            "dpl split --layer 1 --rule=1000001 --overlap 10 i o c",
+            None,
+        ),
+        ("dpl split --layer 1 --rule 30 --overlap=0 i o c", None),
+        (
+            "dpl split --layer 1 --rule 30 --overlap 10 --tile=0 i o c",
+            None,
+        ),
+        (
+            "dpl split --layer 1 --rule 30 --overlap 10 --tile=1073741825 i o c",
+            None,
+        ),
+        (
+            "dpl split --layer 1 --rule 30 --overlap 10 --workers=0 i o c",
+            None,
+        ),
+        (
+            "dpl split --layer 1 --rule 30 --overlap 10 --workers=65 i o c",
+            None,
+        ),
+        // what is missing, given twice or not known
+        ("", None),
+        ("dpl", None),
+        ("dpl split", None),
+        ("dpl split --layer 1 --rule 30 i o c", None),
+        ("dpl split --layer 1 --rule 30 --overlap 10 i o", None),
+        ("dpl split --layer 1 --rule 30 --overlap 10 i o c d", None),
+        (
+            "dpl split --layer 1 --layer 1 --rule 30 --overlap 10 i o c",
+            None,
+        ),
+        ("dpl split i o c --layer 1 --rule 30 --overlap", None),
+        ("dpl --layer 1 split --rule 30 --overlap 10 i o c", None),
+        ("dpl merge --layer 1 --rule 30 --overlap 10 i o c", None),
+        ("dpl split -l 1 --rule 30 --overlap 10 i o c", None),
+        ("dpl --help", None),
+        ("dpl split --help", None),
+        ("dpl help", None),
+        ("dpl --version", None),
+        // layers of the masks, and names, that are equal
+        (
+            "dpl split --layer 1 --rule 30 --overlap 10 --a 5 --b 05 i o c",
+            None,
+        ),
+        (
+            "dpl split --layer 1 --rule 30 --overlap 10 --b 101 i o c",
+            None,
+        ),
+        (
+            "dpl split --layer 1 --rule 30 --overlap 10 --a 102 --b 101 i o c",
+            Some(([1, 0, 30, 10, 102, 101, 4096, 4], None, FILES)),
+        ),
+        ("dpl split --layer 1 --rule 30 --overlap 10 i i c", None),
+        ("dpl split --layer 1 --rule 30 --overlap 10 i o i", None),
+        ("dpl split --layer 1 --rule 30 --overlap 10 i o o", None),
+        // names that are empty, one hyphen, or begin with one
+        (
+            "dpl split --layer 1 --rule 30 --overlap 10 --top= i o c",
+            Some((PLAIN, Some(""), FILES)),
+        ),
+        (
+            "dpl split --layer 1 --rule 30 --overlap 10 --top - i o c",
+            Some((PLAIN, Some("-"), FILES)),
+        ),
+        (
+            "dpl split --layer 1 --rule 30 --overlap 10  o c",
+            Some((PLAIN, None, ["", "o", "c"])),
+        ),
+        (
+            "dpl split --layer 1 --rule 30 --overlap 10 - o c",
+            Some((PLAIN, None, ["-", "o", "c"])),
+        ),
+        ("dpl split --layer 1 --rule 30 --overlap 10 -i o c", None),
+        (
+            "dpl split --layer 1 --rule 30 --overlap 10 -- -i o c",
+            Some((PLAIN, None, ["-i", "o", "c"])),
+        ),
+        // `check` has neither tiles nor workers
+        (
+            "dpl check --layer 1 --rule 30 --overlap 10 i o c",
+            Some(([1, 0, 30, 10, 101, 102, 0, 0], None, FILES)),
+        ),
+        (
+            "dpl check --layer 2 --datatype 3 --rule 4 --overlap 5 --top T --a 6 --b 7 i o c",
+            Some(([2, 3, 4, 5, 6, 7, 0, 0], Some("T"), FILES)),
+        ),
+        (
+            "dpl check --layer 1 --rule 30 --overlap 10 --tile 64 i o c",
+            None,
+        ),
+        ("dpl check --layer 1 --rule 30 --overlap 10 i o o", None),
+        (
+            "dpl check --layer 1 --rule 30 --overlap 10 --a 7 --b 7 i o c",
+            None,
+        ),
+        ("dpl check --layer 1 --rule 30 i o c", None),
+    ];
+    for (line, want) in cases {
+        assert!(rt; asks(rt.alloc(), line, want)?, "at {line}");
+    }
+    assert!(rt; matches!(read_words(rt.alloc(), &[]), Err(WordsFault::Usage)));
+    Ok(())
+}
+
+/// What the words of a line of `demo` ask for.
+fn shows(alloc: Global, line: &str, want: Option<[u64; 4]>) -> Result<bool, Fail> {
+    let words = words(alloc, line)?;
+    match read_words(alloc, &words) {
+        Ok(Request::Demo(options)) => Ok(want == Some(demo_values_of(&options))),
+        Ok(_) => Ok(false),
+        Err(WordsFault::Usage) => Ok(want.is_none()),
+        Err(WordsFault::NoMemory) => Err("there is memory".into()),
+    }
+}
+
+#[test]
+fn demo_has_a_seed_and_rows(rt: HostRuntime) -> Result<(), Fail> {
+    let cases: [(&str, Option<[u64; 4]>); 10] = [
+        ("dpl demo --seed 0 --rows 1", Some([0, 1, 4096, 4])),
+        (
+            "dpl demo --rows=+1000000 --seed=18446744073709551615 --tile 8 --workers 64",
+            Some([18446744073709551615, 1000000, 8, 64]),
+        ),
+        ("dpl demo --seed=18446744073709551616 --rows 1", None),
+        ("dpl demo --seed=-0 --rows 1", None),
+        ("dpl demo --seed 0 --rows=-0", None),
+        ("dpl demo --seed 0 --rows 0", None),
+        ("dpl demo --seed 0 --rows 1000001", None),
+        ("dpl demo --seed 0", None),
+        ("dpl demo --rows 1", None),
+        ("dpl demo --seed 0 --rows 1 i", None),
+    ];
+    for (line, want) in cases {
+        assert!(rt; shows(rt.alloc(), line, want)?, "at {line}");
+    }
+    Ok(())
+}

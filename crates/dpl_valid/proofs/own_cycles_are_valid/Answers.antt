@@ -1,5 +1,0 @@
-use Rattle.dpl_valid.proofs.Clashing.{clash-verdict}
-use Rattle.dpl_valid.proofs.own_cycles_are_valid.Goals as goal
-
-pub returns : goal.returns
-returns a = λ rule overlap layer c cycle near cut reported pairs. clash-verdict rule overlap layer c cycle near cut reported pairs

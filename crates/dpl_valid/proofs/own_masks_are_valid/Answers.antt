@@ -1,6 +1,0 @@
-use Rattle.dpl_valid.proofs.Passing.{kept-valid}
-use Rattle.dpl_valid.proofs.Painted.{painted-kept}
-use Rattle.dpl_valid.proofs.own_masks_are_valid.Goals as goal
-
-pub returns : goal.returns
-returns a = λ rule overlap layer c m cut are even. kept-valid rule overlap _ (painted-kept rule overlap layer c m cut are even)

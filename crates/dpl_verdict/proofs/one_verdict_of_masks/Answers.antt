@@ -1,5 +1,0 @@
-use Rattle.dpl_verdict.proofs.OrderLaws.{masks-unique}
-use Rattle.dpl_verdict.proofs.one_verdict_of_masks.Goals as goal
-
-pub returns : goal.returns
-returns c = masks-unique
