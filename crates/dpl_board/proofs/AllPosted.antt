@@ -44,4 +44,6 @@ pub all-posted : AllPostedSumUp
 all-posted sheet b j stands all sums =
     let count = stands.tiles in
     let posted : (t : ℕ) → t < length sheet → (w : ℕ) × Contains b.history (entry w t) = λ t l. (let (w, is) = all t (rw count l) in (w, posted-entry t w b.history is)) in
-    summary-along (graph_of (edges_of sheet b.history)) (graph_of (all_edges sheet)) (same-members (edges_of sheet b.history) (all_edges sheet) (λ e. (posted-to-all sheet b.history e, all-to-posted sheet b.history e posted))) (summary_of j) sums
+    summary-along (graph_of (edges_of sheet b.history)) (graph_of (all_edges sheet))
+    (same-members (edges_of sheet b.history) (all_edges sheet)
+    (λ e. (posted-to-all sheet b.history e, all-to-posted sheet b.history e posted))) (summary_of j) sums

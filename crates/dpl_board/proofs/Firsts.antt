@@ -37,12 +37,15 @@ poster-off t u (e ∷ es) other = elim (cases_eq e.tile u) [
 ]
 
 abbrev More : Entry → List Entry → Type 0
-More e es = ((w : ℕ) → poster_in e.tile (firsts es) ≡ Some w → firsts (es ++ e ∷ []) ≡ firsts es) × (poster_in e.tile (firsts es) ≡ None → firsts (es ++ e ∷ []) ≡ firsts es ++ e ∷ [])
+More e es = ((w : ℕ) → poster_in e.tile (firsts es) ≡ Some w → firsts (es ++ e ∷ []) ≡ firsts es) × (poster_in e.tile (firsts es) ≡ None
+    → firsts (es ++ e ∷ []) ≡ firsts es ++ e ∷ [])
 
 -- where the first is of the same tile, one more changes nothing
 same-tile : (e x : Entry) (es : List Entry) → e.tile ≡ x.tile → More e es → filter (off x.tile) (firsts (es ++ e ∷ [])) ≡ filter (off x.tile) (firsts es)
 same-tile e x es same more = elim (cases-option (poster_in e.tile (firsts es))) [
-  | inl none ↦ ap (filter (off x.tile)) (more.1 none) ∙ (filter-append (off x.tile) (firsts es) (e ∷ []) ∙ (ap (λ ys. filter (off x.tile) (firsts es) ++ ys) (dropped (off x.tile) e [] (off-false x.tile e same)) ∙ append-nil (filter (off x.tile) (firsts es))))
+  | inl none ↦ ap (filter (off x.tile)) (more.1 none) ∙ (filter-append (off x.tile) (firsts es) (e ∷ [])
+      ∙ (ap (λ ys. filter (off x.tile) (firsts es) ++ ys) (dropped (off x.tile) e [] (off-false x.tile e same))
+      ∙ append-nil (filter (off x.tile) (firsts es))))
   | inr some ↦ ap (filter (off x.tile)) (more.0 some.0 some.1)
 ]
 
@@ -54,10 +57,12 @@ firsts-more e (x ∷ es) = elim (cases_eq x.tile e.tile) [
     λ none. absurd (not-none x.worker (sym (poster-here e.tile x (filter (off x.tile) (firsts es)) same) ∙ none)),
   )
   | inr other ↦ (
-      let rest : poster_in e.tile (firsts (x ∷ es)) ≡ poster_in e.tile (firsts es) = poster-other e.tile x (filter (off x.tile) (firsts es)) other ∙ poster-off e.tile x.tile (firsts es) other in
+      let rest : poster_in e.tile (firsts (x ∷ es)) ≡ poster_in e.tile (firsts es) = poster-other e.tile x
+      (filter (off x.tile) (firsts es)) other ∙ poster-off e.tile x.tile (firsts es) other in
       let more = firsts-more e es in (
         λ w is. ap (λ ys. x ∷ filter (off x.tile) ys) (more.0 w (sym rest ∙ is)),
-        λ none. ap (λ ys. x ∷ ys) (ap (filter (off x.tile)) (more.1 (sym rest ∙ none)) ∙ (filter-append (off x.tile) (firsts es) (e ∷ []) ∙ ap (λ ys. filter (off x.tile) (firsts es) ++ ys) (kept (off x.tile) e [] (off-true x.tile e (λ h. other (sym h)))))),
+        λ none. ap (λ ys. x ∷ ys) (ap (filter (off x.tile)) (more.1 (sym rest ∙ none)) ∙ (filter-append (off x.tile) (firsts es) (e ∷ [])
+            ∙ ap (λ ys. filter (off x.tile) (firsts es) ++ ys) (kept (off x.tile) e [] (off-true x.tile e (λ h. other (sym h)))))),
       )
       )
 ]
@@ -74,4 +79,5 @@ pub within-more : (n : ℕ) (e : Entry) (es : List Entry) → e.tile < n → wit
 within-more n e es l = filter-append (λ (d : Entry). nat_lt d.tile n) es (e ∷ []) ∙ ap (λ ys. within n es ++ ys) (kept (λ (d : Entry). nat_lt d.tile n) e [] (lt-ltb e.tile n l))
 
 pub within-past : (n : ℕ) (e : Entry) (es : List Entry) → n ≤ e.tile → within n (es ++ e ∷ []) ≡ within n es
-within-past n e es past = filter-append (λ (d : Entry). nat_lt d.tile n) es (e ∷ []) ∙ (ap (λ ys. within n es ++ ys) (dropped (λ (d : Entry). nat_lt d.tile n) e [] (le-ltb e.tile n past)) ∙ append-nil (within n es))
+within-past n e es past = filter-append (λ (d : Entry). nat_lt d.tile n) es (e ∷ [])
+    ∙ (ap (λ ys. within n es ++ ys) (dropped (λ (d : Entry). nat_lt d.tile n) e [] (le-ltb e.tile n past)) ∙ append-nil (within n es))

@@ -36,9 +36,11 @@ module _ (sheet : Sheet) (es : List Entry) (e : Entry) (old : Board) (has : HasP
   }
 
   -- a post of a tile that isn't posted
-  pub posts-new : (sum : Joined) (new : Board) → e.tile < length sheet → poster_in e.tile old.history ≡ None → IsPost old e sum new → Sums (edges_at sheet e.tile) sum → HasPosts sheet (es ++ e ∷ []) new
+  pub posts-new : (sum : Joined) (new : Board) → e.tile < length sheet → poster_in e.tile old.history ≡ None → IsPost old e sum new
+      → Sums (edges_at sheet e.tile) sum → HasPosts sheet (es ++ e ∷ []) new
   posts-new sum new below none is sums = record {
-    history = is.history ∙ (ap (λ xs. xs ++ e ∷ []) has.history ∙ sym (ap firsts (within-more (length sheet) e es below) ∙ firsts-new e (within (length sheet) es) (ap (poster_in e.tile) (sym has.history) ∙ none)));
+    history = is.history ∙ (ap (λ xs. xs ++ e ∷ []) has.history ∙ sym (ap firsts (within-more (length sheet) e es below)
+        ∙ firsts-new e (within (length sheet) es) (ap (poster_in e.tile) (sym has.history) ∙ none)));
     stands = is.stands sheet has.stands sums;
   }
 
@@ -61,7 +63,8 @@ pub record HasFirst (sheet : Sheet) (n : ℕ) (b : Board) : Type 0 where
   pub stands : Stands sheet b
   pub posted : (s : ℕ) → s < n → IsPosted s b.history
 
-pub first-more : (sheet : Sheet) (n w : ℕ) (sum : Joined) (old new : Board) → HasFirst sheet n old → (poster_in n old.history ≡ None) × IsPost old (entry w n) sum new → Sums (edges_at sheet n) sum → HasFirst sheet (n + 1) new
+pub first-more : (sheet : Sheet) (n w : ℕ) (sum : Joined) (old new : Board) → HasFirst sheet n old → (poster_in n old.history ≡ None)
+    × IsPost old (entry w n) sum new → Sums (edges_at sheet n) sum → HasFirst sheet (n + 1) new
 first-more sheet n w sum old new has (none, is) sums = record {
   stands = is.stands sheet has.stands sums;
   posted = λ s l. rw is.history (elim (cases_eq n s) [

@@ -25,7 +25,8 @@ map-or f (Some x) b = refl
 
 -- the poster among the first ones, or else among the others
 pub poster-append : (t : ℕ) (es fs : List Entry) → poster_in t (es ++ fs) ≡ option_or (poster_in t es) (poster_in t fs)
-poster-append t es fs = ap (option_map (λ (e : Entry). e.worker)) (find-append (λ (e : Entry). e.tile == t) es fs) ∙ map-or (λ (e : Entry). e.worker) (find (λ (e : Entry). e.tile == t) es) (find (λ (e : Entry). e.tile == t) fs)
+poster-append t es fs = ap (option_map (λ (e : Entry). e.worker)) (find-append (λ (e : Entry). e.tile == t) es fs)
+    ∙ map-or (λ (e : Entry). e.worker) (find (λ (e : Entry). e.tile == t) es) (find (λ (e : Entry). e.tile == t) fs)
 
 pub poster-first : (t w : ℕ) (es fs : List Entry) → poster_in t es ≡ Some w → poster_in t (es ++ fs) ≡ Some w
 poster-first t w es fs is = poster-append t es fs ∙ ap (λ o. option_or o (poster_in t fs)) is
@@ -69,7 +70,8 @@ pub none-beyond : (n t : ℕ) (es : List Entry) → All (λ (d : Entry). d.tile 
 none-beyond n t es below past = differs-none t es (λ k d l. (let h = below k d l in λ same. omega (arith, h, same)))
 
 -- a worker for a tile without one
-pub workers-more : (n : ℕ) (ps : List (Option ℕ)) (es : List Entry) (e : Entry) → AreWorkers n es ps → e.tile < n → get_or ps e.tile None ≡ None → AreWorkers n (es ++ e ∷ []) (set ps e.tile (Some e.worker))
+pub workers-more : (n : ℕ) (ps : List (Option ℕ)) (es : List Entry) (e : Entry) → AreWorkers n es ps → e.tile < n
+    → get_or ps e.tile None ≡ None → AreWorkers n (es ++ e ∷ []) (set ps e.tile (Some e.worker))
 workers-more n ps es e old below none = record {
   len = length-set ps e.tile (Some e.worker) ∙ old.len;
   each = λ t l. elim (cases_eq e.tile t) [
@@ -79,7 +81,8 @@ workers-more n ps es e old below none = record {
 }
 
 -- a worker for a tile that has one
-pub workers-known : (n w : ℕ) (ps : List (Option ℕ)) (es : List Entry) (e : Entry) → AreWorkers n es ps → e.tile < n → get_or ps e.tile None ≡ Some w → AreWorkers n (es ++ e ∷ []) ps
+pub workers-known : (n w : ℕ) (ps : List (Option ℕ)) (es : List Entry) (e : Entry) → AreWorkers n es ps → e.tile < n
+    → get_or ps e.tile None ≡ Some w → AreWorkers n (es ++ e ∷ []) ps
 workers-known n w ps es e old below some = record {
   len = old.len;
   each = λ t l. elim (cases_eq e.tile t) [
@@ -99,7 +102,8 @@ pub workers-none : (n : ℕ) (ps : List (Option ℕ)) → ps ≡ replicate n Non
 workers-none n ps is = record { len = ap length is ∙ length-replicate n None; each = λ t l. rw is (get_or-replicate n t None None l) }
 
 -- one post more
-pub posters-more : (n : ℕ) (ps : List (Option ℕ)) (es : List Entry) (e : Entry) → ArePosters n ps es → e.tile < n → get_or ps e.tile None ≡ None → ArePosters n (set ps e.tile (Some e.worker)) (es ++ e ∷ [])
+pub posters-more : (n : ℕ) (ps : List (Option ℕ)) (es : List Entry) (e : Entry) → ArePosters n ps es → e.tile < n
+    → get_or ps e.tile None ≡ None → ArePosters n (set ps e.tile (Some e.worker)) (es ++ e ∷ [])
 posters-more n ps es e old below none = record {
   workers = workers-more n ps es e old.workers below none;
   below = All-push (λ (d : Entry). d.tile < n) es e old.below below;

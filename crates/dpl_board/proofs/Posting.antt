@@ -8,7 +8,8 @@ use Rattle.dpl_board.specs.Summing.{KeepsSums}
 use Rattle.dpl_board.specs.Boards.{ArePosters, IsPost, board}
 use Rattle.dpl_board.proofs.Summings.{summed-more}
 
-pub posted : (n : ℕ) (ps : List (Option ℕ)) (es all : List Entry) (js more kept : List Joined) (e : Entry) (sum : Joined) → ArePosters n ps es → e.tile < n → get_or ps e.tile None ≡ None
+pub posted : (n : ℕ) (ps : List (Option ℕ)) (es all : List Entry) (js more kept : List Joined) (e : Entry) (sum : Joined)
+    → ArePosters n ps es → e.tile < n → get_or ps e.tile None ≡ None
     → all ≡ es ++ e ∷ [] → more ≡ js ++ sum ∷ [] → KeepsSums more kept → (poster_in e.tile es ≡ None) × IsPost (board n es js) e sum (board n all kept)
 posted n ps es all js more kept e sum old below none all_is more_is keeps = (
   sym (old.workers.each e.tile below) ∙ none,

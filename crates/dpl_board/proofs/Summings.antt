@@ -34,14 +34,21 @@ pub edges-append : (sheet : Sheet) (es fs : List Entry) → edges_of sheet (es +
 edges-append sheet es fs = flat_map-append (λ (e : Entry). edges_at sheet e.tile) es fs
 
 -- one post more
-pub summed-more : (sheet : Sheet) (es : List Entry) (e : Entry) (js : List Joined) (j : Joined) → AreSums sheet es js → Sums (edges_at sheet e.tile) j → AreSums sheet (es ++ e ∷ []) (js ++ j ∷ [])
+pub summed-more : (sheet : Sheet) (es : List Entry) (e : Entry) (js : List Joined) (j : Joined) → AreSums sheet es js
+    → Sums (edges_at sheet e.tile) j → AreSums sheet (es ++ e ∷ []) (js ++ j ∷ [])
 summed-more sheet es e js j old sums = sums-append sheet es (e ∷ []) js (j ∷ []) old (sum-alone sheet (e ∷ []) j (rw (append-nil (edges_at sheet e.tile)) sums))
 
 -- the sums of entries are those of their edges
 pub summed-edges : (sheet : Sheet) (es : List Entry) (js : List Joined) → IsSheet sheet → AreSums sheet es js → AreSummed (edges_of sheet es) js
 summed-edges sheet es [] pairs none = rw none refl
-summed-edges sheet es (j ∷ js) pairs (front, rest, is, sums, others) =
-    (edges_of sheet front, edges_of sheet rest, ap (edges_of sheet) is ∙ edges-append sheet front rest, edges-pairs sheet front pairs, sums, summed-edges sheet rest js pairs others)
+summed-edges sheet es (j ∷ js) pairs (front, rest, is, sums, others) = (
+  edges_of sheet front,
+  edges_of sheet rest,
+  ap (edges_of sheet) is ∙ edges-append sheet front rest,
+  edges-pairs sheet front pairs,
+  sums,
+  summed-edges sheet rest js pairs others,
+)
 
 -- what sums up all of them keeps what they sum up
 pub kept-whole : (js : List Joined) (all : Joined) (list : List Joined) → SumsAll js all → list ≡ all ∷ [] → KeepsSums js list

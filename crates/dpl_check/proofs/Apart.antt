@@ -47,12 +47,14 @@ module _ (layer : List Rect) (features : List (List Rect)) (items : List Item) (
     -- a rectangle lies in the feature of its owner
     pub slab-feature : (i : ℕ) (p : Pt) → IsAt mask i p → (get_or owners i 0 < length features) × part_at features (get_or owners i 0) p
     slab-feature i p (r, i_in, is, has) =
-        let (s, j, item, e, s_has) = subst (λ (u : Rect). ItemCovers (Only (get_or owners i 0)) items (corner u)) is (zip-at (λ r k. ItemCovers (Only k) items (corner r)) mask owners i r 0 own i_in) in
+        let (s, j, item, e, s_has) = subst (λ (u : Rect). ItemCovers (Only (get_or owners i 0)) items (corner u)) is
+        (zip-at (λ r k. ItemCovers (Only k) items (corner r)) mask owners i r 0 own i_in) in
         let (j_in, c) = (of_features s j).0 item in
         let whole = are.whole j [] j_in in
         let r_solid : IsSolid r = subst (λ u. IsSolid u) is (solid i r i_in) in
         let to_corner : Linked (Covers layer) whole.0 (corner r) = (whole.2 (corner r)).0 (Covers-member (get_or features j []) s (corner r) c s_has) in
-        let along : Linked (Covers layer) (corner r) p = linked-within (Covers layer) r (λ q h. within q (Covers-member mask r q (i, i_in, is) h)) (corner r) p (has-corner r r_solid) has in
+        let along : Linked (Covers layer) (corner r) p = linked-within (Covers layer) r
+        (λ q h. within q (Covers-member mask r q (i, i_in, is) h)) (corner r) p (has-corner r r_solid) has in
         let there : part_at features j p = (whole.2 p).1 (Linked-trans (Covers layer) to_corner along) in
         subst (λ k. (k < length features) × part_at features k p) e (j_in, there)
 

@@ -82,14 +82,16 @@ more ss n e wider n_in within last before = record {
   ];
 }
 
-step : (ss : List StitchLine) (n : ℕ) (e : StitchLine) (o : Option Rect) → All IsStitch ss → n < length ss → IsAroundOf ss n o → IsAroundOf ss (n + 1) (round_one o (get_or ss n e).rect)
+step : (ss : List StitchLine) (n : ℕ) (e : StitchLine) (o : Option Rect) → All IsStitch ss → n < length ss → IsAroundOf ss n o
+    → IsAroundOf ss (n + 1) (round_one o (get_or ss n e).rect)
 step ss n e None fit n_in is =
     more ss n e (get_or ss n e).rect n_in (rect-within (get_or ss n e).rect (fit n e n_in).rect) (λ p has. has) (λ k d p l k_in has. absurd (omega (arith, is, l)))
 step ss n e (Some b) fit n_in h =
     more ss n e (Both b (get_or ss n e).rect) n_in (both-within b (get_or ss n e).rect h.within (rect-within (get_or ss n e).rect (fit n e n_in).rect))
     (λ p has. second-in b (get_or ss n e).rect p has) (λ k d p l k_in has. first-in b (get_or ss n e).rect p (h.all k d p l k_in has))
 
-pub around-more : (ss : List StitchLine) (n : ℕ) (e : StitchLine) (o wider : Option Rect) → All IsStitch ss → n < length ss → IsAroundOf ss n o → wider ≡ round_one o (get_or ss n e).rect
+pub around-more : (ss : List StitchLine) (n : ℕ) (e : StitchLine) (o wider : Option Rect) → All IsStitch ss → n < length ss
+    → IsAroundOf ss n o → wider ≡ round_one o (get_or ss n e).rect
     → IsAroundOf ss (n + 1) wider
 around-more ss n e o wider fit n_in h is = subst (λ w. IsAroundOf ss (n + 1) w) (sym is) (step ss n e o fit n_in h)
 

@@ -10,10 +10,13 @@ use Rattle.dpl_spec_verdict.specs.Conflicts.{CountsDiffer}
 use Rattle.dpl_check.specs.declared.cut.LayerCut.{LayerCut}
 use Rattle.dpl_check.specs.Cutting.{HasOtherCounts, cut_view}
 
-module _ (rule overlap : ℕ) (layer : List Rect) (head : Head) (c : LayerCut) (features : List (List Rect)) (many : length features ≡ c.features) (is : IsCut rule overlap (Covers layer) (cut_view features c.pieces)) where
+module _ (rule overlap : ℕ) (layer : List Rect) (head : Head) (c : LayerCut) (features : List (List Rect))
+    (many : length features ≡ c.features) (is : IsCut rule overlap (Covers layer) (cut_view features c.pieces)) where
   pub counts-differ : HasOtherCounts head c → CountsDiffer rule overlap layer head
-  counts-differ (inl other) (d, d_is, f, p, z) = other (sym many ∙ (ap (λ (x : Cut). length x.features) (one-cut rule overlap (Covers layer) (cut_view features c.pieces) d is d_is) ∙ sym f))
-  counts-differ (inr (inl other)) (d, d_is, f, p, z) = other (ap (λ (x : Cut). length x.pieces) (one-cut rule overlap (Covers layer) (cut_view features c.pieces) d is d_is) ∙ sym p)
+  counts-differ (inl other) (d, d_is, f, p, z) = other
+      (sym many ∙ (ap (λ (x : Cut). length x.features) (one-cut rule overlap (Covers layer) (cut_view features c.pieces) d is d_is) ∙ sym f))
+  counts-differ (inr (inl other)) (d, d_is, f, p, z) = other
+      (ap (λ (x : Cut). length x.pieces) (one-cut rule overlap (Covers layer) (cut_view features c.pieces) d is d_is) ∙ sym p)
   counts-differ (inr (inr other)) (d, d_is, f, p, z) = other (ap (λ (x : Cut). length x.zones) (one-cut rule overlap (Covers layer) (cut_view features c.pieces) d is d_is) ∙ sym z)
 
   pub counts-kept : (HasOtherCounts head c → ⊥) → CountsDiffer rule overlap layer head → ⊥

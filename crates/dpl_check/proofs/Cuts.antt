@@ -17,6 +17,7 @@ pub is_cut : (rule overlap : ℕ) (layer : List Rect) (features : List (List Rec
     → IsCut rule overlap (Covers layer) (cut_view features c)
 is_cut rule overlap layer features zones c components are same pieces = record {
   features = components;
-  zones = subst (λ (zs : List Zone). AreZones rule overlap (Covers layer) features zs) (sym same) (zones_same rule overlap (union_of features) (Covers layer) features zones components.together are);
+  zones = subst (λ (zs : List Zone). AreZones rule overlap (Covers layer) features zs) (sym same)
+      (zones_same rule overlap (union_of features) (Covers layer) features zones components.together are);
   pieces = subst (λ (zs : List Zone). ArePieces (Covers layer) features zs c.parts c.owners c.keys c.sides) (sym same) (pieces layer components);
 }

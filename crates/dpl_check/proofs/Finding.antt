@@ -11,7 +11,8 @@ use Rattle.dpl_check.specs.Findings.{IsFirstBadOf}
 abbrev pub NoneBelow : {X : Type 0} → (ℕ → X → Type 0) → List X → ℕ → Type 0
 NoneBelow bad xs n = (j : ℕ) (d : _) → j < n → j < length xs → ¬ bad j (get_or xs j d)
 
-pub none-more : {X : Type 0} (bad : ℕ → X → Type 0) (xs : List X) (n : ℕ) (x : X) → n < length xs → x ≡ get_or xs n x → (bad n x → ⊥) → NoneBelow bad xs n → NoneBelow bad xs (n + 1)
+pub none-more : {X : Type 0} (bad : ℕ → X → Type 0) (xs : List X) (n : ℕ) (x : X) → n < length xs → x ≡ get_or xs n x → (bad n x → ⊥)
+    → NoneBelow bad xs n → NoneBelow bad xs (n + 1)
 none-more bad xs n x n_in is good before j d l j_in = elim (cases_eq j n) [
   | inl e ↦ λ h. good (subst (λ y. bad n y) (get_or_default xs n d x n_in ∙ sym is) (subst (λ m. bad m (get_or xs m d)) e h))
   | inr ne ↦ before j d (omega (arith, l, ne)) j_in

@@ -96,7 +96,8 @@ module _ (rule : ℕ) (rects : List Rect) (owners : List ℕ) (items : List Item
   pub foreign-none : IsLeastOf (foreign rule rects owners items 0) None
   foreign-none = λ (p, (i, l, at, near)). omega (arith, l)
 
-  pub foreign-more : (n : ℕ) (x : Rect) (o : ℕ) (old new : Option Pt) → n < length rects → x ≡ get_or rects n x → o ≡ get_or owners n 0 → IsLeastOf (foreign rule rects owners items n) old
+  pub foreign-more : (n : ℕ) (x : Rect) (o : ℕ) (old new : Option Pt) → n < length rects → x ≡ get_or rects n x → o ≡ get_or owners n 0
+      → IsLeastOf (foreign rule rects owners items n) old
       → IsImproved rule (Has x) (ItemCovers (But o) items) old new → IsLeastOf (foreign rule rects owners items (n + 1)) new
   foreign-more n x o old new n_in x_is o_is =
       improved-least rule (Has x) (ItemCovers (But o) items) (foreign rule rects owners items n) (foreign rule rects owners items (n + 1)) old new
@@ -171,7 +172,11 @@ module _ (rule : ℕ) (rects : List Rect) (owners : List ℕ) (items : List Item
       j,
       j_in,
       (s, j_in, is, has),
-      (first, (unit_of first, owner, (one (unit_of first) owner).1 (refl, refl), (λ e. apart (owner-of i at ∙ e)), unit-self first), subst (λ n. n < rule * rule) (d2-sym first q) close),
+      (
+        first,
+        (unit_of first, owner, (one (unit_of first) owner).1 (refl, refl), (λ e. apart (owner-of i at ∙ e)), unit-self first),
+        subst (λ n. n < rule * rule) (d2-sym first q) close,
+      ),
     )
 
     single-second : (n : ℕ) (q : Pt) → foreign rule rects owners single n q → AreForeign rule rects owners first q

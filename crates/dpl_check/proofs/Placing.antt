@@ -41,7 +41,8 @@ part-once parts i j p are a b = elim (cases_order i j) [
 ]
 
 -- the owner of a square is its piece
-pub of-some : (parts : List (List Rect)) (items : List Item) (p : Pt) (piece k : ℕ) → AreParts parts → AreItemsOf parts items → ItemCovers (Only k) items p → (k ≡ piece) ↔ part_at parts piece p
+pub of-some : (parts : List (List Rect)) (items : List Item) (p : Pt) (piece k : ℕ) → AreParts parts → AreItemsOf parts items
+    → ItemCovers (Only k) items p → (k ≡ piece) ↔ part_at parts piece p
 of-some parts items p piece k are of_parts (r, j, item, is, has) =
     let (j_in, c) = (of_parts r j).0 item in
     let there : part_at parts k p = subst (λ n. part_at parts n p) is (Covers-member (get_or parts j []) r p c has) in
@@ -57,12 +58,15 @@ point-fits p point = unit_fits p (omega (arith, ints, point.x.0, point.x.1)) (om
 
 pub near-units : (rule : ℕ) (p q : Pt) (u v : Rect) → u ≡ unit_of p → v ≡ unit_of q → AreNear rule (Has u) (Has v) ↔ (d2 p q < rule * rule)
 near-units rule p q u v e f = (
-  λ (s, t, s_in, t_in, close). subst (λ (x : Pt). d2 x q < rule * rule) (unit-only p s (subst (λ (w : Rect). Has w s) e s_in)) (subst (λ (x : Pt). d2 s x < rule * rule) (unit-only q t (subst (λ (w : Rect). Has w t) f t_in)) close),
+  λ (s, t, s_in, t_in, close). subst (λ (x : Pt). d2 x q < rule * rule) (unit-only p s (subst (λ (w : Rect). Has w s) e s_in))
+      (subst (λ (x : Pt). d2 s x < rule * rule) (unit-only q t (subst (λ (w : Rect). Has w t) f t_in)) close),
   λ close. (p, q, subst (λ (w : Rect). Has w p) (sym e) (unit-self p), subst (λ (w : Rect). Has w q) (sym f) (unit-self q), close),
 )
 
-module _ (rule : ℕ) (features : List (List Rect)) (pieces : CutPieces) (cycle : List PlaceLine) (near : List NearLine) (k : ℕ) (k_in : k < length near) (place : PlaceLine) (e : NearLine) where
-  good-right : (line : NearLine) → IsGoodPlace rule (cut_view features pieces) cycle place (piece_of cycle ((k + 1) % length cycle)) k line → IsRightPlace rule pieces place (piece_of cycle ((k + 1) % length cycle)) line
+module _ (rule : ℕ) (features : List (List Rect)) (pieces : CutPieces) (cycle : List PlaceLine) (near : List NearLine) (k : ℕ)
+    (k_in : k < length near) (place : PlaceLine) (e : NearLine) where
+  good-right : (line : NearLine) → IsGoodPlace rule (cut_view features pieces) cycle place (piece_of cycle ((k + 1) % length cycle)) k line
+      → IsRightPlace rule pieces place (piece_of cycle ((k + 1) % length cycle)) line
   good-right line good = record {
     known = good.known;
     key = good.key;
@@ -70,13 +74,19 @@ module _ (rule : ℕ) (features : List (List Rect)) (pieces : CutPieces) (cycle 
     apart = good.apart;
   }
 
-  pub not-right-bad : (IsRightPlace rule pieces place (piece_of cycle ((k + 1) % length cycle)) (get_or near k e) → ⊥) → IsBadPlace rule (cut_view features pieces) cycle near k place
-  not-right-bad never d good = never (subst (λ line. IsRightPlace rule pieces place (piece_of cycle ((k + 1) % length cycle)) line) (get_or_default near k d e k_in) (good-right (get_or near k d) good))
+  pub not-right-bad : (IsRightPlace rule pieces place (piece_of cycle ((k + 1) % length cycle)) (get_or near k e) → ⊥)
+      → IsBadPlace rule (cut_view features pieces) cycle near k place
+  not-right-bad never d good = never (subst (λ line. IsRightPlace rule pieces place (piece_of cycle ((k + 1) % length cycle)) line)
+      (get_or_default near k d e k_in) (good-right (get_or near k d) good))
 
-  pub stood-bad : (stood : List Bool) (b : Bool) → AreMarked (length pieces.parts) cycle k stood → IsRightPlace rule pieces place (piece_of cycle ((k + 1) % length cycle)) (get_or near k e) → get_or stood place.piece b ≡ true → IsBadPlace rule (cut_view features pieces) cycle near k place
+  pub stood-bad : (stood : List Bool) (b : Bool) → AreMarked (length pieces.parts) cycle k stood
+      → IsRightPlace rule pieces place (piece_of cycle ((k + 1) % length cycle)) (get_or near k e) → get_or stood place.piece b ≡ true
+      → IsBadPlace rule (cut_view features pieces) cycle near k place
   stood-bad stood b marked right is d good = let (j, l, same) = (marked.exactly place.piece b right.known).0 is in good.new j l same
 
-  pub right-good : (stood : List Bool) (b : Bool) → AreMarked (length pieces.parts) cycle k stood → IsRightPlace rule pieces place (piece_of cycle ((k + 1) % length cycle)) (get_or near k e) → get_or stood place.piece b ≡ false → IsBadPlace rule (cut_view features pieces) cycle near k place → ⊥
+  pub right-good : (stood : List Bool) (b : Bool) → AreMarked (length pieces.parts) cycle k stood
+      → IsRightPlace rule pieces place (piece_of cycle ((k + 1) % length cycle)) (get_or near k e) → get_or stood place.piece b ≡ false
+      → IsBadPlace rule (cut_view features pieces) cycle near k place → ⊥
   right-good stood b marked right is bad = bad e (record {
     known = right.known;
     new = λ j l same. false≢true (sym is ∙ (marked.exactly place.piece b right.known).1 (j, l, same));
@@ -88,7 +98,8 @@ module _ (rule : ℕ) (features : List (List Rect)) (pieces : CutPieces) (cycle 
   })
 
 -- one place more
-pub marked-next : (count : ℕ) (cycle : List PlaceLine) (k : ℕ) (stood : List Bool) → piece_of cycle k < count → AreMarked count cycle k stood → AreMarked count cycle (k + 1) (set stood (piece_of cycle k) true)
+pub marked-next : (count : ℕ) (cycle : List PlaceLine) (k : ℕ) (stood : List Bool) → piece_of cycle k < count
+    → AreMarked count cycle k stood → AreMarked count cycle (k + 1) (set stood (piece_of cycle k) true)
 marked-next count cycle k stood known marked = record {
   each = length-set stood (piece_of cycle k) true ∙ marked.each;
   exactly = λ n d n_in. elim (cases_eq n (piece_of cycle k)) [

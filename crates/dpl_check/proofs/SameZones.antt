@@ -29,7 +29,8 @@ kept_same : (rule overlap : ℕ) (l m f : Region) (z : Rect) → SameSquares l m
 kept_same rule overlap l m f z same (inl h) = inl (level_same rule overlap l m f z same h)
 kept_same rule overlap l m f z same (inr v) = inr (upright_same rule overlap l m f z same v.0, λ h level. v.1 h (level_same rule overlap m l f h (SameSquares-sym l m same) level))
 
-pub zones_same : (rule overlap : ℕ) (l m : Region) (features : List (List Rect)) (zones : List Zone) → SameSquares l m → AreZones rule overlap l features zones → AreZones rule overlap m features zones
+pub zones_same : (rule overlap : ℕ) (l m : Region) (features : List (List Rect)) (zones : List Zone) → SameSquares l m
+    → AreZones rule overlap l features zones → AreZones rule overlap m features zones
 zones_same rule overlap l m features zones same zs = record {
   ordered = zs.ordered;
   exactly = λ z. (

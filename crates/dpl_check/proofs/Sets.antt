@@ -68,7 +68,8 @@ uncovered-are layer a b masks missing added all m l n s = record {
 }
 
 -- where the masks together are the layer no square is uncovered
-pub none-uncovered : (layer a b masks : List Rect) → AreSlabsOf (λ p. Covers a p ⊎ Covers b p) masks → SameSquares (Covers layer) (Covers masks) → HasSquare (is_uncovered layer a b) → ⊥
+pub none-uncovered : (layer a b masks : List Rect) → AreSlabsOf (λ p. Covers a p ⊎ Covers b p) masks
+    → SameSquares (Covers layer) (Covers masks) → HasSquare (is_uncovered layer a b) → ⊥
 none-uncovered layer a b masks m same (p, inl (in_layer, none)) = none ((m.covers p).0 ((same p).0 in_layer))
 none-uncovered layer a b masks m same (p, inr (masked, none)) = none ((same p).1 ((m.covers p).1 masked))
 
@@ -105,7 +106,14 @@ pub stitches-within : (ss : List StitchLine) → All IsStitch ss → AreRectsWit
 stitches-within ss fit r r_in =
     let (s, (k, k_in, is), same) = rect-stitch ss r r_in in
     let f : IsStitch s = subst (λ u. IsStitch u) is (fit k s k_in) in
-    let within : IsRectWithin farthest s.rect = record { left = omega (arith, ints, f.rect.x0.0, f.rect.x0.1); low = omega (arith, ints, f.rect.y0.0, f.rect.y0.1); right = omega (arith, ints, f.rect.x1.0, f.rect.x1.1); high = omega (arith, ints, f.rect.y1.0, f.rect.y1.1) } in
+    let within : IsRectWithin farthest s.rect = record {
+      left = omega (arith, ints, f.rect.x0.0, f.rect.x0.1);
+      low = omega
+          (arith, ints, f.rect.y0.0, f.rect.y0.1);
+      right = omega (arith, ints, f.rect.x1.0, f.rect.x1.1);
+      high = omega
+          (arith, ints, f.rect.y1.0, f.rect.y1.1);
+    } in
     subst (λ u. IsRectWithin farthest u) same within
 
 -- an empty set has no square that isn't listed
@@ -127,7 +135,8 @@ least-same a b None same none = λ (p, p_in). none (p, (same p).1 p_in)
 least-same a b (Some p) same least = record { inside = (same p).0 least.inside; first = λ q q_in. least.first q ((same q).1 q_in) }
 
 -- the squares on both masks that no stitch lists are the doubled ones
-pub least-doubled : (a b both : List Rect) (ss : List StitchLine) (o : Option Pt) → AreSlabsOf (λ p. Covers a p × Covers b p) both → IsLeastOf (is_unlisted both ss) o → IsLeastOf (is_doubled a b ss) o
+pub least-doubled : (a b both : List Rect) (ss : List StitchLine) (o : Option Pt) → AreSlabsOf (λ p. Covers a p × Covers b p) both
+    → IsLeastOf (is_unlisted both ss) o → IsLeastOf (is_doubled a b ss) o
 least-doubled a b both ss o m least = least-same (is_unlisted both ss) (is_doubled a b ss) o (λ p. (
   λ (one, none). (let (in_a, in_b) = (m.covers p).0 one in (in_a, in_b, none)),
   λ (in_a, in_b, none). ((m.covers p).1 (in_a, in_b), none),
@@ -141,10 +150,12 @@ pub b-inside : (layer a b : List Rect) → (HasSquare (is_uncovered layer a b) �
 b-inside layer a b none p in_b = elim (covered_or_not layer p) [ inl there ↦ there | inr missing ↦ absurd (none (p, inr (inr in_b, missing))) ]
 
 -- the layer has as many features as the certificate counts
-pub count-kept : (layer : List Rect) (features items : List (List Rect)) (head : Head) → AreComponents (Covers layer) features → items ≡ features → length items ≡ head.features → CountDiffers layer head → ⊥
+pub count-kept : (layer : List Rect) (features items : List (List Rect)) (head : Head) → AreComponents (Covers layer) features
+    → items ≡ features → length items ≡ head.features → CountDiffers layer head → ⊥
 count-kept layer features items head are same is differs = differs (features, are, sym is ∙ ap (λ (t : List (List Rect)). length t) same)
 
-pub count-differs : (layer : List Rect) (features items : List (List Rect)) (head : Head) → AreComponents (Covers layer) features → items ≡ features → (length items ≡ head.features → ⊥) → CountDiffers layer head
+pub count-differs : (layer : List Rect) (features items : List (List Rect)) (head : Head) → AreComponents (Covers layer) features
+    → items ≡ features → (length items ≡ head.features → ⊥) → CountDiffers layer head
 count-differs layer features items head are same other (found, found_are, is) =
     let one : features ≡ found = components-unique (Covers layer) features found are found_are in
     other (ap (λ (t : List (List Rect)). length t) same ∙ (ap (λ (t : List (List Rect)). length t) one ∙ sym is))

@@ -46,7 +46,8 @@ module _ (overlap : ℕ) (all both off : List Rect) (pieces : List PieceLine) (s
   )
 
 -- a rectangle round each stitch has the squares of each
-pub stitch-inside : (ss : List StitchLine) (bounds : Rect) → ((s : StitchLine) (p : Pt) → Contains ss s → Has s.rect p → Has bounds p) → (s : StitchLine) (p : Pt) → Contains ss s → Has s.rect p → Covers (bounds ∷ []) p
+pub stitch-inside : (ss : List StitchLine) (bounds : Rect) → ((s : StitchLine) (p : Pt) → Contains ss s → Has s.rect p → Has bounds p)
+    → (s : StitchLine) (p : Pt) → Contains ss s → Has s.rect p → Covers (bounds ∷ []) p
 stitch-inside ss bounds all s p s_in has = Covers-member (bounds ∷ []) bounds p (Contains-head bounds []) (all s p s_in has)
 
 -- a good stitch has no square that isn't on both masks
@@ -66,7 +67,8 @@ module _ (overlap : ℕ) (a b both : List Rect) (pieces : List PieceLine) (meet 
     parted = (h.listed, h.letters);
   }
 
-  pub first-bad-stitch : (ss : List StitchLine) (o : Option ℕ) → IsFirstBadOf (IsWrongStitch overlap (λ p. ¬ Covers both p) pieces) ss o → IsFirstBadOf (IsBadStitch overlap a b pieces) ss o
+  pub first-bad-stitch : (ss : List StitchLine) (o : Option ℕ) → IsFirstBadOf (IsWrongStitch overlap (λ p. ¬ Covers both p) pieces) ss o
+      → IsFirstBadOf (IsBadStitch overlap a b pieces) ss o
   first-bad-stitch ss o first = first-same (IsWrongStitch overlap (λ p. ¬ Covers both p) pieces) (IsBadStitch overlap a b pieces) ss o
       (λ k d l. (λ wrong good. wrong (good-right (get_or ss k d) good), λ bad right. bad (right-good (get_or ss k d) right))) first
 
@@ -75,7 +77,8 @@ by-letter : (a b : List Rect) (items_a items_b : List Item) → AreItemsOfRects 
 by-letter a b items_a items_b are_a are_b p true = (λ off c. off (covers-items b items_b are_b p c), λ bad l. bad (items-cover b items_b are_b p l))
 by-letter a b items_a items_b are_a are_b p false = (λ off c. off (covers-items a items_a are_a p c), λ bad l. bad (items-cover a items_a are_a p l))
 
-pub off-bad : (a b : List Rect) (items_a items_b : List Item) → AreItemsOfRects a items_a → AreItemsOfRects b items_b → (k : ℕ) (line : PieceLine) → IsOffMask items_a items_b k line ↔ IsBadPiece a b k line
+pub off-bad : (a b : List Rect) (items_a items_b : List Item) → AreItemsOfRects a items_a → AreItemsOfRects b items_b
+    → (k : ℕ) (line : PieceLine) → IsOffMask items_a items_b k line ↔ IsBadPiece a b k line
 off-bad a b items_a items_b are_a are_b k line = by-letter a b items_a items_b are_a are_b line.key line.b
 
 -- the items of a tree of slabs are solid

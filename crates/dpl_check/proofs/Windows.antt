@@ -61,7 +61,8 @@ pub unit-self : (p : Pt) → Has (unit_of p) p
 unit-self p = record { left = omega (arith, ints); right = omega (arith, ints); low = omega (arith, ints); high = omega (arith, ints) }
 
 -- an owner in the window of a square is the square's
-pub at-some : (items : List Item) (p : Pt) (u : Rect) (o : Option ℕ) → u ≡ unit_of p → IfSome o (λ k. HasSquare (λ q. Has u q × ItemCovers (Only k) items q)) → IfSome o (λ k. ItemCovers (Only k) items p)
+pub at-some : (items : List Item) (p : Pt) (u : Rect) (o : Option ℕ) → u ≡ unit_of p
+    → IfSome o (λ k. HasSquare (λ q. Has u q × ItemCovers (Only k) items q)) → IfSome o (λ k. ItemCovers (Only k) items p)
 at-some items p u None is none = none
 at-some items p u (Some k) is (q, (in-unit, own)) = subst (λ r. ItemCovers (Only k) items r) (unit-only p q (subst (λ (v : Rect). Has v q) is in-unit)) own
 

@@ -1,5 +1,6 @@
 -- Steps of dealing, of giving grips, and of the end.
-use Rattle.std.proofs.Common.{Bool, ◌≡◌, ◌≢◌, ◌∙◌, ◌+◌, ◌%◌, ◌<◌, ◌≤◌, ◌==◌, ℕ, zero, suc, true, false, List, [], ◌∷◌, ◌++◌, length, map, set, get_or, take, replicate, refl, sym, ap, subst, arith, ⊎_elim, slice_get, Some}
+use Rattle.std.proofs.Common.{Bool, ◌≡◌, ◌≢◌, ◌∙◌, ◌+◌, ◌%◌, ◌<◌, ◌≤◌, ◌==◌, ℕ, zero, suc, true, false, List, [], ◌∷◌, ◌++◌, length, map}
+use Rattle.std.proofs.Common.{set, get_or, take, replicate, refl, sym, ap, subst, arith, ⊎_elim, slice_get, Some}
 use Rattle.std.specs.Prelude.{All, Contains, if◌then◌else◌}
 use Rattle.std.specs.List.{AllByRecursion as Each}
 use Rattle.std.specs.declared.alloc.Global.{Global}
@@ -16,11 +17,14 @@ use Rattle.dpl_deal.specs.declared.hand.Hand.{Hand}
 use Rattle.dpl_deal.specs.declared.deal.Deal.{Deal}
 use Rattle.dpl_deal.specs.Rule.{after_deal, after_grip, after_seal, cut_off, dealer}
 use Rattle.dpl_deal.specs.Grips.{AllEnded, grip_deque, grip_view, joined, took_by}
-use Rattle.dpl_deal.specs.Hands.{AreHandsOf, EachAt, HasEachOnce, IsArmed, IsDealing, IsDone, IsHandOf, IsOut, all_taken, deal_deques, dealt_times, dealt_to, deques_of, joined_all, marks_of, own_deque, own_view, row_of, rows_of, taken, took_times, views_of}
+use Rattle.dpl_deal.specs.Hands.{AreHandsOf, EachAt, HasEachOnce, IsArmed, IsDealing, IsDone, IsHandOf, IsOut, all_taken, deal_deques}
+use Rattle.dpl_deal.specs.Hands.{dealt_times, dealt_to, deques_of, joined_all, marks_of, own_deque, own_view, row_of, rows_of, taken}
+use Rattle.dpl_deal.specs.Hands.{took_times, views_of}
 use Rattle.dpl_deal.proofs.Dealings.{dealt_all, joined_all_more, view_here, ended_all, parts_all, put_owner, took_nothing, took_total, within_cut}
 use Rattle.dpl_deal.proofs.Turns.{dealt_once}
 
-pub each_put : {A : Type 0} (P Q : ℕ → A → Type 0) (xs : List A) (i : ℕ) (new : A) → i < length xs → EachAt P xs → ((j : ℕ) (x : A) → j ≢ i → P j x → Q j x) → Q i new → EachAt Q (set xs i new)
+pub each_put : {A : Type 0} (P Q : ℕ → A → Type 0) (xs : List A) (i : ℕ) (new : A) → i < length xs → EachAt P xs
+    → ((j : ℕ) (x : A) → j ≢ i → P j x → Q j x) → Q i new → EachAt Q (set xs i new)
 each_put P Q xs i new lt h f q k d klt = dite (ℕ_discrete k i)
     (λ (e : k ≡ i). subst (Q k) (sym (ap (λ (n : ℕ). get_or (set xs i new) n d) e ∙ get_or-set_same xs i new d lt)) (subst (λ (j : ℕ). Q j new) (sym e) q))
     (λ (ne : k ≢ i). subst (Q k) (sym (get_or-set_other xs i k new d ne)) (f k _ ne (h k d (omega (arith, klt, length-set xs i new)))))
@@ -73,7 +77,8 @@ pub spread_step : (n w : ℕ) (os : List Hand) (i : ℕ) (o new : Hand) → i < 
 spread_step n w os i o new lt at is all e =
     let len : i < length (views_of os) = omega (arith, lt, length-map os own_view) in
     let p = put_owner os i o new (λ v. after_deal v n) lt is e in
-    subst (EachAt (IsDealing (n + 1) w)) (sym p) (each_put (IsDealing n w) (IsDealing (n + 1) w) (views_of os) i _ len all (λ j v ne h. waits n w j v (λ s. ne (s ∙ sym at)) h) (deals_on n w i _ at (all i (own_view o) len)))
+    subst (EachAt (IsDealing (n + 1) w)) (sym p) (each_put (IsDealing n w) (IsDealing (n + 1) w) (views_of os) i _ len all
+    (λ j v ne h. waits n w j v (λ s. ne (s ∙ sym at)) h) (deals_on n w i _ at (all i (own_view o) len)))
 
 -- giving grips
 
@@ -96,7 +101,8 @@ out_sealed k n w os i o new lt is all e =
     let len : i < length (views_of os) = omega (arith, lt, length-map os own_view) in
     let p = put_owner os i o new after_seal lt is e in
     let old = all i (own_view o) len in
-    subst (EachAt (IsOut k n w)) (sym p) (each_put (IsOut k n w) (IsOut k n w) (views_of os) i _ len all (λ j v ne h. h) (record { parts = old.parts; limit = old.limit; took = old.took; dealt = old.dealt }))
+    subst (EachAt (IsOut k n w)) (sym p) (each_put (IsOut k n w) (IsOut k n w) (views_of os) i _ len all (λ j v ne h. h)
+    (record { parts = old.parts; limit = old.limit; took = old.took; dealt = old.dealt }))
 
 pub parts_left : (k n w : ℕ) (vs : List View) → k < 64 → EachAt (IsOut k n w) vs → All (λ v. 1 < v.parts) vs
 parts_left k n w vs few h i d lt = let p = (h i d lt).parts in omega arith
@@ -110,12 +116,15 @@ armed_more deques tiles os i new rows lt same h a j d jlt =
     subst (λ (l : List (List Grip)). IsArmed deques tiles (get_or l j d)) (sym (map-set row_of os i new))
     (dite (ℕ_discrete j i)
     (λ (e : j ≡ i). subst (IsArmed deques tiles) (sym (ap (λ (k : ℕ). get_or (set (rows_of os) i (row_of new)) k d) e ∙ get_or-set_same (rows_of os) i (row_of new) d len)) a)
-    (λ (ne : j ≢ i). subst (IsArmed deques tiles) (sym (get_or-set_other (rows_of os) i j (row_of new) d ne ∙ ap (λ (l : List (List Grip)). get_or l j d) same)) (h j d (below j i jlt ne))))
+    (λ (ne : j ≢ i). subst (IsArmed deques tiles)
+    (sym (get_or-set_other (rows_of os) i j (row_of new) d ne ∙ ap (λ (l : List (List Grip)). get_or l j d) same))
+    (h j d (below j i jlt ne))))
   where
     below : (j i : ℕ) → j < i + 1 → j ≢ i → j < i
     below j i lt ne = ⊎_elim (λ (a : j < i). a) (λ (b : i ≤ j). absurd (ne (omega arith))) (cases_lt j i)
 
-pub marked_more : (os : List Hand) (i : ℕ) (new : Hand) (ms : List Bool) → i < length os → marks_of os ≡ ms → ((j : ℕ) (d : Bool) → j < i → get_or ms j d ≡ true) → new.marked ≡ true
+pub marked_more : (os : List Hand) (i : ℕ) (new : Hand) (ms : List Bool) → i < length os → marks_of os ≡ ms
+    → ((j : ℕ) (d : Bool) → j < i → get_or ms j d ≡ true) → new.marked ≡ true
     → (j : ℕ) (d : Bool) → j < i + 1 → get_or (marks_of (set os i new)) j d ≡ true
 marked_more os i new ms lt same h a j d jlt =
     let len : i < length (marks_of os) = omega (arith, lt, length-map os (λ (h : Hand). h.marked)) in
@@ -130,7 +139,8 @@ marked_more os i new ms lt same h a j d jlt =
 pub marked_all : (os : List Hand) (i : ℕ) → length os ≤ i → ((j : ℕ) (d : Bool) → j < i → get_or (marks_of os) j d ≡ true) → All (λ m. m ≡ true) (marks_of os)
 marked_all os i le h j d lt = h j d (omega (arith, le, lt, length-map os (λ (h : Hand). h.marked)))
 
-pub armed_row : (deques : List (RowsId × Global)) (k n w : ℕ) (gs : List Grip) (vs : List View) → map grip_deque gs ≡ deques → map grip_view gs ≡ map cut_off vs → EachAt (IsOut k n w) vs → IsArmed deques n gs
+pub armed_row : (deques : List (RowsId × Global)) (k n w : ℕ) (gs : List Grip) (vs : List View) → map grip_deque gs ≡ deques
+    → map grip_view gs ≡ map cut_off vs → EachAt (IsOut k n w) vs → IsArmed deques n gs
 armed_row deques k n w gs vs ds e out = record { grips = ds; within = within_cut n gs vs e (λ i d lt. (out i d lt).limit); took = took_nothing gs vs e }
 
 -- what is opened
@@ -140,14 +150,16 @@ get_of_map f [] i d lt = absurd (omega arith)
 get_of_map f (x ∷ xs) zero d lt = refl
 get_of_map f (x ∷ xs) (suc i) d lt = get_of_map f xs i d (omega arith)
 
-pub opened : (deal : Deal) (hs : List Hand) → deal_deques deal ≡ deques_of hs → EachAt (IsOut (length hs) deal.tiles (length hs)) (views_of hs) → All (IsArmed (deques_of hs) deal.tiles) (rows_of hs) → All (λ m. m ≡ true) (marks_of hs) → AreHandsOf deal hs
+pub opened : (deal : Deal) (hs : List Hand) → deal_deques deal ≡ deques_of hs → EachAt (IsOut (length hs) deal.tiles (length hs))
+    (views_of hs) → All (IsArmed (deques_of hs) deal.tiles) (rows_of hs) → All (λ m. m ≡ true) (marks_of hs) → AreHandsOf deal hs
 opened deal hs ds out armed marked = (
   sym len,
   λ i d lt.
       let v : get_or (views_of hs) i (own_view d) ≡ own_view (get_or hs i d) = get_or-map own_view hs i d (own_view d) lt in
       let o = subst (IsOut (length hs) deal.tiles (length hs) i) v (out i (own_view d) (omega (arith, lt, length-map hs own_view))) in
       let r : get_or (rows_of hs) i (row_of d) ≡ row_of (get_or hs i d) = get_or-map row_of hs i d (row_of d) lt in
-      let m : (get_or hs i d).marked ≡ true = sym (get_or-map (λ (h : Hand). h.marked) hs i d d.marked lt) ∙ marked i d.marked (omega (arith, lt, length-map hs (λ (h : Hand). h.marked))) in
+      let m : (get_or hs i d).marked ≡ true = sym (get_or-map (λ (h : Hand). h.marked) hs i d d.marked lt)
+      ∙ marked i d.marked (omega (arith, lt, length-map hs (λ (h : Hand). h.marked))) in
       let a = subst (IsArmed (deques_of hs) deal.tiles) r (armed i (row_of d) (omega (arith, lt, length-map hs row_of))) in record {
         deque = ap (λ l. slice_get l i) ds ∙ get_of_map own_deque hs i d lt;
         dealt = o.dealt ∙ ap (λ (k : ℕ). dealt_to deal.tiles k i) (sym len);
@@ -162,7 +174,8 @@ opened deal hs ds out armed marked = (
     len : length (deal_deques deal) ≡ length hs
     len = ap length ds ∙ length-map hs own_deque
 
-pub none_taken : (k n w m : ℕ) (deques : List (RowsId × Global)) (hs : List Hand) → EachAt (IsOut k n w) (views_of hs) → All (IsArmed deques m) (rows_of hs) → All (λ h. taken h ≡ []) hs
+pub none_taken : (k n w m : ℕ) (deques : List (RowsId × Global)) (hs : List Hand) → EachAt (IsOut k n w) (views_of hs)
+    → All (IsArmed deques m) (rows_of hs) → All (λ h. taken h ≡ []) hs
 none_taken k n w m deques hs out armed i d lt =
     let v : get_or (views_of hs) i (own_view d) ≡ own_view (get_or hs i d) = get_or-map own_view hs i d (own_view d) lt in
     let o = subst (IsOut k n w i) v (out i (own_view d) (omega (arith, lt, length-map hs own_view))) in
@@ -172,7 +185,8 @@ none_taken k n w m deques hs out armed i d lt =
 
 -- what is closed
 
-same_by_get : {A B : Type 0} (f : B → A) (xs : List A) (ys : List B) → length ys ≡ length xs → ((i : ℕ) (d : B) → i < length ys → slice_get xs i ≡ Some (f (get_or ys i d))) → xs ≡ map f ys
+same_by_get : {A B : Type 0} (f : B → A) (xs : List A) (ys : List B) → length ys ≡ length xs
+    → ((i : ℕ) (d : B) → i < length ys → slice_get xs i ≡ Some (f (get_or ys i d))) → xs ≡ map f ys
 same_by_get f [] [] len h = refl
 same_by_get f [] (y ∷ ys) len h = absurd (omega arith)
 same_by_get f (x ∷ xs) [] len h = absurd (omega arith)
@@ -193,7 +207,8 @@ lens : (deal : Deal) (hs : List Hand) → AreHandsOf deal hs → Each (λ h. len
 lens deal hs h = recursion_from_All (λ k. length (row_of k) ≡ length (views_of hs)) hs (λ i d lt.
     let e = ap length ((h.1 i d lt).grips) in omega (arith, e, length-map (row_of (get_or hs i d)) grip_deque, length-map hs own_view, h.0))
 
-pub ready : (deal : Deal) (hs : List Hand) → AreHandsOf deal hs → (h : Hand) → Contains hs h → IsDone h → All (λ v. (v.parts ≡ 1024) × (v.ended ≡ true)) (joined_all (views_of hs) hs)
+pub ready : (deal : Deal) (hs : List Hand) → AreHandsOf deal hs → (h : Hand) → Contains hs h → IsDone h
+    → All (λ v. (v.parts ≡ 1024) × (v.ended ≡ true)) (joined_all (views_of hs) hs)
 ready deal hs all h has done =
     let ls = lens deal hs all in
     let p = All-from_recursion (λ v. v.parts + 0 ≡ 1024) (joined_all (views_of hs) hs)
@@ -203,7 +218,8 @@ ready deal hs all h has done =
     let v : get_or (views_of hs) i d ≡ own_view (get_or hs i h) = get_or-map own_view hs i h d lt' in
     omega (arith, q, all.0, ap (λ (u : View). u.parts) v)))) in
     let e = All-from_recursion (λ v. v.ended ≡ true) (joined_all (views_of hs) hs)
-    (ended_all (views_of hs) hs has.0 h ls has.1 (recursion_from_All (λ g. (grip_view g).ended ≡ true) (row_of (get_or hs has.0 h)) (subst (λ (y : Hand). AllEnded (row_of y)) (sym has.2) done))) in
+    (ended_all (views_of hs) hs has.0 h ls has.1 (recursion_from_All (λ g. (grip_view g).ended ≡ true) (row_of (get_or hs has.0 h))
+    (subst (λ (y : Hand). AllEnded (row_of y)) (sym has.2) done))) in
     λ k d lt. (omega (arith, p k d lt), e k d lt)
 
 pub closed : (deal : Deal) (hs : List Hand) → AreHandsOf deal hs → (h : Hand) → Contains hs h
@@ -231,7 +247,8 @@ row_same a b j d e lt =
     sym (get_or-map row_of a j d (row_of d) lt) ∙ ap (λ l. get_or l j (row_of d)) e ∙ get_or-map row_of b j d (row_of d) (omega (arith, lt, n))
 
 -- one hand's row is joined, which it gave away
-pub join_next : (init now mid new : List Hand) (row : List Grip) (at : ℕ) → at < length init → views_of now ≡ joined_all (views_of init) (take at init) → deques_of now ≡ deques_of init
+pub join_next : (init now mid new : List Hand) (row : List Grip) (at : ℕ) → at < length init
+    → views_of now ≡ joined_all (views_of init) (take at init) → deques_of now ≡ deques_of init
     → ((j : ℕ) (d : Hand) → at ≤ j → j < length init → row_of (get_or now j d) ≡ row_of (get_or init j d)) → ((d : Hand) → row ≡ row_of (get_or now at d))
     → views_of mid ≡ views_of now → deques_of mid ≡ deques_of now → ((j : ℕ) (d : Hand) → at < j → get_or mid j d ≡ get_or now j d)
     → deques_of new ≡ deques_of mid → views_of new ≡ joined (views_of mid) row → rows_of new ≡ rows_of mid
@@ -245,7 +262,8 @@ join_next init now mid new row at lt vs ds rest is vs1 ds1 rest1 ds2 vs2 rows2 =
       λ j e le jlt. row_same new mid j e rows2 (omega (arith, jlt, len)) ∙ ap row_of (rest1 j e (omega arith)) ∙ rest j e (omega arith) jlt,
     )
 
-pub row_fits : (init now : List Hand) (at : ℕ) (row : List Grip) → at < length init → ((j : ℕ) (d : Hand) → at ≤ j → j < length init → row_of (get_or now j d) ≡ row_of (get_or init j d)) → ((d : Hand) → row ≡ row_of (get_or now at d))
+pub row_fits : (init now : List Hand) (at : ℕ) (row : List Grip) → at < length init → ((j : ℕ) (d : Hand) → at ≤ j → j < length init
+    → row_of (get_or now j d) ≡ row_of (get_or init j d)) → ((d : Hand) → row ≡ row_of (get_or now at d))
     → All (λ h. map grip_deque (row_of h) ≡ deques_of init) init → map grip_deque row ≡ deques_of init
 row_fits init now at row lt rest is h =
     let d = first_of init at lt in ap (map grip_deque) (is d ∙ rest at d (omega arith) lt) ∙ h at d lt

@@ -1,5 +1,6 @@
 -- Lists of views, while hands are given out and joined.
-use Rattle.std.proofs.Common.{◌≡◌, ◌≢◌, ◌∙◌, ◌+◌, ◌-◌, ◌<◌, ◌≤◌, ◌==◌, ℕ, zero, suc, true, false, Bool, List, [], ◌∷◌, ◌++◌, length, map, set, get_or, take, replicate, refl, sym, ap, subst, arith, ⊎_elim, ◌||◌, length-append, rules}
+use Rattle.std.proofs.Common.{◌≡◌, ◌≢◌, ◌∙◌, ◌+◌, ◌-◌, ◌<◌, ◌≤◌, ◌==◌, ℕ, zero, suc, true, false, Bool, List, [], ◌∷◌, ◌++◌, length, map}
+use Rattle.std.proofs.Common.{set, get_or, take, replicate, refl, sym, ap, subst, arith, ⊎_elim, ◌||◌, length-append, rules}
 use Rattle.std.specs.Prelude.{All}
 use Rattle.std.specs.List.{AllByRecursion as Each}
 use Rattle.std.proofs.lemmas.List.{get_or-set_same, get_or-set_other, length-set, length-map, map-set, map-append, get_or-map, get_or_default, take_more}
@@ -107,7 +108,8 @@ pub joined_all_more : (vs : List View) (hs : List Hand) (h : Hand) → joined_al
 joined_all_more vs [] h = refl
 joined_all_more vs (k ∷ hs) h = joined_all_more (joined vs k.grips.items) hs h
 
-joined_each : (P Q : View → Type 0) (vs : List View) (gs : List Grip) → length gs ≡ length vs → ((v : View) (g : Grip) → P v → Q (after_join v (grip_view g))) → Each P vs → Each Q (joined vs gs)
+joined_each : (P Q : View → Type 0) (vs : List View) (gs : List Grip) → length gs ≡ length vs
+    → ((v : View) (g : Grip) → P v → Q (after_join v (grip_view g))) → Each P vs → Each Q (joined vs gs)
 joined_each P Q [] [] e f h = tt
 joined_each P Q [] (g ∷ gs) e f h = absurd (omega arith)
 joined_each P Q (v ∷ vs) [] e f h = absurd (omega arith)
@@ -129,7 +131,8 @@ all_positive vs (k ∷ hs) h = all_positive (joined vs k.grips.items) hs (joined
 parts_back : (k : ℕ) (vs : List View) (gs : List Grip) → length gs ≡ length vs → Each (λ v. v.parts + suc k ≡ 1024) vs → Each (λ v. v.parts + k ≡ 1024) (joined vs gs)
 parts_back k vs gs e h = joined_each (λ v. v.parts + suc k ≡ 1024) (λ v. v.parts + k ≡ 1024) vs gs e (λ v g p. let one = g.part in omega arith) h
 
-pub parts_all : (vs : List View) (hs : List Hand) → Each (λ h. length h.grips.items ≡ length vs) hs → Each (λ v. v.parts + length hs ≡ 1024) vs → Each (λ v. v.parts + 0 ≡ 1024) (joined_all vs hs)
+pub parts_all : (vs : List View) (hs : List Hand) → Each (λ h. length h.grips.items ≡ length vs) hs
+    → Each (λ v. v.parts + length hs ≡ 1024) vs → Each (λ v. v.parts + 0 ≡ 1024) (joined_all vs hs)
 parts_all vs [] e h = h
 parts_all vs (k ∷ hs) e h = parts_all (joined vs k.grips.items) hs
     (subst (λ (n : ℕ). Each (λ h. length h.grips.items ≡ n) hs) (sym (joined_length vs k.grips.items)) e.1)
@@ -154,7 +157,8 @@ ended_after : (vs : List View) (hs : List Hand) → Each (λ v. v.ended ≡ true
 ended_after vs [] h = h
 ended_after vs (k ∷ hs) h = ended_after (joined vs k.grips.items) hs (ended_stays vs k.grips.items h)
 
-pub ended_all : (vs : List View) (hs : List Hand) (i : ℕ) (d : Hand) → Each (λ h. length h.grips.items ≡ length vs) hs → i < length hs → Each (λ g. (grip_view g).ended ≡ true) (get_or hs i d).grips.items
+pub ended_all : (vs : List View) (hs : List Hand) (i : ℕ) (d : Hand) → Each (λ h. length h.grips.items ≡ length vs) hs → i < length hs
+    → Each (λ g. (grip_view g).ended ≡ true) (get_or hs i d).grips.items
     → Each (λ v. v.ended ≡ true) (joined_all vs hs)
 ended_all vs [] i d e lt h = absurd (omega arith)
 ended_all vs (k ∷ hs) zero d e lt h = ended_after (joined vs k.grips.items) hs (ended_here vs k.grips.items e.0 h)
@@ -184,7 +188,8 @@ abbrev pub row_taken : List Hand → List ℕ
 row_taken [] = []
 row_taken (h ∷ hs) = took_by (row_of h) ++ row_taken hs
 
-pub took_everything : (x : ℕ) (vs : List View) (hs : List Hand) → Each (λ h. length h.grips.items ≡ length vs) hs → took_times x (joined_all vs hs) ≡ took_times x vs + times x (row_taken hs)
+pub took_everything : (x : ℕ) (vs : List View) (hs : List Hand) → Each (λ h. length h.grips.items ≡ length vs) hs
+    → took_times x (joined_all vs hs) ≡ took_times x vs + times x (row_taken hs)
 took_everything x vs [] e = omega arith
 took_everything x vs (k ∷ hs) e =
     let r = took_everything x (joined vs k.grips.items) hs (subst (λ (n : ℕ). Each (λ h. length h.grips.items ≡ n) hs) (sym (joined_length vs k.grips.items)) e.1) in
@@ -195,7 +200,13 @@ all_split : (x : ℕ) (hs : List Hand) → times x (all_taken hs) ≡ took_times
 all_split x [] = refl
 all_split x (h ∷ hs) =
     let r = all_split x hs in
-    omega (arith, times-append x (own_view h).took (took_by (row_of h)), times-append x ((own_view h).took ++ took_by (row_of h)) (all_taken hs), times-append x (took_by (row_of h)) (row_taken hs))
+    omega (
+      arith,
+      times-append x (own_view h).took (took_by (row_of h)),
+      times-append x ((own_view h).took ++ took_by (row_of h))
+          (all_taken hs),
+      times-append x (took_by (row_of h)) (row_taken hs),
+    )
 
 -- what the hands took is what the deques know once all grips are joined
 pub took_total : (x : ℕ) (hs : List Hand) → Each (λ h. length h.grips.items ≡ length (views_of hs)) hs → took_times x (joined_all (views_of hs) hs) ≡ times x (all_taken hs)
@@ -214,7 +225,8 @@ pub put_owner : (os : List Hand) (i : ℕ) (o new : Hand) (f : View → View) �
     → views_of (set os i new) ≡ set (views_of os) i (f (get_or (views_of os) i (own_view o)))
 put_owner os i o new f lt is e = map-set own_view os i new ∙ ap (λ w. set (views_of os) i w) (e ∙ ap f (view_here os i o (own_view o) lt is))
 
-pub grip_step : (vs : List View) (os : List Hand) (n : ℕ) (o new : Hand) → n < length os → o ≡ get_or os n o → views_of os ≡ gripped n vs → length vs ≡ length os → own_view new ≡ after_grip (own_view o)
+pub grip_step : (vs : List View) (os : List Hand) (n : ℕ) (o new : Hand) → n < length os → o ≡ get_or os n o → views_of os ≡ gripped n vs
+    → length vs ≡ length os → own_view new ≡ after_grip (own_view o)
     → views_of (set os n new) ≡ gripped (n + 1) vs
 grip_step vs os n o new lt is e len w =
     put_owner os n o new after_grip lt is w
@@ -226,11 +238,13 @@ grip_step vs os n o new lt is e len w =
 pub gripped_view : (vs : List View) (os : List Hand) (n : ℕ) (o : Hand) → n < length os → o ≡ get_or os n o → views_of os ≡ gripped n vs → own_view o ≡ get_or vs n (own_view o)
 gripped_view vs os n o lt is e = view_here os n o (own_view o) lt is ∙ ap (λ l. get_or l n (own_view o)) e ∙ gripped_here n vs (own_view o)
 
-pub joined_view : (vs : List View) (os : List Hand) (ys : List Grip) (n : ℕ) (o : Hand) → n ≡ length ys → n < length os → o ≡ get_or os n o → views_of os ≡ joined vs ys → own_view o ≡ get_or vs n (own_view o)
+pub joined_view : (vs : List View) (os : List Hand) (ys : List Grip) (n : ℕ) (o : Hand) → n ≡ length ys → n < length os → o ≡ get_or os n o
+    → views_of os ≡ joined vs ys → own_view o ≡ get_or vs n (own_view o)
 joined_view vs os ys n o len lt is e = view_here os n o (own_view o) lt is ∙ ap (λ l. get_or l n (own_view o)) e
     ∙ ap (λ (k : ℕ). get_or (joined vs ys) k (own_view o)) len ∙ joined_here vs ys (own_view o) ∙ ap (λ (k : ℕ). get_or vs k (own_view o)) (sym len)
 
-pub join_step : (vs : List View) (os : List Hand) (ys : List Grip) (g : Grip) (n : ℕ) (o new : Hand) → n ≡ length ys → n < length os → length vs ≡ length os → o ≡ get_or os n o → views_of os ≡ joined vs ys
+pub join_step : (vs : List View) (os : List Hand) (ys : List Grip) (g : Grip) (n : ℕ) (o new : Hand) → n ≡ length ys → n < length os
+    → length vs ≡ length os → o ≡ get_or os n o → views_of os ≡ joined vs ys
     → own_view new ≡ after_join (own_view o) (grip_view g) → views_of (set os n new) ≡ joined vs (ys ++ g ∷ [])
 join_step vs os ys g n o new len lt lens is e w =
     put_owner os n o new (λ v. after_join v (grip_view g)) lt is w
@@ -254,13 +268,15 @@ next_place f h xs ys x os n len e =
     let a : length (map f (xs ++ x ∷ ys)) ≡ length (map h os) = ap length e in
     omega (arith, length-map (xs ++ x ∷ ys) f, length-map os h, length-append xs (x ∷ ys))
 
-pub map_take_next : {A B : Type 0} (f : A → B) (gs : List A) (g : A) (xs : List B) (n : ℕ) (d : B) → n < length xs → map f gs ≡ take n xs → f g ≡ get_or xs n d → map f (gs ++ g ∷ []) ≡ take (n + 1) xs
+pub map_take_next : {A B : Type 0} (f : A → B) (gs : List A) (g : A) (xs : List B) (n : ℕ) (d : B) → n < length xs → map f gs ≡ take n xs
+    → f g ≡ get_or xs n d → map f (gs ++ g ∷ []) ≡ take (n + 1) xs
 map_take_next f gs g xs n d lt e is = map-append f gs (g ∷ []) ∙ ap (λ l. l ++ f g ∷ []) e ∙ ap (λ b. take n xs ++ b ∷ []) is ∙ sym (take_more xs n d lt)
 
 pub all_snoc : {A : Type 0} (P : A → Type 0) (xs : List A) (x : A) → All P xs → P x → All P (xs ++ x ∷ [])
 all_snoc P xs x h p = All-append P xs (x ∷ []) h (All-cons P x [] p (All-nil P))
 
-pub lens_of : {D : Type 0} (f : Grip → D) (h : Hand → D) (os : List Hand) (hs : List Hand) → All (λ k. map f k.grips.items ≡ map h os) hs → All (λ k. length k.grips.items ≡ length (views_of os)) hs
+pub lens_of : {D : Type 0} (f : Grip → D) (h : Hand → D) (os : List Hand) (hs : List Hand) → All (λ k. map f k.grips.items ≡ map h os) hs
+    → All (λ k. length k.grips.items ≡ length (views_of os)) hs
 lens_of f h os hs all i d lt =
     let e : map f (get_or hs i d).grips.items ≡ map h os = all i d lt in
     let a : length (map f (get_or hs i d).grips.items) ≡ length (map h os) = ap length e in

@@ -1,5 +1,6 @@
 -- Each step keeps the rule.
-use Rattle.std.proofs.Common.{◌≡◌, ◌≢◌, ◌∙◌, ◌+◌, ◌<◌, ◌≤◌, ◌==◌, ◌||◌, ℕ, zero, suc, Bool, true, false, List, [], ◌∷◌, ◌++◌, set, refl, sym, ap, ⊎_elim, arith, add_assoc, zero-add}
+use Rattle.std.proofs.Common.{◌≡◌, ◌≢◌, ◌∙◌, ◌+◌, ◌<◌, ◌≤◌, ◌==◌, ◌||◌, ℕ, zero, suc, Bool, true, false, List, [], ◌∷◌, ◌++◌, set, refl}
+use Rattle.std.proofs.Common.{sym, ap, ⊎_elim, arith, add_assoc, zero-add}
 use Rattle.std.specs.Prelude.{if◌then◌else◌}
 use Rattle.std.proofs.lemmas.Bool.Decides.{nat_tests}
 use Rattle.std.proofs.lemmas.Bool.{cases_lt}
@@ -10,7 +11,8 @@ use Rattle.crossbeam_deque.proofs.Lists.{at_set, at_snoc, set_else}
 use Rattle.dpl_deal.specs.declared.view.View.{View}
 use Rattle.dpl_deal.specs.declared.view.Item.{Item}
 use Rattle.dpl_deal.specs.declared.view.Item.TheVariants.{Tile, End}
-use Rattle.dpl_deal.specs.Rule.{AreBelow, IsKept, IsSealedRow, after_cut, after_deal, after_join, after_seal, after_takes, bystander, cut_off, dealer, has_end, marks_in, tiles_in, times, total}
+use Rattle.dpl_deal.specs.Rule.{AreBelow, IsKept, IsSealedRow, after_cut, after_deal, after_join, after_seal, after_takes, bystander}
+use Rattle.dpl_deal.specs.Rule.{cut_off, dealer, has_end, marks_in, tiles_in, times, total}
 
 total_set : (f : View → ℕ) (views : List View) (port : ℕ) (v w : View) → get_elem? views port ≡ some v → total f (set views port w) + f v ≡ total f views + f w
 total_set f [] port v w e = absurd (some-ne-none v (sym e))
@@ -292,7 +294,8 @@ ended_of_two false b F f g e = g e
 pub joins : (port : ℕ) (v : View) (other : ℕ) (u : View) → 0 < v.parts → u.limit ≡ u.limit → Merges IsKept port v other u (after_join v u) bystander
 joins port v other u some_part _ items views h at apart at' =
     let b = after_join v u in let vs = set views port b in
-    let was : get_elem? views other ≡ some u = ⊎_elim (λ (s : (other ≡ port) × (b ≡ u)). absurd (apart s.0)) (λ (s : (other ≢ port) × (get_elem? views other ≡ some u)). s.1) (at_set views port other b u at') in
+    let was : get_elem? views other ≡ some u = ⊎_elim (λ (s : (other ≡ port) × (b ≡ u)). absurd (apart s.0))
+    (λ (s : (other ≢ port) × (get_elem? views other ≡ some u)). s.1) (at_set views port other b u at') in
     let counts : (f : View → ℕ) → f bystander ≡ 0 → total f (set vs other bystander) + f v + f u ≡ total f views + f b = λ f none.
     let s = total_set f views port v b at in let t = total_set f vs other u bystander at' in omega arith in
     record {
@@ -336,7 +339,9 @@ totals port v all ended items views h at = λ x.
 
 -- a tile that is below the bound
 pub below_one : (n t : ℕ) (x : Item) → x ≡ Tile t → AreBelow n (x ∷ []) → t < n
-below_one n t x is h = by_lt n t (λ le. absurd (let z : times t (tiles_in (Tile t ∷ [])) ≡ 0 = ap (λ (y : Item). times t (tiles_in (y ∷ []))) (sym is) ∙ h t le in let p = times_here t [] in omega arith))
+below_one n t x is h = by_lt n t
+    (λ le. absurd (let z : times t (tiles_in (Tile t ∷ [])) ≡ 0 = ap (λ (y : Item). times t (tiles_in (y ∷ []))) (sym is) ∙ h t le in
+    let p = times_here t [] in omega arith))
   where
     by_lt : (n t : ℕ) → (n ≤ t → t < n) → t < n
     by_lt n t f = ⊎_elim (λ (a : t < n). a) f (cases_lt t n)
@@ -352,4 +357,5 @@ pub end_one : (v w : View) (x : Item) → x ≡ End → w ≡ after_takes v (x �
 end_one v w x is e = ap (λ (u : View). u.ended) e ∙ ap (λ (y : Item). v.ended || has_end (y ∷ [])) is ∙ or_true v.ended
 
 pub cuts_sealed : (port : ℕ) (v u : View) → u ≡ after_seal v → 1 < v.parts → Forks IsKept port u (after_cut u) (cut_off u)
-cuts_sealed port v u is two = cuts port u (let p : u.parts ≡ v.parts = ap (λ (y : View). y.parts) is in omega arith) (let p : u.due ≡ suc v.due = ap (λ (y : View). y.due) is in omega arith)
+cuts_sealed port v u is two = cuts port u (let p : u.parts ≡ v.parts = ap (λ (y : View). y.parts) is in
+    omega arith) (let p : u.due ≡ suc v.due = ap (λ (y : View). y.due) is in omega arith)

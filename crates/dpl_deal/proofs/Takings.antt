@@ -36,7 +36,8 @@ took_more gs i old new (Some u) lt is more = λ x.
     let m : times x (grip_view new).took ≡ times x ((grip_view old).took ++ u ∷ []) = ap (times x) more in
     omega (arith, times-append x (grip_view old).took (u ∷ []))
 
-pub took_same : (gs : List Grip) (i : ℕ) (old new : Grip) → i < length gs → old ≡ get_or gs i old → (grip_view new).took ≡ (grip_view old).took → took_by (set gs i new) ≡ took_by gs
+pub took_same : (gs : List Grip) (i : ℕ) (old new : Grip) → i < length gs → old ≡ get_or gs i old
+    → (grip_view new).took ≡ (grip_view old).took → took_by (set gs i new) ≡ took_by gs
 took_same [] i old new lt is same = refl
 took_same (g ∷ gs) zero old new lt is same = ap (λ l. l ++ took_by gs) (same ∙ ap (λ (h : Grip). (grip_view h).took) is)
 took_same (g ∷ gs) (suc i) old new lt is same = ap (λ l. (grip_view g).took ++ l) (took_same gs i old new (omega arith) is same)
@@ -98,7 +99,8 @@ ended_put gs i old new lt is f n h j d jlt = dite (ℕ_discrete j i)
     (f (subst (λ (g : Grip). (grip_view g).ended ≡ true) (sym is) (h i old (subst (λ (k : ℕ). k < n) e jlt)))))
     (λ (ne : j ≢ i). subst (λ (g : Grip). (grip_view g).ended ≡ true) (sym (get_or-set_other gs i j new d ne)) (h j d jlt))
 
-pub ended_next : (gs : List Grip) (i : ℕ) (old new : Grip) → i < length gs → old ≡ get_or gs i old → (grip_view new).ended ≡ true → EndedBelow i gs → EndedBelow (i + 1) (set gs i new)
+pub ended_next : (gs : List Grip) (i : ℕ) (old new : Grip) → i < length gs → old ≡ get_or gs i old → (grip_view new).ended ≡ true
+    → EndedBelow i gs → EndedBelow (i + 1) (set gs i new)
 ended_next gs i old new lt is e h j d jlt = dite (ℕ_discrete j i)
     (λ (s : j ≡ i). subst (λ (g : Grip). (grip_view g).ended ≡ true) (sym (ap (λ (k : ℕ). get_or (set gs i new) k d) s ∙ get_or-set_same gs i new d lt)) e)
     (λ (ne : j ≢ i). subst (λ (g : Grip). (grip_view g).ended ≡ true) (sym (get_or-set_other gs i j new d ne)) (h j d (below j i jlt ne)))

@@ -16,17 +16,27 @@ use Rattle.dpl_deal.proofs.Moves.{times-append}
 view_of : (a b : Hand) → a.own ≡ b.own → own_view a ≡ own_view b
 view_of a b e = ap (λ o. worker_view o) e
 
-pub popped : (deal : Deal) (old new : Hand) (t : Option ℕ) → ((me : ℕ) × IsHandOf deal me old) → IfSome t (λ u. ((own_view new).took ≡ (own_view old).took ++ u ∷ []) × (u < (own_view old).limit)) → new.grips ≡ old.grips
+pub popped : (deal : Deal) (old new : Hand) (t : Option ℕ) → ((me : ℕ) × IsHandOf deal me old)
+    → IfSome t (λ u. ((own_view new).took ≡ (own_view old).took ++ u ∷ []) × (u < (own_view old).limit)) → new.grips ≡ old.grips
     → IfSome t (λ u. (u < deal.tiles) × ((x : ℕ) → times x (taken new) ≡ times x (taken old) + times x (u ∷ [])))
 popped deal old new None is h g = tt
 popped deal old new (Some u) is h g =
     let l = is.1.limit in let lt = h.1 in (
       omega (arith, l, lt),
       λ x. let a = ap (times x) h.0 in let b : times x (took_by (row_of new)) ≡ times x (took_by (row_of old)) = ap (λ v. times x (took_by v.items)) g in
-          omega (arith, a, b, times-append x (own_view new).took (took_by (row_of new)), times-append x (own_view old).took (took_by (row_of old)), times-append x (own_view old).took (u ∷ [])),
+          omega (
+            arith,
+            a,
+            b,
+            times-append x (own_view new).took (took_by (row_of new)),
+            times-append x (own_view old).took
+                (took_by (row_of old)),
+            times-append x (own_view old).took (u ∷ []),
+          ),
     )
 
-pub stolen : (deal : Deal) (old mid new : Hand) (t : Option ℕ) → ((me : ℕ) × IsHandOf deal me old) → (own_view mid).took ≡ (own_view old).took → mid.grips ≡ old.grips → new.own ≡ mid.own → Tried (row_of mid) t (row_of new)
+pub stolen : (deal : Deal) (old mid new : Hand) (t : Option ℕ) → ((me : ℕ) × IsHandOf deal me old)
+    → (own_view mid).took ≡ (own_view old).took → mid.grips ≡ old.grips → new.own ≡ mid.own → Tried (row_of mid) t (row_of new)
     → IfSome t (λ u. (u < deal.tiles) × ((x : ℕ) → times x (taken new) ≡ times x (taken old) + times x (u ∷ [])))
 stolen deal old mid new None is took g own h = tt
 stolen deal old mid new (Some u) is took g own h = (
@@ -36,8 +46,10 @@ stolen deal old mid new (Some u) is took g own h = (
       omega (arith, a, b, d, s, times-append x (own_view new).took (took_by (row_of new)), times-append x (own_view old).took (took_by (row_of old))),
 )
 
-pub kept : (deal : Deal) (me : ℕ) (old mid new : Hand) (t : Option ℕ) → own_deque mid ≡ own_deque old → (own_view mid).parts ≡ (own_view old).parts → (own_view mid).limit ≡ (own_view old).limit → (own_view mid).dealt ≡ (own_view old).dealt
-    → mid.grips ≡ old.grips → new.own ≡ mid.own → Tried (row_of mid) t (row_of new) → ((old.marked ≡ false → (own_view old).ended ≡ true) → mid.marked ≡ false → (own_view mid).ended ≡ true) → new.marked ≡ mid.marked → IsHandOf deal me old → IsHandOf deal me new
+pub kept : (deal : Deal) (me : ℕ) (old mid new : Hand) (t : Option ℕ) → own_deque mid ≡ own_deque old
+    → (own_view mid).parts ≡ (own_view old).parts → (own_view mid).limit ≡ (own_view old).limit → (own_view mid).dealt ≡ (own_view old).dealt
+    → mid.grips ≡ old.grips → new.own ≡ mid.own → Tried (row_of mid) t (row_of new) → ((old.marked ≡ false → (own_view old).ended ≡ true)
+    → mid.marked ≡ false → (own_view mid).ended ≡ true) → new.marked ≡ mid.marked → IsHandOf deal me old → IsHandOf deal me new
 kept deal me old mid new t q p l d g own h notes marked is =
     let w = view_of new mid own in record {
       deque = is.deque ∙ ap Some (sym (ap (λ o. worker_deque o) own ∙ q));
@@ -50,12 +62,16 @@ kept deal me old mid new t q p l d g own h notes marked is =
     }
 
 -- where no tile was popped none is left in the hand's own deque
-pub noted : (deal : Deal) (old mid new : Hand) → ((me : ℕ) × IsHandOf deal me old) → mid.marked ≡ false → ((old.marked ≡ false → (own_view old).ended ≡ true) → mid.marked ≡ false → (own_view mid).ended ≡ true) → new.own ≡ mid.own → (own_view new).ended ≡ true
+pub noted : (deal : Deal) (old mid new : Hand) → ((me : ℕ) × IsHandOf deal me old) → mid.marked ≡ false
+    → ((old.marked ≡ false → (own_view old).ended ≡ true) → mid.marked ≡ false → (own_view mid).ended ≡ true) → new.own ≡ mid.own
+    → (own_view new).ended ≡ true
 noted deal old mid new is m notes own = ap (λ (v : View). v.ended) (view_of new mid own) ∙ notes is.1.notes m
 
 pub grip_place : (deal : Deal) (gs : List Grip) (i : ℕ) → map grip_deque gs ≡ deal_deques deal → i < length deal.thieves.items → i < length gs
 grip_place deal gs i e lt = omega (arith, lt, ap length e, length-map gs grip_deque, length-map deal.thieves.items thief_deque)
 
-pub grip_fits : (deal : Deal) (gs : List Grip) (i : ℕ) (t : Thief) → map grip_deque gs ≡ deal_deques deal → i < length deal.thieves.items → t ≡ get_or deal.thieves.items i t → (d : Grip) → grip_deque (get_or gs i d) ≡ thief_deque t
+pub grip_fits : (deal : Deal) (gs : List Grip) (i : ℕ) (t : Thief) → map grip_deque gs ≡ deal_deques deal → i < length deal.thieves.items
+    → t ≡ get_or deal.thieves.items i t → (d : Grip) → grip_deque (get_or gs i d) ≡ thief_deque t
 grip_fits deal gs i t e lt is d =
-    sym (get_or-map grip_deque gs i d (grip_deque d) (grip_place deal gs i e lt)) ∙ ap (λ l. get_or l i (grip_deque d)) e ∙ get_or-map thief_deque deal.thieves.items i t (grip_deque d) lt ∙ ap thief_deque (sym is)
+    sym (get_or-map grip_deque gs i d (grip_deque d) (grip_place deal gs i e lt)) ∙ ap (λ l. get_or l i (grip_deque d)) e
+    ∙ get_or-map thief_deque deal.thieves.items i t (grip_deque d) lt ∙ ap thief_deque (sym is)

@@ -61,14 +61,17 @@ once_none x = grind (arith, nat_tests)
 dealt_sum : (n w x : ℕ) → 0 < w → sum_to (λ i. times x (dealt_to n w i)) 0 w ≡ once_below n x
 dealt_sum zero w x some = sum_zero (λ i. times x (dealt_to zero w i)) (λ i. refl) 0 w ∙ once_none x
 dealt_sum (suc n) w x some =
-    let a = sum_add (λ i. times x (dealt_to n w i)) (hit (n % w) n x) (λ i. times x (dealt_to (suc n) w i)) (λ i. times-append x (dealt_to n w i) (if n % w == i then n ∷ [] else [])) 0 w in
+    let a = sum_add (λ i. times x (dealt_to n w i)) (hit (n % w) n x) (λ i. times x (dealt_to (suc n) w i))
+    (λ i. times-append x (dealt_to n w i) (if n % w == i then n ∷ [] else [])) 0 w in
     let r = dealt_sum n w x some in
     let lt : n % w < w = omega (arith, some) in
     let s = sum_hit (n % w) n x 0 w (omega arith) (omega (arith, lt)) in
     a ∙ omega (arith, r, s, once_more n x)
 
 -- what was dealt in turn to so many hands is each number once
-pub dealt_once : (n x : ℕ) (vs : List View) → 0 < length vs → ((i : ℕ) (d : View) → i < length vs → (get_or vs i d).dealt ≡ dealt_to n (length vs) i) → dealt_times x vs ≡ once_below n x
+pub dealt_once : (n x : ℕ) (vs : List View) → 0 < length vs
+    → ((i : ℕ) (d : View) → i < length vs → (get_or vs i d).dealt ≡ dealt_to n (length vs) i) → dealt_times x vs ≡ once_below n x
 dealt_once n x vs some h =
-    total_by (λ v. times x v.dealt) (λ i. times x (dealt_to n (length vs) i)) 0 vs (λ i d lt. ap (times x) (h i d lt) ∙ (let e : i ≡ 0 + i = omega arith in ap (λ (k : ℕ). times x (dealt_to n (length vs) k)) e))
+    total_by (λ v. times x v.dealt) (λ i. times x (dealt_to n (length vs) i)) 0 vs (λ i d lt. ap (times x) (h i d lt)
+    ∙ (let e : i ≡ 0 + i = omega arith in ap (λ (k : ℕ). times x (dealt_to n (length vs) k)) e))
     ∙ dealt_sum n (length vs) x some

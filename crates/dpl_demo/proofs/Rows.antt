@@ -11,9 +11,11 @@ unfolding boundary_bytes coordinate_bytes
 element_size layer r = refl
 
 -- two elements put
-pub two_puts : (old mid new : List ℕ) (r s left right : Rect) → left ≡ r → right ≡ s → mid ≡ old ++ boundary_bytes 1 left → new ≡ mid ++ boundary_bytes 1 right → new ≡ old ++ boundaries_bytes 1 (r ∷ s ∷ [])
+pub two_puts : (old mid new : List ℕ) (r s left right : Rect) → left ≡ r → right ≡ s → mid ≡ old ++ boundary_bytes 1 left
+    → new ≡ mid ++ boundary_bytes 1 right → new ≡ old ++ boundaries_bytes 1 (r ∷ s ∷ [])
 two_puts old mid new r s left right is_r is_s e f =
-    let put : new ≡ (old ++ boundary_bytes 1 r) ++ boundary_bytes 1 s = f ∙ ap (λ x. mid ++ boundary_bytes 1 x) is_s ∙ ap (λ x. x ++ boundary_bytes 1 s) (e ∙ ap (λ x. old ++ boundary_bytes 1 x) is_r) in
+    let put : new ≡ (old ++ boundary_bytes 1 r) ++ boundary_bytes 1 s = f ∙ ap (λ x. mid ++ boundary_bytes 1 x) is_s
+    ∙ ap (λ x. x ++ boundary_bytes 1 s) (e ∙ ap (λ x. old ++ boundary_bytes 1 x) is_r) in
     put ∙ simp (append_assoc, append-nil)
 
 pub bytes_of_two : (rs ss : List Rect) → boundaries_bytes 1 (rs ++ ss) ≡ boundaries_bytes 1 rs ++ boundaries_bytes 1 ss
@@ -39,13 +41,16 @@ bars_more : (seed i : ℕ) → bars seed (i + 1) ≡ bars seed i ++ row_bars i (
 bars_more seed i = subst (λ n. bars seed n ≡ bars seed i ++ row_bars i (gap_by (number_of seed n))) (omega arith) (bars_suc seed i)
 
 -- one more row's bytes
-pub row_more : (seed i : ℕ) (old new : List ℕ) (number gap : ℕ) → number ≡ number_of seed (i + 1) → gap ≡ gap_by number → old ≡ front_bytes ++ boundaries_bytes 1 (bars seed i) → new ≡ old ++ boundaries_bytes 1 (row_bars i gap)
+pub row_more : (seed i : ℕ) (old new : List ℕ) (number gap : ℕ) → number ≡ number_of seed (i + 1) → gap ≡ gap_by number
+    → old ≡ front_bytes ++ boundaries_bytes 1 (bars seed i) → new ≡ old ++ boundaries_bytes 1 (row_bars i gap)
     → new ≡ front_bytes ++ boundaries_bytes 1 (bars seed (i + 1))
 row_more seed i old new number gap is by e f =
     let same : gap ≡ gap_by (number_of seed (i + 1)) = by ∙ ap gap_by is in
     let row = row_bars i (gap_by (number_of seed (i + 1))) in
-    let whole : boundaries_bytes 1 (bars seed (i + 1)) ≡ boundaries_bytes 1 (bars seed i) ++ boundaries_bytes 1 row = ap (boundaries_bytes 1) (bars_more seed i) ∙ bytes_of_two (bars seed i) row in
-    f ∙ ap (λ g. old ++ boundaries_bytes 1 (row_bars i g)) same ∙ ap (λ x. x ++ boundaries_bytes 1 row) e ∙ append_assoc front_bytes (boundaries_bytes 1 (bars seed i)) (boundaries_bytes 1 row) ∙ ap (λ x. front_bytes ++ x) (sym whole)
+    let whole : boundaries_bytes 1 (bars seed (i + 1)) ≡ boundaries_bytes 1 (bars seed i) ++ boundaries_bytes 1 row = ap
+    (boundaries_bytes 1) (bars_more seed i) ∙ bytes_of_two (bars seed i) row in
+    f ∙ ap (λ g. old ++ boundaries_bytes 1 (row_bars i g)) same ∙ ap (λ x. x ++ boundaries_bytes 1 row) e ∙ append_assoc front_bytes
+    (boundaries_bytes 1 (bars seed i)) (boundaries_bytes 1 row) ∙ ap (λ x. front_bytes ++ x) (sym whole)
 
 -- the records before the elements
 pub front_put : (seed : ℕ) (old new : List ℕ) → old ≡ [] → new ≡ old ++ front_bytes → new ≡ front_bytes ++ boundaries_bytes 1 (bars seed 0)

@@ -48,10 +48,23 @@ whole_has r parts k p whole h k_in (m, s, m_in, is, has) =
     let n = whole.high in
     record { left = omega (arith, ints, a, e, i); right = omega (arith, ints, b, f, j); low = omega (arith, ints, c, u, l); high = omega (arith, ints, d, v, n) }
 
-pub conflict-of_whole : (rule : ℕ) (parts : List (List Rect)) (owners : List ℕ) (whole : Rect) (i j : ℕ) → IsWhole whole → AreParts parts → ConflictIn rule parts owners whole i j ↔ Conflict rule parts owners i j
+pub conflict-of_whole : (rule : ℕ) (parts : List (List Rect)) (owners : List ℕ) (whole : Rect) (i j : ℕ) → IsWhole whole → AreParts parts
+    → ConflictIn rule parts owners whole i j ↔ Conflict rule parts owners i j
 conflict-of_whole rule parts owners whole i j all h = (
   conflict-of_cell rule parts owners whole i j,
-  λ c. (let (p, q, a, b, near) = c.near in record { first = c.first; second = c.second; apart = c.apart; near = inl (p, q, (a, whole_has whole parts i p all h c.first a), b, near) }),
+  λ c. (let (p, q, a, b, near) = c.near in
+      record {
+        first = c.first;
+        second = c.second;
+        apart = c.apart;
+        near = inl (
+          p,
+          q,
+          (a, whole_has whole parts i p all h c.first a),
+          b,
+          near,
+        );
+      }),
 )
 
 part_square : (parts : List (List Rect)) (i : ℕ) (p : Pt) → i < length parts → part_at parts i p → union_of parts p
@@ -67,7 +80,8 @@ tiles-graph rule tile parts owners cells some tiles i j = (
   λ (k, cell, k_in, is, c). conflict-of_cell rule parts owners cell i j c,
 )
 
-module _ (rule : ℕ) (parts : List (List Rect)) (owners : List ℕ) (cell : Rect) (xs sorted ys : List (ℕ × ℕ)) (all : (e : ℕ × ℕ) → Contains xs e ↔ ((e.0 < e.1) × ConflictIn rule parts owners cell e.0 e.1))
+module _ (rule : ℕ) (parts : List (List Rect)) (owners : List ℕ) (cell : Rect) (xs sorted ys : List (ℕ × ℕ)) (all : (e : ℕ × ℕ)
+    → Contains xs e ↔ ((e.0 < e.1) × ConflictIn rule parts owners cell e.0 e.1))
     (same : IsPermutation xs sorted) (rising : IsSorted pair_cmp sorted) (once : ys ≡ dedup pair_eq sorted) where
   members : (e : ℕ × ℕ) → Contains ys e ↔ ((e.0 < e.1) × ConflictIn rule parts owners cell e.0 e.1)
   members = pairs-members (λ e. (e.0 < e.1) × ConflictIn rule parts owners cell e.0 e.1) xs sorted ys all same rising once
@@ -80,7 +94,8 @@ module _ (rule : ℕ) (parts : List (List Rect)) (owners : List ℕ) (cell : Rec
       let (a, c) = (members (get_or ys k d)).0 (Contains-get_or ys k d l) in
       (a, c.second)
 
-pub whole-edges : (rule : ℕ) (parts : List (List Rect)) (owners : List ℕ) (whole : Rect) (edges : List (ℕ × ℕ)) → IsWhole whole → AreParts parts → AreEdges (ConflictIn rule parts owners whole) edges → AreEdges (Conflict rule parts owners) edges
+pub whole-edges : (rule : ℕ) (parts : List (List Rect)) (owners : List ℕ) (whole : Rect) (edges : List (ℕ × ℕ)) → IsWhole whole
+    → AreParts parts → AreEdges (ConflictIn rule parts owners whole) edges → AreEdges (Conflict rule parts owners) edges
 whole-edges rule parts owners whole edges all h e =
     record {
       ordered = e.ordered;

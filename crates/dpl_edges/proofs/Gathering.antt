@@ -28,11 +28,13 @@ abbrev pub IsNearSlab : ℕ → List ℕ → ℕ → Rect → ℕ → Rect → �
 IsNearSlab rule owners i s k r y = (y ≡ k) × AreMeeting rule owners i s k r
 
 -- a slab that a search round the rectangle goes past isn't such
-pub near-missed : (rule : ℕ) (owners : List ℕ) (i : ℕ) (s window : Rect) → IsWidened s rule window → (item : Item) (y : ℕ) → IsMissed window (But i) item → IsNearSlab rule owners i s item.owner item.rect y → ⊥
+pub near-missed : (rule : ℕ) (owners : List ℕ) (i : ℕ) (s window : Rect) → IsWidened s rule window → (item : Item) (y : ℕ)
+    → IsMissed window (But i) item → IsNearSlab rule owners i s item.owner item.rect y → ⊥
 near-missed rule owners i s window wide item y (inl apart) (is, meet) = apart-far rule s window item.rect wide apart meet.near
 near-missed rule owners i s window wide item y (inr own) (is, meet) = meet.apart (ap (slice_index owners) (sym own))
 
-pub near-pieces : (rule : ℕ) (parts : List (List Rect)) (owners : List ℕ) (i : ℕ) (s : Rect) (k : ℕ) → OfSlab (IsNearSlab rule owners i s) parts k ↔ IsNearPiece rule parts owners i (Has s) k
+pub near-pieces : (rule : ℕ) (parts : List (List Rect)) (owners : List ℕ) (i : ℕ) (s : Rect) (k : ℕ)
+    → OfSlab (IsNearSlab rule owners i s) parts k ↔ IsNearPiece rule parts owners i (Has s) k
 near-pieces rule parts owners i s k = (
   λ (r, m, m_in, (j, j_in, j_is), (is, meet)). (
       let (p, q, a, b, near) = meet.near in
@@ -43,7 +45,9 @@ near-pieces rule parts owners i s k = (
 )
 
 -- the same for another name of a set
-pub near-as : (rule : ℕ) (parts : List (List Rect)) (owners : List ℕ) (i : ℕ) (s cell r : Rect) (k : ℕ) → ((p : Pt) → Has s p ↔ in_cell cell (Has r) p) → IsNearPiece rule parts owners i (Has s) k ↔ IsNearPiece rule parts owners i (in_cell cell (Has r)) k
+pub near-as : (rule : ℕ) (parts : List (List Rect)) (owners : List ℕ) (i : ℕ) (s cell r : Rect) (k : ℕ)
+    → ((p : Pt) → Has s p ↔ in_cell cell (Has r) p) → IsNearPiece rule parts owners i (Has s) k ↔ IsNearPiece rule parts owners i
+    (in_cell cell (Has r)) k
 near-as rule parts owners i s cell r k same = (
   λ h. (let (p, q, a, b, near) = h.near in record { known = h.known; apart = h.apart; near = (p, q, (same p).0 a, b, near) }),
   λ h. (let (p, q, a, b, near) = h.near in record { known = h.known; apart = h.apart; near = (p, q, (same p).1 a, b, near) }),
@@ -56,7 +60,8 @@ one_ends i k e f (inr (l, is)) (inl (m, also)) = absurd (omega (arith, l, m))
 one_ends i k e f (inr (l, is)) (inr (m, also)) = is ∙ sym also
 
 pub ends-push : (i k : ℕ) (old new : List (ℕ × ℕ)) (e : ℕ × ℕ) → IsEnds i k e → new ≡ old ++ e ∷ [] → Adds (IsEnds i k) old new
-ends-push i k old new e h is = adds-same (λ f. f ≡ e) (IsEnds i k) old new (λ f. (λ same. subst (λ u. IsEnds i k u) (sym same) h, λ g. one_ends i k f e g h)) (adds-push old new e is)
+ends-push i k old new e h is = adds-same (λ f. f ≡ e) (IsEnds i k) old new
+    (λ f. (λ same. subst (λ u. IsEnds i k u) (sym same) h, λ g. one_ends i k f e g h)) (adds-push old new e is)
 
 module _ (rule : ℕ) (parts : List (List Rect)) (owners : List ℕ) (cell : Rect) where
   -- a slab without a square in the cell finds no edge
@@ -73,12 +78,25 @@ module _ (rule : ℕ) (parts : List (List Rect)) (owners : List ℕ) (cell : Rec
       let (p, q, a, b, near) = h.near in
       let far : k < i = elim (cases_eq k i) [ inl same ↦ absurd (h.apart (ap (slice_index owners) (sym same))) | inr ne ↦ omega (arith, l, ne) ] in
       let c : ConflictIn rule parts owners cell k i =
-      record { first = h.known; second = i_in; apart = λ s. h.apart (sym s); near = inr (AreNear-sym rule (in_cell cell (part_at parts i)) (part_at parts k) (p, q, ((j, r, j_in, j_is, a.0), a.1), b, near)) } in
+      record {
+        first = h.known;
+        second = i_in;
+        apart = λ s. h.apart (sym s);
+        near = inr (AreNear-sym rule (in_cell cell (part_at parts i))
+            (part_at parts k) (p, q, ((j, r, j_in, j_is, a.0), a.1), b, near));
+      } in
       subst (λ f. let g : ℕ × ℕ = f in (g.0 < g.1) × ConflictIn rule parts owners cell g.0 g.1) (sym is) (far, c)
 
   by_near : (e : ℕ × ℕ) → e.0 < e.1 → e.0 < length parts → e.1 < length parts → slice_index owners e.0 ≢ slice_index owners e.1
-      → AreNear rule (in_cell cell (part_at parts e.0)) (part_at parts e.1) ⊎ AreNear rule (part_at parts e.0) (in_cell cell (part_at parts e.1)) → OfSlab (IsSlabEdge rule parts owners cell) parts e
-  by_near e l first second apart (inl (p, q, ((j, r, j_in, j_is, a), c), b, near)) = (r, e.0, first, (j, j_in, j_is), (e.1, record { known = second; apart = apart; near = (p, q, (a, c), b, near) }, inl (l, refl)))
+      → AreNear rule (in_cell cell (part_at parts e.0)) (part_at parts e.1) ⊎ AreNear rule (part_at parts e.0)
+      (in_cell cell (part_at parts e.1)) → OfSlab (IsSlabEdge rule parts owners cell) parts e
+  by_near e l first second apart (inl (p, q, ((j, r, j_in, j_is, a), c), b, near)) = (
+    r,
+    e.0,
+    first,
+    (j, j_in, j_is),
+    (e.1, record { known = second; apart = apart; near = (p, q, (a, c), b, near) }, inl (l, refl)),
+  )
   by_near e l first second apart (inr n) =
       let (p, q, ((j, r, j_in, j_is, a), c), b, near) = AreNear-sym rule (part_at parts e.0) (in_cell cell (part_at parts e.1)) n in
       (r, e.1, second, (j, j_in, j_is), (e.0, record { known = first; apart = λ s. apart (sym s); near = (p, q, (a, c), b, near) }, inr (omega (arith, l), refl)))
@@ -99,7 +117,8 @@ once-members xs sorted ys same once k =
     )
 
 -- a slab's edges, by the pieces near what it has in the cell
-pub slab-ends : (rule : ℕ) (parts : List (List Rect)) (owners : List ℕ) (cell : Rect) (i : ℕ) (r s : Rect) (ks : List ℕ) → ((p : Pt) → Has s p ↔ in_cell cell (Has r) p) → ((k : ℕ) → Contains ks k ↔ IsNearPiece rule parts owners i (Has s) k)
+pub slab-ends : (rule : ℕ) (parts : List (List Rect)) (owners : List ℕ) (cell : Rect) (i : ℕ) (r s : Rect) (ks : List ℕ)
+    → ((p : Pt) → Has s p ↔ in_cell cell (Has r) p) → ((k : ℕ) → Contains ks k ↔ IsNearPiece rule parts owners i (Has s) k)
     → (e : ℕ × ℕ) → IsEndsOfAny i ks e ↔ IsSlabEdge rule parts owners cell i r e
 slab-ends rule parts owners cell i r s ks same all e = (
   λ (k, k_in, h). (k, (near-as rule parts owners i s cell r k same).0 ((all k).0 k_in), h),

@@ -127,7 +127,8 @@ greater-as a b c n f g same e = rw (same-wide a f, to_z-of_z w64 b g, same) at e
 pub smaller-as : (a b c n : ℤ) → FitsSigned w32 a → FitsSigned w64 b → b ≡ c → n ≡ int_min (to_z w64 (of_z w64 (to_z w32 (of_z w32 a)))) (to_z w64 (of_z w64 b)) → n ≡ int_min a c
 smaller-as a b c n f g same e = rw (same-wide a f, to_z-of_z w64 b g, same) at e
 
-module _ (r cell : Rect) (x0 y0 x1 y1 : ℤ) (left_is : x0 ≡ int_max r.x0 cell.x0) (low_is : y0 ≡ int_max r.y0 cell.y0) (right_is : x1 ≡ int_min r.x1 cell.x1) (high_is : y1 ≡ int_min r.y1 cell.y1) where
+module _ (r cell : Rect) (x0 y0 x1 y1 : ℤ) (left_is : x0 ≡ int_max r.x0 cell.x0) (low_is : y0 ≡ int_max r.y0 cell.y0)
+    (right_is : x1 ≡ int_min r.x1 cell.x1) (high_is : y1 ≡ int_min r.y1 cell.y1) where
   left : IsGreater r.x0 cell.x0 x0
   left = greater-of r.x0 cell.x0 x0 left_is
 

@@ -22,7 +22,8 @@ pub record ConflictIn (rule : ℕ) (pieces : List (List Rect)) (owners : List �
 
 -- pieces conflict where they do so in some tile's cell
 abbrev pub TilesMakeTheGraph : Type 0
-TilesMakeTheGraph = (rule tile : ℕ) (pieces : List (List Rect)) (owners : List ℕ) (cells : List Rect) → 0 < tile → AreTiles pieces tile cells → (i j : ℕ) → Conflict rule pieces owners i j ↔ Any (λ cell. ConflictIn rule pieces owners cell i j) cells
+TilesMakeTheGraph = (rule tile : ℕ) (pieces : List (List Rect)) (owners : List ℕ) (cells : List Rect) → 0 < tile
+    → AreTiles pieces tile cells → (i j : ℕ) → Conflict rule pieces owners i j ↔ Any (λ cell. ConflictIn rule pieces owners cell i j) cells
 
 -- the edges of a tile of the plan, smaller end first, in order, each once
 abbrev pub AreEdgesOf : Planned → ℕ → List (ℕ × ℕ) → Type 0

@@ -31,7 +31,8 @@ on_counts : (on : Bool) (xs : List (List Pt)) (qs : List Pt) (n : ℕ) → Conta
 on_counts true xs qs n c h = omega arith
 on_counts false xs qs n c h = absurd (Contains-nil qs c)
 
-path_counts : (on flat : Bool) (rects : List Rect) (qs : List Pt) (n : ℕ) → Contains (cond on (map corners_of (cond flat [] rects)) []) qs → 8 ≤ n → 1 ≤ cond (on && not flat) (n / 8) 0
+path_counts : (on flat : Bool) (rects : List Rect) (qs : List Pt) (n : ℕ) → Contains (cond on (map corners_of (cond flat [] rects)) []) qs
+    → 8 ≤ n → 1 ≤ cond (on && not flat) (n / 8) 0
 path_counts true true rects qs n c h = absurd (Contains-nil qs c)
 path_counts true false rects qs n c h = omega arith
 path_counts false flat rects qs n c h = absurd (Contains-nil qs c)
@@ -40,13 +41,15 @@ path_counts false flat rects qs n c h = absurd (Contains-nil qs c)
 drawn_counts : (layer : Layer) (b : Body) (qs : List Pt) → HasPoints b → Contains (loops_of layer b) qs → 1 ≤ point_count layer b
 drawn_counts layer (is_boundary b) qs h c = on_counts (is_on layer b.layer b.datatype) (points_in b.xy ∷ []) qs (length b.xy) c h.0
 drawn_counts layer (is_box b) qs h c = on_counts (is_on layer b.layer b.boxtype) (points_in b.xy ∷ []) qs (length b.xy) c h.0
-drawn_counts layer (is_path p) qs h c = path_counts (is_on layer p.layer p.datatype) (same (path_shape p).width (pos 0)) (rects_through (path_shape p) (distinct (path_shape p).points)) qs (length p.xy) c h.0
+drawn_counts layer (is_path p) qs h c = path_counts (is_on layer p.layer p.datatype) (same (path_shape p).width (pos 0))
+    (rects_through (path_shape p) (distinct (path_shape p).points)) qs (length p.xy) c h.0
 drawn_counts layer (is_sref r) qs h c = absurd (Contains-nil qs c)
 drawn_counts layer (is_aref r) qs h c = absurd (Contains-nil qs c)
 drawn_counts layer (is_text t) qs h c = absurd (Contains-nil qs c)
 drawn_counts layer (is_node n) qs h c = absurd (Contains-nil qs c)
 
-module _ (lib : Library) (layer : Layer) (graph : List (List ℕ)) (marks : List Bool) (levels : List ℕ) (links : IsLinked lib graph marks) (falls : AlwaysFalls graph marks levels) where
+module _ (lib : Library) (layer : Layer) (graph : List (List ℕ)) (marks : List Bool) (levels : List ℕ) (links : IsLinked lib graph marks)
+    (falls : AlwaysFalls graph marks levels) where
   -- what an element places by its copies is counted
   copy_counts : (below : ℕ → ℕ) (e : Element) (j : ℕ) → target_of lib e ≡ Some j → 1 ≤ columns_of e.body → 1 ≤ rows_of e.body → 1 ≤ below j → 1 ≤ points_by lib layer below e
   copy_counts below e j t c r b =
@@ -54,7 +57,8 @@ module _ (lib : Library) (layer : Layer) (graph : List (List ℕ)) (marks : List
       let m = one_mul (columns_of e.body * rows_of e.body) (points_at below (target_of lib e)) (one_mul (columns_of e.body) (rows_of e.body) c r) (omega (arith, n, b)) in
       omega (arith, m)
 
-  counts : (steps : List Step) (n k l : ℕ) (e : Element) (qs : List Pt) → Leads lib k steps l → Contains (elements_at lib l) e → Contains (loops_of layer e.body) qs → IsMarked marks k → get_or levels k 0 ≤ n → 1 ≤ points_through lib layer n k
+  counts : (steps : List Step) (n k l : ℕ) (e : Element) (qs : List Pt) → Leads lib k steps l → Contains (elements_at lib l) e
+      → Contains (loops_of layer e.body) qs → IsMarked marks k → get_or levels k 0 ≤ n → 1 ≤ points_through lib layer n k
   counts [] zero k l e qs d c q m h =
       let c' : Contains (elements_at lib k) e = rw d c in
       let s = sum_ge (λ (x : Element). point_count layer x.body) (elements_at lib k) e c' in

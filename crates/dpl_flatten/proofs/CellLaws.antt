@@ -1,5 +1,6 @@
 -- What the elements that were gone through draw and place.
-use Rattle.std.proofs.Common.{◌≡◌, ◌≢◌, ℕ, ◌+◌, ◌^◌, ◌<◌, ◌≤◌, ◌⊎◌, inl, inr, ⊎_elim, Bool, true, false, List, [], ◌∷◌, ◌++◌, Some, None, map, length, get_or, take, refl, sym, ap, ◌∙◌, arith, length-append}
+use Rattle.std.proofs.Common.{◌≡◌, ◌≢◌, ℕ, ◌+◌, ◌^◌, ◌<◌, ◌≤◌, ◌⊎◌, inl, inr, ⊎_elim, Bool, true, false, List, [], ◌∷◌, ◌++◌, Some, None}
+use Rattle.std.proofs.Common.{map, length, get_or, take, refl, sym, ap, ◌∙◌, arith, length-append}
 use Rattle.std.proofs.lemmas.Bool.{cases_lt, cases_order}
 use Rattle.std.proofs.lemmas.List.{take_all, get_or_append_left}
 use Rattle.std.proofs.Math.Seq.{get_or-append_seam}
@@ -46,25 +47,37 @@ copies_kept : (lib : Library) (totals : List ℕ) (e : Element) (old new : List 
 copies_kept lib totals e old new n c h =
     ⊎_elim (λ a. rw a.0 h) (λ b. ⊎_elim (λ a. rw a.0 h) (λ a. rw a.1 (Contains-append_left old (a.0 ∷ []) c h)) b) n
 
-copies_cases : (lib : Library) (totals : List ℕ) (e : Element) (old new : List Copies) → IsCopied lib totals e old new → (c : Copies) → Contains new c → Contains old c ⊎ ((target_of lib e ≡ Some c.target) × AreCopies e.body c × IsReady (2 ^ 31) c × (get_or totals c.target 0 ≢ 0))
+copies_cases : (lib : Library) (totals : List ℕ) (e : Element) (old new : List Copies) → IsCopied lib totals e old new → (c : Copies)
+    → Contains new c → Contains old c ⊎ ((target_of lib e ≡ Some c.target) × AreCopies e.body c × IsReady (2 ^ 31) c
+    × (get_or totals c.target 0 ≢ 0))
 copies_cases lib totals e old new n c h =
     ⊎_elim (λ a. inl (rw a.0 at h))
-    (λ b. ⊎_elim (λ a. inl (rw a.0 at h)) (λ a. ⊎_elim (λ x. inl x) (λ (w : a.0 ≡ c). inr (rw (← w) a.2, rw (← w) a.3, rw (← w) a.4, rw (← w) a.5)) (Contains-push_cases old a.0 c (rw a.1 at h))) b)
+    (λ b. ⊎_elim (λ a. inl (rw a.0 at h))
+    (λ a. ⊎_elim (λ x. inl x) (λ (w : a.0 ≡ c). inr (rw (← w) a.2, rw (← w) a.3, rw (← w) a.4, rw (← w) a.5))
+    (Contains-push_cases old a.0 c (rw a.1 at h))) b)
     n
 
-copies_made : (lib : Library) (layer : Layer) (totals : List ℕ) (e : Element) (j : ℕ) (old new : List Copies) → IsCopied lib totals e old new → ((i : ℕ) → target_of lib e ≡ Some i → get_or totals i 0 ≡ 0 → IsBare lib layer i) → target_of lib e ≡ Some j → IsBare lib layer j ⊎ ((c : Copies) × Contains new c × (c.target ≡ j) × AreCopies e.body c)
+copies_made : (lib : Library) (layer : Layer) (totals : List ℕ) (e : Element) (j : ℕ) (old new : List Copies)
+    → IsCopied lib totals e old new → ((i : ℕ) → target_of lib e ≡ Some i → get_or totals i 0 ≡ 0 → IsBare lib layer i)
+    → target_of lib e ≡ Some j → IsBare lib layer j ⊎ ((c : Copies) × Contains new c × (c.target ≡ j) × AreCopies e.body c)
 copies_made lib layer totals e j old new n bare t =
     ⊎_elim (λ a. absurd (let f : None ≡ Some j = sym a.1 ∙ t in cc))
-    (λ b. ⊎_elim (λ (a : (new ≡ old) × ((i : ℕ) × (target_of lib e ≡ Some i) × (get_or totals i 0 ≡ 0))). let w : a.1.0 ≡ j = some_is (sym a.1.1 ∙ t) in inl (rw (← w) (bare a.1.0 a.1.1 a.1.2))) (λ a. inr (a.0, rw a.1 (Contains-push old a.0), some_is (sym a.2 ∙ t), a.3)) b)
+    (λ b. ⊎_elim (λ (a : (new ≡ old) × ((i : ℕ) × (target_of lib e ≡ Some i) × (get_or totals i 0 ≡ 0))). let w : a.1.0 ≡ j = some_is
+    (sym a.1.1 ∙ t) in inl (rw (← w) (bare a.1.0 a.1.1 a.1.2)))
+    (λ a. inr (a.0, rw a.1 (Contains-push old a.0), some_is (sym a.2 ∙ t), a.3)) b)
     n
   where
     some_is : {a b : ℕ} → Some a ≡ Some b → a ≡ b
     some_is e = cc
 
-pub cell_more : (lib : Library) (layer : Layer) (totals : List ℕ) (es : List Element) (i : ℕ) (d : Element) (os os' : List Outline) (cs cs' : List Copies) → i < length es → AreCountedTargets lib layer totals es → IsNoted lib layer totals (get_or es i d) os os' cs cs' → IsCell lib layer (take i es) os cs → IsCell lib layer (take (i + 1) es) os' cs'
+pub cell_more : (lib : Library) (layer : Layer) (totals : List ℕ) (es : List Element) (i : ℕ) (d : Element) (os os' : List Outline)
+    (cs cs' : List Copies) → i < length es → AreCountedTargets lib layer totals es → IsNoted lib layer totals (get_or es i d) os os' cs cs'
+    → IsCell lib layer (take i es) os cs → IsCell lib layer (take (i + 1) es) os' cs'
 cell_more lib layer totals es i d os os' cs cs' h bare n c = record {
   drawn = λ o k. ⊎_elim (λ x. old_drawn o (c.drawn o x)) (λ x. new_drawn o x) (Contains-append_cases os more o (rw n.drawn at k));
-  outlined = λ x qs k q. rw n.drawn (⊎_elim (λ y. Contains-append_left os more _ (c.outlined x qs y q)) (λ (w : x ≡ e). Contains-append_right os more _ (rw w (Contains-map outline (loops_of layer e.body) qs (rw w at q)))) (Contains-take_more es i d x h k));
+  outlined = λ x qs k q. rw n.drawn (⊎_elim (λ y. Contains-append_left os more _ (c.outlined x qs y q))
+      (λ (w : x ≡ e). Contains-append_right os more _ (rw w (Contains-map outline (loops_of layer e.body) qs (rw w at q))))
+      (Contains-take_more es i d x h k));
   straight = λ o k. ⊎_elim (λ x. c.straight o x) (λ x. new_straight o x) (Contains-append_cases os more o (rw n.drawn at k));
   near = λ o k. ⊎_elim (λ x. c.near o x) (λ x. new_near o x) (Contains-append_cases os more o (rw n.drawn at k));
   placed = λ x k. ⊎_elim (λ y. old_placed x (c.placed x y)) (λ y. (e, Contains-take_last es i d e h refl, y.0, y.1)) (copies_cases lib totals e cs cs' n.copied x k);
@@ -86,28 +99,39 @@ cell_more lib layer totals es i d os os' cs cs' h bare n c = record {
     old_drawn o x = (x.0, Contains-take_keeps es i d x.0 h x.1, x.2, x.3)
 
     new_drawn : (o : Outline) → Contains (map (λ qs. record { at = (get_or es i d).at; points = qs }) (loops_of layer (get_or es i d).body)) o → IsDrawn layer (take (i + 1) es) o
-    new_drawn o x = let m = Contains-map_cases (λ qs. record { at = (get_or es i d).at; points = qs }) (loops_of layer (get_or es i d).body) o x in (get_or es i d, Contains-take_last es i d (get_or es i d) h refl, ap (λ (z : Outline). z.at) (sym m.2), rw (← m.2) m.1)
+    new_drawn o x = let m = Contains-map_cases (λ qs. record { at = (get_or es i d).at; points = qs })
+        (loops_of layer (get_or es i d).body) o x in
+        (get_or es i d, Contains-take_last es i d (get_or es i d) h refl, ap (λ (z : Outline). z.at) (sym m.2), rw (← m.2) m.1)
 
     new_straight : (o : Outline) → Contains (map (λ qs. record { at = (get_or es i d).at; points = qs }) (loops_of layer (get_or es i d).body)) o → IsRectilinear o.points
-    new_straight o x = let m = Contains-map_cases (λ qs. record { at = (get_or es i d).at; points = qs }) (loops_of layer (get_or es i d).body) o x in rw (← m.2) (All-contains IsRectilinear (loops_of layer (get_or es i d).body) m.0 n.straight m.1)
+    new_straight o x = let m = Contains-map_cases (λ qs. record { at = (get_or es i d).at; points = qs })
+        (loops_of layer (get_or es i d).body) o x in
+        rw (← m.2) (All-contains IsRectilinear (loops_of layer (get_or es i d).body) m.0 n.straight m.1)
 
     new_near : (o : Outline) → Contains (map (λ qs. record { at = (get_or es i d).at; points = qs }) (loops_of layer (get_or es i d).body)) o → ArePointsWithin (2 ^ 61) o.points
-    new_near o x = let m = Contains-map_cases (λ qs. record { at = (get_or es i d).at; points = qs }) (loops_of layer (get_or es i d).body) o x in rw (← m.2) (All-contains (ArePointsWithin (2 ^ 61)) (loops_of layer (get_or es i d).body) m.0 n.near m.1)
+    new_near o x = let m = Contains-map_cases (λ qs. record { at = (get_or es i d).at; points = qs })
+        (loops_of layer (get_or es i d).body) o x in
+        rw (← m.2) (All-contains (ArePointsWithin (2 ^ 61)) (loops_of layer (get_or es i d).body) m.0 n.near m.1)
 
     old_placed : (x : Copies) → IsPlaced lib (take i es) x → IsPlaced lib (take (i + 1) es) x
     old_placed x y = (y.0, Contains-take_keeps es i d y.0 h y.1, y.2, y.3)
 
-    old_copied : (x : Element) (j : ℕ) → IsBare lib layer j ⊎ ((c : Copies) × Contains cs c × (c.target ≡ j) × AreCopies x.body c) → IsBare lib layer j ⊎ ((c : Copies) × Contains cs' c × (c.target ≡ j) × AreCopies x.body c)
+    old_copied : (x : Element) (j : ℕ) → IsBare lib layer j ⊎ ((c : Copies) × Contains cs c × (c.target ≡ j) × AreCopies x.body c)
+        → IsBare lib layer j ⊎ ((c : Copies) × Contains cs' c × (c.target ≡ j) × AreCopies x.body c)
     old_copied x j y = ⊎_elim (λ z. inl z) (λ z. inr (z.0, copies_kept lib totals (get_or es i d) cs cs' n.copied z.0 z.1, z.2, z.3)) y
 
     new_copied : (x : Element) (j : ℕ) → x ≡ get_or es i d → target_of lib x ≡ Some j → IsBare lib layer j ⊎ ((c : Copies) × Contains cs' c × (c.target ≡ j) × AreCopies x.body c)
     new_copied x j w t = rw w (copies_made lib layer totals (get_or es i d) j cs cs' n.copied (λ a b z. bare.bare (get_or es i d) a (Contains-get_or es i d h) b z) (rw w at t))
 
-pub cell_seen : (lib : Library) (layer : Layer) (totals : List ℕ) (es : List Found) (ts : List Element) (i : ℕ) (d : Found) (os os' : List Outline) (cs cs' : List Copies) → map element_seen es ≡ ts → i < length es → AreCountedTargets lib layer totals ts → IsNoted lib layer totals (element_seen (get_or es i d)) os os' cs cs' → IsCell lib layer (take i ts) os cs → IsCell lib layer (take (i + 1) ts) os' cs'
+pub cell_seen : (lib : Library) (layer : Layer) (totals : List ℕ) (es : List Found) (ts : List Element) (i : ℕ) (d : Found)
+    (os os' : List Outline) (cs cs' : List Copies) → map element_seen es ≡ ts → i < length es → AreCountedTargets lib layer totals ts
+    → IsNoted lib layer totals (element_seen (get_or es i d)) os os' cs cs' → IsCell lib layer (take i ts) os cs
+    → IsCell lib layer (take (i + 1) ts) os' cs'
 cell_seen lib layer totals es ts i d os os' cs cs' e h bare n c =
     cell_more lib layer totals ts i (element_seen d) os os' cs cs' (omega (arith, h, seen_length es ts e)) bare (rw (seen_at es ts i d (element_seen d) e h) n) c
 
-pub cell_all : (lib : Library) (layer : Layer) (es : List Found) (ts : List Element) (i : ℕ) (os : List Outline) (cs : List Copies) → map element_seen es ≡ ts → length es ≤ i → IsCell lib layer (take i ts) os cs → IsCell lib layer ts os cs
+pub cell_all : (lib : Library) (layer : Layer) (es : List Found) (ts : List Element) (i : ℕ) (os : List Outline) (cs : List Copies)
+    → map element_seen es ≡ ts → length es ≤ i → IsCell lib layer (take i ts) os cs → IsCell lib layer ts os cs
 cell_all lib layer es ts i os cs e h c = rw (take_all i ts (omega (arith, h, seen_length es ts e))) at c
 
 -- the cells of the first n structures
@@ -125,7 +149,8 @@ below_none lib layer marks cells e = record {
 
 cell_before : (cells : List Cell) (x : Cell) (k : ℕ) → k < length cells → slice_get (cells ++ x ∷ []) k ≡ slice_get cells k
 cell_before cells x k h =
-    slice_get-get_or (cells ++ x ∷ []) k x (omega (arith, h, length-append cells (x ∷ []))) ∙ (ap Some (get_or_append_left cells (x ∷ []) x k h) ∙ sym (slice_get-get_or cells k x h))
+    slice_get-get_or (cells ++ x ∷ []) k x (omega (arith, h, length-append cells (x ∷ [])))
+    ∙ (ap Some (get_or_append_left cells (x ∷ []) x k h) ∙ sym (slice_get-get_or cells k x h))
 
 cell_last : (cells : List Cell) (x : Cell) (k : ℕ) → k ≡ length cells → slice_get (cells ++ x ∷ []) k ≡ Some x
 cell_last cells x k h =
@@ -134,11 +159,16 @@ cell_last cells x k h =
 cell_past : (cells : List Cell) (x : Cell) (k : ℕ) → length cells < k → slice_get (cells ++ x ∷ []) k ≡ None
 cell_past cells x k h = slice_get_past (cells ++ x ∷ []) k (omega (arith, h, length-append cells (x ∷ [])))
 
-pub below_more : (lib : Library) (layer : Layer) (marks : List Bool) (n : ℕ) (marked : Bool) (x : Cell) (cells new : List Cell) → new ≡ cells ++ x ∷ [] → get_or marks n false ≡ marked → (marked ≡ true → IsCell lib layer (elements_at lib n) x.outlines x.copies) → (marked ≡ false → (x.copies ≡ []) × (x.outlines ≡ [])) → AreCellsBelow lib layer marks n cells → AreCellsBelow lib layer marks (n + 1) new
+pub below_more : (lib : Library) (layer : Layer) (marks : List Bool) (n : ℕ) (marked : Bool) (x : Cell) (cells new : List Cell)
+    → new ≡ cells ++ x ∷ [] → get_or marks n false ≡ marked → (marked ≡ true → IsCell lib layer (elements_at lib n) x.outlines x.copies)
+    → (marked ≡ false → (x.copies ≡ []) × (x.outlines ≡ [])) → AreCellsBelow lib layer marks n cells
+    → AreCellsBelow lib layer marks (n + 1) new
 below_more lib layer marks n marked x cells new e is some none b = rw e (record {
   each = length-append cells (x ∷ []) ∙ omega (arith, b.each);
   marked = λ k h m. ⊎_elim (λ (l : k < n). before k l m) (λ (l : n ≤ k). last k (omega arith) m) (cases_lt k n);
-  unmarked = λ k m. ⊎_elim (λ (w : k ≡ n). bare_last k w m) (λ o. ⊎_elim (λ (l : k < n). bare_before k l m) (λ (l : n < k). let s = cell_past cells x k (omega (arith, b.each)) in (ap copies_or_none s, ap outlines_or_none s)) o) (cases_order k n);
+  unmarked = λ k m. ⊎_elim (λ (w : k ≡ n). bare_last k w m) (λ o. ⊎_elim (λ (l : k < n). bare_before k l m)
+      (λ (l : n < k). let s = cell_past cells x k (omega (arith, b.each)) in (ap copies_or_none s, ap outlines_or_none s)) o)
+      (cases_order k n);
 })
   where
     before : (k : ℕ) → k < n → IsMarked marks k → IsCell lib layer (elements_at lib k) (outlines_at (cells ++ x ∷ []) k) (copies_at (cells ++ x ∷ []) k)
@@ -160,12 +190,14 @@ below_more lib layer marks n marked x cells new e is some none b = rw e (record 
         off false e = e
         off true e = absurd (m (rw w (is ∙ e)))
 
-pub below_all : (lib : Library) (layer : Layer) (marks : List Bool) (n : ℕ) (cells : List Cell) → length marks ≡ n → n ≡ length lib.structures → AreCellsBelow lib layer marks n cells → AreCells lib layer marks cells
+pub below_all : (lib : Library) (layer : Layer) (marks : List Bool) (n : ℕ) (cells : List Cell) → length marks ≡ n
+    → n ≡ length lib.structures → AreCellsBelow lib layer marks n cells → AreCells lib layer marks cells
 below_all lib layer marks n cells e same b = record {
   each = b.each ∙ same;
   marked = λ k m. b.marked k (omega (arith, marked_below marks k m, e)) m;
   unmarked = b.unmarked;
 }
 
-pub taken_here : (layer : Layer) (es : List Found) (ts : List Element) (i : ℕ) (d : Found) → map element_seen es ≡ ts → i < length es → AreTaken layer ts → (f : ElementFault) → ¬ IsRefusedFor layer (element_seen (get_or es i d)).body f
+pub taken_here : (layer : Layer) (es : List Found) (ts : List Element) (i : ℕ) (d : Found) → map element_seen es ≡ ts → i < length es
+    → AreTaken layer ts → (f : ElementFault) → ¬ IsRefusedFor layer (element_seen (get_or es i d)).body f
 taken_here layer es ts i d same h taken f r = taken (element_seen (get_or es i d)) f (rw (← same) (Contains-map element_seen es (get_or es i d) (Contains-get_or es i d h))) r

@@ -22,7 +22,8 @@ in_range cells top loops walk k d h =
     let g = walk.complete (get_or loops k d) w.0 w.1 in
     ⊎_elim (λ x. x) (λ (x : IsAtMost None w.0). absurd x) g.1
 
-pub laid_out : (lib : Library) (layer : Layer) (graph : List (List ℕ)) (marks : List Bool) (cells : List Cell) (links : IsLinked lib graph marks) (are : AreCells lib layer marks cells) (top : ℕ) (m : IsMarked marks top) → IsSmall lib top layer
+pub laid_out : (lib : Library) (layer : Layer) (graph : List (List ℕ)) (marks : List Bool) (cells : List Cell)
+    (links : IsLinked lib graph marks) (are : AreCells lib layer marks cells) (top : ℕ) (m : IsMarked marks top) → IsSmall lib top layer
     → (loops : List (List Pt)) (far : Option ℕ) → IsWalk cells top loops far → IsLaidOut lib top layer loops far
 laid_out lib layer graph marks cells links are top m small loops None walk = record {
   covers = covers lib layer graph marks cells links are top m loops None walk;

@@ -3,7 +3,9 @@ use Rattle.std.proofs.Common.{◌≡◌, ⊎_elim}
 use Rattle.dpl_spec_elements.specs.Paths as paths
 use Rattle.dpl_spec_elements.specs.Paths.{PathElement, PathFault, IsFaultless}
 use Rattle.dpl_spec_layout.specs.declared.ElementFault.{ElementFault}
-use Rattle.dpl_spec_layout.specs.declared.ElementFault.TheVariants.{AbsoluteTransform, Magnified, AngleNotRight, BadArray, SlantedBoundary, RoundPath, BadPathType, OddWidth, SlantedPath, PathTurnsBack, NegativeExtension}
+use Rattle.dpl_spec_layout.specs.declared.ElementFault.TheVariants.{AbsoluteTransform, Magnified, AngleNotRight, BadArray, SlantedBoundary}
+use Rattle.dpl_spec_layout.specs.declared.ElementFault.TheVariants.{RoundPath, BadPathType, OddWidth, SlantedPath, PathTurnsBack}
+use Rattle.dpl_spec_layout.specs.declared.ElementFault.TheVariants.{NegativeExtension}
 use Rattle.std.proofs.Common.{ℕ, ◌+◌, ◌<◌, ◌≤◌, Bool, true, false, List, map, length, get_or, take, sym, ◌∙◌, arith}
 use Rattle.std.proofs.lemmas.Bool.{cases_lt}
 use Rattle.std.proofs.lemmas.List.{take_all}
@@ -39,7 +41,8 @@ no_path_fault p clean AngleNotRight h = h
 no_path_fault p clean BadArray h = h
 no_path_fault p clean SlantedBoundary h = h
 
-pub array_fault_is : (chosen : Layer) (r : Aref) (o : Option ElementFault) → IsFaultOfReference (unwrap_or r.trans plain) (¬ IsArray r.columns r.rows r.xy) o → IsFaultOf chosen (is_aref r) o
+pub array_fault_is : (chosen : Layer) (r : Aref) (o : Option ElementFault)
+    → IsFaultOfReference (unwrap_or r.trans plain) (¬ IsArray r.columns r.rows r.xy) o → IsFaultOf chosen (is_aref r) o
 array_fault_is chosen r None h = h
 array_fault_is chosen r (Some f) h = h
 
@@ -47,20 +50,29 @@ pub path_fault_is : (chosen : Layer) (p : Path) (o : Option ElementFault) → Is
 path_fault_is chosen p None h = λ f u. h f u.0 u.1
 path_fault_is chosen p (Some f) h = h
 
-pub refusal_is : (lib : Library) (chosen : Layer) (k i at : ℕ) (es : List Found) (d : Found) (f : FlattenFault) → map element_seen es ≡ elements_at lib k → i < length es → IsRefusal chosen (element_seen (get_or es i d)) at f → (e : Element) × Contains (elements_at lib k) e × IsRefusal chosen e at f
+pub refusal_is : (lib : Library) (chosen : Layer) (k i at : ℕ) (es : List Found) (d : Found) (f : FlattenFault)
+    → map element_seen es ≡ elements_at lib k → i < length es → IsRefusal chosen (element_seen (get_or es i d)) at f
+    → (e : Element) × Contains (elements_at lib k) e × IsRefusal chosen e at f
 refusal_is lib chosen k i at es d f same h r = (element_seen (get_or es i d), rw (← same) (Contains-map element_seen es (get_or es i d) (Contains-get_or es i d h)), r)
 
-pub taken_more : (chosen : Layer) (i at : ℕ) (es : List Found) (ts : List Element) (d : Found) → map element_seen es ≡ ts → i < length es → IsTakenAt chosen (element_seen (get_or es i d)) at → ((e : Element) → Contains (take i ts) e → IsTakenAt chosen e at) → (e : Element) → Contains (take (i + 1) ts) e → IsTakenAt chosen e at
+pub taken_more : (chosen : Layer) (i at : ℕ) (es : List Found) (ts : List Element) (d : Found) → map element_seen es ≡ ts → i < length es
+    → IsTakenAt chosen (element_seen (get_or es i d)) at → ((e : Element) → Contains (take i ts) e → IsTakenAt chosen e at) → (e : Element)
+    → Contains (take (i + 1) ts) e → IsTakenAt chosen e at
 taken_more chosen i at es ts d same h one before e c =
     let j : i < length ts = omega (arith, h, seen_length es ts same) in
     ⊎_elim (λ x. before e x) (λ (w : e ≡ get_or ts i (element_seen d)). rw (w, seen_at es ts i d (element_seen d) same h) one) (Contains-take_more ts i (element_seen d) e j c)
 
-pub taken_all : (chosen : Layer) (i at : ℕ) (es : List Found) (ts : List Element) → map element_seen es ≡ ts → length es ≤ i → ((e : Element) → Contains (take i ts) e → IsTakenAt chosen e at) → (e : Element) → Contains ts e → IsTakenAt chosen e at
+pub taken_all : (chosen : Layer) (i at : ℕ) (es : List Found) (ts : List Element) → map element_seen es ≡ ts → length es ≤ i
+    → ((e : Element) → Contains (take i ts) e → IsTakenAt chosen e at) → (e : Element) → Contains ts e → IsTakenAt chosen e at
 taken_all chosen i at es ts same h before e c = let l : length ts ≤ i = omega (arith, h, seen_length es ts same) in before e (rw (take_all i ts l) c)
 
-pub nothing_at : (lib : Library) (chosen : Layer) (marks : List Bool) (n at : ℕ) → length marks ≡ n → HasRefusalAt lib chosen marks at → ((k : ℕ) (e : Element) → k < n → IsMarked marks k → Contains (elements_at lib k) e → IsTakenAt chosen e at) → ⊥
+pub nothing_at : (lib : Library) (chosen : Layer) (marks : List Bool) (n at : ℕ) → length marks ≡ n → HasRefusalAt lib chosen marks at
+    → ((k : ℕ) (e : Element) → k < n → IsMarked marks k → Contains (elements_at lib k) e → IsTakenAt chosen e at) → ⊥
 nothing_at lib chosen marks n at each h none = none h.0 h.1 (omega (arith, h.2, each)) h.3 h.4 h.6 h.5 h.7
 
-pub none_more : (lib : Library) (chosen : Layer) (marks : List Bool) (n at : ℕ) (marked : Bool) → get_or marks n false ≡ marked → (marked ≡ true → (e : Element) → Contains (elements_at lib n) e → IsTakenAt chosen e at) → ((k : ℕ) (e : Element) → k < n → IsMarked marks k → Contains (elements_at lib k) e → IsTakenAt chosen e at) → (k : ℕ) (e : Element) → k < n + 1 → IsMarked marks k → Contains (elements_at lib k) e → IsTakenAt chosen e at
+pub none_more : (lib : Library) (chosen : Layer) (marks : List Bool) (n at : ℕ) (marked : Bool) → get_or marks n false ≡ marked
+    → (marked ≡ true → (e : Element) → Contains (elements_at lib n) e → IsTakenAt chosen e at)
+    → ((k : ℕ) (e : Element) → k < n → IsMarked marks k → Contains (elements_at lib k) e → IsTakenAt chosen e at) → (k : ℕ) (e : Element)
+    → k < n + 1 → IsMarked marks k → Contains (elements_at lib k) e → IsTakenAt chosen e at
 none_more lib chosen marks n at marked is one before k e h m c =
     ⊎_elim (λ (l : k < n). before k e l m c) (λ (l : n ≤ k). let w : k ≡ n = omega (arith, h) in one (sym is ∙ rw w at m) e (rw w at c)) (cases_lt k n)

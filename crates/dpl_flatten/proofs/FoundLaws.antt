@@ -30,12 +30,25 @@ module _ (lib : Library) (graph : List (List ℕ)) (top : ℕ) (marks : List Boo
     least = none_before_of P at l;
   }
 
-  pub refusal_first : (layer : Layer) (at : ℕ) (f : FlattenFault) → IsWhole lib top → IsLeastOf (AmongMarked lib marks (length marks) (IsRefused layer)) (Some at) → IsRefusalOf lib layer marks at f → IsFirstFault lib top layer f
+  pub refusal_first : (layer : Layer) (at : ℕ) (f : FlattenFault) → IsWhole lib top
+      → IsLeastOf (AmongMarked lib marks (length marks) (IsRefused layer)) (Some at) → IsRefusalOf lib layer marks at f
+      → IsFirstFault lib top layer f
   refusal_first layer at f whole l s =
       let k = s.0 in
       let e = s.1 in
       let q = s.4 in
-      rw q.3 (whole, record { some = (k, e, record { reached = reaches_in_layout g (reached.sound k s.2); inside = s.3; holds = q.1 }, q.2); least = none_before_of (IsRefused layer) at l })
+      rw q.3 (
+        whole,
+        record {
+          some = (
+            k,
+            e,
+            record { reached = reaches_in_layout g (reached.sound k s.2); inside = s.3; holds = q.1 },
+            q.2,
+          );
+          least = none_before_of (IsRefused layer) at l;
+        },
+      )
 
   pub refusal_there : (layer : Layer) (at : ℕ) → IsLeastOf (AmongMarked lib marks (length marks) (IsRefused layer)) (Some at) → HasRefusalAt lib layer marks at
   refusal_there layer at l = let s = l.0 in (s.0, s.1, s.2.0, s.2.1, s.2.2, s.3, s.2.3.0, s.2.3.1)

@@ -1,5 +1,6 @@
 -- The least offset of the elements that were gone through.
-use Rattle.std.proofs.Common.{◌≡◌, ℕ, ◌+◌, ◌<◌, ◌≤◌, ◌⊎◌, inl, inr, ⊎_elim, min, Bool, true, false, cond, List, [], Option, Some, None, map, length, get_or, take, refl, sym, ◌∙◌, arith}
+use Rattle.std.proofs.Common.{◌≡◌, ℕ, ◌+◌, ◌<◌, ◌≤◌, ◌⊎◌, inl, inr, ⊎_elim, min, Bool, true, false, cond, List, [], Option, Some, None, map}
+use Rattle.std.proofs.Common.{length, get_or, take, refl, sym, ◌∙◌, arith}
 use Rattle.std.proofs.lemmas.Bool.{cases_lt}
 use Rattle.std.proofs.lemmas.List.{take_all, get_or-map, length-map}
 use Rattle.std.specs.Prelude.{◌↔◌, IsTrue}
@@ -13,7 +14,8 @@ use Rattle.dpl_flatten.specs.Least.{IsLeastOf, IsNoted, Among, AmongMarked}
 use Rattle.dpl_walk.specs.Least.{earlier}
 
 -- what holds of the elements of either part holds of the whole
-pub least_join : (S T U : Finding) (a b : Option ℕ) → IsLeastOf S a → IsLeastOf T b → ((k : ℕ) (e : Element) → U k e → S k e ⊎ T k e) → ((k : ℕ) (e : Element) → S k e → U k e) → ((k : ℕ) (e : Element) → T k e → U k e) → IsLeastOf U (earlier a b)
+pub least_join : (S T U : Finding) (a b : Option ℕ) → IsLeastOf S a → IsLeastOf T b → ((k : ℕ) (e : Element) → U k e → S k e ⊎ T k e)
+    → ((k : ℕ) (e : Element) → S k e → U k e) → ((k : ℕ) (e : Element) → T k e → U k e) → IsLeastOf U (earlier a b)
 least_join S T U None None s t split left right = λ k e u. ⊎_elim (λ x. s k e x) (λ x. t k e x) (split k e u)
 least_join S T U None (Some b) s t split left right =
     ((t.0.0, t.0.1, right t.0.0 t.0.1 t.0.2, t.0.3), λ k e u. ⊎_elim (λ x. absurd (s k e x)) (λ x. t.1 k e x) (split k e u))
@@ -41,7 +43,9 @@ note_is (Some a) false at = refl
 pub least_none : (P : Finding) (k : ℕ) → IsLeastOf (Among k [] P) None
 least_none P k i e h = Contains-nil e h.1
 
-pub least_more : (P : Finding) (k i : ℕ) (es : List Element) (d : Element) (first new : Option ℕ) (found : Bool) → i < length es → (IsTrue found ↔ P k (get_or es i d)) → new ≡ cond found (earlier first (Some (get_or es i d).at)) first → IsLeastOf (Among k (take i es) P) first → IsLeastOf (Among k (take (i + 1) es) P) new
+pub least_more : (P : Finding) (k i : ℕ) (es : List Element) (d : Element) (first new : Option ℕ) (found : Bool) → i < length es
+    → (IsTrue found ↔ P k (get_or es i d)) → new ≡ cond found (earlier first (Some (get_or es i d).at)) first
+    → IsLeastOf (Among k (take i es) P) first → IsLeastOf (Among k (take (i + 1) es) P) new
 least_more P k i es d first new found h says is l =
     let e = get_or es i d in
     rw (is, note_is first found e.at)
@@ -63,35 +67,47 @@ seen_length es ts e = rw (← e) (length-map es element_seen)
 pub marked_none : (lib : Library) (marks : List Bool) (P : Finding) → IsLeastOf (AmongMarked lib marks 0 P) None
 marked_none lib marks P k e h = absurd (omega (arith, h.0))
 
-pub marked_more : (lib : Library) (marks : List Bool) (n : ℕ) (P : Finding) (marked : Bool) (first one new : Option ℕ) → get_or marks n false ≡ marked → new ≡ earlier first one → IsLeastOf (AmongMarked lib marks n P) first → IsLeastOf (λ k e. (marked ≡ true) × Among n (elements_at lib n) P k e) one → IsLeastOf (AmongMarked lib marks (n + 1) P) new
+pub marked_more : (lib : Library) (marks : List Bool) (n : ℕ) (P : Finding) (marked : Bool) (first one new : Option ℕ)
+    → get_or marks n false ≡ marked → new ≡ earlier first one → IsLeastOf (AmongMarked lib marks n P) first
+    → IsLeastOf (λ k e. (marked ≡ true) × Among n (elements_at lib n) P k e) one → IsLeastOf (AmongMarked lib marks (n + 1) P) new
 marked_more lib marks n P marked first one new m is l o =
     rw is
     (least_join (AmongMarked lib marks n P) (λ k e. (marked ≡ true) × Among n (elements_at lib n) P k e) (AmongMarked lib marks (n + 1) P) first one l o
-    (λ k e u. ⊎_elim (λ (h : k < n). inl (h, u.1, u.2, u.3)) (λ (h : n ≤ k). let w : k ≡ n = omega (arith, u.0) in inr (sym m ∙ rw w at u.1, (w, rw w at u.2, rw w at u.3))) (cases_lt k n))
+    (λ k e u. ⊎_elim (λ (h : k < n). inl (h, u.1, u.2, u.3)) (λ (h : n ≤ k). let w : k ≡ n = omega (arith, u.0) in
+    inr (sym m ∙ rw w at u.1, (w, rw w at u.2, rw w at u.3))) (cases_lt k n))
     (λ k e s. (omega (arith, s.0), s.1, s.2, s.3))
     (λ k e t. (omega (arith, t.1.0), rw t.1.0 (m ∙ t.0), rw t.1.0 t.1.1, rw t.1.0 t.1.2)))
 
-pub least_seen : (P : Finding) (k i : ℕ) (es : List Found) (ts : List Element) (d : Found) (first new : Option ℕ) (found : Bool) → map element_seen es ≡ ts → i < length es → (IsTrue found ↔ P k (element_seen (get_or es i d))) → new ≡ cond found (earlier first (Some (get_or es i d).at)) first → IsLeastOf (Among k (take i ts) P) first → IsLeastOf (Among k (take (i + 1) ts) P) new
+pub least_seen : (P : Finding) (k i : ℕ) (es : List Found) (ts : List Element) (d : Found) (first new : Option ℕ) (found : Bool)
+    → map element_seen es ≡ ts → i < length es → (IsTrue found ↔ P k (element_seen (get_or es i d)))
+    → new ≡ cond found (earlier first (Some (get_or es i d).at)) first → IsLeastOf (Among k (take i ts) P) first
+    → IsLeastOf (Among k (take (i + 1) ts) P) new
 least_seen P k i es ts d first new found e h says is l =
     let s = seen_at es ts i d (element_seen d) e h in
     least_more P k i ts (element_seen d) first new found (omega (arith, seen_length es ts e)) (rw s says) (rw s is) l
 
-pub least_seen_all : (P : Finding) (k i : ℕ) (es : List Found) (ts : List Element) (first : Option ℕ) → map element_seen es ≡ ts → length es ≤ i → IsLeastOf (Among k (take i ts) P) first → IsLeastOf (Among k ts P) first
+pub least_seen_all : (P : Finding) (k i : ℕ) (es : List Found) (ts : List Element) (first : Option ℕ) → map element_seen es ≡ ts
+    → length es ≤ i → IsLeastOf (Among k (take i ts) P) first → IsLeastOf (Among k ts P) first
 least_seen_all P k i es ts first e h l = least_all P k i ts first (omega (arith, seen_length es ts e)) l
 
-pub least_unmarked : (P : Finding) (k : ℕ) (es : List Element) (marked : Bool) (first : Option ℕ) → marked ≡ true → IsLeastOf (Among k es P) first → IsLeastOf (λ i e. (marked ≡ true) × Among k es P i e) first
+pub least_unmarked : (P : Finding) (k : ℕ) (es : List Element) (marked : Bool) (first : Option ℕ) → marked ≡ true
+    → IsLeastOf (Among k es P) first → IsLeastOf (λ i e. (marked ≡ true) × Among k es P i e) first
 least_unmarked P k es marked None m l = λ i e h. l i e h.1
 least_unmarked P k es marked (Some a) m l = ((l.0.0, l.0.1, (m, l.0.2), l.0.3), λ i e h. l.1 i e h.1)
 
-pub noted_more : (P : Finding) (k i : ℕ) (es : List Element) (d : Element) (first new : Option ℕ) → i < length es → IsNoted P k (get_or es i d) first new → IsLeastOf (Among k (take i es) P) first → IsLeastOf (Among k (take (i + 1) es) P) new
+pub noted_more : (P : Finding) (k i : ℕ) (es : List Element) (d : Element) (first new : Option ℕ) → i < length es
+    → IsNoted P k (get_or es i d) first new → IsLeastOf (Among k (take i es) P) first → IsLeastOf (Among k (take (i + 1) es) P) new
 noted_more P k i es d first new h n l =
     ⊎_elim (λ a. least_more P k i es d first new true h (λ _. a.1, λ _. refl) a.0 l)
     (λ a. least_more P k i es d first new false h (λ f. let g : false ≡ true = f in cc, λ p. absurd (a.1 p)) a.0 l)
     n
 
-pub noted_seen : (P : Finding) (k i : ℕ) (es : List Found) (ts : List Element) (d : Found) (first new : Option ℕ) → map element_seen es ≡ ts → i < length es → IsNoted P k (element_seen (get_or es i d)) first new → IsLeastOf (Among k (take i ts) P) first → IsLeastOf (Among k (take (i + 1) ts) P) new
+pub noted_seen : (P : Finding) (k i : ℕ) (es : List Found) (ts : List Element) (d : Found) (first new : Option ℕ)
+    → map element_seen es ≡ ts → i < length es → IsNoted P k (element_seen (get_or es i d)) first new
+    → IsLeastOf (Among k (take i ts) P) first → IsLeastOf (Among k (take (i + 1) ts) P) new
 noted_seen P k i es ts d first new e h n l =
     noted_more P k i ts (element_seen d) first new (omega (arith, seen_length es ts e)) (rw (seen_at es ts i d (element_seen d) e h) n) l
 
-pub marked_all : (lib : Library) (marks : List Bool) (n : ℕ) (P : Finding) (first : Option ℕ) → length marks ≡ n → IsLeastOf (AmongMarked lib marks n P) first → IsLeastOf (AmongMarked lib marks (length marks) P) first
+pub marked_all : (lib : Library) (marks : List Bool) (n : ℕ) (P : Finding) (first : Option ℕ) → length marks ≡ n
+    → IsLeastOf (AmongMarked lib marks n P) first → IsLeastOf (AmongMarked lib marks (length marks) P) first
 marked_all lib marks n P first e l = rw e l

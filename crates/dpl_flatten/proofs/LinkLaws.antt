@@ -41,13 +41,19 @@ AreTargets-none lib found e = record {
   complete = λ j d c h. absurd (Contains-nil d c);
 }
 
-pub AreTargets-more : (lib : Library) (es : List Element) (e : Element) (found new : List ℕ) → new ≡ found ++ option_to_list (target_of lib (element_seen e)) → AreTargets lib es found → AreTargets lib (es ++ e ∷ []) new
+pub AreTargets-more : (lib : Library) (es : List Element) (e : Element) (found new : List ℕ)
+    → new ≡ found ++ option_to_list (target_of lib (element_seen e)) → AreTargets lib es found → AreTargets lib (es ++ e ∷ []) new
 AreTargets-more lib es e found new n t = record {
-  sound = λ j c. ⊎_elim (λ h. let s = t.sound j h in (s.0, Contains-append_left es (e ∷ []) s.0 s.1, s.2)) (λ h. (e, Contains-push es e, Contains-option (target_of lib (element_seen e)) j h)) (Contains-append_cases found (option_to_list (target_of lib (element_seen e))) j (rw n at c));
-  complete = λ j d c h. rw n (⊎_elim (λ x. Contains-append_left found _ j (t.complete j d x h)) (λ (x : e ≡ d). Contains-append_right found _ j (Contains-the_option (target_of lib (element_seen e)) j (ap (λ (i : Element). target_of lib (element_seen i)) x ∙ h))) (Contains-push_cases es e d c));
+  sound = λ j c. ⊎_elim (λ h. let s = t.sound j h in (s.0, Contains-append_left es (e ∷ []) s.0 s.1, s.2))
+      (λ h. (e, Contains-push es e, Contains-option (target_of lib (element_seen e)) j h))
+      (Contains-append_cases found (option_to_list (target_of lib (element_seen e))) j (rw n at c));
+  complete = λ j d c h. rw n (⊎_elim (λ x. Contains-append_left found _ j (t.complete j d x h))
+      (λ (x : e ≡ d). Contains-append_right found _ j (Contains-the_option (target_of lib (element_seen e)) j
+      (ap (λ (i : Element). target_of lib (element_seen i)) x ∙ h))) (Contains-push_cases es e d c));
 }
 
-pub AreTargets-all : (lib : Library) (k : ℕ) (es : List Element) (found : List ℕ) → map element_seen es ≡ elements_at lib k → AreTargets lib es found → (j : ℕ) → Contains found j ↔ Refers lib k j
+pub AreTargets-all : (lib : Library) (k : ℕ) (es : List Element) (found : List ℕ) → map element_seen es ≡ elements_at lib k
+    → AreTargets lib es found → (j : ℕ) → Contains found j ↔ Refers lib k j
 AreTargets-all lib k es found e t j = (
   λ c. let s = t.sound j c in (element_seen s.0, rw (← e) (Contains-map element_seen es s.0 s.1), s.2),
   λ r. let m = Contains-map_cases element_seen es r.0 (rw (← e) at r.1) in t.complete j m.0 m.1 (ap (target_of lib) m.2 ∙ r.2),
@@ -61,10 +67,13 @@ AreRows-none lib graph e = record {
   refers = λ k j h r. absurd (omega (arith, h));
 }
 
-pub AreTargets-step : (lib : Library) (es : List Element) (i : ℕ) (d : Element) (found new : List ℕ) → i < length es → new ≡ found ++ option_to_list (target_of lib (element_seen (get_or es i d))) → AreTargets lib (take i es) found → AreTargets lib (take (i + 1) es) new
+pub AreTargets-step : (lib : Library) (es : List Element) (i : ℕ) (d : Element) (found new : List ℕ) → i < length es
+    → new ≡ found ++ option_to_list (target_of lib (element_seen (get_or es i d))) → AreTargets lib (take i es) found
+    → AreTargets lib (take (i + 1) es) new
 AreTargets-step lib es i d found new h n t = rw (take_more es i d h) (AreTargets-more lib (take i es) (get_or es i d) found new n t)
 
-pub AreTargets-whole : (lib : Library) (k i : ℕ) (es : List Element) (found : List ℕ) → length es ≤ i → map element_seen es ≡ elements_at lib k → AreTargets lib (take i es) found → (j : ℕ) → Contains found j ↔ Refers lib k j
+pub AreTargets-whole : (lib : Library) (k i : ℕ) (es : List Element) (found : List ℕ) → length es ≤ i
+    → map element_seen es ≡ elements_at lib k → AreTargets lib (take i es) found → (j : ℕ) → Contains found j ↔ Refers lib k j
 AreTargets-whole lib k i es found h e t = AreTargets-all lib k es found e (rw (take_all i es h) at t)
 
 three : (a b : ℕ) → (a < b) ⊎ ((a ≡ b) ⊎ (b < a))
@@ -79,7 +88,9 @@ row_last graph row = get_or-append_seam graph row [] []
 row_past : (graph : List (List ℕ)) (row : List ℕ) (k : ℕ) → length graph < k → targets_at (graph ++ row ∷ []) k ≡ []
 row_past graph row k h = get_or_past (graph ++ row ∷ []) k [] (omega (arith, length-append graph (row ∷ [])))
 
-pub AreRows-more : (lib : Library) (n : ℕ) (graph new : List (List ℕ)) (row : List ℕ) → new ≡ graph ++ row ∷ [] → ((j : ℕ) → Contains row j ↔ Refers lib n j) → ((e : TreeElement) → Contains (elements_at lib n) e → HasPoints e.body) → AreRows lib n graph → AreRows lib (n + 1) new
+pub AreRows-more : (lib : Library) (n : ℕ) (graph new : List (List ℕ)) (row : List ℕ) → new ≡ graph ++ row ∷ []
+    → ((j : ℕ) → Contains row j ↔ Refers lib n j) → ((e : TreeElement) → Contains (elements_at lib n) e → HasPoints e.body)
+    → AreRows lib n graph → AreRows lib (n + 1) new
 AreRows-more lib n graph new row e says big a = record {
   sized = λ k d h c. ⊎_elim (λ (l : k < n). a.sized k d l c) (λ (l : n ≤ k). let w : k ≡ n = omega (arith, h) in big d (rw w at c)) (cases_lt k n);
   each = ap length e ∙ (length-append graph (row ∷ []) ∙ omega (arith, a.each));
@@ -90,7 +101,8 @@ AreRows-more lib n graph new row e says big a = record {
     lead : (k j : ℕ) → LeadsTo (graph ++ row ∷ []) k j → Refers lib k j
     lead k j c =
         ⊎_elim (λ (h : k < length graph). a.leads k j (rw (row_before graph row k h) at c))
-        (λ h. ⊎_elim (λ (s : k ≡ length graph). let m = rw (s, row_last graph row) at c in let w : k ≡ n = s ∙ a.each in rw w ((says j).0 m)) (λ (s : length graph < k). absurd (Contains-nil j (rw (row_past graph row k s) at c))) h)
+        (λ h. ⊎_elim (λ (s : k ≡ length graph). let m = rw (s, row_last graph row) at c in let w : k ≡ n = s ∙ a.each in
+        rw w ((says j).0 m)) (λ (s : length graph < k). absurd (Contains-nil j (rw (row_past graph row k s) at c))) h)
         (three k (length graph))
 
     refer : (k j : ℕ) → k < n + 1 → Refers lib k j → LeadsTo (graph ++ row ∷ []) k j
@@ -108,14 +120,17 @@ AreRows-all lib n graph e a = record {
 }
   where
     inside : (k : ℕ) (d : TreeElement) → Contains (elements_at lib k) d → k < length lib.structures
-    inside k d c = ⊎_elim (λ (h : k < length lib.structures). h) (λ (h : length lib.structures ≤ k). let x : Contains (elements_or_none (slice_get lib.structures k)) d = c in absurd (Contains-nil d (rw (slice_get_past lib.structures k h) at x))) (cases_lt k (length lib.structures))
+    inside k d c = ⊎_elim (λ (h : k < length lib.structures). h) (λ (h : length lib.structures ≤ k). let x : Contains
+        (elements_or_none (slice_get lib.structures k)) d = c in absurd (Contains-nil d (rw (slice_get_past lib.structures k h) at x)))
+        (cases_lt k (length lib.structures))
 
     known : (k j : ℕ) → Refers lib k j → k < length lib.structures
     known k j r = inside k r.0 r.1
 
 -- a name that is found is one of a structure
 pub named_known : (lib : Library) (name : List ℕ) (j : ℕ) → structure_named lib name ≡ Some j → j < length lib.structures
-named_known lib name j e = let p = position-Some (pointwise nat_eq name) (names_in lib) j [] e in let h = p.0 in let s = length-map lib.structures (λ (s : Structure). s.name) in omega (arith, h, s)
+named_known lib name j e = let p = position-Some (pointwise nat_eq name) (names_in lib) j [] e in let h = p.0 in
+    let s = length-map lib.structures (λ (s : Structure). s.name) in omega (arith, h, s)
 
 pub target_known : (lib : Library) (e : TreeElement) (j : ℕ) → target_of lib e ≡ Some j → j < length lib.structures
 target_known lib e j h = by_name (reference_name e.body) h
@@ -131,7 +146,11 @@ graph_known lib graph g k j l = let r = g.leads k j l in omega (arith, target_kn
 pub roots_are : (lib : Library) (graph : List (List ℕ)) (found : List ℕ) → IsGraphOf lib graph → AreSources graph found → AreRoots lib found
 roots_are lib graph found g s = record {
   ordered = s.ordered;
-  exactly = λ k. (λ c. let i = (s.exactly k).0 c in record { known = omega (arith, i.known, g.each); unreferred = λ j r. i.alone j (g.refers j k r) }, λ r. (s.exactly k).1 (record { known = omega (arith, r.known, g.each); alone = λ j l. r.unreferred j (g.leads j k l) }));
+  exactly = λ k. (
+    λ c. let i = (s.exactly k).0 c in
+        record { known = omega (arith, i.known, g.each); unreferred = λ j r. i.alone j (g.refers j k r) },
+    λ r. (s.exactly k).1 (record { known = omega (arith, r.known, g.each); alone = λ j l. r.unreferred j (g.leads j k l) }),
+  );
 }
 
 pub roots_none : (lib : Library) (found : List ℕ) → AreRoots lib found → length found < 1 → AreRoots lib []
@@ -147,7 +166,8 @@ pub root_known : (lib : Library) (k : ℕ) → AreRoots lib (k ∷ []) → k < l
 root_known lib k r = ((r.exactly k).0 (Contains-head k [])).known
 
 -- elements of the code have their points
-pub sized_all : (lib : Library) (k : ℕ) (es : List Element) → map element_seen es ≡ elements_at lib k → All IsSized es → (e : TreeElement) → Contains (elements_at lib k) e → HasPoints e.body
+pub sized_all : (lib : Library) (k : ℕ) (es : List Element) → map element_seen es ≡ elements_at lib k → All IsSized es → (e : TreeElement)
+    → Contains (elements_at lib k) e → HasPoints e.body
 sized_all lib k es same all e c =
     let m = Contains-map_cases element_seen es e (rw (← same) at c) in
     let s = All-contains IsSized es m.0 all m.1 in

@@ -13,7 +13,8 @@ use Rattle.dpl_spec_elements.specs.declared.Heading.{Heading}
 use Rattle.dpl_spec_elements.specs.declared.Heading.TheVariants.{East, North, West, South}
 use Rattle.dpl_spec_elements.specs.declared.Segment.{Segment}
 use Rattle.dpl_spec_elements.specs.Boundaries.{IsSlanted}
-use Rattle.dpl_spec_elements.specs.Paths.{same, heading, same_heading, segments_from, bar, bar_to, bars, square_round, half_of, past_end, rects_through, path_rects, path_of, corners_of, distinct, PathElement}
+use Rattle.dpl_spec_elements.specs.Paths.{same, heading, same_heading, segments_from, bar, bar_to, bars, square_round, half_of, past_end}
+use Rattle.dpl_spec_elements.specs.Paths.{rects_through, path_rects, path_of, corners_of, distinct, PathElement}
 use Rattle.dpl_shapes.specs.declared.fault.ShapeFault.{ShapeFault}
 use Rattle.dpl_shapes.specs.declared.fault.ShapeFault.TheVariants.{SlantedBoundary, RoundPath, BadPathType, OddWidth, SlantedPath, PathTurnsBack, NegativeExtension, NoMemory}
 use Rattle.dpl_shapes.specs.Refusals.{RefusesBoundary, RefusesPath}
@@ -32,7 +33,8 @@ cond_all : {X : Type 0} (P : X → Type 0) (b : Bool) (xs ys : List X) → All P
 cond_all P true xs ys h g = h
 cond_all P false xs ys h g = g
 
-segments_within : (p q : Pt) (rs : List Pt) → IsPointWithin (2 ^ 31) p → IsPointWithin (2 ^ 31) q → ArePointsWithin (2 ^ 31) rs → All (IsSegmentWithin (2 ^ 31)) (segments_from p q rs)
+segments_within : (p q : Pt) (rs : List Pt) → IsPointWithin (2 ^ 31) p → IsPointWithin (2 ^ 31) q → ArePointsWithin (2 ^ 31) rs
+    → All (IsSegmentWithin (2 ^ 31)) (segments_from p q rs)
 segments_within p q [] hp hq hr = All-cons (IsSegmentWithin (2 ^ 31)) (record { from = p; to = q }) [] (record { from = hp; to = hq }) (all_nil (IsSegmentWithin (2 ^ 31)))
 segments_within p q (r ∷ rs) hp hq hr =
     let h = hr r (Contains-head r rs) in
@@ -41,22 +43,63 @@ segments_within p q (r ∷ rs) hp hq hr =
     (segments_within p r rs hp h t)
     (All-cons (IsSegmentWithin (2 ^ 31)) (record { from = p; to = q }) (segments_from q r rs) (record { from = hp; to = hq }) (segments_within q r rs hq h t))
 
-bar_to_within : (h : Heading) (half begin end : ℤ) (s : Segment) → unsigned_abs half ≤ 2 ^ 31 → unsigned_abs begin ≤ 2 ^ 31 → unsigned_abs end ≤ 2 ^ 31 → IsSegmentWithin (2 ^ 31) s → IsRectWithin (2 ^ 61) (bar_to h half begin end s)
-bar_to_within East half begin end s a b c w = let f = w.from in let t = w.to in record { left = omega (arith, ints, a, b, c, f.column, t.column); low = omega (arith, ints, a, b, c, f.row, t.row); right = omega (arith, ints, a, b, c, f.column, t.column); high = omega (arith, ints, a, b, c, f.row, t.row) }
-bar_to_within North half begin end s a b c w = let f = w.from in let t = w.to in record { left = omega (arith, ints, a, b, c, f.column, t.column); low = omega (arith, ints, a, b, c, f.row, t.row); right = omega (arith, ints, a, b, c, f.column, t.column); high = omega (arith, ints, a, b, c, f.row, t.row) }
-bar_to_within West half begin end s a b c w = let f = w.from in let t = w.to in record { left = omega (arith, ints, a, b, c, f.column, t.column); low = omega (arith, ints, a, b, c, f.row, t.row); right = omega (arith, ints, a, b, c, f.column, t.column); high = omega (arith, ints, a, b, c, f.row, t.row) }
-bar_to_within South half begin end s a b c w = let f = w.from in let t = w.to in record { left = omega (arith, ints, a, b, c, f.column, t.column); low = omega (arith, ints, a, b, c, f.row, t.row); right = omega (arith, ints, a, b, c, f.column, t.column); high = omega (arith, ints, a, b, c, f.row, t.row) }
+bar_to_within : (h : Heading) (half begin end : ℤ) (s : Segment) → unsigned_abs half ≤ 2 ^ 31 → unsigned_abs begin ≤ 2 ^ 31
+    → unsigned_abs end ≤ 2 ^ 31 → IsSegmentWithin (2 ^ 31) s → IsRectWithin (2 ^ 61) (bar_to h half begin end s)
+bar_to_within East half begin end s a b c w = let f = w.from in let t = w.to in
+    record {
+      left = omega (arith, ints, a, b, c, f.column, t.column);
+      low = omega (arith, ints, a, b, c, f.row, t.row);
+      right = omega
+          (arith, ints, a, b, c, f.column, t.column);
+      high = omega (arith, ints, a, b, c, f.row, t.row);
+    }
+bar_to_within North half begin end s a b c w = let f = w.from in let t = w.to in
+    record {
+      left = omega (arith, ints, a, b, c, f.column, t.column);
+      low = omega (arith, ints, a, b, c, f.row, t.row);
+      right = omega
+          (arith, ints, a, b, c, f.column, t.column);
+      high = omega (arith, ints, a, b, c, f.row, t.row);
+    }
+bar_to_within West half begin end s a b c w = let f = w.from in let t = w.to in
+    record {
+      left = omega (arith, ints, a, b, c, f.column, t.column);
+      low = omega (arith, ints, a, b, c, f.row, t.row);
+      right = omega
+          (arith, ints, a, b, c, f.column, t.column);
+      high = omega (arith, ints, a, b, c, f.row, t.row);
+    }
+bar_to_within South half begin end s a b c w = let f = w.from in let t = w.to in
+    record {
+      left = omega (arith, ints, a, b, c, f.column, t.column);
+      low = omega (arith, ints, a, b, c, f.row, t.row);
+      right = omega
+          (arith, ints, a, b, c, f.column, t.column);
+      high = omega (arith, ints, a, b, c, f.row, t.row);
+    }
 
-bars_within : (half begin end : ℤ) (ss : List Segment) → unsigned_abs half ≤ 2 ^ 31 → unsigned_abs begin ≤ 2 ^ 31 → unsigned_abs end ≤ 2 ^ 31 → All (IsSegmentWithin (2 ^ 31)) ss → All (IsRectWithin (2 ^ 61)) (bars half begin end ss)
+bars_within : (half begin end : ℤ) (ss : List Segment) → unsigned_abs half ≤ 2 ^ 31 → unsigned_abs begin ≤ 2 ^ 31
+    → unsigned_abs end ≤ 2 ^ 31 → All (IsSegmentWithin (2 ^ 31)) ss → All (IsRectWithin (2 ^ 61)) (bars half begin end ss)
 bars_within half begin end [] a b c w = all_nil (IsRectWithin (2 ^ 61))
-bars_within half begin end (s ∷ []) a b c w = All-cons (IsRectWithin (2 ^ 61)) (bar half begin end s) [] (bar_to_within (heading s.from s.to) half begin end s a b c (All-head (IsSegmentWithin (2 ^ 31)) s [] w)) (all_nil (IsRectWithin (2 ^ 61)))
+bars_within half begin end (s ∷ []) a b c w = All-cons (IsRectWithin (2 ^ 61)) (bar half begin end s) []
+    (bar_to_within (heading s.from s.to) half begin end s a b c (All-head (IsSegmentWithin (2 ^ 31)) s [] w))
+    (all_nil (IsRectWithin (2 ^ 61)))
 bars_within half begin end (s ∷ t ∷ ts) a b c w =
-    All-cons (IsRectWithin (2 ^ 61)) (bar half begin half s) (bars half half end (t ∷ ts)) (bar_to_within (heading s.from s.to) half begin half s a b a (All-head (IsSegmentWithin (2 ^ 31)) s (t ∷ ts) w)) (bars_within half half end (t ∷ ts) a a c (All-tail (IsSegmentWithin (2 ^ 31)) s (t ∷ ts) w))
+    All-cons (IsRectWithin (2 ^ 61)) (bar half begin half s) (bars half half end (t ∷ ts))
+    (bar_to_within (heading s.from s.to) half begin half s a b a (All-head (IsSegmentWithin (2 ^ 31)) s (t ∷ ts) w))
+    (bars_within half half end (t ∷ ts) a a c (All-tail (IsSegmentWithin (2 ^ 31)) s (t ∷ ts) w))
 
 square_within : (half : ℤ) (p : Pt) → unsigned_abs half ≤ 2 ^ 31 → IsPointWithin (2 ^ 31) p → IsRectWithin (2 ^ 61) (square_round half p)
-square_within half p a w = record { left = omega (arith, ints, a, w.column); low = omega (arith, ints, a, w.row); right = omega (arith, ints, a, w.column); high = omega (arith, ints, a, w.row) }
+square_within half p a w = record {
+  left = omega (arith, ints, a, w.column);
+  low = omega (arith, ints, a, w.row);
+  right = omega
+      (arith, ints, a, w.column);
+  high = omega (arith, ints, a, w.row);
+}
 
-through_within : (p : PathElement) (qs : List Pt) → unsigned_abs p.width ≤ 2 ^ 31 → unsigned_abs p.begin_ext ≤ 2 ^ 31 → unsigned_abs p.end_ext ≤ 2 ^ 31 → ArePointsWithin (2 ^ 31) qs → All (IsRectWithin (2 ^ 61)) (rects_through p qs)
+through_within : (p : PathElement) (qs : List Pt) → unsigned_abs p.width ≤ 2 ^ 31 → unsigned_abs p.begin_ext ≤ 2 ^ 31
+    → unsigned_abs p.end_ext ≤ 2 ^ 31 → ArePointsWithin (2 ^ 31) qs → All (IsRectWithin (2 ^ 61)) (rects_through p qs)
 through_within p [] w b e h = all_nil (IsRectWithin (2 ^ 61))
 through_within p (q ∷ []) w b e h =
     let a : unsigned_abs (half_of p) ≤ 2 ^ 31 = omega (arith, w) in
@@ -68,9 +111,11 @@ through_within p (q ∷ r ∷ rs) w b e h =
     bars_within (half_of p) (past_end p.kind (half_of p) p.begin_ext) (past_end p.kind (half_of p) p.end_ext) (segments_from q r rs) a
     (past-within p.kind (half_of p) p.begin_ext (2 ^ 31) a b)
     (past-within p.kind (half_of p) p.end_ext (2 ^ 31) a e)
-    (segments_within q r rs (h q (Contains-head q (r ∷ rs))) (h r (Contains-later q r (r ∷ rs) (Contains-head r rs))) (λ x c. h x (Contains-later q x (r ∷ rs) (Contains-later r x rs c))))
+    (segments_within q r rs (h q (Contains-head q (r ∷ rs))) (h r (Contains-later q r (r ∷ rs) (Contains-head r rs)))
+    (λ x c. h x (Contains-later q x (r ∷ rs) (Contains-later r x rs c))))
 
-four_near : (a b c d : Pt) → IsPointWithin (2 ^ 61) a → IsPointWithin (2 ^ 61) b → IsPointWithin (2 ^ 61) c → IsPointWithin (2 ^ 61) d → ArePointsWithin (2 ^ 61) (a ∷ b ∷ c ∷ d ∷ [])
+four_near : (a b c d : Pt) → IsPointWithin (2 ^ 61) a → IsPointWithin (2 ^ 61) b → IsPointWithin (2 ^ 61) c → IsPointWithin (2 ^ 61) d
+    → ArePointsWithin (2 ^ 61) (a ∷ b ∷ c ∷ d ∷ [])
 four_near a b c d ha hb hc hd p i =
     ⊎_elim (λ (e : a ≡ p). rw (← e) ha)
     (λ j. ⊎_elim (λ (e : b ≡ p). rw (← e) hb)
@@ -87,9 +132,12 @@ corner_cases r w =
 
 loops_within : (rs : List Rect) → All (IsRectWithin (2 ^ 61)) rs → AreLoopsWithin (2 ^ 61) (map corners_of rs)
 loops_within [] w = all_nil (λ ps. ArePointsWithin (2 ^ 61) ps)
-loops_within (r ∷ rs) w = All-cons (λ ps. ArePointsWithin (2 ^ 61) ps) (corners_of r) (map corners_of rs) (corner_cases r (All-head (IsRectWithin (2 ^ 61)) r rs w)) (loops_within rs (All-tail (IsRectWithin (2 ^ 61)) r rs w))
+loops_within (r ∷ rs) w = All-cons (λ ps. ArePointsWithin (2 ^ 61) ps) (corners_of r) (map corners_of rs)
+    (corner_cases r (All-head (IsRectWithin (2 ^ 61)) r rs w)) (loops_within rs (All-tail (IsRectWithin (2 ^ 61)) r rs w))
 
-pub path_near : (ps : List Pt) (width kind begin end : ℤ) → ArePointsWithin (2 ^ 31) ps → unsigned_abs width ≤ 2 ^ 31 → unsigned_abs begin ≤ 2 ^ 31 → unsigned_abs end ≤ 2 ^ 31 → AreLoopsWithin (2 ^ 61) (map corners_of (path_rects (path_of ps width kind begin end)))
+pub path_near : (ps : List Pt) (width kind begin end : ℤ) → ArePointsWithin (2 ^ 31) ps → unsigned_abs width ≤ 2 ^ 31
+    → unsigned_abs begin ≤ 2 ^ 31 → unsigned_abs end ≤ 2 ^ 31
+    → AreLoopsWithin (2 ^ 61) (map corners_of (path_rects (path_of ps width kind begin end)))
 path_near ps width kind begin end h w b e =
     loops_within (path_rects (path_of ps width kind begin end))
     (cond_all (IsRectWithin (2 ^ 61)) (same width (pos 0)) [] (rects_through (path_of ps width kind begin end) (distinct ps)) (all_nil (IsRectWithin (2 ^ 61)))
@@ -99,7 +147,8 @@ pub nothing_near : AreLoopsWithin (2 ^ 61) []
 nothing_near = all_nil (λ ps. ArePointsWithin (2 ^ 61) ps)
 
 pub one_near : (ps : List Pt) → ArePointsWithin (2 ^ 31) ps → AreLoopsWithin (2 ^ 61) (ps ∷ [])
-one_near ps h = All-cons (λ qs. ArePointsWithin (2 ^ 61) qs) ps [] (λ p c. let w = h p c in record { column = omega (arith, w.column); row = omega (arith, w.row) }) (all_nil (λ qs. ArePointsWithin (2 ^ 61) qs))
+one_near ps h = All-cons (λ qs. ArePointsWithin (2 ^ 61) qs) ps [] (λ p c. let w = h p c in
+    record { column = omega (arith, w.column); row = omega (arith, w.row) }) (all_nil (λ qs. ArePointsWithin (2 ^ 61) qs))
 
 -- ---- what isn't refused
 
@@ -157,4 +206,5 @@ pub steps_within : (i n s b : ℕ) → i < n → n * s ≤ b → i * s ≤ b
 steps_within i n s b h l = let m = mul_right i n s h in omega (arith, l, m)
   where
     mul_right : (i n s : ℕ) → i < n → i * s ≤ n * s
-    mul_right i n s h = let e = mul-le-mul_left s (let k : i ≤ n = omega (arith, h) in k) in let x : s * i ≡ i * s = omega arith in let y : s * n ≡ n * s = omega arith in omega (arith, e, x, y)
+    mul_right i n s h = let e = mul-le-mul_left s (let k : i ≤ n = omega (arith, h) in k) in let x : s * i ≡ i * s = omega arith in
+        let y : s * n ≡ n * s = omega arith in omega (arith, e, x, y)

@@ -33,7 +33,9 @@ element_known lib k e c = ⊎_elim (λ (h : k < length lib.structures). h) (λ (
     none : length lib.structures ≤ k → ⊥
     none h = let d : Contains (elements_or_none (slice_get lib.structures k)) e = c in Contains-nil e (rw (slice_get_past lib.structures k h) at d)
 
-never_rises : {graph : List (List ℕ)} {k l : ℕ} (marks : List Bool) (levels : List ℕ) → ((i j : ℕ) → IsMarked marks i → LeadsTo graph i j → IsMarked marks j) → ((i j : ℕ) → IsMarked marks i → LeadsTo graph i j → get_or levels j 0 ≤ get_or levels i 0) → links.Reaches graph k l → IsMarked marks k → get_or levels l 0 ≤ get_or levels k 0
+never_rises : {graph : List (List ℕ)} {k l : ℕ} (marks : List Bool) (levels : List ℕ) → ((i j : ℕ) → IsMarked marks i → LeadsTo graph i j
+    → IsMarked marks j) → ((i j : ℕ) → IsMarked marks i → LeadsTo graph i j → get_or levels j 0 ≤ get_or levels i 0)
+    → links.Reaches graph k l → IsMarked marks k → get_or levels l 0 ≤ get_or levels k 0
 never_rises marks levels closed falls links.here m = omega arith
 never_rises marks levels closed falls (links.on {k} {j} e r) m =
     let h = never_rises marks levels closed falls r (closed k j m e) in
@@ -41,7 +43,9 @@ never_rises marks levels closed falls (links.on {k} {j} e r) m =
     omega (arith, h, s)
 
 -- an edge lies on a cycle exactly where the level stays
-pub stays_on_cycle : (lib : Library) (graph : List (List ℕ)) (marks : List Bool) (levels : List ℕ) (k j : ℕ) (e : Element) → IsLevelled lib graph marks levels → IsMarked marks k → Contains (elements_at lib k) e → target_of lib e ≡ Some j → (get_or levels j 0 ≡ get_or levels k 0) ↔ IsOnCycle lib k e
+pub stays_on_cycle : (lib : Library) (graph : List (List ℕ)) (marks : List Bool) (levels : List ℕ) (k j : ℕ) (e : Element)
+    → IsLevelled lib graph marks levels → IsMarked marks k → Contains (elements_at lib k) e → target_of lib e ≡ Some j
+    → (get_or levels j 0 ≡ get_or levels k 0) ↔ IsOnCycle lib k e
 stays_on_cycle lib graph marks levels k j e l m c t = (to, from)
   where
     edge : LeadsTo graph k j
@@ -64,7 +68,8 @@ stays_on_cycle lib graph marks levels k j e l m c t = (to, from)
         let down = never k j m edge in
         omega (arith, back, down)
 
-pub levelled_of : (lib : Library) (graph : List (List ℕ)) (top : ℕ) (marks : List Bool) (levels : List ℕ) → IsLinked lib graph marks → links.AreReached graph top marks → AreLevels graph top levels → IsLevelled lib graph marks levels
+pub levelled_of : (lib : Library) (graph : List (List ℕ)) (top : ℕ) (marks : List Bool) (levels : List ℕ) → IsLinked lib graph marks
+    → links.AreReached graph top marks → AreLevels graph top levels → IsLevelled lib graph marks levels
 levelled_of lib graph top marks levels l r a = record {
   linked = l;
   levels_fall = λ k j m e. a k j (r.sound k m) e;
@@ -76,7 +81,8 @@ linked_of lib graph top marks g r = record {
   closed = λ k j m e. r.complete j (Reaches-then (r.sound k m) e);
 }
 
-pub ordered_of : (lib : Library) (graph : List (List ℕ)) (top : ℕ) (marks : List Bool) (levels vertices : List ℕ) → IsGraphOf lib graph → links.AreReached graph top marks → IsOrder graph top levels vertices → IsOrdered lib graph marks levels vertices
+pub ordered_of : (lib : Library) (graph : List (List ℕ)) (top : ℕ) (marks : List Bool) (levels vertices : List ℕ) → IsGraphOf lib graph
+    → links.AreReached graph top marks → IsOrder graph top levels vertices → IsOrdered lib graph marks levels vertices
 ordered_of lib graph top marks levels vertices g r o = record {
   placed = λ k m. o.placed k (r.sound k m);
   falls = λ k j m e. o.falls k j (r.sound k m) e;
@@ -86,7 +92,9 @@ ordered_of lib graph top marks levels vertices g r o = record {
 }
 
 -- where every reference leads back, none lies on a cycle
-pub acyclic_of : (lib : Library) (graph : List (List ℕ)) (top : ℕ) (marks : List Bool) (levels vertices : List ℕ) → IsLinked lib graph marks → links.AreReached graph top marks → IsOrdered lib graph marks levels vertices → IsNowhere lib top (IsOnCycle lib)
+pub acyclic_of : (lib : Library) (graph : List (List ℕ)) (top : ℕ) (marks : List Bool) (levels vertices : List ℕ)
+    → IsLinked lib graph marks → links.AreReached graph top marks → IsOrdered lib graph marks levels vertices
+    → IsNowhere lib top (IsOnCycle lib)
 acyclic_of lib graph top marks levels vertices l r o k e f =
     let m = r.complete k (reaches_in_graph l.graph_of f.reached) in
     let edge = l.graph_of.refers k f.holds.0 (e, f.inside, f.holds.1) in
@@ -95,7 +103,9 @@ acyclic_of lib graph top marks levels vertices l r o k e f =
     omega (arith, falls, back)
 
 -- where there is a cycle, some reference lies on one
-pub cycle_there : (lib : Library) (graph : List (List ℕ)) (top : ℕ) (marks : List Bool) (first : Option ℕ) → IsGraphOf lib graph → links.AreReached graph top marks → HasCycle graph top → first ≡ None → IsLeastOf (AmongMarked lib marks (length marks) (IsOnCycle lib)) first → ⊥
+pub cycle_there : (lib : Library) (graph : List (List ℕ)) (top : ℕ) (marks : List Bool) (first : Option ℕ) → IsGraphOf lib graph
+    → links.AreReached graph top marks → HasCycle graph top → first ≡ None
+    → IsLeastOf (AmongMarked lib marks (length marks) (IsOnCycle lib)) first → ⊥
 cycle_there lib graph top marks first g r h e l =
     let none : IsLeastOf (AmongMarked lib marks (length marks) (IsOnCycle lib)) None = rw e at l in
     let m = r.complete h.0 h.2 in

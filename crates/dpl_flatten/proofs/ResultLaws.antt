@@ -1,5 +1,6 @@
 -- What the walk gathered is the layer, and what it noted is out of range.
-use Rattle.std.proofs.Common.{◌≡◌, ℕ, zero, suc, ◌+◌, ◌-◌, ◌≤◌, ◌⊎◌, inl, inr, ⊎_elim, Bool, ℤ, neg_ℤ, ◌+ℤ◌, List, [], ◌∷◌, Option, Some, None, cond, true, false, map, length, get_or, refl, sym, ap, arith}
+use Rattle.std.proofs.Common.{◌≡◌, ℕ, zero, suc, ◌+◌, ◌-◌, ◌≤◌, ◌⊎◌, inl, inr, ⊎_elim, Bool, ℤ, neg_ℤ, ◌+ℤ◌, List, [], ◌∷◌, Option, Some}
+use Rattle.std.proofs.Common.{None, cond, true, false, map, length, get_or, refl, sym, ap, arith}
 use Rattle.std.specs.List.{All, Contains}
 use Rattle.std.specs.Prelude.{◌↔◌}
 use Rattle.std.proofs.lemmas.List.{get_or-map, length-map}
@@ -49,7 +50,8 @@ straight_map f keeps [] r = record {
   closing = λ d. inl refl;
 }
 straight_map f keeps (p ∷ ps) r = record {
-  between = λ k d h. let n : suc k ≤ length (p ∷ ps) - 1 = omega (arith, h, length-map (p ∷ ps) f) in rw (get_or-map f (p ∷ ps) k p d (omega (arith, n)), get_or-map f (p ∷ ps) (k + 1) p d (omega (arith, n))) (keeps _ _ (r.between k p n));
+  between = λ k d h. let n : suc k ≤ length (p ∷ ps) - 1 = omega (arith, h, length-map (p ∷ ps) f) in
+      rw (get_or-map f (p ∷ ps) k p d (omega (arith, n)), get_or-map f (p ∷ ps) (k + 1) p d (omega (arith, n))) (keeps _ _ (r.between k p n));
   closing = λ d. rw (length-map (p ∷ ps) f, get_or-map f (p ∷ ps) (length (p ∷ ps) - 1) p d (omega arith), get_or-map f (p ∷ ps) 0 p d (omega arith)) (keeps _ _ (r.closing p));
 }
 
@@ -57,11 +59,14 @@ leads_reach : (lib : Library) (steps : List Step) (k l : ℕ) → Leads lib k st
 leads_reach lib [] k l d = rw d here
 leads_reach lib (s ∷ ss) k l d = on (s.element, d.1.inside, d.1.target) (leads_reach lib ss d.0 l d.2)
 
-module _ (lib : Library) (layer : Layer) (graph : List (List ℕ)) (marks : List Bool) (cells : List Cell) (links : IsLinked lib graph marks) (are : AreCells lib layer marks cells) (top : ℕ) (m : IsMarked marks top) (loops : List (List Pt)) (far : Option ℕ) (walk : IsWalk cells top loops far) where
+module _ (lib : Library) (layer : Layer) (graph : List (List ℕ)) (marks : List Bool) (cells : List Cell) (links : IsLinked lib graph marks)
+    (are : AreCells lib layer marks cells) (top : ℕ) (m : IsMarked marks top) (loops : List (List Pt)) (far : Option ℕ)
+    (walk : IsWalk cells top loops far) where
   placement_of : (ps : List Pt) (at : ℕ) → IsShown cells top (λ p. p) ps at → IsOfPlacement lib layer top (λ p. p) ps at
   placement_of ps at s = let r = to_layout lib layer graph marks cells links are s.0 top s.1 (λ p. p) s.2 m s.3 s.4 in rw (s.5, s.6) r
 
-  gathered : (steps : List Step) (l : ℕ) (e : Element) (qs : List Pt) → IsPlacement lib top steps l e → Contains (loops_of layer e.body) qs → Contains loops (map (placed steps) qs) × (ArePointsWithin farthest (map (placed steps) qs) ⊎ IsAtMost far e.at)
+  gathered : (steps : List Step) (l : ℕ) (e : Element) (qs : List Pt) → IsPlacement lib top steps l e → Contains (loops_of layer e.body) qs
+      → Contains loops (map (placed steps) qs) × (ArePointsWithin farthest (map (placed steps) qs) ⊎ IsAtMost far e.at)
   gathered steps l e qs p q = walk.complete (map (placed steps) qs) e.at (from_layout lib layer graph marks cells links are steps top l (λ x. x) e qs m p.leads p.inside q)
 
   pub covers : (s : Pt) → SomeLoopCovers loops s ↔ IsInLayer lib top layer s
@@ -91,7 +96,8 @@ module _ (lib : Library) (layer : Layer) (graph : List (List ℕ)) (marks : List
     where
       last_marked : (ss : List Pass) (k l : ℕ) → IsMarked marks k → Passes cells k ss l → IsMarked marks l
       last_marked [] k l h e = rw (← e) h
-      last_marked (s ∷ ss) k l h e = let p = (are.marked k h).placed s.copies e.0 in last_marked ss s.copies.target l (links.closed k s.copies.target h (links.graph_of.refers k s.copies.target (p.0, p.1, p.2))) e.3
+      last_marked (s ∷ ss) k l h e = let p = (are.marked k h).placed s.copies e.0 in
+          last_marked ss s.copies.target l (links.closed k s.copies.target h (links.graph_of.refers k s.copies.target (p.0, p.1, p.2))) e.3
 
   pub nowhere_out : far ≡ None → IsNowhere lib top (IsOut lib top layer)
   nowhere_out none k e f =
@@ -105,8 +111,24 @@ module _ (lib : Library) (layer : Layer) (graph : List (List ℕ)) (marks : List
     some =
         let o = walk.out at some in
         let r = placement_of o.0 at o.1 in
-        let c = Contains-map (λ qs. map (placed r.0) qs) (loops_of layer r.2.body) r.3 r.5 in
-        (r.1, r.2, record { reached = leads_reach lib r.0 top r.1 r.4.leads; inside = r.4.inside; holds = (r.0, map (placed r.0) r.3, o.2.0, r.4, c, rw (← r.6) o.2.1, o.2.2) }, sym r.7);
+        let c = Contains-map (λ qs. map (placed r.0) qs) (loops_of layer r.2.body) r.3 r.5 in (
+          r.1,
+          r.2,
+          record {
+            reached = leads_reach lib r.0 top r.1 r.4.leads;
+            inside = r.4.inside;
+            holds = (
+              r.0,
+              map (placed r.0) r.3,
+              o.2.0,
+              r.4,
+              c,
+              rw (← r.6) o.2.1,
+              o.2.2,
+            );
+          },
+          sym r.7,
+        );
     least = λ k e f. not_before k e f;
   }
     where
@@ -115,4 +137,5 @@ module _ (lib : Library) (layer : Layer) (graph : List (List ℕ)) (marks : List
           let o = f.holds in
           let c = Contains-map_cases (λ qs. map (placed o.0) qs) (loops_of layer e.body) o.1 o.4 in
           let g = gathered o.0 k e c.0 o.3 c.1 in
-          ⊎_elim (λ (x : ArePointsWithin farthest (map (placed o.0) c.0)). absurd (o.6 (x o.2 (rw c.2 o.5)))) (λ (x : IsAtMost far e.at). let y : IsAtMost (Some at) e.at = rw some at x in y) g.1
+          ⊎_elim (λ (x : ArePointsWithin farthest (map (placed o.0) c.0)). absurd (o.6 (x o.2 (rw c.2 o.5))))
+          (λ (x : IsAtMost far e.at). let y : IsAtMost (Some at) e.at = rw some at x in y) g.1

@@ -66,4 +66,5 @@ IsRefusalOf lib chosen marks at f = (k : ℕ) × (e : Element) × IsMarked marks
 
 -- an element of a marked structure at this offset is refused
 abbrev pub HasRefusalAt : Library → Layer → List Bool → ℕ → Type 0
-HasRefusalAt lib chosen marks at = (k : ℕ) × (e : Element) × (k < length marks) × IsMarked marks k × Contains (elements_at lib k) e × (e.at ≡ at) × (f : ElementFault) × IsRefusedFor chosen e.body f
+HasRefusalAt lib chosen marks at = (k : ℕ) × (e : Element) × (k < length marks) × IsMarked marks k × Contains (elements_at lib k) e
+    × (e.at ≡ at) × (f : ElementFault) × IsRefusedFor chosen e.body f

@@ -2,7 +2,8 @@
 use Rattle.std.proofs.Common.{◌≡◌, ◌≢◌, ℕ, ◌+◌, ◌-◌, ◌<◌, inl, inr, List, [], ◌∷◌, ◌++◌, map, replicate, length, length-append, set, get_or, sym, ap, subst, ◌∙◌, arith}
 use Rattle.std.specs.List.{Contains}
 use Rattle.std.proofs.lemmas.Bool.{cases_eq, cases_lt}
-use Rattle.std.proofs.lemmas.List.{get_or_default, get_or-map, length-set, get_or_append_left, get_or-append-add, get_or_push, get_or-set_same, get_or-set_other, get_or-replicate, length-replicate}
+use Rattle.std.proofs.lemmas.List.{get_or_default, get_or-map, length-set, get_or_append_left, get_or-append-add, get_or_push}
+use Rattle.std.proofs.lemmas.List.{get_or-set_same, get_or-set_other, get_or-replicate, length-replicate}
 use Rattle.std.proofs.lemmas.List.Elements.{All-contains}
 use Rattle.dpl_spec_split.specs.Graphs.{graph_of}
 use Rattle.dpl_graph.specs.Levels.{AreEdgesBelow}
@@ -60,11 +61,17 @@ links-none edges n last before is none = record {
   links = λ k l. absurd (omega (arith, l));
 }
 
-head_step : (edges : List (ℕ × ℕ)) (b v from p q : ℕ) → (arc_at edges b).0 ≡ from → IsLastArc edges v b p → (v ≡ from → q ≡ b + 1) → (v ≢ from → q ≡ p) → IsLastArc edges v (b + 1) q
+head_step : (edges : List (ℕ × ℕ)) (b v from p q : ℕ) → (arc_at edges b).0 ≡ from → IsLastArc edges v b p → (v ≡ from → q ≡ b + 1)
+    → (v ≢ from → q ≡ p) → IsLastArc edges v (b + 1) q
 head_step edges b v from p q at h same other = elim (cases_eq v from) [
   | inl e ↦
       let is = same e in
-      record { none = λ k l m. absurd (omega (arith, is, l, m)); within = omega (arith, is); leaves = λ k f. (let one : k ≡ b = omega (arith, is, f) in ap (λ j. (arc_at edges j).0) one ∙ (at ∙ sym e)) }
+      record {
+        none = λ k l m. absurd (omega (arith, is, l, m));
+        within = omega (arith, is);
+        leaves = λ k f.
+            (let one : k ≡ b = omega (arith, is, f) in ap (λ j. (arc_at edges j).0) one ∙ (at ∙ sym e));
+      }
   | inr ne ↦
       let is = other ne in
       let within = h.within in
@@ -92,7 +99,9 @@ links-step edges n b from last before last' before' h at from_in last_is before_
       links = λ k l. elim (cases_eq k b) [
         | inl same ↦
             let is : get_or before' k 0 ≡ get_or last from 0 = ap (λ xs. get_or xs k 0) before_is ∙ get_or_push before (get_or last from 0) 0 k (as_many_arcs ∙ sym same) in
-            subst (λ p. IsLastArc edges (arc_at edges k).0 k p) (sym is) (subst (λ j. IsLastArc edges (arc_at edges j).0 j (get_or last from 0)) (sym same) (subst (λ w. IsLastArc edges w b (get_or last from 0)) (sym at) (h.heads from from_in)))
+            subst (λ p. IsLastArc edges (arc_at edges k).0 k p) (sym is)
+            (subst (λ j. IsLastArc edges (arc_at edges j).0 j (get_or last from 0)) (sym same)
+            (subst (λ w. IsLastArc edges w b (get_or last from 0)) (sym at) (h.heads from from_in)))
         | inr ne ↦
             let small : k < length before = omega (arith, l, ne, as_many_arcs) in
             let is : get_or before' k 0 ≡ get_or before k 0 = ap (λ xs. get_or xs k 0) before_is ∙ get_or_append_left before (get_or last from 0 ∷ []) 0 k small in

@@ -36,11 +36,14 @@ path-one joined root top t v e a = record {
   ends = one_ends joined top v e;
 }
 
-more_levels : (joined : Graph) (root top t v : ℕ) (us : List ℕ) → IsPath joined root top t us → IsDistance joined root v (suc (t + length us)) → (k m : ℕ) → k < suc (length us) → m + k ≡ t + suc (length us) → IsDistance joined root (get_or (v ∷ us) k 0) m
+more_levels : (joined : Graph) (root top t v : ℕ) (us : List ℕ) → IsPath joined root top t us
+    → IsDistance joined root v (suc (t + length us)) → (k m : ℕ) → k < suc (length us) → m + k ≡ t + suc (length us)
+    → IsDistance joined root (get_or (v ∷ us) k 0) m
 more_levels joined root top t v us p a zero m l e = distance_to joined root v (suc (t + length us)) m a (omega arith)
 more_levels joined root top t v us p a (suc k) m l e = p.levels k m (omega arith) (omega arith)
 
-more_joins : (joined : Graph) (root top t v : ℕ) (us : List ℕ) → IsPath joined root top t us → joined v (get_or us 0 0) → (k : ℕ) → suc k < suc (length us) → joined (get_or (v ∷ us) k 0) (get_or us k 0)
+more_joins : (joined : Graph) (root top t v : ℕ) (us : List ℕ) → IsPath joined root top t us → joined v (get_or us 0 0) → (k : ℕ)
+    → suc k < suc (length us) → joined (get_or (v ∷ us) k 0) (get_or us k 0)
 more_joins joined root top t v us p e zero l = e
 more_joins joined root top t v us p e (suc k) l = p.joins k (omega arith)
 
@@ -48,7 +51,8 @@ more_ends : (joined : Graph) (root top t v : ℕ) (us : List ℕ) → IsPath joi
 more_ends joined root top t v us p zero l = absurd (let s : 0 < length us = p.some in omega arith)
 more_ends joined root top t v us p (suc k) l = p.ends k (omega arith)
 
-pub path-more : (joined : Graph) (root top t v : ℕ) (us : List ℕ) → joined v (get_or us 0 0) → IsDistance joined root v (suc (t + length us)) → IsPath joined root top t us → IsPath joined root top t (v ∷ us)
+pub path-more : (joined : Graph) (root top t v : ℕ) (us : List ℕ) → joined v (get_or us 0 0)
+    → IsDistance joined root v (suc (t + length us)) → IsPath joined root top t us → IsPath joined root top t (v ∷ us)
 path-more joined root top t v us e a p = record {
   some = omega arith;
   levels = more_levels joined root top t v us p a;
@@ -101,33 +105,44 @@ levels_differ joined root x y m n a b ne e = ne (distance-unique joined root y m
 
 place_level : (joined : Graph) {root u v top : ℕ} {us vs : List ℕ} (f : Fork joined root u v top us vs) (i x : ℕ) → Place top us vs i x → (m : ℕ) × IsDistance joined root x m
 place_level joined {root = root} f i x (at_top o e) = (f.t, subst (λ y. IsDistance joined root y f.t) (sym e) f.level)
-place_level joined {root = root} {us = us} f i x (at_first k o l e) = (f.t + i, subst (λ y. IsDistance joined root y (f.t + i)) (sym e) (f.first.levels k (f.t + i) l (omega (arith, o))))
-place_level joined {root = root} {us = us} {vs = vs} f i x (at_second k o l e) = let m : ℕ = f.t + (length vs - k) in (m, subst (λ y. IsDistance joined root y m) (sym e) (f.second.levels k m l (omega (arith, l))))
+place_level joined {root = root} {us = us} f i x (at_first k o l e) = (
+  f.t + i,
+  subst (λ y. IsDistance joined root y (f.t + i)) (sym e)
+      (f.first.levels k (f.t + i) l (omega (arith, o))),
+)
+place_level joined {root = root} {us = us} {vs = vs} f i x (at_second k o l e) = let m : ℕ = f.t + (length vs - k) in
+    (m, subst (λ y. IsDistance joined root y m) (sym e) (f.second.levels k m l (omega (arith, l))))
 
 places_differ : (joined : Graph) {root u v top : ℕ} {us vs : List ℕ} (f : Fork joined root u v top us vs) (i j x y : ℕ) → i < j → Place top us vs i x → Place top us vs j y → x ≢ y
 places_differ joined f i j x y l (at_top o e) (at_top p g) = absurd (omega (arith, l, o, p))
 places_differ joined {root = root} f i j x y l (at_top o e) (at_first k p h g) =
     λ is. levels_differ joined root _ _ f.t (f.t + j) f.level (f.first.levels k (f.t + j) h (omega (arith, p))) (λ z. omega (arith, z, l)) (sym e ∙ (is ∙ g))
 places_differ joined {root = root} {vs = vs} f i j x y l (at_top o e) (at_second k p h g) =
-    λ is. levels_differ joined root _ _ f.t (f.t + (length vs - k)) f.level (f.second.levels k (f.t + (length vs - k)) h (omega (arith, h))) (λ z. omega (arith, z, h)) (sym e ∙ (is ∙ g))
+    λ is. levels_differ joined root _ _ f.t (f.t + (length vs - k)) f.level
+    (f.second.levels k (f.t + (length vs - k)) h (omega (arith, h))) (λ z. omega (arith, z, h)) (sym e ∙ (is ∙ g))
 places_differ joined f i j x y l (at_first k o h e) (at_top p g) = absurd (omega (arith, l, p))
 places_differ joined {root = root} f i j x y l (at_first k o h e) (at_first m p q g) =
-    λ is. levels_differ joined root _ _ (f.t + i) (f.t + j) (f.first.levels k (f.t + i) h (omega (arith, o))) (f.first.levels m (f.t + j) q (omega (arith, p))) (λ z. omega (arith, z, l)) (sym e ∙ (is ∙ g))
+    λ is. levels_differ joined root _ _ (f.t + i) (f.t + j) (f.first.levels k (f.t + i) h (omega (arith, o)))
+    (f.first.levels m (f.t + j) q (omega (arith, p))) (λ z. omega (arith, z, l)) (sym e ∙ (is ∙ g))
 places_differ joined {root = root} {us = us} {vs = vs} f i j x y l (at_first k o h e) (at_second m p q g) =
     let n : ℕ = f.t + (length vs - m) in
     elim (cases_eq k m) [
       | inl same ↦ λ is. f.apart k h (sym e ∙ (is ∙ (g ∙ ap (λ a. get_or vs a 0) (sym same))))
-      | inr ne ↦ λ is. levels_differ joined root _ _ (f.t + i) n (f.first.levels k (f.t + i) h (omega (arith, o))) (f.second.levels m n q (omega (arith, q))) (λ z. ne (let meet = f.meet in omega (arith, z, o, q, meet))) (sym e ∙ (is ∙ g))
+      | inr ne ↦ λ is. levels_differ joined root _ _ (f.t + i) n (f.first.levels k (f.t + i) h (omega (arith, o)))
+          (f.second.levels m n q (omega (arith, q))) (λ z. ne (let meet = f.meet in omega (arith, z, o, q, meet))) (sym e ∙ (is ∙ g))
     ]
 places_differ joined f i j x y l (at_second k o h e) (at_top p g) = absurd (omega (arith, l, p))
 places_differ joined f i j x y l (at_second k o h e) (at_first m p q g) = absurd (omega (arith, l, o, p))
 places_differ joined {root = root} {us = us} {vs = vs} f i j x y l (at_second k o h e) (at_second m p q g) =
-    λ is. levels_differ joined root _ _ (f.t + (length vs - k)) (f.t + (length vs - m)) (f.second.levels k (f.t + (length vs - k)) h (omega (arith, h))) (f.second.levels m (f.t + (length vs - m)) q (omega (arith, q))) (λ z. omega (arith, z, l, o, p, h, q)) (sym e ∙ (is ∙ g))
+    λ is. levels_differ joined root _ _ (f.t + (length vs - k)) (f.t + (length vs - m))
+    (f.second.levels k (f.t + (length vs - k)) h (omega (arith, h))) (f.second.levels m (f.t + (length vs - m)) q (omega (arith, q)))
+    (λ z. omega (arith, z, l, o, p, h, q)) (sym e ∙ (is ∙ g))
 
 joined_as : (joined : Graph) (a b x y : ℕ) → joined a b → x ≡ a → y ≡ b → joined x y
 joined_as joined a b x y h e g = subst (λ p. joined p y) (sym e) (subst (λ q. joined a q) (sym g) h)
 
-next_joined : (joined : Graph) → IsUndirected joined → {root u v top : ℕ} {us vs : List ℕ} (f : Fork joined root u v top us vs) → joined u v → (i j x y : ℕ) → j ≡ suc i → Place top us vs i x → Place top us vs j y → joined x y
+next_joined : (joined : Graph) → IsUndirected joined → {root u v top : ℕ} {us vs : List ℕ} (f : Fork joined root u v top us vs)
+    → joined u v → (i j x y : ℕ) → j ≡ suc i → Place top us vs i x → Place top us vs j y → joined x y
 next_joined joined un f uv i j x y is (at_top o e) (at_top p g) = absurd (omega (arith, is, o, p))
 next_joined joined un f uv i j x y is (at_top o e) (at_first k p h g) = joined_as joined _ _ x y (un.both _ _ (f.first.ends k (omega (arith, is, o, p)))) e g
 next_joined joined un {us = us} {vs = vs} f uv i j x y is (at_top o e) (at_second k p h g) = absurd (let meet = f.meet in omega (arith, is, o, p, h, meet))
@@ -152,7 +167,8 @@ last_joined joined {us = us} {vs = vs} f i x is (at_top o e) = absurd (let s = f
 last_joined joined {us = us} {vs = vs} f i x is (at_first k o h e) = absurd (let s = f.second.some in omega (arith, is, o, s))
 last_joined joined {us = us} {vs = vs} f i x is (at_second k o h e) = joined_as joined _ _ x _ (f.second.ends k (omega (arith, is, o))) e refl
 
-around_it : (joined : Graph) → IsUndirected joined → {root u v top : ℕ} {us vs : List ℕ} (f : Fork joined root u v top us vs) → joined u v → (n : ℕ) → n ≡ suc (length us + length vs) → (i : ℕ) → i < n
+around_it : (joined : Graph) → IsUndirected joined → {root u v top : ℕ} {us vs : List ℕ} (f : Fork joined root u v top us vs) → joined u v
+    → (n : ℕ) → n ≡ suc (length us + length vs) → (i : ℕ) → i < n
     → joined (get_or (top ∷ reverse us ++ vs) i 0) (get_or (top ∷ reverse us ++ vs) ((i + 1) % n) 0)
 around_it joined un {top = top} {us = us} {vs = vs} f uv n len i l =
     let here = place top us vs f.meet i 0 (let e = len in omega (arith, e, l)) in
@@ -167,7 +183,8 @@ around_it joined un {top = top} {us = us} {vs = vs} f uv n len i l =
           subst (λ j. joined (get_or (top ∷ reverse us ++ vs) i 0) (get_or (top ∷ reverse us ++ vs) j 0)) (sym next) (last_joined joined f i _ (omega (arith, at_end, len)) here)
     ]
 
-pub fork-cycle : (joined : Graph) → IsUndirected joined → {root u v top : ℕ} {us vs : List ℕ} (f : Fork joined root u v top us vs) → joined u v → IsOddCycle joined (top ∷ reverse us ++ vs)
+pub fork-cycle : (joined : Graph) → IsUndirected joined → {root u v top : ℕ} {us vs : List ℕ} (f : Fork joined root u v top us vs)
+    → joined u v → IsOddCycle joined (top ∷ reverse us ++ vs)
 fork-cycle joined un {top = top} {us = us} {vs = vs} f uv =
     let len : length (top ∷ reverse us ++ vs) ≡ suc (length us + length vs) = cycle_length top us vs in
     let some = f.first.some in
@@ -175,7 +192,8 @@ fork-cycle joined un {top = top} {us = us} {vs = vs} f uv =
     record {
       three = omega (arith, len, some, meet);
       odd = ap (λ k. k % 2) len ∙ (let e : suc (length us + length vs) % 2 ≡ 1 = omega (arith, meet) in e);
-      different = λ i j d l within. places_differ joined f i j _ _ l (place top us vs meet i d (omega (arith, len, l, within))) (place top us vs meet j d (omega (arith, len, within)));
+      different = λ i j d l within. places_differ joined f i j _ _ l (place top us vs meet i d (omega (arith, len, l, within)))
+          (place top us vs meet j d (omega (arith, len, within)));
       around = around_it joined un f uv (length (top ∷ reverse us ++ vs)) len;
     }
 
@@ -190,14 +208,16 @@ one_apart : (u v : ℕ) → u ≢ v → (k : ℕ) → k < 1 → get_or (u ∷ []
 one_apart u v ne zero l = ne
 one_apart u v ne (suc k) l = absurd (omega (arith, l))
 
-more_apart : (u v : ℕ) (us vs : List ℕ) → u ≢ v → ((k : ℕ) → k < length us → get_or us k 0 ≢ get_or vs k 0) → (k : ℕ) → k < suc (length us) → get_or (u ∷ us) k 0 ≢ get_or (v ∷ vs) k 0
+more_apart : (u v : ℕ) (us vs : List ℕ) → u ≢ v → ((k : ℕ) → k < length us → get_or us k 0 ≢ get_or vs k 0) → (k : ℕ) → k < suc (length us)
+    → get_or (u ∷ us) k 0 ≢ get_or (v ∷ vs) k 0
 more_apart u v us vs ne rest zero l = ne
 more_apart u v us vs ne rest (suc k) l = rest k (omega arith)
 
 Forked : Graph → ℕ → ℕ → ℕ → Type 0
 Forked joined root u v = (top : ℕ) × (us : List ℕ) × (vs : List ℕ) × Fork joined root u v top us vs
 
-fork_one : (joined : Graph) (root u v p n : ℕ) → u ≢ v → joined u p → joined v p → IsDistance joined root p n → IsDistance joined root u (suc n) → IsDistance joined root v (suc n) → Fork joined root u v p (u ∷ []) (v ∷ [])
+fork_one : (joined : Graph) (root u v p n : ℕ) → u ≢ v → joined u p → joined v p → IsDistance joined root p n
+    → IsDistance joined root u (suc n) → IsDistance joined root v (suc n) → Fork joined root u v p (u ∷ []) (v ∷ [])
 fork_one joined root u v p n ne e g at a b = record {
   t = n;
   level = at;
@@ -209,13 +229,16 @@ fork_one joined root u v p n ne e g at a b = record {
   apart = one_apart u v ne;
 }
 
-longer : (joined : Graph) (root u p top t n : ℕ) (us : List ℕ) → joined u p → IsDistance joined root p n → IsDistance joined root u (suc n) → IsPath joined root top t us → get_or us 0 0 ≡ p → IsPath joined root top t (u ∷ us)
+longer : (joined : Graph) (root u p top t n : ℕ) (us : List ℕ) → joined u p → IsDistance joined root p n → IsDistance joined root u (suc n)
+    → IsPath joined root top t us → get_or us 0 0 ≡ p → IsPath joined root top t (u ∷ us)
 longer joined root u p top t n us e at a path from =
     let some = path.some in
-    let same : n ≡ t + length us = distance-unique joined root p n (t + length us) at (subst (λ x. IsDistance joined root x (t + length us)) from (path.levels 0 (t + length us) some (omega arith))) in
+    let same : n ≡ t + length us = distance-unique joined root p n (t + length us) at
+    (subst (λ x. IsDistance joined root x (t + length us)) from (path.levels 0 (t + length us) some (omega arith))) in
     path-more joined root top t u us (subst (λ x. joined u x) (sym from) e) (distance_to joined root u (suc n) (suc (t + length us)) a (omega arith)) path
 
-fork_more : (joined : Graph) (root u v p q n top : ℕ) (us vs : List ℕ) → u ≢ v → joined u p → joined v q → IsDistance joined root p n → IsDistance joined root q n → IsDistance joined root u (suc n) → IsDistance joined root v (suc n)
+fork_more : (joined : Graph) (root u v p q n top : ℕ) (us vs : List ℕ) → u ≢ v → joined u p → joined v q → IsDistance joined root p n
+    → IsDistance joined root q n → IsDistance joined root u (suc n) → IsDistance joined root v (suc n)
     → Fork joined root p q top us vs → Fork joined root u v top (u ∷ us) (v ∷ vs)
 fork_more joined root u v p q n top us vs ne e g at bt a b f = record {
   t = f.t;

@@ -35,13 +35,15 @@ pub noted_other_level : {b now l : ℕ} {x y : Reached} → IsNoted b now l x y 
 noted_other_level {b = b} {l = l} {x = x} h v ne = ap (λ xs. get_or xs v 0) h.levels ∙ get_or-set_other x.levels.items b v l 0 ne
 
 pub new_root : {edges : List (ℕ × ℕ)} {n bound now head b l : ℕ} {x y : Reached} → Noting edges n bound now head b l x y → root_in y b ≡ now
-new_root {now = now} {b = b} {x = x} h = ap (λ xs. get_or xs b 0) h.noted.roots ∙ get_or-set_same x.roots.items b now 0 (let m = h.grown.as_many_roots in let i = h.b_in in omega (arith, m, i))
+new_root {now = now} {b = b} {x = x} h = ap (λ xs. get_or xs b 0) h.noted.roots ∙ get_or-set_same x.roots.items b now 0
+    (let m = h.grown.as_many_roots in let i = h.b_in in omega (arith, m, i))
 
 old_root : {edges : List (ℕ × ℕ)} {n bound now head b l : ℕ} {x y : Reached} → Noting edges n bound now head b l x y → (v : ℕ) → v ≢ b → root_in y v ≡ root_in x v
 old_root {now = now} {b = b} {x = x} h v ne = ap (λ xs. get_or xs v 0) h.noted.roots ∙ get_or-set_other x.roots.items b v now 0 ne
 
 pub new_level : {edges : List (ℕ × ℕ)} {n bound now head b l : ℕ} {x y : Reached} → Noting edges n bound now head b l x y → level_in y b ≡ l
-new_level {b = b} {l = l} {x = x} h = ap (λ xs. get_or xs b 0) h.noted.levels ∙ get_or-set_same x.levels.items b l 0 (let m = h.grown.as_many_levels in let i = h.b_in in omega (arith, m, i))
+new_level {b = b} {l = l} {x = x} h = ap (λ xs. get_or xs b 0) h.noted.levels ∙ get_or-set_same x.levels.items b l 0
+    (let m = h.grown.as_many_levels in let i = h.b_in in omega (arith, m, i))
 
 old_level : {edges : List (ℕ × ℕ)} {n bound now head b l : ℕ} {x y : Reached} → Noting edges n bound now head b l x y → (v : ℕ) → v ≢ b → level_in y v ≡ level_in x v
 old_level {b = b} {l = l} {x = x} h v ne = ap (λ xs. get_or xs v 0) h.noted.levels ∙ get_or-set_other x.levels.items b v l 0 ne
@@ -52,7 +54,8 @@ one_more {b = b} {x = x} h = ap (λ xs. let ys : List ℕ = xs in length ys) h.n
 pub new_place : {edges : List (ℕ × ℕ)} {n bound now head b l : ℕ} {x y : Reached} → Noting edges n bound now head b l x y → (j : ℕ) → j ≡ reached_count x → place_in y j ≡ b
 new_place {b = b} {x = x} h j e = ap (λ xs. get_or xs j 0) h.noted.order ∙ get_or_push x.order.items b 0 j (sym e)
 
-pub old_place : {edges : List (ℕ × ℕ)} {n bound now head b l : ℕ} {x y : Reached} → Noting edges n bound now head b l x y → (j : ℕ) → j < reached_count x → place_in y j ≡ place_in x j
+pub old_place : {edges : List (ℕ × ℕ)} {n bound now head b l : ℕ} {x y : Reached} → Noting edges n bound now head b l x y → (j : ℕ)
+    → j < reached_count x → place_in y j ≡ place_in x j
 old_place {b = b} {x = x} h j l = ap (λ xs. get_or xs j 0) h.noted.order ∙ get_or_append_left x.order.items (b ∷ []) 0 j l
 
 -- what was reached is not b, and stays as it was
@@ -75,7 +78,8 @@ was_reached {b = b} h v reached = elim (cases_eq v b) [
   | inr ne ↦ inr (λ e. reached (old_root h v ne ∙ e))
 ]
 
-now_listed : {edges : List (ℕ × ℕ)} {n bound now head b l : ℕ} {x y : Reached} → Noting edges n bound now head b l x y → (j : ℕ) → j < reached_count y → (j ≡ reached_count x) ⊎ (j < reached_count x)
+now_listed : {edges : List (ℕ × ℕ)} {n bound now head b l : ℕ} {x y : Reached} → Noting edges n bound now head b l x y → (j : ℕ)
+    → j < reached_count y → (j ≡ reached_count x) ⊎ (j < reached_count x)
 now_listed {x = x} h j l = let e = one_more h in elim (cases_eq j (reached_count x)) [ inl same ↦ inl same | inr ne ↦ inr (omega (arith, e, l, ne)) ]
 
 note_count : {edges : List (ℕ × ℕ)} {n bound now head b l : ℕ} {x y : Reached} → Noting edges n bound now head b l x y → count_by (λ v. v == n) y.roots.items + reached_count y ≡ n
@@ -86,13 +90,15 @@ note_count {n = n} {now = now} {b = b} {x = x} {y = y} h =
     let within : b < length x.roots.items = omega (arith, m, i) in
     let old : f (get_or x.roots.items b 0) ≡ 1 = ap (λ t. cond t 1 0) (eq-eqb (root_in x b) n h.unreached) in
     let new : f now ≡ 0 = ap (λ t. cond t 1 0) (ne_eqb now n (now_reached h)) in
-    let moved : count_by (λ v. v == n) (set x.roots.items b now) + f (get_or x.roots.items b 0) ≡ count_by (λ v. v == n) x.roots.items + f now = sum_by-set f x.roots.items b now 0 within in
+    let moved : count_by (λ v. v == n) (set x.roots.items b now) + f (get_or x.roots.items b 0) ≡ count_by
+    (λ v. v == n) x.roots.items + f now = sum_by-set f x.roots.items b now 0 within in
     let is : count_by (λ v. v == n) y.roots.items ≡ count_by (λ v. v == n) (set x.roots.items b now) = ap (λ xs. count_by (λ v. v == n) xs) h.noted.roots in
     let more = one_more h in
     let was = h.grown.count in
     omega (arith, old, new, moved, is, more, was)
 
-note_listed : {edges : List (ℕ × ℕ)} {n bound now head b l : ℕ} {x y : Reached} → Noting edges n bound now head b l x y → (j : ℕ) → j < reached_count y → (place_in y j < n) × (root_in y (place_in y j) ≢ n)
+note_listed : {edges : List (ℕ × ℕ)} {n bound now head b l : ℕ} {x y : Reached} → Noting edges n bound now head b l x y → (j : ℕ)
+    → j < reached_count y → (place_in y j < n) × (root_in y (place_in y j) ≢ n)
 note_listed {n = n} {x = x} {y = y} h j l = elim (now_listed h j l) [
   | inl at ↦ subst (λ v. (v < n) × (root_in y v ≢ n)) (sym (new_place h j at)) (h.b_in, λ e. now_reached h (sym (new_root h) ∙ e))
   | inr less ↦
@@ -100,7 +106,8 @@ note_listed {n = n} {x = x} {y = y} h j l = elim (now_listed h j l) [
       subst (λ v. (v < n) × (root_in y v ≢ n)) (sym (old_place h j less)) (within, λ e. reached (sym (kept_root h (place_in x j) reached) ∙ e))
 ]
 
-note_found : {edges : List (ℕ × ℕ)} {n bound now head b l : ℕ} {x y : Reached} → Noting edges n bound now head b l x y → (v : ℕ) → v < n → root_in y v ≢ n → (j : ℕ) × (j < reached_count y) × (place_in y j ≡ v)
+note_found : {edges : List (ℕ × ℕ)} {n bound now head b l : ℕ} {x y : Reached} → Noting edges n bound now head b l x y → (v : ℕ) → v < n
+    → root_in y v ≢ n → (j : ℕ) × (j < reached_count y) × (place_in y j ≡ v)
 note_found {x = x} h v l reached =
     let more = one_more h in
     elim (was_reached h v reached) [
@@ -108,11 +115,13 @@ note_found {x = x} h v l reached =
       | inr was ↦ let (j, j_in, is) = h.grown.found v l was in (j, omega (arith, more, j_in), old_place h j j_in ∙ is)
     ]
 
-note_sound : {edges : List (ℕ × ℕ)} {n bound now head b l : ℕ} {x y : Reached} → Noting edges n bound now head b l x y → (v : ℕ) → v < n → root_in y v ≢ n → Walk (graph_of edges) (root_in y v) v (level_in y v)
+note_sound : {edges : List (ℕ × ℕ)} {n bound now head b l : ℕ} {x y : Reached} → Noting edges n bound now head b l x y → (v : ℕ) → v < n
+    → root_in y v ≢ n → Walk (graph_of edges) (root_in y v) v (level_in y v)
 note_sound {edges = edges} {now = now} {b = b} {l = l} {x = x} {y = y} h v within reached = elim (was_reached h v reached) [
   | inl e ↦ subst (λ w. Walk (graph_of edges) (root_in y w) w (level_in y w)) (sym e)
       (subst (λ r. Walk (graph_of edges) r b (level_in y b)) (sym (new_root h)) (subst (λ m. Walk (graph_of edges) now b m) (sym (new_level h)) h.walk))
-  | inr was ↦ subst (λ r. Walk (graph_of edges) r v (level_in y v)) (sym (kept_root h v was)) (subst (λ m. Walk (graph_of edges) (root_in x v) v m) (sym (kept_level h v was)) (h.grown.sound v within was))
+  | inr was ↦ subst (λ r. Walk (graph_of edges) r v (level_in y v)) (sym (kept_root h v was))
+      (subst (λ m. Walk (graph_of edges) (root_in x v) v m) (sym (kept_level h v was)) (h.grown.sound v within was))
 ]
 
 note_low : {edges : List (ℕ × ℕ)} {n bound now head b l : ℕ} {x y : Reached} → Noting edges n bound now head b l x y → (v : ℕ) → v < n → root_in y v ≢ n → root_in y v ≤ v
@@ -121,7 +130,8 @@ note_low {y = y} h v within reached = elim (was_reached h v reached) [
   | inr was ↦ let r = kept_root h v was in let m = h.grown.low v within was in omega (arith, r, m)
 ]
 
-note_shallow : {edges : List (ℕ × ℕ)} {n bound now head b l : ℕ} {x y : Reached} → Noting edges n bound now head b l x y → (v : ℕ) → v < n → root_in y v ≢ n → level_in y v < reached_count y
+note_shallow : {edges : List (ℕ × ℕ)} {n bound now head b l : ℕ} {x y : Reached} → Noting edges n bound now head b l x y → (v : ℕ) → v < n
+    → root_in y v ≢ n → level_in y v < reached_count y
 note_shallow {y = y} h v within reached =
     let more = one_more h in
     elim (was_reached h v reached) [
@@ -129,7 +139,8 @@ note_shallow {y = y} h v within reached =
       | inr was ↦ let r = kept_level h v was in let m = h.grown.shallow v within was in omega (arith, r, m, more)
     ]
 
-note_rooted : {edges : List (ℕ × ℕ)} {n bound now head b l : ℕ} {x y : Reached} → Noting edges n bound now head b l x y → (v : ℕ) → v < n → root_in y v ≢ n → (root_in y (root_in y v) ≡ root_in y v) × (level_in y (root_in y v) ≡ 0)
+note_rooted : {edges : List (ℕ × ℕ)} {n bound now head b l : ℕ} {x y : Reached} → Noting edges n bound now head b l x y → (v : ℕ) → v < n
+    → root_in y v ≢ n → (root_in y (root_in y v) ≡ root_in y v) × (level_in y (root_in y v) ≡ 0)
 note_rooted {n = n} {x = x} {y = y} h v within reached = elim (was_reached h v reached) [
   | inl e ↦ subst (λ r. (root_in y r ≡ r) × (level_in y r ≡ 0)) (sym (ap (λ w. root_in y w) e ∙ new_root h)) h.rooted
   | inr was ↦
@@ -138,7 +149,9 @@ note_rooted {n = n} {x = x} {y = y} h v within reached = elim (was_reached h v r
       subst (λ r. (root_in y r ≡ r) × (level_in y r ≡ 0)) (sym (kept_root h v was)) (kept_root h (root_in x v) up ∙ self, kept_level h (root_in x v) up ∙ none)
 ]
 
-note_closed : {edges : List (ℕ × ℕ)} {n bound now head b l : ℕ} {x y : Reached} → Noting edges n bound now head b l x y → (j : ℕ) → j < head → (w : ℕ) → graph_of edges (place_in y j) w → (root_in y w ≡ root_in y (place_in y j)) × (level_in y w ≤ suc (level_in y (place_in y j)))
+note_closed : {edges : List (ℕ × ℕ)} {n bound now head b l : ℕ} {x y : Reached} → Noting edges n bound now head b l x y → (j : ℕ)
+    → j < head → (w : ℕ) → graph_of edges (place_in y j) w → (root_in y w ≡ root_in y (place_in y j))
+    × (level_in y w ≤ suc (level_in y (place_in y j)))
 note_closed {edges = edges} {n = n} {x = x} {y = y} h j l w e =
     let within = h.grown.within in
     let j_in : j < reached_count x = omega (arith, l, within) in
@@ -152,19 +165,23 @@ note_closed {edges = edges} {n = n} {x = x} {y = y} h j l w e =
     subst (λ v. (root_in y w ≡ root_in y v) × (level_in y w ≤ suc (level_in y v))) (sym at)
     (kept_root h w w_reached ∙ (same ∙ sym (kept_root h o reached)), omega (arith, near, lw, lo))
 
-note_same : {edges : List (ℕ × ℕ)} {n bound now head b l : ℕ} {x y : Reached} → Noting edges n bound now head b l x y → (j : ℕ) → head ≤ j → j < reached_count y → root_in y (place_in y j) ≡ now
+note_same : {edges : List (ℕ × ℕ)} {n bound now head b l : ℕ} {x y : Reached} → Noting edges n bound now head b l x y → (j : ℕ) → head ≤ j
+    → j < reached_count y → root_in y (place_in y j) ≡ now
 note_same {x = x} {y = y} h j from l = elim (now_listed h j l) [
   | inl at ↦ ap (λ v. root_in y v) (new_place h j at) ∙ new_root h
   | inr less ↦ ap (λ v. root_in y v) (old_place h j less) ∙ (kept_root h (place_in x j) (h.grown.listed j less).1 ∙ h.grown.same j from less)
 ]
 
-level_new : {edges : List (ℕ × ℕ)} {n bound now head b l : ℕ} {x y : Reached} → Noting edges n bound now head b l x y → (j : ℕ) → j ≡ reached_count x → level_in y (place_in y j) ≡ l
+level_new : {edges : List (ℕ × ℕ)} {n bound now head b l : ℕ} {x y : Reached} → Noting edges n bound now head b l x y → (j : ℕ)
+    → j ≡ reached_count x → level_in y (place_in y j) ≡ l
 level_new {y = y} h j at = ap (λ v. level_in y v) (new_place h j at) ∙ new_level h
 
-level_old : {edges : List (ℕ × ℕ)} {n bound now head b l : ℕ} {x y : Reached} → Noting edges n bound now head b l x y → (j : ℕ) → j < reached_count x → level_in y (place_in y j) ≡ level_in x (place_in x j)
+level_old : {edges : List (ℕ × ℕ)} {n bound now head b l : ℕ} {x y : Reached} → Noting edges n bound now head b l x y → (j : ℕ)
+    → j < reached_count x → level_in y (place_in y j) ≡ level_in x (place_in x j)
 level_old {x = x} {y = y} h j less = ap (λ v. level_in y v) (old_place h j less) ∙ kept_level h (place_in x j) (h.grown.listed j less).1
 
-note_rising : {edges : List (ℕ × ℕ)} {n bound now head b l : ℕ} {x y : Reached} → Noting edges n bound now head b l x y → (i j : ℕ) → head ≤ i → i ≤ j → j < reached_count y → level_in y (place_in y i) ≤ level_in y (place_in y j)
+note_rising : {edges : List (ℕ × ℕ)} {n bound now head b l : ℕ} {x y : Reached} → Noting edges n bound now head b l x y → (i j : ℕ)
+    → head ≤ i → i ≤ j → j < reached_count y → level_in y (place_in y i) ≤ level_in y (place_in y j)
 note_rising {x = x} {y = y} h i j from up l = elim (now_listed h j l) [
   | inl at ↦
       let lj = level_new h j at in
@@ -180,7 +197,8 @@ note_rising {x = x} {y = y} h i j from up l = elim (now_listed h j l) [
       omega (arith, li, lj, m)
 ]
 
-note_near : {edges : List (ℕ × ℕ)} {n bound now head b l : ℕ} {x y : Reached} → Noting edges n bound now head b l x y → (v : ℕ) → v < n → root_in y v ≡ now → (j : ℕ) → head ≤ j → j < reached_count y → level_in y v ≤ suc (level_in y (place_in y j))
+note_near : {edges : List (ℕ × ℕ)} {n bound now head b l : ℕ} {x y : Reached} → Noting edges n bound now head b l x y → (v : ℕ) → v < n
+    → root_in y v ≡ now → (j : ℕ) → head ≤ j → j < reached_count y → level_in y v ≤ suc (level_in y (place_in y j))
 note_near {n = n} {now = now} {b = b} {x = x} {y = y} h v within is j from l = elim (cases_eq v b) [
   | inl e ↦
       let lv : level_in y v ≡ _ = ap (λ w. level_in y w) e ∙ new_level h in

@@ -19,8 +19,11 @@ levels-show edges o root = (cycle_at edges o root, level-cycle (graph_of edges) 
 some_root : (edges : List (ℕ × ℕ)) → AreOrdered edges → HasOddCycle (graph_of edges) → (root : ℕ) × IsRoot (graph_of edges) root root × HasLevelEdge (graph_of edges) root
 some_root edges o (cycle, c) =
     let un = graph_of-undirected edges o in
-    let (root, is) = graph_of-root edges (get_or cycle 0 0) in
-    (root, root-along (graph_of edges) un (get_or cycle 0 0) root root (Reaches-sym (graph_of edges) un is.reached) is, cycle-level (graph_of edges) un root (graph_of-distances edges root) cycle c is.reached)
+    let (root, is) = graph_of-root edges (get_or cycle 0 0) in (
+      root,
+      root-along (graph_of edges) un (get_or cycle 0 0) root root (Reaches-sym (graph_of edges) un is.reached) is,
+      cycle-level (graph_of edges) un root (graph_of-distances edges root) cycle c is.reached,
+    )
 
 some_cycle : (edges : List (ℕ × ℕ)) → AreOrdered edges → (root : ℕ) × IsRoot (graph_of edges) root root × HasLevelEdge (graph_of edges) root → HasOddCycle (graph_of edges)
 some_cycle edges o (root, is, h) =

@@ -26,7 +26,8 @@ one_apart i k j m ne a b e = elim (cases_order i k) [
   | inr h ↦ elim h [ inl l ↦ omega arith | inr l ↦ omega arith ]
 ]
 
-pub parity : (joined : Graph) → IsUndirected joined → (root : ℕ) → HasDistances joined root → {u v m : ℕ} → Walk joined u v m → (i j : ℕ) → IsDistance joined root u i → IsDistance joined root v j
+pub parity : (joined : Graph) → IsUndirected joined → (root : ℕ) → HasDistances joined root → {u v m : ℕ} → Walk joined u v m → (i j : ℕ)
+    → IsDistance joined root u i → IsDistance joined root v j
     → HasLevelEdge joined root ⊎ ((i + j + m) % 2 ≡ 0)
 parity joined un root dist {u = u} stay i j a b = let e = distance-unique joined root u i j a b in inr (omega (arith, e))
 parity joined un root dist {u = u} {m = m} (step {v = w} {n = n} f rest) i j a b =
@@ -39,7 +40,8 @@ parity joined un root dist {u = u} {m = m} (step {v = w} {n = n} f rest) i j a b
       ]
     ]
 
-pub odd-closed : (joined : Graph) → IsUndirected joined → (root : ℕ) → HasDistances joined root → (v m : ℕ) → Reaches joined root v → Walk joined v v m → m % 2 ≡ 1 → HasLevelEdge joined root
+pub odd-closed : (joined : Graph) → IsUndirected joined → (root : ℕ) → HasDistances joined root → (v m : ℕ) → Reaches joined root v
+    → Walk joined v v m → m % 2 ≡ 1 → HasLevelEdge joined root
 odd-closed joined un root dist v m (n, to) around odd =
     let (i, a) = dist v n to in
     elim (parity joined un root dist around i i a a) [
@@ -62,9 +64,11 @@ cycle-closed joined cycle c =
     let three : 3 ≤ n = c.three in
     let last : n - 1 < n = omega arith in
     let next : (n - 1 + 1) % n ≡ 0 = ap (λ k. k % n) (let e : n - 1 + 1 ≡ n = omega arith in e) ∙ mod_self n in
-    walk_to joined n (Walk-snoc joined (along joined cycle c (n - 1) last) (subst (λ x. joined (get_or cycle (n - 1) 0) (get_or cycle x 0)) next (c.around (n - 1) last))) (omega arith)
+    walk_to joined n (Walk-snoc joined (along joined cycle c (n - 1) last)
+    (subst (λ x. joined (get_or cycle (n - 1) 0) (get_or cycle x 0)) next (c.around (n - 1) last))) (omega arith)
 
-pub cycle-level : (joined : Graph) → IsUndirected joined → (root : ℕ) → HasDistances joined root → (cycle : List ℕ) → IsOddCycle joined cycle → Reaches joined root (get_or cycle 0 0) → HasLevelEdge joined root
+pub cycle-level : (joined : Graph) → IsUndirected joined → (root : ℕ) → HasDistances joined root → (cycle : List ℕ)
+    → IsOddCycle joined cycle → Reaches joined root (get_or cycle 0 0) → HasLevelEdge joined root
 cycle-level joined un root dist cycle c to = odd-closed joined un root dist (get_or cycle 0 0) (length cycle) to (cycle-closed joined cycle c) c.odd
 
 -- an edge that is level below any number of a component shows one that is level below its root

@@ -38,7 +38,8 @@ leads_or_not : (P : ℕ → Type 0) → ((w : ℕ) → P w ⊎ (P w → ⊥)) �
 unfolding Leads
 leads_or_not P decide u e = either_or_not _ _ (both_or_not _ _ (cases_eq e.0 u) (decide e.1)) (both_or_not _ _ (cases_eq e.1 u) (decide e.0))
 
-neighbour_or_not : (edges : List (ℕ × ℕ)) (P : ℕ → Type 0) → ((w : ℕ) → P w ⊎ (P w → ⊥)) → (u : ℕ) → ((w : ℕ) × graph_of edges u w × P w) ⊎ (((w : ℕ) × graph_of edges u w × P w) → ⊥)
+neighbour_or_not : (edges : List (ℕ × ℕ)) (P : ℕ → Type 0) → ((w : ℕ) → P w ⊎ (P w → ⊥)) → (u : ℕ) → ((w : ℕ) × graph_of edges u w × P w)
+    ⊎ (((w : ℕ) × graph_of edges u w × P w) → ⊥)
 unfolding Leads
 neighbour_or_not edges P decide u = elim (search_pairs (Leads P u) (leads_or_not P decide u) edges) [
   | inl (e, h, q) ↦ elim q [
@@ -122,11 +123,13 @@ against_it x es w (inr (inr (r, s))) = inr (inr ((0, stay), s))
 
 passes_step : (x : ℕ × ℕ) (es : List (ℕ × ℕ)) (u v w : ℕ) → graph_of (x ∷ es) u v → Passes x es v w → Passes x es u w
 passes_step x es u v w (inl h) p = elim (Contains-cases x (u, v) es h) [
-  | inl same ↦ subst (λ k. Passes x es k w) (ap (λ e. let f : ℕ × ℕ = e in f.0) same) (along_it x es w (subst (λ k. Passes x es k w) (sym (ap (λ e. let f : ℕ × ℕ = e in f.1) same)) p))
+  | inl same ↦ subst (λ k. Passes x es k w) (ap (λ e. let f : ℕ × ℕ = e in f.0) same)
+      (along_it x es w (subst (λ k. Passes x es k w) (sym (ap (λ e. let f : ℕ × ℕ = e in f.1) same)) p))
   | inr later ↦ older x es u v w (inl later) p
 ]
 passes_step x es u v w (inr h) p = elim (Contains-cases x (v, u) es h) [
-  | inl same ↦ subst (λ k. Passes x es k w) (ap (λ e. let f : ℕ × ℕ = e in f.1) same) (against_it x es w (subst (λ k. Passes x es k w) (sym (ap (λ e. let f : ℕ × ℕ = e in f.0) same)) p))
+  | inl same ↦ subst (λ k. Passes x es k w) (ap (λ e. let f : ℕ × ℕ = e in f.1) same)
+      (against_it x es w (subst (λ k. Passes x es k w) (sym (ap (λ e. let f : ℕ × ℕ = e in f.0) same)) p))
   | inr later ↦ older x es u v w (inr later) p
 ]
 

@@ -8,7 +8,8 @@ use Rattle.dpl_graph.specs.Arcs.{arc_at, IsLastArc, AreLinks}
 use Rattle.dpl_graph.specs.Growing.{root_in, level_in, place_in, reached_count, IsGrown, IsNoted, IsMet}
 use Rattle.dpl_graph.proofs.Walks.{Walk-snoc, walk_to, graph_of-undirected}
 use Rattle.dpl_graph.proofs.ArcLaws.{arc-joined, arc-of, arc-below, edge-below, below-ordered}
-use Rattle.dpl_graph.proofs.GrowLaws.{Noting, note-grown, kept_root, kept_level, noted_root, noted_level, noted_other_root, noted_other_level, new_root, new_level, old_place, one_more}
+use Rattle.dpl_graph.proofs.GrowLaws.{Noting, note-grown, kept_root, kept_level, noted_root, noted_level, noted_other_root}
+use Rattle.dpl_graph.proofs.GrowLaws.{noted_other_level, new_root, new_level, old_place, one_more}
 
 -- among the arcs that leave a, those from the next on are done; a stands at head, with this level
 pub record IsVisiting (edges : List (ℕ × ℕ)) (n now head a level next : ℕ) (x : Reached) : Type 0 where
@@ -30,7 +31,8 @@ pub record IsOneFurther (edges : List (ℕ × ℕ)) (n now head to level : ℕ) 
   pub levels : (v : ℕ) → root_in x v ≢ n → level_in y v ≡ level_in x v
   pub met : (root_in y to ≡ now) × (level_in y to ≤ suc level)
 
-further_same : (edges : List (ℕ × ℕ)) (n now head a level next k : ℕ) (x : Reached) → AreEdgesBelow n edges → IsVisiting edges n now head a level next x → k < length edges + length edges → (arc_at edges k).0 ≡ a
+further_same : (edges : List (ℕ × ℕ)) (n now head a level next k : ℕ) (x : Reached) → AreEdgesBelow n edges
+    → IsVisiting edges n now head a level next x → k < length edges + length edges → (arc_at edges k).0 ≡ a
     → root_in x (arc_at edges k).1 ≢ n → IsOneFurther edges n now head (arc_at edges k).1 level x x
 further_same edges n now head a level next k x b v k_in leaves reached =
     let to : ℕ = (arc_at edges k).1 in
@@ -56,7 +58,8 @@ further_same edges n now head a level next k x b v k_in leaves reached =
       met = (root, omega (arith, near, here));
     }
 
-visit_noting : (edges : List (ℕ × ℕ)) (n now head a level next k : ℕ) (x y : Reached) → AreEdgesBelow n edges → now < n → IsVisiting edges n now head a level next x → k < length edges + length edges → (arc_at edges k).0 ≡ a
+visit_noting : (edges : List (ℕ × ℕ)) (n now head a level next k : ℕ) (x y : Reached) → AreEdgesBelow n edges → now < n
+    → IsVisiting edges n now head a level next x → k < length edges + length edges → (arc_at edges k).0 ≡ a
     → root_in x (arc_at edges k).1 ≡ n → IsNoted (arc_at edges k).1 now (level + 1) x y → Noting edges n (now + 1) now head (arc_at edges k).1 (level + 1) x y
 visit_noting edges n now head a level next k x y b now_in v k_in leaves unreached noted =
     let to : ℕ = (arc_at edges k).1 in
@@ -68,7 +71,8 @@ visit_noting edges n now head a level next k x y b now_in v k_in leaves unreache
     let a_level = v.at in
     let a_reached : root_in x a ≢ n = λ e. omega (arith, e, a_root, now_in) in
     let here : level_in x (place_in x head) ≡ level = ap (λ u. level_in x u) v.here ∙ v.at in
-    let walk : Walk (graph_of edges) now a level = subst (λ r. Walk (graph_of edges) r a level) a_root (subst (λ m. Walk (graph_of edges) (root_in x a) a m) a_level (v.grown.sound a a_in a_reached)) in
+    let walk : Walk (graph_of edges) now a level = subst (λ r. Walk (graph_of edges) r a level) a_root
+    (subst (λ m. Walk (graph_of edges) (root_in x a) a m) a_level (v.grown.sound a a_in a_reached)) in
     let (self, none) = v.grown.rooted a a_in a_reached in
     let now_self : root_in x now ≡ now = ap (λ r. root_in x r) (sym a_root) ∙ (self ∙ a_root) in
     let now_none : level_in x now ≡ 0 = ap (λ r. level_in x r) (sym a_root) ∙ none in
@@ -102,21 +106,27 @@ further_new edges n now head to level x y h = record {
   met = (new_root h, let l = new_level h in omega (arith, l));
 }
 
-one_further : (edges : List (ℕ × ℕ)) (n now head a level next k : ℕ) (x y : Reached) → AreEdgesBelow n edges → now < n → IsVisiting edges n now head a level next x → k < length edges + length edges → (arc_at edges k).0 ≡ a
+one_further : (edges : List (ℕ × ℕ)) (n now head a level next k : ℕ) (x y : Reached) → AreEdgesBelow n edges → now < n
+    → IsVisiting edges n now head a level next x → k < length edges + length edges → (arc_at edges k).0 ≡ a
     → IsMet n (arc_at edges k).1 now (level + 1) x y → IsOneFurther edges n now head (arc_at edges k).1 level x y
 one_further edges n now head a level next k x y b now_in v k_in leaves met = elim (cases_eq (root_in x (arc_at edges k).1) n) [
-  | inl unreached ↦ further_new edges n now head (arc_at edges k).1 level x y (visit_noting edges n now head a level next k x y b now_in v k_in leaves unreached (met.new unreached))
-  | inr reached ↦ subst (λ z. IsOneFurther edges n now head (arc_at edges k).1 level x z) (sym (met.reached reached)) (further_same edges n now head a level next k x b v k_in leaves reached)
+  | inl unreached ↦ further_new edges n now head (arc_at edges k).1 level x y
+      (visit_noting edges n now head a level next k x y b now_in v k_in leaves unreached (met.new unreached))
+  | inr reached ↦ subst (λ z. IsOneFurther edges n now head (arc_at edges k).1 level x z) (sym (met.reached reached))
+      (further_same edges n now head a level next k x b v k_in leaves reached)
 ]
 
 -- the next arc that leaves a is met
-pub visit-step : (edges : List (ℕ × ℕ)) (n now head a level next to after : ℕ) (last before : List ℕ) (x y : Reached) → AreEdgesBelow n edges → AreLinks edges n (length edges + length edges) last before → now < n
-    → IsVisiting edges n now head a level next x → (k : ℕ) → next ≡ suc k → (arc_at edges k).1 ≡ to → IsMet n to now (level + 1) x y → after ≡ get_or before k 0 → IsVisiting edges n now head a level after y
+pub visit-step : (edges : List (ℕ × ℕ)) (n now head a level next to after : ℕ) (last before : List ℕ) (x y : Reached)
+    → AreEdgesBelow n edges → AreLinks edges n (length edges + length edges) last before → now < n
+    → IsVisiting edges n now head a level next x → (k : ℕ) → next ≡ suc k → (arc_at edges k).1 ≡ to → IsMet n to now (level + 1) x y
+    → after ≡ get_or before k 0 → IsVisiting edges n now head a level after y
 visit-step edges n now head a level next to after last before x y b links now_in v k is to_is met after_is =
     let within = v.within in
     let k_in : k < length edges + length edges = omega (arith, is, within) in
     let leaves = v.leaves k is in
-    let f : IsOneFurther edges n now head (arc_at edges k).1 level x y = one_further edges n now head a level next k x y b now_in v k_in leaves (subst (λ u. IsMet n u now (level + 1) x y) (sym to_is) met) in
+    let f : IsOneFurther edges n now head (arc_at edges k).1 level x y = one_further edges n now head a level next k x y b now_in v k_in
+    leaves (subst (λ u. IsMet n u now (level + 1) x y) (sym to_is) met) in
     let link : IsLastArc edges a k after = subst (λ p. IsLastArc edges a k p) (sym after_is) (subst (λ u. IsLastArc edges u k (get_or before k 0)) leaves (links.links k k_in)) in
     let a_root = v.root in
     let a_reached : root_in x a ≢ n = λ e. omega (arith, e, a_root, now_in) in
@@ -142,7 +152,8 @@ visit-step edges n now head a level next to after last before x y b links now_in
     }
 
 pub visit-start : (edges : List (ℕ × ℕ)) (n now head a level next : ℕ) (last before : List ℕ) (x : Reached) → AreLinks edges n (length edges + length edges) last before
-    → IsGrown edges n (now + 1) now head x → head < reached_count x → a ≡ place_in x head → level ≡ level_in x a → next ≡ get_or last a 0 → IsVisiting edges n now head a level next x
+    → IsGrown edges n (now + 1) now head x → head < reached_count x → a ≡ place_in x head → level ≡ level_in x a → next ≡ get_or last a 0
+    → IsVisiting edges n now head a level next x
 visit-start edges n now head a level next last before x links grown some a_is level_is next_is =
     let a_in : a < n = subst (λ u. u < n) (sym a_is) (grown.listed head some).0 in
     let link : IsLastArc edges a (length edges + length edges) next = subst (λ p. IsLastArc edges a (length edges + length edges) p) (sym next_is) (links.heads a a_in) in
@@ -184,7 +195,8 @@ regrown edges n bound now head bound' now' head' x g before within closed same r
   near = near;
 }
 
-pub visit-end : (edges : List (ℕ × ℕ)) (n now head a level next : ℕ) (x : Reached) → next ≡ 0 → IsVisiting edges n now head a level next x → IsGrown edges n (now + 1) now (head + 1) x
+pub visit-end : (edges : List (ℕ × ℕ)) (n now head a level next : ℕ) (x : Reached) → next ≡ 0 → IsVisiting edges n now head a level next x
+    → IsGrown edges n (now + 1) now (head + 1) x
 visit-end edges n now head a level next x is v =
     let some = v.some in
     regrown edges n (now + 1) now head (now + 1) now (head + 1) x v.grown v.grown.before (omega (arith, some))
@@ -205,7 +217,8 @@ visit-end edges n now head a level next x is v =
     (λ u u_in root j from l. v.grown.near u u_in root j (omega (arith, from)) l)
 
 -- a component starts at its least number
-pub first-grown : (edges : List (ℕ × ℕ)) (n now : ℕ) (x y : Reached) → IsGrown edges n now now (reached_count x) x → root_in x now ≡ n → now < n → IsNoted now now 0 x y → IsGrown edges n (now + 1) now (reached_count x) y
+pub first-grown : (edges : List (ℕ × ℕ)) (n now : ℕ) (x y : Reached) → IsGrown edges n now now (reached_count x) x → root_in x now ≡ n
+    → now < n → IsNoted now now 0 x y → IsGrown edges n (now + 1) now (reached_count x) y
 first-grown edges n now x y grown unreached now_in noted =
     let as_many_roots = grown.as_many_roots in
     let as_many_levels = grown.as_many_levels in
@@ -236,7 +249,8 @@ first-grown edges n now x y grown unreached now_in noted =
     all.within all.closed all.same all.rising all.near
 
 -- where the order is done, any number may be the next
-pub grown-next : (edges : List (ℕ × ℕ)) (n bound now other head : ℕ) (x : Reached) → IsGrown edges n bound now head x → reached_count x ≤ head → IsGrown edges n bound other (reached_count x) x
+pub grown-next : (edges : List (ℕ × ℕ)) (n bound now other head : ℕ) (x : Reached) → IsGrown edges n bound now head x
+    → reached_count x ≤ head → IsGrown edges n bound other (reached_count x) x
 grown-next edges n bound now other head x grown end =
     regrown edges n bound now head bound other (reached_count x) x grown grown.before (omega arith)
     (λ j l. grown.closed j (omega (arith, l, end)))
@@ -244,7 +258,8 @@ grown-next edges n bound now other head x grown end =
     (λ i j from up l. absurd (omega (arith, from, up, l)))
     (λ u u_in root j from l. absurd (omega (arith, from, l)))
 
-pub grown-past : (edges : List (ℕ × ℕ)) (n now : ℕ) (x : Reached) → IsGrown edges n now now (reached_count x) x → root_in x now ≢ n → IsGrown edges n (now + 1) (now + 1) (reached_count x) x
+pub grown-past : (edges : List (ℕ × ℕ)) (n now : ℕ) (x : Reached) → IsGrown edges n now now (reached_count x) x → root_in x now ≢ n
+    → IsGrown edges n (now + 1) (now + 1) (reached_count x) x
 grown-past edges n now x grown reached =
     let all = grown-next edges n now now (now + 1) (reached_count x) x grown (omega arith) in
     regrown edges n now (now + 1) (reached_count x) (now + 1) (now + 1) (reached_count x) x all
@@ -255,12 +270,14 @@ grown-past edges n now x grown reached =
     all.within all.closed all.same all.rising all.near
 
 -- all numbers are reached
-all_closed : (edges : List (ℕ × ℕ)) (n now : ℕ) (x : Reached) → IsGrown edges n n now (reached_count x) x → (v w : ℕ) → v < n → graph_of edges v w → (root_in x w ≡ root_in x v) × (level_in x w ≤ suc (level_in x v))
+all_closed : (edges : List (ℕ × ℕ)) (n now : ℕ) (x : Reached) → IsGrown edges n n now (reached_count x) x → (v w : ℕ) → v < n
+    → graph_of edges v w → (root_in x w ≡ root_in x v) × (level_in x w ≤ suc (level_in x v))
 all_closed edges n now x grown v w v_in joined =
     let (j, j_in, is) = grown.found v v_in (grown.before v v_in) in
     subst (λ u. (root_in x w ≡ root_in x u) × (level_in x w ≤ suc (level_in x u))) is (grown.closed j j_in w (subst (λ u. graph_of edges u w) (sym is) joined))
 
-along : (edges : List (ℕ × ℕ)) (n now : ℕ) (x : Reached) → AreEdgesBelow n edges → IsGrown edges n n now (reached_count x) x → {u v m : ℕ} → u < n → Walk (graph_of edges) u v m → (root_in x v ≡ root_in x u) × (level_in x v ≤ level_in x u + m)
+along : (edges : List (ℕ × ℕ)) (n now : ℕ) (x : Reached) → AreEdgesBelow n edges → IsGrown edges n n now (reached_count x) x → {u v m : ℕ}
+    → u < n → Walk (graph_of edges) u v m → (root_in x v ≡ root_in x u) × (level_in x v ≤ level_in x u + m)
 along edges n now x b grown {u = u} u_in stay = (refl, omega arith)
 along edges n now x b grown {u = u} u_in (step {v = w} joined rest) =
     let (root, near) = all_closed edges n now x grown u w u_in joined in
@@ -271,7 +288,8 @@ walk_below : (edges : List (ℕ × ℕ)) (n : ℕ) → AreEdgesBelow n edges →
 walk_below edges n b stay l = l
 walk_below edges n b (step {u = u} {v = v} joined rest) l = (edge-below n edges b u v joined).0
 
-grown_root : (edges : List (ℕ × ℕ)) (n now : ℕ) (x : Reached) → AreEdgesBelow n edges → IsGrown edges n n now (reached_count x) x → (v : ℕ) → v < n → IsRoot (graph_of edges) v (root_in x v)
+grown_root : (edges : List (ℕ × ℕ)) (n now : ℕ) (x : Reached) → AreEdgesBelow n edges → IsGrown edges n n now (reached_count x) x → (v : ℕ)
+    → v < n → IsRoot (graph_of edges) v (root_in x v)
 grown_root edges n now x b grown v v_in = record {
   reached = (level_in x v, grown.sound v v_in (grown.before v v_in));
   least = λ u (m, w).
@@ -281,7 +299,8 @@ grown_root edges n now x b grown v v_in = record {
       omega (arith, same, low);
 }
 
-grown_level : (edges : List (ℕ × ℕ)) (n now : ℕ) (x : Reached) → AreEdgesBelow n edges → IsGrown edges n n now (reached_count x) x → (v : ℕ) → v < n → IsDistance (graph_of edges) (root_in x v) v (level_in x v)
+grown_level : (edges : List (ℕ × ℕ)) (n now : ℕ) (x : Reached) → AreEdgesBelow n edges → IsGrown edges n n now (reached_count x) x
+    → (v : ℕ) → v < n → IsDistance (graph_of edges) (root_in x v) v (level_in x v)
 grown_level edges n now x b grown v v_in =
     let reached = grown.before v v_in in
     let low = grown.low v v_in reached in
@@ -291,7 +310,8 @@ grown_level edges n now x b grown v v_in =
       least = λ m w. let near = (along edges n now x b grown (omega (arith, low, v_in)) w).1 in omega (arith, near, none);
     }
 
-pub grown-levels : (edges : List (ℕ × ℕ)) (n now : ℕ) (x : Reached) → AreEdgesBelow n edges → IsGrown edges n n now (reached_count x) x → AreLevels edges n x.roots.items x.levels.items
+pub grown-levels : (edges : List (ℕ × ℕ)) (n now : ℕ) (x : Reached) → AreEdgesBelow n edges → IsGrown edges n n now (reached_count x) x
+    → AreLevels edges n x.roots.items x.levels.items
 grown-levels edges n now x b grown = record {
   as_many_roots = grown.as_many_roots;
   as_many_levels = grown.as_many_levels;

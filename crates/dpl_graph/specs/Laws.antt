@@ -21,7 +21,8 @@ LevelsShowOddCycles = (edges : List (ℕ × ℕ)) → AreOrdered edges → (root
 
 -- a graph has an odd cycle exactly where some edge is level below the least number of its component
 abbrev pub RootsShowOddCycles : Type 0
-RootsShowOddCycles = (edges : List (ℕ × ℕ)) → AreOrdered edges → HasOddCycle (graph_of edges) ↔ ((root : ℕ) × IsRoot (graph_of edges) root root × HasLevelEdge (graph_of edges) root)
+RootsShowOddCycles = (edges : List (ℕ × ℕ)) → AreOrdered edges → HasOddCycle (graph_of edges)
+    ↔ ((root : ℕ) × IsRoot (graph_of edges) root root × HasLevelEdge (graph_of edges) root)
 
 -- the root of the reported cycle is the least number of its component
 abbrev pub OddRootsAreRoots : Type 0

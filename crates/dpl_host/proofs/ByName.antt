@@ -24,7 +24,8 @@ over : {A B : Type 0} (f : A → B) (b : Bool) (x : A) (o : Option A) → option
 over f true x o = refl
 over f false x o = refl
 
-found : (es : List (String Global × Vec ℕ Global)) (q : List ℕ) → find (slice_cmp nat_cmp) q (map entry_of es) ≡ option_map (λ v. v.items) (lookup (is_at (λ k. slice_cmp nat_cmp q (string_bytes k))) es)
+found : (es : List (String Global × Vec ℕ Global)) (q : List ℕ) → find (slice_cmp nat_cmp) q (map entry_of es) ≡ option_map (λ v. v.items)
+    (lookup (is_at (λ k. slice_cmp nat_cmp q (string_bytes k))) es)
 found [] q = refl
 found (e ∷ es) q =
     ap (cond (is_at (λ k. slice_cmp nat_cmp q (string_bytes k)) e.0) (Some e.1.items)) (found es q)

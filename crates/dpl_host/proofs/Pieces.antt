@@ -1,5 +1,6 @@
 -- Fronts of lists.
-use Rattle.std.proofs.Common.{◌≡◌, ◌∙◌, ◌++◌, ◌∷◌, ◌+◌, ◌-◌, ◌≤◌, ◌<◌, ap, ap₂, sym, subst, refl, List, [], ℕ, zero, suc, take, drop, length, arith, min, zero-add, length-append, Option, Some, None, length-drop}
+use Rattle.std.proofs.Common.{◌≡◌, ◌∙◌, ◌++◌, ◌∷◌, ◌+◌, ◌-◌, ◌≤◌, ◌<◌, ap, ap₂, sym, subst, refl, List, [], ℕ, zero, suc, take, drop}
+use Rattle.std.proofs.Common.{length, arith, min, zero-add, length-append, Option, Some, None, length-drop}
 use Rattle.std.proofs.Math.Seq.{take-length}
 use Rattle.std.proofs.lemmas.List.{length-take, length-take-le, take_all}
 use Rattle.std.specs.Prelude.{IfSome, unwrap_or}
@@ -70,7 +71,8 @@ too_long (Some o) name bytes front long = go (file_of o name) refl
         (file, e, omega (arith, no_longer bytes file front'))
 
 -- a read behind the bytes that are there gave so many more
-pub given_more : (first before now : ℕ) (bytes chunk buffer : List ℕ) (n : ℕ) (all : List ℕ) → Gave first (length bytes) before → Gave before n now → chunk ≡ take n buffer → n ≤ length buffer → all ≡ bytes ++ chunk
+pub given_more : (first before now : ℕ) (bytes chunk buffer : List ℕ) (n : ℕ) (all : List ℕ) → Gave first (length bytes) before
+    → Gave before n now → chunk ≡ take n buffer → n ≤ length buffer → all ≡ bytes ++ chunk
     → Gave first (length all) now
 given_more first before now bytes chunk buffer n all old new same fits is =
     let long : length chunk ≡ n = ap length same ∙ length-take-le n buffer fits in

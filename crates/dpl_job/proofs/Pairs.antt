@@ -27,13 +27,15 @@ row-then : (i : ℕ) (js : List ℕ) (rest : List (ℕ × ℕ)) → Rising js �
 row-then i [] rest rising ordered after = ordered
 row-then i (j ∷ js) rest (later, rising) ordered after =
     AllPairs-cons Precedes (i, j) (row js i ++ rest)
-    (All-append (Precedes (i, j)) (row js i) rest (All-map (Precedes (i, j)) (λ (j : ℕ). (i, j)) js (λ k d l. inr (refl, later k d l))) (All-weaker (λ (e : ℕ × ℕ). i < e.0) (Precedes (i, j)) (λ e l. inl l) rest after))
+    (All-append (Precedes (i, j)) (row js i) rest (All-map (Precedes (i, j)) (λ (j : ℕ). (i, j)) js (λ k d l. inr (refl, later k d l)))
+    (All-weaker (λ (e : ℕ × ℕ). i < e.0) (Precedes (i, j)) (λ e l. inl l) rest after))
     (row-then i js rest rising ordered after)
 
 rows-after : (i : ℕ) (is js : List ℕ) → All (λ k. i < k) is → All (λ (e : ℕ × ℕ). i < e.0) (flat_map (row js) is)
 rows-after i [] js all = All-nil (λ (e : ℕ × ℕ). i < e.0)
 rows-after i (x ∷ is) js all =
-    All-append (λ (e : ℕ × ℕ). i < e.0) (row js x) (flat_map (row js) is) (All-map (λ (e : ℕ × ℕ). i < e.0) (λ (j : ℕ). (x, j)) js (λ k d l. All-head (λ k. i < k) x is all)) (rows-after i is js (All-tail (λ k. i < k) x is all))
+    All-append (λ (e : ℕ × ℕ). i < e.0) (row js x) (flat_map (row js) is) (All-map (λ (e : ℕ × ℕ). i < e.0) (λ (j : ℕ). (x, j)) js
+    (λ k d l. All-head (λ k. i < k) x is all)) (rows-after i is js (All-tail (λ k. i < k) x is all))
 
 rows-ordered : (is js : List ℕ) → Rising is → Rising js → AllPairs Precedes (flat_map (row js) is)
 rows-ordered [] js first second = λ i j d l m. absurd (omega (arith, m))

@@ -29,14 +29,16 @@ use Rattle.dpl_job.proofs.Pairs.{has-pair, pair-below, pairs-ordered}
 abbrev In : Planned → Rect → ℕ → ℕ → Type 0
 In plan cell i j = ConflictIn plan.rule plan.parts plan.owners cell i j
 
-near-one : (plan : Planned) (cell : Rect) (i j : ℕ) → AreNear plan.rule (in_cell cell (part_at plan.parts i)) (part_at plan.parts j) ⊎ AreNear plan.rule (part_at plan.parts i) (in_cell cell (part_at plan.parts j))
+near-one : (plan : Planned) (cell : Rect) (i j : ℕ) → AreNear plan.rule (in_cell cell (part_at plan.parts i)) (part_at plan.parts j)
+    ⊎ AreNear plan.rule (part_at plan.parts i) (in_cell cell (part_at plan.parts j))
     → (is_near_in plan.rule cell (part_of plan i) (part_of plan j) || is_near_in plan.rule cell (part_of plan j) (part_of plan i)) ≡ true
 near-one plan cell i j (inl first) = or_left _ _ (near-yes plan.rule cell (part_of plan i) (part_of plan j) first)
 near-one plan cell i j (inr second) = or_right _ _ (near-yes plan.rule cell (part_of plan j) (part_of plan i) (AreNear-sym plan.rule _ _ second))
 
 pub conflict-yes : (plan : Planned) (cell : Rect) (i j : ℕ) → i < j → In plan cell i j → is_conflict_in plan cell (i, j) ≡ true
 conflict-yes plan cell i j l c =
-    and_from _ _ (and_from (nat_lt i j) (not (slice_index plan.owners i == slice_index plan.owners j)) (lt-ltb i j l) (ap not (ne_eqb (slice_index plan.owners i) (slice_index plan.owners j) c.apart))) (near-one plan cell i j c.near)
+    and_from _ _ (and_from (nat_lt i j) (not (slice_index plan.owners i == slice_index plan.owners j)) (lt-ltb i j l)
+    (ap not (ne_eqb (slice_index plan.owners i) (slice_index plan.owners j) c.apart))) (near-one plan cell i j c.near)
 
 pub yes-conflict : (plan : Planned) (cell : Rect) (i j : ℕ) → i < length plan.parts → j < length plan.parts → is_conflict_in plan cell (i, j) ≡ true → (i < j) × In plan cell i j
 yes-conflict plan cell i j first second h =
@@ -58,14 +60,16 @@ pub listed : (plan : Planned) (cell : Rect) → AreEdges (In plan cell) (conflic
 listed plan cell = record {
   ordered = AllPairs-filter Precedes (is_conflict_in plan cell) (pairs_below (length plan.parts)) (pairs-ordered (length plan.parts));
   exactly = λ u v. (
-    λ c. (let (in_pairs, passes) = kept-has (is_conflict_in plan cell) (pairs_below (length plan.parts)) (u, v) c in let (first, second) = pair-below (length plan.parts) (u, v) in_pairs in yes-conflict plan cell u v first second passes),
+    λ c. (let (in_pairs, passes) = kept-has (is_conflict_in plan cell) (pairs_below (length plan.parts)) (u, v) c in
+        let (first, second) = pair-below (length plan.parts) (u, v) in_pairs in yes-conflict plan cell u v first second passes),
     λ (l, c). has-kept (is_conflict_in plan cell) (pairs_below (length plan.parts)) (u, v) (has-pair (length plan.parts) u v c.first c.second) (conflict-yes plan cell u v l c),
   );
 }
 
 pub pairs-of : (plan : Planned) (cell : Rect) → AreEdgePairs (conflicts_in plan cell)
 pairs-of plan cell = All-weaker (λ e. is_conflict_in plan cell e ≡ true) (λ (e : ℕ × ℕ). e.0 < e.1)
-    (λ e h. (let (both, near) = and_parts (nat_lt e.0 e.1 && not (slice_index plan.owners e.0 == slice_index plan.owners e.1)) _ h in let (l, apart) = and_parts (nat_lt e.0 e.1) _ both in ltb-true e.0 e.1 l))
+    (λ e h. (let (both, near) = and_parts (nat_lt e.0 e.1 && not (slice_index plan.owners e.0 == slice_index plan.owners e.1)) _ h in
+    let (l, apart) = and_parts (nat_lt e.0 e.1) _ both in ltb-true e.0 e.1 l))
     (conflicts_in plan cell) (filter_passes (is_conflict_in plan cell) (pairs_below (length plan.parts)))
 
 pub is-sheet : (plan : Planned) → IsSheet (sheet_of plan)
@@ -92,11 +96,14 @@ same-listed G es fs one other e = (
 )
 
 -- what sums up a tile's edges sums up its list
-pub tile-sums : (plan : Planned) (tile : ℕ) (es : List (ℕ × ℕ)) (j : Joined) → tile < length plan.cells → AreEdgesOf plan tile es → Sums es j → Sums (edges_at (sheet_of plan) tile) j
+pub tile-sums : (plan : Planned) (tile : ℕ) (es : List (ℕ × ℕ)) (j : Joined) → tile < length plan.cells → AreEdgesOf plan tile es
+    → Sums es j → Sums (edges_at (sheet_of plan) tile) j
 tile-sums plan tile es j below are sums =
     let (cell, is) = get-some plan.cells tile below in
     let edges : AreEdges (In plan cell) es = subst (λ (o : Option Rect). IfSome o (λ cell. AreEdges (In plan cell) es)) is are in
-    rw (at-map (conflicts_in plan) plan.cells tile cell is) (summary-along (graph_of es) (graph_of (conflicts_in plan cell)) (same-members es (conflicts_in plan cell) (same-listed (In plan cell) es (conflicts_in plan cell) edges (listed plan cell))) (summary_of j) sums)
+    rw (at-map (conflicts_in plan) plan.cells tile cell is) (summary-along (graph_of es) (graph_of (conflicts_in plan cell))
+    (same-members es (conflicts_in plan cell) (same-listed (In plan cell) es (conflicts_in plan cell) edges (listed plan cell)))
+    (summary_of j) sums)
 
 module _ (plan : Planned) (law : (i j : ℕ) → Conflict plan.rule plan.parts plan.owners i j ↔ Any (λ cell. In plan cell i j) plan.cells) where
   some_cell : ℕ × ℕ → Bool
@@ -130,22 +137,31 @@ module _ (plan : Planned) (law : (i j : ℕ) → Conflict plan.rule plan.parts p
         let (es, in_sheet, in_es) = from-flat (λ (es : List (ℕ × ℕ)). es) (sheet_of plan) e c in
         let (cell, in_cells, is) = has-map (conflicts_in plan) plan.cells es in_sheet in
         let (in_pairs, passes) = kept-has (is_conflict_in plan cell) (pairs_below (length plan.parts)) e (rw is in_es) in
-        has-kept (λ e. list_any (λ cell. is_conflict_in plan cell e) plan.cells) (pairs_below (length plan.parts)) e in_pairs (has-passed (λ cell. is_conflict_in plan cell e) plan.cells cell in_cells passes)
+        has-kept (λ e. list_any (λ cell. is_conflict_in plan cell e) plan.cells) (pairs_below (length plan.parts)) e in_pairs
+        (has-passed (λ cell. is_conflict_in plan cell e) plan.cells cell in_cells passes)
         ),
     λ c. (
         let (in_pairs, passes) = kept-has (λ e. list_any (λ cell. is_conflict_in plan cell e) plan.cells) (pairs_below (length plan.parts)) e c in
         let (cell, in_cells, here) = passed-has (λ cell. is_conflict_in plan cell e) plan.cells passes in
-        in-flat (λ (es : List (ℕ × ℕ)). es) (sheet_of plan) (conflicts_in plan cell) e (map-has (conflicts_in plan) plan.cells cell (conflicts_in plan cell) in_cells refl) (has-kept (is_conflict_in plan cell) (pairs_below (length plan.parts)) e in_pairs here)
+        in-flat (λ (es : List (ℕ × ℕ)). es) (sheet_of plan) (conflicts_in plan cell) e
+        (map-has (conflicts_in plan) plan.cells cell (conflicts_in plan cell) in_cells refl)
+        (has-kept (is_conflict_in plan cell) (pairs_below (length plan.parts)) e in_pairs here)
         ),
   )
 
   -- what sums up the edges of all tiles sums up the conflict graph
   pub all-sums : (j : Joined) → Sums (all_edges (sheet_of plan)) j → SumsGraph (Conflict plan.rule plan.parts plan.owners) j
-  all-sums j sums = (whole, whole-listed, summary-along (graph_of (all_edges (sheet_of plan))) (graph_of whole) (same-members (all_edges (sheet_of plan)) whole same-whole) (summary_of j) sums)
+  all-sums j sums = (
+    whole,
+    whole-listed,
+    summary-along (graph_of (all_edges (sheet_of plan))) (graph_of whole)
+        (same-members (all_edges (sheet_of plan)) whole same-whole) (summary_of j) sums,
+  )
 
 -- pieces conflict exactly where they do so by the squares in some tile's cell
 pub conflict-in-cells : (plan : Planned) → IsTiled plan → (i j : ℕ) → Conflict plan.rule plan.parts plan.owners i j ↔ Any (λ cell. In plan cell i j) plan.cells
 conflict-in-cells plan (side, some, tiles) i j = tiles-graph plan.rule side plan.parts plan.owners plan.cells some tiles i j
 
-pub joined-sums : (plan : Planned) (b : Board) (j : Joined) → IsTiled plan → Stands (sheet_of plan) b → AreAllPosted b → SumsPosted b j → SumsGraph (Conflict plan.rule plan.parts plan.owners) j
+pub joined-sums : (plan : Planned) (b : Board) (j : Joined) → IsTiled plan → Stands (sheet_of plan) b → AreAllPosted b → SumsPosted b j
+    → SumsGraph (Conflict plan.rule plan.parts plan.owners) j
 joined-sums plan b j tiled stands all sums = all-sums plan (conflict-in-cells plan tiled) j (all-posted (sheet_of plan) b j stands all (sums (sheet_of plan) stands))

@@ -26,7 +26,8 @@ use Rattle.dpl_law_verdict.specs.Own.{head_of, piece_line, stitch_line, place_li
 colours-same : (rule : ℕ) (c : Cut) (m n : Masks) (a : AreMasks rule c m) (b : AreMasks rule c n) → a.colours ≡ b.colours
 colours-same rule c m n a b =
     let rooted = roots-unique (conflicts rule c) (length c.pieces) a.roots b.roots a.odds b.odds a.rooted b.rooted in
-    let mine : AreColours b.roots b.odds c.sides a.colours = subst (λ o. AreColours b.roots o c.sides a.colours) rooted.1 (subst (λ r. AreColours r a.odds c.sides a.colours) rooted.0 a.coloured) in
+    let mine : AreColours b.roots b.odds c.sides a.colours = subst (λ o. AreColours b.roots o c.sides a.colours) rooted.1
+    (subst (λ r. AreColours r a.odds c.sides a.colours) rooted.0 a.coloured) in
     colours-unique b.roots b.odds c.sides a.colours b.colours mine b.coloured
 
 painted-same : (rule overlap : ℕ) (c : Cut) (x y : Painted) → IsPaintedCut rule overlap c x → IsPaintedCut rule overlap c y → x ≡ y
@@ -34,7 +35,15 @@ painted-same rule overlap c x y a b =
     let done : Done a.masks ≡ Done b.masks = answer-unique rule c (Done a.masks) (Done b.masks) (a.even, a.are_masks) (b.even, b.are_masks) in
     let masks : a.masks ≡ b.masks = cc in
     let colours : a.are_masks.colours ≡ b.are_masks.colours = colours-same rule c a.masks b.masks a.are_masks b.are_masks in
-    let paint : Masks → List Bool → Painted = λ m letters. record { a = m.a; b = m.b; head = head_of rule overlap c; pieces = map piece_line (zip letters c.keys); stitches = map (stitch_line c.zones c.sides) m.stitches } in
+    let paint : Masks → List Bool
+    → Painted = λ m letters. record {
+      a = m.a;
+      b = m.b;
+      head = head_of rule overlap c;
+      pieces = map piece_line
+          (zip letters c.keys);
+      stitches = map (stitch_line c.zones c.sides) m.stitches;
+    } in
     a.is ∙ (ap (λ m. paint m a.are_masks.colours) masks ∙ (ap (λ k. paint b.masks k) colours ∙ sym b.is))
 
 -- ---- cycles
@@ -50,7 +59,8 @@ near-same rule pieces cycle ms ns a b =
     let many = a.each in
     let many2 = b.each in
     same_lists ms ns (many ∙ sym many2) (λ k d l.
-    nearest-same rule (part_at pieces (get_or cycle k 0)) (part_at pieces (get_or cycle ((k + 1) % length cycle) 0)) (get_or ms k d) (get_or ns k d) (a.pair k d (omega (arith, l, many))) (b.pair k d (omega (arith, l, many))))
+    nearest-same rule (part_at pieces (get_or cycle k 0)) (part_at pieces (get_or cycle ((k + 1) % length cycle) 0)) (get_or ms k d)
+    (get_or ns k d) (a.pair k d (omega (arith, l, many))) (b.pair k d (omega (arith, l, many))))
 
 same-clash : (x y : Clash) → x.head ≡ y.head → x.cycle ≡ y.cycle → x.near ≡ y.near → x ≡ y
 same-clash x y a b c =
@@ -73,5 +83,6 @@ flat_cut-same rule overlap c (Clashes x) (Clashes y) a b = ap (λ p. Clashes p) 
 
 pub flat-same : (rule overlap : ℕ) (layer : List Rect) (x y : Flat) → IsFlat rule overlap layer x → IsFlat rule overlap layer y → x ≡ y
 flat-same rule overlap layer x y (c, is_c, a) (d, is_d, b) =
-    let same : c ≡ d = cut-unique rule overlap (Covers layer) c d (sides-unique rule overlap (Covers layer) c.features c.pieces c.zones is_c.features is_c.zones is_c.pieces.components) is_c is_d in
+    let same : c ≡ d = cut-unique rule overlap (Covers layer) c d
+    (sides-unique rule overlap (Covers layer) c.features c.pieces c.zones is_c.features is_c.zones is_c.pieces.components) is_c is_d in
     flat_cut-same rule overlap c x y a (subst (λ e. IsFlatCut rule overlap e y) (sym same) b)

@@ -23,6 +23,9 @@ painted-right rule overlap layer p (c, is_c, a) =
     subst (λ q. AreRight rule layer q) (sym a.is) (record {
       cover = cover rule overlap (Covers layer) c m is_c a.are_masks;
       apart = λ features are. let same = components-unique (Covers layer) c.features features is_c.features are in
-          subst (λ fs. KeepsApart rule fs m.a × KeepsApart rule fs m.b) same (far-on-a rule overlap (Covers layer) c m is_c a.are_masks a.even, far-on-b rule overlap (Covers layer) c m is_c a.are_masks a.even);
+          subst (λ fs. KeepsApart rule fs m.a × KeepsApart rule fs m.b) same (
+            far-on-a rule overlap (Covers layer) c m is_c a.are_masks a.even,
+            far-on-b rule overlap (Covers layer) c m is_c a.are_masks a.even,
+          );
       overlap = subst (λ rs. OverlapAt rs m.a m.b) (rects-same c.zones c.sides m.stitches) (overlap-at rule overlap (Covers layer) c m is_c a.are_masks);
     })

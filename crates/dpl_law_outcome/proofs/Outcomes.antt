@@ -19,7 +19,8 @@ use Rattle.dpl_run.specs.Outcome.{Outcome, says}
 use Rattle.dpl_run.specs.Reading.{Choice, Faulty, Layer}
 use Rattle.dpl_run.specs.Split.{Decision, Refuses, Decides, IsDecision, IsSplit, IsSplitOf, plan_of, split_choice}
 use Rattle.dpl_run.specs.Demo.{IsDemo, demo_choice, demo_plan}
-use Rattle.dpl_run.specs.Check.{IsCheck, IsCheckOfCert, IsCheckOfFile, IsCheckOfMasks, IsCheckOfText, IsJudged, WithFile, WithLayer, check_choice, mask_choice, refusal_of, verdict_outcome}
+use Rattle.dpl_run.specs.Check.{IsCheck, IsCheckOfCert, IsCheckOfFile, IsCheckOfMasks, IsCheckOfText, IsJudged, WithFile, WithLayer}
+use Rattle.dpl_run.specs.Check.{check_choice, mask_choice, refusal_of, verdict_outcome}
 use Rattle.dpl_run.specs.Texts.{bad_line_line}
 use Rattle.dpl_run.specs.declared.status.Status.TheVariants.{Refused}
 use Rattle.dpl_law_outcome.specs.Laws.{OneOutcome}
@@ -47,7 +48,8 @@ split-same : (v : SplitValues) (tile workers : ℕ) (bytes : List ℕ) (x y : Ou
 split-same v tile workers bytes x y (d, is_d, a) (e, is_e, b) =
     a ∙ (ap (λ z. plan_of v z) (decision-same (split_choice v) v.rule v.overlap bytes d e is_d is_e) ∙ (sym (plan-retiled v tile workers e) ∙ sym b))
 
-split-of-same : (v : SplitValues) (tile workers : ℕ) (file : Option (List ℕ)) (x y : Outcome) → IsSplitOf v file x → IsSplitOf (record v { tile = tile; workers = workers }) file y → x ≡ y
+split-of-same : (v : SplitValues) (tile workers : ℕ) (file : Option (List ℕ)) (x y : Outcome) → IsSplitOf v file x
+    → IsSplitOf (record v { tile = tile; workers = workers }) file y → x ≡ y
 split-of-same v tile workers None x y a b = a ∙ sym b
 split-of-same v tile workers (Some bytes) x y a b = split-same v tile workers bytes x y a b
 
@@ -63,7 +65,8 @@ faults-same file m n i j e =
     ap (λ k. refusal_of file k i) names ∙ ap (λ k. refusal_of file n k) ats
 
 -- what follows a reading is one, where what follows each layer is
-module _ (file : List ℕ) (choice : Choice) (bytes : List ℕ) (next : List Rect → Outcome → Type 0) (each : (layer : List Rect) (x y : Outcome) → next layer x → next layer y → x ≡ y) where
+module _ (file : List ℕ) (choice : Choice) (bytes : List ℕ) (next : List Rect → Outcome → Type 0)
+    (each : (layer : List Rect) (x y : Outcome) → next layer x → next layer y → x ≡ y) where
   layer-same : (x y : Outcome) → WithLayer file choice bytes next x → WithLayer file choice bytes next y → x ≡ y
   layer-same x y (Faulty m i, a, p) (Faulty n j, b, q) = p ∙ faults-same file m n i j (reading-same choice bytes (Faulty m i) (Faulty n j) a b) ∙ sym q
   layer-same x y (Faulty m i, a, p) (Layer f r, b, q) = (let same : Faulty m i ≡ Layer f r = reading-same choice bytes (Faulty m i) (Layer f r) a b in absurd cc)
@@ -76,12 +79,14 @@ module _ (file : List ℕ) (choice : Choice) (bytes : List ℕ) (next : List Rec
 judged-same : (v : CheckValues) (layer : List Rect) (cert : Cert) (a b : List Rect) (x y : Outcome) → IsJudged v layer cert a b x → IsJudged v layer cert a b y → x ≡ y
 judged-same v layer cert a b x y (w, is_w, p) (u, is_u, q) = p ∙ (ap (verdict_outcome cert) (masks-unique v.rule v.overlap layer a b cert w u is_w is_u) ∙ sym q)
 
-masks-same : (v : CheckValues) (layer : List Rect) (cert : Cert) (bytes : List ℕ) (x y : Outcome) → IsCheckOfMasks v layer cert bytes x → IsCheckOfMasks v layer cert bytes y → x ≡ y
+masks-same : (v : CheckValues) (layer : List Rect) (cert : Cert) (bytes : List ℕ) (x y : Outcome) → IsCheckOfMasks v layer cert bytes x
+    → IsCheckOfMasks v layer cert bytes y → x ≡ y
 masks-same v layer cert bytes x y =
     layer-same (codes "out") (mask_choice v.a) bytes (λ a. WithLayer (codes "out") (mask_choice v.b) bytes (IsJudged v layer cert a))
     (λ a. layer-same (codes "out") (mask_choice v.b) bytes (IsJudged v layer cert a) (λ b. judged-same v layer cert a b)) x y
 
-cert-same : (v : CheckValues) (layer : List Rect) (out : Option (List ℕ)) (cert : Cert) (x y : Outcome) → IsCheckOfCert v layer out cert x → IsCheckOfCert v layer out cert y → x ≡ y
+cert-same : (v : CheckValues) (layer : List Rect) (out : Option (List ℕ)) (cert : Cert) (x y : Outcome) → IsCheckOfCert v layer out cert x
+    → IsCheckOfCert v layer out cert y → x ≡ y
 cert-same v layer None (Masks h ps ss) x y p q = p ∙ sym q
 cert-same v layer (Some bytes) (Masks h ps ss) x y p q = masks-same v layer (Masks h ps ss) bytes x y p q
 cert-same v layer out (Conflict h cs ns) x y (w, is_w, p) (u, is_u, q) =
@@ -100,13 +105,15 @@ bad-lines-same text m n a b = elim (cases_order m n) [
   ]
 ]
 
-text-same : (v : CheckValues) (layer : List Rect) (out : Option (List ℕ)) (text : List ℕ) (x y : Outcome) → IsCheckOfText v layer out text x → IsCheckOfText v layer out text y → x ≡ y
+text-same : (v : CheckValues) (layer : List Rect) (out : Option (List ℕ)) (text : List ℕ) (x y : Outcome)
+    → IsCheckOfText v layer out text x → IsCheckOfText v layer out text y → x ≡ y
 text-same v layer out text x y (inl (c, t, p)) (inl (d, u, q)) = cert-same v layer out c x y p (subst (λ k. IsCheckOfCert v layer out k y) (sym (texts-same c d text t u)) q)
 text-same v layer out text x y (inl (c, t, p)) (inr (n, bad, q)) = absurd (bad.bad (c, text, t, refl))
 text-same v layer out text x y (inr (m, bad, p)) (inl (d, u, q)) = absurd (bad.bad (d, text, u, refl))
 text-same v layer out text x y (inr (m, bad, p)) (inr (n, other, q)) = p ∙ (ap (λ k. says Refused (bad_line_line k)) (bad-lines-same text m n bad other) ∙ sym q)
 
-file-same : (v : CheckValues) (layer : List Rect) (cert out : Option (List ℕ)) (x y : Outcome) → WithFile cert (IsCheckOfFile v layer out) x → WithFile cert (IsCheckOfFile v layer out) y → x ≡ y
+file-same : (v : CheckValues) (layer : List Rect) (cert out : Option (List ℕ)) (x y : Outcome)
+    → WithFile cert (IsCheckOfFile v layer out) x → WithFile cert (IsCheckOfFile v layer out) y → x ≡ y
 file-same v layer None out x y p q = p ∙ sym q
 file-same v layer (Some text) out x y (inl (large, p)) (inl (again, q)) = p ∙ sym q
 file-same v layer (Some text) out x y (inl (large, p)) (inr (small, q)) = absurd (omega (arith, large, small))

@@ -66,7 +66,8 @@ own-names v apart =
 fronted : (lib : Library) (top : ℕ) (front : List ℕ) → front_of lib top ≡ Some front → (s : Structure) × Contains lib.structures s × (front ≡ frame_bytes (frame_of lib s))
 fronted lib top front is = elim (slice_get_cases lib.structures top).1 [
   | inl there ↦ (let (s, top_in, found, at) = there in
-      let some : Some (frame_bytes (frame_of lib s)) ≡ Some front = sym (ap (λ (o : Option Structure). option_map (λ (t : Structure). frame_bytes (frame_of lib t)) o) found) ∙ is in
+      let some : Some (frame_bytes (frame_of lib s)) ≡ Some front = sym
+      (ap (λ (o : Option Structure). option_map (λ (t : Structure). frame_bytes (frame_of lib t)) o) found) ∙ is in
       let same : front ≡ frame_bytes (frame_of lib s) = cc in
       (s, (top, top_in, at), same))
   | inr past ↦ (let none : None ≡ Some front = sym (ap (λ (o : Option Structure). option_map (λ (t : Structure). frame_bytes (frame_of lib t)) o) past.1) ∙ is in absurd (cc))
@@ -74,8 +75,10 @@ fronted lib top front is = elim (slice_get_cases lib.structures top).1 [
 
 -- ---- masks
 
-module _ (v : SplitValues) (o : Outside) (bytes front : List ℕ) (layer : List Rect) (in_range : AreInRangeForCheck (checking v)) (apart : IsApart (AsksSplit v)) (read : file_of o v.input ≡ Some bytes)
-    (reading : IsReading (split_choice v) bytes (Layer front layer)) (lib : Library) (holds : Holds bytes lib) (l : IsLayerIn (split_choice v) lib front layer) (cut : Cut) (is_cut : IsCut v.rule v.overlap (Covers layer) cut) where
+module _ (v : SplitValues) (o : Outside) (bytes front : List ℕ) (layer : List Rect) (in_range : AreInRangeForCheck (checking v))
+    (apart : IsApart (AsksSplit v)) (read : file_of o v.input ≡ Some bytes)
+    (reading : IsReading (split_choice v) bytes (Layer front layer)) (lib : Library) (holds : Holds bytes lib)
+    (l : IsLayerIn (split_choice v) lib front layer) (cut : Cut) (is_cut : IsCut v.rule v.overlap (Covers layer) cut) where
   within : AreRectsWithin farthest layer
   within = layer-within lib l.top (chosen (split_choice v)) layer l.faultless l.squares
 
@@ -86,8 +89,11 @@ module _ (v : SplitValues) (o : Outside) (bytes front : List ℕ) (layer : List 
   painted-fine p painted =
       let m = painted.masks in
       let near = masks-within v.rule v.overlap layer cut in_range.rule in_range.overlap within is_cut m painted.are_masks in
-      subst (λ (q : Painted). IsFine q) (sym painted.is)
-      (record { canonical = painted.are_masks.a.canonical; within = near.0 }, record { canonical = painted.are_masks.b.canonical; within = near.1 }, masks-cert v.rule v.overlap layer cut in_range.rule in_range.overlap within is_cut m painted.are_masks)
+      subst (λ (q : Painted). IsFine q) (sym painted.is) (
+        record { canonical = painted.are_masks.a.canonical; within = near.0 },
+        record { canonical = painted.are_masks.b.canonical; within = near.1 },
+        masks-cert v.rule v.overlap layer cut in_range.rule in_range.overlap within is_cut m painted.are_masks,
+      )
 
   abbrev OutIsRead : List ℕ → Painted → Type 0
   OutIsRead before p = IsReadAs (file_bytes before v.a v.b p.a p.b) v.a p.a × IsReadAs (file_bytes before v.a v.b p.a p.b) v.b p.b
@@ -99,17 +105,29 @@ module _ (v : SplitValues) (o : Outside) (bytes front : List ℕ) (layer : List 
       let a_fits = in_range.a in
       let b_fits = in_range.b in
       let (s, s_in, same) = fronted lib l.top front l.before in
-      let fits : length (file_bytes (frame_bytes (frame_of lib s)) v.a v.b p.a p.b) ≤ limit = subst (λ (f : List ℕ). length (file_bytes f v.a v.b p.a p.b) ≤ limit) same small.out in
+      let fits : length (file_bytes (frame_bytes (frame_of lib s)) v.a v.b p.a p.b) ≤ limit = subst
+      (λ (f : List ℕ). length (file_bytes f v.a v.b p.a p.b) ≤ limit) same small.out in
       subst (λ (f : List ℕ). OutIsRead f p) (sym same)
       (masks-read bytes lib s v.a v.b p.a p.b holds s_in own.layers (omega (arith, a_fits)) (omega (arith, b_fits)) first second fits small.first small.second)
 
   -- with the files that are there
   masks-checked : (p : Painted) → IsPaintedCut v.rule v.overlap cut p → AreSmall v front p
-      → IsCheck (checking v) (Some bytes) (Some (certified (Masks p.head p.pieces p.stitches))) (Some (file_bytes front v.a v.b p.a p.b)) (says Done (valid_line (Masks p.head p.pieces p.stitches)))
+      → IsCheck (checking v) (Some bytes) (Some (certified (Masks p.head p.pieces p.stitches))) (Some (file_bytes front v.a v.b p.a p.b))
+      (says Done (valid_line (Masks p.head p.pieces p.stitches)))
   masks-checked p painted small =
       let (first, second, cert) = painted-fine p painted in
-      let ((fa, ra), (fb, rb)) = out-read p painted small in
-      (Layer front layer, reading, inr (small.cert, inl (Masks p.head p.pieces p.stitches, (cert, refl), (Layer fa p.a, ra, (Layer fb p.b, rb, (Valid, painted-valid v.rule v.overlap layer cut p is_cut painted, refl))))))
+      let ((fa, ra), (fb, rb)) = out-read p painted small in (
+        Layer front layer,
+        reading,
+        inr (
+          small.cert,
+          inl (
+            Masks p.head p.pieces p.stitches,
+            (cert, refl),
+            (Layer fa p.a, ra, (Layer fb p.b, rb, (Valid, painted-valid v.rule v.overlap layer cut p is_cut painted, refl))),
+          ),
+        ),
+      )
 
   -- the files that are there
   masks-kept : (p : Painted) → IsPaintedCut v.rule v.overlap cut p → AreSmall v front p
@@ -138,8 +156,18 @@ module _ (v : SplitValues) (o : Outside) (bytes front : List ℕ) (layer : List 
 
   clash-checked : (x : Clash) (out : Option (List ℕ)) → IsClashOfCut v.rule v.overlap cut x → length (certified (Conflict x.head x.cycle x.near)) ≤ limit
       → IsCheck (checking v) (Some bytes) (Some (certified (Conflict x.head x.cycle x.near))) out (says Done (valid_line (Conflict x.head x.cycle x.near)))
-  clash-checked x out clash small =
-      (Layer front layer, reading, inr (small, inl (Conflict x.head x.cycle x.near, (clash-fine x clash, refl), (Valid, clash-valid v.rule v.overlap layer cut x is_cut clash, refl))))
+  clash-checked x out clash small = (
+    Layer front layer,
+    reading,
+    inr (
+      small,
+      inl (
+        Conflict x.head x.cycle x.near,
+        (clash-fine x clash, refl),
+        (Valid, clash-valid v.rule v.overlap layer cut x is_cut clash, refl),
+      ),
+    ),
+  )
 
   clash-kept : (x : Clash) → IsClashOfCut v.rule v.overlap cut x → length (certified (Conflict x.head x.cycle x.near)) ≤ limit
       → IsPlan (Some (AsksCheck (checking v))) (carried_out (plan_of v (Decides front (Clashes x))) o).files (says Done (valid_line (Conflict x.head x.cycle x.near)))
@@ -153,7 +181,8 @@ module _ (v : SplitValues) (o : Outside) (bytes front : List ℕ) (layer : List 
       subst (λ (i : Option (List ℕ)). IsCheck (checking v) i (file_of one v.certificate) (file_of one v.output) y) (sym input_is)
       (subst (λ (c : Option (List ℕ)). IsCheck (checking v) (Some bytes) c (file_of one v.output) y) (sym cert_is) (clash-checked x (file_of one v.output) clash small))
 
-  cut-kept : (flat : Flat) → IsFlatCut v.rule v.overlap cut flat → CanBeRead v front flat → IsPlan (Some (AsksCheck (checking v))) (carried_out (plan_of v (Decides front flat)) o).files (says Done (valid_line (cert_of flat)))
+  cut-kept : (flat : Flat) → IsFlatCut v.rule v.overlap cut flat → CanBeRead v front flat
+      → IsPlan (Some (AsksCheck (checking v))) (carried_out (plan_of v (Decides front flat)) o).files (says Done (valid_line (cert_of flat)))
   cut-kept (Paints p) is small = masks-kept p is small
   cut-kept (Clashes x) is small = clash-kept x is small
 
@@ -181,7 +210,8 @@ refused (inr e) = cc
 status-of : (x y : Outcome) → x ≡ y → IsAnswer x.status → IsAnswer y.status
 status-of x y is answer = subst (λ (z : Outcome). IsAnswer z.status) is answer
 
-by-decision : (v : SplitValues) (o : Outside) (bytes : List ℕ) (x : Outcome) (d : Decision) → file_of o v.input ≡ Some bytes → IsDecision (split_choice v) v.rule v.overlap bytes d → x ≡ plan_of v d → IsAnswer x.status
+by-decision : (v : SplitValues) (o : Outside) (bytes : List ℕ) (x : Outcome) (d : Decision) → file_of o v.input ≡ Some bytes
+    → IsDecision (split_choice v) v.rule v.overlap bytes d → x ≡ plan_of v d → IsAnswer x.status
     → (front : List ℕ) × (flat : Flat) × IsDecided v o front flat × (x ≡ plan_of v (Decides front flat))
 by-decision v o bytes x (Refuses name at) found decided is answer = absurd (refused (status-of x (refusal v name at) is answer))
 by-decision v o bytes x (Decides front flat) found decided is answer = (front, flat, (bytes, found, decided), is)
@@ -197,19 +227,31 @@ split-decided v o x plan answer = by-file v o x (file_of o v.input) refl plan an
 -- ---- runs
 
 split-plan : (v : SplitValues) (o : Outside) (front : List ℕ) (flat : Flat) → IsDecided v o front flat → IsPlan (Some (AsksSplit v)) o.files (plan_of v (Decides front flat))
-split-plan v o front flat (bytes, read, decided) = subst (λ (file : Option (List ℕ)). IsSplitOf v file (plan_of v (Decides front flat))) (sym read) (Decides front flat, decided, refl)
+split-plan v o front flat (bytes, read, decided) = subst (λ (file : Option (List ℕ)). IsSplitOf v file (plan_of v (Decides front flat)))
+    (sym read) (Decides front flat, decided, refl)
 
 pub own-runs : OwnRunsAreValid
 own-runs v words others o front flat s t new last asks asks_check decided small (p, p_is, (x, x_plan, s_is, new_is)) (q, q_is, (z, z_plan, t_is, last_is)) =
     let (ranges, apart) = asked-split words v asks in
-    let in_range : AreInRangeForCheck (checking v) = record { layer = ranges.layer; datatype = ranges.datatype; rule = ranges.rule; overlap = ranges.overlap; a = ranges.a; b = ranges.b } in
+    let in_range : AreInRangeForCheck
+    (checking v) = record {
+      layer = ranges.layer;
+      datatype = ranges.datatype;
+      rule = ranges.rule;
+      overlap = ranges.overlap;
+      a = ranges.a;
+      b = ranges.b;
+    } in
     let y : Outcome = plan_of v (Decides front flat) in
     let done : Outcome = says Done (valid_line (cert_of flat)) in
-    let mine : IsPlan (Some (AsksSplit v)) o.files x = subst (λ (out : Outside). IsPlan (Some (AsksSplit v)) out.files x) (sym p_is) (subst (λ r. IsPlan r p.files x) asks x_plan) in
+    let mine : IsPlan (Some (AsksSplit v)) o.files x = subst (λ (out : Outside). IsPlan (Some (AsksSplit v)) out.files x) (sym p_is)
+    (subst (λ r. IsPlan r p.files x) asks x_plan) in
     let same : x ≡ y = outcome-same (AsksSplit v) v.tile v.workers o.files x y mine (split-plan v o front flat decided) in
     let after : new ≡ Some (carried_out y o) = new_is ∙ ap (λ (u : Outcome). Some (carried_out u o)) same in
     let shown : carried_out y o ≡ q = seen after q_is in
-    let theirs : IsPlan (Some (AsksCheck (checking v))) (carried_out y o).files z = subst (λ (out : Outside). IsPlan (Some (AsksCheck (checking v))) out.files z) (sym shown) (subst (λ r. IsPlan r q.files z) asks_check z_plan) in
+    let theirs : IsPlan (Some (AsksCheck (checking v))) (carried_out y o).files z = subst
+    (λ (out : Outside). IsPlan (Some (AsksCheck (checking v))) out.files z) (sym shown)
+    (subst (λ r. IsPlan r q.files z) asks_check z_plan) in
     let kept : IsPlan (Some (AsksCheck (checking v))) (carried_out y o).files done = own-files v o front flat in_range apart decided small in
     let one : z ≡ done = outcome-same (AsksCheck (checking v)) v.tile v.workers (carried_out y o).files z done theirs kept in (
       t_is ∙ ap (λ (u : Outcome). u.status) one,

@@ -21,7 +21,8 @@ retiled (AsksDemo v) tile workers = AsksDemo (record v { tile = tile; workers = 
 
 -- of the same files there is one outcome
 abbrev pub OneOutcome : Type 0
-OneOutcome = (request : RequestValues) (tile workers : ℕ) (files : Files) (x y : Outcome) → IsPlan (Some request) files x → IsPlan (Some (retiled request tile workers)) files y → x ≡ y
+OneOutcome = (request : RequestValues) (tile workers : ℕ) (files : Files) (x y : Outcome) → IsPlan (Some request) files x
+    → IsPlan (Some (retiled request tile workers)) files y → x ≡ y
 
 -- From one outside such words end with one status, and leave the same files and the same text said.
 abbrev pub OneRun : Type 0

@@ -19,7 +19,18 @@ use Rattle.dpl_run.specs.Texts.{valid_line}
 
 -- the same values, asked of `check`, which has no tiles and no workers
 abbrev pub checking : SplitValues → CheckValues
-checking v = record { layer = v.layer; datatype = v.datatype; rule = v.rule; overlap = v.overlap; top = v.top; a = v.a; b = v.b; input = v.input; output = v.output; certificate = v.certificate }
+checking v = record {
+  layer = v.layer;
+  datatype = v.datatype;
+  rule = v.rule;
+  overlap = v.overlap;
+  top = v.top;
+  a = v.a;
+  b = v.b;
+  input = v.input;
+  output = v.output;
+  certificate = v.certificate;
+}
 
 -- the certificate of a decomposition
 abbrev pub cert_of : Flat → Cert
@@ -49,11 +60,13 @@ SplitsAreDecided = (v : SplitValues) (o : Outside) (x : Outcome) → IsPlan (Som
 
 -- With the files that `split` writes, `check` of the same values is done, and says that they are valid.
 abbrev pub OwnFilesAreValid : Type 0
-OwnFilesAreValid = (v : SplitValues) (o : Outside) (front : List ℕ) (flat : Flat) → AreInRangeForCheck (checking v) → IsApart (AsksSplit v) → IsDecided v o front flat → CanBeRead v front flat
+OwnFilesAreValid = (v : SplitValues) (o : Outside) (front : List ℕ) (flat : Flat) → AreInRangeForCheck (checking v) → IsApart (AsksSplit v)
+    → IsDecided v o front flat → CanBeRead v front flat
     → IsPlan (Some (AsksCheck (checking v))) (carried_out (plan_of v (Decides front flat)) o).files (says Done (valid_line (cert_of flat)))
 
 -- After a command line of `split`, one of `check` with the same values ends so.
 abbrev pub OwnRunsAreValid : Type 0
-OwnRunsAreValid = (v : SplitValues) (words others : List Text) (o : Outside) (front : List ℕ) (flat : Flat) (s t : Status) (new last : Option Outside) → request_of words ≡ Some (AsksSplit v)
+OwnRunsAreValid = (v : SplitValues) (words others : List Text) (o : Outside) (front : List ℕ) (flat : Flat) (s t : Status)
+    (new last : Option Outside) → request_of words ≡ Some (AsksSplit v)
     → request_of others ≡ Some (AsksCheck (checking v)) → IsDecided v o front flat → CanBeRead v front flat → IsOutcome words s (Some o) new → IsOutcome others t new last
     → (t ≡ Done) × (last ≡ option_map (with_said (valid_line (cert_of flat))) new)

@@ -1,5 +1,6 @@
 -- Reading the records of the boundaries that are written.
-use Rattle.std.proofs.Common.{◌≡◌, ℕ, ◌+◌, ◌<◌, Bool, true, false, cond, eqb, List, [], ◌∷◌, ◌++◌, length, Option, Some, None, Result, Ok, Err, refl, sym, subst, ap, ◌∙◌, append_assoc, arith}
+use Rattle.std.proofs.Common.{◌≡◌, ℕ, ◌+◌, ◌<◌, Bool, true, false, cond, eqb, List, [], ◌∷◌, ◌++◌, length, Option, Some, None, Result, Ok}
+use Rattle.std.proofs.Common.{Err, refl, sym, subst, ap, ◌∙◌, append_assoc, arith}
 use Rattle.std.specs.List.{Contains}
 use Rattle.std.specs.Int.{w16, to_be_bytes}
 use Rattle.std.proofs.lemmas.List.{length-append, append-nil}
@@ -37,10 +38,12 @@ leaves bytes kind at r e h =
 item_left : (bytes : List ℕ) (kind at : ℕ) (r : Record) → record_at bytes at ≡ Ok r → eqb r.kind kind ≡ false → reading.item_at bytes (may kind) at ≡ Ok ((kind, None) ∷ [], at)
 item_left bytes kind at r e h = ap (λ (x : Result (Option Record × ℕ) Fault). x >>= (λ o. Ok ((kind, o.0) ∷ [], o.1))) (leaves bytes kind at r e h)
 
-item_taken : (bytes : List ℕ) (kind at : ℕ) (r : Record) → record_at bytes at ≡ Ok r → eqb r.kind kind ≡ true → reading.item_at bytes (must kind) at ≡ Ok ((kind, Some r) ∷ [], r.next)
+item_taken : (bytes : List ℕ) (kind at : ℕ) (r : Record) → record_at bytes at ≡ Ok r → eqb r.kind kind ≡ true
+    → reading.item_at bytes (must kind) at ≡ Ok ((kind, Some r) ∷ [], r.next)
 item_taken bytes kind at r e h = ap (reading.one_slot bytes kind) (takes bytes kind at r e h)
 
-item_first : (bytes : List ℕ) (i : Item) (is : List Item) (at : ℕ) (first others : Slots × ℕ) → reading.item_at bytes i at ≡ Ok first → reading.items_at bytes is first.1 ≡ Ok others → reading.items_at bytes (i ∷ is) at ≡ Ok (first.0 ++ others.0, others.1)
+item_first : (bytes : List ℕ) (i : Item) (is : List Item) (at : ℕ) (first others : Slots × ℕ) → reading.item_at bytes i at ≡ Ok first
+    → reading.items_at bytes is first.1 ≡ Ok others → reading.items_at bytes (i ∷ is) at ≡ Ok (first.0 ++ others.0, others.1)
 unfolding reading.items_at
 item_first bytes i is at first others e f =
     ap (λ (x : Result (Slots × ℕ) Fault). x >>= (λ y. reading.items_at bytes is y.1 >>= (λ z. Ok (y.0 ++ z.0, z.1)))) e
@@ -110,7 +113,10 @@ module _ (out pre post : List ℕ) (s : Shape) (fits : s.layer < 65536) (is : ou
   p5 = p4 ++ w4 s.rect
 
   out-1 : out ≡ pre ++ (w1 ++ (w2 s.layer ++ (w3 ++ (w4 s.rect ++ (w5 ++ post)))))
-  out-1 = is ∙ ap (λ x. pre ++ (x ++ post)) (five s.layer s.rect) ∙ ap (λ x. pre ++ x) (append_assoc w1 (w2 s.layer ++ (w3 ++ (w4 s.rect ++ w5))) post ∙ ap (λ x. w1 ++ x) (append_assoc (w2 s.layer) (w3 ++ (w4 s.rect ++ w5)) post ∙ ap (λ x. w2 s.layer ++ x) (append_assoc w3 (w4 s.rect ++ w5) post ∙ ap (λ x. w3 ++ x) (append_assoc (w4 s.rect) w5 post))))
+  out-1 = is ∙ ap (λ x. pre ++ (x ++ post)) (five s.layer s.rect)
+      ∙ ap (λ x. pre ++ x) (append_assoc w1 (w2 s.layer ++ (w3 ++ (w4 s.rect ++ w5))) post
+      ∙ ap (λ x. w1 ++ x) (append_assoc (w2 s.layer) (w3 ++ (w4 s.rect ++ w5)) post ∙ ap (λ x. w2 s.layer ++ x)
+      (append_assoc w3 (w4 s.rect ++ w5) post ∙ ap (λ x. w3 ++ x) (append_assoc (w4 s.rect) w5 post))))
 
   out-2 : out ≡ p2 ++ (w2 s.layer ++ (w3 ++ (w4 s.rect ++ (w5 ++ post))))
   out-2 = out-1 ∙ sym (append_assoc pre w1 (w2 s.layer ++ (w3 ++ (w4 s.rect ++ (w5 ++ post)))))
@@ -140,7 +146,8 @@ module _ (out pre post : List ℕ) (s : Shape) (fits : s.layer < 65536) (is : ou
   found-5 = put out p5 w5 post kinds.endel [] out-5 is_5
 
   abbrev slots : Slots
-  slots = (kinds.elflags, None) ∷ (kinds.plex, None) ∷ (kinds.layer, Some (rec p2 (w2 s.layer) kinds.layer (to_be_bytes w16 s.layer))) ∷ (kinds.datatype, Some (rec p3 w3 kinds.datatype (0 ∷ 0 ∷ []))) ∷ (kinds.xy, Some (rec p4 (w4 s.rect) kinds.xy (xy_of s.rect))) ∷ []
+  slots = (kinds.elflags, None) ∷ (kinds.plex, None) ∷ (kinds.layer, Some (rec p2 (w2 s.layer) kinds.layer (to_be_bytes w16 s.layer)))
+      ∷ (kinds.datatype, Some (rec p3 w3 kinds.datatype (0 ∷ 0 ∷ []))) ∷ (kinds.xy, Some (rec p4 (w4 s.rect) kinds.xy (xy_of s.rect))) ∷ []
 
   items-read : reading.items_at out reading.boundary (length p2) ≡ Ok (slots, length p5)
   items-read =
@@ -164,7 +171,8 @@ module _ (out pre post : List ℕ) (s : Shape) (fits : s.layer < 65536) (is : ou
   end-read : Passes out properties_end same IsEnd (length p5) (length (p5 ++ w5))
   end-read =
       whole_end out (length p5) (length p5) (rec p5 w5 kinds.endel [], length (p5 ++ w5))
-      (no_more out (length p5) (length p5) (length p5) (passes_none out property_first AreProperties (length p5) tt) (leaves out kinds.propattr (length p5) (rec p5 w5 kinds.endel []) found-5 refl))
+      (no_more out (length p5) (length p5) (length p5) (passes_none out property_first AreProperties (length p5) tt)
+      (leaves out kinds.propattr (length p5) (rec p5 w5 kinds.endel []) found-5 refl))
       (takes out kinds.endel (length p5) (rec p5 w5 kinds.endel []) found-5 refl)
 
   one-read : Passes out element_then same (IsElement (record { at = length pre; body = body_of_shape s })) (length pre) (length (p5 ++ w5))
@@ -195,10 +203,13 @@ unfolding boundary_bytes coordinate_bytes
 size-of layer r = refl
 
 -- the elements of all shapes
-pub read-shapes : (out pre post : List ℕ) (ss : List Shape) (from : ℕ) (es : List Element) → ((s : Shape) → Contains ss s → s.layer < 65536) → out ≡ pre ++ (shapes_bytes ss ++ post) → Passes out elements_first elements_first (AreElements es) from (length pre)
+pub read-shapes : (out pre post : List ℕ) (ss : List Shape) (from : ℕ) (es : List Element)
+    → ((s : Shape) → Contains ss s → s.layer < 65536) → out ≡ pre ++ (shapes_bytes ss ++ post)
+    → Passes out elements_first elements_first (AreElements es) from (length pre)
     → Passes out elements_first elements_first (AreElements (es ++ elements_from (length pre) ss)) from (length (pre ++ shapes_bytes ss))
 read-shapes out pre post [] from es fits is so_far =
-    subst (λ x. Passes out elements_first elements_first (AreElements x) from (length (pre ++ []))) (sym (append-nil es)) (subst (λ x. Passes out elements_first elements_first (AreElements es) from (length x)) (sym (append-nil pre)) so_far)
+    subst (λ x. Passes out elements_first elements_first (AreElements x) from (length (pre ++ []))) (sym (append-nil es))
+    (subst (λ x. Passes out elements_first elements_first (AreElements es) from (length x)) (sym (append-nil pre)) so_far)
 read-shapes out pre post (s ∷ ss) from es fits is so_far =
     let box : List ℕ = boundary_bytes s.layer s.rect in
     let e : Element = record { at = length pre; body = body_of_shape s } in
@@ -207,7 +218,8 @@ read-shapes out pre post (s ∷ ss) from es fits is so_far =
     let next : out ≡ (pre ++ box) ++ (shapes_bytes ss ++ post) = here ∙ sym (append_assoc pre box (shapes_bytes ss ++ post)) in
     let more = read-shapes out (pre ++ box) post ss from (es ++ e ∷ []) (λ t t_in. fits t (Contains-later s t ss t_in)) next one in
     let at : length (pre ++ box) ≡ length pre + 64 = length-append pre box ∙ ap (λ n. length pre + n) (size-of s.layer s.rect) in
-    let list : (es ++ e ∷ []) ++ elements_from (length (pre ++ box)) ss ≡ es ++ e ∷ elements_from (length pre + 64) ss = append_assoc es (e ∷ []) (elements_from (length (pre ++ box)) ss) ∙ ap (λ n. es ++ e ∷ elements_from n ss) at in
+    let list : (es ++ e ∷ []) ++ elements_from (length (pre ++ box)) ss ≡ es ++ e ∷ elements_from (length pre + 64) ss = append_assoc es
+    (e ∷ []) (elements_from (length (pre ++ box)) ss) ∙ ap (λ n. es ++ e ∷ elements_from n ss) at in
     let end : (pre ++ box) ++ shapes_bytes ss ≡ pre ++ (box ++ shapes_bytes ss) = append_assoc pre box (shapes_bytes ss) in
     subst (λ x. Passes out elements_first elements_first (AreElements x) from (length (pre ++ (box ++ shapes_bytes ss)))) list
     (subst (λ x. Passes out elements_first elements_first (AreElements ((es ++ e ∷ []) ++ elements_from (length (pre ++ box)) ss)) from (length x)) end more)

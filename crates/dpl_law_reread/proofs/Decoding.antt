@@ -45,5 +45,6 @@ points-read r near =
     let y0 = coordinate-read r.y0 near.low in
     let x1 = coordinate-read r.x1 near.right in
     let y1 = coordinate-read r.y1 near.high in
-    let whole : points_in (xy_of r) ≡ at (read_back r.x0) (read_back r.y0) ∷ at (read_back r.x1) (read_back r.y0) ∷ at (read_back r.x1) (read_back r.y1) ∷ at (read_back r.x0) (read_back r.y1) ∷ at (read_back r.x0) (read_back r.y0) ∷ [] = refl in
+    let whole : points_in (xy_of r) ≡ at (read_back r.x0) (read_back r.y0) ∷ at (read_back r.x1) (read_back r.y0) ∷ at (read_back r.x1)
+    (read_back r.y1) ∷ at (read_back r.x0) (read_back r.y1) ∷ at (read_back r.x0) (read_back r.y0) ∷ [] = refl in
     whole ∙ (λ i. at (x0 i) (y0 i) ∷ at (x1 i) (y0 i) ∷ at (x1 i) (y1 i) ∷ at (x0 i) (y1 i) ∷ at (x0 i) (y0 i) ∷ [])

@@ -1,5 +1,6 @@
 -- A file of two masks has no fault, where its masks have not too many slabs.
-use Rattle.std.proofs.Common.{◌≡◌, ◌≢◌, ℕ, zero, suc, ◌+◌, ◌*◌, ◌/◌, ◌<◌, ◌≤◌, ◌⊎◌, inl, inr, Bool, true, false, ◌&&◌, eqb, List, [], ◌∷◌, ◌++◌, length, map, get_or, slice_get, Some, None, refl, sym, subst, ap, ◌∙◌, arith}
+use Rattle.std.proofs.Common.{◌≡◌, ◌≢◌, ℕ, zero, suc, ◌+◌, ◌*◌, ◌/◌, ◌<◌, ◌≤◌, ◌⊎◌, inl, inr, Bool, true, false, ◌&&◌, eqb, List, [], ◌∷◌}
+use Rattle.std.proofs.Common.{◌++◌, length, map, get_or, slice_get, Some, None, refl, sym, subst, ap, ◌∙◌, arith}
 use Rattle.std.specs.Prelude.{pos, if◌then◌else◌}
 use Rattle.std.specs.List.{Contains, sum_by}
 use Rattle.std.specs.Option.{option_map}
@@ -155,10 +156,12 @@ module _ (lib : Library) (layer : ℕ) (below : ℕ → ℕ) where
   own-points e (l, r, near, is) =
       let none : columns_of e.body ≡ 0 = ap columns_of is in
       let copies : columns_of e.body * rows_of e.body ≡ 0 = ap (λ n. n * rows_of e.body) none ∙ zero-mul (rows_of e.body) in
-      let all : columns_of e.body * rows_of e.body * points_at below (target_of lib e) ≡ 0 = ap (λ n. n * points_at below (target_of lib e)) copies ∙ zero-mul (points_at below (target_of lib e)) in
+      let all : columns_of e.body * rows_of e.body * points_at below (target_of lib e) ≡ 0 = ap
+      (λ n. n * points_at below (target_of lib e)) copies ∙ zero-mul (points_at below (target_of lib e)) in
       omega (arith, all)
 
-  all-points : (es : List Element) → ((e : Element) → Contains es e → IsOfMask e.body) → sum_by (points_by lib chosen below) es ≡ sum_by (count layer) (map (λ (e : Element). e.body) es)
+  all-points : (es : List Element) → ((e : Element) → Contains es e → IsOfMask e.body) → sum_by (points_by lib chosen below) es ≡ sum_by
+      (count layer) (map (λ (e : Element). e.body) es)
   all-points [] of = refl
   all-points (e ∷ es) of =
       let h = all-points es (λ x x_in. of x (Contains-later e x es x_in)) in
@@ -176,7 +179,8 @@ module _ (bytes : List ℕ) (la lb : ℕ) (a b : List Rect) (m : AreMasksOf byte
 
   top-masks : (e : Element) → Contains m.top.elements e → IsOfMask e.body
   top-masks e e_in =
-      let there : Contains (map (boundary_round la) a ++ map (boundary_round lb) b) e.body = subst (λ (bs : List Body). Contains bs e.body) m.only (map-in (λ (x : Element). x.body) m.top.elements e e_in) in
+      let there : Contains (map (boundary_round la) a ++ map (boundary_round lb) b) e.body = subst
+      (λ (bs : List Body). Contains bs e.body) m.only (map-in (λ (x : Element). x.body) m.top.elements e e_in) in
       elim (Contains-append_cases (map (boundary_round la) a) (map (boundary_round lb) b) e.body there) [
         | inl one ↦ rounded la a e.body a_is.within one
         | inr two ↦ rounded lb b e.body b_is.within two
@@ -191,25 +195,31 @@ module _ (bytes : List ℕ) (la lb : ℕ) (a b : List Rect) (m : AreMasksOf byte
   no-target : (k j : ℕ) (e : Element) → Contains (elements_at m.lib k) e → target_of m.lib e ≡ Some j → ⊥
   no-target k j e e_in target =
       let (l, r, near, is) = all-masks k e e_in in
-      let none : target_of m.lib (record { at = e.at; body = boundary_round l r }) ≡ Some j = subst (λ (x : Body). target_of m.lib (record { at = e.at; body = x }) ≡ Some j) is target in
+      let none : target_of m.lib (record { at = e.at; body = boundary_round l r }) ≡ Some j = subst
+      (λ (x : Body). target_of m.lib (record { at = e.at; body = x }) ≡ Some j) is target in
       cc
 
-  few-points : (layer : ℕ) (most : ℕ) → sum_by (count layer) (map (boundary_round la) a ++ map (boundary_round lb) b) ≤ most → placed_points m.lib (record { layer = layer; datatype = 0 }) 0 ≤ most
+  few-points : (layer : ℕ) (most : ℕ) → sum_by (count layer) (map (boundary_round la) a ++ map (boundary_round lb) b) ≤ most
+      → placed_points m.lib (record { layer = layer; datatype = 0 }) 0 ≤ most
   few-points layer most few =
       let chosen : Layer = record { layer = layer; datatype = 0 } in
       let size : length m.lib.structures ≡ 1 = ap (λ (ts : List Structure). length ts) m.one in
       let top : elements_at m.lib 0 ≡ m.top.elements = ap (λ (ts : List Structure). elements_or_none (slice_get ts 0)) m.one in
-      let one : placed_points m.lib chosen 0 ≡ sum_by (points_by m.lib chosen (points_through m.lib chosen 0)) (elements_at m.lib 0) = ap (λ n. points_through m.lib chosen n 0) size in
+      let one : placed_points m.lib chosen 0 ≡ sum_by (points_by m.lib chosen (points_through m.lib chosen 0)) (elements_at m.lib 0) = ap
+      (λ n. points_through m.lib chosen n 0) size in
       let two : sum_by (points_by m.lib chosen (points_through m.lib chosen 0)) (elements_at m.lib 0) ≡ sum_by (count layer) (bodies_of m.top) =
-      ap (λ (es : List Element). sum_by (points_by m.lib chosen (points_through m.lib chosen 0)) es) top ∙ all-points m.lib layer (points_through m.lib chosen 0) m.top.elements top-masks in
-      let three : sum_by (count layer) (bodies_of m.top) ≡ sum_by (count layer) (map (boundary_round la) a ++ map (boundary_round lb) b) = ap (λ (bs : List Body). sum_by (count layer) bs) m.only in
+      ap (λ (es : List Element). sum_by (points_by m.lib chosen (points_through m.lib chosen 0)) es) top ∙ all-points m.lib layer
+      (points_through m.lib chosen 0) m.top.elements top-masks in
+      let three : sum_by (count layer) (bodies_of m.top) ≡ sum_by (count layer)
+      (map (boundary_round la) a ++ map (boundary_round lb) b) = ap (λ (bs : List Body). sum_by (count layer) bs) m.only in
       omega (arith, one, two, three, few)
 
   no-steps : (steps : List Step) (k : ℕ) → Leads m.lib 0 steps k → steps ≡ []
   no-steps [] k leads = refl
   no-steps (s ∷ steps) k (j, is, leads) = absurd (no-target 0 j s.element is.inside is.target)
 
-  pub faultless : (layer : ℕ) → sum_by (count layer) (map (boundary_round la) a ++ map (boundary_round lb) b) ≤ most_points → IsFaultless m.lib 0 (record { layer = layer; datatype = 0 })
+  pub faultless : (layer : ℕ) → sum_by (count layer) (map (boundary_round la) a ++ map (boundary_round lb) b) ≤ most_points
+      → IsFaultless m.lib 0 (record { layer = layer; datatype = 0 })
   faultless layer few =
       let chosen : Layer = record { layer = layer; datatype = 0 } in
       record {

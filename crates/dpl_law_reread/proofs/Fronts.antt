@@ -41,15 +41,24 @@ sound-in front [] r rest sound t = absurd t
 sound-in front (x ∷ xs) r rest sound (inl (same, more)) = (front, subst (λ y. refusal front y ≡ None) same sound.0)
 sound-in front (x ∷ xs) r rest sound (inr t) = sound-in (front ++ x ∷ []) xs r rest sound.1 t
 
-part-step : (begins : ℕ → Bool) (end : ℕ) (x : Record) (xs : List Record) (p : Record × List Record) (b : Bool) → begins x.kind ≡ b → (Contains (parts begins end xs) p → (rest : List Record) × IsTail xs p.0 rest × (p.1 ≡ before end rest) × (begins p.0.kind ≡ true))
-    → Contains (if b then (x, before end xs) ∷ parts begins end xs else parts begins end xs) p → (rest : List Record) × IsTail (x ∷ xs) p.0 rest × (p.1 ≡ before end rest) × (begins p.0.kind ≡ true)
+part-step : (begins : ℕ → Bool) (end : ℕ) (x : Record) (xs : List Record) (p : Record × List Record) (b : Bool) → begins x.kind ≡ b
+    → (Contains (parts begins end xs) p → (rest : List Record) × IsTail xs p.0 rest × (p.1 ≡ before end rest) × (begins p.0.kind ≡ true))
+    → Contains (if b then (x, before end xs) ∷ parts begins end xs else parts begins end xs) p
+    → (rest : List Record) × IsTail (x ∷ xs) p.0 rest × (p.1 ≡ before end rest) × (begins p.0.kind ≡ true)
 part-step begins end x xs p false is later h = let (rest, t, e, k) = later h in (rest, inr t, e, k)
 part-step begins end x xs p true is later h = elim (Contains-cases (x, before end xs) p (parts begins end xs) h) [
-  | inl same ↦ (xs, inl (ap (λ q. let pair : Record × List Record = q in pair.0) same, refl), sym (ap (λ q. let pair : Record × List Record = q in pair.1) same), ap (λ q. let pair : Record × List Record = q in begins pair.0.kind) (sym same) ∙ is)
+  | inl same ↦ (
+    xs,
+    inl (ap (λ q. let pair : Record × List Record = q in pair.0) same, refl),
+    sym (ap (λ q. let pair : Record × List Record = q in pair.1) same),
+    ap (λ q. let pair : Record × List Record = q in
+        begins pair.0.kind) (sym same) ∙ is,
+  )
   | inr more ↦ (let (rest, t, e, k) = later more in (rest, inr t, e, k))
 ]
 
-part-tail : (begins : ℕ → Bool) (end : ℕ) (rs : List Record) (p : Record × List Record) → Contains (parts begins end rs) p → (rest : List Record) × IsTail rs p.0 rest × (p.1 ≡ before end rest) × (begins p.0.kind ≡ true)
+part-tail : (begins : ℕ → Bool) (end : ℕ) (rs : List Record) (p : Record × List Record) → Contains (parts begins end rs) p
+    → (rest : List Record) × IsTail rs p.0 rest × (p.1 ≡ before end rest) × (begins p.0.kind ≡ true)
 unfolding parts
 part-tail begins end [] p h = absurd (Contains-nil p h)
 part-tail begins end (x ∷ xs) p h = part-step begins end x xs p (begins x.kind) refl (part-tail begins end xs p) h
@@ -114,7 +123,8 @@ has-bgnlib : Always kinds.bgnlib library
 has-bgnlib = always-rest kinds.bgnlib (a kinds.header) l2 (always-first kinds.bgnlib l3)
 
 has-libname : Always kinds.libname library
-has-libname = always-rest kinds.libname (a kinds.header) l2 (always-rest kinds.libname (a kinds.bgnlib) l3 (always-rest kinds.libname (many grammar.skip) l4 (always-first kinds.libname l5)))
+has-libname = always-rest kinds.libname (a kinds.header) l2
+    (always-rest kinds.libname (a kinds.bgnlib) l3 (always-rest kinds.libname (many grammar.skip) l4 (always-first kinds.libname l5)))
 
 has-units : Always kinds.units library
 has-units =
@@ -232,7 +242,9 @@ name-behind (x ∷ xs) r rest h (inr t) e = name-behind xs r rest h.1 t e
 strname_refusal : (o : ℕ) (known : List (List ℕ)) (at : ℕ) (body : List ℕ) (b : Bool) → is_empty (name_of body) ≡ b → refusal_in o known kinds.strname at body ≡ None → b ≡ false
 unfolding refusal_in
 strname_refusal o known at body true e h =
-    let some : Some (bad_name at) ≡ None = ap (λ (b : Bool). cond b (Some (bad_name at)) (cond (list_any (pointwise nat_eq (name_of body)) known) (Some (duplicate_structure at)) None)) (sym e) ∙ h in
+    let some : Some (bad_name at) ≡ None = ap
+    (λ (b : Bool). cond b (Some (bad_name at)) (cond (list_any (pointwise nat_eq (name_of body)) known)
+    (Some (duplicate_structure at)) None)) (sym e) ∙ h in
     absurd cc
 strname_refusal o known at body false e h = refl
 
@@ -255,8 +267,11 @@ module _ (bytes : List ℕ) (rs : List Record) (end : ℕ) (lies : Lies bytes 0 
 
   part-of : (kind : ℕ) → Always kind library → IsWhole (whole_of bytes kind rs) kind
   part-of kind always =
-      let f = first-found kind rs (always (kinds_of rs) has) in
-      (f.found.body, subst (λ o. IsRecord (whole_or_none bytes o) kind f.found.body) (sym f.is) (subst (λ k. IsRecord (whole bytes f.found) k f.found.body) f.kind (whole-at f.found f.rest f.there)))
+      let f = first-found kind rs (always (kinds_of rs) has) in (
+        f.found.body,
+        subst (λ o. IsRecord (whole_or_none bytes o) kind f.found.body) (sym f.is)
+            (subst (λ k. IsRecord (whole bytes f.found) k f.found.body) f.kind (whole-at f.found f.rest f.there)),
+      )
 
   structure-parts : (p : Record × List Record) (rest : List Record) → IsTail rs p.0 rest → p.1 ≡ before kinds.endstr rest → p.0.kind ≡ kinds.bgnstr → StartsName (kinds_of rest)
       → IsWhole (structure_of bytes p).bgnstr kinds.bgnstr × ((body : List ℕ) × IsRecord (structure_of bytes p).strname kinds.strname body × (is_empty (name_of body) ≡ false))
@@ -265,12 +280,14 @@ module _ (bytes : List ℕ) (rs : List Record) (end : ℕ) (lies : Lies bytes 0 
       let there = next-in rs p.0 n (n ∷ more) more t refl in
       let (earlier, fine) = sound-in [] rs n more sound there in
       let is : p.1 ≡ n ∷ before kinds.endstr more = e ∙ ap (λ j. cond (eqb j kinds.endstr) [] (n ∷ before kinds.endstr more)) name in
-      let first : first_of kinds.strname p.1 ≡ Some n = ap (first_of kinds.strname) is ∙ ap (λ j. cond (eqb j kinds.strname) (Some n) (first_of kinds.strname (before kinds.endstr more))) name in (
+      let first : first_of kinds.strname p.1 ≡ Some n = ap (first_of kinds.strname) is
+      ∙ ap (λ j. cond (eqb j kinds.strname) (Some n) (first_of kinds.strname (before kinds.endstr more))) name in (
         (p.0.body, subst (λ j. IsRecord (whole bytes p.0) j p.0.body) k (whole-at p.0 (n ∷ more) t)),
         (
           n.body,
           subst (λ o. IsRecord (whole_or_none bytes o) kinds.strname n.body) (sym first) (subst (λ j. IsRecord (whole bytes n) j n.body) name (whole-at n more there)),
-          strname_refusal (owner earlier) (names earlier) n.at n.body (is_empty (name_of n.body)) refl (subst (λ j. refusal_in (owner earlier) (names earlier) j n.at n.body ≡ None) name fine),
+          strname_refusal (owner earlier) (names earlier) n.at n.body (is_empty (name_of n.body)) refl
+              (subst (λ j. refusal_in (owner earlier) (names earlier) j n.at n.body ≡ None) name fine),
         ),
       )
 

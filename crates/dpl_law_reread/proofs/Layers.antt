@@ -1,5 +1,6 @@
 -- The layers of a library whose one structure has one boundary for each rectangle.
-use Rattle.std.proofs.Common.{◌≡◌, ◌≢◌, ℕ, ◌+◌, ◌<◌, ◌⊎◌, inl, inr, Bool, true, false, ◌&&◌, eqb, List, [], ◌∷◌, ◌++◌, length, map, slice_get, Some, None, zero, suc, refl, sym, subst, ap, ◌∙◌, arith, rules}
+use Rattle.std.proofs.Common.{◌≡◌, ◌≢◌, ℕ, ◌+◌, ◌<◌, ◌⊎◌, inl, inr, Bool, true, false, ◌&&◌, eqb, List, [], ◌∷◌, ◌++◌, length, map}
+use Rattle.std.proofs.Common.{slice_get, Some, None, zero, suc, refl, sym, subst, ap, ◌∙◌, arith, rules}
 use Rattle.std.specs.Prelude.{◌↔◌, if◌then◌else◌}
 use Rattle.std.specs.List.{Contains}
 use Rattle.std.proofs.lemmas.Bool.{eqb-true, eq-eqb}
@@ -54,7 +55,11 @@ element-of at (t ∷ ss) s h = elim (Contains-cases t s ss h) [
 ]
 
 one-loop : (l : List Pt) (p : Pt) → SomeLoopCovers (l ∷ []) p → LoopCovers l p
-one-loop l p (k, m, k_in, is, covers) = elim (Contains-cases l m [] (k, k_in, is)) [ inl same ↦ subst (λ x. LoopCovers x p) (sym same) covers | inr later ↦ absurd (Contains-nil m later) ]
+one-loop l p (k, m, k_in, is, covers) = elim (Contains-cases l m [] (k, k_in, is)) [
+  | inl same ↦ subst (λ x. LoopCovers x p)
+      (sym same) covers
+  | inr later ↦ absurd (Contains-nil m later)
+]
 
 no-loop : (p : Pt) → SomeLoopCovers [] p → ⊥
 no-loop p (k, m, k_in, is, covers) = omega (arith, k_in)
@@ -66,10 +71,12 @@ module _ (lib : Library) (at : ℕ) (ss : List Shape) (good : (s : Shape) → Co
   no-step : (s : Step) (j : ℕ) → IsStep lib 0 s j → ⊥
   no-step s j is =
       let (t, t_in, body) = shape-of at ss s.element (subst (λ es. Contains es s.element) elements is.inside) in
-      let none : target_of lib (record { at = s.element.at; body = body_of_shape t }) ≡ Some j = subst (λ b. target_of lib (record { at = s.element.at; body = b }) ≡ Some j) body is.target in
+      let none : target_of lib (record { at = s.element.at; body = body_of_shape t }) ≡ Some j = subst
+      (λ b. target_of lib (record { at = s.element.at; body = b }) ≡ Some j) body is.target in
       cc
 
-  loops-are : (layer : ℕ) (s : Shape) (p : Pt) → IsGoodShape s → SomeLoopCovers (loops_of (record { layer = layer; datatype = 0 }) (body_of_shape s)) p ↔ ((s.layer ≡ layer) × Has s.rect p)
+  loops-are : (layer : ℕ) (s : Shape) (p : Pt) → IsGoodShape s
+      → SomeLoopCovers (loops_of (record { layer = layer; datatype = 0 }) (body_of_shape s)) p ↔ ((s.layer ≡ layer) × Has s.rect p)
   loops-are layer s p is =
       let points = points-read s.rect is.near in
       let round = round-covers s.rect p is.solid in (
@@ -89,7 +96,8 @@ module _ (lib : Library) (at : ℕ) (ss : List Shape) (good : (s : Shape) → Co
   abbrev InShapes : ℕ → Pt → Type 0
   InShapes layer p = (s : Shape) × Contains ss s × (s.layer ≡ layer) × Has s.rect p
 
-  to-shapes : (layer : ℕ) (p : Pt) (steps : List Step) (k : ℕ) (e : Element) → Leads lib 0 steps k → Contains (elements_at lib k) e → SomeLoopCovers (placed_loops (record { layer = layer; datatype = 0 }) steps e) p → InShapes layer p
+  to-shapes : (layer : ℕ) (p : Pt) (steps : List Step) (k : ℕ) (e : Element) → Leads lib 0 steps k → Contains (elements_at lib k) e
+      → SomeLoopCovers (placed_loops (record { layer = layer; datatype = 0 }) steps e) p → InShapes layer p
   to-shapes layer p [] k e leads inside covers =
       let here : Contains (elements_from at ss) e = subst (λ es. Contains es e) elements (subst (λ n. Contains (elements_at lib n) e) (sym leads) inside) in
       let (s, s_in, body) = shape-of at ss e here in
@@ -193,14 +201,16 @@ bodies-of : (layer : ℕ) (rs : List Rect) → map body_of_shape (shapes_of laye
 bodies-of layer [] = refl
 bodies-of layer (r ∷ rs) = ap (λ bs. boundary_round layer r ∷ bs) (bodies-of layer rs)
 
-pub bodies-both : (at la lb : ℕ) (a b : List Rect) → map (λ (e : Element). e.body) (elements_from at (both_shapes la lb a b)) ≡ map (boundary_round la) a ++ map (boundary_round lb) b
+pub bodies-both : (at la lb : ℕ) (a b : List Rect) → map (λ (e : Element). e.body) (elements_from at (both_shapes la lb a b)) ≡ map
+    (boundary_round la) a ++ map (boundary_round lb) b
 bodies-both at la lb a b =
     bodies-from at (both_shapes la lb a b)
     ∙ map-append body_of_shape (shapes_of la a) (shapes_of lb b)
     ∙ (λ i. bodies-of la a i ++ bodies-of lb b i)
 
 -- what holds of the shapes of each mask
-pub all-shapes : (P : Shape → Type 0) (la lb : ℕ) (a b : List Rect) → ((r : Rect) → Contains a r → P (on_layer la r)) → ((r : Rect) → Contains b r → P (on_layer lb r)) → (s : Shape) → Contains (both_shapes la lb a b) s → P s
+pub all-shapes : (P : Shape → Type 0) (la lb : ℕ) (a b : List Rect) → ((r : Rect) → Contains a r → P (on_layer la r))
+    → ((r : Rect) → Contains b r → P (on_layer lb r)) → (s : Shape) → Contains (both_shapes la lb a b) s → P s
 all-shapes P la lb a b one other s s_in = elim (Contains-append_cases (shapes_of la a) (shapes_of lb b) s s_in) [
   | inl here ↦ (let (r_in, is) = shape-in la a s here in subst (λ l. P (record { layer = l; rect = s.rect })) (sym is) (one s.rect r_in))
   | inr there ↦ (let (r_in, is) = shape-in lb b s there in subst (λ l. P (record { layer = l; rect = s.rect })) (sym is) (other s.rect r_in))

@@ -21,7 +21,8 @@ mask-bytes layer (r ∷ rs) = ap (λ x. boundary_bytes layer r ++ x) (mask-bytes
 
 bytes-append : (ss ts : List Shape) → shapes_bytes (ss ++ ts) ≡ shapes_bytes ss ++ shapes_bytes ts
 bytes-append [] ts = refl
-bytes-append (s ∷ ss) ts = ap (λ x. boundary_bytes s.layer s.rect ++ x) (bytes-append ss ts) ∙ sym (append_assoc (boundary_bytes s.layer s.rect) (shapes_bytes ss) (shapes_bytes ts))
+bytes-append (s ∷ ss) ts = ap (λ x. boundary_bytes s.layer s.rect ++ x) (bytes-append ss ts)
+    ∙ sym (append_assoc (boundary_bytes s.layer s.rect) (shapes_bytes ss) (shapes_bytes ts))
 
 -- the bytes of both masks and of the end
 both-bytes : (la lb : ℕ) (a b : List Rect) → shapes_bytes (both_shapes la lb a b) ++ closing_bytes ≡ boundaries_bytes la a ++ (boundaries_bytes lb b ++ closing_bytes)
@@ -36,16 +37,20 @@ good slabs layer r mask r_in = record { solid = All-contains IsSolid slabs r mas
 both-ways : {A B C : Type 0} → A ↔ B → B ↔ C → A ↔ C
 both-ways p q = (λ x. q.0 (p.0 x), λ z. p.1 (q.1 z))
 
-pub read-back : (bytes : List ℕ) (lib : Library) (s : Structure) (la lb : ℕ) (a b : List Rect) → Holds bytes lib → Contains lib.structures s → la ≢ lb → la < 65536 → lb < 65536 → IsMask a → IsMask b
+pub read-back : (bytes : List ℕ) (lib : Library) (s : Structure) (la lb : ℕ) (a b : List Rect) → Holds bytes lib
+    → Contains lib.structures s → la ≢ lb → la < 65536 → lb < 65536 → IsMask a → IsMask b
     → AreMasksOf (file_bytes (frame_bytes (frame_of lib s)) la lb a b) la lb a b
 read-back bytes lib s la lb a b held s_in apart la_in lb_in a_is b_is =
     let f = front-whole bytes lib s held s_in in
     let shapes : List Shape = both_shapes la lb a b in
     let fits : (t : Shape) → Contains shapes t → t.layer < 65536 = all-shapes (λ t. t.layer < 65536) la lb a b (λ r r_in. la_in) (λ r r_in. lb_in) in
     let fine : (t : Shape) → Contains shapes t → IsGoodShape t = all-shapes IsGoodShape la lb a b (λ r r_in. good a la r a_is r_in) (λ r r_in. good b lb r b_is r_in) in
-    let read : Library = library_made lib.header lib.bgnlib lib.libname lib.units s.bgnstr s.strname f.header.0 f.bgnlib.0 f.libname.0 f.units.0 f.bgnstr.0 f.strname.0 f.header.1 f.bgnlib.1 f.libname.1 f.units.1 f.bgnstr.1 f.strname.1 f.strname.2 shapes fits in
-    let top : Structure = top_made lib.header lib.bgnlib lib.libname lib.units s.bgnstr s.strname f.header.0 f.bgnlib.0 f.libname.0 f.units.0 f.bgnstr.0 f.strname.0 f.header.1 f.bgnlib.1 f.libname.1 f.units.1 f.bgnstr.1 f.strname.1 f.strname.2 shapes fits in
-    let holds = file-holds lib.header lib.bgnlib lib.libname lib.units s.bgnstr s.strname f.header.0 f.bgnlib.0 f.libname.0 f.units.0 f.bgnstr.0 f.strname.0 f.header.1 f.bgnlib.1 f.libname.1 f.units.1 f.bgnstr.1 f.strname.1 f.strname.2 shapes fits in
+    let read : Library = library_made lib.header lib.bgnlib lib.libname lib.units s.bgnstr s.strname f.header.0 f.bgnlib.0 f.libname.0
+    f.units.0 f.bgnstr.0 f.strname.0 f.header.1 f.bgnlib.1 f.libname.1 f.units.1 f.bgnstr.1 f.strname.1 f.strname.2 shapes fits in
+    let top : Structure = top_made lib.header lib.bgnlib lib.libname lib.units s.bgnstr s.strname f.header.0 f.bgnlib.0 f.libname.0
+    f.units.0 f.bgnstr.0 f.strname.0 f.header.1 f.bgnlib.1 f.libname.1 f.units.1 f.bgnstr.1 f.strname.1 f.strname.2 shapes fits in
+    let holds = file-holds lib.header lib.bgnlib lib.libname lib.units s.bgnstr s.strname f.header.0 f.bgnlib.0 f.libname.0 f.units.0
+    f.bgnstr.0 f.strname.0 f.header.1 f.bgnlib.1 f.libname.1 f.units.1 f.bgnstr.1 f.strname.1 f.strname.2 shapes fits in
     record {
       lib = read;
       holds = subst (λ x. Holds (frame_bytes (frame_of lib s) ++ x) read) (both-bytes la lb a b) holds;

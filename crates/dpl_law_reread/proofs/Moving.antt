@@ -30,16 +30,20 @@ built at room len kind t body =
     else if nat_lt room len then Err (truncated at)
     else fitting at len kind t body (form_of kind)
 
-checked-fitting : (bytes : List ℕ) (at len : ℕ) (o : Option Form) → checked bytes at len o ≡ fitting at len (slice_index bytes (at + 2)) (slice_index bytes (at + 3)) (slice_range bytes (at + 4) (at + len)) o
+checked-fitting : (bytes : List ℕ) (at len : ℕ) (o : Option Form) → checked bytes at len o ≡ fitting at len (slice_index bytes (at + 2))
+    (slice_index bytes (at + 3)) (slice_range bytes (at + 4) (at + len)) o
 checked-fitting bytes at len None = refl
 checked-fitting bytes at len (Some form) = refl
 
 record-built : (bytes : List ℕ) (at : ℕ)
-    → record_at bytes at ≡ built at (length bytes - at) (u16_at bytes at) (slice_index bytes (at + 2)) (slice_index bytes (at + 3)) (slice_range bytes (at + 4) (at + u16_at bytes at))
+    → record_at bytes at ≡ built at (length bytes - at) (u16_at bytes at) (slice_index bytes (at + 2)) (slice_index bytes (at + 3))
+    (slice_range bytes (at + 4) (at + u16_at bytes at))
 unfolding record_at
 record-built bytes at =
     let len = u16_at bytes at in
-    ap (λ x. let y : Result Record Fault = x in if nat_lt (length bytes - at) 4 then Err (truncated at) else if nat_lt len 4 || (len % 2 == 1) then Err (bad_length at) else if nat_lt (length bytes - at) len then Err (truncated at) else y)
+    ap (λ x. let y : Result Record Fault = x in
+    if nat_lt (length bytes - at) 4 then Err (truncated at) else if nat_lt len 4 || (len % 2 == 1) then Err
+    (bad_length at) else if nat_lt (length bytes - at) len then Err (truncated at) else y)
     (checked-fitting bytes at len (form_of (slice_index bytes (at + 2))))
 
 if_ok : (b : Bool) (f : Fault) (y : Result Record Fault) (r : Record) → (if b then Err f else y) ≡ Ok r → (b ≡ false) × (y ≡ Ok r)
@@ -54,13 +58,15 @@ not_first : (b c : Bool) → b || c ≡ false → b ≡ false
 not_first true c e = e
 not_first false c e = refl
 
-fitting-moved : (at to len kind t : ℕ) (body : List ℕ) (o : Option Form) (r : Record) → fitting at len kind t body o ≡ Ok r → (made at len kind body ≡ r) × (fitting to len kind t body o ≡ Ok (made to len kind body))
+fitting-moved : (at to len kind t : ℕ) (body : List ℕ) (o : Option Form) (r : Record) → fitting at len kind t body o ≡ Ok r
+    → (made at len kind body ≡ r) × (fitting to len kind t body o ≡ Ok (made to len kind body))
 fitting-moved at to len kind t body None r e = absurd cc
 fitting-moved at to len kind t body (Some form) r e =
     let (a, e1) = if_ok (not (type_fits form.data_type t)) (bad_data_type at) (if not (size_fits form.size (len - 4)) then Err (bad_size at) else Ok (made at len kind body)) r e in
     let (b, e2) = if_ok (not (size_fits form.size (len - 4))) (bad_size at) (Ok (made at len kind body)) r e1 in (
       cc,
-      ok_if (not (type_fits form.data_type t)) (bad_data_type to) (if not (size_fits form.size (len - 4)) then Err (bad_size to) else Ok (made to len kind body)) (made to len kind body) a
+      ok_if (not (type_fits form.data_type t)) (bad_data_type to) (if not (size_fits form.size (len - 4)) then Err (bad_size to) else Ok
+          (made to len kind body)) (made to len kind body) a
           (ok_if (not (size_fits form.size (len - 4))) (bad_size to) (Ok (made to len kind body)) (made to len kind body) b refl),
     )
 
@@ -84,14 +90,16 @@ built-moved at room len kind t body r e =
       again = λ to more enough.
           let end : Record = made to len kind body in
           let back : Result Record Fault = fitting to len kind t body (form_of kind) in
-          ok_if (nat_lt more 4) (truncated to) (if nat_lt len 4 || (len % 2 == 1) then Err (bad_length to) else if nat_lt more len then Err (truncated to) else back) end (le-ltb more 4 (omega (arith, long, enough)))
+          ok_if (nat_lt more 4) (truncated to) (if nat_lt len 4 || (len % 2 == 1) then Err (bad_length to) else if nat_lt more len then Err
+          (truncated to) else back) end (le-ltb more 4 (omega (arith, long, enough)))
           (ok_if (nat_lt len 4 || (len % 2 == 1)) (bad_length to) (if nat_lt more len then Err (truncated to) else back) end b
           (ok_if (nat_lt more len) (truncated to) back end (le-ltb more len enough) (fitting-moved at to len kind t body (form_of kind) r e3).1));
     }
 
 pub built-of : (bytes : List ℕ) (at : ℕ) (r : Record) → record_at bytes at ≡ Ok r
     → IsBuilt at (length bytes - at) (u16_at bytes at) (slice_index bytes (at + 2)) (slice_index bytes (at + 3)) (slice_range bytes (at + 4) (at + u16_at bytes at)) r
-built-of bytes at r e = built-moved at (length bytes - at) (u16_at bytes at) (slice_index bytes (at + 2)) (slice_index bytes (at + 3)) (slice_range bytes (at + 4) (at + u16_at bytes at)) r (sym (record-built bytes at) ∙ e)
+built-of bytes at r e = built-moved at (length bytes - at) (u16_at bytes at) (slice_index bytes (at + 2)) (slice_index bytes (at + 3))
+    (slice_range bytes (at + 4) (at + u16_at bytes at)) r (sym (record-built bytes at) ∙ e)
 
 -- two lists of bytes that agree on a record
 pub record Agree (xs ys : List ℕ) (i j len : ℕ) : Type 0 where
@@ -111,11 +119,14 @@ agreeing xs ys i j r e a =
     let size : r.next - r.at ≡ len = omega (arith, start, end) in
     let long = b.long in
     let same : Agree xs ys i j len = subst (Agree xs ys i j) size a in
-    let at_0 : slice_index ys j ≡ slice_index xs i = subst (λ n. slice_index ys n ≡ slice_index xs i) (omega arith) (subst (λ n. slice_index ys (j + 0) ≡ slice_index xs n) (omega arith) (same.bytes 0 (omega (arith, long)))) in
+    let at_0 : slice_index ys j ≡ slice_index xs i = subst (λ n. slice_index ys n ≡ slice_index xs i) (omega arith)
+    (subst (λ n. slice_index ys (j + 0) ≡ slice_index xs n) (omega arith) (same.bytes 0 (omega (arith, long)))) in
     let at_1 = same.bytes 1 (omega (arith, long)) in
     let len_is : u16_at ys j ≡ len = (λ n. 256 * at_0 n + at_1 n) in
     let body_is : slice_range ys (j + 4) (j + u16_at ys j) ≡ slice_range xs (i + 4) (i + len) = ap (λ n. slice_range ys (j + 4) (j + n)) len_is ∙ same.body in
-    let there = rebuilt j (length ys - j) (u16_at ys j) len (slice_index ys (j + 2)) (slice_index xs (i + 2)) (slice_index ys (j + 3)) (slice_index xs (i + 3)) (slice_range ys (j + 4) (j + u16_at ys j)) (slice_range xs (i + 4) (i + len)) (made j len (slice_index xs (i + 2)) (slice_range xs (i + 4) (i + len)))
+    let there = rebuilt j (length ys - j) (u16_at ys j) len (slice_index ys (j + 2)) (slice_index xs (i + 2)) (slice_index ys (j + 3))
+    (slice_index xs (i + 3)) (slice_range ys (j + 4) (j + u16_at ys j)) (slice_range xs (i + 4) (i + len))
+    (made j len (slice_index xs (i + 2)) (slice_range xs (i + 4) (i + len)))
     len_is (same.bytes 2 (omega (arith, long))) (same.bytes 3 (omega (arith, long))) body_is (b.again j (length ys - j) same.room) in
     let is : made j len (slice_index xs (i + 2)) (slice_range xs (i + 4) (i + len)) ≡ moved j r =
     (λ n. record { at = j; next = j + sym size n; kind = (b.is n).kind; body = (b.is n).body }) in

@@ -1,7 +1,8 @@
 -- Whole records put one behind the other.
 use Rattle.std.proofs.Common.{◌≡◌, ℕ, ◌+◌, ◌-◌, ◌<◌, ◌≤◌, List, ◌++◌, length, get_or, take, drop, Ok, sym, subst, ap, ◌∙◌, arith}
 use Rattle.std.specs.Prelude.{slice_index, slice_range}
-use Rattle.std.proofs.lemmas.List.{get_or-take, get_or-drop, get_or_append_left, get_or-append-add, drop-append-le, drop-take, length-append, length-take, length-take-le, length-drop, take_all, drop-drop}
+use Rattle.std.proofs.lemmas.List.{get_or-take, get_or-drop, get_or_append_left, get_or-append-add, drop-append-le, drop-take}
+use Rattle.std.proofs.lemmas.List.{length-append, length-take, length-take-le, length-drop, take_all, drop-drop}
 use Rattle.std.proofs.Math.Seq.{drop-append-add, take-append_seam, take-length}
 use Rattle.dpl_spec_format.specs.Records.{Record, record_at}
 use Rattle.dpl_spec_format.specs.Tree.{whole}

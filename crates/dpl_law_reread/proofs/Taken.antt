@@ -10,7 +10,8 @@ use Rattle.dpl_law_reread.specs.ReadBack.{AreMasksOf, IsMask, IsReadAs, most_sla
 use Rattle.dpl_law_reread.proofs.Masks.{read-back}
 use Rattle.dpl_law_reread.proofs.Faultless.{faultless, first-few, front, second-few}
 
-pub masks-read : (bytes : List ℕ) (lib : Library) (s : Structure) (la lb : ℕ) (a b : List Rect) → Holds bytes lib → Contains lib.structures s → la ≢ lb → la < 65536 → lb < 65536 → IsMask a → IsMask b
+pub masks-read : (bytes : List ℕ) (lib : Library) (s : Structure) (la lb : ℕ) (a b : List Rect) → Holds bytes lib
+    → Contains lib.structures s → la ≢ lb → la < 65536 → lb < 65536 → IsMask a → IsMask b
     → length (file_bytes (frame_bytes (frame_of lib s)) la lb a b) ≤ limit → length a ≤ most_slabs → length b ≤ most_slabs
     → IsReadAs (file_bytes (frame_bytes (frame_of lib s)) la lb a b) la a × IsReadAs (file_bytes (frame_bytes (frame_of lib s)) la lb a b) lb b
 masks-read bytes lib s la lb a b held s_in apart la_in lb_in a_is b_is small few_a few_b =

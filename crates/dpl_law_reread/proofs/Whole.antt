@@ -17,7 +17,8 @@ use Rattle.dpl_spec_format.specs.Layout.{Holds}
 use Rattle.dpl_masks.specs.Bytes.{closing_bytes, boundary_bytes}
 use Rattle.dpl_syntax.specs.Reading as reading
 use Rattle.dpl_syntax.specs.Reading.{◌>>=◌}
-use Rattle.dpl_syntax.specs.Passing.{Passes, PassesPart, PassesNamed, is_part, same, class_first, elements_first, endstr_first, structure_then, structures_first, endlib_first, IsNext, IsStructure, AreElements, AreStructures}
+use Rattle.dpl_syntax.specs.Passing.{Passes, PassesPart, PassesNamed, is_part, same, class_first, elements_first, endstr_first}
+use Rattle.dpl_syntax.specs.Passing.{structure_then, structures_first, endlib_first, IsNext, IsStructure, AreElements, AreStructures}
 use Rattle.dpl_syntax.proofs.Languages.{ends_many, exists_rest}
 use Rattle.dpl_syntax.proofs.Steps.{agreed}
 use Rattle.dpl_syntax.proofs.Taking.{same_record}
@@ -55,31 +56,41 @@ seven : (h b l u g n x : List ℕ) → (h ++ (b ++ (l ++ (u ++ (g ++ n))))) ++ x
 seven h b l u g n x = simp append_assoc
 
 -- a part of the head, with nothing passed over behind it
-part-read : (out : List ℕ) (kind at : ℕ) (r next : Record) → is_part kind ≡ true → record_at out at ≡ Ok r → eqb r.kind kind ≡ true → record_at out r.next ≡ Ok next → kinds.is_skipped next.kind ≡ false → PassesPart out kind r at r.next
+part-read : (out : List ℕ) (kind at : ℕ) (r next : Record) → is_part kind ≡ true → record_at out at ≡ Ok r → eqb r.kind kind ≡ true
+    → record_at out r.next ≡ Ok next → kinds.is_skipped next.kind ≡ false → PassesPart out kind r at r.next
 part-read out kind at r next part found is behind kept =
     part_ok out kind at part (r, r.next) (takes out kind at r found is) r.next (skips_done out r.next r.next (no_skips out r.next) (next, behind, kept))
 
 -- what stands behind STRNAME is no class
-first-element : (out pre post : List ℕ) (ss : List Shape) (r : Record) → ((s : Shape) → Contains ss s → s.layer < 65536) → out ≡ pre ++ (shapes_bytes ss ++ post) → (ss ≡ [] → (record_at out (length pre) ≡ Ok r) × (eqb r.kind kinds.structure_class ≡ false))
+first-element : (out pre post : List ℕ) (ss : List Shape) (r : Record) → ((s : Shape) → Contains ss s → s.layer < 65536)
+    → out ≡ pre ++ (shapes_bytes ss ++ post) → (ss ≡ [] → (record_at out (length pre) ≡ Ok r) × (eqb r.kind kinds.structure_class ≡ false))
     → (q : Record) × (record_at out (length pre) ≡ Ok q) × (eqb q.kind kinds.structure_class ≡ false)
 first-element out pre post [] r fits is none = (r, (none refl).0, (none refl).1)
 first-element out pre post (s ∷ ss) r fits is none =
-    let here : out ≡ pre ++ (boundary_bytes s.layer s.rect ++ (shapes_bytes ss ++ post)) = is ∙ ap (λ x. pre ++ x) (append_assoc (boundary_bytes s.layer s.rect) (shapes_bytes ss) post) in
+    let here : out ≡ pre ++ (boundary_bytes s.layer s.rect ++ (shapes_bytes ss ++ post)) = is
+    ∙ ap (λ x. pre ++ x) (append_assoc (boundary_bytes s.layer s.rect) (shapes_bytes ss) post) in
     (rec pre w1 kinds.boundary [], found-1 out pre (shapes_bytes ss ++ post) s (fits s (0, omega arith, refl)) here, refl)
 
 -- the end of the structures
-structures-end : (out : List ℕ) (from at : ℕ) (ss : List tree.Structure) (other : Record) → PassesNamed out [] structures_first structures_first (AreStructures out ss) from at → record_at out at ≡ Ok other → eqb other.kind kinds.bgnstr ≡ false
+structures-end : (out : List ℕ) (from at : ℕ) (ss : List tree.Structure) (other : Record)
+    → PassesNamed out [] structures_first structures_first (AreStructures out ss) from at → record_at out at ≡ Ok other
+    → eqb other.kind kinds.bgnstr ≡ false
     → PassesNamed out [] structures_first endlib_first (AreStructures out ss) from at
 structures-end out from at ss other so_far found isnt before rest named reached =
     let p = so_far before rest named reached in (
       p.0,
       p.1,
       agreed out (before ++ p.0) at (structures_first rest) (endlib_first rest) p.2
-          (λ x there. ends_many grammar.structure (a kinds.endlib) x.kind (avoids_a kinds.bgnstr x.kind inside (subst (λ (y : Record). eqb y.kind kinds.bgnstr ≡ false) (same_record (record_at out at) other x found there) isnt)))
+          (λ x there. ends_many grammar.structure (a kinds.endlib) x.kind
+          (avoids_a kinds.bgnstr x.kind inside (subst (λ (y : Record). eqb y.kind kinds.bgnstr ≡ false)
+          (same_record (record_at out at) other x found there) isnt)))
           (exists_rest (many grammar.structure) (a kinds.endlib) p.2.some),
     )
 
-module _ (h b l u g n hb bb lb ub gb nb : List ℕ) (is_h : IsRecord h kinds.header hb) (is_b : IsRecord b kinds.bgnlib bb) (is_l : IsRecord l kinds.libname lb) (is_u : IsRecord u kinds.units ub) (is_g : IsRecord g kinds.bgnstr gb) (is_n : IsRecord n kinds.strname nb) (named : is_empty (name_of nb) ≡ false) (ss : List Shape) (fits : (s : Shape) → Contains ss s → s.layer < 65536) where
+module _ (h b l u g n hb bb lb ub gb nb : List ℕ) (is_h : IsRecord h kinds.header hb) (is_b : IsRecord b kinds.bgnlib bb)
+    (is_l : IsRecord l kinds.libname lb) (is_u : IsRecord u kinds.units ub) (is_g : IsRecord g kinds.bgnstr gb)
+    (is_n : IsRecord n kinds.strname nb) (named : is_empty (name_of nb) ≡ false) (ss : List Shape) (fits : (s : Shape) → Contains ss s
+    → s.layer < 65536) where
   abbrev pub whole_file : List ℕ
   whole_file = (h ++ (b ++ (l ++ (u ++ (g ++ n))))) ++ (shapes_bytes ss ++ closing_bytes)
 
@@ -172,13 +183,18 @@ module _ (h b l u g n hb bb lb ub gb nb : List ℕ) (is_h : IsRecord h kinds.hea
 
   strname : reading.take_strname whole_file [] (length p5) ≡ Ok (rec p5 n kinds.strname nb, length p6)
   strname =
-      ap (λ (x : Result (Record × ℕ) Fault). x >>= (λ r. cond (is_empty (name_of r.0.body)) (Err (bad_name r.0.at)) (cond (list_any (pointwise nat_eq (name_of r.0.body)) []) (Err (duplicate_structure r.0.at)) (Ok r)))) (takes whole_file kinds.strname (length p5) (rec p5 n kinds.strname nb) found-n refl)
+      ap (λ (x : Result (Record × ℕ) Fault). x >>= (λ r. cond (is_empty (name_of r.0.body)) (Err (bad_name r.0.at))
+      (cond (list_any (pointwise nat_eq (name_of r.0.body)) []) (Err (duplicate_structure r.0.at)) (Ok r))))
+      (takes whole_file kinds.strname (length p5) (rec p5 n kinds.strname nb) found-n refl)
       ∙ ap (λ (x : Bool). cond x (Err (bad_name (length p5))) (Ok (rec p5 n kinds.strname nb, length p6))) named
 
   classes : Passes whole_file class_first elements_first (AreElements []) (length p6) (length p6)
   classes =
-      let (q, found, isnt) = first-element whole_file p6 (e1 ++ (e2 ++ [])) ss (rec p7 e1 kinds.endstr []) fits out-7 (λ none. (ap (λ x. record_at whole_file (length x)) (sym (ap (λ x. p6 ++ shapes_bytes x) none ∙ append-nil p6)) ∙ found-e1, refl)) in
-      class_done whole_file (length p6) (length p6) (length p6) (passes_none whole_file class_first (AreElements []) (length p6) no_elements) (leaves whole_file kinds.structure_class (length p6) q found isnt)
+      let (q, found, isnt) = first-element whole_file p6 (e1 ++ (e2 ++ [])) ss (rec p7 e1 kinds.endstr []) fits out-7
+      (λ none. (ap (λ x. record_at whole_file (length x)) (sym (ap (λ x. p6 ++ shapes_bytes x) none ∙ append-nil p6)) ∙ found-e1, refl))
+      in
+      class_done whole_file (length p6) (length p6) (length p6) (passes_none whole_file class_first (AreElements [])
+      (length p6) no_elements) (leaves whole_file kinds.structure_class (length p6) q found isnt)
 
   elements : Passes whole_file elements_first endstr_first (AreElements (elements_from (length p6) ss)) (length p6) (length p7)
   elements =
@@ -187,11 +203,19 @@ module _ (h b l u g n hb bb lb ub gb nb : List ℕ) (is_h : IsRecord h kinds.hea
       (rec p7 e1 kinds.endstr [], found-e1, refl)
 
   abbrev pub top_made : tree.Structure
-  top_made = record { at = length p4; bgnstr = tree.whole whole_file (rec p4 g kinds.bgnstr gb); strname = tree.whole whole_file (rec p5 n kinds.strname nb); name = name_of nb; elements = elements_from (length p6) ss }
+  top_made = record {
+    at = length p4;
+    bgnstr = tree.whole whole_file (rec p4 g kinds.bgnstr gb);
+    strname = tree.whole whole_file
+        (rec p5 n kinds.strname nb);
+    name = name_of nb;
+    elements = elements_from (length p6) ss;
+  }
 
   one-structure : PassesNamed whole_file [] structure_then same (IsStructure whole_file top_made) (length p4) (length p8)
   one-structure =
-      structure_ok whole_file (length p4) (rec p4 g kinds.bgnstr gb) [] found-g refl (rec p5 n kinds.strname nb, length p6) strname (length p6) (length p7) (elements_from (length p6) ss) (rec p7 e1 kinds.endstr [], length p8) classes elements
+      structure_ok whole_file (length p4) (rec p4 g kinds.bgnstr gb) [] found-g refl (rec p5 n kinds.strname nb, length p6) strname
+      (length p6) (length p7) (elements_from (length p6) ss) (rec p7 e1 kinds.endstr [], length p8) classes elements
       (takes whole_file kinds.endstr (length p7) (rec p7 e1 kinds.endstr []) found-e1 refl)
 
   next-g : IsNext whole_file (length p4) kinds.bgnstr (rec p4 g kinds.bgnstr gb)
@@ -218,5 +242,6 @@ module _ (h b l u g n hb bb lb ub gb nb : List ℕ) (is_h : IsRecord h kinds.hea
 
   pub file-holds : Holds whole_file library_made
   file-holds =
-      holds whole_file (rec [] h kinds.header hb, length h) header (rec h b kinds.bgnlib bb) (length p2) bgnlib (rec p2 l kinds.libname lb) (length p3) libname (rec p3 u kinds.units ub) (length p4) units (top_made ∷ []) (length p8) structures
+      holds whole_file (rec [] h kinds.header hb, length h) header (rec h b kinds.bgnlib bb) (length p2) bgnlib (rec p2 l kinds.libname lb)
+      (length p3) libname (rec p3 u kinds.units ub) (length p4) units (top_made ∷ []) (length p8) structures
       (rec p8 e2 kinds.endlib [], length (p8 ++ e2)) (takes whole_file kinds.endlib (length p8) (rec p8 e2 kinds.endlib []) found-e2 refl)

@@ -44,7 +44,8 @@ pub record IsMask (slabs : List Rect) : Type 0 where
 
 -- Where a file holds a library, a file that begins with the records before the elements of one of its structures and goes on with two masks holds just these.
 abbrev pub MasksReadBack : Type 0
-MasksReadBack = (bytes : List ℕ) (lib : Library) (s : Structure) (la lb : ℕ) (a b : List Rect) → Holds bytes lib → Contains lib.structures s → la ≢ lb → la < 65536 → lb < 65536 → IsMask a → IsMask b
+MasksReadBack = (bytes : List ℕ) (lib : Library) (s : Structure) (la lb : ℕ) (a b : List Rect) → Holds bytes lib
+    → Contains lib.structures s → la ≢ lb → la < 65536 → lb < 65536 → IsMask a → IsMask b
     → AreMasksOf (file_bytes (frame_bytes (frame_of lib s)) la lb a b) la lb a b
 
 -- how many slabs of a mask are read: each places five points
@@ -57,6 +58,7 @@ IsReadAs bytes layer slabs = (front : List ℕ) × IsReading (mask_choice layer)
 
 -- Where such a file isn't too large, and its masks have not too many slabs, it is read without a fault.
 abbrev pub MasksAreRead : Type 0
-MasksAreRead = (bytes : List ℕ) (lib : Library) (s : Structure) (la lb : ℕ) (a b : List Rect) → Holds bytes lib → Contains lib.structures s → la ≢ lb → la < 65536 → lb < 65536 → IsMask a → IsMask b
+MasksAreRead = (bytes : List ℕ) (lib : Library) (s : Structure) (la lb : ℕ) (a b : List Rect) → Holds bytes lib → Contains lib.structures s
+    → la ≢ lb → la < 65536 → lb < 65536 → IsMask a → IsMask b
     → length (file_bytes (frame_bytes (frame_of lib s)) la lb a b) ≤ limit → length a ≤ most_slabs → length b ≤ most_slabs
     → IsReadAs (file_bytes (frame_bytes (frame_of lib s)) la lb a b) la a × IsReadAs (file_bytes (frame_bytes (frame_of lib s)) la lb a b) lb b

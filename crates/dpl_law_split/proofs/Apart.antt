@@ -44,7 +44,8 @@ kept-clear : (rule overlap : ℕ) (layer f : Region) (z : Rect) (p q : Pt) → I
 kept-clear rule overlap layer f z p q (inl h) has in_layer other = level-clear rule overlap layer f z p q h has in_layer other
 kept-clear rule overlap layer f z p q (inr (v, apart)) has in_layer other =
     subst (λ n. rule * rule ≤ n) (d2-turned p q)
-    (level-clear rule overlap (turned layer) (turned f) (turned_rect z) (at p.y p.x) (at q.y q.x) v (record { left = has.low; right = has.high; low = has.left; high = has.right }) in_layer other)
+    (level-clear rule overlap (turned layer) (turned f) (turned_rect z) (at p.y p.x) (at q.y q.x) v
+    (record { left = has.low; right = has.high; low = has.left; high = has.right }) in_layer other)
 
 -- letters
 differ-same : (a b f : Bool) → differ a f ≡ differ b f → a ≡ b
@@ -85,13 +86,16 @@ module _ (joined : Graph) (un : IsUndirected joined) (count : ℕ) (roots : List
       (cycle, odd)
 
   -- without an odd cycle neighbours have different letters
-  letters-differ : (sides : List (ℕ × ℕ)) (colours : List Bool) → AreColours roots odds sides colours → (HasOddCycle joined → ⊥) → (u v : ℕ) → u < count → v < count → joined u v → colour_at colours u ≡ colour_at colours v → ⊥
+  letters-differ : (sides : List (ℕ × ℕ)) (colours : List Bool) → AreColours roots odds sides colours → (HasOddCycle joined → ⊥)
+      → (u v : ℕ) → u < count → v < count → joined u v → colour_at colours u ≡ colour_at colours v → ⊥
   letters-differ sides colours coloured even u v u_in v_in e same =
       let many = rooted.lengths.0 in
       let cu = coloured.colour u (omega (arith, u_in, many)) in
       let cv = coloured.colour v (omega (arith, v_in, many)) in
-      let flips : is_flipped roots odds colours sides (get_or roots v 0) ≡ is_flipped roots odds colours sides (get_or roots u 0) = ap (λ r. is_flipped roots odds colours sides r) (sym (one-root u v u_in v_in e)) in
-      let both : differ (get_or odds u false) (is_flipped roots odds colours sides (get_or roots u 0)) ≡ differ (get_or odds v false) (is_flipped roots odds colours sides (get_or roots u 0)) =
+      let flips : is_flipped roots odds colours sides (get_or roots v 0) ≡ is_flipped roots odds colours sides (get_or roots u 0) = ap
+      (λ r. is_flipped roots odds colours sides r) (sym (one-root u v u_in v_in e)) in
+      let both : differ (get_or odds u false) (is_flipped roots odds colours sides (get_or roots u 0)) ≡ differ (get_or odds v false)
+      (is_flipped roots odds colours sides (get_or roots u 0)) =
       sym cu ∙ (same ∙ (cv ∙ ap (λ f. differ (get_or odds v false) f) flips)) in
       even (parity-cycle u v u_in v_in e (differ-same (get_or odds u false) (get_or odds v false) (is_flipped roots odds colours sides (get_or roots u 0)) both))
 
@@ -110,17 +114,22 @@ module _ (rule overlap : ℕ) (layer : Region) (c : Cut) (m : Masks) (cut : IsCu
       (part-inside layer c.features j q cut.features in_j)
       (λ in_z. ne (sym mine ∙ part-same layer c.features z.feature j q cut.features in_z in_j))
 
-  pieces-far : (letter : Bool) (k l i j : ℕ) (p q : Pt) → part_at c.pieces k p → part_at c.pieces l q → colour_at masks.colours k ≡ letter → colour_at masks.colours l ≡ letter → part_at c.features i p → part_at c.features j q → i ≢ j → rule * rule ≤ d2 p q
+  pieces-far : (letter : Bool) (k l i j : ℕ) (p q : Pt) → part_at c.pieces k p → part_at c.pieces l q → colour_at masks.colours k ≡ letter
+      → colour_at masks.colours l ≡ letter → part_at c.features i p → part_at c.features j q → i ≢ j → rule * rule ≤ d2 p q
   pieces-far letter k l i j p q in_k in_l k_is l_is in_i in_j ne = elim (cases_lt (d2 p q) (rule * rule)) [
     | inr far ↦ far
     | inl close ↦ (let k_in = part-within c.pieces k p in_k in
         let l_in = part-within c.pieces l q in_l in
-        let apart : get_or c.owners k 0 ≢ get_or c.owners l 0 = λ e. ne (sym (owner-is rule overlap layer c cut k i p in_k in_i) ∙ (e ∙ owner-is rule overlap layer c cut l j q in_l in_j)) in
+        let apart : get_or c.owners k 0 ≢ get_or c.owners l 0 = λ e. ne (sym (owner-is rule overlap layer c cut k i p in_k in_i)
+        ∙ (e ∙ owner-is rule overlap layer c cut l j q in_l in_j)) in
         let joined : Conflict rule c.pieces c.owners k l = record { first = k_in; second = l_in; apart = apart; near = (p, q, in_k, in_l, close) } in
-        absurd (letters-differ (conflicts rule c) (conflicts-undirected rule c) (length c.pieces) masks.roots masks.odds masks.rooted c.sides masks.colours masks.coloured even k l k_in l_in joined (k_is ∙ sym l_is)))
+        absurd (letters-differ (conflicts rule c) (conflicts-undirected rule c) (length c.pieces) masks.roots masks.odds masks.rooted
+        c.sides masks.colours masks.coloured even k l k_in l_in joined (k_is ∙ sym l_is)))
   ]
 
-  masked-far : (letter : Bool) (i j : ℕ) (p q : Pt) → i ≢ j → part_at c.features i p → part_at c.features j q → on_mask c.pieces c.zones c.sides masks.colours letter p → on_mask c.pieces c.zones c.sides masks.colours letter q → rule * rule ≤ d2 p q
+  masked-far : (letter : Bool) (i j : ℕ) (p q : Pt) → i ≢ j → part_at c.features i p → part_at c.features j q
+      → on_mask c.pieces c.zones c.sides masks.colours letter p → on_mask c.pieces c.zones c.sides masks.colours letter q
+      → rule * rule ≤ d2 p q
   masked-far letter i j p q ne in_i in_j (inr (k, z, side, l, z_is, side_is, letter_is, has)) b = zone-far z i j p q (k, l, z_is) has in_i in_j ne
   masked-far letter i j p q ne in_i in_j (inl a) (inr (k, z, side, l, z_is, side_is, letter_is, has)) =
       subst (λ n. rule * rule ≤ n) (d2-sym q p) (zone-far z j i q p (k, l, z_is) has in_j in_i (λ e. ne (sym e)))

@@ -6,7 +6,9 @@ use Rattle.dpl_spec_elements.specs.Paths.{Round, BadType, Odd, Slanted, TurnsBac
 use Rattle.dpl_spec_format.specs.Tree.{Trans, Body, is_boundary, is_path, is_sref, is_aref, is_text, is_node, is_box}
 use Rattle.dpl_spec_layout.specs.declared.Layer.{Layer}
 use Rattle.dpl_spec_layout.specs.declared.ElementFault.{ElementFault}
-use Rattle.dpl_spec_layout.specs.declared.ElementFault.TheVariants.{AbsoluteTransform, Magnified, AngleNotRight, BadArray, SlantedBoundary, RoundPath, BadPathType, OddWidth, SlantedPath, PathTurnsBack, NegativeExtension}
+use Rattle.dpl_spec_layout.specs.declared.ElementFault.TheVariants.{AbsoluteTransform, Magnified, AngleNotRight, BadArray, SlantedBoundary}
+use Rattle.dpl_spec_layout.specs.declared.ElementFault.TheVariants.{RoundPath, BadPathType, OddWidth, SlantedPath, PathTurnsBack}
+use Rattle.dpl_spec_layout.specs.declared.ElementFault.TheVariants.{NegativeExtension}
 use Rattle.dpl_spec_layout.specs.Elements.{plain, IsArray, IsReferenceFault, IsPathFault, IsRefusedFor}
 
 reference-same : (t : Trans) (unlaid : Type 0) (f g : ElementFault) → IsReferenceFault t unlaid f → IsReferenceFault t unlaid g → f ≡ g

@@ -24,7 +24,8 @@ module _ (lib : Library) (top : ℕ) where
   not-nowhere P i a none = let (k, d, found, at) = a.some in none k d found
 
 module _ (lib : Library) (top : ℕ) (layer : Layer) where
-  not-drawn : (i : ℕ) (f : ElementFault) → IsFirstRefused lib top layer i f → ((k : ℕ) (e : Element) → IsFound lib top (λ n x. (g : ElementFault) × IsRefusedFor layer x.body g) k e → ⊥) → ⊥
+  not-drawn : (i : ℕ) (f : ElementFault) → IsFirstRefused lib top layer i f
+      → ((k : ℕ) (e : Element) → IsFound lib top (λ n x. (g : ElementFault) × IsRefusedFor layer x.body g) k e → ⊥) → ⊥
   not-drawn i f a none = let (k, d, found, at) = a.some in none k d (record { reached = found.reached; inside = found.inside; holds = (f, found.holds) })
 
   refusal-same : (bytes : List ℕ) (i j : ℕ) (f g : ElementFault) → Holds bytes lib → IsFirstRefused lib top layer i f → IsFirstRefused lib top layer j g → (i ≡ j) × (f ≡ g)

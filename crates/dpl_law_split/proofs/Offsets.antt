@@ -1,5 +1,6 @@
 -- In the library of a file no two elements stand at one offset.
-use Rattle.std.proofs.Common.{◌≡◌, ℕ, ◌+◌, ◌-◌, ◌<◌, ◌≤◌, ◌⊎◌, inl, inr, Bool, true, false, ◌||◌, List, [], ◌∷◌, map, length, Option, Some, None, Result, Ok, Err, sym, refl, ap, ◌∙◌, subst, arith}
+use Rattle.std.proofs.Common.{◌≡◌, ℕ, ◌+◌, ◌-◌, ◌<◌, ◌≤◌, ◌⊎◌, inl, inr, Bool, true, false, ◌||◌, List, [], ◌∷◌, map, length, Option, Some}
+use Rattle.std.proofs.Common.{None, Result, Ok, Err, sym, refl, ap, ◌∙◌, subst, arith}
 use Rattle.std.specs.Prelude.{nat_lt, ◌%◌, ◌==◌, not, slice_get, slice_index, slice_range, if◌then◌else◌}
 use Rattle.std.specs.List.{Contains}
 use Rattle.std.proofs.lemmas.Bool.{ltb-false}
@@ -27,7 +28,8 @@ pub checked-place : (bytes : List ℕ) (at len : ℕ) (form : Option Form) (r : 
 checked-place bytes at len None r e = absurd cc
 checked-place bytes at len (Some form) r e =
     let made : Record = record { at = at; next = at + len; kind = slice_index bytes (at + 2); body = slice_range bytes (at + 4) (at + len) } in
-    let (a, rest) = if_ok (not (type_fits form.data_type (slice_index bytes (at + 3)))) (bad_data_type at) (if not (size_fits form.size (len - 4)) then Err (bad_size at) else Ok made) r e in
+    let (a, rest) = if_ok (not (type_fits form.data_type (slice_index bytes (at + 3)))) (bad_data_type at)
+    (if not (size_fits form.size (len - 4)) then Err (bad_size at) else Ok made) r e in
     let (b, is) = if_ok (not (size_fits form.size (len - 4))) (bad_size at) (Ok made) r rest in
     let same : made ≡ r = cc in
     (ap (λ x. let y : Record = x in y.at) (sym same), ap (λ x. let y : Record = x in y.next) (sym same))
@@ -63,7 +65,8 @@ tail-after bytes from to (x ∷ xs) r rest lies (inr t) =
     omega (arith, next, later)
 
 -- records of one offset are one, and so is what lies behind
-pub tail-same : (bytes : List ℕ) (from to : ℕ) (rs : List Record) (r s : Record) (rest more : List Record) → Lies bytes from rs to → IsTail rs r rest → IsTail rs s more → r.at ≡ s.at → (r ≡ s) × (rest ≡ more)
+pub tail-same : (bytes : List ℕ) (from to : ℕ) (rs : List Record) (r s : Record) (rest more : List Record) → Lies bytes from rs to
+    → IsTail rs r rest → IsTail rs s more → r.at ≡ s.at → (r ≡ s) × (rest ≡ more)
 tail-same bytes from to [] r s rest more lies t u e = absurd t
 tail-same bytes from to (x ∷ xs) r s rest more lies (inl (a, b)) (inl (c, d)) e = (sym a ∙ c, sym b ∙ d)
 tail-same bytes from to (x ∷ xs) r s rest more lies (inl (a, b)) (inr u) e =
@@ -85,7 +88,8 @@ tail-in (x ∷ xs) r rest s more (inr t) u = inr (tail-in xs r rest s more t u)
 
 -- ---- parts
 
-before-step : (kind : ℕ) (x : Record) (xs : List Record) (r : Record) (rest : List Record) (b : Bool) → (IsTail (before kind xs) r rest → (more : List Record) × IsTail xs r more × (rest ≡ before kind more))
+before-step : (kind : ℕ) (x : Record) (xs : List Record) (r : Record) (rest : List Record) (b : Bool)
+    → (IsTail (before kind xs) r rest → (more : List Record) × IsTail xs r more × (rest ≡ before kind more))
     → IsTail (if b then [] else x ∷ before kind xs) r rest → (more : List Record) × IsTail (x ∷ xs) r more × (rest ≡ before kind more)
 before-step kind x xs r rest true later t = absurd t
 before-step kind x xs r rest false later (inl (a, b)) = (xs, inl (a, refl), sym b)
@@ -95,7 +99,8 @@ before-tail : (kind : ℕ) (rs : List Record) (r : Record) (rest : List Record) 
 before-tail kind [] r rest t = absurd t
 before-tail kind (x ∷ xs) r rest t = before-step kind x xs r rest (x.kind == kind) (before-tail kind xs r rest) t
 
-part-step : (begins : ℕ → Bool) (end : ℕ) (x : Record) (xs : List Record) (p : Record × List Record) (b : Bool) → (Contains (parts begins end xs) p → (rest : List Record) × IsTail xs p.0 rest × (p.1 ≡ before end rest))
+part-step : (begins : ℕ → Bool) (end : ℕ) (x : Record) (xs : List Record) (p : Record × List Record) (b : Bool)
+    → (Contains (parts begins end xs) p → (rest : List Record) × IsTail xs p.0 rest × (p.1 ≡ before end rest))
     → Contains (if b then (x, before end xs) ∷ parts begins end xs else parts begins end xs) p → (rest : List Record) × IsTail (x ∷ xs) p.0 rest × (p.1 ≡ before end rest)
 part-step begins end x xs p false later h = let (rest, t, e) = later h in (rest, inr t, e)
 part-step begins end x xs p true later h = elim (Contains-cases (x, before end xs) p (parts begins end xs) h) [
@@ -103,7 +108,8 @@ part-step begins end x xs p true later h = elim (Contains-cases (x, before end x
   | inr more ↦ (let (rest, t, e) = later more in (rest, inr t, e))
 ]
 
-part-tail : (begins : ℕ → Bool) (end : ℕ) (rs : List Record) (p : Record × List Record) → Contains (parts begins end rs) p → (rest : List Record) × IsTail rs p.0 rest × (p.1 ≡ before end rest)
+part-tail : (begins : ℕ → Bool) (end : ℕ) (rs : List Record) (p : Record × List Record) → Contains (parts begins end rs) p
+    → (rest : List Record) × IsTail rs p.0 rest × (p.1 ≡ before end rest)
 unfolding parts
 part-tail begins end [] p h = absurd (Contains-nil p h)
 part-tail begins end (x ∷ xs) p h = part-step begins end x xs p (begins x.kind) (part-tail begins end xs p) h
@@ -127,7 +133,8 @@ element-in rs e h =
     let (rest, t, tail_is) = part-tail kinds.begins_element kinds.endel rs p p_in in
     (p.0, rest, t, is ∙ ap (λ q. element_of (p.0, q)) tail_is)
 
-structure-of : (structures : List Structure) (k : ℕ) (e : Element) (o : Option Structure) → slice_get structures k ≡ o → Contains (elements_or_none o) e → (s : Structure) × Contains structures s × Contains s.elements e
+structure-of : (structures : List Structure) (k : ℕ) (e : Element) (o : Option Structure) → slice_get structures k ≡ o
+    → Contains (elements_or_none o) e → (s : Structure) × Contains structures s × Contains s.elements e
 structure-of structures k e None is h = absurd (Contains-nil e h)
 structure-of structures k e (Some s) is h = (s, (k, slice_get_within structures k s is, get_or_from_slice_get structures k s s is), h)
 
@@ -152,7 +159,8 @@ made-same bytes to rs d e lies (r, rest, t, d_is) (s, more, u, e_is) same =
     let of_parts : Record → List Record → Element = λ x y. element_of (x, before kinds.endel (before kinds.endstr y)) in
     d_is ∙ (ap (λ x. of_parts x rest) r_is ∙ (ap (λ y. of_parts s y) rest_is ∙ sym e_is))
 
-pub element-same : (bytes : List ℕ) (lib : Library) (j k : ℕ) (d e : Element) → Holds bytes lib → Contains (elements_at lib j) d → Contains (elements_at lib k) e → d.at ≡ e.at → d ≡ e
+pub element-same : (bytes : List ℕ) (lib : Library) (j k : ℕ) (d e : Element) → Holds bytes lib → Contains (elements_at lib j) d
+    → Contains (elements_at lib k) e → d.at ≡ e.at → d ≡ e
 element-same bytes lib j k d e h in_j in_k same =
     made-same bytes h.end h.records d e h.lies
     (element-made bytes h.records j d (subst (λ l. Contains (elements_at l j) d) h.is in_j))

@@ -55,7 +55,8 @@ module _ (rule overlap : ℕ) (layer : Region) (c : Cut) (m : Masks) (cut : IsCu
       let t_at : get_or c.sides k t ≡ t = subst (λ n. get_or c.sides n t ≡ t) same t_is in
       let sides : t ≡ s = sym t_at ∙ (get_or_default c.sides k t s k_side ∙ s_is) in
       let both : differ (colour_at masks.colours s.0) (colour_at masks.colours s.1) ≡ true =
-      both-letters (colour_at masks.colours s.0) (colour_at masks.colours s.1) of_a (subst (λ x. (colour_at masks.colours x.0 ≡ true) ⊎ (colour_at masks.colours x.1 ≡ true)) sides of_b) in
+      both-letters (colour_at masks.colours s.0) (colour_at masks.colours s.1) of_a
+      (subst (λ x. (colour_at masks.colours x.0 ≡ true) ⊎ (colour_at masks.colours x.1 ≡ true)) sides of_b) in
       let listed = (masks.stitches.exactly k).1 (s, k_side, s_is, both) in
       covers-zone c.zones m.stitches p k listed (subst (λ v. Has v.rect p) (sym z_is ∙ get_or_default c.zones k z _ k_in) has)
 

@@ -59,7 +59,8 @@ has_or_not r p =
     (λ l. inr (λ h. let k = h.high in omega (arith, ints, l, k)))))
     (λ l. inr (λ h. let k = h.right in omega (arith, ints, l, k))))
 
-zoned-rest : (z : Zone) (zs : List Zone) (p : Pt) → (Has z.rect p → ⊥) → (Any (λ w. Has w.rect p) zs → ⊥) → (k : ℕ) (w : Zone) → k < length (z ∷ zs) → get_or (z ∷ zs) k w ≡ w → Has w.rect p → ⊥
+zoned-rest : (z : Zone) (zs : List Zone) (p : Pt) → (Has z.rect p → ⊥) → (Any (λ w. Has w.rect p) zs → ⊥) → (k : ℕ) (w : Zone)
+    → k < length (z ∷ zs) → get_or (z ∷ zs) k w ≡ w → Has w.rect p → ⊥
 zoned-rest z zs p here later zero w l is has = here (subst (λ v. Has v.rect p) (sym is) has)
 zoned-rest z zs p here later (suc k) w l is has = later (k, w, omega (arith, l), is, has)
 
@@ -125,10 +126,12 @@ module _ (rule overlap : ℕ) (layer : Region) (c : Cut) (cut : IsCut rule overl
       elim (cases_order k l) [
         | inl e ↦ e
         | inr other ↦ elim other [
-          | inl less ↦ (let before : Before z.rect w.rect = subst (λ v. Before z.rect v.rect) w_at (subst (λ v. Before v.rect (get_or c.zones l z).rect) z_is (cut.zones.ordered k l z less l_in)) in
+          | inl less ↦ (let before : Before z.rect w.rect = subst (λ v. Before z.rect v.rect) w_at
+              (subst (λ v. Before v.rect (get_or c.zones l z).rect) z_is (cut.zones.ordered k l z less l_in)) in
               let itself : Before w.rect w.rect = subst (λ r. Before r w.rect) same before in
               absurd (Before-strict w.rect w.rect itself itself))
-          | inr less ↦ (let before : Before w.rect z.rect = subst (λ v. Before w.rect v.rect) z_at (subst (λ v. Before v.rect (get_or c.zones k w).rect) w_is (cut.zones.ordered l k w less k_in)) in
+          | inr less ↦ (let before : Before w.rect z.rect = subst (λ v. Before w.rect v.rect) z_at
+              (subst (λ v. Before v.rect (get_or c.zones k w).rect) w_is (cut.zones.ordered l k w less k_in)) in
               let itself : Before w.rect w.rect = subst (λ r. Before w.rect r) same before in
               absurd (Before-strict w.rect w.rect itself itself))
         ]
@@ -137,7 +140,8 @@ module _ (rule overlap : ℕ) (layer : Region) (c : Cut) (cut : IsCut rule overl
   -- a piece lies in its owner
   pub owner-is : (k i : ℕ) (p : Pt) → part_at c.pieces k p → part_at c.features i p → get_or c.owners k 0 ≡ i
   owner-is k i p has in_i =
-      let own : IsOwner c.features (get_or c.pieces k []) (get_or c.owners k 0) = zip-at (IsOwner c.features) c.pieces c.owners k [] 0 cut.pieces.owned (part-within c.pieces k p has) in
+      let own : IsOwner c.features (get_or c.pieces k []) (get_or c.owners k 0) = zip-at
+      (IsOwner c.features) c.pieces c.owners k [] 0 cut.pieces.owned (part-within c.pieces k p has) in
       part-same layer c.features (get_or c.owners k 0) i p cut.features (own.1 p has) in_i
 
   -- what a piece has is outside the zones

@@ -39,4 +39,5 @@ MasksKeepApart = (rule overlap : ℕ) (layer : List Rect) (c : Cut) (m : Masks) 
 
 -- masks overlap at their stitches alone
 abbrev pub MasksOverlapAtStitches : Type 0
-MasksOverlapAtStitches = (rule overlap : ℕ) (layer : List Rect) (c : Cut) (m : Masks) → IsCut rule overlap (Covers layer) c → AreMasks rule c m → OverlapAt (rects_of c.zones m.stitches) m.a m.b
+MasksOverlapAtStitches = (rule overlap : ℕ) (layer : List Rect) (c : Cut) (m : Masks) → IsCut rule overlap (Covers layer) c
+    → AreMasks rule c m → OverlapAt (rects_of c.zones m.stitches) m.a m.b

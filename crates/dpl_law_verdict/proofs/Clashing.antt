@@ -33,8 +33,10 @@ conflicts-undirected rule c = record {
   different = λ u v h e. h.apart (ap (λ k. get_or c.owners k 0) e);
 }
 
-module _ (rule overlap : ℕ) (layer : List Rect) (c : Cut) (cycle : List ℕ) (near : List NearLine) (cut : IsCut rule overlap (Covers layer) c) (reported : IsReported (conflicts rule c) cycle)
-    (pairs : (k : ℕ) (d : NearLine) → k < length cycle → IsNearestPair rule (part_at c.pieces (get_or cycle k 0)) (part_at c.pieces (get_or cycle ((k + 1) % length cycle) 0)) (get_or near k d).from (get_or near k d).to) where
+module _ (rule overlap : ℕ) (layer : List Rect) (c : Cut) (cycle : List ℕ) (near : List NearLine)
+    (cut : IsCut rule overlap (Covers layer) c) (reported : IsReported (conflicts rule c) cycle)
+    (pairs : (k : ℕ) (d : NearLine) → k < length cycle → IsNearestPair rule (part_at c.pieces (get_or cycle k 0))
+    (part_at c.pieces (get_or cycle ((k + 1) % length cycle) 0)) (get_or near k d).from (get_or near k d).to) where
   abbrev places : List PlaceLine
   places = map (place_line c.keys) cycle
 
@@ -44,7 +46,8 @@ module _ (rule overlap : ℕ) (layer : List Rect) (c : Cut) (cycle : List ℕ) (
   odd-cycle : IsOddCycle (conflicts rule c) cycle
   odd-cycle = reported-odd (conflicts rule c) (conflicts-undirected rule c) cycle reported
 
-  good-line : (k : ℕ) (d : NearLine) → k < length cycle → IsGoodPlace rule c places (place_line c.keys (get_or cycle k 0)) (get_or cycle ((k + 1) % length cycle) 0) k (get_or near k d)
+  good-line : (k : ℕ) (d : NearLine) → k < length cycle → IsGoodPlace rule c places (place_line c.keys (get_or cycle k 0))
+      (get_or cycle ((k + 1) % length cycle) 0) k (get_or near k d)
   good-line k d k_in =
       let conflict = odd-cycle.around k k_in in
       let many-keys : length c.keys ≡ length c.pieces = AllZip-long (λ piece key. IsLeast (Covers piece) key) c.pieces c.keys cut.pieces.keyed in
@@ -53,7 +56,8 @@ module _ (rule overlap : ℕ) (layer : List Rect) (c : Cut) (cycle : List ℕ) (
       record {
         known = known;
         new = λ j l e. odd-cycle.different j k 0 l k_in (sym (piece-at c.keys cycle j) ∙ e);
-        key = get_or_default c.keys (get_or cycle k 0) (at (pos 0) (pos 0)) (get_or c.keys (get_or cycle k 0) (at (pos 0) (pos 0))) (subst (λ n. get_or cycle k 0 < n) (sym many-keys) known);
+        key = get_or_default c.keys (get_or cycle k 0) (at (pos 0) (pos 0)) (get_or c.keys (get_or cycle k 0) (at (pos 0) (pos 0)))
+            (subst (λ n. get_or cycle k 0 < n) (sym many-keys) known);
         from = pair.from;
         to = pair.to;
         near = pair.close;
@@ -65,12 +69,26 @@ module _ (rule overlap : ℕ) (layer : List Rect) (c : Cut) (cycle : List ℕ) (
       let within : k < length cycle = subst (λ n. k < n) many-places k_in in
       let line : NearLine = record { from = at (pos 0) (pos 0); to = at (pos 0) (pos 0) } in
       let place : PlaceLine = place_line c.keys (get_or cycle k 0) in
-      let next : piece_of places ((k + 1) % length places) ≡ get_or cycle ((k + 1) % length cycle) 0 = ap (λ n. piece_of places ((k + 1) % n)) many-places ∙ piece-at c.keys cycle ((k + 1) % length cycle) in
+      let next : piece_of places ((k + 1) % length places) ≡ get_or cycle ((k + 1) % length cycle) 0 = ap
+      (λ n. piece_of places ((k + 1) % n)) many-places ∙ piece-at c.keys cycle ((k + 1) % length cycle) in
       bad place line
-      (subst (λ (x : PlaceLine). IsGoodPlace rule c places x (piece_of places ((k + 1) % length places)) k (get_or near k line)) (sym (get_or-map (place_line c.keys) cycle k 0 place within))
+      (subst (λ (x : PlaceLine). IsGoodPlace rule c places x (piece_of places ((k + 1) % length places)) k (get_or near k line))
+      (sym (get_or-map (place_line c.keys) cycle k 0 place within))
       (subst (λ n. IsGoodPlace rule c places place n k (get_or near k line)) (sym next) (good-line k line within)))
 
-  pub clash-verdict : VerdictOfClaim rule overlap (record { layer = layer; head = record { rule = rule; overlap = overlap; features = length c.features; pieces = length c.pieces; zones = length c.zones }; cycle = places; near = near }) Valid
+  pub clash-verdict : VerdictOfClaim rule overlap
+      (record {
+        layer = layer;
+        head = record {
+          rule = rule;
+          overlap = overlap;
+          features = length c.features;
+          pieces = length c.pieces;
+          zones = length c.zones;
+        };
+        cycle = places;
+        near = near;
+      }) Valid
   clash-verdict = inr (
     (λ differs. elim differs [ inl ne ↦ ne refl | inr ne ↦ ne refl ]),
     inr ((λ differs. differs (c, cut, refl, refl, refl)), (c, cut, inr (none-bad-place, refl))),

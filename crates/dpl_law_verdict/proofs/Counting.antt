@@ -53,7 +53,8 @@ module _ {X : Type 0} (L : X → Pt → Type 0) (one : (x : X) (p q : Pt) → L 
   abbrev Rises : X → X → Type 0
   Rises x y = (p q : Pt) × L x p × L y q × Precedes p q
 
-  climbs : (x : X) (p : Pt) (xs : List X) → L x p → Inside farthest p → AllPairs Rises (x ∷ xs) → ((y : X) (q : Pt) → Contains xs y → L y q → Inside farthest q) → place p + length (x ∷ xs) ≤ 4000000000000000000
+  climbs : (x : X) (p : Pt) (xs : List X) → L x p → Inside farthest p → AllPairs Rises (x ∷ xs)
+      → ((y : X) (q : Pt) → Contains xs y → L y q → Inside farthest q) → place p + length (x ∷ xs) ≤ 4000000000000000000
   climbs x p [] is p_in all within = (let h = place-below p p_in in omega (arith, h))
   climbs x p (y ∷ ys) is p_in all within =
       let (u, v, u_is, v_is, before) = AllPairs-first Rises x y (y ∷ ys) all (Contains-head y ys) in
@@ -71,7 +72,8 @@ module _ {X : Type 0} (L : X → Pt → Type 0) (one : (x : X) (p q : Pt) → L 
       let h = climbs x u (y ∷ ys) u_is (within x u (Contains-head x (y ∷ ys)) u_is) all (λ z q z_in. within z q (Contains-later x z (y ∷ ys) z_in)) in
       omega (arith, h)
 
-pub few-parts : (layer : List Rect) (a : Region) (parts : List (List Rect)) → AreRectsWithin farthest layer → ((p : Pt) → a p → Covers layer p) → AreComponents a parts → length parts < 2 ^ 64
+pub few-parts : (layer : List Rect) (a : Region) (parts : List (List Rect)) → AreRectsWithin farthest layer
+    → ((p : Pt) → a p → Covers layer p) → AreComponents a parts → length parts < 2 ^ 64
 few-parts layer a parts within inside are =
     few (λ part p. IsLeast (Covers part) p) (λ part p q x y. IsLeast-unique (Covers part) (Covers part) p q (SameSquares-refl (Covers part)) x y) parts
     (λ i j d l j_in. (let f = are.ordered i j d l j_in in (f.first, f.second, f.first_is, f.second_is, f.precedes)))

@@ -117,26 +117,31 @@ module _ (rule : ℕ) (cut : Cut) (cycle : List PlaceLine) (near : List NearLine
   keyed-at : (layer : Region) (overlap : ℕ) → IsCut rule overlap layer cut → (k : ℕ) → k < length cycle → IsLeast (part_at cut.pieces (place k).piece) (place k).key
   keyed-at layer overlap is k k_in =
       let known = told k k_in ((place k).piece < length cut.pieces) (less_or_not (place k).piece (length cut.pieces)) (λ h. h.known) in
-      let key = told k k_in ((place k).key ≡ get_or cut.keys (place k).piece (place k).key) (point_or_not (place k).key (get_or cut.keys (place k).piece (place k).key)) (λ h. h.key) in
-      subst (λ q. IsLeast (part_at cut.pieces (place k).piece) q) (sym key) (zip-at (λ piece q. IsLeast (Covers piece) q) cut.pieces cut.keys (place k).piece [] (place k).key is.pieces.keyed known)
+      let key = told k k_in ((place k).key ≡ get_or cut.keys (place k).piece (place k).key)
+      (point_or_not (place k).key (get_or cut.keys (place k).piece (place k).key)) (λ h. h.key) in
+      subst (λ q. IsLeast (part_at cut.pieces (place k).piece) q) (sym key)
+      (zip-at (λ piece q. IsLeast (Covers piece) q) cut.pieces cut.keys (place k).piece [] (place k).key is.pieces.keyed known)
 
   pub all-keyed : (layer : Region) (overlap : ℕ) → IsCut rule overlap layer cut → All (λ (p : PlaceLine). IsLeast (part_at cut.pieces p.piece) p.key) cycle
   all-keyed layer overlap is k d k_in =
       subst (λ (p : PlaceLine). IsLeast (part_at cut.pieces p.piece) p.key) (get_or_default cycle k no_place d k_in) (keyed-at layer overlap is k k_in)
 
-  pub all-shown : (k : ℕ) (d : NearLine) → k < length cycle → ShowsNear rule (part_at cut.pieces (get_or (pieces_of cycle) k 0)) (part_at cut.pieces (get_or (pieces_of cycle) (after k) 0)) (get_or near k d)
+  pub all-shown : (k : ℕ) (d : NearLine) → k < length cycle → ShowsNear rule (part_at cut.pieces (get_or (pieces_of cycle) k 0))
+      (part_at cut.pieces (get_or (pieces_of cycle) (after k) 0)) (get_or near k d)
   all-shown k d k_in =
       let next_in : after k < length cycle = omega (arith, k_in) in
       subst (λ u. ShowsNear rule (part_at cut.pieces u) (part_at cut.pieces (get_or (pieces_of cycle) (after k) 0)) (get_or near k d)) (sym (piece-at k 0 k_in))
       (subst (λ v. ShowsNear rule (part_at cut.pieces (piece_of cycle k)) (part_at cut.pieces v) (get_or near k d)) (sym (piece-at (after k) 0 next_in))
-      (subst (λ (l : NearLine). ShowsNear rule (part_at cut.pieces (piece_of cycle k)) (part_at cut.pieces (piece_of cycle (after k))) l) (get_or_default near k no_line d (omega (arith, each, k_in)))
+      (subst (λ (l : NearLine). ShowsNear rule (part_at cut.pieces (piece_of cycle k)) (part_at cut.pieces (piece_of cycle (after k))) l)
+      (get_or_default near k no_line d (omega (arith, each, k_in)))
       (record { from = from-at k k_in; to = to-at k k_in; close = close-at k k_in })))
 
 -- what is counted of a layer is what any cut of it has
 count-of : (rule overlap : ℕ) (layer : List Rect) (head : Head) (cut : Cut) → IsCut rule overlap (Covers layer) cut → (CountsDiffer rule overlap layer head → ⊥)
     → (head.features ≡ length cut.features) × (head.pieces ≡ length cut.pieces) × (head.zones ≡ length cut.zones)
 count-of rule overlap layer head cut is none = (
-  equal-where head.features (length cut.features) (λ ne. none (λ (c, c_is, f, p, z). ne (f ∙ ap (λ (x : Cut). length x.features) (one-cut rule overlap (Covers layer) c cut c_is is)))),
+  equal-where head.features (length cut.features)
+      (λ ne. none (λ (c, c_is, f, p, z). ne (f ∙ ap (λ (x : Cut). length x.features) (one-cut rule overlap (Covers layer) c cut c_is is)))),
   equal-where head.pieces (length cut.pieces) (λ ne. none (λ (c, c_is, f, p, z). ne (p ∙ ap (λ (x : Cut). length x.pieces) (one-cut rule overlap (Covers layer) c cut c_is is)))),
   equal-where head.zones (length cut.zones) (λ ne. none (λ (c, c_is, f, p, z). ne (z ∙ ap (λ (x : Cut). length x.zones) (one-cut rule overlap (Covers layer) c cut c_is is)))),
 )

@@ -15,11 +15,15 @@ use Rattle.dpl_spec_verdict.specs.Masks.{Claim, CountDiffers, IsGoodStitch, IsBa
 use Rattle.dpl_law_verdict.specs.Lines.{AreGoodLines}
 use Rattle.dpl_law_verdict.proofs.Passing.{IsKept, valid-kept, none-bad, equal-where, less-where, covered-where}
 
-count-is : (layer : List Rect) (head : Head) → (CountDiffers layer head → ⊥) → (features : List (List Rect)) → AreComponents (Covers layer) features → head.features ≡ length features
+count-is : (layer : List Rect) (head : Head) → (CountDiffers layer head → ⊥) → (features : List (List Rect))
+    → AreComponents (Covers layer) features → head.features ≡ length features
 count-is layer head none features are =
-    equal-where head.features (length features) (λ ne. none (λ (found, found_are, is). ne (is ∙ ap (λ (t : List (List Rect)). length t) (components-unique (Covers layer) found features found_are are))))
+    equal-where head.features (length features)
+    (λ ne. none (λ (found, found_are, is). ne
+    (is ∙ ap (λ (t : List (List Rect)). length t) (components-unique (Covers layer) found features found_are are))))
 
-good-where : (overlap : ℕ) (a b : List Rect) (pieces : List PieceLine) (s : StitchLine) → ((IsGoodStitch overlap (Covers a) (Covers b) pieces s → ⊥) → ⊥) → IsGoodStitch overlap (Covers a) (Covers b) pieces s
+good-where : (overlap : ℕ) (a b : List Rect) (pieces : List PieceLine) (s : StitchLine)
+    → ((IsGoodStitch overlap (Covers a) (Covers b) pieces s → ⊥) → ⊥) → IsGoodStitch overlap (Covers a) (Covers b) pieces s
 good-where overlap a b pieces s never = record {
   on_both = λ p has. (covered-where a p (λ off. never (λ g. off (g.on_both p has).0)), covered-where b p (λ off. never (λ g. off (g.on_both p has).1)));
   long = by_lt_z (s.rect.x1 -ℤ s.rect.x0) (pos overlap)

@@ -40,7 +40,8 @@ zone-long rule overlap layer feature r (inl h) = let w : r.x1 ≡ r.x0 +ℤ pos 
 zone-long rule overlap layer feature r (inr (v, apart)) = let w : r.y1 ≡ r.y0 +ℤ pos overlap = v.middle.width in inr (omega (arith, ints, w))
 
 -- the lines of stitches have the squares of their zones
-any-lines : (zones : List Zone) (sides : List (ℕ × ℕ)) (ks : List ℕ) (p : Pt) → Covers (rects_of zones ks) p → Any (λ (s : StitchLine). Has s.rect p) (map (stitch_line zones sides) ks)
+any-lines : (zones : List Zone) (sides : List (ℕ × ℕ)) (ks : List ℕ) (p : Pt) → Covers (rects_of zones ks) p
+    → Any (λ (s : StitchLine). Has s.rect p) (map (stitch_line zones sides) ks)
 any-lines zones sides ks p (n, r, l, is, has) =
     let within : n < length ks = subst (λ t. n < t) (length-map ks (rect_at zones)) l in
     let s : StitchLine = stitch_line zones sides (get_or ks n 0) in
@@ -48,8 +49,14 @@ any-lines zones sides ks p (n, r, l, is, has) =
     (n, s, subst (λ t. n < t) (sym (length-map ks (stitch_line zones sides))) within, get_or-map (stitch_line zones sides) ks n 0 s within, subst (λ (t : Rect). Has t p) here has)
 
 covers-zone : (zones : List Zone) (ks : List ℕ) (n : ℕ) (p : Pt) → n < length ks → Has (rect_at zones (get_or ks n 0)) p → Covers (rects_of zones ks) p
-covers-zone zones ks n p within has =
-    (n, rect_at zones (get_or ks n 0), subst (λ t. n < t) (sym (length-map ks (rect_at zones))) within, get_or-map (rect_at zones) ks n 0 (rect_at zones (get_or ks n 0)) within, has)
+covers-zone zones ks n p within has = (
+  n,
+  rect_at zones (get_or ks n 0),
+  subst (λ t. n < t) (sym (length-map ks (rect_at zones))) within,
+  get_or-map (rect_at zones) ks n 0
+      (rect_at zones (get_or ks n 0)) within,
+  has,
+)
 
 module _ (rule overlap : ℕ) (layer : List Rect) (c : Cut) (m : Masks) (cut : IsCut rule overlap (Covers layer) c) (masks : AreMasks rule c m) where
   abbrev lines : List PieceLine
@@ -85,12 +92,14 @@ module _ (rule overlap : ℕ) (layer : List Rect) (c : Cut) (m : Masks) (cut : I
       let s = get_or c.sides k (0, 0) in
       let s_is : s ≡ side = get_or_default c.sides k (0, 0) side k_side ∙ side_is in
       let known = (zip-at (AreSides c.features c.pieces) c.zones c.sides k no_zone (0, 0) cut.pieces.sided k_in).known in
-      let letters : differ (colour_at masks.colours s.0) (colour_at masks.colours s.1) ≡ true = subst (λ (t : ℕ × ℕ). differ (colour_at masks.colours t.0) (colour_at masks.colours t.1) ≡ true) (sym s_is) both in
+      let letters : differ (colour_at masks.colours s.0) (colour_at masks.colours s.1) ≡ true = subst
+      (λ (t : ℕ × ℕ). differ (colour_at masks.colours t.0) (colour_at masks.colours t.1) ≡ true) (sym s_is) both in
       let first : (piece_at lines s.0).b ≡ colour_at masks.colours s.0 = ap (λ (l : PieceLine). l.b) (line-at s.0 _ known.0) in
       let second : (piece_at lines s.1).b ≡ colour_at masks.colours s.1 = ap (λ (l : PieceLine). l.b) (line-at s.1 _ known.1) in
       record {
         on_both = λ p has. (overlap-at rule overlap (Covers layer) c m cut masks p).1 (covers-zone c.zones m.stitches n p n_in has);
-        long = zone-long rule overlap (Covers layer) (part_at c.features z.feature) z.rect (kept rule overlap (Covers layer) c cut z (k, k_in, get_or_default c.zones k z no_zone k_in)).1;
+        long = zone-long rule overlap (Covers layer) (part_at c.features z.feature) z.rect
+            (kept rule overlap (Covers layer) c cut z (k, k_in, get_or_default c.zones k z no_zone k_in)).1;
         listed = (subst (λ t. s.0 < t) (sym many-lines) known.0, subst (λ t. s.1 < t) (sym many-lines) known.1);
         letters = λ e. two-letters (colour_at masks.colours s.0) (colour_at masks.colours s.1) letters (sym first ∙ (e ∙ second));
       }
@@ -120,7 +129,21 @@ module _ (rule overlap : ℕ) (layer : List Rect) (c : Cut) (m : Masks) (cut : I
       omega (arith, l, s)
 
   pub painted-kept : (HasOddCycle (conflicts rule c) → ⊥)
-      → IsKept rule overlap (record { layer = layer; a = m.a; b = m.b; head = record { rule = rule; overlap = overlap; features = length c.features; pieces = length c.pieces; zones = length c.zones }; pieces = lines; stitches = stitch_lines })
+      → IsKept rule overlap
+      (record {
+        layer = layer;
+        a = m.a;
+        b = m.b;
+        head = record {
+          rule = rule;
+          overlap = overlap;
+          features = length c.features;
+          pieces = length c.pieces;
+          zones = length c.zones;
+        };
+        pieces = lines;
+        stitches = stitch_lines;
+      })
   painted-kept even = record {
     rules = λ differs. elim differs [ inl ne ↦ ne refl | inr ne ↦ ne refl ];
     counts = λ differs. differs (c.features, cut.features, refl);
@@ -134,7 +157,8 @@ module _ (rule overlap : ℕ) (layer : List Rect) (c : Cut) (m : Masks) (cut : I
     stitches = λ (n, n_in, bad). (
         let within : n < length m.stitches = subst (λ t. n < t) (length-map m.stitches (stitch_line c.zones c.sides)) n_in in
         let s : StitchLine = stitch_line c.zones c.sides (get_or m.stitches n 0) in
-        bad s (subst (λ (t : StitchLine). IsGoodStitch overlap (Covers m.a) (Covers m.b) lines t) (sym (get_or-map (stitch_line c.zones c.sides) m.stitches n 0 s within)) (good-stitch n within)));
+        bad s (subst (λ (t : StitchLine). IsGoodStitch overlap (Covers m.a) (Covers m.b) lines t)
+        (sym (get_or-map (stitch_line c.zones c.sides) m.stitches n 0 s within)) (good-stitch n within)));
     pieces = λ (n, n_in, bad). (
         let d : PieceLine = piece_line (false, at (pos 0) (pos 0)) in
         bad d (key-masked n d (subst (λ t. n < t) many-lines n_in)));

@@ -14,7 +14,9 @@ use Rattle.dpl_cert.specs.declared.cert.StitchLine.{StitchLine}
 use Rattle.dpl_spec_verdict.specs.declared.Verdict.{Verdict}
 use Rattle.dpl_spec_verdict.specs.declared.Verdict.TheVariants.{Valid}
 use Rattle.dpl_spec_verdict.specs.Order.{FirstOf, HasBad, HasSquare, RulesDiffer, ShowsRules, ShowsCounts}
-use Rattle.dpl_spec_verdict.specs.Masks.{Claim, CountDiffers, IsTight, IsBadStitch, is_doubled, is_uncovered, ShowsCover, ShowsOverlap, ShowsSpacingA, ShowsSpacingB, ShowsStitch, VerdictFromCounts, VerdictFromCover, VerdictFromOverlap, VerdictFromSpacingA, VerdictFromSpacingB, VerdictFromStitches, VerdictFromPieces, VerdictOfClaim}
+use Rattle.dpl_spec_verdict.specs.Masks.{Claim, CountDiffers, IsTight, IsBadStitch, is_doubled, is_uncovered, ShowsCover, ShowsOverlap}
+use Rattle.dpl_spec_verdict.specs.Masks.{ShowsSpacingA, ShowsSpacingB, ShowsStitch, VerdictFromCounts, VerdictFromCover, VerdictFromOverlap}
+use Rattle.dpl_spec_verdict.specs.Masks.{VerdictFromSpacingA, VerdictFromSpacingB, VerdictFromStitches, VerdictFromPieces, VerdictOfClaim}
 use Rattle.dpl_law_verdict.specs.Valid.{AreRight, StandsApart}
 
 -- what isn't shown isn't broken
@@ -77,13 +79,18 @@ cover-kept layer a b none p = (
   ],
 )
 
-stitch-has : (stitches : List StitchLine) (k : ℕ) (s : StitchLine) (p : Pt) (d : StitchLine) → k < length stitches → get_or stitches k s ≡ s → Has s.rect p → Has (get_or stitches k d).rect p
+stitch-has : (stitches : List StitchLine) (k : ℕ) (s : StitchLine) (p : Pt) (d : StitchLine) → k < length stitches
+    → get_or stitches k s ≡ s → Has s.rect p → Has (get_or stitches k d).rect p
 stitch-has stitches k s p d k_in is has = subst (λ u. let t : StitchLine = u in Has t.rect p) (sym is ∙ get_or_default stitches k s d k_in) has
 
-overlap-kept : (overlap : ℕ) (a b : List Rect) (pieces : List PieceLine) (stitches : List StitchLine) → (HasSquare (is_doubled a b stitches) → ⊥) → (HasBad (IsBadStitch overlap a b pieces) stitches → ⊥)
+overlap-kept : (overlap : ℕ) (a b : List Rect) (pieces : List PieceLine) (stitches : List StitchLine)
+    → (HasSquare (is_doubled a b stitches) → ⊥) → (HasBad (IsBadStitch overlap a b pieces) stitches → ⊥)
     → (p : Pt) → (Covers a p × Covers b p) ↔ Any (λ s. let t : StitchLine = s in Has t.rect p) stitches
 overlap-kept overlap a b pieces stitches none right p = (
-  λ (in_a, in_b). elim (any_or_not (λ s. let t : StitchLine = s in Has t.rect p) (λ s. has_or_not s.rect p) stitches) [ inl there ↦ there | inr missing ↦ absurd (none (p, (in_a, in_b, missing))) ],
+  λ (in_a, in_b). elim (any_or_not (λ s. let t : StitchLine = s in Has t.rect p) (λ s. has_or_not s.rect p) stitches) [
+    | inl there ↦ there
+    | inr missing ↦ absurd (none (p, (in_a, in_b, missing)))
+  ],
   λ (k, s, k_in, is, has). (
     elim (covered_or_not a p) [ inl in_a ↦ in_a | inr never ↦ absurd (right (k, k_in, λ d good. never ((good.on_both p (stitch-has stitches k s p d k_in is has)).0))) ],
     elim (covered_or_not b p) [ inl in_b ↦ in_b | inr never ↦ absurd (right (k, k_in, λ d good. never ((good.on_both p (stitch-has stitches k s p d k_in is has)).1))) ],

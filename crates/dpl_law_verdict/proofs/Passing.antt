@@ -7,7 +7,10 @@ use Rattle.dpl_spec_split.specs.declared.Rect.{Rect}
 use Rattle.dpl_spec_split.specs.Squares.{Covers}
 use Rattle.dpl_spec_verdict.specs.declared.Verdict.TheVariants.{Valid}
 use Rattle.dpl_spec_verdict.specs.Order.{HasBad, HasSquare, RulesDiffer, ShowsRules, ShowsCounts, IsValid}
-use Rattle.dpl_spec_verdict.specs.Masks.{Claim, CountDiffers, is_uncovered, is_doubled, IsTight, IsBadStitch, IsBadPiece, ShowsCover, ShowsOverlap, ShowsSpacingA, ShowsSpacingB, ShowsStitch, ShowsPiece, VerdictFromCounts, VerdictFromCover, VerdictFromOverlap, VerdictFromSpacingA, VerdictFromSpacingB, VerdictFromStitches, VerdictFromPieces, VerdictOfClaim}
+use Rattle.dpl_spec_verdict.specs.Masks.{Claim, CountDiffers, is_uncovered, is_doubled, IsTight, IsBadStitch, IsBadPiece, ShowsCover}
+use Rattle.dpl_spec_verdict.specs.Masks.{ShowsOverlap, ShowsSpacingA, ShowsSpacingB, ShowsStitch, ShowsPiece, VerdictFromCounts}
+use Rattle.dpl_spec_verdict.specs.Masks.{VerdictFromCover, VerdictFromOverlap, VerdictFromSpacingA, VerdictFromSpacingB}
+use Rattle.dpl_spec_verdict.specs.Masks.{VerdictFromStitches, VerdictFromPieces, VerdictOfClaim}
 use Rattle.dpl_law_verdict.proofs.Parting.{unbroken, covered_or_not}
 
 -- no property of masks is broken

@@ -74,10 +74,16 @@ wound-left (p ∷ ps) s left =
 
 loop-inside : (bound : ℕ) (ps : List Pt) (s : Pt) → ArePointsWithin bound ps → LoopCovers ps s → Inside bound s
 loop-inside bound ps s w covers =
-    let left : neg_ℤ (pos bound) ≤ℤ s.x = by_lt_z s.x (neg_ℤ (pos bound)) (λ l. absurd (covers (wound-none ps s (λ p q p_in q_in. (let h = (w p p_in).column in step-before p q s (omega (arith, ints, l, h))))))) (λ m. m) in
+    let left : neg_ℤ (pos bound) ≤ℤ s.x = by_lt_z s.x (neg_ℤ (pos bound))
+    (λ l. absurd (covers (wound-none ps s (λ p q p_in q_in. (let h = (w p p_in).column in
+    step-before p q s (omega (arith, ints, l, h))))))) (λ m. m) in
     let right : s.x <ℤ pos bound = by_lt_z s.x (pos bound) (λ l. l) (λ m. absurd (covers (wound-left ps s (λ p p_in. (let h = (w p p_in).column in omega (arith, ints, m, h)))))) in
-    let low : neg_ℤ (pos bound) ≤ℤ s.y = by_lt_z s.y (neg_ℤ (pos bound)) (λ l. absurd (covers (wound-none ps s (λ p q p_in q_in. (let h = (w p p_in).row in let k = (w q q_in).row in step-under p q s (omega (arith, ints, l, h)) (omega (arith, ints, l, k))))))) (λ m. m) in
-    let high : s.y <ℤ pos bound = by_lt_z s.y (pos bound) (λ l. l) (λ m. absurd (covers (wound-none ps s (λ p q p_in q_in. (let h = (w p p_in).row in let k = (w q q_in).row in step-over p q s (omega (arith, ints, m, h)) (omega (arith, ints, m, k))))))) in
+    let low : neg_ℤ (pos bound) ≤ℤ s.y = by_lt_z s.y (neg_ℤ (pos bound))
+    (λ l. absurd (covers (wound-none ps s (λ p q p_in q_in. (let h = (w p p_in).row in let k = (w q q_in).row in
+    step-under p q s (omega (arith, ints, l, h)) (omega (arith, ints, l, k))))))) (λ m. m) in
+    let high : s.y <ℤ pos bound = by_lt_z s.y (pos bound) (λ l. l)
+    (λ m. absurd (covers (wound-none ps s (λ p q p_in q_in. (let h = (w p p_in).row in let k = (w q q_in).row in
+    step-over p q s (omega (arith, ints, m, h)) (omega (arith, ints, m, k))))))) in
     (omega (arith, ints, left, right), omega (arith, ints, low, high), omega (arith, ints, left, right), omega (arith, ints, low, high))
 
 -- ---- layers
@@ -98,10 +104,25 @@ point-where p never = record {
 layer-inside : (lib : Library) (top : ℕ) (chosen : Layer) (s : Pt) → IsFaultless lib top chosen → IsInLayer lib top chosen s → Inside farthest s
 layer-inside lib top chosen s faultless (steps, k, e, placement, (i, ps, i_in, i_is, covers)) =
     loop-inside farthest ps s
-    (λ p p_in. point-where p (λ out. faultless.within k e (record { reached = leads-reach lib top steps k placement.leads; inside = placement.inside; holds = (steps, ps, p, placement, (i, i_in, i_is), p_in, out) })))
+    (λ p p_in. point-where p
+    (λ out. faultless.within k e
+    (record {
+      reached = leads-reach lib top steps k placement.leads;
+      inside = placement.inside;
+      holds = (
+        steps,
+        ps,
+        p,
+        placement,
+        (i, i_in, i_is),
+        p_in,
+        out,
+      );
+    })))
     covers
 
-pub layer-within : (lib : Library) (top : ℕ) (chosen : Layer) (slabs : List Rect) → IsFaultless lib top chosen → AreSlabsOf (IsInLayer lib top chosen) slabs → AreRectsWithin farthest slabs
+pub layer-within : (lib : Library) (top : ℕ) (chosen : Layer) (slabs : List Rect) → IsFaultless lib top chosen
+    → AreSlabsOf (IsInLayer lib top chosen) slabs → AreRectsWithin farthest slabs
 layer-within lib top chosen slabs faultless are = slabs-inside (IsInLayer lib top chosen) farthest slabs (λ s in_layer. layer-inside lib top chosen s faultless in_layer) are
 
 pub covered-inside : (rs : List Rect) (p : Pt) → AreRectsWithin farthest rs → Covers rs p → Inside farthest p

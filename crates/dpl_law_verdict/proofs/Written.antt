@@ -39,7 +39,8 @@ all-index P [] each = tt
 all-index P (x ∷ xs) each = (each 0 x (omega arith), all-index P xs (λ k d k_in. each (suc k) d (omega (arith, k_in))))
 
 -- the keys of parts that lie in the range
-all-keys : (parts : List (List Rect)) (keys : List Pt) → AllZip (λ part key. IsLeast (Covers part) key) parts keys → ((k : ℕ) (p : Pt) → part_at parts k p → IsPoint p) → AllByRecursion IsPoint keys
+all-keys : (parts : List (List Rect)) (keys : List Pt) → AllZip (λ part key. IsLeast (Covers part) key) parts keys
+    → ((k : ℕ) (p : Pt) → part_at parts k p → IsPoint p) → AllByRecursion IsPoint keys
 all-keys [] [] z within = tt
 all-keys [] (k ∷ ks) z within = absurd z
 all-keys (p ∷ ps) [] z within = absurd z
@@ -94,12 +95,14 @@ rect-of r solid (a, b, c, d) (e, f, g, h) = record {
 
 -- ---- the lines of a cut
 
-module _ (rule overlap : ℕ) (layer : List Rect) (c : Cut) (ruled : IsRule rule) (lapped : IsRule overlap) (within : AreRectsWithin farthest layer) (cut : IsCut rule overlap (Covers layer) c) where
+module _ (rule overlap : ℕ) (layer : List Rect) (c : Cut) (ruled : IsRule rule) (lapped : IsRule overlap)
+    (within : AreRectsWithin farthest layer) (cut : IsCut rule overlap (Covers layer) c) where
   piece-inside : (k : ℕ) (p : Pt) → part_at c.pieces k p → Inside farthest p
   piece-inside k p has = covered-inside layer p within (piece-rest rule overlap (Covers layer) c cut k p has).0
 
   zone-inside : (z : Zone) (p : Pt) → Contains c.zones z → Has z.rect p → Inside farthest p
-  zone-inside z p z_in has = covered-inside layer p within (part-inside (Covers layer) c.features z.feature p cut.features (zone-own rule overlap (Covers layer) c cut z p z_in has))
+  zone-inside z p z_in has = covered-inside layer p within (part-inside (Covers layer) c.features z.feature p cut.features
+      (zone-own rule overlap (Covers layer) c cut z p z_in has))
 
   solid-zone : (z : Zone) → Contains c.zones z → IsSolid z.rect
   solid-zone z z_in = zone-solid rule overlap (Covers layer) (part_at c.features z.feature) z.rect lapped.0 (kept rule overlap (Covers layer) c cut z z_in).1
@@ -117,7 +120,14 @@ module _ (rule overlap : ℕ) (layer : List Rect) (c : Cut) (ruled : IsRule rule
       let wide = s.wide in
       let tall = s.tall in
       rect-of z.rect s (first-inside z z_in)
-      (zone-inside z (at (z.rect.x1 -ℤ pos 1) (z.rect.y1 -ℤ pos 1)) z_in (record { left = omega (arith, ints, wide); right = omega (arith, ints); low = omega (arith, ints, tall); high = omega (arith, ints) }))
+      (zone-inside z (at (z.rect.x1 -ℤ pos 1) (z.rect.y1 -ℤ pos 1)) z_in
+      (record {
+        left = omega (arith, ints, wide);
+        right = omega (arith, ints);
+        low = omega (arith, ints, tall);
+        high = omega
+            (arith, ints);
+      }))
 
   few-pieces : length c.pieces < 2 ^ 64
   few-pieces = few-parts layer (without (Covers layer) c.zones) c.pieces within (λ p h. h.0) cut.pieces.components
@@ -143,7 +153,8 @@ module _ (rule overlap : ℕ) (layer : List Rect) (c : Cut) (ruled : IsRule rule
     many-colours = masks.coloured.each ∙ masks.rooted.lengths.0
 
     stitch-zone : (k : ℕ) → Contains m.stitches k → k < length c.zones
-    stitch-zone k k_in = (let (side, k_side, side_is, both) = (masks.stitches.exactly k).0 k_in in subst (λ n. k < n) (as_many_sides rule overlap (Covers layer) c cut masks.colours) k_side)
+    stitch-zone k k_in = (let (side, k_side, side_is, both) = (masks.stitches.exactly k).0 k_in in
+        subst (λ n. k < n) (as_many_sides rule overlap (Covers layer) c cut masks.colours) k_side)
 
     stitch-fits : (k : ℕ) → Contains m.stitches k → IsStitch (stitch_line c.zones c.sides k)
     stitch-fits k k_in =
@@ -179,7 +190,8 @@ module _ (rule overlap : ℕ) (layer : List Rect) (c : Cut) (ruled : IsRule rule
     )
 
   -- the lines of a cycle
-  module _ (cycle : List ℕ) (near : List NearLine) (reported : IsReported (conflicts rule c) cycle) (each : length near ≡ length cycle) (pairs : ShowNearest rule c.pieces cycle near) where
+  module _ (cycle : List ℕ) (near : List NearLine) (reported : IsReported (conflicts rule c) cycle) (each : length near ≡ length cycle)
+      (pairs : ShowNearest rule c.pieces cycle near) where
     odd : IsOddCycle (conflicts rule c) cycle
     odd = reported-odd (conflicts rule c) (conflicts-undirected rule c) cycle reported
 

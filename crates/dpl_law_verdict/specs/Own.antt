@@ -41,14 +41,17 @@ place_line keys k = record { piece = k; key = slice_index_or keys k (at (pos 0) 
 -- for each piece of the cycle the least pair of near squares with the next one, the last with the first
 abbrev pub ShowNearest : ℕ → List (List Rect) → List ℕ → List NearLine → Type 0
 ShowNearest rule pieces cycle near = (k : ℕ) (d : NearLine) → k < length cycle
-    → IsNearestPair rule (part_at pieces (slice_index cycle k)) (part_at pieces (slice_index cycle ((k + 1) % length cycle))) (slice_index_or near k d).from (slice_index_or near k d).to
+    → IsNearestPair rule (part_at pieces (slice_index cycle k)) (part_at pieces (slice_index cycle ((k + 1) % length cycle)))
+    (slice_index_or near k d).from (slice_index_or near k d).to
 
 -- without an odd cycle of conflicts nothing is wrong with the masks and the lines of their certificate
 abbrev pub OwnMasksAreValid : Type 0
 OwnMasksAreValid = (rule overlap : ℕ) (layer : List Rect) (c : Cut) (m : Masks) → IsCut rule overlap (Covers layer) c → (are : AreMasks rule c m) → ¬ HasOddCycle (conflicts rule c)
-    → IsVerdictOfMasks rule overlap layer m.a m.b (MasksText (head_of rule overlap c) (map piece_line (zip are.colours c.keys)) (map (stitch_line c.zones c.sides) m.stitches)) Valid
+    → IsVerdictOfMasks rule overlap layer m.a m.b (MasksText (head_of rule overlap c) (map piece_line (zip are.colours c.keys))
+    (map (stitch_line c.zones c.sides) m.stitches)) Valid
 
 -- nothing is wrong with the reported cycle
 abbrev pub OwnCyclesAreValid : Type 0
-OwnCyclesAreValid = (rule overlap : ℕ) (layer : List Rect) (c : Cut) (cycle : List ℕ) (near : List NearLine) → IsCut rule overlap (Covers layer) c → IsReported (conflicts rule c) cycle → ShowNearest rule c.pieces cycle near
+OwnCyclesAreValid = (rule overlap : ℕ) (layer : List Rect) (c : Cut) (cycle : List ℕ) (near : List NearLine)
+    → IsCut rule overlap (Covers layer) c → IsReported (conflicts rule c) cycle → ShowNearest rule c.pieces cycle near
     → IsVerdictOfConflict rule overlap layer (ConflictText (head_of rule overlap c) (map (place_line c.keys) cycle) near) Valid

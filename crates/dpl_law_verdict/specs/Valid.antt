@@ -45,7 +45,8 @@ pub record ShowsNear (rule : ℕ) (a b : Region) (line : NearLine) : Type 0 wher
   pub to : b line.to
   pub close : d2 line.from line.to < rule * rule
 
--- The pieces at these places are an odd cycle of conflicts of the layer, each named by its least square, with near squares of it and of the next one, the last with the first. The head has the rules, and how many features, pieces and zones the layer has.
+-- The pieces at these places are an odd cycle of conflicts of the layer, each named by its least square, with near squares of it and of the
+-- next one, the last with the first. The head has the rules, and how many features, pieces and zones the layer has.
 pub record IsCycleOf (rule overlap : ℕ) (layer : List Rect) (head : Head) (cycle : List PlaceLine) (near : List NearLine) : Type 0 where
   pub cut : Cut
   pub is_cut : IsCut rule overlap (Covers layer) cut
@@ -54,7 +55,8 @@ pub record IsCycleOf (rule overlap : ℕ) (layer : List Rect) (head : Head) (cyc
   pub odd : IsOddCycle (conflicts rule cut) (pieces_of cycle)
   pub keyed : All (λ (place : PlaceLine). IsLeast (part_at cut.pieces place.piece) place.key) cycle
   pub shown : (k : ℕ) (d : NearLine) → k < length cycle
-      → ShowsNear rule (part_at cut.pieces (slice_index (pieces_of cycle) k)) (part_at cut.pieces (slice_index (pieces_of cycle) ((k + 1) % length cycle))) (slice_index_or near k d)
+      → ShowsNear rule (part_at cut.pieces (slice_index (pieces_of cycle) k))
+      (part_at cut.pieces (slice_index (pieces_of cycle) ((k + 1) % length cycle))) (slice_index_or near k d)
 
 abbrev pub ValidConflictsAreThere : Type 0
 ValidConflictsAreThere = (rule overlap : ℕ) (layer : List Rect) (head : Head) (cycle : List PlaceLine) (near : List NearLine)

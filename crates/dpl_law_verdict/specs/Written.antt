@@ -18,14 +18,18 @@ use Rattle.dpl_law_verdict.specs.Own.{ShowNearest, head_of, piece_line, place_li
 
 -- a layer without a fault lies within the range
 abbrev pub FaultlessLayersAreWithin : Type 0
-FaultlessLayersAreWithin = (lib : Library) (top : ℕ) (chosen : Layer) (layer : List Rect) → IsFaultless lib top chosen → AreSlabsOf (IsInLayer lib top chosen) layer → AreRectsWithin farthest layer
+FaultlessLayersAreWithin = (lib : Library) (top : ℕ) (chosen : Layer) (layer : List Rect) → IsFaultless lib top chosen
+    → AreSlabsOf (IsInLayer lib top chosen) layer → AreRectsWithin farthest layer
 
 -- so do its masks, and the lines that tell of them are a certificate
 abbrev pub OwnMasksAreWritten : Type 0
-OwnMasksAreWritten = (rule overlap : ℕ) (layer : List Rect) (c : Cut) (m : Masks) → IsRule rule → IsRule overlap → AreRectsWithin farthest layer → IsCut rule overlap (Covers layer) c → (are : AreMasks rule c m)
-    → AreRectsWithin farthest m.a × AreRectsWithin farthest m.b × IsCert (MasksText (head_of rule overlap c) (map piece_line (zip are.colours c.keys)) (map (stitch_line c.zones c.sides) m.stitches))
+OwnMasksAreWritten = (rule overlap : ℕ) (layer : List Rect) (c : Cut) (m : Masks) → IsRule rule → IsRule overlap
+    → AreRectsWithin farthest layer → IsCut rule overlap (Covers layer) c → (are : AreMasks rule c m)
+    → AreRectsWithin farthest m.a × AreRectsWithin farthest m.b
+    × IsCert (MasksText (head_of rule overlap c) (map piece_line (zip are.colours c.keys)) (map (stitch_line c.zones c.sides) m.stitches))
 
 -- and so are the lines of the cycle that is reported of it
 abbrev pub OwnCyclesAreWritten : Type 0
-OwnCyclesAreWritten = (rule overlap : ℕ) (layer : List Rect) (c : Cut) (cycle : List ℕ) (near : List NearLine) → IsRule rule → IsRule overlap → AreRectsWithin farthest layer → IsCut rule overlap (Covers layer) c → IsReported (conflicts rule c) cycle
+OwnCyclesAreWritten = (rule overlap : ℕ) (layer : List Rect) (c : Cut) (cycle : List ℕ) (near : List NearLine) → IsRule rule
+    → IsRule overlap → AreRectsWithin farthest layer → IsCut rule overlap (Covers layer) c → IsReported (conflicts rule c) cycle
     → length near ≡ length cycle → ShowNearest rule c.pieces cycle near → IsCert (ConflictText (head_of rule overlap c) (map (place_line c.keys) cycle) near)

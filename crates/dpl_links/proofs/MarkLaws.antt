@@ -1,5 +1,6 @@
 -- Steps of a search.
-use Rattle.std.proofs.Common.{◌≡◌, ◌≢◌, ℕ, ◌+◌, ◌<◌, ◌⊎◌, inl, inr, ⊎_elim, Bool, true, false, not, cond, List, [], ◌∷◌, ◌++◌, length, get_or, set, refl, ◌∙◌, arith, length-append, length-set, get_or-set_other, get_or-set_same}
+use Rattle.std.proofs.Common.{◌≡◌, ◌≢◌, ℕ, ◌+◌, ◌<◌, ◌⊎◌, inl, inr, ⊎_elim, Bool, true, false, not, cond, List, [], ◌∷◌, ◌++◌, length}
+use Rattle.std.proofs.Common.{get_or, set, refl, ◌∙◌, arith, length-append, length-set, get_or-set_other, get_or-set_same}
 use Rattle.std.proofs.lemmas.Bool.{cases_eq}
 use Rattle.std.proofs.lemmas.List.Sums.{sum_by-set}
 use Rattle.std.proofs.lemmas.List.Elements.{Contains-append_left, Contains-push, Contains-push_cases}
@@ -48,7 +49,8 @@ Marks-one ms q v h e = record {
 }
 
 -- one step and then another
-pub Marks-then : (P Q R : ℕ → Type 0) (a b c : List Bool) (q r s : List ℕ) → Marks P a b q r → Marks Q b c r s → ((k : ℕ) → R k → P k ⊎ Q k) → ((k : ℕ) → P k → R k) → ((k : ℕ) → Q k → R k) → Marks R a c q s
+pub Marks-then : (P Q R : ℕ → Type 0) (a b c : List Bool) (q r s : List ℕ) → Marks P a b q r → Marks Q b c r s
+    → ((k : ℕ) → R k → P k ⊎ Q k) → ((k : ℕ) → P k → R k) → ((k : ℕ) → Q k → R k) → Marks R a c q s
 Marks-then P Q R a b c q r s m n split left right = record {
   each = n.each ∙ m.each;
   keeps = λ k h. n.keeps k (m.keeps k h);

@@ -1,5 +1,7 @@
 -- Steps of a search for an order.
-use Rattle.std.proofs.Common.{◌≡◌, ◌≢◌, ℕ, ◌+◌, ◌*◌, ◌<◌, ◌≤◌, inl, inr, ⊎_elim, Bool, true, false, not, cond, List, [], ◌∷◌, ◌++◌, Some, None, length, get_or, set, replicate, refl, sym, ap, ◌∙◌, arith, length-append, length-set, get_or-set_other, get_or-set_same}
+use Rattle.std.proofs.Common.{◌≡◌, ◌≢◌, ℕ, ◌+◌, ◌*◌, ◌<◌, ◌≤◌, inl, inr, ⊎_elim, Bool, true, false, not, cond, List, [], ◌∷◌, ◌++◌, Some}
+use Rattle.std.proofs.Common.{None, length, get_or, set, replicate, refl, sym, ap, ◌∙◌, arith, length-append, length-set, get_or-set_other}
+use Rattle.std.proofs.Common.{get_or-set_same}
 use Rattle.std.proofs.Math.Seq.{get_or-append_seam}
 use Rattle.std.proofs.lemmas.Bool.{cases_lt}
 use Rattle.std.proofs.lemmas.List.{get_or_append_left, get_or_default, length-replicate}
@@ -34,7 +36,8 @@ no_snoc xs x ys none e = absurd (omega (arith, none, ap length e, length-append 
 
 -- ---- paths
 
-path_found : {graph : List (List ℕ)} {found closed : List Bool} {path : List Visit} {x : ℕ} (w : ℕ) → w < length found → IsPathTo graph found closed path x → IsPathTo graph (set found w true) closed path x
+path_found : {graph : List (List ℕ)} {found closed : List Bool} {path : List Visit} {x : ℕ} (w : ℕ) → w < length found
+    → IsPathTo graph found closed path x → IsPathTo graph (set found w true) closed path x
 path_found w h (begins none) = begins none
 path_found {found = found} w h (goes_on rest v e p way fresh) = goes_on rest v e (path_found w h p) (record {
   was_found = marked_there found w v.vertex h way.was_found;
@@ -43,26 +46,31 @@ path_found {found = found} w h (goes_on rest v e p way fresh) = goes_on rest v e
   gone = way.gone;
 }) fresh
 
-path_kept : {graph : List (List ℕ)} {found closed : List Bool} {path : List Visit} {x : ℕ} (w : ℕ) → w < length closed → ((u : Visit) → Contains path u → u.vertex ≢ w) → IsPathTo graph found closed path x → IsPathTo graph found (set closed w true) path x
+path_kept : {graph : List (List ℕ)} {found closed : List Bool} {path : List Visit} {x : ℕ} (w : ℕ) → w < length closed
+    → ((u : Visit) → Contains path u → u.vertex ≢ w) → IsPathTo graph found closed path x → IsPathTo graph found (set closed w true) path x
 path_kept w h apart (begins none) = begins none
-path_kept {graph = graph} {closed = closed} {path = path} {x = x} w h apart (goes_on rest v e p way fresh) = goes_on rest v e (path_kept w h (λ u c. apart u (rw e (Contains-append_left rest (v ∷ []) u c))) p) (record {
-  was_found = way.was_found;
-  unshut = λ m. ⊎_elim (λ y. way.unshut y) (λ y. absurd (apart v (rw e (Contains-push rest v)) y)) (marked_cases closed w v.vertex m);
-  edge = way.edge;
-  gone = λ i l. ⊎_elim (λ y. inl (marked_there closed w (end_of graph v.vertex i) h y)) (λ y. inr y) (way.gone i l);
-}) fresh
+path_kept {graph = graph} {closed = closed} {path = path} {x = x} w h apart (goes_on rest v e p way fresh) = goes_on rest v e
+    (path_kept w h (λ u c. apart u (rw e (Contains-append_left rest (v ∷ []) u c))) p) (record {
+      was_found = way.was_found;
+      unshut = λ m. ⊎_elim (λ y. way.unshut y) (λ y. absurd (apart v (rw e (Contains-push rest v)) y)) (marked_cases closed w v.vertex m);
+      edge = way.edge;
+      gone = λ i l. ⊎_elim (λ y. inl (marked_there closed w (end_of graph v.vertex i) h y)) (λ y. inr y) (way.gone i l);
+    }) fresh
 
-path_is_found : {graph : List (List ℕ)} {found closed : List Bool} {path : List Visit} {x : ℕ} (u : Visit) → IsPathTo graph found closed path x → Contains path u → IsMarked found u.vertex
+path_is_found : {graph : List (List ℕ)} {found closed : List Bool} {path : List Visit} {x : ℕ} (u : Visit)
+    → IsPathTo graph found closed path x → Contains path u → IsMarked found u.vertex
 path_is_found u (begins none) c = absurd (omega (arith, c.1, none))
 path_is_found u (goes_on rest v e p way fresh) c =
     ⊎_elim (λ y. path_is_found u p y) (λ (y : v ≡ u). rw (← y) way.was_found) (Contains-push_cases rest v u (rw e at c))
 
-way_back : {graph : List (List ℕ)} {found closed : List Bool} {path : List Visit} {x : ℕ} (u : Visit) → IsPathTo graph found closed path x → Contains path u → Reaches graph u.vertex x
+way_back : {graph : List (List ℕ)} {found closed : List Bool} {path : List Visit} {x : ℕ} (u : Visit) → IsPathTo graph found closed path x
+    → Contains path u → Reaches graph u.vertex x
 way_back u (begins none) c = absurd (omega (arith, c.1, none))
 way_back u (goes_on rest v e p way fresh) c =
     ⊎_elim (λ y. Reaches-then (way_back u p y) way.edge) (λ (y : v ≡ u). rw (← y) (on way.edge here)) (Contains-push_cases rest v u (rw e at c))
 
-last_after : {graph : List (List ℕ)} {found closed : List Bool} {path : List Visit} {w : ℕ} (r : List Visit) (u : Visit) → w < length closed → path ≡ r ++ u ∷ [] → IsPathTo graph found closed path w → IsLast graph found (set closed w true) r u
+last_after : {graph : List (List ℕ)} {found closed : List Bool} {path : List Visit} {w : ℕ} (r : List Visit) (u : Visit)
+    → w < length closed → path ≡ r ++ u ∷ [] → IsPathTo graph found closed path w → IsLast graph found (set closed w true) r u
 last_after r u h e (begins none) = absurd (no_snoc r u _ none e)
 last_after {graph = graph} {closed = closed} {w = w} r u h e (goes_on rest v is p way fresh) =
     let same = snoc_same rest r v u (sym is ∙ e) in
@@ -75,7 +83,8 @@ last_after {graph = graph} {closed = closed} {w = w} r u h e (goes_on rest v is 
 
 -- ---- steps
 
-module _ (graph : List (List ℕ)) (from : ℕ) (found closed : List Bool) (levels vertices : List ℕ) (rest : List Visit) (v : Visit) (s : IsSearch graph from found closed levels vertices (rest ++ v ∷ [])) where
+module _ (graph : List (List ℕ)) (from : ℕ) (found closed : List Bool) (levels vertices : List ℕ) (rest : List Visit) (v : Visit)
+    (s : IsSearch graph from found closed levels vertices (rest ++ v ∷ [])) where
   last : IsLast graph found closed rest v
   last = s.last rest v refl
 
@@ -90,11 +99,18 @@ module _ (graph : List (List ℕ)) (from : ℕ) (found closed : List Bool) (leve
 
   pub cycle : (to : ℕ) → LeadsTo graph v.vertex to → IsMarked found to → ¬ IsMarked closed to → HasCycle graph from
   cycle to edge m n =
-      let u = on_path to m n in
-      (v.vertex, to, s.reached v.vertex last.was_found, edge, ⊎_elim (λ c. rw (← u.2) (way_back u.0 last.path c)) (λ (w : v ≡ u.0). rw (← u.2, ← w) here) (Contains-push_cases rest v u.0 u.1))
+      let u = on_path to m n in (
+        v.vertex,
+        to,
+        s.reached v.vertex last.was_found,
+        edge,
+        ⊎_elim (λ c. rw (← u.2) (way_back u.0 last.path c))
+            (λ (w : v ≡ u.0). rw (← u.2, ← w) here) (Contains-push_cases rest v u.0 u.1),
+      )
 
   -- one more edge, which leads to a closed vertex
-  pub one_more : (u : Visit) → u.vertex ≡ v.vertex → u.gone ≡ v.gone + 1 → IsMarked closed (end_of graph v.vertex v.gone) → IsSearch graph from found closed levels vertices (rest ++ u ∷ [])
+  pub one_more : (u : Visit) → u.vertex ≡ v.vertex → u.gone ≡ v.gone + 1 → IsMarked closed (end_of graph v.vertex v.gone)
+      → IsSearch graph from found closed levels vertices (rest ++ u ∷ [])
   one_more u is gone m = record {
     found_each = s.found_each;
     closed_each = s.closed_each;
@@ -110,7 +126,8 @@ module _ (graph : List (List ℕ)) (from : ℕ) (found closed : List Bool) (leve
   }
     where
       moved : (k : ℕ) → (t : Visit) × Contains (rest ++ v ∷ []) t × (t.vertex ≡ k) → (t : Visit) × Contains (rest ++ u ∷ []) t × (t.vertex ≡ k)
-      moved k x = ⊎_elim (λ c. (x.0, Contains-append_left rest (u ∷ []) x.0 c, x.2)) (λ (w : v ≡ x.0). (u, Contains-push rest u, is ∙ (ap (λ (t : Visit). t.vertex) w ∙ x.2))) (Contains-push_cases rest v x.0 x.1)
+      moved k x = ⊎_elim (λ c. (x.0, Contains-append_left rest (u ∷ []) x.0 c, x.2))
+          (λ (w : v ≡ x.0). (u, Contains-push rest u, is ∙ (ap (λ (t : Visit). t.vertex) w ∙ x.2))) (Contains-push_cases rest v x.0 x.1)
 
       now_last : IsLast graph found closed rest u
       now_last = record {
@@ -121,7 +138,9 @@ module _ (graph : List (List ℕ)) (from : ℕ) (found closed : List Bool) (leve
       }
 
   -- one more edge, which leads to a vertex that wasn't found
-  pub one_found : (u w : Visit) (marks : List Bool) → u.vertex ≡ v.vertex → u.gone ≡ v.gone + 1 → end_of graph v.vertex v.gone ≡ w.vertex → w.gone ≡ 0 → LeadsTo graph v.vertex w.vertex → w.vertex < length graph → ¬ IsMarked found w.vertex → ¬ IsMarked closed w.vertex → marks ≡ set found w.vertex true → IsSearch graph from marks closed levels vertices ((rest ++ u ∷ []) ++ w ∷ [])
+  pub one_found : (u w : Visit) (marks : List Bool) → u.vertex ≡ v.vertex → u.gone ≡ v.gone + 1 → end_of graph v.vertex v.gone ≡ w.vertex
+      → w.gone ≡ 0 → LeadsTo graph v.vertex w.vertex → w.vertex < length graph → ¬ IsMarked found w.vertex → ¬ IsMarked closed w.vertex
+      → marks ≡ set found w.vertex true → IsSearch graph from marks closed levels vertices ((rest ++ u ∷ []) ++ w ∷ [])
   one_found u w marks is gone leads none edge h new unshut e = rw e (record {
     found_each = length-set found w.vertex true ∙ s.found_each;
     closed_each = s.closed_each;
@@ -133,7 +152,8 @@ module _ (graph : List (List ℕ)) (from : ℕ) (found closed : List Bool) (leve
     shut = s.shut;
     alone = λ k c. marked_there found w.vertex k inside (s.alone k c);
     own = s.own;
-    count = let c = s.count in let o = one_less found w.vertex inside (unmarked_is (get_or found w.vertex false) refl) in omega (arith, c, o, length-append rest (v ∷ []), length-append rest (u ∷ []), length-append (rest ++ u ∷ []) (w ∷ []));
+    count = let c = s.count in let o = one_less found w.vertex inside (unmarked_is (get_or found w.vertex false) refl) in
+        omega (arith, c, o, length-append rest (v ∷ []), length-append rest (u ∷ []), length-append (rest ++ u ∷ []) (w ∷ []));
   })
     where
       inside : w.vertex < length found
@@ -144,7 +164,13 @@ module _ (graph : List (List ℕ)) (from : ℕ) (found closed : List Bool) (leve
       unmarked_is true q = absurd (new q)
 
       moved : (k : ℕ) → (t : Visit) × Contains (rest ++ v ∷ []) t × (t.vertex ≡ k) → (t : Visit) × Contains ((rest ++ u ∷ []) ++ w ∷ []) t × (t.vertex ≡ k)
-      moved k x = ⊎_elim (λ c. (x.0, Contains-append_left (rest ++ u ∷ []) (w ∷ []) x.0 (Contains-append_left rest (u ∷ []) x.0 c), x.2)) (λ (q : v ≡ x.0). (u, Contains-append_left (rest ++ u ∷ []) (w ∷ []) u (Contains-push rest u), is ∙ (ap (λ (t : Visit). t.vertex) q ∙ x.2))) (Contains-push_cases rest v x.0 x.1)
+      moved k x = ⊎_elim (λ c. (x.0, Contains-append_left (rest ++ u ∷ []) (w ∷ []) x.0 (Contains-append_left rest (u ∷ []) x.0 c), x.2))
+          (λ (q : v ≡ x.0). (
+            u,
+            Contains-append_left (rest ++ u ∷ []) (w ∷ []) u (Contains-push rest u),
+            is
+                ∙ (ap (λ (t : Visit). t.vertex) q ∙ x.2),
+          )) (Contains-push_cases rest v x.0 x.1)
 
       fresh : (t : Visit) → Contains (rest ++ u ∷ []) t → t.vertex ≢ w.vertex
       fresh t c q =
@@ -156,7 +182,8 @@ module _ (graph : List (List ℕ)) (from : ℕ) (found closed : List Bool) (leve
           was_found = rw is (marked_there found w.vertex v.vertex inside last.was_found);
           unshut = rw is last.unshut;
           edge = rw is edge;
-          gone = λ i l. rw is (⊎_elim (λ (x : i < v.gone). inl (last.gone i x)) (λ (x : v.gone ≤ i). let y : i ≡ v.gone = omega (arith, l, gone) in inr (rw y leads)) (cases_lt i v.gone));
+          gone = λ i l. rw is (⊎_elim (λ (x : i < v.gone). inl (last.gone i x)) (λ (x : v.gone ≤ i). let y : i ≡ v.gone = omega
+              (arith, l, gone) in inr (rw y leads)) (cases_lt i v.gone));
         }) fresh;
         was_found = marked_here found w.vertex inside;
         unshut = unshut;
@@ -164,18 +191,23 @@ module _ (graph : List (List ℕ)) (from : ℕ) (found closed : List Bool) (leve
       }
 
   -- no more edges: the vertex is closed
-  pub one_shut : (closed' : List Bool) (levels' vertices' : List ℕ) → length (targets_at graph v.vertex) ≤ v.gone → closed' ≡ set closed v.vertex true → levels' ≡ set levels v.vertex (length vertices) → vertices' ≡ vertices ++ v.vertex ∷ [] → IsSearch graph from found closed' levels' vertices' rest
+  pub one_shut : (closed' : List Bool) (levels' vertices' : List ℕ) → length (targets_at graph v.vertex) ≤ v.gone
+      → closed' ≡ set closed v.vertex true → levels' ≡ set levels v.vertex (length vertices) → vertices' ≡ vertices ++ v.vertex ∷ []
+      → IsSearch graph from found closed' levels' vertices' rest
   one_shut closed' levels' vertices' none ce le ve = rw (ce, le, ve) (record {
     found_each = s.found_each;
     closed_each = length-set closed v.vertex true ∙ s.closed_each;
     levels_each = length-set levels v.vertex (length vertices) ∙ s.levels_each;
     begun = s.begun;
     reached = s.reached;
-    apart = λ k m. ⊎_elim (λ c. inl (there k c)) (λ x. ⊎_elim (λ c. inr (x.0, c, x.2)) (λ (q : v ≡ x.0). inl (rw (← x.2, ← q) (marked_here closed v.vertex inside))) (Contains-push_cases rest v x.0 x.1)) (s.apart k m);
+    apart = λ k m. ⊎_elim (λ c. inl (there k c))
+        (λ x. ⊎_elim (λ c. inr (x.0, c, x.2)) (λ (q : v ≡ x.0). inl (rw (← x.2, ← q) (marked_here closed v.vertex inside)))
+        (Contains-push_cases rest v x.0 x.1)) (s.apart k m);
     last = λ r t e. last_after r t inside e last.path;
     shut = λ k m. ⊎_elim (λ c. old k c) (λ q. rw q this) (marked_cases closed v.vertex k m);
     alone = λ k c. ⊎_elim (λ x. s.alone k x) (λ (q : v.vertex ≡ k). rw (← q) last.was_found) (Contains-push_cases vertices v.vertex k c);
-    own = λ i l. ⊎_elim (λ (h : i < length vertices). own_before i h) (λ (h : length vertices ≤ i). let e : i ≡ length vertices = omega (arith, l, h, length-append vertices (v.vertex ∷ [])) in rw e own_last) (cases_lt i (length vertices));
+    own = λ i l. ⊎_elim (λ (h : i < length vertices). own_before i h) (λ (h : length vertices ≤ i). let e : i ≡ length vertices = omega
+        (arith, l, h, length-append vertices (v.vertex ∷ [])) in rw e own_last) (cases_lt i (length vertices));
     count = let c = s.count in omega (arith, c, length-append rest (v ∷ []), length-append vertices (v.vertex ∷ []));
   })
     where
@@ -193,7 +225,8 @@ module _ (graph : List (List ℕ)) (from : ℕ) (found closed : List Bool) (leve
       stays k c = let ne : k ≢ v.vertex = λ q. last.unshut (rw (← q) c) in rw get_or-set_other refl
 
       all_closed : (j : ℕ) → LeadsTo graph v.vertex j → IsMarked closed j
-      all_closed j l = let g = last.gone l.0 (omega (arith, l.1, none)) in let e : end_of graph v.vertex l.0 ≡ j = get_or_default (targets_at graph v.vertex) l.0 0 j l.1 ∙ l.2 in rw e at g
+      all_closed j l = let g = last.gone l.0 (omega (arith, l.1, none)) in
+          let e : end_of graph v.vertex l.0 ≡ j = get_or_default (targets_at graph v.vertex) l.0 0 j l.1 ∙ l.2 in rw e at g
 
       here_level : get_or (set levels v.vertex (length vertices)) v.vertex 0 ≡ length vertices
       here_level = let h : v.vertex < length levels = in_levels in rw get_or-set_same refl
@@ -243,7 +276,10 @@ module _ (graph : List (List ℕ)) (from : ℕ) (found closed : List Bool) (leve
 all_unmarked : (n : ℕ) → unmarked (replicate n false) ≡ n
 all_unmarked n = let e = sum_by-replicate (λ b. cond (not b) 1 0) n false in omega (arith, e)
 
-pub search_start : (graph : List (List ℕ)) (from : ℕ) (fresh found closed : List Bool) (levels vertices : List ℕ) (none path : List Visit) (v : Visit) → from < length graph → v.vertex ≡ from → v.gone ≡ 0 → fresh ≡ replicate (length graph) false → found ≡ set fresh from true → closed ≡ replicate (length graph) false → levels ≡ replicate (length graph) 0 → vertices ≡ [] → none ≡ [] → path ≡ none ++ v ∷ [] → IsSearch graph from found closed levels vertices path
+pub search_start : (graph : List (List ℕ)) (from : ℕ) (fresh found closed : List Bool) (levels vertices : List ℕ) (none path : List Visit)
+    (v : Visit) → from < length graph → v.vertex ≡ from → v.gone ≡ 0 → fresh ≡ replicate (length graph) false → found ≡ set fresh from true
+    → closed ≡ replicate (length graph) false → levels ≡ replicate (length graph) 0 → vertices ≡ [] → none ≡ [] → path ≡ none ++ v ∷ []
+    → IsSearch graph from found closed levels vertices path
 search_start graph from fresh found closed levels vertices none path v h is gone fr fe ce le ve ne pe = rw (fe, fr, ce, le, ve, pe, ne) (record {
   found_each = length-set empty from true ∙ length-replicate (length graph) false;
   closed_each = length-replicate (length graph) false;
@@ -273,7 +309,8 @@ search_start graph from fresh found closed levels vertices none path v h is gone
     not_marked false q = q
     not_marked true q = absurd (none_marked (length graph) from q)
 
-pub search_all : (graph : List (List ℕ)) (from : ℕ) (found closed : List Bool) (levels vertices : List ℕ) (path : List Visit) → length path ≡ 0 → IsSearch graph from found closed levels vertices path → IsOrder graph from levels vertices
+pub search_all : (graph : List (List ℕ)) (from : ℕ) (found closed : List Bool) (levels vertices : List ℕ) (path : List Visit)
+    → length path ≡ 0 → IsSearch graph from found closed levels vertices path → IsOrder graph from levels vertices
 search_all graph from found closed levels vertices path none s = record {
   placed = λ k r. (s.shut k (shut k r)).placed;
   falls = λ k j r e. (s.shut k (shut k r)).falls j e;
@@ -300,10 +337,13 @@ one_sum graph path v = sum_by-append (to_go graph) path (v ∷ []) ∙ (let e = 
 pub left_shut : (graph : List (List ℕ)) (found : List Bool) (rest : List Visit) (v : Visit) → left graph found rest < left graph found (rest ++ v ∷ [])
 left_shut graph found rest v = omega (arith, one_sum graph rest v)
 
-pub left_more : (graph : List (List ℕ)) (found : List Bool) (rest : List Visit) (v u : Visit) → u.vertex ≡ v.vertex → u.gone ≡ v.gone + 1 → v.gone < length (targets_at graph v.vertex) → left graph found (rest ++ u ∷ []) < left graph found (rest ++ v ∷ [])
+pub left_more : (graph : List (List ℕ)) (found : List Bool) (rest : List Visit) (v u : Visit) → u.vertex ≡ v.vertex → u.gone ≡ v.gone + 1
+    → v.gone < length (targets_at graph v.vertex) → left graph found (rest ++ u ∷ []) < left graph found (rest ++ v ∷ [])
 left_more graph found rest v u is gone h = omega (arith, one_sum graph rest v, one_sum graph rest u, ap (λ k. length (targets_at graph k)) is, gone, h)
 
-pub left_found : (graph : List (List ℕ)) (found marks : List Bool) (rest : List Visit) (v u w : Visit) → u.vertex ≡ v.vertex → u.gone ≡ v.gone + 1 → w.gone ≡ 0 → v.gone < length (targets_at graph v.vertex) → w.vertex < length graph → unmarked marks + 1 ≡ unmarked found → left graph marks ((rest ++ u ∷ []) ++ w ∷ []) < left graph found (rest ++ v ∷ [])
+pub left_found : (graph : List (List ℕ)) (found marks : List Bool) (rest : List Visit) (v u w : Visit) → u.vertex ≡ v.vertex
+    → u.gone ≡ v.gone + 1 → w.gone ≡ 0 → v.gone < length (targets_at graph v.vertex) → w.vertex < length graph
+    → unmarked marks + 1 ≡ unmarked found → left graph marks ((rest ++ u ∷ []) ++ w ∷ []) < left graph found (rest ++ v ∷ [])
 left_found graph found marks rest v u w is gone none h k fewer_left =
     let l = get_or-le-sum_by length graph w.vertex [] k in
     let e = one_sum graph rest v in
@@ -311,7 +351,8 @@ left_found graph found marks rest v u w is gone none h k fewer_left =
     let g = one_sum graph (rest ++ u ∷ []) w in
     let a : to_go graph w ≡ length (targets_at graph w.vertex) + 1 = omega (arith, none) in
     let b : to_go graph u + 1 ≡ to_go graph v = omega (arith, ap (λ i. length (targets_at graph i)) is, gone, h) in
-    rw (e, g, f, a) (fewer (unmarked found) (unmarked marks) (sum_by length graph) (sum_by (to_go graph) rest) (to_go graph v) (to_go graph u) (length (targets_at graph w.vertex)) fewer_left l b)
+    rw (e, g, f, a) (fewer (unmarked found) (unmarked marks) (sum_by length graph) (sum_by (to_go graph) rest) (to_go graph v)
+    (to_go graph u) (length (targets_at graph w.vertex)) fewer_left l b)
 
 -- ---- what the code reads
 
@@ -320,7 +361,8 @@ none_past xs i d e = ⊎_elim (λ (h : i < length xs). let f : None ≡ Some (ge
 
 pub some_inside : {X : Type 0} (xs : List X) (i : ℕ) (d x : X) → Some x ≡ slice_get xs i → (i < length xs) × (get_or xs i d ≡ x)
 some_inside xs i d x e =
-    ⊎_elim (λ (h : i < length xs). (h, let f : Some x ≡ Some (get_or xs i d) = e ∙ slice_get-get_or xs i d h in cc)) (λ (h : length xs ≤ i). absurd (let f : Some x ≡ None = e ∙ slice_get_past xs i h in cc)) (cases_lt i (length xs))
+    ⊎_elim (λ (h : i < length xs). (h, let f : Some x ≡ Some (get_or xs i d) = e ∙ slice_get-get_or xs i d h in cc))
+    (λ (h : length xs ≤ i). absurd (let f : Some x ≡ None = e ∙ slice_get_past xs i h in cc)) (cases_lt i (length xs))
 
 pub leads_to : (graph : List (List ℕ)) (k i j : ℕ) → Some j ≡ slice_get (targets_at graph k) i → LeadsTo graph k j
 leads_to graph k i j e = let s = some_inside (targets_at graph k) i 0 j e in rw (← s.1) (Contains-get_or (targets_at graph k) i 0 s.0)

@@ -1,5 +1,7 @@
 -- Steps of the search for levels.
-use Rattle.std.proofs.Common.{◌≡◌, ◌≢◌, ℕ, ◌+◌, ◌*◌, ◌<◌, ◌≤◌, ◌⊎◌, inl, inr, ⊎_elim, Bool, true, false, List, [], ◌∷◌, ◌++◌, length, get_or, set, take, replicate, refl, sym, ap, ◌∙◌, arith, length-append, length-set, get_or-set_other, get_or-set_same}
+use Rattle.std.proofs.Common.{◌≡◌, ◌≢◌, ℕ, ◌+◌, ◌*◌, ◌<◌, ◌≤◌, ◌⊎◌, inl, inr, ⊎_elim, Bool, true, false, List, [], ◌∷◌, ◌++◌, length}
+use Rattle.std.proofs.Common.{get_or, set, take, replicate, refl, sym, ap, ◌∙◌, arith, length-append, length-set, get_or-set_other}
+use Rattle.std.proofs.Common.{get_or-set_same}
 use Rattle.std.proofs.lemmas.Bool.{cases_lt, cases_eq}
 use Rattle.std.proofs.lemmas.List.{get_or_default, length-replicate}
 use Rattle.std.proofs.lemmas.List.Sums.{sum_by-append, sum_by-cons, get_or-le-sum_by}
@@ -10,7 +12,8 @@ use Rattle.dpl_spec_split.proofs.Ordered.{Contains-nil}
 use Rattle.dpl_links.specs.Graph.{targets_at, LeadsTo, Reaches, here, on, IsMarked}
 use Rattle.dpl_links.specs.Marks.{unmarked}
 use Rattle.dpl_links.specs.Order.{end_of, to_go}
-use Rattle.dpl_links.specs.Parts.{IsLevelAt, AreLevels, IsRising, none_rise, one_more_rises, by_part, by_visit, IsOf, IsOpen, IsGoneDown, IsToGo, IsPart, IsPartSearch, AreClosed, parts_left}
+use Rattle.dpl_links.specs.Parts.{IsLevelAt, AreLevels, IsRising, none_rise, one_more_rises, by_part, by_visit, IsOf, IsOpen, IsGoneDown}
+use Rattle.dpl_links.specs.Parts.{IsToGo, IsPart, IsPartSearch, AreClosed, parts_left}
 use Rattle.dpl_links.specs.declared.order.Visit.{Visit}
 use Rattle.dpl_links.specs.declared.levels.Part.{Part}
 use Rattle.dpl_links.proofs.MarkLaws.{marked_here, marked_there, marked_cases}
@@ -24,7 +27,8 @@ Reaches-on (on e d) r = on e (Reaches-on d r)
 
 -- ---- lists that rise
 
-front_rises : {X : Type 0} {key : X → ℕ} {xs : List X} (rest : List X) (x : X) → xs ≡ rest ++ x ∷ [] → IsRising key xs → IsRising key rest × ((y : X) → Contains rest y → key y < key x)
+front_rises : {X : Type 0} {key : X → ℕ} {xs : List X} (rest : List X) (x : X) → xs ≡ rest ++ x ∷ [] → IsRising key xs
+    → IsRising key rest × ((y : X) → Contains rest y → key y < key x)
 front_rises rest x e (none_rise none) = absurd (omega (arith, none, ap length e, length-append rest (x ∷ [])))
 front_rises rest x e (one_more_rises front y is r less) =
     let same = snoc_same front rest y x (sym is ∙ e) in
@@ -41,7 +45,9 @@ rises_too {xs = xs} same (one_more_rises rest x e r less) =
 
 -- ---- the last part and the last vertex of the path
 
-module _ (graph : List (List ℕ)) (from : ℕ) (found closed : List Bool) (numbers levels : List ℕ) (under : List Part) (q : Part) (rest : List Visit) (v : Visit) (count closings : ℕ) (s : IsPartSearch graph from found closed numbers levels (under ++ q ∷ []) (rest ++ v ∷ []) count closings) where
+module _ (graph : List (List ℕ)) (from : ℕ) (found closed : List Bool) (numbers levels : List ℕ) (under : List Part) (q : Part)
+    (rest : List Visit) (v : Visit) (count closings : ℕ) (s : IsPartSearch graph from found closed numbers levels (under ++ q ∷ [])
+    (rest ++ v ∷ []) count closings) where
   parts : List Part
   parts = under ++ q ∷ []
 
@@ -67,7 +73,8 @@ module _ (graph : List (List ℕ)) (from : ℕ) (found closed : List Bool) (numb
   v_found = s.path_found v (Contains-push rest v)
 
   pub q_known : (k d : ℕ) → k < length q.vertices.items → get_or q.vertices.items k d < length graph
-  q_known k d h = let m = marked_below found (get_or q.vertices.items k d) (top.was_found (get_or q.vertices.items k d) (Contains-get_or q.vertices.items k d h)) in omega (arith, m, s.found_each)
+  q_known k d h = let m = marked_below found (get_or q.vertices.items k d)
+      (top.was_found (get_or q.vertices.items k d) (Contains-get_or q.vertices.items k d h)) in omega (arith, m, s.found_each)
 
   pub v_known : v.vertex < length graph
   v_known = let m = marked_below found v.vertex v_found in omega (arith, m, s.found_each)
@@ -94,7 +101,8 @@ module _ (graph : List (List ℕ)) (from : ℕ) (found closed : List Bool) (numb
 
   -- ---- one more edge, which leads to a closed vertex, or to one of the last part
 
-  pub one_on : (u : Visit) → u.vertex ≡ v.vertex → u.gone ≡ v.gone + 1 → IsGoneDown found closed numbers q (end_of graph v.vertex v.gone) → IsPartSearch graph from found closed numbers levels (under ++ q ∷ []) (rest ++ u ∷ []) count closings
+  pub one_on : (u : Visit) → u.vertex ≡ v.vertex → u.gone ≡ v.gone + 1 → IsGoneDown found closed numbers q (end_of graph v.vertex v.gone)
+      → IsPartSearch graph from found closed numbers levels (under ++ q ∷ []) (rest ++ u ∷ []) count closings
   one_on u is gone down = record {
     found_each = s.found_each;
     closed_each = s.closed_each;
@@ -114,9 +122,11 @@ module _ (graph : List (List ℕ)) (from : ℕ) (found closed : List Bool) (numb
   }
     where
       moved : (k : ℕ) → (t : Visit) × Contains (rest ++ v ∷ []) t × (t.vertex ≡ k) → (t : Visit) × Contains (rest ++ u ∷ []) t × (t.vertex ≡ k)
-      moved k x = ⊎_elim (λ c. (x.0, Contains-append_left rest (u ∷ []) x.0 c, x.2)) (λ (w : v ≡ x.0). (u, Contains-push rest u, is ∙ (ap (λ (t : Visit). t.vertex) w ∙ x.2))) (Contains-push_cases rest v x.0 x.1)
+      moved k x = ⊎_elim (λ c. (x.0, Contains-append_left rest (u ∷ []) x.0 c, x.2))
+          (λ (w : v ≡ x.0). (u, Contains-push rest u, is ∙ (ap (λ (t : Visit). t.vertex) w ∙ x.2))) (Contains-push_cases rest v x.0 x.1)
 
-      still : (p : Part) → Contains (under ++ q ∷ []) p → (k i : ℕ) → IsToGo (rest ++ v ∷ []) k i → IsGoneDown found closed numbers p (end_of graph k i) ⊎ IsToGo (rest ++ u ∷ []) k i
+      still : (p : Part) → Contains (under ++ q ∷ []) p → (k i : ℕ) → IsToGo (rest ++ v ∷ []) k i
+          → IsGoneDown found closed numbers p (end_of graph k i) ⊎ IsToGo (rest ++ u ∷ []) k i
       still p c k i x =
           ⊎_elim (λ y. inr (x.0, Contains-append_left rest (u ∷ []) x.0 y, x.2, x.3))
           (λ (w : v ≡ x.0). by_gone (ap (λ (t : Visit). t.vertex) w ∙ x.2) (let g = ap (λ (t : Visit). t.gone) w in omega (arith, g, x.3)))
@@ -125,10 +135,12 @@ module _ (graph : List (List ℕ)) (from : ℕ) (found closed : List Bool) (numb
           by_gone : v.vertex ≡ k → v.gone ≤ i → IsGoneDown found closed numbers p (end_of graph k i) ⊎ IsToGo (rest ++ u ∷ []) k i
           by_gone e l =
               ⊎_elim (λ (h : v.gone < i). inr (u, Contains-push rest u, is ∙ e, omega (arith, h, gone)))
-              (λ (h : i ≤ v.gone). let w : i ≡ v.gone = omega (arith, h, l) in inl (rw (w, ← e) (⊎_elim (λ y. inl y) (λ y. let low = all_low p c in inr (y.0, omega (arith, low, y.1))) down)))
+              (λ (h : i ≤ v.gone). let w : i ≡ v.gone = omega (arith, h, l) in
+              inl (rw (w, ← e) (⊎_elim (λ y. inl y) (λ y. let low = all_low p c in inr (y.0, omega (arith, low, y.1))) down)))
               (cases_lt v.gone i)
 
-      now_part : (p : Part) → Contains (under ++ q ∷ []) p → IsPart graph found closed numbers (under ++ q ∷ []) (rest ++ v ∷ []) p → IsPart graph found closed numbers (under ++ q ∷ []) (rest ++ u ∷ []) p
+      now_part : (p : Part) → Contains (under ++ q ∷ []) p → IsPart graph found closed numbers (under ++ q ∷ []) (rest ++ v ∷ []) p
+          → IsPart graph found closed numbers (under ++ q ∷ []) (rest ++ u ∷ []) p
       now_part p c x = record {
         rooted = x.rooted;
         on_path = moved p.root x.on_path;
@@ -167,10 +179,13 @@ module _ (graph : List (List ℕ)) (from : ℕ) (found closed : List Bool) (numb
           ⊎_elim (λ x. let l = below_root p v.vertex x (rw (← e) (s.part p c).rooted) in let r = top.from_root v.vertex v_in_top in omega (arith, l, r))
           (λ (w : q ≡ p). other (ap (λ (t : Part). t.root) w ∙ e)) (Contains-push_cases under q p c)
 
-      now_part : (p : Part) → Contains (under ++ q ∷ []) p → IsPart graph found closed numbers (under ++ q ∷ []) (rest ++ v ∷ []) p → IsPart graph found closed numbers (under ++ q ∷ []) rest p
+      now_part : (p : Part) → Contains (under ++ q ∷ []) p → IsPart graph found closed numbers (under ++ q ∷ []) (rest ++ v ∷ []) p
+          → IsPart graph found closed numbers (under ++ q ∷ []) rest p
       now_part p c x = record {
         rooted = x.rooted;
-        on_path = ⊎_elim (λ y. (x.on_path.0, y, x.on_path.2)) (λ (w : v ≡ x.on_path.0). absurd (root_other p c (sym x.on_path.2 ∙ ap (λ (t : Visit). t.vertex) (sym w)))) (Contains-push_cases rest v x.on_path.0 x.on_path.1);
+        on_path = ⊎_elim (λ y. (x.on_path.0, y, x.on_path.2))
+            (λ (w : v ≡ x.on_path.0). absurd (root_other p c (sym x.on_path.2 ∙ ap (λ (t : Visit). t.vertex) (sym w))))
+            (Contains-push_cases rest v x.on_path.0 x.on_path.1);
         whole = x.whole;
         was_found = x.was_found;
         unshut = x.unshut;
@@ -183,12 +198,17 @@ module _ (graph : List (List ℕ)) (from : ℕ) (found closed : List Bool) (numb
           still : (k i : ℕ) → i < length (targets_at graph k) → IsToGo (rest ++ v ∷ []) k i → IsToGo rest k i
           still k i l y =
               ⊎_elim (λ z. (y.0, z, y.2, y.3))
-              (λ (w : v ≡ y.0). let e : v.vertex ≡ k = ap (λ (t : Visit). t.vertex) w ∙ y.2 in let g = ap (λ (t : Visit). t.gone) w in absurd (omega (arith, none, ap (λ t. length (targets_at graph t)) e, g, y.3, l)))
+              (λ (w : v ≡ y.0). let e : v.vertex ≡ k = ap (λ (t : Visit). t.vertex) w ∙ y.2 in let g = ap (λ (t : Visit). t.gone) w in
+              absurd (omega (arith, none, ap (λ t. length (targets_at graph t)) e, g, y.3, l)))
               (Contains-push_cases rest v y.0 y.1)
 
   -- ---- no more edges of the last part's root: the part is closed
 
-  pub one_part : (closed' : List Bool) (levels' : List ℕ) → length (targets_at graph v.vertex) ≤ v.gone → q.root ≡ v.vertex → length closed' ≡ length closed → length levels' ≡ length levels → ((k : ℕ) → IsMarked closed k → IsMarked closed' k) → ((k : ℕ) → IsOf q k → IsMarked closed' k) → ((k : ℕ) → IsMarked closed' k → IsMarked closed k ⊎ IsOf q k) → ((k : ℕ) → IsOf q k → get_or levels' k 0 ≡ closings) → ((k : ℕ) → ¬ IsOf q k → get_or levels' k 0 ≡ get_or levels k 0) → IsPartSearch graph from found closed' numbers levels' under rest count (closings + 1)
+  pub one_part : (closed' : List Bool) (levels' : List ℕ) → length (targets_at graph v.vertex) ≤ v.gone → q.root ≡ v.vertex
+      → length closed' ≡ length closed → length levels' ≡ length levels → ((k : ℕ) → IsMarked closed k → IsMarked closed' k)
+      → ((k : ℕ) → IsOf q k → IsMarked closed' k) → ((k : ℕ) → IsMarked closed' k → IsMarked closed k ⊎ IsOf q k)
+      → ((k : ℕ) → IsOf q k → get_or levels' k 0 ≡ closings) → ((k : ℕ) → ¬ IsOf q k → get_or levels' k 0 ≡ get_or levels k 0)
+      → IsPartSearch graph from found closed' numbers levels' under rest count (closings + 1)
   one_part closed' levels' none root ce le keeps sets alone level stays = record {
     found_each = s.found_each;
     closed_each = ce ∙ s.closed_each;
@@ -197,7 +217,8 @@ module _ (graph : List (List ℕ)) (from : ℕ) (found closed : List Bool) (numb
     begun = s.begun;
     reached = s.reached;
     numbered = s.numbered;
-    apart = λ k m. ⊎_elim (λ c. inl (keeps k c)) (λ o. ⊎_elim (λ x. inr (o.0, x, o.2)) (λ (w : q ≡ o.0). inl (sets k (rw w o.2))) (Contains-push_cases under q o.0 o.1)) (s.apart k m);
+    apart = λ k m. ⊎_elim (λ c. inl (keeps k c)) (λ o. ⊎_elim (λ x. inr (o.0, x, o.2)) (λ (w : q ≡ o.0). inl (sets k (rw w o.2)))
+        (Contains-push_cases under q o.0 o.1)) (s.apart k m);
     part = λ p c. now_part p c (s.part p (under_there p c));
     parts_rise = (front_rises under q refl s.parts_rise).0;
     path_rise = (front_rises rest v refl s.path_rise).0;
@@ -239,21 +260,25 @@ module _ (graph : List (List ℕ)) (from : ℕ) (found closed : List Bool) (numb
       no_visit : (k i : ℕ) → IsOf q k → i < length (targets_at graph k) → IsToGo (rest ++ v ∷ []) k i → ⊥
       no_visit k i h l y =
           ⊎_elim (λ z. rest_out y.0 z (rw y.2 h))
-          (λ (w : v ≡ y.0). let e : v.vertex ≡ k = ap (λ (t : Visit). t.vertex) w ∙ y.2 in let g = ap (λ (t : Visit). t.gone) w in absurd (omega (arith, none, ap (λ t. length (targets_at graph t)) e, g, y.3, l)))
+          (λ (w : v ≡ y.0). let e : v.vertex ≡ k = ap (λ (t : Visit). t.vertex) w ∙ y.2 in let g = ap (λ (t : Visit). t.gone) w in
+          absurd (omega (arith, none, ap (λ t. length (targets_at graph t)) e, g, y.3, l)))
           (Contains-push_cases rest v y.0 y.1)
 
       new : (k j : ℕ) → IsOf q k → LeadsTo graph k j → IsMarked closed' j × IsLevelAt graph levels' k j
       new k j h e =
           let is : end_of graph k e.0 ≡ j = get_or_default (targets_at graph k) e.0 0 j e.1 ∙ e.2 in
           ⊎_elim
-          (λ y. let d : IsGoneDown found closed numbers q j = rw (← is) y in ⊎_elim (λ c. by_closed k j h c) (λ z. ⊎_elim (λ c. by_closed k j h c) (λ o. by_open k j h z.1 o) (s.apart j z.0)) d)
+          (λ y. let d : IsGoneDown found closed numbers q j = rw (← is) y in
+          ⊎_elim (λ c. by_closed k j h c) (λ z. ⊎_elim (λ c. by_closed k j h c) (λ o. by_open k j h z.1 o) (s.apart j z.0)) d)
           (λ y. absurd (no_visit k e.0 h e.1 y))
           (top.gone k e.0 h e.1)
 
       now_part : (p : Part) → Contains under p → IsPart graph found closed numbers (under ++ q ∷ []) (rest ++ v ∷ []) p → IsPart graph found closed' numbers under rest p
       now_part p c x = record {
         rooted = x.rooted;
-        on_path = ⊎_elim (λ y. (x.on_path.0, y, x.on_path.2)) (λ (w : v ≡ x.on_path.0). absurd (under_out p p.root c x.rooted (rw (sym x.on_path.2, ← w) v_in_top))) (Contains-push_cases rest v x.on_path.0 x.on_path.1);
+        on_path = ⊎_elim (λ y. (x.on_path.0, y, x.on_path.2))
+            (λ (w : v ≡ x.on_path.0). absurd (under_out p p.root c x.rooted (rw (sym x.on_path.2, ← w) v_in_top)))
+            (Contains-push_cases rest v x.on_path.0 x.on_path.1);
         whole = x.whole;
         was_found = x.was_found;
         unshut = λ k h m. ⊎_elim (λ y. x.unshut k h y) (λ y. under_out p k c h y) (alone k m);
@@ -271,7 +296,11 @@ module _ (graph : List (List ℕ)) (from : ℕ) (found closed : List Bool) (numb
 
   -- ---- one more edge, which leads to a vertex that wasn't found
 
-  pub one_new : (u w : Visit) (n : Part) (found' : List Bool) (numbers' : List ℕ) → u.vertex ≡ v.vertex → u.gone ≡ v.gone + 1 → end_of graph v.vertex v.gone ≡ w.vertex → w.gone ≡ 0 → n.root ≡ w.vertex → n.vertices.items ≡ w.vertex ∷ [] → LeadsTo graph v.vertex w.vertex → w.vertex < length graph → ¬ IsMarked found w.vertex → ¬ IsMarked closed w.vertex → found' ≡ set found w.vertex true → numbers' ≡ set numbers w.vertex count → IsPartSearch graph from found' closed numbers' levels ((under ++ q ∷ []) ++ n ∷ []) ((rest ++ u ∷ []) ++ w ∷ []) (count + 1) closings
+  pub one_new : (u w : Visit) (n : Part) (found' : List Bool) (numbers' : List ℕ) → u.vertex ≡ v.vertex → u.gone ≡ v.gone + 1
+      → end_of graph v.vertex v.gone ≡ w.vertex → w.gone ≡ 0 → n.root ≡ w.vertex → n.vertices.items ≡ w.vertex ∷ []
+      → LeadsTo graph v.vertex w.vertex → w.vertex < length graph → ¬ IsMarked found w.vertex → ¬ IsMarked closed w.vertex
+      → found' ≡ set found w.vertex true → numbers' ≡ set numbers w.vertex count → IsPartSearch graph from found' closed numbers' levels
+      ((under ++ q ∷ []) ++ n ∷ []) ((rest ++ u ∷ []) ++ w ∷ []) (count + 1) closings
   one_new u w n found' numbers' is gone leads none root alone edge h fresh unshut fe ne = record {
     found_each = rw fe (length-set found w.vertex true ∙ s.found_each);
     closed_each = s.closed_each;
@@ -282,10 +311,18 @@ module _ (graph : List (List ℕ)) (from : ℕ) (found closed : List Bool) (numb
     numbered = λ k m. ⊎_elim (λ x. let a = s.numbered k x in let b = same k x in omega (arith, a, b)) (λ x. let b = last k x in omega (arith, b)) (cases k m);
     apart = λ k m. ⊎_elim (λ x. ⊎_elim (λ c. inl c) (λ o. inr (o.0, more o.0 o.1, o.2)) (s.apart k x)) (λ x. inr (n, Contains-push (under ++ q ∷ []) n, of_new k x)) (cases k m);
     part = λ p c. ⊎_elim (λ x. old_part p x (s.part p x)) (λ (e : n ≡ p). rw (← e) new_part) (Contains-push_cases (under ++ q ∷ []) n p c);
-    parts_rise = push_rises (under ++ q ∷ []) n (rises_too (λ p c. root_same p c) s.parts_rise) (λ p c. let a = root_same p c in let b = root_count p c in omega (arith, a, b, n_number));
-    path_rise = push_rises (rest ++ u ∷ []) w (push_rises rest u (rises_too (λ t c. visit_same t (Contains-append_left rest (v ∷ []) t c)) (front_rises rest v refl s.path_rise).0) (λ t c. let l = rest_low t c in let a = visit_same t (Contains-append_left rest (v ∷ []) t c) in omega (arith, l, a, u_number))) (λ t c. let l = path_count t c in omega (arith, l, w_number));
-    path_found = λ t c. ⊎_elim (λ x. ⊎_elim (λ y. kept t.vertex (s.path_found t (Contains-append_left rest (v ∷ []) t y))) (λ (e : u ≡ t). rw (← e, is) (kept v.vertex v_found)) (Contains-push_cases rest u t x)) (λ (e : w ≡ t). rw (← e, fe) (marked_here found w.vertex inside)) (Contains-push_cases (rest ++ u ∷ []) w t c);
-    path_unshut = λ t c. ⊎_elim (λ x. ⊎_elim (λ y. s.path_unshut t (Contains-append_left rest (v ∷ []) t y)) (λ (e : u ≡ t). rw (← e, is) v_unshut) (Contains-push_cases rest u t x)) (λ (e : w ≡ t). rw (← e) unshut) (Contains-push_cases (rest ++ u ∷ []) w t c);
+    parts_rise = push_rises (under ++ q ∷ []) n (rises_too (λ p c. root_same p c) s.parts_rise) (λ p c. let a = root_same p c in
+        let b = root_count p c in omega (arith, a, b, n_number));
+    path_rise = push_rises (rest ++ u ∷ []) w
+        (push_rises rest u (rises_too (λ t c. visit_same t (Contains-append_left rest (v ∷ []) t c)) (front_rises rest v refl s.path_rise).0)
+        (λ t c. let l = rest_low t c in let a = visit_same t (Contains-append_left rest (v ∷ []) t c) in omega (arith, l, a, u_number)))
+        (λ t c. let l = path_count t c in omega (arith, l, w_number));
+    path_found = λ t c. ⊎_elim (λ x. ⊎_elim (λ y. kept t.vertex (s.path_found t (Contains-append_left rest (v ∷ []) t y)))
+        (λ (e : u ≡ t). rw (← e, is) (kept v.vertex v_found)) (Contains-push_cases rest u t x))
+        (λ (e : w ≡ t). rw (← e, fe) (marked_here found w.vertex inside)) (Contains-push_cases (rest ++ u ∷ []) w t c);
+    path_unshut = λ t c. ⊎_elim (λ x. ⊎_elim (λ y. s.path_unshut t (Contains-append_left rest (v ∷ []) t y))
+        (λ (e : u ≡ t). rw (← e, is) v_unshut) (Contains-push_cases rest u t x)) (λ (e : w ≡ t). rw (← e) unshut)
+        (Contains-push_cases (rest ++ u ∷ []) w t c);
     shut_low = s.shut_low;
     shut = s.shut;
   }
@@ -340,16 +377,24 @@ module _ (graph : List (List ℕ)) (from : ℕ) (found closed : List Bool) (numb
 
       path_count : (t : Visit) → Contains (rest ++ u ∷ []) t → by_visit numbers' t < count
       path_count t c =
-          ⊎_elim (λ x. let a = visit_same t (Contains-append_left rest (v ∷ []) t x) in let b = s.numbered t.vertex (s.path_found t (Contains-append_left rest (v ∷ []) t x)) in omega (arith, a, b))
+          ⊎_elim (λ x. let a = visit_same t (Contains-append_left rest (v ∷ []) t x) in
+          let b = s.numbered t.vertex (s.path_found t (Contains-append_left rest (v ∷ []) t x)) in omega (arith, a, b))
           (λ (e : u ≡ t). let b = s.numbered v.vertex v_found in let a = ap (by_visit numbers') e in omega (arith, a, b, u_number)) (Contains-push_cases rest u t c)
 
       moved : (k : ℕ) → (t : Visit) × Contains (rest ++ v ∷ []) t × (t.vertex ≡ k) → (t : Visit) × Contains ((rest ++ u ∷ []) ++ w ∷ []) t × (t.vertex ≡ k)
-      moved k x = ⊎_elim (λ c. (x.0, Contains-append_left (rest ++ u ∷ []) (w ∷ []) x.0 (Contains-append_left rest (u ∷ []) x.0 c), x.2)) (λ (e : v ≡ x.0). (u, Contains-append_left (rest ++ u ∷ []) (w ∷ []) u (Contains-push rest u), is ∙ (ap (λ (t : Visit). t.vertex) e ∙ x.2))) (Contains-push_cases rest v x.0 x.1)
+      moved k x = ⊎_elim (λ c. (x.0, Contains-append_left (rest ++ u ∷ []) (w ∷ []) x.0 (Contains-append_left rest (u ∷ []) x.0 c), x.2))
+          (λ (e : v ≡ x.0). (
+            u,
+            Contains-append_left (rest ++ u ∷ []) (w ∷ []) u (Contains-push rest u),
+            is
+                ∙ (ap (λ (t : Visit). t.vertex) e ∙ x.2),
+          )) (Contains-push_cases rest v x.0 x.1)
 
       to_new : (p : Part) → Contains (under ++ q ∷ []) p → Reaches graph p.root w.vertex
       to_new p c = Reaches-then (Reaches-on ((s.part p c).chain q q_there (all_low p c)) (top.whole q.root v.vertex top.rooted v_in_top)) edge
 
-      still : (p : Part) → Contains (under ++ q ∷ []) p → (k i : ℕ) → IsToGo (rest ++ v ∷ []) k i → IsGoneDown found' closed numbers' p (end_of graph k i) ⊎ IsToGo ((rest ++ u ∷ []) ++ w ∷ []) k i
+      still : (p : Part) → Contains (under ++ q ∷ []) p → (k i : ℕ) → IsToGo (rest ++ v ∷ []) k i
+          → IsGoneDown found' closed numbers' p (end_of graph k i) ⊎ IsToGo ((rest ++ u ∷ []) ++ w ∷ []) k i
       still p c k i x =
           ⊎_elim (λ y. inr (x.0, Contains-append_left (rest ++ u ∷ []) (w ∷ []) x.0 (Contains-append_left rest (u ∷ []) x.0 y), x.2, x.3))
           (λ (e : v ≡ x.0). by_gone (ap (λ (t : Visit). t.vertex) e ∙ x.2) (let g = ap (λ (t : Visit). t.gone) e in omega (arith, g, x.3)))
@@ -358,10 +403,16 @@ module _ (graph : List (List ℕ)) (from : ℕ) (found closed : List Bool) (numb
           by_gone : v.vertex ≡ k → v.gone ≤ i → IsGoneDown found' closed numbers' p (end_of graph k i) ⊎ IsToGo ((rest ++ u ∷ []) ++ w ∷ []) k i
           by_gone e l =
               ⊎_elim (λ (g : v.gone < i). inr (u, Contains-append_left (rest ++ u ∷ []) (w ∷ []) u (Contains-push rest u), is ∙ e, omega (arith, g, gone)))
-              (λ (g : i ≤ v.gone). let z : i ≡ v.gone = omega (arith, g, l) in inl (rw (z, ← e, leads) (inr (rw fe (marked_here found w.vertex inside), let a = root_same p c in let b = root_count p c in omega (arith, a, b, w_number)))))
+              (λ (g : i ≤ v.gone). let z : i ≡ v.gone = omega (arith, g, l) in
+              inl (rw (z, ← e, leads) (inr (
+                rw fe (marked_here found w.vertex inside),
+                let a = root_same p c in let b = root_count p c in
+                    omega (arith, a, b, w_number),
+              ))))
               (cases_lt v.gone i)
 
-      old_part : (p : Part) → Contains (under ++ q ∷ []) p → IsPart graph found closed numbers (under ++ q ∷ []) (rest ++ v ∷ []) p → IsPart graph found' closed numbers' ((under ++ q ∷ []) ++ n ∷ []) ((rest ++ u ∷ []) ++ w ∷ []) p
+      old_part : (p : Part) → Contains (under ++ q ∷ []) p → IsPart graph found closed numbers (under ++ q ∷ []) (rest ++ v ∷ []) p
+          → IsPart graph found' closed numbers' ((under ++ q ∷ []) ++ n ∷ []) ((rest ++ u ∷ []) ++ w ∷ []) p
       old_part p c x = record {
         rooted = x.rooted;
         on_path = moved p.root x.on_path;
@@ -369,9 +420,17 @@ module _ (graph : List (List ℕ)) (from : ℕ) (found closed : List Bool) (numb
         was_found = λ k d. kept k (x.was_found k d);
         unshut = x.unshut;
         from_root = λ k d. let a = root_same p c in let b = same k (x.was_found k d) in let f = x.from_root k d in omega (arith, a, b, f);
-        to_next = λ k r d i l. ⊎_elim (λ y. let a = root_same p c in let b = root_same r y in let e = same k (x.was_found k d) in let f = x.to_next k r d y (omega (arith, a, b, l)) in omega (arith, b, e, f)) (λ (y : n ≡ r). let e = same k (x.was_found k d) in let f = s.numbered k (x.was_found k d) in let g = ap (by_part numbers') y in omega (arith, e, f, g, n_number)) (Contains-push_cases (under ++ q ∷ []) n r i);
-        chain = λ r i l. ⊎_elim (λ y. let a = root_same p c in let b = root_same r y in x.chain r y (omega (arith, a, b, l))) (λ (y : n ≡ r). rw (← y, root) (to_new p c)) (Contains-push_cases (under ++ q ∷ []) n r i);
-        gone = λ k i d l. ⊎_elim (λ y. inl (⊎_elim (λ z. inl z) (λ z. inr (kept (end_of graph k i) z.0, let a = root_same p c in let b = same (end_of graph k i) z.0 in omega (arith, a, b, z.1))) y)) (λ y. still p c k i y) (x.gone k i d l);
+        to_next = λ k r d i l. ⊎_elim (λ y. let a = root_same p c in let b = root_same r y in let e = same k (x.was_found k d) in
+            let f = x.to_next k r d y (omega (arith, a, b, l)) in omega (arith, b, e, f)) (λ (y : n ≡ r). let e = same k (x.was_found k d) in
+            let f = s.numbered k (x.was_found k d) in let g = ap (by_part numbers') y in
+            omega (arith, e, f, g, n_number)) (Contains-push_cases (under ++ q ∷ []) n r i);
+        chain = λ r i l. ⊎_elim (λ y. let a = root_same p c in let b = root_same r y in
+            x.chain r y (omega (arith, a, b, l))) (λ (y : n ≡ r). rw (← y, root) (to_new p c)) (Contains-push_cases (under ++ q ∷ []) n r i);
+        gone = λ k i d l. ⊎_elim (λ y. inl (⊎_elim (λ z. inl z) (λ z. inr (
+          kept (end_of graph k i) z.0,
+          let a = root_same p c in
+              let b = same (end_of graph k i) z.0 in omega (arith, a, b, z.1),
+        )) y)) (λ y. still p c k i y) (x.gone k i d l);
       }
 
       new_part : IsPart graph found' closed numbers' ((under ++ q ∷ []) ++ n ∷ []) ((rest ++ u ∷ []) ++ w ∷ []) n
@@ -382,8 +441,11 @@ module _ (graph : List (List ℕ)) (from : ℕ) (found closed : List Bool) (numb
         was_found = λ k c. rw (is_new k c, fe) (marked_here found w.vertex inside);
         unshut = λ k c. rw (is_new k c) unshut;
         from_root = λ k c. let e = last k (is_new k c) in omega (arith, e, n_number);
-        to_next = λ k r c i l. ⊎_elim (λ y. let a = root_same r y in let b = root_count r y in absurd (omega (arith, a, b, l, n_number))) (λ (y : n ≡ r). let g = ap (by_part numbers') y in absurd (omega (arith, g, l))) (Contains-push_cases (under ++ q ∷ []) n r i);
-        chain = λ r i l. ⊎_elim (λ y. let a = root_same r y in let b = root_count r y in absurd (omega (arith, a, b, l, n_number))) (λ (y : n ≡ r). rw (← y) here) (Contains-push_cases (under ++ q ∷ []) n r i);
+        to_next = λ k r c i l. ⊎_elim (λ y. let a = root_same r y in let b = root_count r y in
+            absurd (omega (arith, a, b, l, n_number))) (λ (y : n ≡ r). let g = ap (by_part numbers') y in
+            absurd (omega (arith, g, l))) (Contains-push_cases (under ++ q ∷ []) n r i);
+        chain = λ r i l. ⊎_elim (λ y. let a = root_same r y in let b = root_count r y in
+            absurd (omega (arith, a, b, l, n_number))) (λ (y : n ≡ r). rw (← y) here) (Contains-push_cases (under ++ q ∷ []) n r i);
         gone = λ k i c l. inr (w, Contains-push (rest ++ u ∷ []) w, sym (is_new k c), omega (arith, none));
       }
 
@@ -408,7 +470,8 @@ module _ (graph : List (List ℕ)) (from : ℕ) (found closed : List Bool) (numb
     p_part : IsPart graph found closed numbers (under ++ q ∷ []) (rest ++ v ∷ []) p
     p_part = s.part p (under_there p p_under)
 
-    pub one_joined : (to : ℕ) → LeadsTo graph v.vertex to → IsOpen (under ++ q ∷ []) to → get_or numbers to 0 < by_part numbers q → IsPartSearch graph from found closed numbers levels (lower ++ m ∷ []) (rest ++ v ∷ []) count closings
+    pub one_joined : (to : ℕ) → LeadsTo graph v.vertex to → IsOpen (under ++ q ∷ []) to → get_or numbers to 0 < by_part numbers q
+        → IsPartSearch graph from found closed numbers levels (lower ++ m ∷ []) (rest ++ v ∷ []) count closings
     one_joined to edge open_to before = record {
       found_each = s.found_each;
       closed_each = s.closed_each;
@@ -435,13 +498,15 @@ module _ (graph : List (List ℕ)) (from : ℕ) (found closed : List Bool) (numb
 
         joined : (k : ℕ) → IsOpen (under ++ q ∷ []) k → IsOpen (lower ++ m ∷ []) k
         joined k o =
-            ⊎_elim (λ x. ⊎_elim (λ y. (o.0, Contains-append_left lower (m ∷ []) o.0 y, o.2)) (λ (w : p ≡ o.0). (m, Contains-push lower m, in_p k (rw w o.2))) (Contains-push_cases lower p o.0 (rw e at x)))
+            ⊎_elim (λ x. ⊎_elim (λ y. (o.0, Contains-append_left lower (m ∷ []) o.0 y, o.2))
+            (λ (w : p ≡ o.0). (m, Contains-push lower m, in_p k (rw w o.2))) (Contains-push_cases lower p o.0 (rw e at x)))
             (λ (w : q ≡ o.0). (m, Contains-push lower m, in_q k (rw w o.2))) (Contains-push_cases under q o.0 o.1)
 
         -- the edge leads to a vertex that reaches the root of the part before the last
         back : Reaches graph to p.root
         back =
-            ⊎_elim (λ x. let r = s.part open_to.0 open_to.1 in Reaches-on (r.whole to open_to.0.root open_to.2 r.rooted) (r.chain p (under_there p p_under) (under_last open_to.0 x)))
+            ⊎_elim (λ x. let r = s.part open_to.0 open_to.1 in
+            Reaches-on (r.whole to open_to.0.root open_to.2 r.rooted) (r.chain p (under_there p p_under) (under_last open_to.0 x)))
             (λ (w : q ≡ open_to.0). let r = top.from_root to (rw w open_to.2) in absurd (omega (arith, r, before))) (Contains-push_cases under q open_to.0 open_to.1)
 
         up : Reaches graph p.root q.root
@@ -460,10 +525,12 @@ module _ (graph : List (List ℕ)) (from : ℕ) (found closed : List Bool) (numb
 
         -- of the parts that are left
         was : (r : Part) → Contains (lower ++ m ∷ []) r → (t : Part) × Contains (under ++ q ∷ []) t × (t.root ≡ r.root)
-        was r c = ⊎_elim (λ x. (r, under_there r (lower_under r x), refl)) (λ (w : m ≡ r). (p, under_there p p_under, sym root ∙ ap (λ (t : Part). t.root) w)) (Contains-push_cases lower m r c)
+        was r c = ⊎_elim (λ x. (r, under_there r (lower_under r x), refl))
+            (λ (w : m ≡ r). (p, under_there p p_under, sym root ∙ ap (λ (t : Part). t.root) w)) (Contains-push_cases lower m r c)
 
         low : (r : Part) → Contains (lower ++ m ∷ []) r → by_part numbers r ≤ by_part numbers p
-        low r c = ⊎_elim (λ x. let h = lower_low r x in omega (arith, h)) (λ (w : m ≡ r). let g = ap (by_part numbers) w in omega (arith, g, m_number)) (Contains-push_cases lower m r c)
+        low r c = ⊎_elim (λ x. let h = lower_low r x in omega (arith, h)) (λ (w : m ≡ r). let g = ap (by_part numbers) w in
+            omega (arith, g, m_number)) (Contains-push_cases lower m r c)
 
         p_before_q : by_part numbers p < by_part numbers q
         p_before_q = under_low p p_under
@@ -475,13 +542,18 @@ module _ (graph : List (List ℕ)) (from : ℕ) (found closed : List Bool) (numb
           whole = m_whole;
           was_found = λ k h. ⊎_elim (λ x. p_part.was_found k x) (λ x. top.was_found k x) ((of k).0 h);
           unshut = λ k h. ⊎_elim (λ x. p_part.unshut k x) (λ x. top.unshut k x) ((of k).0 h);
-          from_root = λ k h. ⊎_elim (λ x. let f = p_part.from_root k x in omega (arith, f, m_number)) (λ x. let f = top.from_root k x in omega (arith, f, m_number, p_before_q)) ((of k).0 h);
+          from_root = λ k h. ⊎_elim (λ x. let f = p_part.from_root k x in omega (arith, f, m_number)) (λ x. let f = top.from_root k x in
+              omega (arith, f, m_number, p_before_q)) ((of k).0 h);
           to_next = λ k r h c l. let d = low r c in absurd (omega (arith, d, l, m_number));
           chain = λ r c l. let t = was r c in let g = ap (λ k. get_or numbers k 0) t.2 in rw (root, ← t.2) (p_part.chain t.0 t.1 (omega (arith, l, g, m_number)));
-          gone = λ k i h l. ⊎_elim (λ x. ⊎_elim (λ y. inl (⊎_elim (λ z. inl z) (λ z. inr (z.0, omega (arith, z.1, m_number))) y)) (λ y. inr y) (p_part.gone k i x l)) (λ x. ⊎_elim (λ y. inl (⊎_elim (λ z. inl z) (λ z. inr (z.0, omega (arith, z.1, m_number, p_before_q))) y)) (λ y. inr y) (top.gone k i x l)) ((of k).0 h);
+          gone = λ k i h l. ⊎_elim (λ x. ⊎_elim (λ y. inl (⊎_elim (λ z. inl z) (λ z. inr (z.0, omega (arith, z.1, m_number))) y))
+              (λ y. inr y) (p_part.gone k i x l))
+              (λ x. ⊎_elim (λ y. inl (⊎_elim (λ z. inl z) (λ z. inr (z.0, omega (arith, z.1, m_number, p_before_q))) y)) (λ y. inr y)
+              (top.gone k i x l)) ((of k).0 h);
         }
 
-        lower_part : (r : Part) → Contains lower r → IsPart graph found closed numbers (under ++ q ∷ []) (rest ++ v ∷ []) r → IsPart graph found closed numbers (lower ++ m ∷ []) (rest ++ v ∷ []) r
+        lower_part : (r : Part) → Contains lower r → IsPart graph found closed numbers (under ++ q ∷ []) (rest ++ v ∷ []) r
+            → IsPart graph found closed numbers (lower ++ m ∷ []) (rest ++ v ∷ []) r
         lower_part r c x = record {
           rooted = x.rooted;
           on_path = x.on_path;
@@ -496,7 +568,9 @@ module _ (graph : List (List ℕ)) (from : ℕ) (found closed : List Bool) (numb
 
 -- ---- beginning and end
 
-pub parts_all : (graph : List (List ℕ)) (from : ℕ) (found closed : List Bool) (numbers levels : List ℕ) (parts : List Part) (path : List Visit) (count closings : ℕ) → length path ≡ 0 → IsPartSearch graph from found closed numbers levels parts path count closings → AreLevels graph from levels
+pub parts_all : (graph : List (List ℕ)) (from : ℕ) (found closed : List Bool) (numbers levels : List ℕ) (parts : List Part)
+    (path : List Visit) (count closings : ℕ) → length path ≡ 0
+    → IsPartSearch graph from found closed numbers levels parts path count closings → AreLevels graph from levels
 parts_all graph from found closed numbers levels parts path count closings none s k j r e = (s.shut k j (all k r) e).1
   where
     closed_if : (k : ℕ) → IsMarked found k → IsMarked closed k
@@ -508,24 +582,30 @@ parts_all graph from found closed numbers levels parts path count closings none 
 set_read : (xs : List ℕ) (i v : ℕ) → i < length xs → get_or (set xs i v) i 0 ≡ v
 set_read xs i v h = rw get_or-set_same refl
 
-pub parts_start : (graph : List (List ℕ)) (from : ℕ) (fresh found closed : List Bool) (none numbers levels : List ℕ) (before parts : List Part) (clear path : List Visit) (p : Part) (v : Visit) (finds count closings : ℕ) → from < length graph → v.vertex ≡ from → v.gone ≡ 0 → p.root ≡ from → p.vertices.items ≡ from ∷ [] → fresh ≡ replicate (length graph) false → found ≡ set fresh from true → closed ≡ replicate (length graph) false → none ≡ replicate (length graph) 0 → numbers ≡ set none from finds → finds ≡ 0 → levels ≡ replicate (length graph) 0 → before ≡ [] → parts ≡ before ++ p ∷ [] → clear ≡ [] → path ≡ clear ++ v ∷ [] → count ≡ finds + 1 → IsPartSearch graph from found closed numbers levels parts path count closings
-parts_start graph from fresh found closed none numbers levels before parts clear path p v finds count closings h is gone root alone fr fe ce nt nu zero le be pe cl pa co = rw (fe, fr, ce, nu, nt, le, pe, be, pa, cl) (record {
-  found_each = length-set empty from true ∙ length-replicate (length graph) false;
-  closed_each = length-replicate (length graph) false;
-  numbers_each = length-set (replicate (length graph) 0) from finds ∙ length-replicate (length graph) 0;
-  levels_each = length-replicate (length graph) 0;
-  begun = marked_here empty from inside;
-  reached = λ k m. rw (only k m) here;
-  numbered = λ k m. let e = only k m in rw e (let x = number in omega (arith, x, zero, co));
-  apart = λ k m. inr (p, Contains-push [] p, let e = only k m in rw (alone, e) (Contains-push [] from));
-  part = λ q c. ⊎_elim (λ x. absurd (Contains-nil q x)) (λ (e : p ≡ q). rw (← e) first) (Contains-push_cases [] p q c);
-  parts_rise = one_more_rises [] p refl (none_rise refl) (λ y c. absurd (Contains-nil y c));
-  path_rise = one_more_rises [] v refl (none_rise refl) (λ y c. absurd (Contains-nil y c));
-  path_found = λ u c. ⊎_elim (λ x. absurd (Contains-nil u x)) (λ (e : v ≡ u). rw (← e, is) (marked_here empty from inside)) (Contains-push_cases [] v u c);
-  path_unshut = λ u c m. none_marked (length graph) u.vertex m;
-  shut_low = λ k m. absurd (none_marked (length graph) k m);
-  shut = λ k j m e. absurd (none_marked (length graph) k m);
-})
+pub parts_start : (graph : List (List ℕ)) (from : ℕ) (fresh found closed : List Bool) (none numbers levels : List ℕ)
+    (before parts : List Part) (clear path : List Visit) (p : Part) (v : Visit) (finds count closings : ℕ) → from < length graph
+    → v.vertex ≡ from → v.gone ≡ 0 → p.root ≡ from → p.vertices.items ≡ from ∷ [] → fresh ≡ replicate (length graph) false
+    → found ≡ set fresh from true → closed ≡ replicate (length graph) false → none ≡ replicate (length graph) 0
+    → numbers ≡ set none from finds → finds ≡ 0 → levels ≡ replicate (length graph) 0 → before ≡ [] → parts ≡ before ++ p ∷ [] → clear ≡ []
+    → path ≡ clear ++ v ∷ [] → count ≡ finds + 1 → IsPartSearch graph from found closed numbers levels parts path count closings
+parts_start graph from fresh found closed none numbers levels before parts clear path p v finds count closings h is gone root alone fr fe
+    ce nt nu zero le be pe cl pa co = rw (fe, fr, ce, nu, nt, le, pe, be, pa, cl) (record {
+      found_each = length-set empty from true ∙ length-replicate (length graph) false;
+      closed_each = length-replicate (length graph) false;
+      numbers_each = length-set (replicate (length graph) 0) from finds ∙ length-replicate (length graph) 0;
+      levels_each = length-replicate (length graph) 0;
+      begun = marked_here empty from inside;
+      reached = λ k m. rw (only k m) here;
+      numbered = λ k m. let e = only k m in rw e (let x = number in omega (arith, x, zero, co));
+      apart = λ k m. inr (p, Contains-push [] p, let e = only k m in rw (alone, e) (Contains-push [] from));
+      part = λ q c. ⊎_elim (λ x. absurd (Contains-nil q x)) (λ (e : p ≡ q). rw (← e) first) (Contains-push_cases [] p q c);
+      parts_rise = one_more_rises [] p refl (none_rise refl) (λ y c. absurd (Contains-nil y c));
+      path_rise = one_more_rises [] v refl (none_rise refl) (λ y c. absurd (Contains-nil y c));
+      path_found = λ u c. ⊎_elim (λ x. absurd (Contains-nil u x)) (λ (e : v ≡ u). rw (← e, is) (marked_here empty from inside)) (Contains-push_cases [] v u c);
+      path_unshut = λ u c m. none_marked (length graph) u.vertex m;
+      shut_low = λ k m. absurd (none_marked (length graph) k m);
+      shut = λ k j m e. absurd (none_marked (length graph) k m);
+    })
   where
     empty : List Bool
     empty = replicate (length graph) false
@@ -542,7 +622,8 @@ parts_start graph from fresh found closed none numbers levels before parts clear
     of : (k : ℕ) → IsOf p k → k ≡ from
     of k c = ⊎_elim (λ x. absurd (Contains-nil k x)) (λ (e : from ≡ k). sym e) (Contains-push_cases [] from k (rw alone at c))
 
-    first : IsPart graph (set (replicate (length graph) false) from true) (replicate (length graph) false) (set (replicate (length graph) 0) from finds) ([] ++ p ∷ []) ([] ++ v ∷ []) p
+    first : IsPart graph (set (replicate (length graph) false) from true) (replicate (length graph) false)
+        (set (replicate (length graph) 0) from finds) ([] ++ p ∷ []) ([] ++ v ∷ []) p
     first = record {
       rooted = rw (alone, root) (Contains-push [] from);
       on_path = (v, Contains-push [] v, is ∙ sym root);
@@ -550,23 +631,33 @@ parts_start graph from fresh found closed none numbers levels before parts clear
       was_found = λ k c. rw (of k c) (marked_here (replicate (length graph) false) from inside);
       unshut = λ k c m. none_marked (length graph) k m;
       from_root = λ k c. rw (of k c, root) (omega arith);
-      to_next = λ k q c d l. ⊎_elim (λ x. absurd (Contains-nil q x)) (λ (e : p ≡ q). let g = ap (by_part (set (replicate (length graph) 0) from finds)) e in absurd (omega (arith, l, g))) (Contains-push_cases [] p q d);
+      to_next = λ k q c d l. ⊎_elim (λ x. absurd (Contains-nil q x))
+          (λ (e : p ≡ q). let g = ap (by_part (set (replicate (length graph) 0) from finds)) e in
+          absurd (omega (arith, l, g))) (Contains-push_cases [] p q d);
       chain = λ q d l. ⊎_elim (λ x. absurd (Contains-nil q x)) (λ (e : p ≡ q). rw (← e) here) (Contains-push_cases [] p q d);
       gone = λ k i c l. inr (v, Contains-push [] v, is ∙ sym (of k c), omega (arith, gone));
     }
 
 -- while there is a path there is an open part
-pub some_part : (graph : List (List ℕ)) (from : ℕ) (found closed : List Bool) (numbers levels : List ℕ) (parts : List Part) (rest : List Visit) (v : Visit) (count closings : ℕ) → length parts ≡ 0 → IsPartSearch graph from found closed numbers levels parts (rest ++ v ∷ []) count closings → ⊥
+pub some_part : (graph : List (List ℕ)) (from : ℕ) (found closed : List Bool) (numbers levels : List ℕ) (parts : List Part)
+    (rest : List Visit) (v : Visit) (count closings : ℕ) → length parts ≡ 0 → IsPartSearch graph from found closed numbers levels parts
+    (rest ++ v ∷ []) count closings → ⊥
 some_part graph from found closed numbers levels parts rest v count closings none s =
     ⊎_elim (λ c. s.path_unshut v (Contains-push rest v) c) (λ o. absurd (omega (arith, o.1.1, none))) (s.apart v.vertex (s.path_found v (Contains-push rest v)))
 
 -- and two, where an edge leads before the last
-pub some_lower : (graph : List (List ℕ)) (from : ℕ) (found closed : List Bool) (numbers levels : List ℕ) (under : List Part) (q : Part) (path : List Visit) (count closings to : ℕ) → length under ≡ 0 → IsPartSearch graph from found closed numbers levels (under ++ q ∷ []) path count closings → IsMarked found to → ¬ IsMarked closed to → get_or numbers to 0 < by_part numbers q → ⊥
+pub some_lower : (graph : List (List ℕ)) (from : ℕ) (found closed : List Bool) (numbers levels : List ℕ) (under : List Part) (q : Part)
+    (path : List Visit) (count closings to : ℕ) → length under ≡ 0 → IsPartSearch graph from found closed numbers levels
+    (under ++ q ∷ []) path count closings → IsMarked found to → ¬ IsMarked closed to → get_or numbers to 0 < by_part numbers q → ⊥
 some_lower graph from found closed numbers levels under q path count closings to none s m n before =
-    ⊎_elim (λ c. n c) (λ o. ⊎_elim (λ x. absurd (omega (arith, x.1, none))) (λ (w : q ≡ o.0). let f = (s.part o.0 o.1).from_root to o.2 in let g = ap (by_part numbers) w in absurd (omega (arith, f, g, before))) (Contains-push_cases under q o.0 o.1)) (s.apart to m)
+    ⊎_elim (λ c. n c) (λ o. ⊎_elim (λ x. absurd (omega (arith, x.1, none))) (λ (w : q ≡ o.0). let f = (s.part o.0 o.1).from_root to o.2 in
+    let g = ap (by_part numbers) w in absurd (omega (arith, f, g, before))) (Contains-push_cases under q o.0 o.1)) (s.apart to m)
 
 pub joined_low : (a b c : List ℕ) → c ≡ b ++ a → (k : ℕ) → Contains c k ↔ (Contains a k ⊎ Contains b k)
-joined_low a b c e k = (λ h. ⊎_elim (λ x. inr x) (λ x. inl x) (Contains-append_cases b a k (rw e at h)), λ h. rw e (⊎_elim (λ x. Contains-append_right b a k x) (λ x. Contains-append_left b a k x) h))
+joined_low a b c e k = (
+  λ h. ⊎_elim (λ x. inr x) (λ x. inl x) (Contains-append_cases b a k (rw e at h)),
+  λ h. rw e (⊎_elim (λ x. Contains-append_right b a k x) (λ x. Contains-append_left b a k x) h),
+)
 
 pub joined_high : (a b c : List ℕ) → c ≡ a ++ b → (k : ℕ) → Contains c k ↔ (Contains a k ⊎ Contains b k)
 joined_high a b c e k = (λ h. Contains-append_cases a b k (rw e at h), λ h. rw e (⊎_elim (λ x. Contains-append_left a b k x) (λ x. Contains-append_right a b k x) h))
@@ -584,14 +675,21 @@ closed_none level closed levels = record {
   stays = λ k c. refl;
 }
 
-pub closed_more : (vs : List ℕ) (i level : ℕ) (old closed closed' : List Bool) (before levels levels' : List ℕ) → i < length vs → get_or vs i 0 < length closed → get_or vs i 0 < length levels → closed' ≡ set closed (get_or vs i 0) true → levels' ≡ set levels (get_or vs i 0) level → AreClosed (take i vs) level old closed before levels → AreClosed (take (i + 1) vs) level old closed' before levels'
+pub closed_more : (vs : List ℕ) (i level : ℕ) (old closed closed' : List Bool) (before levels levels' : List ℕ) → i < length vs
+    → get_or vs i 0 < length closed → get_or vs i 0 < length levels → closed' ≡ set closed (get_or vs i 0) true
+    → levels' ≡ set levels (get_or vs i 0) level → AreClosed (take i vs) level old closed before levels
+    → AreClosed (take (i + 1) vs) level old closed' before levels'
 closed_more vs i level old closed closed' before levels levels' h c l ce le a = rw (ce, le) (record {
   each = length-set closed (get_or vs i 0) true ∙ a.each;
   levels_each = length-set levels (get_or vs i 0) level ∙ a.levels_each;
   keeps = λ k m. marked_there closed (get_or vs i 0) k c (a.keeps k m);
-  sets = λ k d. ⊎_elim (λ x. marked_there closed (get_or vs i 0) k c (a.sets k x)) (λ (e : k ≡ get_or vs i 0). rw e (marked_here closed (get_or vs i 0) c)) (Contains-take_more vs i 0 k h d);
-  alone = λ k m. ⊎_elim (λ x. ⊎_elim (λ y. inl y) (λ y. inr (Contains-take_keeps vs i 0 k h y)) (a.alone k x)) (λ (e : k ≡ get_or vs i 0). inr (Contains-take_last vs i 0 k h e)) (marked_cases closed (get_or vs i 0) k m);
-  level_is = λ k d. ⊎_elim (λ (e : k ≡ get_or vs i 0). here_is k e) (λ (ne : k ≢ get_or vs i 0). rw get_or-set_other (⊎_elim (λ x. a.level_is k x) (λ (e : k ≡ get_or vs i 0). absurd (ne e)) (Contains-take_more vs i 0 k h d))) (cases_eq k (get_or vs i 0));
+  sets = λ k d. ⊎_elim (λ x. marked_there closed (get_or vs i 0) k c (a.sets k x))
+      (λ (e : k ≡ get_or vs i 0). rw e (marked_here closed (get_or vs i 0) c)) (Contains-take_more vs i 0 k h d);
+  alone = λ k m. ⊎_elim (λ x. ⊎_elim (λ y. inl y) (λ y. inr (Contains-take_keeps vs i 0 k h y)) (a.alone k x))
+      (λ (e : k ≡ get_or vs i 0). inr (Contains-take_last vs i 0 k h e)) (marked_cases closed (get_or vs i 0) k m);
+  level_is = λ k d. ⊎_elim (λ (e : k ≡ get_or vs i 0). here_is k e) (λ (ne : k ≢ get_or vs i 0). rw get_or-set_other
+      (⊎_elim (λ x. a.level_is k x) (λ (e : k ≡ get_or vs i 0). absurd (ne e)) (Contains-take_more vs i 0 k h d)))
+      (cases_eq k (get_or vs i 0));
   stays = λ k n. let ne : k ≢ get_or vs i 0 = λ e. n (Contains-take_last vs i 0 k h e) in rw get_or-set_other (a.stays k (λ x. n (Contains-take_keeps vs i 0 k h x)));
 })
   where
@@ -603,22 +701,30 @@ closed_more vs i level old closed closed' before levels levels' h c l ce le a = 
 more_sum : (graph : List (List ℕ)) (path : List Visit) (v : Visit) → sum_by (to_go graph) (path ++ v ∷ []) ≡ sum_by (to_go graph) path + to_go graph v
 more_sum graph path v = sum_by-append (to_go graph) path (v ∷ []) ∙ (let e = sum_by-cons (to_go graph) v [] in omega (arith, e))
 
-pub less_back : (graph : List (List ℕ)) (found : List Bool) (rest : List Visit) (v : Visit) (parts : List Part) → parts_left graph found rest parts < parts_left graph found (rest ++ v ∷ []) parts
+pub less_back : (graph : List (List ℕ)) (found : List Bool) (rest : List Visit) (v : Visit) (parts : List Part)
+    → parts_left graph found rest parts < parts_left graph found (rest ++ v ∷ []) parts
 less_back graph found rest v parts = omega (arith, more_sum graph rest v)
 
-pub less_part : (graph : List (List ℕ)) (found : List Bool) (rest : List Visit) (v : Visit) (under : List Part) (q : Part) → parts_left graph found rest under < parts_left graph found (rest ++ v ∷ []) (under ++ q ∷ [])
+pub less_part : (graph : List (List ℕ)) (found : List Bool) (rest : List Visit) (v : Visit) (under : List Part) (q : Part)
+    → parts_left graph found rest under < parts_left graph found (rest ++ v ∷ []) (under ++ q ∷ [])
 less_part graph found rest v under q = omega (arith, more_sum graph rest v, length-append under (q ∷ []))
 
-pub less_on : (graph : List (List ℕ)) (found : List Bool) (rest : List Visit) (v u : Visit) (parts : List Part) → u.vertex ≡ v.vertex → u.gone ≡ v.gone + 1 → v.gone < length (targets_at graph v.vertex) → parts_left graph found (rest ++ u ∷ []) parts < parts_left graph found (rest ++ v ∷ []) parts
+pub less_on : (graph : List (List ℕ)) (found : List Bool) (rest : List Visit) (v u : Visit) (parts : List Part) → u.vertex ≡ v.vertex
+    → u.gone ≡ v.gone + 1 → v.gone < length (targets_at graph v.vertex)
+    → parts_left graph found (rest ++ u ∷ []) parts < parts_left graph found (rest ++ v ∷ []) parts
 less_on graph found rest v u parts is gone h = omega (arith, more_sum graph rest v, more_sum graph rest u, ap (λ k. length (targets_at graph k)) is, gone, h)
 
-pub less_joined : (graph : List (List ℕ)) (found : List Bool) (path : List Visit) (lower : List Part) (p q m : Part) (under : List Part) → under ≡ lower ++ p ∷ [] → parts_left graph found path (lower ++ m ∷ []) < parts_left graph found path (under ++ q ∷ [])
+pub less_joined : (graph : List (List ℕ)) (found : List Bool) (path : List Visit) (lower : List Part) (p q m : Part) (under : List Part)
+    → under ≡ lower ++ p ∷ [] → parts_left graph found path (lower ++ m ∷ []) < parts_left graph found path (under ++ q ∷ [])
 less_joined graph found path lower p q m under e = omega (arith, length-append lower (m ∷ []), length-append under (q ∷ []), ap length e, length-append lower (p ∷ []))
 
 less_by : (u w s r a b c n : ℕ) → w + 1 ≡ u → c ≤ s → b + 1 ≡ a → (w * (s + 3) + ((r + b) + (c + 1))) + (n + 1) < (u * (s + 3) + (r + a)) + n
 less_by u w s r a b c n e h f = let g : u ≡ w + 1 = omega (arith, e) in rw g (omega (arith, h, f))
 
-pub less_new : (graph : List (List ℕ)) (found marks : List Bool) (rest : List Visit) (v u w : Visit) (parts : List Part) (n : Part) → u.vertex ≡ v.vertex → u.gone ≡ v.gone + 1 → w.gone ≡ 0 → v.gone < length (targets_at graph v.vertex) → w.vertex < length graph → unmarked marks + 1 ≡ unmarked found → parts_left graph marks ((rest ++ u ∷ []) ++ w ∷ []) (parts ++ n ∷ []) < parts_left graph found (rest ++ v ∷ []) parts
+pub less_new : (graph : List (List ℕ)) (found marks : List Bool) (rest : List Visit) (v u w : Visit) (parts : List Part) (n : Part)
+    → u.vertex ≡ v.vertex → u.gone ≡ v.gone + 1 → w.gone ≡ 0 → v.gone < length (targets_at graph v.vertex) → w.vertex < length graph
+    → unmarked marks + 1 ≡ unmarked found → parts_left graph marks ((rest ++ u ∷ []) ++ w ∷ []) (parts ++ n ∷ []) < parts_left graph found
+    (rest ++ v ∷ []) parts
 less_new graph found marks rest v u w parts n is gone none h k fewer =
     let l = get_or-le-sum_by length graph w.vertex [] k in
     let e = more_sum graph rest v in
@@ -627,4 +733,5 @@ less_new graph found marks rest v u w parts n is gone none h k fewer =
     let a : to_go graph w ≡ length (targets_at graph w.vertex) + 1 = omega (arith, none) in
     let b : to_go graph u + 1 ≡ to_go graph v = omega (arith, ap (λ i. length (targets_at graph i)) is, gone, h) in
     let c : length (parts ++ n ∷ []) ≡ length parts + 1 = length-append parts (n ∷ []) in
-    rw (e, g, f, a, c) (less_by (unmarked found) (unmarked marks) (sum_by length graph) (sum_by (to_go graph) rest) (to_go graph v) (to_go graph u) (length (targets_at graph w.vertex)) (length parts) fewer l b)
+    rw (e, g, f, a, c) (less_by (unmarked found) (unmarked marks) (sum_by length graph) (sum_by (to_go graph) rest) (to_go graph v)
+    (to_go graph u) (length (targets_at graph w.vertex)) (length parts) fewer l b)

@@ -34,9 +34,12 @@ Spread-all graph from marks noted none s = record {
     nothing i (k, lt, e) = absurd (omega (arith, none))
 
 pub none_marked : (n k : ℕ) → IsMarked (replicate n false) k → ⊥
-none_marked n k h = ⊎_elim (λ (l : k < n). let e = get_or-replicate n k false false l in let f : true ≡ false = sym h ∙ e in cc) (λ (l : n ≤ k). let p : length (replicate n false) ≤ k = rw (length-replicate n false) l in let e = get_or_past (replicate n false) k false p in let f : true ≡ false = sym h ∙ e in cc) (cases_lt k n)
+none_marked n k h = ⊎_elim (λ (l : k < n). let e = get_or-replicate n k false false l in let f : true ≡ false = sym h ∙ e in
+    cc) (λ (l : n ≤ k). let p : length (replicate n false) ≤ k = rw (length-replicate n false) l in
+    let e = get_or_past (replicate n false) k false p in let f : true ≡ false = sym h ∙ e in cc) (cases_lt k n)
 
-pub Spread-start : (graph : List (List ℕ)) (from : ℕ) (old marks : List Bool) (noted : List ℕ) → old ≡ replicate (length graph) false → Marks (λ k. k ≡ from) old marks [] noted → Spread graph from marks noted
+pub Spread-start : (graph : List (List ℕ)) (from : ℕ) (old marks : List Bool) (noted : List ℕ) → old ≡ replicate (length graph) false
+    → Marks (λ k. k ≡ from) old marks [] noted → Spread graph from marks noted
 Spread-start graph from old marks noted fresh m = record {
   each = m.each ∙ (ap length fresh ∙ length-replicate (length graph) false);
   begun = m.sets from refl;
@@ -52,7 +55,8 @@ Spread-start graph from old marks noted fresh m = record {
     none k h = none_marked (length graph) k (rw fresh at h)
 
 -- the vertex v is taken from the notes, and its targets are marked
-pub Spread-more : (graph : List (List ℕ)) (from v : ℕ) (old marks : List Bool) (all rest noted : List ℕ) → all ≡ rest ++ v ∷ [] → Spread graph from old all → Marks (Contains (targets_at graph v)) old marks rest noted → Spread graph from marks noted
+pub Spread-more : (graph : List (List ℕ)) (from v : ℕ) (old marks : List Bool) (all rest noted : List ℕ) → all ≡ rest ++ v ∷ []
+    → Spread graph from old all → Marks (Contains (targets_at graph v)) old marks rest noted → Spread graph from marks noted
 Spread-more graph from v old marks all rest noted e s m = record {
   each = m.each ∙ s.each;
   begun = m.keeps from s.begun;

@@ -39,7 +39,8 @@ pub record IsOnWay (graph : List (List ℕ)) (found closed : List Bool) (v : Vis
 -- the path leads on to w, which isn't on it
 pub data IsPathTo (graph : List (List ℕ)) (found closed : List Bool) : List Visit → ℕ → Type 0 where
   begins : {path : List Visit} {w : ℕ} → length path ≡ 0 → IsPathTo graph found closed path w
-  goes_on : {path : List Visit} {w : ℕ} (rest : List Visit) (v : Visit) → path ≡ rest ++ v ∷ [] → IsPathTo graph found closed rest v.vertex → IsOnWay graph found closed v w → ((u : Visit) → Contains path u → u.vertex ≢ w) → IsPathTo graph found closed path w
+  goes_on : {path : List Visit} {w : ℕ} (rest : List Visit) (v : Visit) → path ≡ rest ++ v ∷ [] → IsPathTo graph found closed rest v.vertex
+      → IsOnWay graph found closed v w → ((u : Visit) → Contains path u → u.vertex ≢ w) → IsPathTo graph found closed path w
 
 -- the last vertex of a path
 pub record IsLast (graph : List (List ℕ)) (found closed : List Bool) (rest : List Visit) (v : Visit) : Type 0 where

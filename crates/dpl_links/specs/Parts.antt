@@ -59,7 +59,8 @@ pub record IsPart (graph : List (List ℕ)) (found closed : List Bool) (numbers 
   pub gone : (k i : ℕ) → IsOf p k → i < length (targets_at graph k) → IsGoneDown found closed numbers p (end_of graph k i) ⊎ IsToGo path k i
 
 -- how far a search is
-pub record IsPartSearch (graph : List (List ℕ)) (from : ℕ) (found closed : List Bool) (numbers levels : List ℕ) (parts : List Part) (path : List Visit) (count closings : ℕ) : Type 0 where
+pub record IsPartSearch (graph : List (List ℕ)) (from : ℕ) (found closed : List Bool) (numbers levels : List ℕ) (parts : List Part)
+    (path : List Visit) (count closings : ℕ) : Type 0 where
   pub found_each : length found ≡ length graph
   pub closed_each : length closed ≡ length graph
   pub numbers_each : length numbers ≡ length graph

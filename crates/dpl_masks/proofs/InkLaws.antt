@@ -19,7 +19,8 @@ noted-none wholes inks count is f f_in =
     inr (ap (λ l. get_or l f Uncut) is ∙ get_or-replicate count f Uncut Uncut f_count, λ k w l. absurd (omega (arith, l)))
 
 -- one more feature is noted
-pub noted-more : (wholes : List Whole) (inks : List Ink) (k : ℕ) (w : Whole) → k < length wholes → w ≡ get_or wholes k w → w.feature < length inks → AreNotedTo k wholes inks → AreNotedTo (k + 1) wholes (set inks w.feature Blank)
+pub noted-more : (wholes : List Whole) (inks : List Ink) (k : ℕ) (w : Whole) → k < length wholes → w ≡ get_or wholes k w
+    → w.feature < length inks → AreNotedTo k wholes inks → AreNotedTo (k + 1) wholes (set inks w.feature Blank)
 noted-more wholes inks k w k_in w_is f_in before g g_in =
     let len : length (set inks w.feature Blank) ≡ length inks = grind (arith, elements) in
     elim (cases_eq g w.feature) [
@@ -38,7 +39,8 @@ noted-more wholes inks k w k_in w_is f_in before g g_in =
           ])
     ]
 
-pub inks-noted : (count : ℕ) (owners : List ℕ) (colours : List Bool) (wholes : List Whole) (inks : List Ink) → length inks ≡ count → AreNotedTo (length wholes) wholes inks → AreInksTo 0 count owners colours wholes inks
+pub inks-noted : (count : ℕ) (owners : List ℕ) (colours : List Bool) (wholes : List Whole) (inks : List Ink) → length inks ≡ count
+    → AreNotedTo (length wholes) wholes inks → AreInksTo 0 count owners colours wholes inks
 inks-noted count owners colours wholes inks each noted = record {
   each = each;
   is = λ f f_in. elim (noted f (omega (arith, each, f_in))) [
@@ -52,14 +54,23 @@ module _ (owners : List ℕ) (colours : List Bool) (wholes : List Whole) (k : �
   ink-other : (f : ℕ) (i : Ink) → (get_or owners k 0 ≡ f → ⊥) → IsInk k owners colours wholes f i → IsInk (k + 1) owners colours wholes f i
   ink-other f Uncut ne h = h
   ink-other f Blank ne h = (h.0, λ j l e. elim (cases_eq j k) [ inl same ↦ ne (ap (λ m. get_or owners m 0) (sym same) ∙ e) | inr differ ↦ h.1 j (omega (arith, l, differ)) e ])
-  ink-other f (One letter) ne h = (h.0, λ j l e. elim (cases_eq j k) [ inl same ↦ absurd (ne (ap (λ m. get_or owners m 0) (sym same) ∙ e)) | inr differ ↦ h.1 j (omega (arith, l, differ)) e ])
+  ink-other f (One letter) ne h = (
+    h.0,
+    λ j l e. elim (cases_eq j k) [
+      | inl same ↦ absurd (ne (ap (λ m. get_or owners m 0) (sym same) ∙ e))
+      | inr differ ↦ h.1 j (omega (arith, l, differ)) e
+    ],
+  )
   ink-other f Both ne h = tt
 
-  have-more : (f : ℕ) (letter : Bool) → colour_at colours k ≡ letter → ((j : ℕ) → j < k → get_or owners j 0 ≡ f → colour_at colours j ≡ letter) → (j : ℕ) → j < k + 1 → get_or owners j 0 ≡ f → colour_at colours j ≡ letter
+  have-more : (f : ℕ) (letter : Bool) → colour_at colours k ≡ letter
+      → ((j : ℕ) → j < k → get_or owners j 0 ≡ f → colour_at colours j ≡ letter) → (j : ℕ) → j < k + 1 → get_or owners j 0 ≡ f
+      → colour_at colours j ≡ letter
   have-more f letter c h j l e = elim (cases_eq j k) [ inl same ↦ ap (λ m. colour_at colours m) same ∙ c | inr differ ↦ h j (omega (arith, l, differ)) e ]
 
   -- a piece of the feature
-  ink-more : (f : ℕ) (i : Ink) (letter : Mask) → colour_at colours k ≡ is_second letter → IsInk k owners colours wholes f i → IsInk (k + 1) owners colours wholes f (ink_after i letter)
+  ink-more : (f : ℕ) (i : Ink) (letter : Mask) → colour_at colours k ≡ is_second letter → IsInk k owners colours wholes f i
+      → IsInk (k + 1) owners colours wholes f (ink_after i letter)
   ink-more f Uncut letter c h = h
   ink-more f Blank letter c h = (h.0, have-more f (is_second letter) c (λ j l e. absurd (h.1 j l e)))
   ink-more f (One A) A c h = (h.0, have-more f false c h.1)
@@ -68,7 +79,9 @@ module _ (owners : List ℕ) (colours : List Bool) (wholes : List Whole) (k : �
   ink-more f (One B) B c h = (h.0, have-more f _ c h.1)
   ink-more f Both letter c h = tt
 
-  pub inked-more : (count : ℕ) (inks : List Ink) (f : ℕ) (letter : Mask) → f ≡ get_or owners k 0 → f < length inks → colour_at colours k ≡ is_second letter → AreInksTo k count owners colours wholes inks → AreInksTo (k + 1) count owners colours wholes (set inks f (ink_after (ink_at inks f) letter))
+  pub inked-more : (count : ℕ) (inks : List Ink) (f : ℕ) (letter : Mask) → f ≡ get_or owners k 0 → f < length inks
+      → colour_at colours k ≡ is_second letter → AreInksTo k count owners colours wholes inks → AreInksTo (k + 1) count owners colours wholes
+      (set inks f (ink_after (ink_at inks f) letter))
   inked-more count inks f letter f_is f_in c h = record {
     each = (let len : length (set inks f (ink_after (ink_at inks f) letter)) ≡ length inks = grind (arith, elements) in len ∙ h.each);
     is = λ g g_in. elim (cases_eq g f) [

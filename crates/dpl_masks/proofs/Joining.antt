@@ -22,12 +22,16 @@ seven_parts old a b c d e f g = simp append_assoc
 -- the bytes of an element, in the parts that are put
 pub boundary_parts : (layer : ℕ) (r : Rect)
     → boundary_bytes layer r
-    ≡ (0 ∷ 4 ∷ 8 ∷ 0 ∷ []) ++ ((0 ∷ 6 ∷ 13 ∷ 2 ∷ []) ++ (to_be_bytes w16 layer ++ ((0 ∷ 6 ∷ 14 ∷ 2 ∷ 0 ∷ 0 ∷ []) ++ ((0 ∷ 44 ∷ 16 ∷ 3 ∷ []) ++ (concat (map point_bytes (corners r)) ++ (0 ∷ 4 ∷ 17 ∷ 0 ∷ []))))))
+    ≡ (0 ∷ 4 ∷ 8 ∷ 0 ∷ [])
+    ++ ((0 ∷ 6 ∷ 13 ∷ 2 ∷ [])
+    ++ (to_be_bytes w16 layer
+    ++ ((0 ∷ 6 ∷ 14 ∷ 2 ∷ 0 ∷ 0 ∷ []) ++ ((0 ∷ 44 ∷ 16 ∷ 3 ∷ []) ++ (concat (map point_bytes (corners r)) ++ (0 ∷ 4 ∷ 17 ∷ 0 ∷ []))))))
 unfolding boundary_bytes coordinate_bytes
 boundary_parts layer r = refl
 
 -- one more slab's bytes
-pub one_more : (layer : ℕ) (k : ℕ) (rs : List Rect) (d : Rect) (s0 s1 s2 : List ℕ) → k < length rs → s1 ≡ s0 ++ boundaries_bytes layer (take k rs) → s2 ≡ s1 ++ boundary_bytes layer (get_or rs k d)
+pub one_more : (layer : ℕ) (k : ℕ) (rs : List Rect) (d : Rect) (s0 s1 s2 : List ℕ) → k < length rs
+    → s1 ≡ s0 ++ boundaries_bytes layer (take k rs) → s2 ≡ s1 ++ boundary_bytes layer (get_or rs k d)
     → s2 ≡ s0 ++ boundaries_bytes layer (take (k + 1) rs)
 one_more layer k rs d s0 s1 s2 h e f =
     rw (take_more rs k d h, map-append, concat-append) (f ∙ ap (λ x. x ++ boundary_bytes layer (get_or rs k d)) e ∙ simp (append_assoc, append-nil))

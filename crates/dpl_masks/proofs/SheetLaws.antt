@@ -74,8 +74,10 @@ uncut-one (One l) m u = m
 uncut-one Both m u = m
 
 -- what a mask has of more features is put
-pub sheet-more : (features : List (List Rect)) (mask : Region) (done more all : ℕ → Type 0) (out set : List Rect) → AllPairs AreUntouched features → IsSheet features mask done out → IsCanonical set → AreRectsWithin farthest set
-    → ((f : ℕ) (p : Pt) → done f → more f → part_at features f p → ⊥) → ((f : ℕ) → all f ↔ (done f ⊎ more f)) → ((p : Pt) → Covers set p ↔ (mask p × in_some features more p)) → IsSheet features mask all (out ++ set)
+pub sheet-more : (features : List (List Rect)) (mask : Region) (done more all : ℕ → Type 0) (out set : List Rect)
+    → AllPairs AreUntouched features → IsSheet features mask done out → IsCanonical set → AreRectsWithin farthest set
+    → ((f : ℕ) (p : Pt) → done f → more f → part_at features f p → ⊥) → ((f : ℕ) → all f ↔ (done f ⊎ more f))
+    → ((p : Pt) → Covers set p ↔ (mask p × in_some features more p)) → IsSheet features mask all (out ++ set)
 sheet-more features mask done more all out set apart h c w differ either own = record {
   scattered = scattered-more out set h.scattered c (λ (p, q, hp, hq, t). (
       let (mp, (f, f_done, in_f)) = (h.covers p).0 hp in
@@ -116,7 +118,8 @@ sheet-same features mask done more all out h either none = record {
   within = h.within;
 }
 
-module _ (features parts : List (List Rect)) (owners : List ℕ) (zones : List Zone) (sides : List (ℕ × ℕ)) (wholes : List Whole) (colours : List Bool) (inks : List Ink) (known : AreKnown features parts owners zones sides wholes colours inks) where
+module _ (features parts : List (List Rect)) (owners : List ℕ) (zones : List Zone) (sides : List (ℕ × ℕ)) (wholes : List Whole)
+    (colours : List Bool) (inks : List Ink) (known : AreKnown features parts owners zones sides wholes colours inks) where
   abbrev Mask : Bool → Region
   Mask letter = on_mask parts zones sides colours letter
 
@@ -175,7 +178,9 @@ module _ (features parts : List (List Rect)) (owners : List ℕ) (zones : List Z
   -- piece k of an uncut feature is that feature
   module _ (k : ℕ) (k_in : k < length parts) (uncut : IsUncut (ink_at inks (owner k))) where
     whole-feature : get_or features (owner k) [] ≡ get_or parts k []
-    whole-feature = known.lie.kept k k_in (uncut-none (owner k) (ink_at inks (owner k)) (known.inked.is (owner k) (zip-at (IsOwner features) parts owners k [] 0 known.lie.owned k_in).0) uncut)
+    whole-feature = known.lie.kept k k_in
+        (uncut-none (owner k) (ink_at inks (owner k))
+        (known.inked.is (owner k) (zip-at (IsOwner features) parts owners k [] 0 known.lie.owned k_in).0) uncut)
 
     to-piece : (p : Pt) → part_at features (owner k) p → part_at parts k p
     to-piece p in_f = subst (λ s. Covers s p) whole-feature in_f
@@ -201,7 +206,10 @@ module _ (features parts : List (List Rect)) (owners : List ℕ) (zones : List Z
     uncut-fresh m f p none (inl mixed) e in_f = mixed-uncut (ink_at inks f) mixed (subst (λ g. IsUncut (ink_at inks g)) (sym e) uncut)
     uncut-fresh m f p none (inr (inl (i, l, i_is, u))) e in_f =
         let i_in : i < length parts = omega (arith, l, k_in) in
-        let same = known.lie.kept i i_in (uncut-none (owner i) (ink_at inks (owner i)) (known.inked.is (owner i) (zip-at (IsOwner features) parts owners i [] 0 known.lie.owned i_in).0) (subst (λ g. IsUncut (ink_at inks g)) (sym i_is) u)) in
+        let same = known.lie.kept i i_in
+        (uncut-none (owner i) (ink_at inks (owner i))
+        (known.inked.is (owner i) (zip-at (IsOwner features) parts owners i [] 0 known.lie.owned i_in).0)
+        (subst (λ g. IsUncut (ink_at inks g)) (sym i_is) u)) in
         let in_i : part_at parts i p = subst (λ s. Covers s p) same (subst (λ g. part_at features g p) (sym i_is) in_f) in
         let e2 = piece-one i k p i_in k_in in_i (to-piece p (subst (λ g. part_at features g p) e in_f)) in
         omega (arith, e2, l)
@@ -321,7 +329,9 @@ module _ (features parts : List (List Rect)) (owners : List ℕ) (zones : List Z
         | inr r ↦ elim r [
           | inl u ↦ inl (inr (inl u))
           | inr (i, v, l, i_in, v_at, v_is, u) ↦ elim (cases_eq i k) [
-            | inl e ↦ inr (sym v_is ∙ (ap (λ (x : Whole). x.feature) (sym v_at) ∙ (ap (λ j. (get_or wholes j v).feature) e ∙ ap (λ (x : Whole). x.feature) (get_or_default wholes k v w k_in ∙ w_is))))
+            | inl e ↦ inr (sym v_is
+                ∙ (ap (λ (x : Whole). x.feature) (sym v_at) ∙ (ap (λ j. (get_or wholes j v).feature) e ∙ ap (λ (x : Whole). x.feature)
+                (get_or_default wholes k v w k_in ∙ w_is))))
             | inr ne ↦ inl (inr (inr (i, v, omega (arith, l, ne), i_in, v_at, v_is, u)))
           ]
         ]
@@ -342,7 +352,10 @@ module _ (features parts : List (List Rect)) (owners : List ℕ) (zones : List Z
         | inr r ↦ elim r [
           | inl u ↦ inl (inr (inl u))
           | inr (i, v, l, i_in, v_at, v_is, u) ↦ elim (cases_eq i k) [
-            | inl e ↦ absurd (other (subst (λ g. IsOne (ink_at inks g)) (sym v_is ∙ (ap (λ (x : Whole). x.feature) (sym v_at) ∙ (ap (λ j. (get_or wholes j v).feature) e ∙ ap (λ (x : Whole). x.feature) (get_or_default wholes k v w k_in ∙ w_is)))) u))
+            | inl e ↦ absurd (other
+                (subst (λ g. IsOne (ink_at inks g))
+                (sym v_is ∙ (ap (λ (x : Whole). x.feature) (sym v_at)
+                ∙ (ap (λ j. (get_or wholes j v).feature) e ∙ ap (λ (x : Whole). x.feature) (get_or_default wholes k v w k_in ∙ w_is)))) u))
             | inr ne ↦ inl (inr (inr (i, v, omega (arith, l, ne), i_in, v_at, v_is, u)))
           ]
         ]
@@ -360,35 +373,53 @@ module _ (features parts : List (List Rect)) (owners : List ℕ) (zones : List Z
   Sheet letter n m out = IsSheet features (Mask letter) (IsDone owners wholes inks n m) out
 
   -- no feature more
-  sheet-none : (letter : Bool) (done all : ℕ → Type 0) (out : List Rect) → ((f : ℕ) → all f ↔ (done f ⊎ ⊥)) → IsSheet features (Mask letter) done out → IsSheet features (Mask letter) all out
+  sheet-none : (letter : Bool) (done all : ℕ → Type 0) (out : List Rect) → ((f : ℕ) → all f ↔ (done f ⊎ ⊥))
+      → IsSheet features (Mask letter) done out → IsSheet features (Mask letter) all out
   sheet-none letter done all out either h = sheet-same features (Mask letter) done (λ f. ⊥) all out h either (λ p m (f, none, in_f). none)
 
-  piece-step : (k : ℕ) → k < length parts → (a b a2 b2 : List Rect) → Sheet false k 0 a → Sheet true k 0 b → PutsUncut (ink_at inks (owner k)) (colour_at colours k) (get_or parts k []) a b a2 b2 → Sheet false (k + 1) 0 a2 × Sheet true (k + 1) 0 b2
+  piece-step : (k : ℕ) → k < length parts → (a b a2 b2 : List Rect) → Sheet false k 0 a → Sheet true k 0 b
+      → PutsUncut (ink_at inks (owner k)) (colour_at colours k) (get_or parts k []) a b a2 b2 → Sheet false (k + 1) 0 a2
+      × Sheet true (k + 1) 0 b2
   piece-step k k_in a b a2 b2 h g (inl (u, inl (c, a_is, b_is))) = (
-    rw a_is (sheet-more features (Mask false) _ (λ f. f ≡ owner k) _ a (get_or parts k []) known.lie.untouched h (known.apart.canonical k [] k_in) (known.apart.within k [] k_in) (λ f p. uncut-fresh k k_in u 0 f p (omega arith)) (uncut-done k k_in u 0) (uncut-covers k k_in u false c)),
+    rw a_is (sheet-more features (Mask false) _ (λ f. f ≡ owner k) _ a (get_or parts k []) known.lie.untouched h
+        (known.apart.canonical k [] k_in) (known.apart.within k [] k_in) (λ f p. uncut-fresh k k_in u 0 f p (omega arith))
+        (uncut-done k k_in u 0) (uncut-covers k k_in u false c)),
     rw b_is (sheet-same features (Mask true) _ (λ f. f ≡ owner k) _ b g (uncut-done k k_in u 0) (uncut-other k k_in u true (λ e. true≢false (sym e ∙ c)))),
   )
   piece-step k k_in a b a2 b2 h g (inl (u, inr (c, a_is, b_is))) = (
     rw a_is (sheet-same features (Mask false) _ (λ f. f ≡ owner k) _ a h (uncut-done k k_in u 0) (uncut-other k k_in u false (λ e. true≢false (sym c ∙ e)))),
-    rw b_is (sheet-more features (Mask true) _ (λ f. f ≡ owner k) _ b (get_or parts k []) known.lie.untouched g (known.apart.canonical k [] k_in) (known.apart.within k [] k_in) (λ f p. uncut-fresh k k_in u 0 f p (omega arith)) (uncut-done k k_in u 0) (uncut-covers k k_in u true c)),
+    rw b_is (sheet-more features (Mask true) _ (λ f. f ≡ owner k) _ b (get_or parts k []) known.lie.untouched g
+        (known.apart.canonical k [] k_in) (known.apart.within k [] k_in) (λ f p. uncut-fresh k k_in u 0 f p (omega arith))
+        (uncut-done k k_in u 0) (uncut-covers k k_in u true c)),
   )
   piece-step k k_in a b a2 b2 h g (inr (other, a_is, b_is)) = (
     rw a_is (sheet-none false _ _ a (λ f. other-done k 0 f other) h),
     rw b_is (sheet-none true _ _ b (λ f. other-done k 0 f other) g),
   )
 
-  whole-step : (n k : ℕ) (w : Whole) → k < length wholes → get_or wholes k w ≡ w → IsCanonical w.set → AreRectsWithin farthest w.set → (a b a2 b2 : List Rect) → Sheet false n k a → Sheet true n k b → PutsOne (ink_at inks w.feature) w.set a b a2 b2 → Sheet false n (k + 1) a2 × Sheet true n (k + 1) b2
+  whole-step : (n k : ℕ) (w : Whole) → k < length wholes → get_or wholes k w ≡ w → IsCanonical w.set → AreRectsWithin farthest w.set
+      → (a b a2 b2 : List Rect) → Sheet false n k a → Sheet true n k b → PutsOne (ink_at inks w.feature) w.set a b a2 b2
+      → Sheet false n (k + 1) a2 × Sheet true n (k + 1) b2
   whole-step n k w k_in w_is canonical within a b a2 b2 h g (inl (letter, ink, inl (c, a_is, b_is))) =
       let is : IsOne (ink_at inks w.feature) = subst IsOne (sym ink) tt in
-      let set_is : get_or features w.feature [] ≡ w.set = (subst (λ (x : Whole). (x.feature < length features) × (get_or features x.feature [] ≡ x.set)) w_is (known.lie.cut k w k_in)).1 in (
-        rw a_is (sheet-more features (Mask false) _ (λ f. f ≡ w.feature) _ a w.set known.lie.untouched h canonical within (whole-fresh n k w k_in w_is is) (whole-done n k w k_in w_is is) (subst (λ l. (p : Pt) → Covers w.set p ↔ (Mask l p × in_some features (λ f. f ≡ w.feature) p)) c (one-covers w.feature letter ink w.set set_is))),
+      let set_is : get_or features w.feature [] ≡ w.set = (subst (λ (x : Whole). (x.feature < length features)
+      × (get_or features x.feature [] ≡ x.set)) w_is (known.lie.cut k w k_in)).1 in (
+        rw a_is (sheet-more features (Mask false) _ (λ f. f ≡ w.feature) _ a w.set known.lie.untouched h canonical within
+            (whole-fresh n k w k_in w_is is) (whole-done n k w k_in w_is is)
+            (subst (λ l. (p : Pt) → Covers w.set p ↔ (Mask l p × in_some features (λ f. f ≡ w.feature) p)) c
+            (one-covers w.feature letter ink w.set set_is))),
         rw b_is (sheet-same features (Mask true) _ (λ f. f ≡ w.feature) _ b g (whole-done n k w k_in w_is is) (one-other w.feature letter ink true (λ e. true≢false (sym e ∙ c)))),
       )
   whole-step n k w k_in w_is canonical within a b a2 b2 h g (inl (letter, ink, inr (c, a_is, b_is))) =
       let is : IsOne (ink_at inks w.feature) = subst IsOne (sym ink) tt in
-      let set_is : get_or features w.feature [] ≡ w.set = (subst (λ (x : Whole). (x.feature < length features) × (get_or features x.feature [] ≡ x.set)) w_is (known.lie.cut k w k_in)).1 in (
-        rw a_is (sheet-same features (Mask false) _ (λ f. f ≡ w.feature) _ a h (whole-done n k w k_in w_is is) (one-other w.feature letter ink false (λ e. true≢false (sym c ∙ e)))),
-        rw b_is (sheet-more features (Mask true) _ (λ f. f ≡ w.feature) _ b w.set known.lie.untouched g canonical within (whole-fresh n k w k_in w_is is) (whole-done n k w k_in w_is is) (subst (λ l. (p : Pt) → Covers w.set p ↔ (Mask l p × in_some features (λ f. f ≡ w.feature) p)) c (one-covers w.feature letter ink w.set set_is))),
+      let set_is : get_or features w.feature [] ≡ w.set = (subst (λ (x : Whole). (x.feature < length features)
+      × (get_or features x.feature [] ≡ x.set)) w_is (known.lie.cut k w k_in)).1 in (
+        rw a_is (sheet-same features (Mask false) _ (λ f. f ≡ w.feature) _ a h (whole-done n k w k_in w_is is)
+            (one-other w.feature letter ink false (λ e. true≢false (sym c ∙ e)))),
+        rw b_is (sheet-more features (Mask true) _ (λ f. f ≡ w.feature) _ b w.set known.lie.untouched g canonical within
+            (whole-fresh n k w k_in w_is is) (whole-done n k w k_in w_is is)
+            (subst (λ l. (p : Pt) → Covers w.set p ↔ (Mask l p × in_some features (λ f. f ≡ w.feature) p)) c
+            (one-covers w.feature letter ink w.set set_is))),
       )
   whole-step n k w k_in w_is canonical within a b a2 b2 h g (inr (other, a_is, b_is)) = (
     rw a_is (sheet-none false _ _ a (other-whole n k w k_in w_is other) h),
@@ -396,7 +427,8 @@ module _ (features parts : List (List Rect)) (owners : List ℕ) (zones : List Z
   )
 
   -- what features on both masks have on one
-  rest-covers : (letter : Bool) (rects : List Rect) → AreRest parts owners zones sides colours inks letter rects → (p : Pt) → Covers rects p ↔ (Mask letter p × in_some features (IsDone owners wholes inks 0 0) p)
+  rest-covers : (letter : Bool) (rects : List Rect) → AreRest parts owners zones sides colours inks letter rects → (p : Pt)
+      → Covers rects p ↔ (Mask letter p × in_some features (IsDone owners wholes inks 0 0) p)
   rest-covers letter rects h p = (
     λ x. elim ((h.covers p).0 x) [
       | inl (k, z, side, l, k_in, is, side_is, either, mixed, has) ↦ (inr (k, z, side, k_in, is, side_is, either, has), (z.feature, inl mixed, zoned k z p k_in is has))
@@ -405,20 +437,33 @@ module _ (features parts : List (List Rect)) (owners : List ℕ) (zones : List Z
     λ (m, (f, done, in_f)). (h.covers p).1 (elim done [
       | inl mixed ↦ elim m [
         | inl (k, k_in, c, in_k) ↦ inr (k, k_in, k_in, c, subst (λ g. IsMixed (ink_at inks g)) (sym (one (owner k) f p (owned k p k_in in_k) in_f)) mixed, in_k)
-        | inr (k, z, side, k_in, is, side_is, either, has) ↦ inl (k, z, side, k_in, k_in, is, side_is, either, subst (λ g. IsMixed (ink_at inks g)) (sym (one z.feature f p (zoned k z p k_in is has) in_f)) mixed, has)
+        | inr (k, z, side, k_in, is, side_is, either, has) ↦ inl (
+          k,
+          z,
+          side,
+          k_in,
+          k_in,
+          is,
+          side_is,
+          either,
+          subst (λ g. IsMixed (ink_at inks g)) (sym (one z.feature f p (zoned k z p k_in is has) in_f)) mixed,
+          has,
+        )
       ]
       | inr r ↦ elim r [ inl (k, l, e, u) ↦ absurd (omega (arith, l)) | inr (k, w, l, k_in, e, i, u) ↦ absurd (omega (arith, l)) ]
     ]),
   )
 
-  rest-sheet : (letter : Bool) (rects slabs : List Rect) → AreRest parts owners zones sides colours inks letter rects → AreSlabsOf (Covers rects) slabs → AreRectsWithin farthest slabs → Sheet letter 0 0 slabs
+  rest-sheet : (letter : Bool) (rects slabs : List Rect) → AreRest parts owners zones sides colours inks letter rects
+      → AreSlabsOf (Covers rects) slabs → AreRectsWithin farthest slabs → Sheet letter 0 0 slabs
   rest-sheet letter rects slabs h s w = record {
     scattered = record { solid = s.canonical.solid; follow = λ i j d l j_in. inl (s.canonical.follow i j d l j_in) };
     covers = λ p. (λ x. (rest-covers letter rects h p).0 ((s.covers p).0 x), λ x. (s.covers p).1 ((rest-covers letter rects h p).1 x));
     within = w;
   }
 
-  done-ink : (f : ℕ) (i : Ink) → ink_at inks f ≡ i → IsInk (length owners) owners colours wholes f i → (k : ℕ) → k < length parts → owner k ≡ f → IsDone owners wholes inks (length parts) (length wholes) f
+  done-ink : (f : ℕ) (i : Ink) → ink_at inks f ≡ i → IsInk (length owners) owners colours wholes f i → (k : ℕ) → k < length parts
+      → owner k ≡ f → IsDone owners wholes inks (length parts) (length wholes) f
   done-ink f Uncut e h k k_in own = inr (inl (k, k_in, own, subst IsUncut (sym e) tt))
   done-ink f Blank e h k k_in own = inl (subst IsMixed (sym e) tt)
   done-ink f (One l) e h k k_in own = (let (w, (i, i_in, is), w_is) = h.0 in inr (inr (i, w, i_in, i_in, is, w_is, subst IsOne (sym e) tt)))
@@ -443,31 +488,41 @@ pub piece-put : (i j : Ink) (l m : Bool) (s t a b a2 b2 : List Rect) → i ≡ j
 piece-put i j l m s t a b a2 b2 e f g h = subst (λ x. PutsUncut x m t a b a2 b2) e (subst (λ x. PutsUncut i x t a b a2 b2) f (subst (λ x. PutsUncut i l x a b a2 b2) g h))
 
 -- the numbers of features are known
-pub owners-known : (features parts : List (List Rect)) (owners : List ℕ) (zones : List Zone) (wholes : List Whole) (count : ℕ) → LieIn features parts owners zones wholes → length features ≡ count → All (λ k. k < count) owners
+pub owners-known : (features parts : List (List Rect)) (owners : List ℕ) (zones : List Zone) (wholes : List Whole) (count : ℕ)
+    → LieIn features parts owners zones wholes → length features ≡ count → All (λ k. k < count) owners
 owners-known features parts owners zones wholes count lie each k d k_in =
     let same = zip-length (IsOwner features) parts owners lie.owned in
     let below = (zip-at (IsOwner features) parts owners k [] d lie.owned (omega (arith, same, k_in))).0 in
     omega (arith, below, each)
 
-pub zones-known : (features parts : List (List Rect)) (owners : List ℕ) (zones : List Zone) (wholes : List Whole) (count : ℕ) → LieIn features parts owners zones wholes → length features ≡ count → All (λ z. z.feature < count) zones
+pub zones-known : (features parts : List (List Rect)) (owners : List ℕ) (zones : List Zone) (wholes : List Whole) (count : ℕ)
+    → LieIn features parts owners zones wholes → length features ≡ count → All (λ z. z.feature < count) zones
 zones-known features parts owners zones wholes count lie each k d k_in = let below = (lie.zoned k d k_in).0 in omega (arith, below, each)
 
-pub wholes-known : (features parts : List (List Rect)) (owners : List ℕ) (zones : List Zone) (wholes : List Whole) (count : ℕ) → LieIn features parts owners zones wholes → length features ≡ count → All (λ w. w.feature < count) wholes
+pub wholes-known : (features parts : List (List Rect)) (owners : List ℕ) (zones : List Zone) (wholes : List Whole) (count : ℕ)
+    → LieIn features parts owners zones wholes → length features ≡ count → All (λ w. w.feature < count) wholes
 wholes-known features parts owners zones wholes count lie each k d k_in = let below = (lie.cut k d k_in).0 in omega (arith, below, each)
 
 module _ (parts : List (List Rect)) (owners : List ℕ) (zones : List Zone) (sides : List (ℕ × ℕ)) (wholes : List Whole) (colours : List Bool) (inks : List Ink) where
-  pub sheets-piece : (k : ℕ) (a b a2 b2 : List Rect) → k < length parts → AreSheets parts owners zones sides wholes colours inks k 0 a b → PutsUncut (ink_at inks (get_or owners k 0)) (colour_at colours k) (get_or parts k []) a b a2 b2 → AreSheets parts owners zones sides wholes colours inks (k + 1) 0 a2 b2
+  pub sheets-piece : (k : ℕ) (a b a2 b2 : List Rect) → k < length parts → AreSheets parts owners zones sides wholes colours inks k 0 a b
+      → PutsUncut (ink_at inks (get_or owners k 0)) (colour_at colours k) (get_or parts k []) a b a2 b2
+      → AreSheets parts owners zones sides wholes colours inks (k + 1) 0 a2 b2
   sheets-piece k a b a2 b2 k_in s puts =
       let step = piece-step s.features parts owners zones sides wholes colours inks s.facts k k_in a b a2 b2 s.first s.second puts in
       record { features = s.features; facts = s.facts; first = step.0; second = step.1 }
 
-  pub sheets-whole : (n k : ℕ) (w : Whole) (a b a2 b2 : List Rect) → k < length wholes → get_or wholes k w ≡ w → IsCanonical w.set → AreRectsWithin farthest w.set → AreSheets parts owners zones sides wholes colours inks n k a b → PutsOne (ink_at inks w.feature) w.set a b a2 b2 → AreSheets parts owners zones sides wholes colours inks n (k + 1) a2 b2
+  pub sheets-whole : (n k : ℕ) (w : Whole) (a b a2 b2 : List Rect) → k < length wholes → get_or wholes k w ≡ w → IsCanonical w.set
+      → AreRectsWithin farthest w.set → AreSheets parts owners zones sides wholes colours inks n k a b
+      → PutsOne (ink_at inks w.feature) w.set a b a2 b2 → AreSheets parts owners zones sides wholes colours inks n (k + 1) a2 b2
   sheets-whole n k w a b a2 b2 k_in w_is canonical within s puts =
       let step = whole-step s.features parts owners zones sides wholes colours inks s.facts n k w k_in w_is canonical within a b a2 b2 s.first s.second puts in
       record { features = s.features; facts = s.facts; first = step.0; second = step.1 }
 
-  pub sheets-united : (features : List (List Rect)) (a b a2 b2 : List Rect) → AreKnown features parts owners zones sides wholes colours inks → AreRest parts owners zones sides colours inks false a → AreRest parts owners zones sides colours inks true b
-      → AreSlabsOf (Covers a) a2 → AreSlabsOf (Covers b) b2 → AreRectsWithin farthest a2 → AreRectsWithin farthest b2 → AreSheets parts owners zones sides wholes colours inks 0 0 a2 b2
+  pub sheets-united : (features : List (List Rect)) (a b a2 b2 : List Rect)
+      → AreKnown features parts owners zones sides wholes colours inks → AreRest parts owners zones sides colours inks false a
+      → AreRest parts owners zones sides colours inks true b
+      → AreSlabsOf (Covers a) a2 → AreSlabsOf (Covers b) b2 → AreRectsWithin farthest a2 → AreRectsWithin farthest b2
+      → AreSheets parts owners zones sides wholes colours inks 0 0 a2 b2
   sheets-united features a b a2 b2 known f g s t v w = record {
     features = features;
     facts = known;
@@ -475,8 +530,10 @@ module _ (parts : List (List Rect)) (owners : List ℕ) (zones : List Zone) (sid
     second = rest-sheet features parts owners zones sides wholes colours inks known true b b2 g t w;
   }
 
-  pub first-slabs : (a b slabs : List Rect) → AreSheets parts owners zones sides wholes colours inks (length parts) (length wholes) a b → AreSlabsOf (Covers a) slabs → AreSlabsOf (on_mask parts zones sides colours false) slabs
+  pub first-slabs : (a b slabs : List Rect) → AreSheets parts owners zones sides wholes colours inks (length parts) (length wholes) a b
+      → AreSlabsOf (Covers a) slabs → AreSlabsOf (on_mask parts zones sides colours false) slabs
   first-slabs a b slabs s t = sheet-slabs s.features parts owners zones sides wholes colours inks s.facts false a slabs s.first t
 
-  pub second-slabs : (a b slabs : List Rect) → AreSheets parts owners zones sides wholes colours inks (length parts) (length wholes) a b → AreSlabsOf (Covers b) slabs → AreSlabsOf (on_mask parts zones sides colours true) slabs
+  pub second-slabs : (a b slabs : List Rect) → AreSheets parts owners zones sides wholes colours inks (length parts) (length wholes) a b
+      → AreSlabsOf (Covers b) slabs → AreSlabsOf (on_mask parts zones sides colours true) slabs
   second-slabs a b slabs s t = sheet-slabs s.features parts owners zones sides wholes colours inks s.facts true b slabs s.second t

@@ -57,4 +57,5 @@ AreInks count owners colours wholes inks = AreInksTo (length owners) count owner
 
 -- features are noted of the first n that were cut
 abbrev pub AreNotedTo : ℕ → List Whole → List Ink → Type 0
-AreNotedTo n wholes inks = (f : ℕ) → f < length inks → ((ink_at inks f ≡ Blank) × HasWhole wholes f) ⊎ ((ink_at inks f ≡ Uncut) × ((k : ℕ) (w : Whole) → k < n → k < length wholes → slice_index_or wholes k w ≡ w → w.feature ≡ f → ⊥))
+AreNotedTo n wholes inks = (f : ℕ) → f < length inks → ((ink_at inks f ≡ Blank) × HasWhole wholes f)
+    ⊎ ((ink_at inks f ≡ Uncut) × ((k : ℕ) (w : Whole) → k < n → k < length wholes → slice_index_or wholes k w ≡ w → w.feature ≡ f → ⊥))

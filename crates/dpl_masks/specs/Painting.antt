@@ -25,4 +25,5 @@ Adds old new added = (p : Pt) → Covers new p ↔ (Covers old p ⊎ added p)
 -- those of the first n zones whose sides differ
 pub record AreFirstStitches (n : ℕ) (sides : List (ℕ × ℕ)) (colours : List Bool) (stitches : List ℕ) : Type 0 where
   pub ordered : AllPairs (λ i j. i < j) stitches
-  pub exactly : (k : ℕ) → Contains stitches k ↔ ((side : ℕ × ℕ) × (k < n) × (slice_index_or sides k side ≡ side) × (differ (colour_at colours side.0) (colour_at colours side.1) ≡ true))
+  pub exactly : (k : ℕ) → Contains stitches k ↔ ((side : ℕ × ℕ) × (k < n) × (slice_index_or sides k side ≡ side)
+      × (differ (colour_at colours side.0) (colour_at colours side.1) ≡ true))

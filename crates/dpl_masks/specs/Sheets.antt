@@ -29,7 +29,8 @@ PutsUncut ink letter slabs old_a old_b new_a new_b = (IsUncut ink × Puts letter
 
 -- a feature was put, if it lies on one mask
 abbrev pub PutsOne : Ink → List Rect → List Rect → List Rect → List Rect → List Rect → Type 0
-PutsOne ink slabs old_a old_b new_a new_b = ((letter : Mask) × (ink ≡ One letter) × Puts (is_second letter) slabs old_a old_b new_a new_b) ⊎ (¬ IsOne ink × (new_a ≡ old_a) × (new_b ≡ old_b))
+PutsOne ink slabs old_a old_b new_a new_b = ((letter : Mask) × (ink ≡ One letter) × Puts (is_second letter) slabs old_a old_b new_a new_b)
+    ⊎ (¬ IsOne ink × (new_a ≡ old_a) × (new_b ≡ old_b))
 
 -- the squares of some of the features
 abbrev pub in_some : List (List Rect) → (ℕ → Type 0) → Region
@@ -42,7 +43,8 @@ pub record IsSheet (features : List (List Rect)) (mask : Region) (done : ℕ →
   pub within : AreRectsWithin farthest out
 
 -- pieces and zones of features, the features that were cut, and on which masks features lie
-pub record AreKnown (features parts : List (List Rect)) (owners : List ℕ) (zones : List Zone) (sides : List (ℕ × ℕ)) (wholes : List Whole) (colours : List Bool) (inks : List Ink) : Type 0 where
+pub record AreKnown (features parts : List (List Rect)) (owners : List ℕ) (zones : List Zone) (sides : List (ℕ × ℕ)) (wholes : List Whole)
+    (colours : List Bool) (inks : List Ink) : Type 0 where
   pub apart : AreParts parts
   pub lie : LieIn features parts owners zones wholes
   pub own : AllZip (AreOwnSides owners) zones sides
@@ -57,7 +59,8 @@ IsDone owners wholes inks n m f =
     ⊎ ((k : ℕ) × (w : Whole) × (k < m) × (k < length wholes) × (slice_index_or wholes k w ≡ w) × (w.feature ≡ f) × IsOne (ink_at inks f)))
 
 -- both masks with all that is done
-pub record AreSheets (parts : List (List Rect)) (owners : List ℕ) (zones : List Zone) (sides : List (ℕ × ℕ)) (wholes : List Whole) (colours : List Bool) (inks : List Ink) (n m : ℕ) (a b : List Rect) : Type 0 where
+pub record AreSheets (parts : List (List Rect)) (owners : List ℕ) (zones : List Zone) (sides : List (ℕ × ℕ)) (wholes : List Whole)
+    (colours : List Bool) (inks : List Ink) (n m : ℕ) (a b : List Rect) : Type 0 where
   pub features : List (List Rect)
   pub facts : AreKnown features parts owners zones sides wholes colours inks
   pub first : IsSheet features (on_mask parts zones sides colours false) (IsDone owners wholes inks n m) a
@@ -65,14 +68,17 @@ pub record AreSheets (parts : List (List Rect)) (owners : List ℕ) (zones : Lis
 
 -- the squares of those of the first n pieces that have the letter and lie in features on both masks
 abbrev pub rest_pieces : ℕ → List (List Rect) → List ℕ → List Bool → List Ink → Bool → Region
-rest_pieces n parts owners colours inks letter p = (k : ℕ) × (k < n) × (k < length parts) × (colour_at colours k ≡ letter) × IsMixed (ink_at inks (slice_index owners k)) × part_at parts k p
+rest_pieces n parts owners colours inks letter p = (k : ℕ) × (k < n) × (k < length parts) × (colour_at colours k ≡ letter)
+    × IsMixed (ink_at inks (slice_index owners k)) × part_at parts k p
 
 -- the same of zones with a side of the letter
 abbrev pub rest_zones : ℕ → List Zone → List (ℕ × ℕ) → List Bool → List Ink → Bool → Region
 rest_zones n zones sides colours inks letter p =
-    (k : ℕ) × (z : Zone) × (side : ℕ × ℕ) × (k < n) × (k < length zones) × (slice_index_or zones k z ≡ z) × (slice_index_or sides k side ≡ side) × IsEither colours side letter × IsMixed (ink_at inks z.feature) × Has z.rect p
+    (k : ℕ) × (z : Zone) × (side : ℕ × ℕ) × (k < n) × (k < length zones) × (slice_index_or zones k z ≡ z)
+    × (slice_index_or sides k side ≡ side) × IsEither colours side letter × IsMixed (ink_at inks z.feature) × Has z.rect p
 
 -- rectangles with what the features on both masks have on one
-pub record AreRest (parts : List (List Rect)) (owners : List ℕ) (zones : List Zone) (sides : List (ℕ × ℕ)) (colours : List Bool) (inks : List Ink) (letter : Bool) (rects : List Rect) : Type 0 where
+pub record AreRest (parts : List (List Rect)) (owners : List ℕ) (zones : List Zone) (sides : List (ℕ × ℕ)) (colours : List Bool)
+    (inks : List Ink) (letter : Bool) (rects : List Rect) : Type 0 where
   pub covers : (p : Pt) → Covers rects p ↔ (rest_zones (length zones) zones sides colours inks letter p ⊎ rest_pieces (length parts) parts owners colours inks letter p)
   pub within : AreRectsWithin farthest rects

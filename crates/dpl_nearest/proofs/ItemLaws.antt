@@ -68,14 +68,16 @@ missed-far : (rule : ℕ) (owners : Owners) (slab window : Rect) (item : Item) �
 missed-far rule owners slab window item wide (inl h) = inr (λ near. apart-far rule slab window item.rect wide h near)
 missed-far rule owners slab window item wide (inr out) = inl out
 
-pub item-near : (rule : ℕ) (owners : Owners) (r : Rect) (items : List Item) (s : Rect) (k : ℕ) → HasItem items s k → IsSought owners k → AreNear rule (Has r) (Has s) → AreNear rule (Has r) (ItemCovers owners items)
+pub item-near : (rule : ℕ) (owners : Owners) (r : Rect) (items : List Item) (s : Rect) (k : ℕ) → HasItem items s k → IsSought owners k
+    → AreNear rule (Has r) (Has s) → AreNear rule (Has r) (ItemCovers owners items)
 item-near rule owners r items s k item sought (p, q, a, b, near) = (p, q, a, (s, k, item, sought, b), near)
 
 -- the first n items are far, and so is each square of one that is sought
 abbrev pub AreFarFrom : ℕ → Owners → Rect → List Item → ℕ → Type 0
 AreFarFrom rule owners r items n = (j : ℕ) (d : Item) → j < n → j < length items → IsFar rule owners r (get_or items j d)
 
-pub none-near : (rule : ℕ) (owners : Owners) (r : Rect) (items : List Item) (n : ℕ) → length items ≤ n → AreFarFrom rule owners r items n → AreNear rule (Has r) (ItemCovers owners items) → ⊥
+pub none-near : (rule : ℕ) (owners : Owners) (r : Rect) (items : List Item) (n : ℕ) → length items ≤ n → AreFarFrom rule owners r items n
+    → AreNear rule (Has r) (ItemCovers owners items) → ⊥
 none-near rule owners r items n all far (p, q, a, (s, k, (item, (j, j_in, is), rect, own), sought, b), near) =
     elim (subst (λ t. IsFar rule owners r t) is (far j item (omega (arith, all, j_in)) j_in)) [
       | inl out ↦ left-out owners item.owner out (subst (λ m. IsSought owners m) (sym own) sought)
@@ -106,11 +108,13 @@ least-beside rule a b c (Some m) to from least =
       first = λ q (q_in, (u, u_in, near)). least.first q (q_in, (u, from u u_in, near));
     }
 
-pub far-first : (rule : ℕ) (owners : Owners) (r window : Rect) (items : List Item) (next : ℕ) → IsWidened r rule window → ArePassed window owners items 0 next → AreFarFrom rule owners r items next
+pub far-first : (rule : ℕ) (owners : Owners) (r window : Rect) (items : List Item) (next : ℕ) → IsWidened r rule window
+    → ArePassed window owners items 0 next → AreFarFrom rule owners r items next
 far-first rule owners r window items next wide passed j d l j_in = missed-far rule owners r window (get_or items j d) wide (passed j d (omega arith) l j_in)
 
 -- item number n isn't near, and the search goes past those up to the next
-pub far-more : (rule : ℕ) (owners : Owners) (r window : Rect) (items : List Item) (n next : ℕ) (e : Item) → IsWidened r rule window → n < length items → AreFarFrom rule owners r items n
+pub far-more : (rule : ℕ) (owners : Owners) (r window : Rect) (items : List Item) (n next : ℕ) (e : Item) → IsWidened r rule window
+    → n < length items → AreFarFrom rule owners r items n
     → (AreNear rule (Has r) (Has (get_or items n e).rect) → ⊥) → ArePassed window owners items (n + 1) next → AreFarFrom rule owners r items next
 far-more rule owners r window items n next e wide n_in before here passed j d l j_in = elim (cases_order j n) [
   | inr (inl less) ↦ before j d less j_in

@@ -69,7 +69,9 @@ pub least_square_in : (rule : ℕ) (r row : Rect) (b : Region) (x y : ℤ) → r
     → (AreNear rule (Has (rows_below r y)) b → ⊥)
     → IsLeast (near_part rule (Has r) b) (at x y)
 least_square_in rule r row b x y e low high =
-    let P : Rect → Type 0 = λ (u : Rect). u.x0 ≤ℤ x → x <ℤ u.x1 → AreNear rule (Has (column_at u x)) b → (AreNear rule (Has (columns_left u x)) b → ⊥) → (AreNear rule (Has (rows_below r y)) b → ⊥) → IsLeast (near_part rule (Has r) b) (at x y) in
+    let P : Rect → Type 0 = λ (u : Rect). u.x0 ≤ℤ x → x <ℤ u.x1 → AreNear rule (Has (column_at u x)) b
+    → (AreNear rule (Has (columns_left u x)) b → ⊥) → (AreNear rule (Has (rows_below r y)) b → ⊥)
+    → IsLeast (near_part rule (Has r) b) (at x y) in
     subst P (sym e) (λ left right near first none. least_square rule r b x y low high left right near first none)
 
 pub Precedes-trans : (p q r : Pt) → Precedes p q → Precedes q r → Precedes p r
@@ -151,7 +153,8 @@ least_same rule a b c (Some m) to from least = record {
   first = λ q (q_in, near). least.first q (from q q_in, near);
 }
 
-pub least_whole : (rule : ℕ) (rs : List Rect) (b : Region) (n : ℕ) (old : Option Pt) → length rs ≤ n → IsLeastNear rule (CoversFirst n rs) b old → IsLeastNear rule (Covers rs) b old
+pub least_whole : (rule : ℕ) (rs : List Rect) (b : Region) (n : ℕ) (old : Option Pt) → length rs ≤ n
+    → IsLeastNear rule (CoversFirst n rs) b old → IsLeastNear rule (Covers rs) b old
 least_whole rule rs b n old all = least_same rule (CoversFirst n rs) b (Covers rs) old
     (λ p (k, s, k_low, k_in, k_is, h). (k, s, k_in, k_is, h))
     (λ p (k, s, k_in, k_is, h). (k, s, omega (arith, all, k_in), k_in, k_is, h))

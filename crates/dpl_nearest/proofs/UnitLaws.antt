@@ -56,7 +56,8 @@ has_partner rule a b p u e least =
     let near = least.inside.1 in
     (near.0, p, near.1, covers_self p u e, subst (λ n. n < rule * rule) (d2-sym p near.0) near.2)
 
-pub nearest_pair : (rule : ℕ) (a b : Region) (p t : Pt) (u : Rect) → u ≡ unit_of p → IsLeast (near_part rule a b) p → IsLeast (near_part rule b (Covers (u ∷ []))) t → IsNearestPair rule a b p t
+pub nearest_pair : (rule : ℕ) (a b : Region) (p t : Pt) (u : Rect) → u ≡ unit_of p → IsLeast (near_part rule a b) p
+    → IsLeast (near_part rule b (Covers (u ∷ []))) t → IsNearestPair rule a b p t
 nearest_pair rule a b p t u e from to =
     let near = to.inside.1 in
     let is : near.0 ≡ p = covers_only p u near.0 e near.1 in

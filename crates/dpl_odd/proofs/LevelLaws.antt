@@ -25,13 +25,15 @@ not-after_trans roots e f g (inr (a, p)) (inl b) = inl (omega arith)
 not-after_trans roots e f g (inr (a, p)) (inr (b, q)) = inr (a ∙ b, same_or_before e f g p q)
 
 -- what holds of the first edges and of the next
-next_edge : (edges : List (ℕ × ℕ)) (P : ℕ × ℕ → Type 0) (n : ℕ) (e : ℕ × ℕ) → edge_at edges n ≡ e → ((k : ℕ) → k < n → P (edge_at edges k)) → P e → (k : ℕ) → k < n + 1 → P (edge_at edges k)
+next_edge : (edges : List (ℕ × ℕ)) (P : ℕ × ℕ → Type 0) (n : ℕ) (e : ℕ × ℕ) → edge_at edges n ≡ e → ((k : ℕ) → k < n → P (edge_at edges k))
+    → P e → (k : ℕ) → k < n + 1 → P (edge_at edges k)
 next_edge edges P n e is all h k l = elim (cases_eq k n) [
   | inl same ↦ subst P (sym (ap (λ j. edge_at edges j) same ∙ is)) h
   | inr ne ↦ all k (omega (arith, l, ne))
 ]
 
-step_slanted : (roots levels : List ℕ) (edges : List (ℕ × ℕ)) (n : ℕ) (e : ℕ × ℕ) → edge_at edges n ≡ e → (IsLevel levels e → ⊥) → (old : Option (ℕ × ℕ)) → IsLeastLevel roots levels edges n old → IsLeastLevel roots levels edges (n + 1) old
+step_slanted : (roots levels : List ℕ) (edges : List (ℕ × ℕ)) (n : ℕ) (e : ℕ × ℕ) → edge_at edges n ≡ e → (IsLevel levels e → ⊥)
+    → (old : Option (ℕ × ℕ)) → IsLeastLevel roots levels edges n old → IsLeastLevel roots levels edges (n + 1) old
 step_slanted roots levels edges n e is ne None h = next_edge edges (λ x. IsLevel levels x → ⊥) n e is h ne
 step_slanted roots levels edges n e is ne (Some f) h = record {
   member = (let (k, l, at) = h.member in (k, omega (arith, l), at));
@@ -42,7 +44,8 @@ step_slanted roots levels edges n e is ne (Some f) h = record {
 itself : (roots : List ℕ) (e : ℕ × ℕ) → IsNotAfter roots e e
 itself roots e = inr (refl, inl refl)
 
-pub level-step : (roots levels : List ℕ) (edges : List (ℕ × ℕ)) (n : ℕ) (e : ℕ × ℕ) {old new : Option (ℕ × ℕ)} → edge_at edges n ≡ e → IsLesser roots levels e old new → IsLeastLevel roots levels edges n old → IsLeastLevel roots levels edges (n + 1) new
+pub level-step : (roots levels : List ℕ) (edges : List (ℕ × ℕ)) (n : ℕ) (e : ℕ × ℕ) {old new : Option (ℕ × ℕ)} → edge_at edges n ≡ e
+    → IsLesser roots levels e old new → IsLeastLevel roots levels edges n old → IsLeastLevel roots levels edges (n + 1) new
 level-step roots levels edges n e is (slanted {old = old} ne) h = step_slanted roots levels edges n e is ne old h
 level-step roots levels edges n e is (first same) h = record {
   member = (n, omega arith, is);
@@ -57,11 +60,13 @@ level-step roots levels edges n e is (older {f = f} same before) h = record {
 level-step roots levels edges n e is (newer {f = f} same before) h = record {
   member = (n, omega arith, is);
   level = same;
-  least = next_edge edges (λ x. IsLevel levels x → IsNotAfter roots e x) n e is (λ k l level. not-after_trans roots e f (edge_at edges k) before (h.least k l level)) (λ level. itself roots e);
+  least = next_edge edges (λ x. IsLevel levels x → IsNotAfter roots e x) n e is
+      (λ k l level. not-after_trans roots e f (edge_at edges k) before (h.least k l level)) (λ level. itself roots e);
 }
 
 -- the least edge so far is one of two
-pub lesser-inside : (roots levels : List ℕ) (n : ℕ) (e : ℕ × ℕ) {old new : Option (ℕ × ℕ)} → IsLesser roots levels e old new → e.0 < n → IfSome old (λ f. f.0 < n) → IfSome new (λ f. f.0 < n)
+pub lesser-inside : (roots levels : List ℕ) (n : ℕ) (e : ℕ × ℕ) {old new : Option (ℕ × ℕ)} → IsLesser roots levels e old new → e.0 < n
+    → IfSome old (λ f. f.0 < n) → IfSome new (λ f. f.0 < n)
 lesser-inside roots levels n e (slanted ne) l h = h
 lesser-inside roots levels n e (first same) l h = l
 lesser-inside roots levels n e (older same before) l h = h

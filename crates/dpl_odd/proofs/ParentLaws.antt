@@ -9,13 +9,16 @@ use Rattle.dpl_odd.specs.Paths.{edge_at, AreLowest, IsLowered, stays, falls}
 abbrev pub with_arc : Graph → ℕ → ℕ → Graph
 with_arc joined child other u v = joined u v ⊎ ((u ≡ child) × (v ≡ other))
 
-arc_stays : (joined : Graph) (n : ℕ) (levels : List ℕ) (child other : ℕ) (old : List ℕ) → AreLowest joined n levels old → (get_or levels other 0 < get_or levels child 0 → get_or old child 0 ≤ other) → AreLowest (with_arc joined child other) n levels old
+arc_stays : (joined : Graph) (n : ℕ) (levels : List ℕ) (child other : ℕ) (old : List ℕ) → AreLowest joined n levels old
+    → (get_or levels other 0 < get_or levels child 0 → get_or old child 0 ≤ other) → AreLowest (with_arc joined child other) n levels old
 arc_stays joined n levels child other old h low = record {
   as_many = h.as_many;
   least = λ u v l arc down. elim arc [
     | inl e ↦ h.least u v l e down
     | inr (a, b) ↦
-        let down_too : get_or levels other 0 < get_or levels child 0 = let f : get_or levels v 0 ≡ get_or levels other 0 = ap (λ x. get_or levels x 0) b in let g : get_or levels u 0 ≡ get_or levels child 0 = ap (λ x. get_or levels x 0) a in omega (arith, f, g, down) in
+        let down_too : get_or levels other 0 < get_or levels child 0 = let f : get_or levels v 0 ≡ get_or levels other 0 = ap
+        (λ x. get_or levels x 0) b in let g : get_or levels u 0 ≡ get_or levels child 0 = ap (λ x. get_or levels x 0) a in
+        omega (arith, f, g, down) in
         let same : get_or old u 0 ≡ get_or old child 0 = ap (λ x. get_or old x 0) a in
         let m = low down_too in
         omega (arith, same, b, m)
@@ -26,7 +29,9 @@ arc_stays joined n levels child other old h low = record {
   ];
 }
 
-arc_falls : (joined : Graph) (n : ℕ) (levels : List ℕ) (child other : ℕ) (old new : List ℕ) → AreLowest joined n levels old → child < n → new ≡ set old child other → get_or levels other 0 < get_or levels child 0 → other < get_or old child 0 → AreLowest (with_arc joined child other) n levels new
+arc_falls : (joined : Graph) (n : ℕ) (levels : List ℕ) (child other : ℕ) (old new : List ℕ) → AreLowest joined n levels old → child < n
+    → new ≡ set old child other → get_or levels other 0 < get_or levels child 0 → other < get_or old child 0
+    → AreLowest (with_arc joined child other) n levels new
 arc_falls joined n levels child other old new h child_in is down less =
     let as_many = h.as_many in
     let at : get_or new child 0 ≡ other = ap (λ xs. get_or xs child 0) is ∙ get_or-set_same old child other 0 (omega (arith, as_many, child_in)) in
@@ -62,15 +67,18 @@ arc_falls joined n levels child other old new h child_in is down less =
       ];
     }
 
-pub arc-lowered : (joined : Graph) (n : ℕ) (levels : List ℕ) (child other : ℕ) (old new : List ℕ) → AreLowest joined n levels old → child < n → IsLowered levels child other old new → AreLowest (with_arc joined child other) n levels new
-arc-lowered joined n levels child other old new h child_in (stays is low) = subst (λ xs. AreLowest (with_arc joined child other) n levels xs) (sym is) (arc_stays joined n levels child other old h low)
+pub arc-lowered : (joined : Graph) (n : ℕ) (levels : List ℕ) (child other : ℕ) (old new : List ℕ) → AreLowest joined n levels old
+    → child < n → IsLowered levels child other old new → AreLowest (with_arc joined child other) n levels new
+arc-lowered joined n levels child other old new h child_in (stays is low) = subst
+    (λ xs. AreLowest (with_arc joined child other) n levels xs) (sym is) (arc_stays joined n levels child other old h low)
 arc-lowered joined n levels child other old new h child_in (falls is down less) = arc_falls joined n levels child other old new h child_in is down less
 
 pub lowered-length : (levels : List ℕ) (child other : ℕ) (old new : List ℕ) → IsLowered levels child other old new → length new ≡ length old
 lowered-length levels child other old new (stays is low) = ap (λ xs. let ys : List ℕ = xs in length ys) is
 lowered-length levels child other old new (falls is down less) = ap (λ xs. let ys : List ℕ = xs in length ys) is ∙ length-set old child other
 
-pub lowest-as : (joined same : Graph) (n : ℕ) (levels parents : List ℕ) → ((u v : ℕ) → joined u v → same u v) → ((u v : ℕ) → same u v → joined u v) → AreLowest joined n levels parents → AreLowest same n levels parents
+pub lowest-as : (joined same : Graph) (n : ℕ) (levels parents : List ℕ) → ((u v : ℕ) → joined u v → same u v)
+    → ((u v : ℕ) → same u v → joined u v) → AreLowest joined n levels parents → AreLowest same n levels parents
 lowest-as joined same n levels parents into back h = record {
   as_many = h.as_many;
   least = λ u v l e down. h.least u v l (back u v e) down;
@@ -107,7 +115,9 @@ fewer_edges edges i a b is u v (k, l, e) = elim (cases_eq k i) [
       ]
 ]
 
-pub lowest-step : (edges : List (ℕ × ℕ)) (n i a b : ℕ) (levels old mid new : List ℕ) → edge_at edges i ≡ (a, b) → a < n → b < n → AreLowest (first_edges edges i) n levels old → IsLowered levels a b old mid → IsLowered levels b a mid new → AreLowest (first_edges edges (i + 1)) n levels new
+pub lowest-step : (edges : List (ℕ × ℕ)) (n i a b : ℕ) (levels old mid new : List ℕ) → edge_at edges i ≡ (a, b) → a < n → b < n
+    → AreLowest (first_edges edges i) n levels old → IsLowered levels a b old mid → IsLowered levels b a mid new
+    → AreLowest (first_edges edges (i + 1)) n levels new
 lowest-step edges n i a b levels old mid new is a_in b_in h first second =
     lowest-as (with_arc (with_arc (first_edges edges i) a b) b a) (first_edges edges (i + 1)) n levels new (more_edges edges i a b is) (fewer_edges edges i a b is)
     (arc-lowered (with_arc (first_edges edges i) a b) n levels b a mid new (arc-lowered (first_edges edges i) n levels a b old mid h a_in first) b_in second)
@@ -120,7 +130,8 @@ from_graph : (edges : List (ℕ × ℕ)) (u v : ℕ) → graph_of edges u v → 
 from_graph edges u v (inl (k, l, e)) = (k, l, inl (get_or_default edges k (0, 0) (u, v) l ∙ e))
 from_graph edges u v (inr (k, l, e)) = (k, l, inr (get_or_default edges k (0, 0) (v, u) l ∙ e))
 
-pub lowest-all : (edges : List (ℕ × ℕ)) (n : ℕ) (levels parents : List ℕ) → AreLowest (first_edges edges (length edges)) n levels parents → AreLowest (graph_of edges) n levels parents
+pub lowest-all : (edges : List (ℕ × ℕ)) (n : ℕ) (levels parents : List ℕ) → AreLowest (first_edges edges (length edges)) n levels parents
+    → AreLowest (graph_of edges) n levels parents
 lowest-all edges n levels parents h = lowest-as (first_edges edges (length edges)) (graph_of edges) n levels parents (into_graph edges) (from_graph edges) h
 
 -- a slice of all items, put back

@@ -16,7 +16,8 @@ pub data Way (parents : List ℕ) (top v : ℕ) (us : List ℕ) : Type 0 where
 
 way_on : (parents : List ℕ) (top v next : ℕ) (us us' : List ℕ) → Way parents top v us → get_or parents top 0 ≡ next → us' ≡ us ++ top ∷ [] → Way parents next v us'
 way_on parents top v next us us' (none empty here) is longer =
-    some (subst (λ xs. IsPathTo parents next v xs) (sym (longer ∙ ap (λ xs. let ys : List ℕ = xs in ys ++ top ∷ []) empty)) (subst (λ x. IsPathTo parents next v (x ∷ [])) (sym here) (last (ap (λ x. get_or parents x 0) (sym here) ∙ is))))
+    some (subst (λ xs. IsPathTo parents next v xs) (sym (longer ∙ ap (λ xs. let ys : List ℕ = xs in ys ++ top ∷ []) empty))
+    (subst (λ x. IsPathTo parents next v (x ∷ [])) (sym here) (last (ap (λ x. get_or parents x 0) (sym here) ∙ is))))
 way_on parents top v next us us' (some p) is longer = some (subst (λ xs. IsPathTo parents next v xs) (sym longer) (path_snoc parents next p is))
 
 pub record IsClimbing (n : ℕ) (roots levels parents : List ℕ) (u v top other : ℕ) (us vs : List ℕ) : Type 0 where
@@ -30,7 +31,8 @@ pub record IsClimbing (n : ℕ) (roots levels parents : List ℕ) (u v top other
   pub first : Way parents top u us
   pub second : Way parents other v vs
 
-pub climb-start : (n : ℕ) (roots levels parents : List ℕ) (u v : ℕ) (us vs : List ℕ) → u < n → v < n → get_or roots u 0 ≡ get_or roots v 0 → get_or levels u 0 ≡ get_or levels v 0 → us ≡ [] → vs ≡ [] → IsClimbing n roots levels parents u v u v us vs
+pub climb-start : (n : ℕ) (roots levels parents : List ℕ) (u v : ℕ) (us vs : List ℕ) → u < n → v < n → get_or roots u 0 ≡ get_or roots v 0
+    → get_or levels u 0 ≡ get_or levels v 0 → us ≡ [] → vs ≡ [] → IsClimbing n roots levels parents u v u v us vs
 climb-start n roots levels parents u v us vs u_in v_in root level us_none vs_none =
     let us_len : length us ≡ 0 = ap (λ xs. let ys : List ℕ = xs in length ys) us_none in
     let vs_len : length vs ≡ 0 = ap (λ xs. let ys : List ℕ = xs in length ys) vs_none in
@@ -47,7 +49,8 @@ climb-start n roots levels parents u v us vs u_in v_in root level us_none vs_non
     }
 
 -- two numbers of one level that differ are no roots
-pub climb-high : (n : ℕ) (roots levels parents : List ℕ) (u v top other : ℕ) (us vs : List ℕ) → IsForest n roots levels parents → IsClimbing n roots levels parents u v top other us vs → top ≢ other → 0 < get_or levels top 0
+pub climb-high : (n : ℕ) (roots levels parents : List ℕ) (u v top other : ℕ) (us vs : List ℕ) → IsForest n roots levels parents
+    → IsClimbing n roots levels parents u v top other us vs → top ≢ other → 0 < get_or levels top 0
 climb-high n roots levels parents u v top other us vs f c ne = elim (cases_eq (get_or levels top 0) 0) [
   | inl ground_level ↦
       let also : get_or levels other 0 ≡ 0 = sym c.level ∙ ground_level in
@@ -64,7 +67,8 @@ longer_before us us' x k is l = ap (λ xs. get_or xs k 0) is ∙ get_or_append_l
 longer_last : (us us' : List ℕ) (x k : ℕ) → us' ≡ us ++ x ∷ [] → length us ≡ k → get_or us' k 0 ≡ x
 longer_last us us' x k is e = ap (λ xs. get_or xs k 0) is ∙ get_or_push us x 0 k e
 
-pub climb-step : (n : ℕ) (roots levels parents : List ℕ) (u v top other top' other' : ℕ) (us vs us' vs' : List ℕ) → IsForest n roots levels parents → IsClimbing n roots levels parents u v top other us vs → top ≢ other
+pub climb-step : (n : ℕ) (roots levels parents : List ℕ) (u v top other top' other' : ℕ) (us vs us' vs' : List ℕ)
+    → IsForest n roots levels parents → IsClimbing n roots levels parents u v top other us vs → top ≢ other
     → us' ≡ us ++ top ∷ [] → vs' ≡ vs ++ other ∷ [] → top' ≡ get_or parents top 0 → other' ≡ get_or parents other 0 → IsClimbing n roots levels parents u v top' other' us' vs'
 climb-step n roots levels parents u v top other top' other' us vs us' vs' f c ne us_is vs_is top_is other_is =
     let high = climb-high n roots levels parents u v top other us vs f c ne in
@@ -95,7 +99,8 @@ climb-step n roots levels parents u v top other top' other' us vs us' vs' f c ne
     }
 
 -- they have met
-closed_as : (levels parents : List ℕ) (u v top : ℕ) (us vs cycle : List ℕ) → IsPathTo parents top u us → IsPathTo parents top v vs → length us ≡ length vs → get_or levels top 0 + length us ≡ get_or levels u 0
+closed_as : (levels parents : List ℕ) (u v top : ℕ) (us vs cycle : List ℕ) → IsPathTo parents top u us → IsPathTo parents top v vs
+    → length us ≡ length vs → get_or levels top 0 + length us ≡ get_or levels u 0
     → ((k : ℕ) → k < length us → get_or us k 0 ≢ get_or vs k 0) → cycle ≡ top ∷ reverse us ++ vs → IsClosed levels parents u v cycle
 closed_as levels parents u v top us vs cycle first second meet height apart is = record {
   top = top;
@@ -109,16 +114,23 @@ closed_as levels parents u v top us vs cycle first second meet height apart is =
   is = is;
 }
 
-closed_ways : (levels parents : List ℕ) (u v top : ℕ) (us vs cycle : List ℕ) → u ≢ v → Way parents top u us → Way parents top v vs → length us ≡ length vs → get_or levels top 0 + length us ≡ get_or levels u 0
+closed_ways : (levels parents : List ℕ) (u v top : ℕ) (us vs cycle : List ℕ) → u ≢ v → Way parents top u us → Way parents top v vs
+    → length us ≡ length vs → get_or levels top 0 + length us ≡ get_or levels u 0
     → ((k : ℕ) → k < length us → get_or us k 0 ≢ get_or vs k 0) → cycle ≡ top ∷ reverse us ++ vs → IsClosed levels parents u v cycle
 closed_ways levels parents u v top us vs cycle ne (none a b) (none c d) meet height apart is = absurd (ne (sym b ∙ d))
-closed_ways levels parents u v top us vs cycle ne (none a b) (some (last e)) meet height apart is = absurd (let l : length us ≡ 0 = ap (λ xs. let ys : List ℕ = xs in length ys) a in omega (arith, meet, l))
-closed_ways levels parents u v top us vs cycle ne (none a b) (some (up e p)) meet height apart is = absurd (let l : length us ≡ 0 = ap (λ xs. let ys : List ℕ = xs in length ys) a in omega (arith, meet, l))
-closed_ways levels parents u v top us vs cycle ne (some (last e)) (none a b) meet height apart is = absurd (let l : length vs ≡ 0 = ap (λ xs. let ys : List ℕ = xs in length ys) a in omega (arith, meet, l))
-closed_ways levels parents u v top us vs cycle ne (some (up e p)) (none a b) meet height apart is = absurd (let l : length vs ≡ 0 = ap (λ xs. let ys : List ℕ = xs in length ys) a in omega (arith, meet, l))
+closed_ways levels parents u v top us vs cycle ne (none a b) (some (last e)) meet height apart is = absurd
+    (let l : length us ≡ 0 = ap (λ xs. let ys : List ℕ = xs in length ys) a in omega (arith, meet, l))
+closed_ways levels parents u v top us vs cycle ne (none a b) (some (up e p)) meet height apart is = absurd
+    (let l : length us ≡ 0 = ap (λ xs. let ys : List ℕ = xs in length ys) a in omega (arith, meet, l))
+closed_ways levels parents u v top us vs cycle ne (some (last e)) (none a b) meet height apart is = absurd
+    (let l : length vs ≡ 0 = ap (λ xs. let ys : List ℕ = xs in length ys) a in omega (arith, meet, l))
+closed_ways levels parents u v top us vs cycle ne (some (up e p)) (none a b) meet height apart is = absurd
+    (let l : length vs ≡ 0 = ap (λ xs. let ys : List ℕ = xs in length ys) a in omega (arith, meet, l))
 closed_ways levels parents u v top us vs cycle ne (some p) (some q) meet height apart is = closed_as levels parents u v top us vs cycle p q meet height apart is
 
-pub climb-end : (n : ℕ) (roots levels parents : List ℕ) (u v top other : ℕ) (us vs cycle : List ℕ) → u ≢ v → IsClimbing n roots levels parents u v top other us vs → top ≡ other → cycle ≡ reverse (us ++ top ∷ []) ++ vs → IsClosed levels parents u v cycle
+pub climb-end : (n : ℕ) (roots levels parents : List ℕ) (u v top other : ℕ) (us vs cycle : List ℕ) → u ≢ v
+    → IsClimbing n roots levels parents u v top other us vs → top ≡ other → cycle ≡ reverse (us ++ top ∷ []) ++ vs
+    → IsClosed levels parents u v cycle
 climb-end n roots levels parents u v top other us vs cycle ne c same is =
     closed_ways levels parents u v top us vs cycle ne c.first (subst (λ x. Way parents x v vs) (sym same) c.second) c.meet c.height c.apart
     (is ∙ ap (λ xs. let ys : List ℕ = xs in ys ++ vs) (reverse-append us (top ∷ [])))

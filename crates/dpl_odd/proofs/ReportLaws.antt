@@ -17,28 +17,33 @@ use Rattle.dpl_graph.proofs.OddLaws.{roots-show, reported-is_odd}
 use Rattle.dpl_odd.specs.Paths.{IsLevel, IsNotAfter, edge_at, IsLeastOf, IsLeastLevel, AreLowest, IsForest, IsPathTo, last, up, IsClosed}
 
 -- the root and the level of a number at some distance from its root
-placed : (edges : List (ℕ × ℕ)) (n : ℕ) (roots levels : List ℕ) → AreEdgesBelow n edges → AreLevels edges n roots levels → (root v m : ℕ) → v < n → IsRoot (graph_of edges) root root → IsDistance (graph_of edges) root v m → (get_or roots v 0 ≡ root) × (get_or levels v 0 ≡ m)
+placed : (edges : List (ℕ × ℕ)) (n : ℕ) (roots levels : List ℕ) → AreEdgesBelow n edges → AreLevels edges n roots levels → (root v m : ℕ)
+    → v < n → IsRoot (graph_of edges) root root → IsDistance (graph_of edges) root v m → (get_or roots v 0 ≡ root) × (get_or levels v 0 ≡ m)
 placed edges n roots levels b lv root v m v_in top a =
     let un = graph_of-undirected edges (below-ordered n edges b) in
     let is : IsRoot (graph_of edges) v root = root-along (graph_of edges) un root v root (m, a.walk) top in
     let same : get_or roots v 0 ≡ root = root-unique (graph_of edges) v (get_or roots v 0) root (lv.root v v_in) is in
     (same, distance-unique (graph_of edges) root v (get_or levels v 0) m (subst (λ r. IsDistance (graph_of edges) r v (get_or levels v 0)) same (lv.level v v_in)) a)
 
-own_root : (edges : List (ℕ × ℕ)) (n : ℕ) (roots levels : List ℕ) → AreEdgesBelow n edges → AreLevels edges n roots levels → (v : ℕ) → v < n → IsRoot (graph_of edges) (get_or roots v 0) (get_or roots v 0)
+own_root : (edges : List (ℕ × ℕ)) (n : ℕ) (roots levels : List ℕ) → AreEdgesBelow n edges → AreLevels edges n roots levels → (v : ℕ)
+    → v < n → IsRoot (graph_of edges) (get_or roots v 0) (get_or roots v 0)
 own_root edges n roots levels b lv v v_in =
     let un = graph_of-undirected edges (below-ordered n edges b) in
     let is = lv.root v v_in in
     root-along (graph_of edges) un v (get_or roots v 0) (get_or roots v 0) (Reaches-sym (graph_of edges) un is.reached) is
 
 -- neighbours have one root
-same_root : (edges : List (ℕ × ℕ)) (n : ℕ) (roots levels : List ℕ) → AreEdgesBelow n edges → AreLevels edges n roots levels → (u v : ℕ) → graph_of edges u v → get_or roots v 0 ≡ get_or roots u 0
+same_root : (edges : List (ℕ × ℕ)) (n : ℕ) (roots levels : List ℕ) → AreEdgesBelow n edges → AreLevels edges n roots levels → (u v : ℕ)
+    → graph_of edges u v → get_or roots v 0 ≡ get_or roots u 0
 same_root edges n roots levels b lv u v joined =
     let un = graph_of-undirected edges (below-ordered n edges b) in
     let (u_in, v_in) = edge-below n edges b u v joined in
-    root-unique (graph_of edges) v (get_or roots v 0) (get_or roots u 0) (lv.root v v_in) (root-along (graph_of edges) un u v (get_or roots u 0) (1, step joined stay) (lv.root u u_in))
+    root-unique (graph_of edges) v (get_or roots v 0) (get_or roots u 0) (lv.root v v_in)
+    (root-along (graph_of edges) un u v (get_or roots u 0) (1, step joined stay) (lv.root u u_in))
 
 -- a level edge below the least number of its component stands in the list, with the levels of its ends alike
-listed_level : (edges : List (ℕ × ℕ)) (n : ℕ) (roots levels : List ℕ) → AreEdgesBelow n edges → AreLevels edges n roots levels → (root : ℕ) → IsRoot (graph_of edges) root root → (e : ℕ × ℕ) → IsLevelEdge (graph_of edges) root e
+listed_level : (edges : List (ℕ × ℕ)) (n : ℕ) (roots levels : List ℕ) → AreEdgesBelow n edges → AreLevels edges n roots levels → (root : ℕ)
+    → IsRoot (graph_of edges) root root → (e : ℕ × ℕ) → IsLevelEdge (graph_of edges) root e
     → ((k : ℕ) × (k < length edges) × (edge_at edges k ≡ e)) × (get_or roots e.0 0 ≡ root) × IsLevel levels e
 listed_level edges n roots levels b lv root top e is =
     let (m, first, second) = is.level in
@@ -52,7 +57,8 @@ listed_level edges n roots levels b lv root top e is =
     let (k, k_in, at) = there in
     ((k, k_in, get_or_default edges k (0, 0) e k_in ∙ at), root_u, level_u ∙ sym level_v)
 
-pub none-even : (edges : List (ℕ × ℕ)) (n : ℕ) (roots levels : List ℕ) → AreEdgesBelow n edges → AreLevels edges n roots levels → IsLeastLevel roots levels edges (length edges) None → HasOddCycle (graph_of edges) → ⊥
+pub none-even : (edges : List (ℕ × ℕ)) (n : ℕ) (roots levels : List ℕ) → AreEdgesBelow n edges → AreLevels edges n roots levels
+    → IsLeastLevel roots levels edges (length edges) None → HasOddCycle (graph_of edges) → ⊥
 none-even edges n roots levels b lv none has =
     let (root, top, (e, is)) = (roots-show edges (below-ordered n edges b)).0 has in
     let (there, root_e, level) = listed_level edges n roots levels b lv root top e is in
@@ -60,7 +66,8 @@ none-even edges n roots levels b lv none has =
     none k k_in (subst (λ x. IsLevel levels x) (sym at) level)
 
 -- the least level edge is level below its root
-found_level : (edges : List (ℕ × ℕ)) (n : ℕ) (roots levels : List ℕ) → AreEdgesBelow n edges → AreLevels edges n roots levels → (e : ℕ × ℕ) → IsLeastOf roots levels edges (length edges) e → IsLevelEdge (graph_of edges) (get_or roots e.0 0) e
+found_level : (edges : List (ℕ × ℕ)) (n : ℕ) (roots levels : List ℕ) → AreEdgesBelow n edges → AreLevels edges n roots levels → (e : ℕ × ℕ)
+    → IsLeastOf roots levels edges (length edges) e → IsLevelEdge (graph_of edges) (get_or roots e.0 0) e
 found_level edges n roots levels b lv e h =
     let (k, k_in, at) = h.member in
     let there : Contains edges e = (k, k_in, get_or_default edges k e (0, 0) k_in ∙ at) in
@@ -72,12 +79,15 @@ found_level edges n roots levels b lv e h =
       level = (
         get_or levels e.0 0,
         lv.level e.0 u_in,
-        subst (λ m. IsDistance (graph_of edges) (get_or roots e.0 0) e.1 m) (sym h.level) (subst (λ r. IsDistance (graph_of edges) r e.1 (get_or levels e.1 0)) (same_root edges n roots levels b lv e.0 e.1 joined) (lv.level e.1 v_in)),
+        subst (λ m. IsDistance (graph_of edges) (get_or roots e.0 0) e.1 m) (sym h.level)
+            (subst (λ r. IsDistance (graph_of edges) r e.1 (get_or levels e.1 0)) (same_root edges n roots levels b lv e.0 e.1 joined)
+            (lv.level e.1 v_in)),
       );
     }
 
 -- its root is at most the root of each level edge
-least_root : (edges : List (ℕ × ℕ)) (n : ℕ) (roots levels : List ℕ) → AreEdgesBelow n edges → AreLevels edges n roots levels → (e : ℕ × ℕ) → IsLeastOf roots levels edges (length edges) e
+least_root : (edges : List (ℕ × ℕ)) (n : ℕ) (roots levels : List ℕ) → AreEdgesBelow n edges → AreLevels edges n roots levels → (e : ℕ × ℕ)
+    → IsLeastOf roots levels edges (length edges) e
     → (r : ℕ) (f : ℕ × ℕ) → IsLevelEdge (graph_of edges) r f → get_or roots e.0 0 ≤ r
 least_root edges n roots levels b lv e h r f is =
     let un = graph_of-undirected edges (below-ordered n edges b) in
@@ -90,7 +100,8 @@ least_root edges n roots levels b lv e h r f is =
     let after : IsNotAfter roots e g = subst (λ x. IsNotAfter roots e x) at (h.least k k_in (subst (λ x. IsLevel levels x) (sym at) level_g)) in
     elim after [ inl less ↦ omega (arith, less, root_g, low) | inr (same, p) ↦ omega (arith, same, root_g, low) ]
 
-least_edge : (edges : List (ℕ × ℕ)) (n : ℕ) (roots levels : List ℕ) → AreEdgesBelow n edges → AreLevels edges n roots levels → (e : ℕ × ℕ) → IsLeastOf roots levels edges (length edges) e
+least_edge : (edges : List (ℕ × ℕ)) (n : ℕ) (roots levels : List ℕ) → AreEdgesBelow n edges → AreLevels edges n roots levels → (e : ℕ × ℕ)
+    → IsLeastOf roots levels edges (length edges) e
     → (f : ℕ × ℕ) → IsLevelEdge (graph_of edges) (get_or roots e.0 0) f → (e ≡ f) ⊎ Precedes e f
 least_edge edges n roots levels b lv e h f is =
     let (j, j_in, here) = h.member in
@@ -102,7 +113,8 @@ least_edge edges n roots levels b lv e h f is =
     elim after [ inl less ↦ absurd (omega (arith, less, root_f)) | inr (same, p) ↦ p ]
 
 -- the parent of a number that is no root
-parent_of : (edges : List (ℕ × ℕ)) (n : ℕ) (roots levels parents : List ℕ) → AreEdgesBelow n edges → AreLevels edges n roots levels → AreLowest (graph_of edges) n levels parents → (v : ℕ) → v < n → 0 < get_or levels v 0
+parent_of : (edges : List (ℕ × ℕ)) (n : ℕ) (roots levels parents : List ℕ) → AreEdgesBelow n edges → AreLevels edges n roots levels
+    → AreLowest (graph_of edges) n levels parents → (v : ℕ) → v < n → 0 < get_or levels v 0
     → graph_of edges v (get_or parents v 0) × (get_or levels (get_or parents v 0) 0 < get_or levels v 0)
 parent_of edges n roots levels parents b lv low v v_in high =
     let un = graph_of-undirected edges (below-ordered n edges b) in
@@ -116,7 +128,8 @@ parent_of edges n roots levels parents b lv low v v_in high =
       | inr found ↦ found
     ]
 
-lower_by_one : (edges : List (ℕ × ℕ)) (n : ℕ) (roots levels : List ℕ) → AreEdgesBelow n edges → AreLevels edges n roots levels → (v p : ℕ) → graph_of edges v p → get_or levels p 0 < get_or levels v 0 → get_or levels v 0 ≡ suc (get_or levels p 0)
+lower_by_one : (edges : List (ℕ × ℕ)) (n : ℕ) (roots levels : List ℕ) → AreEdgesBelow n edges → AreLevels edges n roots levels → (v p : ℕ)
+    → graph_of edges v p → get_or levels p 0 < get_or levels v 0 → get_or levels v 0 ≡ suc (get_or levels p 0)
 lower_by_one edges n roots levels b lv v p joined less =
     let un = graph_of-undirected edges (below-ordered n edges b) in
     let (v_in, p_in) = edge-below n edges b v p joined in
@@ -125,16 +138,19 @@ lower_by_one edges n roots levels b lv v p joined less =
     let near = distance-step (graph_of edges) (get_or roots v 0) p v (get_or levels p 0) (get_or levels v 0) at (un.both v p joined) (lv.level v v_in) in
     omega (arith, near, less)
 
-pub forest-of : (edges : List (ℕ × ℕ)) (n : ℕ) (roots levels parents : List ℕ) → AreEdgesBelow n edges → AreLevels edges n roots levels → AreLowest (graph_of edges) n levels parents → IsForest n roots levels parents
+pub forest-of : (edges : List (ℕ × ℕ)) (n : ℕ) (roots levels parents : List ℕ) → AreEdgesBelow n edges → AreLevels edges n roots levels
+    → AreLowest (graph_of edges) n levels parents → IsForest n roots levels parents
 forest-of edges n roots levels parents b lv low = record {
   as_many_parents = low.as_many;
   tops = λ v v_in none. distance-zero (graph_of edges) (get_or roots v 0) v (get_or levels v 0) (lv.level v v_in) none;
   inside = λ v v_in high. (edge-below n edges b v (get_or parents v 0) (parent_of edges n roots levels parents b lv low v v_in high).0).1;
   same = λ v v_in high. same_root edges n roots levels b lv v (get_or parents v 0) (parent_of edges n roots levels parents b lv low v v_in high).0;
-  lower = λ v v_in high. let (joined, less) = parent_of edges n roots levels parents b lv low v v_in high in lower_by_one edges n roots levels b lv v (get_or parents v 0) joined less;
+  lower = λ v v_in high. let (joined, less) = parent_of edges n roots levels parents b lv low v v_in high in
+      lower_by_one edges n roots levels b lv v (get_or parents v 0) joined less;
 }
 
-is_parent : (edges : List (ℕ × ℕ)) (n : ℕ) (roots levels parents : List ℕ) → AreEdgesBelow n edges → AreLevels edges n roots levels → AreLowest (graph_of edges) n levels parents → (v p : ℕ) → v < n → 0 < get_or levels v 0
+is_parent : (edges : List (ℕ × ℕ)) (n : ℕ) (roots levels parents : List ℕ) → AreEdgesBelow n edges → AreLevels edges n roots levels
+    → AreLowest (graph_of edges) n levels parents → (v p : ℕ) → v < n → 0 < get_or levels v 0
     → get_or parents v 0 ≡ p → IsParent (graph_of edges) (get_or roots v 0) v p
 is_parent edges n roots levels parents b lv low v p v_in high is =
     let (joined_to, less_than) = parent_of edges n roots levels parents b lv low v v_in high in
@@ -143,7 +159,8 @@ is_parent edges n roots levels parents b lv low v p v_in high is =
     let one = lower_by_one edges n roots levels b lv v p joined less in
     let p_in : p < n = (edge-below n edges b v p joined).1 in
     let top = own_root edges n roots levels b lv v v_in in
-    let at : IsDistance (graph_of edges) (get_or roots v 0) p (get_or levels p 0) = subst (λ r. IsDistance (graph_of edges) r p (get_or levels p 0)) (same_root edges n roots levels b lv v p joined) (lv.level p p_in) in
+    let at : IsDistance (graph_of edges) (get_or roots v 0) p (get_or levels p 0) = subst
+    (λ r. IsDistance (graph_of edges) r p (get_or levels p 0)) (same_root edges n roots levels b lv v p joined) (lv.level p p_in) in
     let next : get_or levels v 0 ≡ get_or levels p 0 + 1 = omega (arith, one) in
     record {
       joined_by = joined;
@@ -156,7 +173,8 @@ is_parent edges n roots levels parents b lv low v p v_in high is =
           omega (arith, small, is);
     }
 
-climb_of : (edges : List (ℕ × ℕ)) (n : ℕ) (roots levels parents : List ℕ) → AreEdgesBelow n edges → AreLevels edges n roots levels → AreLowest (graph_of edges) n levels parents → (root : ℕ) {top v : ℕ} {us : List ℕ} → IsPathTo parents top v us
+climb_of : (edges : List (ℕ × ℕ)) (n : ℕ) (roots levels parents : List ℕ) → AreEdgesBelow n edges → AreLevels edges n roots levels
+    → AreLowest (graph_of edges) n levels parents → (root : ℕ) {top v : ℕ} {us : List ℕ} → IsPathTo parents top v us
     → v < n → get_or roots v 0 ≡ root → get_or levels top 0 + length us ≡ get_or levels v 0 → Climb (graph_of edges) root top v us
 climb_of edges n roots levels parents b lv low root {top = top} {v = v} (last e) v_in is height =
     cycle.last (subst (λ r. IsParent (graph_of edges) r v top) is (is_parent edges n roots levels parents b lv low v top v_in (omega (arith, height)) e))
@@ -168,7 +186,8 @@ climb_of edges n roots levels parents b lv low root {top = top} {v = v} (up {u =
     cycle.up parent (climb_of edges n roots levels parents b lv low root path
     (subst (λ x. x < n) e (f.inside v v_in high)) (ap (λ x. get_or roots x 0) (sym e) ∙ (f.same v v_in high ∙ is)) (omega (arith, height, one)))
 
-pub reported-of : (edges : List (ℕ × ℕ)) (n : ℕ) (roots levels parents : List ℕ) → AreEdgesBelow n edges → AreLevels edges n roots levels → AreLowest (graph_of edges) n levels parents → (e : ℕ × ℕ) → IsLeastOf roots levels edges (length edges) e
+pub reported-of : (edges : List (ℕ × ℕ)) (n : ℕ) (roots levels parents : List ℕ) → AreEdgesBelow n edges → AreLevels edges n roots levels
+    → AreLowest (graph_of edges) n levels parents → (e : ℕ × ℕ) → IsLeastOf roots levels edges (length edges) e
     → (cycle : List ℕ) → IsClosed levels parents e.0 e.1 cycle → IsReported (graph_of edges) cycle
 reported-of edges n roots levels parents b lv low e h found c =
     let root : ℕ = get_or roots e.0 0 in
@@ -197,5 +216,6 @@ pub reported-odd : (edges : List (ℕ × ℕ)) (n : ℕ) → AreEdgesBelow n edg
 reported-odd edges n b cycle r = reported-is_odd edges (below-ordered n edges b) cycle r
 
 -- both ends of the least level edge have one root
-pub level-root : (edges : List (ℕ × ℕ)) (n : ℕ) (roots levels : List ℕ) → AreEdgesBelow n edges → AreLevels edges n roots levels → (e : ℕ × ℕ) → IsLeastOf roots levels edges (length edges) e → get_or roots e.0 0 ≡ get_or roots e.1 0
+pub level-root : (edges : List (ℕ × ℕ)) (n : ℕ) (roots levels : List ℕ) → AreEdgesBelow n edges → AreLevels edges n roots levels
+    → (e : ℕ × ℕ) → IsLeastOf roots levels edges (length edges) e → get_or roots e.0 0 ≡ get_or roots e.1 0
 level-root edges n roots levels b lv e h = sym (same_root edges n roots levels b lv e.0 e.1 (found_level edges n roots levels b lv e h).joined_by)

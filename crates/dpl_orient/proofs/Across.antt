@@ -37,7 +37,8 @@ between-up s t = elim (cases_eq s.root t.root) [
 
 crossings-up : (chart : List Rooted) (sides : List (ℕ × ℕ)) → GoUp (crossings_of chart sides)
 crossings-up chart [] = All-nil (λ c. c.earlier < c.later)
-crossings-up chart (s ∷ sides) = All-append (λ c. c.earlier < c.later) (crossings_between (rooted_at chart s.0) (rooted_at chart s.1)) (crossings_of chart sides) (between-up (rooted_at chart s.0) (rooted_at chart s.1)) (crossings-up chart sides)
+crossings-up chart (s ∷ sides) = All-append (λ c. c.earlier < c.later) (crossings_between (rooted_at chart s.0) (rooted_at chart s.1))
+    (crossings_of chart sides) (between-up (rooted_at chart s.0) (rooted_at chart s.1)) (crossings-up chart sides)
 
 pub sorted-up : (chart : List Rooted) (sides : List (ℕ × ℕ)) (xs : List Crossing) → IsPermutation (crossings_of chart sides) xs → GoUp xs
 sorted-up chart sides xs p = permuted (λ c. c.earlier < c.later) (crossings_of chart sides) xs p (crossings-up chart sides)
@@ -49,7 +50,8 @@ letter flips r = differ r.odd (get_or flips r.root false)
 module _ (flips : List Bool) (root : ℕ) (wanted : Bool) (s t : Rooted) where
   -- what a zone between these pieces adds
   abbrev adds : Bool
-  adds = ((eqb s.root root && ltb t.root root) && not (differ wanted (differ s.odd (letter flips t)))) || ((eqb t.root root && ltb s.root root) && not (differ wanted (differ t.odd (letter flips s))))
+  adds = ((eqb s.root root && ltb t.root root) && not (differ wanted (differ s.odd (letter flips t)))) ||
+      ((eqb t.root root && ltb s.root root) && not (differ wanted (differ t.odd (letter flips s))))
 
   one : (c : Crossing) → adds ≡ counts flips root wanted c → unit adds ≡ tally flips root wanted (c ∷ [])
   one c e =
@@ -60,7 +62,8 @@ module _ (flips : List Bool) (root : ℕ) (wanted : Bool) (s t : Rooted) where
   adds-first : t.root < s.root → adds ≡ counts flips root wanted (crossing s.root t.root (differ s.odd t.odd))
   adds-first l =
       elim (cases_eq s.root root) [
-        | inl same ↦ first-holds _ _ _ (ltb s.root root) _ _ _ (eq-eqb s.root root same) (lt-ltb t.root root (omega (arith, l, same))) (ne_eqb t.root root (λ e. omega (arith, l, same, e)))
+        | inl same ↦ first-holds _ _ _ (ltb s.root root) _ _ _ (eq-eqb s.root root same) (lt-ltb t.root root (omega (arith, l, same)))
+            (ne_eqb t.root root (λ e. omega (arith, l, same, e)))
             (ap (λ b. not (differ wanted b)) (differ-assoc s.odd t.odd (get_or flips t.root false)))
         | inr other ↦ none-holds _ (ltb t.root root) (eqb t.root root) (ltb s.root root) _ _ _ (ne_eqb s.root root other)
             (elim (cases_eq t.root root) [
@@ -72,7 +75,8 @@ module _ (flips : List Bool) (root : ℕ) (wanted : Bool) (s t : Rooted) where
   adds-second : s.root < t.root → adds ≡ counts flips root wanted (crossing t.root s.root (differ t.odd s.odd))
   adds-second l =
       elim (cases_eq t.root root) [
-        | inl same ↦ second-holds _ (ltb t.root root) _ _ _ _ _ (ne_eqb s.root root (λ e. omega (arith, l, same, e))) (eq-eqb t.root root same) (lt-ltb s.root root (omega (arith, l, same)))
+        | inl same ↦ second-holds _ (ltb t.root root) _ _ _ _ _ (ne_eqb s.root root (λ e. omega (arith, l, same, e)))
+            (eq-eqb t.root root same) (lt-ltb s.root root (omega (arith, l, same)))
             (ap (λ b. not (differ wanted b)) (differ-assoc t.odd s.odd (get_or flips s.root false)))
         | inr other ↦ third-none (eqb s.root root) (ltb t.root root) _ (ltb s.root root) _ _ _
             (elim (cases_eq s.root root) [
@@ -128,23 +132,30 @@ module _ (chart : List Rooted) (flips : List Bool) where
       let within : (side.0 < length chart) × (side.1 < length chart) = All-head (λ (s : ℕ × ℕ). (s.0 < length chart) × (s.1 < length chart)) side sides below in
       let rest = across-crossings root wanted sides (All-tail (λ (s : ℕ × ℕ). (s.0 < length chart) × (s.1 < length chart)) side sides below) in
       sum_by-cons (λ s. unit (told (roots_in chart) (odds_in chart) (colours_of chart flips) root wanted s)) side sides
-      ∙ (ap (λ n. n + zones_across (roots_in chart) (odds_in chart) (colours_of chart flips) root wanted sides) (ap unit (side-adds root wanted side within.0 within.1) ∙ adds-is flips root wanted (rooted_at chart side.0) (rooted_at chart side.1))
+      ∙ (ap (λ n. n + zones_across (roots_in chart) (odds_in chart) (colours_of chart flips) root wanted sides)
+      (ap unit (side-adds root wanted side within.0 within.1) ∙ adds-is flips root wanted (rooted_at chart side.0)
+      (rooted_at chart side.1))
       ∙ (ap (λ n. tally flips root wanted (crossings_between (rooted_at chart side.0) (rooted_at chart side.1)) + n) rest
       ∙ sym (sum_by-append (λ c. unit (counts flips root wanted c)) (crossings_between (rooted_at chart side.0) (rooted_at chart side.1)) (crossings_of chart sides))))
 
-  module _ (xs : List Crossing) (sides : List (ℕ × ℕ)) (same : IsPermutation (crossings_of chart sides) xs) (below : AreSidesBelow (length chart) sides) (low : AreLow chart) (len : length flips ≡ length chart) (settled : AreFlips xs flips) where
+  module _ (xs : List Crossing) (sides : List (ℕ × ℕ)) (same : IsPermutation (crossings_of chart sides) xs)
+      (below : AreSidesBelow (length chart) sides) (low : AreLow chart) (len : length flips ≡ length chart)
+      (settled : AreFlips xs flips) where
     across-sorted : (root : ℕ) (wanted : Bool) → zones_across (roots_in chart) (odds_in chart) (colours_of chart flips) root wanted sides ≡ tally flips root wanted xs
     across-sorted root wanted = across-crossings root wanted sides below ∙ sym (sum_by-IsPermutation (λ c. unit (counts flips root wanted c)) (crossings_of chart sides) xs same)
 
     flipped-is : (root : ℕ) → is_flipped (roots_in chart) (odds_in chart) (colours_of chart flips) sides root ≡ is_turned flips root xs
-    flipped-is root = ap (λ n. ltb n (zones_across (roots_in chart) (odds_in chart) (colours_of chart flips) root true sides)) (across-sorted root false) ∙ ap (λ n. ltb (tally flips root false xs) n) (across-sorted root true)
+    flipped-is root = ap (λ n. ltb n (zones_across (roots_in chart) (odds_in chart) (colours_of chart flips) root true sides))
+        (across-sorted root false) ∙ ap (λ n. ltb (tally flips root false xs) n) (across-sorted root true)
 
     pub are-colours : AreColours (roots_in chart) (odds_in chart) sides (colours_of chart flips)
     are-colours = record {
       each = length-map chart (λ s. differ s.odd (get_or flips s.root false)) ∙ sym (length-map chart (λ s. s.root));
       colour = λ v l. (let within : v < length chart = omega (arith, l, length-map chart (λ s. s.root)) in
           let down = low v within in
-          let flip : get_or flips (rooted_at chart v).root false ≡ is_flipped (roots_in chart) (odds_in chart) (colours_of chart flips) sides (rooted_at chart v).root = settled (rooted_at chart v).root (omega (arith, down, len, within)) ∙ sym (flipped-is (rooted_at chart v).root) in
+          let flip : get_or flips (rooted_at chart v).root false ≡ is_flipped (roots_in chart) (odds_in chart)
+          (colours_of chart flips) sides (rooted_at chart v).root = settled (rooted_at chart v).root (omega (arith, down, len, within))
+          ∙ sym (flipped-is (rooted_at chart v).root) in
           letter-at v within ∙ (ap (λ b. differ (rooted_at chart v).odd b) flip
           ∙ (ap (λ o. differ o (is_flipped (roots_in chart) (odds_in chart) (colours_of chart flips) sides (rooted_at chart v).root)) (sym (odd-at v within))
           ∙ ap (λ r. differ (get_or (odds_in chart) v false) (is_flipped (roots_in chart) (odds_in chart) (colours_of chart flips) sides r)) (sym (root-at v within)))));
@@ -160,7 +171,9 @@ chart-rooted rows n chart h = record {
 
 -- the colours of the rows, step by step
 pub rows-coloured : (rows : List Star) (n : ℕ) (sides : List (ℕ × ℕ)) (chart c b d : List Rooted) (across ks : List Across) (flips f : List Bool) (colours : List Bool) →
-    AreSidesBelow n sides → IsChart rows n chart → AreLow chart → c ≡ chart → IsPermutation (crossings_of c sides) (crossings_at c sides across) → b ≡ chart → ks ≡ across → length flips ≡ n → AreFlips (crossings_at b sides ks) flips → d ≡ chart → f ≡ flips → colours ≡ colours_of d f → AreColoursOfRows rows n sides colours
+    AreSidesBelow n sides → IsChart rows n chart → AreLow chart → c ≡ chart
+    → IsPermutation (crossings_of c sides) (crossings_at c sides across) → b ≡ chart → ks ≡ across → length flips ≡ n
+    → AreFlips (crossings_at b sides ks) flips → d ≡ chart → f ≡ flips → colours ≡ colours_of d f → AreColoursOfRows rows n sides colours
 rows-coloured rows n sides chart c b d across ks flips f colours below h low c_is same b_is ks_is len settled d_is f_is colours_is = record {
   roots = roots_in chart;
   odds = odds_in chart;
@@ -169,5 +182,7 @@ rows-coloured rows n sides chart c b d across ks flips f colours below h low c_i
       (let e : colours ≡ colours_of chart flips = colours_is ∙ (ap (λ r. colours_of r f) d_is ∙ ap (λ g. colours_of chart g) f_is) in
       let xs : crossings_at b sides ks ≡ crossings_at chart sides across = ap (λ r. crossings_at r sides ks) b_is ∙ ap (λ k. crossings_at chart sides k) ks_is in
       subst (λ cs. AreColours (roots_in chart) (odds_in chart) sides cs) (sym e)
-      (are-colours chart flips (crossings_at chart sides across) sides (subst (λ r. IsPermutation (crossings_of r sides) (crossings_at r sides across)) c_is same) (subst (λ k. AreSidesBelow k sides) (sym h.len) below) low (len ∙ sym h.len) (subst (λ ys. AreFlips ys flips) xs settled)));
+      (are-colours chart flips (crossings_at chart sides across) sides
+      (subst (λ r. IsPermutation (crossings_of r sides) (crossings_at r sides across)) c_is same)
+      (subst (λ k. AreSidesBelow k sides) (sym h.len) below) low (len ∙ sym h.len) (subst (λ ys. AreFlips ys flips) xs settled)));
 }

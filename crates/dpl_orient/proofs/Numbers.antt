@@ -15,7 +15,8 @@ module _ (chart : List Rooted) (sides : List (ℕ × ℕ)) (across : List Across
   as-many = length-map across (λ a. crossing_at chart sides a.zone)
 
   -- the crossing made from the zone at a place is the one at that place
-  pub crossing-here : (k : ℕ) (d : Across) (x : Crossing) → k < length across → x ≡ crossing_at chart sides (get_or across k d).zone → x ≡ get_or (crossings_at chart sides across) k x
+  pub crossing-here : (k : ℕ) (d : Across) (x : Crossing) → k < length across → x ≡ crossing_at chart sides (get_or across k d).zone
+      → x ≡ get_or (crossings_at chart sides across) k x
   crossing-here k d x within is = is ∙ sym (get_or-map (λ a. crossing_at chart sides a.zone) across k d x within)
 
   pub grouped-across : HaveLater chart sides across → IsNonDecreasingBy (λ a. a.later) across → AreGrouped (crossings_at chart sides across)
@@ -25,7 +26,10 @@ module _ (chart : List Rooted) (sides : List (ℕ × ℕ)) (across : List Across
       let first = have i none (omega (arith, le, below)) in
       let second = have j none below in
       let up = h i j none le below in
-      rw (get_or-map (λ a. crossing_at chart sides a.zone) across i none d (omega (arith, le, below)), get_or-map (λ a. crossing_at chart sides a.zone) across j none d below) (rw (← first, ← second) up)
+      rw (
+        get_or-map (λ a. crossing_at chart sides a.zone) across i none d (omega (arith, le, below)),
+        get_or-map (λ a. crossing_at chart sides a.zone) across j none d below,
+      ) (rw (← first, ← second) up)
 
 -- the crossings among the first k zones
 pub record AreListed (chart : List Rooted) (sides : List (ℕ × ℕ)) (k : ℕ) (across : List Across) : Type 0 where
@@ -43,7 +47,8 @@ module _ (chart : List Rooted) (sides : List (ℕ × ℕ)) (k : ℕ) (across : L
       ∙ (flat_map-append picked (take k sides) (get_or sides k (0, 0) ∷ [])
       ∙ ap (λ xs. crossings_of chart (take k sides) ++ xs) (append-nil (picked (get_or sides k (0, 0)))))
 
-  pub listed-across : (l : ℕ) → is_across chart (get_or sides k (0, 0)) ≡ true → l ≡ (crossing_at chart sides k).later → AreListed chart sides (k + 1) (across ++ record { later = l; zone = k } ∷ [])
+  pub listed-across : (l : ℕ) → is_across chart (get_or sides k (0, 0)) ≡ true → l ≡ (crossing_at chart sides k).later
+      → AreListed chart sides (k + 1) (across ++ record { later = l; zone = k } ∷ [])
   listed-across l apart is = record {
     later = All-push (λ a. a.later ≡ (crossing_at chart sides a.zone).later) across (record { later = l; zone = k }) h.later is;
     same =
@@ -55,5 +60,7 @@ module _ (chart : List Rooted) (sides : List (ℕ × ℕ)) (k : ℕ) (across : L
   pub listed-within : is_across chart (get_or sides k (0, 0)) ≡ false → AreListed chart sides (k + 1) across
   listed-within joined = record {
     later = h.later;
-    same = h.same ∙ sym (crossings-more ∙ (ap (λ xs. crossings_of chart (take k sides) ++ xs) (cond-false (is_across chart (get_or sides k (0, 0))) _ _ joined) ∙ append-nil (crossings_of chart (take k sides))));
+    same = h.same ∙ sym
+        (crossings-more ∙ (ap (λ xs. crossings_of chart (take k sides) ++ xs)
+        (cond-false (is_across chart (get_or sides k (0, 0))) _ _ joined) ∙ append-nil (crossings_of chart (take k sides))));
   }

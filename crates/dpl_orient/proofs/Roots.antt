@@ -27,11 +27,27 @@ module _ (joined : Graph) where
 
   none-reaches : (v : ℕ) → ((r : ℕ) → IsRoot joined v r → ⊥) → (k u : ℕ) → u < k → Reaches joined u v → ⊥
   none-reaches v none zero u l reach = omega (arith, l)
-  none-reaches v none (suc k) u l reach = none u (record { reached = reach; least = λ w other. elim (cases_lt w u) [ inl below ↦ absurd (none-reaches v none k w (omega (arith, l, below)) other) | inr above ↦ above ] })
+  none-reaches v none (suc k) u l reach = none u
+      (record {
+        reached = reach;
+        least = λ w other. elim (cases_lt w u) [
+          | inl below ↦ absurd
+              (none-reaches v none k w (omega (arith, l, below)) other)
+          | inr above ↦ above
+        ];
+      })
 
   none-walks : (u v : ℕ) → ((n : ℕ) → IsDistance joined u v n → ⊥) → (k m : ℕ) → m < k → Walk joined u v m → ⊥
   none-walks u v none zero m l walk = omega (arith, l)
-  none-walks u v none (suc k) m l walk = none m (record { walk = walk; least = λ n other. elim (cases_lt n m) [ inl below ↦ absurd (none-walks u v none k n (omega (arith, l, below)) other) | inr above ↦ above ] })
+  none-walks u v none (suc k) m l walk = none m
+      (record {
+        walk = walk;
+        least = λ n other. elim (cases_lt n m) [
+          | inl below ↦ absurd
+              (none-walks u v none k n (omega (arith, l, below)) other)
+          | inr above ↦ above
+        ];
+      })
 
   module _ (back : (u v : ℕ) → joined u v → joined v u) (rows : List Row) (stars : AreStars joined rows) where
     row-missing : (v u : ℕ) → All (λ r. r.vertex ≢ v) rows → joined v u → (r : ℕ) → IsRoot joined v r → (n : ℕ) → IsDistance joined r v n → ⊥
@@ -42,7 +58,8 @@ module _ (joined : Graph) where
 
     -- a vertex without a row isn't joined to any
     untouched : (v u : ℕ) → All (λ r. r.vertex ≢ v) rows → joined v u → ⊥
-    untouched v u none e = none-reaches v (λ r root. none-walks r v (λ n distance. row-missing v u none e r root n distance) (suc root.reached.0) root.reached.0 (omega arith) root.reached.1) (suc v) v (omega arith) (0, stay)
+    untouched v u none e = none-reaches v (λ r root. none-walks r v (λ n distance. row-missing v u none e r root n distance)
+        (suc root.reached.0) root.reached.0 (omega arith) root.reached.1) (suc v) v (omega arith) (0, stay)
 
     own-star : (v : ℕ) → All (λ r. r.vertex ≢ v) rows → IsStar joined v v false
     own-star v none = (
@@ -58,7 +75,9 @@ module _ (joined : Graph) where
       refl,
     )
 
-pub roots-from-rows : (joined : Graph) → ((u v : ℕ) → joined u v → joined v u) → (rows : List Star) (n : ℕ) (roots : List ℕ) (odds : List Bool) → AreStars joined (map row_of rows) → AreRooted rows n roots odds → AreRoots joined n roots odds
+pub roots-from-rows : (joined : Graph) → ((u v : ℕ) → joined u v → joined v u)
+    → (rows : List Star) (n : ℕ) (roots : List ℕ) (odds : List Bool) → AreStars joined (map row_of rows) → AreRooted rows n roots odds
+    → AreRoots joined n roots odds
 roots-from-rows joined back rows n roots odds stars h = record {
   lengths = (h.as_many_roots, h.as_many_odds);
   stars = λ v l. elim (h.star v l) [
@@ -72,7 +91,9 @@ graph-mutual edges u v (inl e) = inr e
 graph-mutual edges u v (inr e) = inl e
 
 -- a graph is coloured by the rows of its summary
-pub coloured-from-rows : (edges : List (ℕ × ℕ)) (rows items : List Star) (n : ℕ) (sides : List (ℕ × ℕ)) (colours : List Bool) → items ≡ rows → AreColoursOfRows items n sides colours → AreStars (graph_of edges) (map row_of rows) → IsColouring (graph_of edges) n sides colours
+pub coloured-from-rows : (edges : List (ℕ × ℕ)) (rows items : List Star) (n : ℕ) (sides : List (ℕ × ℕ)) (colours : List Bool)
+    → items ≡ rows → AreColoursOfRows items n sides colours → AreStars (graph_of edges) (map row_of rows)
+    → IsColouring (graph_of edges) n sides colours
 coloured-from-rows edges rows items n sides colours is known stars = record {
   roots = known.roots;
   odds = known.odds;

@@ -23,13 +23,16 @@ tally-none flips root wanted xs other =
     omega (arith, le)
 
 -- what stands before place k has another later component
-pub tally-before : (flips : List Bool) (root : ℕ) (wanted : Bool) (xs : List Crossing) (k : ℕ) → k ≤ length xs → ((i : ℕ) (d : Crossing) → i < k → (get_or xs i d).later ≢ root) → tally flips root wanted (take k xs) ≡ 0
+pub tally-before : (flips : List Bool) (root : ℕ) (wanted : Bool) (xs : List Crossing) (k : ℕ) → k ≤ length xs
+    → ((i : ℕ) (d : Crossing) → i < k → (get_or xs i d).later ≢ root) → tally flips root wanted (take k xs) ≡ 0
 tally-before flips root wanted xs k within other = tally-none flips root wanted (take k xs) (λ i d l.
     (let below : i < k = omega (arith, l, length-take-le k xs within) in
     subst (λ c. c.later ≢ root) (sym (get_or-take k xs i d below)) (other i d below)))
 
 -- what stands from place k on has another later component
-pub tally-after : (flips : List Bool) (root : ℕ) (wanted : Bool) (xs : List Crossing) (k : ℕ) → ((i : ℕ) (d : Crossing) → k ≤ i → i < length xs → (get_or xs i d).later ≢ root) → tally flips root wanted (take k xs) ≡ tally flips root wanted xs
+pub tally-after : (flips : List Bool) (root : ℕ) (wanted : Bool) (xs : List Crossing) (k : ℕ)
+    → ((i : ℕ) (d : Crossing) → k ≤ i → i < length xs → (get_or xs i d).later ≢ root)
+    → tally flips root wanted (take k xs) ≡ tally flips root wanted xs
 tally-after flips root wanted xs k other =
     let none = tally-none flips root wanted (drop k xs) (λ i d l.
     (let e = length-drop k xs in
@@ -52,7 +55,8 @@ settling-start xs flips root k split = record {
   bound = omega arith;
 }
 
-module _ (xs : List Crossing) (flips : List Bool) (root k agreeing differing : ℕ) (x : Crossing) (within : k < length xs) (is : x ≡ get_or xs k x) (mine : x.later ≡ root) (h : IsSettling xs flips root k agreeing differing) where
+module _ (xs : List Crossing) (flips : List Bool) (root k agreeing differing : ℕ) (x : Crossing) (within : k < length xs)
+    (is : x ≡ get_or xs k x) (mine : x.later ≡ root) (h : IsSettling xs flips root k agreeing differing) where
   later-before : (i : ℕ) (d : Crossing) → i < k + 1 → (get_or xs i d).later < root + 1
   later-before i d l = elim (cases_lt i k) [
     | inl below ↦ h.before i d below
@@ -80,7 +84,8 @@ module _ (xs : List Crossing) (flips : List Bool) (root k agreeing differing : �
     bound = (let b = h.bound in omega arith);
   }
 
-module _ (xs : List Crossing) (flips : List Bool) (root k agreeing differing : ℕ) (within : k ≤ length xs) (after : (i : ℕ) (d : Crossing) → k ≤ i → i < length xs → root + 1 ≤ (get_or xs i d).later) (h : IsSettling xs flips root k agreeing differing) where
+module _ (xs : List Crossing) (flips : List Bool) (root k agreeing differing : ℕ) (within : k ≤ length xs) (after : (i : ℕ) (d : Crossing)
+    → k ≤ i → i < length xs → root + 1 ≤ (get_or xs i d).later) (h : IsSettling xs flips root k agreeing differing) where
   pub settled-split : IsSplit xs (root + 1) k
   settled-split = record { within = within; before = h.before; after = after }
 

@@ -23,7 +23,8 @@ module _ (fs gs : List Bool) (root : ℕ) (wanted : Bool) (same : (e : ℕ) → 
       ∙ (ap (λ n. unit (counts gs root wanted x) + n) (tally-agree xs (All-tail (λ c. c.earlier < c.later) x xs up))
       ∙ sym (sum_by-cons (λ c. unit (counts gs root wanted c)) x xs)))
 
-pub turned-agree : (fs gs : List Bool) (root : ℕ) (xs : List Crossing) → GoUp xs → ((e : ℕ) → e < root → get_or fs e false ≡ get_or gs e false) → is_turned fs root xs ≡ is_turned gs root xs
+pub turned-agree : (fs gs : List Bool) (root : ℕ) (xs : List Crossing) → GoUp xs
+    → ((e : ℕ) → e < root → get_or fs e false ≡ get_or gs e false) → is_turned fs root xs ≡ is_turned gs root xs
 turned-agree fs gs root xs up same =
     ap (λ n. ltb n (tally fs root true xs)) (tally-agree fs gs root false same xs up)
     ∙ ap (λ n. ltb (tally gs root false xs) n) (tally-agree fs gs root true same xs up)
@@ -41,7 +42,8 @@ settled-none xs = record {
   split = record { within = omega arith; before = λ i d l. absurd (omega (arith, l)); after = λ i d l m. omega arith };
 }
 
-pub settled-more : (xs : List Crossing) (flips : List Bool) (root k next : ℕ) (b : Bool) → GoUp xs → AreSettled xs flips root k → IsSplit xs (root + 1) next → b ≡ is_turned flips root xs → AreSettled xs (flips ++ b ∷ []) (root + 1) next
+pub settled-more : (xs : List Crossing) (flips : List Bool) (root k next : ℕ) (b : Bool) → GoUp xs → AreSettled xs flips root k
+    → IsSplit xs (root + 1) next → b ≡ is_turned flips root xs → AreSettled xs (flips ++ b ∷ []) (root + 1) next
 settled-more xs flips root k next b up h split is = record {
   len = length_push flips b ∙ ap (λ n. n + 1) h.len;
   flips = λ r l. (let len = length_push flips b in

@@ -33,7 +33,8 @@ closed a parts k p q c k_in in_a has touch =
     let linked : Linked a whole.0 q = (whole.2 q).0 has in
     (whole.2 p).1 (Linked-trans a linked (on (in-set a parts k q c k_in has) (Touch-sym p q touch) (here in_a)))
 
-module _ (rule overlap : ℕ) (layer : Region) (features : List (List Rect)) (zones : List Zone) (c : AreComponents layer features) (zs : AreZones rule overlap layer features zones) where
+module _ (rule overlap : ℕ) (layer : Region) (features : List (List Rect)) (zones : List Zone) (c : AreComponents layer features)
+    (zs : AreZones rule overlap layer features zones) where
   pub kept : (z : Zone) → Contains zones z → (z.feature < length features) × IsKeptZone rule overlap layer (part_at features z.feature) z.rect
   kept z z_in = (zs.exactly z).0 z_in
 
@@ -54,7 +55,9 @@ module _ (rule overlap : ℕ) (layer : Region) (features : List (List Rect)) (zo
     feature_in = (kept z z_in).0
 
     -- beside a horizontal zone, in its rows, the rest goes on
-    pub rest-across : (h : IsHorizontalZone rule overlap layer (part_at features z.feature) z.rect) (x y : ℤ) → ((x +ℤ pos 1 ≡ z.rect.x0) ⊎ (x ≡ z.rect.x1)) → z.rect.x0 <ℤ z.rect.x1 → z.rect.y0 ≤ℤ y → y <ℤ z.rect.y1 → without layer zones (at x y)
+    pub rest-across : (h : IsHorizontalZone rule overlap layer (part_at features z.feature) z.rect) (x y : ℤ)
+        → ((x +ℤ pos 1 ≡ z.rect.x0) ⊎ (x ≡ z.rect.x1)) → z.rect.x0 <ℤ z.rect.x1 → z.rect.y0 ≤ℤ y → y <ℤ z.rect.y1
+        → without layer zones (at x y)
     rest-across h x y side wide from below =
         let left : z.rect.x0 ≤ℤ (x +ℤ pos 1) = elim side [ inl e ↦ omega (arith, ints, e) | inr e ↦ omega (arith, ints, e, wide) ] in
         let right : x ≤ℤ z.rect.x1 = elim side [ inl e ↦ omega (arith, ints, e, wide) | inr e ↦ omega (arith, ints, e) ] in
@@ -66,14 +69,31 @@ module _ (rule overlap : ℕ) (layer : Region) (features : List (List Rect)) (zo
                 elim side [ inl e ↦ omega (arith, ints, e, mine.left) | inr e ↦ omega (arith, ints, e, mine.right) ])
             | inr (v, apart) ↦ apart z.rect h
                 (elim side [
-                  | inl e ↦ (at z.rect.x0 y, at x y, record { left = omega (arith, ints); right = wide; low = from; high = below }, has, Touch-from_close (at z.rect.x0 y) (at x y) (omega (arith, ints, e)) (omega (arith, ints, e)) (omega (arith, ints)) (omega (arith, ints)))
-                  | inr e ↦ (at (z.rect.x1 -ℤ pos 1) y, at x y, record { left = omega (arith, ints, wide); right = omega (arith, ints); low = from; high = below }, has, Touch-from_close (at (z.rect.x1 -ℤ pos 1) y) (at x y) (omega (arith, ints, e)) (omega (arith, ints, e)) (omega (arith, ints)) (omega (arith, ints)))
+                  | inl e ↦ (
+                    at z.rect.x0 y,
+                    at x y,
+                    record { left = omega (arith, ints); right = wide; low = from; high = below },
+                    has,
+                    Touch-from_close (at z.rect.x0 y) (at x y) (omega (arith, ints, e)) (omega (arith, ints, e)) (omega (arith, ints))
+                        (omega (arith, ints)),
+                  )
+                  | inr e ↦ (
+                    at (z.rect.x1 -ℤ pos 1) y,
+                    at x y,
+                    record { left = omega (arith, ints, wide); right = omega (arith, ints); low = from; high = below },
+                    has,
+                    Touch-from_close (at (z.rect.x1 -ℤ pos 1) y) (at x y) (omega (arith, ints, e)) (omega (arith, ints, e))
+                        (omega (arith, ints)) (omega (arith, ints)),
+                  )
                 ])
           ],
         )
 
     -- beside a vertical zone, in its columns, the rest goes on
-    pub rest-up : (h : IsVerticalZone rule overlap layer (part_at features z.feature) z.rect) (none : (r : Rect) → IsHorizontalZone rule overlap layer (part_at features z.feature) r → ¬ AreTouching (Has r) (Has z.rect)) (x y : ℤ) → ((y +ℤ pos 1 ≡ z.rect.y0) ⊎ (y ≡ z.rect.y1)) → z.rect.y0 <ℤ z.rect.y1 → z.rect.x0 ≤ℤ x → x <ℤ z.rect.x1 → without layer zones (at x y)
+    pub rest-up : (h : IsVerticalZone rule overlap layer (part_at features z.feature) z.rect) (none : (r : Rect)
+        → IsHorizontalZone rule overlap layer (part_at features z.feature) r → ¬ AreTouching (Has r) (Has z.rect)) (x y : ℤ)
+        → ((y +ℤ pos 1 ≡ z.rect.y0) ⊎ (y ≡ z.rect.y1)) → z.rect.y0 <ℤ z.rect.y1 → z.rect.x0 ≤ℤ x → x <ℤ z.rect.x1
+        → without layer zones (at x y)
     rest-up h none x y side tall from below =
         let low : z.rect.y0 ≤ℤ (y +ℤ pos 1) = elim side [ inl e ↦ omega (arith, ints, e) | inr e ↦ omega (arith, ints, e, tall) ] in
         let high : y ≤ℤ z.rect.y1 = elim side [ inl e ↦ omega (arith, ints, e, tall) | inr e ↦ omega (arith, ints, e) ] in
@@ -82,11 +102,28 @@ module _ (rule overlap : ℕ) (layer : Region) (features : List (List Rect)) (zo
           λ (n, w, n_in, n_is, has). elim (zone-of w z.feature (at x y) (n, n_in, n_is) feature_in in_f has) [
             | inl k ↦ none w.rect k
                 (elim side [
-                  | inl e ↦ (at x y, at x z.rect.y0, has, record { left = from; right = below; low = omega (arith, ints); high = tall }, Touch-from_close (at x y) (at x z.rect.y0) (omega (arith, ints)) (omega (arith, ints)) (omega (arith, ints, e)) (omega (arith, ints, e)))
-                  | inr e ↦ (at x y, at x (z.rect.y1 -ℤ pos 1), has, record { left = from; right = below; low = omega (arith, ints, tall); high = omega (arith, ints) }, Touch-from_close (at x y) (at x (z.rect.y1 -ℤ pos 1)) (omega (arith, ints)) (omega (arith, ints)) (omega (arith, ints, e)) (omega (arith, ints, e)))
+                  | inl e ↦ (
+                    at x y,
+                    at x z.rect.y0,
+                    has,
+                    record { left = from; right = below; low = omega (arith, ints); high = tall },
+                    Touch-from_close (at x y) (at x z.rect.y0) (omega (arith, ints)) (omega (arith, ints)) (omega (arith, ints, e))
+                        (omega (arith, ints, e)),
+                  )
+                  | inr e ↦ (
+                    at x y,
+                    at x (z.rect.y1 -ℤ pos 1),
+                    has,
+                    record { left = from; right = below; low = omega (arith, ints, tall); high = omega (arith, ints) },
+                    Touch-from_close (at x y) (at x (z.rect.y1 -ℤ pos 1)) (omega (arith, ints)) (omega (arith, ints))
+                        (omega (arith, ints, e)) (omega (arith, ints, e)),
+                  )
                 ])
-            | inr (v, apart) ↦ (let same : turned_rect z.rect ≡ turned_rect w.rect = beside-same rule (turned layer) (turned (part_at features z.feature)) overlap (turned_rect z.rect) (turned_rect w.rect) h v y x low high from below (record { left = has.low; right = has.high; low = has.left; high = has.right }) in
-                let mine : Has (turned_rect z.rect) (at y x) = subst (λ r. Has r (at y x)) (sym same) (record { left = has.low; right = has.high; low = has.left; high = has.right }) in
+            | inr (v, apart) ↦ (let same : turned_rect z.rect ≡ turned_rect w.rect = beside-same rule (turned layer)
+                (turned (part_at features z.feature)) overlap (turned_rect z.rect) (turned_rect w.rect) h v y x low high from below
+                (record { left = has.low; right = has.high; low = has.left; high = has.right }) in
+                let mine : Has (turned_rect z.rect) (at y x) = subst (λ r. Has r (at y x)) (sym same)
+                (record { left = has.low; right = has.high; low = has.left; high = has.right }) in
                 elim side [ inl e ↦ omega (arith, ints, e, mine.left) | inr e ↦ omega (arith, ints, e, mine.right) ])
           ],
         )

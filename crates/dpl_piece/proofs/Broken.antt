@@ -30,7 +30,8 @@ use Rattle.dpl_piece.proofs.Regions.{linked-same}
 abbrev pub AreHolesOf : List Zone → ℕ → List Rect → Type 0
 AreHolesOf zones n holes = (r : Rect) → Contains holes r ↔ ((z : Zone) × Contains zones z × (z.feature ≡ n) × (z.rect ≡ r))
 
--- canonical slabs within the range of a layer, which are one of the components of what the zones leave of all features and lie in one of the first n: a whole feature as it is, or broken off one with a zone
+-- canonical slabs within the range of a layer, which are one of the components of what the zones leave of all features and lie in one of
+-- the first n: a whole feature as it is, or broken off one with a zone
 pub record IsPieceBelow (features : List (List Rect)) (zones : List Zone) (n : ℕ) (x : Piece) : Type 0 where
   pub owner : x.owner < n
   pub inside : (p : Pt) → Covers x.part p → part_at features x.owner p
@@ -59,7 +60,8 @@ pieces-none features zones = record {
   apart = λ i j d l j_in. absurd (omega (arith, j_in));
 }
 
-module _ (rule overlap : ℕ) (features : List (List Rect)) (zones : List Zone) (c : AreComponents (union_of features) features) (zs : AreZones rule overlap (union_of features) features zones) where
+module _ (rule overlap : ℕ) (features : List (List Rect)) (zones : List Zone) (c : AreComponents (union_of features) features)
+    (zs : AreZones rule overlap (union_of features) features zones) where
   abbrev left : Region
   left = without (union_of features) zones
 
@@ -85,7 +87,8 @@ module _ (rule overlap : ℕ) (features : List (List Rect)) (zones : List Zone) 
     to-left : (p : Pt) → mine p → left p
     to-left p (in_n, none) = (
       (n, get_or features n [], n_in, get_or_default features n (get_or features n []) [] n_in, in_n),
-      λ any. (let (z, z_in, has) = in-any (λ z. Has z.rect p) zones any in none (Covers-member holes z.rect p ((own z.rect).1 (z, z_in, zone-feature z n p z_in n_in in_n has, refl)) has)),
+      λ any. (let (z, z_in, has) = in-any (λ z. Has z.rect p) zones any in
+          none (Covers-member holes z.rect p ((own z.rect).1 (z, z_in, zone-feature z n p z_in n_in in_n has, refl)) has)),
     )
 
     -- from a square of the feature, squares that are left lead to its own squares alone
@@ -161,7 +164,9 @@ module _ (rule overlap : ℕ) (features : List (List Rect)) (zones : List Zone) 
           (j, broken_piece n (get_or parts j []), k_in, broken-at j (broken_piece n (get_or parts j [])) k_in, covers)
 
     -- pieces of the first n features, and those of one more
-    module _ (pieces more : List Piece) (h : ArePiecesBelow features zones n pieces) (each : All (IsPieceBelow features zones (n + 1)) more) (owned : All (λ x. x.owner ≡ n) more) (all : (p : Pt) → part_at features n p → ¬ Any (λ z. Has z.rect p) zones → Any (λ x. Covers x.part p) more) (apart : AllPairs (λ x y. AreApart x.part y.part) more) where
+    module _ (pieces more : List Piece) (h : ArePiecesBelow features zones n pieces)
+        (each : All (IsPieceBelow features zones (n + 1)) more) (owned : All (λ x. x.owner ≡ n) more) (all : (p : Pt) → part_at features n p
+        → ¬ Any (λ z. Has z.rect p) zones → Any (λ x. Covers x.part p) more) (apart : AllPairs (λ x y. AreApart x.part y.part) more) where
       further : (x : Piece) → IsPieceBelow features zones n x → IsPieceBelow features zones (n + 1) x
       further x is = record { owner = omega (arith, is.owner); inside = is.inside; canonical = is.canonical; within = is.within; whole = is.whole; kept = is.kept; cut = is.cut }
 
@@ -176,8 +181,10 @@ module _ (rule overlap : ℕ) (features : List (List Rect)) (zones : List Zone) 
 
       covered : (k : ℕ) (p : Pt) → k < n + 1 → part_at features k p → ¬ Any (λ z. Has z.rect p) zones → Any (λ x. Covers x.part p) (pieces ++ more)
       covered k p l in_k none = elim (cases_eq k n) [
-        | inl e ↦ (let (x, x_in, has) = in-any (λ x. Covers x.part p) more (all p (subst (λ m. part_at features m p) e in_k) none) in any-in (λ x. Covers x.part p) (pieces ++ more) x (Contains-append_right pieces more x x_in) has)
-        | inr ne ↦ (let (x, x_in, has) = in-any (λ x. Covers x.part p) pieces (h.all k p (omega (arith, l, ne)) in_k none) in any-in (λ x. Covers x.part p) (pieces ++ more) x (Contains-append_left pieces more x x_in) has)
+        | inl e ↦ (let (x, x_in, has) = in-any (λ x. Covers x.part p) more (all p (subst (λ m. part_at features m p) e in_k) none) in
+            any-in (λ x. Covers x.part p) (pieces ++ more) x (Contains-append_right pieces more x x_in) has)
+        | inr ne ↦ (let (x, x_in, has) = in-any (λ x. Covers x.part p) pieces (h.all k p (omega (arith, l, ne)) in_k none) in
+            any-in (λ x. Covers x.part p) (pieces ++ more) x (Contains-append_left pieces more x x_in) has)
       ]
 
       more-pieces : ArePiecesBelow features zones (n + 1) (pieces ++ more)
@@ -187,7 +194,8 @@ module _ (rule overlap : ℕ) (features : List (List Rect)) (zones : List Zone) 
         apart = AllPairs-append (λ x y. AreApart x.part y.part) pieces more h.apart apart across;
       }
 
-    pub pieces-next : (pieces new : List Piece) → ArePiecesBelow features zones n pieces → AreRectsWithin farthest (get_or features n []) → AddsPieces (get_or features n []) holes n pieces new → ArePiecesBelow features zones (n + 1) new
+    pub pieces-next : (pieces new : List Piece) → ArePiecesBelow features zones n pieces → AreRectsWithin farthest (get_or features n [])
+        → AddsPieces (get_or features n []) holes n pieces new → ArePiecesBelow features zones (n + 1) new
     pieces-next pieces new h within (inl (none, new_is)) =
         let is : IsPieceBelow features zones (n + 1) (whole_piece n (get_or features n [])) = whole-is none within in
         rw new_is

@@ -50,7 +50,8 @@ corner-number LowerLeft k r = refl
 corner-number LowerRight k r = refl
 corner-number UpperLeft k r = refl
 
-module _ (kind : Kind) (parts : List (List Rect)) (origins : List Origin) (n : ℕ) (old : List Corner) (before : (c : Corner) → Contains old c ↔ IsFirstBroken kind parts origins n c) where
+module _ (kind : Kind) (parts : List (List Rect)) (origins : List Origin) (n : ℕ) (old : List Corner) (before : (c : Corner)
+    → Contains old c ↔ IsFirstBroken kind parts origins n c) where
   earlier : (c : Corner) → IsFirstBroken kind parts origins n c → IsFirstBroken kind parts origins (n + 1) c
   earlier c ((k, r, l, r_in, is), broken) = ((k, r, omega (arith, l), r_in, is), broken)
 
@@ -64,18 +65,23 @@ module _ (kind : Kind) (parts : List (List Rect)) (origins : List Origin) (n : �
     ]),
   )
 
-  pub corners-next : (new : List Corner) (part : List Rect) → n < length parts → part ≡ get_or parts n part → IsBroken origins n → new ≡ old ++ map (corner_of kind n) part → (c : Corner) → Contains new c ↔ IsFirstBroken kind parts origins (n + 1) c
+  pub corners-next : (new : List Corner) (part : List Rect) → n < length parts → part ≡ get_or parts n part → IsBroken origins n
+      → new ≡ old ++ map (corner_of kind n) part → (c : Corner) → Contains new c ↔ IsFirstBroken kind parts origins (n + 1) c
   corners-next new part n_in part_is broken new_is c =
       let own : part ≡ get_or parts n [] = part_is ∙ get_or_default parts n part [] n_in in (
         λ h. elim (Contains-append_cases old (map (corner_of kind n) part) c (subst (λ l. Contains l c) new_is h)) [
           | inl a ↦ earlier c ((before c).0 a)
-          | inr b ↦ (let (r, r_in, is) = Contains-map (corner_of kind n) part c b in
-              ((n, r, omega arith, subst (λ p. Contains p r) own r_in, is), subst (IsBroken origins) (sym (corner-number kind n r) ∙ ap (λ t. let u : Corner = t in u.number) is) broken))
+          | inr b ↦ (let (r, r_in, is) = Contains-map (corner_of kind n) part c b in (
+            (n, r, omega arith, subst (λ p. Contains p r) own r_in, is),
+            subst (IsBroken origins) (sym (corner-number kind n r)
+                ∙ ap (λ t. let u : Corner = t in u.number) is) broken,
+          ))
         ],
         λ ((k, r, l, r_in, is), so). subst (λ t. Contains t c) (sym new_is) (elim (cases_eq k n) [
           | inl e ↦ (
               let mine : Contains part r = subst (λ p. Contains p r) (ap (λ q. get_or parts q []) e ∙ sym own) r_in in
-              Contains-append_right old (map (corner_of kind n) part) c (subst (λ t. Contains (map (corner_of kind n) part) t) (ap (λ q. corner_of kind q r) (sym e) ∙ is) (map-Contains (corner_of kind n) part r mine)))
+              Contains-append_right old (map (corner_of kind n) part) c (subst (λ t. Contains (map (corner_of kind n) part) t)
+              (ap (λ q. corner_of kind q r) (sym e) ∙ is) (map-Contains (corner_of kind n) part r mine)))
           | inr ne ↦ Contains-append_left old (map (corner_of kind n) part) c ((before c).1 ((k, r, omega (arith, l, ne), r_in, is), so))
         ]),
       )
@@ -88,7 +94,9 @@ pub only-one : (c d : Corner) → Contains (c ∷ []) d → c ≡ d
 only-one c d h = elim (Contains-cases c d [] h) [ inl e ↦ e | inr none ↦ absurd (Contains-nil d none) ]
 
 module _ (kind : Kind) (zones : List Zone) where
-  pub zones-next : (n : ℕ) (old : List Corner) (z : Zone) → n < length zones → z ≡ get_or zones n z → ((c : Corner) → Contains old c ↔ IsFirstZoneCorner kind zones n c) → (c : Corner) → Contains (old ++ corner_of kind n z.rect ∷ []) c ↔ IsFirstZoneCorner kind zones (n + 1) c
+  pub zones-next : (n : ℕ) (old : List Corner) (z : Zone) → n < length zones → z ≡ get_or zones n z
+      → ((c : Corner) → Contains old c ↔ IsFirstZoneCorner kind zones n c) → (c : Corner) → Contains (old ++ corner_of kind n z.rect ∷ []) c
+      ↔ IsFirstZoneCorner kind zones (n + 1) c
   zones-next n old z n_in z_is before c =
       let one : Corner = corner_of kind n z.rect in (
         λ h. elim (Contains-append_cases old (one ∷ []) c h) [
@@ -97,7 +105,8 @@ module _ (kind : Kind) (zones : List Zone) where
               let e : one ≡ c = only-one one c b in
               let own : c.number ≡ n = ap (λ t. let u : Corner = t in u.number) (sym e) ∙ corner-number kind n z.rect in (
                 omega (arith, own),
-                λ d. ap (λ m. corner_of kind m (get_or zones m d).rect) own ∙ (ap (λ t. let u : Zone = t in corner_of kind n u.rect) (sym (z_is ∙ get_or_default zones n z d n_in)) ∙ e),
+                λ d. ap (λ m. corner_of kind m (get_or zones m d).rect) own ∙ (ap (λ t. let u : Zone = t in
+                    corner_of kind n u.rect) (sym (z_is ∙ get_or_default zones n z d n_in)) ∙ e),
               ))
         ],
         λ (l, is). elim (cases_eq c.number n) [
@@ -108,7 +117,8 @@ module _ (kind : Kind) (zones : List Zone) where
         ],
       )
 
-  pub zones-sorted : (old new : List Corner) → IsPermutation old new → ((c : Corner) → Contains old c ↔ IsZoneCorner kind zones c) → (c : Corner) → Contains new c ↔ IsZoneCorner kind zones c
+  pub zones-sorted : (old new : List Corner) → IsPermutation old new → ((c : Corner) → Contains old c ↔ IsZoneCorner kind zones c)
+      → (c : Corner) → Contains new c ↔ IsZoneCorner kind zones c
   zones-sorted old new same h c = (
     λ g. (h c).0 (Contains-permutation new old c (IsPermutation-sym old new same) g),
     λ g. Contains-permutation old new c same ((h c).1 g),
@@ -116,7 +126,8 @@ module _ (kind : Kind) (zones : List Zone) where
 
   -- their numbers are those of zones
   pub zone-numbers : (corners : List Corner) (n : ℕ) → length zones ≡ n → ((c : Corner) → Contains corners c ↔ IsZoneCorner kind zones c) → All (λ c. c.number < n) corners
-  zone-numbers corners n each members i d l = subst (λ m. (get_or corners i d).number < m) each ((members (get_or corners i d)).0 (i, l, get_or_default corners i (get_or corners i d) d l)).0
+  zone-numbers corners n each members i d l = subst (λ m. (get_or corners i d).number < m) each
+      ((members (get_or corners i d)).0 (i, l, get_or_default corners i (get_or corners i d) d l)).0
 
 -- what comes before something less is less, and what comes before something equal, and isn't less, is equal
 index-less : (o p : Ordering) → ordering_index o ≤ ordering_index p → is_lt p ≡ true → is_lt o ≡ true
@@ -140,10 +151,12 @@ module _ (corners : List Corner) (rise : RiseByCorner corners) (x y : ℤ) where
   rises = searchable_from_sorted rows_total (λ c. (c.y, c.x)) corners (y, x) rise
 
   pub corners-parted : IsPartitionedBy (λ c. is_lt (row_cmp (c.y, c.x) (y, x))) corners
-  corners-parted i j d a b t = index-less (row_cmp ((get_or corners i d).y, (get_or corners i d).x) (y, x)) (row_cmp ((get_or corners j d).y, (get_or corners j d).x) (y, x)) (rises i j d a b) t
+  corners-parted i j d a b t = index-less (row_cmp ((get_or corners i d).y, (get_or corners i d).x) (y, x))
+      (row_cmp ((get_or corners j d).y, (get_or corners j d).x) (y, x)) (rises i j d a b) t
 
   -- no corner is at the point before those that come before it end, nor from the first one on that is elsewhere
-  pub none-elsewhere : (first i k : ℕ) (d : Corner) → IsPartitionPoint (λ c. is_lt (row_cmp (c.y, c.x) (y, x)) ≡ true) (λ c. is_lt (row_cmp (c.y, c.x) (y, x)) ≡ false) corners first → first ≤ i → k < length corners
+  pub none-elsewhere : (first i k : ℕ) (d : Corner) → IsPartitionPoint (λ c. is_lt (row_cmp (c.y, c.x) (y, x)) ≡ true)
+      (λ c. is_lt (row_cmp (c.y, c.x) (y, x)) ≡ false) corners first → first ≤ i → k < length corners
       → (i < length corners → (get_or corners i d).x ≡ x → (get_or corners i d).y ≡ y → ⊥) → ((k < first) ⊎ (i ≤ k)) → (get_or corners k d).x ≡ x → (get_or corners k d).y ≡ y → ⊥
   none-elsewhere first i k d parted l k_in stop where_k at_x at_y =
       let tied : row_cmp ((get_or corners k d).y, (get_or corners k d).x) (y, x) ≡ Equal = rw (at_x, at_y) (tied_itself rows_total (y, x)) in
@@ -151,7 +164,8 @@ module _ (corners : List Corner) (rise : RiseByCorner corners) (x y : ℤ) where
         | inl before ↦ (let less = parted.0 k d (omega arith) before in cc)
         | inr after ↦ (
             let i_in : i < length corners = omega (arith, after, k_in) in
-            let same = index-equal (row_cmp ((get_or corners i d).y, (get_or corners i d).x) (y, x)) (row_cmp ((get_or corners k d).y, (get_or corners k d).x) (y, x)) (rises i k d after k_in) (parted.1 i d l i_in) tied in
+            let same = index-equal (row_cmp ((get_or corners i d).y, (get_or corners i d).x) (y, x))
+            (row_cmp ((get_or corners k d).y, (get_or corners k d).x) (y, x)) (rises i k d after k_in) (parted.1 i d l i_in) tied in
             let e = exact_pairs int_cmp int_cmp exact_signed exact_signed ((get_or corners i d).y, (get_or corners i d).x) (y, x) same in
             stop i_in (ap (λ (p : ℤ × ℤ). p.1) e) (ap (λ (p : ℤ × ℤ). p.0) e))
       ]
@@ -163,7 +177,8 @@ zip-push R [] (b ∷ ys) x y h r = absurd h
 zip-push R (a ∷ xs) [] x y h r = absurd h
 zip-push R (a ∷ xs) (b ∷ ys) x y h r = (h.0, zip-push R xs ys x y h.1 r)
 
-pub zip-next : {A B : Type 0} (R : A → B → Type 0) (xs : List A) (ys : List B) (n : ℕ) (x : A) (y : B) → n < length xs → x ≡ get_or xs n x → AllZip R (take n xs) ys → R x y → AllZip R (take (n + 1) xs) (ys ++ y ∷ [])
+pub zip-next : {A B : Type 0} (R : A → B → Type 0) (xs : List A) (ys : List B) (n : ℕ) (x : A) (y : B) → n < length xs → x ≡ get_or xs n x
+    → AllZip R (take n xs) ys → R x y → AllZip R (take (n + 1) xs) (ys ++ y ∷ [])
 zip-next R xs ys n x y n_in x_is h r =
     let one : n + 1 ≡ suc n = omega arith in
     let step : take (n + 1) xs ≡ take n xs ++ x ∷ [] = ap (λ k. take k xs) one ∙ (take-suc xs n x n_in ∙ ap (λ s. take n xs ++ s ∷ []) (sym x_is)) in
@@ -181,13 +196,15 @@ zip-at R (x ∷ xs) [] k d e h l = absurd h
 zip-at R (x ∷ xs) (y ∷ ys) zero d e h l = h.0
 zip-at R (x ∷ xs) (y ∷ ys) (suc k) d e h l = zip-at R xs ys k d e h.1 (omega (arith, l))
 
-pub zip-from : {A B : Type 0} (R : A → B → Type 0) (xs : List A) (ys : List B) → length xs ≡ length ys → ((k : ℕ) (d : A) (e : B) → k < length xs → R (get_or xs k d) (get_or ys k e)) → AllZip R xs ys
+pub zip-from : {A B : Type 0} (R : A → B → Type 0) (xs : List A) (ys : List B) → length xs ≡ length ys
+    → ((k : ℕ) (d : A) (e : B) → k < length xs → R (get_or xs k d) (get_or ys k e)) → AllZip R xs ys
 zip-from R [] [] same h = tt
 zip-from R [] (y ∷ ys) same h = absurd (omega (arith, same))
 zip-from R (x ∷ xs) [] same h = absurd (omega (arith, same))
 zip-from R (x ∷ xs) (y ∷ ys) same h = (h 0 x y (omega arith), zip-from R xs ys (omega (arith, same)) (λ k d e l. h (suc k) d e (omega (arith, l))))
 
-pub zip-both : {A B C : Type 0} (R : A → B → Type 0) (S : A → C → Type 0) (xs : List A) (ys : List B) (zs : List C) → AllZip R xs ys → AllZip S xs zs → AllZip (λ x p. R x p.0 × S x p.1) xs (zip ys zs)
+pub zip-both : {A B C : Type 0} (R : A → B → Type 0) (S : A → C → Type 0) (xs : List A) (ys : List B) (zs : List C) → AllZip R xs ys
+    → AllZip S xs zs → AllZip (λ x p. R x p.0 × S x p.1) xs (zip ys zs)
 zip-both R S [] [] zs g h = tt
 zip-both R S [] (y ∷ ys) zs g h = absurd g
 zip-both R S (x ∷ xs) [] zs g h = absurd g

@@ -87,7 +87,8 @@ module _ (features : List (List Rect)) (zones : List Zone) (given : AreFeatures 
     all-owned = zip-of (IsOwner features) (λ x. x.part) (λ x. x.owner) pieces cut.owned
 
     -- a piece that isn't broken is its feature
-    whole-feature : (i : ℕ) → i < length (parts_in pieces) → get_or (origins_in pieces) i Broken ≡ Whole → (k : ℕ) × (k < length features) × (get_or features k [] ≡ get_or (parts_in pieces) i [])
+    whole-feature : (i : ℕ) → i < length (parts_in pieces) → get_or (origins_in pieces) i Broken ≡ Whole → (k : ℕ) × (k < length features)
+        × (get_or features k [] ≡ get_or (parts_in pieces) i [])
     whole-feature i i_in is =
         let at : i < length pieces = in-pieces i i_in in
         let x : Piece = get_or pieces i (whole_piece 0 []) in
@@ -97,7 +98,8 @@ module _ (features : List (List Rect)) (zones : List Zone) (given : AreFeatures 
     pub stands : All (λ z. (side : ℕ × ℕ) × StandBroken (parts_in pieces) (origins_in pieces) z side) zones
     stands k z k_in =
         let (rule, overlap, some, zs) = theirs in
-        stand-broken rule overlap (union_of features) features (parts_in pieces) zones some comps zs cut.components (origins_in pieces) origins-each whole-feature (get_or zones k z) (k, k_in, get_or_default zones k (get_or zones k z) z k_in)
+        stand-broken rule overlap (union_of features) features (parts_in pieces) zones some comps zs cut.components
+        (origins_in pieces) origins-each whole-feature (get_or zones k z) (k, k_in, get_or_default zones k (get_or zones k z) z k_in)
 
     pub owners-each : length (owners_in pieces) ≡ length (parts_in pieces)
     owners-each = length-map pieces (λ x. x.owner) ∙ sym (length-map pieces (λ x. x.part))
@@ -113,7 +115,8 @@ module _ (features : List (List Rect)) (zones : List Zone) (given : AreFeatures 
           zones = zones-within within;
         }
 
-    their-pieces : (sides : List (ℕ × ℕ)) → AllZip (StandBeside (parts_in pieces)) zones sides → AreTheirPieces features zones (cut_pieces (parts_in pieces) (owners_in pieces) (keys_in (parts_in pieces)) zones sides)
+    their-pieces : (sides : List (ℕ × ℕ)) → AllZip (StandBeside (parts_in pieces)) zones sides
+        → AreTheirPieces features zones (cut_pieces (parts_in pieces) (owners_in pieces) (keys_in (parts_in pieces)) zones sides)
     their-pieces sides stand_so layer c =
         let (rule, overlap, some, zs) = theirs in
         record {
@@ -148,7 +151,8 @@ beside-known parts z side (one, two) = (
 )
 
 -- with the pieces beside each zone they are complete
-pub matched : (b : BareCut) (kinds : List Origin) (sides : List (ℕ × ℕ)) → AreBare b kinds → AllZip (StandBeside b.parts) b.zones sides → AreMatched (cut_pieces b.parts b.owners (keys_in b.parts) b.zones sides)
+pub matched : (b : BareCut) (kinds : List Origin) (sides : List (ℕ × ℕ)) → AreBare b kinds → AllZip (StandBeside b.parts) b.zones sides
+    → AreMatched (cut_pieces b.parts b.owners (keys_in b.parts) b.zones sides)
 matched b kinds sides h stand_so =
     let each : length b.zones ≡ length sides = zip-length (StandBeside b.parts) b.zones sides stand_so in
     record {

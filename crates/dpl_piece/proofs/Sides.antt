@@ -22,8 +22,10 @@ broken-or_whole Whole h = absurd (h refl)
 broken-or_whole Broken h = refl
 
 -- the pieces beside a zone are broken
-module _ (rule overlap : ℕ) (layer : Region) (features pieces : List (List Rect)) (zones : List Zone) (some : 1 ≤ overlap) (c : AreComponents layer features) (zs : AreZones rule overlap layer features zones) (ps : AreComponents (without layer zones) pieces)
-    (origins : List Origin) (each : length origins ≡ length pieces) (whole : (i : ℕ) → i < length pieces → get_or origins i Broken ≡ Whole → (k : ℕ) × (k < length features) × (get_or features k [] ≡ get_or pieces i [])) (z : Zone) (z_in : Contains zones z) where
+module _ (rule overlap : ℕ) (layer : Region) (features pieces : List (List Rect)) (zones : List Zone) (some : 1 ≤ overlap)
+    (c : AreComponents layer features) (zs : AreZones rule overlap layer features zones) (ps : AreComponents (without layer zones) pieces)
+    (origins : List Origin) (each : length origins ≡ length pieces) (whole : (i : ℕ) → i < length pieces → get_or origins i Broken ≡ Whole
+    → (k : ℕ) × (k < length features) × (get_or features k [] ≡ get_or pieces i [])) (z : Zone) (z_in : Contains zones z) where
   touching-broken : (i : ℕ) (p q : Pt) → i < length pieces → part_at pieces i p → Has z.rect q → Touch p q → IsBroken origins i
   touching-broken i p q i_in in_p in_z touch =
       let (f_in, kept_z) = kept rule overlap layer features zones c zs z z_in in
@@ -45,8 +47,11 @@ module _ (rule overlap : ℕ) (layer : Region) (features pieces : List (List Rec
       let (r, t, in_r, in_y, meet, after) = are_sides.second in
       (side, (st, touching-broken side.0 p q are_sides.known.0 in_p in_z touch, touching-broken side.1 r t are_sides.known.1 in_r in_y meet))
 
-module _ (rule overlap : ℕ) (layer : Region) (features pieces : List (List Rect)) (zones : List Zone) (some : 1 ≤ overlap) (c : AreComponents layer features) (zs : AreZones rule overlap layer features zones) (ps : AreComponents (without layer zones) pieces)
+module _ (rule overlap : ℕ) (layer : Region) (features pieces : List (List Rect)) (zones : List Zone) (some : 1 ≤ overlap)
+    (c : AreComponents layer features) (zs : AreZones rule overlap layer features zones) (ps : AreComponents (without layer zones) pieces)
     (sides : List (ℕ × ℕ)) (stand_so : AllZip (StandBeside pieces) zones sides) where
   pub sided : AllZip (AreSides features pieces) zones sides
   sided = zip-from (AreSides features pieces) zones sides (zip-length (StandBeside pieces) zones sides stand_so)
-      (λ k z s k_in. sides-from_stand rule overlap layer features pieces zones some c zs ps (get_or zones k z) (k, k_in, get_or_default zones k (get_or zones k z) z k_in) (get_or sides k s) (zip-at (StandBeside pieces) zones sides k z s stand_so k_in))
+      (λ k z s k_in. sides-from_stand rule overlap layer features pieces zones some c zs ps (get_or zones k z)
+      (k, k_in, get_or_default zones k (get_or zones k z) z k_in) (get_or sides k s)
+      (zip-at (StandBeside pieces) zones sides k z s stand_so k_in))

@@ -37,7 +37,8 @@ same_point : (p q : Pt) → p.x ≡ q.x → p.y ≡ q.y → p ≡ q
 same_point p q e f = ap (λ x. let r : Pt = record { x = x; y = p.y } in r) e ∙ ap (λ y. let r : Pt = record { x = q.x; y = y } in r) f
 
 -- of two parts without a common square, the one whose key isn't greater comes first
-rise-first : (s t : List Rect) → IsLeast (Covers s) (key_point s) → IsLeast (Covers t) (key_point t) → AreApart s t → ((least_key s).0 <ℤ (least_key t).0) ⊎ (((least_key s).0 ≡ (least_key t).0) × ((least_key s).1 ≤ℤ (least_key t).1)) → ComesFirst s t
+rise-first : (s t : List Rect) → IsLeast (Covers s) (key_point s) → IsLeast (Covers t) (key_point t) → AreApart s t
+    → ((least_key s).0 <ℤ (least_key t).0) ⊎ (((least_key s).0 ≡ (least_key t).0) × ((least_key s).1 ≤ℤ (least_key t).1)) → ComesFirst s t
 rise-first s t a b apart (inl l) = record { first = key_point s; second = key_point t; first_is = a; second_is = b; precedes = inl l }
 rise-first s t a b apart (inr (row, l)) =
     by_lt_z (least_key s).1 (least_key t).1
@@ -46,7 +47,8 @@ rise-first s t a b apart (inr (row, l)) =
     let same : key_point s ≡ key_point t = same_point (key_point s) (key_point t) column row in
     absurd (apart (key_point s) a.inside (subst (Covers t) (sym same) b.inside))))
 
-module _ (features : List (List Rect)) (zones : List Zone) (pieces sorted : List Piece) (h : ArePiecesBelow features zones (length features) pieces) (same : IsPermutation pieces sorted) (rise : RiseByLeast sorted) where
+module _ (features : List (List Rect)) (zones : List Zone) (pieces sorted : List Piece)
+    (h : ArePiecesBelow features zones (length features) pieces) (same : IsPermutation pieces sorted) (rise : RiseByLeast sorted) where
   abbrev left : Region
   left = without (union_of features) zones
 
@@ -54,7 +56,8 @@ module _ (features : List (List Rect)) (zones : List Zone) (pieces sorted : List
   nothing = whole_piece 0 []
 
   each : All (IsPieceBelow features zones (length features)) sorted
-  each k d k_in = All-contains (IsPieceBelow features zones (length features)) pieces (get_or sorted k d) h.each (Contains-permutation sorted pieces (get_or sorted k d) (IsPermutation-sym pieces sorted same) (Contains-get_or sorted k d k_in))
+  each k d k_in = All-contains (IsPieceBelow features zones (length features)) pieces (get_or sorted k d) h.each
+      (Contains-permutation sorted pieces (get_or sorted k d) (IsPermutation-sym pieces sorted same) (Contains-get_or sorted k d k_in))
 
   apart : AllPairs (λ x y. AreApart x.part y.part) sorted
   apart = AllPairs-permutation (λ x y. AreApart x.part y.part) (λ x y a p in_y in_x. a p in_x in_y) pieces sorted same h.apart
@@ -86,8 +89,14 @@ module _ (features : List (List Rect)) (zones : List Zone) (pieces sorted : List
     λ (in_u, none). (let (k, part, k_in, is, has) = in_u in
         let in_k = subst (λ s. Covers s p) (sym is ∙ get_or_default features k part [] k_in) has in
         let (x, x_in, covers) = in-any (λ x. Covers x.part p) pieces (h.all k p k_in in_k none) in
-        let (i, i_in, i_is) = Contains-permutation pieces sorted x same x_in in
-        (i, x.part, subst (λ m. i < m) (sym (length-map sorted (λ y. y.part))) i_in, get_or-map (λ y. y.part) sorted i x x.part i_in ∙ ap (λ y. let z : Piece = y in z.part) i_is, covers)),
+        let (i, i_in, i_is) = Contains-permutation pieces sorted x same x_in in (
+          i,
+          x.part,
+          subst (λ m. i < m) (sym (length-map sorted (λ y. y.part))) i_in,
+          get_or-map (λ y. y.part) sorted i x x.part i_in
+              ∙ ap (λ y. let z : Piece = y in z.part) i_is,
+          covers,
+        )),
   )
 
   ordered : AllPairs ComesFirst (parts_in sorted)

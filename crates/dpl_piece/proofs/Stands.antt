@@ -36,8 +36,20 @@ broad rule overlap layer f z some h =
     let run = h.is.runs r.x0 (omega (arith, ints)) (omega (arith, ints, long)) in
     let tall = run.some in
     elim h.middle.middle [
-      | inl e ↦ record { wide = omega (arith, ints, width, some); tall = omega (arith, ints, tall, rows.0, rows.1); left = omega (arith, ints, e, long, width); right = omega (arith, ints, e, long, width) }
-      | inr e ↦ record { wide = omega (arith, ints, width, some); tall = omega (arith, ints, tall, rows.0, rows.1); left = omega (arith, ints, e, long, width); right = omega (arith, ints, e, long, width) }
+      | inl e ↦ record {
+        wide = omega (arith, ints, width, some);
+        tall = omega (arith, ints, tall, rows.0, rows.1);
+        left = omega
+            (arith, ints, e, long, width);
+        right = omega (arith, ints, e, long, width);
+      }
+      | inr e ↦ record {
+        wide = omega (arith, ints, width, some);
+        tall = omega (arith, ints, tall, rows.0, rows.1);
+        left = omega
+            (arith, ints, e, long, width);
+        right = omega (arith, ints, e, long, width);
+      }
     ]
 
 pub record IsSquareWithin (bound : ℕ) (p : Pt) : Type 0 where
@@ -59,13 +71,20 @@ square-within rs p within covered =
     let g = has.right in
     let h = has.low in
     let i = has.high in
-    record { column = omega (arith, ints, a, b, f, g); row = omega (arith, ints, d, e, h, i); next_column = omega (arith, ints, a, b, f, g); next_row = omega (arith, ints, d, e, h, i) }
+    record {
+      column = omega (arith, ints, a, b, f, g);
+      row = omega (arith, ints, d, e, h, i);
+      next_column = omega
+          (arith, ints, a, b, f, g);
+      next_row = omega (arith, ints, d, e, h, i);
+    }
 
 pub corner-same : (x y u v : ℤ) (k : ℕ) → x ≡ u → y ≡ v → corner_at x y k ≡ corner_at u v k
 corner-same x y u v k e f = ap (λ i. corner_at i y k) e ∙ ap (λ i. corner_at u i k) f
 
 -- a zone has some square, and lies within the range of its feature
-module _ (rule overlap : ℕ) (layer : Region) (features : List (List Rect)) (zones : List Zone) (some : 1 ≤ overlap) (c : AreComponents layer features) (zs : AreZones rule overlap layer features zones) (z : Zone) (z_in : Contains zones z) where
+module _ (rule overlap : ℕ) (layer : Region) (features : List (List Rect)) (zones : List Zone) (some : 1 ≤ overlap)
+    (c : AreComponents layer features) (zs : AreZones rule overlap layer features zones) (z : Zone) (z_in : Contains zones z) where
   solid-kept : IsKeptZone rule overlap layer (part_at features z.feature) z.rect → (z.rect.x0 <ℤ z.rect.x1) × (z.rect.y0 <ℤ z.rect.y1)
   solid-kept (inl h) = let s = broad rule overlap layer (part_at features z.feature) z.rect some h in (s.wide, s.tall)
   solid-kept (inr (h, none)) = let s = broad rule overlap (turned layer) (turned (part_at features z.feature)) (turned_rect z.rect) some h in (s.tall, s.wide)
@@ -82,247 +101,296 @@ module _ (rule overlap : ℕ) (layer : Region) (features : List (List Rect)) (zo
       let q : Pt = at (z.rect.x1 -ℤ pos 1) (z.rect.y1 -ℤ pos 1) in
       let p_in : Has z.rect p = record { left = omega (arith, ints); right = zw; low = omega (arith, ints); high = zt } in
       let q_in : Has z.rect q = record { left = omega (arith, ints, zw); right = omega (arith, ints); low = omega (arith, ints, zt); high = omega (arith, ints) } in
-      let one = square-within (get_or features z.feature []) p (within z.feature [] k.0) (kept-inside rule overlap layer features zones c zs (part_at features z.feature) z.rect p k.1 p_in) in
-      let two = square-within (get_or features z.feature []) q (within z.feature [] k.0) (kept-inside rule overlap layer features zones c zs (part_at features z.feature) z.rect q k.1 q_in) in
+      let one = square-within (get_or features z.feature []) p (within z.feature [] k.0)
+      (kept-inside rule overlap layer features zones c zs (part_at features z.feature) z.rect p k.1 p_in) in
+      let two = square-within (get_or features z.feature []) q (within z.feature [] k.0)
+      (kept-inside rule overlap layer features zones c zs (part_at features z.feature) z.rect q k.1 q_in) in
       let ox = one.column in
       let oy = one.row in
       let tx = two.next_column in
       let ty = two.next_row in
       record { wide = zw; tall = zt; left = ox; right = omega (arith, ints, tx); low = oy; high = omega (arith, ints, ty) }
 
-module _ (rule overlap : ℕ) (layer : Region) (features pieces : List (List Rect)) (zones : List Zone) (some : 1 ≤ overlap) (c : AreComponents layer features) (zs : AreZones rule overlap layer features zones) (ps : AreComponents (without layer zones) pieces) where
-  abbrev pub Rest : Region
-  Rest = without layer zones
+module _ (rule overlap : ℕ) (layer : Region) (features pieces : List (List Rect)) (zones : List Zone) (some : 1 ≤ overlap)
+    (c : AreComponents layer features) (zs : AreZones rule overlap layer features zones) (ps : AreComponents (without layer zones) pieces)
+  where
+    abbrev pub Rest : Region
+    Rest = without layer zones
 
-  -- a slab of a piece that has the square
-  piece-slab : (p : Pt) → without layer zones p → (i : ℕ) × (r : Rect) × (i < length pieces) × Contains (get_or pieces i []) r × Has r p
-  piece-slab p rest =
-      let (i, i_in, covered) = some-part (without layer zones) pieces p ps rest in
-      let found = member-Covers (get_or pieces i []) p covered in
-      (i, found.0, i_in, found.1, found.2)
+    -- a slab of a piece that has the square
+    piece-slab : (p : Pt) → without layer zones p → (i : ℕ) × (r : Rect) × (i < length pieces) × Contains (get_or pieces i []) r × Has r p
+    piece-slab p rest =
+        let (i, i_in, covered) = some-part (without layer zones) pieces p ps rest in
+        let found = member-Covers (get_or pieces i []) p covered in
+        (i, found.0, i_in, found.1, found.2)
 
-  slab-rest : (i : ℕ) (r : Rect) (p : Pt) → i < length pieces → Contains (get_or pieces i []) r → Has r p → without layer zones p
-  slab-rest i r p i_in r_in has = in-set (without layer zones) pieces i p ps i_in (Covers-member (get_or pieces i []) r p r_in has)
+    slab-rest : (i : ℕ) (r : Rect) (p : Pt) → i < length pieces → Contains (get_or pieces i []) r → Has r p → without layer zones p
+    slab-rest i r p i_in r_in has = in-set (without layer zones) pieces i p ps i_in (Covers-member (get_or pieces i []) r p r_in has)
 
-  slab-solid : (i : ℕ) (r : Rect) → i < length pieces → Contains (get_or pieces i []) r → IsSolid r
-  slab-solid i r i_in r_in = let k : IsCanonical (get_or pieces i []) = ps.canonical i [] i_in in All-contains IsSolid (get_or pieces i []) r k.solid r_in
+    slab-solid : (i : ℕ) (r : Rect) → i < length pieces → Contains (get_or pieces i []) r → IsSolid r
+    slab-solid i r i_in r_in = let k : IsCanonical (get_or pieces i []) = ps.canonical i [] i_in in All-contains IsSolid (get_or pieces i []) r k.solid r_in
 
-  module _ (z : Zone) (z_in : Contains zones z) where
-    not-in-zone : (p : Pt) → without layer zones p → Has z.rect p → ⊥
-    not-in-zone p rest has = let (n, n_in, n_is) = z_in in rest.1 (n, z, n_in, n_is, has)
+    module _ (z : Zone) (z_in : Contains zones z) where
+      not-in-zone : (p : Pt) → without layer zones p → Has z.rect p → ⊥
+      not-in-zone p rest has = let (n, n_in, n_is) = z_in in rest.1 (n, z, n_in, n_is, has)
 
-    -- a square of the rest that touches the zone is in the zone's feature
-    pub touching-in : (p q : Pt) → without layer zones p → Has z.rect q → Touch p q → part_at features z.feature p
-    touching-in p q rest has touch =
-        let k = kept rule overlap layer features zones c zs z z_in in
-        closed layer features z.feature p q c k.0 rest.0 (kept-inside rule overlap layer features zones c zs (part_at features z.feature) z.rect q k.1 has) touch
+      -- a square of the rest that touches the zone is in the zone's feature
+      pub touching-in : (p q : Pt) → without layer zones p → Has z.rect q → Touch p q → part_at features z.feature p
+      touching-in p q rest has touch =
+          let k = kept rule overlap layer features zones c zs z z_in in
+          closed layer features z.feature p q c k.0 rest.0 (kept-inside rule overlap layer features zones c zs (part_at features z.feature) z.rect q k.1 has) touch
 
-    module _ (h : IsHorizontalZone rule overlap layer (part_at features z.feature) z.rect) where
-      abbrev b : IsBroad h.stretch z.rect
-      b = broad rule overlap layer (part_at features z.feature) z.rect some h
+      module _ (h : IsHorizontalZone rule overlap layer (part_at features z.feature) z.rect) where
+        abbrev b : IsBroad h.stretch z.rect
+        b = broad rule overlap layer (part_at features z.feature) z.rect some h
 
-      first-across : (k : ℕ) × IsCornerOf LowerRight pieces (corner_at z.rect.x0 z.rect.y0 k)
-      first-across =
-          let wide = b.wide in
-          let tall = b.tall in
-          let left = b.left in
-          let right = b.right in
-          let rows = h.middle.rows in
-          let x : ℤ = z.rect.x0 -ℤ pos 1 in
-          let p : Pt = at x z.rect.y0 in
+        first-across : (k : ℕ) × IsCornerOf LowerRight pieces (corner_at z.rect.x0 z.rect.y0 k)
+        first-across =
+            let wide = b.wide in
+            let tall = b.tall in
+            let left = b.left in
+            let right = b.right in
+            let rows = h.middle.rows in
+            let x : ℤ = z.rect.x0 -ℤ pos 1 in
+            let p : Pt = at x z.rect.y0 in
+            let q : Pt = at z.rect.x0 z.rect.y0 in
+            let q_in : Has z.rect q = record { left = omega (arith, ints); right = wide; low = omega (arith, ints); high = tall } in
+            let (i, r, i_in, r_in, has) = piece-slab p (rest-across rule overlap layer features zones c zs z z_in h x z.rect.y0
+            (inl (omega (arith, ints))) wide (omega (arith, ints)) tall) in
+            let hl = has.left in
+            let hr = has.right in
+            let hb = has.low in
+            let ht = has.high in
+            let column : r.x1 ≡ z.rect.x0 = by_lt_z z.rect.x0 r.x1
+            (λ l. absurd (not-in-zone q (slab-rest i r q i_in r_in (record { left = omega (arith, ints, hl); right = l; low = hb; high = ht })) q_in))
+            (λ m. omega (arith, ints, m, hr)) in
+            let row : r.y0 ≡ z.rect.y0 = by_lt_z r.y0 z.rect.y0
+            (λ l. absurd (
+            let s : Pt = at x (z.rect.y0 -ℤ pos 1) in
+            let rest = slab-rest i r s i_in r_in (record { left = hl; right = hr; low = omega (arith, ints, l); high = omega (arith, ints, ht) }) in
+            let in_f = touching-in s q rest q_in (Touch-from_close s q (omega (arith, ints)) (omega (arith, ints)) (omega (arith, ints)) (omega (arith, ints))) in
+            let run = h.is.runs x (omega (arith, ints, left)) (omega (arith, ints, wide, right)) in
+            run.below (subst (λ y. part_at features z.feature (at x y)) (ap (λ y. y -ℤ pos 1) rows.0) in_f)))
+            (λ m. omega (arith, ints, m, hb)) in
+            (i, (i, r, i_in, r_in, corner-same r.x1 r.y0 z.rect.x0 z.rect.y0 i column row))
+
+        second-across : (k : ℕ) × IsCornerOf LowerLeft pieces (corner_at z.rect.x1 z.rect.y0 k)
+        second-across =
+            let wide = b.wide in
+            let tall = b.tall in
+            let left = b.left in
+            let right = b.right in
+            let rows = h.middle.rows in
+            let x : ℤ = z.rect.x1 in
+            let p : Pt = at x z.rect.y0 in
+            let q : Pt = at (z.rect.x1 -ℤ pos 1) z.rect.y0 in
+            let q_in : Has z.rect q = record { left = omega (arith, ints, wide); right = omega (arith, ints); low = omega (arith, ints); high = tall } in
+            let (i, r, i_in, r_in, has) = piece-slab p (rest-across rule overlap layer features zones c zs z z_in h x z.rect.y0 (inr refl) wide (omega (arith, ints)) tall) in
+            let hl = has.left in
+            let hr = has.right in
+            let hb = has.low in
+            let ht = has.high in
+            let column : r.x0 ≡ z.rect.x1 = by_lt_z r.x0 z.rect.x1
+            (λ l. absurd (not-in-zone q (slab-rest i r q i_in r_in (record { left = omega (arith, ints, l); right = omega (arith, ints, hr); low = hb; high = ht })) q_in))
+            (λ m. omega (arith, ints, m, hl)) in
+            let row : r.y0 ≡ z.rect.y0 = by_lt_z r.y0 z.rect.y0
+            (λ l. absurd (
+            let s : Pt = at x (z.rect.y0 -ℤ pos 1) in
+            let rest = slab-rest i r s i_in r_in (record { left = hl; right = hr; low = omega (arith, ints, l); high = omega (arith, ints, ht) }) in
+            let in_f = touching-in s q rest q_in (Touch-from_close s q (omega (arith, ints)) (omega (arith, ints)) (omega (arith, ints)) (omega (arith, ints))) in
+            let run = h.is.runs x (omega (arith, ints, wide, left)) (omega (arith, ints, right)) in
+            run.below (subst (λ y. part_at features z.feature (at x y)) (ap (λ y. y -ℤ pos 1) rows.0) in_f)))
+            (λ m. omega (arith, ints, m, hb)) in
+            (i, (i, r, i_in, r_in, corner-same r.x0 r.y0 z.rect.x1 z.rect.y0 i column row))
+
+      module _ (h : IsVerticalZone rule overlap layer (part_at features z.feature) z.rect) (none : (r : Rect)
+          → IsHorizontalZone rule overlap layer (part_at features z.feature) r → ¬ AreTouching (Has r) (Has z.rect)) where
+        abbrev v : IsBroad h.stretch (turned_rect z.rect)
+        v = broad rule overlap (turned layer) (turned (part_at features z.feature)) (turned_rect z.rect) some h
+
+        first-up : (k : ℕ) × IsCornerOf UpperLeft pieces (corner_at z.rect.x0 z.rect.y0 k)
+        first-up =
+            let tall : z.rect.y0 <ℤ z.rect.y1 = v.wide in
+            let wide : z.rect.x0 <ℤ z.rect.x1 = v.tall in
+            let left = v.left in
+            let right = v.right in
+            let rows = h.middle.rows in
+            let y : ℤ = z.rect.y0 -ℤ pos 1 in
+            let p : Pt = at z.rect.x0 y in
+            let q : Pt = at z.rect.x0 z.rect.y0 in
+            let q_in : Has z.rect q = record { left = omega (arith, ints); right = wide; low = omega (arith, ints); high = tall } in
+            let (i, r, i_in, r_in, has) = piece-slab p (rest-up rule overlap layer features zones c zs z z_in h none z.rect.x0 y
+            (inl (omega (arith, ints))) tall (omega (arith, ints)) wide) in
+            let hl = has.left in
+            let hr = has.right in
+            let hb = has.low in
+            let ht = has.high in
+            let row : r.y1 ≡ z.rect.y0 = by_lt_z z.rect.y0 r.y1
+            (λ l. absurd (not-in-zone q (slab-rest i r q i_in r_in (record { left = hl; right = hr; low = omega (arith, ints, hb); high = l })) q_in))
+            (λ m. omega (arith, ints, m, ht)) in
+            let column : r.x0 ≡ z.rect.x0 = by_lt_z r.x0 z.rect.x0
+            (λ l. absurd (
+            let s : Pt = at (z.rect.x0 -ℤ pos 1) y in
+            let rest = slab-rest i r s i_in r_in (record { left = omega (arith, ints, l); right = omega (arith, ints, hr); low = hb; high = ht }) in
+            let in_f = touching-in s q rest q_in (Touch-from_close s q (omega (arith, ints)) (omega (arith, ints)) (omega (arith, ints)) (omega (arith, ints))) in
+            let run = h.is.runs y (omega (arith, ints, left)) (omega (arith, ints, tall, right)) in
+            run.below (subst (λ x. part_at features z.feature (at x y)) (ap (λ x. x -ℤ pos 1) rows.0) in_f)))
+            (λ m. omega (arith, ints, m, hl)) in
+            (i, (i, r, i_in, r_in, corner-same r.x0 r.y1 z.rect.x0 z.rect.y0 i column row))
+
+        second-up : (k : ℕ) × IsCornerOf LowerLeft pieces (corner_at z.rect.x0 z.rect.y1 k)
+        second-up =
+            let tall : z.rect.y0 <ℤ z.rect.y1 = v.wide in
+            let wide : z.rect.x0 <ℤ z.rect.x1 = v.tall in
+            let left = v.left in
+            let right = v.right in
+            let rows = h.middle.rows in
+            let y : ℤ = z.rect.y1 in
+            let p : Pt = at z.rect.x0 y in
+            let q : Pt = at z.rect.x0 (z.rect.y1 -ℤ pos 1) in
+            let q_in : Has z.rect q = record { left = omega (arith, ints); right = wide; low = omega (arith, ints, tall); high = omega (arith, ints) } in
+            let (i, r, i_in, r_in, has) = piece-slab p (rest-up rule overlap layer features zones c zs z z_in h none z.rect.x0 y (inr refl) tall (omega (arith, ints)) wide) in
+            let hl = has.left in
+            let hr = has.right in
+            let hb = has.low in
+            let ht = has.high in
+            let row : r.y0 ≡ z.rect.y1 = by_lt_z r.y0 z.rect.y1
+            (λ l. absurd (not-in-zone q (slab-rest i r q i_in r_in (record { left = hl; right = hr; low = omega (arith, ints, l); high = omega (arith, ints, ht) })) q_in))
+            (λ m. omega (arith, ints, m, hb)) in
+            let column : r.x0 ≡ z.rect.x0 = by_lt_z r.x0 z.rect.x0
+            (λ l. absurd (
+            let s : Pt = at (z.rect.x0 -ℤ pos 1) y in
+            let rest = slab-rest i r s i_in r_in (record { left = omega (arith, ints, l); right = omega (arith, ints, hr); low = hb; high = ht }) in
+            let in_f = touching-in s q rest q_in (Touch-from_close s q (omega (arith, ints)) (omega (arith, ints)) (omega (arith, ints)) (omega (arith, ints))) in
+            let run = h.is.runs y (omega (arith, ints, tall, left)) (omega (arith, ints, right)) in
+            run.below (subst (λ x. part_at features z.feature (at x y)) (ap (λ x. x -ℤ pos 1) rows.0) in_f)))
+            (λ m. omega (arith, ints, m, hl)) in
+            (i, (i, r, i_in, r_in, corner-same r.x0 r.y0 z.rect.x0 z.rect.y1 i column row))
+
+      stand-kept : IsKeptZone rule overlap layer (part_at features z.feature) z.rect → (side : ℕ × ℕ) × StandBeside pieces z side
+      stand-kept (inl h) = let one = first-across h in let two = second-across h in ((one.0, two.0), (inl one.1, inl two.1))
+      stand-kept (inr (h, none)) = let one = first-up h none in let two = second-up h none in ((one.0, two.0), (inr one.1, inr two.1))
+
+      pub stand : (side : ℕ × ℕ) × StandBeside pieces z side
+      stand = stand-kept (kept rule overlap layer features zones c zs z z_in).1
+
+      solid : (z.rect.x0 <ℤ z.rect.x1) × (z.rect.y0 <ℤ z.rect.y1)
+      solid = solid-zone rule overlap layer features zones some c zs z z_in
+
+      -- a piece whose slab has the corner
+      from-left : (k : ℕ) → IsCornerOf LowerRight pieces (corner_at z.rect.x0 z.rect.y0 k) → (k < length pieces) × IsFirstSide (part_at pieces k) z.rect
+      from-left k (i, r, i_in, r_in, is) =
+          let same : i ≡ k = ap (λ t. let u : Corner = t in u.number) is in
+          let x : r.x1 ≡ z.rect.x0 = ap (λ t. let u : Corner = t in u.x) is in
+          let y : r.y0 ≡ z.rect.y0 = ap (λ t. let u : Corner = t in u.y) is in
+          let s = slab-solid i r i_in r_in in
+          let sw = s.wide in
+          let st = s.tall in
+          let zw = solid.0 in
+          let zt = solid.1 in
+          let p : Pt = at (r.x1 -ℤ pos 1) r.y0 in
           let q : Pt = at z.rect.x0 z.rect.y0 in
-          let q_in : Has z.rect q = record { left = omega (arith, ints); right = wide; low = omega (arith, ints); high = tall } in
-          let (i, r, i_in, r_in, has) = piece-slab p (rest-across rule overlap layer features zones c zs z z_in h x z.rect.y0 (inl (omega (arith, ints))) wide (omega (arith, ints)) tall) in
-          let hl = has.left in
-          let hr = has.right in
-          let hb = has.low in
-          let ht = has.high in
-          let column : r.x1 ≡ z.rect.x0 = by_lt_z z.rect.x0 r.x1
-          (λ l. absurd (not-in-zone q (slab-rest i r q i_in r_in (record { left = omega (arith, ints, hl); right = l; low = hb; high = ht })) q_in))
-          (λ m. omega (arith, ints, m, hr)) in
-          let row : r.y0 ≡ z.rect.y0 = by_lt_z r.y0 z.rect.y0
-          (λ l. absurd (
-          let s : Pt = at x (z.rect.y0 -ℤ pos 1) in
-          let rest = slab-rest i r s i_in r_in (record { left = hl; right = hr; low = omega (arith, ints, l); high = omega (arith, ints, ht) }) in
-          let in_f = touching-in s q rest q_in (Touch-from_close s q (omega (arith, ints)) (omega (arith, ints)) (omega (arith, ints)) (omega (arith, ints))) in
-          let run = h.is.runs x (omega (arith, ints, left)) (omega (arith, ints, wide, right)) in
-          run.below (subst (λ y. part_at features z.feature (at x y)) (ap (λ y. y -ℤ pos 1) rows.0) in_f)))
-          (λ m. omega (arith, ints, m, hb)) in
-          (i, (i, r, i_in, r_in, corner-same r.x1 r.y0 z.rect.x0 z.rect.y0 i column row))
+          let p_in : part_at pieces i p = Covers-member (get_or pieces i []) r p r_in
+          (record { left = omega (arith, ints, sw); right = omega (arith, ints); low = omega (arith, ints); high = st }) in
+          let q_in : Has z.rect q = record { left = omega (arith, ints); right = zw; low = omega (arith, ints); high = zt } in
+          subst (λ n. (n < length pieces) × IsFirstSide (part_at pieces n) z.rect) same (
+            i_in,
+            (
+              p,
+              q,
+              p_in,
+              q_in,
+              Touch-from_close p q (omega (arith, ints, x)) (omega (arith, ints, x)) (omega (arith, ints, y))
+                  (omega (arith, ints, y)),
+              inl (omega (arith, ints, x)),
+            ),
+          )
 
-      second-across : (k : ℕ) × IsCornerOf LowerLeft pieces (corner_at z.rect.x1 z.rect.y0 k)
-      second-across =
-          let wide = b.wide in
-          let tall = b.tall in
-          let left = b.left in
-          let right = b.right in
-          let rows = h.middle.rows in
-          let x : ℤ = z.rect.x1 in
-          let p : Pt = at x z.rect.y0 in
+      from-below : (k : ℕ) → IsCornerOf UpperLeft pieces (corner_at z.rect.x0 z.rect.y0 k) → (k < length pieces) × IsFirstSide (part_at pieces k) z.rect
+      from-below k (i, r, i_in, r_in, is) =
+          let same : i ≡ k = ap (λ t. let u : Corner = t in u.number) is in
+          let x : r.x0 ≡ z.rect.x0 = ap (λ t. let u : Corner = t in u.x) is in
+          let y : r.y1 ≡ z.rect.y0 = ap (λ t. let u : Corner = t in u.y) is in
+          let s = slab-solid i r i_in r_in in
+          let sw = s.wide in
+          let st = s.tall in
+          let zw = solid.0 in
+          let zt = solid.1 in
+          let p : Pt = at r.x0 (r.y1 -ℤ pos 1) in
+          let q : Pt = at z.rect.x0 z.rect.y0 in
+          let p_in : part_at pieces i p = Covers-member (get_or pieces i []) r p r_in
+          (record { left = omega (arith, ints); right = sw; low = omega (arith, ints, st); high = omega (arith, ints) }) in
+          let q_in : Has z.rect q = record { left = omega (arith, ints); right = zw; low = omega (arith, ints); high = zt } in
+          subst (λ n. (n < length pieces) × IsFirstSide (part_at pieces n) z.rect) same (
+            i_in,
+            (
+              p,
+              q,
+              p_in,
+              q_in,
+              Touch-from_close p q (omega (arith, ints, x)) (omega (arith, ints, x)) (omega (arith, ints, y))
+                  (omega (arith, ints, y)),
+              inr (omega (arith, ints, y)),
+            ),
+          )
+
+      from-right : (k : ℕ) → IsCornerOf LowerLeft pieces (corner_at z.rect.x1 z.rect.y0 k) → (k < length pieces) × IsSecondSide (part_at pieces k) z.rect
+      from-right k (i, r, i_in, r_in, is) =
+          let same : i ≡ k = ap (λ t. let u : Corner = t in u.number) is in
+          let x : r.x0 ≡ z.rect.x1 = ap (λ t. let u : Corner = t in u.x) is in
+          let y : r.y0 ≡ z.rect.y0 = ap (λ t. let u : Corner = t in u.y) is in
+          let s = slab-solid i r i_in r_in in
+          let sw = s.wide in
+          let st = s.tall in
+          let zw = solid.0 in
+          let zt = solid.1 in
+          let p : Pt = at r.x0 r.y0 in
           let q : Pt = at (z.rect.x1 -ℤ pos 1) z.rect.y0 in
-          let q_in : Has z.rect q = record { left = omega (arith, ints, wide); right = omega (arith, ints); low = omega (arith, ints); high = tall } in
-          let (i, r, i_in, r_in, has) = piece-slab p (rest-across rule overlap layer features zones c zs z z_in h x z.rect.y0 (inr refl) wide (omega (arith, ints)) tall) in
-          let hl = has.left in
-          let hr = has.right in
-          let hb = has.low in
-          let ht = has.high in
-          let column : r.x0 ≡ z.rect.x1 = by_lt_z r.x0 z.rect.x1
-          (λ l. absurd (not-in-zone q (slab-rest i r q i_in r_in (record { left = omega (arith, ints, l); right = omega (arith, ints, hr); low = hb; high = ht })) q_in))
-          (λ m. omega (arith, ints, m, hl)) in
-          let row : r.y0 ≡ z.rect.y0 = by_lt_z r.y0 z.rect.y0
-          (λ l. absurd (
-          let s : Pt = at x (z.rect.y0 -ℤ pos 1) in
-          let rest = slab-rest i r s i_in r_in (record { left = hl; right = hr; low = omega (arith, ints, l); high = omega (arith, ints, ht) }) in
-          let in_f = touching-in s q rest q_in (Touch-from_close s q (omega (arith, ints)) (omega (arith, ints)) (omega (arith, ints)) (omega (arith, ints))) in
-          let run = h.is.runs x (omega (arith, ints, wide, left)) (omega (arith, ints, right)) in
-          run.below (subst (λ y. part_at features z.feature (at x y)) (ap (λ y. y -ℤ pos 1) rows.0) in_f)))
-          (λ m. omega (arith, ints, m, hb)) in
-          (i, (i, r, i_in, r_in, corner-same r.x0 r.y0 z.rect.x1 z.rect.y0 i column row))
+          let p_in : part_at pieces i p = Covers-member (get_or pieces i []) r p r_in (record { left = omega (arith, ints); right = sw; low = omega (arith, ints); high = st }) in
+          let q_in : Has z.rect q = record { left = omega (arith, ints, zw); right = omega (arith, ints); low = omega (arith, ints); high = zt } in
+          subst (λ n. (n < length pieces) × IsSecondSide (part_at pieces n) z.rect) same (
+            i_in,
+            (
+              p,
+              q,
+              p_in,
+              q_in,
+              Touch-from_close p q (omega (arith, ints, x)) (omega (arith, ints, x)) (omega (arith, ints, y))
+                  (omega (arith, ints, y)),
+              inl (omega (arith, ints, x)),
+            ),
+          )
 
-    module _ (h : IsVerticalZone rule overlap layer (part_at features z.feature) z.rect) (none : (r : Rect) → IsHorizontalZone rule overlap layer (part_at features z.feature) r → ¬ AreTouching (Has r) (Has z.rect)) where
-      abbrev v : IsBroad h.stretch (turned_rect z.rect)
-      v = broad rule overlap (turned layer) (turned (part_at features z.feature)) (turned_rect z.rect) some h
-
-      first-up : (k : ℕ) × IsCornerOf UpperLeft pieces (corner_at z.rect.x0 z.rect.y0 k)
-      first-up =
-          let tall : z.rect.y0 <ℤ z.rect.y1 = v.wide in
-          let wide : z.rect.x0 <ℤ z.rect.x1 = v.tall in
-          let left = v.left in
-          let right = v.right in
-          let rows = h.middle.rows in
-          let y : ℤ = z.rect.y0 -ℤ pos 1 in
-          let p : Pt = at z.rect.x0 y in
-          let q : Pt = at z.rect.x0 z.rect.y0 in
-          let q_in : Has z.rect q = record { left = omega (arith, ints); right = wide; low = omega (arith, ints); high = tall } in
-          let (i, r, i_in, r_in, has) = piece-slab p (rest-up rule overlap layer features zones c zs z z_in h none z.rect.x0 y (inl (omega (arith, ints))) tall (omega (arith, ints)) wide) in
-          let hl = has.left in
-          let hr = has.right in
-          let hb = has.low in
-          let ht = has.high in
-          let row : r.y1 ≡ z.rect.y0 = by_lt_z z.rect.y0 r.y1
-          (λ l. absurd (not-in-zone q (slab-rest i r q i_in r_in (record { left = hl; right = hr; low = omega (arith, ints, hb); high = l })) q_in))
-          (λ m. omega (arith, ints, m, ht)) in
-          let column : r.x0 ≡ z.rect.x0 = by_lt_z r.x0 z.rect.x0
-          (λ l. absurd (
-          let s : Pt = at (z.rect.x0 -ℤ pos 1) y in
-          let rest = slab-rest i r s i_in r_in (record { left = omega (arith, ints, l); right = omega (arith, ints, hr); low = hb; high = ht }) in
-          let in_f = touching-in s q rest q_in (Touch-from_close s q (omega (arith, ints)) (omega (arith, ints)) (omega (arith, ints)) (omega (arith, ints))) in
-          let run = h.is.runs y (omega (arith, ints, left)) (omega (arith, ints, tall, right)) in
-          run.below (subst (λ x. part_at features z.feature (at x y)) (ap (λ x. x -ℤ pos 1) rows.0) in_f)))
-          (λ m. omega (arith, ints, m, hl)) in
-          (i, (i, r, i_in, r_in, corner-same r.x0 r.y1 z.rect.x0 z.rect.y0 i column row))
-
-      second-up : (k : ℕ) × IsCornerOf LowerLeft pieces (corner_at z.rect.x0 z.rect.y1 k)
-      second-up =
-          let tall : z.rect.y0 <ℤ z.rect.y1 = v.wide in
-          let wide : z.rect.x0 <ℤ z.rect.x1 = v.tall in
-          let left = v.left in
-          let right = v.right in
-          let rows = h.middle.rows in
-          let y : ℤ = z.rect.y1 in
-          let p : Pt = at z.rect.x0 y in
+      from-above : (k : ℕ) → IsCornerOf LowerLeft pieces (corner_at z.rect.x0 z.rect.y1 k) → (k < length pieces) × IsSecondSide (part_at pieces k) z.rect
+      from-above k (i, r, i_in, r_in, is) =
+          let same : i ≡ k = ap (λ t. let u : Corner = t in u.number) is in
+          let x : r.x0 ≡ z.rect.x0 = ap (λ t. let u : Corner = t in u.x) is in
+          let y : r.y0 ≡ z.rect.y1 = ap (λ t. let u : Corner = t in u.y) is in
+          let s = slab-solid i r i_in r_in in
+          let sw = s.wide in
+          let st = s.tall in
+          let zw = solid.0 in
+          let zt = solid.1 in
+          let p : Pt = at r.x0 r.y0 in
           let q : Pt = at z.rect.x0 (z.rect.y1 -ℤ pos 1) in
-          let q_in : Has z.rect q = record { left = omega (arith, ints); right = wide; low = omega (arith, ints, tall); high = omega (arith, ints) } in
-          let (i, r, i_in, r_in, has) = piece-slab p (rest-up rule overlap layer features zones c zs z z_in h none z.rect.x0 y (inr refl) tall (omega (arith, ints)) wide) in
-          let hl = has.left in
-          let hr = has.right in
-          let hb = has.low in
-          let ht = has.high in
-          let row : r.y0 ≡ z.rect.y1 = by_lt_z r.y0 z.rect.y1
-          (λ l. absurd (not-in-zone q (slab-rest i r q i_in r_in (record { left = hl; right = hr; low = omega (arith, ints, l); high = omega (arith, ints, ht) })) q_in))
-          (λ m. omega (arith, ints, m, hb)) in
-          let column : r.x0 ≡ z.rect.x0 = by_lt_z r.x0 z.rect.x0
-          (λ l. absurd (
-          let s : Pt = at (z.rect.x0 -ℤ pos 1) y in
-          let rest = slab-rest i r s i_in r_in (record { left = omega (arith, ints, l); right = omega (arith, ints, hr); low = hb; high = ht }) in
-          let in_f = touching-in s q rest q_in (Touch-from_close s q (omega (arith, ints)) (omega (arith, ints)) (omega (arith, ints)) (omega (arith, ints))) in
-          let run = h.is.runs y (omega (arith, ints, tall, left)) (omega (arith, ints, right)) in
-          run.below (subst (λ x. part_at features z.feature (at x y)) (ap (λ x. x -ℤ pos 1) rows.0) in_f)))
-          (λ m. omega (arith, ints, m, hl)) in
-          (i, (i, r, i_in, r_in, corner-same r.x0 r.y0 z.rect.x0 z.rect.y1 i column row))
+          let p_in : part_at pieces i p = Covers-member (get_or pieces i []) r p r_in (record { left = omega (arith, ints); right = sw; low = omega (arith, ints); high = st }) in
+          let q_in : Has z.rect q = record { left = omega (arith, ints); right = zw; low = omega (arith, ints, zt); high = omega (arith, ints) } in
+          subst (λ n. (n < length pieces) × IsSecondSide (part_at pieces n) z.rect) same (
+            i_in,
+            (
+              p,
+              q,
+              p_in,
+              q_in,
+              Touch-from_close p q (omega (arith, ints, x)) (omega (arith, ints, x)) (omega (arith, ints, y))
+                  (omega (arith, ints, y)),
+              inr (omega (arith, ints, y)),
+            ),
+          )
 
-    stand-kept : IsKeptZone rule overlap layer (part_at features z.feature) z.rect → (side : ℕ × ℕ) × StandBeside pieces z side
-    stand-kept (inl h) = let one = first-across h in let two = second-across h in ((one.0, two.0), (inl one.1, inl two.1))
-    stand-kept (inr (h, none)) = let one = first-up h none in let two = second-up h none in ((one.0, two.0), (inr one.1, inr two.1))
-
-    pub stand : (side : ℕ × ℕ) × StandBeside pieces z side
-    stand = stand-kept (kept rule overlap layer features zones c zs z z_in).1
-
-    solid : (z.rect.x0 <ℤ z.rect.x1) × (z.rect.y0 <ℤ z.rect.y1)
-    solid = solid-zone rule overlap layer features zones some c zs z z_in
-
-    -- a piece whose slab has the corner
-    from-left : (k : ℕ) → IsCornerOf LowerRight pieces (corner_at z.rect.x0 z.rect.y0 k) → (k < length pieces) × IsFirstSide (part_at pieces k) z.rect
-    from-left k (i, r, i_in, r_in, is) =
-        let same : i ≡ k = ap (λ t. let u : Corner = t in u.number) is in
-        let x : r.x1 ≡ z.rect.x0 = ap (λ t. let u : Corner = t in u.x) is in
-        let y : r.y0 ≡ z.rect.y0 = ap (λ t. let u : Corner = t in u.y) is in
-        let s = slab-solid i r i_in r_in in
-        let sw = s.wide in
-        let st = s.tall in
-        let zw = solid.0 in
-        let zt = solid.1 in
-        let p : Pt = at (r.x1 -ℤ pos 1) r.y0 in
-        let q : Pt = at z.rect.x0 z.rect.y0 in
-        let p_in : part_at pieces i p = Covers-member (get_or pieces i []) r p r_in (record { left = omega (arith, ints, sw); right = omega (arith, ints); low = omega (arith, ints); high = st }) in
-        let q_in : Has z.rect q = record { left = omega (arith, ints); right = zw; low = omega (arith, ints); high = zt } in
-        subst (λ n. (n < length pieces) × IsFirstSide (part_at pieces n) z.rect) same
-        (i_in, (p, q, p_in, q_in, Touch-from_close p q (omega (arith, ints, x)) (omega (arith, ints, x)) (omega (arith, ints, y)) (omega (arith, ints, y)), inl (omega (arith, ints, x))))
-
-    from-below : (k : ℕ) → IsCornerOf UpperLeft pieces (corner_at z.rect.x0 z.rect.y0 k) → (k < length pieces) × IsFirstSide (part_at pieces k) z.rect
-    from-below k (i, r, i_in, r_in, is) =
-        let same : i ≡ k = ap (λ t. let u : Corner = t in u.number) is in
-        let x : r.x0 ≡ z.rect.x0 = ap (λ t. let u : Corner = t in u.x) is in
-        let y : r.y1 ≡ z.rect.y0 = ap (λ t. let u : Corner = t in u.y) is in
-        let s = slab-solid i r i_in r_in in
-        let sw = s.wide in
-        let st = s.tall in
-        let zw = solid.0 in
-        let zt = solid.1 in
-        let p : Pt = at r.x0 (r.y1 -ℤ pos 1) in
-        let q : Pt = at z.rect.x0 z.rect.y0 in
-        let p_in : part_at pieces i p = Covers-member (get_or pieces i []) r p r_in (record { left = omega (arith, ints); right = sw; low = omega (arith, ints, st); high = omega (arith, ints) }) in
-        let q_in : Has z.rect q = record { left = omega (arith, ints); right = zw; low = omega (arith, ints); high = zt } in
-        subst (λ n. (n < length pieces) × IsFirstSide (part_at pieces n) z.rect) same
-        (i_in, (p, q, p_in, q_in, Touch-from_close p q (omega (arith, ints, x)) (omega (arith, ints, x)) (omega (arith, ints, y)) (omega (arith, ints, y)), inr (omega (arith, ints, y))))
-
-    from-right : (k : ℕ) → IsCornerOf LowerLeft pieces (corner_at z.rect.x1 z.rect.y0 k) → (k < length pieces) × IsSecondSide (part_at pieces k) z.rect
-    from-right k (i, r, i_in, r_in, is) =
-        let same : i ≡ k = ap (λ t. let u : Corner = t in u.number) is in
-        let x : r.x0 ≡ z.rect.x1 = ap (λ t. let u : Corner = t in u.x) is in
-        let y : r.y0 ≡ z.rect.y0 = ap (λ t. let u : Corner = t in u.y) is in
-        let s = slab-solid i r i_in r_in in
-        let sw = s.wide in
-        let st = s.tall in
-        let zw = solid.0 in
-        let zt = solid.1 in
-        let p : Pt = at r.x0 r.y0 in
-        let q : Pt = at (z.rect.x1 -ℤ pos 1) z.rect.y0 in
-        let p_in : part_at pieces i p = Covers-member (get_or pieces i []) r p r_in (record { left = omega (arith, ints); right = sw; low = omega (arith, ints); high = st }) in
-        let q_in : Has z.rect q = record { left = omega (arith, ints, zw); right = omega (arith, ints); low = omega (arith, ints); high = zt } in
-        subst (λ n. (n < length pieces) × IsSecondSide (part_at pieces n) z.rect) same
-        (i_in, (p, q, p_in, q_in, Touch-from_close p q (omega (arith, ints, x)) (omega (arith, ints, x)) (omega (arith, ints, y)) (omega (arith, ints, y)), inl (omega (arith, ints, x))))
-
-    from-above : (k : ℕ) → IsCornerOf LowerLeft pieces (corner_at z.rect.x0 z.rect.y1 k) → (k < length pieces) × IsSecondSide (part_at pieces k) z.rect
-    from-above k (i, r, i_in, r_in, is) =
-        let same : i ≡ k = ap (λ t. let u : Corner = t in u.number) is in
-        let x : r.x0 ≡ z.rect.x0 = ap (λ t. let u : Corner = t in u.x) is in
-        let y : r.y0 ≡ z.rect.y1 = ap (λ t. let u : Corner = t in u.y) is in
-        let s = slab-solid i r i_in r_in in
-        let sw = s.wide in
-        let st = s.tall in
-        let zw = solid.0 in
-        let zt = solid.1 in
-        let p : Pt = at r.x0 r.y0 in
-        let q : Pt = at z.rect.x0 (z.rect.y1 -ℤ pos 1) in
-        let p_in : part_at pieces i p = Covers-member (get_or pieces i []) r p r_in (record { left = omega (arith, ints); right = sw; low = omega (arith, ints); high = st }) in
-        let q_in : Has z.rect q = record { left = omega (arith, ints); right = zw; low = omega (arith, ints, zt); high = omega (arith, ints) } in
-        subst (λ n. (n < length pieces) × IsSecondSide (part_at pieces n) z.rect) same
-        (i_in, (p, q, p_in, q_in, Touch-from_close p q (omega (arith, ints, x)) (omega (arith, ints, x)) (omega (arith, ints, y)) (omega (arith, ints, y)), inr (omega (arith, ints, y))))
-
-    -- pieces with corners of the zone stand on its sides
-    pub sides-from_stand : (side : ℕ × ℕ) → StandBeside pieces z side → AreSides features pieces z side
-    sides-from_stand side (one, two) =
-        let first = elim one as (λ t. (side.0 < length pieces) × IsFirstSide (part_at pieces side.0) z.rect) [ inl h ↦ from-left side.0 h | inr h ↦ from-below side.0 h ] in
-        let second = elim two as (λ t. (side.1 < length pieces) × IsSecondSide (part_at pieces side.1) z.rect) [ inl h ↦ from-right side.1 h | inr h ↦ from-above side.1 h ] in
-        record { known = (first.0, second.0); first = first.1; second = second.1 }
+      -- pieces with corners of the zone stand on its sides
+      pub sides-from_stand : (side : ℕ × ℕ) → StandBeside pieces z side → AreSides features pieces z side
+      sides-from_stand side (one, two) =
+          let first = elim one as (λ t. (side.0 < length pieces) × IsFirstSide (part_at pieces side.0) z.rect) [ inl h ↦ from-left side.0 h | inr h ↦ from-below side.0 h ] in
+          let second = elim two as (λ t. (side.1 < length pieces) × IsSecondSide (part_at pieces side.1) z.rect) [ inl h ↦ from-right side.1 h | inr h ↦ from-above side.1 h ] in
+          record { known = (first.0, second.0); first = first.1; second = second.1 }

@@ -3,7 +3,8 @@ use Rattle.std.proofs.Common.{◌≡◌, List, [], ◌∷◌, ◌++◌, ap, sym,
 use Rattle.std.proofs.lemmas.List.{append_assoc, reverse-append}
 
 -- one more from the end of those that are turned round
-pub taken-next : {X A : Type 0} (f : X → A) (done all : List A) (left rest : List X) (x : X) → done ++ map f (reverse left) ≡ all → left ≡ rest ++ x ∷ [] → (done ++ f x ∷ []) ++ map f (reverse rest) ≡ all
+pub taken-next : {X A : Type 0} (f : X → A) (done all : List A) (left rest : List X) (x : X) → done ++ map f (reverse left) ≡ all
+    → left ≡ rest ++ x ∷ [] → (done ++ f x ∷ []) ++ map f (reverse rest) ≡ all
 taken-next f done all left rest x same is =
     append_assoc done (f x ∷ []) (map f (reverse rest)) ∙ ap (λ l. done ++ map f l) (sym (reverse-append rest (x ∷ [])) ∙ ap reverse (sym is)) ∙ same
 

@@ -30,15 +30,18 @@ numbers-permuted n sorted same j =
     )
 
 -- one more number of a zone of the feature
-pub own-next : (zones : List Zone) (numbers : List ℕ) (i n : ℕ) → i < length numbers → feature_at zones (get_or numbers i 0) ≡ n → All (λ j. feature_at zones j ≡ n) (take i numbers) → All (λ j. feature_at zones j ≡ n) (take (i + 1) numbers)
+pub own-next : (zones : List Zone) (numbers : List ℕ) (i n : ℕ) → i < length numbers → feature_at zones (get_or numbers i 0) ≡ n
+    → All (λ j. feature_at zones j ≡ n) (take i numbers) → All (λ j. feature_at zones j ≡ n) (take (i + 1) numbers)
 own-next zones numbers i n i_in is own =
     let one : i + 1 ≡ suc i = omega arith in
-    subst (All (λ j. feature_at zones j ≡ n)) (sym (ap (λ k. take k numbers) one ∙ take-suc numbers i 0 i_in)) (All-push (λ j. feature_at zones j ≡ n) (take i numbers) (get_or numbers i 0) own is)
+    subst (All (λ j. feature_at zones j ≡ n)) (sym (ap (λ k. take k numbers) one ∙ take-suc numbers i 0 i_in))
+    (All-push (λ j. feature_at zones j ≡ n) (take i numbers) (get_or numbers i 0) own is)
 
 pub zones-from : (zones : List Zone) (sorted : List ℕ) → AreNumbersBelow (length zones) sorted → IsNonDecreasingBy (feature_at zones) sorted → AreZonesFrom zones 0 sorted
 zones-from zones sorted are rise = record { rise = rise; members = λ j. (λ h. ((are j).0 h, omega arith), λ h. (are j).1 h.0) }
 
-module _ (zones : List Zone) (rest : List ℕ) (n m : ℕ) (h : AreZonesFrom zones n rest) (own : All (λ j. feature_at zones j ≡ n) (take m rest)) (next : m < length rest → (d : ℕ) → feature_at zones (get_or rest m d) ≢ n) where
+module _ (zones : List Zone) (rest : List ℕ) (n m : ℕ) (h : AreZonesFrom zones n rest)
+    (own : All (λ j. feature_at zones j ≡ n) (take m rest)) (next : m < length rest → (d : ℕ) → feature_at zones (get_or rest m d) ≢ n) where
   two : take m rest ++ drop m rest ≡ rest
   two = take-append-drop m rest
 
@@ -69,7 +72,10 @@ module _ (zones : List Zone) (rest : List ℕ) (n m : ℕ) (h : AreZonesFrom zon
     λ (z, (j, j_in, z_is), mine, is). (
         let at : zone_at zones j ≡ z = get_or_default zones j (zone_at [] 0) z j_in ∙ z_is in
         let feature : feature_at zones j ≡ n = ap (λ y. let u : Zone = y in u.feature) at ∙ mine in
-        let there : Contains (take m rest) j = elim (front-or_back j ((h.members j).1 (j_in, omega (arith, feature)))) [ inl a ↦ a | inr a ↦ absurd (let l = back-later j a in omega (arith, l, feature)) ] in
+        let there : Contains (take m rest) j = elim (front-or_back j ((h.members j).1 (j_in, omega (arith, feature)))) [
+          | inl a ↦ a
+          | inr a ↦ absurd (let l = back-later j a in omega (arith, l, feature))
+        ] in
         subst (Contains (map (rect_at zones) (take m rest))) (ap (λ y. let u : Zone = y in u.rect) at ∙ is) (map-Contains (rect_at zones) (take m rest) j there)),
   )
 
@@ -78,13 +84,23 @@ module _ (zones : List Zone) (rest : List ℕ) (n m : ℕ) (h : AreZonesFrom zon
     rise = λ i j d l j_in. rw (get_or-drop m rest i d, get_or-drop m rest j d) (h.rise (m + i) (m + j) d (omega (arith, l)) (omega (arith, j_in, length-drop m rest)));
     members = λ j. (
       λ a. (((h.members j).0 (in-rest j (inr a))).0, back-later j a),
-      λ (j_in, l). elim (front-or_back j ((h.members j).1 (j_in, omega (arith, l)))) [ inl a ↦ absurd (let is = All-contains (λ i. feature_at zones i ≡ n) (take m rest) j own a in omega (arith, is, l)) | inr a ↦ a ],
+      λ (j_in, l). elim (front-or_back j ((h.members j).1 (j_in, omega (arith, l)))) [
+        | inl a ↦ absurd
+            (let is = All-contains (λ i. feature_at zones i ≡ n) (take m rest) j own a in omega (arith, is, l))
+        | inr a ↦ a
+      ],
     );
   }
 
 -- one more of a list that is gone through
-pub turn : (xs done rest later : List (List Rect)) (x : List Rect) (n : ℕ) → done ++ rest ≡ xs → rest ≡ x ∷ later → n ≡ length done → ((done ++ x ∷ []) ++ later ≡ xs) × (n < length xs) × (x ≡ get_or xs n []) × (n + 1 ≡ length (done ++ x ∷ []))
+pub turn : (xs done rest later : List (List Rect)) (x : List Rect) (n : ℕ) → done ++ rest ≡ xs → rest ≡ x ∷ later → n ≡ length done
+    → ((done ++ x ∷ []) ++ later ≡ xs) × (n < length xs) × (x ≡ get_or xs n []) × (n + 1 ≡ length (done ++ x ∷ []))
 turn xs done rest later x n all next n_is =
     let whole : done ++ (x ∷ later) ≡ xs = ap (λ t. done ++ t) (sym next) ∙ all in
-    let long : length done + length (x ∷ later) ≡ length xs = sym (length-append done (x ∷ later)) ∙ ap length whole in
-    (append_assoc done (x ∷ []) later ∙ whole, omega (arith, n_is, long), sym (get_or_at done x later [] n (sym n_is)) ∙ ap (λ t. get_or t n []) whole, omega (arith, n_is, length-append done (x ∷ [])))
+    let long : length done + length (x ∷ later) ≡ length xs = sym (length-append done (x ∷ later)) ∙ ap length whole in (
+      append_assoc done (x ∷ []) later ∙ whole,
+      omega (arith, n_is, long),
+      sym (get_or_at done x later [] n (sym n_is))
+          ∙ ap (λ t. get_or t n []) whole,
+      omega (arith, n_is, length-append done (x ∷ [])),
+    )

@@ -80,7 +80,8 @@ module _ (features : List (List Rect)) (zones : List Zone) (n : ℕ) (holes : Li
   wholes-next old new h (inr (some, is)) =
       let new_one : Whole = whole_of n (get_or features n []) in
       rw is (record {
-        kept = All-push (λ w. (w.feature < n + 1) × (get_or features w.feature [] ≡ w.set)) old new_one (λ k d k_in. (let (l, e) = h.kept k d k_in in (omega (arith, l), e))) (omega arith, refl);
+        kept = All-push (λ w. (w.feature < n + 1) × (get_or features w.feature [] ≡ w.set)) old new_one
+            (λ k d k_in. (let (l, e) = h.kept k d k_in in (omega (arith, l), e))) (omega arith, refl);
         rise = all_pairs_push (λ (v w : Whole). v.feature < w.feature) old new_one h.rise (λ k d k_in. (h.kept k d k_in).0);
         each = λ k l zone. elim (cases_eq k n) [
           | inl e ↦ (new_one, Contains-push old new_one, sym e)
@@ -93,7 +94,8 @@ origin-cases AsWhole = inl refl
 origin-cases Broken = inr refl
 
 -- what the cut of features leaves lies in them
-module _ (features : List (List Rect)) (zones : List Zone) (given : AreFeatures features) (theirs : AreTheirZones features zones) (pieces : List Piece) (cut : AreCut features zones pieces) (wholes : List Whole) (w : AreWholes features zones wholes) where
+module _ (features : List (List Rect)) (zones : List Zone) (given : AreFeatures features) (theirs : AreTheirZones features zones)
+    (pieces : List Piece) (cut : AreCut features zones pieces) (wholes : List Whole) (w : AreWholes features zones wholes) where
   c : AreComponents (union_of features) features
   c = comps features zones given theirs
 
@@ -106,7 +108,8 @@ module _ (features : List (List Rect)) (zones : List Zone) (given : AreFeatures 
       let same = part-unique (union_of features) features i j q c i_in j_in q_i q_j in
       omega (arith, same, l)
 
-  lie-kept : (i : ℕ) → i < length (parts_in pieces) → ¬ HasWhole wholes (get_or (owners_in pieces) i 0) → get_or features (get_or (owners_in pieces) i 0) [] ≡ get_or (parts_in pieces) i []
+  lie-kept : (i : ℕ) → i < length (parts_in pieces) → ¬ HasWhole wholes (get_or (owners_in pieces) i 0)
+      → get_or features (get_or (owners_in pieces) i 0) [] ≡ get_or (parts_in pieces) i []
   lie-kept i i_in none =
       let at_i : i < length pieces = subst (λ n. i < n) (length-map pieces (λ x. x.part)) i_in in
       let x : Piece = get_or pieces i (whole_piece 0 []) in
@@ -136,8 +139,10 @@ module _ (features : List (List Rect)) (zones : List Zone) (given : AreFeatures 
   }
 
 -- the pieces beside a zone are of its feature
-module _ (features parts : List (List Rect)) (owners : List ℕ) (zones : List Zone) (wholes : List Whole) (lie : LieIn features parts owners zones wholes) (canonical : All IsCanonical parts) where
-  touch-own : (k : ℕ) (r : Rect) (z : Zone) (p q : Pt) → k < length parts → Contains (get_or parts k []) r → IsZoneIn features z → Has r p → Has z.rect q → Touch p q → get_or owners k 0 ≡ z.feature
+module _ (features parts : List (List Rect)) (owners : List ℕ) (zones : List Zone) (wholes : List Whole)
+    (lie : LieIn features parts owners zones wholes) (canonical : All IsCanonical parts) where
+  touch-own : (k : ℕ) (r : Rect) (z : Zone) (p q : Pt) → k < length parts → Contains (get_or parts k []) r → IsZoneIn features z → Has r p
+      → Has z.rect q → Touch p q → get_or owners k 0 ≡ z.feature
   touch-own k r z p q k_in r_in zone hp hq t =
       let in_k : part_at features (get_or owners k 0) p = (zip-at (IsOwner features) parts owners k [] 0 lie.owned k_in).1 p (Covers-member (get_or parts k []) r p r_in hp) in
       feature-one features (get_or owners k 0) z.feature p q lie.untouched in_k (zone.1 q hq) t
@@ -161,28 +166,50 @@ module _ (features parts : List (List Rect)) (owners : List ℕ) (zones : List Z
               let x : r.x1 ≡ z.rect.x0 = ap (λ t. let u : Corner = t in u.x) is in
               let y : r.y0 ≡ z.rect.y0 = ap (λ t. let u : Corner = t in u.y) is in
               let w = s.wide in
-              let p : Pt = at (r.x1 -ℤ pos 1) r.y0 in
-              (p, low, record { left = omega (arith, ints, w); right = omega (arith, ints); low = omega (arith, ints); high = s.tall }, low_in, Touch-from_close p low (omega (arith, ints, x)) (omega (arith, ints, x)) (omega (arith, ints, y)) (omega (arith, ints, y)))))
+              let p : Pt = at (r.x1 -ℤ pos 1) r.y0 in (
+                p,
+                low,
+                record { left = omega (arith, ints, w); right = omega (arith, ints); low = omega (arith, ints); high = s.tall },
+                low_in,
+                Touch-from_close p low (omega (arith, ints, x)) (omega (arith, ints, x)) (omega (arith, ints, y))
+                    (omega (arith, ints, y)),
+              )))
           | inr h ↦ corner-own UpperLeft z.rect.x0 z.rect.y0 side.0 z zone h (λ r s is. (
               let x : r.x0 ≡ z.rect.x0 = ap (λ t. let u : Corner = t in u.x) is in
               let y : r.y1 ≡ z.rect.y0 = ap (λ t. let u : Corner = t in u.y) is in
               let w = s.tall in
-              let p : Pt = at r.x0 (r.y1 -ℤ pos 1) in
-              (p, low, record { left = omega (arith, ints); right = s.wide; low = omega (arith, ints, w); high = omega (arith, ints) }, low_in, Touch-from_close p low (omega (arith, ints, x)) (omega (arith, ints, x)) (omega (arith, ints, y)) (omega (arith, ints, y)))))
+              let p : Pt = at r.x0 (r.y1 -ℤ pos 1) in (
+                p,
+                low,
+                record { left = omega (arith, ints); right = s.wide; low = omega (arith, ints, w); high = omega (arith, ints) },
+                low_in,
+                Touch-from_close p low (omega (arith, ints, x)) (omega (arith, ints, x)) (omega (arith, ints, y))
+                    (omega (arith, ints, y)),
+              )))
         ],
         elim after [
           | inl h ↦ corner-own LowerLeft z.rect.x1 z.rect.y0 side.1 z zone h (λ r s is. (
               let x : r.x0 ≡ z.rect.x1 = ap (λ t. let u : Corner = t in u.x) is in
               let y : r.y0 ≡ z.rect.y0 = ap (λ t. let u : Corner = t in u.y) is in
               let p : Pt = at r.x0 r.y0 in
-              let q : Pt = at (z.rect.x1 -ℤ pos 1) z.rect.y0 in
-              (p, q, record { left = omega (arith, ints); right = s.wide; low = omega (arith, ints); high = s.tall }, record { left = omega (arith, ints, wide); right = omega (arith, ints); low = omega (arith, ints); high = tall }, Touch-from_close p q (omega (arith, ints, x)) (omega (arith, ints, x)) (omega (arith, ints, y)) (omega (arith, ints, y)))))
+              let q : Pt = at (z.rect.x1 -ℤ pos 1) z.rect.y0 in (
+                p,
+                q,
+                record { left = omega (arith, ints); right = s.wide; low = omega (arith, ints); high = s.tall },
+                record { left = omega (arith, ints, wide); right = omega (arith, ints); low = omega (arith, ints); high = tall },
+                Touch-from_close p q (omega (arith, ints, x)) (omega (arith, ints, x)) (omega (arith, ints, y)) (omega (arith, ints, y)),
+              )))
           | inr h ↦ corner-own LowerLeft z.rect.x0 z.rect.y1 side.1 z zone h (λ r s is. (
               let x : r.x0 ≡ z.rect.x0 = ap (λ t. let u : Corner = t in u.x) is in
               let y : r.y0 ≡ z.rect.y1 = ap (λ t. let u : Corner = t in u.y) is in
               let p : Pt = at r.x0 r.y0 in
-              let q : Pt = at z.rect.x0 (z.rect.y1 -ℤ pos 1) in
-              (p, q, record { left = omega (arith, ints); right = s.wide; low = omega (arith, ints); high = s.tall }, record { left = omega (arith, ints); right = wide; low = omega (arith, ints, tall); high = omega (arith, ints) }, Touch-from_close p q (omega (arith, ints, x)) (omega (arith, ints, x)) (omega (arith, ints, y)) (omega (arith, ints, y)))))
+              let q : Pt = at z.rect.x0 (z.rect.y1 -ℤ pos 1) in (
+                p,
+                q,
+                record { left = omega (arith, ints); right = s.wide; low = omega (arith, ints); high = s.tall },
+                record { left = omega (arith, ints); right = wide; low = omega (arith, ints, tall); high = omega (arith, ints) },
+                Touch-from_close p q (omega (arith, ints, x)) (omega (arith, ints, x)) (omega (arith, ints, y)) (omega (arith, ints, y)),
+              )))
         ],
       )
 

@@ -60,7 +60,8 @@ StandBroken parts origins z side = StandBeside parts z side × IsBroken origins 
 
 -- the number noted for zone number i is now that of one of the slabs' corners at which the zone has a corner, or stays where there is none
 abbrev pub IsNoted : List Corner → List Corner → ℕ → ℕ → ℕ → Type 0
-IsNoted found corners i old new = ((c : Corner) × Contains found c × Contains corners (corner_at c.x c.y i) × (c.number ≡ new)) ⊎ (((c : Corner) → Contains found c → ¬ Contains corners (corner_at c.x c.y i)) × (new ≡ old))
+IsNoted found corners i old new = ((c : Corner) × Contains found c × Contains corners (corner_at c.x c.y i) × (c.number ≡ new))
+    ⊎ (((c : Corner) → Contains found c → ¬ Contains corners (corner_at c.x c.y i)) × (new ≡ old))
 
 -- the same of each zone
 pub record AreNoted (found corners : List Corner) (old new : List ℕ) : Type 0 where

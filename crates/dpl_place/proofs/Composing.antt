@@ -52,7 +52,9 @@ turn_of-turn_of false c m n p fm fn =
     sym (turned-add m n (mirrored c p)) ∙ turned-mod (m + n) (mirrored c p) (omega arith)
 
 -- the composed motion
-pub composed : (outer inner m : Motion) (at : Pt) → outer.turns < 4 → inner.turns < 4 → m.reflect ≡ reflect_after outer.reflect inner.reflect → m.turns ≡ turns_after outer.reflect outer.turns inner.turns → at ≡ image outer (record { x = inner.dx; y = inner.dy }) → m.dx ≡ at.x → m.dy ≡ at.y → m.turns < 4 → IsComposed outer inner m
+pub composed : (outer inner m : Motion) (at : Pt) → outer.turns < 4 → inner.turns < 4
+    → m.reflect ≡ reflect_after outer.reflect inner.reflect → m.turns ≡ turns_after outer.reflect outer.turns inner.turns
+    → at ≡ image outer (record { x = inner.dx; y = inner.dy }) → m.dx ≡ at.x → m.dy ≡ at.y → m.turns < 4 → IsComposed outer inner m
 composed outer inner m at fo fi reflect_is turns_is at_is dx_is dy_is few = (
   few,
   λ p.

@@ -63,7 +63,8 @@ pub moved-moved : (v w p : Pt) → moved v.x v.y (moved w.x w.y p) ≡ moved (mo
 moved-moved v w p = same_point (moved v.x v.y (moved w.x w.y p)) (moved (moved v.x v.y w).x (moved v.x v.y w).y p) (omega (arith, ints)) (omega (arith, ints))
 
 -- an image, step by step
-pub image-steps : (m : Motion) (p q r : Pt) (x y : ℤ) → q ≡ (if m.reflect then reflected p else p) → r ≡ turned m.turns q → x ≡ r.x +ℤ m.dx → y ≡ r.y +ℤ m.dy → record { x = x; y = y } ≡ image m p
+pub image-steps : (m : Motion) (p q r : Pt) (x y : ℤ) → q ≡ (if m.reflect then reflected p else p) → r ≡ turned m.turns q → x ≡ r.x +ℤ m.dx
+    → y ≡ r.y +ℤ m.dy → record { x = x; y = y } ≡ image m p
 image-steps m p q r x y q_is r_is x_is y_is =
     let whole : Pt = record { x = x; y = y } in
     same_point whole (moved m.dx m.dy r) x_is y_is ∙ ap (moved m.dx m.dy) (r_is ∙ ap (turned m.turns) q_is)

@@ -1,5 +1,6 @@
 -- What a worker's steps leave.
-use Rattle.std.proofs.Common.{◌≡◌, ◌∙◌, ◌+◌, ◌<◌, ◌≤◌, ◌==◌, ℕ, suc, Bool, true, false, List, [], ◌∷◌, ◌++◌, length, get_or, Option, Some, None, refl, sym, ap, subst, arith, ⊎_elim, length-append}
+use Rattle.std.proofs.Common.{◌≡◌, ◌∙◌, ◌+◌, ◌<◌, ◌≤◌, ◌==◌, ℕ, suc, Bool, true, false, List, [], ◌∷◌, ◌++◌, length, get_or, Option, Some}
+use Rattle.std.proofs.Common.{None, refl, sym, ap, subst, arith, ⊎_elim, length-append}
 use Rattle.std.specs.Prelude.{Result, Ok, Err}
 use Rattle.std.specs.List.{All, Contains}
 use Rattle.std.proofs.lemmas.Bool.{cases_lt}
@@ -45,7 +46,8 @@ pub answers_ok : (v : View) (worker tile : ℕ) (r : Result (Unit {0}) PostFault
 answers_ok v worker tile (Ok u) k w e h = (worker, ap (poster_in tile) h.2.known ∙ poster-new h.0 (entry worker tile) h.1)
 answers_ok v worker tile (Err f) k w e h = absurd (cc)
 
-pub answers_twice : (v : View) (worker tile : ℕ) (r : Result (Unit {0}) PostFault) (f : PostFault) (w : View) → r ≡ Err f → IsTwice f → Answers v worker tile r w → IsPosted tile w.known
+pub answers_twice : (v : View) (worker tile : ℕ) (r : Result (Unit {0}) PostFault) (f : PostFault) (w : View) → r ≡ Err f → IsTwice f
+    → Answers v worker tile r w → IsPosted tile w.known
 answers_twice v worker tile (Ok u) f w e is h = absurd (cc)
 answers_twice v worker tile (Err (Twice by)) f w e is h = subst (IsPosted tile) (sym h.2.known) (posted_more tile h.0 [] (by, h.1))
 answers_twice v worker tile (Err NoMemory) f w e is h = absurd (let k : NoMemory ≡ Twice is.0 = ap (λ r. err_of r f) e ∙ is.1 in cc)
@@ -55,8 +57,10 @@ answers_twice v worker tile (Err NoMemory) f w e is h = absurd (let k : NoMemory
     err_of (Err g) d = g
 
 -- a tile more, taken and posted
-pub goes_on : (table : TableId) (sheet : Sheet) (deal : Deal) (i : ℕ) (old new : Member) (tile : ℕ) → IsMember table sheet deal i old → new.number ≡ old.number → new.wants ≡ old.wants → IsSeatOf table new.seat → Keeps (knows old.seat) (knows new.seat)
-    → (IsHandOf deal i old.hand → IsHandOf deal i new.hand) → ((x : ℕ) → times x (taken new.hand) ≡ times x (taken old.hand) + times x (tile ∷ [])) → IsPosted tile (knows new.seat).known
+pub goes_on : (table : TableId) (sheet : Sheet) (deal : Deal) (i : ℕ) (old new : Member) (tile : ℕ) → IsMember table sheet deal i old
+    → new.number ≡ old.number → new.wants ≡ old.wants → IsSeatOf table new.seat → Keeps (knows old.seat) (knows new.seat)
+    → (IsHandOf deal i old.hand → IsHandOf deal i new.hand)
+    → ((x : ℕ) → times x (taken new.hand) ≡ times x (taken old.hand) + times x (tile ∷ [])) → IsPosted tile (knows new.seat).known
     → IsMember table sheet deal i new
 goes_on table sheet deal i old new tile m same same_wants seat keeps hand more posted = record {
   seat = seat;
@@ -106,7 +110,8 @@ each_snoc P xs x h p k d lt = ⊎_elim
     (cases_lt k (length xs))
 
 -- a new worker
-pub joins_in : (table : TableId) (deal : Deal) (i : ℕ) (m : Member) (old : View) → IsSeatOf table m.seat → knows m.seat ≡ newcomer old.sheet old.workers old.known → m.number ≡ i → m.number < old.workers
+pub joins_in : (table : TableId) (deal : Deal) (i : ℕ) (m : Member) (old : View) → IsSeatOf table m.seat
+    → knows m.seat ≡ newcomer old.sheet old.workers old.known → m.number ≡ i → m.number < old.workers
     → IsHandOf deal i m.hand → taken m.hand ≡ [] → m.wants ≡ false → IsMember table old.sheet deal i m
 joins_in table deal i m old t is n lt h none well = record {
   seat = t;
@@ -126,7 +131,8 @@ taken_more : (x : ℕ) (hs : List Hand) (h : Hand) → times x (all_taken (hs ++
 taken_more x [] h = omega (arith, times-append x (taken h) [])
 taken_more x (k ∷ hs) h = let r = taken_more x hs h in omega (arith, times-append x (taken k) (all_taken (hs ++ h ∷ [])), times-append x (taken k) (all_taken hs))
 
-pub covers_more : (hs : List Hand) (h : Hand) (known a b : List Entry) → StartsWith known a → StartsWith known b → Covers (all_taken hs) a → Covers (taken h) b → Covers (all_taken (hs ++ h ∷ [])) known
+pub covers_more : (hs : List Hand) (h : Hand) (known a b : List Entry) → StartsWith known a → StartsWith known b → Covers (all_taken hs) a
+    → Covers (taken h) b → Covers (all_taken (hs ++ h ∷ [])) known
 covers_more hs h known a b p q f g x lt =
     let m = taken_more x hs h in
     ⊎_elim (λ (z : 0 < times x (all_taken hs)). posted_later x known a p (f x z))
@@ -138,7 +144,8 @@ some_done [] lt all = absurd (omega arith)
 some_done (h ∷ hs) lt all = (h, (0, lt, refl), all 0 h lt)
 
 -- each tile is posted
-pub all_posted : (tiles n : ℕ) (hs : List Hand) (known history : List Entry) → tiles ≡ n → HasEachOnce n (all_taken hs) → Covers (all_taken hs) known → StartsWith history known → (t : ℕ) → t < tiles → IsPosted t history
+pub all_posted : (tiles n : ℕ) (hs : List Hand) (known history : List Entry) → tiles ≡ n → HasEachOnce n (all_taken hs)
+    → Covers (all_taken hs) known → StartsWith history known → (t : ℕ) → t < tiles → IsPosted t history
 all_posted tiles n hs known history is all covers starts t lt =
     let o : once_below n t ≡ 1 = below_one n t (omega arith) in
     let a = all t in posted_later t history known starts (covers t (omega arith))
@@ -147,7 +154,8 @@ all_posted tiles n hs known history is all covers starts t lt =
     below_one n t lt = grind (arith, nat_tests)
 
 -- one worker more
-pub members_next : (table : TableId) (deal : Deal) (v : View) (ms : List Member) (m : Member) (i : ℕ) → length ms ≡ i → EachAt (IsMember table v.sheet deal) ms → IsSeatOf table m.seat → knows m.seat ≡ newcomer v.sheet v.workers v.known
+pub members_next : (table : TableId) (deal : Deal) (v : View) (ms : List Member) (m : Member) (i : ℕ) → length ms ≡ i
+    → EachAt (IsMember table v.sheet deal) ms → IsSeatOf table m.seat → knows m.seat ≡ newcomer v.sheet v.workers v.known
     → m.number ≡ i → m.number < v.workers → IsHandOf deal i m.hand → taken m.hand ≡ [] → m.wants ≡ false → EachAt (IsMember table v.sheet deal) (ms ++ m ∷ [])
 members_next table deal v ms m i len all t me n lt h none well = each_snoc (IsMember table v.sheet deal) ms m all
     (subst (λ (k : ℕ). IsMember table v.sheet deal k m) (sym len) (joins_in table deal i m v t me n lt h none well))

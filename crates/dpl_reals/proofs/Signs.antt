@@ -40,7 +40,8 @@ pub none-right : (r : Excess64) → ((v : ℕ) → IsMagnitude r.mantissa r.expo
 none-right r none (k, h) = none (90 * unsigned_abs k) (right-magnitude r k h)
 
 -- v degrees in whole turns and quarter turns
-turned-whole : (b : Bool) (v j n : ℕ) → n < 4 → v ≡ 90 * (4 * j + n) → (t : ℤ) × ((if b then neg_ℤ (pos v) else pos v) ≡ pos 90 *ℤ (pos 4 *ℤ t +ℤ pos (if b then (4 - n) % 4 else n)))
+turned-whole : (b : Bool) (v j n : ℕ) → n < 4 → v ≡ 90 * (4 * j + n)
+    → (t : ℤ) × ((if b then neg_ℤ (pos v) else pos v) ≡ pos 90 *ℤ (pos 4 *ℤ t +ℤ pos (if b then (4 - n) % 4 else n)))
 turned-whole true v j zero few is = (neg_ℤ (pos j), omega (arith, ints, is))
 turned-whole true v j (suc n) few is = (
   negsuc j,

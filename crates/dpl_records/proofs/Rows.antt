@@ -10,7 +10,8 @@ use Rattle.dpl_records.specs.Forms.{form_in}
 pub row_of : (rows : List Data) (k : ℕ) (d : Data) → map form_in rows ≡ table → k < length rows → form_in (get_or rows k d) ≡ form_of k
 unfolding form_of
 row_of rows k d same lt =
-    sym (ap row_or_none (ap (λ (t : List (Option Form)). slice_get t k) (sym same) ∙ slice_get-map form_in rows k ∙ ap (λ (r : Option Data). option_map form_in r) (slice_get-get_or rows k d lt)))
+    sym (ap row_or_none (ap (λ (t : List (Option Form)). slice_get t k) (sym same) ∙ slice_get-map form_in rows k
+    ∙ ap (λ (r : Option Data). option_map form_in r) (slice_get-get_or rows k d lt)))
 
 pub no_row : (k : ℕ) → 60 ≤ k → form_of k ≡ None
 unfolding form_of table

@@ -88,7 +88,8 @@ some_outside v layout cert out apart =
       three,
       record {
         input = if_other v.output out two v.input io ∙ if_other v.certificate cert one v.input ic ∙ if_put v.input layout nothing (none v.input);
-        certificate = if_other v.output out two v.certificate (λ e. oc (sym e)) ∙ if_put v.certificate cert one (if_other v.input layout nothing v.certificate (λ e. ic (sym e)) ∙ none v.certificate);
+        certificate = if_other v.output out two v.certificate (λ e. oc (sym e)) ∙ if_put v.certificate cert one
+            (if_other v.input layout nothing v.certificate (λ e. ic (sym e)) ∙ none v.certificate);
         output = if_put v.output out two (if_other v.certificate cert one v.output oc ∙ if_other v.input layout nothing v.output (λ e. io (sym e)) ∙ none v.output);
       },
     )
@@ -154,37 +155,70 @@ layout_large told v x seen is =
     let file = large_file told v.input seen in
     let cert = some_file told v.certificate in
     let out = some_file told v.output in
-    record { layout = Some file.0; cert = cert.0; out = out.0; input_told = file.1; cert_told = cert.1; out_told = out.1; is = (Faulty TooLarge limit, inl (file.2, refl), is); answered = refusal_answered (codes "in") TooLarge limit x is }
+    record {
+      layout = Some file.0;
+      cert = cert.0;
+      out = out.0;
+      input_told = file.1;
+      cert_told = cert.1;
+      out_told = out.1;
+      is = (Faulty TooLarge limit, inl (file.2, refl), is);
+      answered = refusal_answered (codes "in") TooLarge limit x is;
+    }
 
-pub layout_faulty : (told : Option Outside) (v : CheckValues) (bytes : List ℕ) (name : Name) (at : ℕ) (x : Outcome) → IsSeen told v.input (Some bytes) → IsLayout (check_choice v) bytes (Faulty name at) → x ≡ refusal_of (codes "in") name at
+pub layout_faulty : (told : Option Outside) (v : CheckValues) (bytes : List ℕ) (name : Name) (at : ℕ) (x : Outcome)
+    → IsSeen told v.input (Some bytes) → IsLayout (check_choice v) bytes (Faulty name at) → x ≡ refusal_of (codes "in") name at
     → IsMadeOfFiles told v x
 layout_faulty told v bytes name at x seen read is =
     let cert = some_file told v.certificate in
     let out = some_file told v.output in
-    record { layout = Some bytes; cert = cert.0; out = out.0; input_told = seen.0; cert_told = cert.1; out_told = out.1; is = (Faulty name at, inr (seen.1, read), is); answered = refusal_answered (codes "in") name at x is }
+    record {
+      layout = Some bytes;
+      cert = cert.0;
+      out = out.0;
+      input_told = seen.0;
+      cert_told = cert.1;
+      out_told = out.1;
+      is = (Faulty name at, inr (seen.1, read), is);
+      answered = refusal_answered (codes "in") name at x is;
+    }
 
-pub layout_read : (told : Option Outside) (v : CheckValues) (bytes front : List ℕ) (layer : List Rect) (x : Outcome) → IsSeen told v.input (Some bytes) → IsLayout (check_choice v) bytes (Layer front layer) → IsMadeOfLayer told v layer x
+pub layout_read : (told : Option Outside) (v : CheckValues) (bytes front : List ℕ) (layer : List Rect) (x : Outcome)
+    → IsSeen told v.input (Some bytes) → IsLayout (check_choice v) bytes (Layer front layer) → IsMadeOfLayer told v layer x
     → IsMadeOfFiles told v x
 layout_read told v bytes front layer x seen read (cert, out, cert_told, out_told, is, answered) =
-    record { layout = Some bytes; cert = cert; out = out; input_told = seen.0; cert_told = cert_told; out_told = out_told; is = (Layer front layer, inr (seen.1, read), is); answered = answered }
+    record {
+      layout = Some bytes;
+      cert = cert;
+      out = out;
+      input_told = seen.0;
+      cert_told = cert_told;
+      out_told = out_told;
+      is = (Layer front layer, inr (seen.1, read), is);
+      answered = answered;
+    }
 
 -- ---- the certificate
 
-pub cert_large : (told : Option Outside) (v : CheckValues) (layer : List Rect) (x : Outcome) → IsSeen told v.certificate None → x ≡ refusal_of (codes "cert") TooLarge limit → IsMadeOfLayer told v layer x
+pub cert_large : (told : Option Outside) (v : CheckValues) (layer : List Rect) (x : Outcome) → IsSeen told v.certificate None
+    → x ≡ refusal_of (codes "cert") TooLarge limit → IsMadeOfLayer told v layer x
 cert_large told v layer x seen is =
     let file = large_file told v.certificate seen in
     let out = some_file told v.output in
     (Some file.0, out.0, file.1, out.1, inl (file.2, is), refusal_answered (codes "cert") TooLarge limit x is)
 
-pub cert_bad : (told : Option Outside) (v : CheckValues) (layer : List Rect) (text : List ℕ) (n : ℕ) (x : Outcome) → IsSeen told v.certificate (Some text) → IsBadLine text n → x ≡ says Refused (bad_line_line n) → IsMadeOfLayer told v layer x
+pub cert_bad : (told : Option Outside) (v : CheckValues) (layer : List Rect) (text : List ℕ) (n : ℕ) (x : Outcome)
+    → IsSeen told v.certificate (Some text) → IsBadLine text n → x ≡ says Refused (bad_line_line n) → IsMadeOfLayer told v layer x
 cert_bad told v layer text n x seen bad is =
     let out = some_file told v.output in
     (Some text, out.0, seen.0, out.1, inr (seen.1, inr (n, bad, is)), ap (λ (y : Outcome). is_answered y.status) is)
 
-pub cert_read : (told : Option Outside) (v : CheckValues) (layer : List Rect) (text : List ℕ) (cert : Cert) (x : Outcome) → IsSeen told v.certificate (Some text) → IsText cert text → IsMadeOfCert told v layer cert x → IsMadeOfLayer told v layer x
+pub cert_read : (told : Option Outside) (v : CheckValues) (layer : List Rect) (text : List ℕ) (cert : Cert) (x : Outcome)
+    → IsSeen told v.certificate (Some text) → IsText cert text → IsMadeOfCert told v layer cert x → IsMadeOfLayer told v layer x
 cert_read told v layer text cert x seen read (out, out_told, is, answered) = (Some text, out, seen.0, out_told, inr (seen.1, inl (cert, read, is)), answered)
 
-pub conflict_made : (told : Option Outside) (v : CheckValues) (layer : List Rect) (cert : Cert) (w : Verdict) (x : Outcome) → IsOfConflict cert → IsVerdictOfConflict v.rule v.overlap layer cert w → x ≡ verdict_outcome cert w
+pub conflict_made : (told : Option Outside) (v : CheckValues) (layer : List Rect) (cert : Cert) (w : Verdict) (x : Outcome)
+    → IsOfConflict cert → IsVerdictOfConflict v.rule v.overlap layer cert w → x ≡ verdict_outcome cert w
     → IsMadeOfCert told v layer cert x
 conflict_made told v layer (Masks h ps ss) w x of h2 is = absurd of
 conflict_made told v layer (Conflict h cs ns) w x of said is =
@@ -192,7 +226,8 @@ conflict_made told v layer (Conflict h cs ns) w x of said is =
     (out.0, out.1, (w, said, is), judged_answered (Conflict h cs ns) w x is)
 conflict_made told v layer (Fault name at) w x of h2 is = absurd of
 
-pub fault_made : (told : Option Outside) (v : CheckValues) (layer : List Rect) (cert : Cert) (name : Name) (at : ℕ) (x : Outcome) → cert ≡ Fault name at → x ≡ verdict_outcome cert (WasFault name at) → IsMadeOfCert told v layer cert x
+pub fault_made : (told : Option Outside) (v : CheckValues) (layer : List Rect) (cert : Cert) (name : Name) (at : ℕ) (x : Outcome)
+    → cert ≡ Fault name at → x ≡ verdict_outcome cert (WasFault name at) → IsMadeOfCert told v layer cert x
 fault_made told v layer cert name at x named is =
     let out = some_file told v.output in
     let here : x ≡ verdict_outcome (Fault name at) (WasFault name at) = is ∙ ap (λ (c : Cert). verdict_outcome c (WasFault name at)) named in
@@ -200,7 +235,8 @@ fault_made told v layer cert name at x named is =
 
 -- ---- the masks
 
-pub out_large : (told : Option Outside) (v : CheckValues) (layer : List Rect) (cert : Cert) (x : Outcome) → IsOfMasks cert → IsSeen told v.output None → x ≡ refusal_of (codes "out") TooLarge limit → IsMadeOfCert told v layer cert x
+pub out_large : (told : Option Outside) (v : CheckValues) (layer : List Rect) (cert : Cert) (x : Outcome) → IsOfMasks cert
+    → IsSeen told v.output None → x ≡ refusal_of (codes "out") TooLarge limit → IsMadeOfCert told v layer cert x
 out_large told v layer (Masks h ps ss) x of seen is =
     let file = large_file told v.output seen in
     (Some file.0, file.1, (Faulty TooLarge limit, inl (file.2, refl), is), refusal_answered (codes "out") TooLarge limit x is)
@@ -212,19 +248,23 @@ masks_answered v layer cert bytes x (Faulty name at, read, is) = refusal_answere
 masks_answered v layer cert bytes x (Layer front a, read, (Faulty name at, other, is)) = refusal_answered (codes "out") name at x is
 masks_answered v layer cert bytes x (Layer front a, read, (Layer back b, other, (w, said, is))) = judged_answered cert w x is
 
-pub out_read : (told : Option Outside) (v : CheckValues) (layer : List Rect) (cert : Cert) (bytes : List ℕ) (x : Outcome) → IsOfMasks cert → IsSeen told v.output (Some bytes) → IsCheckOfMasks v layer cert bytes x → IsMadeOfCert told v layer cert x
+pub out_read : (told : Option Outside) (v : CheckValues) (layer : List Rect) (cert : Cert) (bytes : List ℕ) (x : Outcome) → IsOfMasks cert
+    → IsSeen told v.output (Some bytes) → IsCheckOfMasks v layer cert bytes x → IsMadeOfCert told v layer cert x
 out_read told v layer (Masks h ps ss) bytes x of seen is = (Some bytes, seen.0, is, masks_answered v layer (Masks h ps ss) bytes x is)
 out_read told v layer (Conflict h cs ns) bytes x of seen is = absurd of
 out_read told v layer (Fault name at) bytes x of seen is = absurd of
 
-pub first_faulty : (v : CheckValues) (layer : List Rect) (cert : Cert) (bytes : List ℕ) (name : Name) (at : ℕ) (x : Outcome) → length bytes ≤ limit → IsLayout (mask_choice v.a) bytes (Faulty name at) → x ≡ refusal_of (codes "out") name at
+pub first_faulty : (v : CheckValues) (layer : List Rect) (cert : Cert) (bytes : List ℕ) (name : Name) (at : ℕ) (x : Outcome)
+    → length bytes ≤ limit → IsLayout (mask_choice v.a) bytes (Faulty name at) → x ≡ refusal_of (codes "out") name at
     → IsCheckOfMasks v layer cert bytes x
 first_faulty v layer cert bytes name at x small read is = (Faulty name at, inr (small, read), is)
 
-pub second_faulty : (v : CheckValues) (layer : List Rect) (cert : Cert) (bytes front : List ℕ) (a : List Rect) (name : Name) (at : ℕ) (x : Outcome) → length bytes ≤ limit → IsLayout (mask_choice v.a) bytes (Layer front a)
+pub second_faulty : (v : CheckValues) (layer : List Rect) (cert : Cert) (bytes front : List ℕ) (a : List Rect) (name : Name) (at : ℕ)
+    (x : Outcome) → length bytes ≤ limit → IsLayout (mask_choice v.a) bytes (Layer front a)
     → IsLayout (mask_choice v.b) bytes (Faulty name at) → x ≡ refusal_of (codes "out") name at → IsCheckOfMasks v layer cert bytes x
 second_faulty v layer cert bytes front a name at x small read other is = (Layer front a, inr (small, read), (Faulty name at, inr (small, other), is))
 
-pub masks_judged : (v : CheckValues) (layer : List Rect) (cert : Cert) (bytes front back : List ℕ) (a b : List Rect) (w : Verdict) (x : Outcome) → length bytes ≤ limit → IsLayout (mask_choice v.a) bytes (Layer front a)
+pub masks_judged : (v : CheckValues) (layer : List Rect) (cert : Cert) (bytes front back : List ℕ) (a b : List Rect) (w : Verdict)
+    (x : Outcome) → length bytes ≤ limit → IsLayout (mask_choice v.a) bytes (Layer front a)
     → IsLayout (mask_choice v.b) bytes (Layer back b) → IsVerdictOfMasks v.rule v.overlap layer a b cert w → x ≡ verdict_outcome cert w → IsCheckOfMasks v layer cert bytes x
 masks_judged v layer cert bytes front back a b w x small read other said is = (Layer front a, inr (small, read), (Layer back b, inr (small, other), (w, said, is)))

@@ -68,9 +68,11 @@ not_odd : (n : ℕ) (edges : List (ℕ × ℕ)) (joined : Joined) → IsEvenBelo
 not_odd n edges (Stars rows) even sums = sums.even
 not_odd n edges Odd even sums = absurd even
 
-pub painted_from : (rule overlap : ℕ) (cut : Cut) (edges : List (ℕ × ℕ)) (joined : Joined) (colours : List Bool) (a b : List Rect) (stitches : List ℕ) (head : Head) (ps : List PieceLine) (ss : List StitchLine)
+pub painted_from : (rule overlap : ℕ) (cut : Cut) (edges : List (ℕ × ℕ)) (joined : Joined) (colours : List Bool) (a b : List Rect)
+    (stitches : List ℕ) (head : Head) (ps : List PieceLine) (ss : List StitchLine)
     → AreEdges (conflicts rule cut) edges → Sums edges joined → IsEvenBelow (length cut.pieces) joined → ColoursWhatSums joined (length cut.pieces) cut.sides colours
-    → AreSlabsOf (on_mask cut.pieces cut.zones cut.sides colours false) a → AreSlabsOf (on_mask cut.pieces cut.zones cut.sides colours true) b → AreStitches cut.sides colours stitches
+    → AreSlabsOf (on_mask cut.pieces cut.zones cut.sides colours false) a
+    → AreSlabsOf (on_mask cut.pieces cut.zones cut.sides colours true) b → AreStitches cut.sides colours stitches
     → head ≡ head_of rule overlap cut → ps ≡ map piece_line (zip colours cut.keys) → ss ≡ map (stitch_line cut.zones cut.sides) stitches
     → IsPaintedCut rule overlap cut (record { a = a; b = b; head = head; pieces = ps; stitches = ss })
 painted_from rule overlap cut edges joined colours a b stitches head ps ss are sums even coloured in_a in_b differing h p s =
@@ -90,11 +92,13 @@ painted_from rule overlap cut edges joined colours a b stitches head ps ss are s
         b = in_b;
         stitches = differing;
       };
-      is = ap (λ (x : Head). of_parts x ps ss) h ∙ (ap (λ (x : List PieceLine). of_parts (head_of rule overlap cut) x ss) p ∙ ap (of_parts (head_of rule overlap cut) (map piece_line (zip colours cut.keys))) s);
+      is = ap (λ (x : Head). of_parts x ps ss) h ∙ (ap (λ (x : List PieceLine). of_parts (head_of rule overlap cut) x ss) p
+          ∙ ap (of_parts (head_of rule overlap cut) (map piece_line (zip colours cut.keys))) s);
     }
 
 -- there are as many colours as pieces
-pub as_many : (n : ℕ) (edges : List (ℕ × ℕ)) (joined : Joined) (sides : List (ℕ × ℕ)) (colours : List Bool) → Sums edges joined → ColoursWhatSums joined n sides colours → length colours ≡ n
+pub as_many : (n : ℕ) (edges : List (ℕ × ℕ)) (joined : Joined) (sides : List (ℕ × ℕ)) (colours : List Bool) → Sums edges joined
+    → ColoursWhatSums joined n sides colours → length colours ≡ n
 as_many n edges joined sides colours sums coloured = let these = coloured edges sums in these.coloured.each ∙ these.rooted.lengths.0
 
 pub clash_from : (rule overlap : ℕ) (cut : Cut) (edges : List (ℕ × ℕ)) (cycle : List ℕ) (head : Head) (cs : List PlaceLine) (ns : List NearLine)
@@ -116,14 +120,16 @@ around : (rule : ℕ) (cut : Cut) (edges : List (ℕ × ℕ)) (cycle : List ℕ)
     → conflicts rule cut (slice_index cycle k) (slice_index cycle ((k + 1) % length cycle))
 around rule cut edges cycle k are odd h = (same_conflicts rule cut edges are _ _).0 (odd.around k h)
 
-pub cycle_known : (rule : ℕ) (cut : Cut) (edges : List (ℕ × ℕ)) (cycle : List ℕ) (k : ℕ) → AreEdges (conflicts rule cut) edges → IsOddCycle (graph_of edges) cycle → k < length cycle → slice_index cycle k < length cut.pieces
+pub cycle_known : (rule : ℕ) (cut : Cut) (edges : List (ℕ × ℕ)) (cycle : List ℕ) (k : ℕ) → AreEdges (conflicts rule cut) edges
+    → IsOddCycle (graph_of edges) cycle → k < length cycle → slice_index cycle k < length cut.pieces
 cycle_known rule cut edges cycle k are odd h = (around rule cut edges cycle k are odd h).first
 
 pub cycle_near : (rule : ℕ) (cut : Cut) (edges : List (ℕ × ℕ)) (cycle : List ℕ) (k : ℕ) → AreEdges (conflicts rule cut) edges → IsOddCycle (graph_of edges) cycle → k < length cycle
     → AreNear rule (part_at cut.pieces (slice_index cycle k)) (part_at cut.pieces (slice_index cycle ((k + 1) % length cycle)))
 cycle_near rule cut edges cycle k are odd h = (around rule cut edges cycle k are odd h).near
 
-pub piece_known : (rule : ℕ) (cut : Cut) (edges : List (ℕ × ℕ)) (cycle : List ℕ) (p : ℕ) → AreEdges (conflicts rule cut) edges → IsOddCycle (graph_of edges) cycle → Contains cycle p → p < length cut.pieces
+pub piece_known : (rule : ℕ) (cut : Cut) (edges : List (ℕ × ℕ)) (cycle : List ℕ) (p : ℕ) → AreEdges (conflicts rule cut) edges
+    → IsOddCycle (graph_of edges) cycle → Contains cycle p → p < length cut.pieces
 piece_known rule cut edges cycle p are odd c = subst (λ (x : ℕ). x < length cut.pieces) (get_or_default cycle c.0 0 p c.1 ∙ c.2) (cycle_known rule cut edges cycle c.0 are odd c.1)
 
 pub cycle_length : (n m : ℕ) → 3 ≤ n → n % 2 ≡ 1 → n < 2 ^ 64 → m ≡ n → IsCycleLength m
@@ -134,7 +140,8 @@ zip_length [] ys h = refl
 zip_length (x ∷ xs) [] h = absurd (omega (arith, h))
 zip_length (x ∷ xs) (y ∷ ys) h = ap suc (zip_length xs ys (omega (arith, h)))
 
-pub lines_many : (n : ℕ) (colours : List Bool) (keys : List Pt) (ps : List PieceLine) → length colours ≡ n → length keys ≡ n → ps ≡ map piece_line (zip colours keys) → length ps ≡ n
+pub lines_many : (n : ℕ) (colours : List Bool) (keys : List Pt) (ps : List PieceLine) → length colours ≡ n → length keys ≡ n
+    → ps ≡ map piece_line (zip colours keys) → length ps ≡ n
 lines_many n colours keys ps c k p = ap length p ∙ rw length-map (zip_length colours keys (c ∙ sym k) ∙ c)
 
 pub places_many : (keys : List Pt) (cycle : List ℕ) (cs : List PlaceLine) → cs ≡ map (place_line keys) cycle → length cs ≡ length cycle

@@ -22,14 +22,16 @@ is_cut words made old mid new m same part =
     (m.0, m.1, (made, m.2, subst (λ (t : Option Outside). IsPartDone made.writes made.line t new) same part))
 
 -- a request that stands for the words
-pub of_words : (request : RequestValues) (words : List Text) (old : Option Outside) (made : Outcome) → request_of words ≡ Some request → IsMade (Some request) old made → IsMade (request_of words) old made
+pub of_words : (request : RequestValues) (words : List Text) (old : Option Outside) (made : Outcome) → request_of words ≡ Some request
+    → IsMade (Some request) old made → IsMade (request_of words) old made
 of_words request words old made is m = subst (λ (r : Option RequestValues). IsMade r old made) (sym is) m
 
 pub of_no_words : (words : List Text) (old : Option Outside) (made : Outcome) → request_of words ≡ None → IsMade None old made → IsMade (request_of words) old made
 of_no_words words old made is m = subst (λ (r : Option RequestValues). IsMade r old made) (sym is) m
 
 -- where no call failed, each answer to what was asked tells so
-pub none_failed : (s : Status) (reads reads_now writes writes_now : ℕ) → is_answered s ≡ true → reads_now ≡ reads → writes_now ≡ writes → TellsFaults s reads reads_now writes writes_now
+pub none_failed : (s : Status) (reads reads_now writes writes_now : ℕ) → is_answered s ≡ true → reads_now ≡ reads → writes_now ≡ writes
+    → TellsFaults s reads reads_now writes writes_now
 none_failed Done reads reads_now writes writes_now answered read written = (read, written)
 none_failed Conflict reads reads_now writes writes_now answered read written = (read, written)
 none_failed Refused reads reads_now writes writes_now answered read written = (read, written)

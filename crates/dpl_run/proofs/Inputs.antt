@@ -57,7 +57,8 @@ plan_answered v (Decides front (Clashes x)) = refl
 of_file : (v : SplitValues) (file : Option (List ℕ)) (bytes : List ℕ) (x : Outcome) → file ≡ Some bytes → IsSplit v bytes x → IsSplitOf v file x
 of_file v file bytes x is h = subst (λ (f : Option (List ℕ)). IsSplitOf v f x) (sym is) h
 
-pub split_made : (told : Option Outside) (v : SplitValues) (bytes : List ℕ) (x : Outcome) → IsInput told v.input (Some bytes) → IsSplit v bytes x → IsMade (Some (AsksSplit v)) told x
+pub split_made : (told : Option Outside) (v : SplitValues) (bytes : List ℕ) (x : Outcome) → IsInput told v.input (Some bytes)
+    → IsSplit v bytes x → IsMade (Some (AsksSplit v)) told x
 split_made told v bytes x h is =
     (h.0, h.1, of_file v _ bytes x h.2 is, ap (λ (y : Outcome). is_answered y.status) is.2 ∙ plan_answered v is.0)
 
@@ -67,12 +68,14 @@ split_refused told v x h is =
     (h.0, h.1, of_file v _ file x there (Refuses TooLarge 268435456, inl (large, refl), is), ap (λ (y : Outcome). is_answered y.status) is)
 
 -- the layer was decomposed
-pub split_decided : (v : SplitValues) (bytes front : List ℕ) (layer : List Rect) (flat : Flat) (x : Outcome) → length bytes ≤ 268435456 → IsLayout (split_choice v) bytes (Layer front layer) → IsFlat v.rule v.overlap layer flat → x ≡ plan_of v (Decides front flat)
+pub split_decided : (v : SplitValues) (bytes front : List ℕ) (layer : List Rect) (flat : Flat) (x : Outcome) → length bytes ≤ 268435456
+    → IsLayout (split_choice v) bytes (Layer front layer) → IsFlat v.rule v.overlap layer flat → x ≡ plan_of v (Decides front flat)
     → IsSplit v bytes x
 split_decided v bytes front layer flat x small read decomposed is = (Decides front flat, (layer, inr (small, read), decomposed), is)
 
 -- the layout has a fault
-pub split_faulty : (v : SplitValues) (bytes : List ℕ) (name : Name) (at : ℕ) (x : Outcome) → length bytes ≤ 268435456 → IsLayout (split_choice v) bytes (Faulty name at) → x ≡ refusal v name at → IsSplit v bytes x
+pub split_faulty : (v : SplitValues) (bytes : List ℕ) (name : Name) (at : ℕ) (x : Outcome) → length bytes ≤ 268435456
+    → IsLayout (split_choice v) bytes (Faulty name at) → x ≡ refusal v name at → IsSplit v bytes x
 split_faulty v bytes name at x small read is = (Refuses name at, inr (small, read), is)
 
 -- an outside that shows
@@ -97,12 +100,18 @@ demo_made told v x is = let s = shown told in (s.0, s.1, is, ap (λ (y : Outcome
 demo_small : (n rows : ℕ) → n ≡ 106 + 128 * rows → rows ≤ 1000000 → n ≤ 268435456
 demo_small n rows is few = omega (arith, is, few)
 
-pub demo_decided : (v : DemoValues) (bytes front : List ℕ) (layer : List Rect) (flat : Flat) (x : Outcome) → bytes ≡ demo_file v.seed v.rows → length bytes ≡ 106 + 128 * v.rows → v.rows ≤ 1000000 → IsLayout demo_choice bytes (Layer front layer)
+pub demo_decided : (v : DemoValues) (bytes front : List ℕ) (layer : List Rect) (flat : Flat) (x : Outcome)
+    → bytes ≡ demo_file v.seed v.rows → length bytes ≡ 106 + 128 * v.rows → v.rows ≤ 1000000 → IsLayout demo_choice bytes (Layer front layer)
     → IsFlat 30 10 layer flat → x ≡ demo_plan (Decides front flat) → IsDemo v x
-demo_decided v bytes front layer flat x made size few read decomposed is =
-    (Decides front flat, subst (λ (bs : List ℕ). (rs : List Rect) × IsReading demo_choice bs (Layer front rs) × IsFlat 30 10 rs flat) made (layer, inr (demo_small _ _ size few, read), decomposed), is)
+demo_decided v bytes front layer flat x made size few read decomposed is = (
+  Decides front flat,
+  subst (λ (bs : List ℕ). (rs : List Rect) × IsReading demo_choice bs (Layer front rs) × IsFlat 30 10 rs flat) made
+      (layer, inr (demo_small _ _ size few, read), decomposed),
+  is,
+)
 
-pub demo_faulty : (v : DemoValues) (bytes : List ℕ) (name : Name) (at : ℕ) (x : Outcome) → bytes ≡ demo_file v.seed v.rows → length bytes ≡ 106 + 128 * v.rows → v.rows ≤ 1000000 → IsLayout demo_choice bytes (Faulty name at)
+pub demo_faulty : (v : DemoValues) (bytes : List ℕ) (name : Name) (at : ℕ) (x : Outcome) → bytes ≡ demo_file v.seed v.rows
+    → length bytes ≡ 106 + 128 * v.rows → v.rows ≤ 1000000 → IsLayout demo_choice bytes (Faulty name at)
     → x ≡ demo_plan (Refuses name at) → IsDemo v x
 demo_faulty v bytes name at x made size few read is =
     (Refuses name at, subst (λ (bs : List ℕ). IsReading demo_choice bs (Faulty name at)) made (inr (demo_small _ _ size few, read)), is)

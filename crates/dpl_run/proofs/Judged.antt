@@ -66,10 +66,12 @@ layer_of_file choice bytes front slabs reading = elim reading [
 masks_right : (v : CheckValues) (layer : List Rect) (head : Head) (pieces : List PieceLine) (stitches : List StitchLine) (bytes : List ℕ) (x : Outcome)
     → IsCheckOfMasks v layer (Masks head pieces stitches) bytes x → x.status ≡ Done → HasRightMasks v layer head pieces stitches bytes
 masks_right v layer head pieces stitches bytes x (Faulty name at, read, is) done = absurd (other x (refusal_of (codes "out") name at) Refused is refl refused done)
-masks_right v layer head pieces stitches bytes x (Layer front a, read, (Faulty name at, more, is)) done = absurd (other x (refusal_of (codes "out") name at) Refused is refl refused done)
+masks_right v layer head pieces stitches bytes x (Layer front a, read, (Faulty name at, more, is)) done = absurd
+    (other x (refusal_of (codes "out") name at) Refused is refl refused done)
 masks_right v layer head pieces stitches bytes x (Layer front a, read, (Layer back b, more, (w, said, is))) done =
     let valid : w ≡ Valid = judged_valid (Masks head pieces stitches) w x is done in
-    let kept : IsVerdictOfMasks v.rule v.overlap layer a b (Masks head pieces stitches) Valid = subst (λ (u : Verdict). IsVerdictOfMasks v.rule v.overlap layer a b (Masks head pieces stitches) u) valid said in
+    let kept : IsVerdictOfMasks v.rule v.overlap layer a b (Masks head pieces stitches) Valid = subst
+    (λ (u : Verdict). IsVerdictOfMasks v.rule v.overlap layer a b (Masks head pieces stitches) u) valid said in
     record {
       a = a;
       b = b;
@@ -92,7 +94,8 @@ cert_right v o layer out (Fault name at) text x there t is done = absurd (other 
 
 -- what follows the layer of the layout
 module _ (v : CheckValues) (o : Outside) (bytes : List ℕ) (layer : List Rect) (read : files.get o.files v.input ≡ Some bytes) (has : HasLayer (check_choice v) bytes layer) where
-  layer_right : (cert out : Option (List ℕ)) (x : Outcome) → files.get o.files v.certificate ≡ cert → files.get o.files v.output ≡ out → WithFile cert (IsCheckOfFile v layer out) x → x.status ≡ Done → IsRight v o
+  layer_right : (cert out : Option (List ℕ)) (x : Outcome) → files.get o.files v.certificate ≡ cert → files.get o.files v.output ≡ out
+      → WithFile cert (IsCheckOfFile v layer out) x → x.status ≡ Done → IsRight v o
   layer_right None out x told there is done = absurd (other x (silent ReadFault) ReadFault is refl unread done)
   layer_right (Some text) out x told there (inl (large, is)) done = absurd (other x (refusal_of (codes "cert") TooLarge limit) Refused is refl refused done)
   layer_right (Some text) out x told there (inr (small, inl (cert, t, is))) done = record {
@@ -108,7 +111,8 @@ module _ (v : CheckValues) (o : Outside) (bytes : List ℕ) (layer : List Rect) 
   }
   layer_right (Some text) out x told there (inr (small, inr (n, bad, is))) done = absurd (other x (says Refused (bad_line_line n)) Refused is refl refused done)
 
-pub check_right : (v : CheckValues) (o : Outside) (layout cert out : Option (List ℕ)) (x : Outcome) → files.get o.files v.input ≡ layout → files.get o.files v.certificate ≡ cert → files.get o.files v.output ≡ out
+pub check_right : (v : CheckValues) (o : Outside) (layout cert out : Option (List ℕ)) (x : Outcome) → files.get o.files v.input ≡ layout
+    → files.get o.files v.certificate ≡ cert → files.get o.files v.output ≡ out
     → IsCheck v layout cert out x → x.status ≡ Done → IsRight v o
 check_right v o None cert out x read told there is done = absurd (other x (silent ReadFault) ReadFault is refl unread done)
 check_right v o (Some bytes) cert out x read told there (Faulty name at, found, is) done = absurd (other x (refusal_of (codes "in") name at) Refused is refl refused done)

@@ -25,7 +25,8 @@ use Rattle.dpl_run.specs.View.{IsLayerFault}
 six_parts : (a b c d e f : List ℕ) → ((((a ++ b) ++ c) ++ d) ++ e) ++ f ≡ a ++ (b ++ (c ++ (d ++ (e ++ f))))
 six_parts a b c d e f = simp append_assoc
 
-pub six_puts : (s1 s2 s3 s4 s5 s6 a b c d e f : List ℕ) → s1 ≡ a → s2 ≡ s1 ++ b → s3 ≡ s2 ++ c → s4 ≡ s3 ++ d → s5 ≡ s4 ++ e → s6 ≡ s5 ++ f → s6 ≡ a ++ (b ++ (c ++ (d ++ (e ++ f))))
+pub six_puts : (s1 s2 s3 s4 s5 s6 a b c d e f : List ℕ) → s1 ≡ a → s2 ≡ s1 ++ b → s3 ≡ s2 ++ c → s4 ≡ s3 ++ d → s5 ≡ s4 ++ e → s6 ≡ s5 ++ f
+    → s6 ≡ a ++ (b ++ (c ++ (d ++ (e ++ f))))
 six_puts s1 s2 s3 s4 s5 s6 a b c d e f p q r s t u =
     u ∙ ap (λ x. x ++ f) (t ∙ ap (λ x. x ++ e) (s ∙ ap (λ x. x ++ d) (r ∙ ap (λ x. x ++ c) (q ∙ ap (λ x. x ++ b) p)))) ∙ six_parts a b c d e f
 
@@ -34,7 +35,8 @@ found : (lib : Library) (o : Option Structure) (s : Structure) (f : Frame) (byte
 found lib None s f bytes is h e = cc
 found lib (Some t) s f bytes is h e = ap Some (ap frame_bytes (sym h) ∙ sym e)
 
-pub fronted : (lib : Library) (top : ℕ) (f : Frame) (bytes : List ℕ) → top < length lib.structures → IfSome (slice_get lib.structures top) (λ s. f ≡ frame_of lib s) → bytes ≡ frame_bytes f
+pub fronted : (lib : Library) (top : ℕ) (f : Frame) (bytes : List ℕ) → top < length lib.structures
+    → IfSome (slice_get lib.structures top) (λ s. f ≡ frame_of lib s) → bytes ≡ frame_bytes f
     → front_of lib top ≡ Some bytes
 fronted lib top f bytes within h e = elim (slice_get_cases lib.structures top).1 [
   | inl there ↦ found lib (slice_get lib.structures top) there.0 f bytes there.2 h e
@@ -46,7 +48,8 @@ pub slabs_same : (a b : Region) (rs : List Rect) → AreSlabsOf a rs → ((p : P
 slabs_same a b rs s same = record { canonical = s.canonical; covers = SameSquares-trans _ _ _ s.covers same }
 
 -- the canonical slabs of what is drawn of some bytes are their layer
-pub swept_layer : (v : Choice) (bytes front : List ℕ) (d : Drawn) (loops : List (List Pt)) (slabs : List Rect) → HasDrawing v bytes front d → ((lib : Library) (top : ℕ) (layer : ChosenLayer) → IsDrawingOf lib top layer d → AreLoopsOf lib top layer loops)
+pub swept_layer : (v : Choice) (bytes front : List ℕ) (d : Drawn) (loops : List (List Pt)) (slabs : List Rect) → HasDrawing v bytes front d
+    → ((lib : Library) (top : ℕ) (layer : ChosenLayer) → IsDrawingOf lib top layer d → AreLoopsOf lib top layer loops)
     → AreSlabsOf (SomeLoopCovers loops) slabs → IsLayout v bytes (Layer front slabs)
 swept_layer v bytes front d loops slabs (lib, holds, are) laid swept =
     let l = laid lib are.top (chosen v) are.drawing in (
@@ -56,15 +59,23 @@ swept_layer v bytes front d loops slabs (lib, holds, are) laid swept =
     )
 
 -- a fault of what is drawn of some bytes is theirs
-pub drawn_fault : (v : Choice) (bytes front : List ℕ) (d : Drawn) (f : FlattenFault) → HasDrawing v bytes front d → ((lib : Library) (top : ℕ) (layer : ChosenLayer) → IsDrawingOf lib top layer d → IsFirstFault lib top layer f) → IsLayerFault v bytes (of_flatten f)
+pub drawn_fault : (v : Choice) (bytes front : List ℕ) (d : Drawn) (f : FlattenFault) → HasDrawing v bytes front d
+    → ((lib : Library) (top : ℕ) (layer : ChosenLayer) → IsDrawingOf lib top layer d → IsFirstFault lib top layer f)
+    → IsLayerFault v bytes (of_flatten f)
 drawn_fault v bytes front d flatten.NoMemory has first = tt
-drawn_fault v bytes front d (flatten.MissingStructure at) (lib, holds, are) first = inr (lib, holds, inr (are.top, flatten.MissingStructure at, are.is_top, first lib are.top (chosen v) are.drawing, refl))
-drawn_fault v bytes front d (flatten.Recursion at) (lib, holds, are) first = inr (lib, holds, inr (are.top, flatten.Recursion at, are.is_top, first lib are.top (chosen v) are.drawing, refl))
-drawn_fault v bytes front d (flatten.Element at fault) (lib, holds, are) first = inr (lib, holds, inr (are.top, flatten.Element at fault, are.is_top, first lib are.top (chosen v) are.drawing, refl))
-drawn_fault v bytes front d flatten.TooManyPoints (lib, holds, are) first = inr (lib, holds, inr (are.top, flatten.TooManyPoints, are.is_top, first lib are.top (chosen v) are.drawing, refl))
-drawn_fault v bytes front d (flatten.OutOfRange at) (lib, holds, are) first = inr (lib, holds, inr (are.top, flatten.OutOfRange at, are.is_top, first lib are.top (chosen v) are.drawing, refl))
+drawn_fault v bytes front d (flatten.MissingStructure at) (lib, holds, are) first = inr
+    (lib, holds, inr (are.top, flatten.MissingStructure at, are.is_top, first lib are.top (chosen v) are.drawing, refl))
+drawn_fault v bytes front d (flatten.Recursion at) (lib, holds, are) first = inr
+    (lib, holds, inr (are.top, flatten.Recursion at, are.is_top, first lib are.top (chosen v) are.drawing, refl))
+drawn_fault v bytes front d (flatten.Element at fault) (lib, holds, are) first = inr
+    (lib, holds, inr (are.top, flatten.Element at fault, are.is_top, first lib are.top (chosen v) are.drawing, refl))
+drawn_fault v bytes front d flatten.TooManyPoints (lib, holds, are) first = inr
+    (lib, holds, inr (are.top, flatten.TooManyPoints, are.is_top, first lib are.top (chosen v) are.drawing, refl))
+drawn_fault v bytes front d (flatten.OutOfRange at) (lib, holds, are) first = inr
+    (lib, holds, inr (are.top, flatten.OutOfRange at, are.is_top, first lib are.top (chosen v) are.drawing, refl))
 
 -- an error that is handed on is the fault
-pub given_fault : {X : Type 0} (v : Choice) (bytes : List ℕ) (r : Result X LayerFault) (f : LayerFault) → IsErrAnd r (λ e. e ≡ f) → IsLayerFault v bytes f → IfErr r (IsLayerFault v bytes)
+pub given_fault : {X : Type 0} (v : Choice) (bytes : List ℕ) (r : Result X LayerFault) (f : LayerFault) → IsErrAnd r (λ e. e ≡ f)
+    → IsLayerFault v bytes f → IfErr r (IsLayerFault v bytes)
 given_fault v bytes (Ok x) f is fault = absurd is
 given_fault v bytes (Err e) f is fault = rw is fault

@@ -17,17 +17,20 @@ fits_push P [] x h k = (k, tt)
 fits_push P (y ∷ xs) x h k = (h.0, fits_push P xs x h.1 k)
 
 -- the image of one element more
-pub map_more : {A B : Type 0} (f : A → B) (xs : List A) (i : ℕ) (d : A) (ys zs : List B) → i < length xs → ys ≡ map f (take i xs) → zs ≡ ys ++ f (get_or xs i d) ∷ [] → zs ≡ map f (take (i + 1) xs)
+pub map_more : {A B : Type 0} (f : A → B) (xs : List A) (i : ℕ) (d : A) (ys zs : List B) → i < length xs → ys ≡ map f (take i xs)
+    → zs ≡ ys ++ f (get_or xs i d) ∷ [] → zs ≡ map f (take (i + 1) xs)
 map_more f xs i d ys zs h e p = p ∙ (ap (λ x. x ++ f (get_or xs i d) ∷ []) e ∙ rw (take_more xs i d h, map-append) refl)
 
-zip_suc : {A B : Type 0} (xs : List A) (ys : List B) (i : ℕ) (d : A) (e : B) → i < length xs → i < length ys → zip (take (suc i) xs) ys ≡ zip (take i xs) ys ++ (get_or xs i d, get_or ys i e) ∷ []
+zip_suc : {A B : Type 0} (xs : List A) (ys : List B) (i : ℕ) (d : A) (e : B) → i < length xs → i < length ys
+    → zip (take (suc i) xs) ys ≡ zip (take i xs) ys ++ (get_or xs i d, get_or ys i e) ∷ []
 zip_suc [] ys i d e h k = absurd (omega arith)
 zip_suc (a ∷ xs) [] i d e h k = absurd (omega arith)
 zip_suc (a ∷ xs) (b ∷ ys) zero d e h k = refl
 zip_suc (a ∷ xs) (b ∷ ys) (suc i) d e h k = ap (λ t. (a, b) ∷ t) (zip_suc xs ys i d e (omega arith) (omega arith))
 
 -- the image of one pair more
-pub zip_more : {A B C : Type 0} (f : A × B → C) (xs : List A) (ys : List B) (i : ℕ) (x : A) (y : B) (vs zs : List C) → i < length xs → i < length ys → get_or xs i x ≡ x → get_or ys i y ≡ y
+pub zip_more : {A B C : Type 0} (f : A × B → C) (xs : List A) (ys : List B) (i : ℕ) (x : A) (y : B) (vs zs : List C) → i < length xs
+    → i < length ys → get_or xs i x ≡ x → get_or ys i y ≡ y
     → vs ≡ map f (zip (take i xs) ys) → zs ≡ vs ++ f (x, y) ∷ [] → zs ≡ map f (zip (take (i + 1) xs) ys)
 zip_more f xs ys i x y vs zs h k x_is y_is was put =
     let one = zip_suc xs ys i x y h k in

@@ -15,7 +15,8 @@ use Rattle.dpl_nearest.specs.Nearest.{IsNearestPair}
 
 -- the lines of the first n pieces of the cycle
 abbrev pub AreNearestFirst : ℕ → List (List Rect) → List ℕ → ℕ → List NearLine → Type 0
-AreNearestFirst rule pieces cycle n lines = (j : ℕ) (d : NearLine) → j < n → IsNearestPair rule (part_at pieces (get_or cycle j 0)) (part_at pieces (get_or cycle ((j + 1) % length cycle) 0)) (get_or lines j d).from (get_or lines j d).to
+AreNearestFirst rule pieces cycle n lines = (j : ℕ) (d : NearLine) → j < n → IsNearestPair rule (part_at pieces (get_or cycle j 0))
+    (part_at pieces (get_or cycle ((j + 1) % length cycle) 0)) (get_or lines j d).from (get_or lines j d).to
 
 -- one line more
 pub nearest_more : (rule : ℕ) (pieces : List (List Rect)) (cycle : List ℕ) (n : ℕ) (old new : List NearLine) (line : NearLine) → length old ≡ n → new ≡ old ++ (line ∷ [])
@@ -30,7 +31,8 @@ nearest_more rule pieces cycle n old new line len put before here j d l = elim (
   | inr ne ↦
       let less : j < n = omega (arith, l, ne) in
       let same : get_or new j d ≡ get_or old j d = ap (λ xs. get_or xs j d) put ∙ get_or-append old (line ∷ []) d j (omega (arith, less, len)) in
-      subst (λ (u : NearLine). IsNearestPair rule (part_at pieces (get_or cycle j 0)) (part_at pieces (get_or cycle ((j + 1) % length cycle) 0)) u.from u.to) (sym same) (before j d less)
+      subst (λ (u : NearLine). IsNearestPair rule (part_at pieces (get_or cycle j 0))
+      (part_at pieces (get_or cycle ((j + 1) % length cycle) 0)) u.from u.to) (sym same) (before j d less)
 ]
 
 -- a square of rectangles within the range of a layer

@@ -10,5 +10,6 @@ two_numbers s pre a b h = h ∙ ap (λ x. pre ++ x) (two_parts a b)
 four_parts : (a b c d : List ℕ) → a ++ (32 ∷ (b ++ (32 ∷ (c ++ (32 ∷ (d ++ (10 ∷ []))))))) ≡ (a ++ (32 ∷ (b ++ (32 ∷ (c ++ (32 ∷ d)))))) ++ (10 ∷ [])
 four_parts a b c d = simp append_assoc
 
-pub four_numbers : (s pre a b c d : List ℕ) → s ≡ pre ++ (a ++ (32 ∷ (b ++ (32 ∷ (c ++ (32 ∷ (d ++ (10 ∷ [])))))))) → s ≡ pre ++ ((a ++ (32 ∷ (b ++ (32 ∷ (c ++ (32 ∷ d)))))) ++ (10 ∷ []))
+pub four_numbers : (s pre a b c d : List ℕ) → s ≡ pre ++ (a ++ (32 ∷ (b ++ (32 ∷ (c ++ (32 ∷ (d ++ (10 ∷ []))))))))
+    → s ≡ pre ++ ((a ++ (32 ∷ (b ++ (32 ∷ (c ++ (32 ∷ d)))))) ++ (10 ∷ []))
 four_numbers s pre a b c d h = h ∙ ap (λ x. pre ++ x) (four_parts a b c d)

@@ -49,7 +49,8 @@ painted_parts rule overlap layer cut p is painted =
       overlap = subst (λ (ss : List Rect). OverlapAt ss m.a m.b) (sym (line_rects cut.zones cut.sides m.stitches)) (overlap-at rule overlap (Covers layer) cut m is are);
     })
 
-paints : (v : SplitValues) (bytes front : List ℕ) (p : Painted) (x : Outcome) → IsDecision (split_choice v) v.rule v.overlap bytes (Decides front (Paints p)) → x ≡ painting v front p → WritesParting v bytes x.writes
+paints : (v : SplitValues) (bytes front : List ℕ) (p : Painted) (x : Outcome) → IsDecision (split_choice v) v.rule v.overlap bytes
+    (Decides front (Paints p)) → x ≡ painting v front p → WritesParting v bytes x.writes
 paints v bytes front p x d is =
     let (layer, reading, (cut, is_cut, painted)) = d in
     elim reading [
@@ -90,12 +91,14 @@ usage_not e = cc
 status_as : (x y : Outcome) (s : Status) → x ≡ y → y.status ≡ s → x.status ≡ Done → s ≡ Done
 status_as x y s is named done = sym named ∙ sym (ap (λ (z : Outcome). z.status) is) ∙ done
 
-decided_done : (v : SplitValues) (bytes : List ℕ) (d : Decision) (x : Outcome) → IsDecision (split_choice v) v.rule v.overlap bytes d → x ≡ plan_of v d → x.status ≡ Done → WritesParting v bytes x.writes
+decided_done : (v : SplitValues) (bytes : List ℕ) (d : Decision) (x : Outcome) → IsDecision (split_choice v) v.rule v.overlap bytes d
+    → x ≡ plan_of v d → x.status ≡ Done → WritesParting v bytes x.writes
 decided_done v bytes (Refuses name at) x d is done = absurd (refused_not (status_as x (refusal v name at) Refused is refl done))
 decided_done v bytes (Decides front (Clashes c)) x d is done = absurd (conflict_not (status_as x (clash v c) Conflict is refl done))
 decided_done v bytes (Decides front (Paints p)) x d is done = paints v bytes front p x d is
 
-file_done : (v : SplitValues) (file : Option (List ℕ)) (x : Outcome) → IsSplitOf v file x → x.status ≡ Done → (bytes : List ℕ) × (file ≡ Some bytes) × WritesParting v bytes x.writes
+file_done : (v : SplitValues) (file : Option (List ℕ)) (x : Outcome) → IsSplitOf v file x → x.status ≡ Done
+    → (bytes : List ℕ) × (file ≡ Some bytes) × WritesParting v bytes x.writes
 file_done v None x is done = absurd (read_not (status_as x (silent ReadFault) ReadFault is refl done))
 file_done v (Some bytes) x is done = (bytes, refl, decided_done v bytes is.0 x is.1 is.2 done)
 

@@ -35,7 +35,8 @@ module _ (parts : List (List Rect)) (owners : List ℕ) (rule tile : ℕ) (plan 
       (subst (λ (r : ℕ). AreEdges (Conflict r plan.parts plan.owners) es) is.of_rule are))
 
 -- a plan of bare pieces is one of what they are completed to
-pub plan_completed : (bare : BareCut) (pieces : CutPieces) (rule tile : ℕ) (plan : Planned) → Completes bare pieces → IsPlan bare.parts bare.owners rule tile plan → IsPlan pieces.parts pieces.owners rule tile plan
+pub plan_completed : (bare : BareCut) (pieces : CutPieces) (rule tile : ℕ) (plan : Planned) → Completes bare pieces
+    → IsPlan bare.parts bare.owners rule tile plan → IsPlan pieces.parts pieces.owners rule tile plan
 plan_completed bare pieces rule tile plan completed is =
     subst (λ (os : List ℕ). IsPlan pieces.parts os rule tile plan) (sym completed.owners)
     (subst (λ (ps : List (List Rect)). IsPlan ps bare.owners rule tile plan) (sym completed.parts) is)
@@ -50,4 +51,5 @@ stars_below rule cut rows (es, are, sums) = rows_below (length cut.pieces) es ro
 -- an odd cycle of the conflicts shows in each list of them
 pub odd_listed : (rule : ℕ) (cut : Cut) (es : List (ℕ × ℕ)) → SumsGraph (conflicts rule cut) Odd → AreEdges (conflicts rule cut) es → HasOddCycle (graph_of es)
 odd_listed rule cut es (fs, are, odd) these =
-    odd_same (conflicts rule cut) (graph_of es) (same_back (graph_of es) (conflicts rule cut) (same_conflicts rule cut es these)) (odd_same (graph_of fs) (conflicts rule cut) (same_conflicts rule cut fs are) odd)
+    odd_same (conflicts rule cut) (graph_of es) (same_back (graph_of es) (conflicts rule cut) (same_conflicts rule cut es these))
+    (odd_same (graph_of fs) (conflicts rule cut) (same_conflicts rule cut fs are) odd)

@@ -44,7 +44,14 @@ pub record IsPaintedCut (rule overlap : ℕ) (cut : Cut) (p : Painted) : Type 0 
   pub masks : Masks
   pub even : ¬ HasOddCycle (conflicts rule cut)
   pub are_masks : AreMasks rule cut masks
-  pub is : p ≡ record { a = masks.a; b = masks.b; head = head_of rule overlap cut; pieces = map piece_line (zip are_masks.colours cut.keys); stitches = map (stitch_line cut.zones cut.sides) masks.stitches }
+  pub is : p ≡ record {
+    a = masks.a;
+    b = masks.b;
+    head = head_of rule overlap cut;
+    pieces = map piece_line
+        (zip are_masks.colours cut.keys);
+    stitches = map (stitch_line cut.zones cut.sides) masks.stitches;
+  }
 
 -- the reported cycle of a cut whose conflict graph has an odd one
 pub record IsClashOfCut (rule overlap : ℕ) (cut : Cut) (x : Clash) : Type 0 where

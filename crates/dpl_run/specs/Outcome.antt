@@ -51,7 +51,8 @@ is_answered WriteFault = false
 is_answered NoMemory = false
 is_answered _ = true
 
--- What an answer tells of the calls that failed, by the count of failed reads and that of the other failed calls, before and now. A failed read is answered as one, and so is another failed call; at any other answer, want of memory too, no call failed.
+-- What an answer tells of the calls that failed, by the count of failed reads and that of the other failed calls, before and now. A failed
+-- read is answered as one, and so is another failed call; at any other answer, want of memory too, no call failed.
 abbrev pub TellsFaults : Status → ℕ → ℕ → ℕ → ℕ → Type 0
 TellsFaults ReadFault reads reads_now writes writes_now = Rose reads reads_now × (writes_now ≡ writes)
 TellsFaults WriteFault reads reads_now writes writes_now = (reads_now ≡ reads) × Rose writes writes_now

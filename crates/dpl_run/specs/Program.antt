@@ -54,4 +54,5 @@ IsMadeOfCert told v layer cert x = (out : Option (List ℕ)) × IsTold told v.ou
 
 -- what was made of the certificate's file
 abbrev pub IsMadeOfLayer : Option Outside → CheckValues → List Rect → Outcome → Type 0
-IsMadeOfLayer told v layer x = (cert out : Option (List ℕ)) × IsTold told v.certificate cert × IsTold told v.output out × WithFile cert (IsCheckOfFile v layer out) x × (is_answered x.status ≡ true)
+IsMadeOfLayer told v layer x = (cert out : Option (List ℕ)) × IsTold told v.certificate cert × IsTold told v.output out
+    × WithFile cert (IsCheckOfFile v layer out) x × (is_answered x.status ≡ true)

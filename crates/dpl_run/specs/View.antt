@@ -62,7 +62,8 @@ cut_view features p = record { features = features; zones = p.zones; pieces = p.
 
 -- the pieces, once completed, are those of so many features of the layer
 abbrev pub IsBareCutOf : ℕ → ℕ → Region → BareLayerCut → Type 0
-IsBareCutOf rule overlap layer c = (features : List (List Rect)) × (length features ≡ c.features) × ((p : CutPieces) → Completes c.pieces p → IsCut rule overlap layer (cut_view features p))
+IsBareCutOf rule overlap layer c = (features : List (List Rect)) × (length features ≡ c.features) × ((p : CutPieces) → Completes c.pieces p
+    → IsCut rule overlap layer (cut_view features p))
 
 -- it holds of a cut into these pieces, completed in some way, whatever its features are, of which there are so many
 abbrev pub OfCompleted : BareLayerCut → (Cut → Type 0) → Type 0

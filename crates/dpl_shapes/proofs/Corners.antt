@@ -51,7 +51,8 @@ winding-sides : (r : Rect) (s : Pt) → winding (corners_of r) s ≡ step (low_r
 winding-sides r s =
     let low = step-level (low_left r) (low_right r) s refl in
     let high = step-level (high_right r) (high_left r) s refl in
-    let whole : winding (corners_of r) s ≡ pos 0 +ℤ step (low_left r) (low_right r) s +ℤ step (low_right r) (high_right r) s +ℤ step (high_right r) (high_left r) s +ℤ step (high_left r) (low_left r) s = refl in
+    let whole : winding (corners_of r) s ≡ pos 0 +ℤ step (low_left r) (low_right r) s +ℤ step (low_right r) (high_right r) s +ℤ step
+    (high_right r) (high_left r) s +ℤ step (high_left r) (low_left r) s = refl in
     whole ∙ omega (arith, ints, low, high)
 
 sides-none : (r : Rect) (s : Pt) (a b : ℤ) → step (low_right r) (high_right r) s ≡ a → step (high_left r) (low_left r) s ≡ b → a +ℤ b ≡ pos 0 → LoopCovers (corners_of r) s → ⊥
@@ -63,14 +64,17 @@ pub corners-cover : (r : Rect) (s : Pt) → IsProper r → LoopCovers (corners_o
 corners-cover r s proper = (
   λ covers.
       by_lt_z s.y r.y0
-      (λ below. absurd (sides-none r s _ _ (step-off (low_right r) (high_right r) s below (omega (arith, ints, below, proper.up))) (step-off (high_left r) (low_left r) s (omega (arith, ints, below, proper.up)) below) refl covers))
+      (λ below. absurd (sides-none r s _ _ (step-off (low_right r) (high_right r) s below (omega (arith, ints, below, proper.up)))
+      (step-off (high_left r) (low_left r) s (omega (arith, ints, below, proper.up)) below) refl covers))
       (λ low. by_lt_z s.y r.y1
       (λ high. by_lt_z s.x r.x0
-      (λ before. absurd (sides-none r s _ _ (step-right (low_right r) (high_right r) s (omega (arith, ints, before, proper.across))) (step-right (high_left r) (low_left r) s before) refl covers))
+      (λ before. absurd (sides-none r s _ _ (step-right (low_right r) (high_right r) s (omega (arith, ints, before, proper.across)))
+      (step-right (high_left r) (low_left r) s before) refl covers))
       (λ left. by_lt_z s.x r.x1
       (λ right. record { left = left; right = right; low = low; high = high })
       (λ past. absurd (sides-none r s _ _ (step-up (low_right r) (high_right r) s past low high) (step-down (high_left r) (low_left r) s left low high) refl covers))))
-      (λ above. absurd (sides-none r s _ _ (step-over (low_right r) (high_right r) s (omega (arith, ints, above, proper.up)) above) (step-over (high_left r) (low_left r) s above (omega (arith, ints, above, proper.up))) refl covers))),
+      (λ above. absurd (sides-none r s _ _ (step-over (low_right r) (high_right r) s (omega (arith, ints, above, proper.up)) above)
+      (step-over (high_left r) (low_left r) s above (omega (arith, ints, above, proper.up))) refl covers))),
   λ has none.
       let up = step-right (low_right r) (high_right r) s has.right in
       let down = step-down (high_left r) (low_left r) s has.left has.low has.high in

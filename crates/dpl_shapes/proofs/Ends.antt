@@ -48,31 +48,50 @@ bar-proper half begin end s h b e =
     let p : Pt = s.from in
     let q : Pt = s.to in
     by_lt_z p.x q.x
-    (λ east. let is : heading p q ≡ East = grind (arith, ints, east) in subst (λ w. IsProper (bar_to w half begin end s)) (sym is) (record { across = omega (arith, ints, east, b, e); up = omega (arith, ints, h) }))
+    (λ east. let is : heading p q ≡ East = grind (arith, ints, east) in
+    subst (λ w. IsProper (bar_to w half begin end s)) (sym is)
+    (record { across = omega (arith, ints, east, b, e); up = omega (arith, ints, h) }))
     (λ not_east. by_lt_z q.x p.x
-    (λ west. let is : heading p q ≡ West = grind (arith, ints, not_east, west) in subst (λ w. IsProper (bar_to w half begin end s)) (sym is) (record { across = omega (arith, ints, west, b, e); up = omega (arith, ints, h) }))
+    (λ west. let is : heading p q ≡ West = grind (arith, ints, not_east, west) in
+    subst (λ w. IsProper (bar_to w half begin end s)) (sym is)
+    (record { across = omega (arith, ints, west, b, e); up = omega (arith, ints, h) }))
     (λ not_west. by_lt_z p.y q.y
-    (λ north. let is : heading p q ≡ North = grind (arith, ints, not_east, not_west, north) in subst (λ w. IsProper (bar_to w half begin end s)) (sym is) (record { across = omega (arith, ints, h); up = omega (arith, ints, north, b, e) }))
-    (λ south. let is : heading p q ≡ South = grind (arith, ints, not_east, not_west, south) in subst (λ w. IsProper (bar_to w half begin end s)) (sym is) (record { across = omega (arith, ints, h); up = omega (arith, ints, south, b, e) }))))
+    (λ north. let is : heading p q ≡ North = grind (arith, ints, not_east, not_west, north) in
+    subst (λ w. IsProper (bar_to w half begin end s)) (sym is)
+    (record { across = omega (arith, ints, h); up = omega (arith, ints, north, b, e) }))
+    (λ south. let is : heading p q ≡ South = grind (arith, ints, not_east, not_west, south) in
+    subst (λ w. IsProper (bar_to w half begin end s)) (sym is)
+    (record { across = omega (arith, ints, h); up = omega (arith, ints, south, b, e) }))))
 
 bars-proper : (half begin end : ℤ) (ss : List Segment) → pos 0 ≤ℤ half → pos 0 ≤ℤ begin → pos 0 ≤ℤ end → (r : Rect) → Contains (bars half begin end ss) r → IsProper r
 bars-proper half begin end [] h b e r r_in = absurd (Contains-nil r r_in)
-bars-proper half begin end (s ∷ []) h b e r r_in = elim (Contains-cases (bar half begin end s) r [] r_in) [ inl is ↦ subst IsProper is (bar-proper half begin end s h b e) | inr later ↦ absurd (Contains-nil r later) ]
-bars-proper half begin end (s ∷ t ∷ ts) h b e r r_in = elim (Contains-cases (bar half begin half s) r (bars half half end (t ∷ ts)) r_in) [ inl is ↦ subst IsProper is (bar-proper half begin half s h b h) | inr later ↦ bars-proper half half end (t ∷ ts) h h e r later ]
+bars-proper half begin end (s ∷ []) h b e r r_in = elim (Contains-cases (bar half begin end s) r [] r_in) [
+  | inl is ↦ subst IsProper is
+      (bar-proper half begin end s h b e)
+  | inr later ↦ absurd (Contains-nil r later)
+]
+bars-proper half begin end (s ∷ t ∷ ts) h b e r r_in = elim (Contains-cases (bar half begin half s) r (bars half half end (t ∷ ts)) r_in)
+    [ inl is ↦ subst IsProper is (bar-proper half begin half s h b h) | inr later ↦ bars-proper half half end (t ∷ ts) h h e r later ]
 
 square-proper : (half : ℤ) (p : Pt) → pos 0 ≤ℤ half → IsProper (square_round half p)
 square-proper half p h = record { across = omega (arith, ints, h); up = omega (arith, ints, h) }
 
 dot-proper : (b : Bool) (half : ℤ) (p : Pt) → pos 0 ≤ℤ half → (r : Rect) → Contains (if b then square_round half p ∷ [] else []) r → IsProper r
-dot-proper true half p h r r_in = elim (Contains-cases (square_round half p) r [] r_in) [ inl is ↦ subst IsProper is (square-proper half p h) | inr later ↦ absurd (Contains-nil r later) ]
+dot-proper true half p h r r_in = elim (Contains-cases (square_round half p) r [] r_in) [
+  | inl is ↦ subst IsProper is
+      (square-proper half p h)
+  | inr later ↦ absurd (Contains-nil r later)
+]
 dot-proper false half p h r r_in = absurd (Contains-nil r r_in)
 
-through-proper : (p : PathElement) (ps : List Pt) → (p.kind ≡ pos 4 → pos 0 ≤ℤ p.begin_ext) → (p.kind ≡ pos 4 → pos 0 ≤ℤ p.end_ext) → (r : Rect) → Contains (rects_through p ps) r → IsProper r
+through-proper : (p : PathElement) (ps : List Pt) → (p.kind ≡ pos 4 → pos 0 ≤ℤ p.begin_ext) → (p.kind ≡ pos 4 → pos 0 ≤ℤ p.end_ext)
+    → (r : Rect) → Contains (rects_through p ps) r → IsProper r
 through-proper p [] b e r r_in = absurd (Contains-nil r r_in)
 through-proper p (q ∷ []) b e r r_in = dot-proper (same p.kind (pos 2)) (half_of p) q (omega (arith, ints)) r r_in
 through-proper p (q ∷ t ∷ ts) b e r r_in =
     let half : pos 0 ≤ℤ half_of p = omega (arith, ints) in
-    bars-proper (half_of p) (past_end p.kind (half_of p) p.begin_ext) (past_end p.kind (half_of p) p.end_ext) (segments_from q t ts) half (past-forward p.kind (half_of p) p.begin_ext half b) (past-forward p.kind (half_of p) p.end_ext half e) r r_in
+    bars-proper (half_of p) (past_end p.kind (half_of p) p.begin_ext) (past_end p.kind (half_of p) p.end_ext) (segments_from q t ts) half
+    (past-forward p.kind (half_of p) p.begin_ext half b) (past-forward p.kind (half_of p) p.end_ext half e) r r_in
 
 forward : (z : ℤ) → (z <ℤ pos 0 → ⊥) → pos 0 ≤ℤ z
 forward z h = by_lt_z z (pos 0) (λ l. absurd (h l)) (λ m. m)
@@ -85,12 +104,16 @@ rects-proper p fit r r_in =
     ]) r_in
 
 -- the rectangles that were drawn are the path's
-along-through : (p : PathElement) (ps : List Pt) (m : Margins) (dot : Bool) → m.half ≡ half_of p → m.begin ≡ past_end p.kind (half_of p) p.begin_ext → m.end ≡ past_end p.kind (half_of p) p.end_ext → dot ≡ same p.kind (pos 2) → rects_along m dot ps ≡ rects_through p ps
+along-through : (p : PathElement) (ps : List Pt) (m : Margins) (dot : Bool) → m.half ≡ half_of p
+    → m.begin ≡ past_end p.kind (half_of p) p.begin_ext → m.end ≡ past_end p.kind (half_of p) p.end_ext → dot ≡ same p.kind (pos 2)
+    → rects_along m dot ps ≡ rects_through p ps
 along-through p [] m dot half begin end dot_is = refl
 along-through p (q ∷ []) m dot half begin end dot_is = λ i. if dot_is i then square_round (half i) q ∷ [] else []
 along-through p (q ∷ r ∷ rs) m dot half begin end dot_is = λ i. bars (half i) (begin i) (end i) (segments_from q r rs)
 
-pub path-drawn : (p : PathElement) (ps : List Pt) (m : Margins) (dot : Bool) → (p.width ≡ pos 0 → ⊥) → ps ≡ distinct p.points → m.half ≡ half_of p → m.begin ≡ past_end p.kind (half_of p) p.begin_ext → m.end ≡ past_end p.kind (half_of p) p.end_ext → dot ≡ same p.kind (pos 2) → rects_along m dot ps ≡ path_rects p
+pub path-drawn : (p : PathElement) (ps : List Pt) (m : Margins) (dot : Bool) → (p.width ≡ pos 0 → ⊥) → ps ≡ distinct p.points
+    → m.half ≡ half_of p → m.begin ≡ past_end p.kind (half_of p) p.begin_ext → m.end ≡ past_end p.kind (half_of p) p.end_ext
+    → dot ≡ same p.kind (pos 2) → rects_along m dot ps ≡ path_rects p
 path-drawn p ps m dot drawn ps_is half begin end dot_is =
     along-through p ps m dot half begin end dot_is
     ∙ (ap (rects_through p) ps_is ∙ ap (λ b. if b then [] else rects_through p (distinct p.points)) (sym (same-no p.width (pos 0) drawn)))

@@ -36,7 +36,8 @@ plain-bad p (inl k) (a, b, c, d) = a k
 plain-bad p (inr (inl k)) (a, b, c, d) = c k
 plain-bad p (inr (inr k)) (a, b, c, d) = d k
 
-before : (p : PathElement) (n : ℕ) → IsPlain p → (4 < n → Applies p Slanted → ⊥) → (5 < n → Applies p TurnsBack → ⊥) → (6 < n → Applies p Negative → ⊥) → (g : PathFault) → place g < n → Applies p g → ⊥
+before : (p : PathElement) (n : ℕ) → IsPlain p → (4 < n → Applies p Slanted → ⊥) → (5 < n → Applies p TurnsBack → ⊥)
+    → (6 < n → Applies p Negative → ⊥) → (g : PathFault) → place g < n → Applies p g → ⊥
 before p n plain s t e Round lt h = plain-round p plain.known h
 before p n plain s t e BadType lt h = plain-bad p plain.known h
 before p n plain s t e Odd lt h = plain.even h
@@ -45,12 +46,19 @@ before p n plain s t e TurnsBack lt h = t lt h
 before p n plain s t e Negative lt h = e lt h
 
 pub turns-first : (p : PathElement) → IsPlain p → (HasSlant (distinct p.points) → ⊥) → HasTurnBack (distinct p.points) → IsFirstFault p TurnsBack
-turns-first p plain straight turns = record { drawn = plain.drawn; there = turns; first = before p 5 plain (λ l. straight) (λ l. absurd (omega (arith, l))) (λ l. absurd (omega (arith, l))) }
+turns-first p plain straight turns = record {
+  drawn = plain.drawn;
+  there = turns;
+  first = before p 5 plain (λ l. straight)
+      (λ l. absurd (omega (arith, l))) (λ l. absurd (omega (arith, l)));
+}
 
-pub negative-first : (p : PathElement) → IsPlain p → (HasSlant (distinct p.points) → ⊥) → (HasTurnBack (distinct p.points) → ⊥) → HasNegativeEnd p.kind p.begin_ext p.end_ext → IsFirstFault p Negative
+pub negative-first : (p : PathElement) → IsPlain p → (HasSlant (distinct p.points) → ⊥) → (HasTurnBack (distinct p.points) → ⊥)
+    → HasNegativeEnd p.kind p.begin_ext p.end_ext → IsFirstFault p Negative
 negative-first p plain straight on negative = record { drawn = plain.drawn; there = negative; first = before p 6 plain (λ l. straight) (λ l. on) (λ l. absurd (omega (arith, l))) }
 
-pub no-fault : (p : PathElement) → IsPlain p → (HasSlant (distinct p.points) → ⊥) → (HasTurnBack (distinct p.points) → ⊥) → (HasNegativeEnd p.kind p.begin_ext p.end_ext → ⊥) → IsFaultless p
+pub no-fault : (p : PathElement) → IsPlain p → (HasSlant (distinct p.points) → ⊥) → (HasTurnBack (distinct p.points) → ⊥)
+    → (HasNegativeEnd p.kind p.begin_ext p.end_ext → ⊥) → IsFaultless p
 no-fault p plain straight on fit = inr (λ f h. before p 7 plain (λ l. straight) (λ l. on) (λ l. fit) f (few f) h)
   where
     few : (f : PathFault) → place f < 7
@@ -63,4 +71,7 @@ no-fault p plain straight on fit = inr (λ f h. before p 7 plain (λ l. straight
 
 -- at equal numbers, as those that a call was passed
 pub negative-as : (k b e kind begin_ext end_ext : ℤ) → k ≡ kind → b ≡ begin_ext → e ≡ end_ext → HasNegativeEnd k b e → HasNegativeEnd kind begin_ext end_ext
-negative-as k b e kind begin_ext end_ext k_is b_is e_is (four, h) = (subst (λ n. n ≡ pos 4) k_is four, elim h [ inl l ↦ inl (subst (λ n. n <ℤ pos 0) b_is l) | inr l ↦ inr (subst (λ n. n <ℤ pos 0) e_is l) ])
+negative-as k b e kind begin_ext end_ext k_is b_is e_is (four, h) = (
+  subst (λ n. n ≡ pos 4) k_is four,
+  elim h [ inl l ↦ inl (subst (λ n. n <ℤ pos 0) b_is l) | inr l ↦ inr (subst (λ n. n <ℤ pos 0) e_is l) ],
+)

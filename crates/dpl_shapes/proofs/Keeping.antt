@@ -5,7 +5,9 @@ use Rattle.dpl_spec_split.specs.declared.Pt.{Pt}
 use Rattle.dpl_spec_elements.specs.Paths.{distinct_after, distinct}
 
 -- all points after the first were gone over
-pub distinct-done : (ps items kept none : List Pt) (n : ℕ) (d : Pt) → 1 ≤ length ps → none ≡ [] → kept ≡ none ++ get_or ps 0 d ∷ [] → length (take (length ps - 1) (drop 1 ps)) ≤ n → items ++ [] ≡ kept ++ distinct_after (get_or ps 0 d) (take n (take (length ps - 1) (drop 1 ps)) ++ []) → items ≡ distinct ps
+pub distinct-done : (ps items kept none : List Pt) (n : ℕ) (d : Pt) → 1 ≤ length ps → none ≡ [] → kept ≡ none ++ get_or ps 0 d ∷ []
+    → length (take (length ps - 1) (drop 1 ps)) ≤ n → items ++ [] ≡ kept ++ distinct_after (get_or ps 0 d)
+    (take n (take (length ps - 1) (drop 1 ps)) ++ []) → items ≡ distinct ps
 distinct-done [] items kept none n d some none_is kept_is all h = absurd (omega (arith, some))
 distinct-done (p ∷ ps) items kept none n d some none_is kept_is all h =
     let whole : take (length (p ∷ ps) - 1) ps ≡ ps = take_all (length (p ∷ ps) - 1) ps (omega arith) in

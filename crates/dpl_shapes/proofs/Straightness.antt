@@ -9,7 +9,9 @@ use Rattle.dpl_spec_elements.specs.Paths.{heading, back, HasTurnBack}
 at-index : (ps : List Pt) (i j : ℕ) (p d : Pt) → i ≡ j → j < length ps → p ≡ get_or ps j p → get_or ps i d ≡ p
 at-index ps i j p d e within is = ap (λ k. get_or ps k d) e ∙ (get_or_default ps j d p within ∙ sym is)
 
-pub turn-found : (ps : List Pt) (i : ℕ) (d1 d2 d3 d4 : Pt) (x y : Heading) → 2 ≤ i → i < length ps → x ≡ heading (get_or ps (i - 2) d1) (get_or ps (i - 1) d2) → y ≡ heading (get_or ps (i - 1) d3) (get_or ps i d4) → y ≡ back x → HasTurnBack ps
+pub turn-found : (ps : List Pt) (i : ℕ) (d1 d2 d3 d4 : Pt) (x y : Heading) → 2 ≤ i → i < length ps
+    → x ≡ heading (get_or ps (i - 2) d1) (get_or ps (i - 1) d2) → y ≡ heading (get_or ps (i - 1) d3) (get_or ps i d4) → y ≡ back x
+    → HasTurnBack ps
 turn-found ps i d1 d2 d3 d4 x y from within x_is y_is turned =
     let p : Pt = get_or ps (i - 2) d1 in
     let q : Pt = get_or ps (i - 1) d2 in

@@ -13,18 +13,23 @@ use Rattle.dpl_shapes.specs.Strokes.{loops_left, DrawsTo}
 some_segment : (p q : Pt) (rest : List Pt) → (t : Segment) × (ts : List Segment) × (segments_from p q rest ≡ t ∷ ts)
 some_segment p q [] = (record { from = p; to = q }, [], refl)
 some_segment p q (r ∷ rs) =
-    elim (same_heading (heading p q) (heading q r)) as (λ b. (t : Segment) × (ts : List Segment) × ((if b then segments_from p r rs else record { from = p; to = q } ∷ segments_from q r rs) ≡ t ∷ ts)) [
+    elim (same_heading (heading p q) (heading q r)) as (λ b. (t : Segment) × (ts : List Segment)
+    × ((if b then segments_from p r rs else record { from = p; to = q } ∷ segments_from q r rs) ≡ t ∷ ts)) [
       | true ↦ some_segment p r rs
       | false ↦ (record { from = p; to = q }, segments_from q r rs, refl)
     ]
 
-bars-corner : (half begin end : ℤ) (s : Segment) (p q : Pt) (rest : List Pt) → bars half begin end (s ∷ segments_from p q rest) ≡ bar half begin half s ∷ bars half half end (segments_from p q rest)
+bars-corner : (half begin end : ℤ) (s : Segment) (p q : Pt) (rest : List Pt)
+    → bars half begin end (s ∷ segments_from p q rest) ≡ bar half begin half s ∷ bars half half end (segments_from p q rest)
 bars-corner half begin end s p q rest =
     let (t, ts, e) = some_segment p q rest in
     ap (λ l. bars half begin end (s ∷ l)) e ∙ ap (λ l. bar half begin half s ∷ bars half half end l) (sym e)
 
 -- round a corner
-pub draws-corner : (half : ℤ) (old new : List (List Pt)) (s next : Stroke) (point : Pt) (a b : Heading) (same : Bool) → a ≡ heading s.segment.from s.segment.to → b ≡ heading s.segment.to point → same ≡ same_heading a b → same ≡ false → new ≡ old ++ corners_of (bar half s.begin half s.segment) ∷ [] → next ≡ record { segment = record { from = s.segment.to; to = point }; begin = half } → DrawsTo half old s point new next
+pub draws-corner : (half : ℤ) (old new : List (List Pt)) (s next : Stroke) (point : Pt) (a b : Heading) (same : Bool)
+    → a ≡ heading s.segment.from s.segment.to → b ≡ heading s.segment.to point → same ≡ same_heading a b → same ≡ false
+    → new ≡ old ++ corners_of (bar half s.begin half s.segment) ∷ []
+    → next ≡ record { segment = record { from = s.segment.to; to = point }; begin = half } → DrawsTo half old s point new next
 draws-corner half old new s next point a b same a_is b_is same_is turned new_is next_is =
     record {
       goes = λ end rest.
@@ -46,7 +51,9 @@ draws-corner half old new s next point a b same a_is b_is same_is turned new_is 
 abbrev pub AreDrawn : ℤ → List (List Pt) → Stroke → List Pt → List (List Pt) → Stroke → ℕ → Type 0
 AreDrawn half begun first points loops s n = (end : ℤ) (rest : List Pt) → loops ++ loops_left half end s rest ≡ begun ++ loops_left half end first (take n points ++ rest)
 
-pub drawn-next : (half other : ℤ) (begun old new : List (List Pt)) (first s next : Stroke) (points : List Pt) (n : ℕ) (d : Pt) → other ≡ half → n < length points → AreDrawn half begun first points old s n → DrawsTo other old s (get_or points n d) new next → AreDrawn half begun first points new next (n + 1)
+pub drawn-next : (half other : ℤ) (begun old new : List (List Pt)) (first s next : Stroke) (points : List Pt) (n : ℕ) (d : Pt)
+    → other ≡ half → n < length points → AreDrawn half begun first points old s n → DrawsTo other old s (get_or points n d) new next
+    → AreDrawn half begun first points new next (n + 1)
 drawn-next half other begun old new first s next points n d same within before draws end rest =
     let here : DrawsTo half old s (get_or points n d) new next = subst (λ h. DrawsTo h old s (get_or points n d) new next) same draws in
     let more : take (n + 1) points ++ rest ≡ take n points ++ get_or points n d ∷ rest =
@@ -54,14 +61,18 @@ drawn-next half other begun old new first s next points n d same within before d
     here.goes end rest ∙ (before end (get_or points n d ∷ rest) ∙ ap (λ l. begun ++ loops_left half end first l) (sym more))
 
 -- after the last point its segment's loop is all that is left
-pub drawn-all : (half end : ℤ) (begun loops new : List (List Pt)) (first s : Stroke) (points : List Pt) (n : ℕ) → begun ≡ [] → length points ≤ n → AreDrawn half begun first points loops s n → new ≡ loops ++ corners_of (bar half s.begin end s.segment) ∷ [] → new ≡ map corners_of (bars half first.begin end (segments_from first.segment.from first.segment.to points))
+pub drawn-all : (half end : ℤ) (begun loops new : List (List Pt)) (first s : Stroke) (points : List Pt) (n : ℕ) → begun ≡ []
+    → length points ≤ n → AreDrawn half begun first points loops s n → new ≡ loops ++ corners_of (bar half s.begin end s.segment) ∷ []
+    → new ≡ map corners_of (bars half first.begin end (segments_from first.segment.from first.segment.to points))
 drawn-all half end begun loops new first s points n begun_is all h new_is =
     let gone : take n points ++ [] ≡ points = append-nil (take n points) ∙ take_all n points all in
     new_is ∙ (h end [] ∙ (ap (λ l. l ++ loops_left half end first (take n points ++ [])) begun_is ∙ ap (loops_left half end first) gone))
 
 -- a bar by equal numbers, as those that a call was passed
-pub bar-as : (loops new : List (List Pt)) (h b e half begin end : ℤ) (s : Segment) → h ≡ half → b ≡ begin → e ≡ end → new ≡ loops ++ corners_of (bar h b e s) ∷ [] → new ≡ loops ++ corners_of (bar half begin end s) ∷ []
+pub bar-as : (loops new : List (List Pt)) (h b e half begin end : ℤ) (s : Segment) → h ≡ half → b ≡ begin → e ≡ end
+    → new ≡ loops ++ corners_of (bar h b e s) ∷ [] → new ≡ loops ++ corners_of (bar half begin end s) ∷ []
 bar-as loops new h b e half begin end s h_is b_is e_is is = is ∙ (λ i. loops ++ corners_of (bar (h_is i) (b_is i) (e_is i) s) ∷ [])
 
-pub begun-as : (half b begin end : ℤ) (loops : List (List Pt)) (ss : List Segment) → b ≡ begin → loops ≡ map corners_of (bars half b end ss) → loops ≡ map corners_of (bars half begin end ss)
+pub begun-as : (half b begin end : ℤ) (loops : List (List Pt)) (ss : List Segment) → b ≡ begin
+    → loops ≡ map corners_of (bars half b end ss) → loops ≡ map corners_of (bars half begin end ss)
 begun-as half b begin end loops ss same is = is ∙ ap (λ n. map corners_of (bars half n end ss)) same

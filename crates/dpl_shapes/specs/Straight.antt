@@ -10,4 +10,5 @@ IsStraightBelow ps n = (k : ℕ) (d : Pt) → k + 1 < n → IsLevelOrUpright (sl
 
 -- no two consecutive segments between the first n points have opposite directions
 abbrev pub GoesOnBelow : List Pt → ℕ → Type 0
-GoesOnBelow ps n = (k : ℕ) (d : Pt) → k + 2 < n → heading (slice_index_or ps (k + 1) d) (slice_index_or ps (k + 2) d) ≡ back (heading (slice_index_or ps k d) (slice_index_or ps (k + 1) d)) → ⊥
+GoesOnBelow ps n = (k : ℕ) (d : Pt) → k + 2 < n → heading (slice_index_or ps (k + 1) d) (slice_index_or ps (k + 2) d) ≡ back
+    (heading (slice_index_or ps k d) (slice_index_or ps (k + 1) d)) → ⊥

@@ -67,7 +67,8 @@ flip : (r s : Rect) → StandApart r s → StandApart s r
 flip r s (inl l) = inr l
 flip r s (inr l) = inl l
 
-module _ (bars beside old new alone : List Rect) (n : ℕ) (bar : Rect) (n_in : n < length bars) (bar_is : bar ≡ get_or bars n bar) (apart : AllPairs StandApart bars) (a : AreAlone (take n bars) beside old new alone) where
+module _ (bars beside old new alone : List Rect) (n : ℕ) (bar : Rect) (n_in : n < length bars) (bar_is : bar ≡ get_or bars n bar)
+    (apart : AllPairs StandApart bars) (a : AreAlone (take n bars) beside old new alone) where
   earlier : (r : Rect) → Contains (take n bars) r → StandApart r bar
   earlier r (k, k_in, r_is) =
       let less : k < n = omega (arith, k_in, length-take n bars) in
@@ -90,7 +91,8 @@ module _ (bars beside old new alone : List Rect) (n : ℕ) (bar : Rect) (n_in : 
   -- a bar that stands apart from all else is one more
   pub alone-more : ((r : Rect) → Contains old r ⊎ Contains beside r → StandApart bar r) → AreAlone (take (n + 1) bars) beside old new (alone ++ bar ∷ [])
   alone-more off = record {
-    apart = all_pairs_push StandApart alone bar a.apart (λ k d k_in. (let there = Contains-get_or alone k d k_in in earlier (get_or alone k d) (a.members (get_or alone k d) there)));
+    apart = all_pairs_push StandApart alone bar a.apart (λ k d k_in. (let there = Contains-get_or alone k d k_in in
+        earlier (get_or alone k d) (a.members (get_or alone k d) there)));
     members = λ r r_in. elim (Contains-push_cases alone bar r r_in) [ inl h ↦ later r (a.members r h) | inr e ↦ subst (Contains (take (n + 1) bars)) e last ];
     others = λ r r_in. elim (a.others r r_in) [ inl h ↦ inl h | inr h ↦ inr (later r h) ];
     off = λ r s r_in s_in. elim (Contains-push_cases alone bar r r_in) [

@@ -44,12 +44,15 @@ module _ (block slabs : List Rect) (s : AreSlabsOf (Covers (turned_rects block))
       let wide = solid.wide in
       let tall = solid.tall in
       let last : Pt = record { x = t.x1 -ℤ pos 1; y = t.y0 } in
-      let c = (s.covers last).0 (Covers-member slabs t last t_in (record { left = omega (arith, ints, wide); right = omega (arith, ints); low = omega (arith, ints); high = tall })) in
+      let c = (s.covers last).0
+      (Covers-member slabs t last t_in
+      (record { left = omega (arith, ints, wide); right = omega (arith, ints); low = omega (arith, ints); high = tall })) in
       let (r, r_in, has) = member-Covers block (at t.y0 (t.x1 -ℤ pos 1)) ((covers-turned block last).0 c) in
       let h = has.high in
       (r, r_in, omega (arith, ints, h))
 
-pub adds-block : (old slabs sorted block : List Rect) → IsPermutation (turned_rects block) sorted → AreApart old → LieLeft old block → AreSlabsOf (Covers sorted) slabs → AddsBlock old (old ++ slabs) block
+pub adds-block : (old slabs sorted block : List Rect) → IsPermutation (turned_rects block) sorted → AreApart old → LieLeft old block
+    → AreSlabsOf (Covers sorted) slabs → AddsBlock old (old ++ slabs) block
 adds-block old slabs sorted block same a left by = record {
   apart = record {
     solid = All-append IsSolid old slabs a.solid s.canonical.solid;
@@ -90,9 +93,11 @@ module _ (a : Region) (pieces rest : List Rect) (n : ℕ) (s : AreBlocksOf a pie
       (λ h. elim h [
         | inl c ↦ elim ((adds.covers p).0 c) [
           | inl old ↦ (s.covers p).0 (inl old)
-          | inr k ↦ (let (r, r_in, has) = member-Covers (take n rest) (at p.y p.x) k in (s.covers p).0 (inr (Covers-member rest r (at p.y p.x) (left-in (take n rest) (drop n rest) rest r whole r_in) has)))
+          | inr k ↦ (let (r, r_in, has) = member-Covers (take n rest) (at p.y p.x) k in
+              (s.covers p).0 (inr (Covers-member rest r (at p.y p.x) (left-in (take n rest) (drop n rest) rest r whole r_in) has)))
         ]
-        | inr k ↦ (let (r, r_in, has) = member-Covers (drop n rest) (at p.y p.x) k in (s.covers p).0 (inr (Covers-member rest r (at p.y p.x) (right-in (take n rest) (drop n rest) rest r whole r_in) has)))
+        | inr k ↦ (let (r, r_in, has) = member-Covers (drop n rest) (at p.y p.x) k in
+            (s.covers p).0 (inr (Covers-member rest r (at p.y p.x) (right-in (take n rest) (drop n rest) rest r whole r_in) has)))
       ]),
       λ h. elim ((s.covers p).1 h) [
         | inl old ↦ inl ((adds.covers p).1 (inl old))
@@ -127,10 +132,13 @@ blocks-same a pieces rest new others s t = record {
 }
 
 -- the next block where it stands in a list: what follows stays
-pub block-done : (a : Region) (pieces new rects front rest block changed more : List Rect) (n m : ℕ) → length front ≡ n → length block ≡ m → length changed ≡ length block → rest ≡ drop n rects → block ≡ take m rest → more ≡ drop m rest → LieBelow (take m rest) (drop m rest) → AddsBlock pieces new block → AreBlocksOf a pieces (drop n rects) → AreBlocksOf a new (drop (n + m) (front ++ (changed ++ more)))
+pub block-done : (a : Region) (pieces new rects front rest block changed more : List Rect) (n m : ℕ) → length front ≡ n → length block ≡ m
+    → length changed ≡ length block → rest ≡ drop n rects → block ≡ take m rest → more ≡ drop m rest → LieBelow (take m rest) (drop m rest)
+    → AddsBlock pieces new block → AreBlocksOf a pieces (drop n rects) → AreBlocksOf a new (drop (n + m) (front ++ (changed ++ more)))
 block-done a pieces new rects front rest block changed more n m front_len block_len kept rest_is block_is more_is gap adds s =
     let next : AreBlocksOf a new (drop m rest) = blocks-next a pieces rest m (rw rest_is s) new gap (rw block_is at adds) in
-    let at_front : drop (n + m) (front ++ (changed ++ more)) ≡ more = rw (sym front_len, sym block_len, sym kept) (drop-append-add front (changed ++ more) (length changed) ∙ drop-append_seam changed more) in
+    let at_front : drop (n + m) (front ++ (changed ++ more)) ≡ more = rw (sym front_len, sym block_len, sym kept)
+    (drop-append-add front (changed ++ more) (length changed) ∙ drop-append_seam changed more) in
     rw (at_front, more_is) next
 
 pub blocks-all : (a : Region) (pieces rest : List Rect) → length rest ≤ 0 → AreBlocksOf a pieces rest → ArePiecesOf a pieces
@@ -163,12 +171,17 @@ exchanged-twice rects once twice same again p =
     )
 
 -- a list whose rectangles were handed out and stayed as they were
-pub exchanged-kept : (old kept more sorted : List Rect) (len : ℕ) → kept ≡ old → length old ≡ len → IsPermutation (turned_rects (take len (kept ++ more))) sorted → IsPermutation (turned_rects old) sorted
+pub exchanged-kept : (old kept more sorted : List Rect) (len : ℕ) → kept ≡ old → length old ≡ len
+    → IsPermutation (turned_rects (take len (kept ++ more))) sorted → IsPermutation (turned_rects old) sorted
 exchanged-kept old kept more sorted len same old_len by =
     let all : IsPermutation (turned_rects kept) sorted = rw (take_at kept more len (ap length same ∙ old_len)) at by in
     rw same at all
 
 -- slabs of pieces of rectangles that were exchanged
-pub blocks-slabs : (rects sorted pieces slabs : List Rect) → IsPermutation (turned_rects rects) sorted → ArePiecesOf (turned (Covers sorted)) pieces → AreSlabsOf (Covers pieces) slabs → AreSlabsOf (Covers rects) slabs
+pub blocks-slabs : (rects sorted pieces slabs : List Rect) → IsPermutation (turned_rects rects) sorted
+    → ArePiecesOf (turned (Covers sorted)) pieces → AreSlabsOf (Covers pieces) slabs → AreSlabsOf (Covers rects) slabs
 blocks-slabs rects sorted pieces slabs same of s =
-    slabs-of-same (Covers pieces) (Covers rects) slabs (λ p. (λ c. (exchanged-covers rects sorted same p).0 ((of.covers p).0 c), λ c. (of.covers p).1 ((exchanged-covers rects sorted same p).1 c))) s
+    slabs-of-same (Covers pieces) (Covers rects) slabs (λ p. (
+      λ c. (exchanged-covers rects sorted same p).0 ((of.covers p).0 c),
+      λ c. (of.covers p).1 ((exchanged-covers rects sorted same p).1 c),
+    )) s

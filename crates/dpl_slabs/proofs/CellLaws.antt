@@ -22,7 +22,11 @@ cells-append a (r ∷ rs) ss p = let h = cells-append a rs ss p in omega (arith,
 
 pub cells-zero : (rs : List Rect) (p : Pt) → cells (pos 0) rs p ≡ pos 0
 cells-zero [] p = refl
-cells-zero (r ∷ rs) p = let h = cells-zero rs p in elim (has_square r p) as (λ z. cond z (pos 0) (pos 0) +ℤ cells (pos 0) rs p ≡ pos 0) [ true ↦ omega (arith, ints, h) | false ↦ omega (arith, ints, h) ]
+cells-zero (r ∷ rs) p = let h = cells-zero rs p in
+    elim (has_square r p) as (λ z. cond z (pos 0) (pos 0) +ℤ cells (pos 0) rs p ≡ pos 0) [
+      | true ↦ omega (arith, ints, h)
+      | false ↦ omega (arith, ints, h)
+    ]
 
 pub has_square-yes : (r : Rect) (p : Pt) → Has r p → has_square r p ≡ true
 has_square-yes r p h = let a = h.left in let b = h.right in let c = h.low in let d = h.high in grind (arith, ints, a, b, c, d)
@@ -38,7 +42,11 @@ has_square-no r p none =
 
 pub cells-least : (rs : List Rect) (p : Pt) → pos 0 ≤ℤ cells (pos 1) rs p
 cells-least [] p = omega (arith, ints)
-cells-least (r ∷ rs) p = let h = cells-least rs p in elim (has_square r p) as (λ z. pos 0 ≤ℤ (cond z (pos 1) (pos 0) +ℤ cells (pos 1) rs p)) [ true ↦ omega (arith, ints, h) | false ↦ omega (arith, ints, h) ]
+cells-least (r ∷ rs) p = let h = cells-least rs p in
+    elim (has_square r p) as (λ z. pos 0 ≤ℤ (cond z (pos 1) (pos 0) +ℤ cells (pos 1) rs p)) [
+      | true ↦ omega (arith, ints, h)
+      | false ↦ omega (arith, ints, h)
+    ]
 
 -- where no rectangle has the square, the sum is 0
 pub cells-none : (a : ℤ) (rs : List Rect) (p : Pt) → ((r : Rect) → Contains rs r → Has r p → ⊥) → cells a rs p ≡ pos 0
@@ -77,7 +85,8 @@ square-has r p e =
 covers-later : (r : Rect) (rs : List Rect) (p : Pt) → Covers rs p → Covers (r ∷ rs) p
 covers-later r rs p h = let found = member-Covers rs p h in Covers-member (r ∷ rs) found.0 p (Contains-later r found.0 rs found.1) found.2
 
-sum-cases : (r : Rect) (rs : List Rect) (p : Pt) (b : Bool) → has_square r p ≡ b → (cond b (pos 1) (pos 0) +ℤ cells (pos 1) rs p ≡ pos 0 → ⊥) → ((cells (pos 1) rs p ≡ pos 0 → ⊥) → Covers rs p) → Covers (r ∷ rs) p
+sum-cases : (r : Rect) (rs : List Rect) (p : Pt) (b : Bool) → has_square r p ≡ b → (cond b (pos 1) (pos 0) +ℤ cells (pos 1) rs p ≡ pos 0
+    → ⊥) → ((cells (pos 1) rs p ≡ pos 0 → ⊥) → Covers rs p) → Covers (r ∷ rs) p
 sum-cases r rs p true e none rest = Covers-member (r ∷ rs) r p (Contains-head r rs) (square-has r p e)
 sum-cases r rs p false e none rest = covers-later r rs p (rest (λ f. none (omega (arith, ints, f))))
 
@@ -112,7 +121,8 @@ adds-empty a b old r none =
     }
 
 -- a rectangle's two edges
-two_parts : (change : Edge → ℤ) (a : ℤ) (e f : Edge) (r : Rect) (p : Pt) → r.x0 <ℤ r.x1 → e.x ≡ r.x0 → f.x ≡ r.x1 → (e.y0 ≡ r.y0) × (e.y1 ≡ r.y1) → (f.y0 ≡ r.y0) × (f.y1 ≡ r.y1) → change e ≡ a → change f ≡ neg_ℤ a
+two_parts : (change : Edge → ℤ) (a : ℤ) (e f : Edge) (r : Rect) (p : Pt) → r.x0 <ℤ r.x1 → e.x ≡ r.x0 → f.x ≡ r.x1
+    → (e.y0 ≡ r.y0) × (e.y1 ≡ r.y1) → (f.y0 ≡ r.y0) × (f.y1 ≡ r.y1) → change e ≡ a → change f ≡ neg_ℤ a
     → part change e p +ℤ part change f p ≡ cond (has_square r p) a (pos 0)
 two_parts change a e f r p wide ex fx (ey0, ey1) (fy0, fy1) ea fa =
     by_lt_z p.y r.y0
@@ -123,9 +133,11 @@ two_parts change a e f r p wide ex fx (ey0, ey1) (fy0, fy1) ea fa =
     (λ l. (let u = part-before change e p (omega (arith, ints, l, ex)) in let v = part-before change f p (omega (arith, ints, l, fx, wide)) in
     rw (has_square-no r p (λ h. (let k = h.left in omega (arith, ints, k, l)))) (omega (arith, ints, u, v))))
     (λ left. by_lt_z p.x r.x1
-    (λ right. (let u = part-on change e p (omega (arith, ints, low, ey0), omega (arith, ints, high, ey1)) (omega (arith, ints, left, ex)) in let v = part-before change f p (omega (arith, ints, right, fx)) in
+    (λ right. (let u = part-on change e p (omega (arith, ints, low, ey0), omega (arith, ints, high, ey1))
+    (omega (arith, ints, left, ex)) in let v = part-before change f p (omega (arith, ints, right, fx)) in
     rw (has_square-yes r p (record { left = left; right = right; low = low; high = high })) (omega (arith, ints, u, v, ea))))
-    (λ m. (let u = part-on change e p (omega (arith, ints, low, ey0), omega (arith, ints, high, ey1)) (omega (arith, ints, left, ex)) in let v = part-on change f p (omega (arith, ints, low, fy0), omega (arith, ints, high, fy1)) (omega (arith, ints, m, fx)) in
+    (λ m. (let u = part-on change e p (omega (arith, ints, low, ey0), omega (arith, ints, high, ey1)) (omega (arith, ints, left, ex)) in
+    let v = part-on change f p (omega (arith, ints, low, fy0), omega (arith, ints, high, fy1)) (omega (arith, ints, m, fx)) in
     rw (has_square-no r p (λ h. (let k = h.right in omega (arith, ints, k, m)))) (omega (arith, ints, u, v, ea, fa))))))
     (λ m. (let u = part-off change e p (inr (omega (arith, ints, m, ey1))) in let v = part-off change f p (inr (omega (arith, ints, m, fy1))) in
     rw (has_square-no r p (λ h. (let k = h.high in omega (arith, ints, k, m)))) (omega (arith, ints, u, v)))))
@@ -140,8 +152,12 @@ pub adds-three : (a b : ℤ) (old : List Edge) (r : Rect) (e f g : Edge) → uns
 adds-three a b old r e f g small_a small_b wide ex fx gx ey fy gy ea fa ga eb fb gb =
     let two : List Edge = (old ++ e ∷ []) ++ f ∷ [] in
     record {
-      sums_a = λ p. (let s = sum_left-push change_a old e p in let t = sum_left-push change_a (old ++ e ∷ []) f p in let v = sum_left-push change_a two g p in let w = still change_a g p ga in let u = two_parts change_a a e f r p wide ex fx ey fy ea fa in omega (arith, ints, s, t, u, v, w));
-      sums_b = λ p. (let s = sum_left-push change_b old e p in let t = sum_left-push change_b (old ++ e ∷ []) f p in let v = sum_left-push change_b two g p in let w = still change_b g p gb in let u = two_parts change_b b e f r p wide ex fx ey fy eb fb in omega (arith, ints, s, t, u, v, w));
+      sums_a = λ p. (let s = sum_left-push change_a old e p in let t = sum_left-push change_a (old ++ e ∷ []) f p in
+          let v = sum_left-push change_a two g p in let w = still change_a g p ga in
+          let u = two_parts change_a a e f r p wide ex fx ey fy ea fa in omega (arith, ints, s, t, u, v, w));
+      sums_b = λ p. (let s = sum_left-push change_b old e p in let t = sum_left-push change_b (old ++ e ∷ []) f p in
+          let v = sum_left-push change_b two g p in let w = still change_b g p gb in
+          let u = two_parts change_b b e f r p wide ex fx ey fy eb fb in omega (arith, ints, s, t, u, v, w));
       units = λ h k k_in. elim (Contains-push_cases two g k k_in) [
         | inl pair ↦ elim (Contains-push_cases (old ++ e ∷ []) f k pair) [
           | inl before ↦ elim (Contains-push_cases old e k before) [
@@ -169,7 +185,8 @@ adds-on a b old mid new rs ss f g =
       ];
     }
 
-pub adds-next : (a b : ℤ) (old mid new : List Edge) (rs : List Rect) (n : ℕ) (r : Rect) → n < length rs → r ≡ get_or rs n r → AddsRects a b old mid (take n rs) → AddsRects a b mid new (r ∷ []) → AddsRects a b old new (take (n + 1) rs)
+pub adds-next : (a b : ℤ) (old mid new : List Edge) (rs : List Rect) (n : ℕ) (r : Rect) → n < length rs → r ≡ get_or rs n r
+    → AddsRects a b old mid (take n rs) → AddsRects a b mid new (r ∷ []) → AddsRects a b old new (take (n + 1) rs)
 adds-next a b old mid new rs n r n_in r_is f g =
     let one : n + 1 ≡ suc n = omega arith in
     let step : take (n + 1) rs ≡ take n rs ++ r ∷ [] = ap (λ k. take k rs) one ∙ (take-suc rs n r n_in ∙ ap (λ s. take n rs ++ s ∷ []) (sym r_is)) in

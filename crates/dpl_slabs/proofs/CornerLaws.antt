@@ -26,9 +26,15 @@ rows-cases s a b u v o =
     by_lt_z s.y a
     (λ k. by_lt_z s.y b
     (λ l. inr (above-yes s a k ∙ sym (above-yes s b l)))
-    (λ l. inl (elim o [ inl (e, f, g) ↦ (omega (arith, ints, k, l, e, f, g), omega (arith, ints, k, l, e, f, g)) | inr (e, f, g) ↦ (omega (arith, ints, k, l, e, f, g), omega (arith, ints, k, l, e, f, g)) ])))
+    (λ l. inl (elim o [
+      | inl (e, f, g) ↦ (omega (arith, ints, k, l, e, f, g), omega (arith, ints, k, l, e, f, g))
+      | inr (e, f, g) ↦ (omega (arith, ints, k, l, e, f, g), omega (arith, ints, k, l, e, f, g))
+    ])))
     (λ k. by_lt_z s.y b
-    (λ l. inl (elim o [ inl (e, f, g) ↦ (omega (arith, ints, k, l, e, f, g), omega (arith, ints, k, l, e, f, g)) | inr (e, f, g) ↦ (omega (arith, ints, k, l, e, f, g), omega (arith, ints, k, l, e, f, g)) ]))
+    (λ l. inl (elim o [
+      | inl (e, f, g) ↦ (omega (arith, ints, k, l, e, f, g), omega (arith, ints, k, l, e, f, g))
+      | inr (e, f, g) ↦ (omega (arith, ints, k, l, e, f, g), omega (arith, ints, k, l, e, f, g))
+    ]))
     (λ l. inr (above-no s a k ∙ sym (above-no s b l))))
 
 rows-differ : (s : Pt) (a b u v : ℤ) → AreOrdered a b u v → u ≤ℤ s.y → s.y <ℤ v → above s a ≡ above s b → ⊥
@@ -92,8 +98,10 @@ module _ (p q r t : Pt) (h : IsUpright p q r t) (s : Pt) where
       let left = has.left in
       let right = has.right in
       elim o.columns [
-        | inl (e, f, g) ↦ (let w = right_of_first (omega (arith, ints, e, left)) (omega (arith, ints, f, right)) in rows-differ s p.y r.y b.y0 b.y1 o.rows has.low has.high (omega (arith, ints, w, none)))
-        | inr (e, f, g) ↦ (let w = right_of_second (omega (arith, ints, f, right)) (omega (arith, ints, e, left)) in rows-differ s p.y r.y b.y0 b.y1 o.rows has.low has.high (omega (arith, ints, w, none)))
+        | inl (e, f, g) ↦ (let w = right_of_first (omega (arith, ints, e, left)) (omega (arith, ints, f, right)) in
+            rows-differ s p.y r.y b.y0 b.y1 o.rows has.low has.high (omega (arith, ints, w, none)))
+        | inr (e, f, g) ↦ (let w = right_of_second (omega (arith, ints, f, right)) (omega (arith, ints, e, left)) in
+            rows-differ s p.y r.y b.y0 b.y1 o.rows has.low has.high (omega (arith, ints, w, none)))
       ]
 
   sum-has : (b : Rect) → IsSpanned p r b → (four_steps p q r t s ≡ pos 0 → ⊥) → Has b s
@@ -156,7 +164,9 @@ through-sum ps d None sum h = tt
 through-sum ps d (Some b) sum h = λ s. (λ has none. (h.squares s).0 has (sym (sum s) ∙ none), λ some. (h.squares s).1 (λ none. some (sum s ∙ none)))
 
 -- the four points of a list
-pub through-loop : (ps : List Pt) (d : Pt) (o : Option Rect) → length ps ≡ 4 → IfSome o (λ b. IsThrough (get_or ps 0 d) (get_or ps 1 d) (get_or ps 2 d) (get_or ps 3 d) b) → IfSome o (λ b. (s : Pt) → Has b s ↔ LoopCovers ps s)
+pub through-loop : (ps : List Pt) (d : Pt) (o : Option Rect) → length ps ≡ 4
+    → IfSome o (λ b. IsThrough (get_or ps 0 d) (get_or ps 1 d) (get_or ps 2 d) (get_or ps 3 d) b)
+    → IfSome o (λ b. (s : Pt) → Has b s ↔ LoopCovers ps s)
 through-loop ps d o four h =
     through-sum ps d o
     (λ s. (let at : (k : ℕ) → k < length ps → get_or ps k s ≡ get_or ps k d = λ k l. get_or_default ps k s d l in
@@ -164,15 +174,25 @@ through-loop ps d o four h =
     h
 
 -- and the first again
-pub through-closed : (ps : List Pt) (d : Pt) (o : Option Rect) → length ps ≡ 5 → get_or ps 0 d ≡ get_or ps 4 d → IfSome o (λ b. IsThrough (get_or ps 0 d) (get_or ps 1 d) (get_or ps 2 d) (get_or ps 3 d) b) → IfSome o (λ b. (s : Pt) → Has b s ↔ LoopCovers ps s)
+pub through-closed : (ps : List Pt) (d : Pt) (o : Option Rect) → length ps ≡ 5 → get_or ps 0 d ≡ get_or ps 4 d
+    → IfSome o (λ b. IsThrough (get_or ps 0 d) (get_or ps 1 d) (get_or ps 2 d) (get_or ps 3 d) b)
+    → IfSome o (λ b. (s : Pt) → Has b s ↔ LoopCovers ps s)
 through-closed ps d o five same h =
     through-sum ps d o
     (λ s. (let at : (k : ℕ) → k < length ps → get_or ps k s ≡ get_or ps k d = λ k l. get_or_default ps k s d l in
     let none = step-level (get_or ps 0 d) (get_or ps 0 d) s refl in
-    rw (five) (rw (at 0 (omega (arith, five)), at 1 (omega (arith, five)), at 2 (omega (arith, five)), at 3 (omega (arith, five)), at 4 (omega (arith, five)), ← same) (omega (arith, ints, none)))))
+    rw (five) (rw (
+      at 0 (omega (arith, five)),
+      at 1 (omega (arith, five)),
+      at 2 (omega (arith, five)),
+      at 3 (omega (arith, five)),
+      at 4 (omega (arith, five)),
+      ← same,
+    ) (omega (arith, ints, none)))))
     h
 
-pub through-within : (bound : ℕ) (ps : List Pt) (d : Pt) (o : Option Rect) → 3 < length ps → ArePointsWithin bound ps → IfSome o (λ b. IsThrough (get_or ps 0 d) (get_or ps 1 d) (get_or ps 2 d) (get_or ps 3 d) b) → IfSome o (λ b. IsRectWithin bound b)
+pub through-within : (bound : ℕ) (ps : List Pt) (d : Pt) (o : Option Rect) → 3 < length ps → ArePointsWithin bound ps
+    → IfSome o (λ b. IsThrough (get_or ps 0 d) (get_or ps 1 d) (get_or ps 2 d) (get_or ps 3 d) b) → IfSome o (λ b. IsRectWithin bound b)
 through-within bound ps d None four w h = tt
 through-within bound ps d (Some b) four w h =
     let in_list : (k : ℕ) → k < length ps → IsPointWithin bound (get_or ps k d) = λ k l. w (get_or ps k d) (k, l, get_or_default ps k (get_or ps k d) d l) in

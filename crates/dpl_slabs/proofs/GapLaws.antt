@@ -48,12 +48,14 @@ spaced-rise bars n k bar d s l k_in bar_is = elim (cases_order n k) [
     here = get_or_default bars n d bar n_in ∙ sym bar_is
 
 -- the squares of the columns that were added
-added : (bar : Rect) (from to : ℤ) (old new : List Rect) (p : Pt) → AddsColumns bar from to old new → Covers new p ↔ (Covers old p ⊎ ((from ≤ℤ p.x) × (p.x <ℤ to) × (bar.y0 ≤ℤ p.y) × (p.y <ℤ bar.y1)))
+added : (bar : Rect) (from to : ℤ) (old new : List Rect) (p : Pt) → AddsColumns bar from to old new
+    → Covers new p ↔ (Covers old p ⊎ ((from ≤ℤ p.x) × (p.x <ℤ to) × (bar.y0 ≤ℤ p.y) × (p.y <ℤ bar.y1)))
 added bar from to old new p (inl (l, e)) = rw e (
   λ c. inl c,
   λ h. elim h [ inl c ↦ c | inr k ↦ (let a = k.0 in let b = k.1 in absurd (omega (arith, ints, a, b, l))) ],
 )
-added bar from to old new p (inr (l, e)) = rw e (covers-pushed (λ q. (from ≤ℤ q.x) × (q.x <ℤ to) × (bar.y0 ≤ℤ q.y) × (q.y <ℤ bar.y1)) old (record { x0 = from; y0 = bar.y0; x1 = to; y1 = bar.y1 })
+added bar from to old new p (inr (l, e)) = rw e (covers-pushed (λ q. (from ≤ℤ q.x) × (q.x <ℤ to) × (bar.y0 ≤ℤ q.y) × (q.y <ℤ bar.y1)) old
+    (record { x0 = from; y0 = bar.y0; x1 = to; y1 = bar.y1 })
     (λ q. (λ h. (h.left, h.right, h.low, h.high), λ (a, b, c, d). record { left = a; right = b; low = c; high = d })) p)
 
 -- bars left of a column, and columns of a bar from there on
@@ -101,11 +103,18 @@ module _ (bar : Rect) (gaps : List Rect) (solid : IsSolid bar) (spaced : AreSpac
       Covers-member gaps gap p gap_in (record { left = l; right = m; low = omega (arith, ints, low, a); high = omega (arith, ints, high, b) })
 
   -- columns x to y - 1 have no square of a gap, and columns y to z - 1 have no other
-  covers-columns : (x y z : ℤ) (now new : List Rect) (p : Pt) → bar.x0 ≤ℤ x → y ≤ℤ bar.x1 → x ≤ℤ z → y <ℤ z → (x ≤ℤ p.x → p.x <ℤ y → Covers gaps p → ⊥) → (Has bar p → x ≤ℤ p.x → y ≤ℤ p.x → p.x <ℤ z → Covers gaps p) → Covers now p ↔ (Covers old p ⊎ (Has bar p × (p.x <ℤ x) × ¬ Covers gaps p)) → AddsColumns bar x y now new → Covers new p ↔ (Covers old p ⊎ (Has bar p × (p.x <ℤ z) × ¬ Covers gaps p))
+  covers-columns : (x y z : ℤ) (now new : List Rect) (p : Pt) → bar.x0 ≤ℤ x → y ≤ℤ bar.x1 → x ≤ℤ z → y <ℤ z
+      → (x ≤ℤ p.x → p.x <ℤ y → Covers gaps p → ⊥) → (Has bar p → x ≤ℤ p.x → y ≤ℤ p.x → p.x <ℤ z → Covers gaps p)
+      → Covers now p ↔ (Covers old p ⊎ (Has bar p × (p.x <ℤ x) × ¬ Covers gaps p)) → AddsColumns bar x y now new
+      → Covers new p ↔ (Covers old p ⊎ (Has bar p × (p.x <ℤ z) × ¬ Covers gaps p))
   covers-columns x y z now new p from to l m none all covers adds = (
     λ c. elim ((added bar x y now new p adds).0 c) [
       | inl k ↦ elim (covers.0 k) [ inl o ↦ inl o | inr (has, a, free_here) ↦ inr (has, omega (arith, ints, a, l), free_here) ]
-      | inr (a, b, low, high) ↦ inr (record { left = omega (arith, ints, a, from); right = omega (arith, ints, b, to); low = low; high = high }, omega (arith, ints, b, m), none a b)
+      | inr (a, b, low, high) ↦ inr (
+        record { left = omega (arith, ints, a, from); right = omega (arith, ints, b, to); low = low; high = high },
+        omega (arith, ints, b, m),
+        none a b,
+      )
     ],
     λ h. elim h [
       | inl o ↦ (added bar x y now new p adds).1 (inl (covers.1 (inl o)))
@@ -118,7 +127,9 @@ module _ (bar : Rect) (gaps : List Rect) (solid : IsSolid bar) (spaced : AreSpac
   )
 
   -- no gap has squares of the bar from there on
-  pub cut-end : (n m : ℕ) (x : ℤ) (now new : List Rect) → IsCutUpTo bar gaps old n x now → m ≤ n → ((k : ℕ) (d : Rect) → n ≤ k → k < length gaps → bar.x1 ≤ℤ (get_or gaps k d).x0) → AddsColumns bar x bar.x1 now new → AddsBarWithout bar gaps old new m
+  pub cut-end : (n m : ℕ) (x : ℤ) (now new : List Rect) → IsCutUpTo bar gaps old n x now → m ≤ n
+      → ((k : ℕ) (d : Rect) → n ≤ k → k < length gaps → bar.x1 ≤ℤ (get_or gaps k d).x0) → AddsColumns bar x bar.x1 now new
+      → AddsBarWithout bar gaps old new m
   cut-end n m x now new s more ahead adds =
       let from = s.from in
       let room = s.ahead in
@@ -134,7 +145,9 @@ module _ (bar : Rect) (gaps : List Rect) (solid : IsSolid bar) (spaced : AreSpac
             ));
       }
 
-  module _ (n : ℕ) (x next : ℤ) (gap : Rect) (now new : List Rect) (s : IsCutUpTo bar gaps old n x now) (n_in : n < length gaps) (gap_is : gap ≡ get_or gaps n gap) (meets : gap.x0 <ℤ bar.x1) (over : x ≤ℤ next) (past : gap.x1 ≤ℤ next) (known : (next ≡ x) ⊎ (next ≡ gap.x1)) (adds : AddsColumns bar x gap.x0 now new) where
+  module _ (n : ℕ) (x next : ℤ) (gap : Rect) (now new : List Rect) (s : IsCutUpTo bar gaps old n x now) (n_in : n < length gaps)
+      (gap_is : gap ≡ get_or gaps n gap) (meets : gap.x0 <ℤ bar.x1) (over : x ≤ℤ next) (past : gap.x1 ≤ℤ next)
+      (known : (next ≡ x) ⊎ (next ≡ gap.x1)) (adds : AddsColumns bar x gap.x0 now new) where
     wide : gap.x0 <ℤ gap.x1
     wide = (spaced.row.solid gap (n, n_in, sym gap_is)).wide
 
@@ -177,7 +190,8 @@ module _ (bar : Rect) (gaps : List Rect) (solid : IsSolid bar) (spaced : AreSpac
 pub left-whole : (bars gaps : List Rect) → AreSpaced bars → length gaps ≤ 0 → AreSlabsOf (Without bars gaps) bars
 left-whole bars gaps s none = record { canonical = spaced-canonical bars s; covers = λ p. without-none bars gaps p none }
 
-pub left-next : (bars gaps old new : List Rect) (n m next : ℕ) (bar : Rect) → AreSpaced bars → n < length bars → bar ≡ get_or bars n bar → AreLeftSoFar bars gaps n m old → AddsBarWithout bar gaps old new next → AreLeftSoFar bars gaps (n + 1) next new
+pub left-next : (bars gaps old new : List Rect) (n m next : ℕ) (bar : Rect) → AreSpaced bars → n < length bars → bar ≡ get_or bars n bar
+    → AreLeftSoFar bars gaps n m old → AddsBarWithout bar gaps old new next → AreLeftSoFar bars gaps (n + 1) next new
 left-next bars gaps old new n m next bar spaced n_in bar_is s a = record {
   spaced = a.before.spaced;
   covers = λ p. (

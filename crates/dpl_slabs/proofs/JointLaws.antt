@@ -40,7 +40,8 @@ canonical-rise rs c i j d l j_in = elim (cases_lt i j) [
 pub canonical-drop : (n : ℕ) (rs : List Rect) → IsCanonical rs → IsCanonical (drop n rs)
 canonical-drop n rs c = record {
   solid = λ i d i_in. (let len = length-drop n rs in rw (get_or-drop n rs i d) (c.solid (n + i) d (omega (arith, len, i_in))));
-  follow = λ i j d l j_in. (let len = length-drop n rs in rw (get_or-drop n rs i d, get_or-drop n rs j d) (c.follow (n + i) (n + j) d (omega (arith, l)) (omega (arith, len, j_in))));
+  follow = λ i j d l j_in. (let len = length-drop n rs in
+      rw (get_or-drop n rs i d, get_or-drop n rs j d) (c.follow (n + i) (n + j) d (omega (arith, l)) (omega (arith, len, j_in))));
 }
 
 pub canonical-take : (n : ℕ) (rs : List Rect) → IsCanonical rs → IsCanonical (take n rs)
@@ -142,7 +143,8 @@ reached-turned first second low n m row (inr (inr h)) = inr (inl h)
 -- wherever the first n and m are cut in two, one of the upper part begins no higher than row low or an end of the lower part
 pub record AreLinked (first second : List Rect) (low : ℤ) (n m : ℕ) (top : ℤ) : Type 0 where
   pub reached : IsReached first second low n m top
-  pub linked : (k l : ℕ) → k ≤ n → l ≤ m → k + l < n + m → ((k < n) × IsReached first second low k l (get_or first k zero).y0) ⊎ ((l < m) × IsReached first second low k l (get_or second l zero).y0)
+  pub linked : (k l : ℕ) → k ≤ n → l ≤ m → k + l < n + m → ((k < n) × IsReached first second low k l (get_or first k zero).y0)
+      ⊎ ((l < m) × IsReached first second low k l (get_or second l zero).y0)
 
 linked-turned : (first second : List Rect) (low : ℤ) (n m : ℕ) (top : ℤ) → AreLinked first second low n m top → AreLinked second first low m n top
 linked-turned first second low n m top a = record {
@@ -153,7 +155,8 @@ linked-turned first second low n m top a = record {
   ];
 }
 
-linked-next : (first second : List Rect) (low : ℤ) (n m : ℕ) (top new : ℤ) → IsRaised first n top new → AreLinked first second low n m top → AreLinked first second low (n + 1) m new
+linked-next : (first second : List Rect) (low : ℤ) (n m : ℕ) (top new : ℤ) → IsRaised first n top new → AreLinked first second low n m top
+    → AreLinked first second low (n + 1) m new
 linked-next first second low n m top new up a = record {
   reached = elim (up.known zero) [
     | inl e ↦ reached-lower first second low (n + 1) m new top (omega (arith, ints, e)) (reached-more first second low n m top a.reached)
@@ -230,7 +233,8 @@ open-right first second n m top new up o =
     }
 
 -- where all have squares, one that begins no higher than row low or an end of the first k and l is in their strip
-module _ (first second : List Rect) (n m : ℕ) (top : ℤ) (o : IsOpenJoint first second n m top) (first_solid : All IsSolid first) (second_solid : All IsSolid second) (k l : ℕ) (k_n : k ≤ n) (l_m : l ≤ m) (some : 0 < k + l) where
+module _ (first second : List Rect) (n m : ℕ) (top : ℤ) (o : IsOpenJoint first second n m top) (first_solid : All IsSolid first)
+    (second_solid : All IsSolid second) (k l : ℕ) (k_n : k ≤ n) (l_m : l ≤ m) (some : 0 < k + l) where
   reached-end : (row : ℤ) → IsReached first second o.low k l row → EndPast first k row ⊎ EndPast second l row
   reached-end row (inr h) = h
   reached-end row (inl h) = elim (cases_lt 0 k) [
@@ -247,7 +251,8 @@ module _ (first second : List Rect) (n m : ℕ) (top : ℤ) (o : IsOpenJoint fir
         inr (end-here second 0 l row one in_second (omega (arith, ints, h, from, tall))))
   ]
 
-  reached-no_gap : (s : Rect) → Contains (drop k first ++ drop l second) s → IsReached first second o.low k l s.y0 → LieBelow (take k first ++ take l second) (drop k first ++ drop l second) → ⊥
+  reached-no_gap : (s : Rect) → Contains (drop k first ++ drop l second) s → IsReached first second o.low k l s.y0
+      → LieBelow (take k first ++ take l second) (drop k first ++ drop l second) → ⊥
   reached-no_gap s s_in h below = elim (reached-end s.y0 h) [
     | inl (r, r_in, over) ↦ (let gap = below r s (Contains-append_left (take k first) (take l second) r r_in) s_in in omega (arith, ints, gap, over))
     | inr (r, r_in, over) ↦ (let gap = below r s (Contains-append_right (take k first) (take l second) r r_in) s_in in omega (arith, ints, gap, over))
@@ -258,11 +263,14 @@ module _ (first second : List Rect) (n m : ℕ) (top : ℤ) (o : IsOpenJoint fir
       let n_in = o.first_in in
       let m_in = o.second_in in
       elim (o.links.linked k l k_n l_m less) [
-        | inl (here, h) ↦ reached-no_gap (get_or first k zero) (Contains-append_left (drop k first) (drop l second) (get_or first k zero) (next-in first k (omega (arith, here, n_in)))) h below
-        | inr (here, h) ↦ reached-no_gap (get_or second l zero) (Contains-append_right (drop k first) (drop l second) (get_or second l zero) (next-in second l (omega (arith, here, m_in)))) h below
+        | inl (here, h) ↦ reached-no_gap (get_or first k zero) (Contains-append_left (drop k first) (drop l second) (get_or first k zero)
+            (next-in first k (omega (arith, here, n_in)))) h below
+        | inr (here, h) ↦ reached-no_gap (get_or second l zero) (Contains-append_right (drop k first) (drop l second)
+            (get_or second l zero) (next-in second l (omega (arith, here, m_in)))) h below
       ]
 
-pub open-closed : (first second : List Rect) (n m : ℕ) (top : ℤ) → BeginAbove top n first → BeginAbove top m second → IsOpenJoint first second n m top → IsJointStrip first second n m
+pub open-closed : (first second : List Rect) (n m : ℕ) (top : ℤ) → BeginAbove top n first → BeginAbove top m second
+    → IsOpenJoint first second n m top → IsJointStrip first second n m
 open-closed first second n m top left right o =
     let above : (s : Rect) → Contains (drop n first ++ drop m second) s → top <ℤ s.y0 = λ s s_in. elim (Contains-append_cases (drop n first) (drop m second) s s_in) [
       | inl a ↦ left s a
@@ -285,7 +293,8 @@ open-closed first second n m top left right o =
     }
 
 -- none of the rectangles is in a joint strip yet
-pub joints-none : (rule : Rule) (first second : List Rect) → IsCanonical first → IsCanonical second → AreRectsWithin farthest first → AreRectsWithin farthest second → AreJointsOf rule first second [] first second
+pub joints-none : (rule : Rule) (first second : List Rect) → IsCanonical first → IsCanonical second → AreRectsWithin farthest first
+    → AreRectsWithin farthest second → AreJointsOf rule first second [] first second
 joints-none rule first second c d v w = record {
   canonical = record { solid = λ i d k. absurd (omega (arith, k)); follow = λ i j d l k. absurd (omega (arith, k)) };
   covers = λ p. (
@@ -319,11 +328,16 @@ module _ (rule : Rule) (first second slabs first_rest second_rest : List Rect) (
   pub joint-above : LieBelow slabs (take n first_rest ++ take m second_rest)
   joint-above r t r_in t_in = s.below r t r_in (part-in t t_in)
 
-  parts-chosen : LieBelow (take n first_rest ++ take m second_rest) (drop n first_rest ++ drop m second_rest) → (p : Pt) → Chosen rule first_rest second_rest p ↔ (Chosen rule (take n first_rest) (take m second_rest) p ⊎ Chosen rule (drop n first_rest) (drop m second_rest) p)
+  parts-chosen : LieBelow (take n first_rest ++ take m second_rest) (drop n first_rest ++ drop m second_rest) → (p : Pt)
+      → Chosen rule first_rest second_rest p ↔ (Chosen rule (take n first_rest) (take m second_rest) p ⊎ Chosen rule (drop n first_rest)
+      (drop m second_rest) p)
   parts-chosen gap p =
-      rw (take-append-drop n first_rest, take-append-drop m second_rest) at (chosen-parts rule (take n first_rest) (take m second_rest) (drop n first_rest) (drop m second_rest) p gap)
+      rw (take-append-drop n first_rest, take-append-drop m second_rest) at (chosen-parts rule (take n first_rest) (take m second_rest)
+      (drop n first_rest) (drop m second_rest) p gap)
 
-  pub joints-next : (new : List Rect) → IsJointStrip first_rest second_rest n m → AddsStrip (Chosen rule (take n first_rest) (take m second_rest)) slabs new (take n first_rest ++ take m second_rest) → AreJointsOf rule first second new (drop n first_rest) (drop m second_rest)
+  pub joints-next : (new : List Rect) → IsJointStrip first_rest second_rest n m
+      → AddsStrip (Chosen rule (take n first_rest) (take m second_rest)) slabs new (take n first_rest ++ take m second_rest)
+      → AreJointsOf rule first second new (drop n first_rest) (drop m second_rest)
   joints-next new strip a = record {
     canonical = a.canonical;
     covers = λ p. (
@@ -349,7 +363,8 @@ module _ (rule : Rule) (first second slabs first_rest second_rest : List Rect) (
     below = a.below (drop n first_rest ++ drop m second_rest) (λ r t r_in t_in. s.below r t r_in (rest-in t t_in)) strip.below;
   }
 
-pub joints-all : (rule : Rule) (first second slabs first_rest second_rest : List Rect) → length first_rest ≤ 0 → length second_rest ≤ 0 → AreJointsOf rule first second slabs first_rest second_rest → AreSlabsOf (Chosen rule first second) slabs
+pub joints-all : (rule : Rule) (first second slabs first_rest second_rest : List Rect) → length first_rest ≤ 0 → length second_rest ≤ 0
+    → AreJointsOf rule first second slabs first_rest second_rest → AreSlabsOf (Chosen rule first second) slabs
 joints-all rule first second slabs [] [] none second_none s = record {
   canonical = s.canonical;
   covers = λ p. (
@@ -392,10 +407,12 @@ module _ (old first second : List Rect) (c : IsCanonical old) (below : LieBelow 
       adds-strip (Chosen Minus first second) old first (first ++ second) c below (chosen-covered Minus first second) own within
 
 -- some of two lists begins no higher than the lower of their first rows
-pub lowest-left : (first second : List Rect) (r : Rect) (row : ℤ) → 0 < length first → r ≡ get_or first 0 r → r.y0 ≤ℤ row → (s : Rect) × Contains (first ++ second) s × (s.y0 ≤ℤ row)
+pub lowest-left : (first second : List Rect) (r : Rect) (row : ℤ) → 0 < length first → r ≡ get_or first 0 r → r.y0 ≤ℤ row
+    → (s : Rect) × Contains (first ++ second) s × (s.y0 ≤ℤ row)
 lowest-left first second r row some r_is l = (r, Contains-append_left first second r (0, some, sym r_is), l)
 
-pub lowest-right : (first second : List Rect) (r : Rect) (row : ℤ) → 0 < length second → r ≡ get_or second 0 r → r.y0 ≤ℤ row → (s : Rect) × Contains (first ++ second) s × (s.y0 ≤ℤ row)
+pub lowest-right : (first second : List Rect) (r : Rect) (row : ℤ) → 0 < length second → r ≡ get_or second 0 r → r.y0 ≤ℤ row
+    → (s : Rect) × Contains (first ++ second) s × (s.y0 ≤ℤ row)
 lowest-right first second r row some r_is l = (r, Contains-append_right first second r (0, some, sym r_is), l)
 
 -- what a minimum of two numbers is, each by another name
@@ -415,7 +432,8 @@ above-top rs n top r n_in r_is rise l s (k, k_in, s_is) =
     let o = rw (at, here) at m in
     omega (arith, ints, l, o)
 
-pub raised-by : (rs : List Rect) (n : ℕ) (top new : ℤ) (r : Rect) → n < length rs → r ≡ get_or rs n r → top ≤ℤ new → r.y1 ≤ℤ new → r.y0 ≤ℤ top → (new ≡ top) ⊎ (new ≡ r.y1) → IsRaised rs n top new
+pub raised-by : (rs : List Rect) (n : ℕ) (top new : ℤ) (r : Rect) → n < length rs → r ≡ get_or rs n r → top ≤ℤ new → r.y1 ≤ℤ new
+    → r.y0 ≤ℤ top → (new ≡ top) ⊎ (new ≡ r.y1) → IsRaised rs n top new
 raised-by rs n top new r n_in r_is l m begins known = record {
   here = n_in;
   begins = λ d. subst (λ s. s.y0 ≤ℤ top) (r_is ∙ get_or_default rs n r d n_in) begins;

@@ -44,7 +44,8 @@ step-left p q s left =
 pub step-level : (p q s : Pt) → p.y ≡ q.y → step p q s ≡ pos 0
 step-level p q s e = by_lt_z s.y p.y (λ a. grind (arith, ints, a, e)) (λ a. grind (arith, ints, a, e))
 
-adds-edge : (es : List Edge) (e : Edge) (p q : Pt) → ((s : Pt) → part change_a e s ≡ step p q s) → e.x ≡ p.x → e.b ≡ pos 0 → IsUnitEdge e → ((bound : ℕ) → IsPointWithin bound p → IsPointWithin bound q → IsEdgeWithin bound e) → AddsStep es (es ++ e ∷ []) p q
+adds-edge : (es : List Edge) (e : Edge) (p q : Pt) → ((s : Pt) → part change_a e s ≡ step p q s) → e.x ≡ p.x → e.b ≡ pos 0 → IsUnitEdge e
+    → ((bound : ℕ) → IsPointWithin bound p → IsPointWithin bound q → IsEdgeWithin bound e) → AddsStep es (es ++ e ∷ []) p q
 adds-edge es e p q sums x b unit fits =
     record {
       sums_a = λ s. (let h = sum_left-push change_a es e s in let k = sums s in omega (arith, ints, h, k));
@@ -58,14 +59,17 @@ adds-edge es e p q sums x b unit fits =
 pub adds-up : (es : List Edge) (e : Edge) (p q : Pt) → p.y <ℤ q.y → e.x ≡ p.x → e.y0 ≡ p.y → e.y1 ≡ q.y → e.a ≡ pos 1 → e.b ≡ pos 0 → AddsStep es (es ++ e ∷ []) p q
 adds-up es e p q up x y0 y1 a b =
     adds-edge es e p q (λ s. part-up e p q s up x y0 y1 a) x b (record { a = omega (arith, ints, a); b = omega (arith, ints, b) })
-    (λ bound v w. (let vx = v.column in let vy = v.row in let wy = w.row in record { column = omega (arith, ints, vx, x); low = omega (arith, ints, vy, y0); high = omega (arith, ints, wy, y1) }))
+    (λ bound v w. (let vx = v.column in let vy = v.row in let wy = w.row in
+    record { column = omega (arith, ints, vx, x); low = omega (arith, ints, vy, y0); high = omega (arith, ints, wy, y1) }))
 
 pub adds-down : (es : List Edge) (e : Edge) (p q : Pt) → q.y <ℤ p.y → e.x ≡ p.x → e.y0 ≡ q.y → e.y1 ≡ p.y → e.a ≡ negsuc 0 → e.b ≡ pos 0 → AddsStep es (es ++ e ∷ []) p q
 adds-down es e p q down x y0 y1 a b =
     adds-edge es e p q (λ s. part-down e p q s down x y0 y1 a) x b (record { a = omega (arith, ints, a); b = omega (arith, ints, b) })
-    (λ bound v w. (let vx = v.column in let vy = v.row in let wy = w.row in record { column = omega (arith, ints, vx, x); low = omega (arith, ints, wy, y0); high = omega (arith, ints, vy, y1) }))
+    (λ bound v w. (let vx = v.column in let vy = v.row in let wy = w.row in
+    record { column = omega (arith, ints, vx, x); low = omega (arith, ints, wy, y0); high = omega (arith, ints, vy, y1) }))
 
-pub steps-next : (ps : List Pt) (n m : ℕ) (es fs : List Edge) (p q : Pt) → m ≡ n + 1 → m < length ps → p ≡ get_or ps n p → q ≡ get_or ps m q → AreStepsOf ps n es → AddsStep es fs p q → AreStepsOf ps m fs
+pub steps-next : (ps : List Pt) (n m : ℕ) (es fs : List Edge) (p q : Pt) → m ≡ n + 1 → m < length ps → p ≡ get_or ps n p
+    → q ≡ get_or ps m q → AreStepsOf ps n es → AddsStep es fs p q → AreStepsOf ps m fs
 steps-next ps n m es fs p q m_is m_in p_is q_is h a =
     let one : m ≡ suc n = omega (arith, m_is) in
     let p_at : (s : Pt) → get_or ps n s ≡ p = λ s. get_or_default ps n s p (omega (arith, m_in, m_is)) ∙ sym p_is in
@@ -87,7 +91,8 @@ steps-next ps n m es fs p q m_is m_in p_is q_is h a =
           omega (arith, ints, x, y, z, u, v));
     }
 
-pub edges-closed : (ps : List Pt) (n : ℕ) (es fs : List Edge) (p q : Pt) → n ≡ length ps - 1 → 0 < length ps → p ≡ get_or ps n p → q ≡ get_or ps 0 q → AreStepsOf ps n es → AddsStep es fs p q → AreEdgesOf ps fs
+pub edges-closed : (ps : List Pt) (n : ℕ) (es fs : List Edge) (p q : Pt) → n ≡ length ps - 1 → 0 < length ps → p ≡ get_or ps n p
+    → q ≡ get_or ps 0 q → AreStepsOf ps n es → AddsStep es fs p q → AreEdgesOf ps fs
 edges-closed ps n es fs p q n_is some p_is q_is h a =
     let p_at : (s : Pt) → get_or ps (length ps - 1) s ≡ p = λ s. ap (λ k. get_or ps k s) (sym n_is) ∙ (get_or_default ps n s p (omega (arith, n_is, some)) ∙ sym p_is) in
     let q_at : (s : Pt) → get_or ps 0 s ≡ q = λ s. get_or_default ps 0 s q some ∙ sym q_is in
@@ -144,10 +149,13 @@ none-told-at rule es p none told = none-told rule _ _ (sum-none change_a es p no
 
 pub told-inside : (rule : Rule) (bound : ℕ) (es : List Edge) (p : Pt) → AreEdgesWithin bound es → IsClosed rule es → Told rule es p → Inside bound p
 told-inside rule bound es p w closed told =
-    let left : neg_ℤ (pos bound) ≤ℤ p.x = by_lt_z p.x (neg_ℤ (pos bound)) (λ l. absurd (none-told-at rule es p (λ e e_in. inl (let h = (w e e_in).column in omega (arith, ints, l, h))) told)) (λ m. m) in
+    let left : neg_ℤ (pos bound) ≤ℤ p.x = by_lt_z p.x (neg_ℤ (pos bound))
+    (λ l. absurd (none-told-at rule es p (λ e e_in. inl (let h = (w e e_in).column in omega (arith, ints, l, h))) told)) (λ m. m) in
     let right : p.x <ℤ pos bound = by_lt_z p.x (pos bound) (λ l. l) (λ m. absurd (closed p (λ e e_in. (let h = (w e e_in).column in omega (arith, ints, m, h))) told)) in
-    let low : neg_ℤ (pos bound) ≤ℤ p.y = by_lt_z p.y (neg_ℤ (pos bound)) (λ l. absurd (none-told-at rule es p (λ e e_in. inr (inl (let h = (w e e_in).low in omega (arith, ints, l, h)))) told)) (λ m. m) in
-    let high : p.y <ℤ pos bound = by_lt_z p.y (pos bound) (λ l. l) (λ m. absurd (none-told-at rule es p (λ e e_in. inr (inr (let h = (w e e_in).high in omega (arith, ints, m, h)))) told)) in
+    let low : neg_ℤ (pos bound) ≤ℤ p.y = by_lt_z p.y (neg_ℤ (pos bound))
+    (λ l. absurd (none-told-at rule es p (λ e e_in. inr (inl (let h = (w e e_in).low in omega (arith, ints, l, h)))) told)) (λ m. m) in
+    let high : p.y <ℤ pos bound = by_lt_z p.y (pos bound) (λ l. l)
+    (λ m. absurd (none-told-at rule es p (λ e e_in. inr (inr (let h = (w e e_in).high in omega (arith, ints, m, h)))) told)) in
     (omega (arith, ints, left, right), omega (arith, ints, low, high), omega (arith, ints, left, right), omega (arith, ints, low, high))
 
 pub slabs-inside : (a : Pt → Type 0) (bound : ℕ) (slabs : List Rect) → ((p : Pt) → a p → Inside bound p) → AreSlabsOf a slabs → AreRectsWithin bound slabs
@@ -157,8 +165,18 @@ slabs-inside a bound slabs inside s r r_in =
     let tall = solid.tall in
     let low : Pt = record { x = r.x0; y = r.y0 } in
     let high : Pt = record { x = r.x1 -ℤ pos 1; y = r.y1 -ℤ pos 1 } in
-    let (a0, a1, a2, a3) = inside low ((s.covers low).0 (Covers-member slabs r low r_in (record { left = omega (arith, ints); right = wide; low = omega (arith, ints); high = tall }))) in
-    let (b0, b1, b2, b3) = inside high ((s.covers high).0 (Covers-member slabs r high r_in (record { left = omega (arith, ints, wide); right = omega (arith, ints); low = omega (arith, ints, tall); high = omega (arith, ints) }))) in
+    let (a0, a1, a2, a3) = inside low
+    ((s.covers low).0 (Covers-member slabs r low r_in
+    (record { left = omega (arith, ints); right = wide; low = omega (arith, ints); high = tall }))) in
+    let (b0, b1, b2, b3) = inside high
+    ((s.covers high).0 (Covers-member slabs r high r_in
+    (record {
+      left = omega (arith, ints, wide);
+      right = omega (arith, ints);
+      low = omega (arith, ints, tall);
+      high = omega
+          (arith, ints);
+    }))) in
     record { left = a0; low = a1; right = omega (arith, ints, b2); high = omega (arith, ints, b3) }
 
 pub covers-appended : (a : Pt → Type 0) (rs ss : List Rect) → SameSquares (Covers ss) a → (p : Pt) → Covers (rs ++ ss) p ↔ (Covers rs p ⊎ a p)
@@ -190,7 +208,9 @@ covers-pushed a rs r same p = (
 pub rects-appended : (bound : ℕ) (rs ss : List Rect) → AreRectsWithin bound rs → AreRectsWithin bound ss → AreRectsWithin bound (rs ++ ss)
 rects-appended bound rs ss v w r r_in = elim (Contains-append_cases rs ss r r_in) [ inl one ↦ v r one | inr other ↦ w r other ]
 
-pub loops-next : (ls : List (List Pt)) (n : ℕ) (l : List Pt) (old new : List Rect) → n < length ls → l ≡ get_or ls n l → ((p : Pt) → Covers old p ↔ SomeFirstCovers ls n p) → ((p : Pt) → Covers new p ↔ (Covers old p ⊎ LoopCovers l p)) → (p : Pt) → Covers new p ↔ SomeFirstCovers ls (n + 1) p
+pub loops-next : (ls : List (List Pt)) (n : ℕ) (l : List Pt) (old new : List Rect) → n < length ls → l ≡ get_or ls n l
+    → ((p : Pt) → Covers old p ↔ SomeFirstCovers ls n p) → ((p : Pt) → Covers new p ↔ (Covers old p ⊎ LoopCovers l p)) → (p : Pt)
+    → Covers new p ↔ SomeFirstCovers ls (n + 1) p
 loops-next ls n l old new n_in l_is before step p = (
   λ h. elim ((step p).0 h) [
     | inl a ↦ (let (k, m, b, k_in, is, has) = (before p).0 a in (k, m, omega (arith, b), k_in, is, has))

@@ -69,7 +69,13 @@ has-wider last bar next p level l m w =
         | inl has ↦ (let a = has.left in let b = has.right in let c = has.low in let d = has.high in
             record { left = omega (arith, ints, a, left); right = omega (arith, ints, b, over); low = omega (arith, ints, c, low); high = omega (arith, ints, d, high) })
         | inr has ↦ (let a = has.left in let b = has.right in let c = has.low in let d = has.high in
-            record { left = omega (arith, ints, a, left, l); right = omega (arith, ints, b, past); low = omega (arith, ints, c, low, bar_low); high = omega (arith, ints, d, high, bar_high) })
+            record {
+              left = omega (arith, ints, a, left, l);
+              right = omega (arith, ints, b, past);
+              low = omega
+                  (arith, ints, c, low, bar_low);
+              high = omega (arith, ints, d, high, bar_high);
+            })
       ],
     )
 
@@ -110,7 +116,8 @@ module _ (row : List Rect) (is : IsRow row) (rise : CornersRise row) where
         );
       }
 
-  pub bars-next : (n : ℕ) (done new : List Rect) (last next bar : Rect) → n < length row → bar ≡ get_or row n bar → AreBarsSoFar row n done last → IsBarJoined done last bar new next → AreBarsSoFar row (n + 1) new next
+  pub bars-next : (n : ℕ) (done new : List Rect) (last next bar : Rect) → n < length row → bar ≡ get_or row n bar
+      → AreBarsSoFar row n done last → IsBarJoined done last bar new next → AreBarsSoFar row (n + 1) new next
   bars-next n done new last next bar n_in bar_is s (inl (l, new_is, next_is)) =
       let bar_in : Contains row bar = (n, n_in, sym bar_is) in
       let wide = s.last_solid.wide in
@@ -256,10 +263,15 @@ row-from rs first h =
     }
 
 pub row-beside : (rs : List Rect) (i : ℕ) (a b : Rect) → 0 < length rs → i < length rs → IsRow rs → IsSolid (get_or rs i b) × AreLevel (get_or rs 0 a) (get_or rs i b)
-row-beside rs i a b some i_in row = (row.solid (get_or rs i b) (Contains-get_or rs i b i_in), row.level (get_or rs 0 a) (get_or rs i b) (Contains-get_or rs 0 a some) (Contains-get_or rs i b i_in))
+row-beside rs i a b some i_in row = (
+  row.solid (get_or rs i b) (Contains-get_or rs i b i_in),
+  row.level (get_or rs 0 a) (get_or rs i b)
+      (Contains-get_or rs 0 a some) (Contains-get_or rs i b i_in),
+)
 
 -- one more bar begins right of the one before it, and so of all others
-pub rises-next : (row : List Rect) (m n : ℕ) (prev bar : Rect) → IsRow row → n ≡ m + 1 → n < length row → prev ≡ get_or row m prev → bar ≡ get_or row n bar → prev.x1 <ℤ bar.x0 → RisesTo row n → RisesTo row (n + 1)
+pub rises-next : (row : List Rect) (m n : ℕ) (prev bar : Rect) → IsRow row → n ≡ m + 1 → n < length row → prev ≡ get_or row m prev
+    → bar ≡ get_or row n bar → prev.x1 <ℤ bar.x0 → RisesTo row n → RisesTo row (n + 1)
 rises-next row m n prev bar is n_is n_in prev_is bar_is right h j k d l k_less k_in = elim (cases_order k n) [
   | inl e ↦ (
       let m_in : m < length row = omega (arith, n_is, n_in) in

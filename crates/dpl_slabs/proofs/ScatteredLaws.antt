@@ -39,10 +39,40 @@ beside a0 a1 b0 b1 a b l r =
     by_lt_z b0 a1
     (λ below. by_lt_z a0 b1
     (λ over. by_lt_z a0 b0
-    (λ c. record { i = b0; j = b0; i_from = omega (arith, ints, c); i_below = below; j_from = omega (arith, ints); j_below = b; left = omega (arith, ints); right = omega (arith, ints) })
+    (λ c. record {
+      i = b0;
+      j = b0;
+      i_from = omega (arith, ints, c);
+      i_below = below;
+      j_from = omega
+          (arith, ints);
+      j_below = b;
+      left = omega (arith, ints);
+      right = omega (arith, ints);
+    })
     (λ c. record { i = a0; j = a0; i_from = omega (arith, ints); i_below = a; j_from = c; j_below = over; left = omega (arith, ints); right = omega (arith, ints) }))
-    (λ c. record { i = a0; j = b1 -ℤ pos 1; i_from = omega (arith, ints); i_below = a; j_from = omega (arith, ints, b); j_below = omega (arith, ints); left = omega (arith, ints, r); right = omega (arith, ints, r, c) }))
-    (λ c. record { i = a1 -ℤ pos 1; j = b0; i_from = omega (arith, ints, a); i_below = omega (arith, ints); j_from = omega (arith, ints); j_below = b; left = omega (arith, ints, l); right = omega (arith, ints, l, c) })
+    (λ c. record {
+      i = a0;
+      j = b1 -ℤ pos 1;
+      i_from = omega (arith, ints);
+      i_below = a;
+      j_from = omega (arith, ints, b);
+      j_below = omega
+          (arith, ints);
+      left = omega (arith, ints, r);
+      right = omega (arith, ints, r, c);
+    }))
+    (λ c. record {
+      i = a1 -ℤ pos 1;
+      j = b0;
+      i_from = omega (arith, ints, a);
+      i_below = omega (arith, ints);
+      j_from = omega
+          (arith, ints);
+      j_below = b;
+      left = omega (arith, ints, l);
+      right = omega (arith, ints, l, c);
+    })
 
 -- rectangles that overlap or share an end in rows and in columns have touching squares
 rects-touch : (a b : Rect) → IsSolid a → IsSolid b → b.x0 ≤ℤ a.x1 → a.x0 ≤ℤ b.x1 → b.y0 ≤ℤ a.y1 → a.y0 ≤ℤ b.y1 → AreTouching (Has a) (Has b)

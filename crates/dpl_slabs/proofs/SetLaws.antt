@@ -37,7 +37,11 @@ told-first rs p = (λ h. sum-covered rs p (λ e. h e refl), λ h e f. covered-su
 pub told-minus : (rs ss : List Rect) (p : Pt) → Holds Minus (cells (pos 1) rs p) (cells (pos 1) ss p) ↔ Without rs ss p
 told-minus rs ss p = (
   λ (h, k). (sum-covered rs p h, λ c. covered-sum ss p c k),
-  λ (h, k). (covered-sum rs p h, by_lt_z (pos 0) (cells (pos 1) ss p) (λ l. absurd (k (sum-covered ss p (λ e. omega (arith, ints, l, e))))) (λ m. (let least = cells-least ss p in omega (arith, ints, m, least)))),
+  λ (h, k). (
+    covered-sum rs p h,
+    by_lt_z (pos 0) (cells (pos 1) ss p) (λ l. absurd (k (sum-covered ss p (λ e. omega (arith, ints, l, e)))))
+        (λ m. (let least = cells-least ss p in omega (arith, ints, m, least))),
+  ),
 )
 
 -- what no holes leave of rectangles
@@ -65,7 +69,8 @@ rects-none n r r_in = absurd (Contains-nil r r_in)
 holds-some : (rule : Rule) (x y : ℤ) → Holds rule x y → x ≡ pos 0 → y ≡ pos 0 → ⊥
 holds-some rule x y h e f = none-told rule x y e f h
 
-square-within : (bound : ℕ) (rs : List Rect) (p : Pt) → AreRectsWithin bound rs → Covers rs p → (unsigned_abs p.x ≤ bound) × (unsigned_abs p.y ≤ bound) × (unsigned_abs (p.x +ℤ pos 1) ≤ bound) × (unsigned_abs (p.y +ℤ pos 1) ≤ bound)
+square-within : (bound : ℕ) (rs : List Rect) (p : Pt) → AreRectsWithin bound rs → Covers rs p → (unsigned_abs p.x ≤ bound)
+    × (unsigned_abs p.y ≤ bound) × (unsigned_abs (p.x +ℤ pos 1) ≤ bound) × (unsigned_abs (p.y +ℤ pos 1) ≤ bound)
 square-within bound rs p w h =
     let found = member-Covers rs p h in
     let has : Has found.0 p = found.2 in
@@ -74,20 +79,33 @@ square-within bound rs p w h =
     let e = has.left in let f = has.right in let g = has.low in let i = has.high in
     (omega (arith, ints, a, c, e, f), omega (arith, ints, b, d, g, i), omega (arith, ints, a, c, e, f), omega (arith, ints, b, d, g, i))
 
-inside : (rule : Rule) (bound : ℕ) (rs ss : List Rect) (p : Pt) → AreRectsWithin bound rs → AreRectsWithin bound ss → Holds rule (cells (pos 1) rs p) (cells (pos 1) ss p) → (unsigned_abs p.x ≤ bound) × (unsigned_abs p.y ≤ bound) × (unsigned_abs (p.x +ℤ pos 1) ≤ bound) × (unsigned_abs (p.y +ℤ pos 1) ≤ bound)
+inside : (rule : Rule) (bound : ℕ) (rs ss : List Rect) (p : Pt) → AreRectsWithin bound rs → AreRectsWithin bound ss
+    → Holds rule (cells (pos 1) rs p) (cells (pos 1) ss p) → (unsigned_abs p.x ≤ bound) × (unsigned_abs p.y ≤ bound)
+    × (unsigned_abs (p.x +ℤ pos 1) ≤ bound) × (unsigned_abs (p.y +ℤ pos 1) ≤ bound)
 inside rule bound rs ss p v w h =
     elim ((told-either rs ss p).0 (holds-some rule (cells (pos 1) rs p) (cells (pos 1) ss p) h)) [ inl a ↦ square-within bound rs p v a | inr b ↦ square-within bound ss p w b ]
 
 -- slabs of squares that rectangles within the bound have lie within it
-pub slabs-within : (rule : Rule) (bound : ℕ) (rs ss slabs : List Rect) → AreRectsWithin bound rs → AreRectsWithin bound ss → AreSlabsOf (λ p. Holds rule (cells (pos 1) rs p) (cells (pos 1) ss p)) slabs → AreRectsWithin bound slabs
+pub slabs-within : (rule : Rule) (bound : ℕ) (rs ss slabs : List Rect) → AreRectsWithin bound rs → AreRectsWithin bound ss
+    → AreSlabsOf (λ p. Holds rule (cells (pos 1) rs p) (cells (pos 1) ss p)) slabs → AreRectsWithin bound slabs
 slabs-within rule bound rs ss slabs v w s r r_in =
     let solid : IsSolid r = All-contains IsSolid slabs r s.canonical.solid r_in in
     let wide = solid.wide in
     let tall = solid.tall in
     let low : Pt = record { x = r.x0; y = r.y0 } in
     let high : Pt = record { x = r.x1 -ℤ pos 1; y = r.y1 -ℤ pos 1 } in
-    let a = inside rule bound rs ss low v w ((s.covers low).0 (Covers-member slabs r low r_in (record { left = omega (arith, ints); right = wide; low = omega (arith, ints); high = tall }))) in
-    let b = inside rule bound rs ss high v w ((s.covers high).0 (Covers-member slabs r high r_in (record { left = omega (arith, ints, wide); right = omega (arith, ints); low = omega (arith, ints, tall); high = omega (arith, ints) }))) in
+    let a = inside rule bound rs ss low v w
+    ((s.covers low).0 (Covers-member slabs r low r_in
+    (record { left = omega (arith, ints); right = wide; low = omega (arith, ints); high = tall }))) in
+    let b = inside rule bound rs ss high v w
+    ((s.covers high).0 (Covers-member slabs r high r_in
+    (record {
+      left = omega (arith, ints, wide);
+      right = omega (arith, ints);
+      low = omega (arith, ints, tall);
+      high = omega
+          (arith, ints);
+    }))) in
     let (a0, a1, a2, a3) = a in
     let (b0, b1, b2, b3) = b in
     record { left = a0; low = a1; right = omega (arith, ints, b2); high = omega (arith, ints, b3) }
@@ -135,7 +153,8 @@ to-turned (r ∷ rs) p h =
     let found = member-Covers (r ∷ rs) (at p.y p.x) h in
     elim (Contains-cases r found.0 rs found.1) [
       | inl e ↦ (let has : Has r (at p.y p.x) = subst (λ t. Has t (at p.y p.x)) (sym e) found.2 in
-          Covers-member (turned_rect r ∷ turned_rects rs) (turned_rect r) p (Contains-head (turned_rect r) (turned_rects rs)) (record { left = has.low; right = has.high; low = has.left; high = has.right }))
+          Covers-member (turned_rect r ∷ turned_rects rs) (turned_rect r) p (Contains-head (turned_rect r) (turned_rects rs))
+          (record { left = has.low; right = has.high; low = has.left; high = has.right }))
       | inr later ↦ (let rest = to-turned rs p (Covers-member rs found.0 (at p.y p.x) later found.2) in
           let there = member-Covers (turned_rects rs) p rest in
           Covers-member (turned_rect r ∷ turned_rects rs) there.0 p (Contains-later (turned_rect r) there.0 (turned_rects rs) there.1) there.2)
@@ -168,8 +187,10 @@ turned-one (r ∷ []) c one =
     }
 
 -- one more rectangle exchanged where it stands
-pub turned-next : (old rects : List Rect) (i : ℕ) (r t : Rect) → i < length old → rects ≡ map turned_rect (take i old) ++ drop i old → r ≡ get_or rects i r → t ≡ turned_rect r → set rects i t ≡ map turned_rect (take (i + 1) old) ++ drop (i + 1) old
+pub turned-next : (old rects : List Rect) (i : ℕ) (r t : Rect) → i < length old → rects ≡ map turned_rect (take i old) ++ drop i old
+    → r ≡ get_or rects i r → t ≡ turned_rect r → set rects i t ≡ map turned_rect (take (i + 1) old) ++ drop (i + 1) old
 turned-next old rects i r t i_in so_far r_is t_is = ap (set rects i) t_is ∙ map_over_more turned_rect old rects i r i_in so_far r_is
 
 pub turned-all : (old rects : List Rect) (i : ℕ) → length old ≤ i → rects ≡ map turned_rect (take i old) ++ drop i old → rects ≡ turned_rects old
-turned-all old rects i all so_far = so_far ∙ (ap (λ l. map turned_rect l ++ drop i old) (take_all i old all) ∙ (ap (λ l. map turned_rect old ++ l) (drop_all i old all) ∙ append-nil (map turned_rect old)))
+turned-all old rects i all so_far = so_far ∙ (ap (λ l. map turned_rect l ++ drop i old) (take_all i old all)
+    ∙ (ap (λ l. map turned_rect old ++ l) (drop_all i old all) ∙ append-nil (map turned_rect old)))

@@ -7,8 +7,10 @@ use Rattle.std.specs.List.{All, AllPairs, Contains}
 use Rattle.std.specs.List.Sorted.{IsPermutation}
 use Rattle.std.proofs.lemmas.Int.{ints, by_lt_z}
 use Rattle.std.proofs.lemmas.List.{append_assoc, get_or_append_left, get_or-append-add, get_or_default, length-append, take_all}
-use Rattle.std.proofs.lemmas.List.Elements.{All-append, All-contains, Contains-append_cases, Contains-append_left, Contains-append_right, Contains-get_or, Contains-push, Contains-push_cases}
-use Rattle.std.proofs.lemmas.List.Sorted.{IsPermutation-append_comm, IsPermutation-append_left, IsPermutation-append_right, IsPermutation-sym, IsPermutation-trans, Contains-permutation}
+use Rattle.std.proofs.lemmas.List.Elements.{All-append, All-contains, Contains-append_cases, Contains-append_left, Contains-append_right}
+use Rattle.std.proofs.lemmas.List.Elements.{Contains-get_or, Contains-push, Contains-push_cases}
+use Rattle.std.proofs.lemmas.List.Sorted.{IsPermutation-append_comm, IsPermutation-append_left, IsPermutation-append_right}
+use Rattle.std.proofs.lemmas.List.Sorted.{IsPermutation-sym, IsPermutation-trans, Contains-permutation}
 use Rattle.dpl_spec_split.specs.declared.Pt.{Pt}
 use Rattle.dpl_spec_split.specs.declared.Rect.{Rect}
 use Rattle.dpl_spec_split.specs.Squares.{Region, Has, Covers}
@@ -34,11 +36,21 @@ pub min-known : (a b m : ℤ) → m ≡ int_min a b → (m ≡ a) ⊎ (m ≡ b)
 min-known a b m h = elim (cases_cond (int_lt b a) b a m h) [ inl e ↦ inr e | inr e ↦ inl e ]
 
 -- the part of a rectangle between two rows
-pub is-part : (low high : ℤ) (r part : Rect) → part.x0 ≡ r.x0 → part.x1 ≡ r.x1 → r.y0 ≤ℤ part.y0 → low ≤ℤ part.y0 → (part.y0 ≡ r.y0) ⊎ (part.y0 ≡ low) → part.y1 ≤ℤ r.y1 → part.y1 ≤ℤ high → (part.y1 ≡ r.y1) ⊎ (part.y1 ≡ high) → IsPartOf low high r part
+pub is-part : (low high : ℤ) (r part : Rect) → part.x0 ≡ r.x0 → part.x1 ≡ r.x1 → r.y0 ≤ℤ part.y0 → low ≤ℤ part.y0
+    → (part.y0 ≡ r.y0) ⊎ (part.y0 ≡ low) → part.y1 ≤ℤ r.y1 → part.y1 ≤ℤ high → (part.y1 ≡ r.y1) ⊎ (part.y1 ≡ high) → IsPartOf low high r part
 is-part low high r part left right a b c d e f = record {
   has = λ p. (
-    (λ h. (let hl = h.left in let hr = h.right in let ha = h.low in let hb = h.high in
-        (record { left = omega (arith, ints, hl, left); right = omega (arith, ints, hr, right); low = omega (arith, ints, ha, a); high = omega (arith, ints, hb, d) }, omega (arith, ints, ha, b), omega (arith, ints, hb, e)))),
+    (λ h. (let hl = h.left in let hr = h.right in let ha = h.low in let hb = h.high in (
+      record {
+        left = omega (arith, ints, hl, left);
+        right = omega (arith, ints, hr, right);
+        low = omega
+            (arith, ints, ha, a);
+        high = omega (arith, ints, hb, d);
+      },
+      omega (arith, ints, ha, b),
+      omega (arith, ints, hb, e),
+    ))),
     λ (h, k, l). (let hl = h.left in let hr = h.right in let ha = h.low in let hb = h.high in
         record {
           left = omega (arith, ints, hl, left);
@@ -48,7 +60,13 @@ is-part low high r part left right a b c d e f = record {
         }),
   );
   within = λ solid w. (let wl = w.left in let wr = w.right in let wa = w.low in let wb = w.high in let tall = solid.tall in
-      record { left = omega (arith, ints, wl, left); low = omega (arith, ints, wa, wb, a, d, tall); right = omega (arith, ints, wr, right); high = omega (arith, ints, wa, wb, a, d, tall) });
+      record {
+        left = omega (arith, ints, wl, left);
+        low = omega (arith, ints, wa, wb, a, d, tall);
+        right = omega
+            (arith, ints, wr, right);
+        high = omega (arith, ints, wa, wb, a, d, tall);
+      });
 }
 
 -- a part without squares
@@ -127,10 +145,19 @@ module _ (bars : List Rect) (last bar : Rect) (x1 : ℤ) (by : Widens last bar) 
         let right = of_last.right in
         let right_too = w.right in
         rects-more farthest bars wider (λ r r_in. v r (Contains-append_left bars (last ∷ []) r r_in))
-        (record { left = of_last.left; low = of_last.low; right = elim known [ inl e ↦ omega (arith, ints, e, right) | inr e ↦ omega (arith, ints, e, right_too) ]; high = of_last.high });
+        (record {
+          left = of_last.left;
+          low = of_last.low;
+          right = elim known [
+            | inl e ↦ omega (arith, ints, e, right)
+            | inr e ↦ omega (arith, ints, e, right_too)
+          ];
+          high = of_last.high;
+        });
   }
 
-pub adds-bar : (low high : ℤ) (r part : Rect) (bars others new : List Rect) → IsPartOf low high r part → IsRectWithin farthest r → IsBar low high part → PushesBar bars new part → AddsPart low high r bars others new others
+pub adds-bar : (low high : ℤ) (r part : Rect) (bars others new : List Rect) → IsPartOf low high r part → IsRectWithin farthest r
+    → IsBar low high part → PushesBar bars new part → AddsPart low high r bars others new others
 adds-bar low high r part bars others new is w bar a = record {
   full = a.full low high bar;
   covers = λ p. (
@@ -147,7 +174,8 @@ adds-bar low high r part bars others new is w bar a = record {
   within = λ v. v;
 }
 
-pub adds-other : (low high : ℤ) (r part : Rect) (bars others : List Rect) → IsPartOf low high r part → IsRectWithin farthest r → IsSolid part → AddsPart low high r bars others bars (others ++ part ∷ [])
+pub adds-other : (low high : ℤ) (r part : Rect) (bars others : List Rect) → IsPartOf low high r part → IsRectWithin farthest r
+    → IsSolid part → AddsPart low high r bars others bars (others ++ part ∷ [])
 adds-other low high r part bars others is w solid = record {
   full = λ s h. inl h;
   covers = λ p. (
@@ -178,7 +206,9 @@ parts-none low high = record {
     nothing : (p : Pt) → Covers [] p → ⊥
     nothing p c = let found = member-Covers [] p c in Contains-nil found.0 found.1
 
-pub parts-next : (low high : ℤ) (rects bars others new new_others : List Rect) (n : ℕ) (r : Rect) → n < length rects → r ≡ get_or rects n r → ArePartsOf low high (take n rects) bars others → AddsPart low high r bars others new new_others → ArePartsOf low high (take (n + 1) rects) new new_others
+pub parts-next : (low high : ℤ) (rects bars others new new_others : List Rect) (n : ℕ) (r : Rect) → n < length rects → r ≡ get_or rects n r
+    → ArePartsOf low high (take n rects) bars others → AddsPart low high r bars others new new_others
+    → ArePartsOf low high (take (n + 1) rects) new new_others
 parts-next low high rects bars others new new_others n r n_in r_is s a = record {
   full = λ t t_in. elim (a.full t t_in) [ inl old ↦ s.full t old | inr is ↦ is ];
   covers = λ p. (
@@ -215,7 +245,9 @@ row-sorted bars sorted same row = record {
     from r r_in = Contains-permutation sorted bars r (IsPermutation-sym bars sorted same) r_in
 
 -- all parts of all rectangles, the bars put together
-pub cut-whole : (low high : ℤ) (rects bars row others : List Rect) (n : ℕ) → length rects ≤ n → ArePartsOf low high (take n rects) bars others → AreSlabsOf (Covers bars) row → AreSpaced row → AreAllLevel row bars → IsCutTo low high rects row others
+pub cut-whole : (low high : ℤ) (rects bars row others : List Rect) (n : ℕ) → length rects ≤ n
+    → ArePartsOf low high (take n rects) bars others → AreSlabsOf (Covers bars) row → AreSpaced row → AreAllLevel row bars
+    → IsCutTo low high rects row others
 cut-whole low high rects bars row others n all s by spaced level =
     let whole : take n rects ≡ rects = take_all n rects all in
     let covers = rw whole at s.covers in
@@ -225,7 +257,10 @@ cut-whole low high rects bars row others n all s by spaced level =
           let wide = solid.wide in
           let tall = solid.tall in
           let first : Pt = record { x = r.x0; y = r.y0 } in
-          let (bar, bar_in, _) = member-Covers bars first ((by.covers first).0 (Covers-member row r first r_in (record { left = omega (arith, ints); right = wide; low = omega (arith, ints); high = tall }))) in
+          let (bar, bar_in, _) = member-Covers bars first
+          ((by.covers first).0
+          (Covers-member row r first r_in (record { left = omega (arith, ints); right = wide; low = omega (arith, ints); high = tall })))
+          in
           record { solid = solid; first = (level r bar r_in bar_in).low ∙ (s.full bar bar_in).first; end = (level r bar r_in bar_in).high ∙ (s.full bar bar_in).end };
       left = spaced.left;
       covers = λ p. (
@@ -246,10 +281,12 @@ cut-level low high rects holes bars gaps others more s t r g r_in g_in = record 
 }
 
 -- slabs of what holes leave of rectangles within the range lie within it
-pub without-within : (rects holes slabs : List Rect) → AreRectsWithin farthest rects → AreRectsWithin farthest holes → AreSlabsOf (Without rects holes) slabs → AreRectsWithin farthest slabs
+pub without-within : (rects holes slabs : List Rect) → AreRectsWithin farthest rects → AreRectsWithin farthest holes
+    → AreSlabsOf (Without rects holes) slabs → AreRectsWithin farthest slabs
 without-within rects holes slabs v w s =
     slabs-within Minus farthest rects holes slabs v w
-    (slabs-of-same (Without rects holes) (λ p. Holds Minus (cells (pos 1) rects p) (cells (pos 1) holes p)) slabs (λ p. ((told-minus rects holes p).1, (told-minus rects holes p).0)) s)
+    (slabs-of-same (Without rects holes) (λ p. Holds Minus (cells (pos 1) rects p) (cells (pos 1) holes p)) slabs
+    (λ p. ((told-minus rects holes p).1, (told-minus rects holes p).0)) s)
 
 -- rectangles with a column between them share no square
 none-shared : (r s : Rect) (p : Pt) → StandApart r s → Has r p → Has s p → ⊥
@@ -267,11 +304,14 @@ no-square others rs off p c k =
     none-shared r g p (off r g r_in g_in) has has_too
 
 -- holes and some gaps lie within the range
-pub near-within : (parts holes near gaps : List Rect) → AddsTouching gaps parts holes near → AreRectsWithin farthest holes → AreRectsWithin farthest gaps → AreRectsWithin farthest near
+pub near-within : (parts holes near gaps : List Rect) → AddsTouching gaps parts holes near → AreRectsWithin farthest holes
+    → AreRectsWithin farthest gaps → AreRectsWithin farthest near
 near-within parts holes near gaps a v w r r_in = elim (a.others r r_in) [ inl h ↦ v r h | inr h ↦ w r h ]
 
 -- bars that stand alone, and the slabs of all else
-module _ (low high : ℤ) (rects holes whole bars old new gaps rest near alone : List Rect) (s : IsCutTo low high rects whole old) (t : IsCutTo low high holes gaps rest) (b : AreSlabsOf (Without whole gaps) bars) (g : AddsTouching gaps old rest near) (a : AreAlone bars near old new alone) where
+module _ (low high : ℤ) (rects holes whole bars old new gaps rest near alone : List Rect) (s : IsCutTo low high rects whole old)
+    (t : IsCutTo low high holes gaps rest) (b : AreSlabsOf (Without whole gaps) bars) (g : AddsTouching gaps old rest near)
+    (a : AreAlone bars near old new alone) where
   pub rest-within : AreRectsWithin farthest new
   rest-within r r_in = elim (a.others r r_in) [ inl h ↦ s.within r h | inr h ↦ without-within whole gaps bars s.bars_within t.bars_within b r h ]
 
@@ -335,8 +375,11 @@ module _ (low high : ℤ) (rects holes whole bars old new gaps rest near alone :
         by_lt_z r.x1 q.x0 inl
         (λ l. by_lt_z q.x1 r.x0 inr
         (λ m. absurd (by_lt_z q.x0 r.x0
-        (λ k. off-slab r q (record { x = r.x0 -ℤ pos 1; y = q.y0 }) r_in q_in (record { left = omega (arith, ints, k); right = omega (arith, ints, m); low = omega (arith, ints); high = tall }) (omega (arith, ints, some)) (omega (arith, ints)))
-        (λ k. off-slab r q (record { x = q.x0; y = q.y0 }) r_in q_in (record { left = omega (arith, ints); right = wide; low = omega (arith, ints); high = tall }) l (omega (arith, ints, k))))))
+        (λ k. off-slab r q (record { x = r.x0 -ℤ pos 1; y = q.y0 }) r_in q_in
+        (record { left = omega (arith, ints, k); right = omega (arith, ints, m); low = omega (arith, ints); high = tall })
+        (omega (arith, ints, some)) (omega (arith, ints)))
+        (λ k. off-slab r q (record { x = q.x0; y = q.y0 }) r_in q_in
+        (record { left = omega (arith, ints); right = wide; low = omega (arith, ints); high = tall }) l (omega (arith, ints, k))))))
 
     slabs-covers : (p : Pt) → Covers slabs p → InRows low high (Without rects holes) p
     slabs-covers p c =
@@ -370,7 +413,8 @@ begin-over row rs solid over r r_in =
     let s : IsSolid r = All-contains IsSolid rs r solid r_in in
     let wide = s.wide in
     let tall = s.tall in
-    over (record { x = r.x0; y = r.y0 }) (Covers-member rs r (record { x = r.x0; y = r.y0 }) r_in (record { left = omega (arith, ints); right = wide; low = omega (arith, ints); high = tall }))
+    over (record { x = r.x0; y = r.y0 }) (Covers-member rs r (record { x = r.x0; y = r.y0 }) r_in
+    (record { left = omega (arith, ints); right = wide; low = omega (arith, ints); high = tall }))
 
 -- and those with all squares below it end there or below it
 end-below : (row : ℤ) (rs : List Rect) → All IsSolid rs → ((p : Pt) → Covers rs p → p.y <ℤ row) → (r : Rect) → Contains rs r → r.y1 ≤ℤ row
@@ -382,12 +426,15 @@ end-below row rs solid below r r_in =
     let l = below last (Covers-member rs r last r_in (record { left = omega (arith, ints); right = wide; low = omega (arith, ints, tall); high = omega (arith, ints) })) in
     omega (arith, ints, l)
 
-pub pieces-next : (low high : ℤ) (a : Region) (pieces more : List Rect) → low <ℤ high → ArePiecesBelow low a pieces → ArePiecesOf (InRows low high a) more → ArePiecesBelow high a (pieces ++ more)
+pub pieces-next : (low high : ℤ) (a : Region) (pieces more : List Rect) → low <ℤ high → ArePiecesBelow low a pieces
+    → ArePiecesOf (InRows low high a) more → ArePiecesBelow high a (pieces ++ more)
 pieces-next low high a pieces more order b s = record {
   apart = record {
     solid = All-append IsSolid pieces more b.apart.solid s.apart.solid;
     apart = AllPairs-append (λ r t. ShareRow r t → StandApart r t) pieces more b.apart.apart s.apart.apart
-        (λ r t r_in t_in share. (let u = b.under r r_in in let v = begin-over low more s.apart.solid (λ p c. ((s.covers p).0 c).1) t t_in in let w = share.1 in absurd (omega (arith, ints, u, v, w))));
+        (λ r t r_in t_in share. (let u = b.under r r_in in
+        let v = begin-over low more s.apart.solid (λ p c. ((s.covers p).0 c).1) t t_in in let w = share.1 in
+        absurd (omega (arith, ints, u, v, w))));
   };
   under = λ r r_in. elim (Contains-append_cases pieces more r r_in) [
     | inl h ↦ (let u = b.under r h in omega (arith, ints, u, order))
@@ -430,7 +477,8 @@ pieces-none low rects holes low_is w = record {
 }
 
 -- above all rectangles
-pub pieces-all : (row : ℤ) (rects holes pieces : List Rect) → pos farthest <ℤ row → AreRectsWithin farthest rects → ArePiecesBelow row (Without rects holes) pieces → ArePiecesOf (Without rects holes) pieces
+pub pieces-all : (row : ℤ) (rects holes pieces : List Rect) → pos farthest <ℤ row → AreRectsWithin farthest rects
+    → ArePiecesBelow row (Without rects holes) pieces → ArePiecesOf (Without rects holes) pieces
 pieces-all row rects holes pieces over w b = record {
   apart = b.apart;
   covers = λ p. (
@@ -485,7 +533,9 @@ module _ (row : ℤ) (a : Region) (xs ys zs : List Rect) (b : ArePiecesBelow row
         by_lt_z d.x1 j.x0 inl
         (λ l. by_lt_z j.x1 d.x0 inr
         (λ m. absurd (by_lt_z j.x0 d.x0
-        (λ k. near-none (record { x = d.x0 -ℤ pos 1; y = y }) (record { left = omega (arith, ints, k); right = omega (arith, ints, m); low = from; high = to }) low high (omega (arith, ints)) (omega (arith, ints, wide_too)))
+        (λ k. near-none (record { x = d.x0 -ℤ pos 1; y = y })
+        (record { left = omega (arith, ints, k); right = omega (arith, ints, m); low = from; high = to }) low high (omega (arith, ints))
+        (omega (arith, ints, wide_too)))
         (λ k. near-none (record { x = j.x0; y = y }) (record { left = omega (arith, ints); right = wide; low = from; high = to }) low high (omega (arith, ints, k)) l))))
 
     beside : ShareRow d j → StandApart d j
@@ -536,5 +586,6 @@ module _ {X : Type 0} (all done growing : List X) (x : X) (same : IsPermutation 
 
   pub settled-done : IsPermutation (all ++ x ∷ []) ((done ++ x ∷ []) ++ growing)
   settled-done =
-      let behind = rw (sym (append_assoc done (x ∷ []) growing)) at (IsPermutation-append_right done (growing ++ x ∷ []) (x ∷ growing) (IsPermutation-append_comm growing (x ∷ []))) in
+      let behind = rw (sym (append_assoc done (x ∷ []) growing)) at (IsPermutation-append_right done (growing ++ x ∷ []) (x ∷ growing)
+      (IsPermutation-append_comm growing (x ∷ []))) in
       IsPermutation-trans (all ++ x ∷ []) (done ++ (growing ++ x ∷ [])) ((done ++ x ∷ []) ++ growing) settled-growing behind

@@ -8,7 +8,8 @@ use lib.Signed.{lt_z, lt_z_yes, lt_z_no}
 use Rattle.std.proofs.lemmas.Float.{T_from_true, T_from_false}
 use Rattle.std.proofs.lemmas.Int.{ints}
 use Rattle.std.proofs.lemmas.List.{get_or-drop, get_or-take, get_or_default, length-drop, length-take, take-append-drop, drop_all}
-use Rattle.std.proofs.lemmas.List.Elements.{All-append, All-contains, Contains-append_left, Contains-append_right, Contains-append_cases, Contains-get_or, Contains-push, Contains-push_cases}
+use Rattle.std.proofs.lemmas.List.Elements.{All-append, All-contains, Contains-append_left, Contains-append_right, Contains-append_cases}
+use Rattle.std.proofs.lemmas.List.Elements.{Contains-get_or, Contains-push, Contains-push_cases}
 use Rattle.std.proofs.lemmas.Bool.{cases_lt, cases_cond}
 use Rattle.std.proofs.lemmas.List.Sorted.{IsPermutation-sym, Contains-permutation}
 use Rattle.std.proofs.Math.Seq.{take-suc}
@@ -26,7 +27,8 @@ use Rattle.dpl_slabs.proofs.LoopLaws.{covers-appended, rects-appended}
 use Rattle.dpl_slabs.proofs.SetLaws.{rects-none, slabs-of-same}
 
 -- a relation of all pairs of two lists
-pub AllPairs-append : {X : Type 0} (R : X → X → Type 0) (xs ys : List X) → AllPairs R xs → AllPairs R ys → ((x y : X) → Contains xs x → Contains ys y → R x y) → AllPairs R (xs ++ ys)
+pub AllPairs-append : {X : Type 0} (R : X → X → Type 0) (xs ys : List X) → AllPairs R xs → AllPairs R ys
+    → ((x y : X) → Contains xs x → Contains ys y → R x y) → AllPairs R (xs ++ ys)
 AllPairs-append R [] ys a b c i j d l k = b i j d l k
 AllPairs-append R (x ∷ xs) ys a b c zero zero d l k = absurd (omega (arith, l))
 AllPairs-append R (x ∷ xs) ys a b c zero (suc j) d l k =
@@ -36,7 +38,8 @@ AllPairs-append R (x ∷ xs) ys a b c zero (suc j) d l k =
       | inr h ↦ c x (get_or (xs ++ ys) j d) (Contains-head x xs) h
     ]
 AllPairs-append R (x ∷ xs) ys a b c (suc i) zero d l k = absurd (omega (arith, l))
-AllPairs-append R (x ∷ xs) ys a b c (suc i) (suc j) d l k = AllPairs-append R xs ys (AllPairs-rest R x xs a) b (λ u v u_in v_in. c u v (Contains-later x u xs u_in) v_in) i j d (omega (arith, l)) (omega (arith, k))
+AllPairs-append R (x ∷ xs) ys a b c (suc i) (suc j) d l k = AllPairs-append R xs ys (AllPairs-rest R x xs a) b
+    (λ u v u_in v_in. c u v (Contains-later x u xs u_in) v_in) i j d (omega (arith, l)) (omega (arith, k))
 
 -- some rectangle begins no higher than a slab of some of the rectangles' squares
 slab-over : (rs slabs : List Rect) (s : Rect) → IsCanonical slabs → ((p : Pt) → Covers slabs p → Covers rs p) → Contains slabs s → (r : Rect) × Contains rs r × (r.y0 ≤ℤ s.y0)
@@ -45,7 +48,9 @@ slab-over rs slabs s c inside s_in =
     let wide = solid.wide in
     let tall = solid.tall in
     let low : Pt = record { x = s.x0; y = s.y0 } in
-    let (r, r_in, has) = member-Covers rs low (inside low (Covers-member slabs s low s_in (record { left = omega (arith, ints); right = wide; low = omega (arith, ints); high = tall }))) in
+    let (r, r_in, has) = member-Covers rs low
+    (inside low (Covers-member slabs s low s_in
+    (record { left = omega (arith, ints); right = wide; low = omega (arith, ints); high = tall }))) in
     (r, r_in, has.low)
 
 -- some rectangle ends no lower
@@ -55,7 +60,9 @@ slab-under rs slabs s c inside s_in =
     let wide = solid.wide in
     let tall = solid.tall in
     let high : Pt = record { x = s.x0; y = s.y1 -ℤ pos 1 } in
-    let (r, r_in, has) = member-Covers rs high (inside high (Covers-member slabs s high s_in (record { left = omega (arith, ints); right = wide; low = omega (arith, ints, tall); high = omega (arith, ints) }))) in
+    let (r, r_in, has) = member-Covers rs high
+    (inside high (Covers-member slabs s high s_in
+    (record { left = omega (arith, ints); right = wide; low = omega (arith, ints, tall); high = omega (arith, ints) }))) in
     let top = has.high in
     (r, r_in, omega (arith, ints, top))
 
@@ -69,14 +76,18 @@ follows-below r s solid other l =
     }
 
 -- the slabs of some of a strip's squares are added above others
-pub adds-strip : (a : Region) (old more strip : List Rect) → IsCanonical old → LieBelow old strip → ((p : Pt) → a p → Covers strip p) → AreSlabsOf a more → AreRectsWithin farthest more → AddsStrip a old (old ++ more) strip
+pub adds-strip : (a : Region) (old more strip : List Rect) → IsCanonical old → LieBelow old strip → ((p : Pt) → a p → Covers strip p)
+    → AreSlabsOf a more → AreRectsWithin farthest more → AddsStrip a old (old ++ more) strip
 adds-strip a old more strip c below own s w =
     let inside : (p : Pt) → Covers more p → Covers strip p = λ p h. own p ((s.covers p).0 h) in
-    let under : LieBelow old more = λ r t r_in t_in. (let (q, q_in, l) = slab-over strip more t s.canonical inside t_in in let h = below r q r_in q_in in omega (arith, ints, l, h)) in
+    let under : LieBelow old more = λ r t r_in t_in. (let (q, q_in, l) = slab-over strip more t s.canonical inside t_in in
+    let h = below r q r_in q_in in omega (arith, ints, l, h)) in
     record {
       canonical = record {
         solid = All-append IsSolid old more c.solid s.canonical.solid;
-        follow = AllPairs-append Follows old more c.follow s.canonical.follow (λ r t r_in t_in. follows-below r t (All-contains IsSolid old r c.solid r_in) (All-contains IsSolid more t s.canonical.solid t_in) (under r t r_in t_in));
+        follow = AllPairs-append Follows old more c.follow s.canonical.follow
+            (λ r t r_in t_in. follows-below r t (All-contains IsSolid old r c.solid r_in)
+            (All-contains IsSolid more t s.canonical.solid t_in) (under r t r_in t_in));
       };
       covers = covers-appended a old more s.covers;
       within = λ v. rects-appended farthest old more v w;
@@ -158,9 +169,11 @@ module _ (rects slabs rest : List Rect) (n : ℕ) (s : AreStripsOf rects slabs r
           (λ h. elim h [
             | inl c ↦ elim ((a.covers p).0 c) [
               | inl old ↦ (s.covers p).0 (inl old)
-              | inr k ↦ (let (r, r_in, has) = member-Covers (take n rest) p k in (s.covers p).0 (inr (Covers-member rest r p (left-in (take n rest) (drop n rest) rest r whole r_in) has)))
+              | inr k ↦ (let (r, r_in, has) = member-Covers (take n rest) p k in
+                  (s.covers p).0 (inr (Covers-member rest r p (left-in (take n rest) (drop n rest) rest r whole r_in) has)))
             ]
-            | inr k ↦ (let (r, r_in, has) = member-Covers (drop n rest) p k in (s.covers p).0 (inr (Covers-member rest r p (right-in (take n rest) (drop n rest) rest r whole r_in) has)))
+            | inr k ↦ (let (r, r_in, has) = member-Covers (drop n rest) p k in
+                (s.covers p).0 (inr (Covers-member rest r p (right-in (take n rest) (drop n rest) rest r whole r_in) has)))
           ]),
           λ h. elim ((s.covers p).1 h) [
             | inl old ↦ inl ((a.covers p).1 (inl old))
@@ -209,14 +222,16 @@ pub record IsOpen (rs : List Rect) (n : ℕ) (top : ℤ) : Type 0 where
   pub reached : (r : Rect) × Contains (take n rs) r × (top ≤ℤ r.y1)
   pub least : (k : ℕ) → 0 < k → k < n → ¬ LieBelow (take k rs) (drop k rs)
 
-no-gap : (rs : List Rect) (n : ℕ) (r q : Rect) (top : ℤ) → n < length rs → r ≡ get_or rs n r → Contains (take n rs) q → top ≤ℤ q.y1 → r.y0 ≤ℤ top → ¬ LieBelow (take n rs) (drop n rs)
+no-gap : (rs : List Rect) (n : ℕ) (r q : Rect) (top : ℤ) → n < length rs → r ≡ get_or rs n r → Contains (take n rs) q → top ≤ℤ q.y1
+    → r.y0 ≤ℤ top → ¬ LieBelow (take n rs) (drop n rs)
 no-gap rs n r q top n_in r_is q_in l m below =
     let here : n + 0 ≡ n = omega arith in
     let first : get_or (drop n rs) 0 r ≡ r = get_or-drop n rs 0 r ∙ (ap (λ k. get_or rs k r) here ∙ sym r_is) in
     let k = below q r q_in (0, omega (arith, length-drop n rs, n_in), first) in
     omega (arith, ints, k, l, m)
 
-pub open-next : (rs : List Rect) (n : ℕ) (r : Rect) (top new : ℤ) → n < length rs → r ≡ get_or rs n r → top ≤ℤ new → r.y1 ≤ℤ new → (new ≡ top) ⊎ (new ≡ r.y1) → r.y0 ≤ℤ top → IsOpen rs n top → IsOpen rs (n + 1) new
+pub open-next : (rs : List Rect) (n : ℕ) (r : Rect) (top new : ℤ) → n < length rs → r ≡ get_or rs n r → top ≤ℤ new → r.y1 ≤ℤ new
+    → (new ≡ top) ⊎ (new ≡ r.y1) → r.y0 ≤ℤ top → IsOpen rs n top → IsOpen rs (n + 1) new
 open-next rs n r top new n_in r_is l m known over o = record {
   ends = end-next rs n r top new n_in r_is l m o.ends;
   reached = subst (λ xs. (q : Rect) × Contains xs q × (new ≤ℤ q.y1)) (sym step) (elim known [

@@ -28,7 +28,8 @@ pub record IsJointStrip (first second : List Rect) (n m : ℕ) : Type 0 where
   pub first_in : n ≤ length first
   pub second_in : m ≤ length second
   pub below : LieBelow (take n first ++ take m second) (drop n first ++ drop m second)
-  pub least : All IsSolid first → All IsSolid second → (k l : ℕ) → k ≤ n → l ≤ m → 0 < k + l → k + l < n + m → ¬ LieBelow (take k first ++ take l second) (drop k first ++ drop l second)
+  pub least : All IsSolid first → All IsSolid second → (k l : ℕ) → k ≤ n → l ≤ m → 0 < k + l → k + l < n + m
+      → ¬ LieBelow (take k first ++ take l second) (drop k first ++ drop l second)
 
 -- slabs of some of the squares, and the rest of each list, which lies above
 pub record AreJointsOf (rule : Rule) (first second slabs first_rest second_rest : List Rect) : Type 0 where

@@ -1,5 +1,6 @@
 -- Paths: one rectangle for each straight part.
-use Rattle.std.specs.Prelude.{◌≡◌, ℕ, ◌+◌, ◌/◌, ◌%◌, ◌<◌, ◌⊎◌, Bool, true, false, ◌&&◌, ℤ, pos, ◌+ℤ◌, ◌-ℤ◌, ◌<ℤ◌, unsigned_abs, List, [], ◌∷◌, length, slice_index_or, if◌then◌else◌}
+use Rattle.std.specs.Prelude.{◌≡◌, ℕ, ◌+◌, ◌/◌, ◌%◌, ◌<◌, ◌⊎◌, Bool, true, false, ◌&&◌, ℤ, pos, ◌+ℤ◌, ◌-ℤ◌, ◌<ℤ◌, unsigned_abs, List, []}
+use Rattle.std.specs.Prelude.{◌∷◌, length, slice_index_or, if◌then◌else◌}
 use lib.Signed.{lt_z, le_z}
 use Rattle.dpl_spec_split.specs.declared.Pt.{Pt}
 use Rattle.dpl_spec_split.specs.declared.Rect.{Rect}
@@ -114,7 +115,8 @@ HasSlant ps = (k : ℕ) × (p q : Pt) × (k + 1 < length ps) × (slice_index_or 
 
 -- some two consecutive segments have opposite directions
 abbrev pub HasTurnBack : List Pt → Type 0
-HasTurnBack ps = (k : ℕ) × (p q r : Pt) × (k + 2 < length ps) × (slice_index_or ps k p ≡ p) × (slice_index_or ps (k + 1) q ≡ q) × (slice_index_or ps (k + 2) r ≡ r) × (heading q r ≡ back (heading p q))
+HasTurnBack ps = (k : ℕ) × (p q r : Pt) × (k + 2 < length ps) × (slice_index_or ps k p ≡ p) × (slice_index_or ps (k + 1) q ≡ q)
+    × (slice_index_or ps (k + 2) r ≡ r) × (heading q r ≡ back (heading p q))
 
 -- what a path can be refused for
 pub data PathFault : Type 0 where

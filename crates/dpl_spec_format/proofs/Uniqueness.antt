@@ -1,5 +1,6 @@
 -- A file holds one library, or has one first fault, and not both.
-use Rattle.std.proofs.Common.{◌≡◌, ◌≢◌, ℕ, Bool, true, false, not, ◌&&◌, ◌⊎◌, inl, inr, List, [], ◌∷◌, ◌++◌, map, Option, Some, None, Result, Ok, Err, refl, sym, subst, ap, ◌∙◌, append_assoc}
+use Rattle.std.proofs.Common.{◌≡◌, ◌≢◌, ℕ, Bool, true, false, not, ◌&&◌, ◌⊎◌, inl, inr, List, [], ◌∷◌, ◌++◌, map, Option, Some, None}
+use Rattle.std.proofs.Common.{Result, Ok, Err, refl, sym, subst, ap, ◌∙◌, append_assoc}
 use Rattle.std.specs.Prelude.{IsTrue}
 use Rattle.std.specs.List.{flat_map, AllByRecursion}
 use Rattle.std.proofs.lemmas.List.{append-nil, map-append}
@@ -129,9 +130,11 @@ kinds_split (s ∷ rs) r more ks = ap (λ (x : List ℕ). s.kind ∷ x) (kinds_s
 begins_front : (rs : List Record) (r : Record) (more : List Record) → Begins library (kinds_of (rs ++ r ∷ more)) → Begins library (kinds_of (rs ++ r ∷ []))
 begins_front rs r more b = (kinds_of more ++ b.0, subst (Has library) (kinds_split rs r more b.0) b.1)
 
-not_wrong : (bytes : List ℕ) (rs : List Record) (at : ℕ) (r : Record) (f : Fault) → record_at bytes at ≡ Ok r → Begins library (kinds_of (rs ++ r ∷ [])) → refusal rs r ≡ None → IsWrong bytes rs at f → ⊥
+not_wrong : (bytes : List ℕ) (rs : List Record) (at : ℕ) (r : Record) (f : Fault) → record_at bytes at ≡ Ok r
+    → Begins library (kinds_of (rs ++ r ∷ [])) → refusal rs r ≡ None → IsWrong bytes rs at f → ⊥
 not_wrong bytes rs at r f found begins fine (no_record g e) = cc
-not_wrong bytes rs at r f found begins fine (not_here s e never) = never (subst (λ (x : Record). Begins library (kinds_of (rs ++ x ∷ []))) (same_ok (record_at bytes at) r s found e) begins)
+not_wrong bytes rs at r f found begins fine (not_here s e never) = never (subst (λ (x : Record). Begins library (kinds_of (rs ++ x ∷ [])))
+    (same_ok (record_at bytes at) r s found e) begins)
 not_wrong bytes rs at r f found begins fine (refused s g e b why) =
     let same : r ≡ s = same_ok (record_at bytes at) r s found e in
     let fine1 : refusal rs s ≡ None = subst (λ (x : Record). refusal rs x ≡ None) same fine in
@@ -164,7 +167,8 @@ kinds_append rs qs = map-append (λ (r : Record). r.kind) rs qs
 
 no_longer : (rs qs : List Record) (r : Record) (more : List Record) → Has library (kinds_of rs) → Has library (kinds_of qs) → qs ≡ rs ++ r ∷ more → ⊥
 no_longer rs qs r more left right e =
-    no_two_ends kinds.endlib (kinds_of rs) (kinds_of qs) r.kind (kinds_of more) (library_ends (kinds_of rs) left) (library_ends (kinds_of qs) right) (ap kinds_of e ∙ kinds_append rs (r ∷ more))
+    no_two_ends kinds.endlib (kinds_of rs) (kinds_of qs) r.kind (kinds_of more) (library_ends (kinds_of rs) left)
+    (library_ends (kinds_of qs) right) (ap kinds_of e ∙ kinds_append rs (r ∷ more))
 
 open_never : (rs : List Record) (ks : List ℕ) → IsOpen rs → EndsIn kinds.endlib ks → (more : List ℕ) → kinds_of rs ≡ ks ++ more → ⊥
 open_never rs ks goes ends more e =
@@ -180,11 +184,14 @@ one_of bytes l m h i (second_ends r more e found) = absurd (no_longer i.records 
 pub one_library : (bytes : List ℕ) (l m : Library) → Holds bytes l → Holds bytes m → l ≡ m
 one_library bytes l m h i = one_of bytes l m h i (compare bytes 0 h.records h.end i.records i.end h.lies i.lies)
 
-apart_of : (bytes : List ℕ) (l : Library) (f : Fault) (h : Holds bytes l) (rs : List Record) (at : ℕ) → IsReadTo bytes rs at → IsWrong bytes rs at f → Compared bytes 0 rs at h.records h.end → ⊥
+apart_of : (bytes : List ℕ) (l : Library) (f : Fault) (h : Holds bytes l) (rs : List Record) (at : ℕ) → IsReadTo bytes rs at
+    → IsWrong bytes rs at f → Compared bytes 0 rs at h.records h.end → ⊥
 apart_of bytes l f h rs at read wrong (alike e g) =
     open_never rs (kinds_of h.records) read.goes_on (library_ends (kinds_of h.records) h.has) [] (ap kinds_of e ∙ sym (append-nil (kinds_of h.records)))
 apart_of bytes l f h rs at read wrong (first_ends r more e found) =
-    not_wrong bytes rs at r f found (begins_front rs r more ([], subst (Has library) (ap kinds_of e ∙ sym (append-nil (kinds_of (rs ++ r ∷ more)))) h.has)) (sound_at [] rs r more (subst (IsSound []) e h.sound)) wrong
+    not_wrong bytes rs at r f found
+    (begins_front rs r more ([], subst (Has library) (ap kinds_of e ∙ sym (append-nil (kinds_of (rs ++ r ∷ more)))) h.has))
+    (sound_at [] rs r more (subst (IsSound []) e h.sound)) wrong
 apart_of bytes l f h rs at read wrong (second_ends r more e found) =
     open_never rs (kinds_of h.records) read.goes_on (library_ends (kinds_of h.records) h.has) (kinds_of (r ∷ more)) (ap kinds_of e ∙ kinds_append h.records (r ∷ more))
 
@@ -207,13 +214,18 @@ same_wrong bytes rs at f g (refused r x e b w) (refused s y h c v) =
     let w1 : refusal rs s ≡ Some x = subst (λ (z : Record). refusal rs z ≡ Some x) same w in
     cc
 
-fault_of : (bytes : List ℕ) (f g : Fault) (rs : List Record) (at : ℕ) (qs : List Record) (to : ℕ) → IsReadTo bytes rs at → IsWrong bytes rs at f → IsReadTo bytes qs to → IsWrong bytes qs to g → Compared bytes 0 rs at qs to → f ≡ g
+fault_of : (bytes : List ℕ) (f g : Fault) (rs : List Record) (at : ℕ) (qs : List Record) (to : ℕ) → IsReadTo bytes rs at
+    → IsWrong bytes rs at f → IsReadTo bytes qs to → IsWrong bytes qs to g → Compared bytes 0 rs at qs to → f ≡ g
 fault_of bytes f g rs at qs to read wrong read2 wrong2 (alike e h) =
     same_wrong bytes rs at f g wrong (subst (λ (n : ℕ). IsWrong bytes rs n g) (sym h) (subst (λ (x : List Record). IsWrong bytes x to g) (sym e) wrong2))
 fault_of bytes f g rs at qs to read wrong read2 wrong2 (first_ends r more e found) =
-    absurd (not_wrong bytes rs at r f found (begins_front rs r more (subst (λ (x : List Record). Begins library (kinds_of x)) e read2.begins)) (sound_at [] rs r more (subst (IsSound []) e read2.sound)) wrong)
+    absurd (not_wrong bytes rs at r f found
+    (begins_front rs r more (subst (λ (x : List Record). Begins library (kinds_of x)) e read2.begins))
+    (sound_at [] rs r more (subst (IsSound []) e read2.sound)) wrong)
 fault_of bytes f g rs at qs to read wrong read2 wrong2 (second_ends r more e found) =
-    absurd (not_wrong bytes qs to r g found (begins_front qs r more (subst (λ (x : List Record). Begins library (kinds_of x)) e read.begins)) (sound_at [] qs r more (subst (IsSound []) e read.sound)) wrong2)
+    absurd (not_wrong bytes qs to r g found
+    (begins_front qs r more (subst (λ (x : List Record). Begins library (kinds_of x)) e read.begins))
+    (sound_at [] qs r more (subst (IsSound []) e read.sound)) wrong2)
 
 pub one_fault : (bytes : List ℕ) (f g : Fault) → IsFirstFault bytes f → IsFirstFault bytes g → f ≡ g
 one_fault bytes f g a b = fault_of bytes f g a.0 a.1 b.0 b.1 a.2 a.3 b.2 b.3 (compare bytes 0 a.0 a.1 b.0 b.1 a.2.lies b.2.lies)

@@ -1,5 +1,7 @@
 -- What one element of a structure says: to which structure it refers and how its copies stand, or which loops it draws, and what it can be refused for.
-use Rattle.std.specs.Prelude.{◌≡◌, ◌≢◌, ℕ, zero, suc, ◌+◌, ◌*◌, ◌/◌, Bool, true, not, ◌&&◌, ◌==◌, if◌then◌else◌, ℤ, pos, ◌+ℤ◌, ◌-ℤ◌, ◌*ℤ◌, ◌≤ℤ◌, List, [], ◌∷◌, ◌++◌, map, length, Option, Some, None, unwrap_or, unsigned_abs, bit_and, int_div, int_rem}
+use Rattle.std.specs.Prelude.{◌≡◌, ◌≢◌, ℕ, zero, suc, ◌+◌, ◌*◌, ◌/◌, Bool, true, not, ◌&&◌, ◌==◌, if◌then◌else◌, ℤ, pos, ◌+ℤ◌, ◌-ℤ◌, ◌*ℤ◌}
+use Rattle.std.specs.Prelude.{◌≤ℤ◌, List, [], ◌∷◌, ◌++◌, map, length, Option, Some, None, unwrap_or, unsigned_abs, bit_and, int_div}
+use Rattle.std.specs.Prelude.{int_rem}
 use Rattle.dpl_spec_split.specs.declared.Pt.{Pt}
 use Rattle.dpl_spec_elements.specs.Reals.{real_of, IsWhole, IsQuarterTurns, IsRightAngle}
 use Rattle.dpl_spec_elements.specs.Motions.{Motion}
@@ -10,7 +12,9 @@ use Rattle.dpl_spec_format.specs.Fields.{i32_at}
 use Rattle.dpl_spec_format.specs.Tree.{Trans, Path, Aref, Body, is_boundary, is_path, is_sref, is_aref, is_text, is_node, is_box}
 use Rattle.dpl_spec_layout.specs.declared.Layer.{Layer}
 use Rattle.dpl_spec_layout.specs.declared.ElementFault.{ElementFault}
-use Rattle.dpl_spec_layout.specs.declared.ElementFault.TheVariants.{AbsoluteTransform, Magnified, AngleNotRight, BadArray, SlantedBoundary, RoundPath, BadPathType, OddWidth, SlantedPath, PathTurnsBack, NegativeExtension}
+use Rattle.dpl_spec_layout.specs.declared.ElementFault.TheVariants.{AbsoluteTransform, Magnified, AngleNotRight, BadArray, SlantedBoundary}
+use Rattle.dpl_spec_layout.specs.declared.ElementFault.TheVariants.{RoundPath, BadPathType, OddWidth, SlantedPath, PathTurnsBack}
+use Rattle.dpl_spec_layout.specs.declared.ElementFault.TheVariants.{NegativeExtension}
 
 -- ---- points
 

@@ -21,7 +21,8 @@ module _ (roots : List ℕ) (odds : List Bool) (sides : List (ℕ × ℕ)) (cs d
   Agree n = (v : ℕ) → get_or roots v 0 < n → get_or cs v false ≡ get_or ds v false
 
   one-way : (root u v : ℕ) (wanted : Bool) → Agree root →
-      (crosses roots root u v && not (differ wanted (differ (get_or odds u false) (get_or cs v false)))) ≡ (crosses roots root u v && not (differ wanted (differ (get_or odds u false) (get_or ds v false))))
+      (crosses roots root u v && not (differ wanted (differ (get_or odds u false) (get_or cs v false)))) ≡ (crosses roots root u v && not
+      (differ wanted (differ (get_or odds u false) (get_or ds v false))))
   one-way root u v wanted agree =
       agree-within (eqb (get_or roots u 0) root) (ltb (get_or roots v 0) root) _ _
       (λ l. ap (λ c. not (differ wanted (differ (get_or odds u false) c))) (agree v (ltb-true _ _ l)))
@@ -29,8 +30,10 @@ module _ (roots : List ℕ) (odds : List Bool) (sides : List (ℕ × ℕ)) (cs d
   across-agree : (root : ℕ) (wanted : Bool) → Agree root → zones_across roots odds cs root wanted sides ≡ zones_across roots odds ds root wanted sides
   across-agree root wanted agree =
       count-agree _ _ (λ side.
-      ap (λ x. x || (crosses roots root side.1 side.0 && not (differ wanted (differ (get_or odds side.1 false) (get_or cs side.0 false))))) (one-way root side.0 side.1 wanted agree)
-      ∙ ap (λ y. (crosses roots root side.0 side.1 && not (differ wanted (differ (get_or odds side.0 false) (get_or ds side.1 false)))) || y) (one-way root side.1 side.0 wanted agree)) sides
+      ap (λ x. x || (crosses roots root side.1 side.0 && not (differ wanted (differ (get_or odds side.1 false) (get_or cs side.0 false)))))
+      (one-way root side.0 side.1 wanted agree)
+      ∙ ap (λ y. (crosses roots root side.0 side.1 && not (differ wanted (differ (get_or odds side.0 false) (get_or ds side.1 false)))) ||
+      y) (one-way root side.1 side.0 wanted agree)) sides
 
   flips-agree : (root : ℕ) → Agree root → is_flipped roots odds cs sides root ≡ is_flipped roots odds ds sides root
   flips-agree root agree = rw (across-agree root false agree, across-agree root true agree) refl

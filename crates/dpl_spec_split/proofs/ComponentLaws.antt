@@ -47,7 +47,8 @@ into a parts others c d part member =
     let linked : Linked a theirs.0 p = (theirs.2 p).0 held.4 in
     let squares : SameSquares (Covers other) (Covers part) =
     SameSquares-trans _ _ _ theirs.2 (SameSquares-trans _ _ _ (component-same a theirs.0 p linked) (SameSquares-sym _ _ mine.2)) in
-    let same : other ≡ part = canonical-unique other part (All-contains IsCanonical others other d.canonical other_in) (All-contains IsCanonical parts part c.canonical member) squares in
+    let same : other ≡ part = canonical-unique other part (All-contains IsCanonical others other d.canonical other_in)
+    (All-contains IsCanonical parts part c.canonical member) squares in
     subst (λ s. Contains others s) same other_in
 
 pub components-unique : (a : Region) (parts others : List (List Rect)) → AreComponents a parts → AreComponents a others → parts ≡ others

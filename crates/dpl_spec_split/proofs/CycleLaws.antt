@@ -40,12 +40,16 @@ meet-unique : (top other : ℕ) (us vs ws xs : List ℕ) → Compared top other 
     → ((k : ℕ) → k < length us → slice_index us k ≢ slice_index vs k) → ((k : ℕ) → k < length ws → slice_index ws k ≢ slice_index xs k)
     → (top ≡ other) × (us ≡ ws) × (vs ≡ xs)
 meet-unique top other us vs ws xs (same t a) (same s b) l m p q = (t, a, b)
-meet-unique top other us vs ws xs (same t a) (shorter n b) l m p q = absurd (let e : length us ≡ length ws = ap (λ ys. let zs : List ℕ = ys in length zs) a in omega (arith, e, l, m, n))
-meet-unique top other us vs ws xs (same t a) (longer n b) l m p q = absurd (let e : length us ≡ length ws = ap (λ ys. let zs : List ℕ = ys in length zs) a in omega (arith, e, l, m, n))
-meet-unique top other us vs ws xs (shorter n a) (same s b) l m p q = absurd (let e : length vs ≡ length xs = ap (λ ys. let zs : List ℕ = ys in length zs) b in omega (arith, e, l, m, n))
+meet-unique top other us vs ws xs (same t a) (shorter n b) l m p q = absurd
+    (let e : length us ≡ length ws = ap (λ ys. let zs : List ℕ = ys in length zs) a in omega (arith, e, l, m, n))
+meet-unique top other us vs ws xs (same t a) (longer n b) l m p q = absurd
+    (let e : length us ≡ length ws = ap (λ ys. let zs : List ℕ = ys in length zs) a in omega (arith, e, l, m, n))
+meet-unique top other us vs ws xs (shorter n a) (same s b) l m p q = absurd
+    (let e : length vs ≡ length xs = ap (λ ys. let zs : List ℕ = ys in length zs) b in omega (arith, e, l, m, n))
 meet-unique top other us vs ws xs (shorter n a) (shorter o b) l m p q = absurd (q (length us) n (a ∙ (sym b ∙ ap (λ k. get_or xs k 0) (sym l))))
 meet-unique top other us vs ws xs (shorter n a) (longer o b) l m p q = absurd (omega (arith, n, o, l, m))
-meet-unique top other us vs ws xs (longer n a) (same s b) l m p q = absurd (let e : length vs ≡ length xs = ap (λ ys. let zs : List ℕ = ys in length zs) b in omega (arith, e, l, m, n))
+meet-unique top other us vs ws xs (longer n a) (same s b) l m p q = absurd
+    (let e : length vs ≡ length xs = ap (λ ys. let zs : List ℕ = ys in length zs) b in omega (arith, e, l, m, n))
 meet-unique top other us vs ws xs (longer n a) (shorter o b) l m p q = absurd (omega (arith, n, o, l, m))
 meet-unique top other us vs ws xs (longer n a) (longer o b) l m p q = absurd (p (length ws) n (a ∙ (sym b ∙ ap (λ k. get_or vs k 0) (sym m))))
 
@@ -62,7 +66,9 @@ cycle-unique joined c d a b =
     let on : IsLevelEdge joined a.root b.edge = subst (λ r. IsLevelEdge joined r b.edge) (sym root) b.on in
     let back : IsLevelEdge joined b.root a.edge = subst (λ r. IsLevelEdge joined r a.edge) root a.on in
     let edge : a.edge ≡ b.edge = edges-one a.edge b.edge (a.least b.edge on) (b.least a.edge back) in
-    let first : Climb joined a.root b.top a.edge.0 b.us = subst (λ r. Climb joined r b.top a.edge.0 b.us) (sym root) (subst (λ e. let f : ℕ × ℕ = e in Climb joined b.root b.top f.0 b.us) (sym edge) b.first) in
-    let second : Climb joined a.root b.top a.edge.1 b.vs = subst (λ r. Climb joined r b.top a.edge.1 b.vs) (sym root) (subst (λ e. let f : ℕ × ℕ = e in Climb joined b.root b.top f.1 b.vs) (sym edge) b.second) in
+    let first : Climb joined a.root b.top a.edge.0 b.us = subst (λ r. Climb joined r b.top a.edge.0 b.us) (sym root)
+    (subst (λ e. let f : ℕ × ℕ = e in Climb joined b.root b.top f.0 b.us) (sym edge) b.first) in
+    let second : Climb joined a.root b.top a.edge.1 b.vs = subst (λ r. Climb joined r b.top a.edge.1 b.vs) (sym root)
+    (subst (λ e. let f : ℕ × ℕ = e in Climb joined b.root b.top f.1 b.vs) (sym edge) b.second) in
     let one = meet-unique a.top b.top a.us a.vs b.us b.vs (compare joined a.root a.first first) (compare joined a.root a.second second) a.meet b.meet a.apart b.apart in
     a.is ∙ (ap (λ t. t ∷ reverse a.us ++ a.vs) one.0 ∙ (ap (λ xs. b.top ∷ reverse xs ++ a.vs) one.1 ∙ (ap (λ ys. b.top ∷ reverse b.us ++ ys) one.2 ∙ sym b.is)))

@@ -37,7 +37,8 @@ closed a parts k p q c k_in in_a has touch =
     let q_in : a q = (c.together q).0 (k, get_or parts k [], k_in, get_or_default parts k (get_or parts k []) [] k_in, has) in
     (whole.2 p).1 (Linked-trans a linked (on q_in (Touch-sym p q touch) (here in_a)))
 
-module _ (rule overlap : ℕ) (layer : Region) (features pieces : List (List Rect)) (zones : List Zone) (c : AreComponents layer features) (zs : AreZones rule overlap layer features zones) (ps : AreComponents (without layer zones) pieces) where
+module _ (rule overlap : ℕ) (layer : Region) (features pieces : List (List Rect)) (zones : List Zone) (c : AreComponents layer features)
+    (zs : AreZones rule overlap layer features zones) (ps : AreComponents (without layer zones) pieces) where
   -- linked squares lie in one piece
   piece-same : (i j : ℕ) (p q : Pt) → i < length pieces → j < length pieces → part_at pieces i p → part_at pieces j q → Linked (without layer zones) p q → i ≡ j
   piece-same i j p q i_in j_in in_i in_j linked =
@@ -74,7 +75,9 @@ module _ (rule overlap : ℕ) (layer : Region) (features pieces : List (List Rec
     not-in-zone p rest has = let (n, n_in, n_is) = z_in in rest.1 (n, z, n_in, n_is, has)
 
     -- beside a horizontal zone, in its rows, the rest goes on
-    rest-across : (h : IsHorizontalZone rule overlap layer (part_at features z.feature) z.rect) (x y : ℤ) → ((x +ℤ pos 1 ≡ z.rect.x0) ⊎ (x ≡ z.rect.x1)) → z.rect.x0 <ℤ z.rect.x1 → z.rect.y0 ≤ℤ y → y <ℤ z.rect.y1 → without layer zones (at x y)
+    rest-across : (h : IsHorizontalZone rule overlap layer (part_at features z.feature) z.rect) (x y : ℤ)
+        → ((x +ℤ pos 1 ≡ z.rect.x0) ⊎ (x ≡ z.rect.x1)) → z.rect.x0 <ℤ z.rect.x1 → z.rect.y0 ≤ℤ y → y <ℤ z.rect.y1
+        → without layer zones (at x y)
     rest-across h x y side wide from below =
         let left : z.rect.x0 ≤ℤ (x +ℤ pos 1) = elim side [ inl e ↦ omega (arith, ints, e) | inr e ↦ omega (arith, ints, e, wide) ] in
         let right : x ≤ℤ z.rect.x1 = elim side [ inl e ↦ omega (arith, ints, e, wide) | inr e ↦ omega (arith, ints, e) ] in
@@ -86,14 +89,31 @@ module _ (rule overlap : ℕ) (layer : Region) (features pieces : List (List Rec
                 elim side [ inl e ↦ omega (arith, ints, e, mine.left) | inr e ↦ omega (arith, ints, e, mine.right) ])
             | inr (v, apart) ↦ apart z.rect h
                 (elim side [
-                  | inl e ↦ (at z.rect.x0 y, at x y, record { left = omega (arith, ints); right = wide; low = from; high = below }, has, Touch-from_close (at z.rect.x0 y) (at x y) (omega (arith, ints, e)) (omega (arith, ints, e)) (omega (arith, ints)) (omega (arith, ints)))
-                  | inr e ↦ (at (z.rect.x1 -ℤ pos 1) y, at x y, record { left = omega (arith, ints, wide); right = omega (arith, ints); low = from; high = below }, has, Touch-from_close (at (z.rect.x1 -ℤ pos 1) y) (at x y) (omega (arith, ints, e)) (omega (arith, ints, e)) (omega (arith, ints)) (omega (arith, ints)))
+                  | inl e ↦ (
+                    at z.rect.x0 y,
+                    at x y,
+                    record { left = omega (arith, ints); right = wide; low = from; high = below },
+                    has,
+                    Touch-from_close (at z.rect.x0 y) (at x y) (omega (arith, ints, e)) (omega (arith, ints, e)) (omega (arith, ints))
+                        (omega (arith, ints)),
+                  )
+                  | inr e ↦ (
+                    at (z.rect.x1 -ℤ pos 1) y,
+                    at x y,
+                    record { left = omega (arith, ints, wide); right = omega (arith, ints); low = from; high = below },
+                    has,
+                    Touch-from_close (at (z.rect.x1 -ℤ pos 1) y) (at x y) (omega (arith, ints, e)) (omega (arith, ints, e))
+                        (omega (arith, ints)) (omega (arith, ints)),
+                  )
                 ])
           ],
         )
 
     -- beside a vertical zone, in its columns, the rest goes on
-    rest-up : (h : IsVerticalZone rule overlap layer (part_at features z.feature) z.rect) (none : (r : Rect) → IsHorizontalZone rule overlap layer (part_at features z.feature) r → ¬ AreTouching (Has r) (Has z.rect)) (x y : ℤ) → ((y +ℤ pos 1 ≡ z.rect.y0) ⊎ (y ≡ z.rect.y1)) → z.rect.y0 <ℤ z.rect.y1 → z.rect.x0 ≤ℤ x → x <ℤ z.rect.x1 → without layer zones (at x y)
+    rest-up : (h : IsVerticalZone rule overlap layer (part_at features z.feature) z.rect) (none : (r : Rect)
+        → IsHorizontalZone rule overlap layer (part_at features z.feature) r → ¬ AreTouching (Has r) (Has z.rect)) (x y : ℤ)
+        → ((y +ℤ pos 1 ≡ z.rect.y0) ⊎ (y ≡ z.rect.y1)) → z.rect.y0 <ℤ z.rect.y1 → z.rect.x0 ≤ℤ x → x <ℤ z.rect.x1
+        → without layer zones (at x y)
     rest-up h none x y side tall from below =
         let low : z.rect.y0 ≤ℤ (y +ℤ pos 1) = elim side [ inl e ↦ omega (arith, ints, e) | inr e ↦ omega (arith, ints, e, tall) ] in
         let high : y ≤ℤ z.rect.y1 = elim side [ inl e ↦ omega (arith, ints, e, tall) | inr e ↦ omega (arith, ints, e) ] in
@@ -102,11 +122,28 @@ module _ (rule overlap : ℕ) (layer : Region) (features pieces : List (List Rec
           λ (n, w, n_in, n_is, has). elim (zone-of w z.feature (at x y) (n, n_in, n_is) feature_in in_f has) [
             | inl k ↦ none w.rect k
                 (elim side [
-                  | inl e ↦ (at x y, at x z.rect.y0, has, record { left = from; right = below; low = omega (arith, ints); high = tall }, Touch-from_close (at x y) (at x z.rect.y0) (omega (arith, ints)) (omega (arith, ints)) (omega (arith, ints, e)) (omega (arith, ints, e)))
-                  | inr e ↦ (at x y, at x (z.rect.y1 -ℤ pos 1), has, record { left = from; right = below; low = omega (arith, ints, tall); high = omega (arith, ints) }, Touch-from_close (at x y) (at x (z.rect.y1 -ℤ pos 1)) (omega (arith, ints)) (omega (arith, ints)) (omega (arith, ints, e)) (omega (arith, ints, e)))
+                  | inl e ↦ (
+                    at x y,
+                    at x z.rect.y0,
+                    has,
+                    record { left = from; right = below; low = omega (arith, ints); high = tall },
+                    Touch-from_close (at x y) (at x z.rect.y0) (omega (arith, ints)) (omega (arith, ints)) (omega (arith, ints, e))
+                        (omega (arith, ints, e)),
+                  )
+                  | inr e ↦ (
+                    at x y,
+                    at x (z.rect.y1 -ℤ pos 1),
+                    has,
+                    record { left = from; right = below; low = omega (arith, ints, tall); high = omega (arith, ints) },
+                    Touch-from_close (at x y) (at x (z.rect.y1 -ℤ pos 1)) (omega (arith, ints)) (omega (arith, ints))
+                        (omega (arith, ints, e)) (omega (arith, ints, e)),
+                  )
                 ])
-            | inr (v, apart) ↦ (let same : turned_rect z.rect ≡ turned_rect w.rect = beside-same rule (turned layer) (turned (part_at features z.feature)) overlap (turned_rect z.rect) (turned_rect w.rect) h v y x low high from below (record { left = has.low; right = has.high; low = has.left; high = has.right }) in
-                let mine : Has (turned_rect z.rect) (at y x) = subst (λ r. Has r (at y x)) (sym same) (record { left = has.low; right = has.high; low = has.left; high = has.right }) in
+            | inr (v, apart) ↦ (let same : turned_rect z.rect ≡ turned_rect w.rect = beside-same rule (turned layer)
+                (turned (part_at features z.feature)) overlap (turned_rect z.rect) (turned_rect w.rect) h v y x low high from below
+                (record { left = has.low; right = has.high; low = has.left; high = has.right }) in
+                let mine : Has (turned_rect z.rect) (at y x) = subst (λ r. Has r (at y x)) (sym same)
+                (record { left = has.low; right = has.high; low = has.left; high = has.right }) in
                 elim side [ inl e ↦ omega (arith, ints, e, mine.left) | inr e ↦ omega (arith, ints, e, mine.right) ])
           ],
         )
@@ -115,7 +152,8 @@ module _ (rule overlap : ℕ) (layer : Region) (features pieces : List (List Rec
     touches-at : (p q : Pt) → without layer zones p → Has z.rect q → Touch p q → part_at features z.feature p
     touches-at p q rest has touch = closed layer features z.feature p q c feature_in rest.0 (kept-inside (part_at features z.feature) z.rect q (kept z z_in).1 has) touch
 
-    across-place : (h : IsHorizontalZone rule overlap layer (part_at features z.feature) z.rect) (p q : Pt) → without layer zones p → Has z.rect q → Touch p q → (z.rect.y0 ≤ℤ p.y) × (p.y <ℤ z.rect.y1) × ((p.x +ℤ pos 1 ≡ z.rect.x0) ⊎ (p.x ≡ z.rect.x1))
+    across-place : (h : IsHorizontalZone rule overlap layer (part_at features z.feature) z.rect) (p q : Pt) → without layer zones p
+        → Has z.rect q → Touch p q → (z.rect.y0 ≤ℤ p.y) × (p.y <ℤ z.rect.y1) × ((p.x +ℤ pos 1 ≡ z.rect.x0) ⊎ (p.x ≡ z.rect.x1))
     across-place h p q rest has touch =
         let (left, right, from, below) = touching-beside rule layer (part_at features z.feature) overlap z.rect h p q (touches-at p q rest has touch) has touch in (
           from,
@@ -124,11 +162,14 @@ module _ (rule overlap : ℕ) (layer : Region) (features pieces : List (List Rec
               (λ l. by_lt_z p.x z.rect.x1 (λ m. absurd (not-in-zone p rest (record { left = l; right = m; low = from; high = below }))) (λ m. inr (omega (arith, ints, m, right)))),
         )
 
-    up-place : (h : IsVerticalZone rule overlap layer (part_at features z.feature) z.rect) (p q : Pt) → without layer zones p → Has z.rect q → Touch p q → (z.rect.x0 ≤ℤ p.x) × (p.x <ℤ z.rect.x1) × ((p.y +ℤ pos 1 ≡ z.rect.y0) ⊎ (p.y ≡ z.rect.y1))
+    up-place : (h : IsVerticalZone rule overlap layer (part_at features z.feature) z.rect) (p q : Pt) → without layer zones p
+        → Has z.rect q → Touch p q → (z.rect.x0 ≤ℤ p.x) × (p.x <ℤ z.rect.x1) × ((p.y +ℤ pos 1 ≡ z.rect.y0) ⊎ (p.y ≡ z.rect.y1))
     up-place h p q rest has touch =
         let close = close-from_touch p q touch in
-        let (low, high, from, below) = touching-beside rule (turned layer) (turned (part_at features z.feature)) overlap (turned_rect z.rect) h (at p.y p.x) (at q.y q.x) (touches-at p q rest has touch)
-        (record { left = has.low; right = has.high; low = has.left; high = has.right }) (Touch-from_close (at p.y p.x) (at q.y q.x) close.low close.high close.left close.right) in (
+        let (low, high, from, below) = touching-beside rule (turned layer) (turned (part_at features z.feature)) overlap
+        (turned_rect z.rect) h (at p.y p.x) (at q.y q.x) (touches-at p q rest has touch)
+        (record { left = has.low; right = has.high; low = has.left; high = has.right })
+        (Touch-from_close (at p.y p.x) (at q.y q.x) close.low close.high close.left close.right) in (
           from,
           below,
           by_lt_z p.y z.rect.y0 (λ l. inl (omega (arith, ints, l, low)))
@@ -142,20 +183,29 @@ module _ (rule overlap : ℕ) (layer : Region) (features pieces : List (List Rec
     tall q has = omega (arith, ints, has.low, has.high)
 
     -- two squares beside the zone in one column, or in one row, are linked in the rest
-    column-linked : (h : IsHorizontalZone rule overlap layer (part_at features z.feature) z.rect) (x : ℤ) (p q : Pt) → ((x +ℤ pos 1 ≡ z.rect.x0) ⊎ (x ≡ z.rect.x1)) → z.rect.x0 <ℤ z.rect.x1 → p.x ≡ x → q.x ≡ x → z.rect.y0 ≤ℤ p.y → p.y <ℤ z.rect.y1 → z.rect.y0 ≤ℤ q.y → q.y <ℤ z.rect.y1 → Linked (without layer zones) p q
+    column-linked : (h : IsHorizontalZone rule overlap layer (part_at features z.feature) z.rect) (x : ℤ) (p q : Pt)
+        → ((x +ℤ pos 1 ≡ z.rect.x0) ⊎ (x ≡ z.rect.x1)) → z.rect.x0 <ℤ z.rect.x1 → p.x ≡ x → q.x ≡ x → z.rect.y0 ≤ℤ p.y → p.y <ℤ z.rect.y1
+        → z.rect.y0 ≤ℤ q.y → q.y <ℤ z.rect.y1 → Linked (without layer zones) p q
     column-linked h x p q side w e g a b c' d =
-        let line = linked-along (without layer zones) (λ i. at x i) (λ i. Touch-from_close (at x i) (at x (i +ℤ pos 1)) (omega (arith, ints)) (omega (arith, ints)) (omega (arith, ints)) (omega (arith, ints)))
+        let line = linked-along (without layer zones) (λ i. at x i) (λ i. Touch-from_close (at x i) (at x (i +ℤ pos 1))
+        (omega (arith, ints)) (omega (arith, ints)) (omega (arith, ints)) (omega (arith, ints)))
         z.rect.y0 z.rect.y1 (λ i l m. rest-across h x i side w l m) p.y q.y a b c' d in
         subst (λ t. Linked (without layer zones) t q) (ap (λ k. at k p.y) (sym e)) (subst (λ t. Linked (without layer zones) (at x p.y) t) (ap (λ k. at k q.y) (sym g)) line)
 
-    row-linked : (h : IsVerticalZone rule overlap layer (part_at features z.feature) z.rect) (none : (r : Rect) → IsHorizontalZone rule overlap layer (part_at features z.feature) r → ¬ AreTouching (Has r) (Has z.rect)) (y : ℤ) (p q : Pt) → ((y +ℤ pos 1 ≡ z.rect.y0) ⊎ (y ≡ z.rect.y1)) → z.rect.y0 <ℤ z.rect.y1 → p.y ≡ y → q.y ≡ y → z.rect.x0 ≤ℤ p.x → p.x <ℤ z.rect.x1 → z.rect.x0 ≤ℤ q.x → q.x <ℤ z.rect.x1 → Linked (without layer zones) p q
+    row-linked : (h : IsVerticalZone rule overlap layer (part_at features z.feature) z.rect) (none : (r : Rect)
+        → IsHorizontalZone rule overlap layer (part_at features z.feature) r → ¬ AreTouching (Has r) (Has z.rect)) (y : ℤ) (p q : Pt)
+        → ((y +ℤ pos 1 ≡ z.rect.y0) ⊎ (y ≡ z.rect.y1)) → z.rect.y0 <ℤ z.rect.y1 → p.y ≡ y → q.y ≡ y → z.rect.x0 ≤ℤ p.x → p.x <ℤ z.rect.x1
+        → z.rect.x0 ≤ℤ q.x → q.x <ℤ z.rect.x1 → Linked (without layer zones) p q
     row-linked h none y p q side t e g a b c' d =
-        let line = linked-along (without layer zones) (λ i. at i y) (λ i. Touch-from_close (at i y) (at (i +ℤ pos 1) y) (omega (arith, ints)) (omega (arith, ints)) (omega (arith, ints)) (omega (arith, ints)))
+        let line = linked-along (without layer zones) (λ i. at i y) (λ i. Touch-from_close (at i y) (at (i +ℤ pos 1) y)
+        (omega (arith, ints)) (omega (arith, ints)) (omega (arith, ints)) (omega (arith, ints)))
         z.rect.x0 z.rect.x1 (λ i l m. rest-up h none i y side t l m) p.x q.x a b c' d in
         subst (λ s. Linked (without layer zones) s q) (ap (λ k. at p.x k) (sym e)) (subst (λ s. Linked (without layer zones) (at p.x y) s) (ap (λ k. at q.x k) (sym g)) line)
 
     -- squares of the rest that touch the zone from the left or from below are linked
-    first-linked : IsKeptZone rule overlap layer (part_at features z.feature) z.rect → (p q r s : Pt) → without layer zones p → Has z.rect q → Touch p q → (p.x <ℤ z.rect.x0) ⊎ (p.y <ℤ z.rect.y0) → without layer zones r → Has z.rect s → Touch r s → (r.x <ℤ z.rect.x0) ⊎ (r.y <ℤ z.rect.y0) → Linked (without layer zones) p r
+    first-linked : IsKeptZone rule overlap layer (part_at features z.feature) z.rect → (p q r s : Pt) → without layer zones p
+        → Has z.rect q → Touch p q → (p.x <ℤ z.rect.x0) ⊎ (p.y <ℤ z.rect.y0) → without layer zones r → Has z.rect s → Touch r s
+        → (r.x <ℤ z.rect.x0) ⊎ (r.y <ℤ z.rect.y0) → Linked (without layer zones) p r
     first-linked (inl h) p q r s a b t u d e v w =
         let (pa, pb, pc) = across-place h p q a b t in
         let (ra, rb, rc) = across-place h r s d e v in
@@ -171,7 +221,9 @@ module _ (rule overlap : ℕ) (layer : Region) (features pieces : List (List Rec
         let ry : r.y +ℤ pos 1 ≡ z.rect.y0 = elim rc [ inl k ↦ k | inr k ↦ absurd (elim w [ inl l ↦ omega (arith, ints, l, ra) | inr l ↦ omega (arith, ints, k, l, tz) ]) ] in
         row-linked h none p.y p r (inl py) tz refl (omega (arith, ints, py, ry)) pa pb ra rb
 
-    second-linked : IsKeptZone rule overlap layer (part_at features z.feature) z.rect → (p q r s : Pt) → without layer zones p → Has z.rect q → Touch p q → (z.rect.x1 ≤ℤ p.x) ⊎ (z.rect.y1 ≤ℤ p.y) → without layer zones r → Has z.rect s → Touch r s → (z.rect.x1 ≤ℤ r.x) ⊎ (z.rect.y1 ≤ℤ r.y) → Linked (without layer zones) p r
+    second-linked : IsKeptZone rule overlap layer (part_at features z.feature) z.rect → (p q r s : Pt) → without layer zones p
+        → Has z.rect q → Touch p q → (z.rect.x1 ≤ℤ p.x) ⊎ (z.rect.y1 ≤ℤ p.y) → without layer zones r → Has z.rect s → Touch r s
+        → (z.rect.x1 ≤ℤ r.x) ⊎ (z.rect.y1 ≤ℤ r.y) → Linked (without layer zones) p r
     second-linked (inl h) p q r s a b t u d e v w =
         let (pa, pb, pc) = across-place h p q a b t in
         let (ra, rb, rc) = across-place h r s d e v in
@@ -204,7 +256,8 @@ module _ (rule overlap : ℕ) (layer : Region) (features pieces : List (List Rec
       ap (λ x. (x, s.1)) one ∙ ap (λ y. (t.0, y)) two
 
 -- a layer has one decomposition
-pub decomposition-unique : (rule overlap : ℕ) (layer : Region) (c d : Cut) (x y : Answer) → IsDecomposition rule overlap layer c x → IsDecomposition rule overlap layer d y → (c ≡ d) × (x ≡ y)
+pub decomposition-unique : (rule overlap : ℕ) (layer : Region) (c d : Cut) (x y : Answer) → IsDecomposition rule overlap layer c x
+    → IsDecomposition rule overlap layer d y → (c ≡ d) × (x ≡ y)
 decomposition-unique rule overlap layer c d x y a b =
     let cut : c ≡ d = cut-unique rule overlap layer c d
     (sides-unique rule overlap layer c.features c.pieces c.zones a.0.features a.0.zones a.0.pieces.components) a.0 b.0 in

@@ -49,7 +49,11 @@ none_left rs r q c in_r low high beside covered =
     let other : Rect = found.0 in
     let has : Has other q = found.2 in
     let solid : IsSolid r = All-contains IsSolid rs r c.solid in_r in
-    let same : other ≡ r = meet_is_same rs other r c found.1 in_r (omega (arith, ints, has.low, has.high), omega (arith, ints, has.low, has.high)) (omega (arith, ints, has.left, has.right, solid.wide)) (omega (arith, ints, has.left, has.right, solid.wide)) in
+    let same : other ≡ r = meet_is_same rs other r c found.1 in_r (
+      omega (arith, ints, has.low, has.high),
+      omega (arith, ints, has.low, has.high),
+    ) (omega (arith, ints, has.left, has.right, solid.wide))
+    (omega (arith, ints, has.left, has.right, solid.wide)) in
     let again : Has r q = subst (λ s. Has s q) same has in
     omega (arith, ints, again.left)
 
@@ -60,7 +64,11 @@ none_right rs r q c in_r low high beside covered =
     let other : Rect = found.0 in
     let has : Has other q = found.2 in
     let solid : IsSolid r = All-contains IsSolid rs r c.solid in_r in
-    let same : other ≡ r = meet_is_same rs other r c found.1 in_r (omega (arith, ints, has.low, has.high), omega (arith, ints, has.low, has.high)) (omega (arith, ints, has.left, has.right, solid.wide)) (omega (arith, ints, has.left, has.right, solid.wide)) in
+    let same : other ≡ r = meet_is_same rs other r c found.1 in_r (
+      omega (arith, ints, has.low, has.high),
+      omega (arith, ints, has.low, has.high),
+    ) (omega (arith, ints, has.left, has.right, solid.wide))
+    (omega (arith, ints, has.left, has.right, solid.wide)) in
     let again : Has r q = subst (λ s. Has s q) same has in
     omega (arith, ints, again.right)
 
@@ -102,7 +110,8 @@ module _ (rs ss : List Rect) (cr : IsCanonical rs) (cs : IsCanonical ss) (into :
   none_below r t q in_r in_t same has beside =
       let solid : IsSolid r = All-contains IsSolid rs r cr.solid in_r in
       by_lt_z r.y0 t.y1
-      (λ l. let one : t ≡ r = meet_is_same rs t r cr in_t in_r (omega (arith, ints, has.low, solid.tall), l) (omega (arith, ints, same.left, same.right, solid.wide)) (omega (arith, ints, same.left, same.right, solid.wide)) in
+      (λ l. let one : t ≡ r = meet_is_same rs t r cr in_t in_r (omega (arith, ints, has.low, solid.tall), l)
+      (omega (arith, ints, same.left, same.right, solid.wide)) (omega (arith, ints, same.left, same.right, solid.wide)) in
       let again : Has r q = subst (λ u. Has u q) one has in
       omega (arith, ints, again.low))
       (λ h. elim (members_cases Follows rs t r cr.follow in_t in_r) [
@@ -129,7 +138,8 @@ module _ (rs ss : List Rect) (cr : IsCanonical rs) (cs : IsCanonical ss) (into :
   none_above r t q in_r in_t same has beside =
       let solid : IsSolid r = All-contains IsSolid rs r cr.solid in_r in
       by_lt_z t.y0 r.y1
-      (λ l. let one : t ≡ r = meet_is_same rs t r cr in_t in_r (l, omega (arith, ints, has.high, solid.tall)) (omega (arith, ints, same.left, same.right, solid.wide)) (omega (arith, ints, same.left, same.right, solid.wide)) in
+      (λ l. let one : t ≡ r = meet_is_same rs t r cr in_t in_r (l, omega (arith, ints, has.high, solid.tall))
+      (omega (arith, ints, same.left, same.right, solid.wide)) (omega (arith, ints, same.left, same.right, solid.wide)) in
       let again : Has r q = subst (λ u. Has u q) one has in
       omega (arith, ints, again.high))
       (λ h. elim (members_cases Follows rs t r cr.follow in_t in_r) [
@@ -155,10 +165,13 @@ module _ (rs ss : List Rect) (cr : IsCanonical rs) (cs : IsCanonical ss) (into :
 pub same_rect : (r s : Rect) → r.x0 ≡ s.x0 → r.y0 ≡ s.y0 → r.x1 ≡ s.x1 → r.y1 ≡ s.y1 → r ≡ s
 same_rect r s a b c d =
     let of_corners : ℤ → ℤ → ℤ → ℤ → Rect = λ x0 y0 x1 y1. record { x0 = x0; y0 = y0; x1 = x1; y1 = y1 } in
-    ap (λ x0. of_corners x0 r.y0 r.x1 r.y1) a ∙ (ap (λ y0. of_corners s.x0 y0 r.x1 r.y1) b ∙ (ap (λ x1. of_corners s.x0 s.y0 x1 r.y1) c ∙ ap (λ y1. of_corners s.x0 s.y0 s.x1 y1) d))
+    ap (λ x0. of_corners x0 r.y0 r.x1 r.y1) a
+    ∙ (ap (λ y0. of_corners s.x0 y0 r.x1 r.y1) b
+    ∙ (ap (λ x1. of_corners s.x0 s.y0 x1 r.y1) c ∙ ap (λ y1. of_corners s.x0 s.y0 s.x1 y1) d))
 
 -- each slab of one list is a slab of the other
-members_into : (rs ss : List Rect) → IsCanonical rs → IsCanonical ss → ((q : Pt) → Covers rs q → Covers ss q) → ((q : Pt) → Covers ss q → Covers rs q) → (r : Rect) → Contains rs r → Contains ss r
+members_into : (rs ss : List Rect) → IsCanonical rs → IsCanonical ss → ((q : Pt) → Covers rs q → Covers ss q)
+    → ((q : Pt) → Covers ss q → Covers rs q) → (r : Rect) → Contains rs r → Contains ss r
 members_into rs ss cr cs into back r in_r =
     let solid : IsSolid r = All-contains IsSolid rs r cr.solid in_r in
     let p : Pt = at r.x0 r.y0 in

@@ -30,7 +30,8 @@ not_before_itself s f =
     Precedes-strict f.second f.second itself itself
 
 -- a square lies in one component
-pub part-unique : (a : Region) (parts : List (List Rect)) (i j : ℕ) (p : Pt) → AreComponents a parts → i < length parts → j < length parts → part_at parts i p → part_at parts j p → i ≡ j
+pub part-unique : (a : Region) (parts : List (List Rect)) (i j : ℕ) (p : Pt) → AreComponents a parts → i < length parts → j < length parts
+    → part_at parts i p → part_at parts j p → i ≡ j
 part-unique a parts i j p c i_in j_in in_i in_j =
     let mine = c.whole i [] i_in in
     let theirs = c.whole j [] j_in in
@@ -45,7 +46,8 @@ part-unique a parts i j p c i_in j_in in_i in_j =
       ]
     ]
 
-zip-unique : {A B : Type 0} (R : A → B → Type 0) (xs : List A) (ys zs : List B) → ((x : A) (y z : B) → Contains xs x → R x y → R x z → y ≡ z) → AllZip R xs ys → AllZip R xs zs → ys ≡ zs
+zip-unique : {A B : Type 0} (R : A → B → Type 0) (xs : List A) (ys zs : List B) → ((x : A) (y z : B) → Contains xs x → R x y → R x z
+    → y ≡ z) → AllZip R xs ys → AllZip R xs zs → ys ≡ zs
 zip-unique R [] [] [] one a b = refl
 zip-unique R [] [] (z ∷ zs) one a b = absurd b
 zip-unique R [] (y ∷ ys) zs one a b = absurd a
@@ -62,7 +64,8 @@ SidesAreUnique features pieces zones = (z : Zone) (s t : ℕ × ℕ) → Contain
 
 same_cut : (c d : Cut) → c.features ≡ d.features → c.zones ≡ d.zones → c.pieces ≡ d.pieces → c.owners ≡ d.owners → c.keys ≡ d.keys → c.sides ≡ d.sides → c ≡ d
 same_cut c d a b e f g h =
-    let of_parts : List (List Rect) → List Zone → List (List Rect) → List ℕ → List Pt → List (ℕ × ℕ) → Cut = λ x y z u v w. record { features = x; zones = y; pieces = z; owners = u; keys = v; sides = w } in
+    let of_parts : List (List Rect) → List Zone → List (List Rect) → List ℕ → List Pt → List (ℕ × ℕ)
+    → Cut = λ x y z u v w. record { features = x; zones = y; pieces = z; owners = u; keys = v; sides = w } in
     ap (λ x. of_parts x c.zones c.pieces c.owners c.keys c.sides) a
     ∙ (ap (λ x. of_parts d.features x c.pieces c.owners c.keys c.sides) b
     ∙ (ap (λ x. of_parts d.features d.zones x c.owners c.keys c.sides) e
@@ -73,9 +76,11 @@ same_cut c d a b e f g h =
 pub cut-unique : (rule overlap : ℕ) (layer : Region) (c d : Cut) → SidesAreUnique c.features c.pieces c.zones → IsCut rule overlap layer c → IsCut rule overlap layer d → c ≡ d
 cut-unique rule overlap layer c d one a b =
     let features : c.features ≡ d.features = components-unique layer c.features d.features a.features b.features in
-    let zones : c.zones ≡ d.zones = zones-unique rule overlap layer c.features c.zones d.zones a.zones (subst (λ f. AreZones rule overlap layer f d.zones) (sym features) b.zones) in
+    let zones : c.zones ≡ d.zones = zones-unique rule overlap layer c.features c.zones d.zones a.zones
+    (subst (λ f. AreZones rule overlap layer f d.zones) (sym features) b.zones) in
     let p : ArePieces layer c.features c.zones d.pieces d.owners d.keys d.sides =
-    subst (λ z. ArePieces layer c.features z d.pieces d.owners d.keys d.sides) (sym zones) (subst (λ f. ArePieces layer f d.zones d.pieces d.owners d.keys d.sides) (sym features) b.pieces) in
+    subst (λ z. ArePieces layer c.features z d.pieces d.owners d.keys d.sides) (sym zones)
+    (subst (λ f. ArePieces layer f d.zones d.pieces d.owners d.keys d.sides) (sym features) b.pieces) in
     let pieces : c.pieces ≡ d.pieces = components-unique (without layer c.zones) c.pieces d.pieces a.pieces.components p.components in
     let q : ArePieces layer c.features c.zones c.pieces d.owners d.keys d.sides = subst (λ x. ArePieces layer c.features c.zones x d.owners d.keys d.sides) (sym pieces) p in
     let owners : c.owners ≡ d.owners = zip-unique (IsOwner c.features) c.pieces c.owners d.owners
@@ -98,7 +103,8 @@ same_masks m n a b s =
 masks-unique : (rule : ℕ) (c : Cut) (m n : Masks) → AreMasks rule c m → AreMasks rule c n → m ≡ n
 masks-unique rule c m n a b =
     let rooted = roots-unique (conflicts rule c) (length c.pieces) a.roots b.roots a.odds b.odds a.rooted b.rooted in
-    let mine : AreColours b.roots b.odds c.sides a.colours = subst (λ o. AreColours b.roots o c.sides a.colours) rooted.1 (subst (λ r. AreColours r a.odds c.sides a.colours) rooted.0 a.coloured) in
+    let mine : AreColours b.roots b.odds c.sides a.colours = subst (λ o. AreColours b.roots o c.sides a.colours) rooted.1
+    (subst (λ r. AreColours r a.odds c.sides a.colours) rooted.0 a.coloured) in
     let colours : a.colours ≡ b.colours = colours-unique b.roots b.odds c.sides a.colours b.colours mine b.coloured in
     same_masks m n
     (slabs-unique _ _ _ a.a (subst (λ k. AreSlabsOf (on_mask c.pieces c.zones c.sides k false) n.a) (sym colours) b.a))

@@ -90,7 +90,13 @@ module _ (rule : ℕ) (layer f : Region) where
     zone-in-stretch : (r z : Rect) (p : Pt) → IsStretch rule overlap layer f r → IsMiddle overlap r z → Has z p → Has r p
     zone-in-stretch r z p a m h =
         let g = margins r z a m in
-        record { left = omega (arith, ints, g.0, h.left); right = omega (arith, ints, g.1, h.right); low = omega (arith, ints, h.low, m.rows.0); high = omega (arith, ints, h.high, m.rows.1) }
+        record {
+          left = omega (arith, ints, g.0, h.left);
+          right = omega (arith, ints, g.1, h.right);
+          low = omega
+              (arith, ints, h.low, m.rows.0);
+          high = omega (arith, ints, h.high, m.rows.1);
+        }
 
     pub zone-in-feature : (z : Rect) (p : Pt) → IsHorizontalZone rule overlap layer f z → Has z p → f p
     zone-in-feature z p h has = in-stretch h.stretch p.x p.y h.is (zone-in-stretch h.stretch z p h.is h.middle has)
@@ -106,13 +112,15 @@ module _ (rule : ℕ) (layer f : Region) where
     beside-in-feature z h x y a b c d = in-stretch h.stretch x y h.is (beside z h x y a b c d)
 
     -- a horizontal zone with a square beside another, in its rows, is the other
-    pub beside-same : (z w : Rect) (h : IsHorizontalZone rule overlap layer f z) (k : IsHorizontalZone rule overlap layer f w) (x y : ℤ) → z.x0 ≤ℤ (x +ℤ pos 1) → x ≤ℤ z.x1 → z.y0 ≤ℤ y → y <ℤ z.y1 → Has w (at x y) → z ≡ w
+    pub beside-same : (z w : Rect) (h : IsHorizontalZone rule overlap layer f z) (k : IsHorizontalZone rule overlap layer f w) (x y : ℤ)
+        → z.x0 ≤ℤ (x +ℤ pos 1) → x ≤ℤ z.x1 → z.y0 ≤ℤ y → y <ℤ z.y1 → Has w (at x y) → z ≡ w
     beside-same z w h k x y a b c d has =
         let same : h.stretch ≡ k.stretch = stretch-unique h.stretch k.stretch x y h.is k.is (beside z h x y a b c d) (zone-in-stretch k.stretch w (at x y) k.is k.middle has) in
         middle-unique h.stretch z w h.middle (subst (λ r. IsMiddle overlap r w) (sym same) k.middle)
 
     -- a square of the feature that touches a zone and isn't in it lies beside it, in its rows
-    pub touching-beside : (z : Rect) (h : IsHorizontalZone rule overlap layer f z) (p q : Pt) → f p → Has z q → Touch p q → (z.x0 ≤ℤ (p.x +ℤ pos 1)) × (p.x ≤ℤ z.x1) × (z.y0 ≤ℤ p.y) × (p.y <ℤ z.y1)
+    pub touching-beside : (z : Rect) (h : IsHorizontalZone rule overlap layer f z) (p q : Pt) → f p → Has z q → Touch p q
+        → (z.x0 ≤ℤ (p.x +ℤ pos 1)) × (p.x ≤ℤ z.x1) × (z.y0 ≤ℤ p.y) × (p.y <ℤ z.y1)
     touching-beside z h p q in_f has touch =
         let c = close-from_touch p q touch in
         let g = margins h.stretch z h.is h.middle in
@@ -120,6 +128,7 @@ module _ (rule : ℕ) (layer f : Region) where
         let run = h.is.runs p.x (omega (arith, ints, g.0, has.left, c.left)) (omega (arith, ints, g.1, has.right, c.right)) in (
           omega (arith, ints, has.left, c.left),
           omega (arith, ints, has.right, c.right),
-          by_lt_z p.y z.y0 (λ l. absurd (let e : p.y ≡ h.stretch.y0 -ℤ pos 1 = omega (arith, ints, l, has.low, c.low, rows.0) in run.below (subst (λ y. f (at p.x y)) e in_f))) (λ m. m),
+          by_lt_z p.y z.y0 (λ l. absurd (let e : p.y ≡ h.stretch.y0 -ℤ pos 1 = omega (arith, ints, l, has.low, c.low, rows.0) in
+              run.below (subst (λ y. f (at p.x y)) e in_f))) (λ m. m),
           by_lt_z p.y z.y1 (λ m. m) (λ l. absurd (let e : p.y ≡ h.stretch.y1 = omega (arith, ints, l, has.high, c.high, rows.1) in run.above (subst (λ y. f (at p.x y)) e in_f))),
         )

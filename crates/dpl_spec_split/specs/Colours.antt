@@ -52,4 +52,5 @@ on_mask pieces zones sides colours letter p =
 -- the zones whose sides differ, by number
 pub record AreStitches (sides : List (ℕ × ℕ)) (colours : List Bool) (stitches : List ℕ) : Type 0 where
   pub ordered : AllPairs (λ i j. i < j) stitches
-  pub exactly : (k : ℕ) → Contains stitches k ↔ ((side : ℕ × ℕ) × (k < length sides) × (slice_index_or sides k side ≡ side) × (differ (colour_at colours side.0) (colour_at colours side.1) ≡ true))
+  pub exactly : (k : ℕ) → Contains stitches k ↔ ((side : ℕ × ℕ) × (k < length sides) × (slice_index_or sides k side ≡ side)
+      × (differ (colour_at colours side.0) (colour_at colours side.1) ≡ true))

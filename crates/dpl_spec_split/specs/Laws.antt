@@ -6,4 +6,5 @@ use Rattle.dpl_spec_split.specs.Decomposition.{Cut, Answer, IsDecomposition}
 
 -- a layer has one decomposition
 abbrev pub IsOneDecomposition : Type 0
-IsOneDecomposition = (rule overlap : ℕ) (layer : List Rect) (c d : Cut) (x y : Answer) → IsDecomposition rule overlap (Covers layer) c x → IsDecomposition rule overlap (Covers layer) d y → (c ≡ d) × (x ≡ y)
+IsOneDecomposition = (rule overlap : ℕ) (layer : List Rect) (c d : Cut) (x y : Answer) → IsDecomposition rule overlap (Covers layer) c x
+    → IsDecomposition rule overlap (Covers layer) d y → (c ≡ d) × (x ≡ y)

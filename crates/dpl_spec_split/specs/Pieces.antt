@@ -30,7 +30,8 @@ pub record AreSides (features pieces : List (List Rect)) (z : Zone) (side : ℕ 
 abbrev pub IsOwner : List (List Rect) → List Rect → ℕ → Type 0
 IsOwner features piece k = (k < length features) × ((p : Pt) → Covers piece p → part_at features k p)
 
-pub record ArePieces (layer : Region) (features : List (List Rect)) (zones : List Zone) (pieces : List (List Rect)) (owners : List ℕ) (keys : List Pt) (sides : List (ℕ × ℕ)) : Type 0 where
+pub record ArePieces (layer : Region) (features : List (List Rect)) (zones : List Zone) (pieces : List (List Rect)) (owners : List ℕ)
+    (keys : List Pt) (sides : List (ℕ × ℕ)) : Type 0 where
   pub components : AreComponents (without layer zones) pieces
   pub owned : AllZip (IsOwner features) pieces owners
   pub keyed : AllZip (λ piece key. IsLeast (Covers piece) key) pieces keys

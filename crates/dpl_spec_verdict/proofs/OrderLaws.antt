@@ -19,7 +19,10 @@ use Rattle.dpl_cert.specs.declared.cert.Cert.TheVariants.{Masks, Conflict, Fault
 use Rattle.dpl_spec_verdict.specs.declared.Verdict.{Verdict}
 use Rattle.dpl_spec_verdict.specs.declared.Verdict.TheVariants.{Counts, Cover, Overlap, SpacingA, SpacingB, Stitch, Piece, Cycle}
 use Rattle.dpl_spec_verdict.specs.Order.{FirstOf, IsValid, HasSquare, HasBad, IsFirstBad, IsLeastPair, RulesDiffer, ShowsRules, ShowsCounts}
-use Rattle.dpl_spec_verdict.specs.Masks.{Claim, IsBadPiece, IsBadStitch, is_doubled, is_uncovered, AreTooClose, IsTight, CountDiffers, ShowsCover, ShowsOverlap, ShowsSpacingA, ShowsSpacingB, ShowsStitch, ShowsPiece, VerdictFromCounts, VerdictFromCover, VerdictFromOverlap, VerdictFromSpacingA, VerdictFromSpacingB, VerdictFromStitches, VerdictFromPieces, VerdictOfClaim, IsVerdictOfMasks}
+use Rattle.dpl_spec_verdict.specs.Masks.{Claim, IsBadPiece, IsBadStitch, is_doubled, is_uncovered, AreTooClose, IsTight, CountDiffers}
+use Rattle.dpl_spec_verdict.specs.Masks.{ShowsCover, ShowsOverlap, ShowsSpacingA, ShowsSpacingB, ShowsStitch, ShowsPiece, VerdictFromCounts}
+use Rattle.dpl_spec_verdict.specs.Masks.{VerdictFromCover, VerdictFromOverlap, VerdictFromSpacingA, VerdictFromSpacingB}
+use Rattle.dpl_spec_verdict.specs.Masks.{VerdictFromStitches, VerdictFromPieces, VerdictOfClaim, IsVerdictOfMasks}
 use Rattle.dpl_spec_verdict.specs.Conflicts.{IsBadPlace, CountsDiffer, ShowsCycle, VerdictOfCycle, VerdictFromCycle, IsVerdictOfConflict}
 use Rattle.dpl_spec_verdict.specs.Conflicts.{Claim as CycleClaim, VerdictOfClaim as CycleVerdict, VerdictFromCounts as CycleVerdictFromCounts}
 
@@ -105,12 +108,15 @@ claim-unique rule overlap c v w =
     (first-unique (CountDiffers c.layer c.head) (ShowsCounts rule overlap c.layer) (VerdictFromCover rule overlap c) v w (counts-shown rule overlap c.layer v w)
     (first-unique (HasSquare (is_uncovered c.layer c.a c.b)) (ShowsCover c) (VerdictFromOverlap rule overlap c) v w (least-shown (is_uncovered c.layer c.a c.b) Cover v w)
     (first-unique (HasSquare (is_doubled c.a c.b c.stitches)) (ShowsOverlap c) (VerdictFromSpacingA rule overlap c) v w (least-shown (is_doubled c.a c.b c.stitches) Overlap v w)
-    (first-unique (IsTight rule c.layer c.a) (ShowsSpacingA rule c) (VerdictFromSpacingB rule overlap c) v w (pair-shown (AreTooClose rule (Covers c.layer) (Covers c.a)) SpacingA v w)
+    (first-unique (IsTight rule c.layer c.a) (ShowsSpacingA rule c) (VerdictFromSpacingB rule overlap c) v w
+    (pair-shown (AreTooClose rule (Covers c.layer) (Covers c.a)) SpacingA v w)
     (first-unique (IsTight rule c.layer c.b) (ShowsSpacingB rule c) (VerdictFromStitches overlap c) v w (pair-shown (AreTooClose rule (Covers c.layer) (Covers c.b)) SpacingB v w)
-    (first-unique (HasBad (IsBadStitch overlap c.a c.b c.pieces) c.stitches) (ShowsStitch overlap c) (VerdictFromPieces c) v w (bad-shown (IsBadStitch overlap c.a c.b c.pieces) c.stitches no_stitch Stitch v w)
+    (first-unique (HasBad (IsBadStitch overlap c.a c.b c.pieces) c.stitches) (ShowsStitch overlap c) (VerdictFromPieces c) v w
+    (bad-shown (IsBadStitch overlap c.a c.b c.pieces) c.stitches no_stitch Stitch v w)
     (first-unique (HasBad (IsBadPiece c.a c.b) c.pieces) (ShowsPiece c) IsValid v w (bad-shown (IsBadPiece c.a c.b) c.pieces no_piece Piece v w) (valid-shown v w))))))))
 
-pub masks-unique : (rule overlap : ℕ) (layer a b : List Rect) (cert : Cert) (v w : Verdict) → IsVerdictOfMasks rule overlap layer a b cert v → IsVerdictOfMasks rule overlap layer a b cert w → v ≡ w
+pub masks-unique : (rule overlap : ℕ) (layer a b : List Rect) (cert : Cert) (v w : Verdict)
+    → IsVerdictOfMasks rule overlap layer a b cert v → IsVerdictOfMasks rule overlap layer a b cert w → v ≡ w
 masks-unique rule overlap layer a b (Masks h ps ss) v w e f = claim-unique rule overlap (record { layer = layer; a = a; b = b; head = h; pieces = ps; stitches = ss }) v w e f
 masks-unique rule overlap layer a b (Conflict h cs ns) v w e f = absurd e
 masks-unique rule overlap layer a b (Fault name at) v w e f = absurd e
@@ -120,14 +126,17 @@ cycle-unique : (rule overlap : ℕ) (c : CycleClaim) (v w : Verdict) → Verdict
 cycle-unique rule overlap c v w (k, k_is, e) (l, l_is, f) =
     let same : k ≡ l = one-cut rule overlap (Covers c.layer) k l k_is l_is in
     let g : VerdictOfCycle rule k c w = subst (λ (x : Cut). VerdictOfCycle rule x c w) (sym same) f in
-    first-unique (HasBad (IsBadPlace rule k c.cycle c.near) c.cycle) (ShowsCycle rule k c) IsValid v w (bad-shown (IsBadPlace rule k c.cycle c.near) c.cycle no_place Cycle v w) (valid-shown v w) e g
+    first-unique (HasBad (IsBadPlace rule k c.cycle c.near) c.cycle) (ShowsCycle rule k c) IsValid v w
+    (bad-shown (IsBadPlace rule k c.cycle c.near) c.cycle no_place Cycle v w) (valid-shown v w) e g
 
 conflict-claim-unique : (rule overlap : ℕ) (c : CycleClaim) (v w : Verdict) → CycleVerdict rule overlap c v → CycleVerdict rule overlap c w → v ≡ w
 conflict-claim-unique rule overlap c v w =
     first-unique (RulesDiffer rule overlap c.head) (ShowsRules c.head) (CycleVerdictFromCounts rule overlap c) v w (rules-shown c.head v w)
-    (first-unique (CountsDiffer rule overlap c.layer c.head) (ShowsCounts rule overlap c.layer) (VerdictFromCycle rule overlap c) v w (counts-shown rule overlap c.layer v w) (cycle-unique rule overlap c v w))
+    (first-unique (CountsDiffer rule overlap c.layer c.head) (ShowsCounts rule overlap c.layer) (VerdictFromCycle rule overlap c) v w
+    (counts-shown rule overlap c.layer v w) (cycle-unique rule overlap c v w))
 
-pub conflict-unique : (rule overlap : ℕ) (layer : List Rect) (cert : Cert) (v w : Verdict) → IsVerdictOfConflict rule overlap layer cert v → IsVerdictOfConflict rule overlap layer cert w → v ≡ w
+pub conflict-unique : (rule overlap : ℕ) (layer : List Rect) (cert : Cert) (v w : Verdict) → IsVerdictOfConflict rule overlap layer cert v
+    → IsVerdictOfConflict rule overlap layer cert w → v ≡ w
 conflict-unique rule overlap layer (Masks h ps ss) v w e f = absurd e
 conflict-unique rule overlap layer (Conflict h cs ns) v w e f = conflict-claim-unique rule overlap (record { layer = layer; head = h; cycle = cs; near = ns }) v w e f
 conflict-unique rule overlap layer (Fault name at) v w e f = absurd e

@@ -23,7 +23,8 @@ module _ (key : Star → ℕ) (rows : List Star) (rise : IsNonDecreasingBy key r
       let up = rise i j (own_row 0) le within in
       grind (arith, nat_tests))
 
-  pub found-row : (k : ℕ) (d : Star) → k < length rows → IsBinarySearchResult (λ r. nat_cmp (key r) value) rows (Ok k) → Contains rows (get_or rows k d) × (key (get_or rows k d) ≡ value)
+  pub found-row : (k : ℕ) (d : Star) → k < length rows → IsBinarySearchResult (λ r. nat_cmp (key r) value) rows (Ok k)
+      → Contains rows (get_or rows k d) × (key (get_or rows k d) ≡ value)
   found-row k d within equal = (
     (k, within, get_or_default rows k (get_or rows k d) d within),
     ranked _ value _ (sym (equal d)),

@@ -121,6 +121,8 @@ module _ (es : List (ℕ × ℕ)) (pairs : AreOrdered es) (rows : List Star) (st
         let second = row-in v u r b (un.both u v e) v_root v_far in
         let odd : (a + b) % 2 ≡ 1 = elim (cases_eq ((a + b) % 2) 1) [
           | inl is ↦ is
-          | inr other ↦ absurd (stars.even (closed-odd es pairs r (suc a + b) (Walk-trans (graph_of es) (Walk-snoc (graph_of es) u_far.walk e) (Walk-reverse (graph_of es) un v_far.walk)) (omega (arith, other))))
+          | inr other ↦ absurd
+              (stars.even (closed-odd es pairs r (suc a + b) (Walk-trans (graph_of es) (Walk-snoc (graph_of es) u_far.walk e)
+              (Walk-reverse (graph_of es) un v_far.walk)) (omega (arith, other))))
         ] in
         between u v r a b first second odd

@@ -27,7 +27,8 @@ pieces-rising rows listed i j d l within =
 pub root-there : (rows : List Star) → IsStarList rows → (k : ℕ) (d : Star) → k < length rows → Contains (pieces_of rows) (get_or rows k d).root
 root-there rows listed k d l = contains-map (λ (r : Star). r.piece) rows (own_row (get_or rows k d).root) (listed.rooted k d l)
 
-module _ (pieces : List ℕ) (rising : AllPairs (λ a b. a < b) pieces) (rows front : List Star) (row : Star) (row_in : Contains rows row) (mates : List ℕ) (h : HasMates pieces rows front mates) where
+module _ (pieces : List ℕ) (rising : AllPairs (λ a b. a < b) pieces) (rows front : List Star) (row : Star) (row_in : Contains rows row)
+    (mates : List ℕ) (h : HasMates pieces rows front mates) where
   -- an odd row's piece is put at the place of its root
   mates-put : row.odd ≡ true → (p : ℕ) → p < length pieces → get_or pieces p 0 ≡ row.root → HasMates pieces rows (front ++ row ∷ []) (set mates p row.piece)
   mates-put is p p_in at = record {
@@ -35,8 +36,10 @@ module _ (pieces : List ℕ) (rising : AllPairs (λ a b. a < b) pieces) (rows fr
     odd = λ k s k_in c s_odd here. elim (cases_eq k p) [
       | inl same ↦
           let root : row.root ≡ s.root = sym at ∙ (ap (λ i. get_or pieces i 0) (sym same) ∙ here) in
-          let piece : row.piece ≡ get_or (set mates p row.piece) k 0 = sym (ap (λ i. get_or (set mates p row.piece) i 0) same ∙ get_or-set_same mates p row.piece 0 (let len = h.each in omega (arith, p_in, len))) in
-          subst (λ v. Contains rows (odd_row v s.root)) piece (subst (λ r. Contains rows (odd_row row.piece r)) root (subst (λ b. Contains rows (star row.piece row.root b)) is row_in))
+          let piece : row.piece ≡ get_or (set mates p row.piece) k 0 = sym (ap (λ i. get_or (set mates p row.piece) i 0) same
+          ∙ get_or-set_same mates p row.piece 0 (let len = h.each in omega (arith, p_in, len))) in
+          subst (λ v. Contains rows (odd_row v s.root)) piece (subst (λ r. Contains rows (odd_row row.piece r)) root
+          (subst (λ b. Contains rows (star row.piece row.root b)) is row_in))
       | inr apart ↦ elim (Contains-push_cases front row s c) [
         | inl old ↦ subst (λ v. Contains rows (odd_row v s.root)) (sym (get_or-set_other mates p k row.piece 0 apart)) (h.odd k s k_in old s_odd here)
         | inr new ↦ absurd (apart (place-unique pieces rising k p k_in p_in (here ∙ (ap (λ (t : Star). t.root) (sym new) ∙ sym at))))
@@ -56,11 +59,14 @@ module _ (pieces : List ℕ) (rising : AllPairs (λ a b. a < b) pieces) (rows fr
 pub mates-none : (pieces : List ℕ) (rows : List Star) (mates : List ℕ) → length mates ≡ length pieces → HasMates pieces rows [] mates
 mates-none pieces rows mates each = record { each = each; odd = λ k s k_in c. (let l = c.1 in absurd (omega (arith, l))) }
 
-module _ (rows : List Star) (listed : IsStarList rows) (pieces : List ℕ) (is : pieces ≡ pieces_of rows) (i : ℕ) (d : Star) (within : i < length rows) (mates : List ℕ) (h : HasMates pieces rows (take i rows) mates) where
-  pub mates-step : (get_or rows i d).odd ≡ true → (p : ℕ) → p < length pieces → get_or pieces p 0 ≡ (get_or rows i d).root → HasMates pieces rows (take (i + 1) rows) (set mates p (get_or rows i d).piece)
+module _ (rows : List Star) (listed : IsStarList rows) (pieces : List ℕ) (is : pieces ≡ pieces_of rows) (i : ℕ) (d : Star)
+    (within : i < length rows) (mates : List ℕ) (h : HasMates pieces rows (take i rows) mates) where
+  pub mates-step : (get_or rows i d).odd ≡ true → (p : ℕ) → p < length pieces → get_or pieces p 0 ≡ (get_or rows i d).root
+      → HasMates pieces rows (take (i + 1) rows) (set mates p (get_or rows i d).piece)
   mates-step odd p p_in at =
       subst (λ front. HasMates pieces rows front (set mates p (get_or rows i d).piece)) (sym (take_more rows i d within))
-      (mates-put pieces (subst (AllPairs (λ a b. a < b)) (sym is) (pieces-rising rows listed)) rows (take i rows) (get_or rows i d) (Contains-get_or rows i d within) mates h odd p p_in at)
+      (mates-put pieces (subst (AllPairs (λ a b. a < b)) (sym is) (pieces-rising rows listed)) rows (take i rows) (get_or rows i d)
+      (Contains-get_or rows i d within) mates h odd p p_in at)
 
   pub mates-skip : (get_or rows i d).odd ≡ false → HasMates pieces rows (take (i + 1) rows) mates
   mates-skip even =
@@ -69,7 +75,8 @@ module _ (rows : List Star) (listed : IsStarList rows) (pieces : List ℕ) (is :
 
 module _ (rows : List Star) (listed : IsStarList rows) (row : Star) (row_in : Contains rows row) where
   -- each root has an odd row
-  pub mate-next : (pieces mates : List ℕ) → HasMates pieces rows rows mates → row.odd ≡ false → (k : ℕ) → k < length pieces → get_or pieces k 0 ≡ row.root → (v d : ℕ) → v ≡ get_or mates k d → IsNext rows row v
+  pub mate-next : (pieces mates : List ℕ) → HasMates pieces rows rows mates → row.odd ≡ false → (k : ℕ) → k < length pieces
+      → get_or pieces k 0 ≡ row.root → (v d : ℕ) → v ≡ get_or mates k d → IsNext rows row v
   mate-next pieces mates h even k k_in at v d is =
       let (u, c) = All-contains (λ r. (v : ℕ) × Contains rows (odd_row v r.root)) rows row listed.paired row_in in
       let same : v ≡ get_or mates k 0 = is ∙ get_or_default mates k d 0 (let len = h.each in omega (arith, k_in, len)) in
@@ -127,7 +134,9 @@ module _ (rows : List Star) (listed : IsStarList rows) (row : Star) (row_in : Co
       link-more up = record {
         pairs = All-push (λ (f : ℕ × ℕ). f.0 < f.1) es e h.pairs up;
         mates = new-mates;
-        linked = All-push (IsLinked rows (es ++ e ∷ [])) front row (All-weaker (IsLinked rows es) (IsLinked rows (es ++ e ∷ [])) still-linked front h.linked) (λ apart. (v, next, joined-by v row.piece joins));
+        linked = All-push (IsLinked rows (es ++ e ∷ [])) front row
+            (All-weaker (IsLinked rows es) (IsLinked rows (es ++ e ∷ [])) still-linked front h.linked)
+            (λ apart. (v, next, joined-by v row.piece joins));
       }
 
     no-link-more : row.piece ≡ row.root → AreLinks rows (front ++ row ∷ []) es
@@ -142,7 +151,9 @@ links-none rows = record {
 
 module _ (rows : List Star) (es : List (ℕ × ℕ)) (listed : IsStarList rows) (i : ℕ) (d : Star) (within : i < length rows) (h : AreLinks rows (take i rows) es) where
   pub links-step : (e : ℕ × ℕ) (v : ℕ) → IsNext rows (get_or rows i d) v → Joins e v (get_or rows i d).piece → e.0 < e.1 → AreLinks rows (take (i + 1) rows) (es ++ e ∷ [])
-  links-step e v next joins up = subst (λ front. AreLinks rows front (es ++ e ∷ [])) (sym (take_more rows i d within)) (link-more rows listed (get_or rows i d) (Contains-get_or rows i d within) (take i rows) es h e v next joins up)
+  links-step e v next joins up = subst (λ front. AreLinks rows front (es ++ e ∷ [])) (sym (take_more rows i d within))
+      (link-more rows listed (get_or rows i d) (Contains-get_or rows i d within) (take i rows) es h e v next joins up)
 
   pub links-skip : (get_or rows i d).piece ≡ (get_or rows i d).root → AreLinks rows (take (i + 1) rows) es
-  links-skip same = subst (λ front. AreLinks rows front es) (sym (take_more rows i d within)) (no-link-more rows listed (get_or rows i d) (Contains-get_or rows i d within) (take i rows) es h same)
+  links-skip same = subst (λ front. AreLinks rows front es) (sym (take_more rows i d within))
+      (no-link-more rows listed (get_or rows i d) (Contains-get_or rows i d within) (take i rows) es h same)

@@ -16,12 +16,14 @@ use Rattle.dpl_stars.proofs.LinkLaws.{links-carried, graph-carried}
 use Rattle.dpl_stars.proofs.Merging.{odd-first, odd-second}
 
 -- one summary more
-pub stand-more : (js : List Joined) (es : List (ℕ × ℕ)) (rows : List Star) (more : List (ℕ × ℕ)) → StandFor js es → IsStarList rows → AreLinks rows rows more → StandFor (js ++ Stars rows ∷ []) (es ++ more)
+pub stand-more : (js : List Joined) (es : List (ℕ × ℕ)) (rows : List Star) (more : List (ℕ × ℕ)) → StandFor js es → IsStarList rows
+    → AreLinks rows rows more → StandFor (js ++ Stars rows ∷ []) (es ++ more)
 stand-more [] es rows more none list links = (rows, more, [], refl, list, links, ap (λ xs. xs ++ more) none ∙ sym (append-nil more), refl)
 stand-more (j ∷ js) es rows more (first, front, rest, is, l, linked, cut, others) list links =
     (first, front, rest ++ more, is, l, linked, ap (λ xs. xs ++ more) cut ∙ append_assoc front rest more, stand-more js rest rows more others list links)
 
-pub stand-next : (js : List Joined) (i : ℕ) (j : Joined) (rows : List Star) (es more all : List (ℕ × ℕ)) → i < length js → j ≡ get_or js i j → j ≡ Stars rows → StandFor (take i js) es → IsStarList rows → AreLinks rows rows more → all ≡ es ++ more →
+pub stand-next : (js : List Joined) (i : ℕ) (j : Joined) (rows : List Star) (es more all : List (ℕ × ℕ)) → i < length js
+    → j ≡ get_or js i j → j ≡ Stars rows → StandFor (take i js) es → IsStarList rows → AreLinks rows rows more → all ≡ es ++ more →
     StandFor (take (i + 1) js) all
 stand-next js i j rows es more all l at is stand list links all_is =
     let next : i + 1 ≡ suc i = omega arith in

@@ -13,7 +13,8 @@ use Rattle.dpl_stars.proofs.SameSums.{same-sums, carries-append, cycle-more, mor
 use Rattle.dpl_stars.proofs.OneSummary.{one-summary}
 use Rattle.dpl_stars.proofs.LinkLaws.{links-carried, graph-carried}
 
-pub merged : (es fs ls ms : List (ℕ × ℕ)) (rows others : List Star) (j : Joined) → IsStarList rows → IsStarList others → AreLinks rows rows ls → AreLinks others others ms → Sums (ls ++ ms) j →
+pub merged : (es fs ls ms : List (ℕ × ℕ)) (rows others : List Star) (j : Joined) → IsStarList rows → IsStarList others
+    → AreLinks rows rows ls → AreLinks others others ms → Sums (ls ++ ms) j →
     AreEdgePairs es → AreEdgePairs fs → AreStars (graph_of es) (map row_of rows) → AreStars (graph_of fs) (map row_of others) → Sums (es ++ fs) j
 merged es fs ls ms rows others j first second l m sums e_pairs f_pairs e_stars f_stars =
     same-sums (es ++ fs) (ls ++ ms)

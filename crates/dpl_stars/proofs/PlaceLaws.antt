@@ -95,7 +95,8 @@ module _ (numbers : List ℕ) (rising : AllPairs (λ a b. a < b) numbers) where
         | inr l ↦ (let a = after i l within in omega (arith, a, is))
       ]
 
-  pub placed-more : (front placed : List (ℕ × ℕ)) (e : ℕ × ℕ) (i j : ℕ) → ArePlaced numbers front placed → e.0 < e.1 → i < length numbers → j < length numbers → get_or numbers i 0 ≡ e.0 → get_or numbers j 0 ≡ e.1 → ArePlaced numbers (front ++ e ∷ []) (placed ++ (i, j) ∷ [])
+  pub placed-more : (front placed : List (ℕ × ℕ)) (e : ℕ × ℕ) (i j : ℕ) → ArePlaced numbers front placed → e.0 < e.1 → i < length numbers
+      → j < length numbers → get_or numbers i 0 ≡ e.0 → get_or numbers j 0 ≡ e.1 → ArePlaced numbers (front ++ e ∷ []) (placed ++ (i, j) ∷ [])
   placed-more front placed e i j h up i_in j_in first second = record {
     is = ap (λ es. es ++ e ∷ []) h.is
         ∙ (ap (λ (f : ℕ × ℕ). map (edge_at numbers) placed ++ f ∷ []) (let same : e ≡ edge_at numbers (i, j) = λ k. (sym first k, sym second k) in same)
@@ -106,7 +107,10 @@ module _ (numbers : List ℕ) (rising : AllPairs (λ a b. a < b) numbers) where
 pub placed-none : (numbers : List ℕ) → ArePlaced numbers [] []
 placed-none numbers = record { is = refl; below = All-nil (λ (f : ℕ × ℕ). (f.0 < f.1) × (f.1 < length numbers)) }
 
-pub placed-next : (numbers : List ℕ) (edges placed : List (ℕ × ℕ)) (k i j : ℕ) (d : ℕ × ℕ) → AllPairs (λ a b. a < b) numbers → k < length edges → ArePlaced numbers (take k edges) placed → All (λ (e : ℕ × ℕ). e.0 < e.1) edges → i < length numbers → j < length numbers → get_or numbers i 0 ≡ (get_or edges k d).0 → get_or numbers j 0 ≡ (get_or edges k d).1 → ArePlaced numbers (take (k + 1) edges) (placed ++ (i, j) ∷ [])
+pub placed-next : (numbers : List ℕ) (edges placed : List (ℕ × ℕ)) (k i j : ℕ) (d : ℕ × ℕ) → AllPairs (λ a b. a < b) numbers
+    → k < length edges → ArePlaced numbers (take k edges) placed → All (λ (e : ℕ × ℕ). e.0 < e.1) edges → i < length numbers
+    → j < length numbers → get_or numbers i 0 ≡ (get_or edges k d).0 → get_or numbers j 0 ≡ (get_or edges k d).1
+    → ArePlaced numbers (take (k + 1) edges) (placed ++ (i, j) ∷ [])
 placed-next numbers edges placed k i j d rising within h pairs i_in j_in first second =
     subst (λ es. ArePlaced numbers es (placed ++ (i, j) ∷ [])) (sym (take_more edges k d within))
     (placed-more numbers rising (take k edges) placed (get_or edges k d) i j h (pairs k d within) i_in j_in first second)

@@ -133,7 +133,8 @@ module _ (edges placed : List (ℕ × ℕ)) (numbers : List ℕ) (pairs : AreOrd
         let joins : H e.0 e.1 = inl (k, l, is) in
         let along : IsRoot H e.1 (root e.0) = root-along H un_h e.0 e.1 (root e.0) (1, step joins stay) (lv.root e.0 b.0) in
         let one : root e.1 ≡ root e.0 = root-unique H e.1 (root e.1) (root e.0) (lv.root e.1 b.1) along in
-        let far : IsDistance H (root e.0) e.1 (level e.0) = subst (λ d. IsDistance H (root e.0) e.1 d) (sym same) (subst (λ r. IsDistance H r e.1 (level e.1)) one (lv.level e.1 b.1)) in
+        let far : IsDistance H (root e.0) e.1 (level e.0) = subst (λ d. IsDistance H (root e.0) e.1 d) (sym same)
+        (subst (λ r. IsDistance H r e.1 (level e.1)) one (lv.level e.1 b.1)) in
         let on : HasLevelEdge G (num (root e.0)) = (
           (num e.0, num e.1),
           record {
@@ -151,7 +152,8 @@ module _ (edges placed : List (ℕ × ℕ)) (numbers : List ℕ) (pairs : AreOrd
         let here : IsDistance G top (num i) m = subst (λ x. IsDistance G top x m) (sym i_is) far in
         let along : IsRoot G (num i) top = root-along G un_g top (num i) top (m, here.walk) is in
         let one : num (root i) ≡ top = root-unique G (num i) (num (root i)) top (root-up i (root i) within (lv.root i within)) along in
-        distance-unique G top (num i) (level i) m (subst (λ r. IsDistance G r (num i) (level i)) one (distance-up (root i) i (level i) (root-in i within) within (lv.level i within))) here
+        distance-unique G top (num i) (level i) m (subst (λ r. IsDistance G r (num i) (level i)) one
+        (distance-up (root i) i (level i) (root-in i within) within (lv.level i within))) here
 
     pub unlevelled-even : ¬ IsLevelled levels placed → ¬ HasOddCycle G
     unlevelled-even none odd =
@@ -181,7 +183,8 @@ module _ (edges placed : List (ℕ × ℕ)) (numbers : List ℕ) (pairs : AreOrd
       star-row : (r : Row) (u : ℕ) → G r.vertex u → IsStar G r.vertex r.root r.odd → Contains (map row_of rows) r
       star-row r u g star =
           let d = edge-down r.vertex u g in
-          let same = star-unique G r.vertex (num (root d.i)) r.root (level d.i % 2 == 1) r.odd (subst (λ v. IsStar G v (num (root d.i)) (level d.i % 2 == 1)) d.first (star-up d.i d.i_in)) star in
+          let same = star-unique G r.vertex (num (root d.i)) r.root (level d.i % 2 == 1) r.odd
+          (subst (λ v. IsStar G v (num (root d.i)) (level d.i % 2 == 1)) d.first (star-up d.i d.i_in)) star in
           let is : row_of (row_at numbers roots levels d.i) ≡ r = λ k. record { vertex = d.first k; root = same.root k; odd = same.odd k } in
           (d.i, (let len = rs.len in let m = length-map rows row_of in let i_in = d.i_in in omega (arith, len, m, i_in)), row-is d.i r d.i_in ∙ is)
 
@@ -200,13 +203,16 @@ module _ (edges placed : List (ℕ × ℕ)) (numbers : List ℕ) (pairs : AreOrd
 
       -- the root of a root is itself, on level 0
       root-root : (k : ℕ) → k < length numbers → root (root k) ≡ root k
-      root-root k within = root-unique H (root k) (root (root k)) (root k) (lv.root (root k) (root-in k within)) (root-along H un_h k (root k) (root k) (Reaches-sym H un_h (lv.root k within).reached) (lv.root k within))
+      root-root k within = root-unique H (root k) (root (root k)) (root k) (lv.root (root k) (root-in k within))
+          (root-along H un_h k (root k) (root k) (Reaches-sym H un_h (lv.root k within).reached) (lv.root k within))
 
       root-level : (k : ℕ) → k < length numbers → level (root k) ≡ 0
-      root-level k within = distance-unique H (root k) (root k) (level (root k)) 0 (subst (λ r. IsDistance H r (root k) (level (root k))) (root-root k within) (lv.level (root k) (root-in k within))) (distance-self H (root k))
+      root-level k within = distance-unique H (root k) (root k) (level (root k)) 0 (subst (λ r. IsDistance H r (root k) (level (root k)))
+          (root-root k within) (lv.level (root k) (root-in k within))) (distance-self H (root k))
 
       own-at : (k : ℕ) → k < length numbers → row_at numbers roots levels (root k) ≡ own_row (num (root k))
-      own-at k within = ap (λ r. star (num (root k)) (num r) (level (root k) % 2 == 1)) (root-root k within) ∙ ap (λ l. star (num (root k)) (num (root k)) (l % 2 == 1)) (root-level k within)
+      own-at k within = ap (λ r. star (num (root k)) (num r) (level (root k) % 2 == 1)) (root-root k within)
+          ∙ ap (λ l. star (num (root k)) (num (root k)) (l % 2 == 1)) (root-level k within)
 
       edge-far : (r j : ℕ) → H r j → IsDistance H r j 1
       edge-far r j joins = record {
@@ -228,7 +234,8 @@ module _ (edges placed : List (ℕ × ℕ)) (numbers : List ℕ) (pairs : AreOrd
           let top : IsRoot H (root k) (root k) = root-along H un_h k (root k) (root k) (Reaches-sym H un_h (lv.root k within).reached) (lv.root k within) in
           let along : IsRoot H d.j (root k) = root-along H un_h (root k) d.j (root k) (1, step joins stay) top in
           let one : root d.j ≡ root k = root-unique H d.j (root d.j) (root k) (lv.root d.j d.j_in) along in
-          let far : level d.j ≡ 1 = distance-unique H (root k) d.j (level d.j) 1 (subst (λ r. IsDistance H r d.j (level d.j)) one (lv.level d.j d.j_in)) (edge-far (root k) d.j joins) in
+          let far : level d.j ≡ 1 = distance-unique H (root k) d.j (level d.j) 1 (subst (λ r. IsDistance H r d.j (level d.j)) one
+          (lv.level d.j d.j_in)) (edge-far (root k) d.j joins) in
           (d.j, d.j_in, ap (λ r. star (num d.j) (num r) (level d.j % 2 == 1)) one ∙ ap (λ l. star (num d.j) (num (root k)) (l % 2 == 1)) far)
 
       pub are-listed : IsStarList rows

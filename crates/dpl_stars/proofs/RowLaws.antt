@@ -8,7 +8,8 @@ use Rattle.dpl_stars.specs.Places.{row_at, AreRows}
 pub rows-none : (numbers roots levels : List ℕ) → AreRows numbers roots levels 0 []
 rows-none numbers roots levels = record { len = refl; each = λ i d l. absurd (omega (arith, l)) }
 
-pub rows-more : (numbers roots levels : List ℕ) (n : ℕ) (rows : List Star) (r : Star) → AreRows numbers roots levels n rows → r ≡ row_at numbers roots levels n → AreRows numbers roots levels (n + 1) (rows ++ r ∷ [])
+pub rows-more : (numbers roots levels : List ℕ) (n : ℕ) (rows : List Star) (r : Star) → AreRows numbers roots levels n rows
+    → r ≡ row_at numbers roots levels n → AreRows numbers roots levels (n + 1) (rows ++ r ∷ [])
 rows-more numbers roots levels n rows r h is = record {
   len = length_push rows r ∙ ap (λ k. k + 1) h.len;
   each = λ i d l. elim (cases_lt i n) [

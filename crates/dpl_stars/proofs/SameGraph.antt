@@ -20,7 +20,11 @@ walk-along joined other same stay = stay
 walk-along joined other same (step {u = u} {v = w} e rest) = step ((same u w).0 e) (walk-along joined other same rest)
 
 pub distance-along : (joined other : Graph) → SameEdges joined other → (u v n : ℕ) → IsDistance joined u v n → IsDistance other u v n
-distance-along joined other same u v n d = record { walk = walk-along joined other same d.walk; least = λ m walk. d.least m (walk-along other joined (same-back joined other same) walk) }
+distance-along joined other same u v n d = record {
+  walk = walk-along joined other same d.walk;
+  least = λ m walk. d.least m
+      (walk-along other joined (same-back joined other same) walk);
+}
 
 pub star-along : (joined other : Graph) → SameEdges joined other → (v r : ℕ) (odd : Bool) → IsStar joined v r odd → IsStar other v r odd
 star-along joined other same v r odd (root, n, far, is) = (
@@ -34,7 +38,16 @@ star-along joined other same v r odd (root, n, far, is) = (
 )
 
 pub odd-along : (joined other : Graph) → SameEdges joined other → HasOddCycle joined → HasOddCycle other
-odd-along joined other same (cycle, c) = (cycle, record { three = c.three; odd = c.odd; different = c.different; around = λ k l. (same (get_or cycle k 0) (get_or cycle ((k + 1) % length cycle) 0)).0 (c.around k l) })
+odd-along joined other same (cycle, c) = (
+  cycle,
+  record {
+    three = c.three;
+    odd = c.odd;
+    different = c.different;
+    around = λ k l.
+        (same (get_or cycle k 0) (get_or cycle ((k + 1) % length cycle) 0)).0 (c.around k l);
+  },
+)
 
 pub summary-along : (joined other : Graph) → SameEdges joined other → (j : summary.Joined) → IsSummary joined j → IsSummary other j
 summary-along joined other same (Stars rows) stars = record {
@@ -51,7 +64,8 @@ pub roots-along : (joined other : Graph) → SameEdges joined other → (n : ℕ
 roots-along joined other same n roots odds h = record { lengths = h.lengths; stars = λ v l. star-along joined other same v _ _ (h.stars v l) }
 
 -- the edges of a graph that goes both ways between different numbers are those of its list
-pub same-as-listed : (joined : Graph) → ((u v : ℕ) → joined u v → joined v u) → ((u v : ℕ) → joined u v → u ≡ v → ⊥) → (edges : List (ℕ × ℕ)) → AreEdges joined edges → SameEdges joined (graph_of edges)
+pub same-as-listed : (joined : Graph) → ((u v : ℕ) → joined u v → joined v u) → ((u v : ℕ) → joined u v → u ≡ v → ⊥)
+    → (edges : List (ℕ × ℕ)) → AreEdges joined edges → SameEdges joined (graph_of edges)
 same-as-listed joined both apart edges h u v = (
   λ e. elim (cases_order u v) [
     | inl same ↦ absurd (apart u v e same)

@@ -109,4 +109,13 @@ carries-append es fs gs hs first second u v (inr c) = elim (Contains-append_case
 ]
 
 pub cycle-more : (joined other : Graph) → ((u v : ℕ) → joined u v → other u v) → HasOddCycle joined → HasOddCycle other
-cycle-more joined other more (cycle, c) = (cycle, record { three = c.three; odd = c.odd; different = c.different; around = λ k l. more (get_or cycle k 0) (get_or cycle ((k + 1) % length cycle) 0) (c.around k l) })
+cycle-more joined other more (cycle, c) = (
+  cycle,
+  record {
+    three = c.three;
+    odd = c.odd;
+    different = c.different;
+    around = λ k l. more
+        (get_or cycle k 0) (get_or cycle ((k + 1) % length cycle) 0) (c.around k l);
+  },
+)

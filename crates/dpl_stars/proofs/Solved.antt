@@ -18,7 +18,8 @@ pub record Solved (edges placed : List (ℕ × ℕ)) (pieces roots levels : List
   pub placed_by : ArePlaced pieces edges placed
   pub levelled : AreLevels placed (length pieces) roots levels
 
-pub solved-from : (edges placed q : List (ℕ × ℕ)) (pieces roots levels : List ℕ) (n : ℕ) → AreOrdered edges → AreTouched edges pieces → ArePlaced pieces edges placed → n ≡ length pieces → q ≡ placed → AreLevels q n roots levels → Solved edges placed pieces roots levels
+pub solved-from : (edges placed q : List (ℕ × ℕ)) (pieces roots levels : List ℕ) (n : ℕ) → AreOrdered edges → AreTouched edges pieces
+    → ArePlaced pieces edges placed → n ≡ length pieces → q ≡ placed → AreLevels q n roots levels → Solved edges placed pieces roots levels
 solved-from edges placed q pieces roots levels n pairs touched placed_by n_is q_is lv = record {
   pairs = pairs;
   touched = touched;
@@ -32,15 +33,18 @@ module _ (edges placed : List (ℕ × ℕ)) (pieces roots levels : List ℕ) (s 
       (subst (λ x. IsLevelled levels x) q_is (subst (λ x. IsLevelled x q) l_is on))
 
   pub solved-roots : (r p : List ℕ) → r ≡ roots → p ≡ pieces → All (λ x. x < length p) r
-  solved-roots r p r_is p_is = subst (λ y. All (λ x. x < length p) y) (sym r_is) (subst (λ y. All (λ x. x < length y) roots) (sym p_is) (roots-below placed (length pieces) roots levels s.levelled))
+  solved-roots r p r_is p_is = subst (λ y. All (λ x. x < length p) y) (sym r_is) (subst (λ y. All (λ x. x < length y) roots) (sym p_is)
+      (roots-below placed (length pieces) roots levels s.levelled))
 
   rows-same : (p r l : List ℕ) (rows : List Star) → p ≡ pieces → r ≡ roots → l ≡ levels → AreRows p r l (length p) rows → AreRows pieces roots levels (length pieces) rows
-  rows-same p r l rows p_is r_is l_is rs = subst (λ x. AreRows x roots levels (length x) rows) p_is (subst (λ x. AreRows p x levels (length p) rows) r_is (subst (λ x. AreRows p r x (length p) rows) l_is rs))
+  rows-same p r l rows p_is r_is l_is rs = subst (λ x. AreRows x roots levels (length x) rows) p_is
+      (subst (λ x. AreRows p x levels (length p) rows) r_is (subst (λ x. AreRows p r x (length p) rows) l_is rs))
 
   pub solved-list : (p r l : List ℕ) (rows : List Star) → p ≡ pieces → r ≡ roots → l ≡ levels → AreRows p r l (length p) rows → IsStarList rows
   solved-list p r l rows p_is r_is l_is rs = are-listed edges placed pieces s.pairs s.touched s.placed_by roots levels s.levelled rows (rows-same p r l rows p_is r_is l_is rs)
 
-  pub solved-stars : (p r l m : List ℕ) (q : List (ℕ × ℕ)) (rows made : List Star) → p ≡ pieces → r ≡ roots → l ≡ levels → AreRows p r l (length p) rows → made ≡ rows → m ≡ levels → q ≡ placed → ¬ IsLevelled m q → AreStars (graph_of edges) (map row_of made)
+  pub solved-stars : (p r l m : List ℕ) (q : List (ℕ × ℕ)) (rows made : List Star) → p ≡ pieces → r ≡ roots → l ≡ levels
+      → AreRows p r l (length p) rows → made ≡ rows → m ≡ levels → q ≡ placed → ¬ IsLevelled m q → AreStars (graph_of edges) (map row_of made)
   solved-stars p r l m q rows made p_is r_is l_is rs made_is m_is q_is none =
       subst (λ x. AreStars (graph_of edges) (map row_of x)) (sym made_is)
       (are-stars edges placed pieces s.pairs s.touched s.placed_by roots levels s.levelled rows (rows-same p r l rows p_is r_is l_is rs)

@@ -9,7 +9,8 @@ use Rattle.dpl_sweep.specs.declared.bands.Cut.{Cut}
 use Rattle.dpl_sweep.specs.declared.bands.Lag.{Lag}
 use Rattle.dpl_sweep.specs.declared.bands.Bands.{Bands, One, Two'}
 use Rattle.dpl_sweep.specs.Runs.{Reaches, AreOneRun}
-use Rattle.dpl_sweep.specs.Rows.{lagged, shift_of, IsLagTo, run_at, lowest_sum, bands_size, AreRows, IsSmall, IsCutOver, Follows, ArePartsOf, AreTwo, AreOneTree, IsReached, IsMended, Mends}
+use Rattle.dpl_sweep.specs.Rows.{lagged, shift_of, IsLagTo, run_at, lowest_sum, bands_size, AreRows, IsSmall, IsCutOver, Follows}
+use Rattle.dpl_sweep.specs.Rows.{ArePartsOf, AreTwo, AreOneTree, IsReached, IsMended, Mends}
 use Rattle.dpl_sweep.proofs.RunLaws.{reach-refl, reach-sums, reach-trans}
 
 -- below row the runs are those of b, from it on those of a
@@ -129,7 +130,8 @@ pub rows-two : (low row high x : ℤ) (t b a : Bands) → AreTwo b row a t → l
 rows-two low row high x (One run) b a h l m r s = elim h [ ]
 rows-two low row high x (Two' p c cut q d) b a (e, f, g) l m r s = rw (e, f, g.here, g.lag) (l, m, tt, g.under, g.over, r, s)
 
-pub small-cut : (n : ℕ) (row : ℤ) (b a : Bands) (cut : Cut) → IsCutOver b row a cut → IsSmall n b → IsSmall n a → (m : ℕ) × (m + unsigned_abs (shift_of cut.lag) ≤ n) × (unsigned_abs cut.least ≤ m) × IsSmall m b × IsSmall m a
+pub small-cut : (n : ℕ) (row : ℤ) (b a : Bands) (cut : Cut) → IsCutOver b row a cut → IsSmall n b → IsSmall n a
+    → (m : ℕ) × (m + unsigned_abs (shift_of cut.lag) ≤ n) × (unsigned_abs cut.least ≤ m) × IsSmall m b × IsSmall m a
 small-cut n row b a cut g r s =
     let lb = lowest-small n b r in
     let la = lowest-small n a s in
@@ -176,7 +178,8 @@ mended-one rule b a row run o =
     }
 
 -- a cut of the lower part on top
-pub mended-below : (rule : Rule) (low_part middle below above upper t : Bands) (first row : ℤ) → ArePartsOf below first low_part middle → IsMended rule middle row above upper → IsMended rule low_part first upper t → IsMended rule below row above t
+pub mended-below : (rule : Rule) (low_part middle below above upper t : Bands) (first row : ℤ) → ArePartsOf below first low_part middle
+    → IsMended rule middle row above upper → IsMended rule low_part first upper t → IsMended rule below row above t
 mended-below rule low_part middle below above upper t first row split g h =
     record {
       small = λ n r s. (let (ra, rb) = split.small n r in h.small n ra (g.small n rb s));
@@ -188,14 +191,16 @@ mended-below rule low_part middle below above upper t first row split g h =
             record {
               below = λ y k. by_lt_z y first
                   (λ a. subst (λ q. Reaches rule q (run_at t y)) (sym (split.below y a)) (gt.below y a))
-                  (λ b. subst (λ q. Reaches rule q (run_at t y)) (sym (split.above y b)) (reach-trans rule (run_at middle y) (run_at upper y) (run_at t y) (gu.below y k) (gt.above y b)));
+                  (λ b. subst (λ q. Reaches rule q (run_at t y)) (sym (split.above y b))
+                  (reach-trans rule (run_at middle y) (run_at upper y) (run_at t y) (gu.below y k) (gt.above y b)));
               above = λ y k. reach-trans rule (run_at above y) (run_at upper y) (run_at t y) (gu.above y k) (gt.above y (omega (arith, ints, lb, k)));
             },
           ));
     }
 
 -- a cut of the upper part on top
-pub mended-above : (rule : Rule) (middle high_part below above lower t : Bands) (last row : ℤ) → ArePartsOf above last middle high_part → IsMended rule below row middle lower → IsMended rule lower last high_part t → IsMended rule below row above t
+pub mended-above : (rule : Rule) (middle high_part below above lower t : Bands) (last row : ℤ) → ArePartsOf above last middle high_part
+    → IsMended rule below row middle lower → IsMended rule lower last high_part t → IsMended rule below row above t
 mended-above rule middle high_part below above lower t last row split g h =
     record {
       small = λ n r s. (let (sa, sb) = split.small n s in h.small n (g.small n r sa) sb);
@@ -207,7 +212,8 @@ mended-above rule middle high_part below above lower t last row split g h =
             record {
               below = λ y k. reach-trans rule (run_at below y) (run_at lower y) (run_at t y) (gu.below y k) (gt.below y (omega (arith, ints, la, k)));
               above = λ y k. by_lt_z y last
-                  (λ a. subst (λ q. Reaches rule q (run_at t y)) (sym (split.below y a)) (reach-trans rule (run_at middle y) (run_at lower y) (run_at t y) (gu.above y k) (gt.below y a)))
+                  (λ a. subst (λ q. Reaches rule q (run_at t y)) (sym (split.below y a))
+                  (reach-trans rule (run_at middle y) (run_at lower y) (run_at t y) (gu.above y k) (gt.below y a)))
                   (λ b. subst (λ q. Reaches rule q (run_at t y)) (sym (split.above y b)) (gt.above y b));
             },
           ));

@@ -47,7 +47,8 @@ put-down-run low high t run old new up is put = subst (λ u. PutsDown low high u
 ])
 
 -- the lower rows, then the upper
-module _ (low row high : ℤ) (t b a : Bands) (old mid new : List Rect) (up : low <ℤ row) (on : row <ℤ high) (parts : ArePartsOf t row b a) (first : PutsDown low row b old mid) (second : PutsDown row high a mid new) where
+module _ (low row high : ℤ) (t b a : Bands) (old mid new : List Rect) (up : low <ℤ row) (on : row <ℤ high) (parts : ArePartsOf t row b a)
+    (first : PutsDown low row b old mid) (second : PutsDown row high a mid new) where
   of_below : (p : Pt) → IsOfRun low row b p → IsOfRun low high t p
   of_below p h =
       let is = parts.below p.y h.under in

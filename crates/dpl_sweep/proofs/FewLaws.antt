@@ -25,14 +25,17 @@ use Rattle.dpl_sweep.proofs.CloseLaws.{put-down-run}
 use Rattle.dpl_sweep.proofs.PassLaws.{start-swept, none-ends, none-apart, closed-inside, put-down-off, none-beside, take-next}
 
 -- the lowest row and the highest so far
-pub within-more : (es : List Edge) (i : ℕ) (d : Edge) (row next top high : ℤ) → i < length es → next ≤ℤ row → top ≤ℤ high → IsWithin next high (get_or es i d) → All (IsWithin row top) (take i es) → All (IsWithin next high) (take (i + 1) es)
+pub within-more : (es : List Edge) (i : ℕ) (d : Edge) (row next top high : ℤ) → i < length es → next ≤ℤ row → top ≤ℤ high
+    → IsWithin next high (get_or es i d) → All (IsWithin row top) (take i es) → All (IsWithin next high) (take (i + 1) es)
 within-more es i d row next top high i_in lower higher here before =
     All-more (IsWithin next high) es i d i_in
-    (All-weaker (IsWithin row top) (IsWithin next high) (λ e h. (let f = h.from in let g = h.to in record { from = omega (arith, ints, lower, f); to = omega (arith, ints, higher, g) })) (take i es) before)
+    (All-weaker (IsWithin row top) (IsWithin next high) (λ e h. (let f = h.from in let g = h.to in
+    record { from = omega (arith, ints, lower, f); to = omega (arith, ints, higher, g) })) (take i es) before)
     here
 
 -- the nearest row so far
-pub outside-more : (es : List Edge) (i : ℕ) (d : Edge) (row far next : ℤ) → i < length es → next ≤ℤ far → EndsOutside row next (get_or es i d) → All (EndsOutside row far) (take i es) → All (EndsOutside row next) (take (i + 1) es)
+pub outside-more : (es : List Edge) (i : ℕ) (d : Edge) (row far next : ℤ) → i < length es → next ≤ℤ far
+    → EndsOutside row next (get_or es i d) → All (EndsOutside row far) (take i es) → All (EndsOutside row next) (take (i + 1) es)
 outside-more es i d row far next i_in nearer here before =
     All-more (EndsOutside row next) es i d i_in
     (All-weaker (EndsOutside row far) (EndsOutside row next)
@@ -81,7 +84,8 @@ rest-after low high old mid new f g =
     }
 
 -- the edge is beside none of the band's rows
-pub passes-missed : (rule : Rule) (e : Edge) (low high : ℤ) (count : ℕ) (run : Run) (pieces : List Rect) → (e.y1 ≤ℤ low) ⊎ (high ≤ℤ e.y0) → AreRows low high e.x (One run) → IsSmall count (One run) → PassesBand rule e low high count run run pieces pieces
+pub passes-missed : (rule : Rule) (e : Edge) (low high : ℤ) (count : ℕ) (run : Run) (pieces : List Rect) → (e.y1 ≤ℤ low) ⊎ (high ≤ℤ e.y0)
+    → AreRows low high e.x (One run) → IsSmall count (One run) → PassesBand rule e low high count run run pieces pieces
 passes-missed rule e low high count run pieces off rows sums =
     record {
       sweeps = missed rule e low high (One run) pieces off;
@@ -91,7 +95,8 @@ passes-missed rule e low high count run pieces off rows sums =
     }
 
 -- the edge is beside some of them, and so beside all
-pub passes-moved : (rule : Rule) (e : Edge) (low high : ℤ) (count : ℕ) (run after : Run) (old new : List Rect) → low <ℤ high → (low <ℤ e.y1) × (e.y0 <ℤ high) → EndsOutside low high e → IsUnitEdge e → AreRows low high e.x (One run) → IsSmall count (One run)
+pub passes-moved : (rule : Rule) (e : Edge) (low high : ℤ) (count : ℕ) (run after : Run) (old new : List Rect) → low <ℤ high
+    → (low <ℤ e.y1) × (e.y0 <ℤ high) → EndsOutside low high e → IsUnitEdge e → AreRows low high e.x (One run) → IsSmall count (One run)
     → Moves rule run e low high old new after → PassesBand rule e low high count run after old new
 passes-moved rule e low high count run after old new up (meets, meets_too) outside unit rows sums m =
     let from : e.y0 ≤ℤ low = elim outside.begins [ inl a ↦ a | inr b ↦ absurd (omega (arith, ints, b, meets_too)) ] in
@@ -104,7 +109,8 @@ passes-moved rule e low high count run after old new up (meets, meets_too) outsi
     }
 
 -- before any edge
-pub band-start : (rule : Rule) (all : List Edge) (low high : ℤ) (start : Run) (pieces : List Rect) → IsStart start → AreDone rule all low pieces → IsBandPassed rule [] low high start pieces pieces start
+pub band-start : (rule : Rule) (all : List Edge) (low high : ℤ) (start : Run) (pieces : List Rect) → IsStart start
+    → AreDone rule all low pieces → IsBandPassed rule [] low high start pieces pieces start
 band-start rule all low high start pieces st done =
     let a = st.a in
     let b = st.b in
@@ -117,7 +123,8 @@ band-start rule all low high start pieces st done =
     }
 
 -- past one edge more
-pub band-more : (rule : Rule) (es : List Edge) (low high : ℤ) (start : Run) (first old new : List Rect) (run after : Run) (e : Edge) → IsBandPassed rule es low high start first old run → PassesBand rule e low high (length es) run after old new
+pub band-more : (rule : Rule) (es : List Edge) (low high : ℤ) (start : Run) (first old new : List Rect) (run after : Run) (e : Edge)
+    → IsBandPassed rule es low high start first old run → PassesBand rule e low high (length es) run after old new
     → IsBandPassed rule (es ++ e ∷ []) low high start first new after
 band-more rule es low high start first old new run after e before on =
     record {
@@ -129,14 +136,17 @@ band-more rule es low high start first old new run after e before on =
     }
 
 pub band-next : (rule : Rule) (es : List Edge) (n : ℕ) (low high : ℤ) (start : Run) (first old new : List Rect) (run after : Run) (e : Edge) → n < length es → e ≡ get_or es n e
-    → IsBandPassed rule (take n es) low high start first old run → PassesBand rule e low high n run after old new → IsBandPassed rule (take (n + 1) es) low high start first new after
+    → IsBandPassed rule (take n es) low high start first old run → PassesBand rule e low high n run after old new
+    → IsBandPassed rule (take (n + 1) es) low high start first new after
 band-next rule es n low high start first old new run after e n_in e_is before on =
     let len : n ≡ length (take n es) = (let h = length-take n es in omega (arith, h, n_in)) in
     let step : take (n + 1) es ≡ take n es ++ e ∷ [] = take-next es n e n_in e_is in
     rw step (band-more rule (take n es) low high start first old new run after e before (subst (λ k. PassesBand rule e low high k run after old new) len on))
 
 -- past all edges, once the run is put down
-module _ (rule : Rule) (es : List Edge) (low high x : ℤ) (start run : Run) (first old new : List Rect) (up : low <ℤ high) (left : AreLeft es x) (closed : IsClosed rule es) (done : AreDone rule es low first) (before : IsBandPassed rule es low high start first old run) (put : PutsRun run low high old new) where
+module _ (rule : Rule) (es : List Edge) (low high x : ℤ) (start run : Run) (first old new : List Rect) (up : low <ℤ high)
+    (left : AreLeft es x) (closed : IsClosed rule es) (done : AreDone rule es low first)
+    (before : IsBandPassed rule es low high start first old run) (put : PutsRun run low high old new) where
   down : PutsDown low high (One run) old new
   down = put-down-run low high (One run) run old new up refl put
 
@@ -167,7 +177,8 @@ done-none rule es low top within =
     }
 
 -- above all edges
-pub done-all : (rule : Rule) (es : List Edge) (low top row : ℤ) (pieces : List Rect) → top ≤ℤ row → All (IsWithin low top) es → AreDone rule es row pieces → SameSquares (Covers pieces) (Told rule es)
+pub done-all : (rule : Rule) (es : List Edge) (low top row : ℤ) (pieces : List Rect) → top ≤ℤ row → All (IsWithin low top) es
+    → AreDone rule es row pieces → SameSquares (Covers pieces) (Told rule es)
 done-all rule es low top row pieces over within done p = by_lt_z p.y row
     (λ l. done.covers p l)
     (λ m. (

@@ -23,7 +23,8 @@ no_run = record { from = pos 0; at = pos 0; a = pos 0; b = pos 0 }
 abbrev no_span : Span
 no_span = record { low = pos 0; high = pos 0 }
 
-pub ends-more : (es : List Edge) (i : ℕ) (d : Edge) (ends : List ℤ) → i < length es → All (HasEnds ends) (take i es) → All (HasEnds ((ends ++ (get_or es i d).y0 ∷ []) ++ (get_or es i d).y1 ∷ [])) (take (i + 1) es)
+pub ends-more : (es : List Edge) (i : ℕ) (d : Edge) (ends : List ℤ) → i < length es → All (HasEnds ends) (take i es)
+    → All (HasEnds ((ends ++ (get_or es i d).y0 ∷ []) ++ (get_or es i d).y1 ∷ [])) (take (i + 1) es)
 ends-more es i d ends i_in before =
     let e : Edge = get_or es i d in
     let all : List ℤ = (ends ++ e.y0 ∷ []) ++ e.y1 ∷ [] in
@@ -36,7 +37,8 @@ ends-more es i d ends i_in before =
     (record { first = Contains-append_left (ends ++ e.y0 ∷ []) (e.y1 ∷ []) e.y0 (Contains-push ends e.y0); last = Contains-push (ends ++ e.y0 ∷ []) e.y1 })
 
 pub ends-permutation : (es : List Edge) (xs ys : List ℤ) → IsPermutation xs ys → All (HasEnds xs) es → All (HasEnds ys) es
-ends-permutation es xs ys same h = All-weaker (HasEnds xs) (HasEnds ys) (λ e k. record { first = Contains-permutation xs ys e.y0 same k.first; last = Contains-permutation xs ys e.y1 same k.last }) es h
+ends-permutation es xs ys same h = All-weaker (HasEnds xs) (HasEnds ys)
+    (λ e k. record { first = Contains-permutation xs ys e.y0 same k.first; last = Contains-permutation xs ys e.y1 same k.last }) es h
 
 pub steps-start : (ends : List ℤ) → AreSteps ends 0 []
 steps-start ends =
@@ -48,7 +50,8 @@ steps-start ends =
     }
 
 -- the next row is the same once more
-pub steps-same : (ends : List ℤ) (last : ℕ) (spans : List Span) → RowsRise ends → last + 1 < length ends → row_at ends (last + 1) ≤ℤ row_at ends last → AreSteps ends last spans → AreSteps ends (last + 1) spans
+pub steps-same : (ends : List ℤ) (last : ℕ) (spans : List Span) → RowsRise ends → last + 1 < length ends
+    → row_at ends (last + 1) ≤ℤ row_at ends last → AreSteps ends last spans → AreSteps ends (last + 1) spans
 steps-same ends last spans rise within same p =
     record {
       order = p.order;
@@ -58,7 +61,8 @@ steps-same ends last spans rise within same p =
     }
 
 -- the next row is higher
-module _ (ends : List ℤ) (last : ℕ) (spans : List Span) (s : Span) (within : last + 1 < length ends) (low : s.low ≡ row_at ends last) (high : s.high ≡ row_at ends (last + 1)) (up : row_at ends last <ℤ row_at ends (last + 1)) (p : AreSteps ends last spans) where
+module _ (ends : List ℤ) (last : ℕ) (spans : List Span) (s : Span) (within : last + 1 < length ends) (low : s.low ≡ row_at ends last)
+    (high : s.high ≡ row_at ends (last + 1)) (up : row_at ends last <ℤ row_at ends (last + 1)) (p : AreSteps ends last spans) where
   abbrev more : List Span
   more = spans ++ s ∷ []
 
@@ -83,7 +87,8 @@ module _ (ends : List ℤ) (last : ℕ) (spans : List Span) (s : Span) (within :
       subst (λ t. let u : Span = t in u.high ≤ℤ (span_at more j).low) (sym (at_old i i_in))
       (elim (cases_lt j (length spans)) [
         | inl m ↦ subst (λ t. let u : Span = t in (span_at spans i).high ≤ℤ u.low) (sym (at_old j m)) (p.order.pairs i j l m)
-        | inr m ↦ subst (λ t. let u : Span = t in (span_at spans i).high ≤ℤ u.low) (sym (at_last j (omega (arith, m, j_in, len)))) (let h = p.below i i_in in omega (arith, ints, h, low))
+        | inr m ↦ subst (λ t. let u : Span = t in (span_at spans i).high ≤ℤ u.low) (sym (at_last j (omega (arith, m, j_in, len))))
+            (let h = p.below i i_in in omega (arith, ints, h, low))
       ])
 
   in_some : (y : ℤ) → row_at ends 0 ≤ℤ y → y <ℤ row_at ends (last + 1) → IsInSome more y
@@ -110,14 +115,17 @@ module _ (ends : List ℤ) (last : ℕ) (spans : List Span) (s : Span) (within :
         all = in_some;
       }
 
-pub steps-next : (ends : List ℤ) (k : ℕ) (old new : List Span) → RowsRise ends → 1 ≤ k → k < length ends → AddsStep (row_at ends (k - 1)) (row_at ends k) old new → AreSteps ends (k - 1) old → AreSteps ends (k + 1 - 1) new
+pub steps-next : (ends : List ℤ) (k : ℕ) (old new : List Span) → RowsRise ends → 1 ≤ k → k < length ends
+    → AddsStep (row_at ends (k - 1)) (row_at ends k) old new → AreSteps ends (k - 1) old → AreSteps ends (k + 1 - 1) new
 steps-next ends k old new rise some within adds p =
     let here : k - 1 + 1 ≡ k = omega (arith, some) in
     let there : k + 1 - 1 ≡ k = omega arith in
     let next : AreSteps ends (k - 1 + 1) new = elim adds [
-      | inl (same, e) ↦ subst (AreSteps ends (k - 1 + 1)) (sym e) (steps-same ends (k - 1) old rise (omega (arith, here, within)) (subst (λ i. row_at ends i ≤ℤ row_at ends (k - 1)) (sym here) same) p)
+      | inl (same, e) ↦ subst (AreSteps ends (k - 1 + 1)) (sym e) (steps-same ends (k - 1) old rise (omega (arith, here, within))
+          (subst (λ i. row_at ends i ≤ℤ row_at ends (k - 1)) (sym here) same) p)
       | inr (up, e) ↦ subst (AreSteps ends (k - 1 + 1)) (sym e)
-          (steps-push ends (k - 1) old (record { low = row_at ends (k - 1); high = row_at ends k }) (omega (arith, here, within)) refl (ap (row_at ends) (sym here)) (subst (λ i. row_at ends (k - 1) <ℤ row_at ends i) (sym here) up) p)
+          (steps-push ends (k - 1) old (record { low = row_at ends (k - 1); high = row_at ends k }) (omega (arith, here, within)) refl
+          (ap (row_at ends) (sym here)) (subst (λ i. row_at ends (k - 1) <ℤ row_at ends i) (sym here) up) p)
     ] in
     subst (λ i. AreSteps ends i new) (here ∙ sym there) next
 
@@ -169,7 +177,8 @@ first-right es z rise j d j_in =
     rw there at r
 
 -- before any edge
-pub ready-start : (rule : Rule) (all : List Edge) (start : Run) (spans : List Span) → IsStart start → ((j : ℕ) (d : Edge) → j < length all → start.at ≤ℤ (get_or all j d).x) → AreReady rule [] all spans (replicate (length spans) start) []
+pub ready-start : (rule : Rule) (all : List Edge) (start : Run) (spans : List Span) → IsStart start
+    → ((j : ℕ) (d : Edge) → j < length all → start.at ≤ℤ (get_or all j d).x) → AreReady rule [] all spans (replicate (length spans) start) []
 ready-start rule all start spans st first =
     let a = st.a in
     let b = st.b in

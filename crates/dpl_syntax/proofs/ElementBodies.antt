@@ -1,5 +1,6 @@
 -- Reading the body of an element.
-use Rattle.std.proofs.Common.{◌≡◌, ◌≢◌, ℕ, Bool, true, false, not, ◌&&◌, ◌||◌, ◌⊎◌, inl, inr, cond, eqb, List, [], ◌∷◌, ◌++◌, length, Option, Some, None, Result, Ok, Err, refl, sym, subst, ap, ◌∙◌, append_assoc}
+use Rattle.std.proofs.Common.{◌≡◌, ◌≢◌, ℕ, Bool, true, false, not, ◌&&◌, ◌||◌, ◌⊎◌, inl, inr, cond, eqb, List, [], ◌∷◌, ◌++◌, length}
+use Rattle.std.proofs.Common.{Option, Some, None, Result, Ok, Err, refl, sym, subst, ap, ◌∙◌, append_assoc}
 use Rattle.std.proofs.lemmas.Bool.{eqb-true, eqb-false, eq-eqb}
 use Rattle.std.proofs.lemmas.List.Sums.{fold_push}
 use Rattle.dpl_spec_format.specs.Kinds as kinds
@@ -14,7 +15,9 @@ use Rattle.dpl_syntax.specs.Reading as reading
 use Rattle.dpl_syntax.specs.Reading.{◌>>=◌, Slots, Item, must, may, turned, named, points, items_of, pick, body_at}
 use Rattle.dpl_syntax.specs.Reached.{Reached}
 use Rattle.dpl_syntax.specs.Inner.{is_inner, AreInner}
-use Rattle.dpl_syntax.proofs.Languages.{Avoids, IsSolid, Exists, Moves, Agrees, avoids_one, solid_one, avoids_both, solid_both, avoids_either, solid_either, moves_one, moves_agreed, agrees_both, takes_first, takes_second, regroups, regroups_back, agrees_regrouped, exists_rest, exists_both}
+use Rattle.dpl_syntax.proofs.Languages.{Avoids, IsSolid, Exists, Moves, Agrees, avoids_one, solid_one, avoids_both, solid_both}
+use Rattle.dpl_syntax.proofs.Languages.{avoids_either, solid_either, moves_one, moves_agreed, agrees_both, takes_first, takes_second}
+use Rattle.dpl_syntax.proofs.Languages.{regroups, regroups_back, agrees_regrouped, exists_rest, exists_both}
 use Rattle.dpl_syntax.proofs.Steps.{agreed, moved}
 use Rattle.dpl_syntax.proofs.Slotting.{decide, Slotted}
 use Rattle.dpl_syntax.proofs.Items.{Goes, IsFine, Turnable, bind_ok, bind_err, done, ok_is, not_ok}
@@ -26,9 +29,32 @@ or_cases : (x y : Bool) → x || y ≡ true → (x ≡ true) ⊎ (y ≡ true)
 or_cases true y e = inl refl
 or_cases false y e = inr e
 
-pub by_kind : (P : ℕ → Type 0) → P kinds.boundary → P kinds.path → P kinds.sref → P kinds.aref → P kinds.text → P kinds.node → P kinds.box → (k : ℕ) → kinds.begins_element k ≡ true → P k
+pub by_kind : (P : ℕ → Type 0) → P kinds.boundary → P kinds.path → P kinds.sref → P kinds.aref → P kinds.text → P kinds.node → P kinds.box
+    → (k : ℕ) → kinds.begins_element k ≡ true → P k
 by_kind P p1 p2 p3 p4 p5 p6 p7 k e =
-    elim (or_cases ((((((eqb k kinds.boundary) || eqb k kinds.path) || eqb k kinds.sref) || eqb k kinds.aref) || eqb k kinds.text) || eqb k kinds.node) (eqb k kinds.box) e) [ inl e6 ↦ elim (or_cases (((((eqb k kinds.boundary) || eqb k kinds.path) || eqb k kinds.sref) || eqb k kinds.aref) || eqb k kinds.text) (eqb k kinds.node) e6) [ inl e5 ↦ elim (or_cases ((((eqb k kinds.boundary) || eqb k kinds.path) || eqb k kinds.sref) || eqb k kinds.aref) (eqb k kinds.text) e5) [ inl e4 ↦ elim (or_cases (((eqb k kinds.boundary) || eqb k kinds.path) || eqb k kinds.sref) (eqb k kinds.aref) e4) [ inl e3 ↦ elim (or_cases ((eqb k kinds.boundary) || eqb k kinds.path) (eqb k kinds.sref) e3) [ inl e2 ↦ elim (or_cases (eqb k kinds.boundary) (eqb k kinds.path) e2) [ inl e1 ↦ subst P (sym (eqb-true k kinds.boundary e1)) p1 | inr t ↦ subst P (sym (eqb-true k kinds.path t)) p2 ] | inr t ↦ subst P (sym (eqb-true k kinds.sref t)) p3 ] | inr t ↦ subst P (sym (eqb-true k kinds.aref t)) p4 ] | inr t ↦ subst P (sym (eqb-true k kinds.text t)) p5 ] | inr t ↦ subst P (sym (eqb-true k kinds.node t)) p6 ] | inr t ↦ subst P (sym (eqb-true k kinds.box t)) p7 ]
+    elim (or_cases ((((((eqb k kinds.boundary) || eqb k kinds.path) || eqb k kinds.sref) || eqb k kinds.aref) || eqb k kinds.text) || eqb k
+    kinds.node) (eqb k kinds.box) e) [
+      | inl e6 ↦ elim (or_cases (((((eqb k kinds.boundary) || eqb k kinds.path) || eqb k kinds.sref) || eqb k kinds.aref) || eqb k
+          kinds.text) (eqb k kinds.node) e6) [
+            | inl e5 ↦ elim (or_cases ((((eqb k kinds.boundary) || eqb k kinds.path) || eqb k kinds.sref) || eqb k kinds.aref)
+                (eqb k kinds.text) e5) [
+                  | inl e4 ↦ elim (or_cases (((eqb k kinds.boundary) || eqb k kinds.path) || eqb k kinds.sref)
+                      (eqb k kinds.aref) e4) [
+                        | inl e3 ↦ elim (or_cases ((eqb k kinds.boundary) || eqb k kinds.path) (eqb k kinds.sref) e3) [
+                          | inl e2 ↦ elim (or_cases (eqb k kinds.boundary) (eqb k kinds.path) e2) [
+                            | inl e1 ↦ subst P (sym (eqb-true k kinds.boundary e1)) p1
+                            | inr t ↦ subst P (sym (eqb-true k kinds.path t)) p2
+                          ]
+                          | inr t ↦ subst P (sym (eqb-true k kinds.sref t)) p3
+                        ]
+                        | inr t ↦ subst P (sym (eqb-true k kinds.aref t)) p4
+                      ]
+                  | inr t ↦ subst P (sym (eqb-true k kinds.text t)) p5
+                ]
+            | inr t ↦ subst P (sym (eqb-true k kinds.node t)) p6
+          ]
+      | inr t ↦ subst P (sym (eqb-true k kinds.box t)) p7
+    ]
 
 -- ---- what each has
 
@@ -54,15 +80,26 @@ fits_boundary rest = (
 fits_path : (rest : Grammar) → AllFit kinds.path rest (items_of kinds.path)
 unfolding refusal_in
 fits_path rest = (
-  (record { plain = λ known at body. refl; inner = refl }, avoids_items (may kinds.plex ∷ must kinds.layer ∷ must kinds.datatype ∷ may kinds.pathtype ∷ may kinds.width ∷ may kinds.bgnextn ∷ may kinds.endextn ∷ must kinds.xy ∷ []) rest kinds.elflags refl),
   (
-    (record { plain = λ known at body. refl; inner = refl }, avoids_items (must kinds.layer ∷ must kinds.datatype ∷ may kinds.pathtype ∷ may kinds.width ∷ may kinds.bgnextn ∷ may kinds.endextn ∷ must kinds.xy ∷ []) rest kinds.plex refl),
+    record { plain = λ known at body. refl; inner = refl },
+    avoids_items (may kinds.plex ∷ must kinds.layer ∷ must kinds.datatype ∷ may kinds.pathtype ∷ may kinds.width ∷ may kinds.bgnextn ∷ may
+        kinds.endextn ∷ must kinds.xy ∷ []) rest kinds.elflags refl,
+  ),
+  (
+    (
+      record { plain = λ known at body. refl; inner = refl },
+      avoids_items (must kinds.layer ∷ must kinds.datatype ∷ may kinds.pathtype ∷ may kinds.width ∷ may kinds.bgnextn ∷ may kinds.endextn
+          ∷ must kinds.xy ∷ []) rest kinds.plex refl,
+    ),
     (
       record { plain = λ known at body. refl; inner = refl },
       (
         record { plain = λ known at body. refl; inner = refl },
         (
-          (record { plain = λ known at body. refl; inner = refl }, avoids_items (may kinds.width ∷ may kinds.bgnextn ∷ may kinds.endextn ∷ must kinds.xy ∷ []) rest kinds.pathtype refl),
+          (
+            record { plain = λ known at body. refl; inner = refl },
+            avoids_items (may kinds.width ∷ may kinds.bgnextn ∷ may kinds.endextn ∷ must kinds.xy ∷ []) rest kinds.pathtype refl,
+          ),
           (
             (record { plain = λ known at body. refl; inner = refl }, avoids_items (may kinds.bgnextn ∷ may kinds.endextn ∷ must kinds.xy ∷ []) rest kinds.width refl),
             (
@@ -91,7 +128,16 @@ fits_sref rest = (
     (
       tt,
       (
-        record { strans = record { plain = λ known at body. refl; inner = refl }; mag = record { plain = λ known at body. refl; inner = refl }; angle = record { plain = λ known at body. refl; inner = refl }; no_strans = avoids_items (points 8 ∷ []) rest kinds.strans refl; no_mag = avoids_items (points 8 ∷ []) rest kinds.mag refl; no_angle = avoids_items (points 8 ∷ []) rest kinds.angle refl },
+        record {
+          strans = record { plain = λ known at body. refl; inner = refl };
+          mag = record
+              { plain = λ known at body. refl; inner = refl };
+          angle = record { plain = λ known at body. refl; inner = refl };
+          no_strans = avoids_items (points 8 ∷ []) rest kinds.strans refl;
+          no_mag = avoids_items
+              (points 8 ∷ []) rest kinds.mag refl;
+          no_angle = avoids_items (points 8 ∷ []) rest kinds.angle refl;
+        },
         (
           λ n. refl,
           tt,
@@ -110,7 +156,17 @@ fits_aref rest = (
     (
       tt,
       (
-        record { strans = record { plain = λ known at body. refl; inner = refl }; mag = record { plain = λ known at body. refl; inner = refl }; angle = record { plain = λ known at body. refl; inner = refl }; no_strans = avoids_items (must kinds.colrow ∷ points 24 ∷ []) rest kinds.strans refl; no_mag = avoids_items (must kinds.colrow ∷ points 24 ∷ []) rest kinds.mag refl; no_angle = avoids_items (must kinds.colrow ∷ points 24 ∷ []) rest kinds.angle refl },
+        record {
+          strans = record { plain = λ known at body. refl; inner = refl };
+          mag = record
+              { plain = λ known at body. refl; inner = refl };
+          angle = record { plain = λ known at body. refl; inner = refl };
+          no_strans = avoids_items (must kinds.colrow ∷ points 24 ∷ []) rest kinds.strans refl;
+          no_mag = avoids_items
+              (must kinds.colrow ∷ points 24 ∷ []) rest kinds.mag refl;
+          no_angle = avoids_items
+              (must kinds.colrow ∷ points 24 ∷ []) rest kinds.angle refl;
+        },
         (
           record { plain = λ known at body. refl; inner = refl },
           (
@@ -126,21 +182,43 @@ fits_aref rest = (
 fits_text : (rest : Grammar) → AllFit kinds.text rest (items_of kinds.text)
 unfolding refusal_in
 fits_text rest = (
-  (record { plain = λ known at body. refl; inner = refl }, avoids_items (may kinds.plex ∷ must kinds.layer ∷ must kinds.texttype ∷ may kinds.presentation ∷ may kinds.pathtype ∷ may kinds.width ∷ turned ∷ points 8 ∷ must kinds.text_string ∷ []) rest kinds.elflags refl),
   (
-    (record { plain = λ known at body. refl; inner = refl }, avoids_items (must kinds.layer ∷ must kinds.texttype ∷ may kinds.presentation ∷ may kinds.pathtype ∷ may kinds.width ∷ turned ∷ points 8 ∷ must kinds.text_string ∷ []) rest kinds.plex refl),
+    record { plain = λ known at body. refl; inner = refl },
+    avoids_items (may kinds.plex ∷ must kinds.layer ∷ must kinds.texttype ∷ may kinds.presentation ∷ may kinds.pathtype ∷ may kinds.width
+        ∷ turned ∷ points 8 ∷ must kinds.text_string ∷ []) rest kinds.elflags refl,
+  ),
+  (
+    (
+      record { plain = λ known at body. refl; inner = refl },
+      avoids_items (must kinds.layer ∷ must kinds.texttype ∷ may kinds.presentation ∷ may kinds.pathtype ∷ may kinds.width ∷ turned
+          ∷ points 8 ∷ must kinds.text_string ∷ []) rest kinds.plex refl,
+    ),
     (
       record { plain = λ known at body. refl; inner = refl },
       (
         record { plain = λ known at body. refl; inner = refl },
         (
-          (record { plain = λ known at body. refl; inner = refl }, avoids_items (may kinds.pathtype ∷ may kinds.width ∷ turned ∷ points 8 ∷ must kinds.text_string ∷ []) rest kinds.presentation refl),
+          (
+            record { plain = λ known at body. refl; inner = refl },
+            avoids_items (may kinds.pathtype ∷ may kinds.width ∷ turned ∷ points 8 ∷ must kinds.text_string ∷ []) rest kinds.presentation
+                refl,
+          ),
           (
             (record { plain = λ known at body. refl; inner = refl }, avoids_items (may kinds.width ∷ turned ∷ points 8 ∷ must kinds.text_string ∷ []) rest kinds.pathtype refl),
             (
               (record { plain = λ known at body. refl; inner = refl }, avoids_items (turned ∷ points 8 ∷ must kinds.text_string ∷ []) rest kinds.width refl),
               (
-                record { strans = record { plain = λ known at body. refl; inner = refl }; mag = record { plain = λ known at body. refl; inner = refl }; angle = record { plain = λ known at body. refl; inner = refl }; no_strans = avoids_items (points 8 ∷ must kinds.text_string ∷ []) rest kinds.strans refl; no_mag = avoids_items (points 8 ∷ must kinds.text_string ∷ []) rest kinds.mag refl; no_angle = avoids_items (points 8 ∷ must kinds.text_string ∷ []) rest kinds.angle refl },
+                record {
+                  strans = record { plain = λ known at body. refl; inner = refl };
+                  mag = record
+                      { plain = λ known at body. refl; inner = refl };
+                  angle = record { plain = λ known at body. refl; inner = refl };
+                  no_strans = avoids_items (points 8 ∷ must kinds.text_string ∷ []) rest kinds.strans refl;
+                  no_mag = avoids_items
+                      (points 8 ∷ must kinds.text_string ∷ []) rest kinds.mag refl;
+                  no_angle = avoids_items
+                      (points 8 ∷ must kinds.text_string ∷ []) rest kinds.angle refl;
+                },
                 (
                   λ n. refl,
                   (
@@ -229,7 +307,9 @@ exists_items (i ∷ is) rest some = exists_both (grammar_of i) (behind is rest) 
 -- behind its first record a body has its items
 body_moves : (kind : ℕ) (i : Item) (is : List Item) (rest : Grammar) → Moves (both (both (a kind) (whole i is)) rest) kind (behind (i ∷ is) rest)
 body_moves kind i is rest =
-    let m = moves_agreed (both (both (a kind) (whole i is)) rest) (both (a kind) (both (whole i is) rest)) (both (whole i is) rest) kind (agrees_regrouped (a kind) (whole i is) rest kind) (moves_one (λ j. eqb j kind) (both (whole i is) rest) kind (eq-eqb kind kind refl)) in
+    let m = moves_agreed (both (both (a kind) (whole i is)) rest) (both (a kind) (both (whole i is) rest)) (both (whole i is) rest) kind
+    (agrees_regrouped (a kind) (whole i is) rest kind) (moves_one (λ j. eqb j kind) (both (whole i is) rest) kind
+    (eq-eqb kind kind refl)) in
     record { on = λ ks h. unrolls i is rest ks (m.on ks h); back = λ ks h. m.back ks (rolls i is rest ks h) }
 
 -- another body doesn't begin so
@@ -245,47 +325,309 @@ choice = (either grammar.boundary (either grammar.path (either grammar.sref (eit
 enters_boundary : (rest : Grammar) → Moves (both choice rest) kinds.boundary (behind (items_of kinds.boundary) rest)
 enters_boundary rest =
     moves_agreed (both choice rest) (both grammar.boundary rest) (behind (items_of kinds.boundary) rest) kinds.boundary
-    (takes_first grammar.boundary (either grammar.path (either grammar.sref (either grammar.aref (either grammar.text (either grammar.node grammar.box))))) rest kinds.boundary (avoids_either grammar.path (either grammar.sref (either grammar.aref (either grammar.text (either grammar.node grammar.box)))) kinds.boundary (other kinds.path kinds.boundary (whole (may kinds.elflags) (may kinds.plex ∷ must kinds.layer ∷ must kinds.datatype ∷ may kinds.pathtype ∷ may kinds.width ∷ may kinds.bgnextn ∷ may kinds.endextn ∷ must kinds.xy ∷ [])) refl) (avoids_either grammar.sref (either grammar.aref (either grammar.text (either grammar.node grammar.box))) kinds.boundary (other kinds.sref kinds.boundary (whole (may kinds.elflags) (may kinds.plex ∷ named ∷ turned ∷ points 8 ∷ [])) refl) (avoids_either grammar.aref (either grammar.text (either grammar.node grammar.box)) kinds.boundary (other kinds.aref kinds.boundary (whole (may kinds.elflags) (may kinds.plex ∷ named ∷ turned ∷ must kinds.colrow ∷ points 24 ∷ [])) refl) (avoids_either grammar.text (either grammar.node grammar.box) kinds.boundary (other kinds.text kinds.boundary (whole (may kinds.elflags) (may kinds.plex ∷ must kinds.layer ∷ must kinds.texttype ∷ may kinds.presentation ∷ may kinds.pathtype ∷ may kinds.width ∷ turned ∷ points 8 ∷ must kinds.text_string ∷ [])) refl) (avoids_either grammar.node grammar.box kinds.boundary (other kinds.node kinds.boundary (whole (may kinds.elflags) (may kinds.plex ∷ must kinds.layer ∷ must kinds.nodetype ∷ must kinds.xy ∷ [])) refl) (other kinds.box kinds.boundary (whole (may kinds.elflags) (may kinds.plex ∷ must kinds.layer ∷ must kinds.boxtype ∷ must kinds.xy ∷ [])) refl)))))) (solid_either grammar.path (either grammar.sref (either grammar.aref (either grammar.text (either grammar.node grammar.box)))) (solid kinds.path (whole (may kinds.elflags) (may kinds.plex ∷ must kinds.layer ∷ must kinds.datatype ∷ may kinds.pathtype ∷ may kinds.width ∷ may kinds.bgnextn ∷ may kinds.endextn ∷ must kinds.xy ∷ []))) (solid_either grammar.sref (either grammar.aref (either grammar.text (either grammar.node grammar.box))) (solid kinds.sref (whole (may kinds.elflags) (may kinds.plex ∷ named ∷ turned ∷ points 8 ∷ []))) (solid_either grammar.aref (either grammar.text (either grammar.node grammar.box)) (solid kinds.aref (whole (may kinds.elflags) (may kinds.plex ∷ named ∷ turned ∷ must kinds.colrow ∷ points 24 ∷ []))) (solid_either grammar.text (either grammar.node grammar.box) (solid kinds.text (whole (may kinds.elflags) (may kinds.plex ∷ must kinds.layer ∷ must kinds.texttype ∷ may kinds.presentation ∷ may kinds.pathtype ∷ may kinds.width ∷ turned ∷ points 8 ∷ must kinds.text_string ∷ []))) (solid_either grammar.node grammar.box (solid kinds.node (whole (may kinds.elflags) (may kinds.plex ∷ must kinds.layer ∷ must kinds.nodetype ∷ must kinds.xy ∷ []))) (solid kinds.box (whole (may kinds.elflags) (may kinds.plex ∷ must kinds.layer ∷ must kinds.boxtype ∷ must kinds.xy ∷ [])))))))))
+    (takes_first grammar.boundary
+    (either grammar.path (either grammar.sref (either grammar.aref (either grammar.text (either grammar.node grammar.box))))) rest
+    kinds.boundary (avoids_either grammar.path
+    (either grammar.sref (either grammar.aref (either grammar.text (either grammar.node grammar.box)))) kinds.boundary
+    (other kinds.path kinds.boundary
+    (whole (may kinds.elflags) (may kinds.plex ∷ must kinds.layer ∷ must kinds.datatype ∷ may kinds.pathtype ∷ may kinds.width ∷ may
+    kinds.bgnextn ∷ may kinds.endextn ∷ must kinds.xy ∷ [])) refl)
+    (avoids_either grammar.sref (either grammar.aref (either grammar.text (either grammar.node grammar.box))) kinds.boundary
+    (other kinds.sref kinds.boundary (whole (may kinds.elflags) (may kinds.plex ∷ named ∷ turned ∷ points 8 ∷ [])) refl)
+    (avoids_either grammar.aref (either grammar.text (either grammar.node grammar.box)) kinds.boundary
+    (other kinds.aref kinds.boundary (whole (may kinds.elflags) (may kinds.plex ∷ named ∷ turned ∷ must kinds.colrow ∷ points 24 ∷ []))
+    refl) (avoids_either grammar.text (either grammar.node grammar.box) kinds.boundary
+    (other kinds.text kinds.boundary
+    (whole (may kinds.elflags) (may kinds.plex ∷ must kinds.layer ∷ must kinds.texttype ∷ may kinds.presentation ∷ may kinds.pathtype
+    ∷ may kinds.width ∷ turned ∷ points 8 ∷ must kinds.text_string ∷ [])) refl) (avoids_either grammar.node grammar.box kinds.boundary
+    (other kinds.node kinds.boundary
+    (whole (may kinds.elflags) (may kinds.plex ∷ must kinds.layer ∷ must kinds.nodetype ∷ must kinds.xy ∷ [])) refl)
+    (other kinds.box kinds.boundary
+    (whole (may kinds.elflags) (may kinds.plex ∷ must kinds.layer ∷ must kinds.boxtype ∷ must kinds.xy ∷ [])) refl))))))
+    (solid_either grammar.path (either grammar.sref (either grammar.aref (either grammar.text (either grammar.node grammar.box))))
+    (solid kinds.path (whole (may kinds.elflags)
+    (may kinds.plex ∷ must kinds.layer ∷ must kinds.datatype ∷ may kinds.pathtype ∷ may kinds.width ∷ may kinds.bgnextn ∷ may
+    kinds.endextn ∷ must kinds.xy ∷ [])))
+    (solid_either grammar.sref (either grammar.aref (either grammar.text (either grammar.node grammar.box)))
+    (solid kinds.sref (whole (may kinds.elflags) (may kinds.plex ∷ named ∷ turned ∷ points 8 ∷ [])))
+    (solid_either grammar.aref (either grammar.text (either grammar.node grammar.box))
+    (solid kinds.aref (whole (may kinds.elflags) (may kinds.plex ∷ named ∷ turned ∷ must kinds.colrow ∷ points 24 ∷ [])))
+    (solid_either grammar.text (either grammar.node grammar.box)
+    (solid kinds.text (whole (may kinds.elflags)
+    (may kinds.plex ∷ must kinds.layer ∷ must kinds.texttype ∷ may kinds.presentation ∷ may kinds.pathtype ∷ may kinds.width ∷ turned
+    ∷ points 8 ∷ must kinds.text_string ∷ [])))
+    (solid_either grammar.node grammar.box
+    (solid kinds.node (whole (may kinds.elflags) (may kinds.plex ∷ must kinds.layer ∷ must kinds.nodetype ∷ must kinds.xy ∷ [])))
+    (solid kinds.box (whole (may kinds.elflags) (may kinds.plex ∷ must kinds.layer ∷ must kinds.boxtype ∷ must kinds.xy ∷ [])))))))))
     (body_moves kinds.boundary (may kinds.elflags) (may kinds.plex ∷ must kinds.layer ∷ must kinds.datatype ∷ must kinds.xy ∷ []) rest)
 
 enters_path : (rest : Grammar) → Moves (both choice rest) kinds.path (behind (items_of kinds.path) rest)
 enters_path rest =
     moves_agreed (both choice rest) (both grammar.path rest) (behind (items_of kinds.path) rest) kinds.path
-    (agrees_both (both (either grammar.boundary (either grammar.path (either grammar.sref (either grammar.aref (either grammar.text (either grammar.node grammar.box)))))) rest) (both (either grammar.path (either grammar.sref (either grammar.aref (either grammar.text (either grammar.node grammar.box))))) rest) (both grammar.path rest) kinds.path (takes_second grammar.boundary (either grammar.path (either grammar.sref (either grammar.aref (either grammar.text (either grammar.node grammar.box))))) rest kinds.path (other kinds.boundary kinds.path (whole (may kinds.elflags) (may kinds.plex ∷ must kinds.layer ∷ must kinds.datatype ∷ must kinds.xy ∷ [])) refl) (solid kinds.boundary (whole (may kinds.elflags) (may kinds.plex ∷ must kinds.layer ∷ must kinds.datatype ∷ must kinds.xy ∷ [])))) (takes_first grammar.path (either grammar.sref (either grammar.aref (either grammar.text (either grammar.node grammar.box)))) rest kinds.path (avoids_either grammar.sref (either grammar.aref (either grammar.text (either grammar.node grammar.box))) kinds.path (other kinds.sref kinds.path (whole (may kinds.elflags) (may kinds.plex ∷ named ∷ turned ∷ points 8 ∷ [])) refl) (avoids_either grammar.aref (either grammar.text (either grammar.node grammar.box)) kinds.path (other kinds.aref kinds.path (whole (may kinds.elflags) (may kinds.plex ∷ named ∷ turned ∷ must kinds.colrow ∷ points 24 ∷ [])) refl) (avoids_either grammar.text (either grammar.node grammar.box) kinds.path (other kinds.text kinds.path (whole (may kinds.elflags) (may kinds.plex ∷ must kinds.layer ∷ must kinds.texttype ∷ may kinds.presentation ∷ may kinds.pathtype ∷ may kinds.width ∷ turned ∷ points 8 ∷ must kinds.text_string ∷ [])) refl) (avoids_either grammar.node grammar.box kinds.path (other kinds.node kinds.path (whole (may kinds.elflags) (may kinds.plex ∷ must kinds.layer ∷ must kinds.nodetype ∷ must kinds.xy ∷ [])) refl) (other kinds.box kinds.path (whole (may kinds.elflags) (may kinds.plex ∷ must kinds.layer ∷ must kinds.boxtype ∷ must kinds.xy ∷ [])) refl))))) (solid_either grammar.sref (either grammar.aref (either grammar.text (either grammar.node grammar.box))) (solid kinds.sref (whole (may kinds.elflags) (may kinds.plex ∷ named ∷ turned ∷ points 8 ∷ []))) (solid_either grammar.aref (either grammar.text (either grammar.node grammar.box)) (solid kinds.aref (whole (may kinds.elflags) (may kinds.plex ∷ named ∷ turned ∷ must kinds.colrow ∷ points 24 ∷ []))) (solid_either grammar.text (either grammar.node grammar.box) (solid kinds.text (whole (may kinds.elflags) (may kinds.plex ∷ must kinds.layer ∷ must kinds.texttype ∷ may kinds.presentation ∷ may kinds.pathtype ∷ may kinds.width ∷ turned ∷ points 8 ∷ must kinds.text_string ∷ []))) (solid_either grammar.node grammar.box (solid kinds.node (whole (may kinds.elflags) (may kinds.plex ∷ must kinds.layer ∷ must kinds.nodetype ∷ must kinds.xy ∷ []))) (solid kinds.box (whole (may kinds.elflags) (may kinds.plex ∷ must kinds.layer ∷ must kinds.boxtype ∷ must kinds.xy ∷ [])))))))))
-    (body_moves kinds.path (may kinds.elflags) (may kinds.plex ∷ must kinds.layer ∷ must kinds.datatype ∷ may kinds.pathtype ∷ may kinds.width ∷ may kinds.bgnextn ∷ may kinds.endextn ∷ must kinds.xy ∷ []) rest)
+    (agrees_both (both (either grammar.boundary
+    (either grammar.path (either grammar.sref (either grammar.aref (either grammar.text (either grammar.node grammar.box)))))) rest)
+    (both (either grammar.path (either grammar.sref (either grammar.aref (either grammar.text (either grammar.node grammar.box))))) rest)
+    (both grammar.path rest) kinds.path
+    (takes_second grammar.boundary
+    (either grammar.path (either grammar.sref (either grammar.aref (either grammar.text (either grammar.node grammar.box))))) rest
+    kinds.path (other kinds.boundary kinds.path
+    (whole (may kinds.elflags) (may kinds.plex ∷ must kinds.layer ∷ must kinds.datatype ∷ must kinds.xy ∷ [])) refl)
+    (solid kinds.boundary (whole (may kinds.elflags) (may kinds.plex ∷ must kinds.layer ∷ must kinds.datatype ∷ must kinds.xy ∷ []))))
+    (takes_first grammar.path (either grammar.sref (either grammar.aref (either grammar.text (either grammar.node grammar.box)))) rest
+    kinds.path (avoids_either grammar.sref (either grammar.aref (either grammar.text (either grammar.node grammar.box))) kinds.path
+    (other kinds.sref kinds.path (whole (may kinds.elflags) (may kinds.plex ∷ named ∷ turned ∷ points 8 ∷ [])) refl)
+    (avoids_either grammar.aref (either grammar.text (either grammar.node grammar.box)) kinds.path
+    (other kinds.aref kinds.path (whole (may kinds.elflags) (may kinds.plex ∷ named ∷ turned ∷ must kinds.colrow ∷ points 24 ∷ [])) refl)
+    (avoids_either grammar.text (either grammar.node grammar.box) kinds.path
+    (other kinds.text kinds.path
+    (whole (may kinds.elflags) (may kinds.plex ∷ must kinds.layer ∷ must kinds.texttype ∷ may kinds.presentation ∷ may kinds.pathtype
+    ∷ may kinds.width ∷ turned ∷ points 8 ∷ must kinds.text_string ∷ [])) refl) (avoids_either grammar.node grammar.box kinds.path
+    (other kinds.node kinds.path
+    (whole (may kinds.elflags) (may kinds.plex ∷ must kinds.layer ∷ must kinds.nodetype ∷ must kinds.xy ∷ [])) refl)
+    (other kinds.box kinds.path (whole (may kinds.elflags) (may kinds.plex ∷ must kinds.layer ∷ must kinds.boxtype ∷ must kinds.xy ∷ []))
+    refl))))) (solid_either grammar.sref (either grammar.aref (either grammar.text (either grammar.node grammar.box)))
+    (solid kinds.sref (whole (may kinds.elflags) (may kinds.plex ∷ named ∷ turned ∷ points 8 ∷ [])))
+    (solid_either grammar.aref (either grammar.text (either grammar.node grammar.box))
+    (solid kinds.aref (whole (may kinds.elflags) (may kinds.plex ∷ named ∷ turned ∷ must kinds.colrow ∷ points 24 ∷ [])))
+    (solid_either grammar.text (either grammar.node grammar.box)
+    (solid kinds.text (whole (may kinds.elflags)
+    (may kinds.plex ∷ must kinds.layer ∷ must kinds.texttype ∷ may kinds.presentation ∷ may kinds.pathtype ∷ may kinds.width ∷ turned
+    ∷ points 8 ∷ must kinds.text_string ∷ [])))
+    (solid_either grammar.node grammar.box
+    (solid kinds.node (whole (may kinds.elflags) (may kinds.plex ∷ must kinds.layer ∷ must kinds.nodetype ∷ must kinds.xy ∷ [])))
+    (solid kinds.box (whole (may kinds.elflags) (may kinds.plex ∷ must kinds.layer ∷ must kinds.boxtype ∷ must kinds.xy ∷ [])))))))))
+    (body_moves kinds.path (may kinds.elflags)
+    (may kinds.plex ∷ must kinds.layer ∷ must kinds.datatype ∷ may kinds.pathtype ∷ may kinds.width ∷ may kinds.bgnextn ∷ may
+    kinds.endextn ∷ must kinds.xy ∷ []) rest)
 
 enters_sref : (rest : Grammar) → Moves (both choice rest) kinds.sref (behind (items_of kinds.sref) rest)
 enters_sref rest =
     moves_agreed (both choice rest) (both grammar.sref rest) (behind (items_of kinds.sref) rest) kinds.sref
-    (agrees_both (both (either grammar.boundary (either grammar.path (either grammar.sref (either grammar.aref (either grammar.text (either grammar.node grammar.box)))))) rest) (both (either grammar.path (either grammar.sref (either grammar.aref (either grammar.text (either grammar.node grammar.box))))) rest) (both grammar.sref rest) kinds.sref (takes_second grammar.boundary (either grammar.path (either grammar.sref (either grammar.aref (either grammar.text (either grammar.node grammar.box))))) rest kinds.sref (other kinds.boundary kinds.sref (whole (may kinds.elflags) (may kinds.plex ∷ must kinds.layer ∷ must kinds.datatype ∷ must kinds.xy ∷ [])) refl) (solid kinds.boundary (whole (may kinds.elflags) (may kinds.plex ∷ must kinds.layer ∷ must kinds.datatype ∷ must kinds.xy ∷ [])))) (agrees_both (both (either grammar.path (either grammar.sref (either grammar.aref (either grammar.text (either grammar.node grammar.box))))) rest) (both (either grammar.sref (either grammar.aref (either grammar.text (either grammar.node grammar.box)))) rest) (both grammar.sref rest) kinds.sref (takes_second grammar.path (either grammar.sref (either grammar.aref (either grammar.text (either grammar.node grammar.box)))) rest kinds.sref (other kinds.path kinds.sref (whole (may kinds.elflags) (may kinds.plex ∷ must kinds.layer ∷ must kinds.datatype ∷ may kinds.pathtype ∷ may kinds.width ∷ may kinds.bgnextn ∷ may kinds.endextn ∷ must kinds.xy ∷ [])) refl) (solid kinds.path (whole (may kinds.elflags) (may kinds.plex ∷ must kinds.layer ∷ must kinds.datatype ∷ may kinds.pathtype ∷ may kinds.width ∷ may kinds.bgnextn ∷ may kinds.endextn ∷ must kinds.xy ∷ [])))) (takes_first grammar.sref (either grammar.aref (either grammar.text (either grammar.node grammar.box))) rest kinds.sref (avoids_either grammar.aref (either grammar.text (either grammar.node grammar.box)) kinds.sref (other kinds.aref kinds.sref (whole (may kinds.elflags) (may kinds.plex ∷ named ∷ turned ∷ must kinds.colrow ∷ points 24 ∷ [])) refl) (avoids_either grammar.text (either grammar.node grammar.box) kinds.sref (other kinds.text kinds.sref (whole (may kinds.elflags) (may kinds.plex ∷ must kinds.layer ∷ must kinds.texttype ∷ may kinds.presentation ∷ may kinds.pathtype ∷ may kinds.width ∷ turned ∷ points 8 ∷ must kinds.text_string ∷ [])) refl) (avoids_either grammar.node grammar.box kinds.sref (other kinds.node kinds.sref (whole (may kinds.elflags) (may kinds.plex ∷ must kinds.layer ∷ must kinds.nodetype ∷ must kinds.xy ∷ [])) refl) (other kinds.box kinds.sref (whole (may kinds.elflags) (may kinds.plex ∷ must kinds.layer ∷ must kinds.boxtype ∷ must kinds.xy ∷ [])) refl)))) (solid_either grammar.aref (either grammar.text (either grammar.node grammar.box)) (solid kinds.aref (whole (may kinds.elflags) (may kinds.plex ∷ named ∷ turned ∷ must kinds.colrow ∷ points 24 ∷ []))) (solid_either grammar.text (either grammar.node grammar.box) (solid kinds.text (whole (may kinds.elflags) (may kinds.plex ∷ must kinds.layer ∷ must kinds.texttype ∷ may kinds.presentation ∷ may kinds.pathtype ∷ may kinds.width ∷ turned ∷ points 8 ∷ must kinds.text_string ∷ []))) (solid_either grammar.node grammar.box (solid kinds.node (whole (may kinds.elflags) (may kinds.plex ∷ must kinds.layer ∷ must kinds.nodetype ∷ must kinds.xy ∷ []))) (solid kinds.box (whole (may kinds.elflags) (may kinds.plex ∷ must kinds.layer ∷ must kinds.boxtype ∷ must kinds.xy ∷ [])))))))))
+    (agrees_both (both (either grammar.boundary
+    (either grammar.path (either grammar.sref (either grammar.aref (either grammar.text (either grammar.node grammar.box)))))) rest)
+    (both (either grammar.path (either grammar.sref (either grammar.aref (either grammar.text (either grammar.node grammar.box))))) rest)
+    (both grammar.sref rest) kinds.sref
+    (takes_second grammar.boundary
+    (either grammar.path (either grammar.sref (either grammar.aref (either grammar.text (either grammar.node grammar.box))))) rest
+    kinds.sref (other kinds.boundary kinds.sref
+    (whole (may kinds.elflags) (may kinds.plex ∷ must kinds.layer ∷ must kinds.datatype ∷ must kinds.xy ∷ [])) refl)
+    (solid kinds.boundary (whole (may kinds.elflags) (may kinds.plex ∷ must kinds.layer ∷ must kinds.datatype ∷ must kinds.xy ∷ []))))
+    (agrees_both (both (either grammar.path
+    (either grammar.sref (either grammar.aref (either grammar.text (either grammar.node grammar.box))))) rest)
+    (both (either grammar.sref (either grammar.aref (either grammar.text (either grammar.node grammar.box)))) rest)
+    (both grammar.sref rest) kinds.sref
+    (takes_second grammar.path (either grammar.sref (either grammar.aref (either grammar.text (either grammar.node grammar.box)))) rest
+    kinds.sref (other kinds.path kinds.sref
+    (whole (may kinds.elflags) (may kinds.plex ∷ must kinds.layer ∷ must kinds.datatype ∷ may kinds.pathtype ∷ may kinds.width ∷ may
+    kinds.bgnextn ∷ may kinds.endextn ∷ must kinds.xy ∷ [])) refl)
+    (solid kinds.path (whole (may kinds.elflags)
+    (may kinds.plex ∷ must kinds.layer ∷ must kinds.datatype ∷ may kinds.pathtype ∷ may kinds.width ∷ may kinds.bgnextn ∷ may
+    kinds.endextn ∷ must kinds.xy ∷ []))))
+    (takes_first grammar.sref (either grammar.aref (either grammar.text (either grammar.node grammar.box))) rest kinds.sref
+    (avoids_either grammar.aref (either grammar.text (either grammar.node grammar.box)) kinds.sref
+    (other kinds.aref kinds.sref (whole (may kinds.elflags) (may kinds.plex ∷ named ∷ turned ∷ must kinds.colrow ∷ points 24 ∷ [])) refl)
+    (avoids_either grammar.text (either grammar.node grammar.box) kinds.sref
+    (other kinds.text kinds.sref
+    (whole (may kinds.elflags) (may kinds.plex ∷ must kinds.layer ∷ must kinds.texttype ∷ may kinds.presentation ∷ may kinds.pathtype
+    ∷ may kinds.width ∷ turned ∷ points 8 ∷ must kinds.text_string ∷ [])) refl) (avoids_either grammar.node grammar.box kinds.sref
+    (other kinds.node kinds.sref
+    (whole (may kinds.elflags) (may kinds.plex ∷ must kinds.layer ∷ must kinds.nodetype ∷ must kinds.xy ∷ [])) refl)
+    (other kinds.box kinds.sref (whole (may kinds.elflags) (may kinds.plex ∷ must kinds.layer ∷ must kinds.boxtype ∷ must kinds.xy ∷ []))
+    refl)))) (solid_either grammar.aref (either grammar.text (either grammar.node grammar.box))
+    (solid kinds.aref (whole (may kinds.elflags) (may kinds.plex ∷ named ∷ turned ∷ must kinds.colrow ∷ points 24 ∷ [])))
+    (solid_either grammar.text (either grammar.node grammar.box)
+    (solid kinds.text (whole (may kinds.elflags)
+    (may kinds.plex ∷ must kinds.layer ∷ must kinds.texttype ∷ may kinds.presentation ∷ may kinds.pathtype ∷ may kinds.width ∷ turned
+    ∷ points 8 ∷ must kinds.text_string ∷ [])))
+    (solid_either grammar.node grammar.box
+    (solid kinds.node (whole (may kinds.elflags) (may kinds.plex ∷ must kinds.layer ∷ must kinds.nodetype ∷ must kinds.xy ∷ [])))
+    (solid kinds.box (whole (may kinds.elflags) (may kinds.plex ∷ must kinds.layer ∷ must kinds.boxtype ∷ must kinds.xy ∷ [])))))))))
     (body_moves kinds.sref (may kinds.elflags) (may kinds.plex ∷ named ∷ turned ∷ points 8 ∷ []) rest)
 
 enters_aref : (rest : Grammar) → Moves (both choice rest) kinds.aref (behind (items_of kinds.aref) rest)
 enters_aref rest =
     moves_agreed (both choice rest) (both grammar.aref rest) (behind (items_of kinds.aref) rest) kinds.aref
-    (agrees_both (both (either grammar.boundary (either grammar.path (either grammar.sref (either grammar.aref (either grammar.text (either grammar.node grammar.box)))))) rest) (both (either grammar.path (either grammar.sref (either grammar.aref (either grammar.text (either grammar.node grammar.box))))) rest) (both grammar.aref rest) kinds.aref (takes_second grammar.boundary (either grammar.path (either grammar.sref (either grammar.aref (either grammar.text (either grammar.node grammar.box))))) rest kinds.aref (other kinds.boundary kinds.aref (whole (may kinds.elflags) (may kinds.plex ∷ must kinds.layer ∷ must kinds.datatype ∷ must kinds.xy ∷ [])) refl) (solid kinds.boundary (whole (may kinds.elflags) (may kinds.plex ∷ must kinds.layer ∷ must kinds.datatype ∷ must kinds.xy ∷ [])))) (agrees_both (both (either grammar.path (either grammar.sref (either grammar.aref (either grammar.text (either grammar.node grammar.box))))) rest) (both (either grammar.sref (either grammar.aref (either grammar.text (either grammar.node grammar.box)))) rest) (both grammar.aref rest) kinds.aref (takes_second grammar.path (either grammar.sref (either grammar.aref (either grammar.text (either grammar.node grammar.box)))) rest kinds.aref (other kinds.path kinds.aref (whole (may kinds.elflags) (may kinds.plex ∷ must kinds.layer ∷ must kinds.datatype ∷ may kinds.pathtype ∷ may kinds.width ∷ may kinds.bgnextn ∷ may kinds.endextn ∷ must kinds.xy ∷ [])) refl) (solid kinds.path (whole (may kinds.elflags) (may kinds.plex ∷ must kinds.layer ∷ must kinds.datatype ∷ may kinds.pathtype ∷ may kinds.width ∷ may kinds.bgnextn ∷ may kinds.endextn ∷ must kinds.xy ∷ [])))) (agrees_both (both (either grammar.sref (either grammar.aref (either grammar.text (either grammar.node grammar.box)))) rest) (both (either grammar.aref (either grammar.text (either grammar.node grammar.box))) rest) (both grammar.aref rest) kinds.aref (takes_second grammar.sref (either grammar.aref (either grammar.text (either grammar.node grammar.box))) rest kinds.aref (other kinds.sref kinds.aref (whole (may kinds.elflags) (may kinds.plex ∷ named ∷ turned ∷ points 8 ∷ [])) refl) (solid kinds.sref (whole (may kinds.elflags) (may kinds.plex ∷ named ∷ turned ∷ points 8 ∷ [])))) (takes_first grammar.aref (either grammar.text (either grammar.node grammar.box)) rest kinds.aref (avoids_either grammar.text (either grammar.node grammar.box) kinds.aref (other kinds.text kinds.aref (whole (may kinds.elflags) (may kinds.plex ∷ must kinds.layer ∷ must kinds.texttype ∷ may kinds.presentation ∷ may kinds.pathtype ∷ may kinds.width ∷ turned ∷ points 8 ∷ must kinds.text_string ∷ [])) refl) (avoids_either grammar.node grammar.box kinds.aref (other kinds.node kinds.aref (whole (may kinds.elflags) (may kinds.plex ∷ must kinds.layer ∷ must kinds.nodetype ∷ must kinds.xy ∷ [])) refl) (other kinds.box kinds.aref (whole (may kinds.elflags) (may kinds.plex ∷ must kinds.layer ∷ must kinds.boxtype ∷ must kinds.xy ∷ [])) refl))) (solid_either grammar.text (either grammar.node grammar.box) (solid kinds.text (whole (may kinds.elflags) (may kinds.plex ∷ must kinds.layer ∷ must kinds.texttype ∷ may kinds.presentation ∷ may kinds.pathtype ∷ may kinds.width ∷ turned ∷ points 8 ∷ must kinds.text_string ∷ []))) (solid_either grammar.node grammar.box (solid kinds.node (whole (may kinds.elflags) (may kinds.plex ∷ must kinds.layer ∷ must kinds.nodetype ∷ must kinds.xy ∷ []))) (solid kinds.box (whole (may kinds.elflags) (may kinds.plex ∷ must kinds.layer ∷ must kinds.boxtype ∷ must kinds.xy ∷ [])))))))))
+    (agrees_both (both (either grammar.boundary
+    (either grammar.path (either grammar.sref (either grammar.aref (either grammar.text (either grammar.node grammar.box)))))) rest)
+    (both (either grammar.path (either grammar.sref (either grammar.aref (either grammar.text (either grammar.node grammar.box))))) rest)
+    (both grammar.aref rest) kinds.aref
+    (takes_second grammar.boundary
+    (either grammar.path (either grammar.sref (either grammar.aref (either grammar.text (either grammar.node grammar.box))))) rest
+    kinds.aref (other kinds.boundary kinds.aref
+    (whole (may kinds.elflags) (may kinds.plex ∷ must kinds.layer ∷ must kinds.datatype ∷ must kinds.xy ∷ [])) refl)
+    (solid kinds.boundary (whole (may kinds.elflags) (may kinds.plex ∷ must kinds.layer ∷ must kinds.datatype ∷ must kinds.xy ∷ []))))
+    (agrees_both (both (either grammar.path
+    (either grammar.sref (either grammar.aref (either grammar.text (either grammar.node grammar.box))))) rest)
+    (both (either grammar.sref (either grammar.aref (either grammar.text (either grammar.node grammar.box)))) rest)
+    (both grammar.aref rest) kinds.aref
+    (takes_second grammar.path (either grammar.sref (either grammar.aref (either grammar.text (either grammar.node grammar.box)))) rest
+    kinds.aref (other kinds.path kinds.aref
+    (whole (may kinds.elflags) (may kinds.plex ∷ must kinds.layer ∷ must kinds.datatype ∷ may kinds.pathtype ∷ may kinds.width ∷ may
+    kinds.bgnextn ∷ may kinds.endextn ∷ must kinds.xy ∷ [])) refl)
+    (solid kinds.path (whole (may kinds.elflags)
+    (may kinds.plex ∷ must kinds.layer ∷ must kinds.datatype ∷ may kinds.pathtype ∷ may kinds.width ∷ may kinds.bgnextn ∷ may
+    kinds.endextn ∷ must kinds.xy ∷ []))))
+    (agrees_both (both (either grammar.sref (either grammar.aref (either grammar.text (either grammar.node grammar.box)))) rest)
+    (both (either grammar.aref (either grammar.text (either grammar.node grammar.box))) rest) (both grammar.aref rest) kinds.aref
+    (takes_second grammar.sref (either grammar.aref (either grammar.text (either grammar.node grammar.box))) rest kinds.aref
+    (other kinds.sref kinds.aref (whole (may kinds.elflags) (may kinds.plex ∷ named ∷ turned ∷ points 8 ∷ [])) refl)
+    (solid kinds.sref (whole (may kinds.elflags) (may kinds.plex ∷ named ∷ turned ∷ points 8 ∷ []))))
+    (takes_first grammar.aref (either grammar.text (either grammar.node grammar.box)) rest kinds.aref
+    (avoids_either grammar.text (either grammar.node grammar.box) kinds.aref
+    (other kinds.text kinds.aref
+    (whole (may kinds.elflags) (may kinds.plex ∷ must kinds.layer ∷ must kinds.texttype ∷ may kinds.presentation ∷ may kinds.pathtype
+    ∷ may kinds.width ∷ turned ∷ points 8 ∷ must kinds.text_string ∷ [])) refl) (avoids_either grammar.node grammar.box kinds.aref
+    (other kinds.node kinds.aref
+    (whole (may kinds.elflags) (may kinds.plex ∷ must kinds.layer ∷ must kinds.nodetype ∷ must kinds.xy ∷ [])) refl)
+    (other kinds.box kinds.aref (whole (may kinds.elflags) (may kinds.plex ∷ must kinds.layer ∷ must kinds.boxtype ∷ must kinds.xy ∷ []))
+    refl))) (solid_either grammar.text (either grammar.node grammar.box)
+    (solid kinds.text (whole (may kinds.elflags)
+    (may kinds.plex ∷ must kinds.layer ∷ must kinds.texttype ∷ may kinds.presentation ∷ may kinds.pathtype ∷ may kinds.width ∷ turned
+    ∷ points 8 ∷ must kinds.text_string ∷ [])))
+    (solid_either grammar.node grammar.box
+    (solid kinds.node (whole (may kinds.elflags) (may kinds.plex ∷ must kinds.layer ∷ must kinds.nodetype ∷ must kinds.xy ∷ [])))
+    (solid kinds.box (whole (may kinds.elflags) (may kinds.plex ∷ must kinds.layer ∷ must kinds.boxtype ∷ must kinds.xy ∷ [])))))))))
     (body_moves kinds.aref (may kinds.elflags) (may kinds.plex ∷ named ∷ turned ∷ must kinds.colrow ∷ points 24 ∷ []) rest)
 
 enters_text : (rest : Grammar) → Moves (both choice rest) kinds.text (behind (items_of kinds.text) rest)
 enters_text rest =
     moves_agreed (both choice rest) (both grammar.text rest) (behind (items_of kinds.text) rest) kinds.text
-    (agrees_both (both (either grammar.boundary (either grammar.path (either grammar.sref (either grammar.aref (either grammar.text (either grammar.node grammar.box)))))) rest) (both (either grammar.path (either grammar.sref (either grammar.aref (either grammar.text (either grammar.node grammar.box))))) rest) (both grammar.text rest) kinds.text (takes_second grammar.boundary (either grammar.path (either grammar.sref (either grammar.aref (either grammar.text (either grammar.node grammar.box))))) rest kinds.text (other kinds.boundary kinds.text (whole (may kinds.elflags) (may kinds.plex ∷ must kinds.layer ∷ must kinds.datatype ∷ must kinds.xy ∷ [])) refl) (solid kinds.boundary (whole (may kinds.elflags) (may kinds.plex ∷ must kinds.layer ∷ must kinds.datatype ∷ must kinds.xy ∷ [])))) (agrees_both (both (either grammar.path (either grammar.sref (either grammar.aref (either grammar.text (either grammar.node grammar.box))))) rest) (both (either grammar.sref (either grammar.aref (either grammar.text (either grammar.node grammar.box)))) rest) (both grammar.text rest) kinds.text (takes_second grammar.path (either grammar.sref (either grammar.aref (either grammar.text (either grammar.node grammar.box)))) rest kinds.text (other kinds.path kinds.text (whole (may kinds.elflags) (may kinds.plex ∷ must kinds.layer ∷ must kinds.datatype ∷ may kinds.pathtype ∷ may kinds.width ∷ may kinds.bgnextn ∷ may kinds.endextn ∷ must kinds.xy ∷ [])) refl) (solid kinds.path (whole (may kinds.elflags) (may kinds.plex ∷ must kinds.layer ∷ must kinds.datatype ∷ may kinds.pathtype ∷ may kinds.width ∷ may kinds.bgnextn ∷ may kinds.endextn ∷ must kinds.xy ∷ [])))) (agrees_both (both (either grammar.sref (either grammar.aref (either grammar.text (either grammar.node grammar.box)))) rest) (both (either grammar.aref (either grammar.text (either grammar.node grammar.box))) rest) (both grammar.text rest) kinds.text (takes_second grammar.sref (either grammar.aref (either grammar.text (either grammar.node grammar.box))) rest kinds.text (other kinds.sref kinds.text (whole (may kinds.elflags) (may kinds.plex ∷ named ∷ turned ∷ points 8 ∷ [])) refl) (solid kinds.sref (whole (may kinds.elflags) (may kinds.plex ∷ named ∷ turned ∷ points 8 ∷ [])))) (agrees_both (both (either grammar.aref (either grammar.text (either grammar.node grammar.box))) rest) (both (either grammar.text (either grammar.node grammar.box)) rest) (both grammar.text rest) kinds.text (takes_second grammar.aref (either grammar.text (either grammar.node grammar.box)) rest kinds.text (other kinds.aref kinds.text (whole (may kinds.elflags) (may kinds.plex ∷ named ∷ turned ∷ must kinds.colrow ∷ points 24 ∷ [])) refl) (solid kinds.aref (whole (may kinds.elflags) (may kinds.plex ∷ named ∷ turned ∷ must kinds.colrow ∷ points 24 ∷ [])))) (takes_first grammar.text (either grammar.node grammar.box) rest kinds.text (avoids_either grammar.node grammar.box kinds.text (other kinds.node kinds.text (whole (may kinds.elflags) (may kinds.plex ∷ must kinds.layer ∷ must kinds.nodetype ∷ must kinds.xy ∷ [])) refl) (other kinds.box kinds.text (whole (may kinds.elflags) (may kinds.plex ∷ must kinds.layer ∷ must kinds.boxtype ∷ must kinds.xy ∷ [])) refl)) (solid_either grammar.node grammar.box (solid kinds.node (whole (may kinds.elflags) (may kinds.plex ∷ must kinds.layer ∷ must kinds.nodetype ∷ must kinds.xy ∷ []))) (solid kinds.box (whole (may kinds.elflags) (may kinds.plex ∷ must kinds.layer ∷ must kinds.boxtype ∷ must kinds.xy ∷ [])))))))))
-    (body_moves kinds.text (may kinds.elflags) (may kinds.plex ∷ must kinds.layer ∷ must kinds.texttype ∷ may kinds.presentation ∷ may kinds.pathtype ∷ may kinds.width ∷ turned ∷ points 8 ∷ must kinds.text_string ∷ []) rest)
+    (agrees_both (both (either grammar.boundary
+    (either grammar.path (either grammar.sref (either grammar.aref (either grammar.text (either grammar.node grammar.box)))))) rest)
+    (both (either grammar.path (either grammar.sref (either grammar.aref (either grammar.text (either grammar.node grammar.box))))) rest)
+    (both grammar.text rest) kinds.text
+    (takes_second grammar.boundary
+    (either grammar.path (either grammar.sref (either grammar.aref (either grammar.text (either grammar.node grammar.box))))) rest
+    kinds.text (other kinds.boundary kinds.text
+    (whole (may kinds.elflags) (may kinds.plex ∷ must kinds.layer ∷ must kinds.datatype ∷ must kinds.xy ∷ [])) refl)
+    (solid kinds.boundary (whole (may kinds.elflags) (may kinds.plex ∷ must kinds.layer ∷ must kinds.datatype ∷ must kinds.xy ∷ []))))
+    (agrees_both (both (either grammar.path
+    (either grammar.sref (either grammar.aref (either grammar.text (either grammar.node grammar.box))))) rest)
+    (both (either grammar.sref (either grammar.aref (either grammar.text (either grammar.node grammar.box)))) rest)
+    (both grammar.text rest) kinds.text
+    (takes_second grammar.path (either grammar.sref (either grammar.aref (either grammar.text (either grammar.node grammar.box)))) rest
+    kinds.text (other kinds.path kinds.text
+    (whole (may kinds.elflags) (may kinds.plex ∷ must kinds.layer ∷ must kinds.datatype ∷ may kinds.pathtype ∷ may kinds.width ∷ may
+    kinds.bgnextn ∷ may kinds.endextn ∷ must kinds.xy ∷ [])) refl)
+    (solid kinds.path (whole (may kinds.elflags)
+    (may kinds.plex ∷ must kinds.layer ∷ must kinds.datatype ∷ may kinds.pathtype ∷ may kinds.width ∷ may kinds.bgnextn ∷ may
+    kinds.endextn ∷ must kinds.xy ∷ []))))
+    (agrees_both (both (either grammar.sref (either grammar.aref (either grammar.text (either grammar.node grammar.box)))) rest)
+    (both (either grammar.aref (either grammar.text (either grammar.node grammar.box))) rest) (both grammar.text rest) kinds.text
+    (takes_second grammar.sref (either grammar.aref (either grammar.text (either grammar.node grammar.box))) rest kinds.text
+    (other kinds.sref kinds.text (whole (may kinds.elflags) (may kinds.plex ∷ named ∷ turned ∷ points 8 ∷ [])) refl)
+    (solid kinds.sref (whole (may kinds.elflags) (may kinds.plex ∷ named ∷ turned ∷ points 8 ∷ []))))
+    (agrees_both (both (either grammar.aref (either grammar.text (either grammar.node grammar.box))) rest)
+    (both (either grammar.text (either grammar.node grammar.box)) rest) (both grammar.text rest) kinds.text
+    (takes_second grammar.aref (either grammar.text (either grammar.node grammar.box)) rest kinds.text
+    (other kinds.aref kinds.text (whole (may kinds.elflags) (may kinds.plex ∷ named ∷ turned ∷ must kinds.colrow ∷ points 24 ∷ [])) refl)
+    (solid kinds.aref (whole (may kinds.elflags) (may kinds.plex ∷ named ∷ turned ∷ must kinds.colrow ∷ points 24 ∷ []))))
+    (takes_first grammar.text (either grammar.node grammar.box) rest kinds.text (avoids_either grammar.node grammar.box kinds.text
+    (other kinds.node kinds.text
+    (whole (may kinds.elflags) (may kinds.plex ∷ must kinds.layer ∷ must kinds.nodetype ∷ must kinds.xy ∷ [])) refl)
+    (other kinds.box kinds.text (whole (may kinds.elflags) (may kinds.plex ∷ must kinds.layer ∷ must kinds.boxtype ∷ must kinds.xy ∷ []))
+    refl)) (solid_either grammar.node grammar.box
+    (solid kinds.node (whole (may kinds.elflags) (may kinds.plex ∷ must kinds.layer ∷ must kinds.nodetype ∷ must kinds.xy ∷ [])))
+    (solid kinds.box (whole (may kinds.elflags) (may kinds.plex ∷ must kinds.layer ∷ must kinds.boxtype ∷ must kinds.xy ∷ [])))))))))
+    (body_moves kinds.text (may kinds.elflags)
+    (may kinds.plex ∷ must kinds.layer ∷ must kinds.texttype ∷ may kinds.presentation ∷ may kinds.pathtype ∷ may kinds.width ∷ turned
+    ∷ points 8 ∷ must kinds.text_string ∷ []) rest)
 
 enters_node : (rest : Grammar) → Moves (both choice rest) kinds.node (behind (items_of kinds.node) rest)
 enters_node rest =
     moves_agreed (both choice rest) (both grammar.node rest) (behind (items_of kinds.node) rest) kinds.node
-    (agrees_both (both (either grammar.boundary (either grammar.path (either grammar.sref (either grammar.aref (either grammar.text (either grammar.node grammar.box)))))) rest) (both (either grammar.path (either grammar.sref (either grammar.aref (either grammar.text (either grammar.node grammar.box))))) rest) (both grammar.node rest) kinds.node (takes_second grammar.boundary (either grammar.path (either grammar.sref (either grammar.aref (either grammar.text (either grammar.node grammar.box))))) rest kinds.node (other kinds.boundary kinds.node (whole (may kinds.elflags) (may kinds.plex ∷ must kinds.layer ∷ must kinds.datatype ∷ must kinds.xy ∷ [])) refl) (solid kinds.boundary (whole (may kinds.elflags) (may kinds.plex ∷ must kinds.layer ∷ must kinds.datatype ∷ must kinds.xy ∷ [])))) (agrees_both (both (either grammar.path (either grammar.sref (either grammar.aref (either grammar.text (either grammar.node grammar.box))))) rest) (both (either grammar.sref (either grammar.aref (either grammar.text (either grammar.node grammar.box)))) rest) (both grammar.node rest) kinds.node (takes_second grammar.path (either grammar.sref (either grammar.aref (either grammar.text (either grammar.node grammar.box)))) rest kinds.node (other kinds.path kinds.node (whole (may kinds.elflags) (may kinds.plex ∷ must kinds.layer ∷ must kinds.datatype ∷ may kinds.pathtype ∷ may kinds.width ∷ may kinds.bgnextn ∷ may kinds.endextn ∷ must kinds.xy ∷ [])) refl) (solid kinds.path (whole (may kinds.elflags) (may kinds.plex ∷ must kinds.layer ∷ must kinds.datatype ∷ may kinds.pathtype ∷ may kinds.width ∷ may kinds.bgnextn ∷ may kinds.endextn ∷ must kinds.xy ∷ [])))) (agrees_both (both (either grammar.sref (either grammar.aref (either grammar.text (either grammar.node grammar.box)))) rest) (both (either grammar.aref (either grammar.text (either grammar.node grammar.box))) rest) (both grammar.node rest) kinds.node (takes_second grammar.sref (either grammar.aref (either grammar.text (either grammar.node grammar.box))) rest kinds.node (other kinds.sref kinds.node (whole (may kinds.elflags) (may kinds.plex ∷ named ∷ turned ∷ points 8 ∷ [])) refl) (solid kinds.sref (whole (may kinds.elflags) (may kinds.plex ∷ named ∷ turned ∷ points 8 ∷ [])))) (agrees_both (both (either grammar.aref (either grammar.text (either grammar.node grammar.box))) rest) (both (either grammar.text (either grammar.node grammar.box)) rest) (both grammar.node rest) kinds.node (takes_second grammar.aref (either grammar.text (either grammar.node grammar.box)) rest kinds.node (other kinds.aref kinds.node (whole (may kinds.elflags) (may kinds.plex ∷ named ∷ turned ∷ must kinds.colrow ∷ points 24 ∷ [])) refl) (solid kinds.aref (whole (may kinds.elflags) (may kinds.plex ∷ named ∷ turned ∷ must kinds.colrow ∷ points 24 ∷ [])))) (agrees_both (both (either grammar.text (either grammar.node grammar.box)) rest) (both (either grammar.node grammar.box) rest) (both grammar.node rest) kinds.node (takes_second grammar.text (either grammar.node grammar.box) rest kinds.node (other kinds.text kinds.node (whole (may kinds.elflags) (may kinds.plex ∷ must kinds.layer ∷ must kinds.texttype ∷ may kinds.presentation ∷ may kinds.pathtype ∷ may kinds.width ∷ turned ∷ points 8 ∷ must kinds.text_string ∷ [])) refl) (solid kinds.text (whole (may kinds.elflags) (may kinds.plex ∷ must kinds.layer ∷ must kinds.texttype ∷ may kinds.presentation ∷ may kinds.pathtype ∷ may kinds.width ∷ turned ∷ points 8 ∷ must kinds.text_string ∷ [])))) (takes_first grammar.node grammar.box rest kinds.node (other kinds.box kinds.node (whole (may kinds.elflags) (may kinds.plex ∷ must kinds.layer ∷ must kinds.boxtype ∷ must kinds.xy ∷ [])) refl) (solid kinds.box (whole (may kinds.elflags) (may kinds.plex ∷ must kinds.layer ∷ must kinds.boxtype ∷ must kinds.xy ∷ [])))))))))
+    (agrees_both (both (either grammar.boundary
+    (either grammar.path (either grammar.sref (either grammar.aref (either grammar.text (either grammar.node grammar.box)))))) rest)
+    (both (either grammar.path (either grammar.sref (either grammar.aref (either grammar.text (either grammar.node grammar.box))))) rest)
+    (both grammar.node rest) kinds.node
+    (takes_second grammar.boundary
+    (either grammar.path (either grammar.sref (either grammar.aref (either grammar.text (either grammar.node grammar.box))))) rest
+    kinds.node (other kinds.boundary kinds.node
+    (whole (may kinds.elflags) (may kinds.plex ∷ must kinds.layer ∷ must kinds.datatype ∷ must kinds.xy ∷ [])) refl)
+    (solid kinds.boundary (whole (may kinds.elflags) (may kinds.plex ∷ must kinds.layer ∷ must kinds.datatype ∷ must kinds.xy ∷ []))))
+    (agrees_both (both (either grammar.path
+    (either grammar.sref (either grammar.aref (either grammar.text (either grammar.node grammar.box))))) rest)
+    (both (either grammar.sref (either grammar.aref (either grammar.text (either grammar.node grammar.box)))) rest)
+    (both grammar.node rest) kinds.node
+    (takes_second grammar.path (either grammar.sref (either grammar.aref (either grammar.text (either grammar.node grammar.box)))) rest
+    kinds.node (other kinds.path kinds.node
+    (whole (may kinds.elflags) (may kinds.plex ∷ must kinds.layer ∷ must kinds.datatype ∷ may kinds.pathtype ∷ may kinds.width ∷ may
+    kinds.bgnextn ∷ may kinds.endextn ∷ must kinds.xy ∷ [])) refl)
+    (solid kinds.path (whole (may kinds.elflags)
+    (may kinds.plex ∷ must kinds.layer ∷ must kinds.datatype ∷ may kinds.pathtype ∷ may kinds.width ∷ may kinds.bgnextn ∷ may
+    kinds.endextn ∷ must kinds.xy ∷ []))))
+    (agrees_both (both (either grammar.sref (either grammar.aref (either grammar.text (either grammar.node grammar.box)))) rest)
+    (both (either grammar.aref (either grammar.text (either grammar.node grammar.box))) rest) (both grammar.node rest) kinds.node
+    (takes_second grammar.sref (either grammar.aref (either grammar.text (either grammar.node grammar.box))) rest kinds.node
+    (other kinds.sref kinds.node (whole (may kinds.elflags) (may kinds.plex ∷ named ∷ turned ∷ points 8 ∷ [])) refl)
+    (solid kinds.sref (whole (may kinds.elflags) (may kinds.plex ∷ named ∷ turned ∷ points 8 ∷ []))))
+    (agrees_both (both (either grammar.aref (either grammar.text (either grammar.node grammar.box))) rest)
+    (both (either grammar.text (either grammar.node grammar.box)) rest) (both grammar.node rest) kinds.node
+    (takes_second grammar.aref (either grammar.text (either grammar.node grammar.box)) rest kinds.node
+    (other kinds.aref kinds.node (whole (may kinds.elflags) (may kinds.plex ∷ named ∷ turned ∷ must kinds.colrow ∷ points 24 ∷ [])) refl)
+    (solid kinds.aref (whole (may kinds.elflags) (may kinds.plex ∷ named ∷ turned ∷ must kinds.colrow ∷ points 24 ∷ []))))
+    (agrees_both (both (either grammar.text (either grammar.node grammar.box)) rest) (both (either grammar.node grammar.box) rest)
+    (both grammar.node rest) kinds.node (takes_second grammar.text (either grammar.node grammar.box) rest kinds.node
+    (other kinds.text kinds.node
+    (whole (may kinds.elflags) (may kinds.plex ∷ must kinds.layer ∷ must kinds.texttype ∷ may kinds.presentation ∷ may kinds.pathtype
+    ∷ may kinds.width ∷ turned ∷ points 8 ∷ must kinds.text_string ∷ [])) refl)
+    (solid kinds.text (whole (may kinds.elflags)
+    (may kinds.plex ∷ must kinds.layer ∷ must kinds.texttype ∷ may kinds.presentation ∷ may kinds.pathtype ∷ may kinds.width ∷ turned
+    ∷ points 8 ∷ must kinds.text_string ∷ [])))) (takes_first grammar.node grammar.box rest kinds.node
+    (other kinds.box kinds.node (whole (may kinds.elflags) (may kinds.plex ∷ must kinds.layer ∷ must kinds.boxtype ∷ must kinds.xy ∷ []))
+    refl) (solid kinds.box
+    (whole (may kinds.elflags) (may kinds.plex ∷ must kinds.layer ∷ must kinds.boxtype ∷ must kinds.xy ∷ [])))))))))
     (body_moves kinds.node (may kinds.elflags) (may kinds.plex ∷ must kinds.layer ∷ must kinds.nodetype ∷ must kinds.xy ∷ []) rest)
 
 enters_box : (rest : Grammar) → Moves (both choice rest) kinds.box (behind (items_of kinds.box) rest)
 enters_box rest =
     moves_agreed (both choice rest) (both grammar.box rest) (behind (items_of kinds.box) rest) kinds.box
-    (agrees_both (both (either grammar.boundary (either grammar.path (either grammar.sref (either grammar.aref (either grammar.text (either grammar.node grammar.box)))))) rest) (both (either grammar.path (either grammar.sref (either grammar.aref (either grammar.text (either grammar.node grammar.box))))) rest) (both grammar.box rest) kinds.box (takes_second grammar.boundary (either grammar.path (either grammar.sref (either grammar.aref (either grammar.text (either grammar.node grammar.box))))) rest kinds.box (other kinds.boundary kinds.box (whole (may kinds.elflags) (may kinds.plex ∷ must kinds.layer ∷ must kinds.datatype ∷ must kinds.xy ∷ [])) refl) (solid kinds.boundary (whole (may kinds.elflags) (may kinds.plex ∷ must kinds.layer ∷ must kinds.datatype ∷ must kinds.xy ∷ [])))) (agrees_both (both (either grammar.path (either grammar.sref (either grammar.aref (either grammar.text (either grammar.node grammar.box))))) rest) (both (either grammar.sref (either grammar.aref (either grammar.text (either grammar.node grammar.box)))) rest) (both grammar.box rest) kinds.box (takes_second grammar.path (either grammar.sref (either grammar.aref (either grammar.text (either grammar.node grammar.box)))) rest kinds.box (other kinds.path kinds.box (whole (may kinds.elflags) (may kinds.plex ∷ must kinds.layer ∷ must kinds.datatype ∷ may kinds.pathtype ∷ may kinds.width ∷ may kinds.bgnextn ∷ may kinds.endextn ∷ must kinds.xy ∷ [])) refl) (solid kinds.path (whole (may kinds.elflags) (may kinds.plex ∷ must kinds.layer ∷ must kinds.datatype ∷ may kinds.pathtype ∷ may kinds.width ∷ may kinds.bgnextn ∷ may kinds.endextn ∷ must kinds.xy ∷ [])))) (agrees_both (both (either grammar.sref (either grammar.aref (either grammar.text (either grammar.node grammar.box)))) rest) (both (either grammar.aref (either grammar.text (either grammar.node grammar.box))) rest) (both grammar.box rest) kinds.box (takes_second grammar.sref (either grammar.aref (either grammar.text (either grammar.node grammar.box))) rest kinds.box (other kinds.sref kinds.box (whole (may kinds.elflags) (may kinds.plex ∷ named ∷ turned ∷ points 8 ∷ [])) refl) (solid kinds.sref (whole (may kinds.elflags) (may kinds.plex ∷ named ∷ turned ∷ points 8 ∷ [])))) (agrees_both (both (either grammar.aref (either grammar.text (either grammar.node grammar.box))) rest) (both (either grammar.text (either grammar.node grammar.box)) rest) (both grammar.box rest) kinds.box (takes_second grammar.aref (either grammar.text (either grammar.node grammar.box)) rest kinds.box (other kinds.aref kinds.box (whole (may kinds.elflags) (may kinds.plex ∷ named ∷ turned ∷ must kinds.colrow ∷ points 24 ∷ [])) refl) (solid kinds.aref (whole (may kinds.elflags) (may kinds.plex ∷ named ∷ turned ∷ must kinds.colrow ∷ points 24 ∷ [])))) (agrees_both (both (either grammar.text (either grammar.node grammar.box)) rest) (both (either grammar.node grammar.box) rest) (both grammar.box rest) kinds.box (takes_second grammar.text (either grammar.node grammar.box) rest kinds.box (other kinds.text kinds.box (whole (may kinds.elflags) (may kinds.plex ∷ must kinds.layer ∷ must kinds.texttype ∷ may kinds.presentation ∷ may kinds.pathtype ∷ may kinds.width ∷ turned ∷ points 8 ∷ must kinds.text_string ∷ [])) refl) (solid kinds.text (whole (may kinds.elflags) (may kinds.plex ∷ must kinds.layer ∷ must kinds.texttype ∷ may kinds.presentation ∷ may kinds.pathtype ∷ may kinds.width ∷ turned ∷ points 8 ∷ must kinds.text_string ∷ [])))) (takes_second grammar.node grammar.box rest kinds.box (other kinds.node kinds.box (whole (may kinds.elflags) (may kinds.plex ∷ must kinds.layer ∷ must kinds.nodetype ∷ must kinds.xy ∷ [])) refl) (solid kinds.node (whole (may kinds.elflags) (may kinds.plex ∷ must kinds.layer ∷ must kinds.nodetype ∷ must kinds.xy ∷ [])))))))))
+    (agrees_both (both (either grammar.boundary
+    (either grammar.path (either grammar.sref (either grammar.aref (either grammar.text (either grammar.node grammar.box)))))) rest)
+    (both (either grammar.path (either grammar.sref (either grammar.aref (either grammar.text (either grammar.node grammar.box))))) rest)
+    (both grammar.box rest) kinds.box
+    (takes_second grammar.boundary
+    (either grammar.path (either grammar.sref (either grammar.aref (either grammar.text (either grammar.node grammar.box))))) rest
+    kinds.box (other kinds.boundary kinds.box
+    (whole (may kinds.elflags) (may kinds.plex ∷ must kinds.layer ∷ must kinds.datatype ∷ must kinds.xy ∷ [])) refl)
+    (solid kinds.boundary (whole (may kinds.elflags) (may kinds.plex ∷ must kinds.layer ∷ must kinds.datatype ∷ must kinds.xy ∷ []))))
+    (agrees_both (both (either grammar.path
+    (either grammar.sref (either grammar.aref (either grammar.text (either grammar.node grammar.box))))) rest)
+    (both (either grammar.sref (either grammar.aref (either grammar.text (either grammar.node grammar.box)))) rest)
+    (both grammar.box rest) kinds.box
+    (takes_second grammar.path (either grammar.sref (either grammar.aref (either grammar.text (either grammar.node grammar.box)))) rest
+    kinds.box (other kinds.path kinds.box
+    (whole (may kinds.elflags) (may kinds.plex ∷ must kinds.layer ∷ must kinds.datatype ∷ may kinds.pathtype ∷ may kinds.width ∷ may
+    kinds.bgnextn ∷ may kinds.endextn ∷ must kinds.xy ∷ [])) refl)
+    (solid kinds.path (whole (may kinds.elflags)
+    (may kinds.plex ∷ must kinds.layer ∷ must kinds.datatype ∷ may kinds.pathtype ∷ may kinds.width ∷ may kinds.bgnextn ∷ may
+    kinds.endextn ∷ must kinds.xy ∷ []))))
+    (agrees_both (both (either grammar.sref (either grammar.aref (either grammar.text (either grammar.node grammar.box)))) rest)
+    (both (either grammar.aref (either grammar.text (either grammar.node grammar.box))) rest) (both grammar.box rest) kinds.box
+    (takes_second grammar.sref (either grammar.aref (either grammar.text (either grammar.node grammar.box))) rest kinds.box
+    (other kinds.sref kinds.box (whole (may kinds.elflags) (may kinds.plex ∷ named ∷ turned ∷ points 8 ∷ [])) refl)
+    (solid kinds.sref (whole (may kinds.elflags) (may kinds.plex ∷ named ∷ turned ∷ points 8 ∷ []))))
+    (agrees_both (both (either grammar.aref (either grammar.text (either grammar.node grammar.box))) rest)
+    (both (either grammar.text (either grammar.node grammar.box)) rest) (both grammar.box rest) kinds.box
+    (takes_second grammar.aref (either grammar.text (either grammar.node grammar.box)) rest kinds.box
+    (other kinds.aref kinds.box (whole (may kinds.elflags) (may kinds.plex ∷ named ∷ turned ∷ must kinds.colrow ∷ points 24 ∷ [])) refl)
+    (solid kinds.aref (whole (may kinds.elflags) (may kinds.plex ∷ named ∷ turned ∷ must kinds.colrow ∷ points 24 ∷ []))))
+    (agrees_both (both (either grammar.text (either grammar.node grammar.box)) rest) (both (either grammar.node grammar.box) rest)
+    (both grammar.box rest) kinds.box (takes_second grammar.text (either grammar.node grammar.box) rest kinds.box
+    (other kinds.text kinds.box
+    (whole (may kinds.elflags) (may kinds.plex ∷ must kinds.layer ∷ must kinds.texttype ∷ may kinds.presentation ∷ may kinds.pathtype
+    ∷ may kinds.width ∷ turned ∷ points 8 ∷ must kinds.text_string ∷ [])) refl)
+    (solid kinds.text (whole (may kinds.elflags)
+    (may kinds.plex ∷ must kinds.layer ∷ must kinds.texttype ∷ may kinds.presentation ∷ may kinds.pathtype ∷ may kinds.width ∷ turned
+    ∷ points 8 ∷ must kinds.text_string ∷ [])))) (takes_second grammar.node grammar.box rest kinds.box
+    (other kinds.node kinds.box
+    (whole (may kinds.elflags) (may kinds.plex ∷ must kinds.layer ∷ must kinds.nodetype ∷ must kinds.xy ∷ [])) refl)
+    (solid kinds.node (whole (may kinds.elflags) (may kinds.plex ∷ must kinds.layer ∷ must kinds.nodetype ∷ must kinds.xy ∷ [])))))))))
     (body_moves kinds.box (may kinds.elflags) (may kinds.plex ∷ must kinds.layer ∷ must kinds.boxtype ∷ must kinds.xy ∷ []) rest)
 
 enters : (rest : Grammar) (k : ℕ) → kinds.begins_element k ≡ true → Moves (both choice rest) k (behind (items_of k) rest)
-enters rest = by_kind (λ k. Moves (both choice rest) k (behind (items_of k) rest)) (enters_boundary rest) (enters_path rest) (enters_sref rest) (enters_aref rest) (enters_text rest) (enters_node rest) (enters_box rest)
+enters rest = by_kind (λ k. Moves (both choice rest) k (behind (items_of k) rest)) (enters_boundary rest) (enters_path rest)
+    (enters_sref rest) (enters_aref rest) (enters_text rest) (enters_node rest) (enters_box rest)
 
 -- ---- reading a body
 
@@ -306,24 +648,98 @@ owner_push before r begins =
 
 pub avoids_choice : (k : ℕ) → kinds.begins_element k ≡ false → Avoids choice k
 avoids_choice k e =
-    avoids_either grammar.boundary (either grammar.path (either grammar.sref (either grammar.aref (either grammar.text (either grammar.node grammar.box))))) k (other kinds.boundary k (whole (may kinds.elflags) (may kinds.plex ∷ must kinds.layer ∷ must kinds.datatype ∷ must kinds.xy ∷ [])) (or_first (eqb k kinds.boundary) (eqb k kinds.path) (or_first ((eqb k kinds.boundary) || eqb k kinds.path) (eqb k kinds.sref) (or_first (((eqb k kinds.boundary) || eqb k kinds.path) || eqb k kinds.sref) (eqb k kinds.aref) (or_first ((((eqb k kinds.boundary) || eqb k kinds.path) || eqb k kinds.sref) || eqb k kinds.aref) (eqb k kinds.text) (or_first (((((eqb k kinds.boundary) || eqb k kinds.path) || eqb k kinds.sref) || eqb k kinds.aref) || eqb k kinds.text) (eqb k kinds.node) (or_first ((((((eqb k kinds.boundary) || eqb k kinds.path) || eqb k kinds.sref) || eqb k kinds.aref) || eqb k kinds.text) || eqb k kinds.node) (eqb k kinds.box) e))))))) (avoids_either grammar.path (either grammar.sref (either grammar.aref (either grammar.text (either grammar.node grammar.box)))) k (other kinds.path k (whole (may kinds.elflags) (may kinds.plex ∷ must kinds.layer ∷ must kinds.datatype ∷ may kinds.pathtype ∷ may kinds.width ∷ may kinds.bgnextn ∷ may kinds.endextn ∷ must kinds.xy ∷ [])) (or_second (eqb k kinds.boundary) (eqb k kinds.path) (or_first ((eqb k kinds.boundary) || eqb k kinds.path) (eqb k kinds.sref) (or_first (((eqb k kinds.boundary) || eqb k kinds.path) || eqb k kinds.sref) (eqb k kinds.aref) (or_first ((((eqb k kinds.boundary) || eqb k kinds.path) || eqb k kinds.sref) || eqb k kinds.aref) (eqb k kinds.text) (or_first (((((eqb k kinds.boundary) || eqb k kinds.path) || eqb k kinds.sref) || eqb k kinds.aref) || eqb k kinds.text) (eqb k kinds.node) (or_first ((((((eqb k kinds.boundary) || eqb k kinds.path) || eqb k kinds.sref) || eqb k kinds.aref) || eqb k kinds.text) || eqb k kinds.node) (eqb k kinds.box) e))))))) (avoids_either grammar.sref (either grammar.aref (either grammar.text (either grammar.node grammar.box))) k (other kinds.sref k (whole (may kinds.elflags) (may kinds.plex ∷ named ∷ turned ∷ points 8 ∷ [])) (or_second ((eqb k kinds.boundary) || eqb k kinds.path) (eqb k kinds.sref) (or_first (((eqb k kinds.boundary) || eqb k kinds.path) || eqb k kinds.sref) (eqb k kinds.aref) (or_first ((((eqb k kinds.boundary) || eqb k kinds.path) || eqb k kinds.sref) || eqb k kinds.aref) (eqb k kinds.text) (or_first (((((eqb k kinds.boundary) || eqb k kinds.path) || eqb k kinds.sref) || eqb k kinds.aref) || eqb k kinds.text) (eqb k kinds.node) (or_first ((((((eqb k kinds.boundary) || eqb k kinds.path) || eqb k kinds.sref) || eqb k kinds.aref) || eqb k kinds.text) || eqb k kinds.node) (eqb k kinds.box) e)))))) (avoids_either grammar.aref (either grammar.text (either grammar.node grammar.box)) k (other kinds.aref k (whole (may kinds.elflags) (may kinds.plex ∷ named ∷ turned ∷ must kinds.colrow ∷ points 24 ∷ [])) (or_second (((eqb k kinds.boundary) || eqb k kinds.path) || eqb k kinds.sref) (eqb k kinds.aref) (or_first ((((eqb k kinds.boundary) || eqb k kinds.path) || eqb k kinds.sref) || eqb k kinds.aref) (eqb k kinds.text) (or_first (((((eqb k kinds.boundary) || eqb k kinds.path) || eqb k kinds.sref) || eqb k kinds.aref) || eqb k kinds.text) (eqb k kinds.node) (or_first ((((((eqb k kinds.boundary) || eqb k kinds.path) || eqb k kinds.sref) || eqb k kinds.aref) || eqb k kinds.text) || eqb k kinds.node) (eqb k kinds.box) e))))) (avoids_either grammar.text (either grammar.node grammar.box) k (other kinds.text k (whole (may kinds.elflags) (may kinds.plex ∷ must kinds.layer ∷ must kinds.texttype ∷ may kinds.presentation ∷ may kinds.pathtype ∷ may kinds.width ∷ turned ∷ points 8 ∷ must kinds.text_string ∷ [])) (or_second ((((eqb k kinds.boundary) || eqb k kinds.path) || eqb k kinds.sref) || eqb k kinds.aref) (eqb k kinds.text) (or_first (((((eqb k kinds.boundary) || eqb k kinds.path) || eqb k kinds.sref) || eqb k kinds.aref) || eqb k kinds.text) (eqb k kinds.node) (or_first ((((((eqb k kinds.boundary) || eqb k kinds.path) || eqb k kinds.sref) || eqb k kinds.aref) || eqb k kinds.text) || eqb k kinds.node) (eqb k kinds.box) e)))) (avoids_either grammar.node grammar.box k (other kinds.node k (whole (may kinds.elflags) (may kinds.plex ∷ must kinds.layer ∷ must kinds.nodetype ∷ must kinds.xy ∷ [])) (or_second (((((eqb k kinds.boundary) || eqb k kinds.path) || eqb k kinds.sref) || eqb k kinds.aref) || eqb k kinds.text) (eqb k kinds.node) (or_first ((((((eqb k kinds.boundary) || eqb k kinds.path) || eqb k kinds.sref) || eqb k kinds.aref) || eqb k kinds.text) || eqb k kinds.node) (eqb k kinds.box) e))) (other kinds.box k (whole (may kinds.elflags) (may kinds.plex ∷ must kinds.layer ∷ must kinds.boxtype ∷ must kinds.xy ∷ [])) (or_second ((((((eqb k kinds.boundary) || eqb k kinds.path) || eqb k kinds.sref) || eqb k kinds.aref) || eqb k kinds.text) || eqb k kinds.node) (eqb k kinds.box) e)))))))
+    avoids_either grammar.boundary
+    (either grammar.path (either grammar.sref (either grammar.aref (either grammar.text (either grammar.node grammar.box))))) k
+    (other kinds.boundary k (whole (may kinds.elflags) (may kinds.plex ∷ must kinds.layer ∷ must kinds.datatype ∷ must kinds.xy ∷ []))
+    (or_first (eqb k kinds.boundary) (eqb k kinds.path) (or_first ((eqb k kinds.boundary) || eqb k kinds.path) (eqb k kinds.sref)
+    (or_first (((eqb k kinds.boundary) || eqb k kinds.path) || eqb k kinds.sref) (eqb k kinds.aref)
+    (or_first ((((eqb k kinds.boundary) || eqb k kinds.path) || eqb k kinds.sref) || eqb k kinds.aref) (eqb k kinds.text)
+    (or_first (((((eqb k kinds.boundary) || eqb k kinds.path) || eqb k kinds.sref) || eqb k kinds.aref) || eqb k kinds.text)
+    (eqb k kinds.node) (or_first
+    ((((((eqb k kinds.boundary) || eqb k kinds.path) || eqb k kinds.sref) || eqb k kinds.aref) || eqb k kinds.text) || eqb k kinds.node)
+    (eqb k kinds.box) e)))))))
+    (avoids_either grammar.path (either grammar.sref (either grammar.aref (either grammar.text (either grammar.node grammar.box)))) k
+    (other kinds.path k
+    (whole (may kinds.elflags) (may kinds.plex ∷ must kinds.layer ∷ must kinds.datatype ∷ may kinds.pathtype ∷ may kinds.width ∷ may
+    kinds.bgnextn ∷ may kinds.endextn ∷ must kinds.xy ∷ [])) (or_second (eqb k kinds.boundary) (eqb k kinds.path)
+    (or_first ((eqb k kinds.boundary) || eqb k kinds.path) (eqb k kinds.sref)
+    (or_first (((eqb k kinds.boundary) || eqb k kinds.path) || eqb k kinds.sref) (eqb k kinds.aref)
+    (or_first ((((eqb k kinds.boundary) || eqb k kinds.path) || eqb k kinds.sref) || eqb k kinds.aref) (eqb k kinds.text)
+    (or_first (((((eqb k kinds.boundary) || eqb k kinds.path) || eqb k kinds.sref) || eqb k kinds.aref) || eqb k kinds.text)
+    (eqb k kinds.node) (or_first
+    ((((((eqb k kinds.boundary) || eqb k kinds.path) || eqb k kinds.sref) || eqb k kinds.aref) || eqb k kinds.text) || eqb k kinds.node)
+    (eqb k kinds.box) e))))))) (avoids_either grammar.sref (either grammar.aref (either grammar.text (either grammar.node grammar.box)))
+    k (other kinds.sref k (whole (may kinds.elflags) (may kinds.plex ∷ named ∷ turned ∷ points 8 ∷ []))
+    (or_second ((eqb k kinds.boundary) || eqb k kinds.path) (eqb k kinds.sref)
+    (or_first (((eqb k kinds.boundary) || eqb k kinds.path) || eqb k kinds.sref) (eqb k kinds.aref)
+    (or_first ((((eqb k kinds.boundary) || eqb k kinds.path) || eqb k kinds.sref) || eqb k kinds.aref) (eqb k kinds.text)
+    (or_first (((((eqb k kinds.boundary) || eqb k kinds.path) || eqb k kinds.sref) || eqb k kinds.aref) || eqb k kinds.text)
+    (eqb k kinds.node) (or_first
+    ((((((eqb k kinds.boundary) || eqb k kinds.path) || eqb k kinds.sref) || eqb k kinds.aref) || eqb k kinds.text) || eqb k kinds.node)
+    (eqb k kinds.box) e)))))) (avoids_either grammar.aref (either grammar.text (either grammar.node grammar.box)) k
+    (other kinds.aref k (whole (may kinds.elflags) (may kinds.plex ∷ named ∷ turned ∷ must kinds.colrow ∷ points 24 ∷ []))
+    (or_second (((eqb k kinds.boundary) || eqb k kinds.path) || eqb k kinds.sref) (eqb k kinds.aref)
+    (or_first ((((eqb k kinds.boundary) || eqb k kinds.path) || eqb k kinds.sref) || eqb k kinds.aref) (eqb k kinds.text)
+    (or_first (((((eqb k kinds.boundary) || eqb k kinds.path) || eqb k kinds.sref) || eqb k kinds.aref) || eqb k kinds.text)
+    (eqb k kinds.node) (or_first
+    ((((((eqb k kinds.boundary) || eqb k kinds.path) || eqb k kinds.sref) || eqb k kinds.aref) || eqb k kinds.text) || eqb k kinds.node)
+    (eqb k kinds.box) e))))) (avoids_either grammar.text (either grammar.node grammar.box) k
+    (other kinds.text k
+    (whole (may kinds.elflags) (may kinds.plex ∷ must kinds.layer ∷ must kinds.texttype ∷ may kinds.presentation ∷ may kinds.pathtype
+    ∷ may kinds.width ∷ turned ∷ points 8 ∷ must kinds.text_string ∷ []))
+    (or_second ((((eqb k kinds.boundary) || eqb k kinds.path) || eqb k kinds.sref) || eqb k kinds.aref) (eqb k kinds.text)
+    (or_first (((((eqb k kinds.boundary) || eqb k kinds.path) || eqb k kinds.sref) || eqb k kinds.aref) || eqb k kinds.text)
+    (eqb k kinds.node) (or_first
+    ((((((eqb k kinds.boundary) || eqb k kinds.path) || eqb k kinds.sref) || eqb k kinds.aref) || eqb k kinds.text) || eqb k kinds.node)
+    (eqb k kinds.box) e))))
+    (avoids_either grammar.node grammar.box k
+    (other kinds.node k (whole (may kinds.elflags) (may kinds.plex ∷ must kinds.layer ∷ must kinds.nodetype ∷ must kinds.xy ∷ []))
+    (or_second (((((eqb k kinds.boundary) || eqb k kinds.path) || eqb k kinds.sref) || eqb k kinds.aref) || eqb k kinds.text)
+    (eqb k kinds.node) (or_first
+    ((((((eqb k kinds.boundary) || eqb k kinds.path) || eqb k kinds.sref) || eqb k kinds.aref) || eqb k kinds.text) || eqb k kinds.node)
+    (eqb k kinds.box) e)))
+    (other kinds.box k (whole (may kinds.elflags) (may kinds.plex ∷ must kinds.layer ∷ must kinds.boxtype ∷ must kinds.xy ∷ []))
+    (or_second ((((((eqb k kinds.boundary) || eqb k kinds.path) || eqb k kinds.sref) || eqb k kinds.aref) || eqb k kinds.text) || eqb k
+    kinds.node) (eqb k kinds.box) e)))))))
 
 pub solid_choice : IsSolid choice
-solid_choice = (solid_either grammar.boundary (either grammar.path (either grammar.sref (either grammar.aref (either grammar.text (either grammar.node grammar.box))))) (solid kinds.boundary (whole (may kinds.elflags) (may kinds.plex ∷ must kinds.layer ∷ must kinds.datatype ∷ must kinds.xy ∷ []))) (solid_either grammar.path (either grammar.sref (either grammar.aref (either grammar.text (either grammar.node grammar.box)))) (solid kinds.path (whole (may kinds.elflags) (may kinds.plex ∷ must kinds.layer ∷ must kinds.datatype ∷ may kinds.pathtype ∷ may kinds.width ∷ may kinds.bgnextn ∷ may kinds.endextn ∷ must kinds.xy ∷ []))) (solid_either grammar.sref (either grammar.aref (either grammar.text (either grammar.node grammar.box))) (solid kinds.sref (whole (may kinds.elflags) (may kinds.plex ∷ named ∷ turned ∷ points 8 ∷ []))) (solid_either grammar.aref (either grammar.text (either grammar.node grammar.box)) (solid kinds.aref (whole (may kinds.elflags) (may kinds.plex ∷ named ∷ turned ∷ must kinds.colrow ∷ points 24 ∷ []))) (solid_either grammar.text (either grammar.node grammar.box) (solid kinds.text (whole (may kinds.elflags) (may kinds.plex ∷ must kinds.layer ∷ must kinds.texttype ∷ may kinds.presentation ∷ may kinds.pathtype ∷ may kinds.width ∷ turned ∷ points 8 ∷ must kinds.text_string ∷ []))) (solid_either grammar.node grammar.box (solid kinds.node (whole (may kinds.elflags) (may kinds.plex ∷ must kinds.layer ∷ must kinds.nodetype ∷ must kinds.xy ∷ []))) (solid kinds.box (whole (may kinds.elflags) (may kinds.plex ∷ must kinds.layer ∷ must kinds.boxtype ∷ must kinds.xy ∷ [])))))))))
+solid_choice = (solid_either grammar.boundary
+    (either grammar.path (either grammar.sref (either grammar.aref (either grammar.text (either grammar.node grammar.box)))))
+    (solid kinds.boundary (whole (may kinds.elflags) (may kinds.plex ∷ must kinds.layer ∷ must kinds.datatype ∷ must kinds.xy ∷ [])))
+    (solid_either grammar.path (either grammar.sref (either grammar.aref (either grammar.text (either grammar.node grammar.box))))
+    (solid kinds.path (whole (may kinds.elflags)
+    (may kinds.plex ∷ must kinds.layer ∷ must kinds.datatype ∷ may kinds.pathtype ∷ may kinds.width ∷ may kinds.bgnextn ∷ may kinds.endextn
+    ∷ must kinds.xy ∷ []))) (solid_either grammar.sref (either grammar.aref (either grammar.text (either grammar.node grammar.box)))
+    (solid kinds.sref (whole (may kinds.elflags) (may kinds.plex ∷ named ∷ turned ∷ points 8 ∷ [])))
+    (solid_either grammar.aref (either grammar.text (either grammar.node grammar.box))
+    (solid kinds.aref (whole (may kinds.elflags) (may kinds.plex ∷ named ∷ turned ∷ must kinds.colrow ∷ points 24 ∷ [])))
+    (solid_either grammar.text (either grammar.node grammar.box)
+    (solid kinds.text (whole (may kinds.elflags)
+    (may kinds.plex ∷ must kinds.layer ∷ must kinds.texttype ∷ may kinds.presentation ∷ may kinds.pathtype ∷ may kinds.width ∷ turned
+    ∷ points 8 ∷ must kinds.text_string ∷ [])))
+    (solid_either grammar.node grammar.box
+    (solid kinds.node (whole (may kinds.elflags) (may kinds.plex ∷ must kinds.layer ∷ must kinds.nodetype ∷ must kinds.xy ∷ [])))
+    (solid kinds.box (whole (may kinds.elflags) (may kinds.plex ∷ must kinds.layer ∷ must kinds.boxtype ∷ must kinds.xy ∷ [])))))))))
 
-module _ (bytes : List ℕ) (before : List Record) (rest : Grammar) (at : ℕ) (r : Record) (reached : Reached bytes before (both grammar.element rest) at) (found : record_at bytes at ≡ Ok r) (begins : kinds.begins_element r.kind ≡ true) where
+module _ (bytes : List ℕ) (before : List Record) (rest : Grammar) (at : ℕ) (r : Record)
+    (reached : Reached bytes before (both grammar.element rest) at) (found : record_at bytes at ≡ Ok r)
+    (begins : kinds.begins_element r.kind ≡ true) where
   pub in_body : Reached bytes (before ++ r ∷ []) (behind (items_of r.kind) (both tail rest)) r.next
   in_body =
       let end : Exists rest = exists_rest grammar.element rest reached.some in
-      let some : Exists (behind (items_of r.kind) (both tail rest)) = exists_items (items_of r.kind) (both tail rest) (exists_both tail rest (kinds.endel ∷ [], ([], kinds.endel ∷ [], refl, ([], refl, tt), (kinds.endel, refl, refl))) end) in
+      let some : Exists (behind (items_of r.kind) (both tail rest)) = exists_items (items_of r.kind) (both tail rest)
+      (exists_both tail rest (kinds.endel ∷ [], ([], kinds.endel ∷ [], refl, ([], refl, tt), (kinds.endel, refl, refl))) end) in
       let moves : Moves (both grammar.element rest) r.kind (behind (items_of r.kind) (both tail rest)) =
-      moves_agreed (both grammar.element rest) (both choice (both tail rest)) (behind (items_of r.kind) (both tail rest)) r.kind (agrees_regrouped choice tail rest r.kind) (enters (both tail rest) r.kind begins) in
-      moved bytes before at (both grammar.element rest) (behind (items_of r.kind) (both tail rest)) r reached found moves some (not_refused (owner before) (names before) r.at r.body r.kind begins) (eqb-false r.kind kinds.endlib (not_last r.kind begins))
+      moves_agreed (both grammar.element rest) (both choice (both tail rest)) (behind (items_of r.kind) (both tail rest)) r.kind
+      (agrees_regrouped choice tail rest r.kind) (enters (both tail rest) r.kind begins) in
+      moved bytes before at (both grammar.element rest) (behind (items_of r.kind) (both tail rest)) r reached found moves some
+      (not_refused (owner before) (names before) r.at r.body r.kind begins) (eqb-false r.kind kinds.endlib (not_last r.kind begins))
 
   pub body_ok : (y : Body × ℕ) → body_at bytes r.kind r.next ≡ Ok y → (ss : Slots) × (y.0 ≡ body_of r.kind (pick ss)) × Goes bytes (before ++ r ∷ []) (both tail rest) (ss, y.1)
   body_ok y e =
       let b = bind_ok (reading.items_at bytes (items_of r.kind) r.next) (λ found. Ok (body_of r.kind (pick found.0), found.1)) y e in
-      let goes = items_ok bytes r.kind (both tail rest) (items_of r.kind) (before ++ r ∷ []) r.next (owner_push before r begins) (fits (both tail rest) r.kind begins) b.0 in_body b.1 in
+      let goes = items_ok bytes r.kind (both tail rest) (items_of r.kind) (before ++ r ∷ []) r.next (owner_push before r begins)
+      (fits (both tail rest) r.kind begins) b.0 in_body b.1 in
       let same : (body_of r.kind (pick b.0.0), b.0.1) ≡ y = ok_is (body_of r.kind (pick b.0.0), b.0.1) y b.2 in
       (b.0.0, sym (ap (λ (z : Body × ℕ). z.0) same), subst (λ (n : ℕ). Goes bytes (before ++ r ∷ []) (both tail rest) (b.0.0, n)) (ap (λ (z : Body × ℕ). z.1) same) goes)
 

@@ -1,5 +1,6 @@
 -- Reading the head of a library.
-use Rattle.std.proofs.Common.{◌≡◌, ◌≢◌, ℕ, Bool, true, false, ◌||◌, ◌⊎◌, inl, inr, cond, eqb, List, [], ◌∷◌, ◌++◌, Option, Some, None, Result, Ok, Err, refl, sym, subst, ap, ◌∙◌, append_assoc}
+use Rattle.std.proofs.Common.{◌≡◌, ◌≢◌, ℕ, Bool, true, false, ◌||◌, ◌⊎◌, inl, inr, cond, eqb, List, [], ◌∷◌, ◌++◌, Option, Some, None}
+use Rattle.std.proofs.Common.{Result, Ok, Err, refl, sym, subst, ap, ◌∙◌, append_assoc}
 use Rattle.std.proofs.lemmas.Bool.{eqb-true, eqb-false, eq-eqb}
 use Rattle.std.proofs.lemmas.List.{append-nil}
 use Rattle.dpl_spec_format.specs.Kinds as kinds
@@ -32,7 +33,8 @@ pub skipped_isnt : (k j : ℕ) → kinds.is_skipped k ≡ true → kinds.is_skip
 skipped_isnt k j s n = skipped_other k j (eqb k j) s n refl
 
 -- a record that is passed over is refused for nothing
-plain_if : (o : ℕ) (known : List (List ℕ)) (k at : ℕ) (body : List ℕ) → eqb k kinds.xy ≡ false → eqb k kinds.strname ≡ false → eqb k kinds.sname ≡ false → refusal_in o known k at body ≡ None
+plain_if : (o : ℕ) (known : List (List ℕ)) (k at : ℕ) (body : List ℕ) → eqb k kinds.xy ≡ false → eqb k kinds.strname ≡ false
+    → eqb k kinds.sname ≡ false → refusal_in o known k at body ≡ None
 unfolding refusal_in
 plain_if o known k at body x s n = rw (x, s, n) refl
 
@@ -47,14 +49,22 @@ module _ (bytes : List ℕ) (from : ℕ) where
   one_skip at r so_far next before rest none reached =
       let p = so_far before rest none reached in
       let after = skips_then rest in
-      let moves : Moves after r.kind after = moves_agreed after (both skip after) after r.kind (takes_many skip rest r.kind (none r.kind next.is)) (moves_one kinds.is_skipped after r.kind next.is) in
-      let there = moved bytes (before ++ p.0) at after after r p.2 next.found moves p.2.some (skip_plain (before ++ p.0) r next.is) (λ e. eqb-false r.kind kinds.endlib (skipped_isnt r.kind kinds.endlib next.is refl) e) in
+      let moves : Moves after r.kind after = moves_agreed after (both skip after) after r.kind
+      (takes_many skip rest r.kind (none r.kind next.is)) (moves_one kinds.is_skipped after r.kind next.is) in
+      let there = moved bytes (before ++ p.0) at after after r p.2 next.found moves p.2.some (skip_plain (before ++ p.0) r next.is)
+      (λ e. eqb-false r.kind kinds.endlib (skipped_isnt r.kind kinds.endlib next.is refl) e) in
       (p.0 ++ r ∷ [], skipped_append p.0 (r ∷ []) p.1 (next.is, tt), subst (λ (x : List Record). Reached bytes x after r.next) (append_assoc before p.0 (r ∷ [])) there)
 
   pub skips_done : (at : ℕ) → PassesSkips bytes skips_then from at → IsNoneSkipped bytes at → PassesSkips bytes same from at
   skips_done at so_far end before rest none reached =
-      let p = so_far before rest none reached in
-      (p.0, p.1, agreed bytes (before ++ p.0) at (skips_then rest) rest p.2 (λ x found. ends_many skip rest x.kind (avoids_one kinds.is_skipped x.kind (subst (λ (y : Record). kinds.is_skipped y.kind ≡ false) (same_record (record_at bytes at) end.0 x end.1 found) end.2))) (exists_rest (many skip) rest p.2.some))
+      let p = so_far before rest none reached in (
+        p.0,
+        p.1,
+        agreed bytes (before ++ p.0) at (skips_then rest) rest p.2
+            (λ x found. ends_many skip rest x.kind
+            (avoids_one kinds.is_skipped x.kind (subst (λ (y : Record). kinds.is_skipped y.kind ≡ false)
+            (same_record (record_at bytes at) end.0 x end.1 found) end.2))) (exists_rest (many skip) rest p.2.some),
+      )
 
   pub skips_fail : (at : ℕ) (f : Fault) → PassesSkips bytes skips_then from at → record_at bytes at ≡ Err f → FailsSkips bytes skips_then from f
   skips_fail at f so_far e before rest none reached =
@@ -88,7 +98,8 @@ module _ (bytes : List ℕ) (kind at : ℕ) (part : is_part kind ≡ true) where
   module _ (y : Record × ℕ) (e : reading.take bytes kind at ≡ Ok y) where
     begun : (before : List Record) (rest : Grammar) → Reached bytes before (part_then kind rest) at → (y.0.kind ≡ kind) × Reached bytes (before ++ y.0 ∷ []) (skips_then rest) y.1
     begun before rest reached =
-        take_ok bytes before (skips_then rest) at kind y reached (λ r s. never before r kind (part_never kind part) (ap (λ (x : Record). x.kind) s ∙ take_kind bytes kind at y e)) (eqb-false kind kinds.endlib (part_open kind part)) e
+        take_ok bytes before (skips_then rest) at kind y reached (λ r s. never before r kind (part_never kind part)
+        (ap (λ (x : Record). x.kind) s ∙ take_kind bytes kind at y e)) (eqb-false kind kinds.endlib (part_open kind part)) e
 
     pub part_ok : (next : ℕ) → PassesSkips bytes same y.1 next → PassesPart bytes kind y.0 at next
     part_ok next skips before rest none reached =

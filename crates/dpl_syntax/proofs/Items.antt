@@ -1,5 +1,6 @@
 -- Reading what an element has behind its first record.
-use Rattle.std.proofs.Common.{◌≡◌, ◌≢◌, ℕ, Bool, true, false, not, ◌&&◌, ◌||◌, ◌⊎◌, inl, inr, cond, eqb, List, [], ◌∷◌, ◌++◌, length, Option, Some, None, Result, Ok, Err, refl, sym, subst, ap, ◌∙◌, append_assoc}
+use Rattle.std.proofs.Common.{◌≡◌, ◌≢◌, ℕ, Bool, true, false, not, ◌&&◌, ◌||◌, ◌⊎◌, inl, inr, cond, eqb, List, [], ◌∷◌, ◌++◌, length}
+use Rattle.std.proofs.Common.{Option, Some, None, Result, Ok, Err, refl, sym, subst, ap, ◌∙◌, append_assoc}
 use Rattle.std.proofs.lemmas.Bool.{eqb-true, eqb-false, eq-eqb}
 use Rattle.std.proofs.lemmas.List.{append-nil}
 use Rattle.dpl_spec_format.specs.Kinds as kinds
@@ -14,7 +15,9 @@ use Rattle.dpl_syntax.specs.Reading as reading
 use Rattle.dpl_syntax.specs.Reading.{◌>>=◌, Slots, Item, must, may, turned, named, points}
 use Rattle.dpl_syntax.specs.Reached.{Reached}
 use Rattle.dpl_syntax.specs.Inner.{is_inner, AreInner}
-use Rattle.dpl_syntax.proofs.Languages.{Avoids, Exists, Moves, Agrees, avoids_one, solid_one, avoids_both, solid_both, avoids_behind, avoids_maybe, moves_one, moves_agreed, skips_maybe, takes_maybe, agrees_both, agrees_regrouped, exists_regrouped, exists_rest}
+use Rattle.dpl_syntax.proofs.Languages.{Avoids, Exists, Moves, Agrees, avoids_one, solid_one, avoids_both, solid_both, avoids_behind}
+use Rattle.dpl_syntax.proofs.Languages.{avoids_maybe, moves_one, moves_agreed, skips_maybe, takes_maybe, agrees_both, agrees_regrouped}
+use Rattle.dpl_syntax.proofs.Languages.{exists_regrouped, exists_rest}
 use Rattle.dpl_syntax.proofs.Steps.{agreed, moved, stops, stops_at, stops_for}
 use Rattle.dpl_syntax.proofs.Slotting.{decide, Slotted, slotted_append, slotted_one, slotted_none, inner_append, inner_one, no_outer, owner-inner}
 use Rattle.dpl_syntax.proofs.Taking.{guard, guard_err, guard_not, guard_not_err, same_record, IsPlain, take_ok, take_err, take_refused, choice, choice_err, Took, took}
@@ -88,11 +91,27 @@ module _ (bytes : List ℕ) (o : ℕ) where
         elim (choice (eqb r.kind kind) r at z b.2) [
           | inl t ↦
               let same : r.kind ≡ kind = eqb-true r.kind kind t.0 in
-              let there : Reached bytes (before ++ r ∷ []) rest r.next = moved bytes before at (both (maybe (a kind)) rest) rest r reached b.1 (moves_agreed (both (maybe (a kind)) rest) (both (a kind) rest) rest r.kind (takes_maybe (a kind) rest r.kind (subst (Avoids rest) (sym same) avoids)) (moves_one (λ k. eqb k kind) rest r.kind t.0)) (exists_rest (maybe (a kind)) rest reached.some) (fine before r kind own f.plain same) (λ h. no_end kind f.inner (sym same ∙ h)) in
-              subst (λ (x : Option Record × ℕ). Goes bytes before rest ((kind, x.0) ∷ [], x.1)) t.1 (record { rs = r ∷ []; slotted = slotted_one kind r same; inner = inner_one kind r same f.inner; reached = there })
+              let there : Reached bytes (before ++ r ∷ []) rest r.next = moved bytes before at
+              (both (maybe (a kind)) rest) rest r reached b.1 (moves_agreed (both (maybe (a kind)) rest) (both (a kind) rest) rest r.kind
+              (takes_maybe (a kind) rest r.kind (subst (Avoids rest) (sym same) avoids)) (moves_one (λ k. eqb k kind) rest r.kind t.0))
+              (exists_rest (maybe (a kind)) rest reached.some) (fine before r kind own f.plain same)
+              (λ h. no_end kind f.inner (sym same ∙ h)) in
+              subst (λ (x : Option Record × ℕ). Goes bytes before rest ((kind, x.0) ∷ [], x.1)) t.1
+              (record { rs = r ∷ []; slotted = slotted_one kind r same; inner = inner_one kind r same f.inner; reached = there })
           | inr t ↦
-              let there : Reached bytes before rest at = agreed bytes before at (both (maybe (a kind)) rest) rest reached (λ s found. skips_maybe (a kind) rest s.kind (avoids_one (λ k. eqb k kind) s.kind (subst (λ (x : Record). eqb x.kind kind ≡ false) (same_record (record_at bytes at) r s b.1 found) t.0)) (solid_one (λ k. eqb k kind))) (exists_rest (maybe (a kind)) rest reached.some) in
-              subst (λ (x : Option Record × ℕ). Goes bytes before rest ((kind, x.0) ∷ [], x.1)) t.1 (record { rs = []; slotted = slotted_none kind; inner = tt; reached = subst (λ (x : List Record). Reached bytes x rest at) (sym (append-nil before)) there })
+              let there : Reached bytes before rest at = agreed bytes before at (both (maybe (a kind)) rest) rest reached
+              (λ s found. skips_maybe (a kind) rest s.kind
+              (avoids_one (λ k. eqb k kind) s.kind (subst (λ (x : Record). eqb x.kind kind ≡ false)
+              (same_record (record_at bytes at) r s b.1 found) t.0)) (solid_one (λ k. eqb k kind)))
+              (exists_rest (maybe (a kind)) rest reached.some) in
+              subst (λ (x : Option Record × ℕ). Goes bytes before rest ((kind, x.0) ∷ [], x.1)) t.1
+              (record {
+                rs = [];
+                slotted = slotted_none kind;
+                inner = tt;
+                reached = subst (λ (x : List Record). Reached bytes x rest at)
+                    (sym (append-nil before)) there;
+              })
         ]
 
     pub if_err : (kind : ℕ) (g : Grammar) (f : Fault) → Reached bytes before g at → reading.take_if bytes kind at ≡ Err f → IsFirstFault bytes f
@@ -107,26 +126,39 @@ module _ (bytes : List ℕ) (o : ℕ) where
   abbrev mag_angle : Grammar
   mag_angle = both (maybe (a kinds.mag)) (maybe (a kinds.angle))
 
-  strans_on : (before : List Record) (rest : Grammar) (at : ℕ) (r : Record) → owner before ≡ o → IsFine o kinds.strans → Avoids rest kinds.strans → Reached bytes before (both (maybe grammar.strans) rest) at
+  strans_on : (before : List Record) (rest : Grammar) (at : ℕ) (r : Record) → owner before ≡ o → IsFine o kinds.strans
+      → Avoids rest kinds.strans → Reached bytes before (both (maybe grammar.strans) rest) at
       → record_at bytes at ≡ Ok r → r.kind ≡ kinds.strans → Reached bytes (before ++ r ∷ []) (both (maybe (a kinds.mag)) (both (maybe (a kinds.angle)) rest)) r.next
   strans_on before rest at r own f avoids reached found same =
       let k = r.kind in
       let agrees : Agrees (both (maybe grammar.strans) rest) k (both (a kinds.strans) (both mag_angle rest)) =
-      agrees_both (both (maybe grammar.strans) rest) (both grammar.strans rest) (both (a kinds.strans) (both mag_angle rest)) k (takes_maybe grammar.strans rest k (subst (Avoids rest) (sym same) avoids)) (agrees_regrouped (a kinds.strans) mag_angle rest k) in
-      let some : Exists (both mag_angle rest) = (let end = exists_rest (maybe grammar.strans) rest reached.some in (end.0, ([], end.0, refl, ([], [], refl, inl refl, inl refl), end.1))) in
+      agrees_both (both (maybe grammar.strans) rest) (both grammar.strans rest) (both (a kinds.strans) (both mag_angle rest)) k
+      (takes_maybe grammar.strans rest k (subst (Avoids rest) (sym same) avoids)) (agrees_regrouped (a kinds.strans) mag_angle rest k) in
+      let some : Exists (both mag_angle rest) = (let end = exists_rest (maybe grammar.strans) rest reached.some in
+      (end.0, ([], end.0, refl, ([], [], refl, inl refl, inl refl), end.1))) in
       let moves : Moves (both (maybe grammar.strans) rest) k (both mag_angle rest) =
-      moves_agreed (both (maybe grammar.strans) rest) (both (a kinds.strans) (both mag_angle rest)) (both mag_angle rest) k agrees (moves_one (λ j. eqb j kinds.strans) (both mag_angle rest) k (eq-eqb k kinds.strans same)) in
+      moves_agreed (both (maybe grammar.strans) rest) (both (a kinds.strans) (both mag_angle rest)) (both mag_angle rest) k agrees
+      (moves_one (λ j. eqb j kinds.strans) (both mag_angle rest) k (eq-eqb k kinds.strans same)) in
       let there : Reached bytes (before ++ r ∷ []) (both mag_angle rest) r.next =
-      moved bytes before at (both (maybe grammar.strans) rest) (both mag_angle rest) r reached found moves some (fine before r kinds.strans own f.plain same) (λ h. no_end kinds.strans f.inner (sym same ∙ h)) in
-      agreed bytes (before ++ r ∷ []) r.next (both mag_angle rest) (both (maybe (a kinds.mag)) (both (maybe (a kinds.angle)) rest)) there (λ s after. agrees_regrouped (maybe (a kinds.mag)) (maybe (a kinds.angle)) rest s.kind) (exists_regrouped (maybe (a kinds.mag)) (maybe (a kinds.angle)) rest some)
+      moved bytes before at (both (maybe grammar.strans) rest) (both mag_angle rest) r reached found moves some
+      (fine before r kinds.strans own f.plain same) (λ h. no_end kinds.strans f.inner (sym same ∙ h)) in
+      agreed bytes (before ++ r ∷ []) r.next (both mag_angle rest) (both (maybe (a kinds.mag)) (both (maybe (a kinds.angle)) rest)) there
+      (λ s after. agrees_regrouped (maybe (a kinds.mag)) (maybe (a kinds.angle)) rest s.kind)
+      (exists_regrouped (maybe (a kinds.mag)) (maybe (a kinds.angle)) rest some)
 
-  strans_off : (before : List Record) (rest : Grammar) (at : ℕ) (r : Record) → Reached bytes before (both (maybe grammar.strans) rest) at → record_at bytes at ≡ Ok r → eqb r.kind kinds.strans ≡ false → Reached bytes before rest at
+  strans_off : (before : List Record) (rest : Grammar) (at : ℕ) (r : Record) → Reached bytes before (both (maybe grammar.strans) rest) at
+      → record_at bytes at ≡ Ok r → eqb r.kind kinds.strans ≡ false → Reached bytes before rest at
   strans_off before rest at r reached found other =
       agreed bytes before at (both (maybe grammar.strans) rest) rest reached
-      (λ s after. skips_maybe grammar.strans rest s.kind (avoids_both (a kinds.strans) mag_angle s.kind (solid_one (λ j. eqb j kinds.strans)) (avoids_one (λ j. eqb j kinds.strans) s.kind (subst (λ (x : Record). eqb x.kind kinds.strans ≡ false) (same_record (record_at bytes at) r s found after) other))) (solid_both (a kinds.strans) mag_angle (solid_one (λ j. eqb j kinds.strans))))
+      (λ s after. skips_maybe grammar.strans rest s.kind
+      (avoids_both (a kinds.strans) mag_angle s.kind (solid_one (λ j. eqb j kinds.strans))
+      (avoids_one (λ j. eqb j kinds.strans) s.kind (subst (λ (x : Record). eqb x.kind kinds.strans ≡ false)
+      (same_record (record_at bytes at) r s found after) other)))
+      (solid_both (a kinds.strans) mag_angle (solid_one (λ j. eqb j kinds.strans))))
       (exists_rest (maybe grammar.strans) rest reached.some)
 
-  pub goes_then : (before : List Record) (rest end : Grammar) (y z : Slots × ℕ) (first : Goes bytes before rest y) → Goes bytes (before ++ first.rs) end z → Goes bytes before end (y.0 ++ z.0, z.1)
+  pub goes_then : (before : List Record) (rest end : Grammar) (y z : Slots × ℕ) (first : Goes bytes before rest y)
+      → Goes bytes (before ++ first.rs) end z → Goes bytes before end (y.0 ++ z.0, z.1)
   goes_then before rest end y z first second = record {
     rs = first.rs ++ second.rs;
     slotted = slotted_append first.rs second.rs y.0 z.0 first.slotted second.slotted;
@@ -140,7 +172,8 @@ module _ (bytes : List ℕ) (o : ℕ) where
   avoids_mag : (rest : Grammar) → Avoids rest kinds.mag → Avoids (both (maybe (a kinds.angle)) rest) kinds.mag
   avoids_mag rest avoids = avoids_behind (maybe (a kinds.angle)) rest kinds.mag (avoids_maybe (a kinds.angle) kinds.mag (avoids_one (λ j. eqb j kinds.angle) kinds.mag refl)) avoids
 
-  pub turned_ok : (before : List Record) (rest : Grammar) (at : ℕ) → owner before ≡ o → Turnable o rest → (y : Slots × ℕ) → Reached bytes before (both (maybe grammar.strans) rest) at
+  pub turned_ok : (before : List Record) (rest : Grammar) (at : ℕ) → owner before ≡ o → Turnable o rest → (y : Slots × ℕ)
+      → Reached bytes before (both (maybe grammar.strans) rest) at
       → reading.item_at bytes turned at ≡ Ok y → Goes bytes before rest y
   turned_ok before rest at own t y reached e =
       let z = bind_ok (reading.take_if bytes kinds.strans at) (reading.take_turned bytes) y e in
@@ -153,20 +186,28 @@ module _ (bytes : List ℕ) (o : ℕ) where
             let first : Goes bytes before (both (maybe (a kinds.mag)) (both (maybe (a kinds.angle)) rest)) ((kinds.strans, Some r) ∷ [], r.next) =
             record { rs = r ∷ []; slotted = slotted_one kinds.strans r same; inner = inner_one kinds.strans r same t.strans.inner; reached = there } in
             let e2 : reading.take_turned bytes (Some r, r.next) ≡ Ok y = subst (λ (x : Option Record × ℕ). reading.take_turned bytes x ≡ Ok y) (sym c.1) z.2 in
-            let m = bind_ok (reading.take_if bytes kinds.mag r.next) (λ m. reading.take_if bytes kinds.angle m.1 >>= λ g. Ok ((kinds.strans, Some r) ∷ (kinds.mag, m.0) ∷ (kinds.angle, g.0) ∷ [], g.1)) y e2 in
+            let m = bind_ok (reading.take_if bytes kinds.mag r.next) (λ m. reading.take_if bytes kinds.angle m.1 >>= λ g. Ok
+            ((kinds.strans, Some r) ∷ (kinds.mag, m.0) ∷ (kinds.angle, g.0) ∷ [], g.1)) y e2 in
             let own1 = own_then before (r ∷ []) first.inner own in
             let second = if_ok (before ++ r ∷ []) (both (maybe (a kinds.angle)) rest) r.next own1 kinds.mag t.mag (avoids_mag rest t.no_mag) m.0 there m.1 in
             let g = bind_ok (reading.take_if bytes kinds.angle m.0.1) (λ g. Ok ((kinds.strans, Some r) ∷ (kinds.mag, m.0.0) ∷ (kinds.angle, g.0) ∷ [], g.1)) y m.2 in
             let own2 = own_then (before ++ r ∷ []) second.rs second.inner own1 in
             let third = if_ok ((before ++ r ∷ []) ++ second.rs) rest m.0.1 own2 kinds.angle t.angle t.no_angle g.0 second.reached g.1 in
             let both2 = goes_then (before ++ r ∷ []) (both (maybe (a kinds.angle)) rest) rest ((kinds.mag, m.0.0) ∷ [], m.0.1) ((kinds.angle, g.0.0) ∷ [], g.0.1) second third in
-            let all = goes_then before (both (maybe (a kinds.mag)) (both (maybe (a kinds.angle)) rest)) rest ((kinds.strans, Some r) ∷ [], r.next) ((kinds.mag, m.0.0) ∷ (kinds.angle, g.0.0) ∷ [], g.0.1) first both2 in
+            let all = goes_then before (both (maybe (a kinds.mag)) (both (maybe (a kinds.angle)) rest)) rest (
+              (kinds.strans, Some r) ∷ [],
+              r.next,
+            ) ((kinds.mag, m.0.0) ∷ (kinds.angle, g.0.0) ∷ [], g.0.1) first both2 in
             subst (λ (x : Slots × ℕ). Goes bytes before rest x) (ok_is ((kinds.strans, Some r) ∷ (kinds.mag, m.0.0) ∷ (kinds.angle, g.0.0) ∷ [], g.0.1) y g.2) all
         | inr c ↦
             let e2 : reading.take_turned bytes (None, at) ≡ Ok y = subst (λ (x : Option Record × ℕ). reading.take_turned bytes x ≡ Ok y) (sym c.1) z.2 in
             let none : Slots × ℕ = ((kinds.strans, None) ∷ (kinds.mag, None) ∷ (kinds.angle, None) ∷ [], at) in
-            let slots : Slotted [] ((kinds.strans, None) ∷ (kinds.mag, None) ∷ (kinds.angle, None) ∷ []) = slotted_append [] [] ((kinds.strans, None) ∷ []) ((kinds.mag, None) ∷ (kinds.angle, None) ∷ []) (slotted_none kinds.strans) (slotted_append [] [] ((kinds.mag, None) ∷ []) ((kinds.angle, None) ∷ []) (slotted_none kinds.mag) (slotted_none kinds.angle)) in
-            let there : Reached bytes (before ++ []) rest at = subst (λ (x : List Record). Reached bytes x rest at) (sym (append-nil before)) (strans_off before rest at r reached b.1 c.0) in
+            let slots : Slotted [] ((kinds.strans, None) ∷ (kinds.mag, None) ∷ (kinds.angle, None) ∷ []) = slotted_append [] []
+            ((kinds.strans, None) ∷ []) ((kinds.mag, None) ∷ (kinds.angle, None) ∷ []) (slotted_none kinds.strans)
+            (slotted_append [] [] ((kinds.mag, None) ∷ []) ((kinds.angle, None) ∷ []) (slotted_none kinds.mag)
+            (slotted_none kinds.angle)) in
+            let there : Reached bytes (before ++ []) rest at = subst (λ (x : List Record). Reached bytes x rest at)
+            (sym (append-nil before)) (strans_off before rest at r reached b.1 c.0) in
             subst (λ (x : Slots × ℕ). Goes bytes before rest x) (ok_is none y e2) (record { rs = []; slotted = slots; inner = tt; reached = there })
       ]
 
@@ -184,8 +225,10 @@ module _ (bytes : List ℕ) (o : ℕ) where
                   let there = strans_on before rest at r own t.strans t.no_strans reached b.1 same in
                   let own1 = own_then before (r ∷ []) (inner_one kinds.strans r same t.strans.inner) own in
                   let e2 : reading.take_turned bytes (Some r, r.next) ≡ Err f = subst (λ (x : Option Record × ℕ). reading.take_turned bytes x ≡ Err f) (sym c.1) z.2 in
-                  elim (bind_err (reading.take_if bytes kinds.mag r.next) (λ m. reading.take_if bytes kinds.angle m.1 >>= λ g. Ok ((kinds.strans, Some r) ∷ (kinds.mag, m.0) ∷ (kinds.angle, g.0) ∷ [], g.1)) f e2) [
-                    | inl x ↦ if_err (before ++ r ∷ []) (both (maybe (a kinds.angle)) rest) r.next own1 kinds.mag (both (maybe (a kinds.mag)) (both (maybe (a kinds.angle)) rest)) f there x
+                  elim (bind_err (reading.take_if bytes kinds.mag r.next) (λ m. reading.take_if bytes kinds.angle m.1 >>= λ g. Ok
+                  ((kinds.strans, Some r) ∷ (kinds.mag, m.0) ∷ (kinds.angle, g.0) ∷ [], g.1)) f e2) [
+                    | inl x ↦ if_err (before ++ r ∷ []) (both (maybe (a kinds.angle)) rest) r.next own1 kinds.mag
+                        (both (maybe (a kinds.mag)) (both (maybe (a kinds.angle)) rest)) f there x
                     | inr m ↦
                         let second = if_ok (before ++ r ∷ []) (both (maybe (a kinds.angle)) rest) r.next own1 kinds.mag t.mag (avoids_mag rest t.no_mag) m.0 there m.1 in
                         let own2 = own_then (before ++ r ∷ []) second.rs second.inner own1 in

@@ -8,7 +8,8 @@ some_cond : {X : Type 0} (b : Bool) (x : X) (o : Option X) → is_some (cond b (
 some_cond true x o = refl
 some_cond false x o = refl
 
-pub found_any : {K N X : Type 0} (name : K → N) (p : K → Bool) (q : N → Bool) → ((k : K) → p k ≡ q (name k)) → (es : List (K × X)) → is_some (lookup p es) ≡ list_any q (map (λ (e : K × X). name e.0) es)
+pub found_any : {K N X : Type 0} (name : K → N) (p : K → Bool) (q : N → Bool) → ((k : K) → p k ≡ q (name k)) → (es : List (K × X))
+    → is_some (lookup p es) ≡ list_any q (map (λ (e : K × X). name e.0) es)
 found_any name p q same [] = refl
 found_any name p q same (e ∷ es) =
     some_cond (p e.0) e.1 (lookup p es) ∙ ap (λ (b : Bool). b || is_some (lookup p es)) (same e.0) ∙ ap (λ (b : Bool). q (name e.0) || b) (found_any name p q same es)

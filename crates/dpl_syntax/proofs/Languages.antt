@@ -183,16 +183,29 @@ ends_many g rest k avoids = record {
   back = λ ks p. ([], k ∷ ks, refl, ([], refl, tt), p);
 }
 
-many_on : (g rest : Grammar) (k : ℕ) → Avoids rest k → (parts : List (List ℕ)) → AllByRecursion (Has g) parts → (ks others : List ℕ) → k ∷ ks ≡ joined parts ++ others → Has rest others → Has (both g (both (many g) rest)) (k ∷ ks)
+many_on : (g rest : Grammar) (k : ℕ) → Avoids rest k → (parts : List (List ℕ)) → AllByRecursion (Has g) parts → (ks others : List ℕ)
+    → k ∷ ks ≡ joined parts ++ others → Has rest others → Has (both g (both (many g) rest)) (k ∷ ks)
 many_on g rest k avoids [] all ks others e h = absurd (avoids ks (subst (Has rest) (sym e) h))
 many_on g rest k avoids ([] ∷ parts) all ks others e h = many_on g rest k avoids parts all.1 ks others e h
-many_on g rest k avoids ((j ∷ part) ∷ parts) all ks others e h =
-    (j ∷ part, joined parts ++ others, e ∙ ap (λ (t : List ℕ). t ++ others) (joined-cons (j ∷ part) parts) ∙ append_assoc (j ∷ part) (joined parts) others, all.0, (joined parts, others, refl, (parts, refl, all.1), h))
+many_on g rest k avoids ((j ∷ part) ∷ parts) all ks others e h = (
+  j ∷ part,
+  joined parts ++ others,
+  e ∙ ap (λ (t : List ℕ). t ++ others) (joined-cons (j ∷ part) parts) ∙ append_assoc (j ∷ part)
+      (joined parts) others,
+  all.0,
+  (joined parts, others, refl, (parts, refl, all.1), h),
+)
 
 pub takes_many : (g rest : Grammar) (k : ℕ) → Avoids rest k → Agrees (both (many g) rest) k (both g (both (many g) rest))
 takes_many g rest k avoids = record {
   on = λ ks p. many_on g rest k avoids p.3.0 p.3.2 ks p.1 (p.2 ∙ ap (λ (t : List ℕ). t ++ p.1) p.3.1) p.4;
-  back = λ ks p. (p.0 ++ p.4.0, p.4.1, p.2 ∙ ap (λ (t : List ℕ). p.0 ++ t) p.4.2 ∙ sym (append_assoc p.0 p.4.0 p.4.1), (p.0 ∷ p.4.3.0, ap (λ (t : List ℕ). p.0 ++ t) p.4.3.1 ∙ sym (joined-cons p.0 p.4.3.0), (p.3, p.4.3.2)), p.4.4);
+  back = λ ks p. (
+    p.0 ++ p.4.0,
+    p.4.1,
+    p.2 ∙ ap (λ (t : List ℕ). p.0 ++ t) p.4.2 ∙ sym (append_assoc p.0 p.4.0 p.4.1),
+    (p.0 ∷ p.4.3.0, ap (λ (t : List ℕ). p.0 ++ t) p.4.3.1 ∙ sym (joined-cons p.0 p.4.3.0), (p.3, p.4.3.2)),
+    p.4.4,
+  );
 }
 
 -- three in a row

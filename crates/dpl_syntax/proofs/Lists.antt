@@ -1,5 +1,6 @@
 -- Reading all that an element has behind its first record.
-use Rattle.std.proofs.Common.{◌≡◌, ◌≢◌, ℕ, Bool, true, false, not, ◌&&◌, ◌||◌, ◌⊎◌, inl, inr, cond, eqb, List, [], ◌∷◌, ◌++◌, length, Option, Some, None, Result, Ok, Err, refl, sym, subst, ap, ◌∙◌, append_assoc}
+use Rattle.std.proofs.Common.{◌≡◌, ◌≢◌, ℕ, Bool, true, false, not, ◌&&◌, ◌||◌, ◌⊎◌, inl, inr, cond, eqb, List, [], ◌∷◌, ◌++◌, length}
+use Rattle.std.proofs.Common.{Option, Some, None, Result, Ok, Err, refl, sym, subst, ap, ◌∙◌, append_assoc}
 use Rattle.std.proofs.lemmas.List.{append-nil}
 use Rattle.dpl_spec_format.specs.Kinds as kinds
 use Rattle.dpl_spec_format.specs.Faults.{Fault, unexpected, bad_size, bad_name}
@@ -15,7 +16,8 @@ use Rattle.dpl_syntax.specs.Reached.{Reached}
 use Rattle.dpl_syntax.specs.Inner.{is_inner, AreInner}
 use Rattle.dpl_syntax.proofs.Languages.{Avoids, IsSolid, avoids_one, solid_one, avoids_both, solid_both, avoids_behind, avoids_maybe}
 use Rattle.dpl_syntax.proofs.Taking.{guard, guard_err, guard_not, guard_not_err, take_err, take_refused}
-use Rattle.dpl_syntax.proofs.Items.{Goes, IsFine, Turnable, bind_ok, bind_err, done, ok_is, not_ok, one_ok, kind_of, must_ok, if_ok, if_err, turned_ok, turned_err, goes_then, own_then}
+use Rattle.dpl_syntax.proofs.Items.{Goes, IsFine, Turnable, bind_ok, bind_err, done, ok_is, not_ok, one_ok, kind_of, must_ok, if_ok, if_err}
+use Rattle.dpl_syntax.proofs.Items.{turned_ok, turned_err, goes_then, own_then}
 
 abbrev pub grammar_of : Item → Grammar
 grammar_of (must kind) = a kind
@@ -67,7 +69,8 @@ module _ (bytes : List ℕ) (o : ℕ) (before : List Record) (rest : Grammar) (a
   named_ok y reached e =
       let b = bind_ok (reading.take bytes kinds.sname at) (λ r. cond (is_empty (name_of r.0.body)) (Err (bad_name r.0.at)) (Ok r)) y e in
       let g = guard_not (is_empty (name_of b.0.0.body)) (bad_name b.0.0.at) b.0 y b.2 in
-      let why : refusal before b.0.0 ≡ None = refusal_of before b.0.0 kinds.sname (kind_of bytes o before rest at own kinds.sname b.0 b.1) ∙ sname_refusal (owner before) (names before) b.0.0.at b.0.0.body ∙ ap (λ (t : Bool). cond t (Some (bad_name b.0.0.at)) None) g.0 in
+      let why : refusal before b.0.0 ≡ None = refusal_of before b.0.0 kinds.sname (kind_of bytes o before rest at own kinds.sname b.0 b.1)
+      ∙ sname_refusal (owner before) (names before) b.0.0.at b.0.0.body ∙ ap (λ (t : Bool). cond t (Some (bad_name b.0.0.at)) None) g.0 in
       subst (λ (x : Record × ℕ). Goes bytes before rest ((kinds.sname, Some x.0) ∷ [], x.1)) g.1 (one_ok bytes o before rest at own kinds.sname refl b.0 why reached b.1)
 
   named_err : (f : Fault) → Reached bytes before (both (a kinds.sname) rest) at → reading.take_name bytes at ≡ Err f → IsFirstFault bytes f
@@ -76,24 +79,30 @@ module _ (bytes : List ℕ) (o : ℕ) (before : List Record) (rest : Grammar) (a
         | inl x ↦ take_err bytes before rest at kinds.sname f reached x
         | inr b ↦
             let g = guard_not_err (is_empty (name_of b.0.0.body)) (bad_name b.0.0.at) f b.0 b.2 in
-            let why : refusal before b.0.0 ≡ Some (bad_name b.0.0.at) = refusal_of before b.0.0 kinds.sname (kind_of bytes o before rest at own kinds.sname b.0 b.1) ∙ sname_refusal (owner before) (names before) b.0.0.at b.0.0.body ∙ ap (λ (t : Bool). cond t (Some (bad_name b.0.0.at)) None) g.0 in
+            let why : refusal before b.0.0 ≡ Some (bad_name b.0.0.at) = refusal_of before b.0.0 kinds.sname
+            (kind_of bytes o before rest at own kinds.sname b.0 b.1) ∙ sname_refusal (owner before) (names before) b.0.0.at b.0.0.body
+            ∙ ap (λ (t : Bool). cond t (Some (bad_name b.0.0.at)) None) g.0 in
             subst (IsFirstFault bytes) g.1 (take_refused bytes before rest at kinds.sname b.0 (bad_name b.0.0.at) reached why b.1)
       ]
 
-  size_of : (len : ℕ) → ((n : ℕ) → is_wrong_size o n ≡ not (eqb n len)) → (r : Record) (t : Bool) → r.kind ≡ kinds.xy → eqb (length r.body) len ≡ t → refusal before r ≡ cond (not t) (Some (bad_size r.at)) None
+  size_of : (len : ℕ) → ((n : ℕ) → is_wrong_size o n ≡ not (eqb n len)) → (r : Record) (t : Bool) → r.kind ≡ kinds.xy
+      → eqb (length r.body) len ≡ t → refusal before r ≡ cond (not t) (Some (bad_size r.at)) None
   size_of len wrong r t kind e =
       refusal_of before r kinds.xy kind ∙ xy_refusal (owner before) (names before) r.at r.body
       ∙ ap (λ (p : ℕ). cond (is_wrong_size p (length r.body)) (Some (bad_size r.at)) None) own
       ∙ ap (λ (w : Bool). cond w (Some (bad_size r.at)) None) (wrong (length r.body) ∙ ap not e)
 
-  points_ok : (len : ℕ) → ((n : ℕ) → is_wrong_size o n ≡ not (eqb n len)) → (y : Record × ℕ) → Reached bytes before (both (a kinds.xy) rest) at → reading.take_points bytes len at ≡ Ok y → Goes bytes before rest ((kinds.xy, Some y.0) ∷ [], y.1)
+  points_ok : (len : ℕ) → ((n : ℕ) → is_wrong_size o n ≡ not (eqb n len)) → (y : Record × ℕ)
+      → Reached bytes before (both (a kinds.xy) rest) at → reading.take_points bytes len at ≡ Ok y
+      → Goes bytes before rest ((kinds.xy, Some y.0) ∷ [], y.1)
   points_ok len wrong y reached e =
       let b = bind_ok (reading.take bytes kinds.xy at) (λ r. cond (eqb (length r.0.body) len) (Ok r) (Err (bad_size r.0.at))) y e in
       let g = guard (eqb (length b.0.0.body) len) (bad_size b.0.0.at) b.0 y b.2 in
       let why : refusal before b.0.0 ≡ None = size_of len wrong b.0.0 true (kind_of bytes o before rest at own kinds.xy b.0 b.1) g.0 in
       subst (λ (x : Record × ℕ). Goes bytes before rest ((kinds.xy, Some x.0) ∷ [], x.1)) g.1 (one_ok bytes o before rest at own kinds.xy refl b.0 why reached b.1)
 
-  points_err : (len : ℕ) → ((n : ℕ) → is_wrong_size o n ≡ not (eqb n len)) → (f : Fault) → Reached bytes before (both (a kinds.xy) rest) at → reading.take_points bytes len at ≡ Err f → IsFirstFault bytes f
+  points_err : (len : ℕ) → ((n : ℕ) → is_wrong_size o n ≡ not (eqb n len)) → (f : Fault) → Reached bytes before (both (a kinds.xy) rest) at
+      → reading.take_points bytes len at ≡ Err f → IsFirstFault bytes f
   points_err len wrong f reached e =
       elim (bind_err (reading.take bytes kinds.xy at) (λ r. cond (eqb (length r.0.body) len) (Ok r) (Err (bad_size r.0.at))) f e) [
         | inl x ↦ take_err bytes before rest at kinds.xy f reached x
@@ -132,10 +141,18 @@ module _ (bytes : List ℕ) (o : ℕ) (before : List Record) (rest : Grammar) (a
 -- ---- all items
 
 module _ (bytes : List ℕ) (o : ℕ) (rest : Grammar) where
-  pub items_ok : (is : List Item) (before : List Record) (at : ℕ) → owner before ≡ o → AllFit o rest is → (y : Slots × ℕ) → Reached bytes before (behind is rest) at → reading.items_at bytes is at ≡ Ok y → Goes bytes before rest y
+  pub items_ok : (is : List Item) (before : List Record) (at : ℕ) → owner before ≡ o → AllFit o rest is → (y : Slots × ℕ)
+      → Reached bytes before (behind is rest) at → reading.items_at bytes is at ≡ Ok y → Goes bytes before rest y
   unfolding reading.items_at
   items_ok [] before at own fit y reached e =
-      subst (Goes bytes before rest) (ok_is ([], at) y e) (record { rs = []; slotted = λ k. refl; inner = tt; reached = subst (λ (x : List Record). Reached bytes x rest at) (sym (append-nil before)) reached })
+      subst (Goes bytes before rest) (ok_is ([], at) y e)
+      (record {
+        rs = [];
+        slotted = λ k. refl;
+        inner = tt;
+        reached = subst (λ (x : List Record). Reached bytes x rest at)
+            (sym (append-nil before)) reached;
+      })
   items_ok (i ∷ is) before at own fit y reached e =
       let b = bind_ok (reading.item_at bytes i at) (λ first. reading.items_at bytes is first.1 >>= λ others. Ok (first.0 ++ others.0, others.1)) y e in
       let c = bind_ok (reading.items_at bytes is b.0.1) (λ others. Ok (b.0.0 ++ others.0, others.1)) y b.2 in
@@ -143,7 +160,8 @@ module _ (bytes : List ℕ) (o : ℕ) (rest : Grammar) where
       let second = items_ok is (before ++ first.rs) b.0.1 (own_then bytes o before first.rs first.inner own) fit.1 c.0 first.reached c.1 in
       subst (Goes bytes before rest) (ok_is (b.0.0 ++ c.0.0, c.0.1) y c.2) (goes_then bytes o before (behind is rest) rest b.0 c.0 first second)
 
-  pub items_err : (is : List Item) (before : List Record) (at : ℕ) → owner before ≡ o → AllFit o rest is → (f : Fault) → Reached bytes before (behind is rest) at → reading.items_at bytes is at ≡ Err f → IsFirstFault bytes f
+  pub items_err : (is : List Item) (before : List Record) (at : ℕ) → owner before ≡ o → AllFit o rest is → (f : Fault)
+      → Reached bytes before (behind is rest) at → reading.items_at bytes is at ≡ Err f → IsFirstFault bytes f
   unfolding reading.items_at
   items_err [] before at own fit f reached e = (let none : Slots × ℕ = ([], at) in absurd (not_ok none f e))
   items_err (i ∷ is) before at own fit f reached e =
@@ -182,8 +200,12 @@ pub avoids_items : (is : List Item) (rest : Grammar) (k : ℕ) → may_begin is 
 avoids_items [] rest k e = absurd cc
 avoids_items (must kind ∷ is) rest k e = avoids_a kind k (behind is rest) e
 avoids_items (may kind ∷ is) rest k e =
-    avoids_behind (maybe (a kind)) (behind is rest) k (avoids_maybe (a kind) k (avoids_one (λ j. eqb j kind) k (or_first (eqb k kind) (may_begin is k) e))) (avoids_items is rest k (or_second (eqb k kind) (may_begin is k) e))
+    avoids_behind (maybe (a kind)) (behind is rest) k
+    (avoids_maybe (a kind) k (avoids_one (λ j. eqb j kind) k (or_first (eqb k kind) (may_begin is k) e)))
+    (avoids_items is rest k (or_second (eqb k kind) (may_begin is k) e))
 avoids_items (turned ∷ is) rest k e =
-    avoids_behind (maybe grammar.strans) (behind is rest) k (avoids_maybe grammar.strans k (avoids_a kinds.strans k (both (maybe (a kinds.mag)) (maybe (a kinds.angle))) (or_first (eqb k kinds.strans) (may_begin is k) e))) (avoids_items is rest k (or_second (eqb k kinds.strans) (may_begin is k) e))
+    avoids_behind (maybe grammar.strans) (behind is rest) k
+    (avoids_maybe grammar.strans k (avoids_a kinds.strans k (both (maybe (a kinds.mag)) (maybe (a kinds.angle)))
+    (or_first (eqb k kinds.strans) (may_begin is k) e))) (avoids_items is rest k (or_second (eqb k kinds.strans) (may_begin is k) e))
 avoids_items (named ∷ is) rest k e = avoids_a kinds.sname k (behind is rest) e
 avoids_items (points len ∷ is) rest k e = avoids_a kinds.xy k (behind is rest) e

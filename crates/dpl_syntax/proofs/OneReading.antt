@@ -22,10 +22,12 @@ no_fault P (Unexpected at) h p = absurd (h (unexpected at) p)
 no_fault P (BadName at) h p = absurd (h (bad_name at) p)
 no_fault P (DuplicateStructure at) h p = absurd (h (duplicate_structure at) p)
 
-pub is_held : (bytes : List ℕ) (r : Result Library SyntaxFault) → IfOk r (λ lib. Holds bytes lib) → IfErr r (λ e. Refuses (IsFirstFault bytes) e) → (lib : Library) → Holds bytes lib → Gives r lib
+pub is_held : (bytes : List ℕ) (r : Result Library SyntaxFault) → IfOk r (λ lib. Holds bytes lib)
+    → IfErr r (λ e. Refuses (IsFirstFault bytes) e) → (lib : Library) → Holds bytes lib → Gives r lib
 is_held bytes (Ok other) ok err lib h = one_library bytes other lib ok h
 is_held bytes (Err e) ok err lib h = no_fault (IsFirstFault bytes) e (λ f p. apart bytes lib f h p) err
 
-pub is_refused : (bytes : List ℕ) (r : Result Library SyntaxFault) → IfOk r (λ lib. Holds bytes lib) → IfErr r (λ e. Refuses (IsFirstFault bytes) e) → (f : Fault) → IsFirstFault bytes f → Refused r f
+pub is_refused : (bytes : List ℕ) (r : Result Library SyntaxFault) → IfOk r (λ lib. Holds bytes lib)
+    → IfErr r (λ e. Refuses (IsFirstFault bytes) e) → (f : Fault) → IsFirstFault bytes f → Refused r f
 is_refused bytes (Ok lib) ok err f first = apart bytes lib f ok first
 is_refused bytes (Err e) ok err f first = refuses (IsFirstFault bytes) (λ g. g ≡ f) e (λ g p. one_fault bytes g f p first) err

@@ -89,14 +89,21 @@ pub record IsNoOuter (k : ℕ) : Type 0 where
   pub strname : eqb k kinds.strname ≡ false
   pub endlib : eqb k kinds.endlib ≡ false
 
-none_of : (a b c d e f : Bool) → not a && (not b && (not c && (not d && (not e && not f)))) ≡ true → (a ≡ false) × (b ≡ false) × (c ≡ false) × (d ≡ false) × (e ≡ false) × (f ≡ false)
+none_of : (a b c d e f : Bool) → not a && (not b && (not c && (not d && (not e && not f)))) ≡ true → (a ≡ false) × (b ≡ false)
+    × (c ≡ false) × (d ≡ false) × (e ≡ false) × (f ≡ false)
 none_of a b c d e f h =
     let h1 = and_second (not a) (not b && (not c && (not d && (not e && not f)))) h in
     let h2 = and_second (not b) (not c && (not d && (not e && not f))) h1 in
     let h3 = and_second (not c) (not d && (not e && not f)) h2 in
     let h4 = and_second (not d) (not e && not f) h3 in
-    let h5 = and_second (not e) (not f) h4 in
-    (not_true a (and_first (not a) (not b && (not c && (not d && (not e && not f)))) h), not_true b (and_first (not b) (not c && (not d && (not e && not f))) h1), not_true c (and_first (not c) (not d && (not e && not f)) h2), not_true d (and_first (not d) (not e && not f) h3), not_true e (and_first (not e) (not f) h4), not_true f h5)
+    let h5 = and_second (not e) (not f) h4 in (
+      not_true a (and_first (not a) (not b && (not c && (not d && (not e && not f)))) h),
+      not_true b (and_first (not b) (not c && (not d && (not e && not f))) h1),
+      not_true c (and_first (not c) (not d && (not e && not f)) h2),
+      not_true d (and_first (not d) (not e && not f) h3),
+      not_true e (and_first (not e) (not f) h4),
+      not_true f h5,
+    )
 
 pub no_outer : (k : ℕ) → is_inner k ≡ true → IsNoOuter k
 no_outer k inner =
@@ -117,7 +124,8 @@ owner-inner before rs inner = fold-append owning 0 before rs ∙ owner_from rs (
 names_of_inner : (rs : List Record) → AreInner rs → names rs ≡ []
 names_of_inner [] inner = refl
 names_of_inner (r ∷ rs) inner =
-    ap (λ (b : Bool). map (λ (x : Record). name_of x.body) (cond b (r ∷ filter (λ (x : Record). eqb x.kind kinds.strname) rs) (filter (λ (x : Record). eqb x.kind kinds.strname) rs))) ((no_outer r.kind inner.0).strname) ∙ names_of_inner rs inner.1
+    ap (λ (b : Bool). map (λ (x : Record). name_of x.body) (cond b (r ∷ filter (λ (x : Record). eqb x.kind kinds.strname) rs)
+    (filter (λ (x : Record). eqb x.kind kinds.strname) rs))) ((no_outer r.kind inner.0).strname) ∙ names_of_inner rs inner.1
 
 pub names-append : (before rs : List Record) → names (before ++ rs) ≡ names before ++ names rs
 names-append before rs =

@@ -41,7 +41,8 @@ module _ (bytes : List ℕ) (before : List Record) (at : ℕ) where
     back = λ r found ks p. reached.back r found ks ((agrees r found).back ks p);
   }
 
-  pub moved : (g h : Grammar) (r : Record) → Reached bytes before g at → record_at bytes at ≡ Ok r → Moves g r.kind h → Exists h → refusal before r ≡ None → r.kind ≢ kinds.endlib → Reached bytes (before ++ r ∷ []) h r.next
+  pub moved : (g h : Grammar) (r : Record) → Reached bytes before g at → record_at bytes at ≡ Ok r → Moves g r.kind h → Exists h
+      → refusal before r ≡ None → r.kind ≢ kinds.endlib → Reached bytes (before ++ r ∷ []) h r.next
   moved g h r reached found moves some fine ne = record {
     lies = lies_push bytes 0 before at r reached.lies found;
     sound = sound_push [] before r reached.sound fine;
@@ -62,6 +63,15 @@ module _ (bytes : List ℕ) (before : List Record) (at : ℕ) where
   stops_at g r reached found avoids =
       (before, at, is_read g reached, not_here r found (λ p. avoids p.0 (reached.on r found p.0 (subst (Has library) (kinds_push before r p.0) p.1))))
 
-  pub stops_for : (g h : Grammar) (r : Record) (f : Fault) → Reached bytes before g at → record_at bytes at ≡ Ok r → Moves g r.kind h → Exists h → refusal before r ≡ Some f → IsFirstFault bytes f
-  stops_for g h r f reached found moves some why =
-      (before, at, is_read g reached, refused r f found (some.0, subst (Has library) (sym (kinds_push before r some.0)) (reached.back r found some.0 (moves.back some.0 some.1))) why)
+  pub stops_for : (g h : Grammar) (r : Record) (f : Fault) → Reached bytes before g at → record_at bytes at ≡ Ok r → Moves g r.kind h
+      → Exists h → refusal before r ≡ Some f → IsFirstFault bytes f
+  stops_for g h r f reached found moves some why = (
+    before,
+    at,
+    is_read g reached,
+    refused r f found (
+      some.0,
+      subst (Has library) (sym (kinds_push before r some.0))
+          (reached.back r found some.0 (moves.back some.0 some.1)),
+    ) why,
+  )

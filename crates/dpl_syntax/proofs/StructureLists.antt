@@ -1,5 +1,6 @@
 -- Reading the structures of a library.
-use Rattle.std.proofs.Common.{◌≡◌, ◌≢◌, ℕ, Bool, true, false, ◌||◌, cond, eqb, List, [], ◌∷◌, ◌++◌, map, Option, Some, None, Result, Ok, Err, refl, sym, subst, ap, ◌∙◌, append_assoc}
+use Rattle.std.proofs.Common.{◌≡◌, ◌≢◌, ℕ, Bool, true, false, ◌||◌, cond, eqb, List, [], ◌∷◌, ◌++◌, map, Option, Some, None, Result, Ok}
+use Rattle.std.proofs.Common.{Err, refl, sym, subst, ap, ◌∙◌, append_assoc}
 use Rattle.std.specs.List.{list_any}
 use Rattle.std.proofs.lemmas.Bool.{eqb-true, eqb-false, eq-eqb}
 use Rattle.std.proofs.lemmas.List.{append-nil, map-append}
@@ -34,7 +35,8 @@ second true y e = absurd cc
 second false y e = e
 
 -- a key that isn't there goes last
-pub insert_new : {K V N : Type 0} (name : K → N) (eq : K → K → Bool) (q : N → Bool) (es : List (K × V)) (k : K) (v : V) → ((j : K) → eq k j ≡ q (name j)) → list_any q (map (λ (e : K × V). name e.0) es) ≡ false → insert_entry eq es k v ≡ es ++ (k, v) ∷ []
+pub insert_new : {K V N : Type 0} (name : K → N) (eq : K → K → Bool) (q : N → Bool) (es : List (K × V)) (k : K) (v : V)
+    → ((j : K) → eq k j ≡ q (name j)) → list_any q (map (λ (e : K × V). name e.0) es) ≡ false → insert_entry eq es k v ≡ es ++ (k, v) ∷ []
 insert_new name eq q [] k v same_ none = refl
 insert_new {K} {V} {N} name eq q (e ∷ es) k v same_ none =
     let here : eq k e.0 ≡ false = same_ e.0 ∙ first (q (name e.0)) (list_any q (map (λ (e : K × V). name e.0) es)) none in
@@ -50,12 +52,19 @@ names_of_seen (e ∷ entries) = ap (λ (x : List (List ℕ)). e.0.now ∷ x) (na
 pub no_structures : (bytes : List ℕ) → AreStructures bytes [] []
 no_structures bytes = record { each = []; split = λ more. refl; are = refl; named = refl }
 
-structures_push : (bytes : List ℕ) (ss : List tree.Structure) (s : tree.Structure) (rs qs : List Record) → AreStructures bytes ss rs → IsStructure bytes s qs → AreStructures bytes (ss ++ s ∷ []) (rs ++ qs)
+structures_push : (bytes : List ℕ) (ss : List tree.Structure) (s : tree.Structure) (rs qs : List Record) → AreStructures bytes ss rs
+    → IsStructure bytes s qs → AreStructures bytes (ss ++ s ∷ []) (rs ++ qs)
 structures_push bytes ss s rs qs first second = record {
   each = first.each ++ second.each ∷ [];
-  split = λ more. ap split_structures (append_assoc rs qs more) ∙ first.split (qs ++ more) ∙ ap (λ (x : List (Record × List Record)). first.each ++ x) (second.split more) ∙ sym (append_assoc first.each (second.each ∷ []) (split_structures more));
-  are = map-append (structure_of bytes) first.each (second.each ∷ []) ∙ ap (λ (x : List tree.Structure). x ++ structure_of bytes second.each ∷ []) first.are ∙ ap (λ (x : tree.Structure). ss ++ x ∷ []) second.is;
-  named = names-append rs qs ∙ ap (λ (x : List (List ℕ)). x ++ names qs) first.named ∙ ap (λ (x : List (List ℕ)). map (λ (t : tree.Structure). t.name) ss ++ x) second.named ∙ sym (map-append (λ (t : tree.Structure). t.name) ss (s ∷ []));
+  split = λ more. ap split_structures (append_assoc rs qs more) ∙ first.split (qs ++ more)
+      ∙ ap (λ (x : List (Record × List Record)). first.each ++ x) (second.split more)
+      ∙ sym (append_assoc first.each (second.each ∷ []) (split_structures more));
+  are = map-append (structure_of bytes) first.each (second.each ∷ [])
+      ∙ ap (λ (x : List tree.Structure). x ++ structure_of bytes second.each ∷ []) first.are
+      ∙ ap (λ (x : tree.Structure). ss ++ x ∷ []) second.is;
+  named = names-append rs qs ∙ ap (λ (x : List (List ℕ)). x ++ names qs) first.named
+      ∙ ap (λ (x : List (List ℕ)). map (λ (t : tree.Structure). t.name) ss ++ x) second.named
+      ∙ sym (map-append (λ (t : tree.Structure). t.name) ss (s ∷ []));
 }
 
 -- ---- reading on
@@ -68,20 +77,30 @@ module _ (bytes : List ℕ) (from : ℕ) where
     known_so_far : (before rs : List Record) → names before ≡ [] → AreStructures bytes (structures_seen entries) rs → names (before ++ rs) ≡ known_names entries
     known_so_far before rs named are = names-append before rs ∙ ap (λ (x : List (List ℕ)). x ++ names rs) named ∙ are.named ∙ names_of_seen entries
 
-    enters : (before : List Record) (h : Record) → IsNext bytes at kinds.bgnstr h → Reached bytes before (structures_first (a kinds.endlib)) at → Reached bytes before (structure_then (structures_first (a kinds.endlib))) at
+    enters : (before : List Record) (h : Record) → IsNext bytes at kinds.bgnstr h
+        → Reached bytes before (structures_first (a kinds.endlib)) at
+        → Reached bytes before (structure_then (structures_first (a kinds.endlib))) at
     enters before h next reached =
         agreed bytes before at (structures_first (a kinds.endlib)) (structure_then (structures_first (a kinds.endlib))) reached
-        (λ x found. takes_many grammar.structure (a kinds.endlib) x.kind (avoids_one (λ j. eqb j kinds.endlib) x.kind (ap (λ (k : ℕ). eqb k kinds.endlib) (ap (λ (y : Record). y.kind) (sym (same_record (record_at bytes at) h x next.found found)) ∙ next.is))))
+        (λ x found. takes_many grammar.structure (a kinds.endlib) x.kind
+        (avoids_one (λ j. eqb j kinds.endlib) x.kind
+        (ap (λ (k : ℕ). eqb k kinds.endlib) (ap (λ (y : Record). y.kind) (sym (same_record (record_at bytes at) h x next.found found))
+        ∙ next.is))))
         (exists_both grammar.structure (structures_first (a kinds.endlib)) some_structure reached.some)
 
-    pub structures_more : (n : ℕ) (h : Record) (s : tree.Structure) → IsNext bytes at kinds.bgnstr h → PassesNamed bytes (known_names entries) structure_then same (IsStructure bytes s) at n
+    pub structures_more : (n : ℕ) (h : Record) (s : tree.Structure) → IsNext bytes at kinds.bgnstr h
+        → PassesNamed bytes (known_names entries) structure_then same (IsStructure bytes s) at n
         → PassesNamed bytes [] structures_first structures_first (AreStructures bytes (structures_seen entries ++ s ∷ [])) from n
     structures_more n h s next passes before rest named reached =
         let p = so_far before rest named reached in
-        let q = passes (before ++ p.0) (structures_first (a kinds.endlib)) (known_so_far before p.0 named p.1) (enters (before ++ p.0) h next p.2) in
-        (p.0 ++ q.0, structures_push bytes (structures_seen entries) s p.0 q.0 p.1 q.1, subst (λ (x : List Record). Reached bytes x (structures_first rest) n) (append_assoc before p.0 q.0) q.2)
+        let q = passes (before ++ p.0) (structures_first (a kinds.endlib)) (known_so_far before p.0 named p.1) (enters (before ++ p.0) h next p.2) in (
+          p.0 ++ q.0,
+          structures_push bytes (structures_seen entries) s p.0 q.0 p.1 q.1,
+          subst (λ (x : List Record). Reached bytes x (structures_first rest) n) (append_assoc before p.0 q.0) q.2,
+        )
 
-    pub structures_fail : (h : Record) (f : Fault) → IsNext bytes at kinds.bgnstr h → FailsNamed bytes (known_names entries) structure_then at f → FailsNamed bytes [] structures_first from f
+    pub structures_fail : (h : Record) (f : Fault) → IsNext bytes at kinds.bgnstr h
+        → FailsNamed bytes (known_names entries) structure_then at f → FailsNamed bytes [] structures_first from f
     structures_fail h f next fails before rest named reached =
         let p = so_far before rest named reached in
         fails (before ++ p.0) (structures_first (a kinds.endlib)) (known_so_far before p.0 named p.1) (enters (before ++ p.0) h next p.2)
@@ -97,6 +116,8 @@ module _ (bytes : List ℕ) (from : ℕ) where
           p.0,
           p.1,
           agreed bytes (before ++ p.0) at (structures_first rest) (endlib_first rest) p.2
-              (λ x found. ends_many grammar.structure (a kinds.endlib) x.kind (avoids_a kinds.bgnstr x.kind inside (subst (λ (y : Record). eqb y.kind kinds.bgnstr ≡ false) (same_record (record_at bytes at) other.0 x other.1 found) other.2)))
+              (λ x found. ends_many grammar.structure (a kinds.endlib) x.kind
+              (avoids_a kinds.bgnstr x.kind inside (subst (λ (y : Record). eqb y.kind kinds.bgnstr ≡ false)
+              (same_record (record_at bytes at) other.0 x other.1 found) other.2)))
               (exists_rest (many grammar.structure) (a kinds.endlib) p.2.some),
         )

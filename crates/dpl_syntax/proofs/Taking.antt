@@ -1,5 +1,6 @@
 -- What reading one record gives.
-use Rattle.std.proofs.Common.{◌≡◌, ◌≢◌, ℕ, Bool, true, false, not, ◌&&◌, ◌⊎◌, inl, inr, cond, eqb, List, [], ◌∷◌, ◌++◌, length, Option, Some, None, Result, Ok, Err, refl, sym, subst, ap, ◌∙◌}
+use Rattle.std.proofs.Common.{◌≡◌, ◌≢◌, ℕ, Bool, true, false, not, ◌&&◌, ◌⊎◌, inl, inr, cond, eqb, List, [], ◌∷◌, ◌++◌, length, Option}
+use Rattle.std.proofs.Common.{Some, None, Result, Ok, Err, refl, sym, subst, ap, ◌∙◌}
 use Rattle.std.proofs.lemmas.Bool.{eqb-true, eqb-false, eq-eqb}
 use Rattle.dpl_spec_format.specs.Kinds as kinds
 use Rattle.dpl_spec_format.specs.Faults.{Fault, unexpected, bad_size, bad_name}
@@ -11,7 +12,8 @@ use Rattle.dpl_spec_format.specs.Layout.{IsFirstFault}
 use Rattle.dpl_syntax.specs.Reading as reading
 use Rattle.dpl_syntax.specs.Reading.{◌>>=◌}
 use Rattle.dpl_syntax.specs.Reached.{Reached}
-use Rattle.dpl_syntax.proofs.Languages.{Avoids, Exists, Moves, Agrees, avoids_one, solid_one, avoids_both, avoids_behind, avoids_maybe, moves_one, moves_agreed, skips_maybe, takes_maybe, exists_rest}
+use Rattle.dpl_syntax.proofs.Languages.{Avoids, Exists, Moves, Agrees, avoids_one, solid_one, avoids_both, avoids_behind, avoids_maybe}
+use Rattle.dpl_syntax.proofs.Languages.{moves_one, moves_agreed, skips_maybe, takes_maybe, exists_rest}
 use Rattle.dpl_syntax.proofs.Steps.{agreed, moved, stops, stops_at, stops_for}
 use Rattle.dpl_syntax.proofs.Slotting.{decide}
 
@@ -75,14 +77,20 @@ module _ (bytes : List ℕ) (before : List Record) (rest : Grammar) (at kind : �
   pub take_ok : (y : Record × ℕ) → Reached bytes before (both (a kind) rest) at → ((r : Record) → r ≡ y.0 → refusal before r ≡ None) → kind ≢ kinds.endlib
       → reading.take bytes kind at ≡ Ok y → (y.0.kind ≡ kind) × Reached bytes (before ++ y.0 ∷ []) rest y.1
   take_ok y reached fine ne e =
-      let t = took kind at (record_at bytes at) y e in
-      (t.kind_is, subst (λ (n : ℕ). Reached bytes (before ++ y.0 ∷ []) rest n) (sym t.next) (moved bytes before at (both (a kind) rest) rest y.0 reached t.found (moves_one (λ k. eqb k kind) rest y.0.kind (eq-eqb y.0.kind kind t.kind_is)) (exists_rest (a kind) rest reached.some) (fine y.0 refl) (λ h. ne (sym t.kind_is ∙ h))))
+      let t = took kind at (record_at bytes at) y e in (
+        t.kind_is,
+        subst (λ (n : ℕ). Reached bytes (before ++ y.0 ∷ []) rest n) (sym t.next)
+            (moved bytes before at (both (a kind) rest) rest y.0 reached t.found
+            (moves_one (λ k. eqb k kind) rest y.0.kind (eq-eqb y.0.kind kind t.kind_is)) (exists_rest (a kind) rest reached.some)
+            (fine y.0 refl) (λ h. ne (sym t.kind_is ∙ h))),
+      )
 
   pub take_err : (f : Fault) → Reached bytes before (both (a kind) rest) at → reading.take bytes kind at ≡ Err f → IsFirstFault bytes f
   take_err f reached e =
       elim (missed kind at (record_at bytes at) f e) [
         | inl x ↦ stops bytes before at (both (a kind) rest) f reached x
-        | inr m ↦ subst (IsFirstFault bytes) m.3 (stops_at bytes before at (both (a kind) rest) m.0 reached m.1 (avoids_both (a kind) rest m.0.kind (solid_one (λ k. eqb k kind)) (avoids_one (λ k. eqb k kind) m.0.kind m.2)))
+        | inr m ↦ subst (IsFirstFault bytes) m.3 (stops_at bytes before at (both (a kind) rest) m.0 reached m.1
+            (avoids_both (a kind) rest m.0.kind (solid_one (λ k. eqb k kind)) (avoids_one (λ k. eqb k kind) m.0.kind m.2)))
       ]
 
   -- a record of the type that is refused
@@ -90,7 +98,8 @@ module _ (bytes : List ℕ) (before : List Record) (rest : Grammar) (at kind : �
       → reading.take bytes kind at ≡ Ok y → IsFirstFault bytes f
   take_refused y f reached why e =
       let t = took kind at (record_at bytes at) y e in
-      stops_for bytes before at (both (a kind) rest) rest y.0 f reached t.found (moves_one (λ k. eqb k kind) rest y.0.kind (eq-eqb y.0.kind kind t.kind_is)) (exists_rest (a kind) rest reached.some) why
+      stops_for bytes before at (both (a kind) rest) rest y.0 f reached t.found
+      (moves_one (λ k. eqb k kind) rest y.0.kind (eq-eqb y.0.kind kind t.kind_is)) (exists_rest (a kind) rest reached.some) why
 
 -- ---- one record, or none
 

@@ -1,5 +1,6 @@
 -- Reading a whole element.
-use Rattle.std.proofs.Common.{◌≡◌, ◌≢◌, ℕ, Bool, true, false, ◌⊎◌, inl, inr, cond, ◌||◌, eqb, List, [], ◌∷◌, ◌++◌, Option, Some, None, Result, Ok, Err, refl, sym, subst, ap, ◌∙◌, append_assoc}
+use Rattle.std.proofs.Common.{◌≡◌, ◌≢◌, ℕ, Bool, true, false, ◌⊎◌, inl, inr, cond, ◌||◌, eqb, List, [], ◌∷◌, ◌++◌, Option, Some, None}
+use Rattle.std.proofs.Common.{Result, Ok, Err, refl, sym, subst, ap, ◌∙◌, append_assoc}
 use Rattle.std.proofs.lemmas.Bool.{eqb-true, eqb-false, eq-eqb}
 use Rattle.dpl_spec_format.specs.Kinds as kinds
 use Rattle.dpl_spec_format.specs.Faults.{Fault}
@@ -59,7 +60,8 @@ properties_inner (r ∷ rs) are = (property_inner r.kind are.0, properties_inner
 -- ---- the whole
 
 module _ (bytes : List ℕ) (at : ℕ) (h : Record) (found : record_at bytes at ≡ Ok h) (begins : kinds.begins_element h.kind ≡ true) where
-  pub element_ok : (y : Body × ℕ) (next : ℕ) → body_at bytes h.kind h.next ≡ Ok y → Passes bytes properties_end same IsEnd y.1 next → Passes bytes element_then same (IsElement (record { at = h.at; body = y.0 })) at next
+  pub element_ok : (y : Body × ℕ) (next : ℕ) → body_at bytes h.kind h.next ≡ Ok y → Passes bytes properties_end same IsEnd y.1 next
+      → Passes bytes element_then same (IsElement (record { at = h.at; body = y.0 })) at next
   element_ok y next e ends before rest reached =
       let b = body_ok bytes before rest at h reached found begins y e in
       let goes = b.2 in
@@ -67,10 +69,13 @@ module _ (bytes : List ℕ) (at : ℕ) (h : Record) (found : record_at bytes at 
       let end = p.1 in
       let inner : List Record = goes.rs ++ end.properties in
       let find : (k : ℕ) → is_property k ≡ false → pick b.0 k ≡ first_of k inner =
-      λ k q. sym (first_of-append k goes.rs end.properties ∙ ap (or_else (first_of k goes.rs)) (first_of_properties k end.properties end.are q) ∙ or_none (first_of k goes.rs) ∙ goes.slotted k) in
+      λ k q. sym (first_of-append k goes.rs end.properties ∙ ap (or_else (first_of k goes.rs))
+      (first_of_properties k end.properties end.are q) ∙ or_none (first_of k goes.rs) ∙ goes.slotted k) in
       let body_is : y.0 ≡ body_of h.kind (λ k. first_of k inner) = b.1 ∙ body_same h.kind (pick b.0) (λ k. first_of k inner) find in
-      let split : h ∷ (goes.rs ++ p.0) ≡ h ∷ (inner ++ end.endel ∷ []) = ap (λ (x : List Record). h ∷ (goes.rs ++ x)) end.split ∙ ap (λ (x : List Record). h ∷ x) (sym (append_assoc goes.rs end.properties (end.endel ∷ []))) in
-      let grouped : ((before ++ h ∷ []) ++ goes.rs) ++ p.0 ≡ before ++ (h ∷ (goes.rs ++ p.0)) = append_assoc (before ++ h ∷ []) goes.rs p.0 ∙ append_assoc before (h ∷ []) (goes.rs ++ p.0) in (
+      let split : h ∷ (goes.rs ++ p.0) ≡ h ∷ (inner ++ end.endel ∷ []) = ap (λ (x : List Record). h ∷ (goes.rs ++ x)) end.split
+      ∙ ap (λ (x : List Record). h ∷ x) (sym (append_assoc goes.rs end.properties (end.endel ∷ []))) in
+      let grouped : ((before ++ h ∷ []) ++ goes.rs) ++ p.0 ≡ before ++ (h ∷ (goes.rs ++ p.0)) = append_assoc (before ++ h ∷ []) goes.rs p.0
+      ∙ append_assoc before (h ∷ []) (goes.rs ++ p.0) in (
         h ∷ (goes.rs ++ p.0),
         record {
           first = h;

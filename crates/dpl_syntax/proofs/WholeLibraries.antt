@@ -1,5 +1,6 @@
 -- Reading a whole library.
-use Rattle.std.proofs.Common.{◌≡◌, ◌≢◌, ℕ, Bool, true, false, ◌||◌, ◌⊎◌, inl, inr, cond, eqb, List, [], ◌∷◌, ◌++◌, map, Option, Some, None, Result, Ok, Err, refl, sym, subst, ap, ◌∙◌, append_assoc}
+use Rattle.std.proofs.Common.{◌≡◌, ◌≢◌, ℕ, Bool, true, false, ◌||◌, ◌⊎◌, inl, inr, cond, eqb, List, [], ◌∷◌, ◌++◌, map, Option, Some, None}
+use Rattle.std.proofs.Common.{Result, Ok, Err, refl, sym, subst, ap, ◌∙◌, append_assoc}
 use Rattle.std.proofs.lemmas.Bool.{eqb-true, eqb-false, eq-eqb}
 use Rattle.std.proofs.lemmas.List.{append-nil}
 use Rattle.dpl_spec_format.specs.Kinds as kinds
@@ -13,7 +14,8 @@ use Rattle.dpl_spec_format.specs.Tree.{first_of, structure_of}
 use Rattle.dpl_spec_format.specs.Layout.{IsSound, IsFirstFault, Holds}
 use Rattle.dpl_syntax.specs.Reading as reading
 use Rattle.dpl_syntax.specs.Reached.{Reached}
-use Rattle.dpl_syntax.specs.Passing.{same, skips_then, part_then, SkipsNone, AreSkipped, IsPart, PassesPart, FailsSkips, PassesNamed, FailsNamed, structures_first, endlib_first, split_structures, AreStructures}
+use Rattle.dpl_syntax.specs.Passing.{same, skips_then, part_then, SkipsNone, AreSkipped, IsPart, PassesPart, FailsSkips, PassesNamed}
+use Rattle.dpl_syntax.specs.Passing.{FailsNamed, structures_first, endlib_first, split_structures, AreStructures}
 use Rattle.dpl_syntax.proofs.Languages.{Exists, exists_both, avoids_one, avoids_behind, avoids_many}
 use Rattle.dpl_syntax.proofs.Steps.{lies_push, sound_push, stops, stops_at}
 use Rattle.dpl_syntax.proofs.Taking.{took, missed, take_ok, take_err}
@@ -42,7 +44,9 @@ part_skips_none kind rest n k s = avoids_a kind k (skips_then rest) (skipped_isn
 
 structures_skip_none : SkipsNone after_units
 structures_skip_none k s =
-    avoids_behind (many grammar.structure) (a kinds.endlib) k (avoids_many grammar.structure k (avoids_a kinds.bgnstr k inside (skipped_isnt k kinds.bgnstr s refl))) (avoids_one (λ j. eqb j kinds.endlib) k (skipped_isnt k kinds.endlib s refl))
+    avoids_behind (many grammar.structure) (a kinds.endlib) k
+    (avoids_many grammar.structure k (avoids_a kinds.bgnstr k inside (skipped_isnt k kinds.bgnstr s refl)))
+    (avoids_one (λ j. eqb j kinds.endlib) k (skipped_isnt k kinds.endlib s refl))
 
 one_of : (kind : ℕ) → Exists (a kind)
 one_of kind = (kind ∷ [], (kind, refl, eq-eqb kind kind refl))
@@ -84,7 +88,8 @@ first_skipped k (r ∷ rs) more are n = first_skip k r (rs ++ more) (skipped_isn
 
 first_past : (k kind : ℕ) (r : Record) (rs more : List Record) → IsPart kind r rs → kinds.is_skipped k ≡ false → eqb kind k ≡ false → first_of k (rs ++ more) ≡ first_of k more
 first_past k kind r rs more part n e =
-    ap (λ (x : List Record). first_of k (x ++ more)) part.split ∙ first_skip k r (part.skipped ++ more) (ap (λ (j : ℕ). eqb j k) part.is ∙ e) ∙ first_skipped k part.skipped more part.are n
+    ap (λ (x : List Record). first_of k (x ++ more)) part.split ∙ first_skip k r (part.skipped ++ more) (ap (λ (j : ℕ). eqb j k) part.is
+    ∙ e) ∙ first_skipped k part.skipped more part.are n
 
 first_in : (kind : ℕ) (r : Record) (rs more : List Record) → IsPart kind r rs → first_of kind (rs ++ more) ≡ Some r
 first_in kind r rs more part = ap (λ (x : List Record). first_of kind (x ++ more)) part.split ∙ first_here kind r (part.skipped ++ more) part.is
@@ -95,7 +100,8 @@ split_skipped (r ∷ rs) more are = structures_skip r (rs ++ more) (skipped_isnt
 
 split_part : (kind : ℕ) (r : Record) (rs more : List Record) → IsPart kind r rs → eqb kind kinds.bgnstr ≡ false → split_structures (rs ++ more) ≡ split_structures more
 split_part kind r rs more part e =
-    ap (λ (x : List Record). split_structures (x ++ more)) part.split ∙ structures_skip r (part.skipped ++ more) (ap (λ (j : ℕ). eqb j kinds.bgnstr) part.is ∙ e) ∙ split_skipped part.skipped more part.are
+    ap (λ (x : List Record). split_structures (x ++ more)) part.split ∙ structures_skip r (part.skipped ++ more)
+    (ap (λ (j : ℕ). eqb j kinds.bgnstr) part.is ∙ e) ∙ split_skipped part.skipped more part.are
 
 names_skipped : (rs : List Record) → AreSkipped rs → names rs ≡ []
 names_skipped [] are = refl
@@ -127,7 +133,8 @@ module _ (bytes : List ℕ) where
   module _ (h : Record × ℕ) (taken : reading.take bytes kinds.header 0 ≡ Ok h) where
     header : (h.0.kind ≡ kinds.header) × Reached bytes (h.0 ∷ []) after_header h.1
     header =
-        take_ok bytes [] after_header 0 kinds.header h start (λ r s. never [] r kinds.header never_header (ap (λ (x : Record). x.kind) s ∙ (took kinds.header 0 (record_at bytes 0) h taken).kind_is)) (eqb-false kinds.header kinds.endlib refl) taken
+        take_ok bytes [] after_header 0 kinds.header h start (λ r s. never [] r kinds.header never_header (ap (λ (x : Record). x.kind) s
+        ∙ (took kinds.header 0 (record_at bytes 0) h taken).kind_is)) (eqb-false kinds.header kinds.endlib refl) taken
 
     pub no_bgnlib : (f : Fault) → FailsSkips bytes (part_then kinds.bgnlib) h.1 f → IsFirstFault bytes f
     no_bgnlib f fails = fails (h.0 ∷ []) after_bgnlib (part_skips_none kinds.libname after_libname refl) header.1
@@ -172,7 +179,8 @@ module _ (bytes : List ℕ) where
             no_endlib f e =
                 elim (missed kinds.endlib n5 (record_at bytes n5) f e) [
                   | inl x ↦ stops bytes (head ++ fifth.0) n5 (a kinds.endlib) f fifth.2 x
-                  | inr m ↦ subst (IsFirstFault bytes) m.3 (stops_at bytes (head ++ fifth.0) n5 (a kinds.endlib) m.0 fifth.2 m.1 (avoids_one (λ j. eqb j kinds.endlib) m.0.kind m.2))
+                  | inr m ↦ subst (IsFirstFault bytes) m.3 (stops_at bytes (head ++ fifth.0) n5 (a kinds.endlib) m.0 fifth.2 m.1
+                      (avoids_one (λ j. eqb j kinds.endlib) m.0.kind m.2))
                 ]
 
             module _ (z : Record × ℕ) (ended : reading.take bytes kinds.endlib n5 ≡ Ok z) where
@@ -181,7 +189,8 @@ module _ (bytes : List ℕ) where
 
               grouped : (head ++ fifth.0) ++ z.0 ∷ [] ≡ all
               grouped =
-                  append_assoc head fifth.0 (z.0 ∷ []) ∙ append_assoc ((h.0 ∷ second.0) ++ third.0) fourth.0 (fifth.0 ++ z.0 ∷ []) ∙ append_assoc (h.0 ∷ second.0) third.0 (fourth.0 ++ (fifth.0 ++ z.0 ∷ []))
+                  append_assoc head fifth.0 (z.0 ∷ []) ∙ append_assoc ((h.0 ∷ second.0) ++ third.0) fourth.0 (fifth.0 ++ z.0 ∷ [])
+                  ∙ append_assoc (h.0 ∷ second.0) third.0 (fourth.0 ++ (fifth.0 ++ z.0 ∷ []))
 
               end_is : z.0.kind ≡ kinds.endlib
               end_is = (took kinds.endlib n5 (record_at bytes n5) z ended).kind_is
@@ -229,17 +238,59 @@ module _ (bytes : List ℕ) where
 
               is_made : made ≡ tree.library_of bytes all
               is_made =
-                  sym (ap (λ (o : Option Record). record { header = tree.whole_or_none bytes o; bgnlib = tree.whole_of bytes kinds.bgnlib all; libname = tree.whole_of bytes kinds.libname all; units = tree.whole_of bytes kinds.units all; structures = map (structure_of bytes) (split_structures all) }) header_found
-                  ∙ ap (λ (o : Option Record). record { header = tree.whole bytes h.0; bgnlib = tree.whole_or_none bytes o; libname = tree.whole_of bytes kinds.libname all; units = tree.whole_of bytes kinds.units all; structures = map (structure_of bytes) (split_structures all) }) bgnlib_found
-                  ∙ ap (λ (o : Option Record). record { header = tree.whole bytes h.0; bgnlib = tree.whole bytes b; libname = tree.whole_or_none bytes o; units = tree.whole_of bytes kinds.units all; structures = map (structure_of bytes) (split_structures all) }) libname_found
-                  ∙ ap (λ (o : Option Record). record { header = tree.whole bytes h.0; bgnlib = tree.whole bytes b; libname = tree.whole bytes l; units = tree.whole_or_none bytes o; structures = map (structure_of bytes) (split_structures all) }) units_found
-                  ∙ ap (λ (x : List (Record × List Record)). record { header = tree.whole bytes h.0; bgnlib = tree.whole bytes b; libname = tree.whole bytes l; units = tree.whole bytes u; structures = map (structure_of bytes) x }) structures_found
-                  ∙ ap (λ (x : List tree.Structure). record { header = tree.whole bytes h.0; bgnlib = tree.whole bytes b; libname = tree.whole bytes l; units = tree.whole bytes u; structures = x }) fifth.1.are)
+                  sym (ap (λ (o : Option Record). record {
+                    header = tree.whole_or_none bytes o;
+                    bgnlib = tree.whole_of bytes kinds.bgnlib
+                        all;
+                    libname = tree.whole_of bytes kinds.libname all;
+                    units = tree.whole_of bytes kinds.units all;
+                    structures = map
+                        (structure_of bytes) (split_structures all);
+                  }) header_found
+                  ∙ ap (λ (o : Option Record). record {
+                    header = tree.whole bytes h.0;
+                    bgnlib = tree.whole_or_none bytes o;
+                    libname = tree.whole_of bytes kinds.libname all;
+                    units = tree.whole_of bytes kinds.units all;
+                    structures = map
+                        (structure_of bytes) (split_structures all);
+                  }) bgnlib_found
+                  ∙ ap (λ (o : Option Record). record {
+                    header = tree.whole bytes h.0;
+                    bgnlib = tree.whole bytes b;
+                    libname = tree.whole_or_none bytes o;
+                    units = tree.whole_of bytes kinds.units all;
+                    structures = map
+                        (structure_of bytes) (split_structures all);
+                  }) libname_found
+                  ∙ ap (λ (o : Option Record). record {
+                    header = tree.whole bytes h.0;
+                    bgnlib = tree.whole bytes b;
+                    libname = tree.whole
+                        bytes l;
+                    units = tree.whole_or_none bytes o;
+                    structures = map (structure_of bytes) (split_structures all);
+                  }) units_found
+                  ∙ ap (λ (x : List (Record × List Record)). record {
+                    header = tree.whole bytes h.0;
+                    bgnlib = tree.whole bytes b;
+                    libname = tree.whole bytes l;
+                    units = tree.whole bytes u;
+                    structures = map (structure_of bytes) x;
+                  }) structures_found
+                  ∙ ap (λ (x : List tree.Structure). record {
+                    header = tree.whole bytes h.0;
+                    bgnlib = tree.whole bytes b;
+                    libname = tree.whole bytes l;
+                    units = tree.whole bytes u;
+                    structures = x;
+                  }) fifth.1.are)
 
               pub holds : Holds bytes made
               holds =
                   let before = head ++ fifth.0 in
-                  let has : Has library (kinds_of (before ++ z.0 ∷ [])) = subst (Has library) (sym (kinds_last before z.0)) (fifth.2.back z.0 end_found [] (z.0.kind, refl, eq-eqb z.0.kind kinds.endlib end_is)) in
+                  let has : Has library (kinds_of (before ++ z.0 ∷ [])) = subst (Has library) (sym (kinds_last before z.0))
+                  (fifth.2.back z.0 end_found [] (z.0.kind, refl, eq-eqb z.0.kind kinds.endlib end_is)) in
                   record {
                     records = all;
                     end = z.0.next;

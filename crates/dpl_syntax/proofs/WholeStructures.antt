@@ -1,5 +1,6 @@
 -- Reading a whole structure.
-use Rattle.std.proofs.Common.{◌≡◌, ◌≢◌, ℕ, Bool, true, false, not, ◌&&◌, ◌||◌, ◌⊎◌, inl, inr, cond, eqb, List, [], ◌∷◌, ◌++◌, map, length, Option, Some, None, Result, Ok, Err, refl, sym, subst, ap, ◌∙◌, append_assoc}
+use Rattle.std.proofs.Common.{◌≡◌, ◌≢◌, ℕ, Bool, true, false, not, ◌&&◌, ◌||◌, ◌⊎◌, inl, inr, cond, eqb, List, [], ◌∷◌, ◌++◌, map, length}
+use Rattle.std.proofs.Common.{Option, Some, None, Result, Ok, Err, refl, sym, subst, ap, ◌∙◌, append_assoc}
 use Rattle.std.specs.Prelude.{nat_eq, filter}
 use Rattle.std.specs.List.{list_any}
 use Rattle.std.specs.Cmp.Lexicographic.{pointwise}
@@ -18,7 +19,8 @@ use Rattle.dpl_spec_format.specs.Layout.{IsFirstFault}
 use Rattle.dpl_syntax.specs.Reading as reading
 use Rattle.dpl_syntax.specs.Reading.{◌>>=◌}
 use Rattle.dpl_syntax.specs.Reached.{Reached}
-use Rattle.dpl_syntax.specs.Passing.{Passes, Fails, same, endstr_first, elements_first, class_first, is_calm, AreCalm, AreElements, PassesNamed, FailsNamed, structure_then, split_structures, IsStructure}
+use Rattle.dpl_syntax.specs.Passing.{Passes, Fails, same, endstr_first, elements_first, class_first, is_calm, AreCalm, AreElements}
+use Rattle.dpl_syntax.specs.Passing.{PassesNamed, FailsNamed, structure_then, split_structures, IsStructure}
 use Rattle.dpl_syntax.proofs.Languages.{Exists, Moves, Agrees, moves_one, moves_agreed, agrees_both, agrees_regrouped, exists_rest, exists_both, regroups, regroups_back}
 use Rattle.dpl_syntax.proofs.Steps.{agreed, moved}
 use Rattle.dpl_syntax.proofs.Taking.{guard_not, guard_not_err, take_kind, take_ok, take_err, take_refused}
@@ -38,8 +40,12 @@ pub record IsStill (k : ℕ) : Type 0 where
 none_of : (p q r s : Bool) → not p && (not q && (not r && not s)) ≡ true → (p ≡ false) × (q ≡ false) × (r ≡ false) × (s ≡ false)
 none_of p q r s h =
     let h1 = and_second (not p) (not q && (not r && not s)) h in
-    let h2 = and_second (not q) (not r && not s) h1 in
-    (not_true p (and_first (not p) (not q && (not r && not s)) h), not_true q (and_first (not q) (not r && not s) h1), not_true r (and_first (not r) (not s) h2), not_true s (and_second (not r) (not s) h2))
+    let h2 = and_second (not q) (not r && not s) h1 in (
+      not_true p (and_first (not p) (not q && (not r && not s)) h),
+      not_true q (and_first (not q) (not r && not s) h1),
+      not_true r (and_first (not r) (not s) h2),
+      not_true s (and_second (not r) (not s) h2),
+    )
 
 still : (k : ℕ) → is_calm k ≡ true → IsStill k
 still k calm =
@@ -81,7 +87,8 @@ names_calm (r ∷ rs) calm = names_other r rs ((still r.kind calm.0).strname) �
 
 -- ---- what the records are
 
-module _ (bytes : List ℕ) (h n end : Record) (rs : List Record) (es : List tree.Element) (h_is : h.kind ≡ kinds.bgnstr) (n_is : n.kind ≡ kinds.strname) (end_is : end.kind ≡ kinds.endstr) (are : AreElements es rs) where
+module _ (bytes : List ℕ) (h n end : Record) (rs : List Record) (es : List tree.Element) (h_is : h.kind ≡ kinds.bgnstr)
+    (n_is : n.kind ≡ kinds.strname) (end_is : end.kind ≡ kinds.endstr) (are : AreElements es rs) where
   abbrev all : List Record
   all = h ∷ (n ∷ (rs ++ end ∷ []))
 
@@ -90,12 +97,15 @@ module _ (bytes : List ℕ) (h n end : Record) (rs : List Record) (es : List tre
 
   before_end : (more : List Record) → before kinds.endstr (n ∷ (rs ++ end ∷ more)) ≡ n ∷ rs
   before_end more =
-      ap (λ (b : Bool). cond b [] (n ∷ before kinds.endstr (rs ++ end ∷ more))) (ap (λ (k : ℕ). eqb k kinds.endstr) n_is) ∙ ap (λ (x : List Record). n ∷ x) (before_calm rs more end are.calm end_is)
+      ap (λ (b : Bool). cond b [] (n ∷ before kinds.endstr (rs ++ end ∷ more))) (ap (λ (k : ℕ). eqb k kinds.endstr) n_is)
+      ∙ ap (λ (x : List Record). n ∷ x) (before_calm rs more end are.calm end_is)
 
   elements_are : tree.elements_of (n ∷ rs) ≡ es
   unfolding parts
   elements_are =
-      let skip : tree.elements_of (n ∷ rs) ≡ tree.elements_of rs = ap (λ (b : Bool). map element_of (cond b ((n, before kinds.endel rs) ∷ parts kinds.begins_element kinds.endel rs) (parts kinds.begins_element kinds.endel rs))) (ap kinds.begins_element n_is) in
+      let skip : tree.elements_of (n ∷ rs) ≡ tree.elements_of rs = ap
+      (λ (b : Bool). map element_of (cond b ((n, before kinds.endel rs) ∷ parts kinds.begins_element kinds.endel rs)
+      (parts kinds.begins_element kinds.endel rs))) (ap kinds.begins_element n_is) in
       let whole : parts kinds.begins_element kinds.endel rs ≡ are.each = ap (parts kinds.begins_element kinds.endel) (sym (append-nil rs)) ∙ are.split [] ∙ append-nil are.each in
       skip ∙ ap (map element_of) whole ∙ are.are
 
@@ -110,18 +120,29 @@ module _ (bytes : List ℕ) (h n end : Record) (rs : List Record) (es : List tre
         ∙ ap (λ (x : List Record). (h, before kinds.endstr (n ∷ x)) ∷ split_structures (n ∷ x)) (append_assoc rs (end ∷ []) more)
         ∙ ap (λ (x : List Record). (h, x) ∷ split_structures (n ∷ (rs ++ end ∷ more))) (before_end more)
         ∙ ap (λ (x : List (Record × List Record)). (h, n ∷ rs) ∷ x)
-        (structures_skip n (rs ++ end ∷ more) (ap (λ (k : ℕ). eqb k kinds.bgnstr) n_is) ∙ structures_calm rs (end ∷ more) are.calm ∙ structures_skip end more (ap (λ (k : ℕ). eqb k kinds.bgnstr) end_is));
-    is = ap (λ (o : Option Record). record { at = h.at; bgnstr = tree.whole bytes h; strname = tree.whole_or_none bytes o; name = name_of (data_or_none o); elements = tree.elements_of (n ∷ rs) }) first_name
+        (structures_skip n (rs ++ end ∷ more) (ap (λ (k : ℕ). eqb k kinds.bgnstr) n_is) ∙ structures_calm rs (end ∷ more) are.calm
+        ∙ structures_skip end more (ap (λ (k : ℕ). eqb k kinds.bgnstr) end_is));
+    is = ap (λ (o : Option Record). record {
+      at = h.at;
+      bgnstr = tree.whole bytes h;
+      strname = tree.whole_or_none bytes o;
+      name = name_of
+          (data_or_none o);
+      elements = tree.elements_of (n ∷ rs);
+    }) first_name
         ∙ ap (λ (x : List tree.Element). record { at = h.at; bgnstr = tree.whole bytes h; strname = tree.whole bytes n; name = name_of n.body; elements = x }) elements_are;
     named =
         names_other h (n ∷ (rs ++ end ∷ [])) (ap (λ (k : ℕ). eqb k kinds.strname) h_is)
         ∙ names_one n (rs ++ end ∷ []) (eq-eqb n.kind kinds.strname n_is)
-        ∙ ap (λ (x : List (List ℕ)). name_of n.body ∷ x) (names-append rs (end ∷ []) ∙ ap (λ (x : List (List ℕ)). x ++ names (end ∷ [])) (names_calm rs are.calm) ∙ names_other end [] (ap (λ (k : ℕ). eqb k kinds.strname) end_is));
+        ∙ ap (λ (x : List (List ℕ)). name_of n.body ∷ x) (names-append rs (end ∷ []) ∙ ap (λ (x : List (List ℕ)). x ++ names (end ∷ []))
+        (names_calm rs are.calm) ∙ names_other end [] (ap (λ (k : ℕ). eqb k kinds.strname) end_is));
   }
 
 -- ---- the name
 
-strname_refusal : (o : ℕ) (known : List (List ℕ)) (at : ℕ) (body : List ℕ) → refusal_in o known kinds.strname at body ≡ cond (is_empty (name_of body)) (Some (bad_name at)) (cond (list_any (pointwise nat_eq (name_of body)) known) (Some (duplicate_structure at)) None)
+strname_refusal : (o : ℕ) (known : List (List ℕ)) (at : ℕ) (body : List ℕ) → refusal_in o known kinds.strname at body ≡ cond
+    (is_empty (name_of body)) (Some (bad_name at)) (cond (list_any (pointwise nat_eq (name_of body)) known)
+    (Some (duplicate_structure at)) None)
 unfolding refusal_in
 strname_refusal o known at body = refl
 
@@ -158,7 +179,9 @@ module _ (rest : Grammar) where
 
   pub begins_structure : (k : ℕ) → k ≡ kinds.bgnstr → Moves (structure_then rest) k (strname_first rest)
   begins_structure k e =
-      let m = moves_agreed (structure_then rest) (both (a kinds.bgnstr) (both inside rest)) (both inside rest) k (agrees_regrouped (a kinds.bgnstr) inside rest k) (moves_one (λ j. eqb j kinds.bgnstr) (both inside rest) k (eq-eqb k kinds.bgnstr e)) in
+      let m = moves_agreed (structure_then rest) (both (a kinds.bgnstr) (both inside rest)) (both inside rest) k
+      (agrees_regrouped (a kinds.bgnstr) inside rest k) (moves_one (λ j. eqb j kinds.bgnstr) (both inside rest) k
+      (eq-eqb k kinds.bgnstr e)) in
       record { on = λ ks p. in_rows ks (m.on ks p); back = λ ks p. m.back ks (in_one ks p) }
 
 one_of : (kind : ℕ) → Exists (a kind)
@@ -186,14 +209,21 @@ module _ (bytes : List ℕ) (at : ℕ) (h : Record) (known : List (List ℕ)) (f
   -- behind BGNSTR
   behind_head : (before : List Record) (rest : Grammar) → Reached bytes before (structure_then rest) at → Reached bytes (before ++ h ∷ []) (strname_first rest) h.next
   behind_head before rest reached =
-      moved bytes before at (structure_then rest) (strname_first rest) h reached found (begins_structure rest h.kind h_is) (some_inside rest (exists_rest grammar.structure rest reached.some)) (never before h kinds.bgnstr never_bgnstr h_is) (λ e. eqb-false kinds.bgnstr kinds.endlib refl (sym h_is ∙ e))
+      moved bytes before at (structure_then rest) (strname_first rest) h reached found (begins_structure rest h.kind h_is)
+      (some_inside rest (exists_rest grammar.structure rest reached.some)) (never before h kinds.bgnstr never_bgnstr h_is)
+      (λ e. eqb-false kinds.bgnstr kinds.endlib refl (sym h_is ∙ e))
 
   names_head : (before : List Record) → names before ≡ known → names (before ++ h ∷ []) ≡ known
-  names_head before named = names-append before (h ∷ []) ∙ ap (λ (x : List (List ℕ)). names before ++ x) (names_other h [] (ap (λ (k : ℕ). eqb k kinds.strname) h_is)) ∙ append-nil (names before) ∙ named
+  names_head before named = names-append before (h ∷ []) ∙ ap (λ (x : List (List ℕ)). names before ++ x)
+      (names_other h [] (ap (λ (k : ℕ). eqb k kinds.strname) h_is)) ∙ append-nil (names before) ∙ named
 
-  name_refusal : (before : List Record) (r : Record) → names before ≡ known → r.kind ≡ kinds.strname → refusal before r ≡ cond (is_empty (name_of r.body)) (Some (bad_name r.at)) (cond (list_any (pointwise nat_eq (name_of r.body)) known) (Some (duplicate_structure r.at)) None)
+  name_refusal : (before : List Record) (r : Record) → names before ≡ known → r.kind ≡ kinds.strname
+      → refusal before r ≡ cond (is_empty (name_of r.body)) (Some (bad_name r.at)) (cond (list_any (pointwise nat_eq (name_of r.body)) known)
+      (Some (duplicate_structure r.at)) None)
   name_refusal before r named e =
-      ap (λ (k : ℕ). refusal_in (owner before) (names before) k r.at r.body) e ∙ ap (λ (x : List (List ℕ)). refusal_in (owner before) x kinds.strname r.at r.body) named ∙ strname_refusal (owner before) known r.at r.body
+      ap (λ (k : ℕ). refusal_in (owner before) (names before) k r.at r.body) e
+      ∙ ap (λ (x : List (List ℕ)). refusal_in (owner before) x kinds.strname r.at r.body) named
+      ∙ strname_refusal (owner before) known r.at r.body
 
   first : (b : Bool) (f : Fault) (x : Result (Record × ℕ) Fault) (y : Record × ℕ) → cond b (Err f) x ≡ Ok y → (b ≡ false) × (x ≡ Ok y)
   first true f x y e = absurd cc
@@ -204,20 +234,24 @@ module _ (bytes : List ℕ) (at : ℕ) (h : Record) (known : List (List ℕ)) (f
   first_err false f g x e = inr (refl, e)
 
   abbrev rest_of_name : Record × ℕ → Result (Record × ℕ) Fault
-  rest_of_name r = cond (is_empty (name_of r.0.body)) (Err (bad_name r.0.at)) (cond (list_any (pointwise nat_eq (name_of r.0.body)) known) (Err (duplicate_structure r.0.at)) (Ok r))
+  rest_of_name r = cond (is_empty (name_of r.0.body)) (Err (bad_name r.0.at)) (cond (list_any (pointwise nat_eq (name_of r.0.body)) known)
+      (Err (duplicate_structure r.0.at)) (Ok r))
 
-  pub name_ok : (y : Record × ℕ) → reading.take_strname bytes known h.next ≡ Ok y → (before : List Record) (rest : Grammar) → names before ≡ known → Reached bytes before (structure_then rest) at
+  pub name_ok : (y : Record × ℕ) → reading.take_strname bytes known h.next ≡ Ok y → (before : List Record) (rest : Grammar)
+      → names before ≡ known → Reached bytes before (structure_then rest) at
       → (y.0.kind ≡ kinds.strname) × Reached bytes ((before ++ h ∷ []) ++ y.0 ∷ []) (class_first rest) y.1
   name_ok y e before rest named reached =
       let b = bind_ok (reading.take bytes kinds.strname h.next) rest_of_name y e in
-      let g = first (is_empty (name_of b.0.0.body)) (bad_name b.0.0.at) (cond (list_any (pointwise nat_eq (name_of b.0.0.body)) known) (Err (duplicate_structure b.0.0.at)) (Ok b.0)) y b.2 in
+      let g = first (is_empty (name_of b.0.0.body)) (bad_name b.0.0.at) (cond (list_any (pointwise nat_eq (name_of b.0.0.body)) known)
+      (Err (duplicate_structure b.0.0.at)) (Ok b.0)) y b.2 in
       let k = guard_not (list_any (pointwise nat_eq (name_of b.0.0.body)) known) (duplicate_structure b.0.0.at) b.0 y g.1 in
       let kind_is = take_kind bytes kinds.strname h.next b.0 b.1 in
       let why : refusal (before ++ h ∷ []) b.0.0 ≡ None =
       name_refusal (before ++ h ∷ []) b.0.0 (names_head before named) kind_is
       ∙ ap (λ (t : Bool). cond t (Some (bad_name b.0.0.at)) (cond (list_any (pointwise nat_eq (name_of b.0.0.body)) known) (Some (duplicate_structure b.0.0.at)) None)) g.0
       ∙ ap (λ (t : Bool). cond t (Some (duplicate_structure b.0.0.at)) None) k.0 in
-      let t = take_ok bytes (before ++ h ∷ []) (class_first rest) h.next kinds.strname b.0 (behind_head before rest reached) (λ r s. subst (λ (x : Record). refusal (before ++ h ∷ []) x ≡ None) (sym s) why) (eqb-false kinds.strname kinds.endlib refl) b.1 in
+      let t = take_ok bytes (before ++ h ∷ []) (class_first rest) h.next kinds.strname b.0 (behind_head before rest reached)
+      (λ r s. subst (λ (x : Record). refusal (before ++ h ∷ []) x ≡ None) (sym s) why) (eqb-false kinds.strname kinds.endlib refl) b.1 in
       subst (λ (z : Record × ℕ). (z.0.kind ≡ kinds.strname) × Reached bytes ((before ++ h ∷ []) ++ z.0 ∷ []) (class_first rest) z.1) k.1 t
 
   pub name_err : (f : Fault) → reading.take_strname bytes known h.next ≡ Err f → FailsNamed bytes known structure_then at f
@@ -227,17 +261,23 @@ module _ (bytes : List ℕ) (at : ℕ) (h : Record) (known : List (List ℕ)) (f
         | inr b ↦
             let kind_is = take_kind bytes kinds.strname h.next b.0 b.1 in
             let why = name_refusal (before ++ h ∷ []) b.0.0 (names_head before named) kind_is in
-            elim (first_err (is_empty (name_of b.0.0.body)) (bad_name b.0.0.at) f (cond (list_any (pointwise nat_eq (name_of b.0.0.body)) known) (Err (duplicate_structure b.0.0.at)) (Ok b.0)) b.2) [
+            elim (first_err (is_empty (name_of b.0.0.body)) (bad_name b.0.0.at) f
+            (cond (list_any (pointwise nat_eq (name_of b.0.0.body)) known) (Err (duplicate_structure b.0.0.at)) (Ok b.0)) b.2) [
               | inl g ↦
-                  let refused : refusal (before ++ h ∷ []) b.0.0 ≡ Some (bad_name b.0.0.at) = why ∙ ap (λ (t : Bool). cond t (Some (bad_name b.0.0.at)) (cond (list_any (pointwise nat_eq (name_of b.0.0.body)) known) (Some (duplicate_structure b.0.0.at)) None)) g.0 in
-                  subst (IsFirstFault bytes) g.1 (take_refused bytes (before ++ h ∷ []) (class_first rest) h.next kinds.strname b.0 (bad_name b.0.0.at) (behind_head before rest reached) refused b.1)
+                  let refused : refusal (before ++ h ∷ []) b.0.0 ≡ Some (bad_name b.0.0.at) = why
+                  ∙ ap (λ (t : Bool). cond t (Some (bad_name b.0.0.at)) (cond (list_any (pointwise nat_eq (name_of b.0.0.body)) known)
+                  (Some (duplicate_structure b.0.0.at)) None)) g.0 in
+                  subst (IsFirstFault bytes) g.1 (take_refused bytes (before ++ h ∷ []) (class_first rest) h.next kinds.strname b.0
+                  (bad_name b.0.0.at) (behind_head before rest reached) refused b.1)
               | inr g ↦
                   let k = guard_not_err (list_any (pointwise nat_eq (name_of b.0.0.body)) known) (duplicate_structure b.0.0.at) f b.0 g.1 in
                   let refused : refusal (before ++ h ∷ []) b.0.0 ≡ Some (duplicate_structure b.0.0.at) =
                   why
-                  ∙ ap (λ (t : Bool). cond t (Some (bad_name b.0.0.at)) (cond (list_any (pointwise nat_eq (name_of b.0.0.body)) known) (Some (duplicate_structure b.0.0.at)) None)) g.0
+                  ∙ ap (λ (t : Bool). cond t (Some (bad_name b.0.0.at)) (cond (list_any (pointwise nat_eq (name_of b.0.0.body)) known)
+                  (Some (duplicate_structure b.0.0.at)) None)) g.0
                   ∙ ap (λ (t : Bool). cond t (Some (duplicate_structure b.0.0.at)) None) k.0 in
-                  subst (IsFirstFault bytes) k.1 (take_refused bytes (before ++ h ∷ []) (class_first rest) h.next kinds.strname b.0 (duplicate_structure b.0.0.at) (behind_head before rest reached) refused b.1)
+                  subst (IsFirstFault bytes) k.1 (take_refused bytes (before ++ h ∷ []) (class_first rest) h.next kinds.strname b.0
+                  (duplicate_structure b.0.0.at) (behind_head before rest reached) refused b.1)
             ]
       ]
 
@@ -245,17 +285,32 @@ module _ (bytes : List ℕ) (at : ℕ) (h : Record) (known : List (List ℕ)) (f
     pub fails_behind : (f : Fault) → Fails bytes class_first y.1 f → FailsNamed bytes known structure_then at f
     fails_behind f fails before rest named reached = fails ((before ++ h ∷ []) ++ y.0 ∷ []) rest ((name_ok y e before rest named reached).1)
 
-    pub fails_elements : (n1 : ℕ) (f : Fault) → Passes bytes class_first elements_first (AreElements []) y.1 n1 → Fails bytes elements_first n1 f → FailsNamed bytes known structure_then at f
+    pub fails_elements : (n1 : ℕ) (f : Fault) → Passes bytes class_first elements_first (AreElements []) y.1 n1
+        → Fails bytes elements_first n1 f → FailsNamed bytes known structure_then at f
     fails_elements n1 f classes fails = fails_behind f (fails_then bytes class_first elements_first (AreElements []) y.1 n1 f classes fails)
 
-    body_then : (n1 n2 : ℕ) (es : List tree.Element) → Passes bytes class_first elements_first (AreElements []) y.1 n1 → Passes bytes elements_first endstr_first (AreElements es) n1 n2 → Passes bytes class_first endstr_first (AreElements es) y.1 n2
-    body_then n1 n2 es classes elements = passes_then bytes class_first elements_first endstr_first (AreElements []) (AreElements es) (AreElements es) y.1 n1 n2 (λ rs qs p q. elements_append [] es rs qs p q) classes elements
+    body_then : (n1 n2 : ℕ) (es : List tree.Element) → Passes bytes class_first elements_first (AreElements []) y.1 n1
+        → Passes bytes elements_first endstr_first (AreElements es) n1 n2 → Passes bytes class_first endstr_first (AreElements es) y.1 n2
+    body_then n1 n2 es classes elements = passes_then bytes class_first elements_first endstr_first (AreElements []) (AreElements es)
+        (AreElements es) y.1 n1 n2 (λ rs qs p q. elements_append [] es rs qs p q) classes elements
 
-    pub fails_end : (n1 n2 : ℕ) (es : List tree.Element) (f : Fault) → Passes bytes class_first elements_first (AreElements []) y.1 n1 → Passes bytes elements_first endstr_first (AreElements es) n1 n2 → reading.take bytes kinds.endstr n2 ≡ Err f → FailsNamed bytes known structure_then at f
-    fails_end n1 n2 es f classes elements x = fails_behind f (fails_then bytes class_first endstr_first (AreElements es) y.1 n2 f (body_then n1 n2 es classes elements) (fails_one bytes n2 kinds.endstr same f x))
+    pub fails_end : (n1 n2 : ℕ) (es : List tree.Element) (f : Fault) → Passes bytes class_first elements_first (AreElements []) y.1 n1
+        → Passes bytes elements_first endstr_first (AreElements es) n1 n2 → reading.take bytes kinds.endstr n2 ≡ Err f
+        → FailsNamed bytes known structure_then at f
+    fails_end n1 n2 es f classes elements x = fails_behind f (fails_then bytes class_first endstr_first (AreElements es) y.1 n2 f
+        (body_then n1 n2 es classes elements) (fails_one bytes n2 kinds.endstr same f x))
 
-    pub structure_ok : (n1 n2 : ℕ) (es : List tree.Element) (z : Record × ℕ) → Passes bytes class_first elements_first (AreElements []) y.1 n1 → Passes bytes elements_first endstr_first (AreElements es) n1 n2 → reading.take bytes kinds.endstr n2 ≡ Ok z
-        → PassesNamed bytes known structure_then same (IsStructure bytes (record { at = h.at; bgnstr = tree.whole bytes h; strname = tree.whole bytes y.0; name = name_of y.0.body; elements = es })) at z.1
+    pub structure_ok : (n1 n2 : ℕ) (es : List tree.Element) (z : Record × ℕ)
+        → Passes bytes class_first elements_first (AreElements []) y.1 n1 → Passes bytes elements_first endstr_first (AreElements es) n1 n2
+        → reading.take bytes kinds.endstr n2 ≡ Ok z
+        → PassesNamed bytes known structure_then same
+        (IsStructure bytes (record {
+          at = h.at;
+          bgnstr = tree.whole bytes h;
+          strname = tree.whole bytes y.0;
+          name = name_of y.0.body;
+          elements = es;
+        })) at z.1
     structure_ok n1 n2 es z classes elements x before rest named reached =
         let n = name_ok y e before rest named reached in
         let b = body_then n1 n2 es classes elements ((before ++ h ∷ []) ++ y.0 ∷ []) rest n.1 in

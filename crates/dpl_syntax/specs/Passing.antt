@@ -167,7 +167,8 @@ skips_then rest = both (many skip) rest
 
 abbrev pub PassesSkips : List ℕ → (Grammar → Grammar) → ℕ → ℕ → Type 0
 PassesSkips bytes to at next =
-    (before : List Record) (rest : Grammar) → SkipsNone rest → Reached bytes before (skips_then rest) at → (rs : List Record) × AreSkipped rs × Reached bytes (before ++ rs) (to rest) next
+    (before : List Record) (rest : Grammar) → SkipsNone rest → Reached bytes before (skips_then rest) at
+    → (rs : List Record) × AreSkipped rs × Reached bytes (before ++ rs) (to rest) next
 
 abbrev pub FailsSkips : List ℕ → (Grammar → Grammar) → ℕ → Fault → Type 0
 FailsSkips bytes from at f = (before : List Record) (rest : Grammar) → SkipsNone rest → Reached bytes before (from rest) at → IsFirstFault bytes f
@@ -184,7 +185,8 @@ pub record IsPart (kind : ℕ) (r : Record) (rs : List Record) : Type 0 where
 
 abbrev pub PassesPart : List ℕ → ℕ → Record → ℕ → ℕ → Type 0
 PassesPart bytes kind r at next =
-    (before : List Record) (rest : Grammar) → SkipsNone rest → Reached bytes before (part_then kind rest) at → (rs : List Record) × IsPart kind r rs × Reached bytes (before ++ rs) rest next
+    (before : List Record) (rest : Grammar) → SkipsNone rest → Reached bytes before (part_then kind rest) at
+    → (rs : List Record) × IsPart kind r rs × Reached bytes (before ++ rs) rest next
 
 -- the types of the records in a library's head
 abbrev pub is_part : ℕ → Bool

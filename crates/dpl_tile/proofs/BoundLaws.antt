@@ -42,9 +42,17 @@ round_none a r solid none =
     record {
       inside = λ p h. elim h [ inl b ↦ absurd (none p b) | inr b ↦ b ];
       left = (record { x = r.x0; y = r.y0 }, inr (record { left = omega (arith, ints); right = w; low = omega (arith, ints); high = t }), refl);
-      right = (record { x = r.x1 -ℤ pos 1; y = r.y0 }, inr (record { left = omega (arith, ints, w); right = omega (arith, ints); low = omega (arith, ints); high = t }), omega (arith, ints));
+      right = (
+        record { x = r.x1 -ℤ pos 1; y = r.y0 },
+        inr (record { left = omega (arith, ints, w); right = omega (arith, ints); low = omega (arith, ints); high = t }),
+        omega (arith, ints),
+      );
       low = (record { x = r.x0; y = r.y0 }, inr (record { left = omega (arith, ints); right = w; low = omega (arith, ints); high = t }), refl);
-      high = (record { x = r.x0; y = r.y1 -ℤ pos 1 }, inr (record { left = omega (arith, ints); right = w; low = omega (arith, ints, t); high = omega (arith, ints) }), omega (arith, ints));
+      high = (
+        record { x = r.x0; y = r.y1 -ℤ pos 1 },
+        inr (record { left = omega (arith, ints); right = w; low = omega (arith, ints, t); high = omega (arith, ints) }),
+        omega (arith, ints),
+      );
     }
 
 module _ (a : Region) (b r : Rect) (solid : IsSolid r) (old : IsBounds a b) where
@@ -141,7 +149,8 @@ any_cases P x xs = (
 any_nil : {X : Type 0} (P : X → Type 0) → Any P [] → ⊥
 any_nil P (k, y, k_in, is, h) = Contains-nil y (k, k_in, is)
 
-rects_round : (rects : List Rect) (a : Region) (o : Option Rect) → ((r : Rect) → Contains rects r → IsSolid r) → AreRound a o → AreRound (λ p. a p ⊎ Covers rects p) (round_all o rects)
+rects_round : (rects : List Rect) (a : Region) (o : Option Rect) → ((r : Rect) → Contains rects r → IsSolid r) → AreRound a o
+    → AreRound (λ p. a p ⊎ Covers rects p) (round_all o rects)
 rects_round [] a o solid h = region_same a (λ p. a p ⊎ Covers [] p) o (λ p. (λ q. inl q, λ q. elim q [ inl b ↦ b | inr b ↦ absurd (any_nil (λ r. Has r p) b) ])) h
 rects_round (r ∷ rects) a o solid h =
     region_same (λ p. Or a r p ⊎ Covers rects p) (λ p. a p ⊎ Covers (r ∷ rects) p) (round_all (round_one o r) rects)
@@ -157,15 +166,21 @@ parts_round [] a o solid h = region_same a (λ p. a p ⊎ union_of [] p) o (λ p
 parts_round (s ∷ parts) a o solid h =
     region_same (λ p. (a p ⊎ Covers s p) ⊎ union_of parts p) (λ p. a p ⊎ union_of (s ∷ parts) p) (fold round_all (round_all o s) parts)
     (λ p. (
-      λ q. elim q [ inl b ↦ elim b [ inl c ↦ inl c | inr c ↦ inr ((any_cases (λ t. Covers t p) s parts).1 (inl c)) ] | inr b ↦ inr ((any_cases (λ t. Covers t p) s parts).1 (inr b)) ],
+      λ q. elim q [
+        | inl b ↦ elim b [ inl c ↦ inl c | inr c ↦ inr ((any_cases (λ t. Covers t p) s parts).1 (inl c)) ]
+        | inr b ↦ inr ((any_cases (λ t. Covers t p) s parts).1 (inr b))
+      ],
       λ q. elim q [ inl b ↦ inl (inl b) | inr b ↦ elim ((any_cases (λ t. Covers t p) s parts).0 b) [ inl c ↦ inl (inr c) | inr c ↦ inr c ] ],
     ))
-    (parts_round parts (λ p. a p ⊎ Covers s p) (round_all o s) (λ t r t_in r_in. solid t r (Contains-later s t parts t_in) r_in) (rects_round s a o (λ r r_in. solid s r (Contains-head s parts) r_in) h))
+    (parts_round parts (λ p. a p ⊎ Covers s p) (round_all o s) (λ t r t_in r_in. solid t r (Contains-later s t parts t_in) r_in)
+    (rects_round s a o (λ r r_in. solid s r (Contains-head s parts) r_in) h))
 
 -- the bounds of the parts
-pub parts-round : (parts : List (List Rect)) → ((part : List Rect) (r : Rect) → Contains parts part → Contains part r → IsSolid r) → AreRound (union_of parts) (fold round_all None parts)
+pub parts-round : (parts : List (List Rect)) → ((part : List Rect) (r : Rect) → Contains parts part → Contains part r → IsSolid r)
+    → AreRound (union_of parts) (fold round_all None parts)
 parts-round parts solid =
-    region_same (λ p. ⊥ ⊎ union_of parts p) (union_of parts) (fold round_all None parts) (λ p. (λ q. elim q [ inl b ↦ absurd b | inr b ↦ b ], λ q. inr q)) (parts_round parts (λ p. ⊥) None solid (λ p h. h))
+    region_same (λ p. ⊥ ⊎ union_of parts p) (union_of parts) (fold round_all None parts)
+    (λ p. (λ q. elim q [ inl b ↦ absurd b | inr b ↦ b ], λ q. inr q)) (parts_round parts (λ p. ⊥) None solid (λ p h. h))
 
 pub none-round : (a : Region) (o : Option Rect) → AreRound a o → IsNone o → (p : Pt) → a p → ⊥
 none-round a None h n = h

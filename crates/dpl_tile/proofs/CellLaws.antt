@@ -91,7 +91,8 @@ cells-ordered g places some ordered i j d l j_in =
     let b : get_or (map (cell_at g) places) j d ≡ cell_at g (get_or places j (0, 0)) = get_or-map (cell_at g) places j (0, 0) d k in
     rw (a, b) (before_cells g (get_or places i (0, 0)) (get_or places j (0, 0)) some (ordered i j (0, 0) l k))
 
-pub places-cells : (g : Grid) (parts : List (List Rect)) (places : List (ℕ × ℕ)) → 1 ≤ g.side → All (AreOver g) parts → ArePlaces g parts places → AreCells parts g (map (cell_at g) places)
+pub places-cells : (g : Grid) (parts : List (List Rect)) (places : List (ℕ × ℕ)) → 1 ≤ g.side → All (AreOver g) parts
+    → ArePlaces g parts places → AreCells parts g (map (cell_at g) places)
 places-cells g parts places some over h =
     record {
       ordered = cells-ordered g places some h.ordered;
@@ -104,7 +105,8 @@ places-cells g parts places some over h =
     }
 
 -- where the first cell has all squares it is the only one
-pub first-cells : (g : Grid) (parts : List (List Rect)) (q : Pt) → 1 ≤ g.side → union_of parts q → ((p : Pt) → union_of parts p → Has (cell_at g (0, 0)) p) → AreCells parts g (map (cell_at g) ((0, 0) ∷ []))
+pub first-cells : (g : Grid) (parts : List (List Rect)) (q : Pt) → 1 ≤ g.side → union_of parts q
+    → ((p : Pt) → union_of parts p → Has (cell_at g (0, 0)) p) → AreCells parts g (map (cell_at g) ((0, 0) ∷ []))
 first-cells g parts q some q_in all =
     record {
       ordered = λ i j d l j_in. absurd (omega (arith, l, j_in));

@@ -35,12 +35,15 @@ module _ {X Y : Type 0} (Kind : X → Y → Type 0) (xs : List X) where
     λ (s, k, is, h). subst (λ u. Kind u e) (sym is ∙ get_or_default xs n s d n_in) h,
   )
 
-  pub each-next : (n : ℕ) (d : X) (base old new : List Y) → n < length xs → Adds (OfFirst (Nth Kind xs) n) base old → Adds (Kind (get_or xs n d)) old new → Adds (OfFirst (Nth Kind xs) (n + 1)) base new
+  pub each-next : (n : ℕ) (d : X) (base old new : List Y) → n < length xs → Adds (OfFirst (Nth Kind xs) n) base old
+      → Adds (Kind (get_or xs n d)) old new → Adds (OfFirst (Nth Kind xs) (n + 1)) base new
   each-next n d base old new n_in before step =
-      adds-next (Nth Kind xs) n (n + 1) base old new (omega arith) (λ m e a b k. omega (arith, a, b)) before (adds-same (Kind (get_or xs n d)) (Nth Kind xs n) old new (nth_kind n d n_in) step)
+      adds-next (Nth Kind xs) n (n + 1) base old new (omega arith) (λ m e a b k. omega (arith, a, b)) before
+      (adds-same (Kind (get_or xs n d)) (Nth Kind xs n) old new (nth_kind n d n_in) step)
 
   -- the same, where an item was taken from the list
-  pub each-item : (n : ℕ) (x : X) (base old new : List Y) → n < length xs → get_or xs n x ≡ x → Adds (OfFirst (Nth Kind xs) n) base old → Adds (Kind x) old new → Adds (OfFirst (Nth Kind xs) (n + 1)) base new
+  pub each-item : (n : ℕ) (x : X) (base old new : List Y) → n < length xs → get_or xs n x ≡ x → Adds (OfFirst (Nth Kind xs) n) base old
+      → Adds (Kind x) old new → Adds (OfFirst (Nth Kind xs) (n + 1)) base new
   each-item n x base old new n_in is before step = each-next n x base old new n_in before (subst (λ u. Adds (Kind u) old new) (sym is) step)
 
   all_kind : (n : ℕ) → length xs ≤ n → (e : Y) → OfFirst (Nth Kind xs) n e ↔ OfSome Kind xs e
@@ -49,7 +52,8 @@ module _ {X Y : Type 0} (Kind : X → Y → Type 0) (xs : List X) where
   pub each-all : (n : ℕ) (old new : List Y) → length xs ≤ n → Adds (OfFirst (Nth Kind xs) n) old new → Adds (OfSome Kind xs) old new
   each-all n old new all h = adds-same (OfFirst (Nth Kind xs) n) (OfSome Kind xs) old new (all_kind n all) h
 
-adds_then : {Y : Type 0} (First Second Both : Y → Type 0) (base old new : List Y) → ((e : Y) → Both e ↔ (First e ⊎ Second e)) → Adds First base old → Adds Second old new → Adds Both base new
+adds_then : {Y : Type 0} (First Second Both : Y → Type 0) (base old new : List Y) → ((e : Y) → Both e ↔ (First e ⊎ Second e))
+    → Adds First base old → Adds Second old new → Adds Both base new
 adds_then First Second Both base old new both before step e = (
   λ h. elim ((step e).0 h) [ inl a ↦ elim ((before e).0 a) [ inl b ↦ inl b | inr f ↦ inr ((both e).1 (inl f)) ] | inr k ↦ inr ((both e).1 (inr k)) ],
   λ h. elim h [
@@ -72,7 +76,8 @@ IsInRowTo row b n e = (e.0 ≡ row) × (b.column0 ≤ e.1) × (e.1 < n)
 pub row-none : (row : ℕ) (b : Block) (xs : List (ℕ × ℕ)) → Adds (IsInRowTo row b b.column0) xs xs
 row-none row b xs e = (λ h. inl h, λ h. elim h [ inl a ↦ a | inr (r, l, m) ↦ absurd (omega (arith, l, m)) ])
 
-pub row-more : (row : ℕ) (b : Block) (n : ℕ) (base old new : List (ℕ × ℕ)) → b.column0 ≤ n → new ≡ old ++ (row, n) ∷ [] → Adds (IsInRowTo row b n) base old → Adds (IsInRowTo row b (n + 1)) base new
+pub row-more : (row : ℕ) (b : Block) (n : ℕ) (base old new : List (ℕ × ℕ)) → b.column0 ≤ n → new ≡ old ++ (row, n) ∷ []
+    → Adds (IsInRowTo row b n) base old → Adds (IsInRowTo row b (n + 1)) base new
 row-more row b n base old new from is before =
     adds_then (IsInRowTo row b n) (λ e. e ≡ (row, n)) (IsInRowTo row b (n + 1)) base old new
     (λ e. (
@@ -88,7 +93,8 @@ IsInBlockTo b n e = (b.row0 ≤ e.0) × (e.0 < n) × (b.column0 ≤ e.1) × (e.1
 pub block-none : (b : Block) (xs : List (ℕ × ℕ)) → Adds (IsInBlockTo b b.row0) xs xs
 block-none b xs e = (λ h. inl h, λ h. elim h [ inl a ↦ a | inr (l, m, k, j) ↦ absurd (omega (arith, l, m)) ])
 
-pub block-more : (b : Block) (n : ℕ) (base old new : List (ℕ × ℕ)) → b.row0 ≤ n → Adds (IsInBlockTo b n) base old → Adds (IsInRow n b) old new → Adds (IsInBlockTo b (n + 1)) base new
+pub block-more : (b : Block) (n : ℕ) (base old new : List (ℕ × ℕ)) → b.row0 ≤ n → Adds (IsInBlockTo b n) base old
+    → Adds (IsInRow n b) old new → Adds (IsInBlockTo b (n + 1)) base new
 block-more b n base old new from before step =
     adds_then (IsInBlockTo b n) (IsInRow n b) (IsInBlockTo b (n + 1)) base old new
     (λ e. (
@@ -108,7 +114,8 @@ block_met g r b h e =
     let c0 = h.column0 in
     let c1 = h.column1 in (
       λ (k, l, m, n). record { from_row = omega (arith, r0, k); to_row = omega (arith, r1, l); from_column = omega (arith, c0, m); to_column = omega (arith, c1, n) },
-      λ met. (let k = met.from_row in let l = met.to_row in let m = met.from_column in let n = met.to_column in (omega (arith, r0, k), omega (arith, r1, l), omega (arith, c0, m), omega (arith, c1, n))),
+      λ met. (let k = met.from_row in let l = met.to_row in let m = met.from_column in let n = met.to_column in
+          (omega (arith, r0, k), omega (arith, r1, l), omega (arith, c0, m), omega (arith, c1, n))),
     )
 
 pub block-adds : (g : Grid) (r : Rect) (b : Block) (old new : List (ℕ × ℕ)) → IsBlockOf g r b → Adds (IsInBlock b) old new → Adds (IsMet g r) old new
@@ -142,17 +149,20 @@ pub block-small : (b : Block) → IsSomeBlock b → (b.row1 - b.row0) * (b.colum
 block-small b h =
     let low = h.low in
     let left = h.left in
-    let m : (b.row1 - b.row0) * (b.column1 - b.column0) ≤ 2000000001 * 2000000001 = mul-le (b.row1 - b.row0) (b.column1 - b.column0) 2000000001 2000000001 (omega (arith, low)) (omega (arith, left)) in
+    let m : (b.row1 - b.row0) * (b.column1 - b.column0) ≤ 2000000001 * 2000000001 = mul-le (b.row1 - b.row0)
+    (b.column1 - b.column0) 2000000001 2000000001 (omega (arith, low)) (omega (arith, left)) in
     omega (arith, m)
 
-pub rects-count : (g : Grid) (rects : List Rect) (n : ℕ) (d : Rect) (b : Block) (a m k : ℕ) → n < length rects → IsBlockOf g (get_or rects n d) b → IsSomeBlock b → m ≤ a + sum_by (cells_met g) (take n rects)
+pub rects-count : (g : Grid) (rects : List Rect) (n : ℕ) (d : Rect) (b : Block) (a m k : ℕ) → n < length rects
+    → IsBlockOf g (get_or rects n d) b → IsSomeBlock b → m ≤ a + sum_by (cells_met g) (take n rects)
     → k ≤ m + (b.row1 - b.row0) * (b.column1 - b.column0) → k ≤ a + sum_by (cells_met g) (take (n + 1) rects)
 rects-count g rects n d b a m k n_in h some before more =
     let cells = block-cells g (get_or rects n d) b h some in
     let sum = sum_by_more (cells_met g) rects n d n_in in
     omega (arith, more, before, cells, sum)
 
-pub parts-count : (g : Grid) (parts : List (List Rect)) (n : ℕ) (x : List Rect) (a m k : ℕ) → n < length parts → get_or parts n x ≡ x → m ≤ a + pairs_of g (take n parts) → k ≤ m + sum_by (cells_met g) x → k ≤ a + pairs_of g (take (n + 1) parts)
+pub parts-count : (g : Grid) (parts : List (List Rect)) (n : ℕ) (x : List Rect) (a m k : ℕ) → n < length parts → get_or parts n x ≡ x
+    → m ≤ a + pairs_of g (take n parts) → k ≤ m + sum_by (cells_met g) x → k ≤ a + pairs_of g (take (n + 1) parts)
 parts-count g parts n x a m k n_in is before more =
     let sum = sum_by_more (λ part. sum_by (cells_met g) part) parts n x n_in in
     let same : sum_by (cells_met g) (get_or parts n x) ≡ sum_by (cells_met g) x = ap (λ part. sum_by (cells_met g) part) is in

@@ -19,7 +19,8 @@ div_is s a n some low high =
     let below : n ≤ a / s = (le-div_iff_mul-le {k = s} {x = n} {y = a} (omega (arith, some))).1 low in
     let h : a / s * s ≤ a = div-mul-le_self a s in
     elim (cases_lt n (a / s)) [
-      | inl l ↦ absurd (let m : (n + 1) * s ≤ a / s * s = mul-le (n + 1) s (a / s) s (omega (arith, l)) (omega arith) in let e : (n + 1) * s ≡ n * s + s = grind arith in omega (arith, m, e, h, high))
+      | inl l ↦ absurd (let m : (n + 1) * s ≤ a / s * s = mul-le (n + 1) s (a / s) s (omega (arith, l)) (omega arith) in
+          let e : (n + 1) * s ≡ n * s + s = grind arith in omega (arith, m, e, h, high))
       | inr l ↦ omega (arith, l, below)
     ]
 
@@ -47,7 +48,8 @@ pub cells-from : (side : ℕ) (low i : ℤ) (n : ℕ) → InCells side low n i �
 cells-from side low i n h = let a = h.from in omega (arith, ints, a)
 
 -- a span of squares has one in row or column n of cells where n lies between the numbers of its ends
-pub span-met : (side : ℕ) (low a b : ℤ) (n : ℕ) → 1 ≤ side → low ≤ℤ a → a <ℤ b → number_in side low a ≤ n → n ≤ number_in side low (b -ℤ pos 1) → (i : ℤ) × (a ≤ℤ i) × (i <ℤ b) × InCells side low n i
+pub span-met : (side : ℕ) (low a b : ℤ) (n : ℕ) → 1 ≤ side → low ≤ℤ a → a <ℤ b → number_in side low a ≤ n
+    → n ≤ number_in side low (b -ℤ pos 1) → (i : ℤ) × (a ≤ℤ i) × (i <ℤ b) × InCells side low n i
 span-met side low a b n some from wide l m =
     let first = number-in side low a some from in
     let last = number-in side low (b -ℤ pos 1) some (omega (arith, ints, from, wide)) in
@@ -60,7 +62,8 @@ span-met side low a b n some from wide l m =
       | inr h ↦ (low +ℤ pos (n * side), omega (arith, ints, h, from), omega (arith, ints, p, u), record { from = omega (arith, ints); below = omega (arith, ints, some) })
     ]
 
-pub met-from_span : (side : ℕ) (low a b i : ℤ) (n : ℕ) → 1 ≤ side → low ≤ℤ a → a ≤ℤ i → i <ℤ b → InCells side low n i → (number_in side low a ≤ n) × (n ≤ number_in side low (b -ℤ pos 1))
+pub met-from_span : (side : ℕ) (low a b i : ℤ) (n : ℕ) → 1 ≤ side → low ≤ℤ a → a ≤ℤ i → i <ℤ b → InCells side low n i
+    → (number_in side low a ≤ n) × (n ≤ number_in side low (b -ℤ pos 1))
 met-from_span side low a b i n some from l m h =
     let is : number_in side low i ≡ n = number-is side low i n some h in
     let p = number-le side low a i some from l in

@@ -44,10 +44,12 @@ less x y z w Greater s e f h = cc
 rise : (xs : List (ℕ × ℕ)) → IsStrictlySortedBy pair_cmp xs → AllPairs Precedes xs
 rise [] h = search rules
 rise (x ∷ xs) h =
-    AllPairs-cons Precedes x xs (λ k d l. less x.0 (get_or xs k d).0 x.1 (get_or xs k d).1 (nat_cmp x.0 (get_or xs k d).0) (nat_cmp x.1 (get_or xs k d).1) refl refl (All-after_first pair_cmp x xs h k d l))
+    AllPairs-cons Precedes x xs (λ k d l. less x.0 (get_or xs k d).0 x.1 (get_or xs k d).1 (nat_cmp x.0 (get_or xs k d).0)
+    (nat_cmp x.1 (get_or xs k d).1) refl refl (All-after_first pair_cmp x xs h k d l))
     (rise xs (sorted_tail pair_cmp x xs h))
 
-module _ (Kind : ℕ × ℕ → Type 0) (xs sorted ys : List (ℕ × ℕ)) (all : (e : ℕ × ℕ) → Contains xs e ↔ Kind e) (same : IsPermutation xs sorted) (rising : IsSorted pair_cmp sorted) (once : ys ≡ dedup pair_eq sorted) where
+module _ (Kind : ℕ × ℕ → Type 0) (xs sorted ys : List (ℕ × ℕ)) (all : (e : ℕ × ℕ) → Contains xs e ↔ Kind e)
+    (same : IsPermutation xs sorted) (rising : IsSorted pair_cmp sorted) (once : ys ≡ dedup pair_eq sorted) where
   pub pairs-members : (e : ℕ × ℕ) → Contains ys e ↔ Kind e
   pairs-members e =
       rw once (

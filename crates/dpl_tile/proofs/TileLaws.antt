@@ -18,7 +18,8 @@ use Rattle.dpl_tile.specs.Laws.{SquaresHaveOneCell}
 use Rattle.dpl_tile.proofs.CellLaws.{own-cell, one-cell, met-occupied, places-cells, first-cells, parts-over, close-from_occupied}
 
 -- the first cell has all squares where it has their bounds
-pub bounds-in_first : (g : Grid) (parts : List (List Rect)) (b : Rect) → IsBounds (union_of parts) b → LiesIn b (cell_at g (0, 0)) → (p : Pt) → union_of parts p → Has (cell_at g (0, 0)) p
+pub bounds-in_first : (g : Grid) (parts : List (List Rect)) (b : Rect) → IsBounds (union_of parts) b → LiesIn b (cell_at g (0, 0))
+    → (p : Pt) → union_of parts p → Has (cell_at g (0, 0)) p
 bounds-in_first g parts b bounds inside p p_in =
     let h = bounds.inside p p_in in
     let a = h.left in
@@ -31,7 +32,8 @@ bounds-in_first g parts b bounds inside p p_in =
     let x = inside.high in
     record { left = omega (arith, ints, a, u); right = omega (arith, ints, c, v); low = omega (arith, ints, d, w); high = omega (arith, ints, e, x) }
 
-pub first-has_bounds : (g : Grid) (parts : List (List Rect)) (b : Rect) → IsBounds (union_of parts) b → ((p : Pt) → union_of parts p → Has (cell_at g (0, 0)) p) → LiesIn b (cell_at g (0, 0))
+pub first-has_bounds : (g : Grid) (parts : List (List Rect)) (b : Rect) → IsBounds (union_of parts) b
+    → ((p : Pt) → union_of parts p → Has (cell_at g (0, 0)) p) → LiesIn b (cell_at g (0, 0))
 first-has_bounds g parts b bounds all =
     let (p, p_in, left) = bounds.left in
     let (q, q_in, right) = bounds.right in
@@ -66,21 +68,26 @@ doubled-some tile side some (n, is) = let p = pow_pos n in let m : 1 * 1 ≤ til
 pub doubled-twice : (tile side more : ℕ) → more ≡ side * 2 → IsDoubled tile side → IsDoubled tile more
 doubled-twice tile side more is (n, before) = (n + 1, is ∙ (ap (λ s. s * 2) before ∙ twice tile n))
 
-pub doubled-more : (parts : List (List Rect)) (tile : ℕ) (g h : Grid) → h.x ≡ g.x → h.y ≡ g.y → h.side ≡ g.side * 2 → (IsCoarse parts g → ⊥) → IsDoubledAtNeed parts tile g → IsDoubledAtNeed parts tile h
+pub doubled-more : (parts : List (List Rect)) (tile : ℕ) (g h : Grid) → h.x ≡ g.x → h.y ≡ g.y → h.side ≡ g.side * 2
+    → (IsCoarse parts g → ⊥) → IsDoubledAtNeed parts tile g → IsDoubledAtNeed parts tile h
 doubled-more parts tile g h x_is y_is side_is fine (n, is, before) = (
   n + 1,
   side_is ∙ (ap (λ s. s * 2) is ∙ twice tile n),
   λ k l. rw (x_is, y_is) (elim (cases_eq k n) [
-    | inl same ↦ λ c. fine (subst (λ s. IsCoarse parts (record { x = g.x; y = g.y; side = s })) (sym is) (subst (λ m. IsCoarse parts (record { x = g.x; y = g.y; side = tile * 2 ^ m })) same c))
+    | inl same ↦ λ c. fine (subst (λ s. IsCoarse parts (record { x = g.x; y = g.y; side = s })) (sym is)
+        (subst (λ m. IsCoarse parts (record { x = g.x; y = g.y; side = tile * 2 ^ m })) same c))
     | inr ne ↦ before k (omega (arith, l, ne))
   ]),
 )
 
-pub grid-is : (parts : List (List Rect)) (tile : ℕ) (g : Grid) (b : Rect) → IsBounds (union_of parts) b → g.x ≡ b.x0 → g.y ≡ b.y0 → IsCoarse parts g → IsDoubledAtNeed parts tile g → IsGrid parts tile g
-grid-is parts tile g b bounds x_is y_is coarse (n, is, fine) = record { bounds = b; bounded = bounds; left = x_is; low = y_is; doublings = n; side = is; coarse = coarse; least = fine }
+pub grid-is : (parts : List (List Rect)) (tile : ℕ) (g : Grid) (b : Rect) → IsBounds (union_of parts) b → g.x ≡ b.x0 → g.y ≡ b.y0
+    → IsCoarse parts g → IsDoubledAtNeed parts tile g → IsGrid parts tile g
+grid-is parts tile g b bounds x_is y_is coarse
+    (n, is, fine) = record { bounds = b; bounded = bounds; left = x_is; low = y_is; doublings = n; side = is; coarse = coarse; least = fine }
 
 -- tiles of few pairs
-pub laid-by_places : (parts : List (List Rect)) (tile : ℕ) (g : Grid) (b : Rect) (places : List (ℕ × ℕ)) → AreParts parts → IsBounds (union_of parts) b → g.x ≡ b.x0 → g.y ≡ b.y0 → IsSound g → IsGrid parts tile g
+pub laid-by_places : (parts : List (List Rect)) (tile : ℕ) (g : Grid) (b : Rect) (places : List (ℕ × ℕ)) → AreParts parts
+    → IsBounds (union_of parts) b → g.x ≡ b.x0 → g.y ≡ b.y0 → IsSound g → IsGrid parts tile g
     → (LiesIn b (cell_at g (0, 0)) → ⊥) → ArePlaces g parts places → AreLaid parts tile g places
 laid-by_places parts tile g b places h bounds x_is y_is sound grid many placed =
     let over : All (AreOver g) parts = parts-over g parts b h bounds x_is y_is in
@@ -89,18 +96,28 @@ laid-by_places parts tile g b places h bounds x_is y_is sound grid many placed =
     record {
       sound = sound;
       few = omega (arith, few, n);
-      close = λ k d k_in. close-from_occupied g parts (get_or places k d) h sound ((met-occupied g parts sound.some over (get_or places k d)).0 ((placed.exactly (get_or places k d)).0 (k, k_in, get_or_default places k (get_or places k d) d k_in)));
+      close = λ k d k_in. close-from_occupied g parts (get_or places k d) h sound
+          ((met-occupied g parts sound.some over (get_or places k d)).0
+          ((placed.exactly (get_or places k d)).0 (k, k_in, get_or_default places k (get_or places k d) d k_in)));
       tiles = inr (g, grid, places-cells g parts places sound.some over placed);
     }
 
 -- one tile
-pub laid-by_first : (parts : List (List Rect)) (tile : ℕ) (g : Grid) (b : Rect) (places : List (ℕ × ℕ)) → IsBounds (union_of parts) b → IsSound g → IsGrid parts tile g → LiesIn b (cell_at g (0, 0)) → places ≡ (0, 0) ∷ [] → AreLaid parts tile g places
+pub laid-by_first : (parts : List (List Rect)) (tile : ℕ) (g : Grid) (b : Rect) (places : List (ℕ × ℕ)) → IsBounds (union_of parts) b
+    → IsSound g → IsGrid parts tile g → LiesIn b (cell_at g (0, 0)) → places ≡ (0, 0) ∷ [] → AreLaid parts tile g places
 laid-by_first parts tile g b places bounds sound grid all is =
     let (p, p_in, left) = bounds.left in
     let c : AreCells parts g (map (cell_at g) ((0, 0) ∷ [])) = first-cells g parts p sound.some p_in (bounds-in_first g parts b bounds all) in
-    rw is (record { sound = sound; few = omega arith; close = λ k d k_in. rw (let z : k ≡ 0 = omega (arith, k_in) in z) (record { up = omega arith; across = omega arith }); tiles = inr (g, grid, c) })
+    rw is (record {
+      sound = sound;
+      few = omega arith;
+      close = λ k d k_in. rw (let z : k ≡ 0 = omega (arith, k_in) in
+          z) (record { up = omega arith; across = omega arith });
+      tiles = inr (g, grid, c);
+    })
 
-pub laid-by_none : (parts : List (List Rect)) (tile : ℕ) (g : Grid) (places : List (ℕ × ℕ)) → IsSound g → ((p : Pt) → union_of parts p → ⊥) → places ≡ [] → AreLaid parts tile g places
+pub laid-by_none : (parts : List (List Rect)) (tile : ℕ) (g : Grid) (places : List (ℕ × ℕ)) → IsSound g → ((p : Pt) → union_of parts p → ⊥)
+    → places ≡ [] → AreLaid parts tile g places
 laid-by_none parts tile g places sound none is = rw is (record { sound = sound; few = omega arith; close = λ k d k_in. omega (arith, k_in); tiles = inl (refl, none) })
 
 pub squares-one_cell : SquaresHaveOneCell

@@ -15,4 +15,5 @@ pub record IsOnlyCell (cells : List Rect) (p : Pt) (cell : Rect) : Type 0 where
 
 -- each square of a part is in one tile's cell
 abbrev pub SquaresHaveOneCell : Type 0
-SquaresHaveOneCell = (parts : List (List Rect)) (tile : ℕ) (cells : List Rect) → 0 < tile → AreTiles parts tile cells → (p : Pt) → union_of parts p → (cell : Rect) × IsOnlyCell cells p cell
+SquaresHaveOneCell = (parts : List (List Rect)) (tile : ℕ) (cells : List Rect) → 0 < tile → AreTiles parts tile cells → (p : Pt)
+    → union_of parts p → (cell : Rect) × IsOnlyCell cells p cell

@@ -50,16 +50,19 @@ module _ {T : Type 0} (block_of : T → Block) (things : List T) where
   pub is-at : (n i : ℕ) (x d : T) → n < length things → i ≡ n → x ≡ get_or things n x → get_or things i d ≡ x
   is-at n i x d n_in same is = ap (λ m. get_or things m d) same ∙ (get_or_default things n d x n_in ∙ sym is)
 
-  pub over-first : (first n : ℕ) (x : T) (block : Block) → n ≡ first + 1 → first < length things → x ≡ get_or things first x → block ≡ block_of x → IsOver block_of things first n block
+  pub over-first : (first n : ℕ) (x : T) (block : Block) → n ≡ first + 1 → first < length things → x ≡ get_or things first x
+      → block ≡ block_of x → IsOver block_of things first n block
   over-first first n x block n_is first_in is own i d a b l = rw (is-at first i x d first_in (omega (arith, a, b, n_is)) is, own) (under-self (block_of x))
 
-  pub over-more : (first n : ℕ) (x : T) (block old new : Block) → n < length things → x ≡ get_or things n x → block ≡ block_of x → IsUnder old new → IsUnder block new → IsOver block_of things first n old → IsOver block_of things first (n + 1) new
+  pub over-more : (first n : ℕ) (x : T) (block old new : Block) → n < length things → x ≡ get_or things n x → block ≡ block_of x
+      → IsUnder old new → IsUnder block new → IsOver block_of things first n old → IsOver block_of things first (n + 1) new
   over-more first n x block old new n_in is own first_under second_under before i d a b l = elim (cases_eq i n) [
     | inl same ↦ rw (is-at n i x d n_in same is) (rw own at second_under)
     | inr ne ↦ under-trans (block_of (get_or things i d)) old new (before i d a (omega (arith, b, ne)) l) first_under
   ]
 
-  pub over-all : (first n : ℕ) (block : Block) → (length things ≤ n) ⊎ (first + 8 ≤ n) → IsOver block_of things first n block → (i : ℕ) (d : T) → first ≤ i → i < first + 8 → i < length things → IsUnder (block_of (get_or things i d)) block
+  pub over-all : (first n : ℕ) (block : Block) → (length things ≤ n) ⊎ (first + 8 ≤ n) → IsOver block_of things first n block
+      → (i : ℕ) (d : T) → first ≤ i → i < first + 8 → i < length things → IsUnder (block_of (get_or things i d)) block
   over-all first n block (inl end) over i d a b l = over i d a (omega (arith, end, l)) l
   over-all first n block (inr end) over i d a b l = over i d a (omega (arith, end, b)) l
 
@@ -127,13 +130,15 @@ module _ (items : List Item) (w : ℕ) (lower upper : List Block) (some : 0 < w)
   pub covered-next : IsLevelOver item_block items (w * 8) upper
   covered-next = record { enough = wide_enough; few = wide_few; under = wide_under }
 
-pub covered-over : (items : List Item) (n : ℕ) (lower upper : List Block) → IsLevelOver item_block items (8 ^ n) lower → IsLevelOver same_block lower 8 upper → IsLevelOver item_block items (8 ^ suc n) upper
+pub covered-over : (items : List Item) (n : ℕ) (lower upper : List Block) → IsLevelOver item_block items (8 ^ n) lower
+    → IsLevelOver same_block lower 8 upper → IsLevelOver item_block items (8 ^ suc n) upper
 covered-over items n lower upper covered over = rw (pow-suc 8 n) (covered-next items (8 ^ n) lower upper (wide n) covered over)
 
 pub covered-none : (items : List Item) (levels : List (List Block)) → levels ≡ [] → AreCovered items levels
 covered-none items levels none k l = absurd (omega (arith, subst (λ ls. let m : List (List Block) = ls in k < length m) none l))
 
-pub covered-push : (items : List Item) (levels new : List (List Block)) (top : List Block) → new ≡ levels ++ top ∷ [] → AreCovered items levels → IsLevelOver item_block items (8 ^ suc (length levels)) top → AreCovered items new
+pub covered-push : (items : List Item) (levels new : List (List Block)) (top : List Block) → new ≡ levels ++ top ∷ []
+    → AreCovered items levels → IsLevelOver item_block items (8 ^ suc (length levels)) top → AreCovered items new
 covered-push items levels new top new_is covered here k l =
     rw new_is (elim (cases_lt k (length levels)) [
       | inl less ↦ rw (get_or_append_left levels (top ∷ []) [] k less) (covered k less)
@@ -150,7 +155,8 @@ AreHigh items levels = (k : ℕ) → k < length levels → 8 ^ suc k < length it
 pub high-none : (items : List Item) (levels : List (List Block)) → levels ≡ [] → AreHigh items levels
 high-none items levels none k l = absurd (omega (arith, subst (λ ls. let m : List (List Block) = ls in k < length m) none l))
 
-pub high-push : (items : List Item) (levels new : List (List Block)) (top : List Block) → new ≡ levels ++ top ∷ [] → AreHigh items levels → 8 ^ suc (length levels) < length items → AreHigh items new
+pub high-push : (items : List Item) (levels new : List (List Block)) (top : List Block) → new ≡ levels ++ top ∷ [] → AreHigh items levels
+    → 8 ^ suc (length levels) < length items → AreHigh items new
 high-push items levels new top new_is high here k l = elim (cases_lt k (length levels)) [
   | inl less ↦ high k less
   | inr more ↦ (let same : length levels ≡ k = omega (arith, more, l_in) in subst (λ n. 8 ^ suc n < length items) same here)
@@ -165,7 +171,8 @@ index-none items levels none few = record { covered = covered-none items levels 
 length-new : (levels new : List (List Block)) (top : List Block) → new ≡ levels ++ top ∷ [] → length new ≡ suc (length levels)
 length-new levels new top new_is = ap (λ ls. let m : List (List Block) = ls in length m) new_is ∙ (length_push levels top ∙ omega arith)
 
-pub index-push : (items : List Item) (levels new : List (List Block)) (top : List Block) → new ≡ levels ++ top ∷ [] → AreCovered items levels → AreHigh items levels → IsLevelOver item_block items (8 ^ suc (length levels)) top
+pub index-push : (items : List Item) (levels new : List (List Block)) (top : List Block) → new ≡ levels ++ top ∷ []
+    → AreCovered items levels → AreHigh items levels → IsLevelOver item_block items (8 ^ suc (length levels)) top
     → 8 ^ suc (length levels) < length items → length top ≤ 8 → IsIndex items new
 index-push items levels new top new_is covered high here more few = record {
   covered = covered-push items levels new top new_is covered here;
@@ -179,7 +186,8 @@ index-push items levels new top new_is covered high here more few = record {
 }
 
 -- a level of more than eight blocks has another one over it of more than one
-pub more-items : (items : List Item) (levels new : List (List Block)) (top : List Block) → new ≡ levels ++ top ∷ [] → IsLevelOver item_block items (8 ^ suc (length levels)) top → 8 < length top → 8 ^ suc (length new) < length items
+pub more-items : (items : List Item) (levels new : List (List Block)) (top : List Block) → new ≡ levels ++ top ∷ []
+    → IsLevelOver item_block items (8 ^ suc (length levels)) top → 8 < length top → 8 ^ suc (length new) < length items
 more-items items levels new top new_is here many =
     let w : ℕ = 8 ^ suc (length levels) in
     let e : length top * w < length items + w = here.few in
@@ -187,7 +195,8 @@ more-items items levels new top new_is here many =
     let p : 8 ^ suc (suc (length levels)) ≡ w * 8 = pow-suc 8 (suc (length levels)) in
     subst (λ m. 8 ^ suc m < length items) (sym (length-new levels new top new_is)) (omega (arith, e, f, p))
 
-pub covered-higher : (items : List Item) (levels new : List (List Block)) (top next : List Block) → new ≡ levels ++ top ∷ [] → IsLevelOver item_block items (8 ^ suc (length levels)) top → IsLevelOver same_block top 8 next
+pub covered-higher : (items : List Item) (levels new : List (List Block)) (top next : List Block) → new ≡ levels ++ top ∷ []
+    → IsLevelOver item_block items (8 ^ suc (length levels)) top → IsLevelOver same_block top 8 next
     → IsLevelOver item_block items (8 ^ suc (length new)) next
 covered-higher items levels new top next new_is covered over =
     subst (λ m. IsLevelOver item_block items (8 ^ suc m) next) (sym (length-new levels new top new_is)) (covered-over items (suc (length levels)) top next covered over)

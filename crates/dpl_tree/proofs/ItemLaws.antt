@@ -22,7 +22,8 @@ AddsRects owner rects n old new = (r : Rect) (k : ℕ) → HasItem new r k ↔ (
 pub item-none : (owner : ℕ) (rects : List Rect) (old : List Item) → AddsRects owner rects 0 old old
 item-none owner rects old r k = (λ h. inl h, λ h. elim h [ inl a ↦ a | inr (e, (i, l, i_in, is)) ↦ absurd (omega (arith, l)) ])
 
-pub item-more : (owner : ℕ) (rects : List Rect) (i : ℕ) (base old new : List Item) (item : Item) → new ≡ old ++ item ∷ [] → i < length rects → item.rect ≡ get_or rects i item.rect → item.owner ≡ owner
+pub item-more : (owner : ℕ) (rects : List Rect) (i : ℕ) (base old new : List Item) (item : Item) → new ≡ old ++ item ∷ []
+    → i < length rects → item.rect ≡ get_or rects i item.rect → item.owner ≡ owner
     → AddsRects owner rects i base old → AddsRects owner rects (i + 1) base new
 item-more owner rects i base old new item new_is i_in rect own before r k =
     rw new_is (
@@ -45,7 +46,8 @@ item-more owner rects i base old new item new_is i_in rect own before r k =
     old_item : HasItem old r k → HasItem (old ++ item ∷ []) r k
     old_item (t, c, e, f) = (t, Contains-append_left old (item ∷ []) t c, e, f)
 
-pub item-all : (owner : ℕ) (rects : List Rect) (n : ℕ) (old new : List Item) → length rects ≤ n → AddsRects owner rects n old new → (r : Rect) (k : ℕ) → HasItem new r k ↔ (HasItem old r k ⊎ ((k ≡ owner) × Contains rects r))
+pub item-all : (owner : ℕ) (rects : List Rect) (n : ℕ) (old new : List Item) → length rects ≤ n → AddsRects owner rects n old new
+    → (r : Rect) (k : ℕ) → HasItem new r k ↔ (HasItem old r k ⊎ ((k ≡ owner) × Contains rects r))
 item-all owner rects n old new all h r k = (
   λ a. elim ((h r k).0 a) [ inl b ↦ inl b | inr (e, (i, l, i_in, is)) ↦ inr (e, (i, i_in, is)) ],
   λ a. elim a [ inl b ↦ (h r k).1 (inl b) | inr (e, (i, i_in, is)) ↦ (h r k).1 (inr (e, (i, omega (arith, all, i_in), i_in, is))) ],
@@ -71,14 +73,16 @@ parts-more parts n old new part n_in is before step r k = (
   ],
 )
 
-pub parts-all : (parts : List (List Rect)) (n : ℕ) (items : List Item) → length parts ≤ n → OfParts parts n items → (r : Rect) (k : ℕ) → HasItem items r k ↔ ((k < length parts) × Contains (get_or parts k []) r)
+pub parts-all : (parts : List (List Rect)) (n : ℕ) (items : List Item) → length parts ≤ n → OfParts parts n items → (r : Rect) (k : ℕ)
+    → HasItem items r k ↔ ((k < length parts) × Contains (get_or parts k []) r)
 parts-all parts n items all h r k = (
   λ a. (let (l, k_in, c) = (h r k).0 a in (k_in, c)),
   λ (k_in, c). (h r k).1 (omega (arith, all, k_in), k_in, c),
 )
 
 -- the items of a tree of one owner's rectangles
-pub items-one : (rects : List Rect) (none items : List Item) (tree : List Item) → none ≡ [] → ((r : Rect) (k : ℕ) → HasItem items r k ↔ (HasItem none r k ⊎ ((k ≡ 0) × Contains rects r)))
+pub items-one : (rects : List Rect) (none items : List Item) (tree : List Item) → none ≡ []
+    → ((r : Rect) (k : ℕ) → HasItem items r k ↔ (HasItem none r k ⊎ ((k ≡ 0) × Contains rects r)))
     → ((r : Rect) (k : ℕ) → HasItem tree r k ↔ HasItem items r k) → (r : Rect) (k : ℕ) → HasItem tree r k ↔ ((k ≡ 0) × Contains rects r)
 items-one rects none items tree e added same r k = (
   λ h. elim ((added r k).0 ((same r k).0 h)) [

@@ -22,35 +22,42 @@ module _ {T : Type 0} (block_of : T → Block) (things : List T) (at : ℕ) (win
   pub barred-none : AreBarred block_of things at at window owners
   barred-none i d a b = absurd (omega (arith, a, b))
 
-  pub barred-more : (n : ℕ) (x : T) (block : Block) → n < length things → x ≡ get_or things n x → block ≡ block_of x → AreBarred block_of things at n window owners → IsBarred window owners block
+  pub barred-more : (n : ℕ) (x : T) (block : Block) → n < length things → x ≡ get_or things n x → block ≡ block_of x
+      → AreBarred block_of things at n window owners → IsBarred window owners block
       → AreBarred block_of things at (n + 1) window owners
   barred-more n x block n_in is own before here i d a b = elim (cases_eq i n) [
     | inl same ↦ rw (is-at block_of things n i x d n_in same is) (rw own at here)
     | inr ne ↦ before i d a (omega (arith, b, ne))
   ]
 
-  pub run-found : (n : ℕ) (x : T) (block : Block) → n < length things → at ≤ n → x ≡ get_or things n x → block ≡ block_of x → AreBarred block_of things at n window owners → ¬ IsBarred window owners block
+  pub run-found : (n : ℕ) (x : T) (block : Block) → n < length things → at ≤ n → x ≡ get_or things n x → block ≡ block_of x
+      → AreBarred block_of things at n window owners → ¬ IsBarred window owners block
       → IsFoundAmong block_of things at window owners (Found n)
   run-found n x block n_in low is own before here = (low, n_in, before, λ d. rw (is-at block_of things n n x d n_in refl is) (rw own at here))
 
 -- ---- from things to items
 
-found-items : (items : List Item) (at : ℕ) (window : Rect) (owners : Owners) (run : Finding) → IsFoundAmong item_block items at window owners run → IsFoundAt items (record { level = 0; at = at }) window owners run
+found-items : (items : List Item) (at : ℕ) (window : Rect) (owners : Owners) (run : Finding)
+    → IsFoundAmong item_block items at window owners run → IsFoundAt items (record { level = 0; at = at }) window owners run
 found-items items at window owners (Found k) (a, b, c, d) = (
   a,
   omega (arith, b),
-  (λ j e low high l. barred-down window owners (get_or items j e) (item_block (get_or items j e)) (under-self (item_block (get_or items j e))) (c j e (omega (arith, low)) (omega (arith, high)))),
+  (λ j e low high l. barred-down window owners (get_or items j e) (item_block (get_or items j e))
+      (under-self (item_block (get_or items j e))) (c j e (omega (arith, low)) (omega (arith, high)))),
   (λ z e m. d e (missed-barred window owners (get_or items k e) m)),
 )
 found-items items at window owners (Passed k) (a, b, c) = (
   a,
   omega (arith, a, b),
-  (λ j e low high l. barred-down window owners (get_or items j e) (item_block (get_or items j e)) (under-self (item_block (get_or items j e))) (c j e (omega (arith, low)) (omega (arith, high)))),
+  (λ j e low high l. barred-down window owners (get_or items j e) (item_block (get_or items j e))
+      (under-self (item_block (get_or items j e))) (c j e (omega (arith, low)) (omega (arith, high)))),
 )
 found-items items at window owners Over a = omega (arith, a)
 
-pub found-first : (items : List Item) (place : Place) (window : Rect) (owners : Owners) (run : Finding) → place.level ≡ 0 → IsFoundAmong item_block items place.at window owners run → IsFoundAt items place window owners run
-found-first items place window owners run level r = subst (λ n. IsFoundAt items (record { level = n; at = place.at }) window owners run) (sym level) (found-items items place.at window owners run r)
+pub found-first : (items : List Item) (place : Place) (window : Rect) (owners : Owners) (run : Finding) → place.level ≡ 0
+    → IsFoundAmong item_block items place.at window owners run → IsFoundAt items place window owners run
+found-first items place window owners run level r = subst (λ n. IsFoundAt items (record { level = n; at = place.at }) window owners run)
+    (sym level) (found-items items place.at window owners run r)
 
 module _ (items : List Item) (blocks : List Block) (w : ℕ) (some : 0 < w) (covered : IsLevelOver item_block items w blocks) (window : Rect) (owners : Owners) where
   begins : (k : ℕ) → k < length blocks → k * w < length items
@@ -70,7 +77,8 @@ module _ (items : List Item) (blocks : List Block) (w : ℕ) (some : 0 < w) (cov
   ends : (at : ℕ) → length blocks ≤ at → length items ≤ at * w
   ends at over = let e = covered.enough in let f : length blocks * w ≤ at * w = mul-le-mul_right w over in omega (arith, e, f)
 
-pub found-blocks : (items : List Item) (blocks : List Block) (place : Place) (window : Rect) (owners : Owners) (run : Finding) → 0 < place.level → IsLevelOver item_block items (8 ^ place.level) blocks
+pub found-blocks : (items : List Item) (blocks : List Block) (place : Place) (window : Rect) (owners : Owners) (run : Finding)
+    → 0 < place.level → IsLevelOver item_block items (8 ^ place.level) blocks
     → IsFoundAmong same_block blocks place.at window owners run → IsFoundAt items place window owners run
 found-blocks items blocks place window owners (Found k) some covered (a, b, c, d) = (
   a,
@@ -85,12 +93,14 @@ found-blocks items blocks place window owners (Passed k) some covered (a, b, c) 
 )
 found-blocks items blocks place window owners Over some covered a = ends items blocks (8 ^ place.level) (wide place.level) covered window owners place.at a
 
-pub found-above : (items : List Item) (levels : List (List Block)) (place : Place) (window : Rect) (owners : Owners) (run : Finding) → AreCovered items levels → place.level ≢ 0 → place.level ≤ length levels
+pub found-above : (items : List Item) (levels : List (List Block)) (place : Place) (window : Rect) (owners : Owners) (run : Finding)
+    → AreCovered items levels → place.level ≢ 0 → place.level ≤ length levels
     → IsFoundAmong same_block (get_or levels (place.level - 1) []) place.at window owners run → IsFoundAt items place window owners run
 found-above items levels place window owners run covered some known r =
     let k_in : place.level - 1 < length levels = omega (arith, some, known) in
     let e : suc (place.level - 1) ≡ place.level = omega (arith, some) in
-    found-blocks items (get_or levels (place.level - 1) []) place window owners run (omega (arith, some)) (subst (λ n. IsLevelOver item_block items (8 ^ n) (get_or levels (place.level - 1) [])) e (covered (place.level - 1) k_in)) r
+    found-blocks items (get_or levels (place.level - 1) []) place window owners run (omega (arith, some))
+    (subst (λ n. IsLevelOver item_block items (8 ^ n) (get_or levels (place.level - 1) [])) e (covered (place.level - 1) k_in)) r
 
 -- ---- from place to place
 
@@ -142,5 +152,6 @@ lower-left n old new levels before a b =
     omega (arith, m, b)
 
 -- what was passed before and what is passed now
-pub passed-on : (window : Rect) (owners : Owners) (items : List Item) (from mid n : ℕ) → ArePassed window owners items from mid → ArePassed window owners items mid n → ArePassed window owners items from n
+pub passed-on : (window : Rect) (owners : Owners) (items : List Item) (from mid n : ℕ) → ArePassed window owners items from mid
+    → ArePassed window owners items mid n → ArePassed window owners items from n
 passed-on window owners items from mid n before now j d a b l = elim (cases_lt j mid) [ inl less ↦ before j d a less l | inr more ↦ now j d more b l ]

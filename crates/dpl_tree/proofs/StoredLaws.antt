@@ -34,7 +34,8 @@ level-items items w level over =
     }
 
 -- and so is what is found among them
-pub found-items_of : (items : List StoredItem) (at : ℕ) (window : Rect) (owners : Owners) (run : Finding) → IsFoundAmong stored_block items at window owners run → IsFoundAmong item_block (map item_of items) at window owners run
+pub found-items_of : (items : List StoredItem) (at : ℕ) (window : Rect) (owners : Owners) (run : Finding)
+    → IsFoundAmong stored_block items at window owners run → IsFoundAmong item_block (map item_of items) at window owners run
 found-items_of items at window owners (Found k) (low, k_in, before, here) =
     let len = length-map items item_of in (
       low,

@@ -66,6 +66,7 @@ pub seen-length : (b : Bool) (items : List Item) → length (seen b items) ≡ l
 seen-length true items = length-map items turned_item
 seen-length false items = refl
 
-pub turned-rect_at : (items across : List Item) (i : ℕ) (r : Rect) → map turned_item items ≡ across → ((d : Item) → r ≡ (get_or items i d).rect) → (d : Item) → turned_rect r ≡ (get_or across i d).rect
+pub turned-rect_at : (items across : List Item) (i : ℕ) (r : Rect) → map turned_item items ≡ across
+    → ((d : Item) → r ≡ (get_or items i d).rect) → (d : Item) → turned_rect r ≡ (get_or across i d).rect
 turned-rect_at items across i r is at d =
     ap turned_rect (at (turned_item d)) ∙ (sym (ap (λ (t : Item). t.rect) (turned-get items i d)) ∙ ap (λ (ts : List Item). (get_or ts i d).rect) is)

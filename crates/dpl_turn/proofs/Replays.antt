@@ -62,14 +62,16 @@ workers_each (suc n) es t lt = ⊎_elim
     ap (λ (k : ℕ). get_or (workers_to n es ++ poster_in n es ∷ []) k None) l ∙ at_last (workers_to n es) (poster_in n es) None ∙ ap (λ (k : ℕ). poster_in k es) (sym e))
     (cases_lt t n)
 
-pub replayed : (sheet : Sheet) (workers : ℕ) (b : Board) → Stands sheet b → IsProper sheet workers b.history → IsCore sheet (events_of b.history) (workers_to (length sheet) b.history) b
+pub replayed : (sheet : Sheet) (workers : ℕ) (b : Board) → Stands sheet b → IsProper sheet workers b.history
+    → IsCore sheet (events_of b.history) (workers_to (length sheet) b.history) b
 replayed sheet workers b stands h = record {
   takers = record {
     len = workers_length (length sheet) b.history;
     each = λ t lt. workers_each (length sheet) b.history t lt ∙ ap (poster_in t) (sym (takes b.history));
   };
   posts = record {
-    history = sym (ap (λ (l : List Entry). firsts (within (length sheet) l)) (posts b.history) ∙ ap firsts (all_within (length sheet) b.history h.below) ∙ all_firsts b.history h.apart);
+    history = sym (ap (λ (l : List Entry). firsts (within (length sheet) l)) (posts b.history)
+        ∙ ap firsts (all_within (length sheet) b.history h.below) ∙ all_firsts b.history h.apart);
     stands = stands;
   };
 }

@@ -1,6 +1,7 @@
 -- Each step keeps the rule of the board.
 use Rattle.std.proofs.Common.{nat_lt, get_or, drop, ◌*◌, ◌/◌, ◌%◌, ◌^◌}
-use Rattle.std.proofs.Common.{◌≡◌, ◌≢◌, ◌∙◌, ◌+◌, ◌<◌, ◌≤◌, ◌==◌, ℕ, zero, suc, Bool, true, false, List, [], ◌∷◌, ◌++◌, length, set, Option, Some, None, refl, sym, ap, subst, inl, inr, ⊎_elim, arith, append_assoc, add_assoc, zero-add, length-append}
+use Rattle.std.proofs.Common.{◌≡◌, ◌≢◌, ◌∙◌, ◌+◌, ◌<◌, ◌≤◌, ◌==◌, ℕ, zero, suc, Bool, true, false, List, [], ◌∷◌, ◌++◌, length, set, Option}
+use Rattle.std.proofs.Common.{Some, None, refl, sym, ap, subst, inl, inr, ⊎_elim, arith, append_assoc, add_assoc, zero-add, length-append}
 use Rattle.std.proofs.lemmas.List.{append-nil}
 use Rattle.std.proofs.lemmas.Bool.{cases_lt, ne_eqb}
 use Rattle.std.proofs.lemmas.List.Kept.{AllPairs-cons}
@@ -28,7 +29,9 @@ use Rattle.std.proofs.lemmas.List.Quantifiers.{all_pairs_push}
 use Rattle.std.specs.List.{All, AllPairs}
 use Rattle.std.specs.Prelude.{Result, Ok, Err}
 use Rattle.std.proofs.lemmas.List.Elements.{All-cons, All-nil}
-use Rattle.dpl_turn.specs.Rule.{AllFronts, AreEntries, Fits, GivesTurn, Idle, HasTurn, HaveOne, Holding, IsKept, IsNamed, IsProper, MayFollow, Slot, StartsWith, TriesTurn, after_give, all_posts_at, named_list, named_posts, newcomer, posts_at, both_views, spent_view, longer, entry_in, merged, placed}
+use Rattle.dpl_turn.specs.Rule.{AllFronts, AreEntries, Fits, GivesTurn, Idle, HasTurn, HaveOne, Holding, IsKept, IsNamed, IsProper}
+use Rattle.dpl_turn.specs.Rule.{MayFollow, Slot, StartsWith, TriesTurn, after_give, all_posts_at, named_list, named_posts, newcomer}
+use Rattle.dpl_turn.specs.Rule.{posts_at, both_views, spent_view, longer, entry_in, merged, placed}
 
 off : false ≡ true → ⊥
 off e = cc
@@ -68,9 +71,15 @@ pub fresh_stands : (sheet : Sheet) (state : Board) → IsSheet sheet → state �
 fresh_stands sheet state edges is = subst (Stands sheet) (sym is) (record { edges = edges; tiles = refl; sums = refl })
 
 pub fresh_proper : (sheet : Sheet) (workers : ℕ) → IsProper sheet workers []
-fresh_proper sheet workers = record { apart = λ i j d lt ltj. absurd (omega arith); below = All-nil (λ (e : Entry). e.tile < length sheet); signed = All-nil (λ (e : Entry). e.worker < workers) }
+fresh_proper sheet workers = record {
+  apart = λ i j d lt ltj. absurd (omega arith);
+  below = All-nil
+      (λ (e : Entry). e.tile < length sheet);
+  signed = All-nil (λ (e : Entry). e.worker < workers);
+}
 
-pub opened : (sheet : Sheet) (workers : ℕ) (state : Board) → state.history ≡ [] → Stands sheet state → IsProper sheet workers [] → IsKept sheet workers (opening (0 ∷ 0 ∷ []) (Some state ∷ []) (newcomer sheet workers []))
+pub opened : (sheet : Sheet) (workers : ℕ) (state : Board) → state.history ≡ [] → Stands sheet state → IsProper sheet workers []
+    → IsKept sheet workers (opening (0 ∷ 0 ∷ []) (Some state ∷ []) (newcomer sheet workers []))
 opened sheet workers state none_yet stands proper = record {
   history = [];
   turn = 0;
@@ -97,18 +106,23 @@ opened sheet workers state none_yet stands proper = record {
     idle (suc i) v e = absurd (some-ne-none v (sym e))
 
 -- a new seat with what this one has seen
-added : (sheet : Sheet) (workers : ℕ) (s : State Slot View) (v : View) (id : ℕ) → IsKept sheet workers s → get_elem? s.views id ≡ some v → v.spent ≡ false → IsKept sheet workers (record { words = s.words; homes = s.homes; views = s.views ++ newcomer v.sheet v.workers v.known ∷ [] })
+added : (sheet : Sheet) (workers : ℕ) (s : State Slot View) (v : View) (id : ℕ) → IsKept sheet workers s → get_elem? s.views id ≡ some v
+    → v.spent ≡ false → IsKept sheet workers
+    (record { words = s.words; homes = s.homes; views = s.views ++ newcomer v.sheet v.workers v.known ∷ [] })
 added sheet workers s v id h at fresh = record {
   history = h.history;
   turn = h.turn;
   tile = h.tile;
   words = h.words;
-  fits = λ i u e. ⊎_elim (λ (was : get_elem? s.views i ≡ some u). h.fits i u was) (λ (new : newcomer v.sheet v.workers v.known ≡ u). subst (Fits h.history) new (record { known = (h.fits id v at).known; own = tt; rising = none_rise; older = tt })) (at_snoc s.views (newcomer v.sheet v.workers v.known) u i e);
+  fits = λ i u e. ⊎_elim (λ (was : get_elem? s.views i ≡ some u). h.fits i u was) (λ (new : newcomer v.sheet v.workers v.known ≡ u). subst
+      (Fits h.history) new (record { known = (h.fits id v at).known; own = tt; rising = none_rise; older = tt }))
+      (at_snoc s.views (newcomer v.sheet v.workers v.known) u i e);
   within = λ p lt. posts_more p s.views (newcomer v.sheet v.workers v.known) ∙ (let w = h.within p lt in omega arith);
   beyond = λ p le. posts_more p s.views (newcomer v.sheet v.workers v.known) ∙ (let w = h.beyond p le in omega arith);
   proper = h.proper;
   one_sheet = λ i u e un. ⊎_elim (λ (was : get_elem? s.views i ≡ some u). h.one_sheet i u was un)
-      (λ (new : newcomer v.sheet v.workers v.known ≡ u). let k = h.one_sheet id v at fresh in (ap (λ (x : View). x.sheet) (sym new) ∙ k.0, ap (λ (x : View). x.workers) (sym new) ∙ k.1))
+      (λ (new : newcomer v.sheet v.workers v.known ≡ u). let k = h.one_sheet id v at fresh in
+      (ap (λ (x : View). x.sheet) (sym new) ∙ k.0, ap (λ (x : View). x.workers) (sym new) ∙ k.1))
       (at_snoc s.views (newcomer v.sheet v.workers v.known) u i e);
   now = elim h.now [
     | inl f ↦ inl (
@@ -118,7 +132,9 @@ added sheet workers s v id h at fresh = record {
         home = f.1.home;
         same = f.1.same;
         stands = f.1.stands;
-        nobody = λ i u e. ⊎_elim (λ (was : get_elem? s.views i ≡ some u). f.1.nobody i u was) (λ (new : newcomer v.sheet v.workers v.known ≡ u). ap (λ (x : View). x.holds) (sym new)) (at_snoc s.views (newcomer v.sheet v.workers v.known) u i e);
+        nobody = λ i u e. ⊎_elim (λ (was : get_elem? s.views i ≡ some u). f.1.nobody i u was)
+            (λ (new : newcomer v.sheet v.workers v.known ≡ u). ap (λ (x : View). x.holds) (sym new))
+            (at_snoc s.views (newcomer v.sheet v.workers v.known) u i e);
       },
     )
     | inr k ↦ inr (
@@ -126,7 +142,9 @@ added sheet workers s v id h at fresh = record {
       record {
         out = k.1.out;
         holder = k.1.holder;
-        only = λ i u e on. ⊎_elim (λ (was : get_elem? s.views i ≡ some u). k.1.only i u was on) (λ (new : newcomer v.sheet v.workers v.known ≡ u). absurd (off (ap (λ (x : View). x.holds) new ∙ on))) (at_snoc s.views (newcomer v.sheet v.workers v.known) u i e);
+        only = λ i u e on. ⊎_elim (λ (was : get_elem? s.views i ≡ some u). k.1.only i u was on)
+            (λ (new : newcomer v.sheet v.workers v.known ≡ u). absurd (off (ap (λ (x : View). x.holds) new ∙ on)))
+            (at_snoc s.views (newcomer v.sheet v.workers v.known) u i e);
         one = (k.1.one.0, at_longer s.views (newcomer v.sheet v.workers v.known ∷ []) k.1.holder k.1.one.0 k.1.one.1, k.1.one.2);
       },
     )
@@ -135,7 +153,10 @@ added sheet workers s v id h at fresh = record {
 
 pub splits : (sheet : Sheet) (workers : ℕ) (s : State Slot View) (v : View) (id : ℕ) → IsKept sheet workers s → get_elem? s.views id ≡ some v → v.spent ≡ false
     → IsKept sheet workers (record { words = s.words; homes = s.homes; views = set s.views id v ++ newcomer v.sheet v.workers v.known ∷ [] })
-splits sheet workers s v id h at fresh = subst (λ (l : List View). IsKept sheet workers (record { words = s.words; homes = s.homes; views = l ++ newcomer v.sheet v.workers v.known ∷ [] })) (sym (set_again s.views id v at)) (added sheet workers s v id h at fresh)
+splits sheet workers s v id h at fresh = subst
+    (λ (l : List View). IsKept sheet workers
+    (record { words = s.words; homes = s.homes; views = l ++ newcomer v.sheet v.workers v.known ∷ [] })) (sym (set_again s.views id v at))
+    (added sheet workers s v id h at fresh)
 
 -- what a try owes
 abbrev pub Tried : Sheet → ℕ → Step Slot → ℕ → View → State Slot View → Type 0
@@ -162,7 +183,13 @@ gets sheet workers step id v tile state history views at same fits within beyond
         turn = 1;
         tile = tile;
         words = refl;
-        fits = λ i u e. ⊎_elim (λ (x : (i ≡ id) × (w ≡ u)). subst (Fits history) x.1 (record { known = (fits id v at).known; own = (fits id v at).own; rising = (fits id v at).rising; older = (fits id v at).older })) (λ (x : (i ≢ id) × (get_elem? views i ≡ some u)). fits i u x.1) (at_set views id i w u e);
+        fits = λ i u e. ⊎_elim (λ (x : (i ≡ id) × (w ≡ u)). subst (Fits history) x.1
+            (record {
+              known = (fits id v at).known;
+              own = (fits id v at).own;
+              rising = (fits id v at).rising;
+              older = (fits id v at).older;
+            })) (λ (x : (i ≢ id) × (get_elem? views i ≡ some u)). fits i u x.1) (at_set views id i w u e);
         within = λ p lt. posts_set p views id v w at refl ∙ within p lt;
         beyond = λ p le. posts_set p views id v w at refl ∙ beyond p le;
         proper = proper;
@@ -172,7 +199,12 @@ gets sheet workers step id v tile state history views at same fits within beyond
           record {
             out = refl;
             holder = id;
-            only = λ i u e on. ⊎_elim (λ (x : (i ≡ id) × (w ≡ u)). (x.0, ap (λ (y : View). y.found) (sym x.1) ∙ same, subst (IsNamed sheet workers history) (sym unnamed ∙ ap (λ (y : View). y.named) x.1) tt)) (λ (x : (i ≢ id) × (get_elem? views i ≡ some u)). absurd (off (sym (nobody i u x.1) ∙ on))) (at_set views id i w u e);
+            only = λ i u e on. ⊎_elim (λ (x : (i ≡ id) × (w ≡ u)). (
+              x.0,
+              ap (λ (y : View). y.found) (sym x.1) ∙ same,
+              subst (IsNamed sheet workers history) (sym unnamed ∙ ap (λ (y : View). y.named) x.1) tt,
+            ))
+                (λ (x : (i ≢ id) × (get_elem? views i ≡ some u)). absurd (off (sym (nobody i u x.1) ∙ on))) (at_set views id i w u e);
             one = (w, set_here views id w (in_range views id v at), refl);
           },
         );
@@ -183,24 +215,30 @@ gets sheet workers step id v tile state history views at same fits within beyond
         subst (λ (l : List Entry). StartsWith l v.known) (sym same) (fits id v at).known,
         subst (λ (l : List Entry). AreEntries l v.own) (sym same) (fits id v at).own,
         subst (λ (z : Sheet). Stands z state) (sym k.0) stands,
-        subst (λ (z : Sheet). IsProper z v.workers state.history) (sym k.0) (subst (λ (n : ℕ). IsProper sheet n state.history) (sym k.1) (subst (λ (l : List Entry). IsProper sheet workers l) (sym same) proper)),
+        subst (λ (z : Sheet). IsProper z v.workers state.history) (sym k.0) (subst (λ (n : ℕ). IsProper sheet n state.history) (sym k.1)
+            (subst (λ (l : List Entry). IsProper sheet workers l) (sym same) proper)),
         (fits id v at).rising,
       ),
     )
 
 -- another seat has it
-misses : (sheet : Sheet) (workers : ℕ) (step : Step Slot) (id : ℕ) (v : View) (tile : ℕ) (s : State Slot View) → IsKept sheet workers s → s.words ≡ 1 ∷ tile ∷ [] → get_elem? s.views id ≡ some v → Tried sheet workers step id v s
+misses : (sheet : Sheet) (workers : ℕ) (step : Step Slot) (id : ℕ) (v : View) (tile : ℕ) (s : State Slot View) → IsKept sheet workers s
+    → s.words ≡ 1 ∷ tile ∷ [] → get_elem? s.views id ≡ some v → Tried sheet workers step id v s
 misses sheet workers step id v tile s h words at =
-    subst (λ (l : List ℕ). (w : View) × (a : Act Slot) × Valid s.homes [] a × IsKept sheet workers (stepped (record s { words = l }) 0 (either (slice_index l 0 == 0) 1 (slice_index l 0)) id [] w a)
+    subst (λ (l : List ℕ). (w : View) × (a : Act Slot) × Valid s.homes [] a
+    × IsKept sheet workers (stepped (record s { words = l }) 0 (either (slice_index l 0 == 0) 1 (slice_index l 0)) id [] w a)
     × TriesTurn step (v, []) (slice_index l 0) (w, carried_after [] a)) (sym words) (
       v,
       keeps,
       tt,
-      subst (λ (l : List View). IsKept sheet workers (record { words = 1 ∷ tile ∷ []; homes = s.homes; views = l })) (sym (set_again s.views id v at)) (subst (λ (l : List ℕ). IsKept sheet workers (record { words = l; homes = s.homes; views = s.views })) words h),
+      subst (λ (l : List View). IsKept sheet workers (record { words = 1 ∷ tile ∷ []; homes = s.homes; views = l }))
+          (sym (set_again s.views id v at))
+          (subst (λ (l : List ℕ). IsKept sheet workers (record { words = l; homes = s.homes; views = s.views })) words h),
       refl,
     )
 
-pub tries : (sheet : Sheet) (workers : ℕ) (step : Step Slot) (id : ℕ) (v : View) (s : State Slot View) → IsKept sheet workers s → get_elem? s.views id ≡ some v → v.spent ≡ false → v.named ≡ None → Tried sheet workers step id v s
+pub tries : (sheet : Sheet) (workers : ℕ) (step : Step Slot) (id : ℕ) (v : View) (s : State Slot View) → IsKept sheet workers s
+    → get_elem? s.views id ≡ some v → v.spent ≡ false → v.named ≡ None → Tried sheet workers step id v s
 tries sheet workers step id v s h at fresh unnamed = elim h.now [
   | inl f ↦
       let words : s.words ≡ 0 ∷ h.tile ∷ [] = h.words ∙ ap (λ (n : ℕ). n ∷ h.tile ∷ []) f.0 in
@@ -210,11 +248,14 @@ tries sheet workers step id v s h at fresh unnamed = elim h.now [
   | inr k ↦ misses sheet workers step id v h.tile s h (h.words ∙ ap (λ (n : ℕ). n ∷ h.tile ∷ []) k.0) at
 ]
 
-follows : (sheet : Sheet) (workers : ℕ) (sheet' : Sheet) (workers' : ℕ) (found history : List Entry) (e : Entry) → sheet ≡ sheet' → workers ≡ workers' → found ≡ history → MayFollow sheet' workers' found e → MayFollow sheet workers history e
-follows sheet workers sheet' workers' found history e a b c may = subst (λ (l : List Entry). MayFollow sheet workers l e) c (subst (λ (n : ℕ). MayFollow sheet n found e) (sym b) (subst (λ (z : Sheet). MayFollow z workers' found e) (sym a) may))
+follows : (sheet : Sheet) (workers : ℕ) (sheet' : Sheet) (workers' : ℕ) (found history : List Entry) (e : Entry) → sheet ≡ sheet'
+    → workers ≡ workers' → found ≡ history → MayFollow sheet' workers' found e → MayFollow sheet workers history e
+follows sheet workers sheet' workers' found history e a b c may = subst (λ (l : List Entry). MayFollow sheet workers l e) c
+    (subst (λ (n : ℕ). MayFollow sheet n found e) (sym b) (subst (λ (z : Sheet). MayFollow z workers' found e) (sym a) may))
 
 -- an entry that is named
-pub names : (sheet : Sheet) (workers : ℕ) (id : ℕ) (v : View) (named : Entry) (new : ℕ) (s : State Slot View) (carried : List (ℕ × Slot)) → IsKept sheet workers s → get_elem? s.views id ≡ some v → v.holds ≡ true → v.spent ≡ false → MayFollow v.sheet v.workers v.found named
+pub names : (sheet : Sheet) (workers : ℕ) (id : ℕ) (v : View) (named : Entry) (new : ℕ) (s : State Slot View) (carried : List (ℕ × Slot))
+    → IsKept sheet workers s → get_elem? s.views id ≡ some v → v.holds ≡ true → v.spent ≡ false → MayFollow v.sheet v.workers v.found named
     → IsKept sheet workers (stepped s 1 new id carried (record v { named = Some named }) keeps)
 names sheet workers id v named new s carried h at holds fresh may =
     let w = record v { named = Some named } in
@@ -223,7 +264,13 @@ names sheet workers id v named new s carried h at holds fresh may =
       turn = h.turn;
       tile = new;
       words = ap (λ (l : List ℕ). set l 1 new) h.words;
-      fits = λ i u e. ⊎_elim (λ (x : (i ≡ id) × (w ≡ u)). subst (Fits h.history) x.1 (record { known = (h.fits id v at).known; own = (h.fits id v at).own; rising = (h.fits id v at).rising; older = (h.fits id v at).older })) (λ (x : (i ≢ id) × (get_elem? s.views i ≡ some u)). h.fits i u x.1) (at_set s.views id i w u e);
+      fits = λ i u e. ⊎_elim (λ (x : (i ≡ id) × (w ≡ u)). subst (Fits h.history) x.1
+          (record {
+            known = (h.fits id v at).known;
+            own = (h.fits id v at).own;
+            rising = (h.fits id v at).rising;
+            older = (h.fits id v at).older;
+          })) (λ (x : (i ≢ id) × (get_elem? s.views i ≡ some u)). h.fits i u x.1) (at_set s.views id i w u e);
       within = λ p lt. posts_set p s.views id v w at refl ∙ h.within p lt;
       beyond = λ p le. posts_set p s.views id v w at refl ∙ h.beyond p le;
       proper = h.proper;
@@ -236,12 +283,20 @@ names sheet workers id v named new s carried h at holds fresh may =
             out = q.1.out;
             holder = q.1.holder;
             only = λ i u e on. ⊎_elim
-                (λ (x : (i ≡ id) × (w ≡ u)). let same = q.1.only id v at (ap (λ (y : View). y.holds) x.1 ∙ on) in (x.0 ∙ same.0, ap (λ (y : View). y.found) (sym x.1) ∙ same.1, subst (λ (y : View). IsNamed sheet workers h.history y.named) x.1 (follows sheet workers v.sheet v.workers v.found h.history named (sym k.0) (sym k.1) same.1 may)))
+                (λ (x : (i ≡ id) × (w ≡ u)). let same = q.1.only id v at (ap (λ (y : View). y.holds) x.1 ∙ on) in (
+                  x.0 ∙ same.0,
+                  ap (λ (y : View). y.found) (sym x.1) ∙ same.1,
+                  subst (λ (y : View). IsNamed sheet workers h.history y.named) x.1
+                      (follows sheet workers v.sheet v.workers v.found h.history named (sym k.0) (sym k.1) same.1 may),
+                ))
                 (λ (x : (i ≢ id) × (get_elem? s.views i ≡ some u)). q.1.only i u x.1 on) (at_set s.views id i w u e);
             one = dite (ℕ_discrete q.1.holder id)
                 (λ (e : q.1.holder ≡ id).
-                let mine : v ≡ q.1.one.0 = some-injective _ _ (sym at ∙ ap (get_elem? s.views) (sym e) ∙ q.1.one.1) in
-                (w, subst (λ (j : ℕ). get_elem? (set s.views id w) j ≡ some w) (sym e) (set_here s.views id w (in_range s.views id v at)), ap (λ (y : View). y.holds) mine ∙ q.1.one.2))
+                let mine : v ≡ q.1.one.0 = some-injective _ _ (sym at ∙ ap (get_elem? s.views) (sym e) ∙ q.1.one.1) in (
+                  w,
+                  subst (λ (j : ℕ). get_elem? (set s.views id w) j ≡ some w) (sym e) (set_here s.views id w (in_range s.views id v at)),
+                  ap (λ (y : View). y.holds) mine ∙ q.1.one.2,
+                ))
                 (λ (ne : q.1.holder ≢ id). (q.1.one.0, set_else s.views id q.1.holder w ne ∙ q.1.one.1, q.1.one.2));
           },
         )
@@ -284,7 +339,8 @@ entries_below : (history : List Entry) (own : List (ℕ × Entry)) → AreEntrie
 entries_below history [] h = All-nil (λ (a : ℕ × Entry). a.0 < length history)
 entries_below history (x ∷ xs) h = All-cons (λ (a : ℕ × Entry). a.0 < length history) x xs (there_below history x.0 x.1 h.0) (entries_below history xs h.1)
 
-more_rise : (history : List Entry) (own : List (ℕ × Entry)) (named : Option Entry) → AreEntries history own → AllPairs ByPlace own → AllPairs ByPlace (own ++ named_posts (length history) named)
+more_rise : (history : List Entry) (own : List (ℕ × Entry)) (named : Option Entry) → AreEntries history own → AllPairs ByPlace own
+    → AllPairs ByPlace (own ++ named_posts (length history) named)
 more_rise history own None h rising = subst (AllPairs ByPlace) (sym (append-nil own)) rising
 more_rise history own (Some e) h rising = all_pairs_push ByPlace own (length history, e) rising (entries_below history own h)
 
@@ -293,10 +349,12 @@ posts_append p [] ys = sym (zero-add (posts_at p ys))
 posts_append p (x ∷ xs) ys = ap (λ (n : ℕ). (if x.0 == p then 1 else 0) + n) (posts_append p xs ys) ∙ sym (add_assoc (if x.0 == p then 1 else 0) (posts_at p xs) (posts_at p ys))
 
 -- what a change of one view adds to the posts
-posts_grow : (p : ℕ) (vs : List View) (i : ℕ) (v w : View) (more : List (ℕ × Entry)) → get_elem? vs i ≡ some v → w.own ≡ v.own ++ more → all_posts_at p (set vs i w) ≡ all_posts_at p vs + posts_at p more
+posts_grow : (p : ℕ) (vs : List View) (i : ℕ) (v w : View) (more : List (ℕ × Entry)) → get_elem? vs i ≡ some v → w.own ≡ v.own ++ more
+    → all_posts_at p (set vs i w) ≡ all_posts_at p vs + posts_at p more
 posts_grow p [] i v w more e same = absurd (some-ne-none v (sym e))
 posts_grow p (x ∷ xs) zero v w more e same =
-    let mine : posts_at p w.own ≡ posts_at p x.own + posts_at p more = ap (posts_at p) (same ∙ ap (λ (u : View). u.own ++ more) (sym (some-injective x v e))) ∙ posts_append p x.own more in omega arith
+    let mine : posts_at p w.own ≡ posts_at p x.own + posts_at p more = ap (posts_at p)
+    (same ∙ ap (λ (u : View). u.own ++ more) (sym (some-injective x v e))) ∙ posts_append p x.own more in omega arith
 posts_grow p (x ∷ xs) (suc i) v w more e same = let r = posts_grow p xs i v w more e same in omega arith
 
 one_post : (n : ℕ) (e : Entry) → posts_at n ((n, e) ∷ []) ≡ 1
@@ -306,7 +364,8 @@ no_post : (p n : ℕ) (e : Entry) → p ≢ n → posts_at p ((n, e) ∷ []) ≡
 no_post p n e ne = let other : (n == p) ≡ false = ne_eqb n p (λ s. ne (sym s)) in rw other refl
 
 -- the places of a history that goes on by what was named
-grown_within : (history : List Entry) (views : List View) (id : ℕ) (v w : View) (named : Option Entry) → get_elem? views id ≡ some v → w.own ≡ v.own ++ named_posts (length history) named
+grown_within : (history : List Entry) (views : List View) (id : ℕ) (v w : View) (named : Option Entry) → get_elem? views id ≡ some v
+    → w.own ≡ v.own ++ named_posts (length history) named
     → ((p : ℕ) → p < length history → all_posts_at p views ≡ 1) → ((p : ℕ) → length history ≤ p → all_posts_at p views ≡ 0)
     → (p : ℕ) → p < length (history ++ named_list named) → all_posts_at p (set views id w) ≡ 1
 grown_within history views id v w None at own within beyond p lt =
@@ -326,7 +385,8 @@ grown_within history views id v w (Some e) at own within beyond p lt =
     let none_more = no_post p (length history) e ne in
     omega arith)
 
-grown_beyond : (history : List Entry) (views : List View) (id : ℕ) (v w : View) (named : Option Entry) → get_elem? views id ≡ some v → w.own ≡ v.own ++ named_posts (length history) named
+grown_beyond : (history : List Entry) (views : List View) (id : ℕ) (v w : View) (named : Option Entry) → get_elem? views id ≡ some v
+    → w.own ≡ v.own ++ named_posts (length history) named
     → ((p : ℕ) → length history ≤ p → all_posts_at p views ≡ 0)
     → (p : ℕ) → length (history ++ named_list named) ≤ p → all_posts_at p (set views id w) ≡ 0
 grown_beyond history views id v w None at own beyond p le =
@@ -340,7 +400,8 @@ grown_beyond history views id v w (Some e) at own beyond p le =
     let none_more = no_post p (length history) e (λ s. omega arith) in omega arith
 
 -- the turn is given back
-pub gives_turn : (sheet : Sheet) (workers : ℕ) (id : ℕ) (v : View) (state : Board) (s : State Slot View) → IsKept sheet workers s → get_elem? s.views id ≡ some v → v.holds ≡ true → state.history ≡ v.found ++ named_list v.named
+pub gives_turn : (sheet : Sheet) (workers : ℕ) (id : ℕ) (v : View) (state : Board) (s : State Slot View) → IsKept sheet workers s
+    → get_elem? s.views id ≡ some v → v.holds ≡ true → state.history ≡ v.found ++ named_list v.named
     → Stands v.sheet state → IsProper v.sheet v.workers state.history → v.spent ≡ false
     → IsKept sheet workers (stepped s 0 0 id ((0, Some state) ∷ []) (after_give v) gives)
 gives_turn sheet workers id v state s h at holds new stands proper fresh = elim h.now [
@@ -373,7 +434,8 @@ gives_turn sheet workers id v state s h at holds new stands proper fresh = elim 
             (at_set s.views id i w u e);
         within = grown_within h.history s.views id v w v.named at own h.within h.beyond;
         beyond = grown_beyond h.history s.views id v w v.named at own h.beyond;
-        proper = subst (IsProper sheet workers) is (subst (λ (n : ℕ). IsProper sheet n state.history) one.1 (subst (λ (z : Sheet). IsProper z v.workers state.history) one.0 proper));
+        proper = subst (IsProper sheet workers) is (subst (λ (n : ℕ). IsProper sheet n state.history) one.1
+            (subst (λ (z : Sheet). IsProper z v.workers state.history) one.0 proper));
         one_sheet = one_set sheet workers s.views id v w at refl refl refl h.one_sheet;
         now = inl (
           refl,
@@ -409,7 +471,8 @@ pub record HasOut (v : View) (state : Board) (me : Me Slot View) : Type 0 where
   pub stands : Stands v.sheet state
   pub proper : IsProper v.sheet v.workers state.history
 
-pub has_out : (v : View) (before after : Me Slot View) (state : Board) → HasTurn v before → before.1 ≡ (0, Some state) ∷ [] → after ≡ (before.0, (0, None) ∷ []) → HasOut v state after
+pub has_out : (v : View) (before after : Me Slot View) (state : Board) → HasTurn v before → before.1 ≡ (0, Some state) ∷ []
+    → after ≡ (before.0, (0, None) ∷ []) → HasOut v state after
 has_out v before after state turn out is =
     let taken = turn.0 in
     let same : taken ≡ state = same_state taken state (sym (ap (λ (m : Me Slot View). m.1) turn.1) ∙ out) in
@@ -425,17 +488,20 @@ pub back_as_found : (v : View) (state back : Board) (out me : Me Slot View) → 
     → Holding me.0 (me.0.found ++ named_list me.0.named) me
 back_as_found v state back out me has idle same is =
     let view : me.0 ≡ record v { holds = true; found = state.history } = ap (λ (m : Me Slot View). m.0) is ∙ has.view in
-    let all : me.0.found ++ named_list me.0.named ≡ state.history ++ [] = ap (λ (u : View). u.found ++ named_list u.named) view ∙ ap (λ (o : Option Entry). state.history ++ named_list o) idle in
+    let all : me.0.found ++ named_list me.0.named ≡ state.history ++ [] = ap (λ (u : View). u.found ++ named_list u.named) view
+    ∙ ap (λ (o : Option Entry). state.history ++ named_list o) idle in
     let one : me.0.sheet ≡ v.sheet = ap (λ (u : View). u.sheet) view in
     let two : me.0.workers ≡ v.workers = ap (λ (u : View). u.workers) view in (
       back,
       is ∙ ap (λ (u : View). (u, (0, Some back) ∷ [])) (sym (ap (λ (m : Me Slot View). m.0) is)),
       ap (λ (b : Board). b.history) same ∙ sym (all ∙ append-nil state.history),
       subst (λ (z : Sheet). Stands z back) (sym one) (subst (Stands v.sheet) (sym same) has.stands),
-      subst (λ (z : Sheet). IsProper z me.0.workers back.history) (sym one) (subst (λ (n : ℕ). IsProper v.sheet n back.history) (sym two) (subst (λ (b : Board). IsProper v.sheet v.workers b.history) (sym same) has.proper)),
+      subst (λ (z : Sheet). IsProper z me.0.workers back.history) (sym one) (subst (λ (n : ℕ). IsProper v.sheet n back.history) (sym two)
+          (subst (λ (b : Board). IsProper v.sheet v.workers b.history) (sym same) has.proper)),
     )
 
-proper_more : (sheet : Sheet) (workers : ℕ) (history : List Entry) (e : Entry) → MayFollow sheet workers history e → IsProper sheet workers history → IsProper sheet workers (history ++ e ∷ [])
+proper_more : (sheet : Sheet) (workers : ℕ) (history : List Entry) (e : Entry) → MayFollow sheet workers history e
+    → IsProper sheet workers history → IsProper sheet workers (history ++ e ∷ [])
 proper_more sheet workers history e may h = record {
   apart = all_pairs_push (λ (d e : Entry). d.tile ≢ e.tile) history e h.apart (none-differs e.tile history may.fresh);
   below = All-push (λ (d : Entry). d.tile < length sheet) history e h.below may.below;
@@ -443,11 +509,13 @@ proper_more sheet workers history e may h = record {
 }
 
 -- and with the entry that was named
-pub back_with_named : (v : View) (state back : Board) (e : Entry) (sum : Joined) (out named me : Me Slot View) → HasOut v state out → named ≡ (record out.0 { named = Some e }, out.1)
+pub back_with_named : (v : View) (state back : Board) (e : Entry) (sum : Joined) (out named me : Me Slot View) → HasOut v state out
+    → named ≡ (record out.0 { named = Some e }, out.1)
     → MayFollow v.sheet v.workers state.history e → IsPost state e sum back → Sums (edges_at v.sheet e.tile) sum
     → me ≡ (named.0, (0, Some back) ∷ []) → Holding me.0 (me.0.found ++ named_list me.0.named) me
 back_with_named v state back e sum out named me has naming may more sums is =
-    let view : me.0 ≡ record v { holds = true; found = state.history; named = Some e } = ap (λ (m : Me Slot View). m.0) is ∙ ap (λ (m : Me Slot View). m.0) naming ∙ ap (λ (u : View). record u { named = Some e }) has.view in
+    let view : me.0 ≡ record v { holds = true; found = state.history; named = Some e } = ap (λ (m : Me Slot View). m.0) is
+    ∙ ap (λ (m : Me Slot View). m.0) naming ∙ ap (λ (u : View). record u { named = Some e }) has.view in
     let one : me.0.sheet ≡ v.sheet = ap (λ (u : View). u.sheet) view in
     let two : me.0.workers ≡ v.workers = ap (λ (u : View). u.workers) view in (
       back,
@@ -463,7 +531,8 @@ same_on_err old new e sum (Ok u) f is h = absurd (cc)
 same_on_err old new e sum (Err (Twice by)) f is h = h.1
 same_on_err old new e sum (Err NoMemory) f is h = h.1
 
-pub more_on_ok : (old new : Board) (e : Entry) (sum : Joined) (r : Result (Unit {0}) PostFault) (u : Unit {0}) → r ≡ Ok u → PostLeaves old e sum r new → (poster_in e.tile old.history ≡ None) × IsPost old e sum new
+pub more_on_ok : (old new : Board) (e : Entry) (sum : Joined) (r : Result (Unit {0}) PostFault) (u : Unit {0}) → r ≡ Ok u
+    → PostLeaves old e sum r new → (poster_in e.tile old.history ≡ None) × IsPost old e sum new
 more_on_ok old new e sum (Ok u) v is h = h
 more_on_ok old new e sum (Err f) v is h = absurd (cc)
 
@@ -472,7 +541,8 @@ pub allows_give : (sheet : Sheet) (workers slots id : ℕ) (me : Me Slot View) �
     → (s : State Slot View) → IsKept sheet workers s → get_elem? s.views id ≡ some me.0
     → (w : View) × (a : Act Slot) × Valid s.homes me.1 a × IsKept sheet workers (stepped s 0 0 id me.1 w a) × GivesTurn (step slots 0 0 0 none) me 0 (w, carried_after me.1 a)
 allows_give sheet workers slots id me holds fresh slot s h at =
-    subst (λ (m : Me Slot View). (w : View) × (a : Act Slot) × Valid s.homes m.1 a × IsKept sheet workers (stepped s 0 0 id m.1 w a) × GivesTurn (step slots 0 0 0 none) m 0 (w, carried_after m.1 a)) (sym slot.1) (
+    subst (λ (m : Me Slot View). (w : View) × (a : Act Slot) × Valid s.homes m.1 a × IsKept sheet workers (stepped s 0 0 id m.1 w a)
+    × GivesTurn (step slots 0 0 0 none) m 0 (w, carried_after m.1 a)) (sym slot.1) (
       after_give me.0,
       gives,
       tt,
@@ -486,7 +556,8 @@ pub allows_try : (sheet : Sheet) (workers slots id : ℕ) (me : Me Slot View) �
     × TriesTurn (step slots 0 0 1 none) me (slice_index s.words 0) (w, carried_after me.1 a)
 allows_try sheet workers slots id me idle s h at =
     let is : me ≡ (me.0, []) = λ i. (me.0, idle.1 i) in
-    subst (λ (m : Me Slot View). (w : View) × (a : Act Slot) × Valid s.homes m.1 a × IsKept sheet workers (stepped s 0 (either (slice_index s.words 0 == 0) 1 (slice_index s.words 0)) id m.1 w a)
+    subst (λ (m : Me Slot View). (w : View) × (a : Act Slot) × Valid s.homes m.1 a
+    × IsKept sheet workers (stepped s 0 (either (slice_index s.words 0 == 0) 1 (slice_index s.words 0)) id m.1 w a)
     × TriesTurn (step slots 0 0 1 none) m (slice_index s.words 0) (w, carried_after m.1 a)) (sym is) (tries sheet workers (step slots 0 0 1 none) id me.0 s h at idle.3 idle.2)
 
 fronts_append : (history : List Entry) (xs ys : List (List Entry)) → AllFronts history xs → AllFronts history ys → AllFronts history (xs ++ ys)
@@ -508,7 +579,8 @@ posts_placed : (p : ℕ) (x : ℕ × Entry) (ys : List (ℕ × Entry)) → posts
 posts_placed p x [] = refl
 posts_placed p x (y ∷ ys) = by_test (nat_lt x.0 y.0) (posts_at p (placed x (y ∷ ys)) ≡ (if x.0 == p then 1 else 0) + posts_at p (y ∷ ys))
     (λ is. let e : placed x (y ∷ ys) ≡ x ∷ y ∷ ys = rw is refl in ap (posts_at p) e)
-    (λ is. let e : placed x (y ∷ ys) ≡ y ∷ placed x ys = rw is refl in let r = posts_placed p x ys in let q : posts_at p (placed x (y ∷ ys)) ≡ (if y.0 == p then 1 else 0) + posts_at p (placed x ys) = ap (posts_at p) e in omega arith)
+    (λ is. let e : placed x (y ∷ ys) ≡ y ∷ placed x ys = rw is refl in let r = posts_placed p x ys in
+    let q : posts_at p (placed x (y ∷ ys)) ≡ (if y.0 == p then 1 else 0) + posts_at p (placed x ys) = ap (posts_at p) e in omega arith)
 
 posts_merged : (p : ℕ) (xs ys : List (ℕ × Entry)) → posts_at p (merged xs ys) ≡ posts_at p xs + posts_at p ys
 posts_merged p [] ys = sym (zero-add (posts_at p ys))
@@ -528,7 +600,8 @@ all_placed : (P : ℕ × Entry → Type 0) (x : ℕ × Entry) (ys : List (ℕ ×
 all_placed P x [] p h = All-cons P x [] p h
 all_placed P x (y ∷ ys) p h = by_test (nat_lt x.0 y.0) (All P (placed x (y ∷ ys)))
     (λ is. let e : placed x (y ∷ ys) ≡ x ∷ y ∷ ys = rw is refl in subst (All P) (sym e) (All-cons P x (y ∷ ys) p h))
-    (λ is. let e : placed x (y ∷ ys) ≡ y ∷ placed x ys = rw is refl in subst (All P) (sym e) (All-cons P y (placed x ys) (All-head P y ys h) (all_placed P x ys p (All-tail P y ys h))))
+    (λ is. let e : placed x (y ∷ ys) ≡ y ∷ placed x ys = rw is refl in
+    subst (All P) (sym e) (All-cons P y (placed x ys) (All-head P y ys h) (all_placed P x ys p (All-tail P y ys h))))
 
 all_merged : (P : ℕ × Entry → Type 0) (xs ys : List (ℕ × Entry)) → All P xs → All P ys → All P (merged xs ys)
 all_merged P [] ys h k = k
@@ -555,7 +628,8 @@ rising_placed x (y ∷ ys) apart h = by_test (nat_lt x.0 y.0) (AllPairs ByPlace 
     let ne : y.0 ≢ x.0 = All-head (λ (z : ℕ × Entry). z.0 ≢ x.0) y ys apart in
     let le : y.0 ≤ x.0 = grind (arith, nat_tests) in
     let lt = below_of y.0 x.0 le ne in
-    subst (AllPairs ByPlace) (sym e) (AllPairs-cons ByPlace y (placed x ys) (all_placed (ByPlace y) x ys lt (head_rises y ys h)) (rising_placed x ys (All-tail (λ (z : ℕ × Entry). z.0 ≢ x.0) y ys apart) (tail_rises y ys h))))
+    subst (AllPairs ByPlace) (sym e) (AllPairs-cons ByPlace y (placed x ys) (all_placed (ByPlace y) x ys lt (head_rises y ys h))
+    (rising_placed x ys (All-tail (λ (z : ℕ × Entry). z.0 ≢ x.0) y ys apart) (tail_rises y ys h))))
 
 none_at : (p : ℕ) (l : List (ℕ × Entry)) → posts_at p l ≡ 0 → All (λ (y : ℕ × Entry). y.0 ≢ p) l
 none_at p [] e = All-nil (λ (y : ℕ × Entry). y.0 ≢ p)
@@ -569,7 +643,8 @@ rising_merged (x ∷ xs) ys few h =
     let one = few x.0 in
     let t : (x.0 == x.0) ≡ true = grind (arith, nat_tests) in
     let q : posts_at x.0 (x ∷ xs) ≡ 1 + posts_at x.0 xs = rw t refl in
-    rising_placed x (merged xs ys) (all_merged (λ (y : ℕ × Entry). y.0 ≢ x.0) xs ys (none_at x.0 xs (omega arith)) (none_at x.0 ys (omega arith))) (rising_merged xs ys (λ p. let f = few p in omega arith) h)
+    rising_placed x (merged xs ys) (all_merged (λ (y : ℕ × Entry). y.0 ≢ x.0) xs ys (none_at x.0 xs (omega arith))
+    (none_at x.0 ys (omega arith))) (rising_merged xs ys (λ p. let f = few p in omega arith) h)
 
 few_posts : (p : ℕ) (history : List Entry) (views : List View) (i j : ℕ) (v w : View) → ¬ (j ≡ i) → get_elem? views i ≡ some v → get_elem? views j ≡ some w
     → ((p : ℕ) → p < length history → all_posts_at p views ≡ 1) → ((p : ℕ) → length history ≤ p → all_posts_at p views ≡ 0) → posts_at p v.own + posts_at p w.own ≤ 1
@@ -584,13 +659,15 @@ longer_front history xs ys true h k = k
 longer_front history xs ys false h k = h
 
 -- one seat takes in what another knows
-pub joins : (sheet : Sheet) (workers : ℕ) (s : State Slot View) (id other : ℕ) (v w : View) → v.holds ≡ false → w.holds ≡ false → IsKept sheet workers s → get_elem? s.views id ≡ some v → ¬ (other ≡ id)
+pub joins : (sheet : Sheet) (workers : ℕ) (s : State Slot View) (id other : ℕ) (v w : View) → v.holds ≡ false → w.holds ≡ false
+    → IsKept sheet workers s → get_elem? s.views id ≡ some v → ¬ (other ≡ id)
     → get_elem? (set s.views id (both_views v w)) other ≡ some w
     → IsKept sheet workers (record { words = s.words; homes = s.homes; views = set (set s.views id (both_views v w)) other spent_view })
 joins sheet workers s id other v w v_off w_off h at apart there =
     let both = both_views v w in
     let vs = set s.views id both in
-    let was : get_elem? s.views other ≡ some w = ⊎_elim (λ (x : (other ≡ id) × (both ≡ w)). absurd (apart x.0)) (λ (x : (other ≢ id) × (get_elem? s.views other ≡ some w)). x.1) (at_set s.views id other both w there) in
+    let was : get_elem? s.views other ≡ some w = ⊎_elim (λ (x : (other ≡ id) × (both ≡ w)). absurd (apart x.0))
+    (λ (x : (other ≢ id) × (get_elem? s.views other ≡ some w)). x.1) (at_set s.views id other both w there) in
     let mine = h.fits id v at in
     let theirs = h.fits other w was in
     let known = longer_front h.history v.known w.known (nat_lt (length v.known) (length w.known)) mine.known theirs.known in
@@ -606,7 +683,16 @@ joins sheet workers s id other v w v_off w_off h at apart there =
       words = h.words;
       fits = λ i u e. ⊎_elim (λ (x : (i ≡ other) × (spent_view ≡ u)). subst (Fits h.history) x.1 (record { known = (h.history, refl); own = tt; rising = none_rise; older = tt }))
           (λ (x : (i ≢ other) × (get_elem? vs i ≡ some u)). ⊎_elim
-          (λ (y : (i ≡ id) × (both ≡ u)). subst (Fits h.history) y.1 (record { known = known; own = entries_merged h.history v.own w.own mine.own theirs.own; rising = rises; older = (mine.known, (theirs.known, fronts_append h.history v.older w.older mine.older theirs.older)) }))
+          (λ (y : (i ≡ id) × (both ≡ u)). subst (Fits h.history) y.1
+          (record {
+            known = known;
+            own = entries_merged h.history v.own w.own mine.own theirs.own;
+            rising = rises;
+            older = (
+              mine.known,
+              (theirs.known, fronts_append h.history v.older w.older mine.older theirs.older),
+            );
+          }))
           (λ (y : (i ≢ id) × (get_elem? s.views i ≡ some u)). h.fits i u y.1)
           (at_set s.views id i both u x.1))
           (at_set vs other i spent_view u e);
@@ -625,20 +711,28 @@ joins sheet workers s id other v w v_off w_off h at apart there =
             same = f.1.same;
             stands = f.1.stands;
             nobody = λ i u e. ⊎_elim (λ (x : (i ≡ other) × (spent_view ≡ u)). ap (λ (z : View). z.holds) (sym x.1))
-                (λ (x : (i ≢ other) × (get_elem? vs i ≡ some u)). ⊎_elim (λ (y : (i ≡ id) × (both ≡ u)). ap (λ (z : View). z.holds) (sym y.1) ∙ v_off) (λ (y : (i ≢ id) × (get_elem? s.views i ≡ some u)). f.1.nobody i u y.1) (at_set s.views id i both u x.1))
+                (λ (x : (i ≢ other) × (get_elem? vs i ≡ some u)). ⊎_elim (λ (y : (i ≡ id) × (both ≡ u)). ap (λ (z : View). z.holds)
+                (sym y.1) ∙ v_off) (λ (y : (i ≢ id) × (get_elem? s.views i ≡ some u)). f.1.nobody i u y.1)
+                (at_set s.views id i both u x.1))
                 (at_set vs other i spent_view u e);
           },
         )
         | inr k ↦
-            let not_id : k.1.holder ≢ id = λ e. off (sym v_off ∙ ap (λ (z : View). z.holds) (some-injective _ _ (sym at ∙ ap (get_elem? s.views) (sym e) ∙ k.1.one.1)) ∙ k.1.one.2) in
-            let not_other : k.1.holder ≢ other = λ e. off (sym w_off ∙ ap (λ (z : View). z.holds) (some-injective _ _ (sym was ∙ ap (get_elem? s.views) (sym e) ∙ k.1.one.1)) ∙ k.1.one.2) in
+            let not_id : k.1.holder ≢ id = λ e. off
+            (sym v_off ∙ ap (λ (z : View). z.holds) (some-injective _ _ (sym at ∙ ap (get_elem? s.views) (sym e) ∙ k.1.one.1))
+            ∙ k.1.one.2) in
+            let not_other : k.1.holder ≢ other = λ e. off
+            (sym w_off ∙ ap (λ (z : View). z.holds) (some-injective _ _ (sym was ∙ ap (get_elem? s.views) (sym e) ∙ k.1.one.1))
+            ∙ k.1.one.2) in
             inr (
               k.0,
               record {
                 out = k.1.out;
                 holder = k.1.holder;
                 only = λ i u e on. ⊎_elim (λ (x : (i ≡ other) × (spent_view ≡ u)). absurd (off (ap (λ (z : View). z.holds) x.1 ∙ on)))
-                    (λ (x : (i ≢ other) × (get_elem? vs i ≡ some u)). ⊎_elim (λ (y : (i ≡ id) × (both ≡ u)). absurd (off (sym v_off ∙ ap (λ (z : View). z.holds) y.1 ∙ on))) (λ (y : (i ≢ id) × (get_elem? s.views i ≡ some u)). k.1.only i u y.1 on) (at_set s.views id i both u x.1))
+                    (λ (x : (i ≢ other) × (get_elem? vs i ≡ some u)). ⊎_elim (λ (y : (i ≡ id) × (both ≡ u)). absurd
+                    (off (sym v_off ∙ ap (λ (z : View). z.holds) y.1 ∙ on)))
+                    (λ (y : (i ≢ id) × (get_elem? s.views i ≡ some u)). k.1.only i u y.1 on) (at_set s.views id i both u x.1))
                     (at_set vs other i spent_view u e);
                 one = (k.1.one.0, set_else vs other k.1.holder spent_view not_other ∙ set_else s.views id k.1.holder both not_id ∙ k.1.one.1, k.1.one.2);
               },
@@ -648,7 +742,8 @@ joins sheet workers s id other v w v_off w_off h at apart there =
 
 -- what two seats had seen is compared
 pub meets : (sheet : Sheet) (workers : ℕ) (s : State Slot View) (id : ℕ) (v : View) (carried : List (ℕ × Slot)) → IsKept sheet workers s → get_elem? s.views id ≡ some v
-    → IsKept sheet workers (stepped s 0 (slice_index s.words 0) id carried (record v { older = [] }) keeps) × ((history : List Entry) × StartsWith history v.known × AllFronts history v.older)
+    → IsKept sheet workers (stepped s 0 (slice_index s.words 0) id carried (record v { older = [] }) keeps)
+    × ((history : List Entry) × StartsWith history v.known × AllFronts history v.older)
 meets sheet workers s id v carried h at =
     let w = record v { older = [] } in
     let same : set s.words 0 (slice_index s.words 0) ≡ h.turn ∷ h.tile ∷ [] = ap (λ (l : List ℕ). set l 0 (slice_index l 0)) h.words in (
@@ -657,7 +752,9 @@ meets sheet workers s id v carried h at =
         turn = h.turn;
         tile = h.tile;
         words = same;
-        fits = λ i u e. ⊎_elim (λ (x : (i ≡ id) × (w ≡ u)). subst (Fits h.history) x.1 (record { known = (h.fits id v at).known; own = (h.fits id v at).own; rising = (h.fits id v at).rising; older = tt })) (λ (x : (i ≢ id) × (get_elem? s.views i ≡ some u)). h.fits i u x.1) (at_set s.views id i w u e);
+        fits = λ i u e. ⊎_elim (λ (x : (i ≡ id) × (w ≡ u)). subst (Fits h.history) x.1
+            (record { known = (h.fits id v at).known; own = (h.fits id v at).own; rising = (h.fits id v at).rising; older = tt }))
+            (λ (x : (i ≢ id) × (get_elem? s.views i ≡ some u)). h.fits i u x.1) (at_set s.views id i w u e);
         within = λ p lt. posts_set p s.views id v w at refl ∙ h.within p lt;
         beyond = λ p le. posts_set p s.views id v w at refl ∙ h.beyond p le;
         proper = h.proper;
@@ -670,7 +767,8 @@ meets sheet workers s id v carried h at =
               home = f.1.home;
               same = f.1.same;
               stands = f.1.stands;
-              nobody = λ i u e. ⊎_elim (λ (x : (i ≡ id) × (w ≡ u)). ap (λ (y : View). y.holds) (sym x.1) ∙ f.1.nobody id v at) (λ (x : (i ≢ id) × (get_elem? s.views i ≡ some u)). f.1.nobody i u x.1) (at_set s.views id i w u e);
+              nobody = λ i u e. ⊎_elim (λ (x : (i ≡ id) × (w ≡ u)). ap (λ (y : View). y.holds) (sym x.1) ∙ f.1.nobody id v at)
+                  (λ (x : (i ≢ id) × (get_elem? s.views i ≡ some u)). f.1.nobody i u x.1) (at_set s.views id i w u e);
             },
           )
           | inr k ↦ inr (
@@ -679,12 +777,21 @@ meets sheet workers s id v carried h at =
               out = k.1.out;
               holder = k.1.holder;
               only = λ i u e on. ⊎_elim
-                  (λ (x : (i ≡ id) × (w ≡ u)). let same = k.1.only id v at (ap (λ (y : View). y.holds) x.1 ∙ on) in (x.0 ∙ same.0, ap (λ (y : View). y.found) (sym x.1) ∙ same.1, subst (IsNamed sheet workers h.history) (ap (λ (y : View). y.named) x.1) same.2))
+                  (λ (x : (i ≡ id) × (w ≡ u)). let same = k.1.only id v at (ap (λ (y : View). y.holds) x.1 ∙ on) in (
+                    x.0 ∙ same.0,
+                    ap (λ (y : View). y.found) (sym x.1) ∙ same.1,
+                    subst (IsNamed sheet workers h.history)
+                        (ap (λ (y : View). y.named) x.1) same.2,
+                  ))
                   (λ (x : (i ≢ id) × (get_elem? s.views i ≡ some u)). k.1.only i u x.1 on) (at_set s.views id i w u e);
               one = dite (ℕ_discrete k.1.holder id)
                   (λ (e : k.1.holder ≡ id).
-                  let mine : v ≡ k.1.one.0 = some-injective _ _ (sym at ∙ ap (get_elem? s.views) (sym e) ∙ k.1.one.1) in
-                  (w, subst (λ (j : ℕ). get_elem? (set s.views id w) j ≡ some w) (sym e) (set_here s.views id w (in_range s.views id v at)), ap (λ (y : View). y.holds) mine ∙ k.1.one.2))
+                  let mine : v ≡ k.1.one.0 = some-injective _ _ (sym at ∙ ap (get_elem? s.views) (sym e) ∙ k.1.one.1) in (
+                    w,
+                    subst (λ (j : ℕ). get_elem? (set s.views id w) j ≡ some w) (sym e)
+                        (set_here s.views id w (in_range s.views id v at)),
+                    ap (λ (y : View). y.holds) mine ∙ k.1.one.2,
+                  ))
                   (λ (ne : k.1.holder ≢ id). (k.1.one.0, set_else s.views id k.1.holder w ne ∙ k.1.one.1, k.1.one.2));
             },
           )
@@ -701,7 +808,8 @@ front_of (x ∷ a) (y ∷ b) r q e le =
     let same : y ≡ x = ap (λ (l : List Entry). get_or l 0 x) (sym e) in
     let t = front_of a b r q (ap (λ (l : List Entry). drop 1 l) e) (omega arith) in (t.0, ap (λ (z : Entry). z ∷ b) same ∙ ap (λ (l : List Entry). x ∷ l) t.1)
 
-longer_of : (history a b : List Entry) (t : Bool) → nat_lt (length a) (length b) ≡ t → StartsWith history a → StartsWith history b → StartsWith (longer a b) a × StartsWith (longer a b) b
+longer_of : (history a b : List Entry) (t : Bool) → nat_lt (length a) (length b) ≡ t → StartsWith history a → StartsWith history b
+    → StartsWith (longer a b) a × StartsWith (longer a b) b
 longer_of history a b true is p q =
     let lt : length a < length b = grind (arith, nat_tests) in
     let l : longer a b ≡ b = rw is refl in

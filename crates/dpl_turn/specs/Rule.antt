@@ -1,5 +1,6 @@
 -- The rule of the board.
-use Rattle.std.specs.Prelude.{◌≡◌, ◌≢◌, ◌⊎◌, ◌+◌, ◌<◌, ◌≤◌, ◌==◌, ◌/◌, ◌%◌, ◌^◌, ℕ, true, false, List, [], ◌∷◌, ◌++◌, length, slice_get, Option, Some, None, if◌then◌else◌, nat_lt, MatchBool, Result, Ok, Err}
+use Rattle.std.specs.Prelude.{◌≡◌, ◌≢◌, ◌⊎◌, ◌+◌, ◌<◌, ◌≤◌, ◌==◌, ◌/◌, ◌%◌, ◌^◌, ℕ, true, false, List, [], ◌∷◌, ◌++◌, length, slice_get}
+use Rattle.std.specs.Prelude.{Option, Some, None, if◌then◌else◌, nat_lt, MatchBool, Result, Ok, Err}
 use Rattle.std.specs.List.{All, AllPairs}
 use Rattle.dpl_board.specs.declared.fault.PostFault.{PostFault}
 use Rattle.dpl_board.specs.declared.fault.PostFault.TheVariants.{NoMemory, Twice}

@@ -1,5 +1,6 @@
 -- Lists of ways, and copies that are shortened one after the other.
-use Rattle.std.proofs.Common.{◌≡◌, ◌≢◌, ℕ, zero, suc, ◌+◌, ◌^◌, ◌<◌, ◌≤◌, ◌⊎◌, inl, inr, ⊎_elim, List, [], ◌∷◌, ◌++◌, Some, None, length, get_or, take, unwrap_or, refl, sym, ap, ◌∙◌, arith}
+use Rattle.std.proofs.Common.{◌≡◌, ◌≢◌, ℕ, zero, suc, ◌+◌, ◌^◌, ◌<◌, ◌≤◌, ◌⊎◌, inl, inr, ⊎_elim, List, [], ◌∷◌, ◌++◌, Some, None, length}
+use Rattle.std.proofs.Common.{get_or, take, unwrap_or, refl, sym, ap, ◌∙◌, arith}
 use Rattle.std.specs.List.{All, Contains}
 use Rattle.std.specs.Prelude.{slice_get}
 use Rattle.std.proofs.Math.ListN.{set, length-set}
@@ -45,7 +46,9 @@ set_elsewhere xs i j x n =
     (cases_lt j (length xs))
 
 same_or_not : (i j : ℕ) → (i ≡ j) ⊎ (i ≢ j)
-same_or_not i j = ⊎_elim (λ (h : i < j). inr (λ e. omega (arith, h, e))) (λ (h : j ≤ i). ⊎_elim (λ (l : j < i). inr (λ e. omega (arith, l, e))) (λ (l : i ≤ j). inl (omega (arith, h, l))) (cases_lt j i)) (cases_lt i j)
+same_or_not i j = ⊎_elim (λ (h : i < j). inr (λ e. omega (arith, h, e)))
+    (λ (h : j ≤ i). ⊎_elim (λ (l : j < i). inr (λ e. omega (arith, l, e))) (λ (l : i ≤ j). inl (omega (arith, h, l))) (cases_lt j i))
+    (cases_lt i j)
 
 -- ---- ways
 
@@ -56,7 +59,8 @@ AreOwn ways = (k : ℕ) (w : Way) → slice_get ways k ≡ Some w → (w.target 
 pub own_none : (ways : List Way) → ways ≡ [] → AreOwn ways
 own_none ways e k w s = absurd (none_is w (rw e at s))
 
-pub own_more : (ways new : List Way) (w : Way) (k : ℕ) → new ≡ ways ++ w ∷ [] → length ways ≡ k → w.target ≡ k → ((p : Pt) → image w.place p ≡ p) → IsMotionWithin 0 w.place → AreOwn ways → AreOwn new
+pub own_more : (ways new : List Way) (w : Way) (k : ℕ) → new ≡ ways ++ w ∷ [] → length ways ≡ k → w.target ≡ k
+    → ((p : Pt) → image w.place p ≡ p) → IsMotionWithin 0 w.place → AreOwn ways → AreOwn new
 own_more ways new w k e l target stays still own j v s =
     ⊎_elim (λ a. own j v a)
     (λ (a : (j ≡ length ways) × (v ≡ w)). let there : v.target ≡ j = ap (λ (x : Way). x.target) a.1 ∙ (target ∙ (sym l ∙ sym a.0)) in (there, rw a.1 stays, rw a.1 still))
@@ -74,7 +78,8 @@ own_all cells ways d e own = (
   },
 )
 
-pub ways_set : (cells : List Cell) (ways new : List Way) (k : ℕ) (w : Way) → k < length cells → new ≡ set ways k w → ((d : AreDeep cells) → AreWays cells d.level ways → IsWay cells d.level k w) → HasWays cells ways → HasWays cells new
+pub ways_set : (cells : List Cell) (ways new : List Way) (k : ℕ) (w : Way) → k < length cells → new ≡ set ways k w
+    → ((d : AreDeep cells) → AreWays cells d.level ways → IsWay cells d.level k w) → HasWays cells ways → HasWays cells new
 ways_set cells ways new k w h e is a = (
   a.0,
   rw e (record {
@@ -89,9 +94,14 @@ ways_set cells ways new k w h e is a = (
         let t : w ≡ v = some_is w v (sym (set_here ways k w (omega (arith, h, l))) ∙ rw q at s) in
         rw (q, ← t) (is a.0 a.1)
 
-pub whole_set : (cells : List Cell) (order : List ℕ) (i d : ℕ) (ways new : List Way) (w : Way) → i < length order → get_or order i d < length ways → new ≡ set ways (get_or order i d) w → (((c : Copies) (v : Way) → Contains (copies_at cells (get_or order i d)) c → slice_get ways c.target ≡ Some v → IsWhole cells v) → IsWhole cells w) → (AreBehind cells order → AreWhole cells ways (take i order)) → AreBehind cells order → AreWhole cells new (take (i + 1) order)
+pub whole_set : (cells : List Cell) (order : List ℕ) (i d : ℕ) (ways new : List Way) (w : Way) → i < length order
+    → get_or order i d < length ways → new ≡ set ways (get_or order i d) w
+    → (((c : Copies) (v : Way) → Contains (copies_at cells (get_or order i d)) c → slice_get ways c.target ≡ Some v → IsWhole cells v)
+    → IsWhole cells w) → (AreBehind cells order → AreWhole cells ways (take i order)) → AreBehind cells order
+    → AreWhole cells new (take (i + 1) order)
 whole_set cells order i d ways new w h l e is a behind k v m s =
-    ⊎_elim here (λ n. ⊎_elim (λ x. a behind k v x (sym (set_elsewhere ways (get_or order i d) k w n) ∙ rw e at s)) (λ q. absurd (n q)) (Contains-take_more order i d k h m)) (same_or_not k (get_or order i d))
+    ⊎_elim here (λ n. ⊎_elim (λ x. a behind k v x (sym (set_elsewhere ways (get_or order i d) k w n) ∙ rw e at s)) (λ q. absurd (n q))
+    (Contains-take_more order i d k h m)) (same_or_not k (get_or order i d))
   where
     here : k ≡ get_or order i d → IsWhole cells v
     here q =
@@ -109,7 +119,8 @@ contains_or_not (j ∷ js) k =
 abbrev pub AreOwnBeside : List Way → List ℕ → Type 0
 AreOwnBeside ways ks = (k : ℕ) (w : Way) → slice_get ways k ≡ Some w → ¬ Contains ks k → w.target ≡ k
 
-pub own_set : (order : List ℕ) (i d : ℕ) (ways new : List Way) (w : Way) → i < length order → new ≡ set ways (get_or order i d) w → AreOwnBeside ways (take i order) → AreOwnBeside new (take (i + 1) order)
+pub own_set : (order : List ℕ) (i d : ℕ) (ways new : List Way) (w : Way) → i < length order → new ≡ set ways (get_or order i d) w
+    → AreOwnBeside ways (take i order) → AreOwnBeside new (take (i + 1) order)
 own_set order i d ways new w h e own k v s n =
     ⊎_elim (λ (q : k ≡ get_or order i d). absurd (n (Contains-take_last order i d k h q)))
     (λ m. own k v (sym (set_elsewhere ways (get_or order i d) k w m) ∙ rw e at s) (λ x. n (Contains-take_keeps order i d k h x)))
@@ -132,14 +143,20 @@ short_none ways new e = record {
   alone = λ s h. absurd (Contains-nil s (rw e at h));
 }
 
-pub short_more : (ways : List Way) (cs : List Copies) (i : ℕ) (d s : Copies) (old new : List Copies) → i < length cs → new ≡ old ++ s ∷ [] → IsShortBy ways (get_or cs i d) s → AreShort ways (take i cs) old → AreShort ways (take (i + 1) cs) new
+pub short_more : (ways : List Way) (cs : List Copies) (i : ℕ) (d s : Copies) (old new : List Copies) → i < length cs → new ≡ old ++ s ∷ []
+    → IsShortBy ways (get_or cs i d) s → AreShort ways (take i cs) old → AreShort ways (take (i + 1) cs) new
 short_more ways cs i d s old new h e is a = record {
   each = omega (arith, ap length e, length-append old (s ∷ []), length-take i cs, length-take (i + 1) cs, a.each, h);
-  kept = λ c k. ⊎_elim (λ x. let b = a.kept c x in (b.0, rw e (Contains-append_left old (s ∷ []) b.0 b.1), b.2)) (λ (q : c ≡ get_or cs i d). (s, rw e (Contains-push old s), rw q is)) (Contains-take_more cs i d c h k);
-  alone = λ t k. ⊎_elim (λ x. let b = a.alone t x in (b.0, Contains-take_keeps cs i d b.0 h b.1, b.2)) (λ (q : s ≡ t). (get_or cs i d, Contains-take_last cs i d (get_or cs i d) h refl, rw (← q) is)) (Contains-push_cases old s t (rw e at k));
+  kept = λ c k. ⊎_elim (λ x. let b = a.kept c x in (b.0, rw e (Contains-append_left old (s ∷ []) b.0 b.1), b.2))
+      (λ (q : c ≡ get_or cs i d). (s, rw e (Contains-push old s), rw q is)) (Contains-take_more cs i d c h k);
+  alone = λ t k. ⊎_elim (λ x. let b = a.alone t x in (b.0, Contains-take_keeps cs i d b.0 h b.1, b.2))
+      (λ (q : s ≡ t). (get_or cs i d, Contains-take_last cs i d (get_or cs i d) h refl, rw (← q) is))
+      (Contains-push_cases old s t (rw e at k));
 }
 
-pub short_read : (ways : List Way) (cs : List Copies) (i : ℕ) (d : Copies) (w : Way) (s : Copies) (old new : List Copies) → i < length cs → new ≡ old ++ s ∷ [] → (get_or cs i d).target < length ways → w ≡ get_or ways (get_or cs i d).target w → IsShort (get_or cs i d) w s → AreShort ways (take i cs) old → AreShort ways (take (i + 1) cs) new
+pub short_read : (ways : List Way) (cs : List Copies) (i : ℕ) (d : Copies) (w : Way) (s : Copies) (old new : List Copies) → i < length cs
+    → new ≡ old ++ s ∷ [] → (get_or cs i d).target < length ways → w ≡ get_or ways (get_or cs i d).target w → IsShort (get_or cs i d) w s
+    → AreShort ways (take i cs) old → AreShort ways (take (i + 1) cs) new
 short_read ways cs i d w s old new h e l is short a = short_more ways cs i d s old new h e (w, slice_get-get_or ways (get_or cs i d).target w l ∙ ap Some (sym is), short) a
 
 pub short_all : (ways : List Way) (cs : List Copies) (i : ℕ) (new : List Copies) → length cs ≤ i → AreShort ways (take i cs) new → AreShort ways cs new
@@ -186,7 +203,8 @@ module _ (ways : List Way) (n : ℕ) (old mid : List Cell) (known : AreKnown (2 
   all_known = rw same_here (λ k d h. let t = known.targets n (get_or (copies_at old n) k d) (Contains-get_or (copies_at old n) k d h) in let e = has.1.each in omega (arith, t, e))
 
 -- a structure was replaced by one with shortened copies
-pub cell_short : (ways : List Way) (cells : List Cell) (k : ℕ) (x y : Cell) → k < length cells → x ≡ get_or cells k x → y.outlines ≡ x.outlines → AreShort ways (copies_at cells k) y.copies → IsCellShort ways k cells (set cells k y)
+pub cell_short : (ways : List Way) (cells : List Cell) (k : ℕ) (x y : Cell) → k < length cells → x ≡ get_or cells k x
+    → y.outlines ≡ x.outlines → AreShort ways (copies_at cells k) y.copies → IsCellShort ways k cells (set cells k y)
 cell_short ways cells k x y h e o s = record {
   each = length-set cells k y;
   draws = λ i. ⊎_elim (λ (q : i ≡ k). rw q here) (λ n. ap outlines_or_none (set_elsewhere cells k i y n)) (same_or_not i k);

@@ -15,7 +15,8 @@ reads asks o r same is = subst (λ y. IfOk y (λ x. asks ≡ Some (request_view 
     go None same = tt
     go (Some x) same = same
 
-pub refuses : (asks : Option RequestValues) (o : Option Request) (r : Result Request WordsFault) → asks ≡ option_map request_view o → r ≡ ok_or o Usage → IsErrOf r Usage → asks ≡ None
+pub refuses : (asks : Option RequestValues) (o : Option Request) (r : Result Request WordsFault) → asks ≡ option_map request_view o
+    → r ≡ ok_or o Usage → IsErrOf r Usage → asks ≡ None
 refuses asks o r same is bad = go o same (subst (λ y. IsErrOf y Usage) is bad)
   where
     go : (o : Option Request) → asks ≡ option_map request_view o → IsErrOf (ok_or {E = WordsFault} o Usage) Usage → asks ≡ None

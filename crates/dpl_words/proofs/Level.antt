@@ -70,12 +70,14 @@ module _ (s : Shape) (is : IsPlainLevel s) where
             passes = ok.1;
           }
 
-  pub default_read : (a : Rule) → IsIn a s.rules → HasDefault a → (words : List Text) → EachRow (IsPassed s.rules) (rows_after s.rules [] words) → IsRead a (rows_after s.rules [] words)
+  pub default_read : (a : Rule) → IsIn a s.rules → HasDefault a → (words : List Text)
+      → EachRow (IsPassed s.rules) (rows_after s.rules [] words) → IsRead a (rows_after s.rules [] words)
   default_read a of d words each_held =
       let end = (walk s.rules [] nothing_held words).held in
       read_row a of (rows_after s.rules [] words) (row_with _ a.id (rows_after s.rules [] words) (default_there s.rules (settled s.rules end).rows a of d) each_held)
 
-  pub required_read : (a : Rule) → IsIn a s.rules → a.required ≡ true → (rows : List Row) → list_any (λ a. a.required && not (is_given a.id rows)) s.rules ≡ false → EachRow (IsPassed s.rules) rows
+  pub required_read : (a : Rule) → IsIn a s.rules → a.required ≡ true → (rows : List Row)
+      → list_any (λ a. a.required && not (is_given a.id rows)) s.rules ≡ false → EachRow (IsPassed s.rules) rows
       → IsRead a rows
   required_read a of wanted rows none each_held =
       read_row a of rows (row_with _ a.id rows (given_has a.id rows (required_given s.rules rows a none of wanted)) each_held)
@@ -90,11 +92,13 @@ below_reads k t = go (is_below k t) refl
     go false e = (tt, λ h. true≢false (sym (below_back k t h) ∙ e))
 
 -- a number that passed a test of whole numbers is there, and in its range
-pub number_read : (k low high : ℕ) (a : Rule) (rows : List Row) → high < 2 ^ k → a.parser ≡ Some (vp.Signed (pos low) (pos high)) → IsRead a rows → IsFrom low high (number_at k a.id rows)
+pub number_read : (k low high : ℕ) (a : Rule) (rows : List Row) → high < 2 ^ k → a.parser ≡ Some (vp.Signed (pos low) (pos high))
+    → IsRead a rows → IsFrom low high (number_at k a.id rows)
 number_read k low high a rows fits parser read =
     let ok = subst (λ p. accepts a.ignore_case (parser_of_value p) read.text ≡ true) parser read.passes in
     let signed = accepts-Accepts a.ignore_case (vp.Signed (pos low) (pos high)) read.text ok in
-    let got = signed_reads (Unit {0}) (ParsesUnsigned k 10) k low high read.text (number_below k (without_minus read.text)) (below_reads k (without_minus read.text)) (λ u x g. g) fits signed in
+    let got = signed_reads (Unit {0}) (ParsesUnsigned k 10) k low high read.text (number_below k (without_minus read.text))
+    (below_reads k (without_minus read.text)) (λ u x g. g) fits signed in
     let one : one_of a.id rows ≡ Some (without_minus read.text) = read.one ∙ ap (λ p. Some (read_as (reading_of (parser_of_value p)) read.text)) parser in
     let at : number_at k a.id rows ≡ Some got.0 = ap (λ (o : Option Text). o >>= number_below k) one ∙ got.1 in
     subst (IsFrom low high) (sym at) (got.2, got.3)
@@ -106,7 +110,9 @@ word_read low high a rows parser read =
     let passed = accepts-Accepts a.ignore_case (vp.Unsigned low high) read.text ok in
     let one : one_of a.id rows ≡ Some read.text = read.one ∙ ap (λ p. Some (read_as (reading_of (parser_of_value p)) read.text)) parser in
     let below : is_below 64 read.text ≡ true = below_back 64 read.text (passed.0, passed.1) in
-    let at : number_at 64 a.id rows ≡ Some (digits_value 10 (without_leading_plus read.text)) = ap (λ (o : Option Text). o >>= number_below 64) one ∙ ap (λ (b : Bool). cond b (Some (digits_value 10 (without_leading_plus read.text))) None) below in
+    let at : number_at 64 a.id rows ≡ Some (digits_value 10 (without_leading_plus read.text)) = ap
+    (λ (o : Option Text). o >>= number_below 64) one
+    ∙ ap (λ (b : Bool). cond b (Some (digits_value 10 (without_leading_plus read.text))) None) below in
     subst (IsFrom low high) (sym at) (passed.2, passed.3)
 
 pub text_read : (a : Rule) (rows : List Row) → IsRead a rows → IsThere (first_of a.id rows)

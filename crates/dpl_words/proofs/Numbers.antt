@@ -35,7 +35,8 @@ below_from k text e =
 pub below_back : (k : ℕ) (text : Text) → IsNumeral 10 (without_leading_plus text) × (digits_value 10 (without_leading_plus text) < 2 ^ k) → is_below k text ≡ true
 below_back k text h = rw (lt-ltb _ _ h.0.0, digits_back _ h.0.1, lt-ltb _ _ h.1) refl
 
-reads : {E : Type 0} (k : ℕ) (G : List ℕ → Result ℕ E → Type 0) (t : Text) (r : Option ℕ) → ((x : Result ℕ E) → G t x → ParsesUnsigned k 10 t x) → ReadsOne G t r → r ≡ number_below k t
+reads : {E : Type 0} (k : ℕ) (G : List ℕ → Result ℕ E → Type 0) (t : Text) (r : Option ℕ)
+    → ((x : Result ℕ E) → G t x → ParsesUnsigned k 10 t x) → ReadsOne G t r → r ≡ number_below k t
 reads k G t (Some v) only h =
     let p = only (Ok v) h in
     rw (below_back k t p.0, p.1) refl

@@ -1,5 +1,6 @@
 -- The words that `clap` takes give each value of their subcommand, in its range.
-use Rattle.std.proofs.Common.{◌≡◌, ◌≤◌, Bool, ◌&&◌, not, cond, true, false, true≢false, List, [], ◌∷◌, Option, Some, None, option_map, is_some, refl, sym, subst, inl, inr, arith, ℕ}
+use Rattle.std.proofs.Common.{◌≡◌, ◌≤◌, Bool, ◌&&◌, not, cond, true, false, true≢false, List, [], ◌∷◌, Option, Some, None, option_map}
+use Rattle.std.proofs.Common.{is_some, refl, sym, subst, inl, inr, arith, ℕ}
 use Rattle.std.specs.Prelude.{find, slice_get, unwrap_or, IfSome}
 use Rattle.std.specs.List.{list_any}
 use Rattle.clap.specs.Kinds.{check_kinds}
@@ -51,7 +52,28 @@ one a x y z = record { action = x; takes = y; least = z }
 
 each_split : Each split_level.rules
 unfolding clap_on_literals
-each_split = (one _ refl refl refl, (one _ refl refl refl, (one _ refl refl refl, (one _ refl refl refl, (one _ refl refl refl, (one _ refl refl refl, (one _ refl refl refl, (one _ refl refl refl, (one _ refl refl refl, (one _ refl refl refl, (one _ refl refl refl, (one _ refl refl refl, tt))))))))))))
+each_split = (
+  one _ refl refl refl,
+  (
+    one _ refl refl refl,
+    (
+      one _ refl refl refl,
+      (
+        one _ refl refl refl,
+        (
+          one _ refl refl refl,
+          (
+            one _ refl refl refl,
+            (
+              one _ refl refl refl,
+              (one _ refl refl refl, (one _ refl refl refl, (one _ refl refl refl, (one _ refl refl refl, (one _ refl refl refl, tt))))),
+            ),
+          ),
+        ),
+      ),
+    ),
+  ),
+)
 
 plain_split : IsPlainLevel split_level
 unfolding clap_on_literals
@@ -59,7 +81,22 @@ plain_split = record { single = of_each split_level.rules each_split; no_short =
 
 each_check : Each check_level.rules
 unfolding clap_on_literals
-each_check = (one _ refl refl refl, (one _ refl refl refl, (one _ refl refl refl, (one _ refl refl refl, (one _ refl refl refl, (one _ refl refl refl, (one _ refl refl refl, (one _ refl refl refl, (one _ refl refl refl, (one _ refl refl refl, tt))))))))))
+each_check = (
+  one _ refl refl refl,
+  (
+    one _ refl refl refl,
+    (
+      one _ refl refl refl,
+      (
+        one _ refl refl refl,
+        (
+          one _ refl refl refl,
+          (one _ refl refl refl, (one _ refl refl refl, (one _ refl refl refl, (one _ refl refl refl, (one _ refl refl refl, tt))))),
+        ),
+      ),
+    ),
+  ),
+)
 
 plain_check : IsPlainLevel check_level
 unfolding clap_on_literals
@@ -74,7 +111,8 @@ unfolding clap_on_literals
 plain_demo = record { single = of_each demo_level.rules each_demo; no_short = λ x. refl; apart = refl }
 
 -- what is read of the arguments of `split` gives each value
-split_there : (rows : List Row) → ((a : Rule) → IsIn a split_level.rules → a.required ≡ true → IsRead a rows) → ((a : Rule) → IsIn a split_level.rules → HasDefault a → IsRead a rows) → AreThere rows
+split_there : (rows : List Row) → ((a : Rule) → IsIn a split_level.rules → a.required ≡ true → IsRead a rows)
+    → ((a : Rule) → IsIn a split_level.rules → HasDefault a → IsRead a rows) → AreThere rows
 unfolding clap_on_literals
 split_there rows wanted given = record {
   layer = number_read 16 0 65535 (at split_level 0) rows (omega arith) refl (wanted (at split_level 0) (inl refl) refl);
@@ -91,7 +129,8 @@ split_there rows wanted given = record {
 }
 
 -- what is read of the arguments of `check` gives each value
-check_there : (rows : List Row) → ((a : Rule) → IsIn a check_level.rules → a.required ≡ true → IsRead a rows) → ((a : Rule) → IsIn a check_level.rules → HasDefault a → IsRead a rows) → AreThereForCheck rows
+check_there : (rows : List Row) → ((a : Rule) → IsIn a check_level.rules → a.required ≡ true → IsRead a rows)
+    → ((a : Rule) → IsIn a check_level.rules → HasDefault a → IsRead a rows) → AreThereForCheck rows
 unfolding clap_on_literals
 check_there rows wanted given = record {
   layer = number_read 16 0 65535 (at check_level 0) rows (omega arith) refl (wanted (at check_level 0) (inl refl) refl);
@@ -106,7 +145,8 @@ check_there rows wanted given = record {
 }
 
 -- what is read of the arguments of `demo` gives each value
-demo_there : (rows : List Row) → ((a : Rule) → IsIn a demo_level.rules → a.required ≡ true → IsRead a rows) → ((a : Rule) → IsIn a demo_level.rules → HasDefault a → IsRead a rows) → AreThereForDemo rows
+demo_there : (rows : List Row) → ((a : Rule) → IsIn a demo_level.rules → a.required ≡ true → IsRead a rows)
+    → ((a : Rule) → IsIn a demo_level.rules → HasDefault a → IsRead a rows) → AreThereForDemo rows
 unfolding clap_on_literals
 demo_there rows wanted given = record {
   seed = word_read 0 18446744073709551615 (at demo_level 0) rows refl (wanted (at demo_level 0) (inl refl) refl);
@@ -184,7 +224,8 @@ entered_there (Some p) e =
     subst (λ xs. IfSome (option_map (λ s. rows_at s p.1) (find (λ s. answers_to p.0 (label_of s)) xs)) HasItsValues) (sym subs)
     (go (answers_to p.0 (label_of split_level)) (answers_to p.0 (label_of check_level)) (answers_to p.0 (label_of demo_level)) mine)
   where
-    go : (x y z : Bool) → option_map_or (λ s. level_fault s [] nothing_held p.1 false []) (cond x (Some split_level) (cond y (Some check_level) (cond z (Some demo_level) None))) [] ≡ []
+    go : (x y z : Bool) → option_map_or (λ s. level_fault s [] nothing_held p.1 false [])
+        (cond x (Some split_level) (cond y (Some check_level) (cond z (Some demo_level) None))) [] ≡ []
         → IfSome (option_map (λ s. rows_at s p.1) (cond x (Some split_level) (cond y (Some check_level) (cond z (Some demo_level) None)))) HasItsValues
     go true y z e = split_has (rows_after split_level.rules [] p.1) (split_level_there p.1 e)
     go false true z e = check_has (rows_after check_level.rules [] p.1) (check_level_there p.1 e)

@@ -24,7 +24,8 @@ has_more : (id key : Text) (how : Reading) (s : ValueSource) (vs : List Text) (r
 has_more id key how s vs [] h = absurd (true≢false (sym h))
 has_more id key how s vs (r ∷ rs) h = go (or_more (bytes_eq r.id id) _ _ h (has_more id key how s vs rs)) (bytes_eq r.id key)
   where
-    go : (bytes_eq r.id id || has_row id (with_values key how s vs rs)) ≡ true → (b : Bool) → has_row id (cond b (more_values s vs r ++ rs) (r ∷ with_values key how s vs rs)) ≡ true
+    go : (bytes_eq r.id id || has_row id (with_values key how s vs rs)) ≡ true → (b : Bool)
+        → has_row id (cond b (more_values s vs r ++ rs) (r ∷ with_values key how s vs rs)) ≡ true
     go rest true = h
     go rest false = rest
 
@@ -72,7 +73,8 @@ default_there (x ∷ xs) rows a (inr of) d = default_there xs (with_default rows
 -- ---- what is required
 
 -- no argument of the list is wanted and not given
-pub required_given : (xs : List Rule) (rows : List Row) (a : Rule) → list_any (λ a. a.required && not (is_given a.id rows)) xs ≡ false → IsIn a xs → a.required ≡ true → is_given a.id rows ≡ true
+pub required_given : (xs : List Rule) (rows : List Row) (a : Rule) → list_any (λ a. a.required && not (is_given a.id rows)) xs ≡ false
+    → IsIn a xs → a.required ≡ true → is_given a.id rows ≡ true
 required_given [] rows a none of wanted = absurd of
 required_given (x ∷ xs) rows a none of wanted = go (λ e more. required_given xs rows a e more wanted) (x.required && not (is_given x.id rows)) refl none of
   where
@@ -81,7 +83,9 @@ required_given (x ∷ xs) rows a none of wanted = go (λ e more. required_given 
     given true false e t = absurd (true≢false e)
     given false false e t = absurd (true≢false (sym t))
 
-    go : (list_any (λ a. a.required && not (is_given a.id rows)) xs ≡ false → IsIn a xs → is_given a.id rows ≡ true) → (b : Bool) → (x.required && not (is_given x.id rows)) ≡ b → (b || list_any (λ a. a.required && not (is_given a.id rows)) xs) ≡ false → (a ≡ x) ⊎ IsIn a xs → is_given a.id rows ≡ true
+    go : (list_any (λ a. a.required && not (is_given a.id rows)) xs ≡ false → IsIn a xs → is_given a.id rows ≡ true) → (b : Bool)
+        → (x.required && not (is_given x.id rows)) ≡ b → (b || list_any (λ a. a.required && not (is_given a.id rows)) xs) ≡ false
+        → (a ≡ x) ⊎ IsIn a xs → is_given a.id rows ≡ true
     go rest true is e of = absurd (true≢false e)
     go rest false is e (inl same) = subst (λ y. is_given y.id rows ≡ true) (sym same) (given x.required (is_given x.id rows) is (subst (λ y. y.required ≡ true) same wanted))
     go rest false is e (inr of) = rest e of
@@ -128,7 +132,8 @@ named (x ∷ xs) a (inr of) = go (bytes_eq x.id a.id) (named xs a of)
 
 pub by_own_id : (xs : List Rule) (a : Rule) → has_single_ids xs ≡ true → IsIn a xs → arg_by_id xs a.id ≡ Some a
 by_own_id [] a single of = absurd of
-by_own_id (x ∷ xs) a single (inl is) = ap (λ b. cond b (Some x) (arg_by_id xs a.id)) (subst (λ (y : Rule). bytes_eq y.id a.id ≡ true) is (same_text a.id)) ∙ ap (λ (y : Rule). Some y) (sym is)
+by_own_id (x ∷ xs) a single (inl is) = ap (λ b. cond b (Some x) (arg_by_id xs a.id)) (subst (λ (y : Rule). bytes_eq y.id a.id ≡ true) is
+    (same_text a.id)) ∙ ap (λ (y : Rule). Some y) (sym is)
 by_own_id (x ∷ xs) a single (inr of) = go (by_own_id xs a (both _ _ single).1 of) (bytes_eq x.id a.id) refl
   where
     go : arg_by_id xs a.id ≡ Some a → (b : Bool) → bytes_eq x.id a.id ≡ b → cond b (Some x) (arg_by_id xs a.id) ≡ Some a

@@ -1,5 +1,6 @@
 -- What `clap` has seen of each value that a walk over words keeps, for a command whose arguments take one value each and have no short names.
-use Rattle.std.proofs.Common.{◌≡◌, ◌∙◌, ◌⊎◌, ◌&&◌, ◌||◌, ℕ, zero, suc, Bool, cond, true, false, true≢false, List, [], ◌∷◌, ◌++◌, Option, Some, None, refl, sym, ap, subst, inl, inr, arith, length, drop, is_some, ne_eqb}
+use Rattle.std.proofs.Common.{◌≡◌, ◌∙◌, ◌⊎◌, ◌&&◌, ◌||◌, ℕ, zero, suc, Bool, cond, true, false, true≢false, List, [], ◌∷◌, ◌++◌, Option}
+use Rattle.std.proofs.Common.{Some, None, refl, sym, ap, subst, inl, inr, arith, length, drop, is_some, ne_eqb}
 use Rattle.std.specs.Prelude.{encode_utf8, find, fold, slice_get}
 use Rattle.std.specs.Option.{option_map_or}
 use Rattle.std.specs.Str.{bytes_eq, chars}
@@ -7,10 +8,17 @@ use Rattle.clap.specs.Lexer.{long_of, short_of}
 use Rattle.clap.specs.Facts.{parser_of_value, unwrap_or_range}
 use Rattle.clap.specs.Kinds.{Kinds, or_else, range_kinds, request_kinds, value_kinds}
 use Rattle.clap.specs.Takes.{value_passes}
-use Rattle.clap.specs.Walk.{Held, Names, Outcome, Row, Rule, Step, Text, Waiting, Walk, action_of, after_flag, after_step, arg_by_id, arg_by_index, arg_by_long, arg_by_short, bundle, bundle_met, bundle_step, default_rows, done, flag_met, has_row, idle, is_empty, is_pending, long_met, long_or_other, more_values, most_values, option, option_met, option_word, plain, plain_word, positional, to_positional, reacted, reading_by, refused, settled, settled_rows, short_met, short_or_plain, subcommand_met, subcommand_or_other, takes_several, takes_values, used, used_as, used_by_id, waits, walked, walked_from, with_default, with_values, without, word_met}
+use Rattle.clap.specs.Walk.{Held, Names, Outcome, Row, Rule, Step, Text, Waiting, Walk, action_of, after_flag, after_step, arg_by_id}
+use Rattle.clap.specs.Walk.{arg_by_index, arg_by_long, arg_by_short, bundle, bundle_met, bundle_step, default_rows, done, flag_met, has_row}
+use Rattle.clap.specs.Walk.{idle, is_empty, is_pending, long_met, long_or_other, more_values, most_values, option, option_met, option_word}
+use Rattle.clap.specs.Walk.{plain, plain_word, positional, to_positional, reacted, reading_by, refused, settled, settled_rows, short_met}
+use Rattle.clap.specs.Walk.{short_or_plain, subcommand_met, subcommand_or_other, takes_several, takes_values, used, used_as, used_by_id}
+use Rattle.clap.specs.Walk.{waits, walked, walked_from, with_default, with_values, without, word_met}
 use Rattle.clap.specs.Walk.{next, subcommand, trailing, value}
 use Rattle.clap.specs.Simple.{Shape}
-use Rattle.clap.specs.Faults.{action_fault, default_fault, defaults_fault, flag_word_fault, long_fault, option_fault, other_fault, positional_fault, react_fault, repeat_fault, settle_fault, step_fault, stray_fault, turn_fault, use_fault, values_fault, walk_fault, word_fault}
+use Rattle.clap.specs.Faults.{action_fault, default_fault, defaults_fault, flag_word_fault, long_fault, option_fault, other_fault}
+use Rattle.clap.specs.Faults.{positional_fault, react_fault, repeat_fault, settle_fault, step_fault, stray_fault, turn_fault, use_fault}
+use Rattle.clap.specs.Faults.{values_fault, walk_fault, word_fault}
 use Rattle.clap.specs.declared.builder.action.ArgAction.TheVariants.{Set}
 use Rattle.clap.specs.declared.builder.value_parser.Reading.{Reading}
 use Rattle.clap.specs.declared.error.kind.ErrorKind.{ErrorKind}
@@ -69,7 +77,8 @@ module _ (P : Text → Reading → Text → Type 0) where
       go rest true = h.1
       go rest false = (h.0, rest)
 
-  with_kept : (id : Text) (how : Reading) (s : ValueSource) (v : Text) (vs : List Text) (rows : List Row) → P id how v → EachRow P rows → EachRow P (with_values id how s (v ∷ vs) rows)
+  with_kept : (id : Text) (how : Reading) (s : ValueSource) (v : Text) (vs : List Text) (rows : List Row) → P id how v → EachRow P rows
+      → EachRow P (with_values id how s (v ∷ vs) rows)
   with_kept id how s v vs [] p h = (p, tt)
   with_kept id how s v vs (r ∷ rs) p h = go (with_kept id how s v vs rs p h.1) (bytes_eq r.id id)
     where
@@ -83,7 +92,8 @@ module _ (s : Shape) (P : Text → Reading → Text → Type 0)
     (each : (a : Rule) → IsIn a s.rules → (v : Text) → value_passes a v ≡ true → P a.id (reading_by a) v)
     (single : (a : Rule) → IsIn a s.rules → TakesOne a)
     (no_short : (x : ℕ) → arg_by_short s.rules x ≡ None) where
-  used_kept : (a : Rule) → IsIn a s.rules → (values : List Text) (rows : List Row) → use_fault s.args_override_self a values rows ≡ [] → EachRow P rows → EachRow P (used a values rows)
+  used_kept : (a : Rule) → IsIn a s.rules → (values : List Text) (rows : List Row) → use_fault s.args_override_self a values rows ≡ []
+      → EachRow P rows → EachRow P (used a values rows)
   used_kept a of [] rows e h =
       let range = (none_of (range_kinds (unwrap_or_range a.range).start_inclusive (most_values a) 0) _ e).0 in
       let bad = subst (λ n. range_kinds n (most_values a) 0 ≡ []) (single a of).least range in
@@ -94,34 +104,42 @@ module _ (s : Shape) (P : Text → Reading → Text → Type 0)
       let values = (none_of (repeat_fault s.args_override_self a.id rows) _ sets).1 in
       let first = (none_of (value_kinds a.ignore_case (parser_of_value a.parser) v) _ values).0 in
       let ok : value_passes a v ≡ true = passed _ _ first in
-      let now : EachRow P (used_as Set a.id (reading_by a) (v ∷ vs) rows) = with_kept P a.id (reading_by a) _ v vs (without a.id rows) (each a of v ok) (without_kept P a.id rows h) in
+      let now : EachRow P (used_as Set a.id (reading_by a) (v ∷ vs) rows) = with_kept P a.id (reading_by a) _ v vs (without a.id rows)
+      (each a of v ok) (without_kept P a.id rows h) in
       subst (λ x. EachRow P (used_as x a.id (reading_by a) (v ∷ vs) rows)) (sym (single a of).action) now
 
   pub settled_kept : (h : Held) → settle_fault s.rules s.args_override_self h ≡ [] → EachRow P h.rows → EachRow P (settled s.rules h).rows
   settled_kept h e each_held = go h.pending e
     where
-      by_id : (id : Text) (values : List Text) (o : Option Rule) → arg_by_id s.rules id ≡ o → option_map_or (λ a. use_fault s.args_override_self a values h.rows) o [] ≡ [] → EachRow P (used_by_id o values h.rows)
+      by_id : (id : Text) (values : List Text) (o : Option Rule) → arg_by_id s.rules id ≡ o
+          → option_map_or (λ a. use_fault s.args_override_self a values h.rows) o [] ≡ [] → EachRow P (used_by_id o values h.rows)
       by_id id values None is e = each_held
       by_id id values (Some a) is e = used_kept a (found_in _ s.rules a is) values h.rows e each_held
 
-      go : (p : Option (Text × List Text)) → option_map_or (λ p. option_map_or (λ a. use_fault s.args_override_self a p.1 h.rows) (arg_by_id s.rules p.0) []) p [] ≡ [] → EachRow P (settled_rows s.rules p h.rows)
+      go : (p : Option (Text × List Text))
+          → option_map_or (λ p. option_map_or (λ a. use_fault s.args_override_self a p.1 h.rows) (arg_by_id s.rules p.0) []) p [] ≡ []
+          → EachRow P (settled_rows s.rules p h.rows)
       go None e = each_held
       go (Some p) e = by_id p.0 p.1 (arg_by_id s.rules p.0) refl e
 
-  reacted_kept : (a : Rule) → IsIn a s.rules → (values : List Text) (h : Held) → react_fault s.rules s.args_override_self a values h ≡ [] → EachRow P h.rows → EachRow P (reacted s.rules a values h).rows
+  reacted_kept : (a : Rule) → IsIn a s.rules → (values : List Text) (h : Held) → react_fault s.rules s.args_override_self a values h ≡ []
+      → EachRow P h.rows → EachRow P (reacted s.rules a values h).rows
   reacted_kept a of values h e each_held =
       let parts = none_of (settle_fault s.rules s.args_override_self h) _ e in
       used_kept a of values (settled s.rules h).rows parts.1 (settled_kept h parts.0 each_held)
 
-  option_kept : (a : Rule) → IsIn a s.rules → (v : Option Text) (h : Held) → option_fault s.rules s.args_override_self a v h ≡ [] → EachRow P h.rows → EachRow P (option_met s.rules a v h).0.rows
+  option_kept : (a : Rule) → IsIn a s.rules → (v : Option Text) (h : Held) → option_fault s.rules s.args_override_self a v h ≡ []
+      → EachRow P h.rows → EachRow P (option_met s.rules a v h).0.rows
   option_kept a of (Some v) h e each_held = reacted_kept a of (v ∷ []) h e each_held
   option_kept a of None h e each_held = settled_kept h e each_held
 
-  long_kept : (o : Option Rule) → ((a : Rule) → o ≡ Some a → IsIn a s.rules) → (v : Option Text) (h : Held) → long_fault s.rules s.args_override_self o v h ≡ [] → EachRow P h.rows → EachRow P (long_met s.rules o v h).0.rows
+  long_kept : (o : Option Rule) → ((a : Rule) → o ≡ Some a → IsIn a s.rules) → (v : Option Text) (h : Held)
+      → long_fault s.rules s.args_override_self o v h ≡ [] → EachRow P h.rows → EachRow P (long_met s.rules o v h).0.rows
   long_kept None of v h e each_held = each_held
   long_kept (Some a) of v h e each_held = go (takes_values a) _ (single a (of a refl)).takes e
     where
-      go : (b : Bool) (other : Kinds) → b ≡ true → cond b (option_fault s.rules s.args_override_self a v h) other ≡ [] → EachRow P (cond b (option_met s.rules a v h) (flag_met s.rules a v h)).0.rows
+      go : (b : Bool) (other : Kinds) → b ≡ true → cond b (option_fault s.rules s.args_override_self a v h) other ≡ []
+          → EachRow P (cond b (option_met s.rules a v h) (flag_met s.rules a v h)).0.rows
       go true other t e = option_kept a (of a refl) v h e each_held
       go false other t e = absurd (true≢false (sym t))
 
@@ -148,10 +166,13 @@ module _ (s : Shape) (P : Text → Reading → Text → Type 0)
       go : ((flags : Text) (skip : ℕ) (so_far : Outcome) (h : Held) → (bundle_met s.rules k flags skip so_far h).0.rows ≡ h.rows) → (o : Option ℕ) (n : ℕ)
           → (bundle_step s.rules o flags n so_far h (bundle_met s.rules k)).0.rows ≡ h.rows
       go rest None n = refl
-      go rest (Some x) zero = ap (λ (o : Option Rule). (short_met s.rules o (drop (length (encode_utf8 x)) flags) h (bundle_met s.rules k (drop (length (encode_utf8 x)) flags) 0 done)).0.rows) (no_short x)
+      go rest (Some x) zero = ap
+          (λ (o : Option Rule). (short_met s.rules o (drop (length (encode_utf8 x)) flags) h
+          (bundle_met s.rules k (drop (length (encode_utf8 x)) flags) 0 done)).0.rows) (no_short x)
       go rest (Some x) (suc n) = rest (drop (length (encode_utf8 x)) flags) n so_far h
 
-  word_kept : (names : Names) (is_trailing : Bool) (waiting : Waiting) (position : ℕ) (word : Text) (h : Held) → word_fault s names is_trailing waiting word h ≡ [] → EachRow P h.rows
+  word_kept : (names : Names) (is_trailing : Bool) (waiting : Waiting) (position : ℕ) (word : Text) (h : Held)
+      → word_fault s names is_trailing waiting word h ≡ [] → EachRow P h.rows
       → EachRow P (word_met s.rules names is_trailing waiting position word h).0.rows
   word_kept names true waiting position word h e each_held = each_held
   word_kept names false waiting position word h e each_held = sub (subcommand_met names waiting word) e
@@ -168,7 +189,8 @@ module _ (s : Shape) (P : Text → Reading → Text → Type 0)
               let met = bundle s.rules flags h in
               subst (EachRow P) (sym (after_rows waiting word met.0 met.1 ∙ bundle_rows (length flags) flags h.skip plain (record h { skip = 0 }))) each_held
 
-      dashes : (b : Bool) → cond b [] (flag_word_fault s.rules s.args_override_self (long_of word) word h) ≡ [] → EachRow P (cond b (h, trailing position) (long_or_other s.rules waiting word (long_of word) h)).0.rows
+      dashes : (b : Bool) → cond b [] (flag_word_fault s.rules s.args_override_self (long_of word) word h) ≡ []
+          → EachRow P (cond b (h, trailing position) (long_or_other s.rules waiting word (long_of word) h)).0.rows
       dashes true e = each_held
       dashes false e = flag (long_of word) e
 
@@ -198,14 +220,17 @@ module _ (s : Shape) (P : Text → Reading → Text → Type 0)
   unfolding walked
   turn_kept names w word e each_held = go w.stopped e
     where
-      go : (o : Option (Text × List Text)) → cond (is_some o) [] (or_else (word_fault s names w.is_trailing w.waiting word w.held) (step_fault s w.position (met_by names w word).0 (met_by names w word).1)) ≡ []
+      go : (o : Option (Text × List Text))
+          → cond (is_some o) [] (or_else (word_fault s names w.is_trailing w.waiting word w.held)
+          (step_fault s w.position (met_by names w word).0 (met_by names w word).1)) ≡ []
           → EachRow P (walked_from s.rules names o w word).held.rows
       go (Some p) e = each_held
       go None e =
           let parts = none_of (word_fault s names w.is_trailing w.waiting word w.held) _ e in
           step_kept w word (met_by names w word).0 (met_by names w word).1 parts.1 (word_kept names w.is_trailing w.waiting w.position word w.held parts.0 each_held)
 
-  pub walk_kept : (names : Names) (words : List Text) (w : Walk) → walk_fault s names w words ≡ [] → EachRow P w.held.rows → EachRow P (fold (walked s.rules names) w words).held.rows
+  pub walk_kept : (names : Names) (words : List Text) (w : Walk) → walk_fault s names w words ≡ [] → EachRow P w.held.rows
+      → EachRow P (fold (walked s.rules names) w words).held.rows
   unfolding walk_fault
   walk_kept names [] w e each_held = each_held
   walk_kept names (word ∷ rest) w e each_held =
@@ -227,7 +252,8 @@ module _ (s : Shape) (P : Text → Reading → Text → Type 0)
           let first = (none_of (value_kinds a.ignore_case (parser_of_value a.parser) v) _ values).0 in
           with_kept P a.id (reading_by a) _ v vs rows (each a of v (passed _ _ first)) each_held
 
-  pub defaults_kept : (xs : List Rule) → ((a : Rule) → IsIn a xs → IsIn a s.rules) → (rows : List Row) → defaults_fault rows xs ≡ [] → EachRow P rows → EachRow P (fold with_default rows xs)
+  pub defaults_kept : (xs : List Rule) → ((a : Rule) → IsIn a xs → IsIn a s.rules) → (rows : List Row) → defaults_fault rows xs ≡ []
+      → EachRow P rows → EachRow P (fold with_default rows xs)
   unfolding defaults_fault
   defaults_kept [] of rows e each_held = each_held
   defaults_kept (x ∷ xs) of rows e each_held =

@@ -146,10 +146,36 @@ unfoldable pub request_of : List Text → Option RequestValues
 request_of words = if is_taken words then asked_of (subcommand_of dpl_app words) else None
 
 abbrev pub split_view : SplitOptions → SplitValues
-split_view s = record { layer = s.layer; datatype = s.datatype; rule = s.rule; overlap = s.overlap; top = option_map (λ t. t.now) s.top; a = s.a; b = s.b; tile = s.tile; workers = s.workers; input = s.input.now; output = s.output.now; certificate = s.certificate.now }
+split_view s = record {
+  layer = s.layer;
+  datatype = s.datatype;
+  rule = s.rule;
+  overlap = s.overlap;
+  top = option_map
+      (λ t. t.now) s.top;
+  a = s.a;
+  b = s.b;
+  tile = s.tile;
+  workers = s.workers;
+  input = s.input.now;
+  output = s.output.now;
+  certificate = s.certificate.now;
+}
 
 abbrev pub check_view : CheckOptions → CheckValues
-check_view s = record { layer = s.layer; datatype = s.datatype; rule = s.rule; overlap = s.overlap; top = option_map (λ t. t.now) s.top; a = s.a; b = s.b; input = s.input.now; output = s.output.now; certificate = s.certificate.now }
+check_view s = record {
+  layer = s.layer;
+  datatype = s.datatype;
+  rule = s.rule;
+  overlap = s.overlap;
+  top = option_map
+      (λ t. t.now) s.top;
+  a = s.a;
+  b = s.b;
+  input = s.input.now;
+  output = s.output.now;
+  certificate = s.certificate.now;
+}
 
 abbrev pub demo_view : DemoOptions → DemoValues
 demo_view s = record { seed = s.seed; rows = s.rows; tile = s.tile; workers = s.workers }

@@ -68,7 +68,8 @@ pub kept-union : (rule overlap : ℕ) (parts : List (List Rect)) (k : ℕ) (othe
     → IsKeptZone rule overlap (layer_of (get_or parts k []) others) (Covers (get_or parts k [])) z ↔ IsKeptZone rule overlap (union_of parts) (part_at parts k) z
 kept-union rule overlap parts k others k_in h z = (
   kept-as rule overlap (layer_of (get_or parts k []) others) (union_of parts) (Covers (get_or parts k [])) (layer-is_union parts k others k_in h) z,
-  kept-as rule overlap (union_of parts) (layer_of (get_or parts k []) others) (Covers (get_or parts k [])) (same_back (layer_of (get_or parts k []) others) (union_of parts) (layer-is_union parts k others k_in h)) z,
+  kept-as rule overlap (union_of parts) (layer_of (get_or parts k []) others) (Covers (get_or parts k []))
+      (same_back (layer_of (get_or parts k []) others) (union_of parts) (layer-is_union parts k others k_in h)) z,
 )
 
 pub same_zone : (z w : Zone) → z.rect ≡ w.rect → z.feature ≡ w.feature → z ≡ w
@@ -94,7 +95,8 @@ first-more zs i k new base old i_in is number h z = (
   ],
 )
 
-pub feature-all : (rule overlap : ℕ) (parts : List (List Rect)) (k : ℕ) (others zs : List Rect) (n : ℕ) (base new : List Zone) → k < length parts → AreOthers parts k (length parts) others → length zs ≤ n
+pub feature-all : (rule overlap : ℕ) (parts : List (List Rect)) (k : ℕ) (others zs : List Rect) (n : ℕ) (base new : List Zone)
+    → k < length parts → AreOthers parts k (length parts) others → length zs ≤ n
     → ((z : Rect) → Contains zs z ↔ IsKeptZone rule overlap (layer_of (get_or parts k []) others) (Covers (get_or parts k [])) z)
     → ((z : Zone) → Contains new z ↔ (Contains base z ⊎ ((z.feature ≡ k) × FirstOf zs n z.rect)))
     → (z : Zone) → Contains new z ↔ (Contains base z ⊎ ((z.feature ≡ k) × IsPartZone rule overlap parts z))

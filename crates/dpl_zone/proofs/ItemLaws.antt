@@ -1,5 +1,6 @@
 -- The rectangles of a tree.
-use Rattle.std.proofs.Common.{◌≡◌, ◌≢◌, ℕ, zero, suc, ◌<◌, ◌⊎◌, inl, inr, Bool, true, false, not, cond, ◌==◌, List, [], ◌∷◌, length, get_or, map, sym, refl, ap, ◌∙◌, subst, arith, rules}
+use Rattle.std.proofs.Common.{◌≡◌, ◌≢◌, ℕ, zero, suc, ◌<◌, ◌⊎◌, inl, inr, Bool, true, false, not, cond, ◌==◌, List, [], ◌∷◌, length, get_or}
+use Rattle.std.proofs.Common.{map, sym, refl, ap, ◌∙◌, subst, arith, rules}
 use Rattle.std.specs.List.{Contains}
 use Rattle.std.proofs.lemmas.List.{get_or_default, length-map}
 use Rattle.dpl_spec_split.specs.declared.Rect.{Rect}
@@ -102,7 +103,8 @@ turned-own own (item ∷ items) = turned-cond (item.owner == own) item.rect (own
 
 -- the others' rectangles in the tree with x and y exchanged, turned back
 pub others-back : (items across : List Item) (own : ℕ) → across ≡ map turned_item items → map turned_rect (others_in across own) ≡ others_in items own
-others-back items across own e = ap (λ t. let s : List Item = t in map turned_rect (others_in s own)) e ∙ (ap (λ t. let s : List Rect = t in map turned_rect s) (turned-others own items) ∙ turned-back (others_in items own))
+others-back items across own e = ap (λ t. let s : List Item = t in map turned_rect (others_in s own)) e
+    ∙ (ap (λ t. let s : List Rect = t in map turned_rect s) (turned-others own items) ∙ turned-back (others_in items own))
 
 pub turned-items : (items across : List Item) → across ≡ map turned_item items → AreItemsWithin items → AreItemsWithin across
 turned-items items across e within r k has = turned-one (rw e at has)

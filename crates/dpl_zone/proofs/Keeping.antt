@@ -103,7 +103,8 @@ apart-added kept items z free w = (
   λ h. elim h [ inl a ↦ Contains-append_left kept (z ∷ []) w a | inr (e, f) ↦ subst (λ u. Contains (kept ++ z ∷ []) u) e (Contains-push kept z) ],
 )
 
-pub apart-none : (kept : List Rect) (items : List Item) (z : Rect) → ((h : Rect) × (k : ℕ) × HasItem items h k × AreTouching (Has h) (Has z)) → AddsZones (λ w. (z ≡ w) × TouchesNone items w) kept kept
+pub apart-none : (kept : List Rect) (items : List Item) (z : Rect)
+    → ((h : Rect) × (k : ℕ) × HasItem items h k × AreTouching (Has h) (Has z)) → AddsZones (λ w. (z ≡ w) × TouchesNone items w) kept kept
 apart-none kept items z (h, k, has, touch) w = (
   λ a. inl a,
   λ a. elim a [ inl b ↦ b | inr (e, f) ↦ absurd (f h k has (subst (λ u. AreTouching (Has h) (Has u)) e touch)) ],
@@ -159,13 +160,16 @@ joined-no_flat flat zs none w = (
 pub joined-no_upright : (flat zs : List Rect) → length zs ≡ 0 → (w : Rect) → Contains flat w ↔ (Contains flat w ⊎ (Contains zs w × (TouchesAny flat w → ⊥)))
 joined-no_upright flat zs none w = (λ h. inl h, λ h. elim h [ inl a ↦ a | inr ((i, i_in, i_is), free) ↦ absurd (omega (arith, i_in, none)) ])
 
-pub joined-all : (flat zs kept : List Rect) (n : ℕ) → length zs ≤ n → ((w : Rect) → Contains kept w ↔ (Contains flat w ⊎ KeptOf flat zs n w)) → (w : Rect) → Contains kept w ↔ (Contains flat w ⊎ (Contains zs w × (TouchesAny flat w → ⊥)))
+pub joined-all : (flat zs kept : List Rect) (n : ℕ) → length zs ≤ n
+    → ((w : Rect) → Contains kept w ↔ (Contains flat w ⊎ KeptOf flat zs n w)) → (w : Rect)
+    → Contains kept w ↔ (Contains flat w ⊎ (Contains zs w × (TouchesAny flat w → ⊥)))
 joined-all flat zs kept n all h w = (
   λ a. elim ((h w).0 a) [ inl b ↦ inl b | inr (k, l, k_in, k_is, free) ↦ inr ((k, k_in, k_is), free) ],
   λ a. (h w).1 (elim a [ inl b ↦ inl b | inr ((k, k_in, k_is), free) ↦ inr (k, omega (arith, all, k_in), k_in, k_is, free) ]),
 )
 
-pub kept-all : (rule overlap : ℕ) (l f : Region) (flat zs kept : List Rect) → ((z : Rect) → Contains flat z ↔ IsHorizontalZone rule overlap l f z) → ((z : Rect) → Contains zs z ↔ IsVerticalZone rule overlap l f z)
+pub kept-all : (rule overlap : ℕ) (l f : Region) (flat zs kept : List Rect)
+    → ((z : Rect) → Contains flat z ↔ IsHorizontalZone rule overlap l f z) → ((z : Rect) → Contains zs z ↔ IsVerticalZone rule overlap l f z)
     → ((w : Rect) → Contains kept w ↔ (Contains flat w ⊎ (Contains zs w × (TouchesAny flat w → ⊥)))) → (z : Rect) → Contains kept z ↔ IsKeptZone rule overlap l f z
 kept-all rule overlap l f flat zs kept is_flat is_upright h z = (
   λ a. elim ((h z).0 a) [
@@ -179,6 +183,8 @@ kept-all rule overlap l f flat zs kept is_flat is_upright h z = (
 )
 
 -- the same horizontal zones beside the same others
-pub flat-as : (rule overlap : ℕ) (rects xs others flat : List Rect) → xs ≡ others → ((z : Rect) → Contains flat z ↔ IsHorizontalZone rule overlap (layer_of rects xs) (Covers rects) z)
+pub flat-as : (rule overlap : ℕ) (rects xs others flat : List Rect) → xs ≡ others
+    → ((z : Rect) → Contains flat z ↔ IsHorizontalZone rule overlap (layer_of rects xs) (Covers rects) z)
     → (z : Rect) → Contains flat z ↔ IsHorizontalZone rule overlap (layer_of rects others) (Covers rects) z
-flat-as rule overlap rects xs others flat e h = subst (λ t. let s : List Rect = t in (z : Rect) → Contains flat z ↔ IsHorizontalZone rule overlap (layer_of rects s) (Covers rects) z) e h
+flat-as rule overlap rects xs others flat e h = subst (λ t. let s : List Rect = t in
+    (z : Rect) → Contains flat z ↔ IsHorizontalZone rule overlap (layer_of rects s) (Covers rects) z) e h

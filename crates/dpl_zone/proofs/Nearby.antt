@@ -98,7 +98,8 @@ module _ (rule : ℕ) (slab window : Rect) (items : List Item) (own : ℕ) (wide
         ];
       })
 
-pub searched-all : (rule : ℕ) (slab : Rect) (items : List Item) (own n : ℕ) (near : List ℕ) → length items ≤ n → IsSearched rule slab items own n near → HasAllNear rule slab items own near
+pub searched-all : (rule : ℕ) (slab : Rect) (items : List Item) (own n : ℕ) (near : List ℕ) → length items ≤ n
+    → IsSearched rule slab items own n near → HasAllNear rule slab items own near
 searched-all rule slab items own n near end s =
     record { numbers = s.numbers; others = s.others; all = λ j d j_in. s.all j d (omega (arith, end, j_in)) j_in }
 
@@ -109,7 +110,8 @@ beyond-turned rule slab r (inr (inl h)) = inr (inr (inr h))
 beyond-turned rule slab r (inr (inr (inl h))) = inl h
 beyond-turned rule slab r (inr (inr (inr h))) = inr (inl h)
 
-pub near-turned : (rule : ℕ) (slab : Rect) (items across : List Item) (own : ℕ) (near : List ℕ) → across ≡ map turned_item items → HasAllNear rule slab items own near → HasAllNear rule (turned_rect slab) across own near
+pub near-turned : (rule : ℕ) (slab : Rect) (items across : List Item) (own : ℕ) (near : List ℕ) → across ≡ map turned_item items
+    → HasAllNear rule slab items own near → HasAllNear rule (turned_rect slab) across own near
 near-turned rule slab items across own near e h =
     rw e
     (record {
@@ -125,7 +127,8 @@ near-turned rule slab items across own near e h =
 pub dark-near : (rule : ℕ) (slab : Rect) (items : List Item) (own : ℕ) (near : List ℕ) (y : ℤ) → HasAllNear rule slab items own near → slab.y0 ≤ℤ y → y <ℤ slab.y1
     → IsDarkBy rule items near slab y ↔ IsDark rule (others_in items own) slab y
 dark-near rule slab items own near y h low high = (
-  λ (n, c, shade). (let (m, m_in, m_is) = in-others items own (get_or items n zero_item).rect (get_or items n zero_item).owner (h.others n zero_item c) (item-at items n zero_item (h.numbers n c)) in
+  λ (n, c, shade). (let (m, m_in, m_is) = in-others items own (get_or items n zero_item).rect (get_or items n zero_item).owner
+      (h.others n zero_item c) (item-at items n zero_item (h.numbers n c)) in
       (m, (get_or items n zero_item).rect, m_in, m_is, shade zero_item)),
   λ (m, r, m_in, m_is, shade). (let (k, ne, (item, (j, j_in, is), e, f)) = others-in items own r (m, m_in, m_is) in
       let here : (d : Item) → item ≡ get_or items j d = λ d. sym is ∙ get_or_default items j item d j_in in
@@ -138,7 +141,8 @@ dark-near rule slab items own near y h low high = (
       ]),
 )
 
-pub rows-near : (rule : ℕ) (slab : Rect) (items : List Item) (own : ℕ) (near : List ℕ) (spans : List Span) → HasAllNear rule slab items own near → ((y : ℤ) → slab.y0 ≤ℤ y → y <ℤ slab.y1 → SomeRow spans y ↔ IsDarkBy rule items near slab y)
+pub rows-near : (rule : ℕ) (slab : Rect) (items : List Item) (own : ℕ) (near : List ℕ) (spans : List Span)
+    → HasAllNear rule slab items own near → ((y : ℤ) → slab.y0 ≤ℤ y → y <ℤ slab.y1 → SomeRow spans y ↔ IsDarkBy rule items near slab y)
     → (y : ℤ) → slab.y0 ≤ℤ y → y <ℤ slab.y1 → SomeRow spans y ↔ IsDark rule (others_in items own) slab y
 rows-near rule slab items own near spans h rows y low high =
     let a = rows y low high in
@@ -153,16 +157,25 @@ DarkFirst rule items near i slab y = (k : ℕ) × (k < i) × (k < length near) �
 pub first-none : (rule : ℕ) (items : List Item) (near : List ℕ) (slab : Rect) (spans : List Span) → spans ≡ [] → (y : ℤ) → SomeRow spans y ↔ DarkFirst rule items near 0 slab y
 first-none rule items near slab spans none y = rw none ((λ (k, s, k_in, k_is, has). absurd (omega (arith, k_in))), (λ (k, l, k_in, shade). absurd (omega (arith, l))))
 
-pub first-more : (rule : ℕ) (items : List Item) (near : List ℕ) (i : ℕ) (slab r : Rect) (old new : List Span) → i < length near → ((d : Item) → r ≡ (get_or items (get_or near i 0) d).rect)
+pub first-more : (rule : ℕ) (items : List Item) (near : List ℕ) (i : ℕ) (slab r : Rect) (old new : List Span) → i < length near
+    → ((d : Item) → r ≡ (get_or items (get_or near i 0) d).rect)
     → ((y : ℤ) → SomeRow new y ↔ (SomeRow old y ⊎ IsShaded rule slab r y)) → ((y : ℤ) → SomeRow old y ↔ DarkFirst rule items near i slab y)
     → (y : ℤ) → SomeRow new y ↔ DarkFirst rule items near (i + 1) slab y
 first-more rule items near i slab r old new i_in is step before y = (
   λ h. elim ((step y).0 h) [
     | inl a ↦ (let (k, l, k_in, shade) = (before y).0 a in (k, omega (arith, l), k_in, shade))
-    | inr shade ↦ (i, omega arith, i_in, λ e d. subst (λ m. IsShaded rule slab (get_or items m d).rect y) (get_or_default near i 0 e i_in) (subst (λ u. IsShaded rule slab u y) (is d) shade))
+    | inr shade ↦ (
+      i,
+      omega arith,
+      i_in,
+      λ e d. subst (λ m. IsShaded rule slab (get_or items m d).rect y) (get_or_default near i 0 e i_in)
+          (subst (λ u. IsShaded rule slab u y) (is d) shade),
+    )
   ],
   λ (k, l, k_in, shade). elim (cases_eq k i) [
-    | inl same ↦ (step y).1 (inr (subst (λ u. IsShaded rule slab u y) (sym (is zero_item)) (subst (λ m. IsShaded rule slab (get_or items (get_or near m 0) zero_item).rect y) same (shade 0 zero_item))))
+    | inl same ↦ (step y).1
+        (inr (subst (λ u. IsShaded rule slab u y) (sym (is zero_item))
+        (subst (λ m. IsShaded rule slab (get_or items (get_or near m 0) zero_item).rect y) same (shade 0 zero_item))))
     | inr ne ↦ (step y).1 (inl ((before y).1 (k, omega (arith, l, ne), k_in, shade)))
   ],
 )
@@ -171,14 +184,21 @@ first-dark : (rule : ℕ) (items : List Item) (near : List ℕ) (i : ℕ) (slab 
 first-dark rule items near i slab y (k, l, k_in, shade) = (get_or near k 0, (k, k_in, get_or_default near k (get_or near k 0) 0 k_in), shade 0)
 
 -- the spans have all rows of the slab
-pub first-covered : (rule : ℕ) (items : List Item) (near : List ℕ) (i : ℕ) (slab : Rect) (spans : List Span) → ((y : ℤ) → SomeRow spans y ↔ DarkFirst rule items near i slab y) → ((y : ℤ) → slab.y0 ≤ℤ y → y <ℤ slab.y1 → SomeRow spans y)
+pub first-covered : (rule : ℕ) (items : List Item) (near : List ℕ) (i : ℕ) (slab : Rect) (spans : List Span)
+    → ((y : ℤ) → SomeRow spans y ↔ DarkFirst rule items near i slab y) → ((y : ℤ) → slab.y0 ≤ℤ y → y <ℤ slab.y1 → SomeRow spans y)
     → (y : ℤ) → slab.y0 ≤ℤ y → y <ℤ slab.y1 → SomeRow spans y ↔ IsDarkBy rule items near slab y
 first-covered rule items near i slab spans rows all y low high = (λ h. first-dark rule items near i slab y ((rows y).0 h), λ h. all y low high)
 
-pub first-all : (rule : ℕ) (items : List Item) (near : List ℕ) (i : ℕ) (slab : Rect) (spans : List Span) → length near ≤ i → ((y : ℤ) → SomeRow spans y ↔ DarkFirst rule items near i slab y) → (y : ℤ) → SomeRow spans y ↔ IsDarkBy rule items near slab y
+pub first-all : (rule : ℕ) (items : List Item) (near : List ℕ) (i : ℕ) (slab : Rect) (spans : List Span) → length near ≤ i
+    → ((y : ℤ) → SomeRow spans y ↔ DarkFirst rule items near i slab y) → (y : ℤ) → SomeRow spans y ↔ IsDarkBy rule items near slab y
 first-all rule items near i slab spans end rows y = (
   λ h. first-dark rule items near i slab y ((rows y).0 h),
-  λ (n, (k, k_in, is), shade). (rows y).1 (k, omega (arith, end, k_in), k_in, λ e d. subst (λ m. IsShaded rule slab (get_or items m d).rect y) (sym is ∙ get_or_default near k n e k_in) (shade d)),
+  λ (n, (k, k_in, is), shade). (rows y).1 (
+    k,
+    omega (arith, end, k_in),
+    k_in,
+    λ e d. subst (λ m. IsShaded rule slab (get_or items m d).rect y) (sym is ∙ get_or_default near k n e k_in) (shade d),
+  ),
 )
 
 pub number-near : (items : List Item) (near : List ℕ) (i : ℕ) → AreNumbers items near → i < length near → get_or near i 0 < length items

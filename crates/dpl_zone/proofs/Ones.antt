@@ -34,7 +34,8 @@ short-of : (rule overlap : ℕ) (own others : List Rect) (s : Rect) (zs : List R
 short-of rule overlap own others s zs none short = added-to_none (IsSlabZone rule overlap own others s) zs zs none (short-none rule overlap own others s zs short)
 
 -- a slab that is the whole feature goes on beyond no span that ends where the slab does
-unlit-none : (rule overlap : ℕ) (own others : List Rect) (s z : Rect) → AllIn own s → ((y : ℤ) → s.y0 ≤ℤ y → y <ℤ s.y1 → IsDark rule others s y → ⊥) → IsSlabZone rule overlap own others s z → ⊥
+unlit-none : (rule overlap : ℕ) (own others : List Rect) (s z : Rect) → AllIn own s
+    → ((y : ℤ) → s.y0 ≤ℤ y → y <ℤ s.y1 → IsDark rule others s y → ⊥) → IsSlabZone rule overlap own others s z → ⊥
 unlit-none rule overlap own others s z all light h =
     let g : Span = h.g in
     let some = h.lit.some in
@@ -44,7 +45,8 @@ unlit-none rule overlap own others s z all light h =
       | inr b ↦ nothing-outside own s (s.y0 -ℤ pos 1) (inl (omega (arith, ints))) all b
     ]
 
-lonely-of : (rule overlap : ℕ) (items : List Item) (k : ℕ) (near : List ℕ) (own : List Rect) (s : Rect) (zs : List Rect) → AllIn own s → HasAllNear rule s items k near → near ≡ [] → zs ≡ [] → OfSlab rule overlap own (others_in items k) s zs
+lonely-of : (rule overlap : ℕ) (items : List Item) (k : ℕ) (near : List ℕ) (own : List Rect) (s : Rect) (zs : List Rect) → AllIn own s
+    → HasAllNear rule s items k near → near ≡ [] → zs ≡ [] → OfSlab rule overlap own (others_in items k) s zs
 lonely-of rule overlap items k near own s zs all h none empty z =
     rw empty (
       (λ (i, i_in, is). absurd (omega (arith, i_in))),
@@ -81,7 +83,8 @@ all-in part own others s one p in_own =
     let (k, r, k_in, is, has) = (one.same p).1 in_own in
     subst (λ u. Has u p) (sym (is-first part own others s one k r k_in is)) has
 
-upright-one : (rule overlap : ℕ) (part own others : List Rect) (s : Rect) → IsOne part own others s → (zs : List Rect) → OfSlab rule overlap own others s zs → (z : Rect) → Contains zs z ↔ IsVerticalZone rule overlap (layer_of part others) (Covers part) z
+upright-one : (rule overlap : ℕ) (part own others : List Rect) (s : Rect) → IsOne part own others s → (zs : List Rect)
+    → OfSlab rule overlap own others s zs → (z : Rect) → Contains zs z ↔ IsVerticalZone rule overlap (layer_of part others) (Covers part) z
 upright-one rule overlap part own others s one zs h =
     let size = one.size in
     zones-of_covered rule overlap part own others one.canonical one.within one.same one.apart zs (λ z. (
@@ -89,7 +92,8 @@ upright-one rule overlap part own others s one zs h =
       (λ (t, (k, k_in, is), zone). (h z).1 (subst (λ u. IsSlabZone rule overlap own others u z) (sym (is-first part own others s one k t k_in is)) zone)),
     ))
 
-one-turned : (part own others own' others' : List Rect) (s : Rect) → IsOne part own others s → own' ≡ map turned_rect own → others' ≡ map turned_rect others → AreWithin others' → IsOne (map turned_rect part) own' others' (turned_rect s)
+one-turned : (part own others own' others' : List Rect) (s : Rect) → IsOne part own others s → own' ≡ map turned_rect own
+    → others' ≡ map turned_rect others → AreWithin others' → IsOne (map turned_rect part) own' others' (turned_rect s)
 one-turned part own others own' others' s one own_is others_is within =
     let size = one.size in
     record {
@@ -102,7 +106,8 @@ one-turned part own others own' others' s one own_is others_is within =
     }
 
 -- a feature of one slab in a tree, and in the tree with x and y exchanged
-module _ (rule overlap : ℕ) (part rects : List Rect) (items across : List Item) (k : ℕ) (is : rects ≡ part) (size : length part ≡ 1) (canonical : IsCanonical part) (inside : AreItemsWithin items) (turn : across ≡ map turned_item items)
+module _ (rule overlap : ℕ) (part rects : List Rect) (items across : List Item) (k : ℕ) (is : rects ≡ part) (size : length part ≡ 1)
+    (canonical : IsCanonical part) (inside : AreItemsWithin items) (turn : across ≡ map turned_item items)
     (same : SameSquares (Covers part) (Covers (own_in items k))) (apart : (p : Pt) → Covers part p → Covers (others_in items k) p → ⊥) where
   abbrev pub slab : Rect
   slab = get_or rects 0 zero_rect
@@ -121,7 +126,8 @@ module _ (rule overlap : ℕ) (part rects : List Rect) (items across : List Item
   across-items = turned-items items across turn inside
 
   column : IsOne (map turned_rect part) (own_in across k) (others_in across k) (turned_rect slab)
-  column = one-turned part (own_in items k) (others_in items k) (own_in across k) (others_in across k) slab one (own-turned_in items across k turn) (others-turned_in items across k turn) (others-within across k across-items)
+  column = one-turned part (own_in items k) (others_in items k) (own_in across k) (others_in across k) slab one
+      (own-turned_in items across k turn) (others-turned_in items across k turn) (others-within across k across-items)
 
   pub slab-whole : AllIn (own_in items k) slab
   slab-whole = all-in part (own_in items k) (others_in items k) slab one
@@ -129,24 +135,29 @@ module _ (rule overlap : ℕ) (part rects : List Rect) (items across : List Item
   pub column-whole : AllIn (own_in across k) (turned_rect slab)
   column-whole = all-in (map turned_rect part) (own_in across k) (others_in across k) (turned_rect slab) column
 
-  pub found-one : (found : Found) (flat : List Rect) → OfSlab rule overlap (own_in items k) (others_in items k) slab found.upright.items → OfSlab rule overlap (own_in across k) (others_in across k) (turned_rect slab) flat
+  pub found-one : (found : Found) (flat : List Rect) → OfSlab rule overlap (own_in items k) (others_in items k) slab found.upright.items
+      → OfSlab rule overlap (own_in across k) (others_in across k) (turned_rect slab) flat
       → found.flat.items ≡ map turned_rect flat → AreFound rule overlap (layer_of part (others_in items k)) (Covers part) found
   found-one found flat upright_is flat_is turned_is =
       record {
         flat = flat-from_upright rule overlap part (others_in items k) (map turned_rect part) flat found.flat.items (turned-covers part)
-            (subst (λ t. let os : List Rect = t in (z : Rect) → Contains flat z ↔ IsVerticalZone rule overlap (layer_of (map turned_rect part) os) (Covers (map turned_rect part)) z) (others-turned_in items across k turn)
+            (subst (λ t. let os : List Rect = t in
+            (z : Rect) → Contains flat z ↔ IsVerticalZone rule overlap (layer_of (map turned_rect part) os)
+            (Covers (map turned_rect part)) z) (others-turned_in items across k turn)
             (upright-one rule overlap (map turned_rect part) (own_in across k) (others_in across k) (turned_rect slab) column flat flat_is)) turned_is;
         upright = upright-one rule overlap part (own_in items k) (others_in items k) slab one found.upright.items upright_is;
       }
 
   -- too few rows and columns
-  pub found-small : (found : Found) → found.flat.items ≡ [] → found.upright.items ≡ [] → slab.y1 <ℤ (slab.y0 +ℤ pos (overlap + 2)) → slab.x1 <ℤ (slab.x0 +ℤ pos (overlap + 2)) → AreFound rule overlap (layer_of part (others_in items k)) (Covers part) found
+  pub found-small : (found : Found) → found.flat.items ≡ [] → found.upright.items ≡ [] → slab.y1 <ℤ (slab.y0 +ℤ pos (overlap + 2))
+      → slab.x1 <ℤ (slab.x0 +ℤ pos (overlap + 2)) → AreFound rule overlap (layer_of part (others_in items k)) (Covers part) found
   found-small found flat_is upright_is rows columns =
       found-one found [] (short-of rule overlap (own_in items k) (others_in items k) slab found.upright.items upright_is rows)
       (short-of rule overlap (own_in across k) (others_in across k) (turned_rect slab) [] refl columns) flat_is
 
   -- nothing near
-  pub found-lonely : (found : Found) (near : List ℕ) → found.flat.items ≡ [] → found.upright.items ≡ [] → HasAllNear rule slab items k near → near ≡ [] → AreFound rule overlap (layer_of part (others_in items k)) (Covers part) found
+  pub found-lonely : (found : Found) (near : List ℕ) → found.flat.items ≡ [] → found.upright.items ≡ [] → HasAllNear rule slab items k near
+      → near ≡ [] → AreFound rule overlap (layer_of part (others_in items k)) (Covers part) found
   found-lonely found near flat_is upright_is h none =
       found-one found [] (lonely-of rule overlap items k near (own_in items k) slab found.upright.items slab-whole h none upright_is)
       (lonely-of rule overlap across k near (own_in across k) (turned_rect slab) [] column-whole (near-turned rule slab items across k near turn h) none refl) flat_is

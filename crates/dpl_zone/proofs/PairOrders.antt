@@ -28,7 +28,8 @@ pairs-rise key xs h i j d l within =
     (sorted_far (λ a b. is_lt (pair_cmp (key a) (key b))) (ranks_by (then_total (on_total (λ t. t.0) int_cmp_total) (on_total (λ t. t.1) int_cmp_total)) key) xs h i j d l within)
 
 -- a list that a sort by one signed key left rises by that key
-pub rise-from_sorted : {X : Type 0} (key : X → ℤ) (xs : List X) → IsSortedByKey key int_cmp xs → (i j : ℕ) (d : X) → i ≤ j → j < length xs → key (get_or xs i d) ≤ℤ key (get_or xs j d)
+pub rise-from_sorted : {X : Type 0} (key : X → ℤ) (xs : List X) → IsSortedByKey key int_cmp xs → (i j : ℕ) (d : X) → i ≤ j → j < length xs
+    → key (get_or xs i d) ≤ℤ key (get_or xs j d)
 rise-from_sorted key xs h i j d l within =
     at_most (key (get_or xs j d)) (key (get_or xs i d)) (int_cmp (key (get_or xs j d)) (key (get_or xs i d))) refl
     (sorted_far (λ a b. is_lt (int_cmp (key a) (key b))) (ranks_by int_cmp_total key) xs h i j d l within)

@@ -56,7 +56,8 @@ module _ (items : List Item) (window : Rect) (owners : Owners) (n : ℕ) (sought
   found_overlap d l = overlap window (get_or items n d).rect (λ h. sought.found d l (inl h))
 
 -- a column of the slab, or one beside it, at which the rectangle has the row
-shared : (s r : Rect) (y : ℤ) → IsSolidWithin farthest s → IsSolidWithin farthest r → (s.x0 -ℤ pos 1) <ℤ r.x1 → r.x0 <ℤ (s.x1 +ℤ pos 1) → r.y0 ≤ℤ y → y <ℤ r.y1 → (x : ℤ) × ((s.x0 -ℤ pos 1) ≤ℤ x) × (x ≤ℤ s.x1) × Has r (at x y)
+shared : (s r : Rect) (y : ℤ) → IsSolidWithin farthest s → IsSolidWithin farthest r → (s.x0 -ℤ pos 1) <ℤ r.x1 → r.x0 <ℤ (s.x1 +ℤ pos 1)
+    → r.y0 ≤ℤ y → y <ℤ r.y1 → (x : ℤ) × ((s.x0 -ℤ pos 1) ≤ℤ x) × (x ≤ℤ s.x1) × Has r (at x y)
 shared s r y solid within a b c d =
     let wide = solid.wide in
     let own = within.wide in
@@ -95,7 +96,13 @@ module _ (items : List Item) (own : ℕ) (s : Rect) (y : ℤ) (window : Rect) (n
       let h1 = has.right in
       let h2 = has.low in
       let h3 = has.high in
-      let o : Overlaps window r = record { left = omega (arith, ints, e0, a, h1); right = omega (arith, ints, e1, b, h0); low = omega (arith, ints, e2, h3); high = omega (arith, ints, e3, h2) } in
+      let o : Overlaps window r = record {
+        left = omega (arith, ints, e0, a, h1);
+        right = omega (arith, ints, e1, b, h0);
+        low = omega
+            (arith, ints, e2, h3);
+        high = omega (arith, ints, e3, h2);
+      } in
       item_found items window (Only own) n sought r own mine (λ item e f missed. elim missed [
         | inl h ↦ not_apart window r o (subst (λ t. LiesApart window t) e h)
         | inr h ↦ h f
@@ -115,10 +122,30 @@ record AreClosePair (a0 a1 b0 b1 : ℤ) : Type 0 where
 close_pair : (a0 a1 b0 b1 : ℤ) → a0 <ℤ a1 → b0 <ℤ b1 → a0 ≤ℤ b1 → b0 ≤ℤ a1 → AreClosePair a0 a1 b0 b1
 close_pair a0 a1 b0 b1 a b c d =
     by_lt_z a0 b0
-    (λ l. record { i = b0 -ℤ pos 1; j = b0; i_from = omega (arith, ints, l); i_below = omega (arith, ints, d); j_from = omega (arith, ints); j_below = b; up = omega (arith, ints); down = omega (arith, ints) })
+    (λ l. record {
+      i = b0 -ℤ pos 1;
+      j = b0;
+      i_from = omega (arith, ints, l);
+      i_below = omega (arith, ints, d);
+      j_from = omega
+          (arith, ints);
+      j_below = b;
+      up = omega (arith, ints);
+      down = omega (arith, ints);
+    })
     (λ l. by_lt_z a0 b1
     (λ m. record { i = a0; j = a0; i_from = omega (arith, ints); i_below = a; j_from = l; j_below = m; up = omega (arith, ints); down = omega (arith, ints) })
-    (λ m. record { i = a0; j = b1 -ℤ pos 1; i_from = omega (arith, ints); i_below = a; j_from = omega (arith, ints, b); j_below = omega (arith, ints); up = omega (arith, ints, m); down = omega (arith, ints, c, m) }))
+    (λ m. record {
+      i = a0;
+      j = b1 -ℤ pos 1;
+      i_from = omega (arith, ints);
+      i_below = a;
+      j_from = omega (arith, ints, b);
+      j_below = omega
+          (arith, ints);
+      up = omega (arith, ints, m);
+      down = omega (arith, ints, c, m);
+    }))
 
 module _ (items : List Item) (z : Rect) (window : Rect) (n : ℕ) (within : AreItemsWithin items) (solid : IsSolidWithin farthest z)
     (wide : IsWidened z 1 window) (sought : IsSought items window All n) where

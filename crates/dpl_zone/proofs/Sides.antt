@@ -55,7 +55,8 @@ pub stand-apart : (rule overlap : ℕ) (layer : List Rect) (features : List (Lis
 stand-apart rule overlap layer features zones zs z w z_in w_in same t =
     let (n, kz) = (zs.exactly z).0 z_in in
     let (m, kw) = (zs.exactly w).0 w_in in
-    let kw' : IsKeptZone rule overlap (Covers layer) (part_at features z.feature) w.rect = subst (λ k. IsKeptZone rule overlap (Covers layer) (part_at features k) w.rect) (sym same) kw in
+    let kw' : IsKeptZone rule overlap (Covers layer) (part_at features z.feature) w.rect = subst
+    (λ k. IsKeptZone rule overlap (Covers layer) (part_at features k) w.rect) (sym same) kw in
     same_zone z w (kept-one rule overlap (Covers layer) (part_at features z.feature) z.rect w.rect kz kw' t) same
 
 -- what touches a component is in it
@@ -69,10 +70,12 @@ closed a parts k p q c k_in in_a has touch =
 module _ (rule overlap : ℕ) (layer : List Rect) (features pieces : List (List Rect)) (zones : List Zone) (some : 1 ≤ overlap) (c : AreComponents (Covers layer) features)
     (zs : AreZones rule overlap (Covers layer) features zones) (ps : AreComponents (without (Covers layer) zones) pieces) where
   -- a zone with a square of a feature is a zone of that feature
-  zone-of : (w : Zone) (k : ℕ) (p : Pt) → Contains zones w → k < length features → part_at features k p → Has w.rect p → IsKeptZone rule overlap (Covers layer) (part_at features k) w.rect
+  zone-of : (w : Zone) (k : ℕ) (p : Pt) → Contains zones w → k < length features → part_at features k p → Has w.rect p
+      → IsKeptZone rule overlap (Covers layer) (part_at features k) w.rect
   zone-of w k p w_in k_in in_k has =
       let (m_in, kept_m) = (zs.exactly w).0 w_in in
-      let same : w.feature ≡ k = part-unique (Covers layer) features w.feature k p c m_in k_in (kept-inside rule overlap (Covers layer) (part_at features w.feature) w.rect p kept_m has) in_k in
+      let same : w.feature ≡ k = part-unique (Covers layer) features w.feature k p c m_in k_in
+      (kept-inside rule overlap (Covers layer) (part_at features w.feature) w.rect p kept_m has) in_k in
       subst (λ n. IsKeptZone rule overlap (Covers layer) (part_at features n) w.rect) same kept_m
 
   in-layer : (k : ℕ) (p : Pt) → k < length features → part_at features k p → Covers layer p
@@ -84,15 +87,20 @@ module _ (rule overlap : ℕ) (layer : List Rect) (features pieces : List (List 
 
     own : (p q : Pt) → without (Covers layer) zones p → Has z.rect q → Touch p q → part_at features z.feature p
     own p q rest has touch =
-        closed (Covers layer) features z.feature p q c feature_in rest.0 (kept-inside rule overlap (Covers layer) (part_at features z.feature) z.rect q ((zs.exactly z).0 z_in).1 has) touch
+        closed (Covers layer) features z.feature p q c feature_in rest.0
+        (kept-inside rule overlap (Covers layer) (part_at features z.feature) z.rect q ((zs.exactly z).0 z_in).1 has) touch
 
     not-in-zone : (p : Pt) → without (Covers layer) zones p → Has z.rect p → ⊥
     not-in-zone p rest has = let (n, n_in, n_is) = z_in in rest.1 (n, z, n_in, n_is, has)
 
     -- in the rows of a horizontal zone the rest goes on beside it
-    rest-across : IsHorizontalZone rule overlap (Covers layer) (part_at features z.feature) z.rect → (x y i : ℤ) → Has z.rect (at i y) → ((x ≡ i -ℤ pos 1) × (i ≡ z.rect.x0)) ⊎ ((x ≡ i +ℤ pos 1) × (x ≡ z.rect.x1)) → without (Covers layer) zones (at x y)
+    rest-across : IsHorizontalZone rule overlap (Covers layer) (part_at features z.feature) z.rect → (x y i : ℤ) → Has z.rect (at i y)
+        → ((x ≡ i -ℤ pos 1) × (i ≡ z.rect.x0)) ⊎ ((x ≡ i +ℤ pos 1) × (x ≡ z.rect.x1)) → without (Covers layer) zones (at x y)
     rest-across h x y i has side =
-        let left : z.rect.x0 ≤ℤ (x +ℤ pos 1) = elim side [ inl e ↦ (let a = e.0 in let b = e.1 in omega (arith, ints, a, b)) | inr e ↦ (let a = e.0 in let b = has.left in omega (arith, ints, a, b)) ] in
+        let left : z.rect.x0 ≤ℤ (x +ℤ pos 1) = elim side [
+          | inl e ↦ (let a = e.0 in let b = e.1 in omega (arith, ints, a, b))
+          | inr e ↦ (let a = e.0 in let b = has.left in omega (arith, ints, a, b))
+        ] in
         let right : x ≤ℤ z.rect.x1 = elim side [ inl e ↦ (let a = e.0 in let b = has.right in omega (arith, ints, a, b)) | inr e ↦ (let a = e.1 in omega (arith, ints, a)) ] in
         let close : Touch (at i y) (at x y) = elim side [
           | inl e ↦ (let a = e.0 in Touch-from_close (at i y) (at x y) (omega (arith, ints, a)) (omega (arith, ints, a)) (omega (arith, ints)) (omega (arith, ints)))
@@ -103,16 +111,23 @@ module _ (rule overlap : ℕ) (layer : List Rect) (features pieces : List (List 
           λ (n, w, n_in, n_is, w_has). elim (zone-of w z.feature (at x y) (n, n_in, n_is) feature_in in_f w_has) [
             | inl k ↦ (let same : z.rect ≡ w.rect = beside-same rule (Covers layer) (part_at features z.feature) overlap z.rect w.rect h k x y left right has.low has.high w_has in
                 let mine : Has z.rect (at x y) = subst (λ r. Has r (at x y)) (sym same) w_has in
-                elim side [ inl e ↦ (let a = e.0 in let b = e.1 in let m = mine.left in omega (arith, ints, a, b, m)) | inr e ↦ (let a = e.1 in let m = mine.right in omega (arith, ints, a, m)) ])
+                elim side [
+                  | inl e ↦ (let a = e.0 in let b = e.1 in let m = mine.left in omega (arith, ints, a, b, m))
+                  | inr e ↦ (let a = e.1 in let m = mine.right in omega (arith, ints, a, m))
+                ])
             | inr (v, apart) ↦ apart z.rect h (at i y, at x y, has, w_has, close)
           ],
         )
 
     -- in the columns of a vertical zone the rest goes on below and above it
-    rest-up : IsVerticalZone rule overlap (Covers layer) (part_at features z.feature) z.rect → ((r : Rect) → IsHorizontalZone rule overlap (Covers layer) (part_at features z.feature) r → ¬ AreTouching (Has r) (Has z.rect))
+    rest-up : IsVerticalZone rule overlap (Covers layer) (part_at features z.feature) z.rect
+        → ((r : Rect) → IsHorizontalZone rule overlap (Covers layer) (part_at features z.feature) r → ¬ AreTouching (Has r) (Has z.rect))
         → (x y j : ℤ) → Has z.rect (at x j) → ((y ≡ j -ℤ pos 1) × (j ≡ z.rect.y0)) ⊎ ((y ≡ j +ℤ pos 1) × (y ≡ z.rect.y1)) → without (Covers layer) zones (at x y)
     rest-up h none x y j has side =
-        let low : z.rect.y0 ≤ℤ (y +ℤ pos 1) = elim side [ inl e ↦ (let a = e.0 in let b = e.1 in omega (arith, ints, a, b)) | inr e ↦ (let a = e.0 in let b = has.low in omega (arith, ints, a, b)) ] in
+        let low : z.rect.y0 ≤ℤ (y +ℤ pos 1) = elim side [
+          | inl e ↦ (let a = e.0 in let b = e.1 in omega (arith, ints, a, b))
+          | inr e ↦ (let a = e.0 in let b = has.low in omega (arith, ints, a, b))
+        ] in
         let high : y ≤ℤ z.rect.y1 = elim side [ inl e ↦ (let a = e.0 in let b = has.high in omega (arith, ints, a, b)) | inr e ↦ (let a = e.1 in omega (arith, ints, a)) ] in
         let close : Touch (at x y) (at x j) = elim side [
           | inl e ↦ (let a = e.0 in Touch-from_close (at x y) (at x j) (omega (arith, ints)) (omega (arith, ints)) (omega (arith, ints, a)) (omega (arith, ints, a)))
@@ -122,16 +137,22 @@ module _ (rule overlap : ℕ) (layer : List Rect) (features pieces : List (List 
           in-layer z.feature (at x y) feature_in in_f,
           λ (n, w, n_in, n_is, w_has). elim (zone-of w z.feature (at x y) (n, n_in, n_is) feature_in in_f w_has) [
             | inl k ↦ none w.rect k (at x y, at x j, w_has, has, close)
-            | inr (v, apart) ↦ (let same : turned_rect z.rect ≡ turned_rect w.rect = beside-same rule (turned (Covers layer)) (turned (part_at features z.feature)) overlap (turned_rect z.rect) (turned_rect w.rect) h v y x low high has.left has.right (has-turned w.rect (at x y) w_has) in
+            | inr (v, apart) ↦ (let same : turned_rect z.rect ≡ turned_rect w.rect = beside-same rule (turned (Covers layer))
+                (turned (part_at features z.feature)) overlap (turned_rect z.rect) (turned_rect w.rect) h v y x low high has.left has.right
+                (has-turned w.rect (at x y) w_has) in
                 let mine : Has (turned_rect z.rect) (at y x) = subst (λ r. Has r (at y x)) (sym same) (has-turned w.rect (at x y) w_has) in
-                elim side [ inl e ↦ (let a = e.0 in let b = e.1 in let m = mine.left in omega (arith, ints, a, b, m)) | inr e ↦ (let a = e.1 in let m = mine.right in omega (arith, ints, a, m)) ])
+                elim side [
+                  | inl e ↦ (let a = e.0 in let b = e.1 in let m = mine.left in omega (arith, ints, a, b, m))
+                  | inr e ↦ (let a = e.1 in let m = mine.right in omega (arith, ints, a, m))
+                ])
           ],
         )
 
     abbrev OnOneSide : Pt → Type 0
     OnOneSide p = (IsLeftOrBelow z.rect p × (IsRightOrAbove z.rect p → ⊥)) ⊎ (IsRightOrAbove z.rect p × (IsLeftOrBelow z.rect p → ⊥))
 
-    two-flat : IsHorizontalZone rule overlap (Covers layer) (part_at features z.feature) z.rect → (p q : Pt) → without (Covers layer) zones p → Has z.rect q → Touch p q → OnOneSide p
+    two-flat : IsHorizontalZone rule overlap (Covers layer) (part_at features z.feature) z.rect → (p q : Pt)
+        → without (Covers layer) zones p → Has z.rect q → Touch p q → OnOneSide p
     two-flat h p q rest has touch =
         let (left, right, from, below) = touching-beside rule (Covers layer) (part_at features z.feature) overlap z.rect h p q (own p q rest has touch) has touch in
         let a = has.left in
@@ -142,7 +163,8 @@ module _ (rule overlap : ℕ) (layer : List Rect) (features pieces : List (List 
         (λ m. absurd (not-in-zone p rest (record { left = l; right = m; low = from; high = below })))
         (λ m. inr (inl m, λ r. elim r [ inl k ↦ omega (arith, ints, l, k) | inr k ↦ omega (arith, ints, k, from) ])))
 
-    two-upright : IsVerticalZone rule overlap (Covers layer) (part_at features z.feature) z.rect → (p q : Pt) → without (Covers layer) zones p → Has z.rect q → Touch p q → OnOneSide p
+    two-upright : IsVerticalZone rule overlap (Covers layer) (part_at features z.feature) z.rect → (p q : Pt)
+        → without (Covers layer) zones p → Has z.rect q → Touch p q → OnOneSide p
     two-upright h p q rest has touch =
         let (low, high, from, below) = touching-beside rule (turned (Covers layer)) (turned (part_at features z.feature)) overlap (turned_rect z.rect) h (at p.y p.x) (at q.y q.x)
         (own p q rest has touch) (has-turned z.rect q has) (touch-turned p q touch) in
@@ -159,7 +181,9 @@ module _ (rule overlap : ℕ) (layer : List Rect) (features pieces : List (List 
     two (inr (v, none)) = two-upright v
 
     -- pieces on both sides
-    sides-of : (p q r s : Pt) → without (Covers layer) zones p → Has z.rect q → Touch p q → IsLeftOrBelow z.rect p → without (Covers layer) zones r → Has z.rect s → Touch r s → IsRightOrAbove z.rect r → (side : ℕ × ℕ) × AreSides features pieces z side
+    sides-of : (p q r s : Pt) → without (Covers layer) zones p → Has z.rect q → Touch p q → IsLeftOrBelow z.rect p
+        → without (Covers layer) zones r → Has z.rect s → Touch r s → IsRightOrAbove z.rect r
+        → (side : ℕ × ℕ) × AreSides features pieces z side
     sides-of p q r s rest has touch left rest' has' touch' right =
         let (i, piece, i_in, i_is, in_i) = (ps.together p).1 rest in
         let (j, other, j_in, j_is, in_j) = (ps.together r).1 rest' in
@@ -173,19 +197,39 @@ module _ (rule overlap : ℕ) (layer : List Rect) (features pieces : List (List 
         let wide = i.wide in
         let tall = i.tall in
         let first : Has z.rect (at z.rect.x0 z.rect.y0) = record { left = omega (arith, ints); right = wide; low = omega (arith, ints); high = tall } in
-        let last : Has z.rect (at (z.rect.x1 -ℤ pos 1) z.rect.y0) = record { left = omega (arith, ints, wide); right = omega (arith, ints); low = omega (arith, ints); high = tall } in
+        let last : Has z.rect (at (z.rect.x1 -ℤ pos 1) z.rect.y0) = record {
+          left = omega (arith, ints, wide);
+          right = omega
+              (arith, ints);
+          low = omega (arith, ints);
+          high = tall;
+        } in
         sides-of (at (z.rect.x0 -ℤ pos 1) z.rect.y0) (at z.rect.x0 z.rect.y0) (at z.rect.x1 z.rect.y0) (at (z.rect.x1 -ℤ pos 1) z.rect.y0)
-        (rest-across h (z.rect.x0 -ℤ pos 1) z.rect.y0 z.rect.x0 first (inl (refl, refl))) first (Touch-from_close (at (z.rect.x0 -ℤ pos 1) z.rect.y0) (at z.rect.x0 z.rect.y0) (omega (arith, ints)) (omega (arith, ints)) (omega (arith, ints)) (omega (arith, ints))) (inl (omega (arith, ints)))
-        (rest-across h z.rect.x1 z.rect.y0 (z.rect.x1 -ℤ pos 1) last (inr (omega (arith, ints), refl))) last (Touch-from_close (at z.rect.x1 z.rect.y0) (at (z.rect.x1 -ℤ pos 1) z.rect.y0) (omega (arith, ints)) (omega (arith, ints)) (omega (arith, ints)) (omega (arith, ints))) (inl (omega (arith, ints)))
+        (rest-across h (z.rect.x0 -ℤ pos 1) z.rect.y0 z.rect.x0 first (inl (refl, refl))) first
+        (Touch-from_close (at (z.rect.x0 -ℤ pos 1) z.rect.y0) (at z.rect.x0 z.rect.y0) (omega (arith, ints)) (omega (arith, ints))
+        (omega (arith, ints)) (omega (arith, ints))) (inl (omega (arith, ints)))
+        (rest-across h z.rect.x1 z.rect.y0 (z.rect.x1 -ℤ pos 1) last (inr (omega (arith, ints), refl))) last
+        (Touch-from_close (at z.rect.x1 z.rect.y0) (at (z.rect.x1 -ℤ pos 1) z.rect.y0) (omega (arith, ints)) (omega (arith, ints))
+        (omega (arith, ints)) (omega (arith, ints))) (inl (omega (arith, ints)))
     sides-some (inr (v, none)) =
         let i = upright-inside rule overlap (Covers layer) (part_at features z.feature) z.rect some v in
         let wide = i.wide in
         let tall = i.tall in
         let first : Has z.rect (at z.rect.x0 z.rect.y0) = record { left = omega (arith, ints); right = wide; low = omega (arith, ints); high = tall } in
-        let last : Has z.rect (at z.rect.x0 (z.rect.y1 -ℤ pos 1)) = record { left = omega (arith, ints); right = wide; low = omega (arith, ints, tall); high = omega (arith, ints) } in
+        let last : Has z.rect (at z.rect.x0 (z.rect.y1 -ℤ pos 1)) = record {
+          left = omega (arith, ints);
+          right = wide;
+          low = omega
+              (arith, ints, tall);
+          high = omega (arith, ints);
+        } in
         sides-of (at z.rect.x0 (z.rect.y0 -ℤ pos 1)) (at z.rect.x0 z.rect.y0) (at z.rect.x0 z.rect.y1) (at z.rect.x0 (z.rect.y1 -ℤ pos 1))
-        (rest-up v none z.rect.x0 (z.rect.y0 -ℤ pos 1) z.rect.y0 first (inl (refl, refl))) first (Touch-from_close (at z.rect.x0 (z.rect.y0 -ℤ pos 1)) (at z.rect.x0 z.rect.y0) (omega (arith, ints)) (omega (arith, ints)) (omega (arith, ints)) (omega (arith, ints))) (inr (omega (arith, ints)))
-        (rest-up v none z.rect.x0 z.rect.y1 (z.rect.y1 -ℤ pos 1) last (inr (omega (arith, ints), refl))) last (Touch-from_close (at z.rect.x0 z.rect.y1) (at z.rect.x0 (z.rect.y1 -ℤ pos 1)) (omega (arith, ints)) (omega (arith, ints)) (omega (arith, ints)) (omega (arith, ints))) (inr (omega (arith, ints)))
+        (rest-up v none z.rect.x0 (z.rect.y0 -ℤ pos 1) z.rect.y0 first (inl (refl, refl))) first
+        (Touch-from_close (at z.rect.x0 (z.rect.y0 -ℤ pos 1)) (at z.rect.x0 z.rect.y0) (omega (arith, ints)) (omega (arith, ints))
+        (omega (arith, ints)) (omega (arith, ints))) (inr (omega (arith, ints)))
+        (rest-up v none z.rect.x0 z.rect.y1 (z.rect.y1 -ℤ pos 1) last (inr (omega (arith, ints), refl))) last
+        (Touch-from_close (at z.rect.x0 z.rect.y1) (at z.rect.x0 (z.rect.y1 -ℤ pos 1)) (omega (arith, ints)) (omega (arith, ints))
+        (omega (arith, ints)) (omega (arith, ints))) (inr (omega (arith, ints)))
 
   pub two-sides : (z : Zone) → Contains zones z → HasTwoSides layer features pieces zones z
   two-sides z z_in =

@@ -57,8 +57,14 @@ turned-covers rects p = (
       let same : turned_rect (get_or rects k r) ≡ r = sym (get_or-map turned_rect rects k r r k_in) ∙ is in
       let here : Has (turned_rect (get_or rects k r)) p = subst (λ t. Has t p) (sym same) has in
       (k, get_or rects k r, k_in, get_or_default rects k _ r k_in, record { left = here.low; right = here.high; low = here.left; high = here.right })),
-  λ (k, r, k_in, is, has).
-      (k, turned_rect r, omega (arith, k_in, length-map rects turned_rect), get_or-map turned_rect rects k r (turned_rect r) k_in ∙ ap turned_rect is, record { left = has.low; right = has.high; low = has.left; high = has.right }),
+  λ (k, r, k_in, is, has). (
+    k,
+    turned_rect r,
+    omega (arith, k_in, length-map rects turned_rect),
+    get_or-map turned_rect rects k r (turned_rect r) k_in
+        ∙ ap turned_rect is,
+    record { left = has.low; right = has.high; low = has.left; high = has.right },
+  ),
 )
 
 contains-turned : (zs : List Rect) (z : Rect) → Contains (map turned_rect zs) z ↔ Contains zs (turned_rect z)
@@ -68,7 +74,8 @@ contains-turned zs z = (
   λ (k, l, is). (k, omega (arith, l, length-map zs turned_rect), get_or-map turned_rect zs k (turned_rect z) z l ∙ ap turned_rect is),
 )
 
-turned-layer : (rects others slabs : List Rect) → SameSquares (Covers slabs) (turned (Covers rects)) → SameSquares (turned (layer_of slabs (map turned_rect others))) (layer_of rects others)
+turned-layer : (rects others slabs : List Rect) → SameSquares (Covers slabs) (turned (Covers rects))
+    → SameSquares (turned (layer_of slabs (map turned_rect others))) (layer_of rects others)
 turned-layer rects others slabs same p = (
   λ h. elim h [ inl a ↦ inl ((same (at p.y p.x)).0 a) | inr b ↦ inr ((turned-covers others (at p.y p.x)).0 b) ],
   λ h. elim h [ inl a ↦ inl ((same (at p.y p.x)).1 a) | inr b ↦ inr ((turned-covers others (at p.y p.x)).1 b) ],
@@ -82,11 +89,13 @@ pub flat-from_upright : (rule overlap : ℕ) (rects others slabs found zones : L
     → (z : Rect) → Contains zones z ↔ IsHorizontalZone rule overlap (layer_of rects others) (Covers rects) z
 flat-from_upright rule overlap rects others slabs found zones same h is z =
     rw is (
-      (λ a. zone-as rule overlap (turned (layer_of slabs (map turned_rect others))) (layer_of rects others) (turned (Covers slabs)) (Covers rects) (turned-layer rects others slabs same) (turned-feature rects slabs same) z
+      (λ a. zone-as rule overlap (turned (layer_of slabs (map turned_rect others))) (layer_of rects others) (turned (Covers slabs))
+          (Covers rects) (turned-layer rects others slabs same) (turned-feature rects slabs same) z
           ((h (turned_rect z)).0 ((contains-turned found z).0 a))),
       λ b. (contains-turned found z).1 ((h (turned_rect z)).1
           (zone-as rule overlap (layer_of rects others) (turned (layer_of slabs (map turned_rect others))) (Covers rects) (turned (Covers slabs))
-          (same-back (turned (layer_of slabs (map turned_rect others))) (layer_of rects others) (turned-layer rects others slabs same)) (same-back (turned (Covers slabs)) (Covers rects) (turned-feature rects slabs same)) z b)),
+          (same-back (turned (layer_of slabs (map turned_rect others))) (layer_of rects others) (turned-layer rects others slabs same))
+          (same-back (turned (Covers slabs)) (Covers rects) (turned-feature rects slabs same)) z b)),
     )
 
 pub turned-back : (rs : List Rect) → map turned_rect (map turned_rect rs) ≡ rs
@@ -106,7 +115,8 @@ own-turned rects own own' e same p =
     let t = turned-covers own p in
     rw e ((λ a. t.1 ((same (at p.y p.x)).0 a)), (λ b. (same (at p.y p.x)).1 (t.0 b)))
 
-pub apart-turned : (rects others others' : List Rect) → others' ≡ map turned_rect others → ((p : Pt) → Covers rects p → Covers others p → ⊥) → (p : Pt) → turned (Covers rects) p → Covers others' p → ⊥
+pub apart-turned : (rects others others' : List Rect) → others' ≡ map turned_rect others
+    → ((p : Pt) → Covers rects p → Covers others p → ⊥) → (p : Pt) → turned (Covers rects) p → Covers others' p → ⊥
 apart-turned rects others others' e apart p a b = apart (at p.y p.x) a ((turned-covers others p).0 (subst (λ t. let s : List Rect = t in Covers s p) e b))
 
 -- a set of one slab, with x and y exchanged

@@ -13,7 +13,8 @@ pub cycle_through-requires-clause-forest : goal.cycle_through-requires-clause-fo
 cycle_through-requires-clause-forest c =
     let levels = c.in_ok-levels.levels in
     let parents = c.in_ok-parents.parents in
-    let lowest : AreLowest (graph_of c.args.edges.now) c.args.n levels.levels.items parents.items = subst (λ xs. AreLowest (graph_of c.args.edges.now) c.args.n xs parents.items) c.deref.ensures.value c.in_ok-parents.ensures in
+    let lowest : AreLowest (graph_of c.args.edges.now) c.args.n levels.levels.items parents.items = subst
+    (λ xs. AreLowest (graph_of c.args.edges.now) c.args.n xs parents.items) c.deref.ensures.value c.in_ok-parents.ensures in
     let as_many = c.in_ok-levels.ensures.as_many_levels in
     let len : c.args.n ≡ levels.levels.len = omega (arith, as_many, levels.levels.ok.0) in
     subst (λ n. IsForest n levels.roots.items levels.levels.items parents.items) len
@@ -28,13 +29,17 @@ pub returns-clause-reported : goal.returns-clause-reported
 returns-clause-reported c =
     let levels = c.in_ok-levels.levels in
     let parents = c.in_ok-parents.parents in
-    let lowest : AreLowest (graph_of c.args.edges.now) c.args.n levels.levels.items parents.items = subst (λ xs. AreLowest (graph_of c.args.edges.now) c.args.n xs parents.items) c.deref.ensures.value c.in_ok-parents.ensures in
-    reported-of c.args.edges.now c.args.n levels.roots.items levels.levels.items parents.items c.requires c.in_ok-levels.ensures lowest (c.in-Some.u, c.in-Some.v) c.in-Some.ensures c.in_ok-cycle.cycle.items c.in_ok-cycle.ensures
+    let lowest : AreLowest (graph_of c.args.edges.now) c.args.n levels.levels.items parents.items = subst
+    (λ xs. AreLowest (graph_of c.args.edges.now) c.args.n xs parents.items) c.deref.ensures.value c.in_ok-parents.ensures in
+    reported-of c.args.edges.now c.args.n levels.roots.items levels.levels.items parents.items c.requires c.in_ok-levels.ensures lowest
+    (c.in-Some.u, c.in-Some.v) c.in-Some.ensures c.in_ok-cycle.cycle.items c.in_ok-cycle.ensures
 
 pub returns-clause-odd : goal.returns-clause-odd
 returns-clause-odd c =
     let levels = c.in_ok-levels.levels in
     let parents = c.in_ok-parents.parents in
-    let lowest : AreLowest (graph_of c.args.edges.now) c.args.n levels.levels.items parents.items = subst (λ xs. AreLowest (graph_of c.args.edges.now) c.args.n xs parents.items) c.deref.ensures.value c.in_ok-parents.ensures in
+    let lowest : AreLowest (graph_of c.args.edges.now) c.args.n levels.levels.items parents.items = subst
+    (λ xs. AreLowest (graph_of c.args.edges.now) c.args.n xs parents.items) c.deref.ensures.value c.in_ok-parents.ensures in
     reported-odd c.args.edges.now c.args.n c.requires c.in_ok-cycle.cycle.items
-    (reported-of c.args.edges.now c.args.n levels.roots.items levels.levels.items parents.items c.requires c.in_ok-levels.ensures lowest (c.in-Some.u, c.in-Some.v) c.in-Some.ensures c.in_ok-cycle.cycle.items c.in_ok-cycle.ensures)
+    (reported-of c.args.edges.now c.args.n levels.roots.items levels.levels.items parents.items c.requires c.in_ok-levels.ensures lowest
+    (c.in-Some.u, c.in-Some.v) c.in-Some.ensures c.in_ok-cycle.cycle.items c.in_ok-cycle.ensures)

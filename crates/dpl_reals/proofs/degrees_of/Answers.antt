@@ -8,7 +8,8 @@ returns-then-exponent-gt78-clause-some c = degrees-up c.args.mantissa c.args.exp
 
 pub returns-in_err-value-clause-none : goal.returns-in_err-value-clause-none
 returns-in_err-value-clause-none c =
-    let h : (v : ℕ) → IsMagnitude c.args.mantissa c.args.exponent v → ⊥ = λ v is. c.in_err-value.ensures.none v (down-magnitude c.args.mantissa c.args.exponent _ v (omega arith) is) in
+    let h : (v : ℕ) → IsMagnitude c.args.mantissa c.args.exponent v
+    → ⊥ = λ v is. c.in_err-value.ensures.none v (down-magnitude c.args.mantissa c.args.exponent _ v (omega arith) is) in
     given_none _ h
 
 pub returns-clause-some : goal.returns-clause-some

@@ -10,7 +10,8 @@ pub returns-in-Some : goal.returns-in-Some
 returns-in-Some c =
     let split : c.args.exponent + (78 - c.args.exponent) ≡ 78 = omega arith in (
       λ h. (let one : c.in-Some.value ≡ 1 = grind (arith, nat_tests, h) in
-          magnitude-down c.args.mantissa c.args.exponent (78 - c.args.exponent) 1 split (subst (λ v. c.args.mantissa ≡ v * 16 ^ (78 - c.args.exponent)) one c.in-Some.ensures.some)),
+          magnitude-down c.args.mantissa c.args.exponent (78 - c.args.exponent) 1 split
+          (subst (λ v. c.args.mantissa ≡ v * 16 ^ (78 - c.args.exponent)) one c.in-Some.ensures.some)),
       λ h. eq-eqb c.in-Some.value 1 (unit-down c.args.mantissa c.args.exponent (78 - c.args.exponent) split c.in-Some.value c.in-Some.ensures.some h),
     )
 

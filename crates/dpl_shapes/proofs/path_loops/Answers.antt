@@ -16,7 +16,8 @@ returns-then-turns_back-clause-refused c =
     let p : PathElement = path_of c.args.points.now c.args.width c.args.kind c.args.begin_ext c.args.end_ext in
     let kind : to_z w16 (of_z w16 c.args.kind) ≡ c.args.kind = omega (arith, ints) in
     let width : to_z w64 (of_z w64 c.args.width) ≡ c.args.width = omega (arith, ints) in
-    let plain : IsPlain p = plain-as p c.unsigned_abs-width.result _ (omega (arith, ints)) kind c.if-not-is_known_type.ensures (c.unsigned_abs-width.ensures.value ∙ ap unsigned_abs width) c.if-width-eq1.false in
+    let plain : IsPlain p = plain-as p c.unsigned_abs-width.result _ (omega (arith, ints)) kind c.if-not-is_known_type.ensures
+    (c.unsigned_abs-width.ensures.value ∙ ap unsigned_abs width) c.if-width-eq1.false in
     let straight : HasSlant (distinct c.args.points.now) → ⊥ = no-slant _ _ (c.deref.ensures.value ∙ c.in_ok-corners.ensures) c.if-not-is_straight.ensures in
     let turned : HasTurnBack (distinct c.args.points.now) = subst HasTurnBack (c.deref-2.ensures.value ∙ c.in_ok-corners.ensures) c.if-turns_back.ensures in
     turns-first p plain straight turned
@@ -29,7 +30,8 @@ returns-then-has_negative_end-clause-refused c =
     let begin : to_z w64 (of_z w64 c.args.begin_ext) ≡ c.args.begin_ext = omega (arith, ints) in
     let end : to_z w64 (of_z w64 c.args.end_ext) ≡ c.args.end_ext = omega (arith, ints) in
     let width : to_z w64 (of_z w64 c.args.width) ≡ c.args.width = omega (arith, ints) in
-    let plain : IsPlain p = plain-as p c.unsigned_abs-width.result _ (omega (arith, ints)) kind c.if-not-is_known_type.ensures (c.unsigned_abs-width.ensures.value ∙ ap unsigned_abs width) c.if-width-eq1.false in
+    let plain : IsPlain p = plain-as p c.unsigned_abs-width.result _ (omega (arith, ints)) kind c.if-not-is_known_type.ensures
+    (c.unsigned_abs-width.ensures.value ∙ ap unsigned_abs width) c.if-width-eq1.false in
     let straight : HasSlant (distinct c.args.points.now) → ⊥ = no-slant _ _ (c.deref.ensures.value ∙ c.in_ok-corners.ensures) c.if-not-is_straight.ensures in
     let on : HasTurnBack (distinct c.args.points.now) → ⊥ = subst (λ ps. HasTurnBack ps → ⊥) (c.deref-2.ensures.value ∙ c.in_ok-corners.ensures) c.if-turns_back.ensures in
     negative-first p plain straight on (negative-as _ _ _ _ _ _ kind begin end c.if-has_negative_end.ensures)
@@ -90,7 +92,8 @@ returns-clause-faultless c =
     let begin : to_z w64 (of_z w64 c.args.begin_ext) ≡ c.args.begin_ext = omega (arith, ints) in
     let end : to_z w64 (of_z w64 c.args.end_ext) ≡ c.args.end_ext = omega (arith, ints) in
     let width : to_z w64 (of_z w64 c.args.width) ≡ c.args.width = omega (arith, ints) in
-    let plain : IsPlain p = plain-as p c.unsigned_abs-width.result _ (omega (arith, ints)) kind c.if-not-is_known_type.ensures (c.unsigned_abs-width.ensures.value ∙ ap unsigned_abs width) c.if-width-eq1.false in
+    let plain : IsPlain p = plain-as p c.unsigned_abs-width.result _ (omega (arith, ints)) kind c.if-not-is_known_type.ensures
+    (c.unsigned_abs-width.ensures.value ∙ ap unsigned_abs width) c.if-width-eq1.false in
     let straight : HasSlant (distinct c.args.points.now) → ⊥ = no-slant _ _ (c.deref.ensures.value ∙ c.in_ok-corners.ensures) c.if-not-is_straight.ensures in
     let on : HasTurnBack (distinct c.args.points.now) → ⊥ = subst (λ ps. HasTurnBack ps → ⊥) (c.deref-2.ensures.value ∙ c.in_ok-corners.ensures) c.if-turns_back.ensures in
     let fit : HasNegativeEnd c.args.kind c.args.begin_ext c.args.end_ext → ⊥ = λ h. c.if-has_negative_end.ensures (negative-as _ _ _ _ _ _ (sym kind) (sym begin) (sym end) h) in

@@ -9,4 +9,5 @@ use Rattle.dpl_base.proofs.lists.numbers_below.Goals as goal
 pub returns : goal.returns
 returns c =
     IfOk-weaker c.collect.result (λ v. (v.items ≡ range_with_len 0 c.args.count) × (vec_len v ≡ length (range_with_len 0 c.args.count))) _ (λ v h. h.0)
-    (fact_from_collect (λ xs v. (v.items ≡ xs) × (vec_len v ≡ length xs)) c.collect.result c.collect.ensures.ran (YieldsList-from_range 0 c.args.count c.args.count refl (omega arith)))
+    (fact_from_collect (λ xs v. (v.items ≡ xs) × (vec_len v ≡ length xs)) c.collect.result c.collect.ensures.ran
+    (YieldsList-from_range 0 c.args.count c.args.count refl (omega arith)))

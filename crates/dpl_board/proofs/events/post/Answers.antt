@@ -5,7 +5,8 @@ use Rattle.dpl_board.proofs.Goings.{posts-known, posts-new, posts-past}
 use Rattle.dpl_board.proofs.events.post.Goals as goal
 
 pub returns-then-tile-tiles : goal.returns-then-tile-tiles
-returns-then-tile-tiles g c = λ entries has. posts-past (g.J.Job.sheet c.args.job.now) entries (entry c.args.worker c.args.tile) c.args.board.now has (rw (← c.tiles.ensures.count) c.if-tile-tiles.true)
+returns-then-tile-tiles g c = λ entries has. posts-past (g.J.Job.sheet c.args.job.now) entries
+    (entry c.args.worker c.args.tile) c.args.board.now has (rw (← c.tiles.ensures.count) c.if-tile-tiles.true)
 
 pub returns-then-is_some : goal.returns-then-is_some
 returns-then-is_some g c = λ entries has. (

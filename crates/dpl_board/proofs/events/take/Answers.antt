@@ -8,7 +8,8 @@ pub returns-then-place-taken : goal.returns-then-place-taken
 returns-then-place-taken c = λ entries old. workers-past _ c.args.taken.now entries (entry c.args.worker c.args.tile) old c.if-place-taken.true
 
 pub returns-then-is_none : goal.returns-then-is_none
-returns-then-is_none c = λ entries old. workers-more _ c.args.taken.now entries (entry c.args.worker c.args.tile) old c.if-place-taken.false (none-from (get_or c.args.taken.now c.args.tile None) c.if-is_none.ensures)
+returns-then-is_none c = λ entries old. workers-more _ c.args.taken.now entries
+    (entry c.args.worker c.args.tile) old c.if-place-taken.false (none-from (get_or c.args.taken.now c.args.tile None) c.if-is_none.ensures)
 
 pub returns-else-is_none : goal.returns-else-is_none
 returns-else-is_none c = λ entries old. (

@@ -7,5 +7,6 @@ returns-then-equal c = none-uncovered c.args.layer.now c.args.a.now c.args.b.now
 
 pub returns : goal.returns
 returns c = least-of (is_uncovered c.args.layer.now c.args.a.now c.args.b.now) c.in_ok-all.all c.least.result
-    (uncovered-are c.args.layer.now c.args.a.now c.args.b.now c.in_ok-masks.masks c.in_ok-missing.missing c.in_ok-added.added c.in_ok-all.all c.in_ok-masks.ensures c.in_ok-missing.ensures c.in_ok-added.ensures c.in_ok-all.ensures)
+    (uncovered-are c.args.layer.now c.args.a.now c.args.b.now c.in_ok-masks.masks c.in_ok-missing.missing c.in_ok-added.added
+    c.in_ok-all.all c.in_ok-masks.ensures c.in_ok-missing.ensures c.in_ok-added.ensures c.in_ok-all.ensures)
     c.least.ensures.none c.least.ensures.some

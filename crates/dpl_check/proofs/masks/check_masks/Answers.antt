@@ -16,13 +16,27 @@ too_close-requires-2-clause-inside c = b-inside c.args.layer.now c.args.a.now c.
 pub returns-then-items-head : goal.returns-then-items-head
 returns-then-items-head c =
     subst (λ (x : Cert). IsVerdictOfMasks c.args.rule c.args.overlap c.args.layer.now c.args.a.now c.args.b.now x c.in_ok-found.found) (sym c.in-Masks.is)
-    (inr ((λ differ. false≢true (c.if-rules_differ.ensures.1 differ)), inl (count-differs c.args.layer.now c.in_ok-features.features c.items.result.now c.in-Masks.head c.in_ok-features.ensures c.items.ensures.value c.if-items-head.true, c.in_ok-found.ensures)))
+    (inr (
+      (λ differ. false≢true (c.if-rules_differ.ensures.1 differ)),
+      inl (
+        count-differs c.args.layer.now c.in_ok-features.features c.items.result.now c.in-Masks.head c.in_ok-features.ensures
+            c.items.ensures.value c.if-items-head.true,
+        c.in_ok-found.ensures,
+      ),
+    ))
 
 pub returns-in-Some : goal.returns-in-Some
 returns-in-Some c =
     let found = rw c.in-Some.is at c.in_ok-at.ensures in
     subst (λ (x : Cert). IsVerdictOfMasks c.args.rule c.args.overlap c.args.layer.now c.args.a.now c.args.b.now x (Cover c.in-Some.at)) (sym c.in-Masks.is)
-    (inr ((λ differ. false≢true (c.if-rules_differ.ensures.1 differ)), inr ((count-kept c.args.layer.now c.in_ok-features.features c.items.result.now c.in-Masks.head c.in_ok-features.ensures c.items.ensures.value c.if-items-head.false), inl ((c.in-Some.at, found.inside), (c.in-Some.at, found, refl)))))
+    (inr (
+      (λ differ. false≢true (c.if-rules_differ.ensures.1 differ)),
+      inr (
+        (count-kept c.args.layer.now c.in_ok-features.features c.items.result.now c.in-Masks.head c.in_ok-features.ensures
+            c.items.ensures.value c.if-items-head.false),
+        inl ((c.in-Some.at, found.inside), (c.in-Some.at, found, refl)),
+      ),
+    ))
 
 pub returns-in-Some-2 : goal.returns-in-Some-2
 returns-in-Some-2 c =
@@ -30,7 +44,14 @@ returns-in-Some-2 c =
     let least = rw (c.in-Some-2.is, c.items-2.ensures) at c.in_ok-at-2.ensures in
     let found = least-doubled c.args.a.now c.args.b.now c.in_ok-both.both c.in-Masks.stitches (Some c.in-Some-2.at) c.in_ok-both.ensures least in
     subst (λ (x : Cert). IsVerdictOfMasks c.args.rule c.args.overlap c.args.layer.now c.args.a.now c.args.b.now x (Overlap c.in-Some-2.at)) (sym c.in-Masks.is)
-    (inr ((λ differ. false≢true (c.if-rules_differ.ensures.1 differ)), inr ((count-kept c.args.layer.now c.in_ok-features.features c.items.result.now c.in-Masks.head c.in_ok-features.ensures c.items.ensures.value c.if-items-head.false), inr (cover, inl ((c.in-Some-2.at, found.inside), (c.in-Some-2.at, found, refl))))))
+    (inr (
+      (λ differ. false≢true (c.if-rules_differ.ensures.1 differ)),
+      inr (
+        (count-kept c.args.layer.now c.in_ok-features.features c.items.result.now c.in-Masks.head c.in_ok-features.ensures
+            c.items.ensures.value c.if-items-head.false),
+        inr (cover, inl ((c.in-Some-2.at, found.inside), (c.in-Some-2.at, found, refl))),
+      ),
+    ))
 
 pub returns-in-Some-3 : goal.returns-in-Some-3
 returns-in-Some-3 c =
@@ -38,8 +59,25 @@ returns-in-Some-3 c =
     let unlisted = rw (c.in_default-3.is, c.items-2.ensures) at c.in_ok-at-2.ensures in
     let doubled = least-doubled c.args.a.now c.args.b.now c.in_ok-both.both c.in-Masks.stitches None c.in_ok-both.ensures unlisted in
     let found = rw c.in-Some-3.is at c.in_ok-first.ensures in
-    subst (λ (x : Cert). IsVerdictOfMasks c.args.rule c.args.overlap c.args.layer.now c.args.a.now c.args.b.now x (SpacingA c.in-Some-3.first c.in-Some-3.second)) (sym c.in-Masks.is)
-    (inr ((λ differ. false≢true (c.if-rules_differ.ensures.1 differ)), inr ((count-kept c.args.layer.now c.in_ok-features.features c.items.result.now c.in-Masks.head c.in_ok-features.ensures c.items.ensures.value c.if-items-head.false), inr (cover, inr (doubled, inl ((c.in-Some-3.first, c.in-Some-3.second, found.are), (c.in-Some-3.first, c.in-Some-3.second, found, refl)))))))
+    subst (λ (x : Cert). IsVerdictOfMasks c.args.rule c.args.overlap c.args.layer.now c.args.a.now c.args.b.now x
+    (SpacingA c.in-Some-3.first c.in-Some-3.second)) (sym c.in-Masks.is)
+    (inr (
+      (λ differ. false≢true (c.if-rules_differ.ensures.1 differ)),
+      inr (
+        (count-kept c.args.layer.now c.in_ok-features.features c.items.result.now c.in-Masks.head c.in_ok-features.ensures
+            c.items.ensures.value c.if-items-head.false),
+        inr (
+          cover,
+          inr (
+            doubled,
+            inl (
+              (c.in-Some-3.first, c.in-Some-3.second, found.are),
+              (c.in-Some-3.first, c.in-Some-3.second, found, refl),
+            ),
+          ),
+        ),
+      ),
+    ))
 
 pub returns-in-Some-4 : goal.returns-in-Some-4
 returns-in-Some-4 c =
@@ -48,8 +86,28 @@ returns-in-Some-4 c =
     let doubled = least-doubled c.args.a.now c.args.b.now c.in_ok-both.both c.in-Masks.stitches None c.in_ok-both.ensures unlisted in
     let tight_a = rw c.in_default-4.is at c.in_ok-first.ensures in
     let found = rw c.in-Some-4.is at c.in_ok-first-2.ensures in
-    subst (λ (x : Cert). IsVerdictOfMasks c.args.rule c.args.overlap c.args.layer.now c.args.a.now c.args.b.now x (SpacingB c.in-Some-4.first c.in-Some-4.second)) (sym c.in-Masks.is)
-    (inr ((λ differ. false≢true (c.if-rules_differ.ensures.1 differ)), inr ((count-kept c.args.layer.now c.in_ok-features.features c.items.result.now c.in-Masks.head c.in_ok-features.ensures c.items.ensures.value c.if-items-head.false), inr (cover, inr (doubled, inr ((λ (p, q, h). tight_a p q h), inl ((c.in-Some-4.first, c.in-Some-4.second, found.are), (c.in-Some-4.first, c.in-Some-4.second, found, refl))))))))
+    subst (λ (x : Cert). IsVerdictOfMasks c.args.rule c.args.overlap c.args.layer.now c.args.a.now c.args.b.now x
+    (SpacingB c.in-Some-4.first c.in-Some-4.second)) (sym c.in-Masks.is)
+    (inr (
+      (λ differ. false≢true (c.if-rules_differ.ensures.1 differ)),
+      inr (
+        (count-kept c.args.layer.now c.in_ok-features.features c.items.result.now c.in-Masks.head c.in_ok-features.ensures
+            c.items.ensures.value c.if-items-head.false),
+        inr (
+          cover,
+          inr (
+            doubled,
+            inr (
+              (λ (p, q, h). tight_a p q h),
+              inl (
+                (c.in-Some-4.first, c.in-Some-4.second, found.are),
+                (c.in-Some-4.first, c.in-Some-4.second, found, refl),
+              ),
+            ),
+          ),
+        ),
+      ),
+    ))
 
 pub returns-in-Some-5 : goal.returns-in-Some-5
 returns-in-Some-5 c =
@@ -59,9 +117,26 @@ returns-in-Some-5 c =
     let tight_a = rw c.in_default-4.is at c.in_ok-first.ensures in
     let tight_b = rw c.in_default-5.is at c.in_ok-first-2.ensures in
     let first = rw (c.in-Some-5.is, c.items-3.ensures, c.items-4.ensures) at c.in_ok-index.ensures in
-    let found = first-bad-stitch c.args.overlap c.args.a.now c.args.b.now c.in_ok-both.both c.in-Masks.pieces c.in_ok-both.ensures c.in-Masks.stitches (Some c.in-Some-5.index) first in
+    let found = first-bad-stitch c.args.overlap c.args.a.now c.args.b.now c.in_ok-both.both c.in-Masks.pieces c.in_ok-both.ensures
+    c.in-Masks.stitches (Some c.in-Some-5.index) first in
     subst (λ (x : Cert). IsVerdictOfMasks c.args.rule c.args.overlap c.args.layer.now c.args.a.now c.args.b.now x (Stitch c.in-Some-5.index)) (sym c.in-Masks.is)
-    (inr ((λ differ. false≢true (c.if-rules_differ.ensures.1 differ)), inr ((count-kept c.args.layer.now c.in_ok-features.features c.items.result.now c.in-Masks.head c.in_ok-features.ensures c.items.ensures.value c.if-items-head.false), inr (cover, inr (doubled, inr ((λ (p, q, h). tight_a p q h), inr ((λ (p, q, h). tight_b p q h), inl ((c.in-Some-5.index, found.inside, found.is), (c.in-Some-5.index, found, refl)))))))))
+    (inr (
+      (λ differ. false≢true (c.if-rules_differ.ensures.1 differ)),
+      inr (
+        (count-kept c.args.layer.now c.in_ok-features.features c.items.result.now c.in-Masks.head c.in_ok-features.ensures
+            c.items.ensures.value c.if-items-head.false),
+        inr (
+          cover,
+          inr (
+            doubled,
+            inr (
+              (λ (p, q, h). tight_a p q h),
+              inr ((λ (p, q, h). tight_b p q h), inl ((c.in-Some-5.index, found.inside, found.is), (c.in-Some-5.index, found, refl))),
+            ),
+          ),
+        ),
+      ),
+    ))
 
 pub returns-in-Some-6 : goal.returns-in-Some-6
 returns-in-Some-6 c =
@@ -74,7 +149,26 @@ returns-in-Some-6 c =
     let stitches = first-bad-stitch c.args.overlap c.args.a.now c.args.b.now c.in_ok-both.both c.in-Masks.pieces c.in_ok-both.ensures c.in-Masks.stitches None right in
     let found = rw (c.in-Some-6.is, c.items-5.ensures) at c.in_ok-index-2.ensures in
     subst (λ (x : Cert). IsVerdictOfMasks c.args.rule c.args.overlap c.args.layer.now c.args.a.now c.args.b.now x (Piece c.in-Some-6.index)) (sym c.in-Masks.is)
-    (inr ((λ differ. false≢true (c.if-rules_differ.ensures.1 differ)), inr ((count-kept c.args.layer.now c.in_ok-features.features c.items.result.now c.in-Masks.head c.in_ok-features.ensures c.items.ensures.value c.if-items-head.false), inr (cover, inr (doubled, inr ((λ (p, q, h). tight_a p q h), inr ((λ (p, q, h). tight_b p q h), inr (stitches, inl ((c.in-Some-6.index, found.inside, found.is), (c.in-Some-6.index, found, refl))))))))))
+    (inr (
+      (λ differ. false≢true (c.if-rules_differ.ensures.1 differ)),
+      inr (
+        (count-kept c.args.layer.now c.in_ok-features.features c.items.result.now c.in-Masks.head c.in_ok-features.ensures
+            c.items.ensures.value c.if-items-head.false),
+        inr (
+          cover,
+          inr (
+            doubled,
+            inr (
+              (λ (p, q, h). tight_a p q h),
+              inr (
+                (λ (p, q, h). tight_b p q h),
+                inr (stitches, inl ((c.in-Some-6.index, found.inside, found.is), (c.in-Some-6.index, found, refl))),
+              ),
+            ),
+          ),
+        ),
+      ),
+    ))
 
 pub returns : goal.returns
 returns c =
@@ -87,4 +181,17 @@ returns c =
     let stitches = first-bad-stitch c.args.overlap c.args.a.now c.args.b.now c.in_ok-both.both c.in-Masks.pieces c.in_ok-both.ensures c.in-Masks.stitches None right in
     let letters = rw (c.in_default-7.is, c.items-5.ensures) at c.in_ok-index-2.ensures in
     subst (λ (x : Cert). IsVerdictOfMasks c.args.rule c.args.overlap c.args.layer.now c.args.a.now c.args.b.now x Valid) (sym c.in-Masks.is)
-    (inr ((λ differ. false≢true (c.if-rules_differ.ensures.1 differ)), inr ((count-kept c.args.layer.now c.in_ok-features.features c.items.result.now c.in-Masks.head c.in_ok-features.ensures c.items.ensures.value c.if-items-head.false), inr (cover, inr (doubled, inr ((λ (p, q, h). tight_a p q h), inr ((λ (p, q, h). tight_b p q h), inr (stitches, inr (letters, refl)))))))))
+    (inr (
+      (λ differ. false≢true (c.if-rules_differ.ensures.1 differ)),
+      inr (
+        (count-kept c.args.layer.now c.in_ok-features.features c.items.result.now c.in-Masks.head c.in_ok-features.ensures
+            c.items.ensures.value c.if-items-head.false),
+        inr (
+          cover,
+          inr (
+            doubled,
+            inr ((λ (p, q, h). tight_a p q h), inr ((λ (p, q, h). tight_b p q h), inr (stitches, inr (letters, refl)))),
+          ),
+        ),
+      ),
+    ))

@@ -13,4 +13,7 @@ returns-in-Some c =
     (λ test. same.0 (eqb-true c.in-Some.k c.args.piece test), λ there. eq-eqb c.in-Some.k c.args.piece (same.1 there))
 
 pub returns-in-None : goal.returns-in-None
-returns-in-None c = (λ test. absurd (false≢true test), λ there. absurd (of-none c.args.parts.now c.args.tree.now c.args.p c.args.piece c.requires.items (c.in-None.ensures.none refl) there))
+returns-in-None c = (
+  λ test. absurd (false≢true test),
+  λ there. absurd (of-none c.args.parts.now c.args.tree.now c.args.p c.args.piece c.requires.items (c.in-None.ensures.none refl) there),
+)

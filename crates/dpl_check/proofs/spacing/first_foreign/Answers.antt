@@ -6,7 +6,8 @@ pub loop-i-init : goal.loop-i-init
 loop-i-init c = foreign-none c.args.rule c.args.rects.now c.args.owners.now c.args.tree.now
 
 pub loop-i-preserved : goal.loop-i-preserved
-loop-i-preserved c = foreign-more c.args.rule c.args.rects.now c.args.owners.now c.args.tree.now c.loop-i.i _ _ c.loop-i.best c.improved-best.result c.loop-i-test.true (search rules) (search rules) c.loop-i.invariant c.improved-best.ensures
+loop-i-preserved c = foreign-more c.args.rule c.args.rects.now c.args.owners.now c.args.tree.now c.loop-i.i _ _ c.loop-i.best
+    c.improved-best.result c.loop-i-test.true (search rules) (search rules) c.loop-i.invariant c.improved-best.ensures
 
 pub returns : goal.returns
 returns c = foreign-all c.args.rule c.args.rects.now c.args.owners.now c.args.tree.now c.loop-i.i c.loop-i.best (omega arith) c.loop-i.invariant

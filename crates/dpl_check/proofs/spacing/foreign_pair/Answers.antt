@@ -27,7 +27,8 @@ pub unreachable-requires : goal.unreachable-requires
 unreachable-requires c =
     let first = rw c.in-Some.is at c.first_foreign.ensures in
     let none = rw c.in_default-owner_at.is at c.owner_at.ensures.none in
-    none (search rules) (foreign-covered c.args.rule c.args.rects.now c.args.owners.now c.in_ok-tree.tree c.in_ok-tree.ensures (length c.args.rects.now) c.in-Some.first first.inside)
+    none (search rules) (foreign-covered c.args.rule c.args.rects.now c.args.owners.now c.in_ok-tree.tree c.in_ok-tree.ensures
+    (length c.args.rects.now) c.in-Some.first first.inside)
 
 pub single_tree-requires-clause-x : goal.single_tree-requires-clause-x
 single_tree-requires-clause-x c =
@@ -48,7 +49,8 @@ pub unreachable-requires-in_default-first_foreign : goal.unreachable-requires-in
 unreachable-requires-in_default-first_foreign c =
     let first = rw c.in-Some.is at c.first_foreign.ensures in
     let owner = rw c.in-Some-owner_at.is at c.owner_at.ensures.some in
-    some-second c.args.rule c.args.rects.now c.args.owners.now c.in_ok-tree.tree c.in_ok-tree.ensures c.requires.once c.in-Some.first c.in-Some-owner_at.owner owner c.in_ok-single.single c.in_ok-single.ensures first.inside
+    some-second c.args.rule c.args.rects.now c.args.owners.now c.in_ok-tree.tree c.in_ok-tree.ensures c.requires.once c.in-Some.first
+    c.in-Some-owner_at.owner owner c.in_ok-single.single c.in_ok-single.ensures first.inside
     (rw c.in_default-first_foreign.is at c.first_foreign-2.ensures)
 
 pub returns : goal.returns
@@ -56,4 +58,5 @@ returns c =
     let first = rw c.in-Some.is at c.first_foreign.ensures in
     let owner = rw c.in-Some-owner_at.is at c.owner_at.ensures.some in
     let second = rw c.in-Some-first_foreign.is at c.first_foreign-2.ensures in
-    least-foreign c.args.rule c.args.rects.now c.args.owners.now c.in_ok-tree.tree c.in_ok-tree.ensures c.requires.once c.in-Some.first c.in-Some-owner_at.owner owner c.in_ok-single.single c.in_ok-single.ensures c.in-Some-first_foreign.second first second
+    least-foreign c.args.rule c.args.rects.now c.args.owners.now c.in_ok-tree.tree c.in_ok-tree.ensures c.requires.once c.in-Some.first
+    c.in-Some-owner_at.owner owner c.in_ok-single.single c.in_ok-single.ensures c.in-Some-first_foreign.second first second

@@ -6,7 +6,8 @@ pub loop-i-init : goal.loop-i-init
 loop-i-init c = owns-none c.args.rects.now c.args.owners.now _ c.in_ok-items.ensures
 
 pub loop-i-preserved : goal.loop-i-preserved
-loop-i-preserved c = owns-more c.args.rects.now c.args.owners.now c.loop-i.i _ _ c.loop-i.items _ c.loop-i-test.true (search rules) (search rules) c.loop-i.invariant c.in_ok-add.ensures
+loop-i-preserved c = owns-more c.args.rects.now c.args.owners.now c.loop-i.i _ _ c.loop-i.items _ c.loop-i-test.true (search rules)
+    (search rules) c.loop-i.invariant c.in_ok-add.ensures
 
 pub returns : goal.returns
 returns c = owns-all c.args.rects.now c.args.owners.now c.loop-i.i _ c.in_ok-tree.tree (omega arith) c.loop-i.invariant c.in_ok-tree.ensures

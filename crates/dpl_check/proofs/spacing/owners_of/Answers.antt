@@ -14,7 +14,9 @@ nothing = record { x0 = pos 0; y0 = pos 0; x1 = pos 0; y1 = pos 0 }
 pub loop-r-preserved : goal.loop-r-preserved
 loop-r-preserved c =
     rw c.in_ok-push.ensures.items
-    (zip-next (λ r k. ItemCovers (Only k) c.args.tree.now (corner r)) c.args.rects.now c.loop-r.owners.items c.loop-r.r-index (get_or c.args.rects.now c.loop-r.r-index nothing) _ c.loop-r-test.true (get_or_default _ _ _ _ c.loop-r-test.true) c.loop-r.invariant c.owner_of.ensures)
+    (zip-next (λ r k. ItemCovers (Only k) c.args.tree.now (corner r)) c.args.rects.now c.loop-r.owners.items c.loop-r.r-index
+    (get_or c.args.rects.now c.loop-r.r-index nothing) _ c.loop-r-test.true
+    (get_or_default _ _ _ _ c.loop-r-test.true) c.loop-r.invariant c.owner_of.ensures)
 
 pub returns : goal.returns
 returns c =

@@ -14,17 +14,22 @@ owners_of-requires-clause-items c = feature-items c.args.features.now c.items.re
 pub owners_of-requires-clause-inside : goal.owners_of-requires-clause-inside
 owners_of-requires-clause-inside c =
     let are = rw c.items.ensures.value at c.in_ok-tree.ensures in
-    rw c.rects-rects.ensures.value (corners-covered c.args.layer.now c.args.features.now c.in_ok-tree.tree c.args.mask.now c.requires.features are c.rects-rects.ensures.canonical.solid c.requires.inside)
+    rw c.rects-rects.ensures.value
+    (corners-covered c.args.layer.now c.args.features.now c.in_ok-tree.tree c.args.mask.now c.requires.features are
+    c.rects-rects.ensures.canonical.solid c.requires.inside)
 
 pub foreign_pair-requires-clause-each : goal.foreign_pair-requires-clause-each
-foreign_pair-requires-clause-each c = rw c.deref.ensures.value (sym (zip-length (λ r k. ItemCovers (Only k) c.in_ok-tree.tree (corner r)) c.rects-rects.result.now c.in_ok-owners.owners.items c.in_ok-owners.ensures))
+foreign_pair-requires-clause-each c = rw c.deref.ensures.value
+    (sym (zip-length (λ r k. ItemCovers (Only k) c.in_ok-tree.tree (corner r)) c.rects-rects.result.now c.in_ok-owners.owners.items
+    c.in_ok-owners.ensures))
 
 pub foreign_pair-requires-clause-once : goal.foreign_pair-requires-clause-once
 foreign_pair-requires-clause-once c =
     let are = rw c.items.ensures.value at c.in_ok-tree.ensures in
     let own = rw c.rects-rects.ensures.value at c.in_ok-owners.ensures in
     rw (c.deref.ensures.value, c.rects-rects.ensures.value)
-    (owned-once c.args.layer.now c.args.features.now c.in_ok-tree.tree c.args.mask.now c.requires.features are c.rects-rects.ensures.canonical.solid c.requires.inside c.in_ok-owners.owners.items own)
+    (owned-once c.args.layer.now c.args.features.now c.in_ok-tree.tree c.args.mask.now c.requires.features are
+    c.rects-rects.ensures.canonical.solid c.requires.inside c.in_ok-owners.owners.items own)
 
 pub returns : goal.returns
 returns c =
@@ -32,4 +37,5 @@ returns c =
     let own = rw c.rects-rects.ensures.value at c.in_ok-owners.ensures in
     let found = rw (c.deref.ensures.value, c.rects-rects.ensures.value) at c.in_ok-found.ensures in
     pair-same (AreForeign c.args.rule c.args.mask.now c.in_ok-owners.owners.items) (AreTooClose c.args.rule (Covers c.args.layer.now) (Covers c.args.mask.now)) c.in_ok-found.found
-    (foreign-close c.args.layer.now c.args.features.now c.in_ok-tree.tree c.args.mask.now c.requires.features are c.rects-rects.ensures.canonical.solid c.requires.inside c.in_ok-owners.owners.items own c.args.rule) found
+    (foreign-close c.args.layer.now c.args.features.now c.in_ok-tree.tree c.args.mask.now c.requires.features are
+    c.rects-rects.ensures.canonical.solid c.requires.inside c.in_ok-owners.owners.items own c.args.rule) found

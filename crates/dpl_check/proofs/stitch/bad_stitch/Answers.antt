@@ -14,5 +14,7 @@ pub returns : goal.returns
 returns c =
     let off = rw c.rects.ensures.value at c.in_ok-off.ensures in
     let are = rw c.rects-2.ensures.value at c.in_ok-tree.ensures in
-    first-same (IsWrongStitch c.args.overlap (ItemCovers Everyone c.in_ok-tree.tree) c.args.pieces.now) (IsWrongStitch c.args.overlap (λ p. ¬ Covers c.args.both.now p) c.args.pieces.now) c.args.stitches.now c.first_wrong.result
-    (wrong-outside c.args.overlap (c.in-Some.bounds ∷ []) c.args.both.now c.in_ok-off.off c.args.pieces.now c.args.stitches.now c.in_ok-tree.tree (stitch-inside c.args.stitches.now c.in-Some.bounds c.in-Some.ensures.all) off are) c.first_wrong.ensures
+    first-same (IsWrongStitch c.args.overlap (ItemCovers Everyone c.in_ok-tree.tree) c.args.pieces.now)
+    (IsWrongStitch c.args.overlap (λ p. ¬ Covers c.args.both.now p) c.args.pieces.now) c.args.stitches.now c.first_wrong.result
+    (wrong-outside c.args.overlap (c.in-Some.bounds ∷ []) c.args.both.now c.in_ok-off.off c.args.pieces.now c.args.stitches.now
+    c.in_ok-tree.tree (stitch-inside c.args.stitches.now c.in-Some.bounds c.in-Some.ensures.all) off are) c.first_wrong.ensures

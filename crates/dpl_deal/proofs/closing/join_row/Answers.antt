@@ -12,7 +12,10 @@ join-requires c =
     let ds = ap (map grip_deque) all ∙ c.requires.deques ∙ sym c.loop-grip.invariant.3 in
     let lt = next_place grip_deque own_deque c.loop-grip.yielded c.next.new.self.rest.items c.in-Some.grip c.loop-grip.hands.items c.loop-grip.at c.loop-grip.invariant.1 ds in
     let is : c.index_mut.result.now ≡ get_or c.loop-grip.hands.items c.loop-grip.at c.index_mut.result.now = search rules in
-    record { deque = same_deque grip_deque own_deque c.loop-grip.yielded c.next.new.self.rest.items c.in-Some.grip c.loop-grip.hands.items c.loop-grip.at c.index_mut.result.now c.loop-grip.invariant.1 lt is ds }
+    record {
+      deque = same_deque grip_deque own_deque c.loop-grip.yielded c.next.new.self.rest.items c.in-Some.grip c.loop-grip.hands.items
+          c.loop-grip.at c.index_mut.result.now c.loop-grip.invariant.1 lt is ds;
+    }
 
 pub loop-grip-preserved : goal.loop-grip-preserved
 loop-grip-preserved c =
@@ -20,10 +23,16 @@ loop-grip-preserved c =
     let ds = ap (map grip_deque) all ∙ c.requires.deques ∙ sym c.loop-grip.invariant.3 in
     let lt = next_place grip_deque own_deque c.loop-grip.yielded c.next.new.self.rest.items c.in-Some.grip c.loop-grip.hands.items c.loop-grip.at c.loop-grip.invariant.1 ds in
     let is : c.index_mut.result.now ≡ get_or c.loop-grip.hands.items c.loop-grip.at c.index_mut.result.now = search rules in
-    let lens : length (views_of c.args.hands.now.items) ≡ length c.loop-grip.hands.items = omega (arith, length-map c.loop-grip.hands.items own_view, ap length c.loop-grip.invariant.2, joined_length (views_of c.args.hands.now.items) c.loop-grip.yielded) in (
+    let lens : length (views_of c.args.hands.now.items) ≡ length c.loop-grip.hands.items = omega (
+      arith,
+      length-map c.loop-grip.hands.items own_view,
+      ap length c.loop-grip.invariant.2,
+      joined_length (views_of c.args.hands.now.items) c.loop-grip.yielded,
+    ) in (
       append_assoc c.loop-grip.yielded (c.in-Some.grip ∷ []) c.next.new.self.rest.items ∙ all,
       omega (arith, c.loop-grip.invariant.1, length-append c.loop-grip.yielded (c.in-Some.grip ∷ [])),
-      join_step (views_of c.args.hands.now.items) c.loop-grip.hands.items c.loop-grip.yielded c.in-Some.grip c.loop-grip.at c.index_mut.result.now c.join.new.self c.loop-grip.invariant.1 lt lens is c.loop-grip.invariant.2 c.join.ensures.view,
+      join_step (views_of c.args.hands.now.items) c.loop-grip.hands.items c.loop-grip.yielded c.in-Some.grip c.loop-grip.at
+          c.index_mut.result.now c.join.new.self c.loop-grip.invariant.1 lt lens is c.loop-grip.invariant.2 c.join.ensures.view,
       map_put own_deque c.loop-grip.hands.items c.loop-grip.at c.index_mut.result.now c.join.new.self lt is c.join.ensures.deque ∙ c.loop-grip.invariant.3,
       map_put row_of c.loop-grip.hands.items c.loop-grip.at c.index_mut.result.now c.join.new.self lt is (ap (λ g. g.items) c.join.ensures.grips) ∙ c.loop-grip.invariant.4,
     )

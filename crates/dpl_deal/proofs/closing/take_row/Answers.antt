@@ -8,4 +8,5 @@ pub returns-clause-views : goal.returns-clause-views
 returns-clause-views c = map_put own_view c.args.hands.now.items c.args.at c.index_mut.result.now _ (search rules) (search rules) (ap (λ w. worker_view w) c.give_grips.ensures.own)
 
 pub returns-clause-deques : goal.returns-clause-deques
-returns-clause-deques c = map_put own_deque c.args.hands.now.items c.args.at c.index_mut.result.now _ (search rules) (search rules) (ap (λ w. worker_deque w) c.give_grips.ensures.own)
+returns-clause-deques c = map_put own_deque c.args.hands.now.items c.args.at c.index_mut.result.now _ (search rules) (search rules)
+    (ap (λ w. worker_deque w) c.give_grips.ensures.own)

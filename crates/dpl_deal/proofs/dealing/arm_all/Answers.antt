@@ -32,12 +32,22 @@ loop-me-preserved c =
     let gd : map grip_deque c.in_ok-grips.grips.items ≡ deques_of c.loop-me.hands.items = search rules in
     let gv : map grip_view c.in_ok-grips.grips.items ≡ map cut_off (views_of c.loop-me.hands.items) = search rules in
     let lt0 : c.loop-me.me < vec_len c.args.hands.now = search rules in
-    let lt : c.loop-me.me < length c.grip_all.new.hands.items = omega (arith, lt0, a, b, ds, c.loop-me.invariant.0, length-map c.grip_all.new.hands.items own_deque, length-map c.loop-me.hands.items own_deque) in
+    let lt : c.loop-me.me < length c.grip_all.new.hands.items = omega (
+      arith,
+      lt0,
+      a,
+      b,
+      ds,
+      c.loop-me.invariant.0,
+      length-map c.grip_all.new.hands.items own_deque,
+      length-map c.loop-me.hands.items own_deque,
+    ) in
     let is : c.index_mut.result.now ≡ get_or c.grip_all.new.hands.items c.loop-me.me c.index_mut.result.now = search rules in
     let w : own_view c.arm.new.self ≡ after_seal (own_view c.index_mut.result.now) = search rules in
     let q : own_deque c.arm.new.self ≡ own_deque c.index_mut.result.now = search rules in
     let g : c.arm.new.self.grips ≡ c.in_ok-grips.grips = search rules in
-    let row = armed_row (deques_of c.args.hands.now.items) c.loop-me.me c.args.tiles (vec_len c.args.hands.now) c.in_ok-grips.grips.items (views_of c.loop-me.hands.items) (gd ∙ c.loop-me.invariant.2) gv c.loop-me.invariant.1 in (
+    let row = armed_row (deques_of c.args.hands.now.items) c.loop-me.me c.args.tiles (vec_len c.args.hands.now) c.in_ok-grips.grips.items
+    (views_of c.loop-me.hands.items) (gd ∙ c.loop-me.invariant.2) gv c.loop-me.invariant.1 in (
       omega (arith, a, b, ds, c.loop-me.invariant.0, length-map c.grip_all.new.hands.items own_deque, length-map c.loop-me.hands.items own_deque),
       out_sealed (c.loop-me.me + 1) c.args.tiles (vec_len c.args.hands.now) c.grip_all.new.hands.items c.loop-me.me c.index_mut.result.now c.arm.new.self lt is
           (out_more c.loop-me.me c.args.tiles (vec_len c.args.hands.now) (views_of c.loop-me.hands.items) (views_of c.grip_all.new.hands.items) few e c.loop-me.invariant.1) w,

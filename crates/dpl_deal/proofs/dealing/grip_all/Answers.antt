@@ -15,7 +15,10 @@ grip-requires c =
     let is : c.index_mut.result.now ≡ get_or c.loop-at.hands.items c.loop-at.at c.index_mut.result.now = search rules in
     let lens : length c.args.hands.now.items ≡ length c.loop-at.hands.items = search rules in
     let e = gripped_view (views_of c.args.hands.now.items) c.loop-at.hands.items c.loop-at.at c.index_mut.result.now lt is c.loop-at.invariant.1 in
-    record { parts = subst (λ (v : View). 1 < v.parts) (sym e) (c.requires.parts c.loop-at.at (own_view c.index_mut.result.now) (omega (arith, length-map c.args.hands.now.items own_view))) }
+    record {
+      parts = subst (λ (v : View). 1 < v.parts) (sym e) (c.requires.parts c.loop-at.at (own_view c.index_mut.result.now)
+          (omega (arith, length-map c.args.hands.now.items own_view)));
+    }
 
 pub loop-at-preserved : goal.loop-at-preserved
 loop-at-preserved c =
@@ -31,15 +34,25 @@ loop-at-preserved c =
     let gv : grip_view c.in_ok-grip.grip ≡ cut_off (own_view c.index_mut.result.now) = search rules in
     let ve = gripped_view (views_of c.args.hands.now.items) c.loop-at.hands.items c.loop-at.at c.index_mut.result.now lt is c.loop-at.invariant.1 in (
       c.loop-at.invariant.0,
-      grip_step (views_of c.args.hands.now.items) c.loop-at.hands.items c.loop-at.at c.index_mut.result.now c.grip.new.self lt is c.loop-at.invariant.1 (length-map c.args.hands.now.items own_view ∙ lens) w,
+      grip_step (views_of c.args.hands.now.items) c.loop-at.hands.items c.loop-at.at c.index_mut.result.now c.grip.new.self lt is
+          c.loop-at.invariant.1 (length-map c.args.hands.now.items own_view ∙ lens) w,
       map_put own_deque c.loop-at.hands.items c.loop-at.at c.index_mut.result.now c.grip.new.self lt is q ∙ c.loop-at.invariant.2,
-      ap (map grip_deque) pushed ∙ map_take_next grip_deque c.loop-at.grips.items c.in_ok-grip.grip (deques_of c.args.hands.now.items) c.loop-at.at (own_deque c.index_mut.result.now) (omega (arith, lt, lens, length-map c.args.hands.now.items own_deque)) c.loop-at.invariant.3
-          (gd ∙ ap own_deque is ∙ sym (get_or-map own_deque c.loop-at.hands.items c.loop-at.at c.index_mut.result.now (own_deque c.index_mut.result.now) lt) ∙ ap (λ l. get_or l c.loop-at.at (own_deque c.index_mut.result.now)) c.loop-at.invariant.2),
-      ap (map grip_view) pushed ∙ map_take_next grip_view c.loop-at.grips.items c.in_ok-grip.grip (map cut_off (views_of c.args.hands.now.items)) c.loop-at.at (cut_off (own_view c.index_mut.result.now)) (omega (arith, lt, lens, length-map (views_of c.args.hands.now.items) cut_off, length-map c.args.hands.now.items own_view)) c.loop-at.invariant.4
-          (gv ∙ ap cut_off ve ∙ sym (get_or-map cut_off (views_of c.args.hands.now.items) c.loop-at.at (own_view c.index_mut.result.now) (cut_off (own_view c.index_mut.result.now)) (omega (arith, lt, lens, length-map c.args.hands.now.items own_view)))),
+      ap (map grip_deque) pushed ∙ map_take_next grip_deque c.loop-at.grips.items c.in_ok-grip.grip
+          (deques_of c.args.hands.now.items) c.loop-at.at (own_deque c.index_mut.result.now)
+          (omega (arith, lt, lens, length-map c.args.hands.now.items own_deque)) c.loop-at.invariant.3
+          (gd ∙ ap own_deque is ∙ sym (get_or-map own_deque c.loop-at.hands.items c.loop-at.at c.index_mut.result.now
+          (own_deque c.index_mut.result.now) lt)
+          ∙ ap (λ l. get_or l c.loop-at.at (own_deque c.index_mut.result.now)) c.loop-at.invariant.2),
+      ap (map grip_view) pushed ∙ map_take_next grip_view c.loop-at.grips.items c.in_ok-grip.grip
+          (map cut_off (views_of c.args.hands.now.items)) c.loop-at.at (cut_off (own_view c.index_mut.result.now))
+          (omega (arith, lt, lens, length-map (views_of c.args.hands.now.items) cut_off, length-map c.args.hands.now.items own_view))
+          c.loop-at.invariant.4
+          (gv ∙ ap cut_off ve ∙ sym (get_or-map cut_off (views_of c.args.hands.now.items) c.loop-at.at (own_view c.index_mut.result.now)
+          (cut_off (own_view c.index_mut.result.now)) (omega (arith, lt, lens, length-map c.args.hands.now.items own_view)))),
       map_put row_of c.loop-at.hands.items c.loop-at.at c.index_mut.result.now c.grip.new.self lt is (ap (λ g. g.items) gs) ∙ c.loop-at.invariant.5,
       map_put (λ (h : Hand). h.marked) c.loop-at.hands.items c.loop-at.at c.index_mut.result.now c.grip.new.self lt is mk ∙ c.loop-at.invariant.6,
     )
 
 pub returns-clause-views : goal.returns-clause-views
-returns-clause-views c = c.loop-at.invariant.1 ∙ gripped_all c.loop-at.at (views_of c.args.hands.now.items) (let e : length c.args.hands.now.items ≤ c.loop-at.at = search rules in omega (arith, e, length-map c.args.hands.now.items own_view))
+returns-clause-views c = c.loop-at.invariant.1 ∙ gripped_all c.loop-at.at (views_of c.args.hands.now.items)
+    (let e : length c.args.hands.now.items ≤ c.loop-at.at = search rules in omega (arith, e, length-map c.args.hands.now.items own_view))

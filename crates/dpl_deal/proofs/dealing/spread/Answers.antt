@@ -25,5 +25,8 @@ loop-tile-preserved c =
     let is : c.index_mut.result.now ≡ get_or c.loop-tile.hands.items (c.loop-tile.tile % c.len.result) c.index_mut.result.now = search rules in
     let w : own_view c.deal.new.self ≡ after_deal (own_view c.index_mut.result.now) c.loop-tile.tile = search rules in
     let n : c.len.result ≡ vec_len c.args.hands.now = search rules in
-    let at : c.loop-tile.tile % c.len.result ≡ c.loop-tile.tile % vec_len c.args.hands.now = ap (λ (k : ℕ). c.loop-tile.tile % k) n in
-    (c.loop-tile.invariant.0, spread_step c.loop-tile.tile (vec_len c.args.hands.now) c.loop-tile.hands.items _ c.index_mut.result.now c.deal.new.self lt at is c.loop-tile.invariant.1 w)
+    let at : c.loop-tile.tile % c.len.result ≡ c.loop-tile.tile % vec_len c.args.hands.now = ap (λ (k : ℕ). c.loop-tile.tile % k) n in (
+      c.loop-tile.invariant.0,
+      spread_step c.loop-tile.tile (vec_len c.args.hands.now) c.loop-tile.hands.items _ c.index_mut.result.now
+          c.deal.new.self lt at is c.loop-tile.invariant.1 w,
+    )

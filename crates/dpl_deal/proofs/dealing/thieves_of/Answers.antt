@@ -11,5 +11,7 @@ loop-at-preserved c =
     let is : c.index.result.now ≡ get_or c.args.hands.now.items c.loop-at.at c.index.result.now = search rules in
     let pushed : c.push.new.self.items ≡ c.loop-at.thieves.items ++ c.in_ok-thief.thief ∷ [] = search rules in
     let same : thief_deque c.in_ok-thief.thief ≡ own_deque c.index.result.now = search rules in
-    ap (map thief_deque) pushed ∙ map_take_next thief_deque c.loop-at.thieves.items c.in_ok-thief.thief (deques_of c.args.hands.now.items) c.loop-at.at (own_deque c.index.result.now) (omega (arith, lt, length-map c.args.hands.now.items own_deque)) c.loop-at.invariant
+    ap (map thief_deque) pushed ∙ map_take_next thief_deque c.loop-at.thieves.items c.in_ok-thief.thief
+    (deques_of c.args.hands.now.items) c.loop-at.at (own_deque c.index.result.now)
+    (omega (arith, lt, length-map c.args.hands.now.items own_deque)) c.loop-at.invariant
     (same ∙ ap own_deque is ∙ sym (get_or-map own_deque c.args.hands.now.items c.loop-at.at c.index.result.now (own_deque c.index.result.now) lt))

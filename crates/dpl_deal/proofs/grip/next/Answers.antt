@@ -10,4 +10,5 @@ pub steal_as-requires-clause-takes : goal.steal_as-requires-clause-takes
 steal_as-requires-clause-takes g c = takes _ _ (rw (c.loop.invariant.1) c.requires.due.0) (rw (c.loop.invariant.1) c.requires.due.1)
 
 pub steal_as-requires-clause-empty : goal.steal_as-requires-clause-empty
-steal_as-requires-clause-empty g c = subst (λ (n : ℕ). FindsFew IsKept (min n 1) c.loop.pass.id (view c.loop.pass) ((view c.loop.pass).due ≡ 0)) (sym c.args.thief.now.fifo) (finds_few _ _)
+steal_as-requires-clause-empty g c = subst (λ (n : ℕ). FindsFew IsKept (min n 1) c.loop.pass.id (view c.loop.pass)
+    ((view c.loop.pass).due ≡ 0)) (sym c.args.thief.now.fifo) (finds_few _ _)

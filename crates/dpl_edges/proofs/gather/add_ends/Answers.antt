@@ -9,7 +9,8 @@ loop-k-init c = each-none (IsEnds c.args.i) c.args.others.now c.args.found.now.i
 
 pub loop-k-preserved : goal.loop-k-preserved
 loop-k-preserved c =
-    each-next (IsEnds c.args.i) c.args.others.now c.loop-k.k-index _ c.args.found.now.items c.loop-k.found.items _ c.loop-k-test.true c.loop-k.invariant (ends-push c.args.i _ c.loop-k.found.items _ _ c.ends.ensures c.in_ok-push.ensures.items)
+    each-next (IsEnds c.args.i) c.args.others.now c.loop-k.k-index _ c.args.found.now.items c.loop-k.found.items _ c.loop-k-test.true
+    c.loop-k.invariant (ends-push c.args.i _ c.loop-k.found.items _ _ c.ends.ensures c.in_ok-push.ensures.items)
 
 pub returns : goal.returns
 returns c = each-all (IsEnds c.args.i) c.args.others.now c.loop-k.k-index c.args.found.now.items c.loop-k.found.items (omega arith) c.loop-k.invariant

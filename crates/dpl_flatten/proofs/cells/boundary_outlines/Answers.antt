@@ -3,4 +3,5 @@ use Rattle.dpl_flatten.proofs.NearLaws.{only_memory}
 use Rattle.dpl_flatten.proofs.cells.boundary_outlines.Goals as goal
 
 pub want_of_memory-requires : goal.want_of_memory-requires
-want_of_memory-requires c = only_memory (points_in c.args.xy.now) c.in-Err.fault (c.requires c.if-not-counts.false) (rw (c.as_slice.ensures.value, c.in_ok-points.ensures.value) at c.in-Err.ensures.refused)
+want_of_memory-requires c = only_memory (points_in c.args.xy.now) c.in-Err.fault (c.requires c.if-not-counts.false)
+    (rw (c.as_slice.ensures.value, c.in_ok-points.ensures.value) at c.in-Err.ensures.refused)

@@ -29,4 +29,11 @@ returns-in-Aref-clause-copies c =
     let n : FitsSigned w16 c.in-Aref.columns = search rules in
     let m : FitsSigned w16 c.in-Aref.rows = search rules in
     let e = simp to_z-of_z at c.array_copies.ensures.copies in
-    rw c.in-Aref.is (array_are (record { name = c.in-Aref.name.now; trans = option_map trans_seen c.in-Aref.trans; columns = c.in-Aref.columns; rows = c.in-Aref.rows; xy = c.in-Aref.xy.now }) c.array_copies.result e)
+    rw c.in-Aref.is (array_are
+    (record {
+      name = c.in-Aref.name.now;
+      trans = option_map trans_seen c.in-Aref.trans;
+      columns = c.in-Aref.columns;
+      rows = c.in-Aref.rows;
+      xy = c.in-Aref.xy.now;
+    }) c.array_copies.result e)

@@ -9,7 +9,8 @@ pub boundary_outlines-requires : goal.boundary_outlines-requires
 boundary_outlines-requires c = let r = c.requires SlantedBoundary in let s = rw c.in-Boundary.is at r in λ on slanted. s (sym c.is_on.ensures ∙ on, (refl, slanted))
 
 pub boundary_outlines-requires-in-BoxShape : goal.boundary_outlines-requires-in-BoxShape
-boundary_outlines-requires-in-BoxShape c = let r = c.requires SlantedBoundary in let s = rw c.in-BoxShape.is at r in λ on slanted. s (sym c.is_on-in-BoxShape.ensures ∙ on, (refl, slanted))
+boundary_outlines-requires-in-BoxShape c = let r = c.requires SlantedBoundary in let s = rw c.in-BoxShape.is at r in
+    λ on slanted. s (sym c.is_on-in-BoxShape.ensures ∙ on, (refl, slanted))
 
 pub path_outlines-requires : goal.path_outlines-requires
 path_outlines-requires c =

@@ -13,7 +13,8 @@ cell_where-requires-clause-taken c = c.requires.taken c.loop-structure.structure
 
 pub loop-structure-preserved : goal.loop-structure-preserved
 loop-structure-preserved c =
-    below_more c.args.lib.now c.args.chosen c.args.marks.now c.loop-structure.structure _ c.in_ok-cell.cell c.loop-structure.cells.items c.push.new.self.items c.in_ok-push.ensures.items refl c.in_ok-cell.ensures.cell c.in_ok-cell.ensures.empty c.loop-structure.invariant
+    below_more c.args.lib.now c.args.chosen c.args.marks.now c.loop-structure.structure _ c.in_ok-cell.cell c.loop-structure.cells.items
+    c.push.new.self.items c.in_ok-push.ensures.items refl c.in_ok-cell.ensures.cell c.in_ok-cell.ensures.empty c.loop-structure.invariant
 
 pub returns : goal.returns
 returns c =

@@ -11,10 +11,15 @@ counted : (c : After-index) → c.index.result.now ≡ min (placed_points c.args
 counted c =
     let items = c.in_ok-counted.counted.items in
     let i : c.args.top < length items = omega (arith, c.requires.top, c.in_ok-counted.ensures.each) in
-    c.index.ensures ∙ (get_or_default items c.args.top c.index.result.now 0 i ∙ c.in_ok-counted.ensures.right c.args.top (top_marked c.args.lib.now c.args.links.now.graph.now c.args.top c.args.links.now.marks.now c.requires.links.graph_of c.requires.reached))
+    c.index.ensures ∙ (get_or_default items c.args.top c.index.result.now 0 i ∙ c.in_ok-counted.ensures.right c.args.top
+    (top_marked c.args.lib.now c.args.links.now.graph.now c.args.top c.args.links.now.marks.now c.requires.links.graph_of
+    c.requires.reached))
 
 pub returns-then-index-gt-MOST_POINTS-clause-fault : goal.returns-then-index-gt-MOST_POINTS-clause-fault
-returns-then-index-gt-MOST_POINTS-clause-fault c = (c.requires.sound, omega (arith, counted (goal.at.returns-then-index-gt-MOST_POINTS-clause-fault c).After-index, c.if-index-gt-MOST_POINTS.true))
+returns-then-index-gt-MOST_POINTS-clause-fault c = (
+  c.requires.sound,
+  omega (arith, counted (goal.at.returns-then-index-gt-MOST_POINTS-clause-fault c).After-index, c.if-index-gt-MOST_POINTS.true),
+)
 
 pub returns-clause-small : goal.returns-clause-small
 returns-clause-small c = record { sound = c.requires.sound; few = omega (arith, counted (goal.at.returns-clause-small c).After-index, c.if-index-gt-MOST_POINTS.false) }

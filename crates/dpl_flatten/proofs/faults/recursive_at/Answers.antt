@@ -9,10 +9,14 @@ pub find_levels-requires-clause-graph : goal.find_levels-requires-clause-graph
 find_levels-requires-clause-graph c = graph_known c.args.lib.now c.args.links.now.graph.now c.requires.links.graph_of
 
 pub recursion-requires-clause-links : goal.recursion-requires-clause-links
-recursion-requires-clause-links c = rw c.deref.ensures.value (levelled_of c.args.lib.now c.args.links.now.graph.now c.args.top c.args.links.now.marks.now c.in_ok-levels.levels.items c.requires.links c.requires.reached c.in_ok-levels.ensures.levels)
+recursion-requires-clause-links c = rw c.deref.ensures.value
+    (levelled_of c.args.lib.now c.args.links.now.graph.now c.args.top c.args.links.now.marks.now c.in_ok-levels.levels.items c.requires.links
+    c.requires.reached c.in_ok-levels.ensures.levels)
 
 pub unreachable-requires : goal.unreachable-requires
-unreachable-requires c = cycle_there c.args.lib.now c.args.links.now.graph.now c.args.top c.args.links.now.marks.now _ c.requires.links.graph_of c.requires.reached c.requires.cycle refl c.in-None.ensures
+unreachable-requires c = cycle_there c.args.lib.now c.args.links.now.graph.now c.args.top c.args.links.now.marks.now _
+    c.requires.links.graph_of c.requires.reached c.requires.cycle refl c.in-None.ensures
 
 pub returns : goal.returns
-returns c = first_of c.args.lib.now c.args.links.now.graph.now c.args.top c.args.links.now.marks.now c.requires.links.graph_of c.requires.reached (IsOnCycle c.args.lib.now) c.in-Some.at c.in-Some.ensures
+returns c = first_of c.args.lib.now c.args.links.now.graph.now c.args.top c.args.links.now.marks.now c.requires.links.graph_of
+    c.requires.reached (IsOnCycle c.args.lib.now) c.in-Some.at c.in-Some.ensures

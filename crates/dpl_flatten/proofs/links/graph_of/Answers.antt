@@ -4,7 +4,8 @@ use Rattle.dpl_flatten.specs.Links.{IsGraphOf}
 use Rattle.dpl_flatten.proofs.links.graph_of.Goals as goal
 
 pub loop-structure-preserved : goal.loop-structure-preserved
-loop-structure-preserved c = AreRows-more c.args.lib.now c.loop-structure.structure c.loop-structure.graph.items c.push.new.self.items c.in_ok-row.row c.in_ok-push.ensures.items c.in_ok-row.ensures.row c.in_ok-row.ensures.sized c.loop-structure.invariant
+loop-structure-preserved c = AreRows-more c.args.lib.now c.loop-structure.structure c.loop-structure.graph.items c.push.new.self.items
+    c.in_ok-row.row c.in_ok-push.ensures.items c.in_ok-row.ensures.row c.in_ok-row.ensures.sized c.loop-structure.invariant
 
 all_rows : (c : goal.After-loop-structure) → IsGraphOf c.args.lib.now c.loop-structure.graph.items
 all_rows c = AreRows-all c.args.lib.now c.loop-structure.structure c.loop-structure.graph.items (omega (arith, c.count-structure-end.ensures.value)) c.loop-structure.invariant

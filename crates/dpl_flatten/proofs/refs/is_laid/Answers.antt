@@ -9,5 +9,14 @@ returns c =
     let n : FitsSigned w16 c.args.columns = search rules in
     let m : FitsSigned w16 c.args.rows = search rules in
     let e = rw (c.point_at-from.ensures.value, c.point_at-across.ensures.value) at (simp to_z-of_z at c.if-not-divides_both.ensures) in
-    let f = rw (c.point_at-from.ensures.value, c.point_at-up.ensures.value) at (simp to_z-of_z at c.if-not-divides_both-2.ensures) in
-    (λ _. record { column = omega (arith, ints); row = omega (arith, ints); column_x = (e.0 refl).x; column_y = (e.0 refl).y; row_x = (f.0 refl).x; row_y = (f.0 refl).y }, λ _. refl)
+    let f = rw (c.point_at-from.ensures.value, c.point_at-up.ensures.value) at (simp to_z-of_z at c.if-not-divides_both-2.ensures) in (
+      λ _. record {
+        column = omega (arith, ints);
+        row = omega (arith, ints);
+        column_x = (e.0 refl).x;
+        column_y = (e.0 refl).y;
+        row_x = (f.0 refl).x;
+        row_y = (f.0 refl).y;
+      },
+      λ _. refl,
+    )

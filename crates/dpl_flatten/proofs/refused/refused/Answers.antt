@@ -4,7 +4,10 @@ use Rattle.dpl_flatten.proofs.LeastLaws.{marked_more, marked_all}
 use Rattle.dpl_flatten.proofs.refused.refused.Goals as goal
 
 pub loop-structure-preserved : goal.loop-structure-preserved
-loop-structure-preserved c = marked_more c.args.lib.now c.args.marks.now c.loop-structure.structure (IsRefused c.args.chosen) _ c.loop-structure.first c.in_ok-found.found c.earlier-first.result refl c.earlier-first.ensures c.loop-structure.invariant c.in_ok-found.ensures
+loop-structure-preserved c = marked_more c.args.lib.now c.args.marks.now c.loop-structure.structure
+    (IsRefused c.args.chosen) _ c.loop-structure.first c.in_ok-found.found c.earlier-first.result refl c.earlier-first.ensures
+    c.loop-structure.invariant c.in_ok-found.ensures
 
 pub returns : goal.returns
-returns c = marked_all c.args.lib.now c.args.marks.now c.loop-structure.structure (IsRefused c.args.chosen) c.loop-structure.first (omega (arith, c.requires, c.count-structure-end.ensures.value)) c.loop-structure.invariant
+returns c = marked_all c.args.lib.now c.args.marks.now c.loop-structure.structure (IsRefused c.args.chosen) c.loop-structure.first
+    (omega (arith, c.requires, c.count-structure-end.ensures.value)) c.loop-structure.invariant

@@ -4,4 +4,5 @@ use Rattle.dpl_flatten.proofs.LeastLaws.{least_unmarked}
 use Rattle.dpl_flatten.proofs.refused.refused_where.Goals as goal
 
 pub returns : goal.returns
-returns c = least_unmarked (IsRefused c.args.chosen) c.args.structure (elements_at c.args.lib.now c.args.structure) c.args.marked c.in_ok-first.first c.if-not-marked.false c.in_ok-first.ensures
+returns c = least_unmarked (IsRefused c.args.chosen) c.args.structure (elements_at c.args.lib.now c.args.structure) c.args.marked
+    c.in_ok-first.first c.if-not-marked.false c.in_ok-first.ensures

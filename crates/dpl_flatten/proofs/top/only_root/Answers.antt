@@ -9,7 +9,9 @@ pub returns-in-len1-clause-top : goal.returns-in-len1-clause-top
 returns-in-len1-clause-top c = roots_one c.args.lib.now c.as_slice.result.now (rw c.as_slice.ensures.value c.in_ok-roots.ensures) c.in-len1.len_at_least c.in-len1.len_below
 
 pub returns-in-len1-clause-known : goal.returns-in-len1-clause-known
-returns-in-len1-clause-known c = root_known c.args.lib.now _ (roots_one c.args.lib.now c.as_slice.result.now (rw c.as_slice.ensures.value c.in_ok-roots.ensures) c.in-len1.len_at_least c.in-len1.len_below)
+returns-in-len1-clause-known c = root_known c.args.lib.now _
+    (roots_one c.args.lib.now c.as_slice.result.now (rw c.as_slice.ensures.value c.in_ok-roots.ensures) c.in-len1.len_at_least
+    c.in-len1.len_below)
 
 pub returns-clause-fault : goal.returns-clause-fault
 returns-clause-fault c = (c.in_default.len_at_least, (c.as_slice.result.now, rw c.as_slice.ensures.value c.in_ok-roots.ensures, refl))

@@ -23,6 +23,7 @@ loop-k-preserved c =
     let below = (arc-below c.args.n c.args.edges.now c.requires c.loop-k.k c.loop-k-test.true).0 in
     let as_many = c.loop-k.invariant.as_many in
     let from : (arc_at c.args.edges.now c.loop-k.k).0 ≡ c.arc-from.result.0 = ap (λ (a : ℕ × ℕ). a.0) (sym c.arc-from.ensures) in
-    let read : c.index.result.now ≡ get_or c.loop-k.last.items c.arc-from.result.0 0 = get_or_read c.loop-k.last.items c.arc-from.result.0 c.index.result.now (omega (arith, below, as_many, from)) c.index.ensures 0 in
+    let read : c.index.result.now ≡ get_or c.loop-k.last.items c.arc-from.result.0 0 = get_or_read c.loop-k.last.items c.arc-from.result.0
+    c.index.result.now (omega (arith, below, as_many, from)) c.index.ensures 0 in
     links-step c.args.edges.now c.args.n c.loop-k.k c.arc-from.result.0 c.loop-k.last.items c.loop-k.before.items _ c.push.new.self.items c.loop-k.invariant
     from (omega (arith, below, from)) refl (c.in_ok-push.ensures.items ∙ ap (λ p. c.loop-k.before.items ++ p ∷ []) read)

@@ -4,7 +4,12 @@ use Rattle.dpl_links.proofs.order.find_order.Goals as goal
 
 pub loop-visit-init : goal.loop-visit-init
 loop-visit-init c =
-    search_start c.args.graph.now c.args.from _ _ _ _ _ _ _ (record { vertex = c.args.from; gone = 0 }) c.requires.from refl refl c.in_ok-search.ensures.found c.in_ok-find.ensures.found (rw c.in_ok-find.ensures.closed c.in_ok-search.ensures.closed) (rw c.in_ok-find.ensures.levels c.in_ok-search.ensures.levels) (rw c.in_ok-find.ensures.vertices c.in_ok-search.ensures.vertices) c.in_ok-search.ensures.path c.in_ok-find.ensures.path
+    search_start c.args.graph.now c.args.from _ _ _ _ _ _ _ (record { vertex = c.args.from; gone = 0 }) c.requires.from refl refl
+    c.in_ok-search.ensures.found c.in_ok-find.ensures.found (rw c.in_ok-find.ensures.closed c.in_ok-search.ensures.closed)
+    (rw c.in_ok-find.ensures.levels c.in_ok-search.ensures.levels) (rw c.in_ok-find.ensures.vertices c.in_ok-search.ensures.vertices)
+    c.in_ok-search.ensures.path c.in_ok-find.ensures.path
 
 pub returns : goal.returns
-returns c = search_all c.args.graph.now c.args.from c.loop-visit.search.found.items c.loop-visit.search.closed.items c.loop-visit.search.levels.items c.loop-visit.search.vertices.items c.loop-visit.search.path.items (omega (arith, c.loop-visit.search.path.ok.0, c.in_default.ensures.cases.0)) c.loop-visit.invariant
+returns c = search_all c.args.graph.now c.args.from c.loop-visit.search.found.items c.loop-visit.search.closed.items
+    c.loop-visit.search.levels.items c.loop-visit.search.vertices.items c.loop-visit.search.path.items
+    (omega (arith, c.loop-visit.search.path.ok.0, c.in_default.ensures.cases.0)) c.loop-visit.invariant

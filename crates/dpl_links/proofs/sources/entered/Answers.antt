@@ -22,4 +22,5 @@ loop-row-preserved c =
     entered_more c.args.graph.now v _ _ _ _ _ _ _ are c.loop-row.invariant c.in_ok-mark_all.ensures
 
 pub returns-clause-marks : goal.returns-clause-marks
-returns-clause-marks c = entered_all c.args.graph.now c.loop-row.row-index c.in_ok-marks.marks.items c.loop-row.marks.items _ _ c.in_ok-marks.ensures c.loop-row-test.false c.loop-row.invariant
+returns-clause-marks c = entered_all c.args.graph.now c.loop-row.row-index c.in_ok-marks.marks.items c.loop-row.marks.items _ _
+    c.in_ok-marks.ensures c.loop-row-test.false c.loop-row.invariant

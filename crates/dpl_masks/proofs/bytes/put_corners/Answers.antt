@@ -17,4 +17,5 @@ returns-clause-bytes c =
     let e3 = rw (to_z-of_z w32 c.args.r.now.x1 x1, to_z-of_z w32 c.args.r.now.y1 y1) at c.in_ok-put_point-3.ensures.bytes in
     let e4 = rw (to_z-of_z w32 c.args.r.now.x0 x0, to_z-of_z w32 c.args.r.now.y1 y1) at c.in_ok-put_point-4.ensures.bytes in
     let e5 = rw (to_z-of_z w32 c.args.r.now.x0 x0, to_z-of_z w32 c.args.r.now.y0 y0) at c.in_ok-put_point-5.ensures.bytes in
-    five_puts _ _ _ _ _ _ (point_bytes (at r.x0 r.y0)) (point_bytes (at r.x1 r.y0)) (point_bytes (at r.x1 r.y1)) (point_bytes (at r.x0 r.y1)) (point_bytes (at r.x0 r.y0)) e1 e2 e3 e4 e5
+    five_puts _ _ _ _ _ _ (point_bytes (at r.x0 r.y0)) (point_bytes (at r.x1 r.y0)) (point_bytes (at r.x1 r.y1))
+    (point_bytes (at r.x0 r.y1)) (point_bytes (at r.x0 r.y0)) e1 e2 e3 e4 e5

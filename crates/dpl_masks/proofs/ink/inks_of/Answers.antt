@@ -9,5 +9,7 @@ note_wholes-requires-clause-none c = noted-none c.args.wholes.now c.in_ok-inks.i
 pub returns : goal.returns
 returns c =
     let each : length c.note_wholes.new.inks.items ≡ c.args.count = search rules in
-    let all = c.note_pieces.ensures c.args.wholes.now (inks-noted _ c.args.owners.now (map is_second c.args.colours.now) c.args.wholes.now c.note_wholes.new.inks.items refl c.note_wholes.ensures.noted) in
+    let all = c.note_pieces.ensures c.args.wholes.now
+    (inks-noted _ c.args.owners.now (map is_second c.args.colours.now) c.args.wholes.now c.note_wholes.new.inks.items refl
+    c.note_wholes.ensures.noted) in
     rw each at all

@@ -7,5 +7,6 @@ use Rattle.dpl_masks.proofs.ink.note_pieces.Given as goal
 abbrev pub invariant-loop-k : goal.invariant-loop-k
 invariant-loop-k l = record {
   each : length l.inks.items ≡ length l.fn.inks.items;
-  inked : (wholes : List Whole) → AreInksTo 0 (length l.fn.inks.items) l.owners (map is_second l.colours) wholes l.fn.inks.items → AreInksTo l.k (length l.fn.inks.items) l.owners (map is_second l.colours) wholes l.inks.items;
+  inked : (wholes : List Whole) → AreInksTo 0 (length l.fn.inks.items) l.owners (map is_second l.colours) wholes l.fn.inks.items
+      → AreInksTo l.k (length l.fn.inks.items) l.owners (map is_second l.colours) wholes l.inks.items;
 }

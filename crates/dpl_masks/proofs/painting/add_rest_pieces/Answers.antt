@@ -16,8 +16,10 @@ loop-k-preserved c =
     let a_step = rw c.rects.ensures.value at c.in_ok-add_rest_piece.ensures.a in
     let b_step = rw c.rects.ensures.value at c.in_ok-add_rest_piece.ensures.b in
     record {
-      a = rest-piece-more _ _ _ c.args.parts.now c.args.owners.now (map is_second c.args.colours.now) c.args.inks.now false c.loop-k.k c.index-parts-k.result _ _ k_in c.index-parts-k.is colour refl c.loop-k.invariant.a a_step;
-      b = rest-piece-more _ _ _ c.args.parts.now c.args.owners.now (map is_second c.args.colours.now) c.args.inks.now true c.loop-k.k c.index-parts-k.result _ _ k_in c.index-parts-k.is colour refl c.loop-k.invariant.b b_step;
+      a = rest-piece-more _ _ _ c.args.parts.now c.args.owners.now (map is_second c.args.colours.now) c.args.inks.now false c.loop-k.k
+          c.index-parts-k.result _ _ k_in c.index-parts-k.is colour refl c.loop-k.invariant.a a_step;
+      b = rest-piece-more _ _ _ c.args.parts.now c.args.owners.now (map is_second c.args.colours.now) c.args.inks.now true c.loop-k.k
+          c.index-parts-k.result _ _ k_in c.index-parts-k.is colour refl c.loop-k.invariant.b b_step;
       a_within = c.in_ok-add_rest_piece.ensures.a_within;
       b_within = c.in_ok-add_rest_piece.ensures.b_within;
     }
@@ -25,9 +27,11 @@ loop-k-preserved c =
 pub returns-clause-a : goal.returns-clause-a
 returns-clause-a c =
     let all : c.loop-k.k ≡ length c.args.parts.now = omega arith in
-    subst (λ (n : ℕ). Adds c.args.a.now.items c.loop-k.a.items (rest_pieces n c.args.parts.now c.args.owners.now (map is_second c.args.colours.now) c.args.inks.now false)) all c.loop-k.invariant.a
+    subst (λ (n : ℕ). Adds c.args.a.now.items c.loop-k.a.items (rest_pieces n c.args.parts.now c.args.owners.now
+    (map is_second c.args.colours.now) c.args.inks.now false)) all c.loop-k.invariant.a
 
 pub returns-clause-b : goal.returns-clause-b
 returns-clause-b c =
     let all : c.loop-k.k ≡ length c.args.parts.now = omega arith in
-    subst (λ (n : ℕ). Adds c.args.b.now.items c.loop-k.b.items (rest_pieces n c.args.parts.now c.args.owners.now (map is_second c.args.colours.now) c.args.inks.now true)) all c.loop-k.invariant.b
+    subst (λ (n : ℕ). Adds c.args.b.now.items c.loop-k.b.items (rest_pieces n c.args.parts.now c.args.owners.now
+    (map is_second c.args.colours.now) c.args.inks.now true)) all c.loop-k.invariant.b

@@ -17,8 +17,12 @@ loop-k-preserved c =
     let first = sym (get_or-map is_second c.args.colours.now side.0 A false known.0) in
     let second = sym (get_or-map is_second c.args.colours.now side.1 A false known.1) in
     record {
-      a = rest-zone-more _ _ _ c.args.zones.now c.args.sides.now (map is_second c.args.colours.now) c.args.inks.now false c.loop-k.k _ side _ _ _ k_in s_in (get_or_default c.args.zones.now c.loop-k.k _ _ k_in) (get_or_default c.args.sides.now c.loop-k.k _ _ s_in) first second refl c.loop-k.invariant.a c.in_ok-add_rest_zone.ensures.a;
-      b = rest-zone-more _ _ _ c.args.zones.now c.args.sides.now (map is_second c.args.colours.now) c.args.inks.now true c.loop-k.k _ side _ _ _ k_in s_in (get_or_default c.args.zones.now c.loop-k.k _ _ k_in) (get_or_default c.args.sides.now c.loop-k.k _ _ s_in) first second refl c.loop-k.invariant.b c.in_ok-add_rest_zone.ensures.b;
+      a = rest-zone-more _ _ _ c.args.zones.now c.args.sides.now (map is_second c.args.colours.now) c.args.inks.now false c.loop-k.k _ side
+          _ _ _ k_in s_in (get_or_default c.args.zones.now c.loop-k.k _ _ k_in) (get_or_default c.args.sides.now c.loop-k.k _ _ s_in) first
+          second refl c.loop-k.invariant.a c.in_ok-add_rest_zone.ensures.a;
+      b = rest-zone-more _ _ _ c.args.zones.now c.args.sides.now (map is_second c.args.colours.now) c.args.inks.now true c.loop-k.k _ side
+          _ _ _ k_in s_in (get_or_default c.args.zones.now c.loop-k.k _ _ k_in) (get_or_default c.args.sides.now c.loop-k.k _ _ s_in) first
+          second refl c.loop-k.invariant.b c.in_ok-add_rest_zone.ensures.b;
       a_within = c.in_ok-add_rest_zone.ensures.a_within;
       b_within = c.in_ok-add_rest_zone.ensures.b_within;
     }
@@ -26,9 +30,11 @@ loop-k-preserved c =
 pub returns-clause-a : goal.returns-clause-a
 returns-clause-a c =
     let all : c.loop-k.k ≡ length c.args.zones.now = omega arith in
-    subst (λ (n : ℕ). Adds c.args.a.now.items c.loop-k.a.items (rest_zones n c.args.zones.now c.args.sides.now (map is_second c.args.colours.now) c.args.inks.now false)) all c.loop-k.invariant.a
+    subst (λ (n : ℕ). Adds c.args.a.now.items c.loop-k.a.items (rest_zones n c.args.zones.now c.args.sides.now
+    (map is_second c.args.colours.now) c.args.inks.now false)) all c.loop-k.invariant.a
 
 pub returns-clause-b : goal.returns-clause-b
 returns-clause-b c =
     let all : c.loop-k.k ≡ length c.args.zones.now = omega arith in
-    subst (λ (n : ℕ). Adds c.args.b.now.items c.loop-k.b.items (rest_zones n c.args.zones.now c.args.sides.now (map is_second c.args.colours.now) c.args.inks.now true)) all c.loop-k.invariant.b
+    subst (λ (n : ℕ). Adds c.args.b.now.items c.loop-k.b.items (rest_zones n c.args.zones.now c.args.sides.now
+    (map is_second c.args.colours.now) c.args.inks.now true)) all c.loop-k.invariant.b

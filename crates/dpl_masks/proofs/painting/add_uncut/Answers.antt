@@ -18,7 +18,8 @@ loop-k-preserved c =
     let here : c.index-parts-k.result ≡ get_or parts k c.index-parts-k.result = rw c.items-parts.ensures.value at c.index-parts-k.is in
     let part = c.rects.ensures.value ∙ (here ∙ get_or_default parts k c.index-parts-k.result [] k_in) in
     let ink = ap (λ l. ink_at c.args.inks.now (get_or l k 0)) c.as_slice-owners.ensures.value in
-    sheets-piece parts c.args.cut.now.owners.items c.args.cut.now.zones.items c.args.cut.now.sides.items c.args.cut.now.wholes.items (map is_second c.args.colours.now) c.args.inks.now k _ _ _ _ k_in c.loop-k.invariant
+    sheets-piece parts c.args.cut.now.owners.items c.args.cut.now.zones.items c.args.cut.now.sides.items c.args.cut.now.wholes.items
+    (map is_second c.args.colours.now) c.args.inks.now k _ _ _ _ k_in c.loop-k.invariant
     (piece-put _ _ _ _ _ _ _ _ _ _ ink colour part c.in_ok-put_uncut.ensures)
 
 pub returns : goal.returns
@@ -26,4 +27,6 @@ returns c =
     let low = rw c.items-parts.ensures.value at c.loop-k-test.false in
     let high = rw c.items-parts.ensures.value at c.loop-k.auto.k-end in
     let all : c.loop-k.k ≡ length c.args.cut.now.parts = omega (arith, low, high) in
-    subst (λ (n : ℕ). AreSheets c.args.cut.now.parts c.args.cut.now.owners.items c.args.cut.now.zones.items c.args.cut.now.sides.items c.args.cut.now.wholes.items (map is_second c.args.colours.now) c.args.inks.now n 0 c.loop-k.a.items c.loop-k.b.items) all c.loop-k.invariant
+    subst (λ (n : ℕ). AreSheets c.args.cut.now.parts c.args.cut.now.owners.items c.args.cut.now.zones.items c.args.cut.now.sides.items
+    c.args.cut.now.wholes.items (map is_second c.args.colours.now) c.args.inks.now n 0 c.loop-k.a.items c.loop-k.b.items) all
+    c.loop-k.invariant

@@ -11,4 +11,6 @@ loop-k-preserved c =
     let k_in : k < length wholes = rw c.as_slice-wholes.ensures.value at c.loop-k-test.true in
     let here : w ≡ get_or wholes k w = rw c.as_slice-wholes.ensures.value at c.index-wholes-k.is in
     let puts = rw c.rects.ensures.value at c.in_ok-put_whole.ensures in
-    sheets-whole c.args.cut.now.parts c.args.cut.now.owners.items c.args.cut.now.zones.items c.args.cut.now.sides.items wholes (map is_second c.args.colours.now) c.args.inks.now (length c.args.cut.now.parts) k w _ _ _ _ k_in (sym here) c.rects.ensures.canonical c.rects.ensures.within c.loop-k.invariant puts
+    sheets-whole c.args.cut.now.parts c.args.cut.now.owners.items c.args.cut.now.zones.items c.args.cut.now.sides.items wholes
+    (map is_second c.args.colours.now) c.args.inks.now (length c.args.cut.now.parts) k w _ _ _ _ k_in
+    (sym here) c.rects.ensures.canonical c.rects.ensures.within c.loop-k.invariant puts

@@ -4,4 +4,5 @@ use Rattle.dpl_masks.specs.Sheets.{AreSheets}
 use Rattle.dpl_masks.proofs.painting.add_wholes.Given as goal
 
 abbrev pub invariant-loop-k : goal.invariant-loop-k
-invariant-loop-k l = AreSheets l.cut.parts l.cut.owners.items l.cut.zones.items l.cut.sides.items l.cut.wholes.items (map is_second l.colours) l.inks (length l.cut.parts) l.k l.a.items l.b.items
+invariant-loop-k l = AreSheets l.cut.parts l.cut.owners.items l.cut.zones.items l.cut.sides.items l.cut.wholes.items
+    (map is_second l.colours) l.inks (length l.cut.parts) l.k l.a.items l.b.items

@@ -11,7 +11,14 @@ loop-high-init c =
     let low : FitsSigned w32 c.args.r.now.y0 = search rules in
     let high : FitsSigned w32 c.args.r.now.y1 = search rules in
     rw (to_z-of_z w32 c.args.r.now.y0 low, to_z-of_z w32 c.args.r.now.y1 high)
-    (record { low = omega (arith, ints); between = search rules; high = omega (arith, ints); none = no_rows c.args.rule c.args.r.now (ItemCovers c.args.owners c.args.others.now); some = c.requires.near })
+    (record {
+      low = omega (arith, ints);
+      between = search rules;
+      high = omega (arith, ints);
+      none = no_rows c.args.rule c.args.r.now
+          (ItemCovers c.args.owners c.args.others.now);
+      some = c.requires.near;
+    })
 
 pub loop-high-smaller-then-near_below : goal.loop-high-smaller-then-near_below
 loop-high-smaller-then-near_below c =
@@ -32,7 +39,8 @@ loop-high-smaller c =
     rw (to_z-of_z w32 c.halfway-middle.result m) (omega (arith, ints))
 
 pub returns-clause-near : goal.returns-clause-near
-returns-clause-near c = near_row c.args.rule c.args.r.now (ItemCovers c.args.owners c.args.others.now) _ _ c.loop-high.invariant.low (omega (arith, ints)) c.loop-high.invariant.none c.loop-high.invariant.some
+returns-clause-near c = near_row c.args.rule c.args.r.now (ItemCovers c.args.owners c.args.others.now) _ _ c.loop-high.invariant.low
+    (omega (arith, ints)) c.loop-high.invariant.none c.loop-high.invariant.some
 
 pub loop-high-preserved-then-near_below : goal.loop-high-preserved-then-near_below
 loop-high-preserved-then-near_below c =
@@ -40,7 +48,14 @@ loop-high-preserved-then-near_below c =
     let old = c.loop-high.invariant in
     let below = c.halfway-middle.ensures.below in
     let same = to_z-of_z w32 c.halfway-middle.result m in
-    record { low = old.low; between = rw same c.halfway-middle.ensures.above; high = rw same (omega (arith, ints, below, old.high)); none = old.none; some = (c.if-near_below.ensures).0 refl }
+    record {
+      low = old.low;
+      between = rw same c.halfway-middle.ensures.above;
+      high = rw same
+          (omega (arith, ints, below, old.high));
+      none = old.none;
+      some = (c.if-near_below.ensures).0 refl;
+    }
 
 pub loop-high-preserved : goal.loop-high-preserved
 loop-high-preserved c =
@@ -48,4 +63,10 @@ loop-high-preserved c =
     let old = c.loop-high.invariant in
     let above = c.halfway-middle.ensures.above in
     let same = to_z-of_z w32 c.halfway-middle.result m in
-    record { low = rw same (omega (arith, ints, above, old.low)); between = rw same c.halfway-middle.ensures.below; high = old.high; none = λ near. true≢false (sym ((c.if-near_below.ensures).1 near)); some = old.some }
+    record {
+      low = rw same (omega (arith, ints, above, old.low));
+      between = rw same c.halfway-middle.ensures.below;
+      high = old.high;
+      none = λ near. true≢false (sym ((c.if-near_below.ensures).1 near));
+      some = old.some;
+    }

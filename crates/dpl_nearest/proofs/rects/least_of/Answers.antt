@@ -18,6 +18,13 @@ returns c =
     let is = rw (to_z-of_z w32 c.first_row-y.result (sfits_of c.first_row-y.type_inv)) at c.row-only.ensures in
     let x : FitsSigned w64 c.first_column-x.result = search rules in
     let y : FitsSigned w64 c.first_row-y.result = search rules in
-    rw (to_z-of_z w32 c.first_row-y.result (sfits_of c.first_row-y.type_inv), to_z-of_z w32 c.first_column-x.result (sfits_of c.first_column-x.type_inv), to_z-of_z w64 c.first_row-y.result y, to_z-of_z w64 c.first_column-x.result x)
+    rw (
+      to_z-of_z w32 c.first_row-y.result (sfits_of c.first_row-y.type_inv),
+      to_z-of_z w32 c.first_column-x.result
+          (sfits_of c.first_column-x.type_inv),
+      to_z-of_z w64 c.first_row-y.result y,
+      to_z-of_z w64 c.first_column-x.result x,
+    )
     (least_square_in c.args.rule c.args.r.now c.row-only.result (ItemCovers c.args.owners c.args.others.now) c.first_column-x.result c.first_row-y.result is
-    c.first_row-y.ensures.low c.first_row-y.ensures.high c.first_column-x.ensures.low c.first_column-x.ensures.high c.first_column-x.ensures.near c.first_column-x.ensures.first c.first_row-y.ensures.first)
+    c.first_row-y.ensures.low c.first_row-y.ensures.high c.first_column-x.ensures.low c.first_column-x.ensures.high
+    c.first_column-x.ensures.near c.first_column-x.ensures.first c.first_row-y.ensures.first)

@@ -19,7 +19,15 @@ near-requires-clause-solid_b c =
     let right : FitsSigned w32 c.item.result.rect.x1 = search rules in
     let low : FitsSigned w32 c.item.result.rect.y0 = search rules in
     let high : FitsSigned w32 c.item.result.rect.y1 = search rules in
-    record { wide = solid.wide; tall = solid.tall; left = omega (arith, ints, left.sfits); right = omega (arith, ints, right.sfits); low = omega (arith, ints, low.sfits); high = omega (arith, ints, high.sfits) }
+    record {
+      wide = solid.wide;
+      tall = solid.tall;
+      left = omega (arith, ints, left.sfits);
+      right = omega
+          (arith, ints, right.sfits);
+      low = omega (arith, ints, low.sfits);
+      high = omega (arith, ints, high.sfits);
+    }
 
 pub loop-n-preserved : goal.loop-n-preserved
 loop-n-preserved c =
@@ -27,14 +35,19 @@ loop-n-preserved c =
     let near = rw (c.item.ensures c.item.result) at c.if-near.ensures in
     record {
       here = λ d l out. c.seek-n-in-loop-n.ensures.found d l (inr out);
-      far = far-more c.args.rule c.args.owners c.args.r.now c.widened-window.result c.args.others.now c.loop-n.n c.seek-n-in-loop-n.result _ c.widened-window.ensures inside c.loop-n.invariant.far
+      far = far-more c.args.rule c.args.owners c.args.r.now c.widened-window.result c.args.others.now c.loop-n.n c.seek-n-in-loop-n.result
+          _ c.widened-window.ensures inside c.loop-n.invariant.far
           (λ h. false≢true (near.1 h)) c.seek-n-in-loop-n.ensures.passed;
     }
 
 pub returns-then-near : goal.returns-then-near
 returns-then-near c =
-    let inside : c.loop-n.n < length c.args.others.now = rw c.count.ensures at c.loop-n-test.true in
-    (λ h. item-near c.args.rule c.args.owners c.args.r.now c.args.others.now _ _ (item-is c.args.others.now c.loop-n.n c.item.result inside c.item.ensures) (found-sought c.args.owners c.item.result.owner (rw (← c.item.ensures c.item.result) at (c.loop-n.invariant.here c.item.result inside))) (c.near.ensures.0 c.if-near.true), λ h. refl)
+    let inside : c.loop-n.n < length c.args.others.now = rw c.count.ensures at c.loop-n-test.true in (
+      λ h. item-near c.args.rule c.args.owners c.args.r.now c.args.others.now _ _
+          (item-is c.args.others.now c.loop-n.n c.item.result inside c.item.ensures) (found-sought c.args.owners c.item.result.owner
+          (rw (← c.item.ensures c.item.result) at (c.loop-n.invariant.here c.item.result inside))) (c.near.ensures.0 c.if-near.true),
+      λ h. refl,
+    )
 
 pub returns : goal.returns
 returns c =

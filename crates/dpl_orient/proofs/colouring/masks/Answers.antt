@@ -8,6 +8,8 @@ pub bounds-flips-rooted : goal.bounds-flips-rooted
 bounds-flips-rooted c =
     let none : Rooted = own_root 0 in
     let within : c.loop-rooted.rooted-index < length c.args.chart.now = c.loop-rooted-test.true in
-    let same : (get_or c.args.chart.now c.loop-rooted.rooted-index none).root ≡ (get_or c.args.chart.now c.loop-rooted.rooted-index (own_root c.loop-rooted.rooted-index)).root = ap (λ s. s.root) (get_or_default c.args.chart.now c.loop-rooted.rooted-index none (own_root c.loop-rooted.rooted-index) within) in
+    let same : (get_or c.args.chart.now c.loop-rooted.rooted-index none).root ≡ (get_or c.args.chart.now c.loop-rooted.rooted-index
+    (own_root c.loop-rooted.rooted-index)).root = ap (λ s. s.root) (get_or_default c.args.chart.now c.loop-rooted.rooted-index none
+    (own_root c.loop-rooted.rooted-index) within) in
     let low = c.requires.low c.loop-rooted.rooted-index within in
     omega (arith, same, low, c.requires.len)

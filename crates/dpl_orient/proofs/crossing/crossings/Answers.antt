@@ -12,7 +12,8 @@ returns-clause-same c = rw (← c.in_ok-across.ensures.crossings) (IsPermutation
 pub returns-clause-grouped : goal.returns-clause-grouped
 returns-clause-grouped c =
     grouped-across c.args.chart.now c.args.sides.now _
-    (All-permutation (λ (a : Across). a.later ≡ (crossing_at c.args.chart.now c.args.sides.now a.zone).later) _ _ c.group.ensures.same c.in_ok-across.ensures.later) c.group.ensures.grouped
+    (All-permutation (λ (a : Across). a.later ≡ (crossing_at c.args.chart.now c.args.sides.now a.zone).later) _ _ c.group.ensures.same
+    c.in_ok-across.ensures.later) c.group.ensures.grouped
 
 pub returns-clause-up : goal.returns-clause-up
 returns-clause-up c =

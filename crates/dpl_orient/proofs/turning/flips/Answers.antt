@@ -8,4 +8,6 @@ loop-root-init c = rw c.in_ok-flips.ensures.items (settled-none _)
 pub loop-root-preserved : goal.loop-root-preserved
 loop-root-preserved c =
     rw c.in_ok-push.ensures.items
-    (settled-more (crossings_at c.args.chart.now c.args.sides.now c.args.across.now) c.loop-root.flips.items c.loop-root.root c.loop-root.next c.settle-settled.result.next c.settle-settled.result.flip c.requires.up c.loop-root.invariant c.settle-settled.ensures.split (rw c.deref.ensures.value at c.settle-settled.ensures.flip))
+    (settled-more (crossings_at c.args.chart.now c.args.sides.now c.args.across.now) c.loop-root.flips.items c.loop-root.root
+    c.loop-root.next c.settle-settled.result.next c.settle-settled.result.flip c.requires.up c.loop-root.invariant
+    c.settle-settled.ensures.split (rw c.deref.ensures.value at c.settle-settled.ensures.flip))

@@ -15,7 +15,8 @@ bounds-flips-crossing c =
     let none : Across = record { later = 0; zone = 0 } in
     let x = c.crossing_at-crossing.result in
     let many = as-many c.args.chart.now c.args.sides.now c.args.across.now in
-    let is : x ≡ get_or xs c.loop-next.next x = crossing-here c.args.chart.now c.args.sides.now c.args.across.now c.loop-next.next none x c.loop-next-test.true c.crossing_at-crossing.ensures in
+    let is : x ≡ get_or xs c.loop-next.next x = crossing-here c.args.chart.now c.args.sides.now c.args.across.now c.loop-next.next none x
+    c.loop-next-test.true c.crossing_at-crossing.ensures in
     let up : x.earlier < x.later = rw is (c.requires.up c.loop-next.next x (omega (arith, many, c.loop-next-test.true))) in
     omega (arith, up, c.if-crossing-root.false, c.requires.earlier)
 

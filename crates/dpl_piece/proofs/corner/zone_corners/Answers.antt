@@ -11,7 +11,8 @@ loop-i-preserved c =
     let here : c.loop-i.i < length c.args.zones.now = search rules in
     let z : Zone = get_or c.args.zones.now c.loop-i.i no_zone in
     let more = c.loop-i.invariant.1 in (
-      rw (c.in_ok-push.ensures.items, c.rect_corner.ensures) (zones-next c.args.kind c.args.zones.now c.loop-i.i c.loop-i.found.items z here (get_or_default _ _ _ _ here) c.loop-i.invariant.0),
+      rw (c.in_ok-push.ensures.items, c.rect_corner.ensures)
+          (zones-next c.args.kind c.args.zones.now c.loop-i.i c.loop-i.found.items z here (get_or_default _ _ _ _ here) c.loop-i.invariant.0),
       rw (c.in_ok-push.ensures.items, length-append) (omega (arith, more)),
     )
 

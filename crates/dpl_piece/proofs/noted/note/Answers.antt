@@ -27,11 +27,13 @@ loop-i-preserved c =
     let d : Corner = get_or c.args.corners.now c.loop-i.i (corner_at (pos 0) (pos 0) 0) in
     let at_x : d.x ≡ c.args.corner.x = search rules in
     let at_y : d.y ≡ c.args.corner.y = search rules in
-    run-next c.args.corner c.args.corners.now c.count_before-first.result c.loop-i.i d c.args.noted.now c.loop-i.noted _ here (get_or_default _ _ _ _ here) at_x at_y refl c.loop-i.invariant
+    run-next c.args.corner c.args.corners.now c.count_before-first.result c.loop-i.i d c.args.noted.now c.loop-i.noted _ here
+    (get_or_default _ _ _ _ here) at_x at_y refl c.loop-i.invariant
 
 pub returns : goal.returns
 returns c =
     let x : FitsSigned w32 c.args.corner.x = search rules in
     let y : FitsSigned w32 c.args.corner.y = search rules in
     let parted = rw (to_z-of_z w32 _ x, to_z-of_z w32 _ y) at c.count_before-first.ensures.parted in
-    run-done c.args.corner c.args.corners.now c.count_before-first.result c.loop-i.i c.args.noted.now c.loop-i.noted c.requires.rise parted (omega arith) c.loop-i.invariant (λ l d at_x at_y. absurd (omega (arith, l)))
+    run-done c.args.corner c.args.corners.now c.count_before-first.result c.loop-i.i c.args.noted.now c.loop-i.noted c.requires.rise parted
+    (omega arith) c.loop-i.invariant (λ l d at_x at_y. absurd (omega (arith, l)))

@@ -8,5 +8,6 @@ use Rattle.dpl_piece.proofs.noted.note_part.Goals as goal
 pub loop-r-preserved : goal.loop-r-preserved
 loop-r-preserved c =
     let r : Rect = get_or c.args.rects.now c.loop-r.r-index no_zone.rect in
-    noted-next c.args.kind c.args.part c.args.rects.now c.loop-r.r-index r c.args.corners.now c.args.noted.now c.loop-r.noted c.note.new.noted c.loop-r-test.true (get_or_default _ _ _ _ c.loop-r-test.true) c.loop-r.invariant
+    noted-next c.args.kind c.args.part c.args.rects.now c.loop-r.r-index r c.args.corners.now c.args.noted.now c.loop-r.noted
+    c.note.new.noted c.loop-r-test.true (get_or_default _ _ _ _ c.loop-r-test.true) c.loop-r.invariant
     (rw c.rect_corner.ensures at c.note.ensures)

@@ -20,7 +20,9 @@ pub returns-clause-parts : goal.returns-clause-parts
 returns-clause-parts c = taken-all (λ x. x.part) _ _ c.loop-piece.pieces.items c.loop-piece.invariant.parts (omega (arith, c.loop-piece.pieces.ok.0, c.in_default.ensures.cases.0))
 
 pub returns-clause-owners : goal.returns-clause-owners
-returns-clause-owners c = taken-all (λ x. x.owner) _ _ c.loop-piece.pieces.items c.loop-piece.invariant.owners (omega (arith, c.loop-piece.pieces.ok.0, c.in_default.ensures.cases.0))
+returns-clause-owners c = taken-all (λ x. x.owner) _ _ c.loop-piece.pieces.items c.loop-piece.invariant.owners
+    (omega (arith, c.loop-piece.pieces.ok.0, c.in_default.ensures.cases.0))
 
 pub returns-clause-origins : goal.returns-clause-origins
-returns-clause-origins c = taken-all (λ x. x.origin) _ _ c.loop-piece.pieces.items c.loop-piece.invariant.origins (omega (arith, c.loop-piece.pieces.ok.0, c.in_default.ensures.cases.0))
+returns-clause-origins c = taken-all (λ x. x.origin) _ _ c.loop-piece.pieces.items c.loop-piece.invariant.origins
+    (omega (arith, c.loop-piece.pieces.ok.0, c.in_default.ensures.cases.0))

@@ -10,4 +10,5 @@ returns-clause-members c = numbers-permuted _ _ (rw c.in_ok-numbers.ensures at c
 
 pub returns-clause-rise : goal.returns-clause-rise
 returns-clause-rise c =
-    IsNonDecreasingBy-from_sort (feature_at c.args.zones.now) _ (c.sort_unstable_by_key.ensures.sorted (feature_at c.args.zones.now) (always_returns_same _ (λ a r. r ≡ feature_at c.args.zones.now a.0.now) _ (λ a r q k. search rules)))
+    IsNonDecreasingBy-from_sort (feature_at c.args.zones.now) _ (c.sort_unstable_by_key.ensures.sorted (feature_at c.args.zones.now)
+    (always_returns_same _ (λ a r. r ≡ feature_at c.args.zones.now a.0.now) _ (λ a r q k. search rules)))

@@ -28,7 +28,9 @@ holes_at-requires c =
 pub add_pieces-requires : goal.add_pieces-requires
 add_pieces-requires c =
     let at = c.loop-feature in
-    let own : AreHolesOf c.args.zones.now at.number c.in_ok-holes.holes.items = rw (c.in_ok-holes.ensures, c.split_at.ensures.front) (own-holes c.args.zones.now at.rest.now at.number c.own_count.result at.invariant.zones c.own_count.ensures.own c.own_count.ensures.next) in
+    let own : AreHolesOf c.args.zones.now at.number c.in_ok-holes.holes.items = rw (c.in_ok-holes.ensures, c.split_at.ensures.front)
+    (own-holes c.args.zones.now at.rest.now at.number c.own_count.result at.invariant.zones c.own_count.ensures.own
+    c.own_count.ensures.next) in
     own-within c.args.features.items c.args.zones.now c.requires.features c.requires.zones c.requires.within at.number c.in_ok-holes.holes.items own
 
 pub loop-feature-preserved : goal.loop-feature-preserved
@@ -40,15 +42,22 @@ loop-feature-preserved c =
     let left = at.invariant.left in
     let gone = steps.1 in
     let short = ap length steps.0 in
-    let own : AreHolesOf c.args.zones.now at.number c.in_ok-holes.holes.items = rw (c.in_ok-holes.ensures, c.split_at.ensures.front) (own-holes c.args.zones.now at.rest.now at.number c.own_count.result at.invariant.zones c.own_count.ensures.own c.own_count.ensures.next) in
+    let own : AreHolesOf c.args.zones.now at.number c.in_ok-holes.holes.items = rw (c.in_ok-holes.ensures, c.split_at.ensures.front)
+    (own-holes c.args.zones.now at.rest.now at.number c.own_count.result at.invariant.zones c.own_count.ensures.own
+    c.own_count.ensures.next) in
     record {
       all = t.0;
       left = omega (arith, left, gone, short);
       count = t.3;
-      zones = rw c.split_at.ensures.back (zones-after c.args.zones.now at.rest.now at.number c.own_count.result at.invariant.zones c.own_count.ensures.own c.own_count.ensures.next);
-      pieces = pieces-next rule overlap c.args.features.items c.args.zones.now (comps c.args.features.items c.args.zones.now c.requires.features c.requires.zones) zs at.number t.1 c.in_ok-holes.holes.items own at.pieces.items _ at.invariant.pieces
+      zones = rw c.split_at.ensures.back
+          (zones-after c.args.zones.now at.rest.now at.number c.own_count.result at.invariant.zones c.own_count.ensures.own
+          c.own_count.ensures.next);
+      pieces = pieces-next rule overlap c.args.features.items c.args.zones.now
+          (comps c.args.features.items c.args.zones.now c.requires.features c.requires.zones) zs at.number t.1 c.in_ok-holes.holes.items own
+          at.pieces.items _ at.invariant.pieces
           (c.requires.within at.number _ t.1) (rw t.2 at c.in_ok-add_pieces.ensures.adds);
-      wholes = wholes-next c.args.features.items c.args.zones.now at.number c.in_ok-holes.holes.items own at.wholes.items _ at.invariant.wholes (rw t.2 at c.in_ok-add_pieces.ensures.keeps);
+      wholes = wholes-next c.args.features.items c.args.zones.now at.number c.in_ok-holes.holes.items own at.wholes.items _
+          at.invariant.wholes (rw t.2 at c.in_ok-add_pieces.ensures.keeps);
     }
 
 pub returns : goal.returns

@@ -20,8 +20,12 @@ pub returns : goal.returns
 returns c =
     let each : c.in_ok-found.found.len ≡ length c.args.zones.now = omega (arith, c.in_ok-found.ensures.len) in
     let first = rw c.deref.ensures.value at c.note_all.ensures in
-    let one = written-back c.note_all.new.noted (drop (length c.note_all.new.noted) c.in_ok-found.found.items) c.in_ok-found.found.len (c.note_all.ensures.noted.each ∙ c.deref_mut.ensures.len) in
+    let one = written-back c.note_all.new.noted (drop (length c.note_all.new.noted) c.in_ok-found.found.items) c.in_ok-found.found.len
+    (c.note_all.ensures.noted.each ∙ c.deref_mut.ensures.len) in
     let second = rw (c.deref-2.ensures.value, c.deref_mut-2.ensures.value, one) at c.note_all-2.ensures in
-    subst (AllZip (StandsBefore c.args.parts.now) c.args.zones.now) (sym (written-back c.note_all-2.new.noted _ c.in_ok-found.found.len (c.note_all-2.ensures.noted.each ∙ c.deref_mut-2.ensures.len)))
-    (either-stands c.args.parts.now c.args.origins.now c.args.zones.now LowerLeft LowerRight LowerLeft UpperLeft c.in_ok-corners.corners.items c.in_ok-corners.corners.items c.deref_mut.result.now c.note_all.new.noted c.note_all-2.new.noted (c.deref_mut.ensures.len ∙ each)
+    subst (AllZip (StandsBefore c.args.parts.now) c.args.zones.now)
+    (sym (written-back c.note_all-2.new.noted _ c.in_ok-found.found.len (c.note_all-2.ensures.noted.each ∙ c.deref_mut-2.ensures.len)))
+    (either-stands c.args.parts.now c.args.origins.now c.args.zones.now LowerLeft LowerRight LowerLeft UpperLeft
+    c.in_ok-corners.corners.items c.in_ok-corners.corners.items c.deref_mut.result.now c.note_all.new.noted c.note_all-2.new.noted
+    (c.deref_mut.ensures.len ∙ each)
     c.in_ok-corners.ensures.members c.in_ok-corners.ensures.members c.requires.some first second)

@@ -27,8 +27,12 @@ returns-clause-once g c =
     let sheet = g.J.Job.sheet c.args.job.now in
     let t : c.in_ok-deal.deal.tiles ≡ length (g.J.Job.sheet c.args.job.now) = search rules in
     let s : Stands (g.J.Job.sheet c.args.job.now) c.close-2.result = search rules in
-    let p : IsProper (g.J.Job.sheet c.args.job.now) c.args.workers c.close-2.result.history = search rules in
-    (all_posted c.close-2.result.tiles c.in_ok-deal.deal.tiles c.in_ok-hands.hands.items (knows c.gathered.new.seat).known c.close-2.result.history (s.tiles ∙ sym t) c.close.ensures c.in_ok-hands.ensures.covers c.close-2.ensures.seen, p)
+    let p : IsProper (g.J.Job.sheet c.args.job.now) c.args.workers c.close-2.result.history = search rules in (
+      all_posted c.close-2.result.tiles c.in_ok-deal.deal.tiles c.in_ok-hands.hands.items
+          (knows c.gathered.new.seat).known c.close-2.result.history (s.tiles ∙ sym t) c.close.ensures c.in_ok-hands.ensures.covers
+          c.close-2.ensures.seen,
+      p,
+    )
 
 pub returns-clause-replay : goal.returns-clause-replay
 returns-clause-replay g c =

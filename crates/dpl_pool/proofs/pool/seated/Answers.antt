@@ -15,7 +15,8 @@ loop-hand-preserved g c =
     let table = c.args.board.now.table.shared.table_id in
     let m : Member = record { number = c.loop-hand.number; seat = c.split-other.result; hand = c.in-Some.hand; wants = false } in
     let pushed : c.push.new.self.items ≡ c.loop-hand.members.items ++ m ∷ [] = search rules in
-    let none = all_mid (λ (h : Hand). taken h ≡ []) c.loop-hand.yielded c.in-Some.hand c.next.new.self.rest.items (subst (All (λ (h : Hand). taken h ≡ [])) (sym all) c.requires.hands.2) in
+    let none = all_mid (λ (h : Hand). taken h ≡ []) c.loop-hand.yielded c.in-Some.hand c.next.new.self.rest.items
+    (subst (All (λ (h : Hand). taken h ≡ [])) (sym all) c.requires.hands.2) in
     let lens : length c.args.hands.items ≤ v.workers = search rules in
     let n = next_number c.args.hands.items c.loop-hand.yielded c.in-Some.hand c.next.new.self.rest.items c.loop-hand.number v.workers all c.loop-hand.invariant.1 lens in
     let same : knows c.loop-hand.seat ≡ v = c.loop-hand.invariant.4 in
@@ -26,11 +27,13 @@ loop-hand-preserved g c =
     let count : vec_len c.loop-hand.members ≡ length c.loop-hand.members.items = search rules in (
       append_assoc c.loop-hand.yielded (c.in-Some.hand ∷ []) c.next.new.self.rest.items ∙ all,
       omega (arith, c.loop-hand.invariant.1, length-append c.loop-hand.yielded (c.in-Some.hand ∷ [])),
-      (let k : vec_len c.push.new.self ≡ vec_len c.loop-hand.members + 1 = search rules in omega (arith, c.loop-hand.invariant.2, length-append c.loop-hand.yielded (c.in-Some.hand ∷ []))),
+      (let k : vec_len c.push.new.self ≡ vec_len c.loop-hand.members + 1 = search rules in
+          omega (arith, c.loop-hand.invariant.2, length-append c.loop-hand.yielded (c.in-Some.hand ∷ []))),
       search rules,
       old ∙ same,
       λ deal hs. subst (EachAt (IsMember table v.sheet deal)) (sym pushed)
-          (members_next table deal v c.loop-hand.members.items m (length c.loop-hand.yielded) (sym count ∙ c.loop-hand.invariant.2) (c.loop-hand.invariant.5 deal hs) t me c.loop-hand.invariant.1 n
+          (members_next table deal v c.loop-hand.members.items m (length c.loop-hand.yielded) (sym count ∙ c.loop-hand.invariant.2)
+          (c.loop-hand.invariant.5 deal hs) t me c.loop-hand.invariant.1 n
           (each_mid (IsHandOf deal) c.loop-hand.yielded c.in-Some.hand c.next.new.self.rest.items (subst (EachAt (IsHandOf deal)) (sym all) hs)) none refl),
     )
 

@@ -7,8 +7,11 @@ use Rattle.dpl_run.proofs.check.check_cert.Goals as goal
 pub returns-in_ok-output-in-Conflict-clause-made : goal.returns-in_ok-output-in-Conflict-clause-made
 returns-in_ok-output-in-Conflict-clause-made g c =
     let kind : IsOfConflict c.args.cert.now = rw c.in-Conflict.is tt in
-    conflict_made (g.H.Host.told c.args.host.now) (check_view c.args.options.now) c.args.layer.now c.args.cert.now c.in_ok-verdict-in-Conflict.verdict (output_view c.in_ok-output-in-Conflict.output) kind c.in_ok-verdict-in-Conflict.ensures c.in_ok-output-in-Conflict.ensures
+    conflict_made (g.H.Host.told c.args.host.now) (check_view c.args.options.now) c.args.layer.now c.args.cert.now
+    c.in_ok-verdict-in-Conflict.verdict (output_view c.in_ok-output-in-Conflict.output) kind c.in_ok-verdict-in-Conflict.ensures
+    c.in_ok-output-in-Conflict.ensures
 
 pub returns-in_ok-output-in-Fault-clause-made : goal.returns-in_ok-output-in-Fault-clause-made
 returns-in_ok-output-in-Fault-clause-made g c =
-    fault_made (g.H.Host.told c.args.host.now) (check_view c.args.options.now) c.args.layer.now c.args.cert.now c.in-Fault.name c.in-Fault.at (output_view c.in_ok-output-in-Fault.output) c.in-Fault.is c.in_ok-output-in-Fault.ensures
+    fault_made (g.H.Host.told c.args.host.now) (check_view c.args.options.now) c.args.layer.now c.args.cert.now c.in-Fault.name
+    c.in-Fault.at (output_view c.in_ok-output-in-Fault.output) c.in-Fault.is c.in_ok-output-in-Fault.ensures

@@ -23,7 +23,8 @@ returns-in-Ok-clause-made g c =
     let text = c.in-Some.text.items in
     let seen = subst (λ (o : Option (Vec ℕ Global)). IsSeen told c.args.options.now.certificate.now (option_map (λ v. v.items) o)) c.in-Some.is c.in_ok-text.ensures.seen in
     let read = subst (λ (b : List ℕ). IsText c.in-Ok.cert b) c.as_slice.ensures.value c.in-Ok.ensures.found in
-    let made = subst (λ (t : Option Outside). IsMadeOfCert t v c.args.layer.now c.in-Ok.cert (output_view c.in_ok-output-in-Ok.output)) c.in_ok-text.ensures.same c.in_ok-output-in-Ok.ensures.made in
+    let made = subst (λ (t : Option Outside). IsMadeOfCert t v c.args.layer.now c.in-Ok.cert (output_view c.in_ok-output-in-Ok.output))
+    c.in_ok-text.ensures.same c.in_ok-output-in-Ok.ensures.made in
     cert_read told v c.args.layer.now text c.in-Ok.cert (output_view c.in_ok-output-in-Ok.output) seen read made
 
 pub returns-in-Err-BadLine-clause-made : goal.returns-in-Err-BadLine-clause-made

@@ -25,8 +25,10 @@ returns-in_ok-output-in-Ok-clause-made g c =
     let layer = c.in-Ok.layer in
     let seen = subst (λ (o : Option (Vec ℕ Global)). IsSeen told c.args.options.now.input.now (option_map (λ v. v.items) o)) c.in-Some.is c.in_ok-bytes.ensures.seen in
     let read : IsLayout (check_choice v) bytes (Layer layer.front.items layer.slabs) = c.in-Ok.ensures.layer in
-    let made = subst (λ (t : Option Outside). IsMadeOfLayer t v layer.slabs (output_view c.in_ok-output-in-Ok.output)) c.in_ok-bytes.ensures.same c.in_ok-output-in-Ok.ensures.made in
-    check_made told v (output_view c.in_ok-output-in-Ok.output) c.requires.apart (layout_read told v bytes layer.front.items layer.slabs (output_view c.in_ok-output-in-Ok.output) seen read made)
+    let made = subst (λ (t : Option Outside). IsMadeOfLayer t v layer.slabs (output_view c.in_ok-output-in-Ok.output))
+    c.in_ok-bytes.ensures.same c.in_ok-output-in-Ok.ensures.made in
+    check_made told v (output_view c.in_ok-output-in-Ok.output) c.requires.apart (layout_read told v bytes layer.front.items layer.slabs
+    (output_view c.in_ok-output-in-Ok.output) seen read made)
 
 pub returns-in_ok-refused-in-Err-Refused-clause-made : goal.returns-in_ok-refused-in-Err-Refused-clause-made
 returns-in_ok-refused-in-Err-Refused-clause-made g c =
@@ -36,5 +38,6 @@ returns-in_ok-refused-in-Err-Refused-clause-made g c =
     let name = c.in-Err-Refused.name in
     let at = c.in-Err-Refused.at in
     let seen = subst (λ (o : Option (Vec ℕ Global)). IsSeen told c.args.options.now.input.now (option_map (λ v. v.items) o)) c.in-Some.is c.in_ok-bytes.ensures.seen in
-    let fault : IsLayout (check_choice v) bytes (Faulty name at) = subst (λ (e : LayerFault). IsLayerFault (check_choice v) bytes e) c.in-Err-Refused.field-0-is c.in-Err-Refused.ensures.fault in
+    let fault : IsLayout (check_choice v) bytes (Faulty name at) = subst (λ (e : LayerFault). IsLayerFault (check_choice v) bytes e)
+    c.in-Err-Refused.field-0-is c.in-Err-Refused.ensures.fault in
     check_made told v _ c.requires.apart (layout_faulty told v bytes name at _ seen fault c.in_ok-refused-in-Err-Refused.ensures)

@@ -33,7 +33,8 @@ pub clash-requires-clause-odd : goal.clash-requires-clause-odd
 clash-requires-clause-odd g c =
     let pieces = c.in_ok-cut-in-Odd.cut.pieces in
     let planned = plan_completed c.args.cut.pieces pieces c.args.rule c.in_ok-job.ensures.0 c.in_ok-job.job.plan c.in_ok-cut-in-Odd.ensures.pieces c.in_ok-job.ensures.2 in
-    let are = edges_planned pieces.parts pieces.owners c.args.rule c.in_ok-job.ensures.0 c.in_ok-job.job.plan c.in_ok-edges-in-Odd.edges.items planned c.in_ok-edges-in-Odd.ensures.edges in
+    let are = edges_planned pieces.parts pieces.owners c.args.rule c.in_ok-job.ensures.0 c.in_ok-job.job.plan
+    c.in_ok-edges-in-Odd.edges.items planned c.in_ok-edges-in-Odd.ensures.edges in
     let sums = sums_planned pieces.parts pieces.owners c.args.rule c.in_ok-job.ensures.0 c.in_ok-job.job.plan c.in_ok-joined.joined planned c.in_ok-joined.ensures in
     rw c.deref.ensures.value (odd_listed c.args.rule (cut_view [] pieces) c.in_ok-edges-in-Odd.edges.items (rw c.in-Odd.is at sums) are)
 

@@ -17,7 +17,11 @@ stitches-requires c =
     let pieces = c.args.cut.pieces in
     let (edges, are, sums) = c.requires.sums in
     let colours = c.in_ok-colours.colours in
-    let graph : ColoursWhatSums c.args.joined.now (length pieces.parts) pieces.sides colours = rw (c.sides.ensures.value, c.items.ensures.value, c.parts.ensures.value) at c.in_ok-colours.ensures.graph in
+    let graph : ColoursWhatSums c.args.joined.now (length pieces.parts) pieces.sides colours = rw (
+      c.sides.ensures.value,
+      c.items.ensures.value,
+      c.parts.ensures.value,
+    ) at c.in_ok-colours.ensures.graph in
     let many : length colours ≡ length pieces.parts = as_many _ edges c.args.joined.now pieces.sides colours sums graph in
     let long : length c.items-3.result.now ≡ length pieces.parts = sym (length-map c.items-3.result.now is_second) ∙ (ap length c.items-3.ensures ∙ many) in
     rw (c.sides-2.ensures.value, long) c.sides.ensures.known
@@ -33,7 +37,8 @@ stitch_lines-requires-clause-numbers c =
 
 pub stitch_lines-requires-clause-known : goal.stitch_lines-requires-clause-known
 stitch_lines-requires-clause-known c =
-    rw c.deref.ensures.value (λ k h. (let (side, side_in, is, differ) = (c.in_ok-numbers.ensures.exactly k).0 h in omega (arith, side_in, ap length c.sides-2.ensures.value, ap length c.sides-3.ensures.value)))
+    rw c.deref.ensures.value (λ k h. (let (side, side_in, is, differ) = (c.in_ok-numbers.ensures.exactly k).0 h in
+    omega (arith, side_in, ap length c.sides-2.ensures.value, ap length c.sides-3.ensures.value)))
 
 pub returns-clause-painted : goal.returns-clause-painted
 returns-clause-painted c = λ features many.
@@ -41,11 +46,16 @@ returns-clause-painted c = λ features many.
     let (edges, are, sums) = c.requires.sums in
     let colours = c.in_ok-colours.colours in
     let joined = c.args.joined.now in
-    let graph : ColoursWhatSums joined (length pieces.parts) pieces.sides colours = rw (c.sides.ensures.value, c.items.ensures.value, c.parts.ensures.value) at c.in_ok-colours.ensures.graph in
+    let graph : ColoursWhatSums joined (length pieces.parts) pieces.sides colours = rw (
+      c.sides.ensures.value,
+      c.items.ensures.value,
+      c.parts.ensures.value,
+    ) at c.in_ok-colours.ensures.graph in
     let lines = c.of.ensures ∙ (c.in_ok-lines.ensures.lines ∙ ap (λ (cs : List Bool). map piece_line (zip cs pieces.keys)) c.items-2.ensures) in
     let differing : AreStitches pieces.sides colours c.in_ok-numbers.numbers.items = rw (c.sides-2.ensures.value, c.items-3.ensures) at c.in_ok-numbers.ensures in
     let stitches = c.of-2.ensures ∙ rw (c.zones.ensures.value, c.sides-3.ensures.value, c.deref.ensures.value) at c.in_ok-stitches.ensures.lines in
-    painted_from c.args.rule c.args.overlap (cut_view features pieces) edges joined colours c.in_ok-masks.masks.a c.in_ok-masks.masks.b c.in_ok-numbers.numbers.items c.head-head.result c.of.result c.of-2.result
+    painted_from c.args.rule c.args.overlap (cut_view features pieces) edges joined colours c.in_ok-masks.masks.a c.in_ok-masks.masks.b
+    c.in_ok-numbers.numbers.items c.head-head.result c.of.result c.of-2.result
     are sums c.requires.even graph c.in_ok-masks.ensures.masks.first c.in_ok-masks.ensures.masks.second differing (c.head-head.ensures.value features many) lines stitches
 
 pub returns-clause-fits : goal.returns-clause-fits
@@ -53,7 +63,11 @@ returns-clause-fits c =
     let pieces = c.args.cut.pieces in
     let (edges, are, sums) = c.requires.sums in
     let colours = c.in_ok-colours.colours in
-    let graph : ColoursWhatSums c.args.joined.now (length pieces.parts) pieces.sides colours = rw (c.sides.ensures.value, c.items.ensures.value, c.parts.ensures.value) at c.in_ok-colours.ensures.graph in
+    let graph : ColoursWhatSums c.args.joined.now (length pieces.parts) pieces.sides colours = rw (
+      c.sides.ensures.value,
+      c.items.ensures.value,
+      c.parts.ensures.value,
+    ) at c.in_ok-colours.ensures.graph in
     let lines = c.of.ensures ∙ (c.in_ok-lines.ensures.lines ∙ ap (λ (cs : List Bool). map piece_line (zip cs pieces.keys)) c.items-2.ensures) in
     let many = lines_many (length pieces.parts) colours pieces.keys c.of.result (as_many _ edges c.args.joined.now pieces.sides colours sums graph) c.parts.ensures.keys lines in
     let few : length c.in_ok-stitches.stitches.items < 2 ^ 64 = search rules in

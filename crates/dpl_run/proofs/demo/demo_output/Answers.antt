@@ -13,7 +13,9 @@ returns-in_ok-output-in-Ok g c =
     let file = c.in_ok-bytes.bytes.items in
     let made = c.in_ok-bytes.ensures.bytes in
     let size = c.in_ok-bytes.ensures.size in
-    demo_decided (demo_view c.args.options.now) file c.in-Ok.layer.front.items c.in-Ok.layer.slabs (flat_view c.in_ok-decomposed-in-Ok.decomposed) (output_view c.in_ok-output-in-Ok.output) made size c.requires.rows.1 c.in-Ok.ensures.layer
+    demo_decided (demo_view c.args.options.now) file c.in-Ok.layer.front.items c.in-Ok.layer.slabs
+    (flat_view c.in_ok-decomposed-in-Ok.decomposed) (output_view c.in_ok-output-in-Ok.output) made size c.requires.rows.1
+    c.in-Ok.ensures.layer
     c.in_ok-decomposed-in-Ok.ensures.flat (c.in_ok-output-in-Ok.ensures c.in-Ok.layer.front.items)
 
 pub returns-in_ok-line-in-Err-Refused : goal.returns-in_ok-line-in-Err-Refused

@@ -8,4 +8,5 @@ returns-clause-layer c = λ v bytes has.
 
 pub returns-in_err-loops-clause-fault : goal.returns-in_err-loops-clause-fault
 returns-in_err-loops-clause-fault c = λ v bytes has.
-    given_fault v bytes c.from_residual.result (of_flatten c.in_err-loops.field-0.0) c.from_residual.ensures.1 (drawn_fault v bytes c.args.shapes.front.items c.args.shapes.drawing c.in_err-loops.field-0.0 has c.in_err-loops.ensures.layer)
+    given_fault v bytes c.from_residual.result (of_flatten c.in_err-loops.field-0.0) c.from_residual.ensures.1
+    (drawn_fault v bytes c.args.shapes.front.items c.args.shapes.drawing c.in_err-loops.field-0.0 has c.in_err-loops.ensures.layer)

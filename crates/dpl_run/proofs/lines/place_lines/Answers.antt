@@ -22,5 +22,6 @@ loop-piece-preserved c =
     record {
       put = map_more (place_line keys) c.args.cycle.now c.loop-piece.piece-index 0 _ _ within c.loop-piece.invariant.put
           (c.in_ok-push.ensures.items ∙ ap (λ (p : Pt). c.loop-piece.lines.items ++ record { piece = k; key = p } ∷ []) (sym (c.key.ensures.value no_key)));
-      fits = rw c.in_ok-push.ensures.items (fits_push IsPlace _ _ c.loop-piece.invariant.fits (record { piece = search rules; key = c.requires.within key (k, known, c.key.ensures.value key) }));
+      fits = rw c.in_ok-push.ensures.items (fits_push IsPlace _ _ c.loop-piece.invariant.fits
+          (record { piece = search rules; key = c.requires.within key (k, known, c.key.ensures.value key) }));
     }

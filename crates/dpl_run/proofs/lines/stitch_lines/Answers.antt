@@ -10,17 +10,20 @@ bounds-sides-k c = c.requires.known _ (Contains-get_or c.args.stitches.now c.loo
 
 pub offset_bounds-sides-k : goal.offset_bounds-sides-k
 offset_bounds-sides-k c =
-    let known : get_or c.args.stitches.now c.loop-k.k-index 0 < length c.args.sides.now = c.requires.known _ (Contains-get_or c.args.stitches.now c.loop-k.k-index 0 (omega arith)) in
+    let known : get_or c.args.stitches.now c.loop-k.k-index 0 < length c.args.sides.now = c.requires.known _
+    (Contains-get_or c.args.stitches.now c.loop-k.k-index 0 (omega arith)) in
     search rules
 
 pub bounds-zones-k : goal.bounds-zones-k
 bounds-zones-k c =
-    let known : get_or c.args.stitches.now c.loop-k.k-index 0 < length c.args.sides.now = c.requires.known _ (Contains-get_or c.args.stitches.now c.loop-k.k-index 0 (omega arith)) in
+    let known : get_or c.args.stitches.now c.loop-k.k-index 0 < length c.args.sides.now = c.requires.known _
+    (Contains-get_or c.args.stitches.now c.loop-k.k-index 0 (omega arith)) in
     omega arith
 
 pub offset_bounds-zones-k : goal.offset_bounds-zones-k
 offset_bounds-zones-k c =
-    let known : get_or c.args.stitches.now c.loop-k.k-index 0 < length c.args.sides.now = c.requires.known _ (Contains-get_or c.args.stitches.now c.loop-k.k-index 0 (omega arith)) in
+    let known : get_or c.args.stitches.now c.loop-k.k-index 0 < length c.args.sides.now = c.requires.known _
+    (Contains-get_or c.args.stitches.now c.loop-k.k-index 0 (omega arith)) in
     let there : get_or c.args.stitches.now c.loop-k.k-index 0 < length c.args.zones.now = omega arith in
     search rules
 
@@ -32,5 +35,10 @@ loop-k-preserved c =
     let there : k < length c.args.zones.now = omega arith in
     record {
       put = map_more (stitch_line c.args.zones.now c.args.sides.now) c.args.stitches.now c.loop-k.k-index 0 _ _ within c.loop-k.invariant.put c.in_ok-push.ensures.items;
-      fits = rw c.in_ok-push.ensures.items (fits_push IsStitch _ _ c.loop-k.invariant.fits (record { rect = rect_fits _ (c.requires.within k no_zone there); p = (c.requires.numbers k (0, 0) known).0; q = (c.requires.numbers k (0, 0) known).1 }));
+      fits = rw c.in_ok-push.ensures.items (fits_push IsStitch _ _ c.loop-k.invariant.fits
+          (record {
+            rect = rect_fits _ (c.requires.within k no_zone there);
+            p = (c.requires.numbers k (0, 0) known).0;
+            q = (c.requires.numbers k (0, 0) known).1;
+          }));
     }

@@ -8,8 +8,10 @@ use Rattle.dpl_run.proofs.Inputs.{usage_made}
 use Rattle.dpl_run.proofs.program.made.Goals as goal
 
 pub returns-in-Ok-output_of-clause-made : goal.returns-in-Ok-output_of-clause-made
-returns-in-Ok-output_of-clause-made g c = of_words (request_view c.in-Ok.request) (texts c.args.words.now) (g.H.Host.told c.args.host.now) (output_view c.in-Ok-output_of.output) c.in-Ok.ensures.read c.in-Ok-output_of.ensures.made
+returns-in-Ok-output_of-clause-made g c = of_words (request_view c.in-Ok.request) (texts c.args.words.now) (g.H.Host.told c.args.host.now)
+    (output_view c.in-Ok-output_of.output) c.in-Ok.ensures.read c.in-Ok-output_of.ensures.made
 
 pub returns-in-Ok-usage-clause-made : goal.returns-in-Ok-usage-clause-made
-returns-in-Ok-usage-clause-made g c = of_no_words (texts c.args.words.now) (g.H.Host.told c.args.host.now) (output_view c.in-Ok-usage.output) (c.in-Err-Usage.ensures.usage (ap Err c.in-Err-Usage.field-0-is))
+returns-in-Ok-usage-clause-made g c = of_no_words (texts c.args.words.now) (g.H.Host.told c.args.host.now)
+    (output_view c.in-Ok-usage.output) (c.in-Err-Usage.ensures.usage (ap Err c.in-Err-Usage.field-0-is))
     (usage_made (g.H.Host.told c.args.host.now) (output_view c.in-Ok-usage.output) c.in-Ok-usage.ensures)

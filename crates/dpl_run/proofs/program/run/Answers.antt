@@ -6,20 +6,26 @@ use Rattle.dpl_run.proofs.Parting.{outcome_parted}
 use Rattle.dpl_run.proofs.program.run.Goals as goal
 
 pub returns-in-Ok-perform-clause-answer : goal.returns-in-Ok-perform-clause-answer
-returns-in-Ok-perform-clause-answer g c = λ _. is_outcome (texts c.args.words.now) (output_view c.in-Ok.output) (g.H.Host.told c.args.host.now) (g.H.Host.told c.made.new.host) (g.H.Host.told c.perform.new.host)
+returns-in-Ok-perform-clause-answer g c = λ _. is_outcome (texts c.args.words.now) (output_view c.in-Ok.output)
+    (g.H.Host.told c.args.host.now) (g.H.Host.told c.made.new.host) (g.H.Host.told c.perform.new.host)
     c.in-Ok.ensures.made c.in-Ok.ensures.same c.in-Ok-perform.ensures.ok
 
 pub returns-in-Ok-perform-clause-complete : goal.returns-in-Ok-perform-clause-complete
-returns-in-Ok-perform-clause-complete g c = λ _ _. inr (is_outcome (texts c.args.words.now) (output_view c.in-Ok.output) (g.H.Host.told c.args.host.now) (g.H.Host.told c.made.new.host) (g.H.Host.told c.perform.new.host)
+returns-in-Ok-perform-clause-complete g c = λ _ _. inr (is_outcome (texts c.args.words.now) (output_view c.in-Ok.output)
+    (g.H.Host.told c.args.host.now) (g.H.Host.told c.made.new.host) (g.H.Host.told c.perform.new.host)
     c.in-Ok.ensures.made c.in-Ok.ensures.same c.in-Ok-perform.ensures.ok)
 
 pub returns-in-Ok-clause-cut : goal.returns-in-Ok-clause-cut
-returns-in-Ok-clause-cut g c = λ _. is_cut (texts c.args.words.now) (output_view c.in-Ok.output) (g.H.Host.told c.args.host.now) (g.H.Host.told c.made.new.host) (g.H.Host.told c.perform.new.host)
+returns-in-Ok-clause-cut g c = λ _. is_cut (texts c.args.words.now) (output_view c.in-Ok.output) (g.H.Host.told c.args.host.now)
+    (g.H.Host.told c.made.new.host) (g.H.Host.told c.perform.new.host)
     c.in-Ok.ensures.made c.in-Ok.ensures.same c.in-Err-perform.ensures.err
 
 pub returns-in-Ok-perform-clause-parted : goal.returns-in-Ok-perform-clause-parted
-returns-in-Ok-perform-clause-parted g c = outcome_parted (texts c.args.words.now) c.in-Ok.output.status (g.H.Host.told c.args.host.now) (g.H.Host.told c.perform.new.host) (is_outcome (texts c.args.words.now) (output_view c.in-Ok.output) (g.H.Host.told c.args.host.now) (g.H.Host.told c.made.new.host) (g.H.Host.told c.perform.new.host)
+returns-in-Ok-perform-clause-parted g c = outcome_parted (texts c.args.words.now) c.in-Ok.output.status (g.H.Host.told c.args.host.now)
+    (g.H.Host.told c.perform.new.host) (is_outcome (texts c.args.words.now) (output_view c.in-Ok.output) (g.H.Host.told c.args.host.now)
+    (g.H.Host.told c.made.new.host) (g.H.Host.told c.perform.new.host)
     c.in-Ok.ensures.made c.in-Ok.ensures.same c.in-Ok-perform.ensures.ok)
 
 pub returns-in-Ok-perform-clause-faults : goal.returns-in-Ok-perform-clause-faults
-returns-in-Ok-perform-clause-faults g c = none_failed c.in-Ok.output.status _ _ _ _ c.in-Ok.ensures.made.3 (c.in-Ok-perform.ensures.others ∙ c.in-Ok.ensures.worked) (c.in-Ok-perform.ensures.cause.worked ∙ c.in-Ok.ensures.others)
+returns-in-Ok-perform-clause-faults g c = none_failed c.in-Ok.output.status _ _ _ _ c.in-Ok.ensures.made.3 (c.in-Ok-perform.ensures.others
+    ∙ c.in-Ok.ensures.worked) (c.in-Ok-perform.ensures.cause.worked ∙ c.in-Ok.ensures.others)

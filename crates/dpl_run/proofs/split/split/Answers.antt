@@ -19,4 +19,6 @@ pub returns-in_ok-output-in-Err-Refused : goal.returns-in_ok-output-in-Err-Refus
 returns-in_ok-output-in-Err-Refused g c =
     let v = split_view c.args.options.now in
     let file = c.args.bytes.items in
-    split_faulty v file c.in-Err-Refused.name c.in-Err-Refused.at _ c.requires.size (subst (λ (e : LayerFault). IsLayerFault (split_choice v) file e) c.in-Err-Refused.field-0-is c.in-Err-Refused.ensures.fault) c.in_ok-output-in-Err-Refused.ensures
+    split_faulty v file c.in-Err-Refused.name c.in-Err-Refused.at _ c.requires.size
+    (subst (λ (e : LayerFault). IsLayerFault (split_choice v) file e) c.in-Err-Refused.field-0-is c.in-Err-Refused.ensures.fault)
+    c.in_ok-output-in-Err-Refused.ensures

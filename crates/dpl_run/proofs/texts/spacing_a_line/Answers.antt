@@ -6,5 +6,6 @@ use Rattle.dpl_run.proofs.texts.spacing_a_line.Goals as goal
 
 pub returns : goal.returns
 returns c =
-    four_numbers (string_bytes c.in_ok-line.line) (codes "no SpacingA ") (signed_decimal c.args.first.now.x) (signed_decimal c.args.first.now.y) (signed_decimal c.args.second.now.x) (signed_decimal c.args.second.now.y)
+    four_numbers (string_bytes c.in_ok-line.line) (codes "no SpacingA ") (signed_decimal c.args.first.now.x)
+    (signed_decimal c.args.first.now.y) (signed_decimal c.args.second.now.x) (signed_decimal c.args.second.now.y)
     c.in_ok-line.ensures.ok

@@ -8,7 +8,8 @@ loop-point-preserved c =
     let same : to_z w64 (of_z w64 c.args.margins.now.half) ≡ c.args.margins.now.half = omega (arith, ints, c.requires.margins.half) in
     record {
       within = c.in_ok-stroke.ensures.within;
-      drawn = drawn-next c.args.margins.now.half _ _ _ _ _ _ _ c.args.rest.now c.loop-point.point-index _ same c.loop-point-test.true c.loop-point.invariant.drawn c.in_ok-stroke.ensures.draws;
+      drawn = drawn-next c.args.margins.now.half _ _ _ _ _ _ _ c.args.rest.now c.loop-point.point-index _ same c.loop-point-test.true
+          c.loop-point.invariant.drawn c.in_ok-stroke.ensures.draws;
     }
 
 pub returns : goal.returns
@@ -18,5 +19,6 @@ returns c =
     let begin : to_z w64 (of_z w64 c.loop-point.stroke.begin) ≡ c.loop-point.stroke.begin = omega (arith, ints, c.loop-point.invariant.within.begin) in
     let start : to_z w64 (of_z w64 c.args.margins.now.begin) ≡ c.args.margins.now.begin = omega (arith, ints, c.requires.margins.begin) in
     begun-as c.args.margins.now.half _ c.args.margins.now.begin c.args.margins.now.end _ _ start
-    (drawn-all c.args.margins.now.half c.args.margins.now.end _ _ _ _ c.loop-point.stroke c.args.rest.now c.loop-point.point-index c.new-loops.ensures.items c.loop-point-test.false c.loop-point.invariant.drawn
+    (drawn-all c.args.margins.now.half c.args.margins.now.end _ _ _ _ c.loop-point.stroke c.args.rest.now c.loop-point.point-index
+    c.new-loops.ensures.items c.loop-point-test.false c.loop-point.invariant.drawn
     (bar-as _ _ _ _ _ c.args.margins.now.half c.loop-point.stroke.begin c.args.margins.now.end c.loop-point.stroke.segment half begin end c.in_ok-add_bar.ensures))

@@ -23,4 +23,5 @@ returns-then-x-rects c =
     let r : Rect = get_or c.args.rects.now c.loop-i.i zero in
     let left : FitsSigned w32 r.x0 = search rules in
     let test = rw (to_z-of_z w32 c.args.x c.ranges.x) at c.if-x-rects.true in
-    front-here c.args.rects.now c.loop-i.i r c.args.x _ c.requires.rise here (get_or_default c.args.rects.now c.loop-i.i zero r here) (lt-from _ _ _ (to_z-of_z w32 r.x0 left) test) c.loop-i.invariant
+    front-here c.args.rects.now c.loop-i.i r c.args.x _ c.requires.rise here (get_or_default c.args.rects.now c.loop-i.i zero r here)
+    (lt-from _ _ _ (to_z-of_z w32 r.x0 left) test) c.loop-i.invariant

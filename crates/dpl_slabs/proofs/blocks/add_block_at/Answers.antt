@@ -5,4 +5,5 @@ pub returns-clause-blocks : goal.returns-clause-blocks
 returns-clause-blocks c =
     let first = c.split_at_mut-rest.ensures in
     let second = c.split_at_mut-block.ensures in
-    block-done _ _ _ _ _ _ _ _ _ _ _ first.front_len second.front_len c.in_ok-add_block.ensures.len first.back second.front second.back c.strip_length-count.ensures.below c.in_ok-add_block.ensures.adds c.requires.blocks
+    block-done _ _ _ _ _ _ _ _ _ _ _ first.front_len second.front_len c.in_ok-add_block.ensures.len first.back second.front second.back
+    c.strip_length-count.ensures.below c.in_ok-add_block.ensures.adds c.requires.blocks

@@ -32,7 +32,8 @@ returns-then-bar-x c =
     let done = le-true _ _ (rw (to_z-of_z w32 c.args.bar.now.x1 end, to_z-of_z w32 c.max-x.result reach) at c.if-bar-x.true) in
     let past = rw (to_z-of_z w32 gap.x1 right) at c.max-x.ensures.other_bound in
     let adds = rw (to_z-of_z w32 gap.x0 left) at c.in_ok-add_columns-2.ensures in
-    cut-last c.args.bar.now gaps c.requires.solid c.requires.gaps c.requires.level c.args.left.now.items c.loop-at.at _ c.max-x.result gap _ _ c.loop-at.invariant here (get_or_default gaps c.loop-at.at zero gap here) meets c.max-x.ensures.self_bound past
+    cut-last c.args.bar.now gaps c.requires.solid c.requires.gaps c.requires.level c.args.left.now.items c.loop-at.at _ c.max-x.result gap
+    _ _ c.loop-at.invariant here (get_or_default gaps c.loop-at.at zero gap here) meets c.max-x.ensures.self_bound past
     (max-known _ _ gap.x1 _ (to_z-of_z w32 gap.x1 right) c.max-x.ensures.value) adds done
 
 pub loop-at-preserved : goal.loop-at-preserved
@@ -49,12 +50,14 @@ loop-at-preserved c =
     let past = rw (to_z-of_z w32 gap.x1 right) at c.max-x.ensures.other_bound in
     let adds = rw (to_z-of_z w32 gap.x0 left) at c.in_ok-add_columns-2.ensures in
     rw (to_z-of_z w32 c.max-x.result reach)
-    (cut-next c.args.bar.now gaps c.requires.solid c.requires.gaps c.requires.level c.args.left.now.items c.loop-at.at _ c.max-x.result gap _ _ c.loop-at.invariant here (get_or_default gaps c.loop-at.at zero gap here) meets c.max-x.ensures.self_bound past
+    (cut-next c.args.bar.now gaps c.requires.solid c.requires.gaps c.requires.level c.args.left.now.items c.loop-at.at _ c.max-x.result gap
+    _ _ c.loop-at.invariant here (get_or_default gaps c.loop-at.at zero gap here) meets c.max-x.ensures.self_bound past
     (max-known _ _ gap.x1 _ (to_z-of_z w32 gap.x1 right) c.max-x.ensures.value) adds room)
 
 pub returns : goal.returns
 returns c =
     let end : FitsSigned w32 c.args.bar.now.x1 = search rules in
     let adds = rw (to_z-of_z w32 c.args.bar.now.x1 end) at c.in_ok-add_columns-3.ensures in
-    cut-end c.args.bar.now c.args.gaps.now c.requires.solid c.requires.gaps c.requires.level c.args.left.now.items c.loop-at.at (length c.args.gaps.now) _ _ _ c.loop-at.invariant (omega arith)
+    cut-end c.args.bar.now c.args.gaps.now c.requires.solid c.requires.gaps c.requires.level c.args.left.now.items c.loop-at.at
+    (length c.args.gaps.now) _ _ _ c.loop-at.invariant (omega arith)
     (λ k d l k_in. absurd (omega (arith, l, k_in))) adds

@@ -11,7 +11,8 @@ returns-then-is_empty-clause-slabs c = left-whole c.args.bars.items c.args.gaps.
 pub add_bar_without-requires-clause-level : goal.add_bar_without-requires-clause-level
 add_bar_without-requires-clause-level c =
     let here : c.loop-bar.bar-index < length c.args.bars.items = rw c.deref-bar-items.ensures.value at c.loop-bar-test.true in
-    rw c.deref-bar-items.ensures.value (λ gap. c.requires.level (get_or c.args.bars.items c.loop-bar.bar-index zero) gap (Contains-get_or c.args.bars.items c.loop-bar.bar-index zero here))
+    rw c.deref-bar-items.ensures.value (λ gap. c.requires.level (get_or c.args.bars.items c.loop-bar.bar-index zero) gap
+    (Contains-get_or c.args.bars.items c.loop-bar.bar-index zero here))
 
 pub add_bar_without-requires-clause-before : goal.add_bar_without-requires-clause-before
 add_bar_without-requires-clause-before c =
@@ -23,7 +24,9 @@ loop-bar-preserved c =
     let bars = c.args.bars.items in
     let here : c.loop-bar.bar-index < length bars = rw c.deref-bar-items.ensures.value at c.loop-bar-test.true in
     let adds = rw c.deref-bar-items.ensures.value at c.in_ok-from.ensures in
-    left-next bars c.args.gaps.now _ _ c.loop-bar.bar-index _ _ (get_or bars c.loop-bar.bar-index zero) c.requires.bars here (get_or_default bars c.loop-bar.bar-index zero _ here) c.loop-bar.invariant adds
+    left-next bars c.args.gaps.now _ _ c.loop-bar.bar-index _ _ (get_or bars c.loop-bar.bar-index zero) c.requires.bars here
+    (get_or_default bars c.loop-bar.bar-index zero _ here) c.loop-bar.invariant adds
 
 pub returns-clause-slabs : goal.returns-clause-slabs
-returns-clause-slabs c = left-all c.args.bars.items c.args.gaps.now _ c.loop-bar.bar-index _ (let h = rw c.deref-bar-items.ensures.value at c.loop-bar-test.false in omega (arith, h)) c.loop-bar.invariant
+returns-clause-slabs c = left-all c.args.bars.items c.args.gaps.now _ c.loop-bar.bar-index _
+    (let h = rw c.deref-bar-items.ensures.value at c.loop-bar-test.false in omega (arith, h)) c.loop-bar.invariant

@@ -21,7 +21,8 @@ returns-in-Minus c =
       | then-is_empty-via-else-is_empty+then-is_empty-2 w ↦ inr (let h = w.is_empty-else-is_empty in let k = w.if-is_empty-2 in grind arith)
     ] in
     rw (c.in-Minus.is, c.in_ok-extend_from_slice-in-Minus.ensures.items)
-    (adds-first c.args.slabs.now.items c.args.first.now c.args.second.now c.requires.canonical c.requires.below alone c.requires.first (λ r r_in. c.requires.within r (Contains-append_left c.args.first.now c.args.second.now r r_in)))
+    (adds-first c.args.slabs.now.items c.args.first.now c.args.second.now c.requires.canonical c.requires.below alone c.requires.first
+    (λ r r_in. c.requires.within r (Contains-append_left c.args.first.now c.args.second.now r r_in)))
 
 pub combine-requires-clause-second : goal.combine-requires-clause-second
 combine-requires-clause-second c = λ r r_in. c.requires.within r (Contains-append_right c.args.first.now c.args.second.now r r_in)
@@ -31,4 +32,6 @@ returns c =
     let first = c.args.first.now in
     let second = c.args.second.now in
     rw (c.in_ok-extend_from_slice.ensures.items, c.deref.ensures.value)
-    (adds-strip (Chosen c.args.rule first second) c.args.slabs.now.items c.in_ok-more.more.items (first ++ second) c.requires.canonical c.requires.below (chosen-covered c.args.rule first second) c.in_ok-more.ensures.slabs c.in_ok-more.ensures.within)
+    (adds-strip (Chosen c.args.rule first second) c.args.slabs.now.items c.in_ok-more.more.items
+    (first ++ second) c.requires.canonical c.requires.below (chosen-covered c.args.rule first second) c.in_ok-more.ensures.slabs
+    c.in_ok-more.ensures.within)

@@ -27,4 +27,5 @@ returns-clause-some c =
     let reaches = rw (to_z-of_z w32 r.y1 fits) at c.max.ensures.other_bound in
     let begins = le-from _ _ _ (to_z-of_z w32 r.y0 low) (rw top at c.if-top-rects.false) in
     let known = max-known _ _ r.y1 _ (to_z-of_z w32 r.y1 fits) (rw top at c.max.ensures.value) in
-    rw (to_z-of_z w32 c.max.result new) (raised-by c.args.rects.now c.args.n c.args.top c.max.result r here (get_or_default c.args.rects.now c.args.n zero r here) keeps reaches begins known)
+    rw (to_z-of_z w32 c.max.result new) (raised-by c.args.rects.now c.args.n c.args.top c.max.result r here
+    (get_or_default c.args.rects.now c.args.n zero r here) keeps reaches begins known)

@@ -13,8 +13,12 @@ returns-in_ok-push-in-Some-clause-within c =
 
 pub returns-in_ok-extend_from_slice-in-None-clause-covers : goal.returns-in_ok-extend_from_slice-in-None-clause-covers
 returns-in_ok-extend_from_slice-in-None-clause-covers c =
-    rw (c.in_ok-extend_from_slice-in-None.ensures.items, c.deref.ensures.value) (covers-appended (LoopCovers c.args.points.now) c.args.rects.now.items c.in_ok-slabs-in-None.slabs.items c.in_ok-slabs-in-None.ensures.slabs.covers)
+    rw (c.in_ok-extend_from_slice-in-None.ensures.items, c.deref.ensures.value)
+    (covers-appended (LoopCovers c.args.points.now) c.args.rects.now.items c.in_ok-slabs-in-None.slabs.items
+    c.in_ok-slabs-in-None.ensures.slabs.covers)
 
 pub returns-in_ok-extend_from_slice-in-None-clause-within : goal.returns-in_ok-extend_from_slice-in-None-clause-within
 returns-in_ok-extend_from_slice-in-None-clause-within c =
-    rw (c.in_ok-extend_from_slice-in-None.ensures.items, c.deref.ensures.value) (rects-appended 1000000000 c.args.rects.now.items c.in_ok-slabs-in-None.slabs.items c.requires.rects c.in_ok-slabs-in-None.ensures.within)
+    rw (c.in_ok-extend_from_slice-in-None.ensures.items, c.deref.ensures.value)
+    (rects-appended 1000000000 c.args.rects.now.items c.in_ok-slabs-in-None.slabs.items c.requires.rects
+    c.in_ok-slabs-in-None.ensures.within)

@@ -12,7 +12,8 @@ pub slabs_of_edges-requires-clause-closed : goal.slabs_of_edges-requires-clause-
 slabs_of_edges-requires-clause-closed c = loop-closed c.args.points.now _ c.in_ok-edges.ensures
 
 pub returns-clause-slabs : goal.returns-clause-slabs
-returns-clause-slabs c = slabs-of-same (Told Either c.in_ok-edges.edges.items) (LoopCovers c.args.points.now) _ (loop-told c.args.points.now _ c.in_ok-edges.ensures) c.in_ok-slabs.ensures
+returns-clause-slabs c = slabs-of-same (Told Either c.in_ok-edges.edges.items) (LoopCovers c.args.points.now) _
+    (loop-told c.args.points.now _ c.in_ok-edges.ensures) c.in_ok-slabs.ensures
 
 pub returns-clause-within : goal.returns-clause-within
 returns-clause-within c =

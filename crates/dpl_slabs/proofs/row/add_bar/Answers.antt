@@ -7,5 +7,6 @@ pub returns : goal.returns
 returns c =
     let fits : FitsSigned w32 c.args.bar.now.x1 = search rules in
     let old : FitsSigned w32 c.args.last.x1 = search rules in
-    let known : (c.max.result ≡ c.args.last.x1) ⊎ (c.max.result ≡ c.args.bar.now.x1) = max-known _ _ _ _ (to_z-of_z w32 c.args.bar.now.x1 fits) (rw (to_z-of_z w32 c.args.last.x1 old) at c.max.ensures.value) in
+    let known : (c.max.result ≡ c.args.last.x1) ⊎ (c.max.result ≡ c.args.bar.now.x1) = max-known _ _ _ _
+    (to_z-of_z w32 c.args.bar.now.x1 fits) (rw (to_z-of_z w32 c.args.last.x1 old) at c.max.ensures.value) in
     search (rules, known)

@@ -27,7 +27,8 @@ loop-i-preserved c =
     let bar : Rect = get_or row c.loop-i.i zero in
     let right : prev.x1 <ℤ bar.x0 = grind (arith, ints) in
     let before : c.loop-i.i - 1 < length row = omega (arith, here) in
-    rises-next row (c.loop-i.i - 1) c.loop-i.i prev bar c.requires (omega arith) here (get_or_default row (c.loop-i.i - 1) zero prev before) (get_or_default row c.loop-i.i zero bar here) right c.loop-i.invariant
+    rises-next row (c.loop-i.i - 1) c.loop-i.i prev bar c.requires (omega arith) here
+    (get_or_default row (c.loop-i.i - 1) zero prev before) (get_or_default row c.loop-i.i zero bar here) right c.loop-i.invariant
 
 pub returns : goal.returns
 returns c = (λ _. rises-spaced c.args.row.now c.loop-i.i c.requires (omega arith) c.loop-i.invariant, λ _. refl)

@@ -6,7 +6,8 @@ use Rattle.dpl_slabs.proofs.slices.add_part.Goals as goal
 pub returns-then-part : goal.returns-then-part
 returns-then-part c =
     let part = rw (to_z-of_z w32 c.args.low c.ranges.low, to_z-of_z w32 c.args.high c.ranges.high) at c.part_of-part.ensures in
-    adds-empty_part c.args.low c.args.high c.args.r.now c.part_of-part.result _ _ part (λ solid. (let wide = solid.wide in let tall = solid.tall in grind (arith, ints, wide, tall)))
+    adds-empty_part c.args.low c.args.high c.args.r.now c.part_of-part.result _ _ part (λ solid. (let wide = solid.wide in
+    let tall = solid.tall in grind (arith, ints, wide, tall)))
 
 pub returns-then-part-high : goal.returns-then-part-high
 returns-then-part-high c =

@@ -5,7 +5,12 @@ use Rattle.dpl_slabs.proofs.SliceLaws.{parts-none, parts-next, bars-row, cut-who
 use Rattle.dpl_slabs.proofs.slices.parts_of.Goals as goal
 
 pub loop-r-init : goal.loop-r-init
-loop-r-init c = rw (c.new-bars.ensures.items, c.new-others.ensures.items, to_z-of_z w32 c.args.low c.ranges.low, to_z-of_z w32 c.args.high c.ranges.high) (parts-none c.args.low c.args.high)
+loop-r-init c = rw (
+  c.new-bars.ensures.items,
+  c.new-others.ensures.items,
+  to_z-of_z w32 c.args.low c.ranges.low,
+  to_z-of_z w32 c.args.high c.ranges.high,
+) (parts-none c.args.low c.args.high)
 
 pub loop-r-preserved : goal.loop-r-preserved
 loop-r-preserved c =

@@ -13,9 +13,12 @@ loop-piece-preserved c =
     let here : n < length pieces = omega arith in
     let piece : Rect = get_or pieces n zero in
     let done = c.args.done.now.items in
-    let more : done ++ take (n + 1) pieces ≡ (done ++ take n pieces) ++ piece ∷ [] = ap (λ l. done ++ l) (take_more pieces n zero here) ∙ sym (append_assoc done (take n pieces) (piece ∷ [])) in
+    let more : done ++ take (n + 1) pieces ≡ (done ++ take n pieces) ++ piece ∷ [] = ap (λ l. done ++ l) (take_more pieces n zero here)
+    ∙ sym (append_assoc done (take n pieces) (piece ∷ [])) in
     rw more
     (elim c.if-piece-high.branch [
-      | then-piece-high+in_ok-push w ↦ rw (w.done-is, w.growing-is, w.in_ok-push.ensures.items) (settled-done (done ++ take n pieces) c.loop-piece.done.items c.loop-piece.growing.items piece c.loop-piece.invariant)
-      | else-piece-high+in_ok-push-2 w ↦ rw (w.done-is, w.growing-is, w.in_ok-push-2.ensures.items) (settled-growing (done ++ take n pieces) c.loop-piece.done.items c.loop-piece.growing.items piece c.loop-piece.invariant)
+      | then-piece-high+in_ok-push w ↦ rw (w.done-is, w.growing-is, w.in_ok-push.ensures.items)
+          (settled-done (done ++ take n pieces) c.loop-piece.done.items c.loop-piece.growing.items piece c.loop-piece.invariant)
+      | else-piece-high+in_ok-push-2 w ↦ rw (w.done-is, w.growing-is, w.in_ok-push-2.ensures.items)
+          (settled-growing (done ++ take n pieces) c.loop-piece.done.items c.loop-piece.growing.items piece c.loop-piece.invariant)
     ])

@@ -27,4 +27,5 @@ pub returns-clause-slabs : goal.returns-clause-slabs
 returns-clause-slabs c =
     let kept : c.pieces_of_blocks.new.rects ≡ c.turn.new.rects.items = c.in_ok-pieces.ensures.none (search rules) ∙ c.deref_mut.ensures.value in
     let twice = exchanged-kept c.turn.new.rects.items _ _ _ _ kept (search rules) c.turn-2.ensures.same in
-    slabs-of-same (Covers c.turn-2.new.rects.items) (Covers c.args.rects.items) _ (exchanged-twice c.args.rects.items _ _ c.turn.ensures.same twice) (rw c.deref.ensures.value at c.in_ok-slabs.ensures.slabs)
+    slabs-of-same (Covers c.turn-2.new.rects.items) (Covers c.args.rects.items) _
+    (exchanged-twice c.args.rects.items _ _ c.turn.ensures.same twice) (rw c.deref.ensures.value at c.in_ok-slabs.ensures.slabs)

@@ -21,14 +21,17 @@ loop-i-preserved c =
     let second = rw (to_z-of_z w32 r.y1 fits) at c.max-top.ensures.other_bound in
     let top : FitsSigned w32 c.max-top.result = search rules in
     rw (to_z-of_z w32 c.max-top.result top)
-    (open-next c.args.rects.now c.loop-i.i r _ _ here (get_or_default c.args.rects.now c.loop-i.i zero r here) c.max-top.ensures.self_bound second (max-known _ _ r.y1 _ (to_z-of_z w32 r.y1 fits) c.max-top.ensures.value) (le-from _ _ _ (to_z-of_z w32 r.y0 low) c.if-top-rects.false) c.loop-i.invariant)
+    (open-next c.args.rects.now c.loop-i.i r _ _ here (get_or_default c.args.rects.now c.loop-i.i zero r here) c.max-top.ensures.self_bound
+    second (max-known _ _ r.y1 _ (to_z-of_z w32 r.y1 fits) c.max-top.ensures.value)
+    (le-from _ _ _ (to_z-of_z w32 r.y0 low) c.if-top-rects.false) c.loop-i.invariant)
 
 pub returns-then-top-rects-clause-below : goal.returns-then-top-rects-clause-below
 returns-then-top-rects-clause-below c =
     let here : c.loop-i.i < length c.args.rects.now = search rules in
     let r : Rect = get_or c.args.rects.now c.loop-i.i zero in
     let fits : FitsSigned w32 r.y0 = search rules in
-    gap-here c.args.rects.now c.loop-i.i r _ here (get_or_default c.args.rects.now c.loop-i.i zero r here) c.requires.rise c.loop-i.invariant.ends (lt-from _ _ _ (to_z-of_z w32 r.y0 fits) c.if-top-rects.true)
+    gap-here c.args.rects.now c.loop-i.i r _ here (get_or_default c.args.rects.now c.loop-i.i zero r here) c.requires.rise
+    c.loop-i.invariant.ends (lt-from _ _ _ (to_z-of_z w32 r.y0 fits) c.if-top-rects.true)
 
 pub returns-then-top-rects-clause-least : goal.returns-then-top-rects-clause-least
 returns-then-top-rects-clause-least c = c.loop-i.invariant.least

@@ -18,7 +18,8 @@ edge-requires c =
     (elim c.if-row-2.branch [
       | then-row-2 w ↦ inl (w.if-row-2.true, w.other-is)
       | else-row-2 w ↦ rw w.other-is
-          (mate-next c.args.rows.now c.requires _ row_in c.in_ok-places.places c.in_ok-mates.mates.items c.in_ok-mates.ensures w.if-row-2.false _ w.place.ensures.within w.place.ensures.at _ _ w.index.ensures)
+          (mate-next c.args.rows.now c.requires _ row_in c.in_ok-places.places c.in_ok-mates.mates.items c.in_ok-mates.ensures
+          w.if-row-2.false _ w.place.ensures.within w.place.ensures.at _ _ w.index.ensures)
     ])
 
 pub loop-row-init : goal.loop-row-init
@@ -33,8 +34,10 @@ loop-row-preserved c = elim c.if-row.branch [
       (elim w.if-row-2.branch [
         | then-row-2 v ↦ inl (v.if-row-2.true, v.other-is)
         | else-row-2 v ↦ rw v.other-is
-            (mate-next c.args.rows.now c.requires _ row_in c.in_ok-places.places c.in_ok-mates.mates.items c.in_ok-mates.ensures v.if-row-2.false _ v.place.ensures.within v.place.ensures.at _ _ v.index.ensures)
+            (mate-next c.args.rows.now c.requires _ row_in c.in_ok-places.places c.in_ok-mates.mates.items c.in_ok-mates.ensures
+            v.if-row-2.false _ v.place.ensures.within v.place.ensures.at _ _ v.index.ensures)
       ])
       w.edge.ensures.joins w.edge.ensures.rising)
-  | else-row w ↦ rw w.links-is (links-skip c.args.rows.now c.loop-row.links.items c.requires c.loop-row.row-index (own_row 0) c.loop-row-test.true c.loop-row.invariant w.if-row.false)
+  | else-row w ↦ rw w.links-is (links-skip c.args.rows.now c.loop-row.links.items c.requires c.loop-row.row-index
+      (own_row 0) c.loop-row-test.true c.loop-row.invariant w.if-row.false)
 ]

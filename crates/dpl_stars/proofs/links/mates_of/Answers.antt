@@ -9,9 +9,11 @@ place-requires c = rw c.requires.places (root-there c.args.rows.now c.requires.r
 pub loop-row-preserved : goal.loop-row-preserved
 loop-row-preserved c = elim c.if-row.branch [
   | then-row w ↦ rw w.mates-is
-      (mates-step c.args.rows.now c.requires.rows c.args.places.now c.requires.places c.loop-row.row-index (own_row 0) c.loop-row-test.true c.loop-row.mates.items c.loop-row.invariant
+      (mates-step c.args.rows.now c.requires.rows c.args.places.now c.requires.places c.loop-row.row-index
+      (own_row 0) c.loop-row-test.true c.loop-row.mates.items c.loop-row.invariant
       w.if-row.true _ w.place.ensures.within w.place.ensures.at)
   | else-row w ↦ rw w.mates-is
-      (mates-skip c.args.rows.now c.requires.rows c.args.places.now c.requires.places c.loop-row.row-index (own_row 0) c.loop-row-test.true c.loop-row.mates.items c.loop-row.invariant
+      (mates-skip c.args.rows.now c.requires.rows c.args.places.now c.requires.places c.loop-row.row-index
+      (own_row 0) c.loop-row-test.true c.loop-row.mates.items c.loop-row.invariant
       w.if-row.false)
 ]

@@ -31,4 +31,5 @@ pub returns : goal.returns
 returns c =
     let s = solved-from c.args.edges.now c.in_ok-placed.placed.items _ c.in_ok-places.places c.in_ok-levels.levels.roots.items c.in_ok-levels.levels.levels.items _
     c.requires (rw c.in_ok-places.ensures c.in_ok-touched.ensures) c.in_ok-placed.ensures (ap length c.pieces-pieces.ensures) c.deref.ensures.value c.in_ok-levels.ensures in
-    solved-stars _ _ _ _ _ s _ _ _ _ _ _ _ c.pieces-pieces.ensures c.deref-4.ensures.value c.deref-5.ensures.value c.in_ok-rows.ensures c.of-2.ensures c.deref-3.ensures.value c.deref-2.ensures.value (λ on. false≢true (c.if-is_levelled.ensures.1 on))
+    solved-stars _ _ _ _ _ s _ _ _ _ _ _ _ c.pieces-pieces.ensures c.deref-4.ensures.value c.deref-5.ensures.value c.in_ok-rows.ensures
+    c.of-2.ensures c.deref-3.ensures.value c.deref-2.ensures.value (λ on. false≢true (c.if-is_levelled.ensures.1 on))

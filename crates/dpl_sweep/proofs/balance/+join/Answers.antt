@@ -13,7 +13,8 @@ pub returns-in_ok-all-in-Split-take_apart : goal.returns-in_ok-all-in-Split-take
 returns-in_ok-all-in-Split-take_apart t c =
     let r : FitsSigned w32 c.in-Split-take_apart.last = search rules in
     mended-above c.args.rule _ _ c.args.below c.args.above _ _ _ c.args.row c.in-Split-take_apart.ensures
-    (rw (to_z-of_z w32 c.args.row c.ranges.row) at c.in_ok-lower-in-Split-take_apart.ensures) (rw (to_z-of_z w32 c.in-Split-take_apart.last r) at c.in_ok-all-in-Split-take_apart.ensures)
+    (rw (to_z-of_z w32 c.args.row c.ranges.row) at c.in_ok-lower-in-Split-take_apart.ensures)
+    (rw (to_z-of_z w32 c.in-Split-take_apart.last r) at c.in_ok-all-in-Split-take_apart.ensures)
 
 pub join-requires : goal.join-requires
 join-requires t c =

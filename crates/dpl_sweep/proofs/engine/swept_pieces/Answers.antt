@@ -18,15 +18,20 @@ pub put_down-requires-clause-rows : goal.put_down-requires-clause-rows
 put_down-requires-clause-rows c =
     let first : FitsSigned w32 (get_or c.args.edges.now 0 zero).x = search rules in
     let last : Edge = get_or c.args.edges.now (length c.args.edges.now - 1) zero in
-    let there = Contains-get_or c.args.edges.now (length c.args.edges.now - 1) zero (grind arith) in
-    (last.x, c.in_ok-bands.ensures.rows last.x (rw (to_z-of_z w32 _ first) (first-least c.args.edges.now zero last c.requires.rise there)) (all-left c.args.edges.now zero c.requires.rise))
+    let there = Contains-get_or c.args.edges.now (length c.args.edges.now - 1) zero (grind arith) in (
+      last.x,
+      c.in_ok-bands.ensures.rows last.x (rw (to_z-of_z w32 _ first) (first-least c.args.edges.now zero last c.requires.rise there))
+          (all-left c.args.edges.now zero c.requires.rise),
+    )
 
 pub returns-clause-apart : goal.returns-clause-apart
 returns-clause-apart c =
     let last : Edge = get_or c.args.edges.now (length c.args.edges.now - 1) zero in
-    closed-apart _ _ _ _ last.x _ _ _ _ (record { none = refl; a = refl; b = refl }) (all-left c.args.edges.now zero c.requires.rise) c.requires.closed c.in_ok-bands.ensures c.in_ok-put_down.ensures
+    closed-apart _ _ _ _ last.x _ _ _ _ (record { none = refl; a = refl; b = refl }) (all-left c.args.edges.now zero c.requires.rise)
+    c.requires.closed c.in_ok-bands.ensures c.in_ok-put_down.ensures
 
 pub returns-clause-covers : goal.returns-clause-covers
 returns-clause-covers c =
     let last : Edge = get_or c.args.edges.now (length c.args.edges.now - 1) zero in
-    closed-covers _ _ _ _ last.x _ _ _ _ (record { none = refl; a = refl; b = refl }) (all-left c.args.edges.now zero c.requires.rise) c.requires.closed c.in_ok-bands.ensures c.in_ok-put_down.ensures
+    closed-covers _ _ _ _ last.x _ _ _ _ (record { none = refl; a = refl; b = refl }) (all-left c.args.edges.now zero c.requires.rise)
+    c.requires.closed c.in_ok-bands.ensures c.in_ok-put_down.ensures

@@ -36,7 +36,8 @@ loop-edge-preserved c =
       rw second (min-above c.args.row c.min.result c.row_above-last.result (rw least (min-above c.args.row _ c.row_above-first.result under above)) over),
       omega (arith, ints, a, d, i),
       outside-more c.args.edges.now c.loop-edge.edge-index zero c.args.row _ c.min-next.result here (omega (arith, ints, a, d))
-          (outside-next c.args.row c.min-next.result c.row_above-first.result c.row_above-last.result e first last (omega (arith, ints, b, d)) g) (rw row at c.loop-edge.invariant.2),
+          (outside-next c.args.row c.min-next.result c.row_above-first.result c.row_above-last.result e first last
+          (omega (arith, ints, b, d)) g) (rw row at c.loop-edge.invariant.2),
     )
 
 pub returns-clause-none : goal.returns-clause-none

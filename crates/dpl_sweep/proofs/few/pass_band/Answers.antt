@@ -6,7 +6,9 @@ use Rattle.dpl_sweep.proofs.few.pass_band.Goals as goal
 
 pub returns-then-misses : goal.returns-then-misses
 returns-then-misses c =
-    passes-missed _ _ _ _ _ _ _ (rw (to_z-of_z w32 c.args.low c.ranges.low, to_z-of_z w32 c.args.high c.ranges.high) at c.if-misses.ensures.yes refl) c.requires.rows c.requires.sums
+    passes-missed _ _ _ _ _ _ _
+    (rw (to_z-of_z w32 c.args.low c.ranges.low, to_z-of_z w32 c.args.high c.ranges.high) at c.if-misses.ensures.yes refl) c.requires.rows
+    c.requires.sums
 
 pub returns : goal.returns
 returns c =

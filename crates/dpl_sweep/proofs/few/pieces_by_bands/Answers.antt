@@ -17,7 +17,8 @@ sweep_band-requires-clause-first c e e_in =
 pub loop-low-init : goal.loop-low-init
 loop-low-init c =
     let r : FitsSigned w32 c.rows_of-low.result.0 = search rules in
-    rw (to_z-of_z w32 c.rows_of-low.result.0 r, c.new-pieces.ensures.items) (done-none c.args.rule c.args.edges.now c.rows_of-low.result.0 c.rows_of-low.result.1 c.rows_of-low.ensures)
+    rw (to_z-of_z w32 c.rows_of-low.result.0 r, c.new-pieces.ensures.items)
+    (done-none c.args.rule c.args.edges.now c.rows_of-low.result.0 c.rows_of-low.result.1 c.rows_of-low.ensures)
 
 pub sweep_band-requires-clause-none : goal.sweep_band-requires-clause-none
 sweep_band-requires-clause-none c =
@@ -28,9 +29,12 @@ pub loop-low-smaller : goal.loop-low-smaller
 loop-low-smaller c =
     let r : FitsSigned w32 c.next_row-high.result = search rules in
     let s : FitsSigned w32 c.rows_of-low.result.1 = search rules in
-    rw (to_z-of_z w32 c.next_row-high.result r, to_z-of_z w32 c.rows_of-low.result.1 s) (let above = c.next_row-high.ensures.above in let below = rw (to_z-of_z w32 c.rows_of-low.result.1 s) at c.next_row-high.ensures.below in omega (arith, ints, above, below))
+    rw (to_z-of_z w32 c.next_row-high.result r, to_z-of_z w32 c.rows_of-low.result.1 s) (let above = c.next_row-high.ensures.above in
+    let below = rw (to_z-of_z w32 c.rows_of-low.result.1 s) at c.next_row-high.ensures.below in omega (arith, ints, above, below))
 
 pub returns-clause-covers : goal.returns-clause-covers
 returns-clause-covers c =
     let s : FitsSigned w32 c.rows_of-low.result.1 = search rules in
-    done-all c.args.rule c.args.edges.now c.rows_of-low.result.0 c.rows_of-low.result.1 _ c.loop-low.pieces.items (let h = rw (to_z-of_z w32 c.rows_of-low.result.1 s) at c.loop-low-test.false in grind (arith, ints, h)) c.rows_of-low.ensures c.loop-low.invariant
+    done-all c.args.rule c.args.edges.now c.rows_of-low.result.0 c.rows_of-low.result.1 _ c.loop-low.pieces.items
+    (let h = rw (to_z-of_z w32 c.rows_of-low.result.1 s) at c.loop-low-test.false in
+    grind (arith, ints, h)) c.rows_of-low.ensures c.loop-low.invariant

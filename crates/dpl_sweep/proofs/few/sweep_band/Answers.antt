@@ -20,7 +20,8 @@ loop-i-init c =
 pub pass_band-requires-clause-none : goal.pass_band-requires-clause-none
 pass_band-requires-clause-none c =
     let here : c.loop-i.i < length c.args.edges.now = search rules in
-    rw (to_z-of_z w32 c.args.low c.ranges.low, to_z-of_z w32 c.args.high c.ranges.high) (All-get_or (EndsOutside c.args.low c.args.high) c.args.edges.now c.loop-i.i zero here c.requires.none)
+    rw (to_z-of_z w32 c.args.low c.ranges.low, to_z-of_z w32 c.args.high c.ranges.high)
+    (All-get_or (EndsOutside c.args.low c.args.high) c.args.edges.now c.loop-i.i zero here c.requires.none)
 
 pub pass_band-requires-clause-rows : goal.pass_band-requires-clause-rows
 pass_band-requires-clause-rows c =
@@ -37,7 +38,8 @@ loop-i-preserved c =
     let low = to_z-of_z w32 c.args.low c.ranges.low in
     let high = to_z-of_z w32 c.args.high c.ranges.high in
     rw (low, high)
-    (band-next c.args.rule c.args.edges.now c.loop-i.i c.args.low c.args.high c.args.start c.args.pieces.now.items _ _ c.loop-i.run _ e here (get_or_default c.args.edges.now c.loop-i.i zero e here)
+    (band-next c.args.rule c.args.edges.now c.loop-i.i c.args.low c.args.high c.args.start c.args.pieces.now.items _ _ c.loop-i.run _ e
+    here (get_or_default c.args.edges.now c.loop-i.i zero e here)
     (rw (low, high) at c.loop-i.invariant) (rw (low, high) at c.in_ok-run.ensures))
 
 pub returns : goal.returns
@@ -46,5 +48,6 @@ returns c =
     let low = to_z-of_z w32 c.args.low c.ranges.low in
     let high = to_z-of_z w32 c.args.high c.ranges.high in
     let last : Edge = get_or c.args.edges.now (length c.args.edges.now - 1) zero in
-    band-done c.args.rule c.args.edges.now c.args.low c.args.high last.x c.args.start c.loop-i.run c.args.pieces.now.items _ _ c.requires.order (all-left c.args.edges.now zero c.requires.rise) c.requires.closed c.requires.done
+    band-done c.args.rule c.args.edges.now c.args.low c.args.high last.x c.args.start c.loop-i.run c.args.pieces.now.items _ _
+    c.requires.order (all-left c.args.edges.now zero c.requires.rise) c.requires.closed c.requires.done
     (rw (all, low, high) at c.loop-i.invariant) (rw (low, high) at c.in_ok-put_run.ensures)

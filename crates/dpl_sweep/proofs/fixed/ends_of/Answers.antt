@@ -15,7 +15,9 @@ loop-edge-preserved c =
     let e : Edge = get_or c.args.edges.now c.loop-edge.edge-index zero in
     let y0 : FitsSigned w32 e.y0 = search rules in
     let y1 : FitsSigned w32 e.y1 = search rules in
-    rw (c.in_ok-push-2.ensures.items, c.in_ok-push.ensures.items, to_z-of_z w32 e.y0 y0, to_z-of_z w32 e.y1 y1) (ends-more c.args.edges.now c.loop-edge.edge-index zero c.loop-edge.ends.items here c.loop-edge.invariant)
+    rw (c.in_ok-push-2.ensures.items, c.in_ok-push.ensures.items, to_z-of_z w32 e.y0 y0, to_z-of_z w32 e.y1 y1)
+    (ends-more c.args.edges.now c.loop-edge.edge-index zero c.loop-edge.ends.items here c.loop-edge.invariant)
 
 pub returns-clause-ends : goal.returns-clause-ends
-returns-clause-ends c = ends-permutation c.args.edges.now _ _ c.sort_rows.ensures.same (rw (take_all c.loop-edge.edge-index c.args.edges.now (omega arith)) at c.loop-edge.invariant)
+returns-clause-ends c = ends-permutation c.args.edges.now _ _ c.sort_rows.ensures.same
+    (rw (take_all c.loop-edge.edge-index c.args.edges.now (omega arith)) at c.loop-edge.invariant)

@@ -22,7 +22,8 @@ zero = record { x = pos 0; y0 = pos 0; y1 = pos 0; a = pos 0; b = pos 0 }
 pub loop-k-init : goal.loop-k-init
 loop-k-init c =
     let y0 : FitsSigned w32 (get_or c.args.edges.now c.args.i zero).y0 = search rules in
-    passed-start c.args.rule (take c.args.i c.args.edges.now) (get_or c.args.edges.now c.args.i zero) c.args.edges.now c.args.spans.now c.first_above-k.result c.args.runs.now.items c.args.pieces.now.items
+    passed-start c.args.rule (take c.args.i c.args.edges.now) (get_or c.args.edges.now c.args.i zero) c.args.edges.now c.args.spans.now
+    c.first_above-k.result c.args.runs.now.items c.args.pieces.now.items
     (rw (to_z-of_z w32 _ y0) at c.first_above-k.ensures) c.requires.ready
 
 pub pass_band-requires-clause-order : goal.pass_band-requires-clause-order
@@ -38,23 +39,28 @@ pass_band-requires-clause-none c =
     let low : FitsSigned w32 (span_at c.args.spans.now c.loop-k.k).low = search rules in
     let high : FitsSigned w32 (span_at c.args.spans.now c.loop-k.k).high = search rules in
     rw (to_z-of_z w32 _ low, to_z-of_z w32 _ high)
-    (All-get_or (EndsOutside (span_at c.args.spans.now c.loop-k.k).low (span_at c.args.spans.now c.loop-k.k).high) c.args.edges.now c.args.i zero c.requires.within (c.requires.spans.outside c.loop-k.k here))
+    (All-get_or (EndsOutside (span_at c.args.spans.now c.loop-k.k).low (span_at c.args.spans.now c.loop-k.k).high) c.args.edges.now
+    c.args.i zero c.requires.within (c.requires.spans.outside c.loop-k.k here))
 
 pub pass_band-requires-clause-rows : goal.pass_band-requires-clause-rows
 pass_band-requires-clause-rows c =
     let here : c.loop-k.k < length c.args.spans.now = search rules in
     let len : length c.loop-k.runs.items ≡ length c.args.spans.now = c.loop-k.invariant.len in
-    let run_is : run_at_span c.loop-k.runs.items c.loop-k.k ≡ c.index.result.now = get_or_default c.loop-k.runs.items c.loop-k.k no_run c.index.result.now (omega (arith, len, here)) ∙ sym c.index.ensures in
+    let run_is : run_at_span c.loop-k.runs.items c.loop-k.k ≡ c.index.result.now = get_or_default c.loop-k.runs.items c.loop-k.k no_run
+    c.index.result.now (omega (arith, len, here)) ∙ sym c.index.ensures in
     let count : length (take c.args.i c.args.edges.now) ≤ c.args.i = (let h = length-take c.args.i c.args.edges.now in omega (arith, h)) in
-    subst (λ r. let q : Run = r in q.at ≤ℤ (get_or c.args.edges.now c.args.i zero).x) run_is ((c.loop-k.invariant.after c.loop-k.k (omega arith) here).rows c.args.i zero count c.requires.within)
+    subst (λ r. let q : Run = r in q.at ≤ℤ (get_or c.args.edges.now c.args.i zero).x) run_is
+    ((c.loop-k.invariant.after c.loop-k.k (omega arith) here).rows c.args.i zero count c.requires.within)
 
 pub pass_band-requires-clause-sums : goal.pass_band-requires-clause-sums
 pass_band-requires-clause-sums c =
     let here : c.loop-k.k < length c.args.spans.now = search rules in
     let len : length c.loop-k.runs.items ≡ length c.args.spans.now = c.loop-k.invariant.len in
-    let run_is : run_at_span c.loop-k.runs.items c.loop-k.k ≡ c.index.result.now = get_or_default c.loop-k.runs.items c.loop-k.k no_run c.index.result.now (omega (arith, len, here)) ∙ sym c.index.ensures in
+    let run_is : run_at_span c.loop-k.runs.items c.loop-k.k ≡ c.index.result.now = get_or_default c.loop-k.runs.items c.loop-k.k no_run
+    c.index.result.now (omega (arith, len, here)) ∙ sym c.index.ensures in
     let count : length (take c.args.i c.args.edges.now) ≡ c.args.i = (let h = length-take c.args.i c.args.edges.now in let w = c.requires.within in omega (arith, h, w)) in
-    subst (λ r. IsSmall c.args.i (One r)) run_is (subst (λ n. IsSmall n (One (run_at_span c.loop-k.runs.items c.loop-k.k))) count (c.loop-k.invariant.after c.loop-k.k (omega arith) here).sums)
+    subst (λ r. IsSmall c.args.i (One r)) run_is (subst (λ n. IsSmall n (One (run_at_span c.loop-k.runs.items c.loop-k.k))) count
+    (c.loop-k.invariant.after c.loop-k.k (omega arith) here).sums)
 
 pub loop-k-preserved : goal.loop-k-preserved
 loop-k-preserved c =
@@ -62,13 +68,18 @@ loop-k-preserved c =
     let low : FitsSigned w32 (span_at c.args.spans.now c.loop-k.k).low = search rules in
     let high : FitsSigned w32 (span_at c.args.spans.now c.loop-k.k).high = search rules in
     let len : length c.loop-k.runs.items ≡ length c.args.spans.now = c.loop-k.invariant.len in
-    let run_is : run_at_span c.loop-k.runs.items c.loop-k.k ≡ c.index.result.now = get_or_default c.loop-k.runs.items c.loop-k.k no_run c.index.result.now (omega (arith, len, here)) ∙ sym c.index.ensures in
+    let run_is : run_at_span c.loop-k.runs.items c.loop-k.k ≡ c.index.result.now = get_or_default c.loop-k.runs.items c.loop-k.k no_run
+    c.index.result.now (omega (arith, len, here)) ∙ sym c.index.ensures in
     let count : length (take c.args.i c.args.edges.now) ≡ c.args.i = (let h = length-take c.args.i c.args.edges.now in let w = c.requires.within in omega (arith, h, w)) in
     let e : Edge = get_or c.args.edges.now c.args.i zero in
     let on = rw (to_z-of_z w32 _ low, to_z-of_z w32 _ high) at c.in_ok-runs.ensures in
-    passed-more c.args.rule (take c.args.i c.args.edges.now) e c.args.edges.now c.args.spans.now c.loop-k.k c.loop-k.runs.items c.loop-k.pieces.items c.pass_band.new.pieces.items c.in_ok-runs.field-0 c.requires.spans.order here (next-right c.args.edges.now c.args.i zero c.requires.rise c.requires.within)
-    (subst (λ n. PassesBand c.args.rule e (span_at c.args.spans.now c.loop-k.k).low (span_at c.args.spans.now c.loop-k.k).high n (run_at_span c.loop-k.runs.items c.loop-k.k) c.in_ok-runs.field-0 c.loop-k.pieces.items c.pass_band.new.pieces.items) (sym count)
-    (subst (λ r. PassesBand c.args.rule e (span_at c.args.spans.now c.loop-k.k).low (span_at c.args.spans.now c.loop-k.k).high c.args.i r c.in_ok-runs.field-0 c.loop-k.pieces.items c.pass_band.new.pieces.items) (sym run_is) on))
+    passed-more c.args.rule (take c.args.i c.args.edges.now) e c.args.edges.now c.args.spans.now c.loop-k.k c.loop-k.runs.items
+    c.loop-k.pieces.items c.pass_band.new.pieces.items c.in_ok-runs.field-0 c.requires.spans.order here
+    (next-right c.args.edges.now c.args.i zero c.requires.rise c.requires.within)
+    (subst (λ n. PassesBand c.args.rule e (span_at c.args.spans.now c.loop-k.k).low (span_at c.args.spans.now c.loop-k.k).high n
+    (run_at_span c.loop-k.runs.items c.loop-k.k) c.in_ok-runs.field-0 c.loop-k.pieces.items c.pass_band.new.pieces.items) (sym count)
+    (subst (λ r. PassesBand c.args.rule e (span_at c.args.spans.now c.loop-k.k).low (span_at c.args.spans.now c.loop-k.k).high c.args.i r
+    c.in_ok-runs.field-0 c.loop-k.pieces.items c.pass_band.new.pieces.items) (sym run_is) on))
     c.loop-k.invariant
 
 pub returns-else-spans-k : goal.returns-else-spans-k

@@ -15,4 +15,5 @@ loop-i-init c =
     let x = to_z-of_z w32 (get_or c.args.edges.now 0 zero).x first in
     let start : Run = record { from = (get_or c.args.edges.now 0 zero).x; at = (get_or c.args.edges.now 0 zero).x; a = pos 0; b = pos 0 } in
     let items = rw x at (c.in_ok-runs.ensures.items_if_clones_equal (λ y h. search rules)) in
-    rw (c.new-pieces.ensures.items, items) (ready-start c.args.rule c.args.edges.now start c.args.spans.now (record { none = refl; a = refl; b = refl }) (first-right c.args.edges.now zero c.requires.rise))
+    rw (c.new-pieces.ensures.items, items) (ready-start c.args.rule c.args.edges.now start c.args.spans.now
+    (record { none = refl; a = refl; b = refl }) (first-right c.args.edges.now zero c.requires.rise))

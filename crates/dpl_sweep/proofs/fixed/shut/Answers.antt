@@ -20,7 +20,8 @@ loop-k-preserved c =
     let high : FitsSigned w32 (span_at c.args.spans.now c.loop-k.k).high = search rules in
     let last : Edge = get_or c.args.edges.now (length c.args.edges.now - 1) zero in
     let put = rw (to_z-of_z w32 _ low, to_z-of_z w32 _ high) at c.in_ok-put_run.ensures in
-    shut-more c.args.rule c.args.edges.now last.x c.args.edges.now c.args.spans.now c.loop-k.k c.args.runs.now _ _ (all-left c.args.edges.now zero c.requires.rise) c.requires.closed c.requires.spans.order here put c.loop-k.invariant
+    shut-more c.args.rule c.args.edges.now last.x c.args.edges.now c.args.spans.now c.loop-k.k c.args.runs.now _ _
+    (all-left c.args.edges.now zero c.requires.rise) c.requires.closed c.requires.spans.order here put c.loop-k.invariant
 
 pub returns-clause-apart : goal.returns-clause-apart
 returns-clause-apart c = c.loop-k.invariant.apart

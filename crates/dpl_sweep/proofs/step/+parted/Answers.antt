@@ -30,7 +30,8 @@ returns-clause-sweeps t c =
     let over = rw (to_z-of_z w32 c.args.low c.ranges.low) at c.end_inside-row.ensures.above in
     let under = rw (to_z-of_z w32 c.args.high c.ranges.high) at c.end_inside-row.ensures.below in
     let tree = rw (to_z-of_z w32 c.end_inside-row.result r) at c.in_ok-both.ensures in
-    (parted-swept _ _ _ c.end_inside-row.result _ (c.args.count + 1) c.args.run _ _ _ _ _ _ over under below above low_rows high_rows c.in_ok-below.ensures.sums c.in_ok-above.ensures.sums tree).0
+    (parted-swept _ _ _ c.end_inside-row.result _ (c.args.count + 1) c.args.run _ _ _ _ _ _ over under below above low_rows high_rows
+    c.in_ok-below.ensures.sums c.in_ok-above.ensures.sums tree).0
 
 pub returns-clause-rows : goal.returns-clause-rows
 returns-clause-rows t c =
@@ -42,7 +43,8 @@ returns-clause-rows t c =
     let over = rw (to_z-of_z w32 c.args.low c.ranges.low) at c.end_inside-row.ensures.above in
     let under = rw (to_z-of_z w32 c.args.high c.ranges.high) at c.end_inside-row.ensures.below in
     let tree = rw (to_z-of_z w32 c.end_inside-row.result r) at c.in_ok-both.ensures in
-    (parted-swept _ _ _ c.end_inside-row.result _ (c.args.count + 1) c.args.run _ _ _ _ _ _ over under below above low_rows high_rows c.in_ok-below.ensures.sums c.in_ok-above.ensures.sums tree).1
+    (parted-swept _ _ _ c.end_inside-row.result _ (c.args.count + 1) c.args.run _ _ _ _ _ _ over under below above low_rows high_rows
+    c.in_ok-below.ensures.sums c.in_ok-above.ensures.sums tree).1
 
 pub returns-clause-sums : goal.returns-clause-sums
 returns-clause-sums t c =
@@ -54,4 +56,5 @@ returns-clause-sums t c =
     let over = rw (to_z-of_z w32 c.args.low c.ranges.low) at c.end_inside-row.ensures.above in
     let under = rw (to_z-of_z w32 c.args.high c.ranges.high) at c.end_inside-row.ensures.below in
     let tree = rw (to_z-of_z w32 c.end_inside-row.result r) at c.in_ok-both.ensures in
-    (parted-swept _ _ _ c.end_inside-row.result _ (c.args.count + 1) c.args.run _ _ _ _ _ _ over under below above low_rows high_rows c.in_ok-below.ensures.sums c.in_ok-above.ensures.sums tree).2
+    (parted-swept _ _ _ c.end_inside-row.result _ (c.args.count + 1) c.args.run _ _ _ _ _ _ over under below above low_rows high_rows
+    c.in_ok-below.ensures.sums c.in_ok-above.ensures.sums tree).2

@@ -6,4 +6,5 @@ use Rattle.dpl_syntax.proofs.structures.add.Goals as goal
 
 pub returns-clause-ok : goal.returns-clause-ok
 returns-clause-ok c =
-    c.in_ok-insert.ensures.entries ∙ insert_new (λ (k : Bor (List ℕ)). k.now) (λ j k. pointwise nat_eq j.now k.now) (pointwise nat_eq c.args.name.now) c.args.structures.now.entries c.args.name c.args.structure (λ _. refl) c.requires
+    c.in_ok-insert.ensures.entries ∙ insert_new (λ (k : Bor (List ℕ)). k.now) (λ j k. pointwise nat_eq j.now k.now)
+    (pointwise nat_eq c.args.name.now) c.args.structures.now.entries c.args.name c.args.structure (λ _. refl) c.requires

@@ -11,7 +11,8 @@ loop-r-preserved c =
     record {
       added = each-next (IsMet c.args.grid.now) c.args.rects.now c.loop-r.r-index _ c.args.places.now.items c.loop-r.places.items _ c.loop-r-test.true c.loop-r.invariant.added
           (block-adds c.args.grid.now _ c.block-block.result c.loop-r.places.items _ c.block-block.ensures.value c.in_ok-add_block.ensures.added);
-      count = rects-count c.args.grid.now c.args.rects.now c.loop-r.r-index _ c.block-block.result _ _ _ c.loop-r-test.true c.block-block.ensures.value c.block-block.ensures.some c.loop-r.invariant.count c.in_ok-add_block.ensures.count;
+      count = rects-count c.args.grid.now c.args.rects.now c.loop-r.r-index _ c.block-block.result _ _ _ c.loop-r-test.true
+          c.block-block.ensures.value c.block-block.ensures.some c.loop-r.invariant.count c.in_ok-add_block.ensures.count;
     }
 
 pub returns-clause-added : goal.returns-clause-added

@@ -13,7 +13,8 @@ loop-column-preserved c =
     let more = c.in_ok-push.ensures.len in
     record {
       from = omega (arith, from);
-      added = row-more c.args.row c.args.block.now c.loop-column.column c.args.places.now.items c.loop-column.places.items _ from c.in_ok-push.ensures.items c.loop-column.invariant.added;
+      added = row-more c.args.row c.args.block.now c.loop-column.column c.args.places.now.items c.loop-column.places.items _ from
+          c.in_ok-push.ensures.items c.loop-column.invariant.added;
       count = omega (arith, from, count, more);
     }
 

@@ -11,7 +11,8 @@ loop-grid-init c =
     let y : FitsSigned w32 c.args.bounds.now.y0 = search rules in
     let s = c.requires.some in
     let m : c.args.tile < 2 ^ 32 = search rules in
-    let over = (bounds-over (record { x = c.args.bounds.now.x0; y = c.args.bounds.now.y0; side = c.args.tile }) c.args.parts.now c.args.bounds.now c.requires.parts c.requires.bounds refl refl).solid in
+    let over = (bounds-over (record { x = c.args.bounds.now.x0; y = c.args.bounds.now.y0; side = c.args.tile }) c.args.parts.now
+    c.args.bounds.now c.requires.parts c.requires.bounds refl refl).solid in
     rw (same-wide _ x, same-wide _ y)
     (record {
       left = refl;
@@ -21,10 +22,12 @@ loop-grid-init c =
     })
 
 pub is_coarse-requires-clause-over : goal.is_coarse-requires-clause-over
-is_coarse-requires-clause-over c = parts-over c.loop-grid.grid c.args.parts.now c.args.bounds.now c.requires.parts c.requires.bounds c.loop-grid.invariant.left c.loop-grid.invariant.low
+is_coarse-requires-clause-over c = parts-over c.loop-grid.grid c.args.parts.now c.args.bounds.now c.requires.parts c.requires.bounds
+    c.loop-grid.invariant.left c.loop-grid.invariant.low
 
 pub is_coarse-requires-clause-corner : goal.is_coarse-requires-clause-corner
-is_coarse-requires-clause-corner c = bounds-over c.loop-grid.grid c.args.parts.now c.args.bounds.now c.requires.parts c.requires.bounds c.loop-grid.invariant.left c.loop-grid.invariant.low
+is_coarse-requires-clause-corner c = bounds-over c.loop-grid.grid c.args.parts.now c.args.bounds.now c.requires.parts c.requires.bounds
+    c.loop-grid.invariant.left c.loop-grid.invariant.low
 
 pub loop-grid-preserved : goal.loop-grid-preserved
 loop-grid-preserved c =
@@ -34,5 +37,6 @@ loop-grid-preserved c =
       left = c.loop-grid.invariant.left;
       low = c.loop-grid.invariant.low;
       sound = record { left = c.loop-grid.invariant.sound.left; low = c.loop-grid.invariant.sound.low; some = omega (arith, some); short = omega (arith, short) };
-      doubled = doubled-more c.args.parts.now c.args.tile c.loop-grid.grid _ refl refl refl (λ q. (let t = c.loop-grid-test.ensures.coarse.1 q in cc)) c.loop-grid.invariant.doubled;
+      doubled = doubled-more c.args.parts.now c.args.tile c.loop-grid.grid _ refl refl refl
+          (λ q. (let t = c.loop-grid-test.ensures.coarse.1 q in cc)) c.loop-grid.invariant.doubled;
     }

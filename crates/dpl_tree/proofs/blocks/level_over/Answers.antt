@@ -23,5 +23,6 @@ returns g c =
     let low = bounds.0 in
     let high = bounds.1 in
     let count = c.div_ceil-count.ensures in
-    let all : length c.loop-run.level.items ≡ c.div_ceil-count.result = (let n = c.loop-run.invariant.count in let end = c.loop-run.auto.run-end in omega (arith, n, end, c.loop-run-test.false)) in
+    let all : length c.loop-run.level.items ≡ c.div_ceil-count.result = (let n = c.loop-run.invariant.count in
+    let end = c.loop-run.auto.run-end in omega (arith, n, end, c.loop-run-test.false)) in
     level-all g.T.Bounded.block_of c.args.things.now c.loop-run.level.items (rw (all, count) low) (rw (all, count) high) c.loop-run.invariant.blocks

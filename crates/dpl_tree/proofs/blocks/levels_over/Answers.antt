@@ -6,7 +6,8 @@ use Rattle.dpl_tree.specs.StoredItems.{item_of}
 use Rattle.dpl_tree.proofs.blocks.levels_over.Goals as goal
 
 pub returns-then-items-le-FAN : goal.returns-then-items-le-FAN
-returns-then-items-le-FAN c = index-none (map item_of c.args.items.now) c.new-levels.result.items c.new-levels.ensures.items (let few = c.if-items-le-FAN.true in let len = length-map c.args.items.now item_of in omega (arith, few, len))
+returns-then-items-le-FAN c = index-none (map item_of c.args.items.now) c.new-levels.result.items c.new-levels.ensures.items
+    (let few = c.if-items-le-FAN.true in let len = length-map c.args.items.now item_of in omega (arith, few, len))
 
 pub loop-alloc-init : goal.loop-alloc-init
 loop-alloc-init c = record {

@@ -16,7 +16,14 @@ returns-clause-first c =
     let y1 : FitsSigned w32 c.args.a.now.bounds.y1 = search rules in
     rw (to_z-of_z w32 _ a, to_z-of_z w32 _ b, to_z-of_z w32 _ d, to_z-of_z w32 _ e)
     (record {
-      inside = record { left = rw (to_z-of_z w32 _ x0) at c.min.ensures.self_bound; right = rw (to_z-of_z w32 _ x1) at c.max.ensures.self_bound; low = rw (to_z-of_z w32 _ y0) at c.min-2.ensures.self_bound; high = rw (to_z-of_z w32 _ y1) at c.max-2.ensures.self_bound };
+      inside = record {
+        left = rw (to_z-of_z w32 _ x0) at c.min.ensures.self_bound;
+        right = rw
+            (to_z-of_z w32 _ x1) at c.max.ensures.self_bound;
+        low = rw (to_z-of_z w32 _ y0) at c.min-2.ensures.self_bound;
+        high = rw
+            (to_z-of_z w32 _ y1) at c.max-2.ensures.self_bound;
+      };
       least = rw c.min-3.ensures (min-le_left _ _);
       greatest = rw c.max-3.ensures (le-max_left _ _);
     })
@@ -33,7 +40,14 @@ returns-clause-second c =
     let y1 : FitsSigned w32 c.args.b.now.bounds.y1 = search rules in
     rw (to_z-of_z w32 _ a, to_z-of_z w32 _ b, to_z-of_z w32 _ d, to_z-of_z w32 _ e)
     (record {
-      inside = record { left = rw (to_z-of_z w32 _ x0) at c.min.ensures.other_bound; right = rw (to_z-of_z w32 _ x1) at c.max.ensures.other_bound; low = rw (to_z-of_z w32 _ y0) at c.min-2.ensures.other_bound; high = rw (to_z-of_z w32 _ y1) at c.max-2.ensures.other_bound };
+      inside = record {
+        left = rw (to_z-of_z w32 _ x0) at c.min.ensures.other_bound;
+        right = rw
+            (to_z-of_z w32 _ x1) at c.max.ensures.other_bound;
+        low = rw (to_z-of_z w32 _ y0) at c.min-2.ensures.other_bound;
+        high = rw
+            (to_z-of_z w32 _ y1) at c.max-2.ensures.other_bound;
+      };
       least = rw c.min-3.ensures (min-le_right _ _);
       greatest = rw c.max-3.ensures (le-max_right _ _);
     })

@@ -11,7 +11,8 @@ loop-rect-init c = record {
 
 pub loop-rect-preserved : goal.loop-rect-preserved
 loop-rect-preserved c = record {
-  added = item-more c.args.owner c.args.rects.now c.loop-rect.rect-index _ _ _ _ (items-push c.loop-rect.items.items _ _ c.in_ok-push.ensures.items) (omega arith) (search rules) refl c.loop-rect.invariant.added;
+  added = item-more c.args.owner c.args.rects.now c.loop-rect.rect-index _ _ _ _
+      (items-push c.loop-rect.items.items _ _ c.in_ok-push.ensures.items) (omega arith) (search rules) refl c.loop-rect.invariant.added;
   room = omega (arith, c.in_ok-push.ensures.len, c.in_ok-push.ensures.capacity, c.loop-rect.invariant.room);
 }
 

@@ -13,5 +13,6 @@ pub returns : goal.returns
 returns c =
     let known : c.args.place.level - 1 < length c.args.levels.now = (let some = c.if-place-eq0.false in let level = c.requires.level in omega (arith, some, level)) in
     let is = c.index-levels-place.is ∙ get_or_default c.args.levels.now (c.args.place.level - 1) c.index-levels-place.result [] known in
-    found-above (map item_of c.args.items.now) c.args.levels.now c.args.place c.args.window.now c.args.owners c.find_in-2.result c.requires.index.covered c.if-place-eq0.false c.requires.level
+    found-above (map item_of c.args.items.now) c.args.levels.now c.args.place c.args.window.now c.args.owners c.find_in-2.result
+    c.requires.index.covered c.if-place-eq0.false c.requires.level
     (rw (c.items.ensures ∙ is) at c.find_in-2.ensures)

@@ -19,7 +19,8 @@ pub loop-end-smaller-in-Passed : goal.loop-end-smaller-in-Passed
 loop-end-smaller-in-Passed c =
     let start = c.highest-place-in-Passed.ensures.start in
     let later = start-up_more c.loop-end.place.at c.in-Passed.end c.loop-end.place.level c.in-Passed.ensures.0 in
-    fewer-left (length (map item_of c.args.items.now)) (start_of c.loop-end.place) (start_of c.highest-place-in-Passed.result) (length c.args.levels.now) c.loop-end.place.level c.highest-place-in-Passed.result.level
+    fewer-left (length (map item_of c.args.items.now)) (start_of c.loop-end.place) (start_of c.highest-place-in-Passed.result)
+    (length c.args.levels.now) c.loop-end.place.level c.highest-place-in-Passed.result.level
     c.in-Passed.ensures.1 (omega (arith, start, later)) c.highest-place-in-Passed.ensures.level
 
 pub loop-end-preserved-in-Passed : goal.loop-end-preserved-in-Passed
@@ -30,7 +31,8 @@ loop-end-preserved-in-Passed c =
     record {
       level = c.highest-place-in-Passed.ensures.level;
       from = omega (arith, start, later, from);
-      passed = rw start (passed-on c.args.window.now c.args.owners (map item_of c.args.items.now) c.args.from (start_of c.loop-end.place) (c.in-Passed.end * 8 ^ c.loop-end.place.level) c.loop-end.invariant.passed c.in-Passed.ensures.2);
+      passed = rw start (passed-on c.args.window.now c.args.owners (map item_of c.args.items.now) c.args.from (start_of c.loop-end.place)
+          (c.in-Passed.end * 8 ^ c.loop-end.place.level) c.loop-end.invariant.passed c.in-Passed.ensures.2);
     }
 
 pub returns-in-Found-clause-from : goal.returns-in-Found-clause-from
@@ -43,7 +45,8 @@ returns-in-Found-clause-from c =
 pub returns-in-Found-clause-passed : goal.returns-in-Found-clause-passed
 returns-in-Found-clause-passed c =
     subst (λ n. ArePassed c.args.window.now c.args.owners (map item_of c.args.items.now) c.args.from n) (first-start c.in-Found.k c.loop-end.place.level c.if-place-eq0.true)
-    (passed-on c.args.window.now c.args.owners (map item_of c.args.items.now) c.args.from (start_of c.loop-end.place) (c.in-Found.k * 8 ^ c.loop-end.place.level) c.loop-end.invariant.passed c.in-Found.ensures.2)
+    (passed-on c.args.window.now c.args.owners (map item_of c.args.items.now) c.args.from (start_of c.loop-end.place)
+    (c.in-Found.k * 8 ^ c.loop-end.place.level) c.loop-end.invariant.passed c.in-Found.ensures.2)
 
 pub returns-in-Found-clause-found : goal.returns-in-Found-clause-found
 returns-in-Found-clause-found c d l = c.in-Found.ensures.3 c.if-place-eq0.true d
@@ -60,7 +63,8 @@ pub loop-end-smaller : goal.loop-end-smaller
 loop-end-smaller c =
     let down = down-start c.in-Found.k c.loop-end.place.level c.if-place-eq0.false in
     let later = start-up c.loop-end.place.at c.in-Found.k c.loop-end.place.level c.in-Found.ensures.0 in
-    lower-left (length (map item_of c.args.items.now)) (start_of c.loop-end.place) (c.in-Found.k * 8 * 8 ^ (c.loop-end.place.level - 1)) (length c.args.levels.now) c.loop-end.place.level (omega (arith, down, later)) c.if-place-eq0.false
+    lower-left (length (map item_of c.args.items.now)) (start_of c.loop-end.place) (c.in-Found.k * 8 * 8 ^ (c.loop-end.place.level - 1))
+    (length c.args.levels.now) c.loop-end.place.level (omega (arith, down, later)) c.if-place-eq0.false
 
 pub loop-end-preserved : goal.loop-end-preserved
 loop-end-preserved c =
@@ -71,5 +75,6 @@ loop-end-preserved c =
     record {
       level = omega (arith, level);
       from = omega (arith, down, later, from);
-      passed = rw down (passed-on c.args.window.now c.args.owners (map item_of c.args.items.now) c.args.from (start_of c.loop-end.place) (c.in-Found.k * 8 ^ c.loop-end.place.level) c.loop-end.invariant.passed c.in-Found.ensures.2);
+      passed = rw down (passed-on c.args.window.now c.args.owners (map item_of c.args.items.now) c.args.from (start_of c.loop-end.place)
+          (c.in-Found.k * 8 ^ c.loop-end.place.level) c.loop-end.invariant.passed c.in-Found.ensures.2);
     }

@@ -10,52 +10,82 @@ visit-requires-clause-points c = rw (outlines_are c.args.cells.now c.args.top c.
 pub loop-frame-init : goal.loop-frame-init
 loop-frame-init c = (
   c.requires.steep,
-  walking_start c.args.cells.now c.args.top c.unit-start.result _ _ _ _ _ _ c.requires.steep c.requires.known c.unit-start.ensures.stays (ap (λ (m : Motion). m.dx) c.unit-start.ensures.value) (ap (λ (m : Motion). m.dy) c.unit-start.ensures.value) c.new.ensures.items refl c.new-stack.ensures.items
+  walking_start c.args.cells.now c.args.top c.unit-start.result _ _ _ _ _ _ c.requires.steep c.requires.known c.unit-start.ensures.stays
+      (ap (λ (m : Motion). m.dx) c.unit-start.ensures.value) (ap (λ (m : Motion). m.dy) c.unit-start.ensures.value) c.new.ensures.items refl
+      c.new-stack.ensures.items
       (rw (outlines_are c.args.cells.now c.args.top c.index-cells-top.result c.requires.top c.index-cells-top.is) at c.in_ok-visit.ensures.gathered)
       (rw (copies_are c.args.cells.now c.args.top c.index-cells-top.result c.requires.top c.index-cells-top.is) at c.in_ok-visit.ensures.put),
 )
 
 pub put_next-requires-clause-small : goal.put_next-requires-clause-small
-put_next-requires-clause-small c = (popped c.args.cells.now c.args.top c.loop-frame.invariant.0 c.requires.known c.requires.few c.loop-frame.gathered.loops.items c.loop-frame.gathered.far c.loop-frame.stack.items c.pop.new.self.items c.in-Some.frame c.in-Some.ensures.items c.loop-frame.invariant.1).ready
+put_next-requires-clause-small c = (popped c.args.cells.now c.args.top c.loop-frame.invariant.0 c.requires.known c.requires.few
+    c.loop-frame.gathered.loops.items c.loop-frame.gathered.far c.loop-frame.stack.items c.pop.new.self.items c.in-Some.frame
+    c.in-Some.ensures.items c.loop-frame.invariant.1).ready
 
 pub put_next-requires-clause-frame : goal.put_next-requires-clause-frame
-put_next-requires-clause-frame c = (popped c.args.cells.now c.args.top c.loop-frame.invariant.0 c.requires.known c.requires.few c.loop-frame.gathered.loops.items c.loop-frame.gathered.far c.loop-frame.stack.items c.pop.new.self.items c.in-Some.frame c.in-Some.ensures.items c.loop-frame.invariant.1).frame
+put_next-requires-clause-frame c = (popped c.args.cells.now c.args.top c.loop-frame.invariant.0 c.requires.known c.requires.few
+    c.loop-frame.gathered.loops.items c.loop-frame.gathered.far c.loop-frame.stack.items c.pop.new.self.items c.in-Some.frame
+    c.in-Some.ensures.items c.loop-frame.invariant.1).frame
 
 pub place_of-place-requires-clause-ready : goal.place_of-place-requires-clause-ready
-place_of-place-requires-clause-ready c = (popped c.args.cells.now c.args.top c.loop-frame.invariant.0 c.requires.known c.requires.few c.loop-frame.gathered.loops.items c.loop-frame.gathered.far c.loop-frame.stack.items c.pop.new.self.items c.in-Some.frame c.in-Some.ensures.items c.loop-frame.invariant.1).ready
+place_of-place-requires-clause-ready c = (popped c.args.cells.now c.args.top c.loop-frame.invariant.0 c.requires.known c.requires.few
+    c.loop-frame.gathered.loops.items c.loop-frame.gathered.far c.loop-frame.stack.items c.pop.new.self.items c.in-Some.frame
+    c.in-Some.ensures.items c.loop-frame.invariant.1).ready
 
 pub place_of-place-requires-clause-frame : goal.place_of-place-requires-clause-frame
-place_of-place-requires-clause-frame c = (popped c.args.cells.now c.args.top c.loop-frame.invariant.0 c.requires.known c.requires.few c.loop-frame.gathered.loops.items c.loop-frame.gathered.far c.loop-frame.stack.items c.pop.new.self.items c.in-Some.frame c.in-Some.ensures.items c.loop-frame.invariant.1).frame
+place_of-place-requires-clause-frame c = (popped c.args.cells.now c.args.top c.loop-frame.invariant.0 c.requires.known c.requires.few
+    c.loop-frame.gathered.loops.items c.loop-frame.gathered.far c.loop-frame.stack.items c.pop.new.self.items c.in-Some.frame
+    c.in-Some.ensures.items c.loop-frame.invariant.1).frame
 
 pub place_of-place-requires-clause-place : goal.place_of-place-requires-clause-place
-place_of-place-requires-clause-place c = place_small c.args.cells.now c.args.top c.loop-frame.invariant.0 c.requires.known c.requires.few c.loop-frame.gathered.loops.items c.loop-frame.gathered.far c.loop-frame.stack.items c.pop.new.self.items c.in-Some.frame c.in-Some.ensures.items c.loop-frame.invariant.1
+place_of-place-requires-clause-place c = place_small c.args.cells.now c.args.top c.loop-frame.invariant.0 c.requires.known c.requires.few
+    c.loop-frame.gathered.loops.items c.loop-frame.gathered.far c.loop-frame.stack.items c.pop.new.self.items c.in-Some.frame
+    c.in-Some.ensures.items c.loop-frame.invariant.1
 
 pub bounds-cells-frame : goal.bounds-cells-frame
-bounds-cells-frame c = (popped c.args.cells.now c.args.top c.loop-frame.invariant.0 c.requires.known c.requires.few c.loop-frame.gathered.loops.items c.loop-frame.gathered.far c.loop-frame.stack.items c.pop.new.self.items c.in-Some.frame c.in-Some.ensures.items c.loop-frame.invariant.1).known
+bounds-cells-frame c = (popped c.args.cells.now c.args.top c.loop-frame.invariant.0 c.requires.known c.requires.few
+    c.loop-frame.gathered.loops.items c.loop-frame.gathered.far c.loop-frame.stack.items c.pop.new.self.items c.in-Some.frame
+    c.in-Some.ensures.items c.loop-frame.invariant.1).known
 
 pub visit-requires-in-Some-clause-place : goal.visit-requires-in-Some-clause-place
-visit-requires-in-Some-clause-place c = moved_small c.args.cells.now c.args.top c.loop-frame.invariant.0 c.requires.known c.requires.few c.loop-frame.gathered.loops.items c.loop-frame.gathered.far c.loop-frame.stack.items c.pop.new.self.items c.in-Some.frame c.in-Some.ensures.items c.loop-frame.invariant.1 c.place_of-place.result c.place_of-place.ensures
+visit-requires-in-Some-clause-place c = moved_small c.args.cells.now c.args.top c.loop-frame.invariant.0 c.requires.known c.requires.few
+    c.loop-frame.gathered.loops.items c.loop-frame.gathered.far c.loop-frame.stack.items c.pop.new.self.items c.in-Some.frame
+    c.in-Some.ensures.items c.loop-frame.invariant.1 c.place_of-place.result c.place_of-place.ensures
 
 pub visit-requires-in-Some-clause-points : goal.visit-requires-in-Some-clause-points
 visit-requires-in-Some-clause-points c =
-    let p = popped c.args.cells.now c.args.top c.loop-frame.invariant.0 c.requires.known c.requires.few c.loop-frame.gathered.loops.items c.loop-frame.gathered.far c.loop-frame.stack.items c.pop.new.self.items c.in-Some.frame c.in-Some.ensures.items c.loop-frame.invariant.1 in
+    let p = popped c.args.cells.now c.args.top c.loop-frame.invariant.0 c.requires.known c.requires.few c.loop-frame.gathered.loops.items
+    c.loop-frame.gathered.far c.loop-frame.stack.items c.pop.new.self.items c.in-Some.frame c.in-Some.ensures.items
+    c.loop-frame.invariant.1 in
     rw (outlines_are c.args.cells.now c.in-Some.frame.copies.target c.index-cells-frame.result p.known c.index-cells-frame.is) (c.requires.known.near c.in-Some.frame.copies.target)
 
 pub loop-frame-smaller : goal.loop-frame-smaller
 loop-frame-smaller c =
-    let p = popped c.args.cells.now c.args.top c.loop-frame.invariant.0 c.requires.known c.requires.few c.loop-frame.gathered.loops.items c.loop-frame.gathered.far c.loop-frame.stack.items c.pop.new.self.items c.in-Some.frame c.in-Some.ensures.items c.loop-frame.invariant.1 in
+    let p = popped c.args.cells.now c.args.top c.loop-frame.invariant.0 c.requires.known c.requires.few c.loop-frame.gathered.loops.items
+    c.loop-frame.gathered.far c.loop-frame.stack.items c.pop.new.self.items c.in-Some.frame c.in-Some.ensures.items
+    c.loop-frame.invariant.1 in
     let d = p.deep in
-    less_left c.args.cells.now c.loop-frame.invariant.0.level (length c.args.cells.now) c.loop-frame.stack.items c.pop.new.self.items c.put_next.new.stack.items c.visit-in-Some.new.stack.items c.in-Some.frame c.in_ok-put_next.ensures.0 c.place_of-place.result c.loop-frame.invariant.0.falls c.in-Some.ensures.items p.frame (omega (arith, d)) c.in_ok-put_next.ensures.1 c.in_ok-put_next.ensures.2
+    less_left c.args.cells.now c.loop-frame.invariant.0.level (length c.args.cells.now) c.loop-frame.stack.items c.pop.new.self.items
+    c.put_next.new.stack.items c.visit-in-Some.new.stack.items c.in-Some.frame c.in_ok-put_next.ensures.0 c.place_of-place.result
+    c.loop-frame.invariant.0.falls c.in-Some.ensures.items p.frame
+    (omega (arith, d)) c.in_ok-put_next.ensures.1 c.in_ok-put_next.ensures.2
     (rw (copies_are c.args.cells.now c.in-Some.frame.copies.target c.index-cells-frame.result p.known c.index-cells-frame.is) at c.in_ok-visit-2.ensures.put)
 
 pub loop-frame-preserved : goal.loop-frame-preserved
 loop-frame-preserved c =
-    let p = popped c.args.cells.now c.args.top c.loop-frame.invariant.0 c.requires.known c.requires.few c.loop-frame.gathered.loops.items c.loop-frame.gathered.far c.loop-frame.stack.items c.pop.new.self.items c.in-Some.frame c.in-Some.ensures.items c.loop-frame.invariant.1 in (
+    let p = popped c.args.cells.now c.args.top c.loop-frame.invariant.0 c.requires.known c.requires.few c.loop-frame.gathered.loops.items
+    c.loop-frame.gathered.far c.loop-frame.stack.items c.pop.new.self.items c.in-Some.frame c.in-Some.ensures.items
+    c.loop-frame.invariant.1 in (
       c.loop-frame.invariant.0,
-      walking_more c.args.cells.now c.args.top c.loop-frame.invariant.0 c.requires.known c.requires.few c.loop-frame.gathered.loops.items c.loop-frame.gathered.far c.loop-frame.stack.items c.pop.new.self.items c.in-Some.frame c.in-Some.ensures.items c.loop-frame.invariant.1 c.in_ok-put_next.ensures.0 c.place_of-place.result _ _ c.put_next.new.stack.items _ c.in_ok-put_next.ensures.1 c.place_of-place.ensures c.in_ok-put_next.ensures.2
+      walking_more c.args.cells.now c.args.top c.loop-frame.invariant.0 c.requires.known c.requires.few c.loop-frame.gathered.loops.items
+          c.loop-frame.gathered.far c.loop-frame.stack.items c.pop.new.self.items c.in-Some.frame c.in-Some.ensures.items
+          c.loop-frame.invariant.1 c.in_ok-put_next.ensures.0 c.place_of-place.result _ _ c.put_next.new.stack.items _
+          c.in_ok-put_next.ensures.1 c.place_of-place.ensures c.in_ok-put_next.ensures.2
           (rw (outlines_are c.args.cells.now c.in-Some.frame.copies.target c.index-cells-frame.result p.known c.index-cells-frame.is) at c.in_ok-visit-2.ensures.gathered)
           (rw (copies_are c.args.cells.now c.in-Some.frame.copies.target c.index-cells-frame.result p.known c.index-cells-frame.is) at c.in_ok-visit-2.ensures.put),
     )
 
 pub returns : goal.returns
-returns c = walking_all c.args.cells.now c.args.top (length c.args.cells.now) c.loop-frame.invariant.0.level c.loop-frame.gathered.loops.items c.loop-frame.gathered.far c.loop-frame.stack.items (omega (arith, c.loop-frame.stack.ok.0, c.in_default.ensures.cases.0)) c.loop-frame.invariant.1
+returns c = walking_all c.args.cells.now c.args.top (length c.args.cells.now) c.loop-frame.invariant.0.level
+    c.loop-frame.gathered.loops.items c.loop-frame.gathered.far c.loop-frame.stack.items
+    (omega (arith, c.loop-frame.stack.ok.0, c.in_default.ensures.cases.0)) c.loop-frame.invariant.1

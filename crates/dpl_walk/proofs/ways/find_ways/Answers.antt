@@ -16,11 +16,16 @@ way_of-way-requires-clause-ways c = rw c.as_slice.ensures.value c.loop-structure
 
 pub loop-structure-preserved : goal.loop-structure-preserved
 loop-structure-preserved c =
-    let inside : get_or c.args.order.now c.loop-structure.structure-index 0 < length c.args.cells.now = c.requires.order c.loop-structure.structure-index 0 c.loop-structure-test.true in
+    let inside : get_or c.args.order.now c.loop-structure.structure-index 0 < length c.args.cells.now = c.requires.order
+    c.loop-structure.structure-index 0 c.loop-structure-test.true in
     record {
-      ways = ways_set c.args.cells.now c.loop-structure.ways.items _ (get_or c.args.order.now c.loop-structure.structure-index 0) c.way_of-way.result inside refl (rw c.as_slice.ensures.value at c.way_of-way.ensures.way) c.loop-structure.invariant.ways;
-      whole = whole_set c.args.cells.now c.args.order.now c.loop-structure.structure-index 0 c.loop-structure.ways.items _ c.way_of-way.result c.loop-structure-test.true (let e = c.loop-structure.invariant.ways.1.each in omega (arith, e, inside)) refl (rw c.as_slice.ensures.value at c.way_of-way.ensures.whole) c.loop-structure.invariant.whole;
-      own = own_set c.args.order.now c.loop-structure.structure-index 0 c.loop-structure.ways.items _ c.way_of-way.result c.loop-structure-test.true refl c.loop-structure.invariant.own;
+      ways = ways_set c.args.cells.now c.loop-structure.ways.items _ (get_or c.args.order.now c.loop-structure.structure-index 0)
+          c.way_of-way.result inside refl (rw c.as_slice.ensures.value at c.way_of-way.ensures.way) c.loop-structure.invariant.ways;
+      whole = whole_set c.args.cells.now c.args.order.now c.loop-structure.structure-index 0 c.loop-structure.ways.items _
+          c.way_of-way.result c.loop-structure-test.true (let e = c.loop-structure.invariant.ways.1.each in
+          omega (arith, e, inside)) refl (rw c.as_slice.ensures.value at c.way_of-way.ensures.whole) c.loop-structure.invariant.whole;
+      own = own_set c.args.order.now c.loop-structure.structure-index 0 c.loop-structure.ways.items _ c.way_of-way.result
+          c.loop-structure-test.true refl c.loop-structure.invariant.own;
     }
 
 pub returns-clause-ways : goal.returns-clause-ways

@@ -8,7 +8,8 @@ loop-structure-init c = record { each = ap length c.new-ways.ensures.items; own 
 pub loop-structure-preserved : goal.loop-structure-preserved
 loop-structure-preserved c = record {
   each = omega (arith, ap length c.in_ok-push.ensures.items, length-append c.loop-structure.ways.items (c.own_way.result ∷ []), c.loop-structure.invariant.each);
-  own = own_more c.loop-structure.ways.items c.push.new.self.items c.own_way.result c.loop-structure.structure c.in_ok-push.ensures.items c.loop-structure.invariant.each c.own_way.ensures.target c.own_way.ensures.stays c.own_way.ensures.still c.loop-structure.invariant.own;
+  own = own_more c.loop-structure.ways.items c.push.new.self.items c.own_way.result c.loop-structure.structure c.in_ok-push.ensures.items
+      c.loop-structure.invariant.each c.own_way.ensures.target c.own_way.ensures.stays c.own_way.ensures.still c.loop-structure.invariant.own;
 }
 
 pub returns-clause-own : goal.returns-clause-own

@@ -8,10 +8,12 @@ use Rattle.dpl_words.proofs.values.number_16.Goals as goal
 
 pub unreachable-requires : goal.unreachable-requires
 unreachable-requires c =
-    let is = got 16 (λ bs r. ParsesUnsigned 16 10 bs r × ExplainsUnsignedError 10 bs r × HasUnsignedDigitsIfOk bs r) (found_of c.args.matches.now) c.args.id.now c.get_one.result (λ t x g. g.0) c.get_one.ensures.none c.get_one.ensures.value in
+    let is = got 16 (λ bs r. ParsesUnsigned 16 10 bs r × ExplainsUnsignedError 10 bs r × HasUnsignedDigitsIfOk bs r)
+    (found_of c.args.matches.now) c.args.id.now c.get_one.result (λ t x g. g.0) c.get_one.ensures.none c.get_one.ensures.value in
     no_number c.get_one.result (number_at 16 c.args.id.now (rows_of (found_of c.args.matches.now))) is c.in_default.is c.requires
 
 pub returns : goal.returns
 returns c =
-    let is = got 16 (λ bs r. ParsesUnsigned 16 10 bs r × ExplainsUnsignedError 10 bs r × HasUnsignedDigitsIfOk bs r) (found_of c.args.matches.now) c.args.id.now c.get_one.result (λ t x g. g.0) c.get_one.ensures.none c.get_one.ensures.value in
+    let is = got 16 (λ bs r. ParsesUnsigned 16 10 bs r × ExplainsUnsignedError 10 bs r × HasUnsignedDigitsIfOk bs r)
+    (found_of c.args.matches.now) c.args.id.now c.get_one.result (λ t x g. g.0) c.get_one.ensures.none c.get_one.ensures.value in
     ap (λ (o : Option ℕ). unwrap_or o 0) (sym c.in-Some.is) ∙ ap (λ (o : Option ℕ). unwrap_or o 0) is

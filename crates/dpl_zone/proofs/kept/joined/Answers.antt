@@ -4,10 +4,12 @@ use Rattle.dpl_zone.proofs.Keeping.{items-within_list, apart-of_list, kept-none,
 use Rattle.dpl_zone.proofs.kept.joined.Goals as goal
 
 pub returns-then-is_empty : goal.returns-then-is_empty
-returns-then-is_empty c = joined-no_flat c.args.flat.items c.args.upright.items (let h = c.if-is_empty.ensures in let counted : vec_len c.args.flat ≡ length c.args.flat.items = search rules in grind arith)
+returns-then-is_empty c = joined-no_flat c.args.flat.items c.args.upright.items (let h = c.if-is_empty.ensures in
+    let counted : vec_len c.args.flat ≡ length c.args.flat.items = search rules in grind arith)
 
 pub returns-then-is_empty-2 : goal.returns-then-is_empty-2
-returns-then-is_empty-2 c = joined-no_upright c.args.flat.items c.args.upright.items (let h = c.if-is_empty-2.ensures in let counted : vec_len c.args.upright ≡ length c.args.upright.items = search rules in grind arith)
+returns-then-is_empty-2 c = joined-no_upright c.args.flat.items c.args.upright.items (let h = c.if-is_empty-2.ensures in
+    let counted : vec_len c.args.upright ≡ length c.args.upright.items = search rules in grind arith)
 
 pub loop-z-init : goal.loop-z-init
 loop-z-init c = kept-none c.args.flat.items c.deref-z-items.result.now c.args.flat.items refl
@@ -24,8 +26,10 @@ add_apart-requires-clause-zone c =
 pub loop-z-preserved : goal.loop-z-preserved
 loop-z-preserved c =
     kept-more c.args.flat.items c.deref-z-items.result.now c.loop-z.z-index _ _ _ (omega arith) (search rules) c.loop-z.invariant
-    (apart-of_list c.args.flat.items c.in_ok-flat_tree.flat_tree _ _ _ (rw c.deref.ensures.value at c.in_ok-flat_tree.ensures) (rw c.of-flat_view.ensures at c.in_ok-add_apart.ensures))
+    (apart-of_list c.args.flat.items c.in_ok-flat_tree.flat_tree _ _ _ (rw c.deref.ensures.value at c.in_ok-flat_tree.ensures)
+    (rw c.of-flat_view.ensures at c.in_ok-add_apart.ensures))
 
 pub returns : goal.returns
 returns c =
-    joined-all c.args.flat.items c.args.upright.items c.loop-z.kept.items c.loop-z.z-index (rw c.deref-z-items.ensures.value at c.loop-z-test.false) (rw c.deref-z-items.ensures.value at c.loop-z.invariant)
+    joined-all c.args.flat.items c.args.upright.items c.loop-z.kept.items c.loop-z.z-index
+    (rw c.deref-z-items.ensures.value at c.loop-z-test.false) (rw c.deref-z-items.ensures.value at c.loop-z.invariant)

@@ -11,10 +11,13 @@ pub flat_zones-requires-clause-items : goal.flat_zones-requires-clause-items
 flat_zones-requires-clause-items c = turned-items c.args.tree.now c.args.across.now c.requires.turned c.requires.items
 
 pub flat_zones-requires-clause-own : goal.flat_zones-requires-clause-own
-flat_zones-requires-clause-own c = own-turned c.args.part.now (own_in c.args.tree.now c.args.own) (own_in c.args.across.now c.args.own) (own-turned_in c.args.tree.now c.args.across.now c.args.own c.requires.turned) c.requires.own
+flat_zones-requires-clause-own c = own-turned c.args.part.now (own_in c.args.tree.now c.args.own) (own_in c.args.across.now c.args.own)
+    (own-turned_in c.args.tree.now c.args.across.now c.args.own c.requires.turned) c.requires.own
 
 pub flat_zones-requires-clause-apart : goal.flat_zones-requires-clause-apart
-flat_zones-requires-clause-apart c = apart-turned c.args.part.now (others_in c.args.tree.now c.args.own) (others_in c.args.across.now c.args.own) (others-turned_in c.args.tree.now c.args.across.now c.args.own c.requires.turned) c.requires.apart
+flat_zones-requires-clause-apart c = apart-turned c.args.part.now (others_in c.args.tree.now c.args.own)
+    (others_in c.args.across.now c.args.own) (others-turned_in c.args.tree.now c.args.across.now c.args.own c.requires.turned)
+    c.requires.apart
 
 pub upright_zones-requires-clause-own : goal.upright_zones-requires-clause-own
 upright_zones-requires-clause-own c = rw c.rects-2.ensures.value c.requires.own
@@ -25,6 +28,7 @@ upright_zones-requires-clause-apart c = rw c.rects-2.ensures.value c.requires.ap
 pub returns-clause-found : goal.returns-clause-found
 returns-clause-found c =
     record {
-      flat = flat-as c.args.rule c.args.overlap c.args.part.now _ (others_in c.args.tree.now c.args.own) c.in_ok-flat.flat.items (others-back c.args.tree.now c.args.across.now c.args.own c.requires.turned) c.in_ok-flat.ensures;
+      flat = flat-as c.args.rule c.args.overlap c.args.part.now _ (others_in c.args.tree.now c.args.own) c.in_ok-flat.flat.items
+          (others-back c.args.tree.now c.args.across.now c.args.own c.requires.turned) c.in_ok-flat.ensures;
       upright = rw c.rects-2.ensures.value at c.in_ok-upright.ensures;
     }

@@ -11,6 +11,7 @@ loop-tile-preserved c = λ s l. elim (cases_lt s c.loop-tile.tile) [
       let some = some-from c.index.result.now c.if-is_none.ensures in
       let within = c.loop-tile-test.true in
       let at = read-at c.self.inside.posters.items c.loop-tile.tile c.index.result.now (rw c.self.invariant.workers.len within) c.index.ensures in
-      rw (← here, ← c.self.view_is) (posted-at c.self.inside.tiles c.self.inside.posters.items c.self.inside.history.items c.self.invariant c.loop-tile.tile some.0 within (at ∙ some.1))
+      rw (← here, ← c.self.view_is) (posted-at c.self.inside.tiles c.self.inside.posters.items c.self.inside.history.items c.self.invariant
+      c.loop-tile.tile some.0 within (at ∙ some.1))
       )
 ]

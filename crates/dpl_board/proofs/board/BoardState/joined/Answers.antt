@@ -5,4 +5,5 @@ use Rattle.dpl_board.proofs.board.BoardState.joined.Goals as goal
 pub returns : goal.returns
 returns c =
     let sums = rw c.deref.ensures.value at c.in_ok-whole.ensures in
-    rw (← c.self.view_is) (λ sheet stands. sums (edges_of sheet c.self.inside.history.items) (summed-edges sheet c.self.inside.history.items c.self.inside.sums.items stands.edges stands.sums))
+    rw (← c.self.view_is) (λ sheet stands. sums (edges_of sheet c.self.inside.history.items)
+    (summed-edges sheet c.self.inside.history.items c.self.inside.sums.items stands.edges stands.sums))

@@ -9,7 +9,8 @@ join_rows-requires c = record { rows = hands_rows c.args.self c.args.hands.items
 
 pub learn_all-requires : goal.learn_all-requires
 learn_all-requires c = record {
-  views = subst (All (λ (v : View). (v.parts ≡ 1024) × (v.ended ≡ true))) (sym c.join_rows.ensures.views) (ready c.args.self c.args.hands.items c.requires.all c.requires.done.0 c.requires.done.1 c.requires.done.2);
+  views = subst (All (λ (v : View). (v.parts ≡ 1024) × (v.ended ≡ true))) (sym c.join_rows.ensures.views)
+      (ready c.args.self c.args.hands.items c.requires.all c.requires.done.0 c.requires.done.1 c.requires.done.2);
 }
 
 pub returns : goal.returns

@@ -12,7 +12,9 @@ returns-clause-tried g c =
     record {
       deques = map_put grip_deque gs c.args.at c.index_mut.result.now c.take.new.self lt is c.take.ensures.deque;
       within = λ tiles h. all_put (λ (y : Grip). (grip_view y).limit ≤ tiles) gs c.args.at c.index_mut.result.now c.take.new.self lt is h (λ old. rw c.take.ensures.limit old);
-      below = if_some c.take.result (λ u p tiles h. let old = all_here (λ (y : Grip). (grip_view y).limit ≤ tiles) gs c.args.at c.index_mut.result.now lt is h in let q = p.1 in omega arith) c.take.ensures.some;
+      below = if_some c.take.result
+          (λ u p tiles h. let old = all_here (λ (y : Grip). (grip_view y).limit ≤ tiles) gs c.args.at c.index_mut.result.now lt is h in
+          let q = p.1 in omega arith) c.take.ensures.some;
       some = took_more gs c.args.at c.index_mut.result.now c.take.new.self c.take.result lt is (if_some c.take.result (λ u p. p.0) c.take.ensures.some);
       none = if_none c.take.result (λ p. took_same gs c.args.at c.index_mut.result.now c.take.new.self lt is p.0) c.take.ensures.none;
       ended = ended_put gs c.args.at c.index_mut.result.now c.take.new.self lt is c.take.ensures.ended;

@@ -30,11 +30,13 @@ loop-next-preserved c =
     let k : ℕ = c.loop-next.next - 1 in
     let to : (arc_at c.args.edges.now k).1 ≡ c.arc-to.result.1 = ap (λ (a : ℕ × ℕ). a.1) (sym c.arc-to.ensures) in
     let as_many = c.requires.links.as_many_arcs in
-    visit-step c.args.edges.now c.args.n c.args.root c.args.head c.index-v.result.now c.index-level.result.now c.loop-next.next c.arc-to.result.1 _ c.args.links.now.last.items c.args.links.now.before.items
+    visit-step c.args.edges.now c.args.n c.args.root c.args.head c.index-v.result.now c.index-level.result.now c.loop-next.next
+    c.arc-to.result.1 _ c.args.links.now.last.items c.args.links.now.before.items
     c.loop-next.self c.meet.new.self c.requires.below c.requires.links c.requires.root_in c.loop-next.invariant k (omega (arith, some)) to c.in_ok-meet.ensures
     (get_or_read c.args.links.now.before.items k _ (omega (arith, within, some, as_many)) c.index-next-in-loop-next.ensures 0)
 
 pub returns : goal.returns
 returns c =
     let no_more = c.loop-next-test.false in
-    visit-end c.args.edges.now c.args.n c.args.root c.args.head c.index-v.result.now c.index-level.result.now c.loop-next.next c.loop-next.self (omega (arith, no_more)) c.loop-next.invariant
+    visit-end c.args.edges.now c.args.n c.args.root c.args.head c.index-v.result.now c.index-level.result.now c.loop-next.next
+    c.loop-next.self (omega (arith, no_more)) c.loop-next.invariant

@@ -7,7 +7,9 @@ use Rattle.dpl_links.proofs.order.Search.go_down.Goals as goal
 pub returns-in_default-clause-search : goal.returns-in_default-clause-search
 returns-in_default-clause-search c =
     rw (c.in_ok-close.ensures.found, c.in_ok-close.ensures.path)
-    (one_shut c.args.graph.now c.args.from _ _ _ _ _ c.args.visit c.requires.search _ _ _ (none_past (targets_at c.args.graph.now c.args.visit.vertex) c.args.visit.gone 0 c.in_default.ensures.target) c.in_ok-close.ensures.closed c.in_ok-close.ensures.levels c.in_ok-close.ensures.vertices)
+    (one_shut c.args.graph.now c.args.from _ _ _ _ _ c.args.visit c.requires.search _ _ _
+    (none_past (targets_at c.args.graph.now c.args.visit.vertex) c.args.visit.gone 0 c.in_default.ensures.target)
+    c.in_ok-close.ensures.closed c.in_ok-close.ensures.levels c.in_ok-close.ensures.vertices)
 
 pub returns-in_default-clause-falls : goal.returns-in_default-clause-falls
 returns-in_default-clause-falls c =
@@ -38,7 +40,8 @@ pub returns-then-index-clause-falls : goal.returns-then-index-clause-falls
 returns-then-index-clause-falls c =
     let s = some_inside (targets_at c.args.graph.now c.args.visit.vertex) c.args.visit.gone 0 c.in-Some.to c.in-Some.ensures.target in
     rw (c.in_ok-go_on.ensures.found, c.in_ok-go_on.ensures.path)
-    (left_more c.args.graph.now c.args.self.now.found.items c.args.self.now.path.items c.args.visit (record { vertex = c.args.visit.vertex; gone = c.args.visit.gone + 1 }) refl refl s.0)
+    (left_more c.args.graph.now c.args.self.now.found.items c.args.self.now.path.items c.args.visit
+    (record { vertex = c.args.visit.vertex; gone = c.args.visit.gone + 1 }) refl refl s.0)
 
 pub index-requires-2 : goal.index-requires-2
 index-requires-2 c =
@@ -72,8 +75,19 @@ returns-clause-search c =
     let l = c.requires.graph c.args.visit.vertex c.in-Some.to e in
     let h : c.in-Some.to < length c.args.self.now.closed.items = omega (arith, l, c.requires.search.closed_each) in
     let k : c.in-Some.to < length c.args.self.now.found.items = omega (arith, l, c.requires.search.found_each) in
-    rw (c.in_ok-find.ensures.path, c.in_ok-go_on-2.ensures.path, c.in_ok-find.ensures.closed, c.in_ok-go_on-2.ensures.closed, c.in_ok-find.ensures.levels, c.in_ok-go_on-2.ensures.levels, c.in_ok-find.ensures.vertices, c.in_ok-go_on-2.ensures.vertices)
-    (one_found c.args.graph.now c.args.from _ _ _ _ _ c.args.visit c.requires.search (record { vertex = c.args.visit.vertex; gone = c.args.visit.gone + 1 }) (record { vertex = c.in-Some.to; gone = 0 }) _ refl refl s.1 refl e l
+    rw (
+      c.in_ok-find.ensures.path,
+      c.in_ok-go_on-2.ensures.path,
+      c.in_ok-find.ensures.closed,
+      c.in_ok-go_on-2.ensures.closed,
+      c.in_ok-find.ensures.levels,
+      c.in_ok-go_on-2.ensures.levels,
+      c.in_ok-find.ensures.vertices,
+      c.in_ok-go_on-2.ensures.vertices,
+    )
+    (one_found c.args.graph.now c.args.from _ _ _ _ _ c.args.visit c.requires.search
+    (record { vertex = c.args.visit.vertex; gone = c.args.visit.gone + 1 }) (record { vertex = c.in-Some.to; gone = 0 }) _ refl refl s.1
+    refl e l
     (unmarked_read c.args.self.now.found.items c.in-Some.to (mark_read c.args.self.now.found.items c.in-Some.to c.index-2.result.now _ k c.index-2.ensures c.if-index-2.false))
     (unmarked_read c.args.self.now.closed.items c.in-Some.to (mark_read c.args.self.now.closed.items c.in-Some.to c.index.result.now _ h c.index.ensures c.if-index.false))
     (rw c.in_ok-go_on-2.ensures.found at c.in_ok-find.ensures.found))
@@ -84,6 +98,9 @@ returns-clause-falls c =
     let s = some_inside (targets_at c.args.graph.now c.args.visit.vertex) c.args.visit.gone 0 c.in-Some.to c.in-Some.ensures.target in
     let l = c.requires.graph c.args.visit.vertex c.in-Some.to e in
     let k : c.in-Some.to < length c.args.self.now.found.items = omega (arith, l, c.requires.search.found_each) in
-    let o = one_less c.args.self.now.found.items c.in-Some.to k (mark_read c.args.self.now.found.items c.in-Some.to c.index-2.result.now _ k c.index-2.ensures c.if-index-2.false) in
+    let o = one_less c.args.self.now.found.items c.in-Some.to k
+    (mark_read c.args.self.now.found.items c.in-Some.to c.index-2.result.now _ k c.index-2.ensures c.if-index-2.false) in
     rw (c.in_ok-find.ensures.found, c.in_ok-find.ensures.path, c.in_ok-go_on-2.ensures.path, c.in_ok-go_on-2.ensures.found)
-    (left_found c.args.graph.now c.args.self.now.found.items (set c.args.self.now.found.items c.in-Some.to true) c.args.self.now.path.items c.args.visit (record { vertex = c.args.visit.vertex; gone = c.args.visit.gone + 1 }) (record { vertex = c.in-Some.to; gone = 0 }) refl refl refl s.0 l o)
+    (left_found c.args.graph.now c.args.self.now.found.items (set c.args.self.now.found.items c.in-Some.to true) c.args.self.now.path.items
+    c.args.visit (record { vertex = c.args.visit.vertex; gone = c.args.visit.gone + 1 })
+    (record { vertex = c.in-Some.to; gone = 0 }) refl refl refl s.0 l o)

@@ -7,4 +7,5 @@ use Rattle.dpl_slabs.proofs.slabs.Slabs.minus.Goals as goal
 pub returns : goal.returns
 returns c =
     let s = rw (c.rects.ensures.value, c.rects-2.ensures.value) at c.in_ok-rects.ensures.slabs in
-    rw c.of_canonical.ensures (slabs-of-same (Chosen Minus c.args.self.now c.args.other.now) (λ p. Covers c.args.self.now p × ¬ Covers c.args.other.now p) _ (told-minus c.args.self.now c.args.other.now) s)
+    rw c.of_canonical.ensures (slabs-of-same (Chosen Minus c.args.self.now c.args.other.now) (λ p. Covers c.args.self.now p
+    × ¬ Covers c.args.other.now p) _ (told-minus c.args.self.now c.args.other.now) s)

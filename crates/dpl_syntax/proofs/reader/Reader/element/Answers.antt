@@ -16,7 +16,8 @@ returns-in_err-body-clause-err c =
     let p = err_from_is_err_and c.from_residual.result c.from_residual.ensures.1 in
     let b = c.args.self.now.bytes.now in
     let h = seen c.args.first in
-    rw (p.1, p.2) (refuses (λ f. reading.body_at b h.kind h.next ≡ Err f) (Fails b element_then c.args.self.now.at) c.in_err-body.field-0.0 (no_body b c.args.self.now.at h c.requires.next c.requires.begins) c.in_err-body.ensures.exact)
+    rw (p.1, p.2) (refuses (λ f. reading.body_at b h.kind h.next ≡ Err f) (Fails b element_then c.args.self.now.at) c.in_err-body.field-0.0
+    (no_body b c.args.self.now.at h c.requires.next c.requires.begins) c.in_err-body.ensures.exact)
 
 pub returns-in_err-take_end-clause-err : goal.returns-in_err-take_end-clause-err
 returns-in_err-take_end-clause-err c =
@@ -24,7 +25,12 @@ returns-in_err-take_end-clause-err c =
     let b = c.args.self.now.bytes.now in
     let h = seen c.args.first in
     let e = rw (c.in_ok-body.ensures.bytes) at c.in_err-take_end.ensures.err in
-    rw (p.1, p.2) (refuses (Fails b properties_end c.body.new.self.at) (Fails b element_then c.args.self.now.at) c.in_err-take_end.field-0.0 (λ f x. no_end b c.args.self.now.at h c.requires.next c.requires.begins (body_seen c.in_ok-body.body, c.body.new.self.at) f c.in_ok-body.ensures.exact x) e)
+    rw (p.1, p.2) (refuses (Fails b properties_end c.body.new.self.at)
+    (Fails b element_then c.args.self.now.at) c.in_err-take_end.field-0.0
+    (λ f x. no_end b c.args.self.now.at h c.requires.next c.requires.begins (
+      body_seen c.in_ok-body.body,
+      c.body.new.self.at,
+    ) f c.in_ok-body.ensures.exact x) e)
 
 pub returns-clause-ok : goal.returns-clause-ok
 returns-clause-ok c =

@@ -16,7 +16,8 @@ returns-in_err-record-clause-err c =
     let b = c.args.self.now.bytes.now in
     let at = c.loop-record.self.at in
     let e = rw c.loop-record.invariant.bytes at c.in_err-record.ensures.err in
-    rw (p.1, p.2) (refuses (λ f. record_at b at ≡ Err f) (FailsSkips b skips_then c.args.self.now.at) c.in_err-record.field-0.0 (λ f x. skips_fail b c.args.self.now.at at f c.loop-record.invariant.passes x) e)
+    rw (p.1, p.2) (refuses (λ f. record_at b at ≡ Err f) (FailsSkips b skips_then c.args.self.now.at) c.in_err-record.field-0.0
+    (λ f x. skips_fail b c.args.self.now.at at f c.loop-record.invariant.passes x) e)
 
 pub loop-record-preserved : goal.loop-record-preserved
 loop-record-preserved c =

@@ -18,7 +18,9 @@ returns-in_err-take_if-clause-err c =
     let p = err_from_is_err_and c.from_residual.result c.from_residual.ensures.1 in
     let b = c.args.self.now.bytes.now in
     let e = rw c.loop.invariant.bytes at c.in_err-take_if.ensures.exact in
-    rw (p.1, p.2) (refuses (λ f. reading.take_if b kinds.structure_class c.loop.self.at ≡ Err f) (Fails b class_first c.args.self.now.at) c.in_err-take_if.field-0.0 (λ f h. class_fails b c.args.self.now.at c.loop.self.at f c.loop.invariant.passes h) e)
+    rw (p.1, p.2) (refuses (λ f. reading.take_if b kinds.structure_class c.loop.self.at ≡ Err f)
+    (Fails b class_first c.args.self.now.at) c.in_err-take_if.field-0.0
+    (λ f h. class_fails b c.args.self.now.at c.loop.self.at f c.loop.invariant.passes h) e)
 
 pub loop-preserved : goal.loop-preserved
 loop-preserved c =

@@ -20,7 +20,9 @@ returns-in_err-strname-clause-err c =
     let b = c.args.self.now.bytes.now in
     let known = known_names c.args.known.now.entries in
     let h = seen c.args.bgnstr in
-    rw (p.1, p.2) (refuses (λ f. reading.take_strname b known h.next ≡ Err f) (FailsNamed b known structure_then c.args.self.now.at) c.in_err-strname.field-0.0 (name_err b c.args.self.now.at h known c.requires.next.found c.requires.next.is) c.in_err-strname.ensures.exact)
+    rw (p.1, p.2) (refuses (λ f. reading.take_strname b known h.next ≡ Err f) (FailsNamed b known structure_then c.args.self.now.at)
+    c.in_err-strname.field-0.0 (name_err b c.args.self.now.at h known c.requires.next.found c.requires.next.is)
+    c.in_err-strname.ensures.exact)
 
 pub returns-in_err-skip_class-clause-err : goal.returns-in_err-skip_class-clause-err
 returns-in_err-skip_class-clause-err c =
@@ -30,7 +32,8 @@ returns-in_err-skip_class-clause-err c =
     let h = seen c.args.bgnstr in
     let y : Record × ℕ = (seen c.in_ok-strname.strname, c.take_strname.new.self.at) in
     let e = rw c.in_ok-strname.ensures.bytes at c.in_err-skip_class.ensures.err in
-    rw (p.1, p.2) (refuses (Fails b class_first y.1) (FailsNamed b known structure_then c.args.self.now.at) c.in_err-skip_class.field-0.0 (fails_behind b c.args.self.now.at h known c.requires.next.found c.requires.next.is y c.in_ok-strname.ensures.exact) e)
+    rw (p.1, p.2) (refuses (Fails b class_first y.1) (FailsNamed b known structure_then c.args.self.now.at) c.in_err-skip_class.field-0.0
+    (fails_behind b c.args.self.now.at h known c.requires.next.found c.requires.next.is y c.in_ok-strname.ensures.exact) e)
 
 pub returns-in_err-elements-clause-err : goal.returns-in_err-elements-clause-err
 returns-in_err-elements-clause-err c =
@@ -41,7 +44,10 @@ returns-in_err-elements-clause-err c =
     let y : Record × ℕ = (seen c.in_ok-strname.strname, c.take_strname.new.self.at) in
     let classes = rw c.in_ok-strname.ensures.bytes at c.in_ok-skip_class.ensures.ok in
     let e = rw (c.in_ok-skip_class.ensures.bytes, c.in_ok-strname.ensures.bytes) at c.in_err-elements.ensures.err in
-    rw (p.1, p.2) (refuses (Fails b elements_first c.skip_class.new.self.at) (FailsNamed b known structure_then c.args.self.now.at) c.in_err-elements.field-0.0 (λ f x. fails_elements b c.args.self.now.at h known c.requires.next.found c.requires.next.is y c.in_ok-strname.ensures.exact c.skip_class.new.self.at f classes x) e)
+    rw (p.1, p.2) (refuses (Fails b elements_first c.skip_class.new.self.at) (FailsNamed b known structure_then c.args.self.now.at)
+    c.in_err-elements.field-0.0
+    (λ f x. fails_elements b c.args.self.now.at h known c.requires.next.found c.requires.next.is y c.in_ok-strname.ensures.exact
+    c.skip_class.new.self.at f classes x) e)
 
 pub returns-in_err-take-clause-err : goal.returns-in_err-take-clause-err
 returns-in_err-take-clause-err c =
@@ -54,7 +60,10 @@ returns-in_err-take-clause-err c =
     let elements = rw (c.in_ok-skip_class.ensures.bytes, c.in_ok-strname.ensures.bytes) at c.in_ok-elements.ensures.ok in
     let e = rw (c.in_ok-elements.ensures.bytes, c.in_ok-skip_class.ensures.bytes, c.in_ok-strname.ensures.bytes) at c.in_err-take.ensures.exact in
     let es = map element_seen c.in_ok-elements.elements.items in
-    rw (p.1, p.2) (refuses (λ f. reading.take b kinds.endstr c.elements.new.self.at ≡ Err f) (FailsNamed b known structure_then c.args.self.now.at) c.in_err-take.field-0.0 (λ f x. fails_end b c.args.self.now.at h known c.requires.next.found c.requires.next.is y c.in_ok-strname.ensures.exact c.skip_class.new.self.at c.elements.new.self.at es f classes elements x) e)
+    rw (p.1, p.2) (refuses (λ f. reading.take b kinds.endstr c.elements.new.self.at ≡ Err f)
+    (FailsNamed b known structure_then c.args.self.now.at) c.in_err-take.field-0.0
+    (λ f x. fails_end b c.args.self.now.at h known c.requires.next.found c.requires.next.is y c.in_ok-strname.ensures.exact
+    c.skip_class.new.self.at c.elements.new.self.at es f classes elements x) e)
 
 pub returns-clause-ok : goal.returns-clause-ok
 returns-clause-ok c =
@@ -70,4 +79,6 @@ returns-clause-ok c =
     let one : c.whole.result.now ≡ tree.whole b h = rw all at c.whole.ensures in
     let two : c.whole-2.result.now ≡ tree.whole b y.0 = rw all at c.whole-2.ensures in
     let three : c.name_of.result.now ≡ name_of y.0.body = c.name_of.ensures in
-    rw (one, two, three) (structure_ok b c.args.self.now.at h known c.requires.next.found c.requires.next.is y c.in_ok-strname.ensures.exact c.skip_class.new.self.at c.elements.new.self.at es (seen c.in_ok-take.field-0, c.take.new.self.at) classes elements e)
+    rw (one, two, three)
+    (structure_ok b c.args.self.now.at h known c.requires.next.found c.requires.next.is y c.in_ok-strname.ensures.exact
+    c.skip_class.new.self.at c.elements.new.self.at es (seen c.in_ok-take.field-0, c.take.new.self.at) classes elements e)

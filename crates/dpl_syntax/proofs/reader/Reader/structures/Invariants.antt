@@ -9,7 +9,8 @@ invariant-loop-structures l = record {
   bytes : l.self.bytes ≡ l.initial.self.bytes;
   sized : IsSizedEach l.structures.entries;
   few : 4 * index_map_len l.structures ≤ l.self.at;
-  passes : PassesNamed l.initial.self.bytes.now [] structures_first structures_first (AreStructures l.initial.self.bytes.now (structures_seen l.structures.entries)) l.initial.self.at l.self.at;
+  passes : PassesNamed l.initial.self.bytes.now [] structures_first structures_first
+      (AreStructures l.initial.self.bytes.now (structures_seen l.structures.entries)) l.initial.self.at l.self.at;
 }
 
 abbrev pub decreases-loop-structures : goal.decreases-loop-structures

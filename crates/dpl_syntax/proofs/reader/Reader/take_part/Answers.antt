@@ -14,7 +14,9 @@ pub returns-in_err-record-clause-err : goal.returns-in_err-record-clause-err
 returns-in_err-record-clause-err c =
     let p = err_from_is_err_and c.from_residual.result c.from_residual.ensures.1 in
     let b = c.args.self.now.bytes.now in
-    rw (p.1, p.2) (refuses (λ f. reading.take b c.args.kind c.args.self.now.at ≡ Err f) (FailsSkips b (part_then c.args.kind) c.args.self.now.at) c.in_err-record.field-0.0 (no_part b c.args.kind c.args.self.now.at c.requires) c.in_err-record.ensures.exact)
+    rw (p.1, p.2) (refuses (λ f. reading.take b c.args.kind c.args.self.now.at ≡ Err f)
+    (FailsSkips b (part_then c.args.kind) c.args.self.now.at) c.in_err-record.field-0.0
+    (no_part b c.args.kind c.args.self.now.at c.requires) c.in_err-record.ensures.exact)
 
 pub returns-in_err-skip-clause-err : goal.returns-in_err-skip-clause-err
 returns-in_err-skip-clause-err c =
@@ -22,7 +24,8 @@ returns-in_err-skip-clause-err c =
     let b = c.args.self.now.bytes.now in
     let y : Record × ℕ = (seen c.in_ok-record.record, c.take.new.self.at) in
     let e = rw c.in_ok-record.ensures.bytes at c.in_err-skip.ensures.err in
-    rw (p.1, p.2) (refuses (FailsSkips b skips_then y.1) (FailsSkips b (part_then c.args.kind) c.args.self.now.at) c.in_err-skip.field-0.0 (part_fails b c.args.kind c.args.self.now.at c.requires y c.in_ok-record.ensures.exact) e)
+    rw (p.1, p.2) (refuses (FailsSkips b skips_then y.1) (FailsSkips b (part_then c.args.kind) c.args.self.now.at) c.in_err-skip.field-0.0
+    (part_fails b c.args.kind c.args.self.now.at c.requires y c.in_ok-record.ensures.exact) e)
 
 pub returns-clause-ok : goal.returns-clause-ok
 returns-clause-ok c =

@@ -8,10 +8,12 @@ pub returns-then-self-clause-passed : goal.returns-then-self-clause-passed
 returns-then-self-clause-passed c =
     let items : List Item = c.self.inside.tree.now in
     let is : map turned_item items ≡ c.args.self.now = sym (seen-true c.self.inside.is_turned items c.if-self.true) ∙ c.self.view_is in
-    subst (λ ns. IsPassed ns c.args.window.now c.args.owners c.args.from c.seek.result) is (passed-turned items c.args.window.now c.args.owners c.args.from c.seek.result (rw c.turned_window.ensures at c.seek.ensures.passed))
+    subst (λ ns. IsPassed ns c.args.window.now c.args.owners c.args.from c.seek.result) is
+    (passed-turned items c.args.window.now c.args.owners c.args.from c.seek.result (rw c.turned_window.ensures at c.seek.ensures.passed))
 
 pub returns-then-self-clause-found : goal.returns-then-self-clause-found
 returns-then-self-clause-found c =
     let items : List Item = c.self.inside.tree.now in
     let is : map turned_item items ≡ c.args.self.now = sym (seen-true c.self.inside.is_turned items c.if-self.true) ∙ c.self.view_is in
-    subst (λ ns. IsFound ns c.args.window.now c.args.owners c.seek.result) is (found-turned items c.args.window.now c.args.owners c.seek.result (rw c.turned_window.ensures at c.seek.ensures.found))
+    subst (λ ns. IsFound ns c.args.window.now c.args.owners c.seek.result) is
+    (found-turned items c.args.window.now c.args.owners c.seek.result (rw c.turned_window.ensures at c.seek.ensures.found))
