@@ -7,7 +7,7 @@ ghost use Rattle.dpl_board.specs.Cores.{Goes, HasPosts, IsCore};
 use crate::board::BoardState;
 use crate::fault::PostFault;
 use crate::job::Job;
-use dpl_base::Listed;
+use dpl_list::Listed;
 use std::alloc::{AllocError, Global};
 
 /// What a worker does with a tile.

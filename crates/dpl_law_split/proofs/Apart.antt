@@ -17,9 +17,9 @@ use Rattle.dpl_spec_split.specs.Colours.{differ, is_flipped, AreRoots, AreColour
 use Rattle.dpl_spec_split.specs.Decomposition.{Cut, IsCut, conflicts, Masks, AreMasks}
 use Rattle.dpl_spec_split.proofs.SquareLaws.{d2-sym, AreNear-sym}
 use Rattle.dpl_spec_split.proofs.GraphLaws.{root-unique}
-use Rattle.dpl_graph.specs.Laws.{HasLevelEdge}
-use Rattle.dpl_graph.proofs.Walks.{IsUndirected, root-along, distance-step}
-use Rattle.dpl_graph.proofs.Forks.{level-cycle}
+use Rattle.dpl_stars.specs.Laws.{HasLevelEdge}
+use Rattle.dpl_stars.proofs.Walks.{IsUndirected, root-along, distance-step}
+use Rattle.dpl_stars.proofs.Forks.{level-cycle}
 use Rattle.dpl_law_split.proofs.Parts.{part-within, part-inside, part-same, kept, zone-own, owner-is}
 
 -- the squares of a zone are clear

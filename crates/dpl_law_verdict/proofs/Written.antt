@@ -16,7 +16,7 @@ use Rattle.dpl_spec_split.specs.Pieces.{AreSides, without}
 use Rattle.dpl_spec_split.specs.Graphs.{IsOddCycle}
 use Rattle.dpl_spec_split.specs.Cycle.{IsReported}
 use Rattle.dpl_spec_split.specs.Decomposition.{Cut, IsCut, Masks, AreMasks, conflicts}
-use Rattle.dpl_graph.proofs.Forks.{reported-odd}
+use Rattle.dpl_stars.proofs.Forks.{reported-odd}
 use Rattle.dpl_law_split.proofs.Parts.{part-inside, zip-at, kept, zone-own, piece-rest}
 use Rattle.dpl_law_split.proofs.Cover.{as_many_sides, cover}
 use Rattle.dpl_slabs.proofs.LoopLaws.{Inside}

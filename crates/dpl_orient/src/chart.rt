@@ -4,7 +4,7 @@ ghost use Rattle.dpl_stars.specs.Stars.{IsStarList};
 ghost use Rattle.dpl_orient.specs.Rooted.{ArePiecesBelow, AreRootsBelow};
 ghost use Rattle.dpl_orient.specs.Chart.{own_root, rooted_by, rooted_at, IsChart, AreLow};
 
-use dpl_base::Id;
+use dpl_list::Id;
 use dpl_stars::Star;
 use std::alloc::{AllocError, Global};
 

@@ -10,7 +10,7 @@ use crate::chart::{Rooted, chart};
 use crate::crossing::{crossings, differs};
 use crate::mask::{Colours, Mask};
 use crate::turning::flips;
-use dpl_base::Id;
+use dpl_list::Id;
 use dpl_stars::{Joined, Star};
 use std::alloc::{AllocError, Global};
 

@@ -6,7 +6,7 @@ ghost use Rattle.dpl_orient.specs.Chart.{rooted_at};
 ghost use Rattle.dpl_orient.specs.Crossings.{crossing_between, crossing_at, is_across, crossings_at, HaveLater, crossings_of, AreGrouped, GoUp};
 
 use crate::chart::{Rooted, is_odd_at, root_at, short};
-use dpl_base::Id;
+use dpl_list::Id;
 use std::alloc::{AllocError, Global};
 
 /// A stitch zone with its sides in two components, each named by its least piece.

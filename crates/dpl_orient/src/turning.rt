@@ -4,7 +4,7 @@ ghost use Rattle.dpl_orient.specs.Crossings.{crossings_at, AreGrouped, GoUp, IsS
 
 use crate::chart::Rooted;
 use crate::crossing::{Across, crossing_at, differs};
-use dpl_base::Id;
+use dpl_list::Id;
 use std::alloc::{AllocError, Global};
 
 /// What is settled for a component.

@@ -15,7 +15,7 @@ use Rattle.dpl_spec_split.specs.Cycle.{IsReported}
 use Rattle.dpl_spec_split.specs.Colours.{AreStitches, on_mask}
 use Rattle.dpl_spec_split.specs.Decomposition.{Cut, conflicts}
 use Rattle.dpl_spec_split.proofs.SquareLaws.{AreNear-sym}
-use Rattle.dpl_graph.specs.Levels.{AreEdgesBelow}
+use Rattle.dpl_stars.specs.Levels.{AreEdgesBelow}
 use Rattle.dpl_stars.specs.declared.list.Star.{Star}
 use Rattle.dpl_stars.specs.declared.joined.Joined.{Joined}
 use Rattle.dpl_stars.specs.declared.joined.Joined.TheVariants.{Stars, Odd}

@@ -6,7 +6,7 @@ use Rattle.dpl_spec_split.specs.Graphs.{AreEdges, graph_of}
 use Rattle.dpl_spec_split.specs.Pieces.{Conflict}
 use Rattle.dpl_spec_split.specs.Summary.{HasOddCycle}
 use Rattle.dpl_spec_split.specs.Decomposition.{Cut, conflicts}
-use Rattle.dpl_graph.specs.Levels.{AreEdgesBelow}
+use Rattle.dpl_stars.specs.Levels.{AreEdgesBelow}
 use Rattle.dpl_stars.specs.declared.list.Star.{Star}
 use Rattle.dpl_stars.specs.declared.joined.Joined.{Joined}
 use Rattle.dpl_stars.specs.declared.joined.Joined.TheVariants.{Stars, Odd}

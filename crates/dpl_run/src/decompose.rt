@@ -5,7 +5,7 @@ ghost use Rattle.dpl_spec_split.specs.declared.Pt.{Pt};
 ghost use Rattle.dpl_spec_split.specs.Graphs.{AreEdges, graph_of};
 ghost use Rattle.dpl_spec_split.specs.Summary.{HasOddCycle};
 ghost use Rattle.dpl_spec_split.specs.Pieces.{Conflict};
-ghost use Rattle.dpl_graph.specs.Levels.{AreEdgesBelow};
+ghost use Rattle.dpl_stars.specs.Levels.{AreEdgesBelow};
 ghost use Rattle.dpl_job.specs.Conflicts.{SumsGraph};
 ghost use Rattle.dpl_orient.specs.Oriented.{IsEvenBelow};
 ghost use Rattle.dpl_piece.specs.Cutting.{Completes, CutPieces};

@@ -5,7 +5,7 @@ ghost use Rattle.dpl_stars.specs.Links.{Joins, HasMates, AreLinks};
 
 use crate::list::Star;
 use crate::places::Places;
-use dpl_base::{Edge, Id};
+use dpl_list::{Edge, Id};
 use std::alloc::{AllocError, Global};
 
 /// The pieces of rows.

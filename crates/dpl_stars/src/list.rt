@@ -3,7 +3,7 @@ ghost use Rattle.std.specs.Prelude.{◌≡◌, ◌≢◌, [], MatchOption, IfOk}
 ghost use Rattle.std.specs.List.{All, Contains};
 ghost use Rattle.dpl_stars.specs.Stars.{IsStarList};
 
-use dpl_base::Id;
+use dpl_list::Id;
 use std::alloc::{AllocError, Global};
 use std::marker::Model;
 

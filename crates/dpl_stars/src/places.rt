@@ -5,7 +5,7 @@ ghost use Rattle.dpl_stars.specs.Places.{AreTouched, ArePlaced};
 ghost use Rattle.dpl_stars.specs.Sums.{AreEdgePairs};
 
 use crate::table::{Table, table_of};
-use dpl_base::{Edge, Id};
+use dpl_list::{Edge, Id};
 use std::alloc::{AllocError, Global};
 use std::marker::Model;
 

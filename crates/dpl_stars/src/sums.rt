@@ -6,13 +6,13 @@ ghost use Rattle.dpl_stars.specs.Sums.{AreEdgePairs, Sums, SumsAll, SumsBoth, Is
 ghost use Rattle.dpl_stars.specs.declared.joined.Joined.TheVariants.{Odd};
 
 use crate::joined::Joined;
+use crate::levels::levels_of;
 use crate::links::links;
 use crate::list::StarList;
 use crate::places::{Places, placed};
 use crate::rows::{is_levelled, rows};
 use crate::touched::touched;
-use dpl_base::{Edge, Id};
-use dpl_graph::levels_of;
+use dpl_list::{Edge, Id};
 use std::alloc::{AllocError, Global};
 
 /// The summary of a list of edges: where they have no odd cycle, for each piece that one of them touches the least

@@ -3,7 +3,7 @@ ghost use Rattle.std.specs.Prelude.{◌≡◌, ◌+◌, ◌^◌, ◌<◌, ◌≤
 ghost use Rattle.std.specs.List.{All, AllPairs};
 ghost use Rattle.dpl_stars.specs.Tables.{IsTable, IsSpan};
 
-use dpl_base::Id;
+use dpl_list::Id;
 use std::alloc::{AllocError, Global};
 
 /// How many entries a table may have for each number that it is made for.

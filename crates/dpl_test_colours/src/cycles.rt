@@ -1,6 +1,6 @@
 //! Worked graphs, and the odd cycles that are reported of them.
 use dpl_base::{Edge, Id};
-use dpl_graph::are_edges_below;
+use dpl_stars::are_edges_below;
 use dpl_odd::odd_cycle;
 use std::test::Fail;
 
