@@ -1,4 +1,4 @@
-//! A list that a value keeps.
+//! A list within a value, which a contract sees without its room.
 ghost use Rattle.std.specs.Prelude.{◌≡◌, List};
 
 use std::marker::Model;
@@ -16,21 +16,21 @@ impl<T> Model for Listed<T> {
 }
 
 impl<T> Listed<T> {
-    /// The list of these items.
+    /// The list of these items, without taking memory.
     pub fn of(items: Vec<T>) -> Listed<T>
         ensures { result ≡ items.items }
     {
         Listed { items }
     }
 
-    /// The items.
+    /// The items in order, as a slice.
     pub fn items(&self) -> &[T]
         ensures { result.now ≡ self.now }
     {
         self.items.as_slice()
     }
 
-    /// The items, without taking memory.
+    /// The items in order, without taking memory.
     pub fn into_vec(self) -> Vec<T>
         ensures { result.items ≡ self }
     {

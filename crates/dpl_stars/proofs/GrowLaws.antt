@@ -19,7 +19,7 @@ pub record Noting (edges : List (ℕ × ℕ)) (n bound now head b l : ℕ) (x y 
   pub low : now ≤ b
   pub shallow : l ≤ reached_count x
   pub rooted : (root_in y now ≡ now) × (level_in y now ≡ 0)
-  pub front : (j : ℕ) → head ≤ j → j < reached_count x → (level_in x (place_in x j) ≤ l) × (l ≤ suc (level_in x (place_in x j)))
+  pub frontier : (j : ℕ) → head ≤ j → j < reached_count x → (level_in x (place_in x j) ≤ l) × (l ≤ suc (level_in x (place_in x j)))
   pub back : (v : ℕ) → v < n → root_in x v ≡ now → level_in x v ≤ suc l
 
 pub noted_root : {b now l : ℕ} {x y : Reached} → IsNoted b now l x y → b < length x.roots.items → root_in y b ≡ now
@@ -187,7 +187,7 @@ note_rising {x = x} {y = y} h i j from up l = elim (now_listed h j l) [
       let lj = level_new h j at in
       elim (now_listed h i (omega (arith, up, l))) [
         | inl also ↦ let li = level_new h i also in omega (arith, li, lj)
-        | inr less ↦ let li = level_old h i less in let m = (h.front i from less).0 in omega (arith, li, lj, m)
+        | inr less ↦ let li = level_old h i less in let m = (h.frontier i from less).0 in omega (arith, li, lj, m)
       ]
   | inr less ↦
       let i_less : i < reached_count x = omega (arith, up, less) in
@@ -204,7 +204,7 @@ note_near {n = n} {now = now} {b = b} {x = x} {y = y} h v within is j from l = e
       let lv : level_in y v ≡ _ = ap (λ w. level_in y w) e ∙ new_level h in
       elim (now_listed h j l) [
         | inl at ↦ let lj = level_new h j at in omega (arith, lv, lj)
-        | inr less ↦ let lj = level_old h j less in let m = (h.front j from less).1 in omega (arith, lv, lj, m)
+        | inr less ↦ let lj = level_old h j less in let m = (h.frontier j from less).1 in omega (arith, lv, lj, m)
       ]
   | inr ne ↦
       let was : root_in x v ≡ now = sym (old_root h v ne) ∙ is in

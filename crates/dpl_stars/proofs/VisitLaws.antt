@@ -88,7 +88,7 @@ visit_noting edges n now head a level next k x y b now_in v k_in leaves unreache
       low = elim (cases_lt to now) [ inl less ↦ absurd (v.grown.before to (omega (arith, less)) unreached) | inr l ↦ l ];
       shallow = omega (arith, shallow, a_level);
       rooted = (noted_other_root noted now now_old ∙ now_self, noted_other_level noted now now_old ∙ now_none);
-      front = λ j from j_in.
+      frontier = λ j from j_in.
           let up = v.grown.rising head j (omega arith) from j_in in
           let (o_in, o_reached) = v.grown.listed j j_in in
           let near = v.grown.near (place_in x j) o_in (v.grown.same j from j_in) head (omega arith) v.some in
@@ -233,7 +233,7 @@ first-grown edges n now x y grown unreached now_in noted =
       low = omega arith;
       shallow = omega arith;
       rooted = (root, noted_level noted (omega (arith, as_many_levels, now_in)));
-      front = λ j from l. absurd (omega (arith, from, l));
+      frontier = λ j from l. absurd (omega (arith, from, l));
       back = λ u u_in is.
           let reached : root_in x u ≢ n = λ e. omega (arith, e, is, now_in) in
           let self = (grown.rooted u u_in reached).0 in

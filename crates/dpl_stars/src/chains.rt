@@ -1,4 +1,4 @@
-//! The edges at each number.
+//! The arcs that leave each number of a graph.
 ghost use Rattle.std.specs.Prelude.{◌≡◌, ◌+◌, ◌*◌, ◌^◌, ◌<◌, length, IfOk};
 ghost use Rattle.dpl_stars.specs.Arcs.{arc_at, AreChains};
 ghost use Rattle.dpl_stars.specs.Levels.{AreEdgesBelow};
@@ -30,7 +30,7 @@ pub fn arc(edges: &[Edge], k: usize) -> Edge
     }
 }
 
-/// The chains of these edges.
+/// The arcs of these edges as chains, in time linear in `n` and the number of edges.
 pub fn chains_of(alloc: Global, n: Id, edges: &[Edge]) -> Result<Chains, AllocError>
     requires { AreEdgesBelow n edges.now }
     ensures { IfOk result (λ chains. AreChains edges.now n (length edges.now + length edges.now) chains.last.items chains.before.items) }

@@ -17,7 +17,7 @@ pub struct Reached {
     pub order: Vec<Id>,
 }
 
-/// Nothing is reached.
+/// The state of a walk that has reached nothing yet.
 pub fn nothing(alloc: Global, n: Id) -> Result<Reached, AllocError>
     ensures { IfOk result (λ reached. (edges : List (ℕ × ℕ)) → IsGrown edges n 0 0 (reached_count reached) reached) }
 {

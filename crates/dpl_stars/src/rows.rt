@@ -1,4 +1,4 @@
-//! Rows by the levels of a graph.
+//! The rows of a summary, read off the roots and levels of a graph.
 ghost use Rattle.std.specs.Prelude.{◌≡◌, ◌<◌, length, IfOk, IsTrue, ◌↔◌};
 ghost use Rattle.std.specs.List.{All};
 ghost use Rattle.dpl_stars.specs.Levels.{AreEdgesBelow};
