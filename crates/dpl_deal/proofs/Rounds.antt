@@ -1,11 +1,11 @@
--- What is dealt in turn.
+-- What is dealt round by round.
 use Rattle.std.proofs.Common.{◌≡◌, ◌≢◌, ◌∙◌, ◌+◌, ◌%◌, ◌<◌, ◌≤◌, ◌==◌, ℕ, zero, suc, true, false, List, [], ◌∷◌, length, get_or, refl, ap, arith, ⊎_elim}
 use Rattle.std.specs.Prelude.{if◌then◌else◌}
 use Rattle.std.proofs.lemmas.Bool.{cases_lt}
 use Rattle.std.proofs.lemmas.Bool.Decides.{nat_tests}
 use mathlib.Core.Logic.{dite}
 use native.Mathlib.Decide.{ℕ_discrete}
-use Rattle.dpl_deal.specs.declared.view.View.{View}
+use Rattle.dpl_deal.specs.declared.view.PassView.{PassView}
 use Rattle.dpl_deal.specs.Rule.{once_below, times, total}
 use Rattle.dpl_deal.specs.Hands.{dealt_times, dealt_to}
 use Rattle.dpl_deal.proofs.Moves.{times-append}
@@ -14,7 +14,7 @@ abbrev sum_to : (ℕ → ℕ) → ℕ → ℕ → ℕ
 sum_to f base zero = 0
 sum_to f base (suc k) = f base + sum_to f (suc base) k
 
-total_by : (f : View → ℕ) (g : ℕ → ℕ) (base : ℕ) (vs : List View) → ((i : ℕ) (d : View) → i < length vs → f (get_or vs i d) ≡ g (base + i)) → total f vs ≡ sum_to g base (length vs)
+total_by : (f : PassView → ℕ) (g : ℕ → ℕ) (base : ℕ) (vs : List PassView) → ((i : ℕ) (d : PassView) → i < length vs → f (get_or vs i d) ≡ g (base + i)) → total f vs ≡ sum_to g base (length vs)
 total_by f g base [] h = refl
 total_by f g base (v ∷ vs) h =
     let z : base + 0 ≡ base = omega arith in
@@ -68,9 +68,9 @@ dealt_sum (suc n) w x some =
     let s = sum_hit (n % w) n x 0 w (omega arith) (omega (arith, lt)) in
     a ∙ omega (arith, r, s, once_more n x)
 
--- what was dealt in turn to so many hands is each number once
-pub dealt_once : (n x : ℕ) (vs : List View) → 0 < length vs
-    → ((i : ℕ) (d : View) → i < length vs → (get_or vs i d).dealt ≡ dealt_to n (length vs) i) → dealt_times x vs ≡ once_below n x
+-- what was dealt round by round to so many hands is each number once
+pub dealt_once : (n x : ℕ) (vs : List PassView) → 0 < length vs
+    → ((i : ℕ) (d : PassView) → i < length vs → (get_or vs i d).dealt ≡ dealt_to n (length vs) i) → dealt_times x vs ≡ once_below n x
 dealt_once n x vs some h =
     total_by (λ v. times x v.dealt) (λ i. times x (dealt_to n (length vs) i)) 0 vs (λ i d lt. ap (times x) (h i d lt)
     ∙ (let e : i ≡ 0 + i = omega arith in ap (λ (k : ℕ). times x (dealt_to n (length vs) k)) e))
