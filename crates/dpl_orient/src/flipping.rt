@@ -1,6 +1,6 @@
 //! Which components are flipped.
 ghost use Rattle.std.specs.Prelude.{◌≡◌, ◌<◌, ◌≤◌, ◌+◌, length, IfOk};
-ghost use Rattle.dpl_orient.specs.Crossings.{crossings_at, AreGrouped, GoUp, IsSplit, AreFlips, is_turned};
+ghost use Rattle.dpl_orient.specs.Crossings.{crossings_at, AreGrouped, GoUp, IsSplit, AreFlips, is_flipped_by};
 
 use crate::chart::Rooted;
 use crate::crossing::{Across, crossing_at, differs};
@@ -29,7 +29,7 @@ fn settle(
     requires split { IsSplit (crossings_at chart.now sides.now across.now) root start }
     requires earlier { root ≡ length flips.now }
     ensures split { IsSplit (crossings_at chart.now sides.now across.now) (root + 1) result.next }
-    ensures flip { result.flip ≡ is_turned flips.now root (crossings_at chart.now sides.now across.now) }
+    ensures flip { result.flip ≡ is_flipped_by flips.now root (crossings_at chart.now sides.now across.now) }
 {
     let mut agreeing = 0usize;
     let mut differing = 0usize;

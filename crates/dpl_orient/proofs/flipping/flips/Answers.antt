@@ -1,6 +1,6 @@
 use Rattle.dpl_orient.specs.Crossings.{crossings_at}
-use Rattle.dpl_orient.proofs.Turns.{settled-none, settled-more}
-use Rattle.dpl_orient.proofs.turning.flips.Goals as goal
+use Rattle.dpl_orient.proofs.Flips.{settled-none, settled-more}
+use Rattle.dpl_orient.proofs.flipping.flips.Goals as goal
 
 pub loop-root-init : goal.loop-root-init
 loop-root-init c = rw c.in_ok-flips.ensures.items (settled-none _)

@@ -3,8 +3,8 @@ use Rattle.dpl_orient.specs.declared.crossing.Across.{Across}
 use Rattle.dpl_orient.specs.Crossings.{crossings_at}
 use Rattle.dpl_orient.proofs.Numbers.{as-many, crossing-here}
 use Rattle.dpl_orient.proofs.Settling.{settling-start, settling-differs, settling-agrees, settled-split, settled-flip, after-stop}
-use Rattle.dpl_orient.proofs.turning.settle.Goals as goal
-use Rattle.dpl_orient.proofs.turning.settle.Goals.{then-differs, else-differs}
+use Rattle.dpl_orient.proofs.flipping.settle.Goals as goal
+use Rattle.dpl_orient.proofs.flipping.settle.Goals.{then-differs, else-differs}
 
 pub loop-next-init : goal.loop-next-init
 loop-next-init c = settling-start _ _ _ _ c.requires.split
