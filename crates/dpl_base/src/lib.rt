@@ -1,10 +1,11 @@
-//! Points and rectangles, how far two rectangles lie apart, the least one round some, and lists of numbers and others.
+//! Points and rectangles, how far two rectangles lie apart, the least one round some, rectangles transposed, and lists of numbers and others.
 #![tactic(auto)]
 
 mod bounds;
 mod listed;
 mod lists;
 mod loops;
+mod transposing;
 mod wide;
 
 ghost use Rattle.std.specs.Prelude.{◌≡◌, ◌+◌, ◌*◌, ◌^◌, ◌<◌, ◌≤◌, ◌<ℤ◌, ◌↔◌, IsTrue, IsNone, IfSome, unsigned_abs};
@@ -16,6 +17,7 @@ pub use crate::bounds::round_one;
 pub use crate::listed::Listed;
 pub use crate::lists::{give_back, numbers_below};
 pub use crate::loops::Loop;
+pub use crate::transposing::{all_transposed, transpose_all, transposed};
 pub use crate::wide::WideRect;
 pub use dpl_spec_split::{Pt, Rect, Zone};
 

@@ -3,7 +3,7 @@ use Rattle.std.proofs.Common.{ℕ, inl, inr, ℤ, List}
 use Rattle.dpl_spec_split.specs.declared.Rect.{Rect}
 use Rattle.dpl_spec_split.specs.declared.Zone.{Zone}
 use Rattle.dpl_spec_split.specs.Squares.{Region, SameSquares}
-use Rattle.dpl_spec_split.specs.Zones.{AreZones, IsClearRun, IsHorizontalZone, IsKeptZone, IsStretch, IsVerticalZone, at, part_at, turned, turned_rect}
+use Rattle.dpl_spec_split.specs.Zones.{AreZones, IsClearRun, IsHorizontalZone, IsKeptZone, IsStretch, IsVerticalZone, at, part_at, transposed, transposed_rect}
 use Rattle.dpl_spec_split.proofs.SquareLaws.{SameSquares-sym}
 
 run_same : (rule : ℕ) (l m f : Region) (y0 y1 x : ℤ) → SameSquares l m → IsClearRun rule l f y0 y1 x → IsClearRun rule m f y0 y1 x
@@ -23,7 +23,7 @@ level_same : (rule overlap : ℕ) (l m f : Region) (z : Rect) → SameSquares l 
 level_same rule overlap l m f z same h = record { stretch = h.stretch; is = stretch_same rule overlap l m f h.stretch same h.is; middle = h.middle }
 
 upright_same : (rule overlap : ℕ) (l m f : Region) (z : Rect) → SameSquares l m → IsVerticalZone rule overlap l f z → IsVerticalZone rule overlap m f z
-upright_same rule overlap l m f z same h = level_same rule overlap (turned l) (turned m) (turned f) (turned_rect z) (λ p. same (at p.y p.x)) h
+upright_same rule overlap l m f z same h = level_same rule overlap (transposed l) (transposed m) (transposed f) (transposed_rect z) (λ p. same (at p.y p.x)) h
 
 kept_same : (rule overlap : ℕ) (l m f : Region) (z : Rect) → SameSquares l m → IsKeptZone rule overlap l f z → IsKeptZone rule overlap m f z
 kept_same rule overlap l m f z same (inl h) = inl (level_same rule overlap l m f z same h)

@@ -89,12 +89,10 @@ fn put(a: &mut Vec<Rect>, b: &mut Vec<Rect>, slabs: &[Rect], letter: Mask) -> Re
 {
     match letter {
         Mask::A => {
-            a.extend_from_slice(slabs)?;
-            Ok(())
+            a.extend_from_slice(slabs)
         }
         Mask::B => {
-            b.extend_from_slice(slabs)?;
-            Ok(())
+            b.extend_from_slice(slabs)
         }
     }
 }
