@@ -45,6 +45,14 @@ fn rect(x0: i32, y0: i32, x1: i32, y1: i32) -> Rect {
 
 #[test]
 fn loops_have_their_slabs(rt: HostRuntime) -> Result<(), Fail> {
+    let alloc = rt.alloc();
+    let low = [(0, 0), (10, 0), (10, 10), (0, 10)];
+    let high = [(10, 10), (10, 20), (20, 20), (20, 10)];
+    let stairs = slabs_of(alloc, &[&low, &high])?;
+    assert_eq!(rt;
+        stairs.rects(),
+        [rect(0, 0, 10, 10), rect(10, 10, 20, 20)].as_slice()
+    );
     let ring = [
         (0, 0),
         (100, 0),
@@ -60,48 +68,30 @@ fn loops_have_their_slabs(rt: HostRuntime) -> Result<(), Fail> {
         (0, 50),
         (0, 0),
     ];
-    let ringed = [
+    let want = [
         rect(0, 0, 100, 40),
         rect(0, 40, 40, 60),
         rect(60, 40, 100, 60),
         rect(0, 60, 100, 100),
     ];
-    let cases: [(&[&[(i16, i16)]], &[Rect]); 4] = [
-        // two squares that share a corner
-        (
-            &[
-                &[(0, 0), (10, 0), (10, 10), (0, 10)],
-                &[(10, 10), (10, 20), (20, 20), (20, 10)],
-            ],
-            &[rect(0, 0, 10, 10), rect(10, 10, 20, 20)],
-        ),
-        // a ring, closed by its first point, and open
-        (&[&ring], &ringed),
-        (&[&ring[..12]], &ringed),
-        // strips of rows, the upper one a row of bars
-        (
-            &[
-                &[(26, 21), (30, 21), (30, 30), (26, 30)],
-                &[(0, 10), (10, 10), (10, 20), (0, 20)],
-                &[(20, 21), (25, 21), (25, 30), (20, 30)],
-                &[(5, 21), (20, 21), (20, 30), (5, 30)],
-                &[(0, 21), (10, 21), (10, 30), (0, 30)],
-                &[(0, 0), (10, 0), (10, 10), (0, 10)],
-            ],
-            &[
-                rect(0, 0, 10, 20),
-                rect(0, 21, 25, 30),
-                rect(26, 21, 30, 30),
-            ],
-        ),
+    let closed = slabs_of(alloc, &[&ring])?;
+    let open = slabs_of(alloc, &[&ring[..12]])?;
+    assert_eq!(rt; closed.rects(), want.as_slice());
+    assert!(rt; open.equal(&closed));
+
+    // strips of rows, the upper one a row of bars
+    let over_low = [(0, 10), (10, 10), (10, 20), (0, 20)];
+    let last = [(26, 21), (30, 21), (30, 30), (26, 30)];
+    let left = [(0, 21), (10, 21), (10, 30), (0, 30)];
+    let over = [(5, 21), (20, 21), (20, 30), (5, 30)];
+    let beside = [(20, 21), (25, 21), (25, 30), (20, 30)];
+    let strips = slabs_of(alloc, &[&last, &over_low, &beside, &over, &left, &low])?;
+    let want = [
+        rect(0, 0, 10, 20),
+        rect(0, 21, 25, 30),
+        rect(26, 21, 30, 30),
     ];
-    for (loops, want) in cases {
-        let set = slabs_of(rt.alloc(), loops)?;
-        assert_eq!(rt; set.rects(), want);
-        assert!(rt;
-            set.equal(&Slabs::of_rects(rt.alloc(), Vec::from_slice(rt.alloc(), set.rects())?)?)
-        );
-    }
+    assert_eq!(rt; strips.rects(), want.as_slice());
     Ok(())
 }
 
@@ -158,6 +148,9 @@ fn sets_are_combined(rt: HostRuntime) -> Result<(), Fail> {
         assert_eq!(rt; set.rects(), want);
         assert_eq!(rt; set.columns(rt.alloc())?.as_slice(), want);
         assert_eq!(rt; set.least(), Some(Pt { x, y }));
+        assert!(rt;
+            set.equal(&Slabs::of_rects(rt.alloc(), Vec::from_slice(rt.alloc(), set.rects())?)?)
+        );
         assert!(rt; set.has(9, 4) == has_first && set.has(5, 5) == has_second);
     }
     let bar = slabs_of(rt.alloc(), &[&[(0, 0), (30, 0), (30, 10), (0, 10)]])?;
