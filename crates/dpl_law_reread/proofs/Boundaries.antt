@@ -149,7 +149,7 @@ module _ (out pre post : List ℕ) (s : Shape) (fits : s.layer < 65536) (is : ou
   slots = (kinds.elflags, None) ∷ (kinds.plex, None) ∷ (kinds.layer, Some (rec p2 (w2 s.layer) kinds.layer (to_be_bytes w16 s.layer)))
       ∷ (kinds.datatype, Some (rec p3 w3 kinds.datatype (0 ∷ 0 ∷ []))) ∷ (kinds.xy, Some (rec p4 (w4 s.rect) kinds.xy (xy_of s.rect))) ∷ []
 
-  items-read : reading.items_at out reading.boundary (length p2) ≡ Ok (slots, length p5)
+  items-read : reading.items_at out (reading.items_of kinds.boundary) (length p2) ≡ Ok (slots, length p5)
   items-read =
       item_first out (may kinds.elflags) (may kinds.plex ∷ must kinds.layer ∷ must kinds.datatype ∷ must kinds.xy ∷ []) (length p2) ((kinds.elflags, None) ∷ [], length p2) _
       (item_left out kinds.elflags (length p2) _ found-2 refl)
