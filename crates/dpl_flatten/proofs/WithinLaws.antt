@@ -1,4 +1,4 @@
--- What is drawn lies near.
+-- What is drawn lies within a bound.
 use Rattle.std.proofs.Common.{◌≡◌, ℕ, ◌*◌, ◌^◌, ◌<◌, ◌≤◌, ⊎_elim, Bool, true, false, cond, ℤ, pos, ◌≤ℤ◌, List, [], ◌∷◌, map, refl, arith}
 use Rattle.std.proofs.Math.Nat.{mul-le-mul_left}
 use Rattle.std.proofs.lemmas.Int.{ints, by_lt_z}
@@ -114,9 +114,9 @@ through_within p (q ∷ r ∷ rs) w b e h =
     (segments_within q r rs (h q (Contains-head q (r ∷ rs))) (h r (Contains-later q r (r ∷ rs) (Contains-head r rs)))
     (λ x c. h x (Contains-later q x (r ∷ rs) (Contains-later r x rs c))))
 
-four_near : (a b c d : Pt) → IsPointWithin (2 ^ 61) a → IsPointWithin (2 ^ 61) b → IsPointWithin (2 ^ 61) c → IsPointWithin (2 ^ 61) d
+four_within : (a b c d : Pt) → IsPointWithin (2 ^ 61) a → IsPointWithin (2 ^ 61) b → IsPointWithin (2 ^ 61) c → IsPointWithin (2 ^ 61) d
     → ArePointsWithin (2 ^ 61) (a ∷ b ∷ c ∷ d ∷ [])
-four_near a b c d ha hb hc hd p i =
+four_within a b c d ha hb hc hd p i =
     ⊎_elim (λ (e : a ≡ p). rw (← e) ha)
     (λ j. ⊎_elim (λ (e : b ≡ p). rw (← e) hb)
     (λ k. ⊎_elim (λ (e : c ≡ p). rw (← e) hc)
@@ -127,7 +127,7 @@ four_near a b c d ha hb hc hd p i =
 
 corner_cases : (r : Rect) → IsRectWithin (2 ^ 61) r → ArePointsWithin (2 ^ 61) (corners_of r)
 corner_cases r w =
-    four_near (record { x = r.x0; y = r.y0 }) (record { x = r.x1; y = r.y0 }) (record { x = r.x1; y = r.y1 }) (record { x = r.x0; y = r.y1 })
+    four_within (record { x = r.x0; y = r.y0 }) (record { x = r.x1; y = r.y0 }) (record { x = r.x1; y = r.y1 }) (record { x = r.x0; y = r.y1 })
     (record { column = w.left; row = w.low }) (record { column = w.right; row = w.low }) (record { column = w.right; row = w.high }) (record { column = w.left; row = w.high })
 
 loops_within : (rs : List Rect) → All (IsRectWithin (2 ^ 61)) rs → AreLoopsWithin (2 ^ 61) (map corners_of rs)
@@ -135,20 +135,13 @@ loops_within [] w = all_nil (λ ps. ArePointsWithin (2 ^ 61) ps)
 loops_within (r ∷ rs) w = All-cons (λ ps. ArePointsWithin (2 ^ 61) ps) (corners_of r) (map corners_of rs)
     (corner_cases r (All-head (IsRectWithin (2 ^ 61)) r rs w)) (loops_within rs (All-tail (IsRectWithin (2 ^ 61)) r rs w))
 
-pub path_near : (ps : List Pt) (width kind begin end : ℤ) → ArePointsWithin (2 ^ 31) ps → unsigned_abs width ≤ 2 ^ 31
+pub path_within : (ps : List Pt) (width kind begin end : ℤ) → ArePointsWithin (2 ^ 31) ps → unsigned_abs width ≤ 2 ^ 31
     → unsigned_abs begin ≤ 2 ^ 31 → unsigned_abs end ≤ 2 ^ 31
     → AreLoopsWithin (2 ^ 61) (map corners_of (path_rects (path_of ps width kind begin end)))
-path_near ps width kind begin end h w b e =
+path_within ps width kind begin end h w b e =
     loops_within (path_rects (path_of ps width kind begin end))
     (cond_all (IsRectWithin (2 ^ 61)) (same width (pos 0)) [] (rects_through (path_of ps width kind begin end) (distinct ps)) (all_nil (IsRectWithin (2 ^ 61)))
     (through_within (path_of ps width kind begin end) (distinct ps) w b e (λ p c. h p (Contains-distinct ps p c))))
-
-pub nothing_near : AreLoopsWithin (2 ^ 61) []
-nothing_near = all_nil (λ ps. ArePointsWithin (2 ^ 61) ps)
-
-pub one_near : (ps : List Pt) → ArePointsWithin (2 ^ 31) ps → AreLoopsWithin (2 ^ 61) (ps ∷ [])
-one_near ps h = All-cons (λ qs. ArePointsWithin (2 ^ 61) qs) ps [] (λ p c. let w = h p c in
-    record { column = omega (arith, w.column); row = omega (arith, w.row) }) (all_nil (λ qs. ArePointsWithin (2 ^ 61) qs))
 
 -- ---- what isn't refused
 
@@ -161,16 +154,6 @@ only_memory ps OddWidth h r = absurd r
 only_memory ps SlantedPath h r = absurd r
 only_memory ps PathTurnsBack h r = absurd r
 only_memory ps NegativeExtension h r = absurd r
-
-pub only_slanted : (ps : List Pt) (e : ShapeFault) → (e ≡ SlantedBoundary → ⊥) → RefusesBoundary ps e → e ≡ NoMemory
-only_slanted ps SlantedBoundary h r = absurd (h refl)
-only_slanted ps NoMemory h r = refl
-only_slanted ps RoundPath h r = absurd r
-only_slanted ps BadPathType h r = absurd r
-only_slanted ps OddWidth h r = absurd r
-only_slanted ps SlantedPath h r = absurd r
-only_slanted ps PathTurnsBack h r = absurd r
-only_slanted ps NegativeExtension h r = absurd r
 
 pub only_path_memory : (p : PathElement) (e : ShapeFault) → ((f : ElementFault) → ¬ IsPathFault p f) → RefusesPath p e → e ≡ NoMemory
 only_path_memory p SlantedBoundary h r = absurd r

@@ -1,3 +1,4 @@
+pub mod Roles
 pub mod Links
 pub mod Least
 pub mod Totals

@@ -8,7 +8,7 @@ ghost use Rattle.dpl_flatten.specs.Links.{IsLinked, IsOrdered};
 ghost use Rattle.dpl_flatten.specs.Totals.{AreTotals};
 
 use crate::count::totals;
-use crate::links::Links;
+use crate::links::ReachedGraph;
 use crate::missing::missing;
 use crate::recursion::recursion;
 use crate::refused::{refusal, refused};
@@ -25,7 +25,7 @@ fn find_missing(
     lib: &Library<'_>,
     top: u32,
     layer: Layer,
-    links: &Links<'_>,
+    links: &ReachedGraph<'_>,
 ) -> Result<(), FlattenFault>
     requires links { IsLinked lib.now links.now.graph.now links.now.marks.now }
     requires reached { AreReached links.now.graph.now top links.now.marks.now }
@@ -43,7 +43,7 @@ fn recursive_at(
     alloc: Global,
     lib: &Library<'_>,
     top: u32,
-    links: &Links<'_>,
+    links: &ReachedGraph<'_>,
 ) -> Result<usize, AllocError>
     requires links { IsLinked lib.now links.now.graph.now links.now.marks.now }
     requires reached { AreReached links.now.graph.now top links.now.marks.now }
@@ -64,7 +64,7 @@ fn find_recursion(
     lib: &Library<'_>,
     top: u32,
     layer: Layer,
-    links: &Links<'_>,
+    links: &ReachedGraph<'_>,
 ) -> Result<Order, FlattenFault>
     requires links { IsLinked lib.now links.now.graph.now links.now.marks.now }
     requires reached { AreReached links.now.graph.now top links.now.marks.now }
@@ -91,7 +91,7 @@ fn find_refused(
     lib: &Library<'_>,
     top: u32,
     layer: Layer,
-    links: &Links<'_>,
+    links: &ReachedGraph<'_>,
 ) -> Result<(), FlattenFault>
     requires links { IsLinked lib.now links.now.graph.now links.now.marks.now }
     requires reached { AreReached links.now.graph.now top links.now.marks.now }
@@ -115,7 +115,7 @@ fn find_many(
     lib: &Library<'_>,
     top: u32,
     layer: Layer,
-    links: &Links<'_>,
+    links: &ReachedGraph<'_>,
     order: &Order,
 ) -> Result<Vec<u32>, FlattenFault>
     requires links { IsLinked lib.now links.now.graph.now links.now.marks.now }
@@ -149,7 +149,7 @@ pub(crate) fn find_faults(
     lib: &Library<'_>,
     top: u32,
     layer: Layer,
-    links: &Links<'_>,
+    links: &ReachedGraph<'_>,
 ) -> Result<Survey, FlattenFault>
     requires links { IsLinked lib.now links.now.graph.now links.now.marks.now }
     requires reached { AreReached links.now.graph.now top links.now.marks.now }

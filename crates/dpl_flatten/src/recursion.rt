@@ -8,7 +8,7 @@ ghost use Rattle.dpl_spec_layout.specs.Faults.{IsOnCycle};
 ghost use Rattle.dpl_flatten.specs.Links.{IsLevelled};
 ghost use Rattle.dpl_flatten.specs.Least.{IsLeastOf, Among, AmongMarked};
 
-use crate::links::{Links, target};
+use crate::links::{ReachedGraph, target};
 use dpl_syntax::{Element, Library};
 use dpl_walk::{earlier, note};
 
@@ -29,7 +29,7 @@ fn have_one_level(levels: &[usize], a: u32, b: u32) -> bool
 /// Whether an element of a marked structure lies on a cycle of references.
 fn is_recursive(
     lib: &Library<'_>,
-    links: &Links<'_>,
+    links: &ReachedGraph<'_>,
     levels: &[usize],
     structure: u32,
     element: &Element<'_>,
@@ -48,7 +48,7 @@ fn is_recursive(
 /// The least offset of such a reference in a marked structure.
 fn recursion_in(
     lib: &Library<'_>,
-    links: &Links<'_>,
+    links: &ReachedGraph<'_>,
     levels: &[usize],
     structure: u32,
 ) -> Option<usize>
@@ -68,7 +68,7 @@ fn recursion_in(
 /// The least offset of such a reference in a structure, where it is marked.
 fn recursion_where(
     lib: &Library<'_>,
-    links: &Links<'_>,
+    links: &ReachedGraph<'_>,
     levels: &[usize],
     structure: u32,
     marked: bool,
@@ -86,7 +86,11 @@ fn recursion_where(
 }
 
 /// The least offset of such a reference in the marked structures.
-pub(crate) fn recursion(lib: &Library<'_>, links: &Links<'_>, levels: &[usize]) -> Option<usize>
+pub(crate) fn recursion(
+    lib: &Library<'_>,
+    links: &ReachedGraph<'_>,
+    levels: &[usize],
+) -> Option<usize>
     requires links { IsLevelled lib.now links.now.graph.now links.now.marks.now levels.now }
     requires marks { length links.now.marks.now ≡ length lib.now.structures }
     ensures { IsLeastOf (AmongMarked lib.now links.now.marks.now (length links.now.marks.now) (IsOnCycle lib.now)) result }

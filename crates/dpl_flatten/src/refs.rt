@@ -4,8 +4,8 @@ ghost use Rattle.std.specs.Prelude.{◌≡◌, ◌≢◌, ◌+◌, ◌*◌, ◌^
 ghost use Rattle.std.specs.Option.{option_map};
 ghost use Rattle.dpl_spec_split.specs.Loops.{IsPointWithin};
 ghost use Rattle.dpl_syntax.specs.Elements.{trans_seen};
-ghost use Rattle.dpl_spec_layout.specs.Elements.{point_in, plain, IsMagnified, IsTurnedAskew, Divides, IsArray};
-ghost use Rattle.dpl_flatten.specs.Drawn.{IsTransformFault, IsFaultOfReference, DividesBoth};
+ghost use Rattle.dpl_spec_layout.specs.Elements.{point_in, plain, IsMagnified, IsTurnedAskew, IsReferenceFault, Divides, IsArray};
+ghost use Rattle.dpl_flatten.specs.Drawn.{IsTransformFault, IsFaultBy, DividesBoth};
 
 use dpl_base::Pt;
 use dpl_reals::Real;
@@ -80,7 +80,7 @@ fn own_fault(trans: Option<Trans>) -> Option<ElementFault>
 
 /// What a reference to one copy is refused for.
 pub(crate) fn single_fault(trans: Option<Trans>) -> Option<ElementFault>
-    ensures { IsFaultOfReference (unwrap_or (option_map trans_seen trans) plain) ⊥ result }
+    ensures { IsFaultBy (IsReferenceFault (unwrap_or (option_map trans_seen trans) plain) ⊥) result }
 {
     own_fault(trans)
 }
@@ -147,7 +147,7 @@ pub(crate) fn array_fault(
     xy: &[u8],
 ) -> Option<ElementFault>
     requires { length xy.now ≡ 24 }
-    ensures { IsFaultOfReference (unwrap_or (option_map trans_seen trans) plain) (¬ IsArray columns rows xy.now) result }
+    ensures { IsFaultBy (IsReferenceFault (unwrap_or (option_map trans_seen trans) plain) (¬ IsArray columns rows xy.now)) result }
 {
     if let Some(fault) = own_fault(trans) {
         return Some(fault);

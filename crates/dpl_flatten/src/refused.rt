@@ -4,15 +4,16 @@ ghost use Rattle.std.specs.Prelude.{◌≡◌, ◌<◌, ℕ, true, length, None,
 ghost use Rattle.std.specs.List.{Contains};
 ghost use Rattle.dpl_spec_format.specs.Tree.{Element as TreeElement, elements_at};
 ghost use Rattle.dpl_syntax.specs.Elements.{body_seen, element_seen, IsSized};
+ghost use Rattle.dpl_spec_layout.specs.Elements.{IsRefusedFor};
 ghost use Rattle.dpl_spec_layout.specs.Faults.{IsRefused};
 ghost use Rattle.dpl_flatten.specs.Least.{IsLeastOf, IsNoted, Among, AmongMarked};
-ghost use Rattle.dpl_flatten.specs.Drawn.{IsFaultOf, IsRefusal, IsRefusalWhere, IsRefusalAmong, IsRefusalOf, IsTakenAt, HasRefusalAt};
+ghost use Rattle.dpl_flatten.specs.Drawn.{IsFaultBy, IsRefusal, IsRefusalWhere, IsRefusalAmong, IsRefusalOf, IsTakenAt, HasRefusalAt};
 
-use crate::count::is_on;
 use crate::refs::{array_fault, single_fault};
-use crate::shapes::{Stroke, boundary_fault, path_fault};
+use crate::role::{Role, role_of};
+use crate::shapes::{boundary_fault, path_fault};
 use dpl_spec_layout::{ElementFault, FlattenFault, Layer};
-use dpl_syntax::{Body, Element, Library};
+use dpl_syntax::{Element, Library};
 use dpl_walk::{earlier, note};
 use std::alloc::{AllocError, Global};
 
@@ -23,46 +24,19 @@ fn fault_of(
     element: &Element<'_>,
 ) -> Result<Option<ElementFault>, AllocError>
     requires { IsSized element.now }
-    ensures { IfOk result (λ o. IsFaultOf chosen (body_seen element.now.body) o) }
+    ensures { IfOk result (IsFaultBy (IsRefusedFor chosen (body_seen element.now.body))) }
 {
-    match element.body {
-        Body::Sref { trans, .. } => Ok(single_fault(trans)),
-        Body::Aref {
+    match role_of(chosen, &element.body) {
+        Role::Nothing => Ok(None),
+        Role::Boundary { xy } => boundary_fault(alloc, xy),
+        Role::Path { style, xy } => path_fault(alloc, style, xy),
+        Role::Single { trans } => Ok(single_fault(trans)),
+        Role::Array {
             trans,
             columns,
             rows,
             xy,
-            ..
         } => Ok(array_fault(trans, columns, rows, xy)),
-        Body::Boundary {
-            layer,
-            datatype,
-            xy,
-        } => boundary_fault(alloc, is_on(chosen, layer, datatype), xy),
-        Body::BoxShape { layer, boxtype, xy } => boundary_fault(
-            alloc,
-            is_on(chosen, layer, boxtype),
-            xy,
-        ),
-        Body::Path {
-            layer,
-            datatype,
-            kind,
-            width,
-            begin_ext,
-            end_ext,
-            xy,
-        } => {
-            let stroke = Stroke {
-                width: width.unwrap_or(0),
-                kind: kind.unwrap_or(0),
-                begin_ext: begin_ext.unwrap_or(0),
-                end_ext: end_ext.unwrap_or(0),
-            };
-            let fault = path_fault(alloc, is_on(chosen, layer, datatype), stroke, xy)?;
-            Ok(fault)
-        }
-        _ => Ok(None),
     }
 }
 
@@ -114,8 +88,7 @@ fn refused_where(
     if !marked {
         return Ok(None);
     }
-    let first = refused_in(alloc, lib, chosen, structure)?;
-    Ok(first)
+    refused_in(alloc, lib, chosen, structure)
 }
 
 /// The least offset of a refused element of the marked structures.
@@ -192,8 +165,7 @@ fn refusal_where(
     if !marked {
         return Ok(None);
     }
-    let found = refusal_in(alloc, lib, chosen, structure, at)?;
-    Ok(found)
+    refusal_in(alloc, lib, chosen, structure, at)
 }
 
 /// What the refused element at this offset of a marked structure is refused for.
