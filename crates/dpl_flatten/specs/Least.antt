@@ -23,7 +23,3 @@ AmongMarked lib marks n P i e = (i < n) × IsMarked marks i × Contains (element
 -- the element names some structure
 abbrev pub IsReference : Element → Type 0
 IsReference e = (name : List ℕ) × (reference_name e.body ≡ Some name)
-
--- the least offset was brought up to one more element
-abbrev pub IsNoted : Finding → ℕ → Element → Option ℕ → Option ℕ → Type 0
-IsNoted P k e first new = ((new ≡ earlier first (Some e.at)) × P k e) ⊎ ((new ≡ first) × ¬ P k e)

@@ -71,6 +71,7 @@ fn total_of(lib: &Library<'_>, chosen: Layer, structure: u32, totals: &[u32]) ->
     total as u32
 }
 
+/// The total of a structure, and 0 past the end.
 pub(crate) fn total_at(totals: &[u32], structure: u32) -> u64
     requires { All (λ n. n ≤ ceiling) totals.now }
     ensures value { result ≡ slice_index totals.now structure }
@@ -114,6 +115,7 @@ pub(crate) fn totals(
     Ok(totals)
 }
 
+/// So many totals of 0.
 fn zeros(alloc: Global, count: usize) -> Result<Vec<u32>, AllocError>
     ensures { IfOk result (λ v. v.items ≡ replicate count 0) }
 {

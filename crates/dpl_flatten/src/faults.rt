@@ -8,10 +8,9 @@ ghost use Rattle.dpl_flatten.specs.Links.{IsLinked, IsOrdered};
 ghost use Rattle.dpl_flatten.specs.Totals.{AreTotals};
 
 use crate::count::totals;
+use crate::first::{Wanted, first};
 use crate::links::ReachedGraph;
-use crate::missing::missing;
-use crate::recursion::recursion;
-use crate::refused::{refusal, refused};
+use crate::refused::refusal;
 use dpl_links::{Order, find_levels, find_order};
 use dpl_spec_layout::{FlattenFault, Layer};
 use dpl_syntax::Library;
@@ -22,6 +21,7 @@ const MOST_POINTS: u32 = 16_777_216;
 
 /// No reference names a structure that isn't there.
 fn find_missing(
+    alloc: Global,
     lib: &Library<'_>,
     top: u32,
     layer: Layer,
@@ -32,7 +32,8 @@ fn find_missing(
     ensures complete { OnOk result (IsNowhere lib.now top (IsMissing lib.now)) }
     ensures fault { IfErr result (λ f. IsFirstFault lib.now top layer f) }
 {
-    match missing(lib, links.marks) {
+    let found = first(alloc, lib, links, Wanted::Missing)?;
+    match found {
         Some(at) => Err(FlattenFault::MissingStructure { at }),
         None => Ok(()),
     }
@@ -52,7 +53,8 @@ fn recursive_at(
     ensures { IfOk result (λ at. IsFirst lib.now top (IsOnCycle lib.now) at) }
 {
     let levels = find_levels(alloc, links.graph, top)?;
-    match recursion(lib, links, &levels) {
+    let found = first(alloc, lib, links, Wanted::Recursive { levels: &levels })?;
+    match found {
         Some(at) => Ok(at),
         None => unreachable!(),
     }
@@ -99,7 +101,7 @@ fn find_refused(
     ensures sound { OnOk result (IsSound lib.now top layer) }
     ensures fault { IfErr result (λ f. IsFirstFault lib.now top layer f) }
 {
-    let found = refused(alloc, lib, layer, links.marks)?;
+    let found = first(alloc, lib, links, Wanted::Refused { layer })?;
     match found {
         Some(at) => {
             let fault = refusal(alloc, lib, layer, links.marks, at)?;
@@ -160,7 +162,7 @@ pub(crate) fn find_faults(
     ensures totals { IfOk result (λ s. AreTotals lib.now layer links.now.marks.now s.totals.items) }
     ensures fault { IfErr result (λ f. IsFirstFault lib.now top layer f) }
 {
-    find_missing(lib, top, layer, links)?;
+    find_missing(alloc, lib, top, layer, links)?;
     let order = find_recursion(alloc, lib, top, layer, links)?;
     find_refused(alloc, lib, top, layer, links)?;
     let totals = find_many(alloc, lib, top, layer, links, &order)?;

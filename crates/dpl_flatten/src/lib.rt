@@ -20,6 +20,7 @@ mod copies;
 mod count;
 mod drawing;
 mod faults;
+mod first;
 mod links;
 mod missing;
 mod recursion;

@@ -1,12 +1,11 @@
 //! Elements that are refused.
 
-ghost use Rattle.std.specs.Prelude.{◌≡◌, ◌<◌, ℕ, true, length, None, IfOk, IfSome};
+ghost use Rattle.std.specs.Prelude.{◌≡◌, ◌<◌, ◌↔◌, true, length, None, IsTrue, IfOk, IfSome};
 ghost use Rattle.std.specs.List.{Contains};
 ghost use Rattle.dpl_spec_format.specs.Tree.{Element as TreeElement, elements_at};
 ghost use Rattle.dpl_syntax.specs.Elements.{body_seen, element_seen, IsSized};
 ghost use Rattle.dpl_spec_layout.specs.Elements.{IsRefusedFor};
 ghost use Rattle.dpl_spec_layout.specs.Faults.{IsRefused};
-ghost use Rattle.dpl_flatten.specs.Least.{IsLeastOf, IsNoted, Among, AmongMarked};
 ghost use Rattle.dpl_flatten.specs.Drawn.{IsFaultBy, IsRefusal, IsRefusalWhere, IsRefusalAmong, IsRefusalOf, IsTakenAt, HasRefusalAt};
 
 use crate::refs::{array_fault, single_fault};
@@ -14,7 +13,6 @@ use crate::role::{Role, role_of};
 use crate::shapes::{boundary_fault, path_fault};
 use dpl_spec_layout::{ElementFault, FlattenFault, Layer};
 use dpl_syntax::{Element, Library};
-use dpl_walk::{earlier, note};
 use std::alloc::{AllocError, Global};
 
 /// What an element is refused for.
@@ -40,73 +38,16 @@ fn fault_of(
     }
 }
 
-/// The least offset so far, brought up to an element.
-fn note_refused(
+/// Whether an element is refused.
+pub(crate) fn is_refused(
     alloc: Global,
     chosen: Layer,
     element: &Element<'_>,
-    first: Option<usize>,
-) -> Result<Option<usize>, AllocError>
+) -> Result<bool, AllocError>
     requires { IsSized element.now }
-    ensures { IfOk result (λ new. (structure : ℕ) → IsNoted (IsRefused chosen) structure (element_seen element.now) first new) }
+    ensures { IfOk result (λ found. IsTrue found ↔ IsRefused chosen 0 (element_seen element.now)) }
 {
-    let fault = fault_of(alloc, chosen, element)?;
-    match fault {
-        Some(_) => Ok(note(first, true, element.at)),
-        None => Ok(first),
-    }
-}
-
-/// The least offset of a refused element of a structure.
-fn refused_in(
-    alloc: Global,
-    lib: &Library<'_>,
-    chosen: Layer,
-    structure: u32,
-) -> Result<Option<usize>, AllocError>
-    requires { structure < length lib.now.structures }
-    ensures { IfOk result (λ first. IsLeastOf (Among structure (elements_at lib.now structure) (IsRefused chosen)) first) }
-{
-    let mut first = None;
-    for element in lib.elements(structure) {
-        first = note_refused(alloc, chosen, element, first)?;
-    }
-    Ok(first)
-}
-
-/// The least offset of a refused element of a structure, where it is marked.
-fn refused_where(
-    alloc: Global,
-    lib: &Library<'_>,
-    chosen: Layer,
-    structure: u32,
-    marked: bool,
-) -> Result<Option<usize>, AllocError>
-    requires { structure < length lib.now.structures }
-    ensures { IfOk result (λ first. IsLeastOf (λ k e. (marked ≡ true) × Among structure (elements_at lib.now structure) (IsRefused chosen) k e) first) }
-{
-    if !marked {
-        return Ok(None);
-    }
-    refused_in(alloc, lib, chosen, structure)
-}
-
-/// The least offset of a refused element of the marked structures.
-pub(crate) fn refused(
-    alloc: Global,
-    lib: &Library<'_>,
-    chosen: Layer,
-    marks: &[bool],
-) -> Result<Option<usize>, AllocError>
-    requires { length marks.now ≡ length lib.now.structures }
-    ensures { IfOk result (λ first. IsLeastOf (AmongMarked lib.now marks.now (length marks.now) (IsRefused chosen)) first) }
-{
-    let mut first = None;
-    for structure in 0..lib.count() {
-        let found = refused_where(alloc, lib, chosen, structure, marks[structure as usize])?;
-        first = earlier(first, found);
-    }
-    Ok(first)
+    Ok(fault_of(alloc, chosen, element)?.is_some())
 }
 
 /// What an element is refused for, if it stands at this offset and is refused.
