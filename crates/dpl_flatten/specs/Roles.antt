@@ -1,5 +1,5 @@
 -- What an element is for a layer.
-use Rattle.std.specs.Prelude.{◌≡◌, ◌↔◌, ◌/◌, ℕ, pos, List, [], ◌∷◌, map, length, Option, Some, None, unwrap_or, if◌then◌else◌}
+use Rattle.std.specs.Prelude.{◌≡◌, ◌/◌, ℕ, pos, List, [], ◌∷◌, map, length, unwrap_or, if◌then◌else◌}
 use Rattle.std.specs.Option.{option_map}
 use Rattle.dpl_spec_split.specs.declared.Pt.{Pt}
 use Rattle.dpl_spec_elements.specs.Paths.{PathElement, path_of, path_rects, corners_of, same}

@@ -1,4 +1,3 @@
-use Rattle.std.proofs.lemmas.Result.{IfOk-weaker}
 use Rattle.dpl_flatten.proofs.first.is_wanted.Goals as goal
 
 pub is_recursive-requires-clause-links : goal.is_recursive-requires-clause-links
