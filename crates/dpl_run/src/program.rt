@@ -132,8 +132,7 @@ fn made_up<'a, R: Threads + Wait + Sync, H: Host, G: Gate + Sync>(
     ensures same { H.told host.new ≡ H.told host.old }
     ensures others { H.write_faults host.new ≡ H.write_faults host.old }
 {
-    let output = demo_output(rt, alloc, options, gate)?;
-    Ok(output)
+    Ok(demo_output(rt, alloc, options, gate)?)
 }
 
 /// How the command line is written.
