@@ -1,5 +1,5 @@
 -- Pairs of numbers, in order.
-use Rattle.std.proofs.Common.{◌≡◌, ℕ, ◌<◌, ◌+◌, List, [], ◌∷◌, ◌++◌, length, get_or, map, inl, inr, zero, suc, sym, refl, ap, ◌∙◌, arith}
+use Rattle.std.proofs.Common.{◌≡◌, ℕ, ◌<◌, ◌+◌, List, [], ◌∷◌, ◌++◌, map, inl, inr, zero, suc, refl, ap, arith}
 use Rattle.std.specs.List.{All, AllPairs, Contains, flat_map, range_with_len}
 use Rattle.std.proofs.lemmas.List.Elements.{All-nil, All-append, All-head, All-map, All-tail, All-weaker}
 use Rattle.std.proofs.lemmas.List.FromFn.{get_or-range_with_len, length-range_with_len}

@@ -1,12 +1,12 @@
 -- The lists of a plan's conflicts are what the definitions ask for.
-use Rattle.std.proofs.Common.{rules, ◌≡◌, ◌≢◌, ℕ, ◌<◌, List, [], ◌∷◌, ◌++◌, length, get_or, map, Bool, true, false, inl, inr, zero, suc, sym, refl, ap, subst, ◌∙◌, arith}
+use Rattle.std.proofs.Common.{rules, ◌≡◌, ℕ, ◌<◌, List, [], ◌∷◌, length, get_or, map, Bool, true, inl, inr, zero, suc, refl, ap, subst, arith}
 use Rattle.std.specs.Prelude.{◌==◌, ◌&&◌, ◌||◌, ◌⊎◌, ◌↔◌, not, nat_lt, slice_index, slice_index_or, slice_get, Option, Some, None, IfSome}
-use Rattle.std.specs.List.{All, AllPairs, Any, Contains, filter, list_any}
+use Rattle.std.specs.List.{Any, Contains, filter, list_any}
 use Rattle.std.proofs.lemmas.Bool.{and_parts, and_from, or_cases, or_left, or_right, ltb-true, lt-ltb, eqb-false, ne_eqb, not-true}
 use Rattle.std.proofs.lemmas.List.Elements.{All-map, All-weaker, filter_passes}
 use Rattle.std.proofs.lemmas.List.Kept.{AllPairs-filter}
 use Rattle.dpl_spec_split.specs.declared.Rect.{Rect}
-use Rattle.dpl_spec_split.specs.Squares.{AreNear, Covers}
+use Rattle.dpl_spec_split.specs.Squares.{AreNear}
 use Rattle.dpl_spec_split.specs.Zones.{part_at}
 use Rattle.dpl_spec_split.specs.Pieces.{Conflict}
 use Rattle.dpl_spec_split.specs.Graphs.{AreEdges, Precedes, graph_of}
