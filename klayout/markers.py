@@ -19,6 +19,7 @@ Coordinates are micrometres by the UNITS of IN. Nothing but Python 3 is needed.
 """
 import argparse
 import bisect
+import itertools
 import math
 import os
 import re
@@ -349,6 +350,16 @@ class Certificate:
         except OSError as error:
             raise Problem("%s: %s" % (path, error.strerror)) from None
         self.letters = bytearray()
+        self.kind, self.fault, self.rule, self.overlap, self.pieces, self.count = "", None, 0, 0, 0, 0
+
+    def __enter__(self):
+        return self
+
+    def __exit__(self, *_):
+        self.file.close()
+
+    def head(self):
+        """Reads the first lines, which tell of what kind it is."""
         self.take("dpl 1")
         words = self.line()
         if words[:1] == [b"fault"] and len(words) == 3:
@@ -608,15 +619,11 @@ def fault_mark(library, name, at, pen, cell):
     return "fault", structure or cell, values
 
 
-def line_mark(path, number, pen, cell):
+def line_mark(certificate, number, pen, cell):
     """A certificate that is refused at a line."""
-    text = "the text ends there"
-    with open(path, "rb") as file:
-        for n, line in enumerate(file, 1):
-            if n == number:
-                text = line.decode("utf-8", "replace").rstrip("\n")
-                break
-    return "fault", cell, [pen.text("line %d of %s is none of a certificate" % (number, path)), pen.text(text)]
+    line = next(itertools.islice(certificate.file, number - 1, number), None) if number > 0 else None
+    text = "the text ends there" if line is None else text_of(line.rstrip(b"\n"))
+    return "fault", cell, [pen.text("line %d of %s is none of a certificate" % (number, certificate.path)), pen.text(text)]
 
 
 # ---- the database --------------------------------------------------------------------------------
@@ -671,10 +678,10 @@ def top_of(library, name, refused):
 def plan(source, certificate, said, masks, top):
     """What is to be written: the categories, the cells and the marks."""
     library = Library(source)
-    text = None if said.file else Certificate(certificate)
     fault = (said.name, said.numbers[0]) if said.file else None
-    if text and text.kind == "fault" and not said.broken():
-        fault = text.fault
+    if not said.file:
+        certificate.head()
+        fault = None if said.broken() else certificate.fault
     cell = top_of(library, top, fault is not None)
     pen = Pen(library.unit or 0.001)
     if said.file == "cert":
@@ -686,30 +693,32 @@ def plan(source, certificate, said, masks, top):
         library = Library(masks) if said.file == "out" else library
         mark = fault_mark(library, fault[0], fault[1], Pen(library.unit or 0.001), top_of(library, None, True))
         return ["fault"], [mark[1]], [mark]
-    return listed(text, said, pen, cell)
+    return listed(certificate, said, pen, cell)
 
 
-def listed(text, said, pen, cell):
+def listed(certificate, said, pen, cell):
     """The marks of a certificate that isn't of a fault, or of one with a broken property."""
     categories = ["broken"] if said.broken() else []
     first = broken_marks(said, pen, cell) if said.broken() else []
-    if text.kind == "fault":
+    if certificate.kind == "fault":
         return categories, [cell], first
-    own = masks_marks if text.kind == "masks" else conflict_marks
-    categories.append("stitches" if text.kind == "masks" else "cycle")
-    return categories, [cell], (mark for marks in (first, own(text, said, pen, cell)) for mark in marks)
+    own = masks_marks if certificate.kind == "masks" else conflict_marks
+    categories.append("stitches" if certificate.kind == "masks" else "cycle")
+    return categories, [cell], itertools.chain(first, own(certificate, said, pen, cell))
 
 
 def build(source, certificate, database, line=None, masks=None, top=None):
     """Makes the marker database of a layout and a certificate; what was said may add to it."""
     said = Said(line if line is not None else "done")
-    categories, cells, marks = plan(source, certificate, said, masks, top)
     about = {"description": "dpl: " + (line or certificate).strip(), "original-file": source,
-             "generator": "dpl markers.py", "top-cell": cells[0]}
+             "generator": "dpl markers.py"}
     part = database + ".part"
     try:
-        with open(part, "w", encoding="utf-8") as file:
-            write(file, about, categories, cells, marks)
+        with Certificate(certificate) as text:
+            categories, cells, marks = plan(source, text, said, masks, top)
+            about["top-cell"] = cells[0]
+            with open(part, "w", encoding="utf-8") as file:
+                write(file, about, categories, cells, marks)
         os.replace(part, database)
     except OSError as error:
         raise Problem("%s: %s" % (database, error.strerror)) from None
