@@ -19,6 +19,7 @@ Coordinates are micrometres by the UNITS of IN. Nothing but Python 3 is needed.
 """
 import argparse
 import bisect
+import functools
 import itertools
 import math
 import os
@@ -361,15 +362,16 @@ class Certificate:
     def head(self):
         """Reads the first lines, which tell of what kind it is."""
         self.take("dpl 1")
-        words = self.line()
-        if words[:1] == [b"fault"] and len(words) == 3:
-            self.kind, self.fault = "fault", (text_of(words[1]), self.whole(words[2]))
+        line = self.line()
+        fault = re.fullmatch(rb"fault ([A-Za-z]+) ([0-9]+)\n", line)
+        if fault:
+            self.kind, self.fault = "fault", (text_of(fault[1]), int(fault[2]))
             return
-        self.rule, self.overlap = self.match(words, "rule # overlap #")
-        words = self.line()
-        self.kind = "masks" if len(words) == 8 else "conflict"
-        pattern = "features # pieces # zones #" + (" stitches #" if self.kind == "masks" else "")
-        counts = self.match(words, pattern)
+        self.rule, self.overlap = self.match("rule # overlap #", line) or self.fail()
+        line = self.line()
+        counts = self.match("features # pieces # zones # stitches #", line)
+        self.kind = "masks" if counts else "conflict"
+        counts = counts or self.match("features # pieces # zones #", line) or self.fail()
         self.pieces = counts[1]
         self.count = counts[3] if self.kind == "masks" else self.take("cycle #")[0]
 
@@ -377,40 +379,29 @@ class Certificate:
         raise Problem("%s: line %d is not one that a certificate has there" % (self.path, self.at))
 
     def line(self):
-        """The words of the next line."""
-        line = self.file.readline()
         self.at += 1
-        if not line.endswith(b"\n"):
-            self.fail()
-        return line[:-1].split(b" ")
+        return self.file.readline()
 
-    def whole(self, word):
-        try:
-            return int(word)
-        except ValueError:
-            self.fail()
-
-    def match(self, words, pattern):
-        """The numbers of a line, which stand where the pattern has #."""
-        wanted = pattern.split(" ")
-        if len(words) != len(wanted):
-            self.fail()
-        for word, want in zip(words, wanted):
-            if want != "#" and word != want.encode():
-                self.fail()
-        return [self.whole(word) for word, want in zip(words, wanted) if want == "#"]
+    @staticmethod
+    def match(pattern, line):
+        """The numbers of a line that stand where the pattern has #, or None."""
+        found = pattern_of(pattern).fullmatch(line)
+        return [int(number) for number in found.groups()] if found else None
 
     def take(self, pattern):
-        return self.match(self.line(), pattern)
+        """The numbers of the next line, which must be of the pattern."""
+        numbers = self.match(pattern, self.line())
+        return self.fail() if numbers is None else numbers
 
-    def piece_lines(self):
-        """The number and least square of each piece of masks; its letter is kept."""
+    def piece_lines(self, wanted):
+        """Reads the pieces of masks and keeps their letters; the square of one of them, or None."""
+        square, form = None, re.compile(rb"piece [0-9]+ ([AB]) (-?[0-9]+) (-?[0-9]+)\n")
         for n in range(self.pieces):
-            words = self.line()
-            if len(words) != 5 or words[0] != b"piece" or words[2] not in (b"A", b"B"):
-                self.fail()
-            self.letters += words[2]
-            yield n, words[3], words[4]
+            found = form.fullmatch(self.line()) or self.fail()
+            self.letters += found[1]
+            if n == wanted:
+                square = int(found[2]), int(found[3])
+        return square
 
     def stitch_lines(self):
         """Each stitch of masks: its rectangle and the pieces on its sides."""
@@ -427,6 +418,11 @@ class Certificate:
         nears = [self.take("near # # # #") for _ in range(self.count)]
         self.take("end")
         return pieces, nears
+
+
+@functools.lru_cache(maxsize=None)
+def pattern_of(text):
+    return re.compile(text.replace("#", "(-?[0-9]+)").encode() + b"\n")
 
 
 def text_of(word):
@@ -532,11 +528,10 @@ def between(a, b):
 def masks_marks(certificate, said, pen, cell):
     """The stitches of masks, and the piece or the stitch of a broken property."""
     broken = said.broken_at("Piece", certificate.pieces)
-    for n, x, y in certificate.piece_lines():
-        if n == broken:
-            text = "piece %d, listed on mask %s" % (n, certificate.letter(n))
-            square = certificate.whole(x), certificate.whole(y)
-            yield "broken", cell, [pen.text(PROPERTIES["Piece"]), pen.text(text), pen.square(*square)]
+    square = certificate.piece_lines(broken)
+    if square:
+        text = "piece %d, listed on mask %s" % (broken, certificate.letter(broken))
+        yield "broken", cell, [pen.text(PROPERTIES["Piece"]), pen.text(text), pen.square(*square)]
     broken = said.broken_at("Stitch", certificate.count)
     for n, (x0, y0, x1, y1, p, q) in enumerate(certificate.stitch_lines()):
         text = "stitch %d between piece %d (%s) and piece %d (%s)" % (
