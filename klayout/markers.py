@@ -584,7 +584,7 @@ def element_values(element, name, library, pen):
     if element.kind in (SREF, AREF):
         box = library.bounds(element.name)
         shapes = [pen.polygon(copy) for copy in copies(element, box)] if box else []
-        return shapes + [pen.spot(*point) for point in points]
+        return shapes + [pen.spot(*point) for point in (points[:1] if box else points)]
     if element.kind in (BOUNDARY, BOX) and points[1:] and points[0] == points[-1]:
         points = points[:-1]
     slanted = [pen.edge(a, b) for a, b in zip(element.points, element.points[1:])
