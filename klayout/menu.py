@@ -6,12 +6,14 @@ the element for which the layer is refused (markers.py).
 """
 import importlib.util
 import os
+import re
 import shlex
 import shutil
 import subprocess
 import tempfile
 import time
 from fractions import Fraction
+from xml.sax.saxutils import escape
 
 import pya
 
@@ -160,22 +162,27 @@ class Form(pya.QDialog):
         except (Problem, ValueError) as problem:
             self.hint.text = str(problem)
             return
-        for name, field in (("rule", self.rule), ("overlap", self.overlap), ("more", self.more)):
-            setting(name, field.text)
+        for name, text in (("layer", self.layers.currentText), ("rule", self.rule.text),
+                           ("overlap", self.overlap.text), ("more", self.more.text)):
+            setting(name, text)
         self.values = self.layers.currentIndex, rule, overlap, more
         self.accept()
 
 
 def layers_of(view, cellview):
-    """The layers of a layout, their names, and which of them is current in the panel."""
+    """The layers of a layout, their names, and which is current in the panel or else was split last."""
     layout = cellview.layout()
     indices = sorted(layout.layer_indexes(), key=lambda i: layout.get_info(i).to_s())
     if not indices:
         raise Problem("The layout has no layer.")
+    names = [layout.get_info(i).to_s() for i in indices]
+    place = names.index(setting("layer")) if setting("layer") in names else 0
     current = view.current_layer
-    chosen = None if current.is_null() or current.at_end() else current.current().layer_index()
-    same = chosen in indices and current.current().cellview() == cellview.index()
-    return indices, [layout.get_info(i).to_s() for i in indices], indices.index(chosen) if same else 0
+    if not current.is_null() and not current.at_end():
+        entry = current.current()
+        if entry.cellview() == cellview.index() and entry.layer_index() in indices:
+            place = indices.index(entry.layer_index())
+    return indices, names, place
 
 
 # ---- files and views -----------------------------------------------------------------------------
@@ -241,8 +248,8 @@ def show_masks(view, path, layer, more, folder):
     with open(os.path.join(HERE, "dpl.lyp"), encoding="utf-8") as file:
         text = file.read()
     for letter, number in (("a", "101"), ("b", "102")):
-        text = text.replace("%s/0@2" % number, "%s/0@%d" % (option(more, "--" + letter, number), index + 1))
-    text = text.replace("<name>mask", "<name>%s mask" % layer)
+        text = text.replace("%s/0@2" % number, "%d/0@%d" % (int(option(more, "--" + letter, number)), index + 1))
+    text = text.replace("<name>mask", "<name>%s mask" % escape(layer))
     colours = os.path.join(folder, "dpl.lyp")
     with open(colours, "w", encoding="utf-8") as file:
         file.write(text)
@@ -275,7 +282,7 @@ def split(view, cellview, tool, values, layers):
     """Splits a layer and shows what came of it; the text that is to be said."""
     index, rule, overlap, more = values
     folder = tempfile.mkdtemp(prefix=PREFIX)
-    name = layers[1][index].replace("/", "-").replace(" ", "_")
+    name = re.sub(r"[^\w.-]+", "-", layers[1][index])
     source, masks, certificate, database = (
         os.path.join(folder, n % name) for n in ("layer-%s.gds", "masks-%s.gds", "masks-%s.cert", "masks-%s.lyrdb"))
     number = save_layer(cellview, layers[0][index], source)

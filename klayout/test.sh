@@ -22,3 +22,11 @@ done
     exit 1
 }
 klayout -b -rd dpl="$dpl" -rd files="${1:-}" -r "$here/test_views.py"
+
+# The menu entry, in a window that no screen shows, with settings of its own.
+home=$(mktemp -d)
+trap 'rm -rf "$home"' EXIT
+mkdir "$home/programs" "$home/temporary"
+ln -s "$(realpath "$dpl")" "$home/programs/dpl"
+HOME=$home TMPDIR=$home/temporary PATH=$home/programs:$PATH DPL_EXAMPLES=$here/../examples QT_QPA_PLATFORM=offscreen \
+    timeout -s KILL 300 klayout -z -rm "$here/dpl.lym" -rm "$here/test_menu.py" </dev/null
