@@ -48,8 +48,8 @@ MOST_COPIES = 1000
 CATEGORIES = {
     "stitches": "Stitches: rectangles that are on both masks, between two pieces of a feature",
     "cycle": "An odd cycle of conflicts: each piece must be on another mask than the next, the last than the first",
-    "broken": "A property of the masks, or of a conflict, that is broken",
-    "fault": "A fault for which a file is refused",
+    "broken": "{0}: {1}",
+    "fault": "{0}: {1}",
 }
 
 SYNTAX = ("the file was cut, is compressed (gunzip it), isn't GDSII, "
@@ -91,9 +91,9 @@ NOWHERE = {"TooLarge", "NoTop", "ManyTops", "TooManyPoints"}
 
 # What each property of `dpl check` says where it is broken.
 PROPERTIES = {
-    "Rules": "the certificate was made with another rule or overlap: {}",
-    "WasFault": "the certificate tells of a fault that the layout hasn't: {}",
-    "Counts": "the layer has another number of features, pieces and zones: {}",
+    "Rules": "the certificate was made with another rule or overlap",
+    "WasFault": "the certificate tells of a fault that the layout hasn't",
+    "Counts": "the layer has another number of features, pieces and zones",
     "Cover": "a square is in just one of the layer and both masks together",
     "Overlap": "a square is on both masks and in no listed stitch",
     "SpacingA": "two features on mask A are closer than the rule",
@@ -531,7 +531,7 @@ def masks_marks(certificate, said, pen, cell):
     square = certificate.piece_lines(broken)
     if square:
         text = "piece %d, listed on mask %s" % (broken, certificate.letter(broken))
-        yield "broken", cell, [pen.text(PROPERTIES["Piece"]), pen.text(text), pen.square(*square)]
+        yield "broken", cell, [pen.text(text), pen.square(*square)]
     broken = said.broken_at("Stitch", certificate.count)
     for n, (x0, y0, x1, y1, p, q) in enumerate(certificate.stitch_lines()):
         text = "stitch %d between piece %d (%s) and piece %d (%s)" % (
@@ -539,7 +539,7 @@ def masks_marks(certificate, said, pen, cell):
         values = [pen.text(text), pen.box(x0, y0, x1, y1)]
         yield "stitches", cell, values
         if n == broken:
-            yield "broken", cell, [pen.text(PROPERTIES["Stitch"])] + values
+            yield "broken", cell, values
 
 
 def conflict_marks(certificate, said, pen, cell):
@@ -563,13 +563,12 @@ def conflict_marks(certificate, said, pen, cell):
         pair = [pen.edge(*lines[i]), pen.square(*near[:2]), pen.square(*near[2:])]
         yield "cycle", cell, [pen.text(text)] + pair
         if i == broken:
-            yield "broken", cell, [pen.text(PROPERTIES["Cycle"])] + values + pair
+            yield "broken", cell, values + pair
 
 
 def broken_marks(said, pen, cell):
     """A broken property that tells its squares, or has none."""
-    text = PROPERTIES.get(said.name, "{}").format(said.line.split(" ", 2)[2])
-    values, squares = [pen.text(said.line), pen.text(text)], list(zip(*[iter(said.numbers)] * 2))
+    values, squares = [pen.text(said.line)], list(zip(*[iter(said.numbers)] * 2))
     if said.name in ("Cover", "Overlap", "SpacingA", "SpacingB"):
         values += [pen.square(*square) for square in squares]
     if len(squares) == 2:
@@ -598,20 +597,19 @@ def element_values(element, name, library, pen):
 
 def fault_mark(library, name, at, pen, cell):
     """A fault of a layout: the element that it lies in, or else words alone."""
-    values = [pen.text("%s: %s" % (name, ADVICE.get(name, "unknown")))]
+    values = [pen.text("refused %s %d" % (name, at))]
     if name == "ManyTops":
-        values.append(pen.text("the structures that no other one refers to: " + ", ".join(library.tops())))
-    structure, element = (None, None) if name in NOWHERE else library.find(at)
-    if element:
-        what = BODIES[element.kind] + (" to " + element.name if element.name else "")
-        layer = "" if element.layer is None else " on layer %d" % element.layer
-        values.append(pen.text("%s%s, at offset %d of %s" % (what, layer, element.at, library.path)))
-        values += element_values(element, name, library, pen)
-    elif structure:
-        values.append(pen.text("in structure %s, at offset %d of %s" % (structure, at, library.path)))
-    elif name not in NOWHERE:
-        values.append(pen.text("at offset %d of %s" % (at, library.path)))
-    return "fault", structure or cell, values
+        values.append(pen.text("no other one refers to " + ", ".join(library.tops())))
+    if name in NOWHERE:
+        return "fault", cell, values
+    structure, element = library.find(at)
+    if element is None:
+        values.append(pen.text("in structure " + structure if structure else "outside of all structures"))
+        return "fault", structure or cell, values
+    what = BODIES[element.kind] + (" to " + element.name if element.name else "")
+    layer = "" if element.layer is None else " on layer %d" % element.layer
+    values.append(pen.text("%s%s, at offset %d" % (what, layer, element.at)))
+    return "fault", structure, values + element_values(element, name, library, pen)
 
 
 def line_mark(certificate, number, pen, cell):
@@ -639,9 +637,9 @@ def write(file, about, categories, cells, marks):
     for key in ("description", "original-file", "generator", "top-cell"):
         put(" <%s>%s</%s>\n" % (key, fit(about[key]), key))
     put(" <tags/>\n <categories>\n")
-    for name in categories:
+    for name, description in categories.items():
         put("  <category>\n   <name>%s</name>\n   <description>%s</description>\n   <categories/>\n"
-            "  </category>\n" % (name, fit(CATEGORIES[name])))
+            "  </category>\n" % (name, fit(description)))
     put(" </categories>\n <cells>\n")
     for name in cells:
         put("  <cell>\n   <name>%s</name>\n   <variant/>\n   <references/>\n  </cell>\n" % fit(name))
@@ -679,26 +677,31 @@ def plan(source, certificate, said, masks, top):
         fault = None if said.broken() else certificate.fault
     cell = top_of(library, top, fault is not None)
     pen = Pen(library.unit or 0.001)
+    if not fault:
+        return listed(certificate, said, pen, cell)
+    description = CATEGORIES["fault"].format(fault[0], ADVICE.get(fault[0], "the certificate is none"))
     if said.file == "cert":
-        return ["fault"], [cell], [line_mark(certificate, fault[1], pen, cell)]
-    if said.file == "out" and masks is None:
+        mark = line_mark(certificate, fault[1], pen, cell)
+    elif said.file == "out" and masks is None:
         words = "it lies in the file of masks: give that with --masks to see it drawn"
-        return ["fault"], [cell], [("fault", cell, [pen.text("%s %d" % fault), pen.text(words)])]
-    if fault:
+        mark = "fault", cell, [pen.text("%s %d" % fault), pen.text(words)]
+    else:
         library = Library(masks) if said.file == "out" else library
         mark = fault_mark(library, fault[0], fault[1], Pen(library.unit or 0.001), top_of(library, None, True))
-        return ["fault"], [mark[1]], [mark]
-    return listed(certificate, said, pen, cell)
+    return {"fault": description}, [mark[1]], [mark]
 
 
 def listed(certificate, said, pen, cell):
     """The marks of a certificate that isn't of a fault, or of one with a broken property."""
-    categories = ["broken"] if said.broken() else []
-    first = broken_marks(said, pen, cell) if said.broken() else []
+    categories, first = {}, []
+    if said.broken():
+        categories["broken"] = CATEGORIES["broken"].format(said.line, PROPERTIES[said.name])
+        first = broken_marks(said, pen, cell)
     if certificate.kind == "fault":
         return categories, [cell], first
     own = masks_marks if certificate.kind == "masks" else conflict_marks
-    categories.append("stitches" if certificate.kind == "masks" else "cycle")
+    name = "stitches" if certificate.kind == "masks" else "cycle"
+    categories[name] = CATEGORIES[name]
     return categories, [cell], itertools.chain(first, own(certificate, said, pen, cell))
 
 

@@ -131,7 +131,7 @@ class Markers(unittest.TestCase):
                                            "edge: (0.0005,0.02;0.0005,0.049)"]),
                 ("no Rules 40 10", []), ("no Counts 3 4 2", []), ("no WasFault Truncated 12", [])):
             items = self.build(library(TOP=[]), STITCH, line)
-            self.assertEqual([items[0][0], items[0][2][0], items[0][2][2:]], ["broken", "text: '%s'" % line, values])
+            self.assertEqual([items[0][0], items[0][2][0], items[0][2][1:]], ["broken", "text: '%s'" % line, values])
             self.assertEqual(len(items), 3)
 
     def test_a_broken_stitch_piece_or_place_of_a_cycle_is_found_in_the_certificate(self):

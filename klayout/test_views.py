@@ -206,8 +206,9 @@ def test_broken(folder):
     (value,) = split.values(item)
     assert value.box() == pya.DBox(0.5, -0.06, 0.501, -0.059), value
     texts = [value.string() for value in item.each_value() if value.is_string()]
-    assert texts[0] == line and len(split.items("stitches")) == 1
-    print("%s: %s" % (line, texts[1]))
+    assert texts == [line] and len(split.items("stitches")) == 1
+    assert "in just one of the layer" in split.base.category_by_path("broken").description
+    print(line)
 
 
 def test_names(folder):
@@ -217,7 +218,7 @@ def test_names(folder):
     about = {"description": name, "original-file": name, "generator": name, "top-cell": name}
     path = os.path.join(folder, "names.lyrdb")
     with open(path, "w", encoding="utf-8") as file:
-        markers.write(file, about, ["stitches"], [name], [mark])
+        markers.write(file, about, {"stitches": name}, [name], [mark])
     base = read_back(path)
     item = next(base.each_item())
     assert base.cell_by_id(item.cell_id()).qname() == base.top_cell_name == base.description == name
