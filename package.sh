@@ -27,7 +27,8 @@ ldd "$program" | grep '=>' | grep -v '=> /\(usr/\)\?lib' && fail "$program needs
 
 # The crates of the kit that are linked in: those that crates.txt names, and those below them.
 linked="clap crossbeam_deque crossbeam_queue crossbeam_utils indexmap memchr smallvec strsim thiserror unicode"
-for crate in $(sed 's/.*://' "$top/crates.txt"); do
+named=$(sed 's/.*://' "$top/crates.txt")
+for crate in $named; do
     ls "$kit/$crate/LICENSE"* >/dev/null 2>&1 || continue
     case " $linked " in *" $crate "*) ;; *) fail "the licence of $crate is not among those that are packed" ;; esac
 done
@@ -84,13 +85,16 @@ root=$work/root
 mkdir -p "$root/DEBIAN" "$root/usr/lib/klayout/pymacros"
 cp -a "$work/$name/." "$root/usr"
 gzip -9n "$root/usr/share/man/man1/dpl.1"
+maintainer=$(git -C "$top" log -1 --format='%an <%ae>' 2>/dev/null || echo "dpl <root@localhost>")
+printf 'dpl (%s) unstable; urgency=low\n\n  * Packaged from its sources.\n\n -- %s  %s\n' \
+    "$version" "$maintainer" "$(date -uR -d "@$SOURCE_DATE_EPOCH")" | gzip -9n >"$root/usr/share/doc/dpl/changelog.gz"
 ln -s ../../../share/dpl/klayout/dpl.lym "$root/usr/lib/klayout/pymacros/dpl.lym"
 libc=$(grep -ao 'GLIBC_[0-9.]*[0-9]' "$program" | sed 's/GLIBC_//' | sort -uV | tail -1)
 cat >"$root/DEBIAN/control" <<CONTROL
 Package: dpl
 Version: $version
 Architecture: $(dpkg --print-architecture)
-Maintainer: $(git -C "$top" log -1 --format='%an <%ae>' 2>/dev/null || echo "dpl <root@localhost>")
+Maintainer: $maintainer
 Installed-Size: $(du -sk "$root/usr" | cut -f1)
 Depends: libc6 (>= ${libc:-2.34})
 Recommends: python3
