@@ -65,7 +65,7 @@ cp "$top"/docs/*.md "$top"/docs/*.svg "$top"/docs/*.png "$tree/share/doc/dpl/doc
 } >"$tree/share/doc/dpl/copyright"
 find "$tree" -type d -exec chmod 755 {} +
 find "$tree" -type f -exec chmod 644 {} +
-chmod 755 "$tree/bin/dpl" "$tree/share/dpl/klayout/markers.py"
+chmod 755 "$tree/bin/dpl" "$tree/share/dpl/klayout/markers.py" "$tree/share/dpl/examples/cluster/"*.s*
 
 # The program must split an example before it is packed.
 said=$("$tree/bin/dpl" split --layer 1 --rule 30 --overlap 10 "$top/examples/two-bars.gds" "$work/out" "$work/cert")
@@ -89,14 +89,21 @@ maintainer=$(git -C "$top" log -1 --format='%an <%ae>' 2>/dev/null || echo "dpl 
 printf 'dpl (%s) unstable; urgency=low\n\n  * Packaged from its sources.\n\n -- %s  %s\n' \
     "$version" "$maintainer" "$(date -uR -d "@$SOURCE_DATE_EPOCH")" | gzip -9n >"$root/usr/share/doc/dpl/changelog.gz"
 ln -s ../../../share/dpl/klayout/dpl.lym "$root/usr/lib/klayout/pymacros/dpl.lym"
+# The C library of the version that the program asks for, and the packages of its other libraries.
 libc=$(grep -ao 'GLIBC_[0-9.]*[0-9]' "$program" | sed 's/GLIBC_//' | sort -uV | tail -1)
+depends="libc6 (>= ${libc:-2.34})"
+for library in $(ldd "$program" | sed -n 's/.*=> \([^ ]*\) .*/\1/p'); do
+    package=$(dpkg -S "$library" 2>/dev/null || dpkg -S "/usr$library") || fail "no package has $library"
+    package=${package%%:*}
+    case $depends in *"$package"*) ;; *) depends="$depends, $package" ;; esac
+done
 cat >"$root/DEBIAN/control" <<CONTROL
 Package: dpl
 Version: $version
 Architecture: $(dpkg --print-architecture)
 Maintainer: $maintainer
 Installed-Size: $(du -sk "$root/usr" | cut -f1)
-Depends: libc6 (>= ${libc:-2.34})
+Depends: $depends
 Recommends: python3
 Suggests: klayout
 Section: electronics
