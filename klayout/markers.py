@@ -229,15 +229,18 @@ class Library:
         self.starts, self.names, self.referred = [], [], set()
         self.look_through()
 
-    def records(self, at):
-        """The records from an offset on: offset, type and body of each, up to one that isn't sound."""
+    def records(self, at, past=0):
+        """The records from an offset on: offset, type and body of each, up to one that isn't sound.
+        Plain boundaries that end before `past` are left out."""
         data, end = self.data, len(self.data)
         while at + 4 <= end:
             length, kind = data[at] << 8 | data[at + 1], data[at + 2]
             if length < 4 or length & 1 or at + length > end:
                 return
-            yield at, kind, data[at + 4:at + length]
-            at += length
+            plain = PLAIN.match(data, at, past).end() if kind == BOUNDARY and at < past else at
+            if plain == at:
+                yield at, kind, data[at + 4:at + length]
+            at = max(plain, at + length)
 
     def look_through(self):
         """Finds the unit, where each structure begins, and the names that references give."""
@@ -264,10 +267,10 @@ class Library:
         """The structures that no reference names."""
         return [name for name in self.names if name not in self.referred]
 
-    def elements(self, start):
+    def elements(self, start, past=0):
         """The elements of the structure that begins at this offset; the last may lack its end."""
         element = None
-        for at, kind, body in self.records(start):
+        for at, kind, body in self.records(start, past):
             if kind == ENDSTR or kind == ENDLIB or (kind == BGNSTR and at > start):
                 break
             if kind in BODIES:
@@ -288,7 +291,7 @@ class Library:
         place = bisect.bisect_right(self.starts, at) - 1
         if place < 0:
             return None, None
-        for element in self.elements(self.starts[place]):
+        for element in self.elements(self.starts[place], at):
             if element.at <= at < element.end:
                 return self.names[place], element
         return self.names[place], None

@@ -8,11 +8,6 @@
 # $DPL, or the one that was built in this checkout, or the one on the PATH.
 set -eu
 here=$(cd "$(dirname "$0")" && pwd)
-python3 "$here/test_markers.py"
-command -v klayout >/dev/null 2>&1 || {
-    echo "klayout/test.sh: KLayout isn't installed, so what needs it was skipped"
-    exit 0
-}
 dpl=${DPL:-}
 for each in "$here/../crates/dpl/out/dpl" "$(command -v dpl || true)"; do
     [ -n "$dpl" ] || [ ! -x "$each" ] || dpl=$each
@@ -20,6 +15,11 @@ done
 [ -n "$dpl" ] || {
     echo "klayout/test.sh: no program dpl: build it (sh install.sh), or name it by DPL" >&2
     exit 1
+}
+DPL=$dpl python3 -B "$here/test_markers.py"
+command -v klayout >/dev/null 2>&1 || {
+    echo "klayout/test.sh: KLayout isn't installed, so what needs it was skipped"
+    exit 0
 }
 klayout -b -rd dpl="$dpl" -rd files="${1:-}" -r "$here/test_views.py"
 

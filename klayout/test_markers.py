@@ -2,6 +2,7 @@
 import os
 import re
 import struct
+import subprocess
 import tempfile
 import unittest
 import xml.etree.ElementTree as xml
@@ -107,6 +108,19 @@ class Markers(unittest.TestCase):
         self.assertEqual(items, [
             ("stitches", "TOP", ["text: 'stitch 0 between piece 0 (A) and piece 1 (B)'", "box: (0.097,0.18;0.107,0.2)"]),
             ("stitches", "TOP", ["text: 'stitch 1 between piece 2 (B) and piece 3 (A)'", "box: (-0.01,-0.02;-0.005,0)"])])
+
+    @unittest.skipUnless(os.environ.get("DPL"), "DPL doesn't name the program")
+    def test_the_examples_as_dpl_splits_them(self):
+        examples = os.path.join(os.path.dirname(os.path.abspath(__file__)), "../examples")
+        for name, wanted in (("two-bars", []), ("conflict", ["cycle"] * 7), ("stitch", ["stitches"])):
+            source = os.path.join(examples, name + ".gds")
+            masks, certificate = (os.path.join(self.folder, n) for n in ("masks", "certificate"))
+            line = subprocess.run([os.environ["DPL"], "split", "--layer", "1", "--rule", "30", "--overlap", "10", source,
+                                   masks, certificate], stdout=subprocess.PIPE, check=False).stdout.decode()
+            with open(source, "rb") as layout, open(certificate, encoding="utf-8") as text:
+                items = self.build(layout.read(), text.read(), line)
+            self.assertEqual([category for category, _, _ in items], wanted)
+        self.assertEqual(items[0][2], ["text: 'stitch 0 between piece 4 (B) and piece 6 (A)'", "box: (0.097,0.18;0.107,0.2)"])
 
     def test_a_cycle_is_a_closed_chain_and_then_its_pieces_and_near_pairs_in_order(self):
         items = self.build(library(TOP=[]), CYCLE)
