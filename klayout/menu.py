@@ -99,6 +99,7 @@ def call(words, layer):
     finally:
         if process.poll() is None:
             process.kill()
+            process.wait()
         progress._destroy()
     return process.returncode, process.communicate()[0].decode("utf-8", "replace").strip()
 
@@ -280,8 +281,16 @@ def markers_module():
 
 def split(view, cellview, tool, values, layers):
     """Splits a layer and shows what came of it; the text that is to be said."""
-    index, rule, overlap, more = values
     folder = tempfile.mkdtemp(prefix=PREFIX)
+    try:
+        return split_in(folder, view, cellview, tool, values, layers)
+    except Exception:
+        shutil.rmtree(folder, ignore_errors=True)
+        raise
+
+
+def split_in(folder, view, cellview, tool, values, layers):
+    index, rule, overlap, more = values
     name = re.sub(r"[^\w.-]+", "-", layers[1][index])
     source, masks, certificate, database = (
         os.path.join(folder, n % name) for n in ("layer-%s.gds", "masks-%s.gds", "masks-%s.cert", "masks-%s.lyrdb"))

@@ -139,8 +139,10 @@ def test_wrong_values_are_told_in_the_form():
 
 def test_options_that_dpl_does_not_take():
     example("stitch")
+    left = os.listdir(tempfile.gettempdir())
     (text,) = split(more="--colour red")
     assert "doesn't take these options" in text and "usage: dpl split" in text, text
+    assert left == os.listdir(tempfile.gettempdir())
 
 
 def test_no_program_and_no_layout():
