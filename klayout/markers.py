@@ -226,12 +226,14 @@ class Library:
         except OSError as error:
             raise Problem("%s: %s" % (path, error.strerror)) from None
         self.path, self.unit = path, None
-        self.starts, self.names, self.referred = [], [], set()
+        self.starts, self.names, self.place, self.referred = [], [], {}, set()
         self.look_through()
 
     def records(self, at, past=0):
         """The records from an offset on: offset, type and body of each, up to one that isn't sound.
-        Plain boundaries that end before `past` are left out."""
+
+        Plain boundaries that end before `past` are left out.
+        """
         data, end = self.data, len(self.data)
         while at + 4 <= end:
             length, kind = data[at] << 8 | data[at + 1], data[at + 2]
@@ -259,6 +261,7 @@ class Library:
                 self.names.append("")
             elif kind == STRNAME and self.names:
                 self.names[-1] = name_of(data[at + 4:at + length])
+                self.place.setdefault(self.names[-1], self.starts[-1])
             elif kind == UNITS and length == 20:
                 self.unit = float(real(data[at + 12:at + 20]) * 1000000)
             at += length
@@ -301,21 +304,19 @@ class Library:
         drawn, done, stack = {}, {}, [name]
         while stack:
             here = stack[-1]
-            waiting = []
-            if here not in drawn:
+            if here not in drawn:  # first what it places
                 drawn[here] = self.drawing(here)
-                waiting = [e.name for e in drawn[here][1] if e.name not in done]
-            if not waiting:
+                stack += dict.fromkeys(e.name for e in drawn[here][1] if e.name not in drawn)
+                continue
+            if here not in done:
                 points, references = drawn[here]
                 done[here] = around(points + [p for e in references for p in placed(e, done.get(e.name))])
-                stack.pop()
-            stack += waiting
+            stack.pop()
         return done[name]
 
     def drawing(self, name):
         """The corners of what a structure draws, and its references."""
-        start = dict(zip(reversed(self.names), reversed(self.starts))).get(name)
-        elements = [] if start is None else list(self.elements(start))
+        elements = list(self.elements(self.place[name])) if name in self.place else []
         references = [e for e in elements if e.kind in (SREF, AREF)]
         box = around([p for e in elements if e.kind not in (SREF, AREF) for p in e.outline()])
         return [box[:2], box[2:]] if box else [], references
@@ -366,7 +367,7 @@ class Certificate:
         """Reads the first lines, which tell of what kind it is."""
         self.take("dpl 1")
         line = self.line()
-        fault = re.fullmatch(rb"fault ([A-Za-z]+) ([0-9]+)\n", line)
+        fault = re.fullmatch(rb"fault ([A-Za-z]+) ([0-9]{1,20})\n", line)
         if fault:
             self.kind, self.fault = "fault", (text_of(fault[1]), int(fault[2]))
             return
@@ -398,7 +399,7 @@ class Certificate:
 
     def piece_lines(self, wanted):
         """Reads the pieces of masks and keeps their letters; the square of one of them, or None."""
-        square, form = None, re.compile(rb"piece [0-9]+ ([AB]) (-?[0-9]+) (-?[0-9]+)\n")
+        square, form = None, re.compile(rb"piece [0-9]+ ([AB]) (-?[0-9]{1,20}) (-?[0-9]{1,20})\n")
         for n in range(self.pieces):
             found = form.fullmatch(self.line()) or self.fail()
             self.letters += found[1]
@@ -425,7 +426,7 @@ class Certificate:
 
 @functools.lru_cache(maxsize=None)
 def pattern_of(text):
-    return re.compile(text.replace("#", "(-?[0-9]+)").encode() + b"\n")
+    return re.compile(text.replace("#", "(-?[0-9]{1,20})").encode() + b"\n")
 
 
 def text_of(word):
@@ -454,7 +455,7 @@ class Said:
         """Takes the name and the numbers; only the property WasFault has a name among its numbers."""
         self.name = words[1] if len(words) > 1 else ""
         digits = words[3:] if self.name == "WasFault" else words[2:]
-        if not all(re.fullmatch("-?[0-9]+", word) for word in digits):
+        if not all(re.fullmatch("-?[0-9]{1,20}", word) for word in digits):
             raise Problem("dpl says no such line: '%s'" % self.line)
         self.numbers = [int(word) for word in digits]
         counts = {"Rules": 2, "WasFault": 1, "Counts": 3, "Cover": 2, "Overlap": 2, "SpacingA": 4,

@@ -184,6 +184,13 @@ class Markers(unittest.TestCase):
         self.assertEqual(values[3], "polygon: (99.9,99.9;99.91,99.9;99.91,99.92;99.9,99.92)")
         self.assertEqual(len(values), 4 + 1)
 
+    def test_a_reference_over_a_deep_hierarchy_is_drawn(self):
+        cells = {"C%d" % i: [reference("C%d" % (i + 1), (1, 0)), reference("C%d" % (i + 1), (0, 0))] for i in range(3000)}
+        cells["C3000"] = [rectangle(0, 0, 10, 20)]
+        turned = reference("C0", (0, 0), 0, None, "422D000000000000")
+        values = self.fault(library(TOP=[turned], **cells), "AngleNotRight", turned)[1]
+        self.assertEqual(values[0].split(";")[2], "2.114249276,2.142533547")
+
     def test_a_fault_below_the_top_is_in_its_own_structure(self):
         slanted = boundary((0, 0), (9, 9), (0, 9), (0, 0))
         layout = library(SUB=[slanted], TOP=[reference("SUB", (0, 0))])
