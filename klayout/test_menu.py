@@ -173,6 +173,8 @@ def main():
     os._exit(1 if failed else 0)
 
 
+# the window isn't shown, so the end of a progress bar would be that of the last window
+pya.QGuiApplication.setQuitOnLastWindowClosed(False)
 closing = pya.QTimer()
 closing.timeout = close_dialog
 closing.start(100)
