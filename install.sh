@@ -8,57 +8,30 @@
 set -eu
 top=$(cd "$(dirname "$0")" && pwd)
 prefix=${1:-$HOME}
-command -v rt >/dev/null 2>&1 || {
-    echo "install.sh: the Rattle kit's command rt is not on the PATH" >&2
-    exit 1
-}
+for command in rt python3; do
+    command -v "$command" >/dev/null 2>&1 || {
+        echo "install.sh: the command $command is not on the PATH" >&2
+        exit 1
+    }
+done
 mkdir -p "$prefix/bin"
+bin=$(cd "$prefix/bin" && pwd)
 work=$(mktemp -d)
 trap 'rm -rf "$work"' EXIT
 
-# The crates that the program stands on, lowest first.
-crates=$(python3 - "$top/crates.txt" <<'PY'
-import sys
-needs = {}
-for line in open(sys.argv[1]):
-    name, _, rest = line.split("#")[0].partition(":")
-    if name.strip():
-        needs[name.split()[0]] = rest.split()
-order = []
-def visit(name):
-    if name in needs and name not in order:
-        for need in needs[name]:
-            visit(need)
-        order.append(name)
-visit("dpl")
-print(" ".join(order[:-1]))
-PY
-)
-total=$(($(echo "$crates" | wc -w) + 1))
-echo "proving and building dpl and the crates below it, with $(rt version)"
-echo "from nothing this takes a quarter of an hour or more"
-done=0
-for crate in $crates; do
-    (cd "$top/crates/$crate" && rt lib) >"$work/log" 2>&1 || {
-        cat "$work/log" >&2
-        echo "install.sh: $crate was not proved" >&2
-        exit 1
-    }
-    done=$((done + 1))
-    echo "  $done of $total: $crate"
-done
-# Without words the program prints its usage and ends with 3, once it is proved and built.
-rm -f "$top/crates/dpl/out/dpl"
-(cd "$top/crates/dpl" && rt run) >"$work/log" 2>&1 || true
-[ -x "$top/crates/dpl/out/dpl" ] || {
-    cat "$work/log" >&2
-    echo "install.sh: dpl was not built" >&2
+echo "dpl is proved crate by crate before it is built, with $(rt version)"
+python3 "$top/tools/prove.py" "$top" || {
+    echo "install.sh: nothing was installed" >&2
     exit 1
 }
-echo "  $total of $total: dpl"
-cp "$top/crates/dpl/out/dpl" "$prefix/bin/dpl"
-echo "installed $prefix/bin/dpl"
+cp "$top/crates/dpl/out/dpl" "$work/dpl"
+mv "$work/dpl" "$bin/dpl"
 
 echo "a first split: two bars 29 units apart, with a rule of 30"
-"$prefix/bin/dpl" split --layer 1 --rule 30 --overlap 10 "$top/examples/two-bars.gds" "$work/masks.gds" "$work/masks.cert"
+"$bin/dpl" split --layer 1 --rule 30 --overlap 10 "$top/examples/two-bars.gds" "$work/masks.gds" "$work/masks.cert"
 cat "$work/masks.cert"
+echo "dpl is installed: $bin/dpl"
+case ":$PATH:" in
+*":$bin:"*) ;;
+*) echo "to call it by its name, add its folder to the PATH: export PATH=\"$bin:\$PATH\"" ;;
+esac

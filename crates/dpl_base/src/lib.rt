@@ -1,10 +1,9 @@
-//! Points and rectangles, how far two rectangles lie apart, the least one round some, and lists of numbers and others.
+//! Points and rectangles, how far two rectangles lie apart, the least one round some, and rectangles transposed.
 #![tactic(auto)]
 
 mod bounds;
-mod listed;
-mod lists;
 mod loops;
+mod transposing;
 mod wide;
 
 ghost use Rattle.std.specs.Prelude.{◌≡◌, ◌+◌, ◌*◌, ◌^◌, ◌<◌, ◌≤◌, ◌<ℤ◌, ◌↔◌, IsTrue, IsNone, IfSome, unsigned_abs};
@@ -13,17 +12,11 @@ ghost use Rattle.dpl_spec_split.specs.Squares.{Has, IsSquaredDistance, IsSolidWi
 ghost use Rattle.dpl_base.specs.Spans.{IsSpanGap};
 
 pub use crate::bounds::round_one;
-pub use crate::listed::Listed;
-pub use crate::lists::{give_back, numbers_below};
 pub use crate::loops::Loop;
+pub use crate::transposing::{all_transposed, transpose_all, transposed};
 pub use crate::wide::WideRect;
+pub use dpl_list::{Edge, Id, Listed, give_back, numbers_below, short_id};
 pub use dpl_spec_split::{Pt, Rect, Zone};
-
-/// The number of a piece, a feature or a zone.
-pub type Id = u64;
-
-/// Two different numbers, the smaller first.
-pub type Edge = (Id, Id);
 
 /// How far from 0 a coordinate of a layer may lie, in database units.
 pub const FARTHEST: i64 = 1_000_000_000;

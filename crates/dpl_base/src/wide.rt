@@ -1,5 +1,6 @@
 //! Rectangles that may reach past all layers.
 ghost use Rattle.std.specs.Prelude.{◌≡◌};
+ghost use Rattle.dpl_spec_split.specs.Zones.{transposed_rect};
 
 use dpl_spec_split::Rect;
 use std::marker::Model;
@@ -40,6 +41,18 @@ impl WideRect {
             y0: r.y0 as i64,
             x1: r.x1 as i64,
             y1: r.y1 as i64,
+        }
+    }
+
+    /// The transposed squares.
+    pub fn transposed(&self) -> WideRect
+        ensures { result ≡ transposed_rect self.now }
+    {
+        WideRect {
+            x0: self.y0,
+            y0: self.x0,
+            x1: self.y1,
+            y1: self.x1,
         }
     }
 

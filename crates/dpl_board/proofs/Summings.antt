@@ -1,7 +1,7 @@
 -- Summaries of entries' edges, one after the other, put together.
-use Rattle.std.proofs.Common.{◌≡◌, ◌<◌, ◌≤◌, ◌+◌, ℕ, List, [], ◌∷◌, ◌++◌, length, get_or, set, take, drop, inl, inr, zero, suc, sym, refl, ap, ◌∙◌, append_assoc, append-nil, arith}
+use Rattle.std.proofs.Common.{◌≡◌, ◌<◌, ℕ, List, [], ◌∷◌, ◌++◌, length, inl, inr, sym, refl, ap, ◌∙◌, append_assoc, append-nil}
 use Rattle.std.proofs.lemmas.Bool.{cases_lt}
-use Rattle.std.proofs.lemmas.List.{get_or_past, map-append, set_at, take_at, drop_more, drop_all, take-append-drop, length-append, length-take-le}
+use Rattle.std.proofs.lemmas.List.{get_or_past}
 use Rattle.std.proofs.lemmas.List.Elements.{All-nil, All-append}
 use Rattle.std.proofs.lemmas.Grind.{flat_map-append}
 use Rattle.dpl_stars.specs.declared.joined.Joined.{Joined}
@@ -13,8 +13,8 @@ use Rattle.dpl_board.specs.Summing.{AreSums, KeepsSums}
 -- the sums of two lists of entries, one after the other
 pub sums-append : (sheet : Sheet) (es fs : List Entry) (js ks : List Joined) → AreSums sheet es js → AreSums sheet fs ks → AreSums sheet (es ++ fs) (js ++ ks)
 sums-append sheet es fs [] ks none more = rw none more
-sums-append sheet es fs (j ∷ js) ks (front, rest, is, sums, others) more =
-    (front, rest ++ fs, ap (λ xs. xs ++ fs) is ∙ append_assoc front rest fs, sums, sums-append sheet rest fs js ks others more)
+sums-append sheet es fs (j ∷ js) ks (prefix, rest, is, sums, others) more =
+    (prefix, rest ++ fs, ap (λ xs. xs ++ fs) is ∙ append_assoc prefix rest fs, sums, sums-append sheet rest fs js ks others more)
 
 -- a sum by itself
 pub sum-alone : (sheet : Sheet) (es : List Entry) (j : Joined) → Sums (edges_of sheet es) j → AreSums sheet es (j ∷ [])
@@ -41,11 +41,11 @@ summed-more sheet es e js j old sums = sums-append sheet es (e ∷ []) js (j ∷
 -- the sums of entries are those of their edges
 pub summed-edges : (sheet : Sheet) (es : List Entry) (js : List Joined) → IsSheet sheet → AreSums sheet es js → AreSummed (edges_of sheet es) js
 summed-edges sheet es [] pairs none = rw none refl
-summed-edges sheet es (j ∷ js) pairs (front, rest, is, sums, others) = (
-  edges_of sheet front,
+summed-edges sheet es (j ∷ js) pairs (prefix, rest, is, sums, others) = (
+  edges_of sheet prefix,
   edges_of sheet rest,
-  ap (edges_of sheet) is ∙ edges-append sheet front rest,
-  edges-pairs sheet front pairs,
+  ap (edges_of sheet) is ∙ edges-append sheet prefix rest,
+  edges-pairs sheet prefix pairs,
   sums,
   summed-edges sheet rest js pairs others,
 )

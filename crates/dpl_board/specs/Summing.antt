@@ -8,7 +8,7 @@ use Rattle.dpl_board.specs.Sheets.{Sheet, IsSheet, edges_of}
 -- The first sums up the edges of some first entries, the second those of the next ones, and so on to the last.
 abbrev pub AreSums : Sheet → List Entry → List Joined → Type 0
 AreSums sheet entries [] = entries ≡ []
-AreSums sheet entries (j ∷ js) = (front rest : List Entry) × (entries ≡ front ++ rest) × Sums (edges_of sheet front) j × AreSums sheet rest js
+AreSums sheet entries (j ∷ js) = (prefix rest : List Entry) × (entries ≡ prefix ++ rest) × Sums (edges_of sheet prefix) j × AreSums sheet rest js
 
 -- whatever the first sum up, the second do
 abbrev pub KeepsSums : List Joined → List Joined → Type 0

@@ -1,4 +1,4 @@
-//! The state of a board.
+//! The state of a board: what was posted, and the summaries of what was posted.
 ghost use Rattle.std.specs.Prelude.{◌≡◌, ◌<◌, [], ◌∷◌, ◌++◌, IfOk, OnOk, OnErr, MatchOption};
 ghost use Rattle.dpl_board.specs.Sheets.{entry, poster_in};
 ghost use Rattle.dpl_board.specs.Summing.{KeepsSums};
@@ -71,7 +71,7 @@ impl BoardState {
         Ok(())
     }
 
-    /// The worker that posted a tile.
+    /// The worker that posted a tile; none where it isn't posted, or the board has no such tile.
     pub fn poster(&self, tile: u32) -> Option<u32>
         ensures { result ≡ poster_in tile self.now.history }
     {
@@ -106,8 +106,7 @@ impl BoardState {
     pub fn joined(&self) -> Result<Joined, AllocError>
         ensures { IfOk result (λ j. SumsPosted self.now j) }
     {
-        let whole = merge_all(self.alloc, &self.sums)?;
-        Ok(whole)
+        merge_all(self.alloc, &self.sums)
     }
 }
 
@@ -140,7 +139,7 @@ struct Rows {
     joined: u64,
 }
 
-/// Whether most of the rows are new.
+/// Whether the rows are more than four times as many as when they were last put together, and 65536 more.
 fn is_crowded(rows: Rows) -> bool {
     rows.held > rows.joined.saturating_mul(4).saturating_add(65_536)
 }
@@ -154,16 +153,15 @@ fn list_of(alloc: Global, sum: Joined) -> Result<Vec<Joined>, AllocError>
     Ok(list)
 }
 
-/// The summaries in one.
+/// The list whose only summary is that of the edges of all these.
 fn whole(alloc: Global, sums: &[Joined]) -> Result<Vec<Joined>, AllocError>
     ensures { IfOk result (λ v. KeepsSums sums.now v.items) }
 {
     let sum = merge_all(alloc, sums)?;
-    let list = list_of(alloc, sum)?;
-    Ok(list)
+    list_of(alloc, sum)
 }
 
-/// Puts the summaries into one. For want of memory they stay.
+/// Puts the summaries into one. Where that runs out of memory, they stay as they are.
 fn put_together(alloc: Global, sums: &mut Vec<Joined>)
     ensures { KeepsSums sums.old.items sums.new.items }
 {
@@ -189,7 +187,7 @@ fn settled(alloc: Global, sums: &mut Vec<Joined>, rows: Rows, more: u64) -> Rows
     Rows { held, joined: held }
 }
 
-/// Adds a post. For want of memory nothing changes.
+/// Adds a post to the history, and its summary to the summaries. Where that runs out of memory, nothing changes.
 fn add(
     history: &mut Vec<Entry>,
     sums: &mut Vec<Joined>,

@@ -1,6 +1,6 @@
-//! Entries of a history.
+//! What a board's history is a list of.
 
-/// A worker, and the tile that it posted.
+/// One post: a worker, and the tile that it posted.
 #[derive(Clone, Copy, Debug, Drop, PartialEq, Eq)]
 pub struct Entry {
     pub worker: u32,

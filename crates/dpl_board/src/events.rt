@@ -1,4 +1,4 @@
-//! Takes and posts, and where they lead.
+//! What workers do with tiles, event by event, and the state that the events lead to.
 ghost use Rattle.std.specs.Prelude.{◌≡◌, List, ◌++◌, ◌∷◌, [], IfOk, OnOk, length};
 ghost use Rattle.dpl_board.specs.declared.entry.Entry.{Entry};
 ghost use Rattle.dpl_board.specs.Sheets.{AreWorkers, entry};
@@ -7,7 +7,7 @@ ghost use Rattle.dpl_board.specs.Cores.{Goes, HasPosts, IsCore};
 use crate::board::BoardState;
 use crate::fault::PostFault;
 use crate::job::Job;
-use dpl_base::Listed;
+use dpl_list::Listed;
 use std::alloc::{AllocError, Global};
 
 /// What a worker does with a tile.
@@ -17,7 +17,7 @@ pub enum Event {
     Post { worker: u32, tile: u32 },
 }
 
-/// What events have led to.
+/// What events have led to: who took each tile, and the board.
 #[derive(Drop)]
 pub struct Core {
     /// For each tile the worker that took it.
@@ -43,7 +43,7 @@ pub fn replay<J: Job>(alloc: Global, job: &J, events: &[Event]) -> Result<Core, 
     })
 }
 
-/// What one more event leads to.
+/// Changes what was taken and posted as one more event does.
 fn step<J: Job>(
     alloc: Global,
     job: &J,
@@ -60,10 +60,7 @@ fn step<J: Job>(
             take(taken, worker, tile);
             Ok(())
         }
-        Event::Post { worker, tile } => {
-            post(alloc, job, worker, tile, board)?;
-            Ok(())
-        }
+        Event::Post { worker, tile } => post(alloc, job, worker, tile, board),
     }
 }
 

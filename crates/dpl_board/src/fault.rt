@@ -1,4 +1,4 @@
-//! Why a post isn't made.
+//! The causes why a board doesn't take a post.
 ghost use Rattle.std.specs.Prelude.{◌≡◌};
 ghost use Rattle.dpl_board.specs.declared.fault.PostFault.TheVariants.{NoMemory};
 

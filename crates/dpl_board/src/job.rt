@@ -1,4 +1,4 @@
-//! Jobs.
+//! What a board is filled with: a number of tiles, and the edges of each.
 ghost use Rattle.std.specs.Prelude.{◌≡◌, ◌<◌, length, IfOk};
 ghost use Rattle.dpl_stars.specs.Sums.{Sums};
 ghost use Rattle.dpl_board.specs.Sheets.{Sheet, IsSheet, edges_at};
@@ -6,7 +6,8 @@ ghost use Rattle.dpl_board.specs.Sheets.{Sheet, IsSheet, edges_at};
 use dpl_stars::Joined;
 use std::alloc::{AllocError, Global};
 
-/// Tiles, each with a list of edges: together they are the job's sheet.
+/// A number of tiles, each with a list of edges, whose summaries can be worked out one by one. The lists together are the
+/// job's sheet.
 pub trait Job {
     ghost sheet: { Self → Sheet };
 

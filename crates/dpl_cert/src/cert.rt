@@ -4,7 +4,7 @@ use crate::name::Name;
 use dpl_base::Listed;
 use dpl_spec_split::{Pt, Rect};
 
-/// The rules that a decomposition kept to, and what it counted.
+/// The rule and the overlap that a decomposition kept to, and what it counted.
 #[derive(Clone, Copy, Debug, Drop, PartialEq, Eq)]
 pub struct Head {
     pub rule: u32,
@@ -43,7 +43,7 @@ pub struct NearLine {
     pub to: Pt,
 }
 
-/// A certificate.
+/// What a certificate says, by its kind.
 #[derive(Debug, Drop)]
 pub enum Cert {
     /// Two masks: a line for each piece, and one for each stitch.

@@ -1,4 +1,4 @@
-//! The least square of a piece.
+//! The keys of pieces.
 ghost use Rattle.std.specs.Prelude.{◌≡◌};
 ghost use Rattle.dpl_cert.specs.Grammar.{IsPoint};
 

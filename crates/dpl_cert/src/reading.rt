@@ -29,6 +29,7 @@ fn ended(bytes: &[u8], at: u64) -> Result<(), CertFault>
     Ok(())
 }
 
+/// Reads the lines of a certificate of masks behind its counts.
 fn masks_of(alloc: Global, head: Head, stitches: u64, bytes: &[u8]) -> Result<Cert, CertFault>
     requires room { length bytes.now + 8 < 2 ^ 64 }
     requires head { IsHead head }
@@ -44,6 +45,7 @@ fn masks_of(alloc: Global, head: Head, stitches: u64, bytes: &[u8]) -> Result<Ce
     })
 }
 
+/// Reads the lines of a certificate of a conflict behind its counts.
 fn conflict_of(alloc: Global, head: Head, bytes: &[u8]) -> Result<Cert, CertFault>
     requires room { length bytes.now + 8 < 2 ^ 64 }
     requires head { IsHead head }
@@ -62,6 +64,7 @@ fn conflict_of(alloc: Global, head: Head, bytes: &[u8]) -> Result<Cert, CertFaul
     })
 }
 
+/// Reads what stands behind the line of a fault.
 fn fault_of(name: Name, at: u64, bytes: &[u8]) -> Result<Cert, CertFault>
     ensures { Answers (line version_words ∷ line (fault_words name at) ∷ lines bytes.now) result }
 {
@@ -69,6 +72,7 @@ fn fault_of(name: Name, at: u64, bytes: &[u8]) -> Result<Cert, CertFault>
     Ok(Cert::Fault { name, at })
 }
 
+/// Reads the lines behind that of the rule and the overlap.
 fn ruled(alloc: Global, rule: u32, overlap: u32, bytes: &[u8]) -> Result<Cert, CertFault>
     requires room { length bytes.now + 8 < 2 ^ 64 }
     requires rule { IsRule rule }
@@ -91,6 +95,7 @@ fn ruled(alloc: Global, rule: u32, overlap: u32, bytes: &[u8]) -> Result<Cert, C
     }
 }
 
+/// Reads the lines of a certificate, the first of which names the format.
 fn read_lines(alloc: Global, bytes: &[u8]) -> Result<Cert, CertFault>
     ensures { Answers (lines bytes.now) result }
 {
@@ -106,7 +111,7 @@ fn read_lines(alloc: Global, bytes: &[u8]) -> Result<Cert, CertFault>
     }
 }
 
-/// Reads a certificate.
+/// Reads a certificate, or tells the first line by which a text is none.
 pub fn read_cert(alloc: Global, bytes: &[u8]) -> Result<Cert, CertFault>
     // What is read is in the grammar.
     ensures found { IfOk result (λ c. IsText c bytes.now) }

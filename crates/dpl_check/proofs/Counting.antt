@@ -7,8 +7,9 @@ use Rattle.dpl_spec_split.specs.Decomposition.{Cut, IsCut}
 use Rattle.dpl_spec_verdict.proofs.OrderLaws.{one-cut}
 use Rattle.dpl_cert.specs.declared.cert.Head.{Head}
 use Rattle.dpl_spec_verdict.specs.Conflicts.{CountsDiffer}
-use Rattle.dpl_check.specs.declared.cut.LayerCut.{LayerCut}
-use Rattle.dpl_check.specs.Cutting.{HasOtherCounts, cut_view}
+use Rattle.dpl_cut.specs.declared.LayerCut.{LayerCut}
+use Rattle.dpl_cut.specs.Cutting.{cut_view}
+use Rattle.dpl_check.specs.Cutting.{HasOtherCounts}
 
 module _ (rule overlap : ℕ) (layer : List Rect) (head : Head) (c : LayerCut) (features : List (List Rect))
     (many : length features ≡ c.features) (is : IsCut rule overlap (Covers layer) (cut_view features c.pieces)) where

@@ -1,5 +1,3 @@
-pub mod SameZones
-pub mod Cuts
 pub mod Windows
 pub mod Sets
 pub mod Finding

@@ -20,7 +20,7 @@ use Rattle.dpl_piece.specs.Cutting.{CutPieces}
 use Rattle.dpl_cert.specs.declared.cert.PlaceLine.{PlaceLine}
 use Rattle.dpl_cert.specs.declared.cert.NearLine.{NearLine}
 use Rattle.dpl_spec_verdict.specs.Conflicts.{IsBadPlace, IsGoodPlace, piece_of}
-use Rattle.dpl_check.specs.Cutting.{cut_view}
+use Rattle.dpl_cut.specs.Cutting.{cut_view}
 use Rattle.dpl_check.specs.Places.{AreMarked, IsRightPlace}
 use Rattle.dpl_check.proofs.Windows.{unit-only, unit-self}
 

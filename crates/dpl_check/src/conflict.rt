@@ -4,9 +4,9 @@ ghost use Rattle.dpl_cert.specs.Grammar.{IsCert, IsRule};
 ghost use Rattle.dpl_spec_verdict.specs.Conflicts.{IsOfConflict, IsVerdictOfConflict};
 
 use crate::counts::{counts_differ, counts_of, rules_differ};
-use crate::cut::cut_of;
 use crate::place::bad_place;
 use dpl_cert::Cert;
+use dpl_cut::cut_within;
 use dpl_slabs::Slabs;
 use dpl_spec_verdict::Verdict;
 use std::alloc::{AllocError, Global};
@@ -34,7 +34,7 @@ pub fn check_conflict(
             overlap: head.overlap,
         });
     }
-    let cut = cut_of(alloc, layer, rule, overlap)?;
+    let cut = cut_within(alloc, layer, rule, overlap)?;
     if counts_differ(head, &cut) {
         return Ok(counts_of(&cut));
     }

@@ -4,8 +4,8 @@ ghost use Rattle.dpl_spec_split.specs.Squares.{Covers};
 ghost use Rattle.dpl_spec_verdict.specs.Order.{AreCounts, RulesDiffer, ShowsCounts};
 ghost use Rattle.dpl_check.specs.Cutting.{HasOtherCounts, ShowsCountsOf};
 
-use crate::cut::{LayerCut, cut_of};
 use dpl_cert::Head;
+use dpl_cut::{LayerCut, cut_within};
 use dpl_slabs::Slabs;
 use dpl_spec_verdict::Verdict;
 use std::alloc::{AllocError, Global};
@@ -44,7 +44,7 @@ pub(crate) fn counts(
     requires { 1 ≤ overlap }
     ensures { IfOk result (λ v. ShowsCounts rule overlap layer.now v) }
 {
-    let cut = cut_of(alloc, layer, rule, overlap)?;
+    let cut = cut_within(alloc, layer, rule, overlap)?;
     Ok(counts_of(&cut))
 }
 

@@ -4,7 +4,6 @@
 mod conflict;
 mod counts;
 mod cover;
-mod cut;
 mod letters;
 mod masks;
 mod place;

@@ -11,12 +11,12 @@ ghost use Rattle.dpl_tree.specs.Trees.{AreItemsOf};
 ghost use Rattle.dpl_spec_verdict.specs.Conflicts.{IsBadPlace};
 ghost use Rattle.dpl_check.specs.Findings.{IsFirstBadOf};
 ghost use Rattle.dpl_check.specs.Places.{AreMarked, IsKeyed, IsNearLine, IsRightPlace};
-ghost use Rattle.dpl_check.specs.Cutting.{cut_view};
+ghost use Rattle.dpl_cut.specs.Cutting.{cut_view};
 
-use crate::cut::LayerCut;
 use crate::window::owner_at;
 use dpl_base::{Pt, near};
 use dpl_cert::{NearLine, PlaceLine};
+use dpl_cut::LayerCut;
 use dpl_nearest::unit;
 use dpl_piece::Pieces;
 use dpl_slabs::Slabs;

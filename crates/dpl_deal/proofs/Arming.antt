@@ -11,17 +11,17 @@ use Rattle.std.proofs.lemmas.Bool.Decides.{nat_tests}
 use mathlib.Core.Logic.{dite}
 use native.Mathlib.Decide.{ℕ_discrete}
 use Rattle.atomic_blocks.specs.Lent.{RowsId}
-use Rattle.dpl_deal.specs.declared.view.View.{View}
+use Rattle.dpl_deal.specs.declared.view.PassView.{PassView}
 use Rattle.dpl_deal.specs.declared.grip.Grip.{Grip}
 use Rattle.dpl_deal.specs.declared.hand.Hand.{Hand}
 use Rattle.dpl_deal.specs.declared.deal.Deal.{Deal}
 use Rattle.dpl_deal.specs.Rule.{after_deal, after_grip, after_seal, cut_off, dealer}
 use Rattle.dpl_deal.specs.Grips.{AllEnded, grip_deque, grip_view, joined, took_by}
-use Rattle.dpl_deal.specs.Hands.{AreHandsOf, EachAt, HasEachOnce, IsArmed, IsDealing, IsDone, IsHandOf, IsOut, all_taken, deal_deques}
+use Rattle.dpl_deal.specs.Hands.{AreHandsOf, EachAt, HasEachOnce, IsArmed, IsDealing, IsDone, IsOut, all_taken, deal_deques}
 use Rattle.dpl_deal.specs.Hands.{dealt_times, dealt_to, deques_of, joined_all, marks_of, own_deque, own_view, row_of, rows_of, taken}
 use Rattle.dpl_deal.specs.Hands.{took_times, views_of}
 use Rattle.dpl_deal.proofs.Dealings.{dealt_all, joined_all_more, view_here, ended_all, parts_all, put_owner, took_nothing, took_total, within_cut}
-use Rattle.dpl_deal.proofs.Turns.{dealt_once}
+use Rattle.dpl_deal.proofs.Rounds.{dealt_once}
 
 pub each_put : {A : Type 0} (P Q : ℕ → A → Type 0) (xs : List A) (i : ℕ) (new : A) → i < length xs → EachAt P xs
     → ((j : ℕ) (x : A) → j ≢ i → P j x → Q j x) → Q i new → EachAt Q (set xs i new)
@@ -34,7 +34,7 @@ each_put P Q xs i new lt h f q k d klt = dite (ℕ_discrete k i)
 next_of : (n : ℕ) → n + 1 ≡ suc n
 next_of n = omega arith
 
-deals_on : (n w i : ℕ) (v : View) → i ≡ n % w → IsDealing n w i v → IsDealing (n + 1) w i (after_deal v n)
+deals_on : (n w i : ℕ) (v : PassView) → i ≡ n % w → IsDealing n w i v → IsDealing (n + 1) w i (after_deal v n)
 deals_on n w i v is h =
     let e : (n % w == i) ≡ true = grind (arith, nat_tests) in record {
       parts = h.parts;
@@ -45,7 +45,7 @@ deals_on n w i v is h =
       dealt = ap (λ (l : List ℕ). l ++ n ∷ []) h.dealt ∙ ap (λ b. dealt_to n w i ++ (if b then n ∷ [] else [])) (sym e) ∙ ap (λ (k : ℕ). dealt_to k w i) (sym (next_of n));
     }
 
-waits : (n w i : ℕ) (v : View) → i ≢ n % w → IsDealing n w i v → IsDealing (n + 1) w i v
+waits : (n w i : ℕ) (v : PassView) → i ≢ n % w → IsDealing n w i v → IsDealing (n + 1) w i v
 waits n w i v ne h =
     let e : (n % w == i) ≡ false = differ (n % w) i (λ s. ne (sym s)) in record {
       parts = h.parts;
@@ -59,7 +59,7 @@ waits n w i v ne h =
     differ : (a b : ℕ) → a ≢ b → (a == b) ≡ false
     differ a b ne = grind (arith, nat_tests)
 
-here_replicate : (n i : ℕ) (d : View) → i < n → get_or (replicate n dealer) i d ≡ dealer
+here_replicate : (n i : ℕ) (d : PassView) → i < n → get_or (replicate n dealer) i d ≡ dealer
 here_replicate zero i d lt = absurd (omega arith)
 here_replicate (suc n) zero d lt = refl
 here_replicate (suc n) (suc i) d lt = here_replicate n i d (omega arith)
@@ -68,7 +68,7 @@ length_replicate : (n : ℕ) → length (replicate n dealer) ≡ n
 length_replicate zero = refl
 length_replicate (suc n) = ap suc (length_replicate n)
 
-pub spread_start : (vs : List View) (n w : ℕ) → vs ≡ replicate n dealer → EachAt (IsDealing 0 w) vs
+pub spread_start : (vs : List PassView) (n w : ℕ) → vs ≡ replicate n dealer → EachAt (IsDealing 0 w) vs
 spread_start vs n w e i d lt = subst (IsDealing 0 w i) (sym (ap (λ l. get_or l i d) e ∙ here_replicate n i d (omega (arith, lt, ap length e, length_replicate n))))
     (record { parts = refl; due = refl; ended = refl; limit = omega arith; took = refl; dealt = refl })
 
@@ -82,13 +82,13 @@ spread_step n w os i o new lt at is all e =
 
 -- giving grips
 
-one_more_out : (k n w i : ℕ) (v : View) → k < 64 → IsOut k n w i v → IsOut (k + 1) n w i (after_grip v)
+one_more_out : (k n w i : ℕ) (v : PassView) → k < 64 → IsOut k n w i v → IsOut (k + 1) n w i (after_grip v)
 one_more_out k n w i v few h = record { parts = (let p = h.parts in omega arith); limit = h.limit; took = h.took; dealt = h.dealt }
 
-pub none_out : (n w : ℕ) (vs : List View) → EachAt (IsDealing n w) vs → EachAt (IsOut 0 n w) vs
+pub none_out : (n w : ℕ) (vs : List PassView) → EachAt (IsDealing n w) vs → EachAt (IsOut 0 n w) vs
 none_out n w vs h i d lt = let q = h i d lt in record { parts = (let p = q.parts in omega arith); limit = q.limit; took = q.took; dealt = q.dealt }
 
-pub out_more : (k n w : ℕ) (vs ws : List View) → k < 64 → ws ≡ map after_grip vs → EachAt (IsOut k n w) vs → EachAt (IsOut (k + 1) n w) ws
+pub out_more : (k n w : ℕ) (vs ws : List PassView) → k < 64 → ws ≡ map after_grip vs → EachAt (IsOut k n w) vs → EachAt (IsOut (k + 1) n w) ws
 out_more k n w vs ws few e h i d lt =
     let lt' : i < length vs = omega (arith, lt, ap length e, length-map vs after_grip) in
     subst (IsOut (k + 1) n w i) (sym (ap (λ l. get_or l i d) e ∙ get_or-map after_grip vs i (get_or vs i d) d lt'))
@@ -104,7 +104,7 @@ out_sealed k n w os i o new lt is all e =
     subst (EachAt (IsOut k n w)) (sym p) (each_put (IsOut k n w) (IsOut k n w) (views_of os) i _ len all (λ j v ne h. h)
     (record { parts = old.parts; limit = old.limit; took = old.took; dealt = old.dealt }))
 
-pub parts_left : (k n w : ℕ) (vs : List View) → k < 64 → EachAt (IsOut k n w) vs → All (λ v. 1 < v.parts) vs
+pub parts_left : (k n w : ℕ) (vs : List PassView) → k < 64 → EachAt (IsOut k n w) vs → All (λ v. 1 < v.parts) vs
 parts_left k n w vs few h i d lt = let p = (h i d lt).parts in omega arith
 
 -- the first hands are armed
@@ -139,7 +139,7 @@ marked_more os i new ms lt same h a j d jlt =
 pub marked_all : (os : List Hand) (i : ℕ) → length os ≤ i → ((j : ℕ) (d : Bool) → j < i → get_or (marks_of os) j d ≡ true) → All (λ m. m ≡ true) (marks_of os)
 marked_all os i le h j d lt = h j d (omega (arith, le, lt, length-map os (λ (h : Hand). h.marked)))
 
-pub armed_row : (deques : List (RowsId × Global)) (k n w : ℕ) (gs : List Grip) (vs : List View) → map grip_deque gs ≡ deques
+pub armed_row : (deques : List (RowsId × Global)) (k n w : ℕ) (gs : List Grip) (vs : List PassView) → map grip_deque gs ≡ deques
     → map grip_view gs ≡ map cut_off vs → EachAt (IsOut k n w) vs → IsArmed deques n gs
 armed_row deques k n w gs vs ds e out = record { grips = ds; within = within_cut n gs vs e (λ i d lt. (out i d lt).limit); took = took_nothing gs vs e }
 
@@ -216,7 +216,7 @@ ready deal hs all h has done =
     let lt' : i < length hs = omega (arith, lt, length-map hs own_view) in
     let q = (all.1 i h lt').parts in
     let v : get_or (views_of hs) i d ≡ own_view (get_or hs i h) = get_or-map own_view hs i h d lt' in
-    omega (arith, q, all.0, ap (λ (u : View). u.parts) v)))) in
+    omega (arith, q, all.0, ap (λ (u : PassView). u.parts) v)))) in
     let e = All-from_recursion (λ v. v.ended ≡ true) (joined_all (views_of hs) hs)
     (ended_all (views_of hs) hs has.0 h ls has.1 (recursion_from_All (λ g. (grip_view g).ended ≡ true) (row_of (get_or hs has.0 h))
     (subst (λ (y : Hand). AllEnded (row_of y)) (sym has.2) done))) in
@@ -229,7 +229,7 @@ closed deal hs all h has learnt x =
     let n = length-map hs own_view in
     let d = dealt_once deal.tiles x (views_of hs) (omega (arith, has.1, n)) (λ i d lt.
     let lt' : i < length hs = omega (arith, lt, n) in
-    ap (λ (u : View). u.dealt) (get_or-map own_view hs i h d lt') ∙ (all.1 i h lt').dealt ∙ ap (λ (k : ℕ). dealt_to deal.tiles k i) (sym all.0 ∙ sym n)) in
+    ap (λ (u : PassView). u.dealt) (get_or-map own_view hs i h d lt') ∙ (all.1 i h lt').dealt ∙ ap (λ (k : ℕ). dealt_to deal.tiles k i) (sym all.0 ∙ sym n)) in
     omega (arith, t, d, dealt_all x (views_of hs) hs, learnt x)
 
 pub here_dealing : (n w : ℕ) (os : List Hand) (i : ℕ) (o : Hand) → i < length os → o ≡ get_or os i o → EachAt (IsDealing n w) (views_of os) → IsDealing n w i (own_view o)

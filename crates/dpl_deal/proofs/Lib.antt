@@ -3,4 +3,4 @@ pub mod Dealings
 pub mod Moves
 pub mod Takings
 pub mod Tries
-pub mod Turns
+pub mod Rounds

@@ -3,7 +3,7 @@ use Rattle.std.proofs.Common.{◌≡◌, ◌∙◌, ◌+◌, ◌<◌, ℕ, true,
 use Rattle.std.specs.Prelude.{IfSome}
 use Rattle.std.proofs.lemmas.List.{length-map, get_or-map}
 use Rattle.crossbeam_deque.specs.Handles.{worker_deque, worker_view}
-use Rattle.dpl_deal.specs.declared.view.View.{View}
+use Rattle.dpl_deal.specs.declared.view.PassView.{PassView}
 use Rattle.dpl_deal.specs.declared.grip.Grip.{Grip}
 use Rattle.dpl_deal.specs.declared.grip.Thief.{Thief}
 use Rattle.dpl_deal.specs.declared.hand.Hand.{Hand}
@@ -41,7 +41,7 @@ pub stolen : (deal : Deal) (old mid new : Hand) (t : Option ℕ) → ((me : ℕ)
 stolen deal old mid new None is took g own h = tt
 stolen deal old mid new (Some u) is took g own h = (
   h.below deal.tiles (subst (λ v. AreWithin deal.tiles v.items) (sym g) is.1.within),
-  λ x. let a : times x (own_view new).took ≡ times x (own_view mid).took = ap (λ (v : View). times x v.took) (view_of new mid own) in
+  λ x. let a : times x (own_view new).took ≡ times x (own_view mid).took = ap (λ (v : PassView). times x v.took) (view_of new mid own) in
       let b = ap (times x) took in let d : times x (took_by (row_of mid)) ≡ times x (took_by (row_of old)) = ap (λ v. times x (took_by v.items)) g in let s = h.some x in
       omega (arith, a, b, d, s, times-append x (own_view new).took (took_by (row_of new)), times-append x (own_view old).took (took_by (row_of old))),
 )
@@ -53,19 +53,19 @@ pub kept : (deal : Deal) (me : ℕ) (old mid new : Hand) (t : Option ℕ) → ow
 kept deal me old mid new t q p l d g own h notes marked is =
     let w = view_of new mid own in record {
       deque = is.deque ∙ ap Some (sym (ap (λ o. worker_deque o) own ∙ q));
-      dealt = ap (λ (v : View). v.dealt) w ∙ d ∙ is.dealt;
-      parts = (let a = ap (λ (v : View). v.parts) w in let b = is.parts in omega (arith, a, b, p));
-      limit = (let a = ap (λ (v : View). v.limit) w in let b = is.limit in omega (arith, a, b, l));
+      dealt = ap (λ (v : PassView). v.dealt) w ∙ d ∙ is.dealt;
+      parts = (let a = ap (λ (v : PassView). v.parts) w in let b = is.parts in omega (arith, a, b, p));
+      limit = (let a = ap (λ (v : PassView). v.limit) w in let b = is.limit in omega (arith, a, b, l));
       grips = h.deques ∙ ap (λ v. map grip_deque v.items) g ∙ is.grips;
       within = h.within deal.tiles (subst (λ v. AreWithin deal.tiles v.items) (sym g) is.within);
-      notes = λ f. ap (λ (v : View). v.ended) w ∙ notes is.notes (sym marked ∙ f);
+      notes = λ f. ap (λ (v : PassView). v.ended) w ∙ notes is.notes (sym marked ∙ f);
     }
 
 -- where no tile was popped none is left in the hand's own deque
 pub noted : (deal : Deal) (old mid new : Hand) → ((me : ℕ) × IsHandOf deal me old) → mid.marked ≡ false
     → ((old.marked ≡ false → (own_view old).ended ≡ true) → mid.marked ≡ false → (own_view mid).ended ≡ true) → new.own ≡ mid.own
     → (own_view new).ended ≡ true
-noted deal old mid new is m notes own = ap (λ (v : View). v.ended) (view_of new mid own) ∙ notes is.1.notes m
+noted deal old mid new is m notes own = ap (λ (v : PassView). v.ended) (view_of new mid own) ∙ notes is.1.notes m
 
 pub grip_place : (deal : Deal) (gs : List Grip) (i : ℕ) → map grip_deque gs ≡ deal_deques deal → i < length deal.thieves.items → i < length gs
 grip_place deal gs i e lt = omega (arith, lt, ap length e, length-map gs grip_deque, length-map deal.thieves.items thief_deque)

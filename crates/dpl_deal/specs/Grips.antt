@@ -3,13 +3,13 @@ use Rattle.std.specs.Prelude.{◌≡◌, ◌+◌, ℕ, true, List, [], ◌∷◌
 use Rattle.std.specs.declared.alloc.Global.{Global}
 use Rattle.atomic_blocks.specs.Lent.{RowsId}
 use Rattle.crossbeam_deque.specs.Handles.{stealer_deque, view}
-use Rattle.dpl_deal.specs.declared.view.View.{View}
+use Rattle.dpl_deal.specs.declared.view.PassView.{PassView}
 use Rattle.dpl_deal.specs.declared.grip.Grip.{Grip}
 use Rattle.dpl_deal.specs.declared.grip.Thief.{Thief}
 use Rattle.dpl_deal.specs.Ports.{pass_deque}
 use Rattle.dpl_deal.specs.Rule.{after_join, times}
 
-abbrev pub grip_view : Grip → View
+abbrev pub grip_view : Grip → PassView
 grip_view g = view g.pass
 
 abbrev pub grip_deque : Grip → RowsId × Global
@@ -45,7 +45,7 @@ pub record Tried (old : List Grip) (t : Option ℕ) (new : List Grip) : Type 0 w
   pub ended : (n : ℕ) → EndedBelow n old → EndedBelow n new
 
 -- each deque's view with a hand's joined to it
-abbrev pub joined : List View → List Grip → List View
+abbrev pub joined : List PassView → List Grip → List PassView
 joined vs [] = vs
 joined [] (g ∷ gs) = []
 joined (v ∷ vs) (g ∷ gs) = after_join v (grip_view g) ∷ joined vs gs

@@ -3,14 +3,14 @@ use Rattle.std.specs.Prelude.{◌≡◌, ◌+◌, ◌%◌, ◌==◌, ◌<◌, �
 use Rattle.std.specs.declared.alloc.Global.{Global}
 use Rattle.atomic_blocks.specs.Lent.{RowsId}
 use Rattle.crossbeam_deque.specs.Handles.{worker_deque, worker_view}
-use Rattle.dpl_deal.specs.declared.view.View.{View}
+use Rattle.dpl_deal.specs.declared.view.PassView.{PassView}
 use Rattle.dpl_deal.specs.declared.grip.Grip.{Grip}
 use Rattle.dpl_deal.specs.declared.hand.Hand.{Hand}
 use Rattle.dpl_deal.specs.declared.deal.Deal.{Deal}
 use Rattle.dpl_deal.specs.Rule.{after_grip, once_below, times, total}
 use Rattle.dpl_deal.specs.Grips.{AllEnded, AreWithin, grip_deque, joined, thief_deque, took_by}
 
-abbrev pub own_view : Hand → View
+abbrev pub own_view : Hand → PassView
 own_view h = worker_view h.own
 
 abbrev pub own_deque : Hand → RowsId × Global
@@ -19,7 +19,7 @@ own_deque h = worker_deque h.own
 abbrev pub row_of : Hand → List Grip
 row_of h = h.grips.items
 
-abbrev pub views_of : List Hand → List View
+abbrev pub views_of : List Hand → List PassView
 views_of hs = map own_view hs
 
 abbrev pub deques_of : List Hand → List (RowsId × Global)
@@ -41,7 +41,7 @@ abbrev pub all_taken : List Hand → List ℕ
 all_taken [] = []
 all_taken (h ∷ hs) = taken h ++ all_taken hs
 
--- the numbers below n, dealt in turn to so many hands: those of hand `me`
+-- the numbers below n, dealt round by round to so many hands: those of hand `me`
 abbrev pub dealt_to : ℕ → ℕ → ℕ → List ℕ
 dealt_to zero hands me = []
 dealt_to (suc n) hands me = dealt_to n hands me ++ (if n % hands == me then n ∷ [] else [])
@@ -55,7 +55,7 @@ abbrev pub EachAt : {A : Type 0} → (ℕ → A → Type 0) → List A → Type 
 EachAt P xs = (i : ℕ) (d : _) → i < length xs → P i (slice_index_or xs i d)
 
 -- a deque's view while the tiles below n are dealt to so many hands
-pub record IsDealing (n hands me : ℕ) (v : View) : Type 0 where
+pub record IsDealing (n hands me : ℕ) (v : PassView) : Type 0 where
   pub parts : v.parts ≡ 1024
   pub due : v.due ≡ 0
   pub ended : v.ended ≡ false
@@ -64,7 +64,7 @@ pub record IsDealing (n hands me : ℕ) (v : View) : Type 0 where
   pub dealt : v.dealt ≡ dealt_to n hands me
 
 -- a deque's view where k grips are out, and the tiles below n were dealt to so many hands
-pub record IsOut (k n hands me : ℕ) (v : View) : Type 0 where
+pub record IsOut (k n hands me : ℕ) (v : PassView) : Type 0 where
   pub parts : v.parts + k ≡ 1024
   pub limit : v.limit ≤ n
   pub took : v.took ≡ []
@@ -77,22 +77,22 @@ pub record IsArmed (deques : List (RowsId × Global)) (n : ℕ) (row : List Grip
   pub took : took_by row ≡ []
 
 -- of the first n deques a grip was given out
-abbrev pub gripped : ℕ → List View → List View
+abbrev pub gripped : ℕ → List PassView → List PassView
 gripped zero vs = vs
 gripped (suc n) [] = []
 gripped (suc n) (v ∷ vs) = after_grip v ∷ gripped n vs
 
 -- each deque's view with all hands' joined to it
-abbrev pub joined_all : List View → List Hand → List View
+abbrev pub joined_all : List PassView → List Hand → List PassView
 joined_all vs [] = vs
 joined_all vs (h ∷ hs) = joined_all (joined vs (row_of h)) hs
 
 -- how often x was dealt
-abbrev pub dealt_times : ℕ → List View → ℕ
+abbrev pub dealt_times : ℕ → List PassView → ℕ
 dealt_times x vs = total (λ v. times x v.dealt) vs
 
 -- how often x was taken
-abbrev pub took_times : ℕ → List View → ℕ
+abbrev pub took_times : ℕ → List PassView → ℕ
 took_times x vs = total (λ v. times x v.took) vs
 
 abbrev pub deal_deques : Deal → List (RowsId × Global)

@@ -1,4 +1,4 @@
-//! The steps at the end of a deal.
+//! The steps by which a deal is closed: what all grips know comes together at each deque's own hand.
 ghost use Rattle.std.specs.Prelude.{◌≡◌, ◌<◌, All, ℕ, true, map, vec_len, slice_index_or};
 ghost use Rattle.dpl_deal.specs.Grips.{grip_deque, joined};
 ghost use Rattle.dpl_deal.specs.Hands.{deques_of, dealt_times, joined_all, row_of, rows_of, took_times, views_of};
@@ -7,7 +7,7 @@ use crate::grip::Grip;
 use crate::hand::Hand;
 use std::alloc::Global;
 
-/// Takes in one hand's grips.
+/// Lets each hand take in the grip on its deque out of one hand's grips.
 fn join_row(hands: &mut Vec<Hand>, row: Vec<Grip>)
     requires deques { map grip_deque row.items ≡ deques_of hands.old.items }
     ensures deques { deques_of hands.new.items ≡ deques_of hands.old.items }
@@ -32,7 +32,7 @@ fn take_row(alloc: Global, hands: &mut Vec<Hand>, at: usize) -> Vec<Grip>
     hands[at].give_grips(alloc)
 }
 
-/// Takes in the grips of all hands.
+/// Lets each hand take in all grips on its deque.
 pub(crate) fn join_rows(alloc: Global, hands: &mut Vec<Hand>)
     requires rows { All (λ h. map grip_deque (row_of h) ≡ deques_of hands.old.items) hands.old.items }
     ensures views { views_of hands.new.items ≡ joined_all (views_of hands.old.items) hands.old.items }
@@ -43,7 +43,7 @@ pub(crate) fn join_rows(alloc: Global, hands: &mut Vec<Hand>)
     }
 }
 
-/// Learns of each deque that what was dealt was taken.
+/// Lets each hand learn that what was dealt to its deque was taken.
 pub(crate) fn learn_all(hands: &mut Vec<Hand>)
     requires views { All (λ v. (v.parts ≡ 1024) × (v.ended ≡ true)) (views_of hands.old.items) }
     ensures { (x : ℕ) → dealt_times x (views_of hands.old.items) ≡ took_times x (views_of hands.old.items) }

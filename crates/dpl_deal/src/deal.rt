@@ -1,4 +1,4 @@
-//! Deals.
+//! A deal from its opening, over the taking of tiles, to its close.
 ghost use Rattle.std.specs.Prelude.{◌≡◌, ◌<◌, ◌≤◌, ◌+◌, ◌⊎◌, ◌∷◌, ◌++◌, [], true, All, Contains, IfNone, IfOk, IfSome, ℕ, vec_len};
 ghost use Rattle.dpl_deal.specs.Rule.{times};
 ghost use Rattle.dpl_deal.specs.Hands.{AreHandsOf, HasEachOnce, IsDone, IsHandOf, all_taken, own_view, taken};

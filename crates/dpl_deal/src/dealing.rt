@@ -1,4 +1,4 @@
-//! The steps of dealing.
+//! The steps by which a deal is opened: tiles are dealt, and hands get what they take them with.
 ghost use Rattle.std.specs.Prelude.{◌≡◌, ◌<◌, ◌≤◌, ◌+◌, [], All, IfOk, OnOk, ℕ, true, List, map, replicate, vec_len};
 ghost use Rattle.dpl_deal.specs.Rule.{after_grip, cut_off, dealer};
 ghost use Rattle.dpl_deal.specs.Grips.{grip_deque, grip_view, thief_deque};
@@ -19,7 +19,7 @@ pub(crate) fn fresh(alloc: Global, workers: u32) -> Result<Vec<Hand>, AllocError
     Ok(hands)
 }
 
-/// Deals the tiles in turn.
+/// Deals the tiles to the hands round by round: tile k to hand k modulo their number.
 pub(crate) fn spread(hands: &mut Vec<Hand>, tiles: u32) -> Result<(), AllocError>
     requires some { 0 < vec_len hands.old }
     requires fresh { views_of hands.old.items ≡ replicate (vec_len hands.old) dealer }

@@ -4,7 +4,7 @@ ghost use Rattle.crossbeam_deque.specs.Handles.{IsPassOf, stealer_deque, stealer
 ghost use Rattle.dpl_deal.specs.Ports.{IsAtRest, pass_deque};
 ghost use Rattle.dpl_deal.specs.Rule.{AreBelow, after_takes};
 
-use crate::view::{Dealt, Item, Takes, View};
+use crate::view::{Dealt, DequeItem, PassView, Takes};
 use crossbeam_deque::{Pass, Steal, Stealer};
 use std::alloc::Global;
 use std::sync::Wait;
@@ -12,14 +12,14 @@ use std::sync::Wait;
 /// The end of a deque that all workers share, at which items are stolen.
 #[derive(Drop)]
 pub struct Thief {
-    pub stealer: Stealer<Item, Global, View, Dealt>,
+    pub stealer: Stealer<DequeItem, Global, PassView, Dealt>,
     pub ghost fifo: { stealer_flavor stealer ≡ 0 },
 }
 
 /// What a hand knows of one deque, and whether it has noted that no tile is left there.
 #[derive(Drop)]
 pub struct Grip {
-    pub pass: Pass<Item, View>,
+    pub pass: Pass<DequeItem, PassView>,
     pub ended: bool,
     pub ghost rests: { IsAtRest pass },
     pub ghost part: { (view pass).parts ≡ 1 },
@@ -43,8 +43,8 @@ impl Grip {
         }
         let item = next(rt, thief, &mut self.pass);
         match item {
-            Item::Tile(tile) => Some(tile),
-            Item::End => {
+            DequeItem::Tile(tile) => Some(tile),
+            DequeItem::End => {
                 self.ended = true;
                 None
             }
@@ -52,8 +52,8 @@ impl Grip {
     }
 }
 
-/// The item at the front. It may wait for other thieves.
-fn next<R: Wait>(rt: &R, thief: &Thief, pass: &mut Pass<Item, View>) -> Item
+/// The first item of a deque, which is stolen. It may wait for other thieves.
+fn next<R: Wait>(rt: &R, thief: &Thief, pass: &mut Pass<DequeItem, PassView>) -> DequeItem
     requires fits { IsPassOf (stealer_deque thief.now.stealer) pass.old }
     requires due { (0 < (view pass.old).parts) × (0 < (view pass.old).due) }
     ensures fits { IsPassOf (stealer_deque thief.now.stealer) pass.new }

@@ -1,4 +1,4 @@
-//! Hands, with which workers take tiles.
+//! What a worker takes tiles with, from its own deque and from others.
 ghost use Rattle.std.specs.Prelude.{◌≡◌, ◌<◌, ◌≤◌, ◌+◌, ◌⊎◌, ◌∷◌, [], ◌++◌, IfNone, IfOk, IfSome, OnOk, ℕ, true, false, vec_len, slice_index_or};
 ghost use Rattle.crossbeam_deque.specs.Handles.{stealer_deque, view, worker_deque, worker_flavor, worker_view};
 ghost use Rattle.dpl_deal.specs.Ports.{pass_deque};
@@ -6,7 +6,7 @@ ghost use Rattle.dpl_deal.specs.Rule.{AreBelow, after_deal, after_grip, after_jo
 ghost use Rattle.dpl_deal.specs.Grips.{AreWithin, EndedBelow, Tried, grip_deque, grip_view, thief_deque, took_by};
 
 use crate::grip::{Grip, Thief};
-use crate::view::{Cut, Deals, Dealt, Item, Seals, Takes, Total, View};
+use crate::view::{Deals, Dealt, DequeItem, PassCut, PassView, Seals, Takes, Total};
 use crossbeam_deque::Worker;
 use std::alloc::{AllocError, Global};
 use std::mem::replace;
@@ -15,7 +15,7 @@ use std::sync::Wait;
 /// What one worker takes tiles with: a deque of its own, first in, first out, and a grip on each deque of the deal.
 #[derive(Drop)]
 pub struct Hand {
-    pub(crate) own: Worker<Item, Global, View, Dealt>,
+    pub(crate) own: Worker<DequeItem, Global, PassView, Dealt>,
     pub(crate) marked: bool,
     pub(crate) grips: Vec<Grip>,
     ghost fifo: { worker_flavor own ≡ 0 },
@@ -28,7 +28,7 @@ impl Hand {
     pub(crate) fn new(alloc: Global) -> Result<Hand, AllocError>
         ensures { IfOk result (λ h. worker_view h.own ≡ dealer) }
     {
-        let own = Worker::<Item, Global, View, Dealt>::fifo_as(alloc, 64)?;
+        let own = Worker::<DequeItem, Global, PassView, Dealt>::fifo_as(alloc, 64)?;
         Ok(Hand {
             own,
             marked: false,
@@ -42,7 +42,7 @@ impl Hand {
         requires rising { (worker_view self.old.own).limit ≤ tile }
         ensures dealt { OnOk result (worker_view self.new.own ≡ after_deal (worker_view self.old.own) tile) }
     {
-        match self.own.push_as::<Deals>(Item::Tile(tile)) {
+        match self.own.push_as::<Deals>(DequeItem::Tile(tile)) {
             Ok(()) => Ok(()),
             Err(_) => Err(AllocError),
         }
@@ -65,10 +65,10 @@ impl Hand {
         ensures marked { OnOk result (self.new.marked ≡ self.old.marked) }
         ensures grip { IfOk result (λ g. (grip_deque g ≡ worker_deque self.old.own) × (grip_view g ≡ cut_off (worker_view self.old.own))) }
     {
-        if self.own.push_as::<Seals>(Item::End).is_err() {
+        if self.own.push_as::<Seals>(DequeItem::End).is_err() {
             return Err(AllocError);
         }
-        let pass = self.own.another::<Cut>();
+        let pass = self.own.another::<PassCut>();
         Ok(Grip { pass, ended: false })
     }
 
@@ -79,7 +79,7 @@ impl Hand {
         ensures grips { OnOk result (self.new.grips ≡ grips) }
         ensures marked { OnOk result (self.new.marked ≡ true) }
     {
-        if self.own.push_as::<Seals>(Item::End).is_err() {
+        if self.own.push_as::<Seals>(DequeItem::End).is_err() {
             return Err(AllocError);
         }
         self.marked = true;
@@ -102,16 +102,16 @@ impl Hand {
             return None;
         }
         match self.pop_item() {
-            Item::Tile(tile) => {
+            DequeItem::Tile(tile) => {
                 self.marked = true;
                 Some(tile)
             }
-            Item::End => None,
+            DequeItem::End => None,
         }
     }
 
-    /// The item at the front of the hand's own deque. No end mark counts as due behind it.
-    fn pop_item(&mut self) -> Item
+    /// The first item of the hand's own deque. No end mark counts as due behind it.
+    fn pop_item(&mut self) -> DequeItem
         requires due { self.old.marked ≡ true }
         ensures deque { worker_deque self.new.own ≡ worker_deque self.old.own }
         ensures took { worker_view self.new.own ≡ after_takes (worker_view self.old.own) (result ∷ []) }
@@ -145,7 +145,7 @@ impl Hand {
         ensures view { worker_view self.new.own ≡ after_join (worker_view self.old.own) (grip_view grip) }
         ensures grips { self.new.grips ≡ self.old.grips }
     {
-        self.own.absorb::<Cut>(grip.pass)
+        self.own.absorb::<PassCut>(grip.pass)
     }
 
     /// Gives its grips away.

@@ -4,13 +4,13 @@ use std::collections::LinkedList;
 
 /// What lies in the deque: the tiles, and behind them end marks.
 #[derive(Clone, Copy, Debug)]
-pub enum Item {
+pub enum DequeItem {
     Tile(u32),
     End,
 }
 
 /// What a pass knows: its parts of the right to deal, how many end marks are due to it, a bound of the tiles, what it dealt and took, and whether it has noted the end.
-pub struct View {
+pub struct PassView {
     pub parts: u64,
     pub due: u64,
     pub limit: u64,
@@ -19,9 +19,10 @@ pub struct View {
     pub ended: bool,
 }
 
+/// The rule that a deque keeps at every step, and what a pass knows when it is made.
 pub struct Dealt;
 
-impl Protocol<Item, View> for Dealt {
+impl Protocol<DequeItem, PassView> for Dealt {
     ghost use Rattle.dpl_deal.specs.Rule.{IsKept, bystander, dealer};
 
     ghost holds = { IsKept };
@@ -31,30 +32,30 @@ impl Protocol<Item, View> for Dealt {
     ghost guest = { bystander };
 }
 
-/// A tile is dealt.
+/// The step by which a tile is dealt to the deque.
 pub struct Deals;
 
-impl Outcome<Item, View> for Deals {
+impl Outcome<DequeItem, PassView> for Deals {
     ghost use Rattle.std.specs.Prelude.{◌≡◌, ◌∷◌, [], ℕ};
     ghost use Rattle.dpl_deal.specs.Rule.{after_deal, tiles_in};
 
     ghost then = { λ v xs w. (t : ℕ) × (tiles_in xs ≡ t ∷ []) × (w ≡ after_deal v t) };
 }
 
-/// A mark is laid.
+/// The step by which an end mark is laid behind the tiles.
 pub struct Seals;
 
-impl Outcome<Item, View> for Seals {
+impl Outcome<DequeItem, PassView> for Seals {
     ghost use Rattle.std.specs.Prelude.{◌≡◌};
     ghost use Rattle.dpl_deal.specs.Rule.{after_seal};
 
     ghost then = { λ v xs w. w ≡ after_seal v };
 }
 
-/// A tile is taken, or a mark, which notes the end. A deque where a mark is due is never empty.
+/// The step by which a tile is taken, or a mark, which notes the end. A deque where a mark is due is never empty.
 pub struct Takes;
 
-impl Outcome<Item, View> for Takes {
+impl Outcome<DequeItem, PassView> for Takes {
     ghost use Rattle.std.specs.Prelude.{◌≡◌};
     ghost use Rattle.dpl_deal.specs.Rule.{AreBelow, after_takes};
 
@@ -63,10 +64,10 @@ impl Outcome<Item, View> for Takes {
     ghost empty = { λ v. v.due ≡ 0 };
 }
 
-/// A pass is cut off, or joined.
-pub struct Cut;
+/// The steps by which a pass is cut off another, or joined to it.
+pub struct PassCut;
 
-impl Split<View> for Cut {
+impl Split<PassView> for PassCut {
     ghost use Rattle.dpl_deal.specs.Rule.{after_cut, cut_off};
 
     ghost left = { after_cut };
@@ -74,7 +75,7 @@ impl Split<View> for Cut {
     ghost right = { cut_off };
 }
 
-impl Join<View> for Cut {
+impl Join<PassView> for PassCut {
     ghost use Rattle.dpl_deal.specs.Rule.{after_join, bystander};
 
     ghost both = { after_join };
@@ -82,10 +83,10 @@ impl Join<View> for Cut {
     ghost spent = { bystander };
 }
 
-/// What was dealt was taken.
+/// What is learnt where all parts have come together: what was dealt was taken.
 pub struct Total;
 
-impl Lesson<Item, View> for Total {
+impl Lesson<DequeItem, PassView> for Total {
     ghost use Rattle.std.specs.Prelude.{◌≡◌, ℕ};
     ghost use Rattle.dpl_deal.specs.Rule.{times};
 

@@ -4,7 +4,7 @@ use Rattle.std.proofs.lemmas.List.{length-append, map-append}
 use Rattle.std.proofs.lemmas.List.Folds.{concat-append}
 use Rattle.dpl_spec_split.specs.declared.Rect.{Rect}
 use Rattle.dpl_masks.specs.Bytes.{boundary_bytes, boundaries_bytes, closing_bytes, coordinate_bytes}
-use Rattle.dpl_demo.specs.Demo.{bars, demo_file, front_bytes, gap_by, next_number, number_of, row_bars}
+use Rattle.dpl_demo.specs.Demo.{bars, demo_file, opening_bytes, gap_by, next_number, number_of, row_bars}
 
 element_size : (layer : ℕ) (r : Rect) → length (boundary_bytes layer r) ≡ 64
 unfolding boundary_bytes coordinate_bytes
@@ -42,20 +42,20 @@ bars_more seed i = subst (λ n. bars seed n ≡ bars seed i ++ row_bars i (gap_b
 
 -- one more row's bytes
 pub row_more : (seed i : ℕ) (old new : List ℕ) (number gap : ℕ) → number ≡ number_of seed (i + 1) → gap ≡ gap_by number
-    → old ≡ front_bytes ++ boundaries_bytes 1 (bars seed i) → new ≡ old ++ boundaries_bytes 1 (row_bars i gap)
-    → new ≡ front_bytes ++ boundaries_bytes 1 (bars seed (i + 1))
+    → old ≡ opening_bytes ++ boundaries_bytes 1 (bars seed i) → new ≡ old ++ boundaries_bytes 1 (row_bars i gap)
+    → new ≡ opening_bytes ++ boundaries_bytes 1 (bars seed (i + 1))
 row_more seed i old new number gap is by e f =
     let same : gap ≡ gap_by (number_of seed (i + 1)) = by ∙ ap gap_by is in
     let row = row_bars i (gap_by (number_of seed (i + 1))) in
     let whole : boundaries_bytes 1 (bars seed (i + 1)) ≡ boundaries_bytes 1 (bars seed i) ++ boundaries_bytes 1 row = ap
     (boundaries_bytes 1) (bars_more seed i) ∙ bytes_of_two (bars seed i) row in
-    f ∙ ap (λ g. old ++ boundaries_bytes 1 (row_bars i g)) same ∙ ap (λ x. x ++ boundaries_bytes 1 row) e ∙ append_assoc front_bytes
-    (boundaries_bytes 1 (bars seed i)) (boundaries_bytes 1 row) ∙ ap (λ x. front_bytes ++ x) (sym whole)
+    f ∙ ap (λ g. old ++ boundaries_bytes 1 (row_bars i g)) same ∙ ap (λ x. x ++ boundaries_bytes 1 row) e ∙ append_assoc opening_bytes
+    (boundaries_bytes 1 (bars seed i)) (boundaries_bytes 1 row) ∙ ap (λ x. opening_bytes ++ x) (sym whole)
 
 -- the records before the elements
-pub front_put : (seed : ℕ) (old new : List ℕ) → old ≡ [] → new ≡ old ++ front_bytes → new ≡ front_bytes ++ boundaries_bytes 1 (bars seed 0)
+pub opening_put : (seed : ℕ) (old new : List ℕ) → old ≡ [] → new ≡ old ++ opening_bytes → new ≡ opening_bytes ++ boundaries_bytes 1 (bars seed 0)
 unfolding bars
-front_put seed old new e f = f ∙ ap (λ x. x ++ front_bytes) e ∙ sym (append-nil front_bytes)
+opening_put seed old new e f = f ∙ ap (λ x. x ++ opening_bytes) e ∙ sym (append-nil opening_bytes)
 
 row_size : (r s : Rect) → length (boundaries_bytes 1 (r ∷ s ∷ [])) ≡ 128
 row_size r s = length-append (boundary_bytes 1 r) (boundary_bytes 1 s ++ []) ∙ ap (λ n. length (boundary_bytes 1 r) + n) (length-append (boundary_bytes 1 s) [])
@@ -74,10 +74,10 @@ bars_size seed (suc i) =
 -- how long the file is
 pub file_size : (seed rows : ℕ) → length (demo_file seed rows) ≡ 106 + 128 * rows
 file_size seed rows =
-    let a = length-append front_bytes (boundaries_bytes 1 (bars seed rows) ++ closing_bytes) in
+    let a = length-append opening_bytes (boundaries_bytes 1 (bars seed rows) ++ closing_bytes) in
     let b = length-append (boundaries_bytes 1 (bars seed rows)) closing_bytes in
     let c = bars_size seed rows in
     omega (arith, a, b, c)
 
-pub all_put : (seed rows : ℕ) (old new : List ℕ) → old ≡ front_bytes ++ boundaries_bytes 1 (bars seed rows) → new ≡ old ++ closing_bytes → new ≡ demo_file seed rows
-all_put seed rows old new e f = f ∙ ap (λ x. x ++ closing_bytes) e ∙ append_assoc front_bytes (boundaries_bytes 1 (bars seed rows)) closing_bytes
+pub all_put : (seed rows : ℕ) (old new : List ℕ) → old ≡ opening_bytes ++ boundaries_bytes 1 (bars seed rows) → new ≡ old ++ closing_bytes → new ≡ demo_file seed rows
+all_put seed rows old new e f = f ∙ ap (λ x. x ++ closing_bytes) e ∙ append_assoc opening_bytes (boundaries_bytes 1 (bars seed rows)) closing_bytes

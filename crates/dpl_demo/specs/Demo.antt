@@ -37,8 +37,8 @@ abbrev pub units : List ℕ
 units = 62 ∷ 65 ∷ 137 ∷ 55 ∷ 75 ∷ 198 ∷ 167 ∷ 240 ∷ 57 ∷ 68 ∷ 184 ∷ 47 ∷ 160 ∷ 155 ∷ 90 ∷ 84 ∷ []
 
 -- HEADER, BGNLIB, LIBNAME and UNITS of a library LIB, BGNSTR and STRNAME of a structure TOP
-abbrev pub front_bytes : List ℕ
-front_bytes =
+abbrev pub opening_bytes : List ℕ
+opening_bytes =
     record_bytes 0 2 (2 ∷ 88 ∷ [])
     ++ (record_bytes 1 2 zeros_24
     ++ (record_bytes 2 6 (codes "LIB" ++ 0 ∷ [])
@@ -48,4 +48,4 @@ front_bytes =
 
 -- the file: the bars of all rows, each a boundary on layer 1, in one structure
 abbrev pub demo_file : ℕ → ℕ → List ℕ
-demo_file seed rows = front_bytes ++ (boundaries_bytes 1 (bars seed rows) ++ closing_bytes)
+demo_file seed rows = opening_bytes ++ (boundaries_bytes 1 (bars seed rows) ++ closing_bytes)

@@ -8,7 +8,8 @@ use dpl_base::Rect;
 use dpl_masks::put_boundary;
 use std::alloc::{AllocError, Global};
 
-const FRONT: [u8; 98] = [
+/// The records before the bars.
+const OPENING: [u8; 98] = [
     0, 6, 0, 2, 2, 88, // HEADER
     0, 28, 1, 2, 0, 0, 0, 0, 0, 0, 0, 0, 0, 0, 0, 0, 0, 0, 0, 0, 0, 0, 0, 0, 0, 0, 0, 0, // BGNLIB
     0, 8, 2, 6, 76, 73, 66, 0, // LIBNAME
@@ -17,6 +18,7 @@ const FRONT: [u8; 98] = [
     0, 8, 6, 6, 84, 79, 80, 0, // STRNAME
 ];
 
+/// The records behind the bars.
 const ENDSTR_ENDLIB: [u8; 8] = [0, 4, 7, 0, 0, 4, 4, 0];
 
 /// The layer of a made-up layout.
@@ -29,7 +31,7 @@ pub fn demo_bytes(alloc: Global, seed: u64, rows: u32) -> Result<Vec<u8>, AllocE
     ensures size { IfOk result (λ v. length v.items ≡ 106 + 128 * rows) }
 {
     let mut out = Vec::with_capacity(alloc, 106 + 128 * rows as usize)?;
-    out.extend_from_slice(&FRONT)?;
+    out.extend_from_slice(&OPENING)?;
     let mut number = seed;
     for row in 0..rows {
         number = next_number(number);
@@ -39,7 +41,7 @@ pub fn demo_bytes(alloc: Global, seed: u64, rows: u32) -> Result<Vec<u8>, AllocE
     Ok(out)
 }
 
-/// The bars on both sides of the gap of a row.
+/// Puts the bars on both sides of the gap of a row.
 fn put_row(out: &mut Vec<u8>, row: u32, gap: u32) -> Result<(), AllocError>
     requires row { row < 1000000 }
     requires gap { (100 ≤ gap) × (gap < 1800) }
@@ -48,8 +50,7 @@ fn put_row(out: &mut Vec<u8>, row: u32, gap: u32) -> Result<(), AllocError>
     let left = bar(row, 0, gap);
     let right = bar(row, gap + 100, 2_000);
     put_boundary(out, LAYER, &left)?;
-    put_boundary(out, LAYER, &right)?;
-    Ok(())
+    put_boundary(out, LAYER, &right)
 }
 
 /// The bar of a row from the column `x0` up to `x1`.

@@ -1,4 +1,4 @@
-//! Made-up layouts of any size, each from a number.
+//! Made-up layouts, each from a seed and a number of rows.
 #![tactic(auto)]
 
 mod layout;

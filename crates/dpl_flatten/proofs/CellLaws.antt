@@ -36,7 +36,7 @@ cell_none lib layer = record {
   drawn = λ o c. absurd (Contains-nil o c);
   outlined = λ e qs c q. absurd (Contains-nil e c);
   straight = λ o c. absurd (Contains-nil o c);
-  near = λ o c. absurd (Contains-nil o c);
+  within = λ o c. absurd (Contains-nil o c);
   placed = λ x c. absurd (Contains-nil x c);
   ready = λ x c. absurd (Contains-nil x c);
   full = λ x c. absurd (Contains-nil x c);
@@ -79,7 +79,7 @@ cell_more lib layer totals es i d os os' cs cs' h bare n c = record {
       (λ (w : x ≡ e). Contains-append_right os more _ (rw w (Contains-map outline (loops_of layer e.body) qs (rw w at q))))
       (Contains-take_more es i d x h k));
   straight = λ o k. ⊎_elim (λ x. c.straight o x) (λ x. new_straight o x) (Contains-append_cases os more o (rw n.drawn at k));
-  near = λ o k. ⊎_elim (λ x. c.near o x) (λ x. new_near o x) (Contains-append_cases os more o (rw n.drawn at k));
+  within = λ o k. ⊎_elim (λ x. c.within o x) (λ x. new_within o x) (Contains-append_cases os more o (rw n.drawn at k));
   placed = λ x k. ⊎_elim (λ y. old_placed x (c.placed x y)) (λ y. (e, Contains-take_last es i d e h refl, y.0, y.1)) (copies_cases lib totals e cs cs' n.copied x k);
   ready = λ x k. ⊎_elim (λ y. c.ready x y) (λ y. y.2) (copies_cases lib totals e cs cs' n.copied x k);
   full = λ x k. ⊎_elim (λ y. c.full x y) (λ y. bare.full e x.target (Contains-get_or es i d h) y.0 y.3) (copies_cases lib totals e cs cs' n.copied x k);
@@ -108,10 +108,10 @@ cell_more lib layer totals es i d os os' cs cs' h bare n c = record {
         (loops_of layer (get_or es i d).body) o x in
         rw (← m.2) (All-contains IsRectilinear (loops_of layer (get_or es i d).body) m.0 n.straight m.1)
 
-    new_near : (o : Outline) → Contains (map (λ qs. record { at = (get_or es i d).at; points = qs }) (loops_of layer (get_or es i d).body)) o → ArePointsWithin (2 ^ 61) o.points
-    new_near o x = let m = Contains-map_cases (λ qs. record { at = (get_or es i d).at; points = qs })
+    new_within : (o : Outline) → Contains (map (λ qs. record { at = (get_or es i d).at; points = qs }) (loops_of layer (get_or es i d).body)) o → ArePointsWithin (2 ^ 61) o.points
+    new_within o x = let m = Contains-map_cases (λ qs. record { at = (get_or es i d).at; points = qs })
         (loops_of layer (get_or es i d).body) o x in
-        rw (← m.2) (All-contains (ArePointsWithin (2 ^ 61)) (loops_of layer (get_or es i d).body) m.0 n.near m.1)
+        rw (← m.2) (All-contains (ArePointsWithin (2 ^ 61)) (loops_of layer (get_or es i d).body) m.0 n.within m.1)
 
     old_placed : (x : Copies) → IsPlaced lib (take i es) x → IsPlaced lib (take (i + 1) es) x
     old_placed x y = (y.0, Contains-take_keeps es i d y.0 h y.1, y.2, y.3)

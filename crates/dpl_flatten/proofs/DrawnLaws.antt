@@ -14,16 +14,17 @@ use Rattle.dpl_links.proofs.TakeLaws.{Contains-take_more}
 use Rattle.dpl_flatten.proofs.LeastLaws.{seen_at, seen_length}
 use Rattle.std.proofs.lemmas.List.Elements.{Contains-get_or}
 use Rattle.std.specs.List.{Contains}
-use Rattle.dpl_spec_format.specs.Tree.{Library, Element, elements_at}
+use Rattle.dpl_spec_format.specs.Tree.{Library, Element, Body, elements_at}
 use Rattle.dpl_syntax.specs.declared.element.Element.{Element as Found}
 use Rattle.dpl_syntax.specs.Elements.{element_seen}
 use Rattle.dpl_spec_layout.specs.declared.FlattenFault.{FlattenFault}
 use Rattle.dpl_walk.proofs.ListLaws.{Contains-map}
-use Rattle.std.specs.Prelude.{Option, Some, None, unwrap_or}
-use Rattle.dpl_spec_format.specs.Tree.{Aref, Path, is_aref, is_path}
+use Rattle.std.specs.Prelude.{Option, Some, None}
 use Rattle.dpl_spec_layout.specs.declared.Layer.{Layer}
-use Rattle.dpl_spec_layout.specs.Elements.{IsPathFault, IsArray, plain, is_on, path_shape}
-use Rattle.dpl_flatten.specs.Drawn.{IsFaultOf, IsRefusal, IsTakenAt, HasRefusalAt, IsFaultOfReference, IsFaultOfPath}
+use Rattle.dpl_spec_layout.specs.Elements.{IsPathFault, IsRefusedFor}
+use Rattle.dpl_flatten.specs.declared.role.Role.{Role}
+use Rattle.dpl_flatten.specs.Roles.{IsFaultIn, IsRoleOf}
+use Rattle.dpl_flatten.specs.Drawn.{IsFaultBy, IsRefusal, IsTakenAt, HasRefusalAt}
 
 no_first : (p : PathElement) (g : PathFault) → IsFaultless p → paths.IsFirstFault p g → ⊥
 no_first p g clean f = ⊎_elim (λ w. f.drawn w) (λ none. none g f.there) clean
@@ -41,14 +42,10 @@ no_path_fault p clean AngleNotRight h = h
 no_path_fault p clean BadArray h = h
 no_path_fault p clean SlantedBoundary h = h
 
-pub array_fault_is : (chosen : Layer) (r : Aref) (o : Option ElementFault)
-    → IsFaultOfReference (unwrap_or r.trans plain) (¬ IsArray r.columns r.rows r.xy) o → IsFaultOf chosen (is_aref r) o
-array_fault_is chosen r None h = h
-array_fault_is chosen r (Some f) h = h
-
-pub path_fault_is : (chosen : Layer) (p : Path) (o : Option ElementFault) → IsFaultOfPath (is_on chosen p.layer p.datatype) (path_shape p) o → IsFaultOf chosen (is_path p) o
-path_fault_is chosen p None h = λ f u. h f u.0 u.1
-path_fault_is chosen p (Some f) h = h
+-- what is refused as it is for the layer
+pub fault_in : (layer : Layer) (b : Body) (r : Role) → IsRoleOf layer b r → (o : Option ElementFault) → IsFaultBy (IsFaultIn r) o → IsFaultBy (IsRefusedFor layer b) o
+fault_in layer b r is None h = λ f u. h f (is.taken f u)
+fault_in layer b r is (Some f) h = is.refused f h
 
 pub refusal_is : (lib : Library) (chosen : Layer) (k i at : ℕ) (es : List Found) (d : Found) (f : FlattenFault)
     → map element_seen es ≡ elements_at lib k → i < length es → IsRefusal chosen (element_seen (get_or es i d)) at f

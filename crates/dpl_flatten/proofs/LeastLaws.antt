@@ -10,7 +10,7 @@ use Rattle.dpl_syntax.specs.Elements.{element_seen}
 use Rattle.dpl_spec_layout.specs.Faults.{Finding}
 use Rattle.dpl_links.proofs.TakeLaws.{Contains-take_more, Contains-take_keeps, Contains-take_last}
 use Rattle.dpl_spec_split.proofs.Ordered.{Contains-nil}
-use Rattle.dpl_flatten.specs.Least.{IsLeastOf, IsNoted, Among, AmongMarked}
+use Rattle.dpl_flatten.specs.Least.{IsLeastOf, Among, AmongMarked}
 use Rattle.dpl_walk.specs.Least.{earlier}
 
 -- what holds of the elements of either part holds of the whole
@@ -94,19 +94,6 @@ pub least_unmarked : (P : Finding) (k : ℕ) (es : List Element) (marked : Bool)
     → IsLeastOf (Among k es P) first → IsLeastOf (λ i e. (marked ≡ true) × Among k es P i e) first
 least_unmarked P k es marked None m l = λ i e h. l i e h.1
 least_unmarked P k es marked (Some a) m l = ((l.0.0, l.0.1, (m, l.0.2), l.0.3), λ i e h. l.1 i e h.1)
-
-pub noted_more : (P : Finding) (k i : ℕ) (es : List Element) (d : Element) (first new : Option ℕ) → i < length es
-    → IsNoted P k (get_or es i d) first new → IsLeastOf (Among k (take i es) P) first → IsLeastOf (Among k (take (i + 1) es) P) new
-noted_more P k i es d first new h n l =
-    ⊎_elim (λ a. least_more P k i es d first new true h (λ _. a.1, λ _. refl) a.0 l)
-    (λ a. least_more P k i es d first new false h (λ f. let g : false ≡ true = f in cc, λ p. absurd (a.1 p)) a.0 l)
-    n
-
-pub noted_seen : (P : Finding) (k i : ℕ) (es : List Found) (ts : List Element) (d : Found) (first new : Option ℕ)
-    → map element_seen es ≡ ts → i < length es → IsNoted P k (element_seen (get_or es i d)) first new
-    → IsLeastOf (Among k (take i ts) P) first → IsLeastOf (Among k (take (i + 1) ts) P) new
-noted_seen P k i es ts d first new e h n l =
-    noted_more P k i ts (element_seen d) first new (omega (arith, seen_length es ts e)) (rw (seen_at es ts i d (element_seen d) e h) n) l
 
 pub marked_all : (lib : Library) (marks : List Bool) (n : ℕ) (P : Finding) (first : Option ℕ) → length marks ≡ n
     → IsLeastOf (AmongMarked lib marks n P) first → IsLeastOf (AmongMarked lib marks (length marks) P) first

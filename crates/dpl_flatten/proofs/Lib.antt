@@ -2,10 +2,11 @@ pub mod LinkLaws
 pub mod LeastLaws
 pub mod ReachLaws
 pub mod TotalLaws
+pub mod RoleLaws
 pub mod DrawnLaws
 pub mod FoundLaws
 pub mod CopyLaws
-pub mod NearLaws
+pub mod WithinLaws
 pub mod BareLaws
 pub mod CellLaws
 pub mod PlacedLaws

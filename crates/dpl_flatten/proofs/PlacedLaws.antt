@@ -110,7 +110,7 @@ module _ (lib : Library) (layer : Layer) (graph : List (List ℕ)) (marks : List
     targets = λ k c h. ⊎_elim (λ m. let p = (are.marked k m).placed c h in let t = target_known lib p.0 c.target p.2 in
         omega (arith, t, are.each)) (λ n. absurd (Contains-nil c (rw ((are.unmarked k n).0) at h))) (marked_or (get_or marks k false));
     ready = λ k c h. ⊎_elim (λ m. (are.marked k m).ready c h) (λ n. absurd (Contains-nil c (rw ((are.unmarked k n).0) at h))) (marked_or (get_or marks k false));
-    near = λ k i d h. ⊎_elim (λ m. (are.marked k m).near (get_or (outlines_at cells k) i d) (Contains-get_or (outlines_at cells k) i d h))
+    within = λ k i d h. ⊎_elim (λ m. (are.marked k m).within (get_or (outlines_at cells k) i d) (Contains-get_or (outlines_at cells k) i d h))
         (λ n. absurd (omega (arith, h, ap length ((are.unmarked k n).1)))) (marked_or (get_or marks k false));
   }
 

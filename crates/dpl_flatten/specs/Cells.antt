@@ -9,7 +9,7 @@ use Rattle.dpl_spec_layout.specs.declared.ElementFault.{ElementFault}
 use Rattle.dpl_spec_layout.specs.Elements.{loops_of, point_in, columns_of, rows_of, IsCopyMotion, reflects, AreTurns, IsRefusedFor}
 use Rattle.dpl_spec_layout.specs.Structures.{target_of}
 use Rattle.dpl_flatten.specs.Totals.{IsBare, PlacesSome}
-use Rattle.dpl_flatten.specs.declared.copies.Turn.{Turn}
+use Rattle.dpl_flatten.specs.declared.copies.Orientation.{Orientation}
 use Rattle.dpl_walk.specs.declared.cells.Outline.{Outline}
 use Rattle.dpl_walk.specs.declared.cells.Copies.{Copies}
 use Rattle.dpl_walk.specs.declared.cells.Cell.{Cell}
@@ -37,10 +37,10 @@ abbrev pub IsPlaced : Library → List Element → Copies → Type 0
 IsPlaced lib es c = (e : Element) × Contains es e × (target_of lib e ≡ Some c.target) × AreCopies e.body c
 
 -- the reflection and the turns of a transform
-pub record IsTurn (t : Trans) (turn : Turn) : Type 0 where
-  pub reflect : turn.reflect ≡ reflects t
-  pub turns : AreTurns t.angle turn.turns
-  pub few : turn.turns < 4
+pub record IsOrientation (t : Trans) (o : Orientation) : Type 0 where
+  pub reflect : o.reflect ≡ reflects t
+  pub turns : AreTurns t.angle o.turns
+  pub few : o.turns < 4
 
 -- the one copy of a single reference
 pub record IsSingleCopy (t : Trans) (xy : List ℕ) (c : Copies) : Type 0 where
@@ -71,7 +71,7 @@ pub record IsCell (lib : Library) (layer : Layer) (es : List Element) (outlines 
   pub drawn : (o : Outline) → Contains outlines o → IsDrawn layer es o
   pub outlined : (e : Element) (qs : List Pt) → Contains es e → Contains (loops_of layer e.body) qs → Contains outlines (record { at = e.at; points = qs })
   pub straight : (o : Outline) → Contains outlines o → IsRectilinear o.points
-  pub near : (o : Outline) → Contains outlines o → ArePointsWithin (2 ^ 61) o.points
+  pub within : (o : Outline) → Contains outlines o → ArePointsWithin (2 ^ 61) o.points
   pub placed : (c : Copies) → Contains copies c → IsPlaced lib es c
   pub ready : (c : Copies) → Contains copies c → IsReady (2 ^ 31) c
   pub full : (c : Copies) → Contains copies c → PlacesSome lib layer c.target
@@ -93,7 +93,7 @@ IsCopied lib totals e old new =
 pub record IsNoted (lib : Library) (layer : Layer) (totals : List ℕ) (e : Element) (old new : List Outline) (before after : List Copies) : Type 0 where
   pub drawn : new ≡ old ++ map (λ qs. record { at = e.at; points = qs }) (loops_of layer e.body)
   pub straight : All IsRectilinear (loops_of layer e.body)
-  pub near : AreLoopsWithin (2 ^ 61) (loops_of layer e.body)
+  pub within : AreLoopsWithin (2 ^ 61) (loops_of layer e.body)
   pub copied : IsCopied lib totals e before after
 
 -- no element is refused

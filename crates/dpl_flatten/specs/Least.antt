@@ -1,11 +1,10 @@
 -- The least offset of the elements of which a fact holds.
-use Rattle.std.specs.Prelude.{◌≡◌, ℕ, ◌<◌, ◌≤◌, ◌⊎◌, Bool, List, Option, Some, None}
+use Rattle.std.specs.Prelude.{◌≡◌, ℕ, ◌<◌, ◌≤◌, Bool, List, Option, Some, None}
 use Rattle.std.specs.List.{Contains}
 use Rattle.dpl_spec_format.specs.Tree.{Library, Element, elements_at}
 use Rattle.dpl_spec_layout.specs.Elements.{reference_name}
 use Rattle.dpl_spec_layout.specs.Faults.{Finding}
 use Rattle.dpl_links.specs.Graph.{IsMarked}
-use Rattle.dpl_walk.specs.Least.{earlier}
 
 -- the least offset of an element that has it, and None where none has it
 abbrev pub IsLeastOf : Finding → Option ℕ → Type 0
@@ -23,7 +22,3 @@ AmongMarked lib marks n P i e = (i < n) × IsMarked marks i × Contains (element
 -- the element names some structure
 abbrev pub IsReference : Element → Type 0
 IsReference e = (name : List ℕ) × (reference_name e.body ≡ Some name)
-
--- the least offset was brought up to one more element
-abbrev pub IsNoted : Finding → ℕ → Element → Option ℕ → Option ℕ → Type 0
-IsNoted P k e first new = ((new ≡ earlier first (Some e.at)) × P k e) ⊎ ((new ≡ first) × ¬ P k e)

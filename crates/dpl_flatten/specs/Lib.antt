@@ -1,5 +1,7 @@
+pub mod Roles
 pub mod Links
 pub mod Least
+pub mod Wants
 pub mod Totals
 pub mod Drawn
 pub mod Cells

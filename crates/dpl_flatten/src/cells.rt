@@ -1,24 +1,26 @@
 //! What one structure draws on a layer, and the copies of other structures that it places.
 
-ghost use Rattle.std.specs.Prelude.{◌≡◌, ◌++◌, ◌<◌, ◌≤◌, ℕ, [], true, false, length, map, not, bit_and, ◌==◌, ◌∷◌, ◌^◌, List, Some, if◌then◌else◌, IfOk, OnOk, IfSome, IfNone};
+ghost use Rattle.std.specs.Prelude.{◌≡◌, ◌++◌, ◌<◌, ◌≤◌, ℕ, [], true, false, length, map, not, bit_and, ◌==◌, ◌∷◌, ◌^◌, List, Some, IfOk, OnOk, IfSome, IfNone};
 ghost use Rattle.std.specs.List.{All};
 ghost use Rattle.dpl_spec_split.specs.Loops.{IsRectilinear, AreLoopsWithin};
 ghost use Rattle.dpl_spec_elements.specs.Boundaries.{IsSlanted};
-ghost use Rattle.dpl_spec_elements.specs.Paths.{corners_of, path_rects, path_of};
+ghost use Rattle.dpl_spec_elements.specs.Paths.{corners_of, path_rects};
 ghost use Rattle.dpl_spec_format.specs.Tree.{HasPoints, elements_at};
 ghost use Rattle.dpl_syntax.specs.Elements.{body_seen, element_seen, IsSized};
 ghost use Rattle.dpl_shapes.specs.declared.fault.ShapeFault.TheVariants.{NoMemory};
 ghost use Rattle.dpl_spec_layout.specs.declared.ElementFault.{ElementFault};
 ghost use Rattle.dpl_spec_layout.specs.Elements.{points_in, loops_of, AreTurns, IsTurnedAskew, IsPathFault, IsRefusedFor, reference_name};
 ghost use Rattle.dpl_flatten.specs.Cells.{AreCopies, IsCopied, IsNoted, IsCell, AreCountedTargets, AreTaken, AreCells};
+ghost use Rattle.dpl_flatten.specs.Roles.{path_along};
 ghost use Rattle.dpl_walk.specs.Cells.{IsReady};
 ghost use Rattle.dpl_flatten.specs.Totals.{ceiling};
 ghost use Rattle.dpl_links.specs.Graph.{IsMarked};
 
 use crate::copies::{array_copies, single_copy};
-use crate::count::{is_on, total_at};
+use crate::count::total_at;
 use crate::links::target;
-use crate::shapes::{Stroke, points_of};
+use crate::role::{PathStyle, Role, role_of};
+use crate::shapes::points_of;
 use dpl_base::{Listed, Loop};
 use dpl_reals::Real;
 use dpl_shapes::{ShapeFault, boundary_loop, path_loops};
@@ -46,7 +48,7 @@ pub(crate) fn is_reflected(strans: u16) -> bool
     strans & 0x8000 != 0
 }
 
-/// The want of memory that a shape may meet which isn't refused.
+/// The fault of a shape that isn't refused: memory ran out.
 fn want_of_memory(fault: ShapeFault) -> AllocError
     requires { fault ≡ NoMemory }
 {
@@ -56,21 +58,18 @@ fn want_of_memory(fault: ShapeFault) -> AllocError
     }
 }
 
-/// The loops of a boundary or box that isn't refused.
-fn boundary_outlines(alloc: Global, counts: bool, xy: &[u8]) -> Result<Vec<Loop>, AllocError>
-    requires { counts ≡ true → ¬ IsSlanted (points_in xy.now) }
-    ensures loops { IfOk result (λ v. v.items ≡ (if counts then points_in xy.now ∷ [] else [])) }
+/// The loop of a boundary or box that isn't refused.
+fn boundary_outlines(alloc: Global, xy: &[u8]) -> Result<Vec<Loop>, AllocError>
+    requires { ¬ IsSlanted (points_in xy.now) }
+    ensures loops { IfOk result (λ v. v.items ≡ points_in xy.now ∷ []) }
     ensures straight { IfOk result (λ v. All IsRectilinear v.items) }
-    ensures near { IfOk result (λ v. AreLoopsWithin (2 ^ 61) v.items) }
+    ensures within { IfOk result (λ v. AreLoopsWithin (2 ^ 61) v.items) }
 {
-    let mut loops = Vec::new(alloc);
-    if !counts {
-        return Ok(loops);
-    }
     let points = points_of(alloc, xy)?;
     match boundary_loop(alloc, points.as_slice()) {
         Err(fault) => Err(want_of_memory(fault)),
         Ok(outline) => {
+            let mut loops = Vec::with_capacity(alloc, 1)?;
             loops.push(outline)?;
             Ok(loops)
         }
@@ -78,28 +77,20 @@ fn boundary_outlines(alloc: Global, counts: bool, xy: &[u8]) -> Result<Vec<Loop>
 }
 
 /// The loops of a path that isn't refused.
-fn path_outlines(
-    alloc: Global,
-    counts: bool,
-    stroke: Stroke,
-    xy: &[u8],
-) -> Result<Vec<Loop>, AllocError>
-    requires { (f : ElementFault) → counts ≡ true → ¬ IsPathFault (path_of (points_in xy.now) stroke.width stroke.kind stroke.begin_ext stroke.end_ext) f }
-    ensures loops { IfOk result (λ v. v.items ≡ (if counts then map corners_of (path_rects (path_of (points_in xy.now) stroke.width stroke.kind stroke.begin_ext stroke.end_ext)) else [])) }
+fn path_outlines(alloc: Global, style: PathStyle, xy: &[u8]) -> Result<Vec<Loop>, AllocError>
+    requires { (f : ElementFault) → ¬ IsPathFault (path_along style xy.now) f }
+    ensures loops { IfOk result (λ v. v.items ≡ map corners_of (path_rects (path_along style xy.now))) }
     ensures straight { IfOk result (λ v. All IsRectilinear v.items) }
-    ensures near { IfOk result (λ v. AreLoopsWithin (2 ^ 61) v.items) }
+    ensures within { IfOk result (λ v. AreLoopsWithin (2 ^ 61) v.items) }
 {
-    if !counts {
-        return Ok(Vec::new(alloc));
-    }
     let points = points_of(alloc, xy)?;
     match path_loops(
         alloc,
         points.as_slice(),
-        stroke.width as i64,
-        stroke.kind,
-        stroke.begin_ext as i64,
-        stroke.end_ext as i64,
+        style.width as i64,
+        style.kind,
+        style.begin_ext as i64,
+        style.end_ext as i64,
     ) {
         Err(fault) => Err(want_of_memory(fault)),
         Ok(loops) => Ok(loops),
@@ -111,37 +102,11 @@ fn element_loops(alloc: Global, chosen: Layer, body: &Body<'_>) -> Result<Vec<Lo
     requires { (f : ElementFault) → ¬ IsRefusedFor chosen (body_seen body.now) f }
     ensures loops { IfOk result (λ v. v.items ≡ loops_of chosen (body_seen body.now)) }
     ensures straight { IfOk result (λ v. All IsRectilinear v.items) }
-    ensures near { IfOk result (λ v. AreLoopsWithin (2 ^ 61) v.items) }
+    ensures within { IfOk result (λ v. AreLoopsWithin (2 ^ 61) v.items) }
 {
-    match *body {
-        Body::Boundary {
-            layer,
-            datatype,
-            xy,
-        } => boundary_outlines(alloc, is_on(chosen, layer, datatype), xy),
-        Body::BoxShape { layer, boxtype, xy } => boundary_outlines(
-            alloc,
-            is_on(chosen, layer, boxtype),
-            xy,
-        ),
-        Body::Path {
-            layer,
-            datatype,
-            kind,
-            width,
-            begin_ext,
-            end_ext,
-            xy,
-        } => {
-            let stroke = Stroke {
-                width: width.unwrap_or(0),
-                kind: kind.unwrap_or(0),
-                begin_ext: begin_ext.unwrap_or(0),
-                end_ext: end_ext.unwrap_or(0),
-            };
-            let loops = path_outlines(alloc, is_on(chosen, layer, datatype), stroke, xy)?;
-            Ok(loops)
-        }
+    match role_of(chosen, body) {
+        Role::Boundary { xy } => boundary_outlines(alloc, xy),
+        Role::Path { style, xy } => path_outlines(alloc, style, xy),
         _ => Ok(Vec::new(alloc)),
     }
 }
@@ -156,7 +121,7 @@ fn draw(
     requires { (f : ElementFault) → ¬ IsRefusedFor chosen (body_seen element.now.body) f }
     ensures outlines { OnOk result (outlines.new.items ≡ outlines.old.items ++ map (λ qs. record { at = element.now.at; points = qs }) (loops_of chosen (body_seen element.now.body))) }
     ensures straight { OnOk result (All IsRectilinear (loops_of chosen (body_seen element.now.body))) }
-    ensures near { OnOk result (AreLoopsWithin (2 ^ 61) (loops_of chosen (body_seen element.now.body))) }
+    ensures within { OnOk result (AreLoopsWithin (2 ^ 61) (loops_of chosen (body_seen element.now.body))) }
 {
     let loops = element_loops(alloc, chosen, &element.body)?;
     for points in loops {
@@ -289,8 +254,7 @@ fn cell_where(
             copies: Listed::of(Vec::new(alloc)),
         });
     }
-    let cell = cell_of(alloc, lib, chosen, totals, structure)?;
-    Ok(cell)
+    cell_of(alloc, lib, chosen, totals, structure)
 }
 
 /// What the marked structures draw and place.

@@ -5,7 +5,7 @@ ghost use Rattle.std.specs.Option.{option_map};
 ghost use Rattle.dpl_spec_split.specs.Loops.{IsPointWithin};
 ghost use Rattle.dpl_syntax.specs.Elements.{trans_seen};
 ghost use Rattle.dpl_spec_layout.specs.Elements.{plain, IsTurnedAskew};
-ghost use Rattle.dpl_flatten.specs.Cells.{spacing_of, IsTurn, IsSingleCopy, IsArrayOfCopies};
+ghost use Rattle.dpl_flatten.specs.Cells.{spacing_of, IsOrientation, IsSingleCopy, IsArrayOfCopies};
 ghost use Rattle.dpl_walk.specs.Cells.{IsSpanWithin};
 
 use crate::cells::{is_reflected, turns_of};
@@ -14,20 +14,20 @@ use dpl_base::Pt;
 use dpl_syntax::Trans;
 use dpl_walk::Copies;
 
-/// How a reference turns its copies.
+/// How a reference reflects and turns its copies.
 #[derive(Clone, Copy)]
-struct Turn {
+struct Orientation {
     reflect: bool,
     turns: u8,
 }
 
-/// The reflection and the turns of a transform whose angle is right.
-fn turn_of(trans: &Trans) -> Turn
+/// The orientation that a transform gives whose angle is right.
+fn orientation_of(trans: &Trans) -> Orientation
     requires { ¬ IsTurnedAskew (trans_seen trans.now).angle }
-    ensures { IsTurn (trans_seen trans.now) result }
+    ensures { IsOrientation (trans_seen trans.now) result }
 {
     match turns_of(trans.angle) {
-        Some(turns) => Turn {
+        Some(turns) => Orientation {
             reflect: is_reflected(trans.strans),
             turns,
         },
@@ -35,17 +35,17 @@ fn turn_of(trans: &Trans) -> Turn
     }
 }
 
-/// Those of a reference, which may have no transform.
-fn own_turn(trans: Option<Trans>) -> Turn
+/// The orientation that a reference gives, which may have no transform.
+fn own_orientation(trans: Option<Trans>) -> Orientation
     requires { ¬ IsTurnedAskew (unwrap_or (option_map trans_seen trans) plain).angle }
-    ensures { IsTurn (unwrap_or (option_map trans_seen trans) plain) result }
+    ensures { IsOrientation (unwrap_or (option_map trans_seen trans) plain) result }
 {
     match trans {
-        None => Turn {
+        None => Orientation {
             reflect: false,
             turns: 0,
         },
-        Some(trans) => turn_of(&trans),
+        Some(trans) => orientation_of(&trans),
     }
 }
 
@@ -89,12 +89,12 @@ pub(crate) fn single_copy(target: u32, trans: Option<Trans>, xy: &[u8]) -> Copie
     ensures copies { IsSingleCopy (unwrap_or (option_map trans_seen trans) plain) xy.now result }
     ensures target { result.target ≡ target }
 {
-    let turn = own_turn(trans);
+    let orientation = own_orientation(trans);
     let still = Pt { x: 0, y: 0 };
     Copies {
         target,
-        reflect: turn.reflect,
-        turns: turn.turns,
+        reflect: orientation.reflect,
+        turns: orientation.turns,
         origin: point_at(xy, 0),
         across: still,
         up: still,
@@ -118,14 +118,14 @@ pub(crate) fn array_copies(
     ensures copies { IsArrayOfCopies (unwrap_or (option_map trans_seen trans) plain) columns rows xy.now result }
     ensures target { result.target ≡ target }
 {
-    let turn = own_turn(trans);
+    let orientation = own_orientation(trans);
     let origin = point_at(xy, 0);
     let across = spacing(origin, point_at(xy, 1), columns);
     let up = spacing(origin, point_at(xy, 2), rows);
     Copies {
         target,
-        reflect: turn.reflect,
-        turns: turn.turns,
+        reflect: orientation.reflect,
+        turns: orientation.turns,
         origin,
         across,
         up,

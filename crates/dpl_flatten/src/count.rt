@@ -4,12 +4,13 @@ ghost use Rattle.std.specs.Prelude.{◌≡◌, ◌<◌, ◌≤◌, ◌*◌, ◌^
 ghost use Rattle.std.specs.List.{All};
 ghost use Rattle.dpl_spec_format.specs.Tree.{elements_at};
 ghost use Rattle.dpl_syntax.specs.Elements.{body_seen, element_seen};
-ghost use Rattle.dpl_spec_layout.specs.Elements.{point_count, columns_of, rows_of, is_on as is_on_layer};
+ghost use Rattle.dpl_spec_layout.specs.Elements.{point_count, columns_of, rows_of};
 ghost use Rattle.dpl_spec_layout.specs.Points.{points_by};
 ghost use Rattle.dpl_flatten.specs.Links.{IsLinked, IsOrdered};
 ghost use Rattle.dpl_flatten.specs.Totals.{ceiling, AreTotals};
 
-use crate::links::{Links, target};
+use crate::links::{ReachedGraph, target};
+use crate::role::{Role, role_of};
 use dpl_links::Order;
 use dpl_spec_layout::Layer;
 use dpl_syntax::{Body, Element, Library};
@@ -18,35 +19,14 @@ use std::alloc::{AllocError, Global};
 /// One more than the most points that a layer may have. Counts stop there.
 const CEILING: u64 = 16_777_217;
 
-/// Whether an element of this layer and datatype lies on the chosen layer.
-pub(crate) fn is_on(chosen: Layer, layer: u16, datatype: u16) -> bool
-    ensures { result ≡ is_on_layer chosen layer datatype }
-{
-    layer == chosen.layer && datatype == chosen.datatype
-}
-
 /// How many points an element counts on the chosen layer.
 fn own_points(chosen: Layer, body: &Body<'_>) -> u64
     ensures value { result ≡ point_count chosen (body_seen body.now) }
     ensures small { result < 2 ^ 61 }
 {
-    match *body {
-        Body::Boundary {
-            layer,
-            datatype,
-            xy,
-        } => points_where(is_on(chosen, layer, datatype), xy),
-        Body::BoxShape { layer, boxtype, xy } => points_where(is_on(chosen, layer, boxtype), xy),
-        Body::Path {
-            layer,
-            datatype,
-            width,
-            xy,
-            ..
-        } => points_where(
-            is_on(chosen, layer, datatype) && width.unwrap_or(0) != 0,
-            xy,
-        ),
+    match role_of(chosen, body) {
+        Role::Boundary { xy } => xy.len() as u64 / 8,
+        Role::Path { style, xy } if style.width != 0 => xy.len() as u64 / 8,
         _ => 0,
     }
 }
@@ -91,6 +71,7 @@ fn total_of(lib: &Library<'_>, chosen: Layer, structure: u32, totals: &[u32]) ->
     total as u32
 }
 
+/// The total of a structure, and 0 past the end.
 pub(crate) fn total_at(totals: &[u32], structure: u32) -> u64
     requires { All (λ n. n ≤ ceiling) totals.now }
     ensures value { result ≡ slice_index totals.now structure }
@@ -100,14 +81,6 @@ pub(crate) fn total_at(totals: &[u32], structure: u32) -> u64
         Some(total) => *total as u64,
         None => 0,
     }
-}
-
-/// How many points are in the data of XY, where they count.
-fn points_where(counts: bool, xy: &[u8]) -> u64
-    ensures value { result ≡ (if counts then length xy.now / 8 else 0) }
-    ensures small { result < 2 ^ 61 }
-{
-    if counts { xy.len() as u64 / 8 } else { 0 }
 }
 
 /// Sets the total of a structure.
@@ -127,7 +100,7 @@ pub(crate) fn totals(
     alloc: Global,
     lib: &Library<'_>,
     chosen: Layer,
-    links: &Links<'_>,
+    links: &ReachedGraph<'_>,
     order: &Order,
 ) -> Result<Vec<u32>, AllocError>
     requires links { IsLinked lib.now links.now.graph.now links.now.marks.now }
@@ -142,6 +115,7 @@ pub(crate) fn totals(
     Ok(totals)
 }
 
+/// So many totals of 0.
 fn zeros(alloc: Global, count: usize) -> Result<Vec<u32>, AllocError>
     ensures { IfOk result (λ v. v.items ≡ replicate count 0) }
 {

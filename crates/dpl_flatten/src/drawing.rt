@@ -12,7 +12,7 @@ ghost use Rattle.dpl_flatten.specs.Totals.{AreTotals};
 
 use crate::cells::make_cells;
 use crate::faults::Survey;
-use crate::links::Links;
+use crate::links::ReachedGraph;
 use dpl_base::Loop;
 use dpl_spec_layout::{FlattenFault, Layer};
 use dpl_syntax::Library;
@@ -65,7 +65,7 @@ pub(crate) fn draw_all(
     lib: &Library<'_>,
     top: u32,
     layer: Layer,
-    links: &Links<'_>,
+    links: &ReachedGraph<'_>,
     survey: Survey,
 ) -> Result<Drawing, AllocError>
     requires links { IsLinked lib.now links.now.graph.now links.now.marks.now }

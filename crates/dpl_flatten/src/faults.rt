@@ -8,10 +8,9 @@ ghost use Rattle.dpl_flatten.specs.Links.{IsLinked, IsOrdered};
 ghost use Rattle.dpl_flatten.specs.Totals.{AreTotals};
 
 use crate::count::totals;
-use crate::links::Links;
-use crate::missing::missing;
-use crate::recursion::recursion;
-use crate::refused::{refusal, refused};
+use crate::first::{Wanted, first};
+use crate::links::ReachedGraph;
+use crate::refused::refusal;
 use dpl_links::{Order, find_levels, find_order};
 use dpl_spec_layout::{FlattenFault, Layer};
 use dpl_syntax::Library;
@@ -20,19 +19,21 @@ use std::alloc::{AllocError, Global};
 /// The most points that a layer may have.
 const MOST_POINTS: u32 = 16_777_216;
 
-/// No reference names a structure that isn't there.
+/// Refuses a layout in which a reference names no structure.
 fn find_missing(
+    alloc: Global,
     lib: &Library<'_>,
     top: u32,
     layer: Layer,
-    links: &Links<'_>,
+    links: &ReachedGraph<'_>,
 ) -> Result<(), FlattenFault>
     requires links { IsLinked lib.now links.now.graph.now links.now.marks.now }
     requires reached { AreReached links.now.graph.now top links.now.marks.now }
     ensures complete { OnOk result (IsNowhere lib.now top (IsMissing lib.now)) }
     ensures fault { IfErr result (λ f. IsFirstFault lib.now top layer f) }
 {
-    match missing(lib, links.marks) {
+    let found = first(alloc, lib, links, Wanted::Missing)?;
+    match found {
         Some(at) => Err(FlattenFault::MissingStructure { at }),
         None => Ok(()),
     }
@@ -43,7 +44,7 @@ fn recursive_at(
     alloc: Global,
     lib: &Library<'_>,
     top: u32,
-    links: &Links<'_>,
+    links: &ReachedGraph<'_>,
 ) -> Result<usize, AllocError>
     requires links { IsLinked lib.now links.now.graph.now links.now.marks.now }
     requires reached { AreReached links.now.graph.now top links.now.marks.now }
@@ -52,19 +53,20 @@ fn recursive_at(
     ensures { IfOk result (λ at. IsFirst lib.now top (IsOnCycle lib.now) at) }
 {
     let levels = find_levels(alloc, links.graph, top)?;
-    match recursion(lib, links, &levels) {
+    let found = first(alloc, lib, links, Wanted::Recursive { levels: &levels })?;
+    match found {
         Some(at) => Ok(at),
         None => unreachable!(),
     }
 }
 
-/// No reference lies on a cycle; gives the structures in an order in which every reference leads back.
+/// Refuses a layout in which a reference lies on a cycle; else gives the structures in an order in which every reference leads back.
 fn find_recursion(
     alloc: Global,
     lib: &Library<'_>,
     top: u32,
     layer: Layer,
-    links: &Links<'_>,
+    links: &ReachedGraph<'_>,
 ) -> Result<Order, FlattenFault>
     requires links { IsLinked lib.now links.now.graph.now links.now.marks.now }
     requires reached { AreReached links.now.graph.now top links.now.marks.now }
@@ -85,13 +87,13 @@ fn find_recursion(
     }
 }
 
-/// No element is refused.
+/// Refuses a layout with an element that is refused.
 fn find_refused(
     alloc: Global,
     lib: &Library<'_>,
     top: u32,
     layer: Layer,
-    links: &Links<'_>,
+    links: &ReachedGraph<'_>,
 ) -> Result<(), FlattenFault>
     requires links { IsLinked lib.now links.now.graph.now links.now.marks.now }
     requires reached { AreReached links.now.graph.now top links.now.marks.now }
@@ -99,7 +101,7 @@ fn find_refused(
     ensures sound { OnOk result (IsSound lib.now top layer) }
     ensures fault { IfErr result (λ f. IsFirstFault lib.now top layer f) }
 {
-    let found = refused(alloc, lib, layer, links.marks)?;
+    let found = first(alloc, lib, links, Wanted::Refused { layer })?;
     match found {
         Some(at) => {
             let fault = refusal(alloc, lib, layer, links.marks, at)?;
@@ -115,7 +117,7 @@ fn find_many(
     lib: &Library<'_>,
     top: u32,
     layer: Layer,
-    links: &Links<'_>,
+    links: &ReachedGraph<'_>,
     order: &Order,
 ) -> Result<Vec<u32>, FlattenFault>
     requires links { IsLinked lib.now links.now.graph.now links.now.marks.now }
@@ -137,7 +139,7 @@ fn find_many(
 /// What is known of the structures of a layout that has none of the faults that are tried before the range.
 #[derive(Drop)]
 pub(crate) struct Survey {
-    /// Every reference leads back.
+    /// The structures, each behind those that it refers to.
     pub(crate) order: Order,
     /// How many points each structure places.
     pub(crate) totals: Vec<u32>,
@@ -149,7 +151,7 @@ pub(crate) fn find_faults(
     lib: &Library<'_>,
     top: u32,
     layer: Layer,
-    links: &Links<'_>,
+    links: &ReachedGraph<'_>,
 ) -> Result<Survey, FlattenFault>
     requires links { IsLinked lib.now links.now.graph.now links.now.marks.now }
     requires reached { AreReached links.now.graph.now top links.now.marks.now }
@@ -160,7 +162,7 @@ pub(crate) fn find_faults(
     ensures totals { IfOk result (λ s. AreTotals lib.now layer links.now.marks.now s.totals.items) }
     ensures fault { IfErr result (λ f. IsFirstFault lib.now top layer f) }
 {
-    find_missing(lib, top, layer, links)?;
+    find_missing(alloc, lib, top, layer, links)?;
     let order = find_recursion(alloc, lib, top, layer, links)?;
     find_refused(alloc, lib, top, layer, links)?;
     let totals = find_many(alloc, lib, top, layer, links, &order)?;

@@ -11,7 +11,7 @@ ghost use Rattle.dpl_flatten.specs.Drawing.{IsDrawingOf, IsTrimmed};
 
 use crate::drawing::draw_all;
 use crate::faults::find_faults;
-use crate::links::{Links, graph_of};
+use crate::links::{ReachedGraph, graph_of};
 use dpl_base::Loop;
 use dpl_links::reach;
 
@@ -20,11 +20,13 @@ mod copies;
 mod count;
 mod drawing;
 mod faults;
+mod first;
 mod links;
 mod missing;
 mod recursion;
 mod refs;
 mod refused;
+mod role;
 mod shapes;
 mod top;
 
@@ -53,7 +55,7 @@ pub fn draw(
 {
     let graph = graph_of(alloc, lib)?;
     let marks = reach(alloc, graph.as_slice(), top)?;
-    let links = Links {
+    let links = ReachedGraph {
         graph: graph.as_slice(),
         marks: marks.as_slice(),
     };
@@ -84,6 +86,5 @@ pub fn flatten(
     ensures fault { IfErr result (λ f. IsFirstFault lib.now top layer f) }
 {
     let drawing = draw(alloc, lib, top, layer)?;
-    let loops = drawing.loops(alloc)?;
-    Ok(loops)
+    drawing.loops(alloc)
 }

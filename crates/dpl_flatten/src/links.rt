@@ -15,7 +15,7 @@ use std::alloc::{AllocError, Global};
 
 /// The graph of a layout's references, and marks of the structures that its top reaches.
 #[derive(Clone, Copy)]
-pub(crate) struct Links<'a> {
+pub(crate) struct ReachedGraph<'a> {
     pub(crate) graph: &'a [Listed<u32>],
     pub(crate) marks: &'a [bool],
 }

@@ -1,16 +1,14 @@
 //! References that lie on cycles of references.
 
-ghost use Rattle.std.specs.Prelude.{◌≡◌, ◌<◌, ◌↔◌, true, false, length, slice_index, slice_index_or, IsTrue};
+ghost use Rattle.std.specs.Prelude.{◌≡◌, ◌↔◌, true, false, slice_index, slice_index_or, IsTrue};
 ghost use Rattle.std.specs.List.{Contains};
 ghost use Rattle.dpl_spec_format.specs.Tree.{elements_at};
 ghost use Rattle.dpl_syntax.specs.Elements.{element_seen};
 ghost use Rattle.dpl_spec_layout.specs.Faults.{IsOnCycle};
 ghost use Rattle.dpl_flatten.specs.Links.{IsLevelled};
-ghost use Rattle.dpl_flatten.specs.Least.{IsLeastOf, Among, AmongMarked};
 
-use crate::links::{Links, target};
+use crate::links::{ReachedGraph, target};
 use dpl_syntax::{Element, Library};
-use dpl_walk::{earlier, note};
 
 /// The level of a structure, and 0 past the end.
 fn level_at(levels: &[usize], structure: u32) -> usize
@@ -27,9 +25,9 @@ fn have_one_level(levels: &[usize], a: u32, b: u32) -> bool
 }
 
 /// Whether an element of a marked structure lies on a cycle of references.
-fn is_recursive(
+pub(crate) fn is_recursive(
     lib: &Library<'_>,
-    links: &Links<'_>,
+    links: &ReachedGraph<'_>,
     levels: &[usize],
     structure: u32,
     element: &Element<'_>,
@@ -43,59 +41,4 @@ fn is_recursive(
         None => false,
         Some(number) => have_one_level(levels, number, structure),
     }
-}
-
-/// The least offset of such a reference in a marked structure.
-fn recursion_in(
-    lib: &Library<'_>,
-    links: &Links<'_>,
-    levels: &[usize],
-    structure: u32,
-) -> Option<usize>
-    requires links { IsLevelled lib.now links.now.graph.now links.now.marks.now levels.now }
-    requires marked { slice_index_or links.now.marks.now structure false ≡ true }
-    requires known { structure < length lib.now.structures }
-    ensures { IsLeastOf (Among structure (elements_at lib.now structure) (IsOnCycle lib.now)) result }
-{
-    let mut first = None;
-    for element in lib.elements(structure) {
-        let found = is_recursive(lib, links, levels, structure, element);
-        first = note(first, found, element.at);
-    }
-    first
-}
-
-/// The least offset of such a reference in a structure, where it is marked.
-fn recursion_where(
-    lib: &Library<'_>,
-    links: &Links<'_>,
-    levels: &[usize],
-    structure: u32,
-    marked: bool,
-) -> Option<usize>
-    requires links { IsLevelled lib.now links.now.graph.now links.now.marks.now levels.now }
-    requires marked { slice_index_or links.now.marks.now structure false ≡ marked }
-    requires known { structure < length lib.now.structures }
-    ensures { IsLeastOf (λ k e. (marked ≡ true) × Among structure (elements_at lib.now structure) (IsOnCycle lib.now) k e) result }
-{
-    if marked {
-        recursion_in(lib, links, levels, structure)
-    } else {
-        None
-    }
-}
-
-/// The least offset of such a reference in the marked structures.
-pub(crate) fn recursion(lib: &Library<'_>, links: &Links<'_>, levels: &[usize]) -> Option<usize>
-    requires links { IsLevelled lib.now links.now.graph.now links.now.marks.now levels.now }
-    requires marks { length links.now.marks.now ≡ length lib.now.structures }
-    ensures { IsLeastOf (AmongMarked lib.now links.now.marks.now (length links.now.marks.now) (IsOnCycle lib.now)) result }
-{
-    let mut first = None;
-    for structure in 0..lib.count() {
-        let marked = links.marks[structure as usize];
-        let found = recursion_where(lib, links, levels, structure, marked);
-        first = earlier(first, found);
-    }
-    first
 }

@@ -4,8 +4,8 @@ ghost use Rattle.std.specs.Prelude.{◌≡◌, ◌≢◌, ◌+◌, ◌*◌, ◌^
 ghost use Rattle.std.specs.Option.{option_map};
 ghost use Rattle.dpl_spec_split.specs.Loops.{IsPointWithin};
 ghost use Rattle.dpl_syntax.specs.Elements.{trans_seen};
-ghost use Rattle.dpl_spec_layout.specs.Elements.{point_in, plain, IsMagnified, IsTurnedAskew, Divides, IsArray};
-ghost use Rattle.dpl_flatten.specs.Drawn.{IsTransformFault, IsFaultOfReference, DividesBoth};
+ghost use Rattle.dpl_spec_layout.specs.Elements.{point_in, plain, IsMagnified, IsTurnedAskew, IsReferenceFault, Divides, IsArray};
+ghost use Rattle.dpl_flatten.specs.Drawn.{IsTransformFault, IsFaultBy, DividesBoth};
 
 use dpl_base::Pt;
 use dpl_reals::Real;
@@ -80,7 +80,7 @@ fn own_fault(trans: Option<Trans>) -> Option<ElementFault>
 
 /// What a reference to one copy is refused for.
 pub(crate) fn single_fault(trans: Option<Trans>) -> Option<ElementFault>
-    ensures { IsFaultOfReference (unwrap_or (option_map trans_seen trans) plain) ⊥ result }
+    ensures { IsFaultBy (IsReferenceFault (unwrap_or (option_map trans_seen trans) plain) ⊥) result }
 {
     own_fault(trans)
 }
@@ -93,7 +93,7 @@ fn is_multiple(count: i16, difference: i64) -> bool
     difference % count as i64 == 0
 }
 
-/// Whether the difference of two coordinates is.
+/// Whether the difference of two coordinates is a multiple of `count`.
 fn divides(count: i16, from: i64, to: i64) -> bool
     requires count { pos 1 ≤ℤ count }
     requires from { unsigned_abs from ≤ 2 ^ 31 }
@@ -103,7 +103,7 @@ fn divides(count: i16, from: i64, to: i64) -> bool
     is_multiple(count, to - from)
 }
 
-/// Whether both coordinates of a difference are.
+/// Whether both coordinates of the difference of two points are multiples of `count`.
 fn divides_both(count: i16, from: Pt, to: Pt) -> bool
     requires count { pos 1 ≤ℤ count }
     requires from { IsPointWithin (2 ^ 31) from }
@@ -147,7 +147,7 @@ pub(crate) fn array_fault(
     xy: &[u8],
 ) -> Option<ElementFault>
     requires { length xy.now ≡ 24 }
-    ensures { IsFaultOfReference (unwrap_or (option_map trans_seen trans) plain) (¬ IsArray columns rows xy.now) result }
+    ensures { IsFaultBy (IsReferenceFault (unwrap_or (option_map trans_seen trans) plain) (¬ IsArray columns rows xy.now)) result }
 {
     if let Some(fault) = own_fault(trans) {
         return Some(fault);

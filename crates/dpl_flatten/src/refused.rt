@@ -1,19 +1,18 @@
 //! Elements that are refused.
 
-ghost use Rattle.std.specs.Prelude.{◌≡◌, ◌<◌, ℕ, true, length, None, IfOk, IfSome};
+ghost use Rattle.std.specs.Prelude.{◌≡◌, ◌<◌, ◌↔◌, true, length, None, IsTrue, IfOk, IfSome};
 ghost use Rattle.std.specs.List.{Contains};
 ghost use Rattle.dpl_spec_format.specs.Tree.{Element as TreeElement, elements_at};
 ghost use Rattle.dpl_syntax.specs.Elements.{body_seen, element_seen, IsSized};
+ghost use Rattle.dpl_spec_layout.specs.Elements.{IsRefusedFor};
 ghost use Rattle.dpl_spec_layout.specs.Faults.{IsRefused};
-ghost use Rattle.dpl_flatten.specs.Least.{IsLeastOf, IsNoted, Among, AmongMarked};
-ghost use Rattle.dpl_flatten.specs.Drawn.{IsFaultOf, IsRefusal, IsRefusalWhere, IsRefusalAmong, IsRefusalOf, IsTakenAt, HasRefusalAt};
+ghost use Rattle.dpl_flatten.specs.Drawn.{IsFaultBy, IsRefusal, IsRefusalWhere, IsRefusalAmong, IsRefusalOf, IsTakenAt, HasRefusalAt};
 
-use crate::count::is_on;
 use crate::refs::{array_fault, single_fault};
-use crate::shapes::{Stroke, boundary_fault, path_fault};
+use crate::role::{Role, role_of};
+use crate::shapes::{boundary_fault, path_fault};
 use dpl_spec_layout::{ElementFault, FlattenFault, Layer};
-use dpl_syntax::{Body, Element, Library};
-use dpl_walk::{earlier, note};
+use dpl_syntax::{Element, Library};
 use std::alloc::{AllocError, Global};
 
 /// What an element is refused for.
@@ -23,117 +22,32 @@ fn fault_of(
     element: &Element<'_>,
 ) -> Result<Option<ElementFault>, AllocError>
     requires { IsSized element.now }
-    ensures { IfOk result (λ o. IsFaultOf chosen (body_seen element.now.body) o) }
+    ensures { IfOk result (IsFaultBy (IsRefusedFor chosen (body_seen element.now.body))) }
 {
-    match element.body {
-        Body::Sref { trans, .. } => Ok(single_fault(trans)),
-        Body::Aref {
+    match role_of(chosen, &element.body) {
+        Role::Nothing => Ok(None),
+        Role::Boundary { xy } => boundary_fault(alloc, xy),
+        Role::Path { style, xy } => path_fault(alloc, style, xy),
+        Role::Single { trans } => Ok(single_fault(trans)),
+        Role::Array {
             trans,
             columns,
             rows,
             xy,
-            ..
         } => Ok(array_fault(trans, columns, rows, xy)),
-        Body::Boundary {
-            layer,
-            datatype,
-            xy,
-        } => boundary_fault(alloc, is_on(chosen, layer, datatype), xy),
-        Body::BoxShape { layer, boxtype, xy } => boundary_fault(
-            alloc,
-            is_on(chosen, layer, boxtype),
-            xy,
-        ),
-        Body::Path {
-            layer,
-            datatype,
-            kind,
-            width,
-            begin_ext,
-            end_ext,
-            xy,
-        } => {
-            let stroke = Stroke {
-                width: width.unwrap_or(0),
-                kind: kind.unwrap_or(0),
-                begin_ext: begin_ext.unwrap_or(0),
-                end_ext: end_ext.unwrap_or(0),
-            };
-            let fault = path_fault(alloc, is_on(chosen, layer, datatype), stroke, xy)?;
-            Ok(fault)
-        }
-        _ => Ok(None),
     }
 }
 
-/// The least offset so far, brought up to an element.
-fn note_refused(
+/// Whether an element is refused.
+pub(crate) fn is_refused(
     alloc: Global,
     chosen: Layer,
     element: &Element<'_>,
-    first: Option<usize>,
-) -> Result<Option<usize>, AllocError>
+) -> Result<bool, AllocError>
     requires { IsSized element.now }
-    ensures { IfOk result (λ new. (structure : ℕ) → IsNoted (IsRefused chosen) structure (element_seen element.now) first new) }
+    ensures { IfOk result (λ found. IsTrue found ↔ IsRefused chosen 0 (element_seen element.now)) }
 {
-    let fault = fault_of(alloc, chosen, element)?;
-    match fault {
-        Some(_) => Ok(note(first, true, element.at)),
-        None => Ok(first),
-    }
-}
-
-/// The least offset of a refused element of a structure.
-fn refused_in(
-    alloc: Global,
-    lib: &Library<'_>,
-    chosen: Layer,
-    structure: u32,
-) -> Result<Option<usize>, AllocError>
-    requires { structure < length lib.now.structures }
-    ensures { IfOk result (λ first. IsLeastOf (Among structure (elements_at lib.now structure) (IsRefused chosen)) first) }
-{
-    let mut first = None;
-    for element in lib.elements(structure) {
-        first = note_refused(alloc, chosen, element, first)?;
-    }
-    Ok(first)
-}
-
-/// The least offset of a refused element of a structure, where it is marked.
-fn refused_where(
-    alloc: Global,
-    lib: &Library<'_>,
-    chosen: Layer,
-    structure: u32,
-    marked: bool,
-) -> Result<Option<usize>, AllocError>
-    requires { structure < length lib.now.structures }
-    ensures { IfOk result (λ first. IsLeastOf (λ k e. (marked ≡ true) × Among structure (elements_at lib.now structure) (IsRefused chosen) k e) first) }
-{
-    if !marked {
-        return Ok(None);
-    }
-    let first = refused_in(alloc, lib, chosen, structure)?;
-    Ok(first)
-}
-
-/// The least offset of a refused element of the marked structures.
-pub(crate) fn refused(
-    alloc: Global,
-    lib: &Library<'_>,
-    chosen: Layer,
-    marks: &[bool],
-) -> Result<Option<usize>, AllocError>
-    requires { length marks.now ≡ length lib.now.structures }
-    ensures { IfOk result (λ first. IsLeastOf (AmongMarked lib.now marks.now (length marks.now) (IsRefused chosen)) first) }
-{
-    let mut first = None;
-    for structure in 0..lib.count() {
-        let found = refused_where(alloc, lib, chosen, structure, marks[structure as usize])?;
-        first = earlier(first, found);
-    }
-    Ok(first)
+    Ok(fault_of(alloc, chosen, element)?.is_some())
 }
 
 /// What an element is refused for, if it stands at this offset and is refused.
@@ -192,8 +106,7 @@ fn refusal_where(
     if !marked {
         return Ok(None);
     }
-    let found = refusal_in(alloc, lib, chosen, structure, at)?;
-    Ok(found)
+    refusal_in(alloc, lib, chosen, structure, at)
 }
 
 /// What the refused element at this offset of a marked structure is refused for.

@@ -2,13 +2,14 @@
 
 ghost use Rattle.std.specs.Prelude.{◌≡◌, ◌+◌, ◌*◌, ◌^◌, ◌≤◌, ◌%◌, ℤ, pos, length, unwrap_or, IfOk, OnOk};
 ghost use Rattle.dpl_spec_split.specs.Loops.{ArePointsWithin};
-ghost use Rattle.dpl_spec_elements.specs.Paths.{path_of};
-ghost use Rattle.dpl_spec_layout.specs.Elements.{points_in};
-ghost use Rattle.dpl_flatten.specs.Drawn.{IsFaultOfBoundary, IsFaultOfPath};
+ghost use Rattle.dpl_spec_layout.specs.Elements.{points_in, IsBoundaryFault, IsPathFault};
+ghost use Rattle.dpl_flatten.specs.Drawn.{IsFaultBy};
+ghost use Rattle.dpl_flatten.specs.Roles.{path_along};
 
 use crate::refs::point_at;
+use crate::role::PathStyle;
 use dpl_base::Pt;
-use dpl_shapes::{ShapeFault, is_rectilinear, path_loops};
+use dpl_shapes::{ShapeFault, check_path, is_rectilinear};
 use dpl_spec_layout::ElementFault;
 use std::alloc::{AllocError, Global};
 
@@ -24,55 +25,36 @@ pub(crate) fn points_of(alloc: Global, xy: &[u8]) -> Result<Vec<Pt>, AllocError>
     Ok(points)
 }
 
-/// What a boundary or box is refused for, where it counts.
-pub(crate) fn boundary_fault(
-    alloc: Global,
-    counts: bool,
-    xy: &[u8],
-) -> Result<Option<ElementFault>, AllocError>
-    ensures { IfOk result (λ o. IsFaultOfBoundary counts (points_in xy.now) o) }
+/// What a boundary or box is refused for.
+pub(crate) fn boundary_fault(alloc: Global, xy: &[u8]) -> Result<Option<ElementFault>, AllocError>
+    ensures { IfOk result (IsFaultBy (IsBoundaryFault (points_in xy.now))) }
 {
-    if !counts {
-        return Ok(None);
-    }
     let points = points_of(alloc, xy)?;
     if is_rectilinear(&points) {
-        return Ok(None);
+        Ok(None)
+    } else {
+        Ok(Some(ElementFault::SlantedBoundary))
     }
-    Ok(Some(ElementFault::SlantedBoundary))
 }
 
-/// The widths and ends of a path, in database units; what the file leaves out is 0.
-#[derive(Clone, Copy)]
-pub(crate) struct Stroke {
-    pub(crate) width: i32,
-    pub(crate) kind: i16,
-    pub(crate) begin_ext: i32,
-    pub(crate) end_ext: i32,
-}
-
-/// What a path is refused for, where it counts.
+/// What a path is refused for.
 pub(crate) fn path_fault(
     alloc: Global,
-    counts: bool,
-    stroke: Stroke,
+    style: PathStyle,
     xy: &[u8],
 ) -> Result<Option<ElementFault>, AllocError>
-    ensures { IfOk result (λ o. IsFaultOfPath counts (path_of (points_in xy.now) stroke.width stroke.kind stroke.begin_ext stroke.end_ext) o) }
+    ensures { IfOk result (IsFaultBy (IsPathFault (path_along style xy.now))) }
 {
-    if !counts {
-        return Ok(None);
-    }
     let points = points_of(alloc, xy)?;
-    match path_loops(
+    match check_path(
         alloc,
         points.as_slice(),
-        stroke.width as i64,
-        stroke.kind,
-        stroke.begin_ext as i64,
-        stroke.end_ext as i64,
+        style.width as i64,
+        style.kind,
+        style.begin_ext as i64,
+        style.end_ext as i64,
     ) {
-        Ok(_) => Ok(None),
+        Ok(()) => Ok(None),
         Err(ShapeFault::RoundPath) => Ok(Some(ElementFault::RoundPath)),
         Err(ShapeFault::BadPathType) => Ok(Some(ElementFault::BadPathType)),
         Err(ShapeFault::OddWidth) => Ok(Some(ElementFault::OddWidth)),

@@ -27,8 +27,7 @@ fn roots(alloc: Global, lib: &Library<'_>) -> Result<Vec<u32>, AllocError>
     ensures { IfOk result (λ v. AreRoots lib.now v.items) }
 {
     let graph = graph_of(alloc, lib)?;
-    let found = find_sources(alloc, graph.as_slice())?;
-    Ok(found)
+    find_sources(alloc, graph.as_slice())
 }
 
 /// The only structure that no reference names.

@@ -4,7 +4,7 @@ ghost use Rattle.std.specs.FinMap as map;
 ghost use Rattle.dpl_host.specs.Outside.{Changes, Gave, Gives, HasCause, IsThere, LeavesRest, Reads, Rose, Takes, file_of, with_file, with_more, with_said};
 ghost use Rattle.dpl_host.specs.Memory.{files_of};
 ghost use Rattle.dpl_host.specs.SureHost.{counted};
-ghost use Rattle.dpl_host.specs.MemHost.{append_is_listed, create_is_listed, lists, next_count, plan_of, outside_of, read_is_listed, refusals, same_kind, say_is_listed};
+ghost use Rattle.dpl_host.specs.MemHost.{append_is_listed, create_is_listed, lists, next_count, plan_of, outside_of, read_is_listed, refusals, say_is_listed};
 
 use crate::names;
 use crate::outside::{Failed, Host};
@@ -12,7 +12,7 @@ use crate::stride::Stride;
 use std::alloc::Global;
 use std::collections::BTreeMap;
 
-/// A kind of call.
+/// What a call of a host asks for.
 #[derive(Clone, Copy, Debug, PartialEq, Eq)]
 pub enum Kind {
     Read,
@@ -24,7 +24,7 @@ pub enum Kind {
 /// A call that is to fail: its kind, and its number among those of its kind, from 0.
 pub type Failing = (Kind, u64);
 
-/// Files in memory. It tells them.
+/// A host whose files are in memory. It tells them and what was said, fails where `failing` lists a call, and counts the calls of each kind.
 #[derive(Drop)]
 pub struct MemHost {
     alloc: Global,
@@ -42,22 +42,11 @@ pub struct MemHost {
     given: u64,
 }
 
-fn is_same(kind: Kind, other: Kind) -> bool
-    ensures { result ≡ same_kind kind other }
-{
-    match (kind, other) {
-        (Kind::Read, Kind::Read)
-        | (Kind::Create, Kind::Create)
-        | (Kind::Append, Kind::Append)
-        | (Kind::Say, Kind::Say) => true,
-        _ => false,
-    }
-}
-
+/// Whether the call of this kind and number is to fail.
 fn is_listed(failing: &[Failing], kind: Kind, number: u64) -> bool
     ensures { result ≡ lists failing.now kind number }
 {
-    failing.iter().any(|f| is_same(f.0, kind) && f.1 == number)
+    failing.iter().any(|f| f.0 == kind && f.1 == number)
 }
 
 impl MemHost {
@@ -93,14 +82,14 @@ impl MemHost {
         }
     }
 
-    /// The file of a name.
+    /// The bytes of the file of a name, where it is there.
     pub fn file(&self, name: &str) -> Option<&[u8]>
         ensures { option_map (λ f. f.now) result ≡ file_of (outside_of self.now) name.now }
     {
         Some(names::file(&self.files, name)?.as_slice())
     }
 
-    /// What was said.
+    /// All bytes that were said so far.
     pub fn said(&self) -> &[u8]
         ensures { result.now ≡ (outside_of self.now).said }
     {

@@ -6,7 +6,7 @@ ghost use Rattle.dpl_host.specs.Memory.{files_of};
 use std::alloc::{AllocError, Global};
 use std::collections::BTreeMap;
 
-/// The file of a name.
+/// The bytes of the file of a name, where it is there.
 pub(crate) fn file<'a>(files: &'a BTreeMap<String, Vec<u8>>, name: &str) -> Option<&'a Vec<u8>>
     ensures { option_map (λ v. v.now.items) result ≡ map.get (files_of files.now.entries) name.now }
 {

@@ -2,7 +2,7 @@
 ghost use Rattle.std.specs.Prelude.{◌≡◌, ◌≤◌, ℕ, List, Option, IfOk, OnOk, length, take, []};
 ghost use Rattle.dpl_host.specs.Outside.{Changes, Gave, HasCause, IsThere, LeavesRest, Outside, Reads, Takes, with_file, with_more, with_said};
 
-/// A call that failed.
+/// The failure of a call of a host, which says no more.
 #[derive(Clone, Copy, Debug, PartialEq, Eq)]
 pub struct Failed;
 
@@ -20,7 +20,7 @@ pub trait Host {
     /// How many bytes its reads gave, up to the last value of a `u64`.
     ghost given: { Self → ℕ };
 
-    /// Reads bytes of a file from a place on into the front of `into`, whose rest stays. It reads none only at the end of the file, or into no room.
+    /// Reads bytes of a file from a place on into the start of `into`, whose rest stays. It reads none only at the end of the file, or into no room.
     fn read(&mut self, name: &str, at: u64, into: &mut [u8]) -> Result<usize, Failed>
         ensures bound { IfOk result (λ n. n ≤ length into.new) }
         ensures bytes { Reads (told self.old) name.now at result into.new }
@@ -36,7 +36,7 @@ pub trait Host {
         ensures cause { HasCause (write_faults self.old) (write_faults self.new) result }
         ensures others { read_faults self.new ≡ read_faults self.old };
 
-    /// Puts bytes from the front of the piece behind a file, and says how many.
+    /// Appends a prefix of the piece to a file, and gives its length.
     fn append(&mut self, name: &str, piece: &[u8]) -> Result<usize, Failed>
         ensures taken { IfOk result (Takes piece.now) }
         ensures there { OnOk result (IsThere (told self.old) name.now) }
@@ -44,7 +44,7 @@ pub trait Host {
         ensures cause { HasCause (write_faults self.old) (write_faults self.new) result }
         ensures others { read_faults self.new ≡ read_faults self.old };
 
-    /// Says bytes from the front of the piece, and says how many.
+    /// Says a prefix of the piece, and gives its length.
     fn say(&mut self, piece: &[u8]) -> Result<usize, Failed>
         ensures taken { IfOk result (Takes piece.now) }
         ensures said { Changes result (told self.old) (told self.new) (λ n. with_said (take n piece.now)) }

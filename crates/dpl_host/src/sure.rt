@@ -39,7 +39,7 @@ impl<'a> SureHost<'a> {
         self.taken
     }
 
-    /// Takes a whole piece.
+    /// Counts a piece as taken whole, and gives its length.
     fn count(&mut self, piece: &[u8]) -> usize
         ensures all { result ≡ length piece.now }
         ensures counted { self.new.taken ≡ counted self.old.taken (length piece.now) }

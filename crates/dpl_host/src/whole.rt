@@ -7,9 +7,10 @@ ghost use Rattle.dpl_host.specs.declared.whole.ReadFault.TheVariants.{NoMemory a
 use crate::outside::{Failed, Host};
 use std::alloc::{AllocError, Global};
 
-/// The most bytes of a file.
+/// The most bytes that a file may have to be read.
 pub const MAX_BYTES: usize = 268_435_456;
 
+/// How many bytes a read asks for.
 const CHUNK: usize = 8192;
 
 /// Why a file isn't read.
@@ -36,7 +37,7 @@ impl From<Failed> for ReadFault {
     }
 }
 
-/// All bytes of a file.
+/// Reads a whole file.
 pub fn read_all<H: Host>(alloc: Global, host: &mut H, name: &str) -> Result<Vec<u8>, ReadFault>
     ensures bytes { IfOk result (λ v. IfSome (H.told host.old) (λ o. file_of o name.now ≡ Some v.items)) }
     ensures size { IfOk result (λ v. length v.items ≤ MAX_BYTES) }
@@ -60,7 +61,7 @@ pub fn read_all<H: Host>(alloc: Global, host: &mut H, name: &str) -> Result<Vec<
     Err(ReadFault::TooLarge)
 }
 
-/// Makes a file of these bytes.
+/// Makes a file and writes these bytes into it.
 pub fn write_all<H: Host>(host: &mut H, name: &str, bytes: &[u8]) -> Result<(), Failed>
     ensures ok { OnOk result (H.told host.new ≡ option_map (with_file name.now bytes.now) (H.told host.old)) }
     ensures err { OnErr result (IsPartWritten name.now bytes.now (H.told host.old) (H.told host.new)) }

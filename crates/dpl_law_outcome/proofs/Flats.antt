@@ -18,7 +18,7 @@ use Rattle.dpl_cert.specs.declared.cert.PlaceLine.{PlaceLine}
 use Rattle.dpl_cert.specs.declared.cert.NearLine.{NearLine}
 use Rattle.dpl_nearest.specs.Nearest.{IsNearestPair}
 use Rattle.dpl_nearest.proofs.PairLaws.{nearest-unique}
-use Rattle.dpl_run.specs.Flat.{Painted, Clash, Flat, Paints, Clashes, AreNearest, IsPaintedCut, IsClashOfCut, IsFlatCut, IsFlat}
+use Rattle.dpl_answer.specs.Flat.{Painted, Clash, Flat, Paints, Clashes, AreNearest, IsPaintedCut, IsClashOfCut, IsFlatCut, IsFlat}
 use Rattle.dpl_law_verdict.specs.Own.{head_of, piece_line, stitch_line, place_line}
 
 -- ---- masks

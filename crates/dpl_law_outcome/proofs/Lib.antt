@@ -5,4 +5,15 @@ pub mod Runs
 pub mod Masks
 pub mod Own
 pub mod Asked
+pub mod Decoding
+pub mod Moving
+pub mod Rounds
+pub mod Putting
+pub mod Layers
+pub mod Boundaries
+pub mod Whole
+pub mod Fronts
+pub mod ReadBack
+pub mod Faultless
+pub mod Taken
 pub mod OwnFiles

@@ -9,7 +9,7 @@ use Rattle.dpl_law_split.specs.Masks.{KeepsApart, OverlapAt, rect_at, rects_of}
 use Rattle.dpl_law_split.proofs.Cover.{cover}
 use Rattle.dpl_law_split.proofs.Apart.{far-on-a, far-on-b}
 use Rattle.dpl_law_split.proofs.Overlap.{overlap-at}
-use Rattle.dpl_run.specs.Flat.{Painted, Paints, IsFlat}
+use Rattle.dpl_answer.specs.Flat.{Painted, Paints, IsFlat}
 use Rattle.dpl_law_verdict.specs.Own.{stitch_line}
 use Rattle.dpl_law_outcome.specs.Laws.{AreRight}
 

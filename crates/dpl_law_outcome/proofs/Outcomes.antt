@@ -14,9 +14,9 @@ use Rattle.dpl_cert.proofs.Unique.{cert_same}
 use Rattle.dpl_spec_verdict.proofs.OrderLaws.{conflict-unique, masks-unique}
 use Rattle.dpl_words.specs.Meaning.{AsksCheck, AsksDemo, AsksSplit, CheckValues, DemoValues, SplitValues}
 use Rattle.dpl_demo.specs.Demo.{demo_file}
-use Rattle.dpl_run.specs.Flat.{Paints, Clashes, IsFlat}
+use Rattle.dpl_answer.specs.Flat.{Paints, Clashes, IsFlat}
 use Rattle.dpl_run.specs.Outcome.{Outcome, says}
-use Rattle.dpl_run.specs.Reading.{Choice, Faulty, Layer}
+use Rattle.dpl_layer.specs.Reading.{Choice, Faulty, Layer}
 use Rattle.dpl_run.specs.Split.{Decision, Refuses, Decides, IsDecision, IsSplit, IsSplitOf, plan_of, split_choice}
 use Rattle.dpl_run.specs.Demo.{IsDemo, demo_choice, demo_plan}
 use Rattle.dpl_run.specs.Check.{IsCheck, IsCheckOfCert, IsCheckOfFile, IsCheckOfMasks, IsCheckOfText, IsJudged, WithFile, WithLayer}

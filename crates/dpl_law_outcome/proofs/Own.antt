@@ -7,7 +7,7 @@ use Rattle.dpl_cert.specs.declared.cert.Cert.TheVariants.{Masks, Conflict}
 use Rattle.dpl_spec_verdict.specs.declared.Verdict.TheVariants.{Valid}
 use Rattle.dpl_spec_verdict.specs.Masks.{IsVerdictOfMasks}
 use Rattle.dpl_spec_verdict.specs.Conflicts.{IsVerdictOfConflict}
-use Rattle.dpl_run.specs.Flat.{Painted}
+use Rattle.dpl_answer.specs.Flat.{Painted}
 use Rattle.dpl_law_verdict.specs.Own.{head_of}
 use Rattle.dpl_law_verdict.proofs.Passing.{kept-valid}
 use Rattle.dpl_law_verdict.proofs.Painted.{painted-kept}

@@ -21,18 +21,18 @@ use Rattle.dpl_spec_verdict.specs.declared.Verdict.TheVariants.{Valid}
 use Rattle.dpl_masks.specs.Bytes.{file_bytes}
 use Rattle.dpl_law_verdict.proofs.Ranges.{layer-within}
 use Rattle.dpl_law_verdict.proofs.Written.{cycle-cert, masks-cert, masks-within}
-use Rattle.dpl_law_reread.specs.ReadBack.{IsMask, IsReadAs}
-use Rattle.dpl_law_reread.proofs.Taken.{masks-read}
+use Rattle.dpl_law_outcome.specs.ReadBack.{IsMask, IsReadAs}
+use Rattle.dpl_law_outcome.proofs.Taken.{masks-read}
 use Rattle.dpl_words.specs.Meaning.{AsksCheck, AsksSplit, SplitValues}
 use Rattle.dpl_words.specs.Ranges.{AreInRangeForCheck, IsApart}
 use Rattle.dpl_run.specs.declared.status.Status.{Status}
 use Rattle.dpl_run.specs.declared.status.Status.TheVariants.{Done, Conflict as InConflict, ReadFault, Refused}
 use Rattle.dpl_run.specs.Check.{IsCheck}
-use Rattle.dpl_run.specs.Flat.{Clash, Clashes, Flat, Painted, Paints, IsClashOfCut, IsFlatCut, IsPaintedCut}
+use Rattle.dpl_answer.specs.Flat.{Clash, Clashes, Flat, Painted, Paints, IsClashOfCut, IsFlatCut, IsPaintedCut}
 use Rattle.dpl_law_verdict.specs.Own.{head_of}
 use Rattle.dpl_run.specs.Outcome.{Outcome, Shows, carried_out, says, silent}
 use Rattle.dpl_run.specs.Program.{IsPlan}
-use Rattle.dpl_run.specs.Reading.{IsLayerIn, IsReading, Layer, chosen, frame_bytes, front_of, limit}
+use Rattle.dpl_layer.specs.Reading.{IsLayerIn, IsReading, Layer, chosen, frame_bytes, front_of, limit}
 use Rattle.dpl_run.specs.Split.{Decides, IsSplitOf, certified, plan_of, split_choice, Decision, IsDecision, Refuses, refusal}
 use Rattle.dpl_run.specs.Texts.{valid_line}
 use Rattle.dpl_run.proofs.Checking.{differ, put_other}

@@ -15,8 +15,8 @@ use Rattle.dpl_spec_split.specs.Slabs.{AreSlabsOf}
 use Rattle.dpl_law_split.proofs.Tops.{top-same, top-fault_same, top-or_fault}
 use Rattle.dpl_law_split.proofs.FirstFaults.{fault-same, faultless-or_fault}
 use Rattle.dpl_cert.specs.declared.name.Name.{Name}
-use Rattle.dpl_run.specs.Naming.{syntax_name, top_name, flatten_name}
-use Rattle.dpl_run.specs.Reading.{Choice, Reading, Faulty, Layer, chosen, front_of, IsFaultIn, IsLayerIn, IsLayout, IsReading}
+use Rattle.dpl_layer.specs.Naming.{syntax_name, top_name, flatten_name}
+use Rattle.dpl_layer.specs.Reading.{Choice, Reading, Faulty, Layer, chosen, front_of, IsFaultIn, IsLayerIn, IsLayout, IsReading}
 
 named-top : (f : TopFault) (p : Name × ℕ) → top_name f ≡ Some p → f ≢ NoMemoryForTop
 named-top f p e is = let gone : None ≡ Some p = sym (ap top_name is) ∙ e in cc

@@ -9,7 +9,7 @@ use Rattle.dpl_law_split.specs.Masks.{AreCover, KeepsApart, OverlapAt}
 use Rattle.dpl_cert.specs.declared.cert.StitchLine.{StitchLine}
 use Rattle.dpl_words.specs.Meaning.{AsksCheck, AsksDemo, AsksSplit, RequestValues, request_of}
 use Rattle.dpl_run.specs.declared.status.Status.{Status}
-use Rattle.dpl_run.specs.Flat.{Painted, Paints, IsFlat}
+use Rattle.dpl_answer.specs.Flat.{Painted, Paints, IsFlat}
 use Rattle.dpl_run.specs.Outcome.{Outcome}
 use Rattle.dpl_run.specs.Program.{IsOutcome, IsPlan}
 

@@ -1,3 +1,4 @@
 pub mod Laws
+pub mod ReadBack
 pub mod Own
 pub mod OwnFiles

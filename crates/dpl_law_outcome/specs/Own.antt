@@ -7,7 +7,7 @@ use Rattle.dpl_cert.specs.declared.cert.Cert.TheVariants.{Masks, Conflict}
 use Rattle.dpl_spec_verdict.specs.declared.Verdict.TheVariants.{Valid}
 use Rattle.dpl_spec_verdict.specs.Masks.{IsVerdictOfMasks}
 use Rattle.dpl_spec_verdict.specs.Conflicts.{IsVerdictOfConflict}
-use Rattle.dpl_run.specs.Flat.{Painted, Clash, IsPaintedCut, IsClashOfCut}
+use Rattle.dpl_answer.specs.Flat.{Painted, Clash, IsPaintedCut, IsClashOfCut}
 
 -- nothing is wrong with the masks of a cut
 abbrev pub PaintedIsValid : Type 0

@@ -5,15 +5,15 @@ use Rattle.dpl_host.specs.Outside.{Outside, file_of, with_said}
 use Rattle.dpl_cert.specs.declared.cert.Cert.{Cert}
 use Rattle.dpl_cert.specs.declared.cert.Cert.TheVariants.{Masks, Conflict}
 use Rattle.dpl_masks.specs.Bytes.{file_bytes}
-use Rattle.dpl_law_reread.specs.ReadBack.{most_slabs}
+use Rattle.dpl_law_outcome.specs.ReadBack.{most_slabs}
 use Rattle.dpl_words.specs.Meaning.{AsksCheck, AsksSplit, CheckValues, SplitValues, request_of}
 use Rattle.dpl_words.specs.Ranges.{AreInRangeForCheck, IsApart}
 use Rattle.dpl_run.specs.declared.status.Status.{Status}
 use Rattle.dpl_run.specs.declared.status.Status.TheVariants.{Done, Conflict as InConflict}
-use Rattle.dpl_run.specs.Flat.{Clashes, Flat, Painted, Paints}
+use Rattle.dpl_answer.specs.Flat.{Clashes, Flat, Painted, Paints}
 use Rattle.dpl_run.specs.Outcome.{Outcome, carried_out, says}
 use Rattle.dpl_run.specs.Program.{IsOutcome, IsPlan}
-use Rattle.dpl_run.specs.Reading.{limit}
+use Rattle.dpl_layer.specs.Reading.{limit}
 use Rattle.dpl_run.specs.Split.{Decides, IsDecision, certified, plan_of, split_choice}
 use Rattle.dpl_run.specs.Texts.{valid_line}
 

@@ -9,7 +9,7 @@ use Rattle.dpl_spec_split.specs.declared.Pt.{Pt}
 use Rattle.dpl_spec_split.specs.declared.Rect.{Rect}
 use Rattle.dpl_spec_split.specs.declared.Zone.{Zone}
 use Rattle.dpl_spec_split.specs.Squares.{Region, Covers, Has, d2}
-use Rattle.dpl_spec_split.specs.Zones.{at, IsStretch, IsMiddle, IsHorizontalZone, IsKeptZone, turned, turned_rect, part_at}
+use Rattle.dpl_spec_split.specs.Zones.{at, IsStretch, IsMiddle, IsHorizontalZone, IsKeptZone, transposed, transposed_rect, part_at}
 use Rattle.dpl_spec_split.specs.Pieces.{Conflict}
 use Rattle.dpl_spec_split.specs.Graphs.{Graph, stay, step, IsDistance}
 use Rattle.dpl_spec_split.specs.Summary.{HasOddCycle}
@@ -17,9 +17,9 @@ use Rattle.dpl_spec_split.specs.Colours.{differ, is_flipped, AreRoots, AreColour
 use Rattle.dpl_spec_split.specs.Decomposition.{Cut, IsCut, conflicts, Masks, AreMasks}
 use Rattle.dpl_spec_split.proofs.SquareLaws.{d2-sym, AreNear-sym}
 use Rattle.dpl_spec_split.proofs.GraphLaws.{root-unique}
-use Rattle.dpl_graph.specs.Laws.{HasLevelEdge}
-use Rattle.dpl_graph.proofs.Walks.{IsUndirected, root-along, distance-step}
-use Rattle.dpl_graph.proofs.Forks.{level-cycle}
+use Rattle.dpl_stars.specs.Laws.{HasLevelEdge}
+use Rattle.dpl_stars.proofs.Walks.{IsUndirected, root-along, distance-step}
+use Rattle.dpl_stars.proofs.Forks.{level-cycle}
 use Rattle.dpl_law_split.proofs.Parts.{part-within, part-inside, part-same, kept, zone-own, owner-is}
 
 -- the squares of a zone are clear
@@ -37,14 +37,14 @@ module _ (rule overlap : ℕ) (layer f : Region) where
       let run = h.is.runs p.x (omega (arith, ints, g.0, has.left)) (omega (arith, ints, g.1, has.right)) in
       run.clear p.y (omega (arith, ints, has.low, rows.0)) (omega (arith, ints, has.high, rows.1)) q in_layer other
 
-d2-turned : (p q : Pt) → d2 (at p.y p.x) (at q.y q.x) ≡ d2 p q
-d2-turned p q = omega arith
+d2-transposed : (p q : Pt) → d2 (at p.y p.x) (at q.y q.x) ≡ d2 p q
+d2-transposed p q = omega arith
 
 kept-clear : (rule overlap : ℕ) (layer f : Region) (z : Rect) (p q : Pt) → IsKeptZone rule overlap layer f z → Has z p → layer q → (f q → ⊥) → rule * rule ≤ d2 p q
 kept-clear rule overlap layer f z p q (inl h) has in_layer other = level-clear rule overlap layer f z p q h has in_layer other
 kept-clear rule overlap layer f z p q (inr (v, apart)) has in_layer other =
-    subst (λ n. rule * rule ≤ n) (d2-turned p q)
-    (level-clear rule overlap (turned layer) (turned f) (turned_rect z) (at p.y p.x) (at q.y q.x) v
+    subst (λ n. rule * rule ≤ n) (d2-transposed p q)
+    (level-clear rule overlap (transposed layer) (transposed f) (transposed_rect z) (at p.y p.x) (at q.y q.x) v
     (record { left = has.low; right = has.high; low = has.left; high = has.right }) in_layer other)
 
 -- letters

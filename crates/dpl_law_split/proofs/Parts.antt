@@ -10,7 +10,7 @@ use Rattle.dpl_spec_split.specs.declared.Zone.{Zone}
 use Rattle.dpl_spec_split.specs.Squares.{Region, Covers, Has, Touch}
 use Rattle.dpl_spec_split.specs.Slabs.{Before}
 use Rattle.dpl_spec_split.specs.Components.{AreComponents}
-use Rattle.dpl_spec_split.specs.Zones.{at, IsHorizontalZone, IsVerticalZone, IsKeptZone, turned, turned_rect, part_at}
+use Rattle.dpl_spec_split.specs.Zones.{at, IsHorizontalZone, IsVerticalZone, IsKeptZone, transposed, transposed_rect, part_at}
 use Rattle.dpl_spec_split.specs.Pieces.{without, IsOwner}
 use Rattle.dpl_spec_split.specs.Decomposition.{Cut, IsCut}
 use Rattle.dpl_spec_split.proofs.SquareLaws.{Touch-from_close}
@@ -78,7 +78,8 @@ module _ (rule overlap : ℕ) (layer : Region) where
   pub kept-inside : (f : Region) (r : Rect) (p : Pt) → IsKeptZone rule overlap layer f r → Has r p → f p
   kept-inside f r p (inl h) has = zone-in-feature rule layer f overlap r p h has
   kept-inside f r p (inr (v, apart)) has =
-      zone-in-feature rule (turned layer) (turned f) overlap (turned_rect r) (at p.y p.x) v (record { left = has.low; right = has.high; low = has.left; high = has.right })
+      zone-in-feature rule (transposed layer) (transposed f) overlap (transposed_rect r) (at p.y p.x) v
+      (record { left = has.low; right = has.high; low = has.left; high = has.right })
 
   touches-itself : (p : Pt) → Touch p p
   touches-itself p = Touch-from_close p p (omega (arith, ints)) (omega (arith, ints)) (omega (arith, ints)) (omega (arith, ints))
@@ -92,10 +93,10 @@ module _ (rule overlap : ℕ) (layer : Region) where
 module _ (rule overlap : ℕ) (layer f : Region) where
   upright-same : (r s : Rect) (p : Pt) → IsVerticalZone rule overlap layer f r → IsVerticalZone rule overlap layer f s → Has r p → Has s p → r ≡ s
   upright-same r s p h k a b =
-      let same : turned_rect r ≡ turned_rect s = level-same rule overlap (turned layer) (turned f) (turned_rect r) (turned_rect s) (at p.y p.x) h k
+      let same : transposed_rect r ≡ transposed_rect s = level-same rule overlap (transposed layer) (transposed f) (transposed_rect r) (transposed_rect s) (at p.y p.x) h k
       (record { left = a.low; right = a.high; low = a.left; high = a.right })
       (record { left = b.low; right = b.high; low = b.left; high = b.right }) in
-      ap turned_rect same
+      ap transposed_rect same
 
   -- two zones of a feature that share a square are one
   pub kept-same : (r s : Rect) (p : Pt) → IsKeptZone rule overlap layer f r → IsKeptZone rule overlap layer f s → Has r p → Has s p → r ≡ s

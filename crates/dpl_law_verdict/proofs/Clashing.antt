@@ -11,8 +11,8 @@ use Rattle.dpl_spec_split.specs.Graphs.{IsOddCycle}
 use Rattle.dpl_spec_split.specs.Cycle.{IsReported}
 use Rattle.dpl_spec_split.specs.Decomposition.{Cut, IsCut, conflicts}
 use Rattle.dpl_spec_split.proofs.SquareLaws.{AreNear-sym}
-use Rattle.dpl_graph.proofs.Walks.{IsUndirected}
-use Rattle.dpl_graph.proofs.Forks.{reported-odd}
+use Rattle.dpl_stars.proofs.Walks.{IsUndirected}
+use Rattle.dpl_stars.proofs.Forks.{reported-odd}
 use Rattle.dpl_nearest.specs.Nearest.{IsNearestPair}
 use Rattle.dpl_cert.specs.declared.cert.PlaceLine.{PlaceLine}
 use Rattle.dpl_cert.specs.declared.cert.NearLine.{NearLine}

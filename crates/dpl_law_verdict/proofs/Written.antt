@@ -11,12 +11,12 @@ use Rattle.dpl_spec_split.specs.declared.Zone.{Zone}
 use Rattle.dpl_spec_split.specs.Squares.{Region, Covers, Has, IsLeast}
 use Rattle.dpl_spec_split.specs.Slabs.{IsSolid}
 use Rattle.dpl_spec_split.specs.Loops.{AreRectsWithin, farthest}
-use Rattle.dpl_spec_split.specs.Zones.{at, part_at, IsHorizontalZone, IsKeptZone, turned, turned_rect}
+use Rattle.dpl_spec_split.specs.Zones.{at, part_at, IsHorizontalZone, IsKeptZone, transposed, transposed_rect}
 use Rattle.dpl_spec_split.specs.Pieces.{AreSides, without}
 use Rattle.dpl_spec_split.specs.Graphs.{IsOddCycle}
 use Rattle.dpl_spec_split.specs.Cycle.{IsReported}
 use Rattle.dpl_spec_split.specs.Decomposition.{Cut, IsCut, Masks, AreMasks, conflicts}
-use Rattle.dpl_graph.proofs.Forks.{reported-odd}
+use Rattle.dpl_stars.proofs.Forks.{reported-odd}
 use Rattle.dpl_law_split.proofs.Parts.{part-inside, zip-at, kept, zone-own, piece-rest}
 use Rattle.dpl_law_split.proofs.Cover.{as_many_sides, cover}
 use Rattle.dpl_slabs.proofs.LoopLaws.{Inside}
@@ -79,7 +79,7 @@ level-solid rule overlap l f z some h =
 zone-solid : (rule overlap : ℕ) (l f : Region) (z : Rect) → 1 ≤ overlap → IsKeptZone rule overlap l f z → IsSolid z
 zone-solid rule overlap l f z some (inl h) = level-solid rule overlap l f z some h
 zone-solid rule overlap l f z some (inr (v, apart)) =
-    let s = level-solid rule overlap (turned l) (turned f) (turned_rect z) some v in
+    let s = level-solid rule overlap (transposed l) (transposed f) (transposed_rect z) some v in
     record { wide = s.tall; tall = s.wide }
 
 -- a rectangle whose least and greatest squares lie in the range

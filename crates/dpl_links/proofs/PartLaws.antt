@@ -27,11 +27,11 @@ Reaches-on (on e d) r = on e (Reaches-on d r)
 
 -- ---- lists that rise
 
-front_rises : {X : Type 0} {key : X → ℕ} {xs : List X} (rest : List X) (x : X) → xs ≡ rest ++ x ∷ [] → IsRising key xs
+prefix_rises : {X : Type 0} {key : X → ℕ} {xs : List X} (rest : List X) (x : X) → xs ≡ rest ++ x ∷ [] → IsRising key xs
     → IsRising key rest × ((y : X) → Contains rest y → key y < key x)
-front_rises rest x e (none_rise none) = absurd (omega (arith, none, ap length e, length-append rest (x ∷ [])))
-front_rises rest x e (one_more_rises front y is r less) =
-    let same = snoc_same front rest y x (sym is ∙ e) in
+prefix_rises rest x e (none_rise none) = absurd (omega (arith, none, ap length e, length-append rest (x ∷ [])))
+prefix_rises rest x e (one_more_rises prefix y is r less) =
+    let same = snoc_same prefix rest y x (sym is ∙ e) in
     rw (← same.0, ← same.1) (r, less)
 
 push_rises : {X : Type 0} {key : X → ℕ} (rest : List X) (x : X) → IsRising key rest → ((y : X) → Contains rest y → key y < key x) → IsRising key (rest ++ x ∷ [])
@@ -61,13 +61,13 @@ module _ (graph : List (List ℕ)) (from : ℕ) (found closed : List Bool) (numb
   top = s.part q q_there
 
   under_low : (p : Part) → Contains under p → by_part numbers p < by_part numbers q
-  under_low = (front_rises under q refl s.parts_rise).1
+  under_low = (prefix_rises under q refl s.parts_rise).1
 
   all_low : (p : Part) → Contains (under ++ q ∷ []) p → by_part numbers p ≤ by_part numbers q
   all_low p c = ⊎_elim (λ x. let h = under_low p x in omega (arith, h)) (λ (e : q ≡ p). rw e (omega arith)) (Contains-push_cases under q p c)
 
   rest_low : (u : Visit) → Contains rest u → by_visit numbers u < by_visit numbers v
-  rest_low = (front_rises rest v refl s.path_rise).1
+  rest_low = (prefix_rises rest v refl s.path_rise).1
 
   pub v_found : IsMarked found v.vertex
   v_found = s.path_found v (Contains-push rest v)
@@ -114,7 +114,7 @@ module _ (graph : List (List ℕ)) (from : ℕ) (found closed : List Bool) (numb
     apart = s.apart;
     part = λ p c. now_part p c (s.part p c);
     parts_rise = s.parts_rise;
-    path_rise = push_rises rest u (front_rises rest v refl s.path_rise).0 (λ y c. let h = rest_low y c in let e = ap (λ k. get_or numbers k 0) is in omega (arith, h, e));
+    path_rise = push_rises rest u (prefix_rises rest v refl s.path_rise).0 (λ y c. let h = rest_low y c in let e = ap (λ k. get_or numbers k 0) is in omega (arith, h, e));
     path_found = λ t c. ⊎_elim (λ x. s.path_found t (Contains-append_left rest (v ∷ []) t x)) (λ (e : u ≡ t). rw (← e, is) v_found) (Contains-push_cases rest u t c);
     path_unshut = λ t c. ⊎_elim (λ x. s.path_unshut t (Contains-append_left rest (v ∷ []) t x)) (λ (e : u ≡ t). rw (← e, is) v_unshut) (Contains-push_cases rest u t c);
     shut_low = s.shut_low;
@@ -167,7 +167,7 @@ module _ (graph : List (List ℕ)) (from : ℕ) (found closed : List Bool) (numb
     apart = s.apart;
     part = λ p c. now_part p c (s.part p c);
     parts_rise = s.parts_rise;
-    path_rise = (front_rises rest v refl s.path_rise).0;
+    path_rise = (prefix_rises rest v refl s.path_rise).0;
     path_found = λ t c. s.path_found t (Contains-append_left rest (v ∷ []) t c);
     path_unshut = λ t c. s.path_unshut t (Contains-append_left rest (v ∷ []) t c);
     shut_low = s.shut_low;
@@ -220,8 +220,8 @@ module _ (graph : List (List ℕ)) (from : ℕ) (found closed : List Bool) (numb
     apart = λ k m. ⊎_elim (λ c. inl (keeps k c)) (λ o. ⊎_elim (λ x. inr (o.0, x, o.2)) (λ (w : q ≡ o.0). inl (sets k (rw w o.2)))
         (Contains-push_cases under q o.0 o.1)) (s.apart k m);
     part = λ p c. now_part p c (s.part p (under_there p c));
-    parts_rise = (front_rises under q refl s.parts_rise).0;
-    path_rise = (front_rises rest v refl s.path_rise).0;
+    parts_rise = (prefix_rises under q refl s.parts_rise).0;
+    path_rise = (prefix_rises rest v refl s.path_rise).0;
     path_found = λ t c. s.path_found t (Contains-append_left rest (v ∷ []) t c);
     path_unshut = λ t c m. ⊎_elim (λ x. s.path_unshut t (Contains-append_left rest (v ∷ []) t c) x) (λ x. rest_out t c x) (alone t.vertex m);
     shut_low = λ k m. ⊎_elim (λ c. let l = s.shut_low k c in let e = stays k (out k c) in omega (arith, l, e)) (λ c. let e = level k c in omega (arith, e)) (alone k m);
@@ -314,7 +314,7 @@ module _ (graph : List (List ℕ)) (from : ℕ) (found closed : List Bool) (numb
     parts_rise = push_rises (under ++ q ∷ []) n (rises_too (λ p c. root_same p c) s.parts_rise) (λ p c. let a = root_same p c in
         let b = root_count p c in omega (arith, a, b, n_number));
     path_rise = push_rises (rest ++ u ∷ []) w
-        (push_rises rest u (rises_too (λ t c. visit_same t (Contains-append_left rest (v ∷ []) t c)) (front_rises rest v refl s.path_rise).0)
+        (push_rises rest u (rises_too (λ t c. visit_same t (Contains-append_left rest (v ∷ []) t c)) (prefix_rises rest v refl s.path_rise).0)
         (λ t c. let l = rest_low t c in let a = visit_same t (Contains-append_left rest (v ∷ []) t c) in omega (arith, l, a, u_number)))
         (λ t c. let l = path_count t c in omega (arith, l, w_number));
     path_found = λ t c. ⊎_elim (λ x. ⊎_elim (λ y. kept t.vertex (s.path_found t (Contains-append_left rest (v ∷ []) t y)))
@@ -459,7 +459,7 @@ module _ (graph : List (List ℕ)) (from : ℕ) (found closed : List Bool) (numb
     lower_under r c = rw e (Contains-append_left lower (p ∷ []) r c)
 
     lower_low : (r : Part) → Contains lower r → by_part numbers r < by_part numbers p
-    lower_low = (front_rises lower p e (front_rises under q refl s.parts_rise).0).1
+    lower_low = (prefix_rises lower p e (prefix_rises under q refl s.parts_rise).0).1
 
     under_last : (r : Part) → Contains under r → by_part numbers r ≤ by_part numbers p
     under_last r c = ⊎_elim (λ x. let h = lower_low r x in omega (arith, h)) (λ (w : p ≡ r). rw w (omega arith)) (Contains-push_cases lower p r (rw e at c))
@@ -482,7 +482,7 @@ module _ (graph : List (List ℕ)) (from : ℕ) (found closed : List Bool) (numb
       numbered = s.numbered;
       apart = λ k h. ⊎_elim (λ c. inl c) (λ o. inr (joined k o)) (s.apart k h);
       part = λ r c. ⊎_elim (λ x. lower_part r x (s.part r (under_there r (lower_under r x)))) (λ (w : m ≡ r). rw (← w) m_part) (Contains-push_cases lower m r c);
-      parts_rise = push_rises lower m (front_rises lower p e (front_rises under q refl s.parts_rise).0).0 (λ r c. let h = lower_low r c in omega (arith, h, m_number));
+      parts_rise = push_rises lower m (prefix_rises lower p e (prefix_rises under q refl s.parts_rise).0).0 (λ r c. let h = lower_low r c in omega (arith, h, m_number));
       path_rise = s.path_rise;
       path_found = s.path_found;
       path_unshut = s.path_unshut;

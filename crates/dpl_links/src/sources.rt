@@ -50,6 +50,5 @@ pub fn find_sources(alloc: Global, graph: &[Listed<u32>]) -> Result<Vec<u32>, Al
     ensures { IfOk result (λ v. AreSources graph.now v.items) }
 {
     let marks = entered(alloc, graph)?;
-    let found = unmarked(alloc, &marks)?;
-    Ok(found)
+    unmarked(alloc, &marks)
 }

@@ -47,4 +47,4 @@ closing_bytes = record_bytes 7 0 [] ++ record_bytes 4 0 []
 
 -- The records before the elements, the slabs of mask A on one layer and those of mask B on the other, and the end.
 abbrev pub file_bytes : List ℕ → ℕ → ℕ → List Rect → List Rect → List ℕ
-file_bytes front la lb a b = front ++ (boundaries_bytes la a ++ (boundaries_bytes lb b ++ closing_bytes))
+file_bytes prefix la lb a b = prefix ++ (boundaries_bytes la a ++ (boundaries_bytes lb b ++ closing_bytes))

@@ -7,22 +7,28 @@ ghost use Rattle.dpl_masks.specs.Bytes.{FillsRoom, boundaries_bytes, boundary_by
 use dpl_base::Rect;
 use std::alloc::{AllocError, Global};
 
+/// The record BOUNDARY, whole.
 const BOUNDARY: [u8; 4] = [0, 4, 8, 0];
 
+/// The record LAYER up to the number of the layer.
 const LAYER: [u8; 4] = [0, 6, 13, 2];
 
+/// The record DATATYPE with data type 0, whole.
 const DATATYPE_0: [u8; 6] = [0, 6, 14, 2, 0, 0];
 
+/// The record XY of five points up to the first of them.
 const XY_5: [u8; 4] = [0, 44, 16, 3];
 
+/// The record ENDEL, whole.
 const ENDEL: [u8; 4] = [0, 4, 17, 0];
 
 /// How many bytes a slab takes.
 const BOUNDARY_SIZE: usize = 64;
 
+/// The records ENDSTR and ENDLIB.
 const ENDSTR_ENDLIB: [u8; 8] = [0, 4, 7, 0, 0, 4, 4, 0];
 
-/// A coordinate in four bytes.
+/// Puts a coordinate behind `out`, in four bytes.
 fn put_coordinate(out: &mut Vec<u8>, z: i32) -> Result<(), AllocError>
     ensures bytes { OnOk result (out.new.items ≡ out.old.items ++ coordinate_bytes z) }
     ensures room { FillsRoom 4 result out.old out.new }
@@ -30,7 +36,7 @@ fn put_coordinate(out: &mut Vec<u8>, z: i32) -> Result<(), AllocError>
     out.extend_from_slice(&z.to_be_bytes())
 }
 
-/// A point, column first.
+/// Puts a point behind `out`, its column first.
 fn put_point(out: &mut Vec<u8>, x: i32, y: i32) -> Result<(), AllocError>
     ensures bytes { OnOk result (out.new.items ≡ out.old.items ++ point_bytes (at x y)) }
     ensures room { FillsRoom 8 result out.old out.new }
@@ -40,7 +46,7 @@ fn put_point(out: &mut Vec<u8>, x: i32, y: i32) -> Result<(), AllocError>
     Ok(())
 }
 
-/// The corners of a slab, from the lower left one round to it again.
+/// Puts the corners of a slab behind `out`, from the lower left one round to it again.
 fn put_corners(out: &mut Vec<u8>, r: &Rect) -> Result<(), AllocError>
     ensures bytes { OnOk result (out.new.items ≡ out.old.items ++ concat (map point_bytes (corners r.now))) }
     ensures room { FillsRoom 40 result out.old out.new }
@@ -69,7 +75,7 @@ pub fn put_boundary(out: &mut Vec<u8>, layer: u16, r: &Rect) -> Result<(), Alloc
     Ok(())
 }
 
-/// The elements of all slabs on a layer.
+/// Puts all slabs on a layer, each as one BOUNDARY, behind `out`.
 fn put_boundaries(out: &mut Vec<u8>, layer: u16, slabs: &[Rect]) -> Result<(), AllocError>
     ensures { OnOk result (out.new.items ≡ out.old.items ++ boundaries_bytes layer slabs.now) }
 {
@@ -82,15 +88,15 @@ fn put_boundaries(out: &mut Vec<u8>, layer: u16, slabs: &[Rect]) -> Result<(), A
 /// The bytes of a file: the records before the elements, then the slabs of mask A on the layer `la` and those of mask B on the layer `lb`, each as one BOUNDARY of data type 0.
 pub fn file_bytes(
     alloc: Global,
-    front: &[u8],
+    prefix: &[u8],
     a: &[Rect],
     b: &[Rect],
     la: u16,
     lb: u16,
 ) -> Result<Vec<u8>, AllocError>
-    ensures { IfOk result (λ v. v.items ≡ file_bytes_of front.now la lb a.now b.now) }
+    ensures { IfOk result (λ v. v.items ≡ file_bytes_of prefix.now la lb a.now b.now) }
 {
-    let mut out = Vec::from_slice(alloc, front)?;
+    let mut out = Vec::from_slice(alloc, prefix)?;
     let slabs = a.len().saturating_add(b.len());
     out.reserve(
         slabs

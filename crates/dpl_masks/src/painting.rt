@@ -88,14 +88,8 @@ fn put(a: &mut Vec<Rect>, b: &mut Vec<Rect>, slabs: &[Rect], letter: Mask) -> Re
     ensures { OnOk result (Puts (is_second letter) slabs.now a.old.items b.old.items a.new.items b.new.items) }
 {
     match letter {
-        Mask::A => {
-            a.extend_from_slice(slabs)?;
-            Ok(())
-        }
-        Mask::B => {
-            b.extend_from_slice(slabs)?;
-            Ok(())
-        }
+        Mask::A => { a.extend_from_slice(slabs) }
+        Mask::B => { b.extend_from_slice(slabs) }
     }
 }
 

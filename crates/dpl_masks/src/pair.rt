@@ -1,7 +1,7 @@
-//! Both masks of a layer.
+//! The two masks of a layer.
 use dpl_slabs::Slabs;
 
-/// Both masks of a layer.
+/// The squares of mask A and those of mask B. Stitches are on both.
 #[derive(Drop)]
 pub struct Masks {
     pub a: Slabs,

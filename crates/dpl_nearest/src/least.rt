@@ -79,8 +79,7 @@ pub fn tree_of(alloc: Global, rects: &[Rect]) -> Result<Tree, AllocError>
 {
     let mut items = Items::new(alloc);
     items.add(rects, 0)?;
-    let tree = Tree::of(alloc, items)?;
-    Ok(tree)
+    Tree::of(alloc, items)
 }
 
 /// The least square of rectangles that is near the others.

@@ -8,12 +8,12 @@ use Rattle.dpl_spec_split.specs.Cycle.{IsLevelEdge, IsParent, Climb, IsOddRoot, 
 use Rattle.dpl_spec_split.specs.Cycle as cycle
 use Rattle.dpl_spec_split.specs.Summary.{HasOddCycle}
 use Rattle.dpl_spec_split.proofs.GraphLaws.{distance-unique, root-unique}
-use Rattle.dpl_graph.specs.Levels.{AreEdgesBelow, AreLevels}
-use Rattle.dpl_graph.proofs.Walks.{graph_of-undirected, root-along, Reaches-sym, distance-step, distance-zero, distance-before}
-use Rattle.dpl_graph.proofs.Parity.{level-at_root}
-use Rattle.dpl_graph.proofs.Search.{graph_of-distances, graph_of-root}
-use Rattle.dpl_graph.proofs.ArcLaws.{below-ordered, edge-below}
-use Rattle.dpl_graph.proofs.OddLaws.{roots-show, reported-is_odd}
+use Rattle.dpl_stars.specs.Levels.{AreEdgesBelow, AreLevels}
+use Rattle.dpl_stars.proofs.Walks.{graph_of-undirected, root-along, Reaches-sym, distance-step, distance-zero, distance-before}
+use Rattle.dpl_stars.proofs.Parity.{level-at_root}
+use Rattle.dpl_stars.proofs.Search.{graph_of-distances, graph_of-root}
+use Rattle.dpl_stars.proofs.ArcLaws.{below-ordered, edge-below}
+use Rattle.dpl_stars.proofs.OddLaws.{roots-show, reported-is_odd}
 use Rattle.dpl_odd.specs.Paths.{IsLevel, IsNotAfter, edge_at, IsLeastOf, IsLeastLevel, AreLowest, IsForest, IsPathTo, last, up, IsClosed}
 
 -- the root and the level of a number at some distance from its root

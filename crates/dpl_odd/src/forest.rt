@@ -1,11 +1,11 @@
 //! The parents of the numbers of a graph, and the paths through them.
 ghost use Rattle.std.specs.Prelude.{◌≡◌, ◌≢◌, ◌<◌, length, vec_len, slice_index, IfOk};
 ghost use Rattle.dpl_spec_split.specs.Graphs.{graph_of};
-ghost use Rattle.dpl_graph.specs.Levels.{AreEdgesBelow};
+ghost use Rattle.dpl_stars.specs.Levels.{AreEdgesBelow};
 ghost use Rattle.dpl_odd.specs.Paths.{AreLowest, IsLowered, IsForest, IsClosed};
 
-use dpl_base::{Edge, Id};
-use dpl_graph::Levels;
+use dpl_list::{Edge, Id};
+use dpl_stars::Levels;
 use std::alloc::{AllocError, Global};
 
 /// For each number its root, its level and its parent, the least neighbour one level lower.

@@ -1,10 +1,10 @@
 //! The least edge between two numbers of one level.
 ghost use Rattle.std.specs.Prelude.{◌≡◌, ◌<◌, length, vec_len, IfSome, MatchBool};
-ghost use Rattle.dpl_graph.specs.Levels.{AreEdgesBelow};
+ghost use Rattle.dpl_stars.specs.Levels.{AreEdgesBelow};
 ghost use Rattle.dpl_odd.specs.Paths.{IsNotAfter, IsLesser, IsLeastLevel};
 
-use dpl_base::{Edge, Id};
-use dpl_graph::Levels;
+use dpl_list::{Edge, Id};
+use dpl_stars::Levels;
 
 /// Whether `e` is `f` or comes before it: by root, then by the smaller and then by the larger number.
 fn comes_first(roots: &[Id], e: Edge, f: Edge) -> bool

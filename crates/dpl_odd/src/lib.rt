@@ -8,12 +8,12 @@ ghost use Rattle.std.specs.Prelude.{IfOk, IfNone, IfSome};
 ghost use Rattle.dpl_spec_split.specs.Graphs.{IsOddCycle, graph_of};
 ghost use Rattle.dpl_spec_split.specs.Cycle.{IsReported};
 ghost use Rattle.dpl_spec_split.specs.Summary.{HasOddCycle};
-ghost use Rattle.dpl_graph.specs.Levels.{AreEdgesBelow};
+ghost use Rattle.dpl_stars.specs.Levels.{AreEdgesBelow};
 
 use crate::forest::{Forest, parents_of};
 use crate::level::least_level_edge;
-use dpl_base::{Edge, Id};
-use dpl_graph::levels_of;
+use dpl_list::{Edge, Id};
+use dpl_stars::levels_of;
 use std::alloc::{AllocError, Global};
 
 /// An odd cycle of the graph of these edges, which join numbers below `n`, if there is one.

@@ -14,7 +14,7 @@ use Rattle.dpl_orient.specs.declared.crossing.Crossing.{Crossing}
 use Rattle.dpl_orient.specs.Rooted.{AreRooted, AreSidesBelow}
 use Rattle.dpl_orient.specs.Chart.{own_root, rooted_at, IsChart, AreLow, roots_in, odds_in}
 use Rattle.dpl_orient.specs.Oriented.{AreColoursOfRows}
-use Rattle.dpl_orient.specs.Crossings.{crossing, crossing_between, crossings_of, crossings_at, GoUp, AreFlips, tally, is_turned, colours_of}
+use Rattle.dpl_orient.specs.Crossings.{crossing, crossing_between, crossings_of, crossings_at, GoUp, AreFlips, tally, is_flipped_by, colours_of}
 use Rattle.dpl_orient.proofs.Letters.{differ-assoc, first-holds, none-holds, second-holds, neither-holds, third-none}
 use Rattle.dpl_orient.proofs.Settling.{counts, unit}
 
@@ -144,7 +144,7 @@ module _ (chart : List Rooted) (flips : List Bool) where
     across-sorted : (root : ℕ) (wanted : Bool) → zones_across (roots_in chart) (odds_in chart) (colours_of chart flips) root wanted sides ≡ tally flips root wanted xs
     across-sorted root wanted = across-crossings root wanted sides below ∙ sym (sum_by-IsPermutation (λ c. unit (counts flips root wanted c)) (crossings_of chart sides) xs same)
 
-    flipped-is : (root : ℕ) → is_flipped (roots_in chart) (odds_in chart) (colours_of chart flips) sides root ≡ is_turned flips root xs
+    flipped-is : (root : ℕ) → is_flipped (roots_in chart) (odds_in chart) (colours_of chart flips) sides root ≡ is_flipped_by flips root xs
     flipped-is root = ap (λ n. ltb n (zones_across (roots_in chart) (odds_in chart) (colours_of chart flips) root true sides))
         (across-sorted root false) ∙ ap (λ n. ltb (tally flips root false xs) n) (across-sorted root true)
 

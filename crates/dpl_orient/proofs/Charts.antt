@@ -26,18 +26,18 @@ chart-own_more n chart h = record {
   ];
 }
 
-pub chart-put : (front : List Star) (n : ℕ) (chart : List Rooted) (r : Star) → IsChart front n chart → r.piece < n → IsChart (front ++ r ∷ []) n (set chart r.piece (rooted_by r))
-chart-put front n chart r h within = record {
+pub chart-put : (prefix : List Star) (n : ℕ) (chart : List Rooted) (r : Star) → IsChart prefix n chart → r.piece < n → IsChart (prefix ++ r ∷ []) n (set chart r.piece (rooted_by r))
+chart-put prefix n chart r h within = record {
   len = length-set chart r.piece (rooted_by r) ∙ h.len;
   each = λ v l. elim (cases_eq v r.piece) [
-    | inl same ↦ subst (λ u. Gives (front ++ r ∷ []) u (rooted_at (set chart r.piece (rooted_by r)) u)) (sym same)
-        (subst (λ s. Gives (front ++ r ∷ []) r.piece s)
+    | inl same ↦ subst (λ u. Gives (prefix ++ r ∷ []) u (rooted_at (set chart r.piece (rooted_by r)) u)) (sym same)
+        (subst (λ s. Gives (prefix ++ r ∷ []) r.piece s)
         (sym (get_or-set_same chart r.piece (rooted_by r) (own_root r.piece) (omega (arith, within, h.len))))
-        (inl (Contains-push front r)))
-    | inr other ↦ subst (λ s. Gives (front ++ r ∷ []) v s) (sym (get_or-set_other chart r.piece v (rooted_by r) (own_root v) other))
+        (inl (Contains-push prefix r)))
+    | inr other ↦ subst (λ s. Gives (prefix ++ r ∷ []) v s) (sym (get_or-set_other chart r.piece v (rooted_by r) (own_root v) other))
         (elim (h.each v l) [
-          | inl in_front ↦ inl (Contains-append_left front (r ∷ []) _ in_front)
-          | inr (none, root_is, odd_is) ↦ inr (All-push (λ s. s.piece ≢ v) front r none (λ e. other (sym e)), root_is, odd_is)
+          | inl in_prefix ↦ inl (Contains-append_left prefix (r ∷ []) _ in_prefix)
+          | inr (none, root_is, odd_is) ↦ inr (All-push (λ s. s.piece ≢ v) prefix r none (λ e. other (sym e)), root_is, odd_is)
         ])
   ];
 }
@@ -46,4 +46,4 @@ pub chart-put_more : (rows : List Star) (i n : ℕ) (chart : List Rooted) (r : S
     → IsChart (take i rows) n chart → r.piece < n → IsChart (take (i + 1) rows) n (set chart r.piece (rooted_by r))
 chart-put_more rows i n chart r within is h below =
     let e : take (i + 1) rows ≡ take i rows ++ r ∷ [] = take_more rows i r within ∙ ap (λ s. take i rows ++ s ∷ []) (sym is) in
-    subst (λ front. IsChart front n (set chart r.piece (rooted_by r))) (sym e) (chart-put (take i rows) n chart r h below)
+    subst (λ prefix. IsChart prefix n (set chart r.piece (rooted_by r))) (sym e) (chart-put (take i rows) n chart r h below)

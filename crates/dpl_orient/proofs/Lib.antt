@@ -1,7 +1,7 @@
 pub mod Charts
 pub mod Letters
 pub mod Settling
-pub mod Turns
+pub mod Flips
 pub mod Across
 pub mod Roots
 pub mod Numbers

@@ -6,7 +6,7 @@ use Rattle.std.proofs.lemmas.List.{get_or_default, get_or-take, get_or-drop, len
 use Rattle.std.proofs.lemmas.List.Sums.{sum_by-le, sum_by-take-drop, count_by_more_yes, count_by_more_no}
 use Rattle.dpl_spec_split.specs.Colours.{differ}
 use Rattle.dpl_orient.specs.declared.crossing.Crossing.{Crossing}
-use Rattle.dpl_orient.specs.Crossings.{AreGrouped, IsSplit, tally, is_turned}
+use Rattle.dpl_orient.specs.Crossings.{AreGrouped, IsSplit, tally, is_flipped_by}
 
 -- what counts for one
 abbrev pub unit : Bool → ℕ
@@ -92,7 +92,7 @@ module _ (xs : List Crossing) (flips : List Bool) (root k agreeing differing : �
   other-after : (i : ℕ) (d : Crossing) → k ≤ i → i < length xs → (get_or xs i d).later ≢ root
   other-after i d l m e = let a = after i d l m in omega (arith, a, e)
 
-  pub settled-flip : ltb agreeing differing ≡ is_turned flips root xs
+  pub settled-flip : ltb agreeing differing ≡ is_flipped_by flips root xs
   settled-flip =
       ap (λ n. ltb n differing) (h.agreeing ∙ tally-after flips root false xs k other-after)
       ∙ ap (λ n. ltb (tally flips root false xs) n) (h.differing ∙ tally-after flips root true xs k other-after)

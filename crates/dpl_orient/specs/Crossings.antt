@@ -53,8 +53,8 @@ tally flips root wanted crossings =
     count_by (λ c. c.later == root && not (differ wanted (differ c.odd (slice_index_or flips c.earlier false)))) crossings
 
 -- whether fewer of them agree than differ
-abbrev pub is_turned : List Bool → ℕ → List Crossing → Bool
-is_turned flips root crossings = nat_lt (tally flips root false crossings) (tally flips root true crossings)
+abbrev pub is_flipped_by : List Bool → ℕ → List Crossing → Bool
+is_flipped_by flips root crossings = nat_lt (tally flips root false crossings) (tally flips root true crossings)
 
 -- the crossings before place k have a later component below root, and the others don't
 pub record IsSplit (crossings : List Crossing) (root k : ℕ) : Type 0 where
@@ -64,7 +64,7 @@ pub record IsSplit (crossings : List Crossing) (root k : ℕ) : Type 0 where
 
 -- for each root below the length whether its component is flipped
 abbrev pub AreFlips : List Crossing → List Bool → Type 0
-AreFlips crossings flips = (root : ℕ) → root < length flips → slice_index_or flips root false ≡ is_turned flips root crossings
+AreFlips crossings flips = (root : ℕ) → root < length flips → slice_index_or flips root false ≡ is_flipped_by flips root crossings
 
 -- each piece's letter
 abbrev pub colours_of : List Rooted → List Bool → List Bool

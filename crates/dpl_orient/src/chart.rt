@@ -1,10 +1,10 @@
 //! The root and the parity of each piece.
-ghost use Rattle.std.specs.Prelude.{◌≡◌, ◌^◌, ◌<◌, ◌≤◌, [], length, IfOk, OnErr};
+ghost use Rattle.std.specs.Prelude.{◌≡◌, ◌^◌, ◌<◌, [], length, IfOk};
 ghost use Rattle.dpl_stars.specs.Stars.{IsStarList};
 ghost use Rattle.dpl_orient.specs.Rooted.{ArePiecesBelow, AreRootsBelow};
 ghost use Rattle.dpl_orient.specs.Chart.{own_root, rooted_by, rooted_at, IsChart, AreLow};
 
-use dpl_base::Id;
+use dpl_list::{Id, short_id};
 use dpl_stars::Star;
 use std::alloc::{AllocError, Global};
 
@@ -14,18 +14,6 @@ use std::alloc::{AllocError, Global};
 pub struct Rooted {
     pub root: u32,
     pub odd: bool,
-}
-
-/// A number of a piece or a zone in 32 bits. One of 2^32 or more is refused as want of memory, which so many pieces or
-/// zones would be.
-pub fn short(number: u64) -> Result<u32, AllocError>
-    ensures same { IfOk result (λ n. n ≡ number) }
-    ensures refused { OnErr result (2 ^ 32 ≤ number) }
-{
-    match u32::try_from(number) {
-        Ok(n) => Ok(n),
-        Err(_) => Err(AllocError),
-    }
 }
 
 /// A piece that no edge touches, as its own root.
@@ -69,12 +57,12 @@ pub fn is_odd_at(chart: &[Rooted], piece: Id) -> bool
     }
 }
 
-/// The chart of the pieces below `n`, as if no edge touched them. 2^32 pieces or more are refused as want of memory.
+/// The chart of the pieces below `n`, as if no edge touched them. 2^32 pieces or more are refused as out of memory.
 fn own_roots(alloc: Global, n: Id) -> Result<Vec<Rooted>, AllocError>
     ensures chart { IfOk result (λ v. IsChart [] n v.items) }
     ensures few { IfOk result (λ _. n < 2 ^ 32) }
 {
-    let n = short(n)?;
+    let n = short_id(n)?;
     let mut chart = Vec::with_capacity(alloc, n as usize)?;
     for v in 0..n {
         chart.push(own_root(v))?;
@@ -95,7 +83,7 @@ fn put_rows(chart: &mut [Rooted], rows: &[Star])
 }
 
 /// The root and the parity of each piece below `n`: by its row, or its own root where no edge touches it.
-/// 2^32 pieces or more are refused as want of memory, which so many pieces would be.
+/// 2^32 pieces or more are refused as out of memory, which so many pieces would be.
 pub fn chart(alloc: Global, n: Id, rows: &[Star]) -> Result<Vec<Rooted>, AllocError>
     requires ordered { IsStarList rows.now }
     requires below { ArePiecesBelow n rows.now }

@@ -8,9 +8,9 @@ ghost use Rattle.dpl_orient.specs.Rooted.{ArePiecesBelow, AreSidesBelow};
 
 use crate::chart::{Rooted, chart};
 use crate::crossing::{crossings, differs};
+use crate::flipping::flips;
 use crate::mask::{Colours, Mask};
-use crate::turning::flips;
-use dpl_base::Id;
+use dpl_list::Id;
 use dpl_stars::{Joined, Star};
 use std::alloc::{AllocError, Global};
 
@@ -42,8 +42,7 @@ fn orient_rows(
     let chart = chart(alloc, n, rows)?;
     let across = crossings(alloc, &chart, sides)?;
     let flips = flips(alloc, n, &chart, sides, &across)?;
-    let colours = masks(alloc, &chart, &flips)?;
-    Ok(colours)
+    masks(alloc, &chart, &flips)
 }
 
 /// Whether a summary has no odd cycle, and pieces below `n` alone.
@@ -66,7 +65,7 @@ pub fn are_sides_below(n: Id, sides: &[(Id, Id)]) -> bool
 /// The masks of the pieces below `n`, where `joined` sums up the conflicts and `sides` has the pieces on both sides of
 /// each stitch zone. A component alternates from mask A at its least piece. Components are taken by least piece, and
 /// one is flipped where fewer of its zones with earlier components then have sides on different masks. 2^32 pieces or
-/// more, and a zone between two components whose number is 2^32 or more, are refused as want of memory, which so many
+/// more, and a zone between two components whose number is 2^32 or more, are refused as out of memory, which so many
 /// would be.
 pub fn orient(
     alloc: Global,
@@ -80,10 +79,7 @@ pub fn orient(
     ensures graph { IfOk result (λ colours. ColoursWhatSums joined.now n sides.now colours) }
 {
     match joined {
-        Joined::Stars(rows) => {
-            let colours = orient_rows(alloc, n, sides, rows.items())?;
-            Ok(colours)
-        }
+        Joined::Stars(rows) => orient_rows(alloc, n, sides, rows.items()),
         Joined::Odd => unreachable!(),
     }
 }

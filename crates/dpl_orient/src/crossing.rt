@@ -5,8 +5,8 @@ ghost use Rattle.dpl_spec_split.specs.Colours.{differ};
 ghost use Rattle.dpl_orient.specs.Chart.{rooted_at};
 ghost use Rattle.dpl_orient.specs.Crossings.{crossing_between, crossing_at, is_across, crossings_at, HaveLater, crossings_of, AreGrouped, GoUp};
 
-use crate::chart::{Rooted, is_odd_at, root_at, short};
-use dpl_base::Id;
+use crate::chart::{Rooted, is_odd_at, root_at};
+use dpl_list::{Id, short_id};
 use std::alloc::{AllocError, Global};
 
 /// A stitch zone with its sides in two components, each named by its least piece.
@@ -84,7 +84,7 @@ fn crossing_count(chart: &[Rooted], sides: &[(Id, Id)]) -> usize
     count
 }
 
-/// The crossings among zones with these sides. A zone or a later component of number 2^32 or more is refused as want of
+/// The crossings among zones with these sides. A zone or a later component of number 2^32 or more is refused as out of
 /// memory, which so many zones or pieces would be.
 fn listed(alloc: Global, chart: &[Rooted], sides: &[(Id, Id)]) -> Result<Vec<Across>, AllocError>
     ensures later { IfOk result (λ v. HaveLater chart.now sides.now v.items) }
@@ -93,8 +93,8 @@ fn listed(alloc: Global, chart: &[Rooted], sides: &[(Id, Id)]) -> Result<Vec<Acr
     let mut across = Vec::with_capacity(alloc, crossing_count(chart, sides))?;
     for zone in 0..sides.len() {
         if is_across(chart, sides[zone]) {
-            let later = short(crossing_at(chart, sides, zone).later)?;
-            let zone = short(zone as u64)?;
+            let later = short_id(crossing_at(chart, sides, zone).later)?;
+            let zone = short_id(zone as Id)?;
             across.push(Across { later, zone })?;
         }
     }
@@ -110,7 +110,7 @@ fn group(across: &mut Vec<Across>)
 }
 
 /// The crossings among zones with these sides, in order of the later component. A zone or a later component of number
-/// 2^32 or more is refused as want of memory, which so many zones or pieces would be.
+/// 2^32 or more is refused as out of memory, which so many zones or pieces would be.
 pub fn crossings(
     alloc: Global,
     chart: &[Rooted],

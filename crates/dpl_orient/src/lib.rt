@@ -4,8 +4,8 @@
 mod chart;
 mod colouring;
 mod crossing;
+mod flipping;
 mod mask;
-mod turning;
 
 pub use crate::colouring::{are_sides_below, is_even_below, orient};
 pub use crate::mask::{Colours, Mask};

@@ -2,7 +2,7 @@
 ghost use Rattle.std.specs.Prelude.{◌≡◌, ◌<◌, map, length, slice_index_or, true, false};
 ghost use Rattle.dpl_orient.specs.Masks.{is_second};
 
-use dpl_base::Id;
+use dpl_list::Id;
 use std::marker::Model;
 
 /// One of the two masks.

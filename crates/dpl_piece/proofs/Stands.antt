@@ -11,7 +11,7 @@ use Rattle.dpl_spec_split.specs.Squares.{Region, Covers, Has, Touch, AreTouching
 use Rattle.dpl_spec_split.specs.Slabs.{IsSolid, IsCanonical}
 use Rattle.dpl_spec_split.specs.Loops.{farthest, IsRectWithin, AreRectsWithin}
 use Rattle.dpl_spec_split.specs.Components.{AreComponents}
-use Rattle.dpl_spec_split.specs.Zones.{at, IsHorizontalZone, IsVerticalZone, IsKeptZone, turned, turned_rect, AreZones, part_at}
+use Rattle.dpl_spec_split.specs.Zones.{at, IsHorizontalZone, IsVerticalZone, IsKeptZone, transposed, transposed_rect, AreZones, part_at}
 use Rattle.dpl_spec_split.specs.Pieces.{without, IsFirstSide, IsSecondSide, AreSides}
 use Rattle.dpl_spec_split.proofs.SquareLaws.{Touch-from_close}
 use Rattle.dpl_spec_split.proofs.SlabLaws.{Covers-member, member-Covers}
@@ -87,7 +87,7 @@ module _ (rule overlap : ℕ) (layer : Region) (features : List (List Rect)) (zo
     (c : AreComponents layer features) (zs : AreZones rule overlap layer features zones) (z : Zone) (z_in : Contains zones z) where
   solid-kept : IsKeptZone rule overlap layer (part_at features z.feature) z.rect → (z.rect.x0 <ℤ z.rect.x1) × (z.rect.y0 <ℤ z.rect.y1)
   solid-kept (inl h) = let s = broad rule overlap layer (part_at features z.feature) z.rect some h in (s.wide, s.tall)
-  solid-kept (inr (h, none)) = let s = broad rule overlap (turned layer) (turned (part_at features z.feature)) (turned_rect z.rect) some h in (s.tall, s.wide)
+  solid-kept (inr (h, none)) = let s = broad rule overlap (transposed layer) (transposed (part_at features z.feature)) (transposed_rect z.rect) some h in (s.tall, s.wide)
 
   pub solid-zone : (z.rect.x0 <ℤ z.rect.x1) × (z.rect.y0 <ℤ z.rect.y1)
   solid-zone = solid-kept (kept rule overlap layer features zones c zs z z_in).1
@@ -205,8 +205,8 @@ module _ (rule overlap : ℕ) (layer : Region) (features pieces : List (List Rec
 
       module _ (h : IsVerticalZone rule overlap layer (part_at features z.feature) z.rect) (none : (r : Rect)
           → IsHorizontalZone rule overlap layer (part_at features z.feature) r → ¬ AreTouching (Has r) (Has z.rect)) where
-        abbrev v : IsBroad h.stretch (turned_rect z.rect)
-        v = broad rule overlap (turned layer) (turned (part_at features z.feature)) (turned_rect z.rect) some h
+        abbrev v : IsBroad h.stretch (transposed_rect z.rect)
+        v = broad rule overlap (transposed layer) (transposed (part_at features z.feature)) (transposed_rect z.rect) some h
 
         first-up : (k : ℕ) × IsCornerOf UpperLeft pieces (corner_at z.rect.x0 z.rect.y0 k)
         first-up =

@@ -1,8 +1,8 @@
--- Lists that are turned round and emptied from the end.
+-- Lists that are reversed and emptied from the end.
 use Rattle.std.proofs.Common.{◌≡◌, List, [], ◌∷◌, ◌++◌, ap, sym, ◌∙◌, reverse, map, length, arith, append-nil}
 use Rattle.std.proofs.lemmas.List.{append_assoc, reverse-append}
 
--- one more from the end of those that are turned round
+-- one more from the end of those that are reversed
 pub taken-next : {X A : Type 0} (f : X → A) (done all : List A) (left rest : List X) (x : X) → done ++ map f (reverse left) ≡ all
     → left ≡ rest ++ x ∷ [] → (done ++ f x ∷ []) ++ map f (reverse rest) ≡ all
 taken-next f done all left rest x same is =

@@ -43,7 +43,7 @@ pub struct Lists {
     pub origins: Vec<Origin>,
 }
 
-/// The squares, the features and the origins of the pieces. The pieces are turned round and taken from the end, so that the room of their list is given back on the way.
+/// The squares, the features and the origins of the pieces. The pieces are reversed and taken from the end, so that the room of their list is given back on the way.
 pub fn lists_of(alloc: Global, mut pieces: Vec<Piece>) -> Result<Lists, AllocError>
     ensures parts { IfOk result (λ l. l.parts.items ≡ parts_in pieces.items) }
     ensures owners { IfOk result (λ l. l.owners.items ≡ owners_in pieces.items) }

@@ -22,7 +22,7 @@ fn feature_of(zones: &[Zone], number: usize) -> Id
     }
 }
 
-/// The numbers below `count`, in order, in 32 bits each. 2^32 of them or more are refused as want of memory, which so many zones would be.
+/// The numbers below `count`, in order, in 32 bits each. 2^32 of them or more are refused as out of memory, as so many zones would be.
 fn short_numbers(alloc: Global, count: usize) -> Result<Vec<u32>, AllocError>
     ensures { IfOk result (λ v. v.items ≡ range_with_len 0 count) }
 {
@@ -68,7 +68,7 @@ fn holes_at(alloc: Global, zones: &[Zone], numbers: &[u32]) -> Result<Vec<Rect>,
     Ok(holes)
 }
 
-/// Adds pieces that zones broke off a feature. Their list is turned round and emptied from the end, so that its room is given back on the way.
+/// Adds pieces that zones broke off a feature. Their list is reversed and emptied from the end, so that its room is given back on the way.
 fn add_parts(pieces: &mut Vec<Piece>, mut parts: Vec<Slabs>, number: Id) -> Result<(), AllocError>
     ensures { OnOk result (pieces.new.items ≡ pieces.old.items ++ map (broken_piece number) parts.items) }
 {

@@ -18,7 +18,7 @@ use Rattle.dpl_deal.specs.declared.hand.Hand.{Hand}
 use Rattle.dpl_deal.specs.Rule.{once_below, times}
 use Rattle.dpl_deal.specs.Hands.{EachAt, HasEachOnce, IsDone, IsHandOf, all_taken, taken}
 use Rattle.dpl_deal.proofs.Moves.{times-append}
-use Rattle.dpl_turn.specs.declared.view.View.{View}
+use Rattle.dpl_turn.specs.declared.view.SeatView.{SeatView}
 use Rattle.dpl_turn.specs.Rule.{Answers, Posted, StartsWith, named_list, newcomer}
 use Rattle.dpl_turn.specs.Seats.{IsSeatOf, knows}
 use Rattle.dpl_pool.specs.declared.member.Member.{Member}
@@ -27,26 +27,26 @@ use Rattle.dpl_pool.specs.Members.{Covers, IsMember, IsTwice, Keeps}
 pub posted_more : (x : ℕ) (a b : List Entry) → IsPosted x a → IsPosted x (a ++ b)
 posted_more x a b p = (p.0, poster-first x p.0 a b p.1)
 
-pub posted_later : (x : ℕ) (history front : List Entry) → StartsWith history front → IsPosted x front → IsPosted x history
-posted_later x history front s p = subst (IsPosted x) (sym s.1) (posted_more x front s.0 p)
+pub posted_later : (x : ℕ) (history prefix : List Entry) → StartsWith history prefix → IsPosted x prefix → IsPosted x history
+posted_later x history prefix s p = subst (IsPosted x) (sym s.1) (posted_more x prefix s.0 p)
 
-posted_keeps : (v : View) (posted : Option Entry) (found : List Entry) (w : View) → Posted v posted found w → Keeps v w
+posted_keeps : (v : SeatView) (posted : Option Entry) (found : List Entry) (w : SeatView) → Posted v posted found w → Keeps v w
 posted_keeps v posted found w p = record {
   sheet = p.sheet;
   workers = p.workers;
   seen = λ x h. subst (IsPosted x) (sym p.known) (posted_more x found (named_list posted) (posted_later x found v.known p.begins h));
 }
 
-pub answers_keep : (v : View) (worker tile : ℕ) (r : Result (Unit {0}) PostFault) (w : View) → Answers v worker tile r w → Keeps v w
+pub answers_keep : (v : SeatView) (worker tile : ℕ) (r : Result (Unit {0}) PostFault) (w : SeatView) → Answers v worker tile r w → Keeps v w
 answers_keep v worker tile (Ok u) w h = posted_keeps v (Some (entry worker tile)) h.0 w h.2
 answers_keep v worker tile (Err (Twice by)) w h = posted_keeps v None h.0 w h.2
 answers_keep v worker tile (Err NoMemory) w h = posted_keeps v None h.0 w h.2
 
-pub answers_ok : (v : View) (worker tile : ℕ) (r : Result (Unit {0}) PostFault) (u : Unit {0}) (w : View) → r ≡ Ok u → Answers v worker tile r w → IsPosted tile w.known
+pub answers_ok : (v : SeatView) (worker tile : ℕ) (r : Result (Unit {0}) PostFault) (u : Unit {0}) (w : SeatView) → r ≡ Ok u → Answers v worker tile r w → IsPosted tile w.known
 answers_ok v worker tile (Ok u) k w e h = (worker, ap (poster_in tile) h.2.known ∙ poster-new h.0 (entry worker tile) h.1)
 answers_ok v worker tile (Err f) k w e h = absurd (cc)
 
-pub answers_twice : (v : View) (worker tile : ℕ) (r : Result (Unit {0}) PostFault) (f : PostFault) (w : View) → r ≡ Err f → IsTwice f
+pub answers_twice : (v : SeatView) (worker tile : ℕ) (r : Result (Unit {0}) PostFault) (f : PostFault) (w : SeatView) → r ≡ Err f → IsTwice f
     → Answers v worker tile r w → IsPosted tile w.known
 answers_twice v worker tile (Ok u) f w e is h = absurd (cc)
 answers_twice v worker tile (Err (Twice by)) f w e is h = subst (IsPosted tile) (sym h.2.known) (posted_more tile h.0 [] (by, h.1))
@@ -58,17 +58,17 @@ answers_twice v worker tile (Err NoMemory) f w e is h = absurd (let k : NoMemory
 
 -- a tile more, taken and posted
 pub goes_on : (table : TableId) (sheet : Sheet) (deal : Deal) (i : ℕ) (old new : Member) (tile : ℕ) → IsMember table sheet deal i old
-    → new.number ≡ old.number → new.wants ≡ old.wants → IsSeatOf table new.seat → Keeps (knows old.seat) (knows new.seat)
+    → new.number ≡ old.number → new.out_of_memory ≡ old.out_of_memory → IsSeatOf table new.seat → Keeps (knows old.seat) (knows new.seat)
     → (IsHandOf deal i old.hand → IsHandOf deal i new.hand)
     → ((x : ℕ) → times x (taken new.hand) ≡ times x (taken old.hand) + times x (tile ∷ [])) → IsPosted tile (knows new.seat).known
     → IsMember table sheet deal i new
-goes_on table sheet deal i old new tile m same same_wants seat keeps hand more posted = record {
+goes_on table sheet deal i old new tile m same same_memory seat keeps hand more posted = record {
   seat = seat;
   sheet_is = keeps.sheet ∙ m.sheet_is;
   number = same ∙ m.number;
   below = (let b = m.below in let w = keeps.workers in omega arith);
   hand = hand m.hand;
-  well = same_wants ∙ m.well;
+  well = same_memory ∙ m.well;
   covers = λ x lt. ⊎_elim
       (λ (a : 0 < times x (taken old.hand)). keeps.seen x (m.covers x a))
       (λ (a : times x (taken old.hand) ≤ 0). subst (λ (t : ℕ). IsPosted t (knows new.seat).known) (is_it tile x (let e = more x in omega arith)) posted)
@@ -110,14 +110,14 @@ each_snoc P xs x h p k d lt = ⊎_elim
     (cases_lt k (length xs))
 
 -- a new worker
-pub joins_in : (table : TableId) (deal : Deal) (i : ℕ) (m : Member) (old : View) → IsSeatOf table m.seat
+pub joins_in : (table : TableId) (deal : Deal) (i : ℕ) (m : Member) (old : SeatView) → IsSeatOf table m.seat
     → knows m.seat ≡ newcomer old.sheet old.workers old.known → m.number ≡ i → m.number < old.workers
-    → IsHandOf deal i m.hand → taken m.hand ≡ [] → m.wants ≡ false → IsMember table old.sheet deal i m
+    → IsHandOf deal i m.hand → taken m.hand ≡ [] → m.out_of_memory ≡ false → IsMember table old.sheet deal i m
 joins_in table deal i m old t is n lt h none well = record {
   seat = t;
-  sheet_is = ap (λ (v : View). v.sheet) is;
+  sheet_is = ap (λ (v : SeatView). v.sheet) is;
   number = n;
-  below = (let w = ap (λ (v : View). v.workers) is in omega arith);
+  below = (let w = ap (λ (v : SeatView). v.workers) is in omega arith);
   hand = h;
   well = well;
   covers = λ x lt. absurd (let z : times x (taken m.hand) ≡ 0 = ap (times x) none in omega arith);
@@ -154,9 +154,9 @@ all_posted tiles n hs known history is all covers starts t lt =
     below_one n t lt = grind (arith, nat_tests)
 
 -- one worker more
-pub members_next : (table : TableId) (deal : Deal) (v : View) (ms : List Member) (m : Member) (i : ℕ) → length ms ≡ i
+pub members_next : (table : TableId) (deal : Deal) (v : SeatView) (ms : List Member) (m : Member) (i : ℕ) → length ms ≡ i
     → EachAt (IsMember table v.sheet deal) ms → IsSeatOf table m.seat → knows m.seat ≡ newcomer v.sheet v.workers v.known
-    → m.number ≡ i → m.number < v.workers → IsHandOf deal i m.hand → taken m.hand ≡ [] → m.wants ≡ false → EachAt (IsMember table v.sheet deal) (ms ++ m ∷ [])
+    → m.number ≡ i → m.number < v.workers → IsHandOf deal i m.hand → taken m.hand ≡ [] → m.out_of_memory ≡ false → EachAt (IsMember table v.sheet deal) (ms ++ m ∷ [])
 members_next table deal v ms m i len all t me n lt h none well = each_snoc (IsMember table v.sheet deal) ms m all
     (subst (λ (k : ℕ). IsMember table v.sheet deal k m) (sym len) (joins_in table deal i m v t me n lt h none well))
 

@@ -8,7 +8,7 @@ use Rattle.dpl_board.specs.Sheets.{IsPosted, Sheet}
 use Rattle.dpl_deal.specs.declared.deal.Deal.{Deal}
 use Rattle.dpl_deal.specs.Rule.{times}
 use Rattle.dpl_deal.specs.Hands.{IsDone, IsHandOf, taken}
-use Rattle.dpl_turn.specs.declared.view.View.{View}
+use Rattle.dpl_turn.specs.declared.view.SeatView.{SeatView}
 use Rattle.dpl_turn.specs.Seats.{IsSeatOf, knows}
 use Rattle.dpl_pool.specs.declared.member.Member.{Member}
 
@@ -16,7 +16,7 @@ use Rattle.dpl_pool.specs.declared.member.Member.{Member}
 abbrev pub Covers : List ℕ → List Entry → Type 0
 Covers tiles history = (x : ℕ) → 0 < times x tiles → IsPosted x history
 
--- It is the worker of this number at the board with this table, of a job with this sheet, with the hand of that number. It hasn't wanted
+-- It is the worker of this number at the board with this table, of a job with this sheet, with the hand of that number. It has not run out of
 -- memory, and its seat has seen each tile that the hand took
 pub record IsMember (table : TableId) (sheet : Sheet) (deal : Deal) (i : ℕ) (m : Member) : Type 0 where
   pub seat : IsSeatOf table m.seat
@@ -24,15 +24,15 @@ pub record IsMember (table : TableId) (sheet : Sheet) (deal : Deal) (i : ℕ) (m
   pub number : m.number ≡ i
   pub below : m.number < (knows m.seat).workers
   pub hand : IsHandOf deal i m.hand
-  pub well : m.wants ≡ false
+  pub well : m.out_of_memory ≡ false
   pub covers : Covers (taken m.hand) (knows m.seat).known
 
--- it wanted memory, or its hand has found each deque empty
+-- it ran out of memory, or its hand has found each deque empty
 abbrev pub Leaves : TableId → Sheet → Deal → ℕ → Member → Type 0
-Leaves table sheet deal i m = m.wants ≡ false → IsMember table sheet deal i m × IsDone m.hand
+Leaves table sheet deal i m = m.out_of_memory ≡ false → IsMember table sheet deal i m × IsDone m.hand
 
 -- what a post leaves of what a seat knows: its sheet, its number of workers, and each tile that is posted
-pub record Keeps (v w : View) : Type 0 where
+pub record Keeps (v w : SeatView) : Type 0 where
   pub sheet : w.sheet ≡ v.sheet
   pub workers : w.workers ≡ v.workers
   pub seen : (x : ℕ) → IsPosted x v.known → IsPosted x w.known

@@ -1,4 +1,4 @@
-//! Gates, which a worker passes.
+//! What workers call between their steps, by which a test may hold them there.
 ghost use Rattle.dpl_board.specs.Sheets.{IsPosted};
 ghost use Rattle.dpl_turn.specs.Seats.{knows};
 

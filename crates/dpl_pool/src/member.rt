@@ -1,4 +1,4 @@
-//! One worker of the pool.
+//! One worker of the pool: the tiles that it takes, works out and posts.
 ghost use Rattle.std.specs.Prelude.{◌≡◌, ◌<◌, ◌↔◌, ℕ, true, false, length};
 ghost use Rattle.dpl_stars.specs.Sums.{Sums};
 ghost use Rattle.dpl_board.specs.Sheets.{IsPosted, edges_at};
@@ -14,13 +14,13 @@ use dpl_turn::{Board, Seat};
 use std::alloc::Global;
 use std::sync::Wait;
 
-/// A worker: its number, its seat at the board, its hand, and whether it wanted memory.
+/// A worker: its number, its seat at the board, its hand, and whether it ran out of memory.
 #[derive(Drop)]
 pub struct Member {
     pub number: u32,
     pub seat: Seat,
     pub hand: Hand,
-    pub wants: bool,
+    pub out_of_memory: bool,
 }
 
 /// Posts a tile, and says whether it stands on the board now.
@@ -49,10 +49,7 @@ fn post_tile<J: Job, R: Wait>(
 fn is_posted(fault: PostFault) -> bool
     ensures { result ≡ true ↔ IsTwice fault }
 {
-    match fault {
-        PostFault::Twice { by: _ } => true,
-        PostFault::NoMemory => false,
-    }
+    matches!(fault, PostFault::Twice { .. })
 }
 
 /// One tile: taken, worked out and posted. The answer is false where the worker is done.
@@ -77,19 +74,19 @@ fn step<J: Job, G: Gate, R: Wait>(
     };
     gate.enter(member.number, tile);
     let Ok(sum) = job.summary(alloc, tile) else {
-        member.wants = true;
+        member.out_of_memory = true;
         return false;
     };
     let number = member.number;
     if !post_tile(rt, board, &mut member.seat, number, tile, sum) {
-        member.wants = true;
+        member.out_of_memory = true;
         return false;
     }
     gate.posted(&member.seat, tile);
     true
 }
 
-/// Takes tiles until each deque was found empty, or memory is wanted.
+/// Takes tiles until each deque was found empty, or the worker runs out of memory.
 pub fn work<J: Job, G: Gate, R: Wait>(
     rt: &R,
     alloc: Global,

@@ -1,4 +1,4 @@
-//! The pool.
+//! Workers from the opening of a deal and a board to the closing of both.
 ghost use Rattle.std.specs.Prelude.{◌≡◌, ◌<◌, ◌≤◌, All, IfOk, ℕ, List, [], length, vec_len};
 ghost use Rattle.dpl_board.specs.Boards.{AreAllPosted, Stands};
 ghost use Rattle.dpl_board.specs.Cores.{IsCore};
@@ -90,7 +90,7 @@ fn seated<J: Job>(
             number,
             seat: other,
             hand,
-            wants: false,
+            out_of_memory: false,
         })?;
         number += 1;
     }
@@ -115,7 +115,7 @@ fn gathered<J: Job>(
 {
     let mut hands = Vec::new(alloc);
     for member in members {
-        if member.wants {
+        if member.out_of_memory {
             return Err(AllocError);
         }
         board.rejoin(seat, member.seat);

@@ -19,7 +19,7 @@ pub enum Size {
     Points,
 }
 
-/// The data of a type of record.
+/// What a type of record asks of its data: their type and their size.
 #[derive(Clone, Copy, Debug, Drop)]
 pub struct Form {
     /// Nothing where the data type isn't checked.
@@ -28,6 +28,7 @@ pub struct Form {
 }
 
 impl Form {
+    /// Whether a record of this form may have this data type.
     pub fn has_type(&self, data_type: u8) -> bool
         ensures { result ≡ format.type_fits self.now.data_type data_type }
     {
@@ -37,6 +38,7 @@ impl Form {
         }
     }
 
+    /// Whether a record of this form may have this many bytes of data.
     pub fn has_size(&self, len: usize) -> bool
         ensures { result ≡ format.size_fits (size_seen self.now.size) len }
     {
@@ -66,7 +68,7 @@ enum Data {
     Text,
 }
 
-/// By type, from HEADER on.
+/// What the data of each type of record are, from HEADER (type 0) on.
 const TABLE: [Data; 60] = [
     Short, Dates, Text, Reals, Empty, Dates, Text, Empty, // HEADER to ENDSTR
     Empty, Empty, Empty, Empty, Empty, Short, Short, Long, // BOUNDARY to WIDTH
@@ -79,7 +81,7 @@ const TABLE: [Data; 60] = [
 ];
 
 impl Data {
-    /// The data type and the size.
+    /// What the data are to be, or nothing where there is no such type of record.
     fn form(self) -> Option<Form>
         ensures { option_map form_seen result ≡ form_in self }
     {
@@ -103,7 +105,7 @@ impl Data {
     }
 }
 
-/// Data of this type.
+/// The form of data of this type and size.
 fn of_type(data_type: u8, size: Size) -> Option<Form>
     ensures { option_map form_seen result ≡ format.of data_type (size_seen size) }
 {
@@ -130,10 +132,12 @@ pub fn data_type_of(kind: u8) -> u8
     ensures { result ≡ unwrap_or (records.data_type_of kind) 0 }
 {
     match form_of(kind) {
-        Some(form) => match form.data_type {
-            Some(data_type) => data_type,
-            None => 0,
-        },
-        None => 0,
+        Some(
+            Form {
+                data_type: Some(data_type),
+                ..
+            },
+        ) => data_type,
+        _ => 0,
     }
 }

@@ -60,7 +60,7 @@ pub fn next_record(bytes: &[u8], at: usize) -> Result<Record<'_>, RecordFault>
     })
 }
 
-/// Writes a record of a type that has a data type at the end of `out`. Without memory `out` stays as it was.
+/// Writes a record of a type that has a data type at the end of `out`. Where memory runs out, `out` stays as it was.
 pub fn put_record(out: &mut Vec<u8>, kind: u8, body: &[u8]) -> Result<(), AllocError>
     requires typed { IsSome (data_type_of kind) }
     requires even { length body.now % 2 ≡ 0 }
@@ -72,6 +72,5 @@ pub fn put_record(out: &mut Vec<u8>, kind: u8, body: &[u8]) -> Result<(), AllocE
     out.extend_from_slice(&(body.len() as u16 + 4).to_be_bytes())?;
     out.push(kind)?;
     out.push(data_type_of(kind))?;
-    out.extend_from_slice(body)?;
-    Ok(())
+    out.extend_from_slice(body)
 }

@@ -27,7 +27,7 @@ use Rattle.dpl_words.specs.Ranges.{IsApart}
 use Rattle.dpl_run.specs.Check.{IsCheck, IsCheckOfMasks, check_choice, mask_choice, refusal_of, verdict_outcome, verdict_status}
 use Rattle.dpl_run.specs.Outcome.{Outcome, is_answered, says}
 use Rattle.dpl_run.specs.Program.{IsMade, IsMadeOfCert, IsMadeOfLayer, IsSeen, IsTold}
-use Rattle.dpl_run.specs.Reading.{Faulty, IsLayout, Layer, limit}
+use Rattle.dpl_layer.specs.Reading.{Faulty, IsLayout, Layer, limit}
 use Rattle.dpl_run.specs.Texts.{bad_line_line}
 use Rattle.dpl_run.specs.declared.status.Status.TheVariants.{Refused}
 use Rattle.dpl_run.proofs.Inputs.{length-zeros, nothing, zeros}

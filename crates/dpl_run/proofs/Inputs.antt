@@ -8,11 +8,11 @@ use Rattle.dpl_words.specs.Meaning.{AsksDemo, AsksSplit, DemoValues, SplitValues
 use Rattle.clap.specs.Walk.{Text}
 use Rattle.dpl_run.specs.Outcome.{Outcome, Shows, is_answered, says}
 use Rattle.dpl_run.specs.Program.{IsInput, IsMade}
-use Rattle.dpl_run.specs.Split.{Decision, IsSplit, IsSplitOf, Refuses, Decides, plan_of, refusal, split_choice}
+use Rattle.dpl_run.specs.Split.{Decision, IsDecision, IsSplit, IsSplitOf, Refuses, Decides, plan_of, refusal}
 use Rattle.dpl_run.specs.Demo.{IsDemo, demo_choice, demo_plan}
 use Rattle.dpl_demo.specs.Demo.{demo_file}
-use Rattle.dpl_run.specs.Flat.{Flat, IsFlat, Paints, Clashes}
-use Rattle.dpl_run.specs.Reading.{Faulty, IsLayout, IsReading, Layer}
+use Rattle.dpl_answer.specs.Flat.{Flat, IsFlat, Paints, Clashes}
+use Rattle.dpl_layer.specs.Reading.{Choice, Faulty, IsLayout, Layer}
 use Rattle.dpl_spec_split.specs.declared.Rect.{Rect}
 use Rattle.dpl_cert.specs.declared.name.Name.{Name}
 use Rattle.dpl_run.specs.Texts.{usage_line}
@@ -67,16 +67,15 @@ split_refused told v x h is =
     let (file, there, large) = h.2 in
     (h.0, h.1, of_file v _ file x there (Refuses TooLarge 268435456, inl (large, refl), is), ap (λ (y : Outcome). is_answered y.status) is)
 
--- the layer was decomposed
-pub split_decided : (v : SplitValues) (bytes front : List ℕ) (layer : List Rect) (flat : Flat) (x : Outcome) → length bytes ≤ 268435456
-    → IsLayout (split_choice v) bytes (Layer front layer) → IsFlat v.rule v.overlap layer flat → x ≡ plan_of v (Decides front flat)
-    → IsSplit v bytes x
-split_decided v bytes front layer flat x small read decomposed is = (Decides front flat, (layer, inr (small, read), decomposed), is)
-
 -- the layout has a fault
-pub split_faulty : (v : SplitValues) (bytes : List ℕ) (name : Name) (at : ℕ) (x : Outcome) → length bytes ≤ 268435456
-    → IsLayout (split_choice v) bytes (Faulty name at) → x ≡ refusal v name at → IsSplit v bytes x
-split_faulty v bytes name at x small read is = (Refuses name at, inr (small, read), is)
+pub faulty : (choice : Choice) (rule overlap : ℕ) (bytes : List ℕ) (name : Name) (at : ℕ) → length bytes ≤ 268435456
+    → IsLayout choice bytes (Faulty name at) → IsDecision choice rule overlap bytes (Refuses name at)
+faulty choice rule overlap bytes name at small read = inr (small, read)
+
+-- the layer was decomposed
+pub answered : (choice : Choice) (rule overlap : ℕ) (bytes front : List ℕ) (layer : List Rect) (flat : Flat) → length bytes ≤ 268435456
+    → IsLayout choice bytes (Layer front layer) → IsFlat rule overlap layer flat → IsDecision choice rule overlap bytes (Decides front flat)
+answered choice rule overlap bytes front layer flat small read decomposed = (layer, inr (small, read), decomposed)
 
 -- an outside that shows
 shown : (told : Option Outside) → (o : Outside) × Shows told o
@@ -96,22 +95,7 @@ demo_answered (Decides front (Clashes x)) = refl
 pub demo_made : (told : Option Outside) (v : DemoValues) (x : Outcome) → IsDemo v x → IsMade (Some (AsksDemo v)) told x
 demo_made told v x is = let s = shown told in (s.0, s.1, is, ap (λ (y : Outcome). is_answered y.status) is.2 ∙ demo_answered is.0)
 
--- its file isn't too large
-demo_small : (n rows : ℕ) → n ≡ 106 + 128 * rows → rows ≤ 1000000 → n ≤ 268435456
-demo_small n rows is few = omega (arith, is, few)
-
-pub demo_decided : (v : DemoValues) (bytes front : List ℕ) (layer : List Rect) (flat : Flat) (x : Outcome)
-    → bytes ≡ demo_file v.seed v.rows → length bytes ≡ 106 + 128 * v.rows → v.rows ≤ 1000000 → IsLayout demo_choice bytes (Layer front layer)
-    → IsFlat 30 10 layer flat → x ≡ demo_plan (Decides front flat) → IsDemo v x
-demo_decided v bytes front layer flat x made size few read decomposed is = (
-  Decides front flat,
-  subst (λ (bs : List ℕ). (rs : List Rect) × IsReading demo_choice bs (Layer front rs) × IsFlat 30 10 rs flat) made
-      (layer, inr (demo_small _ _ size few, read), decomposed),
-  is,
-)
-
-pub demo_faulty : (v : DemoValues) (bytes : List ℕ) (name : Name) (at : ℕ) (x : Outcome) → bytes ≡ demo_file v.seed v.rows
-    → length bytes ≡ 106 + 128 * v.rows → v.rows ≤ 1000000 → IsLayout demo_choice bytes (Faulty name at)
-    → x ≡ demo_plan (Refuses name at) → IsDemo v x
-demo_faulty v bytes name at x made size few read is =
-    (Refuses name at, subst (λ (bs : List ℕ). IsReading demo_choice bs (Faulty name at)) made (inr (demo_small _ _ size few, read)), is)
+-- the made-up file was decided
+pub demo_decided : (v : DemoValues) (bytes : List ℕ) (d : Decision) (x : Outcome) → bytes ≡ demo_file v.seed v.rows
+    → IsDecision demo_choice 30 10 bytes d → x ≡ demo_plan d → IsDemo v x
+demo_decided v bytes d x made decision is = (d, subst (λ (bs : List ℕ). IsDecision demo_choice 30 10 bs d) made decision, is)

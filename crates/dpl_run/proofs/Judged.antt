@@ -21,7 +21,7 @@ use Rattle.dpl_words.specs.Meaning.{CheckValues}
 use Rattle.dpl_run.specs.Check.{IsCheck, IsCheckOfCert, IsCheckOfFile, IsCheckOfMasks, WithFile, check_choice, mask_choice, refusal_of, verdict_outcome, verdict_status}
 use Rattle.dpl_run.specs.Checked.{HasLayer, HasRightMasks, IsRight, IsRightBy}
 use Rattle.dpl_run.specs.Outcome.{Outcome, says, silent}
-use Rattle.dpl_run.specs.Reading.{Choice, Faulty, IsReading, Layer, limit}
+use Rattle.dpl_layer.specs.Reading.{Choice, Faulty, IsReading, Layer, limit}
 use Rattle.dpl_run.specs.Texts.{bad_line_line}
 use Rattle.dpl_run.specs.declared.status.Status.{Status}
 use Rattle.dpl_run.specs.declared.status.Status.TheVariants.{Done, Refused, ReadFault, CheckNo}

@@ -18,8 +18,8 @@ use Rattle.dpl_cert.specs.declared.name.Name.TheVariants.{TooLarge}
 use Rattle.dpl_spec_verdict.specs.declared.Verdict.TheVariants.{WasFault}
 use Rattle.dpl_run.specs.Check.{IsCheck, IsCheckOfCert, IsCheckOfFile, IsCheckOfMasks, WithFile, refusal_of, verdict_outcome}
 use Rattle.dpl_run.specs.Demo.{demo_plan}
-use Rattle.dpl_run.specs.Reading.{Faulty, Layer, limit}
-use Rattle.dpl_run.specs.Flat.{Clashes, IsPaintedCut, Painted, Paints}
+use Rattle.dpl_layer.specs.Reading.{Faulty, Layer, limit}
+use Rattle.dpl_answer.specs.Flat.{Clashes, IsPaintedCut, Painted, Paints}
 use Rattle.dpl_law_verdict.specs.Own.{stitch_line}
 use Rattle.dpl_run.specs.Split.{Decides, Decision, IsDecision, IsSplitOf, Refuses, clash, painting, plan_of, refusal, split_choice}
 use Rattle.dpl_run.specs.Program.{IsOutcome, IsPlan}

@@ -12,7 +12,7 @@ use Rattle.dpl_spec_verdict.specs.declared.Verdict.TheVariants.{Valid, WasFault}
 use Rattle.dpl_spec_verdict.specs.Masks.{IsVerdictOfMasks}
 use Rattle.dpl_spec_verdict.specs.Conflicts.{IsVerdictOfConflict}
 use Rattle.dpl_words.specs.Meaning.{CheckValues}
-use Rattle.dpl_run.specs.Reading.{Choice, Faulty, IsReading, Layer, Reading, limit}
+use Rattle.dpl_layer.specs.Reading.{Choice, Faulty, IsReading, Layer, Reading, limit}
 use Rattle.dpl_run.specs.Outcome.{Outcome, says, silent}
 use Rattle.dpl_run.specs.Texts.{bad_line_line, broken_line, refused_file_line, valid_line}
 use Rattle.dpl_run.specs.declared.status.Status.{Status}

@@ -18,7 +18,7 @@ use Rattle.dpl_cert.specs.Grammar.{IsText}
 use Rattle.dpl_law_verdict.specs.Lines.{AreGoodLines}
 use Rattle.dpl_law_verdict.specs.Valid.{AreRight, IsCycleOf}
 use Rattle.dpl_words.specs.Meaning.{CheckValues}
-use Rattle.dpl_run.specs.Reading.{Choice, chosen}
+use Rattle.dpl_layer.specs.Reading.{Choice, chosen}
 use Rattle.dpl_run.specs.Check.{check_choice, mask_choice}
 
 -- The bytes hold a library with a top, whose chosen layer has no fault, and the squares of these slabs.

@@ -2,8 +2,8 @@
 use Rattle.std.specs.Prelude.{◌≡◌, None, length}
 use Rattle.dpl_demo.specs.Demo.{demo_file}
 use Rattle.dpl_words.specs.Meaning.{DemoValues}
-use Rattle.dpl_run.specs.Reading.{Choice}
-use Rattle.dpl_run.specs.Flat.{Clashes, Paints}
+use Rattle.dpl_layer.specs.Reading.{Choice}
+use Rattle.dpl_answer.specs.Flat.{Clashes, Paints}
 use Rattle.dpl_run.specs.Outcome.{Outcome, says}
 use Rattle.dpl_run.specs.Split.{Decides, Decision, IsDecision, Refuses}
 use Rattle.dpl_run.specs.Texts.{conflict_line, demo_line, refused_line}

@@ -1,13 +1,9 @@
 pub mod Outcome
-pub mod Naming
-pub mod Reading
-pub mod Flat
 pub mod Texts
 pub mod Split
 pub mod Demo
 pub mod Check
 pub mod Checked
 pub mod Program
-pub mod LayerFaults
 pub mod View
 pub mod Parted

@@ -19,7 +19,7 @@ use Rattle.dpl_cert.specs.declared.cert.PieceLine.{PieceLine}
 use Rattle.dpl_cert.specs.declared.cert.StitchLine.{StitchLine}
 use Rattle.dpl_masks.specs.Bytes.{file_bytes}
 use Rattle.dpl_words.specs.Meaning.{AsksCheck, AsksDemo, AsksSplit, RequestValues, SplitValues, request_of}
-use Rattle.dpl_run.specs.Reading.{chosen, front_of}
+use Rattle.dpl_layer.specs.Reading.{chosen, front_of}
 use Rattle.dpl_run.specs.Split.{certified, split_choice}
 use Rattle.dpl_run.specs.Outcome.{Outcome, Shows, carried_out}
 use Rattle.dpl_run.specs.Checked.{IsRight}

@@ -7,7 +7,7 @@ use Rattle.dpl_spec_split.specs.declared.Rect.{Rect}
 use Rattle.dpl_cert.specs.declared.cert.Cert.{Cert}
 use Rattle.dpl_words.specs.Meaning.{AsksCheck, AsksDemo, AsksSplit, CheckValues, RequestValues, request_of}
 use Rattle.dpl_run.specs.Outcome.{IsPartDone, Outcome, Shows, carried_out, is_answered, says}
-use Rattle.dpl_run.specs.Reading.{limit}
+use Rattle.dpl_layer.specs.Reading.{limit}
 use Rattle.dpl_run.specs.Split.{IsSplitOf}
 use Rattle.dpl_run.specs.Check.{IsCheck, IsCheckOfCert, IsCheckOfFile, WithFile}
 use Rattle.dpl_run.specs.Demo.{IsDemo}

@@ -8,8 +8,8 @@ use Rattle.dpl_cert.specs.Lines.{text}
 use Rattle.dpl_cert.specs.Grammar.{lines_of}
 use Rattle.dpl_masks.specs.Bytes.{file_bytes}
 use Rattle.dpl_words.specs.Meaning.{SplitValues}
-use Rattle.dpl_run.specs.Reading.{Choice, Faulty, IsReading, Layer}
-use Rattle.dpl_run.specs.Flat.{Clash, Flat, Clashes, IsFlat, Painted, Paints}
+use Rattle.dpl_layer.specs.Reading.{Choice, Faulty, IsReading, Layer}
+use Rattle.dpl_answer.specs.Flat.{Clash, Flat, Clashes, IsFlat, Painted, Paints}
 use Rattle.dpl_run.specs.Outcome.{Outcome, silent}
 use Rattle.dpl_run.specs.Texts.{conflict_line, done_line, refused_line}
 use Rattle.dpl_run.specs.declared.status.Status.TheVariants.{Done, Conflict, Refused, ReadFault}

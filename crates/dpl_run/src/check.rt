@@ -7,27 +7,27 @@ ghost use Rattle.dpl_cert.specs.Grammar.{IsCert};
 ghost use Rattle.dpl_spec_verdict.specs.Masks.{IsOfMasks};
 ghost use Rattle.dpl_run.specs.Check.{IsCheckOfMasks, mask_choice as mask_choice_of, refusal_of, verdict_outcome, verdict_status};
 ghost use Rattle.dpl_run.specs.Program.{IsMade, IsMadeOfCert, IsMadeOfLayer};
-ghost use Rattle.dpl_run.specs.Reading.{limit};
+ghost use Rattle.dpl_layer.specs.Reading.{limit};
 ghost use Rattle.dpl_run.specs.Outcome.{says};
 ghost use Rattle.dpl_run.specs.Texts.{bad_line_line as bad_line_line_of};
-ghost use Rattle.dpl_run.specs.View.{choice_view, file_word, output_view};
+ghost use Rattle.dpl_layer.specs.View.{choice_view};
+ghost use Rattle.dpl_run.specs.View.{file_word, output_view};
 ghost use Rattle.dpl_cert.specs.declared.name.Name.TheVariants.{TooLarge};
 ghost use Rattle.dpl_run.specs.declared.status.Status.TheVariants.{Refused};
 
-use crate::fault::LayerFault;
 use crate::input::read_input;
-use crate::layer::{LayerChoice, layer_of, layer_within};
 use crate::output::{Output, said};
 use crate::status::Status;
 use crate::texts::{CheckedFile, bad_line_line, refused_file_line, verdict_line};
 use dpl_cert::{Cert, CertFault, Name, read_cert};
 use dpl_check::{Verdict, check_conflict, check_masks};
 use dpl_host::{Host, MAX_BYTES, ReadFault};
+use dpl_layer::{LayerChoice, LayerFault, layer_of, layer_within};
 use dpl_slabs::Slabs;
 use dpl_words::CheckOptions;
 use std::alloc::{AllocError, Global};
 
-/// What is made of a command line of `check`.
+/// Reads IN, then what is needed of CERT and OUT, and says the first broken property, or that none is.
 pub(crate) fn check_output<'a, H: Host>(
     alloc: Global,
     options: &CheckOptions<'_>,
@@ -50,16 +50,13 @@ pub(crate) fn check_output<'a, H: Host>(
         datatype: options.datatype,
     };
     match layer_of(alloc, &choice, bytes) {
-        Ok(layer) => {
-            let output = check_layer(alloc, options, &layer.slabs, host)?;
-            Ok(output)
-        }
+        Ok(layer) => check_layer(alloc, options, &layer.slabs, host),
         Err(LayerFault::Refused { name, at }) => Ok(refused(alloc, CheckedFile::Layout, name, at)?),
         Err(LayerFault::NoMemory) => Err(ReadFault::NoMemory),
     }
 }
 
-/// What is made of the certificate of a layer.
+/// Reads CERT, and goes on by its kind.
 fn check_layer<'a, H: Host>(
     alloc: Global,
     options: &CheckOptions<'_>,
@@ -79,15 +76,14 @@ fn check_layer<'a, H: Host>(
     match read_cert(alloc, text.as_slice()) {
         Ok(cert) => {
             drop(text);
-            let output = check_cert(alloc, options, layer, &cert, host)?;
-            Ok(output)
+            check_cert(alloc, options, layer, &cert, host)
         }
         Err(CertFault::BadLine { line }) => Ok(bad_line(alloc, line)?),
         Err(CertFault::NoMemory) => Err(ReadFault::NoMemory),
     }
 }
 
-/// What is made of a certificate that was read.
+/// Judges a conflict by its certificate alone, masks with OUT.
 fn check_cert<'a, H: Host>(
     alloc: Global,
     options: &CheckOptions<'_>,
@@ -104,27 +100,22 @@ fn check_cert<'a, H: Host>(
     ensures others { H.write_faults host.new ≡ H.write_faults host.old }
 {
     match cert {
-        Cert::Masks { .. } => {
-            let output = check_out(alloc, options, layer, cert, host)?;
-            Ok(output)
-        }
+        Cert::Masks { .. } => check_out(alloc, options, layer, cert, host),
         Cert::Conflict { .. } => {
             let verdict = check_conflict(alloc, layer, cert, options.rule, options.overlap)?;
-            let output = judged(alloc, cert, verdict)?;
-            Ok(output)
+            Ok(judged(alloc, cert, verdict)?)
         }
         Cert::Fault { name, at } => {
             let verdict = Verdict::WasFault {
                 name: *name,
                 at: *at,
             };
-            let output = judged(alloc, cert, verdict)?;
-            Ok(output)
+            Ok(judged(alloc, cert, verdict)?)
         }
     }
 }
 
-/// What is made of the file of masks.
+/// Reads OUT, and judges both masks by the certificate.
 fn check_out<'a, H: Host>(
     alloc: Global,
     options: &CheckOptions<'_>,
@@ -144,11 +135,10 @@ fn check_out<'a, H: Host>(
     let Some(bytes) = read_input(alloc, host, options.output)? else {
         return Ok(too_large(alloc, CheckedFile::Masks)?);
     };
-    let output = check_bytes(alloc, options, layer, cert, bytes)?;
-    Ok(output)
+    Ok(check_bytes(alloc, options, layer, cert, bytes)?)
 }
 
-/// What is made of the bytes of a file of masks.
+/// Takes both masks from the bytes of OUT, and judges them by the certificate.
 fn check_bytes<'a>(
     alloc: Global,
     options: &CheckOptions<'_>,
@@ -183,8 +173,7 @@ fn check_bytes<'a>(
         Err(LayerFault::NoMemory) => return Err(AllocError),
     };
     let verdict = check_masks(alloc, layer, &a, &b, cert, options.rule, options.overlap)?;
-    let output = judged(alloc, cert, verdict)?;
-    Ok(output)
+    judged(alloc, cert, verdict)
 }
 
 /// The layer of a mask, in the structure that no reference names.
@@ -206,6 +195,7 @@ fn judged<'a>(alloc: Global, cert: &Cert, verdict: Verdict) -> Result<Output<'a>
     Ok(said(alloc, status_by(verdict), line))
 }
 
+/// A check is done where nothing is broken.
 fn status_by(verdict: Verdict) -> Status
     ensures { result ≡ verdict_status verdict }
 {
@@ -215,7 +205,7 @@ fn status_by(verdict: Verdict) -> Status
     }
 }
 
-/// A file is refused.
+/// A file is refused for its first fault, and nothing is written.
 fn refused<'a>(
     alloc: Global,
     file: CheckedFile,

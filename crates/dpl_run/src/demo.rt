@@ -2,31 +2,31 @@
 ghost use Rattle.std.specs.Prelude.{◌≡◌, ℕ, List, IfOk};
 ghost use Rattle.dpl_words.specs.Meaning.{demo_view};
 ghost use Rattle.dpl_words.specs.Ranges.{AreInRangeForDemo};
+ghost use Rattle.dpl_answer.specs.View.{flat_view};
 ghost use Rattle.dpl_run.specs.Demo.{IsDemo, demo_plan};
 ghost use Rattle.dpl_run.specs.Split.{Decides};
-ghost use Rattle.dpl_run.specs.View.{flat_view, output_view};
+ghost use Rattle.dpl_run.specs.View.{decision_view, output_view};
 
-use crate::decompose::{Sharing, decompose};
-use crate::decomposed::Decomposed;
-use crate::fault::LayerFault;
-use crate::layer::{LayerChoice, layer_of};
 use crate::output::{Output, said};
+use crate::pipeline::{Decision, Order, decide};
 use crate::status::Status;
 use crate::texts::{conflict_line, demo_line, refused_line};
+use dpl_answer::{Decomposed, Sharing};
 use dpl_demo::demo_bytes;
+use dpl_layer::LayerChoice;
 use dpl_pool::Gate;
 use dpl_words::DemoOptions;
 use std::alloc::{AllocError, Global};
 use std::sync::Wait;
 use std::thread::Threads;
 
-/// How close the features of a made-up layout may be on one mask.
+/// How far apart the features of a made-up layout are on one mask, in database units.
 const RULE: u32 = 30;
 
-/// How wide a stitch of a made-up layout is.
+/// How long a stitch of a made-up layout is, in database units.
 const OVERLAP: u32 = 10;
 
-/// What is made of a command line of `demo`.
+/// Decides the made-up layout of a seed and a number of rows, and says what comes of it.
 pub(crate) fn demo_output<'a, R: Threads + Wait + Sync, G: Gate + Sync>(
     rt: &R,
     alloc: Global,
@@ -37,34 +37,41 @@ pub(crate) fn demo_output<'a, R: Threads + Wait + Sync, G: Gate + Sync>(
     ensures { IfOk result (λ x. IsDemo (demo_view options.now) (output_view x)) }
 {
     let bytes = demo_bytes(alloc, options.seed, options.rows)?;
-    let choice = LayerChoice {
-        top: None,
-        layer: 1,
-        datatype: 0,
+    let order = Order {
+        choice: LayerChoice {
+            top: None,
+            layer: 1,
+            datatype: 0,
+        },
+        rule: RULE,
+        overlap: OVERLAP,
+        sharing: Sharing {
+            tile: options.tile,
+            workers: options.workers,
+        },
     };
-    match layer_of(alloc, &choice, bytes) {
-        Ok(layer) => {
-            let sharing = Sharing {
-                tile: options.tile,
-                workers: options.workers,
-            };
-            let decomposed = decompose(rt, alloc, layer.slabs, RULE, OVERLAP, sharing, gate)?;
-            let output = shown(alloc, &decomposed)?;
-            Ok(output)
-        }
-        Err(LayerFault::Refused { name, at }) => {
-            let line = refused_line(alloc, name, at)?;
+    let decision = decide(rt, alloc, &order, bytes, gate)?;
+    shown(alloc, &decision)
+}
+
+/// What is said of a decision.
+fn shown<'a>(alloc: Global, decision: &Decision) -> Result<Output<'a>, AllocError>
+    ensures { IfOk result (λ x. output_view x ≡ demo_plan (decision_view decision.now)) }
+{
+    match decision {
+        Decision::Refused { name, at } => {
+            let line = refused_line(alloc, *name, *at)?;
             Ok(said(alloc, Status::Refused, line))
         }
-        Err(LayerFault::NoMemory) => Err(AllocError),
+        Decision::Answered { answer, .. } => shown_answer(alloc, answer),
     }
 }
 
-/// What is said of a decomposition.
-fn shown<'a>(alloc: Global, decomposed: &Decomposed) -> Result<Output<'a>, AllocError>
-    ensures { IfOk result (λ x. (front : List ℕ) → output_view x ≡ demo_plan (Decides front (flat_view decomposed.now))) }
+/// What is said of the answer to a layer.
+fn shown_answer<'a>(alloc: Global, answer: &Decomposed) -> Result<Output<'a>, AllocError>
+    ensures { IfOk result (λ x. (front : List ℕ) → output_view x ≡ demo_plan (Decides front (flat_view answer.now))) }
 {
-    match decomposed {
+    match answer {
         Decomposed::Masks(painted) => {
             let line = demo_line(
                 alloc,

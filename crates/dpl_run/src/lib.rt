@@ -2,16 +2,10 @@
 #![tactic(auto)]
 
 mod check;
-mod cut;
-mod decompose;
-mod decomposed;
 mod demo;
-mod fault;
 mod input;
-mod layer;
-mod lines;
-mod near;
 mod output;
+mod pipeline;
 mod program;
 mod split;
 mod status;

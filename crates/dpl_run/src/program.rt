@@ -29,7 +29,7 @@ use std::thread::Threads;
 ///
 /// `check` reads the layout IN, the certificate CERT and, if it is one of masks, their file OUT, and says of masks of any tool whether they are right, and of an odd cycle whether it is there. `demo` splits a layout that is made up of two numbers. Both write nothing, and say one line.
 ///
-/// All of it is made before the first byte is written: where memory runs out or the read fails, nothing is written or said. Where a write fails, a front of it was.
+/// All of it is made before the first byte is written: where memory runs out or the read fails, nothing is written or said. Where a write fails, a prefix of it was.
 pub fn run<'a, R: Threads + Wait + Sync, H: Host, G: Gate + Sync>(
     rt: &R,
     alloc: Global,
@@ -44,13 +44,13 @@ pub fn run<'a, R: Threads + Wait + Sync, H: Host, G: Gate + Sync>(
     // The words decide alone whether they are a command.
     ensures usage { result ≡ Status.Usage → request_of (texts words.entry.now) ≡ None }
     ensures no_other { request_of (texts words.entry.now) ≡ None → (result ≡ Status.Usage) ⊎ (result ≡ Status.WriteFault) ⊎ (result ≡ Status.NoMemory) }
-    // A read failed, or another call; or, at any other answer, want of memory too, none.
+    // A read failed, or another call; or, at any other answer, out of memory too, none.
     ensures faults { TellsFaults result (H.read_faults host.old) (H.read_faults host.new) (H.write_faults host.old) (H.write_faults host.new) }
     // What these leave.
     ensures unread { result ≡ Status.ReadFault → H.told host.new ≡ H.told host.old }
     ensures memory { result ≡ Status.NoMemory → H.told host.new ≡ H.told host.old }
     ensures cut { result ≡ Status.WriteFault → IsCutShort (texts words.entry.now) (H.told host.old) (H.told host.new) }
-    // Where no call of the host failed, there is no other answer, but for want of memory.
+    // Where no call of the host failed, there is no other answer, but out of memory.
     ensures complete { IsStill (H.read_faults host.old) (H.read_faults host.new) → IsStill (H.write_faults host.old) (H.write_faults host.new)
         → (result ≡ Status.NoMemory) ⊎ IsOutcome (texts words.entry.now) result (H.told host.old) (H.told host.new) }
 {
@@ -63,7 +63,7 @@ pub fn run<'a, R: Threads + Wait + Sync, H: Host, G: Gate + Sync>(
     }
 }
 
-/// What is made of the words, or how the run ends without.
+/// Makes all that the words ask for, before anything is written; else says how the run ends.
 fn made<'a, R: Threads + Wait + Sync, H: Host, G: Gate + Sync>(
     rt: &R,
     alloc: Global,
@@ -94,7 +94,7 @@ fn made<'a, R: Threads + Wait + Sync, H: Host, G: Gate + Sync>(
     }
 }
 
-/// What is made of a request.
+/// Makes what a request asks for.
 fn output_of<'a, R: Threads + Wait + Sync, H: Host, G: Gate + Sync>(
     rt: &R,
     alloc: Global,
@@ -117,7 +117,7 @@ fn output_of<'a, R: Threads + Wait + Sync, H: Host, G: Gate + Sync>(
     }
 }
 
-/// What is made of a command line of `demo`, for which no file is read.
+/// Makes what `demo` says, for which no file is read.
 fn made_up<'a, R: Threads + Wait + Sync, H: Host, G: Gate + Sync>(
     rt: &R,
     alloc: Global,
@@ -132,8 +132,7 @@ fn made_up<'a, R: Threads + Wait + Sync, H: Host, G: Gate + Sync>(
     ensures same { H.told host.new ≡ H.told host.old }
     ensures others { H.write_faults host.new ≡ H.write_faults host.old }
 {
-    let output = demo_output(rt, alloc, options, gate)?;
-    Ok(output)
+    Ok(demo_output(rt, alloc, options, gate)?)
 }
 
 /// How the command line is written.

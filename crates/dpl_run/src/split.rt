@@ -4,22 +4,22 @@ ghost use Rattle.dpl_host.specs.Whole.{HasReadCause};
 ghost use Rattle.dpl_words.specs.Meaning.{AsksSplit, split_view};
 ghost use Rattle.dpl_words.specs.Ranges.{AreInRange};
 ghost use Rattle.dpl_cert.specs.Grammar.{IsCert};
-ghost use Rattle.dpl_run.specs.Flat.{Fits, FitsClash, FitsPainted};
-ghost use Rattle.dpl_run.specs.Reading.{limit};
-ghost use Rattle.dpl_run.specs.Split.{Decides, IsSplit, certified, clash as clash_of, painting, plan_of, refusal};
+ghost use Rattle.dpl_layer.specs.Reading.{limit};
+ghost use Rattle.dpl_answer.specs.Flat.{FitsClash, FitsPainted};
+ghost use Rattle.dpl_run.specs.Split.{IsSplit, certified, clash as clash_of, painting, plan_of, refusal};
 ghost use Rattle.dpl_run.specs.Program.{IsMade};
-ghost use Rattle.dpl_run.specs.View.{clash_view, flat_view, output_view, painted_view, write_view};
+ghost use Rattle.dpl_answer.specs.View.{clash_view, painted_view};
+ghost use Rattle.dpl_run.specs.View.{FitsDecision, decision_view, output_view, write_view};
 
-use crate::decompose::{Sharing, decompose};
-use crate::decomposed::{Clash, Decomposed, Painted};
-use crate::fault::LayerFault;
 use crate::input::read_input;
-use crate::layer::{LayerChoice, layer_of};
 use crate::output::{Output, Write};
+use crate::pipeline::{Decision, Order, decide};
 use crate::status::Status;
 use crate::texts::{conflict_line, done_line, refused_line};
+use dpl_answer::{Clash, Decomposed, Painted, Sharing};
 use dpl_cert::{Cert, Name, cert_bytes};
 use dpl_host::{Host, MAX_BYTES, ReadFault};
+use dpl_layer::LayerChoice;
 use dpl_masks::file_bytes;
 use dpl_pool::Gate;
 use dpl_words::SplitOptions;
@@ -27,7 +27,7 @@ use std::alloc::{AllocError, Global};
 use std::sync::Wait;
 use std::thread::Threads;
 
-/// What is made of a command line of `split`.
+/// Reads IN, and makes the masks and their certificate, or the certificate of a conflict or a fault.
 pub(crate) fn split_output<'a, R: Threads + Wait + Sync, H: Host, G: Gate + Sync>(
     rt: &R,
     alloc: Global,
@@ -49,7 +49,7 @@ pub(crate) fn split_output<'a, R: Threads + Wait + Sync, H: Host, G: Gate + Sync
     }
 }
 
-/// What is made of the bytes of a file.
+/// Decides the bytes of IN, and makes the files that tell of it.
 fn split<'a, R: Threads + Wait + Sync, G: Gate + Sync>(
     rt: &R,
     alloc: Global,
@@ -61,56 +61,40 @@ fn split<'a, R: Threads + Wait + Sync, G: Gate + Sync>(
     requires ranges { AreInRange (split_view options.now) }
     ensures { IfOk result (λ x. IsSplit (split_view options.now) bytes.items (output_view x)) }
 {
-    let choice = LayerChoice {
-        top: options.top,
-        layer: options.layer,
-        datatype: options.datatype,
+    let order = Order {
+        choice: LayerChoice {
+            top: options.top,
+            layer: options.layer,
+            datatype: options.datatype,
+        },
+        rule: options.rule,
+        overlap: options.overlap,
+        sharing: Sharing {
+            tile: options.tile,
+            workers: options.workers,
+        },
     };
-    match layer_of(alloc, &choice, bytes) {
-        Ok(layer) => {
-            let sharing = Sharing {
-                tile: options.tile,
-                workers: options.workers,
-            };
-            let decomposed = decompose(
-                rt,
-                alloc,
-                layer.slabs,
-                options.rule,
-                options.overlap,
-                sharing,
-                gate,
-            )?;
-            let output = decided(alloc, options, layer.front.as_slice(), decomposed)?;
-            Ok(output)
-        }
-        Err(LayerFault::Refused { name, at }) => {
-            let output = refused(alloc, options, name, at)?;
-            Ok(output)
-        }
-        Err(LayerFault::NoMemory) => Err(AllocError),
-    }
+    let decision = decide(rt, alloc, &order, bytes, gate)?;
+    decided(alloc, options, decision)
 }
 
-/// What is made of a decomposition.
+/// The files and the line that tell of a decision.
 fn decided<'a>(
     alloc: Global,
     options: &SplitOptions<'a>,
-    front: &[u8],
-    decomposed: Decomposed,
+    decision: Decision,
 ) -> Result<Output<'a>, AllocError>
-    requires { Fits (flat_view decomposed) }
-    ensures { IfOk result (λ x. output_view x ≡ plan_of (split_view options.now) (Decides front.now (flat_view decomposed))) }
+    requires { FitsDecision decision }
+    ensures { IfOk result (λ x. output_view x ≡ plan_of (split_view options.now) (decision_view decision)) }
 {
-    match decomposed {
-        Decomposed::Masks(painted) => {
-            let output = painted_output(alloc, options, front, painted)?;
-            Ok(output)
-        }
-        Decomposed::Cycle(clash) => {
-            let output = clash_output(alloc, options, clash)?;
-            Ok(output)
-        }
+    match decision {
+        Decision::Refused { name, at } => refused(alloc, options, name, at),
+        Decision::Answered { front, answer } => match answer {
+            Decomposed::Masks(painted) => {
+                painted_output(alloc, options, front.as_slice(), painted)
+            }
+            Decomposed::Cycle(clash) => clash_output(alloc, options, clash),
+        },
     }
 }
 

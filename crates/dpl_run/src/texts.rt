@@ -110,7 +110,7 @@ pub(crate) fn bad_line_line(alloc: Global, n: u64) -> Result<String, AllocError>
     format!(in alloc; "refused cert Line {n}\n")
 }
 
-/// What a certificate that is kept says.
+/// The line where nothing is broken. A certificate of a fault is never valid.
 pub(crate) fn valid_line(alloc: Global, cert: &Cert) -> Result<String, AllocError>
     ensures { IfOk result (λ s. string_bytes s ≡ valid_line_of cert.now) }
 {
@@ -152,6 +152,7 @@ pub(crate) fn verdict_line(
     }
 }
 
+/// The certificate is of another rule or overlap, of these, in database units.
 fn rules_line(alloc: Global, rule: u32, overlap: u32) -> Result<String, AllocError>
     ensures { IfOk result (λ s. string_bytes s ≡ broken_line (Rules rule overlap)) }
 {
@@ -159,6 +160,7 @@ fn rules_line(alloc: Global, rule: u32, overlap: u32) -> Result<String, AllocErr
     Ok(line)
 }
 
+/// The certificate has other counts of features, pieces or zones than the layer, which has these.
 fn counts_line(alloc: Global, features: u64, pieces: u64, zones: u64) -> Result<String, AllocError>
     ensures { IfOk result (λ s. string_bytes s ≡ broken_line (Counts features pieces zones)) }
 {
@@ -166,6 +168,7 @@ fn counts_line(alloc: Global, features: u64, pieces: u64, zones: u64) -> Result<
     Ok(line)
 }
 
+/// A square is in the layer and on no mask, or on a mask and not in the layer.
 fn cover_line(alloc: Global, at: &Pt) -> Result<String, AllocError>
     ensures { IfOk result (λ s. string_bytes s ≡ broken_line (Cover at.now)) }
 {
@@ -173,6 +176,7 @@ fn cover_line(alloc: Global, at: &Pt) -> Result<String, AllocError>
     Ok(line)
 }
 
+/// A square is on both masks and in no stitch.
 fn overlap_line(alloc: Global, at: &Pt) -> Result<String, AllocError>
     ensures { IfOk result (λ s. string_bytes s ≡ broken_line (Overlap at.now)) }
 {
@@ -180,6 +184,7 @@ fn overlap_line(alloc: Global, at: &Pt) -> Result<String, AllocError>
     Ok(line)
 }
 
+/// Two squares of different features are closer than the rule on the first mask.
 fn spacing_a_line(alloc: Global, first: &Pt, second: &Pt) -> Result<String, AllocError>
     ensures { IfOk result (λ s. string_bytes s ≡ broken_line (SpacingA first.now second.now)) }
 {
@@ -190,6 +195,7 @@ fn spacing_a_line(alloc: Global, first: &Pt, second: &Pt) -> Result<String, Allo
     Ok(line)
 }
 
+/// Two squares of different features are closer than the rule on the second mask.
 fn spacing_b_line(alloc: Global, first: &Pt, second: &Pt) -> Result<String, AllocError>
     ensures { IfOk result (λ s. string_bytes s ≡ broken_line (SpacingB first.now second.now)) }
 {

@@ -11,11 +11,13 @@ use Rattle.dpl_spec_split.specs.declared.Rect.{Rect}
 use Rattle.dpl_spec_split.proofs.Ordered.{Contains-nil, Contains-cases}
 use Rattle.dpl_spec_elements.specs.declared.Heading.TheVariants.{East, North, West, South}
 use Rattle.dpl_spec_elements.specs.declared.Segment.{Segment}
-use Rattle.dpl_spec_elements.specs.Paths.{PathElement, same, heading, bar_to, bar, bars, segments_from, half_of, past_end, square_round, rects_through, path_rects, distinct}
+use Rattle.dpl_spec_elements.specs.Paths.{PathElement, path_of, IsFaultless, same, heading, bar_to, bar, bars, segments_from, half_of, past_end, square_round, rects_through, path_rects, distinct}
+use Rattle.dpl_spec_elements.specs.Paths.PathFault.{Negative}
 use Rattle.dpl_shapes.specs.declared.bars.Margins.{Margins}
-use Rattle.dpl_shapes.specs.Strokes.{rects_along}
+use Rattle.dpl_shapes.specs.Strokes.{drawn_points, rects_along}
 use Rattle.dpl_shapes.specs.Types.{HasNegativeEnd}
 use Rattle.dpl_shapes.proofs.Corners.{IsProper}
+use Rattle.dpl_shapes.proofs.Members.{Contains-distinct}
 
 same-no : (a b : ℤ) → (a ≡ b → ⊥) → same a b ≡ false
 same-no a b apart = by_lt_z a b (λ l. grind (arith, ints, l)) (λ m. by_lt_z b a (λ l. grind (arith, ints, l)) (λ n. absurd (apart (omega (arith, ints, m, n)))))
@@ -96,12 +98,17 @@ through-proper p (q ∷ t ∷ ts) b e r r_in =
 forward : (z : ℤ) → (z <ℤ pos 0 → ⊥) → pos 0 ≤ℤ z
 forward z h = by_lt_z z (pos 0) (λ l. absurd (h l)) (λ m. m)
 
-pub rects-proper : (p : PathElement) → (HasNegativeEnd p.kind p.begin_ext p.end_ext → ⊥) → (r : Rect) → Contains (path_rects p) r → IsProper r
-rects-proper p fit r r_in =
+forward-proper : (p : PathElement) → (HasNegativeEnd p.kind p.begin_ext p.end_ext → ⊥) → (r : Rect) → Contains (path_rects p) r → IsProper r
+forward-proper p fit r r_in =
     (elim (same p.width (pos 0)) as (λ b. Contains (if b then [] else rects_through p (distinct p.points)) r → IsProper r) [
       | true ↦ λ h. absurd (Contains-nil r h)
       | false ↦ λ h. through-proper p (distinct p.points) (λ four. forward p.begin_ext (λ l. fit (four, inl l))) (λ four. forward p.end_ext (λ l. fit (four, inr l))) r h
     ]) r_in
+
+pub rects-proper : (p : PathElement) → IsFaultless p → (r : Rect) → Contains (path_rects p) r → IsProper r
+rects-proper p (inl none) r r_in =
+    absurd (Contains-nil r (subst (λ w. Contains (if same w (pos 0) then [] else rects_through p (distinct p.points)) r) none r_in))
+rects-proper p (inr sound) r r_in = forward-proper p (sound Negative) r r_in
 
 -- the rectangles that were drawn are the path's
 along-through : (p : PathElement) (ps : List Pt) (m : Margins) (dot : Bool) → m.half ≡ half_of p
@@ -111,14 +118,30 @@ along-through p [] m dot half begin end dot_is = refl
 along-through p (q ∷ []) m dot half begin end dot_is = λ i. if dot_is i then square_round (half i) q ∷ [] else []
 along-through p (q ∷ r ∷ rs) m dot half begin end dot_is = λ i. bars (half i) (begin i) (end i) (segments_from q r rs)
 
-pub path-drawn : (p : PathElement) (ps : List Pt) (m : Margins) (dot : Bool) → (p.width ≡ pos 0 → ⊥) → ps ≡ distinct p.points
-    → m.half ≡ half_of p → m.begin ≡ past_end p.kind (half_of p) p.begin_ext → m.end ≡ past_end p.kind (half_of p) p.end_ext
+pub path-drawn : (p : PathElement) (ps : List Pt) (m : Margins) (dot : Bool) → ps ≡ drawn_points p → m.half ≡ half_of p
+    → m.begin ≡ past_end p.kind (half_of p) p.begin_ext → m.end ≡ past_end p.kind (half_of p) p.end_ext
     → dot ≡ same p.kind (pos 2) → rects_along m dot ps ≡ path_rects p
-path-drawn p ps m dot drawn ps_is half begin end dot_is =
+path-drawn p ps m dot ps_is half begin end dot_is =
     along-through p ps m dot half begin end dot_is
-    ∙ (ap (rects_through p) ps_is ∙ ap (λ b. if b then [] else rects_through p (distinct p.points)) (sym (same-no p.width (pos 0) drawn)))
+    ∙ (ap (rects_through p) ps_is
+    ∙ (elim (same p.width (pos 0)) as (λ b. rects_through p (if b then [] else distinct p.points) ≡ (if b then [] else rects_through p (distinct p.points))) [ true ↦ refl | false ↦ refl ]))
+
+-- a path that has a width is drawn through all its points
+pub drawn-all : (p : PathElement) → (p.width ≡ pos 0 → ⊥) → drawn_points p ≡ distinct p.points
+drawn-all p drawn = ap (λ b. if b then [] else distinct p.points) (same-no p.width (pos 0) drawn)
+
+pub Contains-drawn : (p : PathElement) (q : Pt) → Contains (drawn_points p) q → Contains p.points q
+Contains-drawn p q h =
+    (elim (same p.width (pos 0)) as (λ b. Contains (if b then [] else distinct p.points) q → Contains p.points q) [
+      | true ↦ λ k. absurd (Contains-nil q k)
+      | false ↦ λ k. Contains-distinct p.points q k
+    ]) h
 
 -- at equal numbers, as those that a call was passed
+pub path-as : (ps : List Pt) (w k b e width kind begin_ext end_ext : ℤ) → w ≡ width → k ≡ kind → b ≡ begin_ext → e ≡ end_ext
+    → path_of ps w k b e ≡ path_of ps width kind begin_ext end_ext
+path-as ps w k b e width kind begin_ext end_ext w_is k_is b_is e_is = λ i. path_of ps (w_is i) (k_is i) (b_is i) (e_is i)
+
 pub past-as : (k h e kind half ext : ℤ) → k ≡ kind → h ≡ half → e ≡ ext → past_end k h e ≡ past_end kind half ext
 past-as k h e kind half ext k_is h_is e_is = λ i. past_end (k_is i) (h_is i) (e_is i)
 

@@ -1,10 +1,10 @@
 -- Drawing the rectangles of a path, point by point.
-use Rattle.std.specs.Prelude.{◌≡◌, ℕ, ◌≤◌, Bool, ℤ, unsigned_abs, List, [], ◌∷◌, ◌++◌, map, if◌then◌else◌}
+use Rattle.std.specs.Prelude.{◌≡◌, ℕ, ◌≤◌, Bool, ℤ, pos, unsigned_abs, List, [], ◌∷◌, ◌++◌, map, if◌then◌else◌}
 use Rattle.dpl_spec_split.specs.declared.Pt.{Pt}
 use Rattle.dpl_spec_split.specs.declared.Rect.{Rect}
 use Rattle.dpl_spec_split.specs.Loops.{IsPointWithin}
 use Rattle.dpl_spec_elements.specs.declared.Segment.{Segment}
-use Rattle.dpl_spec_elements.specs.Paths.{segments_from, bars, square_round, corners_of}
+use Rattle.dpl_spec_elements.specs.Paths.{PathElement, same, distinct, segments_from, bars, square_round, corners_of}
 use Rattle.dpl_shapes.specs.declared.bars.Margins.{Margins}
 use Rattle.dpl_shapes.specs.declared.bars.Stroke.{Stroke}
 
@@ -28,6 +28,10 @@ loops_left half end s rest = map corners_of (bars half s.begin end (segments_fro
 -- the loops of a path have grown by going on to the point
 pub record DrawsTo (half : ℤ) (old : List (List Pt)) (s : Stroke) (point : Pt) (new : List (List Pt)) (next : Stroke) : Type 0 where
   pub goes : (end : ℤ) (rest : List Pt) → new ++ loops_left half end next rest ≡ old ++ loops_left half end s (point ∷ rest)
+
+-- the points that a path is drawn through: none where its width is 0
+abbrev pub drawn_points : PathElement → List Pt
+drawn_points p = if same p.width (pos 0) then [] else distinct p.points
 
 -- the rectangles along points of which no two neighbours are equal, a single one of which makes a square where dot says so
 abbrev pub rects_along : Margins → Bool → List Pt → List Rect

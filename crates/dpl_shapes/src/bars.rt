@@ -195,17 +195,13 @@ pub fn loops_along(
 {
     match points {
         [] => Ok(Vec::new(alloc)),
-        [point] => {
-            let loops = dot_loops(alloc, point, margins.half, dot)?;
-            Ok(loops)
-        }
+        [point] => dot_loops(alloc, point, margins.half, dot),
         [from, to, rest @ ..] => {
             let first = Segment {
                 from: *from,
                 to: *to,
             };
-            let loops = bar_loops(alloc, first, rest, margins)?;
-            Ok(loops)
+            bar_loops(alloc, first, rest, margins)
         }
     }
 }

@@ -14,6 +14,7 @@ ghost use Rattle.dpl_spec_split.specs.Loops.{IsRectilinear, SomeLoopCovers, AreP
 ghost use Rattle.dpl_spec_elements.specs.Paths.{path_of, path_rects, past_end, corners_of, PathCovers, IsFaultless};
 ghost use Rattle.dpl_shapes.specs.Types.{IsKnownType, IsUnknownType, HasNegativeEnd};
 ghost use Rattle.dpl_shapes.specs.Refusals.{RefusesBoundary, RefusesPath};
+ghost use Rattle.dpl_shapes.specs.Strokes.{drawn_points};
 
 use crate::bars::{Margins, loops_along};
 use crate::distinct::distinct_points;
@@ -62,6 +63,48 @@ pub fn path_loops(
     ensures faultless { OnOk result (IsFaultless (path_of points.now width kind begin_ext end_ext)) }
     ensures refused { IfErr result (λ e. RefusesPath (path_of points.now width kind begin_ext end_ext) e) }
 {
+    let corners = drawn_points(alloc, points, width, kind, begin_ext, end_ext)?;
+    let half = (width.unsigned_abs() / 2) as i64;
+    let margins = Margins {
+        half,
+        begin: past_end(kind, half, begin_ext),
+        end: past_end(kind, half, end_ext),
+    };
+    Ok(loops_along(alloc, &corners, &margins, kind == 2)?)
+}
+
+/// Whether a path is refused, without its loops.
+///
+/// # Errors
+/// Those of `path_loops`.
+pub fn check_path(
+    alloc: Global,
+    points: &[Pt],
+    width: i64,
+    kind: i16,
+    begin_ext: i64,
+    end_ext: i64,
+) -> Result<(), ShapeFault>
+    ensures faultless { OnOk result (IsFaultless (path_of points.now width kind begin_ext end_ext)) }
+    ensures refused { IfErr result (λ e. RefusesPath (path_of points.now width kind begin_ext end_ext) e) }
+{
+    drawn_points(alloc, points, width, kind, begin_ext, end_ext)?;
+    Ok(())
+}
+
+/// The points that a path is drawn through, without those that equal the one before them; none where its width is 0.
+fn drawn_points(
+    alloc: Global,
+    points: &[Pt],
+    width: i64,
+    kind: i16,
+    begin_ext: i64,
+    end_ext: i64,
+) -> Result<Vec<Pt>, ShapeFault>
+    ensures points { IfOk result (λ v. v.items ≡ drawn_points (path_of points.now width kind begin_ext end_ext)) }
+    ensures faultless { OnOk result (IsFaultless (path_of points.now width kind begin_ext end_ext)) }
+    ensures refused { IfErr result (λ e. RefusesPath (path_of points.now width kind begin_ext end_ext) e) }
+{
     if width == 0 {
         return Ok(Vec::new(alloc));
     }
@@ -85,14 +128,7 @@ pub fn path_loops(
     if has_negative_end(kind, begin_ext, end_ext) {
         return Err(ShapeFault::NegativeExtension);
     }
-    let half = (width / 2) as i64;
-    let margins = Margins {
-        half,
-        begin: past_end(kind, half, begin_ext),
-        end: past_end(kind, half, end_ext),
-    };
-    let loops = loops_along(alloc, &corners, &margins, kind == 2)?;
-    Ok(loops)
+    Ok(corners)
 }
 
 /// Whether a path type is one of those with square corners.

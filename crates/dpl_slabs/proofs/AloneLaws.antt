@@ -16,7 +16,7 @@ use Rattle.dpl_spec_split.specs.declared.Pt.{Pt}
 use Rattle.dpl_spec_split.specs.declared.Rect.{Rect}
 use Rattle.dpl_spec_split.specs.Squares.{Has, Covers}
 use Rattle.dpl_spec_split.specs.Slabs.{StandApart}
-use Rattle.dpl_slabs.specs.Alone.{LeftsRise, ReachTo, IsFrontAt, AreAlone, AddsTouching}
+use Rattle.dpl_slabs.specs.Alone.{LeftsRise, ReachTo, IsPrefixAt, AreAlone, AddsTouching}
 use Rattle.dpl_slabs.proofs.LoopLaws.{covers-pushed}
 use Rattle.dpl_slabs.proofs.RowLaws.{covers-step}
 
@@ -42,8 +42,8 @@ end-more rs n r x y n_in r_is l m h k d k_less k_in = elim (cases_order k n) [
 ]
 
 -- the first of those ahead begins right of the column, so all of them do
-pub front-here : (rs : List Rect) (n : ℕ) (r : Rect) (x reach : ℤ) → LeftsRise rs → n < length rs → r ≡ get_or rs n r → x <ℤ r.x0 → ReachTo rs n reach → IsFrontAt rs x n reach
-front-here rs n r x reach rise n_in r_is l h = record {
+pub prefix-here : (rs : List Rect) (n : ℕ) (r : Rect) (x reach : ℤ) → LeftsRise rs → n < length rs → r ≡ get_or rs n r → x <ℤ r.x0 → ReachTo rs n reach → IsPrefixAt rs x n reach
+prefix-here rs n r x reach rise n_in r_is l h = record {
   passed = h;
   ahead = λ k d more k_in.
       let same : get_or rs n d ≡ r = get_or_default rs n d r n_in ∙ sym r_is in
@@ -52,13 +52,13 @@ front-here rs n r x reach rise n_in r_is l h = record {
 }
 
 -- a bar between those passed and those ahead stands apart from all
-pub front-apart : (rs : List Rect) (bar : Rect) (n : ℕ) (reach : ℤ) → IsFrontAt rs bar.x1 n reach → reach <ℤ bar.x0 → (r : Rect) → Contains rs r → StandApart bar r
-front-apart rs bar n reach front l r (k, k_in, r_is) =
-    let ahead : n ≤ k → StandApart bar r = λ m. inl (subst (λ t. bar.x1 <ℤ t.x0) r_is (front.ahead k r m k_in)) in
+pub prefix-apart : (rs : List Rect) (bar : Rect) (n : ℕ) (reach : ℤ) → IsPrefixAt rs bar.x1 n reach → reach <ℤ bar.x0 → (r : Rect) → Contains rs r → StandApart bar r
+prefix-apart rs bar n reach prefix l r (k, k_in, r_is) =
+    let ahead : n ≤ k → StandApart bar r = λ m. inl (subst (λ t. bar.x1 <ℤ t.x0) r_is (prefix.ahead k r m k_in)) in
     elim (cases_order k n) [
       | inl e ↦ ahead (omega (arith, e))
       | inr o ↦ elim o [
-        | inl less ↦ (let m = subst (λ t. t.x1 ≤ℤ reach) r_is (front.passed k r less k_in) in inr (omega (arith, ints, l, m)))
+        | inl less ↦ (let m = subst (λ t. t.x1 ≤ℤ reach) r_is (prefix.passed k r less k_in) in inr (omega (arith, ints, l, m)))
         | inr more ↦ ahead (omega (arith, more))
       ]
     ]

@@ -12,22 +12,22 @@ use Rattle.dpl_spec_split.specs.declared.Rect.{Rect}
 use Rattle.dpl_spec_split.specs.Squares.{Region, Covers, SameSquares}
 use Rattle.dpl_spec_split.specs.Slabs.{IsSolid, ShareRow, StandApart, AreSlabsOf}
 use Rattle.dpl_spec_split.specs.Loops.{farthest, AreRectsWithin}
-use Rattle.dpl_spec_split.specs.Zones.{at, turned}
+use Rattle.dpl_spec_split.specs.Zones.{at, transposed}
 use Rattle.dpl_spec_split.proofs.Ordered.{Contains-nil}
 use Rattle.dpl_spec_split.proofs.SlabLaws.{Covers-member, member-Covers}
 use Rattle.dpl_sweep.specs.Orders.{CornersRise}
 use Rattle.dpl_sweep.specs.Pieces.{AreApart}
 use Rattle.dpl_sweep.proofs.JoinLaws.{covers-same}
 use Rattle.dpl_slabs.specs.Blocks.{LieLeft, AddsBlock, AreBlocksOf, EitherCovers}
-use Rattle.dpl_slabs.specs.Cells.{turned_rects}
+use Rattle.dpl_slabs.specs.Cells.{transposed_rects}
 use Rattle.dpl_slabs.specs.Slices.{ArePiecesOf}
 use Rattle.dpl_slabs.specs.Strips.{LieBelow}
 use Rattle.dpl_slabs.proofs.LoopLaws.{covers-appended}
-use Rattle.dpl_slabs.proofs.SetLaws.{covers-turned, turned-within, slabs-of-same}
+use Rattle.dpl_slabs.proofs.SetLaws.{covers-transposed, transposed-within, slabs-of-same}
 use Rattle.dpl_slabs.proofs.StripLaws.{AllPairs-append, covers-parts, left-in, right-in, rise-drop, sorted-within, sorted-slabs}
 
 -- where the slabs of a block lie
-module _ (block slabs : List Rect) (s : AreSlabsOf (Covers (turned_rects block)) slabs) where
+module _ (block slabs : List Rect) (s : AreSlabsOf (Covers (transposed_rects block)) slabs) where
   slab-left : (t : Rect) → Contains slabs t → (r : Rect) × Contains block r × (r.y0 ≤ℤ t.x0)
   slab-left t t_in =
       let solid : IsSolid t = All-contains IsSolid slabs t s.canonical.solid t_in in
@@ -35,7 +35,7 @@ module _ (block slabs : List Rect) (s : AreSlabsOf (Covers (turned_rects block))
       let tall = solid.tall in
       let first : Pt = record { x = t.x0; y = t.y0 } in
       let c = (s.covers first).0 (Covers-member slabs t first t_in (record { left = omega (arith, ints); right = wide; low = omega (arith, ints); high = tall })) in
-      let (r, r_in, has) = member-Covers block (at t.y0 t.x0) ((covers-turned block first).0 c) in
+      let (r, r_in, has) = member-Covers block (at t.y0 t.x0) ((covers-transposed block first).0 c) in
       (r, r_in, has.low)
 
   slab-right : (t : Rect) → Contains slabs t → (r : Rect) × Contains block r × (t.x1 ≤ℤ r.y1)
@@ -47,11 +47,11 @@ module _ (block slabs : List Rect) (s : AreSlabsOf (Covers (turned_rects block))
       let c = (s.covers last).0
       (Covers-member slabs t last t_in
       (record { left = omega (arith, ints, wide); right = omega (arith, ints); low = omega (arith, ints); high = tall })) in
-      let (r, r_in, has) = member-Covers block (at t.y0 (t.x1 -ℤ pos 1)) ((covers-turned block last).0 c) in
+      let (r, r_in, has) = member-Covers block (at t.y0 (t.x1 -ℤ pos 1)) ((covers-transposed block last).0 c) in
       let h = has.high in
       (r, r_in, omega (arith, ints, h))
 
-pub adds-block : (old slabs sorted block : List Rect) → IsPermutation (turned_rects block) sorted → AreApart old → LieLeft old block
+pub adds-block : (old slabs sorted block : List Rect) → IsPermutation (transposed_rects block) sorted → AreApart old → LieLeft old block
     → AreSlabsOf (Covers sorted) slabs → AddsBlock old (old ++ slabs) block
 adds-block old slabs sorted block same a left by = record {
   apart = record {
@@ -59,17 +59,17 @@ adds-block old slabs sorted block same a left by = record {
     apart = AllPairs-append (λ r t. ShareRow r t → StandApart r t) old slabs a.apart (λ i j d l k. (s.canonical.follow i j d l k).apart)
         (λ r t r_in t_in share. (let (q, q_in, l) = slab-left block slabs s t t_in in let h = left r q r_in q_in in inl (omega (arith, ints, h, l))));
   };
-  covers = covers-appended (turned (Covers block)) old slabs (λ p. (λ c. (covers-turned block p).0 ((s.covers p).0 c), λ c. (s.covers p).1 ((covers-turned block p).1 c)));
+  covers = covers-appended (transposed (Covers block)) old slabs (λ p. (λ c. (covers-transposed block p).0 ((s.covers p).0 c), λ c. (s.covers p).1 ((covers-transposed block p).1 c)));
   left = λ others f g r o r_in o_in. elim (Contains-append_cases old slabs r r_in) [
     | inl h ↦ f r o h o_in
     | inr h ↦ (let (q, q_in, l) = slab-right block slabs s r h in let k = g q o q_in o_in in omega (arith, ints, l, k))
   ];
 }
   where
-    s : AreSlabsOf (Covers (turned_rects block)) slabs
-    s = sorted-slabs (turned_rects block) sorted slabs same by
+    s : AreSlabsOf (Covers (transposed_rects block)) slabs
+    s = sorted-slabs (transposed_rects block) sorted slabs same by
 
-pub blocks-none : (rects : List Rect) → CornersRise rects → AreRectsWithin farthest rects → AreBlocksOf (turned (Covers rects)) [] rects
+pub blocks-none : (rects : List Rect) → CornersRise rects → AreRectsWithin farthest rects → AreBlocksOf (transposed (Covers rects)) [] rects
 blocks-none rects rise w = record {
   apart = record { solid = λ i d k. absurd (omega (arith, k)); apart = λ i j d l k. absurd (omega (arith, k)) };
   covers = λ p. (
@@ -151,37 +151,37 @@ blocks-all a pieces [] none s = record {
 }
 blocks-all a pieces (r ∷ rest) none s = absurd (omega (arith, none))
 
--- rectangles exchanged, in another order, have their squares exchanged
-pub exchanged-covers : (rects sorted : List Rect) → IsPermutation (turned_rects rects) sorted → SameSquares (turned (Covers sorted)) (Covers rects)
-exchanged-covers rects sorted same p =
+-- transposed rectangles, in another order, have the transposed squares
+pub transposed-permuted : (rects sorted : List Rect) → IsPermutation (transposed_rects rects) sorted → SameSquares (transposed (Covers sorted)) (Covers rects)
+transposed-permuted rects sorted same p =
     let q : Pt = at p.y p.x in (
-      λ c. (covers-turned rects q).0 ((covers-same (turned_rects rects) sorted same q).1 c),
-      λ c. (covers-same (turned_rects rects) sorted same q).0 ((covers-turned rects q).1 c),
+      λ c. (covers-transposed rects q).0 ((covers-same (transposed_rects rects) sorted same q).1 c),
+      λ c. (covers-same (transposed_rects rects) sorted same q).0 ((covers-transposed rects q).1 c),
     )
 
-pub exchanged-within : (rects sorted : List Rect) → IsPermutation (turned_rects rects) sorted → AreRectsWithin farthest rects → AreRectsWithin farthest sorted
-exchanged-within rects sorted same w = sorted-within (turned_rects rects) sorted same (turned-within farthest rects w)
+pub permuted-within : (rects sorted : List Rect) → IsPermutation (transposed_rects rects) sorted → AreRectsWithin farthest rects → AreRectsWithin farthest sorted
+permuted-within rects sorted same w = sorted-within (transposed_rects rects) sorted same (transposed-within farthest rects w)
 
--- rectangles exchanged twice have their squares again
-pub exchanged-twice : (rects once twice : List Rect) → IsPermutation (turned_rects rects) once → IsPermutation (turned_rects once) twice → SameSquares (Covers twice) (Covers rects)
-exchanged-twice rects once twice same again p =
+-- rectangles transposed twice have their squares again
+pub transposed-twice : (rects once twice : List Rect) → IsPermutation (transposed_rects rects) once → IsPermutation (transposed_rects once) twice → SameSquares (Covers twice) (Covers rects)
+transposed-twice rects once twice same again p =
     let q : Pt = at p.y p.x in (
-      λ c. (exchanged-covers rects once same p).0 ((exchanged-covers once twice again q).0 c),
-      λ c. (exchanged-covers once twice again q).1 ((exchanged-covers rects once same p).1 c),
+      λ c. (transposed-permuted rects once same p).0 ((transposed-permuted once twice again q).0 c),
+      λ c. (transposed-permuted once twice again q).1 ((transposed-permuted rects once same p).1 c),
     )
 
 -- a list whose rectangles were handed out and stayed as they were
-pub exchanged-kept : (old kept more sorted : List Rect) (len : ℕ) → kept ≡ old → length old ≡ len
-    → IsPermutation (turned_rects (take len (kept ++ more))) sorted → IsPermutation (turned_rects old) sorted
-exchanged-kept old kept more sorted len same old_len by =
-    let all : IsPermutation (turned_rects kept) sorted = rw (take_at kept more len (ap length same ∙ old_len)) at by in
+pub transposed-kept : (old kept more sorted : List Rect) (len : ℕ) → kept ≡ old → length old ≡ len
+    → IsPermutation (transposed_rects (take len (kept ++ more))) sorted → IsPermutation (transposed_rects old) sorted
+transposed-kept old kept more sorted len same old_len by =
+    let all : IsPermutation (transposed_rects kept) sorted = rw (take_at kept more len (ap length same ∙ old_len)) at by in
     rw same at all
 
--- slabs of pieces of rectangles that were exchanged
-pub blocks-slabs : (rects sorted pieces slabs : List Rect) → IsPermutation (turned_rects rects) sorted
-    → ArePiecesOf (turned (Covers sorted)) pieces → AreSlabsOf (Covers pieces) slabs → AreSlabsOf (Covers rects) slabs
+-- slabs of pieces of transposed rectangles
+pub blocks-slabs : (rects sorted pieces slabs : List Rect) → IsPermutation (transposed_rects rects) sorted
+    → ArePiecesOf (transposed (Covers sorted)) pieces → AreSlabsOf (Covers pieces) slabs → AreSlabsOf (Covers rects) slabs
 blocks-slabs rects sorted pieces slabs same of s =
     slabs-of-same (Covers pieces) (Covers rects) slabs (λ p. (
-      λ c. (exchanged-covers rects sorted same p).0 ((of.covers p).0 c),
-      λ c. (of.covers p).1 ((exchanged-covers rects sorted same p).1 c),
+      λ c. (transposed-permuted rects sorted same p).0 ((of.covers p).0 c),
+      λ c. (of.covers p).1 ((transposed-permuted rects sorted same p).1 c),
     )) s

@@ -145,31 +145,40 @@ two_parts change a e f r p wide ex fx (ey0, ey1) (fy0, fy1) ea fa =
 still : (change : Edge → ℤ) (g : Edge) (p : Pt) → change g ≡ pos 0 → part change g p ≡ pos 0
 still change g p e = elim (is_left g p) as (λ z. cond z (change g) (pos 0) ≡ pos 0) [ true ↦ e | false ↦ refl ]
 
--- a rectangle's two edges, and one right of them that changes no sum
-pub adds-three : (a b : ℤ) (old : List Edge) (r : Rect) (e f g : Edge) → unsigned_abs a ≤ 1 → unsigned_abs b ≤ 1 → r.x0 <ℤ r.x1 → e.x ≡ r.x0 → f.x ≡ r.x1 → g.x ≡ r.x1 +ℤ pos 1
-    → (e.y0 ≡ r.y0) × (e.y1 ≡ r.y1) → (f.y0 ≡ r.y0) × (f.y1 ≡ r.y1) → (g.y0 ≡ r.y0) × (g.y1 ≡ r.y1)
-    → e.a ≡ a → f.a ≡ neg_ℤ a → g.a ≡ pos 0 → e.b ≡ b → f.b ≡ neg_ℤ b → g.b ≡ pos 0 → AddsRects a b old (((old ++ e ∷ []) ++ f ∷ []) ++ g ∷ []) (r ∷ [])
-adds-three a b old r e f g small_a small_b wide ex fx gx ey fy gy ea fa ga eb fb gb =
-    let two : List Edge = (old ++ e ∷ []) ++ f ∷ [] in
+-- a rectangle's two edges were added
+pub adds-two : (a b : ℤ) (old : List Edge) (r : Rect) (e f : Edge) → unsigned_abs a ≤ 1 → unsigned_abs b ≤ 1 → r.x0 <ℤ r.x1 → e.x ≡ r.x0 → f.x ≡ r.x1
+    → (e.y0 ≡ r.y0) × (e.y1 ≡ r.y1) → (f.y0 ≡ r.y0) × (f.y1 ≡ r.y1)
+    → e.a ≡ a → f.a ≡ neg_ℤ a → e.b ≡ b → f.b ≡ neg_ℤ b → AddsRects a b old ((old ++ e ∷ []) ++ f ∷ []) (r ∷ [])
+adds-two a b old r e f small_a small_b wide ex fx ey fy ea fa eb fb =
     record {
       sums_a = λ p. (let s = sum_left-push change_a old e p in let t = sum_left-push change_a (old ++ e ∷ []) f p in
-          let v = sum_left-push change_a two g p in let w = still change_a g p ga in
-          let u = two_parts change_a a e f r p wide ex fx ey fy ea fa in omega (arith, ints, s, t, u, v, w));
+          let u = two_parts change_a a e f r p wide ex fx ey fy ea fa in omega (arith, ints, s, t, u));
       sums_b = λ p. (let s = sum_left-push change_b old e p in let t = sum_left-push change_b (old ++ e ∷ []) f p in
-          let v = sum_left-push change_b two g p in let w = still change_b g p gb in
-          let u = two_parts change_b b e f r p wide ex fx ey fy eb fb in omega (arith, ints, s, t, u, v, w));
-      units = λ h k k_in. elim (Contains-push_cases two g k k_in) [
-        | inl pair ↦ elim (Contains-push_cases (old ++ e ∷ []) f k pair) [
-          | inl before ↦ elim (Contains-push_cases old e k before) [
-            | inl there ↦ h k there
-            | inr same ↦ subst IsUnitEdge same (record { a = omega (arith, ints, ea, small_a); b = omega (arith, ints, eb, small_b) })
-          ]
-          | inr same ↦ subst IsUnitEdge same (record { a = omega (arith, ints, fa, small_a); b = omega (arith, ints, fb, small_b) })
+          let u = two_parts change_b b e f r p wide ex fx ey fy eb fb in omega (arith, ints, s, t, u));
+      units = λ h k k_in. elim (Contains-push_cases (old ++ e ∷ []) f k k_in) [
+        | inl before ↦ elim (Contains-push_cases old e k before) [
+          | inl there ↦ h k there
+          | inr same ↦ subst IsUnitEdge same (record { a = omega (arith, ints, ea, small_a); b = omega (arith, ints, eb, small_b) })
         ]
+        | inr same ↦ subst IsUnitEdge same (record { a = omega (arith, ints, fa, small_a); b = omega (arith, ints, fb, small_b) })
+      ];
+      keeps = λ k k_in. Contains-append_left (old ++ e ∷ []) (f ∷ []) k (Contains-append_left old (e ∷ []) k k_in);
+      ends = λ s s_in. inr (f, Contains-push (old ++ e ∷ []) f, fx ∙ ap (λ t. let u : Rect = t in u.x1) (one_rect r s s_in));
+    }
+
+-- one edge more, which changes no sum
+pub adds-still : (a b : ℤ) (old new : List Edge) (rs : List Rect) (g : Edge) → g.a ≡ pos 0 → g.b ≡ pos 0 → AddsRects a b old new rs
+    → AddsRects a b old (new ++ g ∷ []) rs
+adds-still a b old new rs g ga gb f =
+    record {
+      sums_a = λ p. (let s = f.sums_a p in let v = sum_left-push change_a new g p in let w = still change_a g p ga in omega (arith, ints, s, v, w));
+      sums_b = λ p. (let s = f.sums_b p in let v = sum_left-push change_b new g p in let w = still change_b g p gb in omega (arith, ints, s, v, w));
+      units = λ h k k_in. elim (Contains-push_cases new g k k_in) [
+        | inl before ↦ f.units h k before
         | inr same ↦ subst IsUnitEdge same (record { a = omega (arith, ints, ga); b = omega (arith, ints, gb) })
       ];
-      keeps = λ k k_in. Contains-append_left two (g ∷ []) k (Contains-append_left (old ++ e ∷ []) (f ∷ []) k (Contains-append_left old (e ∷ []) k k_in));
-      ends = λ s s_in. inr (f, Contains-append_left two (g ∷ []) f (Contains-push (old ++ e ∷ []) f), fx ∙ ap (λ t. let u : Rect = t in u.x1) (one_rect r s s_in));
+      keeps = λ k k_in. Contains-append_left new (g ∷ []) k (f.keeps k k_in);
+      ends = λ r r_in. elim (f.ends r r_in) [ inl l ↦ inl l | inr (e, e_in, at) ↦ inr (e, Contains-append_left new (g ∷ []) e e_in, at) ];
     }
 
 pub adds-on : (a b : ℤ) (old mid new : List Edge) (rs ss : List Rect) → AddsRects a b old mid rs → AddsRects a b mid new ss → AddsRects a b old new (rs ++ ss)

@@ -135,10 +135,10 @@ reached-more first second low n m row (inl h) = inl h
 reached-more first second low n m row (inr (inl h)) = inr (inl (end-more first n row h))
 reached-more first second low n m row (inr (inr h)) = inr (inr h)
 
-reached-turned : (first second : List Rect) (low : ℤ) (n m : ℕ) (row : ℤ) → IsReached first second low n m row → IsReached second first low m n row
-reached-turned first second low n m row (inl h) = inl h
-reached-turned first second low n m row (inr (inl h)) = inr (inr h)
-reached-turned first second low n m row (inr (inr h)) = inr (inl h)
+reached-transposed : (first second : List Rect) (low : ℤ) (n m : ℕ) (row : ℤ) → IsReached first second low n m row → IsReached second first low m n row
+reached-transposed first second low n m row (inl h) = inl h
+reached-transposed first second low n m row (inr (inl h)) = inr (inr h)
+reached-transposed first second low n m row (inr (inr h)) = inr (inl h)
 
 -- wherever the first n and m are cut in two, one of the upper part begins no higher than row low or an end of the lower part
 pub record AreLinked (first second : List Rect) (low : ℤ) (n m : ℕ) (top : ℤ) : Type 0 where
@@ -146,12 +146,12 @@ pub record AreLinked (first second : List Rect) (low : ℤ) (n m : ℕ) (top : �
   pub linked : (k l : ℕ) → k ≤ n → l ≤ m → k + l < n + m → ((k < n) × IsReached first second low k l (get_or first k zero).y0)
       ⊎ ((l < m) × IsReached first second low k l (get_or second l zero).y0)
 
-linked-turned : (first second : List Rect) (low : ℤ) (n m : ℕ) (top : ℤ) → AreLinked first second low n m top → AreLinked second first low m n top
-linked-turned first second low n m top a = record {
-  reached = reached-turned first second low n m top a.reached;
+linked-transposed : (first second : List Rect) (low : ℤ) (n m : ℕ) (top : ℤ) → AreLinked first second low n m top → AreLinked second first low m n top
+linked-transposed first second low n m top a = record {
+  reached = reached-transposed first second low n m top a.reached;
   linked = λ k l k_m l_n less. elim (a.linked l k l_n k_m (omega (arith, less))) [
-    | inl (here, h) ↦ inr (here, reached-turned first second low l k (get_or first l zero).y0 h)
-    | inr (here, h) ↦ inl (here, reached-turned first second low l k (get_or second k zero).y0 h)
+    | inl (here, h) ↦ inr (here, reached-transposed first second low l k (get_or first l zero).y0 h)
+    | inr (here, h) ↦ inl (here, reached-transposed first second low l k (get_or second k zero).y0 h)
   ];
 }
 
@@ -229,7 +229,7 @@ open-right first second n m top new up o =
       low = o.low;
       first_from = o.first_from;
       second_from = o.second_from;
-      links = linked-turned second first o.low (m + 1) n new (linked-next second first o.low m n top new up (linked-turned first second o.low n m top o.links));
+      links = linked-transposed second first o.low (m + 1) n new (linked-next second first o.low m n top new up (linked-transposed first second o.low n m top o.links));
     }
 
 -- where all have squares, one that begins no higher than row low or an end of the first k and l is in their strip

@@ -10,7 +10,7 @@ use Rattle.dpl_spec_split.specs.declared.Rect.{Rect}
 use Rattle.dpl_spec_split.specs.Squares.{Has, Covers}
 use Rattle.dpl_spec_split.specs.Slabs.{IsSolid, IsCanonical, AreSlabsOf}
 use Rattle.dpl_spec_split.specs.Loops.{IsRectWithin, AreRectsWithin}
-use Rattle.dpl_spec_split.specs.Zones.{at, turned, turned_rect}
+use Rattle.dpl_spec_split.specs.Zones.{at, transposed, transposed_rect}
 use Rattle.dpl_spec_split.proofs.Ordered.{Contains-head, Contains-later, Contains-cases, Contains-nil}
 use Rattle.dpl_spec_split.proofs.SlabLaws.{Covers-member, member-Covers}
 use Rattle.dpl_sweep.specs.declared.edge.Edge.{Edge}
@@ -19,7 +19,7 @@ use Rattle.dpl_sweep.specs.declared.edge.Rule.TheVariants.{Either, Minus, Both}
 use Rattle.dpl_sweep.specs.Edges.{Holds, Told, sum_left, change_a, change_b}
 use Rattle.dpl_sweep.specs.Passes.{AreUnitEdges, IsClosed}
 use Rattle.dpl_sweep.proofs.EdgeLaws.{none-told}
-use Rattle.dpl_slabs.specs.Cells.{cells, AddsRects, turned_rects}
+use Rattle.dpl_slabs.specs.Cells.{cells, AddsRects, transposed_rects}
 use Rattle.dpl_slabs.specs.Slices.{Without}
 use Rattle.dpl_slabs.proofs.CellLaws.{cells-zero, cells-least, covered-sum, sum-covered, adds-closed}
 
@@ -134,63 +134,54 @@ module _ (rule : Rule) (rs ss : List Rect) (mid new : List Edge) (f : AddsRects 
   pub both-units : AreUnitEdges new
   both-units = g.units (f.units (λ e e_in. absurd (Contains-nil e e_in)))
 
--- with x and y exchanged
-from-turned : (rs : List Rect) (p : Pt) → Covers (turned_rects rs) p → turned (Covers rs) p
-from-turned [] p h = absurd (let found = member-Covers [] p h in Contains-nil found.0 found.1)
-from-turned (r ∷ rs) p h =
-    let found = member-Covers (turned_rect r ∷ turned_rects rs) p h in
-    elim (Contains-cases (turned_rect r) found.0 (turned_rects rs) found.1) [
-      | inl e ↦ (let has : Has (turned_rect r) p = subst (λ t. Has t p) (sym e) found.2 in
+-- transposed
+from-transposed : (rs : List Rect) (p : Pt) → Covers (transposed_rects rs) p → transposed (Covers rs) p
+from-transposed [] p h = absurd (let found = member-Covers [] p h in Contains-nil found.0 found.1)
+from-transposed (r ∷ rs) p h =
+    let found = member-Covers (transposed_rect r ∷ transposed_rects rs) p h in
+    elim (Contains-cases (transposed_rect r) found.0 (transposed_rects rs) found.1) [
+      | inl e ↦ (let has : Has (transposed_rect r) p = subst (λ t. Has t p) (sym e) found.2 in
           Covers-member (r ∷ rs) r (at p.y p.x) (Contains-head r rs) (record { left = has.low; right = has.high; low = has.left; high = has.right }))
-      | inr later ↦ (let rest = from-turned rs p (Covers-member (turned_rects rs) found.0 p later found.2) in
+      | inr later ↦ (let rest = from-transposed rs p (Covers-member (transposed_rects rs) found.0 p later found.2) in
           let there = member-Covers rs (at p.y p.x) rest in
           Covers-member (r ∷ rs) there.0 (at p.y p.x) (Contains-later r there.0 rs there.1) there.2)
     ]
 
-to-turned : (rs : List Rect) (p : Pt) → turned (Covers rs) p → Covers (turned_rects rs) p
-to-turned [] p h = absurd (let found = member-Covers [] (at p.y p.x) h in Contains-nil found.0 found.1)
-to-turned (r ∷ rs) p h =
+to-transposed : (rs : List Rect) (p : Pt) → transposed (Covers rs) p → Covers (transposed_rects rs) p
+to-transposed [] p h = absurd (let found = member-Covers [] (at p.y p.x) h in Contains-nil found.0 found.1)
+to-transposed (r ∷ rs) p h =
     let found = member-Covers (r ∷ rs) (at p.y p.x) h in
     elim (Contains-cases r found.0 rs found.1) [
       | inl e ↦ (let has : Has r (at p.y p.x) = subst (λ t. Has t (at p.y p.x)) (sym e) found.2 in
-          Covers-member (turned_rect r ∷ turned_rects rs) (turned_rect r) p (Contains-head (turned_rect r) (turned_rects rs))
+          Covers-member (transposed_rect r ∷ transposed_rects rs) (transposed_rect r) p (Contains-head (transposed_rect r) (transposed_rects rs))
           (record { left = has.low; right = has.high; low = has.left; high = has.right }))
-      | inr later ↦ (let rest = to-turned rs p (Covers-member rs found.0 (at p.y p.x) later found.2) in
-          let there = member-Covers (turned_rects rs) p rest in
-          Covers-member (turned_rect r ∷ turned_rects rs) there.0 p (Contains-later (turned_rect r) there.0 (turned_rects rs) there.1) there.2)
+      | inr later ↦ (let rest = to-transposed rs p (Covers-member rs found.0 (at p.y p.x) later found.2) in
+          let there = member-Covers (transposed_rects rs) p rest in
+          Covers-member (transposed_rect r ∷ transposed_rects rs) there.0 p (Contains-later (transposed_rect r) there.0 (transposed_rects rs) there.1) there.2)
     ]
 
-pub covers-turned : (rs : List Rect) (p : Pt) → Covers (turned_rects rs) p ↔ turned (Covers rs) p
-covers-turned rs p = (from-turned rs p, to-turned rs p)
+pub covers-transposed : (rs : List Rect) (p : Pt) → Covers (transposed_rects rs) p ↔ transposed (Covers rs) p
+covers-transposed rs p = (from-transposed rs p, to-transposed rs p)
 
-pub turned-within : (bound : ℕ) (rs : List Rect) → AreRectsWithin bound rs → AreRectsWithin bound (turned_rects rs)
-turned-within bound [] w r r_in = absurd (Contains-nil r r_in)
-turned-within bound (s ∷ rs) w r r_in =
-    elim (Contains-cases (turned_rect s) r (turned_rects rs) r_in) [
+pub transposed-within : (bound : ℕ) (rs : List Rect) → AreRectsWithin bound rs → AreRectsWithin bound (transposed_rects rs)
+transposed-within bound [] w r r_in = absurd (Contains-nil r r_in)
+transposed-within bound (s ∷ rs) w r r_in =
+    elim (Contains-cases (transposed_rect s) r (transposed_rects rs) r_in) [
       | inl e ↦ (let h : IsRectWithin bound s = w s (Contains-head s rs) in
           subst (IsRectWithin bound) e (record { left = h.low; low = h.left; right = h.high; high = h.right }))
-      | inr later ↦ turned-within bound rs (λ t t_in. w t (Contains-later s t rs t_in)) r later
+      | inr later ↦ transposed-within bound rs (λ t t_in. w t (Contains-later s t rs t_in)) r later
     ]
 
--- one slab with x and y exchanged
-pub turned-one : (rs : List Rect) → IsCanonical rs → length (turned_rects rs) ≡ 1 → AreSlabsOf (turned (Covers rs)) (turned_rects rs)
-turned-one [] c one = absurd (omega (arith, one))
-turned-one (r ∷ s ∷ rs) c one = absurd (omega (arith, one))
-turned-one (r ∷ []) c one =
+-- one transposed slab
+pub transposed-one : (rs : List Rect) → IsCanonical rs → length (transposed_rects rs) ≡ 1 → AreSlabsOf (transposed (Covers rs)) (transposed_rects rs)
+transposed-one [] c one = absurd (omega (arith, one))
+transposed-one (r ∷ s ∷ rs) c one = absurd (omega (arith, one))
+transposed-one (r ∷ []) c one =
     let solid : IsSolid r = All-contains IsSolid (r ∷ []) r c.solid (Contains-head r []) in
     record {
       canonical = record {
         solid = λ i d k. (let e : i ≡ 0 = omega (arith, k) in rw e (record { wide = solid.tall; tall = solid.wide }));
         follow = λ i j d l k. absurd (omega (arith, l, k));
       };
-      covers = λ p. (from-turned (r ∷ []) p, to-turned (r ∷ []) p);
+      covers = λ p. (from-transposed (r ∷ []) p, to-transposed (r ∷ []) p);
     }
-
--- one more rectangle exchanged where it stands
-pub turned-next : (old rects : List Rect) (i : ℕ) (r t : Rect) → i < length old → rects ≡ map turned_rect (take i old) ++ drop i old
-    → r ≡ get_or rects i r → t ≡ turned_rect r → set rects i t ≡ map turned_rect (take (i + 1) old) ++ drop (i + 1) old
-turned-next old rects i r t i_in so_far r_is t_is = ap (set rects i) t_is ∙ map_over_more turned_rect old rects i r i_in so_far r_is
-
-pub turned-all : (old rects : List Rect) (i : ℕ) → length old ≤ i → rects ≡ map turned_rect (take i old) ++ drop i old → rects ≡ turned_rects old
-turned-all old rects i all so_far = so_far ∙ (ap (λ l. map turned_rect l ++ drop i old) (take_all i old all)
-    ∙ (ap (λ l. map turned_rect old ++ l) (drop_all i old all) ∙ append-nil (map turned_rect old)))

@@ -15,7 +15,7 @@ abbrev pub ReachTo : List Rect → ℕ → ℤ → Type 0
 ReachTo rs n x = (k : ℕ) (d : Rect) → k < n → k < length rs → (slice_index_or rs k d).x1 ≤ℤ x
 
 -- the first n end at column reach or left of it, and all others begin right of column x
-pub record IsFrontAt (rs : List Rect) (x : ℤ) (n : ℕ) (reach : ℤ) : Type 0 where
+pub record IsPrefixAt (rs : List Rect) (x : ℤ) (n : ℕ) (reach : ℤ) : Type 0 where
   pub passed : ReachTo rs n reach
   pub ahead : (k : ℕ) (d : Rect) → n ≤ k → k < length rs → x <ℤ (slice_index_or rs k d).x0
 

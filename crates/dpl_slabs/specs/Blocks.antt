@@ -1,11 +1,11 @@
--- Rectangles in blocks of columns. Those of a block are given with x and y exchanged.
+-- Rectangles in blocks of columns. Those of a block are given transposed.
 use Rattle.std.specs.Prelude.{◌⊎◌, ◌↔◌, ◌<ℤ◌, List}
 use Rattle.std.specs.List.{Contains}
 use Rattle.dpl_spec_split.specs.declared.Pt.{Pt}
 use Rattle.dpl_spec_split.specs.declared.Rect.{Rect}
 use Rattle.dpl_spec_split.specs.Squares.{Region, Covers}
 use Rattle.dpl_spec_split.specs.Loops.{farthest, AreRectsWithin}
-use Rattle.dpl_spec_split.specs.Zones.{turned}
+use Rattle.dpl_spec_split.specs.Zones.{transposed}
 use Rattle.dpl_sweep.specs.Orders.{CornersRise}
 use Rattle.dpl_sweep.specs.Pieces.{AreApart}
 
@@ -15,7 +15,7 @@ LieLeft pieces block = (r s : Rect) → Contains pieces r → Contains block s �
 
 -- a square of a piece, or of a rectangle in a block
 abbrev pub EitherCovers : List Rect → List Rect → Region
-EitherCovers pieces rest p = Covers pieces p ⊎ turned (Covers rest) p
+EitherCovers pieces rest p = Covers pieces p ⊎ transposed (Covers rest) p
 
 -- pieces of a block's squares were added
 pub record AddsBlock (old new block : List Rect) : Type 0 where

@@ -5,7 +5,7 @@ use lib.Signed.{lt_z, le_z}
 use Rattle.dpl_spec_split.specs.declared.Pt.{Pt}
 use Rattle.dpl_spec_split.specs.declared.Rect.{Rect}
 use Rattle.dpl_spec_split.specs.Squares.{Region}
-use Rattle.dpl_spec_split.specs.Zones.{turned_rect}
+use Rattle.dpl_spec_split.specs.Zones.{transposed_rect}
 use Rattle.dpl_sweep.specs.declared.edge.Edge.{Edge}
 use Rattle.dpl_sweep.specs.declared.edge.Rule.{Rule}
 use Rattle.dpl_sweep.specs.Edges.{Holds, sum_left, change_a, change_b}
@@ -32,6 +32,6 @@ pub record AddsRects (a b : ℤ) (old new : List Edge) (rs : List Rect) : Type 0
   pub keeps : (e : Edge) → Contains old e → Contains new e
   pub ends : (r : Rect) → Contains rs r → (r.x1 ≤ℤ r.x0) ⊎ ((e : Edge) × Contains new e × (e.x ≡ r.x1))
 
--- with x and y exchanged
-abbrev pub turned_rects : List Rect → List Rect
-turned_rects rs = map turned_rect rs
+-- transposed
+abbrev pub transposed_rects : List Rect → List Rect
+transposed_rects rs = map transposed_rect rs

@@ -4,38 +4,38 @@ ghost use Rattle.std.specs.List.{AllPairs, Contains};
 ghost use Rattle.std.specs.List.Sorted.{IsPermutation};
 ghost use Rattle.dpl_spec_split.specs.declared.Rect.{Rect};
 ghost use Rattle.dpl_spec_split.specs.Slabs.{StandApart};
-ghost use Rattle.dpl_slabs.specs.Alone.{LeftsRise, ReachTo, IsFrontAt, AreAlone, AddsTouching};
+ghost use Rattle.dpl_slabs.specs.Alone.{LeftsRise, ReachTo, IsPrefixAt, AreAlone, AddsTouching};
 
 use dpl_base::{Rect, give_back};
 use std::alloc::{AllocError, Global};
 
 /// How many rectangles, by left column, were passed, and up to which column they reach.
 #[derive(Clone, Copy, Drop)]
-struct Front {
+struct Prefix {
     passed: usize,
     reach: i32,
 }
 
 /// Before the first of the rectangles.
-const START: Front = Front {
+const START: Prefix = Prefix {
     passed: 0,
     reach: i32::MIN,
 };
 
 /// Goes on past all rectangles that begin in the column or left of it.
-fn advanced(rects: &[Rect], front: Front, x: i32) -> Front
+fn advanced(rects: &[Rect], prefix: Prefix, x: i32) -> Prefix
     requires rise { LeftsRise rects.now }
-    requires reach { ReachTo rects.now front.passed front.reach }
-    ensures { IsFrontAt rects.now x result.passed result.reach }
+    requires reach { ReachTo rects.now prefix.passed prefix.reach }
+    ensures { IsPrefixAt rects.now x result.passed result.reach }
 {
-    let mut reach = front.reach;
-    for i in front.passed..rects.len() {
+    let mut reach = prefix.reach;
+    for i in prefix.passed..rects.len() {
         if x < rects[i].x0 {
-            return Front { passed: i, reach };
+            return Prefix { passed: i, reach };
         }
         reach = reach.max(rects[i].x1);
     }
-    Front {
+    Prefix {
         passed: rects.len(),
         reach,
     }
@@ -76,12 +76,12 @@ pub fn alone_of(
     }
     let near = by_left(alloc, others, beside)?;
     let mut alone = bars;
-    let mut front = START;
+    let mut prefix = START;
     let mut kept = 0;
     for i in 0..alone.len() {
         let bar = alone[i];
-        front = advanced(&near, front, bar.x1);
-        if front.reach < bar.x0 {
+        prefix = advanced(&near, prefix, bar.x1);
+        if prefix.reach < bar.x0 {
             alone[kept] = bar;
             kept += 1;
         } else {
@@ -106,10 +106,10 @@ pub fn add_touching(
         return Ok(());
     }
     let near = by_left(alloc, &[], beside)?;
-    let mut front = START;
+    let mut prefix = START;
     for bar in bars {
-        front = advanced(&near, front, bar.x1);
-        if bar.x0 <= front.reach {
+        prefix = advanced(&near, prefix, bar.x1);
+        if bar.x0 <= prefix.reach {
             others.push(*bar)?;
         }
     }

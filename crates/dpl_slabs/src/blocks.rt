@@ -1,19 +1,18 @@
 //! Rectangles in blocks of columns, as upright wires are.
 ghost use Rattle.std.specs.Prelude.{◌≡◌, ◌<◌, ◌≤◌, IfOk, IfSome, OnOk, IsNone, length, drop};
-ghost use Rattle.std.specs.List.Sorted.{IsPermutation};
 ghost use Rattle.dpl_spec_split.specs.Squares.{Covers};
 ghost use Rattle.dpl_spec_split.specs.Loops.{farthest, AreRectsWithin};
-ghost use Rattle.dpl_spec_split.specs.Zones.{turned};
+ghost use Rattle.dpl_spec_split.specs.Zones.{transposed};
 ghost use Rattle.dpl_sweep.specs.Pieces.{AreApart};
 ghost use Rattle.dpl_sweep.specs.Orders.{CornersRise};
 ghost use Rattle.dpl_slabs.specs.Blocks.{AddsBlock, AreBlocksOf, LieLeft, EitherCovers};
 ghost use Rattle.dpl_slabs.specs.Slices.{ArePiecesOf};
 
-use crate::combine::exchange;
 use crate::row::is_row;
 use crate::slices::TALL;
 use crate::strips::{slabs_by_rows, strip_length};
-use dpl_base::Rect;
+use dpl_base::{Rect, transpose_all};
+use dpl_sweep::sort_slice_by_corner;
 use std::alloc::{AllocError, Global};
 
 /// Whether a strip of rectangles, which go by first row, has so many that they are better told apart by columns first.
@@ -31,15 +30,7 @@ pub fn has_tall_strip(rects: &[Rect]) -> bool
     false
 }
 
-/// Sorts by first row, then by left column.
-fn sort_rows(rects: &mut [Rect])
-    ensures same { IsPermutation rects.old rects.new }
-    ensures rise { CornersRise rects.new }
-{
-    rects.sort_unstable_by_key(|r| (r.y0, r.x0));
-}
-
-/// Adds the slabs of a block, whose rectangles are given with x and y exchanged, and which lies right of all pieces. The rectangles are exchanged back and sorted where they stand.
+/// Adds the slabs of a block, whose rectangles are given transposed, and which lies right of all pieces. The rectangles are transposed back and sorted where they stand.
 fn add_block(alloc: Global, pieces: &mut Vec<Rect>, block: &mut [Rect]) -> Result<(), AllocError>
     requires within { AreRectsWithin farthest block.old }
     requires apart { AreApart pieces.old.items }
@@ -47,14 +38,14 @@ fn add_block(alloc: Global, pieces: &mut Vec<Rect>, block: &mut [Rect]) -> Resul
     ensures adds { OnOk result (AddsBlock pieces.old.items pieces.new.items block.old) }
     ensures len { length block.new ≡ length block.old }
 {
-    exchange(block);
-    sort_rows(block);
+    transpose_all(block);
+    sort_slice_by_corner(block);
     let slabs = slabs_by_rows(alloc, block)?;
     pieces.extend_from_slice(&slabs)?;
     Ok(())
 }
 
-/// Adds the slabs of the first block of the rectangles from a place on, which are given with x and y exchanged and lie right of all pieces. Answers where the block ends.
+/// Adds the slabs of the first block of the rectangles from a place on, which are given transposed and lie right of all pieces. Answers where the block ends.
 fn add_block_at(
     alloc: Global,
     pieces: &mut Vec<Rect>,
@@ -75,11 +66,11 @@ fn add_block_at(
     Ok(start + count)
 }
 
-/// Pieces of rectangles' squares, block by block, of which no two share a square, or none where there are no two blocks. The rectangles are given with x and y exchanged, and are exchanged back block by block where they stand, but stay as they are where there are no two blocks.
+/// Pieces of rectangles' squares, block by block, of which no two share a square, or none where there are no two blocks. The rectangles are given transposed, and are transposed back block by block where they stand, but stay as they are where there are no two blocks.
 pub fn pieces_of_blocks(alloc: Global, rects: &mut [Rect]) -> Result<Option<Vec<Rect>>, AllocError>
     requires within { AreRectsWithin farthest rects.old }
     requires rise { CornersRise rects.old }
-    ensures pieces { IfOk result (λ found. IfSome found (λ v. ArePiecesOf (turned (Covers rects.old)) v.items)) }
+    ensures pieces { IfOk result (λ found. IfSome found (λ v. ArePiecesOf (transposed (Covers rects.old)) v.items)) }
     ensures none { IfOk result (λ found. IsNone found → rects.new ≡ rects.old) }
 {
     if rects.is_empty() || strip_length(rects) == rects.len() {

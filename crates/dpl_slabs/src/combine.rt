@@ -7,12 +7,11 @@ ghost use Rattle.dpl_sweep.specs.declared.edge.Rule.{Rule};
 ghost use Rattle.dpl_sweep.specs.Edges.{Told};
 ghost use Rattle.dpl_sweep.specs.Passes.{AreUnitEdges, IsClosed};
 ghost use Rattle.dpl_spec_split.specs.Loops.{farthest, IsRectWithin, AreRectsWithin};
-ghost use Rattle.dpl_spec_split.specs.Zones.{turned_rect};
-ghost use Rattle.dpl_slabs.specs.Cells.{AddsRects, Chosen, turned_rects};
+ghost use Rattle.dpl_slabs.specs.Cells.{AddsRects, Chosen};
 ghost use Rattle.dpl_slabs.specs.Slices.{Without};
 
 use dpl_base::Rect;
-use dpl_sweep::{Edge, Rule, slabs_of_edges};
+use dpl_sweep::{Edge, FEW_EDGES, Rule, slabs_of_edges};
 use std::alloc::{AllocError, Global};
 
 /// An edge in a column, beside the rows of a rectangle.
@@ -28,8 +27,8 @@ fn edge_of(r: &Rect, x: i32, a: i8, b: i8) -> Edge
     }
 }
 
-/// Adds the two edges of a rectangle, and one right of them that changes nothing: by it the sweep is done with the rectangle's rows early.
-fn add_rect(edges: &mut Vec<Edge>, r: &Rect, a: i8, b: i8) -> Result<(), AllocError>
+/// Adds the two edges of a rectangle, and, unless there are few edges in all, one right of them that changes nothing: by it a sweep over many edges is done with the rectangle's rows early.
+fn add_rect(edges: &mut Vec<Edge>, r: &Rect, a: i8, b: i8, are_few: bool) -> Result<(), AllocError>
     requires first { unsigned_abs a ≤ 1 }
     requires second { unsigned_abs b ≤ 1 }
     requires within { IsRectWithin farthest r.now }
@@ -40,19 +39,28 @@ fn add_rect(edges: &mut Vec<Edge>, r: &Rect, a: i8, b: i8) -> Result<(), AllocEr
     }
     edges.push(edge_of(r, r.x0, a, b))?;
     edges.push(edge_of(r, r.x1, -a, -b))?;
+    if are_few {
+        return Ok(());
+    }
     edges.push(edge_of(r, r.x1 + 1, 0, 0))?;
     Ok(())
 }
 
 /// Adds the edges of rectangles.
-fn add_rects(edges: &mut Vec<Edge>, rects: &[Rect], a: i8, b: i8) -> Result<(), AllocError>
+fn add_rects(
+    edges: &mut Vec<Edge>,
+    rects: &[Rect],
+    a: i8,
+    b: i8,
+    are_few: bool,
+) -> Result<(), AllocError>
     requires first { unsigned_abs a ≤ 1 }
     requires second { unsigned_abs b ≤ 1 }
     requires within { AreRectsWithin farthest rects.now }
     ensures { OnOk result (AddsRects a b edges.old.items edges.new.items rects.now) }
 {
     for r in rects {
-        add_rect(edges, r, a, b)?;
+        add_rect(edges, r, a, b, are_few)?;
     }
     Ok(())
 }
@@ -66,9 +74,10 @@ fn edges_of(alloc: Global, first: &[Rect], second: &[Rect]) -> Result<Vec<Edge>,
     ensures told { IfOk result (λ v. (rule : Rule) → SameSquares (Told rule v.items) (Chosen rule first.now second.now)) }
 {
     let rects = first.len().saturating_add(second.len());
+    let are_few = rects <= FEW_EDGES / 2;
     let mut edges = Vec::with_capacity(alloc, rects.saturating_mul(3))?;
-    add_rects(&mut edges, first, 1, 0)?;
-    add_rects(&mut edges, second, 0, 1)?;
+    add_rects(&mut edges, first, 1, 0, are_few)?;
+    add_rects(&mut edges, second, 0, 1, are_few)?;
     Ok(edges)
 }
 
@@ -85,8 +94,7 @@ pub fn combine(
     ensures within { IfOk result (λ v. AreRectsWithin farthest v.items) }
 {
     let edges = edges_of(alloc, first, second)?;
-    let slabs = slabs_of_edges(alloc, edges, rule)?;
-    Ok(slabs)
+    slabs_of_edges(alloc, edges, rule)
 }
 
 /// The rule that takes the squares of rectangles that no hole has. Where there are no holes, it is that of a union, whose sweep passes over what lies under other rectangles.
@@ -113,8 +121,7 @@ pub fn combine_without(
     if rects.is_empty() {
         return Ok(Vec::new(alloc));
     }
-    let slabs = combine(alloc, rects, holes, rule_without(holes))?;
-    Ok(slabs)
+    combine(alloc, rects, holes, rule_without(holes))
 }
 
 /// The slabs of the squares that rectangles have and no hole has, by one sweep. The lists are let go before it.
@@ -134,34 +141,5 @@ pub fn combine_lists_without(
     let edges = edges_of(alloc, &rects, &holes)?;
     drop(rects);
     drop(holes);
-    let slabs = slabs_of_edges(alloc, edges, rule)?;
-    Ok(slabs)
-}
-
-/// The rectangle with x and y exchanged.
-fn turned(r: &Rect) -> Rect
-    ensures { result ≡ turned_rect r.now }
-{
-    Rect {
-        x0: r.y0,
-        y0: r.x0,
-        x1: r.y1,
-        y1: r.x1,
-    }
-}
-
-/// The rectangles with x and y exchanged.
-pub fn exchanged(alloc: Global, rects: &[Rect]) -> Result<Vec<Rect>, AllocError>
-    ensures { IfOk result (λ v. v.items ≡ turned_rects rects.now) }
-{
-    rects.iter().map(turned).collect(alloc)
-}
-
-/// Exchanges x and y of each of the rectangles where it stands.
-pub fn exchange(rects: &mut [Rect])
-    ensures { rects.new ≡ turned_rects rects.old }
-{
-    for i in 0..rects.len() {
-        rects[i] = turned(&rects[i]);
-    }
+    slabs_of_edges(alloc, edges, rule)
 }

@@ -64,8 +64,7 @@ pub fn slabs_of_loop(alloc: Global, points: &[Pt]) -> Result<Vec<Rect>, AllocErr
     ensures within { IfOk result (λ v. AreRectsWithin farthest v.items) }
 {
     let edges = edges_of(alloc, points)?;
-    let slabs = slabs_of_edges(alloc, edges, Rule::Either)?;
-    Ok(slabs)
+    slabs_of_edges(alloc, edges, Rule::Either)
 }
 
 /// The rectangle whose corners are the points, each beside the one before it. The last may be the first again.

@@ -4,17 +4,16 @@ ghost use Rattle.std.specs.Prelude.{◌≡◌, ◌↔◌, ◌⊎◌, IsTrue, IfS
 ghost use Rattle.dpl_spec_split.specs.Squares.{Covers, Has, SameSquares, IsLeast};
 ghost use Rattle.dpl_spec_split.specs.Slabs.{IsCanonical, IsSolid, AreSlabsOf};
 ghost use Rattle.dpl_spec_split.specs.Loops.{farthest, SomeLoopCovers, IsRectWithin, AreRectsWithin, AreLoopsWithin};
-ghost use Rattle.dpl_spec_split.specs.Zones.{at, turned};
+ghost use Rattle.dpl_spec_split.specs.Zones.{at, transposed};
 ghost use Rattle.dpl_slabs.specs.Parts.{union_of};
 ghost use Rattle.dpl_slabs.specs.Scattered.{AreScattered, AreUntouched};
 
-use crate::combine::exchanged;
 use crate::joint::combine_by_rows;
 use crate::loops::rects_of_loops;
 use crate::scattered::slabs_of_all;
 use crate::slices::slabs_without;
 use crate::strips::{slabs_by_rows, slabs_of_rects};
-use dpl_base::{Loop, Pt, Rect};
+use dpl_base::{Loop, Pt, Rect, all_transposed};
 use dpl_sweep::{Rule, sort_by_corner};
 use smallvec::SmallVec;
 use std::alloc::{AllocError, Global};
@@ -218,18 +217,17 @@ impl Slabs {
         Ok(Slabs::of_canonical(rects))
     }
 
-    /// The canonical slabs of the set with x and y exchanged.
+    /// The canonical slabs of the transposed set: x and y are exchanged.
     pub fn columns(&self, alloc: Global) -> Result<Vec<Rect>, AllocError>
-        ensures slabs { IfOk result (λ v. AreSlabsOf (turned (Covers self.now)) v.items) }
+        ensures slabs { IfOk result (λ v. AreSlabsOf (transposed (Covers self.now)) v.items) }
         ensures within { IfOk result (λ v. AreRectsWithin farthest v.items) }
     {
-        let mut turned = exchanged(alloc, self.rects())?;
-        if turned.len() == 1 {
-            return Ok(turned);
+        let mut transposed = all_transposed(alloc, self.rects())?;
+        if transposed.len() == 1 {
+            return Ok(transposed);
         }
-        sort_by_corner(&mut turned);
-        let rects = slabs_by_rows(alloc, &turned)?;
-        Ok(rects)
+        sort_by_corner(&mut transposed);
+        slabs_by_rows(alloc, &transposed)
     }
 
     /// Whether the two are one set.

@@ -107,8 +107,7 @@ fn add_part(
         return Ok(());
     }
     if part.y0 == low && part.y1 == high {
-        push_bar(bars, part)?;
-        return Ok(());
+        return push_bar(bars, part);
     }
     others.push(part)?;
     Ok(())
@@ -129,8 +128,7 @@ fn row_of(alloc: Global, bars: Vec<Rect>) -> Result<Vec<Rect>, AllocError>
     if is_spaced(&bars) {
         return Ok(bars);
     }
-    let row = slabs_of_row(alloc, &bars)?;
-    Ok(row)
+    slabs_of_row(alloc, &bars)
 }
 
 /// The parts of rectangles in rows `low` to `high - 1`: the bars among them, put together by columns, and the others.
@@ -184,8 +182,7 @@ fn pieces_of_slice(
     drop(gaps);
     let alone = alone_of(alloc, bars, &mut parts, &holes)?;
     let slabs = combine_lists_without(alloc, parts, holes)?;
-    let pieces = put_together(alone, slabs)?;
-    Ok(pieces)
+    put_together(alone, slabs)
 }
 
 /// Pieces of the squares of both lists. Where some of `more` stand on some of `growing`, they are joined.
@@ -376,6 +373,5 @@ pub fn slabs_without(alloc: Global, rects: &[Rect], holes: &[Rect]) -> Result<Ve
     if let Some(pieces) = sliced(alloc, rects, holes)? {
         return Ok(slabs_of(pieces));
     }
-    let slabs = combine_without(alloc, rects, holes)?;
-    Ok(slabs)
+    combine_without(alloc, rects, holes)
 }

@@ -5,14 +5,13 @@ ghost use Rattle.dpl_spec_split.specs.Squares.{Covers};
 ghost use Rattle.dpl_spec_split.specs.Slabs.{AreSlabsOf, IsCanonical};
 ghost use Rattle.dpl_spec_split.specs.Loops.{farthest, AreRectsWithin};
 ghost use Rattle.dpl_sweep.specs.Orders.{CornersRise};
-ghost use Rattle.dpl_slabs.specs.Cells.{turned_rects};
+ghost use Rattle.dpl_slabs.specs.Cells.{transposed_rects};
 ghost use Rattle.dpl_slabs.specs.Strips.{LieBelow, AddsStrip};
 
 use crate::blocks::{has_tall_strip, pieces_of_blocks};
-use crate::combine::exchange;
 use crate::row::{is_row, slabs_of_row};
 use crate::slices::slabs_without;
-use dpl_base::Rect;
+use dpl_base::{Rect, transpose_all};
 use dpl_sweep::{slabs_of, sort_by_corner};
 use std::alloc::{AllocError, Global};
 
@@ -44,11 +43,9 @@ fn slabs_of_strip(alloc: Global, strip: &[Rect]) -> Result<Vec<Rect>, AllocError
     ensures within { IfOk result (λ v. AreRectsWithin farthest v.items) }
 {
     if is_row(strip) {
-        let bars = slabs_of_row(alloc, strip)?;
-        return Ok(bars);
+        return slabs_of_row(alloc, strip);
     }
-    let slabs = slabs_without(alloc, strip, &[])?;
-    Ok(slabs)
+    slabs_without(alloc, strip, &[])
 }
 
 /// Adds the slabs of a strip that lies above all slabs.
@@ -82,31 +79,30 @@ pub fn slabs_by_rows(alloc: Global, rects: &[Rect]) -> Result<Vec<Rect>, AllocEr
     Ok(slabs)
 }
 
-/// Exchanges x and y of each of the rectangles where it stands, and sorts them by first row, then by left column.
-fn turn(rects: &mut Vec<Rect>)
-    ensures same { IsPermutation (turned_rects rects.old.items) rects.new.items }
+/// Transposes each of the rectangles where it stands, and sorts them by first row, then by left column.
+fn transpose_and_sort(rects: &mut Vec<Rect>)
+    ensures same { IsPermutation (transposed_rects rects.old.items) rects.new.items }
     ensures rise { CornersRise rects.new.items }
 {
-    exchange(rects);
+    transpose_all(rects);
     sort_by_corner(rects);
 }
 
-/// The canonical slabs of rectangles in any order, block by block of columns where there are some between them. They are exchanged where they stand, each block too, so that there is one list of them.
+/// The canonical slabs of rectangles in any order, block by block of columns where there are some between them. They are transposed where they stand, each block too, so that there is one list of them.
 fn slabs_by_blocks(alloc: Global, rects: Vec<Rect>) -> Result<Vec<Rect>, AllocError>
     requires { AreRectsWithin farthest rects.items }
     ensures slabs { IfOk result (λ v. AreSlabsOf (Covers rects.items) v.items) }
     ensures within { IfOk result (λ v. AreRectsWithin farthest v.items) }
 {
-    let mut turned = rects;
-    turn(&mut turned);
-    if let Some(pieces) = pieces_of_blocks(alloc, &mut turned)? {
-        drop(turned);
+    let mut transposed = rects;
+    transpose_and_sort(&mut transposed);
+    if let Some(pieces) = pieces_of_blocks(alloc, &mut transposed)? {
+        drop(transposed);
         return Ok(slabs_of(pieces));
     }
-    let mut rects = turned;
-    turn(&mut rects);
-    let slabs = slabs_by_rows(alloc, &rects)?;
-    Ok(slabs)
+    let mut rects = transposed;
+    transpose_and_sort(&mut rects);
+    slabs_by_rows(alloc, &rects)
 }
 
 /// The canonical slabs of rectangles, in any order, that may overlap: block by block of columns where strips of rows would be tall.
@@ -118,9 +114,7 @@ pub fn slabs_of_rects(alloc: Global, rects: Vec<Rect>) -> Result<Vec<Rect>, Allo
     let mut rects = rects;
     sort_by_corner(&mut rects);
     if has_tall_strip(&rects) {
-        let slabs = slabs_by_blocks(alloc, rects)?;
-        return Ok(slabs);
+        return slabs_by_blocks(alloc, rects);
     }
-    let slabs = slabs_by_rows(alloc, &rects)?;
-    Ok(slabs)
+    slabs_by_rows(alloc, &rects)
 }

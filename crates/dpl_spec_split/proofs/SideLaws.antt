@@ -9,7 +9,7 @@ use Rattle.dpl_spec_split.specs.declared.Rect.{Rect}
 use Rattle.dpl_spec_split.specs.declared.Zone.{Zone}
 use Rattle.dpl_spec_split.specs.Squares.{Region, Has, Touch, AreTouching}
 use Rattle.dpl_spec_split.specs.Components.{Linked, here, on, AreComponents}
-use Rattle.dpl_spec_split.specs.Zones.{at, IsHorizontalZone, IsVerticalZone, IsKeptZone, turned, turned_rect, AreZones, part_at}
+use Rattle.dpl_spec_split.specs.Zones.{at, IsHorizontalZone, IsVerticalZone, IsKeptZone, transposed, transposed_rect, AreZones, part_at}
 use Rattle.dpl_spec_split.specs.Pieces.{without}
 use Rattle.dpl_spec_split.proofs.SquareLaws.{Touch-from_close, Touch-sym}
 use Rattle.dpl_spec_split.proofs.ComponentLaws.{Linked-trans, Linked-sym}
@@ -51,7 +51,7 @@ module _ (rule overlap : ℕ) (layer : Region) (features pieces : List (List Rec
   kept-inside : (f : Region) (r : Rect) (p : Pt) → IsKeptZone rule overlap layer f r → Has r p → f p
   kept-inside f r p (inl h) has = zone-in-feature rule layer f overlap r p h has
   kept-inside f r p (inr (v, apart)) has =
-      zone-in-feature rule (turned layer) (turned f) overlap (turned_rect r) (at p.y p.x) v (record { left = has.low; right = has.high; low = has.left; high = has.right })
+      zone-in-feature rule (transposed layer) (transposed f) overlap (transposed_rect r) (at p.y p.x) v (record { left = has.low; right = has.high; low = has.left; high = has.right })
 
   -- a zone with a square of a feature is a zone of that feature
   zone-of : (w : Zone) (k : ℕ) (p : Pt) → Contains zones w → k < length features → part_at features k p → Has w.rect p → IsKeptZone rule overlap layer (part_at features k) w.rect
@@ -117,7 +117,7 @@ module _ (rule overlap : ℕ) (layer : Region) (features pieces : List (List Rec
     rest-up h none x y side tall from below =
         let low : z.rect.y0 ≤ℤ (y +ℤ pos 1) = elim side [ inl e ↦ omega (arith, ints, e) | inr e ↦ omega (arith, ints, e, tall) ] in
         let high : y ≤ℤ z.rect.y1 = elim side [ inl e ↦ omega (arith, ints, e, tall) | inr e ↦ omega (arith, ints, e) ] in
-        let in_f = beside-in-feature rule (turned layer) (turned (part_at features z.feature)) overlap (turned_rect z.rect) h y x low high from below in (
+        let in_f = beside-in-feature rule (transposed layer) (transposed (part_at features z.feature)) overlap (transposed_rect z.rect) h y x low high from below in (
           in-layer z.feature (at x y) feature_in in_f,
           λ (n, w, n_in, n_is, has). elim (zone-of w z.feature (at x y) (n, n_in, n_is) feature_in in_f has) [
             | inl k ↦ none w.rect k
@@ -139,10 +139,10 @@ module _ (rule overlap : ℕ) (layer : Region) (features pieces : List (List Rec
                         (omega (arith, ints, e)) (omega (arith, ints, e)),
                   )
                 ])
-            | inr (v, apart) ↦ (let same : turned_rect z.rect ≡ turned_rect w.rect = beside-same rule (turned layer)
-                (turned (part_at features z.feature)) overlap (turned_rect z.rect) (turned_rect w.rect) h v y x low high from below
+            | inr (v, apart) ↦ (let same : transposed_rect z.rect ≡ transposed_rect w.rect = beside-same rule (transposed layer)
+                (transposed (part_at features z.feature)) overlap (transposed_rect z.rect) (transposed_rect w.rect) h v y x low high from below
                 (record { left = has.low; right = has.high; low = has.left; high = has.right }) in
-                let mine : Has (turned_rect z.rect) (at y x) = subst (λ r. Has r (at y x)) (sym same)
+                let mine : Has (transposed_rect z.rect) (at y x) = subst (λ r. Has r (at y x)) (sym same)
                 (record { left = has.low; right = has.high; low = has.left; high = has.right }) in
                 elim side [ inl e ↦ omega (arith, ints, e, mine.left) | inr e ↦ omega (arith, ints, e, mine.right) ])
           ],
@@ -166,8 +166,8 @@ module _ (rule overlap : ℕ) (layer : Region) (features pieces : List (List Rec
         → Has z.rect q → Touch p q → (z.rect.x0 ≤ℤ p.x) × (p.x <ℤ z.rect.x1) × ((p.y +ℤ pos 1 ≡ z.rect.y0) ⊎ (p.y ≡ z.rect.y1))
     up-place h p q rest has touch =
         let close = close-from_touch p q touch in
-        let (low, high, from, below) = touching-beside rule (turned layer) (turned (part_at features z.feature)) overlap
-        (turned_rect z.rect) h (at p.y p.x) (at q.y q.x) (touches-at p q rest has touch)
+        let (low, high, from, below) = touching-beside rule (transposed layer) (transposed (part_at features z.feature)) overlap
+        (transposed_rect z.rect) h (at p.y p.x) (at q.y q.x) (touches-at p q rest has touch)
         (record { left = has.low; right = has.high; low = has.left; high = has.right })
         (Touch-from_close (at p.y p.x) (at q.y q.x) close.low close.high close.left close.right) in (
           from,

@@ -45,16 +45,16 @@ pub record IsHorizontalZone (rule overlap : ℕ) (layer feature : Region) (zone 
   pub is : IsStretch rule overlap layer feature stretch
   pub middle : IsMiddle overlap stretch zone
 
--- x and y exchanged
-abbrev pub turned : Region → Region
-turned a p = a (at p.y p.x)
+-- transposed: x and y are exchanged
+abbrev pub transposed : Region → Region
+transposed a p = a (at p.y p.x)
 
-abbrev pub turned_rect : Rect → Rect
-turned_rect r = record { x0 = r.y0; y0 = r.x0; x1 = r.y1; y1 = r.x1 }
+abbrev pub transposed_rect : Rect → Rect
+transposed_rect r = record { x0 = r.y0; y0 = r.x0; x1 = r.y1; y1 = r.x1 }
 
 abbrev pub IsVerticalZone : ℕ → ℕ → Region → Region → Rect → Type 0
 IsVerticalZone rule overlap layer feature zone =
-    IsHorizontalZone rule overlap (turned layer) (turned feature) (turned_rect zone)
+    IsHorizontalZone rule overlap (transposed layer) (transposed feature) (transposed_rect zone)
 
 -- a vertical zone that meets a horizontal one of its feature is dropped
 abbrev pub IsKeptZone : ℕ → ℕ → Region → Region → Rect → Type 0

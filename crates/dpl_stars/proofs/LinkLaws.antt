@@ -8,9 +8,9 @@ use Rattle.std.proofs.lemmas.List.Elements.{All-contains}
 use Rattle.dpl_spec_split.specs.Graphs.{Walk, stay, step, IsDistance, IsRoot, graph_of}
 use Rattle.dpl_spec_split.specs.Summary.{Row, IsStar, AreStars}
 use Rattle.dpl_spec_split.proofs.GraphLaws.{Walk-trans}
-use Rattle.dpl_graph.specs.Laws.{AreOrdered}
-use Rattle.dpl_graph.proofs.Walks.{graph_of-undirected, Walk-reverse, Walk-snoc, root-along}
-use Rattle.dpl_graph.proofs.Search.{graph_of-distances, graph_of-root}
+use Rattle.dpl_stars.specs.Laws.{AreOrdered}
+use Rattle.dpl_stars.proofs.Walks.{graph_of-undirected, Walk-reverse, Walk-snoc, root-along}
+use Rattle.dpl_stars.proofs.Search.{graph_of-distances, graph_of-root}
 use Rattle.dpl_stars.specs.declared.list.Star.{Star}
 use Rattle.dpl_stars.specs.Stars.{own_row, IsStarList}
 use Rattle.dpl_stars.specs.Sums.{row_of}

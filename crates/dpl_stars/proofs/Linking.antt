@@ -27,10 +27,10 @@ pieces-rising rows listed i j d l within =
 pub root-there : (rows : List Star) → IsStarList rows → (k : ℕ) (d : Star) → k < length rows → Contains (pieces_of rows) (get_or rows k d).root
 root-there rows listed k d l = contains-map (λ (r : Star). r.piece) rows (own_row (get_or rows k d).root) (listed.rooted k d l)
 
-module _ (pieces : List ℕ) (rising : AllPairs (λ a b. a < b) pieces) (rows front : List Star) (row : Star) (row_in : Contains rows row)
-    (mates : List ℕ) (h : HasMates pieces rows front mates) where
+module _ (pieces : List ℕ) (rising : AllPairs (λ a b. a < b) pieces) (rows prefix : List Star) (row : Star) (row_in : Contains rows row)
+    (mates : List ℕ) (h : HasMates pieces rows prefix mates) where
   -- an odd row's piece is put at the place of its root
-  mates-put : row.odd ≡ true → (p : ℕ) → p < length pieces → get_or pieces p 0 ≡ row.root → HasMates pieces rows (front ++ row ∷ []) (set mates p row.piece)
+  mates-put : row.odd ≡ true → (p : ℕ) → p < length pieces → get_or pieces p 0 ≡ row.root → HasMates pieces rows (prefix ++ row ∷ []) (set mates p row.piece)
   mates-put is p p_in at = record {
     each = length-set mates p row.piece ∙ h.each;
     odd = λ k s k_in c s_odd here. elim (cases_eq k p) [
@@ -40,17 +40,17 @@ module _ (pieces : List ℕ) (rising : AllPairs (λ a b. a < b) pieces) (rows fr
           ∙ get_or-set_same mates p row.piece 0 (let len = h.each in omega (arith, p_in, len))) in
           subst (λ v. Contains rows (odd_row v s.root)) piece (subst (λ r. Contains rows (odd_row row.piece r)) root
           (subst (λ b. Contains rows (star row.piece row.root b)) is row_in))
-      | inr apart ↦ elim (Contains-push_cases front row s c) [
+      | inr apart ↦ elim (Contains-push_cases prefix row s c) [
         | inl old ↦ subst (λ v. Contains rows (odd_row v s.root)) (sym (get_or-set_other mates p k row.piece 0 apart)) (h.odd k s k_in old s_odd here)
         | inr new ↦ absurd (apart (place-unique pieces rising k p k_in p_in (here ∙ (ap (λ (t : Star). t.root) (sym new) ∙ sym at))))
       ]
     ];
   }
 
-  mates-pass : row.odd ≡ false → HasMates pieces rows (front ++ row ∷ []) mates
+  mates-pass : row.odd ≡ false → HasMates pieces rows (prefix ++ row ∷ []) mates
   mates-pass even = record {
     each = h.each;
-    odd = λ k s k_in c s_odd here. elim (Contains-push_cases front row s c) [
+    odd = λ k s k_in c s_odd here. elim (Contains-push_cases prefix row s c) [
       | inl old ↦ h.odd k s k_in old s_odd here
       | inr new ↦ absurd (true≢false (sym s_odd ∙ (ap (λ (t : Star). t.odd) (sym new) ∙ even)))
     ];
@@ -64,13 +64,13 @@ module _ (rows : List Star) (listed : IsStarList rows) (pieces : List ℕ) (is :
   pub mates-step : (get_or rows i d).odd ≡ true → (p : ℕ) → p < length pieces → get_or pieces p 0 ≡ (get_or rows i d).root
       → HasMates pieces rows (take (i + 1) rows) (set mates p (get_or rows i d).piece)
   mates-step odd p p_in at =
-      subst (λ front. HasMates pieces rows front (set mates p (get_or rows i d).piece)) (sym (take_more rows i d within))
+      subst (λ prefix. HasMates pieces rows prefix (set mates p (get_or rows i d).piece)) (sym (take_more rows i d within))
       (mates-put pieces (subst (AllPairs (λ a b. a < b)) (sym is) (pieces-rising rows listed)) rows (take i rows) (get_or rows i d)
       (Contains-get_or rows i d within) mates h odd p p_in at)
 
   pub mates-skip : (get_or rows i d).odd ≡ false → HasMates pieces rows (take (i + 1) rows) mates
   mates-skip even =
-      subst (λ front. HasMates pieces rows front mates) (sym (take_more rows i d within))
+      subst (λ prefix. HasMates pieces rows prefix mates) (sym (take_more rows i d within))
       (mates-pass pieces (subst (AllPairs (λ a b. a < b)) (sym is) (pieces-rising rows listed)) rows (take i rows) (get_or rows i d) (Contains-get_or rows i d within) mates h even)
 
 module _ (rows : List Star) (listed : IsStarList rows) (row : Star) (row_in : Contains rows row) where
@@ -104,7 +104,7 @@ module _ (rows : List Star) (listed : IsStarList rows) (row : Star) (row_in : Co
   mates-at e a b (inl (first, second)) m = subst (λ x. AreMates rows x e.1) (sym first) (subst (λ x. AreMates rows a x) (sym second) m)
   mates-at e a b (inr (first, second)) m = subst (λ x. AreMates rows x e.1) (sym first) (subst (λ x. AreMates rows b x) (sym second) (mates-back a b m))
 
-  module _ (front : List Star) (es : List (ℕ × ℕ)) (h : AreLinks rows front es) where
+  module _ (prefix : List Star) (es : List (ℕ × ℕ)) (h : AreLinks rows prefix es) where
     module _ (e : ℕ × ℕ) (v : ℕ) (next : IsNext rows row v) (joins : Joins e v row.piece) where
       joined-by : (a b : ℕ) → Joins e a b → graph_of (es ++ e ∷ []) a b
       joined-by a b (inl (first, second)) = inl (subst (λ (f : ℕ × ℕ). Contains (es ++ e ∷ []) f) (let same : e ≡ (a, b) = λ k. (first k, second k) in same) (Contains-push es e))
@@ -130,17 +130,17 @@ module _ (rows : List Star) (listed : IsStarList rows) (row : Star) (row_in : Co
         | inr same ↦ mates-back b a (subst (λ (f : ℕ × ℕ). AreMates rows f.0 f.1) same link-mates)
       ]
 
-      link-more : e.0 < e.1 → AreLinks rows (front ++ row ∷ []) (es ++ e ∷ [])
+      link-more : e.0 < e.1 → AreLinks rows (prefix ++ row ∷ []) (es ++ e ∷ [])
       link-more up = record {
         pairs = All-push (λ (f : ℕ × ℕ). f.0 < f.1) es e h.pairs up;
         mates = new-mates;
-        linked = All-push (IsLinked rows (es ++ e ∷ [])) front row
-            (All-weaker (IsLinked rows es) (IsLinked rows (es ++ e ∷ [])) still-linked front h.linked)
+        linked = All-push (IsLinked rows (es ++ e ∷ [])) prefix row
+            (All-weaker (IsLinked rows es) (IsLinked rows (es ++ e ∷ [])) still-linked prefix h.linked)
             (λ apart. (v, next, joined-by v row.piece joins));
       }
 
-    no-link-more : row.piece ≡ row.root → AreLinks rows (front ++ row ∷ []) es
-    no-link-more same = record { pairs = h.pairs; mates = h.mates; linked = All-push (IsLinked rows es) front row h.linked (λ apart. absurd (apart same)) }
+    no-link-more : row.piece ≡ row.root → AreLinks rows (prefix ++ row ∷ []) es
+    no-link-more same = record { pairs = h.pairs; mates = h.mates; linked = All-push (IsLinked rows es) prefix row h.linked (λ apart. absurd (apart same)) }
 
 pub links-none : (rows : List Star) → AreLinks rows [] []
 links-none rows = record {
@@ -151,9 +151,9 @@ links-none rows = record {
 
 module _ (rows : List Star) (es : List (ℕ × ℕ)) (listed : IsStarList rows) (i : ℕ) (d : Star) (within : i < length rows) (h : AreLinks rows (take i rows) es) where
   pub links-step : (e : ℕ × ℕ) (v : ℕ) → IsNext rows (get_or rows i d) v → Joins e v (get_or rows i d).piece → e.0 < e.1 → AreLinks rows (take (i + 1) rows) (es ++ e ∷ [])
-  links-step e v next joins up = subst (λ front. AreLinks rows front (es ++ e ∷ [])) (sym (take_more rows i d within))
+  links-step e v next joins up = subst (λ prefix. AreLinks rows prefix (es ++ e ∷ [])) (sym (take_more rows i d within))
       (link-more rows listed (get_or rows i d) (Contains-get_or rows i d within) (take i rows) es h e v next joins up)
 
   pub links-skip : (get_or rows i d).piece ≡ (get_or rows i d).root → AreLinks rows (take (i + 1) rows) es
-  links-skip same = subst (λ front. AreLinks rows front es) (sym (take_more rows i d within))
+  links-skip same = subst (λ prefix. AreLinks rows prefix es) (sym (take_more rows i d within))
       (no-link-more rows listed (get_or rows i d) (Contains-get_or rows i d within) (take i rows) es h same)

@@ -4,7 +4,6 @@ use Rattle.std.specs.List.{Contains}
 use Rattle.std.proofs.Math.Seq.{take-suc}
 use Rattle.std.proofs.lemmas.List.Elements.{All-nil, All-append}
 use Rattle.dpl_spec_split.specs.Graphs.{graph_of}
-use Rattle.dpl_spec_split.specs.Summary.{HasOddCycle}
 use Rattle.dpl_stars.specs.declared.list.Star.{Star}
 use Rattle.dpl_stars.specs.declared.joined.Joined.{Joined}
 use Rattle.dpl_stars.specs.declared.joined.Joined.TheVariants.{Stars, Odd}
@@ -19,8 +18,8 @@ use Rattle.dpl_stars.proofs.Merging.{odd-first, odd-second}
 pub stand-more : (js : List Joined) (es : List (ℕ × ℕ)) (rows : List Star) (more : List (ℕ × ℕ)) → StandFor js es → IsStarList rows
     → AreLinks rows rows more → StandFor (js ++ Stars rows ∷ []) (es ++ more)
 stand-more [] es rows more none list links = (rows, more, [], refl, list, links, ap (λ xs. xs ++ more) none ∙ sym (append-nil more), refl)
-stand-more (j ∷ js) es rows more (first, front, rest, is, l, linked, cut, others) list links =
-    (first, front, rest ++ more, is, l, linked, ap (λ xs. xs ++ more) cut ∙ append_assoc front rest more, stand-more js rest rows more others list links)
+stand-more (j ∷ js) es rows more (first, prefix, rest, is, l, linked, cut, others) list links =
+    (first, prefix, rest ++ more, is, l, linked, ap (λ xs. xs ++ more) cut ∙ append_assoc prefix rest more, stand-more js rest rows more others list links)
 
 pub stand-next : (js : List Joined) (i : ℕ) (j : Joined) (rows : List Star) (es more all : List (ℕ × ℕ)) → i < length js
     → j ≡ get_or js i j → j ≡ Stars rows → StandFor (take i js) es → IsStarList rows → AreLinks rows rows more → all ≡ es ++ more →
@@ -54,13 +53,13 @@ stand-none = record { pairs = All-nil (λ (e : ℕ × ℕ). e.0 < e.1); there = 
 
 pub stand-all : (js : List Joined) (edges links : List (ℕ × ℕ)) → AreSummed edges js → StandFor js links → Stand edges links
 stand-all [] edges links none empty = rw (none, empty) stand-none
-stand-all (j ∷ js) edges links (front, rest, split, pairs, sums, others) (rows, mine, more, is, list, linked, cut, later) =
+stand-all (j ∷ js) edges links (prefix, rest, split, pairs, sums, others) (rows, mine, more, is, list, linked, cut, later) =
     let stars = rw is at sums in
     let s = stand-all js rest more others later in
     rw (split, cut) record {
-      pairs = All-append (λ (e : ℕ × ℕ). e.0 < e.1) front rest pairs s.pairs;
-      there = carries-append front rest mine more (graph-carried front pairs rows stars list mine linked) s.there;
-      back = carries-append mine more front rest (links-carried front pairs rows stars list mine linked) s.back;
+      pairs = All-append (λ (e : ℕ × ℕ). e.0 < e.1) prefix rest pairs s.pairs;
+      there = carries-append prefix rest mine more (graph-carried prefix pairs rows stars list mine linked) s.there;
+      back = carries-append mine more prefix rest (links-carried prefix pairs rows stars list mine linked) s.back;
     }
 
 pub merged-all : (js : List Joined) (links : List (ℕ × ℕ)) (j : Joined) → StandFor js links → Sums links j → SumsAll js j
@@ -71,5 +70,5 @@ merged-all js links j stand sums edges summed =
 -- an odd one among them
 pub odd-one : (js : List Joined) → Contains js Odd → SumsAll js Odd
 odd-one [] (k, l, is) edges summed = absurd (omega (arith, l))
-odd-one (j ∷ js) (zero, l, is) edges (front, rest, split, pairs, sums, others) = rw split (odd-first front rest (rw is at sums))
-odd-one (j ∷ js) (suc k, l, is) edges (front, rest, split, pairs, sums, others) = rw split (odd-second front rest (odd-one js (k, omega (arith, l), is) rest others))
+odd-one (j ∷ js) (zero, l, is) edges (prefix, rest, split, pairs, sums, others) = rw split (odd-first prefix rest (rw is at sums))
+odd-one (j ∷ js) (suc k, l, is) edges (prefix, rest, split, pairs, sums, others) = rw split (odd-second prefix rest (odd-one js (k, omega (arith, l), is) rest others))

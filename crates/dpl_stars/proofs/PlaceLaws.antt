@@ -95,9 +95,9 @@ module _ (numbers : List ℕ) (rising : AllPairs (λ a b. a < b) numbers) where
         | inr l ↦ (let a = after i l within in omega (arith, a, is))
       ]
 
-  pub placed-more : (front placed : List (ℕ × ℕ)) (e : ℕ × ℕ) (i j : ℕ) → ArePlaced numbers front placed → e.0 < e.1 → i < length numbers
-      → j < length numbers → get_or numbers i 0 ≡ e.0 → get_or numbers j 0 ≡ e.1 → ArePlaced numbers (front ++ e ∷ []) (placed ++ (i, j) ∷ [])
-  placed-more front placed e i j h up i_in j_in first second = record {
+  pub placed-more : (prefix placed : List (ℕ × ℕ)) (e : ℕ × ℕ) (i j : ℕ) → ArePlaced numbers prefix placed → e.0 < e.1 → i < length numbers
+      → j < length numbers → get_or numbers i 0 ≡ e.0 → get_or numbers j 0 ≡ e.1 → ArePlaced numbers (prefix ++ e ∷ []) (placed ++ (i, j) ∷ [])
+  placed-more prefix placed e i j h up i_in j_in first second = record {
     is = ap (λ es. es ++ e ∷ []) h.is
         ∙ (ap (λ (f : ℕ × ℕ). map (edge_at numbers) placed ++ f ∷ []) (let same : e ≡ edge_at numbers (i, j) = λ k. (sym first k, sym second k) in same)
         ∙ sym (map_push (edge_at numbers) placed (i, j)));

@@ -9,11 +9,11 @@ use Rattle.dpl_spec_split.specs.Graphs.{Graph, Walk, stay, step, IsDistance, IsR
 use Rattle.dpl_spec_split.specs.Summary.{Row, IsStar, AreStars, HasOddCycle}
 use Rattle.dpl_spec_split.proofs.GraphLaws.{distance-unique, root-unique}
 use Rattle.dpl_spec_split.proofs.Uniqueness.{star-unique}
-use Rattle.dpl_graph.specs.Laws.{AreOrdered, HasLevelEdge}
-use Rattle.dpl_graph.specs.Levels.{AreLevels}
-use Rattle.dpl_graph.proofs.Walks.{IsUndirected, graph_of-undirected, Walk-reverse, Reaches-sym, root-along, distance-self, Walk-nowhere}
-use Rattle.dpl_graph.proofs.Forks.{level-cycle}
-use Rattle.dpl_graph.proofs.OddLaws.{roots-show}
+use Rattle.dpl_stars.specs.Laws.{AreOrdered, HasLevelEdge}
+use Rattle.dpl_stars.specs.Levels.{AreLevels}
+use Rattle.dpl_stars.proofs.Walks.{IsUndirected, graph_of-undirected, Walk-reverse, Reaches-sym, root-along, distance-self, Walk-nowhere}
+use Rattle.dpl_stars.proofs.Forks.{level-cycle}
+use Rattle.dpl_stars.proofs.OddLaws.{roots-show}
 use Rattle.dpl_stars.specs.declared.list.Star.{Star}
 use Rattle.dpl_stars.specs.Stars.{odd_row, own_row, IsStarList}
 use Rattle.dpl_stars.specs.Sums.{row_of}

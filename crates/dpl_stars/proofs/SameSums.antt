@@ -7,11 +7,11 @@ use Rattle.dpl_spec_split.specs.Graphs.{Graph, Walk, stay, step, IsRoot, graph_o
 use Rattle.dpl_spec_split.specs.Summary.{Row, Stars, Odd, IsStar, AreStars, IsSummary, HasOddCycle}
 use Rattle.dpl_spec_split.specs.Summary as summary
 use Rattle.dpl_spec_split.proofs.GraphLaws.{Walk-trans}
-use Rattle.dpl_graph.specs.Laws.{AreOrdered}
-use Rattle.dpl_graph.proofs.Walks.{graph_of-undirected, Walk-reverse, Walk-first}
-use Rattle.dpl_graph.proofs.Parity.{cycle-closed, odd-closed}
-use Rattle.dpl_graph.proofs.Search.{graph_of-distances}
-use Rattle.dpl_graph.proofs.Forks.{level-cycle}
+use Rattle.dpl_stars.specs.Laws.{AreOrdered}
+use Rattle.dpl_stars.proofs.Walks.{graph_of-undirected, Walk-reverse, Walk-first}
+use Rattle.dpl_stars.proofs.Parity.{cycle-closed, odd-closed}
+use Rattle.dpl_stars.proofs.Search.{graph_of-distances}
+use Rattle.dpl_stars.proofs.Forks.{level-cycle}
 
 -- a walk of an odd number of edges
 abbrev pub OddWalk : Graph → ℕ → ℕ → Type 0

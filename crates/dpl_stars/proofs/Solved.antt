@@ -3,8 +3,8 @@ use Rattle.std.proofs.Common.{◌≡◌, ℕ, ◌<◌, List, map, length, sym, s
 use Rattle.std.specs.List.{All}
 use Rattle.dpl_spec_split.specs.Graphs.{graph_of}
 use Rattle.dpl_spec_split.specs.Summary.{AreStars, HasOddCycle}
-use Rattle.dpl_graph.specs.Laws.{AreOrdered}
-use Rattle.dpl_graph.specs.Levels.{AreLevels}
+use Rattle.dpl_stars.specs.Laws.{AreOrdered}
+use Rattle.dpl_stars.specs.Levels.{AreLevels}
 use Rattle.dpl_stars.specs.declared.list.Star.{Star}
 use Rattle.dpl_stars.specs.Stars.{IsStarList}
 use Rattle.dpl_stars.specs.Sums.{row_of}

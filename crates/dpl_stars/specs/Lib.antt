@@ -1,3 +1,7 @@
+pub mod Levels
+pub mod Laws
+pub mod Arcs
+pub mod Growing
 pub mod Stars
 pub mod Sums
 pub mod Places

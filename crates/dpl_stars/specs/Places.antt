@@ -2,7 +2,7 @@
 use Rattle.std.specs.Prelude.{◌≡◌, ℕ, ◌%◌, ◌<◌, ◌↔◌, ◌==◌, List, [], ◌∷◌, length, slice_index, slice_index_or, map}
 use Rattle.std.specs.List.{AllPairs, Any, Contains, flat_map}
 use Rattle.dpl_spec_split.specs.Graphs.{graph_of}
-use Rattle.dpl_graph.specs.Levels.{AreEdgesBelow}
+use Rattle.dpl_stars.specs.Levels.{AreEdgesBelow}
 use Rattle.dpl_stars.specs.declared.list.Star.{Star}
 
 -- both ends of each edge

@@ -33,7 +33,7 @@ IsTheSummaryOfBoth j k both = (es fs : List (ℕ × ℕ)) (all : Joined) → Are
 -- Edges one after the other: the first sums up some first ones, the second the next ones, and so on to the last.
 abbrev pub AreSummed : List (ℕ × ℕ) → List Joined → Type 0
 AreSummed edges [] = edges ≡ []
-AreSummed edges (j ∷ js) = (front rest : List (ℕ × ℕ)) × (edges ≡ front ++ rest) × AreEdgePairs front × Sums front j × AreSummed rest js
+AreSummed edges (j ∷ js) = (prefix rest : List (ℕ × ℕ)) × (edges ≡ prefix ++ rest) × AreEdgePairs prefix × Sums prefix j × AreSummed rest js
 
 -- What sums up the edges of all: whatever edges these sum up, one after the other, it sums up all of them.
 abbrev pub SumsAll : List Joined → Joined → Type 0

@@ -1,4 +1,4 @@
-//! The summary of an edge list.
+//! The type of summaries.
 use crate::list::StarList;
 
 /// The summary of an edge list, which says how a graph's components are two-coloured.

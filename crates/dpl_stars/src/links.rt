@@ -5,10 +5,10 @@ ghost use Rattle.dpl_stars.specs.Links.{Joins, HasMates, AreLinks};
 
 use crate::list::Star;
 use crate::places::Places;
-use dpl_base::{Edge, Id};
+use dpl_list::{Edge, Id};
 use std::alloc::{AllocError, Global};
 
-/// The pieces of rows.
+/// The piece of each row, in the order of the rows.
 fn pieces_of(alloc: Global, rows: &[Star]) -> Result<Vec<Id>, AllocError>
     ensures { IfOk result (λ v. v.items ≡ map (λ r. r.piece) rows.now) }
 {
@@ -30,7 +30,7 @@ fn mates_of(alloc: Global, places: &Places, rows: &[Star]) -> Result<Vec<Id>, Al
     Ok(mates)
 }
 
-/// The edge between two pieces.
+/// The edge between two pieces, the smaller first.
 fn edge(a: Id, b: Id) -> Edge
     requires { a ≢ b }
     ensures rising { result.0 < result.1 }

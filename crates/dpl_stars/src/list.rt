@@ -1,9 +1,9 @@
-//! The rows of a summary.
+//! The rows of a summary without an odd cycle, one for each piece that an edge touches.
 ghost use Rattle.std.specs.Prelude.{◌≡◌, ◌≢◌, [], MatchOption, IfOk};
 ghost use Rattle.std.specs.List.{All, Contains};
 ghost use Rattle.dpl_stars.specs.Stars.{IsStarList};
 
-use dpl_base::Id;
+use dpl_list::Id;
 use std::alloc::{AllocError, Global};
 use std::marker::Model;
 
@@ -37,7 +37,7 @@ impl Model for StarList {
 }
 
 impl StarList {
-    /// No rows.
+    /// No rows, as of a graph without edges.
     pub fn new(alloc: Global) -> StarList
         ensures { result ≡ [] }
     {
@@ -54,7 +54,7 @@ impl StarList {
         StarList { rows }
     }
 
-    /// The rows.
+    /// The rows, by rising piece.
     pub fn items(&self) -> &[Star]
         ensures value { result.now ≡ self.now }
         ensures ordered { IsStarList self.now }

@@ -1,11 +1,11 @@
-//! Numbers the pieces that edges touch.
+//! The places of the pieces that edges touch, which stand for them as the vertices of a graph.
 ghost use Rattle.std.specs.Prelude.{◌≡◌, ◌≤◌, ◌<◌, length, slice_index, IfOk};
 ghost use Rattle.std.specs.List.{AllPairs, Contains};
 ghost use Rattle.dpl_stars.specs.Places.{AreTouched, ArePlaced};
 ghost use Rattle.dpl_stars.specs.Sums.{AreEdgePairs};
 
 use crate::table::{Table, table_of};
-use dpl_base::{Edge, Id};
+use dpl_list::{Edge, Id};
 use std::alloc::{AllocError, Global};
 use std::marker::Model;
 
@@ -29,7 +29,7 @@ impl Model for Places {
     ghost invariant = { λ p. HasPlaces p.pieces.items p.table };
 }
 
-/// Where a piece stands among the pieces.
+/// Where a piece stands among rising pieces, by binary search.
 fn search(pieces: &[Id], piece: Id) -> Id
     requires rising { AllPairs (λ a b. a < b) pieces.now }
     requires there { Contains pieces.now piece }
@@ -52,14 +52,14 @@ impl Places {
         Ok(Places { pieces, table })
     }
 
-    /// The pieces.
+    /// The pieces, rising; place k is that of the k-th.
     pub fn pieces(&self) -> &[Id]
         ensures { result.now ≡ self.now }
     {
         self.pieces.as_slice()
     }
 
-    /// Where a piece stands.
+    /// Where one of the pieces stands: by the table, or by binary search where there is none.
     pub fn place(&self, piece: Id) -> Id
         requires { Contains self.now piece }
         ensures within { result < length self.now }

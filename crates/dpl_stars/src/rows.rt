@@ -1,11 +1,11 @@
-//! Rows by the levels of a graph.
+//! The rows of a summary, read off the roots and levels of a graph.
 ghost use Rattle.std.specs.Prelude.{◌≡◌, ◌<◌, length, IfOk, IsTrue, ◌↔◌};
 ghost use Rattle.std.specs.List.{All};
-ghost use Rattle.dpl_graph.specs.Levels.{AreEdgesBelow};
+ghost use Rattle.dpl_stars.specs.Levels.{AreEdgesBelow};
 ghost use Rattle.dpl_stars.specs.Places.{IsLevelled, AreRows};
 
 use crate::list::Star;
-use dpl_base::{Edge, Id};
+use dpl_list::{Edge, Id};
 use std::alloc::{AllocError, Global};
 
 /// Whether some edge joins two places of one level.

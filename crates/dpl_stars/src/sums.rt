@@ -1,4 +1,4 @@
-//! Summing up edges.
+//! The summary of an edge list, and the summary of the edges of several summaries.
 ghost use Rattle.std.specs.Prelude.{◌≡◌, IfOk, OnOk, MatchOption, [], IsTrue, ◌↔◌};
 ghost use Rattle.std.specs.List.{Contains};
 ghost use Rattle.dpl_stars.specs.Links.{AddsLinks, StandFor};
@@ -6,13 +6,13 @@ ghost use Rattle.dpl_stars.specs.Sums.{AreEdgePairs, Sums, SumsAll, SumsBoth, Is
 ghost use Rattle.dpl_stars.specs.declared.joined.Joined.TheVariants.{Odd};
 
 use crate::joined::Joined;
+use crate::levels::levels_of;
 use crate::links::links;
 use crate::list::StarList;
 use crate::places::{Places, placed};
 use crate::rows::{is_levelled, rows};
 use crate::touched::touched;
-use dpl_base::{Edge, Id};
-use dpl_graph::levels_of;
+use dpl_list::{Edge, Id};
 use std::alloc::{AllocError, Global};
 
 /// The summary of a list of edges: where they have no odd cycle, for each piece that one of them touches the least
@@ -46,8 +46,7 @@ pub fn merge(alloc: Global, one: &Joined, other: &Joined) -> Result<Joined, Allo
     let mut edges = links(alloc, rows.items())?;
     let more = links(alloc, others.items())?;
     edges.extend_from_slice(&more)?;
-    let joined = stars(alloc, &edges)?;
-    Ok(joined)
+    stars(alloc, &edges)
 }
 
 /// Adds edges that stand for the rows of a summary.
@@ -55,8 +54,7 @@ fn add_links(alloc: Global, edges: &mut Vec<Edge>, rows: &StarList) -> Result<()
     ensures { OnOk result (AddsLinks rows.now edges.old.items edges.new.items) }
 {
     let more = links(alloc, rows.items())?;
-    edges.extend_from_slice(&more)?;
-    Ok(())
+    edges.extend_from_slice(&more)
 }
 
 /// Edges that stand for the rows of all summaries, where none of these has an odd cycle.
@@ -78,10 +76,7 @@ pub fn merge_all(alloc: Global, sums: &[Joined]) -> Result<Joined, AllocError>
     ensures { IfOk result (λ all. SumsAll sums.now all) }
 {
     match all_links(alloc, sums)? {
-        Some(edges) => {
-            let joined = stars(alloc, &edges)?;
-            Ok(joined)
-        }
+        Some(edges) => stars(alloc, &edges),
         None => Ok(Joined::Odd),
     }
 }
@@ -111,10 +106,7 @@ impl Joined {
         ensures { IfOk result (λ joined. joined ≡ self.now) }
     {
         match self {
-            Joined::Stars(rows) => {
-                let copied = rows.copy(alloc)?;
-                Ok(Joined::Stars(copied))
-            }
+            Joined::Stars(rows) => Ok(Joined::Stars(rows.copy(alloc)?)),
             Joined::Odd => Ok(Joined::Odd),
         }
     }

@@ -1,9 +1,9 @@
-//! Tables of numbers that lie close together.
+//! A table by which a number is found among others that lie close together.
 ghost use Rattle.std.specs.Prelude.{◌≡◌, ◌+◌, ◌^◌, ◌<◌, ◌≤◌, length, slice_index, IfOk, IfSome};
 ghost use Rattle.std.specs.List.{All, AllPairs};
 ghost use Rattle.dpl_stars.specs.Tables.{IsTable, IsSpan};
 
-use dpl_base::Id;
+use dpl_list::Id;
 use std::alloc::{AllocError, Global};
 
 /// How many entries a table may have for each number that it is made for.
@@ -39,7 +39,7 @@ fn span_of(numbers: &[Id]) -> Option<usize>
     close_span(least, greatest, numbers.len())
 }
 
-/// The table of rising numbers.
+/// The table of rising numbers, with an entry for each number from the first to the last of them.
 fn filled(alloc: Global, numbers: &[Id], span: usize) -> Result<Table, AllocError>
     requires rising { AllPairs (λ a b. a < b) numbers.now }
     requires span { IsSpan numbers.now span }
@@ -61,6 +61,5 @@ pub fn table_of(alloc: Global, numbers: &[Id]) -> Result<Option<Table>, AllocErr
     let Some(span) = span_of(numbers) else {
         return Ok(None);
     };
-    let table = filled(alloc, numbers, span)?;
-    Ok(Some(table))
+    Ok(Some(filled(alloc, numbers, span)?))
 }

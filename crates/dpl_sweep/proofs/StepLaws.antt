@@ -11,8 +11,8 @@ use Rattle.std.proofs.lemmas.List.Sorted.{Contains-permutation}
 use Rattle.dpl_sweep.specs.declared.edge.Edge.{Edge}
 use Rattle.dpl_sweep.specs.declared.edge.Rule.{Rule}
 use Rattle.dpl_sweep.specs.declared.run.Run.{Run}
-use Rattle.dpl_sweep.specs.declared.fixed.Span.{Span}
-use Rattle.dpl_sweep.specs.Fixed.{AddsStep, AreReady, AreSpansOf, AreSteps, HasEnds, IsInSome, IsReady, IsStep, row_at, span_at}
+use Rattle.dpl_sweep.specs.declared.spans.Span.{Span}
+use Rattle.dpl_sweep.specs.Spans.{AddsStep, AreReady, AreSpansOf, AreSteps, HasEnds, IsInSome, IsReady, IsStep, row_at, span_at}
 use Rattle.dpl_sweep.specs.Orders.{EdgesRise, RowsRise}
 use Rattle.dpl_sweep.specs.Passes.{IsStart}
 use Rattle.dpl_sweep.proofs.PassLaws.{start-swept, none-ends, none-apart}

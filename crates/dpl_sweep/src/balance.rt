@@ -39,7 +39,7 @@ fn two(alloc: Global, rule: Rule, below: Bands, row: i32, above: Bands) -> Resul
     }
 }
 
-/// The two parts with the topmost cut of the upper one on top.
+/// The two parts with the topmost cut of the upper one on top, as a rotation brings it there.
 fn lift_above(
     alloc: Global,
     rule: Rule,
@@ -55,13 +55,12 @@ fn lift_above(
         Parts::Whole(run) => two(alloc, rule, below, row, Bands::One(run)),
         Parts::Split(middle, last, high) => {
             let lower = two(alloc, rule, below, row, middle)?;
-            let all = two(alloc, rule, lower, last, high)?;
-            Ok(all)
+            two(alloc, rule, lower, last, high)
         }
     }
 }
 
-/// The two parts with the topmost cut of the lower one on top.
+/// The two parts with the topmost cut of the lower one on top, as a rotation brings it there.
 fn lift_below(
     alloc: Global,
     rule: Rule,
@@ -77,8 +76,7 @@ fn lift_below(
         Parts::Whole(run) => two(alloc, rule, Bands::One(run), row, above),
         Parts::Split(low, first, middle) => {
             let upper = two(alloc, rule, middle, row, above)?;
-            let all = two(alloc, rule, low, first, upper)?;
-            Ok(all)
+            two(alloc, rule, low, first, upper)
         }
     }
 }
@@ -99,8 +97,8 @@ fn leans_above(bands: &Bands) -> bool {
     }
 }
 
-/// The same bands, whose lower part isn't the higher one.
-fn turned_up(alloc: Global, rule: Rule, bands: Bands) -> Result<Bands, AllocError>
+/// The same bands, rotated so that the lower part isn't the higher one.
+fn rotated_up(alloc: Global, rule: Rule, bands: Bands) -> Result<Bands, AllocError>
     requires { IsSmall (2 ^ 62) bands }
     ensures { IfOk result (λ t. Mends rule bands t) }
 {
@@ -109,15 +107,12 @@ fn turned_up(alloc: Global, rule: Rule, bands: Bands) -> Result<Bands, AllocErro
     }
     match take_apart(bands) {
         Parts::Whole(run) => Ok(Bands::One(run)),
-        Parts::Split(below, row, above) => {
-            let tree = lift_below(alloc, rule, below, row, above)?;
-            Ok(tree)
-        }
+        Parts::Split(below, row, above) => lift_below(alloc, rule, below, row, above),
     }
 }
 
-/// The same bands, whose upper part isn't the higher one.
-fn turned_down(alloc: Global, rule: Rule, bands: Bands) -> Result<Bands, AllocError>
+/// The same bands, rotated so that the upper part isn't the higher one.
+fn rotated_down(alloc: Global, rule: Rule, bands: Bands) -> Result<Bands, AllocError>
     requires { IsSmall (2 ^ 62) bands }
     ensures { IfOk result (λ t. Mends rule bands t) }
 {
@@ -126,10 +121,7 @@ fn turned_down(alloc: Global, rule: Rule, bands: Bands) -> Result<Bands, AllocEr
     }
     match take_apart(bands) {
         Parts::Whole(run) => Ok(Bands::One(run)),
-        Parts::Split(below, row, above) => {
-            let tree = lift_above(alloc, rule, below, row, above)?;
-            Ok(tree)
-        }
+        Parts::Split(below, row, above) => lift_above(alloc, rule, below, row, above),
     }
 }
 
@@ -156,14 +148,12 @@ fn balanced(
     ensures { IfOk result (λ t. IsMended rule below row above t) }
 {
     if is_higher(&above, &below) {
-        let upper = turned_up(alloc, rule, above)?;
-        let tree = lift_above(alloc, rule, below, row, upper)?;
-        return Ok(tree);
+        let upper = rotated_up(alloc, rule, above)?;
+        return lift_above(alloc, rule, below, row, upper);
     }
     if is_higher(&below, &above) {
-        let lower = turned_down(alloc, rule, below)?;
-        let tree = lift_below(alloc, rule, lower, row, above)?;
-        return Ok(tree);
+        let lower = rotated_down(alloc, rule, below)?;
+        return lift_below(alloc, rule, lower, row, above);
     }
     two(alloc, rule, below, row, above)
 }
@@ -185,8 +175,7 @@ pub fn join(
             Parts::Whole(run) => two(alloc, rule, Bands::One(run), row, above),
             Parts::Split(low, first, middle) => {
                 let upper = join(alloc, rule, middle, row, above)?;
-                let whole = balanced(alloc, rule, low, first, upper)?;
-                Ok(whole)
+                balanced(alloc, rule, low, first, upper)
             }
         };
     }
@@ -195,8 +184,7 @@ pub fn join(
             Parts::Whole(run) => two(alloc, rule, below, row, Bands::One(run)),
             Parts::Split(middle, last, high) => {
                 let lower = join(alloc, rule, below, row, middle)?;
-                let all = balanced(alloc, rule, lower, last, high)?;
-                Ok(all)
+                balanced(alloc, rule, lower, last, high)
             }
         };
     }
@@ -210,9 +198,6 @@ pub fn mended(alloc: Global, rule: Rule, bands: Bands) -> Result<Bands, AllocErr
 {
     match take_apart(bands) {
         Parts::Whole(run) => Ok(Bands::One(run)),
-        Parts::Split(below, row, above) => {
-            let tree = join(alloc, rule, below, row, above)?;
-            Ok(tree)
-        }
+        Parts::Split(below, row, above) => join(alloc, rule, below, row, above),
     }
 }

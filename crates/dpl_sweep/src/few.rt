@@ -1,4 +1,4 @@
-//! Edges that begin and end at few rows, band by band: the rows between two neighbours of these have the same run at each column.
+//! The sweep of edges that begin and end at few rows, band by band: the rows between two neighbours of these have the same run at each column.
 ghost use Rattle.std.specs.Prelude.{◌≡◌, ◌⊎◌, ◌<◌, ◌^◌, ◌≤ℤ◌, ◌<ℤ◌, IfOk, OnOk, length};
 ghost use Rattle.std.specs.List.{All, Contains};
 ghost use Rattle.dpl_spec_split.specs.Squares.{Covers, SameSquares};
@@ -12,23 +12,13 @@ ghost use Rattle.dpl_sweep.specs.Pieces.{AreApart};
 ghost use Rattle.dpl_sweep.specs.Rows.{AreRows, IsSmall};
 
 use crate::edge::{Edge, Rule};
-use crate::fixed::pieces_of_many;
 use crate::run::{Run, moved, put_run};
 use crate::step::misses;
 use dpl_spec_split::Rect;
 use std::alloc::{AllocError, Global};
 
-/// Up to how many edges are swept band by band, however many bands there are.
-const FEW: usize = 64;
-
-/// Up to how many edges are swept band by band where there are few bands.
-const MANY: usize = 4096;
-
-/// How many bands are few.
-const BANDS: usize = 16;
-
 /// The lowest row that an edge is beside, and the one above the highest.
-fn rows_of(edges: &[Edge]) -> (i32, i32)
+pub fn rows_of(edges: &[Edge]) -> (i32, i32)
     ensures { All (IsWithin result.0 result.1) edges.now }
 {
     let mut low = i32::MAX;
@@ -53,7 +43,7 @@ fn row_above(y: i32, row: i32, top: i32) -> i32
 }
 
 /// The nearest row above a row at which an edge begins or ends, up to `top`.
-fn next_row(edges: &[Edge], row: i32, top: i32) -> i32
+pub fn next_row(edges: &[Edge], row: i32, top: i32) -> i32
     requires { row <ℤ top }
     ensures above { row <ℤ result }
     ensures below { result ≤ℤ top }
@@ -116,12 +106,11 @@ fn sweep_band(
     for i in 0..edges.len() {
         run = pass_band(run, rule, &edges[i], low, high, i, pieces)?;
     }
-    put_run(&run, low, high, pieces)?;
-    Ok(())
+    put_run(&run, low, high, pieces)
 }
 
 /// The pieces of the set that edges tell, band by band.
-fn pieces_by_bands(alloc: Global, edges: &[Edge], rule: Rule) -> Result<Vec<Rect>, AllocError>
+pub fn pieces_by_bands(alloc: Global, edges: &[Edge], rule: Rule) -> Result<Vec<Rect>, AllocError>
     requires room { length edges.now < 2 ^ 62 }
     requires rise { EdgesRise edges.now }
     requires units { AreUnitEdges edges.now }
@@ -146,37 +135,4 @@ fn pieces_by_bands(alloc: Global, edges: &[Edge], rule: Rule) -> Result<Vec<Rect
         low = high;
     }
     Ok(pieces)
-}
-
-/// Whether the edges are few, or end in few rows.
-fn have_few_bands(edges: &[Edge]) -> bool {
-    if edges.len() <= FEW {
-        return true;
-    }
-    if edges.len() > MANY {
-        return false;
-    }
-    let (mut row, top) = rows_of(edges);
-    for _ in 0..BANDS {
-        if row >= top {
-            return true;
-        }
-        row = next_row(edges, row, top);
-    }
-    false
-}
-
-/// The pieces of the set that edges tell: band by band where there are few bands, else as those of many.
-pub fn pieces_of(alloc: Global, edges: &[Edge], rule: Rule) -> Result<Vec<Rect>, AllocError>
-    requires room { length edges.now < 2 ^ 62 }
-    requires rise { EdgesRise edges.now }
-    requires units { AreUnitEdges edges.now }
-    requires closed { IsClosed rule edges.now }
-    ensures apart { IfOk result (λ v. AreApart v.items) }
-    ensures covers { IfOk result (λ v. SameSquares (Covers v.items) (Told rule edges.now)) }
-{
-    if have_few_bands(edges) {
-        return pieces_by_bands(alloc, edges, rule);
-    }
-    pieces_of_many(alloc, edges, rule)
 }

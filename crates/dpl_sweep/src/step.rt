@@ -71,8 +71,7 @@ fn parted(
     let row = end_inside(edge, low, high);
     let below = parted(alloc, run, rule, edge, low, row, count, pieces)?;
     let above = parted(alloc, run, rule, edge, row, high, count, pieces)?;
-    let both = join(alloc, rule, below, row, above)?;
-    Ok(both)
+    join(alloc, rule, below, row, above)
 }
 
 impl Bands {

@@ -1,6 +1,6 @@
 -- Reading the body of an element.
-use Rattle.std.proofs.Common.{◌≡◌, ◌≢◌, ℕ, Bool, true, false, not, ◌&&◌, ◌||◌, ◌⊎◌, inl, inr, cond, eqb, List, [], ◌∷◌, ◌++◌, length}
-use Rattle.std.proofs.Common.{Option, Some, None, Result, Ok, Err, refl, sym, subst, ap, ◌∙◌, append_assoc}
+use Rattle.std.proofs.Common.{◌≡◌, ℕ, Bool, true, false, ◌||◌, ◌⊎◌, inl, inr, cond, eqb, List, [], ◌∷◌, ◌++◌}
+use Rattle.std.proofs.Common.{None, Ok, Err, refl, sym, subst, ap, ◌∙◌}
 use Rattle.std.proofs.lemmas.Bool.{eqb-true, eqb-false, eq-eqb}
 use Rattle.std.proofs.lemmas.List.Sums.{fold_push}
 use Rattle.dpl_spec_format.specs.Kinds as kinds
@@ -8,19 +8,17 @@ use Rattle.dpl_spec_format.specs.Faults.{Fault}
 use Rattle.dpl_spec_format.specs.Records.{Record, record_at}
 use Rattle.dpl_spec_format.specs.Grammar.{Grammar, one, both, either, many, maybe, Has, a}
 use Rattle.dpl_spec_format.specs.Grammar as grammar
-use Rattle.dpl_spec_format.specs.Stream.{owner, names, refusal, refusal_in}
+use Rattle.dpl_spec_format.specs.Stream.{owner, names, refusal_in}
 use Rattle.dpl_spec_format.specs.Tree.{Body, body_of}
 use Rattle.dpl_spec_format.specs.Layout.{IsFirstFault}
 use Rattle.dpl_syntax.specs.Reading as reading
-use Rattle.dpl_syntax.specs.Reading.{◌>>=◌, Slots, Item, must, may, turned, named, points, items_of, pick, body_at}
+use Rattle.dpl_syntax.specs.Reading.{◌>>=◌, Slots, Item, must, may, transformed, named, points, items_of, pick, body_at}
 use Rattle.dpl_syntax.specs.Reached.{Reached}
-use Rattle.dpl_syntax.specs.Inner.{is_inner, AreInner}
-use Rattle.dpl_syntax.proofs.Languages.{Avoids, IsSolid, Exists, Moves, Agrees, avoids_one, solid_one, avoids_both, solid_both}
+use Rattle.dpl_syntax.proofs.Languages.{Avoids, IsSolid, Exists, Moves, solid_one, solid_both}
 use Rattle.dpl_syntax.proofs.Languages.{avoids_either, solid_either, moves_one, moves_agreed, agrees_both, takes_first, takes_second}
 use Rattle.dpl_syntax.proofs.Languages.{regroups, regroups_back, agrees_regrouped, exists_rest, exists_both}
-use Rattle.dpl_syntax.proofs.Steps.{agreed, moved}
-use Rattle.dpl_syntax.proofs.Slotting.{decide, Slotted}
-use Rattle.dpl_syntax.proofs.Items.{Goes, IsFine, Turnable, bind_ok, bind_err, done, ok_is, not_ok}
+use Rattle.dpl_syntax.proofs.Steps.{moved}
+use Rattle.dpl_syntax.proofs.Items.{Goes, bind_ok, bind_err, ok_is, not_ok}
 use Rattle.dpl_syntax.proofs.Lists.{grammar_of, behind, AllFit, items_ok, items_err, avoids_items, avoids_a, or_first, or_second}
 
 -- ---- the seven types
@@ -122,9 +120,9 @@ fits_path rest = (
 fits_sref : (rest : Grammar) → AllFit kinds.sref rest (items_of kinds.sref)
 unfolding refusal_in
 fits_sref rest = (
-  (record { plain = λ known at body. refl; inner = refl }, avoids_items (may kinds.plex ∷ named ∷ turned ∷ points 8 ∷ []) rest kinds.elflags refl),
+  (record { plain = λ known at body. refl; inner = refl }, avoids_items (may kinds.plex ∷ named ∷ transformed ∷ points 8 ∷ []) rest kinds.elflags refl),
   (
-    (record { plain = λ known at body. refl; inner = refl }, avoids_items (named ∷ turned ∷ points 8 ∷ []) rest kinds.plex refl),
+    (record { plain = λ known at body. refl; inner = refl }, avoids_items (named ∷ transformed ∷ points 8 ∷ []) rest kinds.plex refl),
     (
       tt,
       (
@@ -150,9 +148,9 @@ fits_sref rest = (
 fits_aref : (rest : Grammar) → AllFit kinds.aref rest (items_of kinds.aref)
 unfolding refusal_in
 fits_aref rest = (
-  (record { plain = λ known at body. refl; inner = refl }, avoids_items (may kinds.plex ∷ named ∷ turned ∷ must kinds.colrow ∷ points 24 ∷ []) rest kinds.elflags refl),
+  (record { plain = λ known at body. refl; inner = refl }, avoids_items (may kinds.plex ∷ named ∷ transformed ∷ must kinds.colrow ∷ points 24 ∷ []) rest kinds.elflags refl),
   (
-    (record { plain = λ known at body. refl; inner = refl }, avoids_items (named ∷ turned ∷ must kinds.colrow ∷ points 24 ∷ []) rest kinds.plex refl),
+    (record { plain = λ known at body. refl; inner = refl }, avoids_items (named ∷ transformed ∷ must kinds.colrow ∷ points 24 ∷ []) rest kinds.plex refl),
     (
       tt,
       (
@@ -185,12 +183,12 @@ fits_text rest = (
   (
     record { plain = λ known at body. refl; inner = refl },
     avoids_items (may kinds.plex ∷ must kinds.layer ∷ must kinds.texttype ∷ may kinds.presentation ∷ may kinds.pathtype ∷ may kinds.width
-        ∷ turned ∷ points 8 ∷ must kinds.text_string ∷ []) rest kinds.elflags refl,
+        ∷ transformed ∷ points 8 ∷ must kinds.text_string ∷ []) rest kinds.elflags refl,
   ),
   (
     (
       record { plain = λ known at body. refl; inner = refl },
-      avoids_items (must kinds.layer ∷ must kinds.texttype ∷ may kinds.presentation ∷ may kinds.pathtype ∷ may kinds.width ∷ turned
+      avoids_items (must kinds.layer ∷ must kinds.texttype ∷ may kinds.presentation ∷ may kinds.pathtype ∷ may kinds.width ∷ transformed
           ∷ points 8 ∷ must kinds.text_string ∷ []) rest kinds.plex refl,
     ),
     (
@@ -200,13 +198,16 @@ fits_text rest = (
         (
           (
             record { plain = λ known at body. refl; inner = refl },
-            avoids_items (may kinds.pathtype ∷ may kinds.width ∷ turned ∷ points 8 ∷ must kinds.text_string ∷ []) rest kinds.presentation
+            avoids_items (may kinds.pathtype ∷ may kinds.width ∷ transformed ∷ points 8 ∷ must kinds.text_string ∷ []) rest kinds.presentation
                 refl,
           ),
           (
-            (record { plain = λ known at body. refl; inner = refl }, avoids_items (may kinds.width ∷ turned ∷ points 8 ∷ must kinds.text_string ∷ []) rest kinds.pathtype refl),
             (
-              (record { plain = λ known at body. refl; inner = refl }, avoids_items (turned ∷ points 8 ∷ must kinds.text_string ∷ []) rest kinds.width refl),
+              record { plain = λ known at body. refl; inner = refl },
+              avoids_items (may kinds.width ∷ transformed ∷ points 8 ∷ must kinds.text_string ∷ []) rest kinds.pathtype refl,
+            ),
+            (
+              (record { plain = λ known at body. refl; inner = refl }, avoids_items (transformed ∷ points 8 ∷ must kinds.text_string ∷ []) rest kinds.width refl),
               (
                 record {
                   strans = record { plain = λ known at body. refl; inner = refl };
@@ -296,7 +297,7 @@ rolls i (j ∷ is) rest ks h = regroups_back (grammar_of i) (whole j is) rest ks
 exists_item : (i : Item) → Exists (grammar_of i)
 exists_item (must kind) = (kind ∷ [], (kind, refl, eq-eqb kind kind refl))
 exists_item (may kind) = ([], inl refl)
-exists_item turned = ([], inl refl)
+exists_item transformed = ([], inl refl)
 exists_item named = (kinds.sname ∷ [], (kinds.sname, refl, refl))
 exists_item (points len) = (kinds.xy ∷ [], (kinds.xy, refl, refl))
 
@@ -333,13 +334,13 @@ enters_boundary rest =
     (whole (may kinds.elflags) (may kinds.plex ∷ must kinds.layer ∷ must kinds.datatype ∷ may kinds.pathtype ∷ may kinds.width ∷ may
     kinds.bgnextn ∷ may kinds.endextn ∷ must kinds.xy ∷ [])) refl)
     (avoids_either grammar.sref (either grammar.aref (either grammar.text (either grammar.node grammar.box))) kinds.boundary
-    (other kinds.sref kinds.boundary (whole (may kinds.elflags) (may kinds.plex ∷ named ∷ turned ∷ points 8 ∷ [])) refl)
+    (other kinds.sref kinds.boundary (whole (may kinds.elflags) (may kinds.plex ∷ named ∷ transformed ∷ points 8 ∷ [])) refl)
     (avoids_either grammar.aref (either grammar.text (either grammar.node grammar.box)) kinds.boundary
-    (other kinds.aref kinds.boundary (whole (may kinds.elflags) (may kinds.plex ∷ named ∷ turned ∷ must kinds.colrow ∷ points 24 ∷ []))
+    (other kinds.aref kinds.boundary (whole (may kinds.elflags) (may kinds.plex ∷ named ∷ transformed ∷ must kinds.colrow ∷ points 24 ∷ []))
     refl) (avoids_either grammar.text (either grammar.node grammar.box) kinds.boundary
     (other kinds.text kinds.boundary
     (whole (may kinds.elflags) (may kinds.plex ∷ must kinds.layer ∷ must kinds.texttype ∷ may kinds.presentation ∷ may kinds.pathtype
-    ∷ may kinds.width ∷ turned ∷ points 8 ∷ must kinds.text_string ∷ [])) refl) (avoids_either grammar.node grammar.box kinds.boundary
+    ∷ may kinds.width ∷ transformed ∷ points 8 ∷ must kinds.text_string ∷ [])) refl) (avoids_either grammar.node grammar.box kinds.boundary
     (other kinds.node kinds.boundary
     (whole (may kinds.elflags) (may kinds.plex ∷ must kinds.layer ∷ must kinds.nodetype ∷ must kinds.xy ∷ [])) refl)
     (other kinds.box kinds.boundary
@@ -349,12 +350,12 @@ enters_boundary rest =
     (may kinds.plex ∷ must kinds.layer ∷ must kinds.datatype ∷ may kinds.pathtype ∷ may kinds.width ∷ may kinds.bgnextn ∷ may
     kinds.endextn ∷ must kinds.xy ∷ [])))
     (solid_either grammar.sref (either grammar.aref (either grammar.text (either grammar.node grammar.box)))
-    (solid kinds.sref (whole (may kinds.elflags) (may kinds.plex ∷ named ∷ turned ∷ points 8 ∷ [])))
+    (solid kinds.sref (whole (may kinds.elflags) (may kinds.plex ∷ named ∷ transformed ∷ points 8 ∷ [])))
     (solid_either grammar.aref (either grammar.text (either grammar.node grammar.box))
-    (solid kinds.aref (whole (may kinds.elflags) (may kinds.plex ∷ named ∷ turned ∷ must kinds.colrow ∷ points 24 ∷ [])))
+    (solid kinds.aref (whole (may kinds.elflags) (may kinds.plex ∷ named ∷ transformed ∷ must kinds.colrow ∷ points 24 ∷ [])))
     (solid_either grammar.text (either grammar.node grammar.box)
     (solid kinds.text (whole (may kinds.elflags)
-    (may kinds.plex ∷ must kinds.layer ∷ must kinds.texttype ∷ may kinds.presentation ∷ may kinds.pathtype ∷ may kinds.width ∷ turned
+    (may kinds.plex ∷ must kinds.layer ∷ must kinds.texttype ∷ may kinds.presentation ∷ may kinds.pathtype ∷ may kinds.width ∷ transformed
     ∷ points 8 ∷ must kinds.text_string ∷ [])))
     (solid_either grammar.node grammar.box
     (solid kinds.node (whole (may kinds.elflags) (may kinds.plex ∷ must kinds.layer ∷ must kinds.nodetype ∷ must kinds.xy ∷ [])))
@@ -375,23 +376,23 @@ enters_path rest =
     (solid kinds.boundary (whole (may kinds.elflags) (may kinds.plex ∷ must kinds.layer ∷ must kinds.datatype ∷ must kinds.xy ∷ []))))
     (takes_first grammar.path (either grammar.sref (either grammar.aref (either grammar.text (either grammar.node grammar.box)))) rest
     kinds.path (avoids_either grammar.sref (either grammar.aref (either grammar.text (either grammar.node grammar.box))) kinds.path
-    (other kinds.sref kinds.path (whole (may kinds.elflags) (may kinds.plex ∷ named ∷ turned ∷ points 8 ∷ [])) refl)
+    (other kinds.sref kinds.path (whole (may kinds.elflags) (may kinds.plex ∷ named ∷ transformed ∷ points 8 ∷ [])) refl)
     (avoids_either grammar.aref (either grammar.text (either grammar.node grammar.box)) kinds.path
-    (other kinds.aref kinds.path (whole (may kinds.elflags) (may kinds.plex ∷ named ∷ turned ∷ must kinds.colrow ∷ points 24 ∷ [])) refl)
+    (other kinds.aref kinds.path (whole (may kinds.elflags) (may kinds.plex ∷ named ∷ transformed ∷ must kinds.colrow ∷ points 24 ∷ [])) refl)
     (avoids_either grammar.text (either grammar.node grammar.box) kinds.path
     (other kinds.text kinds.path
     (whole (may kinds.elflags) (may kinds.plex ∷ must kinds.layer ∷ must kinds.texttype ∷ may kinds.presentation ∷ may kinds.pathtype
-    ∷ may kinds.width ∷ turned ∷ points 8 ∷ must kinds.text_string ∷ [])) refl) (avoids_either grammar.node grammar.box kinds.path
+    ∷ may kinds.width ∷ transformed ∷ points 8 ∷ must kinds.text_string ∷ [])) refl) (avoids_either grammar.node grammar.box kinds.path
     (other kinds.node kinds.path
     (whole (may kinds.elflags) (may kinds.plex ∷ must kinds.layer ∷ must kinds.nodetype ∷ must kinds.xy ∷ [])) refl)
     (other kinds.box kinds.path (whole (may kinds.elflags) (may kinds.plex ∷ must kinds.layer ∷ must kinds.boxtype ∷ must kinds.xy ∷ []))
     refl))))) (solid_either grammar.sref (either grammar.aref (either grammar.text (either grammar.node grammar.box)))
-    (solid kinds.sref (whole (may kinds.elflags) (may kinds.plex ∷ named ∷ turned ∷ points 8 ∷ [])))
+    (solid kinds.sref (whole (may kinds.elflags) (may kinds.plex ∷ named ∷ transformed ∷ points 8 ∷ [])))
     (solid_either grammar.aref (either grammar.text (either grammar.node grammar.box))
-    (solid kinds.aref (whole (may kinds.elflags) (may kinds.plex ∷ named ∷ turned ∷ must kinds.colrow ∷ points 24 ∷ [])))
+    (solid kinds.aref (whole (may kinds.elflags) (may kinds.plex ∷ named ∷ transformed ∷ must kinds.colrow ∷ points 24 ∷ [])))
     (solid_either grammar.text (either grammar.node grammar.box)
     (solid kinds.text (whole (may kinds.elflags)
-    (may kinds.plex ∷ must kinds.layer ∷ must kinds.texttype ∷ may kinds.presentation ∷ may kinds.pathtype ∷ may kinds.width ∷ turned
+    (may kinds.plex ∷ must kinds.layer ∷ must kinds.texttype ∷ may kinds.presentation ∷ may kinds.pathtype ∷ may kinds.width ∷ transformed
     ∷ points 8 ∷ must kinds.text_string ∷ [])))
     (solid_either grammar.node grammar.box
     (solid kinds.node (whole (may kinds.elflags) (may kinds.plex ∷ must kinds.layer ∷ must kinds.nodetype ∷ must kinds.xy ∷ [])))
@@ -425,24 +426,24 @@ enters_sref rest =
     kinds.endextn ∷ must kinds.xy ∷ []))))
     (takes_first grammar.sref (either grammar.aref (either grammar.text (either grammar.node grammar.box))) rest kinds.sref
     (avoids_either grammar.aref (either grammar.text (either grammar.node grammar.box)) kinds.sref
-    (other kinds.aref kinds.sref (whole (may kinds.elflags) (may kinds.plex ∷ named ∷ turned ∷ must kinds.colrow ∷ points 24 ∷ [])) refl)
+    (other kinds.aref kinds.sref (whole (may kinds.elflags) (may kinds.plex ∷ named ∷ transformed ∷ must kinds.colrow ∷ points 24 ∷ [])) refl)
     (avoids_either grammar.text (either grammar.node grammar.box) kinds.sref
     (other kinds.text kinds.sref
     (whole (may kinds.elflags) (may kinds.plex ∷ must kinds.layer ∷ must kinds.texttype ∷ may kinds.presentation ∷ may kinds.pathtype
-    ∷ may kinds.width ∷ turned ∷ points 8 ∷ must kinds.text_string ∷ [])) refl) (avoids_either grammar.node grammar.box kinds.sref
+    ∷ may kinds.width ∷ transformed ∷ points 8 ∷ must kinds.text_string ∷ [])) refl) (avoids_either grammar.node grammar.box kinds.sref
     (other kinds.node kinds.sref
     (whole (may kinds.elflags) (may kinds.plex ∷ must kinds.layer ∷ must kinds.nodetype ∷ must kinds.xy ∷ [])) refl)
     (other kinds.box kinds.sref (whole (may kinds.elflags) (may kinds.plex ∷ must kinds.layer ∷ must kinds.boxtype ∷ must kinds.xy ∷ []))
     refl)))) (solid_either grammar.aref (either grammar.text (either grammar.node grammar.box))
-    (solid kinds.aref (whole (may kinds.elflags) (may kinds.plex ∷ named ∷ turned ∷ must kinds.colrow ∷ points 24 ∷ [])))
+    (solid kinds.aref (whole (may kinds.elflags) (may kinds.plex ∷ named ∷ transformed ∷ must kinds.colrow ∷ points 24 ∷ [])))
     (solid_either grammar.text (either grammar.node grammar.box)
     (solid kinds.text (whole (may kinds.elflags)
-    (may kinds.plex ∷ must kinds.layer ∷ must kinds.texttype ∷ may kinds.presentation ∷ may kinds.pathtype ∷ may kinds.width ∷ turned
+    (may kinds.plex ∷ must kinds.layer ∷ must kinds.texttype ∷ may kinds.presentation ∷ may kinds.pathtype ∷ may kinds.width ∷ transformed
     ∷ points 8 ∷ must kinds.text_string ∷ [])))
     (solid_either grammar.node grammar.box
     (solid kinds.node (whole (may kinds.elflags) (may kinds.plex ∷ must kinds.layer ∷ must kinds.nodetype ∷ must kinds.xy ∷ [])))
     (solid kinds.box (whole (may kinds.elflags) (may kinds.plex ∷ must kinds.layer ∷ must kinds.boxtype ∷ must kinds.xy ∷ [])))))))))
-    (body_moves kinds.sref (may kinds.elflags) (may kinds.plex ∷ named ∷ turned ∷ points 8 ∷ []) rest)
+    (body_moves kinds.sref (may kinds.elflags) (may kinds.plex ∷ named ∷ transformed ∷ points 8 ∷ []) rest)
 
 enters_aref : (rest : Grammar) → Moves (both choice rest) kinds.aref (behind (items_of kinds.aref) rest)
 enters_aref rest =
@@ -470,24 +471,24 @@ enters_aref rest =
     (agrees_both (both (either grammar.sref (either grammar.aref (either grammar.text (either grammar.node grammar.box)))) rest)
     (both (either grammar.aref (either grammar.text (either grammar.node grammar.box))) rest) (both grammar.aref rest) kinds.aref
     (takes_second grammar.sref (either grammar.aref (either grammar.text (either grammar.node grammar.box))) rest kinds.aref
-    (other kinds.sref kinds.aref (whole (may kinds.elflags) (may kinds.plex ∷ named ∷ turned ∷ points 8 ∷ [])) refl)
-    (solid kinds.sref (whole (may kinds.elflags) (may kinds.plex ∷ named ∷ turned ∷ points 8 ∷ []))))
+    (other kinds.sref kinds.aref (whole (may kinds.elflags) (may kinds.plex ∷ named ∷ transformed ∷ points 8 ∷ [])) refl)
+    (solid kinds.sref (whole (may kinds.elflags) (may kinds.plex ∷ named ∷ transformed ∷ points 8 ∷ []))))
     (takes_first grammar.aref (either grammar.text (either grammar.node grammar.box)) rest kinds.aref
     (avoids_either grammar.text (either grammar.node grammar.box) kinds.aref
     (other kinds.text kinds.aref
     (whole (may kinds.elflags) (may kinds.plex ∷ must kinds.layer ∷ must kinds.texttype ∷ may kinds.presentation ∷ may kinds.pathtype
-    ∷ may kinds.width ∷ turned ∷ points 8 ∷ must kinds.text_string ∷ [])) refl) (avoids_either grammar.node grammar.box kinds.aref
+    ∷ may kinds.width ∷ transformed ∷ points 8 ∷ must kinds.text_string ∷ [])) refl) (avoids_either grammar.node grammar.box kinds.aref
     (other kinds.node kinds.aref
     (whole (may kinds.elflags) (may kinds.plex ∷ must kinds.layer ∷ must kinds.nodetype ∷ must kinds.xy ∷ [])) refl)
     (other kinds.box kinds.aref (whole (may kinds.elflags) (may kinds.plex ∷ must kinds.layer ∷ must kinds.boxtype ∷ must kinds.xy ∷ []))
     refl))) (solid_either grammar.text (either grammar.node grammar.box)
     (solid kinds.text (whole (may kinds.elflags)
-    (may kinds.plex ∷ must kinds.layer ∷ must kinds.texttype ∷ may kinds.presentation ∷ may kinds.pathtype ∷ may kinds.width ∷ turned
+    (may kinds.plex ∷ must kinds.layer ∷ must kinds.texttype ∷ may kinds.presentation ∷ may kinds.pathtype ∷ may kinds.width ∷ transformed
     ∷ points 8 ∷ must kinds.text_string ∷ [])))
     (solid_either grammar.node grammar.box
     (solid kinds.node (whole (may kinds.elflags) (may kinds.plex ∷ must kinds.layer ∷ must kinds.nodetype ∷ must kinds.xy ∷ [])))
     (solid kinds.box (whole (may kinds.elflags) (may kinds.plex ∷ must kinds.layer ∷ must kinds.boxtype ∷ must kinds.xy ∷ [])))))))))
-    (body_moves kinds.aref (may kinds.elflags) (may kinds.plex ∷ named ∷ turned ∷ must kinds.colrow ∷ points 24 ∷ []) rest)
+    (body_moves kinds.aref (may kinds.elflags) (may kinds.plex ∷ named ∷ transformed ∷ must kinds.colrow ∷ points 24 ∷ []) rest)
 
 enters_text : (rest : Grammar) → Moves (both choice rest) kinds.text (behind (items_of kinds.text) rest)
 enters_text rest =
@@ -515,13 +516,13 @@ enters_text rest =
     (agrees_both (both (either grammar.sref (either grammar.aref (either grammar.text (either grammar.node grammar.box)))) rest)
     (both (either grammar.aref (either grammar.text (either grammar.node grammar.box))) rest) (both grammar.text rest) kinds.text
     (takes_second grammar.sref (either grammar.aref (either grammar.text (either grammar.node grammar.box))) rest kinds.text
-    (other kinds.sref kinds.text (whole (may kinds.elflags) (may kinds.plex ∷ named ∷ turned ∷ points 8 ∷ [])) refl)
-    (solid kinds.sref (whole (may kinds.elflags) (may kinds.plex ∷ named ∷ turned ∷ points 8 ∷ []))))
+    (other kinds.sref kinds.text (whole (may kinds.elflags) (may kinds.plex ∷ named ∷ transformed ∷ points 8 ∷ [])) refl)
+    (solid kinds.sref (whole (may kinds.elflags) (may kinds.plex ∷ named ∷ transformed ∷ points 8 ∷ []))))
     (agrees_both (both (either grammar.aref (either grammar.text (either grammar.node grammar.box))) rest)
     (both (either grammar.text (either grammar.node grammar.box)) rest) (both grammar.text rest) kinds.text
     (takes_second grammar.aref (either grammar.text (either grammar.node grammar.box)) rest kinds.text
-    (other kinds.aref kinds.text (whole (may kinds.elflags) (may kinds.plex ∷ named ∷ turned ∷ must kinds.colrow ∷ points 24 ∷ [])) refl)
-    (solid kinds.aref (whole (may kinds.elflags) (may kinds.plex ∷ named ∷ turned ∷ must kinds.colrow ∷ points 24 ∷ []))))
+    (other kinds.aref kinds.text (whole (may kinds.elflags) (may kinds.plex ∷ named ∷ transformed ∷ must kinds.colrow ∷ points 24 ∷ [])) refl)
+    (solid kinds.aref (whole (may kinds.elflags) (may kinds.plex ∷ named ∷ transformed ∷ must kinds.colrow ∷ points 24 ∷ []))))
     (takes_first grammar.text (either grammar.node grammar.box) rest kinds.text (avoids_either grammar.node grammar.box kinds.text
     (other kinds.node kinds.text
     (whole (may kinds.elflags) (may kinds.plex ∷ must kinds.layer ∷ must kinds.nodetype ∷ must kinds.xy ∷ [])) refl)
@@ -530,7 +531,7 @@ enters_text rest =
     (solid kinds.node (whole (may kinds.elflags) (may kinds.plex ∷ must kinds.layer ∷ must kinds.nodetype ∷ must kinds.xy ∷ [])))
     (solid kinds.box (whole (may kinds.elflags) (may kinds.plex ∷ must kinds.layer ∷ must kinds.boxtype ∷ must kinds.xy ∷ [])))))))))
     (body_moves kinds.text (may kinds.elflags)
-    (may kinds.plex ∷ must kinds.layer ∷ must kinds.texttype ∷ may kinds.presentation ∷ may kinds.pathtype ∷ may kinds.width ∷ turned
+    (may kinds.plex ∷ must kinds.layer ∷ must kinds.texttype ∷ may kinds.presentation ∷ may kinds.pathtype ∷ may kinds.width ∷ transformed
     ∷ points 8 ∷ must kinds.text_string ∷ []) rest)
 
 enters_node : (rest : Grammar) → Moves (both choice rest) kinds.node (behind (items_of kinds.node) rest)
@@ -559,20 +560,20 @@ enters_node rest =
     (agrees_both (both (either grammar.sref (either grammar.aref (either grammar.text (either grammar.node grammar.box)))) rest)
     (both (either grammar.aref (either grammar.text (either grammar.node grammar.box))) rest) (both grammar.node rest) kinds.node
     (takes_second grammar.sref (either grammar.aref (either grammar.text (either grammar.node grammar.box))) rest kinds.node
-    (other kinds.sref kinds.node (whole (may kinds.elflags) (may kinds.plex ∷ named ∷ turned ∷ points 8 ∷ [])) refl)
-    (solid kinds.sref (whole (may kinds.elflags) (may kinds.plex ∷ named ∷ turned ∷ points 8 ∷ []))))
+    (other kinds.sref kinds.node (whole (may kinds.elflags) (may kinds.plex ∷ named ∷ transformed ∷ points 8 ∷ [])) refl)
+    (solid kinds.sref (whole (may kinds.elflags) (may kinds.plex ∷ named ∷ transformed ∷ points 8 ∷ []))))
     (agrees_both (both (either grammar.aref (either grammar.text (either grammar.node grammar.box))) rest)
     (both (either grammar.text (either grammar.node grammar.box)) rest) (both grammar.node rest) kinds.node
     (takes_second grammar.aref (either grammar.text (either grammar.node grammar.box)) rest kinds.node
-    (other kinds.aref kinds.node (whole (may kinds.elflags) (may kinds.plex ∷ named ∷ turned ∷ must kinds.colrow ∷ points 24 ∷ [])) refl)
-    (solid kinds.aref (whole (may kinds.elflags) (may kinds.plex ∷ named ∷ turned ∷ must kinds.colrow ∷ points 24 ∷ []))))
+    (other kinds.aref kinds.node (whole (may kinds.elflags) (may kinds.plex ∷ named ∷ transformed ∷ must kinds.colrow ∷ points 24 ∷ [])) refl)
+    (solid kinds.aref (whole (may kinds.elflags) (may kinds.plex ∷ named ∷ transformed ∷ must kinds.colrow ∷ points 24 ∷ []))))
     (agrees_both (both (either grammar.text (either grammar.node grammar.box)) rest) (both (either grammar.node grammar.box) rest)
     (both grammar.node rest) kinds.node (takes_second grammar.text (either grammar.node grammar.box) rest kinds.node
     (other kinds.text kinds.node
     (whole (may kinds.elflags) (may kinds.plex ∷ must kinds.layer ∷ must kinds.texttype ∷ may kinds.presentation ∷ may kinds.pathtype
-    ∷ may kinds.width ∷ turned ∷ points 8 ∷ must kinds.text_string ∷ [])) refl)
+    ∷ may kinds.width ∷ transformed ∷ points 8 ∷ must kinds.text_string ∷ [])) refl)
     (solid kinds.text (whole (may kinds.elflags)
-    (may kinds.plex ∷ must kinds.layer ∷ must kinds.texttype ∷ may kinds.presentation ∷ may kinds.pathtype ∷ may kinds.width ∷ turned
+    (may kinds.plex ∷ must kinds.layer ∷ must kinds.texttype ∷ may kinds.presentation ∷ may kinds.pathtype ∷ may kinds.width ∷ transformed
     ∷ points 8 ∷ must kinds.text_string ∷ [])))) (takes_first grammar.node grammar.box rest kinds.node
     (other kinds.box kinds.node (whole (may kinds.elflags) (may kinds.plex ∷ must kinds.layer ∷ must kinds.boxtype ∷ must kinds.xy ∷ []))
     refl) (solid kinds.box
@@ -605,20 +606,20 @@ enters_box rest =
     (agrees_both (both (either grammar.sref (either grammar.aref (either grammar.text (either grammar.node grammar.box)))) rest)
     (both (either grammar.aref (either grammar.text (either grammar.node grammar.box))) rest) (both grammar.box rest) kinds.box
     (takes_second grammar.sref (either grammar.aref (either grammar.text (either grammar.node grammar.box))) rest kinds.box
-    (other kinds.sref kinds.box (whole (may kinds.elflags) (may kinds.plex ∷ named ∷ turned ∷ points 8 ∷ [])) refl)
-    (solid kinds.sref (whole (may kinds.elflags) (may kinds.plex ∷ named ∷ turned ∷ points 8 ∷ []))))
+    (other kinds.sref kinds.box (whole (may kinds.elflags) (may kinds.plex ∷ named ∷ transformed ∷ points 8 ∷ [])) refl)
+    (solid kinds.sref (whole (may kinds.elflags) (may kinds.plex ∷ named ∷ transformed ∷ points 8 ∷ []))))
     (agrees_both (both (either grammar.aref (either grammar.text (either grammar.node grammar.box))) rest)
     (both (either grammar.text (either grammar.node grammar.box)) rest) (both grammar.box rest) kinds.box
     (takes_second grammar.aref (either grammar.text (either grammar.node grammar.box)) rest kinds.box
-    (other kinds.aref kinds.box (whole (may kinds.elflags) (may kinds.plex ∷ named ∷ turned ∷ must kinds.colrow ∷ points 24 ∷ [])) refl)
-    (solid kinds.aref (whole (may kinds.elflags) (may kinds.plex ∷ named ∷ turned ∷ must kinds.colrow ∷ points 24 ∷ []))))
+    (other kinds.aref kinds.box (whole (may kinds.elflags) (may kinds.plex ∷ named ∷ transformed ∷ must kinds.colrow ∷ points 24 ∷ [])) refl)
+    (solid kinds.aref (whole (may kinds.elflags) (may kinds.plex ∷ named ∷ transformed ∷ must kinds.colrow ∷ points 24 ∷ []))))
     (agrees_both (both (either grammar.text (either grammar.node grammar.box)) rest) (both (either grammar.node grammar.box) rest)
     (both grammar.box rest) kinds.box (takes_second grammar.text (either grammar.node grammar.box) rest kinds.box
     (other kinds.text kinds.box
     (whole (may kinds.elflags) (may kinds.plex ∷ must kinds.layer ∷ must kinds.texttype ∷ may kinds.presentation ∷ may kinds.pathtype
-    ∷ may kinds.width ∷ turned ∷ points 8 ∷ must kinds.text_string ∷ [])) refl)
+    ∷ may kinds.width ∷ transformed ∷ points 8 ∷ must kinds.text_string ∷ [])) refl)
     (solid kinds.text (whole (may kinds.elflags)
-    (may kinds.plex ∷ must kinds.layer ∷ must kinds.texttype ∷ may kinds.presentation ∷ may kinds.pathtype ∷ may kinds.width ∷ turned
+    (may kinds.plex ∷ must kinds.layer ∷ must kinds.texttype ∷ may kinds.presentation ∷ may kinds.pathtype ∷ may kinds.width ∷ transformed
     ∷ points 8 ∷ must kinds.text_string ∷ [])))) (takes_second grammar.node grammar.box rest kinds.box
     (other kinds.node kinds.box
     (whole (may kinds.elflags) (may kinds.plex ∷ must kinds.layer ∷ must kinds.nodetype ∷ must kinds.xy ∷ [])) refl)
@@ -669,7 +670,7 @@ avoids_choice k e =
     (eqb k kinds.node) (or_first
     ((((((eqb k kinds.boundary) || eqb k kinds.path) || eqb k kinds.sref) || eqb k kinds.aref) || eqb k kinds.text) || eqb k kinds.node)
     (eqb k kinds.box) e))))))) (avoids_either grammar.sref (either grammar.aref (either grammar.text (either grammar.node grammar.box)))
-    k (other kinds.sref k (whole (may kinds.elflags) (may kinds.plex ∷ named ∷ turned ∷ points 8 ∷ []))
+    k (other kinds.sref k (whole (may kinds.elflags) (may kinds.plex ∷ named ∷ transformed ∷ points 8 ∷ []))
     (or_second ((eqb k kinds.boundary) || eqb k kinds.path) (eqb k kinds.sref)
     (or_first (((eqb k kinds.boundary) || eqb k kinds.path) || eqb k kinds.sref) (eqb k kinds.aref)
     (or_first ((((eqb k kinds.boundary) || eqb k kinds.path) || eqb k kinds.sref) || eqb k kinds.aref) (eqb k kinds.text)
@@ -677,7 +678,7 @@ avoids_choice k e =
     (eqb k kinds.node) (or_first
     ((((((eqb k kinds.boundary) || eqb k kinds.path) || eqb k kinds.sref) || eqb k kinds.aref) || eqb k kinds.text) || eqb k kinds.node)
     (eqb k kinds.box) e)))))) (avoids_either grammar.aref (either grammar.text (either grammar.node grammar.box)) k
-    (other kinds.aref k (whole (may kinds.elflags) (may kinds.plex ∷ named ∷ turned ∷ must kinds.colrow ∷ points 24 ∷ []))
+    (other kinds.aref k (whole (may kinds.elflags) (may kinds.plex ∷ named ∷ transformed ∷ must kinds.colrow ∷ points 24 ∷ []))
     (or_second (((eqb k kinds.boundary) || eqb k kinds.path) || eqb k kinds.sref) (eqb k kinds.aref)
     (or_first ((((eqb k kinds.boundary) || eqb k kinds.path) || eqb k kinds.sref) || eqb k kinds.aref) (eqb k kinds.text)
     (or_first (((((eqb k kinds.boundary) || eqb k kinds.path) || eqb k kinds.sref) || eqb k kinds.aref) || eqb k kinds.text)
@@ -686,7 +687,7 @@ avoids_choice k e =
     (eqb k kinds.box) e))))) (avoids_either grammar.text (either grammar.node grammar.box) k
     (other kinds.text k
     (whole (may kinds.elflags) (may kinds.plex ∷ must kinds.layer ∷ must kinds.texttype ∷ may kinds.presentation ∷ may kinds.pathtype
-    ∷ may kinds.width ∷ turned ∷ points 8 ∷ must kinds.text_string ∷ []))
+    ∷ may kinds.width ∷ transformed ∷ points 8 ∷ must kinds.text_string ∷ []))
     (or_second ((((eqb k kinds.boundary) || eqb k kinds.path) || eqb k kinds.sref) || eqb k kinds.aref) (eqb k kinds.text)
     (or_first (((((eqb k kinds.boundary) || eqb k kinds.path) || eqb k kinds.sref) || eqb k kinds.aref) || eqb k kinds.text)
     (eqb k kinds.node) (or_first
@@ -710,12 +711,12 @@ solid_choice = (solid_either grammar.boundary
     (solid kinds.path (whole (may kinds.elflags)
     (may kinds.plex ∷ must kinds.layer ∷ must kinds.datatype ∷ may kinds.pathtype ∷ may kinds.width ∷ may kinds.bgnextn ∷ may kinds.endextn
     ∷ must kinds.xy ∷ []))) (solid_either grammar.sref (either grammar.aref (either grammar.text (either grammar.node grammar.box)))
-    (solid kinds.sref (whole (may kinds.elflags) (may kinds.plex ∷ named ∷ turned ∷ points 8 ∷ [])))
+    (solid kinds.sref (whole (may kinds.elflags) (may kinds.plex ∷ named ∷ transformed ∷ points 8 ∷ [])))
     (solid_either grammar.aref (either grammar.text (either grammar.node grammar.box))
-    (solid kinds.aref (whole (may kinds.elflags) (may kinds.plex ∷ named ∷ turned ∷ must kinds.colrow ∷ points 24 ∷ [])))
+    (solid kinds.aref (whole (may kinds.elflags) (may kinds.plex ∷ named ∷ transformed ∷ must kinds.colrow ∷ points 24 ∷ [])))
     (solid_either grammar.text (either grammar.node grammar.box)
     (solid kinds.text (whole (may kinds.elflags)
-    (may kinds.plex ∷ must kinds.layer ∷ must kinds.texttype ∷ may kinds.presentation ∷ may kinds.pathtype ∷ may kinds.width ∷ turned
+    (may kinds.plex ∷ must kinds.layer ∷ must kinds.texttype ∷ may kinds.presentation ∷ may kinds.pathtype ∷ may kinds.width ∷ transformed
     ∷ points 8 ∷ must kinds.text_string ∷ [])))
     (solid_either grammar.node grammar.box
     (solid kinds.node (whole (may kinds.elflags) (may kinds.plex ∷ must kinds.layer ∷ must kinds.nodetype ∷ must kinds.xy ∷ [])))

@@ -1,8 +1,8 @@
 -- Reading the elements of a structure.
-use Rattle.std.proofs.Common.{◌≡◌, ◌≢◌, ℕ, Bool, true, false, not, ◌&&◌, ◌||◌, ◌⊎◌, inl, inr, cond, eqb, List, [], ◌∷◌, ◌++◌, map, Option}
-use Rattle.std.proofs.Common.{Some, None, Result, Ok, Err, refl, sym, subst, ap, ◌∙◌, append_assoc}
-use Rattle.std.proofs.lemmas.Bool.{eqb-true, eqb-false, eq-eqb}
-use Rattle.std.proofs.lemmas.List.{append-nil, map-append}
+use Rattle.std.proofs.Common.{◌≡◌, ℕ, Bool, true, false, not, ◌&&◌, inl, cond, eqb, List, [], ◌∷◌, ◌++◌, map}
+use Rattle.std.proofs.Common.{Some, None, Ok, Err, refl, sym, subst, ap, ◌∙◌, append_assoc}
+use Rattle.std.proofs.lemmas.Bool.{eqb-false, eq-eqb}
+use Rattle.std.proofs.lemmas.List.{map-append}
 use Rattle.dpl_spec_format.specs.Kinds as kinds
 use Rattle.dpl_spec_format.specs.Faults.{Fault}
 use Rattle.dpl_spec_format.specs.Records.{Record, record_at}
@@ -11,14 +11,13 @@ use Rattle.dpl_spec_format.specs.Grammar as grammar
 use Rattle.dpl_spec_format.specs.Stream.{refusal_in}
 use Rattle.dpl_spec_format.specs.Tree as tree
 use Rattle.dpl_spec_format.specs.Tree.{parts, before, element_of}
-use Rattle.dpl_spec_format.specs.Layout.{IsFirstFault}
 use Rattle.dpl_syntax.specs.Reading as reading
 use Rattle.dpl_syntax.specs.Reached.{Reached}
 use Rattle.dpl_syntax.specs.Inner.{is_inner, AreInner}
 use Rattle.dpl_syntax.specs.Passing.{Passes, Fails, same, element_then, IsElement, IsNextElement, IsNoElement, endstr_first, elements_first}
 use Rattle.dpl_syntax.specs.Passing.{class_first, is_calm, AreCalm, AreElements}
-use Rattle.dpl_syntax.proofs.Languages.{Avoids, Exists, Moves, Agrees, moves_one, moves_agreed, takes_many, ends_many, exists_rest}
-use Rattle.dpl_syntax.proofs.Languages.{exists_both, avoids_one, avoids_both, avoids_behind, avoids_many, solid_one}
+use Rattle.dpl_syntax.proofs.Languages.{Avoids, Exists, Moves, moves_one, moves_agreed, takes_many, ends_many, exists_rest}
+use Rattle.dpl_syntax.proofs.Languages.{exists_both, avoids_one, avoids_both, avoids_behind, avoids_many}
 use Rattle.dpl_syntax.proofs.Steps.{agreed, moved, stops}
 use Rattle.dpl_syntax.proofs.Taking.{same_record, if_some, if_none, if_fails}
 use Rattle.dpl_syntax.proofs.Slotting.{no_outer}

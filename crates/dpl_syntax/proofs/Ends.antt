@@ -1,19 +1,18 @@
 -- Reading the end of an element.
-use Rattle.std.proofs.Common.{◌≡◌, ◌≢◌, ℕ, Bool, true, false, ◌⊎◌, inl, inr, cond, eqb, List, [], ◌∷◌, ◌++◌, Option, Some, None, Result, Ok}
+use Rattle.std.proofs.Common.{◌≡◌, ℕ, true, false, eqb, List, [], ◌∷◌, ◌++◌, Some, None, Ok}
 use Rattle.std.proofs.Common.{Err, refl, sym, subst, ap, ◌∙◌, append_assoc}
-use Rattle.std.proofs.lemmas.Bool.{eqb-true, eqb-false, eq-eqb}
+use Rattle.std.proofs.lemmas.Bool.{eqb-false, eq-eqb}
 use Rattle.std.proofs.lemmas.List.{append-nil}
 use Rattle.dpl_spec_format.specs.Kinds as kinds
 use Rattle.dpl_spec_format.specs.Faults.{Fault}
 use Rattle.dpl_spec_format.specs.Records.{Record, record_at}
-use Rattle.dpl_spec_format.specs.Grammar.{Grammar, both, many, Has, a}
+use Rattle.dpl_spec_format.specs.Grammar.{Grammar, both, a}
 use Rattle.dpl_spec_format.specs.Stream.{owner, names, refusal, refusal_in}
-use Rattle.dpl_spec_format.specs.Layout.{IsFirstFault}
 use Rattle.dpl_syntax.specs.Reading as reading
 use Rattle.dpl_syntax.specs.Reached.{Reached}
 use Rattle.dpl_syntax.specs.Passing.{Passes, Fails, same, is_property, AreProperties, properties, properties_end, property_first, endel_first, IsEnd}
 use Rattle.dpl_syntax.proofs.Languages.{Avoids, Exists, Moves, Agrees, moves_one, moves_agreed, agrees_both, takes_many, ends_many}
-use Rattle.dpl_syntax.proofs.Languages.{agrees_regrouped, exists_regrouped, exists_rest, exists_both, avoids_one, avoids_both, solid_one}
+use Rattle.dpl_syntax.proofs.Languages.{agrees_regrouped, exists_regrouped, exists_rest, exists_both}
 use Rattle.dpl_syntax.proofs.Steps.{agreed, moved, stops}
 use Rattle.dpl_syntax.proofs.Taking.{same_record, take_kind, take_ok, take_err, if_some, if_none, if_fails}
 use Rattle.dpl_syntax.proofs.Lists.{avoids_a}

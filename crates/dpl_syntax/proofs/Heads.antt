@@ -1,18 +1,17 @@
 -- Reading the head of a library.
-use Rattle.std.proofs.Common.{◌≡◌, ◌≢◌, ℕ, Bool, true, false, ◌||◌, ◌⊎◌, inl, inr, cond, eqb, List, [], ◌∷◌, ◌++◌, Option, Some, None}
-use Rattle.std.proofs.Common.{Result, Ok, Err, refl, sym, subst, ap, ◌∙◌, append_assoc}
-use Rattle.std.proofs.lemmas.Bool.{eqb-true, eqb-false, eq-eqb}
+use Rattle.std.proofs.Common.{◌≡◌, ℕ, Bool, true, false, ◌||◌, ◌⊎◌, inl, inr, eqb, List, [], ◌∷◌, ◌++◌, None}
+use Rattle.std.proofs.Common.{Ok, Err, refl, sym, subst, ap, ◌∙◌, append_assoc}
+use Rattle.std.proofs.lemmas.Bool.{eqb-true, eqb-false}
 use Rattle.std.proofs.lemmas.List.{append-nil}
 use Rattle.dpl_spec_format.specs.Kinds as kinds
 use Rattle.dpl_spec_format.specs.Faults.{Fault}
 use Rattle.dpl_spec_format.specs.Records.{Record, record_at}
-use Rattle.dpl_spec_format.specs.Grammar.{Grammar, both, many, a, skip}
+use Rattle.dpl_spec_format.specs.Grammar.{Grammar, both, many, skip}
 use Rattle.dpl_spec_format.specs.Stream.{refusal, refusal_in}
-use Rattle.dpl_spec_format.specs.Layout.{IsFirstFault}
 use Rattle.dpl_syntax.specs.Reading as reading
 use Rattle.dpl_syntax.specs.Reached.{Reached}
-use Rattle.dpl_syntax.specs.Passing.{SkipsNone, AreSkipped, skips_then, PassesSkips, FailsSkips, same, part_then, IsPart, PassesPart, is_part, IsNextSkipped, IsNoneSkipped}
-use Rattle.dpl_syntax.proofs.Languages.{Avoids, Moves, moves_one, moves_agreed, takes_many, ends_many, exists_rest, avoids_one}
+use Rattle.dpl_syntax.specs.Passing.{AreSkipped, skips_then, PassesSkips, FailsSkips, same, part_then, PassesPart, is_part, IsNextSkipped, IsNoneSkipped}
+use Rattle.dpl_syntax.proofs.Languages.{Moves, moves_one, moves_agreed, takes_many, ends_many, exists_rest, avoids_one}
 use Rattle.dpl_syntax.proofs.Steps.{agreed, moved, stops}
 use Rattle.dpl_syntax.proofs.Taking.{same_record, take_kind, take_ok, take_err}
 use Rattle.dpl_syntax.proofs.Ends.{IsNever, never}

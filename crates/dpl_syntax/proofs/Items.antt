@@ -1,26 +1,25 @@
 -- Reading what an element has behind its first record.
-use Rattle.std.proofs.Common.{◌≡◌, ◌≢◌, ℕ, Bool, true, false, not, ◌&&◌, ◌||◌, ◌⊎◌, inl, inr, cond, eqb, List, [], ◌∷◌, ◌++◌, length}
+use Rattle.std.proofs.Common.{◌≡◌, ◌≢◌, ℕ, true, false, ◌⊎◌, inl, inr, cond, eqb, List, [], ◌∷◌, ◌++◌}
 use Rattle.std.proofs.Common.{Option, Some, None, Result, Ok, Err, refl, sym, subst, ap, ◌∙◌, append_assoc}
 use Rattle.std.proofs.lemmas.Bool.{eqb-true, eqb-false, eq-eqb}
 use Rattle.std.proofs.lemmas.List.{append-nil}
 use Rattle.dpl_spec_format.specs.Kinds as kinds
-use Rattle.dpl_spec_format.specs.Faults.{Fault, unexpected, bad_size, bad_name}
-use Rattle.dpl_spec_format.specs.Fields.{name_of}
+use Rattle.dpl_spec_format.specs.Faults.{Fault}
 use Rattle.dpl_spec_format.specs.Records.{Record, record_at}
 use Rattle.dpl_spec_format.specs.Grammar.{Grammar, one, both, maybe, Has, a}
 use Rattle.dpl_spec_format.specs.Grammar as grammar
-use Rattle.dpl_spec_format.specs.Stream.{owner, names, refusal, refusal_in, is_empty, is_wrong_size}
+use Rattle.dpl_spec_format.specs.Stream.{owner, names, refusal, refusal_in}
 use Rattle.dpl_spec_format.specs.Layout.{IsFirstFault}
 use Rattle.dpl_syntax.specs.Reading as reading
-use Rattle.dpl_syntax.specs.Reading.{◌>>=◌, Slots, Item, must, may, turned, named, points}
+use Rattle.dpl_syntax.specs.Reading.{◌>>=◌, Slots, Item, must, may, transformed, named, points}
 use Rattle.dpl_syntax.specs.Reached.{Reached}
 use Rattle.dpl_syntax.specs.Inner.{is_inner, AreInner}
 use Rattle.dpl_syntax.proofs.Languages.{Avoids, Exists, Moves, Agrees, avoids_one, solid_one, avoids_both, solid_both, avoids_behind}
 use Rattle.dpl_syntax.proofs.Languages.{avoids_maybe, moves_one, moves_agreed, skips_maybe, takes_maybe, agrees_both, agrees_regrouped}
 use Rattle.dpl_syntax.proofs.Languages.{exists_regrouped, exists_rest}
-use Rattle.dpl_syntax.proofs.Steps.{agreed, moved, stops, stops_at, stops_for}
-use Rattle.dpl_syntax.proofs.Slotting.{decide, Slotted, slotted_append, slotted_one, slotted_none, inner_append, inner_one, no_outer, owner-inner}
-use Rattle.dpl_syntax.proofs.Taking.{guard, guard_err, guard_not, guard_not_err, same_record, IsPlain, take_ok, take_err, take_refused, choice, choice_err, Took, took}
+use Rattle.dpl_syntax.proofs.Steps.{agreed, moved, stops}
+use Rattle.dpl_syntax.proofs.Slotting.{Slotted, slotted_append, slotted_one, slotted_none, inner_append, inner_one, no_outer, owner-inner}
+use Rattle.dpl_syntax.proofs.Taking.{same_record, IsPlain, take_ok, choice, choice_err, took}
 
 -- Records are read that fill these slots, and reading has come behind them.
 pub record Goes (bytes : List ℕ) (before : List Record) (rest : Grammar) (y : Slots × ℕ) : Type 0 where
@@ -51,8 +50,8 @@ pub record IsFine (o kind : ℕ) : Type 0 where
   pub plain : IsPlain o kind
   pub inner : is_inner kind ≡ true
 
--- what turning asks of what follows
-pub record Turnable (o : ℕ) (rest : Grammar) : Type 0 where
+-- what a transformation asks of what follows
+pub record Transformable (o : ℕ) (rest : Grammar) : Type 0 where
   pub strans : IsFine o kinds.strans
   pub mag : IsFine o kinds.mag
   pub angle : IsFine o kinds.angle
@@ -121,7 +120,7 @@ module _ (bytes : List ℕ) (o : ℕ) where
           | inr b ↦ absurd (choice_err (eqb b.0.kind kind) b.0 at f b.2)
         ]
 
-  -- ---- a reference's turning
+  -- ---- a reference's transformation
 
   abbrev mag_angle : Grammar
   mag_angle = both (maybe (a kinds.mag)) (maybe (a kinds.angle))
@@ -172,11 +171,11 @@ module _ (bytes : List ℕ) (o : ℕ) where
   avoids_mag : (rest : Grammar) → Avoids rest kinds.mag → Avoids (both (maybe (a kinds.angle)) rest) kinds.mag
   avoids_mag rest avoids = avoids_behind (maybe (a kinds.angle)) rest kinds.mag (avoids_maybe (a kinds.angle) kinds.mag (avoids_one (λ j. eqb j kinds.angle) kinds.mag refl)) avoids
 
-  pub turned_ok : (before : List Record) (rest : Grammar) (at : ℕ) → owner before ≡ o → Turnable o rest → (y : Slots × ℕ)
+  pub transformed_ok : (before : List Record) (rest : Grammar) (at : ℕ) → owner before ≡ o → Transformable o rest → (y : Slots × ℕ)
       → Reached bytes before (both (maybe grammar.strans) rest) at
-      → reading.item_at bytes turned at ≡ Ok y → Goes bytes before rest y
-  turned_ok before rest at own t y reached e =
-      let z = bind_ok (reading.take_if bytes kinds.strans at) (reading.take_turned bytes) y e in
+      → reading.item_at bytes transformed at ≡ Ok y → Goes bytes before rest y
+  transformed_ok before rest at own t y reached e =
+      let z = bind_ok (reading.take_if bytes kinds.strans at) (reading.take_transformed bytes) y e in
       let b = bind_ok (record_at bytes at) (λ r. cond (eqb r.kind kinds.strans) (reading.kept (Some r, r.next)) (reading.kept (None, at))) z.0 z.1 in
       let r = b.0 in
       elim (choice (eqb r.kind kinds.strans) r at z.0 b.2) [
@@ -185,7 +184,7 @@ module _ (bytes : List ℕ) (o : ℕ) where
             let there = strans_on before rest at r own t.strans t.no_strans reached b.1 same in
             let first : Goes bytes before (both (maybe (a kinds.mag)) (both (maybe (a kinds.angle)) rest)) ((kinds.strans, Some r) ∷ [], r.next) =
             record { rs = r ∷ []; slotted = slotted_one kinds.strans r same; inner = inner_one kinds.strans r same t.strans.inner; reached = there } in
-            let e2 : reading.take_turned bytes (Some r, r.next) ≡ Ok y = subst (λ (x : Option Record × ℕ). reading.take_turned bytes x ≡ Ok y) (sym c.1) z.2 in
+            let e2 : reading.take_transformed bytes (Some r, r.next) ≡ Ok y = subst (λ (x : Option Record × ℕ). reading.take_transformed bytes x ≡ Ok y) (sym c.1) z.2 in
             let m = bind_ok (reading.take_if bytes kinds.mag r.next) (λ m. reading.take_if bytes kinds.angle m.1 >>= λ g. Ok
             ((kinds.strans, Some r) ∷ (kinds.mag, m.0) ∷ (kinds.angle, g.0) ∷ [], g.1)) y e2 in
             let own1 = own_then before (r ∷ []) first.inner own in
@@ -200,7 +199,7 @@ module _ (bytes : List ℕ) (o : ℕ) where
             ) ((kinds.mag, m.0.0) ∷ (kinds.angle, g.0.0) ∷ [], g.0.1) first both2 in
             subst (λ (x : Slots × ℕ). Goes bytes before rest x) (ok_is ((kinds.strans, Some r) ∷ (kinds.mag, m.0.0) ∷ (kinds.angle, g.0.0) ∷ [], g.0.1) y g.2) all
         | inr c ↦
-            let e2 : reading.take_turned bytes (None, at) ≡ Ok y = subst (λ (x : Option Record × ℕ). reading.take_turned bytes x ≡ Ok y) (sym c.1) z.2 in
+            let e2 : reading.take_transformed bytes (None, at) ≡ Ok y = subst (λ (x : Option Record × ℕ). reading.take_transformed bytes x ≡ Ok y) (sym c.1) z.2 in
             let none : Slots × ℕ = ((kinds.strans, None) ∷ (kinds.mag, None) ∷ (kinds.angle, None) ∷ [], at) in
             let slots : Slotted [] ((kinds.strans, None) ∷ (kinds.mag, None) ∷ (kinds.angle, None) ∷ []) = slotted_append [] []
             ((kinds.strans, None) ∷ []) ((kinds.mag, None) ∷ (kinds.angle, None) ∷ []) (slotted_none kinds.strans)
@@ -211,10 +210,11 @@ module _ (bytes : List ℕ) (o : ℕ) where
             subst (λ (x : Slots × ℕ). Goes bytes before rest x) (ok_is none y e2) (record { rs = []; slotted = slots; inner = tt; reached = there })
       ]
 
-  pub turned_err : (before : List Record) (rest : Grammar) (at : ℕ) → owner before ≡ o → Turnable o rest → (f : Fault) → Reached bytes before (both (maybe grammar.strans) rest) at
-      → reading.item_at bytes turned at ≡ Err f → IsFirstFault bytes f
-  turned_err before rest at own t f reached e =
-      elim (bind_err (reading.take_if bytes kinds.strans at) (reading.take_turned bytes) f e) [
+  pub transformed_err : (before : List Record) (rest : Grammar) (at : ℕ) → owner before ≡ o → Transformable o rest → (f : Fault)
+      → Reached bytes before (both (maybe grammar.strans) rest) at
+      → reading.item_at bytes transformed at ≡ Err f → IsFirstFault bytes f
+  transformed_err before rest at own t f reached e =
+      elim (bind_err (reading.take_if bytes kinds.strans at) (reading.take_transformed bytes) f e) [
         | inl x ↦ if_err before rest at own kinds.strans (both (maybe grammar.strans) rest) f reached x
         | inr z ↦
             let b = bind_ok (record_at bytes at) (λ r. cond (eqb r.kind kinds.strans) (reading.kept (Some r, r.next)) (reading.kept (None, at))) z.0 z.1 in
@@ -224,7 +224,7 @@ module _ (bytes : List ℕ) (o : ℕ) where
                   let same : r.kind ≡ kinds.strans = eqb-true r.kind kinds.strans c.0 in
                   let there = strans_on before rest at r own t.strans t.no_strans reached b.1 same in
                   let own1 = own_then before (r ∷ []) (inner_one kinds.strans r same t.strans.inner) own in
-                  let e2 : reading.take_turned bytes (Some r, r.next) ≡ Err f = subst (λ (x : Option Record × ℕ). reading.take_turned bytes x ≡ Err f) (sym c.1) z.2 in
+                  let e2 : reading.take_transformed bytes (Some r, r.next) ≡ Err f = subst (λ (x : Option Record × ℕ). reading.take_transformed bytes x ≡ Err f) (sym c.1) z.2 in
                   elim (bind_err (reading.take_if bytes kinds.mag r.next) (λ m. reading.take_if bytes kinds.angle m.1 >>= λ g. Ok
                   ((kinds.strans, Some r) ∷ (kinds.mag, m.0) ∷ (kinds.angle, g.0) ∷ [], g.1)) f e2) [
                     | inl x ↦ if_err (before ++ r ∷ []) (both (maybe (a kinds.angle)) rest) r.next own1 kinds.mag
@@ -238,7 +238,7 @@ module _ (bytes : List ℕ) (o : ℕ) where
                         ]
                   ]
               | inr c ↦
-                  let e2 : reading.take_turned bytes (None, at) ≡ Err f = subst (λ (x : Option Record × ℕ). reading.take_turned bytes x ≡ Err f) (sym c.1) z.2 in
+                  let e2 : reading.take_transformed bytes (None, at) ≡ Err f = subst (λ (x : Option Record × ℕ). reading.take_transformed bytes x ≡ Err f) (sym c.1) z.2 in
                   let none : Slots × ℕ = ((kinds.strans, None) ∷ (kinds.mag, None) ∷ (kinds.angle, None) ∷ [], at) in
                   absurd (not_ok none f e2)
             ]

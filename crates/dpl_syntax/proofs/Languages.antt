@@ -1,5 +1,5 @@
 -- Which types can begin a list of a grammar, and what may follow behind them.
-use Rattle.std.proofs.Common.{◌≡◌, ℕ, Bool, true, false, ◌⊎◌, inl, inr, List, [], ◌∷◌, ◌++◌, eqb, refl, sym, subst, ap, ◌∙◌, append_assoc}
+use Rattle.std.proofs.Common.{◌≡◌, ℕ, Bool, true, false, ◌⊎◌, inl, inr, List, [], ◌∷◌, ◌++◌, refl, sym, subst, ap, ◌∙◌, append_assoc}
 use Rattle.std.specs.Prelude.{IsTrue}
 use Rattle.std.specs.List.{flat_map, AllByRecursion}
 use Rattle.std.proofs.lemmas.List.Concat.{flat_map-cons}
@@ -19,9 +19,9 @@ Exists g = (ks : List ℕ) × Has g ks
 
 -- what a list in two parts begins with
 abbrev BeginsIn : List ℕ → ℕ → List ℕ → List ℕ → Type 0
-BeginsIn front k ks rest = ((front ≡ []) × (rest ≡ k ∷ ks)) ⊎ ((more : List ℕ) × (front ≡ k ∷ more) × (ks ≡ more ++ rest))
+BeginsIn prefix k ks rest = ((prefix ≡ []) × (rest ≡ k ∷ ks)) ⊎ ((more : List ℕ) × (prefix ≡ k ∷ more) × (ks ≡ more ++ rest))
 
-begins_in : (front rest ks : List ℕ) (k : ℕ) → k ∷ ks ≡ front ++ rest → BeginsIn front k ks rest
+begins_in : (prefix rest ks : List ℕ) (k : ℕ) → k ∷ ks ≡ prefix ++ rest → BeginsIn prefix k ks rest
 begins_in [] rest ks k e = inl (refl, sym e)
 begins_in (j ∷ more) rest ks k e = inr (more, cc, cc)
 
@@ -39,8 +39,8 @@ pub solid_one : (test : ℕ → Bool) → IsSolid (one test)
 solid_one test h = absurd cc
 
 pub avoids_both : (g h : Grammar) (k : ℕ) → IsSolid g → Avoids g k → Avoids (both g h) k
-avoids_both g h k solid avoids ks (front, rest, e, hg, hh) =
-    elim (begins_in front rest ks k e) [
+avoids_both g h k solid avoids ks (prefix, rest, e, hg, hh) =
+    elim (begins_in prefix rest ks k e) [
       | inl p ↦ solid (subst (Has g) p.0 hg)
       | inr p ↦ avoids p.0 (subst (Has g) p.1 hg)
     ]
@@ -51,8 +51,8 @@ solid_both g h solid ((k ∷ ks), rest, e, hg, hh) = absurd cc
 
 -- a grammar that may be passed over
 pub avoids_behind : (g h : Grammar) (k : ℕ) → Avoids g k → Avoids h k → Avoids (both g h) k
-avoids_behind g h k avoids also ks (front, rest, e, hg, hh) =
-    elim (begins_in front rest ks k e) [
+avoids_behind g h k avoids also ks (prefix, rest, e, hg, hh) =
+    elim (begins_in prefix rest ks k e) [
       | inl p ↦ also ks (subst (Has h) p.1 hh)
       | inr p ↦ avoids p.0 (subst (Has g) p.1 hg)
     ]
@@ -105,7 +105,7 @@ pub agrees_both : (g h i : Grammar) (k : ℕ) → Agrees g k h → Agrees h k i 
 agrees_both g h i k first second = record { on = λ ks p. second.on ks (first.on ks p); back = λ ks p. first.back ks (second.back ks p) }
 
 one_on : (test : ℕ → Bool) (rest : Grammar) (k : ℕ) (ks : List ℕ) → Has (both (one test) rest) (k ∷ ks) → Has rest ks
-one_on test rest k ks (front, others, e, hg, hh) =
+one_on test rest k ks (prefix, others, e, hg, hh) =
     let same : others ≡ ks = cc in
     subst (Has rest) same hh
 
@@ -117,11 +117,11 @@ moves_one test rest k passes = record {
 
 -- without the grammar that may be missing
 maybe_skip_on : (g rest : Grammar) (k : ℕ) → Avoids g k → IsSolid g → (ks : List ℕ) → Has (both (maybe g) rest) (k ∷ ks) → Has rest (k ∷ ks)
-maybe_skip_on g rest k avoids solid ks (front, others, e, inl none, hh) =
+maybe_skip_on g rest k avoids solid ks (prefix, others, e, inl none, hh) =
     let same : others ≡ k ∷ ks = cc in
     subst (Has rest) same hh
-maybe_skip_on g rest k avoids solid ks (front, others, e, inr hg, hh) =
-    elim (begins_in front others ks k e) [
+maybe_skip_on g rest k avoids solid ks (prefix, others, e, inr hg, hh) =
+    elim (begins_in prefix others ks k e) [
       | inl p ↦ absurd (solid (subst (Has g) p.0 hg))
       | inr p ↦ absurd (avoids p.0 (subst (Has g) p.1 hg))
     ]
@@ -133,10 +133,10 @@ skips_maybe g rest k avoids solid = record {
 }
 
 maybe_take_on : (g rest : Grammar) (k : ℕ) → Avoids rest k → (ks : List ℕ) → Has (both (maybe g) rest) (k ∷ ks) → Has (both g rest) (k ∷ ks)
-maybe_take_on g rest k avoids ks (front, others, e, inl none, hh) =
+maybe_take_on g rest k avoids ks (prefix, others, e, inl none, hh) =
     let same : others ≡ k ∷ ks = cc in
     absurd (avoids ks (subst (Has rest) same hh))
-maybe_take_on g rest k avoids ks (front, others, e, inr hg, hh) = (front, others, e, hg, hh)
+maybe_take_on g rest k avoids ks (prefix, others, e, inr hg, hh) = (prefix, others, e, hg, hh)
 
 pub takes_maybe : (g rest : Grammar) (k : ℕ) → Avoids rest k → Agrees (both (maybe g) rest) k (both g rest)
 takes_maybe g rest k avoids = record {
@@ -146,17 +146,17 @@ takes_maybe g rest k avoids = record {
 
 -- one of two
 either_on_first : (g h rest : Grammar) (k : ℕ) → Avoids h k → IsSolid h → (ks : List ℕ) → Has (both (either g h) rest) (k ∷ ks) → Has (both g rest) (k ∷ ks)
-either_on_first g h rest k avoids solid ks (front, others, e, inl hg, hh) = (front, others, e, hg, hh)
-either_on_first g h rest k avoids solid ks (front, others, e, inr hg, hh) =
-    elim (begins_in front others ks k e) [
+either_on_first g h rest k avoids solid ks (prefix, others, e, inl hg, hh) = (prefix, others, e, hg, hh)
+either_on_first g h rest k avoids solid ks (prefix, others, e, inr hg, hh) =
+    elim (begins_in prefix others ks k e) [
       | inl p ↦ absurd (solid (subst (Has h) p.0 hg))
       | inr p ↦ absurd (avoids p.0 (subst (Has h) p.1 hg))
     ]
 
 either_on_second : (g h rest : Grammar) (k : ℕ) → Avoids g k → IsSolid g → (ks : List ℕ) → Has (both (either g h) rest) (k ∷ ks) → Has (both h rest) (k ∷ ks)
-either_on_second g h rest k avoids solid ks (front, others, e, inr hg, hh) = (front, others, e, hg, hh)
-either_on_second g h rest k avoids solid ks (front, others, e, inl hg, hh) =
-    elim (begins_in front others ks k e) [
+either_on_second g h rest k avoids solid ks (prefix, others, e, inr hg, hh) = (prefix, others, e, hg, hh)
+either_on_second g h rest k avoids solid ks (prefix, others, e, inl hg, hh) =
+    elim (begins_in prefix others ks k e) [
       | inl p ↦ absurd (solid (subst (Has g) p.0 hg))
       | inr p ↦ absurd (avoids p.0 (subst (Has g) p.1 hg))
     ]

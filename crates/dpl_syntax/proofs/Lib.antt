@@ -8,6 +8,7 @@ pub mod Lists
 pub mod ElementBodies
 pub mod Ends
 pub mod Refusals
+pub mod Flags
 pub mod WholeElements
 pub mod ElementLists
 pub mod KnownNames

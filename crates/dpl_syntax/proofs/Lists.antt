@@ -1,28 +1,27 @@
 -- Reading all that an element has behind its first record.
-use Rattle.std.proofs.Common.{◌≡◌, ◌≢◌, ℕ, Bool, true, false, not, ◌&&◌, ◌||◌, ◌⊎◌, inl, inr, cond, eqb, List, [], ◌∷◌, ◌++◌, length}
-use Rattle.std.proofs.Common.{Option, Some, None, Result, Ok, Err, refl, sym, subst, ap, ◌∙◌, append_assoc}
+use Rattle.std.proofs.Common.{◌≡◌, ℕ, Bool, true, false, not, ◌||◌, inl, inr, cond, eqb, List, [], ◌∷◌, ◌++◌, length}
+use Rattle.std.proofs.Common.{Some, None, Result, Ok, Err, refl, sym, subst, ap, ◌∙◌}
 use Rattle.std.proofs.lemmas.List.{append-nil}
 use Rattle.dpl_spec_format.specs.Kinds as kinds
-use Rattle.dpl_spec_format.specs.Faults.{Fault, unexpected, bad_size, bad_name}
+use Rattle.dpl_spec_format.specs.Faults.{Fault, bad_size, bad_name}
 use Rattle.dpl_spec_format.specs.Fields.{name_of}
-use Rattle.dpl_spec_format.specs.Records.{Record, record_at}
+use Rattle.dpl_spec_format.specs.Records.{Record}
 use Rattle.dpl_spec_format.specs.Grammar.{Grammar, one, both, maybe, Has, a}
 use Rattle.dpl_spec_format.specs.Grammar as grammar
 use Rattle.dpl_spec_format.specs.Stream.{owner, names, refusal, refusal_in, is_empty, is_wrong_size}
 use Rattle.dpl_spec_format.specs.Layout.{IsFirstFault}
 use Rattle.dpl_syntax.specs.Reading as reading
-use Rattle.dpl_syntax.specs.Reading.{◌>>=◌, Slots, Item, must, may, turned, named, points}
+use Rattle.dpl_syntax.specs.Reading.{◌>>=◌, Slots, Item, must, may, transformed, named, points}
 use Rattle.dpl_syntax.specs.Reached.{Reached}
-use Rattle.dpl_syntax.specs.Inner.{is_inner, AreInner}
-use Rattle.dpl_syntax.proofs.Languages.{Avoids, IsSolid, avoids_one, solid_one, avoids_both, solid_both, avoids_behind, avoids_maybe}
+use Rattle.dpl_syntax.proofs.Languages.{Avoids, avoids_one, solid_one, avoids_both, avoids_behind, avoids_maybe}
 use Rattle.dpl_syntax.proofs.Taking.{guard, guard_err, guard_not, guard_not_err, take_err, take_refused}
-use Rattle.dpl_syntax.proofs.Items.{Goes, IsFine, Turnable, bind_ok, bind_err, done, ok_is, not_ok, one_ok, kind_of, must_ok, if_ok, if_err}
-use Rattle.dpl_syntax.proofs.Items.{turned_ok, turned_err, goes_then, own_then}
+use Rattle.dpl_syntax.proofs.Items.{Goes, IsFine, Transformable, bind_ok, bind_err, ok_is, not_ok, one_ok, kind_of, must_ok, if_ok, if_err}
+use Rattle.dpl_syntax.proofs.Items.{transformed_ok, transformed_err, goes_then, own_then}
 
 abbrev pub grammar_of : Item → Grammar
 grammar_of (must kind) = a kind
 grammar_of (may kind) = maybe (a kind)
-grammar_of turned = maybe grammar.strans
+grammar_of transformed = maybe grammar.strans
 grammar_of named = a kinds.sname
 grammar_of (points len) = a kinds.xy
 
@@ -35,7 +34,7 @@ behind (i ∷ is) rest = both (grammar_of i) (behind is rest)
 abbrev pub FitsIn : ℕ → Grammar → Item → Type 0
 FitsIn o rest (must kind) = IsFine o kind
 FitsIn o rest (may kind) = IsFine o kind × Avoids rest kind
-FitsIn o rest turned = Turnable o rest
+FitsIn o rest transformed = Transformable o rest
 FitsIn o rest named = Unit {0}
 FitsIn o rest (points len) = (n : ℕ) → is_wrong_size o n ≡ not (eqb n len)
 
@@ -119,7 +118,7 @@ module _ (bytes : List ℕ) (o : ℕ) (before : List Record) (rest : Grammar) (a
   item_ok (may kind) fits y reached e =
       let b = bind_ok (reading.take_if bytes kind at) (λ z. Ok ((kind, z.0) ∷ [], z.1)) y e in
       subst (Goes bytes before rest) (ok_is ((kind, b.0.0) ∷ [], b.0.1) y b.2) (if_ok bytes o before rest at own kind fits.0 fits.1 b.0 reached b.1)
-  item_ok turned fits y reached e = turned_ok bytes o before rest at own fits y reached e
+  item_ok transformed fits y reached e = transformed_ok bytes o before rest at own fits y reached e
   item_ok named fits y reached e =
       let s = slot_ok kinds.sname (reading.take_name bytes at) y e in
       subst (Goes bytes before rest) s.2 (named_ok s.0 reached s.1)
@@ -134,7 +133,7 @@ module _ (bytes : List ℕ) (o : ℕ) (before : List Record) (rest : Grammar) (a
         | inl x ↦ if_err bytes o before rest at own kind (both (maybe (a kind)) rest) f reached x
         | inr b ↦ absurd (not_ok ((kind, b.0.0) ∷ [], b.0.1) f b.2)
       ]
-  item_err turned fits f reached e = turned_err bytes o before rest at own fits f reached e
+  item_err transformed fits f reached e = transformed_err bytes o before rest at own fits f reached e
   item_err named fits f reached e = named_err f reached (slot_err kinds.sname (reading.take_name bytes at) f e)
   item_err (points len) fits f reached e = points_err len fits f reached (slot_err kinds.xy (reading.take_points bytes len at) f e)
 
@@ -181,7 +180,7 @@ abbrev pub may_begin : List Item → ℕ → Bool
 may_begin [] k = true
 may_begin (must kind ∷ is) k = eqb k kind
 may_begin (may kind ∷ is) k = eqb k kind || may_begin is k
-may_begin (turned ∷ is) k = eqb k kinds.strans || may_begin is k
+may_begin (transformed ∷ is) k = eqb k kinds.strans || may_begin is k
 may_begin (named ∷ is) k = eqb k kinds.sname
 may_begin (points len ∷ is) k = eqb k kinds.xy
 
@@ -203,7 +202,7 @@ avoids_items (may kind ∷ is) rest k e =
     avoids_behind (maybe (a kind)) (behind is rest) k
     (avoids_maybe (a kind) k (avoids_one (λ j. eqb j kind) k (or_first (eqb k kind) (may_begin is k) e)))
     (avoids_items is rest k (or_second (eqb k kind) (may_begin is k) e))
-avoids_items (turned ∷ is) rest k e =
+avoids_items (transformed ∷ is) rest k e =
     avoids_behind (maybe grammar.strans) (behind is rest) k
     (avoids_maybe grammar.strans k (avoids_a kinds.strans k (both (maybe (a kinds.mag)) (maybe (a kinds.angle)))
     (or_first (eqb k kinds.strans) (may_begin is k) e))) (avoids_items is rest k (or_second (eqb k kinds.strans) (may_begin is k) e))

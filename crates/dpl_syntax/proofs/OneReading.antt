@@ -10,7 +10,7 @@ use Rattle.dpl_syntax.specs.declared.fault.SyntaxFault.TheVariants.{NoMemory, Tr
 use Rattle.dpl_syntax.specs.Outcome.{Refuses, Gives, Refused}
 use Rattle.dpl_syntax.proofs.Refusals.{refuses}
 
--- an error that names no fault is want of memory
+-- an error that names no fault is that memory ran out
 no_fault : (P : Fault → Type 0) (e : SyntaxFault) → ((f : Fault) → P f → ⊥) → Refuses P e → e ≡ NoMemory
 no_fault P NoMemory h p = refl
 no_fault P (Truncated at) h p = absurd (h (truncated at) p)

@@ -1,10 +1,7 @@
 -- A place in a list, and in a list made of it.
-use Rattle.std.proofs.Common.{◌≡◌, ℕ, ◌+◌, Bool, not, cond, Option, Some, None, ltb, List, [], ◌∷◌, map, length, position, nat_eq, refl, sym, ap, ◌∙◌}
+use Rattle.std.proofs.Common.{◌≡◌, ℕ, ◌+◌, Bool, not, cond, Some, None, ltb, List, [], ◌∷◌, map, length, position, refl, sym, ap, ◌∙◌}
 use Rattle.std.specs.List.{prefix_len}
-use Rattle.std.specs.Map.{keys_of}
-use Rattle.std.specs.Cmp.Lexicographic.{pointwise}
 use Rattle.std.proofs.lemmas.List.{length-map}
-use Rattle.dpl_spec_format.specs.Tree as tree
 
 module _ {X K M N : Type 0} (f : X → K) (g : X → M) (n : M → N) (p : K → Bool) (q : N → Bool) (same : (x : X) → p (f x) ≡ q (n (g x))) where
   same_prefix : (xs : List X) → prefix_len (λ k. not (p k)) (map f xs) ≡ prefix_len (λ m. not (q m)) (map n (map g xs))

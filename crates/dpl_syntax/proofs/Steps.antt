@@ -1,12 +1,12 @@
 -- Reading on by one record, and where it stops.
-use Rattle.std.proofs.Common.{◌≡◌, ◌≢◌, ℕ, List, [], ◌∷◌, ◌++◌, Option, Some, None, Result, Ok, Err, refl, sym, subst, ap, ◌∙◌, append_assoc}
+use Rattle.std.proofs.Common.{◌≡◌, ◌≢◌, ℕ, List, [], ◌∷◌, ◌++◌, Some, None, Ok, Err, refl, sym, subst, ap, ◌∙◌, append_assoc}
 use Rattle.std.proofs.lemmas.List.{append-nil}
 use Rattle.dpl_spec_format.specs.Kinds as kinds
 use Rattle.dpl_spec_format.specs.Faults.{Fault, unexpected}
 use Rattle.dpl_spec_format.specs.Records.{Record, record_at, Lies}
 use Rattle.dpl_spec_format.specs.Grammar.{Grammar, Has, library}
 use Rattle.dpl_spec_format.specs.Stream.{kinds_of, refusal}
-use Rattle.dpl_spec_format.specs.Layout.{IsSound, IsOpen, IsReadTo, IsWrong, no_record, not_here, refused, IsFirstFault}
+use Rattle.dpl_spec_format.specs.Layout.{IsSound, IsOpen, IsReadTo, no_record, not_here, refused, IsFirstFault}
 use Rattle.dpl_syntax.specs.Reached.{Reached}
 use Rattle.dpl_syntax.proofs.Languages.{Exists, Moves, Agrees}
 
@@ -14,10 +14,10 @@ pub lies_push : (bytes : List ℕ) (from : ℕ) (rs : List Record) (at : ℕ) (r
 lies_push bytes from [] at r lies found = (ap (record_at bytes) lies ∙ found, refl)
 lies_push bytes from (s ∷ rs) at r lies found = (lies.0, lies_push bytes s.next rs at r lies.1 found)
 
-pub sound_push : (front rs : List Record) (r : Record) → IsSound front rs → refusal (front ++ rs) r ≡ None → IsSound front (rs ++ r ∷ [])
-sound_push front [] r sound fine = (subst (λ (x : List Record). refusal x r ≡ None) (append-nil front) fine, tt)
-sound_push front (s ∷ rs) r sound fine =
-    (sound.0, sound_push (front ++ s ∷ []) rs r sound.1 (subst (λ (x : List Record). refusal x r ≡ None) (sym (append_assoc front (s ∷ []) rs)) fine))
+pub sound_push : (prefix rs : List Record) (r : Record) → IsSound prefix rs → refusal (prefix ++ rs) r ≡ None → IsSound prefix (rs ++ r ∷ [])
+sound_push prefix [] r sound fine = (subst (λ (x : List Record). refusal x r ≡ None) (append-nil prefix) fine, tt)
+sound_push prefix (s ∷ rs) r sound fine =
+    (sound.0, sound_push (prefix ++ s ∷ []) rs r sound.1 (subst (λ (x : List Record). refusal x r ≡ None) (sym (append_assoc prefix (s ∷ []) rs)) fine))
 
 open_push : (rs : List Record) (r : Record) → IsOpen rs → r.kind ≢ kinds.endlib → IsOpen (rs ++ r ∷ [])
 open_push [] r goes ne = (ne, tt)

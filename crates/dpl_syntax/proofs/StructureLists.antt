@@ -1,8 +1,7 @@
 -- Reading the structures of a library.
-use Rattle.std.proofs.Common.{◌≡◌, ◌≢◌, ℕ, Bool, true, false, ◌||◌, cond, eqb, List, [], ◌∷◌, ◌++◌, map, Option, Some, None, Result, Ok}
+use Rattle.std.proofs.Common.{◌≡◌, ℕ, Bool, true, false, ◌||◌, cond, eqb, List, [], ◌∷◌, ◌++◌, map}
 use Rattle.std.proofs.Common.{Err, refl, sym, subst, ap, ◌∙◌, append_assoc}
 use Rattle.std.specs.List.{list_any}
-use Rattle.std.proofs.lemmas.Bool.{eqb-true, eqb-false, eq-eqb}
 use Rattle.std.proofs.lemmas.List.{append-nil, map-append}
 use Rattle.indexmap.specs.IndexMap.{insert_entry}
 use Rattle.dpl_spec_format.specs.Kinds as kinds
@@ -13,11 +12,10 @@ use Rattle.dpl_spec_format.specs.Grammar as grammar
 use Rattle.dpl_spec_format.specs.Stream.{names}
 use Rattle.dpl_spec_format.specs.Tree as tree
 use Rattle.dpl_spec_format.specs.Tree.{structure_of}
-use Rattle.dpl_spec_format.specs.Layout.{IsFirstFault}
 use Rattle.dpl_syntax.specs.Reached.{Reached}
-use Rattle.dpl_syntax.specs.Libraries.{Entries, structure_seen, structures_seen, known_names}
+use Rattle.dpl_syntax.specs.Libraries.{Entries, structures_seen, known_names}
 use Rattle.dpl_syntax.specs.Passing.{same, PassesNamed, FailsNamed, structure_then, structures_first, endlib_first, split_structures, IsNext, IsOther, IsStructure, AreStructures}
-use Rattle.dpl_syntax.proofs.Languages.{Avoids, Exists, Agrees, takes_many, ends_many, exists_rest, exists_both, avoids_one, avoids_both, solid_one}
+use Rattle.dpl_syntax.proofs.Languages.{takes_many, ends_many, exists_rest, exists_both, avoids_one}
 use Rattle.dpl_syntax.proofs.Steps.{agreed, stops}
 use Rattle.dpl_syntax.proofs.Taking.{same_record}
 use Rattle.dpl_syntax.proofs.Slotting.{names-append}

@@ -1,21 +1,19 @@
 -- What reading one record gives.
-use Rattle.std.proofs.Common.{◌≡◌, ◌≢◌, ℕ, Bool, true, false, not, ◌&&◌, ◌⊎◌, inl, inr, cond, eqb, List, [], ◌∷◌, ◌++◌, length, Option}
+use Rattle.std.proofs.Common.{◌≡◌, ◌≢◌, ℕ, Bool, true, false, ◌⊎◌, inl, inr, cond, eqb, List, [], ◌∷◌, ◌++◌, Option}
 use Rattle.std.proofs.Common.{Some, None, Result, Ok, Err, refl, sym, subst, ap, ◌∙◌}
-use Rattle.std.proofs.lemmas.Bool.{eqb-true, eqb-false, eq-eqb}
+use Rattle.std.proofs.lemmas.Bool.{eqb-true, eq-eqb}
 use Rattle.dpl_spec_format.specs.Kinds as kinds
-use Rattle.dpl_spec_format.specs.Faults.{Fault, unexpected, bad_size, bad_name}
-use Rattle.dpl_spec_format.specs.Fields.{name_of}
+use Rattle.dpl_spec_format.specs.Faults.{Fault, unexpected}
 use Rattle.dpl_spec_format.specs.Records.{Record, record_at}
-use Rattle.dpl_spec_format.specs.Grammar.{Grammar, one, both, maybe, Has, a}
-use Rattle.dpl_spec_format.specs.Stream.{owner, names, refusal, refusal_in, is_empty, is_wrong_size}
+use Rattle.dpl_spec_format.specs.Grammar.{Grammar, both, a}
+use Rattle.dpl_spec_format.specs.Stream.{refusal, refusal_in}
 use Rattle.dpl_spec_format.specs.Layout.{IsFirstFault}
 use Rattle.dpl_syntax.specs.Reading as reading
 use Rattle.dpl_syntax.specs.Reading.{◌>>=◌}
 use Rattle.dpl_syntax.specs.Reached.{Reached}
-use Rattle.dpl_syntax.proofs.Languages.{Avoids, Exists, Moves, Agrees, avoids_one, solid_one, avoids_both, avoids_behind, avoids_maybe}
-use Rattle.dpl_syntax.proofs.Languages.{moves_one, moves_agreed, skips_maybe, takes_maybe, exists_rest}
-use Rattle.dpl_syntax.proofs.Steps.{agreed, moved, stops, stops_at, stops_for}
-use Rattle.dpl_syntax.proofs.Slotting.{decide}
+use Rattle.dpl_syntax.proofs.Languages.{avoids_one, solid_one, avoids_both}
+use Rattle.dpl_syntax.proofs.Languages.{moves_one, exists_rest}
+use Rattle.dpl_syntax.proofs.Steps.{moved, stops, stops_at, stops_for}
 
 pub guard : {A : Type 0} (b : Bool) (f : Fault) (x y : A) → cond b (Ok x) (Err f) ≡ Ok y → (b ≡ true) × (x ≡ y)
 guard true f x y e = (refl, cc)

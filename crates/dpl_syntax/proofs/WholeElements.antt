@@ -1,20 +1,17 @@
 -- Reading a whole element.
-use Rattle.std.proofs.Common.{◌≡◌, ◌≢◌, ℕ, Bool, true, false, ◌⊎◌, inl, inr, cond, ◌||◌, eqb, List, [], ◌∷◌, ◌++◌, Option, Some, None}
-use Rattle.std.proofs.Common.{Result, Ok, Err, refl, sym, subst, ap, ◌∙◌, append_assoc}
-use Rattle.std.proofs.lemmas.Bool.{eqb-true, eqb-false, eq-eqb}
+use Rattle.std.proofs.Common.{◌≡◌, ℕ, Bool, true, false, ◌⊎◌, inl, inr, cond, ◌||◌, eqb, List, [], ◌∷◌, ◌++◌, Some, None}
+use Rattle.std.proofs.Common.{Ok, Err, refl, sym, subst, ap, ◌∙◌, append_assoc}
+use Rattle.std.proofs.lemmas.Bool.{eqb-true}
 use Rattle.dpl_spec_format.specs.Kinds as kinds
 use Rattle.dpl_spec_format.specs.Faults.{Fault}
 use Rattle.dpl_spec_format.specs.Records.{Record, record_at}
-use Rattle.dpl_spec_format.specs.Grammar.{Grammar, both}
-use Rattle.dpl_spec_format.specs.Tree.{Body, Element, Finder, body_of, first_of, element_of}
-use Rattle.dpl_spec_format.specs.Layout.{IsFirstFault}
+use Rattle.dpl_spec_format.specs.Tree.{Body, Finder, body_of, first_of}
 use Rattle.dpl_syntax.specs.Reading.{body_at, or_else, pick}
 use Rattle.dpl_syntax.specs.Reached.{Reached}
 use Rattle.dpl_syntax.specs.Inner.{is_inner, AreInner}
 use Rattle.dpl_syntax.specs.Passing.{Passes, Fails, same, is_property, AreProperties, properties_end, IsEnd, element_then, IsElement}
-use Rattle.dpl_syntax.proofs.Slotting.{decide, inner_append, first_of-append, or_none}
-use Rattle.dpl_syntax.proofs.Items.{Goes}
-use Rattle.dpl_syntax.proofs.ElementBodies.{tail, body_ok, body_err}
+use Rattle.dpl_syntax.proofs.Slotting.{inner_append, first_of-append, or_none}
+use Rattle.dpl_syntax.proofs.ElementBodies.{body_ok, body_err}
 
 -- ---- the body doesn't depend on properties
 

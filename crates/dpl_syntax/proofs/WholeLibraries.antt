@@ -1,20 +1,20 @@
 -- Reading a whole library.
-use Rattle.std.proofs.Common.{◌≡◌, ◌≢◌, ℕ, Bool, true, false, ◌||◌, ◌⊎◌, inl, inr, cond, eqb, List, [], ◌∷◌, ◌++◌, map, Option, Some, None}
-use Rattle.std.proofs.Common.{Result, Ok, Err, refl, sym, subst, ap, ◌∙◌, append_assoc}
-use Rattle.std.proofs.lemmas.Bool.{eqb-true, eqb-false, eq-eqb}
+use Rattle.std.proofs.Common.{◌≡◌, ℕ, Bool, false, inl, inr, cond, eqb, List, [], ◌∷◌, ◌++◌, map, Option, Some}
+use Rattle.std.proofs.Common.{Ok, Err, refl, sym, subst, ap, ◌∙◌, append_assoc}
+use Rattle.std.proofs.lemmas.Bool.{eqb-false, eq-eqb}
 use Rattle.std.proofs.lemmas.List.{append-nil}
 use Rattle.dpl_spec_format.specs.Kinds as kinds
 use Rattle.dpl_spec_format.specs.Faults.{Fault}
 use Rattle.dpl_spec_format.specs.Records.{Record, record_at, Lies}
 use Rattle.dpl_spec_format.specs.Grammar.{Grammar, Has, both, many, a, library}
 use Rattle.dpl_spec_format.specs.Grammar as grammar
-use Rattle.dpl_spec_format.specs.Stream.{kinds_of, names, refusal, refusal_in}
+use Rattle.dpl_spec_format.specs.Stream.{kinds_of, names, refusal_in}
 use Rattle.dpl_spec_format.specs.Tree as tree
 use Rattle.dpl_spec_format.specs.Tree.{first_of, structure_of}
 use Rattle.dpl_spec_format.specs.Layout.{IsSound, IsFirstFault, Holds}
 use Rattle.dpl_syntax.specs.Reading as reading
 use Rattle.dpl_syntax.specs.Reached.{Reached}
-use Rattle.dpl_syntax.specs.Passing.{same, skips_then, part_then, SkipsNone, AreSkipped, IsPart, PassesPart, FailsSkips, PassesNamed}
+use Rattle.dpl_syntax.specs.Passing.{skips_then, part_then, SkipsNone, AreSkipped, IsPart, PassesPart, FailsSkips, PassesNamed}
 use Rattle.dpl_syntax.specs.Passing.{FailsNamed, structures_first, endlib_first, split_structures, AreStructures}
 use Rattle.dpl_syntax.proofs.Languages.{Exists, exists_both, avoids_one, avoids_behind, avoids_many}
 use Rattle.dpl_syntax.proofs.Steps.{lies_push, sound_push, stops, stops_at}

@@ -1,11 +1,11 @@
 -- Reading a whole structure.
-use Rattle.std.proofs.Common.{◌≡◌, ◌≢◌, ℕ, Bool, true, false, not, ◌&&◌, ◌||◌, ◌⊎◌, inl, inr, cond, eqb, List, [], ◌∷◌, ◌++◌, map, length}
+use Rattle.std.proofs.Common.{◌≡◌, ℕ, Bool, true, false, not, ◌&&◌, ◌⊎◌, inl, inr, cond, eqb, List, [], ◌∷◌, ◌++◌, map}
 use Rattle.std.proofs.Common.{Option, Some, None, Result, Ok, Err, refl, sym, subst, ap, ◌∙◌, append_assoc}
 use Rattle.std.specs.Prelude.{nat_eq, filter}
 use Rattle.std.specs.List.{list_any}
 use Rattle.std.specs.Cmp.Lexicographic.{pointwise}
-use Rattle.std.proofs.lemmas.Bool.{eqb-true, eqb-false, eq-eqb}
-use Rattle.std.proofs.lemmas.List.{append-nil, map-append}
+use Rattle.std.proofs.lemmas.Bool.{eqb-false, eq-eqb}
+use Rattle.std.proofs.lemmas.List.{append-nil}
 use Rattle.dpl_spec_format.specs.Kinds as kinds
 use Rattle.dpl_spec_format.specs.Faults.{Fault, bad_name, duplicate_structure}
 use Rattle.dpl_spec_format.specs.Fields.{name_of}
@@ -21,13 +21,13 @@ use Rattle.dpl_syntax.specs.Reading.{◌>>=◌}
 use Rattle.dpl_syntax.specs.Reached.{Reached}
 use Rattle.dpl_syntax.specs.Passing.{Passes, Fails, same, endstr_first, elements_first, class_first, is_calm, AreCalm, AreElements}
 use Rattle.dpl_syntax.specs.Passing.{PassesNamed, FailsNamed, structure_then, split_structures, IsStructure}
-use Rattle.dpl_syntax.proofs.Languages.{Exists, Moves, Agrees, moves_one, moves_agreed, agrees_both, agrees_regrouped, exists_rest, exists_both, regroups, regroups_back}
-use Rattle.dpl_syntax.proofs.Steps.{agreed, moved}
+use Rattle.dpl_syntax.proofs.Languages.{Exists, Moves, moves_one, moves_agreed, agrees_regrouped, exists_rest, exists_both, regroups, regroups_back}
+use Rattle.dpl_syntax.proofs.Steps.{moved}
 use Rattle.dpl_syntax.proofs.Taking.{guard_not, guard_not_err, take_kind, take_ok, take_err, take_refused}
 use Rattle.dpl_syntax.proofs.Items.{bind_ok, bind_err}
 use Rattle.dpl_syntax.proofs.Slotting.{and_first, and_second, not_true, names-append}
-use Rattle.dpl_syntax.proofs.Ends.{passes_then, fails_then, IsNever, never, IsOne, passes_one, fails_one}
-use Rattle.dpl_syntax.proofs.ElementLists.{elements_append, calm_append}
+use Rattle.dpl_syntax.proofs.Ends.{passes_then, fails_then, IsNever, never, passes_one, fails_one}
+use Rattle.dpl_syntax.proofs.ElementLists.{elements_append}
 
 -- ---- calm records
 

@@ -15,7 +15,7 @@ of_record (records.UnknownRecord at) = UnknownRecord at
 of_record (records.BadDataType at) = BadDataType at
 of_record (records.BadSize at) = BadSize at
 
--- The fault that an error names is so, unless it is want of memory.
+-- The fault that an error names is so, unless memory ran out.
 abbrev pub Refuses : (Fault → Type 0) → SyntaxFault → Type 0
 Refuses Is NoMemory = Unit {0}
 Refuses Is (Truncated at) = Is (truncated at)
@@ -27,12 +27,12 @@ Refuses Is (Unexpected at) = Is (unexpected at)
 Refuses Is (BadName at) = Is (bad_name at)
 Refuses Is (DuplicateStructure at) = Is (duplicate_structure at)
 
--- this library, or want of memory
+-- this library, or out of memory
 abbrev pub Gives : Result Library SyntaxFault → Library → Type 0
 Gives (Ok lib) wanted = lib ≡ wanted
 Gives (Err e) wanted = e ≡ NoMemory
 
--- this fault, or want of memory
+-- this fault, or out of memory
 abbrev pub Refused : Result Library SyntaxFault → Fault → Type 0
 Refused (Ok lib) f = ⊥
 Refused (Err e) f = Refuses (λ g. g ≡ f) e

@@ -1,5 +1,5 @@
 -- Reading the records of an element one by one, from an offset on, with the first fault that is met.
-use Rattle.std.specs.Prelude.{◌≡◌, ℕ, Bool, ◌==◌, if◌then◌else◌, List, [], ◌∷◌, ◌++◌, length, Option, Some, None, Result, Ok, Err}
+use Rattle.std.specs.Prelude.{◌≡◌, ℕ, ◌==◌, if◌then◌else◌, List, [], ◌∷◌, ◌++◌, length, Option, Some, None, Result, Ok, Err}
 use Rattle.std.specs.Prelude.{nat_eq}
 use Rattle.std.specs.List.{list_any}
 use Rattle.std.specs.Cmp.Lexicographic.{pointwise}
@@ -29,7 +29,7 @@ pub data Item : Type 0 where
   -- a record of this type, or none
   may : ℕ → Item
   -- STRANS with MAG and ANGLE behind it, each of which may be missing, or nothing
-  turned : Item
+  transformed : Item
   -- SNAME with a name
   named : Item
   -- XY of this many bytes
@@ -77,9 +77,9 @@ module _ (bytes : List ℕ) where
     r ← take kinds.xy at
     if length r.0.body == len then Ok r else Err (bad_size r.0.at)
 
-  abbrev pub take_turned : Option Record × ℕ → Result (Slots × ℕ) Fault
-  take_turned (None, at) = Ok ((kinds.strans, None) ∷ (kinds.mag, None) ∷ (kinds.angle, None) ∷ [], at)
-  take_turned (Some r, at) = do
+  abbrev pub take_transformed : Option Record × ℕ → Result (Slots × ℕ) Fault
+  take_transformed (None, at) = Ok ((kinds.strans, None) ∷ (kinds.mag, None) ∷ (kinds.angle, None) ∷ [], at)
+  take_transformed (Some r, at) = do
     m ← take_if kinds.mag at
     g ← take_if kinds.angle m.1
     Ok ((kinds.strans, Some r) ∷ (kinds.mag, m.0) ∷ (kinds.angle, g.0) ∷ [], g.1)
@@ -93,9 +93,9 @@ module _ (bytes : List ℕ) where
   item_at (may kind) at = do
     o ← take_if kind at
     Ok ((kind, o.0) ∷ [], o.1)
-  item_at turned at = do
+  item_at transformed at = do
     o ← take_if kinds.strans at
-    take_turned o
+    take_transformed o
   item_at named at = one_slot kinds.sname (take_name at)
   item_at (points len) at = one_slot kinds.xy (take_points len at)
 
@@ -108,51 +108,47 @@ module _ (bytes : List ℕ) where
 
 -- ---- what each element has
 
-abbrev pub flags : List Item → List Item
-flags rest = may kinds.elflags ∷ may kinds.plex ∷ rest
-
 abbrev pub boundary : List Item
-boundary = flags (must kinds.layer ∷ must kinds.datatype ∷ must kinds.xy ∷ [])
+boundary = must kinds.layer ∷ must kinds.datatype ∷ must kinds.xy ∷ []
 
 abbrev pub path : List Item
 path =
-    flags
-    (must kinds.layer
+    must kinds.layer
     ∷ must kinds.datatype
     ∷ may kinds.pathtype
     ∷ may kinds.width
     ∷ may kinds.bgnextn
     ∷ may kinds.endextn
     ∷ must kinds.xy
-    ∷ [])
+    ∷ []
 
 abbrev pub sref : List Item
-sref = flags (named ∷ turned ∷ points 8 ∷ [])
+sref = named ∷ transformed ∷ points 8 ∷ []
 
 abbrev pub aref : List Item
-aref = flags (named ∷ turned ∷ must kinds.colrow ∷ points 24 ∷ [])
+aref = named ∷ transformed ∷ must kinds.colrow ∷ points 24 ∷ []
 
 abbrev pub text : List Item
 text =
-    flags
-    (must kinds.layer
+    must kinds.layer
     ∷ must kinds.texttype
     ∷ may kinds.presentation
     ∷ may kinds.pathtype
     ∷ may kinds.width
-    ∷ turned
+    ∷ transformed
     ∷ points 8
     ∷ must kinds.text_string
-    ∷ [])
+    ∷ []
 
 abbrev pub node : List Item
-node = flags (must kinds.layer ∷ must kinds.nodetype ∷ must kinds.xy ∷ [])
+node = must kinds.layer ∷ must kinds.nodetype ∷ must kinds.xy ∷ []
 
 abbrev pub box : List Item
-box = flags (must kinds.layer ∷ must kinds.boxtype ∷ must kinds.xy ∷ [])
+box = must kinds.layer ∷ must kinds.boxtype ∷ must kinds.xy ∷ []
 
-abbrev pub items_of : ℕ → List Item
-items_of kind =
+-- what an element of this type has behind its flags
+abbrev pub own_items_of : ℕ → List Item
+own_items_of kind =
     if kind == kinds.boundary then boundary
     else if kind == kinds.path then path
     else if kind == kinds.sref then sref
@@ -161,8 +157,25 @@ items_of kind =
     else if kind == kinds.node then node
     else box
 
+-- every element may have flags before its own items
+abbrev pub items_of : ℕ → List Item
+items_of kind = may kinds.elflags ∷ may kinds.plex ∷ own_items_of kind
+
 -- the body of an element of this type, from behind its first record on
 abbrev pub body_at : List ℕ → ℕ → ℕ → Result (Body × ℕ) Fault
 body_at bytes kind at = do
   found ← items_at bytes (items_of kind) at
+  Ok (body_of kind (pick found.0), found.1)
+
+-- where ELFLAGS and PLEX end
+abbrev pub flags_end : List ℕ → ℕ → Result ℕ Fault
+flags_end bytes at = do
+  flags ← take_if bytes kinds.elflags at
+  plex ← take_if bytes kinds.plex flags.1
+  Ok plex.1
+
+-- the body of an element of this type, from behind its flags on
+abbrev pub body_behind_flags : List ℕ → ℕ → ℕ → Result (Body × ℕ) Fault
+body_behind_flags bytes kind at = do
+  found ← items_at bytes (own_items_of kind) at
   Ok (body_of kind (pick found.0), found.1)

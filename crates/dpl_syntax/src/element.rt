@@ -1,6 +1,6 @@
 //! The elements of a structure.
 
-/// How a reference is turned: the bits of STRANS, and the eight bytes of the reals MAG and ANGLE.
+/// The transformation of a reference: the bits of STRANS, and the eight bytes of the reals MAG and ANGLE.
 #[derive(Clone, Copy, Debug, Drop)]
 pub struct Trans {
     pub strans: u16,
@@ -55,7 +55,7 @@ pub enum Body<'a> {
     },
 }
 
-/// An element of a structure.
+/// An element of a structure, and where it stands in the file.
 #[derive(Clone, Copy, Debug, Drop)]
 pub struct Element<'a> {
     /// The offset of its first record.

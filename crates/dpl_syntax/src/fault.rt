@@ -10,6 +10,7 @@ use thiserror::Error;
 /// Why a file holds no library, by the first record that is refused. `at` is the offset of that record's first byte.
 #[derive(Clone, Copy, Debug, Drop, PartialEq, Eq, Error)]
 pub enum SyntaxFault {
+    /// Memory ran out.
     #[error("there is no memory")]
     NoMemory,
     /// The bytes end within a record, or before ENDLIB.

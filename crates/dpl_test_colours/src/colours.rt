@@ -1,5 +1,5 @@
 //! The colours of worked graphs.
-use dpl_base::{Edge, Id};
+use dpl_list::{Edge, Id};
 use dpl_orient::{Mask, are_sides_below, is_even_below, orient};
 use dpl_stars::stars;
 use std::alloc::Global;

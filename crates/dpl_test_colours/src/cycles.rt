@@ -1,7 +1,7 @@
 //! Worked graphs, and the odd cycles that are reported of them.
-use dpl_base::{Edge, Id};
-use dpl_graph::are_edges_below;
+use dpl_list::{Edge, Id};
 use dpl_odd::odd_cycle;
+use dpl_stars::are_edges_below;
 use std::test::Fail;
 
 #[test]

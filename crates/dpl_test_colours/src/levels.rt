@@ -1,5 +1,5 @@
 //! A worked graph, with its roots and levels.
-use dpl_graph::{are_edges_below, levels_of};
+use dpl_stars::{are_edges_below, levels_of};
 use std::test::Fail;
 
 #[test]

@@ -1,77 +1,61 @@
-//! Layers with their zones, and the pieces that these leave.
-ghost use Rattle.std.specs.Prelude.{◌<◌};
-
-use dpl_base::{Pt, Rect};
+//! Layers with their zones, the pieces that these leave, and the masks of coloured pieces.
+use crate::bars::{Corners, set_of};
+use dpl_base::{Id, Pt, Rect};
 use dpl_feature::features;
+use dpl_masks::{Masks, masks};
+use dpl_orient::{Colours, Mask};
 use dpl_piece::{Pieces, pieces};
-use dpl_slabs::Slabs;
 use dpl_zone::zones;
 use std::alloc::{AllocError, Global};
 use std::test::Fail;
 
-/// A rectangle with small coordinates.
-fn bar(alloc: Global, x0: u16, y0: u16, x1: u16, y1: u16) -> Result<Slabs, AllocError>
-    requires wide { x0 < x1 }
-    requires tall { y0 < y1 }
-{
-    Slabs::one(
-        alloc,
-        Rect {
-            x0: x0 as i32,
-            y0: y0 as i32,
-            x1: x1 as i32,
-            y1: y1 as i32,
-        },
-    )
-}
+/// A long bar, and two that stand over its ends.
+const BARS: [Corners; 3] = [(0, 0, 158, 20), (0, 40, 50, 60), (108, 40, 158, 60)];
+
+/// The same bars twice, one above the other.
+const BARS_TWICE: [Corners; 6] = [
+    (0, 0, 158, 20),
+    (0, 40, 50, 60),
+    (108, 40, 158, 60),
+    (0, 1000, 158, 1020),
+    (0, 1040, 50, 1060),
+    (108, 1040, 158, 1060),
+];
+
+/// A square with a hole in its middle.
+const RING: [Corners; 4] = [
+    (0, 0, 100, 40),
+    (0, 40, 40, 60),
+    (60, 40, 100, 60),
+    (0, 60, 100, 100),
+];
 
 /// The pieces of a layer by a rule of 30 and an overlap of 10.
-fn cut(alloc: Global, layer: &Slabs) -> Result<Pieces, AllocError> {
-    let features = features(alloc, layer)?;
+fn cut(alloc: Global, layer: &[Corners]) -> Result<Pieces, AllocError> {
+    let layer = set_of(alloc, layer)?;
+    let features = features(alloc, &layer)?;
     let zones = zones(alloc, &features, 30, 10)?;
     pieces(alloc, features, zones)
 }
 
-/// A long bar, and two that stand over its ends.
-fn three_bars(alloc: Global) -> Result<Slabs, AllocError> {
-    let long = bar(alloc, 0, 0, 158, 20)?;
-    let left = bar(alloc, 0, 40, 50, 60)?;
-    let two = long.union(alloc, &left)?;
-    let right = bar(alloc, 108, 40, 158, 60)?;
-    two.union(alloc, &right)
-}
-
-/// A square with a hole in its middle.
-fn ring(alloc: Global) -> Result<Slabs, AllocError> {
-    let square = bar(alloc, 0, 0, 100, 100)?;
-    let hole = bar(alloc, 40, 40, 60, 60)?;
-    square.minus(alloc, &hole)
-}
-
-/// The pieces of the three bars.
-fn cut_bars(alloc: Global) -> Result<Pieces, AllocError> {
-    let layer = three_bars(alloc)?;
-    cut(alloc, &layer)
-}
-
-/// The pieces of the ring.
-fn cut_ring(alloc: Global) -> Result<Pieces, AllocError> {
-    let layer = ring(alloc)?;
-    cut(alloc, &layer)
-}
-
-fn at(x: i64, y: i64) -> Pt {
-    Pt { x, y }
+/// Whether the rectangles have these corners, one after the other.
+fn are(rects: &[Rect], corners: &[Corners]) -> bool {
+    rects.len() == corners.len()
+        && rects
+            .iter()
+            .zip(corners)
+            .all(|(r, c)| (r.x0, r.y0, r.x1, r.y1) == *c)
 }
 
 /// Whether the pieces have just these keys, one after the other.
-fn has_keys(cut: &Pieces, want: &[Pt]) -> bool {
+fn has_keys(cut: &Pieces, want: &[(i64, i64)]) -> bool {
     let count = cut.parts().items().len();
     if count != want.len() {
         return false;
     }
     for k in 0..count {
-        if cut.key(k) != want[k] {
+        let (x, y) = want[k];
+        if cut.key(k) != (Pt { x, y }) {
             return false;
         }
     }
@@ -79,28 +63,114 @@ fn has_keys(cut: &Pieces, want: &[Pt]) -> bool {
 }
 
 #[test]
-fn a_bar_is_cut_between_two_others(rt: HostRuntime) -> Result<(), Fail> {
-    let cut = cut_bars(rt.alloc())?;
-    let zone = Rect {
-        x0: 74,
-        y0: 0,
-        x1: 84,
-        y1: 20,
-    };
-    assert_eq!(rt; cut.parts().items().len(), 4);
-    assert!(rt; has_keys(&cut, &[at(0, 0), at(84, 0), at(0, 40), at(108, 40)]));
-    assert_eq!(rt; cut.owner(), [0, 0, 1, 2].as_slice());
-    assert_eq!(rt; cut.zones().len(), 1);
-    assert_eq!(rt; cut.zones()[0].rect, zone);
-    assert_eq!(rt; cut.sides(), [(0, 1)].as_slice());
+fn layers_are_cut(rt: HostRuntime) -> Result<(), Fail> {
+    // a layer, its zones, and the keys, the features and the sides of its pieces
+    let cases: [(&[Corners], &[Corners], &[(i64, i64)], &[Id], &[(Id, Id)]); 2] = [
+        (
+            &BARS,
+            &[(74, 0, 84, 20)],
+            &[(0, 0), (84, 0), (0, 40), (108, 40)],
+            &[0, 0, 1, 2],
+            &[(0, 1)],
+        ),
+        (
+            &RING,
+            &[
+                (45, 0, 55, 40),
+                (0, 45, 40, 55),
+                (60, 45, 100, 55),
+                (45, 60, 55, 100),
+            ],
+            &[(0, 0), (55, 0), (0, 55), (60, 55)],
+            &[0, 0, 0, 0],
+            &[(0, 1), (0, 2), (1, 3), (2, 3)],
+        ),
+    ];
+    for (layer, zones, keys, owner, sides) in cases {
+        let cut = cut(rt.alloc(), layer)?;
+        assert!(rt; has_keys(&cut, keys));
+        assert_eq!(rt; cut.owner(), owner);
+        assert_eq!(rt; cut.sides(), sides);
+        assert_eq!(rt; cut.zones().len(), zones.len());
+        for (zone, corners) in cut.zones().iter().zip(zones) {
+            assert!(rt; are(&[zone.rect], &[*corners]));
+        }
+    }
     Ok(())
 }
 
+/// The masks of a layer whose pieces have these letters, where there is one for each piece.
+fn painted(
+    alloc: Global,
+    layer: &[Corners],
+    letters: &[Mask],
+) -> Result<Option<Masks>, AllocError> {
+    let pieces = cut(alloc, layer)?;
+    if letters.len() != pieces.parts().items().len() {
+        return Ok(None);
+    }
+    let colours = Colours::of(Vec::from_slice(alloc, letters)?);
+    Ok(Some(masks(alloc, pieces, &colours)?))
+}
+
 #[test]
-fn a_ring_is_cut_in_four(rt: HostRuntime) -> Result<(), Fail> {
-    let cut = cut_ring(rt.alloc())?;
-    assert!(rt; has_keys(&cut, &[at(0, 0), at(55, 0), at(0, 55), at(60, 55)]));
-    assert_eq!(rt; cut.owner(), [0, 0, 0, 0].as_slice());
-    assert_eq!(rt; cut.sides(), [(0, 1), (0, 2), (1, 3), (2, 3)].as_slice());
+fn features_are_painted(rt: HostRuntime) -> Result<(), Fail> {
+    let (a, b) = (Mask::A, Mask::B);
+    // a layer, the letters of its pieces, and both masks
+    let cases: [(&[Corners], &[Mask], &[Corners], &[Corners]); 6] = [
+        (&[], &[], &[], &[]),
+        // no zone cuts the feature
+        (&[(3, 4, 5, 6)], &[b], &[], &[(3, 4, 5, 6)]),
+        // a zone cuts the long bar: both pieces on one mask, and one on each
+        (
+            &BARS,
+            &[a, a, b, b],
+            &[(0, 0, 158, 20)],
+            &[(0, 40, 50, 60), (108, 40, 158, 60)],
+        ),
+        (
+            &BARS,
+            &[a, b, b, a],
+            &[(0, 0, 84, 20), (108, 40, 158, 60)],
+            &[(74, 0, 158, 20), (0, 40, 50, 60)],
+        ),
+        // all three kinds of features
+        (
+            &BARS_TWICE,
+            &[a, b, b, a, b, b, a, a],
+            &[
+                (0, 0, 84, 20),
+                (108, 40, 158, 60),
+                (0, 1040, 50, 1060),
+                (108, 1040, 158, 1060),
+            ],
+            &[(74, 0, 158, 20), (0, 40, 50, 60), (0, 1000, 158, 1020)],
+        ),
+        // four stitches
+        (
+            &RING,
+            &[a, b, b, a],
+            &[
+                (0, 0, 55, 40),
+                (0, 40, 40, 55),
+                (60, 45, 100, 60),
+                (45, 60, 100, 100),
+            ],
+            &[
+                (45, 0, 100, 40),
+                (60, 40, 100, 55),
+                (0, 45, 40, 60),
+                (0, 60, 55, 100),
+            ],
+        ),
+    ];
+    for (layer, letters, on_a, on_b) in cases {
+        let found = painted(rt.alloc(), layer, letters)?;
+        assert!(rt; found.is_some());
+        if let Some(masks) = found {
+            assert!(rt; are(masks.a.rects(), on_a));
+            assert!(rt; are(masks.b.rects(), on_b));
+        }
+    }
     Ok(())
 }

@@ -1,8 +1,10 @@
-//! Worked sets of squares.
+//! Worked sets of squares: those of loops, and what is made of sets.
 ghost use Rattle.std.specs.Prelude.{IfOk};
 ghost use Rattle.dpl_spec_split.specs.Loops.{farthest, IsPointWithin, ArePointsWithin};
 
+use crate::bars::{Corners, set_of};
 use dpl_base::{Loop, Pt, Rect};
+use dpl_feature::features;
 use dpl_slabs::Slabs;
 use std::alloc::{AllocError, Global};
 use std::test::Fail;
@@ -34,8 +36,7 @@ fn slabs_of(alloc: Global, loops: &[&[(i16, i16)]]) -> Result<Slabs, AllocError>
     for i in 0..loops.len() {
         all.push(loop_of(alloc, loops[i])?)?;
     }
-    let slabs = Slabs::of_loops(alloc, all)?;
-    Ok(slabs)
+    Slabs::of_loops(alloc, all)
 }
 
 fn rect(x0: i32, y0: i32, x1: i32, y1: i32) -> Rect {
@@ -77,6 +78,20 @@ fn loops_have_their_slabs(rt: HostRuntime) -> Result<(), Fail> {
     let open = slabs_of(alloc, &[&ring[..12]])?;
     assert_eq!(rt; closed.rects(), want.as_slice());
     assert!(rt; open.equal(&closed));
+
+    // strips of rows, the upper one a row of bars
+    let over_low = [(0, 10), (10, 10), (10, 20), (0, 20)];
+    let last = [(26, 21), (30, 21), (30, 30), (26, 30)];
+    let left = [(0, 21), (10, 21), (10, 30), (0, 30)];
+    let over = [(5, 21), (20, 21), (20, 30), (5, 30)];
+    let beside = [(20, 21), (25, 21), (25, 30), (20, 30)];
+    let strips = slabs_of(alloc, &[&last, &over_low, &beside, &over, &left, &low])?;
+    let want = [
+        rect(0, 0, 10, 20),
+        rect(0, 21, 25, 30),
+        rect(26, 21, 30, 30),
+    ];
+    assert_eq!(rt; strips.rects(), want.as_slice());
     Ok(())
 }
 
@@ -103,57 +118,85 @@ fn put_together(alloc: Global, by: Together) -> Result<Slabs, AllocError> {
 
 #[test]
 fn sets_are_combined(rt: HostRuntime) -> Result<(), Fail> {
-    let cases: [(Together, &[Rect]); 4] = [
+    // what two squares are put together by, the slabs, which are those of the columns too, the least square, and whether (9, 4) and (5, 5) are in the set
+    let cases: [(Together, &[Rect], (i64, i64), bool, bool); 4] = [
         (
             Together::Union,
             &[rect(0, 0, 10, 5), rect(0, 5, 15, 10), rect(5, 10, 15, 15)],
+            (0, 0),
+            true,
+            true,
         ),
-        (Together::Minus, &[rect(0, 0, 10, 5), rect(0, 5, 5, 10)]),
-        (Together::Without, &[rect(0, 0, 10, 5), rect(0, 5, 5, 10)]),
-        (Together::Meet, &[rect(5, 5, 10, 10)]),
+        (
+            Together::Minus,
+            &[rect(0, 0, 10, 5), rect(0, 5, 5, 10)],
+            (0, 0),
+            true,
+            false,
+        ),
+        (
+            Together::Without,
+            &[rect(0, 0, 10, 5), rect(0, 5, 5, 10)],
+            (0, 0),
+            true,
+            false,
+        ),
+        (Together::Meet, &[rect(5, 5, 10, 10)], (5, 5), false, true),
     ];
-    for (by, want) in cases {
+    for (by, want, (x, y), has_first, has_second) in cases {
         let set = put_together(rt.alloc(), by)?;
         assert_eq!(rt; set.rects(), want);
+        assert_eq!(rt; set.columns(rt.alloc())?.as_slice(), want);
+        assert_eq!(rt; set.least(), Some(Pt { x, y }));
+        assert!(rt;
+            set.equal(&Slabs::of_rects(rt.alloc(), Vec::from_slice(rt.alloc(), set.rects())?)?)
+        );
+        assert!(rt; set.has(9, 4) == has_first && set.has(5, 5) == has_second);
     }
-    Ok(())
-}
-
-#[test]
-fn sets_tell_their_squares(rt: HostRuntime) -> Result<(), Fail> {
-    let left = put_together(rt.alloc(), Together::Minus)?;
-    assert!(rt;
-        left.equal(&Slabs::of_rects(rt.alloc(), Vec::from_slice(rt.alloc(), left.rects())?)?)
-    );
-    assert_eq!(rt; left.least(), Some(Pt { x: 0, y: 0 }));
-    assert!(rt; left.has(9, 4));
-    assert!(rt; !left.has(5, 5));
-    Ok(())
-}
-
-#[test]
-fn columns_are_rows_exchanged(rt: HostRuntime) -> Result<(), Fail> {
     let bar = slabs_of(rt.alloc(), &[&[(0, 0), (30, 0), (30, 10), (0, 10)]])?;
-    let turned = bar.columns(rt.alloc())?;
-    assert_eq!(rt; turned.as_slice(), [rect(0, 0, 10, 30)].as_slice());
+    let columns = bar.columns(rt.alloc())?;
+    assert_eq!(rt; columns.as_slice(), [rect(0, 0, 10, 30)].as_slice());
     Ok(())
 }
 
+/// The components of a set, put together again.
+fn put_together_apart(alloc: Global, set: &Slabs) -> Result<Slabs, AllocError> {
+    let parts = features(alloc, set)?;
+    Slabs::of_apart(alloc, parts.items())
+}
+
 #[test]
-fn strips_and_rows_have_their_slabs(rt: HostRuntime) -> Result<(), Fail> {
-    let alloc = rt.alloc();
-    let low = [(0, 0), (10, 0), (10, 10), (0, 10)];
-    let high = [(0, 10), (10, 10), (10, 20), (0, 20)];
-    let last = [(26, 21), (30, 21), (30, 30), (26, 30)];
-    let left = [(0, 21), (10, 21), (10, 30), (0, 30)];
-    let over = [(5, 21), (20, 21), (20, 30), (5, 30)];
-    let beside = [(20, 21), (25, 21), (25, 30), (20, 30)];
-    let set = slabs_of(alloc, &[&last, &high, &beside, &over, &left, &low])?;
-    let want = [
-        rect(0, 0, 10, 20),
-        rect(0, 21, 25, 30),
-        rect(26, 21, 30, 30),
+fn sets_apart_are_put_in_order(rt: HostRuntime) -> Result<(), Fail> {
+    // rectangles, and their slabs; those of several components follow one another in turn
+    let cases: [(&[Corners], &[Rect]); 4] = [
+        (&[], &[]),
+        (&[(7, 7, 9, 8)], &[rect(7, 7, 9, 8)]),
+        (
+            &[(20, 10, 30, 20), (0, 0, 10, 30)],
+            &[rect(0, 0, 10, 30), rect(20, 10, 30, 20)],
+        ),
+        // a cross of three slabs, and two bars beside it
+        (
+            &[
+                (10, 0, 20, 10),
+                (0, 10, 30, 20),
+                (10, 20, 20, 30),
+                (40, 0, 50, 30),
+                (60, 15, 70, 25),
+            ],
+            &[
+                rect(10, 0, 20, 10),
+                rect(40, 0, 50, 30),
+                rect(0, 10, 30, 20),
+                rect(60, 15, 70, 25),
+                rect(10, 20, 20, 30),
+            ],
+        ),
     ];
-    assert_eq!(rt; set.rects(), want.as_slice());
+    for (rects, want) in cases {
+        let set = set_of(rt.alloc(), rects)?;
+        let all = put_together_apart(rt.alloc(), &set)?;
+        assert_eq!(rt; all.rects(), want);
+    }
     Ok(())
 }

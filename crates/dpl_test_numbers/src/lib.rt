@@ -1,6 +1,8 @@
-//! Worked numbers of layout files: records, reals, placements and made-up rows.
+//! Worked numbers of layout files: records, reals, placements, loops and made-up rows.
 #![tactic(auto)]
 
+#[cfg(test)]
+mod loops;
 #[cfg(test)]
 mod placements;
 #[cfg(test)]

@@ -60,6 +60,5 @@ pub(crate) fn lay(alloc: Global, parts: &[Slabs], tile: u32) -> Result<Laid, All
         let places = Vec::new(alloc);
         return Ok(Laid { grid, places });
     };
-    let laid = lay_over(alloc, parts, &bounds, tile)?;
-    Ok(laid)
+    lay_over(alloc, parts, &bounds, tile)
 }

@@ -9,7 +9,7 @@ use dpl_slabs::Parts;
 use dpl_tree::Tree;
 use std::alloc::{AllocError, Global};
 
-/// The tiles of the pieces of a layer, one owner to each piece. The rule and the tile, which is at least 1, are in database units. The grid begins at the least column and the least row of all pieces; a tile's side is `tile`, doubled until there are at most 16,777,216 pairs of a piece's slab and a cell that it meets, or one cell has all; a cell with no square is no tile. Fails for want of memory alone.
+/// The tiles of the pieces of a layer, one owner to each piece. The rule and the tile, which is at least 1, are in database units. The grid begins at the least column and the least row of all pieces; a tile's side is `tile`, doubled until there are at most 16,777,216 pairs of a piece's slab and a cell that it meets, or one cell has all; a cell with no square is no tile. Fails only out of memory.
 pub fn plan<'a>(
     alloc: Global,
     parts: &'a Parts,

@@ -2,4 +2,4 @@ pub mod BlockLaws
 pub mod ItemLaws
 pub mod SearchLaws
 pub mod StoredLaws
-pub mod Turns
+pub mod TransposedLaws

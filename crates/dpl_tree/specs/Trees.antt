@@ -2,7 +2,7 @@
 use Rattle.std.specs.Prelude.{◌≡◌, ◌≢◌, ℕ, ◌<◌, ◌≤◌, ◌⊎◌, ◌↔◌, ◌≤ℤ◌, Bool, true, false, List, [], length, map, slice_index_or}
 use Rattle.std.specs.List.{Contains}
 use Rattle.dpl_spec_split.specs.declared.Rect.{Rect}
-use Rattle.dpl_spec_split.specs.Zones.{turned_rect}
+use Rattle.dpl_spec_split.specs.Zones.{transposed_rect}
 use Rattle.dpl_tree.specs.declared.items.Item.{Item}
 use Rattle.dpl_tree.specs.declared.owners.Owners.{Owners}
 use Rattle.dpl_tree.specs.declared.owners.Owners.TheVariants.{All, But, Only, Above}
@@ -40,11 +40,11 @@ IsMissed window owners item = LiesApart window item.rect ⊎ IsLeftOut owners it
 abbrev pub ArePassed : Rect → Owners → List Item → ℕ → ℕ → Type 0
 ArePassed window owners items from n = (j : ℕ) (d : Item) → from ≤ j → j < n → j < length items → IsMissed window owners (slice_index_or items j d)
 
--- x and y exchanged
-abbrev pub turned_item : Item → Item
-turned_item item = record { rect = turned_rect item.rect; owner = item.owner }
+-- transposed
+abbrev pub transposed_item : Item → Item
+transposed_item item = record { rect = transposed_rect item.rect; owner = item.owner }
 
--- the items, or the same with x and y exchanged
+-- the items, or the same transposed
 abbrev pub seen : Bool → List Item → List Item
-seen true items = map turned_item items
+seen true items = map transposed_item items
 seen false items = items

@@ -72,7 +72,7 @@ impl Items {
         Ok(Items { items })
     }
 
-    /// Adds rectangles of an owner. Where memory runs out, it adds none. An owner of number 2^32 or more is refused as want of memory, which so many owners with rectangles would be.
+    /// Adds rectangles of an owner. Where memory runs out, it adds none. An owner of number 2^32 or more is refused as out of memory, which so many owners with rectangles would be.
     pub fn add(&mut self, rects: &[Rect], owner: usize) -> Result<(), AllocError>
         ensures { MatchResult result (λ _. (r : Rect) (k : ℕ) → HasItem self.new r k ↔ (HasItem self.old r k ⊎ ((k ≡ owner) × Contains rects.now r))) (λ _. self.new ≡ self.old) }
     {

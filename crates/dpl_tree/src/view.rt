@@ -1,38 +1,18 @@
-//! A search tree, as it is or with x and y exchanged.
+//! A search tree, as it is or transposed.
 ghost use Rattle.std.specs.Prelude.{◌≡◌, ℕ, ◌<◌, ◌≤◌, length, map, slice_index_or};
-ghost use Rattle.dpl_spec_split.specs.Zones.{turned_rect};
 ghost use Rattle.dpl_tree.specs.declared.items.Item.{Item};
-ghost use Rattle.dpl_tree.specs.Trees.{ArePassed, IsMissed, turned_item};
+ghost use Rattle.dpl_tree.specs.Trees.{ArePassed, IsMissed, transposed_item};
 
 use crate::owners::Owners;
 use crate::tree::Tree;
-use dpl_base::{Rect, WideRect};
+use dpl_base::{Rect, WideRect, transposed};
 use std::marker::Model;
 
-/// The rectangle with x and y exchanged.
-fn turned(r: &Rect) -> Rect
-    ensures { result ≡ turned_rect r.now }
-{
-    Rect {
-        x0: r.y0,
-        y0: r.x0,
-        x1: r.y1,
-        y1: r.x1,
-    }
-}
-
-/// The window with x and y exchanged.
-fn turned_window(w: &WideRect) -> WideRect
-    ensures { result ≡ turned_rect w.now }
-{
-    WideRect::new(w.y0(), w.x0(), w.y1(), w.x1())
-}
-
-/// A tree that is borrowed, as it is or with x and y exchanged. A contract sees the items.
+/// A tree that is borrowed, as it is or transposed. A contract sees the items.
 #[derive(Drop)]
 pub struct View<'a> {
     tree: &'a Tree,
-    is_turned: bool,
+    is_transposed: bool,
 }
 
 impl<'a> Model for View<'a> {
@@ -42,7 +22,7 @@ impl<'a> Model for View<'a> {
 
     ghost Value = { List Item };
 
-    ghost view = { λ v. seen v.is_turned v.tree.now };
+    ghost view = { λ v. seen v.is_transposed v.tree.now };
 
     ghost invariant = { λ v. Unit {0} };
 }
@@ -54,17 +34,17 @@ impl<'a> View<'a> {
     {
         View {
             tree,
-            is_turned: false,
+            is_transposed: false,
         }
     }
 
-    /// The tree with x and y exchanged.
-    pub fn turned(tree: &'a Tree) -> View<'a>
-        ensures { result ≡ map turned_item tree.now }
+    /// The transposed tree.
+    pub fn transposed(tree: &'a Tree) -> View<'a>
+        ensures { result ≡ map transposed_item tree.now }
     {
         View {
             tree,
-            is_turned: true,
+            is_transposed: true,
         }
     }
 
@@ -81,8 +61,8 @@ impl<'a> View<'a> {
         ensures { (d : Item) → result ≡ (slice_index_or self.now i d).rect }
     {
         let rect = self.tree.item(i).rect;
-        if self.is_turned {
-            return turned(&rect);
+        if self.is_transposed {
+            return transposed(&rect);
         }
         rect
     }
@@ -93,8 +73,8 @@ impl<'a> View<'a> {
         ensures passed { ArePassed window.now owners self.now from result }
         ensures found { (d : Item) → result < length self.now → ¬ IsMissed window.now owners (slice_index_or self.now result d) }
     {
-        if self.is_turned {
-            return self.tree.seek(from, &turned_window(window), owners);
+        if self.is_transposed {
+            return self.tree.seek(from, &window.transposed(), owners);
         }
         self.tree.seek(from, window, owners)
     }

@@ -15,7 +15,7 @@ use lib.ListN.{get_elem?}
 use prog.Atomic.{either}
 use Rattle.atomic_table.specs.Table.{Act, Me, State, Step, Valid, carried_after, gives, keeps, opening, step, stepped, takes}
 use Rattle.atomic_table.proofs.Lists.{at_longer, at_set, at_snoc, set_again, set_else, set_here}
-use Rattle.dpl_turn.specs.declared.view.View.{View}
+use Rattle.dpl_turn.specs.declared.view.SeatView.{SeatView}
 use Rattle.dpl_stars.specs.declared.joined.Joined.{Joined}
 use Rattle.dpl_stars.specs.Sums.{Sums}
 use Rattle.dpl_board.specs.declared.fault.PostFault.{PostFault}
@@ -29,7 +29,7 @@ use Rattle.std.proofs.lemmas.List.Quantifiers.{all_pairs_push}
 use Rattle.std.specs.List.{All, AllPairs}
 use Rattle.std.specs.Prelude.{Result, Ok, Err}
 use Rattle.std.proofs.lemmas.List.Elements.{All-cons, All-nil}
-use Rattle.dpl_turn.specs.Rule.{AllFronts, AreEntries, Fits, GivesTurn, Idle, HasTurn, HaveOne, Holding, IsKept, IsNamed, IsProper}
+use Rattle.dpl_turn.specs.Rule.{AllPrefixes, AreEntries, Fits, GivesTurn, Idle, HasTurn, HaveOne, Holding, IsKept, IsNamed, IsProper}
 use Rattle.dpl_turn.specs.Rule.{MayFollow, Slot, StartsWith, TriesTurn, after_give, all_posts_at, named_list, named_posts, newcomer}
 use Rattle.dpl_turn.specs.Rule.{posts_at, both_views, spent_view, longer, entry_in, merged, placed}
 
@@ -49,21 +49,21 @@ none_rise : AllPairs ByPlace []
 none_rise i j d lt ltj = absurd (omega arith)
 
 -- one more view adds its posts
-posts_more : (p : ℕ) (vs : List View) (w : View) → all_posts_at p (vs ++ w ∷ []) ≡ all_posts_at p vs + posts_at p w.own
+posts_more : (p : ℕ) (vs : List SeatView) (w : SeatView) → all_posts_at p (vs ++ w ∷ []) ≡ all_posts_at p vs + posts_at p w.own
 posts_more p [] w = omega arith
 posts_more p (v ∷ vs) w = let r = posts_more p vs w in omega arith
 
 -- a view that keeps its posts changes nothing of them
-posts_set : (p : ℕ) (vs : List View) (i : ℕ) (v w : View) → get_elem? vs i ≡ some v → w.own ≡ v.own → all_posts_at p (set vs i w) ≡ all_posts_at p vs
+posts_set : (p : ℕ) (vs : List SeatView) (i : ℕ) (v w : SeatView) → get_elem? vs i ≡ some v → w.own ≡ v.own → all_posts_at p (set vs i w) ≡ all_posts_at p vs
 posts_set p [] i v w e same = refl
-posts_set p (x ∷ xs) zero v w e same = ap (λ (l : List (ℕ × Entry)). posts_at p l + all_posts_at p xs) (same ∙ sym (ap (λ (u : View). u.own) (some-injective x v e)))
+posts_set p (x ∷ xs) zero v w e same = ap (λ (l : List (ℕ × Entry)). posts_at p l + all_posts_at p xs) (same ∙ sym (ap (λ (u : SeatView). u.own) (some-injective x v e)))
 posts_set p (x ∷ xs) (suc i) v w e same = ap (λ (n : ℕ). posts_at p x.own + n) (posts_set p xs i v w e same)
 
-one_set : (sheet : Sheet) (workers : ℕ) (views : List View) (id : ℕ) (v w : View) → get_elem? views id ≡ some v → w.sheet ≡ v.sheet → w.workers ≡ v.workers → w.spent ≡ v.spent
+one_set : (sheet : Sheet) (workers : ℕ) (views : List SeatView) (id : ℕ) (v w : SeatView) → get_elem? views id ≡ some v → w.sheet ≡ v.sheet → w.workers ≡ v.workers → w.spent ≡ v.spent
     → HaveOne sheet workers views → HaveOne sheet workers (set views id w)
 one_set sheet workers views id v w at a b c h i u e un = ⊎_elim
-    (λ (x : (i ≡ id) × (w ≡ u)). let k = h id v at (sym c ∙ ap (λ (y : View). y.spent) x.1 ∙ un) in
-    (ap (λ (y : View). y.sheet) (sym x.1) ∙ a ∙ k.0, ap (λ (y : View). y.workers) (sym x.1) ∙ b ∙ k.1))
+    (λ (x : (i ≡ id) × (w ≡ u)). let k = h id v at (sym c ∙ ap (λ (y : SeatView). y.spent) x.1 ∙ un) in
+    (ap (λ (y : SeatView). y.sheet) (sym x.1) ∙ a ∙ k.0, ap (λ (y : SeatView). y.workers) (sym x.1) ∙ b ∙ k.1))
     (λ (x : (i ≢ id) × (get_elem? views i ≡ some u)). h i u x.1 un)
     (at_set views id i w u e)
 
@@ -93,20 +93,20 @@ opened sheet workers state none_yet stands proper = record {
   now = inl (refl, record { state = state; home = refl; same = none_yet; stands = stands; nobody = idle });
 }
   where
-    one : (i : ℕ) (v : View) → get_elem? (newcomer sheet workers [] ∷ []) i ≡ some v → Fits [] v
+    one : (i : ℕ) (v : SeatView) → get_elem? (newcomer sheet workers [] ∷ []) i ≡ some v → Fits [] v
     one zero v e = subst (Fits []) (some-injective _ _ e) (record { known = ([], refl); own = tt; rising = none_rise; older = tt })
     one (suc i) v e = absurd (some-ne-none v (sym e))
 
     one_here : HaveOne sheet workers (newcomer sheet workers [] ∷ [])
-    one_here zero v e un = let is : newcomer sheet workers [] ≡ v = some-injective _ _ e in (ap (λ (u : View). u.sheet) (sym is), ap (λ (u : View). u.workers) (sym is))
+    one_here zero v e un = let is : newcomer sheet workers [] ≡ v = some-injective _ _ e in (ap (λ (u : SeatView). u.sheet) (sym is), ap (λ (u : SeatView). u.workers) (sym is))
     one_here (suc i) v e un = absurd (some-ne-none v (sym e))
 
-    idle : (i : ℕ) (v : View) → get_elem? (newcomer sheet workers [] ∷ []) i ≡ some v → v.holds ≡ false
-    idle zero v e = ap (λ (u : View). u.holds) (sym (some-injective _ _ e))
+    idle : (i : ℕ) (v : SeatView) → get_elem? (newcomer sheet workers [] ∷ []) i ≡ some v → v.holds ≡ false
+    idle zero v e = ap (λ (u : SeatView). u.holds) (sym (some-injective _ _ e))
     idle (suc i) v e = absurd (some-ne-none v (sym e))
 
 -- a new seat with what this one has seen
-added : (sheet : Sheet) (workers : ℕ) (s : State Slot View) (v : View) (id : ℕ) → IsKept sheet workers s → get_elem? s.views id ≡ some v
+added : (sheet : Sheet) (workers : ℕ) (s : State Slot SeatView) (v : SeatView) (id : ℕ) → IsKept sheet workers s → get_elem? s.views id ≡ some v
     → v.spent ≡ false → IsKept sheet workers
     (record { words = s.words; homes = s.homes; views = s.views ++ newcomer v.sheet v.workers v.known ∷ [] })
 added sheet workers s v id h at fresh = record {
@@ -122,7 +122,7 @@ added sheet workers s v id h at fresh = record {
   proper = h.proper;
   one_sheet = λ i u e un. ⊎_elim (λ (was : get_elem? s.views i ≡ some u). h.one_sheet i u was un)
       (λ (new : newcomer v.sheet v.workers v.known ≡ u). let k = h.one_sheet id v at fresh in
-      (ap (λ (x : View). x.sheet) (sym new) ∙ k.0, ap (λ (x : View). x.workers) (sym new) ∙ k.1))
+      (ap (λ (x : SeatView). x.sheet) (sym new) ∙ k.0, ap (λ (x : SeatView). x.workers) (sym new) ∙ k.1))
       (at_snoc s.views (newcomer v.sheet v.workers v.known) u i e);
   now = elim h.now [
     | inl f ↦ inl (
@@ -133,7 +133,7 @@ added sheet workers s v id h at fresh = record {
         same = f.1.same;
         stands = f.1.stands;
         nobody = λ i u e. ⊎_elim (λ (was : get_elem? s.views i ≡ some u). f.1.nobody i u was)
-            (λ (new : newcomer v.sheet v.workers v.known ≡ u). ap (λ (x : View). x.holds) (sym new))
+            (λ (new : newcomer v.sheet v.workers v.known ≡ u). ap (λ (x : SeatView). x.holds) (sym new))
             (at_snoc s.views (newcomer v.sheet v.workers v.known) u i e);
       },
     )
@@ -143,7 +143,7 @@ added sheet workers s v id h at fresh = record {
         out = k.1.out;
         holder = k.1.holder;
         only = λ i u e on. ⊎_elim (λ (was : get_elem? s.views i ≡ some u). k.1.only i u was on)
-            (λ (new : newcomer v.sheet v.workers v.known ≡ u). absurd (off (ap (λ (x : View). x.holds) new ∙ on)))
+            (λ (new : newcomer v.sheet v.workers v.known ≡ u). absurd (off (ap (λ (x : SeatView). x.holds) new ∙ on)))
             (at_snoc s.views (newcomer v.sheet v.workers v.known) u i e);
         one = (k.1.one.0, at_longer s.views (newcomer v.sheet v.workers v.known ∷ []) k.1.holder k.1.one.0 k.1.one.1, k.1.one.2);
       },
@@ -151,26 +151,26 @@ added sheet workers s v id h at fresh = record {
   ];
 }
 
-pub splits : (sheet : Sheet) (workers : ℕ) (s : State Slot View) (v : View) (id : ℕ) → IsKept sheet workers s → get_elem? s.views id ≡ some v → v.spent ≡ false
+pub splits : (sheet : Sheet) (workers : ℕ) (s : State Slot SeatView) (v : SeatView) (id : ℕ) → IsKept sheet workers s → get_elem? s.views id ≡ some v → v.spent ≡ false
     → IsKept sheet workers (record { words = s.words; homes = s.homes; views = set s.views id v ++ newcomer v.sheet v.workers v.known ∷ [] })
 splits sheet workers s v id h at fresh = subst
-    (λ (l : List View). IsKept sheet workers
+    (λ (l : List SeatView). IsKept sheet workers
     (record { words = s.words; homes = s.homes; views = l ++ newcomer v.sheet v.workers v.known ∷ [] })) (sym (set_again s.views id v at))
     (added sheet workers s v id h at fresh)
 
 -- what a try owes
-abbrev pub Tried : Sheet → ℕ → Step Slot → ℕ → View → State Slot View → Type 0
-Tried sheet workers step id v s = (w : View) × (a : Act Slot) × Valid s.homes [] a
+abbrev pub Tried : Sheet → ℕ → Step Slot → ℕ → SeatView → State Slot SeatView → Type 0
+Tried sheet workers step id v s = (w : SeatView) × (a : Act Slot) × Valid s.homes [] a
     × IsKept sheet workers (stepped s 0 (either (slice_index s.words 0 == 0) 1 (slice_index s.words 0)) id [] w a)
     × TriesTurn step (v, []) (slice_index s.words 0) (w, carried_after [] a)
 
 -- the turn is free, and this seat gets it
-gets : (sheet : Sheet) (workers : ℕ) (step : Step Slot) (id : ℕ) (v : View) (tile : ℕ) (state : Board) (history : List Entry) (views : List View)
+gets : (sheet : Sheet) (workers : ℕ) (step : Step Slot) (id : ℕ) (v : SeatView) (tile : ℕ) (state : Board) (history : List Entry) (views : List SeatView)
     → get_elem? views id ≡ some v → state.history ≡ history
-    → ((i : ℕ) (u : View) → get_elem? views i ≡ some u → Fits history u)
+    → ((i : ℕ) (u : SeatView) → get_elem? views i ≡ some u → Fits history u)
     → ((p : ℕ) → p < length history → all_posts_at p views ≡ 1)
     → ((p : ℕ) → length history ≤ p → all_posts_at p views ≡ 0)
-    → ((i : ℕ) (u : View) → get_elem? views i ≡ some u → u.holds ≡ false)
+    → ((i : ℕ) (u : SeatView) → get_elem? views i ≡ some u → u.holds ≡ false)
     → Stands sheet state → IsProper sheet workers history → HaveOne sheet workers views → v.spent ≡ false → v.named ≡ None
     → Tried sheet workers step id v (record { words = 0 ∷ tile ∷ []; homes = some (Some state) ∷ []; views = views })
 gets sheet workers step id v tile state history views at same fits within beyond nobody stands proper one_sheet fresh unnamed =
@@ -201,8 +201,8 @@ gets sheet workers step id v tile state history views at same fits within beyond
             holder = id;
             only = λ i u e on. ⊎_elim (λ (x : (i ≡ id) × (w ≡ u)). (
               x.0,
-              ap (λ (y : View). y.found) (sym x.1) ∙ same,
-              subst (IsNamed sheet workers history) (sym unnamed ∙ ap (λ (y : View). y.named) x.1) tt,
+              ap (λ (y : SeatView). y.found) (sym x.1) ∙ same,
+              subst (IsNamed sheet workers history) (sym unnamed ∙ ap (λ (y : SeatView). y.named) x.1) tt,
             ))
                 (λ (x : (i ≢ id) × (get_elem? views i ≡ some u)). absurd (off (sym (nobody i u x.1) ∙ on))) (at_set views id i w u e);
             one = (w, set_here views id w (in_range views id v at), refl);
@@ -222,22 +222,22 @@ gets sheet workers step id v tile state history views at same fits within beyond
     )
 
 -- another seat has it
-misses : (sheet : Sheet) (workers : ℕ) (step : Step Slot) (id : ℕ) (v : View) (tile : ℕ) (s : State Slot View) → IsKept sheet workers s
+misses : (sheet : Sheet) (workers : ℕ) (step : Step Slot) (id : ℕ) (v : SeatView) (tile : ℕ) (s : State Slot SeatView) → IsKept sheet workers s
     → s.words ≡ 1 ∷ tile ∷ [] → get_elem? s.views id ≡ some v → Tried sheet workers step id v s
 misses sheet workers step id v tile s h words at =
-    subst (λ (l : List ℕ). (w : View) × (a : Act Slot) × Valid s.homes [] a
+    subst (λ (l : List ℕ). (w : SeatView) × (a : Act Slot) × Valid s.homes [] a
     × IsKept sheet workers (stepped (record s { words = l }) 0 (either (slice_index l 0 == 0) 1 (slice_index l 0)) id [] w a)
     × TriesTurn step (v, []) (slice_index l 0) (w, carried_after [] a)) (sym words) (
       v,
       keeps,
       tt,
-      subst (λ (l : List View). IsKept sheet workers (record { words = 1 ∷ tile ∷ []; homes = s.homes; views = l }))
+      subst (λ (l : List SeatView). IsKept sheet workers (record { words = 1 ∷ tile ∷ []; homes = s.homes; views = l }))
           (sym (set_again s.views id v at))
           (subst (λ (l : List ℕ). IsKept sheet workers (record { words = l; homes = s.homes; views = s.views })) words h),
       refl,
     )
 
-pub tries : (sheet : Sheet) (workers : ℕ) (step : Step Slot) (id : ℕ) (v : View) (s : State Slot View) → IsKept sheet workers s
+pub tries : (sheet : Sheet) (workers : ℕ) (step : Step Slot) (id : ℕ) (v : SeatView) (s : State Slot SeatView) → IsKept sheet workers s
     → get_elem? s.views id ≡ some v → v.spent ≡ false → v.named ≡ None → Tried sheet workers step id v s
 tries sheet workers step id v s h at fresh unnamed = elim h.now [
   | inl f ↦
@@ -254,7 +254,7 @@ follows sheet workers sheet' workers' found history e a b c may = subst (λ (l :
     (subst (λ (n : ℕ). MayFollow sheet n found e) (sym b) (subst (λ (z : Sheet). MayFollow z workers' found e) (sym a) may))
 
 -- an entry that is named
-pub names : (sheet : Sheet) (workers : ℕ) (id : ℕ) (v : View) (named : Entry) (new : ℕ) (s : State Slot View) (carried : List (ℕ × Slot))
+pub names : (sheet : Sheet) (workers : ℕ) (id : ℕ) (v : SeatView) (named : Entry) (new : ℕ) (s : State Slot SeatView) (carried : List (ℕ × Slot))
     → IsKept sheet workers s → get_elem? s.views id ≡ some v → v.holds ≡ true → v.spent ≡ false → MayFollow v.sheet v.workers v.found named
     → IsKept sheet workers (stepped s 1 new id carried (record v { named = Some named }) keeps)
 names sheet workers id v named new s carried h at holds fresh may =
@@ -283,10 +283,10 @@ names sheet workers id v named new s carried h at holds fresh may =
             out = q.1.out;
             holder = q.1.holder;
             only = λ i u e on. ⊎_elim
-                (λ (x : (i ≡ id) × (w ≡ u)). let same = q.1.only id v at (ap (λ (y : View). y.holds) x.1 ∙ on) in (
+                (λ (x : (i ≡ id) × (w ≡ u)). let same = q.1.only id v at (ap (λ (y : SeatView). y.holds) x.1 ∙ on) in (
                   x.0 ∙ same.0,
-                  ap (λ (y : View). y.found) (sym x.1) ∙ same.1,
-                  subst (λ (y : View). IsNamed sheet workers h.history y.named) x.1
+                  ap (λ (y : SeatView). y.found) (sym x.1) ∙ same.1,
+                  subst (λ (y : SeatView). IsNamed sheet workers h.history y.named) x.1
                       (follows sheet workers v.sheet v.workers v.found h.history named (sym k.0) (sym k.1) same.1 may),
                 ))
                 (λ (x : (i ≢ id) × (get_elem? s.views i ≡ some u)). q.1.only i u x.1 on) (at_set s.views id i w u e);
@@ -295,7 +295,7 @@ names sheet workers id v named new s carried h at holds fresh may =
                 let mine : v ≡ q.1.one.0 = some-injective _ _ (sym at ∙ ap (get_elem? s.views) (sym e) ∙ q.1.one.1) in (
                   w,
                   subst (λ (j : ℕ). get_elem? (set s.views id w) j ≡ some w) (sym e) (set_here s.views id w (in_range s.views id v at)),
-                  ap (λ (y : View). y.holds) mine ∙ q.1.one.2,
+                  ap (λ (y : SeatView). y.holds) mine ∙ q.1.one.2,
                 ))
                 (λ (ne : q.1.holder ≢ id). (q.1.one.0, set_else s.views id q.1.holder w ne ∙ q.1.one.1, q.1.one.2));
           },
@@ -304,10 +304,10 @@ names sheet workers id v named new s carried h at holds fresh may =
     }
 
 -- the history goes on, and what was seen of it stays
-goes_on : (history more front : List Entry) → StartsWith history front → StartsWith (history ++ more) front
-goes_on history more front h = (h.0 ++ more, ap (λ (l : List Entry). l ++ more) h.1 ∙ append_assoc front h.0 more)
+goes_on : (history more prefix : List Entry) → StartsWith history prefix → StartsWith (history ++ more) prefix
+goes_on history more prefix h = (h.0 ++ more, ap (λ (l : List Entry). l ++ more) h.1 ∙ append_assoc prefix h.0 more)
 
-goes_on_all : (history more : List Entry) (fronts : List (List Entry)) → AllFronts history fronts → AllFronts (history ++ more) fronts
+goes_on_all : (history more : List Entry) (prefixes : List (List Entry)) → AllPrefixes history prefixes → AllPrefixes (history ++ more) prefixes
 goes_on_all history more [] h = tt
 goes_on_all history more (x ∷ xs) h = (goes_on history more x h.0, goes_on_all history more xs h.1)
 
@@ -349,12 +349,12 @@ posts_append p [] ys = sym (zero-add (posts_at p ys))
 posts_append p (x ∷ xs) ys = ap (λ (n : ℕ). (if x.0 == p then 1 else 0) + n) (posts_append p xs ys) ∙ sym (add_assoc (if x.0 == p then 1 else 0) (posts_at p xs) (posts_at p ys))
 
 -- what a change of one view adds to the posts
-posts_grow : (p : ℕ) (vs : List View) (i : ℕ) (v w : View) (more : List (ℕ × Entry)) → get_elem? vs i ≡ some v → w.own ≡ v.own ++ more
+posts_grow : (p : ℕ) (vs : List SeatView) (i : ℕ) (v w : SeatView) (more : List (ℕ × Entry)) → get_elem? vs i ≡ some v → w.own ≡ v.own ++ more
     → all_posts_at p (set vs i w) ≡ all_posts_at p vs + posts_at p more
 posts_grow p [] i v w more e same = absurd (some-ne-none v (sym e))
 posts_grow p (x ∷ xs) zero v w more e same =
     let mine : posts_at p w.own ≡ posts_at p x.own + posts_at p more = ap (posts_at p)
-    (same ∙ ap (λ (u : View). u.own ++ more) (sym (some-injective x v e))) ∙ posts_append p x.own more in omega arith
+    (same ∙ ap (λ (u : SeatView). u.own ++ more) (sym (some-injective x v e))) ∙ posts_append p x.own more in omega arith
 posts_grow p (x ∷ xs) (suc i) v w more e same = let r = posts_grow p xs i v w more e same in omega arith
 
 one_post : (n : ℕ) (e : Entry) → posts_at n ((n, e) ∷ []) ≡ 1
@@ -364,7 +364,7 @@ no_post : (p n : ℕ) (e : Entry) → p ≢ n → posts_at p ((n, e) ∷ []) ≡
 no_post p n e ne = let other : (n == p) ≡ false = ne_eqb n p (λ s. ne (sym s)) in rw other refl
 
 -- the places of a history that goes on by what was named
-grown_within : (history : List Entry) (views : List View) (id : ℕ) (v w : View) (named : Option Entry) → get_elem? views id ≡ some v
+grown_within : (history : List Entry) (views : List SeatView) (id : ℕ) (v w : SeatView) (named : Option Entry) → get_elem? views id ≡ some v
     → w.own ≡ v.own ++ named_posts (length history) named
     → ((p : ℕ) → p < length history → all_posts_at p views ≡ 1) → ((p : ℕ) → length history ≤ p → all_posts_at p views ≡ 0)
     → (p : ℕ) → p < length (history ++ named_list named) → all_posts_at p (set views id w) ≡ 1
@@ -385,7 +385,7 @@ grown_within history views id v w (Some e) at own within beyond p lt =
     let none_more = no_post p (length history) e ne in
     omega arith)
 
-grown_beyond : (history : List Entry) (views : List View) (id : ℕ) (v w : View) (named : Option Entry) → get_elem? views id ≡ some v
+grown_beyond : (history : List Entry) (views : List SeatView) (id : ℕ) (v w : SeatView) (named : Option Entry) → get_elem? views id ≡ some v
     → w.own ≡ v.own ++ named_posts (length history) named
     → ((p : ℕ) → length history ≤ p → all_posts_at p views ≡ 0)
     → (p : ℕ) → length (history ++ named_list named) ≤ p → all_posts_at p (set views id w) ≡ 0
@@ -400,7 +400,7 @@ grown_beyond history views id v w (Some e) at own beyond p le =
     let none_more = no_post p (length history) e (λ s. omega arith) in omega arith
 
 -- the turn is given back
-pub gives_turn : (sheet : Sheet) (workers : ℕ) (id : ℕ) (v : View) (state : Board) (s : State Slot View) → IsKept sheet workers s
+pub gives_turn : (sheet : Sheet) (workers : ℕ) (id : ℕ) (v : SeatView) (state : Board) (s : State Slot SeatView) → IsKept sheet workers s
     → get_elem? s.views id ≡ some v → v.holds ≡ true → state.history ≡ v.found ++ named_list v.named
     → Stands v.sheet state → IsProper v.sheet v.workers state.history → v.spent ≡ false
     → IsKept sheet workers (stepped s 0 0 id ((0, Some state) ∷ []) (after_give v) gives)
@@ -445,7 +445,7 @@ gives_turn sheet workers id v state s h at holds new stands proper fresh = elim 
             same = is;
             stands = subst (λ (z : Sheet). Stands z state) one.0 stands;
             nobody = λ i u e. ⊎_elim
-                (λ (x : (i ≡ id) × (w ≡ u)). ap (λ (y : View). y.holds) (sym x.1))
+                (λ (x : (i ≡ id) × (w ≡ u)). ap (λ (y : SeatView). y.holds) (sym x.1))
                 (λ (x : (i ≢ id) × (get_elem? s.views i ≡ some u)). not_on u.holds (λ on. x.0 ((k.1.only i u x.1 on).0 ∙ sym mine.0)))
                 (at_set s.views id i w u e);
           },
@@ -465,35 +465,35 @@ same_state taken state e = ap (λ (l : List (ℕ × Slot)). first_of l) e
     first_of (x ∷ xs) = unwrap_or x.1 taken
 
 -- the seat has the turn, and took this history out of the slot
-pub record HasOut (v : View) (state : Board) (me : Me Slot View) : Type 0 where
+pub record HasOut (v : SeatView) (state : Board) (me : Me Slot SeatView) : Type 0 where
   pub view : me.0 ≡ record v { holds = true; found = state.history }
   pub slot : me.1 ≡ (0, None) ∷ []
   pub stands : Stands v.sheet state
   pub proper : IsProper v.sheet v.workers state.history
 
-pub has_out : (v : View) (before after : Me Slot View) (state : Board) → HasTurn v before → before.1 ≡ (0, Some state) ∷ []
+pub has_out : (v : SeatView) (before after : Me Slot SeatView) (state : Board) → HasTurn v before → before.1 ≡ (0, Some state) ∷ []
     → after ≡ (before.0, (0, None) ∷ []) → HasOut v state after
 has_out v before after state turn out is =
     let taken = turn.0 in
-    let same : taken ≡ state = same_state taken state (sym (ap (λ (m : Me Slot View). m.1) turn.1) ∙ out) in
+    let same : taken ≡ state = same_state taken state (sym (ap (λ (m : Me Slot SeatView). m.1) turn.1) ∙ out) in
     record {
-      view = ap (λ (m : Me Slot View). m.0) is ∙ ap (λ (m : Me Slot View). m.0) turn.1 ∙ ap (λ (t : Board). record v { holds = true; found = t.history }) same;
-      slot = ap (λ (m : Me Slot View). m.1) is;
+      view = ap (λ (m : Me Slot SeatView). m.0) is ∙ ap (λ (m : Me Slot SeatView). m.0) turn.1 ∙ ap (λ (t : Board). record v { holds = true; found = t.history }) same;
+      slot = ap (λ (m : Me Slot SeatView). m.1) is;
       stands = subst (Stands v.sheet) same turn.4;
       proper = subst (λ (t : Board). IsProper v.sheet v.workers t.history) same turn.5;
     }
 
 -- the state goes back as it was found
-pub back_as_found : (v : View) (state back : Board) (out me : Me Slot View) → HasOut v state out → v.named ≡ None → back ≡ state → me ≡ (out.0, (0, Some back) ∷ [])
+pub back_as_found : (v : SeatView) (state back : Board) (out me : Me Slot SeatView) → HasOut v state out → v.named ≡ None → back ≡ state → me ≡ (out.0, (0, Some back) ∷ [])
     → Holding me.0 (me.0.found ++ named_list me.0.named) me
 back_as_found v state back out me has idle same is =
-    let view : me.0 ≡ record v { holds = true; found = state.history } = ap (λ (m : Me Slot View). m.0) is ∙ has.view in
-    let all : me.0.found ++ named_list me.0.named ≡ state.history ++ [] = ap (λ (u : View). u.found ++ named_list u.named) view
+    let view : me.0 ≡ record v { holds = true; found = state.history } = ap (λ (m : Me Slot SeatView). m.0) is ∙ has.view in
+    let all : me.0.found ++ named_list me.0.named ≡ state.history ++ [] = ap (λ (u : SeatView). u.found ++ named_list u.named) view
     ∙ ap (λ (o : Option Entry). state.history ++ named_list o) idle in
-    let one : me.0.sheet ≡ v.sheet = ap (λ (u : View). u.sheet) view in
-    let two : me.0.workers ≡ v.workers = ap (λ (u : View). u.workers) view in (
+    let one : me.0.sheet ≡ v.sheet = ap (λ (u : SeatView). u.sheet) view in
+    let two : me.0.workers ≡ v.workers = ap (λ (u : SeatView). u.workers) view in (
       back,
-      is ∙ ap (λ (u : View). (u, (0, Some back) ∷ [])) (sym (ap (λ (m : Me Slot View). m.0) is)),
+      is ∙ ap (λ (u : SeatView). (u, (0, Some back) ∷ [])) (sym (ap (λ (m : Me Slot SeatView). m.0) is)),
       ap (λ (b : Board). b.history) same ∙ sym (all ∙ append-nil state.history),
       subst (λ (z : Sheet). Stands z back) (sym one) (subst (Stands v.sheet) (sym same) has.stands),
       subst (λ (z : Sheet). IsProper z me.0.workers back.history) (sym one) (subst (λ (n : ℕ). IsProper v.sheet n back.history) (sym two)
@@ -509,18 +509,18 @@ proper_more sheet workers history e may h = record {
 }
 
 -- and with the entry that was named
-pub back_with_named : (v : View) (state back : Board) (e : Entry) (sum : Joined) (out named me : Me Slot View) → HasOut v state out
+pub back_with_named : (v : SeatView) (state back : Board) (e : Entry) (sum : Joined) (out named me : Me Slot SeatView) → HasOut v state out
     → named ≡ (record out.0 { named = Some e }, out.1)
     → MayFollow v.sheet v.workers state.history e → IsPost state e sum back → Sums (edges_at v.sheet e.tile) sum
     → me ≡ (named.0, (0, Some back) ∷ []) → Holding me.0 (me.0.found ++ named_list me.0.named) me
 back_with_named v state back e sum out named me has naming may more sums is =
-    let view : me.0 ≡ record v { holds = true; found = state.history; named = Some e } = ap (λ (m : Me Slot View). m.0) is
-    ∙ ap (λ (m : Me Slot View). m.0) naming ∙ ap (λ (u : View). record u { named = Some e }) has.view in
-    let one : me.0.sheet ≡ v.sheet = ap (λ (u : View). u.sheet) view in
-    let two : me.0.workers ≡ v.workers = ap (λ (u : View). u.workers) view in (
+    let view : me.0 ≡ record v { holds = true; found = state.history; named = Some e } = ap (λ (m : Me Slot SeatView). m.0) is
+    ∙ ap (λ (m : Me Slot SeatView). m.0) naming ∙ ap (λ (u : SeatView). record u { named = Some e }) has.view in
+    let one : me.0.sheet ≡ v.sheet = ap (λ (u : SeatView). u.sheet) view in
+    let two : me.0.workers ≡ v.workers = ap (λ (u : SeatView). u.workers) view in (
       back,
-      is ∙ ap (λ (u : View). (u, (0, Some back) ∷ [])) (sym (ap (λ (m : Me Slot View). m.0) is)),
-      more.history ∙ sym (ap (λ (u : View). u.found ++ named_list u.named) view),
+      is ∙ ap (λ (u : SeatView). (u, (0, Some back) ∷ [])) (sym (ap (λ (m : Me Slot SeatView). m.0) is)),
+      more.history ∙ sym (ap (λ (u : SeatView). u.found ++ named_list u.named) view),
       subst (λ (z : Sheet). Stands z back) (sym one) (more.stands v.sheet has.stands sums),
       subst (λ (z : Sheet). IsProper z me.0.workers back.history) (sym one) (subst (λ (n : ℕ). IsProper v.sheet n back.history) (sym two)
           (subst (IsProper v.sheet v.workers) (sym more.history) (proper_more v.sheet v.workers state.history e may has.proper))),
@@ -537,11 +537,11 @@ more_on_ok old new e sum (Ok u) v is h = h
 more_on_ok old new e sum (Err f) v is h = absurd (cc)
 
 -- a give, as the table asks it
-pub allows_give : (sheet : Sheet) (workers slots id : ℕ) (me : Me Slot View) → me.0.holds ≡ true → me.0.spent ≡ false → Holding me.0 (me.0.found ++ named_list me.0.named) me
-    → (s : State Slot View) → IsKept sheet workers s → get_elem? s.views id ≡ some me.0
-    → (w : View) × (a : Act Slot) × Valid s.homes me.1 a × IsKept sheet workers (stepped s 0 0 id me.1 w a) × GivesTurn (step slots 0 0 0 none) me 0 (w, carried_after me.1 a)
+pub allows_give : (sheet : Sheet) (workers slots id : ℕ) (me : Me Slot SeatView) → me.0.holds ≡ true → me.0.spent ≡ false → Holding me.0 (me.0.found ++ named_list me.0.named) me
+    → (s : State Slot SeatView) → IsKept sheet workers s → get_elem? s.views id ≡ some me.0
+    → (w : SeatView) × (a : Act Slot) × Valid s.homes me.1 a × IsKept sheet workers (stepped s 0 0 id me.1 w a) × GivesTurn (step slots 0 0 0 none) me 0 (w, carried_after me.1 a)
 allows_give sheet workers slots id me holds fresh slot s h at =
-    subst (λ (m : Me Slot View). (w : View) × (a : Act Slot) × Valid s.homes m.1 a × IsKept sheet workers (stepped s 0 0 id m.1 w a)
+    subst (λ (m : Me Slot SeatView). (w : SeatView) × (a : Act Slot) × Valid s.homes m.1 a × IsKept sheet workers (stepped s 0 0 id m.1 w a)
     × GivesTurn (step slots 0 0 0 none) m 0 (w, carried_after m.1 a)) (sym slot.1) (
       after_give me.0,
       gives,
@@ -550,24 +550,24 @@ allows_give sheet workers slots id me holds fresh slot s h at =
       refl,
     )
 
-pub allows_try : (sheet : Sheet) (workers slots id : ℕ) (me : Me Slot View) → Idle me
-    → (s : State Slot View) → IsKept sheet workers s → get_elem? s.views id ≡ some me.0
-    → (w : View) × (a : Act Slot) × Valid s.homes me.1 a × IsKept sheet workers (stepped s 0 (either (slice_index s.words 0 == 0) 1 (slice_index s.words 0)) id me.1 w a)
+pub allows_try : (sheet : Sheet) (workers slots id : ℕ) (me : Me Slot SeatView) → Idle me
+    → (s : State Slot SeatView) → IsKept sheet workers s → get_elem? s.views id ≡ some me.0
+    → (w : SeatView) × (a : Act Slot) × Valid s.homes me.1 a × IsKept sheet workers (stepped s 0 (either (slice_index s.words 0 == 0) 1 (slice_index s.words 0)) id me.1 w a)
     × TriesTurn (step slots 0 0 1 none) me (slice_index s.words 0) (w, carried_after me.1 a)
 allows_try sheet workers slots id me idle s h at =
     let is : me ≡ (me.0, []) = λ i. (me.0, idle.1 i) in
-    subst (λ (m : Me Slot View). (w : View) × (a : Act Slot) × Valid s.homes m.1 a
+    subst (λ (m : Me Slot SeatView). (w : SeatView) × (a : Act Slot) × Valid s.homes m.1 a
     × IsKept sheet workers (stepped s 0 (either (slice_index s.words 0 == 0) 1 (slice_index s.words 0)) id m.1 w a)
     × TriesTurn (step slots 0 0 1 none) m (slice_index s.words 0) (w, carried_after m.1 a)) (sym is) (tries sheet workers (step slots 0 0 1 none) id me.0 s h at idle.3 idle.2)
 
-fronts_append : (history : List Entry) (xs ys : List (List Entry)) → AllFronts history xs → AllFronts history ys → AllFronts history (xs ++ ys)
-fronts_append history [] ys h k = k
-fronts_append history (x ∷ xs) ys h k = (h.0, fronts_append history xs ys h.1 k)
+prefixes_append : (history : List Entry) (xs ys : List (List Entry)) → AllPrefixes history xs → AllPrefixes history ys → AllPrefixes history (xs ++ ys)
+prefixes_append history [] ys h k = k
+prefixes_append history (x ∷ xs) ys h k = (h.0, prefixes_append history xs ys h.1 k)
 
 -- the posts before and after a change of one view
-posts_swap : (p : ℕ) (vs : List View) (i : ℕ) (v w : View) → get_elem? vs i ≡ some v → all_posts_at p (set vs i w) + posts_at p v.own ≡ all_posts_at p vs + posts_at p w.own
+posts_swap : (p : ℕ) (vs : List SeatView) (i : ℕ) (v w : SeatView) → get_elem? vs i ≡ some v → all_posts_at p (set vs i w) + posts_at p v.own ≡ all_posts_at p vs + posts_at p w.own
 posts_swap p [] i v w e = absurd (some-ne-none v (sym e))
-posts_swap p (x ∷ xs) zero v w e = let same : posts_at p x.own ≡ posts_at p v.own = ap (λ (u : View). posts_at p u.own) (some-injective x v e) in omega arith
+posts_swap p (x ∷ xs) zero v w e = let same : posts_at p x.own ≡ posts_at p v.own = ap (λ (u : SeatView). posts_at p u.own) (some-injective x v e) in omega arith
 posts_swap p (x ∷ xs) (suc i) v w e = let r = posts_swap p xs i v w e in omega arith
 
 -- posts of two seats, by place
@@ -646,7 +646,7 @@ rising_merged (x ∷ xs) ys few h =
     rising_placed x (merged xs ys) (all_merged (λ (y : ℕ × Entry). y.0 ≢ x.0) xs ys (none_at x.0 xs (omega arith))
     (none_at x.0 ys (omega arith))) (rising_merged xs ys (λ p. let f = few p in omega arith) h)
 
-few_posts : (p : ℕ) (history : List Entry) (views : List View) (i j : ℕ) (v w : View) → ¬ (j ≡ i) → get_elem? views i ≡ some v → get_elem? views j ≡ some w
+few_posts : (p : ℕ) (history : List Entry) (views : List SeatView) (i j : ℕ) (v w : SeatView) → ¬ (j ≡ i) → get_elem? views i ≡ some v → get_elem? views j ≡ some w
     → ((p : ℕ) → p < length history → all_posts_at p views ≡ 1) → ((p : ℕ) → length history ≤ p → all_posts_at p views ≡ 0) → posts_at p v.own + posts_at p w.own ≤ 1
 few_posts p history views i j v w apart at there within beyond =
     let vs = set views i spent_view in
@@ -654,12 +654,12 @@ few_posts p history views i j v w apart at there within beyond =
     let two = posts_swap p vs j w spent_view (set_else views i j spent_view apart ∙ there) in
     ⊎_elim (λ (lt : p < length history). let k = within p lt in omega arith) (λ (le : length history ≤ p). let k = beyond p le in omega arith) (cases_lt p (length history))
 
-longer_front : (history xs ys : List Entry) (b : Bool) → StartsWith history xs → StartsWith history ys → StartsWith history (if b then ys else xs)
-longer_front history xs ys true h k = k
-longer_front history xs ys false h k = h
+longer_prefix : (history xs ys : List Entry) (b : Bool) → StartsWith history xs → StartsWith history ys → StartsWith history (if b then ys else xs)
+longer_prefix history xs ys true h k = k
+longer_prefix history xs ys false h k = h
 
 -- one seat takes in what another knows
-pub joins : (sheet : Sheet) (workers : ℕ) (s : State Slot View) (id other : ℕ) (v w : View) → v.holds ≡ false → w.holds ≡ false
+pub joins : (sheet : Sheet) (workers : ℕ) (s : State Slot SeatView) (id other : ℕ) (v w : SeatView) → v.holds ≡ false → w.holds ≡ false
     → IsKept sheet workers s → get_elem? s.views id ≡ some v → ¬ (other ≡ id)
     → get_elem? (set s.views id (both_views v w)) other ≡ some w
     → IsKept sheet workers (record { words = s.words; homes = s.homes; views = set (set s.views id (both_views v w)) other spent_view })
@@ -670,7 +670,7 @@ joins sheet workers s id other v w v_off w_off h at apart there =
     (λ (x : (other ≢ id) × (get_elem? s.views other ≡ some w)). x.1) (at_set s.views id other both w there) in
     let mine = h.fits id v at in
     let theirs = h.fits other w was in
-    let known = longer_front h.history v.known w.known (nat_lt (length v.known) (length w.known)) mine.known theirs.known in
+    let known = longer_prefix h.history v.known w.known (nat_lt (length v.known) (length w.known)) mine.known theirs.known in
     let counts : (p : ℕ) → all_posts_at p (set vs other spent_view) ≡ all_posts_at p s.views = λ p.
     let one = posts_swap p s.views id v both at in
     let two = posts_swap p vs other w spent_view there in
@@ -690,7 +690,7 @@ joins sheet workers s id other v w v_off w_off h at apart there =
             rising = rises;
             older = (
               mine.known,
-              (theirs.known, fronts_append h.history v.older w.older mine.older theirs.older),
+              (theirs.known, prefixes_append h.history v.older w.older mine.older theirs.older),
             );
           }))
           (λ (y : (i ≢ id) × (get_elem? s.views i ≡ some u)). h.fits i u y.1)
@@ -699,7 +699,7 @@ joins sheet workers s id other v w v_off w_off h at apart there =
       within = λ p lt. counts p ∙ h.within p lt;
       beyond = λ p le. counts p ∙ h.beyond p le;
       proper = h.proper;
-      one_sheet = λ i u e un. ⊎_elim (λ (x : (i ≡ other) × (spent_view ≡ u)). absurd (let k : spent_view.spent ≡ u.spent = ap (λ (z : View). z.spent) x.1 in cc))
+      one_sheet = λ i u e un. ⊎_elim (λ (x : (i ≡ other) × (spent_view ≡ u)). absurd (let k : spent_view.spent ≡ u.spent = ap (λ (z : SeatView). z.spent) x.1 in cc))
           (λ (x : (i ≢ other) × (get_elem? vs i ≡ some u)). one_set sheet workers s.views id v both at refl refl refl h.one_sheet i u x.1 un)
           (at_set vs other i spent_view u e);
       now = elim h.now [
@@ -710,8 +710,8 @@ joins sheet workers s id other v w v_off w_off h at apart there =
             home = f.1.home;
             same = f.1.same;
             stands = f.1.stands;
-            nobody = λ i u e. ⊎_elim (λ (x : (i ≡ other) × (spent_view ≡ u)). ap (λ (z : View). z.holds) (sym x.1))
-                (λ (x : (i ≢ other) × (get_elem? vs i ≡ some u)). ⊎_elim (λ (y : (i ≡ id) × (both ≡ u)). ap (λ (z : View). z.holds)
+            nobody = λ i u e. ⊎_elim (λ (x : (i ≡ other) × (spent_view ≡ u)). ap (λ (z : SeatView). z.holds) (sym x.1))
+                (λ (x : (i ≢ other) × (get_elem? vs i ≡ some u)). ⊎_elim (λ (y : (i ≡ id) × (both ≡ u)). ap (λ (z : SeatView). z.holds)
                 (sym y.1) ∙ v_off) (λ (y : (i ≢ id) × (get_elem? s.views i ≡ some u)). f.1.nobody i u y.1)
                 (at_set s.views id i both u x.1))
                 (at_set vs other i spent_view u e);
@@ -719,19 +719,19 @@ joins sheet workers s id other v w v_off w_off h at apart there =
         )
         | inr k ↦
             let not_id : k.1.holder ≢ id = λ e. off
-            (sym v_off ∙ ap (λ (z : View). z.holds) (some-injective _ _ (sym at ∙ ap (get_elem? s.views) (sym e) ∙ k.1.one.1))
+            (sym v_off ∙ ap (λ (z : SeatView). z.holds) (some-injective _ _ (sym at ∙ ap (get_elem? s.views) (sym e) ∙ k.1.one.1))
             ∙ k.1.one.2) in
             let not_other : k.1.holder ≢ other = λ e. off
-            (sym w_off ∙ ap (λ (z : View). z.holds) (some-injective _ _ (sym was ∙ ap (get_elem? s.views) (sym e) ∙ k.1.one.1))
+            (sym w_off ∙ ap (λ (z : SeatView). z.holds) (some-injective _ _ (sym was ∙ ap (get_elem? s.views) (sym e) ∙ k.1.one.1))
             ∙ k.1.one.2) in
             inr (
               k.0,
               record {
                 out = k.1.out;
                 holder = k.1.holder;
-                only = λ i u e on. ⊎_elim (λ (x : (i ≡ other) × (spent_view ≡ u)). absurd (off (ap (λ (z : View). z.holds) x.1 ∙ on)))
+                only = λ i u e on. ⊎_elim (λ (x : (i ≡ other) × (spent_view ≡ u)). absurd (off (ap (λ (z : SeatView). z.holds) x.1 ∙ on)))
                     (λ (x : (i ≢ other) × (get_elem? vs i ≡ some u)). ⊎_elim (λ (y : (i ≡ id) × (both ≡ u)). absurd
-                    (off (sym v_off ∙ ap (λ (z : View). z.holds) y.1 ∙ on)))
+                    (off (sym v_off ∙ ap (λ (z : SeatView). z.holds) y.1 ∙ on)))
                     (λ (y : (i ≢ id) × (get_elem? s.views i ≡ some u)). k.1.only i u y.1 on) (at_set s.views id i both u x.1))
                     (at_set vs other i spent_view u e);
                 one = (k.1.one.0, set_else vs other k.1.holder spent_view not_other ∙ set_else s.views id k.1.holder both not_id ∙ k.1.one.1, k.1.one.2);
@@ -741,9 +741,9 @@ joins sheet workers s id other v w v_off w_off h at apart there =
     }
 
 -- what two seats had seen is compared
-pub meets : (sheet : Sheet) (workers : ℕ) (s : State Slot View) (id : ℕ) (v : View) (carried : List (ℕ × Slot)) → IsKept sheet workers s → get_elem? s.views id ≡ some v
+pub meets : (sheet : Sheet) (workers : ℕ) (s : State Slot SeatView) (id : ℕ) (v : SeatView) (carried : List (ℕ × Slot)) → IsKept sheet workers s → get_elem? s.views id ≡ some v
     → IsKept sheet workers (stepped s 0 (slice_index s.words 0) id carried (record v { older = [] }) keeps)
-    × ((history : List Entry) × StartsWith history v.known × AllFronts history v.older)
+    × ((history : List Entry) × StartsWith history v.known × AllPrefixes history v.older)
 meets sheet workers s id v carried h at =
     let w = record v { older = [] } in
     let same : set s.words 0 (slice_index s.words 0) ≡ h.turn ∷ h.tile ∷ [] = ap (λ (l : List ℕ). set l 0 (slice_index l 0)) h.words in (
@@ -767,7 +767,7 @@ meets sheet workers s id v carried h at =
               home = f.1.home;
               same = f.1.same;
               stands = f.1.stands;
-              nobody = λ i u e. ⊎_elim (λ (x : (i ≡ id) × (w ≡ u)). ap (λ (y : View). y.holds) (sym x.1) ∙ f.1.nobody id v at)
+              nobody = λ i u e. ⊎_elim (λ (x : (i ≡ id) × (w ≡ u)). ap (λ (y : SeatView). y.holds) (sym x.1) ∙ f.1.nobody id v at)
                   (λ (x : (i ≢ id) × (get_elem? s.views i ≡ some u)). f.1.nobody i u x.1) (at_set s.views id i w u e);
             },
           )
@@ -777,11 +777,11 @@ meets sheet workers s id v carried h at =
               out = k.1.out;
               holder = k.1.holder;
               only = λ i u e on. ⊎_elim
-                  (λ (x : (i ≡ id) × (w ≡ u)). let same = k.1.only id v at (ap (λ (y : View). y.holds) x.1 ∙ on) in (
+                  (λ (x : (i ≡ id) × (w ≡ u)). let same = k.1.only id v at (ap (λ (y : SeatView). y.holds) x.1 ∙ on) in (
                     x.0 ∙ same.0,
-                    ap (λ (y : View). y.found) (sym x.1) ∙ same.1,
+                    ap (λ (y : SeatView). y.found) (sym x.1) ∙ same.1,
                     subst (IsNamed sheet workers h.history)
-                        (ap (λ (y : View). y.named) x.1) same.2,
+                        (ap (λ (y : SeatView). y.named) x.1) same.2,
                   ))
                   (λ (x : (i ≢ id) × (get_elem? s.views i ≡ some u)). k.1.only i u x.1 on) (at_set s.views id i w u e);
               one = dite (ℕ_discrete k.1.holder id)
@@ -790,7 +790,7 @@ meets sheet workers s id v carried h at =
                     w,
                     subst (λ (j : ℕ). get_elem? (set s.views id w) j ≡ some w) (sym e)
                         (set_here s.views id w (in_range s.views id v at)),
-                    ap (λ (y : View). y.holds) mine ∙ k.1.one.2,
+                    ap (λ (y : SeatView). y.holds) mine ∙ k.1.one.2,
                   ))
                   (λ (ne : k.1.holder ≢ id). (k.1.one.0, set_else s.views id k.1.holder w ne ∙ k.1.one.1, k.1.one.2));
             },
@@ -801,28 +801,28 @@ meets sheet workers s id v carried h at =
     )
 
 -- of two beginnings of one history the shorter begins the longer
-front_of : (a b r q : List Entry) → a ++ r ≡ b ++ q → length a ≤ length b → StartsWith b a
-front_of [] b r q e le = (b, refl)
-front_of (x ∷ a) [] r q e le = absurd (omega arith)
-front_of (x ∷ a) (y ∷ b) r q e le =
+prefix_of : (a b r q : List Entry) → a ++ r ≡ b ++ q → length a ≤ length b → StartsWith b a
+prefix_of [] b r q e le = (b, refl)
+prefix_of (x ∷ a) [] r q e le = absurd (omega arith)
+prefix_of (x ∷ a) (y ∷ b) r q e le =
     let same : y ≡ x = ap (λ (l : List Entry). get_or l 0 x) (sym e) in
-    let t = front_of a b r q (ap (λ (l : List Entry). drop 1 l) e) (omega arith) in (t.0, ap (λ (z : Entry). z ∷ b) same ∙ ap (λ (l : List Entry). x ∷ l) t.1)
+    let t = prefix_of a b r q (ap (λ (l : List Entry). drop 1 l) e) (omega arith) in (t.0, ap (λ (z : Entry). z ∷ b) same ∙ ap (λ (l : List Entry). x ∷ l) t.1)
 
 longer_of : (history a b : List Entry) (t : Bool) → nat_lt (length a) (length b) ≡ t → StartsWith history a → StartsWith history b
     → StartsWith (longer a b) a × StartsWith (longer a b) b
 longer_of history a b true is p q =
     let lt : length a < length b = grind (arith, nat_tests) in
     let l : longer a b ≡ b = rw is refl in
-    let f = front_of a b p.0 q.0 (sym p.1 ∙ q.1) (omega arith) in
+    let f = prefix_of a b p.0 q.0 (sym p.1 ∙ q.1) (omega arith) in
     (subst (λ (x : List Entry). StartsWith x a) (sym l) f, subst (λ (x : List Entry). StartsWith x b) (sym l) ([], sym (append-nil b)))
 longer_of history a b false is p q =
     let le : length b ≤ length a = grind (arith, nat_tests) in
     let l : longer a b ≡ a = rw is refl in
-    let f = front_of b a q.0 p.0 (sym q.1 ∙ p.1) le in
+    let f = prefix_of b a q.0 p.0 (sym q.1 ∙ p.1) le in
     (subst (λ (x : List Entry). StartsWith x a) (sym l) ([], sym (append-nil a)), subst (λ (x : List Entry). StartsWith x b) (sym l) f)
 
-pub longer_front_of : (history a b : List Entry) → StartsWith history a → StartsWith history b → StartsWith (longer a b) a × StartsWith (longer a b) b
-longer_front_of history a b p q = longer_of history a b (nat_lt (length a) (length b)) refl p q
+pub longer_prefix_of : (history a b : List Entry) → StartsWith history a → StartsWith history b → StartsWith (longer a b) a × StartsWith (longer a b) b
+longer_prefix_of history a b p q = longer_of history a b (nat_lt (length a) (length b)) refl p q
 
 pub entry_back : (n w t : ℕ) → n ≡ w * 2 ^ 32 + t → t < 2 ^ 32 → entry_in n ≡ entry w t
 entry_back n w t is lt =

@@ -10,7 +10,7 @@ use Rattle.dpl_board.specs.Boards.{Board, Stands}
 use mathlib.Core.Option.{Option as Maybe, some, none}
 use lib.ListN.{get_elem?}
 use Rattle.atomic_table.specs.Table.{Me, State, Step}
-use Rattle.dpl_turn.specs.declared.view.View.{View}
+use Rattle.dpl_turn.specs.declared.view.SeatView.{SeatView}
 
 -- the state, where the slot has it
 abbrev pub Slot : Type 0
@@ -23,15 +23,15 @@ pub record IsProper (sheet : Sheet) (workers : ℕ) (history : List Entry) : Typ
   pub signed : All (λ (e : Entry). e.worker < workers) history
 
 -- who has seen these entries, and nothing else
-abbrev pub newcomer : Sheet → ℕ → List Entry → View
+abbrev pub newcomer : Sheet → ℕ → List Entry → SeatView
 newcomer sheet workers known = record { sheet = sheet; workers = workers; spent = false; own = []; known = known; older = []; holds = false; found = []; named = None }
 
 -- a seat between two calls: it has no turn, and no slot
-abbrev pub Idle : Me Slot View → Type 0
+abbrev pub Idle : Me Slot SeatView → Type 0
 Idle me = (me.0.holds ≡ false) × (me.1 ≡ []) × (me.0.named ≡ None) × (me.0.spent ≡ false)
 
 abbrev pub StartsWith : List Entry → List Entry → Type 0
-StartsWith xs front = (rest : List Entry) × (xs ≡ front ++ rest)
+StartsWith xs prefix = (rest : List Entry) × (xs ≡ prefix ++ rest)
 
 -- how many posts of a seat stand at a place
 abbrev pub posts_at : ℕ → List (ℕ × Entry) → ℕ
@@ -39,7 +39,7 @@ posts_at p [] = 0
 posts_at p (x ∷ xs) = (if x.0 == p then 1 else 0) + posts_at p xs
 
 -- and of all seats
-abbrev pub all_posts_at : ℕ → List View → ℕ
+abbrev pub all_posts_at : ℕ → List SeatView → ℕ
 all_posts_at p [] = 0
 all_posts_at p (v ∷ vs) = posts_at p v.own + all_posts_at p vs
 
@@ -53,9 +53,9 @@ abbrev pub Rise : List (ℕ × Entry) → Type 0
 Rise own = AllPairs (λ (a b : ℕ × Entry). a.0 < b.0) own
 
 -- each of these begins the history
-abbrev pub AllFronts : List Entry → List (List Entry) → Type 0
-AllFronts history [] = Unit {0}
-AllFronts history (x ∷ xs) = StartsWith history x × AllFronts history xs
+abbrev pub AllPrefixes : List Entry → List (List Entry) → Type 0
+AllPrefixes history [] = Unit {0}
+AllPrefixes history (x ∷ xs) = StartsWith history x × AllPrefixes history xs
 
 -- an entry that may be the next one: of a tile of the sheet that isn't in the history, and of a worker below this number
 pub record MayFollow (sheet : Sheet) (workers : ℕ) (history : List Entry) (e : Entry) : Type 0 where
@@ -69,40 +69,40 @@ IsNamed sheet workers history None = Unit {0}
 IsNamed sheet workers history (Some e) = MayFollow sheet workers history e
 
 -- what holds of one view
-pub record Fits (history : List Entry) (v : View) : Type 0 where
+pub record Fits (history : List Entry) (v : SeatView) : Type 0 where
   pub known : StartsWith history v.known
   pub own : AreEntries history v.own
   pub rising : Rise v.own
-  pub older : AllFronts history v.older
+  pub older : AllPrefixes history v.older
 
 -- nobody has the turn, and the slot has a state with the history, which stands for the sheet
-pub record IsFree (sheet : Sheet) (history : List Entry) (homes : List (Maybe Slot)) (views : List View) : Type 0 where
+pub record IsFree (sheet : Sheet) (history : List Entry) (homes : List (Maybe Slot)) (views : List SeatView) : Type 0 where
   pub state : Board
   pub home : homes ≡ some (Some state) ∷ []
   pub same : state.history ≡ history
   pub stands : Stands sheet state
-  pub nobody : (i : ℕ) (v : View) → get_elem? views i ≡ some v → v.holds ≡ false
+  pub nobody : (i : ℕ) (v : SeatView) → get_elem? views i ≡ some v → v.holds ≡ false
 
 -- one seat has it, and found the history, what it named may follow, and the slot is out
-pub record IsHeld (sheet : Sheet) (workers : ℕ) (history : List Entry) (homes : List (Maybe Slot)) (views : List View) : Type 0 where
+pub record IsHeld (sheet : Sheet) (workers : ℕ) (history : List Entry) (homes : List (Maybe Slot)) (views : List SeatView) : Type 0 where
   pub out : homes ≡ none ∷ []
   pub holder : ℕ
-  pub only : (i : ℕ) (v : View) → get_elem? views i ≡ some v → v.holds ≡ true → (i ≡ holder) × (v.found ≡ history) × IsNamed sheet workers history v.named
-  pub one : (v : View) × (get_elem? views holder ≡ some v) × (v.holds ≡ true)
+  pub only : (i : ℕ) (v : SeatView) → get_elem? views i ≡ some v → v.holds ≡ true → (i ≡ holder) × (v.found ≡ history) × IsNamed sheet workers history v.named
+  pub one : (v : SeatView) × (get_elem? views holder ≡ some v) × (v.holds ≡ true)
 
-abbrev pub TurnIs : Sheet → ℕ → ℕ → List Entry → List (Maybe Slot) → List View → Type 0
+abbrev pub TurnIs : Sheet → ℕ → ℕ → List Entry → List (Maybe Slot) → List SeatView → Type 0
 TurnIs sheet workers turn history homes views = ((turn ≡ 0) × IsFree sheet history homes views) ⊎ ((turn ≡ 1) × IsHeld sheet workers history homes views)
 
 -- the views that aren't spent have one sheet, and one number of workers
-abbrev pub HaveOne : Sheet → ℕ → List View → Type 0
-HaveOne sheet workers views = (i : ℕ) (v : View) → get_elem? views i ≡ some v → v.spent ≡ false → (v.sheet ≡ sheet) × (v.workers ≡ workers)
+abbrev pub HaveOne : Sheet → ℕ → List SeatView → Type 0
+HaveOne sheet workers views = (i : ℕ) (v : SeatView) → get_elem? views i ≡ some v → v.spent ≡ false → (v.sheet ≡ sheet) × (v.workers ≡ workers)
 
-pub record IsKept (sheet : Sheet) (workers : ℕ) (s : State Slot View) : Type 0 where
+pub record IsKept (sheet : Sheet) (workers : ℕ) (s : State Slot SeatView) : Type 0 where
   pub history : List Entry
   pub turn : ℕ
   pub tile : ℕ
   pub words : s.words ≡ turn ∷ tile ∷ []
-  pub fits : (i : ℕ) (v : View) → get_elem? s.views i ≡ some v → Fits history v
+  pub fits : (i : ℕ) (v : SeatView) → get_elem? s.views i ≡ some v → Fits history v
   pub within : (p : ℕ) → p < length history → all_posts_at p s.views ≡ 1
   pub beyond : (p : ℕ) → length history ≤ p → all_posts_at p s.views ≡ 0
   pub proper : IsProper sheet workers history
@@ -110,12 +110,12 @@ pub record IsKept (sheet : Sheet) (workers : ℕ) (s : State Slot View) : Type 0
   pub now : TurnIs sheet workers turn history s.homes s.views
 
 -- the seat has the turn, and the history that it found
-abbrev pub HasTurn : View → Me Slot View → Type 0
+abbrev pub HasTurn : SeatView → Me Slot SeatView → Type 0
 HasTurn v m = (state : Board) × (m ≡ (record v { holds = true; found = state.history }, (0, Some state) ∷ [])) × StartsWith state.history v.known × AreEntries state.history v.own
     × Stands v.sheet state × IsProper v.sheet v.workers state.history × Rise v.own
 
 -- what a try tells
-abbrev pub TriesTurn : Step Slot → Me Slot View → ℕ → Me Slot View → Type 0
+abbrev pub TriesTurn : Step Slot → Me Slot SeatView → ℕ → Me Slot SeatView → Type 0
 TriesTurn step before n after = MatchBool (n == 0) (HasTurn before.0 after) (after ≡ before)
 
 -- the entry that the tile word has
@@ -123,7 +123,7 @@ abbrev pub entry_in : ℕ → Entry
 entry_in n = entry (n / 2 ^ 32) (n % 2 ^ 32)
 
 -- what naming an entry tells
-abbrev pub NamesEntry : Step Slot → Me Slot View → ℕ → Me Slot View → Type 0
+abbrev pub NamesEntry : Step Slot → Me Slot SeatView → ℕ → Me Slot SeatView → Type 0
 NamesEntry step before n after = after ≡ (record before.0 { named = Some (entry_in step.first) }, before.1)
 
 -- the entries that a seat's view has named
@@ -137,7 +137,7 @@ named_posts n None = []
 named_posts n (Some e) = (n, e) ∷ []
 
 -- the seat once it has given the turn back: the history that it found, and what it named
-abbrev pub after_give : View → View
+abbrev pub after_give : SeatView → SeatView
 after_give v = record {
   sheet = v.sheet;
   workers = v.workers;
@@ -151,16 +151,16 @@ after_give v = record {
 }
 
 -- what giving the turn back tells
-abbrev pub GivesTurn : Step Slot → Me Slot View → ℕ → Me Slot View → Type 0
+abbrev pub GivesTurn : Step Slot → Me Slot SeatView → ℕ → Me Slot SeatView → Type 0
 GivesTurn step before n after = after ≡ (after_give before.0, [])
 
 -- the seat has the turn, and holds the slot with this history
-abbrev pub Holding : View → List Entry → Me Slot View → Type 0
+abbrev pub Holding : SeatView → List Entry → Me Slot SeatView → Type 0
 Holding v history me = (state : Board) × (me ≡ (v, (0, Some state) ∷ [])) × (state.history ≡ history) × Stands v.sheet state × IsProper v.sheet v.workers state.history
 
 -- What a post leaves of a seat. The history that the call found begins with what the seat had seen. What is known is that history and the
 -- entry, if one was posted, which the seat's own posts gain at its place
-pub record Posted (v : View) (posted : Option Entry) (found : List Entry) (w : View) : Type 0 where
+pub record Posted (v : SeatView) (posted : Option Entry) (found : List Entry) (w : SeatView) : Type 0 where
   pub begins : StartsWith found v.known
   pub sheet : w.sheet ≡ v.sheet
   pub workers : w.workers ≡ v.workers
@@ -168,7 +168,7 @@ pub record Posted (v : View) (posted : Option Entry) (found : List Entry) (w : V
   pub own : w.own ≡ v.own ++ named_posts (length found) posted
 
 -- the answer to a post, by the history that the call found
-abbrev pub Answers : View → ℕ → ℕ → Result (Unit {0}) PostFault → View → Type 0
+abbrev pub Answers : SeatView → ℕ → ℕ → Result (Unit {0}) PostFault → SeatView → Type 0
 Answers v worker tile (Ok _) w = (found : List Entry) × (poster_in tile found ≡ None) × Posted v (Some (entry worker tile)) found w
 Answers v worker tile (Err (Twice by)) w = (found : List Entry) × (poster_in tile found ≡ Some by) × Posted v None found w
 Answers v worker tile (Err NoMemory) w = (found : List Entry) × (poster_in tile found ≡ None) × Posted v None found w
@@ -188,14 +188,14 @@ merged [] ys = ys
 merged (x ∷ xs) ys = placed x (merged xs ys)
 
 -- two seats' knowledge in one
-abbrev pub both_views : View → View → View
+abbrev pub both_views : SeatView → SeatView → SeatView
 both_views v w = record v { own = merged v.own w.own; known = longer v.known w.known; older = v.known ∷ w.known ∷ v.older ++ w.older }
 
 -- a seat that is spent
-abbrev pub spent_view : View
+abbrev pub spent_view : SeatView
 spent_view = record { sheet = []; workers = 0; spent = true; own = []; known = []; older = []; holds = false; found = []; named = None }
 
 -- what the seats that met learn: what either had seen begins what is known now
-abbrev pub Meets : Step Slot → Me Slot View → ℕ → Me Slot View → Type 0
+abbrev pub Meets : Step Slot → Me Slot SeatView → ℕ → Me Slot SeatView → Type 0
 Meets step before n after = (after ≡ (record before.0 { older = [] }, before.1))
-    × ((history : List Entry) × StartsWith history before.0.known × AllFronts history before.0.older)
+    × ((history : List Entry) × StartsWith history before.0.known × AllPrefixes history before.0.older)

@@ -1,4 +1,4 @@
-//! The board, and its seats.
+//! A board that threads share: opening it, its seats, posting under its turn, and closing it.
 ghost use Rattle.std.specs.Prelude.{◌≡◌, ◌<◌, length, [], ◌∷◌, ◌++◌, None, IfOk, MatchBool, Some, false, true};
 ghost use Rattle.dpl_stars.specs.Sums.{Sums};
 ghost use Rattle.dpl_board.specs.Sheets.{edges_at, entry};
@@ -8,8 +8,8 @@ ghost use Rattle.dpl_turn.specs.Replay.{events_of, workers_to};
 ghost use Rattle.dpl_turn.specs.Seats.{IsSeatOf, knows};
 ghost use Rattle.dpl_turn.specs.Rule.{Answers, AreEntries, HasTurn, Holding, Idle, IsProper, MayFollow, Rise, StartsWith, after_give, both_views, longer, named_list, newcomer};
 
-use crate::seat::{Place, Seat, longest};
-use crate::view::{About, Copies, Gives, Law, Meet, Names, Pairs, Tries, View};
+use crate::seat::{Seat, TableSeat, longest};
+use crate::view::{About, Gives, Law, Meet, Names, Pairs, SeatCopy, SeatView, Tries};
 use atomic_table::Table;
 use dpl_board::{BoardState, Job, PostFault};
 use dpl_stars::Joined;
@@ -18,14 +18,16 @@ use std::snapshot::Snapshot;
 use std::sync::Wait;
 use std::thread::yield_now;
 
+/// The word that is 1 while a seat holds the turn, else 0.
 const TURN: usize = 0;
 
+/// The word of the entry that the holder of the turn is about to post.
 const TILE: usize = 1;
 
-/// A history that threads add to, in turn.
+/// A board that threads share by seats. Only the seat that holds the turn reads or changes its state.
 #[derive(Drop)]
 pub struct Board<J: Job> {
-    table: Table<Option<BoardState>, View, About<J>, Law, Global>,
+    table: Table<Option<BoardState>, SeatView, About<J>, Law, Global>,
     ghost sized: { (table.shared.table_id.words ≡ 2) × (table.shared.table_id.slots ≡ 1) },
 }
 
@@ -53,7 +55,7 @@ impl<J: Job> Board<J> {
         ensures old { IsSeatOf self.now.table.shared.table_id seat.new × ((knows seat.new) ≡ (knows seat.old)) }
         ensures new { IsSeatOf self.now.table.shared.table_id result × ((knows result) ≡ newcomer (knows seat.old).sheet (knows seat.old).workers (knows seat.old).known) }
     {
-        let place = self.table.shared.split_seat::<Copies>(&mut seat.place);
+        let place = self.table.shared.split_seat::<SeatCopy>(&mut seat.place);
         Seat {
             place,
             count: seat.count,
@@ -65,7 +67,7 @@ impl<J: Job> Board<J> {
         requires table { IsSeatOf self.now.table.shared.table_id seat.old × IsSeatOf self.now.table.shared.table_id other }
         ensures table { IsSeatOf self.now.table.shared.table_id seat.new }
         ensures seat { (knows seat.new) ≡ record (both_views (knows seat.old) (knows other)) { older = [] } }
-        ensures fronts { StartsWith (knows seat.new).known (knows seat.old).known × StartsWith (knows seat.new).known (knows other).known }
+        ensures prefixes { StartsWith (knows seat.new).known (knows seat.old).known × StartsWith (knows seat.new).known (knows other).known }
     {
         let Seat { place, count } = other;
         let longer = longest(seat.count, count);
@@ -73,7 +75,7 @@ impl<J: Job> Board<J> {
         seat.count = longer;
     }
 
-    /// Posts a tile with the summary of its edges. It may wait for the turn. After want of memory the history is as it was found.
+    /// Posts a tile with the summary of its edges. It may wait for the turn. Where memory runs out, the history is as it was found.
     pub fn post<R: Wait>(
         &self,
         rt: &R,
@@ -112,20 +114,20 @@ impl<J: Job> Board<J> {
         self.take_out(&mut place)
     }
 
-    /// Joins a place to another.
-    fn meet(&self, seat: &mut Place, other: Place)
+    /// Lets a seat of the table take in what another knows, which ends.
+    fn meet(&self, seat: &mut TableSeat, other: TableSeat)
         requires table { (seat.old.table_id ≡ self.now.table.shared.table_id) × (other.table_id ≡ self.now.table.shared.table_id) }
         requires idle { Idle seat.old.me × Idle other.me }
         ensures table { seat.new.table_id ≡ seat.old.table_id }
         ensures seat { seat.new.me ≡ (record (both_views seat.old.me.0 other.me.0) { older = [] }, []) }
-        ensures fronts { (history : _) × StartsWith history (longer seat.old.me.0.known other.me.0.known) × StartsWith history seat.old.me.0.known × StartsWith history other.me.0.known }
+        ensures prefixes { (history : _) × StartsWith history (longer seat.old.me.0.known other.me.0.known) × StartsWith history seat.old.me.0.known × StartsWith history other.me.0.known }
     {
         self.table.shared.join_seat::<Pairs>(seat, other);
         self.table.shared.load::<Meet>(seat, TURN);
     }
 
     /// Tries to get the turn, and says whether it did. With the turn comes the history.
-    fn try_turn(&self, seat: &mut Place) -> bool
+    fn try_turn(&self, seat: &mut TableSeat) -> bool
         requires table { seat.old.table_id ≡ self.now.table.shared.table_id }
         requires idle { Idle seat.old.me }
         ensures table { seat.new.table_id ≡ seat.old.table_id }
@@ -138,7 +140,7 @@ impl<J: Job> Board<J> {
     }
 
     /// Gets the turn. It may wait for it.
-    fn take_turn<R: Wait>(&self, rt: &R, seat: &mut Place)
+    fn take_turn<R: Wait>(&self, rt: &R, seat: &mut TableSeat)
         requires table { seat.old.table_id ≡ self.now.table.shared.table_id }
         requires idle { Idle seat.old.me }
         ensures table { seat.new.table_id ≡ seat.old.table_id }
@@ -152,8 +154,8 @@ impl<J: Job> Board<J> {
         }
     }
 
-    /// Takes the history out of the slot.
-    fn take_out(&self, seat: &mut Place) -> BoardState
+    /// Takes the state out of the slot.
+    fn take_out(&self, seat: &mut TableSeat) -> BoardState
         requires table { seat.old.table_id ≡ self.now.table.shared.table_id }
         requires holds { (state : _) × (seat.old.me.1 ≡ (0, Some state) ∷ []) }
         ensures table { seat.new.table_id ≡ seat.old.table_id }
@@ -166,8 +168,8 @@ impl<J: Job> Board<J> {
         }
     }
 
-    /// Puts the history back into the slot.
-    fn put_back(&self, seat: &mut Place, state: BoardState)
+    /// Puts the state back into the slot.
+    fn put_back(&self, seat: &mut TableSeat, state: BoardState)
         requires table { seat.old.table_id ≡ self.now.table.shared.table_id }
         requires holds { seat.old.me.1 ≡ (0, None) ∷ [] }
         ensures table { seat.new.table_id ≡ seat.old.table_id }
@@ -177,8 +179,8 @@ impl<J: Job> Board<J> {
         let None = empty else { unreachable!() };
     }
 
-    /// Names the entry that is to be posted.
-    fn name(&self, seat: &mut Place, worker: u32, tile: u32)
+    /// Writes the entry that is to be posted into the tile word.
+    fn name(&self, seat: &mut TableSeat, worker: u32, tile: u32)
         requires table { seat.old.table_id ≡ self.now.table.shared.table_id }
         requires turn { (seat.old.me.0.holds ≡ true) × (seat.old.me.0.spent ≡ false) }
         requires may { MayFollow seat.old.me.0.sheet seat.old.me.0.workers seat.old.me.0.found (entry worker tile) }
@@ -189,8 +191,8 @@ impl<J: Job> Board<J> {
         self.table.shared.store::<Names>(seat, TILE, entry);
     }
 
-    /// Gives the turn back, with the slot.
-    fn give(&self, seat: &mut Place)
+    /// Gives the turn back, and the slot with the state in it.
+    fn give(&self, seat: &mut TableSeat)
         requires table { seat.old.table_id ≡ self.now.table.shared.table_id }
         requires turn { (seat.old.me.0.holds ≡ true) × (seat.old.me.0.spent ≡ false) }
         requires slot { Holding seat.old.me.0 (seat.old.me.0.found ++ named_list seat.old.me.0.named) seat.old.me }
@@ -204,7 +206,7 @@ impl<J: Job> Board<J> {
     fn post_at<R: Wait>(
         &self,
         rt: &R,
-        seat: &mut Place,
+        seat: &mut TableSeat,
         worker: u32,
         tile: u32,
         sum: Joined,

@@ -2,16 +2,16 @@
 ghost use Rattle.std.specs.Prelude.{◌≡◌, ◌<◌, length, if◌then◌else◌, nat_lt};
 ghost use Rattle.dpl_turn.specs.Rule.{Idle, longer};
 
-use crate::view::View;
+use crate::view::SeatView;
 use dpl_board::BoardState;
 
-/// What a thread steps with at the table.
-pub type Place = atomic_table::Seat<Option<BoardState>, View>;
+/// The seat at the table of atomic words, with which a thread takes its steps there.
+pub type TableSeat = atomic_table::Seat<Option<BoardState>, SeatView>;
 
 /// A seat at a board: what it knows of the history, and how many entries that are.
 #[derive(Drop)]
 pub struct Seat {
-    pub(crate) place: Place,
+    pub(crate) place: TableSeat,
     pub(crate) count: u64,
     ghost idle: { Idle place.me },
     ghost counted: { count ≡ length place.me.0.known },
@@ -26,7 +26,7 @@ impl Seat {
     }
 }
 
-/// The greater of two.
+/// The greater of two numbers of entries.
 pub(crate) fn longest(one: u64, two: u64) -> u64
     ensures { result ≡ (if nat_lt one two then two else one) }
 {

@@ -4,8 +4,9 @@ use dpl_board::{BoardState, Entry, Job};
 use std::collections::LinkedList;
 use std::snapshot::Snapshot;
 
-/// What a seat knows. No value of it is made.
-pub struct View {
+/// What a seat knows: the job's sheet and workers, its own posts, the entries that it has seen, and, while it holds the
+/// turn, the history that it found and the entry that it named. No value of it is made.
+pub struct SeatView {
     pub sheet: LinkedList<LinkedList<(u64, u64)>>,
     pub workers: u32,
     pub spent: bool,
@@ -24,9 +25,10 @@ pub struct About<J> {
     pub workers: u32,
 }
 
+/// The rule that the table keeps at every step, and what the first seat knows.
 pub struct Law;
 
-impl<J: Job> TableRule<Option<BoardState>, View, About<J>> for Law {
+impl<J: Job> TableRule<Option<BoardState>, SeatView, About<J>> for Law {
     ghost use Rattle.dpl_turn.specs.Rule.{IsKept, newcomer};
     ghost use Rattle.std.specs.Prelude.{[]};
 
@@ -35,10 +37,10 @@ impl<J: Job> TableRule<Option<BoardState>, View, About<J>> for Law {
     ghost first = { λ about. newcomer (J.sheet about.job.value) about.workers [] };
 }
 
-/// A new seat has seen as much.
-pub struct Copies;
+/// The step by which a seat makes another, which has seen as much and posted nothing.
+pub struct SeatCopy;
 
-impl Split<View> for Copies {
+impl Split<SeatView> for SeatCopy {
     ghost use Rattle.dpl_turn.specs.Rule.{newcomer};
 
     ghost left = { λ v. v };
@@ -46,37 +48,37 @@ impl Split<View> for Copies {
     ghost right = { λ v. newcomer v.sheet v.workers v.known };
 }
 
-/// The turn is tried.
+/// The step by which a seat tries to get the turn.
 pub struct Tries;
 
-impl Play<Option<BoardState>, View> for Tries {
+impl Play<Option<BoardState>, SeatView> for Tries {
     ghost use Rattle.dpl_turn.specs.Rule.{TriesTurn};
 
     ghost then = { TriesTurn };
 }
 
-/// The entry is named.
+/// The step by which the holder of the turn names the entry that it is about to post.
 pub struct Names;
 
-impl Play<Option<BoardState>, View> for Names {
+impl Play<Option<BoardState>, SeatView> for Names {
     ghost use Rattle.dpl_turn.specs.Rule.{NamesEntry};
 
     ghost then = { NamesEntry };
 }
 
-/// The turn is given back.
+/// The step by which the holder gives the turn back, with its post behind the history.
 pub struct Gives;
 
-impl Play<Option<BoardState>, View> for Gives {
+impl Play<Option<BoardState>, SeatView> for Gives {
     ghost use Rattle.dpl_turn.specs.Rule.{GivesTurn};
 
     ghost then = { GivesTurn };
 }
 
-/// One seat takes in what another knows.
+/// The step by which one seat takes in what another knows, which ends.
 pub struct Pairs;
 
-impl Join<View> for Pairs {
+impl Join<SeatView> for Pairs {
     ghost use Rattle.dpl_turn.specs.Rule.{both_views, spent_view};
 
     ghost both = { both_views };
@@ -84,10 +86,10 @@ impl Join<View> for Pairs {
     ghost spent = { spent_view };
 }
 
-/// What two seats had seen is compared.
+/// The step after which of two lists that seats had seen one is known to begin with the other.
 pub struct Meet;
 
-impl Play<Option<BoardState>, View> for Meet {
+impl Play<Option<BoardState>, SeatView> for Meet {
     ghost use Rattle.dpl_turn.specs.Rule.{Meets};
 
     ghost then = { Meets };

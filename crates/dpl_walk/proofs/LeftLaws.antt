@@ -7,7 +7,7 @@ use Rattle.dpl_spec_split.proofs.Ordered.{Contains-head, Contains-later}
 use Rattle.dpl_spec_elements.specs.Motions.{Motion}
 use Rattle.dpl_walk.specs.declared.cells.Copies.{Copies}
 use Rattle.dpl_walk.specs.declared.cells.Cell.{Cell}
-use Rattle.dpl_walk.specs.declared.walk.Frame.{Frame}
+use Rattle.dpl_walk.specs.declared.walk.StackFrame.{StackFrame}
 use Rattle.dpl_walk.specs.Walk.{copies_at, frame_of, IsFrame, IsNext, visits, count_left, walk_left}
 
 same_sum : (f g : Copies → ℕ) (cs : List Copies) → ((c : Copies) → Contains cs c → f c ≡ g c) → sum_by f cs ≡ sum_by g cs
@@ -46,7 +46,7 @@ framed cells n m (c ∷ cs) =
       arith,
       rest,
       first,
-      sum_by-cons (λ (f : Frame). count_left f * visits cells n f.copies.target) (frame_of m c)
+      sum_by-cons (λ (f : StackFrame). count_left f * visits cells n f.copies.target) (frame_of m c)
           (map (frame_of m) cs),
       sum_by-cons (λ (c : Copies). (c.columns * c.rows) * visits cells n c.target) c cs,
     )
@@ -61,10 +61,10 @@ further_column d rows row h = let e : suc d * rows ≡ d * rows + rows = omega a
 some_left : (d rows row : ℕ) → row < rows → 0 < (suc d * rows) - row
 some_left d rows row h = let e : suc d * rows ≡ d * rows + rows = omega arith in rw e (omega (arith, h))
 
-columns_left : (f : Frame) → IsFrame f → f.copies.columns - f.column ≡ suc (f.copies.columns - (f.column + 1))
+columns_left : (f : StackFrame) → IsFrame f → f.copies.columns - f.column ≡ suc (f.copies.columns - (f.column + 1))
 columns_left f h = omega (arith, h.in_columns)
 
-next_left : (f n : Frame) → IsNext f (Some n) → IsFrame f → count_left n + 1 ≡ count_left f
+next_left : (f n : StackFrame) → IsNext f (Some n) → IsFrame f → count_left n + 1 ≡ count_left f
 next_left f n x h =
     let d = f.copies.columns - (f.column + 1) in
     let c = columns_left f h in
@@ -73,7 +73,7 @@ next_left f n x h =
     (λ a. rw (x.0, a.2, a.3, c) (further_column (f.copies.columns - (f.column + 1)) f.copies.rows f.row (omega (arith, a.0, h.in_rows))))
     x.2
 
-frame_some : (f : Frame) → IsFrame f → 0 < count_left f
+frame_some : (f : StackFrame) → IsFrame f → 0 < count_left f
 frame_some f h = rw (columns_left f h) (some_left (f.copies.columns - (f.column + 1)) f.copies.rows f.row h.in_rows)
 
 fewer_some : (r k l v c : ℕ) → k + 1 ≡ l → v ≡ 1 + c → (r + k * v) + c < r + l * v
@@ -83,12 +83,12 @@ fewer_none : (r l v c : ℕ) → 0 < l → v ≡ 1 + c → r + c < r + l * v
 fewer_none r (suc l) v c p h = rw h (omega arith)
 fewer_none r zero v c p h = absurd (omega (arith, p))
 
-one_frame : (cells : List Cell) (n : ℕ) (rest : List Frame) (f : Frame)
+one_frame : (cells : List Cell) (n : ℕ) (rest : List StackFrame) (f : StackFrame)
     → walk_left cells n (rest ++ f ∷ []) ≡ walk_left cells n rest + count_left f * visits cells n f.copies.target
-one_frame cells n rest f = sum_by-append (λ (f : Frame). count_left f * visits cells n f.copies.target) rest (f ∷ [])
-    ∙ (let e = sum_by-cons (λ (f : Frame). count_left f * visits cells n f.copies.target) f [] in omega (arith, e))
+one_frame cells n rest f = sum_by-append (λ (f : StackFrame). count_left f * visits cells n f.copies.target) rest (f ∷ [])
+    ∙ (let e = sum_by-cons (λ (f : StackFrame). count_left f * visits cells n f.copies.target) f [] in omega (arith, e))
 
-pub less_left : (cells : List Cell) (level : ℕ → ℕ) (n : ℕ) (stack rest middle last : List Frame) (f : Frame) (next : Option Frame)
+pub less_left : (cells : List Cell) (level : ℕ → ℕ) (n : ℕ) (stack rest middle last : List StackFrame) (f : StackFrame) (next : Option StackFrame)
     (m : Motion) → ((i : ℕ) (c : Copies) → Contains (copies_at cells i) c → level c.target < level i) → stack ≡ rest ++ f ∷ [] → IsFrame f
     → level f.copies.target ≤ n → IsNext f next → middle ≡ rest ++ option_to_list next
     → last ≡ middle ++ map (frame_of m) (copies_at cells f.copies.target) → walk_left cells n last < walk_left cells n stack
@@ -96,7 +96,7 @@ less_left cells level n stack rest middle last f next m falls se fr deep x me le
   se,
   le,
   one_frame cells n rest f,
-  sum_by-append (λ (f : Frame). count_left f * visits cells n f.copies.target) middle (map (frame_of m) (copies_at cells f.copies.target)),
+  sum_by-append (λ (f : StackFrame). count_left f * visits cells n f.copies.target) middle (map (frame_of m) (copies_at cells f.copies.target)),
   framed cells n m (copies_at cells f.copies.target),
 ) (by_next next x me)
   where
@@ -106,11 +106,11 @@ less_left cells level n stack rest middle last f next m falls se fr deep x me le
     whole : visits cells n f.copies.target ≡ 1 + sum_by (λ (c : Copies). (c.columns * c.rows) * visits cells n c.target) (copies_at cells f.copies.target)
     whole = sym (steady cells level n f.copies.target falls deep)
 
-    by_next : (o : Option Frame) → IsNext f o → middle ≡ rest ++ option_to_list o
+    by_next : (o : Option StackFrame) → IsNext f o → middle ≡ rest ++ option_to_list o
         → walk_left cells n middle + sum_by (λ (c : Copies). (c.columns * c.rows) * visits cells n c.target)
         (copies_at cells f.copies.target) < walk_left cells n rest + count_left f * visits cells n f.copies.target
     by_next None y q =
-        let s = sum_by-append (λ (f : Frame). count_left f * visits cells n f.copies.target) rest [] in
+        let s = sum_by-append (λ (f : StackFrame). count_left f * visits cells n f.copies.target) rest [] in
         let t : walk_left cells n middle ≡ walk_left cells n rest = rw q (omega (arith, s)) in
         rw t (fewer_none (walk_left cells n rest) (count_left f) (visits cells n f.copies.target)
         (sum_by (λ (c : Copies). (c.columns * c.rows) * visits cells n c.target) (copies_at cells f.copies.target))

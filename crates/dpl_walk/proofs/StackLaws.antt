@@ -16,7 +16,7 @@ use Rattle.dpl_walk.specs.Cells.{copy_motion}
 use Rattle.dpl_walk.specs.declared.cells.Outline.{Outline}
 use Rattle.dpl_walk.specs.declared.cells.Copies.{Copies}
 use Rattle.dpl_walk.specs.declared.cells.Cell.{Cell}
-use Rattle.dpl_walk.specs.declared.walk.Frame.{Frame}
+use Rattle.dpl_walk.specs.declared.walk.StackFrame.{StackFrame}
 use Rattle.dpl_walk.proofs.ListLaws.{Contains-map, Contains-map_cases, Contains-option, Contains-the_option}
 use Rattle.dpl_walk.specs.Walk.{outlines_at, copies_at, outlines_or_none, copies_or_none, Pass, Passes, through, IsShown, Draws, IsGathered}
 use Rattle.dpl_walk.specs.Walk.{Gathers, AreOf, IsWalk, AreKnown, frame_of, IsLeft, IsFrame, IsNext, AreSteep, IsPending, IsInWalk}
@@ -61,7 +61,7 @@ shown_below cells k f ps at c i j a s = (record { copies = c; column = i; row = 
 -- ---- frames
 
 -- what is left of a frame is its copy and what is left behind it
-left_cases : (f : Frame) (next : Option Frame) (i j : ℕ) → IsNext f next → IsLeft f i j → ((i ≡ f.column) × (j ≡ f.row)) ⊎ ((n : Frame) × (next ≡ Some n) × IsLeft n i j)
+left_cases : (f : StackFrame) (next : Option StackFrame) (i j : ℕ) → IsNext f next → IsLeft f i j → ((i ≡ f.column) × (j ≡ f.row)) ⊎ ((n : StackFrame) × (next ≡ Some n) × IsLeft n i j)
 left_cases f None i j x l =
     ⊎_elim (λ (h : f.column < i). absurd (omega (arith, x.1, l.0, h))) (λ h. inl (h.0, omega (arith, x.0, l.1, h.1))) l.2
 left_cases f (Some n) i j x l =
@@ -76,7 +76,7 @@ left_cases f (Some n) i j x l =
     (λ h. inl (h.0, omega (arith, h.1, l.1, a.0))) l.2)
     x.2
 
-left_back : (f n : Frame) (i j : ℕ) → IsNext f (Some n) → IsLeft n i j → IsLeft f i j
+left_back : (f n : StackFrame) (i j : ℕ) → IsNext f (Some n) → IsLeft n i j → IsLeft f i j
 left_back f n i j x l = (
   rw (← x.0) l.0,
   rw (← x.0) l.1,
@@ -86,7 +86,7 @@ left_back f n i j x l = (
       x.2,
 )
 
-next_frame : (f n : Frame) → IsNext f (Some n) → IsFrame f → IsFrame n
+next_frame : (f n : StackFrame) → IsNext f (Some n) → IsFrame f → IsFrame n
 next_frame f n x h = record {
   in_columns = rw x.0 (⊎_elim (λ a. omega (arith, a.1, h.in_columns)) (λ a. omega (arith, a.1, a.2)) x.2);
   in_rows = rw x.0 (⊎_elim (λ a. omega (arith, a.0, a.2)) (λ a. omega (arith, a.3, h.in_rows)) x.2);
@@ -134,7 +134,7 @@ unit_within u d x y = record { column = rw x (omega arith); row = rw y (omega ar
 
 -- the frames of a structure that is placed by m
 placed_frames : (cells : List Cell) (steep : AreSteep cells) (k : ℕ) (m : Motion) → AreKnown (2 ^ 60) cells
-    → IsMotionWithin (2 ^ 34 * (length cells - steep.level k)) m → (f : Frame) → Contains (map (frame_of m) (copies_at cells k)) f
+    → IsMotionWithin (2 ^ 34 * (length cells - steep.level k)) m → (f : StackFrame) → Contains (map (frame_of m) (copies_at cells k)) f
     → IsInWalk cells (length cells) steep.level f
 placed_frames cells steep k m known place f c =
     let x = Contains-map_cases (frame_of m) (copies_at cells k) f c in
@@ -154,13 +154,13 @@ frame_left : (m : Motion) (c : Copies) (i j : ℕ) → i < c.columns → j < c.r
 frame_left m c i j a b = (a, b, ⊎_elim (λ (h : 0 < i). inl h) (λ (h : i ≤ 0). inr (omega (arith, h), omega arith)) (cases_lt 0 i))
 
 -- what a structure shows is drawn by itself, or pending
-pending_of : (cells : List Cell) (k : ℕ) (m : Motion) (ps : List Pt) (at : ℕ) (front : List Frame) → IsShown cells k (image m) ps at
-    → Draws (outlines_at cells k) (image m) ps at ⊎ IsPending cells (front ++ map (frame_of m) (copies_at cells k)) ps at
-pending_of cells k m ps at front s =
+pending_of : (cells : List Cell) (k : ℕ) (m : Motion) (ps : List Pt) (at : ℕ) (prefix : List StackFrame) → IsShown cells k (image m) ps at
+    → Draws (outlines_at cells k) (image m) ps at ⊎ IsPending cells (prefix ++ map (frame_of m) (copies_at cells k)) ps at
+pending_of cells k m ps at prefix s =
     ⊎_elim (λ d. inl d)
     (λ x. inr (
       frame_of m x.0,
-      Contains-append_right front (map (frame_of m) (copies_at cells k)) (frame_of m x.0)
+      Contains-append_right prefix (map (frame_of m) (copies_at cells k)) (frame_of m x.0)
           (Contains-map (frame_of m) (copies_at cells k) x.0 x.3.0),
       x.1,
       x.2,
@@ -175,18 +175,18 @@ shown_of cells k m ps at x =
     let y = Contains-map_cases (frame_of m) (copies_at cells k) x.0 x.1 in
     by_copy x.0 y.0 y.1 y.2 x.2 x.3 x.4 x.5
   where
-    by_copy : (f : Frame) (c : Copies) → Contains (copies_at cells k) c → frame_of m c ≡ f → (i j : ℕ) → IsLeft f i j
+    by_copy : (f : StackFrame) (c : Copies) → Contains (copies_at cells k) c → frame_of m c ≡ f → (i j : ℕ) → IsLeft f i j
         → IsShown cells f.copies.target (λ p. image f.place (image (copy_motion f.copies i j) p)) ps at → IsShown cells k (image m) ps at
     by_copy f c h e i j l s =
-        let a : i < c.columns = let q = ap (λ (g : Frame). g.copies.columns) e in omega (arith, q, l.0) in
-        let b : j < c.rows = let q = ap (λ (g : Frame). g.copies.rows) e in omega (arith, q, l.1) in
+        let a : i < c.columns = let q = ap (λ (g : StackFrame). g.copies.columns) e in omega (arith, q, l.0) in
+        let b : j < c.rows = let q = ap (λ (g : StackFrame). g.copies.rows) e in omega (arith, q, l.1) in
         shown_below cells k (image m) ps at c i j (h, a, b)
         (shown_by cells f.copies.target c.target (λ p. image f.place (image (copy_motion f.copies i j) p))
-        (λ p. image m (image (copy_motion c i j) p)) ps at (ap (λ (g : Frame). g.copies.target) (sym e))
-        (λ p. ap (λ (g : Frame). image g.place (image (copy_motion g.copies i j) p)) (sym e)) s)
+        (λ p. image m (image (copy_motion c i j) p)) ps at (ap (λ (g : StackFrame). g.copies.target) (sym e))
+        (λ p. ap (λ (g : StackFrame). image g.place (image (copy_motion g.copies i j) p)) (sym e)) s)
 
 pub walking_start : (cells : List Cell) (top : ℕ) (u : Motion) (none loops : List (List Pt)) (before far : Option ℕ)
-    (empty stack : List Frame) (steep : AreSteep cells) → AreKnown (2 ^ 60) cells → ((p : Pt) → image u p ≡ p) → u.dx ≡ pos 0 → u.dy ≡ pos 0
+    (empty stack : List StackFrame) (steep : AreSteep cells) → AreKnown (2 ^ 60) cells → ((p : Pt) → image u p ≡ p) → u.dx ≡ pos 0 → u.dy ≡ pos 0
     → none ≡ [] → before ≡ None → empty ≡ [] → Gathers (outlines_at cells top) (image u) none loops before far
     → stack ≡ empty ++ map (frame_of u) (copies_at cells top) → IsWalking cells top (length cells) steep.level loops far stack
 walking_start cells top u none loops before far empty stack steep known still x y ne be ee g se = record {
@@ -205,7 +205,7 @@ walking_start cells top u none loops before far empty stack steep known still x 
     at_start ps at p = rw (se, ee) at p
 
 module _ (cells : List Cell) (top : ℕ) (steep : AreSteep cells) (known : AreKnown (2 ^ 60) cells) (small : length cells ≤ 2 ^ 26)
-    (loops : List (List Pt)) (far : Option ℕ) (stack rest : List Frame) (f : Frame) (e : stack ≡ rest ++ f ∷ [])
+    (loops : List (List Pt)) (far : Option ℕ) (stack rest : List StackFrame) (f : StackFrame) (e : stack ≡ rest ++ f ∷ [])
     (w : IsWalking cells top (length cells) steep.level loops far stack) where
   there : Contains stack f
   there = rw e (Contains-push rest f)
@@ -228,14 +228,14 @@ module _ (cells : List Cell) (top : ℕ) (steep : AreSteep cells) (known : AreKn
   pub moved_small : (m : Motion) → IsComposed f.place (copy_motion f.copies f.column f.row) m → IsMotionWithin (2 ^ 61) m
   moved_small m c = let x = moved_within m c in let q = small in record { column = omega (arith, x.column, q); row = omega (arith, x.row, q) }
 
-  kept : (g : Frame) → Contains rest g → Contains stack g
+  kept : (g : StackFrame) → Contains rest g → Contains stack g
   kept g c = rw e (Contains-append_left rest (f ∷ []) g c)
 
-  module _ (next : Option Frame) (m : Motion) (new : List (List Pt)) (after : Option ℕ) (middle last : List Frame) (x : IsNext f next)
+  module _ (next : Option StackFrame) (m : Motion) (new : List (List Pt)) (after : Option ℕ) (middle last : List StackFrame) (x : IsNext f next)
       (c : IsComposed f.place (copy_motion f.copies f.column f.row) m) (me : middle ≡ rest ++ option_to_list next)
       (g : Gathers (outlines_at cells f.copies.target) (image m) loops new far after)
       (le : last ≡ middle ++ map (frame_of m) (copies_at cells f.copies.target)) where
-    in_middle : (u : Frame) → Contains middle u → Contains last u
+    in_middle : (u : StackFrame) → Contains middle u → Contains last u
     in_middle u h = rw le (Contains-append_left middle (map (frame_of m) (copies_at cells f.copies.target)) u h)
 
     -- what the copy shows
@@ -257,7 +257,7 @@ module _ (cells : List Cell) (top : ℕ) (steep : AreSteep cells) (known : AreKn
         let t = shown_by cells f.copies.target f.copies.target (λ p. image f.place (image (copy_motion f.copies i j) p)) (image m) ps at refl (λ p. rw (a, b) (sym (c.1 p))) s in
         ⊎_elim (λ d. inl (g.gathers ps at d)) (λ p. inr (rw le p)) (pending_of cells f.copies.target m ps at middle t)
 
-    theirs : (ps : List Pt) (at : ℕ) (u : Frame) (i j : ℕ) → next ≡ Some u → IsLeft u i j
+    theirs : (ps : List Pt) (at : ℕ) (u : StackFrame) (i j : ℕ) → next ≡ Some u → IsLeft u i j
         → IsShown cells f.copies.target (λ p. image f.place (image (copy_motion f.copies i j) p)) ps at → IsPending cells last ps at
     theirs ps at u i j n l s =
         let y : IsNext f (Some u) = rw n at x in (
@@ -276,8 +276,8 @@ module _ (cells : List Cell) (top : ℕ) (steep : AreSteep cells) (known : AreKn
         ⊎_elim (λ h. inr (p.0, in_middle p.0 (rw me (Contains-append_left rest (option_to_list next) p.0 h)), p.2, p.3, p.4, p.5))
         (λ (q : f ≡ p.0). by_left p.2 p.3 (rw q p.4) (shown_by cells p.0.copies.target f.copies.target
         (λ z. image p.0.place (image (copy_motion p.0.copies p.2 p.3) z)) (λ z. image f.place (image (copy_motion f.copies p.2 p.3) z))
-        ps at (ap (λ (d : Frame). d.copies.target) (sym q))
-        (λ z. ap (λ (d : Frame). image d.place (image (copy_motion d.copies p.2 p.3) z)) (sym q)) p.5))
+        ps at (ap (λ (d : StackFrame). d.copies.target) (sym q))
+        (λ z. ap (λ (d : StackFrame). image d.place (image (copy_motion d.copies p.2 p.3) z)) (sym q)) p.5))
         (Contains-push_cases rest f p.0 (rw e at p.1))
       where
         by_left : (i j : ℕ) → IsLeft f i j → IsShown cells f.copies.target (λ z. image f.place (image (copy_motion f.copies i j) z)) ps at
@@ -292,7 +292,7 @@ module _ (cells : List Cell) (top : ℕ) (steep : AreSteep cells) (known : AreKn
         (λ h. up ps at (shown_of cells f.copies.target m ps at (p.0, h, p.2, p.3, p.4, p.5)))
         (Contains-append_cases middle (map (frame_of m) (copies_at cells f.copies.target)) p.0 (rw le at p.1))
       where
-        behind : (u : Frame) → next ≡ Some u → (i j : ℕ) → IsLeft u i j
+        behind : (u : StackFrame) → next ≡ Some u → (i j : ℕ) → IsLeft u i j
             → IsShown cells u.copies.target (λ z. image u.place (image (copy_motion u.copies i j) z)) ps at → IsShown cells top (λ z. z) ps at
         behind u n i j l s =
             let y : IsNext f (Some u) = rw n at x in
@@ -307,13 +307,13 @@ module _ (cells : List Cell) (top : ℕ) (steep : AreSteep cells) (known : AreKn
                   (ap (λ (d : Copies). d.target) y.0) (λ z. rw (y.0, y.1) refl) s,
             )
 
-    now_frames : (u : Frame) → Contains last u → IsInWalk cells (length cells) steep.level u
+    now_frames : (u : StackFrame) → Contains last u → IsInWalk cells (length cells) steep.level u
     now_frames u h =
         ⊎_elim (λ k. ⊎_elim (λ z. w.frames u (kept u z)) (λ z. behind u (Contains-option next u z)) (Contains-append_cases rest (option_to_list next) u (rw me at k)))
         (λ k. placed_frames cells steep f.copies.target m known (moved_within m c) u k)
         (Contains-append_cases middle (map (frame_of m) (copies_at cells f.copies.target)) u (rw le at h))
       where
-        behind : (u : Frame) → next ≡ Some u → IsInWalk cells (length cells) steep.level u
+        behind : (u : StackFrame) → next ≡ Some u → IsInWalk cells (length cells) steep.level u
         behind u n =
             let y : IsNext f (Some u) = rw n at x in
             record {
@@ -336,7 +336,7 @@ module _ (cells : List Cell) (top : ℕ) (steep : AreSteep cells) (known : AreKn
       frames = now_frames;
     }
 
-pub walking_all : (cells : List Cell) (top n : ℕ) (level : ℕ → ℕ) (loops : List (List Pt)) (far : Option ℕ) (stack : List Frame)
+pub walking_all : (cells : List Cell) (top n : ℕ) (level : ℕ → ℕ) (loops : List (List Pt)) (far : Option ℕ) (stack : List StackFrame)
     → length stack ≡ 0 → IsWalking cells top n level loops far stack → IsWalk cells top loops far
 walking_all cells top n level loops far stack none w = record {
   complete = λ ps at s. ⊎_elim (λ x. x) (λ x. absurd (omega (arith, x.1.1, none))) (w.complete ps at s);

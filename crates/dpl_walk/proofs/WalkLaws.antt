@@ -28,9 +28,9 @@ earlier_is (Some a) n m e =
     let g : Some n ≡ Some m = sym (ap Some w) ∙ f in inr cc) (cases_lt a n)
 
 -- one more outline, whose points were moved
-pub gathers_one : (o : Outline) (f : Pt → Pt) (old new : List (List Pt)) (before after : Option ℕ) (ps : List Pt) (near : Bool)
-    → ps ≡ map f o.points → (near ≡ true → ArePointsWithin farthest ps) → (near ≡ false → HasFarPoint ps) → new ≡ old ++ ps ∷ []
-    → after ≡ cond (not near) (earlier before (Some o.at)) before → Gathers (o ∷ []) f old new before after
+pub gathers_one : (o : Outline) (f : Pt → Pt) (old new : List (List Pt)) (before after : Option ℕ) (ps : List Pt) (in_range : Bool)
+    → ps ≡ map f o.points → (in_range ≡ true → ArePointsWithin farthest ps) → (in_range ≡ false → HasFarPoint ps) → new ≡ old ++ ps ∷ []
+    → after ≡ cond (not in_range) (earlier before (Some o.at)) before → Gathers (o ∷ []) f old new before after
 gathers_one o f old new before after ps true is says miss n a = rw (n, a) (record {
   keeps = λ qs at g. (Contains-append_left old (ps ∷ []) qs g.0, g.1);
   gathers = λ qs at d. let w = one qs at d in (rw w.0 (Contains-push old ps), inl (rw w.0 (says refl)));

@@ -356,5 +356,5 @@ module _ (cells new : List Cell) (ways : List Way) (d : AreDeep cells) (are : Ar
   known_of = record {
     targets = λ k b h. let (c, inside, (w, e, is)) = (short.copies k).alone b h in let r = (way_of k c w inside e).known in rw is.target (omega (arith, r, short.each));
     ready = ready;
-    near = λ k. rw (short.draws k) (known.near k);
+    within = λ k. rw (short.draws k) (known.within k);
   }

@@ -19,7 +19,7 @@ pub record IsSpanWithin (bound n : ℕ) (step : Pt) : Type 0 where
   pub column : n * unsigned_abs step.x ≤ bound
   pub row : n * unsigned_abs step.y ≤ bound
 
--- there are copies, the first of them within reach of 0, and the others stand near the first
+-- there are copies, the first of them within reach of 0, and the others no farther than 2 ^ 32 from it
 pub record IsSmallCopies (reach : ℕ) (c : Copies) : Type 0 where
   pub origin : IsPointWithin reach c.origin
   pub across : IsSpanWithin (2 ^ 32) c.columns c.across

@@ -9,7 +9,7 @@ use Rattle.dpl_walk.specs.Cells.{copy_motion, IsReady}
 use Rattle.dpl_walk.specs.declared.cells.Outline.{Outline}
 use Rattle.dpl_walk.specs.declared.cells.Copies.{Copies}
 use Rattle.dpl_walk.specs.declared.cells.Cell.{Cell}
-use Rattle.dpl_walk.specs.declared.walk.Frame.{Frame}
+use Rattle.dpl_walk.specs.declared.walk.StackFrame.{StackFrame}
 
 abbrev pub outlines_or_none : Option Cell → List Outline
 outlines_or_none None = []
@@ -75,20 +75,20 @@ AreOf cs d a b = Contains cs d × (a < d.columns) × (b < d.rows)
 -- ---- the stack
 
 -- all copies of a reference of a structure that is placed by m
-abbrev pub frame_of : Motion → Copies → Frame
+abbrev pub frame_of : Motion → Copies → StackFrame
 frame_of m c = record { copies = c; place = m; column = 0; row = 0 }
 
 -- copy (i, j) is left
-abbrev pub IsLeft : Frame → ℕ → ℕ → Type 0
+abbrev pub IsLeft : StackFrame → ℕ → ℕ → Type 0
 IsLeft f i j = (i < f.copies.columns) × (j < f.copies.rows) × ((f.column < i) ⊎ ((i ≡ f.column) × (f.row ≤ j)))
 
 -- its copy is one
-pub record IsFrame (f : Frame) : Type 0 where
+pub record IsFrame (f : StackFrame) : Type 0 where
   pub in_columns : f.column < f.copies.columns
   pub in_rows : f.row < f.copies.rows
 
 -- what is left behind a frame's copy
-abbrev pub IsNext : Frame → Option Frame → Type 0
+abbrev pub IsNext : StackFrame → Option StackFrame → Type 0
 IsNext f None = (f.copies.rows ≤ f.row + 1) × (f.copies.columns ≤ f.column + 1)
 IsNext f (Some n) =
     (n.copies ≡ f.copies) × (n.place ≡ f.place)
@@ -114,20 +114,20 @@ visits cells zero k = 1
 visits cells (suc n) k = 1 + sum_by (λ (c : Copies). (c.columns * c.rows) * visits cells n c.target) (copies_at cells k)
 
 -- how many copies of a frame are left
-abbrev pub count_left : Frame → ℕ
+abbrev pub count_left : StackFrame → ℕ
 count_left f = (f.copies.columns - f.column) * f.copies.rows - f.row
 
 -- how often a walk still goes to a structure
-abbrev pub walk_left : List Cell → ℕ → List Frame → ℕ
-walk_left cells n stack = sum_by (λ (f : Frame). count_left f * visits cells n f.copies.target) stack
+abbrev pub walk_left : List Cell → ℕ → List StackFrame → ℕ
+walk_left cells n stack = sum_by (λ (f : StackFrame). count_left f * visits cells n f.copies.target) stack
 
 -- a structure on the stack shows the loop
-abbrev pub IsPending : List Cell → List Frame → List Pt → ℕ → Type 0
+abbrev pub IsPending : List Cell → List StackFrame → List Pt → ℕ → Type 0
 IsPending cells stack ps at =
-    (f : Frame) × Contains stack f × (i j : ℕ) × IsLeft f i j × IsShown cells f.copies.target (λ p. image f.place (image (copy_motion f.copies i j) p)) ps at
+    (f : StackFrame) × Contains stack f × (i j : ℕ) × IsLeft f i j × IsShown cells f.copies.target (λ p. image f.place (image (copy_motion f.copies i j) p)) ps at
 
 -- what is known of a frame of a structure on the level base: the place has moved by at most 2 ^ 34 for each level above it, and its copies move by no more for each level down
-pub record IsInWalk (cells : List Cell) (n : ℕ) (level : ℕ → ℕ) (f : Frame) : Type 0 where
+pub record IsInWalk (cells : List Cell) (n : ℕ) (level : ℕ → ℕ) (f : StackFrame) : Type 0 where
   pub known : f.copies.target < length cells
   pub ready : IsReady (2 ^ 60) f.copies
   pub frame : IsFrame f
@@ -138,12 +138,12 @@ pub record IsInWalk (cells : List Cell) (n : ℕ) (level : ℕ → ℕ) (f : Fra
   pub moves : (i j : ℕ) → i < f.copies.columns → j < f.copies.rows → IsMotionWithin (2 ^ 34 * (base - level f.copies.target)) (copy_motion f.copies i j)
 
 -- how far a walk is
-pub record IsWalking (cells : List Cell) (top n : ℕ) (level : ℕ → ℕ) (loops : List (List Pt)) (far : Option ℕ) (stack : List Frame) : Type 0 where
+pub record IsWalking (cells : List Cell) (top n : ℕ) (level : ℕ → ℕ) (loops : List (List Pt)) (far : Option ℕ) (stack : List StackFrame) : Type 0 where
   pub complete : (ps : List Pt) (at : ℕ) → IsShown cells top (λ p. p) ps at → IsGathered loops far ps at ⊎ IsPending cells stack ps at
   pub sound : (ps : List Pt) → Contains loops ps → (at : ℕ) × IsShown cells top (λ p. p) ps at
   pub pending : (ps : List Pt) (at : ℕ) → IsPending cells stack ps at → IsShown cells top (λ p. p) ps at
   pub out : (at : ℕ) → far ≡ Some at → (ps : List Pt) × IsShown cells top (λ p. p) ps at × HasFarPoint ps
-  pub frames : (f : Frame) → Contains stack f → IsInWalk cells n level f
+  pub frames : (f : StackFrame) → Contains stack f → IsInWalk cells n level f
 
 -- the loops that structure top shows, and the least offset of one with a point too far out
 pub record IsWalk (cells : List Cell) (top : ℕ) (loops : List (List Pt)) (far : Option ℕ) : Type 0 where
@@ -155,4 +155,4 @@ pub record IsWalk (cells : List Cell) (top : ℕ) (loops : List (List Pt)) (far 
 pub record AreKnown (reach : ℕ) (cells : List Cell) : Type 0 where
   pub targets : (k : ℕ) (c : Copies) → Contains (copies_at cells k) c → c.target < length cells
   pub ready : (k : ℕ) (c : Copies) → Contains (copies_at cells k) c → IsReady reach c
-  pub near : (k : ℕ) → All (λ (o : Outline). ArePointsWithin (2 ^ 61) o.points) (outlines_at cells k)
+  pub within : (k : ℕ) → All (λ (o : Outline). ArePointsWithin (2 ^ 61) o.points) (outlines_at cells k)

@@ -7,7 +7,7 @@ ghost use Rattle.dpl_walk.specs.Cells.{copy_motion, IsReady};
 use crate::cells::Copies;
 use dpl_place::Place;
 
-/// So many steps.
+/// How far so many steps lead along one axis.
 fn along(count: u32, step: i64) -> i64
     requires { count * unsigned_abs step ≤ 2 ^ 32 }
     ensures value { result ≡ pos count *ℤ step }

@@ -36,6 +36,5 @@ pub fn gather(
     ensures { IfOk result (λ g. IsWalk cells.items top g.loops.items g.far) }
 {
     pass_by(alloc, &mut cells, order)?;
-    let gathered = walk_from(alloc, cells.as_slice(), top)?;
-    Ok(gathered)
+    walk_from(alloc, cells.as_slice(), top)
 }

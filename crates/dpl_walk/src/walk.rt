@@ -3,7 +3,7 @@
 ghost use Rattle.std.specs.Prelude.{◌≡◌, ℕ, Option, ◌^◌, ◌*◌, ◌+◌, ◌<◌, ◌≤◌, ◌↔◌, ◌++◌, ◌∷◌, [], true, false, length, map, IsTrue, IfOk, OnOk, unsigned_abs, pos, ◌+ℤ◌, ◌*ℤ◌};
 ghost use Rattle.std.specs.List.{All};
 ghost use Rattle.std.specs.Option.{option_to_list};
-ghost use Rattle.dpl_walk.specs.declared.walk.Frame.{Frame};
+ghost use Rattle.dpl_walk.specs.declared.walk.StackFrame.{StackFrame};
 ghost use Rattle.dpl_spec_split.specs.Loops.{ArePointsWithin, farthest};
 ghost use Rattle.dpl_spec_elements.specs.Motions.{image, IsMotionWithin, IsComposed};
 ghost use Rattle.dpl_walk.specs.Cells.{copy_motion, IsReady};
@@ -19,7 +19,7 @@ use std::alloc::{AllocError, Global};
 /// The copies of a reference of a placed structure that the walk still has to go to: the one in this column and row,
 /// those above it in its column, and all in the columns behind.
 #[derive(Clone, Copy)]
-pub(crate) struct Frame {
+pub(crate) struct StackFrame {
     pub(crate) copies: Copies,
     /// Where the reference's structure is placed.
     pub(crate) place: Place,
@@ -28,8 +28,8 @@ pub(crate) struct Frame {
 }
 
 /// Whether all points lie no farther from 0 than the coordinates of a layer may.
-fn are_near(points: &[Pt]) -> bool
-    ensures near { result ≡ true → ArePointsWithin farthest points.now }
+fn are_in_range(points: &[Pt]) -> bool
+    ensures within { result ≡ true → ArePointsWithin farthest points.now }
     ensures far { result ≡ false → HasFarPoint points.now }
 {
     for point in points {
@@ -54,7 +54,7 @@ fn moved(alloc: Global, place: &Place, points: &[Pt]) -> Result<Vec<Pt>, AllocEr
 }
 
 /// The placement of a frame's copy.
-fn place_of(frame: &Frame) -> Place
+fn place_of(frame: &StackFrame) -> Place
     requires ready { IsReady (2 ^ 60) frame.now.copies }
     requires frame { IsFrame frame.now }
     requires place { IsMotionWithin (2 ^ 61) frame.now.place }
@@ -74,7 +74,7 @@ pub struct Gathered {
     pub far: Option<usize>,
 }
 
-/// Gathers an outline.
+/// Adds the loop of an outline where the placement takes it, and notes its element's offset where a point lies too far out.
 fn gather(
     alloc: Global,
     place: &Place,
@@ -86,13 +86,13 @@ fn gather(
     ensures { OnOk result (Gathers (outline.now ∷ []) (image place.now) gathered.old.loops.items gathered.new.loops.items gathered.old.far gathered.new.far) }
 {
     let points = moved(alloc, place, outline.points.items())?;
-    let near = are_near(points.as_slice());
+    let in_range = are_in_range(points.as_slice());
     gathered.loops.push(Loop::of(points))?;
-    gathered.far = note(gathered.far, !near, outline.at);
+    gathered.far = note(gathered.far, !in_range, outline.at);
     Ok(())
 }
 
-/// Gathers the outlines of a structure.
+/// Adds the loops of a structure's outlines where the placement takes them.
 fn gather_all(
     alloc: Global,
     place: &Place,
@@ -110,11 +110,11 @@ fn gather_all(
 }
 
 /// Puts a frame for each reference of a placed structure on the stack.
-fn put_all(place: &Place, copies: &[Copies], stack: &mut Vec<Frame>) -> Result<(), AllocError>
+fn put_all(place: &Place, copies: &[Copies], stack: &mut Vec<StackFrame>) -> Result<(), AllocError>
     ensures { OnOk result (stack.new.items ≡ stack.old.items ++ map (frame_of place.now) copies.now) }
 {
     for array in copies {
-        stack.push(Frame {
+        stack.push(StackFrame {
             copies: *array,
             place: *place,
             column: 0,
@@ -130,7 +130,7 @@ fn visit(
     cell: &Cell,
     place: &Place,
     gathered: &mut Gathered,
-    stack: &mut Vec<Frame>,
+    stack: &mut Vec<StackFrame>,
 ) -> Result<(), AllocError>
     requires place { IsMotionWithin (2 ^ 61) place.now }
     requires points { All (λ o. ArePointsWithin (2 ^ 61) o.points) cell.now.outlines }
@@ -143,19 +143,19 @@ fn visit(
 }
 
 /// What is left behind a frame's copy.
-fn next_of(frame: Frame) -> Option<Frame>
+fn next_of(frame: StackFrame) -> Option<StackFrame>
     requires small { IsReady (2 ^ 60) frame.copies }
     requires frame { IsFrame frame }
     ensures { IsNext frame result }
 {
     if frame.row + 1 < frame.copies.rows {
-        return Some(Frame {
+        return Some(StackFrame {
             row: frame.row + 1,
             ..frame
         });
     }
     if frame.column + 1 < frame.copies.columns {
-        return Some(Frame {
+        return Some(StackFrame {
             column: frame.column + 1,
             row: 0,
             ..frame
@@ -165,10 +165,10 @@ fn next_of(frame: Frame) -> Option<Frame>
 }
 
 /// Puts back what is left behind a frame's copy.
-fn put_next(frame: Frame, stack: &mut Vec<Frame>) -> Result<(), AllocError>
+fn put_next(frame: StackFrame, stack: &mut Vec<StackFrame>) -> Result<(), AllocError>
     requires small { IsReady (2 ^ 60) frame.copies }
     requires frame { IsFrame frame }
-    ensures { OnOk result ((next : Option Frame) × IsNext frame next × (stack.new.items ≡ stack.old.items ++ option_to_list next)) }
+    ensures { OnOk result ((next : Option StackFrame) × IsNext frame next × (stack.new.items ≡ stack.old.items ++ option_to_list next)) }
 {
     if let Some(next) = next_of(frame) {
         stack.push(next)?;

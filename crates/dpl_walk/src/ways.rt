@@ -137,7 +137,7 @@ fn all_shortened(
 ) -> Result<Listed<Copies>, AllocError>
     requires ready { All (IsReady (2 ^ 31)) copies.now }
     requires known { All (λ c. c.target < length ways.now) copies.now }
-    requires near { All (λ w. IsMotionWithin (2 ^ 60) w.place) ways.now }
+    requires within { All (λ w. IsMotionWithin (2 ^ 60) w.place) ways.now }
     ensures { IfOk result (λ l. AreShort ways.now copies.now l) }
 {
     let mut found = Vec::new(alloc);
@@ -157,7 +157,7 @@ fn shorten_at(
     requires structure { structure < length cells.old.items }
     requires ready { All (IsReady (2 ^ 31)) (copies_at cells.old.items structure) }
     requires known { All (λ c. c.target < length ways.now) (copies_at cells.old.items structure) }
-    requires near { All (λ w. IsMotionWithin (2 ^ 60) w.place) ways.now }
+    requires within { All (λ w. IsMotionWithin (2 ^ 60) w.place) ways.now }
     ensures { OnOk result (IsCellShort ways.now structure cells.old.items cells.new.items) }
 {
     let short = all_shortened(alloc, cells[structure].copies.items(), ways)?;

@@ -1,10 +1,10 @@
 -- A typed getter of `clap` reads the number that the text writes.
-use Rattle.std.proofs.Common.{◌≡◌, ◌∙◌, ◌∷◌, [], ℕ, Bool, List, true, false, refl, sym, Some, None, Option, ◌<◌, ◌^◌, ◌&&◌, nat_lt, is_some, true≢false}
-use Rattle.std.specs.Prelude.{Ok, Err, Result}
+use Rattle.std.proofs.Common.{◌≡◌, ◌∙◌, ◌∷◌, [], ℕ, Bool, List, true, false, refl, sym, ap, unwrap_or, Some, None, Option, ◌<◌, ◌^◌, ◌&&◌, nat_lt, is_some, true≢false}
+use Rattle.std.specs.Prelude.{Ok, Err, Result, IsSome}
 use Rattle.std.proofs.lemmas.Bool.{ltb-true, lt-ltb}
 use Rattle.std.specs.List.{list_all}
 use Rattle.std.specs.Char.{digit_value}
-use Rattle.std.specs.Str.Parse.{AllDigits, IsNumeral, ParsesUnsigned, digits_value, without_leading_plus}
+use Rattle.std.specs.Str.Parse.{AllDigits, ExplainsUnsignedError, HasUnsignedDigitsIfOk, IsNumeral, ParsesUnsigned, digits_value, without_leading_plus}
 use Rattle.clap.specs.ValueTests.{is_numeral}
 use Rattle.clap.specs.Matches.{ReadsOne, one_text}
 use Rattle.clap.specs.Walk.{Text, rows_of}
@@ -57,7 +57,17 @@ got {E} k G f id r only none value = go (one_text f id) refl
     go None e = none e ∙ sym (rw (← one_text-rows f id, e) refl)
     go (Some t) e = reads k G t r (only t) (value t e) ∙ sym (rw (← one_text-rows f id, e) refl)
 
+-- what `get_one` reads of an id as an unsigned number of so many bits
+pub unsigned_got : (k : ℕ) (f : Found) (id : Text) (r : Option ℕ) → (one_text f id ≡ None → r ≡ None)
+    → ((t : Text) → one_text f id ≡ Some t
+    → ReadsOne (λ bs x. ParsesUnsigned k 10 bs x × ExplainsUnsignedError 10 bs x × HasUnsignedDigitsIfOk bs x) t r)
+    → r ≡ number_at k id (rows_of f)
+unsigned_got k f id r none value = got k (λ bs x. ParsesUnsigned k 10 bs x × ExplainsUnsignedError 10 bs x × HasUnsignedDigitsIfOk bs x) f id r (λ t x g. g.0) none value
+
 -- a number that is there is read
-pub no_number : (r o : Option ℕ) → r ≡ o → r ≡ None → is_some o ≡ true → ⊥
-no_number r None same none there = true≢false (sym there)
-no_number r (Some n) same none there = cc
+pub is_there : (r o : Option ℕ) → r ≡ o → is_some o ≡ true → IsSome r
+is_there r o same there = ap is_some same ∙ there
+
+-- and its value is the number
+pub number_read : (r o : Option ℕ) (n : ℕ) → r ≡ o → r ≡ Some n → n ≡ unwrap_or o 0
+number_read r o n same is = ap (λ (o : Option ℕ). unwrap_or o 0) (sym is ∙ same)

@@ -216,9 +216,9 @@ module _ (s : Shape) (P : Text → Reading → Text → Type 0)
   abbrev met_by : Names → Walk → Text → Held × Step
   met_by names w word = word_met s.rules names w.is_trailing w.waiting w.position word w.held
 
-  turn_kept : (names : Names) (w : Walk) (word : Text) → turn_fault s names w word ≡ [] → EachRow P w.held.rows → EachRow P (walked s.rules names w word).held.rows
+  walked_kept : (names : Names) (w : Walk) (word : Text) → turn_fault s names w word ≡ [] → EachRow P w.held.rows → EachRow P (walked s.rules names w word).held.rows
   unfolding walked
-  turn_kept names w word e each_held = go w.stopped e
+  walked_kept names w word e each_held = go w.stopped e
     where
       go : (o : Option (Text × List Text))
           → cond (is_some o) [] (or_else (word_fault s names w.is_trailing w.waiting word w.held)
@@ -235,7 +235,7 @@ module _ (s : Shape) (P : Text → Reading → Text → Type 0)
   walk_kept names [] w e each_held = each_held
   walk_kept names (word ∷ rest) w e each_held =
       let parts = none_of (turn_fault s names w word) _ e in
-      walk_kept names rest (walked s.rules names w word) parts.1 (turn_kept names w word parts.0 each_held)
+      walk_kept names rest (walked s.rules names w word) parts.1 (walked_kept names w word parts.0 each_held)
 
   -- ---- defaults
 

@@ -28,7 +28,7 @@ enum Argument<'a> {
 impl<'a> Argument<'a> {
     /// The argument as `clap` takes it.
     fn arg(self, alloc: Global) -> Arg<'a>
-        ensures rule { rule_of result ≡ rule_for self.entry }
+        ensures defined { rule_of result ≡ rule_for self.entry }
         ensures local { result.global ≡ false }
     {
         match self {
@@ -52,7 +52,7 @@ fn number_parser<'a>(low: u32, high: u32) -> ValueParser<'a>
 
 /// An option that must be given, with a whole number.
 fn required_number_arg<'a>(alloc: Global, id: &'a str, low: u32, high: u32) -> Arg<'a>
-    ensures rule { rule_of result ≡ required_number id.entry.now low high }
+    ensures defined { rule_of result ≡ required_number id.entry.now low high }
     ensures local { result.global ≡ false }
 {
     Arg::new(alloc, id)
@@ -69,7 +69,7 @@ fn optional_number_arg<'a>(
     high: u32,
     default: &'a str,
 ) -> Arg<'a>
-    ensures rule { rule_of result ≡ optional_number id.entry.now low high default.entry.now }
+    ensures defined { rule_of result ≡ optional_number id.entry.now low high default.entry.now }
     ensures local { result.global ≡ false }
 {
     Arg::new(alloc, id)
@@ -80,7 +80,7 @@ fn optional_number_arg<'a>(
 
 /// An option that must be given, with any whole number of 64 bits.
 fn required_word_arg<'a>(alloc: Global, id: &'a str) -> Arg<'a>
-    ensures rule { rule_of result ≡ required_word id.entry.now }
+    ensures defined { rule_of result ≡ required_word id.entry.now }
     ensures local { result.global ≡ false }
 {
     let parser = value_parser!(u64);

@@ -66,10 +66,7 @@ fn number_16(matches: &ArgMatches, id: &str) -> u16
     requires { is_some (number_at 16 id.now (rows_of (found_of matches.now))) ≡ true }
     ensures { result ≡ number_in 16 id.now (rows_of (found_of matches.now)) }
 {
-    let Some(number) = matches.get_one::<u16>(id) else {
-        unreachable!();
-    };
-    number
+    matches.get_one::<u16>(id).unwrap()
 }
 
 /// The number of an option, as a `u32`.
@@ -77,10 +74,7 @@ fn number_32(matches: &ArgMatches, id: &str) -> u32
     requires { is_some (number_at 32 id.now (rows_of (found_of matches.now))) ≡ true }
     ensures { result ≡ number_in 32 id.now (rows_of (found_of matches.now)) }
 {
-    let Some(number) = matches.get_one::<u32>(id) else {
-        unreachable!();
-    };
-    number
+    matches.get_one::<u32>(id).unwrap()
 }
 
 /// The number of an option, as a `u64`.
@@ -88,10 +82,7 @@ fn number_64(matches: &ArgMatches, id: &str) -> u64
     requires { is_some (number_at 64 id.now (rows_of (found_of matches.now))) ≡ true }
     ensures { result ≡ number_in 64 id.now (rows_of (found_of matches.now)) }
 {
-    let Some(number) = matches.get_one::<u64>(id) else {
-        unreachable!();
-    };
-    number
+    matches.get_one::<u64>(id).unwrap()
 }
 
 /// The first text of an argument.
@@ -106,10 +97,7 @@ fn required_text<'a>(matches: &ArgMatches<'a>, id: &str) -> &'a str
     requires { IsThere (first_of id.now (rows_of (found_of matches.now))) }
     ensures { result.now ≡ text_in id.now (rows_of (found_of matches.now)) }
 {
-    let Some(text) = text(matches, id) else {
-        unreachable!();
-    };
-    text
+    text(matches, id).unwrap()
 }
 
 /// The values of `split` among the entries.
@@ -165,10 +153,12 @@ fn demo_options(matches: &ArgMatches) -> DemoOptions
     }
 }
 
-/// Why words are no command.
+/// Why words ask for nothing that the program does.
 #[derive(Clone, Copy, Debug, PartialEq, Eq)]
 pub enum WordsFault {
+    /// Memory ran out.
     NoMemory,
+    /// They aren't a command of the program, with its options and their values.
     Usage,
 }
 
@@ -180,7 +170,7 @@ impl From<AllocError> for WordsFault {
     }
 }
 
-/// What the words ask for.
+/// What the words of a command line ask for.
 pub fn read_words<'a>(alloc: Global, words: &'a [&'a str]) -> Result<Request<'a>, WordsFault>
     // What is read is what the words ask for, by the written definition of the command line.
     ensures read { IfOk result (λ r. request_of (texts words.entry.now) ≡ Some (request_view r)) }

@@ -10,7 +10,7 @@ use Rattle.dpl_spec_split.specs.declared.Rect.{Rect}
 use Rattle.dpl_spec_split.specs.declared.Zone.{Zone}
 use Rattle.dpl_spec_split.specs.Squares.{Region, SameSquares, Covers, IsSolidWithin}
 use Rattle.dpl_spec_split.specs.Loops.{farthest}
-use Rattle.dpl_spec_split.specs.Zones.{at, IsKeptZone, turned, part_at}
+use Rattle.dpl_spec_split.specs.Zones.{at, IsKeptZone, transposed, part_at}
 use Rattle.dpl_slabs.specs.Parts.{AreApart, AreParts, union_of}
 use Rattle.dpl_zone.specs.Rows.{layer_of}
 use Rattle.dpl_zone.specs.Layers.{AreOthers, IsPartZone}
@@ -18,7 +18,7 @@ use Rattle.dpl_tree.specs.Trees.{AreItemsOf}
 use Rattle.dpl_tree.specs.declared.items.Item.{Item}
 use Rattle.dpl_zone.specs.Items.{AreItemsWithin, others_in, own_in}
 use Rattle.dpl_zone.proofs.ItemLaws.{others-in, in-others, own-in, in-own}
-use Rattle.dpl_zone.proofs.Turns.{zone-as, within-slabs}
+use Rattle.dpl_zone.proofs.TransposedLaws.{zone-as, within-slabs}
 
 abbrev pub FirstOf : List Rect → ℕ → Rect → Type 0
 FirstOf zs n z = (i : ℕ) × (i < n) × (i < length zs) × (get_or zs i z ≡ z)
@@ -60,7 +60,7 @@ pub kept-as : (rule overlap : ℕ) (l m f : Region) → SameSquares l m → (z :
 kept-as rule overlap l m f same z (inl h) = inl (zone-as rule overlap l m f f same (same_self f) z h)
 kept-as rule overlap l m f same z (inr (v, free)) =
     inr (
-      zone-as rule overlap (turned l) (turned m) (turned f) (turned f) (λ p. same (at p.y p.x)) (same_self (turned f)) _ v,
+      zone-as rule overlap (transposed l) (transposed m) (transposed f) (transposed f) (λ p. same (at p.y p.x)) (same_self (transposed f)) _ v,
       λ g zone touch. free g (zone-as rule overlap m l f f (same_back l m same) (same_self f) g zone) touch,
     )
 

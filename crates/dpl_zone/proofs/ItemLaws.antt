@@ -6,14 +6,14 @@ use Rattle.std.proofs.lemmas.List.{get_or_default, length-map}
 use Rattle.dpl_spec_split.specs.declared.Rect.{Rect}
 use Rattle.dpl_spec_split.specs.Loops.{farthest}
 use Rattle.dpl_spec_split.specs.Squares.{IsSolidWithin}
-use Rattle.dpl_spec_split.specs.Zones.{turned_rect}
+use Rattle.dpl_spec_split.specs.Zones.{transposed_rect}
 use Rattle.dpl_tree.specs.declared.items.Item.{Item}
-use Rattle.dpl_tree.specs.Trees.{turned_item, HasItem}
+use Rattle.dpl_tree.specs.Trees.{transposed_item, HasItem}
 use Rattle.dpl_zone.specs.Items.{AreItemsWithin, others_in, own_in}
 use Rattle.dpl_zone.specs.Rows.{AreWithin}
 use Rattle.dpl_tree.proofs.ItemLaws.{item-at}
-use Rattle.dpl_tree.proofs.Turns.{turned-get}
-use Rattle.dpl_zone.proofs.Turns.{turned-back}
+use Rattle.dpl_tree.proofs.TransposedLaws.{transposed-get}
+use Rattle.dpl_zone.proofs.TransposedLaws.{transposed-back}
 
 is-other : (own : ℕ) (item : Item) → not (item.owner == own) ≡ true → item.owner ≢ own
 is-other own item h = search rules
@@ -88,35 +88,36 @@ others-within items own within i d l =
     let (k, ne, has) = others-in items own (get_or (others_in items own) i d) (i, l, get_or_default (others_in items own) i (get_or (others_in items own) i d) d l) in
     within (get_or (others_in items own) i d) k has
 
-turned-cond : (b : Bool) (r : Rect) (xs ys : List Rect) → ys ≡ map turned_rect xs → cond b (turned_rect r ∷ ys) ys ≡ map turned_rect (cond b (r ∷ xs) xs)
-turned-cond true r xs ys e = ap (λ t. let s : List Rect = t in turned_rect r ∷ s) e
-turned-cond false r xs ys e = e
+transposed-cond : (b : Bool) (r : Rect) (xs ys : List Rect) → ys ≡ map transposed_rect xs → cond b (transposed_rect r ∷ ys) ys ≡ map transposed_rect (cond b (r ∷ xs) xs)
+transposed-cond true r xs ys e = ap (λ t. let s : List Rect = t in transposed_rect r ∷ s) e
+transposed-cond false r xs ys e = e
 
--- x and y exchanged
-turned-others : (own : ℕ) (items : List Item) → others_in (map turned_item items) own ≡ map turned_rect (others_in items own)
-turned-others own [] = refl
-turned-others own (item ∷ items) = turned-cond (not (item.owner == own)) item.rect (others_in items own) (others_in (map turned_item items) own) (turned-others own items)
+-- transposed
+transposed-others : (own : ℕ) (items : List Item) → others_in (map transposed_item items) own ≡ map transposed_rect (others_in items own)
+transposed-others own [] = refl
+transposed-others own (item ∷ items) = transposed-cond (not (item.owner == own)) item.rect (others_in items own)
+    (others_in (map transposed_item items) own) (transposed-others own items)
 
-turned-own : (own : ℕ) (items : List Item) → own_in (map turned_item items) own ≡ map turned_rect (own_in items own)
-turned-own own [] = refl
-turned-own own (item ∷ items) = turned-cond (item.owner == own) item.rect (own_in items own) (own_in (map turned_item items) own) (turned-own own items)
+transposed-own : (own : ℕ) (items : List Item) → own_in (map transposed_item items) own ≡ map transposed_rect (own_in items own)
+transposed-own own [] = refl
+transposed-own own (item ∷ items) = transposed-cond (item.owner == own) item.rect (own_in items own) (own_in (map transposed_item items) own) (transposed-own own items)
 
--- the others' rectangles in the tree with x and y exchanged, turned back
-pub others-back : (items across : List Item) (own : ℕ) → across ≡ map turned_item items → map turned_rect (others_in across own) ≡ others_in items own
-others-back items across own e = ap (λ t. let s : List Item = t in map turned_rect (others_in s own)) e
-    ∙ (ap (λ t. let s : List Rect = t in map turned_rect s) (turned-others own items) ∙ turned-back (others_in items own))
+-- the others' rectangles in the transposed tree, transposed back
+pub others-back : (items across : List Item) (own : ℕ) → across ≡ map transposed_item items → map transposed_rect (others_in across own) ≡ others_in items own
+others-back items across own e = ap (λ t. let s : List Item = t in map transposed_rect (others_in s own)) e
+    ∙ (ap (λ t. let s : List Rect = t in map transposed_rect s) (transposed-others own items) ∙ transposed-back (others_in items own))
 
-pub turned-items : (items across : List Item) → across ≡ map turned_item items → AreItemsWithin items → AreItemsWithin across
-turned-items items across e within r k has = turned-one (rw e at has)
+pub transposed-items : (items across : List Item) → across ≡ map transposed_item items → AreItemsWithin items → AreItemsWithin across
+transposed-items items across e within r k has = transposed-one (rw e at has)
   where
-    turned-one : HasItem (map turned_item items) r k → IsSolidWithin farthest r
-    turned-one (t, (i, l, is), rect, owner) =
-        let here : get_or items i (turned_item t) ≡ turned_item t = ap turned_item (sym (turned-get items i t) ∙ is) in
-        let w = within (turned_rect r) k (turned_item t, (i, omega (arith, l, length-map items turned_item), here), ap turned_rect rect, owner) in
+    transposed-one : HasItem (map transposed_item items) r k → IsSolidWithin farthest r
+    transposed-one (t, (i, l, is), rect, owner) =
+        let here : get_or items i (transposed_item t) ≡ transposed_item t = ap transposed_item (sym (transposed-get items i t) ∙ is) in
+        let w = within (transposed_rect r) k (transposed_item t, (i, omega (arith, l, length-map items transposed_item), here), ap transposed_rect rect, owner) in
         record { wide = w.tall; tall = w.wide; left = w.low; right = w.high; low = w.left; high = w.right }
 
-pub others-turned_in : (items across : List Item) (own : ℕ) → across ≡ map turned_item items → others_in across own ≡ map turned_rect (others_in items own)
-others-turned_in items across own e = ap (λ t. let s : List Item = t in others_in s own) e ∙ turned-others own items
+pub others-transposed_in : (items across : List Item) (own : ℕ) → across ≡ map transposed_item items → others_in across own ≡ map transposed_rect (others_in items own)
+others-transposed_in items across own e = ap (λ t. let s : List Item = t in others_in s own) e ∙ transposed-others own items
 
-pub own-turned_in : (items across : List Item) (own : ℕ) → across ≡ map turned_item items → own_in across own ≡ map turned_rect (own_in items own)
-own-turned_in items across own e = ap (λ t. let s : List Item = t in own_in s own) e ∙ turned-own own items
+pub own-transposed_in : (items across : List Item) (own : ℕ) → across ≡ map transposed_item items → own_in across own ≡ map transposed_rect (own_in items own)
+own-transposed_in items across own e = ap (λ t. let s : List Item = t in own_in s own) e ∙ transposed-own own items

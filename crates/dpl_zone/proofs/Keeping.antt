@@ -9,7 +9,7 @@ use Rattle.std.proofs.lemmas.List.Elements.{Contains-append_left, Contains-push,
 use Rattle.dpl_spec_split.specs.declared.Rect.{Rect}
 use Rattle.dpl_spec_split.specs.Loops.{farthest}
 use Rattle.dpl_spec_split.specs.Squares.{Region, AreTouching, Has, Covers, IsSolidWithin}
-use Rattle.dpl_spec_split.specs.Zones.{at, IsHorizontalZone, IsVerticalZone, IsKeptZone, turned, turned_rect}
+use Rattle.dpl_spec_split.specs.Zones.{at, IsHorizontalZone, IsVerticalZone, IsKeptZone, transposed, transposed_rect}
 use Rattle.dpl_tree.specs.declared.items.Item.{Item}
 use Rattle.dpl_tree.specs.Trees.{HasItem}
 use Rattle.dpl_zone.specs.Items.{AreItemsWithin}
@@ -78,7 +78,7 @@ inside-within rects z within h =
 
 pub upright-inside : (rule overlap : ℕ) (l f : Region) (z : Rect) → 1 ≤ overlap → IsVerticalZone rule overlap l f z → IsInside f z
 upright-inside rule overlap l f z some h =
-    let i = zone-inside rule overlap (turned l) (turned f) (turned_rect z) some h in
+    let i = zone-inside rule overlap (transposed l) (transposed f) (transposed_rect z) some h in
     record { wide = i.tall; tall = i.wide; first = i.first; last = i.last }
 
 module _ (rule overlap : ℕ) (rects others : List Rect) (some : 1 ≤ overlap) (within : AreWithin rects) where

@@ -9,13 +9,13 @@ use Rattle.std.proofs.lemmas.List.Elements.{Contains-append_left, Contains-push,
 use Rattle.dpl_spec_split.specs.declared.Pt.{Pt}
 use Rattle.dpl_spec_split.specs.declared.Rect.{Rect}
 use Rattle.dpl_spec_split.specs.Squares.{gap}
-use Rattle.dpl_spec_split.specs.Zones.{turned_rect}
+use Rattle.dpl_spec_split.specs.Zones.{transposed_rect}
 use Rattle.dpl_tree.specs.declared.items.Item.{Item}
 use Rattle.dpl_tree.specs.declared.owners.Owners.TheVariants.{But}
-use Rattle.dpl_tree.specs.Trees.{LiesApart, IsMissed, turned_item, ArePassed}
+use Rattle.dpl_tree.specs.Trees.{LiesApart, IsMissed, transposed_item, ArePassed}
 use Rattle.dpl_tree.specs.Windows.{IsWidened}
 use Rattle.dpl_tree.proofs.ItemLaws.{item-at}
-use Rattle.dpl_tree.proofs.Turns.{turned-get}
+use Rattle.dpl_tree.proofs.TransposedLaws.{transposed-get}
 use Rattle.dpl_zone.specs.declared.rows.Span.{Span}
 use Rattle.dpl_zone.specs.Rows.{SomeRow, IsShaded, IsDark}
 use Rattle.dpl_zone.specs.Near.{IsBeyond, AreNumbers, HasAllNear, IsDarkBy}
@@ -103,23 +103,23 @@ pub searched-all : (rule : ℕ) (slab : Rect) (items : List Item) (own n : ℕ) 
 searched-all rule slab items own n near end s =
     record { numbers = s.numbers; others = s.others; all = λ j d j_in. s.all j d (omega (arith, end, j_in)) j_in }
 
--- the tree with x and y exchanged has the same items near
-beyond-turned : (rule : ℕ) (slab r : Rect) → IsBeyond rule slab r → IsBeyond rule (turned_rect slab) (turned_rect r)
-beyond-turned rule slab r (inl h) = inr (inr (inl h))
-beyond-turned rule slab r (inr (inl h)) = inr (inr (inr h))
-beyond-turned rule slab r (inr (inr (inl h))) = inl h
-beyond-turned rule slab r (inr (inr (inr h))) = inr (inl h)
+-- the transposed tree has the same items near
+beyond-transposed : (rule : ℕ) (slab r : Rect) → IsBeyond rule slab r → IsBeyond rule (transposed_rect slab) (transposed_rect r)
+beyond-transposed rule slab r (inl h) = inr (inr (inl h))
+beyond-transposed rule slab r (inr (inl h)) = inr (inr (inr h))
+beyond-transposed rule slab r (inr (inr (inl h))) = inl h
+beyond-transposed rule slab r (inr (inr (inr h))) = inr (inl h)
 
-pub near-turned : (rule : ℕ) (slab : Rect) (items across : List Item) (own : ℕ) (near : List ℕ) → across ≡ map turned_item items
-    → HasAllNear rule slab items own near → HasAllNear rule (turned_rect slab) across own near
-near-turned rule slab items across own near e h =
+pub near-transposed : (rule : ℕ) (slab : Rect) (items across : List Item) (own : ℕ) (near : List ℕ) → across ≡ map transposed_item items
+    → HasAllNear rule slab items own near → HasAllNear rule (transposed_rect slab) across own near
+near-transposed rule slab items across own near e h =
     rw e
     (record {
-      numbers = λ n c. (let l = h.numbers n c in omega (arith, l, length-map items turned_item));
-      others = λ n d c. rw (turned-get items n d) (h.others n (turned_item d) c);
-      all = λ n d l. rw (turned-get items n d) (λ ne. elim (h.all n (turned_item d) (omega (arith, l, length-map items turned_item)) ne) [
+      numbers = λ n c. (let l = h.numbers n c in omega (arith, l, length-map items transposed_item));
+      others = λ n d c. rw (transposed-get items n d) (h.others n (transposed_item d) c);
+      all = λ n d l. rw (transposed-get items n d) (λ ne. elim (h.all n (transposed_item d) (omega (arith, l, length-map items transposed_item)) ne) [
         | inl a ↦ inl a
-        | inr b ↦ inr (beyond-turned rule slab (get_or items n (turned_item d)).rect b)
+        | inr b ↦ inr (beyond-transposed rule slab (get_or items n (transposed_item d)).rect b)
       ]);
     })
 

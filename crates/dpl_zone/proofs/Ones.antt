@@ -8,19 +8,19 @@ use Rattle.dpl_spec_split.specs.declared.Pt.{Pt}
 use Rattle.dpl_spec_split.specs.declared.Rect.{Rect}
 use Rattle.dpl_spec_split.specs.Squares.{Covers, Has, SameSquares}
 use Rattle.dpl_spec_split.specs.Slabs.{IsCanonical}
-use Rattle.dpl_spec_split.specs.Zones.{IsVerticalZone, turned_rect}
+use Rattle.dpl_spec_split.specs.Zones.{IsVerticalZone, transposed_rect}
 use Rattle.dpl_tree.specs.declared.items.Item.{Item}
-use Rattle.dpl_tree.specs.Trees.{turned_item}
+use Rattle.dpl_tree.specs.Trees.{transposed_item}
 use Rattle.dpl_zone.specs.declared.rows.Span.{Span}
 use Rattle.dpl_zone.specs.Rows.{AreWithin, IsDark, IsSlabZone, layer_of}
 use Rattle.dpl_zone.specs.Near.{HasAllNear}
 use Rattle.dpl_zone.specs.Items.{AllIn, AreItemsWithin, others_in, own_in}
 use Rattle.dpl_zone.specs.declared.ways.Found.{Found}
 use Rattle.dpl_zone.specs.Ways.{AreFound}
-use Rattle.dpl_zone.proofs.ItemLaws.{others-turned_in, others-within, own-turned_in, turned-items}
-use Rattle.dpl_zone.proofs.Nearby.{dark-near, near-turned}
+use Rattle.dpl_zone.proofs.ItemLaws.{others-transposed_in, others-within, own-transposed_in, transposed-items}
+use Rattle.dpl_zone.proofs.Nearby.{dark-near, near-transposed}
 use Rattle.dpl_zone.proofs.Probes.{nothing-outside}
-use Rattle.dpl_zone.proofs.Turns.{apart-turned, flat-from_upright, one-column, own-turned, turned-covers}
+use Rattle.dpl_zone.proofs.TransposedLaws.{apart-transposed, flat-from_upright, one-column, own-transposed, transposed-covers}
 use Rattle.dpl_zone.proofs.Whole.{zones-of_covered}
 use Rattle.dpl_zone.proofs.Zoning.{added-to_none, short-none}
 
@@ -92,22 +92,22 @@ upright-one rule overlap part own others s one zs h =
       (λ (t, (k, k_in, is), zone). (h z).1 (subst (λ u. IsSlabZone rule overlap own others u z) (sym (is-first part own others s one k t k_in is)) zone)),
     ))
 
-one-turned : (part own others own' others' : List Rect) (s : Rect) → IsOne part own others s → own' ≡ map turned_rect own
-    → others' ≡ map turned_rect others → AreWithin others' → IsOne (map turned_rect part) own' others' (turned_rect s)
-one-turned part own others own' others' s one own_is others_is within =
+one-transposed : (part own others own' others' : List Rect) (s : Rect) → IsOne part own others s → own' ≡ map transposed_rect own
+    → others' ≡ map transposed_rect others → AreWithin others' → IsOne (map transposed_rect part) own' others' (transposed_rect s)
+one-transposed part own others own' others' s one own_is others_is within =
     let size = one.size in
     record {
-      size = length-map part turned_rect ∙ one.size;
-      first = λ d. get_or-map turned_rect part 0 s d (omega (arith, size)) ∙ ap turned_rect (one.first s);
-      canonical = (one-column part (map turned_rect part) one.size refl one.canonical).canonical;
-      same = λ p. (let a = turned-covers part p in let b = own-turned part own own' own_is one.same p in ((λ h. b.0 (a.0 h)), (λ h. a.1 (b.1 h))));
+      size = length-map part transposed_rect ∙ one.size;
+      first = λ d. get_or-map transposed_rect part 0 s d (omega (arith, size)) ∙ ap transposed_rect (one.first s);
+      canonical = (one-column part (map transposed_rect part) one.size refl one.canonical).canonical;
+      same = λ p. (let a = transposed-covers part p in let b = own-transposed part own own' own_is one.same p in ((λ h. b.0 (a.0 h)), (λ h. a.1 (b.1 h))));
       within = within;
-      apart = λ p a b. apart-turned part others others' others_is one.apart p ((turned-covers part p).0 a) b;
+      apart = λ p a b. apart-transposed part others others' others_is one.apart p ((transposed-covers part p).0 a) b;
     }
 
--- a feature of one slab in a tree, and in the tree with x and y exchanged
+-- a feature of one slab in a tree, and in the transposed tree
 module _ (rule overlap : ℕ) (part rects : List Rect) (items across : List Item) (k : ℕ) (is : rects ≡ part) (size : length part ≡ 1)
-    (canonical : IsCanonical part) (inside : AreItemsWithin items) (turn : across ≡ map turned_item items)
+    (canonical : IsCanonical part) (inside : AreItemsWithin items) (turn : across ≡ map transposed_item items)
     (same : SameSquares (Covers part) (Covers (own_in items k))) (apart : (p : Pt) → Covers part p → Covers (others_in items k) p → ⊥) where
   abbrev pub slab : Rect
   slab = get_or rects 0 zero_rect
@@ -123,28 +123,28 @@ module _ (rule overlap : ℕ) (part rects : List Rect) (items across : List Item
   }
 
   pub across-items : AreItemsWithin across
-  across-items = turned-items items across turn inside
+  across-items = transposed-items items across turn inside
 
-  column : IsOne (map turned_rect part) (own_in across k) (others_in across k) (turned_rect slab)
-  column = one-turned part (own_in items k) (others_in items k) (own_in across k) (others_in across k) slab one
-      (own-turned_in items across k turn) (others-turned_in items across k turn) (others-within across k across-items)
+  column : IsOne (map transposed_rect part) (own_in across k) (others_in across k) (transposed_rect slab)
+  column = one-transposed part (own_in items k) (others_in items k) (own_in across k) (others_in across k) slab one
+      (own-transposed_in items across k turn) (others-transposed_in items across k turn) (others-within across k across-items)
 
   pub slab-whole : AllIn (own_in items k) slab
   slab-whole = all-in part (own_in items k) (others_in items k) slab one
 
-  pub column-whole : AllIn (own_in across k) (turned_rect slab)
-  column-whole = all-in (map turned_rect part) (own_in across k) (others_in across k) (turned_rect slab) column
+  pub column-whole : AllIn (own_in across k) (transposed_rect slab)
+  column-whole = all-in (map transposed_rect part) (own_in across k) (others_in across k) (transposed_rect slab) column
 
   pub found-one : (found : Found) (flat : List Rect) → OfSlab rule overlap (own_in items k) (others_in items k) slab found.upright.items
-      → OfSlab rule overlap (own_in across k) (others_in across k) (turned_rect slab) flat
-      → found.flat.items ≡ map turned_rect flat → AreFound rule overlap (layer_of part (others_in items k)) (Covers part) found
-  found-one found flat upright_is flat_is turned_is =
+      → OfSlab rule overlap (own_in across k) (others_in across k) (transposed_rect slab) flat
+      → found.flat.items ≡ map transposed_rect flat → AreFound rule overlap (layer_of part (others_in items k)) (Covers part) found
+  found-one found flat upright_is flat_is transposed_is =
       record {
-        flat = flat-from_upright rule overlap part (others_in items k) (map turned_rect part) flat found.flat.items (turned-covers part)
+        flat = flat-from_upright rule overlap part (others_in items k) (map transposed_rect part) flat found.flat.items (transposed-covers part)
             (subst (λ t. let os : List Rect = t in
-            (z : Rect) → Contains flat z ↔ IsVerticalZone rule overlap (layer_of (map turned_rect part) os)
-            (Covers (map turned_rect part)) z) (others-turned_in items across k turn)
-            (upright-one rule overlap (map turned_rect part) (own_in across k) (others_in across k) (turned_rect slab) column flat flat_is)) turned_is;
+            (z : Rect) → Contains flat z ↔ IsVerticalZone rule overlap (layer_of (map transposed_rect part) os)
+            (Covers (map transposed_rect part)) z) (others-transposed_in items across k turn)
+            (upright-one rule overlap (map transposed_rect part) (own_in across k) (others_in across k) (transposed_rect slab) column flat flat_is)) transposed_is;
         upright = upright-one rule overlap part (own_in items k) (others_in items k) slab one found.upright.items upright_is;
       }
 
@@ -153,11 +153,11 @@ module _ (rule overlap : ℕ) (part rects : List Rect) (items across : List Item
       → slab.x1 <ℤ (slab.x0 +ℤ pos (overlap + 2)) → AreFound rule overlap (layer_of part (others_in items k)) (Covers part) found
   found-small found flat_is upright_is rows columns =
       found-one found [] (short-of rule overlap (own_in items k) (others_in items k) slab found.upright.items upright_is rows)
-      (short-of rule overlap (own_in across k) (others_in across k) (turned_rect slab) [] refl columns) flat_is
+      (short-of rule overlap (own_in across k) (others_in across k) (transposed_rect slab) [] refl columns) flat_is
 
   -- nothing near
   pub found-lonely : (found : Found) (near : List ℕ) → found.flat.items ≡ [] → found.upright.items ≡ [] → HasAllNear rule slab items k near
       → near ≡ [] → AreFound rule overlap (layer_of part (others_in items k)) (Covers part) found
   found-lonely found near flat_is upright_is h none =
       found-one found [] (lonely-of rule overlap items k near (own_in items k) slab found.upright.items slab-whole h none upright_is)
-      (lonely-of rule overlap across k near (own_in across k) (turned_rect slab) [] column-whole (near-turned rule slab items across k near turn h) none refl) flat_is
+      (lonely-of rule overlap across k near (own_in across k) (transposed_rect slab) [] column-whole (near-transposed rule slab items across k near turn h) none refl) flat_is

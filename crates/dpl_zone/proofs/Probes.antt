@@ -6,7 +6,7 @@ use Rattle.std.proofs.lemmas.Bool.{cases_lt, cases_eq}
 use Rattle.dpl_spec_split.specs.declared.Rect.{Rect}
 use Rattle.dpl_spec_split.specs.Loops.{farthest}
 use Rattle.dpl_spec_split.specs.Squares.{Has, Covers, AreTouching, IsSolidWithin}
-use Rattle.dpl_spec_split.specs.Zones.{at, GoesOn, turned}
+use Rattle.dpl_spec_split.specs.Zones.{at, GoesOn, transposed}
 use Rattle.dpl_spec_split.proofs.SquareLaws.{Touch-from_close}
 use Rattle.dpl_spec_split.proofs.ZoneLaws.{close-from_touch}
 use Rattle.dpl_tree.specs.declared.items.Item.{Item}
@@ -67,7 +67,7 @@ shared s r y solid within a b c d =
 
 module _ (items : List Item) (own : ℕ) (s : Rect) (y : ℤ) (window : Rect) (n : ℕ) (within : AreItemsWithin items) (solid : IsSolidWithin farthest s)
     (strip : IsStrip s y window) (sought : IsSought items window (Only own) n) where
-  pub row-found : (d : Item) → n < length items → GoesOn (turned (Covers (own_in items own))) s.x0 s.x1 y
+  pub row-found : (d : Item) → n < length items → GoesOn (transposed (Covers (own_in items own))) s.x0 s.x1 y
   row-found d l =
       let o = found_overlap items window (Only own) n sought d l in
       let owner : (get_or items n d).owner ≡ own = elim (cases_eq (get_or items n d).owner own) [ inl e ↦ e | inr ne ↦ absurd (sought.found d l (inr ne)) ] in
@@ -85,7 +85,7 @@ module _ (items : List Item) (own : ℕ) (s : Rect) (y : ℤ) (window : Rect) (n
       let (m, m_in, m_is) = in_own in
       (x, a, b, (m, (get_or items n d).rect, m_in, m_is, has))
 
-  pub found-row : GoesOn (turned (Covers (own_in items own))) s.x0 s.x1 y → n < length items
+  pub found-row : GoesOn (transposed (Covers (own_in items own))) s.x0 s.x1 y → n < length items
   found-row (x, a, b, (m, r, m_in, m_is, has)) =
       let mine = own-in items own r (m, m_in, m_is) in
       let e0 = strip.left in
@@ -194,7 +194,7 @@ module _ (items : List Item) (z : Rect) (window : Rect) (n : ℕ) (within : AreI
       ])
 
 -- a feature that is all in a slab has nothing below or above it
-pub nothing-outside : (own : List Rect) (slab : Rect) (y : ℤ) → ((y <ℤ slab.y0) ⊎ (slab.y1 ≤ℤ y)) → AllIn own slab → GoesOn (turned (Covers own)) slab.x0 slab.x1 y → ⊥
+pub nothing-outside : (own : List Rect) (slab : Rect) (y : ℤ) → ((y <ℤ slab.y0) ⊎ (slab.y1 ≤ℤ y)) → AllIn own slab → GoesOn (transposed (Covers own)) slab.x0 slab.x1 y → ⊥
 nothing-outside own slab y outside all (v, a, b, in_own) =
     let here : Has slab (at v y) = all (at v y) in_own in
     let low : slab.y0 ≤ℤ y = here.low in

@@ -9,7 +9,7 @@ use Rattle.dpl_spec_split.specs.declared.Rect.{Rect}
 use Rattle.dpl_spec_split.specs.declared.Zone.{Zone}
 use Rattle.dpl_spec_split.specs.Squares.{Region, SameSquares, AreNear, AreTouching, Covers, Has, Touch, d2}
 use Rattle.dpl_spec_split.specs.Components.{Linked, here, on, AreComponents}
-use Rattle.dpl_spec_split.specs.Zones.{at, IsHorizontalZone, IsVerticalZone, IsKeptZone, turned, turned_rect, AreZones, part_at}
+use Rattle.dpl_spec_split.specs.Zones.{at, IsHorizontalZone, IsVerticalZone, IsKeptZone, transposed, transposed_rect, AreZones, part_at}
 use Rattle.dpl_spec_split.specs.Pieces.{without, AreSides}
 use Rattle.dpl_spec_split.proofs.SquareLaws.{Touch-from_close, Touch-sym}
 use Rattle.dpl_spec_split.proofs.ComponentLaws.{Linked-trans}
@@ -21,24 +21,24 @@ use Rattle.dpl_zone.specs.Laws.{IsLeftOrBelow, IsRightOrAbove, HasTwoSides}
 use Rattle.dpl_zone.proofs.Features.{kept-as, same_zone}
 use Rattle.dpl_zone.proofs.Keeping.{zone-inside, upright-inside}
 
-touch-turned : (p q : Pt) → Touch p q → Touch (at p.y p.x) (at q.y q.x)
-touch-turned p q t = let c = close-from_touch p q t in Touch-from_close (at p.y p.x) (at q.y q.x) c.low c.high c.left c.right
+touch-transposed : (p q : Pt) → Touch p q → Touch (at p.y p.x) (at q.y q.x)
+touch-transposed p q t = let c = close-from_touch p q t in Touch-from_close (at p.y p.x) (at q.y q.x) c.low c.high c.left c.right
 
-has-turned : (r : Rect) (p : Pt) → Has r p → Has (turned_rect r) (at p.y p.x)
-has-turned r p h = record { left = h.low; right = h.high; low = h.left; high = h.right }
+has-transposed : (r : Rect) (p : Pt) → Has r p → Has (transposed_rect r) (at p.y p.x)
+has-transposed r p h = record { left = h.low; right = h.high; low = h.left; high = h.right }
 
 module _ (rule overlap : ℕ) (l f : Region) where
   pub kept-inside : (r : Rect) (p : Pt) → IsKeptZone rule overlap l f r → Has r p → f p
   kept-inside r p (inl h) has = zone-in-feature rule l f overlap r p h has
-  kept-inside r p (inr (v, apart)) has = zone-in-feature rule (turned l) (turned f) overlap (turned_rect r) (at p.y p.x) v (has-turned r p has)
+  kept-inside r p (inr (v, apart)) has = zone-in-feature rule (transposed l) (transposed f) overlap (transposed_rect r) (at p.y p.x) v (has-transposed r p has)
 
 flat-one : (rule overlap : ℕ) (l f : Region) (z w : Rect) → IsHorizontalZone rule overlap l f z → IsHorizontalZone rule overlap l f w → AreTouching (Has z) (Has w) → z ≡ w
 flat-one rule overlap l f z w h k (p, q, hp, hq, t) =
     let (a, b, c, d) = touching-beside rule l f overlap z h q p (zone-in-feature rule l f overlap w q k hq) hp (Touch-sym p q t) in
     beside-same rule l f overlap z w h k q.x q.y a b c d hq
 
-touching-turned : (z w : Rect) → AreTouching (Has z) (Has w) → AreTouching (Has (turned_rect z)) (Has (turned_rect w))
-touching-turned z w (p, q, hp, hq, t) = (at p.y p.x, at q.y q.x, has-turned z p hp, has-turned w q hq, touch-turned p q t)
+touching-transposed : (z w : Rect) → AreTouching (Has z) (Has w) → AreTouching (Has (transposed_rect z)) (Has (transposed_rect w))
+touching-transposed z w (p, q, hp, hq, t) = (at p.y p.x, at q.y q.x, has-transposed z p hp, has-transposed w q hq, touch-transposed p q t)
 
 touching-sym : (z w : Rect) → AreTouching (Has z) (Has w) → AreTouching (Has w) (Has z)
 touching-sym z w (p, q, hp, hq, t) = (q, p, hq, hp, Touch-sym p q t)
@@ -48,7 +48,7 @@ kept-one rule overlap l f z w (inl h) (inl k) t = flat-one rule overlap l f z w 
 kept-one rule overlap l f z w (inl h) (inr (v, free)) t = absurd (free z h t)
 kept-one rule overlap l f z w (inr (v, free)) (inl k) t = absurd (free w k (touching-sym z w t))
 kept-one rule overlap l f z w (inr (v, free)) (inr (u, none)) t =
-    ap turned_rect (flat-one rule overlap (turned l) (turned f) (turned_rect z) (turned_rect w) v u (touching-turned z w t))
+    ap transposed_rect (flat-one rule overlap (transposed l) (transposed f) (transposed_rect z) (transposed_rect w) v u (touching-transposed z w t))
 
 pub stand-apart : (rule overlap : ℕ) (layer : List Rect) (features : List (List Rect)) (zones : List Zone) → AreZones rule overlap (Covers layer) features zones
     → (z w : Zone) → Contains zones z → Contains zones w → z.feature ≡ w.feature → AreTouching (Has z.rect) (Has w.rect) → z ≡ w
@@ -133,14 +133,15 @@ module _ (rule overlap : ℕ) (layer : List Rect) (features pieces : List (List 
           | inl e ↦ (let a = e.0 in Touch-from_close (at x y) (at x j) (omega (arith, ints)) (omega (arith, ints)) (omega (arith, ints, a)) (omega (arith, ints, a)))
           | inr e ↦ (let a = e.0 in Touch-from_close (at x y) (at x j) (omega (arith, ints)) (omega (arith, ints)) (omega (arith, ints, a)) (omega (arith, ints, a)))
         ] in
-        let in_f = beside-in-feature rule (turned (Covers layer)) (turned (part_at features z.feature)) overlap (turned_rect z.rect) h y x low high has.left has.right in (
+        let in_f = beside-in-feature rule (transposed (Covers layer)) (transposed (part_at features z.feature)) overlap
+        (transposed_rect z.rect) h y x low high has.left has.right in (
           in-layer z.feature (at x y) feature_in in_f,
           λ (n, w, n_in, n_is, w_has). elim (zone-of w z.feature (at x y) (n, n_in, n_is) feature_in in_f w_has) [
             | inl k ↦ none w.rect k (at x y, at x j, w_has, has, close)
-            | inr (v, apart) ↦ (let same : turned_rect z.rect ≡ turned_rect w.rect = beside-same rule (turned (Covers layer))
-                (turned (part_at features z.feature)) overlap (turned_rect z.rect) (turned_rect w.rect) h v y x low high has.left has.right
-                (has-turned w.rect (at x y) w_has) in
-                let mine : Has (turned_rect z.rect) (at y x) = subst (λ r. Has r (at y x)) (sym same) (has-turned w.rect (at x y) w_has) in
+            | inr (v, apart) ↦ (let same : transposed_rect z.rect ≡ transposed_rect w.rect = beside-same rule (transposed (Covers layer))
+                (transposed (part_at features z.feature)) overlap (transposed_rect z.rect) (transposed_rect w.rect) h v y x low high has.left has.right
+                (has-transposed w.rect (at x y) w_has) in
+                let mine : Has (transposed_rect z.rect) (at y x) = subst (λ r. Has r (at y x)) (sym same) (has-transposed w.rect (at x y) w_has) in
                 elim side [
                   | inl e ↦ (let a = e.0 in let b = e.1 in let m = mine.left in omega (arith, ints, a, b, m))
                   | inr e ↦ (let a = e.1 in let m = mine.right in omega (arith, ints, a, m))
@@ -166,8 +167,9 @@ module _ (rule overlap : ℕ) (layer : List Rect) (features pieces : List (List 
     two-upright : IsVerticalZone rule overlap (Covers layer) (part_at features z.feature) z.rect → (p q : Pt)
         → without (Covers layer) zones p → Has z.rect q → Touch p q → OnOneSide p
     two-upright h p q rest has touch =
-        let (low, high, from, below) = touching-beside rule (turned (Covers layer)) (turned (part_at features z.feature)) overlap (turned_rect z.rect) h (at p.y p.x) (at q.y q.x)
-        (own p q rest has touch) (has-turned z.rect q has) (touch-turned p q touch) in
+        let (low, high, from, below) = touching-beside rule (transposed (Covers layer)) (transposed (part_at features z.feature)) overlap
+        (transposed_rect z.rect) h (at p.y p.x) (at q.y q.x)
+        (own p q rest has touch) (has-transposed z.rect q has) (touch-transposed p q touch) in
         let a = has.low in
         let b = has.high in
         by_lt_z p.y z.rect.y0
@@ -245,17 +247,17 @@ module _ (rule overlap : ℕ) (layer : List Rect) (features pieces : List (List 
         two = two z z_in kept;
       }
 
-d2-turned : (p q : Pt) → d2 (at p.y p.x) (at q.y q.x) ≡ d2 p q
-d2-turned p q = omega arith
+d2-transposed : (p q : Pt) → d2 (at p.y p.x) (at q.y q.x) ≡ d2 p q
+d2-transposed p q = omega arith
 
-pub near-turned : (rule : ℕ) (a b : List Rect) → AreNear rule (turned (Covers a)) (turned (Covers b)) ↔ AreNear rule (Covers a) (Covers b)
-near-turned rule a b = (
-  λ (p, q, in_a, in_b, near). (at p.y p.x, at q.y q.x, in_a, in_b, subst (λ n. n < rule * rule) (sym (d2-turned p q)) near),
-  λ (p, q, in_a, in_b, near). (at p.y p.x, at q.y q.x, in_a, in_b, subst (λ n. n < rule * rule) (sym (d2-turned p q)) near),
+pub near-transposed : (rule : ℕ) (a b : List Rect) → AreNear rule (transposed (Covers a)) (transposed (Covers b)) ↔ AreNear rule (Covers a) (Covers b)
+near-transposed rule a b = (
+  λ (p, q, in_a, in_b, near). (at p.y p.x, at q.y q.x, in_a, in_b, subst (λ n. n < rule * rule) (sym (d2-transposed p q)) near),
+  λ (p, q, in_a, in_b, near). (at p.y p.x, at q.y q.x, in_a, in_b, subst (λ n. n < rule * rule) (sym (d2-transposed p q)) near),
 )
 
-pub squares-turned : (p q : Pt) → d2 (at p.y p.x) (at q.y q.x) ≡ d2 p q
-squares-turned = d2-turned
+pub squares-transposed : (p q : Pt) → d2 (at p.y p.x) (at q.y q.x) ≡ d2 p q
+squares-transposed = d2-transposed
 
 pub of-squares : (rule overlap : ℕ) (layer : List Rect) (features : List (List Rect)) (zones : List Zone) → SameSquares (union_of features) (Covers layer)
     → AreZones rule overlap (union_of features) features zones → AreZones rule overlap (Covers layer) features zones

@@ -6,7 +6,7 @@ use Rattle.dpl_spec_split.specs.declared.Rect.{Rect}
 use Rattle.dpl_spec_split.specs.declared.Zone.{Zone}
 use Rattle.dpl_spec_split.specs.Squares.{SameSquares, AreNear, AreTouching, Covers, Has, Touch, d2}
 use Rattle.dpl_spec_split.specs.Components.{AreComponents}
-use Rattle.dpl_spec_split.specs.Zones.{at, turned, part_at, AreZones}
+use Rattle.dpl_spec_split.specs.Zones.{at, transposed, part_at, AreZones}
 use Rattle.dpl_spec_split.specs.Pieces.{without, IsFirstSide, IsSecondSide, AreSides}
 use Rattle.dpl_slabs.specs.Parts.{union_of}
 
@@ -36,10 +36,10 @@ ZonesHaveTwoSides = (rule overlap : ℕ) (layer : List Rect) (features pieces : 
     → AreZones rule overlap (Covers layer) features zones → AreComponents (without (Covers layer) zones) pieces
     → (z : Zone) → Contains zones z → HasTwoSides layer features pieces zones z
 
--- distance, and with it being near, is the same with x and y exchanged
-pub record DistanceTurns : Type 0 where
+-- transposing keeps distance, and with it being near
+pub record TransposingKeepsDistance : Type 0 where
   pub squares : (p q : Pt) → d2 (at p.y p.x) (at q.y q.x) ≡ d2 p q
-  pub sets : (rule : ℕ) (a b : List Rect) → AreNear rule (turned (Covers a)) (turned (Covers b)) ↔ AreNear rule (Covers a) (Covers b)
+  pub sets : (rule : ℕ) (a b : List Rect) → AreNear rule (transposed (Covers a)) (transposed (Covers b)) ↔ AreNear rule (Covers a) (Covers b)
 
 -- zones depend on the squares of the layer alone
 abbrev pub ZonesAreOfSquares : Type 0

@@ -5,7 +5,7 @@ use Rattle.dpl_spec_split.specs.declared.Pt.{Pt}
 use Rattle.dpl_spec_split.specs.declared.Rect.{Rect}
 use Rattle.dpl_spec_split.specs.Loops.{farthest}
 use Rattle.dpl_spec_split.specs.Squares.{Region, AreTouching, Has, Covers, d2, IsSolidWithin}
-use Rattle.dpl_spec_split.specs.Zones.{at, turned, GoesOn}
+use Rattle.dpl_spec_split.specs.Zones.{at, transposed, GoesOn}
 use Rattle.dpl_zone.specs.declared.rows.Span.{Span}
 
 pub record InRows (s : Span) (y : ℤ) : Type 0 where
@@ -54,11 +54,11 @@ AddsSpan low end old new =
 
 -- the rectangles have a square directly below the slab, at most one column beside it
 abbrev pub GoesBelow : List Rect → Rect → Type 0
-GoesBelow rects s = GoesOn (turned (Covers rects)) s.x0 s.x1 (s.y0 -ℤ pos 1)
+GoesBelow rects s = GoesOn (transposed (Covers rects)) s.x0 s.x1 (s.y0 -ℤ pos 1)
 
 -- the rectangles have a square directly above the slab, at most one column beside it
 abbrev pub GoesAbove : List Rect → Rect → Type 0
-GoesAbove rects s = GoesOn (turned (Covers rects)) s.x0 s.x1 s.y1
+GoesAbove rects s = GoesOn (transposed (Covers rects)) s.x0 s.x1 s.y1
 
 -- the middle rows of a span, over all columns of the slab; an odd row is left over at the top
 pub record IsMiddleOf (overlap : ℕ) (slab : Rect) (g : Span) (z : Rect) : Type 0 where

@@ -5,7 +5,7 @@ ghost use Rattle.dpl_spec_split.specs.declared.Zone.{Zone};
 ghost use Rattle.dpl_slabs.specs.Parts.{AreParts, union_of};
 ghost use Rattle.dpl_spec_split.specs.Zones.{AreZones};
 ghost use Rattle.dpl_zone.specs.Layers.{IsPartZone};
-ghost use Rattle.dpl_tree.specs.Trees.{AreItemsOf, turned_item};
+ghost use Rattle.dpl_tree.specs.Trees.{AreItemsOf, transposed_item};
 
 use crate::kept::kept_zones;
 use crate::order::{each_once, sort_zones};
@@ -29,7 +29,7 @@ fn add_feature(
     requires part { k < length parts.now }
     requires parts { AreParts parts.now }
     requires items { AreItemsOf parts.now tree.now }
-    requires turned { across.now ≡ map turned_item tree.now }
+    requires transposed { across.now ≡ map transposed_item tree.now }
     ensures { OnOk result ((z : Zone) → Contains found.new.items z ↔ (Contains found.old.items z ⊎ ((z.feature ≡ k) × IsPartZone rule overlap parts.now z))) }
 {
     let kept = kept_zones(alloc, &parts[k], tree, across, k, rule, overlap)?;
@@ -55,7 +55,7 @@ fn found_zones(
 {
     let tree = Tree::of_parts(alloc, parts)?;
     let upright = View::of(&tree);
-    let across = View::turned(&tree);
+    let across = View::transposed(&tree);
     let mut found = Vec::new(alloc);
     for k in 0..parts.len() {
         add_feature(

@@ -7,7 +7,7 @@ ghost use Rattle.dpl_spec_split.specs.Loops.{farthest};
 ghost use Rattle.dpl_spec_split.specs.Squares.{AreTouching, Covers, Has, IsSolidWithin, SameSquares};
 ghost use Rattle.dpl_spec_split.specs.Zones.{IsKeptZone};
 ghost use Rattle.dpl_zone.specs.Rows.{AddsZones, AreWithin, TouchesAny, layer_of};
-ghost use Rattle.dpl_tree.specs.Trees.{HasItem, turned_item};
+ghost use Rattle.dpl_tree.specs.Trees.{HasItem, transposed_item};
 ghost use Rattle.dpl_zone.specs.Items.{AreItemsWithin, others_in, own_in};
 
 use crate::near::touches_item;
@@ -74,7 +74,7 @@ pub fn kept_zones(
 ) -> Result<Vec<Rect>, AllocError>
     requires some { 1 ≤ overlap }
     requires items { AreItemsWithin tree.now }
-    requires turned { across.now ≡ map turned_item tree.now }
+    requires transposed { across.now ≡ map transposed_item tree.now }
     requires own { SameSquares (Covers part.now) (Covers (own_in tree.now own)) }
     requires apart { (p : Pt) → Covers part.now p → Covers (others_in tree.now own) p → ⊥ }
     ensures { IfOk result (λ v. (z : Rect) → Contains v.items z ↔ IsKeptZone rule overlap (layer_of part.now (others_in tree.now own)) (Covers part.now) z) }

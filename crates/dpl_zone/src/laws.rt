@@ -1,5 +1,5 @@
 //! What follows for zones.
-ghost use Rattle.dpl_zone.specs.Laws.{DistanceTurns, ZonesAreOfSquares, ZonesHaveTwoSides, ZonesStandApart};
+ghost use Rattle.dpl_zone.specs.Laws.{TransposingKeepsDistance, ZonesAreOfSquares, ZonesHaveTwoSides, ZonesStandApart};
 
 /// Zones of one feature never touch one another.
 pub fn zones_stand_apart()
@@ -11,9 +11,9 @@ pub fn zones_have_two_sides()
     ensures { ZonesHaveTwoSides }
 {}
 
-/// The distance of squares is the same with x and y exchanged, and so is which sets are near.
-pub fn distance_turns()
-    ensures { DistanceTurns }
+/// Transposed squares lie as far apart as the squares, and transposed sets are near exactly where the sets are.
+pub fn transposing_keeps_distance()
+    ensures { TransposingKeepsDistance }
 {}
 
 /// The zones of features are those of each layer that has just their squares.

@@ -3,7 +3,7 @@ ghost use Rattle.std.specs.Prelude.{◌≡◌, ℕ, ◌<◌, ◌⊎◌, ◌↔�
 ghost use Rattle.dpl_spec_split.specs.declared.Rect.{Rect};
 ghost use Rattle.dpl_spec_split.specs.Loops.{farthest};
 ghost use Rattle.dpl_spec_split.specs.Squares.{AreTouching, Covers, Has, IsSolidWithin};
-ghost use Rattle.dpl_spec_split.specs.Zones.{GoesOn, turned};
+ghost use Rattle.dpl_spec_split.specs.Zones.{GoesOn, transposed};
 ghost use Rattle.dpl_zone.specs.Near.{HasAllNear};
 ghost use Rattle.dpl_tree.specs.Trees.{HasItem};
 ghost use Rattle.dpl_zone.specs.Items.{AllIn, AreItemsWithin, IsStrip, own_in};
@@ -16,7 +16,7 @@ use std::alloc::{AllocError, Global};
 /// The numbers of some items of a tree.
 pub type Numbers = SmallVec<usize, 16>;
 
-/// The items of other owners in the slab's window, and so all that are near it. A tree with x and y exchanged has the same numbers.
+/// The items of other owners in the slab's window, and so all that are near it. A transposed tree has the same numbers.
 pub fn others_near(
     alloc: Global,
     tree: &View,
@@ -54,7 +54,7 @@ pub fn has_row(tree: &View, own: usize, slab: &Rect, is_whole: bool, y: i64) -> 
     requires row { y <ℤ pos 2000000000 }
     requires outside { (y <ℤ slab.now.y0) ⊎ (slab.now.y1 ≤ℤ y) }
     requires whole { IsTrue is_whole → AllIn (own_in tree.now own) slab.now }
-    ensures { IsTrue result ↔ GoesOn (turned (Covers (own_in tree.now own))) slab.now.x0 slab.now.x1 y }
+    ensures { IsTrue result ↔ GoesOn (transposed (Covers (own_in tree.now own))) slab.now.x0 slab.now.x1 y }
 {
     if is_whole {
         return false;

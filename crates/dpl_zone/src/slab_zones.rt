@@ -1,4 +1,4 @@
-//! The zones of a feature's slabs.
+//! The vertical zones of a feature's slabs: what the definition says of columns, left and right, is said here of rows, below and above. Horizontal zones are found the same way, transposed (`flat`).
 ghost use Rattle.std.specs.Prelude.{◌≡◌, ℕ, ◌+◌, ◌<◌, ◌≤◌, ◌⊎◌, ◌↔◌, ℤ, pos, ◌+ℤ◌, ◌≤ℤ◌, ◌<ℤ◌, IsTrue, IfOk, OnOk, length, slice_index_or};
 ghost use Rattle.std.specs.List.{Contains};
 ghost use Rattle.dpl_spec_split.specs.declared.Pt.{Pt};

@@ -4,16 +4,16 @@ ghost use Rattle.dpl_spec_split.specs.declared.Pt.{Pt};
 ghost use Rattle.dpl_spec_split.specs.declared.Rect.{Rect};
 ghost use Rattle.dpl_spec_split.specs.Loops.{farthest};
 ghost use Rattle.dpl_spec_split.specs.Squares.{Covers, IsSolidWithin, SameSquares};
-ghost use Rattle.dpl_spec_split.specs.Zones.{turned_rect};
+ghost use Rattle.dpl_spec_split.specs.Zones.{transposed_rect};
 ghost use Rattle.dpl_zone.specs.Rows.{AreWithin, layer_of};
 ghost use Rattle.dpl_zone.specs.Ways.{AreFound};
-ghost use Rattle.dpl_tree.specs.Trees.{turned_item};
+ghost use Rattle.dpl_tree.specs.Trees.{transposed_item};
 ghost use Rattle.dpl_zone.specs.Items.{AreItemsWithin, others_in, own_in};
 
-use crate::flat::{flat_zones, turn_all, turned};
+use crate::flat::flat_zones;
 use crate::near::others_near;
 use crate::slab_zones::{is_short, upright_zones, whole_zones};
-use dpl_base::Rect;
+use dpl_base::{Rect, all_transposed, transposed};
 use dpl_slabs::Slabs;
 use dpl_tree::View;
 use std::alloc::{AllocError, Global};
@@ -60,13 +60,13 @@ fn found_in_one(
 ) -> Result<Found, AllocError>
     requires one { length part.now ≡ 1 }
     requires items { AreItemsWithin tree.now }
-    requires turned { across.now ≡ map turned_item tree.now }
+    requires transposed { across.now ≡ map transposed_item tree.now }
     requires own { SameSquares (Covers part.now) (Covers (own_in tree.now own)) }
     requires apart { (p : Pt) → Covers part.now p → Covers (others_in tree.now own) p → ⊥ }
     ensures { IfOk result (AreFound rule overlap (layer_of part.now (others_in tree.now own)) (Covers part.now)) }
 {
     let slab = part.rects()[0];
-    let column = turned(&slab);
+    let column = transposed(&slab);
     if is_small(&slab, &column, overlap) {
         return Ok(none_found(alloc));
     }
@@ -75,8 +75,8 @@ fn found_in_one(
         return Ok(none_found(alloc));
     }
     let upright = whole_zones(alloc, tree, own, &slab, near.as_slice(), rule, overlap)?;
-    let turned_flat = whole_zones(alloc, across, own, &column, near.as_slice(), rule, overlap)?;
-    let flat = turn_all(alloc, &turned_flat)?;
+    let transposed_flat = whole_zones(alloc, across, own, &column, near.as_slice(), rule, overlap)?;
+    let flat = all_transposed(alloc, &transposed_flat)?;
     Ok(Found { flat, upright })
 }
 
@@ -91,7 +91,7 @@ pub fn found_in(
     overlap: u32,
 ) -> Result<Found, AllocError>
     requires items { AreItemsWithin tree.now }
-    requires turned { across.now ≡ map turned_item tree.now }
+    requires transposed { across.now ≡ map transposed_item tree.now }
     requires own { SameSquares (Covers part.now) (Covers (own_in tree.now own)) }
     requires apart { (p : Pt) → Covers part.now p → Covers (others_in tree.now own) p → ⊥ }
     ensures within { AreWithin part.now }

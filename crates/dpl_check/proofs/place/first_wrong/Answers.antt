@@ -4,7 +4,7 @@ use Rattle.std.proofs.lemmas.Bool.{false≢true}
 use Rattle.dpl_cert.specs.declared.cert.PlaceLine.{PlaceLine}
 use Rattle.dpl_cert.specs.declared.cert.NearLine.{NearLine}
 use Rattle.dpl_spec_verdict.specs.Conflicts.{IsBadPlace}
-use Rattle.dpl_check.specs.Cutting.{cut_view}
+use Rattle.dpl_cut.specs.Cutting.{cut_view}
 use Rattle.dpl_check.proofs.Finding.{none-more, first-found, none-found}
 use Rattle.dpl_check.proofs.Placing.{not-right-bad, stood-bad, right-good, marked-next}
 use Rattle.dpl_check.proofs.place.first_wrong.Goals as goal

@@ -1,7 +1,7 @@
 use Rattle.std.proofs.Common.{List, length}
 use Rattle.dpl_spec_split.specs.declared.Rect.{Rect}
 use Rattle.dpl_spec_verdict.specs.Conflicts.{IsBadPlace}
-use Rattle.dpl_check.specs.Cutting.{cut_view}
+use Rattle.dpl_cut.specs.Cutting.{cut_view}
 use Rattle.dpl_check.specs.Places.{AreMarked}
 use Rattle.dpl_check.proofs.Finding.{NoneBelow}
 use Rattle.dpl_check.proofs.place.first_wrong.Given as goal

@@ -1,6 +1,6 @@
 use Rattle.std.proofs.Common.{◌≡◌, ◌∙◌, ◌<◌, ◌≤◌, true, sym, ap, subst, rules, length, get_or, arith, All}
 use Rattle.std.proofs.lemmas.List.{length-map}
-use Rattle.dpl_deal.specs.declared.view.View.{View}
+use Rattle.dpl_deal.specs.declared.view.PassView.{PassView}
 use Rattle.dpl_deal.specs.Rule.{times}
 use Rattle.dpl_deal.specs.Hands.{own_view, views_of}
 use Rattle.dpl_deal.proofs.Takings.{map_put}
@@ -12,14 +12,14 @@ learn-requires-clause-parts c =
     let lt : c.loop-at.at < length c.loop-at.hands.items = search rules in
     let is : c.index_mut.result.now ≡ get_or c.loop-at.hands.items c.loop-at.at c.index_mut.result.now = search rules in
     (at_owner (λ v. (v.parts ≡ 1024) × (v.ended ≡ true)) c.loop-at.hands.items c.loop-at.at c.index_mut.result.now lt is
-    (subst (All (λ (v : View). (v.parts ≡ 1024) × (v.ended ≡ true))) (sym c.loop-at.invariant.1) c.requires.views)).0
+    (subst (All (λ (v : PassView). (v.parts ≡ 1024) × (v.ended ≡ true))) (sym c.loop-at.invariant.1) c.requires.views)).0
 
 pub learn-requires-clause-ended : goal.learn-requires-clause-ended
 learn-requires-clause-ended c =
     let lt : c.loop-at.at < length c.loop-at.hands.items = search rules in
     let is : c.index_mut.result.now ≡ get_or c.loop-at.hands.items c.loop-at.at c.index_mut.result.now = search rules in
     (at_owner (λ v. (v.parts ≡ 1024) × (v.ended ≡ true)) c.loop-at.hands.items c.loop-at.at c.index_mut.result.now lt is
-    (subst (All (λ (v : View). (v.parts ≡ 1024) × (v.ended ≡ true))) (sym c.loop-at.invariant.1) c.requires.views)).1
+    (subst (All (λ (v : PassView). (v.parts ≡ 1024) × (v.ended ≡ true))) (sym c.loop-at.invariant.1) c.requires.views)).1
 
 pub loop-at-preserved : goal.loop-at-preserved
 loop-at-preserved c =

@@ -5,7 +5,7 @@ use Rattle.dpl_deal.specs.Grips.{grip_deque, grip_view}
 use Rattle.dpl_deal.specs.Hands.{deques_of, own_deque, own_view, row_of, views_of}
 use Rattle.dpl_deal.proofs.Takings.{map_put}
 use Rattle.dpl_deal.proofs.Dealings.{grip_step, gripped_all, gripped_view, map_take_next}
-use Rattle.dpl_deal.specs.declared.view.View.{View}
+use Rattle.dpl_deal.specs.declared.view.PassView.{PassView}
 use Rattle.dpl_deal.specs.declared.hand.Hand.{Hand}
 use Rattle.dpl_deal.proofs.dealing.grip_all.Goals as goal
 
@@ -16,7 +16,7 @@ grip-requires c =
     let lens : length c.args.hands.now.items ≡ length c.loop-at.hands.items = search rules in
     let e = gripped_view (views_of c.args.hands.now.items) c.loop-at.hands.items c.loop-at.at c.index_mut.result.now lt is c.loop-at.invariant.1 in
     record {
-      parts = subst (λ (v : View). 1 < v.parts) (sym e) (c.requires.parts c.loop-at.at (own_view c.index_mut.result.now)
+      parts = subst (λ (v : PassView). 1 < v.parts) (sym e) (c.requires.parts c.loop-at.at (own_view c.index_mut.result.now)
           (omega (arith, length-map c.args.hands.now.items own_view)));
     }
 

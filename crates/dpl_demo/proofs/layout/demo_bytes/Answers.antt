@@ -1,9 +1,9 @@
 use Rattle.std.proofs.Common.{◌≡◌, ◌∙◌, ◌+◌, ◌*◌, ap, arith, length}
-use Rattle.dpl_demo.proofs.Rows.{all_put, file_size, first_number, front_put, number_more, row_more}
+use Rattle.dpl_demo.proofs.Rows.{all_put, file_size, first_number, opening_put, number_more, row_more}
 use Rattle.dpl_demo.proofs.layout.demo_bytes.Goals as goal
 
 pub loop-row-init : goal.loop-row-init
-loop-row-init c = record { number = first_number c.args.seed; bytes = front_put c.args.seed _ _ c.in_ok-out.ensures.items c.in_ok-extend_from_slice.ensures.items }
+loop-row-init c = record { number = first_number c.args.seed; bytes = opening_put c.args.seed _ _ c.in_ok-out.ensures.items c.in_ok-extend_from_slice.ensures.items }
 
 pub loop-row-preserved : goal.loop-row-preserved
 loop-row-preserved c =

@@ -5,7 +5,7 @@ use Rattle.std.specs.Option.{option_map}
 use Rattle.std.proofs.lemmas.Int.{to_z-of_z}
 use Rattle.dpl_syntax.specs.Elements.{trans_seen}
 use Rattle.dpl_flatten.proofs.CopyLaws.{array_are}
-use Rattle.dpl_flatten.proofs.NearLaws.{not_askew, some_columns, some_rows}
+use Rattle.dpl_flatten.proofs.WithinLaws.{not_askew, some_columns, some_rows}
 use Rattle.dpl_flatten.proofs.cells.copies_of.Goals as goal
 
 pub single_copy-requires-clause-turned : goal.single_copy-requires-clause-turned

@@ -4,31 +4,31 @@ use Rattle.std.specs.Int.{w16, w32, w64}
 use Rattle.std.proofs.lemmas.Int.{to_z-of_z}
 use Rattle.dpl_spec_elements.specs.Paths.{path_of}
 use Rattle.dpl_spec_layout.specs.Elements.{points_in}
-use Rattle.dpl_flatten.proofs.NearLaws.{path_near, only_path_memory}
+use Rattle.dpl_flatten.proofs.WithinLaws.{path_within, only_path_memory}
 use Rattle.dpl_flatten.proofs.cells.path_outlines.Goals as goal
 
 pub want_of_memory-requires : goal.want_of_memory-requires
 want_of_memory-requires c =
-    let s = c.args.stroke in
-    let w : FitsSigned w32 c.args.stroke.width = search rules in
-    let w' : FitsSigned w64 c.args.stroke.width = search rules in
-    let k : FitsSigned w16 c.args.stroke.kind = search rules in
-    let b : FitsSigned w32 c.args.stroke.begin_ext = search rules in
-    let b' : FitsSigned w64 c.args.stroke.begin_ext = search rules in
-    let e : FitsSigned w32 c.args.stroke.end_ext = search rules in
-    let e' : FitsSigned w64 c.args.stroke.end_ext = search rules in
+    let s = c.args.style in
+    let w : FitsSigned w32 c.args.style.width = search rules in
+    let w' : FitsSigned w64 c.args.style.width = search rules in
+    let k : FitsSigned w16 c.args.style.kind = search rules in
+    let b : FitsSigned w32 c.args.style.begin_ext = search rules in
+    let b' : FitsSigned w64 c.args.style.begin_ext = search rules in
+    let e : FitsSigned w32 c.args.style.end_ext = search rules in
+    let e' : FitsSigned w64 c.args.style.end_ext = search rules in
     let refused = rw (c.as_slice.ensures.value, c.in_ok-points.ensures.value) at (simp to_z-of_z at c.in-Err.ensures.refused) in
-    only_path_memory (path_of (points_in c.args.xy.now) s.width s.kind s.begin_ext s.end_ext) c.in-Err.fault (λ f p. c.requires f c.if-not-counts.false p) refused
+    only_path_memory (path_of (points_in c.args.xy.now) s.width s.kind s.begin_ext s.end_ext) c.in-Err.fault c.requires refused
 
-pub returns-clause-near : goal.returns-clause-near
-returns-clause-near c =
-    let s = c.args.stroke in
-    let w : FitsSigned w32 c.args.stroke.width = search rules in
-    let w' : FitsSigned w64 c.args.stroke.width = search rules in
-    let k : FitsSigned w16 c.args.stroke.kind = search rules in
-    let b : FitsSigned w32 c.args.stroke.begin_ext = search rules in
-    let b' : FitsSigned w64 c.args.stroke.begin_ext = search rules in
-    let e : FitsSigned w32 c.args.stroke.end_ext = search rules in
-    let e' : FitsSigned w64 c.args.stroke.end_ext = search rules in
+pub returns-clause-within : goal.returns-clause-within
+returns-clause-within c =
+    let s = c.args.style in
+    let w : FitsSigned w32 c.args.style.width = search rules in
+    let w' : FitsSigned w64 c.args.style.width = search rules in
+    let k : FitsSigned w16 c.args.style.kind = search rules in
+    let b : FitsSigned w32 c.args.style.begin_ext = search rules in
+    let b' : FitsSigned w64 c.args.style.begin_ext = search rules in
+    let e : FitsSigned w32 c.args.style.end_ext = search rules in
+    let e' : FitsSigned w64 c.args.style.end_ext = search rules in
     let loops = rw c.as_slice.ensures.value at (simp to_z-of_z at c.in-Ok.ensures.loops) in
-    rw loops (path_near c.in_ok-points.points.items s.width s.kind s.begin_ext s.end_ext c.in_ok-points.ensures.within (search rules) (search rules) (search rules))
+    rw loops (path_within c.in_ok-points.points.items s.width s.kind s.begin_ext s.end_ext c.in_ok-points.ensures.within (search rules) (search rules) (search rules))

@@ -13,9 +13,9 @@ returns-clause-copies c =
     let wide = simp to_z-of_z at c.unsigned_abs.ensures.value in
     let tall = simp to_z-of_z at c.unsigned_abs-2.ensures.value in
     record {
-      reflect = c.own_turn-turn.ensures.reflect;
-      turns = c.own_turn-turn.ensures.turns;
-      few = c.own_turn-turn.ensures.few;
+      reflect = c.own_orientation-orientation.ensures.reflect;
+      turns = c.own_orientation-orientation.ensures.turns;
+      few = c.own_orientation-orientation.ensures.few;
       origin = c.point_at-origin.ensures.value;
       across = rw (c.point_at-origin.ensures.value, c.point_at.ensures.value) at across;
       up = rw (c.point_at-origin.ensures.value, c.point_at-2.ensures.value) at up;

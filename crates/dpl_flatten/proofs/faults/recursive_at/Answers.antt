@@ -8,15 +8,15 @@ use Rattle.dpl_flatten.proofs.faults.recursive_at.Goals as goal
 pub find_levels-requires-clause-graph : goal.find_levels-requires-clause-graph
 find_levels-requires-clause-graph c = graph_known c.args.lib.now c.args.links.now.graph.now c.requires.links.graph_of
 
-pub recursion-requires-clause-links : goal.recursion-requires-clause-links
-recursion-requires-clause-links c = rw c.deref.ensures.value
+pub first-requires-clause-levels : goal.first-requires-clause-levels
+first-requires-clause-levels c = rw c.deref.ensures.value
     (levelled_of c.args.lib.now c.args.links.now.graph.now c.args.top c.args.links.now.marks.now c.in_ok-levels.levels.items c.requires.links
     c.requires.reached c.in_ok-levels.ensures.levels)
 
 pub unreachable-requires : goal.unreachable-requires
 unreachable-requires c = cycle_there c.args.lib.now c.args.links.now.graph.now c.args.top c.args.links.now.marks.now _
-    c.requires.links.graph_of c.requires.reached c.requires.cycle refl c.in-None.ensures
+    c.requires.links.graph_of c.requires.reached c.requires.cycle refl (rw c.in-None.is at c.in_ok-found.ensures)
 
 pub returns : goal.returns
 returns c = first_of c.args.lib.now c.args.links.now.graph.now c.args.top c.args.links.now.marks.now c.requires.links.graph_of
-    c.requires.reached (IsOnCycle c.args.lib.now) c.in-Some.at c.in-Some.ensures
+    c.requires.reached (IsOnCycle c.args.lib.now) c.in-Some.at (rw c.in-Some.is at c.in_ok-found.ensures)

@@ -9,13 +9,13 @@ use Rattle.dpl_flatten.proofs.shapes.path_fault.Goals as goal
 
 pub returns-in-Ok : goal.returns-in-Ok
 returns-in-Ok c =
-    let s = c.args.stroke in
-    let w : FitsSigned w32 c.args.stroke.width = search rules in
-    let w' : FitsSigned w64 c.args.stroke.width = search rules in
-    let k : FitsSigned w16 c.args.stroke.kind = search rules in
-    let b : FitsSigned w32 c.args.stroke.begin_ext = search rules in
-    let b' : FitsSigned w64 c.args.stroke.begin_ext = search rules in
-    let e : FitsSigned w32 c.args.stroke.end_ext = search rules in
-    let e' : FitsSigned w64 c.args.stroke.end_ext = search rules in
+    let s = c.args.style in
+    let w : FitsSigned w32 c.args.style.width = search rules in
+    let w' : FitsSigned w64 c.args.style.width = search rules in
+    let k : FitsSigned w16 c.args.style.kind = search rules in
+    let b : FitsSigned w32 c.args.style.begin_ext = search rules in
+    let b' : FitsSigned w64 c.args.style.begin_ext = search rules in
+    let e : FitsSigned w32 c.args.style.end_ext = search rules in
+    let e' : FitsSigned w64 c.args.style.end_ext = search rules in
     let clean = rw (c.as_slice.ensures.value, c.in_ok-points.ensures.value) at (simp to_z-of_z at c.in-Ok.ensures.faultless) in
-    λ f counts h. no_path_fault (path_of (points_in c.args.xy.now) s.width s.kind s.begin_ext s.end_ext) clean f h
+    λ f h. no_path_fault (path_of (points_in c.args.xy.now) s.width s.kind s.begin_ext s.end_ext) clean f h

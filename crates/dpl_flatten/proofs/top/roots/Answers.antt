@@ -1,3 +1,4 @@
+use Rattle.std.proofs.lemmas.Result.{IfOk-weaker}
 use Rattle.dpl_flatten.proofs.LinkLaws.{roots_are}
 use Rattle.dpl_flatten.proofs.top.roots.Goals as goal
 
@@ -5,4 +6,5 @@ pub find_sources-requires-clause-graph : goal.find_sources-requires-clause-graph
 find_sources-requires-clause-graph c = rw c.as_slice.ensures.value c.in_ok-graph.ensures.known
 
 pub returns : goal.returns
-returns c = roots_are c.args.lib.now c.in_ok-graph.graph.items c.in_ok-found.found.items c.in_ok-graph.ensures.graph (rw c.as_slice.ensures.value at c.in_ok-found.ensures)
+returns c = IfOk-weaker c.find_sources.result _ _ (λ found sources. roots_are c.args.lib.now c.in_ok-graph.graph.items found.items
+    c.in_ok-graph.ensures.graph (rw c.as_slice.ensures.value at sources)) c.find_sources.ensures

@@ -1,7 +1,7 @@
 use Rattle.std.proofs.Common.{◌≡◌, ◌∙◌, sym, subst, List, ℕ, arith, take, length, [], refl, rules}
 use Rattle.std.specs.Prelude.{IfSome, unwrap_or}
 use Rattle.dpl_host.specs.Outside.{file_of}
-use Rattle.dpl_host.proofs.Pieces.{front_on, given_more, too_long, whole_read}
+use Rattle.dpl_host.proofs.Pieces.{prefix_on, given_more, too_long, whole_read}
 use Rattle.dpl_host.proofs.whole.read_all.Goals as goal
 
 pub loop-chunk-preserved : goal.loop-chunk-preserved
@@ -10,10 +10,10 @@ loop-chunk-preserved g c =
     let buffer : List ℕ = c.read.new.into in
     let n = c.in_ok-count.count in
     let grown = c.in_ok-extend_from_slice.ensures.items in
-    let front = front_on (g.H.Host.told c.args.host.now) (g.H.Host.told c.loop-chunk.host) c.args.name.now bytes (take n buffer) buffer n _
-    c.loop-chunk.invariant.front c.in_ok-count.ensures.bytes c.loop-chunk.invariant.same (c.len-in-loop-chunk.ensures ∙ search rules) refl c.in_ok-count.ensures.bound in
+    let prefix = prefix_on (g.H.Host.told c.args.host.now) (g.H.Host.told c.loop-chunk.host) c.args.name.now bytes (take n buffer) buffer n _
+    c.loop-chunk.invariant.prefix c.in_ok-count.ensures.bytes c.loop-chunk.invariant.same (c.len-in-loop-chunk.ensures ∙ search rules) refl c.in_ok-count.ensures.bound in
     record {
-      front = subst (λ (l : List ℕ). IfSome (g.H.Host.told c.args.host.now) (λ o. l ≡ take (length l) (unwrap_or (file_of o c.args.name.now) []))) (sym grown) front;
+      prefix = subst (λ (l : List ℕ). IfSome (g.H.Host.told c.args.host.now) (λ o. l ≡ take (length l) (unwrap_or (file_of o c.args.name.now) []))) (sym grown) prefix;
       same = c.in_ok-count.ensures.same ∙ c.loop-chunk.invariant.same;
       counted = c.in_ok-count.ensures.cause.worked ∙ c.loop-chunk.invariant.counted;
       others = c.in_ok-count.ensures.others ∙ c.loop-chunk.invariant.others;
@@ -23,9 +23,9 @@ loop-chunk-preserved g c =
 pub returns-clause-large : goal.returns-clause-large
 returns-clause-large g c = λ h.
     let same : c.len.result ≡ length c.loop-chunk.bytes.items = c.len.ensures ∙ search rules in
-    too_long (g.H.Host.told c.args.host.now) c.args.name.now c.loop-chunk.bytes.items c.loop-chunk.invariant.front (omega (arith, same, c.loop-chunk-test.false))
+    too_long (g.H.Host.told c.args.host.now) c.args.name.now c.loop-chunk.bytes.items c.loop-chunk.invariant.prefix (omega (arith, same, c.loop-chunk-test.false))
 
 pub returns-then-count-eq0-clause-bytes : goal.returns-then-count-eq0-clause-bytes
 returns-then-count-eq0-clause-bytes g c =
     whole_read (g.H.Host.told c.args.host.now) (g.H.Host.told c.loop-chunk.host) c.args.name.now c.loop-chunk.bytes.items c.read.new.into c.in_ok-count.count _
-    c.loop-chunk.invariant.front c.in_ok-count.ensures.bytes c.loop-chunk.invariant.same (c.len-in-loop-chunk.ensures ∙ search rules) (search rules) (search rules)
+    c.loop-chunk.invariant.prefix c.in_ok-count.ensures.bytes c.loop-chunk.invariant.same (c.len-in-loop-chunk.ensures ∙ search rules) (search rules) (search rules)

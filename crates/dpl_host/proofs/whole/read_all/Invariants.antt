@@ -5,7 +5,7 @@ use Rattle.dpl_host.proofs.whole.read_all.Given as goal
 
 abbrev pub invariant-loop-chunk : goal.invariant-loop-chunk
 invariant-loop-chunk g l = record {
-  front : IfSome (g.H.Host.told l.fn.host) (λ o. (l.bytes.items ≡ take (length l.bytes.items) (unwrap_or (file_of o l.name) [])));
+  prefix : IfSome (g.H.Host.told l.fn.host) (λ o. (l.bytes.items ≡ take (length l.bytes.items) (unwrap_or (file_of o l.name) [])));
   same : g.H.Host.told l.host ≡ g.H.Host.told l.fn.host;
   counted : g.H.Host.read_faults l.host ≡ g.H.Host.read_faults l.fn.host;
   others : g.H.Host.write_faults l.host ≡ g.H.Host.write_faults l.fn.host;

@@ -1,6 +1,7 @@
+use Rattle.std.proofs.lemmas.Result.{IfOk-weaker}
 use Rattle.dpl_links.proofs.SourceLaws.{sources_are}
 use Rattle.dpl_links.proofs.sources.find_sources.Goals as goal
 
 pub returns : goal.returns
-returns c = sources_are c.args.graph.now c.in_ok-marks.marks.items c.in_ok-found.found.items c.in_ok-marks.ensures.each
-    c.in_ok-marks.ensures.marks (rw c.deref.ensures.value at c.in_ok-found.ensures)
+returns c = IfOk-weaker c.unmarked.result _ _ (λ found left. sources_are c.args.graph.now c.in_ok-marks.marks.items found.items
+    c.in_ok-marks.ensures.each c.in_ok-marks.ensures.marks (rw c.deref.ensures.value at left)) c.unmarked.ensures

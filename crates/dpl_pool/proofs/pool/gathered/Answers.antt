@@ -18,7 +18,7 @@ loop-member-preserved g c =
     let h = c.in-Some.member.hand in
     let pushed : c.push.new.self.items ≡ c.loop-member.hands.items ++ h ∷ [] = search rules in
     let count : vec_len c.loop-member.hands ≡ length c.loop-member.hands.items = search rules in
-    let f = c.rejoin.ensures.fronts in (
+    let f = c.rejoin.ensures.prefixes in (
       append_assoc c.loop-member.yielded (c.in-Some.member ∷ []) c.next.new.self.rest.items ∙ all,
       (let k : vec_len c.push.new.self ≡ vec_len c.loop-member.hands + 1 = search rules in omega (arith, i.1, length-append c.loop-member.yielded (c.in-Some.member ∷ []))),
       search rules,

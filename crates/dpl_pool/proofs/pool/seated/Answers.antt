@@ -13,7 +13,7 @@ loop-hand-preserved g c =
     let all : c.loop-hand.yielded ++ c.in-Some.hand ∷ c.next.new.self.rest.items ≡ c.args.hands.items = search rules in
     let v = knows c.args.seat.now in
     let table = c.args.board.now.table.shared.table_id in
-    let m : Member = record { number = c.loop-hand.number; seat = c.split-other.result; hand = c.in-Some.hand; wants = false } in
+    let m : Member = record { number = c.loop-hand.number; seat = c.split-other.result; hand = c.in-Some.hand; out_of_memory = false } in
     let pushed : c.push.new.self.items ≡ c.loop-hand.members.items ++ m ∷ [] = search rules in
     let none = all_mid (λ (h : Hand). taken h ≡ []) c.loop-hand.yielded c.in-Some.hand c.next.new.self.rest.items
     (subst (All (λ (h : Hand). taken h ≡ [])) (sym all) c.requires.hands.2) in

@@ -2,9 +2,10 @@ use Rattle.std.proofs.Common.{subst, List, ℕ}
 use Rattle.std.proofs.lemmas.Result.{IfOk-weaker}
 use Rattle.dpl_words.specs.Meaning.{check_view}
 use Rattle.dpl_run.specs.Check.{mask_choice}
-use Rattle.dpl_run.specs.Reading.{Choice, Faulty, IsLayout, Layer}
-use Rattle.dpl_run.specs.View.{IsLayerFault, choice_view, output_view}
-use Rattle.dpl_run.specs.declared.fault.LayerFault.{LayerFault}
+use Rattle.dpl_layer.specs.Reading.{Choice, Faulty, IsLayout, Layer}
+use Rattle.dpl_layer.specs.View.{IsLayerFault, choice_view}
+use Rattle.dpl_run.specs.View.{output_view}
+use Rattle.dpl_layer.specs.declared.fault.LayerFault.{LayerFault}
 use Rattle.dpl_run.proofs.Checking.{first_faulty, masks_judged, second_faulty}
 use Rattle.dpl_run.proofs.check.check_bytes.Goals as goal
 
@@ -47,5 +48,6 @@ returns c =
     (λ (h : Choice). IsLayout h bytes (Layer a.front.items a.slabs)) c.mask_choice.ensures read in
     let second : IsLayout (mask_choice v.b) bytes (Layer b.front.items b.slabs) = subst
     (λ (h : Choice). IsLayout h bytes (Layer b.front.items b.slabs)) c.mask_choice-2.ensures c.in-Ok-layer_of.ensures.layer in
-    masks_judged v c.args.layer.now c.args.cert.now bytes a.front.items b.front.items a.slabs b.slabs c.in_ok-verdict.verdict
-    (output_view c.in_ok-output.output) c.requires.size first second c.in_ok-verdict.ensures c.in_ok-output.ensures
+    IfOk-weaker c.judged.result _ _
+    (λ x h. masks_judged v c.args.layer.now c.args.cert.now bytes a.front.items b.front.items a.slabs b.slabs c.in_ok-verdict.verdict
+    (output_view x) c.requires.size first second c.in_ok-verdict.ensures h) c.judged.ensures

@@ -1,5 +1,6 @@
 use Rattle.std.proofs.Common.{subst, Option, List, ℕ, Global}
 use Rattle.std.specs.Prelude.{Vec, option_map}
+use Rattle.std.proofs.lemmas.Result.{IfOk-weaker}
 use Rattle.dpl_host.specs.Outside.{Outside}
 use Rattle.dpl_cert.specs.Grammar.{IsText}
 use Rattle.dpl_cert.specs.Reading.{IsBadLine, IsRefusal}
@@ -23,9 +24,9 @@ returns-in-Ok-clause-made g c =
     let text = c.in-Some.text.items in
     let seen = subst (λ (o : Option (Vec ℕ Global)). IsSeen told c.args.options.now.certificate.now (option_map (λ v. v.items) o)) c.in-Some.is c.in_ok-text.ensures.seen in
     let read = subst (λ (b : List ℕ). IsText c.in-Ok.cert b) c.as_slice.ensures.value c.in-Ok.ensures.found in
-    let made = subst (λ (t : Option Outside). IsMadeOfCert t v c.args.layer.now c.in-Ok.cert (output_view c.in_ok-output-in-Ok.output))
-    c.in_ok-text.ensures.same c.in_ok-output-in-Ok.ensures.made in
-    cert_read told v c.args.layer.now text c.in-Ok.cert (output_view c.in_ok-output-in-Ok.output) seen read made
+    IfOk-weaker c.check_cert.result _ _
+    (λ x h. cert_read told v c.args.layer.now text c.in-Ok.cert (output_view x) seen read
+    (subst (λ (t : Option Outside). IsMadeOfCert t v c.args.layer.now c.in-Ok.cert (output_view x)) c.in_ok-text.ensures.same h)) c.check_cert.ensures.made
 
 pub returns-in-Err-BadLine-clause-made : goal.returns-in-Err-BadLine-clause-made
 returns-in-Err-BadLine-clause-made g c =

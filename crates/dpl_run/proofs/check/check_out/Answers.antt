@@ -2,7 +2,6 @@ use Rattle.std.proofs.Common.{subst, Option, ℕ, Global}
 use Rattle.std.specs.Prelude.{Vec, option_map}
 use Rattle.dpl_words.specs.Meaning.{check_view}
 use Rattle.dpl_run.specs.Program.{IsSeen}
-use Rattle.dpl_run.specs.View.{output_view}
 use Rattle.dpl_run.proofs.Checking.{out_large, out_read}
 use Rattle.dpl_run.proofs.check.check_out.Goals as goal
 
@@ -17,5 +16,4 @@ returns-clause-made g c =
     let told = g.H.Host.told c.args.host.now in
     let v = check_view c.args.options.now in
     let seen = subst (λ (o : Option (Vec ℕ Global)). IsSeen told c.args.options.now.output.now (option_map (λ v. v.items) o)) c.in-Some.is c.in_ok-bytes.ensures.seen in
-    let made = c.in_ok-output.ensures in
-    out_read told v c.args.layer.now c.args.cert.now c.in-Some.bytes.items (output_view c.in_ok-output.output) c.requires.kind seen made
+    out_read told v c.args.layer.now c.args.cert.now c.in-Some.bytes.items _ c.requires.kind seen c.in_ok-check_bytes.ensures

@@ -1,12 +1,14 @@
 use Rattle.std.proofs.Common.{subst, Option, ℕ, Global}
 use Rattle.std.specs.Prelude.{Vec, option_map}
+use Rattle.std.proofs.lemmas.Result.{IfOk-weaker}
 use Rattle.dpl_host.specs.Outside.{Outside}
 use Rattle.dpl_words.specs.Meaning.{check_view}
 use Rattle.dpl_run.specs.Check.{check_choice}
 use Rattle.dpl_run.specs.Program.{IsMadeOfLayer, IsSeen}
-use Rattle.dpl_run.specs.Reading.{Faulty, IsLayout, Layer}
-use Rattle.dpl_run.specs.View.{IsLayerFault, output_view}
-use Rattle.dpl_run.specs.declared.fault.LayerFault.{LayerFault}
+use Rattle.dpl_layer.specs.Reading.{Faulty, IsLayout, Layer}
+use Rattle.dpl_layer.specs.View.{IsLayerFault}
+use Rattle.dpl_run.specs.View.{output_view}
+use Rattle.dpl_layer.specs.declared.fault.LayerFault.{LayerFault}
 use Rattle.dpl_run.proofs.Checking.{check_made, layout_faulty, layout_large, layout_read}
 use Rattle.dpl_run.proofs.check.check_output.Goals as goal
 
@@ -17,18 +19,17 @@ returns-in_default-clause-made g c =
     let seen = subst (λ (o : Option (Vec ℕ Global)). IsSeen told c.args.options.now.input.now (option_map (λ v. v.items) o)) c.in_default.is c.in_ok-bytes.ensures.seen in
     check_made told v _ c.requires.apart (layout_large told v _ seen c.in_ok-too_large.ensures)
 
-pub returns-in_ok-output-in-Ok-clause-made : goal.returns-in_ok-output-in-Ok-clause-made
-returns-in_ok-output-in-Ok-clause-made g c =
+pub returns-in-Ok-clause-made : goal.returns-in-Ok-clause-made
+returns-in-Ok-clause-made g c =
     let told = g.H.Host.told c.args.host.now in
     let v = check_view c.args.options.now in
     let bytes = c.in-Some.bytes.items in
     let layer = c.in-Ok.layer in
     let seen = subst (λ (o : Option (Vec ℕ Global)). IsSeen told c.args.options.now.input.now (option_map (λ v. v.items) o)) c.in-Some.is c.in_ok-bytes.ensures.seen in
     let read : IsLayout (check_choice v) bytes (Layer layer.front.items layer.slabs) = c.in-Ok.ensures.layer in
-    let made = subst (λ (t : Option Outside). IsMadeOfLayer t v layer.slabs (output_view c.in_ok-output-in-Ok.output))
-    c.in_ok-bytes.ensures.same c.in_ok-output-in-Ok.ensures.made in
-    check_made told v (output_view c.in_ok-output-in-Ok.output) c.requires.apart (layout_read told v bytes layer.front.items layer.slabs
-    (output_view c.in_ok-output-in-Ok.output) seen read made)
+    IfOk-weaker c.check_layer.result _ _
+    (λ x h. check_made told v (output_view x) c.requires.apart (layout_read told v bytes layer.front.items layer.slabs (output_view x) seen read
+    (subst (λ (t : Option Outside). IsMadeOfLayer t v layer.slabs (output_view x)) c.in_ok-bytes.ensures.same h))) c.check_layer.ensures.made
 
 pub returns-in_ok-refused-in-Err-Refused-clause-made : goal.returns-in_ok-refused-in-Err-Refused-clause-made
 returns-in_ok-refused-in-Err-Refused-clause-made g c =

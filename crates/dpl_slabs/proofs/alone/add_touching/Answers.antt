@@ -4,8 +4,8 @@ use Rattle.std.proofs.lemmas.List.{get_or_default}
 use Rattle.dpl_spec_split.specs.declared.Rect.{Rect}
 use Rattle.dpl_slabs.proofs.Firsts.{zero}
 use Rattle.dpl_slabs.proofs.GapLaws.{le-false}
-use Rattle.dpl_slabs.proofs.AloneLaws.{front-apart, touching-apart, touching-more}
-use Rattle.dpl_slabs.proofs.alone.add_touching.Goals.{then-bar-front+in_ok-push, else-bar-front}
+use Rattle.dpl_slabs.proofs.AloneLaws.{prefix-apart, touching-apart, touching-more}
+use Rattle.dpl_slabs.proofs.alone.add_touching.Goals.{then-bar-prefix+in_ok-push, else-bar-prefix}
 use Rattle.dpl_slabs.proofs.alone.add_touching.Goals as goal
 
 pub loop-bar-preserved : goal.loop-bar-preserved
@@ -15,19 +15,19 @@ loop-bar-preserved c =
     let bar : Rect = get_or bars c.loop-bar.bar-index zero in
     let bar_is = get_or_default bars c.loop-bar.bar-index zero bar here in
     let right : FitsSigned w32 bar.x1 = search rules in
-    let front = rw (to_z-of_z w32 bar.x1 right, c.deref.ensures.value) at c.advanced-front.ensures in
+    let prefix = rw (to_z-of_z w32 bar.x1 right, c.deref.ensures.value) at c.advanced-prefix.ensures in
     let (before, _) = c.loop-bar.invariant in (
-      elim c.if-bar-front.branch [
-        | then-bar-front+in_ok-push w ↦
+      elim c.if-bar-prefix.branch [
+        | then-bar-prefix+in_ok-push w ↦
             rw (w.others-is, w.in_ok-push.ensures.items)
             (touching-more bars c.args.beside.now c.args.others.now.items _ c.loop-bar.bar-index bar here bar_is before)
-        | else-bar-front w ↦
+        | else-bar-prefix w ↦
             let left : FitsSigned w32 bar.x0 = search rules in
-            let reach : FitsSigned w32 c.advanced-front.result.reach = search rules in
-            let less = le-false _ _ (rw (to_z-of_z w32 c.advanced-front.result.reach reach, to_z-of_z w32 bar.x0 left) at w.if-bar-front.false) in
+            let reach : FitsSigned w32 c.advanced-prefix.result.reach = search rules in
+            let less = le-false _ _ (rw (to_z-of_z w32 c.advanced-prefix.result.reach reach, to_z-of_z w32 bar.x0 left) at w.if-bar-prefix.false) in
             rw w.others-is
             (touching-apart bars c.args.beside.now c.args.others.now.items _ c.loop-bar.bar-index bar here bar_is before
-            (λ s h. front-apart c.in_ok-near.near.items bar _ _ front less s (c.in_ok-near.ensures.all s (inr h))))
+            (λ s h. prefix-apart c.in_ok-near.near.items bar _ _ prefix less s (c.in_ok-near.ensures.all s (inr h))))
       ],
-      front.passed,
+      prefix.passed,
     )

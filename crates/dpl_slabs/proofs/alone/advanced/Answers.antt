@@ -4,7 +4,7 @@ use Rattle.std.proofs.lemmas.List.{get_or_default}
 use Rattle.dpl_spec_split.specs.declared.Rect.{Rect}
 use Rattle.dpl_slabs.proofs.Firsts.{zero}
 use Rattle.dpl_slabs.proofs.StripLaws.{lt-from}
-use Rattle.dpl_slabs.proofs.AloneLaws.{end-more, front-here}
+use Rattle.dpl_slabs.proofs.AloneLaws.{end-more, prefix-here}
 use Rattle.dpl_slabs.proofs.alone.advanced.Goals as goal
 
 pub loop-i-preserved : goal.loop-i-preserved
@@ -23,5 +23,5 @@ returns-then-x-rects c =
     let r : Rect = get_or c.args.rects.now c.loop-i.i zero in
     let left : FitsSigned w32 r.x0 = search rules in
     let test = rw (to_z-of_z w32 c.args.x c.ranges.x) at c.if-x-rects.true in
-    front-here c.args.rects.now c.loop-i.i r c.args.x _ c.requires.rise here (get_or_default c.args.rects.now c.loop-i.i zero r here)
+    prefix-here c.args.rects.now c.loop-i.i r c.args.x _ c.requires.rise here (get_or_default c.args.rects.now c.loop-i.i zero r here)
     (lt-from _ _ _ (to_z-of_z w32 r.x0 left) test) c.loop-i.invariant

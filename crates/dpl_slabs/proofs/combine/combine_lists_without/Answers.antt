@@ -1,4 +1,5 @@
 use Rattle.std.proofs.Common.{arith}
+use Rattle.std.proofs.lemmas.Result.{IfOk-weaker}
 use Rattle.dpl_sweep.specs.Edges.{Told}
 use Rattle.dpl_slabs.specs.Cells.{Chosen}
 use Rattle.dpl_slabs.specs.Slices.{Without}
@@ -14,5 +15,6 @@ returns c =
     let rule = c.rule_without-rule.result in
     let told = rw (c.deref-2.ensures.value, c.deref-3.ensures.value) at c.in_ok-edges.ensures.told in
     let without = rw c.deref.ensures.value at c.rule_without-rule.ensures in
-    slabs-of-same (Chosen rule c.args.rects.items c.args.holes.items) (Without c.args.rects.items c.args.holes.items) _ (without c.args.rects.items)
-    (slabs-of-same (Told rule c.in_ok-edges.edges.items) (Chosen rule c.args.rects.items c.args.holes.items) _ (told rule) c.in_ok-slabs.ensures)
+    IfOk-weaker c.slabs_of_edges.result _ _
+    (λ v is. slabs-of-same (Chosen rule c.args.rects.items c.args.holes.items) (Without c.args.rects.items c.args.holes.items) v.items (without c.args.rects.items)
+    (slabs-of-same (Told rule c.in_ok-edges.edges.items) (Chosen rule c.args.rects.items c.args.holes.items) v.items (told rule) is)) c.slabs_of_edges.ensures

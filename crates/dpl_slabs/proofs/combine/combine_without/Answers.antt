@@ -1,4 +1,5 @@
 use Rattle.std.proofs.Common.{arith}
+use Rattle.std.proofs.lemmas.Result.{IfOk-weaker}
 use Rattle.dpl_spec_split.specs.Loops.{farthest}
 use Rattle.dpl_slabs.specs.Cells.{Chosen}
 use Rattle.dpl_slabs.specs.Slices.{Without}
@@ -14,5 +15,6 @@ returns-then-is_empty-clause-within c = rw c.new.ensures.items (rects-none farth
 
 pub returns-clause-slabs : goal.returns-clause-slabs
 returns-clause-slabs c =
-    slabs-of-same (Chosen c.rule_without.result c.args.rects.now c.args.holes.now) (Without c.args.rects.now c.args.holes.now) _
-    (c.rule_without.ensures c.args.rects.now) c.in_ok-slabs.ensures.slabs
+    IfOk-weaker c.combine.result _ _
+    (λ v is. slabs-of-same (Chosen c.rule_without.result c.args.rects.now c.args.holes.now) (Without c.args.rects.now c.args.holes.now) v.items
+    (c.rule_without.ensures c.args.rects.now) is) c.combine.ensures.slabs

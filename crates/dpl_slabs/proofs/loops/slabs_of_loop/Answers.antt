@@ -1,3 +1,4 @@
+use Rattle.std.proofs.lemmas.Result.{IfOk-weaker}
 use Rattle.dpl_sweep.specs.declared.edge.Rule.TheVariants.{Either}
 use Rattle.dpl_sweep.specs.Edges.{Told}
 use Rattle.dpl_spec_split.specs.Loops.{LoopCovers}
@@ -12,11 +13,14 @@ pub slabs_of_edges-requires-clause-closed : goal.slabs_of_edges-requires-clause-
 slabs_of_edges-requires-clause-closed c = loop-closed c.args.points.now _ c.in_ok-edges.ensures
 
 pub returns-clause-slabs : goal.returns-clause-slabs
-returns-clause-slabs c = slabs-of-same (Told Either c.in_ok-edges.edges.items) (LoopCovers c.args.points.now) _
-    (loop-told c.args.points.now _ c.in_ok-edges.ensures) c.in_ok-slabs.ensures
+returns-clause-slabs c =
+    IfOk-weaker c.slabs_of_edges.result _ _
+    (λ v is. slabs-of-same (Told Either c.in_ok-edges.edges.items) (LoopCovers c.args.points.now) v.items
+    (loop-told c.args.points.now _ c.in_ok-edges.ensures) is) c.slabs_of_edges.ensures
 
 pub returns-clause-within : goal.returns-clause-within
 returns-clause-within c =
-    slabs-inside (Told Either c.in_ok-edges.edges.items) 1000000000 _
+    IfOk-weaker c.slabs_of_edges.result _ _
+    (λ v is. slabs-inside (Told Either c.in_ok-edges.edges.items) 1000000000 v.items
     (λ p. told-inside Either 1000000000 c.in_ok-edges.edges.items p (c.in_ok-edges.ensures.within 1000000000 c.requires) (loop-closed c.args.points.now _ c.in_ok-edges.ensures))
-    c.in_ok-slabs.ensures
+    is) c.slabs_of_edges.ensures

@@ -1,5 +1,6 @@
 use Rattle.std.proofs.Common.{w32}
 use Rattle.std.proofs.lemmas.Int.{to_z-of_z}
+use Rattle.std.proofs.lemmas.Result.{IfOk-weaker}
 use Rattle.dpl_slabs.specs.Slices.{InRows, Without}
 use Rattle.dpl_slabs.proofs.SliceLaws.{cut-spaced, cut-level, near-within, pieces-permuted, rest-within, slice-pieces}
 use Rattle.dpl_slabs.proofs.slices.pieces_of_slice.Goals as goal
@@ -32,5 +33,7 @@ returns c =
     let left = rw c.deref.ensures.value at c.in_ok-bars-2.ensures.slabs in
     let touching = rw (c.deref-2.ensures.value, c.deref-3.ensures.value) at c.in_ok-add_touching.ensures in
     let alone = rw c.deref-4.ensures.value at c.in_ok-alone.ensures in
-    pieces-permuted (InRows c.args.low c.args.high (Without c.args.rects.now c.args.holes.now)) _ _ c.in_ok-pieces.ensures
-    (slice-pieces c.args.low c.args.high c.args.rects.now c.args.holes.now _ _ _ _ _ _ _ _ rects holes left touching alone _ c.in_ok-slabs.ensures)
+    IfOk-weaker c.put_together.result _ _
+    (λ v same. pieces-permuted (InRows c.args.low c.args.high (Without c.args.rects.now c.args.holes.now)) _ v.items same
+    (slice-pieces c.args.low c.args.high c.args.rects.now c.args.holes.now _ _ _ _ _ _ _ _ rects holes left touching alone _ c.in_ok-slabs.ensures))
+    c.put_together.ensures

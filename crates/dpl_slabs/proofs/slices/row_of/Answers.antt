@@ -1,5 +1,6 @@
 use Rattle.std.proofs.Common.{arith}
 use Rattle.std.proofs.lemmas.List.Sorted.{length_permutation, Contains-permutation}
+use Rattle.std.proofs.lemmas.Result.{IfOk-weaker}
 use Rattle.dpl_slabs.proofs.StripLaws.{sorted-slabs}
 use Rattle.dpl_slabs.proofs.RowLaws.{spaced-slabs}
 use Rattle.dpl_slabs.proofs.SliceLaws.{row-sorted}
@@ -14,12 +15,15 @@ pub slabs_of_row-requires-clause-row : goal.slabs_of_row-requires-clause-row
 slabs_of_row-requires-clause-row c = rw c.deref-2.ensures.value (row-sorted c.args.bars.items _ c.sort_by_corner.ensures.same c.requires)
 
 pub returns-clause-slabs : goal.returns-clause-slabs
-returns-clause-slabs c = sorted-slabs c.args.bars.items _ _ c.sort_by_corner.ensures.same (rw c.deref-2.ensures.value at c.in_ok-row.ensures.slabs)
+returns-clause-slabs c =
+    IfOk-weaker c.slabs_of_row.result _ _ (λ v is. sorted-slabs c.args.bars.items _ v.items c.sort_by_corner.ensures.same is)
+    (rw c.deref-2.ensures.value at c.slabs_of_row.ensures.slabs)
 
 pub returns-clause-level : goal.returns-clause-level
 returns-clause-level c =
-    let level = rw c.deref-2.ensures.value at c.in_ok-row.ensures.level in
-    λ r b r_in b_in. level r b r_in (Contains-permutation c.args.bars.items _ b c.sort_by_corner.ensures.same b_in)
+    IfOk-weaker c.slabs_of_row.result _ _
+    (λ v level r b r_in b_in. level r b r_in (Contains-permutation c.args.bars.items _ b c.sort_by_corner.ensures.same b_in))
+    (rw c.deref-2.ensures.value at c.slabs_of_row.ensures.level)
 
 pub is_spaced-requires : goal.is_spaced-requires
 is_spaced-requires c = rw c.deref.ensures.value (row-sorted c.args.bars.items _ c.sort_by_corner.ensures.same c.requires)

@@ -1,3 +1,4 @@
+use Rattle.std.proofs.lemmas.Result.{IfOk-weaker}
 use Rattle.dpl_slabs.proofs.StripLaws.{sorted-within, sorted-slabs}
 use Rattle.dpl_slabs.proofs.strips.slabs_of_rects.Goals as goal
 
@@ -5,12 +6,13 @@ pub slabs_by_blocks-requires : goal.slabs_by_blocks-requires
 slabs_by_blocks-requires c = sorted-within c.args.rects.items _ c.sort_by_corner.ensures.same c.requires
 
 pub returns-then-has_tall_strip-clause-slabs : goal.returns-then-has_tall_strip-clause-slabs
-returns-then-has_tall_strip-clause-slabs c = sorted-slabs c.args.rects.items _ _ c.sort_by_corner.ensures.same c.in_ok-slabs.ensures.slabs
+returns-then-has_tall_strip-clause-slabs c =
+    IfOk-weaker c.slabs_by_blocks.result _ _ (λ v is. sorted-slabs c.args.rects.items _ v.items c.sort_by_corner.ensures.same is) c.slabs_by_blocks.ensures.slabs
 
 pub slabs_by_rows-requires-clause-within : goal.slabs_by_rows-requires-clause-within
 slabs_by_rows-requires-clause-within c = rw c.deref-2.ensures.value (sorted-within c.args.rects.items _ c.sort_by_corner.ensures.same c.requires)
 
 pub returns-clause-slabs : goal.returns-clause-slabs
 returns-clause-slabs c =
-    let slabs = rw c.deref-2.ensures.value at c.in_ok-slabs-2.ensures.slabs in
-    sorted-slabs c.args.rects.items _ _ c.sort_by_corner.ensures.same slabs
+    IfOk-weaker c.slabs_by_rows.result _ _ (λ v is. sorted-slabs c.args.rects.items _ v.items c.sort_by_corner.ensures.same is)
+    (rw c.deref-2.ensures.value at c.slabs_by_rows.ensures.slabs)

@@ -1,5 +1,6 @@
 use Rattle.std.proofs.Common.{arith}
 use Rattle.std.specs.Prelude.{[]}
+use Rattle.std.proofs.lemmas.Result.{IfOk-weaker}
 use Rattle.dpl_spec_split.specs.Squares.{Covers}
 use Rattle.dpl_spec_split.specs.Loops.{farthest}
 use Rattle.dpl_slabs.specs.Slices.{Without}
@@ -8,9 +9,12 @@ use Rattle.dpl_slabs.proofs.RowLaws.{within-slabs}
 use Rattle.dpl_slabs.proofs.strips.slabs_of_strip.Goals as goal
 
 pub returns-then-is_row-clause-within : goal.returns-then-is_row-clause-within
-returns-then-is_row-clause-within c = within-slabs farthest c.args.strip.now _ c.requires.within c.in_ok-bars.ensures.slabs
+returns-then-is_row-clause-within c =
+    IfOk-weaker c.slabs_of_row.result _ _ (λ v is. within-slabs farthest c.args.strip.now v.items c.requires.within is) c.slabs_of_row.ensures.slabs
 
 pub returns-clause-slabs : goal.returns-clause-slabs
 returns-clause-slabs c =
     let strip = c.args.strip.now in
-    slabs-of-same (Without strip []) (Covers strip) _ (λ p. (let same = without-none strip [] p (omega arith) in (same.1, same.0))) c.in_ok-slabs.ensures.slabs
+    IfOk-weaker c.slabs_without.result _ _
+    (λ v is. slabs-of-same (Without strip []) (Covers strip) v.items (λ p. (let same = without-none strip [] p (omega arith) in (same.1, same.0))) is)
+    c.slabs_without.ensures.slabs

@@ -1,20 +1,23 @@
 use Rattle.std.proofs.Common.{◌^◌, rules, w32, arith, FitsSigned}
 use Rattle.std.proofs.lemmas.Int.{to_z-of_z}
+use Rattle.std.proofs.lemmas.Result.{IfOk-weaker}
 use Rattle.dpl_sweep.proofs.BandLaws.{size-some, mended-below, mended-above}
 use Rattle.dpl_sweep.proofs.balance.+join.Goals as goal
 
-pub returns-in_ok-whole-in-Split : goal.returns-in_ok-whole-in-Split
-returns-in_ok-whole-in-Split t c =
+pub returns-in_ok-upper-in-Split : goal.returns-in_ok-upper-in-Split
+returns-in_ok-upper-in-Split t c =
     let r : FitsSigned w32 c.in-Split.first = search rules in
-    mended-below c.args.rule _ _ c.args.below c.args.above _ _ _ c.args.row c.in-Split.ensures
-    (rw (to_z-of_z w32 c.args.row c.ranges.row) at c.in_ok-upper-in-Split.ensures) (rw (to_z-of_z w32 c.in-Split.first r) at c.in_ok-whole-in-Split.ensures)
+    let upper = rw (to_z-of_z w32 c.args.row c.ranges.row) at c.in_ok-upper-in-Split.ensures in
+    IfOk-weaker c.balanced.result _ _ (λ t is. mended-below c.args.rule _ _ c.args.below c.args.above _ t _ c.args.row c.in-Split.ensures upper is)
+    (rw (to_z-of_z w32 c.in-Split.first r) at c.balanced.ensures)
 
-pub returns-in_ok-all-in-Split-take_apart : goal.returns-in_ok-all-in-Split-take_apart
-returns-in_ok-all-in-Split-take_apart t c =
+pub returns-in_ok-lower-in-Split-take_apart : goal.returns-in_ok-lower-in-Split-take_apart
+returns-in_ok-lower-in-Split-take_apart t c =
     let r : FitsSigned w32 c.in-Split-take_apart.last = search rules in
-    mended-above c.args.rule _ _ c.args.below c.args.above _ _ _ c.args.row c.in-Split-take_apart.ensures
-    (rw (to_z-of_z w32 c.args.row c.ranges.row) at c.in_ok-lower-in-Split-take_apart.ensures)
-    (rw (to_z-of_z w32 c.in-Split-take_apart.last r) at c.in_ok-all-in-Split-take_apart.ensures)
+    let lower = rw (to_z-of_z w32 c.args.row c.ranges.row) at c.in_ok-lower-in-Split-take_apart.ensures in
+    IfOk-weaker c.balanced-in-Split-take_apart.result _ _
+    (λ t is. mended-above c.args.rule _ _ c.args.below c.args.above _ t _ c.args.row c.in-Split-take_apart.ensures lower is)
+    (rw (to_z-of_z w32 c.in-Split-take_apart.last r) at c.balanced-in-Split-take_apart.ensures)
 
 pub join-requires : goal.join-requires
 join-requires t c =

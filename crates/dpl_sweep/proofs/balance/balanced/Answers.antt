@@ -1,12 +1,15 @@
 use Rattle.std.proofs.Common.{w32}
 use Rattle.std.proofs.lemmas.Int.{to_z-of_z}
+use Rattle.std.proofs.lemmas.Result.{IfOk-weaker}
 use Rattle.dpl_sweep.proofs.BandLaws.{mended-after_above, mended-after_below}
 use Rattle.dpl_sweep.proofs.balance.balanced.Goals as goal
 
 pub returns-then-is_higher : goal.returns-then-is_higher
 returns-then-is_higher c =
-    mended-after_above c.args.rule c.args.below c.args.above _ _ c.args.row c.in_ok-upper.ensures (rw (to_z-of_z w32 c.args.row c.ranges.row) at c.in_ok-tree.ensures)
+    IfOk-weaker c.lift_above.result _ _ (λ t is. mended-after_above c.args.rule c.args.below c.args.above _ t c.args.row c.in_ok-upper.ensures is)
+    (rw (to_z-of_z w32 c.args.row c.ranges.row) at c.lift_above.ensures)
 
 pub returns-then-is_higher-2 : goal.returns-then-is_higher-2
 returns-then-is_higher-2 c =
-    mended-after_below c.args.rule c.args.below _ c.args.above _ c.args.row c.in_ok-lower.ensures (rw (to_z-of_z w32 c.args.row c.ranges.row) at c.in_ok-tree-2.ensures)
+    IfOk-weaker c.lift_below.result _ _ (λ t is. mended-after_below c.args.rule c.args.below _ c.args.above t c.args.row c.in_ok-lower.ensures is)
+    (rw (to_z-of_z w32 c.args.row c.ranges.row) at c.lift_below.ensures)

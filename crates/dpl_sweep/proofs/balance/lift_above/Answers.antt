@@ -1,10 +1,12 @@
 use Rattle.std.proofs.Common.{rules, w32, FitsSigned}
 use Rattle.std.proofs.lemmas.Int.{to_z-of_z}
+use Rattle.std.proofs.lemmas.Result.{IfOk-weaker}
 use Rattle.dpl_sweep.proofs.BandLaws.{mended-above}
 use Rattle.dpl_sweep.proofs.balance.lift_above.Goals as goal
 
-pub returns-in_ok-all-in-Split : goal.returns-in_ok-all-in-Split
-returns-in_ok-all-in-Split c =
+pub returns-in_ok-lower-in-Split : goal.returns-in_ok-lower-in-Split
+returns-in_ok-lower-in-Split c =
     let r : FitsSigned w32 c.in-Split.last = search rules in
-    mended-above c.args.rule _ _ c.args.below c.args.above _ _ _ c.args.row c.in-Split.ensures
-    (rw (to_z-of_z w32 c.args.row c.ranges.row) at c.in_ok-lower-in-Split.ensures) (rw (to_z-of_z w32 c.in-Split.last r) at c.in_ok-all-in-Split.ensures)
+    let lower = rw (to_z-of_z w32 c.args.row c.ranges.row) at c.in_ok-lower-in-Split.ensures in
+    IfOk-weaker c.two-in-Split-2.result _ _ (λ t is. mended-above c.args.rule _ _ c.args.below c.args.above _ t _ c.args.row c.in-Split.ensures lower is)
+    (rw (to_z-of_z w32 c.in-Split.last r) at c.two-in-Split-2.ensures)

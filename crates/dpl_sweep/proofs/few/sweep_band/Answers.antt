@@ -1,6 +1,7 @@
 use Rattle.std.proofs.Common.{◌≡◌, ◌<◌, ◌-◌, length, get_or, rules, w32, arith}
 use Rattle.std.specs.Prelude.{pos}
 use Rattle.std.proofs.lemmas.Int.{to_z-of_z}
+use Rattle.std.proofs.lemmas.Result.{on_ok_weaker}
 use Rattle.std.proofs.lemmas.List.{get_or_default, take_all}
 use Rattle.std.proofs.lemmas.List.Elements.{All-get_or, Contains-get_or}
 use Rattle.dpl_sweep.specs.declared.edge.Edge.{Edge}
@@ -48,6 +49,7 @@ returns c =
     let low = to_z-of_z w32 c.args.low c.ranges.low in
     let high = to_z-of_z w32 c.args.high c.ranges.high in
     let last : Edge = get_or c.args.edges.now (length c.args.edges.now - 1) zero in
-    band-done c.args.rule c.args.edges.now c.args.low c.args.high last.x c.args.start c.loop-i.run c.args.pieces.now.items _ _
-    c.requires.order (all-left c.args.edges.now zero c.requires.rise) c.requires.closed c.requires.done
-    (rw (all, low, high) at c.loop-i.invariant) (rw (low, high) at c.in_ok-put_run.ensures)
+    let passed = rw (all, low, high) at c.loop-i.invariant in
+    on_ok_weaker c.put_run.result
+    (λ puts. band-done c.args.rule c.args.edges.now c.args.low c.args.high last.x c.args.start c.loop-i.run c.args.pieces.now.items _ _
+    c.requires.order (all-left c.args.edges.now zero c.requires.rise) c.requires.closed c.requires.done passed puts) (rw (low, high) at c.put_run.ensures)

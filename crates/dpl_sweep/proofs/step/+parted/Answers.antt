@@ -1,5 +1,6 @@
 use Rattle.std.proofs.Common.{◌+◌, ◌^◌, refl, rules, w32, arith, FitsSigned}
 use Rattle.std.proofs.lemmas.Int.{to_z-of_z}
+use Rattle.std.proofs.lemmas.Result.{IfOk-weaker}
 use Rattle.dpl_sweep.proofs.BandLaws.{small-more}
 use Rattle.dpl_sweep.proofs.RowLaws.{missed, spanned, parted-swept}
 use Rattle.dpl_sweep.proofs.step.+parted.Goals as goal
@@ -29,9 +30,10 @@ returns-clause-sweeps t c =
     let above = rw (to_z-of_z w32 c.args.high c.ranges.high, to_z-of_z w32 c.end_inside-row.result r) at c.in_ok-above.ensures.sweeps in
     let over = rw (to_z-of_z w32 c.args.low c.ranges.low) at c.end_inside-row.ensures.above in
     let under = rw (to_z-of_z w32 c.args.high c.ranges.high) at c.end_inside-row.ensures.below in
-    let tree = rw (to_z-of_z w32 c.end_inside-row.result r) at c.in_ok-both.ensures in
-    (parted-swept _ _ _ c.end_inside-row.result _ (c.args.count + 1) c.args.run _ _ _ _ _ _ over under below above low_rows high_rows
-    c.in_ok-below.ensures.sums c.in_ok-above.ensures.sums tree).0
+    let tree = rw (to_z-of_z w32 c.end_inside-row.result r) at c.join.ensures in
+    IfOk-weaker c.join.result _ _
+    (λ new is. (parted-swept _ _ _ c.end_inside-row.result _ (c.args.count + 1) c.args.run _ _ new _ _ _ over under below above low_rows high_rows
+    c.in_ok-below.ensures.sums c.in_ok-above.ensures.sums is).0) tree
 
 pub returns-clause-rows : goal.returns-clause-rows
 returns-clause-rows t c =
@@ -42,9 +44,10 @@ returns-clause-rows t c =
     let above = rw (to_z-of_z w32 c.args.high c.ranges.high, to_z-of_z w32 c.end_inside-row.result r) at c.in_ok-above.ensures.sweeps in
     let over = rw (to_z-of_z w32 c.args.low c.ranges.low) at c.end_inside-row.ensures.above in
     let under = rw (to_z-of_z w32 c.args.high c.ranges.high) at c.end_inside-row.ensures.below in
-    let tree = rw (to_z-of_z w32 c.end_inside-row.result r) at c.in_ok-both.ensures in
-    (parted-swept _ _ _ c.end_inside-row.result _ (c.args.count + 1) c.args.run _ _ _ _ _ _ over under below above low_rows high_rows
-    c.in_ok-below.ensures.sums c.in_ok-above.ensures.sums tree).1
+    let tree = rw (to_z-of_z w32 c.end_inside-row.result r) at c.join.ensures in
+    IfOk-weaker c.join.result _ _
+    (λ new is. (parted-swept _ _ _ c.end_inside-row.result _ (c.args.count + 1) c.args.run _ _ new _ _ _ over under below above low_rows high_rows
+    c.in_ok-below.ensures.sums c.in_ok-above.ensures.sums is).1) tree
 
 pub returns-clause-sums : goal.returns-clause-sums
 returns-clause-sums t c =
@@ -55,6 +58,7 @@ returns-clause-sums t c =
     let above = rw (to_z-of_z w32 c.args.high c.ranges.high, to_z-of_z w32 c.end_inside-row.result r) at c.in_ok-above.ensures.sweeps in
     let over = rw (to_z-of_z w32 c.args.low c.ranges.low) at c.end_inside-row.ensures.above in
     let under = rw (to_z-of_z w32 c.args.high c.ranges.high) at c.end_inside-row.ensures.below in
-    let tree = rw (to_z-of_z w32 c.end_inside-row.result r) at c.in_ok-both.ensures in
-    (parted-swept _ _ _ c.end_inside-row.result _ (c.args.count + 1) c.args.run _ _ _ _ _ _ over under below above low_rows high_rows
-    c.in_ok-below.ensures.sums c.in_ok-above.ensures.sums tree).2
+    let tree = rw (to_z-of_z w32 c.end_inside-row.result r) at c.join.ensures in
+    IfOk-weaker c.join.result _ _
+    (λ new is. (parted-swept _ _ _ c.end_inside-row.result _ (c.args.count + 1) c.args.run _ _ new _ _ _ over under below above low_rows high_rows
+    c.in_ok-below.ensures.sums c.in_ok-above.ensures.sums is).2) tree

@@ -1,10 +1,9 @@
-use Rattle.std.proofs.Common.{◌≡◌, ℕ, List, [], Option, Some, None, Result, Ok, Err, refl, sym, subst, ap, ◌∙◌, arith}
+use Rattle.std.proofs.Common.{◌≡◌, ℕ, [], Err, ◌∙◌}
 use Rattle.std.proofs.lemmas.Result.{err_from_is_err_and}
 use Rattle.dpl_spec_format.specs.Kinds as kinds
-use Rattle.dpl_spec_format.specs.Faults.{Fault}
-use Rattle.dpl_spec_format.specs.Records.{Record, record_at}
+use Rattle.dpl_spec_format.specs.Records.{Record}
 use Rattle.dpl_spec_format.specs.Tree as tree
-use Rattle.dpl_spec_format.specs.Layout.{Holds, IsFirstFault}
+use Rattle.dpl_spec_format.specs.Layout.{IsFirstFault}
 use Rattle.dpl_records.specs.Seen.{seen}
 use Rattle.dpl_syntax.specs.Libraries.{structures_seen}
 use Rattle.dpl_syntax.specs.Reading as reading

@@ -1,4 +1,4 @@
-use Rattle.std.proofs.Common.{◌≡◌, ℕ, List, nat_eq, refl, ◌∙◌}
+use Rattle.std.proofs.Common.{ℕ, List, nat_eq, refl, ◌∙◌}
 use Rattle.std.specs.Cmp.Lexicographic.{pointwise}
 use Rattle.std.specs.Borrow.{Bor}
 use Rattle.dpl_syntax.proofs.StructureLists.{insert_new}

@@ -1,4 +1,4 @@
-use Rattle.std.proofs.Common.{◌≡◌, nat_eq, List, ℕ, refl, ◌∙◌}
+use Rattle.std.proofs.Common.{nat_eq, List, ℕ, refl, ◌∙◌}
 use Rattle.std.specs.Cmp.Lexicographic.{pointwise}
 use Rattle.std.specs.Borrow.{Bor}
 use Rattle.dpl_syntax.proofs.KnownNames.{found_any}

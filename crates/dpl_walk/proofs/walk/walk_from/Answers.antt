@@ -5,7 +5,7 @@ use Rattle.dpl_walk.proofs.LeftLaws.{less_left}
 use Rattle.dpl_walk.proofs.walk.walk_from.Goals as goal
 
 pub visit-requires-clause-points : goal.visit-requires-clause-points
-visit-requires-clause-points c = rw (outlines_are c.args.cells.now c.args.top c.index-cells-top.result c.requires.top c.index-cells-top.is) (c.requires.known.near c.args.top)
+visit-requires-clause-points c = rw (outlines_are c.args.cells.now c.args.top c.index-cells-top.result c.requires.top c.index-cells-top.is) (c.requires.known.within c.args.top)
 
 pub loop-frame-init : goal.loop-frame-init
 loop-frame-init c = (
@@ -57,7 +57,7 @@ visit-requires-in-Some-clause-points c =
     let p = popped c.args.cells.now c.args.top c.loop-frame.invariant.0 c.requires.known c.requires.few c.loop-frame.gathered.loops.items
     c.loop-frame.gathered.far c.loop-frame.stack.items c.pop.new.self.items c.in-Some.frame c.in-Some.ensures.items
     c.loop-frame.invariant.1 in
-    rw (outlines_are c.args.cells.now c.in-Some.frame.copies.target c.index-cells-frame.result p.known c.index-cells-frame.is) (c.requires.known.near c.in-Some.frame.copies.target)
+    rw (outlines_are c.args.cells.now c.in-Some.frame.copies.target c.index-cells-frame.result p.known c.index-cells-frame.is) (c.requires.known.within c.in-Some.frame.copies.target)
 
 pub loop-frame-smaller : goal.loop-frame-smaller
 loop-frame-smaller c =

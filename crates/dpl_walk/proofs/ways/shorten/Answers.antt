@@ -14,8 +14,8 @@ pub shorten_at-requires-clause-known : goal.shorten_at-requires-clause-known
 shorten_at-requires-clause-known c = all_known c.args.ways.now c.loop-structure.structure c.args.cells.now.items
     c.loop-structure.cells.items c.requires.known c.requires.ways c.loop-structure.invariant
 
-pub shorten_at-requires-clause-near : goal.shorten_at-requires-clause-near
-shorten_at-requires-clause-near c = all_within c.args.cells.now.items c.args.ways.now c.requires.few c.requires.ways
+pub shorten_at-requires-clause-within : goal.shorten_at-requires-clause-within
+shorten_at-requires-clause-within c = all_within c.args.cells.now.items c.args.ways.now c.requires.few c.requires.ways
 
 pub loop-structure-preserved : goal.loop-structure-preserved
 loop-structure-preserved c = below_next c.args.ways.now c.loop-structure.structure c.args.cells.now.items c.loop-structure.cells.items

@@ -1,5 +1,5 @@
 use Rattle.std.proofs.Common.{◌≡◌, ◌∙◌, true, sym, ap, subst, All}
-use Rattle.dpl_deal.specs.declared.view.View.{View}
+use Rattle.dpl_deal.specs.declared.view.PassView.{PassView}
 use Rattle.dpl_deal.specs.Hands.{dealt_times, took_times}
 use Rattle.dpl_deal.proofs.Arming.{closed, hands_rows, ready}
 use Rattle.dpl_deal.proofs.deal.Deal.close.Goals as goal
@@ -9,7 +9,7 @@ join_rows-requires c = record { rows = hands_rows c.args.self c.args.hands.items
 
 pub learn_all-requires : goal.learn_all-requires
 learn_all-requires c = record {
-  views = subst (All (λ (v : View). (v.parts ≡ 1024) × (v.ended ≡ true))) (sym c.join_rows.ensures.views)
+  views = subst (All (λ (v : PassView). (v.parts ≡ 1024) × (v.ended ≡ true))) (sym c.join_rows.ensures.views)
       (ready c.args.self c.args.hands.items c.requires.all c.requires.done.0 c.requires.done.1 c.requires.done.2);
 }
 

@@ -1,7 +1,6 @@
 use Rattle.std.proofs.Common.{◌≡◌, ◌∙◌, inl, inr, false, rules, ap, map}
 use Rattle.std.specs.Prelude.{is_some}
 use Rattle.dpl_deal.specs.Grips.{grip_deque}
-use Rattle.dpl_deal.specs.Hands.{own_view}
 use Rattle.dpl_deal.proofs.Takings.{after_none, if_some, of_any, where_none}
 use Rattle.dpl_deal.proofs.Tries.{grip_fits, kept, noted, popped, stolen}
 use Rattle.dpl_deal.proofs.deal.Deal.take.Goals as goal

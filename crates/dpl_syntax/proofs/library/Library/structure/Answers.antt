@@ -1,4 +1,4 @@
-use Rattle.std.proofs.Common.{◌≡◌, ap, refl, ◌∙◌, position, nat_eq}
+use Rattle.std.proofs.Common.{ap, refl, ◌∙◌, position, nat_eq}
 use Rattle.std.specs.Cmp.Lexicographic.{pointwise}
 use Rattle.dpl_spec_format.specs.Tree.{Library, names_in}
 use Rattle.dpl_syntax.proofs.Positions.{same_position}

@@ -1,12 +1,9 @@
-use Rattle.std.proofs.Common.{◌≡◌, ℕ, List, Option, Some, None, Result, Ok, Err, refl, sym, subst, ap, ◌∙◌}
+use Rattle.std.proofs.Common.{◌≡◌, Err}
 use Rattle.std.proofs.lemmas.Result.{err_from_is_err_and}
-use Rattle.dpl_spec_format.specs.Kinds as kinds
-use Rattle.dpl_spec_format.specs.Faults.{Fault}
-use Rattle.dpl_spec_format.specs.Records.{Record, record_at}
 use Rattle.dpl_records.specs.Seen.{seen}
-use Rattle.dpl_syntax.specs.Elements.{body_seen, element_seen}
+use Rattle.dpl_syntax.specs.Elements.{body_seen}
 use Rattle.dpl_syntax.specs.Reading as reading
-use Rattle.dpl_syntax.specs.Passing.{Passes, Fails, same, properties_end, property_first, endel_first, AreProperties, IsEnd, element_then, IsElement}
+use Rattle.dpl_syntax.specs.Passing.{Fails, properties_end, element_then}
 use Rattle.dpl_syntax.proofs.Refusals.{refuses}
 use Rattle.dpl_syntax.proofs.WholeElements.{element_ok, no_body, no_end}
 use Rattle.dpl_syntax.proofs.reader.Reader.element.Goals as goal

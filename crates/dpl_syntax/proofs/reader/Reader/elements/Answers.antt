@@ -1,17 +1,13 @@
-use Rattle.std.proofs.Common.{◌≡◌, ℕ, List, [], ◌∷◌, ◌++◌, map, Option, Some, None, Result, Ok, Err, refl, sym, subst, ap, ◌∙◌, arith}
+use Rattle.std.proofs.Common.{◌≡◌, [], ◌∷◌, ◌++◌, map, Err, ◌∙◌, arith}
 use Rattle.std.proofs.lemmas.Result.{err_from_is_err_and}
 use Rattle.std.proofs.lemmas.List.{map_push}
 use Rattle.std.proofs.lemmas.List.Elements.{All-push}
-use Rattle.dpl_spec_format.specs.Kinds as kinds
-use Rattle.dpl_spec_format.specs.Faults.{Fault}
-use Rattle.dpl_spec_format.specs.Records.{Record, record_at}
-use Rattle.dpl_spec_format.specs.Tree as tree
+use Rattle.dpl_spec_format.specs.Records.{record_at}
 use Rattle.dpl_records.specs.Seen.{seen}
-use Rattle.dpl_syntax.specs.Elements.{body_seen, element_seen, IsSized}
-use Rattle.dpl_syntax.specs.Reading as reading
-use Rattle.dpl_syntax.specs.Passing.{Passes, Fails, same, element_then, IsElement, IsNextElement, IsNoElement, class_first, elements_first, endstr_first, AreElements}
+use Rattle.dpl_syntax.specs.Elements.{element_seen, IsSized}
+use Rattle.dpl_syntax.specs.Passing.{Fails, element_then, IsNextElement, elements_first}
 use Rattle.dpl_syntax.proofs.Refusals.{refuses}
-use Rattle.dpl_syntax.proofs.ElementLists.{no_elements, elements_more, elements_done, elements_stop, elements_fail}
+use Rattle.dpl_syntax.proofs.ElementLists.{elements_more, elements_done, elements_stop, elements_fail}
 use Rattle.dpl_syntax.proofs.reader.Reader.elements.Goals as goal
 
 pub returns-in_err-first-clause-err : goal.returns-in_err-first-clause-err

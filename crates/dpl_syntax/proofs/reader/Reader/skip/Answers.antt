@@ -1,11 +1,8 @@
-use Rattle.std.proofs.Common.{◌≡◌, ℕ, List, [], Option, Some, None, Result, Ok, Err, refl, sym, subst, ap, ◌∙◌, arith}
+use Rattle.std.proofs.Common.{◌≡◌, Err}
 use Rattle.std.proofs.lemmas.Result.{err_from_is_err_and}
-use Rattle.dpl_spec_format.specs.Kinds as kinds
-use Rattle.dpl_spec_format.specs.Faults.{Fault}
-use Rattle.dpl_spec_format.specs.Records.{Record, record_at}
+use Rattle.dpl_spec_format.specs.Records.{record_at}
 use Rattle.dpl_records.specs.Seen.{seen}
-use Rattle.dpl_syntax.specs.Reading as reading
-use Rattle.dpl_syntax.specs.Passing.{same, PassesSkips, FailsSkips, skips_then, part_then, PassesPart, IsNextSkipped, IsNoneSkipped}
+use Rattle.dpl_syntax.specs.Passing.{FailsSkips, skips_then, IsNextSkipped}
 use Rattle.dpl_syntax.proofs.Refusals.{refuses}
 use Rattle.dpl_syntax.proofs.Heads.{one_skip, skips_done, skips_fail}
 use Rattle.dpl_syntax.proofs.reader.Reader.skip.Goals as goal

@@ -1,14 +1,9 @@
-use Rattle.std.proofs.Common.{◌≡◌, ℕ, List, [], ◌∷◌, ◌++◌, map, Option, Some, None, Result, Ok, Err, refl, sym, subst, ap, ◌∙◌, arith}
+use Rattle.std.proofs.Common.{◌≡◌, Err, ◌∙◌, arith}
 use Rattle.std.proofs.lemmas.Result.{err_from_is_err_and}
-use Rattle.std.proofs.lemmas.List.{map_push}
 use Rattle.dpl_spec_format.specs.Kinds as kinds
-use Rattle.dpl_spec_format.specs.Faults.{Fault}
-use Rattle.dpl_spec_format.specs.Records.{Record, record_at}
-use Rattle.dpl_spec_format.specs.Tree as tree
 use Rattle.dpl_records.specs.Seen.{seen}
-use Rattle.dpl_syntax.specs.Elements.{body_seen, element_seen, IsSized}
 use Rattle.dpl_syntax.specs.Reading as reading
-use Rattle.dpl_syntax.specs.Passing.{Passes, Fails, same, element_then, IsElement, IsNextElement, IsNoElement, class_first, elements_first, endstr_first, AreElements}
+use Rattle.dpl_syntax.specs.Passing.{Fails, class_first}
 use Rattle.dpl_syntax.proofs.Refusals.{refuses}
 use Rattle.dpl_syntax.proofs.ElementLists.{class_more, class_done, class_fails}
 use Rattle.dpl_syntax.proofs.reader.Reader.skip_class.Goals as goal

@@ -1,15 +1,14 @@
-use Rattle.std.proofs.Common.{◌≡◌, ℕ, List, [], ◌∷◌, ◌++◌, map, Option, Some, None, Result, Ok, Err, refl, sym, subst, ap, ◌∙◌, arith}
+use Rattle.std.proofs.Common.{◌≡◌, ℕ, map, Err, ◌∙◌}
 use Rattle.std.proofs.lemmas.Result.{err_from_is_err_and}
 use Rattle.dpl_spec_format.specs.Kinds as kinds
-use Rattle.dpl_spec_format.specs.Faults.{Fault}
 use Rattle.dpl_spec_format.specs.Fields.{name_of}
-use Rattle.dpl_spec_format.specs.Records.{Record, record_at}
+use Rattle.dpl_spec_format.specs.Records.{Record}
 use Rattle.dpl_spec_format.specs.Tree as tree
 use Rattle.dpl_records.specs.Seen.{seen}
 use Rattle.dpl_syntax.specs.Elements.{element_seen}
-use Rattle.dpl_syntax.specs.Libraries.{structure_seen, known_names}
+use Rattle.dpl_syntax.specs.Libraries.{known_names}
 use Rattle.dpl_syntax.specs.Reading as reading
-use Rattle.dpl_syntax.specs.Passing.{Passes, Fails, same, class_first, elements_first, endstr_first, AreElements, PassesNamed, FailsNamed, structure_then, IsStructure}
+use Rattle.dpl_syntax.specs.Passing.{Fails, class_first, elements_first, FailsNamed, structure_then}
 use Rattle.dpl_syntax.proofs.Refusals.{refuses}
 use Rattle.dpl_syntax.proofs.WholeStructures.{name_err, fails_behind, fails_elements, fails_end, structure_ok}
 use Rattle.dpl_syntax.proofs.reader.Reader.structure.Goals as goal

@@ -1,21 +1,16 @@
-use Rattle.std.proofs.Common.{◌≡◌, ℕ, List, [], ◌∷◌, ◌++◌, map, nat_eq, Option, Some, None, Result, Ok, Err, refl, sym, subst, ap, ◌∙◌, arith}
+use Rattle.std.proofs.Common.{◌≡◌, ℕ, List, [], ◌∷◌, ◌++◌, Err, ◌∙◌, arith}
 use Rattle.std.specs.Prelude.{All}
 use Rattle.std.specs.Borrow.{Bor}
 use Rattle.std.proofs.lemmas.Result.{err_from_is_err_and}
 use Rattle.std.proofs.lemmas.List.{map_push}
 use Rattle.std.proofs.lemmas.List.Elements.{All-push}
 use Rattle.dpl_spec_format.specs.Kinds as kinds
-use Rattle.dpl_spec_format.specs.Faults.{Fault}
-use Rattle.dpl_spec_format.specs.Records.{Record, record_at}
-use Rattle.dpl_spec_format.specs.Tree as tree
+use Rattle.dpl_spec_format.specs.Records.{record_at}
 use Rattle.dpl_records.specs.Seen.{seen}
 use Rattle.dpl_syntax.specs.declared.library.Structure.{Structure}
-use Rattle.dpl_syntax.specs.Elements.{element_seen, IsSized}
+use Rattle.dpl_syntax.specs.Elements.{IsSized}
 use Rattle.dpl_syntax.specs.Libraries.{structure_seen, structures_seen, known_names}
-use Rattle.dpl_syntax.specs.Reading as reading
-use Rattle.dpl_syntax.specs.Passing.{same, IsNext, IsOther, PassesNamed, FailsNamed, structure_then, structures_first, endlib_first}
-use Rattle.dpl_syntax.specs.Passing.{IsStructure, AreStructures, PassesSkips, FailsSkips, skips_then, part_then, IsNextSkipped}
-use Rattle.dpl_syntax.specs.Passing.{IsNoneSkipped}
+use Rattle.dpl_syntax.specs.Passing.{IsNext, FailsNamed, structure_then, structures_first}
 use Rattle.dpl_syntax.proofs.Refusals.{refuses}
 use Rattle.dpl_syntax.proofs.StructureLists.{structures_more, structures_fail, structures_stop, structures_done}
 use Rattle.dpl_syntax.proofs.reader.Reader.structures.Goals as goal

@@ -1,13 +1,11 @@
-use Rattle.std.proofs.Common.{◌≡◌, ℕ, List, Option, Some, None, Result, Ok, Err, refl, sym, subst, ap, ◌∙◌, arith}
+use Rattle.std.proofs.Common.{◌≡◌, Err, ◌∙◌, arith}
 use Rattle.std.proofs.lemmas.Result.{err_from_is_err_and}
 use Rattle.dpl_spec_format.specs.Kinds as kinds
-use Rattle.dpl_spec_format.specs.Faults.{Fault}
-use Rattle.dpl_spec_format.specs.Records.{Record, record_at}
 use Rattle.dpl_records.specs.Seen.{seen}
 use Rattle.dpl_syntax.specs.Reading as reading
-use Rattle.dpl_syntax.specs.Passing.{Passes, Fails, same, properties_end, property_first, endel_first, AreProperties, IsEnd, element_then, IsElement}
+use Rattle.dpl_syntax.specs.Passing.{Fails, property_first}
 use Rattle.dpl_syntax.proofs.Refusals.{refuses}
-use Rattle.dpl_syntax.proofs.Ends.{passes_none, one_more, no_attr, no_value, no_more}
+use Rattle.dpl_syntax.proofs.Ends.{one_more, no_attr, no_value, no_more}
 use Rattle.dpl_syntax.proofs.reader.Reader.take_properties.Goals as goal
 
 pub returns-in_err-take_if-clause-err : goal.returns-in_err-take_if-clause-err

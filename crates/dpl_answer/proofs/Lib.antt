@@ -1,0 +1,9 @@
+pub mod Members
+pub mod Nearness
+pub mod Pairs
+pub mod Sheeting
+pub mod LineLaws
+pub mod SameGraphs
+pub mod Deciding
+pub mod NearLines
+pub mod Planned

@@ -1,0 +1,84 @@
+use Rattle.std.proofs.Common.{◌≡◌, ◌∙◌, ◌<◌, ◌^◌, ap, subst, sym, arith, rules, List, Bool, length, map}
+use Rattle.std.specs.List.{AllByRecursion, zip}
+use Rattle.std.proofs.lemmas.List.{length-map}
+use Rattle.dpl_spec_split.specs.Colours.{AreStitches}
+use Rattle.dpl_orient.specs.Masks.{is_second}
+use Rattle.dpl_orient.specs.Oriented.{ColoursWhatSums}
+use Rattle.dpl_cert.specs.declared.cert.PieceLine.{PieceLine}
+use Rattle.dpl_cert.specs.declared.cert.StitchLine.{StitchLine}
+use Rattle.dpl_cert.specs.Grammar.{IsNumber, IsPiece, IsStitch}
+use Rattle.dpl_law_verdict.specs.Own.{piece_line}
+use Rattle.dpl_cut.specs.Cutting.{cut_view}
+use Rattle.dpl_answer.proofs.Deciding.{as_many, lines_many, painted_from}
+use Rattle.dpl_answer.proofs.answer.paint.Goals as goal
+
+pub stitches-requires : goal.stitches-requires
+stitches-requires c =
+    let pieces = c.args.cut.pieces in
+    let (edges, are, sums) = c.requires.sums in
+    let colours = c.in_ok-colours.colours in
+    let graph : ColoursWhatSums c.args.joined.now (length pieces.parts) pieces.sides colours = rw (
+      c.sides.ensures.value,
+      c.items.ensures.value,
+      c.parts.ensures.value,
+    ) at c.in_ok-colours.ensures.graph in
+    let many : length colours ≡ length pieces.parts = as_many _ edges c.args.joined.now pieces.sides colours sums graph in
+    let long : length c.items-3.result.now ≡ length pieces.parts = sym (length-map c.items-3.result.now is_second) ∙ (ap length c.items-3.ensures ∙ many) in
+    rw (c.sides-2.ensures.value, long) c.sides.ensures.known
+
+pub stitch_lines-requires-clause-each : goal.stitch_lines-requires-clause-each
+stitch_lines-requires-clause-each c = rw (c.sides-3.ensures.value, c.zones.ensures.value) c.sides.ensures.each
+
+pub stitch_lines-requires-clause-numbers : goal.stitch_lines-requires-clause-numbers
+stitch_lines-requires-clause-numbers c =
+    let few : length c.items.result.now < 2 ^ 64 = search rules in
+    let each = ap length (c.items.ensures.value ∙ c.parts.ensures.value) in
+    rw c.sides-3.ensures.value (λ k d k_in. (let known = c.sides.ensures.known k d k_in in (omega (arith, known.0, few, each), omega (arith, known.1, few, each))))
+
+pub stitch_lines-requires-clause-known : goal.stitch_lines-requires-clause-known
+stitch_lines-requires-clause-known c =
+    rw c.deref.ensures.value (λ k h. (let (side, side_in, is, differ) = (c.in_ok-numbers.ensures.exactly k).0 h in
+    omega (arith, side_in, ap length c.sides-2.ensures.value, ap length c.sides-3.ensures.value)))
+
+pub returns-clause-painted : goal.returns-clause-painted
+returns-clause-painted c = λ features many.
+    let pieces = c.args.cut.pieces in
+    let (edges, are, sums) = c.requires.sums in
+    let colours = c.in_ok-colours.colours in
+    let joined = c.args.joined.now in
+    let graph : ColoursWhatSums joined (length pieces.parts) pieces.sides colours = rw (
+      c.sides.ensures.value,
+      c.items.ensures.value,
+      c.parts.ensures.value,
+    ) at c.in_ok-colours.ensures.graph in
+    let lines = c.of.ensures ∙ (c.in_ok-lines.ensures.lines ∙ ap (λ (cs : List Bool). map piece_line (zip cs pieces.keys)) c.items-2.ensures) in
+    let differing : AreStitches pieces.sides colours c.in_ok-numbers.numbers.items = rw (c.sides-2.ensures.value, c.items-3.ensures) at c.in_ok-numbers.ensures in
+    let stitches = c.of-2.ensures ∙ rw (c.zones.ensures.value, c.sides-3.ensures.value, c.deref.ensures.value) at c.in_ok-stitches.ensures.lines in
+    painted_from c.args.rule c.args.overlap (cut_view features pieces) edges joined colours c.in_ok-masks.masks.a c.in_ok-masks.masks.b
+    c.in_ok-numbers.numbers.items c.head-head.result c.of.result c.of-2.result
+    are sums c.requires.even graph c.in_ok-masks.ensures.masks.first c.in_ok-masks.ensures.masks.second differing (c.head-head.ensures.value features many) lines stitches
+
+pub returns-clause-fits : goal.returns-clause-fits
+returns-clause-fits c =
+    let pieces = c.args.cut.pieces in
+    let (edges, are, sums) = c.requires.sums in
+    let colours = c.in_ok-colours.colours in
+    let graph : ColoursWhatSums c.args.joined.now (length pieces.parts) pieces.sides colours = rw (
+      c.sides.ensures.value,
+      c.items.ensures.value,
+      c.parts.ensures.value,
+    ) at c.in_ok-colours.ensures.graph in
+    let lines = c.of.ensures ∙ (c.in_ok-lines.ensures.lines ∙ ap (λ (cs : List Bool). map piece_line (zip cs pieces.keys)) c.items-2.ensures) in
+    let many = lines_many (length pieces.parts) colours pieces.keys c.of.result (as_many _ edges c.args.joined.now pieces.sides colours sums graph) c.parts.ensures.keys lines in
+    let few : length c.in_ok-stitches.stitches.items < 2 ^ 64 = search rules in
+    record {
+      a = c.in_ok-masks.ensures.within.0;
+      b = c.in_ok-masks.ensures.within.1;
+      cert = (
+        c.head-head.ensures.fits,
+        many ∙ sym c.head-head.ensures.pieces,
+        subst (λ (ls : List PieceLine). AllByRecursion IsPiece ls) (sym c.of.ensures) c.in_ok-lines.ensures.within,
+        subst (λ (ls : List StitchLine). IsNumber (length ls)) (sym c.of-2.ensures) few,
+        subst (λ (ls : List StitchLine). AllByRecursion IsStitch ls) (sym c.of-2.ensures) c.in_ok-stitches.ensures.within,
+      );
+    }

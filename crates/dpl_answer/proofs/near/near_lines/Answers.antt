@@ -1,0 +1,33 @@
+use Rattle.std.proofs.Common.{◌≡◌, ◌+◌, ◌%◌, ◌∷◌, [], List, length, get_or, sym, ap, ◌∙◌, subst, arith}
+use Rattle.std.proofs.lemmas.List.{length-append}
+use Rattle.dpl_spec_split.specs.declared.Rect.{Rect}
+use Rattle.dpl_spec_split.specs.Squares.{AreNear}
+use Rattle.dpl_spec_split.specs.Zones.{part_at}
+use Rattle.dpl_cert.specs.Grammar.{IsNear}
+use Rattle.dpl_nearest.specs.Nearest.{IsNearestPair}
+use Rattle.dpl_answer.proofs.LineLaws.{fits_push}
+use Rattle.dpl_answer.proofs.NearLines.{nearest_more}
+use Rattle.dpl_answer.proofs.near.near_lines.Goals as goal
+
+pub near_line-requires-clause-near : goal.near_line-requires-clause-near
+near_line-requires-clause-near c =
+    let same : c.items-parts.result.now ≡ c.args.pieces.now.parts = c.items-parts.ensures.value ∙ c.parts.ensures.value in
+    subst (λ (ps : List (List Rect)). AreNear c.args.rule (part_at ps (get_or c.args.cycle.now c.loop-k.k 0))
+    (part_at ps (get_or c.args.cycle.now ((c.loop-k.k + 1) % length c.args.cycle.now) 0))) (sym same)
+    (c.requires.near c.loop-k.k c.loop-k-test.true)
+
+pub loop-k-preserved : goal.loop-k-preserved
+loop-k-preserved c =
+    let same : c.items-parts.result.now ≡ c.args.pieces.now.parts = c.items-parts.ensures.value ∙ c.parts.ensures.value in
+    let line = c.in_ok-line.line in
+    let count : length c.push.new.self.items ≡ length c.loop-k.lines.items + length (line ∷ []) = ap length c.in_ok-push.ensures.items
+    ∙ length-append c.loop-k.lines.items (line ∷ []) in
+    record {
+      each = omega (arith, count);
+      first = nearest_more c.args.rule c.args.pieces.now.parts c.args.cycle.now c.loop-k.k c.loop-k.lines.items c.push.new.self.items line
+          c.loop-k.invariant.each c.in_ok-push.ensures.items c.loop-k.invariant.first
+          (subst (λ (ps : List (List Rect)). IsNearestPair c.args.rule (part_at ps (get_or c.args.cycle.now c.loop-k.k 0))
+          (part_at ps (get_or c.args.cycle.now ((c.loop-k.k + 1) % length c.args.cycle.now) 0)) line.from line.to) same
+          c.in_ok-line.ensures.nearest);
+      fits = rw c.in_ok-push.ensures.items (fits_push IsNear _ _ c.loop-k.invariant.fits c.in_ok-line.ensures.within);
+    }

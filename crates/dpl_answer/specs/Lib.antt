@@ -1,0 +1,4 @@
+pub mod Sheets
+pub mod Conflicts
+pub mod Flat
+pub mod View

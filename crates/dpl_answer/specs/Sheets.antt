@@ -1,0 +1,50 @@
+-- The conflicts of a plan's tiles, as lists.
+use Rattle.std.specs.Prelude.{ℕ, ◌*◌, ◌==◌, ◌&&◌, ◌||◌, Bool, not, nat_lt, pos, ◌+ℤ◌, ◌-ℤ◌, int_le, int_lt, unsigned_abs, List, []}
+use Rattle.std.specs.Prelude.{length, map, filter, slice_index, slice_index_or}
+use Rattle.std.specs.List.{flat_map, list_any, range_with_len}
+use Rattle.dpl_spec_split.specs.declared.Pt.{Pt}
+use Rattle.dpl_spec_split.specs.declared.Rect.{Rect}
+use Rattle.dpl_spec_split.specs.Squares.{d2}
+use Rattle.dpl_spec_split.specs.Zones.{at}
+use Rattle.dpl_tile.specs.Plans.{Planned}
+use Rattle.dpl_board.specs.Sheets.{Sheet}
+
+-- the numbers below n
+abbrev pub below : ℕ → List ℕ
+below n = range_with_len 0 n
+
+-- whether the rectangle has the square
+abbrev pub is_in : Rect → Pt → Bool
+is_in r p = (int_le r.x0 p.x && int_lt p.x r.x1) && (int_le r.y0 p.y && int_lt p.y r.y1)
+
+-- the squares of a rectangle
+abbrev pub squares_of : Rect → List Pt
+squares_of r = filter (is_in r) (flat_map (λ j. map (λ i. at (r.x0 +ℤ pos i) (r.y0 +ℤ pos j)) (below (unsigned_abs (r.x1 -ℤ r.x0)))) (below (unsigned_abs (r.y1 -ℤ r.y0))))
+
+abbrev pub all_squares : List Rect → List Pt
+all_squares slabs = flat_map squares_of slabs
+
+-- whether some square of the first in the cell is closer than rule to some square of the second
+abbrev pub is_near_in : ℕ → Rect → List Rect → List Rect → Bool
+is_near_in rule cell a b = list_any (λ p. is_in cell p && list_any (λ q. nat_lt (d2 p q) (rule * rule)) (all_squares b)) (all_squares a)
+
+abbrev pub part_of : Planned → ℕ → List Rect
+part_of plan k = slice_index_or plan.parts k []
+
+-- whether a pair of pieces, smaller number first, is a conflict by the squares in the cell
+abbrev pub is_conflict_in : Planned → Rect → ℕ × ℕ → Bool
+is_conflict_in plan cell e =
+    (nat_lt e.0 e.1 && not (slice_index plan.owners e.0 == slice_index plan.owners e.1))
+    && (is_near_in plan.rule cell (part_of plan e.0) (part_of plan e.1) || is_near_in plan.rule cell (part_of plan e.1) (part_of plan e.0))
+
+-- the pairs of numbers below n, in order
+abbrev pub pairs_below : ℕ → List (ℕ × ℕ)
+pairs_below n = flat_map (λ (i : ℕ). map (λ (j : ℕ). (i, j)) (below n)) (below n)
+
+-- the conflicts by the squares in the cell
+abbrev pub conflicts_in : Planned → Rect → List (ℕ × ℕ)
+conflicts_in plan cell = filter (is_conflict_in plan cell) (pairs_below (length plan.parts))
+
+-- for each tile the conflicts by the squares in its cell
+abbrev pub sheet_of : Planned → Sheet
+sheet_of plan = map (conflicts_in plan) plan.cells

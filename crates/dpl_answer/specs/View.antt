@@ -1,0 +1,31 @@
+-- What is made of a layer, in the words of the definitions.
+use Rattle.std.specs.Prelude.{ℕ, List, length}
+use Rattle.dpl_spec_split.specs.declared.Rect.{Rect}
+use Rattle.dpl_spec_split.specs.Pieces.{Conflict}
+use Rattle.dpl_spec_split.specs.Graphs.{AreEdges, graph_of}
+use Rattle.dpl_spec_split.specs.Summary.{HasOddCycle}
+use Rattle.dpl_stars.specs.Levels.{AreEdgesBelow}
+use Rattle.dpl_orient.specs.Oriented.{IsEvenBelow}
+use Rattle.dpl_answer.specs.Conflicts.{SumsGraph}
+use Rattle.dpl_answer.specs.Flat.{Flat, Clashes, Paints, Painted as PaintedAs, Clash as ClashAs}
+use Rattle.dpl_answer.specs.declared.conflicts.Conflicts.{Conflicts}
+use Rattle.dpl_answer.specs.declared.conflicts.Conflicts.TheVariants.{Even, Odd}
+use Rattle.dpl_answer.specs.declared.decomposed.Painted.{Painted}
+use Rattle.dpl_answer.specs.declared.decomposed.Clash.{Clash}
+use Rattle.dpl_answer.specs.declared.decomposed.Decomposed.{Decomposed}
+use Rattle.dpl_answer.specs.declared.decomposed.Decomposed.TheVariants.{Masks, Cycle}
+
+abbrev pub painted_view : Painted → PaintedAs
+painted_view p = record { a = p.a; b = p.b; head = p.head; pieces = p.pieces; stitches = p.stitches }
+
+abbrev pub clash_view : Clash → ClashAs
+clash_view x = record { head = x.head; cycle = x.cycle; near = x.near }
+
+abbrev pub flat_view : Decomposed → Flat
+flat_view (Masks p) = Paints (painted_view p)
+flat_view (Cycle x) = Clashes (clash_view x)
+
+-- the summary of the conflict graph of pieces with these owners, if that has no odd cycle, or all its edges, if it has one
+abbrev pub AreConflictsOf : ℕ → List (List Rect) → List ℕ → Conflicts → Type 0
+AreConflictsOf rule parts owners (Even joined) = SumsGraph (Conflict rule parts owners) joined × IsEvenBelow (length parts) joined
+AreConflictsOf rule parts owners (Odd edges) = AreEdges (Conflict rule parts owners) edges.items × AreEdgesBelow (length parts) edges.items × HasOddCycle (graph_of edges.items)

@@ -1,0 +1,13 @@
+//! From a cut layer to its answer: first the conflicts of its pieces, then both masks with the lines of their certificate, or the reported cycle with its near squares.
+#![tactic(auto)]
+
+mod answer;
+mod conflicts;
+mod decomposed;
+mod job;
+mod lines;
+mod near;
+
+pub use answer::answer_of;
+pub use conflicts::{Conflicts, Sharing, conflicts_of};
+pub use decomposed::{Clash, Decomposed, Painted};

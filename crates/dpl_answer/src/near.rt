@@ -1,0 +1,58 @@
+//! Where the pieces of a cycle are near.
+ghost use Rattle.std.specs.Prelude.{◌<◌, ◌%◌, ◌+◌, ℕ, IfOk, length, slice_index};
+ghost use Rattle.std.specs.List.{AllByRecursion};
+ghost use Rattle.dpl_spec_split.specs.Squares.{AreNear};
+ghost use Rattle.dpl_spec_split.specs.Zones.{part_at};
+ghost use Rattle.dpl_cert.specs.Grammar.{IsNear};
+ghost use Rattle.dpl_nearest.specs.Nearest.{IsNearestPair};
+ghost use Rattle.dpl_answer.specs.Flat.{AreNearest};
+
+use dpl_base::Id;
+use dpl_cert::NearLine;
+use dpl_nearest::nearest;
+use dpl_piece::Pieces;
+use dpl_slabs::Slabs;
+use std::alloc::{AllocError, Global};
+
+/// The least pair of near squares of pieces `i` and `j`.
+fn near_line(
+    alloc: Global,
+    parts: &[Slabs],
+    i: usize,
+    j: usize,
+    rule: u32,
+) -> Result<NearLine, AllocError>
+    requires first { i < length parts.now }
+    requires second { j < length parts.now }
+    requires near { AreNear rule (part_at parts.now i) (part_at parts.now j) }
+    ensures nearest { IfOk result (λ line. IsNearestPair rule (part_at parts.now i) (part_at parts.now j) line.from line.to) }
+    ensures within { IfOk result (λ line. IsNear line) }
+{
+    let Some((from, to)) = nearest(alloc, parts[i].rects(), parts[j].rects(), rule)? else {
+        unreachable!()
+    };
+    Ok(NearLine { from, to })
+}
+
+/// For each piece of a cycle the least pair of near squares with the next one, the last with the first.
+pub(crate) fn near_lines(
+    alloc: Global,
+    pieces: &Pieces,
+    cycle: &[Id],
+    rule: u32,
+) -> Result<Vec<NearLine>, AllocError>
+    requires known { (k : ℕ) → k < length cycle.now → slice_index cycle.now k < length pieces.now.parts }
+    requires near { (k : ℕ) → k < length cycle.now → AreNear rule (part_at pieces.now.parts (slice_index cycle.now k)) (part_at pieces.now.parts (slice_index cycle.now ((k + 1) % length cycle.now))) }
+    ensures nearest { IfOk result (λ v. AreNearest rule pieces.now.parts cycle.now v.items) }
+    ensures within { IfOk result (λ v. AllByRecursion IsNear v.items) }
+{
+    let parts = pieces.parts().items();
+    let mut lines = Vec::new(alloc);
+    for k in 0..cycle.len() {
+        let piece = cycle[k];
+        let next = cycle[(k + 1) % cycle.len()];
+        let line = near_line(alloc, parts, piece as usize, next as usize, rule)?;
+        lines.push(line)?;
+    }
+    Ok(lines)
+}

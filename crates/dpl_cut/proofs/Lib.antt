@@ -1,0 +1,3 @@
+pub mod SameZones
+pub mod Cuts
+pub mod Keys

@@ -1,0 +1,105 @@
+//! A layer cut into pieces: its features, their stitch zones, and what the zones leave of the features.
+#![tactic(auto)]
+
+ghost use Rattle.std.specs.Prelude.{◌≡◌, ◌≤◌, IfOk, List};
+ghost use Rattle.dpl_spec_split.specs.declared.Rect.{Rect};
+ghost use Rattle.dpl_spec_split.specs.Squares.{Covers};
+ghost use Rattle.dpl_spec_split.specs.Components.{AreComponents};
+ghost use Rattle.dpl_piece.specs.Cutting.{AreFeatures, Completes};
+ghost use Rattle.dpl_cut.specs.Cutting.{HasPointKeys, IsBareCutOf, IsCutOf};
+
+use dpl_feature::features;
+use dpl_piece::{BarePieces, Pieces, bare_pieces};
+use dpl_slabs::{Parts, Slabs};
+use dpl_zone::zones;
+use std::alloc::{AllocError, Global};
+
+/// A layer cut into pieces.
+#[derive(Drop)]
+pub struct LayerCut {
+    /// How many features the layer has.
+    pub features: u64,
+    /// Their pieces, with those on the two sides of each zone.
+    pub pieces: Pieces,
+}
+
+/// A layer cut into pieces, before it is known which of them stand beside which zone.
+#[derive(Drop)]
+pub struct BareLayerCut {
+    /// How many features the layer has.
+    pub features: u64,
+    /// Their pieces.
+    pub pieces: BarePieces,
+}
+
+impl BareLayerCut {
+    /// The same, with the pieces on the two sides of each zone.
+    ///
+    /// The error: out of memory.
+    pub fn completed(self, alloc: Global) -> Result<LayerCut, AllocError>
+        ensures features { IfOk result (λ c. c.features ≡ self.features) }
+        ensures pieces { IfOk result (λ c. Completes self.pieces c.pieces) }
+    {
+        let pieces = self.pieces.completed(alloc)?;
+        Ok(LayerCut {
+            features: self.features,
+            pieces,
+        })
+    }
+}
+
+/// The features of a layer, cut at the zones where a stitch may stand: `rule` is how far apart features are on one mask, `overlap` how long a stitch is, both in database units. The layer is let go as soon as its features are known.
+///
+/// The error: out of memory.
+pub fn cut_of(
+    alloc: Global,
+    layer: Slabs,
+    rule: u32,
+    overlap: u32,
+) -> Result<BareLayerCut, AllocError>
+    requires { 1 ≤ overlap }
+    ensures cut { IfOk result (IsBareCutOf rule overlap (Covers layer)) }
+    ensures keys { IfOk result HasPointKeys }
+{
+    let features = features(alloc, &layer)?;
+    drop(layer);
+    cut_features(alloc, features, rule, overlap)
+}
+
+/// The features of a layer that is needed afterwards, cut as by `cut_of`, with the pieces on the two sides of each zone.
+///
+/// The error: out of memory.
+pub fn cut_within(
+    alloc: Global,
+    layer: &Slabs,
+    rule: u32,
+    overlap: u32,
+) -> Result<LayerCut, AllocError>
+    requires { 1 ≤ overlap }
+    ensures { IfOk result (IsCutOf rule overlap (Covers layer.now)) }
+{
+    let features = features(alloc, layer)?;
+    let cut = cut_features(alloc, features, rule, overlap)?;
+    cut.completed(alloc)
+}
+
+/// Features, cut at their zones.
+fn cut_features(
+    alloc: Global,
+    features: Parts,
+    rule: u32,
+    overlap: u32,
+) -> Result<BareLayerCut, AllocError>
+    requires overlap { 1 ≤ overlap }
+    requires features { AreFeatures features }
+    ensures cut { (layer : List Rect) → AreComponents (Covers layer) features → IfOk result (IsBareCutOf rule overlap (Covers layer)) }
+    ensures keys { IfOk result HasPointKeys }
+{
+    let zones = zones(alloc, &features, rule, overlap)?;
+    let count = features.items().len() as u64;
+    let pieces = bare_pieces(alloc, features, zones)?;
+    Ok(BareLayerCut {
+        features: count,
+        pieces,
+    })
+}

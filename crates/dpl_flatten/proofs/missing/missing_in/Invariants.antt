@@ -1,8 +1,0 @@
-use Rattle.std.proofs.Common.{take}
-use Rattle.dpl_spec_format.specs.Tree.{elements_at}
-use Rattle.dpl_spec_layout.specs.Faults.{IsMissing}
-use Rattle.dpl_flatten.specs.Least.{IsLeastOf, Among}
-use Rattle.dpl_flatten.proofs.missing.missing_in.Given as goal
-
-abbrev pub invariant-loop-element : goal.invariant-loop-element
-invariant-loop-element l = IsLeastOf (Among l.structure (take l.element-index (elements_at l.lib l.structure)) (IsMissing l.lib)) l.first

@@ -1,5 +1,0 @@
-use Rattle.dpl_graph.specs.Growing.{reached_count, IsGrown}
-use Rattle.dpl_graph.proofs.levels_of.Given as goal
-
-abbrev pub invariant-loop-v : goal.invariant-loop-v
-invariant-loop-v l = IsGrown l.edges l.n l.v l.v (reached_count l.reached) l.reached

@@ -1,4 +1,0 @@
-pub mod Levels
-pub mod Laws
-pub mod Arcs
-pub mod Growing

@@ -1,5 +1,0 @@
-use Rattle.dpl_job.proofs.Sheeting.{is-sheet}
-use Rattle.dpl_job.proofs.EdgeJobJob.tiles.Goals as goal
-
-pub returns-clause-edges : goal.returns-clause-edges
-returns-clause-edges c = is-sheet c.args.self.now.plan

@@ -1,4 +1,0 @@
-pub mod Members
-pub mod Nearness
-pub mod Pairs
-pub mod Sheeting

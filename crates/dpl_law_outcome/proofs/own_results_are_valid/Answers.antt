@@ -1,5 +1,0 @@
-use Rattle.dpl_law_outcome.proofs.Own.{painted-valid, clash-valid}
-use Rattle.dpl_law_outcome.proofs.own_results_are_valid.Goals as goal
-
-pub returns : goal.returns
-returns c = record { painted = painted-valid; clash = clash-valid }

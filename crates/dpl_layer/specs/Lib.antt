@@ -1,0 +1,4 @@
+pub mod Naming
+pub mod Reading
+pub mod LayerFaults
+pub mod View

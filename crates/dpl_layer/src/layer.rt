@@ -1,0 +1,113 @@
+//! The layer of a layout.
+ghost use Rattle.std.specs.Prelude.{◌≡◌, ◌<◌, ◌≤◌, ℕ, IfErr, IfOk, List, Some, length};
+ghost use Rattle.dpl_layer.specs.Reading.{Choice, HasDrawing, HasDrawingIn, IsLayout, front_of, limit};
+ghost use Rattle.dpl_layer.specs.View.{IsLayerFault, IsLayerFaultIn, choice_view, layer_view};
+
+use crate::fault::LayerFault;
+use dpl_flatten::{Drawing, Layer as ChosenLayer, draw, top_of};
+use dpl_slabs::Slabs;
+use dpl_syntax::{Library, read_library};
+use std::alloc::{AllocError, Global};
+
+/// What is taken of a layout.
+#[derive(Clone, Copy, Debug)]
+pub struct LayerChoice<'a> {
+    /// The name of the top structure. Where none is named, the top is the structure that no reference names.
+    pub top: Option<&'a str>,
+    /// The layer's number in the file.
+    pub layer: u16,
+    /// The data type of the boundaries and paths that are taken of the layer.
+    pub datatype: u16,
+}
+
+/// What is read of a layout.
+#[derive(Drop)]
+pub struct Layer {
+    /// The records of the file before the elements of the top structure.
+    pub front: Vec<u8>,
+    /// The unit squares of the layer, a database unit wide, as canonical slabs.
+    pub slabs: Slabs,
+}
+
+/// The records of the file before the elements of the top structure, and a drawing of the layer.
+#[derive(Drop)]
+struct Shapes {
+    front: Vec<u8>,
+    drawing: Drawing,
+}
+
+/// The squares of the chosen layer of a file of at most 268,435,456 bytes. The bytes are let go before the layer is laid out and swept.
+///
+/// The error is the first fault of the layout, or out of memory.
+pub fn layer_of(alloc: Global, choice: &LayerChoice, bytes: Vec<u8>) -> Result<Layer, LayerFault>
+    requires { length bytes.items ≤ limit }
+    ensures layer { IfOk result (λ l. IsLayout (choice_view choice.now) bytes.items (layer_view l)) }
+    ensures fault { IfErr result (IsLayerFault (choice_view choice.now) bytes.items) }
+{
+    let shapes = shapes_of(alloc, choice, bytes.as_slice())?;
+    drop(bytes);
+    swept(alloc, shapes)
+}
+
+/// The squares of the chosen layer of at most 268,435,456 bytes that are read again afterwards.
+///
+/// The error is the first fault of the layout, or out of memory.
+pub fn layer_within(alloc: Global, choice: &LayerChoice, bytes: &[u8]) -> Result<Layer, LayerFault>
+    requires { length bytes.now ≤ limit }
+    ensures layer { IfOk result (λ l. IsLayout (choice_view choice.now) bytes.now (layer_view l)) }
+    ensures fault { IfErr result (IsLayerFault (choice_view choice.now) bytes.now) }
+{
+    let shapes = shapes_of(alloc, choice, bytes)?;
+    swept(alloc, shapes)
+}
+
+/// The shapes of the chosen layer, or the first fault of the layout.
+fn shapes_of(alloc: Global, choice: &LayerChoice, bytes: &[u8]) -> Result<Shapes, LayerFault>
+    requires { length bytes.now ≤ limit }
+    ensures shapes { IfOk result (λ s. HasDrawing (choice_view choice.now) bytes.now s.front.items s.drawing) }
+    ensures fault { IfErr result (IsLayerFault (choice_view choice.now) bytes.now) }
+{
+    let lib = read_library(alloc, bytes)?;
+    shapes_in(alloc, choice, &lib)
+}
+
+/// The shapes of the layer of a library, or its first fault.
+fn shapes_in(alloc: Global, choice: &LayerChoice, lib: &Library<'_>) -> Result<Shapes, LayerFault>
+    ensures shapes { IfOk result (λ s. HasDrawingIn (choice_view choice.now) lib.now s.front.items s.drawing) }
+    ensures fault { IfErr result (IsLayerFaultIn (choice_view choice.now) lib.now) }
+{
+    let top = top_of(alloc, lib, choice.top)?;
+    let front = front(alloc, lib, top)?;
+    let chosen = ChosenLayer {
+        layer: choice.layer,
+        datatype: choice.datatype,
+    };
+    let drawing = draw(alloc, lib, top, chosen)?;
+    Ok(Shapes { front, drawing })
+}
+
+/// The squares that shapes cover. The drawing is let go once its loops are there, and these before they are swept.
+fn swept(alloc: Global, shapes: Shapes) -> Result<Layer, LayerFault>
+    ensures layer { (v : Choice) (bytes : List ℕ) → HasDrawing v bytes shapes.front.items shapes.drawing → IfOk result (λ l. IsLayout v bytes (layer_view l)) }
+    ensures fault { (v : Choice) (bytes : List ℕ) → HasDrawing v bytes shapes.front.items shapes.drawing → IfErr result (IsLayerFault v bytes) }
+{
+    let Shapes { front, drawing } = shapes;
+    let loops = drawing.loops(alloc)?;
+    let slabs = Slabs::of_loops(alloc, loops)?;
+    Ok(Layer { front, slabs })
+}
+
+/// The records before the elements of a structure, one behind the other.
+fn front(alloc: Global, lib: &Library<'_>, top: u32) -> Result<Vec<u8>, AllocError>
+    requires { top < length lib.now.structures }
+    ensures { IfOk result (λ v. front_of lib.now top ≡ Some v.items) }
+{
+    let frame = lib.frame(top);
+    let mut front = Vec::from_slice(alloc, frame.header)?;
+    front.extend_from_slice(frame.bgnlib)?;
+    front.extend_from_slice(frame.libname)?;
+    front.extend_from_slice(frame.units)?;
+    front.extend_from_slice(frame.bgnstr)?;
+    front.extend_from_slice(frame.strname)?;
+    Ok(front)
+}

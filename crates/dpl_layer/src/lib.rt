@@ -1,0 +1,8 @@
+//! From the bytes of a file to the squares of one layer, or to the first fault of the layout.
+#![tactic(auto)]
+
+mod fault;
+mod layer;
+
+pub use fault::LayerFault;
+pub use layer::{Layer, LayerChoice, layer_of, layer_within};

@@ -1,6 +1,0 @@
-use Rattle.std.proofs.Common.{◌≡◌, ◌++◌, map, take, drop}
-use Rattle.dpl_spec_split.specs.Zones.{turned_rect}
-use Rattle.dpl_slabs.proofs.combine.exchange.Given as goal
-
-abbrev pub invariant-loop-i : goal.invariant-loop-i
-invariant-loop-i l = l.rects ≡ map turned_rect (take l.i l.initial.rects) ++ drop l.i l.initial.rects

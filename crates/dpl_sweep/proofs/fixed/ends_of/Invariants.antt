@@ -1,7 +1,0 @@
-use Rattle.std.proofs.Common.{take}
-use Rattle.std.specs.List.{All}
-use Rattle.dpl_sweep.specs.Fixed.{HasEnds}
-use Rattle.dpl_sweep.proofs.fixed.ends_of.Given as goal
-
-abbrev pub invariant-loop-edge : goal.invariant-loop-edge
-invariant-loop-edge l = All (HasEnds l.ends.items) (take l.edge-index l.edges)

@@ -1,0 +1,19 @@
+use Rattle.std.proofs.Common.{get_or, refl, rules, w32, FitsSigned}
+use Rattle.std.specs.Prelude.{pos}
+use Rattle.std.proofs.lemmas.Int.{to_z-of_z}
+use Rattle.dpl_sweep.specs.declared.edge.Edge.{Edge}
+use Rattle.dpl_sweep.specs.declared.run.Run.{Run}
+use Rattle.dpl_sweep.proofs.StepLaws.{first-right, ready-start}
+use Rattle.dpl_sweep.proofs.spans.pieces_by_spans.Goals as goal
+
+abbrev zero : Edge
+zero = record { x = pos 0; y0 = pos 0; y1 = pos 0; a = pos 0; b = pos 0 }
+
+pub loop-i-init : goal.loop-i-init
+loop-i-init c =
+    let first : FitsSigned w32 (get_or c.args.edges.now 0 zero).x = search rules in
+    let x = to_z-of_z w32 (get_or c.args.edges.now 0 zero).x first in
+    let start : Run = record { from = (get_or c.args.edges.now 0 zero).x; at = (get_or c.args.edges.now 0 zero).x; a = pos 0; b = pos 0 } in
+    let items = rw x at (c.in_ok-runs.ensures.items_if_clones_equal (λ y h. search rules)) in
+    rw (c.new-pieces.ensures.items, items) (ready-start c.args.rule c.args.edges.now start c.args.spans.now
+    (record { none = refl; a = refl; b = refl }) (first-right c.args.edges.now zero c.requires.rise))

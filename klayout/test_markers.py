@@ -1,0 +1,259 @@
+"""Tests of markers.py, without KLayout: small layouts and certificates, and what is drawn of them."""
+import os
+import re
+import struct
+import subprocess
+import tempfile
+import unittest
+import xml.etree.ElementTree as xml
+
+import markers
+
+NANOMETRE = bytes.fromhex("3E4189374BC6A7F03944B82FA09B5A54")
+STITCH = """dpl 1
+rule 30 overlap 10
+features 3 pieces 4 zones 2 stitches 2
+piece 0 A 0 0
+piece 1 B 205 0
+piece 2 B -7 40
+piece 3 A 350 40
+stitch 97 180 107 200 0 1
+stitch -10 -20 -5 0 2 3
+end
+"""
+CYCLE = """dpl 1
+rule 30 overlap 10
+features 3 pieces 9 zones 6
+cycle 3
+piece 0 0 0
+piece 5 20 0
+piece 8 10 20
+near 0 0 20 0
+near 20 0 10 20
+near 10 20 0 0
+end
+"""
+FAULT = "dpl 1\nfault %s %d\nend\n"
+
+
+def record(kind, data_type=0, body=b""):
+    return struct.pack(">HBB", 4 + len(body), kind, data_type) + body
+
+
+def text(kind, name):
+    return record(kind, 6, name.encode() + b"\0" * (len(name.encode()) % 2))
+
+
+def points(*both):
+    return record(0x10, 3, struct.pack(">%di" % (2 * len(both)), *(v for p in both for v in p)))
+
+
+def boundary(*corners):
+    return record(0x08) + record(0x0D, 2, b"\0\1") + record(0x0E, 2, b"\0\0") + points(*corners) + record(0x11)
+
+
+def rectangle(x0, y0, x1, y1):
+    return boundary((x0, y0), (x1, y0), (x1, y1), (x0, y1), (x0, y0))
+
+
+def path(width, kind, *way):
+    return (record(0x09) + record(0x0D, 2, b"\0\1") + record(0x0E, 2, b"\0\0") + record(0x21, 2, struct.pack(">H", kind))
+            + record(0x0F, 3, struct.pack(">i", width)) + points(*way) + record(0x11))
+
+
+def reference(name, at, flags=0, magnification=None, angle=None):
+    trans = record(0x1A, 1, struct.pack(">H", flags))
+    trans += record(0x1B, 5, bytes.fromhex(magnification)) if magnification else b""
+    trans += record(0x1C, 5, bytes.fromhex(angle)) if angle else b""
+    return record(0x0A) + text(0x12, name) + trans + points(at) + record(0x11)
+
+
+def array(name, columns, rows, *at):
+    return (record(0x0B) + text(0x12, name) + record(0x1A, 1, b"\0\0") + record(0x13, 2, struct.pack(">hh", columns, rows))
+            + points(*at) + record(0x11))
+
+
+def library(units=NANOMETRE, **structures):
+    data = record(0x00, 2, b"\2\x58") + record(0x01, 2, bytes(24)) + text(0x02, "LIB") + record(0x03, 5, units)
+    for name, elements in structures.items():
+        data += record(0x05, 2, bytes(24)) + text(0x06, name) + b"".join(elements) + record(0x07)
+    return data + record(0x04)
+
+
+class Markers(unittest.TestCase):
+    def setUp(self):
+        folder = tempfile.TemporaryDirectory()
+        self.addCleanup(folder.cleanup)
+        self.folder = folder.name
+
+    def build(self, layout, certificate, line=None, **options):
+        """The database of a layout and a certificate: category, cell and values of each marker."""
+        paths = [os.path.join(self.folder, name) for name in ("in.gds", "cert", "out.lyrdb")]
+        for name, content in zip(paths, (layout, certificate.encode())):
+            with open(name, "wb") as file:
+                file.write(content)
+        markers.build(*paths, line=line, **options)
+        items = xml.parse(paths[2]).getroot().find("items")
+        return [(item.find("category").text, item.find("cell").text, [v.text for v in item.find("values")])
+                for item in items]
+
+    def fault(self, layout, name, element):
+        """The values that are drawn for a fault of this element."""
+        (mark,) = self.build(layout, FAULT % (name, layout.index(element)))
+        self.assertEqual(mark[0], "fault")
+        return mark[1], mark[2][2:]
+
+    def test_stitches_are_boxes_with_the_numbers_of_their_pieces(self):
+        items = self.build(library(TOP=[]), STITCH, "done features 3 pieces 4 zones 2 stitches 2 a 1 b 1\n")
+        self.assertEqual(items, [
+            ("stitches", "TOP", ["text: 'stitch 0 between piece 0 (A) and piece 1 (B)'", "box: (0.097,0.18;0.107,0.2)"]),
+            ("stitches", "TOP", ["text: 'stitch 1 between piece 2 (B) and piece 3 (A)'", "box: (-0.01,-0.02;-0.005,0)"])])
+
+    @unittest.skipUnless(os.environ.get("DPL"), "DPL doesn't name the program")
+    def test_the_examples_as_dpl_splits_them(self):
+        examples = os.path.join(os.path.dirname(os.path.abspath(__file__)), "../examples")
+        for name, wanted in (("two-bars", []), ("conflict", ["cycle"] * 7), ("stitch", ["stitches"])):
+            source = os.path.join(examples, name + ".gds")
+            masks, certificate = (os.path.join(self.folder, n) for n in ("masks", "certificate"))
+            line = subprocess.run([os.environ["DPL"], "split", "--layer", "1", "--rule", "30", "--overlap", "10", source,
+                                   masks, certificate], stdout=subprocess.PIPE, check=False).stdout.decode()
+            with open(source, "rb") as layout, open(certificate, encoding="utf-8") as text:
+                items = self.build(layout.read(), text.read(), line)
+            self.assertEqual([category for category, _, _ in items], wanted)
+        self.assertEqual(items[0][2], ["text: 'stitch 0 between piece 4 (B) and piece 6 (A)'", "box: (0.097,0.18;0.107,0.2)"])
+
+    def test_a_cycle_is_a_closed_chain_and_then_its_pieces_and_near_pairs_in_order(self):
+        items = self.build(library(TOP=[]), CYCLE)
+        edges = [re.findall(r"[-0-9.]+,[-0-9.]+", value) for value in items[0][2][1:]]
+        self.assertTrue(all(before[1] == after[0] for before, after in zip(edges, edges[1:] + edges[:1])))
+        self.assertEqual([re.split("[:']", values[0])[2].strip() for _, _, values in items[1:]],
+                         [n for n in ("1 of 3", "2 of 3", "3 of 3") for _ in range(2)])
+        self.assertEqual(items[2][2], [
+            "text: '1 of 3: piece 0 and piece 5 are 0.019 µm apart, the rule is 0.03 µm'",
+            "edge: (0.001,0.0005;0.02,0.0005)", "box: (0,0;0.001,0.001)", "box: (0.02,0;0.021,0.001)"])
+
+    def test_micrometres_are_those_of_the_units(self):
+        units = NANOMETRE[:8] + bytes.fromhex("3B1AD7F29ABCAF48")  # 1e-7 m
+        items = self.build(library(units, TOP=[]), STITCH)
+        self.assertEqual(items[0][2][1], "box: (9.7,18;10.7,20)")
+
+    def test_broken_properties_are_at_their_squares(self):
+        for line, values in (
+                ("no Cover 5 -7", ["box: (0.005,-0.007;0.006,-0.006)"]),
+                ("no Overlap 0 0", ["box: (0,0;0.001,0.001)"]),
+                ("no SpacingA 0 19 0 49", ["box: (0,0.019;0.001,0.02)", "box: (0,0.049;0.001,0.05)",
+                                           "edge: (0.0005,0.02;0.0005,0.049)"]),
+                ("no Rules 40 10", []), ("no Counts 3 4 2", []), ("no WasFault Truncated 12", [])):
+            items = self.build(library(TOP=[]), STITCH, line)
+            self.assertEqual([items[0][0], items[0][2][0], items[0][2][1:]], ["broken", "text: '%s'" % line, values])
+            self.assertEqual(len(items), 3)
+
+    def test_a_broken_stitch_piece_or_place_of_a_cycle_is_found_in_the_certificate(self):
+        for certificate, line, value in (
+                (STITCH, "no Stitch 1", "box: (-0.01,-0.02;-0.005,0)"), (STITCH, "no Piece 2", "box: (-0.007,0.04;-0.006,0.041)"),
+                (CYCLE, "no Cycle 1", "edge: (0.02,0.001;0.011,0.02)")):
+            broken = [values for category, _, values in self.build(library(TOP=[]), certificate, line) if category == "broken"]
+            self.assertEqual(len(broken), 1)
+            self.assertIn(value, broken[0])
+
+    def test_a_slanted_boundary_shows_its_edge_and_its_points(self):
+        slanted = boundary((0, 0), (100, 0), (101, 20), (0, 20), (0, 0))
+        layout = library(TOP=[rectangle(0, 0, 5, 5), slanted])
+        self.assertEqual(self.fault(layout, "SlantedBoundary", slanted), ("TOP", [
+            "edge: (0.1,0;0.101,0.02)", "polygon: (0,0;0.1,0;0.101,0.02;0,0.02)"]))
+
+    def test_a_path_has_its_width_and_its_ends(self):
+        odd = path(7, 2, (0, 0), (100, 0))
+        self.assertEqual(self.fault(library(TOP=[odd]), "OddWidth", odd)[1],
+                         ["path: (0,0;0.1,0) w=0.007 bx=0.0035 ex=0.0035 r=false"])
+
+    def test_a_reference_is_drawn_where_it_places_its_structure(self):
+        turned = reference("SUB", (1000, 0), 0x8000, "4120000000000000", "425A000000000000")
+        layout = library(SUB=[rectangle(0, 0, 10, 20)], TOP=[turned])
+        self.assertEqual(self.fault(layout, "Magnified", turned)[1],
+                         ["polygon: (1,0;1,0.02;1.04,0.02;1.04,0)", "box: (0.999,-0.001;1.001,0.001)"])
+
+    def test_an_array_is_drawn_copy_by_copy_and_a_large_one_by_its_corners(self):
+        small = array("SUB", 2, 3, (0, 0), (251, 0), (0, 300))
+        values = self.fault(library(SUB=[rectangle(0, 0, 10, 20)], TOP=[small]), "BadArray", small)[1]
+        self.assertEqual([v for v in values if v.startswith("polygon")][3],
+                         "polygon: (0.1255,0.1;0.1355,0.1;0.1355,0.12;0.1255,0.12)")
+        self.assertEqual(len(values), 6 + 1)
+        large = array("SUB", 1000, 1000, (0, 0), (100000, 0), (0, 100000))
+        values = self.fault(library(SUB=[rectangle(0, 0, 10, 20)], TOP=[large]), "BadArray", large)[1]
+        self.assertEqual(values[3], "polygon: (99.9,99.9;99.91,99.9;99.91,99.92;99.9,99.92)")
+        self.assertEqual(len(values), 4 + 1)
+
+    def test_a_reference_over_a_deep_hierarchy_is_drawn(self):
+        cells = {"C%d" % i: [reference("C%d" % (i + 1), (1, 0)), reference("C%d" % (i + 1), (0, 0))] for i in range(3000)}
+        cells["C3000"] = [rectangle(0, 0, 10, 20)]
+        turned = reference("C0", (0, 0), 0, None, "422D000000000000")
+        values = self.fault(library(TOP=[turned], **cells), "AngleNotRight", turned)[1]
+        self.assertEqual(values[0].split(";")[2], "2.114249276,2.142533547")
+
+    def test_a_fault_below_the_top_is_in_its_own_structure(self):
+        slanted = boundary((0, 0), (9, 9), (0, 9), (0, 0))
+        layout = library(SUB=[slanted], TOP=[reference("SUB", (0, 0))])
+        self.assertEqual(self.fault(layout, "SlantedBoundary", slanted)[0], "SUB")
+
+    def test_what_is_missing_or_contains_itself_is_drawn_as_far_as_it_goes(self):
+        missing, back = reference("NONE", (3, 4)), reference("TOP", (0, 100))
+        self.assertEqual(self.fault(library(TOP=[missing]), "MissingStructure", missing)[1],
+                         ["box: (0.002,0.003;0.004,0.005)"])
+        layout = library(TOP=[rectangle(0, 0, 10, 10), reference("SUB", (50, 0))], SUB=[rectangle(0, 0, 5, 5), back])
+        self.assertEqual(len(self.fault(layout, "Recursion", back)[1]), 2)
+
+    def test_a_file_that_is_cut_short_shows_the_element_that_it_ends_in(self):
+        last = boundary((0, 0), (100, 0), (100, 20), (0, 20), (0, 0))
+        layout = library(TOP=[rectangle(0, 0, 5, 5), last])
+        cut = layout.index(last) + len(last) - 4
+        (mark,) = self.build(layout[:cut], FAULT % ("Truncated", cut))
+        self.assertEqual(mark[2][2:], ["polygon: (0,0;0.1,0;0.1,0.02;0,0.02)"])
+
+    def test_faults_without_a_place_are_told_in_words(self):
+        layout = library(ONE=[], TWO=[])
+        self.assertIn("ONE, TWO", self.build(layout, FAULT % ("ManyTops", 2))[0][2][1])
+        self.assertEqual(self.build(b"\x1f\x8b\x08", FAULT % ("Truncated", 0))[0][0], "fault")
+        self.assertEqual(len(self.build(layout, FAULT % ("TooManyPoints", 0))[0][2]), 1)
+
+    def test_what_check_refused(self):
+        slanted = boundary((0, 0), (9, 9), (0, 9), (0, 0))
+        layout = library(TOP=[slanted])
+        line = "SlantedBoundary %d" % layout.index(slanted)
+        self.assertIn("edge: (0,0;0.009,0.009)", self.build(layout, "no certificate", "refused in " + line)[0][2])
+        self.assertIn("--masks", self.build(library(TOP=[]), STITCH, "refused out " + line)[0][2][1])
+        masks = os.path.join(self.folder, "masks.gds")
+        with open(masks, "wb") as file:
+            file.write(layout)
+        mark = self.build(library(TOP=[]), STITCH, "refused out " + line, masks=masks)[0]
+        self.assertIn("edge: (0,0;0.009,0.009)", mark[2])
+        mark = self.build(library(TOP=[]), STITCH.replace("piece 1 B", "piece <1>"), "refused cert Line 5")[0]
+        self.assertEqual(mark[2][1], "text: 'piece <1> 205 0'")
+
+    def test_names_and_texts_are_escaped(self):
+        layout = library(**{"A<&>'\\\1": []})
+        self.assertEqual(self.build(layout, STITCH)[0][1], "A<&>'\\?")
+        self.assertEqual(markers.Pen.text("it's a \\"), "text: 'it\\'s a \\\\'")
+
+    def test_the_top_is_chosen_or_asked_for(self):
+        layout = library(ONE=[], TWO=[])
+        self.assertEqual(self.build(layout, STITCH, top="TWO")[0][1], "TWO")
+        for options in ({}, {"top": "THREE"}):
+            with self.assertRaisesRegex(markers.Problem, "TWO|THREE"):
+                self.build(layout, STITCH, **options)
+
+    def test_what_is_no_certificate_and_no_line_makes_no_database(self):
+        for certificate, place in ((STITCH[:-4], 10), (STITCH[:-1], 10), (STITCH.replace("A 0 0", "C 0 0"), 4),
+                                   ("dpl 9\n", 1), ("", 1), (CYCLE.replace("near 20", "near x"), 9)):
+            with self.assertRaisesRegex(markers.Problem, "line %d " % place):
+                self.build(library(TOP=[]), certificate)
+        for line in ("", "usage: dpl", "no Cover 5", "no Cover a b", "no Such 1", "refused in", "no Stitch 2"):
+            with self.assertRaises(markers.Problem):
+                self.build(library(TOP=[]), STITCH, line)
+        self.assertEqual(sorted(os.listdir(self.folder)), ["cert", "in.gds"])
+        with self.assertRaises(markers.Problem):
+            self.build(b"no layout", STITCH)
+
+
+if __name__ == "__main__":
+    unittest.main()

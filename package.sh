@@ -1,0 +1,121 @@
+#!/bin/sh
+# Makes packages of an installed dpl, for machines without the Rattle kit:
+# dpl-VERSION-x86_64.tar.gz and, where dpkg-deb is there, dpl_VERSION_amd64.deb.
+#
+# usage: sh package.sh [PROGRAM [FOLDER]]
+#
+# PROGRAM is the installed program; without it, the one in the folder bin of your home folder, where
+# install.sh puts it. The packages are put into FOLDER, or where you are. The licences of what is
+# linked into the program are taken from the kit that its command rt belongs to.
+set -eu
+top=$(cd "$(dirname "$0")" && pwd)
+program=${1:-$HOME/bin/dpl}
+folder=$(cd "${2:-.}" && pwd)
+version=$(cat "$top/VERSION")
+machine=$(uname -m)
+
+fail() {
+    echo "package.sh: $1" >&2
+    exit 1
+}
+
+[ -x "$program" ] || fail "no program $program: sh install.sh, or name the one that was installed"
+kit=$(readlink -f "$(command -v rt || true)")
+kit=$(dirname "$(dirname "$kit")")/rattle
+[ -d "$kit/std" ] || fail "the Rattle kit's command rt is not on the PATH, and licences are taken from the kit"
+ldd "$program" | grep '=>' | grep -v '=> /\(usr/\)\?lib' && fail "$program needs libraries of its own"
+
+# The crates of the kit that are linked in: those that crates.txt names, and those below them.
+linked="clap crossbeam_deque crossbeam_queue crossbeam_utils indexmap memchr smallvec strsim thiserror unicode"
+named=$(sed 's/.*://' "$top/crates.txt")
+for crate in $named; do
+    ls "$kit/$crate/LICENSE"* >/dev/null 2>&1 || continue
+    case " $linked " in *" $crate "*) ;; *) fail "the licence of $crate is not among those that are packed" ;; esac
+done
+
+work=$(mktemp -d)
+trap 'rm -rf "$work"' EXIT
+SOURCE_DATE_EPOCH=$(git -C "$top" log -1 --format=%ct 2>/dev/null || date +%s)
+export SOURCE_DATE_EPOCH
+
+# What both packages hold, below a prefix.
+tree=$work/tree
+mkdir -p "$tree/bin" "$tree/share/man/man1" "$tree/share/dpl/klayout" "$tree/share/doc/dpl/docs"
+cp "$program" "$tree/bin/dpl"
+strip "$tree/bin/dpl" 2>/dev/null || true
+sed "s/^\.Os\$/.Os \"dpl $version\"/" "$top/docs/dpl.1" >"$tree/share/man/man1/dpl.1"
+cp -R "$top/examples" "$tree/share/dpl/examples"
+for file in dpl.lym dpl.lyp menu.py markers.py; do
+    cp "$top/klayout/$file" "$tree/share/dpl/klayout/$file"
+done
+sed 's#\.\./docs/#../../doc/dpl/docs/#' "$top/klayout/README.md" >"$tree/share/dpl/klayout/README.md"
+cp "$top/README.md" "$tree/share/doc/dpl/README.md"
+cp "$top"/docs/*.md "$top"/docs/*.svg "$top"/docs/*.png "$tree/share/doc/dpl/docs/"
+{
+    echo "dpl $version. Its sources state no licence of their own."
+    echo "Linked into the program are crates of the Rattle kit that are ports of Rust crates, or hold"
+    echo "tables of Unicode, under these licences:"
+    for crate in $linked; do
+        for name in LICENSE-MIT LICENSE LICENSE-UNICODE; do
+            [ ! -f "$kit/$crate/$name" ] || { text=$kit/$crate/$name && break; }
+        done
+        printf '\n==== %s ====\n\n' "$crate"
+        cat "$text"
+    done
+} >"$tree/share/doc/dpl/copyright"
+find "$tree" -type d -exec chmod 755 {} +
+find "$tree" -type f -exec chmod 644 {} +
+chmod 755 "$tree/bin/dpl" "$tree/share/dpl/klayout/markers.py" "$tree/share/dpl/examples/cluster/"*.s*
+
+# The program must split an example before it is packed.
+said=$("$tree/bin/dpl" split --layer 1 --rule 30 --overlap 10 "$top/examples/two-bars.gds" "$work/out" "$work/cert")
+[ "$said" = "done features 2 pieces 2 zones 0 stitches 0 a 1 b 1" ] || fail "$program said of an example: $said"
+
+name=dpl-$version-$machine
+mv "$tree" "$work/$name"
+tar -C "$work" --sort=name --owner=0 --group=0 --numeric-owner --mtime="@$SOURCE_DATE_EPOCH" -cf - "$name" |
+    gzip -9n >"$folder/$name.tar.gz"
+echo "$folder/$name.tar.gz"
+
+command -v dpkg-deb >/dev/null 2>&1 || {
+    echo "package.sh: dpkg-deb isn't there, so no Debian package was made"
+    exit 0
+}
+root=$work/root
+mkdir -p "$root/DEBIAN" "$root/usr/lib/klayout/pymacros"
+cp -a "$work/$name/." "$root/usr"
+gzip -9n "$root/usr/share/man/man1/dpl.1"
+maintainer=$(git -C "$top" log -1 --format='%an <%ae>' 2>/dev/null || echo "dpl <root@localhost>")
+printf 'dpl (%s) unstable; urgency=low\n\n  * Packaged from its sources.\n\n -- %s  %s\n' \
+    "$version" "$maintainer" "$(date -uR -d "@$SOURCE_DATE_EPOCH")" | gzip -9n >"$root/usr/share/doc/dpl/changelog.gz"
+ln -s ../../../share/dpl/klayout/dpl.lym "$root/usr/lib/klayout/pymacros/dpl.lym"
+# The C library of the version that the program asks for, and the packages of its other libraries.
+libc=$(grep -ao 'GLIBC_[0-9.]*[0-9]' "$program" | sed 's/GLIBC_//' | sort -uV | tail -1)
+depends="libc6 (>= ${libc:-2.34})"
+for library in $(ldd "$program" | sed -n 's/.*=> \([^ ]*\) .*/\1/p'); do
+    package=$(dpkg -S "$library" 2>/dev/null || dpkg -S "/usr$library") || fail "no package has $library"
+    package=${package%%:*}
+    case $depends in *"$package"*) ;; *) depends="$depends, $package" ;; esac
+done
+cat >"$root/DEBIAN/control" <<CONTROL
+Package: dpl
+Version: $version
+Architecture: $(dpkg --print-architecture)
+Maintainer: $maintainer
+Installed-Size: $(du -sk "$root/usr" | cut -f1)
+Depends: $depends
+Recommends: python3
+Suggests: klayout
+Section: electronics
+Priority: optional
+Description: double-patterning mask decomposer
+ dpl splits one layer of a GDSII layout into two masks for double patterning,
+ with stitches, and writes a text certificate; or it writes an odd cycle of
+ conflicts, or the first fault of the file. What it answers is proved.
+ .
+ In KLayout the entry "Split into two masks (dpl)" of the menu Tools splits the
+ current layer and shows masks, stitches, conflicts and faults.
+CONTROL
+deb=$folder/dpl_${version}_$(dpkg --print-architecture).deb
+dpkg-deb --root-owner-group -Zxz --build "$root" "$deb" >/dev/null
+echo "$deb"

@@ -1,0 +1,155 @@
+#!/usr/bin/env python3
+"""Proves and builds the program dpl and the crates below it, side by side.
+
+usage: prove.py TOP
+
+TOP is the folder that holds crates.txt. A crate is begun once all that it stands on is proved, the one with the longest way
+above it first; as many go side by side as there are processors, and memory for. A line is printed as each is done.
+It ends with 0 where TOP/crates/dpl/out/dpl is there, else with 1, after what the prover said of the first crate that failed.
+
+A command of the kit locks the crate that it proves and all below it. So each of those that go side by side has a lane, a copy
+of the sources below TOP/out/lanes, to which the libraries below its crate are linked."""
+import os
+import shutil
+import subprocess
+import sys
+import time
+from concurrent.futures import FIRST_COMPLETED, ThreadPoolExecutor, wait
+
+PROGRAM = "dpl"
+# What the proof of a large crate takes of memory, in GB; smaller ones take a quarter of it.
+GB_EACH = 3
+
+
+def read_needs(top):
+    """The crates of crates.txt, each with those of them that it stands on."""
+    needs = {}
+    with open(os.path.join(top, "crates.txt"), encoding="utf-8") as lines:
+        for line in lines:
+            name, colon, rest = line.split("#")[0].partition(":")
+            if colon:
+                needs[name.split()[0]] = rest.split()
+    return {name: [need for need in rest if need in needs] for name, rest in needs.items()}
+
+
+def below(needs, name, found):
+    """Adds the crate and all that it stands on."""
+    if name not in found:
+        found.add(name)
+        for need in needs[name]:
+            below(needs, need, found)
+    return found
+
+
+def size_of(top, name):
+    """How much there is to prove, in bytes of source, definitions and proofs."""
+    total = 0
+    for part in ("src", "specs", "proofs"):
+        for folder, _, files in os.walk(os.path.join(top, "crates", name, part)):
+            total += sum(os.path.getsize(os.path.join(folder, file)) for file in files)
+    return total
+
+
+def ways(needs, sizes):
+    """How much is to be proved from each crate up to the program, along the longest way."""
+    above = {name: [other for other in needs if name in needs[other]] for name in needs}
+    known = {}
+
+    def way(name):
+        if name not in known:
+            known[name] = sizes[name] + max((way(other) for other in above[name]), default=0)
+        return known[name]
+
+    return {name: way(name) for name in needs}
+
+
+def side_by_side():
+    """How many crates are proved at a time."""
+    with open("/proc/meminfo", encoding="utf-8") as lines:
+        free = next(int(line.split()[1]) for line in lines if line.startswith("MemAvailable"))
+    return max(1, min(len(os.sched_getaffinity(0)), free // (GB_EACH * 1000 * 1000)))
+
+
+def link_tree(one, other):
+    """Gives the files of a folder second names in another one."""
+    shutil.copytree(one, other, copy_function=os.link, dirs_exist_ok=True)
+
+
+def open_lane(top, lane):
+    """Makes a lane: all sources, nothing that was proved."""
+    shutil.rmtree(lane, ignore_errors=True)
+    shutil.copytree(os.path.join(top, "crates"), os.path.join(lane, "crates"), ignore=shutil.ignore_patterns("out"))
+    for file in ("crates.txt", "HANDLES"):
+        shutil.copy(os.path.join(top, file), lane)
+
+
+def library(top, name):
+    """Where a proved library is kept."""
+    return os.path.join(top, "crates", name, "out", "rlib")
+
+
+def prove(top, lane, name, libraries):
+    """Proves and builds one crate over the libraries below it, in a lane; gives whether it was proved, and what was said."""
+    for other in libraries:
+        if not os.path.isdir(library(lane, other)):
+            link_tree(library(top, other), library(lane, other))
+    command = "run" if name == PROGRAM else "lib"
+    # Without words the program prints its usage and ends with 3, once it is proved and built.
+    ran = subprocess.run(
+        ["rt", command], cwd=os.path.join(lane, "crates", name), stdout=subprocess.PIPE, stderr=subprocess.STDOUT, text=True, check=False
+    )
+    made = os.path.join(lane, "crates", name, "out")
+    is_proved = os.access(os.path.join(made, PROGRAM), os.X_OK) if name == PROGRAM else ran.returncode == 0
+    if is_proved:
+        kept = os.path.join(top, "crates", name, "out")
+        shutil.rmtree(kept, ignore_errors=True)
+        link_tree(made, kept)
+    return is_proved, ran.stdout
+
+
+def left(sizes, done, seconds):
+    """How long is left, judged by what is done."""
+    rest = sum(sizes.values()) - sum(sizes[name] for name in done)
+    minutes = round(seconds * rest / max(1, sum(sizes[name] for name in done)) / 60)
+    return f", about {max(1, minutes)} min left" if rest and seconds > 60 else ""
+
+
+def prove_all(top, needs, lanes):
+    """Proves all crates; gives whether they were."""
+    sizes = {name: size_of(top, name) for name in needs}
+    way = ways(needs, sizes)
+    begun, done, tasks, free, start = set(), set(), {}, list(lanes), time.monotonic()
+    with ThreadPoolExecutor(len(lanes)) as pool:
+        while len(done) < len(needs):
+            ready = [name for name in needs if name not in begun and all(need in done for need in needs[name])]
+            for name in sorted(ready, key=lambda name: -way[name])[: len(free)]:
+                begun.add(name)
+                lane = free.pop()
+                tasks[pool.submit(prove, top, lane, name, below(needs, name, set()) - {name})] = (name, lane)
+            for task in wait(tasks, return_when=FIRST_COMPLETED).done:
+                (name, lane), (is_proved, said) = tasks.pop(task), task.result()
+                if not is_proved:
+                    print(f"{said}\n{name} was not proved; waiting for those that are under way", file=sys.stderr)
+                    return False
+                free.append(lane)
+                done.add(name)
+                print(f"  {len(done)} of {len(needs)}: {name}{left(sizes, done, time.monotonic() - start)}", flush=True)
+    return True
+
+
+def main():
+    top = os.path.abspath(sys.argv[1])
+    needs = read_needs(top)
+    needs = {name: needs[name] for name in below(needs, PROGRAM, set())}
+    lanes = [os.path.join(top, "out", "lanes", str(number)) for number in range(side_by_side())]
+    print(f"proving {len(needs)} crates, {len(lanes)} at a time", flush=True)
+    try:
+        for lane in lanes:
+            open_lane(top, lane)
+        return 0 if prove_all(top, needs, lanes) else 1
+    finally:
+        shutil.rmtree(os.path.join(top, "out"), ignore_errors=True)
+
+
+if __name__ == "__main__":
+    sys.exit(main())
