@@ -27,7 +27,7 @@ ldd "$program" | grep '=>' | grep -v '=> /\(usr/\)\?lib' && fail "$program needs
 
 # The crates of the kit that are linked in: those that crates.txt names, and those below them.
 linked="clap crossbeam_deque crossbeam_queue crossbeam_utils indexmap memchr smallvec strsim thiserror unicode"
-named=$(sed 's/.*://' "$top/crates.txt")
+named=$(sed 's/#.*//; s/.*://' "$top/crates.txt")
 for crate in $named; do
     ls "$kit/$crate/LICENSE"* >/dev/null 2>&1 || continue
     case " $linked " in *" $crate "*) ;; *) fail "the licence of $crate is not among those that are packed" ;; esac
