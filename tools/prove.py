@@ -88,7 +88,7 @@ def library(top, name):
     return os.path.join(top, "crates", name, "out", "rlib")
 
 
-def prove(top, lane, name, libraries):
+def prove(top, lane, name, libraries, jobs):
     """Proves and builds one crate over the libraries below it, in a lane; gives whether it was proved, and what was said."""
     for other in libraries:
         if not os.path.isdir(library(lane, other)):
@@ -96,7 +96,7 @@ def prove(top, lane, name, libraries):
     command = "run" if name == PROGRAM else "lib"
     # Without words the program prints its usage and ends with 3, once it is proved and built.
     ran = subprocess.run(
-        ["rt", command], cwd=os.path.join(lane, "crates", name), stdout=subprocess.PIPE, stderr=subprocess.STDOUT, text=True, check=False
+        ["rt", command, "--jobs", str(jobs)], cwd=os.path.join(lane, "crates", name), stdout=subprocess.PIPE, stderr=subprocess.STDOUT, text=True, check=False
     )
     made = os.path.join(lane, "crates", name, "out")
     is_proved = os.access(os.path.join(made, PROGRAM), os.X_OK) if name == PROGRAM else ran.returncode == 0
@@ -122,10 +122,13 @@ def prove_all(top, needs, lanes):
     with ThreadPoolExecutor(len(lanes)) as pool:
         while len(done) < len(needs):
             ready = [name for name in needs if name not in begun and all(need in done for need in needs[name])]
-            for name in sorted(ready, key=lambda name: -way[name])[: len(free)]:
+            chosen = sorted(ready, key=lambda name: -way[name])[: len(free)]
+            # Each job reads all that is below anew, so a crate gets a second one only where a processor would idle.
+            jobs = max(1, len(lanes) // max(1, len(tasks) + len(chosen)))
+            for name in chosen:
                 begun.add(name)
                 lane = free.pop()
-                tasks[pool.submit(prove, top, lane, name, below(needs, name, set()) - {name})] = (name, lane)
+                tasks[pool.submit(prove, top, lane, name, below(needs, name, set()) - {name}, jobs)] = (name, lane)
             for task in wait(tasks, return_when=FIRST_COMPLETED).done:
                 (name, lane), (is_proved, said) = tasks.pop(task), task.result()
                 if not is_proved:
