@@ -3,6 +3,7 @@ ghost use Rattle.std.specs.Prelude.{◌≡◌};
 ghost use Rattle.dpl_slabs.specs.Parts.{AreParts};
 
 use crate::slabs::Slabs;
+use std::alloc::AllocError;
 use std::marker::Model;
 
 /// A list of sets of squares, no two of which have a square in common. A contract sees the canonical slabs of each.
@@ -21,6 +22,17 @@ impl Model for Parts {
     ghost view = { λ p. p.sets.items };
 
     ghost invariant = { λ p. AreParts p.sets.items };
+}
+
+/// A copy has the same sets.
+impl Clone for Parts {
+    ghost is_clone = { λ parts copy. copy ≡ parts };
+
+    fn clone(&self) -> Result<Parts, AllocError> {
+        Ok(Parts {
+            sets: self.sets.clone()?,
+        })
+    }
 }
 
 impl Parts {

@@ -66,6 +66,16 @@ fn same(a: &Rect, b: &Rect) -> bool
     a.x0 == b.x0 && a.y0 == b.y0 && a.x1 == b.x1 && a.y1 == b.y1
 }
 
+/// A copy is the same set.
+impl Clone for Slabs {
+    ghost is_clone = { λ set copy. copy ≡ set };
+
+    fn clone(&self) -> Result<Slabs, AllocError> {
+        let rects = SmallVec::from_slice(*self.rects.allocator(), self.rects())?;
+        Ok(Slabs { rects })
+    }
+}
+
 impl Slabs {
     /// The canonical slabs.
     pub fn rects(&self) -> &[Rect]
