@@ -123,7 +123,7 @@ pub fn read_cert(alloc: Global, bytes: &[u8]) -> Result<Cert, CertFault>
     read_lines(alloc, bytes)
 }
 
-/// A text of the grammar is that of one certificate.
+/// No text is that of two certificates.
 pub fn one_certificate()
     ensures { (c d : Cert) (bytes : List ℕ) → IsText c bytes → IsText d bytes → c ≡ d }
 {}

@@ -1,4 +1,4 @@
--- A command line has one outcome, and masks are right.
+-- A command line has at most one outcome, and masks are right.
 use Rattle.std.specs.Prelude.{◌≡◌, ℕ, List, map, Option, Some}
 use Rattle.clap.specs.Walk.{Text}
 use Rattle.dpl_host.specs.Outside.{Files, Outside}
@@ -19,7 +19,7 @@ retiled (AsksSplit v) tile workers = AsksSplit (record v { tile = tile; workers 
 retiled (AsksCheck v) tile workers = AsksCheck v
 retiled (AsksDemo v) tile workers = AsksDemo (record v { tile = tile; workers = workers })
 
--- of the same files there is one outcome
+-- of the same files there is at most one outcome
 abbrev pub OneOutcome : Type 0
 OneOutcome = (request : RequestValues) (tile workers : ℕ) (files : Files) (x y : Outcome) → IsPlan (Some request) files x
     → IsPlan (Some (retiled request tile workers)) files y → x ≡ y

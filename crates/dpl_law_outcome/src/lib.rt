@@ -1,4 +1,4 @@
-//! Laws of the whole: a command has one outcome, masks are right, what is written is read back, and `check` finds it valid.
+//! Laws of the whole: a command has at most one outcome, masks are right, what is written is read back, and `check` finds it valid.
 #![tactic(auto)]
 
 mod outcome;

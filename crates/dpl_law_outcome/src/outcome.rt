@@ -1,4 +1,4 @@
-//! What a command does with its files is one: neither the size of the tiles nor the number of the workers shows in it.
+//! A command does at most one thing with its files: neither the size of the tiles nor the number of the workers shows in it.
 ghost use Rattle.dpl_law_outcome.specs.Laws.{OneOutcome, OneRun};
 
 /// For two command lines that differ in the values of `--tile` and `--workers` alone, the status, the files written and

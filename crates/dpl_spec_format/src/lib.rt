@@ -7,7 +7,7 @@ ghost use Rattle.dpl_spec_format.specs.Faults.{Fault};
 ghost use Rattle.dpl_spec_format.specs.Tree.{Library};
 ghost use Rattle.dpl_spec_format.specs.Layout.{Holds, IsFirstFault};
 
-/// A file holds one library or has one first fault, and not both.
+/// A file holds at most one library or has at most one first fault, and not both.
 pub fn one_reading()
     ensures library { (bytes : List ℕ) (lib other : Library) → Holds bytes lib → Holds bytes other → lib ≡ other }
     ensures fault { (bytes : List ℕ) (f g : Fault) → IsFirstFault bytes f → IsFirstFault bytes g → f ≡ g }

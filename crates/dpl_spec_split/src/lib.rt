@@ -30,12 +30,12 @@ pub struct Zone {
     pub feature: u64,
 }
 
-/// A set of squares has one canonical list of slabs.
+/// A set of squares has at most one canonical list of slabs.
 pub fn one_form()
     ensures { (rs ss : List Rect) → IsCanonical rs → IsCanonical ss → SameSquares (Covers rs) (Covers ss) → rs ≡ ss }
 {}
 
-/// A layer has one decomposition for a rule and an overlap.
+/// A layer has at most one decomposition for a rule and an overlap.
 pub fn one_decomposition()
     ensures { IsOneDecomposition }
 {}

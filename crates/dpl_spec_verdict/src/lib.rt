@@ -64,13 +64,13 @@ pub enum Verdict {
     },
 }
 
-/// Masks and their certificate have one verdict.
+/// Masks and their certificate have at most one verdict.
 pub fn one_verdict_of_masks()
     ensures { (rule overlap : ℕ) (layer a b : List Rect) (cert : Cert) (v w : Verdict)
         → IsVerdictOfMasks rule overlap layer a b cert v → IsVerdictOfMasks rule overlap layer a b cert w → v ≡ w }
 {}
 
-/// A certificate of a conflict has one verdict.
+/// A certificate of a conflict has at most one verdict.
 pub fn one_verdict_of_conflict()
     ensures { (rule overlap : ℕ) (layer : List Rect) (cert : Cert) (v w : Verdict)
         → IsVerdictOfConflict rule overlap layer cert v → IsVerdictOfConflict rule overlap layer cert w → v ≡ w }
