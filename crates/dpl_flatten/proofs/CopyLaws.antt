@@ -1,18 +1,11 @@
--- Spacings and copies.
-use Rattle.std.proofs.Common.{◌*◌, ◌/◌, ◌≡◌, ℕ, suc, ◌≤◌, ℤ, pos, negsuc, ◌+ℤ◌, ◌*ℤ◌, refl, unwrap_or, arith}
-use Rattle.std.specs.Prelude.{unsigned_abs, int_div}
+-- The copies of references.
+use Rattle.std.proofs.Common.{◌≡◌, ℕ, ℤ, pos, ◌+ℤ◌, ◌*ℤ◌, refl, unwrap_or, arith}
 use Rattle.std.proofs.lemmas.Int.{ints}
 use Rattle.dpl_spec_format.specs.Tree.{Sref, Aref, is_sref, is_aref}
 use Rattle.dpl_spec_layout.specs.Elements.{plain, point_in}
 use Rattle.dpl_walk.specs.declared.cells.Copies.{Copies}
-use Rattle.dpl_flatten.specs.Cells.{IsSingleCopy, IsArrayOfCopies, AreCopies}
-use Rattle.std.proofs.Math.Nat.{mul-div-le}
-
-pub quot_times : (a d : ℤ) → unsigned_abs d * unsigned_abs (int_div a d) ≤ unsigned_abs a
-quot_times (pos a) (pos b) = mul-div-le a b
-quot_times (pos a) (negsuc b) = let e : unsigned_abs (int_div (pos a) (negsuc b)) ≡ a / suc b = omega (arith, ints) in rw e (mul-div-le a (suc b))
-quot_times (negsuc a) (pos b) = let e : unsigned_abs (int_div (negsuc a) (pos b)) ≡ suc a / b = omega (arith, ints) in rw e (mul-div-le (suc a) b)
-quot_times (negsuc a) (negsuc b) = mul-div-le (suc a) (suc b)
+use Rattle.dpl_reference.specs.Copies.{IsSingleCopy, IsArrayOfCopies}
+use Rattle.dpl_flatten.specs.Cells.{AreCopies}
 
 still : (a : ℤ) (i j : ℕ) → (a +ℤ (pos i *ℤ pos 0)) +ℤ (pos j *ℤ pos 0) ≡ a
 still a i j = omega (arith, ints)

@@ -1,11 +1,10 @@
 -- What elements are refused for.
 use Rattle.std.proofs.Common.{◌≡◌, ⊎_elim}
 use Rattle.dpl_spec_elements.specs.Paths as paths
-use Rattle.dpl_spec_elements.specs.Paths.{PathElement, PathFault, IsFaultless}
+use Rattle.dpl_spec_elements.specs.declared.PathFault.{PathFault}
+use Rattle.dpl_spec_elements.specs.Paths.{PathElement, IsFaultless}
 use Rattle.dpl_spec_layout.specs.declared.ElementFault.{ElementFault}
-use Rattle.dpl_spec_layout.specs.declared.ElementFault.TheVariants.{AbsoluteTransform, Magnified, AngleNotRight, BadArray, SlantedBoundary}
-use Rattle.dpl_spec_layout.specs.declared.ElementFault.TheVariants.{RoundPath, BadPathType, OddWidth, SlantedPath, PathTurnsBack}
-use Rattle.dpl_spec_layout.specs.declared.ElementFault.TheVariants.{NegativeExtension}
+use Rattle.dpl_spec_layout.specs.declared.ElementFault.TheVariants.{AbsoluteTransform, Magnified, AngleNotRight, BadArray, SlantedBoundary, Path}
 use Rattle.std.proofs.Common.{ℕ, ◌+◌, ◌<◌, ◌≤◌, Bool, true, false, List, map, length, get_or, take, sym, ◌∙◌, arith}
 use Rattle.std.proofs.lemmas.Bool.{cases_lt}
 use Rattle.std.proofs.lemmas.List.{take_all}
@@ -24,18 +23,14 @@ use Rattle.dpl_spec_layout.specs.declared.Layer.{Layer}
 use Rattle.dpl_spec_layout.specs.Elements.{IsPathFault, IsRefusedFor}
 use Rattle.dpl_flatten.specs.declared.role.Role.{Role}
 use Rattle.dpl_flatten.specs.Roles.{IsFaultIn, IsRoleOf}
-use Rattle.dpl_flatten.specs.Drawn.{IsFaultBy, IsRefusal, IsTakenAt, HasRefusalAt}
+use Rattle.dpl_reference.specs.Faults.{IsFaultBy}
+use Rattle.dpl_flatten.specs.Drawn.{IsRefusal, IsTakenAt, HasRefusalAt}
 
 no_first : (p : PathElement) (g : PathFault) → IsFaultless p → paths.IsFirstFault p g → ⊥
 no_first p g clean f = ⊎_elim (λ w. f.drawn w) (λ none. none g f.there) clean
 
 pub no_path_fault : (p : PathElement) → IsFaultless p → (f : ElementFault) → IsPathFault p f → ⊥
-no_path_fault p clean RoundPath h = no_first p paths.Round clean h
-no_path_fault p clean BadPathType h = no_first p paths.BadType clean h
-no_path_fault p clean OddWidth h = no_first p paths.Odd clean h
-no_path_fault p clean SlantedPath h = no_first p paths.Slanted clean h
-no_path_fault p clean PathTurnsBack h = no_first p paths.TurnsBack clean h
-no_path_fault p clean NegativeExtension h = no_first p paths.Negative clean h
+no_path_fault p clean (Path f) h = no_first p f clean h
 no_path_fault p clean AbsoluteTransform h = h
 no_path_fault p clean Magnified h = h
 no_path_fault p clean AngleNotRight h = h

@@ -16,7 +16,7 @@ use Rattle.dpl_spec_elements.specs.Boundaries.{IsSlanted}
 use Rattle.dpl_spec_elements.specs.Paths.{same, heading, same_heading, segments_from, bar, bar_to, bars, square_round, half_of, past_end}
 use Rattle.dpl_spec_elements.specs.Paths.{rects_through, path_rects, path_of, corners_of, distinct, PathElement}
 use Rattle.dpl_shapes.specs.declared.fault.ShapeFault.{ShapeFault}
-use Rattle.dpl_shapes.specs.declared.fault.ShapeFault.TheVariants.{SlantedBoundary, RoundPath, BadPathType, OddWidth, SlantedPath, PathTurnsBack, NegativeExtension, NoMemory}
+use Rattle.dpl_shapes.specs.declared.fault.ShapeFault.TheVariants.{SlantedBoundary, Path, NoMemory}
 use Rattle.dpl_shapes.specs.Refusals.{RefusesBoundary, RefusesPath}
 use Rattle.dpl_shapes.specs.Strokes.{IsSegmentWithin}
 use Rattle.dpl_shapes.proofs.Members.{Contains-distinct}
@@ -148,22 +148,12 @@ path_within ps width kind begin end h w b e =
 pub only_memory : (ps : List Pt) (e : ShapeFault) → ¬ IsSlanted ps → RefusesBoundary ps e → e ≡ NoMemory
 only_memory ps SlantedBoundary h r = absurd (h r)
 only_memory ps NoMemory h r = refl
-only_memory ps RoundPath h r = absurd r
-only_memory ps BadPathType h r = absurd r
-only_memory ps OddWidth h r = absurd r
-only_memory ps SlantedPath h r = absurd r
-only_memory ps PathTurnsBack h r = absurd r
-only_memory ps NegativeExtension h r = absurd r
+only_memory ps (Path f) h r = absurd r
 
 pub only_path_memory : (p : PathElement) (e : ShapeFault) → ((f : ElementFault) → ¬ IsPathFault p f) → RefusesPath p e → e ≡ NoMemory
 only_path_memory p SlantedBoundary h r = absurd r
 only_path_memory p NoMemory h r = refl
-only_path_memory p RoundPath h r = absurd (h faults.RoundPath r)
-only_path_memory p BadPathType h r = absurd (h faults.BadPathType r)
-only_path_memory p OddWidth h r = absurd (h faults.OddWidth r)
-only_path_memory p SlantedPath h r = absurd (h faults.SlantedPath r)
-only_path_memory p PathTurnsBack h r = absurd (h faults.PathTurnsBack r)
-only_path_memory p NegativeExtension h r = absurd (h faults.NegativeExtension r)
+only_path_memory p (Path f) h r = absurd (h (faults.Path f) r)
 
 pub not_askew : (t : Trans) (unlaid : Type 0) → ((f : ElementFault) → ¬ IsReferenceFault t unlaid f) → ¬ IsTurnedAskew t.angle
 not_askew t unlaid h a = h faults.AngleNotRight (h faults.AbsoluteTransform, λ m. h faults.Magnified (h faults.AbsoluteTransform, m), a)

@@ -1,25 +1,20 @@
 -- What one structure draws, and the copies that it places.
-use Rattle.std.specs.Prelude.{◌≡◌, ◌≢◌, ℕ, ◌<◌, ◌⊎◌, Bool, ℤ, pos, ◌-ℤ◌, int_div, ◌^◌, unsigned_abs, slice_index, ◌++◌, ◌∷◌, [], map, length, List, Some, None}
+use Rattle.std.specs.Prelude.{◌≡◌, ◌≢◌, ℕ, ◌<◌, ◌⊎◌, Bool, ◌^◌, slice_index, ◌++◌, ◌∷◌, [], map, length, List, Some, None}
 use Rattle.std.specs.List.{All, Contains}
 use Rattle.dpl_spec_split.specs.declared.Pt.{Pt}
 use Rattle.dpl_spec_split.specs.Loops.{IsRectilinear, ArePointsWithin, AreLoopsWithin}
-use Rattle.dpl_spec_format.specs.Tree.{Library, Body, Trans, Element, elements_at}
+use Rattle.dpl_spec_format.specs.Tree.{Library, Body, Element, elements_at}
 use Rattle.dpl_spec_layout.specs.declared.Layer.{Layer}
 use Rattle.dpl_spec_layout.specs.declared.ElementFault.{ElementFault}
-use Rattle.dpl_spec_layout.specs.Elements.{loops_of, point_in, columns_of, rows_of, IsCopyMotion, reflects, AreTurns, IsRefusedFor}
+use Rattle.dpl_spec_layout.specs.Elements.{loops_of, columns_of, rows_of, IsCopyMotion, IsRefusedFor}
 use Rattle.dpl_spec_layout.specs.Structures.{target_of}
 use Rattle.dpl_flatten.specs.Totals.{IsBare, PlacesSome}
-use Rattle.dpl_flatten.specs.declared.copies.Orientation.{Orientation}
 use Rattle.dpl_walk.specs.declared.cells.Outline.{Outline}
 use Rattle.dpl_walk.specs.declared.cells.Copies.{Copies}
 use Rattle.dpl_walk.specs.declared.cells.Cell.{Cell}
-use Rattle.dpl_walk.specs.Cells.{copy_motion, IsSmallCopies, IsReady}
+use Rattle.dpl_walk.specs.Cells.{copy_motion, IsReady}
 use Rattle.dpl_walk.specs.Walk.{outlines_at, copies_at}
 use Rattle.dpl_links.specs.Graph.{IsMarked}
-
--- count equal spacings lie between two points
-abbrev pub spacing_of : Pt → Pt → ℤ → Pt
-spacing_of from to count = record { x = int_div (to.x -ℤ from.x) count; y = int_div (to.y -ℤ from.y) count }
 
 -- the copies of a reference
 pub record AreCopies (b : Body) (c : Copies) : Type 0 where
@@ -35,36 +30,6 @@ IsDrawn layer es o = (e : Element) × Contains es e × (o.at ≡ e.at) × Contai
 -- one of these elements is a reference with these copies
 abbrev pub IsPlaced : Library → List Element → Copies → Type 0
 IsPlaced lib es c = (e : Element) × Contains es e × (target_of lib e ≡ Some c.target) × AreCopies e.body c
-
--- the reflection and the turns of a transform
-pub record IsOrientation (t : Trans) (o : Orientation) : Type 0 where
-  pub reflect : o.reflect ≡ reflects t
-  pub turns : AreTurns t.angle o.turns
-  pub few : o.turns < 4
-
--- the one copy of a single reference
-pub record IsSingleCopy (t : Trans) (xy : List ℕ) (c : Copies) : Type 0 where
-  pub reflect : c.reflect ≡ reflects t
-  pub turns : AreTurns t.angle c.turns
-  pub few : c.turns < 4
-  pub origin : c.origin ≡ point_in xy 0
-  pub across : c.across ≡ record { x = pos 0; y = pos 0 }
-  pub up : c.up ≡ record { x = pos 0; y = pos 0 }
-  pub columns : c.columns ≡ 1
-  pub rows : c.rows ≡ 1
-  pub small : IsSmallCopies (2 ^ 31) c
-
--- the copies of an array
-pub record IsArrayOfCopies (t : Trans) (across_count up_count : ℤ) (xy : List ℕ) (c : Copies) : Type 0 where
-  pub reflect : c.reflect ≡ reflects t
-  pub turns : AreTurns t.angle c.turns
-  pub few : c.turns < 4
-  pub origin : c.origin ≡ point_in xy 0
-  pub across : c.across ≡ spacing_of (point_in xy 0) (point_in xy 1) across_count
-  pub up : c.up ≡ spacing_of (point_in xy 0) (point_in xy 2) up_count
-  pub columns : c.columns ≡ unsigned_abs across_count
-  pub rows : c.rows ≡ unsigned_abs up_count
-  pub small : IsSmallCopies (2 ^ 31) c
 
 -- what some elements draw and place; copies of what draws nothing may be left out, and those of what places no point are
 pub record IsCell (lib : Library) (layer : Layer) (es : List Element) (outlines : List Outline) (copies : List Copies) : Type 0 where

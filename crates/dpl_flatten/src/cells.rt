@@ -1,6 +1,6 @@
 //! What one structure draws on a layer, and the copies of other structures that it places.
 
-ghost use Rattle.std.specs.Prelude.{◌≡◌, ◌++◌, ◌<◌, ◌≤◌, ℕ, [], true, false, length, map, not, bit_and, ◌==◌, ◌∷◌, ◌^◌, List, Some, IfOk, OnOk, IfSome, IfNone};
+ghost use Rattle.std.specs.Prelude.{◌≡◌, ◌++◌, ◌<◌, ◌≤◌, ℕ, [], true, false, length, map, ◌∷◌, ◌^◌, List, Some, IfOk, OnOk};
 ghost use Rattle.std.specs.List.{All};
 ghost use Rattle.dpl_spec_split.specs.Loops.{IsRectilinear, AreLoopsWithin};
 ghost use Rattle.dpl_spec_elements.specs.Boundaries.{IsSlanted};
@@ -9,47 +9,27 @@ ghost use Rattle.dpl_spec_format.specs.Tree.{HasPoints, elements_at};
 ghost use Rattle.dpl_syntax.specs.Elements.{body_seen, element_seen, IsSized};
 ghost use Rattle.dpl_shapes.specs.declared.fault.ShapeFault.TheVariants.{NoMemory};
 ghost use Rattle.dpl_spec_layout.specs.declared.ElementFault.{ElementFault};
-ghost use Rattle.dpl_spec_layout.specs.Elements.{points_in, loops_of, AreTurns, IsTurnedAskew, IsPathFault, IsRefusedFor, reference_name};
+ghost use Rattle.dpl_spec_layout.specs.Elements.{points_in, loops_of, IsPathFault, IsRefusedFor, reference_name};
 ghost use Rattle.dpl_flatten.specs.Cells.{AreCopies, IsCopied, IsNoted, IsCell, AreCountedTargets, AreTaken, AreCells};
 ghost use Rattle.dpl_flatten.specs.Roles.{path_along};
 ghost use Rattle.dpl_walk.specs.Cells.{IsReady};
 ghost use Rattle.dpl_flatten.specs.Totals.{ceiling};
 ghost use Rattle.dpl_links.specs.Graph.{IsMarked};
 
-use crate::copies::{array_copies, single_copy};
 use crate::count::total_at;
 use crate::links::target;
 use crate::role::{PathStyle, Role, role_of};
 use crate::shapes::points_of;
 use dpl_base::{Listed, Loop};
-use dpl_reals::Real;
+use dpl_reference::{array_copies, single_copy};
 use dpl_shapes::{ShapeFault, boundary_loop, path_loops};
 use dpl_spec_layout::Layer;
 use dpl_syntax::{Body, Element, Library};
 use dpl_walk::{Cell, Copies, Outline};
 use std::alloc::{AllocError, Global};
 
-/// How many quarter turns ANGLE makes.
-pub(crate) fn turns_of(angle: Option<[u8; 8]>) -> Option<u8>
-    ensures turns { IfSome result (λ n. AreTurns angle n) }
-    ensures few { IfSome result (λ n. n < 4) }
-    ensures askew { IfNone result (IsTurnedAskew angle) }
-{
-    match angle {
-        None => Some(0),
-        Some(bytes) => Real::of(bytes).quarter_turns(),
-    }
-}
-
-/// Whether STRANS reflects.
-pub(crate) fn is_reflected(strans: u16) -> bool
-    ensures { result ≡ not (bit_and strans 32768 == 0) }
-{
-    strans & 0x8000 != 0
-}
-
 /// The fault of a shape that isn't refused: memory ran out.
-fn want_of_memory(fault: ShapeFault) -> AllocError
+fn out_of_memory(fault: ShapeFault) -> AllocError
     requires { fault ≡ NoMemory }
 {
     match fault {
@@ -67,7 +47,7 @@ fn boundary_outlines(alloc: Global, xy: &[u8]) -> Result<Vec<Loop>, AllocError>
 {
     let points = points_of(alloc, xy)?;
     match boundary_loop(alloc, points.as_slice()) {
-        Err(fault) => Err(want_of_memory(fault)),
+        Err(fault) => Err(out_of_memory(fault)),
         Ok(outline) => {
             let mut loops = Vec::with_capacity(alloc, 1)?;
             loops.push(outline)?;
@@ -92,7 +72,7 @@ fn path_outlines(alloc: Global, style: PathStyle, xy: &[u8]) -> Result<Vec<Loop>
         style.begin_ext as i64,
         style.end_ext as i64,
     ) {
-        Err(fault) => Err(want_of_memory(fault)),
+        Err(fault) => Err(out_of_memory(fault)),
         Ok(loops) => Ok(loops),
     }
 }

@@ -32,7 +32,7 @@ fn own_points(chosen: Layer, body: &Body<'_>) -> u64
 }
 
 /// How many copies a reference places, and 0 where an element is none.
-fn copies_of(body: &Body<'_>) -> u64
+fn copy_count(body: &Body<'_>) -> u64
     ensures value { result ≡ columns_of (body_seen body.now) * rows_of (body_seen body.now) }
     ensures small { result ≤ 2 ^ 30 }
 {
@@ -45,7 +45,7 @@ fn copies_of(body: &Body<'_>) -> u64
 }
 
 /// How many points an element places, where its reference leads to a structure with this total.
-fn points_of(lib: &Library<'_>, chosen: Layer, element: &Element<'_>, totals: &[u32]) -> u64
+fn element_points(lib: &Library<'_>, chosen: Layer, element: &Element<'_>, totals: &[u32]) -> u64
     requires { All (λ n. n ≤ ceiling) totals.now }
     ensures value { result ≡ points_by lib.now chosen (λ j. slice_index totals.now j) (element_seen element.now) }
     ensures small { result < 2 ^ 62 }
@@ -55,7 +55,7 @@ fn points_of(lib: &Library<'_>, chosen: Layer, element: &Element<'_>, totals: &[
         Some(number) => total_at(totals, number),
         None => 0,
     };
-    own + copies_of(&element.body) * below
+    own + copy_count(&element.body) * below
 }
 
 /// How many points a structure places, up to the ceiling.
@@ -66,7 +66,7 @@ fn total_of(lib: &Library<'_>, chosen: Layer, structure: u32, totals: &[u32]) ->
 {
     let mut total = 0u64;
     for element in lib.elements(structure) {
-        total = (total + points_of(lib, chosen, element, totals)).min(CEILING);
+        total = (total + element_points(lib, chosen, element, totals)).min(CEILING);
     }
     total as u32
 }

@@ -16,7 +16,6 @@ use dpl_base::Loop;
 use dpl_links::reach;
 
 mod cells;
-mod copies;
 mod count;
 mod drawing;
 mod faults;
@@ -24,7 +23,6 @@ mod first;
 mod links;
 mod missing;
 mod recursion;
-mod refs;
 mod refused;
 mod role;
 mod shapes;
@@ -32,7 +30,7 @@ mod top;
 
 pub use crate::drawing::Drawing;
 pub use crate::top::top_of;
-pub use dpl_spec_layout::{ElementFault, FlattenFault, Layer, TopFault};
+pub use dpl_spec_layout::{ElementFault, FlattenFault, Layer, PathFault, TopFault};
 use dpl_syntax::Library;
 use std::alloc::Global;
 

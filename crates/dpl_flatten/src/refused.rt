@@ -6,11 +6,12 @@ ghost use Rattle.dpl_spec_format.specs.Tree.{Element as TreeElement, elements_at
 ghost use Rattle.dpl_syntax.specs.Elements.{body_seen, element_seen, IsSized};
 ghost use Rattle.dpl_spec_layout.specs.Elements.{IsRefusedFor};
 ghost use Rattle.dpl_spec_layout.specs.Faults.{IsRefused};
-ghost use Rattle.dpl_flatten.specs.Drawn.{IsFaultBy, IsRefusal, IsRefusalWhere, IsRefusalAmong, IsRefusalOf, IsTakenAt, HasRefusalAt};
+ghost use Rattle.dpl_reference.specs.Faults.{IsFaultBy};
+ghost use Rattle.dpl_flatten.specs.Drawn.{IsRefusal, IsRefusalWhere, IsRefusalAmong, IsRefusalOf, IsTakenAt, HasRefusalAt};
 
-use crate::refs::{array_fault, single_fault};
 use crate::role::{Role, role_of};
 use crate::shapes::{boundary_fault, path_fault};
+use dpl_reference::{array_fault, single_fault};
 use dpl_spec_layout::{ElementFault, FlattenFault, Layer};
 use dpl_syntax::{Element, Library};
 use std::alloc::{AllocError, Global};

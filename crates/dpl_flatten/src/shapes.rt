@@ -3,12 +3,12 @@
 ghost use Rattle.std.specs.Prelude.{◌≡◌, ◌+◌, ◌*◌, ◌^◌, ◌≤◌, ◌%◌, ℤ, pos, length, unwrap_or, IfOk, OnOk};
 ghost use Rattle.dpl_spec_split.specs.Loops.{ArePointsWithin};
 ghost use Rattle.dpl_spec_layout.specs.Elements.{points_in, IsBoundaryFault, IsPathFault};
-ghost use Rattle.dpl_flatten.specs.Drawn.{IsFaultBy};
+ghost use Rattle.dpl_reference.specs.Faults.{IsFaultBy};
 ghost use Rattle.dpl_flatten.specs.Roles.{path_along};
 
-use crate::refs::point_at;
 use crate::role::PathStyle;
 use dpl_base::Pt;
+use dpl_reference::point_at;
 use dpl_shapes::{ShapeFault, check_path, is_rectilinear};
 use dpl_spec_layout::ElementFault;
 use std::alloc::{AllocError, Global};
@@ -55,12 +55,7 @@ pub(crate) fn path_fault(
         style.end_ext as i64,
     ) {
         Ok(()) => Ok(None),
-        Err(ShapeFault::RoundPath) => Ok(Some(ElementFault::RoundPath)),
-        Err(ShapeFault::BadPathType) => Ok(Some(ElementFault::BadPathType)),
-        Err(ShapeFault::OddWidth) => Ok(Some(ElementFault::OddWidth)),
-        Err(ShapeFault::SlantedPath) => Ok(Some(ElementFault::SlantedPath)),
-        Err(ShapeFault::PathTurnsBack) => Ok(Some(ElementFault::PathTurnsBack)),
-        Err(ShapeFault::NegativeExtension) => Ok(Some(ElementFault::NegativeExtension)),
+        Err(ShapeFault::Path(fault)) => Ok(Some(ElementFault::Path(fault))),
         Err(ShapeFault::NoMemory) => Err(AllocError),
         Err(ShapeFault::SlantedBoundary) => unreachable!(),
     }

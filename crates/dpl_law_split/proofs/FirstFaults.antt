@@ -1,4 +1,4 @@
--- The library of a file has one first fault below its top, or none.
+-- The library of a file has at most one first fault below its top.
 use Rattle.std.proofs.Common.{◌≡◌, ◌≢◌, ℕ, List, refl, sym, ap, ◌∙◌, subst, arith}
 use Rattle.dpl_spec_format.specs.Tree.{Library, Element}
 use Rattle.dpl_spec_format.specs.Layout.{Holds}

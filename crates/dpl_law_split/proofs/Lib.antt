@@ -3,6 +3,7 @@ pub mod Cover
 pub mod Apart
 pub mod Overlap
 pub mod Tops
+pub mod SomeTop
 pub mod Offsets
 pub mod ElementFaults
 pub mod FirstFaults

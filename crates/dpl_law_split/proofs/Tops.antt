@@ -1,4 +1,4 @@
--- A library has one top, or one reason why it has none.
+-- A library has at most one top, or at most one reason why it has none.
 use Rattle.std.proofs.Common.{◌≡◌, ◌≢◌, ℕ, ◌<◌, List, [], ◌∷◌, length, Option, Some, None, sym, refl, ap, ◌∙◌, arith}
 use Rattle.dpl_spec_format.specs.Tree.{Library}
 use Rattle.dpl_spec_layout.specs.declared.TopFault.{TopFault}

@@ -1,7 +1,7 @@
 //! What follows for the masks of a layer: they cover it, keep its features apart, and overlap at stitches alone.
 #![tactic(auto)]
 
-ghost use Rattle.dpl_law_split.specs.Faults.{FaultlessOrFault, OneFirstFault, OneTop, OneTopFault, TopOrFault};
+ghost use Rattle.dpl_law_split.specs.Faults.{FaultlessOrFault, OneFirstFault, OneTop, OneTopFault, SomeTop, TopOrFault};
 ghost use Rattle.dpl_law_split.specs.Masks.{MasksCover, MasksKeepApart, MasksOverlapAtStitches};
 
 /// A square is on one of the masks exactly where it is in the layer.
@@ -19,14 +19,15 @@ pub fn masks_overlap_at_stitches()
     ensures { MasksOverlapAtStitches }
 {}
 
-/// A library has one top, or one reason why it has none, and not both.
+/// A library has exactly one top, or exactly one reason why it has none, and not both.
 pub fn one_top()
+    ensures some { SomeTop }
     ensures top { OneTop }
     ensures fault { OneTopFault }
     ensures apart { TopOrFault }
 {}
 
-/// The library of a file has one first fault below its top, or none.
+/// The library of a file has at most one first fault below its top, and none where its layer has no fault.
 pub fn one_first_fault()
     ensures fault { OneFirstFault }
     ensures apart { FaultlessOrFault }

@@ -14,11 +14,12 @@ use Rattle.dpl_spec_format.specs.Tree.{Frame, Library, Structure, frame_of}
 use Rattle.dpl_spec_split.specs.Loops.{SomeLoopCovers}
 use Rattle.dpl_spec_layout.specs.declared.Layer.{Layer as ChosenLayer}
 use Rattle.dpl_spec_layout.specs.declared.FlattenFault.{FlattenFault}
-use Rattle.dpl_spec_layout.specs.declared.FlattenFault.TheVariants as flatten
 use Rattle.dpl_spec_layout.specs.Faults.{IsFirstFault}
 use Rattle.dpl_flatten.specs.Drawing.{Drawn, AreLoopsOf, IsDrawingOf}
-use Rattle.dpl_layer.specs.Reading.{Choice, HasDrawing, IsLayout, Layer, chosen, frame_bytes, front_of}
-use Rattle.dpl_layer.specs.LayerFaults.{of_flatten}
+use Rattle.dpl_cert.specs.declared.name.Name.{Name}
+use Rattle.dpl_layer.specs.Naming.{flatten_name}
+use Rattle.dpl_layer.specs.Reading.{Choice, Faulty, HasDrawing, IsLayout, Layer, chosen, frame_bytes, copied_of}
+use Rattle.dpl_layer.specs.LayerFaults.{of_named}
 use Rattle.dpl_layer.specs.View.{IsLayerFault}
 
 -- six parts put one behind another
@@ -35,10 +36,10 @@ found : (lib : Library) (o : Option Structure) (s : Structure) (f : Frame) (byte
 found lib None s f bytes is h e = cc
 found lib (Some t) s f bytes is h e = ap Some (ap frame_bytes (sym h) ∙ sym e)
 
-pub fronted : (lib : Library) (top : ℕ) (f : Frame) (bytes : List ℕ) → top < length lib.structures
+pub frame_copied : (lib : Library) (top : ℕ) (f : Frame) (bytes : List ℕ) → top < length lib.structures
     → IfSome (slice_get lib.structures top) (λ s. f ≡ frame_of lib s) → bytes ≡ frame_bytes f
-    → front_of lib top ≡ Some bytes
-fronted lib top f bytes within h e = elim (slice_get_cases lib.structures top).1 [
+    → copied_of lib top ≡ Some bytes
+frame_copied lib top f bytes within h e = elim (slice_get_cases lib.structures top).1 [
   | inl there ↦ found lib (slice_get lib.structures top) there.0 f bytes there.2 h e
   | inr past ↦ absurd (omega (arith, within, past.0))
 ]
@@ -48,31 +49,28 @@ pub slabs_same : (a b : Region) (rs : List Rect) → AreSlabsOf a rs → ((p : P
 slabs_same a b rs s same = record { canonical = s.canonical; covers = SameSquares-trans _ _ _ s.covers same }
 
 -- the canonical slabs of what is drawn of some bytes are their layer
-pub swept_layer : (v : Choice) (bytes front : List ℕ) (d : Drawn) (loops : List (List Pt)) (slabs : List Rect) → HasDrawing v bytes front d
+pub swept_layer : (v : Choice) (bytes copied : List ℕ) (d : Drawn) (loops : List (List Pt)) (slabs : List Rect) → HasDrawing v bytes copied d
     → ((lib : Library) (top : ℕ) (layer : ChosenLayer) → IsDrawingOf lib top layer d → AreLoopsOf lib top layer loops)
-    → AreSlabsOf (SomeLoopCovers loops) slabs → IsLayout v bytes (Layer front slabs)
-swept_layer v bytes front d loops slabs (lib, holds, are) laid swept =
+    → AreSlabsOf (SomeLoopCovers loops) slabs → IsLayout v bytes (Layer copied slabs)
+swept_layer v bytes copied d loops slabs (lib, holds, are) laid swept =
     let l = laid lib are.top (chosen v) are.drawing in (
       lib,
       holds,
       record { top = are.top; is_top = are.is_top; faultless = l.faultless; before = are.before; squares = slabs_same _ _ _ swept l.covers },
     )
 
+-- a fault that has a name is one of these bytes
+named_fault : (v : Choice) (bytes : List ℕ) (o : Option (Name × ℕ)) → ((name : Name) (at : ℕ) → o ≡ Some (name, at) → IsLayout v bytes (Faulty name at))
+    → IsLayerFault v bytes (of_named o)
+named_fault v bytes None is = tt
+named_fault v bytes (Some (name, at)) is = is name at refl
+
 -- a fault of what is drawn of some bytes is theirs
-pub drawn_fault : (v : Choice) (bytes front : List ℕ) (d : Drawn) (f : FlattenFault) → HasDrawing v bytes front d
+pub drawn_fault : (v : Choice) (bytes copied : List ℕ) (d : Drawn) (f : FlattenFault) → HasDrawing v bytes copied d
     → ((lib : Library) (top : ℕ) (layer : ChosenLayer) → IsDrawingOf lib top layer d → IsFirstFault lib top layer f)
-    → IsLayerFault v bytes (of_flatten f)
-drawn_fault v bytes front d flatten.NoMemory has first = tt
-drawn_fault v bytes front d (flatten.MissingStructure at) (lib, holds, are) first = inr
-    (lib, holds, inr (are.top, flatten.MissingStructure at, are.is_top, first lib are.top (chosen v) are.drawing, refl))
-drawn_fault v bytes front d (flatten.Recursion at) (lib, holds, are) first = inr
-    (lib, holds, inr (are.top, flatten.Recursion at, are.is_top, first lib are.top (chosen v) are.drawing, refl))
-drawn_fault v bytes front d (flatten.Element at fault) (lib, holds, are) first = inr
-    (lib, holds, inr (are.top, flatten.Element at fault, are.is_top, first lib are.top (chosen v) are.drawing, refl))
-drawn_fault v bytes front d flatten.TooManyPoints (lib, holds, are) first = inr
-    (lib, holds, inr (are.top, flatten.TooManyPoints, are.is_top, first lib are.top (chosen v) are.drawing, refl))
-drawn_fault v bytes front d (flatten.OutOfRange at) (lib, holds, are) first = inr
-    (lib, holds, inr (are.top, flatten.OutOfRange at, are.is_top, first lib are.top (chosen v) are.drawing, refl))
+    → IsLayerFault v bytes (of_named (flatten_name f))
+drawn_fault v bytes copied d f (lib, holds, are) first = named_fault v bytes (flatten_name f)
+    (λ name at is. inr (lib, holds, inr (are.top, f, are.is_top, first lib are.top (chosen v) are.drawing, is)))
 
 -- an error that is handed on is the fault
 pub given_fault : {X : Type 0} (v : Choice) (bytes : List ℕ) (r : Result X LayerFault) (f : LayerFault) → IsErrAnd r (λ e. e ≡ f)

@@ -1,35 +1,26 @@
--- The faults of a layer as the program keeps them.
+-- The fault of a layer as the program keeps it.
+use Rattle.std.specs.Prelude.{ℕ, Option, Some, None}
+use Rattle.dpl_spec_format.specs.Faults.{Fault, truncated, bad_length, unknown_record, bad_data_type, bad_size, unexpected, bad_name, duplicate_structure}
 use Rattle.dpl_syntax.specs.declared.fault.SyntaxFault.{SyntaxFault}
-use Rattle.dpl_syntax.specs.declared.fault.SyntaxFault.TheVariants as syntax
-use Rattle.dpl_spec_layout.specs.declared.TopFault.{TopFault}
-use Rattle.dpl_spec_layout.specs.declared.TopFault.TheVariants as top
-use Rattle.dpl_spec_layout.specs.declared.FlattenFault.{FlattenFault}
-use Rattle.dpl_spec_layout.specs.declared.FlattenFault.TheVariants as flatten
-use Rattle.dpl_cert.specs.declared.name.Name.TheVariants as name
-use Rattle.dpl_layer.specs.Naming.{element_name}
+use Rattle.dpl_syntax.specs.declared.fault.SyntaxFault.TheVariants.{NoMemory as NoMemoryForSyntax, Truncated, BadLength, UnknownRecord, BadDataType, BadSize}
+use Rattle.dpl_syntax.specs.declared.fault.SyntaxFault.TheVariants.{Unexpected, BadName, DuplicateStructure}
+use Rattle.dpl_cert.specs.declared.name.Name.{Name}
 use Rattle.dpl_layer.specs.declared.fault.LayerFault.{LayerFault}
 use Rattle.dpl_layer.specs.declared.fault.LayerFault.TheVariants.{NoMemory, Refused}
 
-abbrev pub of_syntax : SyntaxFault → LayerFault
-of_syntax syntax.NoMemory = NoMemory
-of_syntax (syntax.Truncated at) = Refused name.Truncated at
-of_syntax (syntax.BadLength at) = Refused name.BadLength at
-of_syntax (syntax.UnknownRecord at) = Refused name.UnknownRecord at
-of_syntax (syntax.BadDataType at) = Refused name.BadDataType at
-of_syntax (syntax.BadSize at) = Refused name.BadSize at
-of_syntax (syntax.Unexpected at) = Refused name.Unexpected at
-of_syntax (syntax.BadName at) = Refused name.BadName at
-of_syntax (syntax.DuplicateStructure at) = Refused name.DuplicateStructure at
+-- a fault by its name and where it stands; what has no name is out of memory
+abbrev pub of_named : Option (Name × ℕ) → LayerFault
+of_named None = NoMemory
+of_named (Some (name, at)) = Refused name at
 
-abbrev pub of_top : TopFault → LayerFault
-of_top top.NoMemory = NoMemory
-of_top top.NoTop = Refused name.NoTop 0
-of_top (top.ManyTops count) = Refused name.ManyTops count
-
-abbrev pub of_flatten : FlattenFault → LayerFault
-of_flatten flatten.NoMemory = NoMemory
-of_flatten (flatten.MissingStructure at) = Refused name.MissingStructure at
-of_flatten (flatten.Recursion at) = Refused name.Recursion at
-of_flatten (flatten.Element at fault) = Refused (element_name fault) at
-of_flatten flatten.TooManyPoints = Refused name.TooManyPoints 0
-of_flatten (flatten.OutOfRange at) = Refused name.OutOfRange at
+-- the fault of the file that an error names; out of memory is none
+abbrev pub fault_of : SyntaxFault → Option Fault
+fault_of NoMemoryForSyntax = None
+fault_of (Truncated at) = Some (truncated at)
+fault_of (BadLength at) = Some (bad_length at)
+fault_of (UnknownRecord at) = Some (unknown_record at)
+fault_of (BadDataType at) = Some (bad_data_type at)
+fault_of (BadSize at) = Some (bad_size at)
+fault_of (Unexpected at) = Some (unexpected at)
+fault_of (BadName at) = Some (bad_name at)
+fault_of (DuplicateStructure at) = Some (duplicate_structure at)

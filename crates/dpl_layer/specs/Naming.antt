@@ -1,6 +1,8 @@
 -- The names of faults in certificates, each with where the fault stands.
 use Rattle.std.specs.Prelude.{ℕ, Option, Some, None}
 use Rattle.dpl_spec_format.specs.Faults.{Fault, truncated, bad_length, unknown_record, bad_data_type, bad_size, unexpected, bad_name, duplicate_structure}
+use Rattle.dpl_spec_elements.specs.declared.PathFault.{PathFault}
+use Rattle.dpl_spec_elements.specs.declared.PathFault.TheVariants as path
 use Rattle.dpl_spec_layout.specs.declared.ElementFault.{ElementFault}
 use Rattle.dpl_spec_layout.specs.declared.ElementFault.TheVariants as element
 use Rattle.dpl_spec_layout.specs.declared.TopFault.{TopFault}
@@ -26,18 +28,21 @@ top_name top.NoMemory = None
 top_name top.NoTop = Some (name.NoTop, 0)
 top_name (top.ManyTops count) = Some (name.ManyTops, count)
 
+abbrev pub path_name : PathFault → Name
+path_name path.RoundPath = name.RoundPath
+path_name path.BadPathType = name.BadPathType
+path_name path.OddWidth = name.OddWidth
+path_name path.SlantedPath = name.SlantedPath
+path_name path.PathTurnsBack = name.PathTurnsBack
+path_name path.NegativeExtension = name.NegativeExtension
+
 abbrev pub element_name : ElementFault → Name
 element_name element.AbsoluteTransform = name.AbsoluteTransform
 element_name element.Magnified = name.Magnified
 element_name element.AngleNotRight = name.AngleNotRight
 element_name element.BadArray = name.BadArray
 element_name element.SlantedBoundary = name.SlantedBoundary
-element_name element.RoundPath = name.RoundPath
-element_name element.BadPathType = name.BadPathType
-element_name element.OddWidth = name.OddWidth
-element_name element.SlantedPath = name.SlantedPath
-element_name element.PathTurnsBack = name.PathTurnsBack
-element_name element.NegativeExtension = name.NegativeExtension
+element_name (element.Path f) = path_name f
 
 -- too many points stand nowhere
 abbrev pub flatten_name : FlattenFault → Option (Name × ℕ)

@@ -20,7 +20,7 @@ use Rattle.dpl_layer.specs.Naming.{syntax_name, top_name, flatten_name}
 pub data Reading : Type 0 where
   -- the first fault, and where it stands
   Faulty : Name → ℕ → Reading
-  -- the records before the top's elements, and the canonical slabs of the layer
+  -- the copied records, which are those before the top's elements, and the canonical slabs of the layer
   Layer : List ℕ → List Rect → Reading
 
 -- the most bytes of a file
@@ -40,8 +40,8 @@ chosen v = record { layer = v.layer; datatype = v.datatype }
 abbrev pub frame_bytes : Frame → List ℕ
 frame_bytes f = f.header ++ (f.bgnlib ++ (f.libname ++ (f.units ++ (f.bgnstr ++ f.strname))))
 
-abbrev pub front_of : Library → ℕ → Option (List ℕ)
-front_of lib top = option_map (λ s. frame_bytes (frame_of lib s)) (slice_get lib.structures top)
+abbrev pub copied_of : Library → ℕ → Option (List ℕ)
+copied_of lib top = option_map (λ s. frame_bytes (frame_of lib s)) (slice_get lib.structures top)
 
 -- the library has no top, or its layer a fault
 abbrev pub IsFaultIn : Choice → Library → Name → ℕ → Type 0
@@ -50,30 +50,30 @@ IsFaultIn v lib name at =
     ⊎ ((top : ℕ) × (f : FlattenFault) × IsTop lib v.top top × IsFirstFault lib top (chosen v) f × (flatten_name f ≡ Some (name, at)))
 
 -- the layer of the library, which has no fault
-pub record IsLayerIn (v : Choice) (lib : Library) (front : List ℕ) (slabs : List Rect) : Type 0 where
+pub record IsLayerIn (v : Choice) (lib : Library) (copied : List ℕ) (slabs : List Rect) : Type 0 where
   pub top : ℕ
   pub is_top : IsTop lib v.top top
   pub faultless : IsFaultless lib top (chosen v)
-  pub before : front_of lib top ≡ Some front
+  pub before : copied_of lib top ≡ Some copied
   pub squares : AreSlabsOf (IsInLayer lib top (chosen v)) slabs
 
 -- a drawing of the layer of the library
-pub record HasDrawingIn (v : Choice) (lib : Library) (front : List ℕ) (d : Drawn) : Type 0 where
+pub record HasDrawingIn (v : Choice) (lib : Library) (copied : List ℕ) (d : Drawn) : Type 0 where
   pub top : ℕ
   pub is_top : IsTop lib v.top top
-  pub before : front_of lib top ≡ Some front
+  pub before : copied_of lib top ≡ Some copied
   pub drawing : IsDrawingOf lib top (chosen v) d
 
 -- a drawing of the layer of what these bytes hold
 abbrev pub HasDrawing : Choice → List ℕ → List ℕ → Drawn → Type 0
-HasDrawing v bytes front drawing = (lib : Library) × Holds bytes lib × HasDrawingIn v lib front drawing
+HasDrawing v bytes copied drawing = (lib : Library) × Holds bytes lib × HasDrawingIn v lib copied drawing
 
 -- what these bytes hold
 abbrev pub IsLayout : Choice → List ℕ → Reading → Type 0
 IsLayout v bytes (Faulty name at) =
     ((f : Fault) × IsFirstSyntaxFault bytes f × (syntax_name f ≡ (name, at)))
     ⊎ ((lib : Library) × Holds bytes lib × IsFaultIn v lib name at)
-IsLayout v bytes (Layer front slabs) = (lib : Library) × Holds bytes lib × IsLayerIn v lib front slabs
+IsLayout v bytes (Layer copied slabs) = (lib : Library) × Holds bytes lib × IsLayerIn v lib copied slabs
 
 -- what is read of a file: where it isn't too large, what its bytes hold
 abbrev pub IsReading : Choice → List ℕ → Reading → Type 0

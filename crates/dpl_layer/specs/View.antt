@@ -11,7 +11,7 @@ abbrev pub choice_view : LayerChoice → Choice
 choice_view c = record { top = option_map (λ t. t.now) c.top; layer = c.layer; datatype = c.datatype }
 
 abbrev pub layer_view : Layer → Reading
-layer_view l = LayerRead l.front.items l.slabs
+layer_view l = LayerRead l.copied.items l.slabs
 
 -- a fault of the layout is its first one
 abbrev pub IsLayerFault : Choice → List ℕ → LayerFault → Type 0

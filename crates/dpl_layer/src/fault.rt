@@ -1,20 +1,22 @@
 //! Why no layer is read of a file.
-ghost use Rattle.std.specs.Prelude.{◌≡◌};
-ghost use Rattle.dpl_layer.specs.Naming.{element_name as element_name_of};
-ghost use Rattle.dpl_layer.specs.LayerFaults.{of_flatten, of_syntax, of_top};
+ghost use Rattle.std.specs.Prelude.{◌≡◌, option_map};
+ghost use Rattle.dpl_layer.specs.Naming.{element_name as element_name_of, flatten_name, path_name as path_name_of, syntax_name, top_name};
+ghost use Rattle.dpl_layer.specs.LayerFaults.{fault_of, of_named};
 ghost use Rattle.dpl_layer.specs.declared.fault.LayerFault.TheVariants.{NoMemory, Refused};
 
 use dpl_cert::Name;
-use dpl_flatten::{ElementFault, FlattenFault, TopFault};
+use dpl_flatten::{ElementFault, FlattenFault, PathFault, TopFault};
 use dpl_syntax::SyntaxFault;
 use std::alloc::AllocError;
+use thiserror::Error;
 
 /// Why no layer is read of a file.
-#[derive(Clone, Copy, Debug, Drop, PartialEq, Eq)]
+#[derive(Clone, Copy, Debug, Drop, PartialEq, Eq, Error)]
 pub enum LayerFault {
-    /// Memory ran out.
+    #[error("out of memory")]
     NoMemory,
     /// The first fault of the layout, by its name in certificates, and the offset in bytes of the record where it stands; the number of tops where there are several, and 0 where there is none or a layer has too many points.
+    #[error("the layout is refused: {name} {at}")]
     Refused { name: Name, at: u64 },
 }
 
@@ -28,6 +30,20 @@ fn refused(name: Name, at: usize) -> LayerFault
     }
 }
 
+/// The name in certificates of a path's fault.
+fn path_name(fault: PathFault) -> Name
+    ensures { result ≡ path_name_of fault }
+{
+    match fault {
+        PathFault::RoundPath => Name::RoundPath,
+        PathFault::BadPathType => Name::BadPathType,
+        PathFault::OddWidth => Name::OddWidth,
+        PathFault::SlantedPath => Name::SlantedPath,
+        PathFault::PathTurnsBack => Name::PathTurnsBack,
+        PathFault::NegativeExtension => Name::NegativeExtension,
+    }
+}
+
 /// The name in certificates of an element's fault.
 fn element_name(fault: ElementFault) -> Name
     ensures { result ≡ element_name_of fault }
@@ -38,12 +54,7 @@ fn element_name(fault: ElementFault) -> Name
         ElementFault::AngleNotRight => Name::AngleNotRight,
         ElementFault::BadArray => Name::BadArray,
         ElementFault::SlantedBoundary => Name::SlantedBoundary,
-        ElementFault::RoundPath => Name::RoundPath,
-        ElementFault::BadPathType => Name::BadPathType,
-        ElementFault::OddWidth => Name::OddWidth,
-        ElementFault::SlantedPath => Name::SlantedPath,
-        ElementFault::PathTurnsBack => Name::PathTurnsBack,
-        ElementFault::NegativeExtension => Name::NegativeExtension,
+        ElementFault::Path(fault) => path_name(fault),
     }
 }
 
@@ -56,7 +67,7 @@ impl From<AllocError> for LayerFault {
 }
 
 impl From<SyntaxFault> for LayerFault {
-    ghost from_gives = { λ f e. e ≡ of_syntax f };
+    ghost from_gives = { λ f e. e ≡ of_named (option_map syntax_name (fault_of f)) };
 
     fn from(fault: SyntaxFault) -> Self {
         match fault {
@@ -74,7 +85,7 @@ impl From<SyntaxFault> for LayerFault {
 }
 
 impl From<TopFault> for LayerFault {
-    ghost from_gives = { λ f e. e ≡ of_top f };
+    ghost from_gives = { λ f e. e ≡ of_named (top_name f) };
 
     fn from(fault: TopFault) -> Self {
         match fault {
@@ -89,7 +100,7 @@ impl From<TopFault> for LayerFault {
 }
 
 impl From<FlattenFault> for LayerFault {
-    ghost from_gives = { λ f e. e ≡ of_flatten f };
+    ghost from_gives = { λ f e. e ≡ of_named (flatten_name f) };
 
     fn from(fault: FlattenFault) -> Self {
         match fault {

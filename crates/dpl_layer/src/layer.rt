@@ -1,6 +1,6 @@
 //! The layer of a layout.
 ghost use Rattle.std.specs.Prelude.{◌≡◌, ◌<◌, ◌≤◌, ℕ, IfErr, IfOk, List, Some, length};
-ghost use Rattle.dpl_layer.specs.Reading.{Choice, HasDrawing, HasDrawingIn, IsLayout, front_of, limit};
+ghost use Rattle.dpl_layer.specs.Reading.{Choice, HasDrawing, HasDrawingIn, IsLayout, copied_of, limit};
 ghost use Rattle.dpl_layer.specs.View.{IsLayerFault, IsLayerFaultIn, choice_view, layer_view};
 
 use crate::fault::LayerFault;
@@ -23,16 +23,16 @@ pub struct LayerChoice<'a> {
 /// What is read of a layout.
 #[derive(Drop)]
 pub struct Layer {
-    /// The records of the file before the elements of the top structure.
-    pub front: Vec<u8>,
+    /// The copied records: those of the file before the elements of the top structure.
+    pub copied: Vec<u8>,
     /// The unit squares of the layer, a database unit wide, as canonical slabs.
     pub slabs: Slabs,
 }
 
-/// The records of the file before the elements of the top structure, and a drawing of the layer.
+/// The copied records, and a drawing of the layer.
 #[derive(Drop)]
 struct Shapes {
-    front: Vec<u8>,
+    copied: Vec<u8>,
     drawing: Drawing,
 }
 
@@ -64,7 +64,7 @@ pub fn layer_within(alloc: Global, choice: &LayerChoice, bytes: &[u8]) -> Result
 /// The shapes of the chosen layer, or the first fault of the layout.
 fn shapes_of(alloc: Global, choice: &LayerChoice, bytes: &[u8]) -> Result<Shapes, LayerFault>
     requires { length bytes.now ≤ limit }
-    ensures shapes { IfOk result (λ s. HasDrawing (choice_view choice.now) bytes.now s.front.items s.drawing) }
+    ensures shapes { IfOk result (λ s. HasDrawing (choice_view choice.now) bytes.now s.copied.items s.drawing) }
     ensures fault { IfErr result (IsLayerFault (choice_view choice.now) bytes.now) }
 {
     let lib = read_library(alloc, bytes)?;
@@ -73,41 +73,41 @@ fn shapes_of(alloc: Global, choice: &LayerChoice, bytes: &[u8]) -> Result<Shapes
 
 /// The shapes of the layer of a library, or its first fault.
 fn shapes_in(alloc: Global, choice: &LayerChoice, lib: &Library<'_>) -> Result<Shapes, LayerFault>
-    ensures shapes { IfOk result (λ s. HasDrawingIn (choice_view choice.now) lib.now s.front.items s.drawing) }
+    ensures shapes { IfOk result (λ s. HasDrawingIn (choice_view choice.now) lib.now s.copied.items s.drawing) }
     ensures fault { IfErr result (IsLayerFaultIn (choice_view choice.now) lib.now) }
 {
     let top = top_of(alloc, lib, choice.top)?;
-    let front = front(alloc, lib, top)?;
+    let copied = copied_records(alloc, lib, top)?;
     let chosen = ChosenLayer {
         layer: choice.layer,
         datatype: choice.datatype,
     };
     let drawing = draw(alloc, lib, top, chosen)?;
-    Ok(Shapes { front, drawing })
+    Ok(Shapes { copied, drawing })
 }
 
 /// The squares that shapes cover. The drawing is let go once its loops are there, and these before they are swept.
 fn swept(alloc: Global, shapes: Shapes) -> Result<Layer, LayerFault>
-    ensures layer { (v : Choice) (bytes : List ℕ) → HasDrawing v bytes shapes.front.items shapes.drawing → IfOk result (λ l. IsLayout v bytes (layer_view l)) }
-    ensures fault { (v : Choice) (bytes : List ℕ) → HasDrawing v bytes shapes.front.items shapes.drawing → IfErr result (IsLayerFault v bytes) }
+    ensures layer { (v : Choice) (bytes : List ℕ) → HasDrawing v bytes shapes.copied.items shapes.drawing → IfOk result (λ l. IsLayout v bytes (layer_view l)) }
+    ensures fault { (v : Choice) (bytes : List ℕ) → HasDrawing v bytes shapes.copied.items shapes.drawing → IfErr result (IsLayerFault v bytes) }
 {
-    let Shapes { front, drawing } = shapes;
+    let Shapes { copied, drawing } = shapes;
     let loops = drawing.loops(alloc)?;
     let slabs = Slabs::of_loops(alloc, loops)?;
-    Ok(Layer { front, slabs })
+    Ok(Layer { copied, slabs })
 }
 
-/// The records before the elements of a structure, one behind the other.
-fn front(alloc: Global, lib: &Library<'_>, top: u32) -> Result<Vec<u8>, AllocError>
+/// The records that are copied to the file of the masks: those before the elements of a structure, one behind the other.
+pub fn copied_records(alloc: Global, lib: &Library<'_>, top: u32) -> Result<Vec<u8>, AllocError>
     requires { top < length lib.now.structures }
-    ensures { IfOk result (λ v. front_of lib.now top ≡ Some v.items) }
+    ensures { IfOk result (λ v. copied_of lib.now top ≡ Some v.items) }
 {
     let frame = lib.frame(top);
-    let mut front = Vec::from_slice(alloc, frame.header)?;
-    front.extend_from_slice(frame.bgnlib)?;
-    front.extend_from_slice(frame.libname)?;
-    front.extend_from_slice(frame.units)?;
-    front.extend_from_slice(frame.bgnstr)?;
-    front.extend_from_slice(frame.strname)?;
-    Ok(front)
+    let mut copied = Vec::from_slice(alloc, frame.header)?;
+    copied.extend_from_slice(frame.bgnlib)?;
+    copied.extend_from_slice(frame.libname)?;
+    copied.extend_from_slice(frame.units)?;
+    copied.extend_from_slice(frame.bgnstr)?;
+    copied.extend_from_slice(frame.strname)?;
+    Ok(copied)
 }

@@ -5,4 +5,4 @@ mod fault;
 mod layer;
 
 pub use fault::LayerFault;
-pub use layer::{Layer, LayerChoice, layer_of, layer_within};
+pub use layer::{Layer, LayerChoice, copied_records, layer_of, layer_within};

@@ -12,7 +12,7 @@ use Rattle.dpl_spec_split.proofs.Ordered.{Contains-nil, Contains-cases}
 use Rattle.dpl_spec_elements.specs.declared.Heading.TheVariants.{East, North, West, South}
 use Rattle.dpl_spec_elements.specs.declared.Segment.{Segment}
 use Rattle.dpl_spec_elements.specs.Paths.{PathElement, path_of, IsFaultless, same, heading, bar_to, bar, bars, segments_from, half_of, past_end, square_round, rects_through, path_rects, distinct}
-use Rattle.dpl_spec_elements.specs.Paths.PathFault.{Negative}
+use Rattle.dpl_spec_elements.specs.declared.PathFault.TheVariants.{NegativeExtension}
 use Rattle.dpl_shapes.specs.declared.bars.Margins.{Margins}
 use Rattle.dpl_shapes.specs.Strokes.{drawn_points, rects_along}
 use Rattle.dpl_shapes.specs.Types.{HasNegativeEnd}
@@ -108,7 +108,7 @@ forward-proper p fit r r_in =
 pub rects-proper : (p : PathElement) → IsFaultless p → (r : Rect) → Contains (path_rects p) r → IsProper r
 rects-proper p (inl none) r r_in =
     absurd (Contains-nil r (subst (λ w. Contains (if same w (pos 0) then [] else rects_through p (distinct p.points)) r) none r_in))
-rects-proper p (inr sound) r r_in = forward-proper p (sound Negative) r r_in
+rects-proper p (inr sound) r r_in = forward-proper p (sound NegativeExtension) r r_in
 
 -- the rectangles that were drawn are the path's
 along-through : (p : PathElement) (ps : List Pt) (m : Margins) (dot : Bool) → m.half ≡ half_of p

@@ -6,8 +6,9 @@ use Rattle.std.proofs.lemmas.List.{get_or_default}
 use Rattle.dpl_spec_split.specs.declared.Pt.{Pt}
 use Rattle.dpl_spec_split.specs.Loops.{IsLevelOrUpright}
 use Rattle.dpl_shapes.specs.Straight.{IsStraightBelow}
-use Rattle.dpl_spec_elements.specs.Paths.{PathElement, PathFault, Applies, place, IsFirstFault, IsFaultless, distinct, HasSlant, HasTurnBack}
-use Rattle.dpl_spec_elements.specs.Paths.PathFault.{Round, BadType, Odd, Slanted, TurnsBack, Negative}
+use Rattle.dpl_spec_elements.specs.declared.PathFault.{PathFault}
+use Rattle.dpl_spec_elements.specs.Paths.{PathElement, Applies, place, IsFirstFault, IsFaultless, distinct, HasSlant, HasTurnBack}
+use Rattle.dpl_spec_elements.specs.declared.PathFault.TheVariants.{RoundPath, BadPathType, OddWidth, SlantedPath, PathTurnsBack, NegativeExtension}
 use Rattle.dpl_shapes.specs.Types.{IsKnownType, HasNegativeEnd}
 
 -- a path without the first three faults
@@ -26,26 +27,26 @@ no-slant qs ps same straight (k, p, q, within, p_is, q_is, slanted) =
     let a : get_or ps k q ≡ p = get_or_default ps k q p (omega (arith, within)) ∙ p_is in
     slanted (subst (λ x. IsLevelOrUpright x q) a (subst (IsLevelOrUpright (get_or ps k q)) q_is (here k q within)))
 
-plain-round : (p : PathElement) → IsKnownType p.kind → Applies p Round → ⊥
+plain-round : (p : PathElement) → IsKnownType p.kind → Applies p RoundPath → ⊥
 plain-round p (inl k) h = omega (arith, ints, k, h)
 plain-round p (inr (inl k)) h = omega (arith, ints, k, h)
 plain-round p (inr (inr k)) h = omega (arith, ints, k, h)
 
-plain-bad : (p : PathElement) → IsKnownType p.kind → Applies p BadType → ⊥
+plain-bad : (p : PathElement) → IsKnownType p.kind → Applies p BadPathType → ⊥
 plain-bad p (inl k) (a, b, c, d) = a k
 plain-bad p (inr (inl k)) (a, b, c, d) = c k
 plain-bad p (inr (inr k)) (a, b, c, d) = d k
 
-before : (p : PathElement) (n : ℕ) → IsPlain p → (4 < n → Applies p Slanted → ⊥) → (5 < n → Applies p TurnsBack → ⊥)
-    → (6 < n → Applies p Negative → ⊥) → (g : PathFault) → place g < n → Applies p g → ⊥
-before p n plain s t e Round lt h = plain-round p plain.known h
-before p n plain s t e BadType lt h = plain-bad p plain.known h
-before p n plain s t e Odd lt h = plain.even h
-before p n plain s t e Slanted lt h = s lt h
-before p n plain s t e TurnsBack lt h = t lt h
-before p n plain s t e Negative lt h = e lt h
+before : (p : PathElement) (n : ℕ) → IsPlain p → (4 < n → Applies p SlantedPath → ⊥) → (5 < n → Applies p PathTurnsBack → ⊥)
+    → (6 < n → Applies p NegativeExtension → ⊥) → (g : PathFault) → place g < n → Applies p g → ⊥
+before p n plain s t e RoundPath lt h = plain-round p plain.known h
+before p n plain s t e BadPathType lt h = plain-bad p plain.known h
+before p n plain s t e OddWidth lt h = plain.even h
+before p n plain s t e SlantedPath lt h = s lt h
+before p n plain s t e PathTurnsBack lt h = t lt h
+before p n plain s t e NegativeExtension lt h = e lt h
 
-pub turns-first : (p : PathElement) → IsPlain p → (HasSlant (distinct p.points) → ⊥) → HasTurnBack (distinct p.points) → IsFirstFault p TurnsBack
+pub turns-first : (p : PathElement) → IsPlain p → (HasSlant (distinct p.points) → ⊥) → HasTurnBack (distinct p.points) → IsFirstFault p PathTurnsBack
 turns-first p plain straight turns = record {
   drawn = plain.drawn;
   there = turns;
@@ -54,7 +55,7 @@ turns-first p plain straight turns = record {
 }
 
 pub negative-first : (p : PathElement) → IsPlain p → (HasSlant (distinct p.points) → ⊥) → (HasTurnBack (distinct p.points) → ⊥)
-    → HasNegativeEnd p.kind p.begin_ext p.end_ext → IsFirstFault p Negative
+    → HasNegativeEnd p.kind p.begin_ext p.end_ext → IsFirstFault p NegativeExtension
 negative-first p plain straight on negative = record { drawn = plain.drawn; there = negative; first = before p 6 plain (λ l. straight) (λ l. on) (λ l. absurd (omega (arith, l))) }
 
 pub no-fault : (p : PathElement) → IsPlain p → (HasSlant (distinct p.points) → ⊥) → (HasTurnBack (distinct p.points) → ⊥)
@@ -62,12 +63,12 @@ pub no-fault : (p : PathElement) → IsPlain p → (HasSlant (distinct p.points)
 no-fault p plain straight on fit = inr (λ f h. before p 7 plain (λ l. straight) (λ l. on) (λ l. fit) f (few f) h)
   where
     few : (f : PathFault) → place f < 7
-    few Round = omega arith
-    few BadType = omega arith
-    few Odd = omega arith
-    few Slanted = omega arith
-    few TurnsBack = omega arith
-    few Negative = omega arith
+    few RoundPath = omega arith
+    few BadPathType = omega arith
+    few OddWidth = omega arith
+    few SlantedPath = omega arith
+    few PathTurnsBack = omega arith
+    few NegativeExtension = omega arith
 
 -- at equal numbers, as those that a call was passed
 pub negative-as : (k b e kind begin_ext end_ext : ℤ) → k ≡ kind → b ≡ begin_ext → e ≡ end_ext → HasNegativeEnd k b e → HasNegativeEnd kind begin_ext end_ext

@@ -2,6 +2,7 @@
 ghost use Rattle.std.specs.Prelude.{◌≡◌};
 ghost use Rattle.dpl_shapes.specs.declared.fault.ShapeFault.TheVariants.{NoMemory};
 
+use dpl_spec_elements::PathFault;
 use std::alloc::{AllocError, AllocFailed};
 use thiserror::Error;
 
@@ -10,18 +11,9 @@ use thiserror::Error;
 pub enum ShapeFault {
     #[error("an edge of the boundary isn't parallel to an axis")]
     SlantedBoundary,
-    #[error("the path has round ends")]
-    RoundPath,
-    #[error("the path has an unknown type")]
-    BadPathType,
-    #[error("the path has an odd width")]
-    OddWidth,
-    #[error("a segment of the path isn't parallel to an axis")]
-    SlantedPath,
-    #[error("the path turns back on itself")]
-    PathTurnsBack,
-    #[error("the path has a negative extension")]
-    NegativeExtension,
+    /// The first fault of a path.
+    #[error("{0}")]
+    Path(PathFault),
     #[error("out of memory")]
     NoMemory,
 }

@@ -23,6 +23,7 @@ use crate::headings::turns_back;
 pub use crate::straight::is_rectilinear;
 use crate::straight::is_straight;
 use dpl_base::{Loop, Pt};
+pub use dpl_spec_elements::PathFault;
 use std::alloc::Global;
 
 /// The loop of a boundary or box: its points in order. The edge from the last point to the first is one of its edges.
@@ -110,23 +111,23 @@ fn drawn_points(
     }
     let width = width.unsigned_abs();
     if kind == 1 {
-        return Err(ShapeFault::RoundPath);
+        return Err(ShapeFault::Path(PathFault::RoundPath));
     }
     if !is_known_type(kind) {
-        return Err(ShapeFault::BadPathType);
+        return Err(ShapeFault::Path(PathFault::BadPathType));
     }
     if width % 2 == 1 {
-        return Err(ShapeFault::OddWidth);
+        return Err(ShapeFault::Path(PathFault::OddWidth));
     }
     let corners = distinct_points(alloc, points)?;
     if !is_straight(&corners) {
-        return Err(ShapeFault::SlantedPath);
+        return Err(ShapeFault::Path(PathFault::SlantedPath));
     }
     if turns_back(&corners) {
-        return Err(ShapeFault::PathTurnsBack);
+        return Err(ShapeFault::Path(PathFault::PathTurnsBack));
     }
     if has_negative_end(kind, begin_ext, end_ext) {
-        return Err(ShapeFault::NegativeExtension);
+        return Err(ShapeFault::Path(PathFault::NegativeExtension));
     }
     Ok(corners)
 }

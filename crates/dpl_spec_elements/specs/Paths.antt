@@ -9,6 +9,8 @@ use Rattle.dpl_spec_split.specs.Loops.{IsLevelOrUpright}
 use Rattle.dpl_spec_elements.specs.declared.Heading.{Heading}
 use Rattle.dpl_spec_elements.specs.declared.Heading.TheVariants.{East, North, West, South}
 use Rattle.dpl_spec_elements.specs.declared.Segment.{Segment}
+use Rattle.dpl_spec_elements.specs.declared.PathFault.{PathFault}
+use Rattle.dpl_spec_elements.specs.declared.PathFault.TheVariants.{RoundPath, BadPathType, OddWidth, SlantedPath, PathTurnsBack, NegativeExtension}
 
 -- a path as the file has it, in database units; what the file leaves out is 0
 pub record PathElement : Type 0 where
@@ -118,32 +120,23 @@ abbrev pub HasTurnBack : List Pt → Type 0
 HasTurnBack ps = (k : ℕ) × (p q r : Pt) × (k + 2 < length ps) × (slice_index_or ps k p ≡ p) × (slice_index_or ps (k + 1) q ≡ q)
     × (slice_index_or ps (k + 2) r ≡ r) × (heading q r ≡ back (heading p q))
 
--- what a path can be refused for
-pub data PathFault : Type 0 where
-  Round : PathFault
-  BadType : PathFault
-  Odd : PathFault
-  Slanted : PathFault
-  TurnsBack : PathFault
-  Negative : PathFault
-
 -- the fault is there
 abbrev pub Applies : PathElement → PathFault → Type 0
-Applies p Round = p.kind ≡ pos 1
-Applies p BadType = (p.kind ≡ pos 0 → ⊥) × (p.kind ≡ pos 1 → ⊥) × (p.kind ≡ pos 2 → ⊥) × (p.kind ≡ pos 4 → ⊥)
-Applies p Odd = unsigned_abs p.width % 2 ≡ 1
-Applies p Slanted = HasSlant (distinct p.points)
-Applies p TurnsBack = HasTurnBack (distinct p.points)
-Applies p Negative = (p.kind ≡ pos 4) × ((p.begin_ext <ℤ pos 0) ⊎ (p.end_ext <ℤ pos 0))
+Applies p RoundPath = p.kind ≡ pos 1
+Applies p BadPathType = (p.kind ≡ pos 0 → ⊥) × (p.kind ≡ pos 1 → ⊥) × (p.kind ≡ pos 2 → ⊥) × (p.kind ≡ pos 4 → ⊥)
+Applies p OddWidth = unsigned_abs p.width % 2 ≡ 1
+Applies p SlantedPath = HasSlant (distinct p.points)
+Applies p PathTurnsBack = HasTurnBack (distinct p.points)
+Applies p NegativeExtension = (p.kind ≡ pos 4) × ((p.begin_ext <ℤ pos 0) ⊎ (p.end_ext <ℤ pos 0))
 
 -- the order in which faults are answered
 abbrev pub place : PathFault → ℕ
-place Round = 1
-place BadType = 2
-place Odd = 3
-place Slanted = 4
-place TurnsBack = 5
-place Negative = 6
+place RoundPath = 1
+place BadPathType = 2
+place OddWidth = 3
+place SlantedPath = 4
+place PathTurnsBack = 5
+place NegativeExtension = 6
 
 -- the first fault that applies to a path that has a width
 pub record IsFirstFault (p : PathElement) (f : PathFault) : Type 0 where

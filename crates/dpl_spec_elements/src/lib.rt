@@ -2,6 +2,7 @@
 #![tactic(auto)]
 
 pub use dpl_spec_split::Pt;
+use thiserror::Error;
 
 /// Which way a segment parallel to an axis goes.
 #[derive(Clone, Copy, Debug, Drop, PartialEq, Eq)]
@@ -17,4 +18,21 @@ pub enum Heading {
 pub struct Segment {
     pub from: Pt,
     pub to: Pt,
+}
+
+/// What a path can be refused for, in the order in which its faults are tried.
+#[derive(Clone, Copy, Debug, Drop, PartialEq, Eq, Error)]
+pub enum PathFault {
+    #[error("the path has round ends")]
+    RoundPath,
+    #[error("the path has an unknown type")]
+    BadPathType,
+    #[error("the path has an odd width")]
+    OddWidth,
+    #[error("a segment of the path isn't parallel to an axis")]
+    SlantedPath,
+    #[error("the path turns back on itself")]
+    PathTurnsBack,
+    #[error("the path has a negative extension")]
+    NegativeExtension,
 }

@@ -7,14 +7,12 @@ use Rattle.dpl_spec_elements.specs.Reals.{real_of, IsWhole, IsQuarterTurns, IsRi
 use Rattle.dpl_spec_elements.specs.Motions.{Motion}
 use Rattle.dpl_spec_elements.specs.Boundaries.{IsSlanted}
 use Rattle.dpl_spec_elements.specs.Paths as paths
-use Rattle.dpl_spec_elements.specs.Paths.{Round, BadType, Odd, Slanted, TurnsBack, Negative, same, path_rects, corners_of}
+use Rattle.dpl_spec_elements.specs.Paths.{same, path_rects, corners_of}
 use Rattle.dpl_spec_format.specs.Fields.{i32_at}
 use Rattle.dpl_spec_format.specs.Tree.{Trans, Path, Aref, Body, is_boundary, is_path, is_sref, is_aref, is_text, is_node, is_box}
 use Rattle.dpl_spec_layout.specs.declared.Layer.{Layer}
 use Rattle.dpl_spec_layout.specs.declared.ElementFault.{ElementFault}
-use Rattle.dpl_spec_layout.specs.declared.ElementFault.TheVariants.{AbsoluteTransform, Magnified, AngleNotRight, BadArray, SlantedBoundary}
-use Rattle.dpl_spec_layout.specs.declared.ElementFault.TheVariants.{RoundPath, BadPathType, OddWidth, SlantedPath, PathTurnsBack}
-use Rattle.dpl_spec_layout.specs.declared.ElementFault.TheVariants.{NegativeExtension}
+use Rattle.dpl_spec_layout.specs.declared.ElementFault.TheVariants.{AbsoluteTransform, Magnified, AngleNotRight, BadArray, SlantedBoundary, Path as PathRefused}
 
 -- ---- points
 
@@ -180,23 +178,13 @@ IsReferenceFault t unlaid Magnified = ¬ IsAbsolute t × IsMagnified t.mag
 IsReferenceFault t unlaid AngleNotRight = ¬ IsAbsolute t × ¬ IsMagnified t.mag × IsTurnedAskew t.angle
 IsReferenceFault t unlaid BadArray = ¬ IsAbsolute t × ¬ IsMagnified t.mag × ¬ IsTurnedAskew t.angle × unlaid
 IsReferenceFault t unlaid SlantedBoundary = ⊥
-IsReferenceFault t unlaid RoundPath = ⊥
-IsReferenceFault t unlaid BadPathType = ⊥
-IsReferenceFault t unlaid OddWidth = ⊥
-IsReferenceFault t unlaid SlantedPath = ⊥
-IsReferenceFault t unlaid PathTurnsBack = ⊥
-IsReferenceFault t unlaid NegativeExtension = ⊥
+IsReferenceFault t unlaid (PathRefused f) = ⊥
 
 abbrev pub IsBoundaryFault : List Pt → ElementFault → Type 0
 IsBoundaryFault ps f = (f ≡ SlantedBoundary) × IsSlanted ps
 
 abbrev pub IsPathFault : paths.PathElement → ElementFault → Type 0
-IsPathFault p RoundPath = paths.IsFirstFault p Round
-IsPathFault p BadPathType = paths.IsFirstFault p BadType
-IsPathFault p OddWidth = paths.IsFirstFault p Odd
-IsPathFault p SlantedPath = paths.IsFirstFault p Slanted
-IsPathFault p PathTurnsBack = paths.IsFirstFault p TurnsBack
-IsPathFault p NegativeExtension = paths.IsFirstFault p Negative
+IsPathFault p (PathRefused f) = paths.IsFirstFault p f
 IsPathFault p AbsoluteTransform = ⊥
 IsPathFault p Magnified = ⊥
 IsPathFault p AngleNotRight = ⊥

@@ -80,7 +80,7 @@ pub record IsFirstRefused (lib : Library) (top : ℕ) (layer : Layer) (at : ℕ)
   pub some : (k : ℕ) × (e : Element) × IsFound lib top (IsRefusedAs layer f) k e × (e.at ≡ at)
   pub least : IsNoneBefore lib top (IsRefused layer) at
 
--- The first fault below the top. Want of memory is none, and is always allowed.
+-- The first fault below the top. Out of memory is none, and is always allowed.
 abbrev pub IsFirstFault : Library → ℕ → Layer → FlattenFault → Type 0
 IsFirstFault lib top layer NoMemory = Unit {0}
 IsFirstFault lib top layer (MissingStructure at) = IsFirst lib top (IsMissing lib) at

@@ -50,7 +50,7 @@ abbrev pub HasManyTops : Library → Option (List ℕ) → ℕ → Type 0
 HasManyTops lib (Some name) n = ⊥
 HasManyTops lib None n = (1 < n) × ((roots : List ℕ) × AreRoots lib roots × (length roots ≡ n))
 
--- Why no top is chosen. Want of memory is always allowed.
+-- Why no top is chosen. Out of memory is always allowed.
 abbrev pub IsTopFault : Library → Option (List ℕ) → TopFault → Type 0
 IsTopFault lib name NoMemory = Unit {0}
 IsTopFault lib name NoTop = HasNoTop lib name

@@ -5,6 +5,7 @@ ghost use Rattle.std.specs.Prelude.{◌≡◌};
 ghost use Rattle.dpl_spec_layout.specs.declared.TopFault.TheVariants.{NoMemory as NoMemoryForTop};
 ghost use Rattle.dpl_spec_layout.specs.declared.FlattenFault.TheVariants.{NoMemory};
 
+pub use dpl_spec_elements::PathFault;
 use std::alloc::{AllocError, AllocFailed};
 use thiserror::Error;
 
@@ -23,18 +24,14 @@ pub enum ElementFault {
     AngleNotRight,
     BadArray,
     SlantedBoundary,
-    RoundPath,
-    BadPathType,
-    OddWidth,
-    SlantedPath,
-    PathTurnsBack,
-    NegativeExtension,
+    /// The first fault of a path.
+    Path(PathFault),
 }
 
 /// Why a library has no top structure to begin at.
 #[derive(Clone, Copy, Debug, Drop, PartialEq, Eq, Error)]
 pub enum TopFault {
-    #[error("there is no memory")]
+    #[error("out of memory")]
     NoMemory,
     /// No structure has the given name, or without a name each structure is referred to.
     #[error("there is no top structure")]
@@ -48,7 +45,7 @@ pub enum TopFault {
 /// first record of an element.
 #[derive(Clone, Copy, Debug, Drop, PartialEq, Eq, Error)]
 pub enum FlattenFault {
-    #[error("there is no memory")]
+    #[error("out of memory")]
     NoMemory,
     /// A reference names a structure that isn't there.
     #[error("the reference at {at} names no structure")]

@@ -55,8 +55,9 @@ returns-clause-loops c =
     kept c.past_end.result _ c.past_end.ensures b ∙ (c.past_end.ensures ∙ past-as _ _ _ c.args.kind (half_of p) c.args.begin_ext kind half begin_ext) in
     let end : to_z w64 (of_z w64 c.past_end-2.result) ≡ past_end c.args.kind (half_of p) c.args.end_ext =
     kept c.past_end-2.result _ c.past_end-2.ensures e ∙ (c.past_end-2.ensures ∙ past-as _ _ _ c.args.kind (half_of p) c.args.end_ext kind half end_ext) in
-    c.in_ok-loops_along.ensures
-    ∙ ap (map corners_of) (path-drawn p _ _ _ (c.deref.ensures.value ∙ (c.in_ok-corners.ensures.points ∙ ap drawn_points (path-as c.args.points.now _ _ _ _ _ _ _ _ width kind begin_ext end_ext))) half begin end (dot-is c.args.kind c.ranges.kind))
+    let same = path-as c.args.points.now _ _ _ _ _ _ _ _ width kind begin_ext end_ext in
+    let corners = c.deref.ensures.value ∙ (c.in_ok-corners.ensures.points ∙ ap drawn_points same) in
+    c.in_ok-loops_along.ensures ∙ ap (map corners_of) (path-drawn p _ _ _ corners half begin end (dot-is c.args.kind c.ranges.kind))
 
 pub returns-clause-covers : goal.returns-clause-covers
 returns-clause-covers c =

@@ -7,8 +7,8 @@ use Rattle.dpl_spec_layout.specs.Elements.{points_in}
 use Rattle.dpl_flatten.proofs.WithinLaws.{path_within, only_path_memory}
 use Rattle.dpl_flatten.proofs.cells.path_outlines.Goals as goal
 
-pub want_of_memory-requires : goal.want_of_memory-requires
-want_of_memory-requires c =
+pub out_of_memory-requires : goal.out_of_memory-requires
+out_of_memory-requires c =
     let s = c.args.style in
     let w : FitsSigned w32 c.args.style.width = search rules in
     let w' : FitsSigned w64 c.args.style.width = search rules in

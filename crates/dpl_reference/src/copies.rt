@@ -1,16 +1,16 @@
 //! The copies that a reference places.
 
-ghost use Rattle.std.specs.Prelude.{◌≡◌, ◌*◌, ◌^◌, ◌<◌, ◌≤◌, pos, ◌≤ℤ◌, length, unwrap_or, unsigned_abs, ◌-ℤ◌, int_div};
+ghost use Rattle.std.specs.Prelude.{◌≡◌, ◌*◌, ◌^◌, ◌<◌, ◌≤◌, ◌==◌, not, bit_and, pos, ◌≤ℤ◌, length, unwrap_or, unsigned_abs, ◌-ℤ◌, int_div, IfSome, IfNone};
 ghost use Rattle.std.specs.Option.{option_map};
 ghost use Rattle.dpl_spec_split.specs.Loops.{IsPointWithin};
 ghost use Rattle.dpl_syntax.specs.Elements.{trans_seen};
-ghost use Rattle.dpl_spec_layout.specs.Elements.{plain, IsTurnedAskew};
-ghost use Rattle.dpl_flatten.specs.Cells.{spacing_of, IsOrientation, IsSingleCopy, IsArrayOfCopies};
+ghost use Rattle.dpl_spec_layout.specs.Elements.{plain, AreTurns, IsTurnedAskew};
+ghost use Rattle.dpl_reference.specs.Copies.{spacing_of, IsOrientation, IsSingleCopy, IsArrayOfCopies};
 ghost use Rattle.dpl_walk.specs.Cells.{IsSpanWithin};
 
-use crate::cells::{is_reflected, turns_of};
-use crate::refs::point_at;
+use crate::point_at;
 use dpl_base::Pt;
+use dpl_reals::Real;
 use dpl_syntax::Trans;
 use dpl_walk::Copies;
 
@@ -19,6 +19,25 @@ use dpl_walk::Copies;
 struct Orientation {
     reflect: bool,
     turns: u8,
+}
+
+/// How many quarter turns ANGLE makes.
+fn turns_of(angle: Option<[u8; 8]>) -> Option<u8>
+    ensures turns { IfSome result (λ n. AreTurns angle n) }
+    ensures few { IfSome result (λ n. n < 4) }
+    ensures askew { IfNone result (IsTurnedAskew angle) }
+{
+    match angle {
+        None => Some(0),
+        Some(bytes) => Real::of(bytes).quarter_turns(),
+    }
+}
+
+/// Whether STRANS reflects.
+fn is_reflected(strans: u16) -> bool
+    ensures { result ≡ not (bit_and strans 32768 == 0) }
+{
+    strans & 0x8000 != 0
 }
 
 /// The orientation that a transform gives whose angle is right.
@@ -83,7 +102,7 @@ fn spacing(from: Pt, to: Pt, count: i16) -> Pt
 }
 
 /// The one copy of a single reference.
-pub(crate) fn single_copy(target: u32, trans: Option<Trans>, xy: &[u8]) -> Copies
+pub fn single_copy(target: u32, trans: Option<Trans>, xy: &[u8]) -> Copies
     requires points { length xy.now ≡ 8 }
     requires turned { ¬ IsTurnedAskew (unwrap_or (option_map trans_seen trans) plain).angle }
     ensures copies { IsSingleCopy (unwrap_or (option_map trans_seen trans) plain) xy.now result }
@@ -104,13 +123,7 @@ pub(crate) fn single_copy(target: u32, trans: Option<Trans>, xy: &[u8]) -> Copie
 }
 
 /// The copies of an array.
-pub(crate) fn array_copies(
-    target: u32,
-    trans: Option<Trans>,
-    columns: i16,
-    rows: i16,
-    xy: &[u8],
-) -> Copies
+pub fn array_copies(target: u32, trans: Option<Trans>, columns: i16, rows: i16, xy: &[u8]) -> Copies
     requires points { length xy.now ≡ 24 }
     requires columns { pos 1 ≤ℤ columns }
     requires rows { pos 1 ≤ℤ rows }

@@ -2,7 +2,7 @@ use Rattle.std.proofs.Common.{rules, arith}
 use Rattle.std.specs.Prelude.{FitsSigned, ◌-ℤ◌}
 use Rattle.std.specs.Int.{w16, w64}
 use Rattle.std.proofs.lemmas.Int.{ints, to_z-of_z}
-use Rattle.dpl_flatten.proofs.refs.divides.Goals as goal
+use Rattle.dpl_reference.proofs.faults.divides.Goals as goal
 
 pub returns : goal.returns
 returns c =

@@ -3,7 +3,7 @@ use Rattle.std.specs.Prelude.{FitsSigned}
 use Rattle.std.specs.Int.{w16, w64}
 use Rattle.std.proofs.lemmas.Int.{to_z-of_z}
 use Rattle.dpl_place.proofs.Turning.{same_point}
-use Rattle.dpl_flatten.proofs.copies.spacing.Goals as goal
+use Rattle.dpl_reference.proofs.copies.spacing.Goals as goal
 
 pub returns-clause-value : goal.returns-clause-value
 returns-clause-value c =

@@ -1,29 +1,17 @@
-//! How references place what they refer to.
+//! What references are refused for.
 
-ghost use Rattle.std.specs.Prelude.{◌≡◌, ◌≢◌, ◌+◌, ◌*◌, ◌^◌, ◌<◌, ◌≤◌, ◌↔◌, pos, ◌-ℤ◌, ◌≤ℤ◌, unsigned_abs, bit_and, length, unwrap_or, IsTrue};
+ghost use Rattle.std.specs.Prelude.{◌≡◌, ◌≢◌, ◌^◌, ◌≤◌, ◌↔◌, pos, ◌-ℤ◌, ◌≤ℤ◌, unsigned_abs, bit_and, length, unwrap_or, IsTrue};
 ghost use Rattle.std.specs.Option.{option_map};
 ghost use Rattle.dpl_spec_split.specs.Loops.{IsPointWithin};
 ghost use Rattle.dpl_syntax.specs.Elements.{trans_seen};
-ghost use Rattle.dpl_spec_layout.specs.Elements.{point_in, plain, IsMagnified, IsTurnedAskew, IsReferenceFault, Divides, IsArray};
-ghost use Rattle.dpl_flatten.specs.Drawn.{IsTransformFault, IsFaultBy, DividesBoth};
+ghost use Rattle.dpl_spec_layout.specs.Elements.{plain, IsMagnified, IsTurnedAskew, IsReferenceFault, Divides, IsArray};
+ghost use Rattle.dpl_reference.specs.Faults.{IsTransformFault, IsFaultBy, DividesBoth};
 
+use crate::point_at;
 use dpl_base::Pt;
 use dpl_reals::Real;
-use dpl_records::i32_at;
 use dpl_spec_layout::ElementFault;
 use dpl_syntax::Trans;
-
-/// The point `i` in the data of XY.
-pub(crate) fn point_at(xy: &[u8], i: usize) -> Pt
-    requires { 8 * i + 8 ≤ length xy.now }
-    ensures value { result ≡ point_in xy.now i }
-    ensures within { IsPointWithin (2 ^ 31) result }
-{
-    Pt {
-        x: i32_at(xy, 8 * i) as i64,
-        y: i32_at(xy, 8 * i + 4) as i64,
-    }
-}
 
 /// Whether STRANS asks for an absolute magnification or angle.
 fn is_absolute(strans: u16) -> bool
@@ -79,7 +67,7 @@ fn own_fault(trans: Option<Trans>) -> Option<ElementFault>
 }
 
 /// What a reference to one copy is refused for.
-pub(crate) fn single_fault(trans: Option<Trans>) -> Option<ElementFault>
+pub fn single_fault(trans: Option<Trans>) -> Option<ElementFault>
     ensures { IsFaultBy (IsReferenceFault (unwrap_or (option_map trans_seen trans) plain) ⊥) result }
 {
     own_fault(trans)
@@ -110,13 +98,7 @@ fn divides_both(count: i16, from: Pt, to: Pt) -> bool
     requires to { IsPointWithin (2 ^ 31) to }
     ensures { IsTrue result ↔ DividesBoth count from to }
 {
-    if !divides(count, from.x, to.x) {
-        return false;
-    }
-    if !divides(count, from.y, to.y) {
-        return false;
-    }
-    true
+    divides(count, from.x, to.x) && divides(count, from.y, to.y)
 }
 
 /// Whether an array has a column and a row, and whole spacings between them.
@@ -130,22 +112,11 @@ fn is_laid(columns: i16, rows: i16, xy: &[u8]) -> bool
     let from = point_at(xy, 0);
     let across = point_at(xy, 1);
     let up = point_at(xy, 2);
-    if !divides_both(columns, from, across) {
-        return false;
-    }
-    if !divides_both(rows, from, up) {
-        return false;
-    }
-    true
+    divides_both(columns, from, across) && divides_both(rows, from, up)
 }
 
 /// What an array is refused for.
-pub(crate) fn array_fault(
-    trans: Option<Trans>,
-    columns: i16,
-    rows: i16,
-    xy: &[u8],
-) -> Option<ElementFault>
+pub fn array_fault(trans: Option<Trans>, columns: i16, rows: i16, xy: &[u8]) -> Option<ElementFault>
     requires { length xy.now ≡ 24 }
     ensures { IsFaultBy (IsReferenceFault (unwrap_or (option_map trans_seen trans) plain) (¬ IsArray columns rows xy.now)) result }
 {

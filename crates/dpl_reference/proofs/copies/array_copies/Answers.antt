@@ -2,7 +2,7 @@ use Rattle.std.proofs.Common.{rules, arith}
 use Rattle.std.specs.Prelude.{FitsSigned}
 use Rattle.std.specs.Int.{w16}
 use Rattle.std.proofs.lemmas.Int.{ints, to_z-of_z}
-use Rattle.dpl_flatten.proofs.copies.array_copies.Goals as goal
+use Rattle.dpl_reference.proofs.copies.array_copies.Goals as goal
 
 pub returns-clause-copies : goal.returns-clause-copies
 returns-clause-copies c =

@@ -2,8 +2,8 @@ use Rattle.std.proofs.Common.{rules, arith}
 use Rattle.std.specs.Prelude.{FitsSigned, ◌-ℤ◌}
 use Rattle.std.specs.Int.{w16, w64}
 use Rattle.std.proofs.lemmas.Int.{ints, to_z-of_z}
-use Rattle.dpl_flatten.proofs.CopyLaws.{quot_times}
-use Rattle.dpl_flatten.proofs.copies.part.Goals as goal
+use Rattle.dpl_reference.proofs.Spacings.{quot_times}
+use Rattle.dpl_reference.proofs.copies.part.Goals as goal
 
 pub returns-clause-value : goal.returns-clause-value
 returns-clause-value c =
