@@ -2,6 +2,8 @@
 #![tactic(auto)]
 
 #[cfg(test)]
+mod assemblies;
+#[cfg(test)]
 mod boards;
 #[cfg(test)]
 mod colours;

@@ -4,6 +4,7 @@ ghost use Rattle.std.specs.Prelude.{[], ◌∷◌, ◌<◌, replicate};
 use crate::jobs::{Bare, TwoTiles};
 use dpl_pool::{Gate, OpenGate, run_pool};
 use dpl_stars::Joined;
+use dpl_test_gates::Holds;
 use dpl_turn::Seat;
 use std::alloc::Global;
 use std::sync::Wait;
@@ -11,57 +12,18 @@ use std::sync::atomic::{AtomicU64, Ordering};
 use std::test::*;
 use std::thread::{Threads, yield_now};
 
-/// Holds one tile until the other has come, or was posted, and gives up after a number of turns.
-#[derive(Drop)]
-struct Holds {
-    held: u32,
-    other: u32,
-    waits_for_post: bool,
-    came: AtomicU64,
-    gave_up: AtomicU64,
-}
-
-impl Gate for Holds {
-    fn enter(&self, _worker: u32, tile: u32) {
-        if tile == self.other && !self.waits_for_post {
-            self.came.store(1, Ordering::SeqCst);
-        }
-        if tile == self.held {
-            for _ in 0..100_000_000u32 {
-                if self.came.load(Ordering::SeqCst) == 1 {
-                    return;
-                }
-                yield_now();
-            }
-            self.gave_up.store(1, Ordering::SeqCst);
-        }
-    }
-
-    fn posted(&self, _seat: &Seat, tile: u32) {
-        if tile == self.other && self.waits_for_post {
-            self.came.store(1, Ordering::SeqCst);
-        }
-    }
-}
-
 /// How many entries the history has, and whether the gate gave up.
 fn meets<R: Threads + Wait + Sync>(
     rt: &R,
     alloc: Global,
     held: u32,
     waits_for_post: bool,
-) -> Option<(usize, u64)>
+) -> Option<(usize, bool)>
     requires { held < 2 }
 {
-    let gate = Holds {
-        held,
-        other: 1 - held,
-        waits_for_post,
-        came: AtomicU64::new(0),
-        gave_up: AtomicU64::new(0),
-    };
+    let gate = Holds::new(held, 1 - held, waits_for_post);
     match run_pool(rt, alloc, 2, &TwoTiles, &gate) {
-        Ok(state) => Some((state.history().len(), gate.gave_up.load(Ordering::SeqCst))),
+        Ok(state) => Some((state.history().len(), gate.has_given_up())),
         Err(_) => None,
     }
 }
@@ -69,7 +31,7 @@ fn meets<R: Threads + Wait + Sync>(
 #[test]
 fn two_tiles_meet(rt: HostRuntime) -> Result<(), Fail> {
     for held in 0..2 {
-        assert_eq!(rt; meets(&rt, rt.alloc(), held, false), Some((2, 0)));
+        assert_eq!(rt; meets(&rt, rt.alloc(), held, false), Some((2, false)));
     }
     Ok(())
 }
@@ -77,7 +39,7 @@ fn two_tiles_meet(rt: HostRuntime) -> Result<(), Fail> {
 #[test]
 fn posted_early(rt: HostRuntime) -> Result<(), Fail> {
     for held in 0..2 {
-        assert_eq!(rt; meets(&rt, rt.alloc(), held, true), Some((2, 0)));
+        assert_eq!(rt; meets(&rt, rt.alloc(), held, true), Some((2, false)));
     }
     Ok(())
 }
