@@ -48,8 +48,7 @@ pub fn edges_of(alloc: Global, plan: &Plan, tile: u32) -> Result<Vec<Edge>, Allo
     ensures below { IfOk result (λ v. All (λ (e : ℕ × ℕ). (e.0 < e.1) × (e.1 < length plan.now.parts)) v.items) }
 {
     let cell = plan.cell(tile);
-    let edges = sorted_edges(alloc, plan, &cell)?;
-    Ok(edges)
+    sorted_edges(alloc, plan, &cell)
 }
 
 /// All conflicts of a plan's pieces, smaller number first, in order, each once: two pieces of different owners conflict where some square of one lies closer than the plan's rule to some square of the other.
@@ -58,6 +57,5 @@ pub fn all_edges(alloc: Global, plan: &Plan) -> Result<Vec<Edge>, AllocError>
     ensures below { IfOk result (λ v. All (λ (e : ℕ × ℕ). (e.0 < e.1) × (e.1 < length plan.now.parts)) v.items) }
 {
     let cell = whole();
-    let edges = sorted_edges(alloc, plan, &cell)?;
-    Ok(edges)
+    sorted_edges(alloc, plan, &cell)
 }
