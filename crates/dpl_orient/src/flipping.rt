@@ -1,5 +1,5 @@
 //! Which components are flipped.
-ghost use Rattle.std.specs.Prelude.{◌≡◌, ◌<◌, ◌≤◌, ◌+◌, length, IfOk};
+ghost use Rattle.std.specs.Prelude.{◌≡◌, ◌<◌, ◌≤◌, ◌+◌, nat_lt, length, IfOk};
 ghost use Rattle.dpl_orient.specs.Crossings.{crossings_at, AreGrouped, GoUp, IsSplit, AreFlips, is_flipped_by};
 
 use crate::chart::Rooted;
@@ -13,6 +13,13 @@ struct Settled {
     /// Where the crossings of the next component begin.
     next: usize,
     flip: bool,
+}
+
+/// Whether a component is flipped, by how many of its crossings agree and how many differ: on a tie it isn't.
+fn is_flipped(agreeing: usize, differing: usize) -> bool
+    ensures { result ≡ nat_lt agreeing differing }
+{
+    agreeing < differing
 }
 
 /// Whether the component of `root` is flipped. Its crossings begin at `start`.
@@ -36,7 +43,7 @@ fn settle(
     for next in start..across.len() {
         let crossing = crossing_at(chart, sides, across[next].zone as usize);
         if crossing.later != root {
-            let flip = agreeing < differing;
+            let flip = is_flipped(agreeing, differing);
             return Settled { next, flip };
         }
         if differs(crossing.odd, flips[crossing.earlier as usize]) {
@@ -45,10 +52,9 @@ fn settle(
             agreeing += 1;
         }
     }
-    let flip = agreeing < differing;
     Settled {
         next: across.len(),
-        flip,
+        flip: is_flipped(agreeing, differing),
     }
 }
 

@@ -51,5 +51,5 @@ returns-then-crossing-root-clause-flip c =
     let many = as-many c.args.chart.now c.args.sides.now c.args.across.now in
     let within : c.loop-next.next < length (crossings_at c.args.chart.now c.args.sides.now c.args.across.now) = omega (arith, many, c.loop-next-test.true) in
     let is = crossing-here c.args.chart.now c.args.sides.now c.args.across.now c.loop-next.next none x c.loop-next-test.true c.crossing_at-crossing.ensures in
-    settled-flip _ _ _ _ _ _ (omega (arith, within))
+    c.is_flipped-flip.ensures ∙ settled-flip _ _ _ _ _ _ (omega (arith, within))
     (after-stop _ c.args.root c.args.start _ _ c.requires.grouped c.requires.split c.loop-next.auto.next within is c.if-crossing-root.true) c.loop-next.invariant
