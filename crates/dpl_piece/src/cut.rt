@@ -44,6 +44,5 @@ pub fn pieces(alloc: Global, features: Parts, zones: Vec<Zone>) -> Result<Pieces
     ensures pieces { IfOk result (λ p. AreTheirPieces features zones.items p) }
 {
     let bare = bare_pieces(alloc, features, zones)?;
-    let pieces = bare.completed(alloc)?;
-    Ok(pieces)
+    bare.completed(alloc)
 }

@@ -8,7 +8,7 @@ ghost use Rattle.dpl_piece.specs.Pieces.{broken_piece, least_key, feature_at, re
 ghost use Rattle.dpl_piece.specs.Wholes.{whole_of, AreWholes, KeepsWhole};
 
 use crate::piece::{CutUp, Origin, Piece, Whole};
-use dpl_base::{Id, Rect, Zone, give_back};
+use dpl_base::{Id, Rect, Zone, give_back, short_id};
 use dpl_slabs::Slabs;
 use std::alloc::{AllocError, Global};
 
@@ -26,10 +26,8 @@ fn feature_of(zones: &[Zone], number: usize) -> Id
 fn short_numbers(alloc: Global, count: usize) -> Result<Vec<u32>, AllocError>
     ensures { IfOk result (λ v. v.items ≡ range_with_len 0 count) }
 {
-    match u32::try_from(count) {
-        Ok(count) => (0..count).collect(alloc),
-        Err(_) => Err(AllocError),
-    }
+    let count = short_id(count as Id)?;
+    (0..count).collect(alloc)
 }
 
 /// The numbers of the zones, by feature.
