@@ -5,6 +5,7 @@ ghost use Rattle.dpl_host.specs.MemHost.{next_count};
 ghost use Rattle.dpl_host.specs.Outside.{Changes, Gave, HasCause, IsThere, LeavesRest, Reads, Takes, with_file, with_more, with_said};
 ghost use Rattle.dpl_host.specs.SureHost.{counted, untold};
 
+use crate::fault::Fault;
 use dpl_host::{Failed, Host};
 use std::fs::{File, OpenOptions};
 use std::io;
@@ -13,6 +14,9 @@ use std::os::unix::fs::FileExt;
 
 /// How many bytes a read takes at most.
 const CHUNK: usize = 8192;
+
+/// How the line begins that a split of a layer without a square says.
+const EMPTY: &[u8] = b"done features 0 ";
 
 /// A file that stays open from call to call.
 #[derive(Drop)]
@@ -25,24 +29,30 @@ struct Opened {
 #[derive(Drop)]
 pub struct FileHost<'a> {
     rt: &'a HostRuntime,
+    words: &'a [&'a str],
     input: Option<Opened>,
     output: Option<Opened>,
+    fault: Option<Fault<'a>>,
+    is_empty: bool,
     read_faults: u64,
     write_faults: u64,
     given: u64,
 }
 
 impl<'a> FileHost<'a> {
-    /// A host whose calls have not failed yet, and gave nothing.
-    pub fn new(rt: &'a HostRuntime) -> FileHost<'a>
+    /// A host whose calls have not failed yet, and gave nothing. The words are those of the command line, among which are the names of its files.
+    pub fn new(rt: &'a HostRuntime, words: &'a [&'a str]) -> FileHost<'a>
         ensures reads { result.read_faults ≡ 0 }
         ensures writes { result.write_faults ≡ 0 }
         ensures given { result.given ≡ 0 }
     {
         FileHost {
             rt,
+            words,
             input: None,
             output: None,
+            fault: None,
+            is_empty: false,
             read_faults: 0,
             write_faults: 0,
             given: 0,
@@ -56,8 +66,23 @@ impl<'a> FileHost<'a> {
         self.read_faults
     }
 
-    /// How many bytes of a piece were taken. An error is a fault, and so is a write of nothing.
-    fn taken(&mut self, written: io::Result<usize>, piece: &[u8]) -> Result<usize, Failed>
+    /// The last call that failed.
+    pub fn fault(&self) -> Option<Fault<'a>> {
+        self.fault
+    }
+
+    /// Whether it was said that a layer without a square was split.
+    pub fn is_empty(&self) -> bool {
+        self.is_empty
+    }
+
+    /// How many bytes of a piece were taken by a place. An error is a fault, and so is a write of nothing.
+    fn taken(
+        &mut self,
+        place: &'a str,
+        written: io::Result<usize>,
+        piece: &[u8],
+    ) -> Result<usize, Failed>
         requires { WritesAtMost written piece.now }
         ensures taken { IfOk result (Takes piece.now) }
         ensures cause { HasCause self.old.write_faults self.new.write_faults result }
@@ -68,7 +93,10 @@ impl<'a> FileHost<'a> {
     {
         match written {
             Ok(count) if count > 0 || piece.is_empty() => Ok(count),
-            _ => {
+            written => {
+                let none = io::Error::from(io::ErrorKind::WriteZero);
+                let cause = written.err().unwrap_or(none);
+                self.fault = Some(Fault { place, cause });
                 self.write_faults = self.write_faults.saturating_add(1);
                 Err(Failed)
             }
@@ -107,7 +135,9 @@ impl<'a> Host for FileHost<'a> {
                 self.given = self.given.saturating_add(count as u64);
                 Ok(count)
             }
-            Err(_) => {
+            Err(cause) => {
+                let place = word_of(self.words, name);
+                self.fault = Some(Fault { place, cause });
                 self.read_faults = self.read_faults.saturating_add(1);
                 Err(Failed)
             }
@@ -124,7 +154,9 @@ impl<'a> Host for FileHost<'a> {
     {
         match create_anew(self.rt, &mut self.output, name) {
             Ok(()) => Ok(()),
-            Err(_) => {
+            Err(cause) => {
+                let place = word_of(self.words, name);
+                self.fault = Some(Fault { place, cause });
                 self.write_faults = self.write_faults.saturating_add(1);
                 Err(Failed)
             }
@@ -142,7 +174,7 @@ impl<'a> Host for FileHost<'a> {
         ensures given { self.new.given ≡ self.old.given }
     {
         let written = append_to(self.rt, &mut self.output, name, piece);
-        self.taken(written, piece)
+        self.taken(word_of(self.words, name), written, piece)
     }
 
     fn say(&mut self, piece: &[u8]) -> Result<usize, Failed>
@@ -154,9 +186,16 @@ impl<'a> Host for FileHost<'a> {
         ensures keeps { OnOk result (self.new.write_faults ≡ self.old.write_faults) }
         ensures given { self.new.given ≡ self.old.given }
     {
+        self.is_empty = self.is_empty || piece.starts_with(EMPTY);
         let written = io::writer(self.rt).write(piece);
-        self.taken(written, piece)
+        self.taken("standard output", written, piece)
     }
+}
+
+/// The word that is a file's name. It is lent, so it takes no memory where memory has run out.
+fn word_of<'a>(words: &'a [&'a str], name: &str) -> &'a str {
+    let word = words.iter().find(|word| **word == name);
+    word.copied().unwrap_or("a file")
 }
 
 /// Reads bytes of a file from a place on. The file is opened, unless it is the one that is open already.

@@ -16,8 +16,8 @@ const BAR: [u8; 170] = [
 #[test]
 fn a_real_file_is_written_and_read_back(rt: HostRuntime) -> Result<(), Fail> {
     let alloc = rt.alloc();
-    let mut host = FileHost::new(&rt);
     let name = "dpl-written-and-read-back";
+    let mut host = FileHost::new(&rt, &[]);
     assert!(rt; write_all(&mut host, name, &BAR).is_ok());
     let bytes = read_all(alloc, &mut host, name)
         .ok()
@@ -27,5 +27,36 @@ fn a_real_file_is_written_and_read_back(rt: HostRuntime) -> Result<(), Fail> {
     assert!(rt; read_all(alloc, &mut host, "dpl-not-there").is_err());
     assert_eq!(rt; host.read_faults(), 1);
     fs::remove_file(&rt, name)?;
+    Ok(())
+}
+
+#[test]
+fn a_failed_call_is_told(rt: HostRuntime) -> Result<(), Fail> {
+    let alloc = rt.alloc();
+    let words = ["dpl-not-there", "dpl-no-folder/out", "/dev/full", "."];
+    let mut host = FileHost::new(&rt, &words);
+    assert!(rt; host.fault().is_none());
+    let reads = [
+        ("dpl-not-there", "dpl-not-there: No such file or directory"),
+        (".", ".: Is a directory"),
+    ];
+    for (name, told) in reads {
+        assert!(rt; read_all(alloc, &mut host, name).is_err(), "{name}");
+        let fault = host.fault().ok_or("it is told")?;
+        assert_eq!(rt; fault.to_string(alloc)?.as_str(), told);
+    }
+    let writes = [
+        (
+            "dpl-no-folder/out",
+            "dpl-no-folder/out: No such file or directory",
+        ),
+        ("/dev/full", "/dev/full: No space left on device"),
+        (".", ".: Is a directory"),
+    ];
+    for (name, told) in writes {
+        assert!(rt; write_all(&mut host, name, &BAR).is_err(), "{name}");
+        let fault = host.fault().ok_or("it is told")?;
+        assert_eq!(rt; fault.to_string(alloc)?.as_str(), told);
+    }
     Ok(())
 }
