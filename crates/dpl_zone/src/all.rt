@@ -73,6 +73,5 @@ pub fn zones(alloc: Global, parts: &Parts, rule: u32, overlap: u32) -> Result<Ve
     let items = parts.items();
     let mut found = found_zones(alloc, items, rule, overlap)?;
     sort_zones(&mut found);
-    let zones = each_once(alloc, &found)?;
-    Ok(zones)
+    each_once(alloc, &found)
 }

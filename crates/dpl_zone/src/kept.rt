@@ -24,8 +24,7 @@ fn tree_of_zones(alloc: Global, zones: &[Rect]) -> Result<Tree, AllocError>
 {
     let mut items = Items::new(alloc);
     items.add(zones, 0)?;
-    let tree = Tree::of(alloc, items)?;
-    Ok(tree)
+    Tree::of(alloc, items)
 }
 
 /// Adds a zone that touches none of the others.
@@ -80,6 +79,5 @@ pub fn kept_zones(
     ensures { IfOk result (λ v. (z : Rect) → Contains v.items z ↔ IsKeptZone rule overlap (layer_of part.now (others_in tree.now own)) (Covers part.now) z) }
 {
     let found = found_in(alloc, part, tree, across, own, rule, overlap)?;
-    let kept = joined(alloc, found.flat, found.upright)?;
-    Ok(kept)
+    joined(alloc, found.flat, found.upright)
 }

@@ -25,13 +25,7 @@ fn goes_below(tree: &View, own: usize, slab: &Rect, is_whole: bool, g: &Span) ->
     requires whole { IsTrue is_whole → AllIn (own_in tree.now own) slab.now }
     ensures { IsTrue result ↔ ((slab.now.y0 <ℤ g.now.from) ⊎ GoesBelow (own_in tree.now own) slab.now) }
 {
-    if (slab.y0 as i64) < g.from {
-        return true;
-    }
-    if has_row(tree, own, slab, is_whole, slab.y0 as i64 - 1) {
-        return true;
-    }
-    false
+    (slab.y0 as i64) < g.from || has_row(tree, own, slab, is_whole, slab.y0 as i64 - 1)
 }
 
 /// Whether the feature goes on above the span: in the slab itself, or above that, where it isn't the whole feature.
@@ -41,13 +35,7 @@ fn goes_above(tree: &View, own: usize, slab: &Rect, is_whole: bool, g: &Span) ->
     requires whole { IsTrue is_whole → AllIn (own_in tree.now own) slab.now }
     ensures { IsTrue result ↔ ((g.now.to <ℤ slab.now.y1) ⊎ GoesAbove (own_in tree.now own) slab.now) }
 {
-    if g.to < slab.y1 as i64 {
-        return true;
-    }
-    if has_row(tree, own, slab, is_whole, slab.y1 as i64) {
-        return true;
-    }
-    false
+    g.to < slab.y1 as i64 || has_row(tree, own, slab, is_whole, slab.y1 as i64)
 }
 
 /// Whether a span is long enough for a zone, and the feature goes on beyond both its ends.
@@ -60,16 +48,9 @@ fn is_open(tree: &View, own: usize, slab: &Rect, is_whole: bool, g: &Span, overl
     requires to { g.now.to ≤ℤ slab.now.y1 }
     ensures { IsTrue result ↔ IsOpenSpan overlap slab.now (GoesBelow (own_in tree.now own) slab.now) (GoesAbove (own_in tree.now own) slab.now) g.now }
 {
-    if g.to - g.from < overlap as i64 + 2 {
-        return false;
-    }
-    if !goes_below(tree, own, slab, is_whole, g) {
-        return false;
-    }
-    if !goes_above(tree, own, slab, is_whole, g) {
-        return false;
-    }
-    true
+    g.to - g.from >= overlap as i64 + 2
+        && goes_below(tree, own, slab, is_whole, g)
+        && goes_above(tree, own, slab, is_whole, g)
 }
 
 /// The middle of a span.
