@@ -22,5 +22,5 @@ pub record IsEnd (words : List Text) (status : Status) : Type 0 where
   pub answer : is_answered status ≡ true → IsOutcome words status untold untold
   -- the usage is answered where the words ask for nothing
   pub usage : status ≡ Usage → request_of words ≡ None
-  -- and there alone, but for want of memory and a usage text that can't be said
+  -- and there alone, but where memory runs out and a usage text that can't be said
   pub no_other : request_of words ≡ None → (status ≡ Usage) ⊎ (status ≡ WriteFault) ⊎ (status ≡ NoMemory)

@@ -23,7 +23,7 @@ use Rattle.dpl_spec_layout.specs.Placements.{Step, Leads, placed_loops}
 use Rattle.dpl_spec_layout.specs.Points.{points_at, points_by, points_through, placed_points, most_points}
 use Rattle.dpl_spec_layout.specs.Faults.{IsFaultless}
 use Rattle.dpl_masks.specs.Bytes.{coordinate_bytes, corners}
-use Rattle.dpl_layer.specs.Reading.{frame_bytes, front_of}
+use Rattle.dpl_layer.specs.Reading.{frame_bytes, copied_of}
 use Rattle.dpl_law_outcome.specs.ReadBack.{AreMasksOf, IsMask, boundary_round, bodies_of, most_slabs}
 use Rattle.dpl_law_outcome.proofs.Decoding.{points-read, xy_of}
 use Rattle.dpl_law_outcome.proofs.Layers.{unmoved}
@@ -256,5 +256,5 @@ module _ (bytes : List ℕ) (la lb : ℕ) (a b : List Rect) (m : AreMasksOf byte
       let k = nothing-on lb la a apart in
       omega (arith, s, h, k, most)
 
-  pub front : front_of m.lib 0 ≡ Some (frame_bytes (frame_of m.lib m.top))
+  pub front : copied_of m.lib 0 ≡ Some (frame_bytes (frame_of m.lib m.top))
   front = ap (λ (ts : List Structure). option_map (λ (s : Structure). frame_bytes (frame_of m.lib s)) (slice_get ts 0)) m.one

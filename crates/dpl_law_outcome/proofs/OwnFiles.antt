@@ -32,7 +32,7 @@ use Rattle.dpl_answer.specs.Flat.{Clash, Clashes, Flat, Painted, Paints, IsClash
 use Rattle.dpl_law_verdict.specs.Own.{head_of}
 use Rattle.dpl_run.specs.Outcome.{Outcome, Shows, carried_out, says, silent}
 use Rattle.dpl_run.specs.Program.{IsPlan}
-use Rattle.dpl_layer.specs.Reading.{IsLayerIn, IsReading, Layer, chosen, frame_bytes, front_of, limit}
+use Rattle.dpl_layer.specs.Reading.{IsLayerIn, IsReading, Layer, chosen, frame_bytes, copied_of, limit}
 use Rattle.dpl_run.specs.Split.{Decides, IsSplitOf, certified, plan_of, split_choice, Decision, IsDecision, Refuses, refusal}
 use Rattle.dpl_run.specs.Texts.{valid_line}
 use Rattle.dpl_run.proofs.Checking.{differ, put_other}
@@ -63,7 +63,7 @@ own-names v apart =
 -- ---- the front of a file
 
 -- the records before the elements are those of a structure of the library
-fronted : (lib : Library) (top : ℕ) (front : List ℕ) → front_of lib top ≡ Some front → (s : Structure) × Contains lib.structures s × (front ≡ frame_bytes (frame_of lib s))
+fronted : (lib : Library) (top : ℕ) (front : List ℕ) → copied_of lib top ≡ Some front → (s : Structure) × Contains lib.structures s × (front ≡ frame_bytes (frame_of lib s))
 fronted lib top front is = elim (slice_get_cases lib.structures top).1 [
   | inl there ↦ (let (s, top_in, found, at) = there in
       let some : Some (frame_bytes (frame_of lib s)) ≡ Some front = sym

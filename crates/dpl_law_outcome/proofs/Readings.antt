@@ -16,7 +16,7 @@ use Rattle.dpl_law_split.proofs.Tops.{top-same, top-fault_same, top-or_fault}
 use Rattle.dpl_law_split.proofs.FirstFaults.{fault-same, faultless-or_fault}
 use Rattle.dpl_cert.specs.declared.name.Name.{Name}
 use Rattle.dpl_layer.specs.Naming.{syntax_name, top_name, flatten_name}
-use Rattle.dpl_layer.specs.Reading.{Choice, Reading, Faulty, Layer, chosen, front_of, IsFaultIn, IsLayerIn, IsLayout, IsReading}
+use Rattle.dpl_layer.specs.Reading.{Choice, Reading, Faulty, Layer, chosen, copied_of, IsFaultIn, IsLayerIn, IsLayout, IsReading}
 
 named-top : (f : TopFault) (p : Name × ℕ) → top_name f ≡ Some p → f ≢ NoMemoryForTop
 named-top f p e is = let gone : None ≡ Some p = sym (ap top_name is) ∙ e in cc
@@ -57,7 +57,7 @@ module _ (v : Choice) (bytes : List ℕ) (lib : Library) (holds : Holds bytes li
   layer-in_same : (p q : List ℕ) (r s : List Rect) → IsLayerIn v lib p r → IsLayerIn v lib q s → Layer p r ≡ Layer q s
   layer-in_same p q r s a b =
       let tops : b.top ≡ a.top = top-same lib v.top b.top a.top b.is_top a.is_top in
-      let some : Some p ≡ Some q = sym a.before ∙ (ap (λ t. front_of lib t) (sym tops) ∙ b.before) in
+      let some : Some p ≡ Some q = sym a.before ∙ (ap (λ t. copied_of lib t) (sym tops) ∙ b.before) in
       let fronts : p ≡ q = cc in
       let slabs : r ≡ s = slabs-unique (IsInLayer lib a.top (chosen v)) r s a.squares (subst (λ t. AreSlabsOf (IsInLayer lib t (chosen v)) s) tops b.squares) in
       ap (λ x. Layer x r) fronts ∙ ap (λ x. Layer q x) slabs

@@ -183,10 +183,10 @@ layout_faulty told v bytes name at x seen read is =
       answered = refusal_answered (codes "in") name at x is;
     }
 
-pub layout_read : (told : Option Outside) (v : CheckValues) (bytes front : List ℕ) (layer : List Rect) (x : Outcome)
-    → IsSeen told v.input (Some bytes) → IsLayout (check_choice v) bytes (Layer front layer) → IsMadeOfLayer told v layer x
+pub layout_read : (told : Option Outside) (v : CheckValues) (bytes copied : List ℕ) (layer : List Rect) (x : Outcome)
+    → IsSeen told v.input (Some bytes) → IsLayout (check_choice v) bytes (Layer copied layer) → IsMadeOfLayer told v layer x
     → IsMadeOfFiles told v x
-layout_read told v bytes front layer x seen read (cert, out, cert_told, out_told, is, answered) =
+layout_read told v bytes copied layer x seen read (cert, out, cert_told, out_told, is, answered) =
     record {
       layout = Some bytes;
       cert = cert;
@@ -194,7 +194,7 @@ layout_read told v bytes front layer x seen read (cert, out, cert_told, out_told
       input_told = seen.0;
       cert_told = cert_told;
       out_told = out_told;
-      is = (Layer front layer, inr (seen.1, read), is);
+      is = (Layer copied layer, inr (seen.1, read), is);
       answered = answered;
     }
 
@@ -245,8 +245,8 @@ out_large told v layer (Fault name at) x of seen is = absurd of
 
 masks_answered : (v : CheckValues) (layer : List Rect) (cert : Cert) (bytes : List ℕ) (x : Outcome) → IsCheckOfMasks v layer cert bytes x → is_answered x.status ≡ true
 masks_answered v layer cert bytes x (Faulty name at, read, is) = refusal_answered (codes "out") name at x is
-masks_answered v layer cert bytes x (Layer front a, read, (Faulty name at, other, is)) = refusal_answered (codes "out") name at x is
-masks_answered v layer cert bytes x (Layer front a, read, (Layer back b, other, (w, said, is))) = judged_answered cert w x is
+masks_answered v layer cert bytes x (Layer copied a, read, (Faulty name at, other, is)) = refusal_answered (codes "out") name at x is
+masks_answered v layer cert bytes x (Layer copied a, read, (Layer back b, other, (w, said, is))) = judged_answered cert w x is
 
 pub out_read : (told : Option Outside) (v : CheckValues) (layer : List Rect) (cert : Cert) (bytes : List ℕ) (x : Outcome) → IsOfMasks cert
     → IsSeen told v.output (Some bytes) → IsCheckOfMasks v layer cert bytes x → IsMadeOfCert told v layer cert x
@@ -259,12 +259,12 @@ pub first_faulty : (v : CheckValues) (layer : List Rect) (cert : Cert) (bytes : 
     → IsCheckOfMasks v layer cert bytes x
 first_faulty v layer cert bytes name at x small read is = (Faulty name at, inr (small, read), is)
 
-pub second_faulty : (v : CheckValues) (layer : List Rect) (cert : Cert) (bytes front : List ℕ) (a : List Rect) (name : Name) (at : ℕ)
-    (x : Outcome) → length bytes ≤ limit → IsLayout (mask_choice v.a) bytes (Layer front a)
+pub second_faulty : (v : CheckValues) (layer : List Rect) (cert : Cert) (bytes copied : List ℕ) (a : List Rect) (name : Name) (at : ℕ)
+    (x : Outcome) → length bytes ≤ limit → IsLayout (mask_choice v.a) bytes (Layer copied a)
     → IsLayout (mask_choice v.b) bytes (Faulty name at) → x ≡ refusal_of (codes "out") name at → IsCheckOfMasks v layer cert bytes x
-second_faulty v layer cert bytes front a name at x small read other is = (Layer front a, inr (small, read), (Faulty name at, inr (small, other), is))
+second_faulty v layer cert bytes copied a name at x small read other is = (Layer copied a, inr (small, read), (Faulty name at, inr (small, other), is))
 
-pub masks_judged : (v : CheckValues) (layer : List Rect) (cert : Cert) (bytes front back : List ℕ) (a b : List Rect) (w : Verdict)
-    (x : Outcome) → length bytes ≤ limit → IsLayout (mask_choice v.a) bytes (Layer front a)
+pub masks_judged : (v : CheckValues) (layer : List Rect) (cert : Cert) (bytes copied back : List ℕ) (a b : List Rect) (w : Verdict)
+    (x : Outcome) → length bytes ≤ limit → IsLayout (mask_choice v.a) bytes (Layer copied a)
     → IsLayout (mask_choice v.b) bytes (Layer back b) → IsVerdictOfMasks v.rule v.overlap layer a b cert w → x ≡ verdict_outcome cert w → IsCheckOfMasks v layer cert bytes x
-masks_judged v layer cert bytes front back a b w x small read other said is = (Layer front a, inr (small, read), (Layer back b, inr (small, other), (w, said, is)))
+masks_judged v layer cert bytes copied back a b w x small read other said is = (Layer copied a, inr (small, read), (Layer back b, inr (small, other), (w, said, is)))

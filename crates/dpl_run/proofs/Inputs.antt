@@ -51,8 +51,8 @@ too_large_seen (Some o) name h = (o, refl, h)
 
 plan_answered : (v : SplitValues) (d : Decision) → is_answered (plan_of v d).status ≡ true
 plan_answered v (Refuses name at) = refl
-plan_answered v (Decides front (Paints p)) = refl
-plan_answered v (Decides front (Clashes x)) = refl
+plan_answered v (Decides copied (Paints p)) = refl
+plan_answered v (Decides copied (Clashes x)) = refl
 
 of_file : (v : SplitValues) (file : Option (List ℕ)) (bytes : List ℕ) (x : Outcome) → file ≡ Some bytes → IsSplit v bytes x → IsSplitOf v file x
 of_file v file bytes x is h = subst (λ (f : Option (List ℕ)). IsSplitOf v f x) (sym is) h
@@ -73,9 +73,9 @@ pub faulty : (choice : Choice) (rule overlap : ℕ) (bytes : List ℕ) (name : N
 faulty choice rule overlap bytes name at small read = inr (small, read)
 
 -- the layer was decomposed
-pub answered : (choice : Choice) (rule overlap : ℕ) (bytes front : List ℕ) (layer : List Rect) (flat : Flat) → length bytes ≤ 268435456
-    → IsLayout choice bytes (Layer front layer) → IsFlat rule overlap layer flat → IsDecision choice rule overlap bytes (Decides front flat)
-answered choice rule overlap bytes front layer flat small read decomposed = (layer, inr (small, read), decomposed)
+pub answered : (choice : Choice) (rule overlap : ℕ) (bytes copied : List ℕ) (layer : List Rect) (flat : Flat) → length bytes ≤ 268435456
+    → IsLayout choice bytes (Layer copied layer) → IsFlat rule overlap layer flat → IsDecision choice rule overlap bytes (Decides copied flat)
+answered choice rule overlap bytes copied layer flat small read decomposed = (layer, inr (small, read), decomposed)
 
 -- an outside that shows
 shown : (told : Option Outside) → (o : Outside) × Shows told o
@@ -89,8 +89,8 @@ usage_made told x is = let s = shown told in (s.0, s.1, is, ap (λ (y : Outcome)
 
 demo_answered : (d : Decision) → is_answered (demo_plan d).status ≡ true
 demo_answered (Refuses name at) = refl
-demo_answered (Decides front (Paints p)) = refl
-demo_answered (Decides front (Clashes x)) = refl
+demo_answered (Decides copied (Paints p)) = refl
+demo_answered (Decides copied (Clashes x)) = refl
 
 pub demo_made : (told : Option Outside) (v : DemoValues) (x : Outcome) → IsDemo v x → IsMade (Some (AsksDemo v)) told x
 demo_made told v x is = let s = shown told in (s.0, s.1, is, ap (λ (y : Outcome). is_answered y.status) is.2 ∙ demo_answered is.0)

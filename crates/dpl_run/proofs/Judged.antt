@@ -57,8 +57,8 @@ judged_valid : (cert : Cert) (w : Verdict) (x : Outcome) → x ≡ verdict_outco
 judged_valid cert w x is done = valid_is w (sym (ap (λ (z : Outcome). z.status) is) ∙ done)
 
 -- a layer that was read is the file's
-layer_of_file : (choice : Choice) (bytes front : List ℕ) (slabs : List Rect) → IsReading choice bytes (Layer front slabs) → HasLayer choice bytes slabs
-layer_of_file choice bytes front slabs reading = elim reading [
+layer_of_file : (choice : Choice) (bytes copied : List ℕ) (slabs : List Rect) → IsReading choice bytes (Layer copied slabs) → HasLayer choice bytes slabs
+layer_of_file choice bytes copied slabs reading = elim reading [
   | inl large ↦ cc
   | inr read ↦ (let (lib, holds, l) = read.1 in record { lib = lib; holds = holds; top = l.top; is_top = l.is_top; faultless = l.faultless; squares = l.squares })
 ]
@@ -66,16 +66,16 @@ layer_of_file choice bytes front slabs reading = elim reading [
 masks_right : (v : CheckValues) (layer : List Rect) (head : Head) (pieces : List PieceLine) (stitches : List StitchLine) (bytes : List ℕ) (x : Outcome)
     → IsCheckOfMasks v layer (Masks head pieces stitches) bytes x → x.status ≡ Done → HasRightMasks v layer head pieces stitches bytes
 masks_right v layer head pieces stitches bytes x (Faulty name at, read, is) done = absurd (other x (refusal_of (codes "out") name at) Refused is refl refused done)
-masks_right v layer head pieces stitches bytes x (Layer front a, read, (Faulty name at, more, is)) done = absurd
+masks_right v layer head pieces stitches bytes x (Layer copied a, read, (Faulty name at, more, is)) done = absurd
     (other x (refusal_of (codes "out") name at) Refused is refl refused done)
-masks_right v layer head pieces stitches bytes x (Layer front a, read, (Layer back b, more, (w, said, is))) done =
+masks_right v layer head pieces stitches bytes x (Layer copied a, read, (Layer back b, more, (w, said, is))) done =
     let valid : w ≡ Valid = judged_valid (Masks head pieces stitches) w x is done in
     let kept : IsVerdictOfMasks v.rule v.overlap layer a b (Masks head pieces stitches) Valid = subst
     (λ (u : Verdict). IsVerdictOfMasks v.rule v.overlap layer a b (Masks head pieces stitches) u) valid said in
     record {
       a = a;
       b = b;
-      first = layer_of_file (mask_choice v.a) bytes front a read;
+      first = layer_of_file (mask_choice v.a) bytes copied a read;
       second = layer_of_file (mask_choice v.b) bytes back b more;
       right = right-masks v.rule v.overlap (record { layer = layer; a = a; b = b; head = head; pieces = pieces; stitches = stitches }) kept;
       lines = good-lines v.rule v.overlap layer a b head pieces stitches kept;
@@ -116,5 +116,5 @@ pub check_right : (v : CheckValues) (o : Outside) (layout cert out : Option (Lis
     → IsCheck v layout cert out x → x.status ≡ Done → IsRight v o
 check_right v o None cert out x read told there is done = absurd (other x (silent ReadFault) ReadFault is refl unread done)
 check_right v o (Some bytes) cert out x read told there (Faulty name at, found, is) done = absurd (other x (refusal_of (codes "in") name at) Refused is refl refused done)
-check_right v o (Some bytes) cert out x read told there (Layer front layer, found, is) done =
-    layer_right v o bytes layer read (layer_of_file (check_choice v) bytes front layer found) cert out x told there is done
+check_right v o (Some bytes) cert out x read told there (Layer copied layer, found, is) done =
+    layer_right v o bytes layer read (layer_of_file (check_choice v) bytes copied layer found) cert out x told there is done

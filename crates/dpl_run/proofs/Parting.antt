@@ -49,9 +49,9 @@ painted_parts rule overlap layer cut p is painted =
       overlap = subst (λ (ss : List Rect). OverlapAt ss m.a m.b) (sym (line_rects cut.zones cut.sides m.stitches)) (overlap-at rule overlap (Covers layer) cut m is are);
     })
 
-paints : (v : SplitValues) (bytes front : List ℕ) (p : Painted) (x : Outcome) → IsDecision (split_choice v) v.rule v.overlap bytes
-    (Decides front (Paints p)) → x ≡ painting v front p → WritesParting v bytes x.writes
-paints v bytes front p x d is =
+paints : (v : SplitValues) (bytes copied : List ℕ) (p : Painted) (x : Outcome) → IsDecision (split_choice v) v.rule v.overlap bytes
+    (Decides copied (Paints p)) → x ≡ painting v copied p → WritesParting v bytes x.writes
+paints v bytes copied p x d is =
     let (layer, reading, (cut, is_cut, painted)) = d in
     elim reading [
       | inl large ↦ cc
@@ -69,7 +69,7 @@ paints v bytes front p x d is =
         pieces = p.pieces;
         stitches = p.stitches;
         parting = painted_parts v.rule v.overlap layer cut p is_cut painted;
-        front = front;
+        copied = copied;
         before = l.before;
         are = ap (λ (y : Outcome). y.writes) is;
       })
@@ -94,8 +94,8 @@ status_as x y s is named done = sym named ∙ sym (ap (λ (z : Outcome). z.statu
 decided_done : (v : SplitValues) (bytes : List ℕ) (d : Decision) (x : Outcome) → IsDecision (split_choice v) v.rule v.overlap bytes d
     → x ≡ plan_of v d → x.status ≡ Done → WritesParting v bytes x.writes
 decided_done v bytes (Refuses name at) x d is done = absurd (refused_not (status_as x (refusal v name at) Refused is refl done))
-decided_done v bytes (Decides front (Clashes c)) x d is done = absurd (conflict_not (status_as x (clash v c) Conflict is refl done))
-decided_done v bytes (Decides front (Paints p)) x d is done = paints v bytes front p x d is
+decided_done v bytes (Decides copied (Clashes c)) x d is done = absurd (conflict_not (status_as x (clash v c) Conflict is refl done))
+decided_done v bytes (Decides copied (Paints p)) x d is done = paints v bytes copied p x d is
 
 file_done : (v : SplitValues) (file : Option (List ℕ)) (x : Outcome) → IsSplitOf v file x → x.status ≡ Done
     → (bytes : List ℕ) × (file ≡ Some bytes) × WritesParting v bytes x.writes
@@ -104,16 +104,16 @@ file_done v (Some bytes) x is done = (bytes, refl, decided_done v bytes is.0 x i
 
 demo_writes : (d : Decision) → (demo_plan d).writes ≡ []
 demo_writes (Refuses name at) = refl
-demo_writes (Decides front (Paints p)) = refl
-demo_writes (Decides front (Clashes c)) = refl
+demo_writes (Decides copied (Paints p)) = refl
+demo_writes (Decides copied (Clashes c)) = refl
 
 writes_as : (x y : Outcome) → x ≡ y → y.writes ≡ [] → x.writes ≡ []
 writes_as x y is none = ap (λ (z : Outcome). z.writes) is ∙ none
 
 masks_write : (v : CheckValues) (layer : List Rect) (cert : Cert) (bytes : List ℕ) (x : Outcome) → IsCheckOfMasks v layer cert bytes x → x.writes ≡ []
 masks_write v layer cert bytes x (Faulty name at, read, is) = writes_as x (refusal_of (codes "out") name at) is refl
-masks_write v layer cert bytes x (Layer front a, read, (Faulty name at, other, is)) = writes_as x (refusal_of (codes "out") name at) is refl
-masks_write v layer cert bytes x (Layer front a, read, (Layer back b, other, (w, said, is))) = writes_as x (verdict_outcome cert w) is refl
+masks_write v layer cert bytes x (Layer copied a, read, (Faulty name at, other, is)) = writes_as x (refusal_of (codes "out") name at) is refl
+masks_write v layer cert bytes x (Layer copied a, read, (Layer back b, other, (w, said, is))) = writes_as x (verdict_outcome cert w) is refl
 
 cert_writes : (v : CheckValues) (layer : List Rect) (out : Option (List ℕ)) (cert : Cert) (x : Outcome) → IsCheckOfCert v layer out cert x → x.writes ≡ []
 cert_writes v layer None (Masks h ps ss) x is = writes_as x (silent ReadFault) is refl
@@ -131,7 +131,7 @@ layer_writes v layer (Some text) out x (inr (small, inr (n, bad, is))) = writes_
 check_writes : (v : CheckValues) (layout cert out : Option (List ℕ)) (x : Outcome) → IsCheck v layout cert out x → x.writes ≡ []
 check_writes v None cert out x is = writes_as x (silent ReadFault) is refl
 check_writes v (Some bytes) cert out x (Faulty name at, read, is) = writes_as x (refusal_of (codes "in") name at) is refl
-check_writes v (Some bytes) cert out x (Layer front layer, read, is) = layer_writes v layer cert out x is
+check_writes v (Some bytes) cert out x (Layer copied layer, read, is) = layer_writes v layer cert out x is
 
 plan_done : (request : Option RequestValues) (o : Outside) (x : Outcome) → IsPlan request o.files x → x.status ≡ Done → IsPartedBy request o x.writes
 plan_done None o x is done = absurd (usage_not (status_as x (says Usage usage_line) Usage is refl done))

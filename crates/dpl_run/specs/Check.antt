@@ -47,7 +47,7 @@ WithFile (Some bytes) next x = next bytes x
 
 abbrev pub ByReading : List ℕ → (List Rect → Outcome → Type 0) → Reading → Outcome → Type 0
 ByReading file next (Faulty name at) x = x ≡ refusal_of file name at
-ByReading file next (Layer front slabs) x = next slabs x
+ByReading file next (Layer copied slabs) x = next slabs x
 
 -- with the slabs of a layer of a file, if the file has no fault
 abbrev pub WithLayer : List ℕ → Choice → List ℕ → (List Rect → Outcome → Type 0) → Outcome → Type 0

@@ -15,8 +15,8 @@ demo_choice = record { top = None; layer = 1; datatype = 0 }
 
 abbrev pub demo_plan : Decision → Outcome
 demo_plan (Refuses name at) = says Refused (refused_line name at)
-demo_plan (Decides front (Paints p)) = says Done (demo_line p.head (length p.stitches) (length p.a) (length p.b))
-demo_plan (Decides front (Clashes x)) = says Conflict (conflict_line (length x.cycle))
+demo_plan (Decides copied (Paints p)) = says Done (demo_line p.head (length p.stitches) (length p.a) (length p.b))
+demo_plan (Decides copied (Clashes x)) = says Conflict (conflict_line (length x.cycle))
 
 -- The made-up file is decided by the rule of 30 and the overlap of 10. The numbers of tiles and workers occur nowhere.
 abbrev pub IsDemo : DemoValues → Outcome → Type 0

@@ -39,7 +39,7 @@ written (w ∷ ws) o = written ws (with_file w.0 w.1 o)
 abbrev pub carried_out : Outcome → Outside → Outside
 carried_out x o = with_said x.line (written x.writes o)
 
--- some of it: the files before one whole, a front of that one, or of the text
+-- some of it: the files before one whole, a prefix of that one, or of the text
 abbrev pub IsPartDone : List (Text × List ℕ) → List ℕ → Option Outside → Option Outside → Type 0
 IsPartDone [] line old new = IsPartSaid line old new
 IsPartDone (w ∷ ws) line old new = IsPartWritten w.0 w.1 old new ⊎ IsPartDone ws line (option_map (with_file w.0 w.1) old) new
@@ -52,7 +52,7 @@ is_answered NoMemory = false
 is_answered _ = true
 
 -- What an answer tells of the calls that failed, by the count of failed reads and that of the other failed calls, before and now. A failed
--- read is answered as one, and so is another failed call; at any other answer, want of memory too, no call failed.
+-- read is answered as one, and so is another failed call; at any other answer, out of memory too, no call failed.
 abbrev pub TellsFaults : Status → ℕ → ℕ → ℕ → ℕ → Type 0
 TellsFaults ReadFault reads reads_now writes writes_now = Rose reads reads_now × (writes_now ≡ writes)
 TellsFaults WriteFault reads reads_now writes writes_now = (reads_now ≡ reads) × Rose writes writes_now

@@ -19,7 +19,7 @@ use Rattle.dpl_cert.specs.declared.cert.PieceLine.{PieceLine}
 use Rattle.dpl_cert.specs.declared.cert.StitchLine.{StitchLine}
 use Rattle.dpl_masks.specs.Bytes.{file_bytes}
 use Rattle.dpl_words.specs.Meaning.{AsksCheck, AsksDemo, AsksSplit, RequestValues, SplitValues, request_of}
-use Rattle.dpl_layer.specs.Reading.{chosen, front_of}
+use Rattle.dpl_layer.specs.Reading.{chosen, copied_of}
 use Rattle.dpl_run.specs.Split.{certified, split_choice}
 use Rattle.dpl_run.specs.Outcome.{Outcome, Shows, carried_out}
 use Rattle.dpl_run.specs.Checked.{IsRight}
@@ -54,9 +54,9 @@ pub record WritesParting (v : SplitValues) (bytes : List ℕ) (writes : List (Te
   pub stitches : List StitchLine
   pub parting : ArePartingMasks v.rule layer (rects_of_lines stitches) a b
   -- the bytes written
-  pub front : List ℕ
-  pub before : front_of lib top ≡ Some front
-  pub are : writes ≡ (v.output, file_bytes front v.a v.b a b) ∷ (v.certificate, certified (Masks head pieces stitches)) ∷ []
+  pub copied : List ℕ
+  pub before : copied_of lib top ≡ Some copied
+  pub are : writes ≡ (v.output, file_bytes copied v.a v.b a b) ∷ (v.certificate, certified (Masks head pieces stitches)) ∷ []
 
 -- the masks of a file that is there are written
 pub record WritesMasks (v : SplitValues) (o : Outside) (writes : List (Text × List ℕ)) : Type 0 where

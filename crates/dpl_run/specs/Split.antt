@@ -26,7 +26,7 @@ split_choice v = record { top = v.top; layer = v.layer; datatype = v.datatype }
 -- The first fault of the file, or the decomposition of its layer. The numbers of tiles and workers occur nowhere.
 abbrev pub IsDecision : Choice → ℕ → ℕ → List ℕ → Decision → Type 0
 IsDecision choice rule overlap bytes (Refuses name at) = IsReading choice bytes (Faulty name at)
-IsDecision choice rule overlap bytes (Decides front flat) = (layer : List Rect) × IsReading choice bytes (Layer front layer) × IsFlat rule overlap layer flat
+IsDecision choice rule overlap bytes (Decides copied flat) = (layer : List Rect) × IsReading choice bytes (Layer copied layer) × IsFlat rule overlap layer flat
 
 abbrev pub certified : Cert → List ℕ
 certified c = text (lines_of c)
@@ -37,9 +37,9 @@ refusal v name at = record { status = Refused; writes = (v.certificate, certifie
 
 -- A decomposition writes both masks, and then their certificate.
 abbrev pub painting : SplitValues → List ℕ → Painted → Outcome
-painting v front p = record {
+painting v copied p = record {
   status = Done;
-  writes = (v.output, file_bytes front v.a v.b p.a p.b) ∷ (v.certificate, certified (Masks p.head p.pieces p.stitches)) ∷ [];
+  writes = (v.output, file_bytes copied v.a v.b p.a p.b) ∷ (v.certificate, certified (Masks p.head p.pieces p.stitches)) ∷ [];
   line = done_line p.head (length p.stitches) (length p.a) (length p.b);
 }
 
@@ -49,8 +49,8 @@ clash v x = record { status = Conflict; writes = (v.certificate, certified (Conf
 
 abbrev pub plan_of : SplitValues → Decision → Outcome
 plan_of v (Refuses name at) = refusal v name at
-plan_of v (Decides front (Paints p)) = painting v front p
-plan_of v (Decides front (Clashes x)) = clash v x
+plan_of v (Decides copied (Paints p)) = painting v copied p
+plan_of v (Decides copied (Clashes x)) = clash v x
 
 -- what is done with the bytes of the file
 abbrev pub IsSplit : SplitValues → List ℕ → Outcome → Type 0

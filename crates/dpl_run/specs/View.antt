@@ -20,12 +20,12 @@ output_view x = record { status = x.status; writes = map write_view x.writes.ite
 
 abbrev pub decision_view : Decision → DecisionOf
 decision_view (Refused name at) = Refuses name at
-decision_view (Answered front answer) = Decides front.items (flat_view answer)
+decision_view (Answered copied answer) = Decides copied.items (flat_view answer)
 
 -- what is decided can be written
 abbrev pub FitsDecision : Decision → Type 0
 FitsDecision (Refused name at) = Unit {0}
-FitsDecision (Answered front answer) = Fits (flat_view answer)
+FitsDecision (Answered copied answer) = Fits (flat_view answer)
 
 -- how the lines name a file of `check`
 abbrev pub file_word : CheckedFile → List ℕ

@@ -69,7 +69,7 @@ fn shown<'a>(alloc: Global, decision: &Decision) -> Result<Output<'a>, AllocErro
 
 /// What is said of the answer to a layer.
 fn shown_answer<'a>(alloc: Global, answer: &Decomposed) -> Result<Output<'a>, AllocError>
-    ensures { IfOk result (λ x. (front : List ℕ) → output_view x ≡ demo_plan (Decides front (flat_view answer.now))) }
+    ensures { IfOk result (λ x. (copied : List ℕ) → output_view x ≡ demo_plan (Decides copied (flat_view answer.now))) }
 {
     match answer {
         Decomposed::Masks(painted) => {

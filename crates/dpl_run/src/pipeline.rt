@@ -35,7 +35,7 @@ pub(crate) enum Decision {
     /// The first fault of the layout, and where it stands.
     Refused { name: Name, at: u64 },
     /// The records before the elements of the top structure, and the answer to the layer.
-    Answered { front: Vec<u8>, answer: Decomposed },
+    Answered { copied: Vec<u8>, answer: Decomposed },
 }
 
 /// Decides a file by its bytes. What a step doesn't need any more is let go before the next.
@@ -54,7 +54,7 @@ pub(crate) fn decide<R: Threads + Wait + Sync, G: Gate + Sync>(
     ensures decision { IfOk result (λ d. IsDecision (choice_view order.now.choice) order.now.rule order.now.overlap bytes.items (decision_view d)) }
     ensures fits { IfOk result FitsDecision }
 {
-    let Layer { front, slabs } = match layer_of(alloc, &order.choice, bytes) {
+    let Layer { copied, slabs } = match layer_of(alloc, &order.choice, bytes) {
         Ok(layer) => layer,
         Err(LayerFault::Refused { name, at }) => return Ok(Decision::Refused { name, at }),
         Err(LayerFault::NoMemory) => return Err(AllocError),
@@ -62,5 +62,5 @@ pub(crate) fn decide<R: Threads + Wait + Sync, G: Gate + Sync>(
     let cut = cut_of(alloc, slabs, order.rule, order.overlap)?;
     let conflicts = conflicts_of(rt, alloc, &cut, order.rule, order.sharing, gate)?;
     let answer = answer_of(alloc, cut, &conflicts, order.rule, order.overlap)?;
-    Ok(Decision::Answered { front, answer })
+    Ok(Decision::Answered { copied, answer })
 }

@@ -89,9 +89,9 @@ fn decided<'a>(
 {
     match decision {
         Decision::Refused { name, at } => refused(alloc, options, name, at),
-        Decision::Answered { front, answer } => match answer {
+        Decision::Answered { copied, answer } => match answer {
             Decomposed::Masks(painted) => {
-                painted_output(alloc, options, front.as_slice(), painted)
+                painted_output(alloc, options, copied.as_slice(), painted)
             }
             Decomposed::Cycle(clash) => clash_output(alloc, options, clash),
         },
@@ -102,11 +102,11 @@ fn decided<'a>(
 fn painted_output<'a>(
     alloc: Global,
     options: &SplitOptions<'a>,
-    front: &[u8],
+    copied: &[u8],
     painted: Painted,
 ) -> Result<Output<'a>, AllocError>
     requires { FitsPainted (painted_view painted) }
-    ensures { IfOk result (λ x. output_view x ≡ painting (split_view options.now) front.now (painted_view painted)) }
+    ensures { IfOk result (λ x. output_view x ≡ painting (split_view options.now) copied.now (painted_view painted)) }
 {
     let Painted {
         a,
@@ -115,7 +115,7 @@ fn painted_output<'a>(
         pieces,
         stitches,
     } = painted;
-    let bytes = file_bytes(alloc, front, a.rects(), b.rects(), options.a, options.b)?;
+    let bytes = file_bytes(alloc, copied, a.rects(), b.rects(), options.a, options.b)?;
     let line = done_line(
         alloc,
         &head,

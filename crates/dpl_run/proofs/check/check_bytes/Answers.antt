@@ -28,13 +28,13 @@ returns-in-Err-Refused-layer_of c =
     let a = c.in-Ok.a in
     let name = c.in-Err-Refused-layer_of.name in
     let at = c.in-Err-Refused-layer_of.at in
-    let read = subst (λ (b : List ℕ). IsLayout (choice_view c.mask_choice.result) b (Layer a.front.items a.slabs)) c.as_slice.ensures.value c.in-Ok.ensures.layer in
-    let first : IsLayout (mask_choice v.a) bytes (Layer a.front.items a.slabs) = subst
-    (λ (h : Choice). IsLayout h bytes (Layer a.front.items a.slabs)) c.mask_choice.ensures read in
+    let read = subst (λ (b : List ℕ). IsLayout (choice_view c.mask_choice.result) b (Layer a.copied.items a.slabs)) c.as_slice.ensures.value c.in-Ok.ensures.layer in
+    let first : IsLayout (mask_choice v.a) bytes (Layer a.copied.items a.slabs) = subst
+    (λ (h : Choice). IsLayout h bytes (Layer a.copied.items a.slabs)) c.mask_choice.ensures read in
     let own = subst (λ (e : LayerFault). IsLayerFault (choice_view c.mask_choice-2.result) bytes e) c.in-Err-Refused-layer_of.field-0-is c.in-Err-Refused-layer_of.ensures.fault in
     let fault : IsLayout (mask_choice v.b) bytes (Faulty name at) = subst (λ (h : Choice). IsLayout h bytes (Faulty name at)) c.mask_choice-2.ensures own in
     IfOk-weaker c.refused-in-Err-Refused-layer_of.result _ _
-    (λ x h. second_faulty v c.args.layer.now c.args.cert.now bytes a.front.items a.slabs name at
+    (λ x h. second_faulty v c.args.layer.now c.args.cert.now bytes a.copied.items a.slabs name at
     (output_view x) c.requires.size first fault h) c.refused-in-Err-Refused-layer_of.ensures
 
 pub returns : goal.returns
@@ -43,11 +43,11 @@ returns c =
     let bytes = c.args.bytes.items in
     let a = c.in-Ok.a in
     let b = c.in-Ok-layer_of.b in
-    let read = subst (λ (b : List ℕ). IsLayout (choice_view c.mask_choice.result) b (Layer a.front.items a.slabs)) c.as_slice.ensures.value c.in-Ok.ensures.layer in
-    let first : IsLayout (mask_choice v.a) bytes (Layer a.front.items a.slabs) = subst
-    (λ (h : Choice). IsLayout h bytes (Layer a.front.items a.slabs)) c.mask_choice.ensures read in
-    let second : IsLayout (mask_choice v.b) bytes (Layer b.front.items b.slabs) = subst
-    (λ (h : Choice). IsLayout h bytes (Layer b.front.items b.slabs)) c.mask_choice-2.ensures c.in-Ok-layer_of.ensures.layer in
+    let read = subst (λ (b : List ℕ). IsLayout (choice_view c.mask_choice.result) b (Layer a.copied.items a.slabs)) c.as_slice.ensures.value c.in-Ok.ensures.layer in
+    let first : IsLayout (mask_choice v.a) bytes (Layer a.copied.items a.slabs) = subst
+    (λ (h : Choice). IsLayout h bytes (Layer a.copied.items a.slabs)) c.mask_choice.ensures read in
+    let second : IsLayout (mask_choice v.b) bytes (Layer b.copied.items b.slabs) = subst
+    (λ (h : Choice). IsLayout h bytes (Layer b.copied.items b.slabs)) c.mask_choice-2.ensures c.in-Ok-layer_of.ensures.layer in
     IfOk-weaker c.judged.result _ _
-    (λ x h. masks_judged v c.args.layer.now c.args.cert.now bytes a.front.items b.front.items a.slabs b.slabs c.in_ok-verdict.verdict
+    (λ x h. masks_judged v c.args.layer.now c.args.cert.now bytes a.copied.items b.copied.items a.slabs b.slabs c.in_ok-verdict.verdict
     (output_view x) c.requires.size first second c.in_ok-verdict.ensures h) c.judged.ensures

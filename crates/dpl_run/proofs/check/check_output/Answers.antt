@@ -26,9 +26,9 @@ returns-in-Ok-clause-made g c =
     let bytes = c.in-Some.bytes.items in
     let layer = c.in-Ok.layer in
     let seen = subst (λ (o : Option (Vec ℕ Global)). IsSeen told c.args.options.now.input.now (option_map (λ v. v.items) o)) c.in-Some.is c.in_ok-bytes.ensures.seen in
-    let read : IsLayout (check_choice v) bytes (Layer layer.front.items layer.slabs) = c.in-Ok.ensures.layer in
+    let read : IsLayout (check_choice v) bytes (Layer layer.copied.items layer.slabs) = c.in-Ok.ensures.layer in
     IfOk-weaker c.check_layer.result _ _
-    (λ x h. check_made told v (output_view x) c.requires.apart (layout_read told v bytes layer.front.items layer.slabs (output_view x) seen read
+    (λ x h. check_made told v (output_view x) c.requires.apart (layout_read told v bytes layer.copied.items layer.slabs (output_view x) seen read
     (subst (λ (t : Option Outside). IsMadeOfLayer t v layer.slabs (output_view x)) c.in_ok-bytes.ensures.same h))) c.check_layer.ensures.made
 
 pub returns-in_ok-refused-in-Err-Refused-clause-made : goal.returns-in_ok-refused-in-Err-Refused-clause-made
