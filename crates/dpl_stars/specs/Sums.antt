@@ -39,6 +39,6 @@ AreSummed edges (j ∷ js) = (prefix rest : List (ℕ × ℕ)) × (edges ≡ pre
 abbrev pub SumsAll : List Joined → Joined → Type 0
 SumsAll sums all = (edges : List (ℕ × ℕ)) → AreSummed edges sums → Sums edges all
 
--- a list of edges has one summary
+-- a list of edges has at most one summary
 abbrev pub IsOneSummary : Type 0
 IsOneSummary = (es : List (ℕ × ℕ)) (j k : Joined) → Sums es j → Sums es k → j ≡ k

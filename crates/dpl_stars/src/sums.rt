@@ -81,7 +81,7 @@ pub fn merge_all(alloc: Global, sums: &[Joined]) -> Result<Joined, AllocError>
     }
 }
 
-/// A list of edges has one summary.
+/// A list of edges has at most one summary.
 pub fn one_summary()
     ensures { IsOneSummary }
 {}
