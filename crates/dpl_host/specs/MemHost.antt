@@ -1,6 +1,8 @@
 -- What is seen of a host in memory.
-use Rattle.std.specs.Prelude.{◌&&◌, ◌==◌, ◌+◌, ◌-◌, ◌^◌, ℕ, Bool, true, false, List, min}
+use Rattle.std.specs.Prelude.{◌&&◌, ◌==◌, ◌+◌, ◌-◌, ◌^◌, ℕ, Bool, true, false, List, Option, min}
 use Rattle.std.specs.List.{list_any}
+use Rattle.dpl_host.specs.Calls.{Call}
+use Rattle.dpl_host.specs.Kept.{calls_of}
 use Rattle.dpl_host.specs.Outside.{Outside}
 use Rattle.dpl_host.specs.Memory.{files_of}
 use Rattle.dpl_host.specs.declared.memory.Kind.{Kind}
@@ -9,6 +11,10 @@ use Rattle.dpl_host.specs.declared.memory.MemHost.{MemHost}
 
 abbrev pub outside_of : MemHost → Outside
 outside_of h = record { files = files_of h.files.entries; said = h.said.items }
+
+-- its calls, where it still keeps them
+abbrev pub log_of : MemHost → Option (List Call)
+log_of h = calls_of h.calls
 
 abbrev pub same_kind : Kind → Kind → Bool
 same_kind Read Read = true

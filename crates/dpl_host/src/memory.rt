@@ -1,11 +1,14 @@
 //! A host in memory, which fails where it is told to.
-ghost use Rattle.std.specs.Prelude.{◌≡◌, ◌<◌, ◌≤◌, ◌||◌, ◌⊎◌, ◌^◌, ◌-◌, true, false, not, is_some, is_err, length, min, take, drop, Some, None, IfOk, IfSome, IsErr, MatchResult, OnErr, OnOk, option_map, []};
+ghost use Rattle.std.specs.Prelude.{◌≡◌, ◌<◌, ◌≤◌, ◌||◌, ◌⊎◌, ◌^◌, ◌-◌, true, false, not, is_some, is_err, length, min, take, drop, Some, None, IfOk, IfSome, IsErr, MatchResult, OnErr, OnOk, map as list_map, option_map, []};
 ghost use Rattle.std.specs.FinMap as map;
+ghost use Rattle.dpl_host.specs.Calls.{Append, Create, Logs, Read, Say};
 ghost use Rattle.dpl_host.specs.Outside.{Changes, Gave, Gives, HasCause, IsThere, LeavesRest, Reads, Rose, Takes, file_of, with_file, with_more, with_said};
 ghost use Rattle.dpl_host.specs.Memory.{files_of};
+ghost use Rattle.dpl_host.specs.Kept.{call_view};
 ghost use Rattle.dpl_host.specs.SureHost.{counted};
-ghost use Rattle.dpl_host.specs.MemHost.{append_is_listed, create_is_listed, lists, next_count, plan_of, outside_of, read_is_listed, refusals, say_is_listed};
+ghost use Rattle.dpl_host.specs.MemHost.{append_is_listed, create_is_listed, lists, log_of, next_count, plan_of, outside_of, read_is_listed, refusals, say_is_listed};
 
+use crate::calls::{Call, Calls};
 use crate::names;
 use crate::outside::{Failed, Host};
 use crate::stride::Stride;
@@ -24,7 +27,7 @@ pub enum Kind {
 /// A call that is to fail: its kind, and its number among those of its kind, from 0.
 pub type Failing = (Kind, u64);
 
-/// A host whose files are in memory. It tells them and what was said, fails where `failing` lists a call, and counts the calls of each kind.
+/// A host whose files are in memory. It tells them and what was said, fails where `failing` lists a call, counts the calls of each kind, and keeps a list of its calls until there is no memory for one.
 #[derive(Drop)]
 pub struct MemHost {
     alloc: Global,
@@ -40,6 +43,7 @@ pub struct MemHost {
     read_faults: u64,
     write_faults: u64,
     given: u64,
+    calls: Calls,
 }
 
 /// Whether the call of this kind and number is to fail.
@@ -63,6 +67,7 @@ impl MemHost {
         ensures no_read_fault { result.read_faults ≡ 0 }
         ensures no_write_fault { result.write_faults ≡ 0 }
         ensures none_given { result.given ≡ 0 }
+        ensures none_logged { log_of result ≡ Some [] }
         ensures plan { plan_of result ≡ record { step = step; failing = failing.items; reads = 0; creates = 0; appends = 0; says = 0 } }
     {
         MemHost {
@@ -79,6 +84,7 @@ impl MemHost {
             read_faults: 0,
             write_faults: 0,
             given: 0,
+            calls: Calls::new(alloc),
         }
     }
 
@@ -96,6 +102,13 @@ impl MemHost {
         self.said.as_slice()
     }
 
+    /// The calls so far, in order, unless there was no memory for one of them.
+    pub fn calls(&self) -> Option<&[Call]>
+        ensures { option_map (λ list. list_map call_view list.now) result ≡ log_of self.now }
+    {
+        self.calls.list()
+    }
+
     /// How many calls found no memory.
     pub fn refused(&self) -> u64
         ensures { result ≡ refusals self.now }
@@ -106,7 +119,7 @@ impl MemHost {
 
 impl Host for MemHost {
     ghost use Rattle.std.specs.Prelude.{Some};
-    ghost use Rattle.dpl_host.specs.MemHost.{outside_of};
+    ghost use Rattle.dpl_host.specs.MemHost.{log_of, outside_of};
 
     ghost told = { λ h. Some (outside_of h) };
 
@@ -115,6 +128,8 @@ impl Host for MemHost {
     ghost write_faults = { λ h. h.write_faults };
 
     ghost given = { λ h. h.given };
+
+    ghost log = { λ h. log_of h };
 
     fn read(&mut self, name: &str, at: u64, into: &mut [u8]) -> Result<usize, Failed>
         ensures bound { IfOk result (λ n. n ≤ length into.new) }
@@ -131,7 +146,9 @@ impl Host for MemHost {
         ensures exactly { MatchResult result (λ n. self.new.given ≡ counted self.old.given n) (λ _. self.new.given ≡ self.old.given) }
         ensures raises { OnErr result (self.new.read_faults ≡ next_count self.old.read_faults) }
         ensures keeps { OnOk result (self.new.read_faults ≡ self.old.read_faults) }
+        ensures logged { Logs (log_of self.old) (Read name.now) (log_of self.new) }
     {
+        self.calls.note(Kind::Read, name);
         let listed = is_listed(self.failing.as_slice(), Kind::Read, self.reads);
         self.reads = self.reads.saturating_add(1);
         match names::file(&self.files, name) {
@@ -159,7 +176,9 @@ impl Host for MemHost {
         ensures keeps { OnOk result (self.new.write_faults ≡ self.old.write_faults) }
         ensures spared { create_is_listed self.old ≡ true → refusals self.new ≡ refusals self.old }
         ensures counted { OnErr result ((refusals self.new ≡ refusals self.old) ⊎ (refusals self.new ≡ next_count (refusals self.old))) }
+        ensures logged { Logs (log_of self.old) (Create name.now) (log_of self.new) }
     {
+        self.calls.note(Kind::Create, name);
         let listed = is_listed(self.failing.as_slice(), Kind::Create, self.creates);
         self.creates = self.creates.saturating_add(1);
         if !listed {
@@ -188,7 +207,9 @@ impl Host for MemHost {
         ensures spared { append_is_listed self.old ≡ true → refusals self.new ≡ refusals self.old }
         ensures absent { file_of (outside_of self.old) name.now ≡ None → refusals self.new ≡ refusals self.old }
         ensures counted { OnErr result ((refusals self.new ≡ refusals self.old) ⊎ (refusals self.new ≡ next_count (refusals self.old))) }
+        ensures logged { Logs (log_of self.old) (Append name.now) (log_of self.new) }
     {
+        self.calls.note(Kind::Append, name);
         let listed = is_listed(self.failing.as_slice(), Kind::Append, self.appends);
         self.appends = self.appends.saturating_add(1);
         let count = piece.len().min(self.step.bytes());
@@ -217,7 +238,9 @@ impl Host for MemHost {
         ensures keeps { OnOk result (self.new.write_faults ≡ self.old.write_faults) }
         ensures spared { say_is_listed self.old ≡ true → refusals self.new ≡ refusals self.old }
         ensures counted { OnErr result ((refusals self.new ≡ refusals self.old) ⊎ (refusals self.new ≡ next_count (refusals self.old))) }
+        ensures logged { Logs (log_of self.old) Say (log_of self.new) }
     {
+        self.calls.note(Kind::Say, "");
         let listed = is_listed(self.failing.as_slice(), Kind::Say, self.says);
         self.says = self.says.saturating_add(1);
         let count = piece.len().min(self.step.bytes());

@@ -1,9 +1,10 @@
 //! A host whose calls never fail.
 ghost use Rattle.std.specs.Prelude.{◌≡◌, ◌≤◌, ◌+◌, ◌-◌, ◌^◌, IfOk, IsOk, OnOk, [], length, take, unwrap_or};
+ghost use Rattle.dpl_host.specs.Calls.{Append, Create, Logs, Read, Say};
 ghost use Rattle.dpl_host.specs.Outside.{Changes, Gave, Gives, HasCause, IsThere, LeavesRest, Reads, Takes, with_file, with_more, with_said};
 ghost use Rattle.std.specs.FinMap as map;
 ghost use Rattle.dpl_host.specs.Memory.{files_of};
-ghost use Rattle.dpl_host.specs.SureHost.{borrowed, counted, no_faults, untold};
+ghost use Rattle.dpl_host.specs.SureHost.{borrowed, counted, no_faults, unlogged, untold};
 
 use crate::memory::copy;
 use crate::names;
@@ -52,7 +53,7 @@ impl<'a> SureHost<'a> {
 }
 
 impl<'a> Host for SureHost<'a> {
-    ghost use Rattle.dpl_host.specs.SureHost.{no_faults, untold};
+    ghost use Rattle.dpl_host.specs.SureHost.{no_faults, unlogged, untold};
 
     ghost told = { λ h. untold };
 
@@ -61,6 +62,8 @@ impl<'a> Host for SureHost<'a> {
     ghost write_faults = { λ h. no_faults };
 
     ghost given = { λ h. h.given };
+
+    ghost log = { λ h. unlogged };
 
     fn read(&mut self, name: &str, at: u64, into: &mut [u8]) -> Result<usize, Failed>
         ensures sure { IsOk result }
@@ -75,6 +78,7 @@ impl<'a> Host for SureHost<'a> {
         ensures exactly { IfOk result (λ n. self.new.given ≡ counted self.old.given n) }
         ensures files { borrowed self.new ≡ borrowed self.old }
         ensures count { self.new.taken ≡ self.old.taken }
+        ensures logged { Logs unlogged (Read name.now) unlogged }
     {
         let file = match names::file(self.files, name) {
             Some(file) => file.as_slice(),
@@ -93,6 +97,7 @@ impl<'a> Host for SureHost<'a> {
         ensures files { borrowed self.new ≡ borrowed self.old }
         ensures given { self.new.given ≡ self.old.given }
         ensures count { self.new.taken ≡ self.old.taken }
+        ensures logged { Logs unlogged (Create name.now) unlogged }
     {
         Ok(())
     }
@@ -108,6 +113,7 @@ impl<'a> Host for SureHost<'a> {
         ensures count { self.new.taken ≡ counted self.old.taken (length piece.now) }
         ensures files { borrowed self.new ≡ borrowed self.old }
         ensures given { self.new.given ≡ self.old.given }
+        ensures logged { Logs unlogged (Append name.now) unlogged }
     {
         Ok(self.count(piece))
     }
@@ -122,6 +128,7 @@ impl<'a> Host for SureHost<'a> {
         ensures count { self.new.taken ≡ counted self.old.taken (length piece.now) }
         ensures files { borrowed self.new ≡ borrowed self.old }
         ensures given { self.new.given ≡ self.old.given }
+        ensures logged { Logs unlogged Say unlogged }
     {
         Ok(self.count(piece))
     }

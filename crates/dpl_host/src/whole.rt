@@ -1,5 +1,6 @@
 //! Whole files, and whole texts.
 ghost use Rattle.std.specs.Prelude.{◌≡◌, ◌<◌, ◌≤◌, ◌+◌, ℕ, List, Some, IfOk, IfSome, IsErrOf, OnErr, OnOk, length, option_map};
+ghost use Rattle.dpl_host.specs.Calls.{AreReadsOf, AreSays, IsWritingOf, Logged};
 ghost use Rattle.dpl_host.specs.Outside.{Gave, HasCause, IsPartSaid, IsPartWritten, file_of, with_file, with_said};
 ghost use Rattle.dpl_host.specs.Whole.{HasReadCause};
 ghost use Rattle.dpl_host.specs.declared.whole.ReadFault.TheVariants.{NoMemory as MemoryFault, Failed as ReadFailed};
@@ -48,6 +49,8 @@ pub fn read_all<H: Host>(alloc: Global, host: &mut H, name: &str) -> Result<Vec<
     // Told or not: all that it answers was given, and it is too large only where a byte past the limit was.
     ensures given { IfOk result (λ v. Gave (H.given host.old) (length v.items) (H.given host.new)) }
     ensures past { IsErrOf result ReadFault.TooLarge → Gave (H.given host.old) (MAX_BYTES + 1) (H.given host.new) }
+    // It calls for nothing but reads of this file.
+    ensures logged { Logged (H.log host.old) (H.log host.new) (AreReadsOf name.now) }
 {
     let mut chunk = [0u8; CHUNK];
     let mut bytes = Vec::new(alloc);
@@ -67,6 +70,8 @@ pub fn write_all<H: Host>(host: &mut H, name: &str, bytes: &[u8]) -> Result<(), 
     ensures err { OnErr result (IsPartWritten name.now bytes.now (H.told host.old) (H.told host.new)) }
     ensures cause { HasCause (H.write_faults host.old) (H.write_faults host.new) result }
     ensures others { H.read_faults host.new ≡ H.read_faults host.old }
+    // The file is created once, and then appended to.
+    ensures logged { Logged (H.log host.old) (H.log host.new) (IsWritingOf name.now) }
 {
     host.create(name)?;
     let mut done = 0;
@@ -82,6 +87,7 @@ pub fn say_all<H: Host>(host: &mut H, bytes: &[u8]) -> Result<(), Failed>
     ensures err { OnErr result (IsPartSaid bytes.now (H.told host.old) (H.told host.new)) }
     ensures cause { HasCause (H.write_faults host.old) (H.write_faults host.new) result }
     ensures others { H.read_faults host.new ≡ H.read_faults host.old }
+    ensures logged { Logged (H.log host.old) (H.log host.new) AreSays }
 {
     let mut done = 0;
     while done < bytes.len() {

@@ -1,5 +1,5 @@
 -- What is made of what is read.
-use Rattle.std.proofs.Common.{◌≡◌, ◌∙◌, ◌<◌, ◌≤◌, ap, sym, refl, subst, inl, inr, true, List, [], ◌∷◌, ℕ, Option, Some, None, length, arith, zero, suc, ◌+◌, ◌*◌}
+use Rattle.std.proofs.Common.{◌≡◌, ◌∙◌, ◌<◌, ◌≤◌, ap, sym, refl, subst, inl, inr, true, List, [], ◌∷◌, ℕ, Option, Some, None, length, arith, zero, suc}
 use Rattle.std.specs.Prelude.{IfSome}
 use Rattle.std.specs.FinMap as map
 use Rattle.dpl_host.specs.Outside.{Outside, file_of, with_file}

@@ -102,7 +102,7 @@ file_done : (v : SplitValues) (file : Option (List ℕ)) (x : Outcome) → IsSpl
 file_done v None x is done = absurd (read_not (status_as x (silent ReadFault) ReadFault is refl done))
 file_done v (Some bytes) x is done = (bytes, refl, decided_done v bytes is.0 x is.1 is.2 done)
 
-demo_writes : (d : Decision) → (demo_plan d).writes ≡ []
+pub demo_writes : (d : Decision) → (demo_plan d).writes ≡ []
 demo_writes (Refuses name at) = refl
 demo_writes (Decides copied (Paints p)) = refl
 demo_writes (Decides copied (Clashes c)) = refl
@@ -128,7 +128,7 @@ layer_writes v layer (Some text) out x (inr (small, inl (cert, read, is))) = cer
 layer_writes v layer (Some text) out x (inr (small, inr (n, bad, is))) = writes_as x (says Refused (bad_line_line n)) is refl
 
 -- `check` writes nothing
-check_writes : (v : CheckValues) (layout cert out : Option (List ℕ)) (x : Outcome) → IsCheck v layout cert out x → x.writes ≡ []
+pub check_writes : (v : CheckValues) (layout cert out : Option (List ℕ)) (x : Outcome) → IsCheck v layout cert out x → x.writes ≡ []
 check_writes v None cert out x is = writes_as x (silent ReadFault) is refl
 check_writes v (Some bytes) cert out x (Faulty name at, read, is) = writes_as x (refusal_of (codes "in") name at) is refl
 check_writes v (Some bytes) cert out x (Layer copied layer, read, is) = layer_writes v layer cert out x is

@@ -7,3 +7,5 @@ pub mod Checked
 pub mod Program
 pub mod View
 pub mod Parted
+pub mod Calls
+pub mod CallsMade

@@ -1,10 +1,13 @@
 //! What `check` makes of three files.
 ghost use Rattle.std.specs.Prelude.{◌≡◌, ◌≤◌, IfOk, IsErrOf, Some, length};
+ghost use Rattle.dpl_host.specs.Calls.{AreReadsOf, Logged};
 ghost use Rattle.dpl_host.specs.Whole.{HasReadCause};
 ghost use Rattle.dpl_words.specs.Meaning.{AsksCheck, check_view};
 ghost use Rattle.dpl_words.specs.Ranges.{AreInRangeForCheck, IsApart};
 ghost use Rattle.dpl_cert.specs.Grammar.{IsCert};
 ghost use Rattle.dpl_spec_verdict.specs.Masks.{IsOfMasks};
+ghost use Rattle.dpl_run.specs.Calls.{AreReadsOfCert, AreReadsOfCheck};
+ghost use Rattle.dpl_run.specs.CallsMade.{AreReadsBehind};
 ghost use Rattle.dpl_run.specs.Check.{IsCheckOfMasks, mask_choice as mask_choice_of, refusal_of, verdict_outcome, verdict_status};
 ghost use Rattle.dpl_run.specs.Program.{IsMade, IsMadeOfCert, IsMadeOfLayer};
 ghost use Rattle.dpl_layer.specs.Reading.{limit};
@@ -28,6 +31,7 @@ use dpl_words::CheckOptions;
 use std::alloc::{AllocError, Global};
 
 /// Reads IN, then what is needed of CERT and OUT, and says the first broken property, or that none is.
+#[tactic(auto, using(crate::proofs::Calls::layout_only))]
 pub(crate) fn check_output<'a, H: Host>(
     alloc: Global,
     options: &CheckOptions<'_>,
@@ -40,6 +44,7 @@ pub(crate) fn check_output<'a, H: Host>(
     ensures not_large { IsErrOf result ReadFault.TooLarge → ⊥ }
     ensures same { H.told host.new ≡ H.told host.old }
     ensures others { H.write_faults host.new ≡ H.write_faults host.old }
+    ensures calls { Logged (H.log host.old) (H.log host.new) (AreReadsOfCheck (check_view options.now) (H.told host.old)) }
 {
     let Some(bytes) = read_input(alloc, host, options.input)? else {
         return Ok(too_large(alloc, CheckedFile::Layout)?);
@@ -57,6 +62,7 @@ pub(crate) fn check_output<'a, H: Host>(
 }
 
 /// Reads CERT, and goes on by its kind.
+#[tactic(auto, using(crate::proofs::Calls::cert_only))]
 fn check_layer<'a, H: Host>(
     alloc: Global,
     options: &CheckOptions<'_>,
@@ -69,6 +75,7 @@ fn check_layer<'a, H: Host>(
     ensures not_large { IsErrOf result ReadFault.TooLarge → ⊥ }
     ensures same { H.told host.new ≡ H.told host.old }
     ensures others { H.write_faults host.new ≡ H.write_faults host.old }
+    ensures calls { Logged (H.log host.old) (H.log host.new) (AreReadsOfCert (check_view options.now) (H.told host.old)) }
 {
     let Some(text) = read_input(alloc, host, options.certificate)? else {
         return Ok(too_large(alloc, CheckedFile::Certificate)?);
@@ -84,6 +91,7 @@ fn check_layer<'a, H: Host>(
 }
 
 /// Judges a conflict by its certificate alone, masks with OUT.
+#[tactic(auto, using(crate::proofs::Calls::out_unread))]
 fn check_cert<'a, H: Host>(
     alloc: Global,
     options: &CheckOptions<'_>,
@@ -98,6 +106,7 @@ fn check_cert<'a, H: Host>(
     ensures not_large { IsErrOf result ReadFault.TooLarge → ⊥ }
     ensures same { H.told host.new ≡ H.told host.old }
     ensures others { H.write_faults host.new ≡ H.write_faults host.old }
+    ensures calls { Logged (H.log host.old) (H.log host.new) (AreReadsBehind (check_view options.now) cert.now) }
 {
     match cert {
         Cert::Masks { .. } => check_out(alloc, options, layer, cert, host),
@@ -131,6 +140,7 @@ fn check_out<'a, H: Host>(
     ensures not_large { IsErrOf result ReadFault.TooLarge → ⊥ }
     ensures same { H.told host.new ≡ H.told host.old }
     ensures others { H.write_faults host.new ≡ H.write_faults host.old }
+    ensures calls { Logged (H.log host.old) (H.log host.new) (AreReadsOf (check_view options.now).output) }
 {
     let Some(bytes) = read_input(alloc, host, options.output)? else {
         return Ok(too_large(alloc, CheckedFile::Masks)?);

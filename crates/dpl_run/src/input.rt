@@ -1,5 +1,6 @@
 //! Files that are read whole.
 ghost use Rattle.std.specs.Prelude.{◌≡◌, IfOk, IsErrOf, option_map};
+ghost use Rattle.dpl_host.specs.Calls.{AreReadsOf, Logged};
 ghost use Rattle.dpl_host.specs.Whole.{HasReadCause};
 ghost use Rattle.dpl_run.specs.Program.{IsInput, IsSeen};
 
@@ -18,6 +19,7 @@ pub(crate) fn read_input<H: Host>(
     ensures not_large { IsErrOf result ReadFault.TooLarge → ⊥ }
     ensures same { H.told host.new ≡ H.told host.old }
     ensures others { H.write_faults host.new ≡ H.write_faults host.old }
+    ensures calls { Logged (H.log host.old) (H.log host.new) (AreReadsOf name.now) }
 {
     match read_all(alloc, host, name) {
         Ok(bytes) => Ok(Some(bytes)),

@@ -1,6 +1,9 @@
 //! All that a run writes and says, made before the first of it is written.
 ghost use Rattle.std.specs.Prelude.{◌≡◌, OnErr, OnOk, option_map, string_bytes};
+ghost use Rattle.dpl_host.specs.Calls.{Logged};
 ghost use Rattle.dpl_host.specs.Outside.{HasCause};
+ghost use Rattle.dpl_run.specs.Calls.{AreWritings, BeginWritings};
+ghost use Rattle.dpl_run.specs.CallsMade.{names_of};
 ghost use Rattle.dpl_run.specs.Outcome.{IsPartDone, carried_out, says};
 ghost use Rattle.dpl_run.specs.View.{output_view};
 
@@ -40,6 +43,8 @@ pub(crate) fn perform<H: Host>(host: &mut H, output: &Output) -> Result<(), Fail
     ensures err { OnErr result (IsPartDone (output_view output.now).writes (output_view output.now).line (H.told host.old) (H.told host.new)) }
     ensures cause { HasCause (H.write_faults host.old) (H.write_faults host.new) result }
     ensures others { H.read_faults host.new ≡ H.read_faults host.old }
+    ensures calls { OnOk result (Logged (H.log host.old) (H.log host.new) (AreWritings (names_of (output_view output.now).writes))) }
+    ensures begun { OnErr result (Logged (H.log host.old) (H.log host.new) (BeginWritings (names_of (output_view output.now).writes))) }
 {
     for write in &output.writes {
         write_all(host, write.name, write.bytes.as_slice())?;

@@ -1,9 +1,11 @@
 //! The whole program over an outside.
-ghost use Rattle.std.specs.Prelude.{◌≡◌, ◌≤◌, ◌⊎◌, IfErr, IfOk, IsErrOf, None, OnOk, Some, is_some, true};
+ghost use Rattle.std.specs.Prelude.{◌≡◌, ◌≤◌, ◌⊎◌, [], IfErr, IfOk, IsErrOf, None, OnOk, Some, is_some, true};
 ghost use Rattle.clap.specs.Walk.{texts};
+ghost use Rattle.dpl_host.specs.Calls.{Logged};
 ghost use Rattle.dpl_host.specs.Whole.{HasReadCause};
 ghost use Rattle.dpl_words.specs.Meaning.{AsksDemo, demo_view, request_of, request_view};
 ghost use Rattle.dpl_words.specs.Ranges.{AreInRangeForDemo, IsApart, IsInRange};
+ghost use Rattle.dpl_run.specs.Calls.{AreCallsOf, AreReadsFor};
 ghost use Rattle.dpl_run.specs.Outcome.{IsStill, TellsFaults, is_answered, says};
 ghost use Rattle.dpl_run.specs.Parted.{IsParted};
 ghost use Rattle.dpl_run.specs.Program.{IsCutShort, IsMade, IsOutcome};
@@ -53,6 +55,8 @@ pub fn run<'a, R: Threads + Wait + Sync, H: Host, G: Gate + Sync>(
     // Where no call of the host failed, there is no other answer, but out of memory.
     ensures complete { IsStill (H.read_faults host.old) (H.read_faults host.new) → IsStill (H.write_faults host.old) (H.write_faults host.new)
         → (result ≡ Status.NoMemory) ⊎ IsOutcome (texts words.entry.now) result (H.told host.old) (H.told host.new) }
+    // It calls its host for just what the answer needs, and for no write before all is made. No body can know whether its host keeps its calls, so this binds it over each.
+    ensures calls { Logged (H.log host.old) (H.log host.new) (AreCallsOf (texts words.entry.now) (H.told host.old) result) }
 {
     match made(rt, alloc, words, host, gate) {
         Ok(output) => match perform(host, &output) {
@@ -79,6 +83,7 @@ fn made<'a, R: Threads + Wait + Sync, H: Host, G: Gate + Sync>(
     ensures same { H.told host.new ≡ H.told host.old }
     ensures later { H.read_faults host.old ≤ H.read_faults host.new }
     ensures others { H.write_faults host.new ≡ H.write_faults host.old }
+    ensures calls { Logged (H.log host.old) (H.log host.new) (AreReadsFor (request_of (texts words.entry.now)) (H.told host.old)) }
 {
     match read_words(alloc, words) {
         Ok(request) => match output_of(rt, alloc, &request, host, gate) {
@@ -109,6 +114,7 @@ fn output_of<'a, R: Threads + Wait + Sync, H: Host, G: Gate + Sync>(
     ensures not_large { IsErrOf result ReadFault.TooLarge → ⊥ }
     ensures same { H.told host.new ≡ H.told host.old }
     ensures others { H.write_faults host.new ≡ H.write_faults host.old }
+    ensures calls { Logged (H.log host.old) (H.log host.new) (AreReadsFor (Some (request_view request.now)) (H.told host.old)) }
 {
     match request {
         Request::Split(options) => split_output(rt, alloc, options, host, gate),
@@ -118,6 +124,7 @@ fn output_of<'a, R: Threads + Wait + Sync, H: Host, G: Gate + Sync>(
 }
 
 /// Makes what `demo` says, for which no file is read.
+#[tactic(auto, using(crate::proofs::Calls::no_calls))]
 fn made_up<'a, R: Threads + Wait + Sync, H: Host, G: Gate + Sync>(
     rt: &R,
     alloc: Global,
@@ -131,6 +138,7 @@ fn made_up<'a, R: Threads + Wait + Sync, H: Host, G: Gate + Sync>(
     ensures not_large { IsErrOf result ReadFault.TooLarge → ⊥ }
     ensures same { H.told host.new ≡ H.told host.old }
     ensures others { H.write_faults host.new ≡ H.write_faults host.old }
+    ensures calls { Logged (H.log host.old) (H.log host.new) (λ calls. calls ≡ []) }
 {
     Ok(demo_output(rt, alloc, options, gate)?)
 }

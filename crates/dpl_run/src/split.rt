@@ -1,5 +1,6 @@
 //! What `split` makes of a file, before anything is written.
 ghost use Rattle.std.specs.Prelude.{◌≡◌, ◌≤◌, IfOk, IsErrOf, Some, length};
+ghost use Rattle.dpl_host.specs.Calls.{AreReadsOf, Logged};
 ghost use Rattle.dpl_host.specs.Whole.{HasReadCause};
 ghost use Rattle.dpl_words.specs.Meaning.{AsksSplit, split_view};
 ghost use Rattle.dpl_words.specs.Ranges.{AreInRange};
@@ -41,6 +42,7 @@ pub(crate) fn split_output<'a, R: Threads + Wait + Sync, H: Host, G: Gate + Sync
     ensures not_large { IsErrOf result ReadFault.TooLarge → ⊥ }
     ensures same { H.told host.new ≡ H.told host.old }
     ensures others { H.write_faults host.new ≡ H.write_faults host.old }
+    ensures calls { Logged (H.log host.old) (H.log host.new) (AreReadsOf (split_view options.now).input) }
 {
     match read_input(alloc, host, options.input) {
         Ok(Some(bytes)) => Ok(split(rt, alloc, options, bytes, gate)?),

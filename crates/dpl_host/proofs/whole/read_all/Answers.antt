@@ -1,6 +1,7 @@
 use Rattle.std.proofs.Common.{◌≡◌, ◌∙◌, sym, subst, List, ℕ, arith, take, length, [], refl, rules}
 use Rattle.std.specs.Prelude.{IfSome, unwrap_or}
 use Rattle.dpl_host.specs.Outside.{file_of}
+use Rattle.dpl_host.proofs.Logs.{read_more}
 use Rattle.dpl_host.proofs.Pieces.{prefix_on, given_more, too_long, whole_read}
 use Rattle.dpl_host.proofs.whole.read_all.Goals as goal
 
@@ -18,6 +19,8 @@ loop-chunk-preserved g c =
       counted = c.in_ok-count.ensures.cause.worked ∙ c.loop-chunk.invariant.counted;
       others = c.in_ok-count.ensures.others ∙ c.loop-chunk.invariant.others;
       given = given_more _ _ _ bytes (take n buffer) buffer n _ c.loop-chunk.invariant.given c.in_ok-count.ensures.given refl c.in_ok-count.ensures.bound grown;
+      logged = read_more c.args.name.now
+          c.loop-chunk.invariant.logged c.in_ok-count.ensures.logged;
     }
 
 pub returns-clause-large : goal.returns-clause-large
@@ -29,3 +32,15 @@ pub returns-then-count-eq0-clause-bytes : goal.returns-then-count-eq0-clause-byt
 returns-then-count-eq0-clause-bytes g c =
     whole_read (g.H.Host.told c.args.host.now) (g.H.Host.told c.loop-chunk.host) c.args.name.now c.loop-chunk.bytes.items c.read.new.into c.in_ok-count.count _
     c.loop-chunk.invariant.prefix c.in_ok-count.ensures.bytes c.loop-chunk.invariant.same (c.len-in-loop-chunk.ensures ∙ search rules) (search rules) (search rules)
+
+pub returns-then-count-eq0-clause-logged : goal.returns-then-count-eq0-clause-logged
+returns-then-count-eq0-clause-logged g c = read_more c.args.name.now
+    c.loop-chunk.invariant.logged c.in_ok-count.ensures.logged
+
+pub returns-in_err-count-clause-logged : goal.returns-in_err-count-clause-logged
+returns-in_err-count-clause-logged g c = read_more c.args.name.now
+    c.loop-chunk.invariant.logged c.in_err-count.ensures.logged
+
+pub returns-in_err-extend_from_slice-clause-logged : goal.returns-in_err-extend_from_slice-clause-logged
+returns-in_err-extend_from_slice-clause-logged g c = read_more c.args.name.now
+    c.loop-chunk.invariant.logged c.in_ok-count.ensures.logged

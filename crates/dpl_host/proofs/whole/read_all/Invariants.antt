@@ -1,5 +1,6 @@
 use Rattle.std.proofs.Common.{length, ◌-◌, ◌≡◌, take, []}
 use Rattle.std.specs.Prelude.{IfSome, unwrap_or}
+use Rattle.dpl_host.specs.Calls.{AreReadsOf, Logged}
 use Rattle.dpl_host.specs.Outside.{Gave, file_of}
 use Rattle.dpl_host.proofs.whole.read_all.Given as goal
 
@@ -10,6 +11,7 @@ invariant-loop-chunk g l = record {
   counted : g.H.Host.read_faults l.host ≡ g.H.Host.read_faults l.fn.host;
   others : g.H.Host.write_faults l.host ≡ g.H.Host.write_faults l.fn.host;
   given : Gave (g.H.Host.given l.fn.host) (length l.bytes.items) (g.H.Host.given l.host);
+  logged : Logged (g.H.Host.log l.fn.host) (g.H.Host.log l.host) (AreReadsOf l.name);
 }
 
 abbrev pub decreases-loop-chunk : goal.decreases-loop-chunk

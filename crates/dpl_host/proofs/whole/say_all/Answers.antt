@@ -2,6 +2,7 @@ use Rattle.std.proofs.Common.{◌≡◌, ◌∙◌, ◌≤◌, ◌-◌, ap, sym,
 use Rattle.std.specs.Prelude.{option_map}
 use Rattle.dpl_host.specs.Outside.{with_said}
 use Rattle.dpl_host.proofs.Files.{said_on}
+use Rattle.dpl_host.proofs.Logs.{said_more}
 use Rattle.dpl_host.proofs.Pieces.{rest_is, take_on}
 use Rattle.dpl_host.proofs.whole.say_all.Goals as goal
 
@@ -22,4 +23,10 @@ loop-done-preserved g c =
           ∙ ap (λ (p : List ℕ). option_map (with_said p) (g.H.Host.told c.args.host.now)) (sym (take_on done n bytes));
       counted = c.in_ok-done.ensures.cause.worked ∙ c.loop-done.invariant.counted;
       others = c.in_ok-done.ensures.others ∙ c.loop-done.invariant.others;
+      logged = said_more
+          c.loop-done.invariant.logged c.in_ok-done.ensures.logged;
     }
+
+pub returns-in_err-done-clause-logged : goal.returns-in_err-done-clause-logged
+returns-in_err-done-clause-logged g c = said_more
+    c.loop-done.invariant.logged c.in_err-done.ensures.logged

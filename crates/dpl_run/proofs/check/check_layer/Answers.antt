@@ -9,6 +9,7 @@ use Rattle.dpl_words.specs.Meaning.{check_view}
 use Rattle.dpl_run.specs.Program.{IsMadeOfCert, IsSeen}
 use Rattle.dpl_run.specs.View.{output_view}
 use Rattle.dpl_run.proofs.Checking.{cert_bad, cert_large, cert_read}
+use Rattle.dpl_run.proofs.Calls.{cert_and_out}
 use Rattle.dpl_run.proofs.check.check_layer.Goals as goal
 
 pub returns-in_default-clause-made : goal.returns-in_default-clause-made
@@ -36,3 +37,11 @@ returns-in-Err-BadLine-clause-made g c =
     let refusal = subst (λ (e : CertFault). IsRefusal c.as_slice.result.now e) c.in-Err-BadLine.field-0-is c.in-Err-BadLine.ensures.line in
     let bad = subst (λ (b : List ℕ). IsBadLine b c.in-Err-BadLine.line) c.as_slice.ensures.value refusal in
     cert_bad told (check_view c.args.options.now) c.args.layer.now text c.in-Err-BadLine.line _ seen bad c.in_ok-bad_line-in-Err-BadLine.ensures
+
+pub returns-in-Ok-clause-calls : goal.returns-in-Ok-clause-calls
+returns-in-Ok-clause-calls g c =
+    let told = g.H.Host.told c.args.host.now in
+    let text = c.in-Some.text.items in
+    let seen = subst (λ (o : Option (Vec ℕ Global)). IsSeen told c.args.options.now.certificate.now (option_map (λ v. v.items) o)) c.in-Some.is c.in_ok-text.ensures.seen in
+    let read = subst (λ (b : List ℕ). IsText c.in-Ok.cert b) c.as_slice.ensures.value c.in-Ok.ensures.found in
+    cert_and_out (check_view c.args.options.now) text c.in-Ok.cert seen read c.in_ok-text.ensures.calls c.check_cert.ensures.calls

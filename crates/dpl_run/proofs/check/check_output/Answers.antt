@@ -1,6 +1,7 @@
 use Rattle.std.proofs.Common.{subst, Option, ℕ, Global}
 use Rattle.std.specs.Prelude.{Vec, option_map}
 use Rattle.std.proofs.lemmas.Result.{IfOk-weaker}
+use Rattle.dpl_host.specs.Calls.{Logged}
 use Rattle.dpl_host.specs.Outside.{Outside}
 use Rattle.dpl_words.specs.Meaning.{check_view}
 use Rattle.dpl_run.specs.Check.{check_choice}
@@ -10,6 +11,8 @@ use Rattle.dpl_layer.specs.View.{IsLayerFault}
 use Rattle.dpl_run.specs.View.{output_view}
 use Rattle.dpl_layer.specs.declared.fault.LayerFault.{LayerFault}
 use Rattle.dpl_run.proofs.Checking.{check_made, layout_faulty, layout_large, layout_read}
+use Rattle.dpl_run.specs.Calls.{AreReadsOfCert}
+use Rattle.dpl_run.proofs.Calls.{layout_and_more}
 use Rattle.dpl_run.proofs.check.check_output.Goals as goal
 
 pub returns-in_default-clause-made : goal.returns-in_default-clause-made
@@ -42,3 +45,13 @@ returns-in_ok-refused-in-Err-Refused-clause-made g c =
     let fault : IsLayout (check_choice v) bytes (Faulty name at) = subst (λ (e : LayerFault). IsLayerFault (check_choice v) bytes e)
     c.in-Err-Refused.field-0-is c.in-Err-Refused.ensures.fault in
     check_made told v _ c.requires.apart (layout_faulty told v bytes name at _ seen fault c.in_ok-refused-in-Err-Refused.ensures)
+
+pub returns-in-Ok-clause-calls : goal.returns-in-Ok-clause-calls
+returns-in-Ok-clause-calls g c =
+    let told = g.H.Host.told c.args.host.now in
+    let v = check_view c.args.options.now in
+    let layer = c.in-Ok.layer in
+    let seen = subst (λ (o : Option (Vec ℕ Global)). IsSeen told c.args.options.now.input.now (option_map (λ v. v.items) o)) c.in-Some.is c.in_ok-bytes.ensures.seen in
+    let behind = subst (λ (t : Option Outside). Logged (g.H.Host.log c.read_input.new.host) (g.H.Host.log c.check_layer.new.host) (AreReadsOfCert v t))
+    c.in_ok-bytes.ensures.same c.check_layer.ensures.calls in
+    layout_and_more v c.in-Some.bytes.items layer.copied.items layer.slabs seen c.in-Ok.ensures.layer c.in_ok-bytes.ensures.calls behind

@@ -1,0 +1,74 @@
+-- The calls that a run makes of its host: reads of what the answer rests on, then the writing of what the answer has, and no other.
+use Rattle.std.specs.Prelude.{◌≡◌, ◌⊎◌, ℕ, true, List, [], ◌∷◌, ◌++◌, Option, Some, None, IfSome}
+use Rattle.clap.specs.Walk.{Text}
+use Rattle.dpl_host.specs.Calls.{AreReadsOf, AreSays, Call, IsWritingOf}
+use Rattle.dpl_host.specs.Outside.{Outside, file_of}
+use Rattle.dpl_spec_split.specs.declared.Rect.{Rect}
+use Rattle.dpl_cert.specs.declared.cert.Cert.{Cert}
+use Rattle.dpl_cert.specs.Grammar.{IsText}
+use Rattle.dpl_spec_verdict.specs.Masks.{IsOfMasks}
+use Rattle.dpl_words.specs.Meaning.{AsksCheck, AsksDemo, AsksSplit, CheckValues, RequestValues, request_of}
+use Rattle.dpl_layer.specs.Reading.{IsReading, Layer}
+use Rattle.dpl_run.specs.Check.{check_choice}
+use Rattle.dpl_run.specs.Outcome.{is_answered}
+use Rattle.dpl_run.specs.declared.status.Status.{Status}
+use Rattle.dpl_run.specs.declared.status.Status.TheVariants.{Done, ReadFault, WriteFault, NoMemory}
+
+-- IN is read as a file with the layer, and CERT as a certificate of masks
+abbrev pub HasLayerIn : CheckValues → Outside → Type 0
+HasLayerIn v o = (bytes copied : List ℕ) × (layer : List Rect) × (file_of o v.input ≡ Some bytes) × IsReading (check_choice v) bytes (Layer copied layer)
+
+abbrev pub HasMasksCert : CheckValues → Outside → Type 0
+HasMasksCert v o = (text : List ℕ) × (cert : Cert) × (file_of o v.certificate ≡ Some text) × IsText cert text × IsOfMasks cert
+
+-- What `check` reads behind IN: CERT, and then OUT only where CERT has a certificate of masks.
+pub record AreReadsOfCert (v : CheckValues) (told : Option Outside) (calls : List Call) : Type 0 where
+  pub cert : List Call
+  pub out : List Call
+  pub are : calls ≡ cert ++ out
+  pub of_cert : AreReadsOf v.certificate cert
+  pub of_out : (out ≡ []) ⊎ (AreReadsOf v.output out × IfSome told (HasMasksCert v))
+
+-- What `check` reads: IN, and then more only where IN has the layer.
+pub record AreReadsOfCheck (v : CheckValues) (told : Option Outside) (calls : List Call) : Type 0 where
+  pub layout : List Call
+  pub more : List Call
+  pub are : calls ≡ layout ++ more
+  pub of_layout : AreReadsOf v.input layout
+  pub of_more : (more ≡ []) ⊎ (AreReadsOfCert v told more × IfSome told (HasLayerIn v))
+
+-- what a request reads
+abbrev pub AreReadsFor : Option RequestValues → Option Outside → List Call → Type 0
+AreReadsFor (Some (AsksSplit v)) told calls = AreReadsOf v.input calls
+AreReadsFor (Some (AsksCheck v)) told calls = AreReadsOfCheck v told calls
+AreReadsFor (Some (AsksDemo v)) told calls = calls ≡ []
+AreReadsFor None told calls = calls ≡ []
+
+-- the files that an answer to a request writes, in order
+abbrev pub files_written : Option RequestValues → Status → List Text
+files_written (Some (AsksSplit v)) Done = v.output ∷ v.certificate ∷ []
+files_written (Some (AsksSplit v)) _ = v.certificate ∷ []
+files_written _ _ = []
+
+-- each file is written, one behind another, and then a line is said; or only a beginning of that
+abbrev pub AreWritings : List Text → List Call → Type 0
+AreWritings [] calls = AreSays calls
+AreWritings (name ∷ names) calls = (one rest : List Call) × (calls ≡ one ++ rest) × IsWritingOf name one × AreWritings names rest
+
+abbrev pub BeginWritings : List Text → List Call → Type 0
+BeginWritings names calls = (rest : List Call) × AreWritings names (calls ++ rest)
+
+-- what is written at the end of a run: nothing without an answer, and a beginning of what some answer writes where a write failed
+abbrev pub AreWritingsOf : Option RequestValues → Status → List Call → Type 0
+AreWritingsOf request ReadFault calls = calls ≡ []
+AreWritingsOf request NoMemory calls = calls ≡ []
+AreWritingsOf request WriteFault calls = (answer : Status) × (is_answered answer ≡ true) × BeginWritings (files_written request answer) calls
+AreWritingsOf request answer calls = AreWritings (files_written request answer) calls
+
+-- the calls of a run of these words that ends so
+pub record AreCallsOf (words : List Text) (told : Option Outside) (status : Status) (calls : List Call) : Type 0 where
+  pub reads : List Call
+  pub writings : List Call
+  pub are : calls ≡ reads ++ writings
+  pub read : AreReadsFor (request_of words) told reads
+  pub written : AreWritingsOf (request_of words) status writings
