@@ -13,10 +13,10 @@ use std::alloc::{AllocError, Global};
 use std::sync::Wait;
 use std::thread::Threads;
 
-/// The tiles of a plan, each with the conflicts that it finds.
+/// The job of a pool that finds the conflicts of a plan: the summary of a tile is that of the conflicts that the tile finds.
 #[derive(Drop)]
-pub(crate) struct EdgeJob<'a> {
-    pub(crate) plan: Plan<'a>,
+pub struct EdgeJob<'a> {
+    pub plan: Plan<'a>,
 }
 
 impl<'a> Job for EdgeJob<'a> {

@@ -11,3 +11,4 @@ mod near;
 pub use answer::answer_of;
 pub use conflicts::{Conflicts, Sharing, conflicts_of};
 pub use decomposed::{Clash, Decomposed, Painted};
+pub use job::EdgeJob;

@@ -11,6 +11,7 @@ mod split;
 mod status;
 mod texts;
 
+pub use dpl_answer::EdgeJob;
 pub use program::run;
 pub use status::Status;
 pub use texts::USAGE;
