@@ -1,9 +1,10 @@
 //! Real files and standard output.
 ghost use Rattle.std.specs.Prelude.{◌≡◌, ◌≤◌, IfOk, MatchResult, OnErr, OnOk, [], length, take};
 ghost use Rattle.std.specs.Io.{ReadsAtMost, WritesAtMost};
+ghost use Rattle.dpl_host.specs.Calls.{Append, Create, Logs, Read, Say};
 ghost use Rattle.dpl_host.specs.MemHost.{next_count};
 ghost use Rattle.dpl_host.specs.Outside.{Changes, Gave, HasCause, IsThere, LeavesRest, Reads, Takes, with_file, with_more, with_said};
-ghost use Rattle.dpl_host.specs.SureHost.{counted, untold};
+ghost use Rattle.dpl_host.specs.SureHost.{counted, unlogged, untold};
 
 use crate::fault::Fault;
 use dpl_host::{Failed, Host};
@@ -25,7 +26,7 @@ struct Opened {
     file: File,
 }
 
-/// The files of the system and standard output. It tells neither: what it does to them is trusted.
+/// The files of the system and standard output. It tells neither: what it does to them is trusted. It keeps no list of its calls.
 #[derive(Drop)]
 pub struct FileHost<'a> {
     rt: &'a HostRuntime,
@@ -105,7 +106,7 @@ impl<'a> FileHost<'a> {
 }
 
 impl<'a> Host for FileHost<'a> {
-    ghost use Rattle.dpl_host.specs.SureHost.{untold};
+    ghost use Rattle.dpl_host.specs.SureHost.{unlogged, untold};
 
     ghost told = { λ h. untold };
 
@@ -114,6 +115,8 @@ impl<'a> Host for FileHost<'a> {
     ghost write_faults = { λ h. h.write_faults };
 
     ghost given = { λ h. h.given };
+
+    ghost log = { λ h. unlogged };
 
     fn read(&mut self, name: &str, at: u64, into: &mut [u8]) -> Result<usize, Failed>
         ensures bound { IfOk result (λ n. n ≤ length into.new) }
@@ -126,6 +129,7 @@ impl<'a> Host for FileHost<'a> {
         ensures keeps { OnOk result (self.new.read_faults ≡ self.old.read_faults) }
         ensures given { IfOk result (λ n. Gave self.old.given n self.new.given) }
         ensures exactly { MatchResult result (λ n. self.new.given ≡ counted self.old.given n) (λ _. self.new.given ≡ self.old.given) }
+        ensures logged { Logs unlogged (Read name.now) unlogged }
     {
         let mut chunk = [0u8; CHUNK];
         let room = into.len().min(CHUNK);
@@ -151,6 +155,7 @@ impl<'a> Host for FileHost<'a> {
         ensures raises { OnErr result (self.new.write_faults ≡ next_count self.old.write_faults) }
         ensures keeps { OnOk result (self.new.write_faults ≡ self.old.write_faults) }
         ensures given { self.new.given ≡ self.old.given }
+        ensures logged { Logs unlogged (Create name.now) unlogged }
     {
         match create_anew(self.rt, &mut self.output, name) {
             Ok(()) => Ok(()),
@@ -172,6 +177,7 @@ impl<'a> Host for FileHost<'a> {
         ensures raises { OnErr result (self.new.write_faults ≡ next_count self.old.write_faults) }
         ensures keeps { OnOk result (self.new.write_faults ≡ self.old.write_faults) }
         ensures given { self.new.given ≡ self.old.given }
+        ensures logged { Logs unlogged (Append name.now) unlogged }
     {
         let written = append_to(self.rt, &mut self.output, name, piece);
         self.taken(word_of(self.words, name), written, piece)
@@ -185,6 +191,7 @@ impl<'a> Host for FileHost<'a> {
         ensures raises { OnErr result (self.new.write_faults ≡ next_count self.old.write_faults) }
         ensures keeps { OnOk result (self.new.write_faults ≡ self.old.write_faults) }
         ensures given { self.new.given ≡ self.old.given }
+        ensures logged { Logs unlogged Say unlogged }
     {
         self.is_empty = self.is_empty || piece.starts_with(EMPTY);
         let written = io::writer(self.rt).write(piece);

@@ -4,9 +4,11 @@
 mod outcome;
 mod painted;
 mod reread;
+mod sure;
 mod valid;
 
 pub use outcome::one_outcome;
 pub use painted::painted_masks_are_right;
 pub use reread::{masks_are_read, masks_read_back};
+pub use sure::run_surely;
 pub use valid::{own_files_are_valid, own_results_are_valid};

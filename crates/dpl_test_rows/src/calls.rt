@@ -1,0 +1,211 @@
+//! The calls that a run makes of its host: it reads what the answer rests on, writes what the answer has, and makes no other call.
+
+use dpl_host::{Failing, Kind, MemHost};
+use dpl_pool::OpenGate;
+use dpl_run::{Status, run};
+use dpl_test_sample::{Rectangle, bars, host, masks, words};
+use std::alloc::{AllocError, Global};
+use std::test::*;
+
+const SPLIT: &str = "dpl split --layer 1 --rule 30 --overlap 10 in out cert";
+
+const CHECK: &str = "dpl check --layer 1 --rule 30 --overlap 10 in out cert";
+
+const BAR: Rectangle = [0, 0, 100, 20];
+
+/// Three squares, each two closer than the rule.
+const CROWD: [Rectangle; 3] = [[0, 0, 10, 10], [20, 0, 30, 10], [10, 20, 20, 30]];
+
+const CROWD_CERT: &str =
+    "dpl 1\nrule 30 overlap 10\nfeatures 3 pieces 3 zones 0\ncycle 3\npiece 0 0 0\npiece 1 20 0\npiece 2 10 20\nnear 0 0 20 0\nnear 20 0 10 20\nnear 10 20 0 0\nend\n";
+
+const BAR_CERT: &str =
+    "dpl 1\nrule 30 overlap 10\nfeatures 1 pieces 1 zones 0 stitches 0\npiece 0 A 0 0\nend\n";
+
+/// A call: what it asks for, and of which file.
+type Asked = (Kind, &'static str);
+
+const READ_IN: Asked = (Kind::Read, "in");
+
+const READ_CERT: Asked = (Kind::Read, "cert");
+
+const READ_OUT: Asked = (Kind::Read, "out");
+
+const CREATE_OUT: Asked = (Kind::Create, "out");
+
+const APPEND_OUT: Asked = (Kind::Append, "out");
+
+const CREATE_CERT: Asked = (Kind::Create, "cert");
+
+const APPEND_CERT: Asked = (Kind::Append, "cert");
+
+const SAY: Asked = (Kind::Say, "");
+
+/// A command line, the layer of IN, the text of CERT, the call that fails, and all calls that are made. A file of less than 4,096 bytes takes two reads, of which the second gives nothing, and one call that appends.
+struct Row {
+    line: &'static str,
+    layer: &'static [Rectangle],
+    cert: &'static str,
+    failing: &'static [Failing],
+    status: Status,
+    calls: &'static [Asked],
+}
+
+const ROWS: [Row; 13] = [
+    Row {
+        line: SPLIT,
+        layer: &[BAR],
+        cert: "",
+        failing: &[],
+        status: Status::Done,
+        calls: &[
+            READ_IN,
+            READ_IN,
+            CREATE_OUT,
+            APPEND_OUT,
+            CREATE_CERT,
+            APPEND_CERT,
+            SAY,
+        ],
+    },
+    Row {
+        line: SPLIT,
+        layer: &CROWD,
+        cert: "",
+        failing: &[],
+        status: Status::Conflict,
+        calls: &[READ_IN, READ_IN, CREATE_CERT, APPEND_CERT, SAY],
+    },
+    Row {
+        line: "dpl split --layer 1 --rule 30 --overlap 10 --top NONE in out cert",
+        layer: &[BAR],
+        cert: "",
+        failing: &[],
+        status: Status::Refused,
+        calls: &[READ_IN, READ_IN, CREATE_CERT, APPEND_CERT, SAY],
+    },
+    Row {
+        line: SPLIT,
+        layer: &[BAR],
+        cert: "",
+        failing: &[(Kind::Read, 0)],
+        status: Status::ReadFault,
+        calls: &[READ_IN],
+    },
+    Row {
+        line: SPLIT,
+        layer: &[BAR],
+        cert: "",
+        failing: &[(Kind::Create, 0)],
+        status: Status::WriteFault,
+        calls: &[READ_IN, READ_IN, CREATE_OUT],
+    },
+    Row {
+        line: SPLIT,
+        layer: &[BAR],
+        cert: "",
+        failing: &[(Kind::Append, 1)],
+        status: Status::WriteFault,
+        calls: &[
+            READ_IN,
+            READ_IN,
+            CREATE_OUT,
+            APPEND_OUT,
+            CREATE_CERT,
+            APPEND_CERT,
+        ],
+    },
+    Row {
+        line: CHECK,
+        layer: &[BAR],
+        cert: BAR_CERT,
+        failing: &[],
+        status: Status::Done,
+        calls: &[
+            READ_IN, READ_IN, READ_CERT, READ_CERT, READ_OUT, READ_OUT, SAY,
+        ],
+    },
+    Row {
+        line: CHECK,
+        layer: &CROWD,
+        cert: CROWD_CERT,
+        failing: &[],
+        status: Status::Done,
+        calls: &[READ_IN, READ_IN, READ_CERT, READ_CERT, SAY],
+    },
+    Row {
+        line: CHECK,
+        layer: &[BAR],
+        cert: "no certificate\n",
+        failing: &[],
+        status: Status::Refused,
+        calls: &[READ_IN, READ_IN, READ_CERT, READ_CERT, SAY],
+    },
+    Row {
+        line: "dpl check --layer 1 --rule 30 --overlap 10 --top NONE in out cert",
+        layer: &[BAR],
+        cert: BAR_CERT,
+        failing: &[],
+        status: Status::Refused,
+        calls: &[READ_IN, READ_IN, SAY],
+    },
+    Row {
+        line: CHECK,
+        layer: &[BAR],
+        cert: BAR_CERT,
+        failing: &[(Kind::Read, 4)],
+        status: Status::ReadFault,
+        calls: &[READ_IN, READ_IN, READ_CERT, READ_CERT, READ_OUT],
+    },
+    Row {
+        line: "dpl demo --seed 1 --rows 1",
+        layer: &[],
+        cert: "",
+        failing: &[],
+        status: Status::Done,
+        calls: &[SAY],
+    },
+    Row {
+        line: "dpl split",
+        layer: &[],
+        cert: "",
+        failing: &[],
+        status: Status::Usage,
+        calls: &[SAY],
+    },
+];
+
+/// A host with the files of a row. Its file of masks has the bar on the first.
+fn host_of(alloc: Global, row: &Row) -> Result<MemHost, AllocError> {
+    let layout = bars(alloc, row.layer)?;
+    let out = masks(alloc, &[BAR], &[])?;
+    let cert = Vec::from_slice(alloc, row.cert.as_bytes())?;
+    let files = vec![in alloc; ("in", layout), ("out", out), ("cert", cert)]?;
+    host(alloc, files, 4096, Vec::from_slice(alloc, row.failing)?)
+}
+
+/// Whether the host took these calls in this order, and no other.
+fn took(host: &MemHost, calls: &[Asked]) -> bool {
+    let Some(kept) = host.calls() else {
+        return false;
+    };
+    for (call, asked) in kept.iter().zip(calls) {
+        if call.kind() != asked.0 || call.name() != asked.1 {
+            return false;
+        }
+    }
+    kept.len() == calls.len()
+}
+
+#[test]
+fn a_run_makes_no_needless_call(rt: HostRuntime) -> Result<(), Fail> {
+    let alloc = rt.alloc();
+    for row in &ROWS {
+        let mut host = host_of(alloc, row)?;
+        let words = words(alloc, row.line)?;
+        let status = run(&rt, alloc, &words, &mut host, &OpenGate);
+        assert!(rt; status == row.status, "at {}", row.line);
+        assert!(rt; took(&host, row.calls), "at {}", row.line);
+    }
+    Ok(())
+}
