@@ -1,0 +1,230 @@
+#!/usr/bin/env python3
+"""Refuses dpl each allocation in turn, and each thread that it asks for, and looks at what it leaves.
+
+usage: refusals.py DPL [CASE ..]
+
+DPL is the program, as crates/dpl/out/dpl once it is proved and built (tools/prove.py). CASE is one or more of those below
+(default: all of them). A C compiler, cc, is needed.
+
+A case is a split of a made-up layout. It runs once for each allocation, or in the largest case for one of a thousand, with a
+library loaded before the C library, which counts the allocations and threads that the program asks for, and refuses one of
+them. Each run must end in one of these ways, and only the caller's thread is left then:
+  out of memory  status 6, nothing said, and both files are as they were before
+  passed over    the status, the text and both files are those of a run without a refusal: dpl does without what was refused
+  read fault     status 4, nothing said, and both files are as they were before
+  write fault    status 5, nothing said, and no more is in the files than a front of what is written without a refusal
+A fault is the answer where a file is open and no memory is left for its name, so once at most for each file. For each case a
+line is printed with how many runs ended in which way. The script ends with 0 where all are right, else with 1 after the runs
+that are not.
+
+As allocations count those of the program alone, and not those that the C library makes for itself; a growth of what was
+allocated before; and a thread."""
+import collections
+import concurrent.futures
+import os
+import shutil
+import subprocess
+import sys
+import tempfile
+
+sys.path.insert(0, os.path.join(os.path.dirname(os.path.abspath(__file__)), "..", "bench"))
+import layouts
+
+READ_FAULT, WRITE_FAULT, NO_MEMORY = 4, 5, 6
+# The most runs of a case that may end in a fault: a split reads one file and writes two.
+MOST = {"read fault": 1, "write fault": 2}
+
+SHIM = r"""
+#define _GNU_SOURCE
+#include <dirent.h>
+#include <dlfcn.h>
+#include <errno.h>
+#include <pthread.h>
+#include <stdatomic.h>
+#include <stdio.h>
+#include <stdlib.h>
+#include <sys/syscall.h>
+#include <unistd.h>
+
+extern void *__libc_malloc(size_t);
+extern void *__libc_realloc(void *, size_t);
+
+static atomic_ulong count;
+static unsigned long refused;
+static char *low, *high;
+
+static int is_own(void *caller) {
+    return low <= (char *)caller && (char *)caller < high;
+}
+
+static int is_refused(void) {
+    return atomic_fetch_add(&count, 1) + 1 == refused;
+}
+
+void *malloc(size_t size) {
+    if (is_own(__builtin_return_address(0)) && is_refused())
+        return NULL;
+    return __libc_malloc(size);
+}
+
+void *realloc(void *old, size_t size) {
+    if (is_own(__builtin_return_address(0)) && is_refused())
+        return NULL;
+    return __libc_realloc(old, size);
+}
+
+int pthread_create(pthread_t *thread, const pthread_attr_t *attr, void *(*start)(void *), void *arg) {
+    static int (*real)(pthread_t *, const pthread_attr_t *, void *(*)(void *), void *);
+    real = (int (*)(pthread_t *, const pthread_attr_t *, void *(*)(void *), void *))dlsym(RTLD_NEXT, "pthread_create");
+    return is_refused() ? EAGAIN : real(thread, attr, start, arg);
+}
+
+/* Where the program itself lies in memory. */
+__attribute__((constructor)) static void begin(void) {
+    char name[4096], line[8192], path[4096];
+    ssize_t length = readlink("/proc/self/exe", name, sizeof name - 1);
+    FILE *maps = fopen("/proc/self/maps", "r");
+    if (length < 0 || !maps)
+        abort();
+    name[length] = 0;
+    while (fgets(line, sizeof line, maps)) {
+        char *from, *to;
+        if (sscanf(line, "%p-%p %*s %*s %*s %*s %4095[^\n]", (void **)&from, (void **)&to, path) != 3)
+            continue;
+        char *same = path;
+        while (*same == ' ')
+            same++;
+        for (char *at = name; *at && *at == *same; at++, same++)
+            if (!at[1] && !same[1]) {
+                low = low ? low : from;
+                high = to;
+            }
+    }
+    fclose(maps);
+    const char *word = getenv("REFUSED");
+    refused = word ? strtoul(word, NULL, 10) : 0;
+    atomic_store(&count, 0);
+}
+
+/* How the program ends. It prints how many were asked for, and how many threads are left. One that has ended may be listed for a moment more. */
+void _exit(int status) {
+    unsigned long asked = atomic_load(&count);
+    int threads = 0;
+    for (int turn = 0; turn < 1000 && threads != 1; turn++) {
+        DIR *tasks = opendir("/proc/self/task");
+        threads = 0;
+        for (struct dirent *entry = tasks ? readdir(tasks) : NULL; entry; entry = readdir(tasks))
+            threads += entry->d_name[0] != '.';
+        if (tasks)
+            closedir(tasks);
+        if (threads != 1)
+            usleep(1000);
+    }
+    dprintf(2, "%lu %d\n", asked, threads);
+    syscall(SYS_exit_group, status);
+    __builtin_unreachable();
+}
+"""
+
+CROWD = [
+    (0, 0, 400, 20),
+    (0, 40, 50, 60),
+    (0, 40, 20, 200),
+    (0, 180, 190, 200),
+    (350, 40, 400, 60),
+    (380, 40, 400, 200),
+    (215, 180, 400, 200),
+]
+
+
+def pairs(count):
+    """Pairs of squares closer than the rule, in rows of 200, and each pair far from the others."""
+    for number in range(count):
+        x, y = 100 * (number % 200), 100 * (number // 200)
+        yield from ((x, y, x + 10, y + 10), (x + 20, y, x + 30, y + 10))
+
+
+# For each case its rectangles, the options, and how many allocations further each one that is refused lies than the one before it.
+CASES = {
+    "bar": ([(0, 0, 100, 20)], "", 1),
+    "conflict": ([(0, 0, 10, 10), (20, 0, 30, 10), (10, 20, 20, 30)], "", 1),
+    "stitch": (CROWD, "", 1),
+    "tiles": ([(0, 0, 64000, 20), (0, 40, 64000, 60)], "--tile 64", 1),
+    # So many rows that the board puts its summaries together.
+    "crowded": (pairs(33000), "--tile 4096 --workers 2", 1009),
+}
+
+Left = collections.namedtuple("Left", "status said out cert")
+BEFORE = {"out": b"old masks", "cert": b"old certificate"}
+
+
+def run_once(words, shim, number, layout):
+    """One run, of which this allocation is refused, 0 for none: what it leaves, how many it asked for, and how many threads are left."""
+    with tempfile.TemporaryDirectory() as folder:
+        os.link(layout, os.path.join(folder, "in"))
+        for name, text in BEFORE.items():
+            with open(os.path.join(folder, name), "wb") as file:
+                file.write(text)
+        env = {"LD_PRELOAD": shim, "REFUSED": str(number)}
+        ran = subprocess.run(words, cwd=folder, env=env, stdin=subprocess.DEVNULL, capture_output=True, timeout=120, check=False)
+        texts = []
+        for name in BEFORE:
+            with open(os.path.join(folder, name), "rb") as file:
+                texts.append(file.read())
+    # A run that a signal ends tells nothing.
+    asked, threads = map(int, ran.stderr.split()[-2:]) if ran.returncode >= 0 else (0, 0)
+    return Left(ran.returncode, ran.stdout, *texts), asked, threads
+
+
+def way_of(left, plain):
+    """How a run ended: with a word for what is right, and None for what is wrong."""
+    same = (left.out, left.cert) == tuple(BEFORE.values())
+    if left == plain:
+        return "passed over"
+    if left.said:
+        return None
+    if same and left.status in (READ_FAULT, NO_MEMORY):
+        return "read fault" if left.status == READ_FAULT else "out of memory"
+    is_front = all(text == before or whole.startswith(text) for text, before, whole in zip(left[2:], BEFORE.values(), plain[2:]))
+    return "write fault" if left.status == WRITE_FAULT and is_front else None
+
+
+def look_at(case, dpl, shim, work):
+    """Tries the allocations of a case; gives whether all is right."""
+    rects, options, step = CASES[case]
+    layout = os.path.join(work, case + ".gds")
+    with open(layout, "wb") as file:
+        parts = layouts.structure("TOP", (layouts.rect(*rect) for rect in rects))
+        file.write(layouts.FRONT + b"".join(parts) + layouts.BACK)
+    words = [dpl, *f"split --layer 1 --rule 30 --overlap 10 {options} in out cert".split()]
+    plain, total, threads = run_once(words, shim, 0, layout)
+    numbers = range(1, total + 1, step)
+    ways, wrong = collections.Counter(), 0 if threads == 1 else 1
+    with concurrent.futures.ThreadPoolExecutor(len(os.sched_getaffinity(0))) as pool:
+        for number, (left, _, threads) in zip(numbers, pool.map(lambda number: run_once(words, shim, number, layout), numbers)):
+            way = way_of(left, plain) if threads == 1 else None
+            if way is None or ways[way] == MOST.get(way):
+                wrong += 1
+                print(f"  {case}: without allocation {number} it leaves {left} and {threads} threads", flush=True)
+            else:
+                ways[way] += 1
+    told = ", ".join(f"{count} {way}" for way, count in sorted(ways.items()))
+    print(f"{case}: status {plain.status}; of {total} allocations {len(numbers)} refused: {told}, {wrong} wrong", flush=True)
+    return not wrong
+
+
+def main():
+    dpl, cases = os.path.abspath(sys.argv[1]), sys.argv[2:] or list(CASES)
+    work = tempfile.mkdtemp()
+    try:
+        source, shim = os.path.join(work, "refuse.c"), os.path.join(work, "refuse.so")
+        with open(source, "w", encoding="utf-8") as file:
+            file.write(SHIM)
+        subprocess.run(["cc", "-O2", "-shared", "-fPIC", "-o", shim, source, "-ldl"], check=True)
+        return 0 if all([look_at(case, dpl, shim, work) for case in cases]) else 1
+    finally:
+        shutil.rmtree(work, ignore_errors=True)
+
+
+if __name__ == "__main__":
+    sys.exit(main())
