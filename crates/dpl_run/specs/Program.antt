@@ -15,7 +15,7 @@ use Rattle.dpl_run.specs.Texts.{usage_line}
 use Rattle.dpl_run.specs.declared.status.Status.{Status}
 use Rattle.dpl_run.specs.declared.status.Status.TheVariants.{Usage}
 
--- what a request does on the files
+-- what is an outcome of a request on the files; at most one is
 abbrev pub IsPlan : Option RequestValues → Files → Outcome → Type 0
 IsPlan (Some (AsksSplit v)) files x = IsSplitOf v (map.get files v.input) x
 IsPlan (Some (AsksCheck v)) files x = IsCheck v (map.get files v.input) (map.get files v.certificate) (map.get files v.output) x

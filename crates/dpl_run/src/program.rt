@@ -39,7 +39,7 @@ pub fn run<'a, R: Threads + Wait + Sync, H: Host, G: Gate + Sync>(
     host: &mut H,
     gate: &G,
 ) -> Status
-    // An answer is the one that the definition gives, and all of it was written and said.
+    // An answer is one that the definition gives, which gives at most one, and all of it was written and said.
     ensures answer { is_answered result ≡ true → IsOutcome (texts words.entry.now) result (H.told host.old) (H.told host.new) }
     // Masks that were written part the layer, keep its features apart and overlap at stitches alone; only `split` writes; and where `check` is done, so do the masks that it read, or the cycle that it read is an odd cycle of conflicts.
     ensures parted { result ≡ Status.Done → IsParted (texts words.entry.now) (H.told host.old) (H.told host.new) }
