@@ -1,12 +1,6 @@
 pub mod Posters
-pub mod Flats
 pub mod Summings
-pub mod Parts
-pub mod Halves
-pub mod Keeping
-pub mod Leasts
-pub mod Readying
-pub mod Changes
 pub mod Firsts
 pub mod AllPosted
+pub mod Posting
 pub mod Goings

@@ -5,5 +5,6 @@ mod gate;
 mod member;
 mod pool;
 
+pub use dpl_deal::{Deal, Hand};
 pub use gate::{Gate, OpenGate};
 pub use pool::run_pool;

@@ -22,7 +22,7 @@ use Rattle.dpl_board.specs.declared.fault.PostFault.{PostFault}
 use Rattle.dpl_board.specs.declared.fault.PostFault.TheVariants.{NoMemory, Twice}
 use Rattle.dpl_board.specs.declared.entry.Entry.{Entry}
 use Rattle.dpl_board.specs.Sheets.{IsSheet, Sheet, edges_at, entry, poster_in}
-use Rattle.dpl_board.specs.Boards.{Board, IsPost, PostLeaves, Stands}
+use Rattle.dpl_board.specs.Boards.{Board, IsPost, PostLeaves, Stands, board}
 use Rattle.dpl_board.proofs.Posters.{none-differs}
 use Rattle.std.proofs.lemmas.List.Elements.{All-head, All-push, All-tail}
 use Rattle.std.proofs.lemmas.List.Quantifiers.{all_pairs_push}
@@ -66,6 +66,9 @@ one_set sheet workers views id v w at a b c h i u e un = ⊎_elim
     (ap (λ (y : SeatView). y.sheet) (sym x.1) ∙ a ∙ k.0, ap (λ (y : SeatView). y.workers) (sym x.1) ∙ b ∙ k.1))
     (λ (x : (i ≢ id) × (get_elem? views i ≡ some u)). h i u x.1 un)
     (at_set views id i w u e)
+
+pub fresh_stands : (sheet : Sheet) (state : Board) → IsSheet sheet → state ≡ board (length sheet) [] [] → Stands sheet state
+fresh_stands sheet state edges is = subst (Stands sheet) (sym is) (record { edges = edges; tiles = refl; sums = refl })
 
 pub fresh_proper : (sheet : Sheet) (workers : ℕ) → IsProper sheet workers []
 fresh_proper sheet workers = record {
@@ -454,7 +457,7 @@ gives_turn sheet workers id v state s h at holds new stands proper fresh = elim 
     not_on true h = absurd (h refl)
     not_on false h = refl
 
-pub same_state : (taken state : Board) → ◌≡◌ {A = List (ℕ × Slot)} ((0, Some taken) ∷ []) ((0, Some state) ∷ []) → taken ≡ state
+same_state : (taken state : Board) → ◌≡◌ {A = List (ℕ × Slot)} ((0, Some taken) ∷ []) ((0, Some state) ∷ []) → taken ≡ state
 same_state taken state e = ap (λ (l : List (ℕ × Slot)). first_of l) e
   where
     first_of : List (ℕ × Slot) → Board
