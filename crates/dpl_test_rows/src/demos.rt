@@ -1,6 +1,6 @@
 //! Layouts that are made up.
 
-use crate::trial::said;
+use dpl_test_runs::said;
 use std::test::*;
 
 #[test]

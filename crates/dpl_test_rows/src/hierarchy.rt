@@ -1,6 +1,6 @@
 //! References, arrays and the choice of the top.
 
-use crate::trial::{AS_ONE, BAR, Done, EMPTY, ONE_LINE, SPLIT, is_done, is_refused};
+use dpl_test_runs::{AS_ONE, BAR, Done, EMPTY, ONE_LINE, SPLIT, is_done, is_refused};
 use dpl_test_sample::{Part, finish, layout, library, put_parts};
 use std::alloc::{AllocError, Global};
 use std::test::*;
@@ -354,11 +354,8 @@ fn letter(number: u32) -> u8 {
     64 + (number % 32) as u8
 }
 
-/// A name of four letters for each number from 1, and TOP for 0.
+/// A name of four letters for each number.
 fn name_of(number: u32) -> [u8; 4] {
-    if number == 0 {
-        return *b"TOP\0";
-    }
     [
         letter(number / 32_768),
         letter(number / 1024),
@@ -367,33 +364,39 @@ fn name_of(number: u32) -> [u8; 4] {
     ]
 }
 
+/// A chain of structures of which each places the next one: the name of the first, how many stand above the last, and the parts of the last.
+#[derive(Clone, Copy)]
+struct Tower<'a> {
+    first: &'a [u8],
+    levels: u32,
+    placing: Placing,
+    last: &'a [Part<'a>],
+}
+
 /// Puts structures of which each places the next one; the last has these parts.
 fn put_levels(
     out: &mut Vec<u8>,
-    first: u32,
-    end: u32,
+    levels: u32,
     placing: Placing,
     last: &[Part<'_>],
 ) -> Result<(), AllocError> {
-    for level in first..end {
+    for level in 1..levels {
         put_parts(out, &[Part::Begin(&name_of(level))])?;
         put_placing(out, placing, &name_of(level + 1))?;
         put_parts(out, &[Part::End])?;
     }
-    put_parts(out, &[Part::Begin(&name_of(end))])?;
+    put_parts(out, &[Part::Begin(&name_of(levels))])?;
     put_parts(out, last)?;
     put_parts(out, &[Part::End])
 }
 
-/// A chain of structures that begins with TOP, each of which places the next one; the last has these parts.
-fn tower(
-    alloc: Global,
-    levels: u32,
-    placing: Placing,
-    last: &[Part<'_>],
-) -> Result<Vec<u8>, AllocError> {
+/// The file of such a chain.
+fn file_of(alloc: Global, tower: &Tower<'_>) -> Result<Vec<u8>, AllocError> {
     let mut out = library(alloc)?;
-    put_levels(&mut out, 0, levels, placing, last)?;
+    put_parts(&mut out, &[Part::Begin(tower.first)])?;
+    put_placing(&mut out, tower.placing, &name_of(1))?;
+    put_parts(&mut out, &[Part::End])?;
+    put_levels(&mut out, tower.levels, tower.placing, tower.last)?;
     finish(&mut out)?;
     Ok(out)
 }
@@ -411,25 +414,79 @@ fn array_over_a_chain(alloc: Global) -> Result<Vec<u8>, AllocError> {
         Part::End,
     ];
     put_parts(&mut out, &array)?;
-    put_levels(&mut out, 1, 4000, Placing::Once, &[Part::Bar(1, BAR)])?;
+    put_levels(&mut out, 4000, Placing::Once, &[Part::Bar(1, BAR)])?;
     finish(&mut out)?;
     Ok(out)
 }
 
+/// One square.
+const UNIT: [Part<'static>; 1] = [Part::Bar(1, [0, 0, 1, 1])];
+
+/// One square, and a reference to the structure A.
+const UNIT_AND_BACK: [Part<'static>; 5] = [
+    Part::Bar(1, [0, 0, 1, 1]),
+    Part::Record(10, 0, &[]),
+    Part::Record(18, 6, b"A\0"),
+    Part::Numbers(16, &[0, 0]),
+    Part::Record(17, 0, &[]),
+];
+
+/// Towers, and what their layer is.
+const FLAT: [(Tower<'static>, Done<'static>); 4] = [
+    // 100,000 structures.
+    (
+        Tower {
+            first: b"TOP\0",
+            levels: 99_999,
+            placing: Placing::Once,
+            last: &[Part::Bar(1, BAR)],
+        },
+        AS_ONE,
+    ),
+    (
+        Tower {
+            first: b"TOP\0",
+            levels: 12,
+            placing: Placing::Twice,
+            last: &[Part::Bar(1, BAR)],
+        },
+        AS_ONE,
+    ),
+    (
+        Tower {
+            first: b"TOP\0",
+            levels: 12,
+            placing: Placing::Array,
+            last: &[],
+        },
+        EMPTY,
+    ),
+    // One more level would be too many: these are 10,485,760 points.
+    (
+        Tower {
+            first: b"TOP\0",
+            levels: 21,
+            placing: Placing::Twice,
+            last: &UNIT,
+        },
+        Done {
+            line: ONE_LINE,
+            cert: "features 1 pieces 1 zones 0 stitches 0\npiece 0 A 0 0\n",
+            a: &[[0, 0, 1, 1]],
+            b: &[],
+        },
+    ),
+];
+
 #[test]
 fn towers_are_flattened(rt: HostRuntime) -> Result<(), Fail> {
     let alloc = rt.alloc();
-    let bar = [Part::Bar(1, BAR)];
-    let cases: [(u32, Placing, &[Part<'_>], Done<'_>); 3] = [
-        (100_000, Placing::Once, &bar, AS_ONE),
-        (12, Placing::Twice, &bar, AS_ONE),
-        (12, Placing::Array, &[], EMPTY),
-    ];
-    for (levels, placing, last, done) in cases {
-        let file = tower(alloc, levels, placing, last)?;
+    for (tower, done) in &FLAT {
+        let file = file_of(alloc, tower)?;
         assert!(rt;
-            is_done(&rt, alloc, SPLIT, file, &done)?,
-            "at {levels} levels"
+            is_done(&rt, alloc, SPLIT, file, done)?,
+            "at {} levels",
+            tower.levels
         );
     }
     Ok(())
@@ -443,27 +500,47 @@ fn an_array_over_a_long_chain_takes_no_long_time(rt: HostRuntime) -> Result<(), 
     Ok(())
 }
 
+/// Towers whose top is named A, and what they are refused for.
+const TOO_HIGH: [(Tower<'static>, &str); 3] = [
+    (
+        Tower {
+            first: b"A\0",
+            levels: 22,
+            placing: Placing::Twice,
+            last: &UNIT,
+        },
+        "TooManyPoints 0",
+    ),
+    (
+        Tower {
+            first: b"A\0",
+            levels: 12,
+            placing: Placing::Array,
+            last: &UNIT,
+        },
+        "TooManyPoints 0",
+    ),
+    (
+        Tower {
+            first: b"A\0",
+            levels: 22,
+            placing: Placing::Twice,
+            last: &UNIT_AND_BACK,
+        },
+        "Recursion 96",
+    ),
+];
+
 #[test]
 fn placed_points_and_recursions_are_found_by_structure(rt: HostRuntime) -> Result<(), Fail> {
     let alloc = rt.alloc();
-    let bar = [Part::Bar(1, BAR)];
-    let back = [
-        Part::Record(10, 0, &[]),
-        Part::Record(18, 6, b"TOP\0"),
-        Part::Numbers(16, &[0, 0]),
-        Part::Record(17, 0, &[]),
-    ];
-    let cases: [(u32, Placing, &[Part<'_>], &str); 3] = [
-        (22, Placing::Twice, &bar, "TooManyPoints 0"),
-        (12, Placing::Array, &bar, "TooManyPoints 0"),
-        (22, Placing::Twice, &back, "Recursion 98"),
-    ];
-    let line = "dpl split --layer 1 --rule 30 --overlap 10 --top TOP in out cert";
-    for (levels, placing, last, fault) in cases {
-        let file = tower(alloc, levels, placing, last)?;
+    let line = "dpl split --layer 1 --rule 30 --overlap 10 --top A in out cert";
+    for (tower, fault) in TOO_HIGH {
+        let file = file_of(alloc, &tower)?;
         assert!(rt;
             is_refused(&rt, alloc, line, file, fault)?,
-            "at {levels} levels"
+            "at {} levels",
+            tower.levels
         );
     }
     Ok(())

@@ -13,5 +13,3 @@ mod rectangles;
 mod shapes;
 #[cfg(test)]
 mod tiles;
-#[cfg(test)]
-mod trial;

@@ -1,6 +1,6 @@
 //! Layers of rectangles in one structure.
 
-use crate::trial::{Done, SPLIT, is_conflict, is_done};
+use dpl_test_runs::{Done, SPLIT, is_conflict, is_done};
 use dpl_test_sample::{Rectangle, bars};
 use std::test::*;
 
@@ -10,7 +10,7 @@ struct Row {
     done: Done<'static>,
 }
 
-const ROWS: [Row; 12] = [
+const ROWS: [Row; 13] = [
     // One bar.
     Row {
         layer: &[[0, 0, 100, 20]],
@@ -131,6 +131,21 @@ const ROWS: [Row; 12] = [
             cert: "features 2 pieces 2 zones 0 stitches 0\npiece 0 A 50 0\npiece 1 B 0 5\n",
             a: &[[50, 0, 60, 10]],
             b: &[[0, 5, 10, 20], [10, 20, 30, 30]],
+        },
+    },
+    // The first two rows that are made up from 0: each has a zone over the other's gap.
+    Row {
+        layer: &[
+            [0, 0, 714, 20],
+            [814, 0, 2000, 20],
+            [0, 40, 1749, 60],
+            [1849, 40, 2000, 60],
+        ],
+        done: Done {
+            line: "features 4 pieces 6 zones 2 stitches 0 a 2 b 2",
+            cert: "features 4 pieces 6 zones 2 stitches 0\npiece 0 A 0 0\npiece 1 A 814 0\npiece 2 A 1804 0\npiece 3 B 0 40\npiece 4 B 769 40\npiece 5 B 1849 40\n",
+            a: &[[0, 0, 714, 20], [814, 0, 2000, 20]],
+            b: &[[0, 40, 1749, 60], [1849, 40, 2000, 60]],
         },
     },
     // As far from 0 as a layer may lie.

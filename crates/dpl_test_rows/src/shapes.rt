@@ -1,6 +1,6 @@
 //! Paths, boxes and boundaries, and elements without a shape.
 
-use crate::trial::{AS_ONE, BAR, Done, EMPTY, SPLIT, is_done, is_refused};
+use dpl_test_runs::{AS_ONE, BAR, Done, EMPTY, SPLIT, is_done, is_refused};
 use dpl_test_sample::{Part, layout};
 use std::test::*;
 

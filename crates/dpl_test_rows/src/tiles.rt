@@ -1,6 +1,6 @@
 //! Layers by tiles of several sizes and by several workers, which no answer shows.
 
-use crate::trial::{Done, is_conflict, is_done};
+use dpl_test_runs::{Done, is_conflict, is_done};
 use dpl_test_sample::{Rectangle, bars};
 use std::test::*;
 
@@ -94,17 +94,55 @@ fn answers_show_no_tiles_or_workers(rt: HostRuntime) -> Result<(), Fail> {
     Ok(())
 }
 
-/// Three squares, each two closer than the rule.
-const CROWD: [Rectangle; 3] = [[0, 0, 10, 10], [20, 0, 30, 10], [10, 20, 20, 30]];
+/// A layer in conflict, and the lines of its certificate behind the rule.
+#[derive(Clone, Copy)]
+struct Clash {
+    layer: &'static [Rectangle],
+    cert: &'static str,
+}
+
+/// Three squares, each two closer than the rule; twice three, of which the lower three are told of, in the last of two tiles and in the first.
+const CLASHES: [Clash; 3] = [
+    Clash {
+        layer: &[[0, 0, 10, 10], [20, 0, 30, 10], [10, 20, 20, 30]],
+        cert: "features 3 pieces 3 zones 0\ncycle 3\npiece 0 0 0\npiece 1 20 0\npiece 2 10 20\nnear 0 0 20 0\nnear 20 0 10 20\nnear 10 20 0 0\n",
+    },
+    Clash {
+        layer: &[
+            [0, 5, 10, 15],
+            [20, 5, 30, 15],
+            [10, 25, 20, 35],
+            [200, 0, 210, 10],
+            [220, 0, 230, 10],
+            [210, 20, 220, 30],
+        ],
+        cert: "features 6 pieces 6 zones 0\ncycle 3\npiece 0 200 0\npiece 1 220 0\npiece 4 210 20\nnear 200 0 220 0\nnear 220 0 210 20\nnear 210 20 200 0\n",
+    },
+    Clash {
+        layer: &[
+            [0, 0, 10, 10],
+            [20, 0, 30, 10],
+            [10, 20, 20, 30],
+            [200, 5, 210, 15],
+            [220, 5, 230, 15],
+            [210, 25, 220, 35],
+        ],
+        cert: "features 6 pieces 6 zones 0\ncycle 3\npiece 0 0 0\npiece 1 20 0\npiece 4 10 20\nnear 0 0 20 0\nnear 20 0 10 20\nnear 10 20 0 0\n",
+    },
+];
 
 #[test]
 fn tiles_do_not_show_in_a_conflict(rt: HostRuntime) -> Result<(), Fail> {
     let alloc = rt.alloc();
-    let cert =
-        "features 3 pieces 3 zones 0\ncycle 3\npiece 0 0 0\npiece 1 20 0\npiece 2 10 20\nnear 0 0 20 0\nnear 20 0 10 20\nnear 10 20 0 0\n";
-    for line in [TINY, TWO, LARGEST] {
-        let file = bars(alloc, &CROWD)?;
-        assert!(rt; is_conflict(&rt, alloc, line, file, cert)?, "at {line}");
+    for clash in CLASHES {
+        for line in [TINY, SMALL, TWO, MANY, LARGEST] {
+            let file = bars(alloc, clash.layer)?;
+            assert!(rt;
+                is_conflict(&rt, alloc, line, file, clash.cert)?,
+                "at {line} of {}",
+                clash.cert
+            );
+        }
     }
     Ok(())
 }

@@ -1,11 +1,9 @@
 //! One bar's file of 170 bytes, changed, cut or followed by others.
 
-use crate::runs::{ONE_BAR, ONE_LINE, SPLIT, answer, is_one_bar, is_refused};
-use dpl_run::Status;
-use dpl_test_sample::{Rectangle, bars, host, is_text, masks};
+use dpl_test_runs::{AS_ONE, BAR, EMPTY, SPLIT, is_done, is_refused};
+use dpl_test_sample::{bars, masks};
+use std::alloc::{AllocError, Global};
 use std::test::*;
-
-const BAR: [Rectangle; 1] = [[0, 0, 100, 20]];
 
 /// A byte at a place, and what the file is then refused for.
 const CHANGED: [(usize, u8, &str); 6] = [
@@ -21,11 +19,11 @@ const CHANGED: [(usize, u8, &str); 6] = [
 fn a_changed_byte_is_told(rt: HostRuntime) -> Result<(), Fail> {
     let alloc = rt.alloc();
     for (at, byte, fault) in CHANGED {
-        let mut file = bars(alloc, &BAR)?;
+        let mut file = bars(alloc, &[BAR])?;
         if let Some(place) = file.get_mut(at) {
             *place = byte;
         }
-        assert!(rt; is_refused(&rt, alloc, file, fault)?, "at {at}");
+        assert!(rt; is_refused(&rt, alloc, SPLIT, file, fault)?, "at {at}");
     }
     Ok(())
 }
@@ -57,9 +55,12 @@ fn a_cut_file_is_truncated_at_its_last_record(rt: HostRuntime) -> Result<(), Fai
                 fault = name;
             }
         }
-        let mut file = bars(alloc, &BAR)?;
+        let mut file = bars(alloc, &[BAR])?;
         file.truncate(length);
-        assert!(rt; is_refused(&rt, alloc, file, fault)?, "at {length} bytes");
+        assert!(rt;
+            is_refused(&rt, alloc, SPLIT, file, fault)?,
+            "at {length} bytes"
+        );
     }
     Ok(())
 }
@@ -68,7 +69,7 @@ fn a_cut_file_is_truncated_at_its_last_record(rt: HostRuntime) -> Result<(), Fai
 fn a_file_past_the_limit_is_too_large(rt: HostRuntime) -> Result<(), Fail> {
     let alloc = rt.alloc();
     let file = vec![in alloc; 0u8; 268_435_457]?;
-    assert!(rt; is_refused(&rt, alloc, file, "TooLarge 268435456")?);
+    assert!(rt; is_refused(&rt, alloc, SPLIT, file, "TooLarge 268435456")?);
     Ok(())
 }
 
@@ -77,44 +78,41 @@ fn a_file_past_the_limit_is_too_large(rt: HostRuntime) -> Result<(), Fail> {
 fn a_file_at_the_limit_is_read(rt: HostRuntime) -> Result<(), Fail> {
     let alloc = rt.alloc();
     let file = vec![in alloc; 0u8; 268_435_456]?;
-    assert!(rt; is_refused(&rt, alloc, file, "BadLength 0")?);
+    assert!(rt; is_refused(&rt, alloc, SPLIT, file, "BadLength 0")?);
     Ok(())
 }
 
 #[test]
 fn bytes_behind_the_library_are_ignored(rt: HostRuntime) -> Result<(), Fail> {
     let alloc = rt.alloc();
-    let mut file = bars(alloc, &BAR)?;
+    let mut file = bars(alloc, &[BAR])?;
     file.extend_from_slice(&[0; 1878])?;
-    let mut host = host(alloc, vec![in alloc; ("in", file)]?, 4096, Vec::new(alloc))?;
-    assert!(rt; answer(&rt, alloc, SPLIT, &mut host)? == Status::Done);
-    let out = masks(alloc, &BAR, &[])?;
-    assert_eq!(rt; out.len(), 170);
-    assert_eq!(rt; host.file("out"), Some(out.as_slice()));
-    assert_eq!(rt; host.file("cert"), Some(ONE_BAR.as_bytes()));
-    assert_eq!(rt; host.said(), ONE_LINE.as_bytes());
+    assert!(rt; is_done(&rt, alloc, SPLIT, file, &AS_ONE)?);
+    assert_eq!(rt; masks(alloc, &[BAR], &[])?.len(), 170);
     Ok(())
 }
 
-#[test]
-fn a_layer_is_chosen_by_both_numbers(rt: HostRuntime) -> Result<(), Fail> {
-    let alloc = rt.alloc();
-    let files = vec![in alloc; ("in", bars(alloc, &BAR)?)]?;
-    let mut host = host(alloc, files, 4096, Vec::new(alloc))?;
-    let line = "dpl split --layer 9 --rule 30 --overlap 10 in out cert";
-    assert!(rt; answer(&rt, alloc, line, &mut host)? == Status::Done);
-    let nothing = masks(alloc, &[], &[])?;
-    assert_eq!(rt; nothing.len(), 106);
-    assert_eq!(rt; host.file("out"), Some(nothing.as_slice()));
-    let parts = ["done features 0 pieces 0 zones 0 stitches 0 a 0 b 0\n"];
-    assert!(rt; is_text(Some(host.said()), &parts));
-    let mut file = bars(alloc, &BAR)?;
+/// One bar's file with the data type 65535.
+fn bar_of_another_type(alloc: Global) -> Result<Vec<u8>, AllocError> {
+    let mut file = bars(alloc, &[BAR])?;
     for at in [112, 113] {
         if let Some(place) = file.get_mut(at) {
             *place = 0xFF;
         }
     }
+    Ok(file)
+}
+
+#[test]
+fn a_layer_is_chosen_by_both_numbers(rt: HostRuntime) -> Result<(), Fail> {
+    let alloc = rt.alloc();
+    assert_eq!(rt; masks(alloc, &[], &[])?.len(), 106);
+    let line = "dpl split --layer 9 --rule 30 --overlap 10 in out cert";
+    assert!(rt; is_done(&rt, alloc, line, bars(alloc, &[BAR])?, &EMPTY)?);
+    let file = bar_of_another_type(alloc)?;
+    assert!(rt; is_done(&rt, alloc, SPLIT, file, &EMPTY)?);
     let line = "dpl split --layer 1 --datatype 65535 --rule 30 --overlap 10 in out cert";
-    assert!(rt; is_one_bar(&rt, alloc, line, file)?);
+    let file = bar_of_another_type(alloc)?;
+    assert!(rt; is_done(&rt, alloc, line, file, &AS_ONE)?);
     Ok(())
 }

@@ -1,21 +1,26 @@
 //! Calls of the outside that fail.
 
-use crate::runs::{ONE_BAR, ONE_LINE, SPLIT, answer};
 use dpl_host::{Kind, MemHost, SureHost};
 use dpl_pool::OpenGate;
 use dpl_run::{Status, run};
-use dpl_test_sample::{Rectangle, bars, host, is_text, masks, words};
+use dpl_test_runs::{BAR, SPLIT, answer};
+use dpl_test_sample::{bars, host, is_text, masks, words};
 use std::alloc::{AllocError, Global};
 use std::collections::BTreeMap;
 use std::test::*;
 
-const BAR: [Rectangle; 1] = [[0, 0, 100, 20]];
+/// The certificate of one bar.
+const CERT: &str =
+    "dpl 1\nrule 30 overlap 10\nfeatures 1 pieces 1 zones 0 stitches 0\npiece 0 A 0 0\nend\n";
+
+/// What is said of one bar.
+const LINE: &str = "done features 1 pieces 1 zones 0 stitches 0 a 1 b 0\n";
 
 /// A host with one bar's file and two files that are to be written, of which one call fails.
 fn failing(alloc: Global, step: usize, kind: Kind, number: u64) -> Result<MemHost, AllocError> {
     let out = Vec::from_slice(alloc, b"old masks")?;
     let cert = Vec::from_slice(alloc, b"old certificate")?;
-    let files = vec![in alloc; ("in", bars(alloc, &BAR)?), ("out", out), ("cert", cert)]?;
+    let files = vec![in alloc; ("in", bars(alloc, &[BAR])?), ("out", out), ("cert", cert)]?;
     host(alloc, files, step.max(1), vec![in alloc; (kind, number)]?)
 }
 
@@ -107,14 +112,14 @@ fn is_front(file: Option<&[u8]>, whole: &[u8], count: Option<usize>, before: &st
 #[test]
 fn a_failed_write_leaves_a_front(rt: HostRuntime) -> Result<(), Fail> {
     let alloc = rt.alloc();
-    let out = masks(alloc, &BAR, &[])?;
+    let out = masks(alloc, &[BAR], &[])?;
     for fault in &FAULTS {
         let mut host = failing(alloc, fault.step, fault.kind, fault.number)?;
         assert!(rt; answer(&rt, alloc, SPLIT, &mut host)? == Status::WriteFault);
-        let cert = ONE_BAR.as_bytes();
+        let cert = CERT.as_bytes();
         assert!(rt; is_front(host.file("out"), out.as_slice(), fault.out, "old masks"));
         assert!(rt; is_front(host.file("cert"), cert, fault.cert, "old certificate"));
-        assert_eq!(rt; Some(host.said()), ONE_LINE.as_bytes().get(..fault.said));
+        assert_eq!(rt; Some(host.said()), LINE.as_bytes().get(..fault.said));
         assert_eq!(rt; host.refused(), 0);
     }
     Ok(())
@@ -153,7 +158,7 @@ fn a_file_that_is_not_there_is_a_read_fault(rt: HostRuntime) -> Result<(), Fail>
 fn a_host_that_never_fails_takes_all(rt: HostRuntime) -> Result<(), Fail> {
     let alloc = rt.alloc();
     let mut files = BTreeMap::new(alloc);
-    files.insert(String::from_str(alloc, "in")?, bars(alloc, &BAR)?)?;
+    files.insert(String::from_str(alloc, "in")?, bars(alloc, &[BAR])?)?;
     let mut host = SureHost::new(&files);
     let words = words(alloc, SPLIT)?;
     assert!(rt; run(&rt, alloc, &words, &mut host, &OpenGate) == Status::Done);

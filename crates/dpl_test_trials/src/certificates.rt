@@ -1,7 +1,7 @@
 //! Texts that are no certificate, and the line at which they are refused.
 
-use crate::trial::{CHECK, ONE_BAR, says, text};
 use dpl_run::Status;
+use dpl_test_runs::{CHECK, ONE_BAR, says, text};
 use dpl_test_sample::{bars, host};
 use std::test::*;
 

@@ -1,8 +1,8 @@
 //! The files that a check reads, in order, and the first that is refused or isn't there.
 
-use crate::trial::{CHECK, ONE_BAR, says, text};
 use dpl_host::Kind;
 use dpl_run::Status;
+use dpl_test_runs::{CHECK, ONE_BAR, says, text};
 use dpl_test_sample::{bars, host, masks};
 use std::alloc::{AllocError, Global};
 use std::sync::Wait;

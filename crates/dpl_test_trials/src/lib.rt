@@ -11,15 +11,9 @@ mod certificates;
 #[cfg(test)]
 mod files;
 #[cfg(test)]
-mod gates;
-#[cfg(test)]
 mod lines;
 #[cfg(test)]
 mod records;
-#[cfg(test)]
-mod runs;
-#[cfg(test)]
-mod trial;
 #[cfg(test)]
 mod verdicts;
 #[cfg(test)]

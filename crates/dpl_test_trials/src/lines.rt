@@ -1,7 +1,7 @@
 //! Words that are no command.
 
-use crate::runs::answer;
 use dpl_run::{Status, USAGE};
+use dpl_test_runs::answer;
 use dpl_test_sample::{bars, host};
 use std::test::*;
 

@@ -1,6 +1,6 @@
 //! Records that stand where the grammar has none, and names.
 
-use crate::runs::{SPLIT, is_one_bar, is_refused};
+use dpl_test_runs::{AS_ONE, SPLIT, is_done, is_refused};
 use dpl_test_sample::{Part, layout};
 use std::test::*;
 
@@ -37,7 +37,7 @@ fn an_optional_record_may_stand_in_its_place(rt: HostRuntime) -> Result<(), Fail
         Part::End,
     ];
     let file = layout(alloc, &[&parts])?;
-    assert!(rt; is_one_bar(&rt, alloc, SPLIT, file)?);
+    assert!(rt; is_done(&rt, alloc, SPLIT, file, &AS_ONE)?);
     Ok(())
 }
 
@@ -129,7 +129,7 @@ fn records_and_names_are_refused(rt: HostRuntime) -> Result<(), Fail> {
     let alloc = rt.alloc();
     for (parts, fault) in REFUSED {
         let file = layout(alloc, &[parts])?;
-        assert!(rt; is_refused(&rt, alloc, file, fault)?, "at {fault}");
+        assert!(rt; is_refused(&rt, alloc, SPLIT, file, fault)?, "at {fault}");
     }
     Ok(())
 }

@@ -1,7 +1,7 @@
 //! What is said of masks and of a conflict.
 
-use crate::trial::{CHECK, ONE_BAR, says, text};
 use dpl_run::Status;
+use dpl_test_runs::{CHECK, ONE_BAR, says, text};
 use dpl_test_sample::{Rectangle, bars, host, masks};
 use std::test::*;
 

@@ -1,12 +1,11 @@
-//! Two workers at work on the tiles of one layer.
+//! Workers that share the tiles of one layer.
 
-use crate::gates::{Counts, Crowd, Holds};
 use dpl_pool::Gate;
 use dpl_run::{Status, run};
+use dpl_test_gates::{Assembly, Counts, Crowd, Holds};
 use dpl_test_sample::{bars, host, words};
 use std::alloc::{AllocError, Global};
 use std::sync::Wait;
-use std::sync::atomic::{AtomicU64, Ordering};
 use std::test::*;
 use std::thread::Threads;
 
@@ -62,14 +61,8 @@ fn meets<R: Threads + Wait + Sync>(
 ) -> Result<bool, AllocError> {
     for shared in ON_TWO_TILES {
         for (held, other) in [(0, 1), (1, 0)] {
-            let gate = Holds {
-                held,
-                other,
-                waits_for_post,
-                came: AtomicU64::new(0),
-                gave_up: AtomicU64::new(0),
-            };
-            if !is_done(rt, alloc, shared, &gate)? || gate.gave_up.load(Ordering::SeqCst) != 0 {
+            let gate = Holds::new(held, other, waits_for_post);
+            if !is_done(rt, alloc, shared, &gate)? || gate.has_given_up() {
                 return Ok(false);
             }
         }
@@ -92,15 +85,32 @@ fn posted_early(rt: HostRuntime) -> Result<(), Fail> {
 #[test]
 fn no_more_workers_come_than_asked_for(rt: HostRuntime) -> Result<(), Fail> {
     for shared in ON_MORE_TILES {
-        let gate = Crowd {
-            asked: 2,
-            inside: AtomicU64::new(0),
-            most: AtomicU64::new(0),
-            strangers: AtomicU64::new(0),
-        };
+        let gate = Crowd::new(2);
         assert!(rt; is_done(&rt, rt.alloc(), shared, &gate)?);
-        assert!(rt; gate.most.load(Ordering::SeqCst) <= 2);
-        assert_eq!(rt; gate.strangers.load(Ordering::SeqCst), 0);
+        assert!(rt; gate.most() <= 2);
+        assert_eq!(rt; gate.strangers(), 0);
+    }
+    Ok(())
+}
+
+/// Commands on 125 tiles, and how many workers share them.
+const ON_MANY_TILES: [(&str, u32); 2] = [
+    (
+        "dpl split --layer 1 --rule 30 --overlap 10 --tile 4 --workers 3 in out cert",
+        3,
+    ),
+    (
+        "dpl split --layer 1 --rule 30 --overlap 10 --tile 4 --workers 64 in out cert",
+        64,
+    ),
+];
+
+#[test]
+fn as_many_workers_come_as_asked_for(rt: HostRuntime) -> Result<(), Fail> {
+    for (line, asked) in ON_MANY_TILES {
+        let gate = Assembly::new(asked);
+        assert!(rt; is_done(&rt, rt.alloc(), (line, BAR_LINE), &gate)?);
+        assert!(rt; !gate.has_given_up(), "at {asked} workers");
     }
     Ok(())
 }
@@ -112,10 +122,8 @@ fn a_plate_has_few_tiles(rt: HostRuntime) -> Result<(), Fail> {
     let mut host = host(alloc, files, 4096, Vec::new(alloc))?;
     let line = "dpl split --layer 1 --rule 30 --overlap 10 --tile 64 in out cert";
     let words = words(alloc, line)?;
-    let gate = Counts {
-        entered: AtomicU64::new(0),
-    };
+    let gate = Counts::new();
     assert!(rt; run(&rt, alloc, &words, &mut host, &gate) == Status::Done);
-    assert!(rt; gate.entered.load(Ordering::SeqCst) <= 65_540);
+    assert!(rt; gate.entered() <= 65_540);
     Ok(())
 }

@@ -1,6 +1,6 @@
 //! A check of files in memory, and what it says.
 
-use crate::runs::answer;
+use crate::splits::answer;
 use dpl_host::MemHost;
 use dpl_run::Status;
 use std::alloc::{AllocError, Global};

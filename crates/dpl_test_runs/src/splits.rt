@@ -1,4 +1,4 @@
-//! One run of the program over files in memory, and what it leaves.
+//! Runs over files in memory, each with the file of a layer, and what they leave.
 
 use dpl_host::MemHost;
 use dpl_pool::OpenGate;
@@ -42,8 +42,8 @@ pub const EMPTY: Done<'static> = Done {
     b: &[],
 };
 
-/// Runs the line on the file, and leaves the host.
-fn answer<R: Threads + Wait + Sync>(
+/// Runs the line on the host.
+pub fn answer<R: Threads + Wait + Sync>(
     rt: &R,
     alloc: Global,
     line: &str,
