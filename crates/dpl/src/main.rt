@@ -40,6 +40,13 @@ fn ended<R: Threads + Wait + Sync>(
     if status == Status::NoMemory {
         let _ = eprintln!(rt; "dpl: out of memory");
     }
+    exit_code(status)
+}
+
+/// The code with which the program ends: that of the status that is given.
+fn exit_code(status: Status) -> ExitCode
+    ensures { exit_status result ≡ code_of status }
+{
     ExitCode::from(status.code())
 }
 
