@@ -5,9 +5,11 @@ The entry is triggered, its dialogs are filled in and closed, and what is then s
 import os
 import sys
 import tempfile
-import traceback
 
 import pya
+
+sys.path.insert(0, os.path.dirname(os.path.abspath(__file__)))
+import testing  # noqa: E402
 
 EXAMPLES, FOLDER = os.environ["DPL_EXAMPLES"], tempfile.mkdtemp(prefix="test-menu-")
 PATH = os.environ["PATH"]
@@ -159,17 +161,7 @@ def test_no_program_and_no_layout():
 
 
 def main():
-    failed = 0
-    tests = [(name, value) for name, value in globals().items() if name.startswith("test_")]
-    for name, test in tests:
-        try:
-            test()
-        except Exception:
-            failed += 1
-            print("FAILED %s" % name)
-            traceback.print_exc(file=sys.stdout)
-    print("%d passed, %d failed" % (len(tests) - failed, failed))
-    sys.stdout.flush()
+    failed = testing.failures(globals(), lambda test: test())
     os._exit(1 if failed else 0)
 
 

@@ -9,13 +9,13 @@ import os
 import subprocess
 import sys
 import tempfile
-import traceback
 
 import pya
 
 HERE = os.path.dirname(os.path.abspath(__file__))
 sys.path.insert(0, HERE)
 import markers  # noqa: E402
+import testing  # noqa: E402
 
 DPL, FILES = globals()["dpl"], globals().get("files", "")
 NONE = pya.Region()
@@ -246,20 +246,10 @@ def test_files(folder):
                   + Split(folder, path, (info.layer, info.datatype), 500, 100).check())
 
 
-def main():
-    failed = 0
-    tests = [(name, value) for name, value in sorted(globals().items()) if name.startswith("test_")]
-    for name, test in tests:
-        with tempfile.TemporaryDirectory() as folder:
-            try:
-                test(folder)
-            except Exception:
-                failed += 1
-                print("FAILED %s" % name)
-                traceback.print_exc(file=sys.stdout)
-    print("%d passed, %d failed" % (len(tests) - failed, failed))
-    sys.stdout.flush()
-    pya.Application.instance().exit(1 if failed else 0)
+def call_in_folder(test):
+    """Calls a test with a new folder, which is gone when it ends."""
+    with tempfile.TemporaryDirectory() as folder:
+        test(folder)
 
 
-main()
+pya.Application.instance().exit(1 if testing.failures(globals(), call_in_folder) else 0)
