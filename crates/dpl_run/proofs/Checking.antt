@@ -24,7 +24,7 @@ use Rattle.dpl_spec_verdict.specs.Masks.{IsOfMasks, IsVerdictOfMasks}
 use Rattle.dpl_spec_verdict.specs.Conflicts.{IsOfConflict, IsVerdictOfConflict}
 use Rattle.dpl_words.specs.Meaning.{AsksCheck, CheckValues}
 use Rattle.dpl_words.specs.Ranges.{IsApart}
-use Rattle.dpl_run.specs.Check.{IsCheck, IsCheckOfMasks, check_choice, mask_choice, refusal_of, verdict_outcome, verdict_status}
+use Rattle.dpl_run.specs.Check.{IsCheck, IsCheckOfCert, IsCheckOfMasks, check_choice, mask_choice, refusal_of, verdict_outcome, verdict_status}
 use Rattle.dpl_run.specs.Outcome.{Outcome, is_answered, says}
 use Rattle.dpl_run.specs.Program.{IsMade, IsMadeOfCert, IsMadeOfLayer, IsSeen, IsTold}
 use Rattle.dpl_layer.specs.Reading.{Faulty, IsLayout, Layer, limit}
@@ -217,21 +217,30 @@ pub cert_read : (told : Option Outside) (v : CheckValues) (layer : List Rect) (t
     → IsSeen told v.certificate (Some text) → IsText cert text → IsMadeOfCert told v layer cert x → IsMadeOfLayer told v layer x
 cert_read told v layer text cert x seen read (out, out_told, is, answered) = (Some text, out, seen.0, out_told, inr (seen.1, inl (cert, read, is)), answered)
 
-pub conflict_made : (told : Option Outside) (v : CheckValues) (layer : List Rect) (cert : Cert) (w : Verdict) (x : Outcome)
+-- what is judged without OUT
+pub cycle_checked : (v : CheckValues) (layer : List Rect) (out : Option (List ℕ)) (cert : Cert) (w : Verdict) (x : Outcome)
     → IsOfConflict cert → IsVerdictOfConflict v.rule v.overlap layer cert w → x ≡ verdict_outcome cert w
-    → IsMadeOfCert told v layer cert x
-conflict_made told v layer (Masks h ps ss) w x of h2 is = absurd of
-conflict_made told v layer (Conflict h cs ns) w x of said is =
-    let out = some_file told v.output in
-    (out.0, out.1, (w, said, is), judged_answered (Conflict h cs ns) w x is)
-conflict_made told v layer (Fault name at) w x of h2 is = absurd of
+    → IsCheckOfCert v layer out cert x
+cycle_checked v layer out (Masks h ps ss) w x of said is = absurd of
+cycle_checked v layer out (Conflict h cs ns) w x of said is = (w, said, is)
+cycle_checked v layer out (Fault name at) w x of said is = absurd of
 
-pub fault_made : (told : Option Outside) (v : CheckValues) (layer : List Rect) (cert : Cert) (name : Name) (at : ℕ) (x : Outcome)
-    → cert ≡ Fault name at → x ≡ verdict_outcome cert (WasFault name at) → IsMadeOfCert told v layer cert x
-fault_made told v layer cert name at x named is =
-    let out = some_file told v.output in
+pub fault_checked : (v : CheckValues) (layer : List Rect) (out : Option (List ℕ)) (cert : Cert) (name : Name) (at : ℕ) (x : Outcome)
+    → cert ≡ Fault name at → x ≡ verdict_outcome cert (WasFault name at) → IsCheckOfCert v layer out cert x
+fault_checked v layer out cert name at x named is =
     let here : x ≡ verdict_outcome (Fault name at) (WasFault name at) = is ∙ ap (λ (c : Cert). verdict_outcome c (WasFault name at)) named in
-    subst (λ (c : Cert). IsMadeOfCert told v layer c x) (sym named) (out.0, out.1, here, judged_answered (Fault name at) (WasFault name at) x here)
+    subst (λ (c : Cert). IsCheckOfCert v layer out c x) (sym named) here
+
+pub alone_made : (told : Option Outside) (v : CheckValues) (layer : List Rect) (cert : Cert) (x : Outcome) → (IsOfMasks cert → ⊥)
+    → ((out : Option (List ℕ)) → IsCheckOfCert v layer out cert x) → IsMadeOfCert told v layer cert x
+alone_made told v layer (Masks h ps ss) x other checked = absurd (other tt)
+alone_made told v layer (Conflict h cs ns) x other checked =
+    let out = some_file told v.output in
+    let (w, said, is) = checked out.0 in
+    (out.0, out.1, (w, said, is), judged_answered (Conflict h cs ns) w x is)
+alone_made told v layer (Fault name at) x other checked =
+    let out = some_file told v.output in
+    (out.0, out.1, checked out.0, judged_answered (Fault name at) (WasFault name at) x (checked out.0))
 
 -- ---- the masks
 

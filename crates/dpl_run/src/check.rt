@@ -1,5 +1,5 @@
 //! What `check` makes of three files.
-ghost use Rattle.std.specs.Prelude.{◌≡◌, ◌≤◌, IfOk, IsErrOf, Some, length};
+ghost use Rattle.std.specs.Prelude.{◌≡◌, ◌≤◌, ℕ, IfOk, IsErrOf, List, MatchBool, Option, Some, length};
 ghost use Rattle.dpl_host.specs.Calls.{AreReadsOf, Logged};
 ghost use Rattle.dpl_host.specs.Whole.{HasReadCause};
 ghost use Rattle.dpl_words.specs.Meaning.{AsksCheck, check_view};
@@ -8,7 +8,7 @@ ghost use Rattle.dpl_cert.specs.Grammar.{IsCert};
 ghost use Rattle.dpl_spec_verdict.specs.Masks.{IsOfMasks};
 ghost use Rattle.dpl_run.specs.Calls.{AreReadsOfCert, AreReadsOfCheck};
 ghost use Rattle.dpl_run.specs.CallsMade.{AreReadsBehind};
-ghost use Rattle.dpl_run.specs.Check.{IsCheckOfMasks, mask_choice as mask_choice_of, refusal_of, verdict_outcome, verdict_status};
+ghost use Rattle.dpl_run.specs.Check.{IsCheckOfCert, IsCheckOfMasks, mask_choice as mask_choice_of, refusal_of, verdict_outcome, verdict_status};
 ghost use Rattle.dpl_run.specs.Program.{IsMade, IsMadeOfCert, IsMadeOfLayer};
 ghost use Rattle.dpl_layer.specs.Reading.{limit};
 ghost use Rattle.dpl_run.specs.Outcome.{says};
@@ -90,8 +90,7 @@ fn check_layer<'a, H: Host>(
     }
 }
 
-/// Judges a conflict by its certificate alone, masks with OUT.
-#[tactic(auto, using(crate::proofs::Calls::out_unread))]
+/// Judges masks with OUT, and a conflict or a fault by its certificate alone.
 fn check_cert<'a, H: Host>(
     alloc: Global,
     options: &CheckOptions<'_>,
@@ -108,18 +107,48 @@ fn check_cert<'a, H: Host>(
     ensures others { H.write_faults host.new ≡ H.write_faults host.old }
     ensures calls { Logged (H.log host.old) (H.log host.new) (AreReadsBehind (check_view options.now) cert.now) }
 {
+    if needs_masks(cert) {
+        return check_out(alloc, options, layer, cert, host);
+    }
+    Ok(check_alone(alloc, options, layer, cert)?)
+}
+
+/// Whether OUT is read to judge a certificate.
+fn needs_masks(cert: &Cert) -> bool
+    ensures { MatchBool result (IsOfMasks cert.now) (IsOfMasks cert.now → ⊥) }
+{
     match cert {
-        Cert::Masks { .. } => check_out(alloc, options, layer, cert, host),
+        Cert::Masks { .. } => true,
+        Cert::Conflict { .. } => false,
+        Cert::Fault { .. } => false,
+    }
+}
+
+/// Judges a conflict or a fault by its certificate alone.
+fn check_alone<'a>(
+    alloc: Global,
+    options: &CheckOptions<'_>,
+    layer: &Slabs,
+    cert: &Cert,
+) -> Result<Output<'a>, AllocError>
+    requires ranges { AreInRangeForCheck (check_view options.now) }
+    requires cert { IsCert cert.now }
+    requires kind { IsOfMasks cert.now → ⊥ }
+    // Whatever OUT may be.
+    ensures { IfOk result (λ x. (out : Option (List ℕ)) → IsCheckOfCert (check_view options.now) layer.now out cert.now (output_view x)) }
+{
+    match cert {
+        Cert::Masks { .. } => unreachable!(),
         Cert::Conflict { .. } => {
             let verdict = check_conflict(alloc, layer, cert, options.rule, options.overlap)?;
-            Ok(judged(alloc, cert, verdict)?)
+            judged(alloc, cert, verdict)
         }
         Cert::Fault { name, at } => {
             let verdict = Verdict::WasFault {
                 name: *name,
                 at: *at,
             };
-            Ok(judged(alloc, cert, verdict)?)
+            judged(alloc, cert, verdict)
         }
     }
 }

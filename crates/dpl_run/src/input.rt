@@ -1,9 +1,11 @@
-//! Files that are read whole.
-ghost use Rattle.std.specs.Prelude.{◌≡◌, IfOk, IsErrOf, option_map};
+//! What is read: a file whole, or none.
+ghost use Rattle.std.specs.Prelude.{◌≡◌, [], IfOk, IsErrOf, option_map};
 ghost use Rattle.dpl_host.specs.Calls.{AreReadsOf, Logged};
 ghost use Rattle.dpl_host.specs.Whole.{HasReadCause};
 ghost use Rattle.dpl_run.specs.Program.{IsInput, IsSeen};
+ghost use Rattle.dpl_run.specs.View.{output_view};
 
+use crate::output::Output;
 use dpl_host::{Host, ReadFault, read_all};
 use std::alloc::Global;
 
@@ -26,4 +28,19 @@ pub(crate) fn read_input<H: Host>(
         Err(ReadFault::TooLarge) => Ok(None),
         Err(fault) => Err(fault),
     }
+}
+
+/// What was made of no file: none is read for it.
+pub(crate) fn read_nothing<'a, H: Host>(
+    host: &mut H,
+    made: Output<'a>,
+) -> Result<Output<'a>, ReadFault>
+    ensures made { IfOk result (λ x. output_view x ≡ output_view made.entry) }
+    ensures cause { HasReadCause (H.read_faults host.old) (H.read_faults host.new) result }
+    ensures not_large { IsErrOf result ReadFault.TooLarge → ⊥ }
+    ensures same { H.told host.new ≡ H.told host.old }
+    ensures others { H.write_faults host.new ≡ H.write_faults host.old }
+    ensures calls { Logged (H.log host.old) (H.log host.new) (λ calls. calls ≡ []) }
+{
+    Ok(made)
 }

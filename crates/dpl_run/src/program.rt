@@ -1,10 +1,10 @@
 //! The whole program over an outside.
-ghost use Rattle.std.specs.Prelude.{◌≡◌, ◌≤◌, ◌⊎◌, [], IfErr, IfOk, IsErrOf, None, OnOk, Some, is_some, true};
+ghost use Rattle.std.specs.Prelude.{◌≡◌, ◌≤◌, ◌⊎◌, IfErr, IfOk, IsErrOf, None, OnOk, Some, is_some, true};
 ghost use Rattle.clap.specs.Walk.{texts};
 ghost use Rattle.dpl_host.specs.Calls.{Logged};
 ghost use Rattle.dpl_host.specs.Whole.{HasReadCause};
-ghost use Rattle.dpl_words.specs.Meaning.{AsksDemo, demo_view, request_of, request_view};
-ghost use Rattle.dpl_words.specs.Ranges.{AreInRangeForDemo, IsApart, IsInRange};
+ghost use Rattle.dpl_words.specs.Meaning.{request_of, request_view};
+ghost use Rattle.dpl_words.specs.Ranges.{IsApart, IsInRange};
 ghost use Rattle.dpl_run.specs.Calls.{AreCallsOf, AreReadsFor};
 ghost use Rattle.dpl_run.specs.Outcome.{IsStill, TellsFaults, is_answered, says};
 ghost use Rattle.dpl_run.specs.Parted.{IsParted};
@@ -14,13 +14,14 @@ ghost use Rattle.dpl_run.specs.View.{output_view};
 
 use crate::check::check_output;
 use crate::demo::demo_output;
+use crate::input::read_nothing;
 use crate::output::{Output, perform, said};
 use crate::split::split_output;
 use crate::status::Status;
 use crate::texts::usage_line;
 use dpl_host::{Host, ReadFault};
 use dpl_pool::Gate;
-use dpl_words::{DemoOptions, Request, WordsFault, read_words};
+use dpl_words::{Request, WordsFault, read_words};
 use std::alloc::{AllocError, Global};
 use std::sync::Wait;
 use std::thread::Threads;
@@ -119,28 +120,8 @@ fn output_of<'a, R: Threads + Wait + Sync, H: Host, G: Gate + Sync>(
     match request {
         Request::Split(options) => split_output(rt, alloc, options, host, gate),
         Request::Check(options) => check_output(alloc, options, host),
-        Request::Demo(options) => made_up(rt, alloc, options, host, gate),
+        Request::Demo(options) => read_nothing(host, demo_output(rt, alloc, options, gate)?),
     }
-}
-
-/// Makes what `demo` says, for which no file is read.
-#[tactic(auto, using(crate::proofs::Calls::no_calls))]
-fn made_up<'a, R: Threads + Wait + Sync, H: Host, G: Gate + Sync>(
-    rt: &R,
-    alloc: Global,
-    options: &DemoOptions,
-    host: &mut H,
-    gate: &G,
-) -> Result<Output<'a>, ReadFault>
-    requires ranges { AreInRangeForDemo (demo_view options.now) }
-    ensures made { IfOk result (λ x. IsMade (Some (AsksDemo (demo_view options.now))) (H.told host.old) (output_view x)) }
-    ensures cause { HasReadCause (H.read_faults host.old) (H.read_faults host.new) result }
-    ensures not_large { IsErrOf result ReadFault.TooLarge → ⊥ }
-    ensures same { H.told host.new ≡ H.told host.old }
-    ensures others { H.write_faults host.new ≡ H.write_faults host.old }
-    ensures calls { Logged (H.log host.old) (H.log host.new) (λ calls. calls ≡ []) }
-{
-    Ok(demo_output(rt, alloc, options, gate)?)
 }
 
 /// How the command line is written.

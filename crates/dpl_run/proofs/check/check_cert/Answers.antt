@@ -1,23 +1,23 @@
 use Rattle.dpl_words.specs.Meaning.{check_view}
-use Rattle.dpl_spec_verdict.specs.Conflicts.{IsOfConflict}
-use Rattle.dpl_spec_verdict.specs.Masks.{IsOfMasks}
-use Rattle.dpl_run.proofs.Checking.{conflict_made, fault_made}
-use Rattle.dpl_run.proofs.Calls.{out_reads}
+use Rattle.dpl_run.proofs.Checking.{alone_made}
+use Rattle.dpl_run.proofs.Calls.{out_reads, out_unread}
 use Rattle.dpl_run.proofs.check.check_cert.Goals as goal
 
-pub returns-in_ok-judged-in-Conflict-clause-made : goal.returns-in_ok-judged-in-Conflict-clause-made
-returns-in_ok-judged-in-Conflict-clause-made g c =
-    let kind : IsOfConflict c.args.cert.now = rw c.in-Conflict.is tt in
-    conflict_made (g.H.Host.told c.args.host.now) (check_view c.args.options.now) c.args.layer.now c.args.cert.now
-    c.in_ok-verdict-in-Conflict.verdict _ kind c.in_ok-verdict-in-Conflict.ensures
-    c.in_ok-judged-in-Conflict.ensures
+pub check_out-requires-clause-kind : goal.check_out-requires-clause-kind
+check_out-requires-clause-kind g c = rw c.if-needs_masks.true at c.needs_masks.ensures
 
-pub returns-in_ok-judged-in-Fault-clause-made : goal.returns-in_ok-judged-in-Fault-clause-made
-returns-in_ok-judged-in-Fault-clause-made g c =
-    fault_made (g.H.Host.told c.args.host.now) (check_view c.args.options.now) c.args.layer.now c.args.cert.now c.in-Fault.name
-    c.in-Fault.at _ c.in-Fault.is c.in_ok-judged-in-Fault.ensures
+pub returns-then-needs_masks-clause-calls : goal.returns-then-needs_masks-clause-calls
+returns-then-needs_masks-clause-calls g c = out_reads (rw c.if-needs_masks.true at c.needs_masks.ensures) c.check_out.ensures.calls
 
-pub returns-in-Masks-clause-calls : goal.returns-in-Masks-clause-calls
-returns-in-Masks-clause-calls g c =
-    let kind : IsOfMasks c.args.cert.now = rw c.in-Masks.is tt in
-    out_reads kind c.check_out.ensures.calls
+pub check_alone-requires-clause-kind : goal.check_alone-requires-clause-kind
+check_alone-requires-clause-kind g c = rw c.if-needs_masks.false at c.needs_masks.ensures
+
+pub returns-clause-made : goal.returns-clause-made
+returns-clause-made g c = alone_made (g.H.Host.told c.args.host.now) (check_view c.args.options.now) c.args.layer.now c.args.cert.now _
+    (rw c.if-needs_masks.false at c.needs_masks.ensures) c.in_ok-check_alone.ensures
+
+pub returns-clause-calls : goal.returns-clause-calls
+returns-clause-calls g c = out_unread
+
+pub returns-in_err-check_alone-clause-calls : goal.returns-in_err-check_alone-clause-calls
+returns-in_err-check_alone-clause-calls g c = out_unread
