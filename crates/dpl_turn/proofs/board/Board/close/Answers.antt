@@ -1,6 +1,6 @@
 use Rattle.std.proofs.Common.{ap}
 use Rattle.dpl_turn.proofs.Replays.{replayed}
-use Rattle.dpl_turn.proofs.Steps.{has_out}
+use Rattle.dpl_turn.proofs.Turns.{has_out}
 use Rattle.dpl_turn.proofs.board.Board.close.Goals as goal
 
 pub take_out-requires-clause-holds : goal.take_out-requires-clause-holds

@@ -1,6 +1,6 @@
 use Rattle.std.proofs.Common.{◌∙◌, arith, refl, []}
 use Rattle.atomic_table.specs.Table.{keeps}
-use Rattle.dpl_turn.proofs.Steps.{joins, meets}
+use Rattle.dpl_turn.proofs.Meets.{joins, meets}
 use Rattle.dpl_turn.proofs.board.Board.meet.Goals as goal
 
 pub join_seat-requires : goal.join_seat-requires

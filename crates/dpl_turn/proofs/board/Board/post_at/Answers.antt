@@ -1,6 +1,6 @@
 use Rattle.std.proofs.Common.{ap}
 use Rattle.dpl_board.specs.Sheets.{entry}
-use Rattle.dpl_turn.proofs.Steps.{back_as_found, back_with_named, has_out, more_on_ok, same_on_err}
+use Rattle.dpl_turn.proofs.Turns.{back_as_found, back_with_named, has_out, more_on_ok, same_on_err}
 use Rattle.dpl_turn.proofs.board.Board.post_at.Goals as goal
 
 pub take_out-state-requires-clause-holds : goal.take_out-state-requires-clause-holds

@@ -1,7 +1,7 @@
 use Rattle.std.proofs.Common.{◌≡◌, ap, subst, sym, List}
 use Rattle.dpl_board.specs.declared.entry.Entry.{Entry}
 use Rattle.dpl_turn.specs.Rule.{StartsWith, longer}
-use Rattle.dpl_turn.proofs.Steps.{longer_prefix_of}
+use Rattle.dpl_turn.proofs.Meets.{longer_prefix_of}
 use Rattle.dpl_turn.proofs.board.Board.rejoin.Goals as goal
 
 pub returns-clause-prefixes : goal.returns-clause-prefixes
