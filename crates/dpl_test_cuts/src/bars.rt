@@ -45,3 +45,12 @@ pub fn set_of(alloc: Global, rects: &[Corners]) -> Result<Slabs, AllocError> {
     }
     Ok(set)
 }
+
+/// Whether the rectangles have these corners, one after the other.
+pub fn are(rects: &[Rect], corners: &[Corners]) -> bool {
+    rects.len() == corners.len()
+        && rects
+            .iter()
+            .zip(corners)
+            .all(|(r, c)| (r.x0, r.y0, r.x1, r.y1) == *c)
+}

@@ -1,6 +1,6 @@
 //! Layers with their zones, the pieces that these leave, and the masks of coloured pieces.
-use crate::bars::{Corners, set_of};
-use dpl_base::{Id, Pt, Rect};
+use crate::bars::{Corners, are, set_of};
+use dpl_base::{Id, Pt};
 use dpl_feature::features;
 use dpl_masks::{Masks, masks};
 use dpl_orient::{Colours, Mask};
@@ -38,15 +38,6 @@ fn cut(alloc: Global, layer: &[Corners]) -> Result<Pieces, AllocError> {
     pieces(alloc, features, zones)
 }
 
-/// Whether the rectangles have these corners, one after the other.
-fn are(rects: &[Rect], corners: &[Corners]) -> bool {
-    rects.len() == corners.len()
-        && rects
-            .iter()
-            .zip(corners)
-            .all(|(r, c)| (r.x0, r.y0, r.x1, r.y1) == *c)
-}
-
 /// Whether the pieces have just these keys, one after the other.
 fn has_keys(cut: &Pieces, want: &[(i64, i64)]) -> bool {
     let count = cut.parts().items().len();
@@ -62,39 +53,56 @@ fn has_keys(cut: &Pieces, want: &[(i64, i64)]) -> bool {
     true
 }
 
+/// Whether the zones have these corners, one after the other.
+fn has_zones(cut: &Pieces, corners: &[Corners]) -> bool {
+    let zones = cut.zones();
+    for (zone, corners) in zones.iter().zip(corners) {
+        if !are(&[zone.rect], &[*corners]) {
+            return false;
+        }
+    }
+    zones.len() == corners.len()
+}
+
+/// A layer, its zones, and the keys, the features and the sides of its pieces.
+struct Layer {
+    rects: &'static [Corners],
+    zones: &'static [Corners],
+    keys: &'static [(i64, i64)],
+    owner: &'static [Id],
+    sides: &'static [(Id, Id)],
+}
+
+const LAYERS: [Layer; 2] = [
+    Layer {
+        rects: &BARS,
+        zones: &[(74, 0, 84, 20)],
+        keys: &[(0, 0), (84, 0), (0, 40), (108, 40)],
+        owner: &[0, 0, 1, 2],
+        sides: &[(0, 1)],
+    },
+    Layer {
+        rects: &RING,
+        zones: &[
+            (45, 0, 55, 40),
+            (0, 45, 40, 55),
+            (60, 45, 100, 55),
+            (45, 60, 55, 100),
+        ],
+        keys: &[(0, 0), (55, 0), (0, 55), (60, 55)],
+        owner: &[0, 0, 0, 0],
+        sides: &[(0, 1), (0, 2), (1, 3), (2, 3)],
+    },
+];
+
 #[test]
 fn layers_are_cut(rt: HostRuntime) -> Result<(), Fail> {
-    // a layer, its zones, and the keys, the features and the sides of its pieces
-    let cases: [(&[Corners], &[Corners], &[(i64, i64)], &[Id], &[(Id, Id)]); 2] = [
-        (
-            &BARS,
-            &[(74, 0, 84, 20)],
-            &[(0, 0), (84, 0), (0, 40), (108, 40)],
-            &[0, 0, 1, 2],
-            &[(0, 1)],
-        ),
-        (
-            &RING,
-            &[
-                (45, 0, 55, 40),
-                (0, 45, 40, 55),
-                (60, 45, 100, 55),
-                (45, 60, 55, 100),
-            ],
-            &[(0, 0), (55, 0), (0, 55), (60, 55)],
-            &[0, 0, 0, 0],
-            &[(0, 1), (0, 2), (1, 3), (2, 3)],
-        ),
-    ];
-    for (layer, zones, keys, owner, sides) in cases {
-        let cut = cut(rt.alloc(), layer)?;
-        assert!(rt; has_keys(&cut, keys));
-        assert_eq!(rt; cut.owner(), owner);
-        assert_eq!(rt; cut.sides(), sides);
-        assert_eq!(rt; cut.zones().len(), zones.len());
-        for (zone, corners) in cut.zones().iter().zip(zones) {
-            assert!(rt; are(&[zone.rect], &[*corners]));
-        }
+    for layer in &LAYERS {
+        let cut = cut(rt.alloc(), layer.rects)?;
+        assert!(rt; has_keys(&cut, layer.keys));
+        assert!(rt; cut.owner() == layer.owner);
+        assert!(rt; cut.sides() == layer.sides);
+        assert!(rt; has_zones(&cut, layer.zones));
     }
     Ok(())
 }
@@ -113,64 +121,68 @@ fn painted(
     Ok(Some(masks(alloc, pieces, &colours)?))
 }
 
+/// The first mask.
+const A: Mask = Mask::A;
+
+/// The second mask.
+const B: Mask = Mask::B;
+
+/// A layer, the letters of its pieces, and both masks.
+const PAINTED: [(&[Corners], &[Mask], &[Corners], &[Corners]); 6] = [
+    (&[], &[], &[], &[]),
+    // no zone cuts the feature
+    (&[(3, 4, 5, 6)], &[B], &[], &[(3, 4, 5, 6)]),
+    // a zone cuts the long bar: both pieces on one mask, and one on each
+    (
+        &BARS,
+        &[A, A, B, B],
+        &[(0, 0, 158, 20)],
+        &[(0, 40, 50, 60), (108, 40, 158, 60)],
+    ),
+    (
+        &BARS,
+        &[A, B, B, A],
+        &[(0, 0, 84, 20), (108, 40, 158, 60)],
+        &[(74, 0, 158, 20), (0, 40, 50, 60)],
+    ),
+    // all three kinds of features
+    (
+        &BARS_TWICE,
+        &[A, B, B, A, B, B, A, A],
+        &[
+            (0, 0, 84, 20),
+            (108, 40, 158, 60),
+            (0, 1040, 50, 1060),
+            (108, 1040, 158, 1060),
+        ],
+        &[(74, 0, 158, 20), (0, 40, 50, 60), (0, 1000, 158, 1020)],
+    ),
+    // four stitches
+    (
+        &RING,
+        &[A, B, B, A],
+        &[
+            (0, 0, 55, 40),
+            (0, 40, 40, 55),
+            (60, 45, 100, 60),
+            (45, 60, 100, 100),
+        ],
+        &[
+            (45, 0, 100, 40),
+            (60, 40, 100, 55),
+            (0, 45, 40, 60),
+            (0, 60, 55, 100),
+        ],
+    ),
+];
+
 #[test]
 fn features_are_painted(rt: HostRuntime) -> Result<(), Fail> {
-    let (a, b) = (Mask::A, Mask::B);
-    // a layer, the letters of its pieces, and both masks
-    let cases: [(&[Corners], &[Mask], &[Corners], &[Corners]); 6] = [
-        (&[], &[], &[], &[]),
-        // no zone cuts the feature
-        (&[(3, 4, 5, 6)], &[b], &[], &[(3, 4, 5, 6)]),
-        // a zone cuts the long bar: both pieces on one mask, and one on each
-        (
-            &BARS,
-            &[a, a, b, b],
-            &[(0, 0, 158, 20)],
-            &[(0, 40, 50, 60), (108, 40, 158, 60)],
-        ),
-        (
-            &BARS,
-            &[a, b, b, a],
-            &[(0, 0, 84, 20), (108, 40, 158, 60)],
-            &[(74, 0, 158, 20), (0, 40, 50, 60)],
-        ),
-        // all three kinds of features
-        (
-            &BARS_TWICE,
-            &[a, b, b, a, b, b, a, a],
-            &[
-                (0, 0, 84, 20),
-                (108, 40, 158, 60),
-                (0, 1040, 50, 1060),
-                (108, 1040, 158, 1060),
-            ],
-            &[(74, 0, 158, 20), (0, 40, 50, 60), (0, 1000, 158, 1020)],
-        ),
-        // four stitches
-        (
-            &RING,
-            &[a, b, b, a],
-            &[
-                (0, 0, 55, 40),
-                (0, 40, 40, 55),
-                (60, 45, 100, 60),
-                (45, 60, 100, 100),
-            ],
-            &[
-                (45, 0, 100, 40),
-                (60, 40, 100, 55),
-                (0, 45, 40, 60),
-                (0, 60, 55, 100),
-            ],
-        ),
-    ];
-    for (layer, letters, on_a, on_b) in cases {
+    for (layer, letters, on_a, on_b) in PAINTED {
         let found = painted(rt.alloc(), layer, letters)?;
-        assert!(rt; found.is_some());
-        if let Some(masks) = found {
-            assert!(rt; are(masks.a.rects(), on_a));
-            assert!(rt; are(masks.b.rects(), on_b));
-        }
+        let masks = found.ok_or("each piece has its letter")?;
+        assert!(rt; are(masks.a.rects(), on_a));
+        assert!(rt; are(masks.b.rects(), on_b));
     }
     Ok(())
 }

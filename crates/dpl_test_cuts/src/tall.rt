@@ -88,6 +88,22 @@ fn squares(alloc: Global, pace: u8, from: u16, to: u16, bars: u8) -> Result<Slab
     Slabs::of_rects(alloc, rects)
 }
 
+/// Whether both halves of a stair, which are swept at once, are in the whole, which has no square beside them.
+fn has_its_halves(alloc: Global, pace: u8, bars: u8, whole: &Slabs) -> Result<bool, AllocError> {
+    let low = squares(alloc, pace, 0, 2500, bars)?;
+    let high = squares(alloc, pace, 2500, 5000, bars)?;
+    if !is_in(alloc, &low, whole)? || !is_in(alloc, &high, whole)? {
+        return Ok(false);
+    }
+    let rest = whole.minus(alloc, &low)?;
+    Ok(rest.minus(alloc, &high)?.least().is_none())
+}
+
+/// Whether each square of a set is in another.
+fn is_in(alloc: Global, set: &Slabs, other: &Slabs) -> Result<bool, AllocError> {
+    Ok(set.equal(&other.meet(alloc, set)?))
+}
+
 #[test]
 fn slices_make_the_slabs_of_one_sweep(rt: HostRuntime) -> Result<(), Fail> {
     // Rectangles that overlap are swept slice by slice, and wires that stand apart block by block, or slice by slice with a bar below them. Where many bars cross them, slices are given up.
@@ -99,15 +115,22 @@ fn slices_make_the_slabs_of_one_sweep(rt: HostRuntime) -> Result<(), Fail> {
     ] {
         let whole = squares(rt.alloc(), pace, 0, 5000, bars)?;
         assert_eq!(rt; whole.rects().len(), count);
-        // The halves are swept at once, and each is in the whole, which has no square beside them.
-        let low = squares(rt.alloc(), pace, 0, 2500, bars)?;
-        let high = squares(rt.alloc(), pace, 2500, 5000, bars)?;
-        assert!(rt; low.equal(&whole.meet(rt.alloc(), &low)?));
-        assert!(rt; high.equal(&whole.meet(rt.alloc(), &high)?));
-        let rest = whole.minus(rt.alloc(), &low)?;
-        assert!(rt; rest.minus(rt.alloc(), &high)?.least().is_none());
+        assert!(rt; has_its_halves(rt.alloc(), pace, bars, &whole)?);
     }
     Ok(())
+}
+
+/// The squares of a stair that none of the rectangles of another has, made at once and as a difference of sets, where both are the same.
+fn without(alloc: Global, pace: u8, turn: u8, holes: u16) -> Result<Option<Slabs>, AllocError> {
+    let rects = stair(alloc, pace, 0, 5000)?;
+    let gone = stair(alloc, turn, 0, holes)?;
+    let left = Slabs::of_rects_without(alloc, &rects, &gone)?;
+    let whole = Slabs::of_rects(alloc, rects)?;
+    let gone = Slabs::of_rects(alloc, gone)?;
+    if !left.equal(&whole.minus(alloc, &gone)?) {
+        return Ok(None);
+    }
+    Ok(Some(left))
 }
 
 #[test]
@@ -119,13 +142,9 @@ fn slices_have_no_square_of_a_hole(rt: HostRuntime) -> Result<(), Fail> {
         (250, 1, 500, 7620),
         (250, 251, 5000, 9724),
     ] {
-        let rects = stair(rt.alloc(), pace, 0, 5000)?;
-        let gone = stair(rt.alloc(), turn, 0, holes)?;
-        let left = Slabs::of_rects_without(rt.alloc(), &rects, &gone)?;
+        let left = without(rt.alloc(), pace, turn, holes)?;
+        let left = left.ok_or("both are the same")?;
         assert_eq!(rt; left.rects().len(), count);
-        let whole = Slabs::of_rects(rt.alloc(), rects)?;
-        let gone = Slabs::of_rects(rt.alloc(), gone)?;
-        assert!(rt; left.equal(&whole.minus(rt.alloc(), &gone)?));
     }
     Ok(())
 }

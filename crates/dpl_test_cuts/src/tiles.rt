@@ -2,44 +2,70 @@
 use crate::bars::{Corners, set_of};
 use dpl_base::Id;
 use dpl_feature::features;
-use dpl_tile::plan;
+use dpl_tile::{Plan, plan};
+use std::alloc::{AllocError, Global};
 use std::test::Fail;
 
 /// The corners of a cell, which may reach past the layer.
 type CellCorners = (i64, i64, i64, i64);
 
+/// Two bars of 64000 columns.
+const BARS: [Corners; 2] = [(0, 0, 64000, 20), (0, 40, 64000, 60)];
+
+/// Two squares, one further up and right.
+const SQUARES: [Corners; 2] = [(0, 0, 10, 10), (28, 33, 38, 43)];
+
+/// A plate of 4097 times 4096 squares.
+const PLATE: [Corners; 1] = [(-3, 7, 4094, 4103)];
+
+/// Rectangles, the owners of their pieces, a tile's side as asked, the number of tiles, and the last cell.
+const ROWS: [(&[Corners], &[Id], u32, u32, CellCorners); 6] = [
+    (&[], &[], 64, 0, (0, 0, 0, 0)),
+    (&BARS, &[0, 1], 64, 1000, (63936, 0, 64000, 64)),
+    (
+        &BARS,
+        &[0, 1],
+        1_073_741_824,
+        1,
+        (0, 0, 1_073_741_824, 1_073_741_824),
+    ),
+    (&SQUARES, &[0, 1], 1, 200, (37, 42, 38, 43)),
+    (&SQUARES, &[0, 1], 16, 3, (32, 32, 48, 48)),
+    // 4097 times 4096 pairs are too many
+    (&PLATE, &[0], 1, 4_196_352, (4093, 4101, 4095, 4103)),
+];
+
+/// How many tiles are laid over the pieces of a layout, and the last cell, where there is one; None where there aren't as many pieces as owners, or for no side.
+fn laid(
+    alloc: Global,
+    rects: &[Corners],
+    owner: &[Id],
+    tile: u32,
+) -> Result<Option<(u32, CellCorners)>, AllocError> {
+    let set = set_of(alloc, rects)?;
+    let pieces = features(alloc, &set)?;
+    if pieces.items().len() != owner.len() || tile < 1 {
+        return Ok(None);
+    }
+    let plan = plan(alloc, &pieces, owner, 30, tile)?;
+    Ok(Some((plan.tiles(), last_cell(&plan))))
+}
+
+/// The corners of a plan's last cell, where there is one.
+fn last_cell(plan: &Plan) -> CellCorners {
+    let count = plan.tiles();
+    if count == 0 {
+        return (0, 0, 0, 0);
+    }
+    let cell = plan.cell(count - 1);
+    (cell.x0(), cell.y0(), cell.x1(), cell.y1())
+}
+
 #[test]
 fn lays_tiles(rt: HostRuntime) -> Result<(), Fail> {
-    let bars: [Corners; 2] = [(0, 0, 64000, 20), (0, 40, 64000, 60)];
-    let squares: [Corners; 2] = [(0, 0, 10, 10), (28, 33, 38, 43)];
-    let plate: [Corners; 1] = [(-3, 7, 4094, 4103)];
-    // rectangles, the owners of their pieces, a tile's side as asked, the number of tiles, and the last cell
-    let cases: [(&[Corners], &[Id], u32, u32, CellCorners); 6] = [
-        (&[], &[], 64, 0, (0, 0, 0, 0)),
-        (&bars, &[0, 1], 64, 1000, (63936, 0, 64000, 64)),
-        (
-            &bars,
-            &[0, 1],
-            1_073_741_824,
-            1,
-            (0, 0, 1_073_741_824, 1_073_741_824),
-        ),
-        (&squares, &[0, 1], 1, 200, (37, 42, 38, 43)),
-        (&squares, &[0, 1], 16, 3, (32, 32, 48, 48)),
-        // 4097 times 4096 pairs are too many
-        (&plate, &[0], 1, 4_196_352, (4093, 4101, 4095, 4103)),
-    ];
-    for (rects, owner, tile, tiles, last) in cases {
-        let set = set_of(rt.alloc(), rects)?;
-        let pieces = features(rt.alloc(), &set)?;
-        assert!(rt; pieces.items().len() == owner.len());
-        assert!(rt; tile >= 1 && tile <= 1_073_741_824);
-        let plan = plan(rt.alloc(), &pieces, owner, 30, tile)?;
-        assert!(rt; plan.tiles() == tiles);
-        if plan.tiles() > 0 {
-            let cell = plan.cell(plan.tiles() - 1);
-            assert!(rt; (cell.x0(), cell.y0(), cell.x1(), cell.y1()) == last);
-        }
+    for (rects, owner, tile, tiles, last) in ROWS {
+        let found = laid(rt.alloc(), rects, owner, tile)?;
+        assert!(rt; found == Some((tiles, last)));
     }
     Ok(())
 }

@@ -3,92 +3,111 @@ use crate::bars::{Corners, set_of};
 use dpl_base::{FARTHEST, Zone};
 use dpl_feature::features;
 use dpl_zone::zones;
+use std::alloc::{AllocError, Global};
 use std::test::Fail;
 
 /// How far from 0 a coordinate may lie.
 const FAR: i32 = FARTHEST as i32;
 
+/// A layout, and its zones with the features that they cut.
+const ROWS: [(&[Corners], &[(Corners, u64)]); 9] = [
+    // a bar between two others has a zone where neither comes near, and so have both others
+    (
+        &[
+            (0, 0, 400, 20),
+            (0, 40, 50, 60),
+            (0, 40, 20, 200),
+            (0, 180, 190, 200),
+            (350, 40, 400, 60),
+            (380, 40, 400, 200),
+            (215, 180, 400, 200),
+        ],
+        &[
+            ((195, 0, 205, 20), 0),
+            ((0, 115, 20, 125), 1),
+            ((380, 115, 400, 125), 2),
+            ((97, 180, 107, 200), 1),
+            ((295, 180, 305, 200), 2),
+        ],
+    ),
+    // the shadows of two bars meet on a third
+    (
+        &[(0, 0, 400, 20), (0, 40, 190, 60), (215, 40, 400, 60)],
+        &[],
+    ),
+    // a stretch of twelve columns, and one of eleven
+    (
+        &[(0, 0, 158, 20), (0, 40, 50, 60), (108, 40, 158, 60)],
+        &[((74, 0, 84, 20), 0)],
+    ),
+    (&[(0, 0, 157, 20), (0, 40, 50, 60), (107, 40, 157, 60)], &[]),
+    // squares that share a corner are one feature, without a stretch
+    (&[(0, 0, 10, 10), (10, 10, 20, 20)], &[]),
+    // a square with a hole
+    (
+        &[
+            (0, 0, 100, 40),
+            (0, 40, 40, 60),
+            (60, 40, 100, 60),
+            (0, 60, 100, 100),
+        ],
+        &[
+            ((45, 0, 55, 40), 0),
+            ((0, 45, 40, 55), 0),
+            ((60, 45, 100, 55), 0),
+            ((45, 60, 55, 100), 0),
+        ],
+    ),
+    // a bar of a million columns, and one of all columns that a layer may have
+    (
+        &[
+            (0, 0, 1_000_000, 20),
+            (0, 40, 50, 60),
+            (999_950, 40, 1_000_000, 60),
+        ],
+        &[((499_995, 0, 500_005, 20), 0)],
+    ),
+    (
+        &[
+            (-FAR, 0, FAR, 20),
+            (-FAR, 40, -FAR + 50, 60),
+            (FAR - 50, 40, FAR, 60),
+        ],
+        &[((-5, 0, 5, 20), 0)],
+    ),
+    (&[], &[]),
+];
+
 fn corners_of(z: &Zone) -> (Corners, u64) {
     ((z.rect.x0, z.rect.y0, z.rect.x1, z.rect.y1), z.feature)
 }
 
+/// Whether the zones are these, one after the other.
+fn are_zones(found: &[Zone], want: &[(Corners, u64)]) -> bool {
+    for (z, w) in found.iter().zip(want) {
+        if corners_of(z) != *w {
+            return false;
+        }
+    }
+    found.len() == want.len()
+}
+
+/// Whether a layout has just these zones, one after the other.
+fn has_zones(
+    alloc: Global,
+    rects: &[Corners],
+    want: &[(Corners, u64)],
+) -> Result<bool, AllocError> {
+    let set = set_of(alloc, rects)?;
+    let parts = features(alloc, &set)?;
+    let found = zones(alloc, &parts, 30, 10)?;
+    Ok(are_zones(found.as_slice(), want))
+}
+
 #[test]
 fn finds_the_zones(rt: HostRuntime) -> Result<(), Fail> {
-    let cases: [(&[Corners], &[(Corners, u64)]); 9] = [
-        // a bar between two others has a zone where neither comes near, and so have both others
-        (
-            &[
-                (0, 0, 400, 20),
-                (0, 40, 50, 60),
-                (0, 40, 20, 200),
-                (0, 180, 190, 200),
-                (350, 40, 400, 60),
-                (380, 40, 400, 200),
-                (215, 180, 400, 200),
-            ],
-            &[
-                ((195, 0, 205, 20), 0),
-                ((0, 115, 20, 125), 1),
-                ((380, 115, 400, 125), 2),
-                ((97, 180, 107, 200), 1),
-                ((295, 180, 305, 200), 2),
-            ],
-        ),
-        // the shadows of two bars meet on a third
-        (
-            &[(0, 0, 400, 20), (0, 40, 190, 60), (215, 40, 400, 60)],
-            &[],
-        ),
-        // a stretch of twelve columns, and one of eleven
-        (
-            &[(0, 0, 158, 20), (0, 40, 50, 60), (108, 40, 158, 60)],
-            &[((74, 0, 84, 20), 0)],
-        ),
-        (&[(0, 0, 157, 20), (0, 40, 50, 60), (107, 40, 157, 60)], &[]),
-        // squares that share a corner are one feature, without a stretch
-        (&[(0, 0, 10, 10), (10, 10, 20, 20)], &[]),
-        // a square with a hole
-        (
-            &[
-                (0, 0, 100, 40),
-                (0, 40, 40, 60),
-                (60, 40, 100, 60),
-                (0, 60, 100, 100),
-            ],
-            &[
-                ((45, 0, 55, 40), 0),
-                ((0, 45, 40, 55), 0),
-                ((60, 45, 100, 55), 0),
-                ((45, 60, 55, 100), 0),
-            ],
-        ),
-        // a bar of a million columns, and one of all columns that a layer may have
-        (
-            &[
-                (0, 0, 1_000_000, 20),
-                (0, 40, 50, 60),
-                (999_950, 40, 1_000_000, 60),
-            ],
-            &[((499_995, 0, 500_005, 20), 0)],
-        ),
-        (
-            &[
-                (-FAR, 0, FAR, 20),
-                (-FAR, 40, -FAR + 50, 60),
-                (FAR - 50, 40, FAR, 60),
-            ],
-            &[((-5, 0, 5, 20), 0)],
-        ),
-        (&[], &[]),
-    ];
-    for (rects, want) in cases {
-        let set = set_of(rt.alloc(), rects)?;
-        let parts = features(rt.alloc(), &set)?;
-        let found = zones(rt.alloc(), &parts, 30, 10)?;
-        assert_eq!(rt; found.len(), want.len());
-        for (z, w) in found.iter().zip(want) {
-            assert!(rt; corners_of(z) == *w);
-        }
+    for (rects, want) in ROWS {
+        assert!(rt; has_zones(rt.alloc(), rects, want)?);
     }
     Ok(())
 }
