@@ -18,14 +18,14 @@ same_or_before e f g (inl a) (inr b) = inr (subst (λ (x : ℕ × ℕ). Precedes
 same_or_before e f g (inr a) (inl b) = inr (subst (λ (x : ℕ × ℕ). Precedes e x) b a)
 same_or_before e f g (inr a) (inr b) = inr (precedes_trans e f g a b)
 
-not-after_trans : (roots : List ℕ) (e f g : ℕ × ℕ) → IsNotAfter roots e f → IsNotAfter roots f g → IsNotAfter roots e g
+pub not-after_trans : (roots : List ℕ) (e f g : ℕ × ℕ) → IsNotAfter roots e f → IsNotAfter roots f g → IsNotAfter roots e g
 not-after_trans roots e f g (inl a) (inl b) = inl (omega arith)
 not-after_trans roots e f g (inl a) (inr (b, p)) = inl (omega arith)
 not-after_trans roots e f g (inr (a, p)) (inl b) = inl (omega arith)
 not-after_trans roots e f g (inr (a, p)) (inr (b, q)) = inr (a ∙ b, same_or_before e f g p q)
 
 -- what holds of the first edges and of the next
-next_edge : (edges : List (ℕ × ℕ)) (P : ℕ × ℕ → Type 0) (n : ℕ) (e : ℕ × ℕ) → edge_at edges n ≡ e → ((k : ℕ) → k < n → P (edge_at edges k))
+pub next_edge : (edges : List (ℕ × ℕ)) (P : ℕ × ℕ → Type 0) (n : ℕ) (e : ℕ × ℕ) → edge_at edges n ≡ e → ((k : ℕ) → k < n → P (edge_at edges k))
     → P e → (k : ℕ) → k < n + 1 → P (edge_at edges k)
 next_edge edges P n e is all h k l = elim (cases_eq k n) [
   | inl same ↦ subst P (sym (ap (λ j. edge_at edges j) same ∙ is)) h
@@ -41,7 +41,7 @@ step_slanted roots levels edges n e is ne (Some f) h = record {
   least = next_edge edges (λ x. IsLevel levels x → IsNotAfter roots f x) n e is h.least (λ same. absurd (ne same));
 }
 
-itself : (roots : List ℕ) (e : ℕ × ℕ) → IsNotAfter roots e e
+pub itself : (roots : List ℕ) (e : ℕ × ℕ) → IsNotAfter roots e e
 itself roots e = inr (refl, inl refl)
 
 pub level-step : (roots levels : List ℕ) (edges : List (ℕ × ℕ)) (n : ℕ) (e : ℕ × ℕ) {old new : Option (ℕ × ℕ)} → edge_at edges n ≡ e

@@ -17,7 +17,7 @@ use Rattle.dpl_stars.proofs.OddLaws.{roots-show, reported-is_odd}
 use Rattle.dpl_odd.specs.Paths.{IsLevel, IsNotAfter, edge_at, IsLeastOf, IsLeastLevel, AreLowest, IsForest, IsPathTo, last, up, IsClosed}
 
 -- the root and the level of a number at some distance from its root
-placed : (edges : List (ℕ × ℕ)) (n : ℕ) (roots levels : List ℕ) → AreEdgesBelow n edges → AreLevels edges n roots levels → (root v m : ℕ)
+pub placed : (edges : List (ℕ × ℕ)) (n : ℕ) (roots levels : List ℕ) → AreEdgesBelow n edges → AreLevels edges n roots levels → (root v m : ℕ)
     → v < n → IsRoot (graph_of edges) root root → IsDistance (graph_of edges) root v m → (get_or roots v 0 ≡ root) × (get_or levels v 0 ≡ m)
 placed edges n roots levels b lv root v m v_in top a =
     let un = graph_of-undirected edges (below-ordered n edges b) in
@@ -25,7 +25,7 @@ placed edges n roots levels b lv root v m v_in top a =
     let same : get_or roots v 0 ≡ root = root-unique (graph_of edges) v (get_or roots v 0) root (lv.root v v_in) is in
     (same, distance-unique (graph_of edges) root v (get_or levels v 0) m (subst (λ r. IsDistance (graph_of edges) r v (get_or levels v 0)) same (lv.level v v_in)) a)
 
-own_root : (edges : List (ℕ × ℕ)) (n : ℕ) (roots levels : List ℕ) → AreEdgesBelow n edges → AreLevels edges n roots levels → (v : ℕ)
+pub own_root : (edges : List (ℕ × ℕ)) (n : ℕ) (roots levels : List ℕ) → AreEdgesBelow n edges → AreLevels edges n roots levels → (v : ℕ)
     → v < n → IsRoot (graph_of edges) (get_or roots v 0) (get_or roots v 0)
 own_root edges n roots levels b lv v v_in =
     let un = graph_of-undirected edges (below-ordered n edges b) in
@@ -33,7 +33,7 @@ own_root edges n roots levels b lv v v_in =
     root-along (graph_of edges) un v (get_or roots v 0) (get_or roots v 0) (Reaches-sym (graph_of edges) un is.reached) is
 
 -- neighbours have one root
-same_root : (edges : List (ℕ × ℕ)) (n : ℕ) (roots levels : List ℕ) → AreEdgesBelow n edges → AreLevels edges n roots levels → (u v : ℕ)
+pub same_root : (edges : List (ℕ × ℕ)) (n : ℕ) (roots levels : List ℕ) → AreEdgesBelow n edges → AreLevels edges n roots levels → (u v : ℕ)
     → graph_of edges u v → get_or roots v 0 ≡ get_or roots u 0
 same_root edges n roots levels b lv u v joined =
     let un = graph_of-undirected edges (below-ordered n edges b) in
@@ -42,7 +42,7 @@ same_root edges n roots levels b lv u v joined =
     (root-along (graph_of edges) un u v (get_or roots u 0) (1, step joined stay) (lv.root u u_in))
 
 -- a level edge below the least number of its component stands in the list, with the levels of its ends alike
-listed_level : (edges : List (ℕ × ℕ)) (n : ℕ) (roots levels : List ℕ) → AreEdgesBelow n edges → AreLevels edges n roots levels → (root : ℕ)
+pub listed_level : (edges : List (ℕ × ℕ)) (n : ℕ) (roots levels : List ℕ) → AreEdgesBelow n edges → AreLevels edges n roots levels → (root : ℕ)
     → IsRoot (graph_of edges) root root → (e : ℕ × ℕ) → IsLevelEdge (graph_of edges) root e
     → ((k : ℕ) × (k < length edges) × (edge_at edges k ≡ e)) × (get_or roots e.0 0 ≡ root) × IsLevel levels e
 listed_level edges n roots levels b lv root top e is =
@@ -173,7 +173,7 @@ is_parent edges n roots levels parents b lv low v p v_in high is =
           omega (arith, small, is);
     }
 
-climb_of : (edges : List (ℕ × ℕ)) (n : ℕ) (roots levels parents : List ℕ) → AreEdgesBelow n edges → AreLevels edges n roots levels
+pub climb_of : (edges : List (ℕ × ℕ)) (n : ℕ) (roots levels parents : List ℕ) → AreEdgesBelow n edges → AreLevels edges n roots levels
     → AreLowest (graph_of edges) n levels parents → (root : ℕ) {top v : ℕ} {us : List ℕ} → IsPathTo parents top v us
     → v < n → get_or roots v 0 ≡ root → get_or levels top 0 + length us ≡ get_or levels v 0 → Climb (graph_of edges) root top v us
 climb_of edges n roots levels parents b lv low root {top = top} {v = v} (last e) v_in is height =

@@ -1,1 +1,3 @@
 pub mod Paths
+pub mod Tables
+pub mod All

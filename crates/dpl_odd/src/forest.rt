@@ -1,10 +1,12 @@
 //! The parents of the numbers of a graph, and the paths through them.
-ghost use Rattle.std.specs.Prelude.{◌≡◌, ◌≢◌, ◌<◌, length, vec_len, slice_index, IfOk};
+ghost use Rattle.std.specs.Prelude.{◌≡◌, ◌≢◌, ◌<◌, ℕ, List, Some, length, vec_len, slice_index, IfOk};
+ghost use Rattle.std.specs.List.{Contains};
 ghost use Rattle.dpl_spec_split.specs.Graphs.{graph_of};
 ghost use Rattle.dpl_stars.specs.Levels.{AreEdgesBelow};
 ghost use Rattle.dpl_odd.specs.Paths.{AreLowest, IsLowered, IsForest, IsClosed};
+ghost use Rattle.dpl_odd.specs.Tables.{AreClosed, IsClosing};
 
-use dpl_list::{Edge, Id};
+use dpl_list::{Edge, Id, Listed};
 use dpl_stars::Levels;
 use std::alloc::{AllocError, Global};
 
@@ -71,5 +73,25 @@ impl Forest {
         cycle.reverse();
         cycle.extend_from_slice(&rest)?;
         Ok(cycle)
+    }
+
+    /// The cycles that these edges close, each between two numbers of one component and one level, in order.
+    pub fn cycles_through(
+        &self,
+        alloc: Global,
+        edges: &[Option<Edge>],
+    ) -> Result<Vec<Listed<Id>>, AllocError>
+        requires forest { IsForest (vec_len self.now.levels.levels) self.now.levels.roots.items self.now.levels.levels.items self.now.parents.items }
+        requires closing { (e : ℕ × ℕ) → Contains edges.now (Some e) → IsClosing (vec_len self.now.levels.levels) self.now.levels.roots.items self.now.levels.levels.items e }
+        ensures { IfOk result (λ cycles. (roots : List ℕ) × AreClosed self.now.levels.levels.items self.now.parents.items edges.now (length edges.now) roots cycles.items) }
+    {
+        let mut cycles = Vec::new(alloc);
+        for edge in edges {
+            if let Some((u, v)) = *edge {
+                let cycle = self.cycle_through(alloc, u, v)?;
+                cycles.push(Listed::of(cycle))?;
+            }
+        }
+        Ok(cycles)
     }
 }

@@ -23,7 +23,7 @@ fn comes_first(roots: &[Id], e: Edge, f: Edge) -> bool
 }
 
 /// The least level edge, once this edge is looked at too.
-fn lesser(levels: &Levels, least: Option<Edge>, edge: Edge) -> Option<Edge>
+pub fn lesser(levels: &Levels, least: Option<Edge>, edge: Edge) -> Option<Edge>
     requires smaller_in { edge.0 < vec_len levels.now.levels }
     requires larger_in { edge.1 < vec_len levels.now.levels }
     requires as_many { vec_len levels.now.roots ≡ vec_len levels.now.levels }

@@ -1,18 +1,22 @@
-//! The odd cycle that is reported for a graph which can't be two-coloured.
+//! The odd cycle that is reported for a graph which can't be two-coloured, and those of all its components.
 #![tactic(auto)]
 
 mod forest;
 mod level;
+mod table;
 
-ghost use Rattle.std.specs.Prelude.{IfOk, IfNone, IfSome};
+ghost use Rattle.std.specs.Prelude.{◌≡◌, ◌<◌, IfOk, IfNone, IfSome, [], length, slice_index_or};
+ghost use Rattle.std.specs.List.{All};
 ghost use Rattle.dpl_spec_split.specs.Graphs.{IsOddCycle, graph_of};
 ghost use Rattle.dpl_spec_split.specs.Cycle.{IsReported};
 ghost use Rattle.dpl_spec_split.specs.Summary.{HasOddCycle};
 ghost use Rattle.dpl_stars.specs.Levels.{AreEdgesBelow};
+ghost use Rattle.dpl_odd.specs.All.{AreOddCycles};
 
 use crate::forest::{Forest, parents_of};
 use crate::level::least_level_edge;
-use dpl_list::{Edge, Id};
+use crate::table::least_level_edges;
+use dpl_list::{Edge, Id, Listed};
 use dpl_stars::levels_of;
 use std::alloc::{AllocError, Global};
 
@@ -36,4 +40,20 @@ pub fn odd_cycle(alloc: Global, n: Id, edges: &[Edge]) -> Result<Option<Vec<Id>>
     let forest = Forest { levels, parents };
     let cycle = forest.cycle_through(alloc, u, v)?;
     Ok(Some(cycle))
+}
+
+/// For each component with an odd cycle, by its least number, the cycle that `odd_cycle` would give of it alone, in time linear in `n` and the number of edges.
+pub fn odd_cycles(alloc: Global, n: Id, edges: &[Edge]) -> Result<Vec<Listed<Id>>, AllocError>
+    requires { AreEdgesBelow n edges.now }
+    ensures cycles { IfOk result (λ found. AreOddCycles (graph_of edges.now) found.items) }
+    ensures odd { IfOk result (λ found. All (IsOddCycle (graph_of edges.now)) found.items) }
+    ensures none { IfOk result (λ found. found.items ≡ [] → ¬ HasOddCycle (graph_of edges.now)) }
+    ensures first { IfOk result (λ found. 0 < length found.items → IsReported (graph_of edges.now) (slice_index_or found.items 0 [])) }
+{
+    let levels = levels_of(alloc, n, edges)?;
+    let least = least_level_edges(alloc, &levels, edges)?;
+    let parents = parents_of(alloc, n, edges, &levels.levels)?;
+    let forest = Forest { levels, parents };
+    let cycles = forest.cycles_through(alloc, &least)?;
+    Ok(cycles)
 }
