@@ -64,7 +64,7 @@ rows_below n edges rows below sums k d h =
     let touched = ((sums.exactly (row_of (get_or rows k d))).0 there).0 in
     ends_below n edges _ touched.0 below touched.1
 
-not_odd : (n : ℕ) (edges : List (ℕ × ℕ)) (joined : Joined) → IsEvenBelow n joined → Sums edges joined → ¬ HasOddCycle (graph_of edges)
+pub not_odd : (n : ℕ) (edges : List (ℕ × ℕ)) (joined : Joined) → IsEvenBelow n joined → Sums edges joined → ¬ HasOddCycle (graph_of edges)
 not_odd n edges (Stars rows) even sums = sums.even
 not_odd n edges Odd even sums = absurd even
 

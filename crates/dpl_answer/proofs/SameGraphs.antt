@@ -12,14 +12,14 @@ SameEdges g h = (u v : ℕ) → g u v ↔ h u v
 pub same_back : (g h : Graph) → SameEdges g h → SameEdges h g
 same_back g h same u v = ((same u v).1, (same u v).0)
 
-walk_same : (g h : Graph) → SameEdges g h → {u v n : ℕ} → Walk g u v n → Walk h u v n
+pub walk_same : (g h : Graph) → SameEdges g h → {u v n : ℕ} → Walk g u v n → Walk h u v n
 walk_same g h same stay = stay
 walk_same g h same (step e w) = step ((same _ _).0 e) (walk_same g h same w)
 
 distance_same : (g h : Graph) → SameEdges g h → (u v n : ℕ) → IsDistance g u v n → IsDistance h u v n
 distance_same g h same u v n d = record { walk = walk_same g h same d.walk; least = λ m w. d.least m (walk_same h g (same_back g h same) w) }
 
-root_same : (g h : Graph) → SameEdges g h → (v root : ℕ) → IsRoot g v root → IsRoot h v root
+pub root_same : (g h : Graph) → SameEdges g h → (v root : ℕ) → IsRoot g v root → IsRoot h v root
 root_same g h same v root r = record {
   reached = (r.reached.0, walk_same g h same r.reached.1);
   least = λ u w. r.least u (w.0, walk_same h g (same_back g h same) w.1);
@@ -34,7 +34,7 @@ roots_same g h same n roots odds r = record { lengths = r.lengths; stars = λ v 
 pub odd_same : (g h : Graph) → SameEdges g h → HasOddCycle g → HasOddCycle h
 odd_same g h same c = (c.0, record { three = c.1.three; odd = c.1.odd; different = c.1.different; around = λ k l. (same _ _).0 (c.1.around k l) })
 
-level_same : (g h : Graph) → SameEdges g h → (root : ℕ) (e : ℕ × ℕ) → IsLevelEdge g root e → IsLevelEdge h root e
+pub level_same : (g h : Graph) → SameEdges g h → (root : ℕ) (e : ℕ × ℕ) → IsLevelEdge g root e → IsLevelEdge h root e
 level_same g h same root e l = record {
   order = l.order;
   joined_by = (same _ _).0 l.joined_by;
@@ -48,7 +48,7 @@ parent_same g h same root child parent p = record {
   least = λ u n e d f. p.least u n ((same _ _).1 e) (distance_same h g (same_back g h same) root u n d) (distance_same h g (same_back g h same) root child (n + 1) f);
 }
 
-climb_same : (g h : Graph) → SameEdges g h → (root top : ℕ) {v : ℕ} {us : List ℕ} → Climb g root top v us → Climb h root top v us
+pub climb_same : (g h : Graph) → SameEdges g h → (root top : ℕ) {v : ℕ} {us : List ℕ} → Climb g root top v us → Climb h root top v us
 climb_same g h same root top (last p) = last (parent_same g h same root _ top p)
 climb_same g h same root top (up p c) = up (parent_same g h same root _ _ p) (climb_same g h same root top c)
 

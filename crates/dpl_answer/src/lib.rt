@@ -12,3 +12,5 @@ pub use answer::answer_of;
 pub use conflicts::{Conflicts, Sharing, conflicts_of};
 pub use decomposed::{Clash, Decomposed, Painted};
 pub use job::EdgeJob;
+pub use lines::{head, place_lines};
+pub use near::near_lines;

@@ -17,7 +17,7 @@ use dpl_piece::Pieces;
 use std::alloc::{AllocError, Global};
 
 /// The rules, and how many features, pieces and zones there are.
-pub(crate) fn head(cut: &LayerCut, rule: u32, overlap: u32) -> Head
+pub fn head(cut: &LayerCut, rule: u32, overlap: u32) -> Head
     requires rule { IsRule rule }
     requires overlap { IsRule overlap }
     ensures value { OfAnyCut cut.now (λ c. result ≡ head_of rule overlap c) }
@@ -98,7 +98,7 @@ pub(crate) fn stitch_lines(
 }
 
 /// A line for each piece of a cycle: its number and its least square.
-pub(crate) fn place_lines(
+pub fn place_lines(
     alloc: Global,
     pieces: &Pieces,
     cycle: &[Id],

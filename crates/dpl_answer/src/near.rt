@@ -35,7 +35,7 @@ fn near_line(
 }
 
 /// For each piece of a cycle the least pair of near squares with the next one, the last with the first.
-pub(crate) fn near_lines(
+pub fn near_lines(
     alloc: Global,
     pieces: &Pieces,
     cycle: &[Id],

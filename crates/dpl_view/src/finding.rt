@@ -1,0 +1,71 @@
+//! From the bytes of a layout to the odd cycles of its conflicts.
+ghost use Rattle.std.specs.Prelude.{◌≤◌, IfOk, length};
+ghost use Rattle.dpl_layer.specs.Reading.{limit};
+ghost use Rattle.dpl_layer.specs.View.{choice_view};
+ghost use Rattle.dpl_view.specs.Findings.{IsFinding, IsInRange};
+
+use crate::clashes::clashes_of;
+use dpl_answer::{Clash, Sharing, conflicts_of};
+use dpl_cert::Name;
+use dpl_cut::cut_of;
+use dpl_layer::{Layer, LayerChoice, LayerFault, layer_of};
+use dpl_pool::Gate;
+use std::alloc::{AllocError, Global};
+use std::sync::Wait;
+use std::thread::Threads;
+
+/// What is asked of a layout.
+#[derive(Clone, Copy, Debug)]
+pub struct Order<'a> {
+    /// The layer whose conflicts are shown.
+    pub choice: LayerChoice<'a>,
+    /// How far apart features are on one mask, 1 to 1,000,000 database units.
+    pub rule: u32,
+    /// How long a stitch is, 1 to 1,000,000 database units.
+    pub overlap: u32,
+    /// How the conflicts are found.
+    pub sharing: Sharing,
+}
+
+/// The odd cycles of the conflicts of a layer.
+#[derive(Drop)]
+pub struct Cycles {
+    /// The records of the file before the elements of the top structure.
+    pub copied: Vec<u8>,
+    /// One for each component of the conflict graph that has an odd cycle, in the order of their least pieces.
+    pub clashes: Vec<Clash>,
+}
+
+/// What is found in a layout.
+#[derive(Drop)]
+pub enum Finding {
+    /// The first fault of the layout, by its name in certificates, and where it stands.
+    Refused { name: Name, at: u64 },
+    /// The odd cycles of its conflicts.
+    Cycles(Cycles),
+}
+
+/// What is found in the bytes of a file, at most 268,435,456 of them.
+///
+/// The error: out of memory.
+pub fn find<R: Threads + Wait + Sync, G: Gate + Sync>(
+    rt: &R,
+    alloc: Global,
+    order: &Order<'_>,
+    bytes: Vec<u8>,
+    gate: &G,
+) -> Result<Finding, AllocError>
+    requires size { length bytes.items ≤ limit }
+    requires ranges { IsInRange order.now }
+    ensures { IfOk result (IsFinding (choice_view order.now.choice) order.now.rule order.now.overlap bytes.items) }
+{
+    let Layer { copied, slabs } = match layer_of(alloc, &order.choice, bytes) {
+        Ok(layer) => layer,
+        Err(LayerFault::Refused { name, at }) => return Ok(Finding::Refused { name, at }),
+        Err(LayerFault::NoMemory) => return Err(AllocError),
+    };
+    let cut = cut_of(alloc, slabs, order.rule, order.overlap)?;
+    let conflicts = conflicts_of(rt, alloc, &cut, order.rule, order.sharing, gate)?;
+    let clashes = clashes_of(alloc, cut, &conflicts, order.rule, order.overlap)?;
+    Ok(Finding::Cycles(Cycles { copied, clashes }))
+}

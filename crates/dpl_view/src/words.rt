@@ -1,0 +1,184 @@
+//! The command line of `dplview`, read with `clap`.
+ghost use Rattle.std.specs.Prelude.{◌≤◌, IfOk, IfSome};
+ghost use Rattle.dpl_view.specs.Findings.{IsInRange};
+
+use crate::finding::Order;
+use clap::error::ErrorKind;
+use clap::{Arg, ArgAction, ArgMatches, Command, Error, value_parser};
+use dpl_answer::Sharing;
+use dpl_layer::LayerChoice;
+use std::alloc::{AllocError, Global};
+
+/// What a command line of `conflicts` says.
+#[derive(Debug, Drop)]
+pub struct ConflictOptions<'a> {
+    /// What is asked of the layout.
+    pub order: Order<'a>,
+    /// Whether JSON is said.
+    pub json: bool,
+    /// The name of the layout.
+    pub input: &'a str,
+    /// The name of the marker database that is written, if one is.
+    pub output: Option<&'a str>,
+}
+
+/// A whole number from the first to the second, by its name; its default, or it must be given.
+fn number<'a>(
+    alloc: Global,
+    id: &'a str,
+    high: u32,
+    low: u32,
+    default: Option<&'a str>,
+    help: &'a str,
+) -> Arg<'a> {
+    let parser = value_parser!(u32).range(i64::from(low)..=i64::from(high));
+    let arg = Arg::new(alloc, id)
+        .long(id)
+        .value_name("N")
+        .value_parser(parser)
+        .help(help);
+    match default {
+        Some(text) => arg.default_value(text),
+        None => arg.required(true),
+    }
+}
+
+/// The subcommand `conflicts`.
+fn conflicts_command<'a>(alloc: Global) -> Result<Command<'a>, AllocError> {
+    let command = Command::new(alloc, "conflicts").about(
+        "All odd cycles of conflicts of a layer, one for each component that has one",
+    );
+    let command = command.arg(number(alloc, "layer", 65_535, 0, None, "The layer"))?;
+    let command = command.arg(number(
+        alloc,
+        "rule",
+        1_000_000,
+        1,
+        None,
+        "How far apart features are on one mask, in database units",
+    ))?;
+    let command = command.arg(number(
+        alloc,
+        "overlap",
+        1_000_000,
+        1,
+        None,
+        "How long a stitch is, in database units",
+    ))?;
+    let command = command.arg(number(
+        alloc,
+        "datatype",
+        65_535,
+        0,
+        Some("0"),
+        "The datatype of its shapes",
+    ))?;
+    let command = command.arg(number(
+        alloc,
+        "tile",
+        1_073_741_824,
+        1,
+        Some("4096"),
+        "The least side of a tile; it changes no answer",
+    ))?;
+    let command = command.arg(number(
+        alloc,
+        "workers",
+        64,
+        1,
+        Some("4"),
+        "How many threads share the tiles; it changes no answer",
+    ))?;
+    let top = Arg::new(alloc, "top")
+        .long("top")
+        .value_name("NAME")
+        .help("The structure in which the layout begins");
+    let command = command.arg(top)?;
+    let json = Arg::new(alloc, "json")
+        .long("json")
+        .action(ArgAction::SetTrue)
+        .help("Say JSON");
+    let command = command.arg(json)?;
+    let input = Arg::new(alloc, "in")
+        .value_name("IN")
+        .required(true)
+        .help("A GDSII layout");
+    let command = command.arg(input)?;
+    let output = Arg::new(alloc, "out")
+        .value_name("OUT")
+        .help("A marker database of KLayout's that is written");
+    command.arg(output)
+}
+
+/// The whole command line.
+fn view_command<'a>(alloc: Global, version: &'a str) -> Result<Command<'a>, AllocError> {
+    let command = Command::new(alloc, "dplview")
+        .version(version)
+        .about("Shows what a layout holds for double patterning")
+        .subcommand_required(true);
+    command.subcommand(conflicts_command(alloc)?)
+}
+
+/// What the words of a command line ask for. The error has the text of the help or the version where those are asked for, and says what is wrong with the words where they ask for nothing.
+pub fn read_words<'a>(
+    alloc: Global,
+    version: &'a str,
+    words: &'a [&'a str],
+) -> Result<ConflictOptions<'a>, Error>
+    ensures { IfOk result (λ o. IsInRange o.order) }
+{
+    let mut command = view_command(alloc, version)?;
+    let matches = command.try_get_matches_from_mut(words)?;
+    match asked(&matches) {
+        Some(options) => Ok(options),
+        None => Err(command.error(ErrorKind::MissingSubcommand, "no command")?),
+    }
+}
+
+/// What the matches ask for.
+fn asked<'a>(matches: &ArgMatches<'a>) -> Option<ConflictOptions<'a>>
+    ensures { IfSome result (λ o. IsInRange o.order) }
+{
+    let (_, inner) = matches.subcommand()?;
+    let order = order_of(inner)?;
+    let input = inner.get_str("in")?;
+    Some(ConflictOptions {
+        order,
+        json: inner.get_flag("json"),
+        input,
+        output: inner.get_str("out"),
+    })
+}
+
+/// The order that the matches of a subcommand give.
+fn order_of<'a>(matches: &ArgMatches<'a>) -> Option<Order<'a>>
+    ensures { IfSome result IsInRange }
+{
+    let rule = number_in(matches, "rule", 1, 1_000_000)?;
+    let overlap = number_in(matches, "overlap", 1, 1_000_000)?;
+    let tile = number_in(matches, "tile", 1, 1_073_741_824)?;
+    let workers = number_in(matches, "workers", 1, 64)?;
+    let layer = number_in(matches, "layer", 0, 65_535)?;
+    let datatype = number_in(matches, "datatype", 0, 65_535)?;
+    Some(Order {
+        choice: LayerChoice {
+            top: matches.get_str("top"),
+            layer: layer as u16,
+            datatype: datatype as u16,
+        },
+        rule,
+        overlap,
+        sharing: Sharing { tile, workers },
+    })
+}
+
+/// The number of an option, if it lies in its range.
+fn number_in(matches: &ArgMatches, id: &str, low: u32, high: u32) -> Option<u32>
+    ensures { IfSome result (λ n. (low ≤ n) × (n ≤ high)) }
+{
+    let number = matches.get_one::<u32>(id)?;
+    if number < low || number > high {
+        return None;
+    }
+    Some(number)
+}
