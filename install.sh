@@ -1,9 +1,9 @@
 #!/bin/sh
-# Proves and builds dpl, installs it, and runs a first split.
+# Proves and builds dpl and dplview, installs them, and runs a first split.
 #
 # usage: sh install.sh [PREFIX]
 #
-# The program goes to PREFIX/bin; without PREFIX to the folder bin in your home folder.
+# The programs go to PREFIX/bin; without PREFIX to the folder bin in your home folder.
 # It needs the Rattle kit (its command rt) on the PATH, Python 3 and about 3 GB of disk.
 set -eu
 top=$(cd "$(dirname "$0")" && pwd)
@@ -19,19 +19,21 @@ bin=$(cd "$prefix/bin" && pwd)
 work=$(mktemp -d)
 trap 'rm -rf "$work"' EXIT
 
-echo "dpl is proved crate by crate before it is built, with $(rt version)"
+echo "each program is proved crate by crate before it is built, with $(rt version)"
 python3 "$top/tools/prove.py" "$top" || {
     echo "install.sh: nothing was installed" >&2
     exit 1
 }
-cp "$top/crates/dpl/out/dpl" "$work/dpl"
-mv "$work/dpl" "$bin/dpl"
+for program in dpl dplview; do
+    cp "$top/crates/$program/out/$program" "$work/$program"
+    mv "$work/$program" "$bin/$program"
+done
 
 echo "a first split: two bars 29 units apart, with a rule of 30"
 "$bin/dpl" split --layer 1 --rule 30 --overlap 10 "$top/examples/two-bars.gds" "$work/masks.gds" "$work/masks.cert"
 cat "$work/masks.cert"
-echo "dpl is installed: $bin/dpl"
+echo "dpl and dplview are installed: $bin/dpl, $bin/dplview"
 case ":$PATH:" in
 *":$bin:"*) ;;
-*) echo "to call it by its name, add its folder to the PATH: export PATH=\"$bin:\$PATH\"" ;;
+*) echo "to call them by their names, add their folder to the PATH: export PATH=\"$bin:\$PATH\"" ;;
 esac

@@ -1,15 +1,16 @@
 #!/bin/sh
-# Makes packages of an installed dpl, for machines without the Rattle kit:
+# Makes packages of an installed dpl and dplview, for machines without the Rattle kit:
 # dpl-VERSION-x86_64.tar.gz and, where dpkg-deb is there, dpl_VERSION_amd64.deb.
 #
 # usage: sh package.sh [PROGRAM [FOLDER]]
 #
-# PROGRAM is the installed program; without it, the one in the folder bin of your home folder, where
-# install.sh puts it. The packages are put into FOLDER, or where you are. The licences of what is
+# PROGRAM is the installed dpl; without it, the one in the folder bin of your home folder, where
+# install.sh puts it. dplview is taken from the same folder. The packages are put into FOLDER, or where you are. The licences of what is
 # linked into the program are taken from the kit that its command rt belongs to.
 set -eu
 top=$(cd "$(dirname "$0")" && pwd)
 program=${1:-$HOME/bin/dpl}
+view=$(dirname "$program")/dplview
 folder=$(cd "${2:-.}" && pwd)
 version=$(cat "$top/VERSION")
 machine=$(uname -m)
@@ -23,10 +24,11 @@ fail() {
 kit=$(readlink -f "$(command -v rt || true)")
 kit=$(dirname "$(dirname "$kit")")/rattle
 [ -d "$kit/std" ] || fail "the Rattle kit's command rt is not on the PATH, and licences are taken from the kit"
-ldd "$program" | grep '=>' | grep -v '=> /\(usr/\)\?lib' && fail "$program needs libraries of its own"
+[ -x "$view" ] || fail "no program $view beside $program: sh install.sh"
+ldd "$program" "$view" | grep '=>' | grep -v '=> /\(usr/\)\?lib' && fail "$program needs libraries of its own"
 
 # The crates of the kit that are linked in: those that crates.txt names, and those below them.
-linked="clap crossbeam_deque crossbeam_queue crossbeam_utils indexmap memchr smallvec strsim thiserror unicode"
+linked="clap crossbeam_deque crossbeam_queue crossbeam_utils fast_float indexmap itoa memchr ryu serde serde_json smallvec strsim thiserror unicode"
 named=$(sed 's/#.*//; s/.*://' "$top/crates.txt")
 for crate in $named; do
     ls "$kit/$crate/LICENSE"* >/dev/null 2>&1 || continue
@@ -42,8 +44,11 @@ export SOURCE_DATE_EPOCH
 tree=$work/tree
 mkdir -p "$tree/bin" "$tree/share/man/man1" "$tree/share/dpl/klayout" "$tree/share/doc/dpl/docs"
 cp "$program" "$tree/bin/dpl"
-strip "$tree/bin/dpl" 2>/dev/null || true
-sed "s/^\.Os\$/.Os \"dpl $version\"/" "$top/docs/dpl.1" >"$tree/share/man/man1/dpl.1"
+cp "$view" "$tree/bin/dplview"
+strip "$tree/bin/dpl" "$tree/bin/dplview" 2>/dev/null || true
+for page in dpl dplview; do
+    sed "s/^\.Os\$/.Os \"dpl $version\"/" "$top/docs/$page.1" >"$tree/share/man/man1/$page.1"
+done
 cp -R "$top/examples" "$tree/share/dpl/examples"
 for file in dpl.lym dpl.lyp menu.py markers.py; do
     cp "$top/klayout/$file" "$tree/share/dpl/klayout/$file"
@@ -53,7 +58,7 @@ cp "$top/README.md" "$tree/share/doc/dpl/README.md"
 cp "$top"/docs/*.md "$top"/docs/*.svg "$top"/docs/*.png "$tree/share/doc/dpl/docs/"
 {
     echo "dpl $version. Its sources state no licence of their own."
-    echo "Linked into the program are crates of the Rattle kit that are ports of Rust crates, or hold"
+    echo "Linked into the programs are crates of the Rattle kit that are ports of Rust crates, or hold"
     echo "tables of Unicode, under these licences:"
     for crate in $linked; do
         for name in LICENSE-MIT LICENSE LICENSE-UNICODE; do
@@ -65,11 +70,14 @@ cp "$top"/docs/*.md "$top"/docs/*.svg "$top"/docs/*.png "$tree/share/doc/dpl/doc
 } >"$tree/share/doc/dpl/copyright"
 find "$tree" -type d -exec chmod 755 {} +
 find "$tree" -type f -exec chmod 644 {} +
-chmod 755 "$tree/bin/dpl" "$tree/share/dpl/klayout/markers.py" "$tree/share/dpl/examples/cluster/"*.s*
+chmod 755 "$tree/bin/dpl" "$tree/bin/dplview" "$tree/share/dpl/klayout/markers.py" "$tree/share/dpl/examples/cluster/"*.s*
 
 # The program must split an example before it is packed.
 said=$("$tree/bin/dpl" split --layer 1 --rule 30 --overlap 10 "$top/examples/two-bars.gds" "$work/out" "$work/cert")
 [ "$said" = "done features 2 pieces 2 zones 0 stitches 0 a 1 b 1" ] || fail "$program said of an example: $said"
+said=$("$tree/bin/dplview" conflicts --layer 1 --rule 30 --overlap 10 "$top/examples/two-bars.gds")
+[ "$said" = "conflicts cycles 0 pieces 0" ] || fail "$view said of an example: $said"
+[ "$("$tree/bin/dplview" --version)" = "dplview $version" ] || fail "$view has another version than the file VERSION"
 
 name=dpl-$version-$machine
 mv "$tree" "$work/$name"
@@ -84,7 +92,7 @@ command -v dpkg-deb >/dev/null 2>&1 || {
 root=$work/root
 mkdir -p "$root/DEBIAN" "$root/usr/lib/klayout/pymacros"
 cp -a "$work/$name/." "$root/usr"
-gzip -9n "$root/usr/share/man/man1/dpl.1"
+gzip -9n "$root/usr/share/man/man1/dpl.1" "$root/usr/share/man/man1/dplview.1"
 maintainer=$(git -C "$top" log -1 --format='%an <%ae>' 2>/dev/null || echo "dpl <root@localhost>")
 printf 'dpl (%s) unstable; urgency=low\n\n  * Packaged from its sources.\n\n -- %s  %s\n' \
     "$version" "$maintainer" "$(date -uR -d "@$SOURCE_DATE_EPOCH")" | gzip -9n >"$root/usr/share/doc/dpl/changelog.gz"

@@ -1,11 +1,11 @@
 #!/usr/bin/env python3
-"""Proves and builds the program dpl and the crates below it, side by side.
+"""Proves and builds the programs dpl and dplview and the crates below them, side by side.
 
 usage: prove.py TOP
 
 TOP is the folder that holds crates.txt. A crate is begun once all that it stands on is proved, the one with the longest way
 above it first; as many go side by side as there are processors, and memory for. A line is printed as each is done.
-It ends with 0 where TOP/crates/dpl/out/dpl is there, else with 1, after what the prover said of the first crate that failed.
+It ends with 0 where TOP/crates/NAME/out/NAME is there for both, else with 1, after what the prover said of the first crate that failed.
 
 A command of the kit locks the crate that it proves and all below it. So each of those that go side by side has a lane, a copy
 of the sources below TOP/out/lanes, to which the libraries below its crate are linked."""
@@ -16,7 +16,7 @@ import sys
 import time
 from concurrent.futures import FIRST_COMPLETED, ThreadPoolExecutor, wait
 
-PROGRAM = "dpl"
+PROGRAMS = ("dpl", "dplview")
 # What the proof of a large crate takes of memory, in GB; smaller ones take a quarter of it.
 GB_EACH = 3
 
@@ -51,7 +51,7 @@ def size_of(top, name):
 
 
 def ways(needs, sizes):
-    """How much is to be proved from each crate up to the program, along the longest way."""
+    """How much is to be proved from each crate up to a program, along the longest way."""
     above = {name: [other for other in needs if name in needs[other]] for name in needs}
     known = {}
 
@@ -93,13 +93,13 @@ def prove(top, lane, name, libraries, jobs):
     for other in libraries:
         if not os.path.isdir(library(lane, other)):
             link_tree(library(top, other), library(lane, other))
-    command = "run" if name == PROGRAM else "lib"
-    # Without words the program prints its usage and ends with 3, once it is proved and built.
+    command = "run" if name in PROGRAMS else "lib"
+    # Without words a program tells how it is called and ends with 3, once it is proved and built.
     ran = subprocess.run(
         ["rt", command, "--jobs", str(jobs)], cwd=os.path.join(lane, "crates", name), stdout=subprocess.PIPE, stderr=subprocess.STDOUT, text=True, check=False
     )
     made = os.path.join(lane, "crates", name, "out")
-    is_proved = os.access(os.path.join(made, PROGRAM), os.X_OK) if name == PROGRAM else ran.returncode == 0
+    is_proved = os.access(os.path.join(made, name), os.X_OK) if name in PROGRAMS else ran.returncode == 0
     if is_proved:
         kept = os.path.join(top, "crates", name, "out")
         shutil.rmtree(kept, ignore_errors=True)
@@ -143,7 +143,10 @@ def prove_all(top, needs, lanes):
 def main():
     top = os.path.abspath(sys.argv[1])
     needs = read_needs(top)
-    needs = {name: needs[name] for name in below(needs, PROGRAM, set())}
+    wanted = set()
+    for program in PROGRAMS:
+        below(needs, program, wanted)
+    needs = {name: needs[name] for name in wanted}
     lanes = [os.path.join(top, "out", "lanes", str(number)) for number in range(side_by_side())]
     print(f"proving {len(needs)} crates, {len(lanes)} at a time", flush=True)
     try:
