@@ -49,8 +49,20 @@ fn run<R: Threads + Wait + Sync>(threads: &R, rt: &HostRuntime, words: &[String]
         }
     }
     match read_words(rt.alloc(), VERSION, texts.as_slice()) {
-        Ok(options) => conflicts(threads, rt, &options),
+        Ok(options) if is_apart(&options) => conflicts(threads, rt, &options),
+        Ok(_) => {
+            let _ = eprintln!(rt; "dplview: IN and OUT are one file");
+            Status::Usage
+        }
         Err(error) => told(rt, &error),
+    }
+}
+
+/// Whether OUT, if it is given, has another name than IN.
+fn is_apart(options: &ConflictOptions<'_>) -> bool {
+    match options.output {
+        Some(output) => output != options.input,
+        None => true,
     }
 }
 
