@@ -1,6 +1,7 @@
 -- The conflicts of a plan are those of the cut that it was made of.
 use Rattle.std.proofs.Common.{◌≤◌, ℕ, List, length, get_or, sym, subst}
 use Rattle.std.proofs.lemmas.List.Elements.{Contains-get_or}
+use Rattle.dpl_spec_split.specs.declared.Spacing.{Spacing}
 use Rattle.dpl_spec_split.specs.declared.Rect.{Rect}
 use Rattle.dpl_spec_split.specs.Graphs.{AreEdges, graph_of}
 use Rattle.dpl_spec_split.specs.Pieces.{Conflict}
@@ -20,38 +21,38 @@ use Rattle.dpl_answer.specs.declared.conflicts.Conflicts.{Conflicts}
 use Rattle.dpl_answer.proofs.Deciding.{rows_below, same_conflicts}
 use Rattle.dpl_answer.proofs.SameGraphs.{odd_same, same_back}
 
-module _ (parts : List (List Rect)) (owners : List ℕ) (rule tile : ℕ) (plan : Planned) where
-  pub tiled : 1 ≤ tile → IsPlan parts owners rule tile plan → IsTiled plan
+module _ (parts : List (List Rect)) (owners : List ℕ) (spacing : Spacing) (tile : ℕ) (plan : Planned) where
+  pub tiled : 1 ≤ tile → IsPlan parts owners spacing tile plan → IsTiled plan
   tiled some is = (tile, some, subst (λ (ps : List (List Rect)). AreTiles ps tile plan.cells) (sym is.of_parts) is.tiles)
 
-  pub sums_planned : (j : Joined) → IsPlan parts owners rule tile plan → SumsGraph (Conflict plan.rule plan.parts plan.owners) j → SumsGraph (Conflict rule parts owners) j
+  pub sums_planned : (j : Joined) → IsPlan parts owners spacing tile plan → SumsGraph (Conflict plan.spacing plan.parts plan.owners) j → SumsGraph (Conflict spacing parts owners) j
   sums_planned j is sums =
-      subst (λ (os : List ℕ). SumsGraph (Conflict rule parts os) j) is.of_owners
-      (subst (λ (ps : List (List Rect)). SumsGraph (Conflict rule ps plan.owners) j) is.of_parts
-      (subst (λ (r : ℕ). SumsGraph (Conflict r plan.parts plan.owners) j) is.of_rule sums))
+      subst (λ (os : List ℕ). SumsGraph (Conflict spacing parts os) j) is.of_owners
+      (subst (λ (ps : List (List Rect)). SumsGraph (Conflict spacing ps plan.owners) j) is.of_parts
+      (subst (λ (s : Spacing). SumsGraph (Conflict s plan.parts plan.owners) j) is.of_spacing sums))
 
-  pub edges_planned : (es : List (ℕ × ℕ)) → IsPlan parts owners rule tile plan → AreEdges (Conflict plan.rule plan.parts plan.owners) es → AreEdges (Conflict rule parts owners) es
+  pub edges_planned : (es : List (ℕ × ℕ)) → IsPlan parts owners spacing tile plan → AreEdges (Conflict plan.spacing plan.parts plan.owners) es → AreEdges (Conflict spacing parts owners) es
   edges_planned es is are =
-      subst (λ (os : List ℕ). AreEdges (Conflict rule parts os) es) is.of_owners
-      (subst (λ (ps : List (List Rect)). AreEdges (Conflict rule ps plan.owners) es) is.of_parts
-      (subst (λ (r : ℕ). AreEdges (Conflict r plan.parts plan.owners) es) is.of_rule are))
+      subst (λ (os : List ℕ). AreEdges (Conflict spacing parts os) es) is.of_owners
+      (subst (λ (ps : List (List Rect)). AreEdges (Conflict spacing ps plan.owners) es) is.of_parts
+      (subst (λ (s : Spacing). AreEdges (Conflict s plan.parts plan.owners) es) is.of_spacing are))
 
 -- conflicts of bare pieces are those of what they are completed to
-pub conflicts_completed : (rule : ℕ) (bare : BareCut) (pieces : CutPieces) (cs : Conflicts) → Completes bare pieces
-    → AreConflictsOf rule bare.parts bare.owners cs → AreConflictsOf rule pieces.parts pieces.owners cs
-conflicts_completed rule bare pieces cs completed are =
-    subst (λ (os : List ℕ). AreConflictsOf rule pieces.parts os cs) (sym completed.owners)
-    (subst (λ (ps : List (List Rect)). AreConflictsOf rule ps bare.owners cs) (sym completed.parts) are)
+pub conflicts_completed : (spacing : Spacing) (bare : BareCut) (pieces : CutPieces) (cs : Conflicts) → Completes bare pieces
+    → AreConflictsOf spacing bare.parts bare.owners cs → AreConflictsOf spacing pieces.parts pieces.owners cs
+conflicts_completed spacing bare pieces cs completed are =
+    subst (λ (os : List ℕ). AreConflictsOf spacing pieces.parts os cs) (sym completed.owners)
+    (subst (λ (ps : List (List Rect)). AreConflictsOf spacing ps bare.owners cs) (sym completed.parts) are)
 
 -- conflicts are pairs of pieces
-conflicts_below : (rule : ℕ) (cut : Cut) (es : List (ℕ × ℕ)) → AreEdges (conflicts rule cut) es → AreEdgesBelow (length cut.pieces) es
-conflicts_below rule cut es are k d l = let e = get_or es k d in let (less, c) = (are.exactly e.0 e.1).0 (Contains-get_or es k d l) in (less, c.second)
+conflicts_below : (spacing : Spacing) (cut : Cut) (es : List (ℕ × ℕ)) → AreEdges (conflicts spacing cut) es → AreEdgesBelow (length cut.pieces) es
+conflicts_below spacing cut es are k d l = let e = get_or es k d in let (less, c) = (are.exactly e.0 e.1).0 (Contains-get_or es k d l) in (less, c.second)
 
-pub stars_below : (rule : ℕ) (cut : Cut) (rows : List Star) → SumsGraph (conflicts rule cut) (Stars rows) → ArePiecesBelow (length cut.pieces) rows
-stars_below rule cut rows (es, are, sums) = rows_below (length cut.pieces) es rows (conflicts_below rule cut es are) sums
+pub stars_below : (spacing : Spacing) (cut : Cut) (rows : List Star) → SumsGraph (conflicts spacing cut) (Stars rows) → ArePiecesBelow (length cut.pieces) rows
+stars_below spacing cut rows (es, are, sums) = rows_below (length cut.pieces) es rows (conflicts_below spacing cut es are) sums
 
 -- an odd cycle of the conflicts shows in each list of them
-pub odd_listed : (rule : ℕ) (cut : Cut) (es : List (ℕ × ℕ)) → SumsGraph (conflicts rule cut) Odd → AreEdges (conflicts rule cut) es → HasOddCycle (graph_of es)
-odd_listed rule cut es (fs, are, odd) these =
-    odd_same (conflicts rule cut) (graph_of es) (same_back (graph_of es) (conflicts rule cut) (same_conflicts rule cut es these))
-    (odd_same (graph_of fs) (conflicts rule cut) (same_conflicts rule cut fs are) odd)
+pub odd_listed : (spacing : Spacing) (cut : Cut) (es : List (ℕ × ℕ)) → SumsGraph (conflicts spacing cut) Odd → AreEdges (conflicts spacing cut) es → HasOddCycle (graph_of es)
+odd_listed spacing cut es (fs, are, odd) these =
+    odd_same (conflicts spacing cut) (graph_of es) (same_back (graph_of es) (conflicts spacing cut) (same_conflicts spacing cut es these))
+    (odd_same (graph_of fs) (conflicts spacing cut) (same_conflicts spacing cut fs are) odd)

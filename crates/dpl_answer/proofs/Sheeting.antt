@@ -27,13 +27,13 @@ use Rattle.dpl_answer.proofs.Nearness.{near-yes, yes-near}
 use Rattle.dpl_answer.proofs.Pairs.{has-pair, pair-below, pairs-ordered}
 
 abbrev In : Planned → Rect → ℕ → ℕ → Type 0
-In plan cell i j = ConflictIn plan.rule plan.parts plan.owners cell i j
+In plan cell i j = ConflictIn plan.spacing plan.parts plan.owners cell i j
 
-near-one : (plan : Planned) (cell : Rect) (i j : ℕ) → AreNear plan.rule (in_cell cell (part_at plan.parts i)) (part_at plan.parts j)
-    ⊎ AreNear plan.rule (part_at plan.parts i) (in_cell cell (part_at plan.parts j))
-    → (is_near_in plan.rule cell (part_of plan i) (part_of plan j) || is_near_in plan.rule cell (part_of plan j) (part_of plan i)) ≡ true
-near-one plan cell i j (inl first) = or_left _ _ (near-yes plan.rule cell (part_of plan i) (part_of plan j) first)
-near-one plan cell i j (inr second) = or_right _ _ (near-yes plan.rule cell (part_of plan j) (part_of plan i) (AreNear-sym plan.rule _ _ second))
+near-one : (plan : Planned) (cell : Rect) (i j : ℕ) → AreNear plan.spacing (in_cell cell (part_at plan.parts i)) (part_at plan.parts j)
+    ⊎ AreNear plan.spacing (part_at plan.parts i) (in_cell cell (part_at plan.parts j))
+    → (is_near_in plan.spacing cell (part_of plan i) (part_of plan j) || is_near_in plan.spacing cell (part_of plan j) (part_of plan i)) ≡ true
+near-one plan cell i j (inl first) = or_left _ _ (near-yes plan.spacing cell (part_of plan i) (part_of plan j) first)
+near-one plan cell i j (inr second) = or_right _ _ (near-yes plan.spacing cell (part_of plan j) (part_of plan i) (AreNear-sym plan.spacing _ _ second))
 
 pub conflict-yes : (plan : Planned) (cell : Rect) (i j : ℕ) → i < j → In plan cell i j → is_conflict_in plan cell (i, j) ≡ true
 conflict-yes plan cell i j l c =
@@ -49,9 +49,9 @@ yes-conflict plan cell i j first second h =
         first = first;
         second = second;
         apart = eqb-false (slice_index plan.owners i) (slice_index plan.owners j) (not-true _ apart);
-        near = elim (or_cases (is_near_in plan.rule cell (part_of plan i) (part_of plan j)) (is_near_in plan.rule cell (part_of plan j) (part_of plan i)) near) [
-          | inl here ↦ inl (yes-near plan.rule cell (part_of plan i) (part_of plan j) here)
-          | inr there ↦ inr (AreNear-sym plan.rule _ _ (yes-near plan.rule cell (part_of plan j) (part_of plan i) there))
+        near = elim (or_cases (is_near_in plan.spacing cell (part_of plan i) (part_of plan j)) (is_near_in plan.spacing cell (part_of plan j) (part_of plan i)) near) [
+          | inl here ↦ inl (yes-near plan.spacing cell (part_of plan i) (part_of plan j) here)
+          | inr there ↦ inr (AreNear-sym plan.spacing _ _ (yes-near plan.spacing cell (part_of plan j) (part_of plan i) there))
         ];
       },
     )
@@ -105,14 +105,14 @@ tile-sums plan tile es j below are sums =
     (same-members es (conflicts_in plan cell) (same-listed (In plan cell) es (conflicts_in plan cell) edges (listed plan cell)))
     (summary_of j) sums)
 
-module _ (plan : Planned) (law : (i j : ℕ) → Conflict plan.rule plan.parts plan.owners i j ↔ Any (λ cell. In plan cell i j) plan.cells) where
+module _ (plan : Planned) (law : (i j : ℕ) → Conflict plan.spacing plan.parts plan.owners i j ↔ Any (λ cell. In plan cell i j) plan.cells) where
   some_cell : ℕ × ℕ → Bool
   some_cell e = list_any (λ cell. is_conflict_in plan cell e) plan.cells
 
   abbrev whole : List (ℕ × ℕ)
   whole = filter (λ e. list_any (λ cell. is_conflict_in plan cell e) plan.cells) (pairs_below (length plan.parts))
 
-  whole-listed : AreEdges (Conflict plan.rule plan.parts plan.owners) whole
+  whole-listed : AreEdges (Conflict plan.spacing plan.parts plan.owners) whole
   whole-listed = record {
     ordered = AllPairs-filter Precedes (λ e. list_any (λ cell. is_conflict_in plan cell e) plan.cells) (pairs_below (length plan.parts)) (pairs-ordered (length plan.parts));
     exactly = λ u v. (
@@ -150,7 +150,7 @@ module _ (plan : Planned) (law : (i j : ℕ) → Conflict plan.rule plan.parts p
   )
 
   -- what sums up the edges of all tiles sums up the conflict graph
-  pub all-sums : (j : Joined) → Sums (all_edges (sheet_of plan)) j → SumsGraph (Conflict plan.rule plan.parts plan.owners) j
+  pub all-sums : (j : Joined) → Sums (all_edges (sheet_of plan)) j → SumsGraph (Conflict plan.spacing plan.parts plan.owners) j
   all-sums j sums = (
     whole,
     whole-listed,
@@ -159,9 +159,9 @@ module _ (plan : Planned) (law : (i j : ℕ) → Conflict plan.rule plan.parts p
   )
 
 -- pieces conflict exactly where they do so by the squares in some tile's cell
-pub conflict-in-cells : (plan : Planned) → IsTiled plan → (i j : ℕ) → Conflict plan.rule plan.parts plan.owners i j ↔ Any (λ cell. In plan cell i j) plan.cells
-conflict-in-cells plan (side, some, tiles) i j = tiles-graph plan.rule side plan.parts plan.owners plan.cells some tiles i j
+pub conflict-in-cells : (plan : Planned) → IsTiled plan → (i j : ℕ) → Conflict plan.spacing plan.parts plan.owners i j ↔ Any (λ cell. In plan cell i j) plan.cells
+conflict-in-cells plan (side, some, tiles) i j = tiles-graph plan.spacing side plan.parts plan.owners plan.cells some tiles i j
 
 pub joined-sums : (plan : Planned) (b : Board) (j : Joined) → IsTiled plan → Stands (sheet_of plan) b → AreAllPosted b → SumsPosted b j
-    → SumsGraph (Conflict plan.rule plan.parts plan.owners) j
+    → SumsGraph (Conflict plan.spacing plan.parts plan.owners) j
 joined-sums plan b j tiled stands all sums = all-sums plan (conflict-in-cells plan tiled) j (all-posted (sheet_of plan) b j stands all (sums (sheet_of plan) stands))

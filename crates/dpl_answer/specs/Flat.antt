@@ -1,6 +1,7 @@
 -- The decomposition of a layer, as a certificate tells it.
 use Rattle.std.specs.Prelude.{◌≡◌, ◌≤◌, ℕ, List, length, map}
 use Rattle.std.specs.List.{zip}
+use Rattle.dpl_spec_split.specs.declared.Spacing.{Spacing}
 use Rattle.dpl_spec_split.specs.declared.Rect.{Rect}
 use Rattle.dpl_spec_split.specs.Squares.{Covers}
 use Rattle.dpl_spec_split.specs.Decomposition.{Cut, IsCut, Masks, AreMasks, conflicts}
@@ -35,40 +36,40 @@ pub data Flat : Type 0 where
   Clashes : Clash → Flat
 
 -- for each piece of the cycle the least pair of near squares with the next one, the last with the first
-pub record AreNearest (rule : ℕ) (pieces : List (List Rect)) (cycle : List ℕ) (near : List NearLine) : Type 0 where
+pub record AreNearest (spacing : Spacing) (pieces : List (List Rect)) (cycle : List ℕ) (near : List NearLine) : Type 0 where
   pub each : length near ≡ length cycle
-  pub pair : ShowNearest rule pieces cycle near
+  pub pair : ShowNearest spacing pieces cycle near
 
 -- the masks of a cut whose conflict graph has no odd cycle
-pub record IsPaintedCut (rule overlap : ℕ) (cut : Cut) (p : Painted) : Type 0 where
+pub record IsPaintedCut (spacing : Spacing) (overlap : ℕ) (cut : Cut) (p : Painted) : Type 0 where
   pub masks : Masks
-  pub even : ¬ HasOddCycle (conflicts rule cut)
-  pub are_masks : AreMasks rule cut masks
+  pub even : ¬ HasOddCycle (conflicts spacing cut)
+  pub are_masks : AreMasks spacing cut masks
   pub is : p ≡ record {
     a = masks.a;
     b = masks.b;
-    head = head_of rule overlap cut;
+    head = head_of spacing overlap cut;
     pieces = map piece_line
         (zip are_masks.colours cut.keys);
     stitches = map (stitch_line cut.zones cut.sides) masks.stitches;
   }
 
 -- the reported cycle of a cut whose conflict graph has an odd one
-pub record IsClashOfCut (rule overlap : ℕ) (cut : Cut) (x : Clash) : Type 0 where
+pub record IsClashOfCut (spacing : Spacing) (overlap : ℕ) (cut : Cut) (x : Clash) : Type 0 where
   pub cycle : List ℕ
-  pub odd : HasOddCycle (conflicts rule cut)
-  pub reported : IsReported (conflicts rule cut) cycle
-  pub nearest : AreNearest rule cut.pieces cycle x.near
-  pub head : x.head ≡ head_of rule overlap cut
+  pub odd : HasOddCycle (conflicts spacing cut)
+  pub reported : IsReported (conflicts spacing cut) cycle
+  pub nearest : AreNearest spacing cut.pieces cycle x.near
+  pub head : x.head ≡ head_of spacing overlap cut
   pub places : x.cycle ≡ map (place_line cut.keys) cycle
 
-abbrev pub IsFlatCut : ℕ → ℕ → Cut → Flat → Type 0
-IsFlatCut rule overlap cut (Paints p) = IsPaintedCut rule overlap cut p
-IsFlatCut rule overlap cut (Clashes x) = IsClashOfCut rule overlap cut x
+abbrev pub IsFlatCut : Spacing → ℕ → Cut → Flat → Type 0
+IsFlatCut spacing overlap cut (Paints p) = IsPaintedCut spacing overlap cut p
+IsFlatCut spacing overlap cut (Clashes x) = IsClashOfCut spacing overlap cut x
 
 -- the decomposition of a layer, by its features, zones and pieces
-abbrev pub IsFlat : ℕ → ℕ → List Rect → Flat → Type 0
-IsFlat rule overlap layer flat = (cut : Cut) × IsCut rule overlap (Covers layer) cut × IsFlatCut rule overlap cut flat
+abbrev pub IsFlat : Spacing → ℕ → List Rect → Flat → Type 0
+IsFlat spacing overlap layer flat = (cut : Cut) × IsCut spacing overlap (Covers layer) cut × IsFlatCut spacing overlap cut flat
 
 -- lines within the grammar of certificates, and slabs within the range of a layer
 pub record FitsPainted (p : Painted) : Type 0 where

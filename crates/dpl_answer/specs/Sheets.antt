@@ -1,10 +1,11 @@
 -- The conflicts of a plan's tiles, as lists.
-use Rattle.std.specs.Prelude.{ℕ, ◌*◌, ◌==◌, ◌&&◌, ◌||◌, Bool, not, nat_lt, pos, ◌+ℤ◌, ◌-ℤ◌, int_le, int_lt, unsigned_abs, List, []}
-use Rattle.std.specs.Prelude.{length, map, filter, slice_index, slice_index_or}
+use Rattle.std.specs.Prelude.{ℕ, ◌+◌, ◌*◌, ◌==◌, ◌&&◌, ◌||◌, Bool, not, nat_lt, pos, ◌+ℤ◌, ◌-ℤ◌, int_le, int_lt, unsigned_abs, List, []}
+use Rattle.std.specs.Prelude.{length, map, filter, slice_index, slice_index_or, if◌then◌else◌}
 use Rattle.std.specs.List.{flat_map, list_any, range_with_len}
+use Rattle.dpl_spec_split.specs.declared.Spacing.{Spacing}
 use Rattle.dpl_spec_split.specs.declared.Pt.{Pt}
 use Rattle.dpl_spec_split.specs.declared.Rect.{Rect}
-use Rattle.dpl_spec_split.specs.Squares.{d2}
+use Rattle.dpl_spec_split.specs.Squares.{gap}
 use Rattle.dpl_spec_split.specs.Zones.{at}
 use Rattle.dpl_tile.specs.Plans.{Planned}
 use Rattle.dpl_board.specs.Sheets.{Sheet}
@@ -24,9 +25,17 @@ squares_of r = filter (is_in r) (flat_map (λ j. map (λ i. at (r.x0 +ℤ pos i)
 abbrev pub all_squares : List Rect → List Pt
 all_squares slabs = flat_map squares_of slabs
 
--- whether some square of the first in the cell is closer than rule to some square of the second
-abbrev pub is_near_in : ℕ → Rect → List Rect → List Rect → Bool
-is_near_in rule cell a b = list_any (λ p. is_in cell p && list_any (λ q. nat_lt (d2 p q) (rule * rule)) (all_squares b)) (all_squares a)
+-- whether so many columns and rows between two squares are too few
+abbrev pub is_few : Spacing → ℕ → ℕ → Bool
+is_few spacing dx dy = nat_lt (dx * dx + dy * dy) (if dx == 0 || dy == 0 then spacing.rule * spacing.rule else spacing.corner * spacing.corner)
+
+-- whether two squares are near
+abbrev pub is_near : Spacing → Pt → Pt → Bool
+is_near spacing p q = is_few spacing (gap p.x q.x) (gap p.y q.y)
+
+-- whether some square of the first in the cell is near some square of the second
+abbrev pub is_near_in : Spacing → Rect → List Rect → List Rect → Bool
+is_near_in spacing cell a b = list_any (λ p. is_in cell p && list_any (λ q. is_near spacing p q) (all_squares b)) (all_squares a)
 
 abbrev pub part_of : Planned → ℕ → List Rect
 part_of plan k = slice_index_or plan.parts k []
@@ -35,7 +44,7 @@ part_of plan k = slice_index_or plan.parts k []
 abbrev pub is_conflict_in : Planned → Rect → ℕ × ℕ → Bool
 is_conflict_in plan cell e =
     (nat_lt e.0 e.1 && not (slice_index plan.owners e.0 == slice_index plan.owners e.1))
-    && (is_near_in plan.rule cell (part_of plan e.0) (part_of plan e.1) || is_near_in plan.rule cell (part_of plan e.1) (part_of plan e.0))
+    && (is_near_in plan.spacing cell (part_of plan e.0) (part_of plan e.1) || is_near_in plan.spacing cell (part_of plan e.1) (part_of plan e.0))
 
 -- the pairs of numbers below n, in order
 abbrev pub pairs_below : ℕ → List (ℕ × ℕ)

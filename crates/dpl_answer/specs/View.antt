@@ -1,5 +1,6 @@
 -- What is made of a layer, in the words of the definitions.
 use Rattle.std.specs.Prelude.{ℕ, List, length}
+use Rattle.dpl_spec_split.specs.declared.Spacing.{Spacing}
 use Rattle.dpl_spec_split.specs.declared.Rect.{Rect}
 use Rattle.dpl_spec_split.specs.Pieces.{Conflict}
 use Rattle.dpl_spec_split.specs.Graphs.{AreEdges, graph_of}
@@ -26,6 +27,6 @@ flat_view (Masks p) = Paints (painted_view p)
 flat_view (Cycle x) = Clashes (clash_view x)
 
 -- the summary of the conflict graph of pieces with these owners, if that has no odd cycle, or all its edges, if it has one
-abbrev pub AreConflictsOf : ℕ → List (List Rect) → List ℕ → Conflicts → Type 0
-AreConflictsOf rule parts owners (Even joined) = SumsGraph (Conflict rule parts owners) joined × IsEvenBelow (length parts) joined
-AreConflictsOf rule parts owners (Odd edges) = AreEdges (Conflict rule parts owners) edges.items × AreEdgesBelow (length parts) edges.items × HasOddCycle (graph_of edges.items)
+abbrev pub AreConflictsOf : Spacing → List (List Rect) → List ℕ → Conflicts → Type 0
+AreConflictsOf spacing parts owners (Even joined) = SumsGraph (Conflict spacing parts owners) joined × IsEvenBelow (length parts) joined
+AreConflictsOf spacing parts owners (Odd edges) = AreEdges (Conflict spacing parts owners) edges.items × AreEdgesBelow (length parts) edges.items × HasOddCycle (graph_of edges.items)

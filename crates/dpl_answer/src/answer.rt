@@ -1,5 +1,5 @@
 //! The answer to the conflicts of a layer: its masks, or the reported cycle.
-ghost use Rattle.std.specs.Prelude.{IfOk, length};
+ghost use Rattle.std.specs.Prelude.{◌≤◌, IfOk, length};
 ghost use Rattle.std.specs.List.{Contains};
 ghost use Rattle.dpl_spec_split.specs.declared.Pt.{Pt};
 ghost use Rattle.dpl_spec_split.specs.Graphs.{AreEdges, graph_of};
@@ -17,7 +17,7 @@ use crate::conflicts::Conflicts;
 use crate::decomposed::{Clash, Decomposed, Painted};
 use crate::lines::{head, piece_lines, place_lines, stitch_lines};
 use crate::near::near_lines;
-use dpl_base::{Edge, Listed};
+use dpl_base::{Edge, Listed, Spacing};
 use dpl_cut::{BareLayerCut, LayerCut};
 use dpl_masks::{masks, stitches};
 use dpl_odd::odd_cycle;
@@ -25,31 +25,32 @@ use dpl_orient::orient;
 use dpl_stars::Joined;
 use std::alloc::{AllocError, Global};
 
-/// The masks of a cut layer whose conflict graph has no odd cycle, or the cycle that is reported of one: `rule` is how far apart features are on one mask, `overlap` how long a stitch is, both in database units.
+/// The masks of a cut layer whose conflict graph has no odd cycle, or the cycle that is reported of one: `spacing` is how far apart features are on one mask, `overlap` how long a stitch is, in database units.
 ///
 /// The error: out of memory.
 pub fn answer_of(
     alloc: Global,
     cut: BareLayerCut,
     conflicts: &Conflicts,
-    rule: u32,
+    spacing: Spacing,
     overlap: u32,
 ) -> Result<Decomposed, AllocError>
-    requires rule { IsRule rule }
+    requires corner { spacing.corner ≤ spacing.rule }
+    requires rule { IsRule spacing.rule }
     requires overlap { IsRule overlap }
     requires keys { HasPointKeys cut }
-    requires conflicts { AreConflictsOf rule cut.pieces.parts cut.pieces.owners conflicts.now }
-    ensures flat { IfOk result (λ d. OfCompleted cut (λ c. IsFlatCut rule overlap c (flat_view d))) }
+    requires conflicts { AreConflictsOf spacing cut.pieces.parts cut.pieces.owners conflicts.now }
+    ensures flat { IfOk result (λ d. OfCompleted cut (λ c. IsFlatCut spacing overlap c (flat_view d))) }
     ensures fits { IfOk result (λ d. Fits (flat_view d)) }
 {
     let cut = cut.completed(alloc)?;
     match conflicts {
         Conflicts::Even(joined) => {
-            let painted = paint(alloc, cut, joined, rule, overlap)?;
+            let painted = paint(alloc, cut, joined, spacing, overlap)?;
             Ok(Decomposed::Masks(painted))
         }
         Conflicts::Odd(edges) => {
-            let clash = clash(alloc, &cut, edges.as_slice(), rule, overlap)?;
+            let clash = clash(alloc, &cut, edges.as_slice(), spacing, overlap)?;
             Ok(Decomposed::Cycle(clash))
         }
     }
@@ -60,18 +61,19 @@ fn paint(
     alloc: Global,
     cut: LayerCut,
     joined: &Joined,
-    rule: u32,
+    spacing: Spacing,
     overlap: u32,
 ) -> Result<Painted, AllocError>
-    requires rule { IsRule rule }
+    requires corner { spacing.corner ≤ spacing.rule }
+    requires rule { IsRule spacing.rule }
     requires overlap { IsRule overlap }
     requires keys { (p : Pt) → Contains cut.pieces.keys p → IsPoint p }
-    requires sums { SumsGraph (Conflict rule cut.pieces.parts cut.pieces.owners) joined.now }
+    requires sums { SumsGraph (Conflict spacing cut.pieces.parts cut.pieces.owners) joined.now }
     requires even { IsEvenBelow (length cut.pieces.parts) joined.now }
-    ensures painted { IfOk result (λ p. OfAnyCut cut (λ c. IsPaintedCut rule overlap c (painted_view p))) }
+    ensures painted { IfOk result (λ p. OfAnyCut cut (λ c. IsPaintedCut spacing overlap c (painted_view p))) }
     ensures fits { IfOk result (λ p. FitsPainted (painted_view p)) }
 {
-    let head = head(&cut, rule, overlap);
+    let head = head(&cut, spacing, overlap);
     let LayerCut { pieces, .. } = cut;
     let count = pieces.parts().items().len() as u64;
     let colours = orient(alloc, count, pieces.sides(), joined)?;
@@ -94,16 +96,17 @@ fn clash(
     alloc: Global,
     cut: &LayerCut,
     edges: &[Edge],
-    rule: u32,
+    spacing: Spacing,
     overlap: u32,
 ) -> Result<Clash, AllocError>
-    requires rule { IsRule rule }
+    requires corner { spacing.corner ≤ spacing.rule }
+    requires rule { IsRule spacing.rule }
     requires overlap { IsRule overlap }
     requires keys { (p : Pt) → Contains cut.now.pieces.keys p → IsPoint p }
-    requires edges { AreEdges (Conflict rule cut.now.pieces.parts cut.now.pieces.owners) edges.now }
+    requires edges { AreEdges (Conflict spacing cut.now.pieces.parts cut.now.pieces.owners) edges.now }
     requires below { AreEdgesBelow (length cut.now.pieces.parts) edges.now }
     requires odd { HasOddCycle (graph_of edges.now) }
-    ensures clash { IfOk result (λ x. OfAnyCut cut.now (λ c. IsClashOfCut rule overlap c (clash_view x))) }
+    ensures clash { IfOk result (λ x. OfAnyCut cut.now (λ c. IsClashOfCut spacing overlap c (clash_view x))) }
     ensures fits { IfOk result (λ x. FitsClash (clash_view x)) }
 {
     let pieces = &cut.pieces;
@@ -112,9 +115,9 @@ fn clash(
         unreachable!()
     };
     let places = place_lines(alloc, pieces, &cycle)?;
-    let near = near_lines(alloc, pieces, &cycle, rule)?;
+    let near = near_lines(alloc, pieces, &cycle, spacing)?;
     Ok(Clash {
-        head: head(cut, rule, overlap),
+        head: head(cut, spacing, overlap),
         cycle: Listed::of(places),
         near: Listed::of(near),
     })

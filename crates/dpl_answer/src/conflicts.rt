@@ -1,5 +1,5 @@
 //! The conflicts of the pieces of a layer.
-ghost use Rattle.std.specs.Prelude.{◌≡◌, ℕ, IfOk};
+ghost use Rattle.std.specs.Prelude.{◌≤◌, ◌≡◌, ℕ, IfOk};
 ghost use Rattle.dpl_tile.specs.Plans.{IsPlan};
 ghost use Rattle.dpl_tile.specs.Tiles.{IsDoubled};
 ghost use Rattle.dpl_cert.specs.Grammar.{IsRule};
@@ -7,7 +7,7 @@ ghost use Rattle.dpl_answer.specs.Flat.{AreWorkers, IsTile};
 ghost use Rattle.dpl_answer.specs.View.{AreConflictsOf};
 
 use crate::job::{EdgeJob, joined_conflicts};
-use dpl_base::Edge;
+use dpl_base::{Edge, Spacing};
 use dpl_cut::BareLayerCut;
 use dpl_edges::all_edges;
 use dpl_piece::BarePieces;
@@ -27,7 +27,7 @@ pub struct Sharing {
     pub workers: u32,
 }
 
-/// The conflicts of pieces: the pairs of pieces of different features that are closer than the rule.
+/// The conflicts of pieces: the pairs of pieces of different features that are near.
 #[derive(Drop)]
 pub enum Conflicts {
     /// The summary of the conflict graph, which has no odd cycle.
@@ -36,23 +36,24 @@ pub enum Conflicts {
     Odd(Vec<Edge>),
 }
 
-/// The conflicts of a cut layer, whose features are to be `rule` database units apart on one mask.
+/// The conflicts of a cut layer, whose features are to stay `spacing` apart on one mask, in database units.
 ///
 /// The error: out of memory.
 pub fn conflicts_of<R: Threads + Wait + Sync, G: Gate + Sync>(
     rt: &R,
     alloc: Global,
     cut: &BareLayerCut,
-    rule: u32,
+    spacing: Spacing,
     sharing: Sharing,
     gate: &G,
 ) -> Result<Conflicts, AllocError>
-    requires rule { IsRule rule }
+    requires corner { spacing.corner ≤ spacing.rule }
+    requires rule { IsRule spacing.rule }
     requires tile { IsTile sharing.tile }
     requires workers { AreWorkers sharing.workers }
-    ensures { IfOk result (AreConflictsOf rule cut.now.pieces.parts cut.now.pieces.owners) }
+    ensures { IfOk result (AreConflictsOf spacing cut.now.pieces.parts cut.now.pieces.owners) }
 {
-    let job = tiles_of(alloc, &cut.pieces, rule, sharing.tile)?;
+    let job = tiles_of(alloc, &cut.pieces, spacing, sharing.tile)?;
     let joined = joined_conflicts(rt, alloc, sharing.workers, &job, gate)?;
     match &joined {
         Joined::Stars(_) => Ok(Conflicts::Even(joined)),
@@ -67,14 +68,15 @@ pub fn conflicts_of<R: Threads + Wait + Sync, G: Gate + Sync>(
 fn tiles_of<'a>(
     alloc: Global,
     pieces: &'a BarePieces,
-    rule: u32,
+    spacing: Spacing,
     tile: u32,
 ) -> Result<EdgeJob<'a>, AllocError>
-    requires rule { IsRule rule }
+    requires corner { spacing.corner ≤ spacing.rule }
+    requires rule { IsRule spacing.rule }
     requires tile { IsTile tile }
-    ensures { IfOk result (λ job. (side : ℕ) × IsDoubled tile side × IsPlan pieces.now.parts pieces.now.owners rule side job.plan) }
+    ensures { IfOk result (λ job. (side : ℕ) × IsDoubled tile side × IsPlan pieces.now.parts pieces.now.owners spacing side job.plan) }
 {
     let side = side_for(pieces.parts(), tile);
-    let plan = plan(alloc, pieces.parts(), pieces.owner(), rule, side)?;
+    let plan = plan(alloc, pieces.parts(), pieces.owner(), spacing, side)?;
     Ok(EdgeJob { plan })
 }

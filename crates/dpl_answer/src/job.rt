@@ -42,7 +42,7 @@ pub(crate) fn joined_conflicts<R: Threads + Wait + Sync, G: Gate + Sync>(
 ) -> Result<Joined, AllocError>
     requires tiled { IsTiled job.now.plan }
     requires workers { (0 < workers) × (workers ≤ 64) }
-    ensures { IfOk result (λ j. SumsGraph (Conflict job.now.plan.rule job.now.plan.parts job.now.plan.owners) j) }
+    ensures { IfOk result (λ j. SumsGraph (Conflict job.now.plan.spacing job.now.plan.parts job.now.plan.owners) j) }
 {
     let board = run_pool(rt, alloc, workers, job, gate)?;
     board.joined()

@@ -9,7 +9,7 @@ ghost use Rattle.dpl_cert.specs.Grammar.{IsHead, IsNumber, IsPiece, IsPlace, IsP
 ghost use Rattle.dpl_law_verdict.specs.Own.{head_of, piece_line, place_line, stitch_line};
 ghost use Rattle.dpl_cut.specs.Cutting.{OfAnyCut};
 
-use dpl_base::{Id, Zone};
+use dpl_base::{Id, Spacing, Zone};
 use dpl_cert::{Head, Key, PieceLine, PlaceLine, StitchLine};
 use dpl_cut::LayerCut;
 use dpl_orient::Mask;
@@ -17,15 +17,15 @@ use dpl_piece::Pieces;
 use std::alloc::{AllocError, Global};
 
 /// The rules, and how many features, pieces and zones there are.
-pub fn head(cut: &LayerCut, rule: u32, overlap: u32) -> Head
-    requires rule { IsRule rule }
+pub fn head(cut: &LayerCut, spacing: Spacing, overlap: u32) -> Head
+    requires rule { IsRule spacing.rule }
     requires overlap { IsRule overlap }
-    ensures value { OfAnyCut cut.now (λ c. result ≡ head_of rule overlap c) }
+    ensures value { OfAnyCut cut.now (λ c. result ≡ head_of spacing overlap c) }
     ensures pieces { result.pieces ≡ length cut.now.pieces.parts }
     ensures fits { IsHead result }
 {
     Head {
-        rule,
+        rule: spacing.rule,
         overlap,
         features: feature_count(cut),
         pieces: cut.pieces.parts().items().len() as u64,

@@ -1,5 +1,5 @@
 //! Where the pieces of a cycle are near.
-ghost use Rattle.std.specs.Prelude.{◌<◌, ◌%◌, ◌+◌, ℕ, IfOk, length, slice_index};
+ghost use Rattle.std.specs.Prelude.{◌≤◌, ◌<◌, ◌%◌, ◌+◌, ℕ, IfOk, length, slice_index};
 ghost use Rattle.std.specs.List.{AllByRecursion};
 ghost use Rattle.dpl_spec_split.specs.Squares.{AreNear};
 ghost use Rattle.dpl_spec_split.specs.Zones.{part_at};
@@ -7,7 +7,7 @@ ghost use Rattle.dpl_cert.specs.Grammar.{IsNear};
 ghost use Rattle.dpl_nearest.specs.Nearest.{IsNearestPair};
 ghost use Rattle.dpl_answer.specs.Flat.{AreNearest};
 
-use dpl_base::Id;
+use dpl_base::{Id, Spacing};
 use dpl_cert::NearLine;
 use dpl_nearest::nearest;
 use dpl_piece::Pieces;
@@ -20,15 +20,16 @@ fn near_line(
     parts: &[Slabs],
     i: usize,
     j: usize,
-    rule: u32,
+    spacing: Spacing,
 ) -> Result<NearLine, AllocError>
+    requires corner { spacing.corner ≤ spacing.rule }
     requires first { i < length parts.now }
     requires second { j < length parts.now }
-    requires near { AreNear rule (part_at parts.now i) (part_at parts.now j) }
-    ensures nearest { IfOk result (λ line. IsNearestPair rule (part_at parts.now i) (part_at parts.now j) line.from line.to) }
+    requires near { AreNear spacing (part_at parts.now i) (part_at parts.now j) }
+    ensures nearest { IfOk result (λ line. IsNearestPair spacing (part_at parts.now i) (part_at parts.now j) line.from line.to) }
     ensures within { IfOk result (λ line. IsNear line) }
 {
-    let Some((from, to)) = nearest(alloc, parts[i].rects(), parts[j].rects(), rule)? else {
+    let Some((from, to)) = nearest(alloc, parts[i].rects(), parts[j].rects(), spacing)? else {
         unreachable!()
     };
     Ok(NearLine { from, to })
@@ -39,11 +40,12 @@ pub fn near_lines(
     alloc: Global,
     pieces: &Pieces,
     cycle: &[Id],
-    rule: u32,
+    spacing: Spacing,
 ) -> Result<Vec<NearLine>, AllocError>
+    requires corner { spacing.corner ≤ spacing.rule }
     requires known { (k : ℕ) → k < length cycle.now → slice_index cycle.now k < length pieces.now.parts }
-    requires near { (k : ℕ) → k < length cycle.now → AreNear rule (part_at pieces.now.parts (slice_index cycle.now k)) (part_at pieces.now.parts (slice_index cycle.now ((k + 1) % length cycle.now))) }
-    ensures nearest { IfOk result (λ v. AreNearest rule pieces.now.parts cycle.now v.items) }
+    requires near { (k : ℕ) → k < length cycle.now → AreNear spacing (part_at pieces.now.parts (slice_index cycle.now k)) (part_at pieces.now.parts (slice_index cycle.now ((k + 1) % length cycle.now))) }
+    ensures nearest { IfOk result (λ v. AreNearest spacing pieces.now.parts cycle.now v.items) }
     ensures within { IfOk result (λ v. AllByRecursion IsNear v.items) }
 {
     let parts = pieces.parts().items();
@@ -51,7 +53,7 @@ pub fn near_lines(
     for k in 0..cycle.len() {
         let piece = cycle[k];
         let next = cycle[(k + 1) % cycle.len()];
-        let line = near_line(alloc, parts, piece as usize, next as usize, rule)?;
+        let line = near_line(alloc, parts, piece as usize, next as usize, spacing)?;
         lines.push(line)?;
     }
     Ok(lines)

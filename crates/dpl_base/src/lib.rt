@@ -8,7 +8,7 @@ mod wide;
 
 ghost use Rattle.std.specs.Prelude.{◌≡◌, ◌+◌, ◌*◌, ◌^◌, ◌<◌, ◌≤◌, ◌<ℤ◌, ◌↔◌, IsTrue, IsNone, IfSome, unsigned_abs};
 ghost use Rattle.dpl_spec_split.specs.Loops.{IsPointWithin, farthest};
-ghost use Rattle.dpl_spec_split.specs.Squares.{Has, IsSquaredDistance, IsSolidWithin, AreNear, AreTouching, IsReach};
+ghost use Rattle.dpl_spec_split.specs.Squares.{Has, IsSquaredDistance, IsSolidWithin, AreNear, AreTouching, IsReach, TooFew};
 ghost use Rattle.dpl_base.specs.Spans.{IsSpanGap};
 
 pub use crate::bounds::round_one;
@@ -16,7 +16,7 @@ pub use crate::loops::Loop;
 pub use crate::transposing::{all_transposed, transpose_all, transposed};
 pub use crate::wide::WideRect;
 pub use dpl_list::{Edge, Id, Listed, give_back, numbers_below, short_id};
-pub use dpl_spec_split::{Pt, Rect, Zone};
+pub use dpl_spec_split::{Pt, Rect, Spacing, Zone};
 
 /// How far from 0 a coordinate of a layer may lie, in database units.
 pub const FARTHEST: i64 = 1_000_000_000;
@@ -55,13 +55,33 @@ pub fn gap2(a: &Rect, b: &Rect) -> u128
     across * across + up * up
 }
 
-/// Whether some square of `a` is closer than `rule` to some square of `b`.
-pub fn near(a: &Rect, b: &Rect, rule: u32) -> bool
+/// Whether so many columns and rows between two squares, in database units, are too few for one mask.
+pub fn too_few(spacing: Spacing, across: u64, up: u64) -> bool
+    requires corner { spacing.corner ≤ spacing.rule }
+    ensures { IsTrue result ↔ TooFew spacing across up }
+{
+    if across >= spacing.rule as u64 || up >= spacing.rule as u64 {
+        return false;
+    }
+    let least = if across > 0 && up > 0 {
+        spacing.corner
+    } else {
+        spacing.rule
+    };
+    let (dx, dy) = (across as u128, up as u128);
+    dx * dx + dy * dy < least as u128 * least as u128
+}
+
+/// Whether some square of `a` is near some square of `b`: closer than the spacing's corner rule where columns and rows lie between the two, else closer than its rule.
+pub fn near(a: &Rect, b: &Rect, spacing: Spacing) -> bool
     requires solid_a { IsSolidWithin (2 ^ 61) a.now }
     requires solid_b { IsSolidWithin (2 ^ 61) b.now }
-    ensures { IsTrue result ↔ AreNear rule (Has a.now) (Has b.now) }
+    requires corner { spacing.corner ≤ spacing.rule }
+    ensures { IsTrue result ↔ AreNear spacing (Has a.now) (Has b.now) }
 {
-    gap2(a, b) < rule as u128 * rule as u128
+    let across = span_gap(a.x0, a.x1, b.x0, b.x1);
+    let up = span_gap(a.y0, a.y1, b.y0, b.y1);
+    too_few(spacing, across, up)
 }
 
 /// Whether some square of `a` shares at least a corner with some square of `b`.
@@ -73,14 +93,21 @@ pub fn touches(a: &Rect, b: &Rect) -> bool
     gap2(a, b) == 0
 }
 
-/// How many columns away squares that lie `dy` rows apart are still closer than `rule`.
-pub fn reach(rule: u32, dy: u64) -> Option<u32>
-    ensures none { IsNone result ↔ (rule ≤ dy) }
-    ensures some { IfSome result (λ r. IsReach rule dy r) }
+/// The most columns that may lie between near squares with `dy` rows between them, if any may, in database units.
+pub fn reach(spacing: Spacing, dy: u64) -> Option<u32>
+    requires corner { spacing.corner ≤ spacing.rule }
+    ensures none { IsNone result ↔ (spacing.rule ≤ dy) }
+    ensures some { IfSome result (λ r. IsReach spacing dy r) }
 {
-    if dy >= rule as u64 {
-        return None;
+    if dy >= spacing.rule as u64 {
+        None
+    } else if dy == 0 {
+        Some(spacing.rule - 1)
+    } else if dy >= spacing.corner as u64 {
+        Some(0)
+    } else {
+        let corner = spacing.corner as u64;
+        let left = corner * corner - dy * dy - 1;
+        Some(left.isqrt() as u32)
     }
-    let left = rule as u64 * rule as u64 - dy * dy - 1;
-    Some(left.isqrt() as u32)
 }

@@ -4,6 +4,7 @@ use Rattle.std.specs.Prelude.{◌↔◌}
 use Rattle.std.specs.List.{All, Contains}
 use Rattle.std.proofs.lemmas.Int.{ints}
 use Rattle.std.proofs.lemmas.List.{get_or_default}
+use Rattle.dpl_spec_split.specs.declared.Spacing.{Spacing}
 use Rattle.dpl_spec_split.specs.declared.Pt.{Pt}
 use Rattle.dpl_spec_split.specs.declared.Rect.{Rect}
 use Rattle.dpl_spec_split.specs.Squares.{Covers, Has}
@@ -82,8 +83,8 @@ module _ (layer : List Rect) (features : List (List Rect)) (items : List Item) (
     covered-at : (p : Pt) → Covers mask p → (i : ℕ) × IsAt mask i p
     covered-at p (i, r, i_in, is, has) = (i, (r, i_in, is, has))
 
-    pub foreign-close : (rule : ℕ) (p q : Pt) → AreForeign rule mask owners p q ↔ AreTooClose rule (Covers layer) (Covers mask) p q
-    foreign-close rule p q = (
+    pub foreign-close : (spacing : Spacing) (p q : Pt) → AreForeign spacing mask owners p q ↔ AreTooClose spacing (Covers layer) (Covers mask) p q
+    foreign-close spacing p q = (
       λ (i, j, at_p, at_q, apart, close). (
           let a = slab-feature i p at_p in
           let b = slab-feature j q at_q in

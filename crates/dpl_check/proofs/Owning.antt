@@ -5,12 +5,13 @@ use Rattle.std.specs.List.{All, Contains}
 use Rattle.std.proofs.lemmas.Int.{ints}
 use Rattle.std.proofs.lemmas.Bool.{cases_eq}
 use Rattle.std.proofs.lemmas.List.{get_or_default}
+use Rattle.dpl_spec_split.specs.declared.Spacing.{Spacing}
 use Rattle.dpl_spec_split.specs.declared.Pt.{Pt}
 use Rattle.dpl_spec_split.specs.declared.Rect.{Rect}
-use Rattle.dpl_spec_split.specs.Squares.{Region, Has, Precedes, IsLeast, d2}
+use Rattle.dpl_spec_split.specs.Squares.{Region, Has, Precedes, IsLeast, Near}
 use Rattle.dpl_spec_split.specs.Loops.{farthest, AreRectsWithin}
 use Rattle.dpl_spec_split.specs.Slabs.{IsSolid}
-use Rattle.dpl_spec_split.proofs.SquareLaws.{d2-sym}
+use Rattle.dpl_spec_split.proofs.SquareLaws.{Near-sym}
 use Rattle.dpl_spec_split.proofs.Ordered.{Contains-nil}
 use Rattle.dpl_tree.specs.declared.items.Item.{Item}
 use Rattle.dpl_tree.specs.declared.owners.Owners.TheVariants.{All as Everyone, But, Only}
@@ -78,41 +79,41 @@ up-to-trans p q r (inr h) (inl f) = subst (λ u. IsUpTo p u) f (inr h)
 up-to-trans p q r (inr h) (inr k) = inr (Precedes-trans p q r h k)
 
 -- a set is another one and the squares of x that are near b
-improved-least : (rule : ℕ) (x b a c : Region) (old new : Option Pt)
-    → ((p : Pt) → c p → a p ⊎ near_part rule x b p) → ((p : Pt) → a p → c p) → ((p : Pt) → near_part rule x b p → c p)
-    → IsLeastOf a old → IsImproved rule x b old new → IsLeastOf c new
-improved-least rule x b a c None None split wide near far none = λ (p, p_in). elim (split p p_in) [ inl h ↦ far (p, h) | inr (h, (q, q_in, close)) ↦ none (p, q, h, q_in, close) ]
-improved-least rule x b a c None (Some m) split wide near far least = record {
+improved-least : (spacing : Spacing) (x b a c : Region) (old new : Option Pt)
+    → ((p : Pt) → c p → a p ⊎ near_part spacing x b p) → ((p : Pt) → a p → c p) → ((p : Pt) → near_part spacing x b p → c p)
+    → IsLeastOf a old → IsImproved spacing x b old new → IsLeastOf c new
+improved-least spacing x b a c None None split wide near far none = λ (p, p_in). elim (split p p_in) [ inl h ↦ far (p, h) | inr (h, (q, q_in, close)) ↦ none (p, q, h, q_in, close) ]
+improved-least spacing x b a c None (Some m) split wide near far least = record {
   inside = near m least.inside;
   first = λ q q_in. elim (split q q_in) [ inl h ↦ absurd (far (q, h)) | inr h ↦ least.first q h ];
 }
-improved-least rule x b a c (Some p) None split wide near least bad = absurd bad
-improved-least rule x b a c (Some p) (Some m) split wide near least low = record {
+improved-least spacing x b a c (Some p) None split wide near least bad = absurd bad
+improved-least spacing x b a c (Some p) (Some m) split wide near least low = record {
   inside = elim low.is [ inl e ↦ subst (λ u. c u) (sym e) (wide p least.inside) | inr h ↦ near m h ];
   first = λ q q_in. elim (split q q_in) [ inl h ↦ up-to-trans m p q low.before (least.first q h) | inr h ↦ low.first q h ];
 }
 
-module _ (rule : ℕ) (rects : List Rect) (owners : List ℕ) (items : List Item) where
-  pub foreign-none : IsLeastOf (foreign rule rects owners items 0) None
+module _ (spacing : Spacing) (rects : List Rect) (owners : List ℕ) (items : List Item) where
+  pub foreign-none : IsLeastOf (foreign spacing rects owners items 0) None
   foreign-none = λ (p, (i, l, at, near)). omega (arith, l)
 
   pub foreign-more : (n : ℕ) (x : Rect) (o : ℕ) (old new : Option Pt) → n < length rects → x ≡ get_or rects n x → o ≡ get_or owners n 0
-      → IsLeastOf (foreign rule rects owners items n) old
-      → IsImproved rule (Has x) (ItemCovers (But o) items) old new → IsLeastOf (foreign rule rects owners items (n + 1)) new
+      → IsLeastOf (foreign spacing rects owners items n) old
+      → IsImproved spacing (Has x) (ItemCovers (But o) items) old new → IsLeastOf (foreign spacing rects owners items (n + 1)) new
   foreign-more n x o old new n_in x_is o_is =
-      improved-least rule (Has x) (ItemCovers (But o) items) (foreign rule rects owners items n) (foreign rule rects owners items (n + 1)) old new
+      improved-least spacing (Has x) (ItemCovers (But o) items) (foreign spacing rects owners items n) (foreign spacing rects owners items (n + 1)) old new
       (λ p (i, l, (r, i_in, is, has), near). elim (cases_eq i n) [
         | inl e ↦ inr (
           subst (λ (u : Rect). Has u p) (sym is ∙ (ap (λ m. get_or rects m r) e ∙ (get_or_default rects n r x n_in ∙ sym x_is))) has,
-          subst (λ k. (q : Pt) × ItemCovers (But k) items q × (d2 p q < rule * rule)) (ap (λ m. get_or owners m 0) e ∙ sym o_is) near,
+          subst (λ k. (q : Pt) × ItemCovers (But k) items q × (Near spacing p q)) (ap (λ m. get_or owners m 0) e ∙ sym o_is) near,
         )
         | inr ne ↦ inl (i, omega (arith, l, ne), (r, i_in, is, has), near)
       ])
       (λ p (i, l, at, near). (i, omega (arith, l), at, near))
-      (λ p (has, near). (n, omega arith, (x, n_in, sym x_is, has), subst (λ k. (q : Pt) × ItemCovers (But k) items q × (d2 p q < rule * rule)) o_is near))
+      (λ p (has, near). (n, omega arith, (x, n_in, sym x_is, has), subst (λ k. (q : Pt) × ItemCovers (But k) items q × (Near spacing p q)) o_is near))
 
-  pub foreign-all : (n : ℕ) (o : Option Pt) → n ≡ length rects → IsLeastOf (foreign rule rects owners items n) o → IsLeastOf (foreign rule rects owners items (length rects)) o
-  foreign-all n o all h = subst (λ m. IsLeastOf (foreign rule rects owners items m) o) all h
+  pub foreign-all : (n : ℕ) (o : Option Pt) → n ≡ length rects → IsLeastOf (foreign spacing rects owners items n) o → IsLeastOf (foreign spacing rects owners items (length rects)) o
+  foreign-all n o all h = subst (λ m. IsLeastOf (foreign spacing rects owners items m) o) all h
 
 -- a square of rectangles within range
 pub at-within : (rects : List Rect) (i : ℕ) (p : Pt) → AreRectsWithin farthest rects → IsAt rects i p → (unsigned_abs p.x ≤ farthest) × (unsigned_abs p.y ≤ farthest)
@@ -124,9 +125,9 @@ at-within rects i p within (r, i_in, is, has) =
     let d = has.high in
     (omega (arith, ints, w.left, w.right, a, b), omega (arith, ints, w.low, w.high, c, d))
 
-pub foreign-within : (rule : ℕ) (rects : List Rect) (owners : List ℕ) (items : List Item) (n : ℕ) (p : Pt) → AreRectsWithin farthest rects → foreign rule rects owners items n p
+pub foreign-within : (spacing : Spacing) (rects : List Rect) (owners : List ℕ) (items : List Item) (n : ℕ) (p : Pt) → AreRectsWithin farthest rects → foreign spacing rects owners items n p
     → (unsigned_abs p.x ≤ farthest) × (unsigned_abs p.y ≤ farthest)
-foreign-within rule rects owners items n p within (i, l, at, near) = at-within rects i p within at
+foreign-within spacing rects owners items n p within (i, l, at, near) = at-within rects i p within at
 
 -- the items are solid rectangles
 pub owned-solid : (rects : List Rect) (owners : List ℕ) (items : List Item) → AreOwnedItems rects owners items → All IsSolid rects → AreSolidItems items
@@ -142,19 +143,19 @@ single-solid p owner items single r k item =
       tall = let t : p.y <ℤ (p.y +ℤ pos 1) = omega (arith, ints) in t;
     })
 
-module _ (rule : ℕ) (rects : List Rect) (owners : List ℕ) (items : List Item) (are : AreOwnedItems rects owners items) where
+module _ (spacing : Spacing) (rects : List Rect) (owners : List ℕ) (items : List Item) (are : AreOwnedItems rects owners items) where
   owned-rect : (j : ℕ) (q : Pt) → IsAt rects j q → (s : Rect) × HasItem items s (get_or owners j 0) × Has s q
   owned-rect j q (s, j_in, is, has) = (s, (are s (get_or owners j 0)).1 (j, j_in, j_in, is, refl), has)
 
-  pub foreign-first : (p q : Pt) → AreForeign rule rects owners p q → foreign rule rects owners items (length rects) p
+  pub foreign-first : (p q : Pt) → AreForeign spacing rects owners p q → foreign spacing rects owners items (length rects) p
   foreign-first p q (i, j, (r, i_in, is, has), at_q, apart, close) =
       let (s, item, has_q) = owned-rect j q at_q in
       (i, i_in, (r, i_in, is, has), (q, (s, get_or owners j 0, item, λ e. apart (sym e), has_q), close))
 
-  pub none-foreign : IsLeastOf (foreign rule rects owners items (length rects)) None → IsLeastPairOf (AreForeign rule rects owners) None
+  pub none-foreign : IsLeastOf (foreign spacing rects owners items (length rects)) None → IsLeastPairOf (AreForeign spacing rects owners) None
   none-foreign none = λ p q h. none (p, foreign-first p q h)
 
-  pub foreign-covered : (n : ℕ) (p : Pt) → foreign rule rects owners items n p → ItemCovers Everyone items p
+  pub foreign-covered : (n : ℕ) (p : Pt) → foreign spacing rects owners items n p → ItemCovers Everyone items p
   foreign-covered n p (i, l, at, near) = let (s, item, has) = owned-rect i p at in (s, get_or owners i 0, item, tt, has)
 
   module _ (once : IsOwnedOnce rects owners) (first : Pt) (owner : ℕ) (own : ItemCovers (Only owner) items first) (single : List Item) (one : IsSingle first owner single) where
@@ -167,7 +168,7 @@ module _ (rule : ℕ) (rects : List Rect) (owners : List ℕ) (items : List Item
     owner-of : (i : ℕ) → IsAt rects i first → get_or owners i 0 ≡ owner
     owner-of i at = let (j, at_j, is) = owned-at in once i j first at at_j ∙ is
 
-    second-single : (q : Pt) → AreForeign rule rects owners first q → foreign rule rects owners single (length rects) q
+    second-single : (q : Pt) → AreForeign spacing rects owners first q → foreign spacing rects owners single (length rects) q
     second-single q (i, j, at, (s, j_in, is, has), apart, close) = (
       j,
       j_in,
@@ -175,29 +176,29 @@ module _ (rule : ℕ) (rects : List Rect) (owners : List ℕ) (items : List Item
       (
         first,
         (unit_of first, owner, (one (unit_of first) owner).1 (refl, refl), (λ e. apart (owner-of i at ∙ e)), unit-self first),
-        subst (λ n. n < rule * rule) (d2-sym first q) close,
+        Near-sym spacing first q close,
       ),
     )
 
-    single-second : (n : ℕ) (q : Pt) → foreign rule rects owners single n q → AreForeign rule rects owners first q
+    single-second : (n : ℕ) (q : Pt) → foreign spacing rects owners single n q → AreForeign spacing rects owners first q
     single-second n q (j, l, at_q, (t, (r, k, item, apart, has), close)) =
         let (e, is) = (one r k).0 item in
         let same : t ≡ first = unit-only first t (subst (λ (u : Rect). Has u t) (sym is) has) in
         let (i, at, own_i) = owned-at in
-        (i, j, at, at_q, (λ f. apart (e ∙ (sym own_i ∙ f))), subst (λ n. n < rule * rule) (d2-sym q first) (subst (λ (u : Pt). d2 q u < rule * rule) same close))
+        (i, j, at, at_q, (λ f. apart (e ∙ (sym own_i ∙ f))), Near-sym spacing q first (subst (λ (u : Pt). Near spacing q u) same close))
 
     -- some second square is there
-    pub some-second : foreign rule rects owners items (length rects) first → IsLeastOf (foreign rule rects owners single (length rects)) None → ⊥
+    pub some-second : foreign spacing rects owners items (length rects) first → IsLeastOf (foreign spacing rects owners single (length rects)) None → ⊥
     some-second (i, l, at, (q, (s, k, item, apart, has), close)) none =
         let (j, m, j_in, is, own_j) = (are s k).0 item in
         none (q, second-single q (i, j, at, (s, j_in, is, has), (λ e. apart (sym own_j ∙ sym e)), close))
 
-    pub least-foreign : (second : Pt) → IsLeast (foreign rule rects owners items (length rects)) first → IsLeast (foreign rule rects owners single (length rects)) second
-        → IsLeastPair (AreForeign rule rects owners) first second
+    pub least-foreign : (second : Pt) → IsLeast (foreign spacing rects owners items (length rects)) first → IsLeast (foreign spacing rects owners single (length rects)) second
+        → IsLeastPair (AreForeign spacing rects owners) first second
     least-foreign second a b = record {
       are = single-second (length rects) second b.inside;
       least = λ r s h. elim (a.first r (foreign-first r s h)) [
         | inr before ↦ inl before
-        | inl same ↦ inr (same, b.first s (second-single s (subst (λ u. AreForeign rule rects owners u s) (sym same) h)))
+        | inl same ↦ inr (same, b.first s (second-single s (subst (λ u. AreForeign spacing rects owners u s) (sym same) h)))
       ];
     }

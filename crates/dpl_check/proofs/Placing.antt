@@ -4,9 +4,10 @@ use Rattle.std.specs.Prelude.{◌↔◌}
 use Rattle.std.proofs.lemmas.Int.{ints}
 use Rattle.std.proofs.lemmas.Bool.{cases_eq, cases_lt, cases_order, false≢true}
 use Rattle.std.proofs.lemmas.List.{get_or_default, get_or_past, get_or-set_same, get_or-set_other, length-set}
+use Rattle.dpl_spec_split.specs.declared.Spacing.{Spacing}
 use Rattle.dpl_spec_split.specs.declared.Pt.{Pt}
 use Rattle.dpl_spec_split.specs.declared.Rect.{Rect}
-use Rattle.dpl_spec_split.specs.Squares.{AreNear, Covers, Has, d2}
+use Rattle.dpl_spec_split.specs.Squares.{AreNear, Covers, Has, Near}
 use Rattle.dpl_spec_split.specs.Zones.{part_at}
 use Rattle.dpl_spec_split.proofs.SlabLaws.{Covers-member, member-Covers}
 use Rattle.dpl_slabs.specs.Parts.{AreParts}
@@ -56,17 +57,17 @@ of-none parts items p piece of_parts none there =
 pub point-fits : (p : Pt) → IsPoint p → FitsIn32Bits (unit_of p)
 point-fits p point = unit_fits p (omega (arith, ints, point.x.0, point.x.1)) (omega (arith, ints, point.y.0, point.y.1))
 
-pub near-units : (rule : ℕ) (p q : Pt) (u v : Rect) → u ≡ unit_of p → v ≡ unit_of q → AreNear rule (Has u) (Has v) ↔ (d2 p q < rule * rule)
-near-units rule p q u v e f = (
-  λ (s, t, s_in, t_in, close). subst (λ (x : Pt). d2 x q < rule * rule) (unit-only p s (subst (λ (w : Rect). Has w s) e s_in))
-      (subst (λ (x : Pt). d2 s x < rule * rule) (unit-only q t (subst (λ (w : Rect). Has w t) f t_in)) close),
+pub near-units : (spacing : Spacing) (p q : Pt) (u v : Rect) → u ≡ unit_of p → v ≡ unit_of q → AreNear spacing (Has u) (Has v) ↔ (Near spacing p q)
+near-units spacing p q u v e f = (
+  λ (s, t, s_in, t_in, close). subst (λ (x : Pt). Near spacing x q) (unit-only p s (subst (λ (w : Rect). Has w s) e s_in))
+      (subst (λ (x : Pt). Near spacing s x) (unit-only q t (subst (λ (w : Rect). Has w t) f t_in)) close),
   λ close. (p, q, subst (λ (w : Rect). Has w p) (sym e) (unit-self p), subst (λ (w : Rect). Has w q) (sym f) (unit-self q), close),
 )
 
-module _ (rule : ℕ) (features : List (List Rect)) (pieces : CutPieces) (cycle : List PlaceLine) (near : List NearLine) (k : ℕ)
+module _ (spacing : Spacing) (features : List (List Rect)) (pieces : CutPieces) (cycle : List PlaceLine) (near : List NearLine) (k : ℕ)
     (k_in : k < length near) (place : PlaceLine) (e : NearLine) where
-  good-right : (line : NearLine) → IsGoodPlace rule (cut_view features pieces) cycle place (piece_of cycle ((k + 1) % length cycle)) k line
-      → IsRightPlace rule pieces place (piece_of cycle ((k + 1) % length cycle)) line
+  good-right : (line : NearLine) → IsGoodPlace spacing (cut_view features pieces) cycle place (piece_of cycle ((k + 1) % length cycle)) k line
+      → IsRightPlace spacing pieces place (piece_of cycle ((k + 1) % length cycle)) line
   good-right line good = record {
     known = good.known;
     key = good.key;
@@ -74,19 +75,19 @@ module _ (rule : ℕ) (features : List (List Rect)) (pieces : CutPieces) (cycle 
     apart = good.apart;
   }
 
-  pub not-right-bad : (IsRightPlace rule pieces place (piece_of cycle ((k + 1) % length cycle)) (get_or near k e) → ⊥)
-      → IsBadPlace rule (cut_view features pieces) cycle near k place
-  not-right-bad never d good = never (subst (λ line. IsRightPlace rule pieces place (piece_of cycle ((k + 1) % length cycle)) line)
+  pub not-right-bad : (IsRightPlace spacing pieces place (piece_of cycle ((k + 1) % length cycle)) (get_or near k e) → ⊥)
+      → IsBadPlace spacing (cut_view features pieces) cycle near k place
+  not-right-bad never d good = never (subst (λ line. IsRightPlace spacing pieces place (piece_of cycle ((k + 1) % length cycle)) line)
       (get_or_default near k d e k_in) (good-right (get_or near k d) good))
 
   pub stood-bad : (stood : List Bool) (b : Bool) → AreMarked (length pieces.parts) cycle k stood
-      → IsRightPlace rule pieces place (piece_of cycle ((k + 1) % length cycle)) (get_or near k e) → get_or stood place.piece b ≡ true
-      → IsBadPlace rule (cut_view features pieces) cycle near k place
+      → IsRightPlace spacing pieces place (piece_of cycle ((k + 1) % length cycle)) (get_or near k e) → get_or stood place.piece b ≡ true
+      → IsBadPlace spacing (cut_view features pieces) cycle near k place
   stood-bad stood b marked right is d good = let (j, l, same) = (marked.exactly place.piece b right.known).0 is in good.new j l same
 
   pub right-good : (stood : List Bool) (b : Bool) → AreMarked (length pieces.parts) cycle k stood
-      → IsRightPlace rule pieces place (piece_of cycle ((k + 1) % length cycle)) (get_or near k e) → get_or stood place.piece b ≡ false
-      → IsBadPlace rule (cut_view features pieces) cycle near k place → ⊥
+      → IsRightPlace spacing pieces place (piece_of cycle ((k + 1) % length cycle)) (get_or near k e) → get_or stood place.piece b ≡ false
+      → IsBadPlace spacing (cut_view features pieces) cycle near k place → ⊥
   right-good stood b marked right is bad = bad e (record {
     known = right.known;
     new = λ j l same. false≢true (sym is ∙ (marked.exactly place.piece b right.known).1 (j, l, same));

@@ -1,9 +1,10 @@
 -- Rectangles with owners.
 use Rattle.std.specs.Prelude.{◌≡◌, ◌≢◌, ℕ, ◌*◌, ◌<◌, ◌↔◌, List, length, slice_index, slice_index_or}
 use Rattle.std.specs.List.{AllZip}
+use Rattle.dpl_spec_split.specs.declared.Spacing.{Spacing}
 use Rattle.dpl_spec_split.specs.declared.Pt.{Pt}
 use Rattle.dpl_spec_split.specs.declared.Rect.{Rect}
-use Rattle.dpl_spec_split.specs.Squares.{Region, Has, d2}
+use Rattle.dpl_spec_split.specs.Squares.{Region, Has, Near}
 use Rattle.dpl_spec_split.specs.Zones.{at}
 use Rattle.dpl_tree.specs.declared.items.Item.{Item}
 use Rattle.dpl_tree.specs.declared.owners.Owners.TheVariants.{But, Only}
@@ -30,14 +31,14 @@ abbrev pub AreOwnedItems : List Rect → List ℕ → List Item → Type 0
 AreOwnedItems rects owners items = (r : Rect) (k : ℕ) → HasItem items r k ↔ IsOwnedBelow (length rects) rects owners r k
 
 -- the squares of the first n rectangles that are near another owner's item
-abbrev pub foreign : ℕ → List Rect → List ℕ → List Item → ℕ → Region
-foreign rule rects owners items n p =
-    (i : ℕ) × (i < n) × IsAt rects i p × ((q : Pt) × ItemCovers (But (slice_index owners i)) items q × (d2 p q < rule * rule))
+abbrev pub foreign : Spacing → List Rect → List ℕ → List Item → ℕ → Region
+foreign spacing rects owners items n p =
+    (i : ℕ) × (i < n) × IsAt rects i p × ((q : Pt) × ItemCovers (But (slice_index owners i)) items q × (Near spacing p q))
 
 -- squares of rectangles of two owners that are near
-abbrev pub AreForeign : ℕ → List Rect → List ℕ → Pt → Pt → Type 0
-AreForeign rule rects owners p q =
-    (i j : ℕ) × IsAt rects i p × IsAt rects j q × (slice_index owners i ≢ slice_index owners j) × (d2 p q < rule * rule)
+abbrev pub AreForeign : Spacing → List Rect → List ℕ → Pt → Pt → Type 0
+AreForeign spacing rects owners p q =
+    (i j : ℕ) × IsAt rects i p × IsAt rects j q × (slice_index owners i ≢ slice_index owners j) × (Near spacing p q)
 
 -- a square has one owner
 abbrev pub IsOwnedOnce : List Rect → List ℕ → Type 0

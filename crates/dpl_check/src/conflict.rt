@@ -1,44 +1,46 @@
 //! Checks an odd cycle of a layer's pieces.
-ghost use Rattle.std.specs.Prelude.{IfOk};
+ghost use Rattle.std.specs.Prelude.{◌≤◌, IfOk};
 ghost use Rattle.dpl_cert.specs.Grammar.{IsCert, IsRule};
 ghost use Rattle.dpl_spec_verdict.specs.Conflicts.{IsOfConflict, IsVerdictOfConflict};
 
 use crate::counts::{counts_differ, counts_of, rules_differ};
 use crate::place::bad_place;
+use dpl_base::Spacing;
 use dpl_cert::Cert;
 use dpl_cut::cut_within;
 use dpl_slabs::Slabs;
 use dpl_spec_verdict::Verdict;
 use std::alloc::{AllocError, Global};
 
-/// Whether the odd cycle of a certificate is one of the layer's, for a rule and an overlap in database units: the first property that is broken, or that none is.
+/// Whether the odd cycle of a certificate is one of the layer's, for a spacing and an overlap in database units: the first property that is broken, or that none is.
 pub fn check_conflict(
     alloc: Global,
     layer: &Slabs,
     cert: &Cert,
-    rule: u32,
+    spacing: Spacing,
     overlap: u32,
 ) -> Result<Verdict, AllocError>
+    requires corner { spacing.corner ≤ spacing.rule }
     requires kind { IsOfConflict cert.now }
     requires cert { IsCert cert.now }
-    requires rule { IsRule rule }
+    requires rule { IsRule spacing.rule }
     requires overlap { IsRule overlap }
-    ensures { IfOk result (λ v. IsVerdictOfConflict rule overlap layer.now cert.now v) }
+    ensures { IfOk result (λ v. IsVerdictOfConflict spacing overlap layer.now cert.now v) }
 {
     let Cert::Conflict { head, cycle, near } = cert else {
         unreachable!()
     };
-    if rules_differ(head, rule, overlap) {
+    if rules_differ(head, spacing, overlap) {
         return Ok(Verdict::Rules {
             rule: head.rule,
             overlap: head.overlap,
         });
     }
-    let cut = cut_within(alloc, layer, rule, overlap)?;
+    let cut = cut_within(alloc, layer, spacing, overlap)?;
     if counts_differ(head, &cut) {
         return Ok(counts_of(&cut));
     }
-    if let Some(place) = bad_place(alloc, &cut, cycle.items(), near.items(), rule)? {
+    if let Some(place) = bad_place(alloc, &cut, cycle.items(), near.items(), spacing)? {
         return Ok(Verdict::Cycle { place });
     }
     Ok(Verdict::Valid)

@@ -4,6 +4,7 @@ ghost use Rattle.dpl_spec_split.specs.Squares.{Covers};
 ghost use Rattle.dpl_spec_verdict.specs.Order.{AreCounts, RulesDiffer, ShowsCounts};
 ghost use Rattle.dpl_check.specs.Cutting.{HasOtherCounts, ShowsCountsOf};
 
+use dpl_base::Spacing;
 use dpl_cert::Head;
 use dpl_cut::{LayerCut, cut_within};
 use dpl_slabs::Slabs;
@@ -11,10 +12,10 @@ use dpl_spec_verdict::Verdict;
 use std::alloc::{AllocError, Global};
 
 /// Whether the certificate is for another rule or another overlap.
-pub(crate) fn rules_differ(head: &Head, rule: u32, overlap: u32) -> bool
-    ensures { IsTrue result ↔ RulesDiffer rule overlap head.now }
+pub(crate) fn rules_differ(head: &Head, spacing: Spacing, overlap: u32) -> bool
+    ensures { IsTrue result ↔ RulesDiffer spacing overlap head.now }
 {
-    if head.rule != rule {
+    if head.rule != spacing.rule {
         return true;
     }
     if head.overlap != overlap {
@@ -38,13 +39,14 @@ pub(crate) fn counts_of(cut: &LayerCut) -> Verdict
 pub(crate) fn counts(
     alloc: Global,
     layer: &Slabs,
-    rule: u32,
+    spacing: Spacing,
     overlap: u32,
 ) -> Result<Verdict, AllocError>
-    requires { 1 ≤ overlap }
-    ensures { IfOk result (λ v. ShowsCounts rule overlap layer.now v) }
+    requires corner { spacing.corner ≤ spacing.rule }
+    requires overlap { 1 ≤ overlap }
+    ensures { IfOk result (λ v. ShowsCounts spacing overlap layer.now v) }
 {
-    let cut = cut_within(alloc, layer, rule, overlap)?;
+    let cut = cut_within(alloc, layer, spacing, overlap)?;
     Ok(counts_of(&cut))
 }
 

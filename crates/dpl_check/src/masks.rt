@@ -1,5 +1,5 @@
 //! Checks two masks of a layer.
-ghost use Rattle.std.specs.Prelude.{IfOk};
+ghost use Rattle.std.specs.Prelude.{◌≤◌, IfOk};
 ghost use Rattle.dpl_cert.specs.Grammar.{IsCert, IsRule};
 ghost use Rattle.dpl_spec_verdict.specs.Masks.{IsOfMasks, IsVerdictOfMasks};
 
@@ -8,27 +8,29 @@ use crate::cover::{doubled, uncovered};
 use crate::letters::bad_piece;
 use crate::spacing::too_close;
 use crate::stitch::bad_stitch;
+use dpl_base::Spacing;
 use dpl_cert::Cert;
 use dpl_feature::features;
 use dpl_slabs::Slabs;
 use dpl_spec_verdict::Verdict;
 use std::alloc::{AllocError, Global};
 
-/// Whether masks `a` and `b` of a layer, with their certificate, are right for a rule and an overlap in database units: the first property that is broken, or that none is.
+/// Whether masks `a` and `b` of a layer, with their certificate, are right for a spacing and an overlap in database units: the first property that is broken, or that none is.
 pub fn check_masks(
     alloc: Global,
     layer: &Slabs,
     a: &Slabs,
     b: &Slabs,
     cert: &Cert,
-    rule: u32,
+    spacing: Spacing,
     overlap: u32,
 ) -> Result<Verdict, AllocError>
+    requires corner { spacing.corner ≤ spacing.rule }
     requires kind { IsOfMasks cert.now }
     requires cert { IsCert cert.now }
-    requires rule { IsRule rule }
+    requires rule { IsRule spacing.rule }
     requires overlap { IsRule overlap }
-    ensures { IfOk result (λ v. IsVerdictOfMasks rule overlap layer.now a.now b.now cert.now v) }
+    ensures { IfOk result (λ v. IsVerdictOfMasks spacing overlap layer.now a.now b.now cert.now v) }
 {
     let Cert::Masks {
         head,
@@ -38,7 +40,7 @@ pub fn check_masks(
     else {
         unreachable!()
     };
-    if rules_differ(head, rule, overlap) {
+    if rules_differ(head, spacing, overlap) {
         return Ok(Verdict::Rules {
             rule: head.rule,
             overlap: head.overlap,
@@ -46,7 +48,7 @@ pub fn check_masks(
     }
     let features = features(alloc, layer)?;
     if features.items().len() as u64 != head.features {
-        let found = counts(alloc, layer, rule, overlap)?;
+        let found = counts(alloc, layer, spacing, overlap)?;
         return Ok(found);
     }
     if let Some(at) = uncovered(alloc, layer, a, b)? {
@@ -56,10 +58,10 @@ pub fn check_masks(
     if let Some(at) = doubled(alloc, &both, stitches.items())? {
         return Ok(Verdict::Overlap { at });
     }
-    if let Some((first, second)) = too_close(alloc, layer, &features, a, rule)? {
+    if let Some((first, second)) = too_close(alloc, layer, &features, a, spacing)? {
         return Ok(Verdict::SpacingA { first, second });
     }
-    if let Some((first, second)) = too_close(alloc, layer, &features, b, rule)? {
+    if let Some((first, second)) = too_close(alloc, layer, &features, b, spacing)? {
         return Ok(Verdict::SpacingB { first, second });
     }
     if let Some(index) = bad_stitch(alloc, &both, pieces.items(), stitches.items(), overlap)? {

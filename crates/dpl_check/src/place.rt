@@ -1,8 +1,8 @@
 //! Places of a cycle whose pieces aren't the layer's, or don't conflict.
-ghost use Rattle.std.specs.Prelude.{◌≡◌, ◌≢◌, ◌+◌, ◌*◌, ◌<◌, ◌↔◌, List, IsTrue, IfOk, length, slice_index};
+ghost use Rattle.std.specs.Prelude.{◌≤◌, ◌≡◌, ◌≢◌, ◌+◌, ◌*◌, ◌<◌, ◌↔◌, List, IsTrue, IfOk, length, slice_index};
 ghost use Rattle.std.specs.List.{All};
 ghost use Rattle.dpl_spec_split.specs.declared.Rect.{Rect};
-ghost use Rattle.dpl_spec_split.specs.Squares.{d2};
+ghost use Rattle.dpl_spec_split.specs.Squares.{d2, Near};
 ghost use Rattle.dpl_spec_split.specs.Loops.{farthest};
 ghost use Rattle.dpl_spec_split.specs.Zones.{part_at};
 ghost use Rattle.dpl_cert.specs.Grammar.{IsNear, IsPlace, IsPoint};
@@ -14,7 +14,7 @@ ghost use Rattle.dpl_check.specs.Places.{AreMarked, IsKeyed, IsNearLine, IsRight
 ghost use Rattle.dpl_cut.specs.Cutting.{cut_view};
 
 use crate::window::owner_at;
-use dpl_base::{Pt, near};
+use dpl_base::{Pt, Spacing, near};
 use dpl_cert::{NearLine, PlaceLine};
 use dpl_cut::LayerCut;
 use dpl_nearest::unit;
@@ -36,17 +36,18 @@ fn is_of_piece(parts: &[Slabs], tree: &Tree, p: Pt, piece: u64) -> bool
     }
 }
 
-/// Whether two squares are closer than `rule`.
-fn are_near(p: Pt, q: Pt, rule: u32) -> bool
+/// Whether two squares are near.
+fn are_near(p: Pt, q: Pt, spacing: Spacing) -> bool
+    requires corner { spacing.corner ≤ spacing.rule }
     requires first { IsPoint p }
     requires second { IsPoint q }
-    ensures { IsTrue result ↔ (d2 p q < rule * rule) }
+    ensures { IsTrue result ↔ Near spacing p q }
 {
     let Some(first) = unit(p) else { unreachable!() };
     let Some(second) = unit(q) else {
         unreachable!()
     };
-    near(&first, &second, rule)
+    near(&first, &second, spacing)
 }
 
 /// Whether a line has near squares of the two pieces.
@@ -56,12 +57,13 @@ fn is_near_line(
     line: &NearLine,
     piece: u64,
     next: u64,
-    rule: u32,
+    spacing: Spacing,
 ) -> bool
+    requires corner { spacing.corner ≤ spacing.rule }
     requires line { IsNear line.now }
     requires parts { AreParts parts.now }
     requires items { AreItemsOf parts.now tree.now }
-    ensures { IsTrue result ↔ IsNearLine rule parts.now piece next line.now }
+    ensures { IsTrue result ↔ IsNearLine spacing parts.now piece next line.now }
 {
     if !is_of_piece(parts, tree, line.from, piece) {
         return false;
@@ -69,7 +71,7 @@ fn is_near_line(
     if !is_of_piece(parts, tree, line.to, next) {
         return false;
     }
-    are_near(line.from, line.to, rule)
+    are_near(line.from, line.to, spacing)
 }
 
 /// Whether the place's piece is one of the layer's, with its key.
@@ -90,18 +92,19 @@ fn is_right(
     place: &PlaceLine,
     next: u64,
     line: &NearLine,
-    rule: u32,
+    spacing: Spacing,
 ) -> bool
+    requires corner { spacing.corner ≤ spacing.rule }
     requires line { IsNear line.now }
     requires items { AreItemsOf cut.now.pieces.parts tree.now }
-    ensures { IsTrue result ↔ IsRightPlace rule cut.now.pieces place.now next line.now }
+    ensures { IsTrue result ↔ IsRightPlace spacing cut.now.pieces place.now next line.now }
 {
     let parts = cut.pieces.parts().items();
     let owner = cut.pieces.owner();
     if !is_keyed(&cut.pieces, place) {
         return false;
     }
-    if !is_near_line(parts, tree, line, place.piece, next, rule) {
+    if !is_near_line(parts, tree, line, place.piece, next, spacing) {
         return false;
     }
     owner[place.piece as usize] != owner[next as usize]
@@ -114,18 +117,19 @@ fn first_wrong(
     cycle: &[PlaceLine],
     near: &[NearLine],
     mut stood: Vec<bool>,
-    rule: u32,
+    spacing: Spacing,
 ) -> Option<u64>
+    requires corner { spacing.corner ≤ spacing.rule }
     requires each { length near.now ≡ length cycle.now }
     requires lines { All IsNear near.now }
     requires items { AreItemsOf cut.now.pieces.parts tree.now }
     requires stood { AreMarked (length cut.now.pieces.parts) cycle.now 0 stood.items }
-    ensures { (features : List (List Rect)) → IsFirstBadOf (IsBadPlace rule (cut_view features cut.now.pieces) cycle.now near.now) cycle.now result }
+    ensures { (features : List (List Rect)) → IsFirstBadOf (IsBadPlace spacing (cut_view features cut.now.pieces) cycle.now near.now) cycle.now result }
 {
     for k in 0..cycle.len() {
         let piece = cycle[k].piece;
         let next = cycle[(k + 1) % cycle.len()].piece;
-        if !is_right(cut, tree, &cycle[k], next, &near[k], rule) {
+        if !is_right(cut, tree, &cycle[k], next, &near[k], spacing) {
             return Some(k as u64);
         }
         if stood[piece as usize] {
@@ -142,14 +146,15 @@ pub(crate) fn bad_place(
     cut: &LayerCut,
     cycle: &[PlaceLine],
     near: &[NearLine],
-    rule: u32,
+    spacing: Spacing,
 ) -> Result<Option<u64>, AllocError>
+    requires corner { spacing.corner ≤ spacing.rule }
     requires each { length near.now ≡ length cycle.now }
     requires lines { All IsNear near.now }
-    ensures { IfOk result (λ found. (features : List (List Rect)) → IsFirstBadOf (IsBadPlace rule (cut_view features cut.now.pieces) cycle.now near.now) cycle.now found) }
+    ensures { IfOk result (λ found. (features : List (List Rect)) → IsFirstBadOf (IsBadPlace spacing (cut_view features cut.now.pieces) cycle.now near.now) cycle.now found) }
 {
     let parts = cut.pieces.parts().items();
     let tree = Tree::of_parts(alloc, parts)?;
     let stood = vec![in alloc; false; parts.len()]?;
-    Ok(first_wrong(cut, &tree, cycle, near, stood, rule))
+    Ok(first_wrong(cut, &tree, cycle, near, stood, spacing))
 }

@@ -13,7 +13,7 @@ ghost use Rattle.dpl_check.specs.Findings.{IsLeastOf, IsLeastPairOf};
 ghost use Rattle.dpl_check.specs.Owned.{AreForeign, AreOwnedItems, AreOwners, IsOwnedOnce, IsSingle, corner, foreign};
 
 use crate::window::owner_at;
-use dpl_base::{Pt, Rect};
+use dpl_base::{Pt, Rect, Spacing};
 use dpl_nearest::{improved, unit};
 use dpl_slabs::{Parts, Slabs};
 use dpl_tree::{Items, Owners, Tree};
@@ -60,7 +60,8 @@ fn owned_tree(alloc: Global, rects: &[Rect], owners: &[usize]) -> Result<Tree, A
     for i in 0..rects.len() {
         items.add(&[rects[i]], owners[i])?;
     }
-    Tree::of(alloc, items)
+    let tree = Tree::of(alloc, items)?;
+    Ok(tree)
 }
 
 /// The tree of one square with its owner.
@@ -74,20 +75,22 @@ fn single_tree(alloc: Global, p: Pt, owner: usize) -> Result<Tree, AllocError>
     };
     let mut items = Items::new(alloc);
     items.add(&[square], owner)?;
-    Tree::of(alloc, items)
+    let tree = Tree::of(alloc, items)?;
+    Ok(tree)
 }
 
 /// The least square of rectangles that is near a rectangle of another owner.
-fn first_foreign(rects: &[Rect], owners: &[usize], tree: &Tree, rule: u32) -> Option<Pt>
+fn first_foreign(rects: &[Rect], owners: &[usize], tree: &Tree, spacing: Spacing) -> Option<Pt>
+    requires corner { spacing.corner ≤ spacing.rule }
     requires each { length owners.now ≡ length rects.now }
     requires solid { All IsSolid rects.now }
     requires within { AreRectsWithin farthest rects.now }
     requires items { AreSolidItems tree.now }
-    ensures { IsLeastOf (foreign rule rects.now owners.now tree.now (length rects.now)) result }
+    ensures { IsLeastOf (foreign spacing rects.now owners.now tree.now (length rects.now)) result }
 {
     let mut best = None;
     for i in 0..rects.len() {
-        best = improved(best, &rects[i], tree, Owners::But(owners[i]), rule);
+        best = improved(best, &rects[i], tree, Owners::But(owners[i]), spacing);
     }
     best
 }
@@ -97,42 +100,45 @@ fn foreign_pair(
     alloc: Global,
     rects: &[Rect],
     owners: &[usize],
-    rule: u32,
+    spacing: Spacing,
 ) -> Result<Option<(Pt, Pt)>, AllocError>
+    requires corner { spacing.corner ≤ spacing.rule }
     requires each { length owners.now ≡ length rects.now }
     requires solid { All IsSolid rects.now }
     requires within { AreRectsWithin farthest rects.now }
     requires once { IsOwnedOnce rects.now owners.now }
-    ensures { IfOk result (λ found. IsLeastPairOf (AreForeign rule rects.now owners.now) found) }
+    ensures { IfOk result (λ found. IsLeastPairOf (AreForeign spacing rects.now owners.now) found) }
 {
     let tree = owned_tree(alloc, rects, owners)?;
-    let Some(first) = first_foreign(rects, owners, &tree, rule) else {
+    let Some(first) = first_foreign(rects, owners, &tree, spacing) else {
         return Ok(None);
     };
     let Some(owner) = owner_at(&tree, first) else {
         unreachable!()
     };
     let single = single_tree(alloc, first, owner)?;
-    let Some(second) = first_foreign(rects, owners, &single, rule) else {
+    let Some(second) = first_foreign(rects, owners, &single, spacing) else {
         unreachable!()
     };
     Ok(Some((first, second)))
 }
 
-/// The least pair of squares of different features that are on a mask and closer than `rule` database units.
+/// The least pair of squares of different features that are on a mask and near by `spacing`.
 pub(crate) fn too_close(
     alloc: Global,
     layer: &Slabs,
     features: &Parts,
     mask: &Slabs,
-    rule: u32,
+    spacing: Spacing,
 ) -> Result<Option<(Pt, Pt)>, AllocError>
+    requires corner { spacing.corner ≤ spacing.rule }
     requires features { AreComponents (Covers layer.now) features.now }
     requires inside { (p : Pt) → Covers mask.now p → Covers layer.now p }
-    ensures { IfOk result (λ found. IsLeastPairOf (AreTooClose rule (Covers layer.now) (Covers mask.now)) found) }
+    ensures { IfOk result (λ found. IsLeastPairOf (AreTooClose spacing (Covers layer.now) (Covers mask.now)) found) }
 {
     let tree = Tree::of_parts(alloc, features.items())?;
     let rects = mask.rects();
     let owners = owners_of(alloc, rects, &tree)?;
-    foreign_pair(alloc, rects, &owners, rule)
+    let found = foreign_pair(alloc, rects, &owners, spacing)?;
+    Ok(found)
 }

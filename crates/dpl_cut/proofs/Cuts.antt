@@ -1,6 +1,7 @@
 -- The cut of a layer, from its parts.
 use Rattle.std.proofs.Common.{◌≡◌, ◌∙◌, ℕ, List, subst, sym}
 use Rattle.std.specs.Prelude.{IfOk, Result, Ok, Err}
+use Rattle.dpl_spec_split.specs.declared.Spacing.{Spacing}
 use Rattle.dpl_spec_split.specs.declared.Rect.{Rect}
 use Rattle.dpl_spec_split.specs.declared.Zone.{Zone}
 use Rattle.dpl_spec_split.specs.Squares.{Covers, Region}
@@ -15,18 +16,18 @@ use Rattle.dpl_cut.specs.declared.LayerCut.{LayerCut}
 use Rattle.dpl_cut.specs.declared.BareLayerCut.{BareLayerCut}
 use Rattle.dpl_cut.proofs.SameZones.{zones_same}
 
-pub is_cut : (rule overlap : ℕ) (layer : List Rect) (features : List (List Rect)) (zones : List Zone) (c : CutPieces)
-    → AreComponents (Covers layer) features → AreZones rule overlap (union_of features) features zones → c.zones ≡ zones → AreTheirPieces features zones c
-    → IsCut rule overlap (Covers layer) (cut_view features c)
-is_cut rule overlap layer features zones c components are same pieces = record {
+pub is_cut : (spacing : Spacing) (overlap : ℕ) (layer : List Rect) (features : List (List Rect)) (zones : List Zone) (c : CutPieces)
+    → AreComponents (Covers layer) features → AreZones spacing overlap (union_of features) features zones → c.zones ≡ zones → AreTheirPieces features zones c
+    → IsCut spacing overlap (Covers layer) (cut_view features c)
+is_cut spacing overlap layer features zones c components are same pieces = record {
   features = components;
-  zones = subst (λ (zs : List Zone). AreZones rule overlap (Covers layer) features zs) (sym same)
-      (zones_same rule overlap (union_of features) (Covers layer) features zones components.together are);
+  zones = subst (λ (zs : List Zone). AreZones spacing overlap (Covers layer) features zs) (sym same)
+      (zones_same spacing overlap (union_of features) (Covers layer) features zones components.together are);
   pieces = subst (λ (zs : List Zone). ArePieces (Covers layer) features zs c.parts c.owners c.keys c.sides) (sym same) (pieces layer components);
 }
 
 -- what a bare cut is completed to is a cut
-pub completed_cut : {E : Type 0} (rule overlap : ℕ) (layer : Region) (bare : BareLayerCut) (r : Result LayerCut E) → IsBareCutOf rule overlap layer bare
-    → IfOk r (λ c. c.features ≡ bare.features) → IfOk r (λ c. Completes bare.pieces c.pieces) → IfOk r (IsCutOf rule overlap layer)
-completed_cut rule overlap layer bare (Ok c) (features, many, is) same completed = (features, many ∙ sym same, is c.pieces completed)
-completed_cut rule overlap layer bare (Err e) cut same completed = tt
+pub completed_cut : {E : Type 0} (spacing : Spacing) (overlap : ℕ) (layer : Region) (bare : BareLayerCut) (r : Result LayerCut E) → IsBareCutOf spacing overlap layer bare
+    → IfOk r (λ c. c.features ≡ bare.features) → IfOk r (λ c. Completes bare.pieces c.pieces) → IfOk r (IsCutOf spacing overlap layer)
+completed_cut spacing overlap layer bare (Ok c) (features, many, is) same completed = (features, many ∙ sym same, is c.pieces completed)
+completed_cut spacing overlap layer bare (Err e) cut same completed = tt

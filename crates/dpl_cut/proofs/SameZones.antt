@@ -1,40 +1,41 @@
 -- Layers of the same squares have the same zones.
 use Rattle.std.proofs.Common.{ℕ, inl, inr, ℤ, List}
+use Rattle.dpl_spec_split.specs.declared.Spacing.{Spacing}
 use Rattle.dpl_spec_split.specs.declared.Rect.{Rect}
 use Rattle.dpl_spec_split.specs.declared.Zone.{Zone}
 use Rattle.dpl_spec_split.specs.Squares.{Region, SameSquares}
 use Rattle.dpl_spec_split.specs.Zones.{AreZones, IsClearRun, IsHorizontalZone, IsKeptZone, IsStretch, IsVerticalZone, at, part_at, transposed, transposed_rect}
 use Rattle.dpl_spec_split.proofs.SquareLaws.{SameSquares-sym}
 
-run_same : (rule : ℕ) (l m f : Region) (y0 y1 x : ℤ) → SameSquares l m → IsClearRun rule l f y0 y1 x → IsClearRun rule m f y0 y1 x
-run_same rule l m f y0 y1 x same r = record { some = r.some; inside = r.inside; clear = λ y a b q h no. r.clear y a b q ((same q).1 h) no; below = r.below; above = r.above }
+run_same : (spacing : Spacing) (l m f : Region) (y0 y1 x : ℤ) → SameSquares l m → IsClearRun spacing l f y0 y1 x → IsClearRun spacing m f y0 y1 x
+run_same spacing l m f y0 y1 x same r = record { some = r.some; inside = r.inside; clear = λ y a b q h no. r.clear y a b q ((same q).1 h) no; below = r.below; above = r.above }
 
-stretch_same : (rule overlap : ℕ) (l m f : Region) (s : Rect) → SameSquares l m → IsStretch rule overlap l f s → IsStretch rule overlap m f s
-stretch_same rule overlap l m f s same h = record {
-  runs = λ x a b. run_same rule l m f s.y0 s.y1 x same (h.runs x a b);
-  maximal_left = λ r. h.maximal_left (run_same rule m l f _ _ _ (SameSquares-sym l m same) r);
-  maximal_right = λ r. h.maximal_right (run_same rule m l f _ _ _ (SameSquares-sym l m same) r);
+stretch_same : (spacing : Spacing) (overlap : ℕ) (l m f : Region) (s : Rect) → SameSquares l m → IsStretch spacing overlap l f s → IsStretch spacing overlap m f s
+stretch_same spacing overlap l m f s same h = record {
+  runs = λ x a b. run_same spacing l m f s.y0 s.y1 x same (h.runs x a b);
+  maximal_left = λ r. h.maximal_left (run_same spacing m l f _ _ _ (SameSquares-sym l m same) r);
+  maximal_right = λ r. h.maximal_right (run_same spacing m l f _ _ _ (SameSquares-sym l m same) r);
   long = h.long;
   from = h.from;
   to = h.to;
 }
 
-level_same : (rule overlap : ℕ) (l m f : Region) (z : Rect) → SameSquares l m → IsHorizontalZone rule overlap l f z → IsHorizontalZone rule overlap m f z
-level_same rule overlap l m f z same h = record { stretch = h.stretch; is = stretch_same rule overlap l m f h.stretch same h.is; middle = h.middle }
+level_same : (spacing : Spacing) (overlap : ℕ) (l m f : Region) (z : Rect) → SameSquares l m → IsHorizontalZone spacing overlap l f z → IsHorizontalZone spacing overlap m f z
+level_same spacing overlap l m f z same h = record { stretch = h.stretch; is = stretch_same spacing overlap l m f h.stretch same h.is; middle = h.middle }
 
-upright_same : (rule overlap : ℕ) (l m f : Region) (z : Rect) → SameSquares l m → IsVerticalZone rule overlap l f z → IsVerticalZone rule overlap m f z
-upright_same rule overlap l m f z same h = level_same rule overlap (transposed l) (transposed m) (transposed f) (transposed_rect z) (λ p. same (at p.y p.x)) h
+upright_same : (spacing : Spacing) (overlap : ℕ) (l m f : Region) (z : Rect) → SameSquares l m → IsVerticalZone spacing overlap l f z → IsVerticalZone spacing overlap m f z
+upright_same spacing overlap l m f z same h = level_same spacing overlap (transposed l) (transposed m) (transposed f) (transposed_rect z) (λ p. same (at p.y p.x)) h
 
-kept_same : (rule overlap : ℕ) (l m f : Region) (z : Rect) → SameSquares l m → IsKeptZone rule overlap l f z → IsKeptZone rule overlap m f z
-kept_same rule overlap l m f z same (inl h) = inl (level_same rule overlap l m f z same h)
-kept_same rule overlap l m f z same (inr v) = inr (upright_same rule overlap l m f z same v.0, λ h level. v.1 h (level_same rule overlap m l f h (SameSquares-sym l m same) level))
+kept_same : (spacing : Spacing) (overlap : ℕ) (l m f : Region) (z : Rect) → SameSquares l m → IsKeptZone spacing overlap l f z → IsKeptZone spacing overlap m f z
+kept_same spacing overlap l m f z same (inl h) = inl (level_same spacing overlap l m f z same h)
+kept_same spacing overlap l m f z same (inr v) = inr (upright_same spacing overlap l m f z same v.0, λ h level. v.1 h (level_same spacing overlap m l f h (SameSquares-sym l m same) level))
 
-pub zones_same : (rule overlap : ℕ) (l m : Region) (features : List (List Rect)) (zones : List Zone) → SameSquares l m
-    → AreZones rule overlap l features zones → AreZones rule overlap m features zones
-zones_same rule overlap l m features zones same zs = record {
+pub zones_same : (spacing : Spacing) (overlap : ℕ) (l m : Region) (features : List (List Rect)) (zones : List Zone) → SameSquares l m
+    → AreZones spacing overlap l features zones → AreZones spacing overlap m features zones
+zones_same spacing overlap l m features zones same zs = record {
   ordered = zs.ordered;
   exactly = λ z. (
-    λ c. let e = (zs.exactly z).0 c in (e.0, kept_same rule overlap l m (part_at features z.feature) z.rect same e.1),
-    λ e. (zs.exactly z).1 (e.0, kept_same rule overlap m l (part_at features z.feature) z.rect (SameSquares-sym l m same) e.1),
+    λ c. let e = (zs.exactly z).0 c in (e.0, kept_same spacing overlap l m (part_at features z.feature) z.rect same e.1),
+    λ e. (zs.exactly z).1 (e.0, kept_same spacing overlap m l (part_at features z.feature) z.rect (SameSquares-sym l m same) e.1),
   );
 }

@@ -8,6 +8,7 @@ ghost use Rattle.dpl_spec_split.specs.Components.{AreComponents};
 ghost use Rattle.dpl_piece.specs.Cutting.{AreFeatures, Completes};
 ghost use Rattle.dpl_cut.specs.Cutting.{HasPointKeys, IsBareCutOf, IsCutOf};
 
+use dpl_base::Spacing;
 use dpl_feature::features;
 use dpl_piece::{BarePieces, Pieces, bare_pieces};
 use dpl_slabs::{Parts, Slabs};
@@ -48,22 +49,23 @@ impl BareLayerCut {
     }
 }
 
-/// The features of a layer, cut at the zones where a stitch may stand: `rule` is how far apart features are on one mask, `overlap` how long a stitch is, both in database units. The layer is let go as soon as its features are known.
+/// The features of a layer, cut at the zones where a stitch may stand: `spacing` is how far apart features are on one mask, `overlap` how long a stitch is, in database units. The layer is let go as soon as its features are known.
 ///
 /// The error: out of memory.
 pub fn cut_of(
     alloc: Global,
     layer: Slabs,
-    rule: u32,
+    spacing: Spacing,
     overlap: u32,
 ) -> Result<BareLayerCut, AllocError>
-    requires { 1 ≤ overlap }
-    ensures cut { IfOk result (IsBareCutOf rule overlap (Covers layer)) }
+    requires corner { spacing.corner ≤ spacing.rule }
+    requires overlap { 1 ≤ overlap }
+    ensures cut { IfOk result (IsBareCutOf spacing overlap (Covers layer)) }
     ensures keys { IfOk result HasPointKeys }
 {
     let features = features(alloc, &layer)?;
     drop(layer);
-    cut_features(alloc, features, rule, overlap)
+    cut_features(alloc, features, spacing, overlap)
 }
 
 /// The features of a layer that is needed afterwards, cut as by `cut_of`, with the pieces on the two sides of each zone.
@@ -72,14 +74,15 @@ pub fn cut_of(
 pub fn cut_within(
     alloc: Global,
     layer: &Slabs,
-    rule: u32,
+    spacing: Spacing,
     overlap: u32,
 ) -> Result<LayerCut, AllocError>
-    requires { 1 ≤ overlap }
-    ensures { IfOk result (IsCutOf rule overlap (Covers layer.now)) }
+    requires corner { spacing.corner ≤ spacing.rule }
+    requires overlap { 1 ≤ overlap }
+    ensures { IfOk result (IsCutOf spacing overlap (Covers layer.now)) }
 {
     let features = features(alloc, layer)?;
-    let cut = cut_features(alloc, features, rule, overlap)?;
+    let cut = cut_features(alloc, features, spacing, overlap)?;
     cut.completed(alloc)
 }
 
@@ -87,15 +90,16 @@ pub fn cut_within(
 fn cut_features(
     alloc: Global,
     features: Parts,
-    rule: u32,
+    spacing: Spacing,
     overlap: u32,
 ) -> Result<BareLayerCut, AllocError>
+    requires corner { spacing.corner ≤ spacing.rule }
     requires overlap { 1 ≤ overlap }
     requires features { AreFeatures features }
-    ensures cut { (layer : List Rect) → AreComponents (Covers layer) features → IfOk result (IsBareCutOf rule overlap (Covers layer)) }
+    ensures cut { (layer : List Rect) → AreComponents (Covers layer) features → IfOk result (IsBareCutOf spacing overlap (Covers layer)) }
     ensures keys { IfOk result HasPointKeys }
 {
-    let zones = zones(alloc, &features, rule, overlap)?;
+    let zones = zones(alloc, &features, spacing, overlap)?;
     let count = features.items().len() as u64;
     let pieces = bare_pieces(alloc, features, zones)?;
     Ok(BareLayerCut {

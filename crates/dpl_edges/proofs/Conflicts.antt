@@ -6,6 +6,7 @@ use Rattle.std.specs.List.Sorted.{IsSorted, IsPermutation}
 use Rattle.std.proofs.lemmas.Int.{ints}
 use Rattle.std.proofs.lemmas.List.{get_or_default}
 use Rattle.std.proofs.lemmas.List.Elements.{Contains-get_or}
+use Rattle.dpl_spec_split.specs.declared.Spacing.{Spacing}
 use Rattle.dpl_spec_split.specs.declared.Pt.{Pt}
 use Rattle.dpl_spec_split.specs.declared.Rect.{Rect}
 use Rattle.dpl_spec_split.specs.Squares.{Has, IsSolidWithin}
@@ -21,8 +22,8 @@ use Rattle.dpl_edges.specs.Meetings.{IsWhole}
 use Rattle.dpl_edges.proofs.Windows.{slab-within}
 
 -- a conflict by a cell is one
-pub conflict-of_cell : (rule : ℕ) (parts : List (List Rect)) (owners : List ℕ) (cell : Rect) (i j : ℕ) → ConflictIn rule parts owners cell i j → Conflict rule parts owners i j
-conflict-of_cell rule parts owners cell i j c =
+pub conflict-of_cell : (spacing : Spacing) (parts : List (List Rect)) (owners : List ℕ) (cell : Rect) (i j : ℕ) → ConflictIn spacing parts owners cell i j → Conflict spacing parts owners i j
+conflict-of_cell spacing parts owners cell i j c =
     record {
       first = c.first;
       second = c.second;
@@ -48,10 +49,10 @@ whole_has r parts k p whole h k_in (m, s, m_in, is, has) =
     let n = whole.high in
     record { left = omega (arith, ints, a, e, i); right = omega (arith, ints, b, f, j); low = omega (arith, ints, c, u, l); high = omega (arith, ints, d, v, n) }
 
-pub conflict-of_whole : (rule : ℕ) (parts : List (List Rect)) (owners : List ℕ) (whole : Rect) (i j : ℕ) → IsWhole whole → AreParts parts
-    → ConflictIn rule parts owners whole i j ↔ Conflict rule parts owners i j
-conflict-of_whole rule parts owners whole i j all h = (
-  conflict-of_cell rule parts owners whole i j,
+pub conflict-of_whole : (spacing : Spacing) (parts : List (List Rect)) (owners : List ℕ) (whole : Rect) (i j : ℕ) → IsWhole whole → AreParts parts
+    → ConflictIn spacing parts owners whole i j ↔ Conflict spacing parts owners i j
+conflict-of_whole spacing parts owners whole i j all h = (
+  conflict-of_cell spacing parts owners whole i j,
   λ c. (let (p, q, a, b, near) = c.near in
       record {
         first = c.first;
@@ -71,36 +72,36 @@ part_square : (parts : List (List Rect)) (i : ℕ) (p : Pt) → i < length parts
 part_square parts i p i_in h = (i, get_or parts i [], i_in, get_or_default parts i (get_or parts i []) [] i_in, h)
 
 pub tiles-graph : TilesMakeTheGraph
-tiles-graph rule tile parts owners cells some tiles i j = (
+tiles-graph spacing tile parts owners cells some tiles i j = (
   λ c. (
       let (p, q, a, b, near) = c.near in
       let (cell, only) = squares-one_cell parts tile cells some tiles p (part_square parts i p c.first a) in
       let (k, k_in, is) = only.listed in
       (k, cell, k_in, is, record { first = c.first; second = c.second; apart = c.apart; near = inl (p, q, (a, only.inside), b, near) })),
-  λ (k, cell, k_in, is, c). conflict-of_cell rule parts owners cell i j c,
+  λ (k, cell, k_in, is, c). conflict-of_cell spacing parts owners cell i j c,
 )
 
-module _ (rule : ℕ) (parts : List (List Rect)) (owners : List ℕ) (cell : Rect) (xs sorted ys : List (ℕ × ℕ)) (all : (e : ℕ × ℕ)
-    → Contains xs e ↔ ((e.0 < e.1) × ConflictIn rule parts owners cell e.0 e.1))
+module _ (spacing : Spacing) (parts : List (List Rect)) (owners : List ℕ) (cell : Rect) (xs sorted ys : List (ℕ × ℕ)) (all : (e : ℕ × ℕ)
+    → Contains xs e ↔ ((e.0 < e.1) × ConflictIn spacing parts owners cell e.0 e.1))
     (same : IsPermutation xs sorted) (rising : IsSorted pair_cmp sorted) (once : ys ≡ dedup pair_eq sorted) where
-  members : (e : ℕ × ℕ) → Contains ys e ↔ ((e.0 < e.1) × ConflictIn rule parts owners cell e.0 e.1)
-  members = pairs-members (λ e. (e.0 < e.1) × ConflictIn rule parts owners cell e.0 e.1) xs sorted ys all same rising once
+  members : (e : ℕ × ℕ) → Contains ys e ↔ ((e.0 < e.1) × ConflictIn spacing parts owners cell e.0 e.1)
+  members = pairs-members (λ e. (e.0 < e.1) × ConflictIn spacing parts owners cell e.0 e.1) xs sorted ys all same rising once
 
-  pub edges-are : AreEdges (ConflictIn rule parts owners cell) ys
-  edges-are = record { ordered = pairs-ordered (λ e. (e.0 < e.1) × ConflictIn rule parts owners cell e.0 e.1) xs sorted ys all same rising once; exactly = λ u v. members (u, v) }
+  pub edges-are : AreEdges (ConflictIn spacing parts owners cell) ys
+  edges-are = record { ordered = pairs-ordered (λ e. (e.0 < e.1) × ConflictIn spacing parts owners cell e.0 e.1) xs sorted ys all same rising once; exactly = λ u v. members (u, v) }
 
   pub edges-below : All (λ (e : ℕ × ℕ). (e.0 < e.1) × (e.1 < length parts)) ys
   edges-below k d l =
       let (a, c) = (members (get_or ys k d)).0 (Contains-get_or ys k d l) in
       (a, c.second)
 
-pub whole-edges : (rule : ℕ) (parts : List (List Rect)) (owners : List ℕ) (whole : Rect) (edges : List (ℕ × ℕ)) → IsWhole whole
-    → AreParts parts → AreEdges (ConflictIn rule parts owners whole) edges → AreEdges (Conflict rule parts owners) edges
-whole-edges rule parts owners whole edges all h e =
+pub whole-edges : (spacing : Spacing) (parts : List (List Rect)) (owners : List ℕ) (whole : Rect) (edges : List (ℕ × ℕ)) → IsWhole whole
+    → AreParts parts → AreEdges (ConflictIn spacing parts owners whole) edges → AreEdges (Conflict spacing parts owners) edges
+whole-edges spacing parts owners whole edges all h e =
     record {
       ordered = e.ordered;
       exactly = λ u v. (
-        λ c. (let (l, k) = (e.exactly u v).0 c in (l, (conflict-of_whole rule parts owners whole u v all h).0 k)),
-        λ (l, k). (e.exactly u v).1 (l, (conflict-of_whole rule parts owners whole u v all h).1 k),
+        λ c. (let (l, k) = (e.exactly u v).0 c in (l, (conflict-of_whole spacing parts owners whole u v all h).0 k)),
+        λ (l, k). (e.exactly u v).1 (l, (conflict-of_whole spacing parts owners whole u v all h).1 k),
       );
     }

@@ -1,11 +1,12 @@
 -- Edges that a cell finds.
-use Rattle.std.proofs.Common.{◌≡◌, ℕ, ◌<◌, ◌⊎◌, inl, inr, List, [], ◌∷◌, ◌++◌, length, sym, refl, ap, ◌∙◌, subst, arith}
+use Rattle.std.proofs.Common.{◌≤◌, ◌≡◌, ℕ, ◌<◌, ◌⊎◌, inl, inr, List, [], ◌∷◌, ◌++◌, length, sym, refl, ap, ◌∙◌, subst, arith}
 use Rattle.std.specs.Prelude.{◌↔◌, ◌≢◌, eqb, slice_index}
 use Rattle.std.specs.List.{Contains, dedup}
 use Rattle.std.specs.List.Sorted.{IsPermutation}
 use Rattle.std.proofs.lemmas.List.Sorted.{Contains-permutation, IsPermutation-sym}
 use Rattle.std.proofs.lemmas.List.Kept.{Contains-dedup_nat, Contains-from_dedup}
 use Rattle.std.proofs.lemmas.Bool.{cases_eq}
+use Rattle.dpl_spec_split.specs.declared.Spacing.{Spacing}
 use Rattle.dpl_spec_split.specs.declared.Pt.{Pt}
 use Rattle.dpl_spec_split.specs.declared.Rect.{Rect}
 use Rattle.dpl_spec_split.specs.Squares.{AreNear, Has}
@@ -24,31 +25,31 @@ use Rattle.dpl_edges.proofs.Windows.{apart-far, apart-none}
 use Rattle.dpl_edges.proofs.Searches.{OfSlab}
 
 -- the piece of a slab near a rectangle of piece i
-abbrev pub IsNearSlab : ℕ → List ℕ → ℕ → Rect → ℕ → Rect → ℕ → Type 0
-IsNearSlab rule owners i s k r y = (y ≡ k) × AreMeeting rule owners i s k r
+abbrev pub IsNearSlab : Spacing → List ℕ → ℕ → Rect → ℕ → Rect → ℕ → Type 0
+IsNearSlab spacing owners i s k r y = (y ≡ k) × AreMeeting spacing owners i s k r
 
 -- a slab that a search round the rectangle goes past isn't such
-pub near-missed : (rule : ℕ) (owners : List ℕ) (i : ℕ) (s window : Rect) → IsWidened s rule window → (item : Item) (y : ℕ)
-    → IsMissed window (But i) item → IsNearSlab rule owners i s item.owner item.rect y → ⊥
-near-missed rule owners i s window wide item y (inl apart) (is, meet) = apart-far rule s window item.rect wide apart meet.near
-near-missed rule owners i s window wide item y (inr own) (is, meet) = meet.apart (ap (slice_index owners) (sym own))
+pub near-missed : (spacing : Spacing) (owners : List ℕ) (i : ℕ) (s window : Rect) → spacing.corner ≤ spacing.rule → IsWidened s spacing.rule window → (item : Item) (y : ℕ)
+    → IsMissed window (But i) item → IsNearSlab spacing owners i s item.owner item.rect y → ⊥
+near-missed spacing owners i s window less wide item y (inl apart) (is, meet) = apart-far spacing s window item.rect less wide apart meet.near
+near-missed spacing owners i s window less wide item y (inr own) (is, meet) = meet.apart (ap (slice_index owners) (sym own))
 
-pub near-pieces : (rule : ℕ) (parts : List (List Rect)) (owners : List ℕ) (i : ℕ) (s : Rect) (k : ℕ)
-    → OfSlab (IsNearSlab rule owners i s) parts k ↔ IsNearPiece rule parts owners i (Has s) k
-near-pieces rule parts owners i s k = (
+pub near-pieces : (spacing : Spacing) (parts : List (List Rect)) (owners : List ℕ) (i : ℕ) (s : Rect) (k : ℕ)
+    → OfSlab (IsNearSlab spacing owners i s) parts k ↔ IsNearPiece spacing parts owners i (Has s) k
+near-pieces spacing parts owners i s k = (
   λ (r, m, m_in, (j, j_in, j_is), (is, meet)). (
       let (p, q, a, b, near) = meet.near in
-      subst (λ u. IsNearPiece rule parts owners i (Has s) u) (sym is) (record { known = m_in; apart = meet.apart; near = (p, q, a, (j, r, j_in, j_is, b), near) })),
+      subst (λ u. IsNearPiece spacing parts owners i (Has s) u) (sym is) (record { known = m_in; apart = meet.apart; near = (p, q, a, (j, r, j_in, j_is, b), near) })),
   λ h. (
       let (p, q, a, (j, r, j_in, j_is, b), near) = h.near in
       (r, k, h.known, (j, j_in, j_is), (refl, record { apart = h.apart; near = (p, q, a, b, near) }))),
 )
 
 -- the same for another name of a set
-pub near-as : (rule : ℕ) (parts : List (List Rect)) (owners : List ℕ) (i : ℕ) (s cell r : Rect) (k : ℕ)
-    → ((p : Pt) → Has s p ↔ in_cell cell (Has r) p) → IsNearPiece rule parts owners i (Has s) k ↔ IsNearPiece rule parts owners i
+pub near-as : (spacing : Spacing) (parts : List (List Rect)) (owners : List ℕ) (i : ℕ) (s cell r : Rect) (k : ℕ)
+    → ((p : Pt) → Has s p ↔ in_cell cell (Has r) p) → IsNearPiece spacing parts owners i (Has s) k ↔ IsNearPiece spacing parts owners i
     (in_cell cell (Has r)) k
-near-as rule parts owners i s cell r k same = (
+near-as spacing parts owners i s cell r k same = (
   λ h. (let (p, q, a, b, near) = h.near in record { known = h.known; apart = h.apart; near = (p, q, (same p).0 a, b, near) }),
   λ h. (let (p, q, a, b, near) = h.near in record { known = h.known; apart = h.apart; near = (p, q, (same p).1 a, b, near) }),
 )
@@ -63,33 +64,33 @@ pub ends-push : (i k : ℕ) (old new : List (ℕ × ℕ)) (e : ℕ × ℕ) → I
 ends-push i k old new e h is = adds-same (λ f. f ≡ e) (IsEnds i k) old new
     (λ f. (λ same. subst (λ u. IsEnds i k u) (sym same) h, λ g. one_ends i k f e g h)) (adds-push old new e is)
 
-module _ (rule : ℕ) (parts : List (List Rect)) (owners : List ℕ) (cell : Rect) where
+module _ (spacing : Spacing) (parts : List (List Rect)) (owners : List ℕ) (cell : Rect) where
   -- a slab without a square in the cell finds no edge
-  pub cell-missed : (item : Item) (e : ℕ × ℕ) → IsMissed cell All item → IsSlabEdge rule parts owners cell item.owner item.rect e → ⊥
+  pub cell-missed : (item : Item) (e : ℕ × ℕ) → IsMissed cell All item → IsSlabEdge spacing parts owners cell item.owner item.rect e → ⊥
   cell-missed item e (inl apart) (k, h, is) = let (p, q, a, b, near) = h.near in apart-none cell item.rect p apart a.0 a.1
   cell-missed item e (inr none) h = none
 
-  edge_to : (e : ℕ × ℕ) → OfSlab (IsSlabEdge rule parts owners cell) parts e → (e.0 < e.1) × ConflictIn rule parts owners cell e.0 e.1
+  edge_to : (e : ℕ × ℕ) → OfSlab (IsSlabEdge spacing parts owners cell) parts e → (e.0 < e.1) × ConflictIn spacing parts owners cell e.0 e.1
   edge_to e (r, i, i_in, (j, j_in, j_is), (k, h, inl (l, is))) =
       let (p, q, a, b, near) = h.near in
-      let c : ConflictIn rule parts owners cell i k = record { first = i_in; second = h.known; apart = h.apart; near = inl (p, q, ((j, r, j_in, j_is, a.0), a.1), b, near) } in
-      subst (λ f. let g : ℕ × ℕ = f in (g.0 < g.1) × ConflictIn rule parts owners cell g.0 g.1) (sym is) (l, c)
+      let c : ConflictIn spacing parts owners cell i k = record { first = i_in; second = h.known; apart = h.apart; near = inl (p, q, ((j, r, j_in, j_is, a.0), a.1), b, near) } in
+      subst (λ f. let g : ℕ × ℕ = f in (g.0 < g.1) × ConflictIn spacing parts owners cell g.0 g.1) (sym is) (l, c)
   edge_to e (r, i, i_in, (j, j_in, j_is), (k, h, inr (l, is))) =
       let (p, q, a, b, near) = h.near in
       let far : k < i = elim (cases_eq k i) [ inl same ↦ absurd (h.apart (ap (slice_index owners) (sym same))) | inr ne ↦ omega (arith, l, ne) ] in
-      let c : ConflictIn rule parts owners cell k i =
+      let c : ConflictIn spacing parts owners cell k i =
       record {
         first = h.known;
         second = i_in;
         apart = λ s. h.apart (sym s);
-        near = inr (AreNear-sym rule (in_cell cell (part_at parts i))
+        near = inr (AreNear-sym spacing (in_cell cell (part_at parts i))
             (part_at parts k) (p, q, ((j, r, j_in, j_is, a.0), a.1), b, near));
       } in
-      subst (λ f. let g : ℕ × ℕ = f in (g.0 < g.1) × ConflictIn rule parts owners cell g.0 g.1) (sym is) (far, c)
+      subst (λ f. let g : ℕ × ℕ = f in (g.0 < g.1) × ConflictIn spacing parts owners cell g.0 g.1) (sym is) (far, c)
 
   by_near : (e : ℕ × ℕ) → e.0 < e.1 → e.0 < length parts → e.1 < length parts → slice_index owners e.0 ≢ slice_index owners e.1
-      → AreNear rule (in_cell cell (part_at parts e.0)) (part_at parts e.1) ⊎ AreNear rule (part_at parts e.0)
-      (in_cell cell (part_at parts e.1)) → OfSlab (IsSlabEdge rule parts owners cell) parts e
+      → AreNear spacing (in_cell cell (part_at parts e.0)) (part_at parts e.1) ⊎ AreNear spacing (part_at parts e.0)
+      (in_cell cell (part_at parts e.1)) → OfSlab (IsSlabEdge spacing parts owners cell) parts e
   by_near e l first second apart (inl (p, q, ((j, r, j_in, j_is, a), c), b, near)) = (
     r,
     e.0,
@@ -98,11 +99,11 @@ module _ (rule : ℕ) (parts : List (List Rect)) (owners : List ℕ) (cell : Rec
     (e.1, record { known = second; apart = apart; near = (p, q, (a, c), b, near) }, inl (l, refl)),
   )
   by_near e l first second apart (inr n) =
-      let (p, q, ((j, r, j_in, j_is, a), c), b, near) = AreNear-sym rule (part_at parts e.0) (in_cell cell (part_at parts e.1)) n in
+      let (p, q, ((j, r, j_in, j_is, a), c), b, near) = AreNear-sym spacing (part_at parts e.0) (in_cell cell (part_at parts e.1)) n in
       (r, e.1, second, (j, j_in, j_is), (e.0, record { known = first; apart = λ s. apart (sym s); near = (p, q, (a, c), b, near) }, inr (omega (arith, l), refl)))
 
   -- the slabs find the conflicts
-  pub slab-edges : (e : ℕ × ℕ) → OfSlab (IsSlabEdge rule parts owners cell) parts e ↔ ((e.0 < e.1) × ConflictIn rule parts owners cell e.0 e.1)
+  pub slab-edges : (e : ℕ × ℕ) → OfSlab (IsSlabEdge spacing parts owners cell) parts e ↔ ((e.0 < e.1) × ConflictIn spacing parts owners cell e.0 e.1)
   slab-edges e = (edge_to e, λ (l, c). by_near e l c.first c.second c.apart c.near)
 
 pub near-push : {P : Type 0} (old new : List ℕ) (k : ℕ) → P → new ≡ old ++ k ∷ [] → Adds (λ n. (n ≡ k) × P) old new
@@ -117,10 +118,10 @@ once-members xs sorted ys same once k =
     )
 
 -- a slab's edges, by the pieces near what it has in the cell
-pub slab-ends : (rule : ℕ) (parts : List (List Rect)) (owners : List ℕ) (cell : Rect) (i : ℕ) (r s : Rect) (ks : List ℕ)
-    → ((p : Pt) → Has s p ↔ in_cell cell (Has r) p) → ((k : ℕ) → Contains ks k ↔ IsNearPiece rule parts owners i (Has s) k)
-    → (e : ℕ × ℕ) → IsEndsOfAny i ks e ↔ IsSlabEdge rule parts owners cell i r e
-slab-ends rule parts owners cell i r s ks same all e = (
-  λ (k, k_in, h). (k, (near-as rule parts owners i s cell r k same).0 ((all k).0 k_in), h),
-  λ (k, near, h). (k, (all k).1 ((near-as rule parts owners i s cell r k same).1 near), h),
+pub slab-ends : (spacing : Spacing) (parts : List (List Rect)) (owners : List ℕ) (cell : Rect) (i : ℕ) (r s : Rect) (ks : List ℕ)
+    → ((p : Pt) → Has s p ↔ in_cell cell (Has r) p) → ((k : ℕ) → Contains ks k ↔ IsNearPiece spacing parts owners i (Has s) k)
+    → (e : ℕ × ℕ) → IsEndsOfAny i ks e ↔ IsSlabEdge spacing parts owners cell i r e
+slab-ends spacing parts owners cell i r s ks same all e = (
+  λ (k, k_in, h). (k, (near-as spacing parts owners i s cell r k same).0 ((all k).0 k_in), h),
+  λ (k, near, h). (k, (all k).1 ((near-as spacing parts owners i s cell r k same).1 near), h),
 )

@@ -7,11 +7,13 @@ use Rattle.std.specs.Int.{int_min, int_max}
 use Rattle.std.specs.Int.RustNames.{FitsSigned}
 use Rattle.std.specs.List.{Contains}
 use Rattle.std.proofs.lemmas.Int.{ints, clamps, by_lt_z, fits_signed_from_abs, to_z-of_z}
+use Rattle.dpl_spec_split.specs.declared.Spacing.{Spacing}
 use Rattle.dpl_spec_split.specs.declared.Pt.{Pt}
 use Rattle.dpl_spec_split.specs.declared.Rect.{Rect}
 use Rattle.dpl_spec_split.specs.Squares.{AreNear, Has, IsSolidWithin, gap}
 use Rattle.dpl_spec_split.specs.Slabs.{IsSolid, IsCanonical}
 use Rattle.dpl_spec_split.specs.Loops.{farthest, AreRectsWithin, IsRectWithin}
+use Rattle.dpl_spec_split.proofs.SpacingLaws.{few-below}
 use Rattle.dpl_slabs.specs.Parts.{AreParts}
 use Rattle.dpl_tree.specs.Trees.{LiesApart}
 use Rattle.dpl_tree.specs.Windows.{IsWidened}
@@ -19,35 +21,32 @@ use Rattle.dpl_tile.proofs.Numbers.{same-wide}
 use Rattle.dpl_edges.specs.InCells.{in_cell}
 use Rattle.dpl_edges.specs.Meetings.{HaveCommon}
 
-square_up : (m n : ℕ) → m ≤ n → m * m ≤ n * n
-square_up m n a = grind arith
-
 -- what has no square in a window that is wider by the rule isn't near
-pub apart-far : (rule : ℕ) (slab window r : Rect) → IsWidened slab rule window → LiesApart window r → AreNear rule (Has slab) (Has r) → ⊥
-apart-far rule slab window r wide (inl h) (p, q, a, b, near) =
+pub apart-far : (spacing : Spacing) (slab window r : Rect) → spacing.corner ≤ spacing.rule → IsWidened slab spacing.rule window → LiesApart window r → AreNear spacing (Has slab) (Has r) → ⊥
+apart-far spacing slab window r less wide (inl h) (p, q, a, b, near) =
     let w = wide.left in
     let l = a.left in
     let m = b.right in
-    let g = square_up rule (gap p.x q.x) (omega (arith, ints, w, h, l, m)) in
-    omega (arith, g, near)
-apart-far rule slab window r wide (inr (inl h)) (p, q, a, b, near) =
+    let g = (few-below spacing (gap p.x q.x) (gap p.y q.y) less near).0 in
+    omega (arith, ints, g, w, h, l, m)
+apart-far spacing slab window r less wide (inr (inl h)) (p, q, a, b, near) =
     let w = wide.right in
     let l = a.right in
     let m = b.left in
-    let g = square_up rule (gap p.x q.x) (omega (arith, ints, w, h, l, m)) in
-    omega (arith, g, near)
-apart-far rule slab window r wide (inr (inr (inl h))) (p, q, a, b, near) =
+    let g = (few-below spacing (gap p.x q.x) (gap p.y q.y) less near).0 in
+    omega (arith, ints, g, w, h, l, m)
+apart-far spacing slab window r less wide (inr (inr (inl h))) (p, q, a, b, near) =
     let w = wide.low in
     let l = a.low in
     let m = b.high in
-    let g = square_up rule (gap p.y q.y) (omega (arith, ints, w, h, l, m)) in
-    omega (arith, g, near)
-apart-far rule slab window r wide (inr (inr (inr h))) (p, q, a, b, near) =
+    let g = (few-below spacing (gap p.x q.x) (gap p.y q.y) less near).1 in
+    omega (arith, ints, g, w, h, l, m)
+apart-far spacing slab window r less wide (inr (inr (inr h))) (p, q, a, b, near) =
     let w = wide.high in
     let l = a.high in
     let m = b.low in
-    let g = square_up rule (gap p.y q.y) (omega (arith, ints, w, h, l, m)) in
-    omega (arith, g, near)
+    let g = (few-below spacing (gap p.x q.x) (gap p.y q.y) less near).1 in
+    omega (arith, ints, g, w, h, l, m)
 
 -- rectangles that lie apart have no square in common
 pub apart-none : (window r : Rect) (p : Pt) → LiesApart window r → Has r p → Has window p → ⊥

@@ -44,7 +44,7 @@ fn add_slab(
     requires slab { IsSolidWithin farthest item.now.rect }
     requires cell { IsSolid cell.now }
     requires common { HaveCommon cell.now item.now.rect }
-    ensures { OnOk result (Adds (IsSlabEdge plan.now.rule plan.now.parts plan.now.owners cell.now item.now.owner item.now.rect) found.old.items found.new.items) }
+    ensures { OnOk result (Adds (IsSlabEdge plan.now.spacing plan.now.parts plan.now.owners cell.now item.now.owner item.now.rect) found.old.items found.new.items) }
 {
     let part = clipped(&item.rect, cell);
     let others = near_pieces(alloc, plan, &part, item.owner)?;
@@ -56,7 +56,7 @@ fn add_slab(
 pub fn edges_in(alloc: Global, plan: &Plan, cell: &WideRect) -> Result<Vec<Edge>, AllocError>
     requires { IsSolid cell.now }
     ensures parts { AreParts plan.now.parts }
-    ensures edges { IfOk result (λ v. (e : ℕ × ℕ) → Contains v.items e ↔ ((e.0 < e.1) × ConflictIn plan.now.rule plan.now.parts plan.now.owners cell.now e.0 e.1)) }
+    ensures edges { IfOk result (λ v. (e : ℕ × ℕ) → Contains v.items e ↔ ((e.0 < e.1) × ConflictIn plan.now.spacing plan.now.parts plan.now.owners cell.now e.0 e.1)) }
 {
     let tree = plan.tree();
     let mut found = Vec::new(alloc);

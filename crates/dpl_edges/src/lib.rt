@@ -1,4 +1,4 @@
-//! The conflict graph of the pieces of a layer: pieces of different features that lie closer than a rule.
+//! The conflict graph of the pieces of a layer: pieces of different features that are near.
 #![tactic(auto)]
 
 ghost use Rattle.std.specs.Prelude.{ℕ, ◌<◌, IfOk, length};
@@ -24,7 +24,7 @@ use std::alloc::{AllocError, Global};
 fn sorted_edges(alloc: Global, plan: &Plan, cell: &WideRect) -> Result<Vec<Edge>, AllocError>
     requires { IsSolid cell.now }
     ensures parts { AreParts plan.now.parts }
-    ensures edges { IfOk result (λ v. AreEdges (ConflictIn plan.now.rule plan.now.parts plan.now.owners cell.now) v.items) }
+    ensures edges { IfOk result (λ v. AreEdges (ConflictIn plan.now.spacing plan.now.parts plan.now.owners cell.now) v.items) }
     ensures below { IfOk result (λ v. All (λ (e : ℕ × ℕ). (e.0 < e.1) × (e.1 < length plan.now.parts)) v.items) }
 {
     let mut edges = edges_in(alloc, plan, cell)?;
@@ -41,7 +41,7 @@ fn whole() -> WideRect
     WideRect::new(-FARTHEST, -FARTHEST, FARTHEST, FARTHEST)
 }
 
-/// The conflicts that a tile finds, smaller number first, in order, each once: two pieces of different owners, of which some square of one in the tile's cell lies closer than the plan's rule, in database units, to some square of the other, wherever that is. The distance of two squares is that of the closed squares, as the crow flies.
+/// The conflicts that a tile finds, smaller number first, in order, each once: two pieces of different owners, of which some square of one in the tile's cell is near some square of the other by the plan's spacing, wherever that is. The distance of two squares is that of the closed squares, as the crow flies.
 pub fn edges_of(alloc: Global, plan: &Plan, tile: u32) -> Result<Vec<Edge>, AllocError>
     requires { tile < length plan.now.cells }
     ensures edges { IfOk result (λ v. AreEdgesOf plan.now tile v.items) }
@@ -51,9 +51,9 @@ pub fn edges_of(alloc: Global, plan: &Plan, tile: u32) -> Result<Vec<Edge>, Allo
     sorted_edges(alloc, plan, &cell)
 }
 
-/// All conflicts of a plan's pieces, smaller number first, in order, each once: two pieces of different owners conflict where some square of one lies closer than the plan's rule to some square of the other.
+/// All conflicts of a plan's pieces, smaller number first, in order, each once: two pieces of different owners conflict where some square of one is near some square of the other by the plan's spacing.
 pub fn all_edges(alloc: Global, plan: &Plan) -> Result<Vec<Edge>, AllocError>
-    ensures edges { IfOk result (λ v. AreEdges (Conflict plan.now.rule plan.now.parts plan.now.owners) v.items) }
+    ensures edges { IfOk result (λ v. AreEdges (Conflict plan.now.spacing plan.now.parts plan.now.owners) v.items) }
     ensures below { IfOk result (λ v. All (λ (e : ℕ × ℕ). (e.0 < e.1) × (e.1 < length plan.now.parts)) v.items) }
 {
     let cell = whole();

@@ -1,5 +1,5 @@
 //! Finds the pieces near a rectangle.
-ghost use Rattle.std.specs.Prelude.{◌≡◌, ◌<◌, ◌↔◌, ℕ, IsTrue, IfOk, OnOk, length};
+ghost use Rattle.std.specs.Prelude.{◌≤◌, ◌≡◌, ◌<◌, ◌↔◌, ℕ, IsTrue, IfOk, OnOk, length};
 ghost use Rattle.std.specs.List.{Contains};
 ghost use Rattle.dpl_spec_split.specs.declared.Pt.{Pt};
 ghost use Rattle.dpl_spec_split.specs.Loops.{farthest};
@@ -9,7 +9,7 @@ ghost use Rattle.dpl_tile.specs.Adding.{Adds};
 ghost use Rattle.dpl_edges.specs.InCells.{in_cell};
 ghost use Rattle.dpl_edges.specs.Meetings.{AreMeeting, HaveCommon, IsNearPiece};
 
-use dpl_base::{Id, Rect, WideRect, near};
+use dpl_base::{Id, Rect, Spacing, WideRect, near};
 use dpl_tile::Plan;
 use dpl_tree::{Item, Owners, widened};
 use smallvec::SmallVec;
@@ -32,17 +32,18 @@ pub fn clipped(r: &Rect, cell: &WideRect) -> Rect
 }
 
 /// Whether piece `i` and that of an item conflict by a rectangle of piece `i` and the item's.
-fn meets(item: &Item, part: &Rect, i: usize, owner: &[Id], rule: u32) -> bool
+fn meets(item: &Item, part: &Rect, i: usize, owner: &[Id], spacing: Spacing) -> bool
+    requires corner { spacing.corner ≤ spacing.rule }
     requires piece { i < length owner.now }
     requires other { item.now.owner < length owner.now }
     requires part { IsSolidWithin farthest part.now }
     requires slab { IsSolidWithin farthest item.now.rect }
-    ensures { IsTrue result ↔ AreMeeting rule owner.now i part.now item.now.owner item.now.rect }
+    ensures { IsTrue result ↔ AreMeeting spacing owner.now i part.now item.now.owner item.now.rect }
 {
     if owner[i] == owner[item.owner] {
         return false;
     }
-    near(part, &item.rect, rule)
+    near(part, &item.rect, spacing)
 }
 
 /// Adds the piece of an item, where it and piece `i` conflict by a rectangle of piece `i` and the item's.
@@ -52,15 +53,16 @@ fn add_near(
     part: &Rect,
     i: usize,
     owner: &[Id],
-    rule: u32,
+    spacing: Spacing,
 ) -> Result<(), AllocError>
+    requires corner { spacing.corner ≤ spacing.rule }
     requires piece { i < length owner.now }
     requires other { item.now.owner < length owner.now }
     requires part { IsSolidWithin farthest part.now }
     requires slab { IsSolidWithin farthest item.now.rect }
-    ensures { OnOk result (Adds (λ k. (k ≡ item.now.owner) × AreMeeting rule owner.now i part.now item.now.owner item.now.rect) found.old.items found.new.items) }
+    ensures { OnOk result (Adds (λ k. (k ≡ item.now.owner) × AreMeeting spacing owner.now i part.now item.now.owner item.now.rect) found.old.items found.new.items) }
 {
-    if !meets(item, part, i, owner, rule) {
+    if !meets(item, part, i, owner, spacing) {
         return Ok(());
     }
     found.push(item.owner as Id)?;
@@ -76,10 +78,10 @@ fn all_near(
 ) -> Result<SmallVec<Id, 8>, AllocError>
     requires piece { i < length plan.now.parts }
     requires part { IsSolidWithin farthest part.now }
-    ensures { IfOk result (λ v. (k : ℕ) → Contains v.items k ↔ IsNearPiece plan.now.rule plan.now.parts plan.now.owners i (Has part.now) k) }
+    ensures { IfOk result (λ v. (k : ℕ) → Contains v.items k ↔ IsNearPiece plan.now.spacing plan.now.parts plan.now.owners i (Has part.now) k) }
 {
     let tree = plan.tree();
-    let window = widened(part, plan.rule());
+    let window = widened(part, plan.spacing().rule);
     let mut found = SmallVec::new(alloc);
     let mut n = tree.seek(0, &window, Owners::But(i));
     while n < tree.count() {
@@ -89,7 +91,7 @@ fn all_near(
             part,
             i,
             plan.owners(),
-            plan.rule(),
+            plan.spacing(),
         )?;
         n = tree.seek(n + 1, &window, Owners::But(i));
     }
@@ -105,7 +107,7 @@ pub fn near_pieces(
 ) -> Result<SmallVec<Id, 8>, AllocError>
     requires piece { i < length plan.now.parts }
     requires part { IsSolidWithin farthest part.now }
-    ensures { IfOk result (λ v. (k : ℕ) → Contains v.items k ↔ IsNearPiece plan.now.rule plan.now.parts plan.now.owners i (Has part.now) k) }
+    ensures { IfOk result (λ v. (k : ℕ) → Contains v.items k ↔ IsNearPiece plan.now.spacing plan.now.parts plan.now.owners i (Has part.now) k) }
 {
     let mut found = all_near(alloc, plan, part, i)?;
     found.sort_unstable();

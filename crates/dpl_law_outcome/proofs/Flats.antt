@@ -2,6 +2,7 @@
 use Rattle.std.proofs.Common.{◌≡◌, ℕ, ◌+◌, ◌%◌, Bool, List, length, map, get_or, sym, ap, ◌∙◌, subst, arith}
 use Rattle.std.specs.List.{zip}
 use Rattle.std.proofs.lemmas.List.{same_lists}
+use Rattle.dpl_spec_split.specs.declared.Spacing.{Spacing}
 use Rattle.dpl_spec_split.specs.declared.Pt.{Pt}
 use Rattle.dpl_spec_split.specs.declared.Rect.{Rect}
 use Rattle.dpl_spec_split.specs.Squares.{Region, Covers}
@@ -23,23 +24,23 @@ use Rattle.dpl_law_verdict.specs.Own.{head_of, piece_line, stitch_line, place_li
 
 -- ---- masks
 
-colours-same : (rule : ℕ) (c : Cut) (m n : Masks) (a : AreMasks rule c m) (b : AreMasks rule c n) → a.colours ≡ b.colours
-colours-same rule c m n a b =
-    let rooted = roots-unique (conflicts rule c) (length c.pieces) a.roots b.roots a.odds b.odds a.rooted b.rooted in
+colours-same : (spacing : Spacing) (c : Cut) (m n : Masks) (a : AreMasks spacing c m) (b : AreMasks spacing c n) → a.colours ≡ b.colours
+colours-same spacing c m n a b =
+    let rooted = roots-unique (conflicts spacing c) (length c.pieces) a.roots b.roots a.odds b.odds a.rooted b.rooted in
     let mine : AreColours b.roots b.odds c.sides a.colours = subst (λ o. AreColours b.roots o c.sides a.colours) rooted.1
     (subst (λ r. AreColours r a.odds c.sides a.colours) rooted.0 a.coloured) in
     colours-unique b.roots b.odds c.sides a.colours b.colours mine b.coloured
 
-painted-same : (rule overlap : ℕ) (c : Cut) (x y : Painted) → IsPaintedCut rule overlap c x → IsPaintedCut rule overlap c y → x ≡ y
-painted-same rule overlap c x y a b =
-    let done : Done a.masks ≡ Done b.masks = answer-unique rule c (Done a.masks) (Done b.masks) (a.even, a.are_masks) (b.even, b.are_masks) in
+painted-same : (spacing : Spacing) (overlap : ℕ) (c : Cut) (x y : Painted) → IsPaintedCut spacing overlap c x → IsPaintedCut spacing overlap c y → x ≡ y
+painted-same spacing overlap c x y a b =
+    let done : Done a.masks ≡ Done b.masks = answer-unique spacing c (Done a.masks) (Done b.masks) (a.even, a.are_masks) (b.even, b.are_masks) in
     let masks : a.masks ≡ b.masks = cc in
-    let colours : a.are_masks.colours ≡ b.are_masks.colours = colours-same rule c a.masks b.masks a.are_masks b.are_masks in
+    let colours : a.are_masks.colours ≡ b.are_masks.colours = colours-same spacing c a.masks b.masks a.are_masks b.are_masks in
     let paint : Masks → List Bool
     → Painted = λ m letters. record {
       a = m.a;
       b = m.b;
-      head = head_of rule overlap c;
+      head = head_of spacing overlap c;
       pieces = map piece_line
           (zip letters c.keys);
       stitches = map (stitch_line c.zones c.sides) m.stitches;
@@ -51,15 +52,15 @@ painted-same rule overlap c x y a b =
 abbrev line_at : Pt → Pt → NearLine
 line_at p q = record { from = p; to = q }
 
-nearest-same : (rule : ℕ) (p q : Region) (m n : NearLine) → IsNearestPair rule p q m.from m.to → IsNearestPair rule p q n.from n.to → m ≡ n
-nearest-same rule p q m n a b = let one = nearest-unique rule p q m.from m.to n.from n.to a b in ap (λ r. line_at r m.to) one.0 ∙ ap (λ r. line_at n.from r) one.1
+nearest-same : (spacing : Spacing) (p q : Region) (m n : NearLine) → IsNearestPair spacing p q m.from m.to → IsNearestPair spacing p q n.from n.to → m ≡ n
+nearest-same spacing p q m n a b = let one = nearest-unique spacing p q m.from m.to n.from n.to a b in ap (λ r. line_at r m.to) one.0 ∙ ap (λ r. line_at n.from r) one.1
 
-near-same : (rule : ℕ) (pieces : List (List Rect)) (cycle : List ℕ) (ms ns : List NearLine) → AreNearest rule pieces cycle ms → AreNearest rule pieces cycle ns → ms ≡ ns
-near-same rule pieces cycle ms ns a b =
+near-same : (spacing : Spacing) (pieces : List (List Rect)) (cycle : List ℕ) (ms ns : List NearLine) → AreNearest spacing pieces cycle ms → AreNearest spacing pieces cycle ns → ms ≡ ns
+near-same spacing pieces cycle ms ns a b =
     let many = a.each in
     let many2 = b.each in
     same_lists ms ns (many ∙ sym many2) (λ k d l.
-    nearest-same rule (part_at pieces (get_or cycle k 0)) (part_at pieces (get_or cycle ((k + 1) % length cycle) 0)) (get_or ms k d)
+    nearest-same spacing (part_at pieces (get_or cycle k 0)) (part_at pieces (get_or cycle ((k + 1) % length cycle) 0)) (get_or ms k d)
     (get_or ns k d) (a.pair k d (omega (arith, l, many))) (b.pair k d (omega (arith, l, many))))
 
 same-clash : (x y : Clash) → x.head ≡ y.head → x.cycle ≡ y.cycle → x.near ≡ y.near → x ≡ y
@@ -67,22 +68,22 @@ same-clash x y a b c =
     let of_parts : Head → List PlaceLine → List NearLine → Clash = λ h p n. record { head = h; cycle = p; near = n } in
     ap (λ h. of_parts h x.cycle x.near) a ∙ (ap (λ p. of_parts y.head p x.near) b ∙ ap (λ n. of_parts y.head y.cycle n) c)
 
-clash-same : (rule overlap : ℕ) (c : Cut) (x y : Clash) → IsClashOfCut rule overlap c x → IsClashOfCut rule overlap c y → x ≡ y
-clash-same rule overlap c x y a b =
-    let cycle : a.cycle ≡ b.cycle = cycle-unique (conflicts rule c) a.cycle b.cycle a.reported b.reported in
-    let near : AreNearest rule c.pieces b.cycle x.near = subst (λ k. AreNearest rule c.pieces k x.near) cycle a.nearest in
-    same-clash x y (a.head ∙ sym b.head) (a.places ∙ (ap (λ k. map (place_line c.keys) k) cycle ∙ sym b.places)) (near-same rule c.pieces b.cycle x.near y.near near b.nearest)
+clash-same : (spacing : Spacing) (overlap : ℕ) (c : Cut) (x y : Clash) → IsClashOfCut spacing overlap c x → IsClashOfCut spacing overlap c y → x ≡ y
+clash-same spacing overlap c x y a b =
+    let cycle : a.cycle ≡ b.cycle = cycle-unique (conflicts spacing c) a.cycle b.cycle a.reported b.reported in
+    let near : AreNearest spacing c.pieces b.cycle x.near = subst (λ k. AreNearest spacing c.pieces k x.near) cycle a.nearest in
+    same-clash x y (a.head ∙ sym b.head) (a.places ∙ (ap (λ k. map (place_line c.keys) k) cycle ∙ sym b.places)) (near-same spacing c.pieces b.cycle x.near y.near near b.nearest)
 
 -- ---- decompositions
 
-flat_cut-same : (rule overlap : ℕ) (c : Cut) (x y : Flat) → IsFlatCut rule overlap c x → IsFlatCut rule overlap c y → x ≡ y
-flat_cut-same rule overlap c (Paints x) (Paints y) a b = ap (λ p. Paints p) (painted-same rule overlap c x y a b)
-flat_cut-same rule overlap c (Paints x) (Clashes y) a b = absurd (a.even b.odd)
-flat_cut-same rule overlap c (Clashes x) (Paints y) a b = absurd (b.even a.odd)
-flat_cut-same rule overlap c (Clashes x) (Clashes y) a b = ap (λ p. Clashes p) (clash-same rule overlap c x y a b)
+flat_cut-same : (spacing : Spacing) (overlap : ℕ) (c : Cut) (x y : Flat) → IsFlatCut spacing overlap c x → IsFlatCut spacing overlap c y → x ≡ y
+flat_cut-same spacing overlap c (Paints x) (Paints y) a b = ap (λ p. Paints p) (painted-same spacing overlap c x y a b)
+flat_cut-same spacing overlap c (Paints x) (Clashes y) a b = absurd (a.even b.odd)
+flat_cut-same spacing overlap c (Clashes x) (Paints y) a b = absurd (b.even a.odd)
+flat_cut-same spacing overlap c (Clashes x) (Clashes y) a b = ap (λ p. Clashes p) (clash-same spacing overlap c x y a b)
 
-pub flat-same : (rule overlap : ℕ) (layer : List Rect) (x y : Flat) → IsFlat rule overlap layer x → IsFlat rule overlap layer y → x ≡ y
-flat-same rule overlap layer x y (c, is_c, a) (d, is_d, b) =
-    let same : c ≡ d = cut-unique rule overlap (Covers layer) c d
-    (sides-unique rule overlap (Covers layer) c.features c.pieces c.zones is_c.features is_c.zones is_c.pieces.components) is_c is_d in
-    flat_cut-same rule overlap c x y a (subst (λ e. IsFlatCut rule overlap e y) (sym same) b)
+pub flat-same : (spacing : Spacing) (overlap : ℕ) (layer : List Rect) (x y : Flat) → IsFlat spacing overlap layer x → IsFlat spacing overlap layer y → x ≡ y
+flat-same spacing overlap layer x y (c, is_c, a) (d, is_d, b) =
+    let same : c ≡ d = cut-unique spacing overlap (Covers layer) c d
+    (sides-unique spacing overlap (Covers layer) c.features c.pieces c.zones is_c.features is_c.zones is_c.pieces.components) is_c is_d in
+    flat_cut-same spacing overlap c x y a (subst (λ e. IsFlatCut spacing overlap e y) (sym same) b)

@@ -1,5 +1,6 @@
 -- The masks of a layer are right.
 use Rattle.std.proofs.Common.{◌≡◌, ℕ, List, [], ◌∷◌, map, refl, sym, ap, subst}
+use Rattle.dpl_spec_split.specs.declared.Spacing.{Spacing}
 use Rattle.dpl_spec_split.specs.declared.Rect.{Rect}
 use Rattle.dpl_spec_split.specs.declared.Zone.{Zone}
 use Rattle.dpl_spec_split.specs.Squares.{Covers}
@@ -17,15 +18,15 @@ rects-same : (zones : List Zone) (sides : List (ℕ × ℕ)) (ks : List ℕ) →
 rects-same zones sides [] = refl
 rects-same zones sides (k ∷ ks) = ap (λ rs. rect_at zones k ∷ rs) (rects-same zones sides ks)
 
-pub painted-right : (rule overlap : ℕ) (layer : List Rect) (p : Painted) → IsFlat rule overlap layer (Paints p) → AreRight rule layer p
-painted-right rule overlap layer p (c, is_c, a) =
+pub painted-right : (spacing : Spacing) (overlap : ℕ) (layer : List Rect) (p : Painted) → IsFlat spacing overlap layer (Paints p) → AreRight spacing layer p
+painted-right spacing overlap layer p (c, is_c, a) =
     let m = a.masks in
-    subst (λ q. AreRight rule layer q) (sym a.is) (record {
-      cover = cover rule overlap (Covers layer) c m is_c a.are_masks;
+    subst (λ q. AreRight spacing layer q) (sym a.is) (record {
+      cover = cover spacing overlap (Covers layer) c m is_c a.are_masks;
       apart = λ features are. let same = components-unique (Covers layer) c.features features is_c.features are in
-          subst (λ fs. KeepsApart rule fs m.a × KeepsApart rule fs m.b) same (
-            far-on-a rule overlap (Covers layer) c m is_c a.are_masks a.even,
-            far-on-b rule overlap (Covers layer) c m is_c a.are_masks a.even,
+          subst (λ fs. KeepsApart spacing fs m.a × KeepsApart spacing fs m.b) same (
+            far-on-a spacing overlap (Covers layer) c m is_c a.are_masks a.even,
+            far-on-b spacing overlap (Covers layer) c m is_c a.are_masks a.even,
           );
-      overlap = subst (λ rs. OverlapAt rs m.a m.b) (rects-same c.zones c.sides m.stitches) (overlap-at rule overlap (Covers layer) c m is_c a.are_masks);
+      overlap = subst (λ rs. OverlapAt rs m.a m.b) (rects-same c.zones c.sides m.stitches) (overlap-at spacing overlap (Covers layer) c m is_c a.are_masks);
     })

@@ -2,6 +2,7 @@
 use Rattle.std.proofs.Common.{◌≡◌, ℕ, inl, inr, List, Option, Some, None, refl, sym, ap, ◌∙◌, subst, arith, codes}
 use Rattle.std.specs.FinMap as map
 use Rattle.std.proofs.lemmas.Bool.{cases_order}
+use Rattle.dpl_spec_split.specs.Squares.{uniform}
 use Rattle.dpl_spec_split.specs.declared.Rect.{Rect}
 use Rattle.dpl_cert.specs.declared.name.Name.{Name}
 use Rattle.dpl_cert.specs.declared.cert.Cert.{Cert}
@@ -35,7 +36,7 @@ decision-same v rule overlap bytes (Decides p x) (Decides q y) (r, a, is_x) (s, 
     let same : Layer p r ≡ Layer q s = reading-same v bytes (Layer p r) (Layer q s) a b in
     let fronts : p ≡ q = cc in
     let slabs : s ≡ r = cc in
-    let flats : x ≡ y = flat-same rule overlap r x y is_x (subst (λ l. IsFlat rule overlap l y) slabs is_y) in
+    let flats : x ≡ y = flat-same (uniform rule) overlap r x y is_x (subst (λ l. IsFlat (uniform rule) overlap l y) slabs is_y) in
     ap (λ f. Decides f x) fronts ∙ ap (λ f. Decides q f) flats
 
 -- other tiles and workers plan alike
@@ -77,7 +78,7 @@ module _ (file : List ℕ) (choice : Choice) (bytes : List ℕ) (next : List Rec
       each r x y p (subst (λ l. next l y) slabs q)
 
 judged-same : (v : CheckValues) (layer : List Rect) (cert : Cert) (a b : List Rect) (x y : Outcome) → IsJudged v layer cert a b x → IsJudged v layer cert a b y → x ≡ y
-judged-same v layer cert a b x y (w, is_w, p) (u, is_u, q) = p ∙ (ap (verdict_outcome cert) (masks-unique v.rule v.overlap layer a b cert w u is_w is_u) ∙ sym q)
+judged-same v layer cert a b x y (w, is_w, p) (u, is_u, q) = p ∙ (ap (verdict_outcome cert) (masks-unique (uniform v.rule) v.overlap layer a b cert w u is_w is_u) ∙ sym q)
 
 masks-same : (v : CheckValues) (layer : List Rect) (cert : Cert) (bytes : List ℕ) (x y : Outcome) → IsCheckOfMasks v layer cert bytes x
     → IsCheckOfMasks v layer cert bytes y → x ≡ y
@@ -90,7 +91,7 @@ cert-same : (v : CheckValues) (layer : List Rect) (out : Option (List ℕ)) (cer
 cert-same v layer None (Masks h ps ss) x y p q = p ∙ sym q
 cert-same v layer (Some bytes) (Masks h ps ss) x y p q = masks-same v layer (Masks h ps ss) bytes x y p q
 cert-same v layer out (Conflict h cs ns) x y (w, is_w, p) (u, is_u, q) =
-    p ∙ (ap (verdict_outcome (Conflict h cs ns)) (conflict-unique v.rule v.overlap layer (Conflict h cs ns) w u is_w is_u) ∙ sym q)
+    p ∙ (ap (verdict_outcome (Conflict h cs ns)) (conflict-unique (uniform v.rule) v.overlap layer (Conflict h cs ns) w u is_w is_u) ∙ sym q)
 cert-same v layer out (Fault name at) x y p q = p ∙ sym q
 
 texts-same : (c d : Cert) (text : List ℕ) → IsText c text → IsText d text → c ≡ d

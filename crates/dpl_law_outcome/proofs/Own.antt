@@ -15,12 +15,12 @@ use Rattle.dpl_law_verdict.proofs.Clashing.{clash-verdict}
 use Rattle.dpl_law_outcome.specs.Own.{PaintedIsValid, ClashIsValid}
 
 pub painted-valid : PaintedIsValid
-painted-valid rule overlap layer cut p is_cut a =
-    subst (λ (q : Painted). IsVerdictOfMasks rule overlap layer q.a q.b (Masks q.head q.pieces q.stitches) Valid) (sym a.is)
-    (kept-valid rule overlap _ (painted-kept rule overlap layer cut a.masks is_cut a.are_masks a.even))
+painted-valid spacing overlap layer cut p is_cut a =
+    subst (λ (q : Painted). IsVerdictOfMasks spacing overlap layer q.a q.b (Masks q.head q.pieces q.stitches) Valid) (sym a.is)
+    (kept-valid spacing overlap _ (painted-kept spacing overlap layer cut a.masks is_cut a.are_masks a.even))
 
 pub clash-valid : ClashIsValid
-clash-valid rule overlap layer cut x is_cut a =
-    subst (λ (h : Head). IsVerdictOfConflict rule overlap layer (Conflict h x.cycle x.near) Valid) (sym a.head)
-    (subst (λ (ps : List PlaceLine). IsVerdictOfConflict rule overlap layer (Conflict (head_of rule overlap cut) ps x.near) Valid) (sym a.places)
-    (clash-verdict rule overlap layer cut a.cycle x.near is_cut a.reported a.nearest.pair))
+clash-valid spacing overlap layer cut x is_cut a =
+    subst (λ (h : Head). IsVerdictOfConflict spacing overlap layer (Conflict h x.cycle x.near) Valid) (sym a.head)
+    (subst (λ (ps : List PlaceLine). IsVerdictOfConflict spacing overlap layer (Conflict (head_of spacing overlap cut) ps x.near) Valid) (sym a.places)
+    (clash-verdict spacing overlap layer cut a.cycle x.near is_cut a.reported a.nearest.pair))

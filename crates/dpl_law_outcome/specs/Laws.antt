@@ -1,6 +1,7 @@
 -- A command line has at most one outcome, and masks are right.
 use Rattle.std.specs.Prelude.{◌≡◌, ℕ, List, map, Option, Some}
 use Rattle.clap.specs.Walk.{Text}
+use Rattle.dpl_spec_split.specs.declared.Spacing.{Spacing}
 use Rattle.dpl_host.specs.Outside.{Files, Outside}
 use Rattle.dpl_spec_split.specs.declared.Rect.{Rect}
 use Rattle.dpl_spec_split.specs.Squares.{Covers}
@@ -30,10 +31,10 @@ OneRun = (request : RequestValues) (tile workers : ℕ) (words others : List Tex
     → request_of others ≡ Some (retiled request tile workers) → IsOutcome words s (Some o) new → IsOutcome others t (Some o) other → (s ≡ t) × (new ≡ other)
 
 -- what holds of the masks of a layer and of the stitches that their certificate lists
-pub record AreRight (rule : ℕ) (layer : List Rect) (p : Painted) : Type 0 where
+pub record AreRight (spacing : Spacing) (layer : List Rect) (p : Painted) : Type 0 where
   pub cover : AreCover layer p.a p.b
-  pub apart : (features : List (List Rect)) → AreComponents (Covers layer) features → KeepsApart rule features p.a × KeepsApart rule features p.b
+  pub apart : (features : List (List Rect)) → AreComponents (Covers layer) features → KeepsApart spacing features p.a × KeepsApart spacing features p.b
   pub overlap : OverlapAt (map (λ (s : StitchLine). s.rect) p.stitches) p.a p.b
 
 abbrev pub PaintedMasksAreRight : Type 0
-PaintedMasksAreRight = (rule overlap : ℕ) (layer : List Rect) (p : Painted) → IsFlat rule overlap layer (Paints p) → AreRight rule layer p
+PaintedMasksAreRight = (spacing : Spacing) (overlap : ℕ) (layer : List Rect) (p : Painted) → IsFlat spacing overlap layer (Paints p) → AreRight spacing layer p

@@ -1,5 +1,6 @@
 -- The results of the program are valid.
 use Rattle.std.specs.Prelude.{ℕ, List}
+use Rattle.dpl_spec_split.specs.declared.Spacing.{Spacing}
 use Rattle.dpl_spec_split.specs.declared.Rect.{Rect}
 use Rattle.dpl_spec_split.specs.Squares.{Covers}
 use Rattle.dpl_spec_split.specs.Decomposition.{Cut, IsCut}
@@ -11,10 +12,10 @@ use Rattle.dpl_answer.specs.Flat.{Painted, Clash, IsPaintedCut, IsClashOfCut}
 
 -- nothing is wrong with the masks of a cut
 abbrev pub PaintedIsValid : Type 0
-PaintedIsValid = (rule overlap : ℕ) (layer : List Rect) (cut : Cut) (p : Painted) → IsCut rule overlap (Covers layer) cut → IsPaintedCut rule overlap cut p
-    → IsVerdictOfMasks rule overlap layer p.a p.b (Masks p.head p.pieces p.stitches) Valid
+PaintedIsValid = (spacing : Spacing) (overlap : ℕ) (layer : List Rect) (cut : Cut) (p : Painted) → IsCut spacing overlap (Covers layer) cut → IsPaintedCut spacing overlap cut p
+    → IsVerdictOfMasks spacing overlap layer p.a p.b (Masks p.head p.pieces p.stitches) Valid
 
 -- nothing is wrong with the cycle of a cut
 abbrev pub ClashIsValid : Type 0
-ClashIsValid = (rule overlap : ℕ) (layer : List Rect) (cut : Cut) (x : Clash) → IsCut rule overlap (Covers layer) cut → IsClashOfCut rule overlap cut x
-    → IsVerdictOfConflict rule overlap layer (Conflict x.head x.cycle x.near) Valid
+ClashIsValid = (spacing : Spacing) (overlap : ℕ) (layer : List Rect) (cut : Cut) (x : Clash) → IsCut spacing overlap (Covers layer) cut → IsClashOfCut spacing overlap cut x
+    → IsVerdictOfConflict spacing overlap layer (Conflict x.head x.cycle x.near) Valid

@@ -5,17 +5,19 @@ use Rattle.std.specs.List.{Contains}
 use Rattle.std.proofs.lemmas.Int.{ints}
 use Rattle.std.proofs.lemmas.Bool.{cases_lt, cases_order}
 use Rattle.std.proofs.lemmas.Bool.Decides.{nat_tests}
+use Rattle.dpl_spec_split.proofs.SpacingLaws.{few-swapped, near-or_far}
+use Rattle.dpl_spec_split.specs.declared.Spacing.{Spacing}
 use Rattle.dpl_spec_split.specs.declared.Pt.{Pt}
 use Rattle.dpl_spec_split.specs.declared.Rect.{Rect}
 use Rattle.dpl_spec_split.specs.declared.Zone.{Zone}
-use Rattle.dpl_spec_split.specs.Squares.{Region, Covers, Has, d2}
+use Rattle.dpl_spec_split.specs.Squares.{Region, Covers, Has, d2, Near}
 use Rattle.dpl_spec_split.specs.Zones.{at, IsStretch, IsMiddle, IsHorizontalZone, IsKeptZone, transposed, transposed_rect, part_at}
 use Rattle.dpl_spec_split.specs.Pieces.{Conflict}
 use Rattle.dpl_spec_split.specs.Graphs.{Graph, stay, step, IsDistance}
 use Rattle.dpl_spec_split.specs.Summary.{HasOddCycle}
 use Rattle.dpl_spec_split.specs.Colours.{differ, is_flipped, AreRoots, AreColours, colour_at, on_mask}
 use Rattle.dpl_spec_split.specs.Decomposition.{Cut, IsCut, conflicts, Masks, AreMasks}
-use Rattle.dpl_spec_split.proofs.SquareLaws.{d2-sym, AreNear-sym}
+use Rattle.dpl_spec_split.proofs.SquareLaws.{d2-sym, AreNear-sym, far-sym}
 use Rattle.dpl_spec_split.proofs.GraphLaws.{root-unique}
 use Rattle.dpl_stars.specs.Laws.{HasLevelEdge}
 use Rattle.dpl_stars.proofs.Walks.{IsUndirected, root-along, distance-step}
@@ -23,29 +25,25 @@ use Rattle.dpl_stars.proofs.Forks.{level-cycle}
 use Rattle.dpl_law_split.proofs.Parts.{part-within, part-inside, part-same, kept, zone-own, owner-is}
 
 -- the squares of a zone are clear
-module _ (rule overlap : ℕ) (layer f : Region) where
-  margins : (r z : Rect) → IsStretch rule overlap layer f r → IsMiddle overlap r z → (r.x0 <ℤ z.x0) × (z.x1 <ℤ r.x1)
+module _ (spacing : Spacing) (overlap : ℕ) (layer f : Region) where
+  margins : (r z : Rect) → IsStretch spacing overlap layer f r → IsMiddle overlap r z → (r.x0 <ℤ z.x0) × (z.x1 <ℤ r.x1)
   margins r z a m = elim m.middle [
     | inl e ↦ (omega (arith, ints, e, a.long, m.width), omega (arith, ints, e, a.long, m.width))
     | inr e ↦ (omega (arith, ints, e, a.long, m.width), omega (arith, ints, e, a.long, m.width))
   ]
 
-  level-clear : (z : Rect) (p q : Pt) → IsHorizontalZone rule overlap layer f z → Has z p → layer q → (f q → ⊥) → rule * rule ≤ d2 p q
+  level-clear : (z : Rect) (p q : Pt) → IsHorizontalZone spacing overlap layer f z → Has z p → layer q → (f q → ⊥) → ¬ Near spacing p q
   level-clear z p q h has in_layer other =
       let g = margins h.stretch z h.is h.middle in
       let rows = h.middle.rows in
       let run = h.is.runs p.x (omega (arith, ints, g.0, has.left)) (omega (arith, ints, g.1, has.right)) in
       run.clear p.y (omega (arith, ints, has.low, rows.0)) (omega (arith, ints, has.high, rows.1)) q in_layer other
 
-d2-transposed : (p q : Pt) → d2 (at p.y p.x) (at q.y q.x) ≡ d2 p q
-d2-transposed p q = omega arith
-
-kept-clear : (rule overlap : ℕ) (layer f : Region) (z : Rect) (p q : Pt) → IsKeptZone rule overlap layer f z → Has z p → layer q → (f q → ⊥) → rule * rule ≤ d2 p q
-kept-clear rule overlap layer f z p q (inl h) has in_layer other = level-clear rule overlap layer f z p q h has in_layer other
-kept-clear rule overlap layer f z p q (inr (v, apart)) has in_layer other =
-    subst (λ n. rule * rule ≤ n) (d2-transposed p q)
-    (level-clear rule overlap (transposed layer) (transposed f) (transposed_rect z) (at p.y p.x) (at q.y q.x) v
-    (record { left = has.low; right = has.high; low = has.left; high = has.right }) in_layer other)
+kept-clear : (spacing : Spacing) (overlap : ℕ) (layer f : Region) (z : Rect) (p q : Pt) → IsKeptZone spacing overlap layer f z → Has z p → layer q → (f q → ⊥) → ¬ Near spacing p q
+kept-clear spacing overlap layer f z p q (inl h) has in_layer other near = level-clear spacing overlap layer f z p q h has in_layer other near
+kept-clear spacing overlap layer f z p q (inr (v, apart)) has in_layer other near =
+    level-clear spacing overlap (transposed layer) (transposed f) (transposed_rect z) (at p.y p.x) (at q.y q.x) v
+    (record { left = has.low; right = has.high; low = has.left; high = has.right }) in_layer other (few-swapped spacing _ _ near)
 
 -- letters
 differ-same : (a b f : Bool) → differ a f ≡ differ b f → a ≡ b
@@ -99,44 +97,44 @@ module _ (joined : Graph) (un : IsUndirected joined) (count : ℕ) (roots : List
       sym cu ∙ (same ∙ (cv ∙ ap (λ f. differ (get_or odds v false) f) flips)) in
       even (parity-cycle u v u_in v_in e (differ-same (get_or odds u false) (get_or odds v false) (is_flipped roots odds colours sides (get_or roots u 0)) both))
 
-conflicts-undirected : (rule : ℕ) (c : Cut) → IsUndirected (conflicts rule c)
-conflicts-undirected rule c = record {
-  both = λ u v h. record { first = h.second; second = h.first; apart = λ e. h.apart (sym e); near = AreNear-sym rule _ _ h.near };
+conflicts-undirected : (spacing : Spacing) (c : Cut) → IsUndirected (conflicts spacing c)
+conflicts-undirected spacing c = record {
+  both = λ u v h. record { first = h.second; second = h.first; apart = λ e. h.apart (sym e); near = AreNear-sym spacing _ _ h.near };
   different = λ u v h e. h.apart (ap (λ k. get_or c.owners k 0) e);
 }
 
-module _ (rule overlap : ℕ) (layer : Region) (c : Cut) (m : Masks) (cut : IsCut rule overlap layer c) (masks : AreMasks rule c m) (even : HasOddCycle (conflicts rule c) → ⊥) where
+module _ (spacing : Spacing) (overlap : ℕ) (layer : Region) (c : Cut) (m : Masks) (cut : IsCut spacing overlap layer c) (masks : AreMasks spacing c m) (even : HasOddCycle (conflicts spacing c) → ⊥) where
   -- a zone's square is clear of other features
-  zone-far : (z : Zone) (i j : ℕ) (p q : Pt) → Contains c.zones z → Has z.rect p → part_at c.features i p → part_at c.features j q → i ≢ j → rule * rule ≤ d2 p q
+  zone-far : (z : Zone) (i j : ℕ) (p q : Pt) → Contains c.zones z → Has z.rect p → part_at c.features i p → part_at c.features j q → i ≢ j → ¬ Near spacing p q
   zone-far z i j p q z_in has in_i in_j ne =
-      let mine : z.feature ≡ i = part-same layer c.features z.feature i p cut.features (zone-own rule overlap layer c cut z p z_in has) in_i in
-      kept-clear rule overlap layer (part_at c.features z.feature) z.rect p q (kept rule overlap layer c cut z z_in).1 has
+      let mine : z.feature ≡ i = part-same layer c.features z.feature i p cut.features (zone-own spacing overlap layer c cut z p z_in has) in_i in
+      kept-clear spacing overlap layer (part_at c.features z.feature) z.rect p q (kept spacing overlap layer c cut z z_in).1 has
       (part-inside layer c.features j q cut.features in_j)
       (λ in_z. ne (sym mine ∙ part-same layer c.features z.feature j q cut.features in_z in_j))
 
   pieces-far : (letter : Bool) (k l i j : ℕ) (p q : Pt) → part_at c.pieces k p → part_at c.pieces l q → colour_at masks.colours k ≡ letter
-      → colour_at masks.colours l ≡ letter → part_at c.features i p → part_at c.features j q → i ≢ j → rule * rule ≤ d2 p q
-  pieces-far letter k l i j p q in_k in_l k_is l_is in_i in_j ne = elim (cases_lt (d2 p q) (rule * rule)) [
+      → colour_at masks.colours l ≡ letter → part_at c.features i p → part_at c.features j q → i ≢ j → ¬ Near spacing p q
+  pieces-far letter k l i j p q in_k in_l k_is l_is in_i in_j ne = elim (near-or_far spacing p q) [
     | inr far ↦ far
     | inl close ↦ (let k_in = part-within c.pieces k p in_k in
         let l_in = part-within c.pieces l q in_l in
-        let apart : get_or c.owners k 0 ≢ get_or c.owners l 0 = λ e. ne (sym (owner-is rule overlap layer c cut k i p in_k in_i)
-        ∙ (e ∙ owner-is rule overlap layer c cut l j q in_l in_j)) in
-        let joined : Conflict rule c.pieces c.owners k l = record { first = k_in; second = l_in; apart = apart; near = (p, q, in_k, in_l, close) } in
-        absurd (letters-differ (conflicts rule c) (conflicts-undirected rule c) (length c.pieces) masks.roots masks.odds masks.rooted
+        let apart : get_or c.owners k 0 ≢ get_or c.owners l 0 = λ e. ne (sym (owner-is spacing overlap layer c cut k i p in_k in_i)
+        ∙ (e ∙ owner-is spacing overlap layer c cut l j q in_l in_j)) in
+        let joined : Conflict spacing c.pieces c.owners k l = record { first = k_in; second = l_in; apart = apart; near = (p, q, in_k, in_l, close) } in
+        absurd (letters-differ (conflicts spacing c) (conflicts-undirected spacing c) (length c.pieces) masks.roots masks.odds masks.rooted
         c.sides masks.colours masks.coloured even k l k_in l_in joined (k_is ∙ sym l_is)))
   ]
 
   masked-far : (letter : Bool) (i j : ℕ) (p q : Pt) → i ≢ j → part_at c.features i p → part_at c.features j q
       → on_mask c.pieces c.zones c.sides masks.colours letter p → on_mask c.pieces c.zones c.sides masks.colours letter q
-      → rule * rule ≤ d2 p q
+      → ¬ Near spacing p q
   masked-far letter i j p q ne in_i in_j (inr (k, z, side, l, z_is, side_is, letter_is, has)) b = zone-far z i j p q (k, l, z_is) has in_i in_j ne
   masked-far letter i j p q ne in_i in_j (inl a) (inr (k, z, side, l, z_is, side_is, letter_is, has)) =
-      subst (λ n. rule * rule ≤ n) (d2-sym q p) (zone-far z j i q p (k, l, z_is) has in_j in_i (λ e. ne (sym e)))
+      far-sym spacing q p (zone-far z j i q p (k, l, z_is) has in_j in_i (λ e. ne (sym e)))
   masked-far letter i j p q ne in_i in_j (inl (k, k_in, k_is, in_k)) (inl (l, l_in, l_is, in_l)) = pieces-far letter k l i j p q in_k in_l k_is l_is in_i in_j ne
 
-  pub far-on-a : (i j : ℕ) (p q : Pt) → i ≢ j → part_at c.features i p → part_at c.features j q → Covers m.a p → Covers m.a q → rule * rule ≤ d2 p q
+  pub far-on-a : (i j : ℕ) (p q : Pt) → i ≢ j → part_at c.features i p → part_at c.features j q → Covers m.a p → Covers m.a q → ¬ Near spacing p q
   far-on-a i j p q ne in_i in_j a b = masked-far false i j p q ne in_i in_j ((masks.a.covers p).0 a) ((masks.a.covers q).0 b)
 
-  pub far-on-b : (i j : ℕ) (p q : Pt) → i ≢ j → part_at c.features i p → part_at c.features j q → Covers m.b p → Covers m.b q → rule * rule ≤ d2 p q
+  pub far-on-b : (i j : ℕ) (p q : Pt) → i ≢ j → part_at c.features i p → part_at c.features j q → Covers m.b p → Covers m.b q → ¬ Near spacing p q
   far-on-b i j p q ne in_i in_j a b = masked-far true i j p q ne in_i in_j ((masks.b.covers p).0 a) ((masks.b.covers q).0 b)

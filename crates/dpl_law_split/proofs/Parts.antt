@@ -4,6 +4,7 @@ use Rattle.std.specs.List.{Any, AllZip, Contains}
 use Rattle.std.proofs.lemmas.Int.{ints, by_lt_z}
 use Rattle.std.proofs.lemmas.Bool.{cases_lt, cases_order}
 use Rattle.std.proofs.lemmas.List.{get_or_past, get_or_default}
+use Rattle.dpl_spec_split.specs.declared.Spacing.{Spacing}
 use Rattle.dpl_spec_split.specs.declared.Pt.{Pt}
 use Rattle.dpl_spec_split.specs.declared.Rect.{Rect}
 use Rattle.dpl_spec_split.specs.declared.Zone.{Zone}
@@ -74,44 +75,44 @@ zoned_or_not (z ∷ zs) p = elim (has_or_not z.rect p) [
   ]
 ]
 
-module _ (rule overlap : ℕ) (layer : Region) where
-  pub kept-inside : (f : Region) (r : Rect) (p : Pt) → IsKeptZone rule overlap layer f r → Has r p → f p
-  kept-inside f r p (inl h) has = zone-in-feature rule layer f overlap r p h has
+module _ (spacing : Spacing) (overlap : ℕ) (layer : Region) where
+  pub kept-inside : (f : Region) (r : Rect) (p : Pt) → IsKeptZone spacing overlap layer f r → Has r p → f p
+  kept-inside f r p (inl h) has = zone-in-feature spacing layer f overlap r p h has
   kept-inside f r p (inr (v, apart)) has =
-      zone-in-feature rule (transposed layer) (transposed f) overlap (transposed_rect r) (at p.y p.x) v
+      zone-in-feature spacing (transposed layer) (transposed f) overlap (transposed_rect r) (at p.y p.x) v
       (record { left = has.low; right = has.high; low = has.left; high = has.right })
 
   touches-itself : (p : Pt) → Touch p p
   touches-itself p = Touch-from_close p p (omega (arith, ints)) (omega (arith, ints)) (omega (arith, ints)) (omega (arith, ints))
 
-  level-same : (f : Region) (r s : Rect) (p : Pt) → IsHorizontalZone rule overlap layer f r → IsHorizontalZone rule overlap layer f s → Has r p → Has s p → r ≡ s
+  level-same : (f : Region) (r s : Rect) (p : Pt) → IsHorizontalZone spacing overlap layer f r → IsHorizontalZone spacing overlap layer f s → Has r p → Has s p → r ≡ s
   level-same f r s p h k a b =
       let left = a.left in
       let right = a.right in
-      beside-same rule layer f overlap r s h k p.x p.y (omega (arith, ints, left)) (omega (arith, ints, right)) a.low a.high b
+      beside-same spacing layer f overlap r s h k p.x p.y (omega (arith, ints, left)) (omega (arith, ints, right)) a.low a.high b
 
-module _ (rule overlap : ℕ) (layer f : Region) where
-  upright-same : (r s : Rect) (p : Pt) → IsVerticalZone rule overlap layer f r → IsVerticalZone rule overlap layer f s → Has r p → Has s p → r ≡ s
+module _ (spacing : Spacing) (overlap : ℕ) (layer f : Region) where
+  upright-same : (r s : Rect) (p : Pt) → IsVerticalZone spacing overlap layer f r → IsVerticalZone spacing overlap layer f s → Has r p → Has s p → r ≡ s
   upright-same r s p h k a b =
-      let same : transposed_rect r ≡ transposed_rect s = level-same rule overlap (transposed layer) (transposed f) (transposed_rect r) (transposed_rect s) (at p.y p.x) h k
+      let same : transposed_rect r ≡ transposed_rect s = level-same spacing overlap (transposed layer) (transposed f) (transposed_rect r) (transposed_rect s) (at p.y p.x) h k
       (record { left = a.low; right = a.high; low = a.left; high = a.right })
       (record { left = b.low; right = b.high; low = b.left; high = b.right }) in
       ap transposed_rect same
 
   -- two zones of a feature that share a square are one
-  pub kept-same : (r s : Rect) (p : Pt) → IsKeptZone rule overlap layer f r → IsKeptZone rule overlap layer f s → Has r p → Has s p → r ≡ s
-  kept-same r s p (inl h) (inl k) a b = level-same rule overlap layer f r s p h k a b
-  kept-same r s p (inl h) (inr (v, apart)) a b = absurd (apart r h (p, p, a, b, touches-itself rule overlap layer p))
-  kept-same r s p (inr (v, apart)) (inl k) a b = absurd (apart s k (p, p, b, a, touches-itself rule overlap layer p))
+  pub kept-same : (r s : Rect) (p : Pt) → IsKeptZone spacing overlap layer f r → IsKeptZone spacing overlap layer f s → Has r p → Has s p → r ≡ s
+  kept-same r s p (inl h) (inl k) a b = level-same spacing overlap layer f r s p h k a b
+  kept-same r s p (inl h) (inr (v, apart)) a b = absurd (apart r h (p, p, a, b, touches-itself spacing overlap layer p))
+  kept-same r s p (inr (v, apart)) (inl k) a b = absurd (apart s k (p, p, b, a, touches-itself spacing overlap layer p))
   kept-same r s p (inr (v, apart)) (inr (w, far)) a b = upright-same r s p v w a b
 
-module _ (rule overlap : ℕ) (layer : Region) (c : Cut) (cut : IsCut rule overlap layer c) where
-  pub kept : (z : Zone) → Contains c.zones z → (z.feature < length c.features) × IsKeptZone rule overlap layer (part_at c.features z.feature) z.rect
+module _ (spacing : Spacing) (overlap : ℕ) (layer : Region) (c : Cut) (cut : IsCut spacing overlap layer c) where
+  pub kept : (z : Zone) → Contains c.zones z → (z.feature < length c.features) × IsKeptZone spacing overlap layer (part_at c.features z.feature) z.rect
   kept z z_in = (cut.zones.exactly z).0 z_in
 
   -- a zone's squares are of its feature
   pub zone-own : (z : Zone) (p : Pt) → Contains c.zones z → Has z.rect p → part_at c.features z.feature p
-  zone-own z p z_in has = kept-inside rule overlap layer (part_at c.features z.feature) z.rect p (kept z z_in).1 has
+  zone-own z p z_in has = kept-inside spacing overlap layer (part_at c.features z.feature) z.rect p (kept z z_in).1 has
 
   -- two zones that share a square are one
   pub zone-same : (k l : ℕ) (z w : Zone) (p : Pt) → k < length c.zones → l < length c.zones → get_or c.zones k z ≡ z → get_or c.zones l w ≡ w → Has z.rect p → Has w.rect p → k ≡ l
@@ -120,8 +121,8 @@ module _ (rule overlap : ℕ) (layer : Region) (c : Cut) (cut : IsCut rule overl
       let w_in : Contains c.zones w = (l, l_in, w_is) in
       let one : w.feature ≡ z.feature = part-same layer c.features w.feature z.feature p cut.features (zone-own w p w_in b) (zone-own z p z_in a) in
       let mine = (kept z z_in).1 in
-      let theirs = subst (λ n. IsKeptZone rule overlap layer (part_at c.features n) w.rect) one (kept w w_in).1 in
-      let same : z.rect ≡ w.rect = kept-same rule overlap layer (part_at c.features z.feature) z.rect w.rect p mine theirs a b in
+      let theirs = subst (λ n. IsKeptZone spacing overlap layer (part_at c.features n) w.rect) one (kept w w_in).1 in
+      let same : z.rect ≡ w.rect = kept-same spacing overlap layer (part_at c.features z.feature) z.rect w.rect p mine theirs a b in
       let w_at : get_or c.zones l z ≡ w = get_or_default c.zones l z w l_in ∙ w_is in
       let z_at : get_or c.zones k w ≡ z = get_or_default c.zones k w z k_in ∙ z_is in
       elim (cases_order k l) [

@@ -1,9 +1,10 @@
 -- What the masks of a layer keep.
 use Rattle.std.specs.Prelude.{◌≢◌, ℕ, ◌*◌, ◌≤◌, ◌⊎◌, ◌↔◌, pos, List, map, slice_index_or}
+use Rattle.dpl_spec_split.specs.declared.Spacing.{Spacing}
 use Rattle.dpl_spec_split.specs.declared.Pt.{Pt}
 use Rattle.dpl_spec_split.specs.declared.Rect.{Rect}
 use Rattle.dpl_spec_split.specs.declared.Zone.{Zone}
-use Rattle.dpl_spec_split.specs.Squares.{Covers, d2}
+use Rattle.dpl_spec_split.specs.Squares.{Covers, Near}
 use Rattle.dpl_spec_split.specs.Zones.{part_at}
 use Rattle.dpl_spec_split.specs.Summary.{HasOddCycle}
 use Rattle.dpl_spec_split.specs.Decomposition.{Cut, Masks, IsCut, AreMasks, conflicts}
@@ -12,9 +13,9 @@ use Rattle.dpl_spec_split.specs.Decomposition.{Cut, Masks, IsCut, AreMasks, conf
 abbrev pub AreCover : List Rect → List Rect → List Rect → Type 0
 AreCover layer a b = (p : Pt) → (Covers a p ⊎ Covers b p) ↔ Covers layer p
 
--- squares of different features on the mask are at least the rule apart
-abbrev pub KeepsApart : ℕ → List (List Rect) → List Rect → Type 0
-KeepsApart rule features mask = (i j : ℕ) (p q : Pt) → i ≢ j → part_at features i p → part_at features j q → Covers mask p → Covers mask q → rule * rule ≤ d2 p q
+-- squares of different features on the mask are not near
+abbrev pub KeepsApart : Spacing → List (List Rect) → List Rect → Type 0
+KeepsApart spacing features mask = (i j : ℕ) (p q : Pt) → i ≢ j → part_at features i p → part_at features j q → Covers mask p → Covers mask q → ¬ Near spacing p q
 
 -- a square is on both masks exactly where it is in some stitch
 abbrev pub OverlapAt : List Rect → List Rect → List Rect → Type 0
@@ -30,14 +31,14 @@ rects_of zones ks = map (rect_at zones) ks
 
 -- masks cover their layer exactly
 abbrev pub MasksCover : Type 0
-MasksCover = (rule overlap : ℕ) (layer : List Rect) (c : Cut) (m : Masks) → IsCut rule overlap (Covers layer) c → AreMasks rule c m → AreCover layer m.a m.b
+MasksCover = (spacing : Spacing) (overlap : ℕ) (layer : List Rect) (c : Cut) (m : Masks) → IsCut spacing overlap (Covers layer) c → AreMasks spacing c m → AreCover layer m.a m.b
 
 -- without an odd cycle of conflicts each mask keeps features apart
 abbrev pub MasksKeepApart : Type 0
-MasksKeepApart = (rule overlap : ℕ) (layer : List Rect) (c : Cut) (m : Masks) → IsCut rule overlap (Covers layer) c → AreMasks rule c m → ¬ HasOddCycle (conflicts rule c)
-    → KeepsApart rule c.features m.a × KeepsApart rule c.features m.b
+MasksKeepApart = (spacing : Spacing) (overlap : ℕ) (layer : List Rect) (c : Cut) (m : Masks) → IsCut spacing overlap (Covers layer) c → AreMasks spacing c m → ¬ HasOddCycle (conflicts spacing c)
+    → KeepsApart spacing c.features m.a × KeepsApart spacing c.features m.b
 
 -- masks overlap at their stitches alone
 abbrev pub MasksOverlapAtStitches : Type 0
-MasksOverlapAtStitches = (rule overlap : ℕ) (layer : List Rect) (c : Cut) (m : Masks) → IsCut rule overlap (Covers layer) c
-    → AreMasks rule c m → OverlapAt (rects_of c.zones m.stitches) m.a m.b
+MasksOverlapAtStitches = (spacing : Spacing) (overlap : ℕ) (layer : List Rect) (c : Cut) (m : Masks) → IsCut spacing overlap (Covers layer) c
+    → AreMasks spacing c m → OverlapAt (rects_of c.zones m.stitches) m.a m.b

@@ -9,7 +9,7 @@ pub fn masks_cover()
     ensures { MasksCover }
 {}
 
-/// Where the conflict graph has no odd cycle, squares of different features on one mask are at least the rule apart.
+/// Where the conflict graph has no odd cycle, squares of different features on one mask are not near.
 pub fn masks_keep_apart()
     ensures { MasksKeepApart }
 {}

@@ -3,6 +3,7 @@ use Rattle.std.proofs.Common.{◌≡◌, ℕ, zero, suc, ◌+◌, ◌%◌, ◌<�
 use Rattle.std.specs.Prelude.{pos}
 use Rattle.std.proofs.lemmas.List.{get_or_default, get_or-map, length-map}
 use Rattle.std.proofs.lemmas.Slice.Zip.{AllZip-long}
+use Rattle.dpl_spec_split.specs.declared.Spacing.{Spacing}
 use Rattle.dpl_spec_split.specs.declared.Pt.{Pt}
 use Rattle.dpl_spec_split.specs.declared.Rect.{Rect}
 use Rattle.dpl_spec_split.specs.Squares.{Covers, IsLeast}
@@ -27,15 +28,15 @@ piece-at keys [] (suc n) = refl
 piece-at keys (k ∷ ks) zero = refl
 piece-at keys (k ∷ ks) (suc n) = piece-at keys ks n
 
-pub conflicts-undirected : (rule : ℕ) (c : Cut) → IsUndirected (conflicts rule c)
-conflicts-undirected rule c = record {
-  both = λ u v h. record { first = h.second; second = h.first; apart = λ e. h.apart (sym e); near = AreNear-sym rule _ _ h.near };
+pub conflicts-undirected : (spacing : Spacing) (c : Cut) → IsUndirected (conflicts spacing c)
+conflicts-undirected spacing c = record {
+  both = λ u v h. record { first = h.second; second = h.first; apart = λ e. h.apart (sym e); near = AreNear-sym spacing _ _ h.near };
   different = λ u v h e. h.apart (ap (λ k. get_or c.owners k 0) e);
 }
 
-module _ (rule overlap : ℕ) (layer : List Rect) (c : Cut) (cycle : List ℕ) (near : List NearLine)
-    (cut : IsCut rule overlap (Covers layer) c) (reported : IsReported (conflicts rule c) cycle)
-    (pairs : (k : ℕ) (d : NearLine) → k < length cycle → IsNearestPair rule (part_at c.pieces (get_or cycle k 0))
+module _ (spacing : Spacing) (overlap : ℕ) (layer : List Rect) (c : Cut) (cycle : List ℕ) (near : List NearLine)
+    (cut : IsCut spacing overlap (Covers layer) c) (reported : IsReported (conflicts spacing c) cycle)
+    (pairs : (k : ℕ) (d : NearLine) → k < length cycle → IsNearestPair spacing (part_at c.pieces (get_or cycle k 0))
     (part_at c.pieces (get_or cycle ((k + 1) % length cycle) 0)) (get_or near k d).from (get_or near k d).to) where
   abbrev places : List PlaceLine
   places = map (place_line c.keys) cycle
@@ -43,10 +44,10 @@ module _ (rule overlap : ℕ) (layer : List Rect) (c : Cut) (cycle : List ℕ) (
   many-places : length places ≡ length cycle
   many-places = length-map cycle (place_line c.keys)
 
-  odd-cycle : IsOddCycle (conflicts rule c) cycle
-  odd-cycle = reported-odd (conflicts rule c) (conflicts-undirected rule c) cycle reported
+  odd-cycle : IsOddCycle (conflicts spacing c) cycle
+  odd-cycle = reported-odd (conflicts spacing c) (conflicts-undirected spacing c) cycle reported
 
-  good-line : (k : ℕ) (d : NearLine) → k < length cycle → IsGoodPlace rule c places (place_line c.keys (get_or cycle k 0))
+  good-line : (k : ℕ) (d : NearLine) → k < length cycle → IsGoodPlace spacing c places (place_line c.keys (get_or cycle k 0))
       (get_or cycle ((k + 1) % length cycle) 0) k (get_or near k d)
   good-line k d k_in =
       let conflict = odd-cycle.around k k_in in
@@ -64,7 +65,7 @@ module _ (rule overlap : ℕ) (layer : List Rect) (c : Cut) (cycle : List ℕ) (
         apart = conflict.apart;
       }
 
-  none-bad-place : HasBad (IsBadPlace rule c places near) places → ⊥
+  none-bad-place : HasBad (IsBadPlace spacing c places near) places → ⊥
   none-bad-place (k, k_in, bad) =
       let within : k < length cycle = subst (λ n. k < n) many-places k_in in
       let line : NearLine = record { from = at (pos 0) (pos 0); to = at (pos 0) (pos 0) } in
@@ -72,15 +73,15 @@ module _ (rule overlap : ℕ) (layer : List Rect) (c : Cut) (cycle : List ℕ) (
       let next : piece_of places ((k + 1) % length places) ≡ get_or cycle ((k + 1) % length cycle) 0 = ap
       (λ n. piece_of places ((k + 1) % n)) many-places ∙ piece-at c.keys cycle ((k + 1) % length cycle) in
       bad place line
-      (subst (λ (x : PlaceLine). IsGoodPlace rule c places x (piece_of places ((k + 1) % length places)) k (get_or near k line))
+      (subst (λ (x : PlaceLine). IsGoodPlace spacing c places x (piece_of places ((k + 1) % length places)) k (get_or near k line))
       (sym (get_or-map (place_line c.keys) cycle k 0 place within))
-      (subst (λ n. IsGoodPlace rule c places place n k (get_or near k line)) (sym next) (good-line k line within)))
+      (subst (λ n. IsGoodPlace spacing c places place n k (get_or near k line)) (sym next) (good-line k line within)))
 
-  pub clash-verdict : VerdictOfClaim rule overlap
+  pub clash-verdict : VerdictOfClaim spacing overlap
       (record {
         layer = layer;
         head = record {
-          rule = rule;
+          rule = spacing.rule;
           overlap = overlap;
           features = length c.features;
           pieces = length c.pieces;

@@ -5,9 +5,11 @@ use Rattle.std.specs.List.{All, AllPairs}
 use Rattle.std.proofs.lemmas.Int.{ints, by_lt_z}
 use Rattle.std.proofs.lemmas.Bool.{cases_eq, cases_lt}
 use Rattle.std.proofs.lemmas.List.{get_or_default, length-map, get_or-map}
+use Rattle.dpl_spec_split.proofs.SpacingLaws.{near-or_far}
+use Rattle.dpl_spec_split.specs.declared.Spacing.{Spacing}
 use Rattle.dpl_spec_split.specs.declared.Pt.{Pt}
 use Rattle.dpl_spec_split.specs.declared.Rect.{Rect}
-use Rattle.dpl_spec_split.specs.Squares.{Region, Covers, IsLeast, d2}
+use Rattle.dpl_spec_split.specs.Squares.{Region, Covers, IsLeast, d2, Near}
 use Rattle.dpl_spec_split.specs.Zones.{at, part_at}
 use Rattle.dpl_spec_split.specs.Pieces.{Conflict}
 use Rattle.dpl_spec_split.specs.Graphs.{IsOddCycle}
@@ -39,7 +41,7 @@ point_or_not p q =
     (λ c. by_lt_z q.y p.y (λ l. inr (λ e. let y = ap (λ (s : Pt). s.y) e in omega (arith, ints, l, y)))
     (λ d. inl (let x : p.x ≡ q.x = omega (arith, ints, a, b) in let y : p.y ≡ q.y = omega (arith, ints, c, d) in λ i. record { x = x i; y = y i })))))
 
-module _ (rule : ℕ) (cut : Cut) (cycle : List PlaceLine) (near : List NearLine) (each : length near ≡ length cycle) (good : HasBad (IsBadPlace rule cut cycle near) cycle → ⊥) where
+module _ (spacing : Spacing) (cut : Cut) (cycle : List PlaceLine) (near : List NearLine) (each : length near ≡ length cycle) (good : HasBad (IsBadPlace spacing cut cycle near) cycle → ⊥) where
   abbrev place : ℕ → PlaceLine
   place k = get_or cycle k no_place
 
@@ -50,14 +52,14 @@ module _ (rule : ℕ) (cut : Cut) (cycle : List PlaceLine) (near : List NearLine
   line k = get_or near k no_line
 
   -- what a good place has, if it can be told, holds at each place
-  told : (k : ℕ) → k < length cycle → (P : Type 0) → P ⊎ (P → ⊥) → (IsGoodPlace rule cut cycle (place k) (piece_of cycle (after k)) k (line k) → P) → P
+  told : (k : ℕ) → k < length cycle → (P : Type 0) → P ⊎ (P → ⊥) → (IsGoodPlace spacing cut cycle (place k) (piece_of cycle (after k)) k (line k) → P) → P
   told k k_in P (inl there) gives = there
   told k k_in P (inr never) gives = absurd (good (
     k,
     k_in,
     λ d e h. never (gives (
-        subst (λ x. IsGoodPlace rule cut cycle x (piece_of cycle (after k)) k (line k)) (get_or_default cycle k d no_place k_in)
-        (subst (λ l. IsGoodPlace rule cut cycle (get_or cycle k d) (piece_of cycle (after k)) k l) (get_or_default near k e no_line (omega (arith, each, k_in))) h))),
+        subst (λ x. IsGoodPlace spacing cut cycle x (piece_of cycle (after k)) k (line k)) (get_or_default cycle k d no_place k_in)
+        (subst (λ l. IsGoodPlace spacing cut cycle (get_or cycle k d) (piece_of cycle (after k)) k l) (get_or_default near k e no_line (omega (arith, each, k_in))) h))),
   ))
 
   less_or_not : (m n : ℕ) → (m < n) ⊎ (m < n → ⊥)
@@ -72,10 +74,10 @@ module _ (rule : ℕ) (cut : Cut) (cycle : List PlaceLine) (near : List NearLine
   to-at : (k : ℕ) → k < length cycle → part_at cut.pieces (piece_of cycle (after k)) (line k).to
   to-at k k_in = told k k_in (part_at cut.pieces (piece_of cycle (after k)) (line k).to) (covered_or_not (get_or cut.pieces (piece_of cycle (after k)) []) (line k).to) (λ h. h.to)
 
-  close-at : (k : ℕ) → k < length cycle → d2 (line k).from (line k).to < rule * rule
-  close-at k k_in = told k k_in (d2 (line k).from (line k).to < rule * rule) (less_or_not (d2 (line k).from (line k).to) (rule * rule)) (λ h. h.near)
+  close-at : (k : ℕ) → k < length cycle → Near spacing (line k).from (line k).to
+  close-at k k_in = told k k_in (Near spacing (line k).from (line k).to) (near-or_far spacing (line k).from (line k).to) (λ h. h.near)
 
-  conflict : (k : ℕ) → k < length cycle → Conflict rule cut.pieces cut.owners (piece_of cycle k) (piece_of cycle (after k))
+  conflict : (k : ℕ) → k < length cycle → Conflict spacing cut.pieces cut.owners (piece_of cycle k) (piece_of cycle (after k))
   conflict k k_in =
       record {
         first = part-known cut.pieces (piece_of cycle k) (line k).from (from-at k k_in);
@@ -96,7 +98,7 @@ module _ (rule : ℕ) (cut : Cut) (cycle : List PlaceLine) (near : List NearLine
       let j_is : j < length cycle = omega (arith, j_in, lengths) in
       told j j_is ⊥ (inr (λ h. h)) (λ h. h.new i l (sym (piece-at i d (omega (arith, l, j_is))) ∙ (e ∙ piece-at j d j_is)))
 
-  pub odd-cycle : IsCycleLength (length cycle) → IsOddCycle (conflicts rule cut) (pieces_of cycle)
+  pub odd-cycle : IsCycleLength (length cycle) → IsOddCycle (conflicts spacing cut) (pieces_of cycle)
   odd-cycle long =
       let (half, is) = long.odd in
       let three = long.long in
@@ -109,12 +111,12 @@ module _ (rule : ℕ) (cut : Cut) (cycle : List PlaceLine) (near : List NearLine
             let next_in : after k < length cycle = omega (arith, three) in
             let same : get_or (pieces_of cycle) ((k + 1) % length (pieces_of cycle)) 0 ≡ piece_of cycle (after k) =
             subst (λ n. get_or (pieces_of cycle) ((k + 1) % n) 0 ≡ piece_of cycle (after k)) (sym lengths) (piece-at (after k) 0 next_in) in
-            subst (λ u. Conflict rule cut.pieces cut.owners u (get_or (pieces_of cycle) ((k + 1) % length (pieces_of cycle)) 0)) (sym (piece-at k 0 k_is))
-            (subst (λ v. Conflict rule cut.pieces cut.owners (piece_of cycle k) v) (sym same) (conflict k k_is)));
+            subst (λ u. Conflict spacing cut.pieces cut.owners u (get_or (pieces_of cycle) ((k + 1) % length (pieces_of cycle)) 0)) (sym (piece-at k 0 k_is))
+            (subst (λ v. Conflict spacing cut.pieces cut.owners (piece_of cycle k) v) (sym same) (conflict k k_is)));
       }
 
   -- the piece's least square is the place's
-  keyed-at : (layer : Region) (overlap : ℕ) → IsCut rule overlap layer cut → (k : ℕ) → k < length cycle → IsLeast (part_at cut.pieces (place k).piece) (place k).key
+  keyed-at : (layer : Region) (overlap : ℕ) → IsCut spacing overlap layer cut → (k : ℕ) → k < length cycle → IsLeast (part_at cut.pieces (place k).piece) (place k).key
   keyed-at layer overlap is k k_in =
       let known = told k k_in ((place k).piece < length cut.pieces) (less_or_not (place k).piece (length cut.pieces)) (λ h. h.known) in
       let key = told k k_in ((place k).key ≡ get_or cut.keys (place k).piece (place k).key)
@@ -122,43 +124,43 @@ module _ (rule : ℕ) (cut : Cut) (cycle : List PlaceLine) (near : List NearLine
       subst (λ q. IsLeast (part_at cut.pieces (place k).piece) q) (sym key)
       (zip-at (λ piece q. IsLeast (Covers piece) q) cut.pieces cut.keys (place k).piece [] (place k).key is.pieces.keyed known)
 
-  pub all-keyed : (layer : Region) (overlap : ℕ) → IsCut rule overlap layer cut → All (λ (p : PlaceLine). IsLeast (part_at cut.pieces p.piece) p.key) cycle
+  pub all-keyed : (layer : Region) (overlap : ℕ) → IsCut spacing overlap layer cut → All (λ (p : PlaceLine). IsLeast (part_at cut.pieces p.piece) p.key) cycle
   all-keyed layer overlap is k d k_in =
       subst (λ (p : PlaceLine). IsLeast (part_at cut.pieces p.piece) p.key) (get_or_default cycle k no_place d k_in) (keyed-at layer overlap is k k_in)
 
-  pub all-shown : (k : ℕ) (d : NearLine) → k < length cycle → ShowsNear rule (part_at cut.pieces (get_or (pieces_of cycle) k 0))
+  pub all-shown : (k : ℕ) (d : NearLine) → k < length cycle → ShowsNear spacing (part_at cut.pieces (get_or (pieces_of cycle) k 0))
       (part_at cut.pieces (get_or (pieces_of cycle) (after k) 0)) (get_or near k d)
   all-shown k d k_in =
       let next_in : after k < length cycle = omega (arith, k_in) in
-      subst (λ u. ShowsNear rule (part_at cut.pieces u) (part_at cut.pieces (get_or (pieces_of cycle) (after k) 0)) (get_or near k d)) (sym (piece-at k 0 k_in))
-      (subst (λ v. ShowsNear rule (part_at cut.pieces (piece_of cycle k)) (part_at cut.pieces v) (get_or near k d)) (sym (piece-at (after k) 0 next_in))
-      (subst (λ (l : NearLine). ShowsNear rule (part_at cut.pieces (piece_of cycle k)) (part_at cut.pieces (piece_of cycle (after k))) l)
+      subst (λ u. ShowsNear spacing (part_at cut.pieces u) (part_at cut.pieces (get_or (pieces_of cycle) (after k) 0)) (get_or near k d)) (sym (piece-at k 0 k_in))
+      (subst (λ v. ShowsNear spacing (part_at cut.pieces (piece_of cycle k)) (part_at cut.pieces v) (get_or near k d)) (sym (piece-at (after k) 0 next_in))
+      (subst (λ (l : NearLine). ShowsNear spacing (part_at cut.pieces (piece_of cycle k)) (part_at cut.pieces (piece_of cycle (after k))) l)
       (get_or_default near k no_line d (omega (arith, each, k_in)))
       (record { from = from-at k k_in; to = to-at k k_in; close = close-at k k_in })))
 
 -- what is counted of a layer is what any cut of it has
-count-of : (rule overlap : ℕ) (layer : List Rect) (head : Head) (cut : Cut) → IsCut rule overlap (Covers layer) cut → (CountsDiffer rule overlap layer head → ⊥)
+count-of : (spacing : Spacing) (overlap : ℕ) (layer : List Rect) (head : Head) (cut : Cut) → IsCut spacing overlap (Covers layer) cut → (CountsDiffer spacing overlap layer head → ⊥)
     → (head.features ≡ length cut.features) × (head.pieces ≡ length cut.pieces) × (head.zones ≡ length cut.zones)
-count-of rule overlap layer head cut is none = (
+count-of spacing overlap layer head cut is none = (
   equal-where head.features (length cut.features)
-      (λ ne. none (λ (c, c_is, f, p, z). ne (f ∙ ap (λ (x : Cut). length x.features) (one-cut rule overlap (Covers layer) c cut c_is is)))),
-  equal-where head.pieces (length cut.pieces) (λ ne. none (λ (c, c_is, f, p, z). ne (p ∙ ap (λ (x : Cut). length x.pieces) (one-cut rule overlap (Covers layer) c cut c_is is)))),
-  equal-where head.zones (length cut.zones) (λ ne. none (λ (c, c_is, f, p, z). ne (z ∙ ap (λ (x : Cut). length x.zones) (one-cut rule overlap (Covers layer) c cut c_is is)))),
+      (λ ne. none (λ (c, c_is, f, p, z). ne (f ∙ ap (λ (x : Cut). length x.features) (one-cut spacing overlap (Covers layer) c cut c_is is)))),
+  equal-where head.pieces (length cut.pieces) (λ ne. none (λ (c, c_is, f, p, z). ne (p ∙ ap (λ (x : Cut). length x.pieces) (one-cut spacing overlap (Covers layer) c cut c_is is)))),
+  equal-where head.zones (length cut.zones) (λ ne. none (λ (c, c_is, f, p, z). ne (z ∙ ap (λ (x : Cut). length x.zones) (one-cut spacing overlap (Covers layer) c cut c_is is)))),
 )
 
-pub there-is : (rule overlap : ℕ) (c : Claim) → IsCycleLength (length c.cycle) → length c.near ≡ length c.cycle → VerdictOfClaim rule overlap c Valid
-    → IsCycleOf rule overlap c.layer c.head c.cycle c.near
-there-is rule overlap c long each valid =
-    let one = unbroken (RulesDiffer rule overlap c.head) (ShowsRules c.head) (VerdictFromCounts rule overlap c) Valid (λ e. cc) valid in
-    let two = unbroken (CountsDiffer rule overlap c.layer c.head) (ShowsCounts rule overlap c.layer) (VerdictFromCycle rule overlap c) Valid (λ (f, p, z, are, e). cc) one.1 in
+pub there-is : (spacing : Spacing) (overlap : ℕ) (c : Claim) → IsCycleLength (length c.cycle) → length c.near ≡ length c.cycle → VerdictOfClaim spacing overlap c Valid
+    → IsCycleOf spacing overlap c.layer c.head c.cycle c.near
+there-is spacing overlap c long each valid =
+    let one = unbroken (RulesDiffer spacing overlap c.head) (ShowsRules c.head) (VerdictFromCounts spacing overlap c) Valid (λ e. cc) valid in
+    let two = unbroken (CountsDiffer spacing overlap c.layer c.head) (ShowsCounts spacing overlap c.layer) (VerdictFromCycle spacing overlap c) Valid (λ (f, p, z, are, e). cc) one.1 in
     let (cut, is, found) = two.1 in
-    let good = unbroken (HasBad (IsBadPlace rule cut c.cycle c.near) c.cycle) (ShowsCycle rule cut c) IsValid Valid (λ (k, bad, e). cc) found in
+    let good = unbroken (HasBad (IsBadPlace spacing cut c.cycle c.near) c.cycle) (ShowsCycle spacing cut c) IsValid Valid (λ (k, bad, e). cc) found in
     record {
       cut = cut;
       is_cut = is;
-      rules = (equal-where c.head.rule rule (λ ne. one.0 (inl ne)), equal-where c.head.overlap overlap (λ ne. one.0 (inr ne)));
-      counted = count-of rule overlap c.layer c.head cut is two.0;
-      odd = odd-cycle rule cut c.cycle c.near each good.0 long;
-      keyed = all-keyed rule cut c.cycle c.near each good.0 (Covers c.layer) overlap is;
-      shown = all-shown rule cut c.cycle c.near each good.0;
+      rules = (equal-where c.head.rule spacing.rule (λ ne. one.0 (inl ne)), equal-where c.head.overlap overlap (λ ne. one.0 (inr ne)));
+      counted = count-of spacing overlap c.layer c.head cut is two.0;
+      odd = odd-cycle spacing cut c.cycle c.near each good.0 long;
+      keyed = all-keyed spacing cut c.cycle c.near each good.0 (Covers c.layer) overlap is;
+      shown = all-shown spacing cut c.cycle c.near each good.0;
     }

@@ -2,6 +2,7 @@
 use Rattle.std.proofs.Common.{◌≡◌, ℕ, inl, inr, List, length, get_or, ap, ◌∙◌, arith}
 use Rattle.std.specs.Prelude.{pos, ◌-ℤ◌, cond}
 use Rattle.std.proofs.lemmas.Int.{ints, by_lt_z}
+use Rattle.dpl_spec_split.specs.declared.Spacing.{Spacing}
 use Rattle.dpl_spec_split.specs.declared.Rect.{Rect}
 use Rattle.dpl_spec_split.specs.Squares.{Covers}
 use Rattle.dpl_spec_split.specs.Components.{AreComponents}
@@ -35,13 +36,13 @@ good-where overlap a b pieces s never = record {
   letters = λ e. never (λ g. g.letters e);
 }
 
-pub good-lines : (rule overlap : ℕ) (layer a b : List Rect) (head : Head) (pieces : List PieceLine) (stitches : List StitchLine)
-    → IsVerdictOfMasks rule overlap layer a b (Masks head pieces stitches) Valid → AreGoodLines rule overlap layer a b head pieces stitches
-good-lines rule overlap layer a b head pieces stitches valid =
+pub good-lines : (spacing : Spacing) (overlap : ℕ) (layer a b : List Rect) (head : Head) (pieces : List PieceLine) (stitches : List StitchLine)
+    → IsVerdictOfMasks spacing overlap layer a b (Masks head pieces stitches) Valid → AreGoodLines spacing overlap layer a b head pieces stitches
+good-lines spacing overlap layer a b head pieces stitches valid =
     let claim : Claim = record { layer = layer; a = a; b = b; head = head; pieces = pieces; stitches = stitches } in
-    let k : IsKept rule overlap claim = valid-kept rule overlap claim valid in
+    let k : IsKept spacing overlap claim = valid-kept spacing overlap claim valid in
     record {
-      rules = (equal-where head.rule rule (λ ne. k.rules (inl ne)), equal-where head.overlap overlap (λ ne. k.rules (inr ne)));
+      rules = (equal-where head.rule spacing.rule (λ ne. k.rules (inl ne)), equal-where head.overlap overlap (λ ne. k.rules (inr ne)));
       counted = count-is layer head k.counts;
       stitched = λ n d n_in. good-where overlap a b pieces (get_or stitches n d) (none-bad (IsBadStitch overlap a b pieces) stitches k.stitches n d n_in);
       lettered = λ n d n_in. covered-where (cond (get_or pieces n d).b b a) (get_or pieces n d).key (none-bad (IsBadPiece a b) pieces k.pieces n d n_in);

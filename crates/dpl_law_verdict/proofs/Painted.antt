@@ -6,10 +6,11 @@ use Rattle.std.proofs.Math.Nat.{min-eq_left}
 use Rattle.std.proofs.lemmas.Int.{ints}
 use Rattle.std.proofs.lemmas.List.{get_or_default, get_or-map, length-map}
 use Rattle.std.proofs.lemmas.Slice.Zip.{AllZip-long, length-zip, get_or-zip}
+use Rattle.dpl_spec_split.specs.declared.Spacing.{Spacing}
 use Rattle.dpl_spec_split.specs.declared.Pt.{Pt}
 use Rattle.dpl_spec_split.specs.declared.Rect.{Rect}
 use Rattle.dpl_spec_split.specs.declared.Zone.{Zone}
-use Rattle.dpl_spec_split.specs.Squares.{Region, Covers, Has, IsLeast, d2}
+use Rattle.dpl_spec_split.specs.Squares.{Region, Covers, Has, IsLeast, d2, Near}
 use Rattle.dpl_spec_split.specs.Components.{Linked}
 use Rattle.dpl_spec_split.specs.Zones.{at, part_at, IsKeptZone}
 use Rattle.dpl_spec_split.specs.Pieces.{AreSides}
@@ -35,9 +36,9 @@ two-letters true false e f = cc
 two-letters true true e f = cc
 
 -- a zone has a side as long as the overlap
-zone-long : (rule overlap : ℕ) (layer feature : Region) (r : Rect) → IsKeptZone rule overlap layer feature r → (pos overlap ≤ℤ (r.x1 -ℤ r.x0)) ⊎ (pos overlap ≤ℤ (r.y1 -ℤ r.y0))
-zone-long rule overlap layer feature r (inl h) = let w : r.x1 ≡ r.x0 +ℤ pos overlap = h.middle.width in inl (omega (arith, ints, w))
-zone-long rule overlap layer feature r (inr (v, apart)) = let w : r.y1 ≡ r.y0 +ℤ pos overlap = v.middle.width in inr (omega (arith, ints, w))
+zone-long : (spacing : Spacing) (overlap : ℕ) (layer feature : Region) (r : Rect) → IsKeptZone spacing overlap layer feature r → (pos overlap ≤ℤ (r.x1 -ℤ r.x0)) ⊎ (pos overlap ≤ℤ (r.y1 -ℤ r.y0))
+zone-long spacing overlap layer feature r (inl h) = let w : r.x1 ≡ r.x0 +ℤ pos overlap = h.middle.width in inl (omega (arith, ints, w))
+zone-long spacing overlap layer feature r (inr (v, apart)) = let w : r.y1 ≡ r.y0 +ℤ pos overlap = v.middle.width in inr (omega (arith, ints, w))
 
 -- the lines of stitches have the squares of their zones
 any-lines : (zones : List Zone) (sides : List (ℕ × ℕ)) (ks : List ℕ) (p : Pt) → Covers (rects_of zones ks) p
@@ -58,7 +59,7 @@ covers-zone zones ks n p within has = (
   has,
 )
 
-module _ (rule overlap : ℕ) (layer : List Rect) (c : Cut) (m : Masks) (cut : IsCut rule overlap (Covers layer) c) (masks : AreMasks rule c m) where
+module _ (spacing : Spacing) (overlap : ℕ) (layer : List Rect) (c : Cut) (m : Masks) (cut : IsCut spacing overlap (Covers layer) c) (masks : AreMasks spacing c m) where
   abbrev lines : List PieceLine
   lines = map piece_line (zip masks.colours c.keys)
 
@@ -87,7 +88,7 @@ module _ (rule overlap : ℕ) (layer : List Rect) (c : Cut) (m : Masks) (cut : I
   good-stitch n n_in =
       let k = get_or m.stitches n 0 in
       let (side, k_side, side_is, both) = (masks.stitches.exactly k).0 (n, n_in, get_or_default m.stitches n k 0 n_in) in
-      let k_in : k < length c.zones = subst (λ t. k < t) (as_many_sides rule overlap (Covers layer) c cut masks.colours) k_side in
+      let k_in : k < length c.zones = subst (λ t. k < t) (as_many_sides spacing overlap (Covers layer) c cut masks.colours) k_side in
       let z = get_or c.zones k no_zone in
       let s = get_or c.sides k (0, 0) in
       let s_is : s ≡ side = get_or_default c.sides k (0, 0) side k_side ∙ side_is in
@@ -97,9 +98,9 @@ module _ (rule overlap : ℕ) (layer : List Rect) (c : Cut) (m : Masks) (cut : I
       let first : (piece_at lines s.0).b ≡ colour_at masks.colours s.0 = ap (λ (l : PieceLine). l.b) (line-at s.0 _ known.0) in
       let second : (piece_at lines s.1).b ≡ colour_at masks.colours s.1 = ap (λ (l : PieceLine). l.b) (line-at s.1 _ known.1) in
       record {
-        on_both = λ p has. (overlap-at rule overlap (Covers layer) c m cut masks p).1 (covers-zone c.zones m.stitches n p n_in has);
-        long = zone-long rule overlap (Covers layer) (part_at c.features z.feature) z.rect
-            (kept rule overlap (Covers layer) c cut z (k, k_in, get_or_default c.zones k z no_zone k_in)).1;
+        on_both = λ p has. (overlap-at spacing overlap (Covers layer) c m cut masks p).1 (covers-zone c.zones m.stitches n p n_in has);
+        long = zone-long spacing overlap (Covers layer) (part_at c.features z.feature) z.rect
+            (kept spacing overlap (Covers layer) c cut z (k, k_in, get_or_default c.zones k z no_zone k_in)).1;
         listed = (subst (λ t. s.0 < t) (sym many-lines) known.0, subst (λ t. s.1 < t) (sym many-lines) known.1);
         letters = λ e. two-letters (colour_at masks.colours s.0) (colour_at masks.colours s.1) letters (sym first ∙ (e ∙ second));
       }
@@ -119,23 +120,21 @@ module _ (rule overlap : ℕ) (layer : List Rect) (c : Cut) (m : Masks) (cut : I
       let whole = cut.features.whole k [] k_in in
       Linked-trans (Covers layer) (Linked-sym (Covers layer) ((whole.2 p).0 in_p)) ((whole.2 q).0 in_q)
 
-  none-tight : (mask : List Rect) → KeepsApart rule c.features mask → IsTight rule layer mask → ⊥
+  none-tight : (mask : List Rect) → KeepsApart spacing c.features mask → IsTight spacing layer mask → ⊥
   none-tight mask far (p, q, t) =
       let (i, i_in, at_i) = part-of (Covers layer) c.features p cut.features t.of_layer.0 in
       let (j, j_in, at_j) = part-of (Covers layer) c.features q cut.features t.of_layer.1 in
       let ne : i ≢ j = λ e. t.apart (linked-one i p q i_in at_i (subst (λ k. part_at c.features k q) (sym e) at_j)) in
-      let l : rule * rule ≤ d2 p q = far i j p q ne at_i at_j t.first t.second in
-      let s : d2 p q < rule * rule = t.close in
-      omega (arith, l, s)
+      far i j p q ne at_i at_j t.first t.second t.close
 
-  pub painted-kept : (HasOddCycle (conflicts rule c) → ⊥)
-      → IsKept rule overlap
+  pub painted-kept : (HasOddCycle (conflicts spacing c) → ⊥)
+      → IsKept spacing overlap
       (record {
         layer = layer;
         a = m.a;
         b = m.b;
         head = record {
-          rule = rule;
+          rule = spacing.rule;
           overlap = overlap;
           features = length c.features;
           pieces = length c.pieces;
@@ -148,12 +147,12 @@ module _ (rule overlap : ℕ) (layer : List Rect) (c : Cut) (m : Masks) (cut : I
     rules = λ differs. elim differs [ inl ne ↦ ne refl | inr ne ↦ ne refl ];
     counts = λ differs. differs (c.features, cut.features, refl);
     covered = λ (p, off). elim off [
-      | inl (there, none) ↦ none ((cover rule overlap (Covers layer) c m cut masks p).1 there)
-      | inr (masked, none) ↦ none ((cover rule overlap (Covers layer) c m cut masks p).0 masked)
+      | inl (there, none) ↦ none ((cover spacing overlap (Covers layer) c m cut masks p).1 there)
+      | inr (masked, none) ↦ none ((cover spacing overlap (Covers layer) c m cut masks p).0 masked)
     ];
-    doubled = λ (p, (in_a, in_b, none)). none (any-lines c.zones c.sides m.stitches p ((overlap-at rule overlap (Covers layer) c m cut masks p).0 (in_a, in_b)));
-    tight_a = none-tight m.a (far-on-a rule overlap (Covers layer) c m cut masks even);
-    tight_b = none-tight m.b (far-on-b rule overlap (Covers layer) c m cut masks even);
+    doubled = λ (p, (in_a, in_b, none)). none (any-lines c.zones c.sides m.stitches p ((overlap-at spacing overlap (Covers layer) c m cut masks p).0 (in_a, in_b)));
+    tight_a = none-tight m.a (far-on-a spacing overlap (Covers layer) c m cut masks even);
+    tight_b = none-tight m.b (far-on-b spacing overlap (Covers layer) c m cut masks even);
     stitches = λ (n, n_in, bad). (
         let within : n < length m.stitches = subst (λ t. n < t) (length-map m.stitches (stitch_line c.zones c.sides)) n_in in
         let s : StitchLine = stitch_line c.zones c.sides (get_or m.stitches n 0) in

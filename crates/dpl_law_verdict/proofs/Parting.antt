@@ -5,6 +5,8 @@ use Rattle.std.specs.List.{Any}
 use Rattle.std.proofs.lemmas.Int.{ints, by_lt_z}
 use Rattle.std.proofs.lemmas.Bool.{cases_lt}
 use Rattle.std.proofs.lemmas.List.{get_or_default, get_or_past}
+use Rattle.dpl_spec_split.proofs.SpacingLaws.{near-or_far}
+use Rattle.dpl_spec_split.specs.declared.Spacing.{Spacing}
 use Rattle.dpl_spec_split.specs.declared.Pt.{Pt}
 use Rattle.dpl_spec_split.specs.declared.Rect.{Rect}
 use Rattle.dpl_spec_split.specs.Squares.{Covers, Has, d2}
@@ -61,8 +63,8 @@ part-known parts k p has = elim (cases_lt k (length parts)) [
   | inr past ↦ absurd (nothing p (subst (λ (s : List Rect). Covers s p) (get_or_past parts k [] past) has))
 ]
 
-stands-apart : (rule : ℕ) (layer mask : List Rect) → ((p : Pt) → Covers mask p → Covers layer p) → (IsTight rule layer mask → ⊥) → StandsApart rule layer mask
-stands-apart rule layer mask inside loose p q in_p in_q apart = elim (cases_lt (d2 p q) (rule * rule)) [
+stands-apart : (spacing : Spacing) (layer mask : List Rect) → ((p : Pt) → Covers mask p → Covers layer p) → (IsTight spacing layer mask → ⊥) → StandsApart spacing layer mask
+stands-apart spacing layer mask inside loose p q in_p in_q apart = elim (near-or_far spacing p q) [
   | inr far ↦ far
   | inl close ↦ absurd (loose (p, q, record { first = in_p; second = in_q; of_layer = (inside p in_p, inside q in_q); apart = apart; close = close }))
 ]
@@ -97,19 +99,19 @@ overlap-kept overlap a b pieces stitches none right p = (
   ),
 )
 
-pub right-masks : (rule overlap : ℕ) (c : Claim) → VerdictOfClaim rule overlap c Valid → AreRight rule c.layer c.a c.b c.stitches
-right-masks rule overlap c valid =
-    let one = unbroken (RulesDiffer rule overlap c.head) (ShowsRules c.head) (VerdictFromCounts rule overlap c) Valid (λ e. cc) valid in
-    let two = unbroken (CountDiffers c.layer c.head) (ShowsCounts rule overlap c.layer) (VerdictFromCover rule overlap c) Valid (λ (f, p, z, are, e). cc) one.1 in
-    let cover = unbroken (HasSquare (is_uncovered c.layer c.a c.b)) (ShowsCover c) (VerdictFromOverlap rule overlap c) Valid (λ (p, least, e). cc) two.1 in
-    let doubled = unbroken (HasSquare (is_doubled c.a c.b c.stitches)) (ShowsOverlap c) (VerdictFromSpacingA rule overlap c) Valid (λ (p, least, e). cc) cover.1 in
-    let on_a = unbroken (IsTight rule c.layer c.a) (ShowsSpacingA rule c) (VerdictFromSpacingB rule overlap c) Valid (λ (p, q, least, e). cc) doubled.1 in
-    let on_b = unbroken (IsTight rule c.layer c.b) (ShowsSpacingB rule c) (VerdictFromStitches overlap c) Valid (λ (p, q, least, e). cc) on_a.1 in
+pub right-masks : (spacing : Spacing) (overlap : ℕ) (c : Claim) → VerdictOfClaim spacing overlap c Valid → AreRight spacing c.layer c.a c.b c.stitches
+right-masks spacing overlap c valid =
+    let one = unbroken (RulesDiffer spacing overlap c.head) (ShowsRules c.head) (VerdictFromCounts spacing overlap c) Valid (λ e. cc) valid in
+    let two = unbroken (CountDiffers c.layer c.head) (ShowsCounts spacing overlap c.layer) (VerdictFromCover spacing overlap c) Valid (λ (f, p, z, are, e). cc) one.1 in
+    let cover = unbroken (HasSquare (is_uncovered c.layer c.a c.b)) (ShowsCover c) (VerdictFromOverlap spacing overlap c) Valid (λ (p, least, e). cc) two.1 in
+    let doubled = unbroken (HasSquare (is_doubled c.a c.b c.stitches)) (ShowsOverlap c) (VerdictFromSpacingA spacing overlap c) Valid (λ (p, least, e). cc) cover.1 in
+    let on_a = unbroken (IsTight spacing c.layer c.a) (ShowsSpacingA spacing c) (VerdictFromSpacingB spacing overlap c) Valid (λ (p, q, least, e). cc) doubled.1 in
+    let on_b = unbroken (IsTight spacing c.layer c.b) (ShowsSpacingB spacing c) (VerdictFromStitches overlap c) Valid (λ (p, q, least, e). cc) on_a.1 in
     let stitches = unbroken (HasBad (IsBadStitch overlap c.a c.b c.pieces) c.stitches) (ShowsStitch overlap c) (VerdictFromPieces c) Valid (λ (k, bad, e). cc) on_b.1 in
     let covered = cover-kept c.layer c.a c.b cover.0 in
     record {
       cover = covered;
-      apart_on_a = stands-apart rule c.layer c.a (λ p here. (covered p).0 (inl here)) on_a.0;
-      apart_on_b = stands-apart rule c.layer c.b (λ p here. (covered p).0 (inr here)) on_b.0;
+      apart_on_a = stands-apart spacing c.layer c.a (λ p here. (covered p).0 (inl here)) on_a.0;
+      apart_on_b = stands-apart spacing c.layer c.b (λ p here. (covered p).0 (inr here)) on_b.0;
       overlap = overlap-kept overlap c.a c.b c.pieces c.stitches doubled.0 stitches.0;
     }

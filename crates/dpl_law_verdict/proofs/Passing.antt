@@ -2,6 +2,7 @@
 use Rattle.std.proofs.Common.{◌≡◌, ◌≢◌, ℕ, ◌<◌, inl, inr, List, length, get_or, refl, subst, arith}
 use Rattle.std.proofs.lemmas.Bool.{cases_lt, cases_eq}
 use Rattle.std.proofs.lemmas.List.{get_or_default}
+use Rattle.dpl_spec_split.specs.declared.Spacing.{Spacing}
 use Rattle.dpl_spec_split.specs.declared.Pt.{Pt}
 use Rattle.dpl_spec_split.specs.declared.Rect.{Rect}
 use Rattle.dpl_spec_split.specs.Squares.{Covers}
@@ -14,27 +15,27 @@ use Rattle.dpl_spec_verdict.specs.Masks.{VerdictFromStitches, VerdictFromPieces,
 use Rattle.dpl_law_verdict.proofs.Parting.{unbroken, covered_or_not}
 
 -- no property of masks is broken
-pub record IsKept (rule overlap : ℕ) (c : Claim) : Type 0 where
-  pub rules : RulesDiffer rule overlap c.head → ⊥
+pub record IsKept (spacing : Spacing) (overlap : ℕ) (c : Claim) : Type 0 where
+  pub rules : RulesDiffer spacing overlap c.head → ⊥
   pub counts : CountDiffers c.layer c.head → ⊥
   pub covered : HasSquare (is_uncovered c.layer c.a c.b) → ⊥
   pub doubled : HasSquare (is_doubled c.a c.b c.stitches) → ⊥
-  pub tight_a : IsTight rule c.layer c.a → ⊥
-  pub tight_b : IsTight rule c.layer c.b → ⊥
+  pub tight_a : IsTight spacing c.layer c.a → ⊥
+  pub tight_b : IsTight spacing c.layer c.b → ⊥
   pub stitches : HasBad (IsBadStitch overlap c.a c.b c.pieces) c.stitches → ⊥
   pub pieces : HasBad (IsBadPiece c.a c.b) c.pieces → ⊥
 
-pub kept-valid : (rule overlap : ℕ) (c : Claim) → IsKept rule overlap c → VerdictOfClaim rule overlap c Valid
-kept-valid rule overlap c k = inr (k.rules, inr (k.counts, inr (k.covered, inr (k.doubled, inr (k.tight_a, inr (k.tight_b, inr (k.stitches, inr (k.pieces, refl))))))))
+pub kept-valid : (spacing : Spacing) (overlap : ℕ) (c : Claim) → IsKept spacing overlap c → VerdictOfClaim spacing overlap c Valid
+kept-valid spacing overlap c k = inr (k.rules, inr (k.counts, inr (k.covered, inr (k.doubled, inr (k.tight_a, inr (k.tight_b, inr (k.stitches, inr (k.pieces, refl))))))))
 
-pub valid-kept : (rule overlap : ℕ) (c : Claim) → VerdictOfClaim rule overlap c Valid → IsKept rule overlap c
-valid-kept rule overlap c valid =
-    let one = unbroken (RulesDiffer rule overlap c.head) (ShowsRules c.head) (VerdictFromCounts rule overlap c) Valid (λ e. cc) valid in
-    let two = unbroken (CountDiffers c.layer c.head) (ShowsCounts rule overlap c.layer) (VerdictFromCover rule overlap c) Valid (λ (f, p, z, are, e). cc) one.1 in
-    let cover = unbroken (HasSquare (is_uncovered c.layer c.a c.b)) (ShowsCover c) (VerdictFromOverlap rule overlap c) Valid (λ (p, least, e). cc) two.1 in
-    let doubled = unbroken (HasSquare (is_doubled c.a c.b c.stitches)) (ShowsOverlap c) (VerdictFromSpacingA rule overlap c) Valid (λ (p, least, e). cc) cover.1 in
-    let on_a = unbroken (IsTight rule c.layer c.a) (ShowsSpacingA rule c) (VerdictFromSpacingB rule overlap c) Valid (λ (p, q, least, e). cc) doubled.1 in
-    let on_b = unbroken (IsTight rule c.layer c.b) (ShowsSpacingB rule c) (VerdictFromStitches overlap c) Valid (λ (p, q, least, e). cc) on_a.1 in
+pub valid-kept : (spacing : Spacing) (overlap : ℕ) (c : Claim) → VerdictOfClaim spacing overlap c Valid → IsKept spacing overlap c
+valid-kept spacing overlap c valid =
+    let one = unbroken (RulesDiffer spacing overlap c.head) (ShowsRules c.head) (VerdictFromCounts spacing overlap c) Valid (λ e. cc) valid in
+    let two = unbroken (CountDiffers c.layer c.head) (ShowsCounts spacing overlap c.layer) (VerdictFromCover spacing overlap c) Valid (λ (f, p, z, are, e). cc) one.1 in
+    let cover = unbroken (HasSquare (is_uncovered c.layer c.a c.b)) (ShowsCover c) (VerdictFromOverlap spacing overlap c) Valid (λ (p, least, e). cc) two.1 in
+    let doubled = unbroken (HasSquare (is_doubled c.a c.b c.stitches)) (ShowsOverlap c) (VerdictFromSpacingA spacing overlap c) Valid (λ (p, least, e). cc) cover.1 in
+    let on_a = unbroken (IsTight spacing c.layer c.a) (ShowsSpacingA spacing c) (VerdictFromSpacingB spacing overlap c) Valid (λ (p, q, least, e). cc) doubled.1 in
+    let on_b = unbroken (IsTight spacing c.layer c.b) (ShowsSpacingB spacing c) (VerdictFromStitches overlap c) Valid (λ (p, q, least, e). cc) on_a.1 in
     let stitches = unbroken (HasBad (IsBadStitch overlap c.a c.b c.pieces) c.stitches) (ShowsStitch overlap c) (VerdictFromPieces c) Valid (λ (k, bad, e). cc) on_b.1 in
     let pieces = unbroken (HasBad (IsBadPiece c.a c.b) c.pieces) (ShowsPiece c) IsValid Valid (λ (k, bad, e). cc) stitches.1 in
     record { rules = one.0; counts = two.0; covered = cover.0; doubled = doubled.0; tight_a = on_a.0; tight_b = on_b.0; stitches = stitches.0; pieces = pieces.0 }

@@ -5,6 +5,7 @@ use Rattle.std.specs.List.{AllByRecursion, AllZip, Contains, zip}
 use Rattle.std.proofs.lemmas.Int.{ints}
 use Rattle.std.proofs.lemmas.List.{get_or_default, length-map}
 use Rattle.std.proofs.lemmas.Slice.Zip.{AllZip-long}
+use Rattle.dpl_spec_split.specs.declared.Spacing.{Spacing}
 use Rattle.dpl_spec_split.specs.declared.Pt.{Pt}
 use Rattle.dpl_spec_split.specs.declared.Rect.{Rect}
 use Rattle.dpl_spec_split.specs.declared.Zone.{Zone}
@@ -62,8 +63,8 @@ many-lines (c ∷ cs) (k ∷ ks) h = ap suc (many-lines cs ks (omega (arith, h))
 point-of : (p : Pt) → Inside farthest p → IsPoint p
 point-of p (a, b, c, d) = record { x = (omega (arith, ints, a), omega (arith, ints, a)); y = (omega (arith, ints, b), omega (arith, ints, b)) }
 
-level-solid : (rule overlap : ℕ) (l f : Region) (z : Rect) → 1 ≤ overlap → IsHorizontalZone rule overlap l f z → IsSolid z
-level-solid rule overlap l f z some h =
+level-solid : (spacing : Spacing) (overlap : ℕ) (l f : Region) (z : Rect) → 1 ≤ overlap → IsHorizontalZone spacing overlap l f z → IsSolid z
+level-solid spacing overlap l f z some h =
     let r : Rect = h.stretch in
     let st = h.is in
     let m = h.middle in
@@ -76,10 +77,10 @@ level-solid rule overlap l f z some h =
     let tall = (st.runs z.x0 from (omega (arith, ints, wide, to))).some in
     record { wide = wide; tall = omega (arith, ints, tall, low, high) }
 
-zone-solid : (rule overlap : ℕ) (l f : Region) (z : Rect) → 1 ≤ overlap → IsKeptZone rule overlap l f z → IsSolid z
-zone-solid rule overlap l f z some (inl h) = level-solid rule overlap l f z some h
-zone-solid rule overlap l f z some (inr (v, apart)) =
-    let s = level-solid rule overlap (transposed l) (transposed f) (transposed_rect z) some v in
+zone-solid : (spacing : Spacing) (overlap : ℕ) (l f : Region) (z : Rect) → 1 ≤ overlap → IsKeptZone spacing overlap l f z → IsSolid z
+zone-solid spacing overlap l f z some (inl h) = level-solid spacing overlap l f z some h
+zone-solid spacing overlap l f z some (inr (v, apart)) =
+    let s = level-solid spacing overlap (transposed l) (transposed f) (transposed_rect z) some v in
     record { wide = s.tall; tall = s.wide }
 
 -- a rectangle whose least and greatest squares lie in the range
@@ -95,17 +96,17 @@ rect-of r solid (a, b, c, d) (e, f, g, h) = record {
 
 -- ---- the lines of a cut
 
-module _ (rule overlap : ℕ) (layer : List Rect) (c : Cut) (ruled : IsRule rule) (lapped : IsRule overlap)
-    (within : AreRectsWithin farthest layer) (cut : IsCut rule overlap (Covers layer) c) where
+module _ (spacing : Spacing) (overlap : ℕ) (layer : List Rect) (c : Cut) (ruled : IsRule spacing.rule) (lapped : IsRule overlap)
+    (within : AreRectsWithin farthest layer) (cut : IsCut spacing overlap (Covers layer) c) where
   piece-inside : (k : ℕ) (p : Pt) → part_at c.pieces k p → Inside farthest p
-  piece-inside k p has = covered-inside layer p within (piece-rest rule overlap (Covers layer) c cut k p has).0
+  piece-inside k p has = covered-inside layer p within (piece-rest spacing overlap (Covers layer) c cut k p has).0
 
   zone-inside : (z : Zone) (p : Pt) → Contains c.zones z → Has z.rect p → Inside farthest p
   zone-inside z p z_in has = covered-inside layer p within (part-inside (Covers layer) c.features z.feature p cut.features
-      (zone-own rule overlap (Covers layer) c cut z p z_in has))
+      (zone-own spacing overlap (Covers layer) c cut z p z_in has))
 
   solid-zone : (z : Zone) → Contains c.zones z → IsSolid z.rect
-  solid-zone z z_in = zone-solid rule overlap (Covers layer) (part_at c.features z.feature) z.rect lapped.0 (kept rule overlap (Covers layer) c cut z z_in).1
+  solid-zone z z_in = zone-solid spacing overlap (Covers layer) (part_at c.features z.feature) z.rect lapped.0 (kept spacing overlap (Covers layer) c cut z z_in).1
 
   first-inside : (z : Zone) → Contains c.zones z → Inside farthest (corner z)
   first-inside z z_in =
@@ -132,7 +133,7 @@ module _ (rule overlap : ℕ) (layer : List Rect) (c : Cut) (ruled : IsRule rule
   few-pieces : length c.pieces < 2 ^ 64
   few-pieces = few-parts layer (without (Covers layer) c.zones) c.pieces within (λ p h. h.0) cut.pieces.components
 
-  head-fits : IsHead (head_of rule overlap c)
+  head-fits : IsHead (head_of spacing overlap c)
   head-fits = record {
     rule = ruled;
     overlap = lapped;
@@ -148,13 +149,13 @@ module _ (rule overlap : ℕ) (layer : List Rect) (c : Cut) (ruled : IsRule rule
   keys-fit = all-keys c.pieces c.keys cut.pieces.keyed (λ k p has. point-of p (piece-inside k p has))
 
   -- the lines of masks
-  module _ (m : Masks) (masks : AreMasks rule c m) where
+  module _ (m : Masks) (masks : AreMasks spacing c m) where
     many-colours : length masks.colours ≡ length c.pieces
     many-colours = masks.coloured.each ∙ masks.rooted.lengths.0
 
     stitch-zone : (k : ℕ) → Contains m.stitches k → k < length c.zones
     stitch-zone k k_in = (let (side, k_side, side_is, both) = (masks.stitches.exactly k).0 k_in in
-        subst (λ n. k < n) (as_many_sides rule overlap (Covers layer) c cut masks.colours) k_side)
+        subst (λ n. k < n) (as_many_sides spacing overlap (Covers layer) c cut masks.colours) k_side)
 
     stitch-fits : (k : ℕ) → Contains m.stitches k → IsStitch (stitch_line c.zones c.sides k)
     stitch-fits k k_in =
@@ -174,7 +175,7 @@ module _ (rule overlap : ℕ) (layer : List Rect) (c : Cut) (ruled : IsRule rule
         let few = head-fits.zones in
         omega (arith, most, few)
 
-    pub masks-cert : IsCert (MasksText (head_of rule overlap c) (map piece_line (zip masks.colours c.keys)) (map (stitch_line c.zones c.sides) m.stitches))
+    pub masks-cert : IsCert (MasksText (head_of spacing overlap c) (map piece_line (zip masks.colours c.keys)) (map (stitch_line c.zones c.sides) m.stitches))
     masks-cert = (
       head-fits,
       many-lines masks.colours c.keys (many-colours ∙ sym many-keys) ∙ many-keys,
@@ -185,15 +186,15 @@ module _ (rule overlap : ℕ) (layer : List Rect) (c : Cut) (ruled : IsRule rule
 
     pub masks-within : AreRectsWithin farthest m.a × AreRectsWithin farthest m.b
     masks-within = (
-      part-within layer m.a within masks.a.canonical (λ p h. (cover rule overlap (Covers layer) c m cut masks p).0 (inl h)),
-      part-within layer m.b within masks.b.canonical (λ p h. (cover rule overlap (Covers layer) c m cut masks p).0 (inr h)),
+      part-within layer m.a within masks.a.canonical (λ p h. (cover spacing overlap (Covers layer) c m cut masks p).0 (inl h)),
+      part-within layer m.b within masks.b.canonical (λ p h. (cover spacing overlap (Covers layer) c m cut masks p).0 (inr h)),
     )
 
   -- the lines of a cycle
-  module _ (cycle : List ℕ) (near : List NearLine) (reported : IsReported (conflicts rule c) cycle) (each : length near ≡ length cycle)
-      (pairs : ShowNearest rule c.pieces cycle near) where
-    odd : IsOddCycle (conflicts rule c) cycle
-    odd = reported-odd (conflicts rule c) (conflicts-undirected rule c) cycle reported
+  module _ (cycle : List ℕ) (near : List NearLine) (reported : IsReported (conflicts spacing c) cycle) (each : length near ≡ length cycle)
+      (pairs : ShowNearest spacing c.pieces cycle near) where
+    odd : IsOddCycle (conflicts spacing c) cycle
+    odd = reported-odd (conflicts spacing c) (conflicts-undirected spacing c) cycle reported
 
     place-known : (k : ℕ) → Contains cycle k → k < length c.pieces
     place-known k (i, i_in, is) = subst (λ n. n < length c.pieces) (get_or_default cycle i 0 k i_in ∙ is) (odd.around i i_in).first
@@ -220,7 +221,7 @@ module _ (rule overlap : ℕ) (layer : List Rect) (c : Cut) (ruled : IsRule rule
         let rest = odd.odd in
         record { long = odd.three; odd = (length cycle / 2, omega (arith, rest)); fits = omega (arith, most, few) }
 
-    pub cycle-cert : IsCert (ConflictText (head_of rule overlap c) (map (place_line c.keys) cycle) near)
+    pub cycle-cert : IsCert (ConflictText (head_of spacing overlap c) (map (place_line c.keys) cycle) near)
     cycle-cert =
         let many : length (map (place_line c.keys) cycle) ≡ length cycle = length-map cycle (place_line c.keys) in (
           head-fits,

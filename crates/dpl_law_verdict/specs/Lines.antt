@@ -1,5 +1,6 @@
 -- What a valid verdict of masks gives of the lines of their certificate.
 use Rattle.std.specs.Prelude.{◌≡◌, ℕ, ◌<◌, cond, List, length, slice_index_or}
+use Rattle.dpl_spec_split.specs.declared.Spacing.{Spacing}
 use Rattle.dpl_spec_split.specs.declared.Rect.{Rect}
 use Rattle.dpl_spec_split.specs.Squares.{Covers}
 use Rattle.dpl_spec_split.specs.Components.{AreComponents}
@@ -15,12 +16,12 @@ abbrev pub IsOnItsMask : List Rect → List Rect → PieceLine → Type 0
 IsOnItsMask a b line = Covers (cond line.b b a) line.key
 
 -- the rule, the overlap and the number of features are the layer's, and each line is good
-pub record AreGoodLines (rule overlap : ℕ) (layer a b : List Rect) (head : Head) (pieces : List PieceLine) (stitches : List StitchLine) : Type 0 where
-  pub rules : (head.rule ≡ rule) × (head.overlap ≡ overlap)
+pub record AreGoodLines (spacing : Spacing) (overlap : ℕ) (layer a b : List Rect) (head : Head) (pieces : List PieceLine) (stitches : List StitchLine) : Type 0 where
+  pub rules : (head.rule ≡ spacing.rule) × (head.overlap ≡ overlap)
   pub counted : (features : List (List Rect)) → AreComponents (Covers layer) features → head.features ≡ length features
   pub stitched : (k : ℕ) (d : StitchLine) → k < length stitches → IsGoodStitch overlap (Covers a) (Covers b) pieces (slice_index_or stitches k d)
   pub lettered : (k : ℕ) (d : PieceLine) → k < length pieces → IsOnItsMask a b (slice_index_or pieces k d)
 
 abbrev pub ValidLinesAreGood : Type 0
-ValidLinesAreGood = (rule overlap : ℕ) (layer a b : List Rect) (head : Head) (pieces : List PieceLine) (stitches : List StitchLine)
-    → IsVerdictOfMasks rule overlap layer a b (Masks head pieces stitches) Valid → AreGoodLines rule overlap layer a b head pieces stitches
+ValidLinesAreGood = (spacing : Spacing) (overlap : ℕ) (layer a b : List Rect) (head : Head) (pieces : List PieceLine) (stitches : List StitchLine)
+    → IsVerdictOfMasks spacing overlap layer a b (Masks head pieces stitches) Valid → AreGoodLines spacing overlap layer a b head pieces stitches

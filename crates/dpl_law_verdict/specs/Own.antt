@@ -1,6 +1,7 @@
 -- The masks or the cycle of a layer's decomposition are valid.
 use Rattle.std.specs.Prelude.{ℕ, ◌+◌, ◌%◌, ◌<◌, Bool, pos, List, length, map, slice_index, slice_index_or}
 use Rattle.std.specs.List.{zip}
+use Rattle.dpl_spec_split.specs.declared.Spacing.{Spacing}
 use Rattle.dpl_spec_split.specs.declared.Pt.{Pt}
 use Rattle.dpl_spec_split.specs.declared.Rect.{Rect}
 use Rattle.dpl_spec_split.specs.declared.Zone.{Zone}
@@ -20,8 +21,8 @@ use Rattle.dpl_spec_verdict.specs.declared.Verdict.TheVariants.{Valid}
 use Rattle.dpl_spec_verdict.specs.Masks.{IsVerdictOfMasks}
 use Rattle.dpl_spec_verdict.specs.Conflicts.{IsVerdictOfConflict}
 
-abbrev pub head_of : ℕ → ℕ → Cut → Head
-head_of rule overlap c = record { rule = rule; overlap = overlap; features = length c.features; pieces = length c.pieces; zones = length c.zones }
+abbrev pub head_of : Spacing → ℕ → Cut → Head
+head_of spacing overlap c = record { rule = spacing.rule; overlap = overlap; features = length c.features; pieces = length c.pieces; zones = length c.zones }
 
 -- a piece's letter and least square
 abbrev pub piece_line : Bool × Pt → PieceLine
@@ -39,19 +40,19 @@ abbrev pub place_line : List Pt → ℕ → PlaceLine
 place_line keys k = record { piece = k; key = slice_index_or keys k (at (pos 0) (pos 0)) }
 
 -- for each piece of the cycle the least pair of near squares with the next one, the last with the first
-abbrev pub ShowNearest : ℕ → List (List Rect) → List ℕ → List NearLine → Type 0
-ShowNearest rule pieces cycle near = (k : ℕ) (d : NearLine) → k < length cycle
-    → IsNearestPair rule (part_at pieces (slice_index cycle k)) (part_at pieces (slice_index cycle ((k + 1) % length cycle)))
+abbrev pub ShowNearest : Spacing → List (List Rect) → List ℕ → List NearLine → Type 0
+ShowNearest spacing pieces cycle near = (k : ℕ) (d : NearLine) → k < length cycle
+    → IsNearestPair spacing (part_at pieces (slice_index cycle k)) (part_at pieces (slice_index cycle ((k + 1) % length cycle)))
     (slice_index_or near k d).from (slice_index_or near k d).to
 
 -- without an odd cycle of conflicts nothing is wrong with the masks and the lines of their certificate
 abbrev pub OwnMasksAreValid : Type 0
-OwnMasksAreValid = (rule overlap : ℕ) (layer : List Rect) (c : Cut) (m : Masks) → IsCut rule overlap (Covers layer) c → (are : AreMasks rule c m) → ¬ HasOddCycle (conflicts rule c)
-    → IsVerdictOfMasks rule overlap layer m.a m.b (MasksText (head_of rule overlap c) (map piece_line (zip are.colours c.keys))
+OwnMasksAreValid = (spacing : Spacing) (overlap : ℕ) (layer : List Rect) (c : Cut) (m : Masks) → IsCut spacing overlap (Covers layer) c → (are : AreMasks spacing c m) → ¬ HasOddCycle (conflicts spacing c)
+    → IsVerdictOfMasks spacing overlap layer m.a m.b (MasksText (head_of spacing overlap c) (map piece_line (zip are.colours c.keys))
     (map (stitch_line c.zones c.sides) m.stitches)) Valid
 
 -- nothing is wrong with the reported cycle
 abbrev pub OwnCyclesAreValid : Type 0
-OwnCyclesAreValid = (rule overlap : ℕ) (layer : List Rect) (c : Cut) (cycle : List ℕ) (near : List NearLine)
-    → IsCut rule overlap (Covers layer) c → IsReported (conflicts rule c) cycle → ShowNearest rule c.pieces cycle near
-    → IsVerdictOfConflict rule overlap layer (ConflictText (head_of rule overlap c) (map (place_line c.keys) cycle) near) Valid
+OwnCyclesAreValid = (spacing : Spacing) (overlap : ℕ) (layer : List Rect) (c : Cut) (cycle : List ℕ) (near : List NearLine)
+    → IsCut spacing overlap (Covers layer) c → IsReported (conflicts spacing c) cycle → ShowNearest spacing c.pieces cycle near
+    → IsVerdictOfConflict spacing overlap layer (ConflictText (head_of spacing overlap c) (map (place_line c.keys) cycle) near) Valid

@@ -6,7 +6,7 @@ ghost use Rattle.dpl_law_verdict.specs.Own.{OwnCyclesAreValid, OwnMasksAreValid}
 ghost use Rattle.dpl_law_verdict.specs.Valid.{ValidConflictsAreThere, ValidMasksAreRight};
 ghost use Rattle.dpl_law_verdict.specs.Written.{FaultlessLayersAreWithin, OwnCyclesAreWritten, OwnMasksAreWritten};
 
-/// Valid masks cover the layer and nothing else, keep different features on one mask at least the rule apart, and are both on a square exactly where it lies in a listed stitch.
+/// Valid masks cover the layer and nothing else, have no near squares of different features on one mask, and are both on a square exactly where it lies in a listed stitch.
 pub fn valid_masks_are_right()
     ensures { ValidMasksAreRight }
 {}
@@ -16,7 +16,7 @@ pub fn valid_lines_are_good()
     ensures { ValidLinesAreGood }
 {}
 
-/// A valid certificate of a conflict lists an odd cycle of the layer's pieces, each by its least square, and squares of it and of the next piece that are closer than the rule; it names the rule, the overlap, and how many features, pieces and zones there are.
+/// A valid certificate of a conflict lists an odd cycle of the layer's pieces, each by its least square, and squares of it and of the next piece that are near; it names the rule, the overlap, and how many features, pieces and zones there are.
 pub fn valid_conflicts_are_there()
     ensures { ValidConflictsAreThere }
 {}

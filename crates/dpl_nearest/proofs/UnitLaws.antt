@@ -3,11 +3,12 @@ use Rattle.std.proofs.Common.{◌≡◌, ℕ, ◌*◌, ◌<◌, ◌≤◌, inl, 
 use Rattle.std.specs.Prelude.{pos, unsigned_abs, ◌+ℤ◌, ◌≤ℤ◌, ◌<ℤ◌}
 use Rattle.std.specs.Int.{w32}
 use Rattle.std.proofs.lemmas.Int.{fits_signed_from_abs, ints}
+use Rattle.dpl_spec_split.specs.declared.Spacing.{Spacing}
 use Rattle.dpl_spec_split.specs.declared.Pt.{Pt}
 use Rattle.dpl_spec_split.specs.declared.Rect.{Rect}
-use Rattle.dpl_spec_split.specs.Squares.{Region, Has, Covers, IsLeast, AreNear, d2}
+use Rattle.dpl_spec_split.specs.Squares.{Region, Has, Covers, IsLeast, AreNear, Near}
 use Rattle.dpl_spec_split.specs.Loops.{IsRectWithin, AreRectsWithin, farthest}
-use Rattle.dpl_spec_split.proofs.SquareLaws.{d2-sym}
+use Rattle.dpl_spec_split.proofs.SquareLaws.{Near-sym}
 use Rattle.dpl_nearest.specs.Nearest.{IsNearestPair}
 use Rattle.dpl_nearest.specs.Search.{FitsIn32Bits, near_part, unit_of}
 use Rattle.dpl_nearest.proofs.NearLaws.{same_square}
@@ -51,20 +52,20 @@ covered_fits rs p within (k, r, k_in, k_is, h) =
     unit_fits p (omega (arith, ints, r_in.left, r_in.right, h.left, h.right)) (omega (arith, ints, r_in.low, r_in.high, h.low, h.high))
 
 -- the square that a least near one is near
-pub has_partner : (rule : ℕ) (a b : Region) (p : Pt) (u : Rect) → u ≡ unit_of p → IsLeast (near_part rule a b) p → AreNear rule b (Covers (u ∷ []))
-has_partner rule a b p u e least =
+pub has_partner : (spacing : Spacing) (a b : Region) (p : Pt) (u : Rect) → u ≡ unit_of p → IsLeast (near_part spacing a b) p → AreNear spacing b (Covers (u ∷ []))
+has_partner spacing a b p u e least =
     let near = least.inside.1 in
-    (near.0, p, near.1, covers_self p u e, subst (λ n. n < rule * rule) (d2-sym p near.0) near.2)
+    (near.0, p, near.1, covers_self p u e, Near-sym spacing p near.0 near.2)
 
-pub nearest_pair : (rule : ℕ) (a b : Region) (p t : Pt) (u : Rect) → u ≡ unit_of p → IsLeast (near_part rule a b) p
-    → IsLeast (near_part rule b (Covers (u ∷ []))) t → IsNearestPair rule a b p t
-nearest_pair rule a b p t u e from to =
+pub nearest_pair : (spacing : Spacing) (a b : Region) (p t : Pt) (u : Rect) → u ≡ unit_of p → IsLeast (near_part spacing a b) p
+    → IsLeast (near_part spacing b (Covers (u ∷ []))) t → IsNearestPair spacing a b p t
+nearest_pair spacing a b p t u e from to =
     let near = to.inside.1 in
     let is : near.0 ≡ p = covers_only p u near.0 e near.1 in
     record {
-      are = record { from = from.inside.0; to = to.inside.0; close = subst (λ n. n < rule * rule) (d2-sym t p) (subst (λ (v : Pt). d2 t v < rule * rule) is near.2) };
+      are = record { from = from.inside.0; to = to.inside.0; close = Near-sym spacing t p (subst (λ (v : Pt). Near spacing t v) is near.2) };
       least = λ r s h. elim (from.first r (h.from, (s, h.to, h.close))) [
         | inr before ↦ inl before
-        | inl same ↦ inr (same, to.first s (h.to, (p, covers_self p u e, subst (λ n. n < rule * rule) (d2-sym p s) (subst (λ (v : Pt). d2 v s < rule * rule) (sym same) h.close))))
+        | inl same ↦ inr (same, to.first s (h.to, (p, covers_self p u e, Near-sym spacing p s (subst (λ (v : Pt). Near spacing v s) (sym same) h.close))))
       ];
     }

@@ -1,6 +1,7 @@
 -- The search for the least square of a set that is near another.
 use Rattle.std.specs.Prelude.{◌≡◌, ◌≢◌, ℕ, ◌*◌, ◌<◌, ◌⊎◌, ℤ, ◌+ℤ◌, pos, FitsSigned, List, Option, Some, None, length, slice_index_or}
 use Rattle.std.specs.Int.{w32}
+use Rattle.dpl_spec_split.specs.declared.Spacing.{Spacing}
 use Rattle.dpl_spec_split.specs.declared.Pt.{Pt}
 use Rattle.dpl_spec_split.specs.declared.Rect.{Rect}
 use Rattle.dpl_tree.specs.declared.items.Item.{Item}
@@ -8,11 +9,11 @@ use Rattle.dpl_tree.specs.declared.owners.Owners.{Owners}
 use Rattle.dpl_tree.specs.declared.owners.Owners.TheVariants.{All, But, Only, Above}
 use Rattle.dpl_tree.specs.Trees.{HasItem}
 use Rattle.dpl_spec_split.specs.Slabs.{IsSolid}
-use Rattle.dpl_spec_split.specs.Squares.{Region, Has, AreNear, IsLeast, Precedes, d2}
+use Rattle.dpl_spec_split.specs.Squares.{Region, Has, AreNear, IsLeast, Precedes, Near}
 
--- the squares of a that are closer than rule to some square of b
-abbrev pub near_part : ℕ → Region → Region → Region
-near_part rule a b p = a p × ((q : Pt) × b q × (d2 p q < rule * rule))
+-- the squares of a that are near some square of b
+abbrev pub near_part : Spacing → Region → Region → Region
+near_part spacing a b p = a p × ((q : Pt) × b q × (Near spacing p q))
 
 -- the rows of a rectangle below row y, and row y of it
 abbrev pub rows_below : Rect → ℤ → Rect
@@ -40,21 +41,21 @@ pub record FitsIn32Bits (r : Rect) : Type 0 where
   pub high : FitsSigned w32 r.y1
 
 -- the least square of a set that is near another, if there is one
-abbrev pub IsLeastNear : ℕ → Region → Region → Option Pt → Type 0
-IsLeastNear rule a b None = ¬ AreNear rule a b
-IsLeastNear rule a b (Some p) = IsLeast (near_part rule a b) p
+abbrev pub IsLeastNear : Spacing → Region → Region → Option Pt → Type 0
+IsLeastNear spacing a b None = ¬ AreNear spacing a b
+IsLeastNear spacing a b (Some p) = IsLeast (near_part spacing a b) p
 
 -- new is the first of old and the squares of a that are near b
-pub record IsLowered (rule : ℕ) (a b : Region) (old new : Pt) : Type 0 where
-  pub is : (new ≡ old) ⊎ near_part rule a b new
+pub record IsLowered (spacing : Spacing) (a b : Region) (old new : Pt) : Type 0 where
+  pub is : (new ≡ old) ⊎ near_part spacing a b new
   pub before : (new ≡ old) ⊎ Precedes new old
-  pub first : (q : Pt) → near_part rule a b q → (new ≡ q) ⊎ Precedes new q
+  pub first : (q : Pt) → near_part spacing a b q → (new ≡ q) ⊎ Precedes new q
 
 -- the same, where there may be no old one
-abbrev pub IsImproved : ℕ → Region → Region → Option Pt → Option Pt → Type 0
-IsImproved rule a b None new = IsLeastNear rule a b new
-IsImproved rule a b (Some p) None = ⊥
-IsImproved rule a b (Some p) (Some q) = IsLowered rule a b p q
+abbrev pub IsImproved : Spacing → Region → Region → Option Pt → Option Pt → Type 0
+IsImproved spacing a b None new = IsLeastNear spacing a b new
+IsImproved spacing a b (Some p) None = ⊥
+IsImproved spacing a b (Some p) (Some q) = IsLowered spacing a b p q
 
 -- the squares of the first n rectangles
 abbrev pub CoversFirst : ℕ → List Rect → Region

@@ -1,5 +1,5 @@
 //! The least square of rectangles that is near others.
-ghost use Rattle.std.specs.Prelude.{◌≡◌, ℕ, ◌⊎◌, ◌↔◌, IfOk};
+ghost use Rattle.std.specs.Prelude.{◌≤◌, ◌≡◌, ℕ, ◌⊎◌, ◌↔◌, IfOk};
 ghost use Rattle.std.specs.List.{All, Contains};
 ghost use Rattle.dpl_spec_split.specs.Loops.{AreRectsWithin, IsRectWithin, farthest};
 ghost use Rattle.dpl_spec_split.specs.Slabs.{IsSolid};
@@ -10,7 +10,7 @@ ghost use Rattle.dpl_tree.specs.declared.owners.Owners.TheVariants.{All as Every
 ghost use Rattle.dpl_nearest.specs.Search.{AreSolidItems, IsLeastNear, ItemCovers, IsLowered, IsImproved};
 
 use crate::rects::least_of;
-use dpl_base::{Pt, Rect};
+use dpl_base::{Pt, Rect, Spacing};
 use dpl_tree::{Items, Owners, Tree};
 use std::alloc::{AllocError, Global};
 
@@ -31,44 +31,53 @@ fn lesser(p: Pt, q: Pt) -> Pt
 }
 
 /// The first of `p` and the squares of `r` that are near the others.
-fn lowered(p: Pt, r: &Rect, others: &Tree, owners: Owners, rule: u32) -> Pt
+fn lowered(p: Pt, r: &Rect, others: &Tree, owners: Owners, spacing: Spacing) -> Pt
+    requires corner { spacing.corner ≤ spacing.rule }
     requires solid { IsSolid r.now }
     requires within { IsRectWithin farthest r.now }
     requires others { AreSolidItems others.now }
-    ensures { IsLowered rule (Has r.now) (ItemCovers owners others.now) p result }
+    ensures { IsLowered spacing (Has r.now) (ItemCovers owners others.now) p result }
 {
     if p.y < r.y0 as i64 {
         return p;
     }
-    match least_of(r, others, owners, rule) {
+    match least_of(r, others, owners, spacing) {
         None => p,
         Some(q) => lesser(p, q),
     }
 }
 
-/// The first of `best`, if there is one, and the squares of `r` that are closer than `rule` database units to a rectangle of the owners that are sought.
-pub fn improved(best: Option<Pt>, r: &Rect, others: &Tree, owners: Owners, rule: u32) -> Option<Pt>
+/// The first of `best`, if there is one, and the squares of `r` that are near, by `spacing` in database units, a rectangle of the owners that are sought.
+pub fn improved(
+    best: Option<Pt>,
+    r: &Rect,
+    others: &Tree,
+    owners: Owners,
+    spacing: Spacing,
+) -> Option<Pt>
+    requires corner { spacing.corner ≤ spacing.rule }
     requires solid { IsSolid r.now }
     requires within { IsRectWithin farthest r.now }
     requires others { AreSolidItems others.now }
-    ensures { IsImproved rule (Has r.now) (ItemCovers owners others.now) best result }
+    ensures { IsImproved spacing (Has r.now) (ItemCovers owners others.now) best result }
 {
     match best {
-        None => least_of(r, others, owners, rule),
-        Some(p) => Some(lowered(p, r, others, owners, rule)),
+        None => least_of(r, others, owners, spacing),
+        Some(p) => Some(lowered(p, r, others, owners, spacing)),
     }
 }
 
 /// The least square of rectangles that is near the others.
-fn least_in_tree(rects: &[Rect], others: &Tree, rule: u32) -> Option<Pt>
+fn least_in_tree(rects: &[Rect], others: &Tree, spacing: Spacing) -> Option<Pt>
+    requires corner { spacing.corner ≤ spacing.rule }
     requires solid { All IsSolid rects.now }
     requires within { AreRectsWithin farthest rects.now }
     requires others { AreSolidItems others.now }
-    ensures { IsLeastNear rule (Covers rects.now) (ItemCovers Everyone others.now) result }
+    ensures { IsLeastNear spacing (Covers rects.now) (ItemCovers Everyone others.now) result }
 {
     let mut best = None;
     for r in rects {
-        best = improved(best, r, others, Owners::All, rule);
+        best = improved(best, r, others, Owners::All, spacing);
     }
     best
 }
@@ -87,13 +96,14 @@ pub(crate) fn least_near(
     alloc: Global,
     rects: &[Rect],
     others: &[Rect],
-    rule: u32,
+    spacing: Spacing,
 ) -> Result<Option<Pt>, AllocError>
+    requires corner { spacing.corner ≤ spacing.rule }
     requires solid { All IsSolid rects.now }
     requires within { AreRectsWithin farthest rects.now }
     requires others_solid { All IsSolid others.now }
-    ensures { IfOk result (λ found. IsLeastNear rule (Covers rects.now) (Covers others.now) found) }
+    ensures { IfOk result (λ found. IsLeastNear spacing (Covers rects.now) (Covers others.now) found) }
 {
     let tree = tree_of(alloc, others)?;
-    Ok(least_in_tree(rects, &tree, rule))
+    Ok(least_in_tree(rects, &tree, spacing))
 }

@@ -4,6 +4,7 @@ use Rattle.std.specs.Prelude.{ℤ, pos, ◌+ℤ◌, ◌-ℤ◌, ◌≤ℤ◌, �
 use Rattle.std.specs.List.{Contains}
 use Rattle.std.proofs.lemmas.Int.{ints}
 use Rattle.std.proofs.lemmas.List.{get_or_default}
+use Rattle.dpl_spec_split.specs.declared.Spacing.{Spacing}
 use Rattle.dpl_spec_split.specs.declared.Pt.{Pt}
 use Rattle.dpl_spec_split.specs.declared.Rect.{Rect}
 use Rattle.dpl_spec_split.specs.declared.Zone.{Zone}
@@ -33,39 +34,39 @@ closed a parts k p q c k_in in_a has touch =
     let linked : Linked a whole.0 q = (whole.2 q).0 has in
     (whole.2 p).1 (Linked-trans a linked (on (in-set a parts k q c k_in has) (Touch-sym p q touch) (here in_a)))
 
-module _ (rule overlap : ℕ) (layer : Region) (features : List (List Rect)) (zones : List Zone) (c : AreComponents layer features)
-    (zs : AreZones rule overlap layer features zones) where
-  pub kept : (z : Zone) → Contains zones z → (z.feature < length features) × IsKeptZone rule overlap layer (part_at features z.feature) z.rect
+module _ (spacing : Spacing) (overlap : ℕ) (layer : Region) (features : List (List Rect)) (zones : List Zone) (c : AreComponents layer features)
+    (zs : AreZones spacing overlap layer features zones) where
+  pub kept : (z : Zone) → Contains zones z → (z.feature < length features) × IsKeptZone spacing overlap layer (part_at features z.feature) z.rect
   kept z z_in = (zs.exactly z).0 z_in
 
-  pub kept-inside : (f : Region) (r : Rect) (p : Pt) → IsKeptZone rule overlap layer f r → Has r p → f p
-  kept-inside f r p (inl h) has = zone-in-feature rule layer f overlap r p h has
+  pub kept-inside : (f : Region) (r : Rect) (p : Pt) → IsKeptZone spacing overlap layer f r → Has r p → f p
+  kept-inside f r p (inl h) has = zone-in-feature spacing layer f overlap r p h has
   kept-inside f r p (inr (v, apart)) has =
-      zone-in-feature rule (transposed layer) (transposed f) overlap (transposed_rect r) (at p.y p.x) v
+      zone-in-feature spacing (transposed layer) (transposed f) overlap (transposed_rect r) (at p.y p.x) v
       (record { left = has.low; right = has.high; low = has.left; high = has.right })
 
   -- a zone with a square of a feature is a zone of that feature
-  zone-of : (w : Zone) (k : ℕ) (p : Pt) → Contains zones w → k < length features → part_at features k p → Has w.rect p → IsKeptZone rule overlap layer (part_at features k) w.rect
+  zone-of : (w : Zone) (k : ℕ) (p : Pt) → Contains zones w → k < length features → part_at features k p → Has w.rect p → IsKeptZone spacing overlap layer (part_at features k) w.rect
   zone-of w k p w_in k_in in_k has =
       let (m_in, kept_m) = kept w w_in in
       let same : w.feature ≡ k = part-unique layer features w.feature k p c m_in k_in (kept-inside (part_at features w.feature) w.rect p kept_m has) in_k in
-      subst (λ n. IsKeptZone rule overlap layer (part_at features n) w.rect) same kept_m
+      subst (λ n. IsKeptZone spacing overlap layer (part_at features n) w.rect) same kept_m
 
   module _ (z : Zone) (z_in : Contains zones z) where
     pub feature_in : z.feature < length features
     feature_in = (kept z z_in).0
 
     -- beside a horizontal zone, in its rows, the rest goes on
-    pub rest-across : (h : IsHorizontalZone rule overlap layer (part_at features z.feature) z.rect) (x y : ℤ)
+    pub rest-across : (h : IsHorizontalZone spacing overlap layer (part_at features z.feature) z.rect) (x y : ℤ)
         → ((x +ℤ pos 1 ≡ z.rect.x0) ⊎ (x ≡ z.rect.x1)) → z.rect.x0 <ℤ z.rect.x1 → z.rect.y0 ≤ℤ y → y <ℤ z.rect.y1
         → without layer zones (at x y)
     rest-across h x y side wide from below =
         let left : z.rect.x0 ≤ℤ (x +ℤ pos 1) = elim side [ inl e ↦ omega (arith, ints, e) | inr e ↦ omega (arith, ints, e, wide) ] in
         let right : x ≤ℤ z.rect.x1 = elim side [ inl e ↦ omega (arith, ints, e, wide) | inr e ↦ omega (arith, ints, e) ] in
-        let in_f = beside-in-feature rule layer (part_at features z.feature) overlap z.rect h x y left right from below in (
+        let in_f = beside-in-feature spacing layer (part_at features z.feature) overlap z.rect h x y left right from below in (
           in-set layer features z.feature (at x y) c feature_in in_f,
           λ (n, w, n_in, n_is, has). elim (zone-of w z.feature (at x y) (n, n_in, n_is) feature_in in_f has) [
-            | inl k ↦ (let same : z.rect ≡ w.rect = beside-same rule layer (part_at features z.feature) overlap z.rect w.rect h k x y left right from below has in
+            | inl k ↦ (let same : z.rect ≡ w.rect = beside-same spacing layer (part_at features z.feature) overlap z.rect w.rect h k x y left right from below has in
                 let mine : Has z.rect (at x y) = subst (λ r. Has r (at x y)) (sym same) has in
                 elim side [ inl e ↦ omega (arith, ints, e, mine.left) | inr e ↦ omega (arith, ints, e, mine.right) ])
             | inr (v, apart) ↦ apart z.rect h
@@ -91,14 +92,14 @@ module _ (rule overlap : ℕ) (layer : Region) (features : List (List Rect)) (zo
         )
 
     -- beside a vertical zone, in its columns, the rest goes on
-    pub rest-up : (h : IsVerticalZone rule overlap layer (part_at features z.feature) z.rect) (none : (r : Rect)
-        → IsHorizontalZone rule overlap layer (part_at features z.feature) r → ¬ AreTouching (Has r) (Has z.rect)) (x y : ℤ)
+    pub rest-up : (h : IsVerticalZone spacing overlap layer (part_at features z.feature) z.rect) (none : (r : Rect)
+        → IsHorizontalZone spacing overlap layer (part_at features z.feature) r → ¬ AreTouching (Has r) (Has z.rect)) (x y : ℤ)
         → ((y +ℤ pos 1 ≡ z.rect.y0) ⊎ (y ≡ z.rect.y1)) → z.rect.y0 <ℤ z.rect.y1 → z.rect.x0 ≤ℤ x → x <ℤ z.rect.x1
         → without layer zones (at x y)
     rest-up h none x y side tall from below =
         let low : z.rect.y0 ≤ℤ (y +ℤ pos 1) = elim side [ inl e ↦ omega (arith, ints, e) | inr e ↦ omega (arith, ints, e, tall) ] in
         let high : y ≤ℤ z.rect.y1 = elim side [ inl e ↦ omega (arith, ints, e, tall) | inr e ↦ omega (arith, ints, e) ] in
-        let in_f = beside-in-feature rule (transposed layer) (transposed (part_at features z.feature)) overlap (transposed_rect z.rect) h y x low high from below in (
+        let in_f = beside-in-feature spacing (transposed layer) (transposed (part_at features z.feature)) overlap (transposed_rect z.rect) h y x low high from below in (
           in-set layer features z.feature (at x y) c feature_in in_f,
           λ (n, w, n_in, n_is, has). elim (zone-of w z.feature (at x y) (n, n_in, n_is) feature_in in_f has) [
             | inl k ↦ none w.rect k
@@ -120,7 +121,7 @@ module _ (rule overlap : ℕ) (layer : Region) (features : List (List Rect)) (zo
                         (omega (arith, ints, e)) (omega (arith, ints, e)),
                   )
                 ])
-            | inr (v, apart) ↦ (let same : transposed_rect z.rect ≡ transposed_rect w.rect = beside-same rule (transposed layer)
+            | inr (v, apart) ↦ (let same : transposed_rect z.rect ≡ transposed_rect w.rect = beside-same spacing (transposed layer)
                 (transposed (part_at features z.feature)) overlap (transposed_rect z.rect) (transposed_rect w.rect) h v y x low high from below
                 (record { left = has.low; right = has.high; low = has.left; high = has.right }) in
                 let mine : Has (transposed_rect z.rect) (at y x) = subst (λ r. Has r (at y x)) (sym same)

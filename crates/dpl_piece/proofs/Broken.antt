@@ -5,6 +5,7 @@ use Rattle.std.specs.List.{All, AllPairs, Any, Contains}
 use Rattle.std.proofs.lemmas.Bool.{cases_eq}
 use Rattle.std.proofs.lemmas.List.{get_or_default, get_or-map, length-map}
 use Rattle.std.proofs.lemmas.List.Elements.{All-append, All-contains, Contains-get_or, Contains-append_left, Contains-append_right}
+use Rattle.dpl_spec_split.specs.declared.Spacing.{Spacing}
 use Rattle.dpl_spec_split.specs.declared.Pt.{Pt}
 use Rattle.dpl_spec_split.specs.declared.Rect.{Rect}
 use Rattle.dpl_spec_split.specs.declared.Zone.{Zone}
@@ -60,16 +61,16 @@ pieces-none features zones = record {
   apart = λ i j d l j_in. absurd (omega (arith, j_in));
 }
 
-module _ (rule overlap : ℕ) (features : List (List Rect)) (zones : List Zone) (c : AreComponents (union_of features) features)
-    (zs : AreZones rule overlap (union_of features) features zones) where
+module _ (spacing : Spacing) (overlap : ℕ) (features : List (List Rect)) (zones : List Zone) (c : AreComponents (union_of features) features)
+    (zs : AreZones spacing overlap (union_of features) features zones) where
   abbrev left : Region
   left = without (union_of features) zones
 
   -- a zone with a square of a feature is one of its zones
   zone-feature : (z : Zone) (k : ℕ) (p : Pt) → Contains zones z → k < length features → part_at features k p → Has z.rect p → z.feature ≡ k
   zone-feature z k p z_in k_in in_k has =
-      let (f_in, kept_z) = kept rule overlap (union_of features) features zones c zs z z_in in
-      let in_f = kept-inside rule overlap (union_of features) features zones c zs (part_at features z.feature) z.rect p kept_z has in
+      let (f_in, kept_z) = kept spacing overlap (union_of features) features zones c zs z z_in in
+      let in_f = kept-inside spacing overlap (union_of features) features zones c zs (part_at features z.feature) z.rect p kept_z has in
       part-unique (union_of features) features z.feature k p c f_in k_in in_f in_k
 
   module _ (n : ℕ) (n_in : n < length features) (holes : List Rect) (own : AreHolesOf zones n holes) where

@@ -61,8 +61,8 @@ module _ (features : List (List Rect)) (zones : List Zone) (given : AreFeatures 
 
   zones-within : All (AreRectsWithin farthest) features → All (λ z. IsSolidWithin farthest z.rect) zones
   zones-within within k z k_in =
-      let (rule, overlap, some, zs) = theirs in
-      zone-within rule overlap (union_of features) features zones some comps zs (get_or zones k z) (k, k_in, get_or_default zones k (get_or zones k z) z k_in) within
+      let (spacing, overlap, some, zs) = theirs in
+      zone-within spacing overlap (union_of features) features zones some comps zs (get_or zones k z) (k, k_in, get_or_default zones k (get_or zones k z) z k_in) within
 
   pub own-within : All (AreRectsWithin farthest) features → (n : ℕ) (holes : List Rect) → AreHolesOf zones n holes → AreRectsWithin farthest holes
   own-within within n holes own r r_in =
@@ -97,8 +97,8 @@ module _ (features : List (List Rect)) (zones : List Zone) (given : AreFeatures 
 
     pub stands : All (λ z. (side : ℕ × ℕ) × StandBroken (parts_in pieces) (origins_in pieces) z side) zones
     stands k z k_in =
-        let (rule, overlap, some, zs) = theirs in
-        stand-broken rule overlap (union_of features) features (parts_in pieces) zones some comps zs cut.components
+        let (spacing, overlap, some, zs) = theirs in
+        stand-broken spacing overlap (union_of features) features (parts_in pieces) zones some comps zs cut.components
         (origins_in pieces) origins-each whole-feature (get_or zones k z) (k, k_in, get_or_default zones k (get_or zones k z) z k_in)
 
     pub owners-each : length (owners_in pieces) ≡ length (parts_in pieces)
@@ -118,12 +118,12 @@ module _ (features : List (List Rect)) (zones : List Zone) (given : AreFeatures 
     their-pieces : (sides : List (ℕ × ℕ)) → AllZip (StandBeside (parts_in pieces)) zones sides
         → AreTheirPieces features zones (cut_pieces (parts_in pieces) (owners_in pieces) (keys_in (parts_in pieces)) zones sides)
     their-pieces sides stand_so layer c =
-        let (rule, overlap, some, zs) = theirs in
+        let (spacing, overlap, some, zs) = theirs in
         record {
           components = components-same left (without (Covers layer) zones) (parts_in pieces) (without-same (union_of features) (Covers layer) zones c.together) cut.components;
           owned = all-owned;
           keyed = all-keyed (parts_in pieces) cut.apart.canonical pieces-some;
-          sided = sided rule overlap (union_of features) features (parts_in pieces) zones some comps zs cut.components sides stand_so;
+          sided = sided spacing overlap (union_of features) features (parts_in pieces) zones some comps zs cut.components sides stand_so;
         }
 
     pub bare-pieces : AreBarePieces features zones (bare_cut (parts_in pieces) (owners_in pieces) zones)

@@ -2,6 +2,7 @@
 use Rattle.std.proofs.Common.{◌≡◌, ℕ, ◌≤◌, ◌<◌, List, [], length, get_or, sym, refl, subst}
 use Rattle.std.specs.List.{AllZip, Contains}
 use Rattle.std.proofs.lemmas.List.{get_or_default}
+use Rattle.dpl_spec_split.specs.declared.Spacing.{Spacing}
 use Rattle.dpl_spec_split.specs.declared.Pt.{Pt}
 use Rattle.dpl_spec_split.specs.declared.Rect.{Rect}
 use Rattle.dpl_spec_split.specs.declared.Zone.{Zone}
@@ -22,14 +23,14 @@ broken-or_whole Whole h = absurd (h refl)
 broken-or_whole Broken h = refl
 
 -- the pieces beside a zone are broken
-module _ (rule overlap : ℕ) (layer : Region) (features pieces : List (List Rect)) (zones : List Zone) (some : 1 ≤ overlap)
-    (c : AreComponents layer features) (zs : AreZones rule overlap layer features zones) (ps : AreComponents (without layer zones) pieces)
+module _ (spacing : Spacing) (overlap : ℕ) (layer : Region) (features pieces : List (List Rect)) (zones : List Zone) (some : 1 ≤ overlap)
+    (c : AreComponents layer features) (zs : AreZones spacing overlap layer features zones) (ps : AreComponents (without layer zones) pieces)
     (origins : List Origin) (each : length origins ≡ length pieces) (whole : (i : ℕ) → i < length pieces → get_or origins i Broken ≡ Whole
     → (k : ℕ) × (k < length features) × (get_or features k [] ≡ get_or pieces i [])) (z : Zone) (z_in : Contains zones z) where
   touching-broken : (i : ℕ) (p q : Pt) → i < length pieces → part_at pieces i p → Has z.rect q → Touch p q → IsBroken origins i
   touching-broken i p q i_in in_p in_z touch =
-      let (f_in, kept_z) = kept rule overlap layer features zones c zs z z_in in
-      let in_layer : layer q = in-set layer features z.feature q c f_in (kept-inside rule overlap layer features zones c zs (part_at features z.feature) z.rect q kept_z in_z) in (
+      let (f_in, kept_z) = kept spacing overlap layer features zones c zs z z_in in
+      let in_layer : layer q = in-set layer features z.feature q c f_in (kept-inside spacing overlap layer features zones c zs (part_at features z.feature) z.rect q kept_z in_z) in (
         subst (λ n. i < n) (sym each) i_in,
         broken-or_whole (get_or origins i Broken) (λ is.
             let (k, k_in, same) = whole i i_in is in
@@ -41,17 +42,17 @@ module _ (rule overlap : ℕ) (layer : Region) (features pieces : List (List Rec
 
   pub stand-broken : (side : ℕ × ℕ) × StandBroken pieces origins z side
   stand-broken =
-      let (side, st) = stand rule overlap layer features pieces zones some c zs ps z z_in in
-      let are_sides : AreSides features pieces z side = sides-from_stand rule overlap layer features pieces zones some c zs ps z z_in side st in
+      let (side, st) = stand spacing overlap layer features pieces zones some c zs ps z z_in in
+      let are_sides : AreSides features pieces z side = sides-from_stand spacing overlap layer features pieces zones some c zs ps z z_in side st in
       let (p, q, in_p, in_z, touch, before) = are_sides.first in
       let (r, t, in_r, in_y, meet, after) = are_sides.second in
       (side, (st, touching-broken side.0 p q are_sides.known.0 in_p in_z touch, touching-broken side.1 r t are_sides.known.1 in_r in_y meet))
 
-module _ (rule overlap : ℕ) (layer : Region) (features pieces : List (List Rect)) (zones : List Zone) (some : 1 ≤ overlap)
-    (c : AreComponents layer features) (zs : AreZones rule overlap layer features zones) (ps : AreComponents (without layer zones) pieces)
+module _ (spacing : Spacing) (overlap : ℕ) (layer : Region) (features pieces : List (List Rect)) (zones : List Zone) (some : 1 ≤ overlap)
+    (c : AreComponents layer features) (zs : AreZones spacing overlap layer features zones) (ps : AreComponents (without layer zones) pieces)
     (sides : List (ℕ × ℕ)) (stand_so : AllZip (StandBeside pieces) zones sides) where
   pub sided : AllZip (AreSides features pieces) zones sides
   sided = zip-from (AreSides features pieces) zones sides (zip-length (StandBeside pieces) zones sides stand_so)
-      (λ k z s k_in. sides-from_stand rule overlap layer features pieces zones some c zs ps (get_or zones k z)
+      (λ k z s k_in. sides-from_stand spacing overlap layer features pieces zones some c zs ps (get_or zones k z)
       (k, k_in, get_or_default zones k (get_or zones k z) z k_in) (get_or sides k s)
       (zip-at (StandBeside pieces) zones sides k z s stand_so k_in))

@@ -4,6 +4,7 @@ use Rattle.std.specs.Prelude.{ℤ, pos, ◌+ℤ◌, ◌-ℤ◌, ◌<ℤ◌, unsi
 use Rattle.std.specs.List.{All, Contains}
 use Rattle.std.proofs.lemmas.Int.{ints, by_lt_z}
 use Rattle.std.proofs.lemmas.List.Elements.{All-contains}
+use Rattle.dpl_spec_split.specs.declared.Spacing.{Spacing}
 use Rattle.dpl_spec_split.specs.declared.Pt.{Pt}
 use Rattle.dpl_spec_split.specs.declared.Rect.{Rect}
 use Rattle.dpl_spec_split.specs.declared.Zone.{Zone}
@@ -27,8 +28,8 @@ pub record IsBroad (stretch zone : Rect) : Type 0 where
   pub left : stretch.x0 <ℤ zone.x0
   pub right : zone.x1 <ℤ stretch.x1
 
-pub broad : (rule overlap : ℕ) (layer f : Region) (z : Rect) → 1 ≤ overlap → (h : IsHorizontalZone rule overlap layer f z) → IsBroad h.stretch z
-broad rule overlap layer f z some h =
+pub broad : (spacing : Spacing) (overlap : ℕ) (layer f : Region) (z : Rect) → 1 ≤ overlap → (h : IsHorizontalZone spacing overlap layer f z) → IsBroad h.stretch z
+broad spacing overlap layer f z some h =
     let r : Rect = h.stretch in
     let long = h.is.long in
     let width = h.middle.width in
@@ -83,18 +84,18 @@ pub corner-same : (x y u v : ℤ) (k : ℕ) → x ≡ u → y ≡ v → corner_a
 corner-same x y u v k e f = ap (λ i. corner_at i y k) e ∙ ap (λ i. corner_at u i k) f
 
 -- a zone has some square, and lies within the range of its feature
-module _ (rule overlap : ℕ) (layer : Region) (features : List (List Rect)) (zones : List Zone) (some : 1 ≤ overlap)
-    (c : AreComponents layer features) (zs : AreZones rule overlap layer features zones) (z : Zone) (z_in : Contains zones z) where
-  solid-kept : IsKeptZone rule overlap layer (part_at features z.feature) z.rect → (z.rect.x0 <ℤ z.rect.x1) × (z.rect.y0 <ℤ z.rect.y1)
-  solid-kept (inl h) = let s = broad rule overlap layer (part_at features z.feature) z.rect some h in (s.wide, s.tall)
-  solid-kept (inr (h, none)) = let s = broad rule overlap (transposed layer) (transposed (part_at features z.feature)) (transposed_rect z.rect) some h in (s.tall, s.wide)
+module _ (spacing : Spacing) (overlap : ℕ) (layer : Region) (features : List (List Rect)) (zones : List Zone) (some : 1 ≤ overlap)
+    (c : AreComponents layer features) (zs : AreZones spacing overlap layer features zones) (z : Zone) (z_in : Contains zones z) where
+  solid-kept : IsKeptZone spacing overlap layer (part_at features z.feature) z.rect → (z.rect.x0 <ℤ z.rect.x1) × (z.rect.y0 <ℤ z.rect.y1)
+  solid-kept (inl h) = let s = broad spacing overlap layer (part_at features z.feature) z.rect some h in (s.wide, s.tall)
+  solid-kept (inr (h, none)) = let s = broad spacing overlap (transposed layer) (transposed (part_at features z.feature)) (transposed_rect z.rect) some h in (s.tall, s.wide)
 
   pub solid-zone : (z.rect.x0 <ℤ z.rect.x1) × (z.rect.y0 <ℤ z.rect.y1)
-  solid-zone = solid-kept (kept rule overlap layer features zones c zs z z_in).1
+  solid-zone = solid-kept (kept spacing overlap layer features zones c zs z z_in).1
 
   pub zone-within : All (AreRectsWithin farthest) features → IsSolidWithin farthest z.rect
   zone-within within =
-      let k = kept rule overlap layer features zones c zs z z_in in
+      let k = kept spacing overlap layer features zones c zs z z_in in
       let zw = solid-zone.0 in
       let zt = solid-zone.1 in
       let p : Pt = at z.rect.x0 z.rect.y0 in
@@ -102,17 +103,17 @@ module _ (rule overlap : ℕ) (layer : Region) (features : List (List Rect)) (zo
       let p_in : Has z.rect p = record { left = omega (arith, ints); right = zw; low = omega (arith, ints); high = zt } in
       let q_in : Has z.rect q = record { left = omega (arith, ints, zw); right = omega (arith, ints); low = omega (arith, ints, zt); high = omega (arith, ints) } in
       let one = square-within (get_or features z.feature []) p (within z.feature [] k.0)
-      (kept-inside rule overlap layer features zones c zs (part_at features z.feature) z.rect p k.1 p_in) in
+      (kept-inside spacing overlap layer features zones c zs (part_at features z.feature) z.rect p k.1 p_in) in
       let two = square-within (get_or features z.feature []) q (within z.feature [] k.0)
-      (kept-inside rule overlap layer features zones c zs (part_at features z.feature) z.rect q k.1 q_in) in
+      (kept-inside spacing overlap layer features zones c zs (part_at features z.feature) z.rect q k.1 q_in) in
       let ox = one.column in
       let oy = one.row in
       let tx = two.next_column in
       let ty = two.next_row in
       record { wide = zw; tall = zt; left = ox; right = omega (arith, ints, tx); low = oy; high = omega (arith, ints, ty) }
 
-module _ (rule overlap : ℕ) (layer : Region) (features pieces : List (List Rect)) (zones : List Zone) (some : 1 ≤ overlap)
-    (c : AreComponents layer features) (zs : AreZones rule overlap layer features zones) (ps : AreComponents (without layer zones) pieces)
+module _ (spacing : Spacing) (overlap : ℕ) (layer : Region) (features pieces : List (List Rect)) (zones : List Zone) (some : 1 ≤ overlap)
+    (c : AreComponents layer features) (zs : AreZones spacing overlap layer features zones) (ps : AreComponents (without layer zones) pieces)
   where
     abbrev pub Rest : Region
     Rest = without layer zones
@@ -137,12 +138,12 @@ module _ (rule overlap : ℕ) (layer : Region) (features pieces : List (List Rec
       -- a square of the rest that touches the zone is in the zone's feature
       pub touching-in : (p q : Pt) → without layer zones p → Has z.rect q → Touch p q → part_at features z.feature p
       touching-in p q rest has touch =
-          let k = kept rule overlap layer features zones c zs z z_in in
-          closed layer features z.feature p q c k.0 rest.0 (kept-inside rule overlap layer features zones c zs (part_at features z.feature) z.rect q k.1 has) touch
+          let k = kept spacing overlap layer features zones c zs z z_in in
+          closed layer features z.feature p q c k.0 rest.0 (kept-inside spacing overlap layer features zones c zs (part_at features z.feature) z.rect q k.1 has) touch
 
-      module _ (h : IsHorizontalZone rule overlap layer (part_at features z.feature) z.rect) where
+      module _ (h : IsHorizontalZone spacing overlap layer (part_at features z.feature) z.rect) where
         abbrev b : IsBroad h.stretch z.rect
-        b = broad rule overlap layer (part_at features z.feature) z.rect some h
+        b = broad spacing overlap layer (part_at features z.feature) z.rect some h
 
         first-across : (k : ℕ) × IsCornerOf LowerRight pieces (corner_at z.rect.x0 z.rect.y0 k)
         first-across =
@@ -155,7 +156,7 @@ module _ (rule overlap : ℕ) (layer : Region) (features pieces : List (List Rec
             let p : Pt = at x z.rect.y0 in
             let q : Pt = at z.rect.x0 z.rect.y0 in
             let q_in : Has z.rect q = record { left = omega (arith, ints); right = wide; low = omega (arith, ints); high = tall } in
-            let (i, r, i_in, r_in, has) = piece-slab p (rest-across rule overlap layer features zones c zs z z_in h x z.rect.y0
+            let (i, r, i_in, r_in, has) = piece-slab p (rest-across spacing overlap layer features zones c zs z z_in h x z.rect.y0
             (inl (omega (arith, ints))) wide (omega (arith, ints)) tall) in
             let hl = has.left in
             let hr = has.right in
@@ -185,7 +186,7 @@ module _ (rule overlap : ℕ) (layer : Region) (features pieces : List (List Rec
             let p : Pt = at x z.rect.y0 in
             let q : Pt = at (z.rect.x1 -ℤ pos 1) z.rect.y0 in
             let q_in : Has z.rect q = record { left = omega (arith, ints, wide); right = omega (arith, ints); low = omega (arith, ints); high = tall } in
-            let (i, r, i_in, r_in, has) = piece-slab p (rest-across rule overlap layer features zones c zs z z_in h x z.rect.y0 (inr refl) wide (omega (arith, ints)) tall) in
+            let (i, r, i_in, r_in, has) = piece-slab p (rest-across spacing overlap layer features zones c zs z z_in h x z.rect.y0 (inr refl) wide (omega (arith, ints)) tall) in
             let hl = has.left in
             let hr = has.right in
             let hb = has.low in
@@ -203,10 +204,10 @@ module _ (rule overlap : ℕ) (layer : Region) (features pieces : List (List Rec
             (λ m. omega (arith, ints, m, hb)) in
             (i, (i, r, i_in, r_in, corner-same r.x0 r.y0 z.rect.x1 z.rect.y0 i column row))
 
-      module _ (h : IsVerticalZone rule overlap layer (part_at features z.feature) z.rect) (none : (r : Rect)
-          → IsHorizontalZone rule overlap layer (part_at features z.feature) r → ¬ AreTouching (Has r) (Has z.rect)) where
+      module _ (h : IsVerticalZone spacing overlap layer (part_at features z.feature) z.rect) (none : (r : Rect)
+          → IsHorizontalZone spacing overlap layer (part_at features z.feature) r → ¬ AreTouching (Has r) (Has z.rect)) where
         abbrev v : IsBroad h.stretch (transposed_rect z.rect)
-        v = broad rule overlap (transposed layer) (transposed (part_at features z.feature)) (transposed_rect z.rect) some h
+        v = broad spacing overlap (transposed layer) (transposed (part_at features z.feature)) (transposed_rect z.rect) some h
 
         first-up : (k : ℕ) × IsCornerOf UpperLeft pieces (corner_at z.rect.x0 z.rect.y0 k)
         first-up =
@@ -219,7 +220,7 @@ module _ (rule overlap : ℕ) (layer : Region) (features pieces : List (List Rec
             let p : Pt = at z.rect.x0 y in
             let q : Pt = at z.rect.x0 z.rect.y0 in
             let q_in : Has z.rect q = record { left = omega (arith, ints); right = wide; low = omega (arith, ints); high = tall } in
-            let (i, r, i_in, r_in, has) = piece-slab p (rest-up rule overlap layer features zones c zs z z_in h none z.rect.x0 y
+            let (i, r, i_in, r_in, has) = piece-slab p (rest-up spacing overlap layer features zones c zs z z_in h none z.rect.x0 y
             (inl (omega (arith, ints))) tall (omega (arith, ints)) wide) in
             let hl = has.left in
             let hr = has.right in
@@ -249,7 +250,7 @@ module _ (rule overlap : ℕ) (layer : Region) (features pieces : List (List Rec
             let p : Pt = at z.rect.x0 y in
             let q : Pt = at z.rect.x0 (z.rect.y1 -ℤ pos 1) in
             let q_in : Has z.rect q = record { left = omega (arith, ints); right = wide; low = omega (arith, ints, tall); high = omega (arith, ints) } in
-            let (i, r, i_in, r_in, has) = piece-slab p (rest-up rule overlap layer features zones c zs z z_in h none z.rect.x0 y (inr refl) tall (omega (arith, ints)) wide) in
+            let (i, r, i_in, r_in, has) = piece-slab p (rest-up spacing overlap layer features zones c zs z z_in h none z.rect.x0 y (inr refl) tall (omega (arith, ints)) wide) in
             let hl = has.left in
             let hr = has.right in
             let hb = has.low in
@@ -267,15 +268,15 @@ module _ (rule overlap : ℕ) (layer : Region) (features pieces : List (List Rec
             (λ m. omega (arith, ints, m, hl)) in
             (i, (i, r, i_in, r_in, corner-same r.x0 r.y0 z.rect.x0 z.rect.y1 i column row))
 
-      stand-kept : IsKeptZone rule overlap layer (part_at features z.feature) z.rect → (side : ℕ × ℕ) × StandBeside pieces z side
+      stand-kept : IsKeptZone spacing overlap layer (part_at features z.feature) z.rect → (side : ℕ × ℕ) × StandBeside pieces z side
       stand-kept (inl h) = let one = first-across h in let two = second-across h in ((one.0, two.0), (inl one.1, inl two.1))
       stand-kept (inr (h, none)) = let one = first-up h none in let two = second-up h none in ((one.0, two.0), (inr one.1, inr two.1))
 
       pub stand : (side : ℕ × ℕ) × StandBeside pieces z side
-      stand = stand-kept (kept rule overlap layer features zones c zs z z_in).1
+      stand = stand-kept (kept spacing overlap layer features zones c zs z z_in).1
 
       solid : (z.rect.x0 <ℤ z.rect.x1) × (z.rect.y0 <ℤ z.rect.y1)
-      solid = solid-zone rule overlap layer features zones some c zs z z_in
+      solid = solid-zone spacing overlap layer features zones some c zs z z_in
 
       -- a piece whose slab has the corner
       from-left : (k : ℕ) → IsCornerOf LowerRight pieces (corner_at z.rect.x0 z.rect.y0 k) → (k < length pieces) × IsFirstSide (part_at pieces k) z.rect

@@ -129,9 +129,9 @@ module _ (features : List (List Rect)) (zones : List Zone) (given : AreFeatures 
       left = cut.components.together;
       owned = all-owned features zones given theirs pieces cut;
       zoned = λ j d j_in. (
-          let (rule, overlap, some, zs) = theirs in
-          let (f_in, kept_z) = kept rule overlap (union_of features) features zones c zs (get_or zones j d) (Contains-get_or zones j d j_in) in
-          (f_in, λ p has. kept-inside rule overlap (union_of features) features zones c zs (part_at features (get_or zones j d).feature) (get_or zones j d).rect p kept_z has));
+          let (spacing, overlap, some, zs) = theirs in
+          let (f_in, kept_z) = kept spacing overlap (union_of features) features zones c zs (get_or zones j d) (Contains-get_or zones j d j_in) in
+          (f_in, λ p has. kept-inside spacing overlap (union_of features) features zones c zs (part_at features (get_or zones j d).feature) (get_or zones j d).rect p kept_z has));
       cut = w.kept;
       rise = w.rise;
       kept = lie-kept;

@@ -1,6 +1,7 @@
 -- The pieces of a layer as one value.
 use Rattle.std.specs.Prelude.{◌≡◌, ◌≢◌, ℕ, ◌<◌, ◌≤◌, pos, List, [], ◌∷◌, length, map}
 use Rattle.std.specs.List.{All, AllZip}
+use Rattle.dpl_spec_split.specs.declared.Spacing.{Spacing}
 use Rattle.dpl_spec_split.specs.declared.Pt.{Pt}
 use Rattle.dpl_spec_split.specs.declared.Rect.{Rect}
 use Rattle.dpl_spec_split.specs.declared.Zone.{Zone}
@@ -46,9 +47,9 @@ pub record AreMatched (c : CutPieces) : Type 0 where
 abbrev pub AreFeatures : List (List Rect) → Type 0
 AreFeatures features = (layer : List Rect) × AreComponents (Covers layer) features
 
--- the zones of the features for some rule and overlap
+-- the zones of the features for some spacing and overlap
 abbrev pub AreTheirZones : List (List Rect) → List Zone → Type 0
-AreTheirZones features zones = (rule overlap : ℕ) × (1 ≤ overlap) × AreZones rule overlap (union_of features) features zones
+AreTheirZones features zones = (spacing : Spacing) × (overlap : ℕ) × (1 ≤ overlap) × AreZones spacing overlap (union_of features) features zones
 
 -- the pieces that the zones leave of each layer whose features these are
 abbrev pub AreTheirPieces : List (List Rect) → List Zone → CutPieces → Type 0

@@ -2,6 +2,7 @@
 use Rattle.std.proofs.Common.{◌≡◌, ◌∙◌, ◌<◌, ◌≤◌, ap, sym, refl, subst, inl, inr, true, List, [], ◌∷◌, ℕ, Option, Some, None, length, arith, zero, suc}
 use Rattle.std.specs.Prelude.{IfSome}
 use Rattle.std.specs.FinMap as map
+use Rattle.dpl_spec_split.specs.Squares.{uniform}
 use Rattle.dpl_host.specs.Outside.{Outside, file_of, with_file}
 use Rattle.dpl_host.proofs.Files.{file_put}
 use Rattle.dpl_words.specs.Meaning.{AsksDemo, AsksSplit, DemoValues, SplitValues}
@@ -74,7 +75,7 @@ faulty choice rule overlap bytes name at small read = inr (small, read)
 
 -- the layer was decomposed
 pub answered : (choice : Choice) (rule overlap : ℕ) (bytes copied : List ℕ) (layer : List Rect) (flat : Flat) → length bytes ≤ 268435456
-    → IsLayout choice bytes (Layer copied layer) → IsFlat rule overlap layer flat → IsDecision choice rule overlap bytes (Decides copied flat)
+    → IsLayout choice bytes (Layer copied layer) → IsFlat (uniform rule) overlap layer flat → IsDecision choice rule overlap bytes (Decides copied flat)
 answered choice rule overlap bytes copied layer flat small read decomposed = (layer, inr (small, read), decomposed)
 
 -- an outside that shows

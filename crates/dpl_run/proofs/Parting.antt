@@ -2,10 +2,11 @@
 use Rattle.std.proofs.Common.{◌≡◌, ◌∙◌, ap, sym, refl, subst, inl, inr, List, [], ◌∷◌, ℕ, Option, Some, None, map, codes}
 use Rattle.std.specs.FinMap as files
 use Rattle.clap.specs.Walk.{Text}
+use Rattle.dpl_spec_split.specs.declared.Spacing.{Spacing}
 use Rattle.dpl_host.specs.Outside.{Outside}
 use Rattle.dpl_spec_split.specs.declared.Rect.{Rect}
 use Rattle.dpl_spec_split.specs.declared.Zone.{Zone}
-use Rattle.dpl_spec_split.specs.Squares.{Covers}
+use Rattle.dpl_spec_split.specs.Squares.{Covers, uniform}
 use Rattle.dpl_spec_split.specs.Decomposition.{Cut, IsCut}
 use Rattle.dpl_law_split.specs.Masks.{OverlapAt, rect_at, rects_of}
 use Rattle.dpl_law_split.proofs.Cover.{cover}
@@ -35,18 +36,18 @@ line_rects : (zones : List Zone) (sides : List (ℕ × ℕ)) (ks : List ℕ) →
 line_rects zones sides [] = refl
 line_rects zones sides (k ∷ ks) = ap (λ (rs : List Rect). rect_at zones k ∷ rs) (line_rects zones sides ks)
 
-pub painted_parts : (rule overlap : ℕ) (layer : List Rect) (cut : Cut) (p : Painted) → IsCut rule overlap (Covers layer) cut → IsPaintedCut rule overlap cut p
-    → ArePartingMasks rule layer (rects_of_lines p.stitches) p.a p.b
-painted_parts rule overlap layer cut p is painted =
+pub painted_parts : (spacing : Spacing) (overlap : ℕ) (layer : List Rect) (cut : Cut) (p : Painted) → IsCut spacing overlap (Covers layer) cut → IsPaintedCut spacing overlap cut p
+    → ArePartingMasks spacing layer (rects_of_lines p.stitches) p.a p.b
+painted_parts spacing overlap layer cut p is painted =
     let m = painted.masks in
     let are = painted.are_masks in
-    subst (λ (q : Painted). ArePartingMasks rule layer (rects_of_lines q.stitches) q.a q.b) (sym painted.is) (record {
+    subst (λ (q : Painted). ArePartingMasks spacing layer (rects_of_lines q.stitches) q.a q.b) (sym painted.is) (record {
       features = cut.features;
       are_features = is.features;
-      cover = cover rule overlap (Covers layer) cut m is are;
-      apart_on_a = far-on-a rule overlap (Covers layer) cut m is are painted.even;
-      apart_on_b = far-on-b rule overlap (Covers layer) cut m is are painted.even;
-      overlap = subst (λ (ss : List Rect). OverlapAt ss m.a m.b) (sym (line_rects cut.zones cut.sides m.stitches)) (overlap-at rule overlap (Covers layer) cut m is are);
+      cover = cover spacing overlap (Covers layer) cut m is are;
+      apart_on_a = far-on-a spacing overlap (Covers layer) cut m is are painted.even;
+      apart_on_b = far-on-b spacing overlap (Covers layer) cut m is are painted.even;
+      overlap = subst (λ (ss : List Rect). OverlapAt ss m.a m.b) (sym (line_rects cut.zones cut.sides m.stitches)) (overlap-at spacing overlap (Covers layer) cut m is are);
     })
 
 paints : (v : SplitValues) (bytes copied : List ℕ) (p : Painted) (x : Outcome) → IsDecision (split_choice v) v.rule v.overlap bytes
@@ -68,7 +69,7 @@ paints v bytes copied p x d is =
         head = p.head;
         pieces = p.pieces;
         stitches = p.stitches;
-        parting = painted_parts v.rule v.overlap layer cut p is_cut painted;
+        parting = painted_parts (uniform v.rule) v.overlap layer cut p is_cut painted;
         copied = copied;
         before = l.before;
         are = ap (λ (y : Outcome). y.writes) is;

@@ -1,6 +1,7 @@
 -- What a check that is done has found of the files: the masks are right for the layer, or the conflict is there.
 use Rattle.std.specs.Prelude.{◌≡◌, List, ℕ, Some}
 use Rattle.std.specs.FinMap as files
+use Rattle.dpl_spec_split.specs.Squares.{uniform}
 use Rattle.dpl_host.specs.Outside.{Outside}
 use Rattle.dpl_spec_split.specs.declared.Rect.{Rect}
 use Rattle.dpl_spec_split.specs.Slabs.{AreSlabsOf}
@@ -36,13 +37,13 @@ pub record HasRightMasks (v : CheckValues) (layer : List Rect) (head : Head) (pi
   pub b : List Rect
   pub first : HasLayer (mask_choice v.a) bytes a
   pub second : HasLayer (mask_choice v.b) bytes b
-  pub right : AreRight v.rule layer a b stitches
-  pub lines : AreGoodLines v.rule v.overlap layer a b head pieces stitches
+  pub right : AreRight (uniform v.rule) layer a b stitches
+  pub lines : AreGoodLines (uniform v.rule) v.overlap layer a b head pieces stitches
 
 -- what is right is the masks of a file that is there, or the cycle that is listed
 abbrev pub IsRightBy : CheckValues → Outside → List Rect → Cert → Type 0
 IsRightBy v o layer (Masks head pieces stitches) = (bytes : List ℕ) × (files.get o.files v.output ≡ Some bytes) × HasRightMasks v layer head pieces stitches bytes
-IsRightBy v o layer (Conflict head cycle near) = IsCycleOf v.rule v.overlap layer head cycle near
+IsRightBy v o layer (Conflict head cycle near) = IsCycleOf (uniform v.rule) v.overlap layer head cycle near
 IsRightBy v o layer (Fault name at) = ⊥
 
 -- The layout and the certificate are there, and what the certificate tells is right for the layout's layer.

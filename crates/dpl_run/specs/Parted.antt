@@ -2,9 +2,10 @@
 use Rattle.std.specs.Prelude.{◌≡◌, ℕ, List, [], ◌∷◌, Option, Some, None, map, option_map}
 use Rattle.std.specs.FinMap as files
 use Rattle.clap.specs.Walk.{Text}
+use Rattle.dpl_spec_split.specs.declared.Spacing.{Spacing}
 use Rattle.dpl_host.specs.Outside.{Outside}
 use Rattle.dpl_spec_split.specs.declared.Rect.{Rect}
-use Rattle.dpl_spec_split.specs.Squares.{Covers}
+use Rattle.dpl_spec_split.specs.Squares.{Covers, uniform}
 use Rattle.dpl_spec_split.specs.Slabs.{AreSlabsOf}
 use Rattle.dpl_spec_split.specs.Components.{AreComponents}
 use Rattle.dpl_spec_format.specs.Tree.{Library}
@@ -27,13 +28,13 @@ use Rattle.dpl_run.specs.Checked.{IsRight}
 abbrev pub rects_of_lines : List StitchLine → List Rect
 rects_of_lines lines = map (λ (line : StitchLine). line.rect) lines
 
--- The masks cover the layer and nothing else, neither has squares of two features that are closer than the rule, and a square is on both exactly where it lies in a stitch.
-pub record ArePartingMasks (rule : ℕ) (layer stitches a b : List Rect) : Type 0 where
+-- The masks cover the layer and nothing else, neither has squares of two features that are near, and a square is on both exactly where it lies in a stitch.
+pub record ArePartingMasks (spacing : Spacing) (layer stitches a b : List Rect) : Type 0 where
   pub features : List (List Rect)
   pub are_features : AreComponents (Covers layer) features
   pub cover : AreCover layer a b
-  pub apart_on_a : KeepsApart rule features a
-  pub apart_on_b : KeepsApart rule features b
+  pub apart_on_a : KeepsApart spacing features a
+  pub apart_on_b : KeepsApart spacing features b
   pub overlap : OverlapAt stitches a b
 
 -- what is written of a file: its layer's masks, and a certificate that lists their stitches
@@ -52,7 +53,7 @@ pub record WritesParting (v : SplitValues) (bytes : List ℕ) (writes : List (Te
   pub head : Head
   pub pieces : List PieceLine
   pub stitches : List StitchLine
-  pub parting : ArePartingMasks v.rule layer (rects_of_lines stitches) a b
+  pub parting : ArePartingMasks (uniform v.rule) layer (rects_of_lines stitches) a b
   -- the bytes written
   pub copied : List ℕ
   pub before : copied_of lib top ≡ Some copied

@@ -22,6 +22,7 @@ use crate::input::read_input;
 use crate::output::{Output, said};
 use crate::status::Status;
 use crate::texts::{CheckedFile, bad_line_line, refused_file_line, verdict_line};
+use dpl_base::Spacing;
 use dpl_cert::{Cert, CertFault, Name, read_cert};
 use dpl_check::{Verdict, check_conflict, check_masks};
 use dpl_host::{Host, MAX_BYTES, ReadFault};
@@ -140,7 +141,8 @@ fn check_alone<'a>(
     match cert {
         Cert::Masks { .. } => unreachable!(),
         Cert::Conflict { .. } => {
-            let verdict = check_conflict(alloc, layer, cert, options.rule, options.overlap)?;
+            let spacing = Spacing::uniform(options.rule);
+            let verdict = check_conflict(alloc, layer, cert, spacing, options.overlap)?;
             judged(alloc, cert, verdict)
         }
         Cert::Fault { name, at } => {
@@ -211,7 +213,8 @@ fn check_bytes<'a>(
         ),
         Err(LayerFault::NoMemory) => return Err(AllocError),
     };
-    let verdict = check_masks(alloc, layer, &a, &b, cert, options.rule, options.overlap)?;
+    let spacing = Spacing::uniform(options.rule);
+    let verdict = check_masks(alloc, layer, &a, &b, cert, spacing, options.overlap)?;
     judged(alloc, cert, verdict)
 }
 

@@ -8,6 +8,7 @@ ghost use Rattle.dpl_run.specs.Split.{IsDecision};
 ghost use Rattle.dpl_run.specs.View.{FitsDecision, decision_view};
 
 use dpl_answer::{Decomposed, Sharing, answer_of, conflicts_of};
+use dpl_base::Spacing;
 use dpl_cert::Name;
 use dpl_cut::cut_of;
 use dpl_layer::{Layer, LayerChoice, LayerFault, layer_of};
@@ -59,8 +60,9 @@ pub(crate) fn decide<R: Threads + Wait + Sync, G: Gate + Sync>(
         Err(LayerFault::Refused { name, at }) => return Ok(Decision::Refused { name, at }),
         Err(LayerFault::NoMemory) => return Err(AllocError),
     };
-    let cut = cut_of(alloc, slabs, order.rule, order.overlap)?;
-    let conflicts = conflicts_of(rt, alloc, &cut, order.rule, order.sharing, gate)?;
-    let answer = answer_of(alloc, cut, &conflicts, order.rule, order.overlap)?;
+    let spacing = Spacing::uniform(order.rule);
+    let cut = cut_of(alloc, slabs, spacing, order.overlap)?;
+    let conflicts = conflicts_of(rt, alloc, &cut, spacing, order.sharing, gate)?;
+    let answer = answer_of(alloc, cut, &conflicts, spacing, order.overlap)?;
     Ok(Decision::Answered { copied, answer })
 }

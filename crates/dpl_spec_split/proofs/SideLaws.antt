@@ -4,6 +4,7 @@ use Rattle.std.specs.Prelude.{ℤ, pos, ◌+ℤ◌, ◌-ℤ◌, ◌≤ℤ◌, �
 use Rattle.std.specs.List.{Contains}
 use Rattle.std.proofs.lemmas.Int.{ints, by_lt_z}
 use Rattle.std.proofs.lemmas.List.{get_or_default}
+use Rattle.dpl_spec_split.specs.declared.Spacing.{Spacing}
 use Rattle.dpl_spec_split.specs.declared.Pt.{Pt}
 use Rattle.dpl_spec_split.specs.declared.Rect.{Rect}
 use Rattle.dpl_spec_split.specs.declared.Zone.{Zone}
@@ -37,28 +38,28 @@ closed a parts k p q c k_in in_a has touch =
     let q_in : a q = (c.together q).0 (k, get_or parts k [], k_in, get_or_default parts k (get_or parts k []) [] k_in, has) in
     (whole.2 p).1 (Linked-trans a linked (on q_in (Touch-sym p q touch) (here in_a)))
 
-module _ (rule overlap : ℕ) (layer : Region) (features pieces : List (List Rect)) (zones : List Zone) (c : AreComponents layer features)
-    (zs : AreZones rule overlap layer features zones) (ps : AreComponents (without layer zones) pieces) where
+module _ (spacing : Spacing) (overlap : ℕ) (layer : Region) (features pieces : List (List Rect)) (zones : List Zone) (c : AreComponents layer features)
+    (zs : AreZones spacing overlap layer features zones) (ps : AreComponents (without layer zones) pieces) where
   -- linked squares lie in one piece
   piece-same : (i j : ℕ) (p q : Pt) → i < length pieces → j < length pieces → part_at pieces i p → part_at pieces j q → Linked (without layer zones) p q → i ≡ j
   piece-same i j p q i_in j_in in_i in_j linked =
       let whole = ps.whole j [] j_in in
       part-unique (without layer zones) pieces i j p ps i_in j_in in_i ((whole.2 p).1 (Linked-trans _ ((whole.2 q).0 in_j) (Linked-sym _ linked)))
 
-  kept : (z : Zone) → Contains zones z → (z.feature < length features) × IsKeptZone rule overlap layer (part_at features z.feature) z.rect
+  kept : (z : Zone) → Contains zones z → (z.feature < length features) × IsKeptZone spacing overlap layer (part_at features z.feature) z.rect
   kept z z_in = (zs.exactly z).0 z_in
 
-  kept-inside : (f : Region) (r : Rect) (p : Pt) → IsKeptZone rule overlap layer f r → Has r p → f p
-  kept-inside f r p (inl h) has = zone-in-feature rule layer f overlap r p h has
+  kept-inside : (f : Region) (r : Rect) (p : Pt) → IsKeptZone spacing overlap layer f r → Has r p → f p
+  kept-inside f r p (inl h) has = zone-in-feature spacing layer f overlap r p h has
   kept-inside f r p (inr (v, apart)) has =
-      zone-in-feature rule (transposed layer) (transposed f) overlap (transposed_rect r) (at p.y p.x) v (record { left = has.low; right = has.high; low = has.left; high = has.right })
+      zone-in-feature spacing (transposed layer) (transposed f) overlap (transposed_rect r) (at p.y p.x) v (record { left = has.low; right = has.high; low = has.left; high = has.right })
 
   -- a zone with a square of a feature is a zone of that feature
-  zone-of : (w : Zone) (k : ℕ) (p : Pt) → Contains zones w → k < length features → part_at features k p → Has w.rect p → IsKeptZone rule overlap layer (part_at features k) w.rect
+  zone-of : (w : Zone) (k : ℕ) (p : Pt) → Contains zones w → k < length features → part_at features k p → Has w.rect p → IsKeptZone spacing overlap layer (part_at features k) w.rect
   zone-of w k p w_in k_in in_k has =
       let (m_in, kept_m) = kept w w_in in
       let same : w.feature ≡ k = part-unique layer features w.feature k p c m_in k_in (kept-inside (part_at features w.feature) w.rect p kept_m has) in_k in
-      subst (λ n. IsKeptZone rule overlap layer (part_at features n) w.rect) same kept_m
+      subst (λ n. IsKeptZone spacing overlap layer (part_at features n) w.rect) same kept_m
 
   in-layer : (k : ℕ) (p : Pt) → k < length features → part_at features k p → layer p
   in-layer k p k_in has = (c.together p).0 (k, get_or features k [], k_in, get_or_default features k (get_or features k []) [] k_in, has)
@@ -75,16 +76,16 @@ module _ (rule overlap : ℕ) (layer : Region) (features pieces : List (List Rec
     not-in-zone p rest has = let (n, n_in, n_is) = z_in in rest.1 (n, z, n_in, n_is, has)
 
     -- beside a horizontal zone, in its rows, the rest goes on
-    rest-across : (h : IsHorizontalZone rule overlap layer (part_at features z.feature) z.rect) (x y : ℤ)
+    rest-across : (h : IsHorizontalZone spacing overlap layer (part_at features z.feature) z.rect) (x y : ℤ)
         → ((x +ℤ pos 1 ≡ z.rect.x0) ⊎ (x ≡ z.rect.x1)) → z.rect.x0 <ℤ z.rect.x1 → z.rect.y0 ≤ℤ y → y <ℤ z.rect.y1
         → without layer zones (at x y)
     rest-across h x y side wide from below =
         let left : z.rect.x0 ≤ℤ (x +ℤ pos 1) = elim side [ inl e ↦ omega (arith, ints, e) | inr e ↦ omega (arith, ints, e, wide) ] in
         let right : x ≤ℤ z.rect.x1 = elim side [ inl e ↦ omega (arith, ints, e, wide) | inr e ↦ omega (arith, ints, e) ] in
-        let in_f = beside-in-feature rule layer (part_at features z.feature) overlap z.rect h x y left right from below in (
+        let in_f = beside-in-feature spacing layer (part_at features z.feature) overlap z.rect h x y left right from below in (
           in-layer z.feature (at x y) feature_in in_f,
           λ (n, w, n_in, n_is, has). elim (zone-of w z.feature (at x y) (n, n_in, n_is) feature_in in_f has) [
-            | inl k ↦ (let same : z.rect ≡ w.rect = beside-same rule layer (part_at features z.feature) overlap z.rect w.rect h k x y left right from below has in
+            | inl k ↦ (let same : z.rect ≡ w.rect = beside-same spacing layer (part_at features z.feature) overlap z.rect w.rect h k x y left right from below has in
                 let mine : Has z.rect (at x y) = subst (λ r. Has r (at x y)) (sym same) has in
                 elim side [ inl e ↦ omega (arith, ints, e, mine.left) | inr e ↦ omega (arith, ints, e, mine.right) ])
             | inr (v, apart) ↦ apart z.rect h
@@ -110,14 +111,14 @@ module _ (rule overlap : ℕ) (layer : Region) (features pieces : List (List Rec
         )
 
     -- beside a vertical zone, in its columns, the rest goes on
-    rest-up : (h : IsVerticalZone rule overlap layer (part_at features z.feature) z.rect) (none : (r : Rect)
-        → IsHorizontalZone rule overlap layer (part_at features z.feature) r → ¬ AreTouching (Has r) (Has z.rect)) (x y : ℤ)
+    rest-up : (h : IsVerticalZone spacing overlap layer (part_at features z.feature) z.rect) (none : (r : Rect)
+        → IsHorizontalZone spacing overlap layer (part_at features z.feature) r → ¬ AreTouching (Has r) (Has z.rect)) (x y : ℤ)
         → ((y +ℤ pos 1 ≡ z.rect.y0) ⊎ (y ≡ z.rect.y1)) → z.rect.y0 <ℤ z.rect.y1 → z.rect.x0 ≤ℤ x → x <ℤ z.rect.x1
         → without layer zones (at x y)
     rest-up h none x y side tall from below =
         let low : z.rect.y0 ≤ℤ (y +ℤ pos 1) = elim side [ inl e ↦ omega (arith, ints, e) | inr e ↦ omega (arith, ints, e, tall) ] in
         let high : y ≤ℤ z.rect.y1 = elim side [ inl e ↦ omega (arith, ints, e, tall) | inr e ↦ omega (arith, ints, e) ] in
-        let in_f = beside-in-feature rule (transposed layer) (transposed (part_at features z.feature)) overlap (transposed_rect z.rect) h y x low high from below in (
+        let in_f = beside-in-feature spacing (transposed layer) (transposed (part_at features z.feature)) overlap (transposed_rect z.rect) h y x low high from below in (
           in-layer z.feature (at x y) feature_in in_f,
           λ (n, w, n_in, n_is, has). elim (zone-of w z.feature (at x y) (n, n_in, n_is) feature_in in_f has) [
             | inl k ↦ none w.rect k
@@ -139,7 +140,7 @@ module _ (rule overlap : ℕ) (layer : Region) (features pieces : List (List Rec
                         (omega (arith, ints, e)) (omega (arith, ints, e)),
                   )
                 ])
-            | inr (v, apart) ↦ (let same : transposed_rect z.rect ≡ transposed_rect w.rect = beside-same rule (transposed layer)
+            | inr (v, apart) ↦ (let same : transposed_rect z.rect ≡ transposed_rect w.rect = beside-same spacing (transposed layer)
                 (transposed (part_at features z.feature)) overlap (transposed_rect z.rect) (transposed_rect w.rect) h v y x low high from below
                 (record { left = has.low; right = has.high; low = has.left; high = has.right }) in
                 let mine : Has (transposed_rect z.rect) (at y x) = subst (λ r. Has r (at y x)) (sym same)
@@ -152,21 +153,21 @@ module _ (rule overlap : ℕ) (layer : Region) (features pieces : List (List Rec
     touches-at : (p q : Pt) → without layer zones p → Has z.rect q → Touch p q → part_at features z.feature p
     touches-at p q rest has touch = closed layer features z.feature p q c feature_in rest.0 (kept-inside (part_at features z.feature) z.rect q (kept z z_in).1 has) touch
 
-    across-place : (h : IsHorizontalZone rule overlap layer (part_at features z.feature) z.rect) (p q : Pt) → without layer zones p
+    across-place : (h : IsHorizontalZone spacing overlap layer (part_at features z.feature) z.rect) (p q : Pt) → without layer zones p
         → Has z.rect q → Touch p q → (z.rect.y0 ≤ℤ p.y) × (p.y <ℤ z.rect.y1) × ((p.x +ℤ pos 1 ≡ z.rect.x0) ⊎ (p.x ≡ z.rect.x1))
     across-place h p q rest has touch =
-        let (left, right, from, below) = touching-beside rule layer (part_at features z.feature) overlap z.rect h p q (touches-at p q rest has touch) has touch in (
+        let (left, right, from, below) = touching-beside spacing layer (part_at features z.feature) overlap z.rect h p q (touches-at p q rest has touch) has touch in (
           from,
           below,
           by_lt_z p.x z.rect.x0 (λ l. inl (omega (arith, ints, l, left)))
               (λ l. by_lt_z p.x z.rect.x1 (λ m. absurd (not-in-zone p rest (record { left = l; right = m; low = from; high = below }))) (λ m. inr (omega (arith, ints, m, right)))),
         )
 
-    up-place : (h : IsVerticalZone rule overlap layer (part_at features z.feature) z.rect) (p q : Pt) → without layer zones p
+    up-place : (h : IsVerticalZone spacing overlap layer (part_at features z.feature) z.rect) (p q : Pt) → without layer zones p
         → Has z.rect q → Touch p q → (z.rect.x0 ≤ℤ p.x) × (p.x <ℤ z.rect.x1) × ((p.y +ℤ pos 1 ≡ z.rect.y0) ⊎ (p.y ≡ z.rect.y1))
     up-place h p q rest has touch =
         let close = close-from_touch p q touch in
-        let (low, high, from, below) = touching-beside rule (transposed layer) (transposed (part_at features z.feature)) overlap
+        let (low, high, from, below) = touching-beside spacing (transposed layer) (transposed (part_at features z.feature)) overlap
         (transposed_rect z.rect) h (at p.y p.x) (at q.y q.x) (touches-at p q rest has touch)
         (record { left = has.low; right = has.high; low = has.left; high = has.right })
         (Touch-from_close (at p.y p.x) (at q.y q.x) close.low close.high close.left close.right) in (
@@ -183,7 +184,7 @@ module _ (rule overlap : ℕ) (layer : Region) (features pieces : List (List Rec
     tall q has = omega (arith, ints, has.low, has.high)
 
     -- two squares beside the zone in one column, or in one row, are linked in the rest
-    column-linked : (h : IsHorizontalZone rule overlap layer (part_at features z.feature) z.rect) (x : ℤ) (p q : Pt)
+    column-linked : (h : IsHorizontalZone spacing overlap layer (part_at features z.feature) z.rect) (x : ℤ) (p q : Pt)
         → ((x +ℤ pos 1 ≡ z.rect.x0) ⊎ (x ≡ z.rect.x1)) → z.rect.x0 <ℤ z.rect.x1 → p.x ≡ x → q.x ≡ x → z.rect.y0 ≤ℤ p.y → p.y <ℤ z.rect.y1
         → z.rect.y0 ≤ℤ q.y → q.y <ℤ z.rect.y1 → Linked (without layer zones) p q
     column-linked h x p q side w e g a b c' d =
@@ -192,8 +193,8 @@ module _ (rule overlap : ℕ) (layer : Region) (features pieces : List (List Rec
         z.rect.y0 z.rect.y1 (λ i l m. rest-across h x i side w l m) p.y q.y a b c' d in
         subst (λ t. Linked (without layer zones) t q) (ap (λ k. at k p.y) (sym e)) (subst (λ t. Linked (without layer zones) (at x p.y) t) (ap (λ k. at k q.y) (sym g)) line)
 
-    row-linked : (h : IsVerticalZone rule overlap layer (part_at features z.feature) z.rect) (none : (r : Rect)
-        → IsHorizontalZone rule overlap layer (part_at features z.feature) r → ¬ AreTouching (Has r) (Has z.rect)) (y : ℤ) (p q : Pt)
+    row-linked : (h : IsVerticalZone spacing overlap layer (part_at features z.feature) z.rect) (none : (r : Rect)
+        → IsHorizontalZone spacing overlap layer (part_at features z.feature) r → ¬ AreTouching (Has r) (Has z.rect)) (y : ℤ) (p q : Pt)
         → ((y +ℤ pos 1 ≡ z.rect.y0) ⊎ (y ≡ z.rect.y1)) → z.rect.y0 <ℤ z.rect.y1 → p.y ≡ y → q.y ≡ y → z.rect.x0 ≤ℤ p.x → p.x <ℤ z.rect.x1
         → z.rect.x0 ≤ℤ q.x → q.x <ℤ z.rect.x1 → Linked (without layer zones) p q
     row-linked h none y p q side t e g a b c' d =
@@ -203,7 +204,7 @@ module _ (rule overlap : ℕ) (layer : Region) (features pieces : List (List Rec
         subst (λ s. Linked (without layer zones) s q) (ap (λ k. at p.x k) (sym e)) (subst (λ s. Linked (without layer zones) (at p.x y) s) (ap (λ k. at q.x k) (sym g)) line)
 
     -- squares of the rest that touch the zone from the left or from below are linked
-    first-linked : IsKeptZone rule overlap layer (part_at features z.feature) z.rect → (p q r s : Pt) → without layer zones p
+    first-linked : IsKeptZone spacing overlap layer (part_at features z.feature) z.rect → (p q r s : Pt) → without layer zones p
         → Has z.rect q → Touch p q → (p.x <ℤ z.rect.x0) ⊎ (p.y <ℤ z.rect.y0) → without layer zones r → Has z.rect s → Touch r s
         → (r.x <ℤ z.rect.x0) ⊎ (r.y <ℤ z.rect.y0) → Linked (without layer zones) p r
     first-linked (inl h) p q r s a b t u d e v w =
@@ -221,7 +222,7 @@ module _ (rule overlap : ℕ) (layer : Region) (features pieces : List (List Rec
         let ry : r.y +ℤ pos 1 ≡ z.rect.y0 = elim rc [ inl k ↦ k | inr k ↦ absurd (elim w [ inl l ↦ omega (arith, ints, l, ra) | inr l ↦ omega (arith, ints, k, l, tz) ]) ] in
         row-linked h none p.y p r (inl py) tz refl (omega (arith, ints, py, ry)) pa pb ra rb
 
-    second-linked : IsKeptZone rule overlap layer (part_at features z.feature) z.rect → (p q r s : Pt) → without layer zones p
+    second-linked : IsKeptZone spacing overlap layer (part_at features z.feature) z.rect → (p q r s : Pt) → without layer zones p
         → Has z.rect q → Touch p q → (z.rect.x1 ≤ℤ p.x) ⊎ (z.rect.y1 ≤ℤ p.y) → without layer zones r → Has z.rect s → Touch r s
         → (z.rect.x1 ≤ℤ r.x) ⊎ (z.rect.y1 ≤ℤ r.y) → Linked (without layer zones) p r
     second-linked (inl h) p q r s a b t u d e v w =
@@ -256,9 +257,9 @@ module _ (rule overlap : ℕ) (layer : Region) (features pieces : List (List Rec
       ap (λ x. (x, s.1)) one ∙ ap (λ y. (t.0, y)) two
 
 -- a layer has one decomposition
-pub decomposition-unique : (rule overlap : ℕ) (layer : Region) (c d : Cut) (x y : Answer) → IsDecomposition rule overlap layer c x
-    → IsDecomposition rule overlap layer d y → (c ≡ d) × (x ≡ y)
-decomposition-unique rule overlap layer c d x y a b =
-    let cut : c ≡ d = cut-unique rule overlap layer c d
-    (sides-unique rule overlap layer c.features c.pieces c.zones a.0.features a.0.zones a.0.pieces.components) a.0 b.0 in
-    (cut, answer-unique rule c x y a.1 (subst (λ e. IsAnswer rule e y) (sym cut) b.1))
+pub decomposition-unique : (spacing : Spacing) (overlap : ℕ) (layer : Region) (c d : Cut) (x y : Answer) → IsDecomposition spacing overlap layer c x
+    → IsDecomposition spacing overlap layer d y → (c ≡ d) × (x ≡ y)
+decomposition-unique spacing overlap layer c d x y a b =
+    let cut : c ≡ d = cut-unique spacing overlap layer c d
+    (sides-unique spacing overlap layer c.features c.pieces c.zones a.0.features a.0.zones a.0.pieces.components) a.0 b.0 in
+    (cut, answer-unique spacing c x y a.1 (subst (λ e. IsAnswer spacing e y) (sym cut) b.1))

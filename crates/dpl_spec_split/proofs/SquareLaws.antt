@@ -2,8 +2,9 @@
 use Rattle.std.proofs.Common.{◌≡◌, ℕ, ◌*◌, ◌<◌, inl, inr, sym, ◌∙◌, subst, arith}
 use Rattle.std.specs.Prelude.{ℤ, pos, ◌+ℤ◌, ◌≤ℤ◌}
 use Rattle.std.proofs.lemmas.Int.{ints}
+use Rattle.dpl_spec_split.specs.declared.Spacing.{Spacing}
 use Rattle.dpl_spec_split.specs.declared.Pt.{Pt}
-use Rattle.dpl_spec_split.specs.Squares.{Region, SameSquares, Precedes, IsLeast, gap, d2, Touch, AreNear}
+use Rattle.dpl_spec_split.specs.Squares.{Region, SameSquares, Precedes, IsLeast, gap, d2, Touch, TooFew, Near, AreNear}
 
 pub gap-sym : (i j : ℤ) → gap i j ≡ gap j i
 gap-sym i j = omega (arith, ints)
@@ -14,8 +15,14 @@ d2-sym p q = rw (gap-sym p.x q.x, gap-sym p.y q.y)
 pub Touch-sym : (p q : Pt) → Touch p q → Touch q p
 Touch-sym p q h = d2-sym q p ∙ h
 
-pub AreNear-sym : (rule : ℕ) (a b : Region) → AreNear rule a b → AreNear rule b a
-AreNear-sym rule a b (p, q, in_a, in_b, close) = (q, p, in_b, in_a, subst (λ n. n < rule * rule) (d2-sym p q) close)
+pub Near-sym : (spacing : Spacing) (p q : Pt) → Near spacing p q → Near spacing q p
+Near-sym spacing p q near = subst (λ n. TooFew spacing n (gap q.y p.y)) (gap-sym p.x q.x) (subst (λ n. TooFew spacing (gap p.x q.x) n) (gap-sym p.y q.y) near)
+
+pub far-sym : (spacing : Spacing) (p q : Pt) → ¬ Near spacing p q → ¬ Near spacing q p
+far-sym spacing p q far near = far (Near-sym spacing q p near)
+
+pub AreNear-sym : (spacing : Spacing) (a b : Region) → AreNear spacing a b → AreNear spacing b a
+AreNear-sym spacing a b (p, q, in_a, in_b, near) = (q, p, in_b, in_a, Near-sym spacing p q near)
 
 pub Precedes-strict : (p q : Pt) → Precedes p q → Precedes q p → ⊥
 Precedes-strict p q (inl l) (inl m) = omega (arith, ints)

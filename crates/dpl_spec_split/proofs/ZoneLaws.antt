@@ -2,6 +2,7 @@
 use Rattle.std.proofs.Common.{◌≡◌, ℕ, zero, suc, ◌+◌, ◌*◌, ◌<◌, inl, inr, sym, refl, ◌∙◌, subst, arith}
 use Rattle.std.specs.Prelude.{ℤ, pos, ◌+ℤ◌, ◌-ℤ◌, ◌≤ℤ◌, ◌<ℤ◌}
 use Rattle.std.proofs.lemmas.Int.{ints, by_lt_z}
+use Rattle.dpl_spec_split.specs.declared.Spacing.{Spacing}
 use Rattle.dpl_spec_split.specs.declared.Pt.{Pt}
 use Rattle.dpl_spec_split.specs.declared.Rect.{Rect}
 use Rattle.dpl_spec_split.specs.Squares.{Region, Has, Touch, gap}
@@ -27,19 +28,19 @@ close-from_touch p q t =
     let up = both.1 in
     record { left = omega (arith, ints, across); right = omega (arith, ints, across); low = omega (arith, ints, up); high = omega (arith, ints, up) }
 
-module _ (rule : ℕ) (layer f : Region) where
-  run-low : (y0 y1 z0 z1 x y : ℤ) → IsClearRun rule layer f y0 y1 x → IsClearRun rule layer f z0 z1 x → y0 ≤ℤ y → y <ℤ z1 → y0 ≤ℤ z0
+module _ (spacing : Spacing) (layer f : Region) where
+  run-low : (y0 y1 z0 z1 x y : ℤ) → IsClearRun spacing layer f y0 y1 x → IsClearRun spacing layer f z0 z1 x → y0 ≤ℤ y → y <ℤ z1 → y0 ≤ℤ z0
   run-low y0 y1 z0 z1 x y a b from below = by_lt_z z0 y0
       (λ l. absurd (a.below (b.inside (y0 -ℤ pos 1) (omega (arith, ints, l)) (omega (arith, ints, from, below)))))
       (λ h. h)
 
-  run-high : (y0 y1 z0 z1 x y : ℤ) → IsClearRun rule layer f y0 y1 x → IsClearRun rule layer f z0 z1 x → z0 ≤ℤ y → y <ℤ y1 → z1 ≤ℤ y1
+  run-high : (y0 y1 z0 z1 x y : ℤ) → IsClearRun spacing layer f y0 y1 x → IsClearRun spacing layer f z0 z1 x → z0 ≤ℤ y → y <ℤ y1 → z1 ≤ℤ y1
   run-high y0 y1 z0 z1 x y a b from below = by_lt_z y1 z1
       (λ l. absurd (a.above (b.inside y1 (omega (arith, ints, from, below)) l)))
       (λ h. h)
 
   -- two clear runs of a column that share a row are one
-  run-unique : (y0 y1 z0 z1 x y : ℤ) → IsClearRun rule layer f y0 y1 x → IsClearRun rule layer f z0 z1 x → y0 ≤ℤ y → y <ℤ y1 → z0 ≤ℤ y → y <ℤ z1 → (y0 ≡ z0) × (y1 ≡ z1)
+  run-unique : (y0 y1 z0 z1 x y : ℤ) → IsClearRun spacing layer f y0 y1 x → IsClearRun spacing layer f z0 z1 x → y0 ≤ℤ y → y <ℤ y1 → z0 ≤ℤ y → y <ℤ z1 → (y0 ≡ z0) × (y1 ≡ z1)
   run-unique y0 y1 z0 z1 x y a b p q r s =
       let l = run-low y0 y1 z0 z1 x y a b p s in
       let m = run-low z0 z1 y0 y1 x y b a r q in
@@ -48,18 +49,18 @@ module _ (rule : ℕ) (layer f : Region) where
       (omega (arith, ints, l, m), omega (arith, ints, h, k))
 
   module _ (overlap : ℕ) where
-    stretch-left : (r s : Rect) (x : ℤ) → IsStretch rule overlap layer f r → IsStretch rule overlap layer f s → r.y0 ≡ s.y0 → r.y1 ≡ s.y1 → r.x0 ≤ℤ x → x <ℤ s.x1 → r.x0 ≤ℤ s.x0
+    stretch-left : (r s : Rect) (x : ℤ) → IsStretch spacing overlap layer f r → IsStretch spacing overlap layer f s → r.y0 ≡ s.y0 → r.y1 ≡ s.y1 → r.x0 ≤ℤ x → x <ℤ s.x1 → r.x0 ≤ℤ s.x0
     stretch-left r s x a b e g from below = by_lt_z s.x0 r.x0
         (λ l. absurd (a.maximal_left (rw (e, g) (b.runs (r.x0 -ℤ pos 1) (omega (arith, ints, l)) (omega (arith, ints, from, below))))))
         (λ h. h)
 
-    stretch-right : (r s : Rect) (x : ℤ) → IsStretch rule overlap layer f r → IsStretch rule overlap layer f s → r.y0 ≡ s.y0 → r.y1 ≡ s.y1 → s.x0 ≤ℤ x → x <ℤ r.x1 → s.x1 ≤ℤ r.x1
+    stretch-right : (r s : Rect) (x : ℤ) → IsStretch spacing overlap layer f r → IsStretch spacing overlap layer f s → r.y0 ≡ s.y0 → r.y1 ≡ s.y1 → s.x0 ≤ℤ x → x <ℤ r.x1 → s.x1 ≤ℤ r.x1
     stretch-right r s x a b e g from below = by_lt_z r.x1 s.x1
         (λ l. absurd (a.maximal_right (rw (e, g) (b.runs r.x1 (omega (arith, ints, from, below)) l))))
         (λ h. h)
 
     -- two stretches that share a square are one
-    stretch-unique : (r s : Rect) (x y : ℤ) → IsStretch rule overlap layer f r → IsStretch rule overlap layer f s → Has r (at x y) → Has s (at x y) → r ≡ s
+    stretch-unique : (r s : Rect) (x y : ℤ) → IsStretch spacing overlap layer f r → IsStretch spacing overlap layer f s → Has r (at x y) → Has s (at x y) → r ≡ s
     stretch-unique r s x y a b h k =
         let rows = run-unique r.y0 r.y1 s.y0 s.y1 x y (a.runs x h.left h.right) (b.runs x k.left k.right) h.low h.high k.low k.high in
         let l = stretch-left r s x a b rows.0 rows.1 h.left k.right in
@@ -77,17 +78,17 @@ module _ (rule : ℕ) (layer f : Region) where
         same_rect z w x0 (a.rows.0 ∙ sym b.rows.0) (omega (arith, ints, x0, a.width, b.width)) (a.rows.1 ∙ sym b.rows.1)
 
     -- a stretch goes on beyond its zone by a column on each side
-    margins : (r z : Rect) → IsStretch rule overlap layer f r → IsMiddle overlap r z → (r.x0 <ℤ z.x0) × (z.x1 <ℤ r.x1)
+    margins : (r z : Rect) → IsStretch spacing overlap layer f r → IsMiddle overlap r z → (r.x0 <ℤ z.x0) × (z.x1 <ℤ r.x1)
     margins r z a m = elim m.middle [
       | inl e ↦ (omega (arith, ints, e, a.long, m.width), omega (arith, ints, e, a.long, m.width))
       | inr e ↦ (omega (arith, ints, e, a.long, m.width), omega (arith, ints, e, a.long, m.width))
     ]
 
     -- the squares of a stretch are in the feature
-    in-stretch : (r : Rect) (x y : ℤ) → IsStretch rule overlap layer f r → Has r (at x y) → f (at x y)
+    in-stretch : (r : Rect) (x y : ℤ) → IsStretch spacing overlap layer f r → Has r (at x y) → f (at x y)
     in-stretch r x y a h = (a.runs x h.left h.right).inside y h.low h.high
 
-    zone-in-stretch : (r z : Rect) (p : Pt) → IsStretch rule overlap layer f r → IsMiddle overlap r z → Has z p → Has r p
+    zone-in-stretch : (r z : Rect) (p : Pt) → IsStretch spacing overlap layer f r → IsMiddle overlap r z → Has z p → Has r p
     zone-in-stretch r z p a m h =
         let g = margins r z a m in
         record {
@@ -98,28 +99,28 @@ module _ (rule : ℕ) (layer f : Region) where
           high = omega (arith, ints, h.high, m.rows.1);
         }
 
-    pub zone-in-feature : (z : Rect) (p : Pt) → IsHorizontalZone rule overlap layer f z → Has z p → f p
+    pub zone-in-feature : (z : Rect) (p : Pt) → IsHorizontalZone spacing overlap layer f z → Has z p → f p
     zone-in-feature z p h has = in-stretch h.stretch p.x p.y h.is (zone-in-stretch h.stretch z p h.is h.middle has)
 
     -- a column beside a zone, in its rows, is a column of its stretch
-    beside : (z : Rect) (h : IsHorizontalZone rule overlap layer f z) (x y : ℤ) → z.x0 ≤ℤ (x +ℤ pos 1) → x ≤ℤ z.x1 → z.y0 ≤ℤ y → y <ℤ z.y1 → Has h.stretch (at x y)
+    beside : (z : Rect) (h : IsHorizontalZone spacing overlap layer f z) (x y : ℤ) → z.x0 ≤ℤ (x +ℤ pos 1) → x ≤ℤ z.x1 → z.y0 ≤ℤ y → y <ℤ z.y1 → Has h.stretch (at x y)
     beside z h x y a b c d =
         let g = margins h.stretch z h.is h.middle in
         let rows = h.middle.rows in
         record { left = omega (arith, ints, g.0, a); right = omega (arith, ints, g.1, b); low = omega (arith, ints, c, rows.0); high = omega (arith, ints, d, rows.1) }
 
-    pub beside-in-feature : (z : Rect) (h : IsHorizontalZone rule overlap layer f z) (x y : ℤ) → z.x0 ≤ℤ (x +ℤ pos 1) → x ≤ℤ z.x1 → z.y0 ≤ℤ y → y <ℤ z.y1 → f (at x y)
+    pub beside-in-feature : (z : Rect) (h : IsHorizontalZone spacing overlap layer f z) (x y : ℤ) → z.x0 ≤ℤ (x +ℤ pos 1) → x ≤ℤ z.x1 → z.y0 ≤ℤ y → y <ℤ z.y1 → f (at x y)
     beside-in-feature z h x y a b c d = in-stretch h.stretch x y h.is (beside z h x y a b c d)
 
     -- a horizontal zone with a square beside another, in its rows, is the other
-    pub beside-same : (z w : Rect) (h : IsHorizontalZone rule overlap layer f z) (k : IsHorizontalZone rule overlap layer f w) (x y : ℤ)
+    pub beside-same : (z w : Rect) (h : IsHorizontalZone spacing overlap layer f z) (k : IsHorizontalZone spacing overlap layer f w) (x y : ℤ)
         → z.x0 ≤ℤ (x +ℤ pos 1) → x ≤ℤ z.x1 → z.y0 ≤ℤ y → y <ℤ z.y1 → Has w (at x y) → z ≡ w
     beside-same z w h k x y a b c d has =
         let same : h.stretch ≡ k.stretch = stretch-unique h.stretch k.stretch x y h.is k.is (beside z h x y a b c d) (zone-in-stretch k.stretch w (at x y) k.is k.middle has) in
         middle-unique h.stretch z w h.middle (subst (λ r. IsMiddle overlap r w) (sym same) k.middle)
 
     -- a square of the feature that touches a zone and isn't in it lies beside it, in its rows
-    pub touching-beside : (z : Rect) (h : IsHorizontalZone rule overlap layer f z) (p q : Pt) → f p → Has z q → Touch p q
+    pub touching-beside : (z : Rect) (h : IsHorizontalZone spacing overlap layer f z) (p q : Pt) → f p → Has z q → Touch p q
         → (z.x0 ≤ℤ (p.x +ℤ pos 1)) × (p.x ≤ℤ z.x1) × (z.y0 ≤ℤ p.y) × (p.y <ℤ z.y1)
     touching-beside z h p q in_f has touch =
         let c = close-from_touch p q touch in

@@ -1,6 +1,7 @@
 -- Pieces: what the zones leave of the features, and the pieces on the two sides of a zone.
 use Rattle.std.specs.Prelude.{◌≢◌, ℕ, ◌<◌, ◌⊎◌, ◌≤ℤ◌, ◌<ℤ◌, List, length, slice_index}
 use Rattle.std.specs.List.{Any, AllZip}
+use Rattle.dpl_spec_split.specs.declared.Spacing.{Spacing}
 use Rattle.dpl_spec_split.specs.declared.Pt.{Pt}
 use Rattle.dpl_spec_split.specs.declared.Rect.{Rect}
 use Rattle.dpl_spec_split.specs.declared.Zone.{Zone}
@@ -38,8 +39,8 @@ pub record ArePieces (layer : Region) (features : List (List Rect)) (zones : Lis
   pub sided : AllZip (AreSides features pieces) zones sides
 
 -- pieces of different features that are near conflict
-pub record Conflict (rule : ℕ) (pieces : List (List Rect)) (owners : List ℕ) (i j : ℕ) : Type 0 where
+pub record Conflict (spacing : Spacing) (pieces : List (List Rect)) (owners : List ℕ) (i j : ℕ) : Type 0 where
   pub first : i < length pieces
   pub second : j < length pieces
   pub apart : slice_index owners i ≢ slice_index owners j
-  pub near : AreNear rule (part_at pieces i) (part_at pieces j)
+  pub near : AreNear spacing (part_at pieces i) (part_at pieces j)

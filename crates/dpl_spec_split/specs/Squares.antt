@@ -3,6 +3,7 @@ use Rattle.std.specs.Prelude.{◌≡◌, ℕ, ◌+◌, ◌-◌, ◌*◌, ◌<◌
 use Rattle.std.specs.List.{Any}
 use Rattle.dpl_spec_split.specs.declared.Pt.{Pt}
 use Rattle.dpl_spec_split.specs.declared.Rect.{Rect}
+use Rattle.dpl_spec_split.specs.declared.Spacing.{Spacing}
 
 -- a set of squares
 abbrev pub Region : Type 1
@@ -33,9 +34,22 @@ d2 p q = gap p.x q.x * gap p.x q.x + gap p.y q.y * gap p.y q.y
 abbrev pub Touch : Pt → Pt → Type 0
 Touch p q = d2 p q ≡ 0
 
--- some square of one is closer than rule to some square of the other
-abbrev pub AreNear : ℕ → Region → Region → Type 0
-AreNear rule a b = (p q : Pt) × a p × b q × (d2 p q < rule * rule)
+-- one number for all distances
+abbrev pub uniform : ℕ → Spacing
+uniform rule = record { rule = rule; corner = rule }
+
+-- dx columns and dy rows between two squares are too few: closer than the corner rule where there are some of both, else closer than the rule
+pub data TooFew (spacing : Spacing) (dx dy : ℕ) : Type 0 where
+  in_line : (dx ≡ 0) ⊎ (dy ≡ 0) → dx * dx + dy * dy < spacing.rule * spacing.rule → TooFew spacing dx dy
+  at_corner : 0 < dx → 0 < dy → dx * dx + dy * dy < spacing.corner * spacing.corner → TooFew spacing dx dy
+
+-- two squares are near: too close to one another for one mask
+abbrev pub Near : Spacing → Pt → Pt → Type 0
+Near spacing p q = TooFew spacing (gap p.x q.x) (gap p.y q.y)
+
+-- some square of one is near some square of the other
+abbrev pub AreNear : Spacing → Region → Region → Type 0
+AreNear spacing a b = (p q : Pt) × a p × b q × Near spacing p q
 
 abbrev pub AreTouching : Region → Region → Type 0
 AreTouching a b = (p q : Pt) × a p × b q × Touch p q
@@ -65,7 +79,7 @@ pub record IsSolidWithin (bound : ℕ) (r : Rect) : Type 0 where
   pub low : unsigned_abs r.y0 ≤ bound
   pub high : unsigned_abs r.y1 ≤ bound
 
--- the most columns away at which squares dy rows apart are closer than rule
-pub record IsReach (rule dy r : ℕ) : Type 0 where
-  pub near : r * r + dy * dy < rule * rule
-  pub far : rule * rule ≤ (r + 1) * (r + 1) + dy * dy
+-- the most columns that may lie between near squares with dy rows between them
+pub record IsReach (spacing : Spacing) (dy r : ℕ) : Type 0 where
+  pub near : TooFew spacing r dy
+  pub far : ¬ TooFew spacing (r + 1) dy

@@ -1,6 +1,7 @@
 -- There is one verdict.
 use Rattle.std.proofs.Common.{◌≡◌, ℕ, inl, inr, sym, ap, ◌∙◌, subst, List, length, false}
 use Rattle.std.specs.Prelude.{pos}
+use Rattle.dpl_spec_split.specs.declared.Spacing.{Spacing}
 use Rattle.dpl_spec_split.specs.Zones.{at}
 use Rattle.std.proofs.lemmas.Bool.{cases_order}
 use Rattle.dpl_spec_split.specs.declared.Pt.{Pt}
@@ -84,13 +85,13 @@ pair-shown related make v w (p, q, one, e) (r, s, other, f) =
     e ∙ (ap (λ x. make x q) same.0 ∙ (ap (λ y. make r y) same.1 ∙ sym f))
 
 -- a layer has one cut
-pub one-cut : (rule overlap : ℕ) (layer : Region) (c d : Cut) → IsCut rule overlap layer c → IsCut rule overlap layer d → c ≡ d
-one-cut rule overlap layer c d a b =
-    cut-unique rule overlap layer c d (sides-unique rule overlap layer c.features c.pieces c.zones a.features a.zones a.pieces.components) a b
+pub one-cut : (spacing : Spacing) (overlap : ℕ) (layer : Region) (c d : Cut) → IsCut spacing overlap layer c → IsCut spacing overlap layer d → c ≡ d
+one-cut spacing overlap layer c d a b =
+    cut-unique spacing overlap layer c d (sides-unique spacing overlap layer c.features c.pieces c.zones a.features a.zones a.pieces.components) a b
 
-counts-shown : (rule overlap : ℕ) (layer : List Rect) (v w : Verdict) → ShowsCounts rule overlap layer v → ShowsCounts rule overlap layer w → v ≡ w
-counts-shown rule overlap layer v w (f, p, z, (c, c_is, cf, cp, cz), e) (g, q, y, (d, d_is, df, dp, dz), h) =
-    let same : c ≡ d = one-cut rule overlap (Covers layer) c d c_is d_is in
+counts-shown : (spacing : Spacing) (overlap : ℕ) (layer : List Rect) (v w : Verdict) → ShowsCounts spacing overlap layer v → ShowsCounts spacing overlap layer w → v ≡ w
+counts-shown spacing overlap layer v w (f, p, z, (c, c_is, cf, cp, cz), e) (g, q, y, (d, d_is, df, dp, dz), h) =
+    let same : c ≡ d = one-cut spacing overlap (Covers layer) c d c_is d_is in
     let ff : f ≡ g = cf ∙ (ap (λ (x : Cut). length x.features) same ∙ sym df) in
     let pp : p ≡ q = cp ∙ (ap (λ (x : Cut). length x.pieces) same ∙ sym dp) in
     let zz : z ≡ y = cz ∙ (ap (λ (x : Cut). length x.zones) same ∙ sym dz) in
@@ -102,41 +103,41 @@ rules-shown head v w e f = e ∙ sym f
 valid-shown : (v w : Verdict) → IsValid v → IsValid w → v ≡ w
 valid-shown v w e f = e ∙ sym f
 
-claim-unique : (rule overlap : ℕ) (c : Claim) (v w : Verdict) → VerdictOfClaim rule overlap c v → VerdictOfClaim rule overlap c w → v ≡ w
-claim-unique rule overlap c v w =
-    first-unique (RulesDiffer rule overlap c.head) (ShowsRules c.head) (VerdictFromCounts rule overlap c) v w (rules-shown c.head v w)
-    (first-unique (CountDiffers c.layer c.head) (ShowsCounts rule overlap c.layer) (VerdictFromCover rule overlap c) v w (counts-shown rule overlap c.layer v w)
-    (first-unique (HasSquare (is_uncovered c.layer c.a c.b)) (ShowsCover c) (VerdictFromOverlap rule overlap c) v w (least-shown (is_uncovered c.layer c.a c.b) Cover v w)
-    (first-unique (HasSquare (is_doubled c.a c.b c.stitches)) (ShowsOverlap c) (VerdictFromSpacingA rule overlap c) v w (least-shown (is_doubled c.a c.b c.stitches) Overlap v w)
-    (first-unique (IsTight rule c.layer c.a) (ShowsSpacingA rule c) (VerdictFromSpacingB rule overlap c) v w
-    (pair-shown (AreTooClose rule (Covers c.layer) (Covers c.a)) SpacingA v w)
-    (first-unique (IsTight rule c.layer c.b) (ShowsSpacingB rule c) (VerdictFromStitches overlap c) v w (pair-shown (AreTooClose rule (Covers c.layer) (Covers c.b)) SpacingB v w)
+claim-unique : (spacing : Spacing) (overlap : ℕ) (c : Claim) (v w : Verdict) → VerdictOfClaim spacing overlap c v → VerdictOfClaim spacing overlap c w → v ≡ w
+claim-unique spacing overlap c v w =
+    first-unique (RulesDiffer spacing overlap c.head) (ShowsRules c.head) (VerdictFromCounts spacing overlap c) v w (rules-shown c.head v w)
+    (first-unique (CountDiffers c.layer c.head) (ShowsCounts spacing overlap c.layer) (VerdictFromCover spacing overlap c) v w (counts-shown spacing overlap c.layer v w)
+    (first-unique (HasSquare (is_uncovered c.layer c.a c.b)) (ShowsCover c) (VerdictFromOverlap spacing overlap c) v w (least-shown (is_uncovered c.layer c.a c.b) Cover v w)
+    (first-unique (HasSquare (is_doubled c.a c.b c.stitches)) (ShowsOverlap c) (VerdictFromSpacingA spacing overlap c) v w (least-shown (is_doubled c.a c.b c.stitches) Overlap v w)
+    (first-unique (IsTight spacing c.layer c.a) (ShowsSpacingA spacing c) (VerdictFromSpacingB spacing overlap c) v w
+    (pair-shown (AreTooClose spacing (Covers c.layer) (Covers c.a)) SpacingA v w)
+    (first-unique (IsTight spacing c.layer c.b) (ShowsSpacingB spacing c) (VerdictFromStitches overlap c) v w (pair-shown (AreTooClose spacing (Covers c.layer) (Covers c.b)) SpacingB v w)
     (first-unique (HasBad (IsBadStitch overlap c.a c.b c.pieces) c.stitches) (ShowsStitch overlap c) (VerdictFromPieces c) v w
     (bad-shown (IsBadStitch overlap c.a c.b c.pieces) c.stitches no_stitch Stitch v w)
     (first-unique (HasBad (IsBadPiece c.a c.b) c.pieces) (ShowsPiece c) IsValid v w (bad-shown (IsBadPiece c.a c.b) c.pieces no_piece Piece v w) (valid-shown v w))))))))
 
-pub masks-unique : (rule overlap : ℕ) (layer a b : List Rect) (cert : Cert) (v w : Verdict)
-    → IsVerdictOfMasks rule overlap layer a b cert v → IsVerdictOfMasks rule overlap layer a b cert w → v ≡ w
-masks-unique rule overlap layer a b (Masks h ps ss) v w e f = claim-unique rule overlap (record { layer = layer; a = a; b = b; head = h; pieces = ps; stitches = ss }) v w e f
-masks-unique rule overlap layer a b (Conflict h cs ns) v w e f = absurd e
-masks-unique rule overlap layer a b (Fault name at) v w e f = absurd e
+pub masks-unique : (spacing : Spacing) (overlap : ℕ) (layer a b : List Rect) (cert : Cert) (v w : Verdict)
+    → IsVerdictOfMasks spacing overlap layer a b cert v → IsVerdictOfMasks spacing overlap layer a b cert w → v ≡ w
+masks-unique spacing overlap layer a b (Masks h ps ss) v w e f = claim-unique spacing overlap (record { layer = layer; a = a; b = b; head = h; pieces = ps; stitches = ss }) v w e f
+masks-unique spacing overlap layer a b (Conflict h cs ns) v w e f = absurd e
+masks-unique spacing overlap layer a b (Fault name at) v w e f = absurd e
 
 -- by the one cut
-cycle-unique : (rule overlap : ℕ) (c : CycleClaim) (v w : Verdict) → VerdictFromCycle rule overlap c v → VerdictFromCycle rule overlap c w → v ≡ w
-cycle-unique rule overlap c v w (k, k_is, e) (l, l_is, f) =
-    let same : k ≡ l = one-cut rule overlap (Covers c.layer) k l k_is l_is in
-    let g : VerdictOfCycle rule k c w = subst (λ (x : Cut). VerdictOfCycle rule x c w) (sym same) f in
-    first-unique (HasBad (IsBadPlace rule k c.cycle c.near) c.cycle) (ShowsCycle rule k c) IsValid v w
-    (bad-shown (IsBadPlace rule k c.cycle c.near) c.cycle no_place Cycle v w) (valid-shown v w) e g
+cycle-unique : (spacing : Spacing) (overlap : ℕ) (c : CycleClaim) (v w : Verdict) → VerdictFromCycle spacing overlap c v → VerdictFromCycle spacing overlap c w → v ≡ w
+cycle-unique spacing overlap c v w (k, k_is, e) (l, l_is, f) =
+    let same : k ≡ l = one-cut spacing overlap (Covers c.layer) k l k_is l_is in
+    let g : VerdictOfCycle spacing k c w = subst (λ (x : Cut). VerdictOfCycle spacing x c w) (sym same) f in
+    first-unique (HasBad (IsBadPlace spacing k c.cycle c.near) c.cycle) (ShowsCycle spacing k c) IsValid v w
+    (bad-shown (IsBadPlace spacing k c.cycle c.near) c.cycle no_place Cycle v w) (valid-shown v w) e g
 
-conflict-claim-unique : (rule overlap : ℕ) (c : CycleClaim) (v w : Verdict) → CycleVerdict rule overlap c v → CycleVerdict rule overlap c w → v ≡ w
-conflict-claim-unique rule overlap c v w =
-    first-unique (RulesDiffer rule overlap c.head) (ShowsRules c.head) (CycleVerdictFromCounts rule overlap c) v w (rules-shown c.head v w)
-    (first-unique (CountsDiffer rule overlap c.layer c.head) (ShowsCounts rule overlap c.layer) (VerdictFromCycle rule overlap c) v w
-    (counts-shown rule overlap c.layer v w) (cycle-unique rule overlap c v w))
+conflict-claim-unique : (spacing : Spacing) (overlap : ℕ) (c : CycleClaim) (v w : Verdict) → CycleVerdict spacing overlap c v → CycleVerdict spacing overlap c w → v ≡ w
+conflict-claim-unique spacing overlap c v w =
+    first-unique (RulesDiffer spacing overlap c.head) (ShowsRules c.head) (CycleVerdictFromCounts spacing overlap c) v w (rules-shown c.head v w)
+    (first-unique (CountsDiffer spacing overlap c.layer c.head) (ShowsCounts spacing overlap c.layer) (VerdictFromCycle spacing overlap c) v w
+    (counts-shown spacing overlap c.layer v w) (cycle-unique spacing overlap c v w))
 
-pub conflict-unique : (rule overlap : ℕ) (layer : List Rect) (cert : Cert) (v w : Verdict) → IsVerdictOfConflict rule overlap layer cert v
-    → IsVerdictOfConflict rule overlap layer cert w → v ≡ w
-conflict-unique rule overlap layer (Masks h ps ss) v w e f = absurd e
-conflict-unique rule overlap layer (Conflict h cs ns) v w e f = conflict-claim-unique rule overlap (record { layer = layer; head = h; cycle = cs; near = ns }) v w e f
-conflict-unique rule overlap layer (Fault name at) v w e f = absurd e
+pub conflict-unique : (spacing : Spacing) (overlap : ℕ) (layer : List Rect) (cert : Cert) (v w : Verdict) → IsVerdictOfConflict spacing overlap layer cert v
+    → IsVerdictOfConflict spacing overlap layer cert w → v ≡ w
+conflict-unique spacing overlap layer (Masks h ps ss) v w e f = absurd e
+conflict-unique spacing overlap layer (Conflict h cs ns) v w e f = conflict-claim-unique spacing overlap (record { layer = layer; head = h; cycle = cs; near = ns }) v w e f
+conflict-unique spacing overlap layer (Fault name at) v w e f = absurd e

@@ -1,7 +1,8 @@
 -- What is checked of a conflict, in order.
 use Rattle.std.specs.Prelude.{◌≡◌, ◌≢◌, ℕ, pos, ◌+◌, ◌*◌, ◌%◌, ◌<◌, List, length, slice_index, slice_index_or}
+use Rattle.dpl_spec_split.specs.declared.Spacing.{Spacing}
 use Rattle.dpl_spec_split.specs.declared.Rect.{Rect}
-use Rattle.dpl_spec_split.specs.Squares.{Covers, d2}
+use Rattle.dpl_spec_split.specs.Squares.{Covers, Near}
 use Rattle.dpl_spec_split.specs.Zones.{at, part_at}
 use Rattle.dpl_spec_split.specs.Decomposition.{Cut, IsCut}
 use Rattle.dpl_cert.specs.declared.cert.Head.{Head}
@@ -21,42 +22,42 @@ pub record Claim : Type 0 where
   pub near : List NearLine
 
 -- the layer has another number of features, pieces or zones
-abbrev pub CountsDiffer : ℕ → ℕ → List Rect → Head → Type 0
-CountsDiffer rule overlap layer head = ¬ AreCounts rule overlap layer head.features head.pieces head.zones
+abbrev pub CountsDiffer : Spacing → ℕ → List Rect → Head → Type 0
+CountsDiffer spacing overlap layer head = ¬ AreCounts spacing overlap layer head.features head.pieces head.zones
 
 -- the piece at a place of the cycle
 abbrev pub piece_of : List PlaceLine → ℕ → ℕ
 piece_of cycle k = (slice_index_or cycle k (record { piece = 0; key = at (pos 0) (pos 0) })).piece
 
 -- A piece of the layer that hasn't stood before, with its key; squares of it and of the next piece, the first one after the last, that are near; and the two of different features.
-pub record IsGoodPlace (rule : ℕ) (cut : Cut) (cycle : List PlaceLine) (place : PlaceLine) (next k : ℕ) (line : NearLine) : Type 0 where
+pub record IsGoodPlace (spacing : Spacing) (cut : Cut) (cycle : List PlaceLine) (place : PlaceLine) (next k : ℕ) (line : NearLine) : Type 0 where
   pub known : place.piece < length cut.pieces
   pub new : (j : ℕ) → j < k → piece_of cycle j ≢ place.piece
   pub key : place.key ≡ slice_index_or cut.keys place.piece place.key
   pub from : part_at cut.pieces place.piece line.from
   pub to : part_at cut.pieces next line.to
-  pub near : d2 line.from line.to < rule * rule
+  pub near : Near spacing line.from line.to
   pub apart : slice_index cut.owners place.piece ≢ slice_index cut.owners next
 
-abbrev pub IsBadPlace : ℕ → Cut → List PlaceLine → List NearLine → ℕ → PlaceLine → Type 0
-IsBadPlace rule cut cycle near k place =
-    (d : NearLine) → ¬ IsGoodPlace rule cut cycle place (piece_of cycle ((k + 1) % length cycle)) k (slice_index_or near k d)
+abbrev pub IsBadPlace : Spacing → Cut → List PlaceLine → List NearLine → ℕ → PlaceLine → Type 0
+IsBadPlace spacing cut cycle near k place =
+    (d : NearLine) → ¬ IsGoodPlace spacing cut cycle place (piece_of cycle ((k + 1) % length cycle)) k (slice_index_or near k d)
 
-abbrev pub ShowsCycle : ℕ → Cut → Claim → Verdict → Type 0
-ShowsCycle rule cut c v = (k : ℕ) × IsFirstBad (IsBadPlace rule cut c.cycle c.near) c.cycle k × (v ≡ Cycle k)
+abbrev pub ShowsCycle : Spacing → Cut → Claim → Verdict → Type 0
+ShowsCycle spacing cut c v = (k : ℕ) × IsFirstBad (IsBadPlace spacing cut c.cycle c.near) c.cycle k × (v ≡ Cycle k)
 
-abbrev pub VerdictOfCycle : ℕ → Cut → Claim → Verdict → Type 0
-VerdictOfCycle rule cut c = FirstOf (HasBad (IsBadPlace rule cut c.cycle c.near) c.cycle) (ShowsCycle rule cut c) IsValid
+abbrev pub VerdictOfCycle : Spacing → Cut → Claim → Verdict → Type 0
+VerdictOfCycle spacing cut c = FirstOf (HasBad (IsBadPlace spacing cut c.cycle c.near) c.cycle) (ShowsCycle spacing cut c) IsValid
 
 -- by the features and pieces of the layer
-abbrev pub VerdictFromCycle : ℕ → ℕ → Claim → Verdict → Type 0
-VerdictFromCycle rule overlap c v = (cut : Cut) × IsCut rule overlap (Covers c.layer) cut × VerdictOfCycle rule cut c v
+abbrev pub VerdictFromCycle : Spacing → ℕ → Claim → Verdict → Type 0
+VerdictFromCycle spacing overlap c v = (cut : Cut) × IsCut spacing overlap (Covers c.layer) cut × VerdictOfCycle spacing cut c v
 
-abbrev pub VerdictFromCounts : ℕ → ℕ → Claim → Verdict → Type 0
-VerdictFromCounts rule overlap c = FirstOf (CountsDiffer rule overlap c.layer c.head) (ShowsCounts rule overlap c.layer) (VerdictFromCycle rule overlap c)
+abbrev pub VerdictFromCounts : Spacing → ℕ → Claim → Verdict → Type 0
+VerdictFromCounts spacing overlap c = FirstOf (CountsDiffer spacing overlap c.layer c.head) (ShowsCounts spacing overlap c.layer) (VerdictFromCycle spacing overlap c)
 
-abbrev pub VerdictOfClaim : ℕ → ℕ → Claim → Verdict → Type 0
-VerdictOfClaim rule overlap c = FirstOf (RulesDiffer rule overlap c.head) (ShowsRules c.head) (VerdictFromCounts rule overlap c)
+abbrev pub VerdictOfClaim : Spacing → ℕ → Claim → Verdict → Type 0
+VerdictOfClaim spacing overlap c = FirstOf (RulesDiffer spacing overlap c.head) (ShowsRules c.head) (VerdictFromCounts spacing overlap c)
 
 abbrev pub IsOfConflict : Cert → Type 0
 IsOfConflict (Masks h ps ss) = ⊥
@@ -64,8 +65,8 @@ IsOfConflict (Conflict h cs ns) = Unit {0}
 IsOfConflict (Fault name at) = ⊥
 
 -- the verdict of a layer's conflict, by its certificate
-abbrev pub IsVerdictOfConflict : ℕ → ℕ → List Rect → Cert → Verdict → Type 0
-IsVerdictOfConflict rule overlap layer (Masks h ps ss) v = ⊥
-IsVerdictOfConflict rule overlap layer (Conflict h cs ns) v =
-    VerdictOfClaim rule overlap (record { layer = layer; head = h; cycle = cs; near = ns }) v
-IsVerdictOfConflict rule overlap layer (Fault name at) v = ⊥
+abbrev pub IsVerdictOfConflict : Spacing → ℕ → List Rect → Cert → Verdict → Type 0
+IsVerdictOfConflict spacing overlap layer (Masks h ps ss) v = ⊥
+IsVerdictOfConflict spacing overlap layer (Conflict h cs ns) v =
+    VerdictOfClaim spacing overlap (record { layer = layer; head = h; cycle = cs; near = ns }) v
+IsVerdictOfConflict spacing overlap layer (Fault name at) v = ⊥

@@ -1,9 +1,10 @@
 -- What is checked of masks, in order.
 use Rattle.std.specs.Prelude.{◌≡◌, ◌≢◌, ℕ, pos, ◌*◌, ◌<◌, ◌⊎◌, ◌-ℤ◌, ◌≤ℤ◌, false, cond, List, length, slice_index_or}
 use Rattle.std.specs.List.{Any}
+use Rattle.dpl_spec_split.specs.declared.Spacing.{Spacing}
 use Rattle.dpl_spec_split.specs.declared.Pt.{Pt}
 use Rattle.dpl_spec_split.specs.declared.Rect.{Rect}
-use Rattle.dpl_spec_split.specs.Squares.{Region, Covers, Has, IsLeast, d2}
+use Rattle.dpl_spec_split.specs.Squares.{Region, Covers, Has, IsLeast, Near}
 use Rattle.dpl_spec_split.specs.Components.{Linked}
 use Rattle.dpl_spec_split.specs.Zones.{at}
 use Rattle.dpl_cert.specs.declared.cert.Head.{Head}
@@ -31,19 +32,19 @@ is_uncovered layer a b p = (Covers layer p × ¬ is_masked a b p) ⊎ (is_masked
 abbrev pub is_doubled : List Rect → List Rect → List StitchLine → Region
 is_doubled a b stitches p = Covers a p × Covers b p × ¬ Any (λ s. Has s.rect p) stitches
 
--- squares of different features that are on a mask and closer than the rule
-pub record AreTooClose (rule : ℕ) (layer mask : Region) (p q : Pt) : Type 0 where
+-- squares of different features that are on a mask and near
+pub record AreTooClose (spacing : Spacing) (layer mask : Region) (p q : Pt) : Type 0 where
   pub first : mask p
   pub second : mask q
   pub of_layer : layer p × layer q
   pub apart : ¬ Linked layer p q
-  pub close : d2 p q < rule * rule
+  pub close : Near spacing p q
 
-abbrev pub IsTight : ℕ → List Rect → List Rect → Type 0
-IsTight rule layer mask = (p q : Pt) × AreTooClose rule (Covers layer) (Covers mask) p q
+abbrev pub IsTight : Spacing → List Rect → List Rect → Type 0
+IsTight spacing layer mask = (p q : Pt) × AreTooClose spacing (Covers layer) (Covers mask) p q
 
-abbrev pub IsTightest : ℕ → List Rect → List Rect → Pt → Pt → Type 0
-IsTightest rule layer mask p q = IsLeastPair (AreTooClose rule (Covers layer) (Covers mask)) p q
+abbrev pub IsTightest : Spacing → List Rect → List Rect → Pt → Pt → Type 0
+IsTightest spacing layer mask p q = IsLeastPair (AreTooClose spacing (Covers layer) (Covers mask)) p q
 
 -- a piece line; where there is none, it doesn't matter which
 abbrev pub piece_at : List PieceLine → ℕ → PieceLine
@@ -84,35 +85,35 @@ ShowsStitch overlap c v = (k : ℕ) × IsFirstBad (IsBadStitch overlap c.a c.b c
 abbrev pub VerdictFromStitches : ℕ → Claim → Verdict → Type 0
 VerdictFromStitches overlap c = FirstOf (HasBad (IsBadStitch overlap c.a c.b c.pieces) c.stitches) (ShowsStitch overlap c) (VerdictFromPieces c)
 
-abbrev pub ShowsSpacingB : ℕ → Claim → Verdict → Type 0
-ShowsSpacingB rule c v = (p q : Pt) × IsTightest rule c.layer c.b p q × (v ≡ SpacingB p q)
+abbrev pub ShowsSpacingB : Spacing → Claim → Verdict → Type 0
+ShowsSpacingB spacing c v = (p q : Pt) × IsTightest spacing c.layer c.b p q × (v ≡ SpacingB p q)
 
-abbrev pub VerdictFromSpacingB : ℕ → ℕ → Claim → Verdict → Type 0
-VerdictFromSpacingB rule overlap c = FirstOf (IsTight rule c.layer c.b) (ShowsSpacingB rule c) (VerdictFromStitches overlap c)
+abbrev pub VerdictFromSpacingB : Spacing → ℕ → Claim → Verdict → Type 0
+VerdictFromSpacingB spacing overlap c = FirstOf (IsTight spacing c.layer c.b) (ShowsSpacingB spacing c) (VerdictFromStitches overlap c)
 
-abbrev pub ShowsSpacingA : ℕ → Claim → Verdict → Type 0
-ShowsSpacingA rule c v = (p q : Pt) × IsTightest rule c.layer c.a p q × (v ≡ SpacingA p q)
+abbrev pub ShowsSpacingA : Spacing → Claim → Verdict → Type 0
+ShowsSpacingA spacing c v = (p q : Pt) × IsTightest spacing c.layer c.a p q × (v ≡ SpacingA p q)
 
-abbrev pub VerdictFromSpacingA : ℕ → ℕ → Claim → Verdict → Type 0
-VerdictFromSpacingA rule overlap c = FirstOf (IsTight rule c.layer c.a) (ShowsSpacingA rule c) (VerdictFromSpacingB rule overlap c)
+abbrev pub VerdictFromSpacingA : Spacing → ℕ → Claim → Verdict → Type 0
+VerdictFromSpacingA spacing overlap c = FirstOf (IsTight spacing c.layer c.a) (ShowsSpacingA spacing c) (VerdictFromSpacingB spacing overlap c)
 
 abbrev pub ShowsOverlap : Claim → Verdict → Type 0
 ShowsOverlap c v = (p : Pt) × IsLeast (is_doubled c.a c.b c.stitches) p × (v ≡ Overlap p)
 
-abbrev pub VerdictFromOverlap : ℕ → ℕ → Claim → Verdict → Type 0
-VerdictFromOverlap rule overlap c = FirstOf (HasSquare (is_doubled c.a c.b c.stitches)) (ShowsOverlap c) (VerdictFromSpacingA rule overlap c)
+abbrev pub VerdictFromOverlap : Spacing → ℕ → Claim → Verdict → Type 0
+VerdictFromOverlap spacing overlap c = FirstOf (HasSquare (is_doubled c.a c.b c.stitches)) (ShowsOverlap c) (VerdictFromSpacingA spacing overlap c)
 
 abbrev pub ShowsCover : Claim → Verdict → Type 0
 ShowsCover c v = (p : Pt) × IsLeast (is_uncovered c.layer c.a c.b) p × (v ≡ Cover p)
 
-abbrev pub VerdictFromCover : ℕ → ℕ → Claim → Verdict → Type 0
-VerdictFromCover rule overlap c = FirstOf (HasSquare (is_uncovered c.layer c.a c.b)) (ShowsCover c) (VerdictFromOverlap rule overlap c)
+abbrev pub VerdictFromCover : Spacing → ℕ → Claim → Verdict → Type 0
+VerdictFromCover spacing overlap c = FirstOf (HasSquare (is_uncovered c.layer c.a c.b)) (ShowsCover c) (VerdictFromOverlap spacing overlap c)
 
-abbrev pub VerdictFromCounts : ℕ → ℕ → Claim → Verdict → Type 0
-VerdictFromCounts rule overlap c = FirstOf (CountDiffers c.layer c.head) (ShowsCounts rule overlap c.layer) (VerdictFromCover rule overlap c)
+abbrev pub VerdictFromCounts : Spacing → ℕ → Claim → Verdict → Type 0
+VerdictFromCounts spacing overlap c = FirstOf (CountDiffers c.layer c.head) (ShowsCounts spacing overlap c.layer) (VerdictFromCover spacing overlap c)
 
-abbrev pub VerdictOfClaim : ℕ → ℕ → Claim → Verdict → Type 0
-VerdictOfClaim rule overlap c = FirstOf (RulesDiffer rule overlap c.head) (ShowsRules c.head) (VerdictFromCounts rule overlap c)
+abbrev pub VerdictOfClaim : Spacing → ℕ → Claim → Verdict → Type 0
+VerdictOfClaim spacing overlap c = FirstOf (RulesDiffer spacing overlap c.head) (ShowsRules c.head) (VerdictFromCounts spacing overlap c)
 
 abbrev pub IsOfMasks : Cert → Type 0
 IsOfMasks (Masks h ps ss) = Unit {0}
@@ -120,8 +121,8 @@ IsOfMasks (Conflict h cs ns) = ⊥
 IsOfMasks (Fault name at) = ⊥
 
 -- the verdict of masks a and b of a layer, by their certificate
-abbrev pub IsVerdictOfMasks : ℕ → ℕ → List Rect → List Rect → List Rect → Cert → Verdict → Type 0
-IsVerdictOfMasks rule overlap layer a b (Masks h ps ss) v =
-    VerdictOfClaim rule overlap (record { layer = layer; a = a; b = b; head = h; pieces = ps; stitches = ss }) v
-IsVerdictOfMasks rule overlap layer a b (Conflict h cs ns) v = ⊥
-IsVerdictOfMasks rule overlap layer a b (Fault name at) v = ⊥
+abbrev pub IsVerdictOfMasks : Spacing → ℕ → List Rect → List Rect → List Rect → Cert → Verdict → Type 0
+IsVerdictOfMasks spacing overlap layer a b (Masks h ps ss) v =
+    VerdictOfClaim spacing overlap (record { layer = layer; a = a; b = b; head = h; pieces = ps; stitches = ss }) v
+IsVerdictOfMasks spacing overlap layer a b (Conflict h cs ns) v = ⊥
+IsVerdictOfMasks spacing overlap layer a b (Fault name at) v = ⊥

@@ -1,5 +1,6 @@
 -- The first of several properties that is broken, and what shows it.
 use Rattle.std.specs.Prelude.{◌≡◌, ◌≢◌, ℕ, ◌<◌, ◌⊎◌, List, length, slice_index_or}
+use Rattle.dpl_spec_split.specs.declared.Spacing.{Spacing}
 use Rattle.dpl_spec_split.specs.declared.Pt.{Pt}
 use Rattle.dpl_spec_split.specs.declared.Rect.{Rect}
 use Rattle.dpl_spec_split.specs.Squares.{Region, Covers, Precedes}
@@ -35,9 +36,9 @@ pub record IsLeastPair (related : Pt → Pt → Type 0) (p q : Pt) : Type 0 wher
   pub are : related p q
   pub least : (r s : Pt) → related r s → Precedes p r ⊎ ((p ≡ r) × ((q ≡ s) ⊎ Precedes q s))
 
--- the certificate is for another rule or another overlap
-abbrev pub RulesDiffer : ℕ → ℕ → Head → Type 0
-RulesDiffer rule overlap head = (head.rule ≢ rule) ⊎ (head.overlap ≢ overlap)
+-- the certificate is for another rule or another overlap; it names no corner rule
+abbrev pub RulesDiffer : Spacing → ℕ → Head → Type 0
+RulesDiffer spacing overlap head = (head.rule ≢ spacing.rule) ⊎ (head.overlap ≢ overlap)
 
 abbrev pub ShowsRules : Head → Verdict → Type 0
 ShowsRules head v = v ≡ Rules head.rule head.overlap
@@ -47,9 +48,9 @@ abbrev pub IsFeatureCount : List Rect → ℕ → Type 0
 IsFeatureCount layer n = (features : List (List Rect)) × AreComponents (Covers layer) features × (n ≡ length features)
 
 -- how many features, pieces and zones
-abbrev pub AreCounts : ℕ → ℕ → List Rect → ℕ → ℕ → ℕ → Type 0
-AreCounts rule overlap layer features pieces zones =
-    (c : Cut) × IsCut rule overlap (Covers layer) c × (features ≡ length c.features) × (pieces ≡ length c.pieces) × (zones ≡ length c.zones)
+abbrev pub AreCounts : Spacing → ℕ → List Rect → ℕ → ℕ → ℕ → Type 0
+AreCounts spacing overlap layer features pieces zones =
+    (c : Cut) × IsCut spacing overlap (Covers layer) c × (features ≡ length c.features) × (pieces ≡ length c.pieces) × (zones ≡ length c.zones)
 
-abbrev pub ShowsCounts : ℕ → ℕ → List Rect → Verdict → Type 0
-ShowsCounts rule overlap layer v = (f p z : ℕ) × AreCounts rule overlap layer f p z × (v ≡ Counts f p z)
+abbrev pub ShowsCounts : Spacing → ℕ → List Rect → Verdict → Type 0
+ShowsCounts spacing overlap layer v = (f p z : ℕ) × AreCounts spacing overlap layer f p z × (v ≡ Counts f p z)

@@ -2,6 +2,7 @@
 #![tactic(auto)]
 
 ghost use Rattle.std.specs.Prelude.{◌≡◌, ℕ, List};
+ghost use Rattle.dpl_spec_split.specs.declared.Spacing.{Spacing};
 ghost use Rattle.dpl_spec_split.specs.declared.Rect.{Rect};
 ghost use Rattle.dpl_cert.specs.declared.cert.Cert.{Cert};
 ghost use Rattle.dpl_spec_verdict.specs.declared.Verdict.{Verdict};
@@ -40,7 +41,7 @@ pub enum Verdict {
     Overlap {
         at: Pt,
     },
-    /// The least pair of squares of different features on mask A that are closer than the rule.
+    /// The least pair of squares of different features on mask A that are near.
     SpacingA {
         first: Pt,
         second: Pt,
@@ -66,12 +67,12 @@ pub enum Verdict {
 
 /// Masks and their certificate have at most one verdict.
 pub fn one_verdict_of_masks()
-    ensures { (rule overlap : ℕ) (layer a b : List Rect) (cert : Cert) (v w : Verdict)
-        → IsVerdictOfMasks rule overlap layer a b cert v → IsVerdictOfMasks rule overlap layer a b cert w → v ≡ w }
+    ensures { (spacing : Spacing) (overlap : ℕ) (layer a b : List Rect) (cert : Cert) (v w : Verdict)
+        → IsVerdictOfMasks spacing overlap layer a b cert v → IsVerdictOfMasks spacing overlap layer a b cert w → v ≡ w }
 {}
 
 /// A certificate of a conflict has at most one verdict.
 pub fn one_verdict_of_conflict()
-    ensures { (rule overlap : ℕ) (layer : List Rect) (cert : Cert) (v w : Verdict)
-        → IsVerdictOfConflict rule overlap layer cert v → IsVerdictOfConflict rule overlap layer cert w → v ≡ w }
+    ensures { (spacing : Spacing) (overlap : ℕ) (layer : List Rect) (cert : Cert) (v w : Verdict)
+        → IsVerdictOfConflict spacing overlap layer cert v → IsVerdictOfConflict spacing overlap layer cert w → v ≡ w }
 {}

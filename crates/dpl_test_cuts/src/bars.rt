@@ -2,9 +2,15 @@
 ghost use Rattle.std.specs.Prelude.{◌≤◌, ◌<ℤ◌, IsTrue, unsigned_abs};
 ghost use Rattle.dpl_spec_split.specs.Loops.{farthest};
 
-use dpl_base::{FARTHEST, Rect};
+use dpl_base::{FARTHEST, Rect, Spacing};
 use dpl_slabs::Slabs;
 use std::alloc::{AllocError, Global};
+
+/// How far apart the worked layouts stay, but where a test says another spacing.
+pub const SPACING: Spacing = Spacing {
+    rule: 30,
+    corner: 30,
+};
 
 /// The corners of a rectangle: left, low, right, high.
 pub type Corners = (i32, i32, i32, i32);

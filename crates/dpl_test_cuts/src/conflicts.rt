@@ -1,7 +1,7 @@
 //! Worked layouts of one bar or square to a piece, by a rule of 30.
 ghost use Rattle.std.specs.Prelude.{◌<◌, length};
 
-use crate::bars::{Corners, set_of};
+use crate::bars::{Corners, SPACING, set_of};
 use dpl_base::{Edge, Id, WideRect};
 use dpl_edges::{all_edges, edges_of};
 use dpl_feature::features;
@@ -54,7 +54,7 @@ fn conflicts(
     if pieces.items().len() != owner.len() {
         return Ok(None);
     }
-    let plan = plan(alloc, &pieces, owner, 30, 16)?;
+    let plan = plan(alloc, &pieces, owner, SPACING, 16)?;
     Ok(Some(all_edges(alloc, &plan)?))
 }
 
@@ -106,7 +106,7 @@ fn tiles_find_their_conflicts(rt: HostRuntime) -> Result<(), Fail> {
     let set = set_of(rt.alloc(), &[(0, 0, 10, 10), (28, 33, 38, 43)])?;
     let pieces = features(rt.alloc(), &set)?;
     assert!(rt; pieces.items().len() == 2);
-    let plan = plan(rt.alloc(), &pieces, &[0, 1], 30, 1)?;
+    let plan = plan(rt.alloc(), &pieces, &[0, 1], SPACING, 1)?;
     assert!(rt; plan.tiles() == 200);
     for tile in 0..plan.tiles() {
         assert!(rt; finds_its_own(rt.alloc(), &plan, tile)?);

@@ -6,6 +6,8 @@ mod bars;
 #[cfg(test)]
 mod conflicts;
 #[cfg(test)]
+mod corners;
+#[cfg(test)]
 mod pieces;
 #[cfg(test)]
 mod sets;

@@ -1,5 +1,5 @@
 //! Layers with their zones, the pieces that these leave, and the masks of coloured pieces.
-use crate::bars::{Corners, are, set_of};
+use crate::bars::{Corners, SPACING, are, set_of};
 use dpl_base::{Id, Pt};
 use dpl_feature::features;
 use dpl_masks::{Masks, masks};
@@ -34,7 +34,7 @@ const RING: [Corners; 4] = [
 fn cut(alloc: Global, layer: &[Corners]) -> Result<Pieces, AllocError> {
     let layer = set_of(alloc, layer)?;
     let features = features(alloc, &layer)?;
-    let zones = zones(alloc, &features, 30, 10)?;
+    let zones = zones(alloc, &features, SPACING, 10)?;
     pieces(alloc, features, zones)
 }
 

@@ -1,5 +1,5 @@
 //! Worked layouts of one bar or square to a piece, and their tiles.
-use crate::bars::{Corners, set_of};
+use crate::bars::{Corners, SPACING, set_of};
 use dpl_base::Id;
 use dpl_feature::features;
 use dpl_tile::{Plan, plan};
@@ -47,7 +47,7 @@ fn laid(
     if pieces.items().len() != owner.len() || tile < 1 {
         return Ok(None);
     }
-    let plan = plan(alloc, &pieces, owner, 30, tile)?;
+    let plan = plan(alloc, &pieces, owner, SPACING, tile)?;
     Ok(Some((plan.tiles(), last_cell(&plan))))
 }
 

@@ -1,5 +1,5 @@
 //! Worked layouts, by a rule of 30 and an overlap of 10.
-use crate::bars::{Corners, set_of};
+use crate::bars::{Corners, SPACING, set_of};
 use dpl_base::{FARTHEST, Zone};
 use dpl_feature::features;
 use dpl_zone::zones;
@@ -83,7 +83,7 @@ fn corners_of(z: &Zone) -> (Corners, u64) {
 }
 
 /// Whether the zones are these, one after the other.
-fn are_zones(found: &[Zone], want: &[(Corners, u64)]) -> bool {
+pub fn are_zones(found: &[Zone], want: &[(Corners, u64)]) -> bool {
     for (z, w) in found.iter().zip(want) {
         if corners_of(z) != *w {
             return false;
@@ -100,7 +100,7 @@ fn has_zones(
 ) -> Result<bool, AllocError> {
     let set = set_of(alloc, rects)?;
     let parts = features(alloc, &set)?;
-    let found = zones(alloc, &parts, 30, 10)?;
+    let found = zones(alloc, &parts, SPACING, 10)?;
     Ok(are_zones(found.as_slice(), want))
 }
 

@@ -2,6 +2,7 @@
 use Rattle.std.specs.Prelude.{◌≡◌, ◌↔◌, ℕ, ◌+◌, ◌*◌, ◌^◌, ◌<◌, ◌≤◌, ◌≤ℤ◌, ◌-ℤ◌, pos, unsigned_abs, List, length, map}
 use Rattle.std.specs.List.{All, AllPairs, Contains}
 use Rattle.dpl_spec_split.specs.declared.Rect.{Rect}
+use Rattle.dpl_spec_split.specs.declared.Spacing.{Spacing}
 use Rattle.dpl_spec_split.specs.Loops.{farthest}
 use Rattle.dpl_spec_split.specs.Graphs.{Precedes}
 use Rattle.dpl_spec_split.specs.Squares.{IsSolidWithin}
@@ -79,9 +80,10 @@ pub record AreLaid (parts : List (List Rect)) (tile : ℕ) (g : Grid) (places : 
   pub close : All (IsClose g) places
   pub tiles : AreTiles parts tile (map (cell_at g) places)
 
-pub record IsKept (parts : List (List Rect)) (owners : List ℕ) (tree : List Item) (grid : Grid) (places : List (ℕ × ℕ)) : Type 0 where
+pub record IsKept (parts : List (List Rect)) (owners : List ℕ) (spacing : Spacing) (tree : List Item) (grid : Grid) (places : List (ℕ × ℕ)) : Type 0 where
   pub owned : length owners ≡ length parts
   pub parted : AreParts parts
+  pub corner : spacing.corner ≤ spacing.rule
   pub items : AreItemsOf parts tree
   pub few : length places < 2 ^ 32
   pub sound : IsSound grid

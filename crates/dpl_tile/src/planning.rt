@@ -4,29 +4,30 @@ ghost use Rattle.dpl_tile.specs.Plans.{IsPlan};
 
 use crate::laying::lay;
 use crate::plans::Plan;
-use dpl_base::Id;
+use dpl_base::{Id, Spacing};
 use dpl_slabs::Parts;
 use dpl_tree::Tree;
 use std::alloc::{AllocError, Global};
 
-/// The tiles of the pieces of a layer, one owner to each piece. The rule and the tile, which is at least 1, are in database units. The grid begins at the least column and the least row of all pieces; a tile's side is `tile`, doubled until there are at most 16,777,216 pairs of a piece's slab and a cell that it meets, or one cell has all; a cell with no square is no tile. Fails only out of memory.
+/// The tiles of the pieces of a layer, one owner to each piece. The spacing and the tile, which is at least 1, are in database units. The grid begins at the least column and the least row of all pieces; a tile's side is `tile`, doubled until there are at most 16,777,216 pairs of a piece's slab and a cell that it meets, or one cell has all; a cell with no square is no tile. Fails only out of memory.
 pub fn plan<'a>(
     alloc: Global,
     parts: &'a Parts,
     owner: &'a [Id],
-    rule: u32,
+    spacing: Spacing,
     tile: u32,
 ) -> Result<Plan<'a>, AllocError>
+    requires corner { spacing.corner ≤ spacing.rule }
     requires owners { length owner.now ≡ length parts.now }
     requires tile { 1 ≤ tile }
-    ensures { IfOk result (λ p. IsPlan parts.now owner.now rule tile p) }
+    ensures { IfOk result (λ p. IsPlan parts.now owner.now spacing tile p) }
 {
     let laid = lay(alloc, parts.items(), tile)?;
     let tree = Tree::of_parts(alloc, parts.items())?;
     Ok(Plan {
         parts,
         owners: owner,
-        rule,
+        spacing,
         tree,
         grid: laid.grid,
         places: laid.places,

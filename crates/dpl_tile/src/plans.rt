@@ -1,21 +1,21 @@
 //! A plan of tiles.
-ghost use Rattle.std.specs.Prelude.{◌≡◌, ◌<◌, length, slice_get, Some};
+ghost use Rattle.std.specs.Prelude.{◌≡◌, ◌<◌, ◌≤◌, length, slice_get, Some};
 ghost use Rattle.dpl_spec_split.specs.Slabs.{IsSolid};
 ghost use Rattle.dpl_slabs.specs.Parts.{AreParts};
 ghost use Rattle.dpl_tree.specs.Trees.{AreItemsOf};
 
 use crate::grid::{Grid, Place};
-use dpl_base::{Id, WideRect};
+use dpl_base::{Id, Spacing, WideRect};
 use dpl_slabs::Parts;
 use dpl_tree::Tree;
 use std::marker::Model;
 
-/// The pieces of a layer, their owners and a rule, cut into tiles. A contract sees the pieces' slabs, their owners, the rule and the tiles' cells.
+/// The pieces of a layer, their owners and a spacing, cut into tiles. A contract sees the pieces' slabs, their owners, the spacing and the tiles' cells.
 #[derive(Drop)]
 pub struct Plan<'a> {
     pub(crate) parts: &'a Parts,
     pub(crate) owners: &'a [Id],
-    pub(crate) rule: u32,
+    pub(crate) spacing: Spacing,
     pub(crate) tree: Tree,
     pub(crate) grid: Grid,
     pub(crate) places: Vec<Place>,
@@ -30,9 +30,9 @@ impl<'a> Model for Plan<'a> {
 
     ghost Value = { Planned };
 
-    ghost view = { λ p. record { parts = p.parts.now; owners = p.owners.now; rule = p.rule; cells = map (cell_at p.grid) p.places.items } };
+    ghost view = { λ p. record { parts = p.parts.now; owners = p.owners.now; spacing = p.spacing; cells = map (cell_at p.grid) p.places.items } };
 
-    ghost invariant = { λ p. IsKept p.parts.now p.owners.now p.tree p.grid p.places.items };
+    ghost invariant = { λ p. IsKept p.parts.now p.owners.now p.spacing p.tree p.grid p.places.items };
 }
 
 impl<'a> Plan<'a> {
@@ -67,11 +67,12 @@ impl<'a> Plan<'a> {
         self.owners
     }
 
-    /// The rule, in database units.
-    pub fn rule(&self) -> u32
-        ensures { result ≡ self.now.rule }
+    /// How far apart pieces of different owners stay, in database units.
+    pub fn spacing(&self) -> Spacing
+        ensures value { result ≡ self.now.spacing }
+        ensures corner { self.now.spacing.corner ≤ self.now.spacing.rule }
     {
-        self.rule
+        self.spacing
     }
 
     /// The search tree over the slabs of all pieces.

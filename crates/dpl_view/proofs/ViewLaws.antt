@@ -2,6 +2,7 @@
 use Rattle.std.proofs.Common.{◌≡◌, ◌+◌, ◌<◌, ℕ, List, [], ◌∷◌, ◌++◌, take, length, get_or, sym, refl, ap, subst, ◌∙◌, arith}
 use Rattle.std.specs.List.{All, AllZip, Contains}
 use Rattle.std.proofs.lemmas.List.{take_more}
+use Rattle.dpl_spec_split.specs.declared.Spacing.{Spacing}
 use Rattle.dpl_spec_split.specs.Graphs.{Graph, AreEdges, IsOddCycle, graph_of}
 use Rattle.dpl_spec_split.specs.Summary.{HasOddCycle}
 use Rattle.dpl_spec_split.specs.Decomposition.{Cut, conflicts}
@@ -60,29 +61,29 @@ no_cycles g none = record {
   reported = λ k l. absurd (omega (arith, l));
 }
 
-pub even_clashes : (rule overlap : ℕ) (cut : Cut) (joined : Joined) → SumsGraph (conflicts rule cut) joined → IsEvenBelow (length cut.pieces) joined
-    → (found : List Clash) → found ≡ [] → AreClashes rule overlap cut found
-even_clashes rule overlap cut joined (edges, are, sums) even found empty =
-    let same = same_conflicts rule cut edges are in
-    let none : ¬ HasOddCycle (conflicts rule cut) = λ odd. not_odd (length cut.pieces) edges joined even sums
-    (odd_same (conflicts rule cut) (graph_of edges) (same_back (graph_of edges) (conflicts rule cut) same) odd) in
-    subst (λ xs. AreClashes rule overlap cut xs) (sym empty) (record {
+pub even_clashes : (spacing : Spacing) (overlap : ℕ) (cut : Cut) (joined : Joined) → SumsGraph (conflicts spacing cut) joined → IsEvenBelow (length cut.pieces) joined
+    → (found : List Clash) → found ≡ [] → AreClashes spacing overlap cut found
+even_clashes spacing overlap cut joined (edges, are, sums) even found empty =
+    let same = same_conflicts spacing cut edges are in
+    let none : ¬ HasOddCycle (conflicts spacing cut) = λ odd. not_odd (length cut.pieces) edges joined even sums
+    (odd_same (conflicts spacing cut) (graph_of edges) (same_back (graph_of edges) (conflicts spacing cut) same) odd) in
+    subst (λ xs. AreClashes spacing overlap cut xs) (sym empty) (record {
       cycles = [];
-      all = no_cycles (conflicts rule cut) none;
+      all = no_cycles (conflicts spacing cut) none;
       odd = λ k d l. absurd (omega (arith, l));
       told = tt;
     })
 
-pub odd_each : (rule : ℕ) (cut : Cut) (edges : List (ℕ × ℕ)) (cycles : List (List ℕ)) → AreEdges (conflicts rule cut) edges → All (IsOddCycle (graph_of edges)) cycles
-    → All (IsOddCycle (conflicts rule cut)) cycles
-odd_each rule cut edges cycles are odd k d l = cycle_same (graph_of edges) (conflicts rule cut) (same_conflicts rule cut edges are) (get_or cycles k d) (odd k d l)
+pub odd_each : (spacing : Spacing) (cut : Cut) (edges : List (ℕ × ℕ)) (cycles : List (List ℕ)) → AreEdges (conflicts spacing cut) edges → All (IsOddCycle (graph_of edges)) cycles
+    → All (IsOddCycle (conflicts spacing cut)) cycles
+odd_each spacing cut edges cycles are odd k d l = cycle_same (graph_of edges) (conflicts spacing cut) (same_conflicts spacing cut edges are) (get_or cycles k d) (odd k d l)
 
-pub odd_clashes : (rule overlap : ℕ) (cut : Cut) (edges : List (ℕ × ℕ)) (cycles : List (List ℕ)) (found : List Clash) → AreEdges (conflicts rule cut) edges
-    → AreOddCycles (graph_of edges) cycles → All (IsOddCycle (graph_of edges)) cycles → AllZip (IsToldOf rule overlap cut) cycles found → AreClashes rule overlap cut found
-odd_clashes rule overlap cut edges cycles found are all odd told = record {
+pub odd_clashes : (spacing : Spacing) (overlap : ℕ) (cut : Cut) (edges : List (ℕ × ℕ)) (cycles : List (List ℕ)) (found : List Clash) → AreEdges (conflicts spacing cut) edges
+    → AreOddCycles (graph_of edges) cycles → All (IsOddCycle (graph_of edges)) cycles → AllZip (IsToldOf spacing overlap cut) cycles found → AreClashes spacing overlap cut found
+odd_clashes spacing overlap cut edges cycles found are all odd told = record {
   cycles = cycles;
-  all = cycles_same (graph_of edges) (conflicts rule cut) (same_conflicts rule cut edges are) cycles all;
-  odd = odd_each rule cut edges cycles are odd;
+  all = cycles_same (graph_of edges) (conflicts spacing cut) (same_conflicts spacing cut edges are) cycles all;
+  odd = odd_each spacing cut edges cycles are odd;
   told = told;
 }
 
@@ -92,9 +93,9 @@ zip_push R [] (b ∷ ys) x y h r = absurd h
 zip_push R (a ∷ xs) [] x y h r = absurd h
 zip_push R (a ∷ xs) (b ∷ ys) x y h r = (h.0, zip_push R xs ys x y h.1 r)
 
-pub told_more : (rule overlap : ℕ) (cut : Cut) (cycles : List (List ℕ)) (i : ℕ) (found more : List Clash) (x : Clash) → i < length cycles
-    → more ≡ found ++ x ∷ [] → IsToldOf rule overlap cut (get_or cycles i []) x → AllZip (IsToldOf rule overlap cut) (take i cycles) found
-    → AllZip (IsToldOf rule overlap cut) (take (i + 1) cycles) more
-told_more rule overlap cut cycles i found more x l longer is told = subst (λ ys. AllZip (IsToldOf rule overlap cut) (take (i + 1) cycles) ys) (sym longer)
-    (subst (λ xs. AllZip (IsToldOf rule overlap cut) xs (found ++ x ∷ [])) (sym (take_more cycles i [] l))
-    (zip_push (IsToldOf rule overlap cut) (take i cycles) found (get_or cycles i []) x told is))
+pub told_more : (spacing : Spacing) (overlap : ℕ) (cut : Cut) (cycles : List (List ℕ)) (i : ℕ) (found more : List Clash) (x : Clash) → i < length cycles
+    → more ≡ found ++ x ∷ [] → IsToldOf spacing overlap cut (get_or cycles i []) x → AllZip (IsToldOf spacing overlap cut) (take i cycles) found
+    → AllZip (IsToldOf spacing overlap cut) (take (i + 1) cycles) more
+told_more spacing overlap cut cycles i found more x l longer is told = subst (λ ys. AllZip (IsToldOf spacing overlap cut) (take (i + 1) cycles) ys) (sym longer)
+    (subst (λ xs. AllZip (IsToldOf spacing overlap cut) xs (found ++ x ∷ [])) (sym (take_more cycles i [] l))
+    (zip_push (IsToldOf spacing overlap cut) (take i cycles) found (get_or cycles i []) x told is))

@@ -1,6 +1,7 @@
 -- The odd cycles of all components of a cut's conflict graph, with what is told of each.
 use Rattle.std.specs.Prelude.{◌≡◌, ℕ, List, map}
 use Rattle.std.specs.List.{All, AllZip}
+use Rattle.dpl_spec_split.specs.declared.Spacing.{Spacing}
 use Rattle.dpl_spec_split.specs.Graphs.{IsOddCycle}
 use Rattle.dpl_spec_split.specs.Decomposition.{Cut, conflicts}
 use Rattle.dpl_law_verdict.specs.Own.{head_of, place_line}
@@ -9,14 +10,14 @@ use Rattle.dpl_answer.specs.Flat.{AreNearest}
 use Rattle.dpl_answer.specs.declared.decomposed.Clash.{Clash}
 
 -- the pieces of a cycle with their least squares, and the least pair of near squares of each with the next one
-pub record IsToldOf (rule overlap : ℕ) (cut : Cut) (cycle : List ℕ) (x : Clash) : Type 0 where
-  pub head : x.head ≡ head_of rule overlap cut
+pub record IsToldOf (spacing : Spacing) (overlap : ℕ) (cut : Cut) (cycle : List ℕ) (x : Clash) : Type 0 where
+  pub head : x.head ≡ head_of spacing overlap cut
   pub places : x.cycle ≡ map (place_line cut.keys) cycle
-  pub nearest : AreNearest rule cut.pieces cycle x.near
+  pub nearest : AreNearest spacing cut.pieces cycle x.near
 
 -- for each component of the conflict graph with an odd cycle, in the order of their least pieces, the cycle that is reported of it
-pub record AreClashes (rule overlap : ℕ) (cut : Cut) (found : List Clash) : Type 0 where
+pub record AreClashes (spacing : Spacing) (overlap : ℕ) (cut : Cut) (found : List Clash) : Type 0 where
   pub cycles : List (List ℕ)
-  pub all : AreOddCycles (conflicts rule cut) cycles
-  pub odd : All (IsOddCycle (conflicts rule cut)) cycles
-  pub told : AllZip (IsToldOf rule overlap cut) cycles found
+  pub all : AreOddCycles (conflicts spacing cut) cycles
+  pub odd : All (IsOddCycle (conflicts spacing cut)) cycles
+  pub told : AllZip (IsToldOf spacing overlap cut) cycles found

@@ -1,7 +1,7 @@
 -- What is found in the bytes of a layout.
 use Rattle.std.specs.Prelude.{ℕ, List, [], ◌∷◌}
 use Rattle.dpl_spec_split.specs.declared.Rect.{Rect}
-use Rattle.dpl_spec_split.specs.Squares.{Covers}
+use Rattle.dpl_spec_split.specs.Squares.{Covers, uniform}
 use Rattle.dpl_spec_split.specs.Decomposition.{Cut, IsCut}
 use Rattle.dpl_cert.specs.Grammar.{IsRule}
 use Rattle.dpl_layer.specs.Reading.{Choice, Faulty, IsLayout, Layer}
@@ -25,7 +25,7 @@ pub record IsInRange (o : Order) : Type 0 where
 abbrev pub IsFinding : Choice → ℕ → ℕ → List ℕ → Finding → Type 0
 IsFinding v rule overlap bytes (Refused name at) = IsLayout v bytes (Faulty name at)
 IsFinding v rule overlap bytes (Cycles found) = (layer : List Rect) × IsLayout v bytes (Layer found.copied.items layer)
-    × (cut : Cut) × IsCut rule overlap (Covers layer) cut × AreClashes rule overlap cut found.clashes.items
+    × (cut : Cut) × IsCut (uniform rule) overlap (Covers layer) cut × AreClashes (uniform rule) overlap cut found.clashes.items
 
 abbrev pub status_of_clashes : List Clash → Status
 status_of_clashes [] = status.Done

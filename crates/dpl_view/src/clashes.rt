@@ -1,5 +1,5 @@
 //! The odd cycles of a cut layer, with what is told of each.
-ghost use Rattle.std.specs.Prelude.{IfOk, List, ℕ, length};
+ghost use Rattle.std.specs.Prelude.{◌≤◌, IfOk, List, ℕ, length};
 ghost use Rattle.std.specs.List.{AllZip, Contains};
 ghost use Rattle.dpl_spec_split.specs.declared.Pt.{Pt};
 ghost use Rattle.dpl_spec_split.specs.Graphs.{AreEdges, IsOddCycle};
@@ -11,32 +11,33 @@ ghost use Rattle.dpl_answer.specs.View.{AreConflictsOf};
 ghost use Rattle.dpl_view.specs.Clashes.{AreClashes, IsToldOf};
 
 use dpl_answer::{Clash, Conflicts, head, near_lines, place_lines};
-use dpl_base::{Edge, Id, Listed};
+use dpl_base::{Edge, Id, Listed, Spacing};
 use dpl_cut::{BareLayerCut, LayerCut};
 use dpl_odd::odd_cycles;
 use std::alloc::{AllocError, Global};
 
-/// For each component of the conflict graph with an odd cycle, in the order of their least pieces, the cycle that is reported of it, with the least pair of near squares of each of its pieces and the next one. The first is the one that `dpl split` reports; there is none exactly where it makes masks. The rule and the overlap are in database units.
+/// For each component of the conflict graph with an odd cycle, in the order of their least pieces, the cycle that is reported of it, with the least pair of near squares of each of its pieces and the next one. The first is the one that `dpl split` reports; there is none exactly where it makes masks. The spacing and the overlap are in database units.
 ///
 /// The error: out of memory.
 pub fn clashes_of(
     alloc: Global,
     cut: BareLayerCut,
     conflicts: &Conflicts,
-    rule: u32,
+    spacing: Spacing,
     overlap: u32,
 ) -> Result<Vec<Clash>, AllocError>
-    requires rule { IsRule rule }
+    requires corner { spacing.corner ≤ spacing.rule }
+    requires rule { IsRule spacing.rule }
     requires overlap { IsRule overlap }
     requires keys { HasPointKeys cut }
-    requires conflicts { AreConflictsOf rule cut.pieces.parts cut.pieces.owners conflicts.now }
-    ensures { IfOk result (λ found. OfCompleted cut (λ c. AreClashes rule overlap c found.items)) }
+    requires conflicts { AreConflictsOf spacing cut.pieces.parts cut.pieces.owners conflicts.now }
+    ensures { IfOk result (λ found. OfCompleted cut (λ c. AreClashes spacing overlap c found.items)) }
 {
     let cut = cut.completed(alloc)?;
     match conflicts {
         Conflicts::Even(_) => Ok(Vec::new(alloc)),
         Conflicts::Odd(edges) => {
-            let found = odd_clashes(alloc, &cut, edges.as_slice(), rule, overlap)?;
+            let found = odd_clashes(alloc, &cut, edges.as_slice(), spacing, overlap)?;
             Ok(found)
         }
     }
@@ -47,19 +48,20 @@ fn odd_clashes(
     alloc: Global,
     cut: &LayerCut,
     edges: &[Edge],
-    rule: u32,
+    spacing: Spacing,
     overlap: u32,
 ) -> Result<Vec<Clash>, AllocError>
-    requires rule { IsRule rule }
+    requires corner { spacing.corner ≤ spacing.rule }
+    requires rule { IsRule spacing.rule }
     requires overlap { IsRule overlap }
     requires keys { (p : Pt) → Contains cut.now.pieces.keys p → IsPoint p }
-    requires edges { AreEdges (Conflict rule cut.now.pieces.parts cut.now.pieces.owners) edges.now }
+    requires edges { AreEdges (Conflict spacing cut.now.pieces.parts cut.now.pieces.owners) edges.now }
     requires below { AreEdgesBelow (length cut.now.pieces.parts) edges.now }
-    ensures { IfOk result (λ found. OfAnyCut cut.now (λ c. AreClashes rule overlap c found.items)) }
+    ensures { IfOk result (λ found. OfAnyCut cut.now (λ c. AreClashes spacing overlap c found.items)) }
 {
     let count = cut.pieces.parts().items().len() as u64;
     let cycles = odd_cycles(alloc, count, edges)?;
-    let found = told(alloc, cut, &cycles, rule, overlap)?;
+    let found = told(alloc, cut, &cycles, spacing, overlap)?;
     Ok(found)
 }
 
@@ -68,18 +70,19 @@ fn told(
     alloc: Global,
     cut: &LayerCut,
     cycles: &[Listed<Id>],
-    rule: u32,
+    spacing: Spacing,
     overlap: u32,
 ) -> Result<Vec<Clash>, AllocError>
-    requires rule { IsRule rule }
+    requires corner { spacing.corner ≤ spacing.rule }
+    requires rule { IsRule spacing.rule }
     requires overlap { IsRule overlap }
     requires keys { (p : Pt) → Contains cut.now.pieces.keys p → IsPoint p }
-    requires odd { (c : List ℕ) → Contains cycles.now c → IsOddCycle (Conflict rule cut.now.pieces.parts cut.now.pieces.owners) c }
-    ensures { IfOk result (λ found. OfAnyCut cut.now (λ c. AllZip (IsToldOf rule overlap c) cycles.now found.items)) }
+    requires odd { (c : List ℕ) → Contains cycles.now c → IsOddCycle (Conflict spacing cut.now.pieces.parts cut.now.pieces.owners) c }
+    ensures { IfOk result (λ found. OfAnyCut cut.now (λ c. AllZip (IsToldOf spacing overlap c) cycles.now found.items)) }
 {
     let mut found = Vec::new(alloc);
     for cycle in cycles {
-        let clash = clash(alloc, cut, cycle.items(), rule, overlap)?;
+        let clash = clash(alloc, cut, cycle.items(), spacing, overlap)?;
         found.push(clash)?;
     }
     Ok(found)
@@ -90,19 +93,20 @@ fn clash(
     alloc: Global,
     cut: &LayerCut,
     cycle: &[Id],
-    rule: u32,
+    spacing: Spacing,
     overlap: u32,
 ) -> Result<Clash, AllocError>
-    requires rule { IsRule rule }
+    requires corner { spacing.corner ≤ spacing.rule }
+    requires rule { IsRule spacing.rule }
     requires overlap { IsRule overlap }
     requires keys { (p : Pt) → Contains cut.now.pieces.keys p → IsPoint p }
-    requires odd { IsOddCycle (Conflict rule cut.now.pieces.parts cut.now.pieces.owners) cycle.now }
-    ensures { IfOk result (λ x. OfAnyCut cut.now (λ c. IsToldOf rule overlap c cycle.now x)) }
+    requires odd { IsOddCycle (Conflict spacing cut.now.pieces.parts cut.now.pieces.owners) cycle.now }
+    ensures { IfOk result (λ x. OfAnyCut cut.now (λ c. IsToldOf spacing overlap c cycle.now x)) }
 {
     let places = place_lines(alloc, &cut.pieces, cycle)?;
-    let near = near_lines(alloc, &cut.pieces, cycle, rule)?;
+    let near = near_lines(alloc, &cut.pieces, cycle, spacing)?;
     Ok(Clash {
-        head: head(cut, rule, overlap),
+        head: head(cut, spacing, overlap),
         cycle: Listed::of(places),
         near: Listed::of(near),
     })

@@ -6,6 +6,7 @@ ghost use Rattle.dpl_view.specs.Findings.{IsFinding, IsInRange};
 
 use crate::clashes::clashes_of;
 use dpl_answer::{Clash, Sharing, conflicts_of};
+use dpl_base::Spacing;
 use dpl_cert::Name;
 use dpl_cut::cut_of;
 use dpl_layer::{Layer, LayerChoice, LayerFault, layer_of};
@@ -64,8 +65,9 @@ pub fn find<R: Threads + Wait + Sync, G: Gate + Sync>(
         Err(LayerFault::Refused { name, at }) => return Ok(Finding::Refused { name, at }),
         Err(LayerFault::NoMemory) => return Err(AllocError),
     };
-    let cut = cut_of(alloc, slabs, order.rule, order.overlap)?;
-    let conflicts = conflicts_of(rt, alloc, &cut, order.rule, order.sharing, gate)?;
-    let clashes = clashes_of(alloc, cut, &conflicts, order.rule, order.overlap)?;
+    let spacing = Spacing::uniform(order.rule);
+    let cut = cut_of(alloc, slabs, spacing, order.overlap)?;
+    let conflicts = conflicts_of(rt, alloc, &cut, spacing, order.sharing, gate)?;
+    let clashes = clashes_of(alloc, cut, &conflicts, spacing, order.overlap)?;
     Ok(Finding::Cycles(Cycles { copied, clashes }))
 }

@@ -5,6 +5,7 @@ use Rattle.std.specs.List.{AllPairs, Contains}
 use Rattle.std.proofs.lemmas.Bool.{cases_eq, cases_order}
 use Rattle.std.proofs.lemmas.List.{get_or_default}
 use Rattle.std.proofs.lemmas.List.Elements.{Contains-append_left, Contains-push, Contains-push_cases}
+use Rattle.dpl_spec_split.specs.declared.Spacing.{Spacing}
 use Rattle.dpl_spec_split.specs.declared.Pt.{Pt}
 use Rattle.dpl_spec_split.specs.declared.Rect.{Rect}
 use Rattle.dpl_spec_split.specs.declared.Zone.{Zone}
@@ -56,19 +57,19 @@ same_back a b s p = ((s p).1, (s p).0)
 same_self : (a : Region) → SameSquares a a
 same_self a p = (λ h. h, λ h. h)
 
-pub kept-as : (rule overlap : ℕ) (l m f : Region) → SameSquares l m → (z : Rect) → IsKeptZone rule overlap l f z → IsKeptZone rule overlap m f z
-kept-as rule overlap l m f same z (inl h) = inl (zone-as rule overlap l m f f same (same_self f) z h)
-kept-as rule overlap l m f same z (inr (v, free)) =
+pub kept-as : (spacing : Spacing) (overlap : ℕ) (l m f : Region) → SameSquares l m → (z : Rect) → IsKeptZone spacing overlap l f z → IsKeptZone spacing overlap m f z
+kept-as spacing overlap l m f same z (inl h) = inl (zone-as spacing overlap l m f f same (same_self f) z h)
+kept-as spacing overlap l m f same z (inr (v, free)) =
     inr (
-      zone-as rule overlap (transposed l) (transposed m) (transposed f) (transposed f) (λ p. same (at p.y p.x)) (same_self (transposed f)) _ v,
-      λ g zone touch. free g (zone-as rule overlap m l f f (same_back l m same) (same_self f) g zone) touch,
+      zone-as spacing overlap (transposed l) (transposed m) (transposed f) (transposed f) (λ p. same (at p.y p.x)) (same_self (transposed f)) _ v,
+      λ g zone touch. free g (zone-as spacing overlap m l f f (same_back l m same) (same_self f) g zone) touch,
     )
 
-pub kept-union : (rule overlap : ℕ) (parts : List (List Rect)) (k : ℕ) (others : List Rect) → k < length parts → AreOthers parts k (length parts) others → (z : Rect)
-    → IsKeptZone rule overlap (layer_of (get_or parts k []) others) (Covers (get_or parts k [])) z ↔ IsKeptZone rule overlap (union_of parts) (part_at parts k) z
-kept-union rule overlap parts k others k_in h z = (
-  kept-as rule overlap (layer_of (get_or parts k []) others) (union_of parts) (Covers (get_or parts k [])) (layer-is_union parts k others k_in h) z,
-  kept-as rule overlap (union_of parts) (layer_of (get_or parts k []) others) (Covers (get_or parts k []))
+pub kept-union : (spacing : Spacing) (overlap : ℕ) (parts : List (List Rect)) (k : ℕ) (others : List Rect) → k < length parts → AreOthers parts k (length parts) others → (z : Rect)
+    → IsKeptZone spacing overlap (layer_of (get_or parts k []) others) (Covers (get_or parts k [])) z ↔ IsKeptZone spacing overlap (union_of parts) (part_at parts k) z
+kept-union spacing overlap parts k others k_in h z = (
+  kept-as spacing overlap (layer_of (get_or parts k []) others) (union_of parts) (Covers (get_or parts k [])) (layer-is_union parts k others k_in h) z,
+  kept-as spacing overlap (union_of parts) (layer_of (get_or parts k []) others) (Covers (get_or parts k []))
       (same_back (layer_of (get_or parts k []) others) (union_of parts) (layer-is_union parts k others k_in h)) z,
 )
 
@@ -95,32 +96,32 @@ first-more zs i k new base old i_in is number h z = (
   ],
 )
 
-pub feature-all : (rule overlap : ℕ) (parts : List (List Rect)) (k : ℕ) (others zs : List Rect) (n : ℕ) (base new : List Zone)
+pub feature-all : (spacing : Spacing) (overlap : ℕ) (parts : List (List Rect)) (k : ℕ) (others zs : List Rect) (n : ℕ) (base new : List Zone)
     → k < length parts → AreOthers parts k (length parts) others → length zs ≤ n
-    → ((z : Rect) → Contains zs z ↔ IsKeptZone rule overlap (layer_of (get_or parts k []) others) (Covers (get_or parts k [])) z)
+    → ((z : Rect) → Contains zs z ↔ IsKeptZone spacing overlap (layer_of (get_or parts k []) others) (Covers (get_or parts k [])) z)
     → ((z : Zone) → Contains new z ↔ (Contains base z ⊎ ((z.feature ≡ k) × FirstOf zs n z.rect)))
-    → (z : Zone) → Contains new z ↔ (Contains base z ⊎ ((z.feature ≡ k) × IsPartZone rule overlap parts z))
-feature-all rule overlap parts k others zs n base new k_in h all kept found z = (
+    → (z : Zone) → Contains new z ↔ (Contains base z ⊎ ((z.feature ≡ k) × IsPartZone spacing overlap parts z))
+feature-all spacing overlap parts k others zs n base new k_in h all kept found z = (
   λ a. elim ((found z).0 a) [
     | inl b ↦ inl b
     | inr (e, (j, l, j_in, j_is)) ↦ inr (
       e,
-      subst (λ m. IsKeptZone rule overlap (union_of parts) (part_at parts m) z.rect) (sym e)
-          ((kept-union rule overlap parts k others k_in h z.rect).0 ((kept z.rect).0 (j, j_in, j_is))),
+      subst (λ m. IsKeptZone spacing overlap (union_of parts) (part_at parts m) z.rect) (sym e)
+          ((kept-union spacing overlap parts k others k_in h z.rect).0 ((kept z.rect).0 (j, j_in, j_is))),
     )
   ],
   λ a. elim a [
     | inl b ↦ (found z).1 (inl b)
-    | inr (e, zone) ↦ (let (j, j_in, j_is) = (kept z.rect).1 ((kept-union rule overlap parts k others k_in h z.rect).1
-        (subst (λ m. IsKeptZone rule overlap (union_of parts) (part_at parts m) z.rect) e zone)) in
+    | inr (e, zone) ↦ (let (j, j_in, j_is) = (kept z.rect).1 ((kept-union spacing overlap parts k others k_in h z.rect).1
+        (subst (λ m. IsKeptZone spacing overlap (union_of parts) (part_at parts m) z.rect) e zone)) in
         (found z).1 (inr (e, (j, omega (arith, all, j_in), j_in, j_is))))
   ],
 )
 
-pub found-more : (rule overlap : ℕ) (parts : List (List Rect)) (k : ℕ) (old new : List Zone) → ((z : Zone) → Contains old z ↔ ((z.feature < k) × IsPartZone rule overlap parts z))
-    → ((z : Zone) → Contains new z ↔ (Contains old z ⊎ ((z.feature ≡ k) × IsPartZone rule overlap parts z)))
-    → (z : Zone) → Contains new z ↔ ((z.feature < k + 1) × IsPartZone rule overlap parts z)
-found-more rule overlap parts k old new before step z = (
+pub found-more : (spacing : Spacing) (overlap : ℕ) (parts : List (List Rect)) (k : ℕ) (old new : List Zone) → ((z : Zone) → Contains old z ↔ ((z.feature < k) × IsPartZone spacing overlap parts z))
+    → ((z : Zone) → Contains new z ↔ (Contains old z ⊎ ((z.feature ≡ k) × IsPartZone spacing overlap parts z)))
+    → (z : Zone) → Contains new z ↔ ((z.feature < k + 1) × IsPartZone spacing overlap parts z)
+found-more spacing overlap parts k old new before step z = (
   λ a. elim ((step z).0 a) [
     | inl b ↦ (let (l, zone) = (before z).0 b in (omega (arith, l), zone))
     | inr (e, zone) ↦ (omega (arith, e), zone)

@@ -6,6 +6,7 @@ use Rattle.std.proofs.lemmas.Int.{ints}
 use Rattle.std.proofs.lemmas.Bool.{cases_eq}
 use Rattle.std.proofs.lemmas.List.{get_or_default}
 use Rattle.std.proofs.lemmas.List.Elements.{Contains-append_left, Contains-push, Contains-push_cases}
+use Rattle.dpl_spec_split.specs.declared.Spacing.{Spacing}
 use Rattle.dpl_spec_split.specs.declared.Rect.{Rect}
 use Rattle.dpl_spec_split.specs.Loops.{farthest}
 use Rattle.dpl_spec_split.specs.Squares.{Region, AreTouching, Has, Covers, IsSolidWithin}
@@ -22,8 +23,8 @@ pub record IsInside (f : Region) (z : Rect) : Type 0 where
   pub first : f (at z.x0 z.y0)
   pub last : f (at (z.x1 -ℤ pos 1) (z.y1 -ℤ pos 1))
 
-pub zone-inside : (rule overlap : ℕ) (l f : Region) (z : Rect) → 1 ≤ overlap → IsHorizontalZone rule overlap l f z → IsInside f z
-zone-inside rule overlap l f z some h =
+pub zone-inside : (spacing : Spacing) (overlap : ℕ) (l f : Region) (z : Rect) → 1 ≤ overlap → IsHorizontalZone spacing overlap l f z → IsInside f z
+zone-inside spacing overlap l f z some h =
     let r : Rect = h.stretch in
     let st = h.is in
     let m = h.middle in
@@ -76,19 +77,19 @@ inside-within rects z within h =
       high = omega (arith, ints, t2, t3, q2, q3);
     }
 
-pub upright-inside : (rule overlap : ℕ) (l f : Region) (z : Rect) → 1 ≤ overlap → IsVerticalZone rule overlap l f z → IsInside f z
-upright-inside rule overlap l f z some h =
-    let i = zone-inside rule overlap (transposed l) (transposed f) (transposed_rect z) some h in
+pub upright-inside : (spacing : Spacing) (overlap : ℕ) (l f : Region) (z : Rect) → 1 ≤ overlap → IsVerticalZone spacing overlap l f z → IsInside f z
+upright-inside spacing overlap l f z some h =
+    let i = zone-inside spacing overlap (transposed l) (transposed f) (transposed_rect z) some h in
     record { wide = i.tall; tall = i.wide; first = i.first; last = i.last }
 
-module _ (rule overlap : ℕ) (rects others : List Rect) (some : 1 ≤ overlap) (within : AreWithin rects) where
-  pub flat-within : (zs : List Rect) → ((z : Rect) → Contains zs z ↔ IsHorizontalZone rule overlap (layer_of rects others) (Covers rects) z) → AreWithin zs
+module _ (spacing : Spacing) (overlap : ℕ) (rects others : List Rect) (some : 1 ≤ overlap) (within : AreWithin rects) where
+  pub flat-within : (zs : List Rect) → ((z : Rect) → Contains zs z ↔ IsHorizontalZone spacing overlap (layer_of rects others) (Covers rects) z) → AreWithin zs
   flat-within zs h k d l = inside-within rects (get_or zs k d) within
-      (zone-inside rule overlap (layer_of rects others) (Covers rects) (get_or zs k d) some ((h (get_or zs k d)).0 (k, l, get_or_default zs k (get_or zs k d) d l)))
+      (zone-inside spacing overlap (layer_of rects others) (Covers rects) (get_or zs k d) some ((h (get_or zs k d)).0 (k, l, get_or_default zs k (get_or zs k d) d l)))
 
-  pub upright-within : (zs : List Rect) → ((z : Rect) → Contains zs z ↔ IsVerticalZone rule overlap (layer_of rects others) (Covers rects) z) → AreWithin zs
+  pub upright-within : (zs : List Rect) → ((z : Rect) → Contains zs z ↔ IsVerticalZone spacing overlap (layer_of rects others) (Covers rects) z) → AreWithin zs
   upright-within zs h k d l = inside-within rects (get_or zs k d) within
-      (upright-inside rule overlap (layer_of rects others) (Covers rects) (get_or zs k d) some ((h (get_or zs k d)).0 (k, l, get_or_default zs k (get_or zs k d) d l)))
+      (upright-inside spacing overlap (layer_of rects others) (Covers rects) (get_or zs k d) some ((h (get_or zs k d)).0 (k, l, get_or_default zs k (get_or zs k d) d l)))
 
 abbrev pub KeptOf : List Rect → List Rect → ℕ → Rect → Type 0
 KeptOf flat zs n w = (k : ℕ) × (k < n) × (k < length zs) × (get_or zs k w ≡ w) × (TouchesAny flat w → ⊥)
@@ -168,10 +169,10 @@ joined-all flat zs kept n all h w = (
   λ a. (h w).1 (elim a [ inl b ↦ inl b | inr ((k, k_in, k_is), free) ↦ inr (k, omega (arith, all, k_in), k_in, k_is, free) ]),
 )
 
-pub kept-all : (rule overlap : ℕ) (l f : Region) (flat zs kept : List Rect)
-    → ((z : Rect) → Contains flat z ↔ IsHorizontalZone rule overlap l f z) → ((z : Rect) → Contains zs z ↔ IsVerticalZone rule overlap l f z)
-    → ((w : Rect) → Contains kept w ↔ (Contains flat w ⊎ (Contains zs w × (TouchesAny flat w → ⊥)))) → (z : Rect) → Contains kept z ↔ IsKeptZone rule overlap l f z
-kept-all rule overlap l f flat zs kept is_flat is_upright h z = (
+pub kept-all : (spacing : Spacing) (overlap : ℕ) (l f : Region) (flat zs kept : List Rect)
+    → ((z : Rect) → Contains flat z ↔ IsHorizontalZone spacing overlap l f z) → ((z : Rect) → Contains zs z ↔ IsVerticalZone spacing overlap l f z)
+    → ((w : Rect) → Contains kept w ↔ (Contains flat w ⊎ (Contains zs w × (TouchesAny flat w → ⊥)))) → (z : Rect) → Contains kept z ↔ IsKeptZone spacing overlap l f z
+kept-all spacing overlap l f flat zs kept is_flat is_upright h z = (
   λ a. elim ((h z).0 a) [
     | inl b ↦ inl ((is_flat z).0 b)
     | inr (b, free) ↦ inr ((is_upright z).0 b, λ g zone touch. (let (i, i_in, i_is) = (is_flat g).1 zone in free (i, g, i_in, i_is, touch)))
@@ -183,8 +184,8 @@ kept-all rule overlap l f flat zs kept is_flat is_upright h z = (
 )
 
 -- the same horizontal zones beside the same others
-pub flat-as : (rule overlap : ℕ) (rects xs others flat : List Rect) → xs ≡ others
-    → ((z : Rect) → Contains flat z ↔ IsHorizontalZone rule overlap (layer_of rects xs) (Covers rects) z)
-    → (z : Rect) → Contains flat z ↔ IsHorizontalZone rule overlap (layer_of rects others) (Covers rects) z
-flat-as rule overlap rects xs others flat e h = subst (λ t. let s : List Rect = t in
-    (z : Rect) → Contains flat z ↔ IsHorizontalZone rule overlap (layer_of rects s) (Covers rects) z) e h
+pub flat-as : (spacing : Spacing) (overlap : ℕ) (rects xs others flat : List Rect) → xs ≡ others
+    → ((z : Rect) → Contains flat z ↔ IsHorizontalZone spacing overlap (layer_of rects xs) (Covers rects) z)
+    → (z : Rect) → Contains flat z ↔ IsHorizontalZone spacing overlap (layer_of rects others) (Covers rects) z
+flat-as spacing overlap rects xs others flat e h = subst (λ t. let s : List Rect = t in
+    (z : Rect) → Contains flat z ↔ IsHorizontalZone spacing overlap (layer_of rects s) (Covers rects) z) e h

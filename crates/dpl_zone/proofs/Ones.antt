@@ -1,9 +1,10 @@
 -- A feature of one slab.
-use Rattle.std.proofs.Common.{◌≡◌, ℕ, ◌+◌, ◌<◌, inl, inr, List, [], ◌∷◌, length, get_or, map, sym, refl, ap, ◌∙◌, subst, arith}
+use Rattle.std.proofs.Common.{◌≤◌, ◌≡◌, ℕ, ◌+◌, ◌<◌, inl, inr, List, [], ◌∷◌, length, get_or, map, sym, refl, ap, ◌∙◌, subst, arith}
 use Rattle.std.specs.Prelude.{ℤ, pos, ◌+ℤ◌, ◌-ℤ◌, ◌≤ℤ◌, ◌<ℤ◌, ◌↔◌}
 use Rattle.std.specs.List.{Contains}
 use Rattle.std.proofs.lemmas.Int.{ints}
 use Rattle.std.proofs.lemmas.List.{get_or-map, get_or_default, length-map}
+use Rattle.dpl_spec_split.specs.declared.Spacing.{Spacing}
 use Rattle.dpl_spec_split.specs.declared.Pt.{Pt}
 use Rattle.dpl_spec_split.specs.declared.Rect.{Rect}
 use Rattle.dpl_spec_split.specs.Squares.{Covers, Has, SameSquares}
@@ -27,16 +28,16 @@ use Rattle.dpl_zone.proofs.Zoning.{added-to_none, short-none}
 abbrev pub zero_rect : Rect
 zero_rect = record { x0 = pos 0; y0 = pos 0; x1 = pos 0; y1 = pos 0 }
 
-abbrev pub OfSlab : ℕ → ℕ → List Rect → List Rect → Rect → List Rect → Type 0
-OfSlab rule overlap own others s zs = (z : Rect) → Contains zs z ↔ IsSlabZone rule overlap own others s z
+abbrev pub OfSlab : Spacing → ℕ → List Rect → List Rect → Rect → List Rect → Type 0
+OfSlab spacing overlap own others s zs = (z : Rect) → Contains zs z ↔ IsSlabZone spacing overlap own others s z
 
-short-of : (rule overlap : ℕ) (own others : List Rect) (s : Rect) (zs : List Rect) → zs ≡ [] → s.y1 <ℤ (s.y0 +ℤ pos (overlap + 2)) → OfSlab rule overlap own others s zs
-short-of rule overlap own others s zs none short = added-to_none (IsSlabZone rule overlap own others s) zs zs none (short-none rule overlap own others s zs short)
+short-of : (spacing : Spacing) (overlap : ℕ) (own others : List Rect) (s : Rect) (zs : List Rect) → zs ≡ [] → s.y1 <ℤ (s.y0 +ℤ pos (overlap + 2)) → OfSlab spacing overlap own others s zs
+short-of spacing overlap own others s zs none short = added-to_none (IsSlabZone spacing overlap own others s) zs zs none (short-none spacing overlap own others s zs short)
 
 -- a slab that is the whole feature goes on beyond no span that ends where the slab does
-unlit-none : (rule overlap : ℕ) (own others : List Rect) (s z : Rect) → AllIn own s
-    → ((y : ℤ) → s.y0 ≤ℤ y → y <ℤ s.y1 → IsDark rule others s y → ⊥) → IsSlabZone rule overlap own others s z → ⊥
-unlit-none rule overlap own others s z all light h =
+unlit-none : (spacing : Spacing) (overlap : ℕ) (own others : List Rect) (s z : Rect) → AllIn own s
+    → ((y : ℤ) → s.y0 ≤ℤ y → y <ℤ s.y1 → IsDark spacing others s y → ⊥) → IsSlabZone spacing overlap own others s z → ⊥
+unlit-none spacing overlap own others s z all light h =
     let g : Span = h.g in
     let some = h.lit.some in
     let to = h.lit.to in
@@ -45,17 +46,17 @@ unlit-none rule overlap own others s z all light h =
       | inr b ↦ nothing-outside own s (s.y0 -ℤ pos 1) (inl (omega (arith, ints))) all b
     ]
 
-lonely-of : (rule overlap : ℕ) (items : List Item) (k : ℕ) (near : List ℕ) (own : List Rect) (s : Rect) (zs : List Rect) → AllIn own s
-    → HasAllNear rule s items k near → near ≡ [] → zs ≡ [] → OfSlab rule overlap own (others_in items k) s zs
-lonely-of rule overlap items k near own s zs all h none empty z =
+lonely-of : (spacing : Spacing) (overlap : ℕ) (items : List Item) (k : ℕ) (near : List ℕ) (own : List Rect) (s : Rect) (zs : List Rect) → spacing.corner ≤ spacing.rule → AllIn own s
+    → HasAllNear spacing s items k near → near ≡ [] → zs ≡ [] → OfSlab spacing overlap own (others_in items k) s zs
+lonely-of spacing overlap items k near own s zs less all h none empty z =
     rw empty (
       (λ (i, i_in, is). absurd (omega (arith, i_in))),
-      (λ zone. absurd (unlit-none rule overlap own (others_in items k) s z all light zone)),
+      (λ zone. absurd (unlit-none spacing overlap own (others_in items k) s z all light zone)),
     )
   where
-    light : (y : ℤ) → s.y0 ≤ℤ y → y <ℤ s.y1 → IsDark rule (others_in items k) s y → ⊥
+    light : (y : ℤ) → s.y0 ≤ℤ y → y <ℤ s.y1 → IsDark spacing (others_in items k) s y → ⊥
     light y low high dark =
-        let (n, c, shade) = (dark-near rule s items k near y h low high).1 dark in
+        let (n, c, shade) = (dark-near spacing s items k near y less h low high).1 dark in
         let (i, i_in, is) = subst (λ t. let ns : List ℕ = t in Contains ns n) none c in
         omega (arith, i_in)
 
@@ -83,13 +84,13 @@ all-in part own others s one p in_own =
     let (k, r, k_in, is, has) = (one.same p).1 in_own in
     subst (λ u. Has u p) (sym (is-first part own others s one k r k_in is)) has
 
-upright-one : (rule overlap : ℕ) (part own others : List Rect) (s : Rect) → IsOne part own others s → (zs : List Rect)
-    → OfSlab rule overlap own others s zs → (z : Rect) → Contains zs z ↔ IsVerticalZone rule overlap (layer_of part others) (Covers part) z
-upright-one rule overlap part own others s one zs h =
+upright-one : (spacing : Spacing) → spacing.corner ≤ spacing.rule → (overlap : ℕ) (part own others : List Rect) (s : Rect) → IsOne part own others s → (zs : List Rect)
+    → OfSlab spacing overlap own others s zs → (z : Rect) → Contains zs z ↔ IsVerticalZone spacing overlap (layer_of part others) (Covers part) z
+upright-one spacing less overlap part own others s one zs h =
     let size = one.size in
-    zones-of_covered rule overlap part own others one.canonical one.within one.same one.apart zs (λ z. (
+    zones-of_covered spacing less overlap part own others one.canonical one.within one.same one.apart zs (λ z. (
       (λ a. (s, (0, omega (arith, size), one.first s), (h z).0 a)),
-      (λ (t, (k, k_in, is), zone). (h z).1 (subst (λ u. IsSlabZone rule overlap own others u z) (sym (is-first part own others s one k t k_in is)) zone)),
+      (λ (t, (k, k_in, is), zone). (h z).1 (subst (λ u. IsSlabZone spacing overlap own others u z) (sym (is-first part own others s one k t k_in is)) zone)),
     ))
 
 one-transposed : (part own others own' others' : List Rect) (s : Rect) → IsOne part own others s → own' ≡ map transposed_rect own
@@ -106,7 +107,7 @@ one-transposed part own others own' others' s one own_is others_is within =
     }
 
 -- a feature of one slab in a tree, and in the transposed tree
-module _ (rule overlap : ℕ) (part rects : List Rect) (items across : List Item) (k : ℕ) (is : rects ≡ part) (size : length part ≡ 1)
+module _ (spacing : Spacing) (less : spacing.corner ≤ spacing.rule) (overlap : ℕ) (part rects : List Rect) (items across : List Item) (k : ℕ) (is : rects ≡ part) (size : length part ≡ 1)
     (canonical : IsCanonical part) (inside : AreItemsWithin items) (turn : across ≡ map transposed_item items)
     (same : SameSquares (Covers part) (Covers (own_in items k))) (apart : (p : Pt) → Covers part p → Covers (others_in items k) p → ⊥) where
   abbrev pub slab : Rect
@@ -135,29 +136,29 @@ module _ (rule overlap : ℕ) (part rects : List Rect) (items across : List Item
   pub column-whole : AllIn (own_in across k) (transposed_rect slab)
   column-whole = all-in (map transposed_rect part) (own_in across k) (others_in across k) (transposed_rect slab) column
 
-  pub found-one : (found : Found) (flat : List Rect) → OfSlab rule overlap (own_in items k) (others_in items k) slab found.upright.items
-      → OfSlab rule overlap (own_in across k) (others_in across k) (transposed_rect slab) flat
-      → found.flat.items ≡ map transposed_rect flat → AreFound rule overlap (layer_of part (others_in items k)) (Covers part) found
+  pub found-one : (found : Found) (flat : List Rect) → OfSlab spacing overlap (own_in items k) (others_in items k) slab found.upright.items
+      → OfSlab spacing overlap (own_in across k) (others_in across k) (transposed_rect slab) flat
+      → found.flat.items ≡ map transposed_rect flat → AreFound spacing overlap (layer_of part (others_in items k)) (Covers part) found
   found-one found flat upright_is flat_is transposed_is =
       record {
-        flat = flat-from_upright rule overlap part (others_in items k) (map transposed_rect part) flat found.flat.items (transposed-covers part)
+        flat = flat-from_upright spacing overlap part (others_in items k) (map transposed_rect part) flat found.flat.items (transposed-covers part)
             (subst (λ t. let os : List Rect = t in
-            (z : Rect) → Contains flat z ↔ IsVerticalZone rule overlap (layer_of (map transposed_rect part) os)
+            (z : Rect) → Contains flat z ↔ IsVerticalZone spacing overlap (layer_of (map transposed_rect part) os)
             (Covers (map transposed_rect part)) z) (others-transposed_in items across k turn)
-            (upright-one rule overlap (map transposed_rect part) (own_in across k) (others_in across k) (transposed_rect slab) column flat flat_is)) transposed_is;
-        upright = upright-one rule overlap part (own_in items k) (others_in items k) slab one found.upright.items upright_is;
+            (upright-one spacing less overlap (map transposed_rect part) (own_in across k) (others_in across k) (transposed_rect slab) column flat flat_is)) transposed_is;
+        upright = upright-one spacing less overlap part (own_in items k) (others_in items k) slab one found.upright.items upright_is;
       }
 
   -- too few rows and columns
   pub found-small : (found : Found) → found.flat.items ≡ [] → found.upright.items ≡ [] → slab.y1 <ℤ (slab.y0 +ℤ pos (overlap + 2))
-      → slab.x1 <ℤ (slab.x0 +ℤ pos (overlap + 2)) → AreFound rule overlap (layer_of part (others_in items k)) (Covers part) found
+      → slab.x1 <ℤ (slab.x0 +ℤ pos (overlap + 2)) → AreFound spacing overlap (layer_of part (others_in items k)) (Covers part) found
   found-small found flat_is upright_is rows columns =
-      found-one found [] (short-of rule overlap (own_in items k) (others_in items k) slab found.upright.items upright_is rows)
-      (short-of rule overlap (own_in across k) (others_in across k) (transposed_rect slab) [] refl columns) flat_is
+      found-one found [] (short-of spacing overlap (own_in items k) (others_in items k) slab found.upright.items upright_is rows)
+      (short-of spacing overlap (own_in across k) (others_in across k) (transposed_rect slab) [] refl columns) flat_is
 
   -- nothing near
-  pub found-lonely : (found : Found) (near : List ℕ) → found.flat.items ≡ [] → found.upright.items ≡ [] → HasAllNear rule slab items k near
-      → near ≡ [] → AreFound rule overlap (layer_of part (others_in items k)) (Covers part) found
+  pub found-lonely : (found : Found) (near : List ℕ) → found.flat.items ≡ [] → found.upright.items ≡ [] → HasAllNear spacing slab items k near
+      → near ≡ [] → AreFound spacing overlap (layer_of part (others_in items k)) (Covers part) found
   found-lonely found near flat_is upright_is h none =
-      found-one found [] (lonely-of rule overlap items k near (own_in items k) slab found.upright.items slab-whole h none upright_is)
-      (lonely-of rule overlap across k near (own_in across k) (transposed_rect slab) [] column-whole (near-transposed rule slab items across k near turn h) none refl) flat_is
+      found-one found [] (lonely-of spacing overlap items k near (own_in items k) slab found.upright.items less slab-whole h none upright_is)
+      (lonely-of spacing overlap across k near (own_in across k) (transposed_rect slab) [] less column-whole (near-transposed spacing slab items across k near turn h) none refl) flat_is

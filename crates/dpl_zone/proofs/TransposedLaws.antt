@@ -3,6 +3,7 @@ use Rattle.std.proofs.Common.{◌≡◌, ℕ, ◌<◌, inl, inr, List, [], ◌�
 use Rattle.std.specs.Prelude.{ℤ, pos, ◌-ℤ◌, ◌↔◌}
 use Rattle.std.specs.List.{All, AllPairs, Contains}
 use Rattle.std.proofs.lemmas.List.{get_or_default, get_or-map, length-map}
+use Rattle.dpl_spec_split.specs.declared.Spacing.{Spacing}
 use Rattle.dpl_spec_split.specs.declared.Pt.{Pt}
 use Rattle.dpl_spec_split.specs.declared.Rect.{Rect}
 use Rattle.dpl_spec_split.specs.Squares.{Region, SameSquares, Has, Covers}
@@ -12,8 +13,8 @@ use Rattle.dpl_spec_split.specs.Loops.{farthest, AreRectsWithin}
 use Rattle.dpl_zone.specs.Rows.{AreWithin, layer_of}
 
 -- the same zones, of the same sets
-module _ (rule overlap : ℕ) (l m f g : Region) (layers : SameSquares l m) (features : SameSquares f g) where
-  run-as : (y0 y1 x : ℤ) → IsClearRun rule l f y0 y1 x → IsClearRun rule m g y0 y1 x
+module _ (spacing : Spacing) (overlap : ℕ) (l m f g : Region) (layers : SameSquares l m) (features : SameSquares f g) where
+  run-as : (y0 y1 x : ℤ) → IsClearRun spacing l f y0 y1 x → IsClearRun spacing m g y0 y1 x
   run-as y0 y1 x r =
       record {
         some = r.some;
@@ -26,17 +27,17 @@ module _ (rule overlap : ℕ) (l m f g : Region) (layers : SameSquares l m) (fea
 same-back : (a b : Region) → SameSquares a b → SameSquares b a
 same-back a b s p = ((s p).1, (s p).0)
 
-pub zone-as : (rule overlap : ℕ) (l m f g : Region) → SameSquares l m → SameSquares f g → (z : Rect) → IsHorizontalZone rule overlap l f z → IsHorizontalZone rule overlap m g z
-zone-as rule overlap l m f g layers features z h =
+pub zone-as : (spacing : Spacing) (overlap : ℕ) (l m f g : Region) → SameSquares l m → SameSquares f g → (z : Rect) → IsHorizontalZone spacing overlap l f z → IsHorizontalZone spacing overlap m g z
+zone-as spacing overlap l m f g layers features z h =
     let r : Rect = h.stretch in
     let st = h.is in
     let goes : (x : ℤ) → GoesOn f r.y0 r.y1 x → GoesOn g r.y0 r.y1 x = λ x (y, a, b, c). (y, a, b, (features (at x y)).0 c) in
     record {
       stretch = h.stretch;
       is = record {
-        runs = λ x a b. run-as rule overlap l m f g layers features r.y0 r.y1 x (st.runs x a b);
-        maximal_left = λ run. st.maximal_left (run-as rule overlap m l g f (same-back l m layers) (same-back f g features) r.y0 r.y1 (r.x0 -ℤ pos 1) run);
-        maximal_right = λ run. st.maximal_right (run-as rule overlap m l g f (same-back l m layers) (same-back f g features) r.y0 r.y1 r.x1 run);
+        runs = λ x a b. run-as spacing overlap l m f g layers features r.y0 r.y1 x (st.runs x a b);
+        maximal_left = λ run. st.maximal_left (run-as spacing overlap m l g f (same-back l m layers) (same-back f g features) r.y0 r.y1 (r.x0 -ℤ pos 1) run);
+        maximal_right = λ run. st.maximal_right (run-as spacing overlap m l g f (same-back l m layers) (same-back f g features) r.y0 r.y1 r.x1 run);
         long = st.long;
         from = goes (r.x0 -ℤ pos 1) st.from;
         to = goes r.x1 st.to;
@@ -84,16 +85,16 @@ transposed-layer rects others slabs same p = (
 transposed-feature : (rects slabs : List Rect) → SameSquares (Covers slabs) (transposed (Covers rects)) → SameSquares (transposed (Covers slabs)) (Covers rects)
 transposed-feature rects slabs same p = ((same (at p.y p.x)).0, (same (at p.y p.x)).1)
 
-pub flat-from_upright : (rule overlap : ℕ) (rects others slabs found zones : List Rect) → SameSquares (Covers slabs) (transposed (Covers rects))
-    → ((z : Rect) → Contains found z ↔ IsVerticalZone rule overlap (layer_of slabs (map transposed_rect others)) (Covers slabs) z) → zones ≡ map transposed_rect found
-    → (z : Rect) → Contains zones z ↔ IsHorizontalZone rule overlap (layer_of rects others) (Covers rects) z
-flat-from_upright rule overlap rects others slabs found zones same h is z =
+pub flat-from_upright : (spacing : Spacing) (overlap : ℕ) (rects others slabs found zones : List Rect) → SameSquares (Covers slabs) (transposed (Covers rects))
+    → ((z : Rect) → Contains found z ↔ IsVerticalZone spacing overlap (layer_of slabs (map transposed_rect others)) (Covers slabs) z) → zones ≡ map transposed_rect found
+    → (z : Rect) → Contains zones z ↔ IsHorizontalZone spacing overlap (layer_of rects others) (Covers rects) z
+flat-from_upright spacing overlap rects others slabs found zones same h is z =
     rw is (
-      (λ a. zone-as rule overlap (transposed (layer_of slabs (map transposed_rect others))) (layer_of rects others) (transposed (Covers slabs))
+      (λ a. zone-as spacing overlap (transposed (layer_of slabs (map transposed_rect others))) (layer_of rects others) (transposed (Covers slabs))
           (Covers rects) (transposed-layer rects others slabs same) (transposed-feature rects slabs same) z
           ((h (transposed_rect z)).0 ((contains-transposed found z).0 a))),
       λ b. (contains-transposed found z).1 ((h (transposed_rect z)).1
-          (zone-as rule overlap (layer_of rects others) (transposed (layer_of slabs (map transposed_rect others))) (Covers rects) (transposed (Covers slabs))
+          (zone-as spacing overlap (layer_of rects others) (transposed (layer_of slabs (map transposed_rect others))) (Covers rects) (transposed (Covers slabs))
           (same-back (transposed (layer_of slabs (map transposed_rect others))) (layer_of rects others) (transposed-layer rects others slabs same))
           (same-back (transposed (Covers slabs)) (Covers rects) (transposed-feature rects slabs same)) z b)),
     )
@@ -102,12 +103,12 @@ pub transposed-back : (rs : List Rect) → map transposed_rect (map transposed_r
 transposed-back [] = refl
 transposed-back (r ∷ rs) = ap (λ t. let s : List Rect = t in r ∷ s) (transposed-back rs)
 
-pub flat-from_across : (rule overlap : ℕ) (rects others slabs found zones : List Rect) → SameSquares (Covers slabs) (transposed (Covers rects))
-    → ((z : Rect) → Contains found z ↔ IsVerticalZone rule overlap (layer_of slabs others) (Covers slabs) z) → zones ≡ map transposed_rect found
-    → (z : Rect) → Contains zones z ↔ IsHorizontalZone rule overlap (layer_of rects (map transposed_rect others)) (Covers rects) z
-flat-from_across rule overlap rects others slabs found zones same h is =
-    flat-from_upright rule overlap rects (map transposed_rect others) slabs found zones same
-    (subst (λ t. let s : List Rect = t in (z : Rect) → Contains found z ↔ IsVerticalZone rule overlap (layer_of slabs s) (Covers slabs) z) (sym (transposed-back others)) h) is
+pub flat-from_across : (spacing : Spacing) (overlap : ℕ) (rects others slabs found zones : List Rect) → SameSquares (Covers slabs) (transposed (Covers rects))
+    → ((z : Rect) → Contains found z ↔ IsVerticalZone spacing overlap (layer_of slabs others) (Covers slabs) z) → zones ≡ map transposed_rect found
+    → (z : Rect) → Contains zones z ↔ IsHorizontalZone spacing overlap (layer_of rects (map transposed_rect others)) (Covers rects) z
+flat-from_across spacing overlap rects others slabs found zones same h is =
+    flat-from_upright spacing overlap rects (map transposed_rect others) slabs found zones same
+    (subst (λ t. let s : List Rect = t in (z : Rect) → Contains found z ↔ IsVerticalZone spacing overlap (layer_of slabs s) (Covers slabs) z) (sym (transposed-back others)) h) is
 
 -- the squares of transposed rectangles
 pub own-transposed : (rects own own' : List Rect) → own' ≡ map transposed_rect own → SameSquares (Covers rects) (Covers own) → SameSquares (transposed (Covers rects)) (Covers own')

@@ -1,6 +1,7 @@
 -- What follows for the zones of a layer.
 use Rattle.std.specs.Prelude.{◌≡◌, ℕ, ◌<◌, ◌≤◌, ◌⊎◌, ◌↔◌, ◌≤ℤ◌, ◌<ℤ◌, List, length}
 use Rattle.std.specs.List.{Contains}
+use Rattle.dpl_spec_split.specs.declared.Spacing.{Spacing}
 use Rattle.dpl_spec_split.specs.declared.Pt.{Pt}
 use Rattle.dpl_spec_split.specs.declared.Rect.{Rect}
 use Rattle.dpl_spec_split.specs.declared.Zone.{Zone}
@@ -12,7 +13,7 @@ use Rattle.dpl_slabs.specs.Parts.{union_of}
 
 -- zones of one feature that touch are one
 abbrev pub ZonesStandApart : Type 0
-ZonesStandApart = (rule overlap : ℕ) (layer : List Rect) (features : List (List Rect)) (zones : List Zone) → AreZones rule overlap (Covers layer) features zones
+ZonesStandApart = (spacing : Spacing) (overlap : ℕ) (layer : List Rect) (features : List (List Rect)) (zones : List Zone) → AreZones spacing overlap (Covers layer) features zones
     → (z w : Zone) → Contains zones z → Contains zones w → z.feature ≡ w.feature → AreTouching (Has z.rect) (Has w.rect) → z ≡ w
 
 abbrev pub IsLeftOrBelow : Rect → Pt → Type 0
@@ -32,16 +33,16 @@ pub record HasTwoSides (layer : List Rect) (features pieces : List (List Rect)) 
       (IsLeftOrBelow z.rect p × (IsRightOrAbove z.rect p → ⊥)) ⊎ (IsRightOrAbove z.rect p × (IsLeftOrBelow z.rect p → ⊥))
 
 abbrev pub ZonesHaveTwoSides : Type 0
-ZonesHaveTwoSides = (rule overlap : ℕ) (layer : List Rect) (features pieces : List (List Rect)) (zones : List Zone) → 1 ≤ overlap → AreComponents (Covers layer) features
-    → AreZones rule overlap (Covers layer) features zones → AreComponents (without (Covers layer) zones) pieces
+ZonesHaveTwoSides = (spacing : Spacing) (overlap : ℕ) (layer : List Rect) (features pieces : List (List Rect)) (zones : List Zone) → 1 ≤ overlap → AreComponents (Covers layer) features
+    → AreZones spacing overlap (Covers layer) features zones → AreComponents (without (Covers layer) zones) pieces
     → (z : Zone) → Contains zones z → HasTwoSides layer features pieces zones z
 
--- transposing keeps distance, and with it being near
+-- transposing keeps distance, and being near
 pub record TransposingKeepsDistance : Type 0 where
   pub squares : (p q : Pt) → d2 (at p.y p.x) (at q.y q.x) ≡ d2 p q
-  pub sets : (rule : ℕ) (a b : List Rect) → AreNear rule (transposed (Covers a)) (transposed (Covers b)) ↔ AreNear rule (Covers a) (Covers b)
+  pub sets : (spacing : Spacing) (a b : List Rect) → AreNear spacing (transposed (Covers a)) (transposed (Covers b)) ↔ AreNear spacing (Covers a) (Covers b)
 
 -- zones depend on the squares of the layer alone
 abbrev pub ZonesAreOfSquares : Type 0
-ZonesAreOfSquares = (rule overlap : ℕ) (layer : List Rect) (features : List (List Rect)) (zones : List Zone) → SameSquares (union_of features) (Covers layer)
-    → AreZones rule overlap (union_of features) features zones → AreZones rule overlap (Covers layer) features zones
+ZonesAreOfSquares = (spacing : Spacing) (overlap : ℕ) (layer : List Rect) (features : List (List Rect)) (zones : List Zone) → SameSquares (union_of features) (Covers layer)
+    → AreZones spacing overlap (union_of features) features zones → AreZones spacing overlap (Covers layer) features zones

@@ -1,10 +1,11 @@
 -- Rows of a slab: those near other rectangles, the spans between them, and the zones in the spans.
 use Rattle.std.specs.Prelude.{◌≡◌, ℕ, ◌+◌, ◌*◌, ◌<◌, ◌≤◌, ◌⊎◌, ◌↔◌, ℤ, pos, ◌+ℤ◌, ◌-ℤ◌, ◌≤ℤ◌, ◌<ℤ◌, List, length, slice_index_or}
 use Rattle.std.specs.List.{Any, Contains}
+use Rattle.dpl_spec_split.specs.declared.Spacing.{Spacing}
 use Rattle.dpl_spec_split.specs.declared.Pt.{Pt}
 use Rattle.dpl_spec_split.specs.declared.Rect.{Rect}
 use Rattle.dpl_spec_split.specs.Loops.{farthest}
-use Rattle.dpl_spec_split.specs.Squares.{Region, AreTouching, Has, Covers, d2, IsSolidWithin}
+use Rattle.dpl_spec_split.specs.Squares.{Region, AreTouching, Has, Covers, IsSolidWithin, Near}
 use Rattle.dpl_spec_split.specs.Zones.{at, transposed, GoesOn}
 use Rattle.dpl_zone.specs.declared.rows.Span.{Span}
 
@@ -21,22 +22,22 @@ AreTall spans = (k : ℕ) (d : Span) → k < length spans → (slice_index_or sp
 abbrev pub RiseByFrom : List Span → Type 0
 RiseByFrom spans = (i j : ℕ) (d : Span) → i ≤ j → j < length spans → (slice_index_or spans i d).from ≤ℤ (slice_index_or spans j d).from
 
--- the slab has in row y a square closer than rule to one of the other rectangle
-pub record IsShaded (rule : ℕ) (slab other : Rect) (y : ℤ) : Type 0 where
+-- the slab has in row y a square near one of the other rectangle
+pub record IsShaded (spacing : Spacing) (slab other : Rect) (y : ℤ) : Type 0 where
   pub x : ℤ
   pub q : Pt
   pub left : slab.x0 ≤ℤ x
   pub right : x <ℤ slab.x1
   pub has : Has other q
-  pub near : d2 (at x y) q < rule * rule
+  pub near : Near spacing (at x y) q
 
-pub record IsShadow (rule : ℕ) (slab other : Rect) (s : Span) : Type 0 where
+pub record IsShadow (spacing : Spacing) (slab other : Rect) (s : Span) : Type 0 where
   pub some : s.from <ℤ s.to
-  pub rows : (y : ℤ) → InRows s y ↔ IsShaded rule slab other y
+  pub rows : (y : ℤ) → InRows s y ↔ IsShaded spacing slab other y
 
 -- some rectangle shades row y of the slab
-abbrev pub IsDark : ℕ → List Rect → Rect → ℤ → Type 0
-IsDark rule others slab y = Any (λ other. IsShaded rule slab other y) others
+abbrev pub IsDark : Spacing → List Rect → Rect → ℤ → Type 0
+IsDark spacing others slab y = Any (λ other. IsShaded spacing slab other y) others
 
 -- a span of rows that no other span has, as long as it can be
 pub record IsGap (low high : ℤ) (spans : List Span) (g : Span) : Type 0 where
@@ -83,9 +84,9 @@ pub record IsLit (low high : ℤ) (dark : ℤ → Type 0) (g : Span) : Type 0 wh
   pub top : (g.to ≡ high) ⊎ dark g.to
 
 -- the zone lies in the middle of a lit span of the slab
-pub record IsSlabZone (rule overlap : ℕ) (rects others : List Rect) (slab z : Rect) : Type 0 where
+pub record IsSlabZone (spacing : Spacing) (overlap : ℕ) (rects others : List Rect) (slab z : Rect) : Type 0 where
   pub g : Span
-  pub lit : IsLit slab.y0 slab.y1 (IsDark rule others slab) g
+  pub lit : IsLit slab.y0 slab.y1 (IsDark spacing others slab) g
   pub open_span : IsOpenSpan overlap slab (GoesBelow rects slab) (GoesAbove rects slab) g
   pub middle : IsMiddleOf overlap slab g z
 

@@ -9,7 +9,7 @@ ghost use Rattle.dpl_tree.specs.Trees.{AreItemsOf, transposed_item};
 
 use crate::kept::kept_zones;
 use crate::order::{each_once, sort_zones};
-use dpl_base::Zone;
+use dpl_base::{Spacing, Zone};
 use dpl_slabs::{Parts, Slabs};
 use dpl_tree::{Tree, View};
 use std::alloc::{AllocError, Global};
@@ -22,17 +22,18 @@ fn add_feature(
     tree: &View,
     across: &View,
     k: usize,
-    rule: u32,
+    spacing: Spacing,
     overlap: u32,
 ) -> Result<(), AllocError>
+    requires corner { spacing.corner ≤ spacing.rule }
     requires some { 1 ≤ overlap }
     requires part { k < length parts.now }
     requires parts { AreParts parts.now }
     requires items { AreItemsOf parts.now tree.now }
     requires transposed { across.now ≡ map transposed_item tree.now }
-    ensures { OnOk result ((z : Zone) → Contains found.new.items z ↔ (Contains found.old.items z ⊎ ((z.feature ≡ k) × IsPartZone rule overlap parts.now z))) }
+    ensures { OnOk result ((z : Zone) → Contains found.new.items z ↔ (Contains found.old.items z ⊎ ((z.feature ≡ k) × IsPartZone spacing overlap parts.now z))) }
 {
-    let kept = kept_zones(alloc, &parts[k], tree, across, k, rule, overlap)?;
+    let kept = kept_zones(alloc, &parts[k], tree, across, k, spacing, overlap)?;
     for rect in &kept {
         found.push(Zone {
             rect: *rect,
@@ -46,12 +47,13 @@ fn add_feature(
 fn found_zones(
     alloc: Global,
     parts: &[Slabs],
-    rule: u32,
+    spacing: Spacing,
     overlap: u32,
 ) -> Result<Vec<Zone>, AllocError>
+    requires corner { spacing.corner ≤ spacing.rule }
     requires some { 1 ≤ overlap }
     requires parts { AreParts parts.now }
-    ensures { IfOk result (λ v. (z : Zone) → Contains v.items z ↔ ((z.feature < length parts.now) × IsPartZone rule overlap parts.now z)) }
+    ensures { IfOk result (λ v. (z : Zone) → Contains v.items z ↔ ((z.feature < length parts.now) × IsPartZone spacing overlap parts.now z)) }
 {
     let tree = Tree::of_parts(alloc, parts)?;
     let upright = View::of(&tree);
@@ -59,19 +61,25 @@ fn found_zones(
     let mut found = Vec::new(alloc);
     for k in 0..parts.len() {
         add_feature(
-            alloc, &mut found, parts, &upright, &across, k, rule, overlap,
+            alloc, &mut found, parts, &upright, &across, k, spacing, overlap,
         )?;
     }
     Ok(found)
 }
 
-/// The stitch zones of disjoint sets within a layer that has just their squares, by lowest row and then by leftmost column. A zone is `overlap` squares wide and lies in the middle of a straight stretch that no other set comes nearer to than `rule`.
-pub fn zones(alloc: Global, parts: &Parts, rule: u32, overlap: u32) -> Result<Vec<Zone>, AllocError>
-    requires { 1 ≤ overlap }
-    ensures { IfOk result (λ v. AreZones rule overlap (union_of parts.now) parts.now v.items) }
+/// The stitch zones of disjoint sets within a layer that has just their squares, by lowest row and then by leftmost column. A zone is `overlap` squares wide and lies in the middle of a straight stretch of squares that are near no square of another set: none is closer than the spacing's corner rule where columns and rows lie between the two, or else than its rule.
+pub fn zones(
+    alloc: Global,
+    parts: &Parts,
+    spacing: Spacing,
+    overlap: u32,
+) -> Result<Vec<Zone>, AllocError>
+    requires corner { spacing.corner ≤ spacing.rule }
+    requires overlap { 1 ≤ overlap }
+    ensures { IfOk result (λ v. AreZones spacing overlap (union_of parts.now) parts.now v.items) }
 {
     let items = parts.items();
-    let mut found = found_zones(alloc, items, rule, overlap)?;
+    let mut found = found_zones(alloc, items, spacing, overlap)?;
     sort_zones(&mut found);
     each_once(alloc, &found)
 }

@@ -12,7 +12,7 @@ ghost use Rattle.dpl_zone.specs.Items.{AreItemsWithin, others_in, own_in};
 
 use crate::near::touches_item;
 use crate::ways::found_in;
-use dpl_base::Rect;
+use dpl_base::{Rect, Spacing};
 use dpl_slabs::Slabs;
 use dpl_tree::{Items, Tree, View};
 use std::alloc::{AllocError, Global};
@@ -68,16 +68,17 @@ pub fn kept_zones(
     tree: &View,
     across: &View,
     own: usize,
-    rule: u32,
+    spacing: Spacing,
     overlap: u32,
 ) -> Result<Vec<Rect>, AllocError>
+    requires corner { spacing.corner ≤ spacing.rule }
     requires some { 1 ≤ overlap }
     requires items { AreItemsWithin tree.now }
     requires transposed { across.now ≡ map transposed_item tree.now }
     requires own { SameSquares (Covers part.now) (Covers (own_in tree.now own)) }
     requires apart { (p : Pt) → Covers part.now p → Covers (others_in tree.now own) p → ⊥ }
-    ensures { IfOk result (λ v. (z : Rect) → Contains v.items z ↔ IsKeptZone rule overlap (layer_of part.now (others_in tree.now own)) (Covers part.now) z) }
+    ensures { IfOk result (λ v. (z : Rect) → Contains v.items z ↔ IsKeptZone spacing overlap (layer_of part.now (others_in tree.now own)) (Covers part.now) z) }
 {
-    let found = found_in(alloc, part, tree, across, own, rule, overlap)?;
+    let found = found_in(alloc, part, tree, across, own, spacing, overlap)?;
     joined(alloc, found.flat, found.upright)
 }

@@ -1,5 +1,5 @@
 //! Searches for rectangles near a slab.
-ghost use Rattle.std.specs.Prelude.{◌≡◌, ℕ, ◌<◌, ◌⊎◌, ◌↔◌, ℤ, pos, ◌≤ℤ◌, ◌<ℤ◌, IsTrue, IfOk, length};
+ghost use Rattle.std.specs.Prelude.{◌≤◌, ◌≡◌, ℕ, ◌<◌, ◌⊎◌, ◌↔◌, ℤ, pos, ◌≤ℤ◌, ◌<ℤ◌, IsTrue, IfOk, length};
 ghost use Rattle.dpl_spec_split.specs.declared.Rect.{Rect};
 ghost use Rattle.dpl_spec_split.specs.Loops.{farthest};
 ghost use Rattle.dpl_spec_split.specs.Squares.{AreTouching, Covers, Has, IsSolidWithin};
@@ -8,7 +8,7 @@ ghost use Rattle.dpl_zone.specs.Near.{HasAllNear};
 ghost use Rattle.dpl_tree.specs.Trees.{HasItem};
 ghost use Rattle.dpl_zone.specs.Items.{AllIn, AreItemsWithin, IsStrip, own_in};
 
-use dpl_base::{Rect, WideRect};
+use dpl_base::{Rect, Spacing, WideRect};
 use dpl_tree::{Owners, View, widened};
 use smallvec::SmallVec;
 use std::alloc::{AllocError, Global};
@@ -22,12 +22,13 @@ pub fn others_near(
     tree: &View,
     own: usize,
     slab: &Rect,
-    rule: u32,
+    spacing: Spacing,
 ) -> Result<Numbers, AllocError>
-    requires { IsSolidWithin farthest slab.now }
-    ensures { IfOk result (λ v. HasAllNear rule slab.now tree.now own v.items) }
+    requires corner { spacing.corner ≤ spacing.rule }
+    requires slab { IsSolidWithin farthest slab.now }
+    ensures { IfOk result (λ v. HasAllNear spacing slab.now tree.now own v.items) }
 {
-    let window = widened(slab, rule);
+    let window = widened(slab, spacing.rule);
     let count = tree.count();
     let mut near = SmallVec::new(alloc);
     let mut i = tree.seek(0, &window, Owners::But(own));

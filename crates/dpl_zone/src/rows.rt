@@ -9,7 +9,7 @@ ghost use Rattle.dpl_zone.specs.Rows.{SomeRow, AreTall, RiseByFrom, IsShaded, Is
 ghost use Rattle.dpl_zone.specs.Near.{AreNumbers, IsDarkBy};
 ghost use Rattle.dpl_zone.specs.Items.{AreItemsWithin};
 
-use dpl_base::{Rect, reach, span_gap};
+use dpl_base::{Rect, Spacing, reach, span_gap};
 use dpl_tree::View;
 use smallvec::SmallVec;
 use std::alloc::{AllocError, Global};
@@ -24,15 +24,16 @@ pub struct Span {
 /// Spans of one slab.
 pub type Spans = SmallVec<Span, 16>;
 
-/// The rows at which the slab is closer than `rule` to another rectangle.
-fn shadow(slab: &Rect, other: &Rect, rule: u32) -> Option<Span>
+/// The rows at which the slab is near another rectangle.
+fn shadow(slab: &Rect, other: &Rect, spacing: Spacing) -> Option<Span>
+    requires corner { spacing.corner ≤ spacing.rule }
     requires slab { IsSolidWithin farthest slab.now }
     requires other { IsSolidWithin farthest other.now }
-    ensures none { IsNone result → (y : ℤ) → IsShaded rule slab.now other.now y → ⊥ }
-    ensures some { IfSome result (λ s. IsShadow rule slab.now other.now s) }
+    ensures none { IsNone result → (y : ℤ) → IsShaded spacing slab.now other.now y → ⊥ }
+    ensures some { IfSome result (λ s. IsShadow spacing slab.now other.now s) }
 {
     let across = span_gap(slab.x0, slab.x1, other.x0, other.x1);
-    match reach(rule, across) {
+    match reach(spacing, across) {
         None => None,
         Some(r) => Some(Span {
             from: other.y0 as i64 - 1 - r as i64,
@@ -42,14 +43,20 @@ fn shadow(slab: &Rect, other: &Rect, rule: u32) -> Option<Span>
 }
 
 /// Adds the shadow of a rectangle.
-fn add_shadow(spans: &mut Spans, slab: &Rect, other: &Rect, rule: u32) -> Result<(), AllocError>
+fn add_shadow(
+    spans: &mut Spans,
+    slab: &Rect,
+    other: &Rect,
+    spacing: Spacing,
+) -> Result<(), AllocError>
+    requires corner { spacing.corner ≤ spacing.rule }
     requires slab { IsSolidWithin farthest slab.now }
     requires other { IsSolidWithin farthest other.now }
     requires tall { AreTall spans.old.items }
     ensures tall { OnOk result (AreTall spans.new.items) }
-    ensures rows { OnOk result ((y : ℤ) → SomeRow spans.new.items y ↔ (SomeRow spans.old.items y ⊎ IsShaded rule slab.now other.now y)) }
+    ensures rows { OnOk result ((y : ℤ) → SomeRow spans.new.items y ↔ (SomeRow spans.old.items y ⊎ IsShaded spacing slab.now other.now y)) }
 {
-    match shadow(slab, other, rule) {
+    match shadow(slab, other, spacing) {
         None => Ok(()),
         Some(s) => {
             spans.push(s)?;
@@ -81,17 +88,18 @@ fn gather(
     tree: &View,
     near: &[usize],
     slab: &Rect,
-    rule: u32,
+    spacing: Spacing,
 ) -> Result<Spans, AllocError>
+    requires corner { spacing.corner ≤ spacing.rule }
     requires items { AreItemsWithin tree.now }
     requires near { AreNumbers tree.now near.now }
     requires slab { IsSolidWithin farthest slab.now }
     ensures tall { IfOk result (λ v. AreTall v.items) }
-    ensures rows { IfOk result (λ v. (y : ℤ) → slab.now.y0 ≤ℤ y → y <ℤ slab.now.y1 → SomeRow v.items y ↔ IsDarkBy rule tree.now near.now slab.now y) }
+    ensures rows { IfOk result (λ v. (y : ℤ) → slab.now.y0 ≤ℤ y → y <ℤ slab.now.y1 → SomeRow v.items y ↔ IsDarkBy spacing tree.now near.now slab.now y) }
 {
     let mut spans = SmallVec::new(alloc);
     for n in near {
-        add_shadow(&mut spans, slab, &tree.rect(*n), rule)?;
+        add_shadow(&mut spans, slab, &tree.rect(*n), spacing)?;
         if is_covered(spans.as_slice(), slab) {
             return Ok(spans);
         }
@@ -105,16 +113,17 @@ pub fn shadows(
     tree: &View,
     near: &[usize],
     slab: &Rect,
-    rule: u32,
+    spacing: Spacing,
 ) -> Result<Spans, AllocError>
+    requires corner { spacing.corner ≤ spacing.rule }
     requires items { AreItemsWithin tree.now }
     requires near { AreNumbers tree.now near.now }
     requires slab { IsSolidWithin farthest slab.now }
     ensures tall { IfOk result (λ v. AreTall v.items) }
     ensures rise { IfOk result (λ v. RiseByFrom v.items) }
-    ensures rows { IfOk result (λ v. (y : ℤ) → slab.now.y0 ≤ℤ y → y <ℤ slab.now.y1 → SomeRow v.items y ↔ IsDarkBy rule tree.now near.now slab.now y) }
+    ensures rows { IfOk result (λ v. (y : ℤ) → slab.now.y0 ≤ℤ y → y <ℤ slab.now.y1 → SomeRow v.items y ↔ IsDarkBy spacing tree.now near.now slab.now y) }
 {
-    let mut spans = gather(alloc, tree, near, slab, rule)?;
+    let mut spans = gather(alloc, tree, near, slab, spacing)?;
     spans.sort_unstable_by_key(|s| s.from);
     Ok(spans)
 }

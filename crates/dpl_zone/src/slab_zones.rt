@@ -14,7 +14,7 @@ ghost use Rattle.dpl_zone.specs.Items.{AllIn, AreItemsWithin, others_in, own_in}
 
 use crate::near::{has_row, others_near};
 use crate::rows::{Span, gaps, shadows};
-use dpl_base::Rect;
+use dpl_base::{Rect, Spacing};
 use dpl_tree::View;
 use std::alloc::{AllocError, Global};
 
@@ -118,16 +118,17 @@ fn add_zones(
     slab: &Rect,
     is_whole: bool,
     near: &[usize],
-    rule: u32,
+    spacing: Spacing,
     overlap: u32,
 ) -> Result<(), AllocError>
+    requires corner { spacing.corner ≤ spacing.rule }
     requires items { AreItemsWithin tree.now }
     requires slab { IsSolidWithin farthest slab.now }
     requires whole { IsTrue is_whole → AllIn (own_in tree.now own) slab.now }
-    requires near { HasAllNear rule slab.now tree.now own near.now }
-    ensures { OnOk result (AddsZones (IsSlabZone rule overlap (own_in tree.now own) (others_in tree.now own) slab.now) zones.old.items zones.new.items) }
+    requires near { HasAllNear spacing slab.now tree.now own near.now }
+    ensures { OnOk result (AddsZones (IsSlabZone spacing overlap (own_in tree.now own) (others_in tree.now own) slab.now) zones.old.items zones.new.items) }
 {
-    let spans = shadows(alloc, tree, near, slab, rule)?;
+    let spans = shadows(alloc, tree, near, slab, spacing)?;
     let free = gaps(alloc, spans.as_slice(), slab.y0 as i64, slab.y1 as i64)?;
     for g in free.as_slice() {
         add_zone(zones, tree, own, slab, is_whole, g, overlap)?;
@@ -142,21 +143,22 @@ pub fn whole_zones(
     own: usize,
     slab: &Rect,
     near: &[usize],
-    rule: u32,
+    spacing: Spacing,
     overlap: u32,
 ) -> Result<Vec<Rect>, AllocError>
+    requires corner { spacing.corner ≤ spacing.rule }
     requires items { AreItemsWithin tree.now }
     requires slab { IsSolidWithin farthest slab.now }
     requires whole { AllIn (own_in tree.now own) slab.now }
-    requires near { HasAllNear rule slab.now tree.now own near.now }
-    ensures { IfOk result (λ v. (z : Rect) → Contains v.items z ↔ IsSlabZone rule overlap (own_in tree.now own) (others_in tree.now own) slab.now z) }
+    requires near { HasAllNear spacing slab.now tree.now own near.now }
+    ensures { IfOk result (λ v. (z : Rect) → Contains v.items z ↔ IsSlabZone spacing overlap (own_in tree.now own) (others_in tree.now own) slab.now z) }
 {
     let mut zones = Vec::new(alloc);
     if is_short(slab, overlap) {
         return Ok(zones);
     }
     add_zones(
-        alloc, &mut zones, tree, own, slab, true, near, rule, overlap,
+        alloc, &mut zones, tree, own, slab, true, near, spacing, overlap,
     )?;
     Ok(zones)
 }
@@ -168,17 +170,18 @@ fn add_slab(
     tree: &View,
     own: usize,
     slab: &Rect,
-    rule: u32,
+    spacing: Spacing,
     overlap: u32,
 ) -> Result<(), AllocError>
+    requires corner { spacing.corner ≤ spacing.rule }
     requires items { AreItemsWithin tree.now }
     requires slab { IsSolidWithin farthest slab.now }
-    ensures { OnOk result (AddsZones (IsSlabZone rule overlap (own_in tree.now own) (others_in tree.now own) slab.now) zones.old.items zones.new.items) }
+    ensures { OnOk result (AddsZones (IsSlabZone spacing overlap (own_in tree.now own) (others_in tree.now own) slab.now) zones.old.items zones.new.items) }
 {
     if is_short(slab, overlap) {
         return Ok(());
     }
-    let near = others_near(alloc, tree, own, slab, rule)?;
+    let near = others_near(alloc, tree, own, slab, spacing)?;
     add_zones(
         alloc,
         zones,
@@ -187,7 +190,7 @@ fn add_slab(
         slab,
         false,
         near.as_slice(),
-        rule,
+        spacing,
         overlap,
     )
 }
@@ -198,19 +201,20 @@ pub fn upright_zones(
     slabs: &[Rect],
     tree: &View,
     own: usize,
-    rule: u32,
+    spacing: Spacing,
     overlap: u32,
 ) -> Result<Vec<Rect>, AllocError>
+    requires corner { spacing.corner ≤ spacing.rule }
     requires canonical { IsCanonical slabs.now }
     requires within { AreRectsWithin farthest slabs.now }
     requires items { AreItemsWithin tree.now }
     requires own { SameSquares (Covers slabs.now) (Covers (own_in tree.now own)) }
     requires apart { (p : Pt) → Covers slabs.now p → Covers (others_in tree.now own) p → ⊥ }
-    ensures { IfOk result (λ v. (z : Rect) → Contains v.items z ↔ IsVerticalZone rule overlap (layer_of slabs.now (others_in tree.now own)) (Covers slabs.now) z) }
+    ensures { IfOk result (λ v. (z : Rect) → Contains v.items z ↔ IsVerticalZone spacing overlap (layer_of slabs.now (others_in tree.now own)) (Covers slabs.now) z) }
 {
     let mut zones = Vec::new(alloc);
     for slab in slabs {
-        add_slab(alloc, &mut zones, tree, own, slab, rule, overlap)?;
+        add_slab(alloc, &mut zones, tree, own, slab, spacing, overlap)?;
     }
     Ok(zones)
 }

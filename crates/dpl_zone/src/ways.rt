@@ -1,5 +1,5 @@
 //! The zones of a feature, horizontal and vertical.
-ghost use Rattle.std.specs.Prelude.{◌≡◌, ◌+◌, ◌↔◌, ℤ, pos, ◌+ℤ◌, ◌<ℤ◌, map, [], IsTrue, IfOk, length};
+ghost use Rattle.std.specs.Prelude.{◌≤◌, ◌≡◌, ◌+◌, ◌↔◌, ℤ, pos, ◌+ℤ◌, ◌<ℤ◌, map, [], IsTrue, IfOk, length};
 ghost use Rattle.dpl_spec_split.specs.declared.Pt.{Pt};
 ghost use Rattle.dpl_spec_split.specs.declared.Rect.{Rect};
 ghost use Rattle.dpl_spec_split.specs.Loops.{farthest};
@@ -13,7 +13,7 @@ ghost use Rattle.dpl_zone.specs.Items.{AreItemsWithin, others_in, own_in};
 use crate::flat::flat_zones;
 use crate::near::others_near;
 use crate::slab_zones::{is_short, upright_zones, whole_zones};
-use dpl_base::{Rect, all_transposed, transposed};
+use dpl_base::{Rect, Spacing, all_transposed, transposed};
 use dpl_slabs::Slabs;
 use dpl_tree::View;
 use std::alloc::{AllocError, Global};
@@ -55,27 +55,36 @@ fn found_in_one(
     tree: &View,
     across: &View,
     own: usize,
-    rule: u32,
+    spacing: Spacing,
     overlap: u32,
 ) -> Result<Found, AllocError>
+    requires corner { spacing.corner ≤ spacing.rule }
     requires one { length part.now ≡ 1 }
     requires items { AreItemsWithin tree.now }
     requires transposed { across.now ≡ map transposed_item tree.now }
     requires own { SameSquares (Covers part.now) (Covers (own_in tree.now own)) }
     requires apart { (p : Pt) → Covers part.now p → Covers (others_in tree.now own) p → ⊥ }
-    ensures { IfOk result (AreFound rule overlap (layer_of part.now (others_in tree.now own)) (Covers part.now)) }
+    ensures { IfOk result (AreFound spacing overlap (layer_of part.now (others_in tree.now own)) (Covers part.now)) }
 {
     let slab = part.rects()[0];
     let column = transposed(&slab);
     if is_small(&slab, &column, overlap) {
         return Ok(none_found(alloc));
     }
-    let near = others_near(alloc, tree, own, &slab, rule)?;
+    let near = others_near(alloc, tree, own, &slab, spacing)?;
     if near.is_empty() {
         return Ok(none_found(alloc));
     }
-    let upright = whole_zones(alloc, tree, own, &slab, near.as_slice(), rule, overlap)?;
-    let transposed_flat = whole_zones(alloc, across, own, &column, near.as_slice(), rule, overlap)?;
+    let upright = whole_zones(alloc, tree, own, &slab, near.as_slice(), spacing, overlap)?;
+    let transposed_flat = whole_zones(
+        alloc,
+        across,
+        own,
+        &column,
+        near.as_slice(),
+        spacing,
+        overlap,
+    )?;
     let flat = all_transposed(alloc, &transposed_flat)?;
     Ok(Found { flat, upright })
 }
@@ -87,20 +96,21 @@ pub fn found_in(
     tree: &View,
     across: &View,
     own: usize,
-    rule: u32,
+    spacing: Spacing,
     overlap: u32,
 ) -> Result<Found, AllocError>
+    requires corner { spacing.corner ≤ spacing.rule }
     requires items { AreItemsWithin tree.now }
     requires transposed { across.now ≡ map transposed_item tree.now }
     requires own { SameSquares (Covers part.now) (Covers (own_in tree.now own)) }
     requires apart { (p : Pt) → Covers part.now p → Covers (others_in tree.now own) p → ⊥ }
     ensures within { AreWithin part.now }
-    ensures found { IfOk result (AreFound rule overlap (layer_of part.now (others_in tree.now own)) (Covers part.now)) }
+    ensures found { IfOk result (AreFound spacing overlap (layer_of part.now (others_in tree.now own)) (Covers part.now)) }
 {
     if part.rects().len() == 1 {
-        return found_in_one(alloc, part, tree, across, own, rule, overlap);
+        return found_in_one(alloc, part, tree, across, own, spacing, overlap);
     }
-    let flat = flat_zones(alloc, part, across, own, rule, overlap)?;
-    let upright = upright_zones(alloc, part.rects(), tree, own, rule, overlap)?;
+    let flat = flat_zones(alloc, part, across, own, spacing, overlap)?;
+    let upright = upright_zones(alloc, part.rects(), tree, own, spacing, overlap)?;
     Ok(Found { flat, upright })
 }

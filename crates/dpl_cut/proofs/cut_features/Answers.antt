@@ -10,7 +10,7 @@ pub returns-clause-cut : goal.returns-clause-cut
 returns-clause-cut c = λ layer are. (
   c.args.features,
   search rules,
-  λ p completed. is_cut c.args.rule c.args.overlap layer c.args.features c.in_ok-zones.zones.items p are
+  λ p completed. is_cut c.args.spacing c.args.overlap layer c.args.features c.in_ok-zones.zones.items p are
       c.in_ok-zones.ensures (completed.zones ∙ c.in_ok-pieces.ensures.zones) (c.in_ok-pieces.ensures.pieces p completed),
 )
 

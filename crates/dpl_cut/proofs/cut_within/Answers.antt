@@ -4,5 +4,5 @@ use Rattle.dpl_cut.proofs.cut_within.Goals as goal
 
 pub returns : goal.returns
 returns c =
-    completed_cut c.args.rule c.args.overlap (Covers c.args.layer.now) c.in_ok-cut.cut c.completed.result
+    completed_cut c.args.spacing c.args.overlap (Covers c.args.layer.now) c.in_ok-cut.cut c.completed.result
     (c.in_ok-cut.ensures.cut c.args.layer.now c.in_ok-features.ensures) c.completed.ensures.features c.completed.ensures.pieces

@@ -3,4 +3,4 @@ use Rattle.dpl_law_split.proofs.Cover.{cover}
 use Rattle.dpl_law_split.proofs.masks_cover.Goals as goal
 
 pub returns : goal.returns
-returns c = λ rule overlap layer. cover rule overlap (Covers layer)
+returns c = λ spacing overlap layer. cover spacing overlap (Covers layer)

@@ -3,4 +3,4 @@ use Rattle.dpl_law_split.proofs.Overlap.{overlap-at}
 use Rattle.dpl_law_split.proofs.masks_overlap_at_stitches.Goals as goal
 
 pub returns : goal.returns
-returns c = λ rule overlap layer. overlap-at rule overlap (Covers layer)
+returns c = λ spacing overlap layer. overlap-at spacing overlap (Covers layer)

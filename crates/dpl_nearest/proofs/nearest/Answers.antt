@@ -14,11 +14,11 @@ returns-in_default-2-clause-none c =
     let from = rw c.in-Some.is at c.in_ok-from.ensures in
     let square = rw c.in-Some-unit.is at c.unit.ensures.some in
     let none = rw c.in_default-2.is at c.in_ok-to.ensures in
-    absurd (none (has_partner c.args.rule (Covers c.args.a.now) (Covers c.args.b.now) c.in-Some.from c.in-Some-unit.square square from))
+    absurd (none (has_partner c.args.spacing (Covers c.args.a.now) (Covers c.args.b.now) c.in-Some.from c.in-Some-unit.square square from))
 
 pub returns-clause-some : goal.returns-clause-some
 returns-clause-some c =
     let from = rw c.in-Some.is at c.in_ok-from.ensures in
     let square = rw c.in-Some-unit.is at c.unit.ensures.some in
     let to = rw c.in-Some-2.is at c.in_ok-to.ensures in
-    nearest_pair c.args.rule (Covers c.args.a.now) (Covers c.args.b.now) c.in-Some.from c.in-Some-2.to c.in-Some-unit.square square from to
+    nearest_pair c.args.spacing (Covers c.args.a.now) (Covers c.args.b.now) c.in-Some.from c.in-Some-2.to c.in-Some-unit.square square from to

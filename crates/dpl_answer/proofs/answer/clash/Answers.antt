@@ -15,29 +15,29 @@ use Rattle.dpl_answer.proofs.answer.clash.Goals as goal
 pub place_lines-requires-clause-known : goal.place_lines-requires-clause-known
 place_lines-requires-clause-known c = λ k h.
     let odd = subst (λ (o : Option (Vec ℕ Global)). IfSome o (λ cycle. IsOddCycle (graph_of c.args.edges.now) cycle.items)) c.in-Some.is c.in_ok-cycle.ensures.odd in
-    piece_known c.args.rule (cut_view [] c.args.cut.now.pieces) c.args.edges.now c.in-Some.cycle.items k c.requires.edges odd
+    piece_known c.args.spacing (cut_view [] c.args.cut.now.pieces) c.args.edges.now c.in-Some.cycle.items k c.requires.edges odd
     (subst (λ (l : List ℕ). Contains l k) c.deref.ensures.value h)
 
 pub near_lines-requires-clause-known : goal.near_lines-requires-clause-known
 near_lines-requires-clause-known c = λ k h.
     let odd = subst (λ (o : Option (Vec ℕ Global)). IfSome o (λ cycle. IsOddCycle (graph_of c.args.edges.now) cycle.items)) c.in-Some.is c.in_ok-cycle.ensures.odd in
     let here = subst (λ (l : List ℕ). IsOddCycle (graph_of c.args.edges.now) l) (sym c.deref-2.ensures.value) odd in
-    cycle_known c.args.rule (cut_view [] c.args.cut.now.pieces) c.args.edges.now c.deref-2.result.now k c.requires.edges here h
+    cycle_known c.args.spacing (cut_view [] c.args.cut.now.pieces) c.args.edges.now c.deref-2.result.now k c.requires.edges here h
 
 pub near_lines-requires-clause-near : goal.near_lines-requires-clause-near
 near_lines-requires-clause-near c = λ k h.
     let odd = subst (λ (o : Option (Vec ℕ Global)). IfSome o (λ cycle. IsOddCycle (graph_of c.args.edges.now) cycle.items)) c.in-Some.is c.in_ok-cycle.ensures.odd in
     let here = subst (λ (l : List ℕ). IsOddCycle (graph_of c.args.edges.now) l) (sym c.deref-2.ensures.value) odd in
-    cycle_near c.args.rule (cut_view [] c.args.cut.now.pieces) c.args.edges.now c.deref-2.result.now k c.requires.edges here h
+    cycle_near c.args.spacing (cut_view [] c.args.cut.now.pieces) c.args.edges.now c.deref-2.result.now k c.requires.edges here h
 
 pub returns-clause-clash : goal.returns-clause-clash
 returns-clause-clash c = λ features many.
     let pieces = c.args.cut.now.pieces in
     let reported = subst (λ (o : Option (Vec ℕ Global)). IfSome o (λ cycle. IsReported (graph_of c.args.edges.now) cycle.items)) c.in-Some.is c.in_ok-cycle.ensures.reported in
-    let nearest = subst (λ (ns : List NearLine). AreNearest c.args.rule pieces.parts c.in-Some.cycle.items ns) (sym c.of-2.ensures)
-    (subst (λ (l : List ℕ). AreNearest c.args.rule pieces.parts l c.in_ok-near.near.items) c.deref-2.ensures.value c.in_ok-near.ensures.nearest) in
+    let nearest = subst (λ (ns : List NearLine). AreNearest c.args.spacing pieces.parts c.in-Some.cycle.items ns) (sym c.of-2.ensures)
+    (subst (λ (l : List ℕ). AreNearest c.args.spacing pieces.parts l c.in_ok-near.near.items) c.deref-2.ensures.value c.in_ok-near.ensures.nearest) in
     let places = c.of.ensures ∙ (c.in_ok-places.ensures.lines ∙ ap (λ (l : List ℕ). map (place_line pieces.keys) l) c.deref.ensures.value) in
-    clash_from c.args.rule c.args.overlap (cut_view features pieces) c.args.edges.now c.in-Some.cycle.items c.head.result c.of.result
+    clash_from c.args.spacing c.args.overlap (cut_view features pieces) c.args.edges.now c.in-Some.cycle.items c.head.result c.of.result
     c.of-2.result c.requires.edges c.requires.odd reported nearest (c.head.ensures.value features many) places
 
 pub returns-clause-fits : goal.returns-clause-fits

@@ -54,7 +54,7 @@ returns-clause-painted c = λ features many.
     let lines = c.of.ensures ∙ (c.in_ok-lines.ensures.lines ∙ ap (λ (cs : List Bool). map piece_line (zip cs pieces.keys)) c.items-2.ensures) in
     let differing : AreStitches pieces.sides colours c.in_ok-numbers.numbers.items = rw (c.sides-2.ensures.value, c.items-3.ensures) at c.in_ok-numbers.ensures in
     let stitches = c.of-2.ensures ∙ rw (c.zones.ensures.value, c.sides-3.ensures.value, c.deref.ensures.value) at c.in_ok-stitches.ensures.lines in
-    painted_from c.args.rule c.args.overlap (cut_view features pieces) edges joined colours c.in_ok-masks.masks.a c.in_ok-masks.masks.b
+    painted_from c.args.spacing c.args.overlap (cut_view features pieces) edges joined colours c.in_ok-masks.masks.a c.in_ok-masks.masks.b
     c.in_ok-numbers.numbers.items c.head-head.result c.of.result c.of-2.result
     are sums c.requires.even graph c.in_ok-masks.ensures.masks.first c.in_ok-masks.ensures.masks.second differing (c.head-head.ensures.value features many) lines stitches
 

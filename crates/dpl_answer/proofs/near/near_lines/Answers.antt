@@ -12,7 +12,7 @@ use Rattle.dpl_answer.proofs.near.near_lines.Goals as goal
 pub near_line-requires-clause-near : goal.near_line-requires-clause-near
 near_line-requires-clause-near c =
     let same : c.items-parts.result.now ≡ c.args.pieces.now.parts = c.items-parts.ensures.value ∙ c.parts.ensures.value in
-    subst (λ (ps : List (List Rect)). AreNear c.args.rule (part_at ps (get_or c.args.cycle.now c.loop-k.k 0))
+    subst (λ (ps : List (List Rect)). AreNear c.args.spacing (part_at ps (get_or c.args.cycle.now c.loop-k.k 0))
     (part_at ps (get_or c.args.cycle.now ((c.loop-k.k + 1) % length c.args.cycle.now) 0))) (sym same)
     (c.requires.near c.loop-k.k c.loop-k-test.true)
 
@@ -24,9 +24,9 @@ loop-k-preserved c =
     ∙ length-append c.loop-k.lines.items (line ∷ []) in
     record {
       each = omega (arith, count);
-      first = nearest_more c.args.rule c.args.pieces.now.parts c.args.cycle.now c.loop-k.k c.loop-k.lines.items c.push.new.self.items line
+      first = nearest_more c.args.spacing c.args.pieces.now.parts c.args.cycle.now c.loop-k.k c.loop-k.lines.items c.push.new.self.items line
           c.loop-k.invariant.each c.in_ok-push.ensures.items c.loop-k.invariant.first
-          (subst (λ (ps : List (List Rect)). IsNearestPair c.args.rule (part_at ps (get_or c.args.cycle.now c.loop-k.k 0))
+          (subst (λ (ps : List (List Rect)). IsNearestPair c.args.spacing (part_at ps (get_or c.args.cycle.now c.loop-k.k 0))
           (part_at ps (get_or c.args.cycle.now ((c.loop-k.k + 1) % length c.args.cycle.now) 0)) line.from line.to) same
           c.in_ok-line.ensures.nearest);
       fits = rw c.in_ok-push.ensures.items (fits_push IsNear _ _ c.loop-k.invariant.fits c.in_ok-line.ensures.within);

@@ -7,6 +7,6 @@ use Rattle.dpl_answer.proofs.near.near_lines.Given as goal
 abbrev pub invariant-loop-k : goal.invariant-loop-k
 invariant-loop-k l = record {
   each : length l.lines.items ≡ l.k;
-  first : AreNearestFirst l.rule l.pieces.parts l.cycle l.k l.lines.items;
+  first : AreNearestFirst l.spacing l.pieces.parts l.cycle l.k l.lines.items;
   fits : AllByRecursion IsNear l.lines.items;
 }

@@ -11,11 +11,11 @@ pub returns-then-counts_differ : goal.returns-then-counts_differ
 returns-then-counts_differ c =
     let (features, many, is) = c.in_ok-cut.ensures in
     let cut = cut_view features c.in_ok-cut.cut.pieces in
-    subst (λ (x : Cert). IsVerdictOfConflict c.args.rule c.args.overlap c.args.layer.now x c.counts_of.result) (sym c.in-Conflict.is)
+    subst (λ (x : Cert). IsVerdictOfConflict c.args.spacing c.args.overlap c.args.layer.now x c.counts_of.result) (sym c.in-Conflict.is)
     (inr (
       (λ differ. false≢true (c.if-rules_differ.ensures.1 differ)),
       inl (
-        counts-differ c.args.rule c.args.overlap c.args.layer.now c.in-Conflict.head c.in_ok-cut.cut features many is (c.counts_differ.ensures.0 c.if-counts_differ.true),
+        counts-differ c.args.spacing c.args.overlap c.args.layer.now c.in-Conflict.head c.in_ok-cut.cut features many is (c.counts_differ.ensures.0 c.if-counts_differ.true),
         (c.in_ok-cut.cut.features, length cut.pieces, length cut.zones, (cut, is, sym many, refl, refl), c.counts_of.ensures),
       ),
     ))
@@ -25,11 +25,11 @@ returns-in-Some c =
     let (features, many, is) = c.in_ok-cut.ensures in
     let cut = cut_view features c.in_ok-cut.cut.pieces in
     let found = rw (c.in-Some.is, c.items.ensures, c.items-2.ensures) at (c.in_ok-place.ensures features) in
-    subst (λ (x : Cert). IsVerdictOfConflict c.args.rule c.args.overlap c.args.layer.now x (Cycle c.in-Some.place)) (sym c.in-Conflict.is)
+    subst (λ (x : Cert). IsVerdictOfConflict c.args.spacing c.args.overlap c.args.layer.now x (Cycle c.in-Some.place)) (sym c.in-Conflict.is)
     (inr (
       (λ differ. false≢true (c.if-rules_differ.ensures.1 differ)),
       inr (
-        counts-kept c.args.rule c.args.overlap c.args.layer.now c.in-Conflict.head c.in_ok-cut.cut features many is (λ other. false≢true (c.if-counts_differ.ensures.1 other)),
+        counts-kept c.args.spacing c.args.overlap c.args.layer.now c.in-Conflict.head c.in_ok-cut.cut features many is (λ other. false≢true (c.if-counts_differ.ensures.1 other)),
         (cut, is, inl ((c.in-Some.place, found.inside, found.is), (c.in-Some.place, found, refl))),
       ),
     ))
@@ -39,11 +39,11 @@ returns c =
     let (features, many, is) = c.in_ok-cut.ensures in
     let cut = cut_view features c.in_ok-cut.cut.pieces in
     let none = rw (c.in_default-2.is, c.items.ensures, c.items-2.ensures) at (c.in_ok-place.ensures features) in
-    subst (λ (x : Cert). IsVerdictOfConflict c.args.rule c.args.overlap c.args.layer.now x Valid) (sym c.in-Conflict.is)
+    subst (λ (x : Cert). IsVerdictOfConflict c.args.spacing c.args.overlap c.args.layer.now x Valid) (sym c.in-Conflict.is)
     (inr (
       (λ differ. false≢true (c.if-rules_differ.ensures.1 differ)),
       inr (
-        counts-kept c.args.rule c.args.overlap c.args.layer.now c.in-Conflict.head c.in_ok-cut.cut features many is (λ other. false≢true (c.if-counts_differ.ensures.1 other)),
+        counts-kept c.args.spacing c.args.overlap c.args.layer.now c.in-Conflict.head c.in_ok-cut.cut features many is (λ other. false≢true (c.if-counts_differ.ensures.1 other)),
         (cut, is, inr (none, refl)),
       ),
     ))

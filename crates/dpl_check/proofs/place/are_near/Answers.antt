@@ -16,5 +16,5 @@ pub returns : goal.returns
 returns c =
     let first = rw c.in-Some.is at c.unit.ensures.some in
     let second = rw c.in-Some-unit.is at c.unit-2.ensures.some in
-    let same = near-units c.args.rule c.args.p c.args.q c.in-Some.first c.in-Some-unit.second first second in
+    let same = near-units c.args.spacing c.args.p c.args.q c.in-Some.first c.in-Some-unit.second first second in
     (λ test. same.0 (c.near.ensures.0 test), λ close. c.near.ensures.1 (same.1 close))

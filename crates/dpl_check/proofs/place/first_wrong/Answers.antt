@@ -18,15 +18,15 @@ no_line = record { from = record { x = pos 0; y = pos 0 }; to = record { x = pos
 pub returns-then-not-is_right : goal.returns-then-not-is_right
 returns-then-not-is_right c features =
     let place = get_or c.args.cycle.now c.loop-k.k no_place in
-    first-found (IsBadPlace c.args.rule (cut_view features c.args.cut.now.pieces) c.args.cycle.now c.args.near.now) c.args.cycle.now c.loop-k.k place (search rules) (search rules)
-    (not-right-bad c.args.rule features c.args.cut.now.pieces c.args.cycle.now c.args.near.now c.loop-k.k (search rules) place no_line
+    first-found (IsBadPlace c.args.spacing (cut_view features c.args.cut.now.pieces) c.args.cycle.now c.args.near.now) c.args.cycle.now c.loop-k.k place (search rules) (search rules)
+    (not-right-bad c.args.spacing features c.args.cut.now.pieces c.args.cycle.now c.args.near.now c.loop-k.k (search rules) place no_line
     (λ right. false≢true (c.if-not-is_right.ensures.1 right))) (c.loop-k.invariant.good features)
 
 pub returns-then-index : goal.returns-then-index
 returns-then-index c features =
     let place = get_or c.args.cycle.now c.loop-k.k no_place in
-    first-found (IsBadPlace c.args.rule (cut_view features c.args.cut.now.pieces) c.args.cycle.now c.args.near.now) c.args.cycle.now c.loop-k.k place (search rules) (search rules)
-    (stood-bad c.args.rule features c.args.cut.now.pieces c.args.cycle.now c.args.near.now c.loop-k.k
+    first-found (IsBadPlace c.args.spacing (cut_view features c.args.cut.now.pieces) c.args.cycle.now c.args.near.now) c.args.cycle.now c.loop-k.k place (search rules) (search rules)
+    (stood-bad c.args.spacing features c.args.cut.now.pieces c.args.cycle.now c.args.near.now c.loop-k.k
     (search rules) place no_line c.loop-k.stood.items false c.loop-k.invariant.marked (c.is_right.ensures.0 (search rules))
     (search rules)) (c.loop-k.invariant.good features)
 
@@ -35,14 +35,14 @@ loop-k-preserved c =
     let place = get_or c.args.cycle.now c.loop-k.k no_place in
     let right = c.is_right.ensures.0 (search rules) in
     record {
-      good = λ features. none-more (IsBadPlace c.args.rule (cut_view features c.args.cut.now.pieces) c.args.cycle.now c.args.near.now)
+      good = λ features. none-more (IsBadPlace c.args.spacing (cut_view features c.args.cut.now.pieces) c.args.cycle.now c.args.near.now)
           c.args.cycle.now c.loop-k.k place (search rules) (search rules)
-          (right-good c.args.rule features c.args.cut.now.pieces c.args.cycle.now c.args.near.now c.loop-k.k
+          (right-good c.args.spacing features c.args.cut.now.pieces c.args.cycle.now c.args.near.now c.loop-k.k
           (search rules) place no_line c.loop-k.stood.items false c.loop-k.invariant.marked right (search rules))
           (c.loop-k.invariant.good features);
       marked = marked-next (length c.args.cut.now.pieces.parts) c.args.cycle.now c.loop-k.k c.loop-k.stood.items right.known c.loop-k.invariant.marked;
     }
 
 pub returns : goal.returns
-returns c features = none-found (IsBadPlace c.args.rule (cut_view features c.args.cut.now.pieces) c.args.cycle.now c.args.near.now)
+returns c features = none-found (IsBadPlace c.args.spacing (cut_view features c.args.cut.now.pieces) c.args.cycle.now c.args.near.now)
     c.args.cycle.now c.loop-k.k (search rules) no_place (c.loop-k.invariant.good features)

@@ -8,6 +8,6 @@ use Rattle.dpl_check.proofs.place.first_wrong.Given as goal
 
 abbrev pub invariant-loop-k : goal.invariant-loop-k
 invariant-loop-k l = record {
-  good : (features : List (List Rect)) → NoneBelow (IsBadPlace l.rule (cut_view features l.cut.pieces) l.cycle l.near) l.cycle l.k;
+  good : (features : List (List Rect)) → NoneBelow (IsBadPlace l.spacing (cut_view features l.cut.pieces) l.cycle l.near) l.cycle l.k;
   marked : AreMarked (length l.cut.pieces.parts) l.cycle l.k l.stood.items;
 }

@@ -13,8 +13,8 @@ loop-n-init c =
     record {
       here = c.seek-n.ensures.found;
       added = search-none c.args.cell.now All c.tree-tree.result.now
-          (λ item. IsSlabEdge c.args.plan.now.rule c.args.plan.now.parts c.args.plan.now.owners c.args.cell.now item.owner item.rect)
-          (cell-missed c.args.plan.now.rule c.args.plan.now.parts c.args.plan.now.owners c.args.cell.now) c.seek-n.result c.new-found.result.items c.seek-n.ensures.passed;
+          (λ item. IsSlabEdge c.args.plan.now.spacing c.args.plan.now.parts c.args.plan.now.owners c.args.cell.now item.owner item.rect)
+          (cell-missed c.args.plan.now.spacing c.args.plan.now.parts c.args.plan.now.owners c.args.cell.now) c.seek-n.result c.new-found.result.items c.seek-n.ensures.passed;
     }
 
 pub add_slab-requires-clause-piece : goal.add_slab-requires-clause-piece
@@ -40,8 +40,8 @@ loop-n-preserved c =
     record {
       here = c.seek-n-in-loop-n.ensures.found;
       added = search-next c.args.cell.now All c.tree-tree.result.now
-          (λ item. IsSlabEdge c.args.plan.now.rule c.args.plan.now.parts c.args.plan.now.owners c.args.cell.now item.owner item.rect)
-          (cell-missed c.args.plan.now.rule c.args.plan.now.parts c.args.plan.now.owners c.args.cell.now) c.loop-n.n
+          (λ item. IsSlabEdge c.args.plan.now.spacing c.args.plan.now.parts c.args.plan.now.owners c.args.cell.now item.owner item.rect)
+          (cell-missed c.args.plan.now.spacing c.args.plan.now.parts c.args.plan.now.owners c.args.cell.now) c.loop-n.n
           c.seek-n-in-loop-n.result _ c.new-found.result.items c.loop-n.found.items _ inside (omega (arith, from))
           c.seek-n-in-loop-n.ensures.passed c.loop-n.invariant.added (rw (c.item.ensures c.item.result) at c.in_ok-add_slab.ensures);
     }
@@ -49,12 +49,12 @@ loop-n-preserved c =
 pub returns-clause-edges : goal.returns-clause-edges
 returns-clause-edges c =
     let all = search-all c.tree-tree.result.now c.args.plan.now.parts
-    (IsSlabEdge c.args.plan.now.rule c.args.plan.now.parts c.args.plan.now.owners c.args.cell.now) c.tree-tree.ensures.items c.loop-n.n
+    (IsSlabEdge c.args.plan.now.spacing c.args.plan.now.parts c.args.plan.now.owners c.args.cell.now) c.tree-tree.ensures.items c.loop-n.n
     c.new-found.result.items c.loop-n.found.items
     (rw c.count.ensures at c.loop-n-test.false) c.loop-n.invariant.added in
-    let found = added-to_none (OfSlab (IsSlabEdge c.args.plan.now.rule c.args.plan.now.parts c.args.plan.now.owners c.args.cell.now)
+    let found = added-to_none (OfSlab (IsSlabEdge c.args.plan.now.spacing c.args.plan.now.parts c.args.plan.now.owners c.args.cell.now)
     c.args.plan.now.parts) _ _ c.new-found.ensures.items all in
     λ e. (
-      λ h. (slab-edges c.args.plan.now.rule c.args.plan.now.parts c.args.plan.now.owners c.args.cell.now e).0 ((found e).0 h),
-      λ h. (found e).1 ((slab-edges c.args.plan.now.rule c.args.plan.now.parts c.args.plan.now.owners c.args.cell.now e).1 h),
+      λ h. (slab-edges c.args.plan.now.spacing c.args.plan.now.parts c.args.plan.now.owners c.args.cell.now e).0 ((found e).0 h),
+      λ h. (found e).1 ((slab-edges c.args.plan.now.spacing c.args.plan.now.parts c.args.plan.now.owners c.args.cell.now e).1 h),
     )

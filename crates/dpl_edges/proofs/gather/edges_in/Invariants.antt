@@ -12,7 +12,7 @@ abbrev pub invariant-loop-n : goal.invariant-loop-n
 invariant-loop-n l =
     record {
       here : (d : Item) → l.n < length l.tree → ¬ IsMissed l.cell All (get_or l.tree l.n d);
-      added : Adds (OfFirst (Nth (λ item. IsSlabEdge l.plan.rule l.plan.parts l.plan.owners l.cell item.owner item.rect) l.tree) l.n) l.initial.found.items l.found.items;
+      added : Adds (OfFirst (Nth (λ item. IsSlabEdge l.plan.spacing l.plan.parts l.plan.owners l.cell item.owner item.rect) l.tree) l.n) l.initial.found.items l.found.items;
     }
 
 abbrev pub decreases-loop-n : goal.decreases-loop-n

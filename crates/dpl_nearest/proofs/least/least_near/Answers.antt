@@ -8,5 +8,5 @@ pub least_in_tree-requires-clause-others : goal.least_in_tree-requires-clause-ot
 least_in_tree-requires-clause-others c = items-solid c.args.others.now c.in_ok-tree.tree c.in_ok-tree.ensures c.requires.others_solid
 
 pub returns : goal.returns
-returns c = least-beside c.args.rule (Covers c.args.rects.now) (ItemCovers Everyone c.in_ok-tree.tree) (Covers c.args.others.now) c.least_in_tree.result
+returns c = least-beside c.args.spacing (Covers c.args.rects.now) (ItemCovers Everyone c.in_ok-tree.tree) (Covers c.args.others.now) c.least_in_tree.result
     (items-cover c.args.others.now c.in_ok-tree.tree c.in_ok-tree.ensures) (covers-items c.args.others.now c.in_ok-tree.tree c.in_ok-tree.ensures) c.least_in_tree.ensures

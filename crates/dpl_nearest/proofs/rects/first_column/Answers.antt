@@ -15,7 +15,7 @@ loop-high-init c =
       low = omega (arith, ints);
       between = search rules;
       high = omega (arith, ints);
-      none = no_columns c.args.rule c.args.r.now
+      none = no_columns c.args.spacing c.args.r.now
           (ItemCovers c.args.owners c.args.others.now);
       some = c.requires.near;
     })
@@ -39,7 +39,7 @@ loop-high-smaller c =
     rw (to_z-of_z w32 c.halfway-middle.result m) (omega (arith, ints))
 
 pub returns-clause-near : goal.returns-clause-near
-returns-clause-near c = near_column c.args.rule c.args.r.now (ItemCovers c.args.owners c.args.others.now) _ _ c.loop-high.invariant.low
+returns-clause-near c = near_column c.args.spacing c.args.r.now (ItemCovers c.args.owners c.args.others.now) _ _ c.loop-high.invariant.low
     (omega (arith, ints)) c.loop-high.invariant.none c.loop-high.invariant.some
 
 pub loop-high-preserved-then-near_left : goal.loop-high-preserved-then-near_left

@@ -9,8 +9,8 @@ invariant-loop-high l = record {
   low : l.r.x0 ≤ℤ l.low;
   between : l.low <ℤ l.high;
   high : l.high ≤ℤ l.r.x1;
-  none : ¬ AreNear l.rule (Has (columns_left l.r l.low)) (ItemCovers l.owners l.others);
-  some : AreNear l.rule (Has (columns_left l.r l.high)) (ItemCovers l.owners l.others);
+  none : ¬ AreNear l.spacing (Has (columns_left l.r l.low)) (ItemCovers l.owners l.others);
+  some : AreNear l.spacing (Has (columns_left l.r l.high)) (ItemCovers l.owners l.others);
 }
 
 abbrev pub decreases-loop-high : goal.decreases-loop-high

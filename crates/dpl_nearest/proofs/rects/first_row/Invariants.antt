@@ -9,8 +9,8 @@ invariant-loop-high l = record {
   low : l.r.y0 ≤ℤ l.low;
   between : l.low <ℤ l.high;
   high : l.high ≤ℤ l.r.y1;
-  none : ¬ AreNear l.rule (Has (rows_below l.r l.low)) (ItemCovers l.owners l.others);
-  some : AreNear l.rule (Has (rows_below l.r l.high)) (ItemCovers l.owners l.others);
+  none : ¬ AreNear l.spacing (Has (rows_below l.r l.low)) (ItemCovers l.owners l.others);
+  some : AreNear l.spacing (Has (rows_below l.r l.high)) (ItemCovers l.owners l.others);
 }
 
 abbrev pub decreases-loop-high : goal.decreases-loop-high

@@ -11,7 +11,7 @@ use Rattle.dpl_nearest.proofs.rects.least_of.Goals as goal
 pub first_column-x-requires-clause-near : goal.first_column-x-requires-clause-near
 first_column-x-requires-clause-near c =
     let is = rw (to_z-of_z w32 c.first_row-y.result (sfits_of c.first_row-y.type_inv)) at c.row-only.ensures in
-    subst (λ (u : Rect). AreNear c.args.rule (Has u) (ItemCovers c.args.owners c.args.others.now)) (sym is) c.first_row-y.ensures.near
+    subst (λ (u : Rect). AreNear c.args.spacing (Has u) (ItemCovers c.args.owners c.args.others.now)) (sym is) c.first_row-y.ensures.near
 
 pub returns : goal.returns
 returns c =
@@ -25,6 +25,6 @@ returns c =
       to_z-of_z w64 c.first_row-y.result y,
       to_z-of_z w64 c.first_column-x.result x,
     )
-    (least_square_in c.args.rule c.args.r.now c.row-only.result (ItemCovers c.args.owners c.args.others.now) c.first_column-x.result c.first_row-y.result is
+    (least_square_in c.args.spacing c.args.r.now c.row-only.result (ItemCovers c.args.owners c.args.others.now) c.first_column-x.result c.first_row-y.result is
     c.first_row-y.ensures.low c.first_row-y.ensures.high c.first_column-x.ensures.low c.first_column-x.ensures.high
     c.first_column-x.ensures.near c.first_column-x.ensures.first c.first_row-y.ensures.first)

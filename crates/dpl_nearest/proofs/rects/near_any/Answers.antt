@@ -8,7 +8,7 @@ use Rattle.dpl_nearest.proofs.rects.near_any.Goals as goal
 pub loop-n-init : goal.loop-n-init
 loop-n-init c = record {
   here = λ d l out. c.seek-n.ensures.found d l (inr out);
-  far = far-first c.args.rule c.args.owners c.args.r.now c.widened-window.result c.args.others.now c.seek-n.result c.widened-window.ensures c.seek-n.ensures.passed;
+  far = far-first c.args.spacing c.args.owners c.args.r.now c.widened-window.result c.args.others.now c.seek-n.result c.requires.corner c.widened-window.ensures c.seek-n.ensures.passed;
 }
 
 pub near-requires-clause-solid_b : goal.near-requires-clause-solid_b
@@ -35,15 +35,15 @@ loop-n-preserved c =
     let near = rw (c.item.ensures c.item.result) at c.if-near.ensures in
     record {
       here = λ d l out. c.seek-n-in-loop-n.ensures.found d l (inr out);
-      far = far-more c.args.rule c.args.owners c.args.r.now c.widened-window.result c.args.others.now c.loop-n.n c.seek-n-in-loop-n.result
-          _ c.widened-window.ensures inside c.loop-n.invariant.far
+      far = far-more c.args.spacing c.args.owners c.args.r.now c.widened-window.result c.args.others.now c.loop-n.n c.seek-n-in-loop-n.result
+          _ c.requires.corner c.widened-window.ensures inside c.loop-n.invariant.far
           (λ h. false≢true (near.1 h)) c.seek-n-in-loop-n.ensures.passed;
     }
 
 pub returns-then-near : goal.returns-then-near
 returns-then-near c =
     let inside : c.loop-n.n < length c.args.others.now = rw c.count.ensures at c.loop-n-test.true in (
-      λ h. item-near c.args.rule c.args.owners c.args.r.now c.args.others.now _ _
+      λ h. item-near c.args.spacing c.args.owners c.args.r.now c.args.others.now _ _
           (item-is c.args.others.now c.loop-n.n c.item.result inside c.item.ensures) (found-sought c.args.owners c.item.result.owner
           (rw (← c.item.ensures c.item.result) at (c.loop-n.invariant.here c.item.result inside))) (c.near.ensures.0 c.if-near.true),
       λ h. refl,
@@ -52,4 +52,4 @@ returns-then-near c =
 pub returns : goal.returns
 returns c =
     let all = rw c.count.ensures at c.loop-n-test.false in
-    (λ h. absurd (false≢true h), λ near. absurd (none-near c.args.rule c.args.owners c.args.r.now c.args.others.now c.loop-n.n all c.loop-n.invariant.far near))
+    (λ h. absurd (false≢true h), λ near. absurd (none-near c.args.spacing c.args.owners c.args.r.now c.args.others.now c.loop-n.n all c.loop-n.invariant.far near))

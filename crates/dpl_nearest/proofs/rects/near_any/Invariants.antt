@@ -8,7 +8,7 @@ abbrev pub invariant-loop-n : goal.invariant-loop-n
 invariant-loop-n l =
     record {
       here : (d : Item) → l.n < length l.others → ¬ IsLeftOut l.owners (get_or l.others l.n d).owner;
-      far : AreFarFrom l.rule l.owners l.r l.others l.n;
+      far : AreFarFrom l.spacing l.owners l.r l.others l.n;
     }
 
 abbrev pub decreases-loop-n : goal.decreases-loop-n

@@ -8,4 +8,4 @@ use Rattle.dpl_nearest.proofs.rects.near_below.Goals as goal
 pub returns : goal.returns
 returns c =
     let is = rw (to_z-of_z w32 c.args.y c.ranges.y) at c.below-part.ensures in
-    subst (λ (u : Rect). IsTrue c.near_any.result ↔ AreNear c.args.rule (Has u) (ItemCovers c.args.owners c.args.others.now)) is c.near_any.ensures
+    subst (λ (u : Rect). IsTrue c.near_any.result ↔ AreNear c.args.spacing (Has u) (ItemCovers c.args.owners c.args.others.now)) is c.near_any.ensures

@@ -36,7 +36,7 @@ add_pieces-requires c =
 pub loop-feature-preserved : goal.loop-feature-preserved
 loop-feature-preserved c =
     let at = c.loop-feature in
-    let (rule, overlap, some, zs) = c.requires.zones in
+    let (spacing, overlap, some, zs) = c.requires.zones in
     let steps = c.in-Some.ensures.steps in
     let t = turn c.args.features.items at.yielded _ _ c.in-Some.feature at.number at.invariant.all steps.0 at.invariant.count in
     let left = at.invariant.left in
@@ -52,7 +52,7 @@ loop-feature-preserved c =
       zones = rw c.split_at.ensures.back
           (zones-after c.args.zones.now at.rest.now at.number c.own_count.result at.invariant.zones c.own_count.ensures.own
           c.own_count.ensures.next);
-      pieces = pieces-next rule overlap c.args.features.items c.args.zones.now
+      pieces = pieces-next spacing overlap c.args.features.items c.args.zones.now
           (comps c.args.features.items c.args.zones.now c.requires.features c.requires.zones) zs at.number t.1 c.in_ok-holes.holes.items own
           at.pieces.items _ at.invariant.pieces
           (c.requires.within at.number _ t.1) (rw t.2 at c.in_ok-add_pieces.ensures.adds);

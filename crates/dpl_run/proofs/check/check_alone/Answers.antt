@@ -14,9 +14,10 @@ check_conflict-requires-clause-kind c = rw c.in-Conflict.is tt
 pub returns-in_ok-verdict-in-Conflict : goal.returns-in_ok-verdict-in-Conflict
 returns-in_ok-verdict-in-Conflict c =
     let kind : IsOfConflict c.args.cert.now = rw c.in-Conflict.is tt in
+    let said = rw c.uniform-spacing.ensures at c.in_ok-verdict-in-Conflict.ensures in
     IfOk-weaker c.judged.result _ _
     (λ x is out. cycle_checked (check_view c.args.options.now) c.args.layer.now out c.args.cert.now c.in_ok-verdict-in-Conflict.verdict
-    (output_view x) kind c.in_ok-verdict-in-Conflict.ensures is) c.judged.ensures
+    (output_view x) kind said is) c.judged.ensures
 
 pub returns-in-Fault : goal.returns-in-Fault
 returns-in-Fault c = IfOk-weaker c.judged-in-Fault.result _ _

@@ -48,6 +48,7 @@ returns c =
     (λ (h : Choice). IsLayout h bytes (Layer a.copied.items a.slabs)) c.mask_choice.ensures read in
     let second : IsLayout (mask_choice v.b) bytes (Layer b.copied.items b.slabs) = subst
     (λ (h : Choice). IsLayout h bytes (Layer b.copied.items b.slabs)) c.mask_choice-2.ensures c.in-Ok-layer_of.ensures.layer in
+    let said = rw c.uniform-spacing.ensures at c.in_ok-verdict.ensures in
     IfOk-weaker c.judged.result _ _
     (λ x h. masks_judged v c.args.layer.now c.args.cert.now bytes a.copied.items b.copied.items a.slabs b.slabs c.in_ok-verdict.verdict
-    (output_view x) c.requires.size first second c.in_ok-verdict.ensures h) c.judged.ensures
+    (output_view x) c.requires.size first second said h) c.judged.ensures

@@ -16,8 +16,8 @@ returns-in-Err-Refused-clause-decision g c =
 pub returns-clause-decision : goal.returns-clause-decision
 returns-clause-decision g c =
     let order = c.args.order.now in
-    let (features, many, is) = c.in_ok-cut.ensures.cut in
-    let (pieces, completed, flat) = c.in_ok-answer.ensures.flat in
+    let (features, many, is) = rw c.uniform-spacing.ensures at c.in_ok-cut.ensures.cut in
+    let (pieces, completed, flat) = rw c.uniform-spacing.ensures at c.in_ok-answer.ensures.flat in
     answered (choice_view order.choice) order.rule order.overlap c.args.bytes.items c.in-Ok.layer.copied.items c.in-Ok.layer.slabs
     (flat_view c.in_ok-answer.answer) c.requires.size c.in-Ok.ensures.layer
     (cut_view features pieces, is pieces completed, flat features many)

@@ -7,6 +7,7 @@ invariant_of-result c =
     record {
       owned = c.requires.owners;
       parted = c.items.ensures.parts;
+      corner = c.requires.corner;
       items = rw c.items-2.ensures.value at c.in_ok-tree.ensures;
       few = laid.few;
       sound = laid.sound;
@@ -16,4 +17,4 @@ invariant_of-result c =
 pub returns : goal.returns
 returns c =
     let laid = rw c.items.ensures.value at c.in_ok-laid.ensures in
-    record { of_parts = refl; of_owners = refl; of_rule = refl; tiles = laid.tiles }
+    record { of_parts = refl; of_owners = refl; of_spacing = refl; tiles = laid.tiles }

@@ -6,11 +6,11 @@ use Rattle.dpl_view.proofs.clashes.clashes_of.Goals as goal
 
 pub returns-in-Even : goal.returns-in-Even
 returns-in-Even c =
-    let are = conflicts_completed c.args.rule c.args.cut.pieces c.in_ok-cut.cut.pieces c.args.conflicts.now c.in_ok-cut.ensures.pieces c.requires.conflicts in
+    let are = conflicts_completed c.args.spacing c.args.cut.pieces c.in_ok-cut.cut.pieces c.args.conflicts.now c.in_ok-cut.ensures.pieces c.requires.conflicts in
     let (sums, even) = rw c.in-Even.is at are in (
       c.in_ok-cut.cut.pieces,
       c.in_ok-cut.ensures.pieces,
-      λ features many. even_clashes c.args.rule c.args.overlap (cut_view features c.in_ok-cut.cut.pieces) _ sums even c.new.result.items c.new.ensures.items,
+      λ features many. even_clashes c.args.spacing c.args.overlap (cut_view features c.in_ok-cut.cut.pieces) _ sums even c.new.result.items c.new.ensures.items,
     )
 
 pub odd_clashes-requires-clause-keys : goal.odd_clashes-requires-clause-keys

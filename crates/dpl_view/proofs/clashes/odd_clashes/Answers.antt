@@ -12,15 +12,15 @@ pub told-requires-clause-odd : goal.told-requires-clause-odd
 told-requires-clause-odd c = λ x there.
     let pieces = c.args.cut.now.pieces in
     let cycles = c.in_ok-cycles.cycles in
-    All-contains (IsOddCycle (Conflict c.args.rule pieces.parts pieces.owners)) cycles.items x
-    (odd_each c.args.rule (cut_view [] pieces) c.args.edges.now cycles.items c.requires.edges c.in_ok-cycles.ensures.odd)
+    All-contains (IsOddCycle (Conflict c.args.spacing pieces.parts pieces.owners)) cycles.items x
+    (odd_each c.args.spacing (cut_view [] pieces) c.args.edges.now cycles.items c.requires.edges c.in_ok-cycles.ensures.odd)
     (subst (λ (xs : List (List ℕ)). Contains xs x) c.deref.ensures.value there)
 
 pub returns : goal.returns
 returns c = λ features many.
     let pieces = c.args.cut.now.pieces in
     let cycles = c.in_ok-cycles.cycles in
-    odd_clashes c.args.rule c.args.overlap (cut_view features pieces) c.args.edges.now cycles.items c.in_ok-found.found.items c.requires.edges
+    odd_clashes c.args.spacing c.args.overlap (cut_view features pieces) c.args.edges.now cycles.items c.in_ok-found.found.items c.requires.edges
     c.in_ok-cycles.ensures.cycles c.in_ok-cycles.ensures.odd
-    (subst (λ (xs : List (List ℕ)). AllZip (IsToldOf c.args.rule c.args.overlap (cut_view features pieces)) xs c.in_ok-found.found.items) c.deref.ensures.value
+    (subst (λ (xs : List (List ℕ)). AllZip (IsToldOf c.args.spacing c.args.overlap (cut_view features pieces)) xs c.in_ok-found.found.items) c.deref.ensures.value
     (c.in_ok-found.ensures features many))

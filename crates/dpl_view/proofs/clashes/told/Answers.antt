@@ -8,8 +8,8 @@ use Rattle.dpl_view.proofs.clashes.told.Goals as goal
 pub loop-cycle-preserved : goal.loop-cycle-preserved
 loop-cycle-preserved c = λ features many.
     let cut = cut_view features c.args.cut.now.pieces in
-    told_more c.args.rule c.args.overlap cut c.args.cycles.now c.loop-cycle.cycle-index c.loop-cycle.found.items c.push.new.self.items c.in_ok-clash.clash
+    told_more c.args.spacing c.args.overlap cut c.args.cycles.now c.loop-cycle.cycle-index c.loop-cycle.found.items c.push.new.self.items c.in_ok-clash.clash
     c.loop-cycle-test.true c.in_ok-push.ensures.items
-    (subst (λ (x : List ℕ). IsToldOf c.args.rule c.args.overlap cut x c.in_ok-clash.clash)
+    (subst (λ (x : List ℕ). IsToldOf c.args.spacing c.args.overlap cut x c.in_ok-clash.clash)
     (c.items.ensures ∙ get_or_read c.args.cycles.now c.loop-cycle.cycle-index c.cycle-item.result c.loop-cycle-test.true c.cycle-item.is []) (c.in_ok-clash.ensures features many))
     (c.loop-cycle.invariant features many)

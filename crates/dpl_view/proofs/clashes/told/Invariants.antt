@@ -5,4 +5,4 @@ use Rattle.dpl_view.specs.Clashes.{IsToldOf}
 use Rattle.dpl_view.proofs.clashes.told.Given as goal
 
 abbrev pub invariant-loop-cycle : goal.invariant-loop-cycle
-invariant-loop-cycle l = OfAnyCut l.cut (λ c. AllZip (IsToldOf l.rule l.overlap c) (take l.cycle-index l.cycles) l.found.items)
+invariant-loop-cycle l = OfAnyCut l.cut (λ c. AllZip (IsToldOf l.spacing l.overlap c) (take l.cycle-index l.cycles) l.found.items)

@@ -30,7 +30,7 @@ loop-rect-preserved c =
 pub returns : goal.returns
 returns c =
     let own : c.index-parts-k.result ≡ get_or c.args.parts.now c.args.k [] = c.index-parts-k.is ∙ get_or_default _ _ _ _ c.requires.part in
-    feature-all c.args.rule c.args.overlap c.args.parts.now c.args.k (others_in c.args.tree.now c.args.k) c.in_ok-kept.kept.items
+    feature-all c.args.spacing c.args.overlap c.args.parts.now c.args.k (others_in c.args.tree.now c.args.k) c.in_ok-kept.kept.items
     c.loop-rect.rect-index c.args.found.now.items c.loop-rect.found.items
     c.requires.part (others-of_items c.args.parts.now c.args.tree.now c.args.k c.requires.items c.requires.part) (rw c.deref-rect-items.ensures.value at c.loop-rect-test.false)
     (rw own at c.in_ok-kept.ensures) (rw c.deref-rect-items.ensures.value at c.loop-rect.invariant)

@@ -9,7 +9,7 @@ abbrev pub invariant-loop-i : goal.invariant-loop-i
 invariant-loop-i l =
     record {
       found : (d : Item) → l.i < length l.tree → ¬ IsMissed l.window (But l.own) (get_or l.tree l.i d);
-      searched : IsSearched l.rule l.slab l.tree l.own l.i l.near.items;
+      searched : IsSearched l.fn.spacing l.slab l.tree l.own l.i l.near.items;
     }
 
 abbrev pub decreases-loop-i : goal.decreases-loop-i

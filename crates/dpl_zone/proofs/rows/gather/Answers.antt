@@ -16,24 +16,24 @@ pub loop-n-init : goal.loop-n-init
 loop-n-init c =
     record {
       tall = tall-none c.new-spans.result.items c.new-spans.ensures.items;
-      rows = first-none c.args.rule c.args.tree.now c.args.near.now c.args.slab.now c.new-spans.result.items c.new-spans.ensures.items;
+      rows = first-none c.args.spacing c.args.tree.now c.args.near.now c.args.slab.now c.new-spans.result.items c.new-spans.ensures.items;
     }
 
 pub loop-n-preserved : goal.loop-n-preserved
 loop-n-preserved c =
     record {
       tall = c.in_ok-add_shadow.ensures.tall;
-      rows = first-more c.args.rule c.args.tree.now c.args.near.now c.loop-n.n-index c.args.slab.now c.rect.result c.loop-n.spans.items _
+      rows = first-more c.args.spacing c.args.tree.now c.args.near.now c.loop-n.n-index c.args.slab.now c.rect.result c.loop-n.spans.items _
           c.loop-n-test.true c.rect.ensures c.in_ok-add_shadow.ensures.rows c.loop-n.invariant.rows;
     }
 
 pub returns-then-is_covered-clause-rows : goal.returns-then-is_covered-clause-rows
 returns-then-is_covered-clause-rows c =
-    first-covered c.args.rule c.args.tree.now c.args.near.now _ c.args.slab.now c.add_shadow.new.spans.items
-    (first-more c.args.rule c.args.tree.now c.args.near.now c.loop-n.n-index c.args.slab.now c.rect.result c.loop-n.spans.items _
+    first-covered c.args.spacing c.args.tree.now c.args.near.now _ c.args.slab.now c.add_shadow.new.spans.items
+    (first-more c.args.spacing c.args.tree.now c.args.near.now c.loop-n.n-index c.args.slab.now c.rect.result c.loop-n.spans.items _
     c.loop-n-test.true c.rect.ensures c.in_ok-add_shadow.ensures.rows c.loop-n.invariant.rows)
     (rw c.as_slice.ensures at (c.if-is_covered.ensures refl))
 
 pub returns-clause-rows : goal.returns-clause-rows
-returns-clause-rows c y low high = first-all c.args.rule c.args.tree.now c.args.near.now c.loop-n.n-index c.args.slab.now
+returns-clause-rows c y low high = first-all c.args.spacing c.args.tree.now c.args.near.now c.loop-n.n-index c.args.slab.now
     c.loop-n.spans.items c.loop-n-test.false c.loop-n.invariant.rows y

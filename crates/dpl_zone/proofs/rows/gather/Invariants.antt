@@ -7,5 +7,5 @@ abbrev pub invariant-loop-n : goal.invariant-loop-n
 invariant-loop-n l =
     record {
       tall : AreTall l.spans.items;
-      rows : (y : ℤ) → SomeRow l.spans.items y ↔ DarkFirst l.rule l.tree l.near l.n-index l.slab y;
+      rows : (y : ℤ) → SomeRow l.spans.items y ↔ DarkFirst l.spacing l.tree l.near l.n-index l.slab y;
     }

@@ -22,5 +22,5 @@ returns-clause-rise c =
 pub returns-clause-rows : goal.returns-clause-rows
 returns-clause-rows c =
     rw (items-with_items c.in_ok-spans.spans c.sort_unstable_by_key.new.self (search rules))
-    (rows-sorted _ _ c.args.slab.now.y0 c.args.slab.now.y1 (IsDarkBy c.args.rule c.args.tree.now c.args.near.now c.args.slab.now)
+    (rows-sorted _ _ c.args.slab.now.y0 c.args.slab.now.y1 (IsDarkBy c.args.spacing c.args.tree.now c.args.near.now c.args.slab.now)
     (rw c.deref_mut.ensures.value at c.sort_unstable_by_key.ensures.permutation) c.in_ok-spans.ensures.rows)

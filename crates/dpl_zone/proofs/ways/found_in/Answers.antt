@@ -28,7 +28,7 @@ upright_zones-requires-clause-apart c = rw c.rects-2.ensures.value c.requires.ap
 pub returns-clause-found : goal.returns-clause-found
 returns-clause-found c =
     record {
-      flat = flat-as c.args.rule c.args.overlap c.args.part.now _ (others_in c.args.tree.now c.args.own) c.in_ok-flat.flat.items
+      flat = flat-as c.args.spacing c.args.overlap c.args.part.now _ (others_in c.args.tree.now c.args.own) c.in_ok-flat.flat.items
           (others-back c.args.tree.now c.args.across.now c.args.own c.requires.transposed) c.in_ok-flat.ensures;
       upright = rw c.rects-2.ensures.value at c.in_ok-upright.ensures;
     }
