@@ -12,7 +12,7 @@ them. Each run must end in one of these ways, and only the caller's thread is le
   out of memory  status 6, nothing said, and both files are as they were before
   passed over    the status, the text and both files are those of a run without a refusal: dpl does without what was refused
   read fault     status 4, nothing said, and both files are as they were before
-  write fault    status 5, nothing said, and no more is in the files than a front of what is written without a refusal
+  write fault    status 5, nothing said, and no more is in the files than a prefix of what is written without a refusal
 A fault is the answer where a file is open and no memory is left for its name, so once at most for each file. For each case a
 line is printed with how many runs ended in which way. The script ends with 0 where all are right, else with 1 after the runs
 that are not.
