@@ -1,6 +1,6 @@
 //! Worked graphs, and the odd cycles that are reported of them.
 use dpl_list::{Edge, Id};
-use dpl_odd::{odd_cycle, odd_cycles};
+use dpl_odd::odd_cycle;
 use dpl_stars::are_edges_below;
 use std::test::Fail;
 
@@ -41,47 +41,6 @@ fn finds_the_cycle(rt: HostRuntime) -> Result<(), Fail> {
         match odd_cycle(rt.alloc(), n, edges)? {
             Some(cycle) => assert_eq!(rt; cycle.as_slice(), want),
             None => assert!(rt; want.is_empty()),
-        }
-    }
-    Ok(())
-}
-
-#[test]
-fn finds_a_cycle_of_each_component(rt: HostRuntime) -> Result<(), Fail> {
-    let cases: [(Id, &[Edge], &[&[Id]]); 4] = [
-        // two triangles, whose numbers lie among each other
-        (
-            6,
-            &[(0, 3), (1, 2), (1, 5), (2, 5), (3, 4), (0, 4)],
-            &[&[0, 3, 4], &[1, 2, 5]],
-        ),
-        // the first component and the last but one have none; two triangles that share a number have one cycle
-        (
-            12,
-            &[
-                (0, 1),
-                (2, 3),
-                (2, 4),
-                (3, 4),
-                (2, 5),
-                (2, 6),
-                (5, 6),
-                (7, 8),
-                (9, 10),
-                (9, 11),
-                (10, 11),
-            ],
-            &[&[2, 3, 4], &[9, 10, 11]],
-        ),
-        (4, &[(0, 1), (1, 2), (2, 3), (0, 3)], &[]),
-        (0, &[], &[]),
-    ];
-    for (n, edges, want) in cases {
-        assert!(rt; are_edges_below(n, edges));
-        let found = odd_cycles(rt.alloc(), n, edges)?;
-        assert_eq!(rt; found.len(), want.len());
-        for (cycle, want) in found.iter().zip(want) {
-            assert_eq!(rt; cycle.items(), *want);
         }
     }
     Ok(())
