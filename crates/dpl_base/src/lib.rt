@@ -55,21 +55,28 @@ pub fn gap2(a: &Rect, b: &Rect) -> u128
     across * across + up * up
 }
 
+/// Whether so many columns and rows away is less than `least` away, as the crow flies. Squares of what is less than a `u32` fit a `u64`.
+fn is_within(across: u64, up: u64, least: u32) -> bool
+    ensures { IsTrue result ↔ (across * across + up * up < least * least) }
+{
+    let least = least as u64;
+    if across >= least || up >= least {
+        return false;
+    }
+    across * across < least * least - up * up
+}
+
 /// Whether so many columns and rows between two squares, in database units, are too few for one mask.
 pub fn too_few(spacing: Spacing, across: u64, up: u64) -> bool
     requires corner { spacing.corner ≤ spacing.rule }
     ensures { IsTrue result ↔ TooFew spacing across up }
 {
-    if across >= spacing.rule as u64 || up >= spacing.rule as u64 {
-        return false;
-    }
     let least = if across > 0 && up > 0 {
         spacing.corner
     } else {
         spacing.rule
     };
-    let (dx, dy) = (across as u128, up as u128);
-    dx * dx + dy * dy < least as u128 * least as u128
+    is_within(across, up, least)
 }
 
 /// Whether some square of `a` is near some square of `b`: closer than the spacing's corner rule where columns and rows lie between the two, else closer than its rule.
