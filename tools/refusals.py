@@ -1,21 +1,22 @@
 #!/usr/bin/env python3
-"""Refuses dpl each allocation in turn, and each thread that it asks for, and looks at what it leaves.
+"""Refuses a run of dpl each allocation in turn, and each thread that it asks for, and looks at what it leaves.
 
-usage: refusals.py DPL [CASE ..]
+usage: refusals.py TOP [CASE ..]
 
-DPL is the program, as crates/dpl/out/dpl once it is proved and built (tools/prove.py). CASE is one or more of those below
+TOP is the folder that holds crates.txt, with crates/dpl_run proved (tools/prove.py). CASE is one or more of those below
 (default: all of them). A C compiler, cc, is needed.
 
+First a program is proved and built in TOP/out/refusals: refused_run.rattle beside this file, which runs dpl_run::run over
+SureHost. That host's calls never fail and take no memory, so each allocation of a run is the run's own. Its text isn't a .rt
+file, as the gate proves and builds what is one, which takes minutes.
+
 A case is a split of a made-up layout. It runs once for each allocation, or in the largest case for one of a thousand, with a
-library loaded before the C library, which counts the allocations and threads that the program asks for, and refuses one of
-them. Each run must end in one of these ways, and only the caller's thread is left then:
-  out of memory  status 6, nothing said, and both files are as they were before
-  passed over    the status, the text and both files are those of a run without a refusal: dpl does without what was refused
-  read fault     status 4, nothing said, and both files are as they were before
-  write fault    status 5, nothing said, and no more is in the files than a prefix of what is written without a refusal
-A fault is the answer where a file is open and no memory is left for its name, so once at most for each file. For each case a
-line is printed with how many runs ended in which way. The script ends with 0 where all are right, else with 1 after the runs
-that are not.
+library loaded before the C library, which counts the allocations and threads that are asked for between the begin and the end
+of the run, and refuses one of them. Each run must end in one of these ways, and only the caller's thread is left then:
+  out of memory  status 6, and not a byte was written or said
+  passed over    the status, and as many bytes written and said as without a refusal: the run does without what was refused
+For each case a line is printed with how many runs ended in which way. The script ends with 0 where all are right, else with 1
+after the runs that are not.
 
 As allocations count those of the program alone, and not those that the C library makes for itself; a growth of what was
 allocated before; and a thread."""
@@ -25,14 +26,16 @@ import os
 import shutil
 import subprocess
 import sys
-import tempfile
 
-sys.path.insert(0, os.path.join(os.path.dirname(os.path.abspath(__file__)), "..", "bench"))
+HERE = os.path.dirname(os.path.abspath(__file__))
+sys.path.insert(0, os.path.join(HERE, "..", "bench"))
 import layouts
+import prove
 
-READ_FAULT, WRITE_FAULT, NO_MEMORY = 4, 5, 6
-# The most runs of a case that may end in a fault: a split reads one file and writes two.
-MOST = {"read fault": 1, "write fault": 2}
+NO_MEMORY = 6
+NAME = "refused_run"
+# What it stands on.
+NEEDS = ["dpl_host", "dpl_pool", "dpl_run"]
 
 SHIM = r"""
 #define _GNU_SOURCE
@@ -50,6 +53,7 @@ extern void *__libc_malloc(size_t);
 extern void *__libc_realloc(void *, size_t);
 
 static atomic_ulong count;
+static atomic_int told;
 static unsigned long refused;
 static char *low, *high;
 
@@ -57,8 +61,15 @@ static int is_own(void *caller) {
     return low <= (char *)caller && (char *)caller < high;
 }
 
+/* The run stands between the first and the second write to standard output. */
 static int is_refused(void) {
-    return atomic_fetch_add(&count, 1) + 1 == refused;
+    return atomic_load(&told) == 1 && atomic_fetch_add(&count, 1) + 1 == refused;
+}
+
+ssize_t write(int file, const void *bytes, size_t length) {
+    if (file == 1)
+        atomic_fetch_add(&told, 1);
+    return syscall(SYS_write, file, bytes, length);
 }
 
 void *malloc(size_t size) {
@@ -103,7 +114,7 @@ __attribute__((constructor)) static void begin(void) {
     fclose(maps);
     const char *word = getenv("REFUSED");
     refused = word ? strtoul(word, NULL, 10) : 0;
-    atomic_store(&count, 0);
+    atomic_store(&told, 0);
 }
 
 /* How the program ends. It prints how many were asked for, and how many threads are left. One that has ended may be listed for a moment more. */
@@ -154,56 +165,67 @@ CASES = {
     "crowded": (pairs(33000), "--tile 4096 --workers 2", 1009),
 }
 
-Left = collections.namedtuple("Left", "status said out cert")
-BEFORE = {"out": b"old masks", "cert": b"old certificate"}
+# What a run leaves: its status, and how many bytes were written and said.
+Left = collections.namedtuple("Left", "status taken")
 
 
-def run_once(words, shim, number, layout):
+def build(top, lane):
+    """Proves and builds the program over the libraries of TOP; gives its path."""
+    needs = prove.read_needs(top)
+    if not os.path.isdir(prove.library(top, "dpl_run")):
+        sys.exit(f"crates/dpl_run isn't proved there: python3 tools/prove.py {top}")
+    prove.open_lane(top, lane)
+    for name in set().union(*(prove.below(needs, name, set()) for name in NEEDS)):
+        prove.link_tree(prove.library(top, name), prove.library(lane, name))
+    with open(os.path.join(lane, "crates.txt"), "a", encoding="utf-8") as file:
+        file.write(f"{NAME}: {' '.join(NEEDS)}\n")
+    folder = os.path.join(lane, "crates", NAME)
+    os.makedirs(os.path.join(folder, "src"))
+    shutil.copy(os.path.join(HERE, NAME + ".rattle"), os.path.join(folder, "src", "main.rt"))
+    # Without a file it ends with 99, once it is proved and built.
+    ran = subprocess.run(["rt", "run", "--jobs", "1"], cwd=folder, stdin=subprocess.DEVNULL, stdout=subprocess.PIPE, stderr=subprocess.STDOUT, text=True, check=False)
+    program = os.path.join(folder, "out", NAME)
+    if not os.access(program, os.X_OK):
+        sys.exit(f"{ran.stdout}\n{NAME} was not built")
+    return program
+
+
+def run_once(words, shim, number, folder):
     """One run, of which this allocation is refused, 0 for none: what it leaves, how many it asked for, and how many threads are left."""
-    with tempfile.TemporaryDirectory() as folder:
-        os.link(layout, os.path.join(folder, "in"))
-        for name, text in BEFORE.items():
-            with open(os.path.join(folder, name), "wb") as file:
-                file.write(text)
-        env = {"LD_PRELOAD": shim, "REFUSED": str(number)}
-        ran = subprocess.run(words, cwd=folder, env=env, stdin=subprocess.DEVNULL, capture_output=True, timeout=120, check=False)
-        texts = []
-        for name in BEFORE:
-            with open(os.path.join(folder, name), "rb") as file:
-                texts.append(file.read())
+    env = {"LD_PRELOAD": shim, "REFUSED": str(number)}
+    ran = subprocess.run(words, cwd=folder, env=env, stdin=subprocess.DEVNULL, capture_output=True, timeout=120, check=False)
     # A run that a signal ends tells nothing.
-    asked, threads = map(int, ran.stderr.split()[-2:]) if ran.returncode >= 0 else (0, 0)
-    return Left(ran.returncode, ran.stdout, *texts), asked, threads
+    if ran.returncode < 0:
+        return Left(ran.returncode, None), 0, 0
+    asked, threads = map(int, ran.stderr.split()[-2:])
+    begins, ends, taken = ran.stdout.split()
+    assert (begins, ends) == (b"begins", b"ends"), ran.stdout
+    return Left(ran.returncode, int(taken)), asked, threads
 
 
 def way_of(left, plain):
     """How a run ended: with a word for what is right, and None for what is wrong."""
-    same = (left.out, left.cert) == tuple(BEFORE.values())
     if left == plain:
         return "passed over"
-    if left.said:
-        return None
-    if same and left.status in (READ_FAULT, NO_MEMORY):
-        return "read fault" if left.status == READ_FAULT else "out of memory"
-    is_front = all(text == before or whole.startswith(text) for text, before, whole in zip(left[2:], BEFORE.values(), plain[2:]))
-    return "write fault" if left.status == WRITE_FAULT and is_front else None
+    return "out of memory" if left == Left(NO_MEMORY, 0) else None
 
 
-def look_at(case, dpl, shim, work):
+def look_at(case, program, shim, work):
     """Tries the allocations of a case; gives whether all is right."""
     rects, options, step = CASES[case]
-    layout = os.path.join(work, case + ".gds")
-    with open(layout, "wb") as file:
+    folder = os.path.join(work, case)
+    os.mkdir(folder)
+    with open(os.path.join(folder, "in"), "wb") as file:
         parts = layouts.structure("TOP", (layouts.rect(*rect) for rect in rects))
         file.write(layouts.FRONT + b"".join(parts) + layouts.BACK)
-    words = [dpl, *f"split --layer 1 --rule 30 --overlap 10 {options} in out cert".split()]
-    plain, total, threads = run_once(words, shim, 0, layout)
+    words = [program, *f"split --layer 1 --rule 30 --overlap 10 {options} in out cert".split()]
+    plain, total, threads = run_once(words, shim, 0, folder)
     numbers = range(1, total + 1, step)
     ways, wrong = collections.Counter(), 0 if threads == 1 else 1
     with concurrent.futures.ThreadPoolExecutor(len(os.sched_getaffinity(0))) as pool:
-        for number, (left, _, threads) in zip(numbers, pool.map(lambda number: run_once(words, shim, number, layout), numbers)):
+        for number, (left, _, threads) in zip(numbers, pool.map(lambda number: run_once(words, shim, number, folder), numbers)):
             way = way_of(left, plain) if threads == 1 else None
-            if way is None or ways[way] == MOST.get(way):
+            if way is None:
                 wrong += 1
                 print(f"  {case}: without allocation {number} it leaves {left} and {threads} threads", flush=True)
             else:
@@ -214,16 +236,17 @@ def look_at(case, dpl, shim, work):
 
 
 def main():
-    dpl, cases = os.path.abspath(sys.argv[1]), sys.argv[2:] or list(CASES)
-    work = tempfile.mkdtemp()
-    try:
-        source, shim = os.path.join(work, "refuse.c"), os.path.join(work, "refuse.so")
-        with open(source, "w", encoding="utf-8") as file:
-            file.write(SHIM)
-        subprocess.run(["cc", "-O2", "-shared", "-fPIC", "-o", shim, source, "-ldl"], check=True)
-        return 0 if all([look_at(case, dpl, shim, work) for case in cases]) else 1
-    finally:
-        shutil.rmtree(work, ignore_errors=True)
+    top, cases = os.path.abspath(sys.argv[1]), sys.argv[2:] or list(CASES)
+    work = os.path.join(top, "out", "refusals")
+    shutil.rmtree(work, ignore_errors=True)
+    program = build(top, os.path.join(work, "lane"))
+    source, shim = os.path.join(work, "refuse.c"), os.path.join(work, "refuse.so")
+    with open(source, "w", encoding="utf-8") as file:
+        file.write(SHIM)
+    subprocess.run(["cc", "-O2", "-shared", "-fPIC", "-o", shim, source, "-ldl"], check=True)
+    is_right = all([look_at(case, program, shim, work) for case in cases])
+    shutil.rmtree(work)
+    return 0 if is_right else 1
 
 
 if __name__ == "__main__":
