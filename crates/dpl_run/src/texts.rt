@@ -88,18 +88,9 @@ pub(crate) fn refused_file_line(
     ensures { IfOk result (λ s. string_bytes s ≡ refused_file_line_of (file_word file) name at) }
 {
     match file {
-        CheckedFile::Layout => {
-            let line = format!(in alloc; "refused in {name} {at}\n")?;
-            Ok(line)
-        }
-        CheckedFile::Certificate => {
-            let line = format!(in alloc; "refused cert {name} {at}\n")?;
-            Ok(line)
-        }
-        CheckedFile::Masks => {
-            let line = format!(in alloc; "refused out {name} {at}\n")?;
-            Ok(line)
-        }
+        CheckedFile::Layout => { format!(in alloc; "refused in {name} {at}\n") }
+        CheckedFile::Certificate => { format!(in alloc; "refused cert {name} {at}\n") }
+        CheckedFile::Masks => { format!(in alloc; "refused out {name} {at}\n") }
     }
 }
 
@@ -156,52 +147,46 @@ pub(crate) fn verdict_line(
 fn rules_line(alloc: Global, rule: u32, overlap: u32) -> Result<String, AllocError>
     ensures { IfOk result (λ s. string_bytes s ≡ broken_line (Rules rule overlap)) }
 {
-    let line = format!(in alloc; "no Rules {rule} {overlap}\n")?;
-    Ok(line)
+    format!(in alloc; "no Rules {rule} {overlap}\n")
 }
 
 /// The certificate has other counts of features, pieces or zones than the layer, which has these.
 fn counts_line(alloc: Global, features: u64, pieces: u64, zones: u64) -> Result<String, AllocError>
     ensures { IfOk result (λ s. string_bytes s ≡ broken_line (Counts features pieces zones)) }
 {
-    let line = format!(in alloc; "no Counts {features} {pieces} {zones}\n")?;
-    Ok(line)
+    format!(in alloc; "no Counts {features} {pieces} {zones}\n")
 }
 
 /// A square is in the layer and on no mask, or on a mask and not in the layer.
 fn cover_line(alloc: Global, at: &Pt) -> Result<String, AllocError>
     ensures { IfOk result (λ s. string_bytes s ≡ broken_line (Cover at.now)) }
 {
-    let line = format!(in alloc; "no Cover {} {}\n", at.x, at.y)?;
-    Ok(line)
+    format!(in alloc; "no Cover {} {}\n", at.x, at.y)
 }
 
 /// A square is on both masks and in no stitch.
 fn overlap_line(alloc: Global, at: &Pt) -> Result<String, AllocError>
     ensures { IfOk result (λ s. string_bytes s ≡ broken_line (Overlap at.now)) }
 {
-    let line = format!(in alloc; "no Overlap {} {}\n", at.x, at.y)?;
-    Ok(line)
+    format!(in alloc; "no Overlap {} {}\n", at.x, at.y)
 }
 
 /// Two squares of different features are closer than the rule on the first mask.
 fn spacing_a_line(alloc: Global, first: &Pt, second: &Pt) -> Result<String, AllocError>
     ensures { IfOk result (λ s. string_bytes s ≡ broken_line (SpacingA first.now second.now)) }
 {
-    let line = format!(in alloc;
+    format!(in alloc;
         "no SpacingA {} {} {} {}\n",
         first.x, first.y, second.x, second.y
-    )?;
-    Ok(line)
+    )
 }
 
 /// Two squares of different features are closer than the rule on the second mask.
 fn spacing_b_line(alloc: Global, first: &Pt, second: &Pt) -> Result<String, AllocError>
     ensures { IfOk result (λ s. string_bytes s ≡ broken_line (SpacingB first.now second.now)) }
 {
-    let line = format!(in alloc;
+    format!(in alloc;
         "no SpacingB {} {} {} {}\n",
         first.x, first.y, second.x, second.y
-    )?;
-    Ok(line)
+    )
 }
