@@ -50,8 +50,7 @@ impl Tree {
         ensures { IfOk result (λ t. AreItemsOf parts.now t) }
     {
         let items = items_of(alloc, parts)?;
-        let tree = Tree::of(alloc, items)?;
-        Ok(tree)
+        Tree::of(alloc, items)
     }
 
     /// How many items there are.

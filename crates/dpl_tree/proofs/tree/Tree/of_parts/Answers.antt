@@ -1,4 +1,8 @@
+use Rattle.std.proofs.lemmas.Result.{IfOk-weaker}
 use Rattle.dpl_tree.proofs.tree.Tree.of_parts.Goals as goal
 
 pub returns : goal.returns
-returns c r k = (λ h. (c.in_ok-items.ensures r k).0 ((c.in_ok-tree.ensures r k).0 h), λ h. (c.in_ok-tree.ensures r k).1 ((c.in_ok-items.ensures r k).1 h))
+returns c =
+    IfOk-weaker c.of.result _ _
+    (λ t h r k. (λ item. (c.in_ok-items.ensures r k).0 ((h r k).0 item), λ of_parts. (h r k).1 ((c.in_ok-items.ensures r k).1 of_parts)))
+    c.of.ensures
