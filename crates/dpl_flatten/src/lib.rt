@@ -58,8 +58,7 @@ pub fn draw(
         marks: marks.as_slice(),
     };
     let survey = find_faults(alloc, lib, top, layer, &links)?;
-    let drawing = draw_all(alloc, lib, top, layer, &links, survey)?;
-    Ok(drawing)
+    Ok(draw_all(alloc, lib, top, layer, &links, survey)?)
 }
 
 /// The loops that the structure `top` places on a layer, itself and through all references below it: those of its
