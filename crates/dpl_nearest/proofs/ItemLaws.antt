@@ -63,7 +63,8 @@ found-sought (Above j) k keep = elim (cases_lt j k) [ inl l ↦ l | inr l ↦ ab
 abbrev pub IsFar : Spacing → Owners → Rect → Item → Type 0
 IsFar spacing owners r item = IsLeftOut owners item.owner ⊎ (AreNear spacing (Has r) (Has item.rect) → ⊥)
 
-missed-far : (spacing : Spacing) (owners : Owners) (slab window : Rect) (item : Item) → spacing.corner ≤ spacing.rule → IsWidened slab spacing.rule window → IsMissed window owners item → IsFar spacing owners slab item
+missed-far : (spacing : Spacing) (owners : Owners) (slab window : Rect) (item : Item) → spacing.corner ≤ spacing.rule
+    → IsWidened slab spacing.rule window → IsMissed window owners item → IsFar spacing owners slab item
 missed-far spacing owners slab window item less wide (inl h) = inr (λ near. apart-far spacing slab window item.rect less wide h near)
 missed-far spacing owners slab window item less wide (inr out) = inl out
 
