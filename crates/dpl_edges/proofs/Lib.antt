@@ -1,4 +1,3 @@
 pub mod Windows
-pub mod Searches
 pub mod Gathering
 pub mod Conflicts

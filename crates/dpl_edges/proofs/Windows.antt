@@ -1,72 +1,34 @@
--- What a window leaves out.
-use Rattle.std.proofs.Common.{ℕ, ◌*◌, ◌<◌, ◌≤◌, inl, inr, List, [], get_or, length, subst, arith, w32, w64}
+-- What a rectangle and a cell have in common.
+use Rattle.std.proofs.Common.{ℕ, ◌<◌, ◌≤◌, List, [], get_or, length, subst, arith, w32, w64}
 use mir.Val.{to_z, of_z}
 use borrow.Author.Rules.{sfits_of}
 use Rattle.std.specs.Prelude.{◌≡◌, ◌↔◌, ℤ, ◌+ℤ◌, ◌-ℤ◌, pos, ◌≤ℤ◌, ◌<ℤ◌, unsigned_abs}
 use Rattle.std.specs.Int.{int_min, int_max}
 use Rattle.std.specs.Int.RustNames.{FitsSigned}
 use Rattle.std.specs.List.{Contains}
-use Rattle.std.proofs.lemmas.Int.{ints, clamps, by_lt_z, fits_signed_from_abs, to_z-of_z}
-use Rattle.dpl_spec_split.specs.declared.Spacing.{Spacing}
+use Rattle.std.proofs.lemmas.Int.{ints, clamps, fits_signed_from_abs, to_z-of_z}
 use Rattle.dpl_spec_split.specs.declared.Pt.{Pt}
 use Rattle.dpl_spec_split.specs.declared.Rect.{Rect}
-use Rattle.dpl_spec_split.specs.Squares.{AreNear, Has, IsSolidWithin, gap}
+use Rattle.dpl_spec_split.specs.Squares.{Has, IsSolidWithin}
 use Rattle.dpl_spec_split.specs.Slabs.{IsSolid, IsCanonical}
 use Rattle.dpl_spec_split.specs.Loops.{farthest, AreRectsWithin, IsRectWithin}
-use Rattle.dpl_spec_split.proofs.SpacingLaws.{few-below}
 use Rattle.dpl_slabs.specs.Parts.{AreParts}
-use Rattle.dpl_tree.specs.Trees.{LiesApart}
-use Rattle.dpl_tree.specs.Windows.{IsWidened}
 use Rattle.dpl_tile.proofs.Numbers.{same-wide}
 use Rattle.dpl_edges.specs.InCells.{in_cell}
 use Rattle.dpl_edges.specs.Meetings.{HaveCommon}
 
--- what has no square in a window that is wider by the rule isn't near
-pub apart-far : (spacing : Spacing) (slab window r : Rect) → spacing.corner ≤ spacing.rule → IsWidened slab spacing.rule window → LiesApart window r → AreNear spacing (Has slab) (Has r) → ⊥
-apart-far spacing slab window r less wide (inl h) (p, q, a, b, near) =
-    let w = wide.left in
-    let l = a.left in
-    let m = b.right in
-    let g = (few-below spacing (gap p.x q.x) (gap p.y q.y) less near).0 in
-    omega (arith, ints, g, w, h, l, m)
-apart-far spacing slab window r less wide (inr (inl h)) (p, q, a, b, near) =
-    let w = wide.right in
-    let l = a.right in
-    let m = b.left in
-    let g = (few-below spacing (gap p.x q.x) (gap p.y q.y) less near).0 in
-    omega (arith, ints, g, w, h, l, m)
-apart-far spacing slab window r less wide (inr (inr (inl h))) (p, q, a, b, near) =
-    let w = wide.low in
-    let l = a.low in
-    let m = b.high in
-    let g = (few-below spacing (gap p.x q.x) (gap p.y q.y) less near).1 in
-    omega (arith, ints, g, w, h, l, m)
-apart-far spacing slab window r less wide (inr (inr (inr h))) (p, q, a, b, near) =
-    let w = wide.high in
-    let l = a.high in
-    let m = b.low in
-    let g = (few-below spacing (gap p.x q.x) (gap p.y q.y) less near).1 in
-    omega (arith, ints, g, w, h, l, m)
-
--- rectangles that lie apart have no square in common
-pub apart-none : (window r : Rect) (p : Pt) → LiesApart window r → Has r p → Has window p → ⊥
-apart-none window r p (inl h) a b = let l = a.right in let m = b.left in omega (arith, ints, h, l, m)
-apart-none window r p (inr (inl h)) a b = let l = a.left in let m = b.right in omega (arith, ints, h, l, m)
-apart-none window r p (inr (inr (inl h))) a b = let l = a.high in let m = b.low in omega (arith, ints, h, l, m)
-apart-none window r p (inr (inr (inr h))) a b = let l = a.low in let m = b.high in omega (arith, ints, h, l, m)
-
-by_test : (i j : ℤ) → (i ≤ℤ j → ⊥) → j <ℤ i
-by_test i j none = by_lt_z j i (λ l. l) (λ l. absurd (none l))
-
--- and those that don't have some
-pub common-free : (window r : Rect) → (LiesApart window r → ⊥) → HaveCommon window r
-common-free window r free =
-    record {
-      left = by_test r.x1 window.x0 (λ l. free (inl l));
-      right = by_test window.x1 r.x0 (λ l. free (inr (inl l)));
-      low = by_test r.y1 window.y0 (λ l. free (inr (inr (inl l))));
-      high = by_test window.y1 r.y0 (λ l. free (inr (inr (inr l))));
-    }
+-- rectangles with a square in common
+pub common-from : (cell r : Rect) (p : Pt) → Has cell p → Has r p → HaveCommon cell r
+common-from cell r p in_cell in_r =
+    let a = in_cell.left in
+    let b = in_cell.right in
+    let c = in_cell.low in
+    let d = in_cell.high in
+    let e = in_r.left in
+    let f = in_r.right in
+    let g = in_r.low in
+    let h = in_r.high in
+    record { left = omega (arith, ints, a, f); right = omega (arith, ints, e, b); low = omega (arith, ints, c, h); high = omega (arith, ints, g, d) }
 
 pub slab-within : (parts : List (List Rect)) (k : ℕ) (r : Rect) → AreParts parts → k < length parts → Contains (get_or parts k []) r → IsSolidWithin farthest r
 slab-within parts k r h k_in c =

@@ -1,18 +1,20 @@
 //! Gathers the edges that a cell finds.
-ghost use Rattle.std.specs.Prelude.{◌≡◌, ◌<◌, ◌↔◌, ℕ, IfOk, OnOk, length, slice_index_or, []};
+ghost use Rattle.std.specs.Prelude.{◌≡◌, ◌<◌, ◌≤◌, ◌⊎◌, ◌↔◌, ℕ, IsTrue, IfOk, OnOk, length};
 ghost use Rattle.std.specs.List.{Contains};
 ghost use Rattle.dpl_spec_split.specs.Loops.{farthest};
 ghost use Rattle.dpl_spec_split.specs.Slabs.{IsSolid};
-ghost use Rattle.dpl_spec_split.specs.Squares.{IsSolidWithin};
+ghost use Rattle.dpl_spec_split.specs.Squares.{AreNear, Has, IsSolidWithin};
 ghost use Rattle.dpl_slabs.specs.Parts.{AreParts};
+ghost use Rattle.dpl_join.specs.Pairs.{item_at};
 ghost use Rattle.dpl_tile.specs.Adding.{Adds};
-ghost use Rattle.dpl_edges.specs.InCells.{ConflictIn};
-ghost use Rattle.dpl_edges.specs.Meetings.{HaveCommon, IsEnds, IsEndsOfAny, IsSlabEdge};
+ghost use Rattle.dpl_tile.specs.Plans.{AreApart, HaveAllNear};
+ghost use Rattle.dpl_edges.specs.InCells.{ConflictIn, in_cell};
+ghost use Rattle.dpl_edges.specs.Meetings.{IsEdgeOf, IsEnds, MeetIn};
 
-use crate::near::{clipped, near_pieces};
-use dpl_base::{Edge, Id, WideRect};
-use dpl_tile::Plan;
-use dpl_tree::{Item, Owners};
+use crate::near::near_in;
+use dpl_base::{Edge, Id, Spacing, WideRect};
+use dpl_join::Item;
+use dpl_tile::{Meeting, Plan};
 use std::alloc::{AllocError, Global};
 
 /// The two numbers, the smaller first.
@@ -22,48 +24,60 @@ fn ends(i: Id, k: Id) -> Edge
     if i < k { (i, k) } else { (k, i) }
 }
 
-/// Adds the edges of piece `i` and each of these.
-fn add_ends(found: &mut Vec<Edge>, i: Id, others: &[Id]) -> Result<(), AllocError>
-    ensures { OnOk result (Adds (IsEndsOfAny i others.now) found.old.items found.new.items) }
+/// Whether a square of one in the cell is near some square of the other.
+fn meet_in(a: &Item, b: &Item, cell: &WideRect, spacing: Spacing) -> bool
+    requires corner { spacing.corner ≤ spacing.rule }
+    requires first { IsSolidWithin farthest a.now.rect }
+    requires second { IsSolidWithin farthest b.now.rect }
+    requires cell { IsSolid cell.now }
+    ensures { IsTrue result ↔ MeetIn spacing cell.now a.now b.now }
 {
-    for k in others {
-        found.push(ends(i, *k))?;
+    if near_in(&a.rect, &b.rect, cell, spacing) {
+        return true;
     }
+    near_in(&b.rect, &a.rect, cell, spacing)
+}
+
+/// Adds the edge of two slabs, where the cell finds one.
+fn add_edge(
+    found: &mut Vec<Edge>,
+    a: &Item,
+    b: &Item,
+    cell: &WideRect,
+    spacing: Spacing,
+) -> Result<(), AllocError>
+    requires corner { spacing.corner ≤ spacing.rule }
+    requires first { IsSolidWithin farthest a.now.rect }
+    requires second { IsSolidWithin farthest b.now.rect }
+    requires cell { IsSolid cell.now }
+    ensures { OnOk result (Adds (IsEdgeOf spacing cell.now a.now b.now) found.old.items found.new.items) }
+{
+    if !meet_in(a, b, cell, spacing) {
+        return Ok(());
+    }
+    found.push(ends(a.owner as Id, b.owner as Id))?;
     Ok(())
 }
 
-/// Adds the edges that a slab finds in a cell.
-fn add_slab(
-    found: &mut Vec<Edge>,
+/// The edges that a cell finds by meetings that have all of its near slabs, in no order, and some of them more than once.
+pub fn edges_among(
     alloc: Global,
     plan: &Plan,
-    item: &Item,
+    meetings: &[Meeting],
     cell: &WideRect,
-) -> Result<(), AllocError>
-    requires piece { item.now.owner < length plan.now.parts }
-    requires slab { IsSolidWithin farthest item.now.rect }
+) -> Result<Vec<Edge>, AllocError>
     requires cell { IsSolid cell.now }
-    requires common { HaveCommon cell.now item.now.rect }
-    ensures { OnOk result (Adds (IsSlabEdge plan.now.spacing plan.now.parts plan.now.owners cell.now item.now.owner item.now.rect) found.old.items found.new.items) }
-{
-    let part = clipped(&item.rect, cell);
-    let others = near_pieces(alloc, plan, &part, item.owner)?;
-    add_ends(found, item.owner as Id, others.as_slice())?;
-    Ok(())
-}
-
-/// The edges that a cell finds, in no order, and some of them more than once.
-pub fn edges_in(alloc: Global, plan: &Plan, cell: &WideRect) -> Result<Vec<Edge>, AllocError>
-    requires { IsSolid cell.now }
+    requires meetings { HaveAllNear plan.now (Has cell.now) meetings.now }
     ensures parts { AreParts plan.now.parts }
     ensures edges { IfOk result (λ v. (e : ℕ × ℕ) → Contains v.items e ↔ ((e.0 < e.1) × ConflictIn plan.now.spacing plan.now.parts plan.now.owners cell.now e.0 e.1)) }
 {
-    let tree = plan.tree();
+    let items = plan.items();
+    let spacing = plan.spacing();
     let mut found = Vec::new(alloc);
-    let mut n = tree.seek(0, cell, Owners::All);
-    while n < tree.count() {
-        add_slab(&mut found, alloc, plan, &tree.item(n), cell)?;
-        n = tree.seek(n + 1, cell, Owners::All);
+    for m in meetings {
+        let a = items[m.first as usize];
+        let b = items[m.second as usize];
+        add_edge(&mut found, &a, &b, cell, spacing)?;
     }
     Ok(found)
 }

@@ -6,7 +6,9 @@ ghost use Rattle.std.specs.List.{All};
 ghost use Rattle.dpl_spec_split.specs.Graphs.{AreEdges};
 ghost use Rattle.dpl_spec_split.specs.Pieces.{Conflict};
 ghost use Rattle.dpl_spec_split.specs.Slabs.{IsSolid};
+ghost use Rattle.dpl_spec_split.specs.Squares.{Has};
 ghost use Rattle.dpl_slabs.specs.Parts.{AreParts};
+ghost use Rattle.dpl_tile.specs.Plans.{HaveAllNear};
 ghost use Rattle.dpl_edges.specs.InCells.{AreEdgesOf, ConflictIn};
 ghost use Rattle.dpl_edges.specs.Meetings.{IsWhole};
 
@@ -14,20 +16,26 @@ mod gather;
 mod laws;
 mod near;
 
-use crate::gather::edges_in;
+use crate::gather::edges_among;
 pub use crate::laws::tiles_make_the_graph;
 use dpl_base::{Edge, FARTHEST, WideRect};
-use dpl_tile::Plan;
+use dpl_tile::{Meeting, Plan};
 use std::alloc::{AllocError, Global};
 
-/// The edges that a cell finds, in order, each once.
-fn sorted_edges(alloc: Global, plan: &Plan, cell: &WideRect) -> Result<Vec<Edge>, AllocError>
-    requires { IsSolid cell.now }
+/// The edges that a cell finds by meetings that have all of its near slabs, in order, each once.
+fn sorted_edges(
+    alloc: Global,
+    plan: &Plan,
+    meetings: &[Meeting],
+    cell: &WideRect,
+) -> Result<Vec<Edge>, AllocError>
+    requires cell { IsSolid cell.now }
+    requires meetings { HaveAllNear plan.now (Has cell.now) meetings.now }
     ensures parts { AreParts plan.now.parts }
     ensures edges { IfOk result (λ v. AreEdges (ConflictIn plan.now.spacing plan.now.parts plan.now.owners cell.now) v.items) }
     ensures below { IfOk result (λ v. All (λ (e : ℕ × ℕ). (e.0 < e.1) × (e.1 < length plan.now.parts)) v.items) }
 {
-    let mut edges = edges_in(alloc, plan, cell)?;
+    let mut edges = edges_among(alloc, plan, meetings, cell)?;
     edges.sort_unstable();
     edges.dedup();
     Ok(edges)
@@ -48,7 +56,7 @@ pub fn edges_of(alloc: Global, plan: &Plan, tile: u32) -> Result<Vec<Edge>, Allo
     ensures below { IfOk result (λ v. All (λ (e : ℕ × ℕ). (e.0 < e.1) × (e.1 < length plan.now.parts)) v.items) }
 {
     let cell = plan.cell(tile);
-    sorted_edges(alloc, plan, &cell)
+    sorted_edges(alloc, plan, plan.meetings_in(tile), &cell)
 }
 
 /// All conflicts of a plan's pieces, smaller number first, in order, each once: two pieces of different owners conflict where some square of one is near some square of the other by the plan's spacing.
@@ -57,5 +65,5 @@ pub fn all_edges(alloc: Global, plan: &Plan) -> Result<Vec<Edge>, AllocError>
     ensures below { IfOk result (λ v. All (λ (e : ℕ × ℕ). (e.0 < e.1) × (e.1 < length plan.now.parts)) v.items) }
 {
     let cell = whole();
-    sorted_edges(alloc, plan, &cell)
+    sorted_edges(alloc, plan, plan.meetings(), &cell)
 }

@@ -45,8 +45,8 @@ met_square g r e some over met =
     let p : Pt = record { x = x; y = y } in
     (p, record { left = a; right = b; low = c; high = d }, in-cell g e p rows columns)
 
-square_met : (g : Grid) (r : Rect) (e : ℕ × ℕ) (p : Pt) → 1 ≤ g.side → IsOver g r → Has r p → Has (cell_at g e) p → IsMet g r e
-square_met g r e p some over h c =
+pub square-met : (g : Grid) (r : Rect) (e : ℕ × ℕ) (p : Pt) → 1 ≤ g.side → IsOver g r → Has r p → Has (cell_at g e) p → IsMet g r e
+square-met g r e p some over h c =
     let columns = met-from_span g.side g.x r.x0 r.x1 p.x e.1 some over.right h.left h.right (has-columns g e p c) in
     let rows = met-from_span g.side g.y r.y0 r.y1 p.y e.0 some over.up h.low h.high (has-rows g e p c) in
     record { from_row = rows.0; to_row = rows.1; from_column = columns.0; to_column = columns.1 }
@@ -61,7 +61,7 @@ module _ (g : Grid) (parts : List (List Rect)) (some : 1 ≤ g.side) (over : All
     λ (part, (k, k_in, is), (r, (m, m_in, r_is), met)). (
         let (p, h, c) = met_square g r e some (part_over part r (k, k_in, is) (m, m_in, r_is)) met in
         (p, (k, part, k_in, is, (m, r, m_in, r_is, h)), c)),
-    λ (p, (k, part, k_in, is, (m, r, m_in, r_is, h)), c). (part, (k, k_in, is), (r, (m, m_in, r_is), square_met g r e p some (part_over part r (k, k_in, is) (m, m_in, r_is)) h c)),
+    λ (p, (k, part, k_in, is, (m, r, m_in, r_is, h)), c). (part, (k, k_in, is), (r, (m, m_in, r_is), square-met g r e p some (part_over part r (k, k_in, is) (m, m_in, r_is)) h c)),
   )
 
 before_cells : (g : Grid) (e f : ℕ × ℕ) → 1 ≤ g.side → Precedes e f → Before (cell_at g e) (cell_at g f)

@@ -5,3 +5,7 @@ pub mod Numbers
 pub mod CellLaws
 pub mod TileLaws
 pub mod Loops
+pub mod ItemLaws
+pub mod BetweenLaws
+pub mod MeetingLaws
+pub mod PlanLaws

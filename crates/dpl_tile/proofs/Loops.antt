@@ -52,9 +52,9 @@ module _ {X Y : Type 0} (Kind : X → Y → Type 0) (xs : List X) where
   pub each-all : (n : ℕ) (old new : List Y) → length xs ≤ n → Adds (OfFirst (Nth Kind xs) n) old new → Adds (OfSome Kind xs) old new
   each-all n old new all h = adds-same (OfFirst (Nth Kind xs) n) (OfSome Kind xs) old new (all_kind n all) h
 
-adds_then : {Y : Type 0} (First Second Both : Y → Type 0) (base old new : List Y) → ((e : Y) → Both e ↔ (First e ⊎ Second e))
+pub adds-then : {Y : Type 0} (First Second Both : Y → Type 0) (base old new : List Y) → ((e : Y) → Both e ↔ (First e ⊎ Second e))
     → Adds First base old → Adds Second old new → Adds Both base new
-adds_then First Second Both base old new both before step e = (
+adds-then First Second Both base old new both before step e = (
   λ h. elim ((step e).0 h) [ inl a ↦ elim ((before e).0 a) [ inl b ↦ inl b | inr f ↦ inr ((both e).1 (inl f)) ] | inr k ↦ inr ((both e).1 (inr k)) ],
   λ h. elim h [
     | inl b ↦ (step e).1 (inl ((before e).1 (inl b)))
@@ -79,7 +79,7 @@ row-none row b xs e = (λ h. inl h, λ h. elim h [ inl a ↦ a | inr (r, l, m) �
 pub row-more : (row : ℕ) (b : Block) (n : ℕ) (base old new : List (ℕ × ℕ)) → b.column0 ≤ n → new ≡ old ++ (row, n) ∷ []
     → Adds (IsInRowTo row b n) base old → Adds (IsInRowTo row b (n + 1)) base new
 row-more row b n base old new from is before =
-    adds_then (IsInRowTo row b n) (λ e. e ≡ (row, n)) (IsInRowTo row b (n + 1)) base old new
+    adds-then (IsInRowTo row b n) (λ e. e ≡ (row, n)) (IsInRowTo row b (n + 1)) base old new
     (λ e. (
       λ (r, l, m). elim (cases_eq e.1 n) [ inl same ↦ inr (ap (λ u. (u, e.1)) r ∙ ap (λ u. (row, u)) same) | inr ne ↦ inl (r, l, omega (arith, m, ne)) ],
       λ h. elim h [ inl (r, l, m) ↦ (r, l, omega (arith, m)) | inr same ↦ rw same (refl, from, omega arith) ],
@@ -96,7 +96,7 @@ block-none b xs e = (λ h. inl h, λ h. elim h [ inl a ↦ a | inr (l, m, k, j) 
 pub block-more : (b : Block) (n : ℕ) (base old new : List (ℕ × ℕ)) → b.row0 ≤ n → Adds (IsInBlockTo b n) base old
     → Adds (IsInRow n b) old new → Adds (IsInBlockTo b (n + 1)) base new
 block-more b n base old new from before step =
-    adds_then (IsInBlockTo b n) (IsInRow n b) (IsInBlockTo b (n + 1)) base old new
+    adds-then (IsInBlockTo b n) (IsInRow n b) (IsInBlockTo b (n + 1)) base old new
     (λ e. (
       λ (l, m, c, d). elim (cases_eq e.0 n) [ inl same ↦ inr (same, c, d) | inr ne ↦ inl (l, omega (arith, m, ne), c, d) ],
       λ h. elim h [ inl (l, m, c, d) ↦ (l, omega (arith, m), c, d) | inr (same, c, d) ↦ (omega (arith, same, from), omega (arith, same), c, d) ],

@@ -1,6 +1,6 @@
 -- Tiles of parts.
 use Rattle.std.proofs.Common.{◌≡◌, ℕ, suc, ◌+◌, ◌*◌, ◌^◌, ◌<◌, ◌≤◌, inl, inr, List, [], ◌∷◌, get_or, map, sym, refl, ap, ◌∙◌, subst, arith}
-use Rattle.std.specs.List.{All}
+use Rattle.std.specs.List.{All, Contains}
 use Rattle.std.proofs.lemmas.Int.{ints}
 use Rattle.std.proofs.lemmas.Nat.{mul-le, pow_pos}
 use Rattle.std.proofs.lemmas.Bool.{cases_eq}
@@ -10,12 +10,11 @@ use Rattle.dpl_spec_split.specs.declared.Pt.{Pt}
 use Rattle.dpl_spec_split.specs.declared.Rect.{Rect}
 use Rattle.dpl_spec_split.specs.Squares.{Has}
 use Rattle.dpl_slabs.specs.Parts.{AreParts, union_of}
-use Rattle.dpl_tree.specs.Trees.{LiesIn}
 use Rattle.dpl_tile.specs.declared.grid.Grid.{Grid}
-use Rattle.dpl_tile.specs.Tiles.{IsBounds, IsCoarse, IsDoubled, IsGrid, AreCells, cell_at, number_in, pairs_of, most_pairs}
+use Rattle.dpl_tile.specs.Tiles.{IsBounds, IsCoarse, IsDoubled, LiesIn, IsGrid, AreCells, cell_at, number_in, pairs_of, most_pairs}
 use Rattle.dpl_tile.specs.Kept.{IsSound, AreOver, ArePlaces, AreLaid}
 use Rattle.dpl_tile.specs.Laws.{SquaresHaveOneCell}
-use Rattle.dpl_tile.proofs.CellLaws.{own-cell, one-cell, met-occupied, places-cells, first-cells, parts-over, close-from_occupied}
+use Rattle.dpl_tile.proofs.CellLaws.{own-cell, one-cell, met-occupied, places-cells, first-cells, parts-over, solid-of_part, close-from_occupied}
 
 -- the first cell has all squares where it has their bounds
 pub bounds-in_first : (g : Grid) (parts : List (List Rect)) (b : Rect) → IsBounds (union_of parts) b → LiesIn b (cell_at g (0, 0))
@@ -99,13 +98,14 @@ laid-by_places parts tile g b places h bounds x_is y_is sound grid many placed =
       close = λ k d k_in. close-from_occupied g parts (get_or places k d) h sound
           ((met-occupied g parts sound.some over (get_or places k d)).0
           ((placed.exactly (get_or places k d)).0 (k, k_in, get_or_default places k (get_or places k d) d k_in)));
+      over = over;
       tiles = inr (g, grid, places-cells g parts places sound.some over placed);
     }
 
 -- one tile
-pub laid-by_first : (parts : List (List Rect)) (tile : ℕ) (g : Grid) (b : Rect) (places : List (ℕ × ℕ)) → IsBounds (union_of parts) b
-    → IsSound g → IsGrid parts tile g → LiesIn b (cell_at g (0, 0)) → places ≡ (0, 0) ∷ [] → AreLaid parts tile g places
-laid-by_first parts tile g b places bounds sound grid all is =
+pub laid-by_first : (parts : List (List Rect)) (tile : ℕ) (g : Grid) (b : Rect) (places : List (ℕ × ℕ)) → AreParts parts → IsBounds (union_of parts) b
+    → g.x ≡ b.x0 → g.y ≡ b.y0 → IsSound g → IsGrid parts tile g → LiesIn b (cell_at g (0, 0)) → places ≡ (0, 0) ∷ [] → AreLaid parts tile g places
+laid-by_first parts tile g b places h bounds x_is y_is sound grid all is =
     let (p, p_in, left) = bounds.left in
     let c : AreCells parts g (map (cell_at g) ((0, 0) ∷ [])) = first-cells g parts p sound.some p_in (bounds-in_first g parts b bounds all) in
     rw is (record {
@@ -113,12 +113,25 @@ laid-by_first parts tile g b places bounds sound grid all is =
       few = omega arith;
       close = λ k d k_in. rw (let z : k ≡ 0 = omega (arith, k_in) in
           z) (record { up = omega arith; across = omega arith });
+      over = parts-over g parts b h bounds x_is y_is;
       tiles = inr (g, grid, c);
     })
 
-pub laid-by_none : (parts : List (List Rect)) (tile : ℕ) (g : Grid) (places : List (ℕ × ℕ)) → IsSound g → ((p : Pt) → union_of parts p → ⊥)
+pub laid-by_none : (parts : List (List Rect)) (tile : ℕ) (g : Grid) (places : List (ℕ × ℕ)) → AreParts parts → IsSound g → ((p : Pt) → union_of parts p → ⊥)
     → places ≡ [] → AreLaid parts tile g places
-laid-by_none parts tile g places sound none is = rw is (record { sound = sound; few = omega arith; close = λ k d k_in. omega (arith, k_in); tiles = inl (refl, none) })
+laid-by_none parts tile g places h sound none is = rw is (record {
+  sound = sound;
+  few = omega arith;
+  close = λ k d k_in. omega (arith, k_in);
+  over = λ k d k_in r (m, m_in, r_is). (
+      let part = get_or parts k d in
+      let part_in : Contains parts part = (k, k_in, get_or_default parts k part d k_in) in
+      let solid = solid-of_part parts h part r part_in (m, m_in, r_is) in
+      let w = solid.wide in
+      let t = solid.tall in
+      absurd (none (record { x = r.x0; y = r.y0 }) (k, part, k_in, get_or_default parts k part d k_in, (m, r, m_in, r_is, record { left = omega (arith, ints); right = w; low = omega (arith, ints); high = t }))));
+  tiles = inl (refl, none);
+})
 
 pub squares-one_cell : SquaresHaveOneCell
 squares-one_cell parts tile cells some (inl (is, none)) p p_in = absurd (none p p_in)

@@ -2,13 +2,9 @@
 use Rattle.std.specs.Prelude.{◌≡◌, ◌↔◌, ℕ, ◌+◌, ◌*◌, ◌^◌, ◌<◌, ◌≤◌, ◌≤ℤ◌, ◌-ℤ◌, pos, unsigned_abs, List, length, map}
 use Rattle.std.specs.List.{All, AllPairs, Contains}
 use Rattle.dpl_spec_split.specs.declared.Rect.{Rect}
-use Rattle.dpl_spec_split.specs.declared.Spacing.{Spacing}
 use Rattle.dpl_spec_split.specs.Loops.{farthest}
 use Rattle.dpl_spec_split.specs.Graphs.{Precedes}
 use Rattle.dpl_spec_split.specs.Squares.{IsSolidWithin}
-use Rattle.dpl_slabs.specs.Parts.{AreParts}
-use Rattle.dpl_tree.specs.declared.items.Item.{Item}
-use Rattle.dpl_tree.specs.Trees.{AreItemsOf}
 use Rattle.dpl_tile.specs.declared.grid.Grid.{Grid}
 use Rattle.dpl_tile.specs.declared.grid.Block.{Block}
 use Rattle.dpl_tile.specs.Tiles.{AreTiles, cell_at, number_in, pairs_of}
@@ -78,13 +74,5 @@ pub record AreLaid (parts : List (List Rect)) (tile : ℕ) (g : Grid) (places : 
   pub sound : IsSound g
   pub few : length places < 2 ^ 32
   pub close : All (IsClose g) places
+  pub over : All (AreOver g) parts
   pub tiles : AreTiles parts tile (map (cell_at g) places)
-
-pub record IsKept (parts : List (List Rect)) (owners : List ℕ) (spacing : Spacing) (tree : List Item) (grid : Grid) (places : List (ℕ × ℕ)) : Type 0 where
-  pub owned : length owners ≡ length parts
-  pub parted : AreParts parts
-  pub corner : spacing.corner ≤ spacing.rule
-  pub items : AreItemsOf parts tree
-  pub few : length places < 2 ^ 32
-  pub sound : IsSound grid
-  pub close : All (IsClose grid) places

@@ -1,5 +1,5 @@
 -- Tiles: the cells of a grid that have a square of some part.
-use Rattle.std.specs.Prelude.{◌≡◌, ◌⊎◌, ◌↔◌, ℕ, ◌+◌, ◌-◌, ◌*◌, ◌/◌, ◌^◌, ◌<◌, ◌≤◌, ℤ, pos, ◌+ℤ◌, ◌-ℤ◌, unsigned_abs, List, [], sum_by}
+use Rattle.std.specs.Prelude.{◌≡◌, ◌⊎◌, ◌↔◌, ℕ, ◌+◌, ◌-◌, ◌*◌, ◌/◌, ◌^◌, ◌<◌, ◌≤◌, ℤ, pos, ◌+ℤ◌, ◌-ℤ◌, ◌≤ℤ◌, unsigned_abs, List, [], sum_by}
 use Rattle.std.specs.List.{AllPairs, Contains}
 use Rattle.dpl_spec_split.specs.declared.Pt.{Pt}
 use Rattle.dpl_spec_split.specs.declared.Rect.{Rect}
@@ -7,6 +7,13 @@ use Rattle.dpl_spec_split.specs.Squares.{Region, Has}
 use Rattle.dpl_spec_split.specs.Slabs.{Before}
 use Rattle.dpl_slabs.specs.Parts.{union_of}
 use Rattle.dpl_tile.specs.declared.grid.Grid.{Grid}
+
+-- a rectangle within another
+pub record LiesIn (inner outer : Rect) : Type 0 where
+  pub left : outer.x0 ≤ℤ inner.x0
+  pub right : inner.x1 ≤ℤ outer.x1
+  pub low : outer.y0 ≤ℤ inner.y0
+  pub high : inner.y1 ≤ℤ outer.y1
 
 -- the least rectangle that has all squares of the set
 pub record IsBounds (a : Region) (b : Rect) : Type 0 where

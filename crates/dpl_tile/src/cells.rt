@@ -3,7 +3,7 @@ ghost use Rattle.std.specs.Prelude.{◌≡◌, ◌↔◌, ℕ, ◌+◌, ◌-◌,
 ghost use Rattle.std.specs.List.{All, AllPairs, Contains};
 ghost use Rattle.dpl_spec_split.specs.Graphs.{Precedes};
 ghost use Rattle.dpl_tile.specs.Adding.{Adds};
-ghost use Rattle.dpl_tile.specs.Kept.{IsSound, AreOver, IsSomeBlock, IsInRow, IsInBlock, IsMetByAny, IsMetByPart, ArePlaces};
+ghost use Rattle.dpl_tile.specs.Kept.{IsSound, IsOver, AreOver, IsSomeBlock, IsInRow, IsInBlock, IsMet, IsMetByAny, IsMetByPart, ArePlaces};
 ghost use Rattle.dpl_tile.specs.Tiles.{cells_met, pairs_of};
 
 use crate::grid::{Block, Grid, Place};
@@ -113,5 +113,18 @@ pub(crate) fn places_of(
     add_parts(&mut places, &mut limit, grid, parts)?;
     put_in_order(&mut places);
     places.shrink_to_fit();
+    Ok(places)
+}
+
+/// The places of the cells that a rectangle meets.
+pub(crate) fn block_places(alloc: Global, grid: &Grid, r: &Rect) -> Result<Vec<Place>, AllocError>
+    requires sound { IsSound grid.now }
+    requires over { IsOver grid.now r.now }
+    ensures { IfOk result (λ v. (e : ℕ × ℕ) → Contains v.items e ↔ IsMet grid.now r.now e) }
+{
+    let block = grid.block(r);
+    let mut places = Vec::new(alloc);
+    let mut limit = LEAST_LIMIT;
+    add_block(&mut places, &mut limit, &block)?;
     Ok(places)
 }

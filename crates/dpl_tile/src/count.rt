@@ -2,9 +2,8 @@
 ghost use Rattle.std.specs.Prelude.{◌≡◌, ◌+◌, ◌<◌, ◌≤◌, ◌^◌, ◌↔◌, IsTrue, IsFalse, IsNone, IfSome, sum_by};
 ghost use Rattle.std.specs.List.{All};
 ghost use Rattle.dpl_slabs.specs.Parts.{union_of};
-ghost use Rattle.dpl_tree.specs.Trees.{LiesIn};
 ghost use Rattle.dpl_tile.specs.Kept.{IsSound, IsOver, AreOver};
-ghost use Rattle.dpl_tile.specs.Tiles.{IsBounds, IsCoarse, cell_at, cells_met, pairs_of, most_pairs};
+ghost use Rattle.dpl_tile.specs.Tiles.{IsBounds, IsCoarse, LiesIn, cell_at, cells_met, pairs_of, most_pairs};
 
 use crate::grid::Grid;
 use dpl_base::Rect;

@@ -1,18 +1,23 @@
 //! Tiles: the layer cut into the cells of a grid, so that each tile's conflicts can be found by themselves.
 #![tactic(auto)]
 
+mod between;
 mod bounds;
 mod cells;
 mod count;
+mod finding;
 mod grid;
+mod items;
 mod laws;
 mod laying;
 mod least;
+mod meetings;
 mod planning;
 mod plans;
 mod sides;
 
 pub use laws::squares_have_one_cell;
 pub use least::side_for;
+pub use meetings::Meeting;
 pub use planning::plan;
 pub use plans::Plan;

@@ -2,11 +2,13 @@
 ghost use Rattle.std.specs.Prelude.{◌≡◌, ◌≤◌, IfOk, length};
 ghost use Rattle.dpl_tile.specs.Plans.{IsPlan};
 
+use crate::items::items_of;
 use crate::laying::lay;
+use crate::meetings::meetings_of;
 use crate::plans::Plan;
 use dpl_base::{Id, Spacing};
+use dpl_join::Join;
 use dpl_slabs::Parts;
-use dpl_tree::Tree;
 use std::alloc::{AllocError, Global};
 
 /// The tiles of the pieces of a layer, one owner to each piece. The spacing and the tile, which is at least 1, are in database units. The grid begins at the least column and the least row of all pieces; a tile's side is `tile`, doubled until there are at most 16,777,216 pairs of a piece's slab and a cell that it meets, or one cell has all; a cell with no square is no tile. Fails only out of memory.
@@ -23,12 +25,17 @@ pub fn plan<'a>(
     ensures { IfOk result (λ p. IsPlan parts.now owner.now spacing tile p) }
 {
     let laid = lay(alloc, parts.items(), tile)?;
-    let tree = Tree::of_parts(alloc, parts.items())?;
+    let items = items_of(alloc, parts.items())?;
+    let join = Join::of(alloc, items, spacing.rule)?;
+    let pairs = join.pairs(alloc)?;
+    let items = join.into_items();
+    let meetings = meetings_of(alloc, &laid.grid, &items, &pairs, owner, spacing)?;
     Ok(Plan {
         parts,
         owners: owner,
         spacing,
-        tree,
+        items,
+        meetings,
         grid: laid.grid,
         places: laid.places,
     })

@@ -8,8 +8,8 @@ is_one_cell-requires-clause-over c = bounds-over c.grid_of-grid.result c.args.pa
     c.requires.bounds c.grid_of-grid.ensures.left c.grid_of-grid.ensures.low
 
 pub returns-then-is_one_cell : goal.returns-then-is_one_cell
-returns-then-is_one_cell c = laid-by_first c.args.parts.now c.args.tile c.grid_of-grid.result c.args.bounds.now _ c.requires.bounds
-    c.grid_of-grid.ensures.sound c.grid_of-grid.ensures.grid (c.if-is_one_cell.ensures.one.0 refl) c.in_ok-places.ensures
+returns-then-is_one_cell c = laid-by_first c.args.parts.now c.args.tile c.grid_of-grid.result c.args.bounds.now _ c.requires.parts c.requires.bounds
+    c.grid_of-grid.ensures.left c.grid_of-grid.ensures.low c.grid_of-grid.ensures.sound c.grid_of-grid.ensures.grid (c.if-is_one_cell.ensures.one.0 refl) c.in_ok-places.ensures
 
 pub places_of-requires-clause-over : goal.places_of-requires-clause-over
 places_of-requires-clause-over c = parts-over c.grid_of-grid.result c.args.parts.now c.args.bounds.now c.requires.parts c.requires.bounds
