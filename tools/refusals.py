@@ -10,9 +10,10 @@ First a program is proved and built in TOP/out/refusals: refused_run.rattle besi
 SureHost. That host's calls never fail and take no memory, so each allocation of a run is the run's own. Its text isn't a .rt
 file, as the gate proves and builds what is one, which takes minutes.
 
-A case is a split of a made-up layout. It runs once for each allocation, or in the largest case for one of a thousand, with a
-library loaded before the C library, which counts the allocations and threads that are asked for between the begin and the end
-of the run, and refuses one of them. Each run must end in one of these ways, and only the caller's thread is left then:
+A case is a split of a made-up layout. It runs once for each allocation (in the case "crowded" for one of a thousand, in the case
+"large" for each of 65,536 bytes or more) with a library loaded before the C library, which counts these allocations and the
+threads that are asked for between the begin and the end of the run, and refuses one of them. Each run must end in one of these
+ways, and only the caller's thread is left then:
   out of memory  status 6, and not a byte was written or said
   passed over    the status, and as many bytes written and said as without a refusal: the run does without what was refused
 For each case a line is printed with how many runs ended in which way. The script ends with 0 where all are right, else with 1
@@ -54,7 +55,7 @@ extern void *__libc_realloc(void *, size_t);
 
 static atomic_ulong count;
 static atomic_int told;
-static unsigned long refused;
+static unsigned long refused, least;
 static char *low, *high;
 
 static int is_own(void *caller) {
@@ -73,13 +74,13 @@ ssize_t write(int file, const void *bytes, size_t length) {
 }
 
 void *malloc(size_t size) {
-    if (is_own(__builtin_return_address(0)) && is_refused())
+    if (size >= least && is_own(__builtin_return_address(0)) && is_refused())
         return NULL;
     return __libc_malloc(size);
 }
 
 void *realloc(void *old, size_t size) {
-    if (is_own(__builtin_return_address(0)) && is_refused())
+    if (size >= least && is_own(__builtin_return_address(0)) && is_refused())
         return NULL;
     return __libc_realloc(old, size);
 }
@@ -114,6 +115,8 @@ __attribute__((constructor)) static void begin(void) {
     fclose(maps);
     const char *word = getenv("REFUSED");
     refused = word ? strtoul(word, NULL, 10) : 0;
+    word = getenv("LEAST");
+    least = word ? strtoul(word, NULL, 10) : 0;
     atomic_store(&told, 0);
 }
 
@@ -155,14 +158,16 @@ def pairs(count):
         yield from ((x, y, x + 10, y + 10), (x + 20, y, x + 30, y + 10))
 
 
-# For each case its rectangles, the options, and how many allocations further each one that is refused lies than the one before it.
+# A case: its rectangles, the options, the least size of an allocation that counts, and how many further each one that is refused lies than the one before it.
+Case = collections.namedtuple("Case", "rects options least step")
 CASES = {
-    "bar": ([(0, 0, 100, 20)], "", 1),
-    "conflict": ([(0, 0, 10, 10), (20, 0, 30, 10), (10, 20, 20, 30)], "", 1),
-    "stitch": (CROWD, "", 1),
-    "tiles": ([(0, 0, 64000, 20), (0, 40, 64000, 60)], "--tile 64", 1),
+    "bar": Case([(0, 0, 100, 20)], "", 0, 1),
+    "conflict": Case([(0, 0, 10, 10), (20, 0, 30, 10), (10, 20, 20, 30)], "", 0, 1),
+    "stitch": Case(CROWD, "", 0, 1),
+    "tiles": Case([(0, 0, 64000, 20), (0, 40, 64000, 60)], "--tile 64", 0, 1),
     # So many rows that the board puts its summaries together.
-    "crowded": (pairs(33000), "--tile 4096 --workers 2", 1009),
+    "crowded": Case(list(pairs(33000)), "--tile 4096 --workers 2", 0, 1009),
+    "large": Case(list(pairs(33000)), "--tile 4096 --workers 2", 65536, 1),
 }
 
 # What a run leaves: its status, and how many bytes were written and said.
@@ -190,9 +195,9 @@ def build(top, lane):
     return program
 
 
-def run_once(words, shim, number, folder):
+def run_once(words, shim, least, number, folder):
     """One run, of which this allocation is refused, 0 for none: what it leaves, how many it asked for, and how many threads are left."""
-    env = {"LD_PRELOAD": shim, "REFUSED": str(number)}
+    env = {"LD_PRELOAD": shim, "LEAST": str(least), "REFUSED": str(number)}
     ran = subprocess.run(words, cwd=folder, env=env, stdin=subprocess.DEVNULL, capture_output=True, timeout=120, check=False)
     # A run that a signal ends tells nothing.
     if ran.returncode < 0:
@@ -212,18 +217,18 @@ def way_of(left, plain):
 
 def look_at(case, program, shim, work):
     """Tries the allocations of a case; gives whether all is right."""
-    rects, options, step = CASES[case]
+    rects, options, least, step = CASES[case]
     folder = os.path.join(work, case)
     os.mkdir(folder)
     with open(os.path.join(folder, "in"), "wb") as file:
         parts = layouts.structure("TOP", (layouts.rect(*rect) for rect in rects))
         file.write(layouts.FRONT + b"".join(parts) + layouts.BACK)
     words = [program, *f"split --layer 1 --rule 30 --overlap 10 {options} in out cert".split()]
-    plain, total, threads = run_once(words, shim, 0, folder)
+    plain, total, threads = run_once(words, shim, least, 0, folder)
     numbers = range(1, total + 1, step)
     ways, wrong = collections.Counter(), 0 if threads == 1 else 1
     with concurrent.futures.ThreadPoolExecutor(len(os.sched_getaffinity(0))) as pool:
-        for number, (left, _, threads) in zip(numbers, pool.map(lambda number: run_once(words, shim, number, folder), numbers)):
+        for number, (left, _, threads) in zip(numbers, pool.map(lambda number: run_once(words, shim, least, number, folder), numbers)):
             way = way_of(left, plain) if threads == 1 else None
             if way is None:
                 wrong += 1

@@ -1,8 +1,7 @@
 -- What lists have.
-use Rattle.std.proofs.Common.{◌≡◌, ℕ, ◌<◌, List, [], ◌∷◌, map, Bool, true, cond, inl, inr, zero, suc, sym, refl, ap, ◌∙◌, arith}
+use Rattle.std.proofs.Common.{◌≡◌, ℕ, ◌<◌, List, [], ◌∷◌, Bool, true, cond, inl, inr, zero, suc, sym, ap, ◌∙◌, arith}
 use Rattle.std.specs.List.{Any, Contains, filter, list_any}
 use Rattle.std.proofs.lemmas.Bool.{cases_Bool}
-use Rattle.std.proofs.lemmas.List.{get_or-map, length-map}
 use Rattle.std.proofs.lemmas.List.Elements.{All-contains, All-contains_itself, All-filter, filter_passes}
 use Rattle.std.proofs.lemmas.List.Folds.{Any-from_list_any, list_any-from_Any}
 use Rattle.std.proofs.lemmas.List.FromFn.{get_or-range_with_len, length-range_with_len}
@@ -46,11 +45,3 @@ below-has n k l = (k, rw (length-range_with_len 0 n) l, get_or-range_with_len 0 
 
 pub has-below : (n k : ℕ) → Contains (below n) k → k < n
 has-below n k (i, l, is) = let here : i < n = rw (← length-range_with_len 0 n) l in let same = sym (get_or-range_with_len 0 n i k here) ∙ is in omega (arith, here, same)
-
-pub map-has : {X Y : Type 0} (f : X → Y) (xs : List X) (x : X) (y : Y) → Contains xs x → f x ≡ y → Contains (map f xs) y
-map-has f xs x y (k, l, is) at = (k, rw length-map l, get_or-map f xs k x y l ∙ (ap f is ∙ at))
-
-pub has-map : {X Y : Type 0} (f : X → Y) (xs : List X) (y : Y) → Contains (map f xs) y → (x : X) × Contains xs x × (f x ≡ y)
-has-map f [] y (k, l, is) = absurd (omega (arith, l))
-has-map f (x ∷ xs) y (zero, l, is) = (x, (0, omega arith, refl), is)
-has-map f (x ∷ xs) y (suc k, l, is) = let (z, c, at) = has-map f xs y (k, omega (arith, l), is) in (z, has-later x xs z c, at)

@@ -12,7 +12,8 @@ use Rattle.dpl_spec_split.specs.Zones.{at}
 use Rattle.dpl_edges.specs.InCells.{in_cell}
 use Rattle.dpl_board.proofs.AllPosted.{from-flat, in-flat}
 use Rattle.dpl_answer.specs.Sheets.{all_squares, below, is_in, is_near_in, squares_of, is_few, is_near}
-use Rattle.dpl_answer.proofs.Members.{any-has, below-has, has-any, has-kept, has-passed, kept-has, map-has, passed-has}
+use Rattle.dpl_spec_split.proofs.Ordered.{map-has}
+use Rattle.dpl_answer.proofs.Members.{any-has, below-has, has-any, has-kept, has-passed, kept-has, passed-has}
 
 le-yes : (a b : ℤ) → int_le a b ≡ true → a ≤ℤ b
 le-yes a b h = grind (arith, ints)

@@ -7,7 +7,8 @@ use Rattle.std.proofs.lemmas.List.Kept.{AllPairs-cons}
 use Rattle.dpl_spec_split.specs.Graphs.{Precedes}
 use Rattle.dpl_board.proofs.AllPosted.{from-flat, in-flat}
 use Rattle.dpl_answer.specs.Sheets.{below, pairs_below}
-use Rattle.dpl_answer.proofs.Members.{below-has, has-below, has-map, map-has}
+use Rattle.dpl_spec_split.proofs.Ordered.{has-map, map-has}
+use Rattle.dpl_answer.proofs.Members.{below-has, has-below}
 
 abbrev Rising : List ℕ → Type 0
 Rising [] = Unit {0}

@@ -22,7 +22,8 @@ use Rattle.dpl_board.specs.Boards.{AreAllPosted, Board, Stands, SumsPosted}
 use Rattle.dpl_board.proofs.AllPosted.{all-posted, from-flat, in-flat}
 use Rattle.dpl_answer.specs.Conflicts.{IsTiled, SumsGraph}
 use Rattle.dpl_answer.specs.Sheets.{conflicts_in, is_conflict_in, is_near_in, pairs_below, part_of, sheet_of}
-use Rattle.dpl_answer.proofs.Members.{any-has, has-any, has-kept, has-map, has-passed, kept-has, map-has, passed-has}
+use Rattle.dpl_spec_split.proofs.Ordered.{has-map, map-has}
+use Rattle.dpl_answer.proofs.Members.{any-has, has-any, has-kept, has-passed, kept-has, passed-has}
 use Rattle.dpl_answer.proofs.Nearness.{near-yes, yes-near}
 use Rattle.dpl_answer.proofs.Pairs.{has-pair, pair-below, pairs-ordered}
 

@@ -1,5 +1,5 @@
 -- The decomposition of a layer, as a certificate tells it.
-use Rattle.std.specs.Prelude.{◌≡◌, ◌≤◌, ℕ, List, length, map}
+use Rattle.std.specs.Prelude.{None, ◌≡◌, ◌≤◌, ℕ, List, length, map}
 use Rattle.std.specs.List.{zip}
 use Rattle.dpl_spec_split.specs.declared.Spacing.{Spacing}
 use Rattle.dpl_spec_split.specs.declared.Rect.{Rect}
@@ -44,7 +44,7 @@ pub record AreNearest (spacing : Spacing) (pieces : List (List Rect)) (cycle : L
 pub record IsPaintedCut (spacing : Spacing) (overlap : ℕ) (cut : Cut) (p : Painted) : Type 0 where
   pub masks : Masks
   pub even : ¬ HasOddCycle (conflicts spacing cut)
-  pub are_masks : AreMasks spacing cut masks
+  pub are_masks : AreMasks None spacing cut masks
   pub is : p ≡ record {
     a = masks.a;
     b = masks.b;
@@ -69,7 +69,7 @@ IsFlatCut spacing overlap cut (Clashes x) = IsClashOfCut spacing overlap cut x
 
 -- the decomposition of a layer, by its features, zones and pieces
 abbrev pub IsFlat : Spacing → ℕ → List Rect → Flat → Type 0
-IsFlat spacing overlap layer flat = (cut : Cut) × IsCut spacing overlap (Covers layer) cut × IsFlatCut spacing overlap cut flat
+IsFlat spacing overlap layer flat = (cut : Cut) × IsCut None spacing overlap (Covers layer) cut × IsFlatCut spacing overlap cut flat
 
 -- lines within the grammar of certificates, and slabs within the range of a layer
 pub record FitsPainted (p : Painted) : Type 0 where

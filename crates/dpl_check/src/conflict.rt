@@ -1,6 +1,8 @@
 //! Checks an odd cycle of a layer's pieces.
 ghost use Rattle.std.specs.Prelude.{◌≤◌, IfOk};
+ghost use Rattle.dpl_spec_split.specs.Marks.{asked};
 ghost use Rattle.dpl_cert.specs.Grammar.{IsCert, IsRule};
+ghost use Rattle.dpl_cut.specs.Cutting.{IsMarkedSet};
 ghost use Rattle.dpl_spec_verdict.specs.Conflicts.{IsOfConflict, IsVerdictOfConflict};
 
 use crate::counts::{counts_differ, counts_of, rules_differ};
@@ -12,20 +14,38 @@ use dpl_slabs::Slabs;
 use dpl_spec_verdict::Verdict;
 use std::alloc::{AllocError, Global};
 
-/// Whether the odd cycle of a certificate is one of the layer's, for a spacing and an overlap in database units: the first property that is broken, or that none is.
+/// The squares of both sets, where marks are asked for.
+fn marked_squares(
+    alloc: Global,
+    mark_a: &Slabs,
+    mark_b: &Slabs,
+    marks: bool,
+) -> Result<Slabs, AllocError>
+    ensures { IfOk result (λ s. IsMarkedSet s (asked marks mark_a.now mark_b.now)) }
+{
+    if marks {
+        return mark_a.union(alloc, mark_b);
+    }
+    Ok(Slabs::empty(alloc))
+}
+
+/// Whether the odd cycle of a certificate is one of the layer's, for a spacing and an overlap in database units: the first property that is broken, or that none is. Where marks are asked for, squares of `mark_a` and `mark_b` cut no zones; else the two sets aren't looked at. The cycle is one of pieces alone, without anchors.
 pub fn check_conflict(
     alloc: Global,
     layer: &Slabs,
     cert: &Cert,
     spacing: Spacing,
     overlap: u32,
+    mark_a: &Slabs,
+    mark_b: &Slabs,
+    marks: bool,
 ) -> Result<Verdict, AllocError>
     requires corner { spacing.corner ≤ spacing.rule }
     requires kind { IsOfConflict cert.now }
     requires cert { IsCert cert.now }
     requires rule { IsRule spacing.rule }
     requires overlap { IsRule overlap }
-    ensures { IfOk result (λ v. IsVerdictOfConflict spacing overlap layer.now cert.now v) }
+    ensures { IfOk result (λ v. IsVerdictOfConflict (asked marks mark_a.now mark_b.now) spacing overlap layer.now cert.now v) }
 {
     let Cert::Conflict { head, cycle, near } = cert else {
         unreachable!()
@@ -36,7 +56,8 @@ pub fn check_conflict(
             overlap: head.overlap,
         });
     }
-    let cut = cut_within(alloc, layer, spacing, overlap)?;
+    let marked = marked_squares(alloc, mark_a, mark_b, marks)?;
+    let cut = cut_within(alloc, layer, spacing, overlap, &marked)?;
     if counts_differ(head, &cut) {
         return Ok(counts_of(&cut));
     }

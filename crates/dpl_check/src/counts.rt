@@ -1,6 +1,7 @@
 //! Whether a certificate is for the rules and the layer that are checked.
-ghost use Rattle.std.specs.Prelude.{◌≡◌, ◌≤◌, ◌↔◌, ℕ, IsTrue, IfOk, length};
+ghost use Rattle.std.specs.Prelude.{Option, ◌≡◌, ◌≤◌, ◌↔◌, ℕ, IsTrue, IfOk, length};
 ghost use Rattle.dpl_spec_split.specs.Squares.{Covers};
+ghost use Rattle.dpl_spec_split.specs.Marks.{AreMarks, Marks};
 ghost use Rattle.dpl_spec_verdict.specs.Order.{AreCounts, RulesDiffer, ShowsCounts};
 ghost use Rattle.dpl_check.specs.Cutting.{HasOtherCounts, ShowsCountsOf};
 
@@ -35,18 +36,21 @@ pub(crate) fn counts_of(cut: &LayerCut) -> Verdict
     }
 }
 
-/// Tells how many features, pieces and zones a layer has.
+/// Tells how many features, pieces and zones a layer has, with squares that are fixed to mask A and to mask B.
 pub(crate) fn counts(
     alloc: Global,
     layer: &Slabs,
     spacing: Spacing,
     overlap: u32,
+    mark_a: &Slabs,
+    mark_b: &Slabs,
 ) -> Result<Verdict, AllocError>
     requires corner { spacing.corner ≤ spacing.rule }
     requires overlap { 1 ≤ overlap }
-    ensures { IfOk result (λ v. ShowsCounts spacing overlap layer.now v) }
+    ensures { (marks : Option Marks) → AreMarks mark_a.now mark_b.now marks → IfOk result (λ v. ShowsCounts marks spacing overlap layer.now v) }
 {
-    let cut = cut_within(alloc, layer, spacing, overlap)?;
+    let marked = mark_a.union(alloc, mark_b)?;
+    let cut = cut_within(alloc, layer, spacing, overlap, &marked)?;
     Ok(counts_of(&cut))
 }
 

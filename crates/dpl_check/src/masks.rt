@@ -1,5 +1,6 @@
 //! Checks two masks of a layer.
-ghost use Rattle.std.specs.Prelude.{◌≤◌, IfOk};
+ghost use Rattle.std.specs.Prelude.{Option, ◌≤◌, IfOk};
+ghost use Rattle.dpl_spec_split.specs.Marks.{AreMarks, Marks};
 ghost use Rattle.dpl_cert.specs.Grammar.{IsCert, IsRule};
 ghost use Rattle.dpl_spec_verdict.specs.Masks.{IsOfMasks, IsVerdictOfMasks};
 
@@ -15,7 +16,7 @@ use dpl_slabs::Slabs;
 use dpl_spec_verdict::Verdict;
 use std::alloc::{AllocError, Global};
 
-/// Whether masks `a` and `b` of a layer, with their certificate, are right for a spacing and an overlap in database units: the first property that is broken, or that none is.
+/// Whether masks `a` and `b` of a layer, with their certificate, are right for a spacing and an overlap in database units: the first property that is broken, or that none is. Squares of `mark_a` and `mark_b` cut no zones, which the counts tell; that they are on their masks alone isn't looked at.
 pub fn check_masks(
     alloc: Global,
     layer: &Slabs,
@@ -24,13 +25,15 @@ pub fn check_masks(
     cert: &Cert,
     spacing: Spacing,
     overlap: u32,
+    mark_a: &Slabs,
+    mark_b: &Slabs,
 ) -> Result<Verdict, AllocError>
     requires corner { spacing.corner ≤ spacing.rule }
     requires kind { IsOfMasks cert.now }
     requires cert { IsCert cert.now }
     requires rule { IsRule spacing.rule }
     requires overlap { IsRule overlap }
-    ensures { IfOk result (λ v. IsVerdictOfMasks spacing overlap layer.now a.now b.now cert.now v) }
+    ensures { (marks : Option Marks) → AreMarks mark_a.now mark_b.now marks → IfOk result (λ v. IsVerdictOfMasks marks spacing overlap layer.now a.now b.now cert.now v) }
 {
     let Cert::Masks {
         head,
@@ -48,7 +51,7 @@ pub fn check_masks(
     }
     let features = features(alloc, layer)?;
     if features.items().len() as u64 != head.features {
-        let found = counts(alloc, layer, spacing, overlap)?;
+        let found = counts(alloc, layer, spacing, overlap, mark_a, mark_b)?;
         return Ok(found);
     }
     if let Some(at) = uncovered(alloc, layer, a, b)? {

@@ -60,8 +60,7 @@ fn owned_tree(alloc: Global, rects: &[Rect], owners: &[usize]) -> Result<Tree, A
     for i in 0..rects.len() {
         items.add(&[rects[i]], owners[i])?;
     }
-    let tree = Tree::of(alloc, items)?;
-    Ok(tree)
+    Tree::of(alloc, items)
 }
 
 /// The tree of one square with its owner.
@@ -75,8 +74,7 @@ fn single_tree(alloc: Global, p: Pt, owner: usize) -> Result<Tree, AllocError>
     };
     let mut items = Items::new(alloc);
     items.add(&[square], owner)?;
-    let tree = Tree::of(alloc, items)?;
-    Ok(tree)
+    Tree::of(alloc, items)
 }
 
 /// The least square of rectangles that is near a rectangle of another owner.
@@ -139,6 +137,5 @@ pub(crate) fn too_close(
     let tree = Tree::of_parts(alloc, features.items())?;
     let rects = mask.rects();
     let owners = owners_of(alloc, rects, &tree)?;
-    let found = foreign_pair(alloc, rects, &owners, spacing)?;
-    Ok(found)
+    foreign_pair(alloc, rects, &owners, spacing)
 }

@@ -1,12 +1,13 @@
 //! A layer cut into pieces: its features, their stitch zones, and what the zones leave of the features.
 #![tactic(auto)]
 
-ghost use Rattle.std.specs.Prelude.{◌≡◌, ◌≤◌, IfOk, List};
+ghost use Rattle.std.specs.Prelude.{◌≡◌, ◌≤◌, IfOk, List, Option};
 ghost use Rattle.dpl_spec_split.specs.declared.Rect.{Rect};
 ghost use Rattle.dpl_spec_split.specs.Squares.{Covers};
 ghost use Rattle.dpl_spec_split.specs.Components.{AreComponents};
+ghost use Rattle.dpl_spec_split.specs.Marks.{Marks};
 ghost use Rattle.dpl_piece.specs.Cutting.{AreFeatures, Completes};
-ghost use Rattle.dpl_cut.specs.Cutting.{HasPointKeys, IsBareCutOf, IsCutOf};
+ghost use Rattle.dpl_cut.specs.Cutting.{IsMarkedSet, HasPointKeys, IsBareCutOf, IsCutOf};
 
 use dpl_base::Spacing;
 use dpl_feature::features;
@@ -49,7 +50,7 @@ impl BareLayerCut {
     }
 }
 
-/// The features of a layer, cut at the zones where a stitch may stand: `spacing` is how far apart features are on one mask, `overlap` how long a stitch is, in database units. The layer is let go as soon as its features are known.
+/// The features of a layer, cut at the zones where a stitch may stand: `spacing` is how far apart features are on one mask, `overlap` how long a stitch is, in database units. No zone has a marked square. The layer is let go as soon as its features are known.
 ///
 /// The error: out of memory.
 pub fn cut_of(
@@ -57,15 +58,16 @@ pub fn cut_of(
     layer: Slabs,
     spacing: Spacing,
     overlap: u32,
+    marked: &Slabs,
 ) -> Result<BareLayerCut, AllocError>
     requires corner { spacing.corner ≤ spacing.rule }
     requires overlap { 1 ≤ overlap }
-    ensures cut { IfOk result (IsBareCutOf spacing overlap (Covers layer)) }
+    ensures cut { (marks : Option Marks) → IsMarkedSet marked.now marks → IfOk result (IsBareCutOf marks spacing overlap (Covers layer)) }
     ensures keys { IfOk result HasPointKeys }
 {
     let features = features(alloc, &layer)?;
     drop(layer);
-    cut_features(alloc, features, spacing, overlap)
+    cut_features(alloc, features, spacing, overlap, marked)
 }
 
 /// The features of a layer that is needed afterwards, cut as by `cut_of`, with the pieces on the two sides of each zone.
@@ -76,13 +78,14 @@ pub fn cut_within(
     layer: &Slabs,
     spacing: Spacing,
     overlap: u32,
+    marked: &Slabs,
 ) -> Result<LayerCut, AllocError>
     requires corner { spacing.corner ≤ spacing.rule }
     requires overlap { 1 ≤ overlap }
-    ensures { IfOk result (IsCutOf spacing overlap (Covers layer.now)) }
+    ensures { (marks : Option Marks) → IsMarkedSet marked.now marks → IfOk result (IsCutOf marks spacing overlap (Covers layer.now)) }
 {
     let features = features(alloc, layer)?;
-    let cut = cut_features(alloc, features, spacing, overlap)?;
+    let cut = cut_features(alloc, features, spacing, overlap, marked)?;
     cut.completed(alloc)
 }
 
@@ -92,14 +95,15 @@ fn cut_features(
     features: Parts,
     spacing: Spacing,
     overlap: u32,
+    marked: &Slabs,
 ) -> Result<BareLayerCut, AllocError>
     requires corner { spacing.corner ≤ spacing.rule }
     requires overlap { 1 ≤ overlap }
     requires features { AreFeatures features }
-    ensures cut { (layer : List Rect) → AreComponents (Covers layer) features → IfOk result (IsBareCutOf spacing overlap (Covers layer)) }
+    ensures cut { (layer : List Rect) (marks : Option Marks) → AreComponents (Covers layer) features → IsMarkedSet marked.now marks → IfOk result (IsBareCutOf marks spacing overlap (Covers layer)) }
     ensures keys { IfOk result HasPointKeys }
 {
-    let zones = zones(alloc, &features, spacing, overlap)?;
+    let zones = zones(alloc, &features, spacing, overlap, marked)?;
     let count = features.items().len() as u64;
     let pieces = bare_pieces(alloc, features, zones)?;
     Ok(BareLayerCut {

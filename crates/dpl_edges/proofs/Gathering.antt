@@ -1,15 +1,15 @@
 -- Edges that a cell finds by meetings.
-use Rattle.std.proofs.Common.{◌≤◌, ◌≡◌, ℕ, ◌+◌, ◌<◌, ◌⊎◌, inl, inr, List, [], ◌∷◌, ◌++◌, length, get_or, sym, refl, ap, ◌∙◌, subst, arith}
+use Rattle.std.proofs.Common.{◌≡◌, ℕ, ◌+◌, ◌<◌, ◌⊎◌, inl, inr, List, [], ◌∷◌, ◌++◌, length, get_or, sym, refl, ap, ◌∙◌, subst, arith}
 use Rattle.std.specs.Prelude.{◌↔◌, ◌≢◌, slice_index}
 use Rattle.std.specs.List.{Contains}
 use Rattle.std.proofs.lemmas.List.{get_or_default}
 use Rattle.std.proofs.lemmas.List.Elements.{Contains-get_or}
-use Rattle.std.proofs.lemmas.Bool.{cases_eq, cases_lt, cases_order}
+use Rattle.std.proofs.lemmas.Bool.{cases_eq, cases_order}
 use Rattle.dpl_spec_split.specs.declared.Spacing.{Spacing}
 use Rattle.dpl_spec_split.specs.declared.Pt.{Pt}
 use Rattle.dpl_spec_split.specs.declared.Rect.{Rect}
 use Rattle.dpl_spec_split.specs.Loops.{farthest}
-use Rattle.dpl_spec_split.specs.Squares.{AreNear, Has, IsSolidWithin, Near, Region}
+use Rattle.dpl_spec_split.specs.Squares.{Has, IsSolidWithin, Near, Region}
 use Rattle.dpl_spec_split.specs.Zones.{part_at}
 use Rattle.dpl_spec_split.proofs.SquareLaws.{AreNear-sym, Near-sym}
 use Rattle.dpl_slabs.specs.Parts.{AreParts}
@@ -18,7 +18,7 @@ use Rattle.dpl_join.specs.Pairs.{item_at, no_item}
 use Rattle.dpl_tile.specs.declared.meetings.Meeting.{Meeting}
 use Rattle.dpl_tile.specs.Adding.{Adds}
 use Rattle.dpl_tile.specs.Meetings.{AreItemsOf}
-use Rattle.dpl_tile.specs.Plans.{AreApart, HaveAllNear, Planned}
+use Rattle.dpl_tile.specs.Plans.{HaveAllNear, Planned}
 use Rattle.dpl_tile.proofs.Adding.{added-to_none, adds-same}
 use Rattle.dpl_tile.proofs.Loops.{OfSome, adds-push}
 use Rattle.dpl_edges.specs.InCells.{in_cell, ConflictIn}
@@ -36,9 +36,6 @@ pub edge-push : (spacing : Spacing) (cell : Rect) (a b : Item) (old new : List (
     → new ≡ old ++ e ∷ [] → Adds (IsEdgeOf spacing cell a b) old new
 edge-push spacing cell a b old new e meet h is = adds-same (λ f. f ≡ e) (IsEdgeOf spacing cell a b) old new
     (λ f. (λ same. (meet, subst (λ u. IsEnds a.owner b.owner u) (sym same) h), λ (m, g). one_ends a.owner b.owner f e g h)) (adds-push old new e is)
-
-pub edge-none : (spacing : Spacing) (cell : Rect) (a b : Item) (xs : List (ℕ × ℕ)) → (MeetIn spacing cell a b → ⊥) → Adds (IsEdgeOf spacing cell a b) xs xs
-edge-none spacing cell a b xs none e = (λ h. inl h, λ h. elim h [ inl k ↦ k | inr (m, is) ↦ absurd (none m) ])
 
 -- the edge of a meeting
 abbrev pub IsMeetingEdge : Planned → Rect → Meeting → ℕ × ℕ → Type 0

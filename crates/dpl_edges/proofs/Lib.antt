@@ -1,3 +1,4 @@
 pub mod Windows
+pub mod Fixing
 pub mod Gathering
 pub mod Conflicts

@@ -1,2 +1,3 @@
+pub mod Fixed
 pub mod InCells
 pub mod Meetings

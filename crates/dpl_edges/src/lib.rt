@@ -1,4 +1,4 @@
-//! The conflict graph of the pieces of a layer: pieces of different features that are near.
+//! The conflict graph of the pieces of a layer: pieces of different features that are near; and the edges that marks add.
 #![tactic(auto)]
 
 ghost use Rattle.std.specs.Prelude.{ℕ, ◌<◌, IfOk, length};
@@ -14,10 +14,12 @@ ghost use Rattle.dpl_edges.specs.Meetings.{IsWhole};
 
 mod gather;
 mod laws;
+mod marks;
 mod near;
 
 use crate::gather::edges_among;
-pub use crate::laws::tiles_make_the_graph;
+pub use crate::laws::{marks_make_the_graph, tiles_make_the_graph};
+pub use crate::marks::{mark_edges, shifted};
 use dpl_base::{Edge, FARTHEST, WideRect};
 use dpl_tile::{Meeting, Plan};
 use std::alloc::{AllocError, Global};

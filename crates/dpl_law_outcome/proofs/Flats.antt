@@ -12,8 +12,9 @@ use Rattle.dpl_spec_split.specs.Decomposition.{Cut, Masks, AreMasks, Done, confl
 use Rattle.dpl_spec_split.proofs.Uniqueness.{roots-unique}
 use Rattle.dpl_spec_split.proofs.ColourLaws.{colours-unique}
 use Rattle.dpl_spec_split.proofs.CycleLaws.{cycle-unique}
-use Rattle.dpl_spec_split.proofs.WholeLaws.{cut-unique, answer-unique}
-use Rattle.dpl_spec_split.proofs.SideLaws.{sides-unique}
+use Rattle.dpl_spec_split.proofs.WholeLaws.{answer-unique}
+use Rattle.dpl_spec_verdict.proofs.OrderLaws.{one-cut}
+use Rattle.std.specs.Prelude.{None}
 use Rattle.dpl_cert.specs.declared.cert.Head.{Head}
 use Rattle.dpl_cert.specs.declared.cert.PlaceLine.{PlaceLine}
 use Rattle.dpl_cert.specs.declared.cert.NearLine.{NearLine}
@@ -24,7 +25,7 @@ use Rattle.dpl_law_verdict.specs.Own.{head_of, piece_line, stitch_line, place_li
 
 -- ---- masks
 
-colours-same : (spacing : Spacing) (c : Cut) (m n : Masks) (a : AreMasks spacing c m) (b : AreMasks spacing c n) → a.colours ≡ b.colours
+colours-same : (spacing : Spacing) (c : Cut) (m n : Masks) (a : AreMasks None spacing c m) (b : AreMasks None spacing c n) → a.colours ≡ b.colours
 colours-same spacing c m n a b =
     let rooted = roots-unique (conflicts spacing c) (length c.pieces) a.roots b.roots a.odds b.odds a.rooted b.rooted in
     let mine : AreColours b.roots b.odds c.sides a.colours = subst (λ o. AreColours b.roots o c.sides a.colours) rooted.1
@@ -33,7 +34,7 @@ colours-same spacing c m n a b =
 
 painted-same : (spacing : Spacing) (overlap : ℕ) (c : Cut) (x y : Painted) → IsPaintedCut spacing overlap c x → IsPaintedCut spacing overlap c y → x ≡ y
 painted-same spacing overlap c x y a b =
-    let done : Done a.masks ≡ Done b.masks = answer-unique spacing c (Done a.masks) (Done b.masks) (a.even, a.are_masks) (b.even, b.are_masks) in
+    let done : Done a.masks ≡ Done b.masks = answer-unique None spacing c (Done a.masks) (Done b.masks) (a.even, a.are_masks) (b.even, b.are_masks) in
     let masks : a.masks ≡ b.masks = cc in
     let colours : a.are_masks.colours ≡ b.are_masks.colours = colours-same spacing c a.masks b.masks a.are_masks b.are_masks in
     let paint : Masks → List Bool
@@ -84,6 +85,5 @@ flat_cut-same spacing overlap c (Clashes x) (Clashes y) a b = ap (λ p. Clashes 
 
 pub flat-same : (spacing : Spacing) (overlap : ℕ) (layer : List Rect) (x y : Flat) → IsFlat spacing overlap layer x → IsFlat spacing overlap layer y → x ≡ y
 flat-same spacing overlap layer x y (c, is_c, a) (d, is_d, b) =
-    let same : c ≡ d = cut-unique spacing overlap (Covers layer) c d
-    (sides-unique spacing overlap (Covers layer) c.features c.pieces c.zones is_c.features is_c.zones is_c.pieces.components) is_c is_d in
+    let same : c ≡ d = one-cut None spacing overlap (Covers layer) c d is_c is_d in
     flat_cut-same spacing overlap c x y a (subst (λ e. IsFlatCut spacing overlap e y) (sym same) b)

@@ -78,7 +78,7 @@ module _ (file : List ℕ) (choice : Choice) (bytes : List ℕ) (next : List Rec
       each r x y p (subst (λ l. next l y) slabs q)
 
 judged-same : (v : CheckValues) (layer : List Rect) (cert : Cert) (a b : List Rect) (x y : Outcome) → IsJudged v layer cert a b x → IsJudged v layer cert a b y → x ≡ y
-judged-same v layer cert a b x y (w, is_w, p) (u, is_u, q) = p ∙ (ap (verdict_outcome cert) (masks-unique (uniform v.rule) v.overlap layer a b cert w u is_w is_u) ∙ sym q)
+judged-same v layer cert a b x y (w, is_w, p) (u, is_u, q) = p ∙ (ap (verdict_outcome cert) (masks-unique None (uniform v.rule) v.overlap layer a b cert w u is_w is_u) ∙ sym q)
 
 masks-same : (v : CheckValues) (layer : List Rect) (cert : Cert) (bytes : List ℕ) (x y : Outcome) → IsCheckOfMasks v layer cert bytes x
     → IsCheckOfMasks v layer cert bytes y → x ≡ y
@@ -91,7 +91,7 @@ cert-same : (v : CheckValues) (layer : List Rect) (out : Option (List ℕ)) (cer
 cert-same v layer None (Masks h ps ss) x y p q = p ∙ sym q
 cert-same v layer (Some bytes) (Masks h ps ss) x y p q = masks-same v layer (Masks h ps ss) bytes x y p q
 cert-same v layer out (Conflict h cs ns) x y (w, is_w, p) (u, is_u, q) =
-    p ∙ (ap (verdict_outcome (Conflict h cs ns)) (conflict-unique (uniform v.rule) v.overlap layer (Conflict h cs ns) w u is_w is_u) ∙ sym q)
+    p ∙ (ap (verdict_outcome (Conflict h cs ns)) (conflict-unique None (uniform v.rule) v.overlap layer (Conflict h cs ns) w u is_w is_u) ∙ sym q)
 cert-same v layer out (Fault name at) x y p q = p ∙ sym q
 
 texts-same : (c d : Cert) (text : List ℕ) → IsText c text → IsText d text → c ≡ d

@@ -2,7 +2,7 @@
 use Rattle.std.proofs.Common.{sym, subst}
 use Rattle.dpl_cert.specs.declared.cert.Head.{Head}
 use Rattle.dpl_cert.specs.declared.cert.PlaceLine.{PlaceLine}
-use Rattle.std.specs.Prelude.{List}
+use Rattle.std.specs.Prelude.{None, List}
 use Rattle.dpl_cert.specs.declared.cert.Cert.TheVariants.{Masks, Conflict}
 use Rattle.dpl_spec_verdict.specs.declared.Verdict.TheVariants.{Valid}
 use Rattle.dpl_spec_verdict.specs.Masks.{IsVerdictOfMasks}
@@ -16,11 +16,11 @@ use Rattle.dpl_law_outcome.specs.Own.{PaintedIsValid, ClashIsValid}
 
 pub painted-valid : PaintedIsValid
 painted-valid spacing overlap layer cut p is_cut a =
-    subst (λ (q : Painted). IsVerdictOfMasks spacing overlap layer q.a q.b (Masks q.head q.pieces q.stitches) Valid) (sym a.is)
-    (kept-valid spacing overlap _ (painted-kept spacing overlap layer cut a.masks is_cut a.are_masks a.even))
+    subst (λ (q : Painted). IsVerdictOfMasks None spacing overlap layer q.a q.b (Masks q.head q.pieces q.stitches) Valid) (sym a.is)
+    (kept-valid None spacing overlap _ (painted-kept spacing overlap layer cut a.masks is_cut a.are_masks a.even))
 
 pub clash-valid : ClashIsValid
 clash-valid spacing overlap layer cut x is_cut a =
-    subst (λ (h : Head). IsVerdictOfConflict spacing overlap layer (Conflict h x.cycle x.near) Valid) (sym a.head)
-    (subst (λ (ps : List PlaceLine). IsVerdictOfConflict spacing overlap layer (Conflict (head_of spacing overlap cut) ps x.near) Valid) (sym a.places)
+    subst (λ (h : Head). IsVerdictOfConflict None spacing overlap layer (Conflict h x.cycle x.near) Valid) (sym a.head)
+    (subst (λ (ps : List PlaceLine). IsVerdictOfConflict None spacing overlap layer (Conflict (head_of spacing overlap cut) ps x.near) Valid) (sym a.places)
     (clash-verdict spacing overlap layer cut a.cycle x.near is_cut a.reported a.nearest.pair))

@@ -78,7 +78,7 @@ fronted lib top front is = elim (slice_get_cases lib.structures top).1 [
 module _ (v : SplitValues) (o : Outside) (bytes front : List ℕ) (layer : List Rect) (in_range : AreInRangeForCheck (checking v))
     (apart : IsApart (AsksSplit v)) (read : file_of o v.input ≡ Some bytes)
     (reading : IsReading (split_choice v) bytes (Layer front layer)) (lib : Library) (holds : Holds bytes lib)
-    (l : IsLayerIn (split_choice v) lib front layer) (cut : Cut) (is_cut : IsCut (uniform v.rule) v.overlap (Covers layer) cut) where
+    (l : IsLayerIn (split_choice v) lib front layer) (cut : Cut) (is_cut : IsCut None (uniform v.rule) v.overlap (Covers layer) cut) where
   within : AreRectsWithin farthest layer
   within = layer-within lib l.top (chosen (split_choice v)) layer l.faultless l.squares
 

@@ -1,5 +1,5 @@
 -- The results of the program are valid.
-use Rattle.std.specs.Prelude.{ℕ, List}
+use Rattle.std.specs.Prelude.{None, ℕ, List}
 use Rattle.dpl_spec_split.specs.declared.Spacing.{Spacing}
 use Rattle.dpl_spec_split.specs.declared.Rect.{Rect}
 use Rattle.dpl_spec_split.specs.Squares.{Covers}
@@ -12,10 +12,10 @@ use Rattle.dpl_answer.specs.Flat.{Painted, Clash, IsPaintedCut, IsClashOfCut}
 
 -- nothing is wrong with the masks of a cut
 abbrev pub PaintedIsValid : Type 0
-PaintedIsValid = (spacing : Spacing) (overlap : ℕ) (layer : List Rect) (cut : Cut) (p : Painted) → IsCut spacing overlap (Covers layer) cut → IsPaintedCut spacing overlap cut p
-    → IsVerdictOfMasks spacing overlap layer p.a p.b (Masks p.head p.pieces p.stitches) Valid
+PaintedIsValid = (spacing : Spacing) (overlap : ℕ) (layer : List Rect) (cut : Cut) (p : Painted) → IsCut None spacing overlap (Covers layer) cut → IsPaintedCut spacing overlap cut p
+    → IsVerdictOfMasks None spacing overlap layer p.a p.b (Masks p.head p.pieces p.stitches) Valid
 
 -- nothing is wrong with the cycle of a cut
 abbrev pub ClashIsValid : Type 0
-ClashIsValid = (spacing : Spacing) (overlap : ℕ) (layer : List Rect) (cut : Cut) (x : Clash) → IsCut spacing overlap (Covers layer) cut → IsClashOfCut spacing overlap cut x
-    → IsVerdictOfConflict spacing overlap layer (Conflict x.head x.cycle x.near) Valid
+ClashIsValid = (spacing : Spacing) (overlap : ℕ) (layer : List Rect) (cut : Cut) (x : Clash) → IsCut None spacing overlap (Covers layer) cut → IsClashOfCut spacing overlap cut x
+    → IsVerdictOfConflict None spacing overlap layer (Conflict x.head x.cycle x.near) Valid

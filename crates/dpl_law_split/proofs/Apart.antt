@@ -1,6 +1,6 @@
 -- Without an odd cycle of conflicts a mask keeps squares of different features apart.
-use Rattle.std.proofs.Common.{◌≡◌, ◌≢◌, ℕ, suc, ◌*◌, ◌%◌, ◌<◌, ◌≤◌, inl, inr, Bool, true, false, List, length, get_or, sym, refl, ap, ◌∙◌, subst, arith}
-use Rattle.std.specs.Prelude.{◌==◌, ◌<ℤ◌}
+use Rattle.std.proofs.Common.{◌≡◌, ◌≢◌, ℕ, suc, ◌+◌, ◌*◌, ◌%◌, ◌<◌, ◌≤◌, inl, inr, Bool, true, false, List, [], ◌∷◌, drop, length, get_or, sym, refl, ap, ◌∙◌, subst, arith}
+use Rattle.std.specs.Prelude.{Option, Some, None, ◌==◌, ◌<ℤ◌}
 use Rattle.std.specs.List.{Contains}
 use Rattle.std.proofs.lemmas.Int.{ints}
 use Rattle.std.proofs.lemmas.Bool.{cases_lt, cases_order}
@@ -16,7 +16,8 @@ use Rattle.dpl_spec_split.specs.Pieces.{Conflict}
 use Rattle.dpl_spec_split.specs.Graphs.{Graph, stay, step, IsDistance}
 use Rattle.dpl_spec_split.specs.Summary.{HasOddCycle}
 use Rattle.dpl_spec_split.specs.Colours.{differ, is_flipped, AreRoots, AreColours, colour_at, on_mask}
-use Rattle.dpl_spec_split.specs.Decomposition.{Cut, IsCut, conflicts, Masks, AreMasks}
+use Rattle.dpl_spec_split.specs.Marks.{Marks, Anchored, MarkEdge, letters_by, sides_by, vertex, conflict, up, down, anchors, fixed_to_a, fixed_to_b}
+use Rattle.dpl_spec_split.specs.Decomposition.{Cut, IsCut, conflicts, cut_graph, Masks, AreMasks}
 use Rattle.dpl_spec_split.proofs.SquareLaws.{d2-sym, AreNear-sym, far-sym}
 use Rattle.dpl_spec_split.proofs.GraphLaws.{root-unique}
 use Rattle.dpl_stars.specs.Laws.{HasLevelEdge}
@@ -103,30 +104,70 @@ conflicts-undirected spacing c = record {
   different = λ u v h e. h.apart (ap (λ k. get_or c.owners k 0) e);
 }
 
-module _ (spacing : Spacing) (overlap : ℕ) (layer : Region) (c : Cut) (m : Masks) (cut : IsCut spacing overlap layer c) (masks : AreMasks spacing c m) (even : HasOddCycle (conflicts spacing c) → ⊥) where
+edges-differ : (m : Marks) (pieces : List (List Rect)) (u v : ℕ) → MarkEdge m pieces u v → u ≡ v → ⊥
+edges-differ m pieces u v (anchors a b) e = omega (arith, a, b, e)
+edges-differ m pieces u v (fixed_to_b k k_in some a b) e = omega (arith, a, b, e)
+edges-differ m pieces u v (fixed_to_a k k_in some a b) e = omega (arith, a, b, e)
+
+-- with anchors or without, what is joined is joined both ways, and to no vertex itself
+graph-undirected : (marks : Option Marks) (spacing : Spacing) (c : Cut) → IsUndirected (cut_graph marks spacing c)
+graph-undirected None spacing c = conflicts-undirected spacing c
+graph-undirected (Some m) spacing c = record { both = both; different = different }
+  where
+    both : (u v : ℕ) → Anchored spacing m c.pieces c.owners u v → Anchored spacing m c.pieces c.owners v u
+    both u v (conflict i j h a b) = conflict j i ((conflicts-undirected spacing c).both i j h) b a
+    both u v (up e) = down e
+    both u v (down e) = up e
+
+    different : (u v : ℕ) → Anchored spacing m c.pieces c.owners u v → u ≡ v → ⊥
+    different u v (conflict i j h a b) e = (conflicts-undirected spacing c).different i j h (omega (arith, a, b, e))
+    different u v (up h) e = edges-differ m c.pieces u v h e
+    different u v (down h) e = edges-differ m c.pieces v u h (sym e)
+
+-- conflicts join vertices
+joined-vertices : (marks : Option Marks) (spacing : Spacing) (c : Cut) (k l : ℕ) → Conflict spacing c.pieces c.owners k l → cut_graph marks spacing c (vertex marks k) (vertex marks l)
+joined-vertices None spacing c k l h = h
+joined-vertices (Some m) spacing c k l h = conflict k l h refl refl
+
+vertex-below : (marks : Option Marks) (k n : ℕ) → k < n → vertex marks k < vertex marks n
+vertex-below None k n l = l
+vertex-below (Some m) k n l = omega (arith, l)
+
+behind-two : (cs : List Bool) (k : ℕ) → get_or (drop 2 cs) k false ≡ get_or cs (suc (suc k)) false
+behind-two [] k = refl
+behind-two (x ∷ []) k = refl
+behind-two (x ∷ y ∷ cs) k = refl
+
+-- a piece has its vertex's letter
+letter-at : (marks : Option Marks) (colours : List Bool) (k : ℕ) → colour_at (letters_by marks colours) k ≡ colour_at colours (vertex marks k)
+letter-at None colours k = refl
+letter-at (Some m) colours k = let two : suc (suc k) ≡ k + 2 = omega arith in behind-two colours k ∙ ap (λ n. get_or colours n false) two
+
+module _ (marks : Option Marks) (spacing : Spacing) (overlap : ℕ) (layer : Region) (c : Cut) (m : Masks) (cut : IsCut marks spacing overlap layer c) (masks : AreMasks marks spacing c m) (even : HasOddCycle (cut_graph marks spacing c) → ⊥) where
   -- a zone's square is clear of other features
   zone-far : (z : Zone) (i j : ℕ) (p q : Pt) → Contains c.zones z → Has z.rect p → part_at c.features i p → part_at c.features j q → i ≢ j → ¬ Near spacing p q
   zone-far z i j p q z_in has in_i in_j ne =
-      let mine : z.feature ≡ i = part-same layer c.features z.feature i p cut.features (zone-own spacing overlap layer c cut z p z_in has) in_i in
-      kept-clear spacing overlap layer (part_at c.features z.feature) z.rect p q (kept spacing overlap layer c cut z z_in).1 has
+      let mine : z.feature ≡ i = part-same layer c.features z.feature i p cut.features (zone-own marks spacing overlap layer c cut z p z_in has) in_i in
+      kept-clear spacing overlap layer (part_at c.features z.feature) z.rect p q (kept marks spacing overlap layer c cut z z_in).1 has
       (part-inside layer c.features j q cut.features in_j)
       (λ in_z. ne (sym mine ∙ part-same layer c.features z.feature j q cut.features in_z in_j))
 
-  pieces-far : (letter : Bool) (k l i j : ℕ) (p q : Pt) → part_at c.pieces k p → part_at c.pieces l q → colour_at masks.colours k ≡ letter
-      → colour_at masks.colours l ≡ letter → part_at c.features i p → part_at c.features j q → i ≢ j → ¬ Near spacing p q
+  pieces-far : (letter : Bool) (k l i j : ℕ) (p q : Pt) → part_at c.pieces k p → part_at c.pieces l q → colour_at (letters_by marks masks.colours) k ≡ letter
+      → colour_at (letters_by marks masks.colours) l ≡ letter → part_at c.features i p → part_at c.features j q → i ≢ j → ¬ Near spacing p q
   pieces-far letter k l i j p q in_k in_l k_is l_is in_i in_j ne = elim (near-or_far spacing p q) [
     | inr far ↦ far
     | inl close ↦ (let k_in = part-within c.pieces k p in_k in
         let l_in = part-within c.pieces l q in_l in
-        let apart : get_or c.owners k 0 ≢ get_or c.owners l 0 = λ e. ne (sym (owner-is spacing overlap layer c cut k i p in_k in_i)
-        ∙ (e ∙ owner-is spacing overlap layer c cut l j q in_l in_j)) in
+        let apart : get_or c.owners k 0 ≢ get_or c.owners l 0 = λ e. ne (sym (owner-is marks spacing overlap layer c cut k i p in_k in_i)
+        ∙ (e ∙ owner-is marks spacing overlap layer c cut l j q in_l in_j)) in
         let joined : Conflict spacing c.pieces c.owners k l = record { first = k_in; second = l_in; apart = apart; near = (p, q, in_k, in_l, close) } in
-        absurd (letters-differ (conflicts spacing c) (conflicts-undirected spacing c) (length c.pieces) masks.roots masks.odds masks.rooted
-        c.sides masks.colours masks.coloured even k l k_in l_in joined (k_is ∙ sym l_is)))
+        absurd (letters-differ (cut_graph marks spacing c) (graph-undirected marks spacing c) (vertex marks (length c.pieces)) masks.roots masks.odds masks.rooted
+        (sides_by marks c.sides) masks.colours masks.coloured even (vertex marks k) (vertex marks l) (vertex-below marks k (length c.pieces) k_in) (vertex-below marks l (length c.pieces) l_in)
+        (joined-vertices marks spacing c k l joined) (sym (letter-at marks masks.colours k) ∙ (k_is ∙ (sym l_is ∙ letter-at marks masks.colours l)))))
   ]
 
   masked-far : (letter : Bool) (i j : ℕ) (p q : Pt) → i ≢ j → part_at c.features i p → part_at c.features j q
-      → on_mask c.pieces c.zones c.sides masks.colours letter p → on_mask c.pieces c.zones c.sides masks.colours letter q
+      → on_mask c.pieces c.zones c.sides (letters_by marks masks.colours) letter p → on_mask c.pieces c.zones c.sides (letters_by marks masks.colours) letter q
       → ¬ Near spacing p q
   masked-far letter i j p q ne in_i in_j (inr (k, z, side, l, z_is, side_is, letter_is, has)) b = zone-far z i j p q (k, l, z_is) has in_i in_j ne
   masked-far letter i j p q ne in_i in_j (inl a) (inr (k, z, side, l, z_is, side_is, letter_is, has)) =

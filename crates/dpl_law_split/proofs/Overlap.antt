@@ -1,6 +1,6 @@
 -- Masks overlap at stitches alone.
 use Rattle.std.proofs.Common.{◌≡◌, ℕ, ◌<◌, ◌⊎◌, inl, inr, Bool, true, false, List, length, map, get_or, sym, refl, ap, ◌∙◌, subst}
-use Rattle.std.specs.Prelude.{◌↔◌}
+use Rattle.std.specs.Prelude.{Option, ◌↔◌}
 use Rattle.std.specs.List.{Contains}
 use Rattle.std.proofs.lemmas.List.{get_or_default, get_or-map, length-map}
 use Rattle.dpl_spec_split.specs.declared.Spacing.{Spacing}
@@ -8,6 +8,7 @@ use Rattle.dpl_spec_split.specs.declared.Pt.{Pt}
 use Rattle.dpl_spec_split.specs.declared.Zone.{Zone}
 use Rattle.dpl_spec_split.specs.Squares.{Region, Covers, Has}
 use Rattle.dpl_spec_split.specs.Colours.{differ, colour_at, on_mask}
+use Rattle.dpl_spec_split.specs.Marks.{Marks, letters_by}
 use Rattle.dpl_spec_split.specs.Decomposition.{Cut, IsCut, Masks, AreMasks}
 use Rattle.dpl_law_split.specs.Masks.{rect_at, rects_of}
 use Rattle.dpl_law_split.proofs.Parts.{part-same, piece-rest, zone-same}
@@ -40,33 +41,33 @@ has-letters false true e = (inl refl, inr refl)
 has-letters true false e = (inr refl, inl refl)
 has-letters true true e = (inl (sym e), inl refl)
 
-module _ (spacing : Spacing) (overlap : ℕ) (layer : Region) (c : Cut) (m : Masks) (cut : IsCut spacing overlap layer c) (masks : AreMasks spacing c m) where
+module _ (marks : Option Marks) (spacing : Spacing) (overlap : ℕ) (layer : Region) (c : Cut) (m : Masks) (cut : IsCut marks spacing overlap layer c) (masks : AreMasks marks spacing c m) where
   abbrev masked : Bool → Region
-  masked letter p = on_mask c.pieces c.zones c.sides masks.colours letter p
+  masked letter p = on_mask c.pieces c.zones c.sides (letters_by marks masks.colours) letter p
 
-  stitched : (p : Pt) → on_mask c.pieces c.zones c.sides masks.colours false p → on_mask c.pieces c.zones c.sides masks.colours true p → Covers (rects_of c.zones m.stitches) p
+  stitched : (p : Pt) → on_mask c.pieces c.zones c.sides (letters_by marks masks.colours) false p → on_mask c.pieces c.zones c.sides (letters_by marks masks.colours) true p → Covers (rects_of c.zones m.stitches) p
   stitched p (inl (k, k_in, k_is, in_k)) (inl (l, l_in, l_is, in_l)) =
       let same : k ≡ l = part-same _ c.pieces k l p cut.pieces.components in_k in_l in
-      let e : false ≡ true = sym k_is ∙ (ap (λ n. colour_at masks.colours n) same ∙ l_is) in cc
-  stitched p (inl (k, k_in, k_is, in_k)) (inr (l, w, t, l_in, w_is, t_is, letter, has)) = absurd ((piece-rest spacing overlap layer c cut k p in_k).1 (l, w, l_in, w_is, has))
-  stitched p (inr (k, z, s, k_in, z_is, s_is, letter, has)) (inl (l, l_in, l_is, in_l)) = absurd ((piece-rest spacing overlap layer c cut l p in_l).1 (k, z, k_in, z_is, has))
+      let e : false ≡ true = sym k_is ∙ (ap (λ n. colour_at (letters_by marks masks.colours) n) same ∙ l_is) in cc
+  stitched p (inl (k, k_in, k_is, in_k)) (inr (l, w, t, l_in, w_is, t_is, letter, has)) = absurd ((piece-rest marks spacing overlap layer c cut k p in_k).1 (l, w, l_in, w_is, has))
+  stitched p (inr (k, z, s, k_in, z_is, s_is, letter, has)) (inl (l, l_in, l_is, in_l)) = absurd ((piece-rest marks spacing overlap layer c cut l p in_l).1 (k, z, k_in, z_is, has))
   stitched p (inr (k, z, s, k_in, z_is, s_is, of_a, has)) (inr (l, w, t, l_in, w_is, t_is, of_b, has_w)) =
-      let same : l ≡ k = sym (zone-same spacing overlap layer c cut k l z w p k_in l_in z_is w_is has has_w) in
-      let k_side : k < length c.sides = subst (λ n. k < n) (sym (as_many_sides spacing overlap layer c cut masks.colours)) k_in in
+      let same : l ≡ k = sym (zone-same marks spacing overlap layer c cut k l z w p k_in l_in z_is w_is has has_w) in
+      let k_side : k < length c.sides = subst (λ n. k < n) (sym (as_many_sides marks spacing overlap layer c cut (letters_by marks masks.colours))) k_in in
       let t_at : get_or c.sides k t ≡ t = subst (λ n. get_or c.sides n t ≡ t) same t_is in
       let sides : t ≡ s = sym t_at ∙ (get_or_default c.sides k t s k_side ∙ s_is) in
-      let both : differ (colour_at masks.colours s.0) (colour_at masks.colours s.1) ≡ true =
-      both-letters (colour_at masks.colours s.0) (colour_at masks.colours s.1) of_a
-      (subst (λ x. (colour_at masks.colours x.0 ≡ true) ⊎ (colour_at masks.colours x.1 ≡ true)) sides of_b) in
+      let both : differ (colour_at (letters_by marks masks.colours) s.0) (colour_at (letters_by marks masks.colours) s.1) ≡ true =
+      both-letters (colour_at (letters_by marks masks.colours) s.0) (colour_at (letters_by marks masks.colours) s.1) of_a
+      (subst (λ x. (colour_at (letters_by marks masks.colours) x.0 ≡ true) ⊎ (colour_at (letters_by marks masks.colours) x.1 ≡ true)) sides of_b) in
       let listed = (masks.stitches.exactly k).1 (s, k_side, s_is, both) in
       covers-zone c.zones m.stitches p k listed (subst (λ v. Has v.rect p) (sym z_is ∙ get_or_default c.zones k z _ k_in) has)
 
-  unstitched : (p : Pt) → Covers (rects_of c.zones m.stitches) p → on_mask c.pieces c.zones c.sides masks.colours false p × on_mask c.pieces c.zones c.sides masks.colours true p
+  unstitched : (p : Pt) → Covers (rects_of c.zones m.stitches) p → on_mask c.pieces c.zones c.sides (letters_by marks masks.colours) false p × on_mask c.pieces c.zones c.sides (letters_by marks masks.colours) true p
   unstitched p covered =
       let (k, listed, has) = zone-covered c.zones m.stitches p covered in
       let (s, k_side, s_is, both) = (masks.stitches.exactly k).0 listed in
-      let k_in : k < length c.zones = subst (λ n. k < n) (as_many_sides spacing overlap layer c cut masks.colours) k_side in
-      let (of_a, of_b) = has-letters (colour_at masks.colours s.0) (colour_at masks.colours s.1) both in
+      let k_in : k < length c.zones = subst (λ n. k < n) (as_many_sides marks spacing overlap layer c cut (letters_by marks masks.colours)) k_side in
+      let (of_a, of_b) = has-letters (colour_at (letters_by marks masks.colours) s.0) (colour_at (letters_by marks masks.colours) s.1) both in
       (inr (k, _, s, k_in, get_or_default c.zones k _ _ k_in, s_is, of_a, has), inr (k, _, s, k_in, get_or_default c.zones k _ _ k_in, s_is, of_b, has))
 
   pub overlap-at : (p : Pt) → (Covers m.a p × Covers m.b p) ↔ Covers (rects_of c.zones m.stitches) p

@@ -1,5 +1,6 @@
 -- Where the squares of a cut lie: each in one feature, and in one piece or one zone.
 use Rattle.std.proofs.Common.{◌≡◌, ℕ, zero, suc, ◌<◌, ◌⊎◌, inl, inr, List, [], ◌∷◌, length, get_or, sym, refl, ap, ◌∙◌, subst, arith}
+use Rattle.std.specs.Prelude.{Option}
 use Rattle.std.specs.List.{Any, AllZip, Contains}
 use Rattle.std.proofs.lemmas.Int.{ints, by_lt_z}
 use Rattle.std.proofs.lemmas.Bool.{cases_lt, cases_order}
@@ -13,6 +14,7 @@ use Rattle.dpl_spec_split.specs.Slabs.{Before}
 use Rattle.dpl_spec_split.specs.Components.{AreComponents}
 use Rattle.dpl_spec_split.specs.Zones.{at, IsHorizontalZone, IsVerticalZone, IsKeptZone, transposed, transposed_rect, part_at}
 use Rattle.dpl_spec_split.specs.Pieces.{without, IsOwner}
+use Rattle.dpl_spec_split.specs.Marks.{Marks}
 use Rattle.dpl_spec_split.specs.Decomposition.{Cut, IsCut}
 use Rattle.dpl_spec_split.proofs.SquareLaws.{Touch-from_close}
 use Rattle.dpl_spec_split.proofs.SlabLaws.{Before-strict}
@@ -106,9 +108,9 @@ module _ (spacing : Spacing) (overlap : ℕ) (layer f : Region) where
   kept-same r s p (inr (v, apart)) (inl k) a b = absurd (apart s k (p, p, b, a, touches-itself spacing overlap layer p))
   kept-same r s p (inr (v, apart)) (inr (w, far)) a b = upright-same r s p v w a b
 
-module _ (spacing : Spacing) (overlap : ℕ) (layer : Region) (c : Cut) (cut : IsCut spacing overlap layer c) where
+module _ (marks : Option Marks) (spacing : Spacing) (overlap : ℕ) (layer : Region) (c : Cut) (cut : IsCut marks spacing overlap layer c) where
   pub kept : (z : Zone) → Contains c.zones z → (z.feature < length c.features) × IsKeptZone spacing overlap layer (part_at c.features z.feature) z.rect
-  kept z z_in = (cut.zones.exactly z).0 z_in
+  kept z z_in = ((cut.zones.exactly z).0 z_in).0
 
   -- a zone's squares are of its feature
   pub zone-own : (z : Zone) (p : Pt) → Contains c.zones z → Has z.rect p → part_at c.features z.feature p

@@ -1,5 +1,5 @@
 -- What the masks of a layer keep.
-use Rattle.std.specs.Prelude.{◌≢◌, ℕ, ◌*◌, ◌≤◌, ◌⊎◌, ◌↔◌, pos, List, map, slice_index_or}
+use Rattle.std.specs.Prelude.{◌≢◌, ℕ, ◌*◌, ◌≤◌, ◌⊎◌, ◌↔◌, pos, List, map, slice_index_or, Option}
 use Rattle.dpl_spec_split.specs.declared.Spacing.{Spacing}
 use Rattle.dpl_spec_split.specs.declared.Pt.{Pt}
 use Rattle.dpl_spec_split.specs.declared.Rect.{Rect}
@@ -7,7 +7,8 @@ use Rattle.dpl_spec_split.specs.declared.Zone.{Zone}
 use Rattle.dpl_spec_split.specs.Squares.{Covers, Near}
 use Rattle.dpl_spec_split.specs.Zones.{part_at}
 use Rattle.dpl_spec_split.specs.Summary.{HasOddCycle}
-use Rattle.dpl_spec_split.specs.Decomposition.{Cut, Masks, IsCut, AreMasks, conflicts}
+use Rattle.dpl_spec_split.specs.Marks.{Marks}
+use Rattle.dpl_spec_split.specs.Decomposition.{Cut, Masks, IsCut, AreMasks, cut_graph}
 
 -- a square is on one of the masks exactly where it is in the layer
 abbrev pub AreCover : List Rect → List Rect → List Rect → Type 0
@@ -31,14 +32,14 @@ rects_of zones ks = map (rect_at zones) ks
 
 -- masks cover their layer exactly
 abbrev pub MasksCover : Type 0
-MasksCover = (spacing : Spacing) (overlap : ℕ) (layer : List Rect) (c : Cut) (m : Masks) → IsCut spacing overlap (Covers layer) c → AreMasks spacing c m → AreCover layer m.a m.b
+MasksCover = (marks : Option Marks) (spacing : Spacing) (overlap : ℕ) (layer : List Rect) (c : Cut) (m : Masks) → IsCut marks spacing overlap (Covers layer) c → AreMasks marks spacing c m → AreCover layer m.a m.b
 
--- without an odd cycle of conflicts each mask keeps features apart
+-- without an odd cycle of the graph each mask keeps features apart
 abbrev pub MasksKeepApart : Type 0
-MasksKeepApart = (spacing : Spacing) (overlap : ℕ) (layer : List Rect) (c : Cut) (m : Masks) → IsCut spacing overlap (Covers layer) c → AreMasks spacing c m → ¬ HasOddCycle (conflicts spacing c)
+MasksKeepApart = (marks : Option Marks) (spacing : Spacing) (overlap : ℕ) (layer : List Rect) (c : Cut) (m : Masks) → IsCut marks spacing overlap (Covers layer) c → AreMasks marks spacing c m → ¬ HasOddCycle (cut_graph marks spacing c)
     → KeepsApart spacing c.features m.a × KeepsApart spacing c.features m.b
 
 -- masks overlap at their stitches alone
 abbrev pub MasksOverlapAtStitches : Type 0
-MasksOverlapAtStitches = (spacing : Spacing) (overlap : ℕ) (layer : List Rect) (c : Cut) (m : Masks) → IsCut spacing overlap (Covers layer) c
-    → AreMasks spacing c m → OverlapAt (rects_of c.zones m.stitches) m.a m.b
+MasksOverlapAtStitches = (marks : Option Marks) (spacing : Spacing) (overlap : ℕ) (layer : List Rect) (c : Cut) (m : Masks) → IsCut marks spacing overlap (Covers layer) c
+    → AreMasks marks spacing c m → OverlapAt (rects_of c.zones m.stitches) m.a m.b

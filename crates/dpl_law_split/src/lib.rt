@@ -9,7 +9,7 @@ pub fn masks_cover()
     ensures { MasksCover }
 {}
 
-/// Where the conflict graph has no odd cycle, squares of different features on one mask are not near.
+/// Where the graph, with anchors where marks are asked for, has no odd cycle, squares of different features on one mask are not near.
 pub fn masks_keep_apart()
     ensures { MasksKeepApart }
 {}

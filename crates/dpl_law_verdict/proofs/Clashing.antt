@@ -1,6 +1,6 @@
 -- A reported cycle with near squares is a valid conflict.
 use Rattle.std.proofs.Common.{◌≡◌, ℕ, zero, suc, ◌+◌, ◌%◌, ◌<◌, inl, inr, List, [], ◌∷◌, length, map, get_or, sym, refl, ap, ◌∙◌, subst}
-use Rattle.std.specs.Prelude.{pos}
+use Rattle.std.specs.Prelude.{None, pos}
 use Rattle.std.proofs.lemmas.List.{get_or_default, get_or-map, length-map}
 use Rattle.std.proofs.lemmas.Slice.Zip.{AllZip-long}
 use Rattle.dpl_spec_split.specs.declared.Spacing.{Spacing}
@@ -35,7 +35,7 @@ conflicts-undirected spacing c = record {
 }
 
 module _ (spacing : Spacing) (overlap : ℕ) (layer : List Rect) (c : Cut) (cycle : List ℕ) (near : List NearLine)
-    (cut : IsCut spacing overlap (Covers layer) c) (reported : IsReported (conflicts spacing c) cycle)
+    (cut : IsCut None spacing overlap (Covers layer) c) (reported : IsReported (conflicts spacing c) cycle)
     (pairs : (k : ℕ) (d : NearLine) → k < length cycle → IsNearestPair spacing (part_at c.pieces (get_or cycle k 0))
     (part_at c.pieces (get_or cycle ((k + 1) % length cycle) 0)) (get_or near k d).from (get_or near k d).to) where
   abbrev places : List PlaceLine
@@ -77,7 +77,7 @@ module _ (spacing : Spacing) (overlap : ℕ) (layer : List Rect) (c : Cut) (cycl
       (sym (get_or-map (place_line c.keys) cycle k 0 place within))
       (subst (λ n. IsGoodPlace spacing c places place n k (get_or near k line)) (sym next) (good-line k line within)))
 
-  pub clash-verdict : VerdictOfClaim spacing overlap
+  pub clash-verdict : VerdictOfClaim None spacing overlap
       (record {
         layer = layer;
         head = record {

@@ -1,6 +1,6 @@
 -- The cycle of a valid verdict.
 use Rattle.std.proofs.Common.{◌≡◌, ◌≢◌, ℕ, ◌+◌, ◌*◌, ◌%◌, ◌<◌, ◌⊎◌, inl, inr, List, [], length, get_or, sym, ap, ◌∙◌, subst, arith}
-use Rattle.std.specs.Prelude.{pos}
+use Rattle.std.specs.Prelude.{Option, pos}
 use Rattle.std.specs.List.{All, AllPairs}
 use Rattle.std.proofs.lemmas.Int.{ints, by_lt_z}
 use Rattle.std.proofs.lemmas.Bool.{cases_eq, cases_lt}
@@ -14,6 +14,7 @@ use Rattle.dpl_spec_split.specs.Zones.{at, part_at}
 use Rattle.dpl_spec_split.specs.Pieces.{Conflict}
 use Rattle.dpl_spec_split.specs.Graphs.{IsOddCycle}
 use Rattle.dpl_spec_split.specs.Decomposition.{Cut, IsCut, conflicts}
+use Rattle.dpl_spec_split.specs.Marks.{Marks}
 use Rattle.dpl_law_split.proofs.Parts.{zip-at}
 use Rattle.dpl_cert.specs.declared.cert.Head.{Head}
 use Rattle.dpl_cert.specs.declared.cert.PlaceLine.{PlaceLine}
@@ -116,17 +117,17 @@ module _ (spacing : Spacing) (cut : Cut) (cycle : List PlaceLine) (near : List N
       }
 
   -- the piece's least square is the place's
-  keyed-at : (layer : Region) (overlap : ℕ) → IsCut spacing overlap layer cut → (k : ℕ) → k < length cycle → IsLeast (part_at cut.pieces (place k).piece) (place k).key
-  keyed-at layer overlap is k k_in =
+  keyed-at : (marks : Option Marks) (layer : Region) (overlap : ℕ) → IsCut marks spacing overlap layer cut → (k : ℕ) → k < length cycle → IsLeast (part_at cut.pieces (place k).piece) (place k).key
+  keyed-at marks layer overlap is k k_in =
       let known = told k k_in ((place k).piece < length cut.pieces) (less_or_not (place k).piece (length cut.pieces)) (λ h. h.known) in
       let key = told k k_in ((place k).key ≡ get_or cut.keys (place k).piece (place k).key)
       (point_or_not (place k).key (get_or cut.keys (place k).piece (place k).key)) (λ h. h.key) in
       subst (λ q. IsLeast (part_at cut.pieces (place k).piece) q) (sym key)
       (zip-at (λ piece q. IsLeast (Covers piece) q) cut.pieces cut.keys (place k).piece [] (place k).key is.pieces.keyed known)
 
-  pub all-keyed : (layer : Region) (overlap : ℕ) → IsCut spacing overlap layer cut → All (λ (p : PlaceLine). IsLeast (part_at cut.pieces p.piece) p.key) cycle
-  all-keyed layer overlap is k d k_in =
-      subst (λ (p : PlaceLine). IsLeast (part_at cut.pieces p.piece) p.key) (get_or_default cycle k no_place d k_in) (keyed-at layer overlap is k k_in)
+  pub all-keyed : (marks : Option Marks) (layer : Region) (overlap : ℕ) → IsCut marks spacing overlap layer cut → All (λ (p : PlaceLine). IsLeast (part_at cut.pieces p.piece) p.key) cycle
+  all-keyed marks layer overlap is k d k_in =
+      subst (λ (p : PlaceLine). IsLeast (part_at cut.pieces p.piece) p.key) (get_or_default cycle k no_place d k_in) (keyed-at marks layer overlap is k k_in)
 
   pub all-shown : (k : ℕ) (d : NearLine) → k < length cycle → ShowsNear spacing (part_at cut.pieces (get_or (pieces_of cycle) k 0))
       (part_at cut.pieces (get_or (pieces_of cycle) (after k) 0)) (get_or near k d)
@@ -139,28 +140,28 @@ module _ (spacing : Spacing) (cut : Cut) (cycle : List PlaceLine) (near : List N
       (record { from = from-at k k_in; to = to-at k k_in; close = close-at k k_in })))
 
 -- what is counted of a layer is what any cut of it has
-count-of : (spacing : Spacing) (overlap : ℕ) (layer : List Rect) (head : Head) (cut : Cut) → IsCut spacing overlap (Covers layer) cut → (CountsDiffer spacing overlap layer head → ⊥)
+count-of : (marks : Option Marks) (spacing : Spacing) (overlap : ℕ) (layer : List Rect) (head : Head) (cut : Cut) → IsCut marks spacing overlap (Covers layer) cut → (CountsDiffer marks spacing overlap layer head → ⊥)
     → (head.features ≡ length cut.features) × (head.pieces ≡ length cut.pieces) × (head.zones ≡ length cut.zones)
-count-of spacing overlap layer head cut is none = (
+count-of marks spacing overlap layer head cut is none = (
   equal-where head.features (length cut.features)
-      (λ ne. none (λ (c, c_is, f, p, z). ne (f ∙ ap (λ (x : Cut). length x.features) (one-cut spacing overlap (Covers layer) c cut c_is is)))),
-  equal-where head.pieces (length cut.pieces) (λ ne. none (λ (c, c_is, f, p, z). ne (p ∙ ap (λ (x : Cut). length x.pieces) (one-cut spacing overlap (Covers layer) c cut c_is is)))),
-  equal-where head.zones (length cut.zones) (λ ne. none (λ (c, c_is, f, p, z). ne (z ∙ ap (λ (x : Cut). length x.zones) (one-cut spacing overlap (Covers layer) c cut c_is is)))),
+      (λ ne. none (λ (c, c_is, f, p, z). ne (f ∙ ap (λ (x : Cut). length x.features) (one-cut marks spacing overlap (Covers layer) c cut c_is is)))),
+  equal-where head.pieces (length cut.pieces) (λ ne. none (λ (c, c_is, f, p, z). ne (p ∙ ap (λ (x : Cut). length x.pieces) (one-cut marks spacing overlap (Covers layer) c cut c_is is)))),
+  equal-where head.zones (length cut.zones) (λ ne. none (λ (c, c_is, f, p, z). ne (z ∙ ap (λ (x : Cut). length x.zones) (one-cut marks spacing overlap (Covers layer) c cut c_is is)))),
 )
 
-pub there-is : (spacing : Spacing) (overlap : ℕ) (c : Claim) → IsCycleLength (length c.cycle) → length c.near ≡ length c.cycle → VerdictOfClaim spacing overlap c Valid
-    → IsCycleOf spacing overlap c.layer c.head c.cycle c.near
-there-is spacing overlap c long each valid =
-    let one = unbroken (RulesDiffer spacing overlap c.head) (ShowsRules c.head) (VerdictFromCounts spacing overlap c) Valid (λ e. cc) valid in
-    let two = unbroken (CountsDiffer spacing overlap c.layer c.head) (ShowsCounts spacing overlap c.layer) (VerdictFromCycle spacing overlap c) Valid (λ (f, p, z, are, e). cc) one.1 in
+pub there-is : (marks : Option Marks) (spacing : Spacing) (overlap : ℕ) (c : Claim) → IsCycleLength (length c.cycle) → length c.near ≡ length c.cycle → VerdictOfClaim marks spacing overlap c Valid
+    → IsCycleOf marks spacing overlap c.layer c.head c.cycle c.near
+there-is marks spacing overlap c long each valid =
+    let one = unbroken (RulesDiffer spacing overlap c.head) (ShowsRules c.head) (VerdictFromCounts marks spacing overlap c) Valid (λ e. cc) valid in
+    let two = unbroken (CountsDiffer marks spacing overlap c.layer c.head) (ShowsCounts marks spacing overlap c.layer) (VerdictFromCycle marks spacing overlap c) Valid (λ (f, p, z, are, e). cc) one.1 in
     let (cut, is, found) = two.1 in
     let good = unbroken (HasBad (IsBadPlace spacing cut c.cycle c.near) c.cycle) (ShowsCycle spacing cut c) IsValid Valid (λ (k, bad, e). cc) found in
     record {
       cut = cut;
       is_cut = is;
       rules = (equal-where c.head.rule spacing.rule (λ ne. one.0 (inl ne)), equal-where c.head.overlap overlap (λ ne. one.0 (inr ne)));
-      counted = count-of spacing overlap c.layer c.head cut is two.0;
+      counted = count-of marks spacing overlap c.layer c.head cut is two.0;
       odd = odd-cycle spacing cut c.cycle c.near each good.0 long;
-      keyed = all-keyed spacing cut c.cycle c.near each good.0 (Covers c.layer) overlap is;
+      keyed = all-keyed spacing cut c.cycle c.near each good.0 marks (Covers c.layer) overlap is;
       shown = all-shown spacing cut c.cycle c.near each good.0;
     }

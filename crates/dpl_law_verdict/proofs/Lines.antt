@@ -1,12 +1,13 @@
 -- The lines of a certificate of valid masks.
 use Rattle.std.proofs.Common.{◌≡◌, ℕ, inl, inr, List, length, get_or, ap, ◌∙◌, arith}
-use Rattle.std.specs.Prelude.{pos, ◌-ℤ◌, cond}
+use Rattle.std.specs.Prelude.{Option, pos, ◌-ℤ◌, cond}
 use Rattle.std.proofs.lemmas.Int.{ints, by_lt_z}
 use Rattle.dpl_spec_split.specs.declared.Spacing.{Spacing}
 use Rattle.dpl_spec_split.specs.declared.Rect.{Rect}
 use Rattle.dpl_spec_split.specs.Squares.{Covers}
 use Rattle.dpl_spec_split.specs.Components.{AreComponents}
 use Rattle.dpl_spec_split.proofs.ComponentLaws.{components-unique}
+use Rattle.dpl_spec_split.specs.Marks.{Marks}
 use Rattle.dpl_cert.specs.declared.cert.Head.{Head}
 use Rattle.dpl_cert.specs.declared.cert.PieceLine.{PieceLine}
 use Rattle.dpl_cert.specs.declared.cert.StitchLine.{StitchLine}
@@ -36,11 +37,11 @@ good-where overlap a b pieces s never = record {
   letters = λ e. never (λ g. g.letters e);
 }
 
-pub good-lines : (spacing : Spacing) (overlap : ℕ) (layer a b : List Rect) (head : Head) (pieces : List PieceLine) (stitches : List StitchLine)
-    → IsVerdictOfMasks spacing overlap layer a b (Masks head pieces stitches) Valid → AreGoodLines spacing overlap layer a b head pieces stitches
-good-lines spacing overlap layer a b head pieces stitches valid =
+pub good-lines : (marks : Option Marks) (spacing : Spacing) (overlap : ℕ) (layer a b : List Rect) (head : Head) (pieces : List PieceLine) (stitches : List StitchLine)
+    → IsVerdictOfMasks marks spacing overlap layer a b (Masks head pieces stitches) Valid → AreGoodLines spacing overlap layer a b head pieces stitches
+good-lines marks spacing overlap layer a b head pieces stitches valid =
     let claim : Claim = record { layer = layer; a = a; b = b; head = head; pieces = pieces; stitches = stitches } in
-    let k : IsKept spacing overlap claim = valid-kept spacing overlap claim valid in
+    let k : IsKept spacing overlap claim = valid-kept marks spacing overlap claim valid in
     record {
       rules = (equal-where head.rule spacing.rule (λ ne. k.rules (inl ne)), equal-where head.overlap overlap (λ ne. k.rules (inr ne)));
       counted = count-is layer head k.counts;

@@ -1,6 +1,6 @@
 -- Masks of a cut without an odd cycle are valid.
 use Rattle.std.proofs.Common.{◌≡◌, ◌≢◌, ℕ, ◌*◌, ◌<◌, ◌≤◌, ◌⊎◌, inl, inr, Bool, true, false, List, [], length, map, get_or, sym, refl, ap, ◌∙◌, subst, arith}
-use Rattle.std.specs.Prelude.{pos, ◌≤ℤ◌, ◌-ℤ◌, ◌+ℤ◌, cond}
+use Rattle.std.specs.Prelude.{None, pos, ◌≤ℤ◌, ◌-ℤ◌, ◌+ℤ◌, cond}
 use Rattle.std.specs.List.{Any, zip}
 use Rattle.std.proofs.Math.Nat.{min-eq_left}
 use Rattle.std.proofs.lemmas.Int.{ints}
@@ -59,7 +59,7 @@ covers-zone zones ks n p within has = (
   has,
 )
 
-module _ (spacing : Spacing) (overlap : ℕ) (layer : List Rect) (c : Cut) (m : Masks) (cut : IsCut spacing overlap (Covers layer) c) (masks : AreMasks spacing c m) where
+module _ (spacing : Spacing) (overlap : ℕ) (layer : List Rect) (c : Cut) (m : Masks) (cut : IsCut None spacing overlap (Covers layer) c) (masks : AreMasks None spacing c m) where
   abbrev lines : List PieceLine
   lines = map piece_line (zip masks.colours c.keys)
 
@@ -88,7 +88,7 @@ module _ (spacing : Spacing) (overlap : ℕ) (layer : List Rect) (c : Cut) (m : 
   good-stitch n n_in =
       let k = get_or m.stitches n 0 in
       let (side, k_side, side_is, both) = (masks.stitches.exactly k).0 (n, n_in, get_or_default m.stitches n k 0 n_in) in
-      let k_in : k < length c.zones = subst (λ t. k < t) (as_many_sides spacing overlap (Covers layer) c cut masks.colours) k_side in
+      let k_in : k < length c.zones = subst (λ t. k < t) (as_many_sides None spacing overlap (Covers layer) c cut masks.colours) k_side in
       let z = get_or c.zones k no_zone in
       let s = get_or c.sides k (0, 0) in
       let s_is : s ≡ side = get_or_default c.sides k (0, 0) side k_side ∙ side_is in
@@ -98,9 +98,9 @@ module _ (spacing : Spacing) (overlap : ℕ) (layer : List Rect) (c : Cut) (m : 
       let first : (piece_at lines s.0).b ≡ colour_at masks.colours s.0 = ap (λ (l : PieceLine). l.b) (line-at s.0 _ known.0) in
       let second : (piece_at lines s.1).b ≡ colour_at masks.colours s.1 = ap (λ (l : PieceLine). l.b) (line-at s.1 _ known.1) in
       record {
-        on_both = λ p has. (overlap-at spacing overlap (Covers layer) c m cut masks p).1 (covers-zone c.zones m.stitches n p n_in has);
+        on_both = λ p has. (overlap-at None spacing overlap (Covers layer) c m cut masks p).1 (covers-zone c.zones m.stitches n p n_in has);
         long = zone-long spacing overlap (Covers layer) (part_at c.features z.feature) z.rect
-            (kept spacing overlap (Covers layer) c cut z (k, k_in, get_or_default c.zones k z no_zone k_in)).1;
+            (kept None spacing overlap (Covers layer) c cut z (k, k_in, get_or_default c.zones k z no_zone k_in)).1;
         listed = (subst (λ t. s.0 < t) (sym many-lines) known.0, subst (λ t. s.1 < t) (sym many-lines) known.1);
         letters = λ e. two-letters (colour_at masks.colours s.0) (colour_at masks.colours s.1) letters (sym first ∙ (e ∙ second));
       }
@@ -147,12 +147,12 @@ module _ (spacing : Spacing) (overlap : ℕ) (layer : List Rect) (c : Cut) (m : 
     rules = λ differs. elim differs [ inl ne ↦ ne refl | inr ne ↦ ne refl ];
     counts = λ differs. differs (c.features, cut.features, refl);
     covered = λ (p, off). elim off [
-      | inl (there, none) ↦ none ((cover spacing overlap (Covers layer) c m cut masks p).1 there)
-      | inr (masked, none) ↦ none ((cover spacing overlap (Covers layer) c m cut masks p).0 masked)
+      | inl (there, none) ↦ none ((cover None spacing overlap (Covers layer) c m cut masks p).1 there)
+      | inr (masked, none) ↦ none ((cover None spacing overlap (Covers layer) c m cut masks p).0 masked)
     ];
-    doubled = λ (p, (in_a, in_b, none)). none (any-lines c.zones c.sides m.stitches p ((overlap-at spacing overlap (Covers layer) c m cut masks p).0 (in_a, in_b)));
-    tight_a = none-tight m.a (far-on-a spacing overlap (Covers layer) c m cut masks even);
-    tight_b = none-tight m.b (far-on-b spacing overlap (Covers layer) c m cut masks even);
+    doubled = λ (p, (in_a, in_b, none)). none (any-lines c.zones c.sides m.stitches p ((overlap-at None spacing overlap (Covers layer) c m cut masks p).0 (in_a, in_b)));
+    tight_a = none-tight m.a (far-on-a None spacing overlap (Covers layer) c m cut masks even);
+    tight_b = none-tight m.b (far-on-b None spacing overlap (Covers layer) c m cut masks even);
     stitches = λ (n, n_in, bad). (
         let within : n < length m.stitches = subst (λ t. n < t) (length-map m.stitches (stitch_line c.zones c.sides)) n_in in
         let s : StitchLine = stitch_line c.zones c.sides (get_or m.stitches n 0) in

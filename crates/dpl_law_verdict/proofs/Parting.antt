@@ -1,6 +1,6 @@
 -- Masks of a valid verdict.
 use Rattle.std.proofs.Common.{◌≡◌, ℕ, zero, suc, ◌*◌, ◌<◌, ◌⊎◌, inl, inr, List, [], ◌∷◌, length, get_or, sym, refl, ◌∙◌, subst, arith}
-use Rattle.std.specs.Prelude.{◌↔◌}
+use Rattle.std.specs.Prelude.{Option, ◌↔◌}
 use Rattle.std.specs.List.{Any}
 use Rattle.std.proofs.lemmas.Int.{ints, by_lt_z}
 use Rattle.std.proofs.lemmas.Bool.{cases_lt}
@@ -11,6 +11,7 @@ use Rattle.dpl_spec_split.specs.declared.Pt.{Pt}
 use Rattle.dpl_spec_split.specs.declared.Rect.{Rect}
 use Rattle.dpl_spec_split.specs.Squares.{Covers, Has, d2}
 use Rattle.dpl_spec_split.specs.Zones.{part_at}
+use Rattle.dpl_spec_split.specs.Marks.{Marks}
 use Rattle.dpl_cert.specs.declared.cert.PieceLine.{PieceLine}
 use Rattle.dpl_cert.specs.declared.cert.StitchLine.{StitchLine}
 use Rattle.dpl_spec_verdict.specs.declared.Verdict.{Verdict}
@@ -99,10 +100,10 @@ overlap-kept overlap a b pieces stitches none right p = (
   ),
 )
 
-pub right-masks : (spacing : Spacing) (overlap : ℕ) (c : Claim) → VerdictOfClaim spacing overlap c Valid → AreRight spacing c.layer c.a c.b c.stitches
-right-masks spacing overlap c valid =
-    let one = unbroken (RulesDiffer spacing overlap c.head) (ShowsRules c.head) (VerdictFromCounts spacing overlap c) Valid (λ e. cc) valid in
-    let two = unbroken (CountDiffers c.layer c.head) (ShowsCounts spacing overlap c.layer) (VerdictFromCover spacing overlap c) Valid (λ (f, p, z, are, e). cc) one.1 in
+pub right-masks : (marks : Option Marks) (spacing : Spacing) (overlap : ℕ) (c : Claim) → VerdictOfClaim marks spacing overlap c Valid → AreRight spacing c.layer c.a c.b c.stitches
+right-masks marks spacing overlap c valid =
+    let one = unbroken (RulesDiffer spacing overlap c.head) (ShowsRules c.head) (VerdictFromCounts marks spacing overlap c) Valid (λ e. cc) valid in
+    let two = unbroken (CountDiffers c.layer c.head) (ShowsCounts marks spacing overlap c.layer) (VerdictFromCover spacing overlap c) Valid (λ (f, p, z, are, e). cc) one.1 in
     let cover = unbroken (HasSquare (is_uncovered c.layer c.a c.b)) (ShowsCover c) (VerdictFromOverlap spacing overlap c) Valid (λ (p, least, e). cc) two.1 in
     let doubled = unbroken (HasSquare (is_doubled c.a c.b c.stitches)) (ShowsOverlap c) (VerdictFromSpacingA spacing overlap c) Valid (λ (p, least, e). cc) cover.1 in
     let on_a = unbroken (IsTight spacing c.layer c.a) (ShowsSpacingA spacing c) (VerdictFromSpacingB spacing overlap c) Valid (λ (p, q, least, e). cc) doubled.1 in

@@ -6,6 +6,8 @@ use Rattle.dpl_spec_split.specs.declared.Spacing.{Spacing}
 use Rattle.dpl_spec_split.specs.declared.Pt.{Pt}
 use Rattle.dpl_spec_split.specs.declared.Rect.{Rect}
 use Rattle.dpl_spec_split.specs.Squares.{Covers}
+use Rattle.std.specs.Prelude.{Option}
+use Rattle.dpl_spec_split.specs.Marks.{Marks}
 use Rattle.dpl_spec_verdict.specs.declared.Verdict.TheVariants.{Valid}
 use Rattle.dpl_spec_verdict.specs.Order.{HasBad, HasSquare, RulesDiffer, ShowsRules, ShowsCounts, IsValid}
 use Rattle.dpl_spec_verdict.specs.Masks.{Claim, CountDiffers, is_uncovered, is_doubled, IsTight, IsBadStitch, IsBadPiece, ShowsCover}
@@ -25,13 +27,13 @@ pub record IsKept (spacing : Spacing) (overlap : ℕ) (c : Claim) : Type 0 where
   pub stitches : HasBad (IsBadStitch overlap c.a c.b c.pieces) c.stitches → ⊥
   pub pieces : HasBad (IsBadPiece c.a c.b) c.pieces → ⊥
 
-pub kept-valid : (spacing : Spacing) (overlap : ℕ) (c : Claim) → IsKept spacing overlap c → VerdictOfClaim spacing overlap c Valid
-kept-valid spacing overlap c k = inr (k.rules, inr (k.counts, inr (k.covered, inr (k.doubled, inr (k.tight_a, inr (k.tight_b, inr (k.stitches, inr (k.pieces, refl))))))))
+pub kept-valid : (marks : Option Marks) (spacing : Spacing) (overlap : ℕ) (c : Claim) → IsKept spacing overlap c → VerdictOfClaim marks spacing overlap c Valid
+kept-valid marks spacing overlap c k = inr (k.rules, inr (k.counts, inr (k.covered, inr (k.doubled, inr (k.tight_a, inr (k.tight_b, inr (k.stitches, inr (k.pieces, refl))))))))
 
-pub valid-kept : (spacing : Spacing) (overlap : ℕ) (c : Claim) → VerdictOfClaim spacing overlap c Valid → IsKept spacing overlap c
-valid-kept spacing overlap c valid =
-    let one = unbroken (RulesDiffer spacing overlap c.head) (ShowsRules c.head) (VerdictFromCounts spacing overlap c) Valid (λ e. cc) valid in
-    let two = unbroken (CountDiffers c.layer c.head) (ShowsCounts spacing overlap c.layer) (VerdictFromCover spacing overlap c) Valid (λ (f, p, z, are, e). cc) one.1 in
+pub valid-kept : (marks : Option Marks) (spacing : Spacing) (overlap : ℕ) (c : Claim) → VerdictOfClaim marks spacing overlap c Valid → IsKept spacing overlap c
+valid-kept marks spacing overlap c valid =
+    let one = unbroken (RulesDiffer spacing overlap c.head) (ShowsRules c.head) (VerdictFromCounts marks spacing overlap c) Valid (λ e. cc) valid in
+    let two = unbroken (CountDiffers c.layer c.head) (ShowsCounts marks spacing overlap c.layer) (VerdictFromCover spacing overlap c) Valid (λ (f, p, z, are, e). cc) one.1 in
     let cover = unbroken (HasSquare (is_uncovered c.layer c.a c.b)) (ShowsCover c) (VerdictFromOverlap spacing overlap c) Valid (λ (p, least, e). cc) two.1 in
     let doubled = unbroken (HasSquare (is_doubled c.a c.b c.stitches)) (ShowsOverlap c) (VerdictFromSpacingA spacing overlap c) Valid (λ (p, least, e). cc) cover.1 in
     let on_a = unbroken (IsTight spacing c.layer c.a) (ShowsSpacingA spacing c) (VerdictFromSpacingB spacing overlap c) Valid (λ (p, q, least, e). cc) doubled.1 in

@@ -1,6 +1,6 @@
 -- The certificate of a decomposition is in the grammar, and its masks lie within the range.
 use Rattle.std.proofs.Common.{◌≡◌, ℕ, suc, ◌/◌, ◌^◌, ◌<◌, ◌≤◌, inl, inr, Bool, List, [], ◌∷◌, length, map, get_or, refl, sym, ap, ◌∙◌, subst, arith}
-use Rattle.std.specs.Prelude.{pos, ◌-ℤ◌, ◌≤ℤ◌, ◌<ℤ◌}
+use Rattle.std.specs.Prelude.{None, pos, ◌-ℤ◌, ◌≤ℤ◌, ◌<ℤ◌}
 use Rattle.std.specs.List.{AllByRecursion, AllZip, Contains, zip}
 use Rattle.std.proofs.lemmas.Int.{ints}
 use Rattle.std.proofs.lemmas.List.{get_or_default, length-map}
@@ -97,16 +97,16 @@ rect-of r solid (a, b, c, d) (e, f, g, h) = record {
 -- ---- the lines of a cut
 
 module _ (spacing : Spacing) (overlap : ℕ) (layer : List Rect) (c : Cut) (ruled : IsRule spacing.rule) (lapped : IsRule overlap)
-    (within : AreRectsWithin farthest layer) (cut : IsCut spacing overlap (Covers layer) c) where
+    (within : AreRectsWithin farthest layer) (cut : IsCut None spacing overlap (Covers layer) c) where
   piece-inside : (k : ℕ) (p : Pt) → part_at c.pieces k p → Inside farthest p
-  piece-inside k p has = covered-inside layer p within (piece-rest spacing overlap (Covers layer) c cut k p has).0
+  piece-inside k p has = covered-inside layer p within (piece-rest None spacing overlap (Covers layer) c cut k p has).0
 
   zone-inside : (z : Zone) (p : Pt) → Contains c.zones z → Has z.rect p → Inside farthest p
   zone-inside z p z_in has = covered-inside layer p within (part-inside (Covers layer) c.features z.feature p cut.features
-      (zone-own spacing overlap (Covers layer) c cut z p z_in has))
+      (zone-own None spacing overlap (Covers layer) c cut z p z_in has))
 
   solid-zone : (z : Zone) → Contains c.zones z → IsSolid z.rect
-  solid-zone z z_in = zone-solid spacing overlap (Covers layer) (part_at c.features z.feature) z.rect lapped.0 (kept spacing overlap (Covers layer) c cut z z_in).1
+  solid-zone z z_in = zone-solid spacing overlap (Covers layer) (part_at c.features z.feature) z.rect lapped.0 (kept None spacing overlap (Covers layer) c cut z z_in).1
 
   first-inside : (z : Zone) → Contains c.zones z → Inside farthest (corner z)
   first-inside z z_in =
@@ -149,13 +149,13 @@ module _ (spacing : Spacing) (overlap : ℕ) (layer : List Rect) (c : Cut) (rule
   keys-fit = all-keys c.pieces c.keys cut.pieces.keyed (λ k p has. point-of p (piece-inside k p has))
 
   -- the lines of masks
-  module _ (m : Masks) (masks : AreMasks spacing c m) where
+  module _ (m : Masks) (masks : AreMasks None spacing c m) where
     many-colours : length masks.colours ≡ length c.pieces
     many-colours = masks.coloured.each ∙ masks.rooted.lengths.0
 
     stitch-zone : (k : ℕ) → Contains m.stitches k → k < length c.zones
     stitch-zone k k_in = (let (side, k_side, side_is, both) = (masks.stitches.exactly k).0 k_in in
-        subst (λ n. k < n) (as_many_sides spacing overlap (Covers layer) c cut masks.colours) k_side)
+        subst (λ n. k < n) (as_many_sides None spacing overlap (Covers layer) c cut masks.colours) k_side)
 
     stitch-fits : (k : ℕ) → Contains m.stitches k → IsStitch (stitch_line c.zones c.sides k)
     stitch-fits k k_in =
@@ -186,8 +186,8 @@ module _ (spacing : Spacing) (overlap : ℕ) (layer : List Rect) (c : Cut) (rule
 
     pub masks-within : AreRectsWithin farthest m.a × AreRectsWithin farthest m.b
     masks-within = (
-      part-within layer m.a within masks.a.canonical (λ p h. (cover spacing overlap (Covers layer) c m cut masks p).0 (inl h)),
-      part-within layer m.b within masks.b.canonical (λ p h. (cover spacing overlap (Covers layer) c m cut masks p).0 (inr h)),
+      part-within layer m.a within masks.a.canonical (λ p h. (cover None spacing overlap (Covers layer) c m cut masks p).0 (inl h)),
+      part-within layer m.b within masks.b.canonical (λ p h. (cover None spacing overlap (Covers layer) c m cut masks p).0 (inr h)),
     )
 
   -- the lines of a cycle

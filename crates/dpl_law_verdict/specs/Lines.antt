@@ -1,9 +1,10 @@
 -- What a valid verdict of masks gives of the lines of their certificate.
-use Rattle.std.specs.Prelude.{◌≡◌, ℕ, ◌<◌, cond, List, length, slice_index_or}
+use Rattle.std.specs.Prelude.{Option, ◌≡◌, ℕ, ◌<◌, cond, List, length, slice_index_or}
 use Rattle.dpl_spec_split.specs.declared.Spacing.{Spacing}
 use Rattle.dpl_spec_split.specs.declared.Rect.{Rect}
 use Rattle.dpl_spec_split.specs.Squares.{Covers}
 use Rattle.dpl_spec_split.specs.Components.{AreComponents}
+use Rattle.dpl_spec_split.specs.Marks.{Marks}
 use Rattle.dpl_cert.specs.declared.cert.Head.{Head}
 use Rattle.dpl_cert.specs.declared.cert.PieceLine.{PieceLine}
 use Rattle.dpl_cert.specs.declared.cert.StitchLine.{StitchLine}
@@ -23,5 +24,5 @@ pub record AreGoodLines (spacing : Spacing) (overlap : ℕ) (layer a b : List Re
   pub lettered : (k : ℕ) (d : PieceLine) → k < length pieces → IsOnItsMask a b (slice_index_or pieces k d)
 
 abbrev pub ValidLinesAreGood : Type 0
-ValidLinesAreGood = (spacing : Spacing) (overlap : ℕ) (layer a b : List Rect) (head : Head) (pieces : List PieceLine) (stitches : List StitchLine)
-    → IsVerdictOfMasks spacing overlap layer a b (Masks head pieces stitches) Valid → AreGoodLines spacing overlap layer a b head pieces stitches
+ValidLinesAreGood = (marks : Option Marks) (spacing : Spacing) (overlap : ℕ) (layer a b : List Rect) (head : Head) (pieces : List PieceLine) (stitches : List StitchLine)
+    → IsVerdictOfMasks marks spacing overlap layer a b (Masks head pieces stitches) Valid → AreGoodLines spacing overlap layer a b head pieces stitches

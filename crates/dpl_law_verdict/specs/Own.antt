@@ -1,5 +1,5 @@
 -- The masks or the cycle of a layer's decomposition are valid.
-use Rattle.std.specs.Prelude.{ℕ, ◌+◌, ◌%◌, ◌<◌, Bool, pos, List, length, map, slice_index, slice_index_or}
+use Rattle.std.specs.Prelude.{None, ℕ, ◌+◌, ◌%◌, ◌<◌, Bool, pos, List, length, map, slice_index, slice_index_or}
 use Rattle.std.specs.List.{zip}
 use Rattle.dpl_spec_split.specs.declared.Spacing.{Spacing}
 use Rattle.dpl_spec_split.specs.declared.Pt.{Pt}
@@ -47,12 +47,12 @@ ShowNearest spacing pieces cycle near = (k : ℕ) (d : NearLine) → k < length 
 
 -- without an odd cycle of conflicts nothing is wrong with the masks and the lines of their certificate
 abbrev pub OwnMasksAreValid : Type 0
-OwnMasksAreValid = (spacing : Spacing) (overlap : ℕ) (layer : List Rect) (c : Cut) (m : Masks) → IsCut spacing overlap (Covers layer) c → (are : AreMasks spacing c m) → ¬ HasOddCycle (conflicts spacing c)
-    → IsVerdictOfMasks spacing overlap layer m.a m.b (MasksText (head_of spacing overlap c) (map piece_line (zip are.colours c.keys))
+OwnMasksAreValid = (spacing : Spacing) (overlap : ℕ) (layer : List Rect) (c : Cut) (m : Masks) → IsCut None spacing overlap (Covers layer) c → (are : AreMasks None spacing c m) → ¬ HasOddCycle (conflicts spacing c)
+    → IsVerdictOfMasks None spacing overlap layer m.a m.b (MasksText (head_of spacing overlap c) (map piece_line (zip are.colours c.keys))
     (map (stitch_line c.zones c.sides) m.stitches)) Valid
 
 -- nothing is wrong with the reported cycle
 abbrev pub OwnCyclesAreValid : Type 0
 OwnCyclesAreValid = (spacing : Spacing) (overlap : ℕ) (layer : List Rect) (c : Cut) (cycle : List ℕ) (near : List NearLine)
-    → IsCut spacing overlap (Covers layer) c → IsReported (conflicts spacing c) cycle → ShowNearest spacing c.pieces cycle near
-    → IsVerdictOfConflict spacing overlap layer (ConflictText (head_of spacing overlap c) (map (place_line c.keys) cycle) near) Valid
+    → IsCut None spacing overlap (Covers layer) c → IsReported (conflicts spacing c) cycle → ShowNearest spacing c.pieces cycle near
+    → IsVerdictOfConflict None spacing overlap layer (ConflictText (head_of spacing overlap c) (map (place_line c.keys) cycle) near) Valid

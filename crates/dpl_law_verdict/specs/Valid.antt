@@ -1,5 +1,5 @@
 -- What a valid verdict gives.
-use Rattle.std.specs.Prelude.{◌≡◌, ℕ, ◌+◌, ◌*◌, ◌%◌, ◌<◌, ◌≤◌, ◌↔◌, List, length, map, slice_index, slice_index_or}
+use Rattle.std.specs.Prelude.{Option, ◌≡◌, ℕ, ◌+◌, ◌*◌, ◌%◌, ◌<◌, ◌≤◌, ◌↔◌, List, length, map, slice_index, slice_index_or}
 use Rattle.std.specs.List.{All, Any}
 use Rattle.dpl_spec_split.specs.declared.Spacing.{Spacing}
 use Rattle.dpl_spec_split.specs.declared.Pt.{Pt}
@@ -9,6 +9,7 @@ use Rattle.dpl_spec_split.specs.Zones.{part_at}
 use Rattle.dpl_spec_split.specs.Components.{Linked}
 use Rattle.dpl_spec_split.specs.Graphs.{IsOddCycle}
 use Rattle.dpl_spec_split.specs.Decomposition.{Cut, IsCut, conflicts}
+use Rattle.dpl_spec_split.specs.Marks.{Marks}
 use Rattle.dpl_law_split.specs.Masks.{AreCover}
 use Rattle.dpl_cert.specs.declared.cert.Head.{Head}
 use Rattle.dpl_cert.specs.declared.cert.PieceLine.{PieceLine}
@@ -33,8 +34,8 @@ pub record AreRight (spacing : Spacing) (layer a b : List Rect) (stitches : List
   pub overlap : (p : Pt) → (Covers a p × Covers b p) ↔ Any (λ s. Has s.rect p) stitches
 
 abbrev pub ValidMasksAreRight : Type 0
-ValidMasksAreRight = (spacing : Spacing) (overlap : ℕ) (layer a b : List Rect) (head : Head) (pieces : List PieceLine) (stitches : List StitchLine)
-    → IsVerdictOfMasks spacing overlap layer a b (Masks head pieces stitches) Valid → AreRight spacing layer a b stitches
+ValidMasksAreRight = (marks : Option Marks) (spacing : Spacing) (overlap : ℕ) (layer a b : List Rect) (head : Head) (pieces : List PieceLine) (stitches : List StitchLine)
+    → IsVerdictOfMasks marks spacing overlap layer a b (Masks head pieces stitches) Valid → AreRight spacing layer a b stitches
 
 -- the numbers of the pieces at the places of a cycle
 abbrev pub pieces_of : List PlaceLine → List ℕ
@@ -48,9 +49,9 @@ pub record ShowsNear (spacing : Spacing) (a b : Region) (line : NearLine) : Type
 
 -- The pieces at these places are an odd cycle of conflicts of the layer, each named by its least square, with near squares of it and of the
 -- next one, the last with the first. The head has the rules, and how many features, pieces and zones the layer has.
-pub record IsCycleOf (spacing : Spacing) (overlap : ℕ) (layer : List Rect) (head : Head) (cycle : List PlaceLine) (near : List NearLine) : Type 0 where
+pub record IsCycleOf (marks : Option Marks) (spacing : Spacing) (overlap : ℕ) (layer : List Rect) (head : Head) (cycle : List PlaceLine) (near : List NearLine) : Type 0 where
   pub cut : Cut
-  pub is_cut : IsCut spacing overlap (Covers layer) cut
+  pub is_cut : IsCut marks spacing overlap (Covers layer) cut
   pub rules : (head.rule ≡ spacing.rule) × (head.overlap ≡ overlap)
   pub counted : (head.features ≡ length cut.features) × (head.pieces ≡ length cut.pieces) × (head.zones ≡ length cut.zones)
   pub odd : IsOddCycle (conflicts spacing cut) (pieces_of cycle)
@@ -60,5 +61,5 @@ pub record IsCycleOf (spacing : Spacing) (overlap : ℕ) (layer : List Rect) (he
       (part_at cut.pieces (slice_index (pieces_of cycle) ((k + 1) % length cycle))) (slice_index_or near k d)
 
 abbrev pub ValidConflictsAreThere : Type 0
-ValidConflictsAreThere = (spacing : Spacing) (overlap : ℕ) (layer : List Rect) (head : Head) (cycle : List PlaceLine) (near : List NearLine)
-    → IsCert (Conflict head cycle near) → IsVerdictOfConflict spacing overlap layer (Conflict head cycle near) Valid → IsCycleOf spacing overlap layer head cycle near
+ValidConflictsAreThere = (marks : Option Marks) (spacing : Spacing) (overlap : ℕ) (layer : List Rect) (head : Head) (cycle : List PlaceLine) (near : List NearLine)
+    → IsCert (Conflict head cycle near) → IsVerdictOfConflict marks spacing overlap layer (Conflict head cycle near) Valid → IsCycleOf marks spacing overlap layer head cycle near

@@ -1,5 +1,5 @@
 -- What is written of a decomposition lies within the bounds of what can be read.
-use Rattle.std.specs.Prelude.{◌≡◌, ℕ, List, length, map}
+use Rattle.std.specs.Prelude.{None, ◌≡◌, ℕ, List, length, map}
 use Rattle.std.specs.List.{zip}
 use Rattle.dpl_spec_split.specs.declared.Spacing.{Spacing}
 use Rattle.dpl_spec_split.specs.declared.Rect.{Rect}
@@ -25,12 +25,12 @@ FaultlessLayersAreWithin = (lib : Library) (top : ℕ) (chosen : Layer) (layer :
 -- so do its masks, and the lines that tell of them are a certificate
 abbrev pub OwnMasksAreWritten : Type 0
 OwnMasksAreWritten = (spacing : Spacing) (overlap : ℕ) (layer : List Rect) (c : Cut) (m : Masks) → IsRule spacing.rule → IsRule overlap
-    → AreRectsWithin farthest layer → IsCut spacing overlap (Covers layer) c → (are : AreMasks spacing c m)
+    → AreRectsWithin farthest layer → IsCut None spacing overlap (Covers layer) c → (are : AreMasks None spacing c m)
     → AreRectsWithin farthest m.a × AreRectsWithin farthest m.b
     × IsCert (MasksText (head_of spacing overlap c) (map piece_line (zip are.colours c.keys)) (map (stitch_line c.zones c.sides) m.stitches))
 
 -- and so are the lines of the cycle that is reported of it
 abbrev pub OwnCyclesAreWritten : Type 0
 OwnCyclesAreWritten = (spacing : Spacing) (overlap : ℕ) (layer : List Rect) (c : Cut) (cycle : List ℕ) (near : List NearLine) → IsRule spacing.rule
-    → IsRule overlap → AreRectsWithin farthest layer → IsCut spacing overlap (Covers layer) c → IsReported (conflicts spacing c) cycle
+    → IsRule overlap → AreRectsWithin farthest layer → IsCut None spacing overlap (Covers layer) c → IsReported (conflicts spacing c) cycle
     → length near ≡ length cycle → ShowNearest spacing c.pieces cycle near → IsCert (ConflictText (head_of spacing overlap c) (map (place_line c.keys) cycle) near)

@@ -10,7 +10,7 @@ use Rattle.dpl_spec_split.specs.declared.Rect.{Rect}
 use Rattle.dpl_spec_split.specs.declared.Zone.{Zone}
 use Rattle.dpl_spec_split.specs.Squares.{Region, Covers, Has, Touch, AreTouching}
 use Rattle.dpl_spec_split.specs.Components.{Linked, here, on, AreComponents}
-use Rattle.dpl_spec_split.specs.Zones.{at, IsHorizontalZone, IsVerticalZone, IsKeptZone, transposed, transposed_rect, AreZones, part_at}
+use Rattle.dpl_spec_split.specs.Zones.{at, IsHorizontalZone, IsVerticalZone, IsKeptZone, transposed, transposed_rect, AreSomeZones, part_at}
 use Rattle.dpl_spec_split.specs.Pieces.{without}
 use Rattle.dpl_spec_split.proofs.SquareLaws.{Touch-from_close, Touch-sym}
 use Rattle.dpl_spec_split.proofs.ComponentLaws.{Linked-trans}
@@ -35,9 +35,9 @@ closed a parts k p q c k_in in_a has touch =
     (whole.2 p).1 (Linked-trans a linked (on (in-set a parts k q c k_in has) (Touch-sym p q touch) (here in_a)))
 
 module _ (spacing : Spacing) (overlap : ℕ) (layer : Region) (features : List (List Rect)) (zones : List Zone) (c : AreComponents layer features)
-    (zs : AreZones spacing overlap layer features zones) where
+    (zs : AreSomeZones spacing overlap layer features zones) where
   pub kept : (z : Zone) → Contains zones z → (z.feature < length features) × IsKeptZone spacing overlap layer (part_at features z.feature) z.rect
-  kept z z_in = (zs.exactly z).0 z_in
+  kept z z_in = zs.kept z z_in
 
   pub kept-inside : (f : Region) (r : Rect) (p : Pt) → IsKeptZone spacing overlap layer f r → Has r p → f p
   kept-inside f r p (inl h) has = zone-in-feature spacing layer f overlap r p h has

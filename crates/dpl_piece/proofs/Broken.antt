@@ -13,7 +13,7 @@ use Rattle.dpl_spec_split.specs.Squares.{Region, Covers, Has, SameSquares}
 use Rattle.dpl_spec_split.specs.Slabs.{IsCanonical}
 use Rattle.dpl_spec_split.specs.Loops.{farthest, AreRectsWithin}
 use Rattle.dpl_spec_split.specs.Components.{Linked, here, on, component, AreComponents}
-use Rattle.dpl_spec_split.specs.Zones.{AreZones, part_at}
+use Rattle.dpl_spec_split.specs.Zones.{AreSomeZones, part_at}
 use Rattle.dpl_spec_split.specs.Pieces.{without}
 use Rattle.dpl_spec_split.proofs.SlabLaws.{Covers-member, member-Covers}
 use Rattle.dpl_spec_split.proofs.SquareLaws.{Touch-sym, SameSquares-trans}
@@ -62,7 +62,7 @@ pieces-none features zones = record {
 }
 
 module _ (spacing : Spacing) (overlap : ℕ) (features : List (List Rect)) (zones : List Zone) (c : AreComponents (union_of features) features)
-    (zs : AreZones spacing overlap (union_of features) features zones) where
+    (zs : AreSomeZones spacing overlap (union_of features) features zones) where
   abbrev left : Region
   left = without (union_of features) zones
 

@@ -8,7 +8,7 @@ use Rattle.dpl_spec_split.specs.declared.Rect.{Rect}
 use Rattle.dpl_spec_split.specs.declared.Zone.{Zone}
 use Rattle.dpl_spec_split.specs.Squares.{Region, Covers, Has, Touch}
 use Rattle.dpl_spec_split.specs.Components.{AreComponents}
-use Rattle.dpl_spec_split.specs.Zones.{AreZones, part_at}
+use Rattle.dpl_spec_split.specs.Zones.{AreSomeZones, part_at}
 use Rattle.dpl_spec_split.specs.Pieces.{without, AreSides}
 use Rattle.dpl_spec_split.proofs.SquareLaws.{Touch-sym}
 use Rattle.dpl_piece.specs.declared.piece.Origin.{Origin}
@@ -24,7 +24,7 @@ broken-or_whole Broken h = refl
 
 -- the pieces beside a zone are broken
 module _ (spacing : Spacing) (overlap : ℕ) (layer : Region) (features pieces : List (List Rect)) (zones : List Zone) (some : 1 ≤ overlap)
-    (c : AreComponents layer features) (zs : AreZones spacing overlap layer features zones) (ps : AreComponents (without layer zones) pieces)
+    (c : AreComponents layer features) (zs : AreSomeZones spacing overlap layer features zones) (ps : AreComponents (without layer zones) pieces)
     (origins : List Origin) (each : length origins ≡ length pieces) (whole : (i : ℕ) → i < length pieces → get_or origins i Broken ≡ Whole
     → (k : ℕ) × (k < length features) × (get_or features k [] ≡ get_or pieces i [])) (z : Zone) (z_in : Contains zones z) where
   touching-broken : (i : ℕ) (p q : Pt) → i < length pieces → part_at pieces i p → Has z.rect q → Touch p q → IsBroken origins i
@@ -49,7 +49,7 @@ module _ (spacing : Spacing) (overlap : ℕ) (layer : Region) (features pieces :
       (side, (st, touching-broken side.0 p q are_sides.known.0 in_p in_z touch, touching-broken side.1 r t are_sides.known.1 in_r in_y meet))
 
 module _ (spacing : Spacing) (overlap : ℕ) (layer : Region) (features pieces : List (List Rect)) (zones : List Zone) (some : 1 ≤ overlap)
-    (c : AreComponents layer features) (zs : AreZones spacing overlap layer features zones) (ps : AreComponents (without layer zones) pieces)
+    (c : AreComponents layer features) (zs : AreSomeZones spacing overlap layer features zones) (ps : AreComponents (without layer zones) pieces)
     (sides : List (ℕ × ℕ)) (stand_so : AllZip (StandBeside pieces) zones sides) where
   pub sided : AllZip (AreSides features pieces) zones sides
   sided = zip-from (AreSides features pieces) zones sides (zip-length (StandBeside pieces) zones sides stand_so)

@@ -12,7 +12,7 @@ use Rattle.dpl_spec_split.specs.Squares.{Region, Covers, Has, Touch, AreTouching
 use Rattle.dpl_spec_split.specs.Slabs.{IsSolid, IsCanonical}
 use Rattle.dpl_spec_split.specs.Loops.{farthest, IsRectWithin, AreRectsWithin}
 use Rattle.dpl_spec_split.specs.Components.{AreComponents}
-use Rattle.dpl_spec_split.specs.Zones.{at, IsHorizontalZone, IsVerticalZone, IsKeptZone, transposed, transposed_rect, AreZones, part_at}
+use Rattle.dpl_spec_split.specs.Zones.{at, IsHorizontalZone, IsVerticalZone, IsKeptZone, transposed, transposed_rect, AreSomeZones, part_at}
 use Rattle.dpl_spec_split.specs.Pieces.{without, IsFirstSide, IsSecondSide, AreSides}
 use Rattle.dpl_spec_split.proofs.SquareLaws.{Touch-from_close}
 use Rattle.dpl_spec_split.proofs.SlabLaws.{Covers-member, member-Covers}
@@ -85,7 +85,7 @@ corner-same x y u v k e f = ap (λ i. corner_at i y k) e ∙ ap (λ i. corner_at
 
 -- a zone has some square, and lies within the range of its feature
 module _ (spacing : Spacing) (overlap : ℕ) (layer : Region) (features : List (List Rect)) (zones : List Zone) (some : 1 ≤ overlap)
-    (c : AreComponents layer features) (zs : AreZones spacing overlap layer features zones) (z : Zone) (z_in : Contains zones z) where
+    (c : AreComponents layer features) (zs : AreSomeZones spacing overlap layer features zones) (z : Zone) (z_in : Contains zones z) where
   solid-kept : IsKeptZone spacing overlap layer (part_at features z.feature) z.rect → (z.rect.x0 <ℤ z.rect.x1) × (z.rect.y0 <ℤ z.rect.y1)
   solid-kept (inl h) = let s = broad spacing overlap layer (part_at features z.feature) z.rect some h in (s.wide, s.tall)
   solid-kept (inr (h, none)) = let s = broad spacing overlap (transposed layer) (transposed (part_at features z.feature)) (transposed_rect z.rect) some h in (s.tall, s.wide)
@@ -113,7 +113,7 @@ module _ (spacing : Spacing) (overlap : ℕ) (layer : Region) (features : List (
       record { wide = zw; tall = zt; left = ox; right = omega (arith, ints, tx); low = oy; high = omega (arith, ints, ty) }
 
 module _ (spacing : Spacing) (overlap : ℕ) (layer : Region) (features pieces : List (List Rect)) (zones : List Zone) (some : 1 ≤ overlap)
-    (c : AreComponents layer features) (zs : AreZones spacing overlap layer features zones) (ps : AreComponents (without layer zones) pieces)
+    (c : AreComponents layer features) (zs : AreSomeZones spacing overlap layer features zones) (ps : AreComponents (without layer zones) pieces)
   where
     abbrev pub Rest : Region
     Rest = without layer zones

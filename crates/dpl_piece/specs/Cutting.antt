@@ -8,7 +8,7 @@ use Rattle.dpl_spec_split.specs.declared.Zone.{Zone}
 use Rattle.dpl_spec_split.specs.Squares.{Covers, IsSolidWithin}
 use Rattle.dpl_spec_split.specs.Loops.{farthest}
 use Rattle.dpl_spec_split.specs.Components.{AreComponents}
-use Rattle.dpl_spec_split.specs.Zones.{AreZones, at}
+use Rattle.dpl_spec_split.specs.Zones.{AreSomeZones, at}
 use Rattle.dpl_spec_split.specs.Pieces.{ArePieces}
 use Rattle.dpl_slabs.specs.Parts.{AreParts, union_of}
 use Rattle.dpl_piece.specs.declared.piece.Origin.{Origin}
@@ -47,9 +47,9 @@ pub record AreMatched (c : CutPieces) : Type 0 where
 abbrev pub AreFeatures : List (List Rect) → Type 0
 AreFeatures features = (layer : List Rect) × AreComponents (Covers layer) features
 
--- the zones of the features for some spacing and overlap
+-- zones of the features, for some spacing and overlap, whatever others there are
 abbrev pub AreTheirZones : List (List Rect) → List Zone → Type 0
-AreTheirZones features zones = (spacing : Spacing) × (overlap : ℕ) × (1 ≤ overlap) × AreZones spacing overlap (union_of features) features zones
+AreTheirZones features zones = (spacing : Spacing) × (overlap : ℕ) × (1 ≤ overlap) × AreSomeZones spacing overlap (union_of features) features zones
 
 -- the pieces that the zones leave of each layer whose features these are
 abbrev pub AreTheirPieces : List (List Rect) → List Zone → CutPieces → Type 0

@@ -220,7 +220,7 @@ cert_read told v layer text cert x seen read (out, out_told, is, answered) = (So
 
 -- what is judged without OUT
 pub cycle_checked : (v : CheckValues) (layer : List Rect) (out : Option (List ℕ)) (cert : Cert) (w : Verdict) (x : Outcome)
-    → IsOfConflict cert → IsVerdictOfConflict (uniform v.rule) v.overlap layer cert w → x ≡ verdict_outcome cert w
+    → IsOfConflict cert → IsVerdictOfConflict None (uniform v.rule) v.overlap layer cert w → x ≡ verdict_outcome cert w
     → IsCheckOfCert v layer out cert x
 cycle_checked v layer out (Masks h ps ss) w x of said is = absurd of
 cycle_checked v layer out (Conflict h cs ns) w x of said is = (w, said, is)
@@ -276,5 +276,5 @@ second_faulty v layer cert bytes copied a name at x small read other is = (Layer
 
 pub masks_judged : (v : CheckValues) (layer : List Rect) (cert : Cert) (bytes copied back : List ℕ) (a b : List Rect) (w : Verdict)
     (x : Outcome) → length bytes ≤ limit → IsLayout (mask_choice v.a) bytes (Layer copied a)
-    → IsLayout (mask_choice v.b) bytes (Layer back b) → IsVerdictOfMasks (uniform v.rule) v.overlap layer a b cert w → x ≡ verdict_outcome cert w → IsCheckOfMasks v layer cert bytes x
+    → IsLayout (mask_choice v.b) bytes (Layer back b) → IsVerdictOfMasks None (uniform v.rule) v.overlap layer a b cert w → x ≡ verdict_outcome cert w → IsCheckOfMasks v layer cert bytes x
 masks_judged v layer cert bytes copied back a b w x small read other said is = (Layer copied a, inr (small, read), (Layer back b, inr (small, other), (w, said, is)))

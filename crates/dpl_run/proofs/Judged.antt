@@ -71,15 +71,15 @@ masks_right v layer head pieces stitches bytes x (Layer copied a, read, (Faulty 
     (other x (refusal_of (codes "out") name at) Refused is refl refused done)
 masks_right v layer head pieces stitches bytes x (Layer copied a, read, (Layer back b, more, (w, said, is))) done =
     let valid : w ≡ Valid = judged_valid (Masks head pieces stitches) w x is done in
-    let kept : IsVerdictOfMasks (uniform v.rule) v.overlap layer a b (Masks head pieces stitches) Valid = subst
-    (λ (u : Verdict). IsVerdictOfMasks (uniform v.rule) v.overlap layer a b (Masks head pieces stitches) u) valid said in
+    let kept : IsVerdictOfMasks None (uniform v.rule) v.overlap layer a b (Masks head pieces stitches) Valid = subst
+    (λ (u : Verdict). IsVerdictOfMasks None (uniform v.rule) v.overlap layer a b (Masks head pieces stitches) u) valid said in
     record {
       a = a;
       b = b;
       first = layer_of_file (mask_choice v.a) bytes copied a read;
       second = layer_of_file (mask_choice v.b) bytes back b more;
-      right = right-masks (uniform v.rule) v.overlap (record { layer = layer; a = a; b = b; head = head; pieces = pieces; stitches = stitches }) kept;
-      lines = good-lines (uniform v.rule) v.overlap layer a b head pieces stitches kept;
+      right = right-masks None (uniform v.rule) v.overlap (record { layer = layer; a = a; b = b; head = head; pieces = pieces; stitches = stitches }) kept;
+      lines = good-lines None (uniform v.rule) v.overlap layer a b head pieces stitches kept;
     }
 
 cert_right : (v : CheckValues) (o : Outside) (layer : List Rect) (out : Option (List ℕ)) (cert : Cert) (text : List ℕ) (x : Outcome)
@@ -89,8 +89,8 @@ cert_right v o layer (Some bytes) (Masks head pieces stitches) text x there t is
 cert_right v o layer out (Conflict head cycle near) text x there t (w, said, is) done =
     let valid : w ≡ Valid = judged_valid (Conflict head cycle near) w x is done in
     let (fits, long, places, each, nears) = t.0 in
-    there-is (uniform v.rule) v.overlap (record { layer = layer; head = head; cycle = cycle; near = near }) long each
-    (subst (λ (u : Verdict). IsVerdictOfConflict (uniform v.rule) v.overlap layer (Conflict head cycle near) u) valid said)
+    there-is None (uniform v.rule) v.overlap (record { layer = layer; head = head; cycle = cycle; near = near }) long each
+    (subst (λ (u : Verdict). IsVerdictOfConflict None (uniform v.rule) v.overlap layer (Conflict head cycle near) u) valid said)
 cert_right v o layer out (Fault name at) text x there t is done = absurd (other x (verdict_outcome (Fault name at) (WasFault name at)) CheckNo is refl broken done)
 
 -- what follows the layer of the layout

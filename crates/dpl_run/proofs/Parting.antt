@@ -36,7 +36,7 @@ line_rects : (zones : List Zone) (sides : List (ℕ × ℕ)) (ks : List ℕ) →
 line_rects zones sides [] = refl
 line_rects zones sides (k ∷ ks) = ap (λ (rs : List Rect). rect_at zones k ∷ rs) (line_rects zones sides ks)
 
-pub painted_parts : (spacing : Spacing) (overlap : ℕ) (layer : List Rect) (cut : Cut) (p : Painted) → IsCut spacing overlap (Covers layer) cut → IsPaintedCut spacing overlap cut p
+pub painted_parts : (spacing : Spacing) (overlap : ℕ) (layer : List Rect) (cut : Cut) (p : Painted) → IsCut None spacing overlap (Covers layer) cut → IsPaintedCut spacing overlap cut p
     → ArePartingMasks spacing layer (rects_of_lines p.stitches) p.a p.b
 painted_parts spacing overlap layer cut p is painted =
     let m = painted.masks in
@@ -44,10 +44,10 @@ painted_parts spacing overlap layer cut p is painted =
     subst (λ (q : Painted). ArePartingMasks spacing layer (rects_of_lines q.stitches) q.a q.b) (sym painted.is) (record {
       features = cut.features;
       are_features = is.features;
-      cover = cover spacing overlap (Covers layer) cut m is are;
-      apart_on_a = far-on-a spacing overlap (Covers layer) cut m is are painted.even;
-      apart_on_b = far-on-b spacing overlap (Covers layer) cut m is are painted.even;
-      overlap = subst (λ (ss : List Rect). OverlapAt ss m.a m.b) (sym (line_rects cut.zones cut.sides m.stitches)) (overlap-at spacing overlap (Covers layer) cut m is are);
+      cover = cover None spacing overlap (Covers layer) cut m is are;
+      apart_on_a = far-on-a None spacing overlap (Covers layer) cut m is are painted.even;
+      apart_on_b = far-on-b None spacing overlap (Covers layer) cut m is are painted.even;
+      overlap = subst (λ (ss : List Rect). OverlapAt ss m.a m.b) (sym (line_rects cut.zones cut.sides m.stitches)) (overlap-at None spacing overlap (Covers layer) cut m is are);
     })
 
 paints : (v : SplitValues) (bytes copied : List ℕ) (p : Painted) (x : Outcome) → IsDecision (split_choice v) v.rule v.overlap bytes

@@ -55,7 +55,7 @@ abbrev pub WithLayer : List ℕ → Choice → List ℕ → (List Rect → Outco
 WithLayer file choice bytes next x = (reading : Reading) × IsReading choice bytes reading × ByReading file next reading x
 
 abbrev pub IsJudged : CheckValues → List Rect → Cert → List Rect → List Rect → Outcome → Type 0
-IsJudged v layer cert a b x = (w : Verdict) × IsVerdictOfMasks (uniform v.rule) v.overlap layer a b cert w × (x ≡ verdict_outcome cert w)
+IsJudged v layer cert a b x = (w : Verdict) × IsVerdictOfMasks None (uniform v.rule) v.overlap layer a b cert w × (x ≡ verdict_outcome cert w)
 
 -- The file of masks has each mask on its layer, in its top.
 abbrev pub IsCheckOfMasks : CheckValues → List Rect → Cert → List ℕ → Outcome → Type 0
@@ -65,7 +65,7 @@ IsCheckOfMasks v layer cert bytes = WithLayer (codes "out") (mask_choice v.a) by
 abbrev pub IsCheckOfCert : CheckValues → List Rect → Option (List ℕ) → Cert → Outcome → Type 0
 IsCheckOfCert v layer out (Masks head pieces stitches) x = WithFile out (IsCheckOfMasks v layer (Masks head pieces stitches)) x
 IsCheckOfCert v layer out (Conflict head cycle near) x =
-    (w : Verdict) × IsVerdictOfConflict (uniform v.rule) v.overlap layer (Conflict head cycle near) w × (x ≡ verdict_outcome (Conflict head cycle near) w)
+    (w : Verdict) × IsVerdictOfConflict None (uniform v.rule) v.overlap layer (Conflict head cycle near) w × (x ≡ verdict_outcome (Conflict head cycle near) w)
 IsCheckOfCert v layer out (Fault name at) x = x ≡ verdict_outcome (Fault name at) (WasFault name at)
 
 -- the text is that of a certificate, or no certificate's from some line on

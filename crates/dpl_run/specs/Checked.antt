@@ -1,5 +1,5 @@
 -- What a check that is done has found of the files: the masks are right for the layer, or the conflict is there.
-use Rattle.std.specs.Prelude.{◌≡◌, List, ℕ, Some}
+use Rattle.std.specs.Prelude.{None, ◌≡◌, List, ℕ, Some}
 use Rattle.std.specs.FinMap as files
 use Rattle.dpl_spec_split.specs.Squares.{uniform}
 use Rattle.dpl_host.specs.Outside.{Outside}
@@ -43,7 +43,7 @@ pub record HasRightMasks (v : CheckValues) (layer : List Rect) (head : Head) (pi
 -- what is right is the masks of a file that is there, or the cycle that is listed
 abbrev pub IsRightBy : CheckValues → Outside → List Rect → Cert → Type 0
 IsRightBy v o layer (Masks head pieces stitches) = (bytes : List ℕ) × (files.get o.files v.output ≡ Some bytes) × HasRightMasks v layer head pieces stitches bytes
-IsRightBy v o layer (Conflict head cycle near) = IsCycleOf (uniform v.rule) v.overlap layer head cycle near
+IsRightBy v o layer (Conflict head cycle near) = IsCycleOf None (uniform v.rule) v.overlap layer head cycle near
 IsRightBy v o layer (Fault name at) = ⊥
 
 -- The layout and the certificate are there, and what the certificate tells is right for the layout's layer.

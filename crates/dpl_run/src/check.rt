@@ -142,7 +142,17 @@ fn check_alone<'a>(
         Cert::Masks { .. } => unreachable!(),
         Cert::Conflict { .. } => {
             let spacing = Spacing::uniform(options.rule);
-            let verdict = check_conflict(alloc, layer, cert, spacing, options.overlap)?;
+            let no_marks = Slabs::empty(alloc);
+            let verdict = check_conflict(
+                alloc,
+                layer,
+                cert,
+                spacing,
+                options.overlap,
+                &no_marks,
+                &no_marks,
+                false,
+            )?;
             judged(alloc, cert, verdict)
         }
         Cert::Fault { name, at } => {
@@ -214,7 +224,18 @@ fn check_bytes<'a>(
         Err(LayerFault::NoMemory) => return Err(AllocError),
     };
     let spacing = Spacing::uniform(options.rule);
-    let verdict = check_masks(alloc, layer, &a, &b, cert, spacing, options.overlap)?;
+    let no_marks = Slabs::empty(alloc);
+    let verdict = check_masks(
+        alloc,
+        layer,
+        &a,
+        &b,
+        cert,
+        spacing,
+        options.overlap,
+        &no_marks,
+        &no_marks,
+    )?;
     judged(alloc, cert, verdict)
 }
 

@@ -13,6 +13,7 @@ use dpl_cert::Name;
 use dpl_cut::cut_of;
 use dpl_layer::{Layer, LayerChoice, LayerFault, layer_of};
 use dpl_pool::Gate;
+use dpl_slabs::Slabs;
 use std::alloc::{AllocError, Global};
 use std::sync::Wait;
 use std::thread::Threads;
@@ -61,7 +62,8 @@ pub(crate) fn decide<R: Threads + Wait + Sync, G: Gate + Sync>(
         Err(LayerFault::NoMemory) => return Err(AllocError),
     };
     let spacing = Spacing::uniform(order.rule);
-    let cut = cut_of(alloc, slabs, spacing, order.overlap)?;
+    let no_marks = Slabs::empty(alloc);
+    let cut = cut_of(alloc, slabs, spacing, order.overlap, &no_marks)?;
     let conflicts = conflicts_of(rt, alloc, &cut, spacing, order.sharing, gate)?;
     let answer = answer_of(alloc, cut, &conflicts, spacing, order.overlap)?;
     Ok(Decision::Answered { copied, answer })

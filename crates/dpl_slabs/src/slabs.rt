@@ -86,6 +86,15 @@ impl Slabs {
         self.rects.as_slice()
     }
 
+    /// No squares. It takes no memory.
+    pub fn empty(alloc: Global) -> Slabs
+        ensures { result ≡ [] }
+    {
+        Slabs {
+            rects: SmallVec::new(alloc),
+        }
+    }
+
     /// Whether the square is in the set.
     pub fn has(&self, x: i64, y: i64) -> bool
         ensures { IsTrue result ↔ Covers self.now (at x y) }

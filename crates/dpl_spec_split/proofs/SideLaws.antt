@@ -1,6 +1,7 @@
 -- Each zone of a layer has one first and one second side.
 use Rattle.std.proofs.Common.{◌≡◌, ℕ, zero, suc, ◌<◌, ◌⊎◌, inl, inr, List, [], length, get_or, sym, refl, ap, ◌∙◌, subst, arith}
 use Rattle.std.specs.Prelude.{ℤ, pos, ◌+ℤ◌, ◌-ℤ◌, ◌≤ℤ◌, ◌<ℤ◌, unsigned_abs}
+use Rattle.std.specs.Prelude.{Option}
 use Rattle.std.specs.List.{Contains}
 use Rattle.std.proofs.lemmas.Int.{ints, by_lt_z}
 use Rattle.std.proofs.lemmas.List.{get_or_default}
@@ -10,8 +11,9 @@ use Rattle.dpl_spec_split.specs.declared.Rect.{Rect}
 use Rattle.dpl_spec_split.specs.declared.Zone.{Zone}
 use Rattle.dpl_spec_split.specs.Squares.{Region, Has, Touch, AreTouching}
 use Rattle.dpl_spec_split.specs.Components.{Linked, here, on, AreComponents}
-use Rattle.dpl_spec_split.specs.Zones.{at, IsHorizontalZone, IsVerticalZone, IsKeptZone, transposed, transposed_rect, AreZones, part_at}
+use Rattle.dpl_spec_split.specs.Zones.{at, IsHorizontalZone, IsVerticalZone, IsKeptZone, transposed, transposed_rect, AreZones, AreSomeZones, part_at}
 use Rattle.dpl_spec_split.specs.Pieces.{without}
+use Rattle.dpl_spec_split.specs.Marks.{Marks, marked_by}
 use Rattle.dpl_spec_split.proofs.SquareLaws.{Touch-from_close, Touch-sym}
 use Rattle.dpl_spec_split.proofs.ComponentLaws.{Linked-trans, Linked-sym}
 use Rattle.dpl_spec_split.proofs.ZoneLaws.{close-from_touch, zone-in-feature, beside-in-feature, beside-same, touching-beside}
@@ -39,7 +41,7 @@ closed a parts k p q c k_in in_a has touch =
     (whole.2 p).1 (Linked-trans a linked (on q_in (Touch-sym p q touch) (here in_a)))
 
 module _ (spacing : Spacing) (overlap : ℕ) (layer : Region) (features pieces : List (List Rect)) (zones : List Zone) (c : AreComponents layer features)
-    (zs : AreZones spacing overlap layer features zones) (ps : AreComponents (without layer zones) pieces) where
+    (zs : AreSomeZones spacing overlap layer features zones) (ps : AreComponents (without layer zones) pieces) where
   -- linked squares lie in one piece
   piece-same : (i j : ℕ) (p q : Pt) → i < length pieces → j < length pieces → part_at pieces i p → part_at pieces j q → Linked (without layer zones) p q → i ≡ j
   piece-same i j p q i_in j_in in_i in_j linked =
@@ -47,7 +49,7 @@ module _ (spacing : Spacing) (overlap : ℕ) (layer : Region) (features pieces :
       part-unique (without layer zones) pieces i j p ps i_in j_in in_i ((whole.2 p).1 (Linked-trans _ ((whole.2 q).0 in_j) (Linked-sym _ linked)))
 
   kept : (z : Zone) → Contains zones z → (z.feature < length features) × IsKeptZone spacing overlap layer (part_at features z.feature) z.rect
-  kept z z_in = (zs.exactly z).0 z_in
+  kept z z_in = zs.kept z z_in
 
   kept-inside : (f : Region) (r : Rect) (p : Pt) → IsKeptZone spacing overlap layer f r → Has r p → f p
   kept-inside f r p (inl h) has = zone-in-feature spacing layer f overlap r p h has
@@ -256,10 +258,16 @@ module _ (spacing : Spacing) (overlap : ℕ) (layer : Region) (features pieces :
       (second-linked z z_in k l m n o (in-rest s.1 l a.known.1 l_in) m_in lm l_side (in-rest t.1 n b.known.1 n_in) o_in n_touch n_side) in
       ap (λ x. (x, s.1)) one ∙ ap (λ y. (t.0, y)) two
 
+-- zones but the marked ones are some zones
+pub some_zones : (spacing : Spacing) (overlap : ℕ) (layer : Region) (features : List (List Rect)) (marked : Region) (zones : List Zone)
+    → AreZones spacing overlap layer features marked zones → AreSomeZones spacing overlap layer features zones
+some_zones spacing overlap layer features marked zones zs = record { ordered = zs.ordered; kept = λ z z_in. ((zs.exactly z).0 z_in).0 }
+
 -- a layer has one decomposition
-pub decomposition-unique : (spacing : Spacing) (overlap : ℕ) (layer : Region) (c d : Cut) (x y : Answer) → IsDecomposition spacing overlap layer c x
-    → IsDecomposition spacing overlap layer d y → (c ≡ d) × (x ≡ y)
-decomposition-unique spacing overlap layer c d x y a b =
-    let cut : c ≡ d = cut-unique spacing overlap layer c d
-    (sides-unique spacing overlap layer c.features c.pieces c.zones a.0.features a.0.zones a.0.pieces.components) a.0 b.0 in
-    (cut, answer-unique spacing c x y a.1 (subst (λ e. IsAnswer spacing e y) (sym cut) b.1))
+pub decomposition-unique : (marks : Option Marks) (spacing : Spacing) (overlap : ℕ) (layer : Region) (c d : Cut) (x y : Answer) → IsDecomposition marks spacing overlap layer c x
+    → IsDecomposition marks spacing overlap layer d y → (c ≡ d) × (x ≡ y)
+decomposition-unique marks spacing overlap layer c d x y a b =
+    let some = some_zones spacing overlap layer c.features (marked_by marks) c.zones a.0.zones in
+    let cut : c ≡ d = cut-unique marks spacing overlap layer c d
+    (sides-unique spacing overlap layer c.features c.pieces c.zones a.0.features some a.0.pieces.components) a.0 b.0 in
+    (cut, answer-unique marks spacing c x y a.1 (subst (λ e. IsAnswer marks spacing e y) (sym cut) b.1))

@@ -15,9 +15,9 @@ use Rattle.dpl_spec_split.proofs.Ordered.{same_members}
 use Rattle.dpl_spec_split.proofs.SlabLaws.{Before-strict}
 use Rattle.dpl_spec_split.proofs.GraphLaws.{distance-unique, root-unique}
 
-pub zones-unique : (spacing : Spacing) (overlap : ℕ) (layer : Region) (features : List (List Rect)) (zs ws : List Zone)
-    → AreZones spacing overlap layer features zs → AreZones spacing overlap layer features ws → zs ≡ ws
-zones-unique spacing overlap layer features zs ws a b =
+pub zones-unique : (spacing : Spacing) (overlap : ℕ) (layer : Region) (features : List (List Rect)) (marked : Region) (zs ws : List Zone)
+    → AreZones spacing overlap layer features marked zs → AreZones spacing overlap layer features marked ws → zs ≡ ws
+zones-unique spacing overlap layer features marked zs ws a b =
     same_members (λ x y. Before x.rect y.rect) (λ x y l m. Before-strict x.rect y.rect l m) zs ws a.ordered b.ordered
     (λ z. (λ h. (b.exactly z).1 ((a.exactly z).0 h), λ h. (a.exactly z).1 ((b.exactly z).0 h)))
 

@@ -1,5 +1,6 @@
 -- A layer has one decomposition.
 use Rattle.std.proofs.Common.{◌≡◌, ℕ, ◌<◌, inl, inr, true, false, List, [], ◌∷◌, length, get_or, sym, refl, ap, ◌∙◌, subst}
+use Rattle.std.specs.Prelude.{Option}
 use Rattle.std.specs.List.{AllZip, Contains}
 use Rattle.std.proofs.lemmas.Bool.{cases_order}
 use Rattle.dpl_spec_split.specs.declared.Spacing.{Spacing}
@@ -11,8 +12,9 @@ use Rattle.dpl_spec_split.specs.Slabs.{AreSlabsOf}
 use Rattle.dpl_spec_split.specs.Components.{Linked, here, ComesFirst, AreComponents}
 use Rattle.dpl_spec_split.specs.Zones.{AreZones, part_at}
 use Rattle.dpl_spec_split.specs.Pieces.{without, AreSides, IsOwner, ArePieces}
+use Rattle.dpl_spec_split.specs.Marks.{Marks, marked_by, vertex, sides_by, letters_by}
 use Rattle.dpl_spec_split.specs.Colours.{AreColours, AreStitches, on_mask}
-use Rattle.dpl_spec_split.specs.Decomposition.{Cut, IsCut, conflicts, Masks, Answer, Done, InConflict, AreMasks, IsAnswer}
+use Rattle.dpl_spec_split.specs.Decomposition.{Cut, IsCut, cut_graph, Masks, Answer, Done, InConflict, AreMasks, IsAnswer}
 use Rattle.dpl_spec_split.proofs.Ordered.{Contains-head, Contains-later}
 use Rattle.dpl_spec_split.proofs.SquareLaws.{Precedes-strict, IsLeast-unique, SameSquares-refl, SameSquares-sym, SameSquares-trans}
 use Rattle.dpl_spec_split.proofs.SlabLaws.{canonical-unique}
@@ -74,11 +76,12 @@ same_cut c d a b e f g h =
     ∙ (ap (λ x. of_parts d.features d.zones d.pieces d.owners x c.sides) g
     ∙ ap (λ x. of_parts d.features d.zones d.pieces d.owners d.keys x) h))))
 
-pub cut-unique : (spacing : Spacing) (overlap : ℕ) (layer : Region) (c d : Cut) → SidesAreUnique c.features c.pieces c.zones → IsCut spacing overlap layer c → IsCut spacing overlap layer d → c ≡ d
-cut-unique spacing overlap layer c d one a b =
+pub cut-unique : (marks : Option Marks) (spacing : Spacing) (overlap : ℕ) (layer : Region) (c d : Cut) → SidesAreUnique c.features c.pieces c.zones
+    → IsCut marks spacing overlap layer c → IsCut marks spacing overlap layer d → c ≡ d
+cut-unique marks spacing overlap layer c d one a b =
     let features : c.features ≡ d.features = components-unique layer c.features d.features a.features b.features in
-    let zones : c.zones ≡ d.zones = zones-unique spacing overlap layer c.features c.zones d.zones a.zones
-    (subst (λ f. AreZones spacing overlap layer f d.zones) (sym features) b.zones) in
+    let zones : c.zones ≡ d.zones = zones-unique spacing overlap layer c.features (marked_by marks) c.zones d.zones a.zones
+    (subst (λ f. AreZones spacing overlap layer f (marked_by marks) d.zones) (sym features) b.zones) in
     let p : ArePieces layer c.features c.zones d.pieces d.owners d.keys d.sides =
     subst (λ z. ArePieces layer c.features z d.pieces d.owners d.keys d.sides) (sym zones)
     (subst (λ f. ArePieces layer f d.zones d.pieces d.owners d.keys d.sides) (sym features) b.pieces) in
@@ -101,19 +104,21 @@ same_masks m n a b s =
     let of_parts : List Rect → List Rect → List ℕ → Masks = λ x y z. record { a = x; b = y; stitches = z } in
     ap (λ x. of_parts x m.b m.stitches) a ∙ (ap (λ x. of_parts n.a x m.stitches) b ∙ ap (λ x. of_parts n.a n.b x) s)
 
-masks-unique : (spacing : Spacing) (c : Cut) (m n : Masks) → AreMasks spacing c m → AreMasks spacing c n → m ≡ n
-masks-unique spacing c m n a b =
-    let rooted = roots-unique (conflicts spacing c) (length c.pieces) a.roots b.roots a.odds b.odds a.rooted b.rooted in
-    let mine : AreColours b.roots b.odds c.sides a.colours = subst (λ o. AreColours b.roots o c.sides a.colours) rooted.1
-    (subst (λ r. AreColours r a.odds c.sides a.colours) rooted.0 a.coloured) in
-    let colours : a.colours ≡ b.colours = colours-unique b.roots b.odds c.sides a.colours b.colours mine b.coloured in
+masks-unique : (marks : Option Marks) (spacing : Spacing) (c : Cut) (m n : Masks) → AreMasks marks spacing c m → AreMasks marks spacing c n → m ≡ n
+masks-unique marks spacing c m n a b =
+    let sides = sides_by marks c.sides in
+    let rooted = roots-unique (cut_graph marks spacing c) (vertex marks (length c.pieces)) a.roots b.roots a.odds b.odds a.rooted b.rooted in
+    let mine : AreColours b.roots b.odds sides a.colours = subst (λ o. AreColours b.roots o sides a.colours) rooted.1
+    (subst (λ r. AreColours r a.odds sides a.colours) rooted.0 a.coloured) in
+    let colours : a.colours ≡ b.colours = colours-unique b.roots b.odds sides a.colours b.colours mine b.coloured in
     same_masks m n
-    (slabs-unique _ _ _ a.a (subst (λ k. AreSlabsOf (on_mask c.pieces c.zones c.sides k false) n.a) (sym colours) b.a))
-    (slabs-unique _ _ _ a.b (subst (λ k. AreSlabsOf (on_mask c.pieces c.zones c.sides k true) n.b) (sym colours) b.b))
-    (stitches-unique c.sides a.colours m.stitches n.stitches a.stitches (subst (λ k. AreStitches c.sides k n.stitches) (sym colours) b.stitches))
+    (slabs-unique _ _ _ a.a (subst (λ k. AreSlabsOf (on_mask c.pieces c.zones c.sides (letters_by marks k) false) n.a) (sym colours) b.a))
+    (slabs-unique _ _ _ a.b (subst (λ k. AreSlabsOf (on_mask c.pieces c.zones c.sides (letters_by marks k) true) n.b) (sym colours) b.b))
+    (stitches-unique c.sides (letters_by marks a.colours) m.stitches n.stitches a.stitches
+    (subst (λ k. AreStitches c.sides (letters_by marks k) n.stitches) (sym colours) b.stitches))
 
-pub answer-unique : (spacing : Spacing) (c : Cut) (x y : Answer) → IsAnswer spacing c x → IsAnswer spacing c y → x ≡ y
-answer-unique spacing c (Done m) (Done n) a b = ap Done (masks-unique spacing c m n a.1 b.1)
-answer-unique spacing c (Done m) (InConflict d) a b = absurd (a.0 b.0)
-answer-unique spacing c (InConflict d) (Done n) a b = absurd (b.0 a.0)
-answer-unique spacing c (InConflict d) (InConflict e) a b = ap InConflict (cycle-unique (conflicts spacing c) d e a.1 b.1)
+pub answer-unique : (marks : Option Marks) (spacing : Spacing) (c : Cut) (x y : Answer) → IsAnswer marks spacing c x → IsAnswer marks spacing c y → x ≡ y
+answer-unique marks spacing c (Done m) (Done n) a b = ap Done (masks-unique marks spacing c m n a.1 b.1)
+answer-unique marks spacing c (Done m) (InConflict d) a b = absurd (a.0 b.0)
+answer-unique marks spacing c (InConflict d) (Done n) a b = absurd (b.0 a.0)
+answer-unique marks spacing c (InConflict d) (InConflict e) a b = ap InConflict (cycle-unique (cut_graph marks spacing c) d e a.1 b.1)

@@ -1,5 +1,5 @@
 -- The flat decomposition of a layer.
-use Rattle.std.specs.Prelude.{ℕ, Bool, true, false, List, length}
+use Rattle.std.specs.Prelude.{ℕ, Bool, true, false, List, length, Option}
 use Rattle.dpl_spec_split.specs.declared.Spacing.{Spacing}
 use Rattle.dpl_spec_split.specs.declared.Pt.{Pt}
 use Rattle.dpl_spec_split.specs.declared.Rect.{Rect}
@@ -10,6 +10,7 @@ use Rattle.dpl_spec_split.specs.Components.{AreComponents}
 use Rattle.dpl_spec_split.specs.Zones.{AreZones}
 use Rattle.dpl_spec_split.specs.Pieces.{ArePieces, Conflict}
 use Rattle.dpl_spec_split.specs.Graphs.{Graph}
+use Rattle.dpl_spec_split.specs.Marks.{Marks, marked_by, vertex, graph, sides_by, letters_by}
 use Rattle.dpl_spec_split.specs.Summary.{HasOddCycle}
 use Rattle.dpl_spec_split.specs.Colours.{AreRoots, AreColours, AreStitches, on_mask}
 use Rattle.dpl_spec_split.specs.Cycle.{IsReported}
@@ -23,9 +24,10 @@ pub record Cut : Type 0 where
   pub keys : List Pt
   pub sides : List (ℕ × ℕ)
 
-pub record IsCut (spacing : Spacing) (overlap : ℕ) (layer : Region) (c : Cut) : Type 0 where
+-- the cut of a layer, some squares of which may be marked
+pub record IsCut (marks : Option Marks) (spacing : Spacing) (overlap : ℕ) (layer : Region) (c : Cut) : Type 0 where
   pub features : AreComponents layer c.features
-  pub zones : AreZones spacing overlap layer c.features c.zones
+  pub zones : AreZones spacing overlap layer c.features (marked_by marks) c.zones
   pub pieces : ArePieces layer c.features c.zones c.pieces c.owners c.keys c.sides
 
 abbrev pub conflicts : Spacing → Cut → Graph
@@ -40,20 +42,25 @@ pub data Answer : Type 0 where
   Done : Masks → Answer
   InConflict : List ℕ → Answer
 
-pub record AreMasks (spacing : Spacing) (c : Cut) (m : Masks) : Type 0 where
+-- the graph of a cut, with anchors where marks are asked for
+abbrev pub cut_graph : Option Marks → Spacing → Cut → Graph
+cut_graph marks spacing c = graph marks spacing c.pieces c.owners
+
+-- the masks of a cut; roots, odds and colours go by vertices
+pub record AreMasks (marks : Option Marks) (spacing : Spacing) (c : Cut) (m : Masks) : Type 0 where
   pub roots : List ℕ
   pub odds : List Bool
   pub colours : List Bool
-  pub rooted : AreRoots (conflicts spacing c) (length c.pieces) roots odds
-  pub coloured : AreColours roots odds c.sides colours
-  pub a : AreSlabsOf (on_mask c.pieces c.zones c.sides colours false) m.a
-  pub b : AreSlabsOf (on_mask c.pieces c.zones c.sides colours true) m.b
-  pub stitches : AreStitches c.sides colours m.stitches
+  pub rooted : AreRoots (cut_graph marks spacing c) (vertex marks (length c.pieces)) roots odds
+  pub coloured : AreColours roots odds (sides_by marks c.sides) colours
+  pub a : AreSlabsOf (on_mask c.pieces c.zones c.sides (letters_by marks colours) false) m.a
+  pub b : AreSlabsOf (on_mask c.pieces c.zones c.sides (letters_by marks colours) true) m.b
+  pub stitches : AreStitches c.sides (letters_by marks colours) m.stitches
 
--- the flat answer: masks, or, where the conflict graph has an odd cycle, the reported one
-abbrev pub IsAnswer : Spacing → Cut → Answer → Type 0
-IsAnswer spacing c (Done m) = ¬ HasOddCycle (conflicts spacing c) × AreMasks spacing c m
-IsAnswer spacing c (InConflict cycle) = HasOddCycle (conflicts spacing c) × IsReported (conflicts spacing c) cycle
+-- the flat answer: masks, or, where the graph has an odd cycle, the reported one, by vertices
+abbrev pub IsAnswer : Option Marks → Spacing → Cut → Answer → Type 0
+IsAnswer marks spacing c (Done m) = ¬ HasOddCycle (cut_graph marks spacing c) × AreMasks marks spacing c m
+IsAnswer marks spacing c (InConflict cycle) = HasOddCycle (cut_graph marks spacing c) × IsReported (cut_graph marks spacing c) cycle
 
-abbrev pub IsDecomposition : Spacing → ℕ → Region → Cut → Answer → Type 0
-IsDecomposition spacing overlap layer c answer = IsCut spacing overlap layer c × IsAnswer spacing c answer
+abbrev pub IsDecomposition : Option Marks → Spacing → ℕ → Region → Cut → Answer → Type 0
+IsDecomposition marks spacing overlap layer c answer = IsCut marks spacing overlap layer c × IsAnswer marks spacing c answer

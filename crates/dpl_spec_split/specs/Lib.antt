@@ -6,6 +6,7 @@ pub mod Zones
 pub mod Pieces
 pub mod Graphs
 pub mod Summary
+pub mod Marks
 pub mod Colours
 pub mod Cycle
 pub mod Decomposition

@@ -57,7 +57,7 @@ abbrev pub IsVerticalZone : Spacing → ℕ → Region → Region → Rect → T
 IsVerticalZone spacing overlap layer feature zone =
     IsHorizontalZone spacing overlap (transposed layer) (transposed feature) (transposed_rect zone)
 
--- a vertical zone that meets a horizontal one of its feature is dropped
+-- a vertical zone that touches a horizontal one of its feature is dropped
 abbrev pub IsKeptZone : Spacing → ℕ → Region → Region → Rect → Type 0
 IsKeptZone spacing overlap layer feature zone =
     IsHorizontalZone spacing overlap layer feature zone
@@ -68,7 +68,20 @@ IsKeptZone spacing overlap layer feature zone =
 abbrev pub part_at : List (List Rect) → ℕ → Region
 part_at parts k = Covers (slice_index_or parts k [])
 
--- the zones of all features of a layer
-pub record AreZones (spacing : Spacing) (overlap : ℕ) (layer : Region) (features : List (List Rect)) (zones : List Zone) : Type 0 where
+-- a zone that is kept of its feature
+abbrev pub IsZoneOf : Spacing → ℕ → Region → List (List Rect) → Zone → Type 0
+IsZoneOf spacing overlap layer features z = (z.feature < length features) × IsKeptZone spacing overlap layer (part_at features z.feature) z.rect
+
+-- no square of the zone is marked
+abbrev pub IsUnmarked : Region → Rect → Type 0
+IsUnmarked marked zone = (p : Pt) → Has zone p → ¬ marked p
+
+-- The zones of all features of a layer, but those with a marked square. They are dropped last: a vertical zone that touches a horizontal one is dropped where that one is marked too.
+pub record AreZones (spacing : Spacing) (overlap : ℕ) (layer : Region) (features : List (List Rect)) (marked : Region) (zones : List Zone) : Type 0 where
   pub ordered : AllPairs (λ a b. Before a.rect b.rect) zones
-  pub exactly : (z : Zone) → Contains zones z ↔ ((z.feature < length features) × IsKeptZone spacing overlap layer (part_at features z.feature) z.rect)
+  pub exactly : (z : Zone) → Contains zones z ↔ (IsZoneOf spacing overlap layer features z × IsUnmarked marked z.rect)
+
+-- some zones of the features of a layer, in order, whatever others there are
+pub record AreSomeZones (spacing : Spacing) (overlap : ℕ) (layer : Region) (features : List (List Rect)) (zones : List Zone) : Type 0 where
+  pub ordered : AllPairs (λ a b. Before a.rect b.rect) zones
+  pub kept : (z : Zone) → Contains zones z → IsZoneOf spacing overlap layer features z

@@ -57,7 +57,7 @@ pub fn one_form()
     ensures { (rs ss : List Rect) → IsCanonical rs → IsCanonical ss → SameSquares (Covers rs) (Covers ss) → rs ≡ ss }
 {}
 
-/// A layer has at most one decomposition for a spacing and an overlap.
+/// A layer has at most one decomposition for a spacing, an overlap and marks.
 pub fn one_decomposition()
     ensures { IsOneDecomposition }
 {}

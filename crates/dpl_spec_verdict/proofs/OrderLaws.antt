@@ -1,6 +1,6 @@
 -- There is one verdict.
 use Rattle.std.proofs.Common.{◌≡◌, ℕ, inl, inr, sym, ap, ◌∙◌, subst, List, length, false}
-use Rattle.std.specs.Prelude.{pos}
+use Rattle.std.specs.Prelude.{Option, pos}
 use Rattle.dpl_spec_split.specs.declared.Spacing.{Spacing}
 use Rattle.dpl_spec_split.specs.Zones.{at}
 use Rattle.std.proofs.lemmas.Bool.{cases_order}
@@ -9,8 +9,9 @@ use Rattle.dpl_spec_split.specs.declared.Rect.{Rect}
 use Rattle.dpl_spec_split.specs.Squares.{Region, Covers, Precedes, IsLeast}
 use Rattle.dpl_spec_split.specs.Decomposition.{Cut, IsCut}
 use Rattle.dpl_spec_split.proofs.SquareLaws.{Precedes-strict, IsLeast-unique, SameSquares-refl}
-use Rattle.dpl_spec_split.proofs.SideLaws.{sides-unique}
+use Rattle.dpl_spec_split.proofs.SideLaws.{sides-unique, some_zones}
 use Rattle.dpl_spec_split.proofs.WholeLaws.{cut-unique}
+use Rattle.dpl_spec_split.specs.Marks.{marked_by, Marks}
 use Rattle.dpl_cert.specs.declared.cert.Head.{Head}
 use Rattle.dpl_cert.specs.declared.cert.PieceLine.{PieceLine}
 use Rattle.dpl_cert.specs.declared.cert.StitchLine.{StitchLine}
@@ -85,13 +86,14 @@ pair-shown related make v w (p, q, one, e) (r, s, other, f) =
     e ∙ (ap (λ x. make x q) same.0 ∙ (ap (λ y. make r y) same.1 ∙ sym f))
 
 -- a layer has one cut
-pub one-cut : (spacing : Spacing) (overlap : ℕ) (layer : Region) (c d : Cut) → IsCut spacing overlap layer c → IsCut spacing overlap layer d → c ≡ d
-one-cut spacing overlap layer c d a b =
-    cut-unique spacing overlap layer c d (sides-unique spacing overlap layer c.features c.pieces c.zones a.features a.zones a.pieces.components) a b
+pub one-cut : (marks : Option Marks) (spacing : Spacing) (overlap : ℕ) (layer : Region) (c d : Cut) → IsCut marks spacing overlap layer c → IsCut marks spacing overlap layer d → c ≡ d
+one-cut marks spacing overlap layer c d a b =
+    cut-unique marks spacing overlap layer c d (sides-unique spacing overlap layer c.features c.pieces c.zones a.features
+    (some_zones spacing overlap layer c.features (marked_by marks) c.zones a.zones) a.pieces.components) a b
 
-counts-shown : (spacing : Spacing) (overlap : ℕ) (layer : List Rect) (v w : Verdict) → ShowsCounts spacing overlap layer v → ShowsCounts spacing overlap layer w → v ≡ w
-counts-shown spacing overlap layer v w (f, p, z, (c, c_is, cf, cp, cz), e) (g, q, y, (d, d_is, df, dp, dz), h) =
-    let same : c ≡ d = one-cut spacing overlap (Covers layer) c d c_is d_is in
+counts-shown : (marks : Option Marks) (spacing : Spacing) (overlap : ℕ) (layer : List Rect) (v w : Verdict) → ShowsCounts marks spacing overlap layer v → ShowsCounts marks spacing overlap layer w → v ≡ w
+counts-shown marks spacing overlap layer v w (f, p, z, (c, c_is, cf, cp, cz), e) (g, q, y, (d, d_is, df, dp, dz), h) =
+    let same : c ≡ d = one-cut marks spacing overlap (Covers layer) c d c_is d_is in
     let ff : f ≡ g = cf ∙ (ap (λ (x : Cut). length x.features) same ∙ sym df) in
     let pp : p ≡ q = cp ∙ (ap (λ (x : Cut). length x.pieces) same ∙ sym dp) in
     let zz : z ≡ y = cz ∙ (ap (λ (x : Cut). length x.zones) same ∙ sym dz) in
@@ -103,10 +105,10 @@ rules-shown head v w e f = e ∙ sym f
 valid-shown : (v w : Verdict) → IsValid v → IsValid w → v ≡ w
 valid-shown v w e f = e ∙ sym f
 
-claim-unique : (spacing : Spacing) (overlap : ℕ) (c : Claim) (v w : Verdict) → VerdictOfClaim spacing overlap c v → VerdictOfClaim spacing overlap c w → v ≡ w
-claim-unique spacing overlap c v w =
-    first-unique (RulesDiffer spacing overlap c.head) (ShowsRules c.head) (VerdictFromCounts spacing overlap c) v w (rules-shown c.head v w)
-    (first-unique (CountDiffers c.layer c.head) (ShowsCounts spacing overlap c.layer) (VerdictFromCover spacing overlap c) v w (counts-shown spacing overlap c.layer v w)
+claim-unique : (marks : Option Marks) (spacing : Spacing) (overlap : ℕ) (c : Claim) (v w : Verdict) → VerdictOfClaim marks spacing overlap c v → VerdictOfClaim marks spacing overlap c w → v ≡ w
+claim-unique marks spacing overlap c v w =
+    first-unique (RulesDiffer spacing overlap c.head) (ShowsRules c.head) (VerdictFromCounts marks spacing overlap c) v w (rules-shown c.head v w)
+    (first-unique (CountDiffers c.layer c.head) (ShowsCounts marks spacing overlap c.layer) (VerdictFromCover spacing overlap c) v w (counts-shown marks spacing overlap c.layer v w)
     (first-unique (HasSquare (is_uncovered c.layer c.a c.b)) (ShowsCover c) (VerdictFromOverlap spacing overlap c) v w (least-shown (is_uncovered c.layer c.a c.b) Cover v w)
     (first-unique (HasSquare (is_doubled c.a c.b c.stitches)) (ShowsOverlap c) (VerdictFromSpacingA spacing overlap c) v w (least-shown (is_doubled c.a c.b c.stitches) Overlap v w)
     (first-unique (IsTight spacing c.layer c.a) (ShowsSpacingA spacing c) (VerdictFromSpacingB spacing overlap c) v w
@@ -116,28 +118,28 @@ claim-unique spacing overlap c v w =
     (bad-shown (IsBadStitch overlap c.a c.b c.pieces) c.stitches no_stitch Stitch v w)
     (first-unique (HasBad (IsBadPiece c.a c.b) c.pieces) (ShowsPiece c) IsValid v w (bad-shown (IsBadPiece c.a c.b) c.pieces no_piece Piece v w) (valid-shown v w))))))))
 
-pub masks-unique : (spacing : Spacing) (overlap : ℕ) (layer a b : List Rect) (cert : Cert) (v w : Verdict)
-    → IsVerdictOfMasks spacing overlap layer a b cert v → IsVerdictOfMasks spacing overlap layer a b cert w → v ≡ w
-masks-unique spacing overlap layer a b (Masks h ps ss) v w e f = claim-unique spacing overlap (record { layer = layer; a = a; b = b; head = h; pieces = ps; stitches = ss }) v w e f
-masks-unique spacing overlap layer a b (Conflict h cs ns) v w e f = absurd e
-masks-unique spacing overlap layer a b (Fault name at) v w e f = absurd e
+pub masks-unique : (marks : Option Marks) (spacing : Spacing) (overlap : ℕ) (layer a b : List Rect) (cert : Cert) (v w : Verdict)
+    → IsVerdictOfMasks marks spacing overlap layer a b cert v → IsVerdictOfMasks marks spacing overlap layer a b cert w → v ≡ w
+masks-unique marks spacing overlap layer a b (Masks h ps ss) v w e f = claim-unique marks spacing overlap (record { layer = layer; a = a; b = b; head = h; pieces = ps; stitches = ss }) v w e f
+masks-unique marks spacing overlap layer a b (Conflict h cs ns) v w e f = absurd e
+masks-unique marks spacing overlap layer a b (Fault name at) v w e f = absurd e
 
 -- by the one cut
-cycle-unique : (spacing : Spacing) (overlap : ℕ) (c : CycleClaim) (v w : Verdict) → VerdictFromCycle spacing overlap c v → VerdictFromCycle spacing overlap c w → v ≡ w
-cycle-unique spacing overlap c v w (k, k_is, e) (l, l_is, f) =
-    let same : k ≡ l = one-cut spacing overlap (Covers c.layer) k l k_is l_is in
+cycle-unique : (marks : Option Marks) (spacing : Spacing) (overlap : ℕ) (c : CycleClaim) (v w : Verdict) → VerdictFromCycle marks spacing overlap c v → VerdictFromCycle marks spacing overlap c w → v ≡ w
+cycle-unique marks spacing overlap c v w (k, k_is, e) (l, l_is, f) =
+    let same : k ≡ l = one-cut marks spacing overlap (Covers c.layer) k l k_is l_is in
     let g : VerdictOfCycle spacing k c w = subst (λ (x : Cut). VerdictOfCycle spacing x c w) (sym same) f in
     first-unique (HasBad (IsBadPlace spacing k c.cycle c.near) c.cycle) (ShowsCycle spacing k c) IsValid v w
     (bad-shown (IsBadPlace spacing k c.cycle c.near) c.cycle no_place Cycle v w) (valid-shown v w) e g
 
-conflict-claim-unique : (spacing : Spacing) (overlap : ℕ) (c : CycleClaim) (v w : Verdict) → CycleVerdict spacing overlap c v → CycleVerdict spacing overlap c w → v ≡ w
-conflict-claim-unique spacing overlap c v w =
-    first-unique (RulesDiffer spacing overlap c.head) (ShowsRules c.head) (CycleVerdictFromCounts spacing overlap c) v w (rules-shown c.head v w)
-    (first-unique (CountsDiffer spacing overlap c.layer c.head) (ShowsCounts spacing overlap c.layer) (VerdictFromCycle spacing overlap c) v w
-    (counts-shown spacing overlap c.layer v w) (cycle-unique spacing overlap c v w))
+conflict-claim-unique : (marks : Option Marks) (spacing : Spacing) (overlap : ℕ) (c : CycleClaim) (v w : Verdict) → CycleVerdict marks spacing overlap c v → CycleVerdict marks spacing overlap c w → v ≡ w
+conflict-claim-unique marks spacing overlap c v w =
+    first-unique (RulesDiffer spacing overlap c.head) (ShowsRules c.head) (CycleVerdictFromCounts marks spacing overlap c) v w (rules-shown c.head v w)
+    (first-unique (CountsDiffer marks spacing overlap c.layer c.head) (ShowsCounts marks spacing overlap c.layer) (VerdictFromCycle marks spacing overlap c) v w
+    (counts-shown marks spacing overlap c.layer v w) (cycle-unique marks spacing overlap c v w))
 
-pub conflict-unique : (spacing : Spacing) (overlap : ℕ) (layer : List Rect) (cert : Cert) (v w : Verdict) → IsVerdictOfConflict spacing overlap layer cert v
-    → IsVerdictOfConflict spacing overlap layer cert w → v ≡ w
-conflict-unique spacing overlap layer (Masks h ps ss) v w e f = absurd e
-conflict-unique spacing overlap layer (Conflict h cs ns) v w e f = conflict-claim-unique spacing overlap (record { layer = layer; head = h; cycle = cs; near = ns }) v w e f
-conflict-unique spacing overlap layer (Fault name at) v w e f = absurd e
+pub conflict-unique : (marks : Option Marks) (spacing : Spacing) (overlap : ℕ) (layer : List Rect) (cert : Cert) (v w : Verdict) → IsVerdictOfConflict marks spacing overlap layer cert v
+    → IsVerdictOfConflict marks spacing overlap layer cert w → v ≡ w
+conflict-unique marks spacing overlap layer (Masks h ps ss) v w e f = absurd e
+conflict-unique marks spacing overlap layer (Conflict h cs ns) v w e f = conflict-claim-unique marks spacing overlap (record { layer = layer; head = h; cycle = cs; near = ns }) v w e f
+conflict-unique marks spacing overlap layer (Fault name at) v w e f = absurd e

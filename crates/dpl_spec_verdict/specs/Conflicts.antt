@@ -1,10 +1,11 @@
 -- What is checked of a conflict, in order.
-use Rattle.std.specs.Prelude.{◌≡◌, ◌≢◌, ℕ, pos, ◌+◌, ◌*◌, ◌%◌, ◌<◌, List, length, slice_index, slice_index_or}
+use Rattle.std.specs.Prelude.{Option, ◌≡◌, ◌≢◌, ℕ, pos, ◌+◌, ◌*◌, ◌%◌, ◌<◌, List, length, slice_index, slice_index_or}
 use Rattle.dpl_spec_split.specs.declared.Spacing.{Spacing}
 use Rattle.dpl_spec_split.specs.declared.Rect.{Rect}
 use Rattle.dpl_spec_split.specs.Squares.{Covers, Near}
 use Rattle.dpl_spec_split.specs.Zones.{at, part_at}
 use Rattle.dpl_spec_split.specs.Decomposition.{Cut, IsCut}
+use Rattle.dpl_spec_split.specs.Marks.{Marks}
 use Rattle.dpl_cert.specs.declared.cert.Head.{Head}
 use Rattle.dpl_cert.specs.declared.cert.PlaceLine.{PlaceLine}
 use Rattle.dpl_cert.specs.declared.cert.NearLine.{NearLine}
@@ -22,8 +23,8 @@ pub record Claim : Type 0 where
   pub near : List NearLine
 
 -- the layer has another number of features, pieces or zones
-abbrev pub CountsDiffer : Spacing → ℕ → List Rect → Head → Type 0
-CountsDiffer spacing overlap layer head = ¬ AreCounts spacing overlap layer head.features head.pieces head.zones
+abbrev pub CountsDiffer : Option Marks → Spacing → ℕ → List Rect → Head → Type 0
+CountsDiffer marks spacing overlap layer head = ¬ AreCounts marks spacing overlap layer head.features head.pieces head.zones
 
 -- the piece at a place of the cycle
 abbrev pub piece_of : List PlaceLine → ℕ → ℕ
@@ -50,14 +51,14 @@ abbrev pub VerdictOfCycle : Spacing → Cut → Claim → Verdict → Type 0
 VerdictOfCycle spacing cut c = FirstOf (HasBad (IsBadPlace spacing cut c.cycle c.near) c.cycle) (ShowsCycle spacing cut c) IsValid
 
 -- by the features and pieces of the layer
-abbrev pub VerdictFromCycle : Spacing → ℕ → Claim → Verdict → Type 0
-VerdictFromCycle spacing overlap c v = (cut : Cut) × IsCut spacing overlap (Covers c.layer) cut × VerdictOfCycle spacing cut c v
+abbrev pub VerdictFromCycle : Option Marks → Spacing → ℕ → Claim → Verdict → Type 0
+VerdictFromCycle marks spacing overlap c v = (cut : Cut) × IsCut marks spacing overlap (Covers c.layer) cut × VerdictOfCycle spacing cut c v
 
-abbrev pub VerdictFromCounts : Spacing → ℕ → Claim → Verdict → Type 0
-VerdictFromCounts spacing overlap c = FirstOf (CountsDiffer spacing overlap c.layer c.head) (ShowsCounts spacing overlap c.layer) (VerdictFromCycle spacing overlap c)
+abbrev pub VerdictFromCounts : Option Marks → Spacing → ℕ → Claim → Verdict → Type 0
+VerdictFromCounts marks spacing overlap c = FirstOf (CountsDiffer marks spacing overlap c.layer c.head) (ShowsCounts marks spacing overlap c.layer) (VerdictFromCycle marks spacing overlap c)
 
-abbrev pub VerdictOfClaim : Spacing → ℕ → Claim → Verdict → Type 0
-VerdictOfClaim spacing overlap c = FirstOf (RulesDiffer spacing overlap c.head) (ShowsRules c.head) (VerdictFromCounts spacing overlap c)
+abbrev pub VerdictOfClaim : Option Marks → Spacing → ℕ → Claim → Verdict → Type 0
+VerdictOfClaim marks spacing overlap c = FirstOf (RulesDiffer spacing overlap c.head) (ShowsRules c.head) (VerdictFromCounts marks spacing overlap c)
 
 abbrev pub IsOfConflict : Cert → Type 0
 IsOfConflict (Masks h ps ss) = ⊥
@@ -65,8 +66,8 @@ IsOfConflict (Conflict h cs ns) = Unit {0}
 IsOfConflict (Fault name at) = ⊥
 
 -- the verdict of a layer's conflict, by its certificate
-abbrev pub IsVerdictOfConflict : Spacing → ℕ → List Rect → Cert → Verdict → Type 0
-IsVerdictOfConflict spacing overlap layer (Masks h ps ss) v = ⊥
-IsVerdictOfConflict spacing overlap layer (Conflict h cs ns) v =
-    VerdictOfClaim spacing overlap (record { layer = layer; head = h; cycle = cs; near = ns }) v
-IsVerdictOfConflict spacing overlap layer (Fault name at) v = ⊥
+abbrev pub IsVerdictOfConflict : Option Marks → Spacing → ℕ → List Rect → Cert → Verdict → Type 0
+IsVerdictOfConflict marks spacing overlap layer (Masks h ps ss) v = ⊥
+IsVerdictOfConflict marks spacing overlap layer (Conflict h cs ns) v =
+    VerdictOfClaim marks spacing overlap (record { layer = layer; head = h; cycle = cs; near = ns }) v
+IsVerdictOfConflict marks spacing overlap layer (Fault name at) v = ⊥

@@ -1,5 +1,5 @@
 -- What is checked of masks, in order.
-use Rattle.std.specs.Prelude.{◌≡◌, ◌≢◌, ℕ, pos, ◌*◌, ◌<◌, ◌⊎◌, ◌-ℤ◌, ◌≤ℤ◌, false, cond, List, length, slice_index_or}
+use Rattle.std.specs.Prelude.{Option, ◌≡◌, ◌≢◌, ℕ, pos, ◌*◌, ◌<◌, ◌⊎◌, ◌-ℤ◌, ◌≤ℤ◌, false, cond, List, length, slice_index_or}
 use Rattle.std.specs.List.{Any}
 use Rattle.dpl_spec_split.specs.declared.Spacing.{Spacing}
 use Rattle.dpl_spec_split.specs.declared.Pt.{Pt}
@@ -7,6 +7,7 @@ use Rattle.dpl_spec_split.specs.declared.Rect.{Rect}
 use Rattle.dpl_spec_split.specs.Squares.{Region, Covers, Has, IsLeast, Near}
 use Rattle.dpl_spec_split.specs.Components.{Linked}
 use Rattle.dpl_spec_split.specs.Zones.{at}
+use Rattle.dpl_spec_split.specs.Marks.{Marks}
 use Rattle.dpl_cert.specs.declared.cert.Head.{Head}
 use Rattle.dpl_cert.specs.declared.cert.PieceLine.{PieceLine}
 use Rattle.dpl_cert.specs.declared.cert.StitchLine.{StitchLine}
@@ -109,11 +110,11 @@ ShowsCover c v = (p : Pt) × IsLeast (is_uncovered c.layer c.a c.b) p × (v ≡ 
 abbrev pub VerdictFromCover : Spacing → ℕ → Claim → Verdict → Type 0
 VerdictFromCover spacing overlap c = FirstOf (HasSquare (is_uncovered c.layer c.a c.b)) (ShowsCover c) (VerdictFromOverlap spacing overlap c)
 
-abbrev pub VerdictFromCounts : Spacing → ℕ → Claim → Verdict → Type 0
-VerdictFromCounts spacing overlap c = FirstOf (CountDiffers c.layer c.head) (ShowsCounts spacing overlap c.layer) (VerdictFromCover spacing overlap c)
+abbrev pub VerdictFromCounts : Option Marks → Spacing → ℕ → Claim → Verdict → Type 0
+VerdictFromCounts marks spacing overlap c = FirstOf (CountDiffers c.layer c.head) (ShowsCounts marks spacing overlap c.layer) (VerdictFromCover spacing overlap c)
 
-abbrev pub VerdictOfClaim : Spacing → ℕ → Claim → Verdict → Type 0
-VerdictOfClaim spacing overlap c = FirstOf (RulesDiffer spacing overlap c.head) (ShowsRules c.head) (VerdictFromCounts spacing overlap c)
+abbrev pub VerdictOfClaim : Option Marks → Spacing → ℕ → Claim → Verdict → Type 0
+VerdictOfClaim marks spacing overlap c = FirstOf (RulesDiffer spacing overlap c.head) (ShowsRules c.head) (VerdictFromCounts marks spacing overlap c)
 
 abbrev pub IsOfMasks : Cert → Type 0
 IsOfMasks (Masks h ps ss) = Unit {0}
@@ -121,8 +122,8 @@ IsOfMasks (Conflict h cs ns) = ⊥
 IsOfMasks (Fault name at) = ⊥
 
 -- the verdict of masks a and b of a layer, by their certificate
-abbrev pub IsVerdictOfMasks : Spacing → ℕ → List Rect → List Rect → List Rect → Cert → Verdict → Type 0
-IsVerdictOfMasks spacing overlap layer a b (Masks h ps ss) v =
-    VerdictOfClaim spacing overlap (record { layer = layer; a = a; b = b; head = h; pieces = ps; stitches = ss }) v
-IsVerdictOfMasks spacing overlap layer a b (Conflict h cs ns) v = ⊥
-IsVerdictOfMasks spacing overlap layer a b (Fault name at) v = ⊥
+abbrev pub IsVerdictOfMasks : Option Marks → Spacing → ℕ → List Rect → List Rect → List Rect → Cert → Verdict → Type 0
+IsVerdictOfMasks marks spacing overlap layer a b (Masks h ps ss) v =
+    VerdictOfClaim marks spacing overlap (record { layer = layer; a = a; b = b; head = h; pieces = ps; stitches = ss }) v
+IsVerdictOfMasks marks spacing overlap layer a b (Conflict h cs ns) v = ⊥
+IsVerdictOfMasks marks spacing overlap layer a b (Fault name at) v = ⊥

@@ -1,11 +1,12 @@
 -- The first of several properties that is broken, and what shows it.
-use Rattle.std.specs.Prelude.{◌≡◌, ◌≢◌, ℕ, ◌<◌, ◌⊎◌, List, length, slice_index_or}
+use Rattle.std.specs.Prelude.{Option, ◌≡◌, ◌≢◌, ℕ, ◌<◌, ◌⊎◌, List, length, slice_index_or}
 use Rattle.dpl_spec_split.specs.declared.Spacing.{Spacing}
 use Rattle.dpl_spec_split.specs.declared.Pt.{Pt}
 use Rattle.dpl_spec_split.specs.declared.Rect.{Rect}
 use Rattle.dpl_spec_split.specs.Squares.{Region, Covers, Precedes}
 use Rattle.dpl_spec_split.specs.Components.{AreComponents}
 use Rattle.dpl_spec_split.specs.Decomposition.{Cut, IsCut}
+use Rattle.dpl_spec_split.specs.Marks.{Marks}
 use Rattle.dpl_cert.specs.declared.cert.Head.{Head}
 use Rattle.dpl_spec_verdict.specs.declared.Verdict.{Verdict}
 use Rattle.dpl_spec_verdict.specs.declared.Verdict.TheVariants.{Valid, Rules, Counts}
@@ -48,9 +49,9 @@ abbrev pub IsFeatureCount : List Rect → ℕ → Type 0
 IsFeatureCount layer n = (features : List (List Rect)) × AreComponents (Covers layer) features × (n ≡ length features)
 
 -- how many features, pieces and zones
-abbrev pub AreCounts : Spacing → ℕ → List Rect → ℕ → ℕ → ℕ → Type 0
-AreCounts spacing overlap layer features pieces zones =
-    (c : Cut) × IsCut spacing overlap (Covers layer) c × (features ≡ length c.features) × (pieces ≡ length c.pieces) × (zones ≡ length c.zones)
+abbrev pub AreCounts : Option Marks → Spacing → ℕ → List Rect → ℕ → ℕ → ℕ → Type 0
+AreCounts marks spacing overlap layer features pieces zones =
+    (c : Cut) × IsCut marks spacing overlap (Covers layer) c × (features ≡ length c.features) × (pieces ≡ length c.pieces) × (zones ≡ length c.zones)
 
-abbrev pub ShowsCounts : Spacing → ℕ → List Rect → Verdict → Type 0
-ShowsCounts spacing overlap layer v = (f p z : ℕ) × AreCounts spacing overlap layer f p z × (v ≡ Counts f p z)
+abbrev pub ShowsCounts : Option Marks → Spacing → ℕ → List Rect → Verdict → Type 0
+ShowsCounts marks spacing overlap layer v = (f p z : ℕ) × AreCounts marks spacing overlap layer f p z × (v ≡ Counts f p z)

@@ -1,9 +1,10 @@
 //! What a checker says of masks and of conflicts: the first property of theirs that is broken.
 #![tactic(auto)]
 
-ghost use Rattle.std.specs.Prelude.{◌≡◌, ℕ, List};
+ghost use Rattle.std.specs.Prelude.{Option, ◌≡◌, ℕ, List};
 ghost use Rattle.dpl_spec_split.specs.declared.Spacing.{Spacing};
 ghost use Rattle.dpl_spec_split.specs.declared.Rect.{Rect};
+ghost use Rattle.dpl_spec_split.specs.Marks.{Marks};
 ghost use Rattle.dpl_cert.specs.declared.cert.Cert.{Cert};
 ghost use Rattle.dpl_spec_verdict.specs.declared.Verdict.{Verdict};
 ghost use Rattle.dpl_spec_verdict.specs.Masks.{IsVerdictOfMasks};
@@ -67,12 +68,12 @@ pub enum Verdict {
 
 /// Masks and their certificate have at most one verdict.
 pub fn one_verdict_of_masks()
-    ensures { (spacing : Spacing) (overlap : ℕ) (layer a b : List Rect) (cert : Cert) (v w : Verdict)
-        → IsVerdictOfMasks spacing overlap layer a b cert v → IsVerdictOfMasks spacing overlap layer a b cert w → v ≡ w }
+    ensures { (marks : Option Marks) (spacing : Spacing) (overlap : ℕ) (layer a b : List Rect) (cert : Cert) (v w : Verdict)
+        → IsVerdictOfMasks marks spacing overlap layer a b cert v → IsVerdictOfMasks marks spacing overlap layer a b cert w → v ≡ w }
 {}
 
 /// A certificate of a conflict has at most one verdict.
 pub fn one_verdict_of_conflict()
-    ensures { (spacing : Spacing) (overlap : ℕ) (layer : List Rect) (cert : Cert) (v w : Verdict)
-        → IsVerdictOfConflict spacing overlap layer cert v → IsVerdictOfConflict spacing overlap layer cert w → v ≡ w }
+    ensures { (marks : Option Marks) (spacing : Spacing) (overlap : ℕ) (layer : List Rect) (cert : Cert) (v w : Verdict)
+        → IsVerdictOfConflict marks spacing overlap layer cert v → IsVerdictOfConflict marks spacing overlap layer cert w → v ≡ w }
 {}

@@ -6,6 +6,7 @@ use crate::zones::are_zones;
 use dpl_base::{Spacing, reach};
 use dpl_edges::all_edges;
 use dpl_feature::features;
+use dpl_slabs::Slabs;
 use dpl_tile::plan;
 use dpl_zone::zones;
 use std::alloc::{AllocError, Global};
@@ -26,7 +27,7 @@ fn stretches_begin_where_the_corner_rule_ends(rt: HostRuntime) -> Result<(), Fai
     assert_eq!(rt; reach(spacing, 30), None);
     let set = set_of(rt.alloc(), &BARS)?;
     let parts = features(rt.alloc(), &set)?;
-    let found = zones(rt.alloc(), &parts, spacing, 10)?;
+    let found = zones(rt.alloc(), &parts, spacing, 10, &Slabs::empty(rt.alloc()))?;
     assert!(rt; are_zones(found.as_slice(), &[((73, 0, 83, 20), 0)]));
     Ok(())
 }

@@ -5,6 +5,7 @@ use dpl_feature::features;
 use dpl_masks::{Masks, masks};
 use dpl_orient::{Colours, Mask};
 use dpl_piece::{Pieces, pieces};
+use dpl_slabs::Slabs;
 use dpl_zone::zones;
 use std::alloc::{AllocError, Global};
 use std::test::Fail;
@@ -34,7 +35,7 @@ const RING: [Corners; 4] = [
 fn cut(alloc: Global, layer: &[Corners]) -> Result<Pieces, AllocError> {
     let layer = set_of(alloc, layer)?;
     let features = features(alloc, &layer)?;
-    let zones = zones(alloc, &features, SPACING, 10)?;
+    let zones = zones(alloc, &features, SPACING, 10, &Slabs::empty(alloc))?;
     pieces(alloc, features, zones)
 }
 

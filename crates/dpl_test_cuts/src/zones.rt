@@ -2,6 +2,7 @@
 use crate::bars::{Corners, SPACING, set_of};
 use dpl_base::{FARTHEST, Zone};
 use dpl_feature::features;
+use dpl_slabs::Slabs;
 use dpl_zone::zones;
 use std::alloc::{AllocError, Global};
 use std::test::Fail;
@@ -100,7 +101,7 @@ fn has_zones(
 ) -> Result<bool, AllocError> {
     let set = set_of(alloc, rects)?;
     let parts = features(alloc, &set)?;
-    let found = zones(alloc, &parts, SPACING, 10)?;
+    let found = zones(alloc, &parts, SPACING, 10, &Slabs::empty(alloc))?;
     Ok(are_zones(found.as_slice(), want))
 }
 

@@ -6,6 +6,6 @@ pub mod CellLaws
 pub mod TileLaws
 pub mod Loops
 pub mod ItemLaws
-pub mod BetweenLaws
+pub mod ReachLaws
 pub mod MeetingLaws
 pub mod PlanLaws

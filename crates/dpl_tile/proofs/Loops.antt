@@ -15,7 +15,7 @@ use Rattle.dpl_tile.specs.Adding.{Adds}
 use Rattle.dpl_tile.specs.Tiles.{numbers_in, cells_met, pairs_of}
 use Rattle.dpl_tile.specs.Kept.{IsBlockOf, IsSomeBlock, IsOver, IsInRow, IsInBlock, IsMet}
 use Rattle.dpl_tile.proofs.Numbers.{number-le}
-use Rattle.dpl_tile.proofs.Adding.{OfFirst, adds-none, adds-next, adds-same}
+use Rattle.dpl_tile.proofs.Adding.{OfFirst, added-to_none, adds-none, adds-next, adds-same}
 
 -- of the element at number n of a list
 abbrev pub Nth : {X : Type 0} {Y : Type 0} → (X → Y → Type 0) → List X → ℕ → Y → Type 0
@@ -167,3 +167,10 @@ parts-count g parts n x a m k n_in is before more =
     let sum = sum_by_more (λ part. sum_by (cells_met g) part) parts n x n_in in
     let same : sum_by (cells_met g) (get_or parts n x) ≡ sum_by (cells_met g) x = ap (λ part. sum_by (cells_met g) part) is in
     omega (arith, more, before, sum, same)
+
+-- what two steps add to nothing, and what has the same elements
+pub both-added : {Y : Type 0} (First Second : Y → Type 0) (none one two new : List Y) → none ≡ [] → Adds First none one → Adds Second one two
+    → ((y : Y) → Contains new y ↔ Contains two y) → (y : Y) → Contains new y ↔ (First y ⊎ Second y)
+both-added First Second none one two new is first second same y =
+    let h = added-to_none (λ y. First y ⊎ Second y) none two is (adds-then First Second (λ y. First y ⊎ Second y) none one two (λ y. (λ k. k, λ k. k)) first second) y in
+    (λ c. h.0 ((same y).0 c), λ k. (same y).1 (h.1 k))

@@ -1,5 +1,5 @@
 -- What a plan finds.
-use Rattle.std.proofs.Common.{◌≡◌, ℕ, ◌<◌, ◌≤◌, ◌⊎◌, inl, inr, List, length, get_or, map, refl, ap, subst, arith}
+use Rattle.std.proofs.Common.{◌≡◌, ℕ, ◌⊎◌, inl, inr, List, length, get_or, map, refl, ap, arith}
 use Rattle.std.specs.Prelude.{◌↔◌, IfSome, slice_get, slice_index}
 use Rattle.std.specs.List.{Contains}
 use Rattle.std.proofs.lemmas.Bool.{cases_lt}
@@ -8,18 +8,19 @@ use Rattle.std.proofs.lemmas.Option.{slice_get-map, slice_get_past, slice_get_re
 use Rattle.dpl_spec_split.specs.declared.Pt.{Pt}
 use Rattle.dpl_spec_split.specs.declared.Rect.{Rect}
 use Rattle.dpl_spec_split.specs.declared.Spacing.{Spacing}
-use Rattle.dpl_spec_split.specs.Squares.{Region, Has, Near}
+use Rattle.dpl_spec_split.specs.Squares.{Has, Near}
+use Rattle.dpl_spec_split.proofs.SquareLaws.{Near-sym}
 use Rattle.dpl_join.specs.declared.items.Item.{Item}
 use Rattle.dpl_join.specs.Pairs.{IsPair, item_at, no_item}
 use Rattle.dpl_join.proofs.NearLaws.{near-close}
+use Rattle.dpl_join.proofs.PairLaws.{close-flip}
 use Rattle.dpl_tile.specs.declared.grid.Grid.{Grid}
 use Rattle.dpl_tile.specs.declared.meetings.Meeting.{Meeting}
-use Rattle.dpl_tile.specs.Kept.{IsMet, IsOver}
-use Rattle.dpl_tile.specs.Meetings.{IsKept, between}
+use Rattle.dpl_tile.specs.Meetings.{IsKept, IsMetByPair, reached}
 use Rattle.dpl_tile.specs.Plans.{AreApart, HaveAllNear, Planned}
 use Rattle.dpl_tile.specs.Tiles.{cell_at, number_in}
-use Rattle.dpl_tile.proofs.BetweenLaws.{between-has, between-over}
 use Rattle.dpl_tile.proofs.CellLaws.{own-cell, square-met}
+use Rattle.dpl_tile.proofs.ReachLaws.{reached-has, reached-over}
 
 -- what a plan is seen as
 abbrev pub planned : List (List Rect) → List ℕ → Spacing → List Item → Grid → List (ℕ × ℕ) → Planned
@@ -47,12 +48,11 @@ module _ (parts : List (List Rect)) (owners : List ℕ) (spacing : Spacing) (ite
         apart = λ same. apart.owners (ap (slice_index owners) same);
         close = near-close spacing a b kept.corner (p, q, p_in, q_in, near);
       } in
-      let region = between spacing.rule a b in
-      let over = between-over grid spacing.rule a b over_a over_b pair.close in
-      let both = between-has spacing a b p q kept.corner p_in q_in near in
-      let met : IsMet grid region e = elim here [
-        | inl h ↦ square-met grid region e p kept.sound.some over both.0 h
-        | inr h ↦ square-met grid region e q kept.sound.some over both.1 h
+      let met : IsMetByPair spacing.rule grid a b e = elim here [
+        | inl h ↦ inl (square-met grid (reached spacing.rule a b) e p kept.sound.some (reached-over grid spacing.rule a b over_a over_b pair.close)
+            (reached-has spacing a b p q kept.corner p_in q_in near) h)
+        | inr h ↦ inr (square-met grid (reached spacing.rule b a) e q kept.sound.some (reached-over grid spacing.rule b a over_b over_a (close-flip spacing.rule a b pair.close))
+            (reached-has spacing b a q p kept.corner q_in p_in (Near-sym spacing p q near)) h)
       ] in
       (kept.met.all (record { place = e; first = i; second = j })).1
       (pair, record { first = refl; second = refl; foes = record { apart = apart.owners; near = (p, q, p_in, q_in, near) }; met = met })

@@ -17,26 +17,34 @@ use Rattle.dpl_tile.specs.Kept.{IsMet, IsOver, IsSound, IsClose}
 abbrev pub AreItemsOf : List (List Rect) → List Item → Type 0
 AreItemsOf parts items = (item : Item) → Contains items item ↔ ((item.owner < length parts) × Contains (slice_index_or parts item.owner []) item.rect)
 
--- where both may have squares within the rule of one another
-abbrev pub between : ℕ → Rect → Rect → Rect
-between rule a b = record {
-  x0 = int_max (int_min a.x0 b.x0) (int_max a.x0 b.x0 -ℤ pos rule);
-  y0 = int_max (int_min a.y0 b.y0) (int_max a.y0 b.y0 -ℤ pos rule);
-  x1 = int_min (int_max a.x1 b.x1) (int_min a.x1 b.x1 +ℤ pos rule);
-  y1 = int_min (int_max a.y1 b.y1) (int_min a.y1 b.y1 +ℤ pos rule);
+-- what of the first lies within the rule of the second, by columns and by rows
+abbrev pub reached : ℕ → Rect → Rect → Rect
+reached rule a b = record {
+  x0 = int_max a.x0 (b.x0 -ℤ pos rule);
+  y0 = int_max a.y0 (b.y0 -ℤ pos rule);
+  x1 = int_min a.x1 (b.x1 +ℤ pos rule);
+  y1 = int_min a.y1 (b.y1 +ℤ pos rule);
 }
+
+-- the place of a cell that has a square of one that may be near the other
+abbrev pub IsMetByPair : ℕ → Grid → Rect → Rect → ℕ × ℕ → Type 0
+IsMetByPair rule g a b e = IsMet g (reached rule a b) e ⊎ IsMet g (reached rule b a) e
 
 -- slabs of different owners that are near
 pub record AreFoes (spacing : Spacing) (owners : List ℕ) (a b : Item) : Type 0 where
   pub apart : slice_index owners a.owner ≢ slice_index owners b.owner
   pub near : AreNear spacing (Has a.rect) (Has b.rect)
 
--- the pair is of such slabs, and the cell has a square between them
+-- the pair is of such slabs, and the cell has a square of one that may be near the other
 pub record IsMeetingOf (spacing : Spacing) (owners : List ℕ) (g : Grid) (items : List Item) (pair : ℕ × ℕ) (m : Meeting) : Type 0 where
   pub first : m.first ≡ pair.0
   pub second : m.second ≡ pair.1
   pub foes : AreFoes spacing owners (item_at items pair.0) (item_at items pair.1)
-  pub met : IsMet g (between spacing.rule (item_at items pair.0).rect (item_at items pair.1).rect) m.place
+  pub met : IsMetByPair spacing.rule g (item_at items pair.0).rect (item_at items pair.1).rect m.place
+
+-- one of the pairs has this meeting
+abbrev pub IsMeetingAmong : Spacing → List ℕ → Grid → List Item → List (ℕ × ℕ) → Meeting → Type 0
+IsMeetingAmong spacing owners g items pairs m = (pair : ℕ × ℕ) × Contains pairs pair × IsMeetingOf spacing owners g items pair m
 
 -- some pair has this meeting
 abbrev pub IsMeeting : Spacing → List ℕ → Grid → List Item → Meeting → Type 0

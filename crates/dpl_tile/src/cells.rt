@@ -1,5 +1,5 @@
 //! The places of the cells that slabs meet.
-ghost use Rattle.std.specs.Prelude.{◌≡◌, ◌↔◌, ℕ, ◌+◌, ◌-◌, ◌*◌, ◌<◌, ◌≤◌, IfOk, OnOk, length, sum_by};
+ghost use Rattle.std.specs.Prelude.{◌≡◌, ◌⊎◌, ◌↔◌, ℕ, ◌+◌, ◌-◌, ◌*◌, ◌<◌, ◌≤◌, IfOk, OnOk, length, sum_by};
 ghost use Rattle.std.specs.List.{All, AllPairs, Contains};
 ghost use Rattle.dpl_spec_split.specs.Graphs.{Precedes};
 ghost use Rattle.dpl_tile.specs.Adding.{Adds};
@@ -116,15 +116,24 @@ pub(crate) fn places_of(
     Ok(places)
 }
 
-/// The places of the cells that a rectangle meets.
-pub(crate) fn block_places(alloc: Global, grid: &Grid, r: &Rect) -> Result<Vec<Place>, AllocError>
+/// The places of the cells that two rectangles meet, by row, then by column.
+pub(crate) fn places_of_both(
+    alloc: Global,
+    grid: &Grid,
+    r: &Rect,
+    s: &Rect,
+) -> Result<Vec<Place>, AllocError>
     requires sound { IsSound grid.now }
-    requires over { IsOver grid.now r.now }
-    ensures { IfOk result (λ v. (e : ℕ × ℕ) → Contains v.items e ↔ IsMet grid.now r.now e) }
+    requires first { IsOver grid.now r.now }
+    requires second { IsOver grid.now s.now }
+    ensures { IfOk result (λ v. (e : ℕ × ℕ) → Contains v.items e ↔ (IsMet grid.now r.now e ⊎ IsMet grid.now s.now e)) }
 {
-    let block = grid.block(r);
+    let one = grid.block(r);
+    let other = grid.block(s);
     let mut places = Vec::new(alloc);
     let mut limit = LEAST_LIMIT;
-    add_block(&mut places, &mut limit, &block)?;
+    add_block(&mut places, &mut limit, &one)?;
+    add_block(&mut places, &mut limit, &other)?;
+    put_in_order(&mut places);
     Ok(places)
 }

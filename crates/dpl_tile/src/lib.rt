@@ -1,7 +1,6 @@
 //! Tiles: the layer cut into the cells of a grid, so that each tile's conflicts can be found by themselves.
 #![tactic(auto)]
 
-mod between;
 mod bounds;
 mod cells;
 mod count;
@@ -14,6 +13,7 @@ mod least;
 mod meetings;
 mod planning;
 mod plans;
+mod reach;
 mod sides;
 
 pub use laws::squares_have_one_cell;

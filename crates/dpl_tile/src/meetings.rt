@@ -4,21 +4,20 @@ ghost use Rattle.std.specs.List.{All, Contains};
 ghost use Rattle.dpl_spec_split.specs.Loops.{farthest};
 ghost use Rattle.dpl_spec_split.specs.Squares.{IsSolidWithin};
 ghost use Rattle.dpl_join.specs.declared.items.Item.{Item};
-ghost use Rattle.dpl_join.specs.Listing.{Lists};
 ghost use Rattle.dpl_join.specs.Pairs.{IsPair};
 ghost use Rattle.dpl_tile.specs.declared.meetings.Meeting.{Meeting};
 ghost use Rattle.dpl_tile.specs.Adding.{Adds};
 ghost use Rattle.dpl_tile.specs.Kept.{IsSound, IsOver};
-ghost use Rattle.dpl_tile.specs.Meetings.{AreMeetings, AreFoes, IsMeeting, IsMeetingOf, RiseByPlace};
+ghost use Rattle.dpl_tile.specs.Meetings.{AreMeetings, AreFoes, IsMeeting, IsMeetingAmong, IsMeetingOf, RiseByPlace};
 
-use crate::between::between;
-use crate::cells::block_places;
+use crate::cells::places_of_both;
 use crate::grid::{Grid, Place};
+use crate::reach::reached;
 use dpl_base::{Id, Spacing, near};
-use dpl_join::{Item, Pair};
+use dpl_join::{Item, Join, Pair};
 use std::alloc::{AllocError, Global};
 
-/// Two slabs of different owners that are near, by their numbers, and the place of a cell that what lies between them meets.
+/// Two slabs of different owners that are near, by their numbers, and the place of a cell with a square of one that may be near the other.
 #[derive(Clone, Copy, Debug, Drop)]
 pub struct Meeting {
     pub place: Place,
@@ -77,31 +76,65 @@ fn add_pair(
     if !are_foes(&a, &b, owners, spacing) {
         return Ok(());
     }
-    let region = between(&a.rect, &b.rect, spacing.rule);
-    let places = block_places(alloc, grid, &region)?;
+    let first = reached(&a.rect, &b.rect, spacing.rule);
+    let second = reached(&b.rect, &a.rect, spacing.rule);
+    let places = places_of_both(alloc, grid, &first, &second)?;
     add_places(meetings, places.as_slice(), pair)?;
     Ok(())
 }
 
-/// The meetings of all pairs, in no order.
-fn unsorted_meetings(
+/// Adds the meetings of these pairs.
+fn add_pairs(
+    meetings: &mut Vec<Meeting>,
     alloc: Global,
     grid: &Grid,
     items: &[Item],
     pairs: &[Pair],
     owners: &[Id],
     spacing: Spacing,
-) -> Result<Vec<Meeting>, AllocError>
+) -> Result<(), AllocError>
     requires corner { spacing.corner ≤ spacing.rule }
     requires sound { IsSound grid.now }
     requires over { All (λ (item : Item). IsOver grid.now item.rect) items.now }
     requires owned { All (λ (item : Item). item.owner < length owners.now) items.now }
-    requires pairs { Lists (IsPair spacing.rule items.now) pairs.now }
-    ensures { IfOk result (λ v. (m : Meeting) → Contains v.items m ↔ IsMeeting spacing owners.now grid.now items.now m) }
+    requires pairs { (p : ℕ × ℕ) → Contains pairs.now p → IsPair spacing.rule items.now p }
+    ensures { OnOk result (Adds (IsMeetingAmong spacing owners.now grid.now items.now pairs.now) meetings.old.items meetings.new.items) }
 {
-    let mut meetings = Vec::new(alloc);
     for pair in pairs {
-        add_pair(&mut meetings, alloc, grid, items, pair, owners, spacing)?;
+        add_pair(meetings, alloc, grid, items, pair, owners, spacing)?;
+    }
+    Ok(())
+}
+
+/// The meetings of all pairs of a join, in no order. The pairs are found strip by strip, so those of one are in memory at a time.
+fn unsorted_meetings(
+    alloc: Global,
+    grid: &Grid,
+    join: &Join,
+    owners: &[Id],
+    spacing: Spacing,
+) -> Result<Vec<Meeting>, AllocError>
+    requires corner { spacing.corner ≤ spacing.rule }
+    requires rule { join.now.rule ≡ spacing.rule }
+    requires sound { IsSound grid.now }
+    requires over { All (λ (item : Item). IsOver grid.now item.rect) join.now.items }
+    requires owned { All (λ (item : Item). item.owner < length owners.now) join.now.items }
+    ensures { IfOk result (λ v. (m : Meeting) → Contains v.items m ↔ IsMeeting spacing owners.now grid.now join.now.items m) }
+{
+    let items = join.items();
+    let mut meetings = Vec::new(alloc);
+    let count = join.strips();
+    for strip in 0..count {
+        let pairs = join.pairs_of_strip(alloc, strip)?;
+        add_pairs(
+            &mut meetings,
+            alloc,
+            grid,
+            items,
+            pairs.as_slice(),
+            owners,
+            spacing,
+        )?;
     }
     Ok(meetings)
 }
@@ -114,23 +147,22 @@ fn sort_by_place(meetings: &mut Vec<Meeting>)
     meetings.sort_unstable_by_key(|m| m.place);
 }
 
-/// The meetings of all pairs, by place.
+/// The meetings of all pairs of a join, by place.
 pub(crate) fn meetings_of(
     alloc: Global,
     grid: &Grid,
-    items: &[Item],
-    pairs: &[Pair],
+    join: &Join,
     owners: &[Id],
     spacing: Spacing,
 ) -> Result<Vec<Meeting>, AllocError>
     requires corner { spacing.corner ≤ spacing.rule }
+    requires rule { join.now.rule ≡ spacing.rule }
     requires sound { IsSound grid.now }
-    requires over { All (λ (item : Item). IsOver grid.now item.rect) items.now }
-    requires owned { All (λ (item : Item). item.owner < length owners.now) items.now }
-    requires pairs { Lists (IsPair spacing.rule items.now) pairs.now }
-    ensures { IfOk result (λ v. AreMeetings spacing owners.now grid.now items.now v.items) }
+    requires over { All (λ (item : Item). IsOver grid.now item.rect) join.now.items }
+    requires owned { All (λ (item : Item). item.owner < length owners.now) join.now.items }
+    ensures { IfOk result (λ v. AreMeetings spacing owners.now grid.now join.now.items v.items) }
 {
-    let mut meetings = unsorted_meetings(alloc, grid, items, pairs, owners, spacing)?;
+    let mut meetings = unsorted_meetings(alloc, grid, join, owners, spacing)?;
     sort_by_place(&mut meetings);
     Ok(meetings)
 }

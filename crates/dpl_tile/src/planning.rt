@@ -27,9 +27,8 @@ pub fn plan<'a>(
     let laid = lay(alloc, parts.items(), tile)?;
     let items = items_of(alloc, parts.items())?;
     let join = Join::of(alloc, items, spacing.rule)?;
-    let pairs = join.pairs(alloc)?;
+    let meetings = meetings_of(alloc, &laid.grid, &join, owner, spacing)?;
     let items = join.into_items();
-    let meetings = meetings_of(alloc, &laid.grid, &items, &pairs, owner, spacing)?;
     Ok(Plan {
         parts,
         owners: owner,

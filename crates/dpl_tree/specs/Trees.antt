@@ -17,6 +17,10 @@ pub record LiesIn (inner outer : Rect) : Type 0 where
 abbrev pub HasItem : List Item → Rect → ℕ → Type 0
 HasItem items r k = (item : Item) × Contains items item × (item.rect ≡ r) × (item.owner ≡ k)
 
+-- the rectangles of the items
+abbrev pub rects_of : List Item → List Rect
+rects_of items = map (λ item. item.rect) items
+
 -- the items are the rectangles of the parts, each with the number of its part
 abbrev pub AreItemsOf : List (List Rect) → List Item → Type 0
 AreItemsOf parts items = (r : Rect) (k : ℕ) → HasItem items r k ↔ ((k < length parts) × Contains (slice_index_or parts k []) r)

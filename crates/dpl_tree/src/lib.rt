@@ -6,12 +6,14 @@ mod blocks;
 mod items;
 mod owners;
 mod search;
+mod set;
 mod tree;
 mod view;
 mod window;
 
 pub use items::{Item, Items};
 pub use owners::Owners;
+pub use set::SetTree;
 pub use tree::Tree;
 pub use view::View;
 pub use window::widened;

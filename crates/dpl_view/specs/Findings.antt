@@ -1,5 +1,5 @@
 -- What is found in the bytes of a layout.
-use Rattle.std.specs.Prelude.{ℕ, List, [], ◌∷◌}
+use Rattle.std.specs.Prelude.{None, ℕ, List, [], ◌∷◌}
 use Rattle.dpl_spec_split.specs.declared.Rect.{Rect}
 use Rattle.dpl_spec_split.specs.Squares.{Covers, uniform}
 use Rattle.dpl_spec_split.specs.Decomposition.{Cut, IsCut}
@@ -25,7 +25,7 @@ pub record IsInRange (o : Order) : Type 0 where
 abbrev pub IsFinding : Choice → ℕ → ℕ → List ℕ → Finding → Type 0
 IsFinding v rule overlap bytes (Refused name at) = IsLayout v bytes (Faulty name at)
 IsFinding v rule overlap bytes (Cycles found) = (layer : List Rect) × IsLayout v bytes (Layer found.copied.items layer)
-    × (cut : Cut) × IsCut (uniform rule) overlap (Covers layer) cut × AreClashes (uniform rule) overlap cut found.clashes.items
+    × (cut : Cut) × IsCut None (uniform rule) overlap (Covers layer) cut × AreClashes (uniform rule) overlap cut found.clashes.items
 
 abbrev pub status_of_clashes : List Clash → Status
 status_of_clashes [] = status.Done

@@ -11,7 +11,7 @@ use Rattle.dpl_spec_split.specs.declared.Zone.{Zone}
 use Rattle.dpl_spec_split.proofs.SpacingLaws.{few-swapped}
 use Rattle.dpl_spec_split.specs.Squares.{Region, SameSquares, AreNear, AreTouching, Covers, Has, Touch, d2}
 use Rattle.dpl_spec_split.specs.Components.{Linked, here, on, AreComponents}
-use Rattle.dpl_spec_split.specs.Zones.{at, IsHorizontalZone, IsVerticalZone, IsKeptZone, transposed, transposed_rect, AreZones, part_at}
+use Rattle.dpl_spec_split.specs.Zones.{at, IsHorizontalZone, IsVerticalZone, IsKeptZone, transposed, transposed_rect, AreZones, AreSomeZones, part_at}
 use Rattle.dpl_spec_split.specs.Pieces.{without, AreSides}
 use Rattle.dpl_spec_split.proofs.SquareLaws.{Touch-from_close, Touch-sym}
 use Rattle.dpl_spec_split.proofs.ComponentLaws.{Linked-trans}
@@ -52,11 +52,11 @@ kept-one spacing overlap l f z w (inr (v, free)) (inl k) t = absurd (free w k (t
 kept-one spacing overlap l f z w (inr (v, free)) (inr (u, none)) t =
     ap transposed_rect (flat-one spacing overlap (transposed l) (transposed f) (transposed_rect z) (transposed_rect w) v u (touching-transposed z w t))
 
-pub stand-apart : (spacing : Spacing) (overlap : ℕ) (layer : List Rect) (features : List (List Rect)) (zones : List Zone) → AreZones spacing overlap (Covers layer) features zones
+pub stand-apart : (spacing : Spacing) (overlap : ℕ) (layer : List Rect) (features : List (List Rect)) (zones : List Zone) → AreSomeZones spacing overlap (Covers layer) features zones
     → (z w : Zone) → Contains zones z → Contains zones w → z.feature ≡ w.feature → AreTouching (Has z.rect) (Has w.rect) → z ≡ w
 stand-apart spacing overlap layer features zones zs z w z_in w_in same t =
-    let (n, kz) = (zs.exactly z).0 z_in in
-    let (m, kw) = (zs.exactly w).0 w_in in
+    let (n, kz) = zs.kept z z_in in
+    let (m, kw) = zs.kept w w_in in
     let kw' : IsKeptZone spacing overlap (Covers layer) (part_at features z.feature) w.rect = subst
     (λ k. IsKeptZone spacing overlap (Covers layer) (part_at features k) w.rect) (sym same) kw in
     same_zone z w (kept-one spacing overlap (Covers layer) (part_at features z.feature) z.rect w.rect kz kw' t) same
@@ -70,12 +70,12 @@ closed a parts k p q c k_in in_a has touch =
     (whole.2 p).1 (Linked-trans a linked (on q_in (Touch-sym p q touch) (here in_a)))
 
 module _ (spacing : Spacing) (overlap : ℕ) (layer : List Rect) (features pieces : List (List Rect)) (zones : List Zone) (some : 1 ≤ overlap) (c : AreComponents (Covers layer) features)
-    (zs : AreZones spacing overlap (Covers layer) features zones) (ps : AreComponents (without (Covers layer) zones) pieces) where
+    (zs : AreSomeZones spacing overlap (Covers layer) features zones) (ps : AreComponents (without (Covers layer) zones) pieces) where
   -- a zone with a square of a feature is a zone of that feature
   zone-of : (w : Zone) (k : ℕ) (p : Pt) → Contains zones w → k < length features → part_at features k p → Has w.rect p
       → IsKeptZone spacing overlap (Covers layer) (part_at features k) w.rect
   zone-of w k p w_in k_in in_k has =
-      let (m_in, kept_m) = (zs.exactly w).0 w_in in
+      let (m_in, kept_m) = zs.kept w w_in in
       let same : w.feature ≡ k = part-unique (Covers layer) features w.feature k p c m_in k_in
       (kept-inside spacing overlap (Covers layer) (part_at features w.feature) w.rect p kept_m has) in_k in
       subst (λ n. IsKeptZone spacing overlap (Covers layer) (part_at features n) w.rect) same kept_m
@@ -85,12 +85,12 @@ module _ (spacing : Spacing) (overlap : ℕ) (layer : List Rect) (features piece
 
   module _ (z : Zone) (z_in : Contains zones z) where
     feature_in : z.feature < length features
-    feature_in = ((zs.exactly z).0 z_in).0
+    feature_in = (zs.kept z z_in).0
 
     own : (p q : Pt) → without (Covers layer) zones p → Has z.rect q → Touch p q → part_at features z.feature p
     own p q rest has touch =
         closed (Covers layer) features z.feature p q c feature_in rest.0
-        (kept-inside spacing overlap (Covers layer) (part_at features z.feature) z.rect q ((zs.exactly z).0 z_in).1 has) touch
+        (kept-inside spacing overlap (Covers layer) (part_at features z.feature) z.rect q (zs.kept z z_in).1 has) touch
 
     not-in-zone : (p : Pt) → without (Covers layer) zones p → Has z.rect p → ⊥
     not-in-zone p rest has = let (n, n_in, n_is) = z_in in rest.1 (n, z, n_in, n_is, has)
@@ -237,7 +237,7 @@ module _ (spacing : Spacing) (overlap : ℕ) (layer : List Rect) (features piece
 
   pub two-sides : (z : Zone) → Contains zones z → HasTwoSides layer features pieces zones z
   two-sides z z_in =
-      let kept = ((zs.exactly z).0 z_in).1 in
+      let kept = (zs.kept z z_in).1 in
       let (side, are) = sides-some z z_in kept in
       let one = sides-unique spacing overlap (Covers layer) features pieces zones c zs ps in
       record {
@@ -261,13 +261,13 @@ near-transposed spacing a b = (
 pub squares-transposed : (p q : Pt) → d2 (at p.y p.x) (at q.y q.x) ≡ d2 p q
 squares-transposed = d2-transposed
 
-pub of-squares : (spacing : Spacing) (overlap : ℕ) (layer : List Rect) (features : List (List Rect)) (zones : List Zone) → SameSquares (union_of features) (Covers layer)
-    → AreZones spacing overlap (union_of features) features zones → AreZones spacing overlap (Covers layer) features zones
-of-squares spacing overlap layer features zones same zs =
+pub of-squares : (spacing : Spacing) (overlap : ℕ) (layer : List Rect) (features : List (List Rect)) (marked : List Rect) (zones : List Zone) → SameSquares (union_of features) (Covers layer)
+    → AreZones spacing overlap (union_of features) features (Covers marked) zones → AreZones spacing overlap (Covers layer) features (Covers marked) zones
+of-squares spacing overlap layer features marked zones same zs =
     record {
       ordered = zs.ordered;
       exactly = λ z. (
-        λ h. (let (k_in, kept) = (zs.exactly z).0 h in (k_in, kept-as spacing overlap (union_of features) (Covers layer) (part_at features z.feature) same z.rect kept)),
-        λ (k_in, kept). (zs.exactly z).1 (k_in, kept-as spacing overlap (Covers layer) (union_of features) (part_at features z.feature) (λ p. ((same p).1, (same p).0)) z.rect kept),
+        λ h. (let ((k_in, kept), free) = (zs.exactly z).0 h in ((k_in, kept-as spacing overlap (union_of features) (Covers layer) (part_at features z.feature) same z.rect kept), free)),
+        λ ((k_in, kept), free). (zs.exactly z).1 ((k_in, kept-as spacing overlap (Covers layer) (union_of features) (part_at features z.feature) (λ p. ((same p).1, (same p).0)) z.rect kept), free),
       );
     }

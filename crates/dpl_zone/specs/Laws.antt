@@ -7,13 +7,13 @@ use Rattle.dpl_spec_split.specs.declared.Rect.{Rect}
 use Rattle.dpl_spec_split.specs.declared.Zone.{Zone}
 use Rattle.dpl_spec_split.specs.Squares.{SameSquares, AreNear, AreTouching, Covers, Has, Touch, d2}
 use Rattle.dpl_spec_split.specs.Components.{AreComponents}
-use Rattle.dpl_spec_split.specs.Zones.{at, transposed, part_at, AreZones}
+use Rattle.dpl_spec_split.specs.Zones.{at, transposed, part_at, AreZones, AreSomeZones}
 use Rattle.dpl_spec_split.specs.Pieces.{without, IsFirstSide, IsSecondSide, AreSides}
 use Rattle.dpl_slabs.specs.Parts.{union_of}
 
 -- zones of one feature that touch are one
 abbrev pub ZonesStandApart : Type 0
-ZonesStandApart = (spacing : Spacing) (overlap : ℕ) (layer : List Rect) (features : List (List Rect)) (zones : List Zone) → AreZones spacing overlap (Covers layer) features zones
+ZonesStandApart = (spacing : Spacing) (overlap : ℕ) (layer : List Rect) (features : List (List Rect)) (zones : List Zone) → AreSomeZones spacing overlap (Covers layer) features zones
     → (z w : Zone) → Contains zones z → Contains zones w → z.feature ≡ w.feature → AreTouching (Has z.rect) (Has w.rect) → z ≡ w
 
 abbrev pub IsLeftOrBelow : Rect → Pt → Type 0
@@ -34,7 +34,7 @@ pub record HasTwoSides (layer : List Rect) (features pieces : List (List Rect)) 
 
 abbrev pub ZonesHaveTwoSides : Type 0
 ZonesHaveTwoSides = (spacing : Spacing) (overlap : ℕ) (layer : List Rect) (features pieces : List (List Rect)) (zones : List Zone) → 1 ≤ overlap → AreComponents (Covers layer) features
-    → AreZones spacing overlap (Covers layer) features zones → AreComponents (without (Covers layer) zones) pieces
+    → AreSomeZones spacing overlap (Covers layer) features zones → AreComponents (without (Covers layer) zones) pieces
     → (z : Zone) → Contains zones z → HasTwoSides layer features pieces zones z
 
 -- transposing keeps distance, and being near
@@ -44,5 +44,5 @@ pub record TransposingKeepsDistance : Type 0 where
 
 -- zones depend on the squares of the layer alone
 abbrev pub ZonesAreOfSquares : Type 0
-ZonesAreOfSquares = (spacing : Spacing) (overlap : ℕ) (layer : List Rect) (features : List (List Rect)) (zones : List Zone) → SameSquares (union_of features) (Covers layer)
-    → AreZones spacing overlap (union_of features) features zones → AreZones spacing overlap (Covers layer) features zones
+ZonesAreOfSquares = (spacing : Spacing) (overlap : ℕ) (layer : List Rect) (features : List (List Rect)) (marked : List Rect) (zones : List Zone) → SameSquares (union_of features) (Covers layer)
+    → AreZones spacing overlap (union_of features) features (Covers marked) zones → AreZones spacing overlap (Covers layer) features (Covers marked) zones

@@ -2,12 +2,14 @@
 ghost use Rattle.std.specs.Prelude.{◌≡◌, ◌<◌, ◌≤◌, ◌⊎◌, ◌↔◌, map, IfOk, OnOk, length};
 ghost use Rattle.std.specs.List.{Contains};
 ghost use Rattle.dpl_spec_split.specs.declared.Zone.{Zone};
+ghost use Rattle.dpl_spec_split.specs.Squares.{Covers};
 ghost use Rattle.dpl_slabs.specs.Parts.{AreParts, union_of};
 ghost use Rattle.dpl_spec_split.specs.Zones.{AreZones};
 ghost use Rattle.dpl_zone.specs.Layers.{IsPartZone};
 ghost use Rattle.dpl_tree.specs.Trees.{AreItemsOf, transposed_item};
 
 use crate::kept::kept_zones;
+use crate::marked::unmarked;
 use crate::order::{each_once, sort_zones};
 use dpl_base::{Spacing, Zone};
 use dpl_slabs::{Parts, Slabs};
@@ -67,19 +69,23 @@ fn found_zones(
     Ok(found)
 }
 
-/// The stitch zones of disjoint sets within a layer that has just their squares, by lowest row and then by leftmost column. A zone is `overlap` squares wide and lies in the middle of a straight stretch of squares that are near no square of another set: none is closer than the spacing's corner rule where columns and rows lie between the two, or else than its rule.
+/// The stitch zones of disjoint sets within a layer that has just their squares, by lowest row and then by leftmost column. A zone is `overlap` squares wide and lies in the middle of a straight stretch of squares that are near no square of another set: none is closer than the spacing's corner rule where columns and rows lie between the two, or else than its rule. A vertical zone that touches a horizontal one of its set is dropped, and then each zone with a marked square; so a vertical zone goes also where the horizontal one is marked.
+///
+/// The error: out of memory.
 pub fn zones(
     alloc: Global,
     parts: &Parts,
     spacing: Spacing,
     overlap: u32,
+    marked: &Slabs,
 ) -> Result<Vec<Zone>, AllocError>
     requires corner { spacing.corner ≤ spacing.rule }
     requires overlap { 1 ≤ overlap }
-    ensures { IfOk result (λ v. AreZones spacing overlap (union_of parts.now) parts.now v.items) }
+    ensures { IfOk result (λ v. AreZones spacing overlap (union_of parts.now) parts.now (Covers marked.now) v.items) }
 {
     let items = parts.items();
     let mut found = found_zones(alloc, items, spacing, overlap)?;
     sort_zones(&mut found);
-    each_once(alloc, &found)
+    let all = each_once(alloc, &found)?;
+    unmarked(alloc, all, marked)
 }

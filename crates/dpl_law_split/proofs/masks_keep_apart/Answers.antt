@@ -3,4 +3,4 @@ use Rattle.dpl_law_split.proofs.Apart.{far-on-a, far-on-b}
 use Rattle.dpl_law_split.proofs.masks_keep_apart.Goals as goal
 
 pub returns : goal.returns
-returns c = λ spacing overlap layer cut m is_cut are even. (far-on-a spacing overlap (Covers layer) cut m is_cut are even, far-on-b spacing overlap (Covers layer) cut m is_cut are even)
+returns c = λ marks spacing overlap layer cut m is_cut are even. (far-on-a marks spacing overlap (Covers layer) cut m is_cut are even, far-on-b marks spacing overlap (Covers layer) cut m is_cut are even)

@@ -3,4 +3,4 @@ use Rattle.dpl_law_split.proofs.Overlap.{overlap-at}
 use Rattle.dpl_law_split.proofs.masks_overlap_at_stitches.Goals as goal
 
 pub returns : goal.returns
-returns c = λ spacing overlap layer. overlap-at spacing overlap (Covers layer)
+returns c = λ marks spacing overlap layer. overlap-at marks spacing overlap (Covers layer)

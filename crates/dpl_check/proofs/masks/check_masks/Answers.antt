@@ -14,21 +14,21 @@ pub too_close-requires-2-clause-inside : goal.too_close-requires-2-clause-inside
 too_close-requires-2-clause-inside c = b-inside c.args.layer.now c.args.a.now c.args.b.now (rw c.in_default-2.is at c.in_ok-at.ensures)
 
 pub returns-then-items-head : goal.returns-then-items-head
-returns-then-items-head c =
-    subst (λ (x : Cert). IsVerdictOfMasks c.args.spacing c.args.overlap c.args.layer.now c.args.a.now c.args.b.now x c.in_ok-found.found) (sym c.in-Masks.is)
+returns-then-items-head c = λ marks are.
+    subst (λ (x : Cert). IsVerdictOfMasks marks c.args.spacing c.args.overlap c.args.layer.now c.args.a.now c.args.b.now x c.in_ok-found.found) (sym c.in-Masks.is)
     (inr (
       (λ differ. false≢true (c.if-rules_differ.ensures.1 differ)),
       inl (
         count-differs c.args.layer.now c.in_ok-features.features c.items.result.now c.in-Masks.head c.in_ok-features.ensures
             c.items.ensures.value c.if-items-head.true,
-        c.in_ok-found.ensures,
+        c.in_ok-found.ensures marks are,
       ),
     ))
 
 pub returns-in-Some : goal.returns-in-Some
-returns-in-Some c =
+returns-in-Some c = λ marks are.
     let found = rw c.in-Some.is at c.in_ok-at.ensures in
-    subst (λ (x : Cert). IsVerdictOfMasks c.args.spacing c.args.overlap c.args.layer.now c.args.a.now c.args.b.now x (Cover c.in-Some.at)) (sym c.in-Masks.is)
+    subst (λ (x : Cert). IsVerdictOfMasks marks c.args.spacing c.args.overlap c.args.layer.now c.args.a.now c.args.b.now x (Cover c.in-Some.at)) (sym c.in-Masks.is)
     (inr (
       (λ differ. false≢true (c.if-rules_differ.ensures.1 differ)),
       inr (
@@ -39,11 +39,11 @@ returns-in-Some c =
     ))
 
 pub returns-in-Some-2 : goal.returns-in-Some-2
-returns-in-Some-2 c =
+returns-in-Some-2 c = λ marks are.
     let cover = rw c.in_default-2.is at c.in_ok-at.ensures in
     let least = rw (c.in-Some-2.is, c.items-2.ensures) at c.in_ok-at-2.ensures in
     let found = least-doubled c.args.a.now c.args.b.now c.in_ok-both.both c.in-Masks.stitches (Some c.in-Some-2.at) c.in_ok-both.ensures least in
-    subst (λ (x : Cert). IsVerdictOfMasks c.args.spacing c.args.overlap c.args.layer.now c.args.a.now c.args.b.now x (Overlap c.in-Some-2.at)) (sym c.in-Masks.is)
+    subst (λ (x : Cert). IsVerdictOfMasks marks c.args.spacing c.args.overlap c.args.layer.now c.args.a.now c.args.b.now x (Overlap c.in-Some-2.at)) (sym c.in-Masks.is)
     (inr (
       (λ differ. false≢true (c.if-rules_differ.ensures.1 differ)),
       inr (
@@ -54,12 +54,12 @@ returns-in-Some-2 c =
     ))
 
 pub returns-in-Some-3 : goal.returns-in-Some-3
-returns-in-Some-3 c =
+returns-in-Some-3 c = λ marks are.
     let cover = rw c.in_default-2.is at c.in_ok-at.ensures in
     let unlisted = rw (c.in_default-3.is, c.items-2.ensures) at c.in_ok-at-2.ensures in
     let doubled = least-doubled c.args.a.now c.args.b.now c.in_ok-both.both c.in-Masks.stitches None c.in_ok-both.ensures unlisted in
     let found = rw c.in-Some-3.is at c.in_ok-first.ensures in
-    subst (λ (x : Cert). IsVerdictOfMasks c.args.spacing c.args.overlap c.args.layer.now c.args.a.now c.args.b.now x
+    subst (λ (x : Cert). IsVerdictOfMasks marks c.args.spacing c.args.overlap c.args.layer.now c.args.a.now c.args.b.now x
     (SpacingA c.in-Some-3.first c.in-Some-3.second)) (sym c.in-Masks.is)
     (inr (
       (λ differ. false≢true (c.if-rules_differ.ensures.1 differ)),
@@ -80,13 +80,13 @@ returns-in-Some-3 c =
     ))
 
 pub returns-in-Some-4 : goal.returns-in-Some-4
-returns-in-Some-4 c =
+returns-in-Some-4 c = λ marks are.
     let cover = rw c.in_default-2.is at c.in_ok-at.ensures in
     let unlisted = rw (c.in_default-3.is, c.items-2.ensures) at c.in_ok-at-2.ensures in
     let doubled = least-doubled c.args.a.now c.args.b.now c.in_ok-both.both c.in-Masks.stitches None c.in_ok-both.ensures unlisted in
     let tight_a = rw c.in_default-4.is at c.in_ok-first.ensures in
     let found = rw c.in-Some-4.is at c.in_ok-first-2.ensures in
-    subst (λ (x : Cert). IsVerdictOfMasks c.args.spacing c.args.overlap c.args.layer.now c.args.a.now c.args.b.now x
+    subst (λ (x : Cert). IsVerdictOfMasks marks c.args.spacing c.args.overlap c.args.layer.now c.args.a.now c.args.b.now x
     (SpacingB c.in-Some-4.first c.in-Some-4.second)) (sym c.in-Masks.is)
     (inr (
       (λ differ. false≢true (c.if-rules_differ.ensures.1 differ)),
@@ -110,7 +110,7 @@ returns-in-Some-4 c =
     ))
 
 pub returns-in-Some-5 : goal.returns-in-Some-5
-returns-in-Some-5 c =
+returns-in-Some-5 c = λ marks are.
     let cover = rw c.in_default-2.is at c.in_ok-at.ensures in
     let unlisted = rw (c.in_default-3.is, c.items-2.ensures) at c.in_ok-at-2.ensures in
     let doubled = least-doubled c.args.a.now c.args.b.now c.in_ok-both.both c.in-Masks.stitches None c.in_ok-both.ensures unlisted in
@@ -119,7 +119,7 @@ returns-in-Some-5 c =
     let first = rw (c.in-Some-5.is, c.items-3.ensures, c.items-4.ensures) at c.in_ok-index.ensures in
     let found = first-bad-stitch c.args.overlap c.args.a.now c.args.b.now c.in_ok-both.both c.in-Masks.pieces c.in_ok-both.ensures
     c.in-Masks.stitches (Some c.in-Some-5.index) first in
-    subst (λ (x : Cert). IsVerdictOfMasks c.args.spacing c.args.overlap c.args.layer.now c.args.a.now c.args.b.now x (Stitch c.in-Some-5.index)) (sym c.in-Masks.is)
+    subst (λ (x : Cert). IsVerdictOfMasks marks c.args.spacing c.args.overlap c.args.layer.now c.args.a.now c.args.b.now x (Stitch c.in-Some-5.index)) (sym c.in-Masks.is)
     (inr (
       (λ differ. false≢true (c.if-rules_differ.ensures.1 differ)),
       inr (
@@ -139,7 +139,7 @@ returns-in-Some-5 c =
     ))
 
 pub returns-in-Some-6 : goal.returns-in-Some-6
-returns-in-Some-6 c =
+returns-in-Some-6 c = λ marks are.
     let cover = rw c.in_default-2.is at c.in_ok-at.ensures in
     let unlisted = rw (c.in_default-3.is, c.items-2.ensures) at c.in_ok-at-2.ensures in
     let doubled = least-doubled c.args.a.now c.args.b.now c.in_ok-both.both c.in-Masks.stitches None c.in_ok-both.ensures unlisted in
@@ -148,7 +148,7 @@ returns-in-Some-6 c =
     let right = rw (c.in_default-6.is, c.items-3.ensures, c.items-4.ensures) at c.in_ok-index.ensures in
     let stitches = first-bad-stitch c.args.overlap c.args.a.now c.args.b.now c.in_ok-both.both c.in-Masks.pieces c.in_ok-both.ensures c.in-Masks.stitches None right in
     let found = rw (c.in-Some-6.is, c.items-5.ensures) at c.in_ok-index-2.ensures in
-    subst (λ (x : Cert). IsVerdictOfMasks c.args.spacing c.args.overlap c.args.layer.now c.args.a.now c.args.b.now x (Piece c.in-Some-6.index)) (sym c.in-Masks.is)
+    subst (λ (x : Cert). IsVerdictOfMasks marks c.args.spacing c.args.overlap c.args.layer.now c.args.a.now c.args.b.now x (Piece c.in-Some-6.index)) (sym c.in-Masks.is)
     (inr (
       (λ differ. false≢true (c.if-rules_differ.ensures.1 differ)),
       inr (
@@ -171,7 +171,7 @@ returns-in-Some-6 c =
     ))
 
 pub returns : goal.returns
-returns c =
+returns c = λ marks are.
     let cover = rw c.in_default-2.is at c.in_ok-at.ensures in
     let unlisted = rw (c.in_default-3.is, c.items-2.ensures) at c.in_ok-at-2.ensures in
     let doubled = least-doubled c.args.a.now c.args.b.now c.in_ok-both.both c.in-Masks.stitches None c.in_ok-both.ensures unlisted in
@@ -180,7 +180,7 @@ returns c =
     let right = rw (c.in_default-6.is, c.items-3.ensures, c.items-4.ensures) at c.in_ok-index.ensures in
     let stitches = first-bad-stitch c.args.overlap c.args.a.now c.args.b.now c.in_ok-both.both c.in-Masks.pieces c.in_ok-both.ensures c.in-Masks.stitches None right in
     let letters = rw (c.in_default-7.is, c.items-5.ensures) at c.in_ok-index-2.ensures in
-    subst (λ (x : Cert). IsVerdictOfMasks c.args.spacing c.args.overlap c.args.layer.now c.args.a.now c.args.b.now x Valid) (sym c.in-Masks.is)
+    subst (λ (x : Cert). IsVerdictOfMasks marks c.args.spacing c.args.overlap c.args.layer.now c.args.a.now c.args.b.now x Valid) (sym c.in-Masks.is)
     (inr (
       (λ differ. false≢true (c.if-rules_differ.ensures.1 differ)),
       inr (

@@ -1,4 +1,5 @@
 use Rattle.std.proofs.Common.{rules, arith}
+use Rattle.std.proofs.lemmas.Result.{IfOk-weaker}
 use Rattle.dpl_check.proofs.Owning.{owns-none, owns-more, owns-all}
 use Rattle.dpl_check.proofs.spacing.owned_tree.Goals as goal
 
@@ -10,4 +11,4 @@ loop-i-preserved c = owns-more c.args.rects.now c.args.owners.now c.loop-i.i _ _
     (search rules) c.loop-i.invariant c.in_ok-add.ensures
 
 pub returns : goal.returns
-returns c = owns-all c.args.rects.now c.args.owners.now c.loop-i.i _ c.in_ok-tree.tree (omega arith) c.loop-i.invariant c.in_ok-tree.ensures
+returns c = IfOk-weaker c.of.result _ _ (λ t h. owns-all c.args.rects.now c.args.owners.now c.loop-i.i _ t (omega arith) c.loop-i.invariant h) c.of.ensures

@@ -1,4 +1,5 @@
 use Rattle.std.proofs.Common.{rules}
+use Rattle.std.proofs.lemmas.Result.{IfOk-weaker}
 use Rattle.dpl_nearest.proofs.UnitLaws.{unit_fits}
 use Rattle.dpl_check.proofs.Owning.{single-are}
 use Rattle.dpl_check.proofs.spacing.single_tree.Goals as goal
@@ -11,4 +12,4 @@ unreachable-requires c =
 pub returns : goal.returns
 returns c =
     let square = rw c.in-Some.is at c.unit.ensures.some in
-    single-are c.args.p c.in-Some.square c.args.owner _ _ c.in_ok-tree.tree square c.new-items.ensures c.in_ok-add.ensures c.in_ok-tree.ensures
+    IfOk-weaker c.of.result _ _ (λ t h. single-are c.args.p c.in-Some.square c.args.owner _ _ t square c.new-items.ensures c.in_ok-add.ensures h) c.of.ensures

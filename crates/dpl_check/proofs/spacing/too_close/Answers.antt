@@ -1,4 +1,5 @@
 use Rattle.std.proofs.Common.{sym}
+use Rattle.std.proofs.lemmas.Result.{IfOk-weaker}
 use Rattle.dpl_spec_split.specs.Squares.{Covers}
 use Rattle.dpl_tree.specs.declared.owners.Owners.TheVariants.{Only}
 use Rattle.dpl_nearest.specs.Search.{ItemCovers}
@@ -35,7 +36,8 @@ pub returns : goal.returns
 returns c =
     let are = rw c.items.ensures.value at c.in_ok-tree.ensures in
     let own = rw c.rects-rects.ensures.value at c.in_ok-owners.ensures in
-    let found = rw (c.deref.ensures.value, c.rects-rects.ensures.value) at c.in_ok-found.ensures in
-    pair-same (AreForeign c.args.spacing c.args.mask.now c.in_ok-owners.owners.items) (AreTooClose c.args.spacing (Covers c.args.layer.now) (Covers c.args.mask.now)) c.in_ok-found.found
+    let pair = rw (c.deref.ensures.value, c.rects-rects.ensures.value) at c.foreign_pair.ensures in
+    IfOk-weaker c.foreign_pair.result _ _ (λ found h. pair-same (AreForeign c.args.spacing c.args.mask.now c.in_ok-owners.owners.items)
+    (AreTooClose c.args.spacing (Covers c.args.layer.now) (Covers c.args.mask.now)) found
     (foreign-close c.args.layer.now c.args.features.now c.in_ok-tree.tree c.args.mask.now c.requires.features are
-    c.rects-rects.ensures.canonical.solid c.requires.inside c.in_ok-owners.owners.items own c.args.spacing) found
+    c.rects-rects.ensures.canonical.solid c.requires.inside c.in_ok-owners.owners.items own c.args.spacing) h) pair

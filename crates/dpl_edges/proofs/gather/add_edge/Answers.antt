@@ -1,6 +1,5 @@
 use Rattle.std.proofs.Common.{refl}
-use Rattle.std.proofs.lemmas.Bool.{false≢true}
-use Rattle.dpl_edges.proofs.Gathering.{edge-none, edge-push}
+use Rattle.dpl_edges.proofs.Gathering.{edge-push}
 use Rattle.dpl_edges.proofs.gather.add_edge.Goals as goal
 
 pub returns : goal.returns

@@ -1,5 +1,7 @@
 use Rattle.std.proofs.Common.{subst, List, ℕ}
 use Rattle.std.proofs.lemmas.Result.{IfOk-weaker}
+use Rattle.std.specs.Prelude.{None}
+use Rattle.dpl_spec_split.proofs.MarkLaws.{none-fixed}
 use Rattle.dpl_words.specs.Meaning.{check_view}
 use Rattle.dpl_run.specs.Check.{mask_choice}
 use Rattle.dpl_layer.specs.Reading.{Choice, Faulty, IsLayout, Layer}
@@ -48,7 +50,7 @@ returns c =
     (λ (h : Choice). IsLayout h bytes (Layer a.copied.items a.slabs)) c.mask_choice.ensures read in
     let second : IsLayout (mask_choice v.b) bytes (Layer b.copied.items b.slabs) = subst
     (λ (h : Choice). IsLayout h bytes (Layer b.copied.items b.slabs)) c.mask_choice-2.ensures c.in-Ok-layer_of.ensures.layer in
-    let said = rw c.uniform-spacing.ensures at c.in_ok-verdict.ensures in
+    let said = rw c.uniform-spacing.ensures at (c.in_ok-verdict.ensures None (none-fixed c.empty-no_marks.result c.empty-no_marks.result c.empty-no_marks.ensures c.empty-no_marks.ensures)) in
     IfOk-weaker c.judged.result _ _
     (λ x h. masks_judged v c.args.layer.now c.args.cert.now bytes a.copied.items b.copied.items a.slabs b.slabs c.in_ok-verdict.verdict
     (output_view x) c.requires.size first second said h) c.judged.ensures

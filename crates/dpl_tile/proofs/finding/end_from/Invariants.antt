@@ -1,4 +1,4 @@
-use Rattle.std.proofs.Common.{◌≡◌, ℕ, ◌<◌, ◌≤◌, length, get_or}
+use Rattle.std.proofs.Common.{◌≡◌, ℕ, ◌<◌, ◌≤◌, get_or}
 use Rattle.dpl_tile.specs.declared.meetings.Meeting.{Meeting}
 use Rattle.dpl_tile.proofs.finding.end_from.Given as goal
 

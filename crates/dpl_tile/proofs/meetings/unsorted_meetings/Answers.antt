@@ -1,20 +1,21 @@
 use Rattle.std.proofs.Common.{arith}
-use Rattle.std.proofs.lemmas.List.Elements.{Contains-get_or}
-use Rattle.dpl_tile.specs.Meetings.{IsMeetingOf}
-use Rattle.dpl_tile.proofs.Loops.{each-all, each-next, each-none}
-use Rattle.dpl_tile.proofs.MeetingLaws.{all-meetings}
+use Rattle.dpl_tile.proofs.Adding.{adds-none}
+use Rattle.dpl_tile.proofs.MeetingLaws.{IsMeetingIn, all-meetings, strip-pairs, strips-more}
 use Rattle.dpl_tile.proofs.meetings.unsorted_meetings.Goals as goal
 
-pub loop-pair-init : goal.loop-pair-init
-loop-pair-init c = each-none (IsMeetingOf c.args.spacing c.args.owners.now c.args.grid.now c.args.items.now) c.args.pairs.now _
+pub loop-strip-init : goal.loop-strip-init
+loop-strip-init c = adds-none (IsMeetingIn c.args.spacing c.args.owners.now c.args.grid.now c.args.join.now) 0 _ (λ m e l k. omega (arith, l))
 
-pub add_pair-requires-clause-pair : goal.add_pair-requires-clause-pair
-add_pair-requires-clause-pair c = (c.requires.pairs.all _).0 (Contains-get_or c.args.pairs.now c.loop-pair.pair-index _ c.loop-pair-test.true)
+pub add_pairs-requires-clause-pairs : goal.add_pairs-requires-clause-pairs
+add_pairs-requires-clause-pairs c = rw (c.items-items.ensures, c.as_slice.ensures.value) (strip-pairs c.args.spacing c.args.join.now c.loop-strip.strip c.in_ok-pairs.pairs.items c.requires.rule c.in_ok-pairs.ensures)
 
-pub loop-pair-preserved : goal.loop-pair-preserved
-loop-pair-preserved c = each-next (IsMeetingOf c.args.spacing c.args.owners.now c.args.grid.now c.args.items.now) c.args.pairs.now c.loop-pair.pair-index _ _ c.loop-pair.meetings.items _
-    c.loop-pair-test.true c.loop-pair.invariant c.in_ok-add_pair.ensures
+pub loop-strip-preserved : goal.loop-strip-preserved
+loop-strip-preserved c = strips-more c.args.spacing c.args.owners.now c.args.grid.now c.args.join.now c.loop-strip.strip c.in_ok-pairs.pairs.items _ c.loop-strip.meetings.items _
+    c.requires.rule c.in_ok-pairs.ensures c.loop-strip.invariant (rw (c.items-items.ensures, c.as_slice.ensures.value) at c.in_ok-add_pairs.ensures)
 
 pub returns : goal.returns
-returns c = all-meetings c.args.spacing c.args.owners.now c.args.grid.now c.args.items.now c.args.pairs.now _ c.loop-pair.meetings.items c.requires.pairs c.new-meetings.ensures.items
-    (each-all (IsMeetingOf c.args.spacing c.args.owners.now c.args.grid.now c.args.items.now) c.args.pairs.now c.loop-pair.pair-index _ c.loop-pair.meetings.items (omega arith) c.loop-pair.invariant)
+returns c =
+    let end = c.loop-strip-test.false in
+    let count = c.strips-count.ensures.count in
+    all-meetings c.args.spacing c.args.owners.now c.args.grid.now c.args.join.now c.loop-strip.strip _ c.loop-strip.meetings.items c.strips-count.ensures.homes (omega (arith, end, count))
+    c.requires.rule c.new-meetings.ensures.items c.loop-strip.invariant

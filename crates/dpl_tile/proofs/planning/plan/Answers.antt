@@ -7,18 +7,18 @@ pub meetings_of-requires-clause-over : goal.meetings_of-requires-clause-over
 meetings_of-requires-clause-over c =
     let laid = rw c.items.ensures.value at c.in_ok-laid.ensures in
     let are : AreItemsOf c.args.parts.now c.in_ok-items.items.items = rw c.items-2.ensures.value at c.in_ok-items.ensures in
-    rw (c.deref.ensures.value, c.into_items-items.ensures, c.in_ok-join.ensures.items) (items-over c.in_ok-laid.laid.grid c.args.parts.now c.in_ok-items.items.items are laid.over)
+    rw c.in_ok-join.ensures.items (items-over c.in_ok-laid.laid.grid c.args.parts.now c.in_ok-items.items.items are laid.over)
 
 pub meetings_of-requires-clause-owned : goal.meetings_of-requires-clause-owned
 meetings_of-requires-clause-owned c =
     let are : AreItemsOf c.args.parts.now c.in_ok-items.items.items = rw c.items-2.ensures.value at c.in_ok-items.ensures in
-    rw (c.deref.ensures.value, c.into_items-items.ensures, c.in_ok-join.ensures.items) (items-owned c.args.parts.now c.args.owner.now c.in_ok-items.items.items c.requires.owners are)
+    rw c.in_ok-join.ensures.items (items-owned c.args.parts.now c.args.owner.now c.in_ok-items.items.items c.requires.owners are)
 
 pub invariant_of-result : goal.invariant_of-result
 invariant_of-result c =
     let laid = rw c.items.ensures.value at c.in_ok-laid.ensures in
     let are : AreItemsOf c.args.parts.now c.in_ok-items.items.items = rw c.items-2.ensures.value at c.in_ok-items.ensures in
-    let met = rw (c.deref.ensures.value, c.into_items-items.ensures, c.in_ok-join.ensures.items) at c.in_ok-meetings.ensures in
+    let met = rw c.in_ok-join.ensures.items at c.in_ok-meetings.ensures in
     rw (c.into_items-items.ensures, c.in_ok-join.ensures.items)
     (record {
       owned = c.requires.owners;

@@ -1,4 +1,4 @@
-use Rattle.std.proofs.Common.{ap, subst}
+use Rattle.std.proofs.Common.{subst}
 use Rattle.dpl_tile.specs.Meetings.{AreItemsOf}
 use Rattle.dpl_tile.specs.Plans.{Planned}
 use Rattle.dpl_tile.proofs.plans.Plan.items.Goals as goal

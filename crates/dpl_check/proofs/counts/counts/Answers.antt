@@ -1,0 +1,10 @@
+use Rattle.std.proofs.Common.{sym, refl, length}
+use Rattle.dpl_cut.specs.Cutting.{cut_view}
+use Rattle.dpl_check.proofs.Counting.{marked-united}
+use Rattle.dpl_check.proofs.counts.counts.Goals as goal
+
+pub returns : goal.returns
+returns c = λ marks are.
+    let (features, many, is) = c.in_ok-cut.ensures marks (marked-united _ _ _ marks c.in_ok-marked.ensures are) in
+    let cut = cut_view features c.in_ok-cut.cut.pieces in
+    (c.in_ok-cut.cut.features, length cut.pieces, length cut.zones, (cut, is, sym many, refl, refl), c.counts_of.ensures)

@@ -1,0 +1,102 @@
+//! Worked layouts with squares that are fixed to a mask.
+use crate::bars::{Corners, SPACING, set_of};
+use crate::zones::are_zones;
+use dpl_base::Edge;
+use dpl_edges::{mark_edges, shifted};
+use dpl_feature::features;
+use dpl_slabs::Slabs;
+use dpl_zone::zones;
+use std::alloc::{AllocError, Global};
+use std::test::Fail;
+
+/// Bars with one zone, in the columns from 74 on, between the upper two.
+const BARS: [Corners; 3] = [(0, 0, 158, 20), (0, 40, 50, 60), (108, 40, 158, 60)];
+
+const ZONE: (Corners, u64) = ((74, 0, 84, 20), 0);
+
+/// A square with neighbours at two corners: of its two zones, one across the other, the vertical one is dropped.
+const CROSSED: [Corners; 3] = [(0, 0, 20, 20), (-10, -10, 0, 0), (20, 20, 30, 30)];
+
+/// One bar, and two, one above the other.
+const ONE: [Corners; 1] = [(0, 0, 100, 20)];
+
+const TWO: [Corners; 2] = [(0, 0, 100, 20), (0, 49, 100, 69)];
+
+/// Whether a layout has just these zones where these squares are marked.
+fn leaves(
+    alloc: Global,
+    rects: &[Corners],
+    marks: &[Corners],
+    want: &[(Corners, u64)],
+) -> Result<bool, AllocError> {
+    let set = set_of(alloc, rects)?;
+    let marked = set_of(alloc, marks)?;
+    let parts = features(alloc, &set)?;
+    let found = zones(alloc, &parts, SPACING, 10, &marked)?;
+    Ok(are_zones(found.as_slice(), want))
+}
+
+#[test]
+fn marked_zones_are_dropped(rt: HostRuntime) -> Result<(), Fail> {
+    let alloc = rt.alloc();
+    assert!(rt; leaves(alloc, &BARS, &[], &[ZONE])?);
+    // a square of the zone, and squares beside it, below it and of other features
+    assert!(rt; leaves(alloc, &BARS, &[(80, 5, 81, 6)], &[])?);
+    assert!(rt;
+        leaves(
+            alloc,
+            &BARS,
+            &[
+                (73, 0, 74, 20),
+                (84, 0, 85, 20),
+                (74, -1, 84, 0),
+                (0, 40, 9, 60)
+            ],
+            &[ZONE]
+        )?
+    );
+    // a vertical zone that touches a marked horizontal one goes with it
+    assert!(rt; leaves(alloc, &CROSSED, &[], &[((5, 0, 15, 20), 0)])?);
+    assert!(rt; leaves(alloc, &CROSSED, &[(5, 0, 6, 1)], &[])?);
+    Ok(())
+}
+
+/// Whether bars, each a piece, have just these edges of marks.
+fn joins(
+    alloc: Global,
+    bars: &[Corners],
+    a: &[Corners],
+    b: &[Corners],
+    want: &[Edge],
+) -> Result<bool, AllocError> {
+    let set = set_of(alloc, bars)?;
+    let pieces = features(alloc, &set)?;
+    let on_a = set_of(alloc, a)?;
+    let on_b = set_of(alloc, b)?;
+    let edges = mark_edges(alloc, &pieces, &on_a, &on_b)?;
+    Ok(edges.as_slice() == want)
+}
+
+#[test]
+fn marks_join_pieces_to_the_other_anchor(rt: HostRuntime) -> Result<(), Fail> {
+    let alloc = rt.alloc();
+    let first = [(0, 0, 1, 1)];
+    let both = [(0, 0, 1, 1), (0, 49, 1, 50)];
+    assert!(rt; joins(alloc, &TWO, &[], &[], &[(0, 1)])?);
+    assert!(rt; joins(alloc, &TWO, &[], &[(0, 50, 1, 51)], &[(0, 1), (0, 3)])?);
+    assert!(rt; joins(alloc, &TWO, &both, &[], &[(0, 1), (1, 2), (1, 3)])?);
+    assert!(rt; joins(alloc, &ONE, &first, &first, &[(0, 1), (0, 2), (1, 2)])?);
+    // marks beside the bars fix nothing
+    assert!(rt;
+        joins(
+            alloc,
+            &TWO,
+            &[(0, 20, 1, 21)],
+            &[(100, 0, 101, 20)],
+            &[(0, 1)]
+        )?
+    );
+    let moved = shifted(alloc, &[(0, 1), (0, 5)])?;
+    assert!(rt; moved.as_slice() == [(2, 3), (2, 7)].as_slice());
+    Ok(())
+}

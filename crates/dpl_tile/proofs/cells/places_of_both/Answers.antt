@@ -1,0 +1,9 @@
+use Rattle.dpl_tile.specs.Kept.{IsMet}
+use Rattle.dpl_tile.proofs.Loops.{block-adds, both-added}
+use Rattle.dpl_tile.proofs.cells.places_of_both.Goals as goal
+
+pub returns : goal.returns
+returns c = both-added (IsMet c.args.grid.now c.args.r.now) (IsMet c.args.grid.now c.args.s.now) _ _ _ _ c.new-places.ensures.items
+    (block-adds c.args.grid.now c.args.r.now c.block-one.result _ _ c.block-one.ensures.value c.in_ok-add_block.ensures.added)
+    (block-adds c.args.grid.now c.args.s.now c.block-other.result _ _ c.block-other.ensures.value c.in_ok-add_block-2.ensures.added)
+    c.put_in_order.ensures.members
