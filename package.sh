@@ -76,7 +76,7 @@ chmod 755 "$tree/bin/dpl" "$tree/bin/dplview" "$tree/share/dpl/klayout/markers.p
 said=$("$tree/bin/dpl" split --layer 1 --rule 30 --overlap 10 "$top/examples/two-bars.gds" "$work/out" "$work/cert")
 [ "$said" = "done features 2 pieces 2 zones 0 stitches 0 a 1 b 1" ] || fail "$program said of an example: $said"
 said=$("$tree/bin/dplview" conflicts --layer 1 --rule 30 --overlap 10 "$top/examples/two-bars.gds")
-[ "$said" = "conflicts cycles 0 pieces 0" ] || fail "$view said of an example: $said"
+[ "$said" = "conflicts cycles 0 pieces 0 edges 0" ] || fail "$view said of an example: $said"
 [ "$("$tree/bin/dplview" --version)" = "dplview $version" ] || fail "$view has another version than the file VERSION"
 
 name=dpl-$version-$machine

@@ -9,9 +9,13 @@ use Rattle.dpl_spec_layout.specs.Placements.{Step, IsPlacement}
 use Rattle.dpl_spec_layout.specs.Points.{placed_points}
 use Rattle.dpl_links.specs.Graph.{IsMarked}
 
--- one more than a layer may have
+-- where counts stop: more than a layer may have
 abbrev pub ceiling : ℕ
-ceiling = 16777217
+ceiling = 4294967295
+
+-- how many points of a layer structure k places, up to the ceiling
+abbrev pub capped_points : Library → ℕ → Layer → ℕ
+capped_points lib k layer = min (placed_points lib layer k) ceiling
 
 -- nothing that structure k places draws a loop
 abbrev pub IsBare : Library → Layer → ℕ → Type 0

@@ -16,8 +16,8 @@ use dpl_spec_layout::Layer;
 use dpl_syntax::{Body, Element, Library};
 use std::alloc::{AllocError, Global};
 
-/// One more than the most points that a layer may have. Counts stop there.
-const CEILING: u64 = 16_777_217;
+/// Counts stop there, past the most points that a layer may have.
+const CEILING: u64 = 4_294_967_295;
 
 /// How many points an element counts on the chosen layer.
 fn own_points(chosen: Layer, body: &Body<'_>) -> u64
@@ -48,7 +48,7 @@ fn copy_count(body: &Body<'_>) -> u64
 fn element_points(lib: &Library<'_>, chosen: Layer, element: &Element<'_>, totals: &[u32]) -> u64
     requires { All (λ n. n ≤ ceiling) totals.now }
     ensures value { result ≡ points_by lib.now chosen (λ j. slice_index totals.now j) (element_seen element.now) }
-    ensures small { result < 2 ^ 62 }
+    ensures small { result < 2 ^ 63 }
 {
     let own = own_points(chosen, &element.body);
     let below = match target(lib, element) {

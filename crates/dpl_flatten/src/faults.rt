@@ -2,6 +2,7 @@
 
 ghost use Rattle.std.specs.Prelude.{◌≡◌, ◌<◌, ◌^◌, length, IfOk, IfErr, OnOk};
 ghost use Rattle.dpl_spec_layout.specs.Faults.{IsFirst, IsFirstFault, IsNowhere, IsMissing, IsOnCycle, IsWhole, IsSound, IsSmall};
+ghost use Rattle.dpl_spec_layout.specs.declared.Layer.{Layer as ChosenLayer};
 ghost use Rattle.dpl_links.specs.Graph.{AreReached};
 ghost use Rattle.dpl_links.specs.Order.{HasCycle};
 ghost use Rattle.dpl_flatten.specs.Links.{IsLinked, IsOrdered};
@@ -19,18 +20,17 @@ use std::alloc::{AllocError, Global};
 /// The most points that a layer may have.
 const MOST_POINTS: u32 = 16_777_216;
 
-/// Refuses a layout in which a reference names no structure.
-fn find_missing(
+/// Refuses a layout in which a reference names no structure, whatever the layer.
+pub(crate) fn find_missing(
     alloc: Global,
     lib: &Library<'_>,
     top: u32,
-    layer: Layer,
     links: &ReachedGraph<'_>,
 ) -> Result<(), FlattenFault>
     requires links { IsLinked lib.now links.now.graph.now links.now.marks.now }
     requires reached { AreReached links.now.graph.now top links.now.marks.now }
     ensures complete { OnOk result (IsNowhere lib.now top (IsMissing lib.now)) }
-    ensures fault { IfErr result (λ f. IsFirstFault lib.now top layer f) }
+    ensures fault { IfErr result (λ f. (layer : ChosenLayer) → IsFirstFault lib.now top layer f) }
 {
     let found = first(alloc, lib, links, Wanted::Missing)?;
     match found {
@@ -60,12 +60,11 @@ fn recursive_at(
     }
 }
 
-/// Refuses a layout in which a reference lies on a cycle; else gives the structures in an order in which every reference leads back.
-fn find_recursion(
+/// Refuses a layout in which a reference lies on a cycle, whatever the layer; else gives the structures in an order in which every reference leads back.
+pub(crate) fn find_recursion(
     alloc: Global,
     lib: &Library<'_>,
     top: u32,
-    layer: Layer,
     links: &ReachedGraph<'_>,
 ) -> Result<Order, FlattenFault>
     requires links { IsLinked lib.now links.now.graph.now links.now.marks.now }
@@ -75,7 +74,7 @@ fn find_recursion(
     requires complete { IsNowhere lib.now top (IsMissing lib.now) }
     ensures whole { OnOk result (IsWhole lib.now top) }
     ensures order { IfOk result (λ o. IsOrdered lib.now links.now.graph.now links.now.marks.now o.levels.items o.vertices.items) }
-    ensures fault { IfErr result (λ f. IsFirstFault lib.now top layer f) }
+    ensures fault { IfErr result (λ f. (layer : ChosenLayer) → IsFirstFault lib.now top layer f) }
 {
     let order = find_order(alloc, links.graph, top)?;
     match order {
@@ -162,8 +161,8 @@ pub(crate) fn find_faults(
     ensures totals { IfOk result (λ s. AreTotals lib.now layer links.now.marks.now s.totals.items) }
     ensures fault { IfErr result (λ f. IsFirstFault lib.now top layer f) }
 {
-    find_missing(alloc, lib, top, layer, links)?;
-    let order = find_recursion(alloc, lib, top, layer, links)?;
+    find_missing(alloc, lib, top, links)?;
+    let order = find_recursion(alloc, lib, top, links)?;
     find_refused(alloc, lib, top, layer, links)?;
     let totals = find_many(alloc, lib, top, layer, links, &order)?;
     Ok(Survey { order, totals })

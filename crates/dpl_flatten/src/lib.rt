@@ -22,6 +22,7 @@ mod faults;
 mod first;
 mod links;
 mod missing;
+mod placed;
 mod recursion;
 mod refused;
 mod role;
@@ -29,7 +30,8 @@ mod shapes;
 mod top;
 
 pub use crate::drawing::Drawing;
-pub use crate::top::top_of;
+pub use crate::placed::count_points;
+pub use crate::top::{roots, top_of};
 pub use dpl_spec_layout::{ElementFault, FlattenFault, Layer, PathFault, TopFault};
 use dpl_syntax::Library;
 use std::alloc::Global;

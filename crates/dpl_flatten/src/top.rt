@@ -22,8 +22,8 @@ fn named_top(lib: &Library<'_>, name: &str) -> Result<u32, TopFault>
     }
 }
 
-/// The structures that no reference names.
-fn roots(alloc: Global, lib: &Library<'_>) -> Result<Vec<u32>, AllocError>
+/// The numbers of the structures that no reference names, in the order of the file.
+pub fn roots(alloc: Global, lib: &Library<'_>) -> Result<Vec<u32>, AllocError>
     ensures { IfOk result (λ v. AreRoots lib.now v.items) }
 {
     let graph = graph_of(alloc, lib)?;

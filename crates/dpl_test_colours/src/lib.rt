@@ -8,6 +8,8 @@ mod boards;
 #[cfg(test)]
 mod colours;
 #[cfg(test)]
+mod components;
+#[cfg(test)]
 mod cycles;
 #[cfg(test)]
 mod hands;

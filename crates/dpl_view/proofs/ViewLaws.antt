@@ -1,6 +1,6 @@
 -- From the odd cycles of the edges to those of the conflict graph.
-use Rattle.std.proofs.Common.{◌≡◌, ◌+◌, ◌<◌, ℕ, List, [], ◌∷◌, ◌++◌, take, length, get_or, sym, refl, ap, subst, ◌∙◌, arith}
-use Rattle.std.specs.List.{All, AllZip, Contains}
+use Rattle.std.proofs.Common.{◌≡◌, ◌+◌, ◌<◌, ℕ, List, [], ◌∷◌, ◌++◌, take, length, get_or, sym, refl, subst, arith}
+use Rattle.std.specs.List.{All, AllZip}
 use Rattle.std.proofs.lemmas.List.{take_more}
 use Rattle.dpl_spec_split.specs.declared.Spacing.{Spacing}
 use Rattle.dpl_spec_split.specs.Graphs.{Graph, AreEdges, IsOddCycle, graph_of}
@@ -19,7 +19,7 @@ use Rattle.dpl_view.specs.Clashes.{AreClashes, IsToldOf}
 cycle_same : (g h : Graph) → SameEdges g h → (c : List ℕ) → IsOddCycle g c → IsOddCycle h c
 cycle_same g h same c is = record { three = is.three; odd = is.odd; different = is.different; around = λ k l. (same _ _).0 (is.around k l) }
 
-odd_at_same : (g h : Graph) → SameEdges g h → (root : ℕ) → HasOddCycleAt g root → HasOddCycleAt h root
+pub odd_at_same : (g h : Graph) → SameEdges g h → (root : ℕ) → HasOddCycleAt g root → HasOddCycleAt h root
 odd_at_same g h same root (c, is, reached) = (c, cycle_same g h same c is, λ k d l. let (n, w) = reached k d l in (n, walk_same g h same w))
 
 reported_at_same : (g h : Graph) → SameEdges g h → (root : ℕ) (c : List ℕ) → IsReportedAt g root c → IsReportedAt h root c
@@ -61,18 +61,19 @@ no_cycles g none = record {
   reported = λ k l. absurd (omega (arith, l));
 }
 
-pub even_clashes : (spacing : Spacing) (overlap : ℕ) (cut : Cut) (joined : Joined) → SumsGraph (conflicts spacing cut) joined → IsEvenBelow (length cut.pieces) joined
-    → (found : List Clash) → found ≡ [] → AreClashes spacing overlap cut found
-even_clashes spacing overlap cut joined (edges, are, sums) even found empty =
+pub even_none : (spacing : Spacing) (cut : Cut) (joined : Joined) → SumsGraph (conflicts spacing cut) joined → IsEvenBelow (length cut.pieces) joined
+    → ¬ HasOddCycle (conflicts spacing cut)
+even_none spacing cut joined (edges, are, sums) even odd =
     let same = same_conflicts spacing cut edges are in
-    let none : ¬ HasOddCycle (conflicts spacing cut) = λ odd. not_odd (length cut.pieces) edges joined even sums
-    (odd_same (conflicts spacing cut) (graph_of edges) (same_back (graph_of edges) (conflicts spacing cut) same) odd) in
-    subst (λ xs. AreClashes spacing overlap cut xs) (sym empty) (record {
-      cycles = [];
-      all = no_cycles (conflicts spacing cut) none;
-      odd = λ k d l. absurd (omega (arith, l));
-      told = tt;
-    })
+    not_odd (length cut.pieces) edges joined even sums (odd_same (conflicts spacing cut) (graph_of edges) (same_back (graph_of edges) (conflicts spacing cut) same) odd)
+
+pub even_clashes : (spacing : Spacing) (overlap : ℕ) (cut : Cut) → ¬ HasOddCycle (conflicts spacing cut) → (found : List Clash) → found ≡ [] → AreClashes spacing overlap cut found
+even_clashes spacing overlap cut none found empty = subst (λ xs. AreClashes spacing overlap cut xs) (sym empty) (record {
+  cycles = [];
+  all = no_cycles (conflicts spacing cut) none;
+  odd = λ k d l. absurd (omega (arith, l));
+  told = tt;
+})
 
 pub odd_each : (spacing : Spacing) (cut : Cut) (edges : List (ℕ × ℕ)) (cycles : List (List ℕ)) → AreEdges (conflicts spacing cut) edges → All (IsOddCycle (graph_of edges)) cycles
     → All (IsOddCycle (conflicts spacing cut)) cycles

@@ -1,2 +1,8 @@
 pub mod Clashes
+pub mod Contents
 pub mod Findings
+pub mod Layers
+pub mod Marks
+pub mod Ranks
+pub mod Requests
+pub mod Stitches

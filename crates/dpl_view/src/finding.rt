@@ -4,8 +4,8 @@ ghost use Rattle.dpl_layer.specs.Reading.{limit};
 ghost use Rattle.dpl_layer.specs.View.{choice_view};
 ghost use Rattle.dpl_view.specs.Findings.{IsFinding, IsInRange};
 
-use crate::clashes::clashes_of;
-use dpl_answer::{Clash, Sharing, conflicts_of};
+use crate::clashes::{Tangles, clashes_of};
+use dpl_answer::{Sharing, conflicts_of};
 use dpl_base::Spacing;
 use dpl_cert::Name;
 use dpl_cut::cut_of;
@@ -34,8 +34,8 @@ pub struct Order<'a> {
 pub struct Cycles {
     /// The records of the file before the elements of the top structure.
     pub copied: Vec<u8>,
-    /// One for each component of the conflict graph that has an odd cycle, in the order of their least pieces.
-    pub clashes: Vec<Clash>,
+    /// The components of the conflict graph that have an odd cycle.
+    pub tangles: Tangles,
 }
 
 /// What is found in a layout.
@@ -70,6 +70,6 @@ pub fn find<R: Threads + Wait + Sync, G: Gate + Sync>(
     let no_marks = Slabs::empty(alloc);
     let cut = cut_of(alloc, slabs, spacing, order.overlap, &no_marks)?;
     let conflicts = conflicts_of(rt, alloc, &cut, spacing, order.sharing, gate)?;
-    let clashes = clashes_of(alloc, cut, &conflicts, spacing, order.overlap)?;
-    Ok(Finding::Cycles(Cycles { copied, clashes }))
+    let tangles = clashes_of(alloc, cut, &conflicts, spacing, order.overlap)?;
+    Ok(Finding::Cycles(Cycles { copied, tangles }))
 }

@@ -1,4 +1,5 @@
 //! What is said of odd cycles: lines, or JSON.
+use crate::clashes::Tangles;
 use dpl_answer::Clash;
 use dpl_base::Pt;
 use dpl_cert::Name;
@@ -51,14 +52,19 @@ fn piece_count(clashes: &[Clash]) -> u64 {
     count
 }
 
-/// The lines of all cycles, and a last one that counts them: `cycle N pieces P box X0 Y0 X1 Y1`, then a line `piece N X Y` for each piece with its least square and a line `near X Y X Y` for each with the first pair of squares of it and the next one that are closer than the rule; `conflicts cycles C pieces P` at the end. All in database units.
-pub fn conflict_lines(alloc: Global, clashes: &[Clash]) -> Result<String, AllocError> {
+/// The lines of all cycles, and a last one that counts them: `cycle N pieces P box X0 Y0 X1 Y1`, then a line `piece N X Y` for each piece with its least square and a line `near X Y X Y` for each with the first pair of squares of it and the next one that are closer than the rule; `conflicts cycles C pieces P edges E` at the end: E conflicts lie in the components of the cycles. All in database units.
+pub fn conflict_lines(alloc: Global, tangles: &Tangles) -> Result<String, AllocError> {
+    let clashes = tangles.clashes.as_slice();
     let mut text = String::new(alloc);
     for (number, clash) in clashes.iter().enumerate() {
         put_cycle(alloc, &mut text, number, clash)?;
     }
     let pieces = piece_count(clashes);
-    let last = format!(in alloc; "conflicts cycles {} pieces {pieces}\n", clashes.len())?;
+    let last = format!(in alloc;
+        "conflicts cycles {} pieces {pieces} edges {}\n",
+        clashes.len(),
+        tangles.edges
+    )?;
     text.push_str(last.as_str())?;
     Ok(text)
 }
@@ -98,13 +104,18 @@ pub fn refused_line(alloc: Global, name: Name, at: u64) -> Result<String, AllocE
 }
 
 /// All cycles as a JSON text of one line.
-pub fn conflict_json(alloc: Global, clashes: &[Clash]) -> Result<String, AllocError> {
+pub fn conflict_json(alloc: Global, tangles: &Tangles) -> Result<String, AllocError> {
+    let clashes = tangles.clashes.as_slice();
     let mut cycles = Vec::new(alloc);
     for clash in clashes {
         cycles.push(cycle_value(alloc, clash)?)?;
     }
     let cycles = Value::from(cycles);
-    let all = json!(in alloc; {"cycles": cycles, "pieces": piece_count(clashes)})?;
+    let all = json!(in alloc; {
+        "cycles": cycles,
+        "pieces": piece_count(clashes),
+        "edges": tangles.edges
+    })?;
     line_of(alloc, &all)
 }
 
@@ -116,7 +127,7 @@ pub fn refused_json(alloc: Global, name: Name, at: u64) -> Result<String, AllocE
 }
 
 /// A value as a line.
-fn line_of(alloc: Global, value: &Value) -> Result<String, AllocError> {
+pub(crate) fn line_of(alloc: Global, value: &Value) -> Result<String, AllocError> {
     let mut text = value.to_string(alloc)?;
     text.push_str("\n")?;
     Ok(text)

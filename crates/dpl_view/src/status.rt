@@ -36,7 +36,7 @@ pub fn status_by(finding: &Finding) -> Status
 {
     match finding {
         Finding::Refused { .. } => Status::Refused,
-        Finding::Cycles(found) if found.clashes.is_empty() => Status::Done,
+        Finding::Cycles(found) if found.tangles.clashes.is_empty() => Status::Done,
         Finding::Cycles(_) => Status::Conflict,
     }
 }

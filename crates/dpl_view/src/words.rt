@@ -1,6 +1,7 @@
 //! The command line of `dplview`, read with `clap`.
 ghost use Rattle.std.specs.Prelude.{◌≤◌, IfOk, IfSome};
 ghost use Rattle.dpl_view.specs.Findings.{IsInRange};
+ghost use Rattle.dpl_view.specs.Requests.{IsSound};
 
 use crate::finding::Order;
 use clap::error::ErrorKind;
@@ -9,9 +10,31 @@ use dpl_answer::Sharing;
 use dpl_layer::LayerChoice;
 use std::alloc::{AllocError, Global};
 
-/// What a command line of `conflicts` says.
+/// What a command line asks for.
 #[derive(Debug, Drop)]
-pub struct ConflictOptions<'a> {
+pub enum Request<'a> {
+    /// All odd cycles of a layer.
+    Conflicts(SplitOptions<'a>),
+    /// The stitches of a layer's split.
+    Stitches(SplitOptions<'a>),
+    /// What a file holds.
+    Layers(FileOptions<'a>),
+}
+
+/// What a command line of `layers` says.
+#[derive(Debug, Drop)]
+pub struct FileOptions<'a> {
+    /// The name of the structure whose points are counted. Where none is named, it is the one that no reference names.
+    pub top: Option<&'a str>,
+    /// Whether JSON is said.
+    pub json: bool,
+    /// The name of the layout.
+    pub input: &'a str,
+}
+
+/// What a command line of `conflicts` or `stitches` says.
+#[derive(Debug, Drop)]
+pub struct SplitOptions<'a> {
     /// What is asked of the layout.
     pub order: Order<'a>,
     /// Whether JSON is said.
@@ -43,11 +66,13 @@ fn number<'a>(
     }
 }
 
-/// The subcommand `conflicts`.
-fn conflicts_command<'a>(alloc: Global) -> Result<Command<'a>, AllocError> {
-    let command = Command::new(alloc, "conflicts").about(
-        "All odd cycles of conflicts of a layer, one for each component that has one",
-    );
+/// A subcommand that splits a layer.
+fn split_command<'a>(
+    alloc: Global,
+    name: &'a str,
+    about: &'a str,
+) -> Result<Command<'a>, AllocError> {
+    let command = Command::new(alloc, name).about(about);
     let command = command.arg(number(alloc, "layer", 65_535, 0, None, "The layer"))?;
     let command = command.arg(number(
         alloc,
@@ -89,6 +114,15 @@ fn conflicts_command<'a>(alloc: Global) -> Result<Command<'a>, AllocError> {
         Some("4"),
         "How many threads share the tiles; it changes no answer",
     ))?;
+    let command = file_arguments(alloc, command)?;
+    let output = Arg::new(alloc, "out")
+        .value_name("OUT")
+        .help("A marker database of KLayout's that is written");
+    command.arg(output)
+}
+
+/// Adds the arguments of each subcommand.
+fn file_arguments<'a>(alloc: Global, command: Command<'a>) -> Result<Command<'a>, AllocError> {
     let top = Arg::new(alloc, "top")
         .long("top")
         .value_name("NAME")
@@ -103,11 +137,7 @@ fn conflicts_command<'a>(alloc: Global) -> Result<Command<'a>, AllocError> {
         .value_name("IN")
         .required(true)
         .help("A GDSII layout");
-    let command = command.arg(input)?;
-    let output = Arg::new(alloc, "out")
-        .value_name("OUT")
-        .help("A marker database of KLayout's that is written");
-    command.arg(output)
+    command.arg(input)
 }
 
 /// The whole command line.
@@ -116,7 +146,20 @@ fn view_command<'a>(alloc: Global, version: &'a str) -> Result<Command<'a>, Allo
         .version(version)
         .about("Shows what a layout holds for double patterning")
         .subcommand_required(true);
-    command.subcommand(conflicts_command(alloc)?)
+    let command = command.subcommand(split_command(
+        alloc,
+        "conflicts",
+        "All odd cycles of conflicts of a layer, one for each component that has one",
+    )?)?;
+    let command = command.subcommand(split_command(
+        alloc,
+        "stitches",
+        "The stitches of a layer's split",
+    )?)?;
+    let layers = Command::new(alloc, "layers").about(
+        "Structures, tops and layers of a layout, with how many elements they have",
+    );
+    command.subcommand(file_arguments(alloc, layers)?)
 }
 
 /// What the words of a command line ask for. The error has the text of the help or the version where those are asked for, and says what is wrong with the words where they ask for nothing.
@@ -124,8 +167,8 @@ pub fn read_words<'a>(
     alloc: Global,
     version: &'a str,
     words: &'a [&'a str],
-) -> Result<ConflictOptions<'a>, Error>
-    ensures { IfOk result (λ o. IsInRange o.order) }
+) -> Result<Request<'a>, Error>
+    ensures { IfOk result IsSound }
 {
     let mut command = view_command(alloc, version)?;
     let matches = command.try_get_matches_from_mut(words)?;
@@ -136,17 +179,35 @@ pub fn read_words<'a>(
 }
 
 /// What the matches ask for.
-fn asked<'a>(matches: &ArgMatches<'a>) -> Option<ConflictOptions<'a>>
+fn asked<'a>(matches: &ArgMatches<'a>) -> Option<Request<'a>>
+    ensures { IfSome result IsSound }
+{
+    let (name, inner) = matches.subcommand()?;
+    match name {
+        "layers" => {
+            let input = inner.get_str("in")?;
+            Some(Request::Layers(FileOptions {
+                top: inner.get_str("top"),
+                json: inner.get_flag("json"),
+                input,
+            }))
+        }
+        "stitches" => Some(Request::Stitches(split_options(inner)?)),
+        _ => Some(Request::Conflicts(split_options(inner)?)),
+    }
+}
+
+/// What the matches of `conflicts` or `stitches` say.
+fn split_options<'a>(matches: &ArgMatches<'a>) -> Option<SplitOptions<'a>>
     ensures { IfSome result (λ o. IsInRange o.order) }
 {
-    let (_, inner) = matches.subcommand()?;
-    let order = order_of(inner)?;
-    let input = inner.get_str("in")?;
-    Some(ConflictOptions {
+    let order = order_of(matches)?;
+    let input = matches.get_str("in")?;
+    Some(SplitOptions {
         order,
-        json: inner.get_flag("json"),
+        json: matches.get_flag("json"),
         input,
-        output: inner.get_str("out"),
+        output: matches.get_str("out"),
     })
 }
 

@@ -9,8 +9,10 @@ use dpl_cert::Name;
 use dpl_host::MAX_BYTES;
 use dpl_pool::OpenGate;
 use dpl_view::{
-    ConflictOptions, Cycles, Finding, Status, conflict_json, conflict_lines, find, marker_text,
-    read_words, refused_json, refused_line, status_by,
+    FileOptions, Finding, Look, Request, Seams, Split, SplitOptions, Status, conflict_json,
+    conflict_line, conflict_lines, content_json, content_lines, cycle_markers, find, find_stitches,
+    look_into, no_masks_json, read_words, refused_json, refused_line, status_by, status_by_split,
+    stitch_json, stitch_lines, stitch_markers,
 };
 use std::alloc::{AllocError, Global};
 use std::fs::File;
@@ -49,7 +51,9 @@ fn run<R: Threads + Wait + Sync>(threads: &R, rt: &HostRuntime, words: &[String]
         }
     }
     match read_words(rt.alloc(), VERSION, texts.as_slice()) {
-        Ok(options) if is_apart(&options) => conflicts(threads, rt, &options),
+        Ok(Request::Layers(options)) => layers(rt, &options),
+        Ok(Request::Conflicts(options)) if is_apart(&options) => conflicts(threads, rt, &options),
+        Ok(Request::Stitches(options)) if is_apart(&options) => stitches(threads, rt, &options),
         Ok(_) => {
             let _ = eprintln!(rt; "dplview: IN and OUT are one file");
             Status::Usage
@@ -59,7 +63,7 @@ fn run<R: Threads + Wait + Sync>(threads: &R, rt: &HostRuntime, words: &[String]
 }
 
 /// Whether OUT, if it is given, has another name than IN.
-fn is_apart(options: &ConflictOptions<'_>) -> bool {
+fn is_apart(options: &SplitOptions<'_>) -> bool {
     match options.output {
         Some(output) => output != options.input,
         None => true,
@@ -86,7 +90,7 @@ fn told(rt: &HostRuntime, error: &clap::Error) -> Status {
 fn conflicts<R: Threads + Wait + Sync>(
     threads: &R,
     rt: &HostRuntime,
-    options: &ConflictOptions<'_>,
+    options: &SplitOptions<'_>,
 ) -> Status
     requires { IsInRange options.now.order }
 {
@@ -95,14 +99,52 @@ fn conflicts<R: Threads + Wait + Sync>(
             Ok(finding) => shown(rt, options, &finding).unwrap_or(Status::NoMemory),
             Err(_) => Status::NoMemory,
         },
-        Ok(None) => {
-            let finding = Finding::Refused {
-                name: Name::TooLarge,
-                at: MAX_BYTES as u64,
-            };
-            shown(rt, options, &finding).unwrap_or(Status::NoMemory)
-        }
+        Ok(None) => too_large(rt, options.json),
         Err(error) => failed(rt, options.input, &error, Status::ReadFault),
+    }
+}
+
+/// Reads IN, writes the marker database, and says the stitches.
+fn stitches<R: Threads + Wait + Sync>(
+    threads: &R,
+    rt: &HostRuntime,
+    options: &SplitOptions<'_>,
+) -> Status
+    requires { IsInRange options.now.order }
+{
+    match read_file(rt, options.input) {
+        Ok(Some(bytes)) => match find_stitches(
+            threads,
+            rt.alloc(),
+            &options.order,
+            bytes,
+            &OpenGate,
+        ) {
+            Ok(found) => seams_shown(rt, options, &found).unwrap_or(Status::NoMemory),
+            Err(_) => Status::NoMemory,
+        },
+        Ok(None) => too_large(rt, options.json),
+        Err(error) => failed(rt, options.input, &error, Status::ReadFault),
+    }
+}
+
+/// Reads IN, and says what it holds.
+fn layers(rt: &HostRuntime, options: &FileOptions<'_>) -> Status {
+    match read_file(rt, options.input) {
+        Ok(Some(bytes)) => match look_into(rt.alloc(), options.top, bytes.as_slice()) {
+            Ok(found) => look_shown(rt, options, &found).unwrap_or(Status::NoMemory),
+            Err(_) => Status::NoMemory,
+        },
+        Ok(None) => too_large(rt, options.json),
+        Err(error) => failed(rt, options.input, &error, Status::ReadFault),
+    }
+}
+
+/// Says that IN is too large.
+fn too_large(rt: &HostRuntime, json: bool) -> Status {
+    match refusal(rt.alloc(), json, Name::TooLarge, MAX_BYTES as u64) {
+        Ok(text) => said(rt, text.as_str(), Status::Refused),
+        Err(_) => Status::NoMemory,
     }
 }
 
@@ -122,32 +164,106 @@ fn read_file(rt: &HostRuntime, name: &str) -> io::Result<Option<Vec<u8>>>
     Ok(Some(bytes))
 }
 
-/// Writes and says what was found. All is made before the first of it is written.
+/// Writes and says the cycles that were found. All is made before the first of it is written.
 fn shown(
     rt: &HostRuntime,
-    options: &ConflictOptions<'_>,
+    options: &SplitOptions<'_>,
     finding: &Finding,
 ) -> Result<Status, AllocError> {
-    let text = text_of(rt.alloc(), options.json, finding)?;
+    let alloc = rt.alloc();
+    let text = match finding {
+        Finding::Refused { name, at } => refusal(alloc, options.json, *name, *at)?,
+        Finding::Cycles(found) if options.json => conflict_json(alloc, &found.tangles)?,
+        Finding::Cycles(found) => conflict_lines(alloc, &found.tangles)?,
+    };
     if let (Some(name), Finding::Cycles(found)) = (options.output, finding) {
-        let markers = marker_text(rt.alloc(), found)?;
+        let markers = cycle_markers(alloc, found)?;
         if let Err(error) = fs::write(rt, name, markers.as_str()) {
             return Ok(failed(rt, name, &error, Status::WriteFault));
         }
     }
-    if let Err(error) = print!(rt; "{text}") {
-        return Ok(failed(rt, "standard output", &error, Status::WriteFault));
-    }
-    Ok(status_by(finding))
+    Ok(said(rt, text.as_str(), status_by(finding)))
 }
 
-/// What is said of what was found.
-fn text_of(alloc: Global, json: bool, finding: &Finding) -> Result<String, AllocError> {
-    match finding {
-        Finding::Refused { name, at } if json => refused_json(alloc, *name, *at),
-        Finding::Refused { name, at } => refused_line(alloc, *name, *at),
-        Finding::Cycles(found) if json => conflict_json(alloc, &found.clashes),
-        Finding::Cycles(found) => conflict_lines(alloc, &found.clashes),
+/// Writes and says the stitches that were found. All is made before the first of it is written.
+fn seams_shown(
+    rt: &HostRuntime,
+    options: &SplitOptions<'_>,
+    found: &Split,
+) -> Result<Status, AllocError> {
+    let alloc = rt.alloc();
+    let text = match found {
+        Split::Refused { name, at } => refusal(alloc, options.json, *name, *at)?,
+        Split::Answered { seams, .. } => seam_text(alloc, options, seams)?,
+    };
+    if let (
+        Some(name),
+        Split::Answered {
+            copied,
+            seams: Seams::Stitches(stitches),
+        },
+    ) = (options.output, found)
+    {
+        let markers = stitch_markers(alloc, copied.as_slice(), stitches.items())?;
+        if let Err(error) = fs::write(rt, name, markers.as_str()) {
+            return Ok(failed(rt, name, &error, Status::WriteFault));
+        }
+    }
+    Ok(said(rt, text.as_str(), status_by_split(found)))
+}
+
+/// What is said of stitches, or of a layer without masks.
+fn seam_text(
+    alloc: Global,
+    options: &SplitOptions<'_>,
+    seams: &Seams,
+) -> Result<String, AllocError> {
+    let overlap = options.order.overlap;
+    match seams {
+        Seams::Stitches(found) if options.json => stitch_json(alloc, found.items(), overlap),
+        Seams::Stitches(found) => stitch_lines(alloc, found.items(), overlap),
+        Seams::Conflict(pieces) if options.json => no_masks_json(alloc, *pieces),
+        Seams::Conflict(pieces) => conflict_line(alloc, *pieces),
+    }
+}
+
+/// Says what a file holds.
+fn look_shown(
+    rt: &HostRuntime,
+    options: &FileOptions<'_>,
+    found: &Look,
+) -> Result<Status, AllocError> {
+    let alloc = rt.alloc();
+    match found {
+        Look::Refused { name, at } => {
+            let text = refusal(alloc, options.json, *name, *at)?;
+            Ok(said(rt, text.as_str(), Status::Refused))
+        }
+        Look::Held(contents) => {
+            let text = if options.json {
+                content_json(alloc, contents)?
+            } else {
+                content_lines(alloc, contents)?
+            };
+            Ok(said(rt, text.as_str(), Status::Done))
+        }
+    }
+}
+
+/// What is said of a layout that is refused.
+fn refusal(alloc: Global, json: bool, name: Name, at: u64) -> Result<String, AllocError> {
+    if json {
+        refused_json(alloc, name, at)
+    } else {
+        refused_line(alloc, name, at)
+    }
+}
+
+/// Says a text; the status, unless that fails.
+fn said(rt: &HostRuntime, text: &str, status: Status) -> Status {
+    match print!(rt; "{text}") {
+        Ok(_) => status,
+        Err(error) => failed(rt, "standard output", &error, Status::WriteFault),
     }
 }
 

@@ -3,7 +3,7 @@ use Rattle.dpl_flatten.proofs.FoundLaws.{first_of, nowhere_of}
 use Rattle.dpl_flatten.proofs.faults.find_missing.Goals as goal
 
 pub returns-in-Some-clause-fault : goal.returns-in-Some-clause-fault
-returns-in-Some-clause-fault c = first_of c.args.lib.now c.args.links.now.graph.now c.args.top c.args.links.now.marks.now
+returns-in-Some-clause-fault c layer = first_of c.args.lib.now c.args.links.now.graph.now c.args.top c.args.links.now.marks.now
     c.requires.links.graph_of c.requires.reached (IsMissing c.args.lib.now) c.in-Some.at (rw c.in-Some.is at c.in_ok-found.ensures)
 
 pub returns-in-None-clause-complete : goal.returns-in-None-clause-complete

@@ -1,7 +1,8 @@
-use Rattle.std.proofs.Common.{◌∙◌, sym}
 use Rattle.dpl_answer.proofs.Planned.{conflicts_completed}
 use Rattle.dpl_cut.specs.Cutting.{cut_view}
-use Rattle.dpl_view.proofs.ViewLaws.{even_clashes}
+use Rattle.dpl_view.proofs.ViewLaws.{even_none, even_clashes}
+use Rattle.dpl_view.proofs.TangleLaws.{tangled-none}
+use Rattle.dpl_spec_split.specs.Decomposition.{conflicts}
 use Rattle.dpl_view.proofs.clashes.clashes_of.Goals as goal
 
 pub returns-in-Even : goal.returns-in-Even
@@ -10,7 +11,13 @@ returns-in-Even c =
     let (sums, even) = rw c.in-Even.is at are in (
       c.in_ok-cut.cut.pieces,
       c.in_ok-cut.ensures.pieces,
-      λ features many. even_clashes c.args.spacing c.args.overlap (cut_view features c.in_ok-cut.cut.pieces) _ sums even c.new.result.items c.new.ensures.items,
+      λ features many.
+          let cut = cut_view features c.in_ok-cut.cut.pieces in
+          let none = even_none c.args.spacing cut _ sums even in
+          record {
+            clashes = even_clashes c.args.spacing c.args.overlap cut none c.new.result.items c.new.ensures.items;
+            tangled = tangled-none (conflicts c.args.spacing cut) none;
+          },
     )
 
 pub odd_clashes-requires-clause-keys : goal.odd_clashes-requires-clause-keys

@@ -1,10 +1,13 @@
 use Rattle.std.proofs.Common.{ℕ, List, [], subst}
 use Rattle.std.specs.List.{AllZip, Contains}
 use Rattle.std.proofs.lemmas.List.Elements.{All-contains}
-use Rattle.dpl_spec_split.specs.Graphs.{IsOddCycle}
+use Rattle.dpl_spec_split.specs.Graphs.{IsOddCycle, graph_of}
 use Rattle.dpl_spec_split.specs.Pieces.{Conflict}
 use Rattle.dpl_cut.specs.Cutting.{cut_view}
 use Rattle.dpl_view.specs.Clashes.{IsToldOf}
+use Rattle.dpl_spec_split.specs.Decomposition.{conflicts}
+use Rattle.dpl_answer.proofs.Deciding.{same_conflicts}
+use Rattle.dpl_view.proofs.TangleLaws.{tangled-same}
 use Rattle.dpl_view.proofs.ViewLaws.{odd_each, odd_clashes}
 use Rattle.dpl_view.proofs.clashes.odd_clashes.Goals as goal
 
@@ -19,8 +22,13 @@ told-requires-clause-odd c = λ x there.
 pub returns : goal.returns
 returns c = λ features many.
     let pieces = c.args.cut.now.pieces in
+    let cut = cut_view features pieces in
     let cycles = c.in_ok-cycles.cycles in
-    odd_clashes c.args.spacing c.args.overlap (cut_view features pieces) c.args.edges.now cycles.items c.in_ok-found.found.items c.requires.edges
-    c.in_ok-cycles.ensures.cycles c.in_ok-cycles.ensures.odd
-    (subst (λ (xs : List (List ℕ)). AllZip (IsToldOf c.args.spacing c.args.overlap (cut_view features pieces)) xs c.in_ok-found.found.items) c.deref.ensures.value
-    (c.in_ok-found.ensures features many))
+    record {
+      clashes = odd_clashes c.args.spacing c.args.overlap cut c.args.edges.now cycles.items c.in_ok-clashes.clashes.items c.requires.edges
+          c.in_ok-cycles.ensures.cycles c.in_ok-cycles.ensures.odd
+          (subst (λ (xs : List (List ℕ)). AllZip (IsToldOf c.args.spacing c.args.overlap cut) xs c.in_ok-clashes.clashes.items) c.deref.ensures.value
+          (c.in_ok-clashes.ensures features many));
+      tangled = tangled-same (graph_of c.args.edges.now) (conflicts c.args.spacing cut) (same_conflicts c.args.spacing cut c.args.edges.now c.requires.edges)
+          c.in_ok-edges.edges c.in_ok-edges.ensures;
+    }

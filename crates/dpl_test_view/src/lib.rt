@@ -1,0 +1,7 @@
+//! What `dplview` says and writes of worked layouts.
+#![tactic(auto)]
+
+#[cfg(test)]
+mod layers;
+#[cfg(test)]
+mod splits;

@@ -1,0 +1,158 @@
+//! Odd cycles and stitches: lines, JSON and markers.
+ghost use Rattle.dpl_view.specs.Findings.{IsInRange};
+
+use dpl_answer::Sharing;
+use dpl_layer::LayerChoice;
+use dpl_pool::OpenGate;
+use dpl_test_sample::{Rectangle, bars};
+use dpl_view::{
+    Finding, Order, Seams, Split, conflict_json, conflict_lines, cycle_markers, find,
+    find_stitches, stitch_json, stitch_lines, stitch_markers,
+};
+use std::alloc::Global;
+use std::process::Abort;
+use std::sync::Wait;
+use std::test::Fail;
+use std::thread::Threads;
+
+const LIMIT: usize = 268_435_456;
+
+const APART: [Rectangle; 6] = [
+    [0, 0, 1, 1],
+    [20, 0, 21, 1],
+    [10, 20, 11, 21],
+    [1000, 0, 1001, 1],
+    [1020, 0, 1021, 1],
+    [1010, 20, 1011, 21],
+];
+
+const BAR: [Rectangle; 1] = [[0, 0, 400, 20]];
+
+const WIRES: [Rectangle; 7] = [
+    [0, 0, 400, 20],
+    [0, 40, 50, 60],
+    [0, 40, 20, 200],
+    [0, 180, 190, 200],
+    [350, 40, 400, 60],
+    [380, 40, 400, 200],
+    [215, 180, 400, 200],
+];
+
+/// What is asked of each layout.
+fn order() -> Order<'static>
+    ensures { IsInRange result }
+{
+    Order {
+        choice: LayerChoice {
+            top: None,
+            layer: 1,
+            datatype: 0,
+        },
+        rule: 30,
+        overlap: 10,
+        sharing: Sharing {
+            tile: 4096,
+            workers: 2,
+        },
+    }
+}
+
+/// What is said of the odd cycles of rectangles, as lines or as JSON, and the markers.
+fn cycles<R: Threads + Wait + Abort + Sync>(
+    rt: &R,
+    alloc: Global,
+    rectangles: &[Rectangle],
+) -> Result<(String, String, String), Fail> {
+    let bytes = bars(alloc, rectangles)?;
+    assert!(rt; bytes.len() <= LIMIT);
+    match find(rt, alloc, &order(), bytes, &OpenGate)? {
+        Finding::Cycles(found) => Ok((
+            conflict_lines(alloc, &found.tangles)?,
+            conflict_json(alloc, &found.tangles)?,
+            cycle_markers(alloc, &found)?,
+        )),
+        Finding::Refused { .. } => Ok((String::new(alloc), String::new(alloc), String::new(alloc))),
+    }
+}
+
+#[test]
+fn conflicts_are_listed(rt: HostRuntime) -> Result<(), Fail> {
+    let (lines, json, markers) = cycles(&rt, rt.alloc(), &APART)?;
+    assert!(rt;
+        lines.as_str().ends_with("\nnear 1010 20 1000 0\nconflicts cycles 2 pieces 6 edges 6\n")
+    );
+    assert_eq!(rt;
+        json.as_str(),
+        "{\"cycles\":[{\"box\":[0,0,21,21],\"near\":[[[0,0],[20,0]],[[20,0],[10,20]],[[10,20],[0,0]]],\"pieces\":[{\"piece\":0,\"x\":0,\"y\":0},{\"piece\":1,\"x\":20,\"y\":0},{\"piece\":4,\"x\":10,\"y\":20}]},{\"box\":[1000,0,1021,21],\"near\":[[[1000,0],[1020,0]],[[1020,0],[1010,20]],[[1010,20],[1000,0]]],\"pieces\":[{\"piece\":2,\"x\":1000,\"y\":0},{\"piece\":3,\"x\":1020,\"y\":0},{\"piece\":5,\"x\":1010,\"y\":20}]}],\"edges\":6,\"pieces\":6}\n"
+    );
+    for part in [
+        "<description>Odd cycles of conflicts</description>",
+        "<category>cycle</category>\n   <cell>TOP</cell>",
+        "<value>text: 'odd cycle 2: 3 pieces'</value>",
+        "<value>box: (1.020000,0.000000;1.021000,0.001000)</value>",
+        "<value>edge: (0.001000,0.000000;0.020000,0.000000)</value>",
+    ] {
+        assert!(rt; markers.as_str().contains(part));
+    }
+    let (lines, json, markers) = cycles(&rt, rt.alloc(), &BAR)?;
+    assert_eq!(rt; lines.as_str(), "conflicts cycles 0 pieces 0 edges 0\n");
+    assert_eq!(rt; json.as_str(), "{\"cycles\":[],\"edges\":0,\"pieces\":0}\n");
+    assert!(rt;
+        markers
+            .as_str()
+            .ends_with(" <items>\n </items>\n</report-database>\n")
+    );
+    Ok(())
+}
+
+/// What is said of the stitches of rectangles, as lines or as JSON, and the markers; of a layer without masks the length of a cycle.
+fn stitches<R: Threads + Wait + Abort + Sync>(
+    rt: &R,
+    alloc: Global,
+    rectangles: &[Rectangle],
+) -> Result<(String, String, String), Fail> {
+    let bytes = bars(alloc, rectangles)?;
+    assert!(rt; bytes.len() <= LIMIT);
+    match find_stitches(rt, alloc, &order(), bytes, &OpenGate)? {
+        Split::Answered {
+            copied,
+            seams: Seams::Stitches(found),
+        } => Ok((
+            stitch_lines(alloc, found.items(), 10)?,
+            stitch_json(alloc, found.items(), 10)?,
+            stitch_markers(alloc, copied.as_slice(), found.items())?,
+        )),
+        Split::Answered {
+            seams: Seams::Conflict(pieces),
+            ..
+        } => Ok((
+            format!(in alloc; "{pieces}")?,
+            String::new(alloc),
+            String::new(alloc),
+        )),
+        Split::Refused { .. } => Ok((String::new(alloc), String::new(alloc), String::new(alloc))),
+    }
+}
+
+#[test]
+fn stitches_are_listed(rt: HostRuntime) -> Result<(), Fail> {
+    let (lines, json, markers) = stitches(&rt, rt.alloc(), &WIRES)?;
+    assert_eq!(rt;
+        lines.as_str(),
+        "stitch 0 box 97 180 107 200 length 10 width 20 pieces 4 6\nstitches 1\n"
+    );
+    assert_eq!(rt;
+        json.as_str(),
+        "{\"stitches\":[{\"box\":[97,180,107,200],\"length\":10,\"pieces\":[4,6],\"width\":20}]}\n"
+    );
+    for part in [
+        "<category>stitch</category>\n   <cell>TOP</cell>",
+        "<value>text: 'stitch between the pieces 4 and 6'</value>",
+        "<value>box: (0.097000,0.180000;0.107000,0.200000)</value>",
+    ] {
+        assert!(rt; markers.as_str().contains(part));
+    }
+    let (lines, _, _) = stitches(&rt, rt.alloc(), &APART)?;
+    assert_eq!(rt; lines.as_str(), "3");
+    Ok(())
+}
