@@ -4,8 +4,6 @@
 #[cfg(test)]
 mod assemblies;
 #[cfg(test)]
-mod blocks;
-#[cfg(test)]
 mod boards;
 #[cfg(test)]
 mod colours;

@@ -2,7 +2,6 @@
 #![tactic(auto)]
 
 mod board;
-mod ready;
 mod seat;
 mod view;
 
