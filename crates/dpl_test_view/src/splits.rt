@@ -113,24 +113,21 @@ fn stitches<R: Threads + Wait + Abort + Sync>(
 ) -> Result<(String, String, String), Fail> {
     let bytes = bars(alloc, rectangles)?;
     assert!(rt; bytes.len() <= LIMIT);
-    match find_stitches(rt, alloc, &order(), bytes, &OpenGate)? {
-        Split::Answered {
-            copied,
-            seams: Seams::Stitches(found),
-        } => Ok((
+    let Split::Answered { copied, seams } = find_stitches(rt, alloc, &order(), bytes, &OpenGate)?
+    else {
+        return Ok((String::new(alloc), String::new(alloc), String::new(alloc)));
+    };
+    match &seams {
+        Seams::Stitches(found) => Ok((
             stitch_lines(alloc, found.items(), 10)?,
             stitch_json(alloc, found.items(), 10)?,
             stitch_markers(alloc, copied.as_slice(), found.items())?,
         )),
-        Split::Answered {
-            seams: Seams::Conflict(pieces),
-            ..
-        } => Ok((
+        Seams::Conflict(pieces) => Ok((
             format!(in alloc; "{pieces}")?,
             String::new(alloc),
             String::new(alloc),
         )),
-        Split::Refused { .. } => Ok((String::new(alloc), String::new(alloc), String::new(alloc))),
     }
 }
 
