@@ -1,7 +1,7 @@
 -- Corners of slabs and of zones, in order.
 use Rattle.std.proofs.Common.{◌≡◌, ℕ, zero, suc, ◌+◌, ◌<◌, ◌≤◌, ◌⊎◌, inl, inr, List, [], ◌∷◌, ◌++◌, length, get_or, take, map, true, false, refl, sym, ap, ◌∙◌, subst, arith}
 use Rattle.std.specs.Prelude.{◌↔◌, ℤ}
-use Rattle.std.specs.List.{All, AllZip, Contains, HoldsAt, zip}
+use Rattle.std.specs.List.{All, AllWithin, AllZip, Contains, HoldsAt, zip}
 use Rattle.std.specs.List.Sorted.{IsPermutation, IsNonDecreasingBy, IsPartitionedBy, IsPartitionPoint}
 use Rattle.std.specs.Ordering.{is_lt, int_cmp, ordering_index}
 use Rattle.std.specs.Cmp.{IsTotalOrder}
@@ -10,7 +10,7 @@ use Rattle.std.specs.declared.cmp.Ordering.TheVariants.{Less, Equal, Greater}
 use Rattle.std.proofs.lemmas.Cmp.{int_cmp_total, then_total, on_total, tied_itself}
 use Rattle.std.proofs.lemmas.Map.Lookups.{exact_pairs, exact_signed}
 use Rattle.std.proofs.lemmas.List.Sorted.{Contains-permutation, IsPermutation-sym, searchable_from_sorted}
-use Rattle.std.proofs.lemmas.Bool.{cases_eq}
+use Rattle.std.proofs.lemmas.Bool.{cases_eq, false_from_ne_true, false≢true}
 use Rattle.std.proofs.lemmas.List.{get_or_default}
 use Rattle.std.proofs.Math.Seq.{take-suc}
 use Rattle.std.proofs.lemmas.List.Elements.{Contains-append_left, Contains-append_right, Contains-append_cases}
@@ -21,7 +21,7 @@ use Rattle.dpl_piece.specs.declared.corner.Corner.{Corner}
 use Rattle.dpl_piece.specs.declared.corner.Kind.{Kind}
 use Rattle.dpl_piece.specs.declared.corner.Kind.TheVariants.{LowerLeft, LowerRight, UpperLeft}
 use Rattle.dpl_piece.specs.declared.piece.Origin.{Origin}
-use Rattle.dpl_piece.specs.Corners.{corner_of, row_cmp, IsFirstCorner, IsBroken, IsZoneCorner, RiseByCorner}
+use Rattle.dpl_piece.specs.Corners.{corner_at, corner_of, is_before, row_cmp, IsFirstCorner, IsBroken, IsZoneCorner, RiseByCorner}
 
 pub rows_total : IsTotalOrder row_cmp
 rows_total = then_total (on_total (λ t. t.0) int_cmp_total) (on_total (λ t. t.1) int_cmp_total)
@@ -153,6 +153,17 @@ module _ (corners : List Corner) (rise : RiseByCorner corners) (x y : ℤ) where
   pub corners-parted : IsPartitionedBy (λ c. is_lt (row_cmp (c.y, c.x) (y, x))) corners
   corners-parted i j d a b t = index-less (row_cmp ((get_or corners i d).y, (get_or corners i d).x) (y, x))
       (row_cmp ((get_or corners j d).y, (get_or corners j d).x) (y, x)) (rises i j d a b) t
+
+  -- all corners up to one that comes before the point do
+  pub corners-under : (n : ℕ) (e : Corner) → n < length corners → is_before x y (get_or corners n e) ≡ true → AllWithin (λ c. is_before x y c ≡ true) corners 0 (n + 1)
+  corners-under n e n_in t k d _ l =
+      corners-parted k n d (omega (arith, l)) n_in (subst (λ c. is_before x y c ≡ true) (get_or_default corners n e d n_in) t)
+
+  -- no corner from one on that doesn't come before the point does
+  pub corners-over : (n : ℕ) (e : Corner) → n < length corners → is_before x y (get_or corners n e) ≡ false
+      → AllWithin (λ c. is_before x y c ≡ false) corners n (length corners)
+  corners-over n e n_in f k d l k_in = false_from_ne_true (is_before x y (get_or corners k d)) (λ yes.
+      false≢true (sym f ∙ subst (λ c. is_before x y c ≡ true) (get_or_default corners n d e n_in) (corners-parted n k d l k_in yes)))
 
   -- no corner is at the point before those that come before it end, nor from the first one on that is elsewhere
   pub none-elsewhere : (first i k : ℕ) (d : Corner) → IsPartitionPoint (λ c. is_lt (row_cmp (c.y, c.x) (y, x)) ≡ true)

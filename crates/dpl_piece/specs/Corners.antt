@@ -1,9 +1,9 @@
 -- Corners of slabs and of zones, and the slabs on the two sides of a zone.
-use Rattle.std.specs.Prelude.{◌≡◌, ℕ, ◌<◌, ◌⊎◌, ◌↔◌, ℤ, List, [], length, slice_index_or}
-use Rattle.std.specs.Ordering.{int_cmp, ordering_then}
+use Rattle.std.specs.Prelude.{◌≡◌, ℕ, ◌<◌, ◌≤◌, ◌⊎◌, ◌↔◌, Bool, true, false, ℤ, List, [], length, slice_index_or}
+use Rattle.std.specs.Ordering.{int_cmp, is_lt, ordering_then}
 use Rattle.std.specs.declared.cmp.Ordering.{Ordering}
 use Rattle.std.specs.List.Sorted.{IsSortedByKey}
-use Rattle.std.specs.List.{Contains, HoldsAt}
+use Rattle.std.specs.List.{AllWithin, Contains, HoldsAt}
 use Rattle.dpl_spec_split.specs.declared.Rect.{Rect}
 use Rattle.dpl_spec_split.specs.declared.Zone.{Zone}
 use Rattle.dpl_piece.specs.declared.corner.Corner.{Corner}
@@ -33,6 +33,17 @@ row_cmp p q = ordering_then (int_cmp p.0 q.0) (int_cmp p.1 q.1)
 
 abbrev pub RiseByCorner : List Corner → Type 0
 RiseByCorner cs = IsSortedByKey (λ c. (c.y, c.x)) row_cmp cs
+
+-- the corner comes before the point, by row and then by column
+abbrev pub is_before : ℤ → ℤ → Corner → Bool
+is_before x y c = is_lt (row_cmp (c.y, c.x) (y, x))
+
+-- all corners before one place come before the point, and none from another on
+pub record IsBracket (corners : List Corner) (x y : ℤ) (low high : ℕ) : Type 0 where
+  pub order : low ≤ high
+  pub within : high ≤ length corners
+  pub under : AllWithin (λ c. is_before x y c ≡ true) corners 0 low
+  pub over : AllWithin (λ c. is_before x y c ≡ false) corners high (length corners)
 
 -- a corner of a zone, with the zone's number
 abbrev pub IsZoneCorner : Kind → List Zone → Corner → Type 0

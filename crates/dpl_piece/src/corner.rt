@@ -1,10 +1,10 @@
 //! Corners of slabs and of zones.
 ghost use Rattle.std.specs.Prelude.{◌≡◌, ◌≤◌, ◌↔◌, length, true, false, IfOk};
-ghost use Rattle.std.specs.List.{Contains};
+ghost use Rattle.std.specs.List.{AllWithin, Contains};
 ghost use Rattle.std.specs.List.Sorted.{IsPermutation, IsPartitionPoint};
 ghost use Rattle.std.specs.Ordering.{is_lt};
 ghost use Rattle.dpl_piece.specs.declared.corner.Corner.{Corner};
-ghost use Rattle.dpl_piece.specs.Corners.{corner_of, row_cmp, IsZoneCorner, RiseByCorner};
+ghost use Rattle.dpl_piece.specs.Corners.{corner_of, is_before, row_cmp, IsBracket, IsZoneCorner, RiseByCorner};
 
 use dpl_base::{Id, Rect, Zone};
 use std::alloc::{AllocError, Global};
@@ -59,11 +59,92 @@ pub fn zone_corners(alloc: Global, zones: &[Zone], kind: Kind) -> Result<Vec<Cor
     Ok(found)
 }
 
-/// How many of the corners come before the point.
-pub fn count_before(corners: &[Corner], x: i32, y: i32) -> usize
+/// Whether a corner comes before the point, by row and then by column.
+fn is_before(c: &Corner, x: i32, y: i32) -> bool
+    ensures { result ≡ is_before x y c.now }
+{
+    (c.y, c.x) < (y, x)
+}
+
+/// Between which places the first corner is that doesn't come before a point: all corners before `low` do, and none from `high` on.
+#[derive(Clone, Copy, Drop)]
+struct Bracket {
+    low: usize,
+    high: usize,
+}
+
+/// A bracket from a place on before which all corners come before the point, by steps that double.
+fn bracket_above(corners: &[Corner], start: usize, x: i32, y: i32) -> Bracket
+    requires rise { RiseByCorner corners.now }
+    requires within { start ≤ length corners.now }
+    requires under { AllWithin (λ c. is_before x y c ≡ true) corners.now 0 start }
+    ensures { IsBracket corners.now x y result.low result.high }
+{
+    let mut low = start;
+    let mut high = start;
+    let mut step: usize = 1;
+    while high < corners.len() {
+        if !is_before(&corners[high], x, y) {
+            return Bracket { low, high };
+        }
+        low = high + 1;
+        high = low.saturating_add(step).min(corners.len());
+        step = step.saturating_mul(2);
+    }
+    Bracket { low, high }
+}
+
+/// A bracket up to a place from which on no corner comes before the point, by steps that double.
+fn bracket_below(corners: &[Corner], start: usize, x: i32, y: i32) -> Bracket
+    requires rise { RiseByCorner corners.now }
+    requires within { start ≤ length corners.now }
+    requires over { AllWithin (λ c. is_before x y c ≡ false) corners.now start (length corners.now) }
+    ensures { IsBracket corners.now x y result.low result.high }
+{
+    let mut low = start;
+    let mut high = start;
+    let mut step: usize = 1;
+    while 0 < low {
+        if is_before(&corners[low - 1], x, y) {
+            return Bracket { low, high };
+        }
+        high = low - 1;
+        low = high.saturating_sub(step);
+        step = step.saturating_mul(2);
+    }
+    Bracket { low, high }
+}
+
+/// A bracket near a place.
+fn bracket_near(corners: &[Corner], place: usize, x: i32, y: i32) -> Bracket
+    requires rise { RiseByCorner corners.now }
+    ensures { IsBracket corners.now x y result.low result.high }
+{
+    if place >= corners.len() {
+        return bracket_below(corners, corners.len(), x, y);
+    }
+    if is_before(&corners[place], x, y) {
+        return bracket_above(corners, place + 1, x, y);
+    }
+    bracket_below(corners, place, x, y)
+}
+
+/// How many of the corners come before the point, sought from a place on: where that is close, few corners are looked at.
+pub fn count_before(corners: &[Corner], place: usize, x: i32, y: i32) -> usize
     requires { RiseByCorner corners.now }
     ensures bound { result ≤ length corners.now }
     ensures parted { IsPartitionPoint (λ c. is_lt (row_cmp (c.y, c.x) (y, x)) ≡ true) (λ c. is_lt (row_cmp (c.y, c.x) (y, x)) ≡ false) corners.now result }
 {
-    corners.partition_point(|c| (c.y, c.x) < (y, x))
+    let bracket = bracket_near(corners, place, x, y);
+    let mut low = bracket.low;
+    let mut high = bracket.high;
+    while low < high {
+        let middle = low + (high - low) / 2;
+        if is_before(&corners[middle], x, y) {
+            low = middle + 1;
+        } else {
+            high = middle;
+        }
+    }
+    low
 }

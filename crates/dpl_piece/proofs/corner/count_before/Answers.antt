@@ -1,12 +1,37 @@
-use Rattle.std.proofs.Common.{Bool, rules}
-use Rattle.std.specs.Ordering.{is_lt}
-use Rattle.std.proofs.lemmas.List.Sorted.{IsPartitionPoint-from_clause}
-use Rattle.dpl_piece.specs.declared.corner.Corner.{Corner}
-use Rattle.dpl_piece.specs.Corners.{row_cmp}
-use Rattle.dpl_piece.proofs.CornerLaws.{corners-parted}
+use Rattle.std.proofs.Common.{◌≡◌, ℕ, ◌+◌, ◌-◌, ◌/◌, ◌<◌, length, true, false, sym, ◌∙◌, arith, rules, w32, FitsSigned}
+use Rattle.std.proofs.lemmas.Int.{to_z-of_z}
+use Rattle.dpl_piece.specs.Corners.{is_before}
+use Rattle.dpl_piece.proofs.CornerLaws.{corners-over, corners-under}
 use Rattle.dpl_piece.proofs.corner.count_before.Goals as goal
 
-pub returns-clause-parted : goal.returns-clause-parted
-returns-clause-parted c =
-    let before : Corner → Bool = λ d. is_lt (row_cmp (d.y, d.x) (c.args.y, c.args.x)) in
-    IsPartitionPoint-from_clause before _ _ c.partition_point.ensures.partitioned (corners-parted c.args.corners.now c.requires c.args.x c.args.y) (λ a r q k. search rules)
+pub loop-low-preserved-then-is_before : goal.loop-low-preserved-then-is_before
+loop-low-preserved-then-is_before c =
+    let x : FitsSigned w32 c.args.x = search rules in
+    let y : FitsSigned w32 c.args.y = search rules in
+    let found = rw (to_z-of_z w32 _ x, to_z-of_z w32 _ y) at c.is_before.ensures in
+    let some = c.loop-low-test.true in
+    let middle : ℕ = c.loop-low.low + (c.loop-low.high - c.loop-low.low) / 2 in
+    let here : middle < length c.args.corners.now = omega (arith, some, c.loop-low.invariant.within) in
+    record {
+      order = omega (arith, some);
+      within = c.loop-low.invariant.within;
+      under = rw (to_z-of_z w32 _ x, to_z-of_z w32 _ y)
+          (corners-under c.args.corners.now c.requires c.args.x c.args.y middle _ here (sym found ∙ c.if-is_before.true));
+      over = c.loop-low.invariant.over;
+    }
+
+pub loop-low-preserved : goal.loop-low-preserved
+loop-low-preserved c =
+    let x : FitsSigned w32 c.args.x = search rules in
+    let y : FitsSigned w32 c.args.y = search rules in
+    let found = rw (to_z-of_z w32 _ x, to_z-of_z w32 _ y) at c.is_before.ensures in
+    let some = c.loop-low-test.true in
+    let middle : ℕ = c.loop-low.low + (c.loop-low.high - c.loop-low.low) / 2 in
+    let here : middle < length c.args.corners.now = omega (arith, some, c.loop-low.invariant.within) in
+    record {
+      order = omega (arith, some);
+      within = omega (arith, some, c.loop-low.invariant.within);
+      under = c.loop-low.invariant.under;
+      over = rw (to_z-of_z w32 _ x, to_z-of_z w32 _ y)
+          (corners-over c.args.corners.now c.requires c.args.x c.args.y middle _ here (sym found ∙ c.if-is_before.false));
+    }

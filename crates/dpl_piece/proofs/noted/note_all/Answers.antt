@@ -12,8 +12,8 @@ loop-k-preserved c =
     elim c.match-origins-k.branch [
       | in-Broken w ↦ rw w.noted-is
           (first-next c.args.kind c.args.parts.now c.args.origins.now c.args.corners.now c.loop-k.k w.index-parts-k.result c.args.noted.now
-          c.loop-k.noted w.note_part.new.noted c.loop-k.invariant here w.index-parts-k.is
-          (marked, get_or_default _ _ _ _ marked ∙ w.in-Broken.is) (rw w.rects.ensures.value at w.note_part.ensures))
+          c.loop-k.noted w.note_part-place.new.noted c.loop-k.invariant here w.index-parts-k.is
+          (marked, get_or_default _ _ _ _ marked ∙ w.in-Broken.is) (rw w.rects.ensures.value at w.note_part-place.ensures))
       | in_default w ↦ rw w.noted-is
           (first-skip c.args.kind c.args.parts.now c.args.origins.now c.args.corners.now c.loop-k.k c.args.noted.now c.loop-k.noted c.loop-k.invariant
           (λ (l, broken). (let e : Broken ≡ Whole = sym broken ∙ (get_or_default _ _ _ _ l ∙ w.in_default.is) in cc)))

@@ -9,5 +9,5 @@ pub loop-r-preserved : goal.loop-r-preserved
 loop-r-preserved c =
     let r : Rect = get_or c.args.rects.now c.loop-r.r-index no_zone.rect in
     noted-next c.args.kind c.args.part c.args.rects.now c.loop-r.r-index r c.args.corners.now c.args.noted.now c.loop-r.noted
-    c.note.new.noted c.loop-r-test.true (get_or_default _ _ _ _ c.loop-r-test.true) c.loop-r.invariant
-    (rw c.rect_corner.ensures at c.note.ensures)
+    c.note-place.new.noted c.loop-r-test.true (get_or_default _ _ _ _ c.loop-r-test.true) c.loop-r.invariant
+    (rw c.rect_corner.ensures at c.note-place.ensures)

@@ -1,0 +1,14 @@
+use Rattle.std.proofs.Common.{◌≡◌, ℕ, ◌-◌, ◌≤◌, true, false, length}
+use Rattle.std.specs.List.{AllWithin}
+use Rattle.dpl_piece.specs.Corners.{is_before, IsBracket}
+use Rattle.dpl_piece.proofs.corner.bracket_above.Given as goal
+
+abbrev pub invariant-loop-high : goal.invariant-loop-high
+invariant-loop-high l = record {
+  order : l.low ≤ l.high;
+  within : l.high ≤ length l.corners;
+  under : AllWithin (λ c. is_before l.x l.y c ≡ true) l.corners 0 l.low;
+}
+
+abbrev pub decreases-loop-high : goal.decreases-loop-high
+decreases-loop-high l = length l.corners - l.low
