@@ -21,7 +21,7 @@ use Rattle.dpl_piece.specs.declared.corner.Corner.{Corner}
 use Rattle.dpl_piece.specs.declared.corner.Kind.{Kind}
 use Rattle.dpl_piece.specs.declared.corner.Kind.TheVariants.{LowerLeft, LowerRight, UpperLeft}
 use Rattle.dpl_piece.specs.declared.piece.Origin.{Origin}
-use Rattle.dpl_piece.specs.Corners.{corner_at, corner_of, is_before, row_cmp, IsFirstCorner, IsBroken, IsZoneCorner, RiseByCorner}
+use Rattle.dpl_piece.specs.Corners.{corner_of, is_before, row_cmp, IsFirstCorner, IsBroken, IsZoneCorner, RiseByCorner}
 
 pub rows_total : IsTotalOrder row_cmp
 rows_total = then_total (on_total (λ t. t.0) int_cmp_total) (on_total (λ t. t.1) int_cmp_total)

@@ -1,6 +1,5 @@
-use Rattle.std.proofs.Common.{◌≡◌, length, true, false, sym, ◌∙◌, arith, rules, w32, FitsSigned}
+use Rattle.std.proofs.Common.{sym, ◌∙◌, arith, rules, w32, FitsSigned}
 use Rattle.std.proofs.lemmas.Int.{to_z-of_z}
-use Rattle.dpl_piece.specs.Corners.{is_before}
 use Rattle.dpl_piece.proofs.CornerLaws.{corners-over, corners-under}
 use Rattle.dpl_piece.proofs.corner.bracket_above.Goals as goal
 

@@ -1,6 +1,6 @@
-use Rattle.std.proofs.Common.{◌≡◌, ℕ, ◌-◌, ◌≤◌, true, false, length}
+use Rattle.std.proofs.Common.{◌≡◌, ◌-◌, ◌≤◌, true, length}
 use Rattle.std.specs.List.{AllWithin}
-use Rattle.dpl_piece.specs.Corners.{is_before, IsBracket}
+use Rattle.dpl_piece.specs.Corners.{is_before}
 use Rattle.dpl_piece.proofs.corner.bracket_above.Given as goal
 
 abbrev pub invariant-loop-high : goal.invariant-loop-high
