@@ -69,6 +69,10 @@ adds-push old new y is e =
       (λ h. elim h [ inl a ↦ Contains-append_left old (y ∷ []) e a | inr same ↦ rw same (Contains-push old y) ]),
     )
 
+-- an element that was there was added
+pub adds-again : {Y : Type 0} (xs : List Y) (y : Y) → Contains xs y → Adds (λ x. x ≡ y) xs xs
+adds-again xs y there e = (λ h. inl h, λ h. elim h [ inl a ↦ a | inr same ↦ rw same there ])
+
 -- the places of a row from the block's first column up to but not n
 abbrev pub IsInRowTo : ℕ → Block → ℕ → ℕ × ℕ → Type 0
 IsInRowTo row b n e = (e.0 ≡ row) × (b.column0 ≤ e.1) × (e.1 < n)
@@ -76,15 +80,15 @@ IsInRowTo row b n e = (e.0 ≡ row) × (b.column0 ≤ e.1) × (e.1 < n)
 pub row-none : (row : ℕ) (b : Block) (xs : List (ℕ × ℕ)) → Adds (IsInRowTo row b b.column0) xs xs
 row-none row b xs e = (λ h. inl h, λ h. elim h [ inl a ↦ a | inr (r, l, m) ↦ absurd (omega (arith, l, m)) ])
 
-pub row-more : (row : ℕ) (b : Block) (n : ℕ) (base old new : List (ℕ × ℕ)) → b.column0 ≤ n → new ≡ old ++ (row, n) ∷ []
+pub row-more : (row : ℕ) (b : Block) (n : ℕ) (base old new : List (ℕ × ℕ)) → b.column0 ≤ n → Adds (λ e. e ≡ (row, n)) old new
     → Adds (IsInRowTo row b n) base old → Adds (IsInRowTo row b (n + 1)) base new
-row-more row b n base old new from is before =
+row-more row b n base old new from step before =
     adds-then (IsInRowTo row b n) (λ e. e ≡ (row, n)) (IsInRowTo row b (n + 1)) base old new
     (λ e. (
       λ (r, l, m). elim (cases_eq e.1 n) [ inl same ↦ inr (ap (λ u. (u, e.1)) r ∙ ap (λ u. (row, u)) same) | inr ne ↦ inl (r, l, omega (arith, m, ne)) ],
       λ h. elim h [ inl (r, l, m) ↦ (r, l, omega (arith, m)) | inr same ↦ rw same (refl, from, omega arith) ],
     ))
-    before (adds-push old new (row, n) is)
+    before step
 
 -- the places of a block from its first row up to but not n
 abbrev pub IsInBlockTo : Block → ℕ → ℕ × ℕ → Type 0

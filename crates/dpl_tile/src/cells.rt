@@ -1,5 +1,5 @@
 //! The places of the cells that slabs meet.
-ghost use Rattle.std.specs.Prelude.{◌≡◌, ◌⊎◌, ◌↔◌, ℕ, ◌+◌, ◌-◌, ◌*◌, ◌<◌, ◌≤◌, IfOk, OnOk, length, sum_by};
+ghost use Rattle.std.specs.Prelude.{◌≡◌, IsTrue, ◌⊎◌, ◌↔◌, ℕ, ◌+◌, ◌-◌, ◌*◌, ◌<◌, ◌≤◌, IfOk, OnOk, length, sum_by};
 ghost use Rattle.std.specs.List.{All, AllPairs, Contains};
 ghost use Rattle.dpl_spec_split.specs.Graphs.{Precedes};
 ghost use Rattle.dpl_tile.specs.Adding.{Adds};
@@ -36,14 +36,36 @@ fn tidy(places: &mut Vec<Place>, limit: &mut usize)
     }
 }
 
+/// Whether the place is the last one.
+fn is_last(places: &[Place], place: Place) -> bool
+    ensures { IsTrue result → Contains places.now place }
+{
+    match places.last() {
+        Some(last) => *last == place,
+        None => false,
+    }
+}
+
+/// Adds a place, unless it is the last one already, as it mostly is where slab after slab lies in one cell.
+fn add_place(places: &mut Vec<Place>, place: Place) -> Result<(), AllocError>
+    ensures added { OnOk result (Adds (λ e. e ≡ place) places.old.items places.new.items) }
+    ensures count { OnOk result (length places.new.items ≤ length places.old.items + 1) }
+{
+    if is_last(places, place) {
+        return Ok(());
+    }
+    places.push(place)?;
+    Ok(())
+}
+
 /// Adds the places of a block in one row of cells.
 fn add_row(places: &mut Vec<Place>, row: u32, block: &Block) -> Result<(), AllocError>
     requires { IsSomeBlock block.now }
     ensures added { OnOk result (Adds (IsInRow row block.now) places.old.items places.new.items) }
-    ensures count { OnOk result (length places.new.items ≡ length places.old.items + (block.now.column1 - block.now.column0)) }
+    ensures count { OnOk result (length places.new.items ≤ length places.old.items + (block.now.column1 - block.now.column0)) }
 {
     for column in block.column0..block.column1 {
-        places.push((row, column))?;
+        add_place(places, (row, column))?;
     }
     Ok(())
 }

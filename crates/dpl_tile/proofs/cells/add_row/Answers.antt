@@ -10,11 +10,11 @@ pub loop-column-preserved : goal.loop-column-preserved
 loop-column-preserved c =
     let from = c.loop-column.invariant.from in
     let count = c.loop-column.invariant.count in
-    let more = c.in_ok-push.ensures.len in
+    let more = c.in_ok-add_place.ensures.count in
     record {
       from = omega (arith, from);
       added = row-more c.args.row c.args.block.now c.loop-column.column c.args.places.now.items c.loop-column.places.items _ from
-          c.in_ok-push.ensures.items c.loop-column.invariant.added;
+          c.in_ok-add_place.ensures.added c.loop-column.invariant.added;
       count = omega (arith, from, count, more);
     }
 
