@@ -1,5 +1,7 @@
 -- The conflicts of a plan are those of the cut that it was made of.
-use Rattle.std.proofs.Common.{◌≤◌, ℕ, List, length, get_or, sym, subst}
+use Rattle.std.proofs.Common.{◌≡◌, ◌<◌, ◌≤◌, ◌∙◌, ℕ, inl, inr, List, length, length-take, take, get_or, sym, subst, arith}
+use Rattle.std.specs.List.{Contains}
+use Rattle.std.proofs.lemmas.List.{get_or-take}
 use Rattle.std.proofs.lemmas.List.Elements.{Contains-get_or}
 use Rattle.dpl_spec_split.specs.declared.Spacing.{Spacing}
 use Rattle.dpl_spec_split.specs.declared.Rect.{Rect}
@@ -9,15 +11,18 @@ use Rattle.dpl_spec_split.specs.Summary.{HasOddCycle}
 use Rattle.dpl_spec_split.specs.Decomposition.{Cut, conflicts}
 use Rattle.dpl_stars.specs.Levels.{AreEdgesBelow}
 use Rattle.dpl_stars.specs.declared.list.Star.{Star}
+use Rattle.dpl_stars.specs.Sums.{Sums}
 use Rattle.dpl_stars.specs.declared.joined.Joined.{Joined}
 use Rattle.dpl_stars.specs.declared.joined.Joined.TheVariants.{Stars, Odd}
 use Rattle.dpl_orient.specs.Rooted.{ArePiecesBelow}
+use Rattle.dpl_orient.specs.Oriented.{IsEvenBelow}
 use Rattle.dpl_piece.specs.Cutting.{BareCut, Completes, CutPieces}
 use Rattle.dpl_tile.specs.Tiles.{AreTiles}
 use Rattle.dpl_tile.specs.Plans.{IsPlan, Planned}
 use Rattle.dpl_answer.specs.Conflicts.{IsTiled, SumsGraph}
-use Rattle.dpl_answer.specs.View.{AreConflictsOf}
+use Rattle.dpl_answer.specs.View.{AreAmong, AreConflictsOf}
 use Rattle.dpl_answer.specs.declared.conflicts.Conflicts.{Conflicts}
+use Rattle.dpl_answer.specs.declared.conflicts.Conflicts.TheVariants.{Even, Odd as OddConflicts}
 use Rattle.dpl_answer.proofs.Deciding.{rows_below, same_conflicts}
 use Rattle.dpl_answer.proofs.SameGraphs.{odd_same, same_back}
 
@@ -56,3 +61,29 @@ pub odd_listed : (spacing : Spacing) (cut : Cut) (es : List (ℕ × ℕ)) → Su
 odd_listed spacing cut es (fs, are, odd) these =
     odd_same (conflicts spacing cut) (graph_of es) (same_back (graph_of es) (conflicts spacing cut) (same_conflicts spacing cut es these))
     (odd_same (graph_of fs) (conflicts spacing cut) (same_conflicts spacing cut fs are) odd)
+
+-- an odd cycle of the first so many edges is one of all
+take-in : (n : ℕ) (es : List (ℕ × ℕ)) (e : ℕ × ℕ) → Contains (take n es) e → Contains es e
+take-in n es e (k, k_in, is) =
+    let size = length-take n es in
+    let l : k < n = omega (arith, size, k_in) in
+    (k, omega (arith, size, k_in), sym (get_or-take n es k e l) ∙ is)
+
+pub odd_of_first : (n : ℕ) (es : List (ℕ × ℕ)) → HasOddCycle (graph_of (take n es)) → HasOddCycle (graph_of es)
+odd_of_first n es (cycle, odd) = (
+  cycle,
+  record {
+    three = odd.three;
+    odd = odd.odd;
+    different = odd.different;
+    around = λ k l. elim (odd.around k l) [ inl h ↦ inl (take-in n es _ h) | inr h ↦ inr (take-in n es _ h) ];
+  },
+)
+
+-- what is among all conflicts are the conflicts
+pub among_all : (spacing : Spacing) (cut : Cut) (es : List (ℕ × ℕ)) (cs : Conflicts) → AreEdges (conflicts spacing cut) es
+    → AreAmong es cs → AreConflictsOf spacing cut.pieces cut.owners cs
+among_all spacing cut es (Even joined) are (sums, rows, is) =
+    ((es, are, sums), subst (IsEvenBelow (length cut.pieces)) (sym is) (stars_below spacing cut rows (es, are, subst (Sums es) is sums)))
+among_all spacing cut es (OddConflicts all) are (same, odd) =
+    (subst (AreEdges (conflicts spacing cut)) (sym same) are, subst (AreEdgesBelow (length cut.pieces)) (sym same) (conflicts_below spacing cut es are), subst (λ l. HasOddCycle (graph_of l)) (sym same) odd)

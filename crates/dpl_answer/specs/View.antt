@@ -1,11 +1,15 @@
 -- What is made of a layer, in the words of the definitions.
-use Rattle.std.specs.Prelude.{ℕ, List, length}
+use Rattle.std.specs.Prelude.{◌≡◌, ℕ, List, length}
 use Rattle.dpl_spec_split.specs.declared.Spacing.{Spacing}
 use Rattle.dpl_spec_split.specs.declared.Rect.{Rect}
 use Rattle.dpl_spec_split.specs.Pieces.{Conflict}
 use Rattle.dpl_spec_split.specs.Graphs.{AreEdges, graph_of}
 use Rattle.dpl_spec_split.specs.Summary.{HasOddCycle}
 use Rattle.dpl_stars.specs.Levels.{AreEdgesBelow}
+use Rattle.dpl_stars.specs.Sums.{Sums}
+use Rattle.dpl_stars.specs.declared.list.Star.{Star}
+use Rattle.dpl_stars.specs.declared.joined.Joined.{Joined}
+use Rattle.dpl_stars.specs.declared.joined.Joined.TheVariants.{Stars}
 use Rattle.dpl_orient.specs.Oriented.{IsEvenBelow}
 use Rattle.dpl_answer.specs.Conflicts.{SumsGraph}
 use Rattle.dpl_answer.specs.Flat.{Flat, Clashes, Paints, Painted as PaintedAs, Clash as ClashAs}
@@ -30,3 +34,8 @@ flat_view (Cycle x) = Clashes (clash_view x)
 abbrev pub AreConflictsOf : Spacing → List (List Rect) → List ℕ → Conflicts → Type 0
 AreConflictsOf spacing parts owners (Even joined) = SumsGraph (Conflict spacing parts owners) joined × IsEvenBelow (length parts) joined
 AreConflictsOf spacing parts owners (Odd edges) = AreEdges (Conflict spacing parts owners) edges.items × AreEdgesBelow (length parts) edges.items × HasOddCycle (graph_of edges.items)
+
+-- the summary of these edges, if they have no odd cycle, or all of them, if they have one
+abbrev pub AreAmong : List (ℕ × ℕ) → Conflicts → Type 0
+AreAmong edges (Even joined) = Sums edges joined × (rows : List Star) × (joined ≡ Stars rows)
+AreAmong edges (Odd all) = (all.items ≡ edges) × HasOddCycle (graph_of edges)

@@ -1,22 +1,37 @@
 //! The conflicts of the pieces of a layer.
-ghost use Rattle.std.specs.Prelude.{◌≤◌, ◌≡◌, ℕ, IfOk};
+ghost use Rattle.std.specs.Prelude.{◌≤◌, ◌≡◌, ℕ, IfOk, IsTrue, length};
+ghost use Rattle.dpl_spec_split.specs.Graphs.{AreEdges, graph_of};
+ghost use Rattle.dpl_spec_split.specs.Summary.{HasOddCycle};
+ghost use Rattle.dpl_spec_split.specs.Pieces.{Conflict};
+ghost use Rattle.dpl_stars.specs.Levels.{AreEdgesBelow};
+ghost use Rattle.dpl_stars.specs.Sums.{AreEdgePairs};
 ghost use Rattle.dpl_tile.specs.Plans.{IsPlan};
 ghost use Rattle.dpl_tile.specs.Tiles.{IsDoubled};
 ghost use Rattle.dpl_cert.specs.Grammar.{IsRule};
 ghost use Rattle.dpl_answer.specs.Flat.{AreWorkers, IsTile};
-ghost use Rattle.dpl_answer.specs.View.{AreConflictsOf};
+ghost use Rattle.dpl_answer.specs.View.{AreAmong, AreConflictsOf};
 
 use crate::job::{EdgeJob, joined_conflicts};
-use dpl_base::{Edge, Spacing};
+use dpl_base::{Edge, Spacing, round_one};
 use dpl_cut::BareLayerCut;
 use dpl_edges::all_edges;
 use dpl_piece::BarePieces;
 use dpl_pool::Gate;
-use dpl_stars::Joined;
+use dpl_slabs::Slabs;
+use dpl_stars::{Joined, stars};
 use dpl_tile::{plan, side_for};
 use std::alloc::{AllocError, Global};
 use std::sync::Wait;
 use std::thread::Threads;
+
+/// How many slabs a square with sides of the rule has on average where they are crowded.
+const CROWD: u64 = 64;
+
+/// How many of the edges of a crowded layer are looked at before all of them are.
+const FIRST_EDGES: usize = 65_536;
+
+/// The side of a tile that has every layer.
+const WIDEST: u32 = 1 << 31;
 
 /// How the conflicts of a layer are found. Nothing of it shows in the answer.
 #[derive(Clone, Copy, Debug)]
@@ -53,6 +68,9 @@ pub fn conflicts_of<R: Threads + Wait + Sync, G: Gate + Sync>(
     requires workers { AreWorkers sharing.workers }
     ensures { IfOk result (AreConflictsOf spacing cut.now.pieces.parts cut.now.pieces.owners) }
 {
+    if are_crowded(cut.pieces.parts().items(), spacing.rule) {
+        return crowded_conflicts(alloc, &cut.pieces, spacing);
+    }
     let job = tiles_of(alloc, &cut.pieces, spacing, sharing.tile)?;
     let joined = joined_conflicts(rt, alloc, sharing.workers, &job, gate)?;
     match &joined {
@@ -62,6 +80,77 @@ pub fn conflicts_of<R: Threads + Wait + Sync, G: Gate + Sync>(
             Ok(Conflicts::Odd(edges))
         }
     }
+}
+
+/// Whether a square with sides of the rule has many slabs, on average over the rectangle round all of them. Then there is hardly a pair of colours for them, and tiles would tell most conflicts several times.
+fn are_crowded(parts: &[Slabs], rule: u32) -> bool {
+    let mut around = None;
+    let mut count: u64 = 0;
+    for part in parts {
+        for r in part.rects() {
+            around = round_one(around, r);
+            count = count.saturating_add(1);
+        }
+    }
+    let Some(around) = around else {
+        return false;
+    };
+    let side = rule.max(1) as u64;
+    let columns = around.x0.abs_diff(around.x1) as u64 / side + 1;
+    let rows = around.y0.abs_diff(around.y1) as u64 / side + 1;
+    columns.saturating_mul(rows).saturating_mul(CROWD) < count
+}
+
+/// All conflicts of pieces, which no tiles tell: there is one for all of them.
+fn conflicts_at_once(
+    alloc: Global,
+    pieces: &BarePieces,
+    spacing: Spacing,
+) -> Result<Vec<Edge>, AllocError>
+    requires corner { spacing.corner ≤ spacing.rule }
+    ensures edges { IfOk result (λ v. AreEdges (Conflict spacing pieces.now.parts pieces.now.owners) v.items) }
+    ensures below { IfOk result (λ v. AreEdgesBelow (length pieces.now.parts) v.items) }
+{
+    let plan = plan(alloc, pieces.parts(), pieces.owner(), spacing, WIDEST)?;
+    all_edges(alloc, &plan)
+}
+
+/// Whether the first so many edges have an odd cycle, and so all of them.
+fn start_odd(alloc: Global, edges: &[Edge], count: usize) -> Result<bool, AllocError>
+    requires { AreEdgePairs edges.now }
+    ensures { IfOk result (λ odd. IsTrue odd → HasOddCycle (graph_of edges.now)) }
+{
+    let first = &edges[..edges.len().min(count)];
+    let joined = stars(alloc, first)?;
+    Ok(joined.is_odd())
+}
+
+/// The conflicts whose edges these are.
+fn conflicts_among(alloc: Global, edges: Vec<Edge>) -> Result<Conflicts, AllocError>
+    requires { AreEdgePairs edges.items }
+    ensures { IfOk result (AreAmong edges.items) }
+{
+    if start_odd(alloc, &edges, FIRST_EDGES)? {
+        return Ok(Conflicts::Odd(edges));
+    }
+    let joined = stars(alloc, &edges)?;
+    match &joined {
+        Joined::Stars(_) => Ok(Conflicts::Even(joined)),
+        Joined::Odd => Ok(Conflicts::Odd(edges)),
+    }
+}
+
+/// The conflicts of pieces of which many lie close to one another.
+fn crowded_conflicts(
+    alloc: Global,
+    pieces: &BarePieces,
+    spacing: Spacing,
+) -> Result<Conflicts, AllocError>
+    requires corner { spacing.corner ≤ spacing.rule }
+    ensures { IfOk result (AreConflictsOf spacing pieces.now.parts pieces.now.owners) }
+{
+    let edges = conflicts_at_once(alloc, pieces, spacing)?;
+    conflicts_among(alloc, edges)
 }
 
 /// The tiles of the pieces, whose side is `tile`, doubled some number of times.

@@ -1,0 +1,9 @@
+use Rattle.std.proofs.Common.{◌≡◌}
+use Rattle.dpl_stars.specs.declared.joined.Joined.TheVariants.{Odd}
+use Rattle.dpl_answer.proofs.Planned.{odd_of_first}
+use Rattle.dpl_answer.proofs.conflicts.start_odd.Goals as goal
+
+pub returns : goal.returns
+returns c = λ odd.
+    let is : c.in_ok-joined.joined ≡ Odd = c.is_odd.ensures.0 odd in
+    odd_of_first _ c.args.edges.now (rw is at c.in_ok-joined.ensures)
