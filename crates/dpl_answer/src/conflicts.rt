@@ -24,10 +24,10 @@ use std::alloc::{AllocError, Global};
 use std::sync::Wait;
 use std::thread::Threads;
 
-/// How many slabs a square with sides of the rule has on average where they are crowded.
-const CROWD: u64 = 64;
+/// How many slabs a square with sides of the rule has on average where they are dense.
+const DENSE: u64 = 64;
 
-/// How many of the edges of a crowded layer are looked at before all of them are.
+/// How many of the edges of a dense layer are looked at before all of them are.
 const FIRST_EDGES: usize = 65_536;
 
 /// The side of a tile that has every layer.
@@ -68,8 +68,8 @@ pub fn conflicts_of<R: Threads + Wait + Sync, G: Gate + Sync>(
     requires workers { AreWorkers sharing.workers }
     ensures { IfOk result (AreConflictsOf spacing cut.now.pieces.parts cut.now.pieces.owners) }
 {
-    if are_crowded(cut.pieces.parts().items(), spacing.rule) {
-        return crowded_conflicts(alloc, &cut.pieces, spacing);
+    if are_dense(cut.pieces.parts().items(), spacing.rule) {
+        return dense_conflicts(alloc, &cut.pieces, spacing);
     }
     let job = tiles_of(alloc, &cut.pieces, spacing, sharing.tile)?;
     let joined = joined_conflicts(rt, alloc, sharing.workers, &job, gate)?;
@@ -82,8 +82,8 @@ pub fn conflicts_of<R: Threads + Wait + Sync, G: Gate + Sync>(
     }
 }
 
-/// Whether a square with sides of the rule has many slabs, on average over the rectangle round all of them. Then there is hardly a pair of colours for them, and tiles would tell most conflicts several times.
-fn are_crowded(parts: &[Slabs], rule: u32) -> bool {
+/// Whether a square with sides of the rule has many slabs, on average over the rectangle round all of them: then several tiles would tell most of their conflicts.
+fn are_dense(parts: &[Slabs], rule: u32) -> bool {
     let mut around = None;
     let mut count: u64 = 0;
     for part in parts {
@@ -98,10 +98,10 @@ fn are_crowded(parts: &[Slabs], rule: u32) -> bool {
     let side = rule.max(1) as u64;
     let columns = around.x0.abs_diff(around.x1) as u64 / side + 1;
     let rows = around.y0.abs_diff(around.y1) as u64 / side + 1;
-    columns.saturating_mul(rows).saturating_mul(CROWD) < count
+    columns.saturating_mul(rows).saturating_mul(DENSE) < count
 }
 
-/// All conflicts of pieces, which no tiles tell: there is one for all of them.
+/// All conflicts of pieces, by one tile for all of them.
 fn conflicts_at_once(
     alloc: Global,
     pieces: &BarePieces,
@@ -140,8 +140,8 @@ fn conflicts_among(alloc: Global, edges: Vec<Edge>) -> Result<Conflicts, AllocEr
     }
 }
 
-/// The conflicts of pieces of which many lie close to one another.
-fn crowded_conflicts(
+/// The conflicts of the pieces of a dense layer.
+fn dense_conflicts(
     alloc: Global,
     pieces: &BarePieces,
     spacing: Spacing,

@@ -3,7 +3,7 @@ use Rattle.std.proofs.lemmas.Result.{IfOk-weaker}
 use Rattle.dpl_piece.specs.Cutting.{cut_pieces}
 use Rattle.dpl_cut.specs.Cutting.{cut_view}
 use Rattle.dpl_answer.proofs.Planned.{among_all}
-use Rattle.dpl_answer.proofs.conflicts.crowded_conflicts.Goals as goal
+use Rattle.dpl_answer.proofs.conflicts.dense_conflicts.Goals as goal
 
 pub returns : goal.returns
 returns c =
