@@ -101,8 +101,8 @@ struct Clash {
     cert: &'static str,
 }
 
-/// Three squares, each two closer than the rule; twice three, of which the lower three are told of, in the last of two tiles and in the first.
-const CLASHES: [Clash; 3] = [
+/// Three squares, each two closer than the rule; twice three, of which the lower three are told of, in the last of two tiles and in the first; a mesh of 69 slabs and two squares within the rule.
+const CLASHES: [Clash; 4] = [
     Clash {
         layer: &[[0, 0, 10, 10], [20, 0, 30, 10], [10, 20, 20, 30]],
         cert: "features 3 pieces 3 zones 0\ncycle 3\npiece 0 0 0\npiece 1 20 0\npiece 2 10 20\nnear 0 0 20 0\nnear 20 0 10 20\nnear 10 20 0 0\n",
@@ -128,6 +128,30 @@ const CLASHES: [Clash; 3] = [
             [210, 25, 220, 35],
         ],
         cert: "features 6 pieces 6 zones 0\ncycle 3\npiece 0 0 0\npiece 1 20 0\npiece 4 10 20\nnear 0 0 20 0\nnear 20 0 10 20\nnear 10 20 0 0\n",
+    },
+    Clash {
+        layer: &[
+            [0, 0, 1, 19],
+            [2, 0, 3, 19],
+            [4, 0, 5, 19],
+            [6, 0, 7, 19],
+            [8, 0, 9, 19],
+            [10, 0, 11, 19],
+            [12, 0, 13, 19],
+            [14, 0, 15, 19],
+            [16, 0, 17, 19],
+            [18, 0, 19, 19],
+            [20, 0, 21, 19],
+            [22, 0, 23, 19],
+            [24, 0, 25, 19],
+            [0, 3, 25, 4],
+            [0, 7, 25, 8],
+            [0, 11, 25, 12],
+            [0, 15, 25, 16],
+            [27, 0, 28, 1],
+            [27, 5, 28, 6],
+        ],
+        cert: "features 3 pieces 3 zones 0\ncycle 3\npiece 0 0 0\npiece 1 27 0\npiece 2 27 5\nnear 0 0 27 0\nnear 27 0 27 5\nnear 27 5 0 0\n",
     },
 ];
 
