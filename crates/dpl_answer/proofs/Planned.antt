@@ -1,5 +1,5 @@
 -- The conflicts of a plan are those of the cut that it was made of.
-use Rattle.std.proofs.Common.{◌≡◌, ◌<◌, ◌≤◌, ◌∙◌, ℕ, inl, inr, List, length, length-take, take, get_or, sym, subst, arith}
+use Rattle.std.proofs.Common.{◌<◌, ◌≤◌, ◌∙◌, ℕ, inl, inr, List, length, length-take, take, get_or, sym, subst, arith}
 use Rattle.std.specs.List.{Contains}
 use Rattle.std.proofs.lemmas.List.{get_or-take}
 use Rattle.std.proofs.lemmas.List.Elements.{Contains-get_or}

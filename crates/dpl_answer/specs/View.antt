@@ -8,7 +8,6 @@ use Rattle.dpl_spec_split.specs.Summary.{HasOddCycle}
 use Rattle.dpl_stars.specs.Levels.{AreEdgesBelow}
 use Rattle.dpl_stars.specs.Sums.{Sums}
 use Rattle.dpl_stars.specs.declared.list.Star.{Star}
-use Rattle.dpl_stars.specs.declared.joined.Joined.{Joined}
 use Rattle.dpl_stars.specs.declared.joined.Joined.TheVariants.{Stars}
 use Rattle.dpl_orient.specs.Oriented.{IsEvenBelow}
 use Rattle.dpl_answer.specs.Conflicts.{SumsGraph}
