@@ -1,19 +1,20 @@
 -- The rectangles of a tree.
 use Rattle.std.proofs.Common.{◌≡◌, ◌≢◌, ℕ, zero, suc, ◌<◌, ◌⊎◌, inl, inr, Bool, true, false, not, cond, ◌==◌, List, [], ◌∷◌, length, get_or}
-use Rattle.std.proofs.Common.{map, sym, refl, ap, ◌∙◌, subst, arith, rules}
+use Rattle.std.proofs.Common.{sym, refl, ap, ◌∙◌, subst, arith, rules}
+use Rattle.std.specs.Prelude.{pos}
 use Rattle.std.specs.List.{Contains}
-use Rattle.std.proofs.lemmas.List.{get_or_default, length-map}
+use Rattle.std.proofs.lemmas.List.{get_or_default}
 use Rattle.dpl_spec_split.specs.declared.Rect.{Rect}
 use Rattle.dpl_spec_split.specs.Loops.{farthest}
 use Rattle.dpl_spec_split.specs.Squares.{IsSolidWithin}
-use Rattle.dpl_spec_split.specs.Zones.{transposed_rect}
 use Rattle.dpl_tree.specs.declared.items.Item.{Item}
-use Rattle.dpl_tree.specs.Trees.{transposed_item, HasItem}
+use Rattle.dpl_tree.specs.Trees.{HasItem}
 use Rattle.dpl_zone.specs.Items.{AreItemsWithin, others_in, own_in}
 use Rattle.dpl_zone.specs.Rows.{AreWithin}
 use Rattle.dpl_tree.proofs.ItemLaws.{item-at}
-use Rattle.dpl_tree.proofs.TransposedLaws.{transposed-get}
-use Rattle.dpl_zone.proofs.TransposedLaws.{transposed-back}
+
+abbrev pub zero_item : Item
+zero_item = record { rect = record { x0 = pos 0; y0 = pos 0; x1 = pos 0; y1 = pos 0 }; owner = 0 }
 
 is-other : (own : ℕ) (item : Item) → not (item.owner == own) ≡ true → item.owner ≢ own
 is-other own item h = search rules
@@ -87,37 +88,3 @@ pub others-within : (items : List Item) (own : ℕ) → AreItemsWithin items →
 others-within items own within i d l =
     let (k, ne, has) = others-in items own (get_or (others_in items own) i d) (i, l, get_or_default (others_in items own) i (get_or (others_in items own) i d) d l) in
     within (get_or (others_in items own) i d) k has
-
-transposed-cond : (b : Bool) (r : Rect) (xs ys : List Rect) → ys ≡ map transposed_rect xs → cond b (transposed_rect r ∷ ys) ys ≡ map transposed_rect (cond b (r ∷ xs) xs)
-transposed-cond true r xs ys e = ap (λ t. let s : List Rect = t in transposed_rect r ∷ s) e
-transposed-cond false r xs ys e = e
-
--- transposed
-transposed-others : (own : ℕ) (items : List Item) → others_in (map transposed_item items) own ≡ map transposed_rect (others_in items own)
-transposed-others own [] = refl
-transposed-others own (item ∷ items) = transposed-cond (not (item.owner == own)) item.rect (others_in items own)
-    (others_in (map transposed_item items) own) (transposed-others own items)
-
-transposed-own : (own : ℕ) (items : List Item) → own_in (map transposed_item items) own ≡ map transposed_rect (own_in items own)
-transposed-own own [] = refl
-transposed-own own (item ∷ items) = transposed-cond (item.owner == own) item.rect (own_in items own) (own_in (map transposed_item items) own) (transposed-own own items)
-
--- the others' rectangles in the transposed tree, transposed back
-pub others-back : (items across : List Item) (own : ℕ) → across ≡ map transposed_item items → map transposed_rect (others_in across own) ≡ others_in items own
-others-back items across own e = ap (λ t. let s : List Item = t in map transposed_rect (others_in s own)) e
-    ∙ (ap (λ t. let s : List Rect = t in map transposed_rect s) (transposed-others own items) ∙ transposed-back (others_in items own))
-
-pub transposed-items : (items across : List Item) → across ≡ map transposed_item items → AreItemsWithin items → AreItemsWithin across
-transposed-items items across e within r k has = transposed-one (rw e at has)
-  where
-    transposed-one : HasItem (map transposed_item items) r k → IsSolidWithin farthest r
-    transposed-one (t, (i, l, is), rect, owner) =
-        let here : get_or items i (transposed_item t) ≡ transposed_item t = ap transposed_item (sym (transposed-get items i t) ∙ is) in
-        let w = within (transposed_rect r) k (transposed_item t, (i, omega (arith, l, length-map items transposed_item), here), ap transposed_rect rect, owner) in
-        record { wide = w.tall; tall = w.wide; left = w.low; right = w.high; low = w.left; high = w.right }
-
-pub others-transposed_in : (items across : List Item) (own : ℕ) → across ≡ map transposed_item items → others_in across own ≡ map transposed_rect (others_in items own)
-others-transposed_in items across own e = ap (λ t. let s : List Item = t in others_in s own) e ∙ transposed-others own items
-
-pub own-transposed_in : (items across : List Item) (own : ℕ) → across ≡ map transposed_item items → own_in across own ≡ map transposed_rect (own_in items own)
-own-transposed_in items across own e = ap (λ t. let s : List Item = t in own_in s own) e ∙ transposed-own own items

@@ -1,20 +1,22 @@
 -- Horizontal zones, and the vertical ones beside them.
-use Rattle.std.proofs.Common.{◌≡◌, ℕ, ◌+◌, ◌<◌, ◌≤◌, ◌⊎◌, inl, inr, List, [], ◌∷◌, ◌++◌, length, get_or, sym, refl, ap, ◌∙◌, subst, arith}
+use Rattle.std.proofs.Common.{◌≡◌, ℕ, zero, suc, ◌+◌, ◌<◌, ◌≤◌, ◌⊎◌, inl, inr, List, [], ◌∷◌, ◌++◌, length, get_or, sym, refl, ap, ◌∙◌, subst, arith}
 use Rattle.std.specs.Prelude.{pos, ◌-ℤ◌, ◌≤ℤ◌, ◌<ℤ◌, ◌↔◌}
-use Rattle.std.specs.List.{Contains}
+use Rattle.std.specs.List.{All, Contains}
 use Rattle.std.proofs.lemmas.Int.{ints}
 use Rattle.std.proofs.lemmas.Bool.{cases_eq}
 use Rattle.std.proofs.lemmas.List.{get_or_default}
 use Rattle.std.proofs.lemmas.List.Elements.{Contains-append_left, Contains-push, Contains-push_cases}
 use Rattle.dpl_spec_split.specs.declared.Spacing.{Spacing}
 use Rattle.dpl_spec_split.specs.declared.Rect.{Rect}
+use Rattle.dpl_spec_split.specs.declared.Zone.{Zone}
 use Rattle.dpl_spec_split.specs.Loops.{farthest}
 use Rattle.dpl_spec_split.specs.Squares.{Region, AreTouching, Has, Covers, IsSolidWithin}
-use Rattle.dpl_spec_split.specs.Zones.{at, IsHorizontalZone, IsVerticalZone, IsKeptZone, transposed, transposed_rect}
+use Rattle.dpl_spec_split.specs.Zones.{at, IsHorizontalZone, IsVerticalZone, transposed, transposed_rect}
 use Rattle.dpl_tree.specs.declared.items.Item.{Item}
 use Rattle.dpl_tree.specs.Trees.{HasItem}
 use Rattle.dpl_zone.specs.Items.{AreItemsWithin}
-use Rattle.dpl_zone.specs.Rows.{AddsZones, AreWithin, TouchesAny, layer_of}
+use Rattle.dpl_zone.specs.Layers.{TouchesItem, TouchesOwn}
+use Rattle.dpl_zone.specs.Rows.{AreWithin}
 
 -- a zone of some rows has its squares in the feature
 pub record IsInside (f : Region) (z : Rect) : Type 0 where
@@ -82,58 +84,84 @@ upright-inside spacing overlap l f z some h =
     let i = zone-inside spacing overlap (transposed l) (transposed f) (transposed_rect z) some h in
     record { wide = i.tall; tall = i.wide; first = i.first; last = i.last }
 
-module _ (spacing : Spacing) (overlap : ℕ) (rects others : List Rect) (some : 1 ≤ overlap) (within : AreWithin rects) where
-  pub flat-within : (zs : List Rect) → ((z : Rect) → Contains zs z ↔ IsHorizontalZone spacing overlap (layer_of rects others) (Covers rects) z) → AreWithin zs
-  flat-within zs h k d l = inside-within rects (get_or zs k d) within
-      (zone-inside spacing overlap (layer_of rects others) (Covers rects) (get_or zs k d) some ((h (get_or zs k d)).0 (k, l, get_or_default zs k (get_or zs k d) d l)))
+abbrev pub KeptOf : List Zone → List Zone → ℕ → Zone → Type 0
+KeptOf flat zs n w = (k : ℕ) × (k < n) × (k < length zs) × (get_or zs k w ≡ w) × (TouchesOwn flat w → ⊥)
 
-  pub upright-within : (zs : List Rect) → ((z : Rect) → Contains zs z ↔ IsVerticalZone spacing overlap (layer_of rects others) (Covers rects) z) → AreWithin zs
-  upright-within zs h k d l = inside-within rects (get_or zs k d) within
-      (upright-inside spacing overlap (layer_of rects others) (Covers rects) (get_or zs k d) some ((h (get_or zs k d)).0 (k, l, get_or_default zs k (get_or zs k d) d l)))
-
-abbrev pub KeptOf : List Rect → List Rect → ℕ → Rect → Type 0
-KeptOf flat zs n w = (k : ℕ) × (k < n) × (k < length zs) × (get_or zs k w ≡ w) × (TouchesAny flat w → ⊥)
-
--- the zone touches no item
-abbrev pub TouchesNone : List Item → Rect → Type 0
-TouchesNone items w = (h : Rect) (k : ℕ) → HasItem items h k → AreTouching (Has h) (Has w) → ⊥
-
-pub apart-added : (kept : List Rect) (items : List Item) (z : Rect) → TouchesNone items z → AddsZones (λ w. (z ≡ w) × TouchesNone items w) kept (kept ++ z ∷ [])
+pub apart-added : (kept : List Zone) (items : List Item) (z : Zone) → (TouchesItem items z → ⊥) → (w : Zone)
+    → Contains (kept ++ z ∷ []) w ↔ (Contains kept w ⊎ ((z ≡ w) × (TouchesItem items w → ⊥)))
 apart-added kept items z free w = (
-  λ h. elim (Contains-push_cases kept z w h) [ inl a ↦ inl a | inr e ↦ inr (e, subst (λ u. TouchesNone items u) e free) ],
-  λ h. elim h [ inl a ↦ Contains-append_left kept (z ∷ []) w a | inr (e, f) ↦ subst (λ u. Contains (kept ++ z ∷ []) u) e (Contains-push kept z) ],
+  λ h. elim (Contains-push_cases kept z w h) [ inl a ↦ inl a | inr e ↦ inr (e, subst (λ (u : Zone). TouchesItem items u → ⊥) e free) ],
+  λ h. elim h [ inl a ↦ Contains-append_left kept (z ∷ []) w a | inr (e, f) ↦ subst (λ (u : Zone). Contains (kept ++ z ∷ []) u) e (Contains-push kept z) ],
 )
 
-pub apart-none : (kept : List Rect) (items : List Item) (z : Rect)
-    → ((h : Rect) × (k : ℕ) × HasItem items h k × AreTouching (Has h) (Has z)) → AddsZones (λ w. (z ≡ w) × TouchesNone items w) kept kept
-apart-none kept items z (h, k, has, touch) w = (
+pub apart-none : (kept : List Zone) (items : List Item) (z : Zone) → TouchesItem items z → (w : Zone) → Contains kept w ↔ (Contains kept w ⊎ ((z ≡ w) × (TouchesItem items w → ⊥)))
+apart-none kept items z touch w = (
   λ a. inl a,
-  λ a. elim a [ inl b ↦ b | inr (e, f) ↦ absurd (f h k has (subst (λ u. AreTouching (Has h) (Has u)) e touch)) ],
+  λ a. elim a [ inl b ↦ b | inr (e, f) ↦ absurd (f (subst (λ (u : Zone). TouchesItem items u) e touch)) ],
 )
 
--- the items are the zones of the list
-pub apart-of_list : (flat : List Rect) (items : List Item) (z : Rect) (old new : List Rect) → ((r : Rect) (k : ℕ) → HasItem items r k ↔ ((k ≡ 0) × Contains flat r))
-    → AddsZones (λ w. (z ≡ w) × TouchesNone items w) old new → AddsZones (λ w. (z ≡ w) × (TouchesAny flat w → ⊥)) old new
+-- the items are the zones of the list, by feature
+abbrev pub AreZoneItems : List Zone → List Item → Type 0
+AreZoneItems zones items = (r : Rect) (k : ℕ) → HasItem items r k ↔ ((z : Zone) × Contains zones z × (z.rect ≡ r) × (z.feature ≡ k))
+
+touches-item : (flat : List Zone) (items : List Item) (w : Zone) → AreZoneItems flat items → TouchesOwn flat w → TouchesItem items w
+touches-item flat items w are (h, c, e, touch) = (h.rect, (are h.rect w.feature).1 (h, c, refl, e), touch)
+
+touches-own : (flat : List Zone) (items : List Item) (w : Zone) → AreZoneItems flat items → TouchesItem items w → TouchesOwn flat w
+touches-own flat items w are (r, has, touch) = let (h, c, e, f) = (are r w.feature).0 has in (h, c, f, subst (λ (s : Rect). AreTouching (Has s) (Has w.rect)) (sym e) touch)
+
+pub apart-of_list : (flat : List Zone) (items : List Item) (z : Zone) (old new : List Zone) → AreZoneItems flat items
+    → ((w : Zone) → Contains new w ↔ (Contains old w ⊎ ((z ≡ w) × (TouchesItem items w → ⊥)))) → (w : Zone) → Contains new w ↔ (Contains old w ⊎ ((z ≡ w) × (TouchesOwn flat w → ⊥)))
 apart-of_list flat items z old new are adds w = (
-  λ a. elim ((adds w).0 a) [
-    | inl b ↦ inl b
-    | inr (e, none) ↦ inr (e, λ (i, h, i_in, i_is, touch). none h 0 ((are h 0).1 (refl, (i, i_in, i_is))) touch)
-  ],
-  λ a. elim a [
-    | inl b ↦ (adds w).1 (inl b)
-    | inr (e, none) ↦ (adds w).1 (inr (e, λ h k has touch. (let (i, i_in, i_is) = ((are h k).0 has).1 in none (i, h, i_in, i_is, touch))))
-  ],
+  λ a. elim ((adds w).0 a) [ inl b ↦ inl b | inr (e, none) ↦ inr (e, λ t. none (touches-item flat items w are t)) ],
+  λ a. elim a [ inl b ↦ (adds w).1 (inl b) | inr (e, none) ↦ (adds w).1 (inr (e, λ t. none (touches-own flat items w are t))) ],
 )
 
--- zones of a list in the range are items in the range
-pub items-within_list : (flat : List Rect) (items : List Item) → AreWithin flat → ((r : Rect) (k : ℕ) → HasItem items r k ↔ ((k ≡ 0) × Contains flat r)) → AreItemsWithin items
+-- zones in the range are items in the range
+pub items-within_list : (flat : List Zone) (items : List Item) → All (λ z. IsSolidWithin farthest z.rect) flat → AreZoneItems flat items → AreItemsWithin items
 items-within_list flat items within are r k has =
-    let (i, i_in, i_is) = ((are r k).0 has).1 in
-    subst (λ u. IsSolidWithin farthest u) i_is (within i r i_in)
+    let (z, (i, i_in, i_is), e, f) = (are r k).0 has in
+    subst (λ (u : Rect). IsSolidWithin farthest u) e (subst (λ (t : Zone). IsSolidWithin farthest t.rect) i_is (within i z i_in))
 
-pub kept-more : (flat zs : List Rect) (i : ℕ) (z : Rect) (old new : List Rect) → i < length zs → z ≡ get_or zs i z
-    → ((w : Rect) → Contains old w ↔ (Contains flat w ⊎ KeptOf flat zs i w)) → AddsZones (λ w. (z ≡ w) × (TouchesAny flat w → ⊥)) old new
-    → (w : Rect) → Contains new w ↔ (Contains flat w ⊎ KeptOf flat zs (i + 1) w)
+-- the items of the first n zones
+abbrev pub OfFirstZones : List Zone → ℕ → List Item → Type 0
+OfFirstZones zones n items = (r : Rect) (k : ℕ) → HasItem items r k ↔ ((z : Zone) × (i : ℕ) × (i < n) × (i < length zones) × (get_or zones i z ≡ z) × (z.rect ≡ r) × (z.feature ≡ k))
+
+pub tree-none : (zones : List Zone) (items : List Item) → items ≡ [] → OfFirstZones zones 0 items
+tree-none zones items none r k = (
+  λ (t, c, e, f). absurd (let (i, i_in, is) = subst (λ (xs : List Item). Contains xs t) none c in omega (arith, i_in)),
+  λ (z, i, l, i_in, is, e, f). absurd (omega (arith, l)),
+)
+
+pub tree-more : (zones : List Zone) (n : ℕ) (d : Zone) (old new : List Item) → n < length zones → OfFirstZones zones n old
+    → ((r : Rect) (k : ℕ) → HasItem new r k ↔ (HasItem old r k ⊎ ((k ≡ (get_or zones n d).feature) × Contains ((get_or zones n d).rect ∷ []) r))) → OfFirstZones zones (n + 1) new
+tree-more zones n d old new n_in before step r k =
+    let z : Zone = get_or zones n d in (
+      λ h. elim ((step r k).0 h) [
+        | inl a ↦ (let (w, i, l, i_in, is, e, f) = (before r k).0 a in (w, i, omega (arith, l), i_in, is, e, f))
+        | inr (own, c) ↦ (z, n, omega arith, n_in, get_or_default zones n z d n_in, of-one z.rect r c, sym own)
+      ],
+      λ (w, i, l, i_in, is, e, f). elim (cases_eq i n) [
+        | inl same ↦
+            (let here : z ≡ w = get_or_default zones n d w n_in ∙ (ap (λ (j : ℕ). get_or zones j w) (sym same) ∙ is) in
+            (step r k).1 (inr (sym (ap (λ (u : Zone). u.feature) here ∙ f), (0, omega arith, ap (λ (u : Zone). u.rect) here ∙ e))))
+        | inr ne ↦ (step r k).1 (inl ((before r k).1 (w, i, omega (arith, l, ne), i_in, is, e, f)))
+      ],
+    )
+  where
+    of-one : (s t : Rect) → Contains (s ∷ []) t → s ≡ t
+    of-one s t (zero, l, e) = e
+    of-one s t (suc i, l, e) = absurd (omega (arith, l))
+
+pub tree-all : (zones : List Zone) (n : ℕ) (items tree : List Item) → length zones ≤ n → OfFirstZones zones n items → ((r : Rect) (k : ℕ) → HasItem tree r k ↔ HasItem items r k) → AreZoneItems zones tree
+tree-all zones n items tree all h same r k = (
+  λ a. (let (z, i, l, i_in, is, e, f) = (h r k).0 ((same r k).0 a) in (z, (i, i_in, is), e, f)),
+  λ (z, (i, i_in, is), e, f). (same r k).1 ((h r k).1 (z, i, omega (arith, all, i_in), i_in, is, e, f)),
+)
+
+pub kept-more : (flat zs : List Zone) (i : ℕ) (z : Zone) (old new : List Zone) → i < length zs → z ≡ get_or zs i z
+    → ((w : Zone) → Contains old w ↔ (Contains flat w ⊎ KeptOf flat zs i w)) → ((w : Zone) → Contains new w ↔ (Contains old w ⊎ ((z ≡ w) × (TouchesOwn flat w → ⊥))))
+    → (w : Zone) → Contains new w ↔ (Contains flat w ⊎ KeptOf flat zs (i + 1) w)
 kept-more flat zs i z old new i_in is before step w = (
   λ h. elim ((step w).0 h) [
     | inl a ↦ elim ((before w).0 a) [ inl b ↦ inl b | inr (k, l, k_in, k_is, f) ↦ inr (k, omega (arith, l), k_in, k_is, f) ]
@@ -148,44 +176,23 @@ kept-more flat zs i z old new i_in is before step w = (
   ],
 )
 
-pub kept-none : (flat zs kept : List Rect) → kept ≡ flat → (w : Rect) → Contains kept w ↔ (Contains flat w ⊎ KeptOf flat zs 0 w)
+pub kept-none : (flat zs kept : List Zone) → kept ≡ flat → (w : Zone) → Contains kept w ↔ (Contains flat w ⊎ KeptOf flat zs 0 w)
 kept-none flat zs kept is w = rw is ((λ h. inl h), (λ h. elim h [ inl a ↦ a | inr (k, l, k_in, k_is, f) ↦ absurd (omega (arith, l)) ]))
 
 -- where there is no horizontal zone, all vertical ones are kept
-pub joined-no_flat : (flat zs : List Rect) → length flat ≡ 0 → (w : Rect) → Contains zs w ↔ (Contains flat w ⊎ (Contains zs w × (TouchesAny flat w → ⊥)))
+pub joined-no_flat : (flat zs : List Zone) → length flat ≡ 0 → (w : Zone) → Contains zs w ↔ (Contains flat w ⊎ (Contains zs w × (TouchesOwn flat w → ⊥)))
 joined-no_flat flat zs none w = (
-  λ h. inr (h, λ (i, g, i_in, i_is, touch). omega (arith, i_in, none)),
+  λ h. inr (h, λ (g, (i, i_in, i_is), e, touch). omega (arith, i_in, none)),
   λ h. elim h [ inl (i, i_in, i_is) ↦ absurd (omega (arith, i_in, none)) | inr (a, free) ↦ a ],
 )
 
-pub joined-no_upright : (flat zs : List Rect) → length zs ≡ 0 → (w : Rect) → Contains flat w ↔ (Contains flat w ⊎ (Contains zs w × (TouchesAny flat w → ⊥)))
+pub joined-no_upright : (flat zs : List Zone) → length zs ≡ 0 → (w : Zone) → Contains flat w ↔ (Contains flat w ⊎ (Contains zs w × (TouchesOwn flat w → ⊥)))
 joined-no_upright flat zs none w = (λ h. inl h, λ h. elim h [ inl a ↦ a | inr ((i, i_in, i_is), free) ↦ absurd (omega (arith, i_in, none)) ])
 
-pub joined-all : (flat zs kept : List Rect) (n : ℕ) → length zs ≤ n
-    → ((w : Rect) → Contains kept w ↔ (Contains flat w ⊎ KeptOf flat zs n w)) → (w : Rect)
-    → Contains kept w ↔ (Contains flat w ⊎ (Contains zs w × (TouchesAny flat w → ⊥)))
+pub joined-all : (flat zs kept : List Zone) (n : ℕ) → length zs ≤ n
+    → ((w : Zone) → Contains kept w ↔ (Contains flat w ⊎ KeptOf flat zs n w)) → (w : Zone)
+    → Contains kept w ↔ (Contains flat w ⊎ (Contains zs w × (TouchesOwn flat w → ⊥)))
 joined-all flat zs kept n all h w = (
   λ a. elim ((h w).0 a) [ inl b ↦ inl b | inr (k, l, k_in, k_is, free) ↦ inr ((k, k_in, k_is), free) ],
   λ a. (h w).1 (elim a [ inl b ↦ inl b | inr ((k, k_in, k_is), free) ↦ inr (k, omega (arith, all, k_in), k_in, k_is, free) ]),
 )
-
-pub kept-all : (spacing : Spacing) (overlap : ℕ) (l f : Region) (flat zs kept : List Rect)
-    → ((z : Rect) → Contains flat z ↔ IsHorizontalZone spacing overlap l f z) → ((z : Rect) → Contains zs z ↔ IsVerticalZone spacing overlap l f z)
-    → ((w : Rect) → Contains kept w ↔ (Contains flat w ⊎ (Contains zs w × (TouchesAny flat w → ⊥)))) → (z : Rect) → Contains kept z ↔ IsKeptZone spacing overlap l f z
-kept-all spacing overlap l f flat zs kept is_flat is_upright h z = (
-  λ a. elim ((h z).0 a) [
-    | inl b ↦ inl ((is_flat z).0 b)
-    | inr (b, free) ↦ inr ((is_upright z).0 b, λ g zone touch. (let (i, i_in, i_is) = (is_flat g).1 zone in free (i, g, i_in, i_is, touch)))
-  ],
-  λ a. elim a [
-    | inl b ↦ (h z).1 (inl ((is_flat z).1 b))
-    | inr (b, free) ↦ (h z).1 (inr ((is_upright z).1 b, λ (i, g, i_in, i_is, touch). free g ((is_flat g).0 (i, i_in, i_is)) touch))
-  ],
-)
-
--- the same horizontal zones beside the same others
-pub flat-as : (spacing : Spacing) (overlap : ℕ) (rects xs others flat : List Rect) → xs ≡ others
-    → ((z : Rect) → Contains flat z ↔ IsHorizontalZone spacing overlap (layer_of rects xs) (Covers rects) z)
-    → (z : Rect) → Contains flat z ↔ IsHorizontalZone spacing overlap (layer_of rects others) (Covers rects) z
-flat-as spacing overlap rects xs others flat e h = subst (λ t. let s : List Rect = t in
-    (z : Rect) → Contains flat z ↔ IsHorizontalZone spacing overlap (layer_of rects s) (Covers rects) z) e h

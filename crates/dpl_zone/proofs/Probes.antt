@@ -11,7 +11,7 @@ use Rattle.dpl_spec_split.proofs.SquareLaws.{Touch-from_close}
 use Rattle.dpl_spec_split.proofs.ZoneLaws.{close-from_touch}
 use Rattle.dpl_tree.specs.declared.items.Item.{Item}
 use Rattle.dpl_tree.specs.declared.owners.Owners.{Owners}
-use Rattle.dpl_tree.specs.declared.owners.Owners.TheVariants.{All, Only}
+use Rattle.dpl_tree.specs.declared.owners.Owners.TheVariants.{Only}
 use Rattle.dpl_tree.specs.Trees.{HasItem, LiesApart, IsMissed, ArePassed}
 use Rattle.dpl_tree.specs.Windows.{IsWidened}
 use Rattle.dpl_zone.specs.Items.{AllIn, AreItemsWithin, IsStrip, own_in}
@@ -147,11 +147,12 @@ close_pair a0 a1 b0 b1 a b c d =
       down = omega (arith, ints, c, m);
     }))
 
-module _ (items : List Item) (z : Rect) (window : Rect) (n : ℕ) (within : AreItemsWithin items) (solid : IsSolidWithin farthest z)
-    (wide : IsWidened z 1 window) (sought : IsSought items window All n) where
-  pub touch-found : (d : Item) → n < length items → (h : Rect) × (k : ℕ) × HasItem items h k × AreTouching (Has h) (Has z)
+module _ (items : List Item) (own : ℕ) (z : Rect) (window : Rect) (n : ℕ) (within : AreItemsWithin items) (solid : IsSolidWithin farthest z)
+    (wide : IsWidened z 1 window) (sought : IsSought items window (Only own) n) where
+  pub touch-found : (d : Item) → n < length items → (h : Rect) × HasItem items h own × AreTouching (Has h) (Has z)
   touch-found d l =
-      let o = found_overlap items window All n sought d l in
+      let owner : (get_or items n d).owner ≡ own = elim (cases_eq (get_or items n d).owner own) [ inl e ↦ e | inr ne ↦ absurd (sought.found d l (inr ne)) ] in
+      let o = found_overlap items window (Only own) n sought d l in
       let r = item-within items n d within l in
       let e0 = wide.left in
       let e1 = wide.right in
@@ -164,8 +165,7 @@ module _ (items : List Item) (z : Rect) (window : Rect) (n : ℕ) (within : AreI
       let p = close_pair (get_or items n d).rect.x0 (get_or items n d).rect.x1 z.x0 z.x1 r.wide solid.wide (omega (arith, ints, e1, o1)) (omega (arith, ints, e0, o0)) in
       let q = close_pair (get_or items n d).rect.y0 (get_or items n d).rect.y1 z.y0 z.y1 r.tall solid.tall (omega (arith, ints, e3, o3)) (omega (arith, ints, e2, o2)) in (
         (get_or items n d).rect,
-        (get_or items n d).owner,
-        item-at items n d l,
+        subst (λ k. HasItem items (get_or items n d).rect k) owner (item-at items n d l),
         (
           at p.i q.i,
           at p.j q.j,
@@ -175,8 +175,8 @@ module _ (items : List Item) (z : Rect) (window : Rect) (n : ℕ) (within : AreI
         ),
       )
 
-  pub found-touch : (h : Rect) (k : ℕ) → HasItem items h k → AreTouching (Has h) (Has z) → n < length items
-  found-touch h k has (p, q, hp, hq, touch) =
+  pub found-touch : (h : Rect) → HasItem items h own → AreTouching (Has h) (Has z) → n < length items
+  found-touch h has (p, q, hp, hq, touch) =
       let c = close-from_touch p q touch in
       let e0 = wide.left in
       let e1 = wide.right in
@@ -188,9 +188,9 @@ module _ (items : List Item) (z : Rect) (window : Rect) (n : ℕ) (within : AreI
         low = omega (arith, ints, e2, hq.low, c.low, hp.high);
         high = omega (arith, ints, e3, hq.high, c.high, hp.low);
       } in
-      item_found items window All n sought h k has (λ item e f missed. elim missed [
+      item_found items window (Only own) n sought h own has (λ item e f missed. elim missed [
         | inl a ↦ not_apart window h o (subst (λ t. LiesApart window t) e a)
-        | inr a ↦ absurd a
+        | inr a ↦ a f
       ])
 
 -- a feature that is all in a slab has nothing below or above it

@@ -1,12 +1,28 @@
--- The zones of a feature, horizontal and vertical.
-use Rattle.std.specs.Prelude.{ℕ, ◌↔◌}
+-- The zones of items, and of parts.
+use Rattle.std.specs.Prelude.{ℕ, ◌<◌, ◌↔◌, List, length}
 use Rattle.std.specs.List.{Contains}
 use Rattle.dpl_spec_split.specs.declared.Spacing.{Spacing}
 use Rattle.dpl_spec_split.specs.declared.Rect.{Rect}
-use Rattle.dpl_spec_split.specs.Squares.{Region}
-use Rattle.dpl_spec_split.specs.Zones.{IsHorizontalZone, IsVerticalZone}
-use Rattle.dpl_zone.specs.declared.ways.Found.{Found}
+use Rattle.dpl_spec_split.specs.declared.Zone.{Zone}
+use Rattle.dpl_spec_split.specs.Zones.{IsHorizontalZone, IsVerticalZone, part_at}
+use Rattle.dpl_slabs.specs.Parts.{union_of}
+use Rattle.dpl_join.specs.declared.items.Item.{Item}
+use Rattle.dpl_join.specs.Pairs.{item_at}
+use Rattle.dpl_tree.specs.declared.items.Item.{Item as TreeItem}
+use Rattle.dpl_zone.specs.Items.{own_in}
+use Rattle.dpl_zone.specs.Rows.{IsLitZone}
+use Rattle.dpl_zone.specs.Shading.{IsDarkRow}
 
-pub record AreFound (spacing : Spacing) (overlap : ℕ) (layer feature : Region) (found : Found) : Type 0 where
-  pub flat : (z : Rect) → Contains found.flat.items z ↔ IsHorizontalZone spacing overlap layer feature z
-  pub upright : (z : Rect) → Contains found.upright.items z ↔ IsVerticalZone spacing overlap layer feature z
+-- a zone of item n, where the tree tells which rectangles its owner has
+abbrev pub IsItemZone : Spacing → ℕ → List Item → List TreeItem → ℕ → Rect → Type 0
+IsItemZone spacing overlap items tree n = IsLitZone overlap (own_in tree (item_at items n).owner) (IsDarkRow spacing items n) (item_at items n).rect
+
+-- the vertical zones of parts
+abbrev pub AreUpright : Spacing → ℕ → List (List Rect) → List Zone → Type 0
+AreUpright spacing overlap parts zones =
+    (z : Zone) → Contains zones z ↔ ((z.feature < length parts) × IsVerticalZone spacing overlap (union_of parts) (part_at parts z.feature) z.rect)
+
+-- the horizontal zones of parts
+abbrev pub AreFlat : Spacing → ℕ → List (List Rect) → List Zone → Type 0
+AreFlat spacing overlap parts zones =
+    (z : Zone) → Contains zones z ↔ ((z.feature < length parts) × IsHorizontalZone spacing overlap (union_of parts) (part_at parts z.feature) z.rect)

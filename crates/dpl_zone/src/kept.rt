@@ -1,50 +1,52 @@
-//! The zones of a feature that are kept.
-ghost use Rattle.std.specs.Prelude.{◌≡◌, ℕ, ◌≤◌, ◌⊎◌, ◌↔◌, map, IfOk, OnOk};
-ghost use Rattle.std.specs.List.{Contains};
-ghost use Rattle.dpl_spec_split.specs.declared.Pt.{Pt};
+//! The zones that are kept.
+ghost use Rattle.std.specs.Prelude.{◌≡◌, ℕ, ◌⊎◌, ◌↔◌, IfOk, OnOk};
+ghost use Rattle.std.specs.List.{All, Contains};
 ghost use Rattle.dpl_spec_split.specs.declared.Rect.{Rect};
+ghost use Rattle.dpl_spec_split.specs.declared.Zone.{Zone};
 ghost use Rattle.dpl_spec_split.specs.Loops.{farthest};
-ghost use Rattle.dpl_spec_split.specs.Squares.{AreTouching, Covers, Has, IsSolidWithin, SameSquares};
-ghost use Rattle.dpl_spec_split.specs.Zones.{IsKeptZone};
-ghost use Rattle.dpl_zone.specs.Rows.{AddsZones, AreWithin, TouchesAny, layer_of};
-ghost use Rattle.dpl_tree.specs.Trees.{HasItem, transposed_item};
-ghost use Rattle.dpl_zone.specs.Items.{AreItemsWithin, others_in, own_in};
+ghost use Rattle.dpl_spec_split.specs.Squares.{IsSolidWithin};
+ghost use Rattle.dpl_tree.specs.Trees.{HasItem};
+ghost use Rattle.dpl_zone.specs.Items.{AreItemsWithin};
+ghost use Rattle.dpl_zone.specs.Layers.{TouchesItem, TouchesOwn};
 
-use crate::near::touches_item;
-use crate::ways::found_in;
-use dpl_base::{Rect, Spacing};
-use dpl_slabs::Slabs;
+use crate::near::touches_own;
+use dpl_base::Zone;
 use dpl_tree::{Items, Tree, View};
 use std::alloc::{AllocError, Global};
 
-/// The tree of zones.
-fn tree_of_zones(alloc: Global, zones: &[Rect]) -> Result<Tree, AllocError>
-    requires { AreWithin zones.now }
-    ensures { IfOk result (λ t. (r : Rect) (k : ℕ) → HasItem t r k ↔ ((k ≡ 0) × Contains zones.now r)) }
+/// The tree of zones, by feature.
+fn tree_of_zones(alloc: Global, zones: &[Zone]) -> Result<Tree, AllocError>
+    ensures { IfOk result (λ t. (r : Rect) (k : ℕ) → HasItem t r k ↔ ((z : Zone) × Contains zones.now z × (z.rect ≡ r) × (z.feature ≡ k))) }
 {
-    let mut items = Items::new(alloc);
-    items.add(zones, 0)?;
+    let mut items = Items::with_capacity(alloc, zones.len())?;
+    for z in zones {
+        items.add(&[z.rect], z.feature as usize)?;
+    }
     Tree::of(alloc, items)
 }
 
-/// Adds a zone that touches none of the others.
-fn add_apart(kept: &mut Vec<Rect>, flat: &View, z: &Rect) -> Result<(), AllocError>
+/// Adds a zone that touches none of the others of its feature.
+fn add_apart(kept: &mut Vec<Zone>, flat: &View, z: &Zone) -> Result<(), AllocError>
     requires items { AreItemsWithin flat.now }
-    requires zone { IsSolidWithin farthest z.now }
-    ensures { OnOk result (AddsZones (λ w. (z.now ≡ w) × ((h : Rect) (k : ℕ) → HasItem flat.now h k → AreTouching (Has h) (Has w) → ⊥)) kept.old.items kept.new.items) }
+    requires zone { IsSolidWithin farthest z.now.rect }
+    ensures { OnOk result ((w : Zone) → Contains kept.new.items w ↔ (Contains kept.old.items w ⊎ ((z.now ≡ w) × (TouchesItem flat.now w → ⊥)))) }
 {
-    if touches_item(flat, z) {
+    if touches_own(flat, z) {
         return Ok(());
     }
     kept.push(*z)?;
     Ok(())
 }
 
-/// The horizontal zones, and the vertical ones that touch none of them.
-fn joined(alloc: Global, flat: Vec<Rect>, upright: Vec<Rect>) -> Result<Vec<Rect>, AllocError>
-    requires flat { AreWithin flat.items }
-    requires upright { AreWithin upright.items }
-    ensures { IfOk result (λ v. (z : Rect) → Contains v.items z ↔ (Contains flat.items z ⊎ (Contains upright.items z × (TouchesAny flat.items z → ⊥)))) }
+/// The horizontal zones, and the vertical ones that touch none of their feature.
+pub(crate) fn joined(
+    alloc: Global,
+    flat: Vec<Zone>,
+    upright: Vec<Zone>,
+) -> Result<Vec<Zone>, AllocError>
+    requires flat { All (λ z. IsSolidWithin farthest z.rect) flat.items }
+    requires upright { All (λ z. IsSolidWithin farthest z.rect) upright.items }
+    ensures { IfOk result (λ v. (z : Zone) → Contains v.items z ↔ (Contains flat.items z ⊎ (Contains upright.items z × (TouchesOwn flat.items z → ⊥)))) }
 {
     if flat.is_empty() {
         return Ok(upright);
@@ -59,26 +61,4 @@ fn joined(alloc: Global, flat: Vec<Rect>, upright: Vec<Rect>) -> Result<Vec<Rect
         add_apart(&mut kept, &flat_view, z)?;
     }
     Ok(kept)
-}
-
-/// The horizontal zones of a feature, and the vertical ones that touch none of them.
-pub fn kept_zones(
-    alloc: Global,
-    part: &Slabs,
-    tree: &View,
-    across: &View,
-    own: usize,
-    spacing: Spacing,
-    overlap: u32,
-) -> Result<Vec<Rect>, AllocError>
-    requires corner { spacing.corner ≤ spacing.rule }
-    requires some { 1 ≤ overlap }
-    requires items { AreItemsWithin tree.now }
-    requires transposed { across.now ≡ map transposed_item tree.now }
-    requires own { SameSquares (Covers part.now) (Covers (own_in tree.now own)) }
-    requires apart { (p : Pt) → Covers part.now p → Covers (others_in tree.now own) p → ⊥ }
-    ensures { IfOk result (λ v. (z : Rect) → Contains v.items z ↔ IsKeptZone spacing overlap (layer_of part.now (others_in tree.now own)) (Covers part.now) z) }
-{
-    let found = found_in(alloc, part, tree, across, own, spacing, overlap)?;
-    joined(alloc, found.flat, found.upright)
 }

@@ -1,4 +1,4 @@
-//! The rows of a slab that are near items of a tree, and those between them.
+//! The rows at which a slab is near a rectangle, and the rows between such spans.
 ghost use Rattle.std.specs.Prelude.{◌≡◌, ◌+◌, ◌^◌, ◌<◌, ◌≤◌, ◌⊎◌, ◌↔◌, ℤ, pos, ◌+ℤ◌, ◌≤ℤ◌, ◌<ℤ◌, IsTrue, IsNone, IfSome, IfOk, OnOk, length, unsigned_abs};
 ghost use Rattle.std.specs.List.{Contains};
 ghost use Rattle.dpl_zone.specs.declared.rows.Span.{Span};
@@ -6,11 +6,8 @@ ghost use Rattle.dpl_spec_split.specs.declared.Rect.{Rect};
 ghost use Rattle.dpl_spec_split.specs.Loops.{farthest};
 ghost use Rattle.dpl_spec_split.specs.Squares.{IsSolidWithin};
 ghost use Rattle.dpl_zone.specs.Rows.{SomeRow, AreTall, RiseByFrom, IsShaded, IsShadow, IsGap, AddsSpan};
-ghost use Rattle.dpl_zone.specs.Near.{AreNumbers, IsDarkBy};
-ghost use Rattle.dpl_zone.specs.Items.{AreItemsWithin};
 
 use dpl_base::{Rect, Spacing, reach, span_gap};
-use dpl_tree::View;
 use smallvec::SmallVec;
 use std::alloc::{AllocError, Global};
 
@@ -25,7 +22,7 @@ pub struct Span {
 pub type Spans = SmallVec<Span, 16>;
 
 /// The rows at which the slab is near another rectangle.
-fn shadow(slab: &Rect, other: &Rect, spacing: Spacing) -> Option<Span>
+pub(crate) fn shadow(slab: &Rect, other: &Rect, spacing: Spacing) -> Option<Span>
     requires corner { spacing.corner ≤ spacing.rule }
     requires slab { IsSolidWithin farthest slab.now }
     requires other { IsSolidWithin farthest other.now }
@@ -40,92 +37,6 @@ fn shadow(slab: &Rect, other: &Rect, spacing: Spacing) -> Option<Span>
             to: other.y1 as i64 + 1 + r as i64,
         }),
     }
-}
-
-/// Adds the shadow of a rectangle.
-fn add_shadow(
-    spans: &mut Spans,
-    slab: &Rect,
-    other: &Rect,
-    spacing: Spacing,
-) -> Result<(), AllocError>
-    requires corner { spacing.corner ≤ spacing.rule }
-    requires slab { IsSolidWithin farthest slab.now }
-    requires other { IsSolidWithin farthest other.now }
-    requires tall { AreTall spans.old.items }
-    ensures tall { OnOk result (AreTall spans.new.items) }
-    ensures rows { OnOk result ((y : ℤ) → SomeRow spans.new.items y ↔ (SomeRow spans.old.items y ⊎ IsShaded spacing slab.now other.now y)) }
-{
-    match shadow(slab, other, spacing) {
-        None => Ok(()),
-        Some(s) => {
-            spans.push(s)?;
-            Ok(())
-        }
-    }
-}
-
-/// Whether the last span has all rows of the slab.
-fn is_covered(spans: &[Span], slab: &Rect) -> bool
-    ensures { IsTrue result → (y : ℤ) → slab.now.y0 ≤ℤ y → y <ℤ slab.now.y1 → SomeRow spans.now y }
-{
-    if spans.is_empty() {
-        return false;
-    }
-    let last = spans[spans.len() - 1];
-    if (slab.y0 as i64) < last.from {
-        return false;
-    }
-    if last.to < slab.y1 as i64 {
-        return false;
-    }
-    true
-}
-
-/// The shadows of items on a slab, up to one that has all its rows.
-fn gather(
-    alloc: Global,
-    tree: &View,
-    near: &[usize],
-    slab: &Rect,
-    spacing: Spacing,
-) -> Result<Spans, AllocError>
-    requires corner { spacing.corner ≤ spacing.rule }
-    requires items { AreItemsWithin tree.now }
-    requires near { AreNumbers tree.now near.now }
-    requires slab { IsSolidWithin farthest slab.now }
-    ensures tall { IfOk result (λ v. AreTall v.items) }
-    ensures rows { IfOk result (λ v. (y : ℤ) → slab.now.y0 ≤ℤ y → y <ℤ slab.now.y1 → SomeRow v.items y ↔ IsDarkBy spacing tree.now near.now slab.now y) }
-{
-    let mut spans = SmallVec::new(alloc);
-    for n in near {
-        add_shadow(&mut spans, slab, &tree.rect(*n), spacing)?;
-        if is_covered(spans.as_slice(), slab) {
-            return Ok(spans);
-        }
-    }
-    Ok(spans)
-}
-
-/// The shadows of items on a slab, lowest first.
-pub fn shadows(
-    alloc: Global,
-    tree: &View,
-    near: &[usize],
-    slab: &Rect,
-    spacing: Spacing,
-) -> Result<Spans, AllocError>
-    requires corner { spacing.corner ≤ spacing.rule }
-    requires items { AreItemsWithin tree.now }
-    requires near { AreNumbers tree.now near.now }
-    requires slab { IsSolidWithin farthest slab.now }
-    ensures tall { IfOk result (λ v. AreTall v.items) }
-    ensures rise { IfOk result (λ v. RiseByFrom v.items) }
-    ensures rows { IfOk result (λ v. (y : ℤ) → slab.now.y0 ≤ℤ y → y <ℤ slab.now.y1 → SomeRow v.items y ↔ IsDarkBy spacing tree.now near.now slab.now y) }
-{
-    let mut spans = gather(alloc, tree, near, slab, spacing)?;
-    spans.sort_unstable_by_key(|s| s.from);
-    Ok(spans)
 }
 
 /// The lower of two rows.

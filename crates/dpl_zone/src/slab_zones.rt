@@ -1,21 +1,25 @@
 //! The vertical zones of a feature's slabs: what the definition says of columns, left and right, is said here of rows, below and above. Horizontal zones are found the same way, transposed (`flat`).
-ghost use Rattle.std.specs.Prelude.{◌≡◌, ℕ, ◌+◌, ◌<◌, ◌≤◌, ◌⊎◌, ◌↔◌, ℤ, pos, ◌+ℤ◌, ◌≤ℤ◌, ◌<ℤ◌, IsTrue, IfOk, OnOk, length, slice_index_or};
-ghost use Rattle.std.specs.List.{Contains};
-ghost use Rattle.dpl_spec_split.specs.declared.Pt.{Pt};
+ghost use Rattle.std.specs.Prelude.{◌≡◌, ◌≢◌, ℕ, ◌+◌, ◌-◌, ◌^◌, ◌<◌, ◌≤◌, ◌⊎◌, ◌↔◌, ℤ, pos, ◌+ℤ◌, ◌≤ℤ◌, ◌<ℤ◌, IsTrue, IfOk, OnOk, List, length};
+ghost use Rattle.std.specs.List.{AllPairs, Contains};
 ghost use Rattle.dpl_spec_split.specs.declared.Rect.{Rect};
-ghost use Rattle.dpl_spec_split.specs.Loops.{farthest, AreRectsWithin};
-ghost use Rattle.dpl_spec_split.specs.Squares.{IsSolidWithin, Covers, SameSquares};
-ghost use Rattle.dpl_spec_split.specs.Slabs.{IsCanonical};
-ghost use Rattle.dpl_spec_split.specs.Zones.{IsVerticalZone};
-ghost use Rattle.dpl_zone.specs.declared.rows.Span.{Span};
-ghost use Rattle.dpl_zone.specs.Rows.{IsDark, GoesBelow, GoesAbove, IsOpenSpan, IsMiddleOf, IsSlabZone, AddsZones, layer_of};
-ghost use Rattle.dpl_zone.specs.Near.{HasAllNear};
-ghost use Rattle.dpl_zone.specs.Items.{AllIn, AreItemsWithin, others_in, own_in};
+ghost use Rattle.dpl_spec_split.specs.declared.Zone.{Zone};
+ghost use Rattle.dpl_spec_split.specs.Loops.{farthest};
+ghost use Rattle.dpl_spec_split.specs.Squares.{IsSolidWithin};
+ghost use Rattle.dpl_slabs.specs.Parts.{AreApart};
+ghost use Rattle.dpl_join.specs.Pairs.{item_at};
+ghost use Rattle.dpl_zone.specs.Items.{AllIn, AreItemsWithin, own_in};
+ghost use Rattle.dpl_zone.specs.Owned.{AreOwnedWithin, AreSets, IsOwned, IsTreeOf, OwnersRise};
+ghost use Rattle.dpl_zone.specs.Rows.{AddsZones, AreTall, GoesAbove, GoesBelow, IsLitZone, IsMiddleOf, IsOpenSpan, RiseByFrom, SomeRow};
+ghost use Rattle.dpl_zone.specs.Shading.{AreShades};
+ghost use Rattle.dpl_zone.specs.Ways.{AreUpright, IsItemZone};
 
-use crate::near::{has_row, others_near};
-use crate::rows::{Span, gaps, shadows};
-use dpl_base::{Rect, Spacing};
-use dpl_tree::View;
+use crate::items::Owned;
+use crate::near::has_row;
+use crate::rows::{Span, gaps};
+use crate::shades::{Shades, rows_at, shades_of};
+use dpl_base::{Rect, Spacing, Zone};
+use dpl_join::{Item, Join};
+use dpl_tree::{Tree, View};
 use std::alloc::{AllocError, Global};
 
 /// Whether the feature goes on below the span: in the slab itself, or below that, where it isn't the whole feature.
@@ -99,7 +103,7 @@ fn add_zone(
 }
 
 /// Whether the slab has too few rows for a zone.
-pub fn is_short(slab: &Rect, overlap: u32) -> bool
+pub(crate) fn is_short(slab: &Rect, overlap: u32) -> bool
     requires { IsSolidWithin farthest slab.now }
     ensures { IsTrue result ↔ (slab.now.y1 <ℤ (slab.now.y0 +ℤ pos (overlap + 2))) }
 {
@@ -109,7 +113,7 @@ pub fn is_short(slab: &Rect, overlap: u32) -> bool
     false
 }
 
-/// Adds the zones of a slab among the items near it.
+/// Adds the zones between spans of a slab that are near other rectangles.
 fn add_zones(
     alloc: Global,
     zones: &mut Vec<Rect>,
@@ -117,104 +121,166 @@ fn add_zones(
     own: usize,
     slab: &Rect,
     is_whole: bool,
-    near: &[usize],
-    spacing: Spacing,
+    spans: &[Span],
     overlap: u32,
 ) -> Result<(), AllocError>
-    requires corner { spacing.corner ≤ spacing.rule }
     requires items { AreItemsWithin tree.now }
     requires slab { IsSolidWithin farthest slab.now }
     requires whole { IsTrue is_whole → AllIn (own_in tree.now own) slab.now }
-    requires near { HasAllNear spacing slab.now tree.now own near.now }
-    ensures { OnOk result (AddsZones (IsSlabZone spacing overlap (own_in tree.now own) (others_in tree.now own) slab.now) zones.old.items zones.new.items) }
+    requires tall { AreTall spans.now }
+    requires rise { RiseByFrom spans.now }
+    ensures { OnOk result (AddsZones (IsLitZone overlap (own_in tree.now own) (SomeRow spans.now) slab.now) zones.old.items zones.new.items) }
 {
-    let spans = shadows(alloc, tree, near, slab, spacing)?;
-    let free = gaps(alloc, spans.as_slice(), slab.y0 as i64, slab.y1 as i64)?;
+    let free = gaps(alloc, spans, slab.y0 as i64, slab.y1 as i64)?;
     for g in free.as_slice() {
         add_zone(zones, tree, own, slab, is_whole, g, overlap)?;
     }
     Ok(())
 }
 
-/// The zones of a slab that is a whole feature, among the items near it.
-pub fn whole_zones(
+/// Whether the item before this one, where there is one, is another owner's.
+fn is_first(items: &[Item], n: usize) -> bool
+    requires { n < length items.now }
+    ensures { IsTrue result → 0 < n → (item_at items.now (n - 1)).owner ≢ (item_at items.now n).owner }
+{
+    if n == 0 {
+        return true;
+    }
+    items[n - 1].owner != items[n].owner
+}
+
+/// Whether the item behind this one, where there is one, is another owner's.
+fn is_last(items: &[Item], n: usize) -> bool
+    requires { n < length items.now }
+    ensures { IsTrue result → n + 1 < length items.now → (item_at items.now (n + 1)).owner ≢ (item_at items.now n).owner }
+{
+    if n + 1 >= items.len() {
+        return true;
+    }
+    items[n + 1].owner != items[n].owner
+}
+
+/// Whether the item is the only one of its owner.
+fn is_alone(items: &[Item], n: usize) -> bool
+    requires known { n < length items.now }
+    requires rise { OwnersRise items.now }
+    ensures { IsTrue result → (r : Rect) → IsOwned items.now r (item_at items.now n).owner → r ≡ (item_at items.now n).rect }
+{
+    if !is_first(items, n) {
+        return false;
+    }
+    is_last(items, n)
+}
+
+/// The number of an item's owner.
+fn owner_of(item: &Item) -> usize
+    ensures { result ≡ item.now.owner }
+{
+    item.owner as usize
+}
+
+/// The zones of an item.
+fn zones_of_item(
     alloc: Global,
+    items: &[Item],
+    n: usize,
     tree: &View,
-    own: usize,
-    slab: &Rect,
-    near: &[usize],
-    spacing: Spacing,
-    overlap: u32,
+    shades: &Shades,
 ) -> Result<Vec<Rect>, AllocError>
-    requires corner { spacing.corner ≤ spacing.rule }
-    requires items { AreItemsWithin tree.now }
-    requires slab { IsSolidWithin farthest slab.now }
-    requires whole { AllIn (own_in tree.now own) slab.now }
-    requires near { HasAllNear spacing slab.now tree.now own near.now }
-    ensures { IfOk result (λ v. (z : Rect) → Contains v.items z ↔ IsSlabZone spacing overlap (own_in tree.now own) (others_in tree.now own) slab.now z) }
+    requires known { n < length items.now }
+    requires few { length items.now < 2 ^ 32 }
+    requires rise { OwnersRise items.now }
+    requires within { AreOwnedWithin items.now }
+    requires tree { IsTreeOf items.now tree.now }
+    requires shades { AreShades items.now shades.now }
+    ensures { IfOk result (λ v. (z : Rect) → Contains v.items z ↔ IsItemZone shades.now.spacing shades.now.overlap items.now tree.now n z) }
 {
     let mut zones = Vec::new(alloc);
-    if is_short(slab, overlap) {
+    if shades.dead[n] {
         return Ok(zones);
     }
+    let spans = rows_at(alloc, &shades.found, n as u32)?;
     add_zones(
-        alloc, &mut zones, tree, own, slab, true, near, spacing, overlap,
+        alloc,
+        &mut zones,
+        tree,
+        owner_of(&items[n]),
+        &items[n].rect,
+        is_alone(items, n),
+        spans.as_slice(),
+        shades.overlap,
     )?;
     Ok(zones)
 }
 
-/// Adds the zones of one slab of a feature.
-fn add_slab(
+/// Adds the zones of an item.
+fn add_item(
     alloc: Global,
-    zones: &mut Vec<Rect>,
+    zones: &mut Vec<Zone>,
+    items: &[Item],
+    n: usize,
     tree: &View,
-    own: usize,
-    slab: &Rect,
-    spacing: Spacing,
-    overlap: u32,
+    shades: &Shades,
 ) -> Result<(), AllocError>
-    requires corner { spacing.corner ≤ spacing.rule }
-    requires items { AreItemsWithin tree.now }
-    requires slab { IsSolidWithin farthest slab.now }
-    ensures { OnOk result (AddsZones (IsSlabZone spacing overlap (own_in tree.now own) (others_in tree.now own) slab.now) zones.old.items zones.new.items) }
+    requires known { n < length items.now }
+    requires few { length items.now < 2 ^ 32 }
+    requires rise { OwnersRise items.now }
+    requires within { AreOwnedWithin items.now }
+    requires tree { IsTreeOf items.now tree.now }
+    requires shades { AreShades items.now shades.now }
+    ensures { OnOk result ((z : Zone) → Contains zones.new.items z ↔ (Contains zones.old.items z ⊎ ((z.feature ≡ (item_at items.now n).owner) × IsItemZone shades.now.spacing shades.now.overlap items.now tree.now n z.rect))) }
 {
-    if is_short(slab, overlap) {
-        return Ok(());
+    let found = zones_of_item(alloc, items, n, tree, shades)?;
+    let owner = owner_of(&items[n]);
+    for rect in &found {
+        zones.push(Zone {
+            rect: *rect,
+            feature: owner as u64,
+        })?;
     }
-    let near = others_near(alloc, tree, own, slab, spacing)?;
-    add_zones(
-        alloc,
-        zones,
-        tree,
-        own,
-        slab,
-        false,
-        near.as_slice(),
-        spacing,
-        overlap,
-    )
+    Ok(())
 }
 
-/// The vertical zones of a feature among the others.
-pub fn upright_zones(
+/// The zones of all items.
+fn zones_of_items(
     alloc: Global,
-    slabs: &[Rect],
+    items: &[Item],
     tree: &View,
-    own: usize,
-    spacing: Spacing,
-    overlap: u32,
-) -> Result<Vec<Rect>, AllocError>
-    requires corner { spacing.corner ≤ spacing.rule }
-    requires canonical { IsCanonical slabs.now }
-    requires within { AreRectsWithin farthest slabs.now }
-    requires items { AreItemsWithin tree.now }
-    requires own { SameSquares (Covers slabs.now) (Covers (own_in tree.now own)) }
-    requires apart { (p : Pt) → Covers slabs.now p → Covers (others_in tree.now own) p → ⊥ }
-    ensures { IfOk result (λ v. (z : Rect) → Contains v.items z ↔ IsVerticalZone spacing overlap (layer_of slabs.now (others_in tree.now own)) (Covers slabs.now) z) }
+    shades: &Shades,
+) -> Result<Vec<Zone>, AllocError>
+    requires few { length items.now < 2 ^ 32 }
+    requires rise { OwnersRise items.now }
+    requires within { AreOwnedWithin items.now }
+    requires tree { IsTreeOf items.now tree.now }
+    requires shades { AreShades items.now shades.now }
+    ensures { IfOk result (λ v. (z : Zone) → Contains v.items z ↔ ((n : ℕ) × (n < length items.now) × (z.feature ≡ (item_at items.now n).owner) × IsItemZone shades.now.spacing shades.now.overlap items.now tree.now n z.rect)) }
 {
     let mut zones = Vec::new(alloc);
-    for slab in slabs {
-        add_slab(alloc, &mut zones, tree, own, slab, spacing, overlap)?;
+    for n in 0..items.len() {
+        add_item(alloc, &mut zones, items, n, tree, shades)?;
     }
     Ok(zones)
+}
+
+/// The vertical zones of all owners, in no order.
+pub(crate) fn upright_zones(
+    alloc: Global,
+    owned: Owned,
+    spacing: Spacing,
+    overlap: u32,
+) -> Result<Vec<Zone>, AllocError>
+    requires corner { spacing.corner ≤ spacing.rule }
+    requires rise { OwnersRise owned.items.items }
+    requires within { AreOwnedWithin owned.items.items }
+    requires tree { IsTreeOf owned.items.items owned.tree }
+    ensures { (parts : List (List Rect)) → AreSets parts owned.items.items → AllPairs AreApart parts → IfOk result (λ v. AreUpright spacing overlap parts v.items) }
+{
+    if u32::MAX as usize <= owned.items.len() {
+        return Err(AllocError);
+    }
+    let join = Join::of(alloc, owned.items, spacing.rule)?;
+    let shades = shades_of(alloc, &join, spacing, overlap)?;
+    let items = join.into_items();
+    let tree = Tree::of(alloc, owned.tree)?;
+    zones_of_items(alloc, items.as_slice(), &View::of(&tree), &shades)
 }

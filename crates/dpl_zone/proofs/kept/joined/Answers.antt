@@ -1,5 +1,8 @@
 use Rattle.std.proofs.Common.{◌≡◌, length, vec_len, refl, arith, rules}
-use Rattle.dpl_zone.specs.Rows.{AreWithin}
+use Rattle.std.specs.List.{All}
+use Rattle.dpl_spec_split.specs.declared.Zone.{Zone}
+use Rattle.dpl_spec_split.specs.Loops.{farthest}
+use Rattle.dpl_spec_split.specs.Squares.{IsSolidWithin}
 use Rattle.dpl_zone.proofs.Keeping.{items-within_list, apart-of_list, kept-none, kept-more, joined-no_flat, joined-no_upright, joined-all}
 use Rattle.dpl_zone.proofs.kept.joined.Goals as goal
 
@@ -20,7 +23,7 @@ add_apart-requires-clause-items c =
 
 pub add_apart-requires-clause-zone : goal.add_apart-requires-clause-zone
 add_apart-requires-clause-zone c =
-    let w : AreWithin c.deref-z-items.result.now = rw c.deref-z-items.ensures.value c.requires.upright in
+    let w : All (λ (t : Zone). IsSolidWithin farthest t.rect) c.deref-z-items.result.now = rw c.deref-z-items.ensures.value c.requires.upright in
     w c.loop-z.z-index _ c.loop-z-test.true
 
 pub loop-z-preserved : goal.loop-z-preserved

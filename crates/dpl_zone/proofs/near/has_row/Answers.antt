@@ -3,7 +3,7 @@ use Rattle.std.proofs.lemmas.Bool.{false≢true}
 use Rattle.std.proofs.lemmas.Int.{to_z-of_z}
 use Rattle.dpl_tree.specs.declared.owners.Owners.TheVariants.{Only}
 use Rattle.dpl_zone.specs.Items.{IsStrip, own_in}
-use Rattle.dpl_zone.proofs.Nearby.{zero_item}
+use Rattle.dpl_zone.proofs.ItemLaws.{zero_item}
 use Rattle.dpl_zone.proofs.Probes.{IsSought, row-found, found-row, nothing-outside}
 use Rattle.dpl_zone.proofs.near.has_row.Goals as goal
 

@@ -1,0 +1,200 @@
+-- Rectangles of owners.
+use Rattle.std.proofs.Common.{◌≡◌, ◌≢◌, ℕ, ◌+◌, ◌-◌, ◌<◌, ◌≤◌, ◌⊎◌, inl, inr, List, [], ◌∷◌, ◌++◌, length, get_or, map, take, append-nil, sym, refl, ap, ◌∙◌, subst, arith}
+use Rattle.std.specs.Prelude.{◌↔◌}
+use Rattle.std.specs.List.{Contains}
+use Rattle.std.proofs.lemmas.Bool.{cases_eq, cases_lt}
+use Rattle.std.proofs.lemmas.List.{append_assoc, get_or_append_left, get_or_default, get_or-append_right, get_or-map, length-append, length-map, map_more, take_all}
+use Rattle.std.proofs.lemmas.List.Elements.{Contains-append_cases, Contains-append_left, Contains-append_right}
+use Rattle.dpl_spec_split.specs.declared.Rect.{Rect}
+use Rattle.dpl_spec_split.specs.Loops.{farthest, AreRectsWithin}
+use Rattle.dpl_spec_split.specs.Slabs.{AreSlabsOf, IsCanonical}
+use Rattle.dpl_spec_split.specs.Squares.{Covers, Has, IsSolidWithin}
+use Rattle.dpl_spec_split.specs.Zones.{part_at, transposed, transposed_rect}
+use Rattle.dpl_join.specs.declared.items.Item.{Item}
+use Rattle.dpl_join.specs.Pairs.{item_at, no_item}
+use Rattle.dpl_tree.specs.declared.items.Item.{Item as TreeItem}
+use Rattle.dpl_tree.specs.Trees.{HasItem}
+use Rattle.dpl_zone.specs.Items.{AllIn, AreItemsWithin, own_in}
+use Rattle.dpl_zone.specs.Owned.{AreOwnedWithin, AreSets, IsOwned, IsSetOf, IsTreeOf, OwnersRise, owned_by, transposed_parts}
+use Rattle.dpl_zone.proofs.ItemLaws.{own-in}
+use Rattle.dpl_zone.proofs.TransposedLaws.{transposed-covers, within-slabs}
+
+pub owned-at : (items : List Item) (n : ℕ) (d : Item) → n < length items → IsOwned items (get_or items n d).rect (get_or items n d).owner
+owned-at items n d n_in = (get_or items n d, (n, n_in, get_or_default items n (get_or items n d) d n_in), refl, refl)
+
+pub owned-within : (items : List Item) (n : ℕ) (d : Item) → AreOwnedWithin items → n < length items → IsSolidWithin farthest (get_or items n d).rect
+owned-within items n d within n_in = within (get_or items n d).rect (get_or items n d).owner (owned-at items n d n_in)
+
+-- ---- a list grows by the items of rectangles
+
+pub grown-none : (f : Rect → Item) (rects : List Rect) (base : List Item) → base ≡ base ++ map f (take 0 rects)
+grown-none f rects base = sym (append-nil base)
+
+pub grown-more : (f : Rect → Item) (rects : List Rect) (i : ℕ) (d : Rect) (base old new : List Item) → new ≡ old ++ f (get_or rects i d) ∷ [] → i < length rects
+    → old ≡ base ++ map f (take i rects) → new ≡ base ++ map f (take (i + 1) rects)
+grown-more f rects i d base old new new_is i_in so_far =
+    new_is ∙ (ap (λ (xs : List Item). xs ++ f (get_or rects i d) ∷ []) so_far
+    ∙ (append_assoc base (map f (take i rects)) (f (get_or rects i d) ∷ []) ∙ ap (λ (xs : List Item). base ++ xs) (sym (map_more f rects i d i_in))))
+
+pub grown-all : (f : Rect → Item) (rects : List Rect) (i : ℕ) (base new : List Item) → length rects ≤ i → new ≡ base ++ map f (take i rects) → new ≡ base ++ map f rects
+grown-all f rects i base new all so_far = so_far ∙ ap (λ (xs : List Rect). base ++ map f xs) (take_all i rects all)
+
+by-owner : (k : ℕ) (rects : List Rect) (i : ℕ) (d : Item) → i < length rects → get_or (map (owned_by k) rects) i d ≡ owned_by k (get_or rects i d.rect)
+by-owner k rects i d i_in = get_or-map (owned_by k) rects i d.rect d i_in
+
+pub owned-grown : (old new : List Item) (k : ℕ) (rects : List Rect) → new ≡ old ++ map (owned_by k) rects → (r : Rect) (j : ℕ) → IsOwned new r j ↔ (IsOwned old r j ⊎ ((j ≡ k) × Contains rects r))
+owned-grown old new k rects is r j = rw is (
+  (λ (t, c, e, f). elim (Contains-append_cases old (map (owned_by k) rects) t c) [
+    | inl a ↦ inl (t, a, e, f)
+    | inr (i, l, at) ↦ (let i_in : i < length rects = omega (arith, l, length-map rects (owned_by k)) in
+        let made : owned_by k (get_or rects i t.rect) ≡ t = sym (by-owner k rects i t i_in) ∙ at in
+        inr (sym f ∙ sym (ap (λ (u : Item). u.owner) made), (i, i_in, get_or_default rects i r t.rect i_in ∙ (ap (λ (u : Item). u.rect) made ∙ e))))
+  ]),
+  (λ h. elim h [
+    | inl (t, c, e, f) ↦ (t, Contains-append_left old (map (owned_by k) rects) t c, e, f)
+    | inr (e, (i, i_in, at)) ↦ (
+      owned_by k r,
+      Contains-append_right old (map (owned_by k) rects) (owned_by k r) (i, omega (arith, i_in, length-map rects (owned_by k)), by-owner k rects i (owned_by k r) i_in ∙ ap (owned_by k) at),
+      refl,
+      sym e,
+    )
+  ]),
+)
+
+-- ---- parts, one after the other
+
+pub record AreSetsTo (parts : List (List Rect)) (n : ℕ) (items : List Item) (found : List TreeItem) : Type 0 where
+  pub known : (r : Rect) (k : ℕ) → IsOwned items r k → k < n
+  pub each : (k : ℕ) → k < n → k < length parts → IsSetOf items k (part_at parts k)
+  pub rise : OwnersRise items
+  pub tree : IsTreeOf items found
+
+owned-none : (items : List Item) → items ≡ [] → (r : Rect) (k : ℕ) → IsOwned items r k → ⊥
+owned-none items is r k (t, (i, l, at), e, f) = let none : i < length items = l in absurd (subst (λ (xs : List Item). i < length xs → ⊥) (sym is) (λ m. omega (arith, m)) none)
+
+pub sets-none : (parts : List (List Rect)) (items : List Item) (tree : List TreeItem) → items ≡ [] → tree ≡ [] → AreSetsTo parts 0 items tree
+sets-none parts items tree is tree_is = record {
+  known = λ r k h. absurd (owned-none items is r k h);
+  each = λ k l. absurd (omega (arith, l));
+  rise = rw is (λ i j d l j_in. absurd (omega (arith, j_in)));
+  tree = λ r k. (
+    (λ (t, c, e, f). absurd (let (i, l, at) = subst (λ (xs : List TreeItem). Contains xs t) tree_is c in omega (arith, l))),
+    λ h. absurd (owned-none items is r k h),
+  );
+}
+
+module _ (parts : List (List Rect)) (n : ℕ) (old new : List Item) (old_tree new_tree : List TreeItem) (rects : List Rect) (n_in : n < length parts)
+    (slabs : AreSlabsOf (part_at parts n) rects) (within : AreRectsWithin farthest rects) (items_is : new ≡ old ++ map (owned_by n) rects)
+    (tree_is : (r : Rect) (j : ℕ) → HasItem new_tree r j ↔ (HasItem old_tree r j ⊎ ((j ≡ n) × Contains rects r))) (h : AreSetsTo parts n old old_tree) where
+  grown : (r : Rect) (j : ℕ) → IsOwned new r j ↔ (IsOwned old r j ⊎ ((j ≡ n) × Contains rects r))
+  grown = owned-grown old new n rects items_is
+
+  set-next : (k : ℕ) → k < n + 1 → k < length parts → IsSetOf new k (part_at parts k)
+  set-next k l k_in = elim (cases_eq k n) [
+    | inl e ↦ record {
+      rects = rects;
+      slabs = subst (λ (j : ℕ). AreSlabsOf (part_at parts j) rects) (sym e) slabs;
+      within = within;
+      has = λ r. (
+        λ o. elim ((grown r k).0 o) [ inl a ↦ absurd (let b = h.known r k a in omega (arith, b, e)) | inr (q, c) ↦ c ],
+        λ c. (grown r k).1 (inr (e, c)),
+      );
+    }
+    | inr ne ↦
+        (let was = h.each k (omega (arith, l, ne)) k_in in
+        record {
+          rects = was.rects;
+          slabs = was.slabs;
+          within = was.within;
+          has = λ r. (
+            λ o. elim ((grown r k).0 o) [ inl a ↦ (was.has r).0 a | inr (q, c) ↦ absurd (ne q) ],
+            λ c. (grown r k).1 (inl ((was.has r).1 c)),
+          );
+        })
+  ]
+
+  old-owner : (i : ℕ) (d : Item) → i < length old → (get_or old i d).owner < n
+  old-owner i d l = h.known (get_or old i d).rect (get_or old i d).owner (owned-at old i d l)
+
+  rise-next : OwnersRise (old ++ map (owned_by n) rects)
+  rise-next i j d l j_in = elim (cases_lt j (length old)) [
+    | inl m ↦ rw (get_or_append_left old (map (owned_by n) rects) d i (omega (arith, l, m)), get_or_append_left old (map (owned_by n) rects) d j m) (h.rise i j d l m)
+    | inr m ↦
+        (let behind : (k : ℕ) → length old ≤ k → k < length (old ++ map (owned_by n) rects) → (get_or (old ++ map (owned_by n) rects) k d).owner ≡ n =
+        λ k a b. (let k_in : k - length old < length rects = omega (arith, a, b, length-append old (map (owned_by n) rects), length-map rects (owned_by n)) in
+        ap (λ (u : Item). u.owner) (get_or-append_right old (map (owned_by n) rects) (length old) k d refl a ∙ by-owner n rects (k - length old) d k_in)) in
+        let last = behind j m j_in in
+        elim (cases_lt i (length old)) [
+          | inl a ↦ (let first = ap (λ (u : Item). u.owner) (get_or_append_left old (map (owned_by n) rects) d i a) in let o = old-owner i d a in omega (arith, first, o, last))
+          | inr a ↦ (let first = behind i a (omega (arith, l, j_in)) in omega (arith, first, last))
+        ])
+  ]
+
+  pub sets-more : AreSetsTo parts (n + 1) new new_tree
+  sets-more = record {
+    known = λ r k o. elim ((grown r k).0 o) [ inl a ↦ (let b = h.known r k a in omega (arith, b)) | inr (q, c) ↦ omega (arith, q) ];
+    each = set-next;
+    rise = subst OwnersRise (sym items_is) rise-next;
+    tree = λ r k. (
+      λ t. (grown r k).1 (elim ((tree_is r k).0 t) [ inl a ↦ inl ((h.tree r k).0 a) | inr b ↦ inr b ]),
+      λ o. (tree_is r k).1 (elim ((grown r k).0 o) [ inl a ↦ inl ((h.tree r k).1 a) | inr b ↦ inr b ]),
+    );
+  }
+
+pub sets-all : (parts : List (List Rect)) (n : ℕ) (items : List Item) (tree : List TreeItem) → n ≤ length parts → length parts ≤ n → AreSetsTo parts n items tree → AreSets parts items
+sets-all parts n items tree few all h = record {
+  known = λ r k o. (let l = h.known r k o in omega (arith, l, few));
+  each = λ k l. h.each k (omega (arith, l, all)) l;
+}
+
+-- a part's slabs are those of its squares
+pub slabs-of_part : (parts : List (List Rect)) (n : ℕ) (part : List Rect) → part ≡ get_or parts n [] → IsCanonical part → AreSlabsOf (part_at parts n) part
+slabs-of_part parts n part is canonical = record { canonical = canonical; covers = λ p. (λ a. subst (λ (rs : List Rect). Covers rs p) is a, λ b. subst (λ (rs : List Rect). Covers rs p) (sym is) b) }
+
+-- a part's columns are the slabs of the transposed part
+pub columns-of_part : (parts : List (List Rect)) (n : ℕ) (part columns : List Rect) → n < length parts → part ≡ get_or parts n [] → AreSlabsOf (transposed (Covers part)) columns
+    → AreSlabsOf (part_at (transposed_parts parts) n) columns
+columns-of_part parts n part columns n_in is slabs =
+    let turned : get_or (transposed_parts parts) n [] ≡ map transposed_rect part = get_or-map (map transposed_rect) parts n [] [] n_in ∙ ap (map transposed_rect) (sym is) in
+    record {
+      canonical = slabs.canonical;
+      covers = λ p. (
+        λ a. subst (λ (rs : List Rect). Covers rs p) (sym turned) ((transposed-covers part p).1 ((slabs.covers p).0 a)),
+        λ b. (slabs.covers p).1 ((transposed-covers part p).0 (subst (λ (rs : List Rect). Covers rs p) turned b)),
+      );
+    }
+
+pub sets-within : (parts : List (List Rect)) (items : List Item) → AreSets parts items → AreOwnedWithin items
+sets-within parts items sets r k owned =
+    let k_in = sets.known r k owned in
+    let set = sets.each k k_in in
+    let (i, i_in, at) = (set.has r).0 owned in
+    subst (IsSolidWithin farthest) at (within-slabs set.rects set.slabs.canonical set.within i r i_in)
+
+-- an item with neighbours of other owners is its owner's only one
+pub alone : (items : List Item) (n : ℕ) → n < length items → OwnersRise items → (0 < n → (item_at items (n - 1)).owner ≢ (item_at items n).owner)
+    → (n + 1 < length items → (item_at items (n + 1)).owner ≢ (item_at items n).owner) → (r : Rect) → IsOwned items r (item_at items n).owner → r ≡ (item_at items n).rect
+alone items n n_in rise before behind r (t, (i, i_in, is), e, f) =
+    let here : get_or items i no_item ≡ t = get_or_default items i no_item t i_in ∙ is in
+    let own : (item_at items i).owner ≡ (item_at items n).owner = ap (λ (u : Item). u.owner) here ∙ f in
+    elim (cases_eq i n) [
+      | inl same ↦ sym e ∙ (ap (λ (u : Item). u.rect) (sym here) ∙ ap (λ (k : ℕ). (item_at items k).rect) same)
+      | inr ne ↦ elim (cases_lt i n) [
+        | inl l ↦
+            (let a = rise i (n - 1) no_item (omega (arith, l)) (omega (arith, l, n_in)) in
+            let b = rise (n - 1) n no_item (omega arith) n_in in
+            absurd (before (omega (arith, l)) (omega (arith, a, b, own))))
+        | inr m ↦
+            (let a = rise n (n + 1) no_item (omega arith) (omega (arith, m, ne, i_in)) in
+            let b = rise (n + 1) i no_item (omega (arith, m, ne)) i_in in
+            absurd (behind (omega (arith, m, ne, i_in)) (omega (arith, a, b, own))))
+      ]
+    ]
+
+pub tree-within : (items : List Item) (tree : List TreeItem) → AreOwnedWithin items → IsTreeOf items tree → AreItemsWithin tree
+tree-within items tree within same r k h = within r k ((same r k).0 h)
+
+pub whole-in : (items : List Item) (tree : List TreeItem) (own : ℕ) (slab : Rect) → IsTreeOf items tree → ((r : Rect) → IsOwned items r own → r ≡ slab) → AllIn (own_in tree own) slab
+whole-in items tree own slab same only p (i, r, i_in, is, has) =
+    let owned = (same r own).0 (own-in tree own r (i, i_in, is)) in
+    subst (λ (s : Rect). Has s p) (only r owned) has

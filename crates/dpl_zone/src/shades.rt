@@ -1,0 +1,264 @@
+//! The rows at which items of a join are near items of other owners.
+ghost use Rattle.std.specs.Prelude.{◌≡◌, ◌≢◌, ℕ, ◌+◌, ◌<◌, ◌≤◌, ◌⊎◌, ◌↔◌, ℤ, pos, ◌+ℤ◌, ◌<ℤ◌, [], IsTrue, IfOk, OnOk, length};
+ghost use Rattle.std.specs.List.{All, Contains};
+ghost use Rattle.std.specs.List.Sorted.{IsPermutation};
+ghost use Rattle.dpl_spec_split.specs.Loops.{farthest};
+ghost use Rattle.dpl_spec_split.specs.Squares.{IsSolidWithin};
+ghost use Rattle.dpl_join.specs.declared.items.Item.{Item};
+ghost use Rattle.dpl_join.specs.Pairs.{IsPair, item_at};
+ghost use Rattle.dpl_zone.specs.declared.shades.Shade.{Shade};
+ghost use Rattle.dpl_zone.specs.Owned.{AreOwnedWithin};
+ghost use Rattle.dpl_zone.specs.Rows.{AreTall, IsShadow, RiseByFrom, SomeRow};
+ghost use Rattle.dpl_zone.specs.Shading.{AreShades, Handles, HandlesBoth, HasShade, IsMore, IsSound, IsStart, NumbersRise};
+
+use crate::rows::{Span, Spans, shadow};
+use crate::slab_zones::is_short;
+use dpl_base::{Rect, Spacing};
+use dpl_join::{Item, Join, Pair};
+use smallvec::SmallVec;
+use std::alloc::{AllocError, Global};
+
+/// Rows of an item that another one shades.
+#[derive(Clone, Copy, Drop)]
+pub(crate) struct Shade {
+    pub(crate) number: u32,
+    pub(crate) span: Span,
+}
+
+/// The shades of items, and which items need none any more, since no zone stands in them.
+#[derive(Drop)]
+pub(crate) struct Shades {
+    pub(crate) spacing: Spacing,
+    pub(crate) overlap: u32,
+    pub(crate) found: Vec<Shade>,
+    pub(crate) dead: Vec<bool>,
+}
+
+/// Whether a shadow leaves too few rows of the slab for a zone, below it and above it.
+fn leaves_few(slab: &Rect, s: &Span, overlap: u32) -> bool
+    ensures { IsTrue result ↔ ((s.now.from <ℤ (slab.now.y0 +ℤ pos (overlap + 2))) × (slab.now.y1 <ℤ (s.now.to +ℤ pos (overlap + 2)))) }
+{
+    let long = overlap as i64 + 2;
+    if s.from >= slab.y0 as i64 + long {
+        return false;
+    }
+    if s.to <= slab.y1 as i64 - long {
+        return false;
+    }
+    true
+}
+
+/// Whether a shadow has a row of the slab.
+fn meets(slab: &Rect, s: &Span) -> bool
+    ensures { IsTrue result ↔ ((s.now.from <ℤ slab.now.y1) × (slab.now.y0 <ℤ s.now.to)) }
+{
+    if s.from >= slab.y1 as i64 {
+        return false;
+    }
+    (slab.y0 as i64) < s.to
+}
+
+/// Adds the shadow of item `m` on item `n`.
+fn add_shadow(
+    shades: &mut Shades,
+    items: &[Item],
+    n: u32,
+    m: u32,
+    span: Span,
+) -> Result<(), AllocError>
+    requires first { n < length items.now }
+    requires second { m < length items.now }
+    requires apart { (item_at items.now m).owner ≢ (item_at items.now n).owner }
+    requires sound { IsSound items.now shades.old }
+    requires shadow { IsShadow shades.old.spacing (item_at items.now n).rect (item_at items.now m).rect span }
+    ensures sound { OnOk result (IsSound items.now shades.new) }
+    ensures more { OnOk result (IsMore shades.old shades.new) }
+    ensures handles { OnOk result (Handles items.now shades.new n m) }
+{
+    let slab = items[n as usize].rect;
+    if !meets(&slab, &span) {
+        return Ok(());
+    }
+    if leaves_few(&slab, &span, shades.overlap) {
+        shades.dead[n as usize] = true;
+        return Ok(());
+    }
+    shades.found.push(Shade { number: n, span })?;
+    Ok(())
+}
+
+/// Adds what item `m` shades of item `n`.
+fn add_shade(shades: &mut Shades, items: &[Item], n: u32, m: u32) -> Result<(), AllocError>
+    requires corner { shades.old.spacing.corner ≤ shades.old.spacing.rule }
+    requires within { AreOwnedWithin items.now }
+    requires first { n < length items.now }
+    requires second { m < length items.now }
+    requires apart { (item_at items.now m).owner ≢ (item_at items.now n).owner }
+    requires sound { IsSound items.now shades.old }
+    ensures sound { OnOk result (IsSound items.now shades.new) }
+    ensures more { OnOk result (IsMore shades.old shades.new) }
+    ensures handles { OnOk result (Handles items.now shades.new n m) }
+{
+    if shades.dead[n as usize] {
+        return Ok(());
+    }
+    let slab = items[n as usize].rect;
+    let other = items[m as usize].rect;
+    match shadow(&slab, &other, shades.spacing) {
+        None => Ok(()),
+        Some(span) => add_shadow(shades, items, n, m, span),
+    }
+}
+
+/// Adds what each of a pair shades of the other.
+fn add_both(shades: &mut Shades, items: &[Item], pair: &Pair) -> Result<(), AllocError>
+    requires corner { shades.old.spacing.corner ≤ shades.old.spacing.rule }
+    requires within { AreOwnedWithin items.now }
+    requires pair { IsPair shades.old.spacing.rule items.now pair.now }
+    requires sound { IsSound items.now shades.old }
+    ensures sound { OnOk result (IsSound items.now shades.new) }
+    ensures more { OnOk result (IsMore shades.old shades.new) }
+    ensures handles { OnOk result (HandlesBoth items.now shades.new pair.now) }
+{
+    add_shade(shades, items, pair.0, pair.1)?;
+    add_shade(shades, items, pair.1, pair.0)?;
+    Ok(())
+}
+
+/// Adds what pairs shade of one another.
+fn add_pairs(shades: &mut Shades, items: &[Item], pairs: &[Pair]) -> Result<(), AllocError>
+    requires corner { shades.old.spacing.corner ≤ shades.old.spacing.rule }
+    requires within { AreOwnedWithin items.now }
+    requires pairs { (p : ℕ × ℕ) → Contains pairs.now p → IsPair shades.old.spacing.rule items.now p }
+    requires sound { IsSound items.now shades.old }
+    ensures sound { OnOk result (IsSound items.now shades.new) }
+    ensures more { OnOk result (IsMore shades.old shades.new) }
+    ensures handles { OnOk result ((p : ℕ × ℕ) → Contains pairs.now p → HandlesBoth items.now shades.new p) }
+{
+    for pair in pairs {
+        add_both(shades, items, pair)?;
+    }
+    Ok(())
+}
+
+/// No shades yet. An item of too few rows for a zone needs none.
+fn none_found(
+    alloc: Global,
+    items: &[Item],
+    spacing: Spacing,
+    overlap: u32,
+) -> Result<Shades, AllocError>
+    requires { AreOwnedWithin items.now }
+    ensures sound { IfOk result (IsSound items.now) }
+    ensures spacing { IfOk result (λ t. t.spacing ≡ spacing) }
+    ensures overlap { IfOk result (λ t. t.overlap ≡ overlap) }
+{
+    let mut dead = Vec::with_capacity(alloc, items.len())?;
+    for item in items {
+        dead.push(is_short(&item.rect, overlap))?;
+    }
+    Ok(Shades {
+        spacing,
+        overlap,
+        found: Vec::new(alloc),
+        dead,
+    })
+}
+
+/// The shades of all pairs of a join, in no order. The pairs are found strip by strip, so those of one are in memory at a time.
+fn unsorted_shades(
+    alloc: Global,
+    join: &Join,
+    spacing: Spacing,
+    overlap: u32,
+) -> Result<Shades, AllocError>
+    requires corner { spacing.corner ≤ spacing.rule }
+    requires rule { join.now.rule ≡ spacing.rule }
+    requires within { AreOwnedWithin join.now.items }
+    ensures spacing { IfOk result (λ t. t.spacing ≡ spacing) }
+    ensures overlap { IfOk result (λ t. t.overlap ≡ overlap) }
+    ensures sound { IfOk result (IsSound join.now.items) }
+    ensures handles { IfOk result (λ t. (p : ℕ × ℕ) → IsPair spacing.rule join.now.items p → HandlesBoth join.now.items t p) }
+{
+    let items = join.items();
+    let mut shades = none_found(alloc, items, spacing, overlap)?;
+    let count = join.strips();
+    for strip in 0..count {
+        let pairs = join.pairs_of_strip(alloc, strip)?;
+        add_pairs(&mut shades, items, pairs.as_slice())?;
+    }
+    Ok(shades)
+}
+
+/// Sorts by number.
+fn sort_by_number(found: &mut Vec<Shade>)
+    ensures same { IsPermutation found.old.items found.new.items }
+    ensures rise { NumbersRise found.new.items }
+{
+    found.sort_unstable_by_key(|s| s.number);
+}
+
+/// The shades of the items of a join.
+pub(crate) fn shades_of(
+    alloc: Global,
+    join: &Join,
+    spacing: Spacing,
+    overlap: u32,
+) -> Result<Shades, AllocError>
+    requires corner { spacing.corner ≤ spacing.rule }
+    requires rule { join.now.rule ≡ spacing.rule }
+    requires within { AreOwnedWithin join.now.items }
+    ensures spacing { IfOk result (λ t. t.spacing ≡ spacing) }
+    ensures overlap { IfOk result (λ t. t.overlap ≡ overlap) }
+    ensures shades { IfOk result (AreShades join.now.items) }
+{
+    let mut shades = unsorted_shades(alloc, join, spacing, overlap)?;
+    sort_by_number(&mut shades.found);
+    Ok(shades)
+}
+
+/// How many shades have numbers below `n`.
+fn start_of(found: &[Shade], n: u64) -> usize
+    requires { NumbersRise found.now }
+    ensures { IsStart found.now n result }
+{
+    found.partition_point(|s| (s.number as u64) < n)
+}
+
+/// The shades of one item.
+fn shades_at(found: &[Shade], n: u32) -> &[Shade]
+    requires { NumbersRise found.now }
+    ensures { (s : Shade) → Contains result.now s ↔ (Contains found.now s × (s.number ≡ n)) }
+{
+    let start = start_of(found, n as u64);
+    let end = start_of(found, n as u64 + 1);
+    &found[start..end]
+}
+
+/// The rows of an item's shades, in no order.
+fn unsorted_rows(alloc: Global, found: &[Shade], n: u32) -> Result<Spans, AllocError>
+    requires rise { NumbersRise found.now }
+    requires tall { (s : Shade) → Contains found.now s → s.span.from <ℤ s.span.to }
+    ensures tall { IfOk result (λ v. AreTall v.items) }
+    ensures rows { IfOk result (λ v. (y : ℤ) → SomeRow v.items y ↔ HasShade found.now n y) }
+{
+    let shades = shades_at(found, n);
+    let mut spans = SmallVec::new(alloc);
+    for s in shades {
+        spans.push(s.span)?;
+    }
+    Ok(spans)
+}
+
+/// The rows of an item's shades, by lowest row.
+pub(crate) fn rows_at(alloc: Global, found: &[Shade], n: u32) -> Result<Spans, AllocError>
+    requires rise { NumbersRise found.now }
+    requires tall { (s : Shade) → Contains found.now s → s.span.from <ℤ s.span.to }
+    ensures tall { IfOk result (λ v. AreTall v.items) }
+    ensures rise { IfOk result (λ v. RiseByFrom v.items) }
+    ensures rows { IfOk result (λ v. (y : ℤ) → SomeRow v.items y ↔ HasShade found.now n y) }
+{
+    let mut spans = unsorted_rows(alloc, found, n)?;
+    spans.sort_unstable_by_key(|s| s.from);
+    Ok(spans)
+}
