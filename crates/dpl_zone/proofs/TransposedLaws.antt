@@ -1,16 +1,14 @@
 -- Transposed sets, rectangles and trees: x and y are exchanged.
-use Rattle.std.proofs.Common.{◌≡◌, ℕ, ◌<◌, inl, inr, List, [], ◌∷◌, length, get_or, map, sym, refl, ap, ◌∙◌, subst, arith}
-use Rattle.std.specs.Prelude.{ℤ, pos, ◌-ℤ◌, ◌↔◌}
-use Rattle.std.specs.List.{All, AllPairs, Contains}
+use Rattle.std.proofs.Common.{◌≡◌, ℕ, ◌<◌, List, length, get_or, map, sym, ap, ◌∙◌, subst, arith}
+use Rattle.std.specs.Prelude.{ℤ, pos, ◌-ℤ◌}
 use Rattle.std.proofs.lemmas.List.{get_or_default, get_or-map, length-map}
 use Rattle.dpl_spec_split.specs.declared.Spacing.{Spacing}
-use Rattle.dpl_spec_split.specs.declared.Pt.{Pt}
 use Rattle.dpl_spec_split.specs.declared.Rect.{Rect}
 use Rattle.dpl_spec_split.specs.Squares.{Region, SameSquares, Has, Covers}
-use Rattle.dpl_spec_split.specs.Slabs.{IsSolid, Follows, IsCanonical, AreSlabsOf}
-use Rattle.dpl_spec_split.specs.Zones.{at, IsClearRun, GoesOn, IsHorizontalZone, IsVerticalZone, transposed, transposed_rect}
+use Rattle.dpl_spec_split.specs.Slabs.{IsCanonical}
+use Rattle.dpl_spec_split.specs.Zones.{at, IsClearRun, GoesOn, IsHorizontalZone, transposed, transposed_rect}
 use Rattle.dpl_spec_split.specs.Loops.{farthest, AreRectsWithin}
-use Rattle.dpl_zone.specs.Rows.{AreWithin, layer_of}
+use Rattle.dpl_zone.specs.Rows.{AreWithin}
 
 -- the same zones, of the same sets
 module _ (spacing : Spacing) (overlap : ℕ) (l m f g : Region) (layers : SameSquares l m) (features : SameSquares f g) where
@@ -67,69 +65,3 @@ transposed-covers rects p = (
     record { left = has.low; right = has.high; low = has.left; high = has.right },
   ),
 )
-
-contains-transposed : (zs : List Rect) (z : Rect) → Contains (map transposed_rect zs) z ↔ Contains zs (transposed_rect z)
-contains-transposed zs z = (
-  λ (k, l, is). (let k_in : k < length zs = omega (arith, l, length-map zs transposed_rect) in
-      (k, k_in, get_or_default zs k (transposed_rect z) z k_in ∙ ap transposed_rect (sym (get_or-map transposed_rect zs k z z k_in) ∙ is))),
-  λ (k, l, is). (k, omega (arith, l, length-map zs transposed_rect), get_or-map transposed_rect zs k (transposed_rect z) z l ∙ ap transposed_rect is),
-)
-
-transposed-layer : (rects others slabs : List Rect) → SameSquares (Covers slabs) (transposed (Covers rects))
-    → SameSquares (transposed (layer_of slabs (map transposed_rect others))) (layer_of rects others)
-transposed-layer rects others slabs same p = (
-  λ h. elim h [ inl a ↦ inl ((same (at p.y p.x)).0 a) | inr b ↦ inr ((transposed-covers others (at p.y p.x)).0 b) ],
-  λ h. elim h [ inl a ↦ inl ((same (at p.y p.x)).1 a) | inr b ↦ inr ((transposed-covers others (at p.y p.x)).1 b) ],
-)
-
-transposed-feature : (rects slabs : List Rect) → SameSquares (Covers slabs) (transposed (Covers rects)) → SameSquares (transposed (Covers slabs)) (Covers rects)
-transposed-feature rects slabs same p = ((same (at p.y p.x)).0, (same (at p.y p.x)).1)
-
-pub flat-from_upright : (spacing : Spacing) (overlap : ℕ) (rects others slabs found zones : List Rect) → SameSquares (Covers slabs) (transposed (Covers rects))
-    → ((z : Rect) → Contains found z ↔ IsVerticalZone spacing overlap (layer_of slabs (map transposed_rect others)) (Covers slabs) z) → zones ≡ map transposed_rect found
-    → (z : Rect) → Contains zones z ↔ IsHorizontalZone spacing overlap (layer_of rects others) (Covers rects) z
-flat-from_upright spacing overlap rects others slabs found zones same h is z =
-    rw is (
-      (λ a. zone-as spacing overlap (transposed (layer_of slabs (map transposed_rect others))) (layer_of rects others) (transposed (Covers slabs))
-          (Covers rects) (transposed-layer rects others slabs same) (transposed-feature rects slabs same) z
-          ((h (transposed_rect z)).0 ((contains-transposed found z).0 a))),
-      λ b. (contains-transposed found z).1 ((h (transposed_rect z)).1
-          (zone-as spacing overlap (layer_of rects others) (transposed (layer_of slabs (map transposed_rect others))) (Covers rects) (transposed (Covers slabs))
-          (same-back (transposed (layer_of slabs (map transposed_rect others))) (layer_of rects others) (transposed-layer rects others slabs same))
-          (same-back (transposed (Covers slabs)) (Covers rects) (transposed-feature rects slabs same)) z b)),
-    )
-
-pub transposed-back : (rs : List Rect) → map transposed_rect (map transposed_rect rs) ≡ rs
-transposed-back [] = refl
-transposed-back (r ∷ rs) = ap (λ t. let s : List Rect = t in r ∷ s) (transposed-back rs)
-
-pub flat-from_across : (spacing : Spacing) (overlap : ℕ) (rects others slabs found zones : List Rect) → SameSquares (Covers slabs) (transposed (Covers rects))
-    → ((z : Rect) → Contains found z ↔ IsVerticalZone spacing overlap (layer_of slabs others) (Covers slabs) z) → zones ≡ map transposed_rect found
-    → (z : Rect) → Contains zones z ↔ IsHorizontalZone spacing overlap (layer_of rects (map transposed_rect others)) (Covers rects) z
-flat-from_across spacing overlap rects others slabs found zones same h is =
-    flat-from_upright spacing overlap rects (map transposed_rect others) slabs found zones same
-    (subst (λ t. let s : List Rect = t in (z : Rect) → Contains found z ↔ IsVerticalZone spacing overlap (layer_of slabs s) (Covers slabs) z) (sym (transposed-back others)) h) is
-
--- the squares of transposed rectangles
-pub own-transposed : (rects own own' : List Rect) → own' ≡ map transposed_rect own → SameSquares (Covers rects) (Covers own) → SameSquares (transposed (Covers rects)) (Covers own')
-own-transposed rects own own' e same p =
-    let t = transposed-covers own p in
-    rw e ((λ a. t.1 ((same (at p.y p.x)).0 a)), (λ b. (same (at p.y p.x)).1 (t.0 b)))
-
-pub apart-transposed : (rects others others' : List Rect) → others' ≡ map transposed_rect others
-    → ((p : Pt) → Covers rects p → Covers others p → ⊥) → (p : Pt) → transposed (Covers rects) p → Covers others' p → ⊥
-apart-transposed rects others others' e apart p a b = apart (at p.y p.x) a ((transposed-covers others p).0 (subst (λ t. let s : List Rect = t in Covers s p) e b))
-
--- a set of one slab, transposed
-module _ (rects columns : List Rect) (one : length rects ≡ 1) (is : columns ≡ map transposed_rect rects) where
-  solid-columns : IsCanonical rects → All IsSolid (map transposed_rect rects)
-  solid-columns canonical k d l =
-      let k_in : k < length rects = omega (arith, l, length-map rects transposed_rect) in
-      let s = canonical.solid k d k_in in
-      rw (get_or-map transposed_rect rects k d d k_in) (record { wide = s.tall; tall = s.wide })
-
-  follow-columns : AllPairs Follows (map transposed_rect rects)
-  follow-columns i j d l j_in = absurd (omega (arith, l, j_in, one, length-map rects transposed_rect))
-
-  pub one-column : IsCanonical rects → AreSlabsOf (transposed (Covers rects)) columns
-  one-column canonical = rw is (record { canonical = record { solid = solid-columns canonical; follow = follow-columns }; covers = transposed-covers rects })

@@ -5,7 +5,7 @@ use Rattle.dpl_spec_split.specs.declared.Spacing.{Spacing}
 use Rattle.dpl_spec_split.specs.declared.Pt.{Pt}
 use Rattle.dpl_spec_split.specs.declared.Rect.{Rect}
 use Rattle.dpl_spec_split.specs.Loops.{farthest}
-use Rattle.dpl_spec_split.specs.Squares.{Region, AreTouching, Has, Covers, IsSolidWithin, Near}
+use Rattle.dpl_spec_split.specs.Squares.{Region, Has, Covers, IsSolidWithin, Near}
 use Rattle.dpl_spec_split.specs.Zones.{at, transposed, GoesOn}
 use Rattle.dpl_zone.specs.declared.rows.Span.{Span}
 
@@ -105,7 +105,3 @@ layer_of rects others p = Covers rects p ⊎ Covers others p
 -- solid rectangles in the range of a layer
 abbrev pub AreWithin : List Rect → Type 0
 AreWithin rs = (k : ℕ) (d : Rect) → k < length rs → IsSolidWithin farthest (slice_index_or rs k d)
-
--- some rectangle of the list touches this one
-abbrev pub TouchesAny : List Rect → Rect → Type 0
-TouchesAny flat w = Any (λ h. AreTouching (Has h) (Has w)) flat

@@ -262,7 +262,7 @@ fn zones_of_items(
     Ok(zones)
 }
 
-/// The vertical zones of all owners, in no order.
+/// The vertical zones of all owners, in no order. So many rectangles that their numbers don't fit into 32 bits are refused as want of memory.
 pub(crate) fn upright_zones(
     alloc: Global,
     owned: Owned,
