@@ -5,3 +5,6 @@ pub mod Flips
 pub mod Across
 pub mod Roots
 pub mod Numbers
+pub mod Linked
+pub mod Gaining
+pub mod Leading

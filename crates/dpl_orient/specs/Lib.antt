@@ -3,3 +3,5 @@ pub mod Rooted
 pub mod Oriented
 pub mod Chart
 pub mod Crossings
+pub mod Links
+pub mod Fewer

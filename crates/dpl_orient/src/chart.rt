@@ -89,6 +89,7 @@ pub fn chart(alloc: Global, n: Id, rows: &[Star]) -> Result<Vec<Rooted>, AllocEr
     requires below { ArePiecesBelow n rows.now }
     ensures chart { IfOk result (λ v. IsChart rows.now n v.items) }
     ensures low { IfOk result (λ v. AreLow v.items) }
+    ensures few { IfOk result (λ _. n < 2 ^ 32) }
 {
     let mut chart = own_roots(alloc, n)?;
     put_rows(&mut chart, rows);

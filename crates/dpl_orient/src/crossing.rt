@@ -65,14 +65,14 @@ pub fn crossing_at(chart: &[Rooted], sides: &[(Id, Id)], number: usize) -> Cross
 }
 
 /// Whether the sides of a zone lie in two components.
-fn is_across(chart: &[Rooted], side: (Id, Id)) -> bool
+pub fn is_across(chart: &[Rooted], side: (Id, Id)) -> bool
     ensures { result ≡ is_across chart.now side }
 {
     root_at(chart, side.0) != root_at(chart, side.1)
 }
 
 /// How many of the zones with these sides are crossings.
-fn crossing_count(chart: &[Rooted], sides: &[(Id, Id)]) -> usize
+pub fn crossing_count(chart: &[Rooted], sides: &[(Id, Id)]) -> usize
     ensures { result ≡ length (crossings_of chart.now sides.now) }
 {
     let mut count = 0usize;

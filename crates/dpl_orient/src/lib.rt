@@ -5,7 +5,10 @@ mod chart;
 mod colouring;
 mod crossing;
 mod flipping;
+mod links;
 mod mask;
+mod reducing;
 
 pub use crate::colouring::{are_sides_below, is_even_below, orient};
+pub use crate::reducing::fewer;
 pub use crate::mask::{Colours, Mask};

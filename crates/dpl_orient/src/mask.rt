@@ -23,6 +23,16 @@ impl Mask {
     }
 }
 
+/// Whether a mask is mask B.
+pub fn is_second(mask: Mask) -> bool
+    ensures { result ≡ is_second mask }
+{
+    match mask {
+        Mask::A => false,
+        Mask::B => true,
+    }
+}
+
 /// The mask of each piece, by the piece's number. A contract sees a list of truth values: false is mask A, true mask B.
 #[derive(Debug, Drop)]
 pub struct Colours {
