@@ -8,3 +8,6 @@ pub mod Numbers
 pub mod Linked
 pub mod Gaining
 pub mod Leading
+pub mod Tallying
+pub mod Queues
+pub mod Turning

@@ -1,13 +1,13 @@
 -- Links and the letters that they stand for.
 use Rattle.std.proofs.Common.{◌≡◌, ◌≢◌, ℕ, zero, suc, ◌+◌, ◌<◌, ◌≤◌, ◌⊎◌, inl, inr, Bool, true, false, not, ◌&&◌, eqb, cond, List, [], ◌∷◌, ◌++◌, length, get_or, set, take, map, replicate, sym, refl, ap, ◌∙◌, subst, arith}
-use Rattle.std.specs.Prelude.{Option, Some, None, ◌↔◌}
+use Rattle.std.specs.Prelude.{count_by}
 use Rattle.std.specs.List.{All, zip}
 use Rattle.std.specs.List.Sorted.{IsPermutation}
 use Rattle.std.proofs.lemmas.Bool.{cases_eq, cases_lt, eq-eqb, ne_eqb, eqb-true as eqb-is}
 use Rattle.std.proofs.lemmas.List.{get_or-map, get_or_default, length-map, take_more, get_or-set_same, get_or-set_other, get_or-replicate, get_or_past, length-replicate}
 use Rattle.std.proofs.lemmas.List.Elements.{All-head, All-tail, All-cons, All-nil}
 use Rattle.std.proofs.lemmas.List.Sums.{sum_by-cons, sum_by-append}
-use Rattle.std.proofs.lemmas.List.Sorted.{sum_by-IsPermutation}
+use Rattle.std.proofs.lemmas.List.Sorted.{sum_by-IsPermutation, All-permutation as permuted}
 use Rattle.dpl_spec_split.specs.Colours.{differ, colour_at}
 use Rattle.dpl_spec_fewer.specs.Fewer.{stitch_count, flipped, IsFree, Gains, IsLeastGain, LeadsTo, stay, flip, leaves, zones_out}
 use Rattle.dpl_spec_fewer.proofs.Flips.{all-sides}
@@ -17,6 +17,7 @@ use Rattle.dpl_orient.specs.Rooted.{AreSidesBelow}
 use Rattle.dpl_orient.specs.Chart.{own_root, rooted_at, roots_in, AreLow}
 use Rattle.dpl_orient.specs.Crossings.{is_across}
 use Rattle.dpl_orient.specs.Links.{link_of, links_of, AreLinksBelow, differs_by, count_from, held_root, GainsBy, IsLeastGainBy, letters_of}
+use Rattle.dpl_orient.specs.Tallies.{AreMutual}
 use Rattle.dpl_orient.proofs.Settling.{unit}
 
 -- whether a link counts
@@ -109,6 +110,10 @@ none-of-two : (a u : Bool) → unit (differ a a && u) ≡ 0
 none-of-two false u = refl
 none-of-two true u = refl
 
+-- the links of a zone
+abbrev picked_of : List Rooted → List Bool → ℕ × ℕ → List Link
+picked_of chart colours side = cond (is_across chart side) (link_of chart colours side.0 side.1 ∷ (link_of chart colours side.1 side.0 ∷ [])) []
+
 module _ (chart : List Rooted) (colours flips : List Bool) (same : length colours ≡ length chart) where
   abbrev letters : List Bool
   letters = letters_of chart colours flips
@@ -120,9 +125,6 @@ module _ (chart : List Rooted) (colours flips : List Bool) (same : length colour
   root-in : (v : ℕ) → v < length chart → get_or (roots_in chart) v 0 ≡ (rooted_at chart v).root
   root-in v l = get_or-map (λ s. s.root) chart v (own_root v) 0 l
 
-  abbrev picked : ℕ × ℕ → List Link
-  picked side = cond (is_across chart side) (link_of chart colours side.0 side.1 ∷ (link_of chart colours side.1 side.0 ∷ [])) []
-
   module _ (root : ℕ) (wanted : Bool) where
     abbrev told : ℕ × ℕ → Bool
     told side = leaves (roots_in chart) root side && not (differ wanted (differ (colour_at letters side.0) (colour_at letters side.1)))
@@ -133,7 +135,7 @@ module _ (chart : List Rooted) (colours flips : List Bool) (same : length colour
         let f = sum_by-cons (λ (l : Link). unit (counted flips root wanted l)) b [] in
         omega (arith, e, f)
 
-    one-side : (side : ℕ × ℕ) → side.0 < length chart → side.1 < length chart → count_from flips root wanted (picked side) ≡ unit (told side)
+    one-side : (side : ℕ × ℕ) → side.0 < length chart → side.1 < length chart → count_from flips root wanted (picked_of chart colours side) ≡ unit (told side)
     one-side side l m =
         let s = (rooted_at chart side.0).root in
         let t = (rooted_at chart side.1).root in
@@ -160,7 +162,7 @@ module _ (chart : List Rooted) (colours flips : List Bool) (same : length colour
         let within : (side.0 < length chart) × (side.1 < length chart) = All-head (λ (s : ℕ × ℕ). (s.0 < length chart) × (s.1 < length chart)) side sides below in
         let rest = count-links sides (All-tail (λ (s : ℕ × ℕ). (s.0 < length chart) × (s.1 < length chart)) side sides below) in
         let here = one-side side within.0 within.1 in
-        let a = sum_by-append (λ (l : Link). unit (counted flips root wanted l)) (picked side) (links_of chart colours sides) in
+        let a = sum_by-append (λ (l : Link). unit (counted flips root wanted l)) (picked_of chart colours side) (links_of chart colours sides) in
         let b = sum_by-cons (λ (s : ℕ × ℕ). unit (told s)) side sides in
         omega (arith, rest, here, a, b)
 
@@ -189,3 +191,71 @@ letters-more chart colours flips p d e same l =
     take_more (letters_of chart colours flips) p false (omega (arith, l, many, same))
     ∙ ap (λ b. take p (letters_of chart colours flips) ++ b ∷ []) (letter-at chart colours flips p d same (omega (arith, l, same))
     ∙ ap (differ (get_or flips (get_or chart p d).root false)) (get_or_default colours p false e l))
+
+and-swap : (a b u : Bool) → ((a && b) && u) ≡ ((b && a) && u)
+and-swap false false u = refl
+and-swap false true u = refl
+and-swap true false u = refl
+and-swap true true u = refl
+
+-- whether a link leads from p to q, and its sides differ, or agree
+abbrev leads : List Bool → ℕ → ℕ → Bool → Link → Bool
+leads flips p q wanted l = (eqb l.from p && eqb l.to q) && not (differ wanted (differs_by flips l))
+
+module _ (chart : List Rooted) (colours flips : List Bool) (p q : ℕ) (wanted : Bool) where
+  same-state : (u v : ℕ) → differs_by flips (link_of chart colours u v) ≡ differs_by flips (link_of chart colours v u)
+  same-state u v =
+      ap (λ b. differ b (differ (get_or flips (rooted_at chart u).root false) (get_or flips (rooted_at chart v).root false))) (differ-mutual (colour_at colours u) (colour_at colours v))
+      ∙ ap (differ (differ (colour_at colours v) (colour_at colours u))) (differ-mutual (get_or flips (rooted_at chart u).root false) (get_or flips (rooted_at chart v).root false))
+
+  there-and-back : (u v : ℕ) → leads flips p q wanted (link_of chart colours u v) ≡ leads flips q p wanted (link_of chart colours v u)
+  there-and-back u v =
+      and-swap (eqb (rooted_at chart u).root p) (eqb (rooted_at chart v).root q) (not (differ wanted (differs_by flips (link_of chart colours u v))))
+      ∙ ap (λ b. (eqb (rooted_at chart v).root q && eqb (rooted_at chart u).root p) && not (differ wanted b)) (same-state u v)
+
+  two-lead : (p q : ℕ) (a b : Link) → count_by (leads flips p q wanted) (a ∷ (b ∷ [])) ≡ unit (leads flips p q wanted a) + unit (leads flips p q wanted b)
+  two-lead p q a b =
+      let e = sum_by-cons (λ (l : Link). unit (leads flips p q wanted l)) a (b ∷ []) in
+      let f = sum_by-cons (λ (l : Link). unit (leads flips p q wanted l)) b [] in
+      omega (arith, e, f)
+
+  one-both : (side : ℕ × ℕ) → count_by (leads flips p q wanted) (picked_of chart colours side) ≡ count_by (leads flips q p wanted) (picked_of chart colours side)
+  one-both side = elim (cases_eq (rooted_at chart side.0).root (rooted_at chart side.1).root) [
+    | inl e ↦ rw (eq-eqb (rooted_at chart side.0).root (rooted_at chart side.1).root e) refl
+    | inr e ↦ (let a = link_of chart colours side.0 side.1 in
+        let b = link_of chart colours side.1 side.0 in
+        let x : unit (leads flips p q wanted a) ≡ unit (leads flips q p wanted b) = ap unit (there-and-back side.0 side.1) in
+        let y : unit (leads flips p q wanted b) ≡ unit (leads flips q p wanted a) = ap unit (there-and-back side.1 side.0) in
+        let m = two-lead p q a b in
+        let n = two-lead q p a b in
+        let both : count_by (leads flips p q wanted) (a ∷ (b ∷ [])) ≡ count_by (leads flips q p wanted) (a ∷ (b ∷ [])) = omega (arith, m, n, x, y) in
+        rw (ne_eqb (rooted_at chart side.0).root (rooted_at chart side.1).root e) both)
+  ]
+
+  both-of : (sides : List (ℕ × ℕ)) → count_by (leads flips p q wanted) (links_of chart colours sides) ≡ count_by (leads flips q p wanted) (links_of chart colours sides)
+  both-of [] = refl
+  both-of (side ∷ sides) =
+      let here = one-both side in
+      let rest = both-of sides in
+      let a = sum_by-append (λ (l : Link). unit (leads flips p q wanted l)) (picked_of chart colours side) (links_of chart colours sides) in
+      let b = sum_by-append (λ (l : Link). unit (leads flips q p wanted l)) (picked_of chart colours side) (links_of chart colours sides) in
+      omega (arith, here, rest, a, b)
+
+apart-of : (chart : List Rooted) (colours : List Bool) (sides : List (ℕ × ℕ)) → All (λ (l : Link). l.from ≢ l.to) (links_of chart colours sides)
+apart-of chart colours [] = All-nil (λ (l : Link). l.from ≢ l.to)
+apart-of chart colours (side ∷ sides) =
+    let rest = apart-of chart colours sides in
+    elim (cases_eq (rooted_at chart side.0).root (rooted_at chart side.1).root) [
+      | inl e ↦ rw (eq-eqb (rooted_at chart side.0).root (rooted_at chart side.1).root e) rest
+      | inr e ↦ rw (ne_eqb (rooted_at chart side.0).root (rooted_at chart side.1).root e)
+          (All-cons (λ (l : Link). l.from ≢ l.to) (link_of chart colours side.0 side.1) (link_of chart colours side.1 side.0 ∷ links_of chart colours sides) e
+          (All-cons (λ (l : Link). l.from ≢ l.to) (link_of chart colours side.1 side.0) (links_of chart colours sides) (λ f. e (sym f)) rest))
+    ]
+
+-- there are both links of each zone between two components
+pub links-paired : (chart : List Rooted) (colours : List Bool) (sides : List (ℕ × ℕ)) (links : List Link) → IsPermutation (links_of chart colours sides) links → AreMutual links
+links-paired chart colours sides links same = record {
+  apart = permuted (λ (l : Link). l.from ≢ l.to) (links_of chart colours sides) links same (apart-of chart colours sides);
+  both = λ flips p q wanted. sum_by-IsPermutation (λ (l : Link). unit (leads flips p q wanted l)) (links_of chart colours sides) links same
+      ∙ (both-of chart colours flips p q wanted sides ∙ sym (sum_by-IsPermutation (λ (l : Link). unit (leads flips q p wanted l)) (links_of chart colours sides) links same));
+}

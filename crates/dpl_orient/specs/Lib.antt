@@ -5,3 +5,4 @@ pub mod Chart
 pub mod Crossings
 pub mod Links
 pub mod Fewer
+pub mod Tallies

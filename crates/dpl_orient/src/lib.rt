@@ -7,7 +7,9 @@ mod crossing;
 mod flipping;
 mod links;
 mod mask;
+mod queue;
 mod reducing;
+mod tallies;
 
 pub use crate::colouring::{are_sides_below, is_even_below, orient};
 pub use crate::reducing::fewer;

@@ -1,5 +1,6 @@
 //! Stitch zones between two components, as seen from each of the two.
-ghost use Rattle.std.specs.Prelude.{◌≡◌, ◌<◌, [], ◌∷◌, ◌++◌, length, map, IfOk, slice_index_or, false};
+ghost use Rattle.std.specs.Prelude.{◌≡◌, ◌<◌, [], ◌∷◌, ◌++◌, length, map, filter, ◌==◌, IfOk, slice_index_or, false};
+ghost use Rattle.std.specs.List.Sorted.{IsPermutation, IsNonDecreasingBy};
 ghost use Rattle.dpl_orient.specs.Masks.{is_second};
 ghost use Rattle.dpl_orient.specs.Rooted.{AreSidesBelow};
 ghost use Rattle.dpl_orient.specs.Chart.{AreLow};
@@ -56,6 +57,24 @@ pub fn links(
         }
     }
     Ok(links)
+}
+
+/// Puts links in order of the component that they lead from.
+pub fn group(links: &mut Vec<Link>)
+    ensures same { IsPermutation links.old.items links.new.items }
+    ensures ordered { IsNonDecreasingBy (λ l. l.from) links.new.items }
+{
+    links.sort_unstable_by_key(|link| link.from);
+}
+
+/// The links from a component, where they are in order.
+pub fn links_from(links: &[Link], root: u32) -> &[Link]
+    requires { IsNonDecreasingBy (λ l. l.from) links.now }
+    ensures { result.now ≡ filter (λ l. l.from == root) links.now }
+{
+    let start = links.partition_point(|link| link.from < root);
+    let end = links.partition_point(|link| link.from <= root);
+    &links[start..end]
 }
 
 /// Whether a component is flipped. One past the end of the list isn't.

@@ -1,79 +1,63 @@
 //! Flips single components again and again, so that fewer stitch zones are stitches.
-ghost use Rattle.std.specs.Prelude.{◌≡◌, ◌<◌, ◌≤◌, ◌^◌, ℕ, length, map, not, slice_set, slice_index_or, true, false, IsTrue, ◌↔◌, IfOk, MatchOption};
+ghost use Rattle.std.specs.Prelude.{◌≡◌, ◌<◌, ◌≤◌, ◌^◌, ℕ, length, map, not, slice_set, slice_index_or, true, false, IsTrue, ◌↔◌, IfOk, OnOk, ◌≢◌};
+ghost use Rattle.std.specs.BinaryHeap.{heap_items};
+ghost use Rattle.std.specs.List.Sorted.{IsNonDecreasingBy};
 ghost use Rattle.dpl_spec_fewer.specs.Fewer.{LeadsTo, stitch_count};
 ghost use Rattle.dpl_stars.specs.Stars.{IsStarList};
 ghost use Rattle.dpl_orient.specs.Masks.{is_second};
 ghost use Rattle.dpl_orient.specs.Rooted.{ArePiecesBelow, AreSidesBelow};
 ghost use Rattle.dpl_orient.specs.Chart.{AreLow, roots_in};
 ghost use Rattle.dpl_orient.specs.Links.{count_from, AreLinksBelow, GainsBy, IsLeastGainBy, letters_of};
+ghost use Rattle.dpl_orient.specs.Tallies.{AreMutual, AreTallies, GainsAt, IsQueue, Waits, AllWait};
 ghost use Rattle.dpl_orient.specs.Oriented.{IsEvenBelow, AreColoursOf};
 ghost use Rattle.dpl_orient.specs.Fewer.{AreLedByRows, AreLed, FewerOfWhatSums};
 
 use crate::chart::{Rooted, chart};
 use crate::crossing::differs;
-use crate::links::{Link, differs_by, held_root, is_flipped, links};
+use crate::links::{Link, group, held_root, is_flipped, links, links_from};
 use crate::mask::{Colours, Mask, is_second};
+use crate::queue::{move_zones, next_gain, queue_of};
+use crate::tallies::{Tally, exchange, tallies_of};
 use dpl_list::Id;
 use dpl_stars::{Joined, Star};
 use std::alloc::{AllocError, Global};
+use std::cmp::Reverse;
+use std::collections::BinaryHeap;
 
-/// How many zones between a component and others have sides that differ, and how many sides that agree.
-#[derive(Clone, Copy, Debug, Drop)]
-struct Tally {
-    differing: usize,
-    agreeing: usize,
-}
-
-/// The tally of the component of `root`, where these components are flipped.
-fn tally_of(links: &[Link], flips: &[bool], root: u32) -> Tally
-    ensures differing { result.differing ≡ count_from flips.now root true links.now }
-    ensures agreeing { result.agreeing ≡ count_from flips.now root false links.now }
-{
-    let mut differing = 0usize;
-    let mut agreeing = 0usize;
-    for link in links {
-        if link.from == root {
-            if differs_by(flips, link) {
-                differing += 1;
-            } else {
-                agreeing += 1;
-            }
-        }
-    }
-    Tally {
-        differing,
-        agreeing,
-    }
-}
-
-/// Whether the flip of this component alone leaves fewer stitches.
-fn gains(links: &[Link], flips: &[bool], held: Option<u32>, root: u32) -> bool
-    ensures { IsTrue result ↔ GainsBy held flips.now links.now root }
-{
-    let tally = tally_of(links, flips, root);
-    held != Some(root) && tally.agreeing < tally.differing
-}
-
-/// The least component whose flip alone leaves fewer stitches.
-fn least_gain(links: &[Link], flips: &[bool], held: Option<u32>) -> Option<u32>
-    requires few { length flips.now < 2 ^ 32 }
-    requires below { AreLinksBelow (length flips.now) links.now }
-    ensures { MatchOption result ((root : ℕ) → ¬ GainsBy held flips.now links.now root) (λ root. (root < length flips.now) × IsLeastGainBy held flips.now links.now root) }
-{
-    for root in 0..flips.len() as u32 {
-        if gains(links, flips, held, root) {
-            return Some(root);
-        }
-    }
-    None
-}
-
-/// Flips a component.
+/// Turns the entry of a component over.
 fn turn(flips: &mut [bool], root: u32)
     requires { root < length flips.old }
     ensures { flips.new ≡ slice_set flips.old root (not (slice_index_or flips.old root false)) }
 {
     flips[root as usize] = !flips[root as usize];
+}
+
+/// Flips a component that gains. Its own tally, and those of the components that its zones lead to, are kept up to date.
+fn flip(
+    links: &[Link],
+    held: Option<u32>,
+    root: u32,
+    flips: &mut [bool],
+    tallies: &mut [Tally],
+    waiting: &mut BinaryHeap<Reverse<u32>>,
+) -> Result<(), AllocError>
+    requires paired { AreMutual links.now }
+    requires ordered { IsNonDecreasingBy (λ l. l.from) links.now }
+    requires below { AreLinksBelow (length flips.old) links.now }
+    requires few { length links.now < 2 ^ 64 }
+    requires within { root < length flips.old }
+    requires tallies { AreTallies links.now flips.old tallies.old }
+    requires gains { GainsAt held tallies.old root }
+    requires queue { IsQueue (heap_items waiting.old) }
+    requires rest { (other : ℕ) → GainsAt held tallies.old other → other ≢ root → Waits (heap_items waiting.old) other }
+    ensures flipped { flips.new ≡ slice_set flips.old root (not (slice_index_or flips.old root false)) }
+    ensures tallies { OnOk result (AreTallies links.now flips.new tallies.new) }
+    ensures queue { OnOk result (IsQueue (heap_items waiting.new)) }
+    ensures all { OnOk result (AllWait held tallies.new (heap_items waiting.new)) }
+{
+    turn(flips, root);
+    exchange(tallies, root);
+    move_zones(links_from(links, root), flips, held, tallies, waiting)
 }
 
 /// Which components are flipped, so that the letters lead to those that no single flip leaves with fewer stitches.
@@ -91,11 +75,14 @@ fn final_flips(
     ensures len { IfOk result (λ flips. length flips.items ≡ length chart.now) }
     ensures led { IfOk result (λ flips. LeadsTo (roots_in chart.now) fixed sides.now (map is_second masks.now) (letters_of chart.now (map is_second masks.now) flips.items)) }
 {
-    let links = links(alloc, chart, sides, masks)?;
+    let mut links = links(alloc, chart, sides, masks)?;
+    group(&mut links);
     let held = held_root(chart, fixed);
     let mut flips = vec![in alloc; false; chart.len()]?;
-    while let Some(root) = least_gain(&links, &flips, held) {
-        turn(&mut flips, root);
+    let mut tallies = tallies_of(alloc, &links, &flips)?;
+    let mut waiting = queue_of(alloc, &tallies, held)?;
+    while let Some(root) = next_gain(&tallies, held, &mut waiting) {
+        flip(&links, held, root, &mut flips, &mut tallies, &mut waiting)?;
     }
     Ok(flips)
 }
