@@ -15,9 +15,18 @@ use Rattle.dpl_orient.specs.declared.chart.Rooted.{Rooted}
 use Rattle.dpl_orient.specs.declared.links.Link.{Link}
 use Rattle.dpl_orient.specs.Rooted.{AreSidesBelow}
 use Rattle.dpl_orient.specs.Chart.{roots_in}
-use Rattle.dpl_orient.specs.Links.{links_of, AreLinksBelow, differs_by, count_from, held_root, GainsBy, IsLeastGainBy, letters_of}
+use Rattle.dpl_orient.specs.Links.{links_of, AreLinksBelow, differs_by, count_from, held_root, letters_of}
 use Rattle.dpl_orient.proofs.Settling.{unit}
 use Rattle.dpl_orient.proofs.Linked.{counted, length-letters, letters-flip, letters-none, count-links}
+
+-- more of the component's zones to others have sides that differ than sides that agree
+pub record GainsBy (held : Option ℕ) (flips : List Bool) (links : List Link) (root : ℕ) : Type 0 where
+  pub free : held ≢ Some root
+  pub fewer : count_from flips root false links < count_from flips root true links
+
+pub record IsLeastGainBy (held : Option ℕ) (flips : List Bool) (links : List Link) (root : ℕ) : Type 0 where
+  pub gains : GainsBy held flips links root
+  pub least : (other : ℕ) → GainsBy held flips links other → root ≤ other
 
 none-from : (flips : List Bool) (root n : ℕ) (wanted : Bool) (links : List Link) → AreLinksBelow n links → n ≤ root → count_from flips root wanted links ≡ 0
 none-from flips root n wanted [] below past = refl

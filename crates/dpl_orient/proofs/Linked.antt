@@ -16,7 +16,7 @@ use Rattle.dpl_orient.specs.declared.links.Link.{Link}
 use Rattle.dpl_orient.specs.Rooted.{AreSidesBelow}
 use Rattle.dpl_orient.specs.Chart.{own_root, rooted_at, roots_in, AreLow}
 use Rattle.dpl_orient.specs.Crossings.{is_across}
-use Rattle.dpl_orient.specs.Links.{link_of, links_of, AreLinksBelow, differs_by, count_from, held_root, GainsBy, IsLeastGainBy, letters_of}
+use Rattle.dpl_orient.specs.Links.{link_of, links_of, AreLinksBelow, differs_by, count_from, letters_of}
 use Rattle.dpl_orient.specs.Tallies.{AreMutual}
 use Rattle.dpl_orient.proofs.Settling.{unit}
 

@@ -12,11 +12,11 @@ use Rattle.std.proofs.lemmas.List.Sorted.{sum_by-IsPermutation, All-permutation 
 use Rattle.dpl_spec_split.specs.Colours.{differ}
 use Rattle.dpl_orient.specs.declared.links.Link.{Link}
 use Rattle.dpl_orient.specs.declared.tallies.Tally.{Tally}
-use Rattle.dpl_orient.specs.Links.{AreLinksBelow, differs_by, count_from, GainsBy, IsLeastGainBy}
+use Rattle.dpl_orient.specs.Links.{AreLinksBelow, differs_by, count_from}
 use Rattle.dpl_orient.specs.Tallies.{tally_of, tally_at, AreTallies, exchanged, GainsAt, Waits, AllWait, count_to, AreMoved, AreCounted, AreMutual}
 use Rattle.dpl_orient.proofs.Settling.{unit}
 use Rattle.dpl_orient.proofs.Linked.{counted}
-use Rattle.dpl_orient.proofs.Gaining.{gains-below}
+use Rattle.dpl_orient.proofs.Gaining.{GainsBy, IsLeastGainBy, gains-below}
 use Rattle.dpl_orient.proofs.Tallying.{counted_to, same-tally, count-both}
 
 -- two counts together

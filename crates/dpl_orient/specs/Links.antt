@@ -34,15 +34,6 @@ abbrev pub held_root : List Rooted → Option ℕ → Option ℕ
 held_root chart None = None
 held_root chart (Some fixed) = slice_get (roots_in chart) fixed
 
--- more of the component's zones to others have sides that differ than sides that agree
-pub record GainsBy (held : Option ℕ) (flips : List Bool) (links : List Link) (root : ℕ) : Type 0 where
-  pub free : held ≢ Some root
-  pub fewer : count_from flips root false links < count_from flips root true links
-
-pub record IsLeastGainBy (held : Option ℕ) (flips : List Bool) (links : List Link) (root : ℕ) : Type 0 where
-  pub gains : GainsBy held flips links root
-  pub least : (other : ℕ) → GainsBy held flips links other → root ≤ other
-
 -- each piece's letter, where these components are flipped
 abbrev pub letters_of : List Rooted → List Bool → List Bool → List Bool
 letters_of chart colours flips = map (λ (v : Rooted × Bool). differ (slice_index_or flips v.0.root false) v.1) (zip chart colours)

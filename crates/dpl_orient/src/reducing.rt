@@ -7,7 +7,7 @@ ghost use Rattle.dpl_stars.specs.Stars.{IsStarList};
 ghost use Rattle.dpl_orient.specs.Masks.{is_second};
 ghost use Rattle.dpl_orient.specs.Rooted.{ArePiecesBelow, AreSidesBelow};
 ghost use Rattle.dpl_orient.specs.Chart.{AreLow, roots_in};
-ghost use Rattle.dpl_orient.specs.Links.{count_from, AreLinksBelow, GainsBy, IsLeastGainBy, letters_of};
+ghost use Rattle.dpl_orient.specs.Links.{AreLinksBelow, letters_of};
 ghost use Rattle.dpl_orient.specs.Tallies.{AreMutual, AreTallies, GainsAt, IsQueue, Waits, AllWait};
 ghost use Rattle.dpl_orient.specs.Oriented.{IsEvenBelow, AreColoursOf};
 ghost use Rattle.dpl_orient.specs.Fewer.{AreLedByRows, AreLed, FewerOfWhatSums};

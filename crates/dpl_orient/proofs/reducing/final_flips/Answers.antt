@@ -7,10 +7,10 @@ use Rattle.std.proofs.lemmas.List.Sorted.{All-permutation}
 use Rattle.dpl_spec_fewer.specs.Fewer.{stitch_count}
 use Rattle.dpl_orient.specs.declared.links.Link.{Link}
 use Rattle.dpl_orient.specs.Masks.{is_second}
-use Rattle.dpl_orient.specs.Links.{links_of, letters_of, held_root, AreLinksBelow, GainsBy, IsLeastGainBy}
+use Rattle.dpl_orient.specs.Links.{links_of, letters_of, held_root, AreLinksBelow}
 use Rattle.dpl_orient.specs.Tallies.{AreTallies, GainsAt, AllWait}
 use Rattle.dpl_orient.proofs.Linked.{links-paired}
-use Rattle.dpl_orient.proofs.Gaining.{IsUnderway, underway-start, underway-more, underway-end, fewer-left}
+use Rattle.dpl_orient.proofs.Gaining.{IsUnderway, GainsBy, IsLeastGainBy, underway-start, underway-more, underway-end, fewer-left}
 use Rattle.dpl_orient.proofs.Turning.{gain-within, least-by-links, none-by-links}
 use Rattle.dpl_orient.proofs.reducing.final_flips.Goals as goal
 
