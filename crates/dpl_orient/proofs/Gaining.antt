@@ -1,21 +1,19 @@
 -- Components that gain.
-use Rattle.std.proofs.Common.{◌≡◌, ◌≢◌, ℕ, zero, suc, ◌+◌, ◌<◌, ◌≤◌, ◌⊎◌, inl, inr, Bool, true, false, not, ◌&&◌, eqb, cond, List, [], ◌∷◌, ◌++◌, length, get_or, set, map, replicate, sym, refl, ap, ◌∙◌, subst, arith}
-use Rattle.std.specs.Prelude.{Option, Some, None, slice_get}
-use Rattle.std.specs.List.{All}
+use Rattle.std.proofs.Common.{◌≡◌, ◌≢◌, ℕ, ◌+◌, ◌<◌, ◌≤◌, inl, inr, Bool, true, false, not, List, [], ◌∷◌, length, get_or, set, replicate, sym, refl, ap, ◌∙◌, subst, arith}
+use Rattle.std.specs.Prelude.{Option, Some, None}
 use Rattle.std.specs.List.Sorted.{IsPermutation}
 use Rattle.std.proofs.lemmas.Bool.{cases_lt, ne_eqb, and_left, cond-false}
 use Rattle.std.proofs.lemmas.List.{length-map, length-set, length-replicate}
 use Rattle.std.proofs.lemmas.List.Elements.{All-head, All-tail}
 use Rattle.std.proofs.lemmas.List.Sums.{sum_by-cons}
 use Rattle.std.proofs.lemmas.List.Sorted.{sum_by-IsPermutation}
-use Rattle.dpl_spec_split.specs.Colours.{differ, colour_at}
 use Rattle.dpl_spec_fewer.specs.Fewer.{stitch_count, flipped, IsFree, Gains, IsLeastGain, LeadsTo, stay, flip, zones_out}
 use Rattle.dpl_spec_fewer.proofs.Flips.{all-sides}
 use Rattle.dpl_orient.specs.declared.chart.Rooted.{Rooted}
 use Rattle.dpl_orient.specs.declared.links.Link.{Link}
 use Rattle.dpl_orient.specs.Rooted.{AreSidesBelow}
 use Rattle.dpl_orient.specs.Chart.{roots_in}
-use Rattle.dpl_orient.specs.Links.{links_of, AreLinksBelow, differs_by, count_from, held_root, letters_of}
+use Rattle.dpl_orient.specs.Links.{links_of, AreLinksBelow, count_from, held_root, letters_of}
 use Rattle.dpl_orient.proofs.Settling.{unit}
 use Rattle.dpl_orient.proofs.Linked.{counted, length-letters, letters-flip, letters-none, count-links}
 
@@ -110,7 +108,7 @@ module _ (chart : List Rooted) (colours flips : List Bool) (sides : List (ℕ ×
     underway-more = record {
       len = length-set flips root (not (get_or flips root false)) ∙ h.len;
       way = λ last led. h.way last (flip root (least-from chart colours flips sides fixed links same below mixed root g)
-      (subst (λ c. LeadsTo (roots_in chart) fixed sides c last) (letters-flip chart colours flips root within) led));
+          (subst (λ c. LeadsTo (roots_in chart) fixed sides c last) (letters-flip chart colours flips root within) led));
     }
 
     pub fewer-left : stitch_count sides (letters_of chart colours more) < stitch_count sides (letters_of chart colours flips)

@@ -1,11 +1,11 @@
 -- The colours with fewer stitches of a graph, from those of its summary's rows.
-use Rattle.std.proofs.Common.{◌≡◌, ℕ, ◌≤◌, Bool, List, length, sym, ap, ◌∙◌, subst}
+use Rattle.std.proofs.Common.{◌≡◌, ℕ, ◌≤◌, Bool, List, sym, ap, ◌∙◌, subst}
 use Rattle.std.specs.Prelude.{map, Option}
 use Rattle.dpl_spec_split.specs.Graphs.{graph_of}
 use Rattle.dpl_spec_split.specs.Summary.{AreStars}
 use Rattle.dpl_spec_split.specs.Colours.{AreRoots, AreColours}
 use Rattle.dpl_spec_split.proofs.Uniqueness.{roots-unique}
-use Rattle.dpl_spec_fewer.specs.Fewer.{stitch_count, AreFewerColours, LeadsTo}
+use Rattle.dpl_spec_fewer.specs.Fewer.{stitch_count, LeadsTo}
 use Rattle.dpl_spec_fewer.proofs.Ends.{no-more}
 use Rattle.dpl_stars.specs.declared.list.Star.{Star}
 use Rattle.dpl_stars.specs.Sums.{row_of}
@@ -28,8 +28,8 @@ led-from-chart rows n sides fixed chart c b ms ks flips f colours last h c_is ms
     let end : last ≡ letters_of chart colours flips = last_is
     ∙ (ap (λ r. letters_of r (map is_second ks) f) b_is ∙ (ap (λ x. letters_of chart x f) ks_is ∙ ap (letters_of chart colours) f_is)) in
     let way : LeadsTo (roots_in chart) fixed sides colours (letters_of chart colours flips) =
-        subst (λ x. LeadsTo (roots_in chart) fixed sides x (letters_of chart x flips)) ms_is
-        (subst (λ r. LeadsTo (roots_in r) fixed sides (map is_second ms) (letters_of r (map is_second ms) flips)) c_is led) in
+    subst (λ x. LeadsTo (roots_in chart) fixed sides x (letters_of chart x flips)) ms_is
+    (subst (λ r. LeadsTo (roots_in r) fixed sides (map is_second ms) (letters_of r (map is_second ms) flips)) c_is led) in
     record {
       roots = roots_in chart;
       odds = odds_in chart;

@@ -1,16 +1,15 @@
 -- Links and the letters that they stand for.
-use Rattle.std.proofs.Common.{◌≡◌, ◌≢◌, ℕ, zero, suc, ◌+◌, ◌<◌, ◌≤◌, ◌⊎◌, inl, inr, Bool, true, false, not, ◌&&◌, eqb, cond, List, [], ◌∷◌, ◌++◌, length, get_or, set, take, map, replicate, sym, refl, ap, ◌∙◌, subst, arith}
+use Rattle.std.proofs.Common.{◌≡◌, ◌≢◌, ℕ, zero, suc, ◌+◌, ◌<◌, inl, inr, Bool, true, false, not, ◌&&◌, eqb, cond, List, [], ◌∷◌, ◌++◌, length, get_or, set, take, replicate, sym, refl, ap, ◌∙◌, arith}
 use Rattle.std.specs.Prelude.{count_by}
-use Rattle.std.specs.List.{All, zip}
+use Rattle.std.specs.List.{All}
 use Rattle.std.specs.List.Sorted.{IsPermutation}
 use Rattle.std.proofs.lemmas.Bool.{cases_eq, cases_lt, eq-eqb, ne_eqb, eqb-true as eqb-is}
-use Rattle.std.proofs.lemmas.List.{get_or-map, get_or_default, length-map, take_more, get_or-set_same, get_or-set_other, get_or-replicate, get_or_past, length-replicate}
+use Rattle.std.proofs.lemmas.List.{get_or-map, get_or_default, take_more, get_or-set_same, get_or-set_other, get_or-replicate, get_or_past, length-replicate}
 use Rattle.std.proofs.lemmas.List.Elements.{All-head, All-tail, All-cons, All-nil}
 use Rattle.std.proofs.lemmas.List.Sums.{sum_by-cons, sum_by-append}
 use Rattle.std.proofs.lemmas.List.Sorted.{sum_by-IsPermutation, All-permutation as permuted}
 use Rattle.dpl_spec_split.specs.Colours.{differ, colour_at}
-use Rattle.dpl_spec_fewer.specs.Fewer.{stitch_count, flipped, IsFree, Gains, IsLeastGain, LeadsTo, stay, flip, leaves, zones_out}
-use Rattle.dpl_spec_fewer.proofs.Flips.{all-sides}
+use Rattle.dpl_spec_fewer.specs.Fewer.{flipped, leaves, zones_out}
 use Rattle.dpl_orient.specs.declared.chart.Rooted.{Rooted}
 use Rattle.dpl_orient.specs.declared.links.Link.{Link}
 use Rattle.dpl_orient.specs.Rooted.{AreSidesBelow}
@@ -147,9 +146,9 @@ module _ (chart : List Rooted) (colours flips : List Bool) (same : length colour
           | inr e ↦ (
               let first : counted flips root wanted (link_of chart colours side.0 side.1) ≡ (eqb s root && not (differ wanted x)) = ap (λ y. eqb s root && not (differ wanted y)) (state-of side.0 side.1 l m) in
               let second : counted flips root wanted (link_of chart colours side.1 side.0) ≡ (eqb t root && not (differ wanted x)) =
-                  ap (λ y. eqb t root && not (differ wanted y)) (state-of side.1 side.0 m l ∙ differ-mutual (colour_at letters side.1) (colour_at letters side.0)) in
+              ap (λ y. eqb t root && not (differ wanted y)) (state-of side.1 side.0 m l ∙ differ-mutual (colour_at letters side.1) (colour_at letters side.0)) in
               let joined : unit (eqb s root && not (differ wanted x)) + unit (eqb t root && not (differ wanted x)) ≡ unit (differ (eqb s root) (eqb t root) && not (differ wanted x)) =
-                  one-of-two (eqb s root) (eqb t root) (not (differ wanted x)) (λ i j. e (eqb-is s root i ∙ sym (eqb-is t root j))) in
+              one-of-two (eqb s root) (eqb t root) (not (differ wanted x)) (λ i j. e (eqb-is s root i ∙ sym (eqb-is t root j))) in
               rw (ne_eqb s t e) (two (link_of chart colours side.0 side.1) (link_of chart colours side.1 side.0)
               ∙ (ap (λ b. unit b + unit (counted flips root wanted (link_of chart colours side.1 side.0))) first
               ∙ (ap (λ b. unit (eqb s root && not (differ wanted x)) + unit b) second ∙ (joined ∙ sym told-is)))))

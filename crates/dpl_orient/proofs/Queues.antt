@@ -1,6 +1,5 @@
 -- Links in order, and the queue of components.
-use Rattle.std.proofs.Common.{◌≡◌, ◌≢◌, ℕ, zero, suc, ◌+◌, ◌-◌, ◌<◌, ◌≤◌, ◌⊎◌, inl, inr, Bool, true, false, cond, eqb, ltb, leb, List, [], ◌∷◌, length, get_or, take, drop, filter, sym, refl, ap, ◌∙◌, subst, arith}
-use Rattle.std.specs.List.{All, Contains}
+use Rattle.std.proofs.Common.{◌≡◌, ℕ, zero, suc, ◌+◌, ◌-◌, ◌<◌, ◌≤◌, ◌⊎◌, inl, inr, Bool, true, false, eqb, ltb, leb, List, [], ◌∷◌, length, get_or, take, drop, filter, sym, refl, ap, ◌∙◌, subst, arith}
 use Rattle.std.specs.List.Sorted.{IsPermutation, IsPartitionPoint}
 use Rattle.std.specs.BinaryHeap.{IsUpperBound}
 use Rattle.std.specs.Ordering.{nat_cmp}
@@ -27,13 +26,13 @@ filter-range p (x ∷ xs) zero zero before in_it after =
 filter-range p (x ∷ xs) zero (suc n) before in_it after =
     let here : p x ≡ true = in_it 0 x (omega arith) (omega arith) (omega arith) in
     let rest = filter-range p xs zero n (λ i d l m. absurd (omega (arith, l))) (λ i d le l m. in_it (suc i) d (omega arith) (omega (arith, l)) (omega (arith, m)))
-        (λ i d le l. after (suc i) d (omega (arith, le)) (omega (arith, l))) in
+    (λ i d le l. after (suc i) d (omega (arith, le)) (omega (arith, l))) in
     ap (λ ys. x ∷ ys) rest ∙ sym (cond-true (p x) (x ∷ filter p xs) (filter p xs) here)
 filter-range p (x ∷ xs) (suc lo) n before in_it after =
     let here : p x ≡ false = before 0 x (omega arith) (omega arith) in
     let rest = filter-range p xs lo n (λ i d l m. before (suc i) d (omega (arith, l)) (omega (arith, m)))
-        (λ i d le l m. in_it (suc i) d (omega (arith, le)) (omega (arith, l)) (omega (arith, m)))
-        (λ i d le l. after (suc i) d (omega (arith, le)) (omega (arith, l))) in
+    (λ i d le l m. in_it (suc i) d (omega (arith, le)) (omega (arith, l)) (omega (arith, m)))
+    (λ i d le l. after (suc i) d (omega (arith, le)) (omega (arith, l))) in
     rest ∙ sym (cond-false (p x) (x ∷ filter p xs) (filter p xs) here)
 
 module _ (links : List Link) (root lo hi : ℕ) (start : IsPartitionPoint (λ (y : Link). ltb y.from root ≡ true) (λ (y : Link). ltb y.from root ≡ false) links lo)

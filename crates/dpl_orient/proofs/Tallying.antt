@@ -1,5 +1,5 @@
 -- Tallies, link by link.
-use Rattle.std.proofs.Common.{◌≡◌, ◌≢◌, ℕ, zero, suc, ◌+◌, ◌-◌, ◌^◌, ◌<◌, ◌≤◌, ◌⊎◌, inl, inr, Bool, true, false, not, ◌&&◌, eqb, cond, List, [], ◌∷◌, ◌++◌, length, get_or, set, take, map, replicate, sym, refl, ap, ◌∙◌, subst, arith}
+use Rattle.std.proofs.Common.{◌≡◌, ◌≢◌, ℕ, ◌+◌, ◌^◌, ◌<◌, ◌≤◌, inl, inr, Bool, true, false, not, ◌&&◌, eqb, List, [], ◌∷◌, length, get_or, set, take, replicate, sym, refl, ap, ◌∙◌, subst, arith}
 use Rattle.std.proofs.lemmas.Bool.{cases_eq, eq-eqb, ne_eqb}
 use Rattle.std.proofs.lemmas.List.{get_or-set_same, get_or-set_other, get_or-replicate, length-set, length-take-le, length-replicate}
 use Rattle.std.proofs.lemmas.List.Sums.{sum_by-cons, sum_by_more, sum_by-take-le}
@@ -72,9 +72,9 @@ module _ (links : List Link) (flips : List Bool) (tallies : List Tally) (k : ℕ
   tally-other root below other =
       let apart : eqb l.from root ≡ false = ne_eqb l.from root (λ e. other (sym e)) in
       let d : count_from flips root true (take (k + 1) links) ≡ count_from flips root true (take k links) + 0 =
-          subst (λ e. count_from flips root true (take (k + 1) links) ≡ count_from flips root true (take k links) + unit (e && not (differ true (differs_by flips l)))) apart (count-step root true) in
+      subst (λ e. count_from flips root true (take (k + 1) links) ≡ count_from flips root true (take k links) + unit (e && not (differ true (differs_by flips l)))) apart (count-step root true) in
       let a : count_from flips root false (take (k + 1) links) ≡ count_from flips root false (take k links) + 0 =
-          subst (λ e. count_from flips root false (take (k + 1) links) ≡ count_from flips root false (take k links) + unit (e && not (differ false (differs_by flips l)))) apart (count-step root false) in
+      subst (λ e. count_from flips root false (take (k + 1) links) ≡ count_from flips root false (take k links) + unit (e && not (differ false (differs_by flips l)))) apart (count-step root false) in
       get_or-set_other tallies l.from root (more_by (differs_by flips l) (tally_at tallies l.from)) (record { differing = 0; agreeing = 0 }) other
       ∙ (h.each root below ∙ same-tally (tally_of flips (take k links) root) (tally_of flips (take (k + 1) links) root) (omega (arith, d)) (omega (arith, a)))
 

@@ -1,21 +1,18 @@
 -- Tallies after a component is flipped.
-use Rattle.std.proofs.Common.{◌≡◌, ◌≢◌, ℕ, zero, suc, ◌+◌, ◌^◌, ◌<◌, ◌≤◌, ◌⊎◌, inl, inr, Bool, true, false, not, ◌&&◌, eqb, cond, List, [], ◌∷◌, ◌++◌, length, get_or, set, filter, sym, refl, ap, ◌∙◌, subst, add_comm, arith}
-use Rattle.std.specs.Prelude.{Option, Some, count_by, sum_by}
+use Rattle.std.proofs.Common.{◌≡◌, ◌≢◌, ℕ, ◌+◌, ◌^◌, ◌<◌, ◌≤◌, inl, inr, Bool, true, false, not, ◌&&◌, eqb, cond, List, [], ◌∷◌, length, get_or, set, filter, sym, refl, ap, ◌∙◌, subst, add_comm, arith}
+use Rattle.std.specs.Prelude.{Option, count_by, sum_by}
 use Rattle.std.specs.List.{All}
-use Rattle.std.specs.List.Sorted.{IsPermutation}
 use Rattle.std.specs.declared.cmp.Reverse.{Reverse}
 use Rattle.std.proofs.lemmas.Bool.{cases_eq, cases_lt, eq-eqb, ne_eqb, eqb-true, cond-true, cond-false}
 use Rattle.std.proofs.lemmas.List.{get_or-set_same, get_or-set_other, get_or_past, length-set}
-use Rattle.std.proofs.lemmas.List.Elements.{All-head, All-tail, All-nil, All-cons, All-append, All-filter}
-use Rattle.std.proofs.lemmas.List.Sums.{sum_by-cons, sum_by-append, sum_by-le}
-use Rattle.std.proofs.lemmas.List.Sorted.{sum_by-IsPermutation, All-permutation as permuted}
+use Rattle.std.proofs.lemmas.List.Elements.{All-head, All-tail}
+use Rattle.std.proofs.lemmas.List.Sums.{sum_by-cons, sum_by-le}
 use Rattle.dpl_spec_split.specs.Colours.{differ}
 use Rattle.dpl_orient.specs.declared.links.Link.{Link}
 use Rattle.dpl_orient.specs.declared.tallies.Tally.{Tally}
 use Rattle.dpl_orient.specs.Links.{AreLinksBelow, differs_by, count_from}
 use Rattle.dpl_orient.specs.Tallies.{tally_of, tally_at, AreTallies, exchanged, GainsAt, Waits, AllWait, count_to, AreMoved, AreCounted, AreMutual}
 use Rattle.dpl_orient.proofs.Settling.{unit}
-use Rattle.dpl_orient.proofs.Linked.{counted}
 use Rattle.dpl_orient.proofs.Gaining.{GainsBy, IsLeastGainBy, gains-below}
 use Rattle.dpl_orient.proofs.Tallying.{counted_to, same-tally, count-both}
 

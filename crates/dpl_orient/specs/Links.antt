@@ -1,5 +1,5 @@
 -- Stitch zones between two components, as seen from each of the two.
-use Rattle.std.specs.Prelude.{◌≢◌, ℕ, ◌<◌, ◌≤◌, Bool, false, true, not, ◌&&◌, ◌==◌, List, [], ◌∷◌, count_by, map, slice_index_or, slice_get, Option, Some, None, if◌then◌else◌}
+use Rattle.std.specs.Prelude.{ℕ, ◌<◌, Bool, false, not, ◌&&◌, ◌==◌, List, [], ◌∷◌, count_by, map, slice_index_or, slice_get, Option, Some, None, if◌then◌else◌}
 use Rattle.std.specs.List.{All, flat_map, zip}
 use Rattle.dpl_spec_split.specs.Colours.{differ, colour_at}
 use Rattle.dpl_orient.specs.declared.chart.Rooted.{Rooted}

@@ -12,5 +12,5 @@ mod reducing;
 mod tallies;
 
 pub use crate::colouring::{are_sides_below, is_even_below, orient};
-pub use crate::reducing::fewer;
 pub use crate::mask::{Colours, Mask};
+pub use crate::reducing::fewer;

@@ -28,7 +28,10 @@ fn link_of(chart: &[Rooted], masks: &[Mask], from: Id, to: Id) -> Link
     requires each { length masks.now ≡ length chart.now }
     ensures { result ≡ link_of chart.now (map is_second masks.now) from to }
 {
-    let odd = differs(is_second(masks[from as usize]), is_second(masks[to as usize]));
+    let odd = differs(
+        is_second(masks[from as usize]),
+        is_second(masks[to as usize]),
+    );
     Link {
         from: chart[from as usize].root,
         to: chart[to as usize].root,

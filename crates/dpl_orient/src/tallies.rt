@@ -67,11 +67,7 @@ impl Tally {
 }
 
 /// The tallies of all components, where these are flipped.
-pub fn tallies_of(
-    alloc: Global,
-    links: &[Link],
-    flips: &[bool],
-) -> Result<Vec<Tally>, AllocError>
+pub fn tallies_of(alloc: Global, links: &[Link], flips: &[bool]) -> Result<Vec<Tally>, AllocError>
     requires { AreLinksBelow (length flips.now) links.now }
     ensures { IfOk result (λ v. AreTallies links.now flips.now v.items) }
 {

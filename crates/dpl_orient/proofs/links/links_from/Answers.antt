@@ -1,5 +1,4 @@
-use Rattle.std.proofs.Common.{rules, ◌≡◌, ◌<◌, ◌≤◌, ◌-◌, ltb, leb, true, false, length, arith}
-use Rattle.std.specs.List.Sorted.{IsPartitionPoint}
+use Rattle.std.proofs.Common.{rules, ◌≤◌, ltb, leb}
 use Rattle.std.proofs.lemmas.List.Sorted.{IsPartitionedBy-ltb, IsPartitionedBy-leb, IsPartitionPoint-from_clause}
 use Rattle.dpl_orient.specs.declared.links.Link.{Link}
 use Rattle.dpl_orient.proofs.Queues.{ends-in-order, range-filter}

@@ -1,4 +1,4 @@
-use Rattle.std.proofs.Common.{◌≡◌, ◌<◌, ◌≤◌, ◌+◌, inl, inr, false, length, get_or, set, sym, ap, ◌∙◌, subst, arith}
+use Rattle.std.proofs.Common.{◌≡◌, ◌<◌, inl, inr, false, length, get_or, set, sym, ap, ◌∙◌, subst, arith}
 use Rattle.std.specs.BinaryHeap.{heap_items}
 use Rattle.std.proofs.lemmas.Bool.{cases_eq}
 use Rattle.std.proofs.lemmas.List.{get_or_default, get_or-set_other}
@@ -34,11 +34,11 @@ loop-link-preserved c =
     let within : c.loop-link.link-index < length c.args.links.now = c.loop-link-test.true in
     let room : l.to < length c.loop-link.tallies = (let b = (c.requires.below c.loop-link.link-index none within).1 in let e = c.loop-link.invariant.moved.len in omega (arith, b, e)) in
     let is : c.moved_by.result ≡ moved_by (differs_by c.args.flips.now l) (tally_at c.loop-link.tallies l.to) =
-        c.moved_by.ensures ∙ ap (λ b. moved_by b (tally_at c.loop-link.tallies l.to)) c.differs_by.ensures in
+    c.moved_by.ensures ∙ ap (λ b. moved_by b (tally_at c.loop-link.tallies l.to)) c.differs_by.ensures in
     let after = set c.loop-link.tallies l.to c.moved_by.result in
     record {
       moved = rw is (moved-more c.args.flips.now c.args.links.now c.args.tallies.now c.loop-link.tallies c.loop-link.link-index l within
-      (get_or_default c.args.links.now c.loop-link.link-index none l within) room c.requires.counted c.loop-link.invariant.moved);
+          (get_or_default c.args.links.now c.loop-link.link-index none l within) room c.requires.counted c.loop-link.invariant.moved);
       queue = c.in_ok-wait.ensures.queue;
       all = λ root g. elim (cases_eq root l.to) [
         | inl same ↦ subst (Waits (heap_items c.wait.new.waiting)) (sym same) (c.in_ok-wait.ensures.gains (subst (GainsAt c.args.held after) same g))

@@ -7,5 +7,5 @@ abbrev pub invariant-loop-link : goal.invariant-loop-link
 invariant-loop-link l = record {
   moved : AreMoved l.flips (take l.link-index l.links) l.initial.tallies l.tallies;
   queue : IsQueue (heap_items l.waiting);
-  all : AllWait l.held l.tallies (heap_items l.waiting)
+  all : AllWait l.held l.tallies (heap_items l.waiting);
 }

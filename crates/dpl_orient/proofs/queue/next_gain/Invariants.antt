@@ -5,7 +5,7 @@ use Rattle.dpl_orient.proofs.queue.next_gain.Given as goal
 abbrev pub invariant-loop-root : goal.invariant-loop-root
 invariant-loop-root l = record {
   queue : IsQueue (heap_items l.waiting);
-  all : AllWait l.held l.tallies (heap_items l.waiting)
+  all : AllWait l.held l.tallies (heap_items l.waiting);
 }
 
 abbrev pub decreases-loop-root : goal.decreases-loop-root

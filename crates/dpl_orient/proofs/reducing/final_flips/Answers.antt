@@ -1,4 +1,4 @@
-use Rattle.std.proofs.Common.{◌≡◌, ℕ, ◌<◌, ◌≤◌, Bool, false, not, List, length, map, get_or, set, sym, ap, ◌∙◌, subst}
+use Rattle.std.proofs.Common.{◌≡◌, ℕ, ◌<◌, ◌≤◌, false, not, length, map, get_or, set, sym, ◌∙◌, subst}
 use Rattle.std.specs.BinaryHeap.{heap_items}
 use Rattle.std.specs.List.Sorted.{IsPermutation}
 use Rattle.std.specs.Vec.{with_items}
@@ -49,7 +49,7 @@ loop-root-smaller c =
     let links = c.group.new.links.items in
     let root = c.in-Some.root in
     let items : (with_items c.loop-root.flips c.flip.new.flips).items ≡ set flips root (not (get_or flips root false)) =
-        with_items_is c.loop-root.flips c.flip.new.flips (c.flip.auto.flips ∙ c.deref_mut.ensures.len) ∙ (rw c.deref_mut.ensures.value at c.flip.ensures.flipped) in
+    with_items_is c.loop-root.flips c.flip.new.flips (c.flip.auto.flips ∙ c.deref_mut.ensures.len) ∙ (rw c.deref_mut.ensures.value at c.flip.ensures.flipped) in
     let same : length colours ≡ length c.args.chart.now = length-map c.args.masks.now is_second ∙ c.requires.each in
     let mixed : IsPermutation (links_of c.args.chart.now colours c.args.sides.now) links = rw c.in_ok-links.ensures.links at c.group.ensures.same in
     let below : AreLinksBelow (length flips) links = rw c.loop-root.invariant.underway.len
@@ -70,9 +70,9 @@ loop-root-preserved c =
     let root = c.in-Some.root in
     let flips_are : (with_items c.loop-root.flips c.flip.new.flips).items ≡ c.flip.new.flips = with_items_is c.loop-root.flips c.flip.new.flips (c.flip.auto.flips ∙ c.deref_mut.ensures.len) in
     let tallies_are : (with_items c.loop-root.tallies c.flip.new.tallies).items ≡ c.flip.new.tallies =
-        with_items_is c.loop-root.tallies c.flip.new.tallies (c.flip.auto.tallies ∙ c.deref_mut-in-Some.ensures.len) in
+    with_items_is c.loop-root.tallies c.flip.new.tallies (c.flip.auto.tallies ∙ c.deref_mut-in-Some.ensures.len) in
     let items : (with_items c.loop-root.flips c.flip.new.flips).items ≡ set flips root (not (get_or flips root false)) =
-        flips_are ∙ (rw c.deref_mut.ensures.value at c.flip.ensures.flipped) in
+    flips_are ∙ (rw c.deref_mut.ensures.value at c.flip.ensures.flipped) in
     let same : length colours ≡ length c.args.chart.now = length-map c.args.masks.now is_second ∙ c.requires.each in
     let mixed : IsPermutation (links_of c.args.chart.now colours c.args.sides.now) links = rw c.in_ok-links.ensures.links at c.group.ensures.same in
     let below : AreLinksBelow (length flips) links = rw c.loop-root.invariant.underway.len
@@ -84,9 +84,9 @@ loop-root-preserved c =
     let within : root < length flips = gain-within c.held_root-held.result links flips c.loop-root.tallies.items c.loop-root.invariant.tallies root gains in
     record {
       underway = subst (IsUnderway c.args.chart.now colours c.args.sides.now c.args.fixed)
-      (sym items) (underway-more c.args.chart.now colours flips c.args.sides.now c.args.fixed links same c.requires.sides mixed c.loop-root.invariant.underway root within least);
+          (sym items) (underway-more c.args.chart.now colours flips c.args.sides.now c.args.fixed links same c.requires.sides mixed c.loop-root.invariant.underway root within least);
       tallies = subst (λ fs. AreTallies links fs (with_items c.loop-root.tallies c.flip.new.tallies).items) (sym flips_are)
-      (subst (AreTallies links c.flip.new.flips) (sym tallies_are) (rw c.deref-in-Some.ensures.value at c.in_ok-flip.ensures.tallies));
+          (subst (AreTallies links c.flip.new.flips) (sym tallies_are) (rw c.deref-in-Some.ensures.value at c.in_ok-flip.ensures.tallies));
       queue = c.in_ok-flip.ensures.queue;
       all = subst (λ ts. AllWait c.held_root-held.result ts (heap_items c.flip.new.waiting)) (sym tallies_are) c.in_ok-flip.ensures.all;
     }

@@ -12,7 +12,7 @@ invariant-loop-root l = record {
   underway : IsUnderway l.chart (map is_second l.masks) l.sides l.fn.fixed l.flips.items;
   tallies : AreTallies l.links.items l.flips.items l.tallies.items;
   queue : IsQueue (heap_items l.waiting);
-  all : AllWait l.held l.tallies.items (heap_items l.waiting)
+  all : AllWait l.held l.tallies.items (heap_items l.waiting);
 }
 
 abbrev pub decreases-loop-root : goal.decreases-loop-root

@@ -1,18 +1,17 @@
-use Rattle.std.proofs.Common.{◌≡◌, ℕ, ◌<◌, Bool, true, false, not, eqb, List, length, get_or, set, filter, sym, ap, ◌∙◌, subst, refl}
+use Rattle.std.proofs.Common.{◌≡◌, ◌<◌, eqb, length, sym, ap, ◌∙◌, subst}
 use Rattle.std.proofs.lemmas.List.{length-set}
 use Rattle.std.proofs.lemmas.List.Elements.{All-filter}
 use Rattle.std.proofs.lemmas.Result.{on_ok_weaker}
 use Rattle.dpl_orient.specs.declared.links.Link.{Link}
-use Rattle.dpl_orient.specs.declared.tallies.Tally.{Tally}
 use Rattle.dpl_orient.specs.Links.{AreLinksBelow}
-use Rattle.dpl_orient.specs.Tallies.{tally_at, exchanged, AreTallies, AreMoved, AreCounted, AllWait}
+use Rattle.dpl_orient.specs.Tallies.{tally_at, exchanged}
 use Rattle.dpl_orient.proofs.Turning.{turned-counted, turned-tallies, turned-waits}
 use Rattle.dpl_orient.proofs.reducing.flip.Goals as goal
 
 pub move_zones-requires-clause-below : goal.move_zones-requires-clause-below
 move_zones-requires-clause-below c =
     let same : length c.exchange.new.tallies ≡ length c.args.flips.now =
-        ap length c.exchange.ensures ∙ (length-set c.args.tallies.now c.args.root (exchanged (tally_at c.args.tallies.now c.args.root)) ∙ c.requires.tallies.len) in
+    ap length c.exchange.ensures ∙ (length-set c.args.tallies.now c.args.root (exchanged (tally_at c.args.tallies.now c.args.root)) ∙ c.requires.tallies.len) in
     subst (λ n. AreLinksBelow n c.links_from.result.now) (sym same)
     (subst (AreLinksBelow (length c.args.flips.now)) (sym c.links_from.ensures)
     (All-filter (λ (l : Link). eqb l.from c.args.root) (λ (l : Link). (l.from < length c.args.flips.now) × (l.to < length c.args.flips.now)) c.args.links.now c.requires.below))

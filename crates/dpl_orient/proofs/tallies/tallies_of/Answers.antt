@@ -1,9 +1,7 @@
-use Rattle.std.proofs.Common.{◌≡◌, ◌<◌, ◌≤◌, ◌+◌, false, length, get_or, sym, ap, ◌∙◌, subst, arith}
+use Rattle.std.proofs.Common.{◌≡◌, ◌<◌, false, length, get_or, ap, ◌∙◌, arith}
 use Rattle.std.proofs.lemmas.List.{get_or_default}
 use Rattle.dpl_orient.specs.declared.links.Link.{Link}
-use Rattle.dpl_orient.specs.declared.tallies.Tally.{Tally}
-use Rattle.dpl_orient.specs.Links.{differs_by}
-use Rattle.dpl_orient.specs.Tallies.{tally_at, more_by}
+use Rattle.dpl_orient.specs.Tallies.{tally_at}
 use Rattle.dpl_orient.proofs.Tallying.{tallies-none, tallies-more, tally-few}
 use Rattle.dpl_orient.proofs.tallies.tallies_of.Goals as goal
 
