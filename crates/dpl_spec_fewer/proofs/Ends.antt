@@ -1,10 +1,9 @@
 -- Where letters lead to.
-use Rattle.std.proofs.Common.{◌≡◌, ℕ, ◌<◌, ◌≤◌, Bool, true, false, not, eqb, List, length, get_or, sym, refl, ap, ◌∙◌, subst, arith}
+use Rattle.std.proofs.Common.{◌≡◌, ℕ, ◌≤◌, Bool, true, false, eqb, List, length, refl, ap, ◌∙◌, subst, arith}
 use Rattle.std.specs.Prelude.{Option}
-use Rattle.std.proofs.lemmas.Bool.{cases_eq, eq-eqb, ne_eqb}
 use Rattle.dpl_spec_split.specs.Colours.{differ, colour_at}
 use Rattle.dpl_spec_split.proofs.ColourLaws.{colours-unique}
-use Rattle.dpl_spec_fewer.specs.Fewer.{stitch_count, flipped, Gains, IsLeastGain, LeadsTo, stay, flip, AreFewerColours}
+use Rattle.dpl_spec_fewer.specs.Fewer.{stitch_count, flipped, Gains, LeadsTo, stay, flip, AreFewerColours}
 use Rattle.dpl_spec_fewer.specs.Laws.{IsKeptOrFlipped}
 use Rattle.dpl_spec_fewer.proofs.Flips.{length-flipped, colour-flipped}
 
@@ -43,10 +42,12 @@ module _ (roots : List ℕ) (fixed : Option ℕ) (sides : List (ℕ × ℕ)) whe
   pub kept : (colours last : List Bool) → length colours ≡ length roots → LeadsTo roots fixed sides colours last → (root : ℕ) → IsKeptOrFlipped roots colours last root
   kept colours last same (stay none) root = (false, λ v l e. refl)
   kept colours last same (flip other is rest) root =
-      let before = kept (flipped roots other colours) last (length-flipped roots other colours same ∙ same) rest root in
-      (differ before.0 (eqb root other), λ v l e. before.1 v l e
-      ∙ (ap (differ before.0) (colour-flipped roots other colours v same l ∙ ap (λ r. differ (eqb r other) (colour_at colours v)) e)
-      ∙ once-more before.0 (eqb root other) (colour_at colours v)))
+      let before = kept (flipped roots other colours) last (length-flipped roots other colours same ∙ same) rest root in (
+        differ before.0 (eqb root other),
+        λ v l e. before.1 v l e
+            ∙ (ap (differ before.0) (colour-flipped roots other colours v same l ∙ ap (λ r. differ (eqb r other) (colour_at colours v)) e)
+            ∙ once-more before.0 (eqb root other) (colour_at colours v)),
+      )
 
 pub one-fewer : (roots : List ℕ) (odds : List Bool) (sides : List (ℕ × ℕ)) (fixed : Option ℕ) (a b : List Bool) → AreFewerColours roots odds sides fixed a
     → AreFewerColours roots odds sides fixed b → a ≡ b

@@ -1,11 +1,10 @@
 -- Letters and counts after a flip.
-use Rattle.std.proofs.Common.{◌≡◌, ◌≢◌, ℕ, zero, suc, ◌+◌, ◌<◌, ◌≤◌, Bool, true, false, not, ◌&&◌, eqb, cond, List, [], ◌∷◌, length, get_or, map, sym, refl, ap, ◌∙◌, arith}
-use Rattle.std.specs.List.{All, zip}
+use Rattle.std.proofs.Common.{◌≡◌, ℕ, zero, suc, ◌+◌, ◌<◌, Bool, true, false, not, ◌&&◌, eqb, cond, List, [], ◌∷◌, length, get_or, refl, ap, arith}
+use Rattle.std.specs.List.{All}
 use Rattle.std.proofs.lemmas.List.Elements.{All-head, All-tail}
 use Rattle.std.proofs.lemmas.List.Sums.{sum_by-cons}
 use Rattle.dpl_spec_split.specs.Colours.{differ, colour_at}
 use Rattle.dpl_spec_fewer.specs.Fewer.{stitch_count, flipped, leaves, zones_out}
-use Rattle.dpl_spec_fewer.specs.Laws.{AreVertices}
 
 pub length-flipped : (roots : List ℕ) (root : ℕ) (colours : List Bool) → length colours ≡ length roots → length (flipped roots root colours) ≡ length colours
 length-flipped [] root [] same = refl

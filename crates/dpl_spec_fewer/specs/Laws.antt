@@ -1,5 +1,5 @@
 -- What follows from the definitions.
-use Rattle.std.specs.Prelude.{◌≡◌, ◌⊎◌, ℕ, ◌+◌, ◌<◌, ◌≤◌, Bool, true, false, List, length, slice_index, Option}
+use Rattle.std.specs.Prelude.{◌≡◌, ℕ, ◌+◌, ◌<◌, ◌≤◌, Bool, true, false, List, length, slice_index, Option}
 use Rattle.std.specs.List.{All}
 use Rattle.dpl_spec_split.specs.Colours.{differ, colour_at}
 use Rattle.dpl_spec_fewer.specs.Fewer.{stitch_count, flipped, Gains, LeadsTo, AreFewerColours, zones_out}

@@ -60,6 +60,10 @@ fn single_components_flip_until_none_saves_stitches(rt: HostRuntime) -> Result<(
     let letters = fewer_letters(alloc, &later, None)?;
     assert_eq!(rt; letters.as_slice(), [a, b, b, a, b, a, a, b].as_slice());
 
+    // Of two components that gain the least is flipped; then the other one gains no more.
+    let letters = fewer_letters(alloc, &[(5, 6), (3, 4), (0, 6), (1, 5)], None)?;
+    assert_eq!(rt; letters.as_slice(), [a, b, b, a, a, b, a, b].as_slice());
+
     // Pieces 0 and 1 gain by the flip of later ones; with anchors they stay.
     let lower = [(3, 6), (7, 5), (4, 3), (4, 2), (7, 2), (1, 3), (6, 4)];
     let letters = fewer_letters(alloc, &lower, None)?;
