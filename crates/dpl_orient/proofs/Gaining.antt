@@ -59,10 +59,12 @@ module _ (chart : List Rooted) (colours flips : List Bool) (sides : List (ℕ ×
   count-is root wanted = sum_by-IsPermutation (λ l. unit (counted flips root wanted l)) (links_of chart colours sides) links mixed
       ∙ count-links chart colours flips same root wanted sides below
 
-  by-counts : (root : ℕ) → stitch_count sides (flipped (roots_in chart) root letters) + count_from flips root true links ≡ stitch_count sides letters + count_from flips root false links
+  by-counts : (root : ℕ) → stitch_count sides (flipped
+      (roots_in chart) root letters) + count_from flips root true links ≡ stitch_count sides letters + count_from flips root false links
   by-counts root =
       let many : length (roots_in chart) ≡ length chart = length-map chart (λ s. s.root) in
-      let h = all-sides (roots_in chart) letters root (length-letters chart colours flips same ∙ sym many) sides (subst (λ n. AreSidesBelow n sides) (sym many) below) in
+      let h = all-sides (roots_in chart) letters root (length-letters chart colours flips same ∙ sym many) sides (subst (λ n. AreSidesBelow n sides)
+      (sym many) below) in
       let a = count-is root true in
       let b = count-is root false in
       omega (arith, h, a, b)
@@ -85,20 +87,24 @@ module _ (chart : List Rooted) (colours flips : List Bool) (sides : List (ℕ ×
 -- what is known between two flips
 pub record IsUnderway (chart : List Rooted) (colours : List Bool) (sides : List (ℕ × ℕ)) (fixed : Option ℕ) (flips : List Bool) : Type 0 where
   pub len : length flips ≡ length chart
-  pub way : (last : List Bool) → LeadsTo (roots_in chart) fixed sides (letters_of chart colours flips) last → LeadsTo (roots_in chart) fixed sides colours last
+  pub way : (last : List Bool) → LeadsTo (roots_in chart) fixed sides (letters_of chart colours flips) last → LeadsTo
+      (roots_in chart) fixed sides colours last
 
 pub underway-start : (chart : List Rooted) (colours : List Bool) (sides : List (ℕ × ℕ)) (fixed : Option ℕ) (flips : List Bool) → length colours ≡ length chart
     → flips ≡ replicate (length chart) false → IsUnderway chart colours sides fixed flips
 underway-start chart colours sides fixed flips same is = record {
   len = ap length is ∙ length-replicate (length chart) false;
-  way = λ last led. subst (λ c. LeadsTo (roots_in chart) fixed sides c last) (ap (letters_of chart colours) is ∙ letters-none chart colours (length chart) same) led;
+  way = λ last led. subst (λ c. LeadsTo (roots_in chart) fixed sides c last) (ap (letters_of chart colours) is ∙ letters-none chart colours
+      (length chart) same) led;
 }
 
 module _ (chart : List Rooted) (colours flips : List Bool) (sides : List (ℕ × ℕ)) (fixed : Option ℕ) (links : List Link)
     (same : length colours ≡ length chart) (below : AreSidesBelow (length chart) sides) (mixed : IsPermutation (links_of chart colours sides) links)
     (h : IsUnderway chart colours sides fixed flips) where
-  pub underway-end : ((root : ℕ) → GainsBy (held_root chart fixed) flips links root → ⊥) → LeadsTo (roots_in chart) fixed sides colours (letters_of chart colours flips)
-  underway-end none = h.way (letters_of chart colours flips) (stay (λ root g. none root (gains-to chart colours flips sides fixed links same below mixed root g)))
+  pub underway-end : ((root : ℕ) → GainsBy (held_root chart fixed) flips links root → ⊥) → LeadsTo (roots_in chart) fixed sides colours
+      (letters_of chart colours flips)
+  underway-end none = h.way (letters_of chart colours flips) (stay (λ root g. none root
+      (gains-to chart colours flips sides fixed links same below mixed root g)))
 
   module _ (root : ℕ) (within : root < length flips) (g : IsLeastGainBy (held_root chart fixed) flips links root) where
     abbrev more : List Bool

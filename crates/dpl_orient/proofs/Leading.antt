@@ -20,7 +20,8 @@ use Rattle.dpl_orient.proofs.Across.{chart-rooted}
 use Rattle.dpl_orient.proofs.Roots.{roots-from-rows, graph-mutual}
 
 -- what the letters lead to, step by step
-pub led-from-chart : (rows : List Star) (n : ℕ) (sides : List (ℕ × ℕ)) (fixed : Option ℕ) (chart c b : List Rooted) (ms ks : List Mask) (flips f colours last : List Bool)
+pub led-from-chart : (rows : List Star) (n : ℕ) (sides : List (ℕ × ℕ)) (fixed : Option ℕ) (chart c b : List Rooted) (ms ks : List Mask)
+    (flips f colours last : List Bool)
     → IsChart rows n chart → c ≡ chart → map is_second ms ≡ colours
     → LeadsTo (roots_in c) fixed sides (map is_second ms) (letters_of c (map is_second ms) flips) → b ≡ chart → map is_second ks ≡ colours → f ≡ flips
     → last ≡ letters_of b (map is_second ks) f → AreLedByRows rows n sides fixed colours last
@@ -37,7 +38,8 @@ led-from-chart rows n sides fixed chart c b ms ks flips f colours last h c_is ms
       led = subst (λ x. LeadsTo (roots_in chart) fixed sides colours x) (sym end) way;
     }
 
-pub fewer-no-more : (rows : List Star) (n : ℕ) (sides : List (ℕ × ℕ)) (fixed : Option ℕ) (colours last : List Bool) → AreLedByRows rows n sides fixed colours last
+pub fewer-no-more : (rows : List Star) (n : ℕ) (sides : List (ℕ × ℕ)) (fixed : Option ℕ) (colours last : List Bool)
+    → AreLedByRows rows n sides fixed colours last
     → stitch_count sides last ≤ stitch_count sides colours
 fewer-no-more rows n sides fixed colours last h = no-more h.roots fixed sides colours last h.led
 
@@ -47,7 +49,8 @@ pub fewer-of-graph : (edges : List (ℕ × ℕ)) (rows : List Star) (n : ℕ) (s
     → IsFewerColouring (graph_of edges) n sides fixed last
 fewer-of-graph edges rows n sides fixed colours last known h stars =
     let mine : AreRoots (graph_of edges) n h.roots h.odds = roots-from-rows (graph_of edges) (graph-mutual edges) rows n h.roots h.odds stars h.rooted in
-    let theirs : AreRoots (graph_of edges) n known.roots known.odds = roots-from-rows (graph_of edges) (graph-mutual edges) rows n known.roots known.odds stars known.rooted in
+    let theirs : AreRoots (graph_of edges) n known.roots known.odds = roots-from-rows (graph_of edges)
+    (graph-mutual edges) rows n known.roots known.odds stars known.rooted in
     let same : (known.roots ≡ h.roots) × (known.odds ≡ h.odds) = roots-unique (graph_of edges) n known.roots h.roots known.odds h.odds theirs mine in
     record {
       roots = h.roots;

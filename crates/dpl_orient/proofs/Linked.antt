@@ -23,11 +23,13 @@ use Rattle.dpl_orient.proofs.Settling.{unit}
 abbrev pub counted : List Bool → ℕ → Bool → Link → Bool
 counted flips root wanted l = eqb l.from root && not (differ wanted (differs_by flips l))
 
-pub length-letters : (chart : List Rooted) (colours flips : List Bool) → length colours ≡ length chart → length (letters_of chart colours flips) ≡ length chart
+pub length-letters : (chart : List Rooted) (colours flips : List Bool) → length colours ≡ length chart → length
+    (letters_of chart colours flips) ≡ length chart
 length-letters [] [] flips same = refl
 length-letters [] (c ∷ colours) flips same = refl
 length-letters (r ∷ chart) [] flips same = absurd (let e : 0 ≡ suc (length chart) = same in omega (arith, e))
-length-letters (r ∷ chart) (c ∷ colours) flips same = ap suc (length-letters chart colours flips (let e : suc (length colours) ≡ suc (length chart) = same in omega (arith, e)))
+length-letters (r ∷ chart) (c ∷ colours) flips same = ap suc (length-letters chart colours flips (let e : suc (length colours) ≡ suc
+    (length chart) = same in omega (arith, e)))
 
 pub letter-at : (chart : List Rooted) (colours flips : List Bool) (v : ℕ) (d : Rooted) → length colours ≡ length chart → v < length chart
     → colour_at (letters_of chart colours flips) v ≡ differ (get_or flips (get_or chart v d).root false) (colour_at colours v)
@@ -35,7 +37,8 @@ letter-at [] colours flips v d same l = absurd (omega (arith, l))
 letter-at (r ∷ chart) [] flips v d same l = absurd (let e : 0 ≡ suc (length chart) = same in omega (arith, e))
 letter-at (r ∷ chart) (c ∷ colours) flips zero d same l = refl
 letter-at (r ∷ chart) (c ∷ colours) flips (suc v) d same l =
-    letter-at chart colours flips v d (let e : suc (length colours) ≡ suc (length chart) = same in omega (arith, e)) (let m : suc v < suc (length chart) = l in omega (arith, m))
+    letter-at chart colours flips v d (let e : suc (length colours) ≡ suc (length chart) = same in omega (arith, e)) (let m : suc v < suc
+    (length chart) = l in omega (arith, m))
 
 not-differ : (a b : Bool) → differ (not a) b ≡ not (differ a b)
 not-differ false b = refl
@@ -48,8 +51,10 @@ pub letters-flip : (chart : List Rooted) (colours flips : List Bool) (root : ℕ
 letters-flip [] colours flips root l = refl
 letters-flip (r ∷ chart) [] flips root l = refl
 letters-flip (r ∷ chart) (c ∷ colours) flips root l =
-    let here : differ (get_or (set flips root (not (get_or flips root false))) r.root false) c ≡ differ (eqb r.root root) (differ (get_or flips r.root false) c) = elim (cases_eq r.root root) [
-      | inl same ↦ rw (eq-eqb r.root root same, same, get_or-set_same flips root (not (get_or flips root false)) false l) (not-differ (get_or flips root false) c)
+    let here : differ (get_or (set flips root (not (get_or flips root false))) r.root false) c ≡ differ (eqb r.root root) (differ
+    (get_or flips r.root false) c) = elim (cases_eq r.root root) [
+      | inl same ↦ rw (eq-eqb r.root root same, same, get_or-set_same flips root (not (get_or flips root false)) false l) (not-differ
+          (get_or flips root false) c)
       | inr other ↦ rw (ne_eqb r.root root other, get_or-set_other flips root r.root (not (get_or flips root false)) false other) refl
     ] in
     let rest = letters-flip chart colours flips root l in
@@ -62,7 +67,8 @@ none-flipped n r = elim (cases_lt r n) [
 ]
 
 -- where no component is flipped
-pub letters-none : (chart : List Rooted) (colours : List Bool) (n : ℕ) → length colours ≡ length chart → letters_of chart colours (replicate n false) ≡ colours
+pub letters-none : (chart : List Rooted) (colours : List Bool) (n : ℕ) → length colours ≡ length chart → letters_of chart colours
+    (replicate n false) ≡ colours
 letters-none [] [] n same = refl
 letters-none [] (c ∷ colours) n same = absurd (let e : suc (length colours) ≡ 0 = same in omega (arith, e))
 letters-none (r ∷ chart) [] n same = refl
@@ -117,7 +123,8 @@ module _ (chart : List Rooted) (colours flips : List Bool) (same : length colour
   abbrev letters : List Bool
   letters = letters_of chart colours flips
 
-  state-of : (u v : ℕ) → u < length chart → v < length chart → differs_by flips (link_of chart colours u v) ≡ differ (colour_at letters u) (colour_at letters v)
+  state-of : (u v : ℕ) → u < length chart → v < length chart → differs_by flips (link_of chart colours u v) ≡ differ (colour_at letters u)
+      (colour_at letters v)
   state-of u v l m = rw (letter-at chart colours flips u (own_root u) same l, letter-at chart colours flips v (own_root v) same m)
       (state-first (colour_at colours u) (colour_at colours v) (get_or flips (rooted_at chart u).root false) (get_or flips (rooted_at chart v).root false))
 
@@ -141,13 +148,17 @@ module _ (chart : List Rooted) (colours flips : List Bool) (same : length colour
         let x = differ (colour_at letters side.0) (colour_at letters side.1) in
         let told-is : unit (told side) ≡ unit (differ (eqb s root) (eqb t root) && not (differ wanted x)) = rw (root-in side.0 l, root-in side.1 m) refl in
         elim (cases_eq s t) [
-          | inl e ↦ (let none : unit (differ (eqb s root) (eqb t root) && not (differ wanted x)) ≡ 0 = rw (← e) (none-of-two (eqb s root) (not (differ wanted x))) in
+          | inl e ↦ (let none : unit (differ (eqb s root) (eqb t root) && not (differ wanted x)) ≡ 0 = rw (← e) (none-of-two (eqb s root) (not
+              (differ wanted x))) in
               rw (eq-eqb s t e) (sym (told-is ∙ none)))
           | inr e ↦ (
-              let first : counted flips root wanted (link_of chart colours side.0 side.1) ≡ (eqb s root && not (differ wanted x)) = ap (λ y. eqb s root && not (differ wanted y)) (state-of side.0 side.1 l m) in
+              let first : counted flips root wanted (link_of chart colours side.0 side.1) ≡ (eqb s root && not (differ wanted x)) = ap
+              (λ y. eqb s root && not (differ wanted y)) (state-of side.0 side.1 l m) in
               let second : counted flips root wanted (link_of chart colours side.1 side.0) ≡ (eqb t root && not (differ wanted x)) =
-              ap (λ y. eqb t root && not (differ wanted y)) (state-of side.1 side.0 m l ∙ differ-mutual (colour_at letters side.1) (colour_at letters side.0)) in
-              let joined : unit (eqb s root && not (differ wanted x)) + unit (eqb t root && not (differ wanted x)) ≡ unit (differ (eqb s root) (eqb t root) && not (differ wanted x)) =
+              ap (λ y. eqb t root && not (differ wanted y)) (state-of side.1 side.0 m l ∙ differ-mutual (colour_at letters side.1)
+              (colour_at letters side.0)) in
+              let joined : unit (eqb s root && not (differ wanted x)) + unit (eqb t root && not (differ wanted x)) ≡ unit (differ (eqb s root)
+              (eqb t root) && not (differ wanted x)) =
               one-of-two (eqb s root) (eqb t root) (not (differ wanted x)) (λ i j. e (eqb-is s root i ∙ sym (eqb-is t root j))) in
               rw (ne_eqb s t e) (two (link_of chart colours side.0 side.1) (link_of chart colours side.1 side.0)
               ∙ (ap (λ b. unit b + unit (counted flips root wanted (link_of chart colours side.1 side.0))) first
@@ -155,21 +166,26 @@ module _ (chart : List Rooted) (colours flips : List Bool) (same : length colour
         ]
 
     -- the links of zones count as their sides do
-    pub count-links : (sides : List (ℕ × ℕ)) → AreSidesBelow (length chart) sides → count_from flips root wanted (links_of chart colours sides) ≡ zones_out (roots_in chart) letters root wanted sides
+    pub count-links : (sides : List (ℕ × ℕ)) → AreSidesBelow (length chart) sides → count_from flips root wanted
+        (links_of chart colours sides) ≡ zones_out (roots_in chart) letters root wanted sides
     count-links [] below = refl
     count-links (side ∷ sides) below =
-        let within : (side.0 < length chart) × (side.1 < length chart) = All-head (λ (s : ℕ × ℕ). (s.0 < length chart) × (s.1 < length chart)) side sides below in
+        let within : (side.0 < length chart) × (side.1 < length chart) = All-head (λ (s : ℕ × ℕ). (s.0 < length chart) ×
+        (s.1 < length chart)) side sides below in
         let rest = count-links sides (All-tail (λ (s : ℕ × ℕ). (s.0 < length chart) × (s.1 < length chart)) side sides below) in
         let here = one-side side within.0 within.1 in
         let a = sum_by-append (λ (l : Link). unit (counted flips root wanted l)) (picked_of chart colours side) (links_of chart colours sides) in
         let b = sum_by-cons (λ (s : ℕ × ℕ). unit (told s)) side sides in
         omega (arith, rest, here, a, b)
 
-BelowAll-cons : (n : ℕ) (a b : Link) (links : List Link) → (a.from < n) × (a.to < n) → (b.from < n) × (b.to < n) → AreLinksBelow n links → AreLinksBelow n (a ∷ (b ∷ links))
-BelowAll-cons n a b links h i below = All-cons (λ (l : Link). (l.from < n) × (l.to < n)) a (b ∷ links) h (All-cons (λ (l : Link). (l.from < n) × (l.to < n)) b links i below)
+BelowAll-cons : (n : ℕ) (a b : Link) (links : List Link) → (a.from < n) × (a.to < n) → (b.from < n) × (b.to < n) → AreLinksBelow n links
+    → AreLinksBelow n (a ∷ (b ∷ links))
+BelowAll-cons n a b links h i below = All-cons (λ (l : Link). (l.from < n) × (l.to < n)) a (b ∷ links) h (All-cons (λ (l : Link). (l.from < n) ×
+    (l.to < n)) b links i below)
 
 -- links join components below the number of pieces
-pub links-below : (chart : List Rooted) (colours : List Bool) (sides : List (ℕ × ℕ)) → AreLow chart → AreSidesBelow (length chart) sides → AreLinksBelow (length chart) (links_of chart colours sides)
+pub links-below : (chart : List Rooted) (colours : List Bool) (sides : List (ℕ × ℕ)) → AreLow chart → AreSidesBelow (length chart) sides
+    → AreLinksBelow (length chart) (links_of chart colours sides)
 links-below chart colours [] low below = All-nil (λ (l : Link). (l.from < length chart) × (l.to < length chart))
 links-below chart colours (side ∷ sides) low below =
     let within : (side.0 < length chart) × (side.1 < length chart) = All-head (λ (s : ℕ × ℕ). (s.0 < length chart) × (s.1 < length chart)) side sides below in
@@ -179,12 +195,14 @@ links-below chart colours (side ∷ sides) low below =
     elim (cases_eq (rooted_at chart side.0).root (rooted_at chart side.1).root) [
       | inl e ↦ rw (eq-eqb (rooted_at chart side.0).root (rooted_at chart side.1).root e) rest
       | inr e ↦ rw (ne_eqb (rooted_at chart side.0).root (rooted_at chart side.1).root e)
-          (BelowAll-cons (length chart) (link_of chart colours side.0 side.1) (link_of chart colours side.1 side.0) (links_of chart colours sides) (first, second) (second, first) rest)
+          (BelowAll-cons (length chart) (link_of chart colours side.0 side.1) (link_of chart colours side.1 side.0) (links_of chart colours sides)
+          (first, second) (second, first) rest)
     ]
 
 -- one more letter
 pub letters-more : (chart : List Rooted) (colours flips : List Bool) (p : ℕ) (d : Rooted) (e : Bool) → length colours ≡ length chart → p < length colours →
-    take (p + 1) (letters_of chart colours flips) ≡ take p (letters_of chart colours flips) ++ differ (get_or flips (get_or chart p d).root false) (get_or colours p e) ∷ []
+    take (p + 1) (letters_of chart colours flips) ≡ take p (letters_of chart colours flips) ++ differ (get_or flips (get_or chart p d).root false)
+    (get_or colours p e) ∷ []
 letters-more chart colours flips p d e same l =
     let many = length-letters chart colours flips same in
     take_more (letters_of chart colours flips) p false (omega (arith, l, many, same))
@@ -204,8 +222,10 @@ leads flips p q wanted l = (eqb l.from p && eqb l.to q) && not (differ wanted (d
 module _ (chart : List Rooted) (colours flips : List Bool) (p q : ℕ) (wanted : Bool) where
   same-state : (u v : ℕ) → differs_by flips (link_of chart colours u v) ≡ differs_by flips (link_of chart colours v u)
   same-state u v =
-      ap (λ b. differ b (differ (get_or flips (rooted_at chart u).root false) (get_or flips (rooted_at chart v).root false))) (differ-mutual (colour_at colours u) (colour_at colours v))
-      ∙ ap (differ (differ (colour_at colours v) (colour_at colours u))) (differ-mutual (get_or flips (rooted_at chart u).root false) (get_or flips (rooted_at chart v).root false))
+      ap (λ b. differ b (differ (get_or flips (rooted_at chart u).root false) (get_or flips (rooted_at chart v).root false))) (differ-mutual
+      (colour_at colours u) (colour_at colours v))
+      ∙ ap (differ (differ (colour_at colours v) (colour_at colours u))) (differ-mutual (get_or flips (rooted_at chart u).root false) (get_or flips
+      (rooted_at chart v).root false))
 
   there-and-back : (u v : ℕ) → leads flips p q wanted (link_of chart colours u v) ≡ leads flips q p wanted (link_of chart colours v u)
   there-and-back u v =
@@ -218,7 +238,8 @@ module _ (chart : List Rooted) (colours flips : List Bool) (p q : ℕ) (wanted :
       let f = sum_by-cons (λ (l : Link). unit (leads flips p q wanted l)) b [] in
       omega (arith, e, f)
 
-  one-both : (side : ℕ × ℕ) → count_by (leads flips p q wanted) (picked_of chart colours side) ≡ count_by (leads flips q p wanted) (picked_of chart colours side)
+  one-both : (side : ℕ × ℕ) → count_by (leads flips p q wanted) (picked_of chart colours side) ≡ count_by (leads flips q p wanted)
+      (picked_of chart colours side)
   one-both side = elim (cases_eq (rooted_at chart side.0).root (rooted_at chart side.1).root) [
     | inl e ↦ rw (eq-eqb (rooted_at chart side.0).root (rooted_at chart side.1).root e) refl
     | inr e ↦ (let a = link_of chart colours side.0 side.1 in
@@ -231,7 +252,8 @@ module _ (chart : List Rooted) (colours flips : List Bool) (p q : ℕ) (wanted :
         rw (ne_eqb (rooted_at chart side.0).root (rooted_at chart side.1).root e) both)
   ]
 
-  both-of : (sides : List (ℕ × ℕ)) → count_by (leads flips p q wanted) (links_of chart colours sides) ≡ count_by (leads flips q p wanted) (links_of chart colours sides)
+  both-of : (sides : List (ℕ × ℕ)) → count_by (leads flips p q wanted) (links_of chart colours sides) ≡ count_by (leads flips q p wanted)
+      (links_of chart colours sides)
   both-of [] = refl
   both-of (side ∷ sides) =
       let here = one-both side in
@@ -252,9 +274,11 @@ apart-of chart colours (side ∷ sides) =
     ]
 
 -- there are both links of each zone between two components
-pub links-paired : (chart : List Rooted) (colours : List Bool) (sides : List (ℕ × ℕ)) (links : List Link) → IsPermutation (links_of chart colours sides) links → AreMutual links
+pub links-paired : (chart : List Rooted) (colours : List Bool) (sides : List (ℕ × ℕ)) (links : List Link) → IsPermutation
+    (links_of chart colours sides) links → AreMutual links
 links-paired chart colours sides links same = record {
   apart = permuted (λ (l : Link). l.from ≢ l.to) (links_of chart colours sides) links same (apart-of chart colours sides);
   both = λ flips p q wanted. sum_by-IsPermutation (λ (l : Link). unit (leads flips p q wanted l)) (links_of chart colours sides) links same
-      ∙ (both-of chart colours flips p q wanted sides ∙ sym (sum_by-IsPermutation (λ (l : Link). unit (leads flips q p wanted l)) (links_of chart colours sides) links same));
+      ∙ (both-of chart colours flips p q wanted sides ∙ sym (sum_by-IsPermutation (λ (l : Link). unit (leads flips q p wanted l))
+      (links_of chart colours sides) links same));
 }

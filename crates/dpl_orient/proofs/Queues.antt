@@ -21,11 +21,13 @@ filter-range p [] (suc lo) zero before in_it after = refl
 filter-range p [] (suc lo) (suc n) before in_it after = refl
 filter-range p (x ∷ xs) zero zero before in_it after =
     let here : p x ≡ false = after 0 x (omega arith) (omega arith) in
-    let rest = filter-range p xs zero zero (λ i d l m. absurd (omega (arith, l))) (λ i d le l m. absurd (omega (arith, l))) (λ i d le l. after (suc i) d (omega arith) (omega (arith, l))) in
+    let rest = filter-range p xs zero zero (λ i d l m. absurd (omega (arith, l))) (λ i d le l m. absurd (omega (arith, l))) (λ i d le l. after
+    (suc i) d (omega arith) (omega (arith, l))) in
     rest ∙ sym (cond-false (p x) (x ∷ filter p xs) (filter p xs) here)
 filter-range p (x ∷ xs) zero (suc n) before in_it after =
     let here : p x ≡ true = in_it 0 x (omega arith) (omega arith) (omega arith) in
-    let rest = filter-range p xs zero n (λ i d l m. absurd (omega (arith, l))) (λ i d le l m. in_it (suc i) d (omega arith) (omega (arith, l)) (omega (arith, m)))
+    let rest = filter-range p xs zero n (λ i d l m. absurd (omega (arith, l))) (λ i d le l m. in_it (suc i) d (omega arith) (omega (arith, l)) (omega
+    (arith, m)))
     (λ i d le l. after (suc i) d (omega (arith, le)) (omega (arith, l))) in
     ap (λ ys. x ∷ ys) rest ∙ sym (cond-true (p x) (x ∷ filter p xs) (filter p xs) here)
 filter-range p (x ∷ xs) (suc lo) n before in_it after =
@@ -35,7 +37,8 @@ filter-range p (x ∷ xs) (suc lo) n before in_it after =
     (λ i d le l. after (suc i) d (omega (arith, le)) (omega (arith, l))) in
     rest ∙ sym (cond-false (p x) (x ∷ filter p xs) (filter p xs) here)
 
-module _ (links : List Link) (root lo hi : ℕ) (start : IsPartitionPoint (λ (y : Link). ltb y.from root ≡ true) (λ (y : Link). ltb y.from root ≡ false) links lo)
+module _ (links : List Link) (root lo hi : ℕ) (start : IsPartitionPoint (λ (y : Link). ltb y.from root ≡ true) (λ
+    (y : Link). ltb y.from root ≡ false) links lo)
     (end : IsPartitionPoint (λ (y : Link). leb y.from root ≡ true) (λ (y : Link). leb y.from root ≡ false) links hi) (within : lo ≤ length links) where
   no_link : Link
   no_link = record { from = 0; to = 0; odd = false }
@@ -43,7 +46,8 @@ module _ (links : List Link) (root lo hi : ℕ) (start : IsPartitionPoint (λ (y
   -- the links from one component stand between those from lower ones and those from higher ones
   pub ends-in-order : lo ≤ hi
   ends-in-order = elim (cases_lt hi lo) [
-    | inl l ↦ absurd (let a = ltb-true _ _ (start.0 hi no_link (omega arith) l) in let b = leb-false _ _ (end.1 hi no_link (omega arith) (omega (arith, l, within))) in omega (arith, a, b))
+    | inl l ↦ absurd (let a = ltb-true _ _ (start.0 hi no_link (omega arith) l) in let b = leb-false _ _ (end.1 hi no_link (omega arith) (omega
+        (arith, l, within))) in omega (arith, a, b))
     | inr m ↦ m
   ]
 
@@ -52,7 +56,8 @@ module _ (links : List Link) (root lo hi : ℕ) (start : IsPartitionPoint (λ (y
       let up = ends-in-order in
       filter-range (λ (l : Link). eqb l.from root) links lo (hi - lo)
       (λ i d l m. ne_eqb _ _ (λ e. (let a = ltb-true _ _ (start.0 i d (omega arith) l) in omega (arith, a, e))))
-      (λ i d le l m. eq-eqb _ _ (let a = ltb-false _ _ (start.1 i d le m) in let b = leb-true _ _ (end.0 i d (omega arith) (omega (arith, l, up))) in omega (arith, a, b)))
+      (λ i d le l m. eq-eqb _ _ (let a = ltb-false _ _ (start.1 i d le m) in let b = leb-true _ _ (end.0 i d (omega arith) (omega (arith, l, up))) in
+      omega (arith, a, b)))
       (λ i d le m. ne_eqb _ _ (λ e. (let a = leb-false _ _ (end.1 i d (omega (arith, le, up)) m) in omega (arith, a, e))))
 
 -- what waits still waits where one more does
@@ -64,10 +69,11 @@ waits-new xs ys r same = Contains-permutation (record { 0 = r } ∷ xs) ys (reco
 
 -- what waits is taken, or still waits
 pub waits-rest : (xs ys : List (Reverse ℕ)) (x r : ℕ) → IsPermutation xs (record { 0 = x } ∷ ys) → Waits xs r → (x ≡ r) ⊎ Waits ys r
-waits-rest xs ys x r same h = elim (Contains-cases (record { 0 = x }) (record { 0 = r }) ys (Contains-permutation xs (record { 0 = x } ∷ ys) (record { 0 = r }) same h)) [
-  | inl e ↦ inl (let f : record { 0 = x } ≡ record { 0 = r } = e in ap (λ (y : Reverse ℕ). y.0) f)
-  | inr w ↦ inr w
-]
+waits-rest xs ys x r same h = elim (Contains-cases (record { 0 = x }) (record { 0 = r }) ys (Contains-permutation xs (record { 0 = x } ∷ ys)
+    (record { 0 = r }) same h)) [
+      | inl e ↦ inl (let f : record { 0 = x } ≡ record { 0 = r } = e in ap (λ (y : Reverse ℕ). y.0) f)
+      | inr w ↦ inr w
+    ]
 
 one-least : (x r : ℕ) → IsUpperBound (λ (a b : Reverse ℕ). nat_cmp b.0 a.0) (record { 0 = x }) (record { 0 = r } ∷ []) → x ≤ r
 one-least x r h = All-head (λ y. y ≤ r) x [] (le_from_greatest r (x ∷ []) h)

@@ -36,11 +36,13 @@ count-both flips root (l ∷ links) =
     let b = sum_by-cons (λ (x : Link). unit (counted flips root false x)) l links in
     omega (arith, here, rest, a, b)
 
-more-counts : (b : Bool) (t u : Tally) → u.differing ≡ t.differing + unit (true && not (differ true b)) → u.agreeing ≡ t.agreeing + unit (true && not (differ false b)) → more_by b t ≡ u
+more-counts : (b : Bool) (t u : Tally) → u.differing ≡ t.differing + unit (true && not (differ true b)) → u.agreeing ≡ t.agreeing + unit (true && not
+    (differ false b)) → more_by b t ≡ u
 more-counts true t u e f = same-tally _ u (let g : u.differing ≡ t.differing + 1 = e in sym g) (let g : u.agreeing ≡ t.agreeing + 0 = f in omega (arith, g))
 more-counts false t u e f = same-tally _ u (let g : u.differing ≡ t.differing + 0 = e in omega (arith, g)) (let g : u.agreeing ≡ t.agreeing + 1 = f in sym g)
 
-pub tallies-none : (flips : List Bool) (tallies : List Tally) → tallies ≡ replicate (length flips) (record { differing = 0; agreeing = 0 }) → AreTallies [] flips tallies
+pub tallies-none : (flips : List Bool) (tallies : List Tally) → tallies ≡ replicate (length flips) (record { differing = 0; agreeing = 0 })
+    → AreTallies [] flips tallies
 tallies-none flips tallies is =
     let zero_tally : Tally = record { differing = 0; agreeing = 0 } in
     record {
@@ -50,8 +52,10 @@ tallies-none flips tallies is =
 
 module _ (links : List Link) (flips : List Bool) (tallies : List Tally) (k : ℕ) (l : Link) (within : k < length links) (is : l ≡ get_or links k l)
     (room : l.from < length tallies) (h : AreTallies (take k links) flips tallies) where
-  count-step : (root : ℕ) (wanted : Bool) → count_from flips root wanted (take (k + 1) links) ≡ count_from flips root wanted (take k links) + unit (counted flips root wanted l)
-  count-step root wanted = subst (λ x. count_from flips root wanted (take (k + 1) links) ≡ count_from flips root wanted (take k links) + unit (counted flips root wanted x)) (sym is)
+  count-step : (root : ℕ) (wanted : Bool) → count_from flips root wanted (take (k + 1) links) ≡ count_from flips root wanted (take k links) + unit
+      (counted flips root wanted l)
+  count-step root wanted = subst (λ x. count_from flips root wanted (take (k + 1) links) ≡ count_from flips root wanted (take k links) + unit
+      (counted flips root wanted x)) (sym is)
       (sum_by_more (λ (x : Link). unit (counted flips root wanted x)) links k l within)
 
   abbrev counted_more : List Tally
@@ -65,16 +69,20 @@ module _ (links : List Link) (flips : List Bool) (tallies : List Tally) (k : ℕ
       get_or-set_same tallies l.from (more_by (differs_by flips l) (tally_at tallies l.from)) (record { differing = 0; agreeing = 0 }) room
       ∙ (ap (more_by (differs_by flips l)) before
       ∙ more-counts (differs_by flips l) (tally_of flips (take k links) l.from) (tally_of flips (take (k + 1) links) l.from)
-      (subst (λ e. count_from flips l.from true (take (k + 1) links) ≡ count_from flips l.from true (take k links) + unit (e && not (differ true (differs_by flips l)))) (eq-eqb l.from l.from refl) d)
-      (subst (λ e. count_from flips l.from false (take (k + 1) links) ≡ count_from flips l.from false (take k links) + unit (e && not (differ false (differs_by flips l)))) (eq-eqb l.from l.from refl) a))
+      (subst (λ e. count_from flips l.from true (take (k + 1) links) ≡ count_from flips l.from true (take k links) + unit (e && not (differ true
+      (differs_by flips l)))) (eq-eqb l.from l.from refl) d)
+      (subst (λ e. count_from flips l.from false (take (k + 1) links) ≡ count_from flips l.from false (take k links) + unit (e && not (differ false
+      (differs_by flips l)))) (eq-eqb l.from l.from refl) a))
 
   tally-other : (root : ℕ) → root < length flips → root ≢ l.from → tally_at counted_more root ≡ tally_of flips (take (k + 1) links) root
   tally-other root below other =
       let apart : eqb l.from root ≡ false = ne_eqb l.from root (λ e. other (sym e)) in
       let d : count_from flips root true (take (k + 1) links) ≡ count_from flips root true (take k links) + 0 =
-      subst (λ e. count_from flips root true (take (k + 1) links) ≡ count_from flips root true (take k links) + unit (e && not (differ true (differs_by flips l)))) apart (count-step root true) in
+      subst (λ e. count_from flips root true (take (k + 1) links) ≡ count_from flips root true (take k links) + unit (e && not (differ true
+      (differs_by flips l)))) apart (count-step root true) in
       let a : count_from flips root false (take (k + 1) links) ≡ count_from flips root false (take k links) + 0 =
-      subst (λ e. count_from flips root false (take (k + 1) links) ≡ count_from flips root false (take k links) + unit (e && not (differ false (differs_by flips l)))) apart (count-step root false) in
+      subst (λ e. count_from flips root false (take (k + 1) links) ≡ count_from flips root false (take k links) + unit (e && not (differ false
+      (differs_by flips l)))) apart (count-step root false) in
       get_or-set_other tallies l.from root (more_by (differs_by flips l) (tally_at tallies l.from)) (record { differing = 0; agreeing = 0 }) other
       ∙ (h.each root below ∙ same-tally (tally_of flips (take k links) root) (tally_of flips (take (k + 1) links) root) (omega (arith, d)) (omega (arith, a)))
 
@@ -82,7 +90,8 @@ module _ (links : List Link) (flips : List Bool) (tallies : List Tally) (k : ℕ
   tallies-more = record {
     len = length-set tallies l.from (more_by (differs_by flips l) (tally_at tallies l.from)) ∙ h.len;
     each = λ root below. elim (cases_eq root l.from) [
-      | inl same ↦ (let e : l.from ≡ root = sym same in subst (λ r. tally_at counted_more r ≡ tally_of flips (take (k + 1) links) r) e (tally-same (subst (λ r. r < length flips) same below)))
+      | inl same ↦ (let e : l.from ≡ root = sym same in subst (λ r. tally_at counted_more r ≡ tally_of flips (take (k + 1) links) r) e (tally-same
+          (subst (λ r. r < length flips) same below)))
       | inr other ↦ tally-other root below other
     ];
   }
@@ -124,16 +133,21 @@ moved-none flips tallies = record { len = refl; differing = λ root. refl; agree
 
 module _ (flips : List Bool) (links : List Link) (old tallies : List Tally) (k : ℕ) (l : Link) (within : k < length links) (is : l ≡ get_or links k l)
     (room : l.to < length tallies) (few : AreCounted flips links old) (h : AreMoved flips (take k links) old tallies) where
-  to-step : (root : ℕ) (wanted : Bool) → count_to flips root wanted (take (k + 1) links) ≡ count_to flips root wanted (take k links) + unit (counted_to flips root wanted l)
-  to-step root wanted = subst (λ x. count_to flips root wanted (take (k + 1) links) ≡ count_to flips root wanted (take k links) + unit (counted_to flips root wanted x)) (sym is)
+  to-step : (root : ℕ) (wanted : Bool) → count_to flips root wanted (take (k + 1) links) ≡ count_to flips root wanted (take k links) + unit
+      (counted_to flips root wanted l)
+  to-step root wanted = subst (λ x. count_to flips root wanted (take (k + 1) links) ≡ count_to flips root wanted (take k links) + unit
+      (counted_to flips root wanted x)) (sym is)
       (sum_by_more (λ (x : Link). unit (counted_to flips root wanted x)) links k l within)
 
-  here-step : (wanted : Bool) → count_to flips l.to wanted (take (k + 1) links) ≡ count_to flips l.to wanted (take k links) + unit (true && not (differ wanted (differs_by flips l)))
-  here-step wanted = subst (λ e. count_to flips l.to wanted (take (k + 1) links) ≡ count_to flips l.to wanted (take k links) + unit (e && not (differ wanted (differs_by flips l))))
+  here-step : (wanted : Bool) → count_to flips l.to wanted (take (k + 1) links) ≡ count_to flips l.to wanted (take k links) + unit (true && not
+      (differ wanted (differs_by flips l)))
+  here-step wanted = subst (λ e. count_to flips l.to wanted (take (k + 1) links) ≡ count_to flips l.to wanted (take k links) + unit (e && not
+      (differ wanted (differs_by flips l))))
       (eq-eqb l.to l.to refl) (to-step l.to wanted)
 
   other-step : (root : ℕ) (wanted : Bool) → root ≢ l.to → count_to flips root wanted (take (k + 1) links) ≡ count_to flips root wanted (take k links) + 0
-  other-step root wanted other = subst (λ e. count_to flips root wanted (take (k + 1) links) ≡ count_to flips root wanted (take k links) + unit (e && not (differ wanted (differs_by flips l))))
+  other-step root wanted other = subst (λ e. count_to flips root wanted (take (k + 1) links) ≡ count_to flips root wanted (take k links) + unit
+      (e && not (differ wanted (differs_by flips l))))
       (ne_eqb l.to root (λ e. other (sym e))) (to-step root wanted)
 
   below-whole : (root : ℕ) (wanted : Bool) → count_to flips root wanted (take (k + 1) links) ≤ count_to flips root wanted links
@@ -145,14 +159,18 @@ module _ (flips : List Bool) (links : List Link) (old tallies : List Tally) (k :
   abbrev moved : List Tally
   moved = set tallies l.to (moved_by b (tally_at tallies l.to))
 
-  here-both : ((moved_by b (tally_at tallies l.to)).differing + count_to flips l.to false (take (k + 1) links) ≡ (tally_at old l.to).differing + count_to flips l.to true (take (k + 1) links))
-      × ((moved_by b (tally_at tallies l.to)).agreeing + count_to flips l.to true (take (k + 1) links) ≡ (tally_at old l.to).agreeing + count_to flips l.to false (take (k + 1) links))
+  here-both : ((moved_by b (tally_at tallies l.to)).differing + count_to flips l.to false (take (k + 1) links) ≡
+      (tally_at old l.to).differing + count_to flips l.to true (take (k + 1) links))
+      × ((moved_by b (tally_at tallies l.to)).agreeing + count_to flips l.to true (take (k + 1) links) ≡
+      (tally_at old l.to).agreeing + count_to flips l.to false (take (k + 1) links))
   here-both = moved-counts b (tally_at tallies l.to) (tally_at old l.to) _ _ _ _ (h.differing l.to) (h.agreeing l.to) (here-step false) (here-step true)
-      (let x = below-whole l.to false in let y = few.differing l.to in omega (arith, x, y)) (let x = below-whole l.to true in let y = few.agreeing l.to in omega (arith, x, y))
+      (let x = below-whole l.to false in let y = few.differing l.to in omega (arith, x, y)) (let x = below-whole l.to true in
+      let y = few.agreeing l.to in omega (arith, x, y))
 
   pub moved-room : (b ≡ true → 0 < (tally_at tallies l.to).agreeing) × (b ≡ false → 0 < (tally_at tallies l.to).differing)
   moved-room = room-counts b (tally_at tallies l.to) (tally_at old l.to) _ _ _ _ (h.differing l.to) (h.agreeing l.to) (here-step false) (here-step true)
-      (let x = below-whole l.to false in let y = few.differing l.to in omega (arith, x, y)) (let x = below-whole l.to true in let y = few.agreeing l.to in omega (arith, x, y))
+      (let x = below-whole l.to false in let y = few.differing l.to in omega (arith, x, y)) (let x = below-whole l.to true in
+      let y = few.agreeing l.to in omega (arith, x, y))
 
   pub moved-few : (tally_at tallies l.to).differing + (tally_at tallies l.to).agreeing < 2 ^ 64
   moved-few = let d = h.differing l.to in let a = h.agreeing l.to in let f = few.few l.to in omega (arith, d, a, f)
@@ -167,13 +185,15 @@ module _ (flips : List Bool) (links : List Link) (old tallies : List Tally) (k :
   moved-more = record {
     len = length-set tallies l.to (moved_by b (tally_at tallies l.to)) ∙ h.len;
     differing = λ root. elim (cases_eq root l.to) [
-      | inl same ↦ (let P : ℕ → Type 0 = λ r. (tally_at moved r).differing + count_to flips r false (take (k + 1) links) ≡ (tally_at old r).differing + count_to flips r true (take (k + 1) links) in
+      | inl same ↦ (let P : ℕ → Type 0 = λ r. (tally_at moved r).differing + count_to flips r false (take (k + 1) links) ≡
+          (tally_at old r).differing + count_to flips r true (take (k + 1) links) in
           subst P (sym same) (ap (λ t. t.differing + count_to flips l.to false (take (k + 1) links)) moved-here ∙ here-both.0))
       | inr other ↦ (let e : (tally_at moved root).differing ≡ (tally_at tallies root).differing = ap (λ t. t.differing) (moved-other root other) in
           let x = other-step root false other in let y = other-step root true other in let z = h.differing root in omega (arith, e, x, y, z))
     ];
     agreeing = λ root. elim (cases_eq root l.to) [
-      | inl same ↦ (let P : ℕ → Type 0 = λ r. (tally_at moved r).agreeing + count_to flips r true (take (k + 1) links) ≡ (tally_at old r).agreeing + count_to flips r false (take (k + 1) links) in
+      | inl same ↦ (let P : ℕ → Type 0 = λ r. (tally_at moved r).agreeing + count_to flips r true (take (k + 1) links) ≡
+          (tally_at old r).agreeing + count_to flips r false (take (k + 1) links) in
           subst P (sym same) (ap (λ t. t.agreeing + count_to flips l.to true (take (k + 1) links)) moved-here ∙ here-both.1))
       | inr other ↦ (let e : (tally_at moved root).agreeing ≡ (tally_at tallies root).agreeing = ap (λ t. t.agreeing) (moved-other root other) in
           let x = other-step root false other in let y = other-step root true other in let z = h.agreeing root in omega (arith, e, x, y, z))

@@ -59,12 +59,14 @@ count-filter p r (x ∷ xs) = count-filter-cons p r x xs (r x) refl (count-filte
       let a = sum_by-cons (λ y. unit (p y)) x (filter r xs) in
       let b = sum_by-cons (λ y. unit (r y && p y)) x xs in
       let e : unit (r x && p x) ≡ unit (p x) = ap (λ c. unit (c && p x)) is in
-      let f : count_by p (cond (r x) (x ∷ filter r xs) (filter r xs)) ≡ count_by p (x ∷ filter r xs) = ap (count_by p) (cond-true (r x) (x ∷ filter r xs) (filter r xs) is) in
+      let f : count_by p (cond (r x) (x ∷ filter r xs) (filter r xs)) ≡ count_by p (x ∷ filter r xs) = ap (count_by p) (cond-true (r x)
+      (x ∷ filter r xs) (filter r xs) is) in
       omega (arith, f, a, b, e, rest)
   count-filter-cons p r x xs false is rest =
       let b = sum_by-cons (λ y. unit (r y && p y)) x xs in
       let e : unit (r x && p x) ≡ 0 = ap (λ c. unit (c && p x)) is in
-      let f : count_by p (cond (r x) (x ∷ filter r xs) (filter r xs)) ≡ count_by p (filter r xs) = ap (count_by p) (cond-false (r x) (x ∷ filter r xs) (filter r xs) is) in
+      let f : count_by p (cond (r x) (x ∷ filter r xs) (filter r xs)) ≡ count_by p (filter r xs) = ap (count_by p) (cond-false (r x)
+      (x ∷ filter r xs) (filter r xs) is) in
       omega (arith, f, b, e, rest)
 
 -- the sides of a zone whose components are flipped where f and g say so, and once more where a and b say so
@@ -102,7 +104,8 @@ turned-twice true true true false true = refl
 turned-twice true true true true false = refl
 turned-twice true true true true true = refl
 
-neighbour-turned : (fq tr w s t : Bool) → (fq ≡ true → t ≡ differ tr s) → unit (fq && not (differ w t)) + unit ((fq && tr) && not (differ w s)) ≡ unit (fq && not (differ w s)) + unit ((fq && tr) && not (differ w t))
+neighbour-turned : (fq tr w s t : Bool) → (fq ≡ true → t ≡ differ tr s) → unit (fq && not (differ w t)) + unit ((fq && tr) && not
+    (differ w s)) ≡ unit (fq && not (differ w s)) + unit ((fq && tr) && not (differ w t))
 neighbour-turned false tr w s t h = refl
 neighbour-turned true false w s t h = ap (λ b. unit (not (differ w b)) + 0) (h refl)
 neighbour-turned true true w s t h = add_comm (unit (not (differ w t))) (unit (not (differ w s)))
@@ -154,7 +157,8 @@ module _ (links : List Link) (flips : List Bool) (root : ℕ) (within : root < l
   ]
 
   state-turned : (l : Link) → differs_by after l ≡ differ (differ (eqb l.from root) (eqb l.to root)) (differs_by flips l)
-  state-turned l = rw (flip-at l.from, flip-at l.to) (turned-twice (eqb l.from root) (eqb l.to root) l.odd (get_or flips l.from false) (get_or flips l.to false))
+  state-turned l = rw (flip-at l.from, flip-at l.to) (turned-twice (eqb l.from root) (eqb l.to root) l.odd (get_or flips l.from false)
+      (get_or flips l.to false))
 
   -- how many links lead from one component to another and have sides that differ, or agree
   abbrev between : List Bool → ℕ → ℕ → Bool → ℕ
@@ -162,13 +166,16 @@ module _ (links : List Link) (flips : List Bool) (root : ℕ) (within : root < l
 
   module _ (q : ℕ) (other : q ≢ root) (w : Bool) where
     from-other : (l : Link) → eqb l.from q ≡ true → differs_by after l ≡ differ (eqb l.to root) (differs_by flips l)
-    from-other l is = state-turned l ∙ ap (λ b. differ (differ b (eqb l.to root)) (differs_by flips l)) (ne_eqb l.from root (λ e. other (sym (eqb-true _ _ is) ∙ e)))
+    from-other l is = state-turned l ∙ ap (λ b. differ (differ b (eqb l.to root)) (differs_by flips l)) (ne_eqb l.from root (λ e. other (sym
+        (eqb-true _ _ is) ∙ e)))
 
     neighbour-counts : count_from after q w links + between flips q root w ≡ count_from flips q w links + between after q root w
-    neighbour-counts = sums-agree _ _ _ _ links (all-of _ (λ (l : Link). neighbour-turned (eqb l.from q) (eqb l.to root) w (differs_by flips l) (differs_by after l) (from-other l)) links)
+    neighbour-counts = sums-agree _ _ _ _ links (all-of _ (λ (l : Link). neighbour-turned (eqb l.from q) (eqb l.to root) w (differs_by flips l)
+        (differs_by after l) (from-other l)) links)
 
     between-counts : between after q root w ≡ between flips q root (not w)
-    between-counts = sums-same _ _ links (all-of _ (λ (l : Link). ap unit (between-turned (eqb l.from q) (eqb l.to root) w (differs_by flips l) (differs_by after l) (from-other l))) links)
+    between-counts = sums-same _ _ links (all-of _ (λ (l : Link). ap unit (between-turned (eqb l.from q) (eqb l.to root) w (differs_by flips l)
+        (differs_by after l) (from-other l))) links)
 
     between-few : between flips q root w ≤ count_from flips q w links
     between-few = sums-up _ _ links (all-of _ (λ (l : Link). within-one (eqb l.from q) (eqb l.to root) (not (differ w (differs_by flips l)))) links)
@@ -188,7 +195,8 @@ module _ (links : List Link) (flips : List Bool) (root : ℕ) (within : root < l
   to-neighbour : (q : ℕ) → q ≢ root → (w : Bool) → count_to after q w mine ≡ between flips q root (not w)
   to-neighbour q other w = to-between q w ∙ (sym (paired.both after q root w) ∙ between-counts q other w)
 
-  turned-count : (q : ℕ) → q ≢ root → (w : Bool) → count_from after q w links + count_to after q (not w) mine ≡ count_from flips q w links + count_to after q w mine
+  turned-count : (q : ℕ) → q ≢ root → (w : Bool) → count_from after q w links + count_to after q
+      (not w) mine ≡ count_from flips q w links + count_to after q w mine
   turned-count q other w =
       let a = neighbour-counts q other w in
       let b = to-between q w ∙ sym (paired.both after q root w) in
@@ -208,7 +216,8 @@ module _ (links : List Link) (flips : List Bool) (root : ℕ) (within : root < l
     room = let e = h.len in omega (arith, e, within)
 
     start-own : tally_at start root ≡ exchanged (tally_of flips links root)
-    start-own = get_or-set_same tallies root (exchanged (tally_at tallies root)) (record { differing = 0; agreeing = 0 }) room ∙ ap exchanged (h.each root within)
+    start-own = get_or-set_same tallies root (exchanged (tally_at tallies root)) (record { differing = 0; agreeing = 0 }) room ∙ ap exchanged
+        (h.each root within)
 
     start-kept : (q : ℕ) → q ≢ root → tally_at start q ≡ tally_at tallies q
     start-kept q other = get_or-set_other tallies root q (exchanged (tally_at tallies root)) (record { differing = 0; agreeing = 0 }) other
@@ -230,7 +239,8 @@ module _ (links : List Link) (flips : List Bool) (root : ℕ) (within : root < l
 
       counted-at : (q : ℕ) → (count_to after q false mine ≤ (tally_at start q).differing) × (count_to after q true mine ≤ (tally_at start q).agreeing)
       counted-at q = elim (cases_eq q root) [
-        | inl same ↦ (let P : ℕ → Type 0 = λ r. (count_to after r false mine ≤ (tally_at start r).differing) × (count_to after r true mine ≤ (tally_at start r).agreeing) in
+        | inl same ↦ (let P : ℕ → Type 0 = λ r. (count_to after r false mine ≤ (tally_at start r).differing) × (count_to after r true mine ≤
+            (tally_at start r).agreeing) in
             subst P (sym same) ((let e = to-itself false in omega (arith, e)), (let e = to-itself true in omega (arith, e))))
         | inr other ↦ elim (cases_lt q (length flips)) [
           | inl l ↦ (let t = start-other q other l in
@@ -285,13 +295,16 @@ module _ (links : List Link) (flips : List Bool) (root : ℕ) (within : root < l
                 let y = own-count false in let u = to-itself true in let v = to-itself false in let z = m.agreeing root in omega (arith, x, y, u, v, z))))
             | inr other ↦ (let t = start-other q other below in
                 same-tally (tally_at new q) (tally_of after links q)
-                (let x : (tally_at start q).differing ≡ count_from flips q true links = ap (λ t. t.differing) t in let y = turned-count q other true in omega (arith, x, y, d))
-                (let x : (tally_at start q).agreeing ≡ count_from flips q false links = ap (λ t. t.agreeing) t in let y = turned-count q other false in omega (arith, x, y, a)))
+                (let x : (tally_at start q).differing ≡ count_from flips q true links = ap (λ t. t.differing) t in
+                let y = turned-count q other true in omega (arith, x, y, d))
+                (let x : (tally_at start q).agreeing ≡ count_from flips q false links = ap (λ t. t.agreeing) t in
+                let y = turned-count q other false in omega (arith, x, y, a)))
           ]);
     }
 
     -- what waits before the tallies of the neighbours change
-    pub turned-waits : (waiting : List (Reverse ℕ)) → GainsAt held tallies root → ((q : ℕ) → GainsAt held tallies q → q ≢ root → Waits waiting q) → AllWait held start waiting
+    pub turned-waits : (waiting : List (Reverse ℕ)) → GainsAt held tallies root → ((q : ℕ) → GainsAt held tallies q → q ≢ root → Waits waiting q)
+        → AllWait held start waiting
     turned-waits waiting gains rest q g = elim (cases_eq q root) [
       | inl same ↦ absurd (let P : ℕ → Type 0 = λ r. (tally_at start r).agreeing < (tally_at start r).differing in
           let less : (tally_at start root).agreeing < (tally_at start root).differing = subst P same g.fewer in
@@ -299,7 +312,11 @@ module _ (links : List Link) (flips : List Bool) (root : ℕ) (within : root < l
           let a : (tally_at start root).agreeing ≡ (tally_at tallies root).differing = ap (λ x. x.agreeing) start-swapped in
           let more = gains.fewer in
           omega (arith, less, d, a, more))
-      | inr other ↦ rest q (record { free = g.free; fewer = (let P : Tally → Type 0 = λ t. t.agreeing < t.differing in subst P (start-kept q other) g.fewer) }) other
+      | inr other ↦ rest q (record {
+        free = g.free;
+        fewer = (let P : Tally → Type 0 = λ t. t.agreeing < t.differing in subst P
+            (start-kept q other) g.fewer);
+      }) other
     ] where
       start-swapped : tally_at start root ≡ exchanged (tally_at tallies root)
       start-swapped = get_or-set_same tallies root (exchanged (tally_at tallies root)) (record { differing = 0; agreeing = 0 }) room
@@ -309,7 +326,8 @@ module _ (held : Option ℕ) (links : List Link) (flips : List Bool) (tallies : 
   pub gain-within : (root : ℕ) → GainsAt held tallies root → root < length flips
   gain-within root g = elim (cases_lt root (length flips)) [
     | inl l ↦ l
-    | inr le ↦ absurd (let t : tally_at tallies root ≡ record { differing = 0; agreeing = 0 } = get_or_past tallies root (record { differing = 0; agreeing = 0 }) (let e = h.len in omega (arith, e, le)) in
+    | inr le ↦ absurd (let t : tally_at tallies root ≡ record { differing = 0; agreeing = 0 } = get_or_past tallies root
+        (record { differing = 0; agreeing = 0 }) (let e = h.len in omega (arith, e, le)) in
         let d : (tally_at tallies root).differing ≡ 0 = ap (λ x. x.differing) t in
         let f = g.fewer in
         omega (arith, d, f))
@@ -326,7 +344,8 @@ module _ (held : Option ℕ) (links : List Link) (flips : List Bool) (tallies : 
         record { free = g.free; fewer = (let P : Tally → Type 0 = λ x. x.agreeing < x.differing in subst P (h.each root (gain-within root g)) g.fewer) }
 
     -- the least that gains by its tally gains by its links
-    pub least-by-links : (root : ℕ) → GainsAt held tallies root → ((other : ℕ) → GainsAt held tallies other → root ≤ other) → IsLeastGainBy held flips links root
+    pub least-by-links : (root : ℕ) → GainsAt held tallies root → ((other : ℕ) → GainsAt held tallies other → root ≤ other)
+        → IsLeastGainBy held flips links root
     least-by-links root g least = record { gains = gains-by-links root g; least = λ other o. least other (gains-by-tallies other o) }
 
     pub none-by-links : ((root : ℕ) → GainsAt held tallies root → ⊥) → (root : ℕ) → GainsBy held flips links root → ⊥

@@ -58,7 +58,8 @@ count_to flips root wanted links = count_by (λ l. l.to == root && not (differ w
 -- The tallies after the sides of the zones of these links, which agreed, differ, or the other way round; the flips say how it is afterwards.
 pub record AreMoved (flips : List Bool) (links : List Link) (old new : List Tally) : Type 0 where
   pub len : length new ≡ length old
-  pub differing : (root : ℕ) → (tally_at new root).differing + count_to flips root false links ≡ (tally_at old root).differing + count_to flips root true links
+  pub differing : (root : ℕ) → (tally_at new root).differing + count_to flips root false links ≡
+      (tally_at old root).differing + count_to flips root true links
   pub agreeing : (root : ℕ) → (tally_at new root).agreeing + count_to flips root true links ≡ (tally_at old root).agreeing + count_to flips root false links
 
 -- the tallies count these zones, as they were before
@@ -71,4 +72,5 @@ pub record AreCounted (flips : List Bool) (links : List Link) (tallies : List Ta
 pub record AreMutual (links : List Link) : Type 0 where
   pub apart : All (λ (l : Link). l.from ≢ l.to) links
   pub both : (flips : List Bool) (p q : ℕ) (wanted : Bool)
-      → count_by (λ l. (l.from == p && l.to == q) && not (differ wanted (differs_by flips l))) links ≡ count_by (λ l. (l.from == q && l.to == p) && not (differ wanted (differs_by flips l))) links
+      → count_by (λ l. (l.from == p && l.to == q) && not (differ wanted (differs_by flips l))) links ≡
+      count_by (λ l. (l.from == q && l.to == p) && not (differ wanted (differs_by flips l))) links

@@ -39,7 +39,8 @@ module _ (roots : List ℕ) (fixed : Option ℕ) (sides : List (ℕ × ℕ)) whe
   once-more true true false = refl
   once-more true true true = refl
 
-  pub kept : (colours last : List Bool) → length colours ≡ length roots → LeadsTo roots fixed sides colours last → (root : ℕ) → IsKeptOrFlipped roots colours last root
+  pub kept : (colours last : List Bool) → length colours ≡ length roots → LeadsTo roots fixed sides colours last → (root : ℕ)
+      → IsKeptOrFlipped roots colours last root
   kept colours last same (stay none) root = (false, λ v l e. refl)
   kept colours last same (flip other is rest) root =
       let before = kept (flipped roots other colours) last (length-flipped roots other colours same ∙ same) rest root in (

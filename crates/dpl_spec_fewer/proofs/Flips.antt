@@ -10,7 +10,8 @@ pub length-flipped : (roots : List ℕ) (root : ℕ) (colours : List Bool) → l
 length-flipped [] root [] same = refl
 length-flipped [] root (c ∷ colours) same = absurd (let e : suc (length colours) ≡ 0 = same in omega (arith, e))
 length-flipped (r ∷ roots) root [] same = refl
-length-flipped (r ∷ roots) root (c ∷ colours) same = ap suc (length-flipped roots root colours (let e : suc (length colours) ≡ suc (length roots) = same in omega (arith, e)))
+length-flipped (r ∷ roots) root (c ∷ colours) same = ap suc (length-flipped roots root colours (let e : suc (length colours) ≡ suc
+    (length roots) = same in omega (arith, e)))
 
 pub colour-flipped : (roots : List ℕ) (root : ℕ) (colours : List Bool) (v : ℕ) → length colours ≡ length roots → v < length roots
     → colour_at (flipped roots root colours) v ≡ differ (eqb (get_or roots v 0) root) (colour_at colours v)
@@ -18,7 +19,8 @@ colour-flipped [] root colours v same l = absurd (omega (arith, l))
 colour-flipped (r ∷ roots) root [] v same l = absurd (let e : 0 ≡ suc (length roots) = same in omega (arith, e))
 colour-flipped (r ∷ roots) root (c ∷ colours) zero same l = refl
 colour-flipped (r ∷ roots) root (c ∷ colours) (suc v) same l =
-    colour-flipped roots root colours v (let e : suc (length colours) ≡ suc (length roots) = same in omega (arith, e)) (let m : suc v < suc (length roots) = l in omega (arith, m))
+    colour-flipped roots root colours v (let e : suc (length colours) ≡ suc (length roots) = same in omega (arith, e)) (let m : suc v < suc
+    (length roots) = l in omega (arith, m))
 
 -- what counts for one
 abbrev pub unit : Bool → ℕ
@@ -51,8 +53,10 @@ module _ (roots : List ℕ) (colours : List Bool) (root : ℕ) (same : length co
   abbrev Within : ℕ × ℕ → Type 0
   Within side = (side.0 < length roots) × (side.1 < length roots)
 
-  one-side : (side : ℕ × ℕ) → Within side → unit (differ (colour_at after side.0) (colour_at after side.1)) + unit (leaves roots root side && not (differ true (differ (colour_at colours side.0) (colour_at colours side.1))))
-      ≡ unit (differ (colour_at colours side.0) (colour_at colours side.1)) + unit (leaves roots root side && not (differ false (differ (colour_at colours side.0) (colour_at colours side.1))))
+  one-side : (side : ℕ × ℕ) → Within side → unit (differ (colour_at after side.0) (colour_at after side.1)) + unit (leaves roots root side && not
+      (differ true (differ (colour_at colours side.0) (colour_at colours side.1))))
+      ≡ unit (differ (colour_at colours side.0) (colour_at colours side.1)) + unit (leaves roots root side && not (differ false (differ
+      (colour_at colours side.0) (colour_at colours side.1))))
   one-side side within = rw (colour-flipped roots root colours side.0 same within.0, colour-flipped roots root colours side.1 same within.1)
       (side-counts (eqb (get_or roots side.0 0) root) (eqb (get_or roots side.1 0) root) (colour_at colours side.0) (colour_at colours side.1))
 
@@ -63,7 +67,9 @@ module _ (roots : List ℕ) (colours : List Bool) (root : ℕ) (same : length co
       let here = one-side side (All-head Within side sides below) in
       let rest = all-sides sides (All-tail Within side sides below) in
       let a = sum_by-cons (λ (s : ℕ × ℕ). unit (differ (colour_at after s.0) (colour_at after s.1))) side sides in
-      let b = sum_by-cons (λ (s : ℕ × ℕ). unit (leaves roots root s && not (differ true (differ (colour_at colours s.0) (colour_at colours s.1))))) side sides in
+      let b = sum_by-cons (λ (s : ℕ × ℕ). unit (leaves roots root s && not (differ true (differ (colour_at colours s.0)
+      (colour_at colours s.1))))) side sides in
       let d = sum_by-cons (λ (s : ℕ × ℕ). unit (differ (colour_at colours s.0) (colour_at colours s.1))) side sides in
-      let e = sum_by-cons (λ (s : ℕ × ℕ). unit (leaves roots root s && not (differ false (differ (colour_at colours s.0) (colour_at colours s.1))))) side sides in
+      let e = sum_by-cons (λ (s : ℕ × ℕ). unit (leaves roots root s && not (differ false (differ (colour_at colours s.0)
+      (colour_at colours s.1))))) side sides in
       omega (arith, here, rest, a, b, d, e)

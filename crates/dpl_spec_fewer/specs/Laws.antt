@@ -12,7 +12,8 @@ pub record AreVertices (roots : List ℕ) (sides : List (ℕ × ℕ)) (colours :
 -- A flip takes the zones to other components whose sides differ from the stitches, and adds those whose sides agree.
 abbrev pub FlipsByCounts : Type 0
 FlipsByCounts = (roots : List ℕ) (sides : List (ℕ × ℕ)) (colours : List Bool) (root : ℕ) → AreVertices roots sides colours
-    → stitch_count sides (flipped roots root colours) + zones_out roots colours root true sides ≡ stitch_count sides colours + zones_out roots colours root false sides
+    → stitch_count sides (flipped roots root colours) + zones_out roots colours root true sides ≡
+    stitch_count sides colours + zones_out roots colours root false sides
 
 -- letters lead to at most one end
 abbrev pub OneEnd : Type 0
@@ -36,7 +37,8 @@ NoMoreStitches = (roots : List ℕ) (fixed : Option ℕ) (sides : List (ℕ × �
 
 -- the letters of the component of root are as they were, or all are the other ones
 abbrev pub IsKeptOrFlipped : List ℕ → List Bool → List Bool → ℕ → Type 0
-IsKeptOrFlipped roots colours last root = (b : Bool) × ((v : ℕ) → v < length roots → slice_index roots v ≡ root → colour_at last v ≡ differ b (colour_at colours v))
+IsKeptOrFlipped roots colours last root =
+    (b : Bool) × ((v : ℕ) → v < length roots → slice_index roots v ≡ root → colour_at last v ≡ differ b (colour_at colours v))
 
 -- at the end each component is as it was, or flipped
 abbrev pub ComponentsAreKept : Type 0

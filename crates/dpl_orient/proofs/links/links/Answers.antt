@@ -8,5 +8,7 @@ use Rattle.dpl_orient.proofs.links.links.Goals as goal
 pub returns-clause-below : goal.returns-clause-below
 returns-clause-below c =
     let whole : c.loop-side.links.items ≡ links_of c.args.chart.now (map is_second c.args.masks.now) c.args.sides.now =
-    c.loop-side.invariant ∙ ap (links_of c.args.chart.now (map is_second c.args.masks.now)) (take_all c.loop-side.side-index c.args.sides.now c.loop-side-test.false) in
-    subst (AreLinksBelow (length c.args.chart.now)) (sym whole) (links-below c.args.chart.now (map is_second c.args.masks.now) c.args.sides.now c.requires.low c.requires.sides)
+    c.loop-side.invariant ∙ ap (links_of c.args.chart.now (map is_second c.args.masks.now))
+    (take_all c.loop-side.side-index c.args.sides.now c.loop-side-test.false) in
+    subst (AreLinksBelow (length c.args.chart.now)) (sym whole) (links-below c.args.chart.now
+    (map is_second c.args.masks.now) c.args.sides.now c.requires.low c.requires.sides)

@@ -16,7 +16,8 @@ loop-root-preserved c = record {
   queue = (c.in-Some.ensures.heap_order c.loop-root.invariant.queue).0;
   all = λ other g. elim (waits-rest (heap_items c.loop-root.waiting) (heap_items c.pop.new.self) c.in-Some.field-0.0 other
       c.in-Some.ensures.permutation (c.loop-root.invariant.all other g)) [
-        | inl e ↦ absurd (let yes : c.is_gain.result ≡ true = c.is_gain.ensures.1 (subst (GainsAt c.args.held c.args.tallies.now) (sym e) g) in let no : c.is_gain.result ≡ false = c.if-is_gain.false in cc)
+        | inl e ↦ absurd (let yes : c.is_gain.result ≡ true = c.is_gain.ensures.1 (subst (GainsAt c.args.held c.args.tallies.now) (sym e) g) in
+            let no : c.is_gain.result ≡ false = c.if-is_gain.false in cc)
         | inr w ↦ w
       ];
 }

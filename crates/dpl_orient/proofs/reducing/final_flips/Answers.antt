@@ -18,16 +18,19 @@ pub tallies_of-requires : goal.tallies_of-requires
 tallies_of-requires c =
     let colours = map is_second c.args.masks.now in
     let same : length colours ≡ length c.args.chart.now = length-map c.args.masks.now is_second ∙ c.requires.each in
-    let start = underway-start c.args.chart.now colours c.args.sides.now c.args.fixed c.in_ok-flips.flips.items same (c.in_ok-flips.ensures.items_if_clones_equal (λ y h. h)) in
+    let start = underway-start c.args.chart.now colours c.args.sides.now c.args.fixed c.in_ok-flips.flips.items same
+    (c.in_ok-flips.ensures.items_if_clones_equal (λ y h. h)) in
     rw (c.deref.ensures.value, c.deref-2.ensures.value, start.len)
-    (All-permutation (λ (l : Link). (l.from < length c.args.chart.now) × (l.to < length c.args.chart.now)) _ _ c.group.ensures.same c.in_ok-links.ensures.below)
+    (All-permutation (λ (l : Link). (l.from < length c.args.chart.now) ×
+    (l.to < length c.args.chart.now)) _ _ c.group.ensures.same c.in_ok-links.ensures.below)
 
 pub loop-root-init : goal.loop-root-init
 loop-root-init c =
     let colours = map is_second c.args.masks.now in
     let same : length colours ≡ length c.args.chart.now = length-map c.args.masks.now is_second ∙ c.requires.each in
     record {
-      underway = underway-start c.args.chart.now colours c.args.sides.now c.args.fixed c.in_ok-flips.flips.items same (c.in_ok-flips.ensures.items_if_clones_equal (λ y h. h));
+      underway = underway-start c.args.chart.now colours c.args.sides.now c.args.fixed c.in_ok-flips.flips.items same
+          (c.in_ok-flips.ensures.items_if_clones_equal (λ y h. h));
       tallies = rw (c.deref.ensures.value, c.deref-2.ensures.value) at c.in_ok-tallies.ensures;
       queue = c.in_ok-waiting.ensures.queue;
       all = rw c.deref-3.ensures.value at c.in_ok-waiting.ensures.all;
@@ -35,12 +38,14 @@ loop-root-init c =
 
 pub flip-requires-clause-paired : goal.flip-requires-clause-paired
 flip-requires-clause-paired c =
-    let mixed : IsPermutation (links_of c.args.chart.now (map is_second c.args.masks.now) c.args.sides.now) c.group.new.links.items = rw c.in_ok-links.ensures.links at c.group.ensures.same in
+    let mixed : IsPermutation (links_of c.args.chart.now (map is_second c.args.masks.now) c.args.sides.now) c.group.new.links.items =
+    rw c.in_ok-links.ensures.links at c.group.ensures.same in
     rw c.deref-in-Some.ensures.value (links-paired c.args.chart.now _ c.args.sides.now _ mixed)
 
 pub flip-requires-clause-below : goal.flip-requires-clause-below
 flip-requires-clause-below c = rw (c.deref-in-Some.ensures.value, c.deref_mut.ensures.value, c.loop-root.invariant.underway.len)
-    (All-permutation (λ (l : Link). (l.from < length c.args.chart.now) × (l.to < length c.args.chart.now)) _ _ c.group.ensures.same c.in_ok-links.ensures.below)
+    (All-permutation (λ (l : Link). (l.from < length c.args.chart.now) ×
+    (l.to < length c.args.chart.now)) _ _ c.group.ensures.same c.in_ok-links.ensures.below)
 
 pub loop-root-smaller : goal.loop-root-smaller
 loop-root-smaller c =
@@ -49,18 +54,23 @@ loop-root-smaller c =
     let links = c.group.new.links.items in
     let root = c.in-Some.root in
     let items : (with_items c.loop-root.flips c.flip.new.flips).items ≡ set flips root (not (get_or flips root false)) =
-    with_items_is c.loop-root.flips c.flip.new.flips (c.flip.auto.flips ∙ c.deref_mut.ensures.len) ∙ (rw c.deref_mut.ensures.value at c.flip.ensures.flipped) in
+    with_items_is c.loop-root.flips c.flip.new.flips (c.flip.auto.flips ∙ c.deref_mut.ensures.len) ∙
+    (rw c.deref_mut.ensures.value at c.flip.ensures.flipped) in
     let same : length colours ≡ length c.args.chart.now = length-map c.args.masks.now is_second ∙ c.requires.each in
     let mixed : IsPermutation (links_of c.args.chart.now colours c.args.sides.now) links = rw c.in_ok-links.ensures.links at c.group.ensures.same in
     let below : AreLinksBelow (length flips) links = rw c.loop-root.invariant.underway.len
-    (All-permutation (λ (l : Link). (l.from < length c.args.chart.now) × (l.to < length c.args.chart.now)) _ _ c.group.ensures.same c.in_ok-links.ensures.below) in
+    (All-permutation (λ (l : Link). (l.from < length c.args.chart.now) ×
+    (l.to < length c.args.chart.now)) _ _ c.group.ensures.same c.in_ok-links.ensures.below) in
     let gains : GainsAt c.held_root-held.result c.loop-root.tallies.items root = rw c.deref-in-loop-root.ensures.value at c.in-Some.ensures.gains in
-    let first : (other : ℕ) → GainsAt c.held_root-held.result c.loop-root.tallies.items other → root ≤ other = rw c.deref-in-loop-root.ensures.value at c.in-Some.ensures.least in
+    let first : (other : ℕ) → GainsAt c.held_root-held.result c.loop-root.tallies.items other
+    → root ≤ other = rw c.deref-in-loop-root.ensures.value at c.in-Some.ensures.least in
     let least : IsLeastGainBy (held_root c.args.chart.now c.args.fixed) flips links root = rw (← c.held_root-held.ensures)
     (least-by-links c.held_root-held.result links flips c.loop-root.tallies.items c.loop-root.invariant.tallies below root gains first) in
     let within : root < length flips = gain-within c.held_root-held.result links flips c.loop-root.tallies.items c.loop-root.invariant.tallies root gains in
-    subst (λ fs. stitch_count c.args.sides.now (letters_of c.args.chart.now colours fs) < stitch_count c.args.sides.now (letters_of c.args.chart.now colours flips))
-    (sym items) (fewer-left c.args.chart.now colours flips c.args.sides.now c.args.fixed links same c.requires.sides mixed c.loop-root.invariant.underway root within least)
+    subst (λ fs. stitch_count c.args.sides.now (letters_of c.args.chart.now colours fs) < stitch_count c.args.sides.now
+    (letters_of c.args.chart.now colours flips))
+    (sym items) (fewer-left c.args.chart.now colours flips c.args.sides.now c.args.fixed links same c.requires.sides mixed
+    c.loop-root.invariant.underway root within least)
 
 pub loop-root-preserved : goal.loop-root-preserved
 loop-root-preserved c =
@@ -68,7 +78,8 @@ loop-root-preserved c =
     let flips = c.loop-root.flips.items in
     let links = c.group.new.links.items in
     let root = c.in-Some.root in
-    let flips_are : (with_items c.loop-root.flips c.flip.new.flips).items ≡ c.flip.new.flips = with_items_is c.loop-root.flips c.flip.new.flips (c.flip.auto.flips ∙ c.deref_mut.ensures.len) in
+    let flips_are : (with_items c.loop-root.flips c.flip.new.flips).items ≡ c.flip.new.flips = with_items_is c.loop-root.flips c.flip.new.flips
+    (c.flip.auto.flips ∙ c.deref_mut.ensures.len) in
     let tallies_are : (with_items c.loop-root.tallies c.flip.new.tallies).items ≡ c.flip.new.tallies =
     with_items_is c.loop-root.tallies c.flip.new.tallies (c.flip.auto.tallies ∙ c.deref_mut-in-Some.ensures.len) in
     let items : (with_items c.loop-root.flips c.flip.new.flips).items ≡ set flips root (not (get_or flips root false)) =
@@ -76,15 +87,18 @@ loop-root-preserved c =
     let same : length colours ≡ length c.args.chart.now = length-map c.args.masks.now is_second ∙ c.requires.each in
     let mixed : IsPermutation (links_of c.args.chart.now colours c.args.sides.now) links = rw c.in_ok-links.ensures.links at c.group.ensures.same in
     let below : AreLinksBelow (length flips) links = rw c.loop-root.invariant.underway.len
-    (All-permutation (λ (l : Link). (l.from < length c.args.chart.now) × (l.to < length c.args.chart.now)) _ _ c.group.ensures.same c.in_ok-links.ensures.below) in
+    (All-permutation (λ (l : Link). (l.from < length c.args.chart.now) ×
+    (l.to < length c.args.chart.now)) _ _ c.group.ensures.same c.in_ok-links.ensures.below) in
     let gains : GainsAt c.held_root-held.result c.loop-root.tallies.items root = rw c.deref-in-loop-root.ensures.value at c.in-Some.ensures.gains in
-    let first : (other : ℕ) → GainsAt c.held_root-held.result c.loop-root.tallies.items other → root ≤ other = rw c.deref-in-loop-root.ensures.value at c.in-Some.ensures.least in
+    let first : (other : ℕ) → GainsAt c.held_root-held.result c.loop-root.tallies.items other
+    → root ≤ other = rw c.deref-in-loop-root.ensures.value at c.in-Some.ensures.least in
     let least : IsLeastGainBy (held_root c.args.chart.now c.args.fixed) flips links root = rw (← c.held_root-held.ensures)
     (least-by-links c.held_root-held.result links flips c.loop-root.tallies.items c.loop-root.invariant.tallies below root gains first) in
     let within : root < length flips = gain-within c.held_root-held.result links flips c.loop-root.tallies.items c.loop-root.invariant.tallies root gains in
     record {
       underway = subst (IsUnderway c.args.chart.now colours c.args.sides.now c.args.fixed)
-          (sym items) (underway-more c.args.chart.now colours flips c.args.sides.now c.args.fixed links same c.requires.sides mixed c.loop-root.invariant.underway root within least);
+          (sym items) (underway-more c.args.chart.now colours flips c.args.sides.now c.args.fixed links same c.requires.sides mixed
+          c.loop-root.invariant.underway root within least);
       tallies = subst (λ fs. AreTallies links fs (with_items c.loop-root.tallies c.flip.new.tallies).items) (sym flips_are)
           (subst (AreTallies links c.flip.new.flips) (sym tallies_are) (rw c.deref-in-Some.ensures.value at c.in_ok-flip.ensures.tallies));
       queue = c.in_ok-flip.ensures.queue;
@@ -99,8 +113,10 @@ returns-clause-led c =
     let same : length colours ≡ length c.args.chart.now = length-map c.args.masks.now is_second ∙ c.requires.each in
     let mixed : IsPermutation (links_of c.args.chart.now colours c.args.sides.now) links = rw c.in_ok-links.ensures.links at c.group.ensures.same in
     let below : AreLinksBelow (length flips) links = rw c.loop-root.invariant.underway.len
-    (All-permutation (λ (l : Link). (l.from < length c.args.chart.now) × (l.to < length c.args.chart.now)) _ _ c.group.ensures.same c.in_ok-links.ensures.below) in
-    let none : (root : ℕ) → GainsAt c.held_root-held.result c.loop-root.tallies.items root → ⊥ = rw c.deref-in-loop-root.ensures.value at c.in_default.ensures.gains in
+    (All-permutation (λ (l : Link). (l.from < length c.args.chart.now) ×
+    (l.to < length c.args.chart.now)) _ _ c.group.ensures.same c.in_ok-links.ensures.below) in
+    let none : (root : ℕ) → GainsAt c.held_root-held.result c.loop-root.tallies.items root
+    → ⊥ = rw c.deref-in-loop-root.ensures.value at c.in_default.ensures.gains in
     let done : (root : ℕ) → GainsBy (held_root c.args.chart.now c.args.fixed) flips links root → ⊥ = rw (← c.held_root-held.ensures)
     (none-by-links c.held_root-held.result links flips c.loop-root.tallies.items c.loop-root.invariant.tallies below none) in
     underway-end c.args.chart.now colours flips c.args.sides.now c.args.fixed links same c.requires.sides mixed c.loop-root.invariant.underway done

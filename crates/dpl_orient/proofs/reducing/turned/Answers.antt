@@ -15,9 +15,11 @@ loop-piece-preserved c =
     let piece = c.loop-piece.piece in
     let within : piece < length c.args.masks.now = c.loop-piece-test.true in
     let same : length colours ≡ length c.args.chart.now = length-map c.args.masks.now is_second ∙ c.requires.each in
-    let more = letters-more c.args.chart.now colours c.args.flips.now piece (own_root 0) false same (let l = length-map c.args.masks.now is_second in omega (arith, l, within)) in
+    let more = letters-more c.args.chart.now colours c.args.flips.now piece (own_root 0) false same (let l = length-map c.args.masks.now is_second in
+    omega (arith, l, within)) in
     let second : c.is_second.result ≡ get_or colours piece false = c.is_second.ensures ∙ sym (get_or-map is_second c.args.masks.now piece A false within) in
-    let letter : is_second c.of.result ≡ differ (get_or c.args.flips.now (get_or c.args.chart.now piece (own_root 0)).root false) (get_or colours piece false) =
+    let letter : is_second c.of.result ≡ differ (get_or c.args.flips.now (get_or c.args.chart.now piece (own_root 0)).root false)
+    (get_or colours piece false) =
     c.of.ensures ∙ (c.differs.ensures ∙ (ap (λ x. differ x c.is_second.result) c.is_flipped-flip.ensures ∙ ap (differ _) second)) in
     rw c.in_ok-push.ensures.items (map-append is_second c.loop-piece.turned.items (c.of.result ∷ [])
     ∙ (ap (λ xs. xs ++ is_second c.of.result ∷ []) c.loop-piece.invariant ∙ (ap (λ b. take piece letters ++ b ∷ []) letter ∙ sym more)))
@@ -27,4 +29,5 @@ returns c =
     let colours = map is_second c.args.masks.now in
     let same : length colours ≡ length c.args.chart.now = length-map c.args.masks.now is_second ∙ c.requires.each in
     c.of-2.ensures ∙ (c.loop-piece.invariant ∙ take_all c.loop-piece.piece (letters_of c.args.chart.now colours c.args.flips.now)
-    (let many = length-letters c.args.chart.now colours c.args.flips.now same in let past = c.loop-piece-test.false in let each = c.requires.each in omega (arith, many, past, each)))
+    (let many = length-letters c.args.chart.now colours c.args.flips.now same in let past = c.loop-piece-test.false in let each = c.requires.each in
+    omega (arith, many, past, each)))
