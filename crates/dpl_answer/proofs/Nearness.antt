@@ -10,7 +10,7 @@ use Rattle.dpl_spec_split.specs.declared.Rect.{Rect}
 use Rattle.dpl_spec_split.specs.Squares.{AreNear, Covers, Has, d2, TooFew, in_line, at_corner, gap}
 use Rattle.dpl_spec_split.specs.Zones.{at}
 use Rattle.dpl_edges.specs.InCells.{in_cell}
-use Rattle.dpl_board.proofs.AllPosted.{from-flat, in-flat}
+use Rattle.dpl_board.proofs.Flats.{from-flat, in-flat}
 use Rattle.dpl_answer.specs.Sheets.{all_squares, below, is_in, is_near_in, squares_of, is_few, is_near}
 use Rattle.dpl_spec_split.proofs.Ordered.{map-has}
 use Rattle.dpl_answer.proofs.Members.{any-has, below-has, has-any, has-kept, has-passed, kept-has, passed-has}

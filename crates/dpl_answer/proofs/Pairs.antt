@@ -5,7 +5,7 @@ use Rattle.std.proofs.lemmas.List.Elements.{All-nil, All-append, All-head, All-m
 use Rattle.std.proofs.lemmas.List.FromFn.{get_or-range_with_len, length-range_with_len}
 use Rattle.std.proofs.lemmas.List.Kept.{AllPairs-cons}
 use Rattle.dpl_spec_split.specs.Graphs.{Precedes}
-use Rattle.dpl_board.proofs.AllPosted.{from-flat, in-flat}
+use Rattle.dpl_board.proofs.Flats.{from-flat, in-flat}
 use Rattle.dpl_answer.specs.Sheets.{below, pairs_below}
 use Rattle.dpl_spec_split.proofs.Ordered.{has-map, map-has}
 use Rattle.dpl_answer.proofs.Members.{below-has, has-below}

@@ -19,7 +19,8 @@ use Rattle.dpl_edges.proofs.Conflicts.{tiles-graph}
 use Rattle.dpl_edges.specs.InCells.{AreEdgesOf, ConflictIn, in_cell}
 use Rattle.dpl_board.specs.Sheets.{IsSheet, all_edges, edges_at}
 use Rattle.dpl_board.specs.Boards.{AreAllPosted, Board, Stands, SumsPosted}
-use Rattle.dpl_board.proofs.AllPosted.{all-posted, from-flat, in-flat}
+use Rattle.dpl_board.proofs.AllPosted.{all-posted}
+use Rattle.dpl_board.proofs.Flats.{from-flat, in-flat}
 use Rattle.dpl_answer.specs.Conflicts.{IsTiled, SumsGraph}
 use Rattle.dpl_answer.specs.Sheets.{conflicts_in, is_conflict_in, is_near_in, pairs_below, part_of, sheet_of}
 use Rattle.dpl_spec_split.proofs.Ordered.{has-map, map-has}

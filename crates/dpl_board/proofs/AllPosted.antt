@@ -3,26 +3,14 @@ use Rattle.std.proofs.Common.{◌≡◌, ℕ, ◌<◌, List, [], ◌∷◌, leng
 use Rattle.std.specs.List.{Contains, flat_map}
 use Rattle.std.proofs.lemmas.Bool.{cases_lt}
 use Rattle.std.proofs.lemmas.List.{get_or_default, get_or_past}
-use Rattle.std.proofs.lemmas.List.Elements.{Contains-append_left, Contains-append_right, Contains-append_cases}
 use Rattle.dpl_spec_split.specs.Graphs.{graph_of}
 use Rattle.dpl_stars.specs.Sums.{summary_of}
 use Rattle.dpl_stars.proofs.SameGraph.{same-members, summary-along}
 use Rattle.dpl_board.specs.declared.entry.Entry.{Entry}
 use Rattle.dpl_board.specs.Sheets.{Sheet, all_edges, edges_at, edges_of, entry}
 use Rattle.dpl_board.specs.Boards.{AllPostedSumUp}
+use Rattle.dpl_board.proofs.Flats.{from-flat, in-flat}
 use Rattle.dpl_board.proofs.Posters.{posted-entry}
-
-pub in-flat : {X Y : Type 0} (f : X → List Y) (xs : List X) (x : X) (y : Y) → Contains xs x → Contains (f x) y → Contains (flat_map f xs) y
-in-flat f [] x y (k, l, is) there = absurd (omega (arith, l))
-in-flat f (z ∷ xs) x y (zero, l, is) there = Contains-append_left (f z) (flat_map f xs) y (rw is there)
-in-flat f (z ∷ xs) x y (suc k, l, is) there = Contains-append_right (f z) (flat_map f xs) y (in-flat f xs x y (k, omega (arith, l), is) there)
-
-pub from-flat : {X Y : Type 0} (f : X → List Y) (xs : List X) (y : Y) → Contains (flat_map f xs) y → (x : X) × Contains xs x × Contains (f x) y
-from-flat f [] y (k, l, is) = absurd (omega (arith, l))
-from-flat f (z ∷ xs) y there = elim (Contains-append_cases (f z) (flat_map f xs) y there) [
-  | inl here ↦ (z, (0, omega arith, refl), here)
-  | inr later ↦ (let (x, (k, l, is), in_x) = from-flat f xs y later in (x, (suc k, omega (arith, l), is), in_x))
-]
 
 module _ (sheet : Sheet) (es : List Entry) (e : ℕ × ℕ) where
   pub posted-to-all : Contains (edges_of sheet es) e → Contains (all_edges sheet) e

@@ -1,6 +1,14 @@
 pub mod Posters
+pub mod Flats
 pub mod Summings
+pub mod Parts
+pub mod Halves
+pub mod Starts
+pub mod Keeping
+pub mod Tournaments
+pub mod Noting
+pub mod Readying
+pub mod Changes
 pub mod Firsts
 pub mod AllPosted
-pub mod Posting
 pub mod Goings

@@ -1,24 +1,22 @@
--- Summaries of entries' edges, one after the other, put together.
-use Rattle.std.proofs.Common.{◌≡◌, ◌<◌, ℕ, List, [], ◌∷◌, ◌++◌, length, inl, inr, sym, refl, ap, ◌∙◌, append_assoc, append-nil}
+-- Summaries of the edges of tiles, one after the other and put together.
+use Rattle.std.proofs.Common.{◌≡◌, ◌<◌, ℕ, List, [], ◌∷◌, ◌++◌, length, map, inl, inr, sym, refl, ap, subst, ◌∙◌, append_assoc, append-nil}
+use Rattle.std.specs.List.{AllZip, Contains, flat_map}
+use Rattle.std.specs.List.Sorted.{IsPermutation}
 use Rattle.std.proofs.lemmas.Bool.{cases_lt}
-use Rattle.std.proofs.lemmas.List.{get_or_past}
+use Rattle.std.proofs.lemmas.List.{get_or_past, map-append}
 use Rattle.std.proofs.lemmas.List.Elements.{All-nil, All-append}
+use Rattle.std.proofs.lemmas.List.Sorted.{Contains-permutation, IsPermutation-refl, IsPermutation-sym}
 use Rattle.std.proofs.lemmas.Grind.{flat_map-append}
+use Rattle.dpl_spec_split.specs.Graphs.{graph_of}
 use Rattle.dpl_stars.specs.declared.joined.Joined.{Joined}
-use Rattle.dpl_stars.specs.Sums.{Sums, SumsAll, AreEdgePairs, AreSummed}
+use Rattle.dpl_stars.specs.Sums.{Sums, SumsAll, SumsBoth, AreEdgePairs, AreSummed, summary_of}
+use Rattle.dpl_stars.proofs.SameGraph.{same-members, summary-along}
 use Rattle.dpl_board.specs.declared.entry.Entry.{Entry}
 use Rattle.dpl_board.specs.Sheets.{Sheet, IsSheet, edges_at, edges_of}
-use Rattle.dpl_board.specs.Summing.{AreSums, KeepsSums}
-
--- the sums of two lists of entries, one after the other
-pub sums-append : (sheet : Sheet) (es fs : List Entry) (js ks : List Joined) → AreSums sheet es js → AreSums sheet fs ks → AreSums sheet (es ++ fs) (js ++ ks)
-sums-append sheet es fs [] ks none more = rw none more
-sums-append sheet es fs (j ∷ js) ks (prefix, rest, is, sums, others) more =
-    (prefix, rest ++ fs, ap (λ xs. xs ++ fs) is ∙ append_assoc prefix rest fs, sums, sums-append sheet rest fs js ks others more)
-
--- a sum by itself
-pub sum-alone : (sheet : Sheet) (es : List Entry) (j : Joined) → Sums (edges_of sheet es) j → AreSums sheet es (j ∷ [])
-sum-alone sheet es j sums = (es, [], sym (append-nil es), sums, refl)
+use Rattle.dpl_board.specs.Summing.{AreSums, edges_in, tiles_in, tiles_of}
+use Rattle.dpl_board.specs.Boards.{Board, Stands, board}
+use Rattle.dpl_board.specs.Blocks.{IsWhole}
+use Rattle.dpl_board.proofs.Flats.{from-flat, in-flat}
 
 tile-pairs : (sheet : Sheet) (t : ℕ) → IsSheet sheet → AreEdgePairs (edges_at sheet t)
 tile-pairs sheet t pairs = elim (cases_lt t (length sheet)) [
@@ -26,33 +24,78 @@ tile-pairs sheet t pairs = elim (cases_lt t (length sheet)) [
   | inr past ↦ rw (get_or_past sheet t [] past) (All-nil (λ (e : ℕ × ℕ). e.0 < e.1))
 ]
 
-pub edges-pairs : (sheet : Sheet) (es : List Entry) → IsSheet sheet → AreEdgePairs (edges_of sheet es)
+pub edges-pairs : (sheet : Sheet) (tiles : List ℕ) → IsSheet sheet → AreEdgePairs (edges_in sheet tiles)
 edges-pairs sheet [] pairs = All-nil (λ (e : ℕ × ℕ). e.0 < e.1)
-edges-pairs sheet (e ∷ es) pairs = All-append (λ (e : ℕ × ℕ). e.0 < e.1) (edges_at sheet e.tile) (edges_of sheet es) (tile-pairs sheet e.tile pairs) (edges-pairs sheet es pairs)
+edges-pairs sheet (t ∷ ts) pairs = All-append (λ (e : ℕ × ℕ). e.0 < e.1) (edges_at sheet t) (edges_in sheet ts) (tile-pairs sheet t pairs) (edges-pairs sheet ts pairs)
 
-pub edges-append : (sheet : Sheet) (es fs : List Entry) → edges_of sheet (es ++ fs) ≡ edges_of sheet es ++ edges_of sheet fs
-edges-append sheet es fs = flat_map-append (λ (e : Entry). edges_at sheet e.tile) es fs
+pub edges-append : (sheet : Sheet) (ts us : List ℕ) → edges_in sheet (ts ++ us) ≡ edges_in sheet ts ++ edges_in sheet us
+edges-append sheet ts us = flat_map-append (λ (t : ℕ). edges_at sheet t) ts us
 
--- one post more
-pub summed-more : (sheet : Sheet) (es : List Entry) (e : Entry) (js : List Joined) (j : Joined) → AreSums sheet es js
-    → Sums (edges_at sheet e.tile) j → AreSums sheet (es ++ e ∷ []) (js ++ j ∷ [])
-summed-more sheet es e js j old sums = sums-append sheet es (e ∷ []) js (j ∷ []) old (sum-alone sheet (e ∷ []) j (rw (append-nil (edges_at sheet e.tile)) sums))
+-- the edges of entries are those of their tiles
+pub edges-of-tiles : (sheet : Sheet) (es : List Entry) → edges_in sheet (tiles_of es) ≡ edges_of sheet es
+edges-of-tiles sheet [] = refl
+edges-of-tiles sheet (e ∷ es) = ap (λ xs. edges_at sheet e.tile ++ xs) (edges-of-tiles sheet es)
 
--- the sums of entries are those of their edges
-pub summed-edges : (sheet : Sheet) (es : List Entry) (js : List Joined) → IsSheet sheet → AreSums sheet es js → AreSummed (edges_of sheet es) js
-summed-edges sheet es [] pairs none = rw none refl
-summed-edges sheet es (j ∷ js) pairs (prefix, rest, is, sums, others) = (
-  edges_of sheet prefix,
-  edges_of sheet rest,
-  ap (edges_of sheet) is ∙ edges-append sheet prefix rest,
-  edges-pairs sheet prefix pairs,
-  sums,
-  summed-edges sheet rest js pairs others,
+-- the summaries of parts are those of their edges, one after the other
+pub summed-edges : (sheet : Sheet) (parts : List (List ℕ)) (js : List Joined) → IsSheet sheet → AreSums sheet parts js
+    → AreSummed (edges_in sheet (tiles_in parts)) js
+summed-edges sheet [] [] pairs sums = refl
+summed-edges sheet [] (j ∷ js) pairs sums = absurd sums
+summed-edges sheet (p ∷ ps) [] pairs sums = absurd sums
+summed-edges sheet (p ∷ ps) (j ∷ js) pairs sums = (
+  edges_in sheet p,
+  edges_in sheet (tiles_in ps),
+  edges-append sheet p (tiles_in ps),
+  edges-pairs sheet p pairs,
+  sums.0,
+  summed-edges sheet ps js pairs sums.1,
 )
 
--- what sums up all of them keeps what they sum up
-pub kept-whole : (js : List Joined) (all : Joined) (list : List Joined) → SumsAll js all → list ≡ all ∷ [] → KeepsSums js list
-kept-whole js all list sums is sheet es pairs old = rw is (sum-alone sheet es all (sums (edges_of sheet es) (summed-edges sheet es js pairs old)))
+-- the same edges for the same tiles in another order
+same-order : (sheet : Sheet) (ts us : List ℕ) (e : ℕ × ℕ) → IsPermutation ts us → Contains (edges_in sheet ts) e → Contains (edges_in sheet us) e
+same-order sheet ts us e moved there =
+    let (t, in_ts, in_t) = from-flat (λ (t : ℕ). edges_at sheet t) ts e there in
+    in-flat (λ (t : ℕ). edges_at sheet t) us t e (Contains-permutation ts us t moved in_ts) in_t
 
-pub kept-same : (js : List Joined) → KeepsSums js js
-kept-same js sheet es pairs old = old
+pub sums-order : (sheet : Sheet) (ts us : List ℕ) (j : Joined) → IsPermutation ts us → Sums (edges_in sheet ts) j → Sums (edges_in sheet us) j
+sums-order sheet ts us j moved sums =
+    summary-along (graph_of (edges_in sheet ts)) (graph_of (edges_in sheet us))
+    (same-members (edges_in sheet ts) (edges_in sheet us)
+    (λ e. (same-order sheet ts us e moved, same-order sheet us ts e (IsPermutation-sym ts us moved)))) (summary_of j) sums
+
+-- what sums up all parts sums up the posted tiles
+pub whole-sums : (sheet : Sheet) (b : Board) (all : Joined) → Stands sheet b → SumsAll b.sums all → Sums (edges_in sheet (tiles_of b.history)) all
+whole-sums sheet b all stands sums =
+    sums-order sheet (tiles_in b.parts) (tiles_of b.history) all stands.posted
+    (sums (edges_in sheet (tiles_in b.parts)) (summed-edges sheet b.parts b.sums stands.edges stands.sums))
+
+-- a board of which one summary is left
+pub is-whole : (old : Board) (all : Joined) → SumsAll old.sums all → IsWhole old (board old.tiles old.history (tiles_of old.history ∷ []) (all ∷ []))
+is-whole old all sums = record {
+  tiles = refl;
+  history = refl;
+  one = refl;
+  stands = λ sheet stands. record {
+    edges = stands.edges;
+    tiles = stands.tiles;
+    sums = (whole-sums sheet old all stands sums, tt);
+    posted = subst (λ xs. IsPermutation xs (tiles_of old.history)) (sym (append-nil (tiles_of old.history))) (IsPermutation-refl (tiles_of old.history));
+  };
+}
+
+-- the summary of one tile more
+pub whole-more : (sheet : Sheet) (tiles : ℕ) (es : List Entry) (e : Entry) (joined sum both : Joined) → SumsBoth joined sum both
+    → Stands sheet (board tiles es (tiles_of es ∷ []) (joined ∷ [])) → Sums (edges_at sheet e.tile) sum
+    → Stands sheet (board tiles (es ++ e ∷ []) (tiles_of (es ++ e ∷ []) ∷ []) (both ∷ []))
+whole-more sheet tiles es e joined sum both merged stands new =
+    let old : Sums (edges_in sheet (tiles_of es)) joined = stands.sums.0 in
+    let pairs : AreEdgePairs (edges_at sheet e.tile) = tile-pairs sheet e.tile stands.edges in
+    let is : edges_in sheet (tiles_of (es ++ e ∷ [])) ≡ edges_in sheet (tiles_of es) ++ edges_at sheet e.tile =
+    ap (edges_in sheet) (map-append (λ (e : Entry). e.tile) es (e ∷ [])) ∙ (edges-append sheet (tiles_of es) (e.tile ∷ [])
+    ∙ ap (λ xs. edges_in sheet (tiles_of es) ++ xs) (append-nil (edges_at sheet e.tile))) in
+    record {
+      edges = stands.edges;
+      tiles = stands.tiles;
+      sums = (rw is (merged (edges_in sheet (tiles_of es)) (edges_at sheet e.tile) (edges-pairs sheet (tiles_of es) stands.edges) pairs old new), tt);
+      posted = subst (λ xs. IsPermutation xs (tiles_of (es ++ e ∷ []))) (sym (append-nil (tiles_of (es ++ e ∷ [])))) (IsPermutation-refl (tiles_of (es ++ e ∷ [])));
+    }

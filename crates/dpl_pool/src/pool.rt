@@ -40,7 +40,7 @@ pub fn run_pool<J: Job + Sync, G: Gate + Sync, R: Threads + Wait + Sync>(
     let done = all_work(rt, alloc, &deal, &board, job, gate, members)?;
     let hands = gathered(alloc, &board, &deal, &mut seat, done)?;
     deal.close(hands);
-    Ok(board.close(rt, seat))
+    board.close(rt, seat)
 }
 
 /// Lets the workers work, and waits for all.

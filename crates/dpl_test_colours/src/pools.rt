@@ -99,7 +99,6 @@ fn many_workers_post_few_tiles_once(rt: HostRuntime) -> Result<(), Fail> {
     assert_eq!(rt; state.first_missing(), None);
     let state = run_pool(&rt, rt.alloc(), 64, &Bare { tiles: 0 }, &OpenGate)?;
     assert_eq!(rt; state.history().len(), 0);
-    let joined = state.joined()?;
-    assert!(rt; has_no_rows(&joined));
+    assert!(rt; has_no_rows(state.joined()));
     Ok(())
 }

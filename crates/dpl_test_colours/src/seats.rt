@@ -31,7 +31,7 @@ fn seats_post_and_meet(rt: HostRuntime) -> Result<(), Fail> {
     assert_eq!(rt; other.seen(), 1);
     board.rejoin(&mut seat, other);
     assert_eq!(rt; seat.seen(), 2);
-    let state = board.close(&rt, seat);
+    let state = board.close(&rt, seat)?;
     let wanted = [Entry { worker: 1, tile: 1 }, Entry { worker: 0, tile: 0 }];
     assert_eq!(rt; state.history(), wanted.as_slice());
     assert_eq!(rt; state.first_missing(), None);
@@ -94,7 +94,7 @@ fn post_from_two_threads<R: Threads + Wait + Sync>(
     let Answered { mut seat, .. } = first;
     board.rejoin(&mut seat, second.seat);
     let third = board.post(rt, &mut seat, 1, 0, Joined::new(alloc));
-    let state = shared.close(rt, seat);
+    let state = shared.close(rt, seat)?;
     Ok(third.err().map(|fault| (state, fault)))
 }
 

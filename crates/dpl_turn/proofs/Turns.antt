@@ -16,7 +16,7 @@ use Rattle.std.proofs.lemmas.List.Elements.{All-push}
 use Rattle.std.proofs.lemmas.List.Quantifiers.{all_pairs_push}
 use Rattle.dpl_turn.specs.Rule.{HasTurn, Holding, IsProper, MayFollow, Slot, named_list}
 
-same_state : (taken state : Board) → ◌≡◌ {A = List (ℕ × Slot)} ((0, Some taken) ∷ []) ((0, Some state) ∷ []) → taken ≡ state
+pub same_state : (taken state : Board) → ◌≡◌ {A = List (ℕ × Slot)} ((0, Some taken) ∷ []) ((0, Some state) ∷ []) → taken ≡ state
 same_state taken state e = ap (λ (l : List (ℕ × Slot)). first_of l) e
   where
     first_of : List (ℕ × Slot) → Board

@@ -158,6 +158,24 @@ GivesTurn step before n after = after ≡ (after_give before.0, [])
 abbrev pub Holding : SeatView → List Entry → Me Slot SeatView → Type 0
 Holding v history me = (state : Board) × (me ≡ (v, (0, Some state) ∷ [])) × (state.history ≡ history) × Stands v.sheet state × IsProper v.sheet v.workers state.history
 
+-- the seat has the turn, with this state out of the slot, whose history is the one that was found
+pub record IsOut (state : Board) (me : Me Slot SeatView) : Type 0 where
+  pub holds : me.0.holds ≡ true
+  pub fresh : me.0.spent ≡ false
+  pub idle : me.0.named ≡ None
+  pub found : me.0.found ≡ state.history
+  pub slot : me.1 ≡ (0, None) ∷ []
+  pub known : StartsWith state.history me.0.known
+  pub stands : Stands me.0.sheet state
+  pub proper : IsProper me.0.sheet me.0.workers state.history
+
+-- what a turn without a post leaves of a seat: what is found later begins with what was found
+pub record GoesOn (v w : SeatView) : Type 0 where
+  pub sheet : w.sheet ≡ v.sheet
+  pub workers : w.workers ≡ v.workers
+  pub own : w.own ≡ v.own
+  pub found : StartsWith w.found v.found
+
 -- What a post leaves of a seat. The history that the call found begins with what the seat had seen. What is known is that history and the
 -- entry, if one was posted, which the seat's own posts gain at its place
 pub record Posted (v : SeatView) (posted : Option Entry) (found : List Entry) (w : SeatView) : Type 0 where

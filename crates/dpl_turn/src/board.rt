@@ -6,12 +6,13 @@ ghost use Rattle.dpl_board.specs.Boards.{Stands};
 ghost use Rattle.dpl_board.specs.Cores.{IsCore};
 ghost use Rattle.dpl_turn.specs.Replay.{events_of, workers_to};
 ghost use Rattle.dpl_turn.specs.Seats.{IsSeatOf, knows};
-ghost use Rattle.dpl_turn.specs.Rule.{Answers, AreEntries, HasTurn, Holding, Idle, IsProper, MayFollow, Rise, StartsWith, after_give, both_views, longer, named_list, newcomer};
+ghost use Rattle.dpl_turn.specs.Rule.{Answers, AreEntries, GoesOn, HasTurn, Holding, Idle, IsOut, IsProper, MayFollow, Rise, StartsWith, after_give, both_views, longer, named_list, newcomer};
 
+use crate::ready::{find_ready, folded};
 use crate::seat::{Seat, TableSeat, longest};
 use crate::view::{About, Gives, Law, Meet, Names, Pairs, SeatCopy, SeatView, Tries};
 use atomic_table::Table;
-use dpl_board::{BoardState, Job, PostFault};
+use dpl_board::{Blocks, BoardState, Job, PostFault};
 use dpl_stars::Joined;
 use std::alloc::{AllocError, Global};
 use std::snapshot::Snapshot;
@@ -27,7 +28,8 @@ const TILE: usize = 1;
 /// A board that threads share by seats. Only the seat that holds the turn reads or changes its state.
 #[derive(Drop)]
 pub struct Board<J: Job> {
-    table: Table<Option<BoardState>, SeatView, About<J>, Law, Global>,
+    table: Table<Option<Blocks>, SeatView, About<J>, Law, Global>,
+    alloc: Global,
     ghost sized: { (table.shared.table_id.words ≡ 2) × (table.shared.table_id.slots ≡ 1) },
 }
 
@@ -41,10 +43,10 @@ impl<J: Job> Board<J> {
             workers,
         };
         let tiles = job.tiles();
-        let state = BoardState::new(alloc, tiles)?;
+        let state = Blocks::new(alloc, tiles)?;
         let slots = vec![in alloc; Some(state)]?;
         match Table::new(alloc, &[0, 0], slots, &about) {
-            Ok((table, place)) => Ok((Board { table }, Seat { place, count: 0 })),
+            Ok((table, place)) => Ok((Board { table, alloc }, Seat { place, count: 0 })),
             Err(_) => Err(AllocError),
         }
     }
@@ -98,20 +100,19 @@ impl<J: Job> Board<J> {
     /// Ends the board: a state that stands for the sheet, whose history begins with what the seat has seen and has the
     /// seat's posts at their places, in their order. The state is what the takes and posts of its history lead to. It
     /// may wait for the turn.
-    pub fn close<R: Wait>(self, rt: &R, seat: Seat) -> BoardState
+    pub fn close<R: Wait>(self, rt: &R, seat: Seat) -> Result<BoardState, AllocError>
         requires table { IsSeatOf self.table.shared.table_id seat }
-        ensures seen { StartsWith result.history (knows seat).known }
-        ensures own { AreEntries result.history (knows seat).own × Rise (knows seat).own }
-        ensures stands { Stands (knows seat).sheet result }
-        ensures proper { IsProper (knows seat).sheet (knows seat).workers result.history }
-        ensures core { IsCore (knows seat).sheet (events_of result.history) (workers_to (length (knows seat).sheet) result.history) result }
+        ensures seen { IfOk result (λ s. StartsWith s.history (knows seat).known) }
+        ensures own { IfOk result (λ s. AreEntries s.history (knows seat).own × Rise (knows seat).own) }
+        ensures stands { IfOk result (λ s. Stands (knows seat).sheet s) }
+        ensures proper { IfOk result (λ s. IsProper (knows seat).sheet (knows seat).workers s.history) }
+        ensures core { IfOk result (λ s. IsCore (knows seat).sheet (events_of s.history) (workers_to (length (knows seat).sheet) s.history) s) }
     {
         let Seat {
             mut place,
             count: _,
         } = seat;
-        self.take_turn(rt, &mut place);
-        self.take_out(&mut place)
+        self.take_state(rt, &mut place).finish()
     }
 
     /// Lets a seat of the table take in what another knows, which ends.
@@ -155,7 +156,7 @@ impl<J: Job> Board<J> {
     }
 
     /// Takes the state out of the slot.
-    fn take_out(&self, seat: &mut TableSeat) -> BoardState
+    fn take_out(&self, seat: &mut TableSeat) -> Blocks
         requires table { seat.old.table_id ≡ self.now.table.shared.table_id }
         requires holds { (state : _) × (seat.old.me.1 ≡ (0, Some state) ∷ []) }
         ensures table { seat.new.table_id ≡ seat.old.table_id }
@@ -169,7 +170,7 @@ impl<J: Job> Board<J> {
     }
 
     /// Puts the state back into the slot.
-    fn put_back(&self, seat: &mut TableSeat, state: BoardState)
+    fn put_back(&self, seat: &mut TableSeat, state: Blocks)
         requires table { seat.old.table_id ≡ self.now.table.shared.table_id }
         requires holds { seat.old.me.1 ≡ (0, None) ∷ [] }
         ensures table { seat.new.table_id ≡ seat.old.table_id }
@@ -177,6 +178,38 @@ impl<J: Job> Board<J> {
     {
         let empty = self.table.shared.exchange(seat, 0, Some(state));
         let None = empty else { unreachable!() };
+    }
+
+    /// Gets the turn and takes the state out. It may wait for the turn.
+    fn take_state<R: Wait>(&self, rt: &R, seat: &mut TableSeat) -> Blocks
+        requires table { seat.old.table_id ≡ self.now.table.shared.table_id }
+        requires idle { Idle seat.old.me }
+        ensures table { seat.new.table_id ≡ seat.old.table_id }
+        ensures out { IsOut result seat.new.me }
+        ensures view { seat.new.me.0 ≡ record seat.old.me.0 { holds = true; found = result.history } }
+        ensures own { AreEntries result.history seat.old.me.0.own × Rise seat.old.me.0.own }
+    {
+        self.take_turn(rt, seat);
+        self.take_out(seat)
+    }
+
+    /// Merges a block outside the turn, if one is ready before the tile is posted, and folds it in. It may wait for the
+    /// turn, which the seat has before and after.
+    fn fold_ready<R: Wait>(&self, rt: &R, seat: &mut TableSeat, state: Blocks, tile: u32) -> Blocks
+        requires table { seat.old.table_id ≡ self.now.table.shared.table_id }
+        requires out { IsOut state seat.old.me }
+        ensures table { seat.new.table_id ≡ seat.old.table_id }
+        ensures out { IsOut result seat.new.me }
+        ensures goes { GoesOn seat.old.me.0 seat.new.me.0 }
+    {
+        let Some(ready) = find_ready(&state, tile) else {
+            return state;
+        };
+        self.put_back(seat, state);
+        self.give(seat);
+        let sum = ready.merged(self.alloc);
+        let state = self.take_state(rt, seat);
+        folded(state, ready.block, sum)
     }
 
     /// Writes the entry that is to be posted into the tile word.
@@ -220,8 +253,8 @@ impl<J: Job> Board<J> {
         ensures answer { Answers seat.old.me.0 worker tile result.0 seat.new.me.0 }
         ensures seen { result.1 ≡ length seat.new.me.0.known }
     {
-        self.take_turn(rt, seat);
-        let mut state = self.take_out(seat);
+        let state = self.take_state(rt, seat);
+        let mut state = self.fold_ready(rt, seat, state, tile);
         if let Err(fault) = state.post(worker, tile, sum) {
             let seen = state.history().len() as u64;
             self.put_back(seat, state);

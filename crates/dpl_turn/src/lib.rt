@@ -2,6 +2,7 @@
 #![tactic(auto)]
 
 mod board;
+mod ready;
 mod seat;
 mod view;
 

@@ -3,10 +3,10 @@ ghost use Rattle.std.specs.Prelude.{◌≡◌, ◌<◌, length, if◌then◌else
 ghost use Rattle.dpl_turn.specs.Rule.{Idle, longer};
 
 use crate::view::SeatView;
-use dpl_board::BoardState;
+use dpl_board::Blocks;
 
 /// The seat at the table of atomic words, with which a thread takes its steps there.
-pub type TableSeat = atomic_table::Seat<Option<BoardState>, SeatView>;
+pub type TableSeat = atomic_table::Seat<Option<Blocks>, SeatView>;
 
 /// A seat at a board: what it knows of the history, and how many entries that are.
 #[derive(Drop)]

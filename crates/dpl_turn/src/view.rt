@@ -1,6 +1,6 @@
 //! What a seat knows, and the rule of the board. These types are for the proofs alone.
 use atomic_table::{Join, Play, Split, TableRule};
-use dpl_board::{BoardState, Entry, Job};
+use dpl_board::{Blocks, Entry, Job};
 use std::collections::LinkedList;
 use std::snapshot::Snapshot;
 
@@ -28,7 +28,7 @@ pub struct About<J> {
 /// The rule that the table keeps at every step, and what the first seat knows.
 pub struct Law;
 
-impl<J: Job> TableRule<Option<BoardState>, SeatView, About<J>> for Law {
+impl<J: Job> TableRule<Option<Blocks>, SeatView, About<J>> for Law {
     ghost use Rattle.dpl_turn.specs.Rule.{IsKept, newcomer};
     ghost use Rattle.std.specs.Prelude.{[]};
 
@@ -51,7 +51,7 @@ impl Split<SeatView> for SeatCopy {
 /// The step by which a seat tries to get the turn.
 pub struct Tries;
 
-impl Play<Option<BoardState>, SeatView> for Tries {
+impl Play<Option<Blocks>, SeatView> for Tries {
     ghost use Rattle.dpl_turn.specs.Rule.{TriesTurn};
 
     ghost then = { TriesTurn };
@@ -60,7 +60,7 @@ impl Play<Option<BoardState>, SeatView> for Tries {
 /// The step by which the holder of the turn names the entry that it is about to post.
 pub struct Names;
 
-impl Play<Option<BoardState>, SeatView> for Names {
+impl Play<Option<Blocks>, SeatView> for Names {
     ghost use Rattle.dpl_turn.specs.Rule.{NamesEntry};
 
     ghost then = { NamesEntry };
@@ -69,7 +69,7 @@ impl Play<Option<BoardState>, SeatView> for Names {
 /// The step by which the holder gives the turn back, with its post behind the history.
 pub struct Gives;
 
-impl Play<Option<BoardState>, SeatView> for Gives {
+impl Play<Option<Blocks>, SeatView> for Gives {
     ghost use Rattle.dpl_turn.specs.Rule.{GivesTurn};
 
     ghost then = { GivesTurn };
@@ -89,7 +89,7 @@ impl Join<SeatView> for Pairs {
 /// The step after which of two lists that seats had seen one is known to begin with the other.
 pub struct Meet;
 
-impl Play<Option<BoardState>, SeatView> for Meet {
+impl Play<Option<Blocks>, SeatView> for Meet {
     ghost use Rattle.dpl_turn.specs.Rule.{Meets};
 
     ghost then = { Meets };

@@ -4,6 +4,6 @@ use Rattle.dpl_answer.proofs.job.joined_conflicts.Goals as goal
 
 pub returns : goal.returns
 returns g c =
-    IfOk-weaker c.joined.result _ _
-    (λ joined sums. joined-sums c.args.job.now.plan c.in_ok-board.board joined c.requires.tiled c.in_ok-board.ensures.stands
-    c.in_ok-board.ensures.once.0 sums) c.joined.ensures
+    IfOk-weaker c.copy.result _ _
+    (λ joined is. rw is (joined-sums c.args.job.now.plan c.in_ok-board.board c.joined.result.now c.requires.tiled c.in_ok-board.ensures.stands
+    c.in_ok-board.ensures.once.0 c.joined.ensures)) c.copy.ensures

@@ -1,4 +1,5 @@
 use Rattle.std.proofs.Common.{◌≡◌, ◌∙◌, sym, ap, subst, rules, length, vec_len, arith}
+use Rattle.std.specs.Prelude.{ℕ, IfOk, Result, Ok, Err}
 use Rattle.dpl_board.specs.Boards.{Stands}
 use Rattle.dpl_board.specs.Sheets.{Sheet}
 use Rattle.dpl_deal.specs.Hands.{EachAt}
@@ -22,20 +23,29 @@ close-requires-clause-done g c =
     let l : vec_len c.in_ok-hands.hands ≡ length c.in_ok-hands.hands.items = search rules in
     some_done c.in_ok-hands.hands.items (omega (arith, c.requires.workers.0, n, l)) c.in_ok-hands.ensures.hands.1
 
+if-ok-all : {T E : Type 0} (r : Result T E) {P Q R S : T → Type 0} → IfOk r P → IfOk r Q → IfOk r R → ((x : T) → P x → Q x → R x → S x) → IfOk r S
+if-ok-all (Ok x) p q r f = f x p q r
+if-ok-all (Err e) p q r f = tt
+
 pub returns-clause-once : goal.returns-clause-once
 returns-clause-once g c =
-    let sheet = g.J.Job.sheet c.args.job.now in
+    let v = knows c.gathered.new.seat in
     let t : c.in_ok-deal.deal.tiles ≡ length (g.J.Job.sheet c.args.job.now) = search rules in
-    let s : Stands (g.J.Job.sheet c.args.job.now) c.close-2.result = search rules in
-    let p : IsProper (g.J.Job.sheet c.args.job.now) c.args.workers c.close-2.result.history = search rules in (
-      all_posted c.close-2.result.tiles c.in_ok-deal.deal.tiles c.in_ok-hands.hands.items
-          (knows c.gathered.new.seat).known c.close-2.result.history (s.tiles ∙ sym t) c.close.ensures c.in_ok-hands.ensures.covers
-          c.close-2.ensures.seen,
-      p,
-    )
+    let sheet : v.sheet ≡ g.J.Job.sheet c.args.job.now = search rules in
+    let workers : v.workers ≡ c.args.workers = search rules in
+    if-ok-all c.close-2.result c.close-2.ensures.seen c.close-2.ensures.stands c.close-2.ensures.proper
+    (λ b seen stands proper. (
+      all_posted b.tiles c.in_ok-deal.deal.tiles c.in_ok-hands.hands.items v.known b.history (stands.tiles ∙ (ap length sheet ∙ sym t)) c.close.ensures
+          c.in_ok-hands.ensures.covers seen,
+      subst (λ (z : Sheet). IsProper z c.args.workers b.history) sheet (subst (λ (n : ℕ). IsProper v.sheet n b.history) workers proper),
+    ))
 
 pub returns-clause-replay : goal.returns-clause-replay
 returns-clause-replay g c =
-    let s : Stands (g.J.Job.sheet c.args.job.now) c.close-2.result = search rules in
-    let p : IsProper (g.J.Job.sheet c.args.job.now) c.args.workers c.close-2.result.history = search rules in
-    replayed (g.J.Job.sheet c.args.job.now) c.args.workers c.close-2.result s p
+    let v = knows c.gathered.new.seat in
+    let J = g.J.Job.sheet c.args.job.now in
+    let sheet : v.sheet ≡ g.J.Job.sheet c.args.job.now = search rules in
+    let workers : v.workers ≡ c.args.workers = search rules in
+    if-ok-all c.close-2.result c.close-2.ensures.seen c.close-2.ensures.stands c.close-2.ensures.proper
+    (λ b seen stands proper. replayed J c.args.workers b (subst (λ (z : Sheet). Stands z b) sheet stands)
+    (subst (λ (z : Sheet). IsProper z c.args.workers b.history) sheet (subst (λ (n : ℕ). IsProper v.sheet n b.history) workers proper)))

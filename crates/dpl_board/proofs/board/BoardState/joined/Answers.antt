@@ -1,13 +1,7 @@
-use Rattle.std.proofs.lemmas.Result.{IfOk-weaker}
-use Rattle.dpl_board.specs.Sheets.{edges_of}
-use Rattle.dpl_board.proofs.Summings.{summed-edges}
+use Rattle.dpl_stars.specs.Sums.{Sums}
+use Rattle.std.proofs.Common.{subst}
+use Rattle.dpl_board.proofs.Summings.{edges-of-tiles}
 use Rattle.dpl_board.proofs.board.BoardState.joined.Goals as goal
 
 pub returns : goal.returns
-returns c =
-    IfOk-weaker c.merge_all.result _ _
-    (λ whole h.
-    let sums = rw c.deref.ensures.value at h in
-    rw (← c.self.view_is) (λ sheet stands. sums (edges_of sheet c.self.inside.history.items)
-    (summed-edges sheet c.self.inside.history.items c.self.inside.sums.items stands.edges stands.sums)))
-    c.merge_all.ensures
+returns c = rw (← c.self.view_is) (λ sheet stands. subst (λ es. Sums es c.self.inside.joined) (edges-of-tiles sheet c.self.inside.posts.history.items) stands.sums.0)

@@ -1,0 +1,7 @@
+use Rattle.dpl_board.proofs.Summings.{is-whole}
+use Rattle.dpl_board.proofs.blocks.Blocks.finish.Goals as goal
+
+pub returns : goal.returns
+returns c =
+    let sums = rw (c.deref.ensures.value, c.in_ok-sums.ensures) at c.in_ok-joined.ensures in
+    rw (← c.self.view_is) (is-whole _ c.in_ok-joined.joined sums)

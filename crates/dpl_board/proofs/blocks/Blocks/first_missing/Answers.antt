@@ -1,0 +1,4 @@
+use Rattle.dpl_board.proofs.blocks.Blocks.first_missing.Goals as goal
+
+pub returns : goal.returns
+returns c = rw (← c.self.view_is) c.first_missing.ensures
