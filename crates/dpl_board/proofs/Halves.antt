@@ -5,7 +5,17 @@ use Rattle.std.proofs.lemmas.Bool.{cases_lt, cases_order}
 use Rattle.std.proofs.lemmas.Nat.{pow-add, pow_pos, pow_below, shl-shr}
 use Rattle.std.proofs.lemmas.List.{get_or-map, get_or_default, length-map}
 use Rattle.std.proofs.lemmas.List.FromFn.{length-range_with_len, get_or-range_with_len}
-use Rattle.dpl_board.specs.Blocks.{AreApart, AreBlocks, AreHalves, StandAt, end_of, first_in, middle_in, tiles_at}
+use Rattle.dpl_board.specs.Blocks.{AreApart, AreBlocks, end_of, first_in, middle_in, tiles_at}
+
+-- these two are the halves of the block, the first one first
+pub record AreHalves (block one other : ℕ × ℕ) : Type 0 where
+  pub size : block.0 ≡ one.0 + 1
+  pub left : one.1 ≡ 2 * block.1
+  pub right : (other.0 ≡ one.0) × (other.1 ≡ one.1 + 1)
+
+-- the halves of the block stand at this place and behind it
+abbrev pub StandAt : List (ℕ × ℕ) → ℕ × ℕ → ℕ → Type 0
+StandAt blocks block n = (n + 1 < length blocks) × AreHalves block (get_or blocks n (0, 0)) (get_or blocks (n + 1) (0, 0))
 
 pub pow-more : (k : ℕ) → 2 ^ (k + 1) ≡ 2 ^ k + 2 ^ k
 pow-more k = omega (arith, pow-add 2 k 1)

@@ -13,10 +13,10 @@ use Rattle.std.proofs.lemmas.List.Sorted.{Contains-permutation}
 use Rattle.dpl_board.specs.declared.entry.Entry.{Entry}
 use Rattle.dpl_board.specs.Sheets.{poster_in}
 use Rattle.dpl_board.specs.Summing.{tiles_in, tiles_of}
-use Rattle.dpl_board.specs.Blocks.{AreApart, AreBlocks, AreHalves, ArePostedTiles, StandAt, end_of, first_in, middle_in, tiles_at}
+use Rattle.dpl_board.specs.Blocks.{AreApart, AreBlocks, ArePostedTiles, end_of, first_in, middle_in, tiles_at}
 use Rattle.dpl_board.proofs.Flats.{in-flat}
 use Rattle.dpl_board.proofs.Posters.{none-differs}
-use Rattle.dpl_board.proofs.Halves.{left-first, middle-first, right-first, size}
+use Rattle.dpl_board.proofs.Halves.{AreHalves, StandAt, left-first, middle-first, right-first, size}
 
 module _ {X : Type 0} where
   pub All-insert : (P : X → Type 0) (xs : List X) (at : ℕ) (y : X) → All P xs → P y → All P (insert xs at y)
@@ -142,35 +142,6 @@ blocks-folded blocks block p old (within, halves) =
 -- later blocks begin later
 pub firsts-rise : (blocks : List (ℕ × ℕ)) → AreBlocks blocks → (n m : ℕ) (d : ℕ × ℕ) → n < m → m < length blocks → first_in (get_or blocks n d) < first_in (get_or blocks m d)
 firsts-rise blocks are n m d up within = (let a = are.apart n m d up within in let p = pow_pos (get_or blocks n d).0 in omega (arith, a, p))
-
-module _ (blocks : List (ℕ × ℕ)) (are : AreBlocks blocks) (middle tile : ℕ) (within : middle < length blocks) where
-  -- where one begins before a tile, so do those up to it
-  pub before-all : first_in (get_or blocks middle (0, 0)) < tile → (n : ℕ) (d : ℕ × ℕ) → n < middle + 1 → first_in (get_or blocks n d) < tile
-  before-all first n d l = elim (cases_lt n middle) [
-    | inl up ↦
-        let a = firsts-rise blocks are n middle d up within in
-        let e : first_in (get_or blocks middle d) ≡ first_in (get_or blocks middle (0, 0)) = ap first_in (get_or_default blocks middle d (0, 0) within) in
-        omega (arith, a, e, first)
-    | inr past ↦
-        let is : n ≡ middle = omega (arith, l, past) in
-        let e : first_in (get_or blocks n d) ≡ first_in (get_or blocks middle (0, 0)) = ap (λ (k : ℕ). first_in (get_or blocks k d)) is
-        ∙ ap first_in (get_or_default blocks middle d (0, 0) within) in
-        omega (arith, e, first)
-  ]
-
-  -- and where one doesn't, neither do those from it on
-  pub behind-all : tile ≤ first_in (get_or blocks middle (0, 0)) → (n : ℕ) (d : ℕ × ℕ) → middle ≤ n → n < length blocks → tile ≤ first_in (get_or blocks n d)
-  behind-all first n d past l = elim (cases_lt middle n) [
-    | inl up ↦
-        let a = firsts-rise blocks are middle n d up l in
-        let e : first_in (get_or blocks middle d) ≡ first_in (get_or blocks middle (0, 0)) = ap first_in (get_or_default blocks middle d (0, 0) within) in
-        omega (arith, a, e, first)
-    | inr none ↦
-        let is : n ≡ middle = omega (arith, none, past) in
-        let e : first_in (get_or blocks n d) ≡ first_in (get_or blocks middle (0, 0)) = ap (λ (k : ℕ). first_in (get_or blocks k d)) is
-        ∙ ap first_in (get_or_default blocks middle d (0, 0) within) in
-        omega (arith, e, first)
-  ]
 
 module _ (blocks : List (ℕ × ℕ)) (block : ℕ × ℕ) (n : ℕ) (stand : StandAt blocks block n) where
   abbrev half : ℕ

@@ -7,6 +7,7 @@ pub mod Starts
 pub mod Keeping
 pub mod Tournaments
 pub mod Noting
+pub mod Tables
 pub mod Readying
 pub mod Changes
 pub mod Firsts

@@ -1,16 +1,15 @@
 -- Which blocks have both halves among the blocks that are there, after a block more and after a fold.
 use Rattle.std.proofs.Common.{◌≡◌, ◌≢◌, ◌+◌, ◌-◌, ◌*◌, ◌^◌, ◌<◌, ◌≤◌, ℕ, zero, suc, List, [], ◌∷◌, ◌++◌, length, get_or, take, drop, inl, inr, sym, refl, ap, subst, ◌∙◌, arith}
-use Rattle.std.specs.Prelude.{◌⊎◌, ◌%◌, Option, None, Some, MatchOption}
+use Rattle.std.specs.Prelude.{◌⊎◌, Option, None, Some}
 use Rattle.std.specs.List.{All, Contains, insert}
 use Rattle.std.proofs.lemmas.Bool.{cases_eq, cases_order}
 use Rattle.std.proofs.lemmas.Nat.{pow_pos}
 use Rattle.std.proofs.lemmas.List.{get_or_default, take-append-drop}
-use Rattle.std.proofs.lemmas.List.Edits.{get_or-insert_at, length-insert}
 use Rattle.std.proofs.lemmas.List.Elements.{Contains-append_cases, Contains-append_left, Contains-append_right}
 use Rattle.dpl_board.specs.declared.tournament.Tournament.{Tournament}
 use Rattle.dpl_board.specs.Tournaments.{IsTournament, leaf_in}
-use Rattle.dpl_board.specs.Blocks.{AreApart, AreBlocks, AreHalves, AreReady, IsHalved, IsNoted, IsWholeAt, NotesWhole, StandAt, end_of, first_in, middle_in}
-use Rattle.dpl_board.proofs.Halves.{block-fits, left-first, middle-first, side-by-side}
+use Rattle.dpl_board.specs.Blocks.{AreApart, AreBlocks, AreReady, IsHalfAt, IsHalved, IsNoted, IsWholeAt, NotesWhole, end_of, first_in, middle_in}
+use Rattle.dpl_board.proofs.Halves.{StandAt, block-fits, left-first, middle-first, side-by-side}
 use Rattle.dpl_board.proofs.Keeping.{end-stands, first-stands, firsts-rise, folded, middle-stands, split-two}
 
 module _ {X : Type 0} where
@@ -72,7 +71,7 @@ module _ {X : Type 0} where
       ]
 
 -- a block stands at one place
-one-place : (blocks : List (ℕ × ℕ)) → AreApart blocks → (m n : ℕ) (d : ℕ × ℕ) → m < length blocks → n < length blocks
+pub one-place : (blocks : List (ℕ × ℕ)) → AreApart blocks → (m n : ℕ) (d : ℕ × ℕ) → m < length blocks → n < length blocks
     → first_in (get_or blocks m d) ≡ first_in (get_or blocks n d) → m ≡ n
 one-place blocks apart m n d l k same = elim (cases_order m n) [
   | inl e ↦ e
@@ -128,7 +127,7 @@ halved-stand blocks block n (within, halves) =
 
 -- what is known of a block whose halves are there
 module _ (blocks : List (ℕ × ℕ)) (are : AreBlocks blocks) (block : ℕ × ℕ) (halved : IsHalved blocks block) where
-  stands : (n : ℕ) × StandAt blocks block n
+  pub stands : (n : ℕ) × StandAt blocks block n
   stands = side-by-side blocks block halved.half are.apart halved.size halved.left halved.right
 
   pub halved-small : end_of block < 2 ^ 32
@@ -149,112 +148,50 @@ module _ (blocks : List (ℕ × ℕ)) (are : AreBlocks blocks) (block : ℕ × �
       let u = firsts-rise blocks are n (n + 1) (0, 0) (omega arith) stand.0 in
       omega (arith, a, b, u)
 
-  -- where what begins before it ends, its halves stand
-  pub place-stands : (place : ℕ) → place ≤ length blocks → ((n : ℕ) (d : ℕ × ℕ) → n < place → first_in (get_or blocks n d) < first_in block)
-      → ((n : ℕ) (d : ℕ × ℕ) → place ≤ n → n < length blocks → first_in block ≤ first_in (get_or blocks n d)) → StandAt blocks block place
-  place-stands place bound before after =
-      let (n, stand) = stands in
-      let f = first-stands blocks block n stand in
-      let l : n < length blocks = (let l = stand.0 in omega (arith, l)) in
-      elim (cases_order n place) [
-        | inl same ↦ subst (StandAt blocks block) same stand
-        | inr other ↦ absurd (elim other [
-          | inl up ↦ (let b = before n (0, 0) up in omega (arith, b, f))
-          | inr down ↦ (
-              let a = after place (0, 0) (omega arith) (omega (arith, down, l)) in
-              let u = firsts-rise blocks are place n (0, 0) down l in
-              omega (arith, a, u, f)
-              )
-        ])
-      ]
+-- the half of a block that begins at a tile
+half-there : (blocks : List (ℕ × ℕ)) (b : ℕ × ℕ) (tile : ℕ) → (halved : IsHalved blocks b) → IsHalfAt tile b
+    → (i : ℕ) × ((i ≡ 2 * b.1) ⊎ (i ≡ 2 * b.1 + 1)) × Contains blocks (halved.half, i) × (first_in (halved.half, i) ≡ tile)
+half-there blocks b tile halved (inl is) = (2 * b.1, inl refl, halved.left, left-first b halved.half halved.size ∙ sym is)
+half-there blocks b tile halved (inr is) = (2 * b.1 + 1, inr refl, halved.right, sym (middle-first b halved.half halved.size) ∙ sym is)
 
-abbrev IsAround : ℕ → ℕ → Type 0
-IsAround n m = (m ≡ n) ⊎ (m + 1 ≡ n)
+same-whole : (a c i j : ℕ) → (i ≡ 2 * a) ⊎ (i ≡ 2 * a + 1) → (j ≡ 2 * c) ⊎ (j ≡ 2 * c + 1) → i ≡ j → a ≡ c
+same-whole a c i j (inl e) (inl f) same = omega (arith, e, f, same)
+same-whole a c i j (inl e) (inr f) same = omega (arith, e, f, same)
+same-whole a c i j (inr e) (inl f) same = omega (arith, e, f, same)
+same-whole a c i j (inr e) (inr f) same = omega (arith, e, f, same)
 
--- the one at a place is a half of one block
-one-whole : (blocks : List (ℕ × ℕ)) (n m k : ℕ) (b c : ℕ × ℕ) → IsAround n m → IsAround n k → StandAt blocks b m → StandAt blocks c k → b ≡ c
-one-whole blocks n m k b c at to one two = elim at [
-  | inl m_is ↦ elim to [
-    | inl k_is ↦ same (m_is ∙ sym k_is)
-    | inr k_is ↦ absurd (apart b c m k (m_is ∙ sym k_is) one two)
-  ]
-  | inr m_is ↦ elim to [
-    | inl k_is ↦ absurd (apart c b k m (k_is ∙ sym m_is) two one)
-    | inr k_is ↦ same (omega (arith, m_is, k_is))
-  ]
-]
-  where
-    same : m ≡ k → b ≡ c
-    same e =
-        let there : StandAt blocks c m = subst (StandAt blocks c) (sym e) two in
-        let i : 2 * b.1 ≡ 2 * c.1 = sym one.1.left ∙ there.1.left in
-        same-pair b.0 b.1 c.0 c.1 (one.1.size ∙ sym there.1.size) (omega (arith, i))
+-- the one that begins at a tile is a half of one block
+one-whole : (blocks : List (ℕ × ℕ)) (tile : ℕ) (b c : ℕ × ℕ) → AreApart blocks → IsHalved blocks b → IsHalved blocks c → IsHalfAt tile b → IsHalfAt tile c → b ≡ c
+one-whole blocks tile b c apart one two at to =
+    let h = half-there blocks b tile one at in
+    let k = half-there blocks c tile two to in
+    let same : (one.half, h.0) ≡ (two.half, k.0) = same-first blocks (one.half, h.0) (two.half, k.0) apart h.2 k.2 (h.3 ∙ sym k.3) in
+    let size : one.half ≡ two.half = ap (λ (x : ℕ × ℕ). x.0) same in
+    same-pair b.0 b.1 c.0 c.1 (one.size ∙ (ap (λ (n : ℕ). n + 1) size ∙ sym two.size)) (same-whole b.1 c.1 h.0 k.0 h.1 k.1 (ap (λ (x : ℕ × ℕ). x.1) same))
 
-    apart : (x y : ℕ × ℕ) (i j : ℕ) → i ≡ j + 1 → StandAt blocks x i → StandAt blocks y j → ⊥
-    apart x y i j e first second =
-        let f : (get_or blocks (j + 1) (0, 0)).1 ≡ 2 * x.1 = subst (λ (n : ℕ). (get_or blocks n (0, 0)).1 ≡ 2 * x.1) e first.1.left in
-        let g = second.1.right.1 in
-        let h = second.1.left in
-        omega (arith, f, g, h)
-
-module _ (blocks : List (ℕ × ℕ)) (n : ℕ) where
-  abbrev at-n : ℕ × ℕ
-  at-n = get_or blocks n (0, 0)
-
-  -- a second half whose block is sought before it
-  pub whole-before : (found : Option (ℕ × ℕ)) → 1 ≤ n → n < length blocks → at-n.1 % 2 ≡ 1
-      → MatchOption found ((b : ℕ × ℕ) → AreHalves b (get_or blocks (n - 1) (0, 0)) at-n → ⊥) (λ b. AreHalves b (get_or blocks (n - 1) (0, 0)) at-n) → IsWholeAt blocks n found
-  whole-before None some within odd none = λ b m around stand. elim around [
-    | inl same ↦ (let e = subst (λ (k : ℕ). (get_or blocks k (0, 0)).1 ≡ 2 * b.1) same stand.1.left in omega (arith, e, odd))
-    | inr next ↦ (
-        let before : m ≡ n - 1 = omega (arith, next) in
-        none b (subst (λ (k : ℕ). AreHalves b (get_or blocks k (0, 0)) at-n) before
-        (subst (λ (k : ℕ). AreHalves b (get_or blocks m (0, 0)) (get_or blocks k (0, 0))) next stand.1))
-        )
-  ]
-  whole-before (Some b) some within odd halves =
-      let is : n ≡ n - 1 + 1 = omega (arith, some) in (
-        n - 1,
-        inr (sym is),
-        (omega (arith, is, within), subst (λ (k : ℕ). AreHalves b (get_or blocks (n - 1) (0, 0)) (get_or blocks k (0, 0))) is halves),
-      )
-
-  -- a first half whose block is sought behind it
-  pub whole-behind : (found : Option (ℕ × ℕ)) → n + 1 < length blocks → (at-n.1 % 2 ≡ 1 → ⊥)
-      → MatchOption found ((b : ℕ × ℕ) → AreHalves b at-n (get_or blocks (n + 1) (0, 0)) → ⊥) (λ b. AreHalves b at-n (get_or blocks (n + 1) (0, 0))) → IsWholeAt blocks n found
-  whole-behind None within even none = λ b m around stand. elim around [
-    | inl same ↦ none b (subst (λ (k : ℕ). AreHalves b (get_or blocks k (0, 0)) (get_or blocks (k + 1) (0, 0))) same stand.1)
-    | inr next ↦ (
-        let e = subst (λ (k : ℕ). (get_or blocks k (0, 0)).1 ≡ (get_or blocks m (0, 0)).1 + 1) next stand.1.right.1 in
-        let f = stand.1.left in
-        even (omega (arith, e, f))
-        )
-  ]
-  whole-behind (Some b) within even halves = (n, inl refl, (within, halves))
-
--- what is noted at a place where all else is noted
-noted : (blocks : List (ℕ × ℕ)) (n : ℕ) (old new : Tournament) → AreBlocks blocks → All (λ (b : ℕ × ℕ). end_of b ≤ old.leaves) blocks → IsTournament old
+-- what is noted at a tile where all else is noted
+noted : (blocks : List (ℕ × ℕ)) (tile : ℕ) (old new : Tournament) → AreBlocks blocks → All (λ (b : ℕ × ℕ). end_of b ≤ old.leaves) blocks → IsTournament old
     → ((leaf : ℕ) (b : ℕ × ℕ) → leaf < old.leaves → leaf_in old leaf ≡ Some b → (leaf ≡ middle_in b) × IsHalved blocks b)
-    → ((b : ℕ × ℕ) → IsHalved blocks b → (leaf_in old (middle_in b) ≡ Some b) ⊎ ((m : ℕ) × IsAround n m × StandAt blocks b m))
-    → (found : Option (ℕ × ℕ)) → IsWholeAt blocks n found → NotesWhole found old new → AreReady blocks new
-noted blocks n old new are within tree sound each None none is = subst (AreReady blocks) (sym is) (record {
+    → ((b : ℕ × ℕ) → IsHalved blocks b → (leaf_in old (middle_in b) ≡ Some b) ⊎ IsHalfAt tile b)
+    → (found : Option (ℕ × ℕ)) → IsWholeAt blocks tile found → NotesWhole found old new → AreReady blocks new
+noted blocks tile old new are within tree sound each None none is = subst (AreReady blocks) (sym is) (record {
   tree = tree;
   sound = sound;
   each = λ b halved. (
     middle-within blocks old.leaves b within halved,
     elim (each b halved) [
       | inl there ↦ there
-      | inr stand ↦ absurd (none b stand.0 stand.1 stand.2)
+      | inr at ↦ absurd (none b halved at)
     ],
   );
 })
-noted blocks n old new are within tree sound each (Some w) (m, at, stand) is = record {
+noted blocks tile old new are within tree sound each (Some w) (half, at) is = record {
   tree = is.tree;
   sound = λ leaf b l there. elim (cases_eq leaf (middle_in w)) [
     | inl same ↦
         let e : w ≡ b = some-same w b (sym is.leaf ∙ (ap (leaf_in new) (sym same) ∙ there)) in (
           same ∙ ap middle_in e,
-          subst (IsHalved blocks) e (halved-stand blocks w m stand),
+          subst (IsHalved blocks) e half,
         )
     | inr other ↦ sound leaf b (subst (λ (n : ℕ). leaf < n) is.leaves l) (sym (is.others leaf other) ∙ there)
   ];
@@ -262,10 +199,10 @@ noted blocks n old new are within tree sound each (Some w) (m, at, stand) is = r
     subst (λ (n : ℕ). middle_in b < n) (sym is.leaves) (middle-within blocks old.leaves b within halved),
     elim (each b halved) [
       | inl there ↦ elim (cases_eq (middle_in b) (middle_in w)) [
-        | inl same ↦ here b (halved-same blocks w b are.apart (halved-stand blocks w m stand) halved (sym same))
+        | inl same ↦ here b (halved-same blocks w b are.apart half halved (sym same))
         | inr other ↦ is.others (middle_in b) other ∙ there
       ]
-      | inr around ↦ here b (one-whole blocks n m around.0 w b at around.1 stand around.2)
+      | inr to ↦ here b (one-whole blocks tile w b are.apart half halved at to)
     ],
   );
 }
@@ -284,27 +221,11 @@ pub noted-leaves : (old new : Tournament) (found : Option (ℕ × ℕ)) → Note
 noted-leaves old new None is = ap (λ (t : Tournament). t.leaves) is
 noted-leaves old new (Some block) is = is.leaves
 
--- halves that are both there, one of them at a place
-around : (blocks : List (ℕ × ℕ)) (n : ℕ) (b : ℕ × ℕ) (c : ℕ × ℕ) → AreApart blocks → n < length blocks → get_or blocks n (0, 0) ≡ c → (halved : IsHalved blocks b)
-    → (c ≡ (halved.half, 2 * b.1)) ⊎ (c ≡ (halved.half, 2 * b.1 + 1)) → (m : ℕ) × IsAround n m × StandAt blocks b m
-around blocks n b c apart within at halved which =
-    let (m, stand) = side-by-side blocks b halved.half apart halved.size halved.left halved.right in
-    let h : (get_or blocks m (0, 0)).0 ≡ halved.half = (let e = stand.1.size in let f = halved.size in omega (arith, e, f)) in
-    let left : get_or blocks m (0, 0) ≡ (halved.half, 2 * b.1) = λ j. (h j, stand.1.left j) in
-    let right : get_or blocks (m + 1) (0, 0) ≡ (halved.half, 2 * b.1 + 1) = λ j. ((stand.1.right.0 ∙ h) j, (stand.1.right.1 ∙ ap (λ (n : ℕ). n + 1) stand.1.left) j) in (
-      m,
-      elim which [
-        | inl is ↦ inl (one-place blocks apart m n (0, 0) (let l = stand.0 in omega (arith, l)) within (ap first_in left ∙ (sym (ap first_in is) ∙ sym (ap first_in at))))
-        | inr is ↦ inr (one-place blocks apart (m + 1) n (0, 0) stand.0 within (ap first_in right ∙ (sym (ap first_in is) ∙ sym (ap first_in at))))
-      ],
-      stand,
-    )
-
 -- a block of one tile more
 pub ready-more : (B : List (ℕ × ℕ)) (at t : ℕ) (old new : Tournament) → at ≤ length B → AreBlocks (insert B at (0, t))
-    → All (λ (b : ℕ × ℕ). end_of b ≤ old.leaves) (insert B at (0, t)) → AreReady B old → IsNoted (insert B at (0, t)) at old new → AreReady (insert B at (0, t)) new
+    → All (λ (b : ℕ × ℕ). end_of b ≤ old.leaves) (insert B at (0, t)) → AreReady B old → IsNoted (insert B at (0, t)) t old new → AreReady (insert B at (0, t)) new
 ready-more B at t old new place are within ready is =
-    noted (insert B at (0, t)) at old new are within ready.tree
+    noted (insert B at (0, t)) t old new are within ready.tree
     (λ leaf b l there. (let s = ready.sound leaf b l there in (s.0, more b s.1)))
     each is.0 is.1 is.2
   where
@@ -316,14 +237,14 @@ ready-more B at t old new place are within ready is =
       right = in-insert B at (0, t) (halved.half, 2 * b.1 + 1) halved.right;
     }
 
-    here : at < length (insert B at (0, t))
-    here = let l = length-insert B at (0, t) place in omega (arith, l, place)
+    first : t ≡ first_in (0, t)
+    first = omega arith
 
-    each : (b : ℕ × ℕ) → IsHalved (insert B at (0, t)) b → (leaf_in old (middle_in b) ≡ Some b) ⊎ ((m : ℕ) × IsAround at m × StandAt (insert B at (0, t)) b m)
+    each : (b : ℕ × ℕ) → IsHalved (insert B at (0, t)) b → (leaf_in old (middle_in b) ≡ Some b) ⊎ IsHalfAt t b
     each b halved = elim (from-insert B at (0, t) (halved.half, 2 * b.1) halved.left) [
-      | inl is ↦ inr (around (insert B at (0, t)) at b (0, t) are.apart here (get_or-insert_at B at (0, t) (0, 0) place) halved (inl is))
+      | inl is ↦ inr (inl (first ∙ (ap first_in is ∙ left-first b halved.half halved.size)))
       | inr left ↦ elim (from-insert B at (0, t) (halved.half, 2 * b.1 + 1) halved.right) [
-        | inl is ↦ inr (around (insert B at (0, t)) at b (0, t) are.apart here (get_or-insert_at B at (0, t) (0, 0) place) halved (inr is))
+        | inl is ↦ inr (inr (first ∙ (ap first_in is ∙ sym (middle-first b halved.half halved.size))))
         | inr right ↦ inl (ready.each b (record { half = halved.half; size = halved.size; left = left; right = right })).1
       ]
     ]
@@ -342,9 +263,9 @@ folded-within (x ∷ xs) (suc p) y within = (let r = folded-within xs p y (omega
 pub ready-folded : (B : List (ℕ × ℕ)) (n : ℕ) (block : ℕ × ℕ) (old cleared new : Tournament) → AreBlocks B → StandAt B block n → AreBlocks (folded B n block)
     → All (λ (b : ℕ × ℕ). end_of b ≤ old.leaves) (folded B n block) → AreReady B old → IsTournament cleared → cleared.leaves ≡ old.leaves
     → leaf_in cleared (middle_in block) ≡ None → ((leaf : ℕ) → leaf ≢ middle_in block → leaf_in cleared leaf ≡ leaf_in old leaf)
-    → IsNoted (folded B n block) n cleared new → AreReady (folded B n block) new
+    → IsNoted (folded B n block) (first_in block) cleared new → AreReady (folded B n block) new
 ready-folded B n block old cleared new were stand are within ready tree leaves gone others is =
-    noted (folded B n block) n cleared new are (subst (λ (k : ℕ). All (λ (b : ℕ × ℕ). end_of b ≤ k) (folded B n block)) (sym leaves) within) tree sound each is.0 is.1 is.2
+    noted (folded B n block) (first_in block) cleared new are (subst (λ (k : ℕ). All (λ (b : ℕ × ℕ). end_of b ≤ k) (folded B n block)) (sym leaves) within) tree sound each is.0 is.1 is.2
   where
     none-some : {b : ℕ × ℕ} (x : Option (ℕ × ℕ)) → x ≡ None → x ≡ Some b → ⊥
     none-some None e f = cc
@@ -390,11 +311,11 @@ ready-folded B n block old cleared new were stand are within ready tree leaves g
         let z : b.0 ≡ block.0 = ap (λ (x : ℕ × ℕ). x.0) e in
         omega (arith, k, s, z)
 
-    each : (b : ℕ × ℕ) → IsHalved (folded B n block) b → (leaf_in cleared (middle_in b) ≡ Some b) ⊎ ((m : ℕ) × IsAround n m × StandAt (folded B n block) b m)
+    each : (b : ℕ × ℕ) → IsHalved (folded B n block) b → (leaf_in cleared (middle_in b) ≡ Some b) ⊎ IsHalfAt (first_in block) b
     each b halved = elim (from-folded B n block (halved.half, 2 * b.1) (0, 0) stand.0 halved.left) [
-      | inl is ↦ inr (around (folded B n block) n b block are.apart here (at-folded B n block (0, 0) stand.0) halved (inl is))
+      | inl is ↦ inr (inl (ap first_in is ∙ left-first b halved.half halved.size))
       | inr left ↦ elim (from-folded B n block (halved.half, 2 * b.1 + 1) (0, 0) stand.0 halved.right) [
-        | inl is ↦ inr (around (folded B n block) n b block are.apart here (at-folded B n block (0, 0) stand.0) halved (inr is))
+        | inl is ↦ inr (inr (ap first_in is ∙ sym (middle-first b halved.half halved.size)))
         | inr right ↦
             let was : IsHalved B b = record { half = halved.half; size = halved.size; left = left; right = right } in
             elim (cases_eq (middle_in b) (middle_in block)) [

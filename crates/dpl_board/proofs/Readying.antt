@@ -12,8 +12,8 @@ use Rattle.dpl_board.specs.Summing.{edges_in}
 use Rattle.dpl_board.specs.Boards.{Board, Stands, board}
 use Rattle.dpl_board.specs.declared.tournament.Tournament.{Tournament}
 use Rattle.dpl_board.specs.Tournaments.{HasLeast, leaf_in}
-use Rattle.dpl_board.specs.Blocks.{AreReady, HasFolded, IsHalved, IsLeastReady, IsReady, Keeps, KeepsHalves, StandAt, first_in, middle_in, sums_at, tiles_at}
-use Rattle.dpl_board.proofs.Halves.{from-part, halves-tiles, left-first, middle-first, to-part}
+use Rattle.dpl_board.specs.Blocks.{AreReady, HasFolded, IsHalved, IsLeastReady, IsReady, Keeps, KeepsHalves, first_in, middle_in, sums_at, tiles_at}
+use Rattle.dpl_board.proofs.Halves.{StandAt, from-part, halves-tiles, left-first, middle-first, to-part}
 use Rattle.dpl_board.proofs.Keeping.{folded, split-two}
 use Rattle.dpl_board.proofs.Parts.{sums-folded, tiles-folded, zip-at}
 use Rattle.dpl_board.proofs.Summings.{edges-append, edges-pairs}

@@ -1,5 +1,5 @@
 -- Blocks of tiles, and boards that keep a summary for each of some blocks.
-use Rattle.std.specs.Prelude.{◌≡◌, ◌≢◌, ◌⊎◌, ◌+◌, ◌-◌, ◌*◌, ◌^◌, ◌<◌, ◌≤◌, ℕ, List, [], ◌∷◌, ◌++◌, length, map, slice_index_or, Option, None, Some}
+use Rattle.std.specs.Prelude.{◌≡◌, ◌≢◌, ◌⊎◌, ◌+◌, ◌-◌, ◌*◌, ◌^◌, ◌<◌, ◌≤◌, ℕ, List, [], ◌∷◌, ◌++◌, length, map, slice_index_or, vec_capacity, Option, None, Some}
 use Rattle.std.specs.List.{All, AllPairs, Contains, range_with_len}
 use Rattle.std.specs.List.Sorted.{IsPermutation}
 use Rattle.dpl_stars.specs.declared.joined.Joined.{Joined}
@@ -12,6 +12,7 @@ use Rattle.dpl_board.specs.declared.tournament.Tournament.{Tournament}
 use Rattle.dpl_board.specs.Sheets.{Sheet}
 use Rattle.dpl_board.specs.Summing.{edges_in, tiles_in, tiles_of}
 use Rattle.dpl_board.specs.Boards.{Board, HasPosters, Stands}
+use Rattle.dpl_board.specs.Starts.{AreAligned, blocks_of}
 use Rattle.dpl_board.specs.Tournaments.{IsAtMost, IsTournament, leaf_in}
 
 -- block (k, i) has 2^k tiles, from i * 2^k on
@@ -61,12 +62,15 @@ sums_at sums blocks = map (λ (b : ℕ × ℕ). slice_index_or sums (first_in b)
 -- What a board keeps: the tiles of the blocks are just the posted ones, each in one.
 pub record AreKept (posts : Posts) (kept : Kept) : Type 0 where
   pub posters : HasPosters posts
-  pub blocks : AreBlocks kept.blocks.items
-  pub within : All (λ (b : ℕ × ℕ). end_of b ≤ posts.tiles) kept.blocks.items
+  pub aligned : AreAligned kept.starts.items
+  pub blocks : AreBlocks (blocks_of kept.starts.items)
+  pub within : All (λ (b : ℕ × ℕ). end_of b ≤ posts.tiles) (blocks_of kept.starts.items)
+  pub starts : length kept.starts.items ≡ posts.tiles
   pub sums : length kept.sums.items ≡ posts.tiles
   pub leaves : kept.ready.leaves ≡ posts.tiles
-  pub ready : AreReady kept.blocks.items kept.ready
-  pub posted : ArePostedTiles (map tiles_at kept.blocks.items) posts.history.items
+  pub ready : AreReady (blocks_of kept.starts.items) kept.ready
+  pub posted : ArePostedTiles (map tiles_at (blocks_of kept.starts.items)) posts.history.items
+  pub room : posts.tiles ≤ vec_capacity kept.list
 
 -- the board keeps this summary for the part with these tiles
 abbrev pub Keeps : Board → List ℕ → Joined → Type 0
@@ -123,20 +127,14 @@ pub record IsWhole (old new : Board) : Type 0 where
   pub one : new.parts ≡ tiles_of old.history ∷ []
   pub stands : (sheet : Sheet) → Stands sheet old → Stands sheet new
 
--- these two are the halves of the block, the first one first
-pub record AreHalves (block one other : ℕ × ℕ) : Type 0 where
-  pub size : block.0 ≡ one.0 + 1
-  pub left : one.1 ≡ 2 * block.1
-  pub right : (other.0 ≡ one.0) × (other.1 ≡ one.1 + 1)
+-- a half of the block begins at the tile
+abbrev pub IsHalfAt : ℕ → ℕ × ℕ → Type 0
+IsHalfAt tile block = (tile ≡ first_in block) ⊎ (tile ≡ middle_in block)
 
--- the halves of the block stand at this place and behind it
-abbrev pub StandAt : List (ℕ × ℕ) → ℕ × ℕ → ℕ → Type 0
-StandAt blocks block n = (n + 1 < length blocks) × AreHalves block (slice_index_or blocks n (0, 0)) (slice_index_or blocks (n + 1) (0, 0))
-
--- the block of which the one at this place is a half, if its other half stands beside it
+-- the block of which a half begins at the tile, if both its halves are there
 abbrev pub IsWholeAt : List (ℕ × ℕ) → ℕ → Option (ℕ × ℕ) → Type 0
-IsWholeAt blocks n None = (block : ℕ × ℕ) (m : ℕ) → (m ≡ n) ⊎ (m + 1 ≡ n) → StandAt blocks block m → ⊥
-IsWholeAt blocks n (Some block) = (m : ℕ) × ((m ≡ n) ⊎ (m + 1 ≡ n)) × StandAt blocks block m
+IsWholeAt blocks tile None = (block : ℕ × ℕ) → IsHalved blocks block → IsHalfAt tile block → ⊥
+IsWholeAt blocks tile (Some block) = IsHalved blocks block × IsHalfAt tile block
 
 -- the leaf of this block has it now, and the others have what they had
 pub record HasNoted (block : ℕ × ℕ) (old new : Tournament) : Type 0 where
@@ -149,6 +147,6 @@ abbrev pub NotesWhole : Option (ℕ × ℕ) → Tournament → Tournament → Ty
 NotesWhole None old new = new ≡ old
 NotesWhole (Some block) old new = HasNoted block old new
 
--- the block of which the one at this place is a half is noted, if its other half is there
+-- the block of which a half begins at the tile is noted, if both its halves are there
 abbrev pub IsNoted : List (ℕ × ℕ) → ℕ → Tournament → Tournament → Type 0
-IsNoted blocks n old new = (found : Option (ℕ × ℕ)) × IsWholeAt blocks n found × NotesWhole found old new
+IsNoted blocks tile old new = (found : Option (ℕ × ℕ)) × IsWholeAt blocks tile found × NotesWhole found old new

@@ -1,5 +1,8 @@
 //! A board that keeps a summary for each block of posted tiles, so that blocks can be merged elsewhere and folded in.
 ghost use Rattle.std.specs.Prelude.{◌≡◌, ◌∷◌, [], ◌<◌, ℕ, map, IfOk, OnOk, MatchBool, MatchOption};
+ghost use Rattle.std.specs.Borrow.{sem};
+ghost use Rattle.std.specs.Io.BufRead.{Rests};
+ghost use Rattle.dpl_board.specs.contracts.blocks.Blocks.{the_row};
 ghost use Rattle.dpl_board.specs.Sheets.{entry, poster_in};
 ghost use Rattle.dpl_board.specs.Boards.{AreAllPosted, ArePosts, IsFirstMissing, IsFresh, PostLeaves};
 ghost use Rattle.dpl_board.specs.Blocks.{AreApart, ArePostedTiles, HasAdded, IsFold, IsLeastReady, IsReady, IsWhole, KeepsHalves, tiles_at};
@@ -25,11 +28,12 @@ pub struct Blocks {
 impl Model for Blocks {
     ghost use Rattle.std.specs.Prelude.{map};
     ghost use Rattle.dpl_board.specs.Boards.{Board, board};
+    ghost use Rattle.dpl_board.specs.Starts.{blocks_of};
     ghost use Rattle.dpl_board.specs.Blocks.{AreKept, sums_at, tiles_at};
 
     ghost Value = { Board };
 
-    ghost view = { λ b. board b.posts.tiles b.posts.history.items (map tiles_at b.kept.blocks.items) (sums_at b.kept.sums.items b.kept.blocks.items) };
+    ghost view = { λ b. board b.posts.tiles b.posts.history.items (map tiles_at (blocks_of b.kept.starts.items)) (sums_at b.kept.sums.items (blocks_of b.kept.starts.items)) };
 
     ghost invariant = { λ b. AreKept b.posts b.kept };
 }
@@ -57,10 +61,9 @@ impl Blocks {
         if let Some(by) = self.posts.poster(tile) {
             return Err(PostFault::Twice { by });
         }
-        self.kept.blocks.try_reserve(1)?;
         self.posts.add(Entry { worker, tile })?;
-        let place = self.kept.keep(tile, sum);
-        self.kept.note(place);
+        self.kept.keep(tile, sum);
+        self.kept.note(tile as usize);
         Ok(())
     }
 
@@ -87,12 +90,14 @@ impl Blocks {
     }
 
     /// The blocks that have a summary, by first tile. Each posted tile is in one of them, and no other tile is.
-    pub fn kept(&self) -> &[(u32, u32)]
-        ensures parts { map tiles_at result.now ≡ self.now.parts }
+    pub fn kept(&mut self) -> &[(u32, u32)]
+        ensures* same { sem 𝓛 (Rests the_row self.entry (λ new. new ≡ self.old)) }
+        ensures parts { map tiles_at result.now ≡ self.old.parts }
         ensures apart { AreApart result.now }
-        ensures tiles { ArePostedTiles self.now.parts self.now.history }
+        ensures tiles { ArePostedTiles self.old.parts self.old.history }
     {
-        self.kept.blocks.as_slice()
+        self.kept.list_blocks();
+        self.kept.list.as_slice()
     }
 
     /// Of the blocks whose halves both have a summary that of least k, then least i.
@@ -120,8 +125,8 @@ impl Blocks {
         if !self.kept.is_ready((k, i)) {
             return false;
         }
-        let place = self.kept.fold(self.alloc, (k, i), sum);
-        self.kept.note(place);
+        self.kept.fold(self.alloc, (k, i), sum);
+        self.kept.note(first_of((k, i)));
         true
     }
 

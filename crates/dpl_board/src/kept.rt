@@ -1,8 +1,9 @@
-//! Blocks of tiles by first tile, their summaries, and which of them are halves of a block.
-ghost use Rattle.std.specs.Prelude.{◌≡◌, ◌≢◌, ◌+◌, ◌^◌, ◌<◌, ◌≤◌, ℕ, [], None, Some, length, slice_index_or, vec_len, vec_capacity, slice_set, IsTrue, ◌↔◌, IfOk, OnOk, MatchOption};
-ghost use Rattle.std.specs.List.{All, insert, remove};
+//! Blocks by first tile, their summaries, and which of them are halves of a block.
+ghost use Rattle.std.specs.Prelude.{◌≡◌, ◌≢◌, ◌+◌, ◌^◌, ◌<◌, ◌≤◌, ℕ, [], None, Some, length, slice_index_or, vec_len, vec_capacity, slice_set, IsTrue, ◌↔◌, IfOk};
+ghost use Rattle.std.specs.List.{All};
+ghost use Rattle.dpl_board.specs.Starts.{AreAligned, blocks_of};
 ghost use Rattle.dpl_board.specs.Tournaments.{IsTournament, leaf_in};
-ghost use Rattle.dpl_board.specs.Blocks.{AreBlocks, AreHalves, AreReady, IsHalved, IsNoted, IsWholeAt, StandAt, end_of, first_in, middle_in, sums_at};
+ghost use Rattle.dpl_board.specs.Blocks.{AreBlocks, AreReady, IsHalved, IsNoted, IsWholeAt, end_of, first_in, middle_in, sums_at};
 
 use crate::tournament::Tournament;
 use dpl_stars::Joined;
@@ -12,17 +13,19 @@ use std::mem;
 /// Blocks, and the summary of each. Block (k, i) has 2^k tiles, from i * 2^k on.
 #[derive(Drop)]
 pub(crate) struct Kept {
-    /// By first tile.
-    pub blocks: Vec<(u32, u32)>,
+    /// For each tile the k of the block that begins there; none where none does.
+    pub starts: Vec<Option<u32>>,
     /// For each tile the summary of the block that begins there; one without rows where none does.
     pub sums: Vec<Joined>,
     /// For each tile the block whose second half begins there, where both its halves are kept.
     pub ready: Tournament,
+    /// Room for a list of the blocks.
+    pub list: Vec<(u32, u32)>,
 }
 
 /// The first tile of a block.
 pub(crate) fn first_of(block: (u32, u32)) -> usize
-    requires { end_of block < 2 ^ 32 }
+    requires { block.0 ≤ 32 }
     ensures { result ≡ first_in block }
 {
     (block.1 as usize) << block.0
@@ -36,54 +39,37 @@ pub(crate) fn middle_of(block: (u32, u32)) -> usize
     (2 * block.1 as usize + 1) << (block.0 - 1)
 }
 
-/// How many of the blocks begin before the tile.
-fn place(blocks: &[(u32, u32)], tile: usize) -> usize
-    requires { AreBlocks blocks.now }
-    ensures bound { result ≤ length blocks.now }
-    ensures before { (n : ℕ) (d : ℕ × ℕ) → n < result → first_in (slice_index_or blocks.now n d) < tile }
-    ensures after { (n : ℕ) (d : ℕ × ℕ) → result ≤ n → n < length blocks.now → tile ≤ first_in (slice_index_or blocks.now n d) }
+/// Whether the block of 2^k tiles from this one on is there.
+fn begins(starts: &[Option<u32>], tile: usize, k: u32) -> bool
+    ensures { IsTrue result ↔ (slice_index_or starts.now tile None ≡ Some k) }
 {
-    let mut low = 0;
-    let mut high = blocks.len();
-    while low < high {
-        let middle = low + (high - low) / 2;
-        if first_of(blocks[middle]) < tile {
-            low = middle + 1;
-        } else {
-            high = middle;
-        }
-    }
-    low
+    tile < starts.len() && starts[tile] == Some(k)
 }
 
-/// The block of which these two are the halves, the first one first.
-fn whole(one: (u32, u32), other: (u32, u32)) -> Option<(u32, u32)>
-    requires { one.0 < 32 }
-    ensures { MatchOption result ((block : ℕ × ℕ) → AreHalves block one other → ⊥) (λ block. AreHalves block one other) }
+/// The block of which the one that begins at this tile is a half, if its other half is there.
+fn whole_at(starts: &[Option<u32>], tile: usize) -> Option<(u32, u32)>
+    requires aligned { AreAligned starts.now }
+    requires blocks { AreBlocks (blocks_of starts.now) }
+    requires tile { tile < length starts.now }
+    ensures { IsWholeAt (blocks_of starts.now) tile result }
 {
-    if one.1 % 2 == 0 && other.0 == one.0 && other.1 == one.1 + 1 {
-        Some((one.0 + 1, one.1 / 2))
+    let Some(k) = starts[tile] else {
+        return None;
+    };
+    let whole = (k + 1, (tile >> (k + 1)) as u32);
+    if begins(starts, first_of(whole), k) && begins(starts, middle_of(whole), k) {
+        Some(whole)
     } else {
         None
     }
 }
 
-/// The block of which the one at this place is a half, if its other half stands beside it.
-fn whole_at(blocks: &[(u32, u32)], place: usize) -> Option<(u32, u32)>
-    requires blocks { AreBlocks blocks.now }
-    requires place { place < length blocks.now }
-    ensures { IsWholeAt blocks.now place result }
+/// A table of so many tiles at which no block begins.
+fn bare_starts(alloc: Global, tiles: u32) -> Result<Vec<Option<u32>>, AllocError>
+    ensures len { IfOk result (λ v. vec_len v ≡ tiles) }
+    ensures bare { IfOk result (λ v. (tile : ℕ) → slice_index_or v.items tile None ≡ None) }
 {
-    if blocks[place].1 % 2 == 1 {
-        if place == 0 {
-            return None;
-        }
-        return whole(blocks[place - 1], blocks[place]);
-    }
-    if place + 1 == blocks.len() {
-        return None;
-    }
-    whole(blocks[place], blocks[place + 1])
+    vec![in alloc; None; tiles as usize]
 }
 
 /// So many summaries without rows.
@@ -100,44 +86,41 @@ fn bare_sums(alloc: Global, tiles: u32) -> Result<Vec<Joined>, AllocError>
 impl Kept {
     /// No blocks of so many tiles.
     pub fn new(alloc: Global, tiles: u32) -> Result<Kept, AllocError>
-        ensures blocks { IfOk result (λ k. k.blocks.items ≡ []) }
+        ensures starts { IfOk result (λ k. vec_len k.starts ≡ tiles) }
+        ensures aligned { IfOk result (λ k. AreAligned k.starts.items) }
+        ensures blocks { IfOk result (λ k. blocks_of k.starts.items ≡ []) }
         ensures sums { IfOk result (λ k. vec_len k.sums ≡ tiles) }
         ensures leaves { IfOk result (λ k. k.ready.leaves ≡ tiles) }
         ensures tree { IfOk result (λ k. IsTournament k.ready) }
         ensures none { IfOk result (λ k. (leaf : ℕ) → leaf_in k.ready leaf ≡ None) }
+        ensures room { IfOk result (λ k. tiles ≤ vec_capacity k.list) }
     {
         Ok(Kept {
-            blocks: Vec::new(alloc),
+            starts: bare_starts(alloc, tiles)?,
             sums: bare_sums(alloc, tiles)?,
             ready: Tournament::new(alloc, tiles)?,
+            list: Vec::with_capacity(alloc, tiles as usize)?,
         })
     }
 
-    /// Adds a block of one tile, for which there is room, at its place, which it tells.
-    pub fn keep(&mut self, tile: u32, sum: Joined) -> usize
-        requires blocks { AreBlocks self.old.blocks.items }
-        requires within { tile < vec_len self.old.sums }
-        requires room { vec_len self.old.blocks < vec_capacity self.old.blocks }
-        ensures bound { result ≤ length self.old.blocks.items }
-        ensures blocks { self.new.blocks.items ≡ insert self.old.blocks.items result (0, tile) }
+    /// Adds a block of one tile.
+    pub fn keep(&mut self, tile: u32, sum: Joined)
+        requires starts { tile < vec_len self.old.starts }
+        requires sums { tile < vec_len self.old.sums }
+        ensures starts { self.new.starts.items ≡ slice_set self.old.starts.items tile (Some 0) }
         ensures sums { self.new.sums.items ≡ slice_set self.old.sums.items tile sum }
         ensures ready { self.new.ready ≡ self.old.ready }
-        ensures before { (n : ℕ) (d : ℕ × ℕ) → n < result → first_in (slice_index_or self.old.blocks.items n d) < tile }
-        ensures after { (n : ℕ) (d : ℕ × ℕ) → result ≤ n → n < length self.old.blocks.items → tile ≤ first_in (slice_index_or self.old.blocks.items n d) }
+        ensures list { self.new.list ≡ self.old.list }
     {
-        let place = place(&self.blocks, tile as usize);
-        if self.blocks.insert(place, (0, tile)).is_err() {
-            unreachable!();
-        }
+        self.starts[tile as usize] = Some(0);
         self.sums[tile as usize] = sum;
-        place
     }
 
     /// Whether both halves of a block are there.
     pub fn is_ready(&self, block: (u32, u32)) -> bool
-        requires blocks { AreBlocks self.now.blocks.items }
-        requires ready { AreReady self.now.blocks.items self.now.ready }
-        ensures { IsTrue result ↔ IsHalved self.now.blocks.items block }
+        requires blocks { AreBlocks (blocks_of self.now.starts.items) }
+        requires ready { AreReady (blocks_of self.now.starts.items) self.now.ready }
+        ensures { IsTrue result ↔ IsHalved (blocks_of self.now.starts.items) block }
     {
         if block.0 == 0 || block.0 > 32 {
             return false;
@@ -152,58 +135,80 @@ impl Kept {
         }
     }
 
-    /// Notes that both halves of a block are there, where the block at this place is one of them.
-    pub fn note(&mut self, place: usize)
-        requires blocks { AreBlocks self.old.blocks.items }
-        requires place { place < vec_len self.old.blocks }
+    /// Notes that both halves of a block are there, where the block that begins at this tile is one of them.
+    pub fn note(&mut self, tile: usize)
+        requires aligned { AreAligned self.old.starts.items }
+        requires blocks { AreBlocks (blocks_of self.old.starts.items) }
+        requires tile { tile < vec_len self.old.starts }
         requires tree { IsTournament self.old.ready }
-        requires within { All (λ (b : ℕ × ℕ). end_of b ≤ self.old.ready.leaves) self.old.blocks.items }
-        ensures blocks { self.new.blocks.items ≡ self.old.blocks.items }
+        requires within { All (λ (b : ℕ × ℕ). end_of b ≤ self.old.ready.leaves) (blocks_of self.old.starts.items) }
+        ensures starts { self.new.starts.items ≡ self.old.starts.items }
         ensures sums { self.new.sums.items ≡ self.old.sums.items }
-        ensures noted { IsNoted self.old.blocks.items place self.old.ready self.new.ready }
+        ensures list { self.new.list ≡ self.old.list }
+        ensures noted { IsNoted (blocks_of self.old.starts.items) tile self.old.ready self.new.ready }
     {
-        if let Some(block) = whole_at(&self.blocks, place) {
+        if let Some(block) = whole_at(&self.starts, tile) {
             self.ready.set(middle_of(block), Some(block));
         }
     }
 
-    /// Puts a block whose halves are both there in their place, which it tells.
-    pub fn fold(&mut self, alloc: Global, block: (u32, u32), sum: Joined) -> usize
-        requires blocks { AreBlocks self.old.blocks.items }
-        requires halved { IsHalved self.old.blocks.items block }
-        requires within { All (λ (b : ℕ × ℕ). end_of b ≤ self.old.ready.leaves) self.old.blocks.items }
+    /// Puts a block whose halves are both there in their place.
+    pub fn fold(&mut self, alloc: Global, block: (u32, u32), sum: Joined)
+        requires blocks { AreBlocks (blocks_of self.old.starts.items) }
+        requires halved { IsHalved (blocks_of self.old.starts.items) block }
+        requires within { All (λ (b : ℕ × ℕ). end_of b ≤ self.old.ready.leaves) (blocks_of self.old.starts.items) }
+        requires starts { vec_len self.old.starts ≡ self.old.ready.leaves }
         requires sums { vec_len self.old.sums ≡ self.old.ready.leaves }
         requires tree { IsTournament self.old.ready }
-        ensures place { StandAt self.old.blocks.items block result }
-        ensures blocks { self.new.blocks.items ≡ slice_set (remove self.old.blocks.items (result + 1)) result block }
+        ensures starts { self.new.starts.items ≡ slice_set (slice_set self.old.starts.items (middle_in block) None) (first_in block) (Some block.0) }
         ensures sums { (bare : Joined) × (self.new.sums.items ≡ slice_set (slice_set self.old.sums.items (middle_in block) bare) (first_in block) sum) }
         ensures tree { IsTournament self.new.ready }
         ensures leaves { self.new.ready.leaves ≡ self.old.ready.leaves }
         ensures leaf { leaf_in self.new.ready (middle_in block) ≡ None }
         ensures others { (leaf : ℕ) → leaf ≢ middle_in block → leaf_in self.new.ready leaf ≡ leaf_in self.old.ready leaf }
+        ensures list { self.new.list ≡ self.old.list }
     {
         let first = first_of(block);
         let middle = middle_of(block);
-        let place = place(&self.blocks, first);
-        self.blocks.remove(place + 1);
-        self.blocks[place] = block;
+        self.starts[middle] = None;
+        self.starts[first] = Some(block.0);
         self.sums[middle] = Joined::new(alloc);
         self.sums[first] = sum;
         self.ready.set(middle, None);
-        place
+    }
+
+    /// Lists the blocks by first tile, in the room that is there.
+    pub fn list_blocks(&mut self)
+        requires blocks { AreBlocks (blocks_of self.old.starts.items) }
+        requires room { vec_len self.old.starts ≤ vec_capacity self.old.list }
+        ensures list { self.new.list.items ≡ blocks_of self.old.starts.items }
+        ensures room { vec_capacity self.old.list ≤ vec_capacity self.new.list }
+        ensures starts { self.new.starts ≡ self.old.starts }
+        ensures sums { self.new.sums ≡ self.old.sums }
+        ensures ready { self.new.ready ≡ self.old.ready }
+    {
+        self.list.clear();
+        for tile in 0..self.starts.len() {
+            if let Some(k) = self.starts[tile] {
+                if self.list.push((k, (tile >> k) as u32)).is_err() {
+                    unreachable!();
+                }
+            }
+        }
     }
 
     /// The summaries of the blocks, by first tile.
     pub fn into_sums(self, alloc: Global) -> Result<Vec<Joined>, AllocError>
-        requires blocks { AreBlocks self.blocks.items }
-        requires within { All (λ (b : ℕ × ℕ). end_of b ≤ vec_len self.sums) self.blocks.items }
-        ensures { IfOk result (λ v. v.items ≡ sums_at self.sums.items self.blocks.items) }
+        requires aligned { AreAligned self.starts.items }
+        requires sums { vec_len self.sums ≡ vec_len self.starts }
+        ensures { IfOk result (λ v. v.items ≡ sums_at self.sums.items (blocks_of self.starts.items)) }
     {
         let mut all = self.sums;
-        let mut sums = Vec::with_capacity(alloc, self.blocks.len())?;
-        for n in 0..self.blocks.len() {
-            let first = first_of(self.blocks[n]);
-            sums.push(mem::replace(&mut all[first], Joined::new(alloc)))?;
+        let mut sums = Vec::new(alloc);
+        for tile in 0..self.starts.len() {
+            if self.starts[tile].is_some() {
+                sums.push(mem::replace(&mut all[tile], Joined::new(alloc)))?;
+            }
         }
         Ok(sums)
     }
