@@ -195,14 +195,21 @@ impl<J: Job> Board<J> {
 
     /// Merges a block outside the turn, if one is ready before the tile is posted, and folds it in. It may wait for the
     /// turn, which the seat has before and after.
-    fn fold_ready<R: Wait>(&self, rt: &R, seat: &mut TableSeat, state: Blocks, tile: u32) -> Blocks
+    fn fold_ready<R: Wait>(
+        &self,
+        rt: &R,
+        seat: &mut TableSeat,
+        state: Blocks,
+        tile: u32,
+        sum: &Joined,
+    ) -> Blocks
         requires table { seat.old.table_id ≡ self.now.table.shared.table_id }
         requires out { IsOut state seat.old.me }
         ensures table { seat.new.table_id ≡ seat.old.table_id }
         ensures out { IsOut result seat.new.me }
         ensures goes { GoesOn seat.old.me.0 seat.new.me.0 }
     {
-        let Some(ready) = find_ready(&state, tile) else {
+        let Some(ready) = find_ready(&state, tile, sum) else {
             return state;
         };
         self.put_back(seat, state);
@@ -254,7 +261,7 @@ impl<J: Job> Board<J> {
         ensures seen { result.1 ≡ length seat.new.me.0.known }
     {
         let state = self.take_state(rt, seat);
-        let mut state = self.fold_ready(rt, seat, state, tile);
+        let mut state = self.fold_ready(rt, seat, state, tile, &sum);
         if let Err(fault) = state.post(worker, tile, sum) {
             let seen = state.history().len() as u64;
             self.put_back(seat, state);

@@ -14,6 +14,10 @@ use std::alloc::{AllocError, Global};
 /// what is left is put together in one pass when the board is closed, so further doublings take more time than they spare.
 const MERGED_SIZE: u32 = 1;
 
+/// A post of a tile whose summary has fewer rows than these merges nothing: a second turn takes more time than so small a
+/// merge spares, and others wait for it.
+const MERGED_ROWS: usize = 256;
+
 /// A block that is ready, and copies of the summaries of its halves.
 #[derive(Drop)]
 pub(crate) struct Ready {
@@ -30,12 +34,20 @@ impl Ready {
     }
 }
 
-/// The block that is ready and to be merged before a tile is posted. There is none where the tile is posted, where only
-/// larger blocks are ready, or where there is no memory for the copies.
-pub(crate) fn find_ready(state: &Blocks, tile: u32) -> Option<Ready>
+/// How many rows a summary has.
+fn row_count(sum: &Joined) -> usize {
+    match sum {
+        Joined::Stars(rows) => rows.items().len(),
+        Joined::Odd => 0,
+    }
+}
+
+/// The block that is ready and to be merged before a tile with this summary is posted. There is none where the tile is
+/// posted or its summary is small, where only larger blocks are ready, or where there is no memory for the copies.
+pub(crate) fn find_ready(state: &Blocks, tile: u32, sum: &Joined) -> Option<Ready>
     ensures { IfSome result (λ r. KeepsHalves state.now r.block r.halves) }
 {
-    if state.poster(tile).is_some() {
+    if row_count(sum) < MERGED_ROWS || state.poster(tile).is_some() {
         return None;
     }
     let block = state.ready()?;
