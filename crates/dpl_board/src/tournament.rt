@@ -1,5 +1,5 @@
 //! Which of many blocks is the least.
-ghost use Rattle.std.specs.Prelude.{◌≡◌, ◌≢◌, ◌⊎◌, ◌<◌, ℕ, None, IfOk, MatchOption};
+ghost use Rattle.std.specs.Prelude.{◌≡◌, ◌≢◌, ◌⊎◌, ◌<◌, ◌↔◌, ℕ, None, IfOk, IsTrue, MatchOption};
 ghost use Rattle.dpl_board.specs.Tournaments.{HasLeast, IsBefore, IsTournament, leaf_in};
 
 use std::alloc::{AllocError, Global};
@@ -31,6 +31,17 @@ fn lesser(one: Option<(u32, u32)>, other: Option<(u32, u32)>) -> Option<(u32, u3
     }
 }
 
+/// Whether both are the same block, or neither is there.
+fn is_same(one: Option<(u32, u32)>, other: Option<(u32, u32)>) -> bool
+    ensures { IsTrue result ↔ (one ≡ other) }
+{
+    match (one, other) {
+        (Some(block), Some(second)) => block.0 == second.0 && block.1 == second.1,
+        (None, None) => true,
+        _ => false,
+    }
+}
+
 impl Tournament {
     /// So many leaves without a block.
     pub fn new(alloc: Global, leaves: u32) -> Result<Tournament, AllocError>
@@ -51,7 +62,7 @@ impl Tournament {
         self.nodes[self.leaves as usize + leaf]
     }
 
-    /// Changes what a leaf has.
+    /// Changes what a leaf has, and then what the nodes above it have, up to one that stays as it is.
     pub fn set(&mut self, leaf: usize, block: Option<(u32, u32)>)
         requires tree { IsTournament self.old }
         requires leaf { leaf < self.old.leaves }
@@ -64,7 +75,11 @@ impl Tournament {
         self.nodes[node] = block;
         while node > 1 {
             node /= 2;
-            self.nodes[node] = lesser(self.nodes[2 * node], self.nodes[2 * node + 1]);
+            let block = lesser(self.nodes[2 * node], self.nodes[2 * node + 1]);
+            if is_same(self.nodes[node], block) {
+                return;
+            }
+            self.nodes[node] = block;
         }
     }
 
