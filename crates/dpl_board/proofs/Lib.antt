@@ -8,6 +8,7 @@ pub mod Keeping
 pub mod Tournaments
 pub mod Noting
 pub mod Tables
+pub mod Gathers
 pub mod Readying
 pub mod Changes
 pub mod Firsts

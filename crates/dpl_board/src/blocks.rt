@@ -134,7 +134,7 @@ impl Blocks {
     pub fn finish(self) -> Result<BoardState, AllocError>
         ensures { IfOk result (λ b. IsWhole self b) }
     {
-        let sums = self.kept.into_sums(self.alloc)?;
+        let sums = self.kept.into_sums();
         let joined = merge_all(self.alloc, &sums)?;
         Ok(BoardState {
             alloc: self.alloc,

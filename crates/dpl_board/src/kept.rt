@@ -8,7 +8,6 @@ ghost use Rattle.dpl_board.specs.Blocks.{AreBlocks, AreReady, IsHalved, IsNoted,
 use crate::tournament::Tournament;
 use dpl_stars::Joined;
 use std::alloc::{AllocError, Global};
-use std::mem;
 
 /// Blocks, and the summary of each. Block (k, i) has 2^k tiles, from i * 2^k on.
 #[derive(Drop)]
@@ -197,19 +196,21 @@ impl Kept {
         }
     }
 
-    /// The summaries of the blocks, by first tile.
-    pub fn into_sums(self, alloc: Global) -> Result<Vec<Joined>, AllocError>
+    /// The summaries of the blocks, by first tile, in the table's own room.
+    pub fn into_sums(self) -> Vec<Joined>
         requires aligned { AreAligned self.starts.items }
         requires sums { vec_len self.sums ≡ vec_len self.starts }
-        ensures { IfOk result (λ v. v.items ≡ sums_at self.sums.items (blocks_of self.starts.items)) }
+        ensures { result.items ≡ sums_at self.sums.items (blocks_of self.starts.items) }
     {
-        let mut all = self.sums;
-        let mut sums = Vec::new(alloc);
+        let mut sums = self.sums;
+        let mut count = 0;
         for tile in 0..self.starts.len() {
             if self.starts[tile].is_some() {
-                sums.push(mem::replace(&mut all[tile], Joined::new(alloc)))?;
+                sums.swap(count, tile);
+                count += 1;
             }
         }
-        Ok(sums)
+        sums.truncate(count);
+        sums
     }
 }

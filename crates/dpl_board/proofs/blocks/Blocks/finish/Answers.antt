@@ -3,5 +3,5 @@ use Rattle.dpl_board.proofs.blocks.Blocks.finish.Goals as goal
 
 pub returns : goal.returns
 returns c =
-    let sums = rw (c.deref.ensures.value, c.in_ok-sums.ensures) at c.in_ok-joined.ensures in
+    let sums = rw (c.deref.ensures.value, c.into_sums-sums.ensures) at c.in_ok-joined.ensures in
     rw (← c.self.view_is) (is-whole _ c.in_ok-joined.joined sums)
