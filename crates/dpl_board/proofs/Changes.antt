@@ -1,7 +1,7 @@
 -- What a post and a fold do to a board that keeps blocks.
 use Rattle.std.proofs.Common.{◌≡◌, ◌≢◌, ◌+◌, ◌*◌, ◌/◌, ◌^◌, ◌<◌, ◌≤◌, ℕ, suc, List, [], ◌∷◌, ◌++◌, length, map, get_or, set, take, drop, inl, inr, refl, sym, ap, subst, ◌∙◌, arith, append-nil, None}
 use Rattle.std.specs.Prelude.{Option, Some, vec_capacity}
-use Rattle.std.specs.List.{All, insert, range_with_len, remove}
+use Rattle.std.specs.List.{All, insert, range_with_len}
 use Rattle.std.specs.List.Sorted.{IsPermutation}
 use Rattle.std.proofs.lemmas.List.{get_or-drop, get_or-set_other, get_or-set_same, get_or-take, get_or_default, length-drop, length-map, length-take-le, map-append, take-append-drop}
 use Rattle.std.proofs.lemmas.List.Elements.{All-drop, All-take}
@@ -20,7 +20,7 @@ use Rattle.dpl_board.specs.Boards.{Board, HasPosters, IsPost, Stands, board}
 use Rattle.dpl_board.specs.Starts.{AreAligned, blocks_of}
 use Rattle.dpl_board.specs.declared.tournament.Tournament.{Tournament}
 use Rattle.dpl_board.specs.Tournaments.{IsTournament, leaf_in}
-use Rattle.dpl_board.specs.Blocks.{AreBlocks, AreKept, AreReady, ArePostedTiles, HasAdded, HasFolded, IsFold, IsHalved, IsNoted, end_of, first_in, middle_in, sums_at, tiles_at}
+use Rattle.dpl_board.specs.Blocks.{AreBlocks, AreKept, AreReady, HasAdded, HasFolded, IsFold, IsHalved, IsNoted, end_of, first_in, middle_in, sums_at, tiles_at}
 use Rattle.dpl_board.proofs.Halves.{StandAt, halves-tiles}
 use Rattle.dpl_board.proofs.Keeping.{All-folded, All-insert, begins-behind, blocks-folded, blocks-more, end-stands, ends-before, first-stands, firsts-rise, folded, middle-stands}
 use Rattle.dpl_board.proofs.Noting.{noted-leaves, ready-folded, ready-more, stands}

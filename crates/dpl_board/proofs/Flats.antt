@@ -1,5 +1,5 @@
 -- What is in lists that are put together.
-use Rattle.std.proofs.Common.{ℕ, List, [], ◌∷◌, inl, inr, zero, suc, refl, arith}
+use Rattle.std.proofs.Common.{List, [], ◌∷◌, inl, inr, zero, suc, refl, arith}
 use Rattle.std.specs.List.{Contains, flat_map}
 use Rattle.std.proofs.lemmas.List.Elements.{Contains-append_left, Contains-append_right, Contains-append_cases}
 

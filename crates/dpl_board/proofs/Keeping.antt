@@ -1,22 +1,20 @@
 -- Lists of blocks with one more, or one in place of its halves.
-use Rattle.std.proofs.Common.{◌≡◌, ◌+◌, ◌*◌, ◌-◌, ◌^◌, ◌<◌, ◌≤◌, ℕ, zero, suc, List, [], ◌∷◌, ◌++◌, length, map, get_or, set, take, drop, inl, inr, sym, refl, ap, subst, ◌∙◌, arith, append_assoc, None}
-use Rattle.std.specs.Prelude.{◌⊎◌}
+use Rattle.std.proofs.Common.{◌≡◌, ◌+◌, ◌*◌, ◌-◌, ◌^◌, ◌<◌, ◌≤◌, ℕ, zero, suc, List, [], ◌∷◌, ◌++◌, length, map, get_or, set, take, drop, inl, inr, sym, ap, ◌∙◌, arith, append_assoc, None}
 use Rattle.std.specs.List.{All, AllPairs, Contains, insert, range_with_len, remove}
-use Rattle.std.specs.List.Sorted.{IsPermutation}
 use Rattle.std.proofs.lemmas.Bool.{cases_lt}
 use Rattle.std.proofs.lemmas.Nat.{pow_pos}
-use Rattle.std.proofs.lemmas.List.{drop_more, get_or_default, get_or-map, length-map, length-take-le, map-append, set_at, take-append-drop, take_more}
-use Rattle.std.proofs.lemmas.List.Elements.{All-append, All-cons, All-drop, All-take, All-contains}
+use Rattle.std.proofs.lemmas.List.{drop_more, get_or_default, get_or-map, length-map, length-take-le, set_at, take-append-drop, take_more}
+use Rattle.std.proofs.lemmas.List.Elements.{All-append, All-cons, All-drop, All-take}
 use Rattle.std.proofs.lemmas.List.FromFn.{get_or-range_with_len, length-range_with_len}
 use Rattle.std.proofs.lemmas.List.Kept.{AllPairs-cons}
 use Rattle.std.proofs.lemmas.List.Sorted.{Contains-permutation}
 use Rattle.dpl_board.specs.declared.entry.Entry.{Entry}
 use Rattle.dpl_board.specs.Sheets.{poster_in}
 use Rattle.dpl_board.specs.Summing.{tiles_in, tiles_of}
-use Rattle.dpl_board.specs.Blocks.{AreApart, AreBlocks, ArePostedTiles, end_of, first_in, middle_in, tiles_at}
+use Rattle.dpl_board.specs.Blocks.{AreBlocks, ArePostedTiles, end_of, first_in, middle_in, tiles_at}
 use Rattle.dpl_board.proofs.Flats.{in-flat}
 use Rattle.dpl_board.proofs.Posters.{none-differs}
-use Rattle.dpl_board.proofs.Halves.{AreHalves, StandAt, left-first, middle-first, right-first, size}
+use Rattle.dpl_board.proofs.Halves.{StandAt, left-first, middle-first, right-first, size}
 
 module _ {X : Type 0} where
   pub All-insert : (P : X → Type 0) (xs : List X) (at : ℕ) (y : X) → All P xs → P y → All P (insert xs at y)

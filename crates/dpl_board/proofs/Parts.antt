@@ -1,16 +1,15 @@
 -- Parts of the posted tiles and their summaries, with a part more, or one in place of two.
-use Rattle.std.proofs.Common.{◌≡◌, ◌<◌, ℕ, List, [], ◌∷◌, ◌++◌, length, map, get_or, zero, suc, sym, refl, ap, subst, ◌∙◌, arith, append_assoc, append-nil}
+use Rattle.std.proofs.Common.{◌≡◌, ◌<◌, ℕ, List, [], ◌∷◌, ◌++◌, length, get_or, zero, suc, sym, ap, subst, ◌∙◌, arith, append_assoc}
 use Rattle.std.specs.List.{AllZip}
 use Rattle.std.specs.List.Sorted.{IsPermutation}
 use Rattle.std.proofs.lemmas.List.{map-append}
-use Rattle.std.proofs.lemmas.List.Sorted.{IsPermutation-append_left, IsPermutation-cons, IsPermutation-middle, IsPermutation-sym, IsPermutation-to_front, IsPermutation-trans}
+use Rattle.std.proofs.lemmas.List.Sorted.{IsPermutation-cons, IsPermutation-middle, IsPermutation-sym, IsPermutation-to_front, IsPermutation-trans}
 use Rattle.std.proofs.lemmas.Grind.{flat_map-append}
 use Rattle.dpl_stars.specs.declared.joined.Joined.{Joined}
 use Rattle.dpl_stars.specs.Sums.{Sums}
 use Rattle.dpl_board.specs.declared.entry.Entry.{Entry}
-use Rattle.dpl_board.specs.Sheets.{Sheet, edges_at}
+use Rattle.dpl_board.specs.Sheets.{Sheet}
 use Rattle.dpl_board.specs.Summing.{AreSums, edges_in, tiles_in, tiles_of}
-use Rattle.dpl_board.specs.Boards.{Board, Stands}
 
 zip-append : {A B : Type 0} (R : A → B → Type 0) (xs us : List A) (ys vs : List B) → AllZip R xs ys → AllZip R us vs → AllZip R (xs ++ us) (ys ++ vs)
 zip-append R [] us [] vs first second = second

@@ -1,6 +1,5 @@
-use Rattle.std.proofs.Common.{rules, ◌≡◌, ◌+◌, ◌/◌, ◌^◌, ◌<◌, ◌≤◌, ℕ, None, Some, get_or, arith, sym, ◌∙◌}
+use Rattle.std.proofs.Common.{rules, ◌/◌, ◌^◌, arith}
 use Rattle.std.proofs.lemmas.Nat.{shr-shr, shr_le}
-use Rattle.dpl_board.specs.Blocks.{first_in, middle_in}
 use Rattle.dpl_board.proofs.Tables.{no-start, no-whole, start-size, whole-there}
 use Rattle.dpl_board.proofs.kept.whole_at.Goals.{else-begins-via-then-begins+else-begins-2, else-begins-via-else-begins}
 use Rattle.dpl_board.proofs.kept.whole_at.Goals as goal

@@ -1,6 +1,6 @@
-use Rattle.std.proofs.Common.{rules, ◌≡◌, ◌<◌, refl, ◌∙◌, ap, arith, length}
+use Rattle.std.proofs.Common.{rules, ◌≡◌, refl, ◌∙◌, ap, arith, length}
 use Rattle.std.specs.Prelude.{vec_capacity, vec_len}
-use Rattle.dpl_board.specs.Blocks.{AreKept, IsFold, IsHalved}
+use Rattle.dpl_board.specs.Blocks.{AreKept, IsFold}
 use Rattle.dpl_board.specs.Starts.{blocks_of}
 use Rattle.dpl_board.proofs.Changes.{folded-aligned, folded-blocks, folded-low, folded-within, kept-folded, shown}
 use Rattle.dpl_board.proofs.Noting.{halved-size}

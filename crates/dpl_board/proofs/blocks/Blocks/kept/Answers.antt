@@ -1,4 +1,4 @@
-use Rattle.std.proofs.Common.{◌≡◌, ◌∙◌, ℕ, List, map, refl, ap}
+use Rattle.std.proofs.Common.{◌≡◌, ◌∙◌, map, refl, ap}
 use Rattle.dpl_board.specs.Boards.{Board}
 use Rattle.dpl_board.specs.Starts.{blocks_of}
 use Rattle.dpl_board.specs.Blocks.{tiles_at}

@@ -1,4 +1,4 @@
-use Rattle.std.proofs.Common.{◌≡◌, arith, vec_len, length, rules}
+use Rattle.std.proofs.Common.{arith}
 use Rattle.dpl_board.specs.Starts.{blocks_of}
 use Rattle.dpl_board.proofs.Noting.{halved-first, halved-size, middle-within}
 use Rattle.dpl_board.proofs.kept.Kept.fold.Goals as goal

@@ -1,4 +1,4 @@
-use Rattle.std.proofs.Common.{rules, ◌≡◌, ◌<◌, ◌∙◌, ℕ, length, sym, arith}
+use Rattle.std.proofs.Common.{rules, ◌≡◌, ◌<◌, ◌∙◌, length, sym, arith}
 use Rattle.std.specs.Prelude.{vec_len}
 use Rattle.dpl_board.proofs.Gathers.{gathered-none, gathered-some}
 use Rattle.dpl_board.proofs.Posters.{none-from, read-at, some-from}

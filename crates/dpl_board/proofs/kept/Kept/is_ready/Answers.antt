@@ -1,4 +1,4 @@
-use Rattle.std.proofs.Common.{◌≡◌, ◌<◌, ◌≤◌, arith, inl, inr}
+use Rattle.std.proofs.Common.{arith, inl, inr}
 use Rattle.dpl_board.specs.Starts.{blocks_of}
 use Rattle.dpl_board.proofs.Noting.{halved-size}
 use Rattle.dpl_board.proofs.kept.Kept.is_ready.Goals as goal

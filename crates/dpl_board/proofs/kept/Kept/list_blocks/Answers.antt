@@ -1,4 +1,4 @@
-use Rattle.std.proofs.Common.{rules, ◌≡◌, ◌<◌, ◌≤◌, ◌∙◌, ◌/◌, ◌^◌, ◌++◌, ◌∷◌, [], List, ℕ, None, Some, length, get_or, arith, sym, ap, Bool, false, true}
+use Rattle.std.proofs.Common.{rules, ◌≡◌, ◌<◌, ◌∙◌, ◌/◌, ◌^◌, ◌++◌, ◌∷◌, [], List, ℕ, None, length, get_or, arith, sym, ap, Bool, false, true}
 use Rattle.std.specs.Prelude.{Option, vec_len}
 use Rattle.std.proofs.lemmas.List.{get_or_default}
 use Rattle.dpl_board.proofs.Tables.{few-before, next-none, next-some, start-size}

@@ -1,4 +1,4 @@
-use Rattle.std.proofs.Common.{◌≡◌, ◌≤◌, ℕ, take}
+use Rattle.std.proofs.Common.{◌≡◌, ◌≤◌, take}
 use Rattle.std.specs.Prelude.{vec_capacity}
 use Rattle.dpl_board.specs.Starts.{blocks_of}
 use Rattle.dpl_board.proofs.kept.Kept.list_blocks.Given as goal

@@ -1,4 +1,4 @@
-use Rattle.std.proofs.Common.{rules, ◌≡◌, ◌∙◌, ◌++◌, ◌∷◌, [], arith}
+use Rattle.std.proofs.Common.{rules, ◌≡◌, ◌∙◌, ◌++◌, ◌∷◌, []}
 use Rattle.dpl_board.proofs.Posters.{posters-more}
 use Rattle.dpl_board.proofs.posts.Posts.add.Goals as goal
 

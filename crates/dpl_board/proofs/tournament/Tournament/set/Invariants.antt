@@ -1,5 +1,5 @@
 use Rattle.std.proofs.Common.{ℕ, ◌≡◌, ◌≢◌, ◌+◌, ◌/◌, ◌<◌, ◌≤◌, length}
-use Rattle.dpl_board.specs.Tournaments.{IsLesserAt, leaf_in, node_in}
+use Rattle.dpl_board.specs.Tournaments.{IsLesserAt, leaf_in}
 use Rattle.dpl_board.proofs.tournament.Tournament.set.Given as goal
 
 abbrev pub invariant-loop-node : goal.invariant-loop-node
