@@ -1,6 +1,7 @@
 //! What a file holds: lines and JSON.
+use dpl_show::{content_json, content_lines};
 use dpl_test_sample::{Part, Rectangle, layout};
-use dpl_view::{Look, content_json, content_lines, look_into};
+use dpl_view::{Look, look_into};
 use std::alloc::Global;
 use std::process::Abort;
 use std::test::Fail;

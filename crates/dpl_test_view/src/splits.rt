@@ -4,11 +4,11 @@ ghost use Rattle.dpl_view.specs.Findings.{IsInRange};
 use dpl_answer::Sharing;
 use dpl_layer::LayerChoice;
 use dpl_pool::OpenGate;
-use dpl_test_sample::{Rectangle, bars};
-use dpl_view::{
-    Finding, Order, Seams, Split, conflict_json, conflict_lines, cycle_markers, find,
-    find_stitches, stitch_json, stitch_lines, stitch_markers,
+use dpl_show::{
+    conflict_json, conflict_lines, cycle_markers, stitch_json, stitch_lines, stitch_markers,
 };
+use dpl_test_sample::{Rectangle, bars};
+use dpl_view::{Finding, Order, Seams, Split, find, find_stitches};
 use std::alloc::Global;
 use std::process::Abort;
 use std::sync::Wait;

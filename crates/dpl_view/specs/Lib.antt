@@ -4,5 +4,4 @@ pub mod Findings
 pub mod Layers
 pub mod Marks
 pub mod Ranks
-pub mod Requests
 pub mod Stitches

@@ -1,4 +1,4 @@
-//! The lengths of a layout in micrometres, and the name of its top structure.
+//! What the records before the elements tell: the units of a layout, and the name of its top structure.
 use dpl_records::{name_of, next_record};
 use std::alloc::{AllocError, Global};
 use std::num::nearest_u64_to_f64;
@@ -26,7 +26,7 @@ fn body_of(copied: &[u8], kind: u8) -> Option<&[u8]> {
 }
 
 /// The name of the top structure among the copied records.
-pub(crate) fn top_name(copied: &[u8]) -> &str {
+pub fn top_name(copied: &[u8]) -> &str {
     match body_of(copied, STRNAME) {
         Some(body) => str::from_utf8(name_of(body)).unwrap_or("TOP"),
         None => "TOP",
@@ -82,7 +82,7 @@ fn float_of(real: &[u8]) -> f64 {
 }
 
 /// How many millionths of a micrometre a database unit has, by the record UNITS, to the nearest whole number.
-pub(crate) fn unit_of(copied: &[u8]) -> u64 {
+pub fn unit_of(copied: &[u8]) -> u64 {
     let Some(body) = body_of(copied, UNITS) else {
         return USUAL;
     };
@@ -113,13 +113,4 @@ fn millionths(real: &[u8]) -> u64 {
     let scaled = u128::from(mantissa) * 1_000_000_000_000;
     let rounded = ((scaled >> (down - 1)) + 1) >> 1;
     u64::try_from(rounded).unwrap_or(0)
-}
-
-/// A coordinate as a text, in micrometres.
-pub(crate) fn length(alloc: Global, value: i64, unit: u64) -> Result<String, AllocError> {
-    let all = u128::from(value.unsigned_abs()) * u128::from(unit);
-    let sign = if value < 0 { "-" } else { "" };
-    let whole = all / 1_000_000;
-    let rest = all % 1_000_000;
-    format!(in alloc; "{sign}{whole}.{rest:06}")
 }

@@ -8,11 +8,13 @@ ghost use Rattle.dpl_view.specs.Findings.{IsInRange};
 use dpl_cert::Name;
 use dpl_host::MAX_BYTES;
 use dpl_pool::OpenGate;
-use dpl_view::{
-    FileOptions, Finding, Look, Request, Seams, Split, SplitOptions, Status, conflict_json,
-    conflict_line, conflict_lines, content_json, content_lines, cycle_markers, find, find_stitches,
-    look_into, no_masks_json, read_words, refused_json, refused_line, status_by, status_by_split,
+use dpl_show::{
+    FileOptions, Request, SplitOptions, conflict_json, conflict_line, conflict_lines, content_json,
+    content_lines, cycle_markers, no_masks_json, read_words, refused_json, refused_line,
     stitch_json, stitch_lines, stitch_markers,
+};
+use dpl_view::{
+    Finding, Look, Seams, Split, Status, find, find_stitches, look_into, status_by, status_by_split,
 };
 use std::alloc::{AllocError, Global};
 use std::fs::File;

@@ -1,10 +1,10 @@
 //! Marker databases of KLayout's.
-use crate::finding::Cycles;
-use crate::units::{length, top_name, unit_of};
 use dpl_answer::Clash;
 use dpl_base::{Pt, Rect};
 use dpl_cert::{NearLine, StitchLine};
+use dpl_view::{Cycles, top_name, unit_of};
 use std::alloc::{AllocError, Global};
+use std::fmt::Write;
 
 /// What a marker database is about: its title, its category, and what a marker of that means.
 #[derive(Clone, Copy)]
@@ -31,10 +31,11 @@ pub fn cycle_markers(alloc: Global, found: &Cycles) -> Result<String, AllocError
     let cell = escaped(alloc, top_name(found.copied.as_slice()))?;
     let unit = unit_of(found.copied.as_slice());
     let mut text = head(alloc, &CYCLES, cell.as_str())?;
+    let front = front(alloc, CYCLES.category, cell.as_str())?;
     let mut number: u64 = 0;
     for clash in &found.tangles.clashes {
         number = number.saturating_add(1);
-        put_cycle(alloc, &mut text, cell.as_str(), unit, number, clash)?;
+        put_cycle(&mut text, front.as_str(), unit, number, clash)?;
     }
     text.push_str(TAIL)?;
     Ok(text)
@@ -49,15 +50,9 @@ pub fn stitch_markers(
     let cell = escaped(alloc, top_name(copied))?;
     let unit = unit_of(copied);
     let mut text = head(alloc, &STITCHES, cell.as_str())?;
+    let front = front(alloc, STITCHES.category, cell.as_str())?;
     for stitch in stitches {
-        begin(&mut text, STITCHES.category, cell.as_str())?;
-        let words = format!(in alloc;
-            "text: 'stitch between the pieces {} and {}'",
-            stitch.p, stitch.q
-        )?;
-        put_value(&mut text, words.as_str())?;
-        put_value(&mut text, rectangle(alloc, &stitch.rect, unit)?.as_str())?;
-        end(&mut text)?;
+        put_stitch(&mut text, front.as_str(), unit, stitch)?;
     }
     text.push_str(TAIL)?;
     Ok(text)
@@ -109,84 +104,134 @@ fn escaped(alloc: Global, text: &str) -> Result<String, AllocError> {
     Ok(out)
 }
 
+/// What stands before the values of a marker.
+fn front(alloc: Global, category: &str, cell: &str) -> Result<String, AllocError> {
+    format!(in alloc;
+        "  <item>
+   <tags/>
+   <category>{category}</category>
+   <cell>{cell}</cell>
+   <visited>false</visited>
+   <multiplicity>1</multiplicity>
+   <values>
+"
+    )
+}
+
+/// What stands behind the values of a marker.
+const BACK: &str = "   </values>\n  </item>\n";
+
 /// Adds the markers of one cycle.
 fn put_cycle(
-    alloc: Global,
     text: &mut String,
-    cell: &str,
+    front: &str,
     unit: u64,
     number: u64,
     clash: &Clash,
 ) -> Result<(), AllocError> {
     let count = clash.cycle.items().len();
-    begin(text, CYCLES.category, cell)?;
-    let words = format!(in alloc; "text: 'odd cycle {number}: {count} pieces'")?;
-    put_value(text, words.as_str())?;
+    text.push_str(front)?;
+    write!(
+        text,
+        "    <value>text: 'odd cycle {number}: {count} pieces'</value>\n"
+    )?;
     for near in clash.near.items() {
-        put_value(text, edge(alloc, near, unit)?.as_str())?;
+        put_edge(text, near, unit)?;
     }
-    end(text)?;
+    text.push_str(BACK)?;
     for (place, near) in clash.cycle.items().iter().zip(clash.near.items()) {
-        begin(text, CYCLES.category, cell)?;
-        let words = format!(in alloc; "text: 'odd cycle {number}: piece {}'", place.piece)?;
-        put_value(text, words.as_str())?;
-        put_value(text, square(alloc, &near.from, unit)?.as_str())?;
-        put_value(text, square(alloc, &near.to, unit)?.as_str())?;
-        put_value(text, edge(alloc, near, unit)?.as_str())?;
-        end(text)?;
+        text.push_str(front)?;
+        put_conflict(text, unit, number, place.piece, near)?;
+        text.push_str(BACK)?;
     }
     Ok(())
 }
 
-/// Begins a marker.
-fn begin(text: &mut String, category: &str, cell: &str) -> Result<(), AllocError> {
-    text.push_str("  <item>\n   <tags/>\n   <category>")?;
-    text.push_str(category)?;
-    text.push_str("</category>\n   <cell>")?;
-    text.push_str(cell)?;
-    text.push_str(
-        "</cell>\n   <visited>false</visited>\n   <multiplicity>1</multiplicity>\n   <values>\n",
-    )
+/// Adds the values of the marker of a conflict of a cycle.
+fn put_conflict(
+    text: &mut String,
+    unit: u64,
+    number: u64,
+    piece: u64,
+    near: &NearLine,
+) -> Result<(), AllocError> {
+    write!(
+        text,
+        "    <value>text: 'odd cycle {number}: piece {piece}'</value>\n"
+    )?;
+    put_square(text, &near.from, unit)?;
+    put_square(text, &near.to, unit)?;
+    put_edge(text, near, unit)
 }
 
-/// Ends a marker.
-fn end(text: &mut String) -> Result<(), AllocError> {
-    text.push_str("   </values>\n  </item>\n")
+/// Adds the marker of a stitch.
+fn put_stitch(
+    text: &mut String,
+    front: &str,
+    unit: u64,
+    stitch: &StitchLine,
+) -> Result<(), AllocError> {
+    text.push_str(front)?;
+    write!(
+        text,
+        "    <value>text: 'stitch between the pieces {} and {}'</value>\n",
+        stitch.p, stitch.q
+    )?;
+    put_rectangle(text, &stitch.rect, unit)?;
+    text.push_str(BACK)
 }
 
-/// Adds a value of a marker.
-fn put_value(text: &mut String, value: &str) -> Result<(), AllocError> {
+/// Adds a coordinate in micrometres.
+fn put_length(text: &mut String, value: i64, unit: u64) -> Result<(), AllocError> {
+    let all = u128::from(value.unsigned_abs()) * u128::from(unit);
+    let sign = if value < 0 { "-" } else { "" };
+    let whole = all / 1_000_000;
+    let rest = all % 1_000_000;
+    write!(text, "{sign}{whole}.{rest:06}")
+}
+
+/// Adds a point in micrometres.
+fn put_point(text: &mut String, x: i64, y: i64, unit: u64) -> Result<(), AllocError> {
+    put_length(text, x, unit)?;
+    text.push_str(",")?;
+    put_length(text, y, unit)
+}
+
+/// Adds a value of two points.
+fn put_value(
+    text: &mut String,
+    kind: &str,
+    from: (i64, i64),
+    to: (i64, i64),
+    unit: u64,
+) -> Result<(), AllocError> {
     text.push_str("    <value>")?;
-    text.push_str(value)?;
-    text.push_str("</value>\n")
+    text.push_str(kind)?;
+    text.push_str(": (")?;
+    put_point(text, from.0, from.1, unit)?;
+    text.push_str(";")?;
+    put_point(text, to.0, to.1, unit)?;
+    text.push_str(")</value>\n")
 }
 
-/// A point in micrometres.
-fn point(alloc: Global, x: i64, y: i64, unit: u64) -> Result<String, AllocError> {
-    let (x, y) = (length(alloc, x, unit)?, length(alloc, y, unit)?);
-    format!(in alloc; "{x},{y}")
+/// Adds a unit square as a box.
+fn put_square(text: &mut String, p: &Pt, unit: u64) -> Result<(), AllocError> {
+    let high = (p.x.saturating_add(1), p.y.saturating_add(1));
+    put_value(text, "box", (p.x, p.y), high, unit)
 }
 
-/// A unit square as a box.
-fn square(alloc: Global, p: &Pt, unit: u64) -> Result<String, AllocError> {
-    let low = point(alloc, p.x, p.y, unit)?;
-    let high = point(alloc, p.x.saturating_add(1), p.y.saturating_add(1), unit)?;
-    format!(in alloc; "box: ({low};{high})")
+/// Adds a rectangle as a box.
+fn put_rectangle(text: &mut String, rect: &Rect, unit: u64) -> Result<(), AllocError> {
+    let low = (i64::from(rect.x0), i64::from(rect.y0));
+    let high = (i64::from(rect.x1), i64::from(rect.y1));
+    put_value(text, "box", low, high, unit)
 }
 
-/// A rectangle as a box.
-fn rectangle(alloc: Global, rect: &Rect, unit: u64) -> Result<String, AllocError> {
-    let low = point(alloc, i64::from(rect.x0), i64::from(rect.y0), unit)?;
-    let high = point(alloc, i64::from(rect.x1), i64::from(rect.y1), unit)?;
-    format!(in alloc; "box: ({low};{high})")
-}
-
-/// The shortest line from one unit square to another.
-fn edge(alloc: Global, near: &NearLine, unit: u64) -> Result<String, AllocError> {
+/// Adds the shortest line from one unit square to another.
+fn put_edge(text: &mut String, near: &NearLine, unit: u64) -> Result<(), AllocError> {
     let (x0, x1) = ends(near.from.x, near.to.x);
     let (y0, y1) = ends(near.from.y, near.to.y);
-    let (from, to) = (point(alloc, x0, y0, unit)?, point(alloc, x1, y1, unit)?);
-    format!(in alloc; "edge: ({from};{to})")
+    put_value(text, "edge", (x0, y0), (x1, y1), unit)
 }
 
 /// Where the shortest line between two unit squares ends, along one axis.

@@ -1,13 +1,13 @@
 //! The command line of `dplview`, read with `clap`.
 ghost use Rattle.std.specs.Prelude.{◌≤◌, IfOk, IfSome};
 ghost use Rattle.dpl_view.specs.Findings.{IsInRange};
-ghost use Rattle.dpl_view.specs.Requests.{IsSound};
+ghost use Rattle.dpl_show.specs.Requests.{IsSound};
 
-use crate::finding::Order;
 use clap::error::ErrorKind;
 use clap::{Arg, ArgAction, ArgMatches, Command, Error, value_parser};
 use dpl_answer::Sharing;
 use dpl_layer::LayerChoice;
+use dpl_view::Order;
 use std::alloc::{AllocError, Global};
 
 /// What a command line asks for.
