@@ -181,9 +181,9 @@ fn put_stitch(
     text.push_str(BACK)
 }
 
-/// Adds a coordinate in micrometres.
+/// Adds a coordinate in micrometres. A coordinate has at most 32 bits, and a unit at most 32, so nothing saturates.
 fn put_length(text: &mut String, value: i64, unit: u64) -> Result<(), AllocError> {
-    let all = u128::from(value.unsigned_abs()) * u128::from(unit);
+    let all = value.unsigned_abs().saturating_mul(unit);
     let sign = if value < 0 { "-" } else { "" };
     let whole = all / 1_000_000;
     let rest = all % 1_000_000;

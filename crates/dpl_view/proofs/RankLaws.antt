@@ -1,5 +1,5 @@
 -- The ranks of layers, and the layers of ranks.
-use Rattle.std.proofs.Common.{◌≡◌, ℕ, ◌+◌, ◌<◌, ◌≤◌, inl, inr, List, [], ◌∷◌, ◌++◌, map, take, length, get_or, Option, Some, None, sym, refl, ap, subst, ◌∙◌, arith}
+use Rattle.std.proofs.Common.{◌≡◌, ℕ, Bool, ◌+◌, ◌<◌, ◌≤◌, inl, inr, List, [], ◌∷◌, ◌++◌, map, take, length, get_or, Option, Some, None, sym, refl, ap, subst, ◌∙◌, arith}
 use Rattle.std.specs.Prelude.{IfSome, option_map}
 use Rattle.std.specs.Option.{option_to_list}
 use Rattle.std.specs.List.{Contains}
@@ -10,13 +10,13 @@ use Rattle.std.proofs.Math.ListN.{length-map}
 use Rattle.std.proofs.lemmas.List.Elements.{Contains-push, Contains-push_cases, Contains-append_left, Contains-append_cases}
 use Rattle.std.proofs.lemmas.List.Kept.{AllPairs-from_increasing}
 use Rattle.std.proofs.lemmas.Option.{slice_get_past}
-use Rattle.dpl_spec_format.specs.Tree.{Library, Element as TreeElement, elements_at, elements_or_none}
+use Rattle.dpl_spec_format.specs.Tree.{Library, Body as TreeBody, Element as TreeElement, elements_at, elements_or_none}
 use Rattle.dpl_spec_layout.specs.declared.Layer.{Layer}
 use Rattle.dpl_syntax.specs.Elements.{element_seen}
 use Rattle.dpl_syntax.specs.declared.element.Element.{Element}
 use Rattle.dpl_view.specs.declared.counts.LayerCounts.{LayerCounts}
-use Rattle.dpl_view.specs.Layers.{AreLayerCounts, IsBefore, layer_in}
-use Rattle.dpl_view.specs.Ranks.{rank_of, ranks_in, IsNarrow, HasRank, AreNoted, AreRanks, IsEntryOf, AreEntries}
+use Rattle.dpl_view.specs.Layers.{AreLayerCounts, IsBefore, count_of, layer_in}
+use Rattle.dpl_view.specs.Ranks.{rank_of, ranks_in, IsNarrow, HasRank, AreNoted, AreRanks, IsEntryOf, AreEntries, AreInOrder, IsListed}
 
 -- ---- one element more
 
@@ -117,22 +117,22 @@ ranks-more lib n old new noted h = record {
 
 -- ---- entries
 
-pub entries-none : (lib : Library) (ranks : List ℕ) (found : List LayerCounts) → found ≡ [] → AreEntries lib ranks 0 found
-entries-none lib ranks found empty = record { each = ap (λ (xs : List LayerCounts). length xs) empty; entry = λ k d l. absurd (omega (arith, l)) }
+pub entries-none : (count : (TreeBody → Bool) → ℕ) (ranks : List ℕ) (found : List LayerCounts) → found ≡ [] → AreEntries count ranks 0 found
+entries-none count ranks found empty = record { each = ap (λ (xs : List LayerCounts). length xs) empty; entry = λ k d l. absurd (omega (arith, l)) }
 
-pub entries-more : (lib : Library) (ranks : List ℕ) (n : ℕ) (found more : List LayerCounts) (x : LayerCounts) → more ≡ found ++ x ∷ []
-    → IsEntryOf lib (get_or ranks n 0) x → AreEntries lib ranks n found → AreEntries lib ranks (n + 1) more
-entries-more lib ranks n found more x longer is h =
+pub entries-more : (count : (TreeBody → Bool) → ℕ) (ranks : List ℕ) (n : ℕ) (found more : List LayerCounts) (x : LayerCounts) → more ≡ found ++ x ∷ []
+    → IsEntryOf count (get_or ranks n 0) x → AreEntries count ranks n found → AreEntries count ranks (n + 1) more
+entries-more count ranks n found more x longer is h =
     let each = h.each in
     record {
       each = ap (λ (xs : List LayerCounts). length xs) longer ∙ (length_push found x ∙ ap (λ k. k + 1) each);
       entry = λ k d l. elim (cases_eq k n) [
         | inl same ↦
             let this : x ≡ get_or more k d = sym (ap (λ xs. get_or xs k d) longer ∙ get_or_push found x d k (each ∙ sym same)) in
-            subst (λ y. IsEntryOf lib (get_or ranks k 0) y) this (subst (λ j. IsEntryOf lib (get_or ranks j 0) x) (sym same) is)
+            subst (λ y. IsEntryOf count (get_or ranks k 0) y) this (subst (λ j. IsEntryOf count (get_or ranks j 0) x) (sym same) is)
         | inr ne ↦
             let this : get_or found k d ≡ get_or more k d = sym (ap (λ xs. get_or xs k d) longer ∙ get_or_append_left found (x ∷ []) d k (omega (arith, l, ne, each))) in
-            subst (λ y. IsEntryOf lib (get_or ranks k 0) y) this (h.entry k d (omega (arith, l, ne)))
+            subst (λ y. IsEntryOf count (get_or ranks k 0) y) this (h.entry k d (omega (arith, l, ne)))
       ];
     }
 
@@ -175,7 +175,7 @@ layer-at found k d l = get_or-map (λ (x : LayerCounts). x.layer) found k no_ent
 
 pub layers-of : (lib : Library) (all ranks : List ℕ) (found : List LayerCounts) → AreRanks lib (length lib.structures) all → IsStrictlyIncreasing ranks
     → ((r : ℕ) → Contains all r → Contains ranks r) → ((r : ℕ) → Contains ranks r → Contains all r) → (n : ℕ) → length ranks ≤ n → n ≤ length ranks
-    → AreEntries lib ranks n found → AreLayerCounts lib found
+    → AreEntries (count_of lib) ranks n found → AreLayerCounts lib found
 layers-of lib all ranks found are rises keeps adds n low high h =
     let each = h.each in
     let long : length (layers found) ≡ length found = simp length-map in
@@ -216,3 +216,20 @@ layers-of lib all ranks found are rises keeps adds n low high h =
       };
       counts = λ k d l. (h.entry k d (omega (arith, l, each))).counts;
     }
+
+-- ---- what the entries of sorted ranks are asked
+
+pub in-order : (count : (TreeBody → Bool) → ℕ) (ranks : List ℕ) (n : ℕ) (found : List LayerCounts) → n ≡ length ranks → IsStrictlyIncreasing ranks
+    → AreEntries count ranks n found → AreInOrder ranks found
+in-order count ranks n found all rises h =
+    let each = h.each in
+    record { rises = rises; each = h.each ∙ all; rank = λ k d l. (h.entry k d (omega (arith, l, each))).rank }
+
+pub all-listed : (lib : Library) (all ranks : List ℕ) → AreRanks lib (length lib.structures) all → ((r : ℕ) → Contains all r → Contains ranks r) → (k : ℕ) (e : TreeElement)
+    → Contains (elements_at lib k) e → IsListed ranks e.body
+all-listed lib all ranks are keeps k e there = by (layer_in e.body) refl
+  where
+    by : (o : Option Layer) → layer_in e.body ≡ o → IfSome o (λ layer. Contains ranks (rank_of layer))
+    by None is = tt
+    by (Some layer) is = keeps (rank_of layer) ((are.exactly (rank_of layer)).1
+        (k, known lib k e there, record { element = e; layer = layer; inside = there; lies = is; rank = refl }))

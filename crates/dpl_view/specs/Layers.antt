@@ -1,5 +1,5 @@
 -- Which layers the elements of a library lie on, and how many elements of each kind.
-use Rattle.std.specs.Prelude.{◌≡◌, ℕ, ◌+◌, ◌-◌, ◌<◌, ◌↔◌, Bool, false, ℤ, pos, negsuc, List, map, Option, Some, None, sum_by, count_by}
+use Rattle.std.specs.Prelude.{◌≡◌, ℕ, ◌+◌, ◌-◌, ◌<◌, ◌↔◌, Bool, false, ℤ, pos, negsuc, List, map, Option, Some, None, sum_by, count_by, length, slice_index_or}
 use Rattle.std.specs.List.{All, AllPairs, Contains}
 use Rattle.dpl_spec_split.specs.Graphs.{Precedes}
 use Rattle.dpl_spec_format.specs.Tree.{Library, Structure, Element, Body, is_boundary, is_path, is_sref, is_aref, is_text, is_node, is_box, elements_at}
@@ -68,12 +68,19 @@ pub record HasRoom (c : Counts) : Type 0 where
   pub texts : c.texts < 18446744073709551615
   pub nodes : c.nodes < 18446744073709551615
 
-pub record AddsUp (a b sum : Counts) : Type 0 where
-  pub boundaries : sum.boundaries ≡ a.boundaries + b.boundaries
-  pub paths : sum.paths ≡ a.paths + b.paths
-  pub boxes : sum.boxes ≡ a.boxes + b.boxes
-  pub texts : sum.texts ≡ a.texts + b.texts
-  pub nodes : sum.nodes ≡ a.nodes + b.nodes
+-- b counts, on the layer of a, so many more of each kind
+pub record IsMore (more : (Body → Bool) → ℕ) (a b : LayerCounts) : Type 0 where
+  pub layer : b.layer ≡ a.layer
+  pub boundaries : b.counts.boundaries ≡ a.counts.boundaries + more (is_boundary_on a.layer)
+  pub paths : b.counts.paths ≡ a.counts.paths + more (is_path_on a.layer)
+  pub boxes : b.counts.boxes ≡ a.counts.boxes + more (is_box_on a.layer)
+  pub texts : b.counts.texts ≡ a.counts.texts + more (is_text_on a.layer)
+  pub nodes : b.counts.nodes ≡ a.counts.nodes + more (is_node_on a.layer)
+
+-- each entry counts so many more on its layer
+pub record AreMore (more : (Body → Bool) → ℕ) (old new : List LayerCounts) : Type 0 where
+  pub as_many : length new ≡ length old
+  pub each : (k : ℕ) (d : LayerCounts) → k < length old → IsMore more (slice_index_or old k d) (slice_index_or new k d)
 
 -- some element of the file lies on the layer
 abbrev pub IsUsed : Library → Layer → Type 0

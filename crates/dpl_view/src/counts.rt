@@ -1,13 +1,12 @@
 //! How many elements of each kind lie on a layer.
-ghost use Rattle.std.specs.Prelude.{◌≡◌, ◌+◌, ◌≤◌, IfOk, IfSome, cond, map};
+ghost use Rattle.std.specs.Prelude.{◌≡◌, ◌+◌, ◌≤◌, IsTrue, cond};
 ghost use Rattle.dpl_spec_layout.specs.declared.Layer.{Layer as TreeLayer};
 ghost use Rattle.dpl_spec_layout.specs.Elements.{is_on as is_on_layer};
-ghost use Rattle.dpl_syntax.specs.Elements.{body_seen, element_seen};
-ghost use Rattle.dpl_view.specs.Layers.{AddsUp, AreCounts, HasRoom, count_in, count_of, is_boundary_on, is_box_on, is_node_on, is_path_on, is_text_on, unsigned as unsigned_of};
+ghost use Rattle.dpl_syntax.specs.Elements.{body_seen};
+ghost use Rattle.dpl_view.specs.Layers.{AreCounts, HasRoom, is_boundary_on, is_box_on, is_node_on, is_path_on, is_text_on, unsigned as unsigned_of};
 
 use dpl_flatten::Layer;
-use dpl_syntax::{Body, Element, Library};
-use std::alloc::AllocError;
+use dpl_syntax::Body;
 
 /// How many elements of each kind there are.
 #[derive(Clone, Copy, Debug, PartialEq, Eq)]
@@ -56,7 +55,7 @@ fn one_if(holds: bool) -> u64
 
 impl Counts {
     /// No element.
-    fn none() -> Counts
+    pub(crate) fn none() -> Counts
         ensures { (layer : TreeLayer) → AreCounts (λ test. 0) layer result }
     {
         Counts {
@@ -68,8 +67,19 @@ impl Counts {
         }
     }
 
+    /// Whether one more of each kind has its place.
+    pub(crate) fn has_room(&self) -> bool
+        ensures { IsTrue result → HasRoom self.now }
+    {
+        self.boundaries < u64::MAX
+            && self.paths < u64::MAX
+            && self.boxes < u64::MAX
+            && self.texts < u64::MAX
+            && self.nodes < u64::MAX
+    }
+
     /// One element more.
-    fn with(self, chosen: Layer, body: &Body<'_>) -> Counts
+    pub(crate) fn with(self, chosen: Layer, body: &Body<'_>) -> Counts
         requires { HasRoom self }
         ensures boundaries { result.boundaries ≡ self.boundaries + cond (is_boundary_on chosen (body_seen body.now)) 1 0 }
         ensures paths { result.paths ≡ self.paths + cond (is_path_on chosen (body_seen body.now)) 1 0 }
@@ -106,45 +116,4 @@ impl Counts {
         }
         counts
     }
-
-    /// Both counts together; None where a number has no place.
-    fn plus(self, other: Counts) -> Option<Counts>
-        ensures { IfSome result (λ sum. AddsUp self other sum) }
-    {
-        Some(Counts {
-            boundaries: self.boundaries.checked_add(other.boundaries)?,
-            paths: self.paths.checked_add(other.paths)?,
-            boxes: self.boxes.checked_add(other.boxes)?,
-            texts: self.texts.checked_add(other.texts)?,
-            nodes: self.nodes.checked_add(other.nodes)?,
-        })
-    }
-}
-
-/// How many of some elements lie on a layer.
-fn counts_in(elements: &[Element<'_>], chosen: Layer) -> Counts
-    ensures { AreCounts (λ test. count_in test (map element_seen elements.now)) chosen result }
-{
-    let mut counts = Counts::none();
-    for element in elements {
-        counts = counts.with(chosen, &element.body);
-    }
-    counts
-}
-
-/// How many elements of a file lie on a layer, whatever structure they stand in.
-///
-/// The error: there are more than 2^64 of a kind, for which no memory is there.
-pub(crate) fn counts_on(lib: &Library<'_>, chosen: Layer) -> Result<Counts, AllocError>
-    ensures { IfOk result (AreCounts (count_of lib.now) chosen) }
-{
-    let mut counts = Counts::none();
-    for structure in 0..lib.count() {
-        let more = counts_in(lib.elements(structure), chosen);
-        match counts.plus(more) {
-            Some(sum) => counts = sum,
-            None => return Err(AllocError),
-        }
-    }
-    Ok(counts)
 }

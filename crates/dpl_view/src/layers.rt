@@ -4,9 +4,10 @@ ghost use Rattle.std.specs.List.{Contains};
 ghost use Rattle.std.specs.List.Sorted.{IsStrictlyIncreasing};
 ghost use Rattle.dpl_syntax.specs.Elements.{body_seen, element_seen};
 ghost use Rattle.dpl_view.specs.Layers.{AreLayerCounts, layer_in};
-ghost use Rattle.dpl_view.specs.Ranks.{AreNoted, AreRanks, IsEntryOf, IsNarrow, rank_of, ranks_in};
+ghost use Rattle.dpl_view.specs.Ranks.{AreNoted, AreRanks, IsNarrow, rank_of, ranks_in};
 
-use crate::counts::{LayerCounts, counts_on, unsigned};
+use crate::counts::{LayerCounts, unsigned};
+use crate::tally::{empty_table, tally_file};
 use dpl_flatten::Layer;
 use dpl_syntax::{Body, Element, Library};
 use std::alloc::{AllocError, Global};
@@ -20,7 +21,7 @@ fn layer_by(layer: u16, datatype: u16) -> Layer
 }
 
 /// The layer and datatype on which an element lies, if it is no reference.
-fn layer_of(body: &Body<'_>) -> Option<Layer>
+pub(crate) fn layer_of(body: &Body<'_>) -> Option<Layer>
     ensures value { result ≡ layer_in (body_seen body.now) }
     ensures narrow { IfSome result IsNarrow }
 {
@@ -51,14 +52,14 @@ fn layer_of(body: &Body<'_>) -> Option<Layer>
 }
 
 /// The place of a layer among all: first by layer, then by datatype.
-fn rank(layer: Layer) -> u32
+pub(crate) fn rank(layer: Layer) -> u32
     ensures { result ≡ rank_of layer }
 {
     u32::from(layer.layer) * 65_536 + u32::from(layer.datatype)
 }
 
 /// The layer at a place.
-fn layer_at(rank: u32) -> Layer
+pub(crate) fn layer_at(rank: u32) -> Layer
     ensures place { rank ≡ rank_of result }
     ensures narrow { IsNarrow result }
 {
@@ -110,25 +111,13 @@ fn sort_once(ranks: &mut Vec<u32>)
     ranks.dedup();
 }
 
-/// The layer at a place, with how many elements of each kind lie on it.
-fn counted(lib: &Library<'_>, rank: u32) -> Result<LayerCounts, AllocError>
-    ensures { IfOk result (IsEntryOf lib.now rank) }
-{
-    let layer = layer_at(rank);
-    let counts = counts_on(lib, layer)?;
-    Ok(LayerCounts { layer, counts })
-}
-
 /// The layers of a file, in order, each once, with how many elements of each kind lie on them.
 pub(crate) fn layers_of(alloc: Global, lib: &Library<'_>) -> Result<Vec<LayerCounts>, AllocError>
     ensures { IfOk result (λ v. AreLayerCounts lib.now v.items) }
 {
     let mut ranks = ranks_of(alloc, lib)?;
     sort_once(&mut ranks);
-    let mut found = Vec::new(alloc);
-    for rank in &ranks {
-        let entry = counted(lib, *rank)?;
-        found.push(entry)?;
-    }
-    Ok(found)
+    let mut table = empty_table(alloc, &ranks)?;
+    tally_file(lib, &ranks, &mut table)?;
+    Ok(table)
 }

@@ -8,6 +8,7 @@ mod finding;
 mod layers;
 mod status;
 mod stitches;
+mod tally;
 mod tangles;
 mod units;
 

@@ -1,7 +1,0 @@
-use Rattle.std.proofs.Common.{map, take}
-use Rattle.dpl_syntax.specs.Elements.{element_seen}
-use Rattle.dpl_view.specs.Layers.{AreCounts, count_in}
-use Rattle.dpl_view.proofs.counts.counts_in.Given as goal
-
-abbrev pub invariant-loop-element : goal.invariant-loop-element
-invariant-loop-element l = AreCounts (λ test. count_in test (map element_seen (take l.element-index l.elements))) l.chosen l.counts
