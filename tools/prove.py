@@ -63,6 +63,16 @@ def ways(needs, sizes):
     return {name: way(name) for name in needs}
 
 
+def shares(chosen, way, idle):
+    """How many jobs each of the crates gets. Each job reads all that is below anew, so a crate gets a second one only where a
+    processor would idle: the one with most to prove above it for each of its jobs."""
+    jobs = {name: 1 for name in chosen}
+    for _ in range(idle - len(chosen) if chosen else 0):
+        slowest = max(chosen, key=lambda name: way[name] / jobs[name])
+        jobs[slowest] += 1
+    return jobs
+
+
 def side_by_side():
     """How many crates are proved at a time."""
     with open("/proc/meminfo", encoding="utf-8") as lines:
@@ -123,14 +133,13 @@ def prove_all(top, needs, lanes):
         while len(done) < len(needs):
             ready = [name for name in needs if name not in begun and all(need in done for need in needs[name])]
             chosen = sorted(ready, key=lambda name: -way[name])[: len(free)]
-            # Each job reads all that is below anew, so a crate gets a second one only where a processor would idle.
-            jobs = max(1, len(lanes) // max(1, len(tasks) + len(chosen)))
-            for name in chosen:
+            idle = len(lanes) - sum(jobs for _, _, jobs in tasks.values())
+            for name, jobs in shares(chosen, way, idle).items():
                 begun.add(name)
                 lane = free.pop()
-                tasks[pool.submit(prove, top, lane, name, below(needs, name, set()) - {name}, jobs)] = (name, lane)
+                tasks[pool.submit(prove, top, lane, name, below(needs, name, set()) - {name}, jobs)] = (name, lane, jobs)
             for task in wait(tasks, return_when=FIRST_COMPLETED).done:
-                (name, lane), (is_proved, said) = tasks.pop(task), task.result()
+                (name, lane, _), (is_proved, said) = tasks.pop(task), task.result()
                 if not is_proved:
                     print(f"{said}\n{name} was not proved; waiting for those that are under way", file=sys.stderr)
                     return False
