@@ -1,6 +1,5 @@
 -- Counts of elements, one element and one structure more at a time.
-use Rattle.std.proofs.Common.{◌≡◌, ◌≢◌, ℕ, ◌+◌, ◌*◌, inl, inr, ◌<◌, Bool, true, false, cond, List, [], Option, Some, None, take, length, get_or, set, sym, refl, ap, subst, ◌∙◌, arith, get_or-set_same, get_or-set_other}
-use Rattle.std.specs.Prelude.{◌==◌, ◌&&◌}
+use Rattle.std.proofs.Common.{◌≡◌, ◌≢◌, ℕ, ◌+◌, ◌*◌, inl, inr, ◌<◌, Bool, false, cond, List, [], Some, take, length, get_or, set, sym, refl, ap, subst, ◌∙◌, arith, get_or-set_same, get_or-set_other}
 use Rattle.std.specs.List.{sum_by}
 use Rattle.std.specs.List.Sorted.{IsStrictlyIncreasing, IsBinarySearchResult}
 use Rattle.std.specs.List.{Contains}
@@ -17,7 +16,6 @@ use Rattle.std.proofs.Math.ListN.{length-set}
 use Rattle.dpl_spec_format.specs.Tree.{Library, Structure, Body as TreeBody, is_boundary, is_path, is_sref, is_aref, is_text, is_node, is_box, elements_at, elements_or_none}
 use Rattle.dpl_spec_layout.specs.declared.Layer.{Layer}
 use Rattle.dpl_spec_layout.specs.Elements.{is_on}
-use Rattle.dpl_view.specs.declared.counts.Counts.{Counts}
 use Rattle.dpl_view.specs.declared.counts.LayerCounts.{LayerCounts}
 use Rattle.dpl_view.specs.Layers.{AreCounts, AreMore, IsMore, count_in, layer_in, unsigned, is_boundary_on, is_path_on, is_box_on, is_text_on, is_node_on}
 use Rattle.dpl_view.specs.Ranks.{AreEntries, AreInOrder, IsNarrow, rank_of}
@@ -56,9 +54,6 @@ is_same f x p q r s t = record {
   nodes = omega (arith, t);
 }
 
-pub more_start : (f : Count) (xs : List LayerCounts) → ((test : TreeBody → Bool) → f test ≡ 0) → AreMore f xs xs
-more_start f xs none = record { as_many = refl; each = λ k d l. is_same f (get_or xs k d) (none _) (none _) (none _) (none _) (none _) }
-
 is_add : (f g h : Count) (x y z : LayerCounts) → ((test : TreeBody → Bool) → h test ≡ f test + g test) → IsMore f x y → IsMore g y z → IsMore h x z
 is_add f g h x y z sum p q =
     let at : IsMore g (record y { layer = x.layer }) z = subst (λ (l : Layer). IsMore g (record y { layer = l }) z) p.layer q in
@@ -79,15 +74,6 @@ more_add f g h a b c sum p q =
     record {
       as_many = q.as_many ∙ p.as_many;
       each = λ k d l. is_add f g h (get_or a k d) (get_or b k d) (get_or c k d) sum (p.each k d l) (q.each k d (omega (arith, l, many)));
-    }
-
-pub order_kept : (f : Count) (ranks : List ℕ) (a b : List LayerCounts) → AreInOrder ranks a → AreMore f a b → AreInOrder ranks b
-order_kept f ranks a b h p =
-    let many = p.as_many in
-    record {
-      rises = h.rises;
-      each = p.as_many ∙ h.each;
-      rank = λ k d l. let l_in : k < length a = omega (arith, l, many) in ap rank_of (p.each k d l_in).layer ∙ h.rank k d l_in;
     }
 
 counted : (f : Count) (x y : LayerCounts) → AreCounts (λ test. 0) x.layer x.counts → IsMore f x y → AreCounts f y.layer y.counts
@@ -148,12 +134,6 @@ is_elsewhere (is_node b) x h =
     is_same (once (is_node b)) x refl refl refl refl (none (is_node b) (is_node_on x.layer) (off x.layer b.layer (unsigned b.nodetype) (h _ refl)))
 is_elsewhere (is_sref b) x h = is_same (once (is_sref b)) x refl refl refl refl refl
 is_elsewhere (is_aref b) x h = is_same (once (is_aref b)) x refl refl refl refl refl
-
-pub on_no_layer : (b : TreeBody) (xs : List LayerCounts) → layer_in b ≡ None → AreMore (once b) xs xs
-on_no_layer b xs nowhere = record {
-  as_many = refl;
-  each = λ k d l. is_elsewhere b (get_or xs k d) (λ l is. let both : None ≡ Some l = sym nowhere ∙ is in absurd cc);
-}
 
 ranks_apart : (ranks : List ℕ) (i j : ℕ) → IsStrictlyIncreasing ranks → i < length ranks → j < length ranks → i ≢ j → get_or ranks i 0 ≡ get_or ranks j 0 → ⊥
 ranks_apart ranks i j rises i_in j_in ne same = elim (cases_lt i j) [

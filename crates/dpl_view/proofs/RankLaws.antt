@@ -16,7 +16,7 @@ use Rattle.dpl_syntax.specs.Elements.{element_seen}
 use Rattle.dpl_syntax.specs.declared.element.Element.{Element}
 use Rattle.dpl_view.specs.declared.counts.LayerCounts.{LayerCounts}
 use Rattle.dpl_view.specs.Layers.{AreLayerCounts, IsBefore, count_of, layer_in}
-use Rattle.dpl_view.specs.Ranks.{rank_of, ranks_in, IsNarrow, HasRank, AreNoted, AreRanks, IsEntryOf, AreEntries, AreInOrder, IsListed}
+use Rattle.dpl_view.specs.Ranks.{rank_of, ranks_in, IsNarrow, HasRank, AreNoted, AreRanks, IsEntryOf, AreEntries, IsListed}
 
 -- ---- one element more
 
@@ -217,13 +217,7 @@ layers-of lib all ranks found are rises keeps adds n low high h =
       counts = λ k d l. (h.entry k d (omega (arith, l, each))).counts;
     }
 
--- ---- what the entries of sorted ranks are asked
-
-pub in-order : (count : (TreeBody → Bool) → ℕ) (ranks : List ℕ) (n : ℕ) (found : List LayerCounts) → n ≡ length ranks → IsStrictlyIncreasing ranks
-    → AreEntries count ranks n found → AreInOrder ranks found
-in-order count ranks n found all rises h =
-    let each = h.each in
-    record { rises = rises; each = h.each ∙ all; rank = λ k d l. (h.entry k d (omega (arith, l, each))).rank }
+-- ---- each element lies on a layer whose rank is listed
 
 pub all-listed : (lib : Library) (all ranks : List ℕ) → AreRanks lib (length lib.structures) all → ((r : ℕ) → Contains all r → Contains ranks r) → (k : ℕ) (e : TreeElement)
     → Contains (elements_at lib k) e → IsListed ranks e.body

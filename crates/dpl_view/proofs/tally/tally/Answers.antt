@@ -1,4 +1,4 @@
-use Rattle.std.proofs.Common.{◌≡◌, ◌<◌, Some, length, get_or, sym, refl, ap, subst, ◌∙◌, arith}
+use Rattle.std.proofs.Common.{◌<◌, length, get_or, sym, refl, subst, ◌∙◌, arith}
 use Rattle.std.specs.Prelude.{IfSome}
 use Rattle.std.specs.List.{Contains}
 use Rattle.std.specs.List.Sorted.{IsBinarySearchResult}

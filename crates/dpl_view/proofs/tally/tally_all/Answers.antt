@@ -1,4 +1,4 @@
-use Rattle.std.proofs.Common.{◌≡◌, ◌<◌, map, length, get_or, arith}
+use Rattle.std.proofs.Common.{◌≡◌, map, length, arith}
 use Rattle.std.proofs.lemmas.List.{get_or-map}
 use Rattle.std.proofs.Math.ListN.{length-map}
 use Rattle.dpl_syntax.specs.Elements.{element_seen}
