@@ -30,11 +30,7 @@ fn later_components_flip_where_that_saves_stitches(rt: HostRuntime) -> Result<()
 }
 
 /// The letters with fewer stitches of the pieces of four edges. The component of the fixed piece stays.
-fn fewer_letters(
-    alloc: Global,
-    sides: &[(Id, Id)],
-    fixed: Option<Id>,
-) -> Result<Vec<Mask>, Fail> {
+fn fewer_letters(alloc: Global, sides: &[(Id, Id)], fixed: Option<Id>) -> Result<Vec<Mask>, Fail> {
     let edges: [Edge; 4] = [(0, 1), (2, 3), (4, 5), (6, 7)];
     let joined = stars(alloc, &edges)?;
     if !is_even_below(8, &joined) || !are_sides_below(8, sides) {
