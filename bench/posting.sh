@@ -1,13 +1,14 @@
 #!/bin/sh
-# Times `dpl split` where about as many tiles are posted as there are bars, by one worker and by more.
+# Times `dpl split` where many small tiles are posted, by one worker and by more.
 #
 # usage: sh bench/posting.sh DPL [SIZE [WORKERS ..]]
 #
 # DPL is the program, SIZE the number of bars of layouts.py (default: 1000000), WORKERS numbers of workers
 # (default: 1 4 64). Each line has the number of workers, the least seconds of ROUNDS runs (from the
-# environment, default: 3) with tiles so small that a million bars meet about two million of them, and the
-# same with large tiles, of which there are few; the difference is what so many tiles take, and behind it
-# stands its ratio to that of the first line.
+# environment, default: 3) with small tiles, and the same with large ones, of which there are few. The small
+# ones have a side of 64, doubled while there would be too many: to 512 for a million bars, which lie in about
+# 139,000 tiles then, one to seven bars. The difference is what so many tiles take. Behind it stands its ratio
+# to that of the first line, where both are above 0. It ends with 1 where a run of dpl doesn't end with 0.
 set -eu
 here=$(cd "$(dirname "$0")" && pwd)
 . "$here/words.sh"
@@ -27,15 +28,19 @@ def least(tile, many):
     times = []
     for _ in range(int(rounds)):
         begun = time.monotonic()
-        subprocess.run(words + files, stdout=subprocess.DEVNULL)
+        ended = subprocess.run(words + files, stdout=subprocess.DEVNULL).returncode
         times.append(time.monotonic() - begun)
+        if ended != 0:
+            sys.exit("%s ended with %d" % (" ".join(words + files), ended))
     return min(times)
 
 
-before = None
+first = None
 for many in workers:
     small, large = least("64", many), least("4096", many)
-    before = before or small - large
-    print("bars %8s workers %2s %7.2f s in small tiles %7.2f s in large ones, difference %6.2f s x%.2f" % (
-        size, many, small, large, small - large, (small - large) / before), flush=True)
+    difference = small - large
+    first = difference if first is None else first
+    ratio = " x%.2f" % (difference / first) if first > 0 and difference > 0 else ""
+    print("bars %8s workers %2s %7.2f s in small tiles %7.2f s in large ones, difference %6.2f s%s" % (
+        size, many, small, large, difference, ratio), flush=True)
 PY

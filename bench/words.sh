@@ -1,4 +1,4 @@
-# Read by growth.sh.
+# Read by growth.sh and posting.sh.
 #
 # read_words SECOND REST WORD ..: takes the words of a script. Sets `first`, `second` and `rest`, what stands
 # behind them, where SECOND and REST stand for what isn't given, and `work`, a folder that goes with the script.

@@ -132,8 +132,8 @@ def prove_all(top, needs, lanes):
     with ThreadPoolExecutor(len(lanes)) as pool:
         while len(done) < len(needs):
             ready = [name for name in needs if name not in begun and all(need in done for need in needs[name])]
-            chosen = sorted(ready, key=lambda name: -way[name])[: len(free)]
             idle = len(lanes) - sum(jobs for _, _, jobs in tasks.values())
+            chosen = sorted(ready, key=lambda name: -way[name])[: min(len(free), idle)]
             for name, jobs in shares(chosen, way, idle).items():
                 begun.add(name)
                 lane = free.pop()

@@ -165,7 +165,7 @@ CASES = {
     "conflict": Case([(0, 0, 10, 10), (20, 0, 30, 10), (10, 20, 20, 30)], "", 0, 1),
     "stitch": Case(CROWD, "", 0, 1),
     "tiles": Case([(0, 0, 64000, 20), (0, 40, 64000, 60)], "--tile 64", 0, 1),
-    # So many rows that the board puts its summaries together.
+    # So many rows a tile that a post merges a block.
     "crowded": Case(list(pairs(33000)), "--tile 4096 --workers 2", 0, 1009),
     "large": Case(list(pairs(33000)), "--tile 4096 --workers 2", 65536, 1),
 }
