@@ -11,7 +11,7 @@ use std::test::Fail;
 const FAR: i32 = FARTHEST as i32;
 
 /// A layout, and its zones with the features that they cut.
-const ROWS: [(&[Corners], &[(Corners, u64)]); 9] = [
+const ROWS: [(&[Corners], &[(Corners, u64)]); 11] = [
     // a bar between two others has a zone where neither comes near, and so have both others
     (
         &[
@@ -42,6 +42,25 @@ const ROWS: [(&[Corners], &[(Corners, u64)]); 9] = [
         &[((74, 0, 84, 20), 0)],
     ),
     (&[(0, 0, 157, 20), (0, 40, 50, 60), (107, 40, 157, 60)], &[]),
+    // one square leaves eleven columns of a bar on each side, and twelve on the right
+    (
+        &[
+            (0, 0, 118, 20),
+            (0, 20, 20, 40),
+            (98, 20, 118, 40),
+            (54, 40, 64, 60),
+        ],
+        &[],
+    ),
+    (
+        &[
+            (0, 0, 119, 20),
+            (0, 20, 20, 40),
+            (99, 20, 119, 40),
+            (54, 40, 64, 60),
+        ],
+        &[((88, 0, 98, 20), 0)],
+    ),
     // squares that share a corner are one feature, without a stretch
     (&[(0, 0, 10, 10), (10, 10, 20, 20)], &[]),
     // a square with a hole
