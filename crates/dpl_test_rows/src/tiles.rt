@@ -2,6 +2,7 @@
 
 use dpl_test_runs::{Done, is_conflict, is_done};
 use dpl_test_sample::{Rectangle, bars};
+use std::alloc::{AllocError, Global};
 use std::test::*;
 
 /// A layer that is done.
@@ -84,12 +85,44 @@ const CASES: [(&str, Row); 15] = [
     (MANY, LONG),
 ];
 
+/// A feature of 36 squares in six rows, each slab by itself, since they touch at corners alone. It is twelve columns wide.
+fn chequers(alloc: Global, left: u8) -> Result<Vec<Rectangle>, AllocError> {
+    let mut squares = Vec::new(alloc);
+    for y in 0..6u8 {
+        for k in 0..6u8 {
+            let x = left as i32 + 2 * k as i32 + (y % 2) as i32;
+            let low = y as i32;
+            squares.push([x, low, x + 1, low + 1])?;
+        }
+    }
+    Ok(squares)
+}
+
+/// Two features of 36 slabs each, four columns apart: they lie in a square with sides of the rule.
+const DENSE: &str = "features 2 pieces 2 zones 0 stitches 0 a 36 b 36";
+
+const DENSE_CERT: &str = "features 2 pieces 2 zones 0 stitches 0\npiece 0 A 0 0\npiece 1 B 16 0\n";
+
 #[test]
 fn answers_show_no_tiles_or_workers(rt: HostRuntime) -> Result<(), Fail> {
     let alloc = rt.alloc();
     for (line, row) in CASES {
         let file = bars(alloc, row.layer)?;
         assert!(rt; is_done(&rt, alloc, line, file, &row.done)?, "at {line}");
+    }
+    let a = chequers(alloc, 0)?;
+    let b = chequers(alloc, 16)?;
+    let mut layer = chequers(alloc, 0)?;
+    layer.extend_from_slice(b.as_slice())?;
+    let done = Done {
+        line: DENSE,
+        cert: DENSE_CERT,
+        a: a.as_slice(),
+        b: b.as_slice(),
+    };
+    for line in [TINY, MANY] {
+        let file = bars(alloc, layer.as_slice())?;
+        assert!(rt; is_done(&rt, alloc, line, file, &done)?, "at {line}");
     }
     Ok(())
 }
