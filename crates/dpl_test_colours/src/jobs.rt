@@ -1,8 +1,10 @@
-//! Jobs of a few tiles without edges, and the rows of summaries.
-ghost use Rattle.std.specs.Prelude.{[], ◌∷◌, replicate};
+//! Jobs of a few tiles, and the rows of summaries.
+ghost use Rattle.std.specs.Prelude.{[], ◌∷◌, replicate, IfOk, OnOk};
+ghost use Rattle.dpl_stars.specs.Sums.{AreEdgePairs};
 
 use dpl_board::Job;
-use dpl_stars::{Joined, Star};
+use dpl_list::Edge;
+use dpl_stars::{Joined, Star, stars};
 use std::alloc::{AllocError, Global};
 
 /// Tiles without edges.
@@ -34,6 +36,58 @@ impl Job for TwoTiles {
 
     fn summary(&self, alloc: Global, _tile: u32) -> Result<Joined, AllocError> {
         Ok(Joined::new(alloc))
+    }
+}
+
+/// Three tiles: an edge from 0 to 1, one from 1 to 2, and the edges of a star.
+#[derive(Drop)]
+pub struct PathAndStar {
+    pub edges: Vec<Edge>,
+    ghost pairs: { AreEdgePairs edges.items },
+}
+
+/// Adds an edge from 2 to the k-th number above it.
+fn add_edge(edges: &mut Vec<Edge>, k: u16) -> Result<(), AllocError>
+    requires { AreEdgePairs edges.old.items }
+    ensures { OnOk result (AreEdgePairs edges.new.items) }
+{
+    edges.push((2, 3 + k as u64))?;
+    Ok(())
+}
+
+/// The edges from 2 to so many numbers above it.
+fn star(alloc: Global, count: u16) -> Result<Vec<Edge>, AllocError>
+    ensures { IfOk result (λ v. AreEdgePairs v.items) }
+{
+    let mut edges = Vec::new(alloc);
+    for k in 0..count {
+        add_edge(&mut edges, k)?;
+    }
+    Ok(edges)
+}
+
+impl PathAndStar {
+    /// The tiles, with so many edges in the star.
+    pub fn new(alloc: Global, count: u16) -> Result<PathAndStar, AllocError> {
+        let edges = star(alloc, count)?;
+        Ok(PathAndStar { edges })
+    }
+}
+
+impl Job for PathAndStar {
+    ghost sheet = { λ job. ((0, 1) ∷ []) ∷ ((1, 2) ∷ []) ∷ job.edges.items ∷ [] };
+
+    fn tiles(&self) -> u32 {
+        3
+    }
+
+    fn summary(&self, alloc: Global, tile: u32) -> Result<Joined, AllocError> {
+        match tile {
+            0 => stars(alloc, &[(0, 1)]),
+            1 => stars(alloc, &[(1, 2)]),
+            2 => stars(alloc, &self.edges),
+            _ => Err(AllocError),
+        }
     }
 }
 

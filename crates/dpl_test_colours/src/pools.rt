@@ -1,9 +1,9 @@
 //! Workers of a pool, held at gates.
 ghost use Rattle.std.specs.Prelude.{[], ◌∷◌, ◌<◌, replicate};
 
-use crate::jobs::{Bare, TwoTiles};
+use crate::jobs::{Bare, PathAndStar, TwoTiles, rows_of};
 use dpl_pool::{Gate, OpenGate, run_pool};
-use dpl_stars::Joined;
+use dpl_stars::{Joined, Star};
 use dpl_test_gates::Holds;
 use dpl_turn::Seat;
 use std::alloc::Global;
@@ -100,5 +100,29 @@ fn many_workers_post_few_tiles_once(rt: HostRuntime) -> Result<(), Fail> {
     let state = run_pool(&rt, rt.alloc(), 64, &Bare { tiles: 0 }, &OpenGate)?;
     assert_eq!(rt; state.history().len(), 0);
     assert!(rt; has_no_rows(state.joined()));
+    Ok(())
+}
+
+#[test]
+fn a_block_is_folded_before_many_rows_are_posted(rt: HostRuntime) -> Result<(), Fail> {
+    let job = PathAndStar::new(rt.alloc(), 256)?;
+    let state = run_pool(&rt, rt.alloc(), 1, &job, &OpenGate)?;
+    assert_eq!(rt; state.history().len(), 3);
+    assert_eq!(rt; state.first_missing(), None);
+    let rows = rows_of(state.joined()).ok_or("there is no odd cycle")?;
+    assert_eq!(rt; rows.len(), 259);
+    let mut piece = 0u64;
+    for row in rows {
+        let odd = piece != 0 && piece != 2;
+        assert_eq!(rt;
+            *row,
+            Star {
+                piece,
+                root: 0,
+                odd
+            }
+        );
+        piece = piece.wrapping_add(1);
+    }
     Ok(())
 }
