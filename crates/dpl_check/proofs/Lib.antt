@@ -7,3 +7,5 @@ pub mod Apart
 pub mod Placing
 pub mod Counting
 pub mod Around
+pub mod Marking
+pub mod Gaining

@@ -4,7 +4,9 @@
 mod conflict;
 mod counts;
 mod cover;
+mod gains;
 mod letters;
+mod marks;
 mod masks;
 mod place;
 mod spacing;

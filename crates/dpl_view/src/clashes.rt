@@ -37,6 +37,7 @@ pub fn clashes_of(
     overlap: u32,
 ) -> Result<Tangles, AllocError>
     requires corner { spacing.corner ≤ spacing.rule }
+    requires some { 1 ≤ spacing.corner }
     requires rule { IsRule spacing.rule }
     requires overlap { IsRule overlap }
     requires keys { HasPointKeys cut }
@@ -65,6 +66,7 @@ fn odd_clashes(
     overlap: u32,
 ) -> Result<Tangles, AllocError>
     requires corner { spacing.corner ≤ spacing.rule }
+    requires some { 1 ≤ spacing.corner }
     requires rule { IsRule spacing.rule }
     requires overlap { IsRule overlap }
     requires keys { (p : Pt) → Contains cut.now.pieces.keys p → IsPoint p }
@@ -89,6 +91,7 @@ fn told(
     overlap: u32,
 ) -> Result<Vec<Clash>, AllocError>
     requires corner { spacing.corner ≤ spacing.rule }
+    requires some { 1 ≤ spacing.corner }
     requires rule { IsRule spacing.rule }
     requires overlap { IsRule overlap }
     requires keys { (p : Pt) → Contains cut.now.pieces.keys p → IsPoint p }
@@ -112,6 +115,7 @@ fn clash(
     overlap: u32,
 ) -> Result<Clash, AllocError>
     requires corner { spacing.corner ≤ spacing.rule }
+    requires some { 1 ≤ spacing.corner }
     requires rule { IsRule spacing.rule }
     requires overlap { IsRule overlap }
     requires keys { (p : Pt) → Contains cut.now.pieces.keys p → IsPoint p }
