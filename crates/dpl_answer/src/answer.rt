@@ -36,7 +36,6 @@ pub fn answer_of(
     overlap: u32,
 ) -> Result<Decomposed, AllocError>
     requires corner { spacing.corner ≤ spacing.rule }
-    requires some { 1 ≤ spacing.corner }
     requires rule { IsRule spacing.rule }
     requires overlap { IsRule overlap }
     requires keys { HasPointKeys cut }
@@ -66,7 +65,6 @@ fn paint(
     overlap: u32,
 ) -> Result<Painted, AllocError>
     requires corner { spacing.corner ≤ spacing.rule }
-    requires some { 1 ≤ spacing.corner }
     requires rule { IsRule spacing.rule }
     requires overlap { IsRule overlap }
     requires keys { (p : Pt) → Contains cut.pieces.keys p → IsPoint p }
@@ -102,7 +100,6 @@ fn clash(
     overlap: u32,
 ) -> Result<Clash, AllocError>
     requires corner { spacing.corner ≤ spacing.rule }
-    requires some { 1 ≤ spacing.corner }
     requires rule { IsRule spacing.rule }
     requires overlap { IsRule overlap }
     requires keys { (p : Pt) → Contains cut.now.pieces.keys p → IsPoint p }

@@ -7,5 +7,3 @@ pub mod Apart
 pub mod Placing
 pub mod Counting
 pub mod Around
-pub mod Marking
-pub mod Gaining

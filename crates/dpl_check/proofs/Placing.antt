@@ -19,10 +19,8 @@ use Rattle.dpl_nearest.proofs.UnitLaws.{unit_fits}
 use Rattle.dpl_cert.specs.Grammar.{IsPoint}
 use Rattle.dpl_piece.specs.Cutting.{CutPieces}
 use Rattle.dpl_cert.specs.declared.cert.PlaceLine.{PlaceLine}
-use Rattle.dpl_cert.specs.declared.cert.PlaceLine.TheVariants.{Piece, Anchor}
 use Rattle.dpl_cert.specs.declared.cert.NearLine.{NearLine}
-use Rattle.dpl_cert.specs.declared.cert.NearLine.TheVariants.{Pair, Mark, Anchors}
-use Rattle.dpl_spec_verdict.specs.Conflicts.{IsBadPlace, IsGoodPlace, number_in, piece_of, place_at}
+use Rattle.dpl_spec_verdict.specs.Conflicts.{IsBadPlace, IsGoodPlace, piece_of}
 use Rattle.dpl_cut.specs.Cutting.{cut_view}
 use Rattle.dpl_check.specs.Places.{AreMarked, IsRightPlace}
 use Rattle.dpl_check.proofs.Windows.{unit-only, unit-self}
@@ -66,61 +64,39 @@ near-units spacing p q u v e f = (
   λ close. (p, q, subst (λ (w : Rect). Has w p) (sym e) (unit-self p), subst (λ (w : Rect). Has w q) (sym f) (unit-self q), close),
 )
 
--- a place that is good is right, and known
-good-right : (spacing : Spacing) (features : List (List Rect)) (pieces : CutPieces) (cycle : List PlaceLine) (k : ℕ) (place next : PlaceLine) (line : NearLine)
-    → IsGoodPlace spacing (cut_view features pieces) cycle place next k line → IsRightPlace spacing pieces place next line
-good-right spacing features pieces cycle k (Piece n key) (Piece m other) (Pair from to) good = record {
-  known = good.named.0;
-  key = good.named.1;
-  conflict = record { from = good.joined.from; to = good.joined.to; near = good.joined.near };
-  apart = good.joined.apart;
-}
-good-right spacing features pieces cycle k (Piece n key) (Piece m other) (Mark at) good = good.joined
-good-right spacing features pieces cycle k (Piece n key) (Piece m other) Anchors good = good.joined
-good-right spacing features pieces cycle k (Piece n key) (Anchor b) line good = good.joined
-good-right spacing features pieces cycle k (Anchor b) next line good = good.joined
-
-right-is-good : (spacing : Spacing) (features : List (List Rect)) (pieces : CutPieces) (cycle : List PlaceLine) (k : ℕ) (place next : PlaceLine) (line : NearLine)
-    → IsRightPlace spacing pieces place next line → ((j : ℕ) → j < k → piece_of cycle j ≡ number_in place → ⊥)
-    → IsGoodPlace spacing (cut_view features pieces) cycle place next k line
-right-is-good spacing features pieces cycle k (Piece n key) (Piece m other) (Pair from to) right new = record {
-  named = (right.known, right.key);
-  new = new;
-  joined = record { from = right.conflict.from; to = right.conflict.to; near = right.conflict.near; apart = right.apart };
-}
-right-is-good spacing features pieces cycle k (Piece n key) (Piece m other) (Mark at) right new = absurd right
-right-is-good spacing features pieces cycle k (Piece n key) (Piece m other) Anchors right new = absurd right
-right-is-good spacing features pieces cycle k (Piece n key) (Anchor b) line right new = absurd right
-right-is-good spacing features pieces cycle k (Anchor b) next line right new = absurd right
-
-pub right-known : (spacing : Spacing) (pieces : CutPieces) (place next : PlaceLine) (line : NearLine) → IsRightPlace spacing pieces place next line
-    → number_in place < length pieces.parts
-right-known spacing pieces (Piece n key) (Piece m other) (Pair from to) right = right.known
-right-known spacing pieces (Piece n key) (Piece m other) (Mark at) right = absurd right
-right-known spacing pieces (Piece n key) (Piece m other) Anchors right = absurd right
-right-known spacing pieces (Piece n key) (Anchor b) line right = absurd right
-right-known spacing pieces (Anchor b) next line right = absurd right
-
 module _ (spacing : Spacing) (features : List (List Rect)) (pieces : CutPieces) (cycle : List PlaceLine) (near : List NearLine) (k : ℕ)
     (k_in : k < length near) (place : PlaceLine) (e : NearLine) where
-  abbrev next : PlaceLine
-  next = place_at cycle ((k + 1) % length cycle)
+  good-right : (line : NearLine) → IsGoodPlace spacing (cut_view features pieces) cycle place (piece_of cycle ((k + 1) % length cycle)) k line
+      → IsRightPlace spacing pieces place (piece_of cycle ((k + 1) % length cycle)) line
+  good-right line good = record {
+    known = good.known;
+    key = good.key;
+    conflict = record { from = good.from; to = good.to; near = good.near };
+    apart = good.apart;
+  }
 
-  pub not-right-bad : (IsRightPlace spacing pieces place next (get_or near k e) → ⊥) → IsBadPlace spacing (cut_view features pieces) cycle near k place
-  not-right-bad never d good = never (subst (λ line. IsRightPlace spacing pieces place next line)
-      (get_or_default near k d e k_in) (good-right spacing features pieces cycle k place next (get_or near k d) good))
+  pub not-right-bad : (IsRightPlace spacing pieces place (piece_of cycle ((k + 1) % length cycle)) (get_or near k e) → ⊥)
+      → IsBadPlace spacing (cut_view features pieces) cycle near k place
+  not-right-bad never d good = never (subst (λ line. IsRightPlace spacing pieces place (piece_of cycle ((k + 1) % length cycle)) line)
+      (get_or_default near k d e k_in) (good-right (get_or near k d) good))
 
   pub stood-bad : (stood : List Bool) (b : Bool) → AreMarked (length pieces.parts) cycle k stood
-      → IsRightPlace spacing pieces place next (get_or near k e) → get_or stood (number_in place) b ≡ true
+      → IsRightPlace spacing pieces place (piece_of cycle ((k + 1) % length cycle)) (get_or near k e) → get_or stood place.piece b ≡ true
       → IsBadPlace spacing (cut_view features pieces) cycle near k place
-  stood-bad stood b marked right is d good =
-      let (j, l, same) = (marked.exactly (number_in place) b (right-known spacing pieces place next (get_or near k e) right)).0 is in good.new j l same
+  stood-bad stood b marked right is d good = let (j, l, same) = (marked.exactly place.piece b right.known).0 is in good.new j l same
 
   pub right-good : (stood : List Bool) (b : Bool) → AreMarked (length pieces.parts) cycle k stood
-      → IsRightPlace spacing pieces place next (get_or near k e) → get_or stood (number_in place) b ≡ false
+      → IsRightPlace spacing pieces place (piece_of cycle ((k + 1) % length cycle)) (get_or near k e) → get_or stood place.piece b ≡ false
       → IsBadPlace spacing (cut_view features pieces) cycle near k place → ⊥
-  right-good stood b marked right is bad = bad e (right-is-good spacing features pieces cycle k place next (get_or near k e) right
-      (λ j l same. false≢true (sym is ∙ (marked.exactly (number_in place) b (right-known spacing pieces place next (get_or near k e) right)).1 (j, l, same))))
+  right-good stood b marked right is bad = bad e (record {
+    known = right.known;
+    new = λ j l same. false≢true (sym is ∙ (marked.exactly place.piece b right.known).1 (j, l, same));
+    key = right.key;
+    from = right.conflict.from;
+    to = right.conflict.to;
+    near = right.conflict.near;
+    apart = right.apart;
+  })
 
 -- one place more
 pub marked-next : (count : ℕ) (cycle : List PlaceLine) (k : ℕ) (stood : List Bool) → piece_of cycle k < count

@@ -7,37 +7,28 @@ use Rattle.dpl_spec_split.specs.Squares.{Near}
 use Rattle.dpl_spec_split.specs.Zones.{part_at}
 use Rattle.dpl_piece.specs.Cutting.{CutPieces}
 use Rattle.dpl_cert.specs.declared.cert.PlaceLine.{PlaceLine}
-use Rattle.dpl_cert.specs.declared.cert.PlaceLine.TheVariants.{Piece, Anchor}
-use Rattle.dpl_cert.specs.declared.cert.NearLine.TheVariants.{Pair, Mark, Anchors}
 use Rattle.dpl_cert.specs.declared.cert.NearLine.{NearLine}
 use Rattle.dpl_spec_verdict.specs.Conflicts.{piece_of}
 
 -- a piece of the layer, with its key
-pub record IsKeyed (keys : List Pt) (piece : ℕ) (p : Pt) : Type 0 where
-  pub known : piece < length keys
-  pub key : p ≡ slice_index_or keys piece p
+pub record IsKeyed (keys : List Pt) (place : PlaceLine) : Type 0 where
+  pub known : place.piece < length keys
+  pub key : place.key ≡ slice_index_or keys place.piece place.key
 
 -- squares of two pieces that are near
-pub record IsNearLine (spacing : Spacing) (pieces : List (List Rect)) (piece next : ℕ) (p q : Pt) : Type 0 where
-  pub from : part_at pieces piece p
-  pub to : part_at pieces next q
-  pub near : Near spacing p q
+pub record IsNearLine (spacing : Spacing) (pieces : List (List Rect)) (piece next : ℕ) (line : NearLine) : Type 0 where
+  pub from : part_at pieces piece line.from
+  pub to : part_at pieces next line.to
+  pub near : Near spacing line.from line.to
 
 -- the pieces of the first k places are marked
 pub record AreMarked (count : ℕ) (cycle : List PlaceLine) (k : ℕ) (stood : List Bool) : Type 0 where
   pub each : length stood ≡ count
   pub exactly : (n : ℕ) (d : Bool) → n < count → (slice_index_or stood n d ≡ true) ↔ ((j : ℕ) × (j < k) × (piece_of cycle j ≡ n))
 
--- a piece of the layer with its key that conflicts with the next one, as two squares show
-pub record IsRightPair (spacing : Spacing) (pieces : CutPieces) (piece : ℕ) (least : Pt) (next : ℕ) (p q : Pt) : Type 0 where
-  pub known : piece < length pieces.parts
-  pub key : least ≡ slice_index_or pieces.keys piece least
-  pub conflict : IsNearLine spacing pieces.parts piece next p q
-  pub apart : slice_index pieces.owners piece ≢ slice_index pieces.owners next
-
-abbrev pub IsRightPlace : Spacing → CutPieces → PlaceLine → PlaceLine → NearLine → Type 0
-IsRightPlace spacing pieces (Piece n key) (Piece m other) (Pair from to) = IsRightPair spacing pieces n key m from to
-IsRightPlace spacing pieces (Piece n key) (Piece m other) (Mark at) = ⊥
-IsRightPlace spacing pieces (Piece n key) (Piece m other) Anchors = ⊥
-IsRightPlace spacing pieces (Piece n key) (Anchor b) line = ⊥
-IsRightPlace spacing pieces (Anchor b) next line = ⊥
+-- a piece of the layer with its key that conflicts with the next one, as the line shows
+pub record IsRightPlace (spacing : Spacing) (pieces : CutPieces) (place : PlaceLine) (next : ℕ) (line : NearLine) : Type 0 where
+  pub known : place.piece < length pieces.parts
+  pub key : place.key ≡ slice_index_or pieces.keys place.piece place.key
+  pub conflict : IsNearLine spacing pieces.parts place.piece next line
+  pub apart : slice_index pieces.owners place.piece ≢ slice_index pieces.owners next

@@ -8,7 +8,7 @@ ghost use Rattle.dpl_spec_verdict.specs.Conflicts.{IsOfConflict, IsVerdictOfConf
 use crate::counts::{counts_differ, counts_of, rules_differ};
 use crate::place::bad_place;
 use dpl_base::Spacing;
-use dpl_cert::{Cert, named_corner};
+use dpl_cert::Cert;
 use dpl_cut::cut_within;
 use dpl_slabs::Slabs;
 use dpl_spec_verdict::Verdict;
@@ -54,7 +54,6 @@ pub fn check_conflict(
         return Ok(Verdict::Rules {
             rule: head.rule,
             overlap: head.overlap,
-            corner: named_corner(head, &None),
         });
     }
     let marked = marked_squares(alloc, mark_a, mark_b, marks)?;

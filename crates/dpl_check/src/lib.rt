@@ -4,9 +4,7 @@
 mod conflict;
 mod counts;
 mod cover;
-mod gains;
 mod letters;
-mod marks;
 mod masks;
 mod place;
 mod spacing;

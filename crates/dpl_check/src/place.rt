@@ -10,8 +10,7 @@ ghost use Rattle.dpl_slabs.specs.Parts.{AreParts};
 ghost use Rattle.dpl_tree.specs.Trees.{AreItemsOf};
 ghost use Rattle.dpl_spec_verdict.specs.Conflicts.{IsBadPlace};
 ghost use Rattle.dpl_check.specs.Findings.{IsFirstBadOf};
-ghost use Rattle.dpl_spec_verdict.specs.Conflicts.{number_in};
-ghost use Rattle.dpl_check.specs.Places.{IsRightPair, AreMarked, IsKeyed, IsNearLine, IsRightPlace};
+ghost use Rattle.dpl_check.specs.Places.{AreMarked, IsKeyed, IsNearLine, IsRightPlace};
 ghost use Rattle.dpl_cut.specs.Cutting.{cut_view};
 
 use crate::window::owner_at;
@@ -51,69 +50,39 @@ fn are_near(p: Pt, q: Pt, spacing: Spacing) -> bool
     near(&first, &second, spacing)
 }
 
-/// Whether two squares are those of the two pieces, and near.
+/// Whether a line has near squares of the two pieces.
 fn is_near_line(
     parts: &[Slabs],
     tree: &Tree,
-    from: Pt,
-    to: Pt,
+    line: &NearLine,
     piece: u64,
     next: u64,
     spacing: Spacing,
 ) -> bool
     requires corner { spacing.corner ≤ spacing.rule }
-    requires first { IsPoint from }
-    requires second { IsPoint to }
+    requires line { IsNear line.now }
     requires parts { AreParts parts.now }
     requires items { AreItemsOf parts.now tree.now }
-    ensures { IsTrue result ↔ IsNearLine spacing parts.now piece next from to }
+    ensures { IsTrue result ↔ IsNearLine spacing parts.now piece next line.now }
 {
-    if !is_of_piece(parts, tree, from, piece) {
+    if !is_of_piece(parts, tree, line.from, piece) {
         return false;
     }
-    if !is_of_piece(parts, tree, to, next) {
+    if !is_of_piece(parts, tree, line.to, next) {
         return false;
     }
-    are_near(from, to, spacing)
+    are_near(line.from, line.to, spacing)
 }
 
-/// Whether a piece is one of the layer's, with its key.
-fn is_keyed(pieces: &Pieces, piece: u64, key: Pt) -> bool
-    ensures { IsTrue result ↔ IsKeyed pieces.now.keys piece key }
+/// Whether the place's piece is one of the layer's, with its key.
+fn is_keyed(pieces: &Pieces, place: &PlaceLine) -> bool
+    ensures { IsTrue result ↔ IsKeyed pieces.now.keys place.now }
 {
-    if piece >= pieces.parts().items().len() as u64 {
+    if place.piece >= pieces.parts().items().len() as u64 {
         return false;
     }
-    let found = pieces.key(piece as usize);
-    found.x == key.x && found.y == key.y
-}
-
-/// Whether a piece is one of the layer's, with its key, and conflicts with the next one by two squares.
-fn conflicts(
-    cut: &LayerCut,
-    tree: &Tree,
-    piece: u64,
-    key: Pt,
-    next: u64,
-    from: Pt,
-    to: Pt,
-    spacing: Spacing,
-) -> bool
-    requires corner { spacing.corner ≤ spacing.rule }
-    requires first { IsPoint from }
-    requires second { IsPoint to }
-    requires items { AreItemsOf cut.now.pieces.parts tree.now }
-    ensures { IsTrue result ↔ IsRightPair spacing cut.now.pieces piece key next from to }
-{
-    let parts = cut.pieces.parts().items();
-    let owner = cut.pieces.owner();
-    if !is_keyed(&cut.pieces, piece, key) {
-        return false;
-    }
-    if !is_near_line(parts, tree, from, to, piece, next, spacing) {
-        return false;
-    }
-    owner[piece as usize] != owner[next as usize]
+    let key = pieces.key(place.piece as usize);
+    key.x == place.key.x && key.y == place.key.y
 }
 
 /// Whether the place's piece is one of the layer's, with its key, and conflicts with the next one by the line.
@@ -121,38 +90,24 @@ fn is_right(
     cut: &LayerCut,
     tree: &Tree,
     place: &PlaceLine,
-    next: &PlaceLine,
+    next: u64,
     line: &NearLine,
     spacing: Spacing,
 ) -> bool
     requires corner { spacing.corner ≤ spacing.rule }
     requires line { IsNear line.now }
     requires items { AreItemsOf cut.now.pieces.parts tree.now }
-    ensures { IsTrue result ↔ IsRightPlace spacing cut.now.pieces place.now next.now line.now }
+    ensures { IsTrue result ↔ IsRightPlace spacing cut.now.pieces place.now next line.now }
 {
-    match place {
-        PlaceLine::Anchor { .. } => false,
-        PlaceLine::Piece { piece, key } => match next {
-            PlaceLine::Anchor { .. } => false,
-            PlaceLine::Piece { piece: other, .. } => match line {
-                NearLine::Pair { from, to } => {
-                    conflicts(cut, tree, *piece, *key, *other, *from, *to, spacing)
-                }
-                NearLine::Mark { .. } => false,
-                NearLine::Anchors => false,
-            },
-        },
+    let parts = cut.pieces.parts().items();
+    let owner = cut.pieces.owner();
+    if !is_keyed(&cut.pieces, place) {
+        return false;
     }
-}
-
-/// The number of the piece at a place.
-fn piece_at(place: &PlaceLine) -> u64
-    ensures { result ≡ number_in place.now }
-{
-    match place {
-        PlaceLine::Piece { piece, .. } => *piece,
-        PlaceLine::Anchor { .. } => 0,
+    if !is_near_line(parts, tree, line, place.piece, next, spacing) {
+        return false;
     }
+    owner[place.piece as usize] != owner[next as usize]
 }
 
 /// The first place whose piece isn't the layer's, stood before, or doesn't conflict with the next one, the first one after the last.
@@ -172,11 +127,11 @@ fn first_wrong(
     ensures { (features : List (List Rect)) → IsFirstBadOf (IsBadPlace spacing (cut_view features cut.now.pieces) cycle.now near.now) cycle.now result }
 {
     for k in 0..cycle.len() {
-        let next = &cycle[(k + 1) % cycle.len()];
+        let piece = cycle[k].piece;
+        let next = cycle[(k + 1) % cycle.len()].piece;
         if !is_right(cut, tree, &cycle[k], next, &near[k], spacing) {
             return Some(k as u64);
         }
-        let piece = piece_at(&cycle[k]);
         if stood[piece as usize] {
             return Some(k as u64);
         }

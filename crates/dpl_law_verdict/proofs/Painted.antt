@@ -136,17 +136,15 @@ module _ (spacing : Spacing) (overlap : ℕ) (layer : List Rect) (c : Cut) (m : 
         head = record {
           rule = spacing.rule;
           overlap = overlap;
-          corner = spacing.corner;
           features = length c.features;
           pieces = length c.pieces;
           zones = length c.zones;
         };
         pieces = lines;
         stitches = stitch_lines;
-        gains = None;
       })
   painted-kept even = record {
-    rules = λ differs. elim differs [ inl ne ↦ ne refl | inr (inl ne) ↦ ne refl | inr (inr ne) ↦ ne refl ];
+    rules = λ differs. elim differs [ inl ne ↦ ne refl | inr ne ↦ ne refl ];
     counts = λ differs. differs (c.features, cut.features, refl);
     covered = λ (p, off). elim off [
       | inl (there, none) ↦ none ((cover None spacing overlap (Covers layer) c m cut masks p).1 there)

@@ -102,7 +102,7 @@ overlap-kept overlap a b pieces stitches none right p = (
 
 pub right-masks : (marks : Option Marks) (spacing : Spacing) (overlap : ℕ) (c : Claim) → VerdictOfClaim marks spacing overlap c Valid → AreRight spacing c.layer c.a c.b c.stitches
 right-masks marks spacing overlap c valid =
-    let one = unbroken (RulesDiffer spacing overlap c.head) (ShowsRules c.head c.gains) (VerdictFromCounts marks spacing overlap c) Valid (λ e. cc) valid in
+    let one = unbroken (RulesDiffer spacing overlap c.head) (ShowsRules c.head) (VerdictFromCounts marks spacing overlap c) Valid (λ e. cc) valid in
     let two = unbroken (CountDiffers c.layer c.head) (ShowsCounts marks spacing overlap c.layer) (VerdictFromCover spacing overlap c) Valid (λ (f, p, z, are, e). cc) one.1 in
     let cover = unbroken (HasSquare (is_uncovered c.layer c.a c.b)) (ShowsCover c) (VerdictFromOverlap spacing overlap c) Valid (λ (p, least, e). cc) two.1 in
     let doubled = unbroken (HasSquare (is_doubled c.a c.b c.stitches)) (ShowsOverlap c) (VerdictFromSpacingA spacing overlap c) Valid (λ (p, least, e). cc) cover.1 in

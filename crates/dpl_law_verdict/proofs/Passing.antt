@@ -32,7 +32,7 @@ kept-valid marks spacing overlap c k = inr (k.rules, inr (k.counts, inr (k.cover
 
 pub valid-kept : (marks : Option Marks) (spacing : Spacing) (overlap : ℕ) (c : Claim) → VerdictOfClaim marks spacing overlap c Valid → IsKept spacing overlap c
 valid-kept marks spacing overlap c valid =
-    let one = unbroken (RulesDiffer spacing overlap c.head) (ShowsRules c.head c.gains) (VerdictFromCounts marks spacing overlap c) Valid (λ e. cc) valid in
+    let one = unbroken (RulesDiffer spacing overlap c.head) (ShowsRules c.head) (VerdictFromCounts marks spacing overlap c) Valid (λ e. cc) valid in
     let two = unbroken (CountDiffers c.layer c.head) (ShowsCounts marks spacing overlap c.layer) (VerdictFromCover spacing overlap c) Valid (λ (f, p, z, are, e). cc) one.1 in
     let cover = unbroken (HasSquare (is_uncovered c.layer c.a c.b)) (ShowsCover c) (VerdictFromOverlap spacing overlap c) Valid (λ (p, least, e). cc) two.1 in
     let doubled = unbroken (HasSquare (is_doubled c.a c.b c.stitches)) (ShowsOverlap c) (VerdictFromSpacingA spacing overlap c) Valid (λ (p, least, e). cc) cover.1 in

@@ -1,4 +1,4 @@
-pub mod Own
 pub mod Valid
 pub mod Lines
+pub mod Own
 pub mod Written

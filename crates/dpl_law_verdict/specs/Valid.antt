@@ -15,11 +15,7 @@ use Rattle.dpl_cert.specs.declared.cert.Head.{Head}
 use Rattle.dpl_cert.specs.declared.cert.PieceLine.{PieceLine}
 use Rattle.dpl_cert.specs.declared.cert.StitchLine.{StitchLine}
 use Rattle.dpl_cert.specs.declared.cert.PlaceLine.{PlaceLine}
-use Rattle.dpl_cert.specs.declared.cert.PlaceLine.TheVariants.{Piece, Anchor}
 use Rattle.dpl_cert.specs.declared.cert.NearLine.{NearLine}
-use Rattle.dpl_cert.specs.declared.cert.Gain.{Gain}
-use Rattle.dpl_spec_verdict.specs.Conflicts.{number_in}
-use Rattle.dpl_law_verdict.specs.Own.{ShowsPair}
 use Rattle.dpl_cert.specs.declared.cert.Cert.TheVariants.{Masks, Conflict}
 use Rattle.dpl_cert.specs.Grammar.{IsCert}
 use Rattle.dpl_spec_verdict.specs.declared.Verdict.TheVariants.{Valid}
@@ -38,37 +34,28 @@ pub record AreRight (spacing : Spacing) (layer a b : List Rect) (stitches : List
   pub overlap : (p : Pt) → (Covers a p × Covers b p) ↔ Any (λ s. Has s.rect p) stitches
 
 abbrev pub ValidMasksAreRight : Type 0
-ValidMasksAreRight = (marks : Option Marks) (spacing : Spacing) (overlap : ℕ) (layer a b : List Rect) (head : Head) (pieces : List PieceLine) (stitches : List StitchLine) (gains : Option (List Gain))
-    → IsVerdictOfMasks marks spacing overlap layer a b (Masks head pieces stitches gains) Valid → AreRight spacing layer a b stitches
+ValidMasksAreRight = (marks : Option Marks) (spacing : Spacing) (overlap : ℕ) (layer a b : List Rect) (head : Head) (pieces : List PieceLine) (stitches : List StitchLine)
+    → IsVerdictOfMasks marks spacing overlap layer a b (Masks head pieces stitches) Valid → AreRight spacing layer a b stitches
 
 -- the numbers of the pieces at the places of a cycle
 abbrev pub pieces_of : List PlaceLine → List ℕ
-pieces_of cycle = map number_in cycle
+pieces_of cycle = map (λ (place : PlaceLine). place.piece) cycle
 
 -- near squares of the two sets
-pub record AreNearSquares (spacing : Spacing) (a b : Region) (p q : Pt) : Type 0 where
-  pub from : a p
-  pub to : b q
-  pub close : Near spacing p q
-
--- the line has near squares of the two sets
-abbrev pub ShowsNear : Spacing → Region → Region → NearLine → Type 0
-ShowsNear spacing a b line = ShowsPair (AreNearSquares spacing a b) line
-
--- the place names a piece by its least square
-abbrev pub IsKeyed : List (List Rect) → PlaceLine → Type 0
-IsKeyed pieces (Piece n key) = IsLeast (part_at pieces n) key
-IsKeyed pieces (Anchor b) = ⊥
+pub record ShowsNear (spacing : Spacing) (a b : Region) (line : NearLine) : Type 0 where
+  pub from : a line.from
+  pub to : b line.to
+  pub close : Near spacing line.from line.to
 
 -- The pieces at these places are an odd cycle of conflicts of the layer, each named by its least square, with near squares of it and of the
 -- next one, the last with the first. The head has the rules, and how many features, pieces and zones the layer has.
 pub record IsCycleOf (marks : Option Marks) (spacing : Spacing) (overlap : ℕ) (layer : List Rect) (head : Head) (cycle : List PlaceLine) (near : List NearLine) : Type 0 where
   pub cut : Cut
   pub is_cut : IsCut marks spacing overlap (Covers layer) cut
-  pub rules : (head.rule ≡ spacing.rule) × (head.overlap ≡ overlap) × (head.corner ≡ spacing.corner)
+  pub rules : (head.rule ≡ spacing.rule) × (head.overlap ≡ overlap)
   pub counted : (head.features ≡ length cut.features) × (head.pieces ≡ length cut.pieces) × (head.zones ≡ length cut.zones)
   pub odd : IsOddCycle (conflicts spacing cut) (pieces_of cycle)
-  pub keyed : All (IsKeyed cut.pieces) cycle
+  pub keyed : All (λ (place : PlaceLine). IsLeast (part_at cut.pieces place.piece) place.key) cycle
   pub shown : (k : ℕ) (d : NearLine) → k < length cycle
       → ShowsNear spacing (part_at cut.pieces (slice_index (pieces_of cycle) k))
       (part_at cut.pieces (slice_index (pieces_of cycle) ((k + 1) % length cycle))) (slice_index_or near k d)

@@ -1,5 +1,5 @@
 -- The lines that are said.
-use Rattle.std.specs.Prelude.{ℕ, List, [], ◌∷◌, ◌++◌, codes, length, Some, None}
+use Rattle.std.specs.Prelude.{ℕ, List, [], ◌∷◌, ◌++◌, codes, length}
 use Rattle.std.specs.Fmt.{decimal, signed_decimal}
 use Rattle.dpl_spec_split.specs.declared.Pt.{Pt}
 use Rattle.dpl_cert.specs.declared.cert.Cert.{Cert}
@@ -45,7 +45,7 @@ bad_line_line n = line (codes "refused" ∷ codes "cert" ∷ codes "Line" ∷ de
 
 -- what a certificate that is kept says
 abbrev pub valid_line : Cert → List ℕ
-valid_line (Masks head pieces stitches gains) = line (codes "valid" ∷ codes "masks" ∷ stitches_words (length stitches))
+valid_line (Masks head pieces stitches) = line (codes "valid" ∷ codes "masks" ∷ stitches_words (length stitches))
 valid_line (Conflict head cycle near) = line (codes "valid" ∷ codes "conflict" ∷ cycle_words (length cycle))
 valid_line (Fault name at) = []
 
@@ -55,8 +55,7 @@ point_words p = signed_decimal p.x ∷ signed_decimal p.y ∷ []
 -- the property that is broken, and what shows it
 abbrev pub broken_words : Verdict → List (List ℕ)
 broken_words Valid = []
-broken_words (Rules rule overlap None) = codes "Rules" ∷ decimal rule ∷ decimal overlap ∷ []
-broken_words (Rules rule overlap (Some corner)) = codes "Rules" ∷ decimal rule ∷ decimal overlap ∷ decimal corner ∷ []
+broken_words (Rules rule overlap) = codes "Rules" ∷ decimal rule ∷ decimal overlap ∷ []
 broken_words (WasFault name at) = codes "WasFault" ∷ spelling name ∷ decimal at ∷ []
 broken_words (Counts features pieces zones) = codes "Counts" ∷ decimal features ∷ decimal pieces ∷ decimal zones ∷ []
 broken_words (Cover at) = codes "Cover" ∷ point_words at

@@ -131,7 +131,6 @@ fn painted_output<'a>(
         head,
         pieces,
         stitches,
-        gains: None,
     };
     let masks = Write {
         name: options.output,

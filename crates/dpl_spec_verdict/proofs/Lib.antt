@@ -1,2 +1,1 @@
-pub mod GainLaws
 pub mod OrderLaws

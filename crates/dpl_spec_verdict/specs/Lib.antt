@@ -1,4 +1,3 @@
 pub mod Order
-pub mod Gains
 pub mod Masks
 pub mod Conflicts

@@ -10,36 +10,15 @@ const HEAD: &str = "dpl 1\nrule 30 overlap 10\n";
 const COUNTS: &str = "features 1 pieces 1 zones 0 stitches 0\n";
 
 /// A text in parts, and what is said of it.
-const TEXTS: [(&[&str], &str); 25] = [
+const TEXTS: [(&[&str], &str); 18] = [
     (&[""], "refused cert Line 1\n"),
     (
         &["dpl 01\nrule 30 overlap 10\n", ONE_BAR],
         "refused cert Line 1\n",
     ),
     (
-        &["dpl 4\nrule 30 overlap 10 corner 29\n", ONE_BAR],
-        "refused cert Line 1\n",
-    ),
-    // Only version 1 goes without a corner rule, and version 2 names one that is less than the rule.
-    (
         &["dpl 2\nrule 30 overlap 10\n", ONE_BAR],
-        "refused cert Line 2\n",
-    ),
-    (
-        &["dpl 2\nrule 30 overlap 10 corner 30\n", ONE_BAR],
-        "refused cert Line 2\n",
-    ),
-    (
-        &["dpl 1\nrule 30 overlap 10 corner 29\n", ONE_BAR],
-        "refused cert Line 2\n",
-    ),
-    (
-        &["dpl 3\nrule 30 overlap 10 corner 31\n", ONE_BAR],
-        "refused cert Line 2\n",
-    ),
-    (
-        &["dpl 3\nrule 30 overlap 10 corner 30\n", ONE_BAR],
-        "refused cert Line 4\n",
+        "refused cert Line 1\n",
     ),
     (
         &["dpl  1\nrule 30 overlap 10\n", ONE_BAR],
@@ -97,23 +76,6 @@ const TEXTS: [(&[&str], &str); 25] = [
     (
         &[HEAD, "features 1 pieces 1 zones 0\ncycle 1\n"],
         "refused cert Line 4\n",
-    ),
-    // The numbers of gains rise, and leave room for those still to come.
-    (
-        &[
-            "dpl 3\nrule 30 overlap 10 corner 30\n",
-            COUNTS,
-            "gains 2\npiece 0 A 0 0\ngain 4 0 0\ngain 4 0 0\nend\n",
-        ],
-        "refused cert Line 7\n",
-    ),
-    (
-        &[
-            "dpl 3\nrule 30 overlap 10 corner 30\n",
-            COUNTS,
-            "gains 2\npiece 0 A 0 0\ngain 18446744073709551615 0 0\n",
-        ],
-        "refused cert Line 6\n",
     ),
     // The text ends before or in its last line, or goes on behind it.
     (&[HEAD, COUNTS, "piece 0 A 0 0\n"], "refused cert Line 5\n"),

@@ -58,27 +58,7 @@ struct Case {
     line: &'static str,
 }
 
-const CASES: [Case; 21] = [
-    // A certificate that names a corner rule is for another one than `check` asks for.
-    Case {
-        layer: &BAR,
-        masks: [&BAR, &[]],
-        cert: &["dpl 2\nrule 30 overlap 10 corner 29\n", ONE_BAR],
-        words: CHECK,
-        status: Status::CheckNo,
-        line: "no Rules 30 10 29\n",
-    },
-    Case {
-        layer: &BAR,
-        masks: [&BAR, &[]],
-        cert: &[
-            "dpl 3\nrule 30 overlap 10 corner 29\nfeatures 1 pieces 1 zones 0 stitches 0\ngains 0\n",
-            "piece 0 A 0 0\nend\n",
-        ],
-        words: CHECK,
-        status: Status::CheckNo,
-        line: "no Rules 30 10 29\n",
-    },
+const CASES: [Case; 19] = [
     Case {
         layer: &BAR,
         masks: [&BAR, &[]],

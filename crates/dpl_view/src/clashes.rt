@@ -37,7 +37,6 @@ pub fn clashes_of(
     overlap: u32,
 ) -> Result<Tangles, AllocError>
     requires corner { spacing.corner ≤ spacing.rule }
-    requires some { 1 ≤ spacing.corner }
     requires rule { IsRule spacing.rule }
     requires overlap { IsRule overlap }
     requires keys { HasPointKeys cut }
@@ -66,7 +65,6 @@ fn odd_clashes(
     overlap: u32,
 ) -> Result<Tangles, AllocError>
     requires corner { spacing.corner ≤ spacing.rule }
-    requires some { 1 ≤ spacing.corner }
     requires rule { IsRule spacing.rule }
     requires overlap { IsRule overlap }
     requires keys { (p : Pt) → Contains cut.now.pieces.keys p → IsPoint p }
@@ -91,7 +89,6 @@ fn told(
     overlap: u32,
 ) -> Result<Vec<Clash>, AllocError>
     requires corner { spacing.corner ≤ spacing.rule }
-    requires some { 1 ≤ spacing.corner }
     requires rule { IsRule spacing.rule }
     requires overlap { IsRule overlap }
     requires keys { (p : Pt) → Contains cut.now.pieces.keys p → IsPoint p }
@@ -115,7 +112,6 @@ fn clash(
     overlap: u32,
 ) -> Result<Clash, AllocError>
     requires corner { spacing.corner ≤ spacing.rule }
-    requires some { 1 ≤ spacing.corner }
     requires rule { IsRule spacing.rule }
     requires overlap { IsRule overlap }
     requires keys { (p : Pt) → Contains cut.now.pieces.keys p → IsPoint p }

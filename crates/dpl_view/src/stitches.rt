@@ -75,7 +75,6 @@ fn seams_of(
     overlap: u32,
 ) -> Result<Seams, AllocError>
     requires corner { spacing.corner ≤ spacing.rule }
-    requires some { 1 ≤ spacing.corner }
     requires rule { IsRule spacing.rule }
     requires overlap { IsRule overlap }
     requires keys { HasPointKeys cut }

@@ -80,6 +80,5 @@ returns-clause-fits c =
         subst (λ (ls : List PieceLine). AllByRecursion IsPiece ls) (sym c.of.ensures) c.in_ok-lines.ensures.within,
         subst (λ (ls : List StitchLine). IsNumber (length ls)) (sym c.of-2.ensures) few,
         subst (λ (ls : List StitchLine). AllByRecursion IsStitch ls) (sym c.of-2.ensures) c.in_ok-stitches.ensures.within,
-        tt,
       );
     }

@@ -2,20 +2,18 @@ use Rattle.std.specs.Prelude.{pos}
 use Rattle.std.proofs.Common.{length, get_or, false, rules}
 use Rattle.std.proofs.lemmas.Bool.{false≢true}
 use Rattle.dpl_cert.specs.declared.cert.PlaceLine.{PlaceLine}
-use Rattle.dpl_cert.specs.declared.cert.PlaceLine.TheVariants.{Piece}
 use Rattle.dpl_cert.specs.declared.cert.NearLine.{NearLine}
-use Rattle.dpl_cert.specs.declared.cert.NearLine.TheVariants.{Pair}
 use Rattle.dpl_spec_verdict.specs.Conflicts.{IsBadPlace}
 use Rattle.dpl_cut.specs.Cutting.{cut_view}
 use Rattle.dpl_check.proofs.Finding.{none-more, first-found, none-found}
-use Rattle.dpl_check.proofs.Placing.{not-right-bad, stood-bad, right-good, right-known, marked-next}
+use Rattle.dpl_check.proofs.Placing.{not-right-bad, stood-bad, right-good, marked-next}
 use Rattle.dpl_check.proofs.place.first_wrong.Goals as goal
 
 abbrev no_place : PlaceLine
-no_place = Piece 0 (record { x = pos 0; y = pos 0 })
+no_place = record { piece = 0; key = record { x = pos 0; y = pos 0 } }
 
 abbrev no_line : NearLine
-no_line = Pair (record { x = pos 0; y = pos 0 }) (record { x = pos 0; y = pos 0 })
+no_line = record { from = record { x = pos 0; y = pos 0 }; to = record { x = pos 0; y = pos 0 } }
 
 pub returns-then-not-is_right : goal.returns-then-not-is_right
 returns-then-not-is_right c features =
@@ -42,8 +40,7 @@ loop-k-preserved c =
           (right-good c.args.spacing features c.args.cut.now.pieces c.args.cycle.now c.args.near.now c.loop-k.k
           (search rules) place no_line c.loop-k.stood.items false c.loop-k.invariant.marked right (search rules))
           (c.loop-k.invariant.good features);
-      marked = rw c.piece_at-piece.ensures (marked-next (length c.args.cut.now.pieces.parts) c.args.cycle.now c.loop-k.k c.loop-k.stood.items
-          (right-known c.args.spacing c.args.cut.now.pieces place _ _ right) c.loop-k.invariant.marked);
+      marked = marked-next (length c.args.cut.now.pieces.parts) c.args.cycle.now c.loop-k.k c.loop-k.stood.items right.known c.loop-k.invariant.marked;
     }
 
 pub returns : goal.returns

@@ -1,4 +1,0 @@
-pub mod Holding
-pub mod Listing
-pub mod Rooting
-pub mod Whole

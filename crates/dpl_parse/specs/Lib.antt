@@ -1,4 +1,0 @@
-pub mod Reading
-pub mod Spelled
-pub mod Heads
-pub mod SpelledHeads
