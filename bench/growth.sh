@@ -11,12 +11,9 @@ set -eu
 here=$(cd "$(dirname "$0")" && pwd)
 . "$here/words.sh"
 read_words "bars dense mesh scatter polygons" "1000 10000 100000 1000000" "$@"
-dpl=$first
-kinds=$second
-sizes=$rest
-for kind in $kinds; do
+for kind in $second; do
     : >"$work/before"
-    for size in $sizes; do
+    for size in $rest; do
         python3 "$here/layouts.py" "$kind" "$size" 1 "$work/in.gds"
         python3 - "$dpl" "$kind" "$size" "$work" "${OPTIONS:-}" "${CHECK:-}" <<'PY'
 import os, subprocess, sys, time

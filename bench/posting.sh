@@ -13,11 +13,8 @@ set -eu
 here=$(cd "$(dirname "$0")" && pwd)
 . "$here/words.sh"
 read_words "1000000" "1 4 64" "$@"
-dpl=$first
-size=$second
-workers=$rest
-python3 "$here/layouts.py" bars "$size" 1 "$work/in.gds"
-python3 - "$dpl" "$work" "${ROUNDS:-3}" "$size" $workers <<'PY'
+python3 "$here/layouts.py" bars "$second" 1 "$work/in.gds"
+python3 - "$dpl" "$work" "${ROUNDS:-3}" "$second" $rest <<'PY'
 import subprocess, sys, time
 dpl, work, rounds, size, *workers = sys.argv[1:]
 files = [work + "/" + name for name in ("in.gds", "out.gds", "cert")]
