@@ -75,7 +75,7 @@ IsFlat spacing overlap layer flat = (cut : Cut) × IsCut None spacing overlap (C
 pub record FitsPainted (p : Painted) : Type 0 where
   pub a : AreRectsWithin farthest p.a
   pub b : AreRectsWithin farthest p.b
-  pub cert : IsCert (MasksText p.head p.pieces p.stitches)
+  pub cert : IsCert (MasksText p.head p.pieces p.stitches None)
 
 abbrev pub FitsClash : Clash → Type 0
 FitsClash x = IsCert (ConflictText x.head x.cycle x.near)

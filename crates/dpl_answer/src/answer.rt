@@ -25,7 +25,7 @@ use dpl_orient::orient;
 use dpl_stars::Joined;
 use std::alloc::{AllocError, Global};
 
-/// The masks of a cut layer whose conflict graph has no odd cycle, or the cycle that is reported of one: `spacing` is how far apart features are on one mask, `overlap` how long a stitch is, in database units.
+/// The masks of a cut layer whose conflict graph has no odd cycle, or the cycle that is reported of one: `spacing` is how far apart features are on one mask, `overlap` how long a stitch is, in database units. A corner rule of 0 isn't taken, as no certificate has one.
 ///
 /// The error: out of memory.
 pub fn answer_of(
@@ -36,6 +36,7 @@ pub fn answer_of(
     overlap: u32,
 ) -> Result<Decomposed, AllocError>
     requires corner { spacing.corner ≤ spacing.rule }
+    requires some { 1 ≤ spacing.corner }
     requires rule { IsRule spacing.rule }
     requires overlap { IsRule overlap }
     requires keys { HasPointKeys cut }
@@ -65,6 +66,7 @@ fn paint(
     overlap: u32,
 ) -> Result<Painted, AllocError>
     requires corner { spacing.corner ≤ spacing.rule }
+    requires some { 1 ≤ spacing.corner }
     requires rule { IsRule spacing.rule }
     requires overlap { IsRule overlap }
     requires keys { (p : Pt) → Contains cut.pieces.keys p → IsPoint p }
@@ -100,6 +102,7 @@ fn clash(
     overlap: u32,
 ) -> Result<Clash, AllocError>
     requires corner { spacing.corner ≤ spacing.rule }
+    requires some { 1 ≤ spacing.corner }
     requires rule { IsRule spacing.rule }
     requires overlap { IsRule overlap }
     requires keys { (p : Pt) → Contains cut.now.pieces.keys p → IsPoint p }

@@ -1,5 +1,5 @@
 //! The lines of a certificate.
-ghost use Rattle.std.specs.Prelude.{◌≡◌, ◌<◌, ℕ, IfOk, length, map};
+ghost use Rattle.std.specs.Prelude.{◌≡◌, ◌<◌, ◌≤◌, ℕ, IfOk, length, map};
 ghost use Rattle.std.specs.List.{All, AllByRecursion, Contains, zip};
 ghost use Rattle.dpl_spec_split.specs.declared.Pt.{Pt};
 ghost use Rattle.dpl_spec_split.specs.Loops.{farthest};
@@ -19,14 +19,17 @@ use std::alloc::{AllocError, Global};
 /// The rules, and how many features, pieces and zones there are.
 pub fn head(cut: &LayerCut, spacing: Spacing, overlap: u32) -> Head
     requires rule { IsRule spacing.rule }
+    requires corner { spacing.corner ≤ spacing.rule }
     requires overlap { IsRule overlap }
     ensures value { OfAnyCut cut.now (λ c. result ≡ head_of spacing overlap c) }
     ensures pieces { result.pieces ≡ length cut.now.pieces.parts }
-    ensures fits { IsHead result }
+    // No certificate has a corner rule of 0.
+    ensures fits { 1 ≤ spacing.corner → IsHead result }
 {
     Head {
         rule: spacing.rule,
         overlap,
+        corner: spacing.corner,
         features: feature_count(cut),
         pieces: cut.pieces.parts().items().len() as u64,
         zones: cut.pieces.zones().len() as u64,
@@ -110,7 +113,7 @@ pub fn place_lines(
 {
     let mut lines = Vec::new(alloc);
     for piece in cycle {
-        lines.push(PlaceLine {
+        lines.push(PlaceLine::Piece {
             piece: *piece,
             key: pieces.key(*piece as usize),
         })?;

@@ -5,6 +5,7 @@ ghost use Rattle.dpl_spec_split.specs.Squares.{AreNear};
 ghost use Rattle.dpl_spec_split.specs.Zones.{part_at};
 ghost use Rattle.dpl_cert.specs.Grammar.{IsNear};
 ghost use Rattle.dpl_nearest.specs.Nearest.{IsNearestPair};
+ghost use Rattle.dpl_law_verdict.specs.Own.{ShowsPair};
 ghost use Rattle.dpl_answer.specs.Flat.{AreNearest};
 
 use dpl_base::{Id, Spacing};
@@ -26,13 +27,13 @@ fn near_line(
     requires first { i < length parts.now }
     requires second { j < length parts.now }
     requires near { AreNear spacing (part_at parts.now i) (part_at parts.now j) }
-    ensures nearest { IfOk result (λ line. IsNearestPair spacing (part_at parts.now i) (part_at parts.now j) line.from line.to) }
+    ensures nearest { IfOk result (λ line. ShowsPair (IsNearestPair spacing (part_at parts.now i) (part_at parts.now j)) line) }
     ensures within { IfOk result (λ line. IsNear line) }
 {
     let Some((from, to)) = nearest(alloc, parts[i].rects(), parts[j].rects(), spacing)? else {
         unreachable!()
     };
-    Ok(NearLine { from, to })
+    Ok(NearLine::Pair { from, to })
 }
 
 /// For each piece of a cycle the least pair of near squares with the next one, the last with the first.

@@ -3,19 +3,12 @@
 #![tactic(auto)]
 
 mod cert;
-mod fault;
-mod heads;
 mod key;
 mod name;
-mod reading;
-mod rows;
-mod words;
 mod writing;
 
-pub use cert::{Cert, Head, NearLine, PieceLine, PlaceLine, StitchLine};
+pub use cert::{Cert, Gain, Head, NearLine, PieceLine, PlaceLine, StitchLine, Version};
 pub use dpl_base::{Id, Listed};
-pub use fault::CertFault;
 pub use key::Key;
-pub use name::Name;
-pub use reading::{one_certificate, read_cert};
-pub use writing::cert_bytes;
+pub use name::{Name, name_of};
+pub use writing::{cert_bytes, named_corner};

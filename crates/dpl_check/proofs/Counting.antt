@@ -9,7 +9,7 @@ use Rattle.dpl_spec_split.specs.Decomposition.{Cut, IsCut}
 use Rattle.std.specs.Prelude.{Option}
 use Rattle.dpl_spec_split.proofs.MarkLaws.{none-marked}
 use Rattle.dpl_spec_split.specs.Marks.{asked, AreMarks, Marks}
-use Rattle.dpl_spec_verdict.proofs.OrderLaws.{one-cut}
+use Rattle.dpl_spec_verdict.proofs.GainLaws.{one-cut}
 use Rattle.dpl_cert.specs.declared.cert.Head.{Head}
 use Rattle.dpl_spec_verdict.specs.Conflicts.{CountsDiffer}
 use Rattle.dpl_cut.specs.declared.LayerCut.{LayerCut}

@@ -5,5 +5,8 @@ pub mod Stitches
 pub mod Owning
 pub mod Apart
 pub mod Placing
+pub mod Joining
 pub mod Counting
 pub mod Around
+pub mod Marking
+pub mod Gaining

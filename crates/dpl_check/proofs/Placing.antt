@@ -1,9 +1,9 @@
 -- Places of a cycle, and the pieces that squares lie in.
-use Rattle.std.proofs.Common.{◌≡◌, ℕ, ◌+◌, ◌*◌, ◌%◌, ◌<◌, inl, inr, Bool, true, false, List, [], length, get_or, set, sym, ap, ◌∙◌, subst, arith}
+use Rattle.std.proofs.Common.{◌≡◌, ℕ, ◌+◌, ◌%◌, ◌<◌, inl, inr, true, false, List, [], length, get_or, Option, sym, ◌∙◌, subst, arith}
 use Rattle.std.specs.Prelude.{◌↔◌}
 use Rattle.std.proofs.lemmas.Int.{ints}
 use Rattle.std.proofs.lemmas.Bool.{cases_eq, cases_lt, cases_order, false≢true}
-use Rattle.std.proofs.lemmas.List.{get_or_default, get_or_past, get_or-set_same, get_or-set_other, length-set}
+use Rattle.std.proofs.lemmas.List.{get_or_default, get_or_past}
 use Rattle.dpl_spec_split.specs.declared.Spacing.{Spacing}
 use Rattle.dpl_spec_split.specs.declared.Pt.{Pt}
 use Rattle.dpl_spec_split.specs.declared.Rect.{Rect}
@@ -19,10 +19,12 @@ use Rattle.dpl_nearest.proofs.UnitLaws.{unit_fits}
 use Rattle.dpl_cert.specs.Grammar.{IsPoint}
 use Rattle.dpl_piece.specs.Cutting.{CutPieces}
 use Rattle.dpl_cert.specs.declared.cert.PlaceLine.{PlaceLine}
+use Rattle.dpl_cert.specs.declared.cert.PlaceLine.TheVariants.{Piece, Anchor}
+use Rattle.dpl_spec_split.specs.Marks.{Marks}
 use Rattle.dpl_cert.specs.declared.cert.NearLine.{NearLine}
-use Rattle.dpl_spec_verdict.specs.Conflicts.{IsBadPlace, IsGoodPlace, piece_of}
-use Rattle.dpl_cut.specs.Cutting.{cut_view}
-use Rattle.dpl_check.specs.Places.{AreMarked, IsRightPlace}
+use Rattle.dpl_spec_verdict.specs.Conflicts.{AreJoined, AreSame, IsBadPlace, IsNamed, place_at}
+use Rattle.dpl_check.specs.declared.stood.Stood.{Stood}
+use Rattle.dpl_check.specs.Places.{AreNoted, HasNoted, IsBelow, bare, stood_at}
 use Rattle.dpl_check.proofs.Windows.{unit-only, unit-self}
 
 nothing : (p : Pt) → Covers [] p → ⊥
@@ -64,61 +66,48 @@ near-units spacing p q u v e f = (
   λ close. (p, q, subst (λ (w : Rect). Has w p) (sym e) (unit-self p), subst (λ (w : Rect). Has w q) (sym f) (unit-self q), close),
 )
 
-module _ (spacing : Spacing) (features : List (List Rect)) (pieces : CutPieces) (cycle : List PlaceLine) (near : List NearLine) (k : ℕ)
+-- what is named is below the count of pieces
+pub named-below : (marks : Option Marks) (pieces : CutPieces) (place : PlaceLine) → IsNamed marks (bare pieces) place → IsBelow (length pieces.parts) place
+named-below marks pieces (Piece n key) named = named.0
+named-below marks pieces (Anchor b) named = tt
+
+module _ (marks : Option Marks) (spacing : Spacing) (pieces : CutPieces) (cycle : List PlaceLine) (near : List NearLine) (k : ℕ)
     (k_in : k < length near) (place : PlaceLine) (e : NearLine) where
-  good-right : (line : NearLine) → IsGoodPlace spacing (cut_view features pieces) cycle place (piece_of cycle ((k + 1) % length cycle)) k line
-      → IsRightPlace spacing pieces place (piece_of cycle ((k + 1) % length cycle)) line
-  good-right line good = record {
-    known = good.known;
-    key = good.key;
-    conflict = record { from = good.from; to = good.to; near = good.near };
-    apart = good.apart;
-  }
+  abbrev next : PlaceLine
+  next = place_at cycle ((k + 1) % length cycle)
 
-  pub not-right-bad : (IsRightPlace spacing pieces place (piece_of cycle ((k + 1) % length cycle)) (get_or near k e) → ⊥)
-      → IsBadPlace spacing (cut_view features pieces) cycle near k place
-  not-right-bad never d good = never (subst (λ line. IsRightPlace spacing pieces place (piece_of cycle ((k + 1) % length cycle)) line)
-      (get_or_default near k d e k_in) (good-right (get_or near k d) good))
+  pub unnamed-bad : (IsNamed marks (bare pieces) place → ⊥) → IsBadPlace marks spacing (bare pieces) cycle near k place
+  unnamed-bad never d good = never good.named
 
-  pub stood-bad : (stood : List Bool) (b : Bool) → AreMarked (length pieces.parts) cycle k stood
-      → IsRightPlace spacing pieces place (piece_of cycle ((k + 1) % length cycle)) (get_or near k e) → get_or stood place.piece b ≡ true
-      → IsBadPlace spacing (cut_view features pieces) cycle near k place
-  stood-bad stood b marked right is d good = let (j, l, same) = (marked.exactly place.piece b right.known).0 is in good.new j l same
+  pub unjoined-bad : (AreJoined marks spacing (bare pieces) place next (get_or near k e) → ⊥) → IsBadPlace marks spacing (bare pieces) cycle near k place
+  unjoined-bad never d good = never (subst (λ (line : NearLine). AreJoined marks spacing (bare pieces) place next line)
+      (get_or_default near k d e k_in) good.joined)
 
-  pub right-good : (stood : List Bool) (b : Bool) → AreMarked (length pieces.parts) cycle k stood
-      → IsRightPlace spacing pieces place (piece_of cycle ((k + 1) % length cycle)) (get_or near k e) → get_or stood place.piece b ≡ false
-      → IsBadPlace spacing (cut_view features pieces) cycle near k place → ⊥
-  right-good stood b marked right is bad = bad e (record {
-    known = right.known;
-    new = λ j l same. false≢true (sym is ∙ (marked.exactly place.piece b right.known).1 (j, l, same));
-    key = right.key;
-    from = right.conflict.from;
-    to = right.conflict.to;
-    near = right.conflict.near;
-    apart = right.apart;
-  })
+  module _ (count : ℕ) (stood : Stood) (noted : AreNoted count cycle k stood) where
+    pub stood-bad : stood_at stood place ≡ true → IsBadPlace marks spacing (bare pieces) cycle near k place
+    stood-bad is d good = let (j, l, same) = (noted.exactly place).0 is in good.new j l same
+
+    pub good-place : IsNamed marks (bare pieces) place → stood_at stood place ≡ false → AreJoined marks spacing (bare pieces) place next (get_or near k e)
+        → IsBadPlace marks spacing (bare pieces) cycle near k place → ⊥
+    good-place named fresh joined bad = bad e (record {
+      named = named;
+      new = λ j l same. false≢true (sym fresh ∙ (noted.exactly place).1 (j, l, same));
+      joined = joined;
+    })
 
 -- one place more
-pub marked-next : (count : ℕ) (cycle : List PlaceLine) (k : ℕ) (stood : List Bool) → piece_of cycle k < count
-    → AreMarked count cycle k stood → AreMarked count cycle (k + 1) (set stood (piece_of cycle k) true)
-marked-next count cycle k stood known marked = record {
-  each = length-set stood (piece_of cycle k) true ∙ marked.each;
-  exactly = λ n d n_in. elim (cases_eq n (piece_of cycle k)) [
-    | inl same ↦ (
-      λ is. (k, omega arith, sym same),
-      λ there. subst (λ m. get_or (set stood (piece_of cycle k) true) m d ≡ true) (sym same)
-          (get_or-set_same stood (piece_of cycle k) true d (let e = marked.each in omega (arith, e, known))),
-    )
-    | inr other ↦ (
-      λ is. (let (j, l, at_j) = (marked.exactly n d n_in).0 (sym (get_or-set_other stood (piece_of cycle k) n true d other) ∙ is) in (j, omega (arith, l), at_j)),
-      λ (j, l, at_j). get_or-set_other stood (piece_of cycle k) n true d other ∙ (marked.exactly n d n_in).1 (
-        j,
-        elim (cases_eq j k) [
-          | inl e ↦ absurd (other (sym at_j ∙ ap (λ m. piece_of cycle m) e))
-          | inr ne ↦ omega (arith, l, ne)
-        ],
-        at_j,
-      ),
-    )
-  ];
+pub noted-next : (count : ℕ) (cycle : List PlaceLine) (k : ℕ) (before after : Stood) → AreNoted count cycle k before
+    → HasNoted (place_at cycle k) before after → AreNoted count cycle (k + 1) after
+noted-next count cycle k before after noted more = record {
+  each = more.each ∙ noted.each;
+  exactly = λ place. (
+    λ is. elim ((more.exactly place).0 is) [
+      | inl same ↦ (k, omega arith, same)
+      | inr was ↦ (let (j, l, same) = (noted.exactly place).0 was in (j, omega (arith, l), same))
+    ],
+    λ (j, l, same). (more.exactly place).1 (elim (cases_eq j k) [
+      | inl e ↦ inl (subst (λ (m : ℕ). AreSame (place_at cycle m) place) e same)
+      | inr ne ↦ inr ((noted.exactly place).1 (j, omega (arith, l, ne), same))
+    ]),
+  );
 }

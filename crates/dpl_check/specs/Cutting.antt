@@ -9,6 +9,10 @@ use Rattle.dpl_cut.specs.declared.LayerCut.{LayerCut}
 abbrev pub ShowsCountsOf : LayerCut → Verdict → Type 0
 ShowsCountsOf c v = v ≡ Counts c.features (length c.pieces.parts) (length c.pieces.zones)
 
+-- the certificate counts other pieces or zones
+abbrev pub CountsOtherPieces : Head → LayerCut → Type 0
+CountsOtherPieces head c = (length c.pieces.parts ≢ head.pieces) ⊎ (length c.pieces.zones ≢ head.zones)
+
 -- the certificate counts other features, pieces or zones
 abbrev pub HasOtherCounts : Head → LayerCut → Type 0
 HasOtherCounts head c = (c.features ≢ head.features) ⊎ ((length c.pieces.parts ≢ head.pieces) ⊎ (length c.pieces.zones ≢ head.zones))

@@ -9,12 +9,16 @@ use Rattle.dpl_tree.specs.declared.owners.Owners.TheVariants.{All as Everyone}
 use Rattle.dpl_nearest.specs.Search.{ItemCovers}
 use Rattle.dpl_cert.specs.declared.cert.PieceLine.{PieceLine}
 use Rattle.dpl_cert.specs.declared.cert.StitchLine.{StitchLine}
-use Rattle.dpl_spec_verdict.specs.Masks.{piece_at}
+use Rattle.dpl_spec_verdict.specs.Masks.{is_alone, piece_at}
 use Rattle.dpl_spec_verdict.specs.Order.{HasBad, HasSquare, IsFirstBad, IsLeastPair}
 
 abbrev pub IsLeastOf : Region → Option Pt → Type 0
 IsLeastOf a None = ¬ HasSquare a
 IsLeastOf a (Some p) = IsLeast a p
+
+-- a marked square of the layer that isn't on the one mask alone
+abbrev pub is_off : List Rect → List Rect → List Rect → List Rect → Region
+is_off layer mask other marked p = Covers layer p × Covers marked p × ¬ is_alone mask other p
 
 -- in the set and in no listed stitch
 abbrev pub is_unlisted : List Rect → List StitchLine → Region

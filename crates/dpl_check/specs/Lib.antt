@@ -2,3 +2,4 @@ pub mod Findings
 pub mod Owned
 pub mod Cutting
 pub mod Places
+pub mod Anchors

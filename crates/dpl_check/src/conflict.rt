@@ -1,4 +1,4 @@
-//! Checks an odd cycle of a layer's pieces.
+//! Checks an odd cycle of a layer's pieces and anchors.
 ghost use Rattle.std.specs.Prelude.{◌≤◌, IfOk};
 ghost use Rattle.dpl_spec_split.specs.Marks.{asked};
 ghost use Rattle.dpl_cert.specs.Grammar.{IsCert, IsRule};
@@ -8,7 +8,7 @@ ghost use Rattle.dpl_spec_verdict.specs.Conflicts.{IsOfConflict, IsVerdictOfConf
 use crate::counts::{counts_differ, counts_of, rules_differ};
 use crate::place::bad_place;
 use dpl_base::Spacing;
-use dpl_cert::Cert;
+use dpl_cert::{Cert, named_corner};
 use dpl_cut::cut_within;
 use dpl_slabs::Slabs;
 use dpl_spec_verdict::Verdict;
@@ -29,7 +29,7 @@ fn marked_squares(
     Ok(Slabs::empty(alloc))
 }
 
-/// Whether the odd cycle of a certificate is one of the layer's, for a spacing and an overlap in database units: the first property that is broken, or that none is. Where marks are asked for, squares of `mark_a` and `mark_b` cut no zones; else the two sets aren't looked at. The cycle is one of pieces alone, without anchors.
+/// Whether the odd cycle of a certificate is one of the layer's, for a spacing and an overlap in database units: the first property that is broken, or that none is. Where marks are asked for, squares of `mark_a` and `mark_b` cut no zones, and join their pieces to the anchor of mask B and to that of mask A; else the two sets aren't looked at, and the cycle has no anchors.
 pub fn check_conflict(
     alloc: Global,
     layer: &Slabs,
@@ -54,6 +54,7 @@ pub fn check_conflict(
         return Ok(Verdict::Rules {
             rule: head.rule,
             overlap: head.overlap,
+            corner: named_corner(head, &None),
         });
     }
     let marked = marked_squares(alloc, mark_a, mark_b, marks)?;
@@ -61,7 +62,8 @@ pub fn check_conflict(
     if counts_differ(head, &cut) {
         return Ok(counts_of(&cut));
     }
-    if let Some(place) = bad_place(alloc, &cut, cycle.items(), near.items(), spacing)? {
+    let (cycle, near) = (cycle.items(), near.items());
+    if let Some(place) = bad_place(alloc, &cut, cycle, near, spacing, mark_a, mark_b, marks)? {
         return Ok(Verdict::Cycle { place });
     }
     Ok(Verdict::Valid)

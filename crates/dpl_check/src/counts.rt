@@ -12,7 +12,7 @@ use dpl_slabs::Slabs;
 use dpl_spec_verdict::Verdict;
 use std::alloc::{AllocError, Global};
 
-/// Whether the certificate is for another rule or another overlap.
+/// Whether the certificate is for another rule, another overlap or another corner rule.
 pub(crate) fn rules_differ(head: &Head, spacing: Spacing, overlap: u32) -> bool
     ensures { IsTrue result ↔ RulesDiffer spacing overlap head.now }
 {
@@ -20,6 +20,9 @@ pub(crate) fn rules_differ(head: &Head, spacing: Spacing, overlap: u32) -> bool
         return true;
     }
     if head.overlap != overlap {
+        return true;
+    }
+    if head.corner != spacing.corner {
         return true;
     }
     false

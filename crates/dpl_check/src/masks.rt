@@ -6,17 +6,19 @@ ghost use Rattle.dpl_spec_verdict.specs.Masks.{IsOfMasks, IsVerdictOfMasks};
 
 use crate::counts::{counts, rules_differ};
 use crate::cover::{doubled, uncovered};
+use crate::gains::verdict_of_gains;
 use crate::letters::bad_piece;
+use crate::marks::misplaced;
 use crate::spacing::too_close;
 use crate::stitch::bad_stitch;
 use dpl_base::Spacing;
-use dpl_cert::Cert;
+use dpl_cert::{Cert, named_corner};
 use dpl_feature::features;
 use dpl_slabs::Slabs;
 use dpl_spec_verdict::Verdict;
 use std::alloc::{AllocError, Global};
 
-/// Whether masks `a` and `b` of a layer, with their certificate, are right for a spacing and an overlap in database units: the first property that is broken, or that none is. Squares of `mark_a` and `mark_b` cut no zones, which the counts tell; that they are on their masks alone isn't looked at.
+/// Whether masks `a` and `b` of a layer, with their certificate, are right for a spacing and an overlap in database units: the first property that is broken, or that none is. Squares of the layer in `mark_a` and `mark_b` are to be on mask A and mask B alone, and cut no zones, which the counts tell. Lines of gains are compared with the components of the layer's pieces.
 pub fn check_masks(
     alloc: Global,
     layer: &Slabs,
@@ -39,6 +41,7 @@ pub fn check_masks(
         head,
         pieces,
         stitches,
+        gains,
     } = cert
     else {
         unreachable!()
@@ -47,6 +50,7 @@ pub fn check_masks(
         return Ok(Verdict::Rules {
             rule: head.rule,
             overlap: head.overlap,
+            corner: named_corner(head, gains),
         });
     }
     let features = features(alloc, layer)?;
@@ -67,11 +71,18 @@ pub fn check_masks(
     if let Some((first, second)) = too_close(alloc, layer, &features, b, spacing)? {
         return Ok(Verdict::SpacingB { first, second });
     }
+    if let Some(at) = misplaced(alloc, layer, a, b, mark_a, mark_b)? {
+        return Ok(Verdict::Marked { at });
+    }
     if let Some(index) = bad_stitch(alloc, &both, pieces.items(), stitches.items(), overlap)? {
         return Ok(Verdict::Stitch { index });
     }
     if let Some(index) = bad_piece(alloc, a, b, pieces.items())? {
         return Ok(Verdict::Piece { index });
     }
-    Ok(Verdict::Valid)
+    let lines = pieces.items();
+    let verdict = verdict_of_gains(
+        alloc, layer, head, lines, gains, spacing, overlap, mark_a, mark_b,
+    )?;
+    Ok(verdict)
 }

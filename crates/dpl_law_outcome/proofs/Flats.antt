@@ -13,11 +13,13 @@ use Rattle.dpl_spec_split.proofs.Uniqueness.{roots-unique}
 use Rattle.dpl_spec_split.proofs.ColourLaws.{colours-unique}
 use Rattle.dpl_spec_split.proofs.CycleLaws.{cycle-unique}
 use Rattle.dpl_spec_split.proofs.WholeLaws.{answer-unique}
-use Rattle.dpl_spec_verdict.proofs.OrderLaws.{one-cut}
+use Rattle.dpl_spec_verdict.proofs.GainLaws.{one-cut}
 use Rattle.std.specs.Prelude.{None}
 use Rattle.dpl_cert.specs.declared.cert.Head.{Head}
 use Rattle.dpl_cert.specs.declared.cert.PlaceLine.{PlaceLine}
 use Rattle.dpl_cert.specs.declared.cert.NearLine.{NearLine}
+use Rattle.dpl_cert.specs.declared.cert.NearLine.TheVariants.{Pair, Mark, Anchors}
+use Rattle.dpl_law_verdict.specs.Own.{ShowsPair}
 use Rattle.dpl_nearest.specs.Nearest.{IsNearestPair}
 use Rattle.dpl_nearest.proofs.PairLaws.{nearest-unique}
 use Rattle.dpl_answer.specs.Flat.{Painted, Clash, Flat, Paints, Clashes, AreNearest, IsPaintedCut, IsClashOfCut, IsFlatCut, IsFlat}
@@ -50,11 +52,13 @@ painted-same spacing overlap c x y a b =
 
 -- ---- cycles
 
-abbrev line_at : Pt → Pt → NearLine
-line_at p q = record { from = p; to = q }
-
-nearest-same : (spacing : Spacing) (p q : Region) (m n : NearLine) → IsNearestPair spacing p q m.from m.to → IsNearestPair spacing p q n.from n.to → m ≡ n
-nearest-same spacing p q m n a b = let one = nearest-unique spacing p q m.from m.to n.from n.to a b in ap (λ r. line_at r m.to) one.0 ∙ ap (λ r. line_at n.from r) one.1
+nearest-same : (spacing : Spacing) (p q : Region) (m n : NearLine) → ShowsPair (IsNearestPair spacing p q) m → ShowsPair (IsNearestPair spacing p q) n → m ≡ n
+nearest-same spacing p q (Pair from to) (Pair first second) a b =
+    let one = nearest-unique spacing p q from to first second a b in ap (λ r. Pair r to) one.0 ∙ ap (λ r. Pair first r) one.1
+nearest-same spacing p q (Pair from to) (Mark at) a b = absurd b
+nearest-same spacing p q (Pair from to) Anchors a b = absurd b
+nearest-same spacing p q (Mark at) n a b = absurd a
+nearest-same spacing p q Anchors n a b = absurd a
 
 near-same : (spacing : Spacing) (pieces : List (List Rect)) (cycle : List ℕ) (ms ns : List NearLine) → AreNearest spacing pieces cycle ms → AreNearest spacing pieces cycle ns → ms ≡ ns
 near-same spacing pieces cycle ms ns a b =

@@ -9,9 +9,9 @@ use Rattle.dpl_cert.specs.declared.cert.Cert.{Cert}
 use Rattle.dpl_cert.specs.declared.cert.Cert.TheVariants.{Masks, Conflict, Fault}
 use Rattle.dpl_cert.specs.Lines.{lines}
 use Rattle.dpl_cert.specs.Grammar.{IsText}
-use Rattle.dpl_cert.specs.Reading.{IsBadLine}
-use Rattle.dpl_cert.proofs.Whole.{lines-text}
-use Rattle.dpl_cert.proofs.Unique.{cert_same}
+use Rattle.dpl_parse.specs.Reading.{IsBadLine}
+use Rattle.dpl_parse.proofs.Whole.{lines-text}
+use Rattle.dpl_parse.proofs.Unique.{cert_same}
 use Rattle.dpl_spec_verdict.proofs.OrderLaws.{conflict-unique, masks-unique}
 use Rattle.dpl_words.specs.Meaning.{AsksCheck, AsksDemo, AsksSplit, CheckValues, DemoValues, SplitValues}
 use Rattle.dpl_demo.specs.Demo.{demo_file}
@@ -88,8 +88,8 @@ masks-same v layer cert bytes x y =
 
 cert-same : (v : CheckValues) (layer : List Rect) (out : Option (List ℕ)) (cert : Cert) (x y : Outcome) → IsCheckOfCert v layer out cert x
     → IsCheckOfCert v layer out cert y → x ≡ y
-cert-same v layer None (Masks h ps ss) x y p q = p ∙ sym q
-cert-same v layer (Some bytes) (Masks h ps ss) x y p q = masks-same v layer (Masks h ps ss) bytes x y p q
+cert-same v layer None (Masks h ps ss gs) x y p q = p ∙ sym q
+cert-same v layer (Some bytes) (Masks h ps ss gs) x y p q = masks-same v layer (Masks h ps ss gs) bytes x y p q
 cert-same v layer out (Conflict h cs ns) x y (w, is_w, p) (u, is_u, q) =
     p ∙ (ap (verdict_outcome (Conflict h cs ns)) (conflict-unique None (uniform v.rule) v.overlap layer (Conflict h cs ns) w u is_w is_u) ∙ sym q)
 cert-same v layer out (Fault name at) x y p q = p ∙ sym q

@@ -16,7 +16,7 @@ use Rattle.dpl_law_outcome.specs.Own.{PaintedIsValid, ClashIsValid}
 
 pub painted-valid : PaintedIsValid
 painted-valid spacing overlap layer cut p is_cut a =
-    subst (λ (q : Painted). IsVerdictOfMasks None spacing overlap layer q.a q.b (Masks q.head q.pieces q.stitches) Valid) (sym a.is)
+    subst (λ (q : Painted). IsVerdictOfMasks None spacing overlap layer q.a q.b (Masks q.head q.pieces q.stitches None) Valid) (sym a.is)
     (kept-valid None spacing overlap _ (painted-kept spacing overlap layer cut a.masks is_cut a.are_masks a.even))
 
 pub clash-valid : ClashIsValid

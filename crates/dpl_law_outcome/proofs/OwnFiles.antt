@@ -83,16 +83,16 @@ module _ (v : SplitValues) (o : Outside) (bytes front : List ℕ) (layer : List 
   within = layer-within lib l.top (chosen (split_choice v)) layer l.faultless l.squares
 
   abbrev IsFine : Painted → Type 0
-  IsFine p = IsMask p.a × IsMask p.b × IsCert (Masks p.head p.pieces p.stitches)
+  IsFine p = IsMask p.a × IsMask p.b × IsCert (Masks p.head p.pieces p.stitches None)
 
   painted-fine : (p : Painted) → IsPaintedCut (uniform v.rule) v.overlap cut p → IsFine p
   painted-fine p painted =
       let m = painted.masks in
-      let near = masks-within (uniform v.rule) v.overlap layer cut in_range.rule in_range.overlap within is_cut m painted.are_masks in
+      let near = masks-within (uniform v.rule) v.overlap layer cut in_range.rule (in_range.rule.0, omega arith) in_range.overlap within is_cut m painted.are_masks in
       subst (λ (q : Painted). IsFine q) (sym painted.is) (
         record { canonical = painted.are_masks.a.canonical; within = near.0 },
         record { canonical = painted.are_masks.b.canonical; within = near.1 },
-        masks-cert (uniform v.rule) v.overlap layer cut in_range.rule in_range.overlap within is_cut m painted.are_masks,
+        masks-cert (uniform v.rule) v.overlap layer cut in_range.rule (in_range.rule.0, omega arith) in_range.overlap within is_cut m painted.are_masks,
       )
 
   abbrev OutIsRead : List ℕ → Painted → Type 0
@@ -112,8 +112,8 @@ module _ (v : SplitValues) (o : Outside) (bytes front : List ℕ) (layer : List 
 
   -- with the files that are there
   masks-checked : (p : Painted) → IsPaintedCut (uniform v.rule) v.overlap cut p → AreSmall v front p
-      → IsCheck (checking v) (Some bytes) (Some (certified (Masks p.head p.pieces p.stitches))) (Some (file_bytes front v.a v.b p.a p.b))
-      (says Done (valid_line (Masks p.head p.pieces p.stitches)))
+      → IsCheck (checking v) (Some bytes) (Some (certified (Masks p.head p.pieces p.stitches None))) (Some (file_bytes front v.a v.b p.a p.b))
+      (says Done (valid_line (Masks p.head p.pieces p.stitches None)))
   masks-checked p painted small =
       let (first, second, cert) = painted-fine p painted in
       let ((fa, ra), (fb, rb)) = out-read p painted small in (
@@ -122,7 +122,7 @@ module _ (v : SplitValues) (o : Outside) (bytes front : List ℕ) (layer : List 
         inr (
           small.cert,
           inl (
-            Masks p.head p.pieces p.stitches,
+            Masks p.head p.pieces p.stitches None,
             (cert, refl),
             (Layer fa p.a, ra, (Layer fb p.b, rb, (Valid, painted-valid (uniform v.rule) v.overlap layer cut p is_cut painted, refl))),
           ),
@@ -131,12 +131,12 @@ module _ (v : SplitValues) (o : Outside) (bytes front : List ℕ) (layer : List 
 
   -- the files that are there
   masks-kept : (p : Painted) → IsPaintedCut (uniform v.rule) v.overlap cut p → AreSmall v front p
-      → IsPlan (Some (AsksCheck (checking v))) (carried_out (plan_of v (Decides front (Paints p))) o).files (says Done (valid_line (Masks p.head p.pieces p.stitches)))
+      → IsPlan (Some (AsksCheck (checking v))) (carried_out (plan_of v (Decides front (Paints p))) o).files (says Done (valid_line (Masks p.head p.pieces p.stitches None)))
   masks-kept p painted small =
       let own = own-names v apart in
       let file = file_bytes front v.a v.b p.a p.b in
-      let text = certified (Masks p.head p.pieces p.stitches) in
-      let x = says Done (valid_line (Masks p.head p.pieces p.stitches)) in
+      let text = certified (Masks p.head p.pieces p.stitches None) in
+      let x = says Done (valid_line (Masks p.head p.pieces p.stitches None)) in
       let one : Outside = with_file v.output file o in
       let two : Outside = with_file v.certificate text one in
       let input_is : file_of two v.input ≡ Some bytes = put_other one v.certificate text v.input own.cert ∙ (put_other o v.output file v.input own.out ∙ read) in
@@ -152,7 +152,7 @@ module _ (v : SplitValues) (o : Outside) (bytes front : List ℕ) (layer : List 
   clash-fine x clash =
       subst (λ (h : Head). IsCert (Conflict h x.cycle x.near)) (sym clash.head)
       (subst (λ (ps : List PlaceLine). IsCert (Conflict (head_of (uniform v.rule) v.overlap cut) ps x.near)) (sym clash.places)
-      (cycle-cert (uniform v.rule) v.overlap layer cut in_range.rule in_range.overlap within is_cut clash.cycle x.near clash.reported clash.nearest.each clash.nearest.pair))
+      (cycle-cert (uniform v.rule) v.overlap layer cut in_range.rule (in_range.rule.0, omega arith) in_range.overlap within is_cut clash.cycle x.near clash.reported clash.nearest.each clash.nearest.pair))
 
   clash-checked : (x : Clash) (out : Option (List ℕ)) → IsClashOfCut (uniform v.rule) v.overlap cut x → length (certified (Conflict x.head x.cycle x.near)) ≤ limit
       → IsCheck (checking v) (Some bytes) (Some (certified (Conflict x.head x.cycle x.near))) out (says Done (valid_line (Conflict x.head x.cycle x.near)))

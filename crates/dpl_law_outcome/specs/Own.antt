@@ -13,7 +13,7 @@ use Rattle.dpl_answer.specs.Flat.{Painted, Clash, IsPaintedCut, IsClashOfCut}
 -- nothing is wrong with the masks of a cut
 abbrev pub PaintedIsValid : Type 0
 PaintedIsValid = (spacing : Spacing) (overlap : ℕ) (layer : List Rect) (cut : Cut) (p : Painted) → IsCut None spacing overlap (Covers layer) cut → IsPaintedCut spacing overlap cut p
-    → IsVerdictOfMasks None spacing overlap layer p.a p.b (Masks p.head p.pieces p.stitches) Valid
+    → IsVerdictOfMasks None spacing overlap layer p.a p.b (Masks p.head p.pieces p.stitches None) Valid
 
 -- nothing is wrong with the cycle of a cut
 abbrev pub ClashIsValid : Type 0

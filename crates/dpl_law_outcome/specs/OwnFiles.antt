@@ -1,5 +1,5 @@
 -- `check` finds nothing broken in what `split` has written.
-use Rattle.std.specs.Prelude.{◌≡◌, ◌≤◌, ◌⊎◌, ℕ, List, length, Option, Some, option_map}
+use Rattle.std.specs.Prelude.{◌≡◌, ◌≤◌, ◌⊎◌, ℕ, List, length, Option, Some, None, option_map}
 use Rattle.clap.specs.Walk.{Text}
 use Rattle.dpl_host.specs.Outside.{Outside, file_of, with_said}
 use Rattle.dpl_cert.specs.declared.cert.Cert.{Cert}
@@ -34,7 +34,7 @@ checking v = record {
 
 -- the certificate of a decomposition
 abbrev pub cert_of : Flat → Cert
-cert_of (Paints p) = Masks p.head p.pieces p.stitches
+cert_of (Paints p) = Masks p.head p.pieces p.stitches None
 cert_of (Clashes x) = Conflict x.head x.cycle x.near
 
 -- Both files that are written are no larger than what is read, and no mask has more slabs.

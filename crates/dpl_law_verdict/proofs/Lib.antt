@@ -1,6 +1,9 @@
-pub mod Parting
-pub mod Cycles
+pub mod Telling
 pub mod Passing
+pub mod Parting
+pub mod Flips
+pub mod Joining
+pub mod Cycles
 pub mod Lines
 pub mod Painted
 pub mod Clashing

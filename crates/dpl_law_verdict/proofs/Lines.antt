@@ -10,6 +10,7 @@ use Rattle.dpl_spec_split.proofs.ComponentLaws.{components-unique}
 use Rattle.dpl_spec_split.specs.Marks.{Marks}
 use Rattle.dpl_cert.specs.declared.cert.Head.{Head}
 use Rattle.dpl_cert.specs.declared.cert.PieceLine.{PieceLine}
+use Rattle.dpl_cert.specs.declared.cert.Gain.{Gain}
 use Rattle.dpl_cert.specs.declared.cert.StitchLine.{StitchLine}
 use Rattle.dpl_cert.specs.declared.cert.Cert.TheVariants.{Masks}
 use Rattle.dpl_spec_verdict.specs.declared.Verdict.TheVariants.{Valid}
@@ -37,13 +38,13 @@ good-where overlap a b pieces s never = record {
   letters = λ e. never (λ g. g.letters e);
 }
 
-pub good-lines : (marks : Option Marks) (spacing : Spacing) (overlap : ℕ) (layer a b : List Rect) (head : Head) (pieces : List PieceLine) (stitches : List StitchLine)
-    → IsVerdictOfMasks marks spacing overlap layer a b (Masks head pieces stitches) Valid → AreGoodLines spacing overlap layer a b head pieces stitches
-good-lines marks spacing overlap layer a b head pieces stitches valid =
-    let claim : Claim = record { layer = layer; a = a; b = b; head = head; pieces = pieces; stitches = stitches } in
-    let k : IsKept spacing overlap claim = valid-kept marks spacing overlap claim valid in
+pub good-lines : (marks : Option Marks) (spacing : Spacing) (overlap : ℕ) (layer a b : List Rect) (head : Head) (pieces : List PieceLine) (stitches : List StitchLine) (gains : Option (List Gain))
+    → IsVerdictOfMasks marks spacing overlap layer a b (Masks head pieces stitches gains) Valid → AreGoodLines spacing overlap layer a b head pieces stitches
+good-lines marks spacing overlap layer a b head pieces stitches gains valid =
+    let claim : Claim = record { layer = layer; a = a; b = b; head = head; pieces = pieces; stitches = stitches; gains = gains } in
+    let k : IsKept marks spacing overlap claim = valid-kept marks spacing overlap claim valid in
     record {
-      rules = (equal-where head.rule spacing.rule (λ ne. k.rules (inl ne)), equal-where head.overlap overlap (λ ne. k.rules (inr ne)));
+      rules = (equal-where head.rule spacing.rule (λ ne. k.rules (inl ne)), equal-where head.overlap overlap (λ ne. k.rules (inr (inl ne))), equal-where head.corner spacing.corner (λ ne. k.rules (inr (inr ne))));
       counted = count-is layer head k.counts;
       stitched = λ n d n_in. good-where overlap a b pieces (get_or stitches n d) (none-bad (IsBadStitch overlap a b pieces) stitches k.stitches n d n_in);
       lettered = λ n d n_in. covered-where (cond (get_or pieces n d).b b a) (get_or pieces n d).key (none-bad (IsBadPiece a b) pieces k.pieces n d n_in);

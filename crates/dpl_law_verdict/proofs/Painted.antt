@@ -1,5 +1,5 @@
 -- Masks of a cut without an odd cycle are valid.
-use Rattle.std.proofs.Common.{◌≡◌, ◌≢◌, ℕ, ◌*◌, ◌<◌, ◌≤◌, ◌⊎◌, inl, inr, Bool, true, false, List, [], length, map, get_or, sym, refl, ap, ◌∙◌, subst, arith}
+use Rattle.std.proofs.Common.{◌≡◌, ◌≢◌, ℕ, ◌<◌, ◌≤◌, ◌⊎◌, inl, inr, Bool, true, false, List, [], length, map, get_or, sym, refl, ap, ◌∙◌, subst, arith}
 use Rattle.std.specs.Prelude.{None, pos, ◌≤ℤ◌, ◌-ℤ◌, ◌+ℤ◌, cond}
 use Rattle.std.specs.List.{Any, zip}
 use Rattle.std.proofs.Math.Nat.{min-eq_left}
@@ -10,7 +10,7 @@ use Rattle.dpl_spec_split.specs.declared.Spacing.{Spacing}
 use Rattle.dpl_spec_split.specs.declared.Pt.{Pt}
 use Rattle.dpl_spec_split.specs.declared.Rect.{Rect}
 use Rattle.dpl_spec_split.specs.declared.Zone.{Zone}
-use Rattle.dpl_spec_split.specs.Squares.{Region, Covers, Has, IsLeast, d2, Near}
+use Rattle.dpl_spec_split.specs.Squares.{Region, Covers, Has, IsLeast}
 use Rattle.dpl_spec_split.specs.Components.{Linked}
 use Rattle.dpl_spec_split.specs.Zones.{at, part_at, IsKeptZone}
 use Rattle.dpl_spec_split.specs.Pieces.{AreSides}
@@ -128,7 +128,7 @@ module _ (spacing : Spacing) (overlap : ℕ) (layer : List Rect) (c : Cut) (m : 
       far i j p q ne at_i at_j t.first t.second t.close
 
   pub painted-kept : (HasOddCycle (conflicts spacing c) → ⊥)
-      → IsKept spacing overlap
+      → IsKept None spacing overlap
       (record {
         layer = layer;
         a = m.a;
@@ -136,15 +136,17 @@ module _ (spacing : Spacing) (overlap : ℕ) (layer : List Rect) (c : Cut) (m : 
         head = record {
           rule = spacing.rule;
           overlap = overlap;
+          corner = spacing.corner;
           features = length c.features;
           pieces = length c.pieces;
           zones = length c.zones;
         };
         pieces = lines;
         stitches = stitch_lines;
+        gains = None;
       })
   painted-kept even = record {
-    rules = λ differs. elim differs [ inl ne ↦ ne refl | inr ne ↦ ne refl ];
+    rules = λ differs. elim differs [ inl ne ↦ ne refl | inr (inl ne) ↦ ne refl | inr (inr ne) ↦ ne refl ];
     counts = λ differs. differs (c.features, cut.features, refl);
     covered = λ (p, off). elim off [
       | inl (there, none) ↦ none ((cover None spacing overlap (Covers layer) c m cut masks p).1 there)
@@ -153,6 +155,7 @@ module _ (spacing : Spacing) (overlap : ℕ) (layer : List Rect) (c : Cut) (m : 
     doubled = λ (p, (in_a, in_b, none)). none (any-lines c.zones c.sides m.stitches p ((overlap-at None spacing overlap (Covers layer) c m cut masks p).0 (in_a, in_b)));
     tight_a = none-tight m.a (far-on-a None spacing overlap (Covers layer) c m cut masks even);
     tight_b = none-tight m.b (far-on-b None spacing overlap (Covers layer) c m cut masks even);
+    marked = λ (p, (there, off)). elim off [ inl (marked, lost) ↦ marked | inr (marked, lost) ↦ marked ];
     stitches = λ (n, n_in, bad). (
         let within : n < length m.stitches = subst (λ t. n < t) (length-map m.stitches (stitch_line c.zones c.sides)) n_in in
         let s : StitchLine = stitch_line c.zones c.sides (get_or m.stitches n 0) in
@@ -161,4 +164,5 @@ module _ (spacing : Spacing) (overlap : ℕ) (layer : List Rect) (c : Cut) (m : 
     pieces = λ (n, n_in, bad). (
         let d : PieceLine = piece_line (false, at (pos 0) (pos 0)) in
         bad d (key-masked n d (subst (λ t. n < t) many-lines n_in)));
+    gained = refl;
   }

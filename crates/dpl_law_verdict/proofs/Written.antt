@@ -22,6 +22,11 @@ use Rattle.dpl_law_split.proofs.Parts.{part-inside, zip-at, kept, zone-own, piec
 use Rattle.dpl_law_split.proofs.Cover.{as_many_sides, cover}
 use Rattle.dpl_slabs.proofs.LoopLaws.{Inside}
 use Rattle.dpl_cert.specs.declared.cert.NearLine.{NearLine}
+use Rattle.dpl_cert.specs.declared.cert.NearLine.TheVariants.{Pair, Mark, Anchors}
+use Rattle.dpl_law_verdict.specs.Own.{ShowsPair}
+use Rattle.dpl_law_verdict.specs.Written.{IsCorner}
+use Rattle.dpl_nearest.specs.Nearest.{IsNearestPair}
+use Rattle.std.specs.Prelude.{slice_index, ◌+◌, ◌%◌}
 use Rattle.dpl_cert.specs.declared.cert.Cert.TheVariants.{Masks as MasksText, Conflict as ConflictText}
 use Rattle.dpl_cert.specs.Grammar.{IsCert, IsCycleLength, IsHead, IsNear, IsPiece, IsPlace, IsPoint, IsRect, IsRule, IsStitch}
 use Rattle.dpl_law_verdict.specs.Own.{ShowNearest, head_of, no_zone, piece_line, place_line, stitch_line}
@@ -96,7 +101,7 @@ rect-of r solid (a, b, c, d) (e, f, g, h) = record {
 
 -- ---- the lines of a cut
 
-module _ (spacing : Spacing) (overlap : ℕ) (layer : List Rect) (c : Cut) (ruled : IsRule spacing.rule) (lapped : IsRule overlap)
+module _ (spacing : Spacing) (overlap : ℕ) (layer : List Rect) (c : Cut) (ruled : IsRule spacing.rule) (cornered : IsCorner spacing) (lapped : IsRule overlap)
     (within : AreRectsWithin farthest layer) (cut : IsCut None spacing overlap (Covers layer) c) where
   piece-inside : (k : ℕ) (p : Pt) → part_at c.pieces k p → Inside farthest p
   piece-inside k p has = covered-inside layer p within (piece-rest None spacing overlap (Covers layer) c cut k p has).0
@@ -137,6 +142,7 @@ module _ (spacing : Spacing) (overlap : ℕ) (layer : List Rect) (c : Cut) (rule
   head-fits = record {
     rule = ruled;
     overlap = lapped;
+    corner = cornered;
     features = few-parts layer (Covers layer) c.features within (λ p h. h) cut.features;
     pieces = few-pieces;
     zones = few-zones c.zones cut.zones.ordered first-inside;
@@ -175,13 +181,14 @@ module _ (spacing : Spacing) (overlap : ℕ) (layer : List Rect) (c : Cut) (rule
         let few = head-fits.zones in
         omega (arith, most, few)
 
-    pub masks-cert : IsCert (MasksText (head_of spacing overlap c) (map piece_line (zip masks.colours c.keys)) (map (stitch_line c.zones c.sides) m.stitches))
+    pub masks-cert : IsCert (MasksText (head_of spacing overlap c) (map piece_line (zip masks.colours c.keys)) (map (stitch_line c.zones c.sides) m.stitches) None)
     masks-cert = (
       head-fits,
       many-lines masks.colours c.keys (many-colours ∙ sym many-keys) ∙ many-keys,
       all-lines masks.colours c.keys keys-fit,
       subst (λ n. n < 2 ^ 64) (sym (length-map m.stitches (stitch_line c.zones c.sides))) few-stitches,
       all-map IsStitch (stitch_line c.zones c.sides) m.stitches (λ k i i_in is. stitch-fits k (i, i_in, is)),
+      tt,
     )
 
     pub masks-within : AreRectsWithin farthest m.a × AreRectsWithin farthest m.b
@@ -203,16 +210,19 @@ module _ (spacing : Spacing) (overlap : ℕ) (layer : List Rect) (c : Cut) (rule
     place-fits k k_in =
         let l = place-known k k_in in
         let few = few-pieces in
-        let key = get_or c.keys k (at (pos 0) (pos 0)) in
-        record {
-          piece = omega (arith, l, few);
-          key = point-of key (piece-inside k key (zip-at (λ piece p. IsLeast (Covers piece) p) c.pieces c.keys k [] (at (pos 0) (pos 0)) cut.pieces.keyed l).inside);
-        }
+        let key = get_or c.keys k (at (pos 0) (pos 0)) in (
+          omega (arith, l, few),
+          point-of key (piece-inside k key (zip-at (λ piece p. IsLeast (Covers piece) p) c.pieces c.keys k [] (at (pos 0) (pos 0)) cut.pieces.keyed l).inside),
+        )
+
+    near-line : (i j : ℕ) (line : NearLine) → ShowsPair (IsNearestPair spacing (part_at c.pieces i) (part_at c.pieces j)) line → IsNear line
+    near-line i j (Pair p q) pair = (point-of p (piece-inside i p pair.are.from), point-of q (piece-inside j q pair.are.to))
+    near-line i j (Mark p) pair = absurd pair
+    near-line i j Anchors pair = absurd pair
 
     near-fits : (k : ℕ) (d : NearLine) → k < length near → IsNear (get_or near k d)
     near-fits k d k_in =
-        let pair = (pairs k d (subst (λ n. k < n) each k_in)).are in
-        record { from = point-of _ (piece-inside _ _ pair.from); to = point-of _ (piece-inside _ _ pair.to) }
+        near-line (slice_index cycle k) (slice_index cycle ((k + 1) % length cycle)) (get_or near k d) (pairs k d (subst (λ n. k < n) each k_in))
 
     cycle-length : IsCycleLength (length cycle)
     cycle-length =

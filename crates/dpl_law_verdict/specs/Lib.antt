@@ -1,4 +1,5 @@
+pub mod Own
 pub mod Valid
 pub mod Lines
-pub mod Own
 pub mod Written
+pub mod Flips

@@ -15,14 +15,16 @@ use Rattle.dpl_cert.specs.declared.cert.Head.{Head}
 use Rattle.dpl_cert.specs.declared.cert.PieceLine.{PieceLine}
 use Rattle.dpl_cert.specs.declared.cert.StitchLine.{StitchLine}
 use Rattle.dpl_cert.specs.declared.cert.PlaceLine.{PlaceLine}
+use Rattle.dpl_cert.specs.declared.cert.PlaceLine.TheVariants.{Piece}
 use Rattle.dpl_cert.specs.declared.cert.NearLine.{NearLine}
+use Rattle.dpl_cert.specs.declared.cert.NearLine.TheVariants.{Pair, Mark, Anchors}
 use Rattle.dpl_cert.specs.declared.cert.Cert.TheVariants.{Masks as MasksText, Conflict as ConflictText}
 use Rattle.dpl_spec_verdict.specs.declared.Verdict.TheVariants.{Valid}
 use Rattle.dpl_spec_verdict.specs.Masks.{IsVerdictOfMasks}
 use Rattle.dpl_spec_verdict.specs.Conflicts.{IsVerdictOfConflict}
 
 abbrev pub head_of : Spacing → ℕ → Cut → Head
-head_of spacing overlap c = record { rule = spacing.rule; overlap = overlap; features = length c.features; pieces = length c.pieces; zones = length c.zones }
+head_of spacing overlap c = record { rule = spacing.rule; overlap = overlap; corner = spacing.corner; features = length c.features; pieces = length c.pieces; zones = length c.zones }
 
 -- a piece's letter and least square
 abbrev pub piece_line : Bool × Pt → PieceLine
@@ -37,19 +39,25 @@ stitch_line zones sides k = record { rect = (slice_index_or zones k no_zone).rec
 
 -- a piece of the cycle, with its least square
 abbrev pub place_line : List Pt → ℕ → PlaceLine
-place_line keys k = record { piece = k; key = slice_index_or keys k (at (pos 0) (pos 0)) }
+place_line keys k = Piece k (slice_index_or keys k (at (pos 0) (pos 0)))
+
+-- a line of two squares that are so related
+abbrev pub ShowsPair : (Pt → Pt → Type 0) → NearLine → Type 0
+ShowsPair related (Pair p q) = related p q
+ShowsPair related (Mark p) = ⊥
+ShowsPair related Anchors = ⊥
 
 -- for each piece of the cycle the least pair of near squares with the next one, the last with the first
 abbrev pub ShowNearest : Spacing → List (List Rect) → List ℕ → List NearLine → Type 0
 ShowNearest spacing pieces cycle near = (k : ℕ) (d : NearLine) → k < length cycle
-    → IsNearestPair spacing (part_at pieces (slice_index cycle k)) (part_at pieces (slice_index cycle ((k + 1) % length cycle)))
-    (slice_index_or near k d).from (slice_index_or near k d).to
+    → ShowsPair (IsNearestPair spacing (part_at pieces (slice_index cycle k)) (part_at pieces (slice_index cycle ((k + 1) % length cycle))))
+    (slice_index_or near k d)
 
 -- without an odd cycle of conflicts nothing is wrong with the masks and the lines of their certificate
 abbrev pub OwnMasksAreValid : Type 0
 OwnMasksAreValid = (spacing : Spacing) (overlap : ℕ) (layer : List Rect) (c : Cut) (m : Masks) → IsCut None spacing overlap (Covers layer) c → (are : AreMasks None spacing c m) → ¬ HasOddCycle (conflicts spacing c)
     → IsVerdictOfMasks None spacing overlap layer m.a m.b (MasksText (head_of spacing overlap c) (map piece_line (zip are.colours c.keys))
-    (map (stitch_line c.zones c.sides) m.stitches)) Valid
+    (map (stitch_line c.zones c.sides) m.stitches) None) Valid
 
 -- nothing is wrong with the reported cycle
 abbrev pub OwnCyclesAreValid : Type 0

@@ -1,5 +1,5 @@
 -- What is written of a decomposition lies within the bounds of what can be read.
-use Rattle.std.specs.Prelude.{None, ◌≡◌, ℕ, List, length, map}
+use Rattle.std.specs.Prelude.{None, ◌≡◌, ◌≤◌, ℕ, List, length, map}
 use Rattle.std.specs.List.{zip}
 use Rattle.dpl_spec_split.specs.declared.Spacing.{Spacing}
 use Rattle.dpl_spec_split.specs.declared.Rect.{Rect}
@@ -17,6 +17,10 @@ use Rattle.dpl_cert.specs.declared.cert.Cert.TheVariants.{Masks as MasksText, Co
 use Rattle.dpl_cert.specs.Grammar.{IsCert, IsRule}
 use Rattle.dpl_law_verdict.specs.Own.{ShowNearest, head_of, piece_line, place_line, stitch_line}
 
+-- the corner rule is at least 1 and not greater than the rule
+abbrev pub IsCorner : Spacing → Type 0
+IsCorner spacing = (1 ≤ spacing.corner) × (spacing.corner ≤ spacing.rule)
+
 -- a layer without a fault lies within the range
 abbrev pub FaultlessLayersAreWithin : Type 0
 FaultlessLayersAreWithin = (lib : Library) (top : ℕ) (chosen : Layer) (layer : List Rect) → IsFaultless lib top chosen
@@ -24,13 +28,13 @@ FaultlessLayersAreWithin = (lib : Library) (top : ℕ) (chosen : Layer) (layer :
 
 -- so do its masks, and the lines that tell of them are a certificate
 abbrev pub OwnMasksAreWritten : Type 0
-OwnMasksAreWritten = (spacing : Spacing) (overlap : ℕ) (layer : List Rect) (c : Cut) (m : Masks) → IsRule spacing.rule → IsRule overlap
+OwnMasksAreWritten = (spacing : Spacing) (overlap : ℕ) (layer : List Rect) (c : Cut) (m : Masks) → IsRule spacing.rule → IsCorner spacing → IsRule overlap
     → AreRectsWithin farthest layer → IsCut None spacing overlap (Covers layer) c → (are : AreMasks None spacing c m)
     → AreRectsWithin farthest m.a × AreRectsWithin farthest m.b
-    × IsCert (MasksText (head_of spacing overlap c) (map piece_line (zip are.colours c.keys)) (map (stitch_line c.zones c.sides) m.stitches))
+    × IsCert (MasksText (head_of spacing overlap c) (map piece_line (zip are.colours c.keys)) (map (stitch_line c.zones c.sides) m.stitches) None)
 
 -- and so are the lines of the cycle that is reported of it
 abbrev pub OwnCyclesAreWritten : Type 0
 OwnCyclesAreWritten = (spacing : Spacing) (overlap : ℕ) (layer : List Rect) (c : Cut) (cycle : List ℕ) (near : List NearLine) → IsRule spacing.rule
-    → IsRule overlap → AreRectsWithin farthest layer → IsCut None spacing overlap (Covers layer) c → IsReported (conflicts spacing c) cycle
+    → IsCorner spacing → IsRule overlap → AreRectsWithin farthest layer → IsCut None spacing overlap (Covers layer) c → IsReported (conflicts spacing c) cycle
     → length near ≡ length cycle → ShowNearest spacing c.pieces cycle near → IsCert (ConflictText (head_of spacing overlap c) (map (place_line c.keys) cycle) near)

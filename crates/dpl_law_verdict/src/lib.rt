@@ -1,9 +1,10 @@
 //! What follows where a checker finds nothing broken, whatever tool made the masks or the certificate.
 #![tactic(auto)]
 
+ghost use Rattle.dpl_law_verdict.specs.Flips.{NoFlipsLeaveFewer};
 ghost use Rattle.dpl_law_verdict.specs.Lines.{ValidLinesAreGood};
 ghost use Rattle.dpl_law_verdict.specs.Own.{OwnCyclesAreValid, OwnMasksAreValid};
-ghost use Rattle.dpl_law_verdict.specs.Valid.{ValidConflictsAreThere, ValidMasksAreRight};
+ghost use Rattle.dpl_law_verdict.specs.Valid.{ValidConflictsAreThere, ValidMasksAreRight, ValidMasksKeepMarks};
 ghost use Rattle.dpl_law_verdict.specs.Written.{FaultlessLayersAreWithin, OwnCyclesAreWritten, OwnMasksAreWritten};
 
 /// Valid masks cover the layer and nothing else, have no near squares of different features on one mask, and are both on a square exactly where it lies in a listed stitch.
@@ -16,7 +17,17 @@ pub fn valid_lines_are_good()
     ensures { ValidLinesAreGood }
 {}
 
-/// A valid certificate of a conflict lists an odd cycle of the layer's pieces, each by its least square, and squares of it and of the next piece that are near; it names the rule, the overlap, and how many features, pieces and zones there are.
+/// Where marks are asked for, valid masks keep them: each square of the layer that is marked A is on mask A and not on mask B, and the other way round.
+pub fn valid_masks_keep_marks()
+    ensures { ValidMasksKeepMarks }
+{}
+
+/// Where a valid certificate of masks has lines of gains, no flip of a single component of conflicts without a marked piece leaves fewer stitches than the letters of its pieces make.
+pub fn no_flips_leave_fewer()
+    ensures { NoFlipsLeaveFewer }
+{}
+
+/// The places of a valid certificate of a conflict are an odd cycle of the layer's conflict graph, with its anchors where marks are asked for. Each piece is named by its least square, and each line shows that two places are joined; the head names the rule, the overlap, and how many features, pieces and zones there are.
 pub fn valid_conflicts_are_there()
     ensures { ValidConflictsAreThere }
 {}

@@ -18,9 +18,9 @@ use Rattle.dpl_cert.specs.declared.name.Name.TheVariants.{TooLarge}
 use Rattle.dpl_cert.specs.declared.cert.Cert.{Cert}
 use Rattle.dpl_cert.specs.declared.cert.Cert.TheVariants.{Masks, Conflict, Fault}
 use Rattle.dpl_cert.specs.Grammar.{IsText}
-use Rattle.dpl_cert.specs.Reading.{IsBadLine}
+use Rattle.dpl_parse.specs.Reading.{IsBadLine}
 use Rattle.dpl_spec_verdict.specs.declared.Verdict.{Verdict}
-use Rattle.dpl_spec_verdict.specs.declared.Verdict.TheVariants.{Valid, Rules, WasFault, Counts, Cover, Overlap, SpacingA, SpacingB, Stitch, Piece, Cycle}
+use Rattle.dpl_spec_verdict.specs.declared.Verdict.TheVariants.{Valid, Rules, WasFault, Counts, Cover, Overlap, SpacingA, SpacingB, Marked, Stitch, Piece, Gain, Cycle}
 use Rattle.dpl_spec_verdict.specs.Masks.{IsOfMasks, IsVerdictOfMasks}
 use Rattle.dpl_spec_verdict.specs.Conflicts.{IsOfConflict, IsVerdictOfConflict}
 use Rattle.dpl_words.specs.Meaning.{AsksCheck, CheckValues}
@@ -135,15 +135,17 @@ refusal_answered file name at x is = ap (λ (y : Outcome). is_answered y.status)
 
 verdict_answered : (w : Verdict) → is_answered (verdict_status w) ≡ true
 verdict_answered Valid = refl
-verdict_answered (Rules r m) = refl
+verdict_answered (Rules r m c) = refl
 verdict_answered (WasFault name at) = refl
 verdict_answered (Counts f p z) = refl
 verdict_answered (Cover at) = refl
 verdict_answered (Overlap at) = refl
 verdict_answered (SpacingA p q) = refl
 verdict_answered (SpacingB p q) = refl
+verdict_answered (Marked at) = refl
 verdict_answered (Stitch k) = refl
 verdict_answered (Piece k) = refl
+verdict_answered (Gain k) = refl
 verdict_answered (Cycle k) = refl
 
 judged_answered : (cert : Cert) (w : Verdict) (x : Outcome) → x ≡ verdict_outcome cert w → is_answered x.status ≡ true
@@ -222,7 +224,7 @@ cert_read told v layer text cert x seen read (out, out_told, is, answered) = (So
 pub cycle_checked : (v : CheckValues) (layer : List Rect) (out : Option (List ℕ)) (cert : Cert) (w : Verdict) (x : Outcome)
     → IsOfConflict cert → IsVerdictOfConflict None (uniform v.rule) v.overlap layer cert w → x ≡ verdict_outcome cert w
     → IsCheckOfCert v layer out cert x
-cycle_checked v layer out (Masks h ps ss) w x of said is = absurd of
+cycle_checked v layer out (Masks h ps ss gs) w x of said is = absurd of
 cycle_checked v layer out (Conflict h cs ns) w x of said is = (w, said, is)
 cycle_checked v layer out (Fault name at) w x of said is = absurd of
 
@@ -234,7 +236,7 @@ fault_checked v layer out cert name at x named is =
 
 pub alone_made : (told : Option Outside) (v : CheckValues) (layer : List Rect) (cert : Cert) (x : Outcome) → (IsOfMasks cert → ⊥)
     → ((out : Option (List ℕ)) → IsCheckOfCert v layer out cert x) → IsMadeOfCert told v layer cert x
-alone_made told v layer (Masks h ps ss) x other checked = absurd (other tt)
+alone_made told v layer (Masks h ps ss gs) x other checked = absurd (other tt)
 alone_made told v layer (Conflict h cs ns) x other checked =
     let out = some_file told v.output in
     let (w, said, is) = checked out.0 in
@@ -247,7 +249,7 @@ alone_made told v layer (Fault name at) x other checked =
 
 pub out_large : (told : Option Outside) (v : CheckValues) (layer : List Rect) (cert : Cert) (x : Outcome) → IsOfMasks cert
     → IsSeen told v.output None → x ≡ refusal_of (codes "out") TooLarge limit → IsMadeOfCert told v layer cert x
-out_large told v layer (Masks h ps ss) x of seen is =
+out_large told v layer (Masks h ps ss gs) x of seen is =
     let file = large_file told v.output seen in
     (Some file.0, file.1, (Faulty TooLarge limit, inl (file.2, refl), is), refusal_answered (codes "out") TooLarge limit x is)
 out_large told v layer (Conflict h cs ns) x of seen is = absurd of
@@ -260,7 +262,7 @@ masks_answered v layer cert bytes x (Layer copied a, read, (Layer back b, other,
 
 pub out_read : (told : Option Outside) (v : CheckValues) (layer : List Rect) (cert : Cert) (bytes : List ℕ) (x : Outcome) → IsOfMasks cert
     → IsSeen told v.output (Some bytes) → IsCheckOfMasks v layer cert bytes x → IsMadeOfCert told v layer cert x
-out_read told v layer (Masks h ps ss) bytes x of seen is = (Some bytes, seen.0, is, masks_answered v layer (Masks h ps ss) bytes x is)
+out_read told v layer (Masks h ps ss gs) bytes x of seen is = (Some bytes, seen.0, is, masks_answered v layer (Masks h ps ss gs) bytes x is)
 out_read told v layer (Conflict h cs ns) bytes x of seen is = absurd of
 out_read told v layer (Fault name at) bytes x of seen is = absurd of
 

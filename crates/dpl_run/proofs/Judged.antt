@@ -6,13 +6,14 @@ use Rattle.dpl_host.specs.Outside.{Outside}
 use Rattle.dpl_spec_split.specs.declared.Rect.{Rect}
 use Rattle.dpl_cert.specs.declared.name.Name.TheVariants.{TooLarge}
 use Rattle.dpl_cert.specs.declared.cert.Head.{Head}
+use Rattle.dpl_cert.specs.declared.cert.Gain.{Gain}
 use Rattle.dpl_cert.specs.declared.cert.PieceLine.{PieceLine}
 use Rattle.dpl_cert.specs.declared.cert.StitchLine.{StitchLine}
 use Rattle.dpl_cert.specs.declared.cert.Cert.{Cert}
 use Rattle.dpl_cert.specs.declared.cert.Cert.TheVariants.{Masks, Conflict, Fault}
 use Rattle.dpl_cert.specs.Grammar.{IsText}
 use Rattle.dpl_spec_verdict.specs.declared.Verdict.{Verdict}
-use Rattle.dpl_spec_verdict.specs.declared.Verdict.TheVariants.{Valid, Rules, WasFault, Counts, Cover, Overlap, SpacingA, SpacingB, Stitch, Piece, Cycle}
+use Rattle.dpl_spec_verdict.specs.declared.Verdict.TheVariants.{Valid, Rules, WasFault, Counts, Cover, Overlap, SpacingA, SpacingB, Marked, Stitch, Piece, Gain as GainAt, Cycle}
 use Rattle.dpl_spec_verdict.specs.Masks.{IsVerdictOfMasks}
 use Rattle.dpl_spec_verdict.specs.Conflicts.{IsVerdictOfConflict}
 use Rattle.dpl_law_verdict.proofs.Cycles.{there-is}
@@ -43,15 +44,17 @@ broken e = cc
 -- only a valid verdict is done
 valid_is : (w : Verdict) → verdict_status w ≡ Done → w ≡ Valid
 valid_is Valid e = refl
-valid_is (Rules r o) e = absurd (broken e)
+valid_is (Rules r o c) e = absurd (broken e)
 valid_is (WasFault name at) e = absurd (broken e)
 valid_is (Counts f p z) e = absurd (broken e)
 valid_is (Cover at) e = absurd (broken e)
 valid_is (Overlap at) e = absurd (broken e)
 valid_is (SpacingA p q) e = absurd (broken e)
 valid_is (SpacingB p q) e = absurd (broken e)
+valid_is (Marked at) e = absurd (broken e)
 valid_is (Stitch k) e = absurd (broken e)
 valid_is (Piece k) e = absurd (broken e)
+valid_is (GainAt k) e = absurd (broken e)
 valid_is (Cycle k) e = absurd (broken e)
 
 judged_valid : (cert : Cert) (w : Verdict) (x : Outcome) → x ≡ verdict_outcome cert w → x.status ≡ Done → w ≡ Valid
@@ -64,28 +67,28 @@ layer_of_file choice bytes copied slabs reading = elim reading [
   | inr read ↦ (let (lib, holds, l) = read.1 in record { lib = lib; holds = holds; top = l.top; is_top = l.is_top; faultless = l.faultless; squares = l.squares })
 ]
 
-masks_right : (v : CheckValues) (layer : List Rect) (head : Head) (pieces : List PieceLine) (stitches : List StitchLine) (bytes : List ℕ) (x : Outcome)
-    → IsCheckOfMasks v layer (Masks head pieces stitches) bytes x → x.status ≡ Done → HasRightMasks v layer head pieces stitches bytes
-masks_right v layer head pieces stitches bytes x (Faulty name at, read, is) done = absurd (other x (refusal_of (codes "out") name at) Refused is refl refused done)
-masks_right v layer head pieces stitches bytes x (Layer copied a, read, (Faulty name at, more, is)) done = absurd
+masks_right : (v : CheckValues) (layer : List Rect) (head : Head) (pieces : List PieceLine) (stitches : List StitchLine) (gains : Option (List Gain)) (bytes : List ℕ) (x : Outcome)
+    → IsCheckOfMasks v layer (Masks head pieces stitches gains) bytes x → x.status ≡ Done → HasRightMasks v layer head pieces stitches bytes
+masks_right v layer head pieces stitches gains bytes x (Faulty name at, read, is) done = absurd (other x (refusal_of (codes "out") name at) Refused is refl refused done)
+masks_right v layer head pieces stitches gains bytes x (Layer copied a, read, (Faulty name at, more, is)) done = absurd
     (other x (refusal_of (codes "out") name at) Refused is refl refused done)
-masks_right v layer head pieces stitches bytes x (Layer copied a, read, (Layer back b, more, (w, said, is))) done =
-    let valid : w ≡ Valid = judged_valid (Masks head pieces stitches) w x is done in
-    let kept : IsVerdictOfMasks None (uniform v.rule) v.overlap layer a b (Masks head pieces stitches) Valid = subst
-    (λ (u : Verdict). IsVerdictOfMasks None (uniform v.rule) v.overlap layer a b (Masks head pieces stitches) u) valid said in
+masks_right v layer head pieces stitches gains bytes x (Layer copied a, read, (Layer back b, more, (w, said, is))) done =
+    let valid : w ≡ Valid = judged_valid (Masks head pieces stitches gains) w x is done in
+    let kept : IsVerdictOfMasks None (uniform v.rule) v.overlap layer a b (Masks head pieces stitches gains) Valid = subst
+    (λ (u : Verdict). IsVerdictOfMasks None (uniform v.rule) v.overlap layer a b (Masks head pieces stitches gains) u) valid said in
     record {
       a = a;
       b = b;
       first = layer_of_file (mask_choice v.a) bytes copied a read;
       second = layer_of_file (mask_choice v.b) bytes back b more;
-      right = right-masks None (uniform v.rule) v.overlap (record { layer = layer; a = a; b = b; head = head; pieces = pieces; stitches = stitches }) kept;
-      lines = good-lines None (uniform v.rule) v.overlap layer a b head pieces stitches kept;
+      right = right-masks None (uniform v.rule) v.overlap (record { layer = layer; a = a; b = b; head = head; pieces = pieces; stitches = stitches; gains = gains }) kept;
+      lines = good-lines None (uniform v.rule) v.overlap layer a b head pieces stitches gains kept;
     }
 
 cert_right : (v : CheckValues) (o : Outside) (layer : List Rect) (out : Option (List ℕ)) (cert : Cert) (text : List ℕ) (x : Outcome)
     → files.get o.files v.output ≡ out → IsText cert text → IsCheckOfCert v layer out cert x → x.status ≡ Done → IsRightBy v o layer cert
-cert_right v o layer None (Masks head pieces stitches) text x there t is done = absurd (other x (silent ReadFault) ReadFault is refl unread done)
-cert_right v o layer (Some bytes) (Masks head pieces stitches) text x there t is done = (bytes, there, masks_right v layer head pieces stitches bytes x is done)
+cert_right v o layer None (Masks head pieces stitches gains) text x there t is done = absurd (other x (silent ReadFault) ReadFault is refl unread done)
+cert_right v o layer (Some bytes) (Masks head pieces stitches gains) text x there t is done = (bytes, there, masks_right v layer head pieces stitches gains bytes x is done)
 cert_right v o layer out (Conflict head cycle near) text x there t (w, said, is) done =
     let valid : w ≡ Valid = judged_valid (Conflict head cycle near) w x is done in
     let (fits, long, places, each, nears) = t.0 in

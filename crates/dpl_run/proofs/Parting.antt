@@ -117,8 +117,8 @@ masks_write v layer cert bytes x (Layer copied a, read, (Faulty name at, other, 
 masks_write v layer cert bytes x (Layer copied a, read, (Layer back b, other, (w, said, is))) = writes_as x (verdict_outcome cert w) is refl
 
 cert_writes : (v : CheckValues) (layer : List Rect) (out : Option (List ℕ)) (cert : Cert) (x : Outcome) → IsCheckOfCert v layer out cert x → x.writes ≡ []
-cert_writes v layer None (Masks h ps ss) x is = writes_as x (silent ReadFault) is refl
-cert_writes v layer (Some bytes) (Masks h ps ss) x is = masks_write v layer (Masks h ps ss) bytes x is
+cert_writes v layer None (Masks h ps ss gs) x is = writes_as x (silent ReadFault) is refl
+cert_writes v layer (Some bytes) (Masks h ps ss gs) x is = masks_write v layer (Masks h ps ss gs) bytes x is
 cert_writes v layer out (ConflictText h cs ns) x (w, said, is) = writes_as x (verdict_outcome (ConflictText h cs ns) w) is refl
 cert_writes v layer out (Fault name at) x is = writes_as x (verdict_outcome (Fault name at) (WasFault name at)) is refl
 

@@ -7,7 +7,7 @@ use Rattle.dpl_cert.specs.declared.name.Name.TheVariants.{TooLarge}
 use Rattle.dpl_cert.specs.declared.cert.Cert.{Cert}
 use Rattle.dpl_cert.specs.declared.cert.Cert.TheVariants.{Masks, Conflict, Fault}
 use Rattle.dpl_cert.specs.Grammar.{IsText}
-use Rattle.dpl_cert.specs.Reading.{IsBadLine}
+use Rattle.dpl_parse.specs.Reading.{IsBadLine}
 use Rattle.dpl_spec_verdict.specs.declared.Verdict.{Verdict}
 use Rattle.dpl_spec_verdict.specs.declared.Verdict.TheVariants.{Valid, WasFault}
 use Rattle.dpl_spec_verdict.specs.Masks.{IsVerdictOfMasks}
@@ -63,7 +63,7 @@ IsCheckOfMasks v layer cert bytes = WithLayer (codes "out") (mask_choice v.a) by
 
 -- Masks are read only where the certificate is of masks, and a fault is none of the layout's, which has a layer.
 abbrev pub IsCheckOfCert : CheckValues → List Rect → Option (List ℕ) → Cert → Outcome → Type 0
-IsCheckOfCert v layer out (Masks head pieces stitches) x = WithFile out (IsCheckOfMasks v layer (Masks head pieces stitches)) x
+IsCheckOfCert v layer out (Masks head pieces stitches gains) x = WithFile out (IsCheckOfMasks v layer (Masks head pieces stitches gains)) x
 IsCheckOfCert v layer out (Conflict head cycle near) x =
     (w : Verdict) × IsVerdictOfConflict None (uniform v.rule) v.overlap layer (Conflict head cycle near) w × (x ≡ verdict_outcome (Conflict head cycle near) w)
 IsCheckOfCert v layer out (Fault name at) x = x ≡ verdict_outcome (Fault name at) (WasFault name at)

@@ -42,7 +42,7 @@ pub record HasRightMasks (v : CheckValues) (layer : List Rect) (head : Head) (pi
 
 -- what is right is the masks of a file that is there, or the cycle that is listed
 abbrev pub IsRightBy : CheckValues → Outside → List Rect → Cert → Type 0
-IsRightBy v o layer (Masks head pieces stitches) = (bytes : List ℕ) × (files.get o.files v.output ≡ Some bytes) × HasRightMasks v layer head pieces stitches bytes
+IsRightBy v o layer (Masks head pieces stitches gains) = (bytes : List ℕ) × (files.get o.files v.output ≡ Some bytes) × HasRightMasks v layer head pieces stitches bytes
 IsRightBy v o layer (Conflict head cycle near) = IsCycleOf None (uniform v.rule) v.overlap layer head cycle near
 IsRightBy v o layer (Fault name at) = ⊥
 

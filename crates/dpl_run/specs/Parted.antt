@@ -57,7 +57,7 @@ pub record WritesParting (v : SplitValues) (bytes : List ℕ) (writes : List (Te
   -- the bytes written
   pub copied : List ℕ
   pub before : copied_of lib top ≡ Some copied
-  pub are : writes ≡ (v.output, file_bytes copied v.a v.b a b) ∷ (v.certificate, certified (Masks head pieces stitches)) ∷ []
+  pub are : writes ≡ (v.output, file_bytes copied v.a v.b a b) ∷ (v.certificate, certified (Masks head pieces stitches None)) ∷ []
 
 -- the masks of a file that is there are written
 pub record WritesMasks (v : SplitValues) (o : Outside) (writes : List (Text × List ℕ)) : Type 0 where

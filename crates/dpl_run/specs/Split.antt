@@ -40,7 +40,7 @@ refusal v name at = record { status = Refused; writes = (v.certificate, certifie
 abbrev pub painting : SplitValues → List ℕ → Painted → Outcome
 painting v copied p = record {
   status = Done;
-  writes = (v.output, file_bytes copied v.a v.b p.a p.b) ∷ (v.certificate, certified (Masks p.head p.pieces p.stitches)) ∷ [];
+  writes = (v.output, file_bytes copied v.a v.b p.a p.b) ∷ (v.certificate, certified (Masks p.head p.pieces p.stitches None)) ∷ [];
   line = done_line p.head (length p.stitches) (length p.a) (length p.b);
 }
 

@@ -1,11 +1,11 @@
 -- The lines that are said.
-use Rattle.std.specs.Prelude.{ℕ, List, [], ◌∷◌, ◌++◌, codes, length}
+use Rattle.std.specs.Prelude.{ℕ, List, [], ◌∷◌, ◌++◌, codes, length, Some, None}
 use Rattle.std.specs.Fmt.{decimal, signed_decimal}
 use Rattle.dpl_spec_split.specs.declared.Pt.{Pt}
 use Rattle.dpl_cert.specs.declared.cert.Cert.{Cert}
 use Rattle.dpl_cert.specs.declared.cert.Cert.TheVariants.{Masks, Conflict, Fault}
 use Rattle.dpl_spec_verdict.specs.declared.Verdict.{Verdict}
-use Rattle.dpl_spec_verdict.specs.declared.Verdict.TheVariants.{Valid, Rules, WasFault, Counts, Cover, Overlap, SpacingA, SpacingB, Stitch, Piece, Cycle}
+use Rattle.dpl_spec_verdict.specs.declared.Verdict.TheVariants.{Valid, Rules, WasFault, Counts, Cover, Overlap, SpacingA, SpacingB, Marked, Stitch, Piece, Gain, Cycle}
 use Rattle.dpl_cert.specs.declared.name.Name.{Name}
 use Rattle.dpl_cert.specs.declared.cert.Head.{Head}
 use Rattle.dpl_cert.specs.Names.{spelling}
@@ -45,7 +45,7 @@ bad_line_line n = line (codes "refused" ∷ codes "cert" ∷ codes "Line" ∷ de
 
 -- what a certificate that is kept says
 abbrev pub valid_line : Cert → List ℕ
-valid_line (Masks head pieces stitches) = line (codes "valid" ∷ codes "masks" ∷ stitches_words (length stitches))
+valid_line (Masks head pieces stitches gains) = line (codes "valid" ∷ codes "masks" ∷ stitches_words (length stitches))
 valid_line (Conflict head cycle near) = line (codes "valid" ∷ codes "conflict" ∷ cycle_words (length cycle))
 valid_line (Fault name at) = []
 
@@ -55,15 +55,18 @@ point_words p = signed_decimal p.x ∷ signed_decimal p.y ∷ []
 -- the property that is broken, and what shows it
 abbrev pub broken_words : Verdict → List (List ℕ)
 broken_words Valid = []
-broken_words (Rules rule overlap) = codes "Rules" ∷ decimal rule ∷ decimal overlap ∷ []
+broken_words (Rules rule overlap None) = codes "Rules" ∷ decimal rule ∷ decimal overlap ∷ []
+broken_words (Rules rule overlap (Some corner)) = codes "Rules" ∷ decimal rule ∷ decimal overlap ∷ decimal corner ∷ []
 broken_words (WasFault name at) = codes "WasFault" ∷ spelling name ∷ decimal at ∷ []
 broken_words (Counts features pieces zones) = codes "Counts" ∷ decimal features ∷ decimal pieces ∷ decimal zones ∷ []
 broken_words (Cover at) = codes "Cover" ∷ point_words at
 broken_words (Overlap at) = codes "Overlap" ∷ point_words at
 broken_words (SpacingA first second) = codes "SpacingA" ∷ (point_words first ++ point_words second)
 broken_words (SpacingB first second) = codes "SpacingB" ∷ (point_words first ++ point_words second)
+broken_words (Marked at) = codes "Marked" ∷ point_words at
 broken_words (Stitch index) = codes "Stitch" ∷ decimal index ∷ []
 broken_words (Piece index) = codes "Piece" ∷ decimal index ∷ []
+broken_words (Gain index) = codes "Gain" ∷ decimal index ∷ []
 broken_words (Cycle place) = codes "Cycle" ∷ decimal place ∷ []
 
 abbrev pub broken_line : Verdict → List ℕ

@@ -131,6 +131,7 @@ fn painted_output<'a>(
         head,
         pieces,
         stitches,
+        gains: None,
     };
     let masks = Write {
         name: options.output,

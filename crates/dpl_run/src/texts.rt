@@ -1,6 +1,6 @@
 //! The lines that are said.
-ghost use Rattle.std.specs.Prelude.{◌≡◌, IfOk, string_bytes};
-ghost use Rattle.dpl_spec_verdict.specs.declared.Verdict.TheVariants.{Counts, Cover, Overlap, Rules, SpacingA, SpacingB};
+ghost use Rattle.std.specs.Prelude.{◌≡◌, IfOk, None, Some, string_bytes};
+ghost use Rattle.dpl_spec_verdict.specs.declared.Verdict.TheVariants.{Counts, Cover, Marked, Overlap, Rules, SpacingA, SpacingB};
 ghost use Rattle.dpl_run.specs.View.{file_word};
 ghost use Rattle.dpl_run.specs.Texts.{bad_line_line as bad_line_line_of, broken_line, conflict_line as conflict_line_of, demo_line as demo_line_of, done_line as done_line_of, refused_file_line as refused_file_line_of, refused_line as refused_line_of, usage_line as usage_line_of, valid_line as valid_line_of};
 ghost use Rattle.dpl_run.specs.Check.{verdict_line as verdict_line_of};
@@ -126,7 +126,11 @@ pub(crate) fn verdict_line(
 {
     match verdict {
         Verdict::Valid => valid_line(alloc, cert),
-        Verdict::Rules { rule, overlap } => rules_line(alloc, rule, overlap),
+        Verdict::Rules {
+            rule,
+            overlap,
+            corner,
+        } => rules_line(alloc, rule, overlap, corner),
         Verdict::WasFault { name, at } => format!(in alloc; "no WasFault {name} {at}\n"),
         Verdict::Counts {
             features,
@@ -137,17 +141,46 @@ pub(crate) fn verdict_line(
         Verdict::Overlap { at } => overlap_line(alloc, &at),
         Verdict::SpacingA { first, second } => spacing_a_line(alloc, &first, &second),
         Verdict::SpacingB { first, second } => spacing_b_line(alloc, &first, &second),
+        Verdict::Marked { at } => marked_line(alloc, &at),
         Verdict::Stitch { index } => format!(in alloc; "no Stitch {index}\n"),
         Verdict::Piece { index } => format!(in alloc; "no Piece {index}\n"),
+        Verdict::Gain { index } => format!(in alloc; "no Gain {index}\n"),
         Verdict::Cycle { place } => format!(in alloc; "no Cycle {place}\n"),
     }
 }
 
-/// The certificate is of another rule or overlap, of these, in database units.
-fn rules_line(alloc: Global, rule: u32, overlap: u32) -> Result<String, AllocError>
-    ensures { IfOk result (λ s. string_bytes s ≡ broken_line (Rules rule overlap)) }
+/// The certificate is of another rule, overlap or corner rule, of these, in database units.
+fn rules_line(
+    alloc: Global,
+    rule: u32,
+    overlap: u32,
+    corner: Option<u32>,
+) -> Result<String, AllocError>
+    ensures { IfOk result (λ s. string_bytes s ≡ broken_line (Rules rule overlap corner)) }
+{
+    match corner {
+        None => plain_rules_line(alloc, rule, overlap),
+        Some(corner) => cornered_rules_line(alloc, rule, overlap, corner),
+    }
+}
+
+/// The line where no corner rule is named.
+fn plain_rules_line(alloc: Global, rule: u32, overlap: u32) -> Result<String, AllocError>
+    ensures { IfOk result (λ s. string_bytes s ≡ broken_line (Rules rule overlap None)) }
 {
     format!(in alloc; "no Rules {rule} {overlap}\n")
+}
+
+/// The line where a corner rule is named.
+fn cornered_rules_line(
+    alloc: Global,
+    rule: u32,
+    overlap: u32,
+    corner: u32,
+) -> Result<String, AllocError>
+    ensures { IfOk result (λ s. string_bytes s ≡ broken_line (Rules rule overlap (Some corner))) }
+{
+    format!(in alloc; "no Rules {rule} {overlap} {corner}\n")
 }
 
 /// The certificate has other counts of features, pieces or zones than the layer, which has these.
@@ -189,4 +222,11 @@ fn spacing_b_line(alloc: Global, first: &Pt, second: &Pt) -> Result<String, Allo
         "no SpacingB {} {} {} {}\n",
         first.x, first.y, second.x, second.y
     )
+}
+
+/// A square of the layer is fixed to a mask and isn't on that one alone.
+fn marked_line(alloc: Global, at: &Pt) -> Result<String, AllocError>
+    ensures { IfOk result (λ s. string_bytes s ≡ broken_line (Marked at.now)) }
+{
+    format!(in alloc; "no Marked {} {}\n", at.x, at.y)
 }

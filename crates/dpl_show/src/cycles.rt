@@ -37,10 +37,14 @@ fn bounds_of(clash: &Clash) -> Bounds {
         y1: i64::MIN,
     };
     for place in clash.cycle.items() {
-        bounds = bounds.with(&place.key);
+        if let PlaceLine::Piece { key, .. } = place {
+            bounds = bounds.with(key);
+        }
     }
     for near in clash.near.items() {
-        bounds = bounds.with(&near.from).with(&near.to);
+        if let NearLine::Pair { from, to } = near {
+            bounds = bounds.with(from).with(to);
+        }
     }
     bounds
 }
@@ -69,7 +73,7 @@ pub fn conflict_lines(alloc: Global, tangles: &Tangles) -> Result<String, AllocE
     Ok(text)
 }
 
-/// Adds the lines of one cycle.
+/// Adds the lines of one cycle. A layout is looked at without marks, so its cycles have no anchors.
 fn put_cycle(text: &mut String, number: usize, clash: &Clash) -> Result<(), AllocError> {
     let b = bounds_of(clash);
     let pieces = clash.cycle.items().len();
@@ -89,20 +93,18 @@ fn put_cycle(text: &mut String, number: usize, clash: &Clash) -> Result<(), Allo
 
 /// Adds the line of a piece.
 fn put_place(text: &mut String, place: &PlaceLine) -> Result<(), AllocError> {
-    write!(
-        text,
-        "piece {} {} {}\n",
-        place.piece, place.key.x, place.key.y
-    )
+    let PlaceLine::Piece { piece, key } = place else {
+        return Ok(());
+    };
+    write!(text, "piece {} {} {}\n", *piece, key.x, key.y)
 }
 
 /// Adds the line of a pair of near squares.
 fn put_near(text: &mut String, near: &NearLine) -> Result<(), AllocError> {
-    write!(
-        text,
-        "near {} {} {} {}\n",
-        near.from.x, near.from.y, near.to.x, near.to.y
-    )
+    let NearLine::Pair { from, to } = near else {
+        return Ok(());
+    };
+    write!(text, "near {} {} {} {}\n", from.x, from.y, to.x, to.y)
 }
 
 /// The line that tells the first fault of a layout, as `dpl split` says it.
@@ -182,8 +184,10 @@ impl Serialize for NearList<'_> {
     fn serialize<S: Serializer>(&self, out: &mut S) -> Result<(), S::Error> {
         out.begin_seq(Some(self.0.len()))?;
         for near in self.0 {
-            let pair = [[near.from.x, near.from.y], [near.to.x, near.to.y]];
-            pair.serialize(out)?;
+            if let NearLine::Pair { from, to } = near {
+                let pair = [[from.x, from.y], [to.x, to.y]];
+                pair.serialize(out)?;
+            }
         }
         out.end_seq()
     }
@@ -195,12 +199,14 @@ impl Serialize for PlaceList<'_> {
     fn serialize<S: Serializer>(&self, out: &mut S) -> Result<(), S::Error> {
         out.begin_seq(Some(self.0.len()))?;
         for line in self.0 {
-            let place = Place {
-                piece: line.piece,
-                x: line.key.x,
-                y: line.key.y,
-            };
-            place.serialize(out)?;
+            if let PlaceLine::Piece { piece, key } = line {
+                let place = Place {
+                    piece: *piece,
+                    x: key.x,
+                    y: key.y,
+                };
+                place.serialize(out)?;
+            }
         }
         out.end_seq()
     }

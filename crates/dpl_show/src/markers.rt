@@ -1,7 +1,7 @@
 //! Marker databases of KLayout's.
 use dpl_answer::Clash;
 use dpl_base::{Pt, Rect};
-use dpl_cert::{NearLine, StitchLine};
+use dpl_cert::{NearLine, PlaceLine, StitchLine};
 use dpl_view::{Cycles, top_name, unit_of};
 use std::alloc::{AllocError, Global};
 use std::fmt::Write;
@@ -121,7 +121,7 @@ fn front(alloc: Global, category: &str, cell: &str) -> Result<String, AllocError
 /// What stands behind the values of a marker.
 const BACK: &str = "   </values>\n  </item>\n";
 
-/// Adds the markers of one cycle.
+/// Adds the markers of one cycle. A layout is looked at without marks, so its cycles have no anchors.
 fn put_cycle(
     text: &mut String,
     front: &str,
@@ -136,12 +136,20 @@ fn put_cycle(
         "    <value>text: 'odd cycle {number}: {count} pieces'</value>\n"
     )?;
     for near in clash.near.items() {
-        put_edge(text, near, unit)?;
+        if let NearLine::Pair { from, to } = near {
+            put_edge(text, from, to, unit)?;
+        }
     }
     text.push_str(BACK)?;
     for (place, near) in clash.cycle.items().iter().zip(clash.near.items()) {
+        let PlaceLine::Piece { piece, .. } = place else {
+            continue;
+        };
+        let NearLine::Pair { from, to } = near else {
+            continue;
+        };
         text.push_str(front)?;
-        put_conflict(text, unit, number, place.piece, near)?;
+        put_conflict(text, unit, number, *piece, from, to)?;
         text.push_str(BACK)?;
     }
     Ok(())
@@ -153,15 +161,16 @@ fn put_conflict(
     unit: u64,
     number: u64,
     piece: u64,
-    near: &NearLine,
+    from: &Pt,
+    to: &Pt,
 ) -> Result<(), AllocError> {
     write!(
         text,
         "    <value>text: 'odd cycle {number}: piece {piece}'</value>\n"
     )?;
-    put_square(text, &near.from, unit)?;
-    put_square(text, &near.to, unit)?;
-    put_edge(text, near, unit)
+    put_square(text, from, unit)?;
+    put_square(text, to, unit)?;
+    put_edge(text, from, to, unit)
 }
 
 /// Adds the marker of a stitch.
@@ -228,9 +237,9 @@ fn put_rectangle(text: &mut String, rect: &Rect, unit: u64) -> Result<(), AllocE
 }
 
 /// Adds the shortest line from one unit square to another.
-fn put_edge(text: &mut String, near: &NearLine, unit: u64) -> Result<(), AllocError> {
-    let (x0, x1) = ends(near.from.x, near.to.x);
-    let (y0, y1) = ends(near.from.y, near.to.y);
+fn put_edge(text: &mut String, from: &Pt, to: &Pt, unit: u64) -> Result<(), AllocError> {
+    let (x0, x1) = ends(from.x, to.x);
+    let (y0, y1) = ends(from.y, to.y);
     put_value(text, "edge", (x0, y0), (x1, y1), unit)
 }
 

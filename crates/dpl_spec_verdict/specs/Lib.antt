@@ -1,3 +1,4 @@
 pub mod Order
+pub mod Gains
 pub mod Masks
 pub mod Conflicts

@@ -8,6 +8,8 @@ use Rattle.dpl_spec_split.specs.Components.{AreComponents}
 use Rattle.dpl_spec_split.specs.Decomposition.{Cut, IsCut}
 use Rattle.dpl_spec_split.specs.Marks.{Marks}
 use Rattle.dpl_cert.specs.declared.cert.Head.{Head}
+use Rattle.dpl_cert.specs.declared.cert.Gain.{Gain}
+use Rattle.dpl_cert.specs.Grammar.{named_corner, version}
 use Rattle.dpl_spec_verdict.specs.declared.Verdict.{Verdict}
 use Rattle.dpl_spec_verdict.specs.declared.Verdict.TheVariants.{Valid, Rules, Counts}
 
@@ -37,12 +39,13 @@ pub record IsLeastPair (related : Pt → Pt → Type 0) (p q : Pt) : Type 0 wher
   pub are : related p q
   pub least : (r s : Pt) → related r s → Precedes p r ⊎ ((p ≡ r) × ((q ≡ s) ⊎ Precedes q s))
 
--- the certificate is for another rule or another overlap; it names no corner rule
+-- the certificate is for another rule, another overlap or another corner rule
 abbrev pub RulesDiffer : Spacing → ℕ → Head → Type 0
-RulesDiffer spacing overlap head = (head.rule ≢ spacing.rule) ⊎ (head.overlap ≢ overlap)
+RulesDiffer spacing overlap head = (head.rule ≢ spacing.rule) ⊎ ((head.overlap ≢ overlap) ⊎ (head.corner ≢ spacing.corner))
 
-abbrev pub ShowsRules : Head → Verdict → Type 0
-ShowsRules head v = v ≡ Rules head.rule head.overlap
+-- the corner rule is shown where the certificate names it
+abbrev pub ShowsRules : Head → Option (List Gain) → Verdict → Type 0
+ShowsRules head gains v = v ≡ Rules head.rule head.overlap (named_corner (version head gains) head.corner)
 
 -- how many features the layer has
 abbrev pub IsFeatureCount : List Rect → ℕ → Type 0

@@ -18,10 +18,11 @@ use dpl_cert::Name;
 pub enum Verdict {
     /// No property is broken.
     Valid,
-    /// The certificate is for this rule and this overlap, and other ones were asked for.
+    /// The certificate is for this rule, this overlap and this corner rule, which version 1 doesn't name, and others were asked for.
     Rules {
         rule: u32,
         overlap: u32,
+        corner: Option<u32>,
     },
     /// The certificate is of a fault, though the layout has none.
     WasFault {
@@ -52,6 +53,10 @@ pub enum Verdict {
         first: Pt,
         second: Pt,
     },
+    /// The least square of the layer that is fixed to a mask and isn't on that one alone.
+    Marked {
+        at: Pt,
+    },
     /// The first stitch that isn't on both masks, is too short, or doesn't part pieces of two letters.
     Stitch {
         index: u64,
@@ -60,7 +65,11 @@ pub enum Verdict {
     Piece {
         index: u64,
     },
-    /// The first place of the cycle whose piece isn't the layer's with its key, stood before, or isn't shown by its near line to conflict with the next one.
+    /// The first line of gains that isn't the one of the layer's component at this place, by the letters of the pieces, or whose component's flip alone leaves fewer stitches; the number of lines where some are missing, and 0 where the layer has other numbers of pieces or zones.
+    Gain {
+        index: u64,
+    },
+    /// The first place of the cycle that isn't a piece of the layer with its key, or an anchor where marks are asked for, stood before, or isn't shown by its near line to be joined to the next one.
     Cycle {
         place: u64,
     },

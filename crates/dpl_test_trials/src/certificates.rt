@@ -17,7 +17,7 @@ const TEXTS: [(&[&str], &str); 18] = [
         "refused cert Line 1\n",
     ),
     (
-        &["dpl 2\nrule 30 overlap 10\n", ONE_BAR],
+        &["dpl 4\nrule 30 overlap 10 corner 29\n", ONE_BAR],
         "refused cert Line 1\n",
     ),
     (

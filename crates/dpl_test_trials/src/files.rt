@@ -87,7 +87,7 @@ fn stand_in(alloc: Global, stands: Stands, whole: Vec<u8>) -> Result<Option<Vec<
         Stands::Cut => file.truncate(140),
         Stands::Large => file = vec![in alloc; 0u8; 268_435_457]?,
         Stands::Fault => file = text(alloc, &["dpl 1\nfault AngleNotRight 202\nend\n"])?,
-        Stands::Other => file = text(alloc, &["dpl 2\n"])?,
+        Stands::Other => file = text(alloc, &["dpl 4\n"])?,
         Stands::Missing => return Ok(None),
     }
     Ok(Some(file))

@@ -42,6 +42,14 @@ const CROWD_COUNTS: &str = "features 3 pieces 8 zones 5 stitches ";
 const CROWD_PIECES: &str =
     "piece 0 A 0 0\npiece 1 A 205 0\npiece 2 B 0 40\npiece 3 B 350 40\npiece 4 B 0 125\npiece 5 B 380 125\npiece 6 A 107 180\npiece 7 B 215 180\n";
 
+const CROWD_STITCH: &str = "stitch 97 180 107 200 4 6\n";
+
+const CROWD_HEAD_3: &str =
+    "dpl 3\nrule 30 overlap 10 corner 30\nfeatures 3 pieces 8 zones 5 stitches 1\n";
+
+/// The gains of the first four of its five components.
+const CROWD_GAINS: &str = "gain 0 0 2\ngain 1 0 2\ngain 4 1 1\ngain 5 0 2\n";
+
 const LEFT: [Rectangle; 1] = [[0, 0, 60, 20]];
 
 const RIGHT: [Rectangle; 1] = [[50, 0, 100, 20]];
@@ -58,7 +66,27 @@ struct Case {
     line: &'static str,
 }
 
-const CASES: [Case; 19] = [
+const CASES: [Case; 25] = [
+    // A certificate that names a corner rule is for another one than `check` asks for.
+    Case {
+        layer: &BAR,
+        masks: [&BAR, &[]],
+        cert: &["dpl 2\nrule 30 overlap 10 corner 29\n", ONE_BAR],
+        words: CHECK,
+        status: Status::CheckNo,
+        line: "no Rules 30 10 29\n",
+    },
+    Case {
+        layer: &BAR,
+        masks: [&BAR, &[]],
+        cert: &[
+            "dpl 3\nrule 30 overlap 10 corner 29\nfeatures 1 pieces 1 zones 0 stitches 0\ngains 0\n",
+            "piece 0 A 0 0\nend\n",
+        ],
+        words: CHECK,
+        status: Status::CheckNo,
+        line: "no Rules 30 10 29\n",
+    },
     Case {
         layer: &BAR,
         masks: [&BAR, &[]],
@@ -250,6 +278,66 @@ const CASES: [Case; 19] = [
         status: Status::CheckNo,
         line: "no Stitch 0\n",
     },
+    // Lines of gains: all, one missing, one of another component's numbers, and those of other zones.
+    Case {
+        layer: &CROWD,
+        masks: [&CROWD_A, &CROWD_B],
+        cert: &[
+            CROWD_HEAD_3,
+            "gains 5\n",
+            CROWD_PIECES,
+            CROWD_STITCH,
+            CROWD_GAINS,
+            "gain 6 1 1\nend\n",
+        ],
+        words: CHECK,
+        status: Status::Done,
+        line: "valid masks stitches 1\n",
+    },
+    Case {
+        layer: &CROWD,
+        masks: [&CROWD_A, &CROWD_B],
+        cert: &[
+            CROWD_HEAD_3,
+            "gains 4\n",
+            CROWD_PIECES,
+            CROWD_STITCH,
+            CROWD_GAINS,
+            "end\n",
+        ],
+        words: CHECK,
+        status: Status::CheckNo,
+        line: "no Gain 4\n",
+    },
+    Case {
+        layer: &CROWD,
+        masks: [&CROWD_A, &CROWD_B],
+        cert: &[
+            CROWD_HEAD_3,
+            "gains 5\n",
+            CROWD_PIECES,
+            CROWD_STITCH,
+            CROWD_GAINS,
+            "gain 6 0 2\nend\n",
+        ],
+        words: CHECK,
+        status: Status::CheckNo,
+        line: "no Gain 4\n",
+    },
+    Case {
+        layer: &CROWD,
+        masks: [&CROWD_A, &CROWD_B],
+        cert: &[
+            "dpl 3\nrule 30 overlap 10 corner 30\nfeatures 3 pieces 8 zones 4 stitches 1\ngains 4\n",
+            CROWD_PIECES,
+            CROWD_STITCH,
+            CROWD_GAINS,
+            "end\n",
+        ],
+        words: CHECK,
+        status: Status::CheckNo,
+        line: "no Gain 0\n",
+    },
 ];
 
 #[test]
@@ -283,8 +371,12 @@ const OTHER_NEAR: &str =
 
 const SQUARES_COUNTS: &str = "features 3 pieces 3 zones 0\n";
 
+/// The lines of a cycle with an anchor, where no marks are asked for.
+const ANCHORED: &str =
+    "cycle 3\npiece 0 0 0\npiece 1 20 0\nanchor A\nnear 0 0 20 0\nmarked 20 0\nmarked 0 0\nend\n";
+
 /// The counts and the lines of a cycle, and what is said of them.
-const CYCLES: [(&str, &str, Status, &str); 4] = [
+const CYCLES: [(&str, &str, Status, &str); 5] = [
     (
         SQUARES_COUNTS,
         CYCLE,
@@ -293,6 +385,7 @@ const CYCLES: [(&str, &str, Status, &str); 4] = [
     ),
     (SQUARES_COUNTS, OTHER_KEY, Status::CheckNo, "no Cycle 1\n"),
     (SQUARES_COUNTS, OTHER_NEAR, Status::CheckNo, "no Cycle 2\n"),
+    (SQUARES_COUNTS, ANCHORED, Status::CheckNo, "no Cycle 1\n"),
     (
         "features 3 pieces 4 zones 0\n",
         CYCLE,

@@ -66,7 +66,7 @@ pub fn find_stitches<R: Threads + Wait + Sync, G: Gate + Sync>(
     Ok(Split::Answered { copied, seams })
 }
 
-/// The stitches of the masks of a cut layer, if it has no odd cycle.
+/// The stitches of the masks of a cut layer, if it has no odd cycle. `answer_of` takes no corner rule of 0.
 fn seams_of(
     alloc: Global,
     cut: BareLayerCut,
@@ -75,6 +75,7 @@ fn seams_of(
     overlap: u32,
 ) -> Result<Seams, AllocError>
     requires corner { spacing.corner ≤ spacing.rule }
+    requires some { 1 ≤ spacing.corner }
     requires rule { IsRule spacing.rule }
     requires overlap { IsRule overlap }
     requires keys { HasPointKeys cut }

@@ -5,7 +5,7 @@ use Rattle.dpl_law_verdict.proofs.own_results_are_written.Goals as goal
 pub returns : goal.returns
 returns a = record {
   layer = layer-within;
-  masks = λ spacing overlap layer c m ruled lapped within cut are.
-      (let (first, second) = masks-within spacing overlap layer c ruled lapped within cut m are in (first, second, masks-cert spacing overlap layer c ruled lapped within cut m are));
-  cycle = λ spacing overlap layer c cycle near ruled lapped within cut reported each pairs. cycle-cert spacing overlap layer c ruled lapped within cut cycle near reported each pairs;
+  masks = λ spacing overlap layer c m ruled cornered lapped within cut are.
+      (let (first, second) = masks-within spacing overlap layer c ruled cornered lapped within cut m are in (first, second, masks-cert spacing overlap layer c ruled cornered lapped within cut m are));
+  cycle = λ spacing overlap layer c cycle near ruled cornered lapped within cut reported each pairs. cycle-cert spacing overlap layer c ruled cornered lapped within cut cycle near reported each pairs;
 }

@@ -46,7 +46,7 @@ returns-clause-fits c =
     let few : length c.in-Some.cycle.items < 2 ^ 64 = search rules in
     let places = places_many c.args.cut.now.pieces.keys c.deref.result.now c.of.result (c.of.ensures ∙ c.in_ok-places.ensures.lines) ∙ ap length c.deref.ensures.value in
     let nears = ap length c.of-2.ensures ∙ (c.in_ok-near.ensures.nearest.each ∙ ap length c.deref-2.ensures.value) in (
-      c.head.ensures.fits,
+      c.head.ensures.fits c.requires.some,
       cycle_length (length c.in-Some.cycle.items) (length c.of.result) odd.three odd.odd few places,
       subst (λ (ls : List PlaceLine). AllByRecursion IsPlace ls) (sym c.of.ensures) c.in_ok-places.ensures.within,
       nears ∙ sym places,

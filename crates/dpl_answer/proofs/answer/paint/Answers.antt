@@ -75,10 +75,11 @@ returns-clause-fits c =
       a = c.in_ok-masks.ensures.within.0;
       b = c.in_ok-masks.ensures.within.1;
       cert = (
-        c.head-head.ensures.fits,
+        c.head-head.ensures.fits c.requires.some,
         many ∙ sym c.head-head.ensures.pieces,
         subst (λ (ls : List PieceLine). AllByRecursion IsPiece ls) (sym c.of.ensures) c.in_ok-lines.ensures.within,
         subst (λ (ls : List StitchLine). IsNumber (length ls)) (sym c.of-2.ensures) few,
         subst (λ (ls : List StitchLine). AllByRecursion IsStitch ls) (sym c.of-2.ensures) c.in_ok-stitches.ensures.within,
+        tt,
       );
     }

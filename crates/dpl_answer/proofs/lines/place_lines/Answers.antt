@@ -4,6 +4,7 @@ use Rattle.std.specs.Prelude.{pos}
 use Rattle.dpl_spec_split.specs.declared.Pt.{Pt}
 use Rattle.dpl_spec_split.specs.Zones.{at}
 use Rattle.dpl_cert.specs.Grammar.{IsPlace}
+use Rattle.dpl_cert.specs.declared.cert.PlaceLine.TheVariants.{Piece}
 use Rattle.dpl_law_verdict.specs.Own.{place_line}
 use Rattle.dpl_answer.proofs.LineLaws.{fits_push, key_there, map_more}
 use Rattle.dpl_answer.proofs.lines.place_lines.Goals as goal
@@ -21,7 +22,7 @@ loop-piece-preserved c =
     let no_key = at (pos 0) (pos 0) in
     record {
       put = map_more (place_line keys) c.args.cycle.now c.loop-piece.piece-index 0 _ _ within c.loop-piece.invariant.put
-          (c.in_ok-push.ensures.items ∙ ap (λ (p : Pt). c.loop-piece.lines.items ++ record { piece = k; key = p } ∷ []) (sym (c.key.ensures.value no_key)));
+          (c.in_ok-push.ensures.items ∙ ap (λ (p : Pt). c.loop-piece.lines.items ++ Piece k p ∷ []) (sym (c.key.ensures.value no_key)));
       fits = rw c.in_ok-push.ensures.items (fits_push IsPlace _ _ c.loop-piece.invariant.fits
-          (record { piece = search rules; key = c.requires.within key (k, known, c.key.ensures.value key) }));
+          (search rules, c.requires.within key (k, known, c.key.ensures.value key)));
     }

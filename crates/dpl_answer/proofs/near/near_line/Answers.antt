@@ -3,8 +3,7 @@ use Rattle.dpl_answer.proofs.near.near_line.Goals as goal
 
 pub returns-clause-within : goal.returns-clause-within
 returns-clause-within c =
-    let pair = rw c.in-Some.is at c.in_ok-from.ensures.some in
-    record {
-      from = point_fits c.rects.result.now c.in-Some.from (rw c.rects.ensures.value c.rects.ensures.within) pair.are.from;
-      to = point_fits c.rects-2.result.now c.in-Some.to (rw c.rects-2.ensures.value c.rects-2.ensures.within) pair.are.to;
-    }
+    let pair = rw c.in-Some.is at c.in_ok-from.ensures.some in (
+      point_fits c.rects.result.now c.in-Some.from (rw c.rects.ensures.value c.rects.ensures.within) pair.are.from,
+      point_fits c.rects-2.result.now c.in-Some.to (rw c.rects-2.ensures.value c.rects-2.ensures.within) pair.are.to,
+    )

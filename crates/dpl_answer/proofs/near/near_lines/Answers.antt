@@ -5,6 +5,7 @@ use Rattle.dpl_spec_split.specs.Squares.{AreNear}
 use Rattle.dpl_spec_split.specs.Zones.{part_at}
 use Rattle.dpl_cert.specs.Grammar.{IsNear}
 use Rattle.dpl_nearest.specs.Nearest.{IsNearestPair}
+use Rattle.dpl_law_verdict.specs.Own.{ShowsPair}
 use Rattle.dpl_answer.proofs.LineLaws.{fits_push}
 use Rattle.dpl_answer.proofs.NearLines.{nearest_more}
 use Rattle.dpl_answer.proofs.near.near_lines.Goals as goal
@@ -26,8 +27,8 @@ loop-k-preserved c =
       each = omega (arith, count);
       first = nearest_more c.args.spacing c.args.pieces.now.parts c.args.cycle.now c.loop-k.k c.loop-k.lines.items c.push.new.self.items line
           c.loop-k.invariant.each c.in_ok-push.ensures.items c.loop-k.invariant.first
-          (subst (λ (ps : List (List Rect)). IsNearestPair c.args.spacing (part_at ps (get_or c.args.cycle.now c.loop-k.k 0))
-          (part_at ps (get_or c.args.cycle.now ((c.loop-k.k + 1) % length c.args.cycle.now) 0)) line.from line.to) same
+          (subst (λ (ps : List (List Rect)). ShowsPair (IsNearestPair c.args.spacing (part_at ps (get_or c.args.cycle.now c.loop-k.k 0))
+          (part_at ps (get_or c.args.cycle.now ((c.loop-k.k + 1) % length c.args.cycle.now) 0))) line) same
           c.in_ok-line.ensures.nearest);
       fits = rw c.in_ok-push.ensures.items (fits_push IsNear _ _ c.loop-k.invariant.fits c.in_ok-line.ensures.within);
     }

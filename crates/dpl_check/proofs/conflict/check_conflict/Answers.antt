@@ -27,7 +27,7 @@ returns-in-Some c =
     let marks = asked c.args.marks c.args.mark_a.now c.args.mark_b.now in
     let (features, many, is) = c.in_ok-cut.ensures marks c.in_ok-marked.ensures in
     let cut = cut_view features c.in_ok-cut.cut.pieces in
-    let found = rw (c.in-Some.is, c.items.ensures, c.items-2.ensures) at (c.in_ok-place.ensures features) in
+    let found = rw (c.in-Some.is, c.items-cycle.ensures, c.items-near.ensures) at (c.in_ok-place.ensures features) in
     subst (λ (x : Cert). IsVerdictOfConflict marks c.args.spacing c.args.overlap c.args.layer.now x (Cycle c.in-Some.place)) (sym c.in-Conflict.is)
     (inr (
       (λ differ. false≢true (c.if-rules_differ.ensures.1 differ)),
@@ -42,7 +42,7 @@ returns c =
     let marks = asked c.args.marks c.args.mark_a.now c.args.mark_b.now in
     let (features, many, is) = c.in_ok-cut.ensures marks c.in_ok-marked.ensures in
     let cut = cut_view features c.in_ok-cut.cut.pieces in
-    let none = rw (c.in_default-2.is, c.items.ensures, c.items-2.ensures) at (c.in_ok-place.ensures features) in
+    let none = rw (c.in_default-2.is, c.items-cycle.ensures, c.items-near.ensures) at (c.in_ok-place.ensures features) in
     subst (λ (x : Cert). IsVerdictOfConflict marks c.args.spacing c.args.overlap c.args.layer.now x Valid) (sym c.in-Conflict.is)
     (inr (
       (λ differ. false≢true (c.if-rules_differ.ensures.1 differ)),

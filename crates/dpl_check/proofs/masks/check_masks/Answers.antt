@@ -1,7 +1,7 @@
 use Rattle.std.proofs.Common.{sym, refl, inl, inr, Some, None, subst}
 use Rattle.std.proofs.lemmas.Bool.{false≢true}
 use Rattle.dpl_cert.specs.declared.cert.Cert.{Cert}
-use Rattle.dpl_spec_verdict.specs.declared.Verdict.TheVariants.{Valid, Cover, Overlap, SpacingA, SpacingB, Stitch, Piece}
+use Rattle.dpl_spec_verdict.specs.declared.Verdict.TheVariants.{Cover, Overlap, SpacingA, SpacingB, Marked, Stitch, Piece}
 use Rattle.dpl_spec_verdict.specs.Masks.{IsVerdictOfMasks}
 use Rattle.dpl_check.proofs.Sets.{a-inside, b-inside, count-kept, count-differs, least-doubled}
 use Rattle.dpl_check.proofs.Stitches.{first-bad-stitch}
@@ -116,10 +116,8 @@ returns-in-Some-5 c = λ marks are.
     let doubled = least-doubled c.args.a.now c.args.b.now c.in_ok-both.both c.in-Masks.stitches None c.in_ok-both.ensures unlisted in
     let tight_a = rw c.in_default-4.is at c.in_ok-first.ensures in
     let tight_b = rw c.in_default-5.is at c.in_ok-first-2.ensures in
-    let first = rw (c.in-Some-5.is, c.items-3.ensures, c.items-4.ensures) at c.in_ok-index.ensures in
-    let found = first-bad-stitch c.args.overlap c.args.a.now c.args.b.now c.in_ok-both.both c.in-Masks.pieces c.in_ok-both.ensures
-    c.in-Masks.stitches (Some c.in-Some-5.index) first in
-    subst (λ (x : Cert). IsVerdictOfMasks marks c.args.spacing c.args.overlap c.args.layer.now c.args.a.now c.args.b.now x (Stitch c.in-Some-5.index)) (sym c.in-Masks.is)
+    let found = rw c.in-Some-5.is at (c.in_ok-at-3.ensures marks are) in
+    subst (λ (x : Cert). IsVerdictOfMasks marks c.args.spacing c.args.overlap c.args.layer.now c.args.a.now c.args.b.now x (Marked c.in-Some-5.at)) (sym c.in-Masks.is)
     (inr (
       (λ differ. false≢true (c.if-rules_differ.ensures.1 differ)),
       inr (
@@ -131,7 +129,7 @@ returns-in-Some-5 c = λ marks are.
             doubled,
             inr (
               (λ (p, q, h). tight_a p q h),
-              inr ((λ (p, q, h). tight_b p q h), inl ((c.in-Some-5.index, found.inside, found.is), (c.in-Some-5.index, found, refl))),
+              inr ((λ (p, q, h). tight_b p q h), inl ((c.in-Some-5.at, found.inside), (c.in-Some-5.at, found, refl))),
             ),
           ),
         ),
@@ -145,10 +143,41 @@ returns-in-Some-6 c = λ marks are.
     let doubled = least-doubled c.args.a.now c.args.b.now c.in_ok-both.both c.in-Masks.stitches None c.in_ok-both.ensures unlisted in
     let tight_a = rw c.in_default-4.is at c.in_ok-first.ensures in
     let tight_b = rw c.in_default-5.is at c.in_ok-first-2.ensures in
-    let right = rw (c.in_default-6.is, c.items-3.ensures, c.items-4.ensures) at c.in_ok-index.ensures in
+    let placed = rw c.in_default-6.is at (c.in_ok-at-3.ensures marks are) in
+    let first = rw (c.in-Some-6.is, c.items-3.ensures, c.items-4.ensures) at c.in_ok-index.ensures in
+    let found = first-bad-stitch c.args.overlap c.args.a.now c.args.b.now c.in_ok-both.both c.in-Masks.pieces c.in_ok-both.ensures
+    c.in-Masks.stitches (Some c.in-Some-6.index) first in
+    subst (λ (x : Cert). IsVerdictOfMasks marks c.args.spacing c.args.overlap c.args.layer.now c.args.a.now c.args.b.now x (Stitch c.in-Some-6.index)) (sym c.in-Masks.is)
+    (inr (
+      (λ differ. false≢true (c.if-rules_differ.ensures.1 differ)),
+      inr (
+        (count-kept c.args.layer.now c.in_ok-features.features c.items.result.now c.in-Masks.head c.in_ok-features.ensures
+            c.items.ensures.value c.if-items-head.false),
+        inr (
+          cover,
+          inr (
+            doubled,
+            inr (
+              (λ (p, q, h). tight_a p q h),
+              inr ((λ (p, q, h). tight_b p q h), inr (placed, inl ((c.in-Some-6.index, found.inside, found.is), (c.in-Some-6.index, found, refl)))),
+            ),
+          ),
+        ),
+      ),
+    ))
+
+pub returns-in-Some-7 : goal.returns-in-Some-7
+returns-in-Some-7 c = λ marks are.
+    let cover = rw c.in_default-2.is at c.in_ok-at.ensures in
+    let unlisted = rw (c.in_default-3.is, c.items-2.ensures) at c.in_ok-at-2.ensures in
+    let doubled = least-doubled c.args.a.now c.args.b.now c.in_ok-both.both c.in-Masks.stitches None c.in_ok-both.ensures unlisted in
+    let tight_a = rw c.in_default-4.is at c.in_ok-first.ensures in
+    let tight_b = rw c.in_default-5.is at c.in_ok-first-2.ensures in
+    let placed = rw c.in_default-6.is at (c.in_ok-at-3.ensures marks are) in
+    let right = rw (c.in_default-7.is, c.items-3.ensures, c.items-4.ensures) at c.in_ok-index.ensures in
     let stitches = first-bad-stitch c.args.overlap c.args.a.now c.args.b.now c.in_ok-both.both c.in-Masks.pieces c.in_ok-both.ensures c.in-Masks.stitches None right in
-    let found = rw (c.in-Some-6.is, c.items-5.ensures) at c.in_ok-index-2.ensures in
-    subst (λ (x : Cert). IsVerdictOfMasks marks c.args.spacing c.args.overlap c.args.layer.now c.args.a.now c.args.b.now x (Piece c.in-Some-6.index)) (sym c.in-Masks.is)
+    let found = rw (c.in-Some-7.is, c.items-5.ensures) at c.in_ok-index-2.ensures in
+    subst (λ (x : Cert). IsVerdictOfMasks marks c.args.spacing c.args.overlap c.args.layer.now c.args.a.now c.args.b.now x (Piece c.in-Some-7.index)) (sym c.in-Masks.is)
     (inr (
       (λ differ. false≢true (c.if-rules_differ.ensures.1 differ)),
       inr (
@@ -162,7 +191,7 @@ returns-in-Some-6 c = λ marks are.
               (λ (p, q, h). tight_a p q h),
               inr (
                 (λ (p, q, h). tight_b p q h),
-                inr (stitches, inl ((c.in-Some-6.index, found.inside, found.is), (c.in-Some-6.index, found, refl))),
+                inr (placed, inr (stitches, inl ((c.in-Some-7.index, found.inside, found.is), (c.in-Some-7.index, found, refl)))),
               ),
             ),
           ),
@@ -177,10 +206,12 @@ returns c = λ marks are.
     let doubled = least-doubled c.args.a.now c.args.b.now c.in_ok-both.both c.in-Masks.stitches None c.in_ok-both.ensures unlisted in
     let tight_a = rw c.in_default-4.is at c.in_ok-first.ensures in
     let tight_b = rw c.in_default-5.is at c.in_ok-first-2.ensures in
-    let right = rw (c.in_default-6.is, c.items-3.ensures, c.items-4.ensures) at c.in_ok-index.ensures in
+    let placed = rw c.in_default-6.is at (c.in_ok-at-3.ensures marks are) in
+    let right = rw (c.in_default-7.is, c.items-3.ensures, c.items-4.ensures) at c.in_ok-index.ensures in
     let stitches = first-bad-stitch c.args.overlap c.args.a.now c.args.b.now c.in_ok-both.both c.in-Masks.pieces c.in_ok-both.ensures c.in-Masks.stitches None right in
-    let letters = rw (c.in_default-7.is, c.items-5.ensures) at c.in_ok-index-2.ensures in
-    subst (λ (x : Cert). IsVerdictOfMasks marks c.args.spacing c.args.overlap c.args.layer.now c.args.a.now c.args.b.now x Valid) (sym c.in-Masks.is)
+    let letters = rw (c.in_default-8.is, c.items-5.ensures) at c.in_ok-index-2.ensures in
+    let gains = rw c.items-lines.ensures at (c.in_ok-verdict.ensures marks are) in
+    subst (λ (x : Cert). IsVerdictOfMasks marks c.args.spacing c.args.overlap c.args.layer.now c.args.a.now c.args.b.now x c.in_ok-verdict.verdict) (sym c.in-Masks.is)
     (inr (
       (λ differ. false≢true (c.if-rules_differ.ensures.1 differ)),
       inr (
@@ -190,7 +221,10 @@ returns c = λ marks are.
           cover,
           inr (
             doubled,
-            inr ((λ (p, q, h). tight_a p q h), inr ((λ (p, q, h). tight_b p q h), inr (stitches, inr (letters, refl)))),
+            inr (
+              (λ (p, q, h). tight_a p q h),
+              inr ((λ (p, q, h). tight_b p q h), inr (placed, inr (stitches, inr (letters, gains)))),
+            ),
           ),
         ),
       ),

@@ -3,8 +3,8 @@ use Rattle.std.specs.Prelude.{Vec, option_map}
 use Rattle.std.proofs.lemmas.Result.{IfOk-weaker}
 use Rattle.dpl_host.specs.Outside.{Outside}
 use Rattle.dpl_cert.specs.Grammar.{IsText}
-use Rattle.dpl_cert.specs.Reading.{IsBadLine, IsRefusal}
-use Rattle.dpl_cert.specs.declared.fault.CertFault.{CertFault}
+use Rattle.dpl_parse.specs.Reading.{IsBadLine, IsRefusal}
+use Rattle.dpl_parse.specs.declared.fault.CertFault.{CertFault}
 use Rattle.dpl_words.specs.Meaning.{check_view}
 use Rattle.dpl_run.specs.Program.{IsMadeOfCert, IsSeen}
 use Rattle.dpl_run.specs.View.{output_view}

@@ -1,0 +1,4 @@
+pub mod Holding
+pub mod Listing
+pub mod Rooting
+pub mod Whole

@@ -1,0 +1,28 @@
+use Rattle.std.proofs.Common.{◌≡◌, [], get_or, ◌∙◌, sym, refl, subst, arith}
+use Rattle.std.proofs.lemmas.Bool.{false≢true}
+use Rattle.std.proofs.lemmas.List.{get_or_default}
+use Rattle.dpl_spec_split.specs.Squares.{Covers}
+use Rattle.dpl_spec_split.specs.Zones.{part_at}
+use Rattle.dpl_spec_split.specs.Marks.{HasSome}
+use Rattle.dpl_edges.proofs.Fixing.{some-as}
+use Rattle.dpl_gains.proofs.Holding.{held-none, held-pass, held-more}
+use Rattle.dpl_gains.proofs.held.held_roots.Goals.{then-has_some, else-has_some}
+use Rattle.dpl_gains.proofs.held.held_roots.Goals as goal
+
+pub loop-k-init : goal.loop-k-init
+loop-k-init c = held-none c.args.parts.now c.args.roots.now c.args.set.now _ (c.in_ok-held.ensures.items_if_clones_equal (λ y h. h))
+
+pub loop-k-preserved : goal.loop-k-preserved
+loop-k-preserved c =
+    let parts = c.args.parts.now in
+    let roots = c.args.roots.now in
+    let k = c.loop-k.k in
+    let same : c.index-parts-k.result ≡ get_or parts k [] = c.index-parts-k.is ∙ get_or_default parts k c.index-parts-k.result [] c.loop-k-test.true in
+    elim c.if-has_some.branch [
+      | then-has_some w ↦
+          (let some : HasSome (part_at parts k) (Covers c.args.set.now) = subst (λ rs. HasSome (Covers rs) (Covers c.args.set.now)) same
+          (some-as c.index-parts-k.result _ c.args.set.now c.in_ok-tree.ensures (w.if-has_some.ensures.0 refl)) in
+          rw w.held-is (held-more parts roots c.args.set.now k c.loop-k.held.items c.loop-k.invariant (c.requires.below k (let e = c.requires.each in let l = c.loop-k-test.true in omega (arith, e, l))) some))
+      | else-has_some w ↦ rw w.held-is (held-pass parts roots c.args.set.now k c.loop-k.held.items c.loop-k.invariant
+          (λ (p, mine, at). false≢true (w.if-has_some.ensures.1 (p, subst (λ rs. Covers rs p) (sym same) mine, (c.in_ok-tree.ensures p).1 at))))
+    ]

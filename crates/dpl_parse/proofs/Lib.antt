@@ -1,0 +1,11 @@
+pub mod Texts
+pub mod Numerals
+pub mod Prefixes
+pub mod Rising
+pub mod Versions
+pub mod Shapes
+pub mod Seconds
+pub mod Conflicts
+pub mod Openings
+pub mod Whole
+pub mod Unique
