@@ -1,16 +1,16 @@
 -- Without an odd cycle of conflicts a mask keeps squares of different features apart.
-use Rattle.std.proofs.Common.{◌≡◌, ◌≢◌, ℕ, suc, ◌+◌, ◌*◌, ◌%◌, ◌<◌, ◌≤◌, inl, inr, Bool, true, false, List, [], ◌∷◌, drop, length, get_or, sym, refl, ap, ◌∙◌, subst, arith}
+use Rattle.std.proofs.Common.{◌≡◌, ◌≢◌, ℕ, suc, ◌+◌, ◌%◌, ◌<◌, ◌≤◌, inl, inr, Bool, true, false, List, [], ◌∷◌, drop, length, get_or, sym, refl, ap, ◌∙◌, subst, arith}
 use Rattle.std.specs.Prelude.{Option, Some, None, ◌==◌, ◌<ℤ◌}
 use Rattle.std.specs.List.{Contains}
 use Rattle.std.proofs.lemmas.Int.{ints}
-use Rattle.std.proofs.lemmas.Bool.{cases_lt, cases_order}
+use Rattle.std.proofs.lemmas.Bool.{cases_order}
 use Rattle.std.proofs.lemmas.Bool.Decides.{nat_tests}
 use Rattle.dpl_spec_split.proofs.SpacingLaws.{few-swapped, near-or_far}
 use Rattle.dpl_spec_split.specs.declared.Spacing.{Spacing}
 use Rattle.dpl_spec_split.specs.declared.Pt.{Pt}
 use Rattle.dpl_spec_split.specs.declared.Rect.{Rect}
 use Rattle.dpl_spec_split.specs.declared.Zone.{Zone}
-use Rattle.dpl_spec_split.specs.Squares.{Region, Covers, Has, d2, Near}
+use Rattle.dpl_spec_split.specs.Squares.{Region, Covers, Has, Near}
 use Rattle.dpl_spec_split.specs.Zones.{at, IsStretch, IsMiddle, IsHorizontalZone, IsKeptZone, transposed, transposed_rect, part_at}
 use Rattle.dpl_spec_split.specs.Pieces.{Conflict}
 use Rattle.dpl_spec_split.specs.Graphs.{Graph, stay, step, IsDistance}
@@ -18,7 +18,7 @@ use Rattle.dpl_spec_split.specs.Summary.{HasOddCycle}
 use Rattle.dpl_spec_split.specs.Colours.{differ, is_flipped, AreRoots, AreColours, colour_at, on_mask}
 use Rattle.dpl_spec_split.specs.Marks.{Marks, Anchored, MarkEdge, letters_by, sides_by, vertex, conflict, up, down, anchors, fixed_to_a, fixed_to_b}
 use Rattle.dpl_spec_split.specs.Decomposition.{Cut, IsCut, conflicts, cut_graph, Masks, AreMasks}
-use Rattle.dpl_spec_split.proofs.SquareLaws.{d2-sym, AreNear-sym, far-sym}
+use Rattle.dpl_spec_split.proofs.SquareLaws.{AreNear-sym, far-sym}
 use Rattle.dpl_spec_split.proofs.GraphLaws.{root-unique}
 use Rattle.dpl_stars.specs.Laws.{HasLevelEdge}
 use Rattle.dpl_stars.proofs.Walks.{IsUndirected, root-along, distance-step}
@@ -85,7 +85,7 @@ module _ (joined : Graph) (un : IsUndirected joined) (count : ℕ) (roots : List
       (cycle, odd)
 
   -- without an odd cycle neighbours have different letters
-  letters-differ : (sides : List (ℕ × ℕ)) (colours : List Bool) → AreColours roots odds sides colours → (HasOddCycle joined → ⊥)
+  pub letters-differ : (sides : List (ℕ × ℕ)) (colours : List Bool) → AreColours roots odds sides colours → (HasOddCycle joined → ⊥)
       → (u v : ℕ) → u < count → v < count → joined u v → colour_at colours u ≡ colour_at colours v → ⊥
   letters-differ sides colours coloured even u v u_in v_in e same =
       let many = rooted.lengths.0 in
@@ -110,7 +110,7 @@ edges-differ m pieces u v (fixed_to_b k k_in some a b) e = omega (arith, a, b, e
 edges-differ m pieces u v (fixed_to_a k k_in some a b) e = omega (arith, a, b, e)
 
 -- with anchors or without, what is joined is joined both ways, and to no vertex itself
-graph-undirected : (marks : Option Marks) (spacing : Spacing) (c : Cut) → IsUndirected (cut_graph marks spacing c)
+pub graph-undirected : (marks : Option Marks) (spacing : Spacing) (c : Cut) → IsUndirected (cut_graph marks spacing c)
 graph-undirected None spacing c = conflicts-undirected spacing c
 graph-undirected (Some m) spacing c = record { both = both; different = different }
   where
@@ -139,7 +139,7 @@ behind-two (x ∷ []) k = refl
 behind-two (x ∷ y ∷ cs) k = refl
 
 -- a piece has its vertex's letter
-letter-at : (marks : Option Marks) (colours : List Bool) (k : ℕ) → colour_at (letters_by marks colours) k ≡ colour_at colours (vertex marks k)
+pub letter-at : (marks : Option Marks) (colours : List Bool) (k : ℕ) → colour_at (letters_by marks colours) k ≡ colour_at colours (vertex marks k)
 letter-at None colours k = refl
 letter-at (Some m) colours k = let two : suc (suc k) ≡ k + 2 = omega arith in behind-two colours k ∙ ap (λ n. get_or colours n false) two
 

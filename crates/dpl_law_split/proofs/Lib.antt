@@ -2,6 +2,7 @@ pub mod Parts
 pub mod Cover
 pub mod Apart
 pub mod Overlap
+pub mod Fixed
 pub mod Tops
 pub mod SomeTop
 pub mod Offsets

@@ -1,7 +1,7 @@
 -- A library has a top, or a reason why it has none: its roots can be listed.
 use Rattle.std.proofs.Common.{◌≡◌, ◌≢◌, ℕ, zero, suc, ◌+◌, ◌<◌, ◌≤◌, ⊎_elim, inl, inr, List, [], ◌∷◌, length, get_or, Option, Some, None, refl, sym, ap, subst, arith}
-use Rattle.std.specs.Prelude.{◌⊎◌, ◌↔◌, slice_get}
-use Rattle.std.specs.List.{All, AllPairs, Contains}
+use Rattle.std.specs.Prelude.{◌⊎◌}
+use Rattle.std.specs.List.{AllPairs, Contains}
 use Rattle.std.proofs.lemmas.Bool.{cases_lt, cases_eq}
 use Rattle.std.proofs.lemmas.List.Elements.{Contains-get_or}
 use Rattle.std.proofs.lemmas.List.Kept.{AllPairs-cons}
@@ -10,7 +10,7 @@ use Rattle.dpl_spec_split.proofs.Ordered.{Contains-head, Contains-later, Contain
 use Rattle.dpl_spec_format.specs.Tree.{Library, Element, elements_or_none, elements_at}
 use Rattle.dpl_spec_layout.specs.declared.TopFault.{TopFault}
 use Rattle.dpl_spec_layout.specs.declared.TopFault.TheVariants.{NoMemory, NoTop, ManyTops}
-use Rattle.dpl_spec_layout.specs.Structures.{structure_named, target_of, Refers, IsRoot, AreRoots, IsTop, IsTopFault}
+use Rattle.dpl_spec_layout.specs.Structures.{structure_named, target_of, Refers, AreRoots, IsTop, IsTopFault}
 
 target-decided : (o : Option ℕ) (k : ℕ) → (o ≡ Some k) ⊎ (o ≡ Some k → ⊥)
 target-decided None k = inr (λ e. cc)

@@ -1,5 +1,5 @@
 -- What the masks of a layer keep.
-use Rattle.std.specs.Prelude.{◌≢◌, ℕ, ◌*◌, ◌≤◌, ◌⊎◌, ◌↔◌, pos, List, map, slice_index_or, Option}
+use Rattle.std.specs.Prelude.{◌≢◌, ℕ, ◌⊎◌, ◌↔◌, pos, List, map, slice_index_or, Option, Some}
 use Rattle.dpl_spec_split.specs.declared.Spacing.{Spacing}
 use Rattle.dpl_spec_split.specs.declared.Pt.{Pt}
 use Rattle.dpl_spec_split.specs.declared.Rect.{Rect}
@@ -43,3 +43,12 @@ MasksKeepApart = (marks : Option Marks) (spacing : Spacing) (overlap : ℕ) (lay
 abbrev pub MasksOverlapAtStitches : Type 0
 MasksOverlapAtStitches = (marks : Option Marks) (spacing : Spacing) (overlap : ℕ) (layer : List Rect) (c : Cut) (m : Masks) → IsCut marks spacing overlap (Covers layer) c
     → AreMasks marks spacing c m → OverlapAt (rects_of c.zones m.stitches) m.a m.b
+
+-- the squares of the layer that are in the set are on this mask, and not on the other one
+abbrev pub AreOnOne : List Rect → List Rect → List Rect → List Rect → Type 0
+AreOnOne layer set mask other = (p : Pt) → Covers layer p → Covers set p → Covers mask p × ¬ Covers other p
+
+-- without an odd cycle of the graph each marked square of the layer is on the mask that it is fixed to alone
+abbrev pub MasksKeepMarks : Type 0
+MasksKeepMarks = (marks : Marks) (spacing : Spacing) (overlap : ℕ) (layer : List Rect) (c : Cut) (m : Masks) → IsCut (Some marks) spacing overlap (Covers layer) c → AreMasks (Some marks) spacing c m
+    → ¬ HasOddCycle (cut_graph (Some marks) spacing c) → AreOnOne layer marks.a m.a m.b × AreOnOne layer marks.b m.b m.a
