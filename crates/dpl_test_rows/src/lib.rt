@@ -6,10 +6,6 @@ mod calls;
 #[cfg(test)]
 mod demos;
 #[cfg(test)]
-mod hierarchy;
-#[cfg(test)]
 mod rectangles;
-#[cfg(test)]
-mod shapes;
 #[cfg(test)]
 mod tiles;

@@ -1,0 +1,7 @@
+//! Worked layouts, from file to file: how the whole program reads shapes and references, and for what it refuses them.
+#![tactic(auto)]
+
+#[cfg(test)]
+mod hierarchy;
+#[cfg(test)]
+mod shapes;
