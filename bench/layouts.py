@@ -23,6 +23,7 @@ KIND is one of
   flood    pairs of loops that turn opposite ways over the same squares
   holes    squares whose hole is cut by a doubled edge
   stitched COUNT times three features, of seven shapes, that need a stitch
+  triangles COUNT times three squares, each too close to the other two
   chain    COUNT structures, each with one reference of the next, over one bar
   doubling COUNT structures, each with two references of the next at (0,0), over one unit square
   twisted  the same, but the last refers to the first
@@ -244,9 +245,17 @@ def stitched(count, rng):
             yield rect(x + x0, y + y0, x + x1, y + y1)
 
 
+def triangles(count, rng):
+    per_row = max(1, int(count**0.5))
+    for i in range(count):
+        x, y = 200 * (i % per_row), 200 * (i // per_row)
+        for u, v in ((0, 0), (40, 0), (20, 40)):
+            yield rect(x + u, y + v, x + u + 20, y + v + 20)
+
+
 KINDS = {f.__name__: f for f in (
     bars, dense, upright, wires, through, mesh, scatter, polygons, stairs, plate,
-    ragged, rising, teeth, nested, stacked, flood, holes, stitched,
+    ragged, rising, teeth, nested, stacked, flood, holes, stitched, triangles,
 )}
 TREES = {f.__name__: f for f in (chain, doubling, twisted, ring, tower)}
 

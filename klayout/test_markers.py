@@ -1,4 +1,4 @@
-"""Tests of markers.py, without KLayout: small layouts and certificates, and what is drawn of them."""
+"""Tests of markers.py, without KLayout: small layouts and certificates, and what is drawn of them; and of what dplview draws."""
 import os
 import re
 import struct
@@ -253,6 +253,23 @@ class Markers(unittest.TestCase):
         self.assertEqual(sorted(os.listdir(self.folder)), ["cert", "in.gds"])
         with self.assertRaises(markers.Problem):
             self.build(b"no layout", STITCH)
+
+    @unittest.skipUnless(os.environ.get("DPLVIEW"), "DPLVIEW doesn't name the program")
+    def test_dplview_draws_a_cycle_as_a_closed_line(self):
+        source = os.path.join(os.path.dirname(os.path.abspath(__file__)), "../examples/conflict.gds")
+        database = os.path.join(self.folder, "all.lyrdb")
+        done = subprocess.run([os.environ["DPLVIEW"], "conflicts", "--layer", "1", "--rule", "30", "--overlap", "10", source,
+                               database], stdout=subprocess.PIPE, check=False)
+        self.assertEqual(done.returncode, 1)
+        root = xml.parse(database).getroot()
+        self.assertEqual(root.tag, "report-database")
+        self.assertEqual([name.text for name in root.findall("categories/category/name")], ["cycle"])
+        self.assertEqual([name.text for name in root.findall("cells/cell/name")], ["TOP"])
+        (item,) = root.findall("items/item")
+        self.assertEqual([(part.tag, part.text) for part in item][:2], [("category", "cycle"), ("cell", "TOP")])
+        self.assertEqual([value.text for value in item.findall("values/value")], [
+            "text: 'cycle 0: 3 pieces'",
+            "path: (0.001,0;0.02,0;0.02,0.001;0.011,0.02;0.01,0.02;0.001,0.001;0.001,0) w=0 bx=0 ex=0 r=false"])
 
 
 if __name__ == "__main__":

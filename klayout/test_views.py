@@ -17,7 +17,7 @@ sys.path.insert(0, HERE)
 import markers  # noqa: E402
 import testing  # noqa: E402
 
-DPL, FILES = globals()["dpl"], globals().get("files", "")
+DPL, VIEW, FILES = globals()["dpl"], globals().get("view", ""), globals().get("files", "")
 NONE = pya.Region()
 
 
@@ -209,6 +209,22 @@ def test_broken(folder):
     assert texts == [line] and len(split.items("stitches")) == 1
     assert "in just one of the layer" in split.base.category_by_path("broken").description
     print(line)
+
+
+def test_all_conflicts(folder):
+    """Each cycle that dplview lists is one marker, a closed line that KLayout reads."""
+    if not VIEW:
+        return
+    source, database = os.path.join(HERE, "../examples/conflict.gds"), os.path.join(folder, "all.lyrdb")
+    subprocess.run([VIEW, "conflicts", "--layer", "1", "--rule", "30", "--overlap", "10", source, database],
+                   stdout=subprocess.DEVNULL, check=False)
+    base = read_back(database)
+    (item,) = base.each_item()
+    text, line = item.each_value()
+    points = list(line.path().each_point())
+    assert text.string() == "cycle 0: 3 pieces", text
+    assert len(points) == 7 and points[0] == points[-1] == pya.DPoint(0.001, 0), line
+    assert base.cell_by_id(item.cell_id()).qname() == "TOP" and not item.is_visited()
 
 
 def test_names(folder):

@@ -1,10 +1,10 @@
 //! Marker databases of KLayout's.
 use dpl_answer::Clash;
 use dpl_base::{Pt, Rect};
-use dpl_cert::{NearLine, PlaceLine, StitchLine};
+use dpl_cert::{NearLine, StitchLine};
 use dpl_view::{Cycles, top_name, unit_of};
+use itoa::Buffer;
 use std::alloc::{AllocError, Global};
-use std::fmt::Write;
 
 /// What a marker database is about: its title, its category, and what a marker of that means.
 #[derive(Clone, Copy)]
@@ -26,19 +26,13 @@ const STITCHES: Subject = Subject {
     meaning: "Where both masks overlap",
 };
 
-/// A marker database with a marker for each cycle and one for each of its conflicts, in micrometres by the record UNITS of the layout.
-pub fn cycle_markers(alloc: Global, found: &Cycles) -> Result<String, AllocError> {
-    let cell = escaped(alloc, top_name(found.copied.as_slice()))?;
-    let unit = unit_of(found.copied.as_slice());
-    let mut text = head(alloc, &CYCLES, cell.as_str())?;
-    let front = front(alloc, CYCLES.category, cell.as_str())?;
-    let mut number: u64 = 0;
-    for clash in &found.tangles.clashes {
-        number = number.saturating_add(1);
-        put_cycle(&mut text, front.as_str(), unit, number, clash)?;
+/// A marker database with a marker for each cycle, in micrometres by the record UNITS of the layout. The marker has the cycle's number and how many pieces it has, and a closed line that goes across each pair of near squares and, in the piece that it comes to, on to the next pair.
+pub fn cycle_markers(alloc: Global, found: &Cycles) -> Result<Vec<u8>, AllocError> {
+    let mut pen = Pen::new(alloc, &CYCLES, found.copied.as_slice())?;
+    for (number, clash) in found.tangles.clashes.iter().enumerate() {
+        pen.put_cycle(number as u64, clash)?;
     }
-    text.push_str(TAIL)?;
-    Ok(text)
+    pen.finished()
 }
 
 /// A marker database with a marker for each stitch, in micrometres by the record UNITS among the copied records of the layout.
@@ -46,20 +40,13 @@ pub fn stitch_markers(
     alloc: Global,
     copied: &[u8],
     stitches: &[StitchLine],
-) -> Result<String, AllocError> {
-    let cell = escaped(alloc, top_name(copied))?;
-    let unit = unit_of(copied);
-    let mut text = head(alloc, &STITCHES, cell.as_str())?;
-    let front = front(alloc, STITCHES.category, cell.as_str())?;
+) -> Result<Vec<u8>, AllocError> {
+    let mut pen = Pen::new(alloc, &STITCHES, copied)?;
     for stitch in stitches {
-        put_stitch(&mut text, front.as_str(), unit, stitch)?;
+        pen.put_stitch(stitch)?;
     }
-    text.push_str(TAIL)?;
-    Ok(text)
+    pen.finished()
 }
-
-/// What stands behind the items.
-const TAIL: &str = " </items>\n</report-database>\n";
 
 /// What stands before the items.
 fn head(alloc: Global, subject: &Subject, cell: &str) -> Result<String, AllocError> {
@@ -106,141 +93,156 @@ fn escaped(alloc: Global, text: &str) -> Result<String, AllocError> {
 
 /// What stands before the values of a marker.
 fn front(alloc: Global, category: &str, cell: &str) -> Result<String, AllocError> {
-    format!(in alloc;
-        "  <item>
-   <tags/>
-   <category>{category}</category>
-   <cell>{cell}</cell>
-   <visited>false</visited>
-   <multiplicity>1</multiplicity>
-   <values>
-"
-    )
+    format!(in alloc; "<item><category>{category}</category><cell>{cell}</cell><values>")
 }
 
-/// What stands behind the values of a marker.
-const BACK: &str = "   </values>\n  </item>\n";
+/// How many millionths of a micrometre it has.
+const MICROMETRE: u64 = 1_000_000;
 
-/// Adds the markers of one cycle. A layout is looked at without marks, so its cycles have no anchors.
-fn put_cycle(
-    text: &mut String,
-    front: &str,
+/// How many digits stand behind the point at most.
+const PLACES: u32 = 6;
+
+/// What writes a marker database.
+#[derive(Drop)]
+struct Pen {
+    /// What is written.
+    out: Vec<u8>,
+    /// What stands before the values of each marker.
+    front: Vec<u8>,
+    /// How many millionths of a micrometre a database unit has.
     unit: u64,
-    number: u64,
-    clash: &Clash,
-) -> Result<(), AllocError> {
-    let count = clash.cycle.items().len();
-    text.push_str(front)?;
-    write!(
-        text,
-        "    <value>text: 'odd cycle {number}: {count} pieces'</value>\n"
-    )?;
-    for near in clash.near.items() {
-        if let NearLine::Pair { from, to } = near {
-            put_edge(text, from, to, unit)?;
+}
+
+impl Pen {
+    /// One that has written what stands before the items of a layout with these copied records.
+    fn new(alloc: Global, subject: &Subject, copied: &[u8]) -> Result<Pen, AllocError> {
+        let cell = escaped(alloc, top_name(copied))?;
+        let head = head(alloc, subject, cell.as_str())?;
+        let front = front(alloc, subject.category, cell.as_str())?;
+        Ok(Pen {
+            out: head.into_bytes(),
+            front: front.into_bytes(),
+            unit: unit_of(copied),
+        })
+    }
+
+    /// The database, once all items are written.
+    fn finished(mut self) -> Result<Vec<u8>, AllocError> {
+        self.put(b" </items>\n</report-database>\n")?;
+        Ok(self.out)
+    }
+
+    /// Adds the marker of a cycle. A layout is looked at without marks, so its cycles have no anchors.
+    fn put_cycle(&mut self, number: u64, clash: &Clash) -> Result<(), AllocError> {
+        self.put_front()?;
+        self.put(b"<value>text: 'cycle ")?;
+        self.put_number(number)?;
+        self.put(b": ")?;
+        self.put_number(clash.cycle.items().len() as u64)?;
+        self.put(b" pieces'</value><value>path: (")?;
+        for near in clash.near.items() {
+            if let NearLine::Pair { from, to } = near {
+                let (from, to) = between(from, to);
+                self.put_line(from, to)?;
+                self.put(b";")?;
+            }
         }
+        // back to where it began
+        if let Some(NearLine::Pair { from, to }) = clash.near.items().first() {
+            let (from, _) = between(from, to);
+            self.put_point(from)?;
+        }
+        self.put(b") w=0 bx=0 ex=0 r=false</value>")?;
+        self.put_back()
     }
-    text.push_str(BACK)?;
-    for (place, near) in clash.cycle.items().iter().zip(clash.near.items()) {
-        let PlaceLine::Piece { piece, .. } = place else {
-            continue;
-        };
-        let NearLine::Pair { from, to } = near else {
-            continue;
-        };
-        text.push_str(front)?;
-        put_conflict(text, unit, number, *piece, from, to)?;
-        text.push_str(BACK)?;
+
+    /// Adds the marker of a stitch.
+    fn put_stitch(&mut self, stitch: &StitchLine) -> Result<(), AllocError> {
+        let r = &stitch.rect;
+        let low = point(r.x0, r.y0);
+        let high = point(r.x1, r.y1);
+        self.put_front()?;
+        self.put(b"<value>text: 'stitch between the pieces ")?;
+        self.put_number(stitch.p)?;
+        self.put(b" and ")?;
+        self.put_number(stitch.q)?;
+        self.put(b"'</value><value>box: (")?;
+        self.put_line(low, high)?;
+        self.put(b")</value>")?;
+        self.put_back()
     }
-    Ok(())
+
+    /// Adds what stands before the values of a marker.
+    fn put_front(&mut self) -> Result<(), AllocError> {
+        self.out.extend_from_slice(self.front.as_slice())
+    }
+
+    /// Adds what stands behind the values of a marker.
+    fn put_back(&mut self) -> Result<(), AllocError> {
+        self.put(b"</values></item>\n")
+    }
+
+    /// Adds both ends of a line.
+    fn put_line(&mut self, from: Pt, to: Pt) -> Result<(), AllocError> {
+        self.put_point(from)?;
+        self.put(b";")?;
+        self.put_point(to)
+    }
+
+    /// Adds a point in micrometres.
+    fn put_point(&mut self, p: Pt) -> Result<(), AllocError> {
+        self.put_length(p.x)?;
+        self.put(b",")?;
+        self.put_length(p.y)
+    }
+
+    /// Adds a coordinate in micrometres, without zeros at its end. A coordinate has at most 32 bits, and a unit at most 32, so nothing saturates.
+    fn put_length(&mut self, value: i64) -> Result<(), AllocError> {
+        let all = value.unsigned_abs().saturating_mul(self.unit);
+        if value < 0 {
+            self.put(b"-")?;
+        }
+        self.put_number(all / MICROMETRE)?;
+        let mut rest = all % MICROMETRE;
+        if rest > 0 {
+            self.put(b".")?;
+        }
+        for _ in 0..PLACES {
+            if rest == 0 {
+                break;
+            }
+            let tenfold = rest % MICROMETRE * 10;
+            self.out.push(b'0' + (tenfold / MICROMETRE % 10) as u8)?;
+            rest = tenfold % MICROMETRE;
+        }
+        Ok(())
+    }
+
+    /// Adds a number.
+    fn put_number(&mut self, number: u64) -> Result<(), AllocError> {
+        let mut buffer = Buffer::new();
+        self.put(buffer.format(number).as_bytes())
+    }
+
+    /// Adds some bytes.
+    fn put(&mut self, bytes: &[u8]) -> Result<(), AllocError> {
+        self.out.extend_from_slice(bytes)
+    }
 }
 
-/// Adds the values of the marker of a conflict of a cycle.
-fn put_conflict(
-    text: &mut String,
-    unit: u64,
-    number: u64,
-    piece: u64,
-    from: &Pt,
-    to: &Pt,
-) -> Result<(), AllocError> {
-    write!(
-        text,
-        "    <value>text: 'odd cycle {number}: piece {piece}'</value>\n"
-    )?;
-    put_square(text, from, unit)?;
-    put_square(text, to, unit)?;
-    put_edge(text, from, to, unit)
+/// A point of these coordinates.
+fn point(x: i32, y: i32) -> Pt {
+    Pt {
+        x: i64::from(x),
+        y: i64::from(y),
+    }
 }
 
-/// Adds the marker of a stitch.
-fn put_stitch(
-    text: &mut String,
-    front: &str,
-    unit: u64,
-    stitch: &StitchLine,
-) -> Result<(), AllocError> {
-    text.push_str(front)?;
-    write!(
-        text,
-        "    <value>text: 'stitch between the pieces {} and {}'</value>\n",
-        stitch.p, stitch.q
-    )?;
-    put_rectangle(text, &stitch.rect, unit)?;
-    text.push_str(BACK)
-}
-
-/// Adds a coordinate in micrometres. A coordinate has at most 32 bits, and a unit at most 32, so nothing saturates.
-fn put_length(text: &mut String, value: i64, unit: u64) -> Result<(), AllocError> {
-    let all = value.unsigned_abs().saturating_mul(unit);
-    let sign = if value < 0 { "-" } else { "" };
-    let whole = all / 1_000_000;
-    let rest = all % 1_000_000;
-    write!(text, "{sign}{whole}.{rest:06}")
-}
-
-/// Adds a point in micrometres.
-fn put_point(text: &mut String, x: i64, y: i64, unit: u64) -> Result<(), AllocError> {
-    put_length(text, x, unit)?;
-    text.push_str(",")?;
-    put_length(text, y, unit)
-}
-
-/// Adds a value of two points.
-fn put_value(
-    text: &mut String,
-    kind: &str,
-    from: (i64, i64),
-    to: (i64, i64),
-    unit: u64,
-) -> Result<(), AllocError> {
-    text.push_str("    <value>")?;
-    text.push_str(kind)?;
-    text.push_str(": (")?;
-    put_point(text, from.0, from.1, unit)?;
-    text.push_str(";")?;
-    put_point(text, to.0, to.1, unit)?;
-    text.push_str(")</value>\n")
-}
-
-/// Adds a unit square as a box.
-fn put_square(text: &mut String, p: &Pt, unit: u64) -> Result<(), AllocError> {
-    let high = (p.x.saturating_add(1), p.y.saturating_add(1));
-    put_value(text, "box", (p.x, p.y), high, unit)
-}
-
-/// Adds a rectangle as a box.
-fn put_rectangle(text: &mut String, rect: &Rect, unit: u64) -> Result<(), AllocError> {
-    let low = (i64::from(rect.x0), i64::from(rect.y0));
-    let high = (i64::from(rect.x1), i64::from(rect.y1));
-    put_value(text, "box", low, high, unit)
-}
-
-/// Adds the shortest line from one unit square to another.
-fn put_edge(text: &mut String, from: &Pt, to: &Pt, unit: u64) -> Result<(), AllocError> {
+/// The shortest line between two near squares.
+fn between(from: &Pt, to: &Pt) -> (Pt, Pt) {
     let (x0, x1) = ends(from.x, to.x);
     let (y0, y1) = ends(from.y, to.y);
-    put_value(text, "edge", (x0, y0), (x1, y1), unit)
+    (Pt { x: x0, y: y0 }, Pt { x: x1, y: y1 })
 }
 
 /// Where the shortest line between two unit squares ends, along one axis.

@@ -26,6 +26,14 @@ const APART: [Rectangle; 6] = [
     [1010, 20, 1011, 21],
 ];
 
+/// The markers of both triangles: from piece to piece, and back to the first.
+const APART_ITEMS: &str = " <items>
+<item><category>cycle</category><cell>TOP</cell><values><value>text: 'cycle 0: 3 pieces'</value><value>path: (0.001,0;0.02,0;0.02,0.001;0.011,0.02;0.01,0.02;0.001,0.001;0.001,0) w=0 bx=0 ex=0 r=false</value></values></item>
+<item><category>cycle</category><cell>TOP</cell><values><value>text: 'cycle 1: 3 pieces'</value><value>path: (1.001,0;1.02,0;1.02,0.001;1.011,0.02;1.01,0.02;1.001,0.001;1.001,0) w=0 bx=0 ex=0 r=false</value></values></item>
+ </items>
+</report-database>
+";
+
 const BAR: [Rectangle; 1] = [[0, 0, 400, 20]];
 
 const WIRES: [Rectangle; 7] = [
@@ -69,7 +77,7 @@ fn cycles<R: Threads + Wait + Abort + Sync>(
         Finding::Cycles(found) => Ok((
             conflict_lines(alloc, &found.tangles)?,
             conflict_json(alloc, &found.tangles)?,
-            cycle_markers(alloc, &found)?,
+            String::from_utf8(cycle_markers(alloc, &found)?)?,
         )),
         Finding::Refused { .. } => Ok((String::new(alloc), String::new(alloc), String::new(alloc))),
     }
@@ -85,15 +93,12 @@ fn conflicts_are_listed(rt: HostRuntime) -> Result<(), Fail> {
         json.as_str(),
         "{\"cycles\":[{\"box\":[0,0,21,21],\"near\":[[[0,0],[20,0]],[[20,0],[10,20]],[[10,20],[0,0]]],\"pieces\":[{\"piece\":0,\"x\":0,\"y\":0},{\"piece\":1,\"x\":20,\"y\":0},{\"piece\":4,\"x\":10,\"y\":20}]},{\"box\":[1000,0,1021,21],\"near\":[[[1000,0],[1020,0]],[[1020,0],[1010,20]],[[1010,20],[1000,0]]],\"pieces\":[{\"piece\":2,\"x\":1000,\"y\":0},{\"piece\":3,\"x\":1020,\"y\":0},{\"piece\":5,\"x\":1010,\"y\":20}]}],\"edges\":6,\"pieces\":6}\n"
     );
-    for part in [
-        "<description>Odd cycles of conflicts</description>",
-        "<category>cycle</category>\n   <cell>TOP</cell>",
-        "<value>text: 'odd cycle 2: 3 pieces'</value>",
-        "<value>box: (1.020000,0.000000;1.021000,0.001000)</value>",
-        "<value>edge: (0.001000,0.000000;0.020000,0.000000)</value>",
-    ] {
-        assert!(rt; markers.as_str().contains(part));
-    }
+    assert!(rt;
+        markers
+            .as_str()
+            .contains("<description>Odd cycles of conflicts</description>")
+    );
+    assert!(rt; markers.as_str().ends_with(APART_ITEMS));
     let (lines, json, markers) = cycles(&rt, rt.alloc(), &BAR)?;
     assert_eq!(rt; lines.as_str(), "conflicts cycles 0 pieces 0 edges 0\n");
     assert_eq!(rt; json.as_str(), "{\"cycles\":[],\"edges\":0,\"pieces\":0}\n");
@@ -121,7 +126,7 @@ fn stitches<R: Threads + Wait + Abort + Sync>(
         Seams::Stitches(found) => Ok((
             stitch_lines(alloc, found.items(), 10)?,
             stitch_json(alloc, found.items(), 10)?,
-            stitch_markers(alloc, copied.as_slice(), found.items())?,
+            String::from_utf8(stitch_markers(alloc, copied.as_slice(), found.items())?)?,
         )),
         Seams::Conflict(pieces) => Ok((
             format!(in alloc; "{pieces}")?,
@@ -142,13 +147,11 @@ fn stitches_are_listed(rt: HostRuntime) -> Result<(), Fail> {
         json.as_str(),
         "{\"stitches\":[{\"box\":[97,180,107,200],\"length\":10,\"pieces\":[4,6],\"width\":20}]}\n"
     );
-    for part in [
-        "<category>stitch</category>\n   <cell>TOP</cell>",
-        "<value>text: 'stitch between the pieces 4 and 6'</value>",
-        "<value>box: (0.097000,0.180000;0.107000,0.200000)</value>",
-    ] {
-        assert!(rt; markers.as_str().contains(part));
-    }
+    assert!(rt;
+        markers.as_str().contains(
+            "\n<item><category>stitch</category><cell>TOP</cell><values><value>text: 'stitch between the pieces 4 and 6'</value><value>box: (0.097,0.18;0.107,0.2)</value></values></item>\n"
+        )
+    );
     let (lines, _, _) = stitches(&rt, rt.alloc(), &APART)?;
     assert_eq!(rt; lines.as_str(), "3");
     Ok(())

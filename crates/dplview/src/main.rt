@@ -180,7 +180,7 @@ fn shown(
     };
     if let (Some(name), Finding::Cycles(found)) = (options.output, finding) {
         let markers = cycle_markers(alloc, found)?;
-        if let Err(error) = fs::write(rt, name, markers.as_str()) {
+        if let Err(error) = fs::write(rt, name, markers.as_slice()) {
             return Ok(failed(rt, name, &error, Status::WriteFault));
         }
     }
@@ -207,7 +207,7 @@ fn seams_shown(
     ) = (options.output, found)
     {
         let markers = stitch_markers(alloc, copied.as_slice(), stitches.items())?;
-        if let Err(error) = fs::write(rt, name, markers.as_str()) {
+        if let Err(error) = fs::write(rt, name, markers.as_slice()) {
             return Ok(failed(rt, name, &error, Status::WriteFault));
         }
     }
