@@ -24,8 +24,9 @@ use Rattle.dpl_slabs.proofs.StripLaws.{AllPairs-append}
 use Rattle.dpl_piece.specs.declared.piece.Origin.TheVariants.{Whole, Broken}
 use Rattle.dpl_piece.specs.declared.piece.Piece.{Piece}
 use Rattle.dpl_piece.specs.Pieces.{whole_piece, broken_piece, left_of, AddsPieces, HasZone}
-use Rattle.dpl_piece.proofs.Beside.{in-set, closed, kept, kept-inside}
+use Rattle.dpl_piece.proofs.Beside.{in-set, some-part, closed, kept, kept-inside}
 use Rattle.dpl_piece.proofs.Regions.{linked-same}
+use Rattle.dpl_piece.proofs.Stands.{AreLeftOf}
 
 -- the rectangles of feature n's zones
 abbrev pub AreHolesOf : List Zone → ℕ → List Rect → Type 0
@@ -144,6 +145,14 @@ module _ (spacing : Spacing) (overlap : ℕ) (features : List (List Rect)) (zone
             kept = λ e. (let differ : Broken ≡ Whole = e in cc);
             cut = λ e. zoned some;
           }
+
+      -- what is left of the feature is in these parts
+      pub broken-left : AreLeftOf (union_of features) zones (part_at features n) parts
+      broken-left = record {
+        canonical = b.canonical;
+        inside = λ i p i_in has. to-left p (in-set mine parts i p b i_in has);
+        all = λ p rest in_n. some-part mine parts p b (to-mine p in_n rest);
+      }
 
       -- a piece of a list, by its part
       broken-at : (j : ℕ) (d : Piece) → j < length (map (broken_piece n) parts) → get_or (map (broken_piece n) parts) j d ≡ broken_piece n (get_or parts j [])

@@ -1,7 +1,7 @@
 -- Corners of slabs and of zones, in order.
 use Rattle.std.proofs.Common.{◌≡◌, ℕ, zero, suc, ◌+◌, ◌<◌, ◌≤◌, ◌⊎◌, inl, inr, List, [], ◌∷◌, ◌++◌, length, get_or, take, map, true, false, refl, sym, ap, ◌∙◌, subst, arith}
 use Rattle.std.specs.Prelude.{◌↔◌, ℤ}
-use Rattle.std.specs.List.{All, AllWithin, AllZip, Contains, HoldsAt, zip}
+use Rattle.std.specs.List.{All, AllWithin, AllZip, Contains}
 use Rattle.std.specs.List.Sorted.{IsPermutation, IsNonDecreasingBy, IsPartitionedBy, IsPartitionPoint}
 use Rattle.std.specs.Ordering.{is_lt, int_cmp, ordering_index}
 use Rattle.std.specs.Cmp.{IsTotalOrder}
@@ -13,15 +13,16 @@ use Rattle.std.proofs.lemmas.List.Sorted.{Contains-permutation, IsPermutation-sy
 use Rattle.std.proofs.lemmas.Bool.{cases_eq, false_from_ne_true, false≢true}
 use Rattle.std.proofs.lemmas.List.{get_or_default}
 use Rattle.std.proofs.Math.Seq.{take-suc}
-use Rattle.std.proofs.lemmas.List.Elements.{Contains-append_left, Contains-append_right, Contains-append_cases}
+use Rattle.std.proofs.lemmas.List.Elements.{All-contains, Contains-get_or, Contains-append_left, Contains-append_right, Contains-append_cases}
 use Rattle.dpl_spec_split.specs.declared.Rect.{Rect}
 use Rattle.dpl_spec_split.specs.declared.Zone.{Zone}
 use Rattle.dpl_spec_split.proofs.Ordered.{Contains-head, Contains-later, Contains-cases, Contains-nil}
 use Rattle.dpl_piece.specs.declared.corner.Corner.{Corner}
 use Rattle.dpl_piece.specs.declared.corner.Kind.{Kind}
 use Rattle.dpl_piece.specs.declared.corner.Kind.TheVariants.{LowerLeft, LowerRight, UpperLeft}
-use Rattle.dpl_piece.specs.declared.piece.Origin.{Origin}
-use Rattle.dpl_piece.specs.Corners.{corner_of, is_before, row_cmp, IsFirstCorner, IsBroken, IsZoneCorner, RiseByCorner}
+use Rattle.dpl_piece.specs.Corners.{corner_at, corner_of, is_before, row_cmp, IsCornerOf, IsCornerWithin, RiseByCorner}
+use Rattle.dpl_piece.specs.Noted.{zone_corner, IsZoneCorner}
+use Rattle.dpl_piece.specs.Pieces.{rect_at}
 
 pub rows_total : IsTotalOrder row_cmp
 rows_total = then_total (on_total (λ t. t.0) int_cmp_total) (on_total (λ t. t.1) int_cmp_total)
@@ -41,93 +42,69 @@ map-Contains f (s ∷ rs) r h = elim (Contains-cases s r rs h) [
   | inr later ↦ Contains-later (f s) (f r) (map f rs) (map-Contains f rs r later)
 ]
 
--- a corner of one of the first n parts, which is broken
-abbrev pub IsFirstBroken : Kind → List (List Rect) → List Origin → ℕ → Corner → Type 0
-IsFirstBroken kind parts origins n c = IsFirstCorner kind parts n c × IsBroken origins c.number
-
 pub corner-number : (kind : Kind) (k : ℕ) (r : Rect) → (corner_of kind k r).number ≡ k
 corner-number LowerLeft k r = refl
 corner-number LowerRight k r = refl
 corner-number UpperLeft k r = refl
 
-module _ (kind : Kind) (parts : List (List Rect)) (origins : List Origin) (n : ℕ) (old : List Corner) (before : (c : Corner)
-    → Contains old c ↔ IsFirstBroken kind parts origins n c) where
-  earlier : (c : Corner) → IsFirstBroken kind parts origins n c → IsFirstBroken kind parts origins (n + 1) c
-  earlier c ((k, r, l, r_in, is), broken) = ((k, r, omega (arith, l), r_in, is), broken)
+-- the same corner with another number
+pub renumber : (kind : Kind) (i k m : ℕ) (r : Rect) (x y : ℤ) → corner_of kind i r ≡ corner_at x y k → corner_of kind m r ≡ corner_at x y m
+renumber LowerLeft i k m r x y e = ap (λ t. let u : Corner = t in corner_at u.x u.y m) e
+renumber LowerRight i k m r x y e = ap (λ t. let u : Corner = t in corner_at u.x u.y m) e
+renumber UpperLeft i k m r x y e = ap (λ t. let u : Corner = t in corner_at u.x u.y m) e
 
-  -- a whole part has no corner that counts
-  pub corners-skip : (IsBroken origins n → ⊥) → (c : Corner) → Contains old c ↔ IsFirstBroken kind parts origins (n + 1) c
-  corners-skip none c = (
-    λ h. earlier c ((before c).0 h),
-    λ ((k, r, l, r_in, is), broken). (before c).1 (elim (cases_eq k n) [
-      | inl e ↦ absurd (none (subst (IsBroken origins) (ap (λ t. let u : Corner = t in u.number) (sym is) ∙ (corner-number kind k r ∙ e)) broken))
-      | inr ne ↦ ((k, r, omega (arith, l, ne), r_in, is), broken)
-    ]),
-  )
+pub number-is : (kind : Kind) (i k : ℕ) (r : Rect) (x y : ℤ) → corner_of kind i r ≡ corner_at x y k → i ≡ k
+number-is kind i k r x y e = sym (corner-number kind i r) ∙ ap (λ t. let u : Corner = t in u.number) e
 
-  pub corners-next : (new : List Corner) (part : List Rect) → n < length parts → part ≡ get_or parts n part → IsBroken origins n
-      → new ≡ old ++ map (corner_of kind n) part → (c : Corner) → Contains new c ↔ IsFirstBroken kind parts origins (n + 1) c
-  corners-next new part n_in part_is broken new_is c =
-      let own : part ≡ get_or parts n [] = part_is ∙ get_or_default parts n part [] n_in in (
-        λ h. elim (Contains-append_cases old (map (corner_of kind n) part) c (subst (λ l. Contains l c) new_is h)) [
-          | inl a ↦ earlier c ((before c).0 a)
-          | inr b ↦ (let (r, r_in, is) = Contains-map (corner_of kind n) part c b in (
-            (n, r, omega arith, subst (λ p. Contains p r) own r_in, is),
-            subst (IsBroken origins) (sym (corner-number kind n r)
-                ∙ ap (λ t. let u : Corner = t in u.number) is) broken,
-          ))
-        ],
-        λ ((k, r, l, r_in, is), so). subst (λ t. Contains t c) (sym new_is) (elim (cases_eq k n) [
-          | inl e ↦ (
-              let mine : Contains part r = subst (λ p. Contains p r) (ap (λ q. get_or parts q []) e ∙ sym own) r_in in
-              Contains-append_right old (map (corner_of kind n) part) c (subst (λ t. Contains (map (corner_of kind n) part) t)
-              (ap (λ q. corner_of kind q r) (sym e) ∙ is) (map-Contains (corner_of kind n) part r mine)))
-          | inr ne ↦ Contains-append_left old (map (corner_of kind n) part) c ((before c).1 ((k, r, omega (arith, l, ne), r_in, is), so))
-        ]),
-      )
-
--- corners of the first n zones
-abbrev pub IsFirstZoneCorner : Kind → List Zone → ℕ → Corner → Type 0
-IsFirstZoneCorner kind zones n c = (c.number < n) × HoldsAt (λ z. corner_of kind c.number z.rect ≡ c) zones c.number
+-- a part with a corner is one of the parts
+pub corner-known : (kind : Kind) (parts : List (List Rect)) (x y : ℤ) (k : ℕ) → IsCornerOf kind parts (corner_at x y k) → k < length parts
+corner-known kind parts x y k (i, r, i_in, r_in, is) = subst (λ n. n < length parts) (number-is kind i k r x y is) i_in
 
 pub only-one : (c d : Corner) → Contains (c ∷ []) d → c ≡ d
 only-one c d h = elim (Contains-cases c d [] h) [ inl e ↦ e | inr none ↦ absurd (Contains-nil d none) ]
 
-module _ (kind : Kind) (zones : List Zone) where
-  pub zones-next : (n : ℕ) (old : List Corner) (z : Zone) → n < length zones → z ≡ get_or zones n z
-      → ((c : Corner) → Contains old c ↔ IsFirstZoneCorner kind zones n c) → (c : Corner) → Contains (old ++ corner_of kind n z.rect ∷ []) c
-      ↔ IsFirstZoneCorner kind zones (n + 1) c
-  zones-next n old z n_in z_is before c =
-      let one : Corner = corner_of kind n z.rect in (
-        λ h. elim (Contains-append_cases old (one ∷ []) c h) [
-          | inl a ↦ (let (l, is) = (before c).0 a in (omega (arith, l), is))
-          | inr b ↦ (
-              let e : one ≡ c = only-one one c b in
-              let own : c.number ≡ n = ap (λ t. let u : Corner = t in u.number) (sym e) ∙ corner-number kind n z.rect in (
-                omega (arith, own),
-                λ d. ap (λ m. corner_of kind m (get_or zones m d).rect) own ∙ (ap (λ t. let u : Zone = t in
-                    corner_of kind n u.rect) (sym (z_is ∙ get_or_default zones n z d n_in)) ∙ e),
-              ))
+module _ (kind : Kind) (parts : List (List Rect)) (from : ℕ) where
+  pub corners-none : (c : Corner) → Contains [] c ↔ IsCornerWithin kind parts from from c
+  corners-none c = (λ h. absurd (Contains-nil c h), λ (k, r, low, high, r_in, is). absurd (omega (arith, low, high)))
+
+  pub corners-next : (n : ℕ) (old new : List Corner) → from ≤ n → ((c : Corner) → Contains old c ↔ IsCornerWithin kind parts from n c)
+      → new ≡ old ++ map (corner_of kind n) (get_or parts n []) → (c : Corner) → Contains new c ↔ IsCornerWithin kind parts from (n + 1) c
+  corners-next n old new low before new_is c =
+      let part : List Rect = get_or parts n [] in (
+        λ h. elim (Contains-append_cases old (map (corner_of kind n) part) c (subst (λ l. Contains l c) new_is h)) [
+          | inl a ↦ (let (k, r, from_k, l, r_in, is) = (before c).0 a in (k, r, from_k, omega (arith, l), r_in, is))
+          | inr b ↦ (let (r, r_in, is) = Contains-map (corner_of kind n) part c b in (n, r, low, omega arith, r_in, is))
         ],
-        λ (l, is). elim (cases_eq c.number n) [
-          | inl e ↦ (
-              let same : one ≡ c = ap (λ t. let u : Zone = t in corner_of kind n u.rect) z_is ∙ (ap (λ m. corner_of kind m (get_or zones m z).rect) (sym e) ∙ is z) in
-              Contains-append_right old (one ∷ []) c (subst (Contains (one ∷ [])) same (Contains-head one [])))
-          | inr ne ↦ Contains-append_left old (one ∷ []) c ((before c).1 (omega (arith, l, ne), is))
-        ],
+        λ (k, r, from_k, l, r_in, is). subst (λ t. Contains t c) (sym new_is) (elim (cases_eq k n) [
+          | inl e ↦ Contains-append_right old (map (corner_of kind n) part) c (subst (λ t. Contains (map (corner_of kind n) part) t)
+              (ap (λ q. corner_of kind q r) (sym e) ∙ is)
+              (map-Contains (corner_of kind n) part r (subst (λ q. Contains (get_or parts q []) r) e r_in)))
+          | inr ne ↦ Contains-append_left old (map (corner_of kind n) part) c ((before c).1 (k, r, from_k, omega (arith, l, ne), r_in, is))
+        ]),
       )
 
-  pub zones-sorted : (old new : List Corner) → IsPermutation old new → ((c : Corner) → Contains old c ↔ IsZoneCorner kind zones c)
-      → (c : Corner) → Contains new c ↔ IsZoneCorner kind zones c
-  zones-sorted old new same h c = (
-    λ g. (h c).0 (Contains-permutation new old c (IsPermutation-sym old new same) g),
-    λ g. Contains-permutation old new c same ((h c).1 g),
+-- a list in another order has the same corners
+pub corners-sorted : (P : Corner → Type 0) (old new : List Corner) → IsPermutation old new → ((c : Corner) → Contains old c ↔ P c)
+    → (c : Corner) → Contains new c ↔ P c
+corners-sorted P old new same h c = (
+  λ g. (h c).0 (Contains-permutation new old c (IsPermutation-sym old new same) g),
+  λ g. Contains-permutation old new c same ((h c).1 g),
+)
+
+module _ (kind : Kind) (zones : List Zone) (own : List ℕ) where
+  pub zones-cornered : (c : Corner) → Contains (map (zone_corner kind zones) own) c ↔ IsZoneCorner kind zones own c
+  zones-cornered c = (
+    λ h. (let (j, j_in, e) = Contains-map (zone_corner kind zones) own c h in
+        let same : j ≡ c.number = number-is kind j c.number (rect_at zones j) c.x c.y e in
+        (subst (Contains own) same j_in, subst (λ m. zone_corner kind zones m ≡ c) same e)),
+    λ (own_in, is). subst (Contains (map (zone_corner kind zones) own)) is (map-Contains (zone_corner kind zones) own c.number own_in),
   )
 
   -- their numbers are those of zones
-  pub zone-numbers : (corners : List Corner) (n : ℕ) → length zones ≡ n → ((c : Corner) → Contains corners c ↔ IsZoneCorner kind zones c) → All (λ c. c.number < n) corners
-  zone-numbers corners n each members i d l = subst (λ m. (get_or corners i d).number < m) each
-      ((members (get_or corners i d)).0 (i, l, get_or_default corners i (get_or corners i d) d l)).0
+  pub zone-numbers : (corners : List Corner) (n : ℕ) → All (λ j. j < n) own → ((c : Corner) → Contains corners c ↔ IsZoneCorner kind zones own c)
+      → All (λ c. c.number < n) corners
+  zone-numbers corners n known members i d l =
+      All-contains (λ j. j < n) own (get_or corners i d).number known ((members (get_or corners i d)).0 (Contains-get_or corners i d l)).0
 
 -- what comes before something less is less, and what comes before something equal, and isn't less, is equal
 index-less : (o p : Ordering) → ordering_index o ≤ ordering_index p → is_lt p ≡ true → is_lt o ≡ true
@@ -214,10 +191,9 @@ zip-from R [] (y ∷ ys) same h = absurd (omega (arith, same))
 zip-from R (x ∷ xs) [] same h = absurd (omega (arith, same))
 zip-from R (x ∷ xs) (y ∷ ys) same h = (h 0 x y (omega arith), zip-from R xs ys (omega (arith, same)) (λ k d e l. h (suc k) d e (omega (arith, l))))
 
-pub zip-both : {A B C : Type 0} (R : A → B → Type 0) (S : A → C → Type 0) (xs : List A) (ys : List B) (zs : List C) → AllZip R xs ys
-    → AllZip S xs zs → AllZip (λ x p. R x p.0 × S x p.1) xs (zip ys zs)
-zip-both R S [] [] zs g h = tt
-zip-both R S [] (y ∷ ys) zs g h = absurd g
-zip-both R S (x ∷ xs) [] zs g h = absurd g
-zip-both R S (x ∷ xs) (y ∷ ys) [] g h = absurd h
-zip-both R S (x ∷ xs) (y ∷ ys) (z ∷ zs) g h = ((g.0, h.0), zip-both R S xs ys zs g.1 h.1)
+-- each of one list has one of the other
+pub zip-some : {A B : Type 0} (R : A → B → Type 0) (xs : List A) (ys : List B) → AllZip R xs ys → All (λ x. (y : B) × R x y) xs
+zip-some R [] ys h k d k_in = absurd (omega (arith, k_in))
+zip-some R (x ∷ xs) [] h k d k_in = absurd h
+zip-some R (x ∷ xs) (y ∷ ys) h zero d k_in = (y, h.0)
+zip-some R (x ∷ xs) (y ∷ ys) h (suc k) d k_in = zip-some R xs ys h.1 k d (omega (arith, k_in))

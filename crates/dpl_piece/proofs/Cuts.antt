@@ -1,9 +1,8 @@
 -- What the cut of features at their zones gives.
-use Rattle.std.proofs.Common.{◌≡◌, ◌≢◌, ℕ, ◌<◌, List, [], ◌∷◌, length, get_or, map, refl, sym, ap, ◌∙◌, subst, inl, inr}
-use Rattle.std.specs.Prelude.{ℤ}
+use Rattle.std.proofs.Common.{◌≡◌, ◌≢◌, ℕ, ◌<◌, List, [], ◌∷◌, length, get_or, map, refl, sym, ◌∙◌, subst, inl, inr}
 use Rattle.std.specs.List.{All, AllZip}
-use Rattle.std.proofs.lemmas.List.{get_or_default, get_or-map, length-map}
-use Rattle.std.proofs.lemmas.List.Elements.{All-contains, All-head, All-tail}
+use Rattle.std.proofs.lemmas.List.{get_or_default, length-map}
+use Rattle.std.proofs.lemmas.List.Elements.{All-contains, All-head, All-tail, Contains-get_or}
 use Rattle.dpl_spec_split.specs.declared.Rect.{Rect}
 use Rattle.dpl_spec_split.specs.declared.Zone.{Zone}
 use Rattle.dpl_spec_split.specs.Squares.{Region, Covers, IsLeast, IsSolidWithin}
@@ -16,19 +15,15 @@ use Rattle.dpl_spec_split.proofs.SquareLaws.{SameSquares-sym}
 use Rattle.dpl_spec_split.proofs.SlabLaws.{member-Covers, IsLeast-first}
 use Rattle.dpl_slabs.specs.Parts.{union_of}
 use Rattle.dpl_piece.specs.Cutting.{cut_pieces, first_square, keys_in, AreMatched, BareCut, bare_cut, AreBare, AreBarePieces, AreFeatures, AreTheirZones, AreTheirPieces}
-use Rattle.dpl_piece.specs.declared.corner.Corner.{Corner}
-use Rattle.dpl_piece.specs.declared.corner.Kind.{Kind}
 use Rattle.dpl_piece.specs.declared.corner.Kind.TheVariants.{LowerLeft, LowerRight, UpperLeft}
-use Rattle.dpl_piece.specs.declared.piece.Origin.{Origin}
-use Rattle.dpl_piece.specs.declared.piece.Origin.TheVariants.{Whole, Broken}
 use Rattle.dpl_piece.specs.declared.piece.Piece.{Piece}
-use Rattle.dpl_piece.specs.Corners.{corner_at, IsCornerOf, StandBeside, StandBroken}
-use Rattle.dpl_piece.specs.Pieces.{parts_in, owners_in, origins_in, whole_piece, AreCut, no_zone}
+use Rattle.dpl_piece.specs.Corners.{StandBeside}
+use Rattle.dpl_piece.specs.Pieces.{parts_in, owners_in, AreCut, no_zone}
 use Rattle.dpl_piece.proofs.Broken.{AreHolesOf}
-use Rattle.dpl_piece.proofs.CornerLaws.{corner-number, zip-length, zip-at}
+use Rattle.dpl_piece.proofs.CornerLaws.{corner-known, zip-length, zip-at}
 use Rattle.dpl_piece.proofs.Regions.{components-same, without-same}
 use Rattle.dpl_piece.proofs.Stands.{zone-within}
-use Rattle.dpl_piece.proofs.Sides.{stand-broken, sided}
+use Rattle.dpl_piece.proofs.Sides.{sided}
 
 -- a component has some square
 pub some-square : (a : Region) (parts : List (List Rect)) → AreComponents a parts → All (λ part. part ≢ []) parts
@@ -55,6 +50,10 @@ zip-of : {A B : Type 0} (R : A → B → Type 0) (f : Piece → A) (g : Piece �
 zip-of R f g [] h = tt
 zip-of R f g (x ∷ xs) h = (All-head (λ y. R (f y) (g y)) x xs h, zip-of R f g xs (All-tail (λ y. R (f y) (g y)) x xs h))
 
+-- zones are of features
+pub zones-below : (features : List (List Rect)) (zones : List Zone) → AreTheirZones features zones → All (λ z. let u : Zone = z in u.feature < length features) zones
+zones-below features zones (spacing, overlap, some, zs) k d k_in = (zs.kept (get_or zones k d) (Contains-get_or zones k d k_in)).0
+
 module _ (features : List (List Rect)) (zones : List Zone) (given : AreFeatures features) (theirs : AreTheirZones features zones) where
   pub comps : AreComponents (union_of features) features
   comps = let (layer, c) = given in components-same (Covers layer) (union_of features) features (SameSquares-sym _ _ c.together) c
@@ -74,46 +73,18 @@ module _ (features : List (List Rect)) (zones : List Zone) (given : AreFeatures 
     abbrev left : Region
     left = without (union_of features) zones
 
-    in-pieces : (i : ℕ) → i < length (parts_in pieces) → i < length pieces
-    in-pieces i i_in = subst (λ n. i < n) (length-map pieces (λ x. x.part)) i_in
-
-    pub origins-each : length (origins_in pieces) ≡ length (parts_in pieces)
-    origins-each = length-map pieces (λ x. x.origin) ∙ sym (length-map pieces (λ x. x.part))
-
     pub pieces-some : All (λ part. part ≢ []) (parts_in pieces)
     pieces-some = some-square left (parts_in pieces) cut.components
 
     pub all-owned : AllZip (IsOwner features) (parts_in pieces) (owners_in pieces)
     all-owned = zip-of (IsOwner features) (λ x. x.part) (λ x. x.owner) pieces cut.owned
 
-    -- a piece that isn't broken is its feature
-    whole-feature : (i : ℕ) → i < length (parts_in pieces) → get_or (origins_in pieces) i Broken ≡ Whole → (k : ℕ) × (k < length features)
-        × (get_or features k [] ≡ get_or (parts_in pieces) i [])
-    whole-feature i i_in is =
-        let at : i < length pieces = in-pieces i i_in in
-        let x : Piece = get_or pieces i (whole_piece 0 []) in
-        let origin : x.origin ≡ Whole = sym (get_or-map (λ y. y.origin) pieces i (whole_piece 0 []) Broken at) ∙ is in
-        (x.owner, (cut.owned i (whole_piece 0 []) at).0, cut.kept i (whole_piece 0 []) at origin ∙ sym (get_or-map (λ y. y.part) pieces i (whole_piece 0 []) [] at))
-
-    pub stands : All (λ z. (side : ℕ × ℕ) × StandBroken (parts_in pieces) (origins_in pieces) z side) zones
-    stands k z k_in =
-        let (spacing, overlap, some, zs) = theirs in
-        stand-broken spacing overlap (union_of features) features (parts_in pieces) zones some comps zs cut.components
-        (origins_in pieces) origins-each whole-feature (get_or zones k z) (k, k_in, get_or_default zones k (get_or zones k z) z k_in)
-
     pub owners-each : length (owners_in pieces) ≡ length (parts_in pieces)
     owners-each = length-map pieces (λ x. x.owner) ∙ sym (length-map pieces (λ x. x.part))
 
-    pub bare : All (AreRectsWithin farthest) features → AreBare (bare_cut (parts_in pieces) (owners_in pieces) zones) (origins_in pieces)
-    bare within =
-        record {
-          parts = cut.apart;
-          some = pieces-some;
-          owners = owners-each;
-          origins = origins-each;
-          stand = stands;
-          zones = zones-within within;
-        }
+    pub bare : All (AreRectsWithin farthest) features → (sides : List (ℕ × ℕ)) → AllZip (StandBeside (parts_in pieces)) zones sides
+        → AreBare (bare_cut (parts_in pieces) (owners_in pieces) zones) sides
+    bare within sides stand_so = record { parts = cut.apart; some = pieces-some; owners = owners-each; sides = stand_so; zones = zones-within within }
 
     their-pieces : (sides : List (ℕ × ℕ)) → AllZip (StandBeside (parts_in pieces)) zones sides
         → AreTheirPieces features zones (cut_pieces (parts_in pieces) (owners_in pieces) (keys_in (parts_in pieces)) zones sides)
@@ -132,12 +103,7 @@ module _ (features : List (List Rect)) (zones : List Zone) (given : AreFeatures 
         let keys : c.keys ≡ keys_in (parts_in pieces) = rw done.parts at done.keys in
         rw (done.parts, done.owners, keys) (their-pieces c.sides stand_so)
 
--- a part with a corner is one of the parts
-corner-known : (kind : Kind) (parts : List (List Rect)) (x y : ℤ) (k : ℕ) → IsCornerOf kind parts (corner_at x y k) → k < length parts
-corner-known kind parts x y k (i, r, i_in, r_in, is) =
-    let same : i ≡ k = sym (corner-number kind i r) ∙ ap (λ t. let u : Corner = t in u.number) is in
-    subst (λ n. n < length parts) same i_in
-
+-- parts beside a zone are some of the parts
 beside-known : (parts : List (List Rect)) (z : Zone) (side : ℕ × ℕ) → StandBeside parts z side → (side.0 < length parts) × (side.1 < length parts)
 beside-known parts z side (one, two) = (
   elim one [
@@ -151,16 +117,15 @@ beside-known parts z side (one, two) = (
 )
 
 -- with the pieces beside each zone they are complete
-pub matched : (b : BareCut) (kinds : List Origin) (sides : List (ℕ × ℕ)) → AreBare b kinds → AllZip (StandBeside b.parts) b.zones sides
-    → AreMatched (cut_pieces b.parts b.owners (keys_in b.parts) b.zones sides)
-matched b kinds sides h stand_so =
-    let each : length b.zones ≡ length sides = zip-length (StandBeside b.parts) b.zones sides stand_so in
+pub matched : (b : BareCut) (sides : List (ℕ × ℕ)) → AreBare b sides → AreMatched (cut_pieces b.parts b.owners (keys_in b.parts) b.zones sides)
+matched b sides h =
+    let each : length b.zones ≡ length sides = zip-length (StandBeside b.parts) b.zones sides h.sides in
     record {
       parts = h.parts;
       owners = h.owners;
       keys = refl;
       sides = sym each;
       known = λ k d k_in. beside-known b.parts (get_or b.zones k no_zone) (get_or sides k d)
-          (zip-at (StandBeside b.parts) b.zones sides k no_zone d stand_so (subst (λ n. k < n) (sym each) k_in));
+          (zip-at (StandBeside b.parts) b.zones sides k no_zone d h.sides (subst (λ n. k < n) (sym each) k_in));
       zones = h.zones;
     }

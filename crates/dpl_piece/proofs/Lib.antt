@@ -10,3 +10,5 @@ pub mod Turns
 pub mod Sides
 pub mod Cuts
 pub mod WholeLaws
+pub mod Ranks
+pub mod Places

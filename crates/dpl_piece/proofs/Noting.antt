@@ -1,23 +1,24 @@
 -- Parts noted for the zones that have a corner at their slabs' corners.
-use Rattle.std.proofs.Common.{◌≡◌, ℕ, suc, ◌+◌, ◌<◌, ◌≤◌, ◌⊎◌, inl, inr, List, [], ◌∷◌, ◌++◌, length, get_or, take, map, true, false, refl, sym, ap, ◌∙◌, subst, arith}
-use Rattle.std.specs.Prelude.{◌↔◌, ℤ}
-use Rattle.std.specs.List.{All, AllZip, Contains}
+use Rattle.std.proofs.Common.{◌≡◌, ℕ, suc, ◌+◌, ◌<◌, ◌≤◌, ◌⊎◌, inl, inr, List, [], ◌∷◌, ◌++◌, length, get_or, take, true, false, refl, sym, ap, ◌∙◌, subst, arith}
+use Rattle.std.specs.Prelude.{◌↔◌}
+use Rattle.std.specs.List.{All, Contains}
 use Rattle.std.specs.List.Sorted.{IsPartitionPoint}
 use Rattle.std.specs.Ordering.{is_lt}
 use Rattle.std.proofs.Math.ListN.{set}
 use Rattle.std.proofs.Math.Seq.{take-suc}
 use Rattle.std.proofs.lemmas.Bool.{cases_eq, cases_lt}
-use Rattle.std.proofs.lemmas.List.{length-set, get_or-set_same, get_or-set_other, get_or_default, map-append, take-append-le, take_all}
-use Rattle.std.proofs.lemmas.List.Elements.{Contains-append_left, Contains-append_right, Contains-append_cases}
+use Rattle.std.proofs.lemmas.List.{length-set, get_or-set_same, get_or-set_other, get_or_default, get_or_past, take-append-le, take_all}
+use Rattle.std.proofs.lemmas.List.Elements.{All-contains, Contains-append_left, Contains-append_right, Contains-append_cases}
 use Rattle.dpl_spec_split.specs.declared.Rect.{Rect}
 use Rattle.dpl_spec_split.specs.declared.Zone.{Zone}
 use Rattle.dpl_spec_split.proofs.Ordered.{Contains-head}
 use Rattle.dpl_piece.specs.declared.corner.Corner.{Corner}
 use Rattle.dpl_piece.specs.declared.corner.Kind.{Kind}
 use Rattle.dpl_piece.specs.declared.corner.Kind.TheVariants.{LowerLeft, LowerRight, UpperLeft}
-use Rattle.dpl_piece.specs.declared.piece.Origin.{Origin}
-use Rattle.dpl_piece.specs.Corners.{corner_at, corner_of, row_cmp, IsBroken, IsCornerOf, IsZoneCorner, IsNoted, AreNoted, AreAllNoted, RiseByCorner}
-use Rattle.dpl_piece.proofs.CornerLaws.{IsFirstBroken, corner-number, corners-skip, corners-next, none-elsewhere, only-one, zip-from}
+use Rattle.dpl_piece.specs.Corners.{corner_at, corner_of, row_cmp, IsCornerWithin, RiseByCorner}
+use Rattle.dpl_piece.specs.Noted.{IsZoneCorner, IsNoted, AreNoted, AreSidesNoted}
+use Rattle.dpl_piece.specs.Pieces.{rect_at}
+use Rattle.dpl_piece.proofs.CornerLaws.{none-elsewhere, only-one, renumber}
 
 -- from place first up to place i, the corners at c's point had c's number noted for their zones
 pub record IsRunNoted (c : Corner) (corners : List Corner) (first i : ℕ) (old new : List ℕ) : Type 0 where
@@ -93,88 +94,73 @@ noted-both cs ds corners old mid new a b =
           (a.noted i n i_in) (b.noted i n (subst (λ m. i < m) (sym a.each) i_in));
     }
 
-pub noted-next : (kind : Kind) (part : ℕ) (rects : List Rect) (n : ℕ) (r : Rect) (corners : List Corner) (old mid new : List ℕ)
-    → n < length rects → r ≡ get_or rects n r → AreNoted (map (corner_of kind part) (take n rects)) corners old mid
-    → AreNoted (corner_of kind part r ∷ []) corners mid new
-    → AreNoted (map (corner_of kind part) (take (n + 1) rects)) corners old new
-noted-next kind part rects n r corners old mid new n_in r_is a b =
+-- one more corner
+pub noted-next : (found corners : List Corner) (n : ℕ) (c : Corner) (old mid new : List ℕ) → n < length found → c ≡ get_or found n c
+    → AreNoted (take n found) corners old mid → AreNoted (c ∷ []) corners mid new → AreNoted (take (n + 1) found) corners old new
+noted-next found corners n c old mid new n_in c_is a b =
     let one : n + 1 ≡ suc n = omega arith in
-    let step : take (n + 1) rects ≡ take n rects ++ r ∷ [] = ap (λ k. take k rects) one ∙ (take-suc rects n r n_in ∙ ap (λ s. take n rects ++ s ∷ []) (sym r_is)) in
-    let all : map (corner_of kind part) (take (n + 1) rects) ≡ map (corner_of kind part) (take n rects) ++ corner_of kind part r ∷ [] = ap
-    (map (corner_of kind part)) step ∙ map-append (corner_of kind part) (take n rects) (r ∷ []) in
-    rw all (noted-both _ _ corners old mid new a b)
-
--- the corners of the first n parts were noted
-pub record AreFirstNoted (kind : Kind) (parts : List (List Rect)) (origins : List Origin) (corners : List Corner) (n : ℕ) (old new : List ℕ) : Type 0 where
-  pub found : List Corner
-  pub members : (c : Corner) → Contains found c ↔ IsFirstBroken kind parts origins n c
-  pub noted : AreNoted found corners old new
-
-module _ (kind : Kind) (parts : List (List Rect)) (origins : List Origin) (corners : List Corner) where
-  pub first-skip : (n : ℕ) (old new : List ℕ) → AreFirstNoted kind parts origins corners n old new → (IsBroken origins n → ⊥)
-      → AreFirstNoted kind parts origins corners (n + 1) old new
-  first-skip n old new h whole = record { found = h.found; members = corners-skip kind parts origins n h.found h.members whole; noted = h.noted }
-
-  pub first-next : (n : ℕ) (part : List Rect) (old mid new : List ℕ) → AreFirstNoted kind parts origins corners n old mid
-      → n < length parts → part ≡ get_or parts n part → IsBroken origins n → AreNoted (map (corner_of kind n) part) corners mid new
-      → AreFirstNoted kind parts origins corners (n + 1) old new
-  first-next n part old mid new h n_in part_is broken more =
-      record {
-        found = h.found ++ map (corner_of kind n) part;
-        members = corners-next kind parts origins n h.found h.members (h.found ++ map (corner_of kind n) part) part n_in part_is broken refl;
-        noted = noted-both h.found (map (corner_of kind n) part) corners old mid new h.noted more;
-      }
-
-  pub all-noted : (n : ℕ) (old new : List ℕ) → n ≡ length parts → AreFirstNoted kind parts origins corners n old new → AreAllNoted kind parts origins corners old new
-  all-noted n old new all h = record { found = h.found; members = rw all at h.members; noted = h.noted }
-
-same-point : (kind : Kind) (i m : ℕ) (r : Rect) (x y : ℤ) → corner_of kind i r ≡ corner_at x y i → corner_of kind m r ≡ corner_at x y m
-same-point LowerLeft i m r x y e = ap (λ t. let u : Corner = t in corner_at u.x u.y m) e
-same-point LowerRight i m r x y e = ap (λ t. let u : Corner = t in corner_at u.x u.y m) e
-same-point UpperLeft i m r x y e = ap (λ t. let u : Corner = t in corner_at u.x u.y m) e
+    let step : take (n + 1) found ≡ take n found ++ c ∷ [] = ap (λ k. take k found) one ∙ (take-suc found n c n_in ∙ ap (λ s. take n found ++ s ∷ []) (sym c_is)) in
+    rw step (noted-both (take n found) (c ∷ []) corners old mid new a b)
 
 renumbered : (kind : Kind) (i k : ℕ) (r : Rect) → corner_of kind i r ≡ corner_at (corner_of kind k r).x (corner_of kind k r).y i
 renumbered LowerLeft i k r = refl
 renumbered LowerRight i k r = refl
 renumbered UpperLeft i k r = refl
 
-module _ (parts : List (List Rect)) (origins : List Origin) (zones : List Zone) where
-  -- what was noted for a zone by one of its corners
-  zone-noted : (own at : Kind) (corners : List Corner) (old new : List ℕ) → ((c : Corner) → Contains corners c ↔ IsZoneCorner own zones c)
-      → AreAllNoted at parts origins corners old new → length old ≡ length zones → (i n : ℕ) (z : Zone) → i < length zones
-      → IsCornerOf at parts (corner_of own (get_or new i n) (get_or zones i z).rect)
-      ⊎ (((k : ℕ) → IsCornerOf at parts (corner_of own k (get_or zones i z).rect) → IsBroken origins k → ⊥)
-      × (get_or new i n ≡ get_or old i n))
-  zone-noted own at corners old new members h each i n z i_in =
-      let r : Rect = (get_or zones i z).rect in
-      elim (h.noted.noted i n (subst (λ m. i < m) (sym each) i_in)) [
-        | inl (c, c_in, here, is) ↦ (
-            let point : corner_of own (get_or new i n) r ≡ corner_at c.x c.y (get_or new i n) = same-point own i (get_or new i n) r c.x c.y (((members _).0 here).1 z) in
-            let same : c ≡ corner_of own (get_or new i n) r = ap (corner_at c.x c.y) is ∙ sym point in
-            inl (subst (IsCornerOf at parts) same ((h.members c).0 c_in).0))
-        | inr (none, same) ↦ inr (
-          λ k stands broken. none (corner_of own k r) ((h.members _).1 (stands, subst (IsBroken origins) (sym (corner-number own k r)) broken))
-              ((members _).1 (i_in, λ d. ap (λ t. let u : Zone = t in corner_of own i u.rect) (get_or_default zones i d z i_in) ∙ renumbered own i k r)),
-          same,
-        )
-      ]
+module _ (zones : List Zone) (own : List ℕ) (parts : List (List Rect)) (from : ℕ) where
+  abbrev pub At : Kind → Corner → Type 0
+  At kind c = IsCornerWithin kind parts from (length parts) c
 
-  -- each zone that has one of two corners at such a corner of some broken part got such a part
-  pub either-stands : (own-1 at-1 own-2 at-2 : Kind) (corners-1 corners-2 : List Corner) (old mid new : List ℕ) → length old ≡ length zones
-      → ((c : Corner) → Contains corners-1 c ↔ IsZoneCorner own-1 zones c) → ((c : Corner) → Contains corners-2 c ↔ IsZoneCorner own-2 zones c)
-      → All (λ z. (k : ℕ) × (IsCornerOf at-1 parts (corner_of own-1 k z.rect) ⊎ IsCornerOf at-2 parts (corner_of own-2 k z.rect)) × IsBroken origins k) zones
-      → AreAllNoted at-1 parts origins corners-1 old mid → AreAllNoted at-2 parts origins corners-2 mid new
-      → AllZip (λ z k. IsCornerOf at-1 parts (corner_of own-1 k z.rect) ⊎ IsCornerOf at-2 parts (corner_of own-2 k z.rect)) zones new
-  either-stands own-1 at-1 own-2 at-2 corners-1 corners-2 old mid new each members-1 members-2 some a b =
-      let middle : length mid ≡ length zones = a.noted.each ∙ each in
-      zip-from _ zones new (sym (b.noted.each ∙ middle)) (λ i z n i_in. elim (zone-noted own-2 at-2 corners-2 mid new members-2 b middle i n z i_in) [
-        | inl h ↦ inr h
-        | inr (none-2, same) ↦ elim (zone-noted own-1 at-1 corners-1 old mid members-1 a each i n z i_in) [
-          | inl h ↦ inl (subst (λ m. IsCornerOf at-1 parts (corner_of own-1 m (get_or zones i z).rect)) (sym same) h)
-          | inr (none-1, kept) ↦ absurd (let (k, stands, broken) = some i z i_in in elim stands [ inl s ↦ none-1 k s broken | inr s ↦ none-2 k s broken ])
+  module _ (mine theirs : Kind) (found corners : List Corner) (old new : List ℕ) (members : (c : Corner) → Contains corners c ↔ IsZoneCorner mine zones own c)
+      (all : (c : Corner) → Contains found c ↔ At theirs c) (h : AreNoted found corners old new) where
+    -- what was noted for one of these zones by one of its corners
+    own-noted : (j : ℕ) → j < length old → Contains own j → At theirs (corner_of mine (get_or new j 0) (rect_at zones j))
+        ⊎ (((k : ℕ) → At theirs (corner_of mine k (rect_at zones j)) → ⊥) × (get_or new j 0 ≡ get_or old j 0))
+    own-noted j j_in own_in =
+        let r : Rect = rect_at zones j in
+        elim (h.noted j 0 j_in) [
+          | inl (c, c_in, here, is) ↦ (
+              let point : corner_of mine (get_or new j 0) r ≡ corner_at c.x c.y (get_or new j 0) = renumber mine j j (get_or new j 0) r c.x c.y ((members _).0 here).1 in
+              let same : c ≡ corner_of mine (get_or new j 0) r = ap (corner_at c.x c.y) is ∙ sym point in
+              inl (subst (At theirs) same ((all c).0 c_in)))
+          | inr (none, same) ↦ inr (
+            λ k stands. none (corner_of mine k r) ((all _).1 stands) ((members _).1 (own_in, renumbered mine j k r)),
+            same,
+          )
         ]
-      ])
+
+    -- nothing was noted for any other
+    other-noted : (j : ℕ) → ¬ Contains own j → get_or new j 0 ≡ get_or old j 0
+    other-noted j none = elim (cases_lt j (length old)) [
+      | inl j_in ↦ elim (h.noted j 0 j_in) [
+        | inl (c, c_in, here, is) ↦ absurd (none ((members _).0 here).0)
+        | inr (free, same) ↦ same
+      ]
+      | inr past ↦ get_or_past new j 0 (omega (arith, past, h.each)) ∙ sym (get_or_past old j 0 past)
+    ]
+
+  -- by two corners of each of these zones a part that stands beside it was noted, where there is one
+  pub sides-noted : (mine-1 theirs-1 mine-2 theirs-2 : Kind) (found-1 found-2 corners-1 corners-2 : List Corner) (old mid new : List ℕ)
+      → ((c : Corner) → Contains corners-1 c ↔ IsZoneCorner mine-1 zones own c) → ((c : Corner) → Contains corners-2 c ↔ IsZoneCorner mine-2 zones own c)
+      → ((c : Corner) → Contains found-1 c ↔ At theirs-1 c) → ((c : Corner) → Contains found-2 c ↔ At theirs-2 c) → All (λ j. j < length old) own
+      → AreNoted found-1 corners-1 old mid → AreNoted found-2 corners-2 mid new
+      → AreSidesNoted (λ z k. At theirs-1 (corner_of mine-1 k z.rect) ⊎ At theirs-2 (corner_of mine-2 k z.rect)) zones own old new
+  sides-noted mine-1 theirs-1 mine-2 theirs-2 found-1 found-2 corners-1 corners-2 old mid new members-1 members-2 all-1 all-2 known a b =
+      record {
+        each = b.each ∙ a.each;
+        noted = λ j own_in k stands. (
+            let j_in : j < length old = All-contains (λ i. i < length old) own j known own_in in
+            elim (own-noted mine-2 theirs-2 found-2 corners-2 mid new members-2 all-2 b j (omega (arith, j_in, a.each)) own_in) [
+              | inl h ↦ inr h
+              | inr (none-2, same) ↦ elim (own-noted mine-1 theirs-1 found-1 corners-1 old mid members-1 all-1 a j j_in own_in) [
+                | inl h ↦ inl (subst (λ m. At theirs-1 (corner_of mine-1 m (rect_at zones j))) (sym same) h)
+                | inr (none-1, kept) ↦ absurd (elim stands [ inl s ↦ none-1 k s | inr s ↦ none-2 k s ])
+              ]
+            ]);
+        kept = λ j none. other-noted mine-2 theirs-2 found-2 corners-2 mid new members-2 all-2 b j none
+            ∙ other-noted mine-1 theirs-1 found-1 corners-1 old mid members-1 all-1 a j none;
+      }
 
 -- what was written through a slice of the whole list
-pub written-back : (ys zs : List ℕ) (n : ℕ) → length ys ≡ n → take n (ys ++ zs) ≡ ys
+pub written-back : {A : Type 0} (ys zs : List A) (n : ℕ) → length ys ≡ n → take n (ys ++ zs) ≡ ys
 written-back ys zs n each = take-append-le n ys zs (omega (arith, each)) ∙ take_all n ys (omega (arith, each))

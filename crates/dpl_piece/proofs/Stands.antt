@@ -1,6 +1,6 @@
 -- On each side of a zone a piece has a slab with a corner of the zone.
 use Rattle.std.proofs.Common.{◌≡◌, ℕ, ◌≤◌, ◌<◌, inl, inr, List, [], length, get_or, refl, ap, ◌∙◌, subst, arith}
-use Rattle.std.specs.Prelude.{ℤ, pos, ◌+ℤ◌, ◌-ℤ◌, ◌<ℤ◌, unsigned_abs}
+use Rattle.std.specs.Prelude.{ℤ, pos, ◌+ℤ◌, ◌-ℤ◌, ◌≤ℤ◌, ◌<ℤ◌, unsigned_abs}
 use Rattle.std.specs.List.{All, Contains}
 use Rattle.std.proofs.lemmas.Int.{ints, by_lt_z}
 use Rattle.std.proofs.lemmas.List.Elements.{All-contains}
@@ -112,286 +112,318 @@ module _ (spacing : Spacing) (overlap : ℕ) (layer : Region) (features : List (
       let ty = two.next_row in
       record { wide = zw; tall = zt; left = ox; right = omega (arith, ints, tx); low = oy; high = omega (arith, ints, ty) }
 
-module _ (spacing : Spacing) (overlap : ℕ) (layer : Region) (features pieces : List (List Rect)) (zones : List Zone) (some : 1 ≤ overlap)
-    (c : AreComponents layer features) (zs : AreSomeZones spacing overlap layer features zones) (ps : AreComponents (without layer zones) pieces)
-  where
-    abbrev pub Rest : Region
-    Rest = without layer zones
+up-to : (a b : ℤ) → a <ℤ b → a ≤ℤ (b -ℤ pos 1)
+up-to a b l = omega (arith, ints, l)
 
-    -- a slab of a piece that has the square
-    piece-slab : (p : Pt) → without layer zones p → (i : ℕ) × (r : Rect) × (i < length pieces) × Contains (get_or pieces i []) r × Has r p
-    piece-slab p rest =
-        let (i, i_in, covered) = some-part (without layer zones) pieces p ps rest in
+one-less : (a b e : ℤ) → a <ℤ b → b <ℤ e → (a -ℤ pos 1) <ℤ e
+one-less a b e l m = omega (arith, ints, l, m)
+
+-- squares side by side touch
+touch-left : (x y : ℤ) → Touch (at (x -ℤ pos 1) y) (at x y)
+touch-left x y = Touch-from_close (at (x -ℤ pos 1) y) (at x y) (omega (arith, ints)) (omega (arith, ints)) (omega (arith, ints)) (omega (arith, ints))
+
+touch-right : (x y : ℤ) → Touch (at x y) (at (x -ℤ pos 1) y)
+touch-right x y = Touch-from_close (at x y) (at (x -ℤ pos 1) y) (omega (arith, ints)) (omega (arith, ints)) (omega (arith, ints)) (omega (arith, ints))
+
+touch-below : (x y : ℤ) → Touch (at x (y -ℤ pos 1)) (at x y)
+touch-below x y = Touch-from_close (at x (y -ℤ pos 1)) (at x y) (omega (arith, ints)) (omega (arith, ints)) (omega (arith, ints)) (omega (arith, ints))
+
+touch-above : (x y : ℤ) → Touch (at x y) (at x (y -ℤ pos 1))
+touch-above x y = Touch-from_close (at x y) (at x (y -ℤ pos 1)) (omega (arith, ints)) (omega (arith, ints)) (omega (arith, ints)) (omega (arith, ints))
+
+-- parts with squares of what the zones leave of a layer alone, among them all of a feature
+pub record AreLeftOf (layer : Region) (zones : List Zone) (feature : Region) (parts : List (List Rect)) : Type 0 where
+  pub canonical : All IsCanonical parts
+  pub inside : (i : ℕ) (p : Pt) → i < length parts → part_at parts i p → without layer zones p
+  pub all : (p : Pt) → without layer zones p → feature p → (i : ℕ) × (i < length parts) × part_at parts i p
+
+-- all pieces
+pub left-of : (layer : Region) (zones : List Zone) (feature : Region) (pieces : List (List Rect)) → AreComponents (without layer zones) pieces → AreLeftOf layer zones feature pieces
+left-of layer zones feature pieces ps = record {
+  canonical = ps.canonical;
+  inside = λ i p i_in has. in-set (without layer zones) pieces i p ps i_in has;
+  all = λ p rest in_f. some-part (without layer zones) pieces p ps rest;
+}
+
+module _ (spacing : Spacing) (overlap : ℕ) (layer : Region) (features pieces : List (List Rect)) (zones : List Zone) (some : 1 ≤ overlap)
+    (c : AreComponents layer features) (zs : AreSomeZones spacing overlap layer features zones) where
+  module _ (z : Zone) (z_in : Contains zones z) (ls : AreLeftOf layer zones (part_at features z.feature) pieces) where
+    slab-rest : (i : ℕ) (r : Rect) (p : Pt) → i < length pieces → Contains (get_or pieces i []) r → Has r p → without layer zones p
+    slab-rest i r p i_in r_in has = ls.inside i p i_in (Covers-member (get_or pieces i []) r p r_in has)
+
+    slab-solid : (i : ℕ) (r : Rect) → i < length pieces → Contains (get_or pieces i []) r → IsSolid r
+    slab-solid i r i_in r_in = let k : IsCanonical (get_or pieces i []) = ls.canonical i [] i_in in All-contains IsSolid (get_or pieces i []) r k.solid r_in
+
+    not-in-zone : (p : Pt) → without layer zones p → Has z.rect p → ⊥
+    not-in-zone p rest has = let (n, n_in, n_is) = z_in in rest.1 (n, z, n_in, n_is, has)
+
+    -- a square of the rest that touches the zone is in the zone's feature
+    touching-in : (p q : Pt) → without layer zones p → Has z.rect q → Touch p q → part_at features z.feature p
+    touching-in p q rest has touch =
+        let k = kept spacing overlap layer features zones c zs z z_in in
+        closed layer features z.feature p q c k.0 rest.0 (kept-inside spacing overlap layer features zones c zs (part_at features z.feature) z.rect q k.1 has) touch
+
+    -- a slab of a piece that has such a square
+    beside-slab : (p q : Pt) → without layer zones p → Has z.rect q → Touch p q
+        → (i : ℕ) × (r : Rect) × (i < length pieces) × Contains (get_or pieces i []) r × Has r p
+    beside-slab p q rest has touch =
+        let (i, i_in, covered) = ls.all p rest (touching-in p q rest has touch) in
         let found = member-Covers (get_or pieces i []) p covered in
         (i, found.0, i_in, found.1, found.2)
 
-    slab-rest : (i : ℕ) (r : Rect) (p : Pt) → i < length pieces → Contains (get_or pieces i []) r → Has r p → without layer zones p
-    slab-rest i r p i_in r_in has = in-set (without layer zones) pieces i p ps i_in (Covers-member (get_or pieces i []) r p r_in has)
+    module _ (h : IsHorizontalZone spacing overlap layer (part_at features z.feature) z.rect) where
+      abbrev b : IsBroad h.stretch z.rect
+      b = broad spacing overlap layer (part_at features z.feature) z.rect some h
 
-    slab-solid : (i : ℕ) (r : Rect) → i < length pieces → Contains (get_or pieces i []) r → IsSolid r
-    slab-solid i r i_in r_in = let k : IsCanonical (get_or pieces i []) = ps.canonical i [] i_in in All-contains IsSolid (get_or pieces i []) r k.solid r_in
-
-    module _ (z : Zone) (z_in : Contains zones z) where
-      not-in-zone : (p : Pt) → without layer zones p → Has z.rect p → ⊥
-      not-in-zone p rest has = let (n, n_in, n_is) = z_in in rest.1 (n, z, n_in, n_is, has)
-
-      -- a square of the rest that touches the zone is in the zone's feature
-      pub touching-in : (p q : Pt) → without layer zones p → Has z.rect q → Touch p q → part_at features z.feature p
-      touching-in p q rest has touch =
-          let k = kept spacing overlap layer features zones c zs z z_in in
-          closed layer features z.feature p q c k.0 rest.0 (kept-inside spacing overlap layer features zones c zs (part_at features z.feature) z.rect q k.1 has) touch
-
-      module _ (h : IsHorizontalZone spacing overlap layer (part_at features z.feature) z.rect) where
-        abbrev b : IsBroad h.stretch z.rect
-        b = broad spacing overlap layer (part_at features z.feature) z.rect some h
-
-        first-across : (k : ℕ) × IsCornerOf LowerRight pieces (corner_at z.rect.x0 z.rect.y0 k)
-        first-across =
-            let wide = b.wide in
-            let tall = b.tall in
-            let left = b.left in
-            let right = b.right in
-            let rows = h.middle.rows in
-            let x : ℤ = z.rect.x0 -ℤ pos 1 in
-            let p : Pt = at x z.rect.y0 in
-            let q : Pt = at z.rect.x0 z.rect.y0 in
-            let q_in : Has z.rect q = record { left = omega (arith, ints); right = wide; low = omega (arith, ints); high = tall } in
-            let (i, r, i_in, r_in, has) = piece-slab p (rest-across spacing overlap layer features zones c zs z z_in h x z.rect.y0
-            (inl (omega (arith, ints))) wide (omega (arith, ints)) tall) in
-            let hl = has.left in
-            let hr = has.right in
-            let hb = has.low in
-            let ht = has.high in
-            let column : r.x1 ≡ z.rect.x0 = by_lt_z z.rect.x0 r.x1
-            (λ l. absurd (not-in-zone q (slab-rest i r q i_in r_in (record { left = omega (arith, ints, hl); right = l; low = hb; high = ht })) q_in))
-            (λ m. omega (arith, ints, m, hr)) in
-            let row : r.y0 ≡ z.rect.y0 = by_lt_z r.y0 z.rect.y0
-            (λ l. absurd (
-            let s : Pt = at x (z.rect.y0 -ℤ pos 1) in
-            let rest = slab-rest i r s i_in r_in (record { left = hl; right = hr; low = omega (arith, ints, l); high = omega (arith, ints, ht) }) in
-            let in_f = touching-in s q rest q_in (Touch-from_close s q (omega (arith, ints)) (omega (arith, ints)) (omega (arith, ints)) (omega (arith, ints))) in
-            let run = h.is.runs x (omega (arith, ints, left)) (omega (arith, ints, wide, right)) in
-            run.below (subst (λ y. part_at features z.feature (at x y)) (ap (λ y. y -ℤ pos 1) rows.0) in_f)))
-            (λ m. omega (arith, ints, m, hb)) in
-            (i, (i, r, i_in, r_in, corner-same r.x1 r.y0 z.rect.x0 z.rect.y0 i column row))
-
-        second-across : (k : ℕ) × IsCornerOf LowerLeft pieces (corner_at z.rect.x1 z.rect.y0 k)
-        second-across =
-            let wide = b.wide in
-            let tall = b.tall in
-            let left = b.left in
-            let right = b.right in
-            let rows = h.middle.rows in
-            let x : ℤ = z.rect.x1 in
-            let p : Pt = at x z.rect.y0 in
-            let q : Pt = at (z.rect.x1 -ℤ pos 1) z.rect.y0 in
-            let q_in : Has z.rect q = record { left = omega (arith, ints, wide); right = omega (arith, ints); low = omega (arith, ints); high = tall } in
-            let (i, r, i_in, r_in, has) = piece-slab p (rest-across spacing overlap layer features zones c zs z z_in h x z.rect.y0 (inr refl) wide (omega (arith, ints)) tall) in
-            let hl = has.left in
-            let hr = has.right in
-            let hb = has.low in
-            let ht = has.high in
-            let column : r.x0 ≡ z.rect.x1 = by_lt_z r.x0 z.rect.x1
-            (λ l. absurd (not-in-zone q (slab-rest i r q i_in r_in (record { left = omega (arith, ints, l); right = omega (arith, ints, hr); low = hb; high = ht })) q_in))
-            (λ m. omega (arith, ints, m, hl)) in
-            let row : r.y0 ≡ z.rect.y0 = by_lt_z r.y0 z.rect.y0
-            (λ l. absurd (
-            let s : Pt = at x (z.rect.y0 -ℤ pos 1) in
-            let rest = slab-rest i r s i_in r_in (record { left = hl; right = hr; low = omega (arith, ints, l); high = omega (arith, ints, ht) }) in
-            let in_f = touching-in s q rest q_in (Touch-from_close s q (omega (arith, ints)) (omega (arith, ints)) (omega (arith, ints)) (omega (arith, ints))) in
-            let run = h.is.runs x (omega (arith, ints, wide, left)) (omega (arith, ints, right)) in
-            run.below (subst (λ y. part_at features z.feature (at x y)) (ap (λ y. y -ℤ pos 1) rows.0) in_f)))
-            (λ m. omega (arith, ints, m, hb)) in
-            (i, (i, r, i_in, r_in, corner-same r.x0 r.y0 z.rect.x1 z.rect.y0 i column row))
-
-      module _ (h : IsVerticalZone spacing overlap layer (part_at features z.feature) z.rect) (none : (r : Rect)
-          → IsHorizontalZone spacing overlap layer (part_at features z.feature) r → ¬ AreTouching (Has r) (Has z.rect)) where
-        abbrev v : IsBroad h.stretch (transposed_rect z.rect)
-        v = broad spacing overlap (transposed layer) (transposed (part_at features z.feature)) (transposed_rect z.rect) some h
-
-        first-up : (k : ℕ) × IsCornerOf UpperLeft pieces (corner_at z.rect.x0 z.rect.y0 k)
-        first-up =
-            let tall : z.rect.y0 <ℤ z.rect.y1 = v.wide in
-            let wide : z.rect.x0 <ℤ z.rect.x1 = v.tall in
-            let left = v.left in
-            let right = v.right in
-            let rows = h.middle.rows in
-            let y : ℤ = z.rect.y0 -ℤ pos 1 in
-            let p : Pt = at z.rect.x0 y in
-            let q : Pt = at z.rect.x0 z.rect.y0 in
-            let q_in : Has z.rect q = record { left = omega (arith, ints); right = wide; low = omega (arith, ints); high = tall } in
-            let (i, r, i_in, r_in, has) = piece-slab p (rest-up spacing overlap layer features zones c zs z z_in h none z.rect.x0 y
-            (inl (omega (arith, ints))) tall (omega (arith, ints)) wide) in
-            let hl = has.left in
-            let hr = has.right in
-            let hb = has.low in
-            let ht = has.high in
-            let row : r.y1 ≡ z.rect.y0 = by_lt_z z.rect.y0 r.y1
-            (λ l. absurd (not-in-zone q (slab-rest i r q i_in r_in (record { left = hl; right = hr; low = omega (arith, ints, hb); high = l })) q_in))
-            (λ m. omega (arith, ints, m, ht)) in
-            let column : r.x0 ≡ z.rect.x0 = by_lt_z r.x0 z.rect.x0
-            (λ l. absurd (
-            let s : Pt = at (z.rect.x0 -ℤ pos 1) y in
-            let rest = slab-rest i r s i_in r_in (record { left = omega (arith, ints, l); right = omega (arith, ints, hr); low = hb; high = ht }) in
-            let in_f = touching-in s q rest q_in (Touch-from_close s q (omega (arith, ints)) (omega (arith, ints)) (omega (arith, ints)) (omega (arith, ints))) in
-            let run = h.is.runs y (omega (arith, ints, left)) (omega (arith, ints, tall, right)) in
-            run.below (subst (λ x. part_at features z.feature (at x y)) (ap (λ x. x -ℤ pos 1) rows.0) in_f)))
-            (λ m. omega (arith, ints, m, hl)) in
-            (i, (i, r, i_in, r_in, corner-same r.x0 r.y1 z.rect.x0 z.rect.y0 i column row))
-
-        second-up : (k : ℕ) × IsCornerOf LowerLeft pieces (corner_at z.rect.x0 z.rect.y1 k)
-        second-up =
-            let tall : z.rect.y0 <ℤ z.rect.y1 = v.wide in
-            let wide : z.rect.x0 <ℤ z.rect.x1 = v.tall in
-            let left = v.left in
-            let right = v.right in
-            let rows = h.middle.rows in
-            let y : ℤ = z.rect.y1 in
-            let p : Pt = at z.rect.x0 y in
-            let q : Pt = at z.rect.x0 (z.rect.y1 -ℤ pos 1) in
-            let q_in : Has z.rect q = record { left = omega (arith, ints); right = wide; low = omega (arith, ints, tall); high = omega (arith, ints) } in
-            let (i, r, i_in, r_in, has) = piece-slab p (rest-up spacing overlap layer features zones c zs z z_in h none z.rect.x0 y (inr refl) tall (omega (arith, ints)) wide) in
-            let hl = has.left in
-            let hr = has.right in
-            let hb = has.low in
-            let ht = has.high in
-            let row : r.y0 ≡ z.rect.y1 = by_lt_z r.y0 z.rect.y1
-            (λ l. absurd (not-in-zone q (slab-rest i r q i_in r_in (record { left = hl; right = hr; low = omega (arith, ints, l); high = omega (arith, ints, ht) })) q_in))
-            (λ m. omega (arith, ints, m, hb)) in
-            let column : r.x0 ≡ z.rect.x0 = by_lt_z r.x0 z.rect.x0
-            (λ l. absurd (
-            let s : Pt = at (z.rect.x0 -ℤ pos 1) y in
-            let rest = slab-rest i r s i_in r_in (record { left = omega (arith, ints, l); right = omega (arith, ints, hr); low = hb; high = ht }) in
-            let in_f = touching-in s q rest q_in (Touch-from_close s q (omega (arith, ints)) (omega (arith, ints)) (omega (arith, ints)) (omega (arith, ints))) in
-            let run = h.is.runs y (omega (arith, ints, tall, left)) (omega (arith, ints, right)) in
-            run.below (subst (λ x. part_at features z.feature (at x y)) (ap (λ x. x -ℤ pos 1) rows.0) in_f)))
-            (λ m. omega (arith, ints, m, hl)) in
-            (i, (i, r, i_in, r_in, corner-same r.x0 r.y0 z.rect.x0 z.rect.y1 i column row))
-
-      stand-kept : IsKeptZone spacing overlap layer (part_at features z.feature) z.rect → (side : ℕ × ℕ) × StandBeside pieces z side
-      stand-kept (inl h) = let one = first-across h in let two = second-across h in ((one.0, two.0), (inl one.1, inl two.1))
-      stand-kept (inr (h, none)) = let one = first-up h none in let two = second-up h none in ((one.0, two.0), (inr one.1, inr two.1))
-
-      pub stand : (side : ℕ × ℕ) × StandBeside pieces z side
-      stand = stand-kept (kept spacing overlap layer features zones c zs z z_in).1
-
-      solid : (z.rect.x0 <ℤ z.rect.x1) × (z.rect.y0 <ℤ z.rect.y1)
-      solid = solid-zone spacing overlap layer features zones some c zs z z_in
-
-      -- a piece whose slab has the corner
-      from-left : (k : ℕ) → IsCornerOf LowerRight pieces (corner_at z.rect.x0 z.rect.y0 k) → (k < length pieces) × IsFirstSide (part_at pieces k) z.rect
-      from-left k (i, r, i_in, r_in, is) =
-          let same : i ≡ k = ap (λ t. let u : Corner = t in u.number) is in
-          let x : r.x1 ≡ z.rect.x0 = ap (λ t. let u : Corner = t in u.x) is in
-          let y : r.y0 ≡ z.rect.y0 = ap (λ t. let u : Corner = t in u.y) is in
-          let s = slab-solid i r i_in r_in in
-          let sw = s.wide in
-          let st = s.tall in
-          let zw = solid.0 in
-          let zt = solid.1 in
-          let p : Pt = at (r.x1 -ℤ pos 1) r.y0 in
+      first-across : (k : ℕ) × IsCornerOf LowerRight pieces (corner_at z.rect.x0 z.rect.y0 k)
+      first-across =
+          let wide = b.wide in
+          let tall = b.tall in
+          let left = b.left in
+          let right = b.right in
+          let rows = h.middle.rows in
+          let x : ℤ = z.rect.x0 -ℤ pos 1 in
+          let p : Pt = at x z.rect.y0 in
           let q : Pt = at z.rect.x0 z.rect.y0 in
-          let p_in : part_at pieces i p = Covers-member (get_or pieces i []) r p r_in
-          (record { left = omega (arith, ints, sw); right = omega (arith, ints); low = omega (arith, ints); high = st }) in
-          let q_in : Has z.rect q = record { left = omega (arith, ints); right = zw; low = omega (arith, ints); high = zt } in
-          subst (λ n. (n < length pieces) × IsFirstSide (part_at pieces n) z.rect) same (
-            i_in,
-            (
-              p,
-              q,
-              p_in,
-              q_in,
-              Touch-from_close p q (omega (arith, ints, x)) (omega (arith, ints, x)) (omega (arith, ints, y))
-                  (omega (arith, ints, y)),
-              inl (omega (arith, ints, x)),
-            ),
-          )
+          let q_in : Has z.rect q = record { left = omega (arith, ints); right = wide; low = omega (arith, ints); high = tall } in
+          let (i, r, i_in, r_in, has) = beside-slab p q (rest-across spacing overlap layer features zones c zs z z_in h x z.rect.y0
+          (inl (omega (arith, ints))) wide (omega (arith, ints)) tall) q_in (touch-left z.rect.x0 z.rect.y0) in
+          let hl = has.left in
+          let hr = has.right in
+          let hb = has.low in
+          let ht = has.high in
+          let column : r.x1 ≡ z.rect.x0 = by_lt_z z.rect.x0 r.x1
+          (λ l. absurd (not-in-zone q (slab-rest i r q i_in r_in (record { left = omega (arith, ints, hl); right = l; low = hb; high = ht })) q_in))
+          (λ m. omega (arith, ints, m, hr)) in
+          let row : r.y0 ≡ z.rect.y0 = by_lt_z r.y0 z.rect.y0
+          (λ l. absurd (
+          let s : Pt = at x (z.rect.y0 -ℤ pos 1) in
+          let rest = slab-rest i r s i_in r_in (record { left = hl; right = hr; low = omega (arith, ints, l); high = omega (arith, ints, ht) }) in
+          let in_f = touching-in s q rest q_in (Touch-from_close s q (omega (arith, ints)) (omega (arith, ints)) (omega (arith, ints)) (omega (arith, ints))) in
+          let run = h.is.runs x (up-to h.stretch.x0 z.rect.x0 left) (one-less z.rect.x0 z.rect.x1 h.stretch.x1 wide right) in
+          run.below (subst (λ y. part_at features z.feature (at x y)) (ap (λ y. y -ℤ pos 1) rows.0) in_f)))
+          (λ m. omega (arith, ints, m, hb)) in
+          (i, (i, r, i_in, r_in, corner-same r.x1 r.y0 z.rect.x0 z.rect.y0 i column row))
 
-      from-below : (k : ℕ) → IsCornerOf UpperLeft pieces (corner_at z.rect.x0 z.rect.y0 k) → (k < length pieces) × IsFirstSide (part_at pieces k) z.rect
-      from-below k (i, r, i_in, r_in, is) =
-          let same : i ≡ k = ap (λ t. let u : Corner = t in u.number) is in
-          let x : r.x0 ≡ z.rect.x0 = ap (λ t. let u : Corner = t in u.x) is in
-          let y : r.y1 ≡ z.rect.y0 = ap (λ t. let u : Corner = t in u.y) is in
-          let s = slab-solid i r i_in r_in in
-          let sw = s.wide in
-          let st = s.tall in
-          let zw = solid.0 in
-          let zt = solid.1 in
-          let p : Pt = at r.x0 (r.y1 -ℤ pos 1) in
-          let q : Pt = at z.rect.x0 z.rect.y0 in
-          let p_in : part_at pieces i p = Covers-member (get_or pieces i []) r p r_in
-          (record { left = omega (arith, ints); right = sw; low = omega (arith, ints, st); high = omega (arith, ints) }) in
-          let q_in : Has z.rect q = record { left = omega (arith, ints); right = zw; low = omega (arith, ints); high = zt } in
-          subst (λ n. (n < length pieces) × IsFirstSide (part_at pieces n) z.rect) same (
-            i_in,
-            (
-              p,
-              q,
-              p_in,
-              q_in,
-              Touch-from_close p q (omega (arith, ints, x)) (omega (arith, ints, x)) (omega (arith, ints, y))
-                  (omega (arith, ints, y)),
-              inr (omega (arith, ints, y)),
-            ),
-          )
-
-      from-right : (k : ℕ) → IsCornerOf LowerLeft pieces (corner_at z.rect.x1 z.rect.y0 k) → (k < length pieces) × IsSecondSide (part_at pieces k) z.rect
-      from-right k (i, r, i_in, r_in, is) =
-          let same : i ≡ k = ap (λ t. let u : Corner = t in u.number) is in
-          let x : r.x0 ≡ z.rect.x1 = ap (λ t. let u : Corner = t in u.x) is in
-          let y : r.y0 ≡ z.rect.y0 = ap (λ t. let u : Corner = t in u.y) is in
-          let s = slab-solid i r i_in r_in in
-          let sw = s.wide in
-          let st = s.tall in
-          let zw = solid.0 in
-          let zt = solid.1 in
-          let p : Pt = at r.x0 r.y0 in
+      second-across : (k : ℕ) × IsCornerOf LowerLeft pieces (corner_at z.rect.x1 z.rect.y0 k)
+      second-across =
+          let wide = b.wide in
+          let tall = b.tall in
+          let left = b.left in
+          let right = b.right in
+          let rows = h.middle.rows in
+          let x : ℤ = z.rect.x1 in
+          let p : Pt = at x z.rect.y0 in
           let q : Pt = at (z.rect.x1 -ℤ pos 1) z.rect.y0 in
-          let p_in : part_at pieces i p = Covers-member (get_or pieces i []) r p r_in (record { left = omega (arith, ints); right = sw; low = omega (arith, ints); high = st }) in
-          let q_in : Has z.rect q = record { left = omega (arith, ints, zw); right = omega (arith, ints); low = omega (arith, ints); high = zt } in
-          subst (λ n. (n < length pieces) × IsSecondSide (part_at pieces n) z.rect) same (
-            i_in,
-            (
-              p,
-              q,
-              p_in,
-              q_in,
-              Touch-from_close p q (omega (arith, ints, x)) (omega (arith, ints, x)) (omega (arith, ints, y))
-                  (omega (arith, ints, y)),
-              inl (omega (arith, ints, x)),
-            ),
-          )
+          let q_in : Has z.rect q = record { left = omega (arith, ints, wide); right = omega (arith, ints); low = omega (arith, ints); high = tall } in
+          let (i, r, i_in, r_in, has) = beside-slab p q (rest-across spacing overlap layer features zones c zs z z_in h x z.rect.y0
+          (inr refl) wide (omega (arith, ints)) tall) q_in (touch-right z.rect.x1 z.rect.y0) in
+          let hl = has.left in
+          let hr = has.right in
+          let hb = has.low in
+          let ht = has.high in
+          let column : r.x0 ≡ z.rect.x1 = by_lt_z r.x0 z.rect.x1
+          (λ l. absurd (not-in-zone q (slab-rest i r q i_in r_in (record { left = omega (arith, ints, l); right = omega (arith, ints, hr); low = hb; high = ht })) q_in))
+          (λ m. omega (arith, ints, m, hl)) in
+          let row : r.y0 ≡ z.rect.y0 = by_lt_z r.y0 z.rect.y0
+          (λ l. absurd (
+          let s : Pt = at x (z.rect.y0 -ℤ pos 1) in
+          let rest = slab-rest i r s i_in r_in (record { left = hl; right = hr; low = omega (arith, ints, l); high = omega (arith, ints, ht) }) in
+          let in_f = touching-in s q rest q_in (Touch-from_close s q (omega (arith, ints)) (omega (arith, ints)) (omega (arith, ints)) (omega (arith, ints))) in
+          let run = h.is.runs x (omega (arith, ints, wide, left)) (omega (arith, ints, right)) in
+          run.below (subst (λ y. part_at features z.feature (at x y)) (ap (λ y. y -ℤ pos 1) rows.0) in_f)))
+          (λ m. omega (arith, ints, m, hb)) in
+          (i, (i, r, i_in, r_in, corner-same r.x0 r.y0 z.rect.x1 z.rect.y0 i column row))
 
-      from-above : (k : ℕ) → IsCornerOf LowerLeft pieces (corner_at z.rect.x0 z.rect.y1 k) → (k < length pieces) × IsSecondSide (part_at pieces k) z.rect
-      from-above k (i, r, i_in, r_in, is) =
-          let same : i ≡ k = ap (λ t. let u : Corner = t in u.number) is in
-          let x : r.x0 ≡ z.rect.x0 = ap (λ t. let u : Corner = t in u.x) is in
-          let y : r.y0 ≡ z.rect.y1 = ap (λ t. let u : Corner = t in u.y) is in
-          let s = slab-solid i r i_in r_in in
-          let sw = s.wide in
-          let st = s.tall in
-          let zw = solid.0 in
-          let zt = solid.1 in
-          let p : Pt = at r.x0 r.y0 in
+    module _ (h : IsVerticalZone spacing overlap layer (part_at features z.feature) z.rect) (none : (r : Rect)
+        → IsHorizontalZone spacing overlap layer (part_at features z.feature) r → ¬ AreTouching (Has r) (Has z.rect)) where
+      abbrev v : IsBroad h.stretch (transposed_rect z.rect)
+      v = broad spacing overlap (transposed layer) (transposed (part_at features z.feature)) (transposed_rect z.rect) some h
+
+      first-up : (k : ℕ) × IsCornerOf UpperLeft pieces (corner_at z.rect.x0 z.rect.y0 k)
+      first-up =
+          let tall : z.rect.y0 <ℤ z.rect.y1 = v.wide in
+          let wide : z.rect.x0 <ℤ z.rect.x1 = v.tall in
+          let left = v.left in
+          let right = v.right in
+          let rows = h.middle.rows in
+          let y : ℤ = z.rect.y0 -ℤ pos 1 in
+          let p : Pt = at z.rect.x0 y in
+          let q : Pt = at z.rect.x0 z.rect.y0 in
+          let q_in : Has z.rect q = record { left = omega (arith, ints); right = wide; low = omega (arith, ints); high = tall } in
+          let (i, r, i_in, r_in, has) = beside-slab p q (rest-up spacing overlap layer features zones c zs z z_in h none z.rect.x0 y
+          (inl (omega (arith, ints))) tall (omega (arith, ints)) wide) q_in (touch-below z.rect.x0 z.rect.y0) in
+          let hl = has.left in
+          let hr = has.right in
+          let hb = has.low in
+          let ht = has.high in
+          let row : r.y1 ≡ z.rect.y0 = by_lt_z z.rect.y0 r.y1
+          (λ l. absurd (not-in-zone q (slab-rest i r q i_in r_in (record { left = hl; right = hr; low = omega (arith, ints, hb); high = l })) q_in))
+          (λ m. omega (arith, ints, m, ht)) in
+          let column : r.x0 ≡ z.rect.x0 = by_lt_z r.x0 z.rect.x0
+          (λ l. absurd (
+          let s : Pt = at (z.rect.x0 -ℤ pos 1) y in
+          let rest = slab-rest i r s i_in r_in (record { left = omega (arith, ints, l); right = omega (arith, ints, hr); low = hb; high = ht }) in
+          let in_f = touching-in s q rest q_in (Touch-from_close s q (omega (arith, ints)) (omega (arith, ints)) (omega (arith, ints)) (omega (arith, ints))) in
+          let run = h.is.runs y (up-to h.stretch.x0 z.rect.y0 left) (one-less z.rect.y0 z.rect.y1 h.stretch.x1 tall right) in
+          run.below (subst (λ x. part_at features z.feature (at x y)) (ap (λ x. x -ℤ pos 1) rows.0) in_f)))
+          (λ m. omega (arith, ints, m, hl)) in
+          (i, (i, r, i_in, r_in, corner-same r.x0 r.y1 z.rect.x0 z.rect.y0 i column row))
+
+      second-up : (k : ℕ) × IsCornerOf LowerLeft pieces (corner_at z.rect.x0 z.rect.y1 k)
+      second-up =
+          let tall : z.rect.y0 <ℤ z.rect.y1 = v.wide in
+          let wide : z.rect.x0 <ℤ z.rect.x1 = v.tall in
+          let left = v.left in
+          let right = v.right in
+          let rows = h.middle.rows in
+          let y : ℤ = z.rect.y1 in
+          let p : Pt = at z.rect.x0 y in
           let q : Pt = at z.rect.x0 (z.rect.y1 -ℤ pos 1) in
-          let p_in : part_at pieces i p = Covers-member (get_or pieces i []) r p r_in (record { left = omega (arith, ints); right = sw; low = omega (arith, ints); high = st }) in
-          let q_in : Has z.rect q = record { left = omega (arith, ints); right = zw; low = omega (arith, ints, zt); high = omega (arith, ints) } in
-          subst (λ n. (n < length pieces) × IsSecondSide (part_at pieces n) z.rect) same (
-            i_in,
-            (
-              p,
-              q,
-              p_in,
-              q_in,
-              Touch-from_close p q (omega (arith, ints, x)) (omega (arith, ints, x)) (omega (arith, ints, y))
-                  (omega (arith, ints, y)),
-              inr (omega (arith, ints, y)),
-            ),
-          )
+          let q_in : Has z.rect q = record { left = omega (arith, ints); right = wide; low = omega (arith, ints, tall); high = omega (arith, ints) } in
+          let (i, r, i_in, r_in, has) = beside-slab p q (rest-up spacing overlap layer features zones c zs z z_in h none z.rect.x0 y
+          (inr refl) tall (omega (arith, ints)) wide) q_in (touch-above z.rect.x0 z.rect.y1) in
+          let hl = has.left in
+          let hr = has.right in
+          let hb = has.low in
+          let ht = has.high in
+          let row : r.y0 ≡ z.rect.y1 = by_lt_z r.y0 z.rect.y1
+          (λ l. absurd (not-in-zone q (slab-rest i r q i_in r_in (record { left = hl; right = hr; low = omega (arith, ints, l); high = omega (arith, ints, ht) })) q_in))
+          (λ m. omega (arith, ints, m, hb)) in
+          let column : r.x0 ≡ z.rect.x0 = by_lt_z r.x0 z.rect.x0
+          (λ l. absurd (
+          let s : Pt = at (z.rect.x0 -ℤ pos 1) y in
+          let rest = slab-rest i r s i_in r_in (record { left = omega (arith, ints, l); right = omega (arith, ints, hr); low = hb; high = ht }) in
+          let in_f = touching-in s q rest q_in (Touch-from_close s q (omega (arith, ints)) (omega (arith, ints)) (omega (arith, ints)) (omega (arith, ints))) in
+          let run = h.is.runs y (omega (arith, ints, tall, left)) (omega (arith, ints, right)) in
+          run.below (subst (λ x. part_at features z.feature (at x y)) (ap (λ x. x -ℤ pos 1) rows.0) in_f)))
+          (λ m. omega (arith, ints, m, hl)) in
+          (i, (i, r, i_in, r_in, corner-same r.x0 r.y0 z.rect.x0 z.rect.y1 i column row))
 
-      -- pieces with corners of the zone stand on its sides
-      pub sides-from_stand : (side : ℕ × ℕ) → StandBeside pieces z side → AreSides features pieces z side
-      sides-from_stand side (one, two) =
-          let first = elim one as (λ t. (side.0 < length pieces) × IsFirstSide (part_at pieces side.0) z.rect) [ inl h ↦ from-left side.0 h | inr h ↦ from-below side.0 h ] in
-          let second = elim two as (λ t. (side.1 < length pieces) × IsSecondSide (part_at pieces side.1) z.rect) [ inl h ↦ from-right side.1 h | inr h ↦ from-above side.1 h ] in
-          record { known = (first.0, second.0); first = first.1; second = second.1 }
+    stand-kept : IsKeptZone spacing overlap layer (part_at features z.feature) z.rect → (side : ℕ × ℕ) × StandBeside pieces z side
+    stand-kept (inl h) = let one = first-across h in let two = second-across h in ((one.0, two.0), (inl one.1, inl two.1))
+    stand-kept (inr (h, none)) = let one = first-up h none in let two = second-up h none in ((one.0, two.0), (inr one.1, inr two.1))
+
+    pub stand : (side : ℕ × ℕ) × StandBeside pieces z side
+    stand = stand-kept (kept spacing overlap layer features zones c zs z z_in).1
+
+    solid : (z.rect.x0 <ℤ z.rect.x1) × (z.rect.y0 <ℤ z.rect.y1)
+    solid = solid-zone spacing overlap layer features zones some c zs z z_in
+
+    -- a piece whose slab has the corner
+    from-left : (k : ℕ) → IsCornerOf LowerRight pieces (corner_at z.rect.x0 z.rect.y0 k) → (k < length pieces) × IsFirstSide (part_at pieces k) z.rect
+    from-left k (i, r, i_in, r_in, is) =
+        let same : i ≡ k = ap (λ t. let u : Corner = t in u.number) is in
+        let x : r.x1 ≡ z.rect.x0 = ap (λ t. let u : Corner = t in u.x) is in
+        let y : r.y0 ≡ z.rect.y0 = ap (λ t. let u : Corner = t in u.y) is in
+        let s = slab-solid i r i_in r_in in
+        let sw = s.wide in
+        let st = s.tall in
+        let zw = solid.0 in
+        let zt = solid.1 in
+        let p : Pt = at (r.x1 -ℤ pos 1) r.y0 in
+        let q : Pt = at z.rect.x0 z.rect.y0 in
+        let p_in : part_at pieces i p = Covers-member (get_or pieces i []) r p r_in
+        (record { left = omega (arith, ints, sw); right = omega (arith, ints); low = omega (arith, ints); high = st }) in
+        let q_in : Has z.rect q = record { left = omega (arith, ints); right = zw; low = omega (arith, ints); high = zt } in
+        subst (λ n. (n < length pieces) × IsFirstSide (part_at pieces n) z.rect) same (
+          i_in,
+          (
+            p,
+            q,
+            p_in,
+            q_in,
+            Touch-from_close p q (omega (arith, ints, x)) (omega (arith, ints, x)) (omega (arith, ints, y))
+                (omega (arith, ints, y)),
+            inl (omega (arith, ints, x)),
+          ),
+        )
+
+    from-below : (k : ℕ) → IsCornerOf UpperLeft pieces (corner_at z.rect.x0 z.rect.y0 k) → (k < length pieces) × IsFirstSide (part_at pieces k) z.rect
+    from-below k (i, r, i_in, r_in, is) =
+        let same : i ≡ k = ap (λ t. let u : Corner = t in u.number) is in
+        let x : r.x0 ≡ z.rect.x0 = ap (λ t. let u : Corner = t in u.x) is in
+        let y : r.y1 ≡ z.rect.y0 = ap (λ t. let u : Corner = t in u.y) is in
+        let s = slab-solid i r i_in r_in in
+        let sw = s.wide in
+        let st = s.tall in
+        let zw = solid.0 in
+        let zt = solid.1 in
+        let p : Pt = at r.x0 (r.y1 -ℤ pos 1) in
+        let q : Pt = at z.rect.x0 z.rect.y0 in
+        let p_in : part_at pieces i p = Covers-member (get_or pieces i []) r p r_in
+        (record { left = omega (arith, ints); right = sw; low = omega (arith, ints, st); high = omega (arith, ints) }) in
+        let q_in : Has z.rect q = record { left = omega (arith, ints); right = zw; low = omega (arith, ints); high = zt } in
+        subst (λ n. (n < length pieces) × IsFirstSide (part_at pieces n) z.rect) same (
+          i_in,
+          (
+            p,
+            q,
+            p_in,
+            q_in,
+            Touch-from_close p q (omega (arith, ints, x)) (omega (arith, ints, x)) (omega (arith, ints, y))
+                (omega (arith, ints, y)),
+            inr (omega (arith, ints, y)),
+          ),
+        )
+
+    from-right : (k : ℕ) → IsCornerOf LowerLeft pieces (corner_at z.rect.x1 z.rect.y0 k) → (k < length pieces) × IsSecondSide (part_at pieces k) z.rect
+    from-right k (i, r, i_in, r_in, is) =
+        let same : i ≡ k = ap (λ t. let u : Corner = t in u.number) is in
+        let x : r.x0 ≡ z.rect.x1 = ap (λ t. let u : Corner = t in u.x) is in
+        let y : r.y0 ≡ z.rect.y0 = ap (λ t. let u : Corner = t in u.y) is in
+        let s = slab-solid i r i_in r_in in
+        let sw = s.wide in
+        let st = s.tall in
+        let zw = solid.0 in
+        let zt = solid.1 in
+        let p : Pt = at r.x0 r.y0 in
+        let q : Pt = at (z.rect.x1 -ℤ pos 1) z.rect.y0 in
+        let p_in : part_at pieces i p = Covers-member (get_or pieces i []) r p r_in (record { left = omega (arith, ints); right = sw; low = omega (arith, ints); high = st }) in
+        let q_in : Has z.rect q = record { left = omega (arith, ints, zw); right = omega (arith, ints); low = omega (arith, ints); high = zt } in
+        subst (λ n. (n < length pieces) × IsSecondSide (part_at pieces n) z.rect) same (
+          i_in,
+          (
+            p,
+            q,
+            p_in,
+            q_in,
+            Touch-from_close p q (omega (arith, ints, x)) (omega (arith, ints, x)) (omega (arith, ints, y))
+                (omega (arith, ints, y)),
+            inl (omega (arith, ints, x)),
+          ),
+        )
+
+    from-above : (k : ℕ) → IsCornerOf LowerLeft pieces (corner_at z.rect.x0 z.rect.y1 k) → (k < length pieces) × IsSecondSide (part_at pieces k) z.rect
+    from-above k (i, r, i_in, r_in, is) =
+        let same : i ≡ k = ap (λ t. let u : Corner = t in u.number) is in
+        let x : r.x0 ≡ z.rect.x0 = ap (λ t. let u : Corner = t in u.x) is in
+        let y : r.y0 ≡ z.rect.y1 = ap (λ t. let u : Corner = t in u.y) is in
+        let s = slab-solid i r i_in r_in in
+        let sw = s.wide in
+        let st = s.tall in
+        let zw = solid.0 in
+        let zt = solid.1 in
+        let p : Pt = at r.x0 r.y0 in
+        let q : Pt = at z.rect.x0 (z.rect.y1 -ℤ pos 1) in
+        let p_in : part_at pieces i p = Covers-member (get_or pieces i []) r p r_in (record { left = omega (arith, ints); right = sw; low = omega (arith, ints); high = st }) in
+        let q_in : Has z.rect q = record { left = omega (arith, ints); right = zw; low = omega (arith, ints, zt); high = omega (arith, ints) } in
+        subst (λ n. (n < length pieces) × IsSecondSide (part_at pieces n) z.rect) same (
+          i_in,
+          (
+            p,
+            q,
+            p_in,
+            q_in,
+            Touch-from_close p q (omega (arith, ints, x)) (omega (arith, ints, x)) (omega (arith, ints, y))
+                (omega (arith, ints, y)),
+            inr (omega (arith, ints, y)),
+          ),
+        )
+
+    -- pieces with corners of the zone stand on its sides
+    pub sides-from_stand : (side : ℕ × ℕ) → StandBeside pieces z side → AreSides features pieces z side
+    sides-from_stand side (one, two) =
+        let first = elim one as (λ t. (side.0 < length pieces) × IsFirstSide (part_at pieces side.0) z.rect) [ inl h ↦ from-left side.0 h | inr h ↦ from-below side.0 h ] in
+        let second = elim two as (λ t. (side.1 < length pieces) × IsSecondSide (part_at pieces side.1) z.rect) [ inl h ↦ from-right side.1 h | inr h ↦ from-above side.1 h ] in
+        record { known = (first.0, second.0); first = first.1; second = second.1 }

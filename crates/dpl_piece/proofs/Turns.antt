@@ -64,6 +64,17 @@ module _ (zones : List Zone) (rest : List ℕ) (n m : ℕ) (h : AreZonesFrom zon
   pub own-known : All (λ j. j < length zones) (take m rest)
   own-known i d i_in = ((h.members (get_or (take m rest) i d)).0 (in-rest (get_or (take m rest) i d) (inl (Contains-get_or (take m rest) i d i_in)))).0
 
+  -- each zone of the feature is among them
+  pub own-there : (j : ℕ) → j < length zones → feature_at zones j ≡ n → Contains (take m rest) j
+  own-there j j_in feature = elim (front-or_back j ((h.members j).1 (j_in, omega (arith, feature)))) [
+    | inl a ↦ a
+    | inr a ↦ absurd (let l = back-later j a in omega (arith, l, feature))
+  ]
+
+  -- and no other
+  pub own-feature : (j : ℕ) → Contains (take m rest) j → feature_at zones j ≡ n
+  own-feature j j_in = All-contains (λ i. feature_at zones i ≡ n) (take m rest) j own j_in
+
   pub own-holes : AreHolesOf zones n (map (rect_at zones) (take m rest))
   own-holes r = (
     λ r_in. (let (j, j_in, is) = Contains-map (rect_at zones) (take m rest) r r_in in
@@ -72,11 +83,8 @@ module _ (zones : List Zone) (rest : List ℕ) (n m : ℕ) (h : AreZonesFrom zon
     λ (z, (j, j_in, z_is), mine, is). (
         let at : zone_at zones j ≡ z = get_or_default zones j (zone_at [] 0) z j_in ∙ z_is in
         let feature : feature_at zones j ≡ n = ap (λ y. let u : Zone = y in u.feature) at ∙ mine in
-        let there : Contains (take m rest) j = elim (front-or_back j ((h.members j).1 (j_in, omega (arith, feature)))) [
-          | inl a ↦ a
-          | inr a ↦ absurd (let l = back-later j a in omega (arith, l, feature))
-        ] in
-        subst (Contains (map (rect_at zones) (take m rest))) (ap (λ y. let u : Zone = y in u.rect) at ∙ is) (map-Contains (rect_at zones) (take m rest) j there)),
+        subst (Contains (map (rect_at zones) (take m rest))) (ap (λ y. let u : Zone = y in u.rect) at ∙ is)
+        (map-Contains (rect_at zones) (take m rest) j (own-there j j_in feature))),
   )
 
   pub zones-after : AreZonesFrom zones (n + 1) (drop m rest)

@@ -1,16 +1,14 @@
 -- Corners of slabs and of zones, and the slabs on the two sides of a zone.
-use Rattle.std.specs.Prelude.{◌≡◌, ℕ, ◌<◌, ◌≤◌, ◌⊎◌, ◌↔◌, Bool, true, false, ℤ, List, [], length, slice_index_or}
+use Rattle.std.specs.Prelude.{◌≡◌, ℕ, ◌<◌, ◌≤◌, ◌⊎◌, Bool, true, false, ℤ, List, [], length, slice_index_or}
 use Rattle.std.specs.Ordering.{int_cmp, is_lt, ordering_then}
 use Rattle.std.specs.declared.cmp.Ordering.{Ordering}
 use Rattle.std.specs.List.Sorted.{IsSortedByKey}
-use Rattle.std.specs.List.{AllWithin, Contains, HoldsAt}
+use Rattle.std.specs.List.{AllWithin, Contains}
 use Rattle.dpl_spec_split.specs.declared.Rect.{Rect}
 use Rattle.dpl_spec_split.specs.declared.Zone.{Zone}
 use Rattle.dpl_piece.specs.declared.corner.Corner.{Corner}
 use Rattle.dpl_piece.specs.declared.corner.Kind.{Kind}
 use Rattle.dpl_piece.specs.declared.corner.Kind.TheVariants.{LowerLeft, LowerRight, UpperLeft}
-use Rattle.dpl_piece.specs.declared.piece.Origin.{Origin}
-use Rattle.dpl_piece.specs.declared.piece.Origin.TheVariants.{Broken}
 
 abbrev pub corner_at : ℤ → ℤ → ℕ → Corner
 corner_at x y k = record { x = x; y = y; number = k }
@@ -20,12 +18,13 @@ corner_of LowerLeft k r = corner_at r.x0 r.y0 k
 corner_of LowerRight k r = corner_at r.x1 r.y0 k
 corner_of UpperLeft k r = corner_at r.x0 r.y1 k
 
--- a corner of a slab of one of the first n parts
-abbrev pub IsFirstCorner : Kind → List (List Rect) → ℕ → Corner → Type 0
-IsFirstCorner kind parts n c = (k : ℕ) × (r : Rect) × (k < n) × Contains (slice_index_or parts k []) r × (corner_of kind k r ≡ c)
+-- a corner of a slab of a part, the parts going from one number to another
+abbrev pub IsCornerWithin : Kind → List (List Rect) → ℕ → ℕ → Corner → Type 0
+IsCornerWithin kind parts from to c = (k : ℕ) × (r : Rect) × (from ≤ k) × (k < to) × Contains (slice_index_or parts k []) r × (corner_of kind k r ≡ c)
 
+-- a corner of a slab of some part
 abbrev pub IsCornerOf : Kind → List (List Rect) → Corner → Type 0
-IsCornerOf kind parts c = IsFirstCorner kind parts (length parts) c
+IsCornerOf kind parts c = (k : ℕ) × (r : Rect) × (k < length parts) × Contains (slice_index_or parts k []) r × (corner_of kind k r ≡ c)
 
 -- by row, and then by column
 abbrev pub row_cmp : (ℤ × ℤ) → (ℤ × ℤ) → Ordering
@@ -45,10 +44,6 @@ pub record IsBracket (corners : List Corner) (x y : ℤ) (low high : ℕ) : Type
   pub under : AllWithin (λ c. is_before x y c ≡ true) corners 0 low
   pub over : AllWithin (λ c. is_before x y c ≡ false) corners high (length corners)
 
--- a corner of a zone, with the zone's number
-abbrev pub IsZoneCorner : Kind → List Zone → Corner → Type 0
-IsZoneCorner kind zones c = (c.number < length zones) × HoldsAt (λ z. corner_of kind c.number z.rect ≡ c) zones c.number
-
 -- the zone's lower left corner is the lower right or the upper left one of a slab of part number k
 abbrev pub StandsBefore : List (List Rect) → Zone → ℕ → Type 0
 StandsBefore parts z k = IsCornerOf LowerRight parts (corner_at z.rect.x0 z.rect.y0 k) ⊎ IsCornerOf UpperLeft parts (corner_at z.rect.x0 z.rect.y0 k)
@@ -60,27 +55,3 @@ StandsAfter parts z k = IsCornerOf LowerLeft parts (corner_at z.rect.x1 z.rect.y
 -- part number side.0 stands before the zone, and part number side.1 after it
 abbrev pub StandBeside : List (List Rect) → Zone → ℕ × ℕ → Type 0
 StandBeside parts z side = StandsBefore parts z side.0 × StandsAfter parts z side.1
-
--- a part of this number is broken
-abbrev pub IsBroken : List Origin → ℕ → Type 0
-IsBroken origins k = (k < length origins) × (slice_index_or origins k Broken ≡ Broken)
-
--- the same, of parts that are broken
-abbrev pub StandBroken : List (List Rect) → List Origin → Zone → ℕ × ℕ → Type 0
-StandBroken parts origins z side = StandBeside parts z side × IsBroken origins side.0 × IsBroken origins side.1
-
--- the number noted for zone number i is now that of one of the slabs' corners at which the zone has a corner, or stays where there is none
-abbrev pub IsNoted : List Corner → List Corner → ℕ → ℕ → ℕ → Type 0
-IsNoted found corners i old new = ((c : Corner) × Contains found c × Contains corners (corner_at c.x c.y i) × (c.number ≡ new))
-    ⊎ (((c : Corner) → Contains found c → ¬ Contains corners (corner_at c.x c.y i)) × (new ≡ old))
-
--- the same of each zone
-pub record AreNoted (found corners : List Corner) (old new : List ℕ) : Type 0 where
-  pub each : length new ≡ length old
-  pub noted : (i n : ℕ) → i < length old → IsNoted found corners i (slice_index_or old i n) (slice_index_or new i n)
-
--- such corners of slabs of the broken parts were noted
-pub record AreAllNoted (kind : Kind) (parts : List (List Rect)) (origins : List Origin) (corners : List Corner) (old new : List ℕ) : Type 0 where
-  pub found : List Corner
-  pub members : (c : Corner) → Contains found c ↔ (IsCornerOf kind parts c × IsBroken origins c.number)
-  pub noted : AreNoted found corners old new

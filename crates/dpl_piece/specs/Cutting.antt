@@ -11,8 +11,7 @@ use Rattle.dpl_spec_split.specs.Components.{AreComponents}
 use Rattle.dpl_spec_split.specs.Zones.{AreSomeZones, at}
 use Rattle.dpl_spec_split.specs.Pieces.{ArePieces}
 use Rattle.dpl_slabs.specs.Parts.{AreParts, union_of}
-use Rattle.dpl_piece.specs.declared.piece.Origin.{Origin}
-use Rattle.dpl_piece.specs.Corners.{StandBeside, StandBroken}
+use Rattle.dpl_piece.specs.Corners.{StandBeside}
 
 -- pieces with the features that they lie in and their keys, and zones with their sides
 pub record CutPieces : Type 0 where
@@ -64,13 +63,12 @@ pub record BareCut : Type 0 where
 abbrev pub bare_cut : List (List Rect) → List ℕ → List Zone → BareCut
 bare_cut parts owners zones = record { parts = parts; owners = owners; zones = zones }
 
--- one owner and one origin for each piece, which has squares, and broken pieces on both sides of each zone, which lies within the range of a layer
-pub record AreBare (b : BareCut) (kinds : List Origin) : Type 0 where
+-- one owner for each piece, which has squares, and pieces on both sides of each zone, which lies within the range of a layer
+pub record AreBare (b : BareCut) (beside : List (ℕ × ℕ)) : Type 0 where
   pub parts : AreParts b.parts
   pub some : All (λ part. part ≢ []) b.parts
   pub owners : length b.owners ≡ length b.parts
-  pub origins : length kinds ≡ length b.parts
-  pub stand : All (λ z. (side : ℕ × ℕ) × StandBroken b.parts kinds z side) b.zones
+  pub sides : AllZip (StandBeside b.parts) b.zones beside
   pub zones : All (λ z. IsSolidWithin farthest z.rect) b.zones
 
 -- the pieces and the zones, with the pieces' keys and with the pieces on the two sides of each zone

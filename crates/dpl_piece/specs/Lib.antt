@@ -2,3 +2,4 @@ pub mod Cutting
 pub mod Corners
 pub mod Pieces
 pub mod Wholes
+pub mod Noted

@@ -8,7 +8,6 @@ use Rattle.dpl_spec_split.specs.Squares.{Region, Covers}
 use Rattle.dpl_spec_split.specs.Components.{AreComponents}
 use Rattle.dpl_spec_split.specs.Pieces.{without, IsOwner}
 use Rattle.dpl_slabs.specs.Parts.{AreParts, union_of}
-use Rattle.dpl_piece.specs.declared.piece.Origin.{Origin}
 use Rattle.dpl_piece.specs.declared.piece.Origin.TheVariants.{Whole, Broken}
 use Rattle.dpl_piece.specs.declared.piece.Piece.{Piece}
 use Rattle.dpl_piece.specs.Corners.{row_cmp}
@@ -18,9 +17,6 @@ parts_in pieces = map (λ x. x.part) pieces
 
 abbrev pub owners_in : List Piece → List ℕ
 owners_in pieces = map (λ x. x.owner) pieces
-
-abbrev pub origins_in : List Piece → List Origin
-origins_in pieces = map (λ x. x.origin) pieces
 
 -- a zone of no size
 abbrev pub no_zone : Zone
@@ -50,11 +46,11 @@ RiseByLeast pieces = IsSortedByKey (λ x. least_key x.part) row_cmp pieces
 
 -- feature number k as one piece
 abbrev pub whole_piece : ℕ → List Rect → Piece
-whole_piece k part = record { part = part; owner = k; origin = Whole }
+whole_piece k part = record { part = part; owner = k; origin = Whole; number = 0 }
 
 -- a piece that zones broke off feature number k
 abbrev pub broken_piece : ℕ → List Rect → Piece
-broken_piece k part = record { part = part; owner = k; origin = Broken }
+broken_piece k part = record { part = part; owner = k; origin = Broken; number = 0 }
 
 -- squares of the feature that no hole has
 abbrev pub left_of : List Rect → List Rect → Region

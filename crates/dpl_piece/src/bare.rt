@@ -4,8 +4,8 @@ ghost use Rattle.dpl_piece.specs.Cutting.{AreBare, Completes, bare_cut};
 ghost use Rattle.dpl_piece.specs.Wholes.{LieInSome};
 
 use crate::matched::Pieces;
-use crate::piece::{Origin, Whole};
-use crate::side::sides_of;
+use crate::piece::Whole;
+use crate::rank::as_ids;
 use dpl_base::{Id, Zone};
 use dpl_slabs::Parts;
 use std::alloc::{AllocError, Global};
@@ -16,8 +16,8 @@ use std::marker::Model;
 pub struct BarePieces {
     parts: Parts,
     owner: Vec<Id>,
-    origins: Vec<Origin>,
     zones: Vec<Zone>,
+    sides: Vec<(u32, u32)>,
     wholes: Vec<Whole>,
     count: usize,
 }
@@ -30,28 +30,28 @@ impl Model for BarePieces {
 
     ghost view = { λ b. bare_cut b.parts b.owner.items b.zones.items };
 
-    ghost invariant = { λ b. AreBare (bare_cut b.parts b.owner.items b.zones.items) b.origins.items × LieInSome b.count b.parts b.owner.items b.zones.items b.wholes.items };
+    ghost invariant = { λ b. AreBare (bare_cut b.parts b.owner.items b.zones.items) b.sides.items × LieInSome b.count b.parts b.owner.items b.zones.items b.wholes.items };
 }
 
 impl BarePieces {
-    /// Pieces with their owners and origins, the zones, and those of so many features that were cut.
+    /// Pieces with their owners, the zones with the pieces on their two sides, and those of so many features that were cut.
     pub(crate) fn of(
         parts: Parts,
         owner: Vec<Id>,
-        origins: Vec<Origin>,
         zones: Vec<Zone>,
+        sides: Vec<(u32, u32)>,
         wholes: Vec<Whole>,
         count: usize,
     ) -> BarePieces
-        requires bare { AreBare (bare_cut parts owner.items zones.items) origins.items }
+        requires bare { AreBare (bare_cut parts owner.items zones.items) sides.items }
         requires wholes { LieInSome count parts owner.items zones.items wholes.items }
         ensures { result ≡ bare_cut parts owner.items zones.items }
     {
         BarePieces {
             parts,
             owner,
-            origins,
             zones,
+            sides,
             wholes,
             count,
         }
@@ -79,13 +79,12 @@ impl BarePieces {
         let BarePieces {
             parts,
             owner,
-            origins,
             zones,
+            sides,
             wholes,
             count,
         } = self;
-        let sides = sides_of(alloc, parts.items(), &origins, &zones)?;
-        drop(origins);
+        let sides = as_ids(alloc, &sides)?;
         Ok(Pieces::of(parts, owner, zones, sides, wholes, count))
     }
 }

@@ -1,20 +1,23 @@
 //! Corners of slabs and of zones.
-ghost use Rattle.std.specs.Prelude.{◌≡◌, ◌≤◌, ◌↔◌, length, true, false, IfOk};
-ghost use Rattle.std.specs.List.{AllWithin, Contains};
+ghost use Rattle.std.specs.Prelude.{◌≡◌, ◌^◌, ◌≤◌, ◌<◌, ◌↔◌, ◌++◌, length, map, true, false, OnOk};
+ghost use Rattle.std.specs.List.{All, AllWithin, Contains};
 ghost use Rattle.std.specs.List.Sorted.{IsPermutation, IsPartitionPoint};
 ghost use Rattle.std.specs.Ordering.{is_lt};
 ghost use Rattle.dpl_piece.specs.declared.corner.Corner.{Corner};
-ghost use Rattle.dpl_piece.specs.Corners.{corner_of, is_before, row_cmp, IsBracket, IsZoneCorner, RiseByCorner};
+ghost use Rattle.dpl_piece.specs.Corners.{corner_of, is_before, row_cmp, IsBracket, IsCornerWithin, RiseByCorner};
+ghost use Rattle.dpl_piece.specs.Noted.{IsZoneCorner};
+ghost use Rattle.dpl_piece.specs.Pieces.{parts_in};
 
-use dpl_base::{Id, Rect, Zone};
-use std::alloc::{AllocError, Global};
+use crate::piece::Piece;
+use dpl_base::{Rect, Zone};
+use std::alloc::AllocError;
 
 /// A corner of a slab, with its part's number, or a corner of a zone, with the zone's number.
 #[derive(Clone, Copy, Debug, Drop)]
 pub struct Corner {
     pub x: i32,
     pub y: i32,
-    pub number: Id,
+    pub number: u32,
 }
 
 /// Which corner of a rectangle.
@@ -26,7 +29,7 @@ pub enum Kind {
 }
 
 /// The corner of a rectangle.
-pub fn rect_corner(r: &Rect, number: Id, kind: Kind) -> Corner
+fn rect_corner(r: &Rect, number: u32, kind: Kind) -> Corner
     ensures { result ≡ corner_of kind number r.now }
 {
     let (x, y) = match kind {
@@ -45,18 +48,57 @@ fn sort_by_corner(corners: &mut Vec<Corner>)
     corners.sort_unstable_by_key(|c| (c.y, c.x));
 }
 
-/// One corner of each zone, by row and then by column.
-pub fn zone_corners(alloc: Global, zones: &[Zone], kind: Kind) -> Result<Vec<Corner>, AllocError>
-    ensures each { IfOk result (λ v. length v.items ≡ length zones.now) }
-    ensures rise { IfOk result (λ v. RiseByCorner v.items) }
-    ensures members { IfOk result (λ v. (c : Corner) → Contains v.items c ↔ IsZoneCorner kind zones.now c) }
+/// Makes the list one corner of each of the zones of these numbers, by row and then by column.
+pub fn zone_corners(
+    corners: &mut Vec<Corner>,
+    zones: &[Zone],
+    own: &[u32],
+    kind: Kind,
+) -> Result<(), AllocError>
+    requires { All (λ j. j < length zones.now) own.now }
+    ensures rise { OnOk result (RiseByCorner corners.new.items) }
+    ensures members { OnOk result ((c : Corner) → Contains corners.new.items c ↔ IsZoneCorner kind zones.now own.now c) }
 {
-    let mut found = Vec::with_capacity(alloc, zones.len())?;
-    for i in 0..zones.len() {
-        found.push(rect_corner(&zones[i].rect, i as Id, kind))?;
+    corners.clear();
+    for &number in own {
+        corners.push(rect_corner(&zones[number as usize].rect, number, kind))?;
     }
-    sort_by_corner(&mut found);
-    Ok(found)
+    sort_by_corner(corners);
+    Ok(())
+}
+
+/// Adds the corners of a part's slabs.
+fn add_corners(
+    corners: &mut Vec<Corner>,
+    rects: &[Rect],
+    number: u32,
+    kind: Kind,
+) -> Result<(), AllocError>
+    ensures { OnOk result (corners.new.items ≡ corners.old.items ++ map (corner_of kind number) rects.now) }
+{
+    for r in rects {
+        corners.push(rect_corner(r, number, kind))?;
+    }
+    Ok(())
+}
+
+/// Makes the list the corners of the slabs of all pieces from a number on, by row and then by column.
+pub fn slab_corners(
+    corners: &mut Vec<Corner>,
+    pieces: &[Piece],
+    from: usize,
+    kind: Kind,
+) -> Result<(), AllocError>
+    requires few { length pieces.now < 2 ^ 32 }
+    requires from { from ≤ length pieces.now }
+    ensures { OnOk result ((c : Corner) → Contains corners.new.items c ↔ IsCornerWithin kind (parts_in pieces.now) from (length (parts_in pieces.now)) c) }
+{
+    corners.clear();
+    for k in from..pieces.len() {
+        add_corners(corners, pieces[k].part.rects(), k as u32, kind)?;
+    }
+    sort_by_corner(corners);
+    Ok(())
 }
 
 /// Whether a corner comes before the point, by row and then by column.

@@ -26,14 +26,14 @@ pub fn bare_pieces(
 {
     let count = features.items().len();
     let cut = pieces_of(alloc, features.into_vec(), &zones)?;
-    let CutUp { pieces, wholes } = cut;
-    let Lists {
-        parts,
-        owners,
-        origins,
-    } = lists_of(alloc, pieces)?;
+    let CutUp {
+        pieces,
+        wholes,
+        sides,
+    } = cut;
+    let Lists { parts, owners } = lists_of(alloc, pieces)?;
     let parts = Parts::of(parts);
-    Ok(BarePieces::of(parts, owners, origins, zones, wholes, count))
+    Ok(BarePieces::of(parts, owners, zones, sides, wholes, count))
 }
 
 /// The pieces that the zones of features leave of them, with the pieces on the two sides of each zone. A feature without a zone is moved, as it is. 2^32 zones or more are refused as out of memory, which so many would be.

@@ -8,8 +8,8 @@ mod key;
 mod matched;
 mod noted;
 mod piece;
+mod rank;
 mod rest;
-mod side;
 
 pub use bare::BarePieces;
 pub use cut::{bare_pieces, pieces};

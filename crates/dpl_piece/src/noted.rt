@@ -1,15 +1,41 @@
-//! Parts noted for the zones that have a corner in common with one of their slabs.
-ghost use Rattle.std.specs.Prelude.{◌≡◌, ◌<◌, ◌∷◌, [], map, length};
+//! Pieces noted for the zones that they stand beside.
+ghost use Rattle.std.specs.Prelude.{◌≡◌, ◌^◌, ◌<◌, ◌≤◌, ◌∷◌, [], length, IfOk, OnOk};
 ghost use Rattle.std.specs.List.{All};
-ghost use Rattle.dpl_piece.specs.Corners.{corner_of, AreNoted, AreAllNoted, RiseByCorner};
+ghost use Rattle.dpl_piece.specs.Corners.{RiseByCorner};
+ghost use Rattle.dpl_piece.specs.Noted.{AreNoted, AreSidesNoted, StandsAfterFrom, StandsBeforeFrom};
+ghost use Rattle.dpl_piece.specs.Pieces.{parts_in};
 
-use crate::corner::{Corner, Kind, count_before, rect_corner};
-use crate::piece::Origin;
-use dpl_base::{Id, Rect};
-use dpl_slabs::Slabs;
+use crate::corner::{Corner, Kind, count_before, slab_corners, zone_corners};
+use crate::piece::Piece;
+use dpl_base::{Id, Zone, short_id};
+use std::alloc::{AllocError, Global};
+
+/// The pieces on the two sides of each zone, as far as they are noted, and two lists of corners that are made for one feature after the other.
+#[derive(Drop)]
+pub struct Noted {
+    pub firsts: Vec<u32>,
+    pub seconds: Vec<u32>,
+    slabs: Vec<Corner>,
+    corners: Vec<Corner>,
+}
+
+impl Noted {
+    /// Nothing noted of so many zones.
+    pub fn new(alloc: Global, count: usize) -> Result<Noted, AllocError>
+        ensures firsts { IfOk result (λ n. length n.firsts.items ≡ count) }
+        ensures seconds { IfOk result (λ n. length n.seconds.items ≡ count) }
+    {
+        Ok(Noted {
+            firsts: vec![in alloc; 0; count]?,
+            seconds: vec![in alloc; 0; count]?,
+            slabs: Vec::new(alloc),
+            corners: Vec::new(alloc),
+        })
+    }
+}
 
 /// Notes the number of a slab's corner for each zone that has a corner there. The corners are sought from a place on; returns where the first of them is, or would be.
-fn note(noted: &mut [Id], corners: &[Corner], corner: Corner, place: usize) -> usize
+fn note(noted: &mut [u32], corners: &[Corner], corner: Corner, place: usize) -> usize
     requires numbers { All (λ c. c.number < length noted.old) corners.now }
     requires rise { RiseByCorner corners.now }
     ensures { AreNoted (corner ∷ []) corners.now noted.old noted.new }
@@ -25,43 +51,83 @@ fn note(noted: &mut [Id], corners: &[Corner], corner: Corner, place: usize) -> u
     first
 }
 
-/// Notes a part for the zones that have a corner at its slabs' corners of the kind, each of which is sought where the one before it was; returns where the last one was.
-fn note_part(
-    noted: &mut [Id],
-    corners: &[Corner],
-    rects: &[Rect],
-    part: Id,
-    kind: Kind,
-    place: usize,
-) -> usize
+/// Notes the numbers of slabs' corners for the zones that have a corner there. Each is sought where the one before it was, so that few steps are taken where these are sorted too.
+fn note_all(noted: &mut [u32], corners: &[Corner], slabs: &[Corner])
     requires numbers { All (λ c. c.number < length noted.old) corners.now }
     requires rise { RiseByCorner corners.now }
-    ensures { AreNoted (map (corner_of kind part) rects.now) corners.now noted.old noted.new }
-{
-    let mut place = place;
-    for r in rects {
-        place = note(noted, corners, rect_corner(r, part, kind), place);
-    }
-    place
-}
-
-/// Notes each part that is broken for the zones that have one of the corners at its slabs' corners of the kind.
-pub fn note_all(
-    noted: &mut [Id],
-    corners: &[Corner],
-    parts: &[Slabs],
-    origins: &[Origin],
-    kind: Kind,
-)
-    requires numbers { All (λ c. c.number < length noted.old) corners.now }
-    requires rise { RiseByCorner corners.now }
-    requires origins { length origins.now ≡ length parts.now }
-    ensures { AreAllNoted kind parts.now origins.now corners.now noted.old noted.new }
+    ensures { AreNoted slabs.now corners.now noted.old noted.new }
 {
     let mut place = 0;
-    for k in 0..parts.len() {
-        if let Origin::Broken = origins[k] {
-            place = note_part(noted, corners, parts[k].rects(), k as Id, kind, place);
-        }
+    for &corner in slabs {
+        place = note(noted, corners, corner, place);
     }
+}
+
+/// Notes for each of these zones of a feature the piece to its left, or below it. The feature's pieces are those from a number on.
+fn note_firsts(
+    noted: &mut Noted,
+    zones: &[Zone],
+    own: &[u32],
+    pieces: &[Piece],
+    from: usize,
+) -> Result<(), AllocError>
+    requires known { All (λ j. j < length zones.now) own.now }
+    requires each { length noted.old.firsts.items ≡ length zones.now }
+    requires few { length pieces.now < 2 ^ 32 }
+    requires from { from ≤ length pieces.now }
+    ensures firsts { OnOk result (AreSidesNoted (StandsBeforeFrom (parts_in pieces.now) from) zones.now own.now noted.old.firsts.items noted.new.firsts.items) }
+    ensures seconds { OnOk result (noted.new.seconds.items ≡ noted.old.seconds.items) }
+{
+    zone_corners(&mut noted.corners, zones, own, Kind::LowerLeft)?;
+    slab_corners(&mut noted.slabs, pieces, from, Kind::LowerRight)?;
+    note_all(&mut noted.firsts, &noted.corners, &noted.slabs);
+    slab_corners(&mut noted.slabs, pieces, from, Kind::UpperLeft)?;
+    note_all(&mut noted.firsts, &noted.corners, &noted.slabs);
+    Ok(())
+}
+
+/// Notes for each of these zones of a feature the piece to its right, or above it. The feature's pieces are those from a number on.
+fn note_seconds(
+    noted: &mut Noted,
+    zones: &[Zone],
+    own: &[u32],
+    pieces: &[Piece],
+    from: usize,
+) -> Result<(), AllocError>
+    requires known { All (λ j. j < length zones.now) own.now }
+    requires each { length noted.old.seconds.items ≡ length zones.now }
+    requires few { length pieces.now < 2 ^ 32 }
+    requires from { from ≤ length pieces.now }
+    ensures firsts { OnOk result (noted.new.firsts.items ≡ noted.old.firsts.items) }
+    ensures seconds { OnOk result (AreSidesNoted (StandsAfterFrom (parts_in pieces.now) from) zones.now own.now noted.old.seconds.items noted.new.seconds.items) }
+{
+    slab_corners(&mut noted.slabs, pieces, from, Kind::LowerLeft)?;
+    zone_corners(&mut noted.corners, zones, own, Kind::LowerRight)?;
+    note_all(&mut noted.seconds, &noted.corners, &noted.slabs);
+    zone_corners(&mut noted.corners, zones, own, Kind::UpperLeft)?;
+    note_all(&mut noted.seconds, &noted.corners, &noted.slabs);
+    Ok(())
+}
+
+/// Notes the pieces on the two sides of each of these zones of a feature, whose pieces are those from a number on. 2^32 pieces or more are refused as out of memory, which so many would be.
+pub fn note_sides(
+    noted: &mut Noted,
+    zones: &[Zone],
+    own: &[u32],
+    pieces: &[Piece],
+    from: usize,
+) -> Result<(), AllocError>
+    requires known { All (λ j. j < length zones.now) own.now }
+    requires firsts { length noted.old.firsts.items ≡ length zones.now }
+    requires seconds { length noted.old.seconds.items ≡ length zones.now }
+    requires from { from ≤ length pieces.now }
+    ensures firsts { OnOk result (AreSidesNoted (StandsBeforeFrom (parts_in pieces.now) from) zones.now own.now noted.old.firsts.items noted.new.firsts.items) }
+    ensures seconds { OnOk result (AreSidesNoted (StandsAfterFrom (parts_in pieces.now) from) zones.now own.now noted.old.seconds.items noted.new.seconds.items) }
+{
+    if own.is_empty() {
+        return Ok(());
+    }
+    short_id(pieces.len() as Id)?;
+    note_firsts(noted, zones, own, pieces, from)?;
+    note_seconds(noted, zones, own, pieces, from)
 }

@@ -1,6 +1,6 @@
 //! Pieces with their features.
 ghost use Rattle.std.specs.Prelude.{◌≡◌, IfOk};
-ghost use Rattle.dpl_piece.specs.Pieces.{parts_in, owners_in, origins_in};
+ghost use Rattle.dpl_piece.specs.Pieces.{parts_in, owners_in};
 
 use dpl_base::{Id, give_back};
 use dpl_slabs::Slabs;
@@ -13,12 +13,13 @@ pub enum Origin {
     Broken,
 }
 
-/// A piece, and the number of the feature that it lies in.
+/// A piece, the number of the feature that it lies in, and its place before pieces are sorted, once it is known.
 #[derive(Drop)]
 pub struct Piece {
     pub part: Slabs,
     pub owner: Id,
     pub origin: Origin,
+    pub number: u32,
 }
 
 /// A feature that zones cut, as it was before, and its number.
@@ -28,46 +29,34 @@ pub struct Whole {
     pub set: Slabs,
 }
 
-/// Pieces, and the features that were cut.
+/// Pieces, the features that were cut, and the pieces on the two sides of each zone.
 #[derive(Drop)]
 pub struct CutUp {
     pub pieces: Vec<Piece>,
     pub wholes: Vec<Whole>,
+    pub sides: Vec<(u32, u32)>,
 }
 
-/// The squares, the features and the origins of pieces, a list of each.
+/// The squares and the features of pieces, a list of each.
 #[derive(Drop)]
 pub struct Lists {
     pub parts: Vec<Slabs>,
     pub owners: Vec<Id>,
-    pub origins: Vec<Origin>,
 }
 
-/// The squares, the features and the origins of the pieces. The pieces are reversed and taken from the end, so that the room of their list is given back on the way.
+/// The squares and the features of the pieces. The pieces are reversed and taken from the end, so that the room of their list is given back on the way.
 pub fn lists_of(alloc: Global, mut pieces: Vec<Piece>) -> Result<Lists, AllocError>
     ensures parts { IfOk result (λ l. l.parts.items ≡ parts_in pieces.items) }
     ensures owners { IfOk result (λ l. l.owners.items ≡ owners_in pieces.items) }
-    ensures origins { IfOk result (λ l. l.origins.items ≡ origins_in pieces.items) }
 {
     let count = pieces.len();
     let mut parts = Vec::with_capacity(alloc, count)?;
     let mut owners = Vec::with_capacity(alloc, count)?;
-    let mut origins = Vec::with_capacity(alloc, count)?;
     pieces.reverse();
     while let Some(piece) = pieces.pop() {
-        let Piece {
-            part,
-            owner,
-            origin,
-        } = piece;
-        parts.push(part)?;
-        owners.push(owner)?;
-        origins.push(origin)?;
+        parts.push(piece.part)?;
+        owners.push(piece.owner)?;
         give_back(&mut pieces);
     }
-    Ok(Lists {
-        parts,
-        owners,
-        origins,
-    })
+    Ok(Lists { parts, owners })
 }

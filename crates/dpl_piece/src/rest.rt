@@ -1,13 +1,17 @@
 //! What zones leave of features.
 ghost use Rattle.std.specs.Prelude.{◌≡◌, ◌≢◌, ℕ, ◌<◌, ◌≤◌, [], ◌∷◌, ◌++◌, IfOk, OnOk, length, map, take, slice_index_or};
-ghost use Rattle.std.specs.List.{All, range_with_len};
+ghost use Rattle.std.specs.List.{All, AllZip, range_with_len};
 ghost use Rattle.std.specs.List.Sorted.{IsNonDecreasingBy, IsPermutation};
 ghost use Rattle.dpl_spec_split.specs.Loops.{farthest, AreRectsWithin};
 ghost use Rattle.dpl_piece.specs.Cutting.{AreFeatures, AreTheirZones};
-ghost use Rattle.dpl_piece.specs.Pieces.{broken_piece, least_key, feature_at, rect_at, AddsBroken, AddsPieces, AreCut, AreNumbersBelow, RiseByLeast};
+ghost use Rattle.dpl_piece.specs.Corners.{StandBeside};
+ghost use Rattle.dpl_piece.specs.Noted.{IsSortedWith};
+ghost use Rattle.dpl_piece.specs.Pieces.{broken_piece, least_key, feature_at, rect_at, parts_in, AddsBroken, AddsPieces, AreCut, AreNumbersBelow, RiseByLeast};
 ghost use Rattle.dpl_piece.specs.Wholes.{whole_of, AreWholes, KeepsWhole};
 
+use crate::noted::{Noted, note_sides};
 use crate::piece::{CutUp, Origin, Piece, Whole};
+use crate::rank::{number_all, ranked, ranks_of};
 use dpl_base::{Id, Rect, Zone, give_back, short_id};
 use dpl_slabs::Slabs;
 use std::alloc::{AllocError, Global};
@@ -76,6 +80,7 @@ fn add_parts(pieces: &mut Vec<Piece>, mut parts: Vec<Slabs>, number: Id) -> Resu
             part,
             owner: number,
             origin: Origin::Broken,
+            number: 0,
         })?;
         give_back(&mut parts);
     }
@@ -125,6 +130,7 @@ fn add_pieces(
             part: feature,
             owner: number,
             origin: Origin::Whole,
+            number: 0,
         })?;
         return Ok(());
     }
@@ -150,27 +156,53 @@ fn sort_by_least(pieces: &mut Vec<Piece>)
     pieces.sort_unstable_by_key(|piece| least_key(&piece.part));
 }
 
-/// The components of what the zones leave of the features, each with the feature that it lies in. A feature without a zone is moved, as it is; any other is cut by its own zones, feature by feature.
+/// Sorts pieces by their least squares. The numbers that were noted are those of pieces by place; returns their places once they are sorted.
+fn sort_with_sides(
+    alloc: Global,
+    pieces: &mut Vec<Piece>,
+    noted: Noted,
+) -> Result<Vec<(u32, u32)>, AllocError>
+    requires each { length noted.seconds.items ≡ length noted.firsts.items }
+    requires firsts { All (λ k. k < length pieces.old.items) noted.firsts.items }
+    requires seconds { All (λ k. k < length pieces.old.items) noted.seconds.items }
+    ensures { IfOk result (λ v. IsSortedWith pieces.old.items pieces.new.items noted.firsts.items noted.seconds.items v.items) }
+{
+    short_id(pieces.len() as Id)?;
+    number_all(pieces);
+    sort_by_least(pieces);
+    let ranks = ranks_of(alloc, pieces)?;
+    ranked(alloc, &ranks, &noted.firsts, &noted.seconds)
+}
+
+/// The components of what the zones leave of the features, each with the feature that it lies in, and those on the two sides of each zone. A feature without a zone is moved, as it is; any other is cut by its own zones, feature by feature.
 pub fn pieces_of(alloc: Global, features: Vec<Slabs>, zones: &[Zone]) -> Result<CutUp, AllocError>
     requires features { AreFeatures features.items }
     requires zones { AreTheirZones features.items zones.now }
     requires within { All (AreRectsWithin farthest) features.items }
     ensures cut { IfOk result (λ v. AreCut features.items zones.now v.pieces.items) }
     ensures wholes { IfOk result (λ v. AreWholes features.items zones.now v.wholes.items) }
+    ensures sides { IfOk result (λ v. AllZip (StandBeside (parts_in v.pieces.items)) zones.now v.sides.items) }
 {
     let sorted = by_feature(alloc, zones)?;
     let count = features.len().saturating_add(zones.len());
     let mut pieces = Vec::with_capacity(alloc, count)?;
     let mut wholes = Vec::new(alloc);
+    let mut noted = Noted::new(alloc, zones.len())?;
     let mut rest = sorted.as_slice();
     let mut number = 0;
     for feature in features {
         let (own, others) = rest.split_at(own_count(zones, rest, number));
         let holes = holes_at(alloc, zones, own)?;
+        let from = pieces.len();
         add_pieces(alloc, &mut pieces, &mut wholes, feature, holes, number)?;
+        note_sides(&mut noted, zones, own, &pieces, from)?;
         rest = others;
         number += 1;
     }
-    sort_by_least(&mut pieces);
-    Ok(CutUp { pieces, wholes })
+    let sides = sort_with_sides(alloc, &mut pieces, noted)?;
+    Ok(CutUp {
+        pieces,
+        wholes,
+        sides,
+    })
 }

@@ -31,6 +31,23 @@ const RING: [Corners; 4] = [
     (0, 60, 100, 100),
 ];
 
+/// A square with a hole whose upper edge has a step, so that only what is below the hole is a stretch.
+const STEPPED_RING: [Corners; 5] = [
+    (0, 0, 100, 40),
+    (0, 40, 40, 46),
+    (60, 40, 100, 50),
+    (0, 46, 50, 50),
+    (0, 50, 100, 100),
+];
+
+/// A longer bar, and three that stand over its ends and its middle.
+const THREE_OVER: [Corners; 4] = [
+    (0, 0, 266, 20),
+    (0, 40, 50, 60),
+    (108, 40, 158, 60),
+    (216, 40, 266, 60),
+];
+
 /// The pieces of a layer by a rule of 30 and an overlap of 10.
 fn cut(alloc: Global, layer: &[Corners]) -> Result<Pieces, AllocError> {
     let layer = set_of(alloc, layer)?;
@@ -74,7 +91,7 @@ struct Layer {
     sides: &'static [(Id, Id)],
 }
 
-const LAYERS: [Layer; 2] = [
+const LAYERS: [Layer; 4] = [
     Layer {
         rects: &BARS,
         zones: &[(74, 0, 84, 20)],
@@ -93,6 +110,22 @@ const LAYERS: [Layer; 2] = [
         keys: &[(0, 0), (55, 0), (0, 55), (60, 55)],
         owner: &[0, 0, 0, 0],
         sides: &[(0, 1), (0, 2), (1, 3), (2, 3)],
+    },
+    // two zones share a piece
+    Layer {
+        rects: &THREE_OVER,
+        zones: &[(74, 0, 84, 20), (182, 0, 192, 20)],
+        keys: &[(0, 0), (84, 0), (192, 0), (0, 40), (108, 40), (216, 40)],
+        owner: &[0, 0, 0, 1, 2, 3],
+        sides: &[(0, 1), (1, 2)],
+    },
+    // both sides of a zone are one piece
+    Layer {
+        rects: &STEPPED_RING,
+        zones: &[(45, 0, 55, 40)],
+        keys: &[(0, 0)],
+        owner: &[0],
+        sides: &[(0, 0)],
     },
 ];
 

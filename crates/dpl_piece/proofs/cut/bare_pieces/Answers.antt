@@ -1,5 +1,7 @@
-use Rattle.dpl_piece.specs.Pieces.{AreCut}
-use Rattle.dpl_piece.proofs.Cuts.{bare, bare-pieces, stands}
+use Rattle.dpl_piece.specs.Corners.{StandBeside}
+use Rattle.dpl_piece.specs.Pieces.{parts_in, AreCut}
+use Rattle.dpl_piece.proofs.Cuts.{bare, bare-pieces}
+use Rattle.dpl_piece.proofs.CornerLaws.{zip-some}
 use Rattle.dpl_piece.specs.Wholes.{AreWholes}
 use Rattle.dpl_piece.proofs.WholeLaws.{lie-in}
 use Rattle.dpl_piece.proofs.cut.bare_pieces.Goals as goal
@@ -15,8 +17,9 @@ of-parts-requires c =
 pub of-requires-clause-bare : goal.of-requires-clause-bare
 of-requires-clause-bare c =
     let cut : AreCut c.args.features c.args.zones.items c.in_ok-cut.cut.pieces.items = rw (c.into_vec.ensures.value, c.deref.ensures.value) at c.in_ok-cut.ensures.cut in
-    rw (c.of-parts.ensures, c.in_ok-parts.ensures.parts, c.in_ok-parts.ensures.owners, c.in_ok-parts.ensures.origins)
-    (bare c.args.features c.args.zones.items c.requires.features c.requires.zones c.in_ok-cut.cut.pieces.items cut c.into_vec.ensures.parts.within)
+    let sides = rw c.deref.ensures.value at c.in_ok-cut.ensures.sides in
+    rw (c.of-parts.ensures, c.in_ok-parts.ensures.parts, c.in_ok-parts.ensures.owners)
+    (bare c.args.features c.args.zones.items c.requires.features c.requires.zones c.in_ok-cut.cut.pieces.items cut c.into_vec.ensures.parts.within _ sides)
 
 pub of-requires-clause-wholes : goal.of-requires-clause-wholes
 of-requires-clause-wholes c =
@@ -33,8 +36,5 @@ returns-clause-pieces c =
 
 pub returns-clause-stand : goal.returns-clause-stand
 returns-clause-stand c =
-    let cut : AreCut c.args.features c.args.zones.items c.in_ok-cut.cut.pieces.items = rw (c.into_vec.ensures.value, c.deref.ensures.value) at c.in_ok-cut.ensures.cut in
-    rw (c.of.ensures, c.of-parts.ensures, c.in_ok-parts.ensures.parts)
-    (λ k z k_in.
-    let (side, broken) = stands c.args.features c.args.zones.items c.requires.features c.requires.zones c.in_ok-cut.cut.pieces.items cut k z k_in in
-    (side, broken.0))
+    let sides = rw c.deref.ensures.value at c.in_ok-cut.ensures.sides in
+    rw (c.of.ensures, c.of-parts.ensures, c.in_ok-parts.ensures.parts) (zip-some (StandBeside (parts_in c.in_ok-cut.cut.pieces.items)) c.args.zones.items _ sides)

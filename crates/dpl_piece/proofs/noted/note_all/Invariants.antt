@@ -1,5 +1,6 @@
-use Rattle.dpl_piece.proofs.Noting.{AreFirstNoted}
+use Rattle.std.proofs.Common.{take}
+use Rattle.dpl_piece.specs.Noted.{AreNoted}
 use Rattle.dpl_piece.proofs.noted.note_all.Given as goal
 
-abbrev pub invariant-loop-k : goal.invariant-loop-k
-invariant-loop-k l = AreFirstNoted l.kind l.parts l.origins l.corners l.k l.initial.noted l.noted
+abbrev pub invariant-loop-corner : goal.invariant-loop-corner
+invariant-loop-corner l = AreNoted (take l.corner-index l.slabs) l.corners l.initial.noted l.noted

@@ -5,15 +5,14 @@ use Rattle.dpl_piece.proofs.piece.lists_of.Goals as goal
 
 pub loop-piece-init : goal.loop-piece-init
 loop-piece-init c =
-    rw (c.in_ok-parts.ensures.items, c.in_ok-owners.ensures.items, c.in_ok-origins.ensures.items, c.reverse.ensures.items, reverse-reverse c.args.pieces.items)
-    (record { parts = refl; owners = refl; origins = refl })
+    rw (c.in_ok-parts.ensures.items, c.in_ok-owners.ensures.items, c.reverse.ensures.items, reverse-reverse c.args.pieces.items)
+    (record { parts = refl; owners = refl })
 
 pub loop-piece-preserved : goal.loop-piece-preserved
 loop-piece-preserved c =
-    rw (c.give_back.ensures, c.in_ok-push.ensures.items, c.in_ok-push-2.ensures.items, c.in_ok-push-3.ensures.items) (record {
+    rw (c.give_back.ensures, c.in_ok-push.ensures.items, c.in_ok-push-2.ensures.items) (record {
       parts = taken-next (λ x. x.part) _ _ _ _ c.in-Some.piece c.loop-piece.invariant.parts c.in-Some.ensures.items;
       owners = taken-next (λ x. x.owner) _ _ _ _ c.in-Some.piece c.loop-piece.invariant.owners c.in-Some.ensures.items;
-      origins = taken-next (λ x. x.origin) _ _ _ _ c.in-Some.piece c.loop-piece.invariant.origins c.in-Some.ensures.items;
     })
 
 pub returns-clause-parts : goal.returns-clause-parts
@@ -21,8 +20,4 @@ returns-clause-parts c = taken-all (λ x. x.part) _ _ c.loop-piece.pieces.items 
 
 pub returns-clause-owners : goal.returns-clause-owners
 returns-clause-owners c = taken-all (λ x. x.owner) _ _ c.loop-piece.pieces.items c.loop-piece.invariant.owners
-    (omega (arith, c.loop-piece.pieces.ok.0, c.in_default.ensures.cases.0))
-
-pub returns-clause-origins : goal.returns-clause-origins
-returns-clause-origins c = taken-all (λ x. x.origin) _ _ c.loop-piece.pieces.items c.loop-piece.invariant.origins
     (omega (arith, c.loop-piece.pieces.ok.0, c.in_default.ensures.cases.0))

@@ -1,11 +1,16 @@
-use Rattle.std.proofs.Common.{◌≡◌, length, ap, arith, rules}
+use Rattle.std.proofs.Common.{◌≡◌, ℕ, ◌<◌, [], length, take, ap, arith, rules}
+use Rattle.std.specs.List.{All}
 use Rattle.std.specs.Vec.Iter.{into_iter_items}
-use Rattle.std.proofs.lemmas.List.{length-append}
+use Rattle.std.proofs.lemmas.List.{length-append, length-map}
+use Rattle.dpl_spec_split.specs.declared.Zone.{Zone}
+use Rattle.dpl_piece.specs.declared.piece.Piece.{Piece}
 use Rattle.dpl_piece.proofs.Broken.{AreHolesOf}
 use Rattle.dpl_piece.proofs.Broken.{pieces-none, pieces-next}
-use Rattle.dpl_piece.proofs.Cuts.{comps, own-within}
+use Rattle.dpl_piece.proofs.Cuts.{comps, own-within, zones-below}
+use Rattle.dpl_piece.proofs.Ranks.{firsts-known, numbered-below, seconds-known, sorted-sides}
+use Rattle.dpl_piece.proofs.Sides.{adds-longer, sided-next, sided-none}
 use Rattle.dpl_piece.proofs.Sorted.{are-cut}
-use Rattle.dpl_piece.proofs.Turns.{zones-from, own-known, own-holes, zones-after, turn}
+use Rattle.dpl_piece.proofs.Turns.{zones-from, own-feature, own-known, own-holes, own-there, zones-after, turn}
 use Rattle.dpl_piece.proofs.WholeLaws.{wholes-next, wholes-none}
 use Rattle.dpl_piece.proofs.rest.pieces_of.Goals as goal
 
@@ -17,6 +22,9 @@ loop-feature-init c =
       count = search rules;
       zones = rw c.as_slice-rest.ensures.value (zones-from c.args.zones.now c.in_ok-sorted.sorted.items c.in_ok-sorted.ensures.members c.in_ok-sorted.ensures.rise);
       pieces = rw c.in_ok-pieces.ensures.items (pieces-none c.args.features.items c.args.zones.now);
+      sides = rw c.in_ok-pieces.ensures.items
+          (sided-none c.args.zones.now [] c.in_ok-noted.noted.firsts.items c.in_ok-noted.noted.seconds.items c.in_ok-noted.ensures.firsts
+          c.in_ok-noted.ensures.seconds);
       wholes = rw c.new-wholes.ensures.items (wholes-none c.args.features.items c.args.zones.now);
     }
 
@@ -33,6 +41,17 @@ add_pieces-requires c =
     c.own_count.ensures.next) in
     own-within c.args.features.items c.args.zones.now c.requires.features c.requires.zones c.requires.within at.number c.in_ok-holes.holes.items own
 
+pub note_sides-requires-clause-known : goal.note_sides-requires-clause-known
+note_sides-requires-clause-known c =
+    let at = c.loop-feature in
+    rw c.split_at.ensures.front (own-known c.args.zones.now at.rest.now at.number c.own_count.result at.invariant.zones c.own_count.ensures.own c.own_count.ensures.next)
+
+pub note_sides-requires-clause-from : goal.note_sides-requires-clause-from
+note_sides-requires-clause-from c =
+    let at = c.loop-feature in
+    let long = adds-longer c.in-Some.feature c.in_ok-holes.holes.items at.number at.pieces.items _ c.in_ok-add_pieces.ensures.adds in
+    rw c.deref.ensures.value (omega (arith, long, at.pieces.ok.0))
+
 pub loop-feature-preserved : goal.loop-feature-preserved
 loop-feature-preserved c =
     let at = c.loop-feature in
@@ -42,23 +61,57 @@ loop-feature-preserved c =
     let left = at.invariant.left in
     let gone = steps.1 in
     let short = ap length steps.0 in
+    let mid : ℕ = c.own_count.result in
     let own : AreHolesOf c.args.zones.now at.number c.in_ok-holes.holes.items = rw (c.in_ok-holes.ensures, c.split_at.ensures.front)
-    (own-holes c.args.zones.now at.rest.now at.number c.own_count.result at.invariant.zones c.own_count.ensures.own
+    (own-holes c.args.zones.now at.rest.now at.number mid at.invariant.zones c.own_count.ensures.own
     c.own_count.ensures.next) in
+    let adds = rw t.2 at c.in_ok-add_pieces.ensures.adds in
+    let all = comps c.args.features.items c.args.zones.now c.requires.features c.requires.zones in
+    let from = length-map at.pieces.items (λ x. let u : Piece = x in u.part) in
     record {
       all = t.0;
       left = omega (arith, left, gone, short);
       count = t.3;
       zones = rw c.split_at.ensures.back
-          (zones-after c.args.zones.now at.rest.now at.number c.own_count.result at.invariant.zones c.own_count.ensures.own
+          (zones-after c.args.zones.now at.rest.now at.number mid at.invariant.zones c.own_count.ensures.own
           c.own_count.ensures.next);
-      pieces = pieces-next spacing overlap c.args.features.items c.args.zones.now
-          (comps c.args.features.items c.args.zones.now c.requires.features c.requires.zones) zs at.number t.1 c.in_ok-holes.holes.items own
+      pieces = pieces-next spacing overlap c.args.features.items c.args.zones.now all zs at.number t.1 c.in_ok-holes.holes.items own
           at.pieces.items _ at.invariant.pieces
-          (c.requires.within at.number _ t.1) (rw t.2 at c.in_ok-add_pieces.ensures.adds);
+          (c.requires.within at.number _ t.1) adds;
+      sides = sided-next spacing overlap c.args.features.items c.args.zones.now some all zs at.number t.1 (take mid at.rest.now)
+          (own-there c.args.zones.now at.rest.now at.number mid at.invariant.zones c.own_count.ensures.own c.own_count.ensures.next)
+          (own-feature c.args.zones.now at.rest.now at.number mid at.invariant.zones c.own_count.ensures.own c.own_count.ensures.next)
+          c.in_ok-holes.holes.items own at.pieces.items _ c.len-from.result at.noted.firsts.items at.noted.seconds.items _ _
+          (omega (arith, from, at.pieces.ok.0, c.len-from.ensures)) adds at.invariant.sides
+          (rw (c.split_at.ensures.front, c.deref.ensures.value) at c.in_ok-note_sides.ensures.firsts)
+          (rw (c.split_at.ensures.front, c.deref.ensures.value) at c.in_ok-note_sides.ensures.seconds);
       wholes = wholes-next c.args.features.items c.args.zones.now at.number c.in_ok-holes.holes.items own at.wholes.items _
           at.invariant.wholes (rw t.2 at c.in_ok-add_pieces.ensures.keeps);
     }
+
+pub sort_with_sides-requires-clause-firsts : goal.sort_with_sides-requires-clause-firsts
+sort_with_sides-requires-clause-firsts c =
+    let at = c.loop-feature in
+    let left = at.invariant.left in
+    let none = c.in-None.ensures.steps.0 in
+    let count = at.invariant.count in
+    let parts = length-append at.yielded (into_iter_items at.feature-iterator) in
+    let whole = ap length at.invariant.all in
+    let all : at.number ≡ length c.args.features.items = omega (arith, left, none, count, parts, whole) in
+    let below : All (λ z. let u : Zone = z in u.feature < at.number) c.args.zones.now = rw all (zones-below c.args.features.items c.args.zones.now c.requires.zones) in
+    firsts-known c.args.zones.now at.number at.pieces.items at.noted.firsts.items at.noted.seconds.items at.invariant.sides below
+
+pub sort_with_sides-requires-clause-seconds : goal.sort_with_sides-requires-clause-seconds
+sort_with_sides-requires-clause-seconds c =
+    let at = c.loop-feature in
+    let left = at.invariant.left in
+    let none = c.in-None.ensures.steps.0 in
+    let count = at.invariant.count in
+    let parts = length-append at.yielded (into_iter_items at.feature-iterator) in
+    let whole = ap length at.invariant.all in
+    let all : at.number ≡ length c.args.features.items = omega (arith, left, none, count, parts, whole) in
+    let below : All (λ z. let u : Zone = z in u.feature < at.number) c.args.zones.now = rw all (zones-below c.args.features.items c.args.zones.now c.requires.zones) in
+    seconds-known c.args.zones.now at.number at.pieces.items at.noted.firsts.items at.noted.seconds.items at.invariant.sides below
 
 pub returns : goal.returns
 returns c =
@@ -69,7 +122,12 @@ returns c =
     let parts = length-append at.yielded (into_iter_items at.feature-iterator) in
     let whole = ap length at.invariant.all in
     let all : at.number ≡ length c.args.features.items = omega (arith, left, none, count, parts, whole) in
+    let below : All (λ z. let u : Zone = z in u.feature < at.number) c.args.zones.now = rw all (zones-below c.args.features.items c.args.zones.now c.requires.zones) in
+    let sorted = c.in_ok-sides.ensures in
     record {
-      cut = are-cut c.args.features.items c.args.zones.now at.pieces.items _ (rw all at at.invariant.pieces) c.sort_by_least.ensures.same c.sort_by_least.ensures.rise;
+      cut = are-cut c.args.features.items c.args.zones.now sorted.numbered _
+          (numbered-below c.args.features.items c.args.zones.now (length c.args.features.items) at.pieces.items sorted.numbered sorted.are (rw all at at.invariant.pieces))
+          sorted.same sorted.rise;
       wholes = rw all at at.invariant.wholes;
+      sides = sorted-sides c.args.zones.now at.number at.pieces.items _ at.noted.firsts.items at.noted.seconds.items _ at.invariant.sides below sorted;
     }
