@@ -1,20 +1,13 @@
--- The rectangles of a tree.
-use Rattle.std.proofs.Common.{◌≡◌, ◌≢◌, ℕ, zero, suc, ◌<◌, ◌⊎◌, inl, inr, Bool, true, false, not, cond, ◌==◌, List, [], ◌∷◌, length, get_or}
+-- The rectangles of items.
+use Rattle.std.proofs.Common.{◌≡◌, ◌≢◌, ℕ, zero, suc, ◌⊎◌, inl, inr, Bool, true, false, not, cond, ◌==◌, List, [], ◌∷◌, get_or}
 use Rattle.std.proofs.Common.{sym, refl, ap, ◌∙◌, subst, arith, rules}
-use Rattle.std.specs.Prelude.{pos}
 use Rattle.std.specs.List.{Contains}
 use Rattle.std.proofs.lemmas.List.{get_or_default}
 use Rattle.dpl_spec_split.specs.declared.Rect.{Rect}
-use Rattle.dpl_spec_split.specs.Loops.{farthest}
-use Rattle.dpl_spec_split.specs.Squares.{IsSolidWithin}
-use Rattle.dpl_tree.specs.declared.items.Item.{Item}
-use Rattle.dpl_tree.specs.Trees.{HasItem}
-use Rattle.dpl_zone.specs.Items.{AreItemsWithin, others_in, own_in}
+use Rattle.dpl_join.specs.declared.items.Item.{Item}
+use Rattle.dpl_zone.specs.Items.{others_in, own_in}
+use Rattle.dpl_zone.specs.Owned.{AreOwnedWithin, IsOwned}
 use Rattle.dpl_zone.specs.Rows.{AreWithin}
-use Rattle.dpl_tree.proofs.ItemLaws.{item-at}
-
-abbrev pub zero_item : Item
-zero_item = record { rect = record { x0 = pos 0; y0 = pos 0; x1 = pos 0; y1 = pos 0 }; owner = 0 }
 
 is-other : (own : ℕ) (item : Item) → not (item.owner == own) ≡ true → item.owner ≢ own
 is-other own item h = search rules
@@ -28,13 +21,13 @@ is-own own item h = search rules
 own-is : (own : ℕ) (item : Item) → item.owner ≡ own → (item.owner == own) ≡ true
 own-is own item h = search rules
 
-item-first : (item : Item) (items : List Item) (r : Rect) (k : ℕ) → item.rect ≡ r → item.owner ≡ k → HasItem (item ∷ items) r k
+item-first : (item : Item) (items : List Item) (r : Rect) (k : ℕ) → item.rect ≡ r → item.owner ≡ k → IsOwned (item ∷ items) r k
 item-first item items r k e f = (item, (0, omega arith, refl), e, f)
 
-item-later : (item : Item) (items : List Item) (r : Rect) (k : ℕ) → HasItem items r k → HasItem (item ∷ items) r k
+item-later : (item : Item) (items : List Item) (r : Rect) (k : ℕ) → IsOwned items r k → IsOwned (item ∷ items) r k
 item-later item items r k (t, (i, l, is), e, f) = (t, (suc i, omega (arith, l), is), e, f)
 
-item-cases : (item : Item) (items : List Item) (r : Rect) (k : ℕ) → HasItem (item ∷ items) r k → ((item.rect ≡ r) × (item.owner ≡ k)) ⊎ HasItem items r k
+item-cases : (item : Item) (items : List Item) (r : Rect) (k : ℕ) → IsOwned (item ∷ items) r k → ((item.rect ≡ r) × (item.owner ≡ k)) ⊎ IsOwned items r k
 item-cases item items r k (t, (zero, l, is), e, f) = inl (ap (λ (u : Item). u.rect) is ∙ e, ap (λ (u : Item). u.owner) is ∙ f)
 item-cases item items r k (t, (suc i, l, is), e, f) = inr (t, (i, omega (arith, l), is), e, f)
 
@@ -51,14 +44,14 @@ cond-later : (b : Bool) (x : Rect) (xs : List Rect) (r : Rect) → Contains xs r
 cond-later true x xs r (i, l, is) = (suc i, omega (arith, l), is)
 cond-later false x xs r h = h
 
-pub others-in : (items : List Item) (own : ℕ) (r : Rect) → Contains (others_in items own) r → (k : ℕ) × (k ≢ own) × HasItem items r k
+pub others-in : (items : List Item) (own : ℕ) (r : Rect) → Contains (others_in items own) r → (k : ℕ) × (k ≢ own) × IsOwned items r k
 others-in [] own r (i, l, is) = absurd (omega (arith, l))
 others-in (item ∷ items) own r h = elim (contains-cond (not (item.owner == own)) item.rect (others_in items own) r h) [
   | inl (t, e) ↦ (item.owner, is-other own item t, item-first item items r item.owner e refl)
   | inr c ↦ (let (k, ne, has) = others-in items own r c in (k, ne, item-later item items r k has))
 ]
 
-pub in-others : (items : List Item) (own : ℕ) (r : Rect) (k : ℕ) → k ≢ own → HasItem items r k → Contains (others_in items own) r
+pub in-others : (items : List Item) (own : ℕ) (r : Rect) (k : ℕ) → k ≢ own → IsOwned items r k → Contains (others_in items own) r
 in-others [] own r k ne (t, (i, l, is), e, f) = absurd (omega (arith, l))
 in-others (item ∷ items) own r k ne h = elim (item-cases item items r k h) [
   | inl (e, f) ↦ subst (λ s. Contains (others_in (item ∷ items) own) s) e
@@ -66,25 +59,21 @@ in-others (item ∷ items) own r k ne h = elim (item-cases item items r k h) [
   | inr later ↦ cond-later (not (item.owner == own)) item.rect (others_in items own) r (in-others items own r k ne later)
 ]
 
-pub own-in : (items : List Item) (own : ℕ) (r : Rect) → Contains (own_in items own) r → HasItem items r own
+pub own-in : (items : List Item) (own : ℕ) (r : Rect) → Contains (own_in items own) r → IsOwned items r own
 own-in [] own r (i, l, is) = absurd (omega (arith, l))
 own-in (item ∷ items) own r h = elim (contains-cond (item.owner == own) item.rect (own_in items own) r h) [
   | inl (t, e) ↦ item-first item items r own e (is-own own item t)
   | inr c ↦ item-later item items r own (own-in items own r c)
 ]
 
-pub in-own : (items : List Item) (own : ℕ) (r : Rect) → HasItem items r own → Contains (own_in items own) r
+pub in-own : (items : List Item) (own : ℕ) (r : Rect) → IsOwned items r own → Contains (own_in items own) r
 in-own [] own r (t, (i, l, is), e, f) = absurd (omega (arith, l))
 in-own (item ∷ items) own r h = elim (item-cases item items r own h) [
   | inl (e, f) ↦ subst (λ s. Contains (own_in (item ∷ items) own) s) e (cond-first (item.owner == own) item.rect (own_in items own) (own-is own item f))
   | inr later ↦ cond-later (item.owner == own) item.rect (own_in items own) r (in-own items own r later)
 ]
 
--- an item is a solid rectangle in the range
-pub item-within : (items : List Item) (i : ℕ) (d : Item) → AreItemsWithin items → i < length items → IsSolidWithin farthest (get_or items i d).rect
-item-within items i d within i_in = within (get_or items i d).rect (get_or items i d).owner (item-at items i d i_in)
-
-pub others-within : (items : List Item) (own : ℕ) → AreItemsWithin items → AreWithin (others_in items own)
+pub others-within : (items : List Item) (own : ℕ) → AreOwnedWithin items → AreWithin (others_in items own)
 others-within items own within i d l =
     let (k, ne, has) = others-in items own (get_or (others_in items own) i d) (i, l, get_or_default (others_in items own) i (get_or (others_in items own) i d) d l) in
     within (get_or (others_in items own) i d) k has

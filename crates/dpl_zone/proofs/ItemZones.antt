@@ -1,6 +1,6 @@
 -- The zones of items, and of their owners.
 use Rattle.std.proofs.Common.{◌≡◌, ◌≢◌, ℕ, ◌+◌, ◌<◌, ◌≤◌, ◌⊎◌, inl, inr, Bool, true, false, List, [], length, get_or, sym, ap, ◌∙◌, subst, arith}
-use Rattle.std.specs.Prelude.{ℤ, ◌≤ℤ◌, ◌<ℤ◌, ◌↔◌}
+use Rattle.std.specs.Prelude.{ℤ, ◌≤ℤ◌, ◌<ℤ◌, ◌↔◌, IsTrue}
 use Rattle.std.specs.List.{AllPairs, Contains}
 use Rattle.std.proofs.lemmas.Bool.{cases_eq, cases_order, false≢true}
 use Rattle.std.proofs.lemmas.Int.{ints}
@@ -15,44 +15,48 @@ use Rattle.dpl_spec_split.specs.Zones.{IsVerticalZone, at, part_at, transposed}
 use Rattle.dpl_slabs.specs.Parts.{AreApart, union_of}
 use Rattle.dpl_join.specs.declared.items.Item.{Item}
 use Rattle.dpl_join.specs.Pairs.{item_at, no_item}
-use Rattle.dpl_tree.specs.declared.items.Item.{Item as TreeItem}
-use Rattle.dpl_tree.specs.Trees.{HasItem}
 use Rattle.dpl_zone.specs.declared.rows.Span.{Span}
 use Rattle.dpl_zone.specs.declared.shades.Shades.{Shades}
+use Rattle.dpl_zone.specs.Ends.{AreEndsOf, IsLive}
+use Rattle.dpl_zone.specs.declared.ends.Ends.{Ends}
 use Rattle.dpl_zone.specs.Items.{others_in, own_in}
-use Rattle.dpl_zone.specs.Owned.{AreOwnedWithin, AreSets, IsOwned, IsSetOf, IsTreeOf}
-use Rattle.dpl_zone.specs.Rows.{AddsZones, IsDark, IsLitZone, IsShaded, IsSlabZone, SomeRow, layer_of}
+use Rattle.dpl_zone.specs.Owned.{AreOwnedWithin, AreSets, IsOwned, IsSetOf}
+use Rattle.dpl_zone.specs.Rows.{AddsZones, GoesAbove, GoesBelow, IsDark, IsLitZone, IsShaded, IsSlabZone, SomeRow, layer_of}
 use Rattle.dpl_zone.specs.Shading.{AreShades, HasShade, IsBarren, IsDarkRow, IsDead}
 use Rattle.dpl_zone.specs.Ways.{AreUpright, IsItemZone}
 use Rattle.dpl_zone.proofs.Features.{FirstOf}
 use Rattle.dpl_zone.proofs.ItemLaws.{in-others, in-own, others-in, others-within, own-in}
-use Rattle.dpl_zone.proofs.OwnedLaws.{owned-at, tree-within}
+use Rattle.dpl_zone.proofs.OwnedLaws.{owned-at}
 use Rattle.dpl_zone.proofs.Runs.{slab-from_zone, zone-from_slab}
 use Rattle.dpl_zone.proofs.TransposedLaws.{zone-as}
 use Rattle.dpl_zone.proofs.Whole.{slab-zone-as}
-use Rattle.dpl_zone.proofs.Zoning.{added-to_none, lit-zone_as}
+use Rattle.dpl_zone.proofs.Zoning.{added-to_none, ended-zone_as, lit-zone_as}
 
 -- a barren item has no zone
-pub dead-none : (spacing : Spacing) (overlap : ℕ) (items : List Item) (tree : List TreeItem) (n : ℕ) (zones : List Rect) → zones ≡ [] → IsBarren spacing overlap items n
-    → (z : Rect) → Contains zones z ↔ IsItemZone spacing overlap items tree n z
-dead-none spacing overlap items tree n zones none barren z = (
+pub dead-none : (spacing : Spacing) (overlap : ℕ) (items : List Item) (n : ℕ) (zones : List Rect) → zones ≡ [] → IsBarren spacing overlap items n
+    → (z : Rect) → Contains zones z ↔ IsItemZone spacing overlap items n z
+dead-none spacing overlap items n zones none barren z = (
   λ c. absurd (let (k, k_in, is) = subst (λ (zs : List Rect). Contains zs z) none c in omega (arith, k_in)),
   λ h. absurd (let short = barren h.g h.lit in let long = h.open_span.long in omega (arith, ints, short, long)),
 )
 
 -- the spans of an item's shades have just its dark rows
-pub item-zones : (items : List Item) (tree : List TreeItem) (t : Shades) (n : ℕ) (spans : List Span) (old new : List Rect) → AreShades items t → n < length items → (IsDead t n → ⊥)
-    → ((y : ℤ) → SomeRow spans y ↔ HasShade t.found.items n y) → old ≡ []
-    → AddsZones (IsLitZone t.overlap (own_in tree (item_at items n).owner) (SomeRow spans) (item_at items n).rect) old new
-    → (z : Rect) → Contains new z ↔ IsItemZone t.spacing t.overlap items tree n z
-item-zones items tree t n spans old new shades n_in alive rows none adds z =
-    let own = own_in tree (item_at items n).owner in
+pub item-zones : (items : List Item) (t : Shades) (n : ℕ) (ends : Ends) (spans : List Span) (old new : List Rect) → AreShades items t → n < length items → (IsDead t n → ⊥)
+    → AreEndsOf (own_in items (item_at items n).owner) (item_at items n).rect ends → ((y : ℤ) → SomeRow spans y ↔ HasShade t.found.items n y) → old ≡ []
+    → AddsZones (IsLitZone t.overlap (IsTrue ends.below) (IsTrue ends.above) (SomeRow spans) (item_at items n).rect) old new
+    → (z : Rect) → Contains new z ↔ IsItemZone t.spacing t.overlap items n z
+item-zones items t n ends spans old new shades n_in alive told rows none adds z =
+    let own = own_in items (item_at items n).owner in
     let slab = (item_at items n).rect in
-    let members = added-to_none (IsLitZone t.overlap own (SomeRow spans) slab) old new none adds z in
-    let same : (y : ℤ) → slab.y0 ≤ℤ y → y <ℤ slab.y1 → SomeRow spans y ↔ IsDarkRow t.spacing items n y = λ y low high.
-    (let dark = shades.rows n y n_in alive (low, high) in (λ r. dark.1 ((rows y).0 r), λ d. (rows y).1 (dark.0 d))) in (
-      λ c. lit-zone_as t.overlap own (SomeRow spans) (IsDarkRow t.spacing items n) slab z same (members.0 c),
-      λ h. members.1 (lit-zone_as t.overlap own (IsDarkRow t.spacing items n) (SomeRow spans) slab z (λ y low high. (let s = same y low high in (s.1, s.0))) h),
+    let low = IsTrue ends.below in
+    let high = IsTrue ends.above in
+    let members = added-to_none (IsLitZone t.overlap low high (SomeRow spans) slab) old new none adds z in
+    let same : (y : ℤ) → slab.y0 ≤ℤ y → y <ℤ slab.y1 → SomeRow spans y ↔ IsDarkRow t.spacing items n y = λ y from below.
+    (let dark = shades.rows n y n_in alive (from, below) in (λ r. dark.1 ((rows y).0 r), λ d. (rows y).1 (dark.0 d))) in (
+      λ c. ended-zone_as t.overlap low high (GoesBelow own slab) (GoesAbove own slab) (IsDarkRow t.spacing items n) slab z told.below.0 told.above.0
+          (lit-zone_as t.overlap low high (SomeRow spans) (IsDarkRow t.spacing items n) slab z same (members.0 c)),
+      λ h. members.1 (lit-zone_as t.overlap low high (IsDarkRow t.spacing items n) (SomeRow spans) slab z (λ y from below. (let s = same y from below in (s.1, s.0)))
+          (ended-zone_as t.overlap (GoesBelow own slab) (GoesAbove own slab) low high (IsDarkRow t.spacing items n) slab z told.below.1 told.above.1 h)),
     )
 
 -- the zones of an item are added
@@ -86,33 +90,32 @@ items-more P items n old new before step z = (
 
 -- ---- all items of an owner
 
-module _ (spacing : Spacing) (less : spacing.corner ≤ spacing.rule) (overlap : ℕ) (parts : List (List Rect)) (items : List Item) (tree : List TreeItem)
-    (sets : AreSets parts items) (apart : AllPairs AreApart parts) (same : IsTreeOf items tree) (within : AreOwnedWithin items) where
+module _ (spacing : Spacing) (less : spacing.corner ≤ spacing.rule) (overlap : ℕ) (parts : List (List Rect)) (items : List Item)
+    (sets : AreSets parts items) (apart : AllPairs AreApart parts) (within : AreOwnedWithin items) where
   -- the other owners' rectangles have the squares of the other parts
-  other-part : (k : ℕ) (p : Pt) → Covers (others_in tree k) p → (j : ℕ) × (j < length parts) × (j ≢ k) × part_at parts j p
+  other-part : (k : ℕ) (p : Pt) → Covers (others_in items k) p → (j : ℕ) × (j < length parts) × (j ≢ k) × part_at parts j p
   other-part k p (i, r, i_in, is, has) =
-      let (j, ne, item) = others-in tree k r (i, i_in, is) in
-      let owned = (same r j).0 item in
+      let (j, ne, owned) = others-in items k r (i, i_in, is) in
       let j_in = sets.known r j owned in
       let set = sets.each j j_in in
       let (m, m_in, m_is) = (set.has r).0 owned in
       (j, j_in, ne, (set.slabs.covers p).0 (m, r, m_in, m_is, has))
 
-  part-other : (j k : ℕ) (p : Pt) → j < length parts → j ≢ k → part_at parts j p → Covers (others_in tree k) p
+  part-other : (j k : ℕ) (p : Pt) → j < length parts → j ≢ k → part_at parts j p → Covers (others_in items k) p
   part-other j k p j_in ne at =
       let set = sets.each j j_in in
       let (m, r, m_in, m_is, has) = (set.slabs.covers p).1 at in
-      let (i, i_in, is) = in-others tree k r j ne ((same r j).1 ((set.has r).1 (m, m_in, m_is))) in
+      let (i, i_in, is) = in-others items k r j ne ((set.has r).1 (m, m_in, m_is)) in
       (i, r, i_in, is, has)
 
-  others-solid : (k : ℕ) (i : ℕ) (d : Rect) → i < length (others_in tree k) → IsSolid (get_or (others_in tree k) i d)
-  others-solid k i d l = let w = others-within tree k (tree-within items tree within same) i d l in record { wide = w.wide; tall = w.tall }
+  others-solid : (k : ℕ) (i : ℕ) (d : Rect) → i < length (others_in items k) → IsSolid (get_or (others_in items k) i d)
+  others-solid k i d l = let w = others-within items k within i d l in record { wide = w.wide; tall = w.tall }
 
   module _ (k : ℕ) (k_in : k < length parts) where
     set : IsSetOf items k (part_at parts k)
     set = sets.each k k_in
 
-    not-both : (p : Pt) → Covers set.rects p → Covers (others_in tree k) p → ⊥
+    not-both : (p : Pt) → Covers set.rects p → Covers (others_in items k) p → ⊥
     not-both p own other =
         let here = (set.slabs.covers p).0 own in
         let (j, j_in, ne, there) = other-part k p other in
@@ -121,7 +124,7 @@ module _ (spacing : Spacing) (less : spacing.corner ≤ spacing.rule) (overlap :
           | inr o ↦ elim o [ inl l ↦ apart j k [] l k_in p there here | inr l ↦ apart k j [] l j_in p here there ]
         ]
 
-    layer-is : SameSquares (layer_of set.rects (others_in tree k)) (union_of parts)
+    layer-is : SameSquares (layer_of set.rects (others_in items k)) (union_of parts)
     layer-is p = (
       λ a. elim a [
         | inl own ↦ (k, get_or parts k [], k_in, get_or_default parts k (get_or parts k []) [] k_in, (set.slabs.covers p).0 own)
@@ -135,24 +138,23 @@ module _ (spacing : Spacing) (less : spacing.corner ≤ spacing.rule) (overlap :
           ]),
     )
 
-    layer-back : SameSquares (union_of parts) (layer_of set.rects (others_in tree k))
+    layer-back : SameSquares (union_of parts) (layer_of set.rects (others_in items k))
     layer-back p = ((layer-is p).1, (layer-is p).0)
 
-    own-into : (p : Pt) → Covers (own_in tree k) p → Covers set.rects p
-    own-into p (i, r, i_in, is, has) = let (m, m_in, m_is) = (set.has r).0 ((same r k).0 (own-in tree k r (i, i_in, is))) in (m, r, m_in, m_is, has)
+    own-into : (p : Pt) → Covers (own_in items k) p → Covers set.rects p
+    own-into p (i, r, i_in, is, has) = let (m, m_in, m_is) = (set.has r).0 (own-in items k r (i, i_in, is)) in (m, r, m_in, m_is, has)
 
-    own-from : (p : Pt) → Covers set.rects p → Covers (own_in tree k) p
-    own-from p (m, r, m_in, m_is, has) = let (i, i_in, is) = in-own tree k r ((same r k).1 ((set.has r).1 (m, m_in, m_is))) in (i, r, i_in, is, has)
+    own-from : (p : Pt) → Covers set.rects p → Covers (own_in items k) p
+    own-from p (m, r, m_in, m_is, has) = let (i, i_in, is) = in-own items k r ((set.has r).1 (m, m_in, m_is)) in (i, r, i_in, is, has)
 
-    dark-same : (n : ℕ) (y : ℤ) → n < length items → (item_at items n).owner ≡ k → IsDarkRow spacing items n y ↔ IsDark spacing (others_in tree k) (item_at items n).rect y
+    dark-same : (n : ℕ) (y : ℤ) → n < length items → (item_at items n).owner ≡ k → IsDarkRow spacing items n y ↔ IsDark spacing (others_in items k) (item_at items n).rect y
     dark-same n y n_in own = (
       λ (m, by).
           (let ne : (item_at items m).owner ≢ k = λ e. by.apart (e ∙ sym own) in
-          let (i, i_in, is) = in-others tree k (item_at items m).rect (item_at items m).owner ne ((same (item_at items m).rect (item_at items m).owner).1 (owned-at items m no_item by.known)) in
+          let (i, i_in, is) = in-others items k (item_at items m).rect (item_at items m).owner ne (owned-at items m no_item by.known) in
           (i, (item_at items m).rect, i_in, is, by.shaded)),
       λ (i, r, i_in, is, shade).
-          (let (j, ne, item) = others-in tree k r (i, i_in, is) in
-          let (t, (m, m_in, m_is), e, f) = (same r j).0 item in
+          (let (j, ne, (t, (m, m_in, m_is), e, f)) = others-in items k r (i, i_in, is) in
           let here : item_at items m ≡ t = get_or_default items m no_item t m_in ∙ m_is in (
             m,
             record {
@@ -163,22 +165,27 @@ module _ (spacing : Spacing) (less : spacing.corner ≤ spacing.rule) (overlap :
           )),
     )
 
-    item-to : (n : ℕ) (z : Rect) → n < length items → (item_at items n).owner ≡ k → IsItemZone spacing overlap items tree n z → IsVerticalZone spacing overlap (union_of parts) (part_at parts k) z
+    -- a zone of the slab, if it is the item's and the owner has number i
+    abbrev OwnZone : ℕ → ℕ → Rect → Rect → Type 0
+    OwnZone n i slab z = IsLitZone overlap (GoesBelow (own_in items i) slab) (GoesAbove (own_in items i) slab) (IsDarkRow spacing items n) slab z
+
+    item-to : (n : ℕ) (z : Rect) → n < length items → (item_at items n).owner ≡ k → IsItemZone spacing overlap items n z → IsVerticalZone spacing overlap (union_of parts) (part_at parts k) z
     item-to n z n_in own h =
         let slab : Rect = (item_at items n).rect in
-        let others = others_in tree k in
+        let others = others_in items k in
         let owned : IsOwned items slab k = subst (IsOwned items slab) own (owned-at items n no_item n_in) in
-        let a : IsLitZone overlap (own_in tree k) (IsDarkRow spacing items n) slab z = subst (λ (i : ℕ). IsLitZone overlap (own_in tree i) (IsDarkRow spacing items n) slab z) own h in
-        let b : IsSlabZone spacing overlap (own_in tree k) others slab z =
-        lit-zone_as overlap (own_in tree k) (IsDarkRow spacing items n) (IsDark spacing others slab) slab z (λ y low high. dark-same n y n_in own) a in
-        let c = slab-zone-as spacing overlap (own_in tree k) set.rects others slab z own-into b in
+        let a : OwnZone n k slab z = subst (λ (i : ℕ). OwnZone n i slab z) own h in
+        let b : IsSlabZone spacing overlap (own_in items k) others slab z =
+        lit-zone_as overlap (GoesBelow (own_in items k) slab) (GoesAbove (own_in items k) slab) (IsDarkRow spacing items n) (IsDark spacing others slab) slab z
+        (λ y low high. dark-same n y n_in own) a in
+        let c = slab-zone-as spacing overlap (own_in items k) set.rects others slab z own-into b in
         let d = zone-from_slab spacing less overlap set.rects others set.slabs.canonical (others-solid k) not-both slab z ((set.has slab).0 owned) c in
         zone-as spacing overlap (transposed (layer_of set.rects others)) (transposed (union_of parts)) (transposed (Covers set.rects)) (transposed (part_at parts k))
         (λ p. layer-is (at p.y p.x)) (λ p. set.slabs.covers (at p.y p.x)) _ d
 
-    item-from : (z : Rect) → IsVerticalZone spacing overlap (union_of parts) (part_at parts k) z → (n : ℕ) × (n < length items) × (k ≡ (item_at items n).owner) × IsItemZone spacing overlap items tree n z
+    item-from : (z : Rect) → IsVerticalZone spacing overlap (union_of parts) (part_at parts k) z → (n : ℕ) × (n < length items) × (k ≡ (item_at items n).owner) × IsItemZone spacing overlap items n z
     item-from z zone =
-        let others = others_in tree k in
+        let others = others_in items k in
         let d : IsVerticalZone spacing overlap (layer_of set.rects others) (Covers set.rects) z =
         zone-as spacing overlap (transposed (union_of parts)) (transposed (layer_of set.rects others)) (transposed (part_at parts k)) (transposed (Covers set.rects))
         (λ p. layer-back (at p.y p.x)) (λ p. ((set.slabs.covers (at p.y p.x)).1, (set.slabs.covers (at p.y p.x)).0)) _ zone in
@@ -187,14 +194,15 @@ module _ (spacing : Spacing) (less : spacing.corner ≤ spacing.rule) (overlap :
         let here : item_at items n ≡ t = get_or_default items n no_item t n_in ∙ n_is in
         let own : (item_at items n).owner ≡ k = ap (λ (u : Item). u.owner) here ∙ f in
         let slab_is : s ≡ (item_at items n).rect = sym e ∙ sym (ap (λ (u : Item). u.rect) here) in
-        let b : IsSlabZone spacing overlap (own_in tree k) others (item_at items n).rect z =
-        subst (λ (r : Rect). IsSlabZone spacing overlap (own_in tree k) others r z) slab_is (slab-zone-as spacing overlap set.rects (own_in tree k) others s z own-from c) in
-        let a : IsLitZone overlap (own_in tree k) (IsDarkRow spacing items n) (item_at items n).rect z =
-        lit-zone_as overlap (own_in tree k) (IsDark spacing others (item_at items n).rect) (IsDarkRow spacing items n) (item_at items n).rect z
+        let b : IsSlabZone spacing overlap (own_in items k) others (item_at items n).rect z =
+        subst (λ (r : Rect). IsSlabZone spacing overlap (own_in items k) others r z) slab_is (slab-zone-as spacing overlap set.rects (own_in items k) others s z own-from c) in
+        let a : OwnZone n k (item_at items n).rect z =
+        lit-zone_as overlap (GoesBelow (own_in items k) (item_at items n).rect) (GoesAbove (own_in items k) (item_at items n).rect) (IsDark spacing others (item_at items n).rect)
+        (IsDarkRow spacing items n) (item_at items n).rect z
         (λ y low high. (let h = dark-same n y n_in own in (h.1, h.0))) b in
-        (n, n_in, sym own, subst (λ (i : ℕ). IsLitZone overlap (own_in tree i) (IsDarkRow spacing items n) (item_at items n).rect z) (sym own) a)
+        (n, n_in, sym own, subst (λ (i : ℕ). OwnZone n i (item_at items n).rect z) (sym own) a)
 
-  pub upright-all : (zones : List Zone) → ((z : Zone) → Contains zones z ↔ ((n : ℕ) × (n < length items) × (z.feature ≡ (item_at items n).owner) × IsItemZone spacing overlap items tree n z.rect))
+  pub upright-all : (zones : List Zone) → ((z : Zone) → Contains zones z ↔ ((n : ℕ) × (n < length items) × (z.feature ≡ (item_at items n).owner) × IsItemZone spacing overlap items n z.rect))
       → AreUpright spacing overlap parts zones
   upright-all zones are z = (
     λ c.
@@ -209,6 +217,5 @@ pub alive-from : (flags : List Bool) (n : ℕ) (b : Bool) → b ≡ get_or flags
 alive-from flags n false is e d = false≢true (is ∙ d)
 alive-from flags n true is e d = false≢true (sym e)
 
-pub tree-made : (items used : List Item) (owned made seen : List TreeItem) → used ≡ items → seen ≡ made → ((r : Rect) (k : ℕ) → HasItem made r k ↔ HasItem owned r k) → IsTreeOf items owned → IsTreeOf used seen
-tree-made items used owned made seen used_is seen_is same tree =
-    rw (used_is, seen_is) (λ r k. (λ h. (tree r k).0 ((same r k).0 h), λ o. (same r k).1 ((tree r k).1 o)))
+pub live-from : (flags : List Bool) (n : ℕ) (b : Bool) → n < length flags → b ≡ get_or flags n b → b ≡ false → IsLive flags n
+live-from flags n b n_in is e = get_or_default flags n false b n_in ∙ (sym is ∙ e)

@@ -153,7 +153,8 @@ tree-more zones n d old new n_in before step r k =
     of-one s t (zero, l, e) = e
     of-one s t (suc i, l, e) = absurd (omega (arith, l))
 
-pub tree-all : (zones : List Zone) (n : ℕ) (items tree : List Item) → length zones ≤ n → OfFirstZones zones n items → ((r : Rect) (k : ℕ) → HasItem tree r k ↔ HasItem items r k) → AreZoneItems zones tree
+pub tree-all : (zones : List Zone) (n : ℕ) (items tree : List Item) → length zones ≤ n → OfFirstZones zones n items → ((r : Rect) (k : ℕ) → HasItem tree r k ↔ HasItem items r k)
+    → AreZoneItems zones tree
 tree-all zones n items tree all h same r k = (
   λ a. (let (z, i, l, i_in, is, e, f) = (h r k).0 ((same r k).0 a) in (z, (i, i_in, is), e, f)),
   λ (z, (i, i_in, is), e, f). (same r k).1 ((h r k).1 (z, i, omega (arith, all, i_in), i_in, is, e, f)),

@@ -1,5 +1,5 @@
 -- Rectangles of owners.
-use Rattle.std.proofs.Common.{◌≡◌, ◌≢◌, ℕ, ◌+◌, ◌-◌, ◌<◌, ◌≤◌, ◌⊎◌, inl, inr, List, [], ◌∷◌, ◌++◌, length, get_or, map, take, append-nil, sym, refl, ap, ◌∙◌, subst, arith}
+use Rattle.std.proofs.Common.{◌≡◌, ℕ, ◌+◌, ◌-◌, ◌<◌, ◌≤◌, ◌⊎◌, inl, inr, List, [], ◌∷◌, ◌++◌, length, get_or, map, take, append-nil, sym, refl, ap, ◌∙◌, subst, arith}
 use Rattle.std.specs.Prelude.{◌↔◌}
 use Rattle.std.specs.List.{Contains}
 use Rattle.std.proofs.lemmas.Bool.{cases_eq, cases_lt}
@@ -7,16 +7,11 @@ use Rattle.std.proofs.lemmas.List.{append_assoc, get_or_append_left, get_or_defa
 use Rattle.std.proofs.lemmas.List.Elements.{Contains-append_cases, Contains-append_left, Contains-append_right}
 use Rattle.dpl_spec_split.specs.declared.Rect.{Rect}
 use Rattle.dpl_spec_split.specs.Loops.{farthest, AreRectsWithin}
-use Rattle.dpl_spec_split.specs.Slabs.{AreSlabsOf, IsCanonical}
-use Rattle.dpl_spec_split.specs.Squares.{Covers, Has, IsSolidWithin}
+use Rattle.dpl_spec_split.specs.Slabs.{AreSlabsOf, Follows, IsCanonical}
+use Rattle.dpl_spec_split.specs.Squares.{Covers, IsSolidWithin}
 use Rattle.dpl_spec_split.specs.Zones.{part_at, transposed, transposed_rect}
 use Rattle.dpl_join.specs.declared.items.Item.{Item}
-use Rattle.dpl_join.specs.Pairs.{item_at, no_item}
-use Rattle.dpl_tree.specs.declared.items.Item.{Item as TreeItem}
-use Rattle.dpl_tree.specs.Trees.{HasItem}
-use Rattle.dpl_zone.specs.Items.{AllIn, AreItemsWithin, own_in}
-use Rattle.dpl_zone.specs.Owned.{AreOwnedWithin, AreSets, IsOwned, IsSetOf, IsTreeOf, OwnersRise, owned_by, transposed_parts}
-use Rattle.dpl_zone.proofs.ItemLaws.{own-in}
+use Rattle.dpl_zone.specs.Owned.{AreInOrder, AreOwnedWithin, AreSets, IsOwned, IsSetOf, OwnersRise, owned_by, transposed_parts}
 use Rattle.dpl_zone.proofs.TransposedLaws.{transposed-covers, within-slabs}
 
 pub owned-at : (items : List Item) (n : ℕ) (d : Item) → n < length items → IsOwned items (get_or items n d).rect (get_or items n d).owner
@@ -63,29 +58,26 @@ owned-grown old new k rects is r j = rw is (
 
 -- ---- parts, one after the other
 
-pub record AreSetsTo (parts : List (List Rect)) (n : ℕ) (items : List Item) (found : List TreeItem) : Type 0 where
+pub record AreSetsTo (parts : List (List Rect)) (n : ℕ) (items : List Item) : Type 0 where
   pub known : (r : Rect) (k : ℕ) → IsOwned items r k → k < n
   pub each : (k : ℕ) → k < n → k < length parts → IsSetOf items k (part_at parts k)
   pub rise : OwnersRise items
-  pub tree : IsTreeOf items found
+  pub order : AreInOrder items
 
 owned-none : (items : List Item) → items ≡ [] → (r : Rect) (k : ℕ) → IsOwned items r k → ⊥
 owned-none items is r k (t, (i, l, at), e, f) = let none : i < length items = l in absurd (subst (λ (xs : List Item). i < length xs → ⊥) (sym is) (λ m. omega (arith, m)) none)
 
-pub sets-none : (parts : List (List Rect)) (items : List Item) (tree : List TreeItem) → items ≡ [] → tree ≡ [] → AreSetsTo parts 0 items tree
-sets-none parts items tree is tree_is = record {
+pub sets-none : (parts : List (List Rect)) (items : List Item) → items ≡ [] → AreSetsTo parts 0 items
+sets-none parts items is = record {
   known = λ r k h. absurd (owned-none items is r k h);
   each = λ k l. absurd (omega (arith, l));
   rise = rw is (λ i j d l j_in. absurd (omega (arith, j_in)));
-  tree = λ r k. (
-    (λ (t, c, e, f). absurd (let (i, l, at) = subst (λ (xs : List TreeItem). Contains xs t) tree_is c in omega (arith, l))),
-    λ h. absurd (owned-none items is r k h),
-  );
+  order = rw is (λ i j d l j_in own. absurd (omega (arith, j_in)));
 }
 
-module _ (parts : List (List Rect)) (n : ℕ) (old new : List Item) (old_tree new_tree : List TreeItem) (rects : List Rect) (n_in : n < length parts)
+module _ (parts : List (List Rect)) (n : ℕ) (old new : List Item) (rects : List Rect) (n_in : n < length parts)
     (slabs : AreSlabsOf (part_at parts n) rects) (within : AreRectsWithin farthest rects) (items_is : new ≡ old ++ map (owned_by n) rects)
-    (tree_is : (r : Rect) (j : ℕ) → HasItem new_tree r j ↔ (HasItem old_tree r j ⊎ ((j ≡ n) × Contains rects r))) (h : AreSetsTo parts n old old_tree) where
+    (h : AreSetsTo parts n old) where
   grown : (r : Rect) (j : ℕ) → IsOwned new r j ↔ (IsOwned old r j ⊎ ((j ≡ n) × Contains rects r))
   grown = owned-grown old new n rects items_is
 
@@ -116,33 +108,51 @@ module _ (parts : List (List Rect)) (n : ℕ) (old new : List Item) (old_tree ne
   old-owner : (i : ℕ) (d : Item) → i < length old → (get_or old i d).owner < n
   old-owner i d l = h.known (get_or old i d).rect (get_or old i d).owner (owned-at old i d l)
 
+  behind-is : (k : ℕ) (d : Item) → length old ≤ k → k < length (old ++ map (owned_by n) rects) → get_or (old ++ map (owned_by n) rects) k d ≡ owned_by n (get_or rects (k - length old) d.rect)
+  behind-is k d a b =
+      let k_in : k - length old < length rects = omega (arith, a, b, length-append old (map (owned_by n) rects), length-map rects (owned_by n)) in
+      get_or-append_right old (map (owned_by n) rects) (length old) k d refl a ∙ by-owner n rects (k - length old) d k_in
+
+  behind-owner : (k : ℕ) (d : Item) → length old ≤ k → k < length (old ++ map (owned_by n) rects) → (get_or (old ++ map (owned_by n) rects) k d).owner ≡ n
+  behind-owner k d a b = ap (λ (u : Item). u.owner) (behind-is k d a b)
+
   rise-next : OwnersRise (old ++ map (owned_by n) rects)
   rise-next i j d l j_in = elim (cases_lt j (length old)) [
     | inl m ↦ rw (get_or_append_left old (map (owned_by n) rects) d i (omega (arith, l, m)), get_or_append_left old (map (owned_by n) rects) d j m) (h.rise i j d l m)
     | inr m ↦
-        (let behind : (k : ℕ) → length old ≤ k → k < length (old ++ map (owned_by n) rects) → (get_or (old ++ map (owned_by n) rects) k d).owner ≡ n =
-        λ k a b. (let k_in : k - length old < length rects = omega (arith, a, b, length-append old (map (owned_by n) rects), length-map rects (owned_by n)) in
-        ap (λ (u : Item). u.owner) (get_or-append_right old (map (owned_by n) rects) (length old) k d refl a ∙ by-owner n rects (k - length old) d k_in)) in
-        let last = behind j m j_in in
+        (let last = behind-owner j d m j_in in
         elim (cases_lt i (length old)) [
           | inl a ↦ (let first = ap (λ (u : Item). u.owner) (get_or_append_left old (map (owned_by n) rects) d i a) in let o = old-owner i d a in omega (arith, first, o, last))
-          | inr a ↦ (let first = behind i a (omega (arith, l, j_in)) in omega (arith, first, last))
+          | inr a ↦ (let first = behind-owner i d a (omega (arith, l, j_in)) in omega (arith, first, last))
         ])
   ]
 
-  pub sets-more : AreSetsTo parts (n + 1) new new_tree
+  order-next : AreInOrder (old ++ map (owned_by n) rects)
+  order-next i j d l j_in = elim (cases_lt j (length old)) [
+    | inl m ↦ rw (get_or_append_left old (map (owned_by n) rects) d i (omega (arith, l, m)), get_or_append_left old (map (owned_by n) rects) d j m) (h.order i j d l m)
+    | inr m ↦ elim (cases_lt i (length old)) [
+      | inl a ↦ (λ own. absurd
+          (let first = ap (λ (u : Item). u.owner) (get_or_append_left old (map (owned_by n) rects) d i a) in
+          let o = old-owner i d a in
+          let last = behind-owner j d m j_in in
+          omega (arith, first, o, last, own)))
+      | inr a ↦ (λ own.
+          (let last_in : j - length old < length rects = omega (arith, m, j_in, length-append old (map (owned_by n) rects), length-map rects (owned_by n)) in
+          rw (behind-is i d a (omega (arith, l, j_in)), behind-is j d m j_in)
+          (subst (λ (r : Rect). Follows (get_or rects (i - length old) d.rect) r) refl (slabs.canonical.follow (i - length old) (j - length old) d.rect (omega (arith, l, a, m)) last_in))))
+    ]
+  ]
+
+  pub sets-more : AreSetsTo parts (n + 1) new
   sets-more = record {
     known = λ r k o. elim ((grown r k).0 o) [ inl a ↦ (let b = h.known r k a in omega (arith, b)) | inr (q, c) ↦ omega (arith, q) ];
     each = set-next;
     rise = subst OwnersRise (sym items_is) rise-next;
-    tree = λ r k. (
-      λ t. (grown r k).1 (elim ((tree_is r k).0 t) [ inl a ↦ inl ((h.tree r k).0 a) | inr b ↦ inr b ]),
-      λ o. (tree_is r k).1 (elim ((grown r k).0 o) [ inl a ↦ inl ((h.tree r k).1 a) | inr b ↦ inr b ]),
-    );
+    order = subst AreInOrder (sym items_is) order-next;
   }
 
-pub sets-all : (parts : List (List Rect)) (n : ℕ) (items : List Item) (tree : List TreeItem) → n ≤ length parts → length parts ≤ n → AreSetsTo parts n items tree → AreSets parts items
-sets-all parts n items tree few all h = record {
+pub sets-all : (parts : List (List Rect)) (n : ℕ) (items : List Item) → n ≤ length parts → length parts ≤ n → AreSetsTo parts n items → AreSets parts items
+sets-all parts n items few all h = record {
   known = λ r k o. (let l = h.known r k o in omega (arith, l, few));
   each = λ k l. h.each k (omega (arith, l, all)) l;
 }
@@ -170,31 +180,3 @@ sets-within parts items sets r k owned =
     let set = sets.each k k_in in
     let (i, i_in, at) = (set.has r).0 owned in
     subst (IsSolidWithin farthest) at (within-slabs set.rects set.slabs.canonical set.within i r i_in)
-
--- an item with neighbours of other owners is its owner's only one
-pub alone : (items : List Item) (n : ℕ) → n < length items → OwnersRise items → (0 < n → (item_at items (n - 1)).owner ≢ (item_at items n).owner)
-    → (n + 1 < length items → (item_at items (n + 1)).owner ≢ (item_at items n).owner) → (r : Rect) → IsOwned items r (item_at items n).owner → r ≡ (item_at items n).rect
-alone items n n_in rise before behind r (t, (i, i_in, is), e, f) =
-    let here : get_or items i no_item ≡ t = get_or_default items i no_item t i_in ∙ is in
-    let own : (item_at items i).owner ≡ (item_at items n).owner = ap (λ (u : Item). u.owner) here ∙ f in
-    elim (cases_eq i n) [
-      | inl same ↦ sym e ∙ (ap (λ (u : Item). u.rect) (sym here) ∙ ap (λ (k : ℕ). (item_at items k).rect) same)
-      | inr ne ↦ elim (cases_lt i n) [
-        | inl l ↦
-            (let a = rise i (n - 1) no_item (omega (arith, l)) (omega (arith, l, n_in)) in
-            let b = rise (n - 1) n no_item (omega arith) n_in in
-            absurd (before (omega (arith, l)) (omega (arith, a, b, own))))
-        | inr m ↦
-            (let a = rise n (n + 1) no_item (omega arith) (omega (arith, m, ne, i_in)) in
-            let b = rise (n + 1) i no_item (omega (arith, m, ne)) i_in in
-            absurd (behind (omega (arith, m, ne, i_in)) (omega (arith, a, b, own))))
-      ]
-    ]
-
-pub tree-within : (items : List Item) (tree : List TreeItem) → AreOwnedWithin items → IsTreeOf items tree → AreItemsWithin tree
-tree-within items tree within same r k h = within r k ((same r k).0 h)
-
-pub whole-in : (items : List Item) (tree : List TreeItem) (own : ℕ) (slab : Rect) → IsTreeOf items tree → ((r : Rect) → IsOwned items r own → r ≡ slab) → AllIn (own_in tree own) slab
-whole-in items tree own slab same only p (i, r, i_in, is, has) =
-    let owned = (same r own).0 (own-in tree own r (i, i_in, is)) in
-    subst (λ (s : Rect). Has s p) (only r owned) has

@@ -106,7 +106,8 @@ module _ (spacing : Spacing) (overlap : ℕ) (parts : List (List Rect)) (some : 
 
 -- the horizontal zones, and the vertical ones that touch none of their feature
 pub kept-all : (spacing : Spacing) (overlap : ℕ) (parts : List (List Rect)) (flat upright kept : List Zone) → AreFlat spacing overlap parts flat → AreUpright spacing overlap parts upright
-    → ((z : Zone) → Contains kept z ↔ (Contains flat z ⊎ (Contains upright z × (TouchesOwn flat z → ⊥)))) → (z : Zone) → Contains kept z ↔ ((z.feature < length parts) × IsPartZone spacing overlap parts z)
+    → ((z : Zone) → Contains kept z ↔ (Contains flat z ⊎ (Contains upright z × (TouchesOwn flat z → ⊥)))) → (z : Zone)
+    → Contains kept z ↔ ((z.feature < length parts) × IsPartZone spacing overlap parts z)
 kept-all spacing overlap parts flat upright kept is_flat is_upright are z = (
   λ c. elim ((are z).0 c) [
     | inl a ↦ (let (k_in, zone) = (is_flat z).0 a in (k_in, inl zone))

@@ -1,12 +1,12 @@
 -- What a search of a tree by a window finds.
-use Rattle.std.proofs.Common.{◌≡◌, ℕ, ◌<◌, ◌⊎◌, inl, inr, List, length, get_or, subst, arith}
+use Rattle.std.proofs.Common.{◌≡◌, ℕ, ◌<◌, inl, inr, List, length, get_or, subst, arith}
 use Rattle.std.specs.Prelude.{ℤ, pos, ◌+ℤ◌, ◌-ℤ◌, ◌≤ℤ◌, ◌<ℤ◌}
 use Rattle.std.proofs.lemmas.Int.{ints, by_lt_z}
 use Rattle.std.proofs.lemmas.Bool.{cases_lt, cases_eq}
 use Rattle.dpl_spec_split.specs.declared.Rect.{Rect}
 use Rattle.dpl_spec_split.specs.Loops.{farthest}
-use Rattle.dpl_spec_split.specs.Squares.{Has, Covers, AreTouching, IsSolidWithin}
-use Rattle.dpl_spec_split.specs.Zones.{at, GoesOn, transposed}
+use Rattle.dpl_spec_split.specs.Squares.{Has, AreTouching, IsSolidWithin}
+use Rattle.dpl_spec_split.specs.Zones.{at}
 use Rattle.dpl_spec_split.proofs.SquareLaws.{Touch-from_close}
 use Rattle.dpl_spec_split.proofs.ZoneLaws.{close-from_touch}
 use Rattle.dpl_tree.specs.declared.items.Item.{Item}
@@ -14,9 +14,15 @@ use Rattle.dpl_tree.specs.declared.owners.Owners.{Owners}
 use Rattle.dpl_tree.specs.declared.owners.Owners.TheVariants.{Only}
 use Rattle.dpl_tree.specs.Trees.{HasItem, LiesApart, IsMissed, ArePassed}
 use Rattle.dpl_tree.specs.Windows.{IsWidened}
-use Rattle.dpl_zone.specs.Items.{AllIn, AreItemsWithin, IsStrip, own_in}
+use Rattle.dpl_zone.specs.Items.{AreItemsWithin}
 use Rattle.dpl_tree.proofs.ItemLaws.{item-at}
-use Rattle.dpl_zone.proofs.ItemLaws.{own-in, in-own, item-within}
+
+abbrev pub zero_item : Item
+zero_item = record { rect = record { x0 = pos 0; y0 = pos 0; x1 = pos 0; y1 = pos 0 }; owner = 0 }
+
+-- an item is a solid rectangle in the range
+item-within : (items : List Item) (i : ℕ) (d : Item) → AreItemsWithin items → i < length items → IsSolidWithin farthest (get_or items i d).rect
+item-within items i d within i_in = within (get_or items i d).rect (get_or items i d).owner (item-at items i d i_in)
 
 record Overlaps (w r : Rect) : Type 0 where
   left : w.x0 <ℤ r.x1
@@ -54,59 +60,6 @@ module _ (items : List Item) (window : Rect) (owners : Owners) (n : ℕ) (sought
 
   found_overlap : (d : Item) → n < length items → Overlaps window (get_or items n d).rect
   found_overlap d l = overlap window (get_or items n d).rect (λ h. sought.found d l (inl h))
-
--- a column of the slab, or one beside it, at which the rectangle has the row
-shared : (s r : Rect) (y : ℤ) → IsSolidWithin farthest s → IsSolidWithin farthest r → (s.x0 -ℤ pos 1) <ℤ r.x1 → r.x0 <ℤ (s.x1 +ℤ pos 1)
-    → r.y0 ≤ℤ y → y <ℤ r.y1 → (x : ℤ) × ((s.x0 -ℤ pos 1) ≤ℤ x) × (x ≤ℤ s.x1) × Has r (at x y)
-shared s r y solid within a b c d =
-    let wide = solid.wide in
-    let own = within.wide in
-    by_lt_z r.x0 (s.x0 -ℤ pos 1)
-    (λ l. (s.x0 -ℤ pos 1, omega (arith, ints), omega (arith, ints, wide), record { left = omega (arith, ints, l); right = a; low = c; high = d }))
-    (λ l. (r.x0, l, omega (arith, ints, b), record { left = omega (arith, ints); right = own; low = c; high = d }))
-
-module _ (items : List Item) (own : ℕ) (s : Rect) (y : ℤ) (window : Rect) (n : ℕ) (within : AreItemsWithin items) (solid : IsSolidWithin farthest s)
-    (strip : IsStrip s y window) (sought : IsSought items window (Only own) n) where
-  pub row-found : (d : Item) → n < length items → GoesOn (transposed (Covers (own_in items own))) s.x0 s.x1 y
-  row-found d l =
-      let o = found_overlap items window (Only own) n sought d l in
-      let owner : (get_or items n d).owner ≡ own = elim (cases_eq (get_or items n d).owner own) [ inl e ↦ e | inr ne ↦ absurd (sought.found d l (inr ne)) ] in
-      let in_own = in-own items own (get_or items n d).rect (subst (λ k. HasItem items (get_or items n d).rect k) owner (item-at items n d l)) in
-      let e0 = strip.left in
-      let e1 = strip.right in
-      let e2 = strip.low in
-      let e3 = strip.high in
-      let o0 = o.left in
-      let o1 = o.right in
-      let o2 = o.low in
-      let o3 = o.high in
-      let (x, a, b, has) = shared s (get_or items n d).rect y solid (item-within items n d within l)
-      (omega (arith, ints, e0, o0)) (omega (arith, ints, e1, o1)) (omega (arith, ints, e3, o3)) (omega (arith, ints, e2, o2)) in
-      let (m, m_in, m_is) = in_own in
-      (x, a, b, (m, (get_or items n d).rect, m_in, m_is, has))
-
-  pub found-row : GoesOn (transposed (Covers (own_in items own))) s.x0 s.x1 y → n < length items
-  found-row (x, a, b, (m, r, m_in, m_is, has)) =
-      let mine = own-in items own r (m, m_in, m_is) in
-      let e0 = strip.left in
-      let e1 = strip.right in
-      let e2 = strip.low in
-      let e3 = strip.high in
-      let h0 = has.left in
-      let h1 = has.right in
-      let h2 = has.low in
-      let h3 = has.high in
-      let o : Overlaps window r = record {
-        left = omega (arith, ints, e0, a, h1);
-        right = omega (arith, ints, e1, b, h0);
-        low = omega
-            (arith, ints, e2, h3);
-        high = omega (arith, ints, e3, h2);
-      } in
-      item_found items window (Only own) n sought r own mine (λ item e f missed. elim missed [
-        | inl h ↦ not_apart window r o (subst (λ t. LiesApart window t) e h)
-        | inr h ↦ h f
-      ])
 
 -- a row, or a column, of one span and one of the other at most one apart
 record AreClosePair (a0 a1 b0 b1 : ℤ) : Type 0 where
@@ -192,11 +145,3 @@ module _ (items : List Item) (own : ℕ) (z : Rect) (window : Rect) (n : ℕ) (w
         | inl a ↦ not_apart window h o (subst (λ t. LiesApart window t) e a)
         | inr a ↦ a f
       ])
-
--- a feature that is all in a slab has nothing below or above it
-pub nothing-outside : (own : List Rect) (slab : Rect) (y : ℤ) → ((y <ℤ slab.y0) ⊎ (slab.y1 ≤ℤ y)) → AllIn own slab → GoesOn (transposed (Covers own)) slab.x0 slab.x1 y → ⊥
-nothing-outside own slab y outside all (v, a, b, in_own) =
-    let here : Has slab (at v y) = all (at v y) in_own in
-    let low : slab.y0 ≤ℤ y = here.low in
-    let high : y <ℤ slab.y1 = here.high in
-    elim outside [ inl l ↦ omega (arith, ints, l, low) | inr l ↦ omega (arith, ints, l, high) ]

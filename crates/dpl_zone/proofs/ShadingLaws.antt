@@ -236,12 +236,14 @@ strip-pairs join n rule pairs lists is p c = subst (λ (k : ℕ). IsPair k join.
 -- ---- all pairs
 
 module _ (items : List Item) (t : Shades) (less : t.spacing.corner ≤ t.spacing.rule) (handles : (p : ℕ × ℕ) → IsPair t.spacing.rule items p → HandlesBoth items t p) (sound : IsSound items t) where
-  near-of : (n m : ℕ) (y : ℤ) → IsRowOf (item_at items n).rect y → IsShaded t.spacing (item_at items n).rect (item_at items m).rect y → AreClose t.spacing.rule (item_at items n).rect (item_at items m).rect
+  near-of : (n m : ℕ) (y : ℤ) → IsRowOf (item_at items n).rect y → IsShaded t.spacing (item_at items n).rect (item_at items m).rect y
+      → AreClose t.spacing.rule (item_at items n).rect (item_at items m).rect
   near-of n m y row s =
       let q : Pt = s.q in
       near-close t.spacing (item_at items n).rect (item_at items m).rect less (at s.x y, q, record { left = s.left; right = s.right; low = row.0; high = row.1 }, s.has, s.near)
 
-  handled : (n m : ℕ) → n < length items → m < length items → (item_at items m).owner ≢ (item_at items n).owner → AreClose t.spacing.rule (item_at items n).rect (item_at items m).rect → Handles items t n m
+  handled : (n m : ℕ) → n < length items → m < length items → (item_at items m).owner ≢ (item_at items n).owner → AreClose t.spacing.rule (item_at items n).rect (item_at items m).rect
+      → Handles items t n m
   handled n m n_in m_in apart close = elim (cases_order n m) [
     | inl e ↦ absurd (apart (ap (λ (k : ℕ). (item_at items k).owner) (sym e)))
     | inr o ↦ elim o [
@@ -257,7 +259,8 @@ module _ (items : List Item) (t : Shades) (less : t.spacing.corner ≤ t.spacing
   )
 
 -- sorting leaves them the same
-pub shades-sorted : (items : List Item) (old new : Shades) → new.spacing ≡ old.spacing → new.overlap ≡ old.overlap → new.dead.items ≡ old.dead.items → IsPermutation old.found.items new.found.items → NumbersRise new.found.items
+pub shades-sorted : (items : List Item) (old new : Shades) → new.spacing ≡ old.spacing → new.overlap ≡ old.overlap → new.dead.items ≡ old.dead.items
+    → IsPermutation old.found.items new.found.items → NumbersRise new.found.items
     → old.spacing.corner ≤ old.spacing.rule → IsSound items old → ((p : ℕ × ℕ) → IsPair old.spacing.rule items p → HandlesBoth items old p) → AreShades items new
 shades-sorted items old new spacing overlap dead same rise less sound handles =
     let found : (s : Shade) → Contains old.found.items s ↔ Contains new.found.items s =
@@ -331,7 +334,8 @@ pub record AreSpansOf (shades : List Shade) (i : ℕ) (spans : List Span) : Type
 pub spans-none : (shades : List Shade) (spans : List Span) → spans ≡ [] → AreSpansOf shades 0 spans
 spans-none shades spans is = rw is (record { sized = refl; each = λ k d e l. absurd (omega (arith, l)) })
 
-pub spans-more : (shades : List Shade) (i : ℕ) (s : Shade) (old new : List Span) → new ≡ old ++ (get_or shades i s).span ∷ [] → i < length shades → AreSpansOf shades i old → AreSpansOf shades (i + 1) new
+pub spans-more : (shades : List Shade) (i : ℕ) (s : Shade) (old new : List Span) → new ≡ old ++ (get_or shades i s).span ∷ [] → i < length shades → AreSpansOf shades i old
+    → AreSpansOf shades (i + 1) new
 spans-more shades i s old new new_is i_in h = rw new_is (record {
   sized = (let a = h.sized in omega (arith, a, length_push old (get_or shades i s).span));
   each = λ k d e l k_in. elim (cases_eq k i) [
@@ -341,7 +345,8 @@ spans-more shades i s old new new_is i_in h = rw new_is (record {
   ];
 })
 
-module _ (found shades : List Shade) (n i : ℕ) (spans : List Span) (all : length shades ≤ i) (few : i ≤ length shades) (members : (s : Shade) → Contains shades s ↔ (Contains found s × (s.number ≡ n))) (h : AreSpansOf shades i spans) where
+module _ (found shades : List Shade) (n i : ℕ) (spans : List Span) (all : length shades ≤ i) (few : i ≤ length shades)
+    (members : (s : Shade) → Contains shades s ↔ (Contains found s × (s.number ≡ n))) (h : AreSpansOf shades i spans) where
   span_at : (k : ℕ) (e : Span) → k < length spans → get_or spans k e ≡ (get_or shades k no_shade).span
   span_at k e l = let size = h.sized in h.each k no_shade e (omega (arith, l, size)) (omega (arith, l, size, few))
 

@@ -1,14 +1,12 @@
 -- Rectangles to be joined, by owner.
 use Rattle.std.specs.Prelude.{◌≡◌, ℕ, ◌<◌, ◌≤◌, ◌↔◌, List, length, map, slice_index_or}
-use Rattle.std.specs.List.{Contains}
+use Rattle.std.specs.List.{AllPairs, Contains}
 use Rattle.dpl_spec_split.specs.declared.Rect.{Rect}
 use Rattle.dpl_spec_split.specs.Loops.{farthest, AreRectsWithin}
-use Rattle.dpl_spec_split.specs.Slabs.{AreSlabsOf}
+use Rattle.dpl_spec_split.specs.Slabs.{AreSlabsOf, Follows}
 use Rattle.dpl_spec_split.specs.Squares.{IsSolidWithin, Region}
 use Rattle.dpl_spec_split.specs.Zones.{part_at, transposed_rect}
 use Rattle.dpl_join.specs.declared.items.Item.{Item}
-use Rattle.dpl_tree.specs.declared.items.Item.{Item as TreeItem}
-use Rattle.dpl_tree.specs.Trees.{HasItem}
 
 -- the owner's rectangle
 abbrev pub owned_by : ℕ → Rect → Item
@@ -20,6 +18,10 @@ IsOwned items r k = (item : Item) × Contains items item × (item.rect ≡ r) ×
 
 abbrev pub OwnersRise : List Item → Type 0
 OwnersRise items = (i j : ℕ) (d : Item) → i ≤ j → j < length items → (slice_index_or items i d).owner ≤ (slice_index_or items j d).owner
+
+-- of two rectangles of one owner the later one follows the earlier one, as in a canonical list
+abbrev pub AreInOrder : List Item → Type 0
+AreInOrder items = AllPairs (λ (a b : Item). a.owner ≡ b.owner → Follows a.rect b.rect) items
 
 -- the items are solid rectangles in the range of a layer
 abbrev pub AreOwnedWithin : List Item → Type 0
@@ -36,10 +38,6 @@ pub record IsSetOf (items : List Item) (k : ℕ) (set : Region) : Type 0 where
 pub record AreSets (parts : List (List Rect)) (items : List Item) : Type 0 where
   pub known : (r : Rect) (k : ℕ) → IsOwned items r k → k < length parts
   pub each : (k : ℕ) → k < length parts → IsSetOf items k (part_at parts k)
-
--- a search tree has the same rectangles
-abbrev pub IsTreeOf : List Item → List TreeItem → Type 0
-IsTreeOf items tree = (r : Rect) (k : ℕ) → HasItem tree r k ↔ IsOwned items r k
 
 -- the parts, transposed
 abbrev pub transposed_parts : List (List Rect) → List (List Rect)

@@ -83,16 +83,16 @@ pub record IsLit (low high : ℤ) (dark : ℤ → Type 0) (g : Span) : Type 0 wh
   pub bottom : (g.from ≡ low) ⊎ dark (g.from -ℤ pos 1)
   pub top : (g.to ≡ high) ⊎ dark g.to
 
--- the zone lies in the middle of a span of the slab that isn't dark
-pub record IsLitZone (overlap : ℕ) (rects : List Rect) (dark : ℤ → Type 0) (slab z : Rect) : Type 0 where
+-- the zone lies in the middle of a span of the slab that isn't dark; whether the feature goes on directly below and above the slab is told
+pub record IsLitZone (overlap : ℕ) (below above : Type 0) (dark : ℤ → Type 0) (slab z : Rect) : Type 0 where
   pub g : Span
   pub lit : IsLit slab.y0 slab.y1 dark g
-  pub open_span : IsOpenSpan overlap slab (GoesBelow rects slab) (GoesAbove rects slab) g
+  pub open_span : IsOpenSpan overlap slab below above g
   pub middle : IsMiddleOf overlap slab g z
 
 -- the zone lies in the middle of a lit span of the slab
 abbrev pub IsSlabZone : Spacing → ℕ → List Rect → List Rect → Rect → Rect → Type 0
-IsSlabZone spacing overlap rects others slab = IsLitZone overlap rects (IsDark spacing others slab) slab
+IsSlabZone spacing overlap rects others slab = IsLitZone overlap (GoesBelow rects slab) (GoesAbove rects slab) (IsDark spacing others slab) slab
 
 -- the list has these zones too
 abbrev pub AddsZones : (Rect → Type 0) → List Rect → List Rect → Type 0

@@ -8,14 +8,16 @@ use Rattle.dpl_spec_split.specs.Zones.{IsHorizontalZone, IsVerticalZone, part_at
 use Rattle.dpl_slabs.specs.Parts.{union_of}
 use Rattle.dpl_join.specs.declared.items.Item.{Item}
 use Rattle.dpl_join.specs.Pairs.{item_at}
-use Rattle.dpl_tree.specs.declared.items.Item.{Item as TreeItem}
 use Rattle.dpl_zone.specs.Items.{own_in}
-use Rattle.dpl_zone.specs.Rows.{IsLitZone}
+use Rattle.dpl_zone.specs.Rows.{GoesAbove, GoesBelow, IsLitZone}
 use Rattle.dpl_zone.specs.Shading.{IsDarkRow}
 
--- a zone of item n, where the tree tells which rectangles its owner has
-abbrev pub IsItemZone : Spacing → ℕ → List Item → List TreeItem → ℕ → Rect → Type 0
-IsItemZone spacing overlap items tree n = IsLitZone overlap (own_in tree (item_at items n).owner) (IsDarkRow spacing items n) (item_at items n).rect
+-- a zone of item n
+abbrev pub IsItemZone : Spacing → ℕ → List Item → ℕ → Rect → Type 0
+IsItemZone spacing overlap items n =
+    let own = own_in items (item_at items n).owner in
+    let slab = (item_at items n).rect in
+    IsLitZone overlap (GoesBelow own slab) (GoesAbove own slab) (IsDarkRow spacing items n) slab
 
 -- the vertical zones of parts
 abbrev pub AreUpright : Spacing → ℕ → List (List Rect) → List Zone → Type 0

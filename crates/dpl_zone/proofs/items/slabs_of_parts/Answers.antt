@@ -4,20 +4,20 @@ use Rattle.dpl_zone.proofs.OwnedLaws.{sets-all, sets-more, sets-none, slabs-of_p
 use Rattle.dpl_zone.proofs.items.slabs_of_parts.Goals as goal
 
 pub loop-k-init : goal.loop-k-init
-loop-k-init c = sets-none c.args.parts.now _ _ c.none_owned-owned.ensures.items c.none_owned-owned.ensures.tree
+loop-k-init c = sets-none c.args.parts.now _ c.new-items.ensures.items
 
 pub loop-k-preserved : goal.loop-k-preserved
 loop-k-preserved c =
     let own : c.index-parts-k.result ≡ get_or c.args.parts.now c.loop-k.k [] = c.index-parts-k.is ∙ get_or_default _ _ _ _ c.loop-k-test.true in
-    sets-more c.args.parts.now c.loop-k.k _ _ _ _ c.rects.result.now c.loop-k-test.true
+    sets-more c.args.parts.now c.loop-k.k _ _ c.rects.result.now c.loop-k-test.true
     (slabs-of_part c.args.parts.now c.loop-k.k c.rects.result.now (c.rects.ensures.value ∙ own) (rw c.rects.ensures.value c.rects.ensures.canonical)) (rw c.rects.ensures.value c.rects.ensures.within)
-    c.in_ok-add_owner.ensures.items c.in_ok-add_owner.ensures.tree c.loop-k.invariant
+    c.in_ok-add_owner.ensures c.loop-k.invariant
 
 pub returns-clause-sets : goal.returns-clause-sets
-returns-clause-sets c = sets-all c.args.parts.now c.loop-k.k _ _ (omega arith) (omega arith) c.loop-k.invariant
+returns-clause-sets c = sets-all c.args.parts.now c.loop-k.k _ (omega arith) (omega arith) c.loop-k.invariant
 
 pub returns-clause-rise : goal.returns-clause-rise
 returns-clause-rise c = c.loop-k.invariant.rise
 
-pub returns-clause-tree : goal.returns-clause-tree
-returns-clause-tree c = c.loop-k.invariant.tree
+pub returns-clause-order : goal.returns-clause-order
+returns-clause-order c = c.loop-k.invariant.order

@@ -1,8 +1,7 @@
 use Rattle.std.proofs.Common.{refl, arith}
 use Rattle.std.proofs.lemmas.Bool.{false≢true}
 use Rattle.dpl_tree.specs.declared.owners.Owners.TheVariants.{Only}
-use Rattle.dpl_zone.proofs.ItemLaws.{zero_item}
-use Rattle.dpl_zone.proofs.Probes.{IsSought, touch-found, found-touch}
+use Rattle.dpl_zone.proofs.Probes.{IsSought, touch-found, found-touch, zero_item}
 use Rattle.dpl_zone.proofs.near.touches_own.Goals as goal
 
 pub returns-then-n-count : goal.returns-then-n-count

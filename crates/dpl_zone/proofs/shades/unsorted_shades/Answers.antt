@@ -24,4 +24,5 @@ pub returns-clause-handles : goal.returns-clause-handles
 returns-clause-handles c =
     let end = c.loop-strip-test.false in
     let count = c.strips-count.ensures.count in
-    strips-all c.args.join.now c.args.spacing c.args.overlap c.loop-strip.strip c.args.spacing.rule c.loop-strip.shades c.strips-count.ensures.homes (omega (arith, end, count)) c.requires.rule c.loop-strip.invariant
+    strips-all c.args.join.now c.args.spacing c.args.overlap c.loop-strip.strip c.args.spacing.rule c.loop-strip.shades c.strips-count.ensures.homes
+    (omega (arith, end, count)) c.requires.rule c.loop-strip.invariant

@@ -16,6 +16,6 @@ loop-rect-preserved c =
 
 pub returns : goal.returns
 returns c =
-    item-added (IsItemZone c.args.shades.now.spacing c.args.shades.now.overlap c.args.items.now c.args.tree.now c.args.n) c.in_ok-found.found.items c.loop-rect.rect-index
+    item-added (IsItemZone c.args.shades.now.spacing c.args.shades.now.overlap c.args.items.now c.args.n) c.in_ok-found.found.items c.loop-rect.rect-index
     (item_at c.args.items.now c.args.n).owner c.args.zones.now.items c.loop-rect.zones.items (rw c.deref-rect-items.ensures.value at c.loop-rect-test.false) c.in_ok-found.ensures
     (rw c.deref-rect-items.ensures.value at c.loop-rect.invariant)

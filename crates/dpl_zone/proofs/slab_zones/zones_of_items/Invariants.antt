@@ -6,4 +6,4 @@ use Rattle.dpl_zone.proofs.ItemZones.{OfFirstItems}
 use Rattle.dpl_zone.proofs.slab_zones.zones_of_items.Given as goal
 
 abbrev pub invariant-loop-n : goal.invariant-loop-n
-invariant-loop-n l = (z : Zone) → Contains l.zones.items z ↔ OfFirstItems (IsItemZone l.shades.spacing l.shades.overlap l.items l.tree) l.items l.n z
+invariant-loop-n l = (z : Zone) → Contains l.zones.items z ↔ OfFirstItems (IsItemZone l.shades.spacing l.shades.overlap l.items) l.items l.n z
