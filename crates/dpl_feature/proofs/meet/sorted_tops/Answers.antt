@@ -1,14 +1,11 @@
-use Rattle.std.proofs.Common.{◌≡◌, rules}
-use Rattle.std.proofs.lemmas.Fn.{always_returns_same}
-use Rattle.dpl_feature.specs.Meeting.{top_at}
-use Rattle.dpl_feature.proofs.Merging.{tops-permuted}
-use Rattle.dpl_feature.proofs.Orders.{tops-rise}
+use Rattle.std.proofs.lemmas.Result.{IfOk-weaker}
+use Rattle.dpl_feature.proofs.Orders.{tops-has, tops-permuted, tops-rise}
 use Rattle.dpl_feature.proofs.meet.sorted_tops.Goals as goal
 
 pub returns-clause-tops : goal.returns-clause-tops
-returns-clause-tops c = tops-permuted _ _ (rw c.in_ok-tops.ensures at c.sort_unstable_by_key.ensures.permutation)
+returns-clause-tops c = IfOk-weaker c.numbers_of.result _ _ (λ v is. tops-has c.args.rects.now c.sort_tops.new.tops.items v.items (rw c.deref.ensures.value at is)
+    (tops-permuted c.args.rects.now _ c.sort_tops.new.tops.items c.sort_tops.ensures.same c.in_ok-tops.ensures)) c.numbers_of.ensures
 
 pub returns-clause-rise : goal.returns-clause-rise
-returns-clause-rise c =
-    tops-rise _ _ (tops-permuted _ _ (rw c.in_ok-tops.ensures at c.sort_unstable_by_key.ensures.permutation))
-    (c.sort_unstable_by_key.ensures.sorted (top_at c.args.rects.now) (always_returns_same _ (λ a r. r ≡ top_at c.args.rects.now a.0.now) _ (λ a r q k. search rules)))
+returns-clause-rise c = IfOk-weaker c.numbers_of.result _ _ (λ v is. tops-rise c.args.rects.now c.sort_tops.new.tops.items v.items (rw c.deref.ensures.value at is)
+    (tops-permuted c.args.rects.now _ c.sort_tops.new.tops.items c.sort_tops.ensures.same c.in_ok-tops.ensures) c.sort_tops.ensures.rise) c.numbers_of.ensures
