@@ -16,12 +16,14 @@ use Rattle.dpl_join.specs.Strips.{AreFiledTo, IsAddedTo, first_strip, last_strip
 pub all-taken : (P : Item → Type 0) (items : List Item) (n : ℕ) → length items ≤ n → All P (take n items) → All P items
 all-taken P items n few h = subst (All P) (take_all n items few) h
 
-pub lowest-more : (items : List Item) (n : ℕ) (low new : ℤ) → n < length items → new ≤ℤ low → new ≤ℤ (item_at items n).rect.y0 → All (λ (item : Item). low ≤ℤ item.rect.y0) (take n items) → All (λ (item : Item). new ≤ℤ item.rect.y0) (take (n + 1) items)
+pub lowest-more : (items : List Item) (n : ℕ) (low new : ℤ) → n < length items → new ≤ℤ low → new ≤ℤ (item_at items n).rect.y0 → All (λ (item : Item). low ≤ℤ item.rect.y0) (take n items)
+    → All (λ (item : Item). new ≤ℤ item.rect.y0) (take (n + 1) items)
 lowest-more items n low new n_in less here h =
     All-more (λ (item : Item). new ≤ℤ item.rect.y0) items n no_item n_in
     (All-weaker (λ (item : Item). low ≤ℤ item.rect.y0) (λ (item : Item). new ≤ℤ item.rect.y0) (λ item k. omega (arith, ints, less, k)) (take n items) h) here
 
-pub count-more : (last : Rect → ℕ) (items : List Item) (n count new : ℕ) → n < length items → count ≤ new → last (item_at items n).rect < new → All (λ (item : Item). last item.rect < count) (take n items) → All (λ (item : Item). last item.rect < new) (take (n + 1) items)
+pub count-more : (last : Rect → ℕ) (items : List Item) (n count new : ℕ) → n < length items → count ≤ new → last (item_at items n).rect < new
+    → All (λ (item : Item). last item.rect < count) (take n items) → All (λ (item : Item). last item.rect < new) (take (n + 1) items)
 count-more last items n count new n_in more here h =
     All-more (λ (item : Item). last item.rect < new) items n no_item n_in
     (All-weaker (λ (item : Item). last item.rect < count) (λ (item : Item). last item.rect < new) (λ item k. omega (arith, more, k)) (take n items) h) here

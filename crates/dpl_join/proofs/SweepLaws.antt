@@ -1,6 +1,6 @@
 -- A sweep over the items of one strip.
 use Rattle.std.proofs.Common.{◌≡◌, ℕ, ◌+◌, ◌<◌, ◌≤◌, ◌⊎◌, inl, inr, true, false, nat_lt, List, length, map, get_or, Ordering, refl, sym, ap, ◌∙◌, subst, arith}
-use Rattle.std.specs.Prelude.{Option, Some, None, IfSome, ◌↔◌, ◌≢◌, ℤ, pos, ◌+ℤ◌, ◌≤ℤ◌, ◌<ℤ◌}
+use Rattle.std.specs.Prelude.{◌↔◌, ◌≢◌, ℤ, pos, ◌+ℤ◌, ◌≤ℤ◌, ◌<ℤ◌}
 use Rattle.std.specs.Ordering.{is_lt, int_cmp}
 use Rattle.std.specs.declared.cmp.Ordering.TheVariants.{Less, Equal, Greater}
 use Rattle.std.specs.List.{All, AllPairs, Contains}
@@ -13,15 +13,13 @@ use Rattle.std.proofs.lemmas.List.Elements.{All-map, Contains-get_or}
 use Rattle.std.proofs.lemmas.List.Sorted.{All-permutation, Contains-permutation, IsPermutation-map, IsPermutation-sym, sorted_far, ranks_by}
 use Rattle.std.proofs.lemmas.Simd.{map-map}
 use Rattle.dpl_sweep.proofs.Permuted.{AllPairs-permutation}
-use Rattle.dpl_spec_split.specs.declared.Rect.{Rect}
 use Rattle.dpl_join.specs.declared.items.Item.{Item}
 use Rattle.dpl_join.specs.declared.sweep.Entry.{Entry}
-use Rattle.dpl_join.specs.declared.sweep.Home.{Home}
 use Rattle.dpl_join.specs.declared.sweep.Key.{Key}
 use Rattle.dpl_join.specs.declared.sweep.Place.{Place}
 use Rattle.dpl_join.specs.Listing.{Grows, Lists}
-use Rattle.dpl_join.specs.Pairs.{IsPairOfSome, item_at}
-use Rattle.dpl_join.specs.Sweeps.{AddsPair, AreDifferent, CountIn, IsMet, IsMetAmong, IsMetBelow, IsMetWith, KeysRise, LeftsRise, ends, entry_at, entry_of, key_of, keyed_entry, no_entry}
+use Rattle.dpl_join.specs.Pairs.{item_at}
+use Rattle.dpl_join.specs.Sweeps.{AddsPair, AreDifferent, IsMet, IsMetAmong, IsMetBelow, IsMetWith, KeysRise, LeftsRise, ends, entry_at, entry_of, key_of, keyed_entry, no_entry}
 use Rattle.dpl_join.proofs.ListLaws.{grows-push, grows-same, lists-grow, lists-same}
 use Rattle.dpl_join.proofs.PairLaws.{close-flip, common-flip}
 
@@ -45,7 +43,8 @@ module _ (items : List Item) (numbers : List ℕ) (keys : List Key) (same : IsPe
       (All-map (λ (key : Key). key.x0 ≡ (item_at items key.number).rect.x0) (key_of items) numbers (λ k d k_in. refl))
 
   pub keyed-same : IsPermutation (map (entry_of items) numbers) (map (keyed_entry items) keys)
-  keyed-same = subst (λ es. IsPermutation es (map (keyed_entry items) keys)) (map-map (keyed_entry items) (key_of items) numbers) (IsPermutation-map (keyed_entry items) (map (key_of items) numbers) keys same)
+  keyed-same = subst (λ es. IsPermutation es (map (keyed_entry items) keys)) (map-map (keyed_entry items) (key_of items) numbers)
+      (IsPermutation-map (keyed_entry items) (map (key_of items) numbers) keys same)
 
   pub keyed-rise : KeysRise keys → LeftsRise (map (keyed_entry items) keys)
   keyed-rise rise i j d l j_in =
@@ -83,15 +82,11 @@ same-ends a b c d e = elim (ends-are a b) [
   ]
 ]
 
-here-flip : (home : Option Home) (a b : Rect) → IfSome home (λ h. CountIn h a b) → IfSome home (λ h. CountIn h b a)
-here-flip None a b here = here
-here-flip (Some home) a b here = common-flip home.ruling.first home.ruling.shift b a ∙ here
-
 met-flip : (place : Place) (a b : Entry) → IsMet place a b → IsMet place b a
 met-flip place a b met = record {
   apart = λ e. met.apart (sym e);
   close = close-flip place.rule a.rect b.rect met.close;
-  here = here-flip place.home a.rect b.rect met.here;
+  here = common-flip place.home.ruling.first place.home.ruling.shift b.rect a.rect ∙ met.here;
 }
 
 module _ (place : Place) (es : List Entry) (different : AreDifferent es) where
@@ -138,7 +133,8 @@ module _ (place : Place) (es : List Entry) (different : AreDifferent es) where
     pairs-more old new next (inr (off, is)) grows = rw is (grows-same (IsMetWith place es at n) (IsMetWith place es at (n + 1)) old new (λ p. with-same p off) grows)
 
     -- the next entry begins too far to the right, and so do all behind it
-    pub pairs-end : (old new : List (ℕ × ℕ)) → LeftsRise es → ((entry_at es n).rect.x0 <ℤ ((entry_at es at).rect.x1 +ℤ pos place.rule) → ⊥) → Grows (IsMetWith place es at n) old new → Grows (IsMetWith place es at (length es)) old new
+    pub pairs-end : (old new : List (ℕ × ℕ)) → LeftsRise es → ((entry_at es n).rect.x0 <ℤ ((entry_at es at).rect.x1 +ℤ pos place.rule) → ⊥) → Grows (IsMetWith place es at n) old new
+        → Grows (IsMetWith place es at (length es)) old new
     pairs-end old new rise far grows = grows-same (IsMetWith place es at n) (IsMetWith place es at (length es)) old new
         (λ p. (
           (λ w. record { other = w.other; behind = w.behind; before = w.known; known = w.known; met = w.met; is = w.is }),
@@ -160,7 +156,8 @@ module _ (place : Place) (es : List Entry) (different : AreDifferent es) where
       ]
 
   -- all pairs of one more entry
-  pub below-more : (at : ℕ) (old new : List (ℕ × ℕ)) → at < length es → Lists (IsMetBelow place es at) old → Grows (IsMetWith place es at (length es)) old new → Lists (IsMetBelow place es (at + 1)) new
+  pub below-more : (at : ℕ) (old new : List (ℕ × ℕ)) → at < length es → Lists (IsMetBelow place es at) old → Grows (IsMetWith place es at (length es)) old new
+      → Lists (IsMetBelow place es (at + 1)) new
   below-more at old new at_in lists grows = lists-same (λ p. IsMetBelow place es at p ⊎ IsMetWith place es at (length es) p) (IsMetBelow place es (at + 1)) new
       (λ p. (
         (λ h. elim h [
@@ -204,7 +201,8 @@ module _ (place : Place) (items : List Item) (numbers : List ℕ) (es : List Ent
       let (i, i_in, i_is) = Contains-permutation (map (entry_of items) numbers) es (entry_of items n) same (k, subst (λ m. k < m) (sym (length-map numbers (entry_of items))) k_in, f) in
       (i, i_in, get_or_default es i no_entry (entry_of items n) i_in ∙ i_is)
 
-  among-of : (a b : Entry) → Contains numbers a.number → Contains numbers b.number → a ≡ entry_of items a.number → b ≡ entry_of items b.number → a.number < b.number → IsMet place a b → IsMetAmong place items numbers (a.number, b.number)
+  among-of : (a b : Entry) → Contains numbers a.number → Contains numbers b.number → a ≡ entry_of items a.number → b ≡ entry_of items b.number → a.number < b.number → IsMet place a b
+      → IsMetAmong place items numbers (a.number, b.number)
   among-of a b a_in b_in a_is b_is l met = record {
     order = l;
     first = a_in;
@@ -221,8 +219,10 @@ module _ (place : Place) (items : List Item) (numbers : List ℕ) (es : List Ent
       elim (ends-are (entry_at es b.one) (entry_at es w.other)) [
         | inl (l, e) ↦ subst (IsMetAmong place items numbers) (sym (w.is ∙ e)) (among-of (entry_at es b.one) (entry_at es w.other) a_in c_in a_is c_is l w.met)
         | inr (m, e) ↦
-            let differ : (entry_at es w.other).number ≡ (entry_at es b.one).number → ⊥ = λ f. (let g = same-place place es entries-differ w.other b.one w.known b.below f in omega (arith, g, behind)) in
-            subst (IsMetAmong place items numbers) (sym (w.is ∙ e)) (among-of (entry_at es w.other) (entry_at es b.one) c_in a_in c_is a_is (omega (arith, m, differ)) (met-flip place (entry_at es b.one) (entry_at es w.other) w.met))
+            let differ : (entry_at es w.other).number ≡ (entry_at es b.one).number
+            → ⊥ = λ f. (let g = same-place place es entries-differ w.other b.one w.known b.below f in omega (arith, g, behind)) in
+            subst (IsMetAmong place items numbers) (sym (w.is ∙ e))
+            (among-of (entry_at es w.other) (entry_at es b.one) c_in a_in c_is a_is (omega (arith, m, differ)) (met-flip place (entry_at es b.one) (entry_at es w.other) w.met))
       ]
 
   among-to : (p : ℕ × ℕ) → IsMetAmong place items numbers p → IsMetBelow place es (length es) p
@@ -274,15 +274,3 @@ module _ (place : Place) (items : List Item) (numbers : List ℕ) (es : List Ent
   among-all found n at_least at_most lists =
       let end : n ≡ length es = omega arith in
       lists-same (IsMetBelow place es (length es)) (IsMetAmong place items numbers) found (λ p. (among-from p, among-to p)) (subst (λ m. Lists (IsMetBelow place es m) found) end lists)
-
--- with no strip named, the pairs are all of these items
-pub some-all : (rule : ℕ) (items : List Item) (numbers : List ℕ) (found : List (ℕ × ℕ)) → All (λ n. n < length items) numbers → Lists (IsMetAmong (record { rule = rule; home = None }) items numbers) found → Lists (IsPairOfSome rule items numbers) found
-some-all rule items numbers found known lists = lists-same (IsMetAmong (record { rule = rule; home = None }) items numbers) (IsPairOfSome rule items numbers) found
-    (λ p. (
-      (λ m. record {
-        pair = record { order = m.order; known = (let (k, k_in, k_is) = m.second in subst (λ n. n < length items) k_is (known k p.1 k_in)); apart = m.met.apart; close = m.met.close };
-        first = m.first;
-        second = m.second;
-      }),
-      λ s. record { order = s.pair.order; first = s.first; second = s.second; met = record { apart = s.pair.apart; close = s.pair.close; here = tt } },
-    )) lists

@@ -1,6 +1,5 @@
 -- Pairs of rectangles of different owners that lie close to one another.
 use Rattle.std.specs.Prelude.{◌≢◌, ℕ, ◌<◌, pos, ◌+ℤ◌, ◌<ℤ◌, List, length, slice_index_or}
-use Rattle.std.specs.List.{Contains}
 use Rattle.dpl_spec_split.specs.declared.Rect.{Rect}
 use Rattle.dpl_join.specs.declared.items.Item.{Item}
 
@@ -23,9 +22,3 @@ pub record IsPair (rule : ℕ) (items : List Item) (p : ℕ × ℕ) : Type 0 whe
   pub known : p.1 < length items
   pub apart : (item_at items p.0).owner ≢ (item_at items p.1).owner
   pub close : AreClose rule (item_at items p.0).rect (item_at items p.1).rect
-
--- two of the items with these numbers that are a pair
-pub record IsPairOfSome (rule : ℕ) (items : List Item) (numbers : List ℕ) (p : ℕ × ℕ) : Type 0 where
-  pub pair : IsPair rule items p
-  pub first : Contains numbers p.0
-  pub second : Contains numbers p.1

@@ -1,5 +1,5 @@
 -- A sweep over the items of one strip.
-use Rattle.std.specs.Prelude.{◌≡◌, ◌≢◌, IfSome, ℕ, ◌<◌, ◌≤◌, ◌⊎◌, nat_lt, if◌then◌else◌, pos, ◌≤ℤ◌, List, [], ◌∷◌, ◌++◌, length, slice_index_or}
+use Rattle.std.specs.Prelude.{◌≡◌, ◌≢◌, ℕ, ◌<◌, ◌≤◌, ◌⊎◌, nat_lt, if◌then◌else◌, pos, ◌≤ℤ◌, List, [], ◌∷◌, ◌++◌, length, slice_index_or}
 use Rattle.std.specs.List.{AllPairs, Contains}
 use Rattle.dpl_spec_split.specs.declared.Rect.{Rect}
 use Rattle.dpl_join.specs.declared.items.Item.{Item}
@@ -38,11 +38,11 @@ AreDifferent entries = AllPairs (λ (e f : Entry). e.number ≢ f.number) entrie
 abbrev pub CountIn : Home → Rect → Rect → Type 0
 CountIn home a b = common_strip home.ruling.first home.ruling.shift a b ≡ home.strip
 
--- a pair that counts in the strip, where one is named
+-- a pair that counts in the strip
 pub record IsMet (place : Place) (a b : Entry) : Type 0 where
   pub apart : a.owner ≢ b.owner
   pub close : AreClose place.rule a.rect b.rect
-  pub here : IfSome place.home (λ home. CountIn home a.rect b.rect)
+  pub here : CountIn place.home a.rect b.rect
 
 abbrev pub ends : Entry → Entry → ℕ × ℕ
 ends a b = (if nat_lt a.number b.number then (a.number, b.number) else (b.number, a.number))

@@ -35,7 +35,7 @@ impl Model for Join {
 }
 
 impl Join {
-    /// Items, of which those closer than `rule` are sought. More than 2^32 - 1 items are refused as want of memory.
+    /// Items, of which those closer than `rule` are sought. More than 2^32 - 1 items are refused as out of memory.
     pub fn of(alloc: Global, items: Vec<Item>, rule: u32) -> Result<Join, AllocError>
         ensures items { IfOk result (λ j. j.items ≡ items.items) }
         ensures rule { IfOk result (λ j. j.rule ≡ rule) }
@@ -79,15 +79,14 @@ impl Join {
         };
         let place = Place {
             rule: self.rule,
-            home: Some(home),
+            home,
         };
-        let pairs = pairs_among(
+        pairs_among(
             alloc,
             self.items.as_slice(),
             self.strips[strip].numbers(),
             &place,
-        )?;
-        Ok(pairs)
+        )
     }
 
     /// All pairs of items of different owners between which lie fewer than the rule's columns and fewer than its rows, each once, in no order.

@@ -5,7 +5,6 @@ mod close;
 mod items;
 mod join;
 mod laws;
-mod nearby;
 mod ruling;
 mod strips;
 mod sweep;
@@ -13,9 +12,7 @@ mod sweep;
 pub use crate::close::is_close;
 pub use crate::items::{Item, Pair};
 pub use crate::join::Join;
-pub use crate::laws::{near_are_close, pairs_name_all_near};
-pub use crate::nearby::Nearby;
-pub use crate::sweep::pairs_of_some;
+pub use crate::laws::near_are_close;
 
 #[cfg(test)]
 mod tests {
