@@ -12,7 +12,7 @@ use dpl_base::Zone;
 use dpl_slabs::Parts;
 use std::alloc::{AllocError, Global};
 
-/// The pieces that the zones of features leave of them, before it is known which stand beside which zone. A feature without a zone is moved, as it is. 2^32 zones or more are refused as out of memory, which so many would be.
+/// The pieces that the zones of features leave of them, before it is known which stand beside which zone. A feature without a zone is moved, as it is. 2^32 zones or pieces, or more, are refused as out of memory, which so many would be.
 pub fn bare_pieces(
     alloc: Global,
     features: Parts,
@@ -36,7 +36,7 @@ pub fn bare_pieces(
     Ok(BarePieces::of(parts, owners, zones, sides, wholes, count))
 }
 
-/// The pieces that the zones of features leave of them, with the pieces on the two sides of each zone. A feature without a zone is moved, as it is. 2^32 zones or more are refused as out of memory, which so many would be.
+/// The pieces that the zones of features leave of them, with the pieces on the two sides of each zone. A feature without a zone is moved, as it is. 2^32 zones or pieces, or more, are refused as out of memory, which so many would be.
 pub fn pieces(alloc: Global, features: Parts, zones: Vec<Zone>) -> Result<Pieces, AllocError>
     requires features { AreFeatures features }
     requires zones { AreTheirZones features zones.items }
