@@ -1,5 +1,5 @@
 -- What is checked of a conflict, in order.
-use Rattle.std.specs.Prelude.{Option, Some, None, Bool, true, false, ◌≡◌, ◌≢◌, ℕ, pos, ◌+◌, ◌*◌, ◌%◌, ◌<◌, List, length, slice_index, slice_index_or}
+use Rattle.std.specs.Prelude.{Option, Some, None, Bool, true, false, ◌≡◌, ◌≢◌, ℕ, pos, ◌+◌, ◌%◌, ◌<◌, List, length, slice_index, slice_index_or}
 use Rattle.dpl_spec_split.specs.declared.Spacing.{Spacing}
 use Rattle.dpl_spec_split.specs.declared.Pt.{Pt}
 use Rattle.dpl_spec_split.specs.declared.Rect.{Rect}

@@ -1,5 +1,5 @@
 -- What is checked of masks, in order.
-use Rattle.std.specs.Prelude.{Option, ◌≡◌, ◌≢◌, ℕ, pos, ◌*◌, ◌<◌, ◌⊎◌, ◌-ℤ◌, ◌≤ℤ◌, false, cond, List, length, slice_index_or}
+use Rattle.std.specs.Prelude.{Option, ◌≡◌, ◌≢◌, ℕ, pos, ◌<◌, ◌⊎◌, ◌-ℤ◌, ◌≤ℤ◌, false, cond, List, length, slice_index_or}
 use Rattle.std.specs.List.{Any}
 use Rattle.dpl_spec_split.specs.declared.Spacing.{Spacing}
 use Rattle.dpl_spec_split.specs.declared.Pt.{Pt}
