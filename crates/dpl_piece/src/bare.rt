@@ -1,4 +1,4 @@
-//! The pieces of a layer before it is known which of them stand beside which zone.
+//! The pieces of a layer while their conflicts are found.
 ghost use Rattle.std.specs.Prelude.{◌≡◌, IfOk, length};
 ghost use Rattle.dpl_piece.specs.Cutting.{AreBare, Completes, bare_cut};
 ghost use Rattle.dpl_piece.specs.Wholes.{LieInSome};
@@ -11,7 +11,7 @@ use dpl_slabs::Parts;
 use std::alloc::{AllocError, Global};
 use std::marker::Model;
 
-/// Pieces, numbered from 0 by least square, each with the feature that it lies in, and the zones that cut them. Conflicts are found from these alone, and which pieces stand beside which zone need not be kept meanwhile.
+/// Pieces, numbered from 0 by least square, each with the feature that it lies in, and the zones that cut them. Conflicts are found from these alone; the pieces on the two sides of each zone are kept in 8 bytes meanwhile.
 #[derive(Drop)]
 pub struct BarePieces {
     parts: Parts,

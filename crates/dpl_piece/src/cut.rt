@@ -12,7 +12,7 @@ use dpl_base::Zone;
 use dpl_slabs::Parts;
 use std::alloc::{AllocError, Global};
 
-/// The pieces that the zones of features leave of them, before it is known which stand beside which zone. A feature without a zone is moved, as it is. 2^32 zones or pieces, or more, are refused as out of memory, which so many would be.
+/// The pieces that the zones of features leave of them, as they are kept while their conflicts are found. A feature without a zone is moved, as it is. 2^32 zones or pieces, or more, are refused as out of memory, which so many would be.
 pub fn bare_pieces(
     alloc: Global,
     features: Parts,
