@@ -1,12 +1,26 @@
 -- Marked squares that aren't on their mask alone, by slabs.
-use Rattle.std.proofs.Common.{◌⊎◌, inl, inr, List}
+use Rattle.std.proofs.Common.{◌≡◌, ◌⊎◌, inl, inr, List, [], ◌∷◌, length, arith}
 use Rattle.std.specs.Prelude.{Option}
+use Rattle.dpl_spec_split.specs.declared.Pt.{Pt}
 use Rattle.dpl_spec_split.specs.declared.Rect.{Rect}
 use Rattle.dpl_spec_split.specs.Squares.{Covers}
 use Rattle.dpl_spec_split.specs.Slabs.{AreSlabsOf}
 use Rattle.dpl_spec_split.specs.Marks.{Marks, AreMarks}
+use Rattle.dpl_spec_split.proofs.Ordered.{Contains-nil}
+use Rattle.dpl_spec_split.proofs.SlabLaws.{member-Covers}
 use Rattle.dpl_spec_verdict.specs.Masks.{is_alone, is_misplaced}
 use Rattle.dpl_check.specs.Findings.{is_off}
+
+-- where nothing is marked nothing is off
+pub none-off : (layer mask other marked : List Rect) → length marked ≡ 0 → AreSlabsOf (is_off layer mask other marked) []
+none-off layer mask other [] none = record {
+  canonical = record { solid = λ i d k. absurd (omega (arith, k)); follow = λ i j d l k. absurd (omega (arith, k)) };
+  covers = λ p. (λ h. absurd (nothing p h), λ (in_layer, at, off). absurd (nothing p at));
+}
+  where
+    nothing : (p : Pt) → Covers [] p → ⊥
+    nothing p c = let found = member-Covers [] p c in Contains-nil found.0 found.1
+none-off layer mask other (r ∷ marked) none = absurd (omega (arith, none))
 
 pub squares-are : (layer mask other marked fixed alone off : List Rect) → AreSlabsOf (λ p. Covers layer p × Covers marked p) fixed → AreSlabsOf (is_alone mask other) alone
     → AreSlabsOf (λ p. Covers fixed p × ¬ Covers alone p) off → AreSlabsOf (is_off layer mask other marked) off

@@ -19,6 +19,9 @@ fn squares_off(
 ) -> Result<Slabs, AllocError>
     ensures { IfOk result (AreSlabsOf (is_off layer.now mask.now other.now marked.now)) }
 {
+    if marked.rects().is_empty() {
+        return Ok(Slabs::empty(alloc));
+    }
     let fixed = layer.meet(alloc, marked)?;
     let alone = mask.minus(alloc, other)?;
     let off = fixed.minus(alloc, &alone)?;

@@ -71,12 +71,14 @@ pub fn check_masks(
     if let Some((first, second)) = too_close(alloc, layer, &features, b, spacing)? {
         return Ok(Verdict::SpacingB { first, second });
     }
+    drop(features);
     if let Some(at) = misplaced(alloc, layer, a, b, mark_a, mark_b)? {
         return Ok(Verdict::Marked { at });
     }
     if let Some(index) = bad_stitch(alloc, &both, pieces.items(), stitches.items(), overlap)? {
         return Ok(Verdict::Stitch { index });
     }
+    drop(both);
     if let Some(index) = bad_piece(alloc, a, b, pieces.items())? {
         return Ok(Verdict::Piece { index });
     }

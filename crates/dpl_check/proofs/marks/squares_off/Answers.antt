@@ -1,5 +1,11 @@
-use Rattle.dpl_check.proofs.Marking.{squares-are}
+use Rattle.std.proofs.Common.{◌≡◌, length, arith}
+use Rattle.dpl_check.proofs.Marking.{none-off, squares-are}
 use Rattle.dpl_check.proofs.marks.squares_off.Goals as goal
+
+pub returns-then-is_empty : goal.returns-then-is_empty
+returns-then-is_empty c =
+    let empty : length c.rects.result.now ≡ 0 = (let h = c.if-is_empty.ensures in grind arith) in
+    rw c.empty.ensures (none-off c.args.layer.now c.args.mask.now c.args.other.now c.args.marked.now (rw c.rects.ensures.value at empty))
 
 pub returns : goal.returns
 returns c = squares-are c.args.layer.now c.args.mask.now c.args.other.now c.args.marked.now c.in_ok-fixed.fixed c.in_ok-alone.alone c.in_ok-off.off
