@@ -12,7 +12,7 @@ pub fn valid_masks_are_right()
     ensures { ValidMasksAreRight }
 {}
 
-/// Each stitch listed for valid masks is on both of them, as long as the overlap, and between listed pieces of two letters; each listed piece is on the mask of its letter, and the certificate names the rule, the overlap and the number of features.
+/// Each stitch listed for valid masks is on both of them, as long as the overlap, and between listed pieces of two letters; each listed piece is on the mask of its letter, and the certificate names the rule, the corner rule, the overlap and the number of features.
 pub fn valid_lines_are_good()
     ensures { ValidLinesAreGood }
 {}
@@ -22,12 +22,12 @@ pub fn valid_masks_keep_marks()
     ensures { ValidMasksKeepMarks }
 {}
 
-/// Where a valid certificate of masks has lines of gains, no flip of a single component of conflicts without a marked piece leaves fewer stitches than the letters of its pieces make.
+/// Where a valid certificate of masks has lines of gains, no flip of a single component of conflicts without a marked piece leaves fewer stitches than the letters of its piece lines make.
 pub fn no_flips_leave_fewer()
     ensures { NoFlipsLeaveFewer }
 {}
 
-/// The places of a valid certificate of a conflict are an odd cycle of the layer's conflict graph, with its anchors where marks are asked for. Each piece is named by its least square, and each line shows that two places are joined; the head names the rule, the overlap, and how many features, pieces and zones there are.
+/// The places of a valid certificate of a conflict are an odd cycle of the layer's conflict graph, with its anchors where marks are asked for. Each piece is named by its least square, and each line shows that two places are joined; the head names the rule, the corner rule, the overlap, and how many features, pieces and zones there are.
 pub fn valid_conflicts_are_there()
     ensures { ValidConflictsAreThere }
 {}

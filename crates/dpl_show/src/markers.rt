@@ -26,7 +26,7 @@ const STITCHES: Subject = Subject {
     meaning: "Where both masks overlap",
 };
 
-/// A marker database with a marker for each cycle, in micrometres by the record UNITS of the layout. The marker has the cycle's number and how many pieces it has, and a closed line that goes across each pair of near squares and, in the piece that it comes to, on to the next pair.
+/// A marker database with a marker for each cycle, in micrometres by the record UNITS of the layout. The marker has the cycle's number and how many pieces it has, and a closed line that goes across each pair of near squares and straight on to the next pair.
 pub fn cycle_markers(alloc: Global, found: &Cycles) -> Result<Vec<u8>, AllocError> {
     let mut pen = Pen::new(alloc, &CYCLES, found.copied.as_slice())?;
     for (number, clash) in found.tangles.clashes.iter().enumerate() {

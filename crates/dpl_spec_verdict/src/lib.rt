@@ -65,7 +65,7 @@ pub enum Verdict {
     Piece {
         index: u64,
     },
-    /// The first line of gains that isn't the one of the layer's component at this place, by the letters of the pieces, or whose component's flip alone leaves fewer stitches; the number of lines where some are missing, and 0 where the layer has other numbers of pieces or zones.
+    /// The first line of gains that isn't the one of the layer's component at this place, by the letters of the piece lines, or whose component's flip alone leaves fewer stitches by these letters; the number of lines where some are missing, and 0 where the layer has other numbers of pieces or zones.
     Gain {
         index: u64,
     },

@@ -57,6 +57,27 @@ const EXCHANGED: &str =
 const GAINS_BUT_5: &str =
     "dpl 3\nrule 30 overlap 10 corner 30\nfeatures 3 pieces 8 zones 5 stitches 1\ngains 4\npiece 0 A 0 0\npiece 1 A 205 0\npiece 2 B 0 40\npiece 3 B 350 40\npiece 4 B 0 125\npiece 5 B 380 125\npiece 6 A 107 180\npiece 7 B 215 180\nstitch 97 180 107 200 4 6\ngain 0 0 2\ngain 1 0 2\ngain 4 1 1\ngain 6 1 1\nend\n";
 
+/// A bar over three others, cut twice, so that it has three pieces.
+const OVER: [Corners; 4] = [
+    (0, 0, 266, 20),
+    (0, 40, 50, 60),
+    (108, 40, 158, 60),
+    (216, 40, 266, 60),
+];
+
+/// Its masks with a stitch that a flip of the left pieces would save.
+const OVER_A: [Corners; 3] = [(0, 0, 84, 20), (108, 40, 158, 60), (216, 40, 266, 60)];
+
+const OVER_B: [Corners; 2] = [(74, 0, 266, 20), (0, 40, 50, 60)];
+
+/// The lines of gains are right, and the first component's flip leaves a stitch fewer.
+const SAVING: &str =
+    "dpl 3\nrule 30 overlap 10 corner 30\nfeatures 4 pieces 6 zones 2 stitches 1\ngains 3\npiece 0 A 0 0\npiece 1 B 84 0\npiece 2 B 192 0\npiece 3 B 0 40\npiece 4 A 108 40\npiece 5 A 216 40\nstitch 74 0 84 20 0 1\ngain 0 1 0\ngain 1 1 1\ngain 2 0 1\nend\n";
+
+/// A line more than there are components with zones to others.
+const ONE_MORE: &str =
+    "dpl 3\nrule 30 overlap 10 corner 30\nfeatures 4 pieces 6 zones 2 stitches 1\ngains 4\npiece 0 A 0 0\npiece 1 A 0 0\npiece 2 A 0 0\npiece 3 B 0 40\npiece 4 A 108 40\npiece 5 A 216 40\nstitch 74 0 84 20 0 3\ngain 0 0 1\ngain 1 0 2\ngain 2 0 1\ngain 3 0 0\nend\n";
+
 /// A layer, its masks, squares that are fixed to mask A and to mask B, a certificate, and what is said of it.
 struct Case {
     layer: &'static [Corners],
@@ -66,7 +87,21 @@ struct Case {
     verdict: Verdict,
 }
 
-const CASES: [Case; 9] = [
+const CASES: [Case; 11] = [
+    Case {
+        layer: &OVER,
+        masks: [&OVER_A, &OVER_B],
+        marks: [&[], &[]],
+        text: SAVING,
+        verdict: Verdict::Gain { index: 0 },
+    },
+    Case {
+        layer: &OVER,
+        masks: [&OVER_A, &OVER_B],
+        marks: [&[], &[]],
+        text: ONE_MORE,
+        verdict: Verdict::Gain { index: 3 },
+    },
     Case {
         layer: &ONE,
         masks: [&ONE, &[]],
