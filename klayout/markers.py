@@ -91,15 +91,17 @@ NOWHERE = {"TooLarge", "NoTop", "ManyTops", "TooManyPoints"}
 
 # What each property of `dpl check` says where it is broken.
 PROPERTIES = {
-    "Rules": "the certificate was made with another rule or overlap",
+    "Rules": "the certificate was made with another rule, corner rule or overlap",
     "WasFault": "the certificate tells of a fault that the layout hasn't",
     "Counts": "the layer has another number of features, pieces and zones",
     "Cover": "a square is in just one of the layer and both masks together",
     "Overlap": "a square is on both masks and in no listed stitch",
     "SpacingA": "two features on mask A are closer than the rule",
     "SpacingB": "two features on mask B are closer than the rule",
+    "Marked": "a square that is fixed to a mask isn't on that mask alone",
     "Stitch": "a listed stitch isn't one: it isn't on both masks, or is too short, or lies between pieces of one mask",
     "Piece": "a piece isn't on the mask that is listed for it",
+    "Gain": "a line of gains isn't that of the layer's component, or its flip would save a stitch",
     "Cycle": "a place of the listed cycle isn't true of the layer",
 }
 
@@ -355,7 +357,7 @@ class Certificate:
         except OSError as error:
             raise Problem("%s: %s" % (path, error.strerror)) from None
         self.letters = bytearray()
-        self.kind, self.fault, self.rule, self.overlap, self.pieces, self.count = "", None, 0, 0, 0, 0
+        self.kind, self.fault, self.rule, self.overlap, self.pieces, self.count, self.gains = "", None, 0, 0, 0, 0, 0
 
     def __enter__(self):
         return self
@@ -365,19 +367,23 @@ class Certificate:
 
     def head(self):
         """Reads the first lines, which tell of what kind it is."""
-        self.take("dpl 1")
+        (version,) = self.take("dpl #")
+        if version not in (1, 2, 3):
+            self.fail()
         line = self.line()
         fault = re.fullmatch(rb"fault ([A-Za-z]+) ([0-9]{1,20})\n", line)
-        if fault:
+        if fault and version == 1:
             self.kind, self.fault = "fault", (text_of(fault[1]), int(fault[2]))
             return
-        self.rule, self.overlap = self.match("rule # overlap #", line) or self.fail()
+        rules = "rule # overlap #" if version == 1 else "rule # overlap # corner #"
+        self.rule, self.overlap = (self.match(rules, line) or self.fail())[:2]
         line = self.line()
         counts = self.match("features # pieces # zones # stitches #", line)
-        self.kind = "masks" if counts else "conflict"
-        counts = counts or self.match("features # pieces # zones #", line) or self.fail()
+        self.kind = "masks" if counts or version == 3 else "conflict"
+        counts = counts or (version < 3 and self.match("features # pieces # zones #", line)) or self.fail()
         self.pieces = counts[1]
         self.count = counts[3] if self.kind == "masks" else self.take("cycle #")[0]
+        self.gains = self.take("gains #")[0] if version == 3 else 0
 
     def fail(self):
         raise Problem("%s: line %d is not one that a certificate has there" % (self.path, self.at))
@@ -411,17 +417,36 @@ class Certificate:
         """Each stitch of masks: its rectangle and the pieces on its sides."""
         for _ in range(self.count):
             yield self.take("stitch # # # # # #")
+        for _ in range(self.gains):
+            self.take("gain # # #")
         self.take("end")
 
     def letter(self, piece):
         return chr(self.letters[piece]) if 0 <= piece < len(self.letters) else "no mask"
 
     def cycle(self):
-        """The pieces of a conflict, each with its least square, and the near squares behind each."""
-        pieces = [self.take("piece # # #") for _ in range(self.count)]
-        nears = [self.take("near # # # #") for _ in range(self.count)]
+        """The places of a conflict, and the squares that join each to the next one."""
+        places = [self.place() for _ in range(self.count)]
+        nears = [self.near() for _ in range(self.count)]
         self.take("end")
-        return pieces, nears
+        return places, nears
+
+    def place(self):
+        """The name of a piece, with its least square, or that of an anchor, which has none."""
+        line = self.line()
+        piece = self.match("piece # # #", line)
+        if piece:
+            return "piece %d" % piece[0], piece[1:]
+        anchor = re.fullmatch(rb"anchor ([AB])\n", line) or self.fail()
+        return "anchor %s" % text_of(anchor[1]), None
+
+    def near(self):
+        """Two near squares, one marked square, or none between the anchors."""
+        line = self.line()
+        if line == b"anchors\n":
+            return []
+        numbers = self.match("near # # # #", line) or self.match("marked # #", line) or self.fail()
+        return list(zip(*[iter(numbers)] * 2))
 
 
 @functools.lru_cache(maxsize=None)
@@ -459,9 +484,10 @@ class Said:
             raise Problem("dpl says no such line: '%s'" % self.line)
         self.numbers = [int(word) for word in digits]
         counts = {"Rules": 2, "WasFault": 1, "Counts": 3, "Cover": 2, "Overlap": 2, "SpacingA": 4,
-                  "SpacingB": 4, "Stitch": 1, "Piece": 1, "Cycle": 1}
+                  "SpacingB": 4, "Marked": 2, "Stitch": 1, "Piece": 1, "Gain": 1, "Cycle": 1}
         wanted = 1 if self.file else counts.get(self.name)
-        if len(self.numbers) != wanted:
+        names_corner = self.name == "Rules" and len(self.numbers) == 3
+        if len(self.numbers) != wanted and not names_corner:
             raise Problem("dpl says no such line: '%s'" % self.line)
 
     def broken(self):
@@ -548,23 +574,27 @@ def masks_marks(certificate, said, pen, cell):
 
 def conflict_marks(certificate, said, pen, cell):
     """The cycle as a whole, then its pieces and near pairs in order, and the place that is broken."""
-    pieces, nears = certificate.cycle()
-    count = len(pieces)
-    lines = [between(near[:2], near[2:]) for near in nears]
-    ways = [(lines[i - 1][1], lines[i][0]) for i in range(count)]
-    text = "odd cycle of %d pieces: %s" % (count, " ".join(str(piece[0]) for piece in pieces))
-    edges = [edge for pair in zip(ways, lines) for edge in pair if edge[0] != edge[1]]
+    places, nears = certificate.cycle()
+    count = len(places)
+    lines = [between(*near) if len(near) == 2 else None for near in nears]
+    ways = [lines[i - 1] and lines[i] and (lines[i - 1][1], lines[i][0]) for i in range(count)]
+    names = [name.replace("piece ", "") for name, _ in places]
+    text = "odd cycle of %d %s: %s" % (count, "pieces" if all(lines) else "pieces and anchors", " ".join(names))
+    edges = [edge for pair in zip(ways, lines) for edge in pair if edge and edge[0] != edge[1]]
     yield "cycle", cell, [pen.text(text)] + [pen.edge(*edge) for edge in edges]
     broken = said.broken_at("Cycle", count)
-    for i, ((n, x, y), near) in enumerate(zip(pieces, nears)):
-        after = pieces[(i + 1) % count][0]
-        values = [pen.text("%d of %d: piece %d" % (i + 1, count, n)), pen.square(x, y)]
-        values += [pen.edge(*ways[i])] if ways[i][0] != ways[i][1] else []
+    for i, ((name, square), near) in enumerate(zip(places, nears)):
+        values = [pen.text("%d of %d: %s" % (i + 1, count, name))] + ([pen.square(*square)] if square else [])
+        values += [pen.edge(*ways[i])] if ways[i] and ways[i][0] != ways[i][1] else []
         yield "cycle", cell, values
-        apart = pen.length(math.hypot(*(i - j for i, j in zip(*lines[i]))))
-        text = "%d of %d: piece %d and piece %d are %s µm apart, the rule is %s µm" % (
-            i + 1, count, n, after, apart, pen.length(certificate.rule))
-        pair = [pen.edge(*lines[i]), pen.square(*near[:2]), pen.square(*near[2:])]
+        text = "%d of %d: %s and %s are " % (i + 1, count, name, places[(i + 1) % count][0])
+        pair = [pen.square(*one) for one in near]
+        if lines[i]:
+            apart = pen.length(math.hypot(*(i - j for i, j in zip(*lines[i]))))
+            text += "%s µm apart, the rule is %s µm" % (apart, pen.length(certificate.rule))
+            pair.insert(0, pen.edge(*lines[i]))
+        else:
+            text += "joined by a marked square" if near else "joined"
         yield "cycle", cell, [pen.text(text)] + pair
         if i == broken:
             yield "broken", cell, values + pair
@@ -573,9 +603,9 @@ def conflict_marks(certificate, said, pen, cell):
 def broken_marks(said, pen, cell):
     """A broken property that tells its squares, or has none."""
     values, squares = [pen.text(said.line)], list(zip(*[iter(said.numbers)] * 2))
-    if said.name in ("Cover", "Overlap", "SpacingA", "SpacingB"):
+    if said.name in ("Cover", "Overlap", "SpacingA", "SpacingB", "Marked"):
         values += [pen.square(*square) for square in squares]
-    if len(squares) == 2:
+    if said.name in ("SpacingA", "SpacingB"):
         values.append(pen.edge(*between(*squares)))
     if said.name not in ("Stitch", "Piece", "Cycle"):
         yield "broken", cell, values

@@ -33,6 +33,20 @@ near 20 0 10 20
 near 10 20 0 0
 end
 """
+ANCHORED = """dpl 2
+rule 30 overlap 10 corner 25
+features 2 pieces 2 zones 0
+cycle 3
+anchor B
+piece 0 0 0
+piece 1 0 49
+marked 0 0
+near 0 19 0 49
+marked 0 49
+end
+"""
+GAINS = (STITCH.replace("dpl 1", "dpl 3").replace("overlap 10", "overlap 10 corner 30")
+         .replace("stitches 2\n", "stitches 2\ngains 1\n").replace("end", "gain 0 1 1\nend"))
 FAULT = "dpl 1\nfault %s %d\nend\n"
 
 
@@ -132,6 +146,15 @@ class Markers(unittest.TestCase):
             "text: '1 of 3: piece 0 and piece 5 are 0.019 µm apart, the rule is 0.03 µm'",
             "edge: (0.001,0.0005;0.02,0.0005)", "box: (0,0;0.001,0.001)", "box: (0.02,0;0.021,0.001)"])
 
+    def test_a_cycle_may_have_anchors(self):
+        items = self.build(library(TOP=[]), ANCHORED)
+        self.assertEqual([values[0] for _, _, values in items], [
+            "text: 'odd cycle of 3 pieces and anchors: anchor B 0 1'", "text: '1 of 3: anchor B'",
+            "text: '1 of 3: anchor B and piece 0 are joined by a marked square'", "text: '2 of 3: piece 0'",
+            "text: '2 of 3: piece 0 and piece 1 are 0.029 µm apart, the rule is 0.03 µm'", "text: '3 of 3: piece 1'",
+            "text: '3 of 3: piece 1 and anchor B are joined by a marked square'"])
+        self.assertEqual(items[2][2][1:], ["box: (0,0;0.001,0.001)"])
+
     def test_micrometres_are_those_of_the_units(self):
         units = NANOMETRE[:8] + bytes.fromhex("3B1AD7F29ABCAF48")  # 1e-7 m
         items = self.build(library(units, TOP=[]), STITCH)
@@ -143,8 +166,9 @@ class Markers(unittest.TestCase):
                 ("no Overlap 0 0", ["box: (0,0;0.001,0.001)"]),
                 ("no SpacingA 0 19 0 49", ["box: (0,0.019;0.001,0.02)", "box: (0,0.049;0.001,0.05)",
                                            "edge: (0.0005,0.02;0.0005,0.049)"]),
-                ("no Rules 40 10", []), ("no Counts 3 4 2", []), ("no WasFault Truncated 12", [])):
-            items = self.build(library(TOP=[]), STITCH, line)
+                ("no Marked 5 -7", ["box: (0.005,-0.007;0.006,-0.006)"]), ("no Gain 0", []),
+                ("no Rules 40 10", []), ("no Rules 40 10 25", []), ("no Counts 3 4 2", []), ("no WasFault Truncated 12", [])):
+            items = self.build(library(TOP=[]), GAINS, line)
             self.assertEqual([items[0][0], items[0][2][0], items[0][2][1:]], ["broken", "text: '%s'" % line, values])
             self.assertEqual(len(items), 3)
 
@@ -244,10 +268,11 @@ class Markers(unittest.TestCase):
 
     def test_what_is_no_certificate_and_no_line_makes_no_database(self):
         for certificate, place in ((STITCH[:-4], 10), (STITCH[:-1], 10), (STITCH.replace("A 0 0", "C 0 0"), 4),
-                                   ("dpl 9\n", 1), ("", 1), (CYCLE.replace("near 20", "near x"), 9)):
+                                   ("dpl 9\n", 1), ("", 1), (CYCLE.replace("near 20", "near x"), 9), (GAINS.replace("gain 0", "gain A"), 11),
+                                   (ANCHORED.replace("anchor B", "anchor C"), 5), (FAULT.replace("1", "2"), 2)):
             with self.assertRaisesRegex(markers.Problem, "line %d " % place):
                 self.build(library(TOP=[]), certificate)
-        for line in ("", "usage: dpl", "no Cover 5", "no Cover a b", "no Such 1", "refused in", "no Stitch 2"):
+        for line in ("", "usage: dpl", "no Cover 5", "no Cover a b", "no Such 1", "no Rules 30", "refused in", "no Stitch 2"):
             with self.assertRaises(markers.Problem):
                 self.build(library(TOP=[]), STITCH, line)
         self.assertEqual(sorted(os.listdir(self.folder)), ["cert", "in.gds"])
