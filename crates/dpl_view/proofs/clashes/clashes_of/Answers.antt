@@ -1,3 +1,4 @@
+use Rattle.std.proofs.Common.{◌∙◌, sym}
 use Rattle.dpl_answer.proofs.Planned.{conflicts_completed}
 use Rattle.dpl_cut.specs.Cutting.{cut_view}
 use Rattle.dpl_view.proofs.ViewLaws.{even_none, even_clashes}
@@ -22,3 +23,10 @@ returns-in-Even c =
 
 pub odd_clashes-requires-clause-keys : goal.odd_clashes-requires-clause-keys
 odd_clashes-requires-clause-keys c = λ key. c.requires.keys c.in_ok-cut.cut.pieces key c.in_ok-cut.ensures.pieces
+
+pub returns : goal.returns
+returns c = (
+  c.in_ok-cut.cut.pieces,
+  c.in_ok-cut.ensures.pieces,
+  λ features many. c.in_ok-found-in-Odd.ensures features (many ∙ sym c.in_ok-cut.ensures.features),
+)
