@@ -1,7 +1,9 @@
-//! Masks where squares are marked.
+//! Masks where squares are marked, or whose certificate names a corner rule or has lines of gains.
+ghost use Rattle.std.specs.Prelude.{◌≤◌};
+ghost use Rattle.dpl_cert.specs.Grammar.{IsRule};
 
 use crate::sets::{Corners, OVERLAP, SPACING, cert_of, set_of};
-use dpl_base::Pt;
+use dpl_base::{Pt, Spacing};
 use dpl_cert::Cert;
 use dpl_check::{Verdict, check_masks};
 use std::alloc::{AllocError, Global};
@@ -79,6 +81,7 @@ const ONE_MORE: &str =
     "dpl 3\nrule 30 overlap 10 corner 30\nfeatures 4 pieces 6 zones 2 stitches 1\ngains 4\npiece 0 A 0 0\npiece 1 A 0 0\npiece 2 A 0 0\npiece 3 B 0 40\npiece 4 A 108 40\npiece 5 A 216 40\nstitch 74 0 84 20 0 3\ngain 0 0 1\ngain 1 0 2\ngain 2 0 1\ngain 3 0 0\nend\n";
 
 /// A layer, its masks, squares that are fixed to mask A and to mask B, a certificate, and what is said of it.
+#[derive(Drop)]
 struct Case {
     layer: &'static [Corners],
     masks: [&'static [Corners]; 2],
@@ -174,7 +177,10 @@ const CASES: [Case; 11] = [
 ];
 
 /// What is said of a case, where its text is a certificate of masks.
-fn verdict_of(alloc: Global, case: &Case) -> Result<Option<Verdict>, AllocError> {
+fn verdict_of(alloc: Global, case: &Case, spacing: Spacing) -> Result<Option<Verdict>, AllocError>
+    requires corner { spacing.corner ≤ spacing.rule }
+    requires rule { IsRule spacing.rule }
+{
     let [on_a, on_b] = case.masks;
     let a = set_of(alloc, on_a)?;
     let b = set_of(alloc, on_b)?;
@@ -188,7 +194,7 @@ fn verdict_of(alloc: Global, case: &Case) -> Result<Option<Verdict>, AllocError>
     match &cert {
         Cert::Masks { .. } => {
             let verdict = check_masks(
-                alloc, &layer, &a, &b, &cert, SPACING, OVERLAP, &mark_a, &mark_b,
+                alloc, &layer, &a, &b, &cert, spacing, OVERLAP, &mark_a, &mark_b,
             )?;
             Ok(Some(verdict))
         }
@@ -200,8 +206,32 @@ fn verdict_of(alloc: Global, case: &Case) -> Result<Option<Verdict>, AllocError>
 fn marked_masks_are_checked(rt: HostRuntime) -> Result<(), Fail> {
     let alloc = rt.alloc();
     for case in &CASES {
-        let found = verdict_of(alloc, case)?;
+        let found = verdict_of(alloc, case, SPACING)?;
         assert_eq!(rt; found, Some(case.verdict), "at {}", case.text);
     }
+    Ok(())
+}
+
+/// A certificate of version 1 is for a corner rule that is the rule.
+#[test]
+fn corner_rules_are_compared(rt: HostRuntime) -> Result<(), Fail> {
+    let alloc = rt.alloc();
+    let case = Case {
+        layer: &ONE,
+        masks: [&ONE, &[]],
+        marks: [&[], &[]],
+        text: ONE_ON_A,
+        verdict: Verdict::Rules {
+            rule: 30,
+            overlap: 10,
+            corner: None,
+        },
+    };
+    let spacing = Spacing {
+        rule: 30,
+        corner: 29,
+    };
+    let found = verdict_of(alloc, &case, spacing)?;
+    assert_eq!(rt; found, Some(case.verdict));
     Ok(())
 }
