@@ -16,7 +16,7 @@ use dpl_slabs::Slabs;
 use std::alloc::{AllocError, Global};
 
 /// The least pair of near squares of pieces `i` and `j`.
-pub(crate) fn near_line(
+fn near_line(
     alloc: Global,
     parts: &[Slabs],
     i: usize,

@@ -34,7 +34,7 @@ colours-same spacing c m n a b =
     (subst (λ r. AreColours r a.odds c.sides a.colours) rooted.0 a.coloured) in
     colours-unique b.roots b.odds c.sides a.colours b.colours mine b.coloured
 
-painted-same : (spacing : Spacing) (overlap : ℕ) (c : Cut) (x y : Painted) → IsPaintedCut None spacing overlap c x → IsPaintedCut None spacing overlap c y → x ≡ y
+painted-same : (spacing : Spacing) (overlap : ℕ) (c : Cut) (x y : Painted) → IsPaintedCut spacing overlap c x → IsPaintedCut spacing overlap c y → x ≡ y
 painted-same spacing overlap c x y a b =
     let done : Done a.masks ≡ Done b.masks = answer-unique None spacing c (Done a.masks) (Done b.masks) (a.even, a.are_masks) (b.even, b.are_masks) in
     let masks : a.masks ≡ b.masks = cc in
@@ -73,7 +73,7 @@ same-clash x y a b c =
     let of_parts : Head → List PlaceLine → List NearLine → Clash = λ h p n. record { head = h; cycle = p; near = n } in
     ap (λ h. of_parts h x.cycle x.near) a ∙ (ap (λ p. of_parts y.head p x.near) b ∙ ap (λ n. of_parts y.head y.cycle n) c)
 
-clash-same : (spacing : Spacing) (overlap : ℕ) (c : Cut) (x y : Clash) → IsClashOfCut None spacing overlap c x → IsClashOfCut None spacing overlap c y → x ≡ y
+clash-same : (spacing : Spacing) (overlap : ℕ) (c : Cut) (x y : Clash) → IsClashOfCut spacing overlap c x → IsClashOfCut spacing overlap c y → x ≡ y
 clash-same spacing overlap c x y a b =
     let cycle : a.cycle ≡ b.cycle = cycle-unique (conflicts spacing c) a.cycle b.cycle a.reported b.reported in
     let near : AreNearest spacing c.pieces b.cycle x.near = subst (λ k. AreNearest spacing c.pieces k x.near) cycle a.nearest in
@@ -81,13 +81,13 @@ clash-same spacing overlap c x y a b =
 
 -- ---- decompositions
 
-flat_cut-same : (spacing : Spacing) (overlap : ℕ) (c : Cut) (x y : Flat) → IsFlatCut None spacing overlap c x → IsFlatCut None spacing overlap c y → x ≡ y
+flat_cut-same : (spacing : Spacing) (overlap : ℕ) (c : Cut) (x y : Flat) → IsFlatCut spacing overlap c x → IsFlatCut spacing overlap c y → x ≡ y
 flat_cut-same spacing overlap c (Paints x) (Paints y) a b = ap (λ p. Paints p) (painted-same spacing overlap c x y a b)
 flat_cut-same spacing overlap c (Paints x) (Clashes y) a b = absurd (a.even b.odd)
 flat_cut-same spacing overlap c (Clashes x) (Paints y) a b = absurd (b.even a.odd)
 flat_cut-same spacing overlap c (Clashes x) (Clashes y) a b = ap (λ p. Clashes p) (clash-same spacing overlap c x y a b)
 
-pub flat-same : (spacing : Spacing) (overlap : ℕ) (layer : List Rect) (x y : Flat) → IsFlat None spacing overlap layer x → IsFlat None spacing overlap layer y → x ≡ y
+pub flat-same : (spacing : Spacing) (overlap : ℕ) (layer : List Rect) (x y : Flat) → IsFlat spacing overlap layer x → IsFlat spacing overlap layer y → x ≡ y
 flat-same spacing overlap layer x y (c, is_c, a) (d, is_d, b) =
     let same : c ≡ d = one-cut None spacing overlap (Covers layer) c d is_c is_d in
-    flat_cut-same spacing overlap c x y a (subst (λ e. IsFlatCut None spacing overlap e y) (sym same) b)
+    flat_cut-same spacing overlap c x y a (subst (λ e. IsFlatCut spacing overlap e y) (sym same) b)

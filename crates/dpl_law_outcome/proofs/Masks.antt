@@ -19,7 +19,7 @@ rects-same : (zones : List Zone) (sides : List (ℕ × ℕ)) (ks : List ℕ) →
 rects-same zones sides [] = refl
 rects-same zones sides (k ∷ ks) = ap (λ rs. rect_at zones k ∷ rs) (rects-same zones sides ks)
 
-pub painted-right : (spacing : Spacing) (overlap : ℕ) (layer : List Rect) (p : Painted) → IsFlat None spacing overlap layer (Paints p) → AreRight spacing layer p
+pub painted-right : (spacing : Spacing) (overlap : ℕ) (layer : List Rect) (p : Painted) → IsFlat spacing overlap layer (Paints p) → AreRight spacing layer p
 painted-right spacing overlap layer p (c, is_c, a) =
     let m = a.masks in
     subst (λ q. AreRight spacing layer q) (sym a.is) (record {

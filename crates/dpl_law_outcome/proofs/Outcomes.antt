@@ -36,7 +36,7 @@ decision-same v rule overlap bytes (Decides p x) (Decides q y) (r, a, is_x) (s, 
     let same : Layer p r ≡ Layer q s = reading-same v bytes (Layer p r) (Layer q s) a b in
     let fronts : p ≡ q = cc in
     let slabs : s ≡ r = cc in
-    let flats : x ≡ y = flat-same (uniform rule) overlap r x y is_x (subst (λ l. IsFlat None (uniform rule) overlap l y) slabs is_y) in
+    let flats : x ≡ y = flat-same (uniform rule) overlap r x y is_x (subst (λ l. IsFlat (uniform rule) overlap l y) slabs is_y) in
     ap (λ f. Decides f x) fronts ∙ ap (λ f. Decides q f) flats
 
 -- other tiles and workers plan alike

@@ -85,7 +85,7 @@ module _ (v : SplitValues) (o : Outside) (bytes front : List ℕ) (layer : List 
   abbrev IsFine : Painted → Type 0
   IsFine p = IsMask p.a × IsMask p.b × IsCert (Masks p.head p.pieces p.stitches None)
 
-  painted-fine : (p : Painted) → IsPaintedCut None (uniform v.rule) v.overlap cut p → IsFine p
+  painted-fine : (p : Painted) → IsPaintedCut (uniform v.rule) v.overlap cut p → IsFine p
   painted-fine p painted =
       let m = painted.masks in
       let near = masks-within (uniform v.rule) v.overlap layer cut in_range.rule (in_range.rule.0, omega arith) in_range.overlap within is_cut m painted.are_masks in
@@ -98,7 +98,7 @@ module _ (v : SplitValues) (o : Outside) (bytes front : List ℕ) (layer : List 
   abbrev OutIsRead : List ℕ → Painted → Type 0
   OutIsRead before p = IsReadAs (file_bytes before v.a v.b p.a p.b) v.a p.a × IsReadAs (file_bytes before v.a v.b p.a p.b) v.b p.b
 
-  out-read : (p : Painted) → IsPaintedCut None (uniform v.rule) v.overlap cut p → AreSmall v front p → OutIsRead front p
+  out-read : (p : Painted) → IsPaintedCut (uniform v.rule) v.overlap cut p → AreSmall v front p → OutIsRead front p
   out-read p painted small =
       let own = own-names v apart in
       let (first, second, cert) = painted-fine p painted in
@@ -111,7 +111,7 @@ module _ (v : SplitValues) (o : Outside) (bytes front : List ℕ) (layer : List 
       (masks-read bytes lib s v.a v.b p.a p.b holds s_in own.layers (omega (arith, a_fits)) (omega (arith, b_fits)) first second fits small.first small.second)
 
   -- with the files that are there
-  masks-checked : (p : Painted) → IsPaintedCut None (uniform v.rule) v.overlap cut p → AreSmall v front p
+  masks-checked : (p : Painted) → IsPaintedCut (uniform v.rule) v.overlap cut p → AreSmall v front p
       → IsCheck (checking v) (Some bytes) (Some (certified (Masks p.head p.pieces p.stitches None))) (Some (file_bytes front v.a v.b p.a p.b))
       (says Done (valid_line (Masks p.head p.pieces p.stitches None)))
   masks-checked p painted small =
@@ -130,7 +130,7 @@ module _ (v : SplitValues) (o : Outside) (bytes front : List ℕ) (layer : List 
       )
 
   -- the files that are there
-  masks-kept : (p : Painted) → IsPaintedCut None (uniform v.rule) v.overlap cut p → AreSmall v front p
+  masks-kept : (p : Painted) → IsPaintedCut (uniform v.rule) v.overlap cut p → AreSmall v front p
       → IsPlan (Some (AsksCheck (checking v))) (carried_out (plan_of v (Decides front (Paints p))) o).files (says Done (valid_line (Masks p.head p.pieces p.stitches None)))
   masks-kept p painted small =
       let own = own-names v apart in
@@ -148,13 +148,13 @@ module _ (v : SplitValues) (o : Outside) (bytes front : List ℕ) (layer : List 
 
   -- ---- conflicts
 
-  clash-fine : (x : Clash) → IsClashOfCut None (uniform v.rule) v.overlap cut x → IsCert (Conflict x.head x.cycle x.near)
+  clash-fine : (x : Clash) → IsClashOfCut (uniform v.rule) v.overlap cut x → IsCert (Conflict x.head x.cycle x.near)
   clash-fine x clash =
       subst (λ (h : Head). IsCert (Conflict h x.cycle x.near)) (sym clash.head)
       (subst (λ (ps : List PlaceLine). IsCert (Conflict (head_of (uniform v.rule) v.overlap cut) ps x.near)) (sym clash.places)
       (cycle-cert (uniform v.rule) v.overlap layer cut in_range.rule (in_range.rule.0, omega arith) in_range.overlap within is_cut clash.cycle x.near clash.reported clash.nearest.each clash.nearest.pair))
 
-  clash-checked : (x : Clash) (out : Option (List ℕ)) → IsClashOfCut None (uniform v.rule) v.overlap cut x → length (certified (Conflict x.head x.cycle x.near)) ≤ limit
+  clash-checked : (x : Clash) (out : Option (List ℕ)) → IsClashOfCut (uniform v.rule) v.overlap cut x → length (certified (Conflict x.head x.cycle x.near)) ≤ limit
       → IsCheck (checking v) (Some bytes) (Some (certified (Conflict x.head x.cycle x.near))) out (says Done (valid_line (Conflict x.head x.cycle x.near)))
   clash-checked x out clash small = (
     Layer front layer,
@@ -169,7 +169,7 @@ module _ (v : SplitValues) (o : Outside) (bytes front : List ℕ) (layer : List 
     ),
   )
 
-  clash-kept : (x : Clash) → IsClashOfCut None (uniform v.rule) v.overlap cut x → length (certified (Conflict x.head x.cycle x.near)) ≤ limit
+  clash-kept : (x : Clash) → IsClashOfCut (uniform v.rule) v.overlap cut x → length (certified (Conflict x.head x.cycle x.near)) ≤ limit
       → IsPlan (Some (AsksCheck (checking v))) (carried_out (plan_of v (Decides front (Clashes x))) o).files (says Done (valid_line (Conflict x.head x.cycle x.near)))
   clash-kept x clash small =
       let own = own-names v apart in
@@ -181,7 +181,7 @@ module _ (v : SplitValues) (o : Outside) (bytes front : List ℕ) (layer : List 
       subst (λ (i : Option (List ℕ)). IsCheck (checking v) i (file_of one v.certificate) (file_of one v.output) y) (sym input_is)
       (subst (λ (c : Option (List ℕ)). IsCheck (checking v) (Some bytes) c (file_of one v.output) y) (sym cert_is) (clash-checked x (file_of one v.output) clash small))
 
-  cut-kept : (flat : Flat) → IsFlatCut None (uniform v.rule) v.overlap cut flat → CanBeRead v front flat
+  cut-kept : (flat : Flat) → IsFlatCut (uniform v.rule) v.overlap cut flat → CanBeRead v front flat
       → IsPlan (Some (AsksCheck (checking v))) (carried_out (plan_of v (Decides front flat)) o).files (says Done (valid_line (cert_of flat)))
   cut-kept (Paints p) is small = masks-kept p is small
   cut-kept (Clashes x) is small = clash-kept x is small

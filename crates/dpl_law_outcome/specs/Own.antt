@@ -12,10 +12,10 @@ use Rattle.dpl_answer.specs.Flat.{Painted, Clash, IsPaintedCut, IsClashOfCut}
 
 -- nothing is wrong with the masks of a cut
 abbrev pub PaintedIsValid : Type 0
-PaintedIsValid = (spacing : Spacing) (overlap : ℕ) (layer : List Rect) (cut : Cut) (p : Painted) → IsCut None spacing overlap (Covers layer) cut → IsPaintedCut None spacing overlap cut p
+PaintedIsValid = (spacing : Spacing) (overlap : ℕ) (layer : List Rect) (cut : Cut) (p : Painted) → IsCut None spacing overlap (Covers layer) cut → IsPaintedCut spacing overlap cut p
     → IsVerdictOfMasks None spacing overlap layer p.a p.b (Masks p.head p.pieces p.stitches None) Valid
 
 -- nothing is wrong with the cycle of a cut
 abbrev pub ClashIsValid : Type 0
-ClashIsValid = (spacing : Spacing) (overlap : ℕ) (layer : List Rect) (cut : Cut) (x : Clash) → IsCut None spacing overlap (Covers layer) cut → IsClashOfCut None spacing overlap cut x
+ClashIsValid = (spacing : Spacing) (overlap : ℕ) (layer : List Rect) (cut : Cut) (x : Clash) → IsCut None spacing overlap (Covers layer) cut → IsClashOfCut spacing overlap cut x
     → IsVerdictOfConflict None spacing overlap layer (Conflict x.head x.cycle x.near) Valid

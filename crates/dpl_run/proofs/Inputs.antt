@@ -75,7 +75,7 @@ faulty choice rule overlap bytes name at small read = inr (small, read)
 
 -- the layer was decomposed
 pub answered : (choice : Choice) (rule overlap : ℕ) (bytes copied : List ℕ) (layer : List Rect) (flat : Flat) → length bytes ≤ 268435456
-    → IsLayout choice bytes (Layer copied layer) → IsFlat None (uniform rule) overlap layer flat → IsDecision choice rule overlap bytes (Decides copied flat)
+    → IsLayout choice bytes (Layer copied layer) → IsFlat (uniform rule) overlap layer flat → IsDecision choice rule overlap bytes (Decides copied flat)
 answered choice rule overlap bytes copied layer flat small read decomposed = (layer, inr (small, read), decomposed)
 
 -- an outside that shows

@@ -27,7 +27,7 @@ split_choice v = record { top = v.top; layer = v.layer; datatype = v.datatype }
 -- The first fault of the file, or the decomposition of its layer. The numbers of tiles and workers occur nowhere.
 abbrev pub IsDecision : Choice → ℕ → ℕ → List ℕ → Decision → Type 0
 IsDecision choice rule overlap bytes (Refuses name at) = IsReading choice bytes (Faulty name at)
-IsDecision choice rule overlap bytes (Decides copied flat) = (layer : List Rect) × IsReading choice bytes (Layer copied layer) × IsFlat None (uniform rule) overlap layer flat
+IsDecision choice rule overlap bytes (Decides copied flat) = (layer : List Rect) × IsReading choice bytes (Layer copied layer) × IsFlat (uniform rule) overlap layer flat
 
 abbrev pub certified : Cert → List ℕ
 certified c = text (lines_of c)

@@ -64,7 +64,7 @@ pub(crate) fn decide<R: Threads + Wait + Sync, G: Gate + Sync>(
     let spacing = Spacing::uniform(order.rule);
     let no_marks = Slabs::empty(alloc);
     let cut = cut_of(alloc, slabs, spacing, order.overlap, &no_marks)?;
-    let conflicts = conflicts_of(rt, alloc, &cut, None, spacing, order.sharing, gate)?;
-    let answer = answer_of(alloc, cut, &conflicts, None, spacing, order.overlap)?;
+    let conflicts = conflicts_of(rt, alloc, &cut, spacing, order.sharing, gate)?;
+    let answer = answer_of(alloc, cut, &conflicts, spacing, order.overlap)?;
     Ok(Decision::Answered { copied, answer })
 }
