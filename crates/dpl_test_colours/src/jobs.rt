@@ -8,7 +8,6 @@ use dpl_stars::{Joined, Star, stars};
 use std::alloc::{AllocError, Global};
 
 /// Tiles without edges.
-#[derive(Drop)]
 pub struct Bare {
     pub tiles: u32,
 }
