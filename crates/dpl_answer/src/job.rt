@@ -45,5 +45,5 @@ pub(crate) fn joined_conflicts<R: Threads + Wait + Sync, G: Gate + Sync>(
     ensures { IfOk result (λ j. SumsGraph (Conflict job.now.plan.spacing job.now.plan.parts job.now.plan.owners) j) }
 {
     let board = run_pool(rt, alloc, workers, job, gate)?;
-    Ok(board.into_joined())
+    board.joined().copy(alloc)
 }

@@ -85,13 +85,6 @@ impl BoardState {
     {
         &self.joined
     }
-
-    /// The summary of the edges of all posted tiles together, without taking memory.
-    pub fn into_joined(self) -> Joined
-        ensures { SumsPosted self result }
-    {
-        self.joined
-    }
 }
 
 /// Where all tiles are posted, the summary of the posted tiles is that of the edges of all tiles together.

@@ -74,19 +74,13 @@ module _ (rows : List Star) (listed : IsStarList rows) (pieces : List ℕ) (is :
       (mates-pass pieces (subst (AllPairs (λ a b. a < b)) (sym is) (pieces-rising rows listed)) rows (take i rows) (get_or rows i d) (Contains-get_or rows i d within) mates h even)
 
 module _ (rows : List Star) (listed : IsStarList rows) (row : Star) (row_in : Contains rows row) where
-  pub root-in : Contains (pieces_of rows) row.root
-  root-in = contains-map (λ (r : Star). r.piece) rows (own_row row.root) (All-contains (λ r. Contains rows (own_row r.root)) rows row listed.rooted row_in)
-
   -- each root has an odd row
-  pub mate-in : (v : ℕ) × Contains rows (odd_row v row.root)
-  mate-in = All-contains (λ r. (v : ℕ) × Contains rows (odd_row v r.root)) rows row listed.paired row_in
-
-  pub mate-there : (pieces mates : List ℕ) → HasMates pieces rows rows mates → (k : ℕ) → k < length pieces
-      → get_or pieces k 0 ≡ row.root → (v d : ℕ) → v ≡ get_or mates k d → Contains rows (odd_row v row.root)
-  mate-there pieces mates h k k_in at v d is =
-      let (u, c) = mate-in in
+  pub mate-next : (pieces mates : List ℕ) → HasMates pieces rows rows mates → row.odd ≡ false → (k : ℕ) → k < length pieces
+      → get_or pieces k 0 ≡ row.root → (v d : ℕ) → v ≡ get_or mates k d → IsNext rows row v
+  mate-next pieces mates h even k k_in at v d is =
+      let (u, c) = All-contains (λ r. (v : ℕ) × Contains rows (odd_row v r.root)) rows row listed.paired row_in in
       let same : v ≡ get_or mates k 0 = is ∙ get_or_default mates k d 0 (let len = h.each in omega (arith, k_in, len)) in
-      subst (λ x. Contains rows (odd_row x row.root)) (sym same) (h.odd k (odd_row u row.root) k_in c refl at)
+      inr (even, subst (λ x. Contains rows (odd_row x row.root)) (sym same) (h.odd k (odd_row u row.root) k_in c refl at))
 
   pub next-apart : row.piece ≢ row.root → (v : ℕ) → IsNext rows row v → v ≢ row.piece
   next-apart apart v (inl (odd, is)) same = apart (sym same ∙ is)

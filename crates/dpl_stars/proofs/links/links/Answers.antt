@@ -1,12 +1,15 @@
-use Rattle.std.proofs.Common.{inl, inr}
+use Rattle.std.proofs.Common.{inl}
 use Rattle.std.proofs.lemmas.List.Elements.{Contains-get_or}
 use Rattle.dpl_stars.specs.Stars.{own_row}
-use Rattle.dpl_stars.proofs.Linking.{next-apart, links-none, links-step, links-skip}
+use Rattle.dpl_stars.proofs.Linking.{pieces-rising, root-there, mate-next, next-apart, links-none, links-step, links-skip}
 use Rattle.dpl_stars.proofs.links.links.Goals as goal
 use Rattle.dpl_stars.proofs.links.links.Goals.{then-row+in_ok-push, then-row-2, else-row-2, else-row}
 
-pub mate-requires-row : goal.mate-requires-row
-mate-requires-row c = Contains-get_or c.args.rows.now c.loop-row.row-index (own_row 0) c.loop-row-test.true
+pub of-requires : goal.of-requires
+of-requires c = rw c.in_ok-pieces_of.ensures (pieces-rising c.args.rows.now c.requires)
+
+pub place-requires : goal.place-requires
+place-requires c = rw (c.in_ok-places.ensures, c.in_ok-pieces_of.ensures) (root-there c.args.rows.now c.requires c.loop-row.row-index (own_row 0) c.loop-row-test.true)
 
 pub edge-requires : goal.edge-requires
 edge-requires c =
@@ -14,7 +17,9 @@ edge-requires c =
     next-apart c.args.rows.now c.requires _ row_in c.if-row.true c.if-row-2.other
     (elim c.if-row-2.branch [
       | then-row-2 w ↦ inl (w.if-row-2.true, w.other-is)
-      | else-row-2 w ↦ rw w.other-is (inr (w.if-row-2.false, w.mate.ensures))
+      | else-row-2 w ↦ rw w.other-is
+          (mate-next c.args.rows.now c.requires _ row_in c.in_ok-places.places c.in_ok-mates.mates.items c.in_ok-mates.ensures
+          w.if-row-2.false _ w.place.ensures.within w.place.ensures.at _ _ w.index.ensures)
     ])
 
 pub loop-row-init : goal.loop-row-init
@@ -23,11 +28,14 @@ loop-row-init c = rw c.new-links.ensures.items (links-none _)
 pub loop-row-preserved : goal.loop-row-preserved
 loop-row-preserved c = elim c.if-row.branch [
   | then-row+in_ok-push w ↦
+      let row_in = Contains-get_or c.args.rows.now c.loop-row.row-index (own_row 0) c.loop-row-test.true in
       rw (w.links-is, w.in_ok-push.ensures.items)
       (links-step c.args.rows.now c.loop-row.links.items c.requires c.loop-row.row-index (own_row 0) c.loop-row-test.true c.loop-row.invariant _ w.if-row-2.other
       (elim w.if-row-2.branch [
         | then-row-2 v ↦ inl (v.if-row-2.true, v.other-is)
-        | else-row-2 v ↦ rw v.other-is (inr (v.if-row-2.false, v.mate.ensures))
+        | else-row-2 v ↦ rw v.other-is
+            (mate-next c.args.rows.now c.requires _ row_in c.in_ok-places.places c.in_ok-mates.mates.items c.in_ok-mates.ensures
+            v.if-row-2.false _ v.place.ensures.within v.place.ensures.at _ _ v.index.ensures)
       ])
       w.edge.ensures.joins w.edge.ensures.rising)
   | else-row w ↦ rw w.links-is (links-skip c.args.rows.now c.loop-row.links.items c.requires c.loop-row.row-index
