@@ -10,4 +10,4 @@ pub mod Gaining
 pub mod Leading
 pub mod Tallying
 pub mod Queues
-pub mod Flipped
+pub mod Turning

@@ -24,8 +24,8 @@ use std::alloc::{AllocError, Global};
 use std::cmp::Reverse;
 use std::collections::BinaryHeap;
 
-/// Notes in the entry of a component that it is flipped once more.
-fn note_flip(flips: &mut [bool], root: u32)
+/// Turns the entry of a component over.
+fn turn(flips: &mut [bool], root: u32)
     requires { root < length flips.old }
     ensures { flips.new ≡ slice_set flips.old root (not (slice_index_or flips.old root false)) }
 {
@@ -55,7 +55,7 @@ fn flip(
     ensures queue { OnOk result (IsQueue (heap_items waiting.new)) }
     ensures all { OnOk result (AllWait held tallies.new (heap_items waiting.new)) }
 {
-    note_flip(flips, root);
+    turn(flips, root);
     exchange(tallies, root);
     move_zones(links_from(links, root), flips, held, tallies, waiting)
 }
@@ -88,7 +88,7 @@ fn final_flips(
 }
 
 /// The masks of the pieces, where `flips` says which components are flipped.
-fn flipped(
+fn turned(
     alloc: Global,
     chart: &[Rooted],
     masks: &[Mask],
@@ -97,12 +97,12 @@ fn flipped(
     requires each { length masks.now ≡ length chart.now }
     ensures { IfOk result (λ colours. colours ≡ letters_of chart.now (map is_second masks.now) flips.now) }
 {
-    let mut flipped = Vec::with_capacity(alloc, masks.len())?;
+    let mut turned = Vec::with_capacity(alloc, masks.len())?;
     for piece in 0..masks.len() {
         let flip = is_flipped(flips, chart[piece].root);
-        flipped.push(Mask::of(differs(flip, is_second(masks[piece]))))?;
+        turned.push(Mask::of(differs(flip, is_second(masks[piece]))))?;
     }
-    Ok(Colours::of(flipped))
+    Ok(Colours::of(turned))
 }
 
 /// The masks that these lead to, by the rows of a summary.
@@ -122,7 +122,7 @@ fn fewer_rows(
 {
     let chart = chart(alloc, n, rows)?;
     let flips = final_flips(alloc, &chart, sides, colours.items(), fixed)?;
-    flipped(alloc, &chart, colours.items(), &flips)
+    turned(alloc, &chart, colours.items(), &flips)
 }
 
 /// The masks with fewer stitches, from those that `orient` gives for the same pieces, sides and summary. The least

@@ -11,7 +11,7 @@ use Rattle.dpl_orient.specs.Links.{links_of, letters_of, held_root, AreLinksBelo
 use Rattle.dpl_orient.specs.Tallies.{AreTallies, GainsAt, AllWait}
 use Rattle.dpl_orient.proofs.Linked.{links-paired}
 use Rattle.dpl_orient.proofs.Gaining.{IsUnderway, GainsBy, IsLeastGainBy, underway-start, underway-more, underway-end, fewer-left}
-use Rattle.dpl_orient.proofs.Flipped.{gain-within, least-by-links, none-by-links}
+use Rattle.dpl_orient.proofs.Turning.{gain-within, least-by-links, none-by-links}
 use Rattle.dpl_orient.proofs.reducing.final_flips.Goals as goal
 
 pub tallies_of-requires : goal.tallies_of-requires

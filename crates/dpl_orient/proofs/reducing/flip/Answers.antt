@@ -5,7 +5,7 @@ use Rattle.std.proofs.lemmas.Result.{on_ok_weaker}
 use Rattle.dpl_orient.specs.declared.links.Link.{Link}
 use Rattle.dpl_orient.specs.Links.{AreLinksBelow}
 use Rattle.dpl_orient.specs.Tallies.{tally_at, exchanged}
-use Rattle.dpl_orient.proofs.Flipped.{flipped-counted, flipped-tallies, flipped-waits}
+use Rattle.dpl_orient.proofs.Turning.{turned-counted, turned-tallies, turned-waits}
 use Rattle.dpl_orient.proofs.reducing.flip.Goals as goal
 
 pub move_zones-requires-clause-below : goal.move_zones-requires-clause-below
@@ -19,18 +19,18 @@ move_zones-requires-clause-below c =
     (l.to < length c.args.flips.now)) c.args.links.now c.requires.below))
 
 pub move_zones-requires-clause-counted : goal.move_zones-requires-clause-counted
-move_zones-requires-clause-counted c = rw (c.note_flip.ensures, c.exchange.ensures, c.links_from.ensures)
-    (flipped-counted c.args.links.now c.args.flips.now c.args.root c.requires.within c.requires.paired c.args.held c.args.tallies.now
+move_zones-requires-clause-counted c = rw (c.turn.ensures, c.exchange.ensures, c.links_from.ensures)
+    (turned-counted c.args.links.now c.args.flips.now c.args.root c.requires.within c.requires.paired c.args.held c.args.tallies.now
     c.requires.tallies c.requires.few c.requires.below)
 
 pub move_zones-requires-clause-all : goal.move_zones-requires-clause-all
 move_zones-requires-clause-all c = rw c.exchange.ensures
-    (flipped-waits c.args.links.now c.args.flips.now c.args.root c.requires.within c.requires.paired c.args.held c.args.tallies.now c.requires.tallies
+    (turned-waits c.args.links.now c.args.flips.now c.args.root c.requires.within c.requires.paired c.args.held c.args.tallies.now c.requires.tallies
     c.requires.few _ c.requires.gains c.requires.rest)
 
 pub returns-clause-tallies : goal.returns-clause-tallies
 returns-clause-tallies c = on_ok_weaker c.move_zones.result
-    (λ m. rw c.note_flip.ensures (flipped-tallies c.args.links.now c.args.flips.now c.args.root c.requires.within c.requires.paired c.args.held
+    (λ m. rw c.turn.ensures (turned-tallies c.args.links.now c.args.flips.now c.args.root c.requires.within c.requires.paired c.args.held
     c.args.tallies.now c.requires.tallies c.requires.few
-    c.move_zones.new.tallies (rw (c.note_flip.ensures, c.exchange.ensures, c.links_from.ensures) at m)))
+    c.move_zones.new.tallies (rw (c.turn.ensures, c.exchange.ensures, c.links_from.ensures) at m)))
     c.move_zones.ensures.moved

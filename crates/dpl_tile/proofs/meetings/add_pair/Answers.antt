@@ -17,8 +17,7 @@ places_of_both-requires-clause-second c =
     let order = c.requires.pair.order in
     let known = c.requires.pair.known in
     rw c.reached-second.ensures (reached-over c.args.grid.now c.args.spacing.rule (item_at c.args.items.now c.args.pair.now.1).rect (item_at c.args.items.now c.args.pair.now.0).rect
-    (c.requires.over c.args.pair.now.1 no_item known) (c.requires.over c.args.pair.now.0 no_item (omega (arith, order, known)))
-    (close-flip c.args.spacing.rule (item_at c.args.items.now c.args.pair.now.0).rect (item_at c.args.items.now c.args.pair.now.1).rect c.requires.pair.close))
+    (c.requires.over c.args.pair.now.1 no_item known) (c.requires.over c.args.pair.now.0 no_item (omega (arith, order, known))) (close-flip c.args.spacing.rule (item_at c.args.items.now c.args.pair.now.0).rect (item_at c.args.items.now c.args.pair.now.1).rect c.requires.pair.close))
 
 pub returns : goal.returns
 returns c = pair-meetings c.args.spacing c.args.owners.now c.args.grid.now c.args.items.now c.args.pair.now c.in_ok-places.places.items c.args.meetings.now.items _

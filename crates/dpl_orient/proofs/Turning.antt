@@ -1,6 +1,5 @@
 -- Tallies after a component is flipped.
-use Rattle.std.proofs.Common.{◌≡◌, ◌≢◌, ℕ, ◌+◌, ◌^◌, ◌<◌, ◌≤◌, inl, inr, Bool, true, false, not, ◌&&◌, eqb, cond, List, [], ◌∷◌, length, get_or, set, filter,
-  sym, refl, ap, ◌∙◌, subst, add_comm, arith}
+use Rattle.std.proofs.Common.{◌≡◌, ◌≢◌, ℕ, ◌+◌, ◌^◌, ◌<◌, ◌≤◌, inl, inr, Bool, true, false, not, ◌&&◌, eqb, cond, List, [], ◌∷◌, length, get_or, set, filter, sym, refl, ap, ◌∙◌, subst, add_comm, arith}
 use Rattle.std.specs.Prelude.{Option, count_by, sum_by}
 use Rattle.std.specs.List.{All}
 use Rattle.std.specs.declared.cmp.Reverse.{Reverse}
@@ -71,60 +70,60 @@ count-filter p r (x ∷ xs) = count-filter-cons p r x xs (r x) refl (count-filte
       omega (arith, f, b, e, rest)
 
 -- the sides of a zone whose components are flipped where f and g say so, and once more where a and b say so
-flipped-twice : (a b o f g : Bool) → differ o (differ (differ a f) (differ b g)) ≡ differ (differ a b) (differ o (differ f g))
-flipped-twice false false false false false = refl
-flipped-twice false false false false true = refl
-flipped-twice false false false true false = refl
-flipped-twice false false false true true = refl
-flipped-twice false false true false false = refl
-flipped-twice false false true false true = refl
-flipped-twice false false true true false = refl
-flipped-twice false false true true true = refl
-flipped-twice false true false false false = refl
-flipped-twice false true false false true = refl
-flipped-twice false true false true false = refl
-flipped-twice false true false true true = refl
-flipped-twice false true true false false = refl
-flipped-twice false true true false true = refl
-flipped-twice false true true true false = refl
-flipped-twice false true true true true = refl
-flipped-twice true false false false false = refl
-flipped-twice true false false false true = refl
-flipped-twice true false false true false = refl
-flipped-twice true false false true true = refl
-flipped-twice true false true false false = refl
-flipped-twice true false true false true = refl
-flipped-twice true false true true false = refl
-flipped-twice true false true true true = refl
-flipped-twice true true false false false = refl
-flipped-twice true true false false true = refl
-flipped-twice true true false true false = refl
-flipped-twice true true false true true = refl
-flipped-twice true true true false false = refl
-flipped-twice true true true false true = refl
-flipped-twice true true true true false = refl
-flipped-twice true true true true true = refl
+turned-twice : (a b o f g : Bool) → differ o (differ (differ a f) (differ b g)) ≡ differ (differ a b) (differ o (differ f g))
+turned-twice false false false false false = refl
+turned-twice false false false false true = refl
+turned-twice false false false true false = refl
+turned-twice false false false true true = refl
+turned-twice false false true false false = refl
+turned-twice false false true false true = refl
+turned-twice false false true true false = refl
+turned-twice false false true true true = refl
+turned-twice false true false false false = refl
+turned-twice false true false false true = refl
+turned-twice false true false true false = refl
+turned-twice false true false true true = refl
+turned-twice false true true false false = refl
+turned-twice false true true false true = refl
+turned-twice false true true true false = refl
+turned-twice false true true true true = refl
+turned-twice true false false false false = refl
+turned-twice true false false false true = refl
+turned-twice true false false true false = refl
+turned-twice true false false true true = refl
+turned-twice true false true false false = refl
+turned-twice true false true false true = refl
+turned-twice true false true true false = refl
+turned-twice true false true true true = refl
+turned-twice true true false false false = refl
+turned-twice true true false false true = refl
+turned-twice true true false true false = refl
+turned-twice true true false true true = refl
+turned-twice true true true false false = refl
+turned-twice true true true false true = refl
+turned-twice true true true true false = refl
+turned-twice true true true true true = refl
 
-neighbour-flipped : (fq tr w s t : Bool) → (fq ≡ true → t ≡ differ tr s) → unit (fq && not (differ w t)) + unit ((fq && tr) && not
+neighbour-turned : (fq tr w s t : Bool) → (fq ≡ true → t ≡ differ tr s) → unit (fq && not (differ w t)) + unit ((fq && tr) && not
     (differ w s)) ≡ unit (fq && not (differ w s)) + unit ((fq && tr) && not (differ w t))
-neighbour-flipped false tr w s t h = refl
-neighbour-flipped true false w s t h = ap (λ b. unit (not (differ w b)) + 0) (h refl)
-neighbour-flipped true true w s t h = add_comm (unit (not (differ w t))) (unit (not (differ w s)))
+neighbour-turned false tr w s t h = refl
+neighbour-turned true false w s t h = ap (λ b. unit (not (differ w b)) + 0) (h refl)
+neighbour-turned true true w s t h = add_comm (unit (not (differ w t))) (unit (not (differ w s)))
 
-between-flipped : (fq tr w s t : Bool) → (fq ≡ true → t ≡ differ tr s) → ((fq && tr) && not (differ w t)) ≡ ((fq && tr) && not (differ (not w) s))
-between-flipped false tr w s t h = refl
-between-flipped true false w s t h = refl
-between-flipped true true false false t h = ap (λ b. not (differ false b)) (h refl)
-between-flipped true true false true t h = ap (λ b. not (differ false b)) (h refl)
-between-flipped true true true false t h = ap (λ b. not (differ true b)) (h refl)
-between-flipped true true true true t h = ap (λ b. not (differ true b)) (h refl)
+between-turned : (fq tr w s t : Bool) → (fq ≡ true → t ≡ differ tr s) → ((fq && tr) && not (differ w t)) ≡ ((fq && tr) && not (differ (not w) s))
+between-turned false tr w s t h = refl
+between-turned true false w s t h = refl
+between-turned true true false false t h = ap (λ b. not (differ false b)) (h refl)
+between-turned true true false true t h = ap (λ b. not (differ false b)) (h refl)
+between-turned true true true false t h = ap (λ b. not (differ true b)) (h refl)
+between-turned true true true true t h = ap (λ b. not (differ true b)) (h refl)
 
-own-flipped : (fr w s t : Bool) → (fr ≡ true → t ≡ not s) → (fr && not (differ w t)) ≡ (fr && not (differ (not w) s))
-own-flipped false w s t h = refl
-own-flipped true false false t h = ap (λ b. not (differ false b)) (h refl)
-own-flipped true false true t h = ap (λ b. not (differ false b)) (h refl)
-own-flipped true true false t h = ap (λ b. not (differ true b)) (h refl)
-own-flipped true true true t h = ap (λ b. not (differ true b)) (h refl)
+own-turned : (fr w s t : Bool) → (fr ≡ true → t ≡ not s) → (fr && not (differ w t)) ≡ (fr && not (differ (not w) s))
+own-turned false w s t h = refl
+own-turned true false false t h = ap (λ b. not (differ false b)) (h refl)
+own-turned true false true t h = ap (λ b. not (differ false b)) (h refl)
+own-turned true true false t h = ap (λ b. not (differ true b)) (h refl)
+own-turned true true true t h = ap (λ b. not (differ true b)) (h refl)
 
 within-one : (a b u : Bool) → unit ((a && b) && u) ≤ unit (a && u)
 within-one false b u = omega arith
@@ -157,8 +156,8 @@ module _ (links : List Link) (flips : List Bool) (root : ℕ) (within : root < l
     | inr other ↦ rw (ne_eqb q root other) (get_or-set_other flips root q (not (get_or flips root false)) false other)
   ]
 
-  state-flipped : (l : Link) → differs_by after l ≡ differ (differ (eqb l.from root) (eqb l.to root)) (differs_by flips l)
-  state-flipped l = rw (flip-at l.from, flip-at l.to) (flipped-twice (eqb l.from root) (eqb l.to root) l.odd (get_or flips l.from false)
+  state-turned : (l : Link) → differs_by after l ≡ differ (differ (eqb l.from root) (eqb l.to root)) (differs_by flips l)
+  state-turned l = rw (flip-at l.from, flip-at l.to) (turned-twice (eqb l.from root) (eqb l.to root) l.odd (get_or flips l.from false)
       (get_or flips l.to false))
 
   -- how many links lead from one component to another and have sides that differ, or agree
@@ -167,15 +166,15 @@ module _ (links : List Link) (flips : List Bool) (root : ℕ) (within : root < l
 
   module _ (q : ℕ) (other : q ≢ root) (w : Bool) where
     from-other : (l : Link) → eqb l.from q ≡ true → differs_by after l ≡ differ (eqb l.to root) (differs_by flips l)
-    from-other l is = state-flipped l ∙ ap (λ b. differ (differ b (eqb l.to root)) (differs_by flips l)) (ne_eqb l.from root (λ e. other (sym
+    from-other l is = state-turned l ∙ ap (λ b. differ (differ b (eqb l.to root)) (differs_by flips l)) (ne_eqb l.from root (λ e. other (sym
         (eqb-true _ _ is) ∙ e)))
 
     neighbour-counts : count_from after q w links + between flips q root w ≡ count_from flips q w links + between after q root w
-    neighbour-counts = sums-agree _ _ _ _ links (all-of _ (λ (l : Link). neighbour-flipped (eqb l.from q) (eqb l.to root) w (differs_by flips l)
+    neighbour-counts = sums-agree _ _ _ _ links (all-of _ (λ (l : Link). neighbour-turned (eqb l.from q) (eqb l.to root) w (differs_by flips l)
         (differs_by after l) (from-other l)) links)
 
     between-counts : between after q root w ≡ between flips q root (not w)
-    between-counts = sums-same _ _ links (all-of _ (λ (l : Link). ap unit (between-flipped (eqb l.from q) (eqb l.to root) w (differs_by flips l)
+    between-counts = sums-same _ _ links (all-of _ (λ (l : Link). ap unit (between-turned (eqb l.from q) (eqb l.to root) w (differs_by flips l)
         (differs_by after l) (from-other l))) links)
 
     between-few : between flips q root w ≤ count_from flips q w links
@@ -196,17 +195,17 @@ module _ (links : List Link) (flips : List Bool) (root : ℕ) (within : root < l
   to-neighbour : (q : ℕ) → q ≢ root → (w : Bool) → count_to after q w mine ≡ between flips q root (not w)
   to-neighbour q other w = to-between q w ∙ (sym (paired.both after q root w) ∙ between-counts q other w)
 
-  flipped-count : (q : ℕ) → q ≢ root → (w : Bool) → count_from after q w links + count_to after q
+  turned-count : (q : ℕ) → q ≢ root → (w : Bool) → count_from after q w links + count_to after q
       (not w) mine ≡ count_from flips q w links + count_to after q w mine
-  flipped-count q other w =
+  turned-count q other w =
       let a = neighbour-counts q other w in
       let b = to-between q w ∙ sym (paired.both after q root w) in
       let c : count_to after q (not w) mine ≡ between flips q root w = to-neighbour q other (not w) ∙ ap (between flips q root) (not-not w) in
       omega (arith, a, b, c)
 
   own-count : (w : Bool) → count_from after root w links ≡ count_from flips root (not w) links
-  own-count w = sums-same _ _ links (λ k d l. (let x = get_or links k d in ap unit (own-flipped (eqb x.from root) w (differs_by flips x) (differs_by after x)
-      (λ is. state-flipped x ∙ (ap (λ b. differ (differ b (eqb x.to root)) (differs_by flips x)) is
+  own-count w = sums-same _ _ links (λ k d l. (let x = get_or links k d in ap unit (own-turned (eqb x.from root) w (differs_by flips x) (differs_by after x)
+      (λ is. state-turned x ∙ (ap (λ b. differ (differ b (eqb x.to root)) (differs_by flips x)) is
       ∙ ap (λ b. differ (not b) (differs_by flips x)) (ne_eqb x.to root (λ e. paired.apart k d l (eqb-true _ _ is ∙ sym e))))))))
 
   module _ (held : Option ℕ) (tallies : List Tally) (h : AreTallies links flips tallies) (few : length links < 2 ^ 64) where
@@ -277,12 +276,12 @@ module _ (links : List Link) (flips : List Bool) (root : ℕ) (within : root < l
       ]
 
       -- the tallies count the zones that a flip moves over
-      pub flipped-counted : AreCounted after mine start
-      flipped-counted = record { differing = λ q. (counted-at q).0; agreeing = λ q. (counted-at q).1; few = few-at }
+      pub turned-counted : AreCounted after mine start
+      turned-counted = record { differing = λ q. (counted-at q).0; agreeing = λ q. (counted-at q).1; few = few-at }
 
     -- the tallies after a flip
-    pub flipped-tallies : (new : List Tally) → AreMoved after mine start new → AreTallies links after new
-    flipped-tallies new m = record {
+    pub turned-tallies : (new : List Tally) → AreMoved after mine start new → AreTallies links after new
+    turned-tallies new m = record {
       len = m.len ∙ (length-set tallies root (exchanged (tally_at tallies root)) ∙ (h.len ∙ sym (length-set flips root (not (get_or flips root false)))));
       each = λ q l. (let below : q < length flips = (let e = length-set flips root (not (get_or flips root false)) in omega (arith, e, l)) in
           let d = m.differing q in
@@ -297,16 +296,16 @@ module _ (links : List Link) (flips : List Bool) (root : ℕ) (within : root < l
             | inr other ↦ (let t = start-other q other below in
                 same-tally (tally_at new q) (tally_of after links q)
                 (let x : (tally_at start q).differing ≡ count_from flips q true links = ap (λ t. t.differing) t in
-                let y = flipped-count q other true in omega (arith, x, y, d))
+                let y = turned-count q other true in omega (arith, x, y, d))
                 (let x : (tally_at start q).agreeing ≡ count_from flips q false links = ap (λ t. t.agreeing) t in
-                let y = flipped-count q other false in omega (arith, x, y, a)))
+                let y = turned-count q other false in omega (arith, x, y, a)))
           ]);
     }
 
     -- what waits before the tallies of the neighbours change
-    pub flipped-waits : (waiting : List (Reverse ℕ)) → GainsAt held tallies root → ((q : ℕ) → GainsAt held tallies q → q ≢ root → Waits waiting q)
+    pub turned-waits : (waiting : List (Reverse ℕ)) → GainsAt held tallies root → ((q : ℕ) → GainsAt held tallies q → q ≢ root → Waits waiting q)
         → AllWait held start waiting
-    flipped-waits waiting gains rest q g = elim (cases_eq q root) [
+    turned-waits waiting gains rest q g = elim (cases_eq q root) [
       | inl same ↦ absurd (let P : ℕ → Type 0 = λ r. (tally_at start r).agreeing < (tally_at start r).differing in
           let less : (tally_at start root).agreeing < (tally_at start root).differing = subst P same g.fewer in
           let d : (tally_at start root).differing ≡ (tally_at tallies root).agreeing = ap (λ x. x.differing) start-swapped in

@@ -6,7 +6,7 @@ use Rattle.dpl_orient.specs.Masks.{is_second}
 use Rattle.dpl_orient.specs.Chart.{own_root}
 use Rattle.dpl_orient.specs.Links.{letters_of}
 use Rattle.dpl_orient.proofs.Linked.{length-letters, letters-more}
-use Rattle.dpl_orient.proofs.reducing.flipped.Goals as goal
+use Rattle.dpl_orient.proofs.reducing.turned.Goals as goal
 
 pub loop-piece-preserved : goal.loop-piece-preserved
 loop-piece-preserved c =
@@ -21,7 +21,7 @@ loop-piece-preserved c =
     let letter : is_second c.of.result ≡ differ (get_or c.args.flips.now (get_or c.args.chart.now piece (own_root 0)).root false)
     (get_or colours piece false) =
     c.of.ensures ∙ (c.differs.ensures ∙ (ap (λ x. differ x c.is_second.result) c.is_flipped-flip.ensures ∙ ap (differ _) second)) in
-    rw c.in_ok-push.ensures.items (map-append is_second c.loop-piece.flipped.items (c.of.result ∷ [])
+    rw c.in_ok-push.ensures.items (map-append is_second c.loop-piece.turned.items (c.of.result ∷ [])
     ∙ (ap (λ xs. xs ++ is_second c.of.result ∷ []) c.loop-piece.invariant ∙ (ap (λ b. take piece letters ++ b ∷ []) letter ∙ sym more)))
 
 pub returns : goal.returns
