@@ -1,12 +1,15 @@
 //! One worker of the pool: the tiles that it takes, works out and posts.
-ghost use Rattle.std.specs.Prelude.{◌≡◌, ◌<◌, ◌↔◌, ℕ, true, false, length};
+ghost use Rattle.std.specs.Prelude.{◌≡◌, ◌<◌, ◌↔◌, true, false, length, map};
 ghost use Rattle.dpl_stars.specs.Sums.{Sums};
 ghost use Rattle.dpl_board.specs.Sheets.{IsPosted, edges_at};
 ghost use Rattle.dpl_deal.specs.Hands.{taken};
 ghost use Rattle.dpl_turn.specs.Seats.{IsSeatOf, knows};
+ghost use Rattle.dpl_pool.specs.Numbering.{IsNumbered};
+ghost use Rattle.dpl_pool.specs.Seating.{board_table};
 ghost use Rattle.dpl_pool.specs.Members.{IsMember, IsTwice, Keeps, Leaves, TookOne};
 
 use crate::gate::Gate;
+use crate::numbers::Numbers;
 use dpl_board::{Job, PostFault};
 use dpl_deal::{Deal, Hand};
 use dpl_stars::Joined;
@@ -14,11 +17,19 @@ use dpl_turn::{Board, Seat};
 use std::alloc::Global;
 use std::sync::Wait;
 
-/// A worker: its number, its seat at the board, its hand, and whether it ran out of memory.
+/// What the workers share: a deal of the tiles of all jobs by their numbers, and a board for each job.
+#[derive(Drop)]
+pub struct Floor<J: Job> {
+    pub numbers: Numbers,
+    pub deal: Deal,
+    pub boards: Vec<Board<J>>,
+}
+
+/// A worker: its number, its seat at each board, its hand, and whether it ran out of memory.
 #[derive(Drop)]
 pub struct Member {
     pub number: u32,
-    pub seat: Seat,
+    pub seats: Vec<Seat>,
     pub hand: Hand,
     pub out_of_memory: bool,
 }
@@ -52,37 +63,39 @@ fn is_posted(fault: PostFault) -> bool
     matches!(fault, PostFault::Twice { .. })
 }
 
-/// One tile: taken, worked out and posted. The answer is false where the worker is done.
+/// One tile: taken, worked out and posted on its job's board. The answer is false where the worker is done.
 fn step<J: Job, G: Gate, R: Wait>(
     rt: &R,
     alloc: Global,
-    deal: &Deal,
-    board: &Board<J>,
-    job: &J,
+    floor: &Floor<J>,
+    jobs: &[J],
     gate: &G,
     member: &mut Member,
 ) -> bool
-    requires tiles { deal.now.tiles ≡ length (J.sheet job.now) }
-    requires member { IsMember board.now.table.shared.table_id (J.sheet job.now) deal.now member.old.number member.old }
+    requires numbered { IsNumbered (map J.sheet jobs.now) floor.now.numbers }
+    requires tiles { floor.now.deal.tiles ≡ floor.now.numbers.tiles }
+    requires member { IsMember (map board_table floor.now.boards.items) (map J.sheet jobs.now) floor.now.deal member.old.number member.old }
     ensures number { member.new.number ≡ member.old.number }
-    ensures goes { result ≡ true → IsMember board.now.table.shared.table_id (J.sheet job.now) deal.now member.old.number member.new }
+    ensures goes { result ≡ true → IsMember (map board_table floor.now.boards.items) (map J.sheet jobs.now) floor.now.deal member.old.number member.new }
     ensures took { result ≡ true → TookOne (taken member.old.hand) (taken member.new.hand) }
-    ensures done { result ≡ false → Leaves board.now.table.shared.table_id (J.sheet job.now) deal.now member.old.number member.new }
+    ensures done { result ≡ false → Leaves (map board_table floor.now.boards.items) (map J.sheet jobs.now) floor.now.deal member.old.number member.new }
 {
-    let Some(tile) = deal.take(rt, &mut member.hand) else {
+    let Some(number) = floor.deal.take(rt, &mut member.hand) else {
         return false;
     };
-    gate.enter(member.number, tile);
-    let Ok(sum) = job.summary(alloc, tile) else {
+    gate.enter(member.number, number);
+    let (at, tile) = floor.numbers.place(number);
+    let Ok(sum) = jobs[at].summary(alloc, tile) else {
         member.out_of_memory = true;
         return false;
     };
-    let number = member.number;
-    if !post_tile(rt, board, &mut member.seat, number, tile, sum) {
+    let worker = member.number;
+    let board = &floor.boards[at];
+    if !post_tile(rt, board, &mut member.seats[at], worker, tile, sum) {
         member.out_of_memory = true;
         return false;
     }
-    gate.posted(&member.seat, tile);
+    gate.posted(&member.seats[at], tile);
     true
 }
 
@@ -90,19 +103,19 @@ fn step<J: Job, G: Gate, R: Wait>(
 pub fn work<J: Job, G: Gate, R: Wait>(
     rt: &R,
     alloc: Global,
-    deal: &Deal,
-    board: &Board<J>,
-    job: &J,
+    floor: &Floor<J>,
+    jobs: &[J],
     gate: &G,
     member: Member,
 ) -> Member
-    requires tiles { deal.now.tiles ≡ length (J.sheet job.now) }
-    requires member { IsMember board.now.table.shared.table_id (J.sheet job.now) deal.now member.number member }
-    ensures { Leaves board.now.table.shared.table_id (J.sheet job.now) deal.now member.number result }
+    requires numbered { IsNumbered (map J.sheet jobs.now) floor.now.numbers }
+    requires tiles { floor.now.deal.tiles ≡ floor.now.numbers.tiles }
+    requires member { IsMember (map board_table floor.now.boards.items) (map J.sheet jobs.now) floor.now.deal member.number member }
+    ensures { Leaves (map board_table floor.now.boards.items) (map J.sheet jobs.now) floor.now.deal member.number result }
 {
     let mut member = member;
     for _ in rt.forever() {
-        if !step(rt, alloc, deal, board, job, gate, &mut member) {
+        if !step(rt, alloc, floor, jobs, gate, &mut member) {
             return member;
         }
     }

@@ -1,16 +1,22 @@
-//! Workers from the opening of a deal and a board to the closing of both.
-ghost use Rattle.std.specs.Prelude.{◌≡◌, ◌<◌, ◌≤◌, All, IfOk, ℕ, List, [], length, vec_len};
+//! Workers from the opening of a deal and of boards to the closing of all.
+ghost use Rattle.std.specs.Prelude.{◌≡◌, ◌<◌, ◌≤◌, ◌^◌, All, IfOk, ℕ, List, [], length, map, vec_len};
+ghost use Rattle.std.specs.List.{AllZip};
 ghost use Rattle.dpl_board.specs.Boards.{AreAllPosted, Stands};
 ghost use Rattle.dpl_board.specs.Cores.{IsCore};
 ghost use Rattle.dpl_deal.specs.declared.deal.Deal.{Deal};
 ghost use Rattle.dpl_deal.specs.Hands.{AreHandsOf, EachAt, IsDone, IsHandOf, all_taken, taken};
-ghost use Rattle.dpl_turn.specs.Rule.{IsProper};
-ghost use Rattle.dpl_turn.specs.Seats.{IsSeatOf, knows};
-ghost use Rattle.dpl_pool.specs.Members.{Covers, IsMember, Leaves};
 ghost use Rattle.dpl_turn.specs.Replay.{events_of, workers_to};
+ghost use Rattle.dpl_turn.specs.Rule.{IsProper};
+ghost use Rattle.dpl_turn.specs.Seats.{knows};
+ghost use Rattle.dpl_pool.specs.Numbering.{IsNumbered, tile_count};
+ghost use Rattle.dpl_pool.specs.Seating.{IsWorkedOut, board_table, histories_of, sheet_of, table_of, workers_of};
+ghost use Rattle.dpl_pool.specs.Members.{Covers, IsMember, Leaves};
 
 use crate::gate::Gate;
-use crate::member::{Member, work};
+use crate::member::{Floor, Member, work};
+use crate::numbers::Numbers;
+use crate::seats::{close_all, open_all, rejoin_all, split_all};
+use crate::single::Single;
 use dpl_board::{BoardState, Job};
 use dpl_deal::{Deal, Hand};
 use dpl_turn::{Board, Seat};
@@ -33,62 +39,96 @@ pub fn run_pool<J: Job + Sync, G: Gate + Sync, R: Threads + Wait + Sync>(
     ensures once { IfOk result (λ s. AreAllPosted s × IsProper (J.sheet job.now) workers s.history) }
     ensures replay { IfOk result (λ s. IsCore (J.sheet job.now) (events_of s.history) (workers_to (length (J.sheet job.now)) s.history) s) }
 {
-    let tiles = job.tiles();
-    let (deal, hands) = Deal::open(alloc, tiles, workers)?;
-    let (board, mut seat) = Board::open(alloc, job, workers)?;
-    let members = seated(alloc, &board, &mut seat, hands)?;
-    let done = all_work(rt, alloc, &deal, &board, job, gate, members)?;
-    let hands = gathered(alloc, &board, &deal, &mut seat, done)?;
+    let _tiles = job.tiles();
+    let mut states = run_many(rt, alloc, workers, &[Single { job }], gate)?;
+    match states.pop() {
+        Some(state) => Ok(state),
+        None => unreachable!(),
+    }
+}
+
+/// Works out all tiles of many jobs, fewer than 2^32 together, by so many workers, 1 to 64, as `run_pool` does those of
+/// one. The answer is a board for each job, in order. The gate's `enter` gets a tile's number over all jobs, in which the
+/// tiles of each job follow those of the jobs before it; its `posted` gets the seat at the job's board, and the tile's
+/// number within the job.
+pub fn run_many<J: Job + Sync, G: Gate + Sync, R: Threads + Wait + Sync>(
+    rt: &R,
+    alloc: Global,
+    workers: u32,
+    jobs: &[J],
+    gate: &G,
+) -> Result<Vec<BoardState>, AllocError>
+    requires workers { (0 < workers) × (workers ≤ 64) }
+    requires tiles { tile_count (map J.sheet jobs.now) < 2 ^ 32 }
+    ensures { IfOk result (λ ss. AllZip (IsWorkedOut workers) (map J.sheet jobs.now) ss.items) }
+{
+    let numbers = Numbers::of(alloc, jobs)?;
+    let (deal, hands) = Deal::open(alloc, numbers.tiles, workers)?;
+    let (boards, mut seats) = open_all(alloc, jobs, workers)?;
+    let floor = Floor {
+        numbers,
+        deal,
+        boards,
+    };
+    let members = seated(alloc, &floor.boards, &mut seats, hands)?;
+    let done = all_work(rt, alloc, &floor, jobs, gate, members)?;
+    let hands = gathered(alloc, &floor, &mut seats, done)?;
+    let Floor {
+        numbers: _,
+        deal,
+        boards,
+    } = floor;
     deal.close(hands);
-    board.close(rt, seat)
+    close_all(rt, alloc, boards, seats)
 }
 
 /// Lets the workers work, and waits for all.
 fn all_work<J: Job + Sync, G: Gate + Sync, R: Threads + Wait + Sync>(
     rt: &R,
     alloc: Global,
-    deal: &Deal,
-    board: &Board<J>,
-    job: &J,
+    floor: &Floor<J>,
+    jobs: &[J],
     gate: &G,
     members: Vec<Member>,
 ) -> Result<Vec<Member>, AllocError>
-    requires tiles { deal.now.tiles ≡ length (J.sheet job.now) }
-    requires members { EachAt (IsMember board.now.table.shared.table_id (J.sheet job.now) deal.now) members.items }
+    requires numbered { IsNumbered (map J.sheet jobs.now) floor.now.numbers }
+    requires tiles { floor.now.deal.tiles ≡ floor.now.numbers.tiles }
+    requires members { EachAt (IsMember (map board_table floor.now.boards.items) (map J.sheet jobs.now) floor.now.deal) members.items }
     ensures len { IfOk result (λ ms. vec_len ms ≡ vec_len members) }
-    ensures done { IfOk result (λ ms. EachAt (Leaves board.now.table.shared.table_id (J.sheet job.now) deal.now) ms.items) }
+    ensures done { IfOk result (λ ms. EachAt (Leaves (map board_table floor.now.boards.items) (map J.sheet jobs.now) floor.now.deal) ms.items) }
 {
     thread::map_vec(
         rt,
         members,
         &|member: Member| -> Member
-            requires { (deal.now.tiles ≡ length (J.sheet job.now)) × IsMember board.now.table.shared.table_id (J.sheet job.now) deal.now member.number member }
-            ensures { Leaves board.entry.now.table.shared.table_id (J.sheet job.entry.now) deal.entry.now member.number result }
-        { work(rt, alloc, deal, board, job, gate, member) },
+            requires { IsNumbered (map J.sheet jobs.now) floor.now.numbers × (floor.now.deal.tiles ≡ floor.now.numbers.tiles) × IsMember (map board_table floor.now.boards.items) (map J.sheet jobs.now) floor.now.deal member.number member }
+            ensures { Leaves (map board_table floor.entry.now.boards.items) (map J.sheet jobs.entry.now) floor.entry.now.deal member.number result }
+        { work(rt, alloc, floor, jobs, gate, member) },
     )
 }
 
-/// A seat for each hand.
+/// A seat at each board for each hand.
 fn seated<J: Job>(
     alloc: Global,
-    board: &Board<J>,
-    seat: &mut Seat,
+    boards: &Vec<Board<J>>,
+    seats: &mut Vec<Seat>,
     hands: Vec<Hand>,
 ) -> Result<Vec<Member>, AllocError>
-    requires table { IsSeatOf board.now.table.shared.table_id seat.old }
-    requires hands { (vec_len hands ≤ (knows seat.old).workers) × (vec_len hands ≤ 64) × All (λ h. taken h ≡ []) hands.items }
-    ensures table { IsSeatOf board.now.table.shared.table_id seat.new }
-    ensures seat { knows seat.new ≡ knows seat.old }
+    requires tables { map table_of seats.old.items ≡ map board_table boards.now.items }
+    requires workers { All (λ s. vec_len hands ≤ workers_of s) seats.old.items }
+    requires hands { (vec_len hands ≤ 64) × All (λ h. taken h ≡ []) hands.items }
+    ensures tables { map table_of seats.new.items ≡ map table_of seats.old.items }
+    ensures same { map knows seats.new.items ≡ map knows seats.old.items }
     ensures len { IfOk result (λ ms. vec_len ms ≡ vec_len hands) }
-    ensures members { IfOk result (λ ms. (deal : Deal) → AreHandsOf deal hands.items → EachAt (IsMember board.now.table.shared.table_id (knows seat.old).sheet deal) ms.items) }
+    ensures members { IfOk result (λ ms. (deal : Deal) → AreHandsOf deal hands.items → EachAt (IsMember (map board_table boards.now.items) (map sheet_of seats.old.items) deal) ms.items) }
 {
     let mut members = Vec::new(alloc);
     let mut number = 0;
     for hand in hands {
-        let other = board.split(seat);
+        let others = split_all(alloc, boards, seats)?;
         members.push(Member {
             number,
-            seat: other,
+            seats: others,
             hand,
             out_of_memory: false,
         })?;
@@ -100,25 +140,25 @@ fn seated<J: Job>(
 /// The hands of workers that are done, whose seats are rejoined.
 fn gathered<J: Job>(
     alloc: Global,
-    board: &Board<J>,
-    deal: &Deal,
-    seat: &mut Seat,
+    floor: &Floor<J>,
+    seats: &mut Vec<Seat>,
     members: Vec<Member>,
 ) -> Result<Vec<Hand>, AllocError>
-    requires table { IsSeatOf board.now.table.shared.table_id seat.old }
-    requires members { EachAt (Leaves board.now.table.shared.table_id (knows seat.old).sheet deal.now) members.items }
-    ensures table { IsSeatOf board.now.table.shared.table_id seat.new }
-    ensures seat { ((knows seat.new).sheet ≡ (knows seat.old).sheet) × ((knows seat.new).workers ≡ (knows seat.old).workers) }
+    requires tables { map table_of seats.old.items ≡ map board_table floor.now.boards.items }
+    requires members { EachAt (Leaves (map board_table floor.now.boards.items) (map sheet_of seats.old.items) floor.now.deal) members.items }
+    ensures tables { map table_of seats.new.items ≡ map table_of seats.old.items }
+    ensures sheets { map sheet_of seats.new.items ≡ map sheet_of seats.old.items }
+    ensures workers { map workers_of seats.new.items ≡ map workers_of seats.old.items }
     ensures len { IfOk result (λ hs. vec_len hs ≡ vec_len members) }
-    ensures hands { IfOk result (λ hs. EachAt (IsHandOf deal.now) hs.items × All (λ h. IsDone h) hs.items) }
-    ensures covers { IfOk result (λ hs. Covers (all_taken hs.items) (knows seat.new).known) }
+    ensures hands { IfOk result (λ hs. EachAt (IsHandOf floor.now.deal) hs.items × All (λ h. IsDone h) hs.items) }
+    ensures covers { IfOk result (λ hs. Covers (map sheet_of seats.old.items) (all_taken hs.items) (histories_of seats.new.items)) }
 {
     let mut hands = Vec::new(alloc);
     for member in members {
         if member.out_of_memory {
             return Err(AllocError);
         }
-        board.rejoin(seat, member.seat);
+        rejoin_all(&floor.boards, seats, member.seats);
         hands.push(member.hand)?;
     }
     Ok(hands)

@@ -8,6 +8,7 @@ use dpl_stars::{Joined, Star, stars};
 use std::alloc::{AllocError, Global};
 
 /// Tiles without edges.
+#[derive(Drop)]
 pub struct Bare {
     pub tiles: u32,
 }

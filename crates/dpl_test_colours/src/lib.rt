@@ -20,6 +20,8 @@ mod jobs;
 #[cfg(test)]
 mod levels;
 #[cfg(test)]
+mod many;
+#[cfg(test)]
 mod pools;
 #[cfg(test)]
 mod seats;
