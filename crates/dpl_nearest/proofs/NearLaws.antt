@@ -94,10 +94,10 @@ Precedes-total p q never =
     (λ m. inl (same_square p q (omega (arith, ints, l, m)) row)))))
 
 -- p is q or precedes it
-abbrev IsUpTo : Pt → Pt → Type 0
+abbrev pub IsUpTo : Pt → Pt → Type 0
 IsUpTo p q = (p ≡ q) ⊎ Precedes p q
 
-up_to-trans : (p q r : Pt) → IsUpTo p q → IsUpTo q r → IsUpTo p r
+pub up_to-trans : (p q r : Pt) → IsUpTo p q → IsUpTo q r → IsUpTo p r
 up_to-trans p q r (inl e) k = subst (λ u. IsUpTo u r) (sym e) k
 up_to-trans p q r (inr h) (inl f) = subst (λ u. IsUpTo p u) f (inr h)
 up_to-trans p q r (inr h) (inr k) = inr (Precedes-trans p q r h k)

@@ -1,5 +1,5 @@
 -- Two sets have one nearest pair.
-use Rattle.std.proofs.Common.{◌≡◌, ℕ, inl, inr, sym, subst}
+use Rattle.std.proofs.Common.{◌≡◌, inl, inr, sym, subst}
 use Rattle.dpl_spec_split.specs.declared.Spacing.{Spacing}
 use Rattle.dpl_spec_split.specs.declared.Pt.{Pt}
 use Rattle.dpl_spec_split.specs.Squares.{Region, Precedes}

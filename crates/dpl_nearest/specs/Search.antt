@@ -1,5 +1,5 @@
 -- The search for the least square of a set that is near another.
-use Rattle.std.specs.Prelude.{◌≡◌, ◌≢◌, ℕ, ◌*◌, ◌<◌, ◌⊎◌, ℤ, ◌+ℤ◌, pos, FitsSigned, List, Option, Some, None, length, slice_index_or}
+use Rattle.std.specs.Prelude.{◌≡◌, ◌≢◌, ℕ, ◌<◌, ◌⊎◌, ℤ, ◌+ℤ◌, pos, FitsSigned, List, Option, Some, None, length, slice_index_or}
 use Rattle.std.specs.Int.{w32}
 use Rattle.dpl_spec_split.specs.declared.Spacing.{Spacing}
 use Rattle.dpl_spec_split.specs.declared.Pt.{Pt}

@@ -9,13 +9,17 @@ ghost use Rattle.dpl_tree.specs.Trees.{HasItem};
 ghost use Rattle.dpl_tree.specs.declared.owners.Owners.TheVariants.{All as Everyone};
 ghost use Rattle.dpl_nearest.specs.Search.{AreSolidItems, IsLeastNear, ItemCovers, IsLowered, IsImproved};
 
+use crate::few::least_of_few;
 use crate::rects::least_of;
 use dpl_base::{Pt, Rect, Spacing};
 use dpl_tree::{Items, Owners, Tree};
 use std::alloc::{AllocError, Global};
 
+/// How many pairs of rectangles are looked at one by one. Where there are more, a search tree is made.
+const FEW_PAIRS: usize = 64;
+
 /// The first of two squares, by row and then by column.
-fn lesser(p: Pt, q: Pt) -> Pt
+pub(crate) fn lesser(p: Pt, q: Pt) -> Pt
     ensures { ((result ≡ p) × (Precedes q p → ⊥)) ⊎ ((result ≡ q) × Precedes q p) }
 {
     if q.y < p.y {
@@ -104,6 +108,9 @@ pub(crate) fn least_near(
     requires others_solid { All IsSolid others.now }
     ensures { IfOk result (λ found. IsLeastNear spacing (Covers rects.now) (Covers others.now) found) }
 {
+    if rects.len().saturating_mul(others.len()) <= FEW_PAIRS {
+        return Ok(least_of_few(rects, others, spacing));
+    }
     let tree = tree_of(alloc, others)?;
     Ok(least_in_tree(rects, &tree, spacing))
 }

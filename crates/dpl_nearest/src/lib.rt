@@ -1,6 +1,7 @@
 //! The least pair of near squares of two sets.
 #![tactic(auto)]
 
+mod few;
 mod least;
 mod rects;
 
