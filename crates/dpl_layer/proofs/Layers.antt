@@ -18,9 +18,11 @@ use Rattle.dpl_spec_layout.specs.Faults.{IsFirstFault}
 use Rattle.dpl_flatten.specs.Drawing.{Drawn, AreLoopsOf, IsDrawingOf}
 use Rattle.dpl_cert.specs.declared.name.Name.{Name}
 use Rattle.dpl_layer.specs.Naming.{flatten_name}
-use Rattle.dpl_layer.specs.Reading.{Choice, Faulty, HasDrawing, IsLayout, Layer, chosen, frame_bytes, copied_of}
+use Rattle.dpl_layer.specs.Reading.{Choice, HasDrawing, IsLayout, Layer, chosen, frame_bytes, copied_of}
 use Rattle.dpl_layer.specs.LayerFaults.{of_named}
-use Rattle.dpl_layer.specs.View.{IsLayerFault}
+use Rattle.dpl_layer.specs.Marked.{AreSquaresBelow}
+use Rattle.dpl_layer.specs.View.{IsFaultOfLayer, IsLayerFault}
+use Rattle.dpl_layer.specs.declared.fault.LayerFault.TheVariants.{NoMemory, Refused}
 
 -- six parts put one behind another
 six_parts : (a b c d e f : List ℕ) → ((((a ++ b) ++ c) ++ d) ++ e) ++ f ≡ a ++ (b ++ (c ++ (d ++ (e ++ f))))
@@ -48,32 +50,39 @@ frame_copied lib top f bytes within h e = elim (slice_get_cases lib.structures t
 pub slabs_same : (a b : Region) (rs : List Rect) → AreSlabsOf a rs → ((p : Pt) → a p ↔ b p) → AreSlabsOf b rs
 slabs_same a b rs s same = record { canonical = s.canonical; covers = SameSquares-trans _ _ _ s.covers same }
 
--- the canonical slabs of what is drawn of some bytes are their layer
-pub swept_layer : (v : Choice) (bytes copied : List ℕ) (d : Drawn) (loops : List (List Pt)) (slabs : List Rect) → HasDrawing v bytes copied d
-    → ((lib : Library) (top : ℕ) (layer : ChosenLayer) → IsDrawingOf lib top layer d → AreLoopsOf lib top layer loops)
-    → AreSlabsOf (SomeLoopCovers loops) slabs → IsLayout v bytes (Layer copied slabs)
-swept_layer v bytes copied d loops slabs (lib, holds, are) laid swept =
-    let l = laid lib are.top (chosen v) are.drawing in (
-      lib,
-      holds,
-      record { top = are.top; is_top = are.is_top; faultless = l.faultless; before = are.before; squares = slabs_same _ _ _ swept l.covers },
-    )
+-- the canonical slabs of what is drawn are the layer's
+pub drawn_squares : (lib : Library) (top : ℕ) (layer : ChosenLayer) (loops : List (List Pt)) (slabs : List Rect) → AreLoopsOf lib top layer loops
+    → AreSlabsOf (SomeLoopCovers loops) slabs → AreSquaresBelow lib top layer slabs
+drawn_squares lib top layer loops slabs l swept = record { faultless = l.faultless; squares = slabs_same _ _ _ swept l.covers }
 
--- a fault that has a name is one of these bytes
-named_fault : (v : Choice) (bytes : List ℕ) (o : Option (Name × ℕ)) → ((name : Name) (at : ℕ) → o ≡ Some (name, at) → IsLayout v bytes (Faulty name at))
-    → IsLayerFault v bytes (of_named o)
-named_fault v bytes None is = tt
-named_fault v bytes (Some (name, at)) is = is name at refl
-
--- a fault of what is drawn of some bytes is theirs
-pub drawn_fault : (v : Choice) (bytes copied : List ℕ) (d : Drawn) (f : FlattenFault) → HasDrawing v bytes copied d
-    → ((lib : Library) (top : ℕ) (layer : ChosenLayer) → IsDrawingOf lib top layer d → IsFirstFault lib top layer f)
-    → IsLayerFault v bytes (of_named (flatten_name f))
-drawn_fault v bytes copied d f (lib, holds, are) first = named_fault v bytes (flatten_name f)
-    (λ name at is. inr (lib, holds, inr (are.top, f, are.is_top, first lib are.top (chosen v) are.drawing, is)))
+-- a fault that has a name is one of the layer
+pub named_fault : (lib : Library) (top : ℕ) (layer : ChosenLayer) (f : FlattenFault) → IsFirstFault lib top layer f
+    → IsFaultOfLayer lib top layer (of_named (flatten_name f))
+named_fault lib top layer f first = go (flatten_name f) refl
+  where
+    go : (o : Option (Name × ℕ)) → flatten_name f ≡ o → IsFaultOfLayer lib top layer (of_named o)
+    go None is = tt
+    go (Some (name, at)) is = (f, first, is)
 
 -- an error that is handed on is the fault
-pub given_fault : {X : Type 0} (v : Choice) (bytes : List ℕ) (r : Result X LayerFault) (f : LayerFault) → IsErrAnd r (λ e. e ≡ f)
-    → IsLayerFault v bytes f → IfErr r (IsLayerFault v bytes)
-given_fault v bytes (Ok x) f is fault = absurd is
-given_fault v bytes (Err e) f is fault = rw is fault
+pub given_fault : {X : Type 0} (P : LayerFault → Type 0) (r : Result X LayerFault) (f : LayerFault) → IsErrAnd r (λ e. e ≡ f) → P f → IfErr r P
+given_fault P (Ok x) f is fault = absurd is
+given_fault P (Err e) f is fault = rw is fault
+
+-- the squares of what is drawn of some bytes are their layer
+pub swept_layer : (v : Choice) (bytes copied : List ℕ) (d : Drawn) (slabs : List Rect) → HasDrawing v bytes copied d
+    → ((lib : Library) (top : ℕ) (layer : ChosenLayer) → IsDrawingOf lib top layer d → AreSquaresBelow lib top layer slabs) → IsLayout v bytes (Layer copied slabs)
+swept_layer v bytes copied d slabs (lib, holds, are) squares =
+    let s = squares lib are.top (chosen v) are.drawing in (
+      lib,
+      holds,
+      record { top = are.top; is_top = are.is_top; faultless = s.faultless; before = are.before; squares = s.squares },
+    )
+
+-- a fault of what is drawn of some bytes is theirs
+pub drawn_fault : (v : Choice) (bytes copied : List ℕ) (d : Drawn) (e : LayerFault) → HasDrawing v bytes copied d
+    → ((lib : Library) (top : ℕ) (layer : ChosenLayer) → IsDrawingOf lib top layer d → IsFaultOfLayer lib top layer e) → IsLayerFault v bytes e
+drawn_fault v bytes copied d NoMemory has of = tt
+drawn_fault v bytes copied d (Refused name at) (lib, holds, are) of =
+    let (f, first, named) = of lib are.top (chosen v) are.drawing in
+    inr (lib, holds, inr (are.top, f, are.is_top, first, named))

@@ -1,4 +1,6 @@
 pub mod Naming
 pub mod Reading
+pub mod Marked
+pub mod Drawn
 pub mod LayerFaults
 pub mod View

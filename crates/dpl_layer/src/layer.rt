@@ -1,7 +1,11 @@
 //! The layer of a layout.
 ghost use Rattle.std.specs.Prelude.{◌≡◌, ◌<◌, ◌≤◌, ℕ, IfErr, IfOk, List, Some, length};
+ghost use Rattle.dpl_spec_format.specs.Tree.{Library as LibraryOf};
+ghost use Rattle.dpl_spec_layout.specs.declared.Layer.{Layer as ChosenLayerOf};
+ghost use Rattle.dpl_flatten.specs.Drawing.{IsDrawingOf};
+ghost use Rattle.dpl_layer.specs.Marked.{AreSquaresBelow};
 ghost use Rattle.dpl_layer.specs.Reading.{Choice, HasDrawing, HasDrawingIn, IsLayout, copied_of, limit};
-ghost use Rattle.dpl_layer.specs.View.{IsLayerFault, IsLayerFaultIn, choice_view, layer_view};
+ghost use Rattle.dpl_layer.specs.View.{IsFaultOfLayer, IsLayerFault, IsLayerFaultIn, choice_view, layer_view};
 
 use crate::fault::LayerFault;
 use dpl_flatten::{Drawing, Layer as ChosenLayer, draw, top_of};
@@ -86,15 +90,23 @@ fn shapes_in(alloc: Global, choice: &LayerChoice, lib: &Library<'_>) -> Result<S
     Ok(Shapes { copied, drawing })
 }
 
-/// The squares that shapes cover. The drawing is let go once its loops are there, and these before they are swept.
+/// The squares that shapes cover.
 fn swept(alloc: Global, shapes: Shapes) -> Result<Layer, LayerFault>
     ensures layer { (v : Choice) (bytes : List ℕ) → HasDrawing v bytes shapes.copied.items shapes.drawing → IfOk result (λ l. IsLayout v bytes (layer_view l)) }
     ensures fault { (v : Choice) (bytes : List ℕ) → HasDrawing v bytes shapes.copied.items shapes.drawing → IfErr result (IsLayerFault v bytes) }
 {
     let Shapes { copied, drawing } = shapes;
-    let loops = drawing.loops(alloc)?;
-    let slabs = Slabs::of_loops(alloc, loops)?;
+    let slabs = squares_of(alloc, drawing)?;
     Ok(Layer { copied, slabs })
+}
+
+/// The squares that a drawing covers. It is let go once its loops are there, and these before they are swept.
+pub(crate) fn squares_of(alloc: Global, drawing: Drawing) -> Result<Slabs, LayerFault>
+    ensures squares { (lib : LibraryOf) (top : ℕ) (layer : ChosenLayerOf) → IsDrawingOf lib top layer drawing → IfOk result (AreSquaresBelow lib top layer) }
+    ensures fault { (lib : LibraryOf) (top : ℕ) (layer : ChosenLayerOf) → IsDrawingOf lib top layer drawing → IfErr result (IsFaultOfLayer lib top layer) }
+{
+    let loops = drawing.loops(alloc)?;
+    Ok(Slabs::of_loops(alloc, loops)?)
 }
 
 /// The records that are copied to the file of the masks: those before the elements of a structure, one behind the other.

@@ -5,10 +5,10 @@ use dpl_words::{CheckOptions, DemoOptions, Request, SplitOptions, WordsFault, re
 use std::alloc::Global;
 use std::test::Fail;
 
-/// The layer, the datatype, the rule, the overlap, the layers of both masks, the tile and the workers; the name of the top; the names of the files.
-type Values<'a> = ([u32; 8], Option<&'a str>, [&'a str; 3]);
+/// The layer, the datatype, the rule, the overlap, the corner rule, the layers of both masks, the tile and the workers; the name of the top; the names of the files.
+type Values<'a> = ([u32; 9], Option<&'a str>, [&'a str; 3]);
 
-const PLAIN: [u32; 8] = [1, 0, 30, 10, 101, 102, 4096, 4];
+const PLAIN: [u32; 9] = [1, 0, 30, 10, 30, 101, 102, 4096, 4];
 
 const FILES: [&str; 3] = ["i", "o", "c"];
 
@@ -18,6 +18,7 @@ fn values_of<'a>(options: &SplitOptions<'a>) -> Values<'a> {
         u32::from(options.datatype),
         options.rule,
         options.overlap,
+        options.corner,
         u32::from(options.a),
         u32::from(options.b),
         options.tile,
@@ -34,6 +35,7 @@ fn checked_values_of<'a>(options: &CheckOptions<'a>) -> Values<'a> {
         u32::from(options.datatype),
         options.rule,
         options.overlap,
+        options.corner,
         u32::from(options.a),
         u32::from(options.b),
         0,
@@ -68,7 +70,7 @@ fn asks(alloc: Global, line: &str, want: Option<Values>) -> Result<bool, Fail> {
 #[test]
 fn lines_ask_for_what_they_say(rt: HostRuntime) -> Result<(), Fail> {
     let plain = Some((PLAIN, None, FILES));
-    let cases: [(&str, Option<Values>); 54] = [
+    let cases: [(&str, Option<Values>); 48] = [
         ("dpl split --layer 1 --rule 30 --overlap 10 i o c", plain),
         // behind `=`, and after or between the names
         ("dpl split i o c --layer=1 --rule=30 --overlap=10", plain),
@@ -76,21 +78,21 @@ fn lines_ask_for_what_they_say(rt: HostRuntime) -> Result<(), Fail> {
         // every option
         (
             "dpl split --layer 2 --datatype 3 --rule 4 --overlap 5 --top T --a 6 --b 7 --tile 8 --workers 9 i o c",
-            Some(([2, 3, 4, 5, 6, 7, 8, 9], Some("T"), FILES)),
+            Some(([2, 3, 4, 5, 4, 6, 7, 8, 9], Some("T"), FILES)),
         ),
         // zeros and a sign before a number; `-0` as a word of its own looks like an option
         (
             "dpl split --layer=-0 --rule 30 --overlap 10 i o c",
-            Some(([0, 0, 30, 10, 101, 102, 4096, 4], None, FILES)),
+            Some(([0, 0, 30, 10, 30, 101, 102, 4096, 4], None, FILES)),
         ),
         ("dpl split --layer -0 --rule 30 --overlap 10 i o c", None),
         (
             "dpl split --layer=+010 --rule 30 --overlap 10 i o c",
-            Some(([10, 0, 30, 10, 101, 102, 4096, 4], None, FILES)),
+            Some(([10, 0, 30, 10, 30, 101, 102, 4096, 4], None, FILES)),
         ),
         (
             "dpl split --layer +010 --rule 30 --overlap 10 i o c",
-            Some(([10, 0, 30, 10, 101, 102, 4096, 4], None, FILES)),
+            Some(([10, 0, 30, 10, 30, 101, 102, 4096, 4], None, FILES)),
         ),
         ("dpl split --layer=-1 --rule 30 --overlap 10 i o c", None),
         ("dpl split --layer=+-1 --rule 30 --overlap 10 i o c", None),
@@ -100,7 +102,9 @@ fn lines_ask_for_what_they_say(rt: HostRuntime) -> Result<(), Fail> {
         (
             "dpl split --layer=65535 --rule=1000000 --overlap=1000000 --tile=1073741824 --workers=64 i o c",
             Some((
-                [65535, 0, 1000000, 1000000, 101, 102, 1073741824, 64],
+                [
+                    65535, 0, 1000000, 1000000, 1000000, 101, 102, 1073741824, 64,
+                ],
                 None,
                 FILES,
             )),
@@ -158,7 +162,7 @@ fn lines_ask_for_what_they_say(rt: HostRuntime) -> Result<(), Fail> {
         ),
         (
             "dpl split --layer 1 --rule 30 --overlap 10 --a 102 --b 101 i o c",
-            Some(([1, 0, 30, 10, 102, 101, 4096, 4], None, FILES)),
+            Some(([1, 0, 30, 10, 30, 102, 101, 4096, 4], None, FILES)),
         ),
         ("dpl split --layer 1 --rule 30 --overlap 10 i i c", None),
         ("dpl split --layer 1 --rule 30 --overlap 10 i o i", None),
@@ -185,14 +189,24 @@ fn lines_ask_for_what_they_say(rt: HostRuntime) -> Result<(), Fail> {
             "dpl split --layer 1 --rule 30 --overlap 10 -- -i o c",
             Some((PLAIN, None, ["-i", "o", "c"])),
         ),
-        // `check` has neither tiles nor workers
+    ];
+    for (line, want) in cases {
+        assert!(rt; asks(rt.alloc(), line, want)?, "at {line}");
+    }
+    assert!(rt; matches!(read_words(rt.alloc(), &[]), Err(WordsFault::Usage)));
+    Ok(())
+}
+
+#[test]
+fn checks_have_neither_tiles_nor_workers(rt: HostRuntime) -> Result<(), Fail> {
+    let cases: [(&str, Option<Values>); 6] = [
         (
             "dpl check --layer 1 --rule 30 --overlap 10 i o c",
-            Some(([1, 0, 30, 10, 101, 102, 0, 0], None, FILES)),
+            Some(([1, 0, 30, 10, 30, 101, 102, 0, 0], None, FILES)),
         ),
         (
             "dpl check --layer 2 --datatype 3 --rule 4 --overlap 5 --top T --a 6 --b 7 i o c",
-            Some(([2, 3, 4, 5, 6, 7, 0, 0], Some("T"), FILES)),
+            Some(([2, 3, 4, 5, 4, 6, 7, 0, 0], Some("T"), FILES)),
         ),
         (
             "dpl check --layer 1 --rule 30 --overlap 10 --tile 64 i o c",
@@ -208,7 +222,54 @@ fn lines_ask_for_what_they_say(rt: HostRuntime) -> Result<(), Fail> {
     for (line, want) in cases {
         assert!(rt; asks(rt.alloc(), line, want)?, "at {line}");
     }
-    assert!(rt; matches!(read_words(rt.alloc(), &[]), Err(WordsFault::Usage)));
+    Ok(())
+}
+
+/// Without a corner rule of its own it is the rule.
+#[test]
+fn a_corner_rule_goes_up_to_the_rule(rt: HostRuntime) -> Result<(), Fail> {
+    let plain = Some((PLAIN, None, FILES));
+    let cases: [(&str, Option<Values>); 9] = [
+        (
+            "dpl split --layer 1 --rule 30 --overlap 10 --corner 29 i o c",
+            Some(([1, 0, 30, 10, 29, 101, 102, 4096, 4], None, FILES)),
+        ),
+        (
+            "dpl split --corner=1 --layer 1 --rule 30 --overlap 10 i o c",
+            Some(([1, 0, 30, 10, 1, 101, 102, 4096, 4], None, FILES)),
+        ),
+        (
+            "dpl split --layer 1 --rule 30 --overlap 10 --corner +030 i o c",
+            plain,
+        ),
+        (
+            "dpl check --layer 1 --rule 30 --overlap 10 --corner 29 i o c",
+            Some(([1, 0, 30, 10, 29, 101, 102, 0, 0], None, FILES)),
+        ),
+        (
+            "dpl split --layer 1 --rule 30 --overlap 10 --corner 31 i o c",
+            None,
+        ),
+        (
+            "dpl check --layer 1 --rule 30 --overlap 10 --corner 31 i o c",
+            None,
+        ),
+        (
+            "dpl split --layer 1 --rule 30 --overlap 10 --corner 0 i o c",
+            None,
+        ),
+        (
+            "dpl split --layer 1 --rule 1000000 --overlap 10 --corner 1000001 i o c",
+            None,
+        ),
+        (
+            "dpl split --layer 1 --rule 30 --overlap 10 --corner 29 --corner 29 i o c",
+            None,
+        ),
+    ];
+    for (line, want) in cases {
+        assert!(rt; asks(rt.alloc(), line, want)?, "at {line}");
+    }
     Ok(())
 }
 
@@ -225,7 +286,7 @@ fn shows(alloc: Global, line: &str, want: Option<[u64; 4]>) -> Result<bool, Fail
 
 #[test]
 fn demo_has_a_seed_and_rows(rt: HostRuntime) -> Result<(), Fail> {
-    let cases: [(&str, Option<[u64; 4]>); 10] = [
+    let cases: [(&str, Option<[u64; 4]>); 11] = [
         ("dpl demo --seed 0 --rows 1", Some([0, 1, 4096, 4])),
         (
             "dpl demo --rows=+1000000 --seed=18446744073709551615 --tile 8 --workers 64",
@@ -239,9 +300,70 @@ fn demo_has_a_seed_and_rows(rt: HostRuntime) -> Result<(), Fail> {
         ("dpl demo --seed 0", None),
         ("dpl demo --rows 1", None),
         ("dpl demo --seed 0 --rows 1 i", None),
+        ("dpl demo --seed 0 --rows 1 --corner 1", None),
     ];
     for (line, want) in cases {
         assert!(rt; shows(rt.alloc(), line, want)?, "at {line}");
+    }
+    Ok(())
+}
+
+/// The layers of markers that a line names, if it asks for anything.
+fn markers_of(alloc: Global, line: &str) -> Result<Option<[Option<u16>; 2]>, Fail> {
+    let words = words(alloc, line)?;
+    match read_words(alloc, &words) {
+        Ok(Request::Split(options)) => Ok(Some([options.mark_a, options.mark_b])),
+        Ok(Request::Check(options)) => Ok(Some([options.mark_a, options.mark_b])),
+        Ok(Request::Demo(_)) => Err("a demo has no markers".into()),
+        Err(WordsFault::Usage) => Ok(None),
+        Err(WordsFault::NoMemory) => Err("there is memory".into()),
+    }
+}
+
+#[test]
+fn lines_name_layers_of_markers(rt: HostRuntime) -> Result<(), Fail> {
+    let cases: [(&str, Option<[Option<u16>; 2]>); 10] = [
+        (
+            "dpl split --layer 1 --rule 30 --overlap 10 i o c",
+            Some([None, None]),
+        ),
+        (
+            "dpl split --layer 1 --rule 30 --overlap 10 --mark-a 0 i o c",
+            Some([Some(0), None]),
+        ),
+        (
+            "dpl split --layer 1 --rule 30 --overlap 10 --mark-b 65535 i o c",
+            Some([None, Some(65535)]),
+        ),
+        // One layer for both, and the layer itself.
+        (
+            "dpl check --layer 1 --rule 30 --overlap 10 --mark-b 7 --mark-a 7 i o c",
+            Some([Some(7), Some(7)]),
+        ),
+        (
+            "dpl check --layer 1 --rule 30 --overlap 10 --mark-a=1 i o c",
+            Some([Some(1), None]),
+        ),
+        (
+            "dpl split --layer 1 --rule 30 --overlap 10 --mark-a 65536 i o c",
+            None,
+        ),
+        (
+            "dpl check --layer 1 --rule 30 --overlap 10 --mark-b -1 i o c",
+            None,
+        ),
+        (
+            "dpl check --layer 1 --rule 30 --overlap 10 --mark-b 7 --mark-b 7 i o c",
+            None,
+        ),
+        (
+            "dpl split --layer 1 --rule 30 --overlap 10 --mark-a i o c",
+            None,
+        ),
+        ("dpl demo --seed 1 --rows 2 --mark-a 7", None),
+    ];
+    for (line, want) in cases {
+        assert!(rt; markers_of(rt.alloc(), line)? == want, "at {line}");
     }
     Ok(())
 }

@@ -1,5 +1,5 @@
 -- What one level of a parse that passes gives of each argument that is required or has a default.
-use Rattle.std.proofs.Common.{◌≡◌, ◌∙◌, ◌&&◌, ◌<◌, ◌^◌, ℕ, Bool, cond, not, true, false, true≢false, List, [], ◌∷◌, Option, Some, None, refl, sym, ap, subst, is_some}
+use Rattle.std.proofs.Common.{◌≡◌, ◌∙◌, ◌⊎◌, ◌&&◌, ◌<◌, ◌^◌, ℕ, Bool, cond, not, true, false, true≢false, List, [], ◌∷◌, Option, Some, None, refl, sym, ap, subst, inl, inr, is_some}
 use Rattle.std.specs.Prelude.{slice_get, option_and_then, pos}
 use Rattle.std.specs.List.{list_any}
 use Rattle.std.specs.Str.Parse.{ParsesUnsigned, digits_value, without_leading_plus}
@@ -9,7 +9,7 @@ use Rattle.clap.specs.Matches.{ReadsOne}
 use Rattle.clap.specs.Values.{read_as, reading_of}
 use Rattle.clap.specs.ValueTests.{accepts}
 use Rattle.clap.specs.Takes.{is_given, value_passes}
-use Rattle.clap.specs.Walk.{Row, Rule, Text, arg_by_id, arg_by_short, first_of, nothing_held, one_of, reading_by, row_text, rows_after, settled, walk, walk_from}
+use Rattle.clap.specs.Walk.{Row, Rule, Text, arg_by_id, arg_by_short, first_of, has_row, nothing_held, one_of, reading_by, row_text, rows_after, settled, walk, walk_from}
 use Rattle.clap.specs.Simple.{Shape}
 use Rattle.clap.specs.Faults.{check_fault, defaults_fault, level_fault, settle_fault, walk_fault}
 use Rattle.clap.specs.declared.builder.value_parser.Reading.{Reading}
@@ -17,9 +17,9 @@ use Rattle.clap.specs.declared.builder.value_parser.ValueParser.TheVariants as v
 use Rattle.clap.proofs.CallerReads.{signed_reads}
 use Rattle.clap.proofs.ValueTestLemmas.{accepts-Accepts}
 use Rattle.dpl_words.specs.Meaning.{◌>>=◌, number_at, number_below}
-use Rattle.dpl_words.specs.Ranges.{IsFrom, IsThere}
+use Rattle.dpl_words.specs.Ranges.{IsFrom, IsFromIfGiven, IsThere}
 use Rattle.dpl_words.proofs.Numbers.{below_back, below_from, is_below}
-use Rattle.dpl_words.proofs.Rows.{HasDefault, HasRowWith, by_own_id, default_there, given_has, has_single_ids, required_given, row_with}
+use Rattle.dpl_words.proofs.Rows.{HasDefault, HasRowWith, by_own_id, default_there, given_has, has_single_ids, no_row, required_given, row_with}
 use Rattle.dpl_words.proofs.Walking.{EachRow, HasFirst, IsIn, TakesOne, defaults_kept, none_of, settled_kept, walk_kept}
 
 -- the value passed the test of the argument of this id, and is read as that argument says
@@ -82,6 +82,14 @@ module _ (s : Shape) (is : IsPlainLevel s) where
   required_read a of wanted rows none each_held =
       read_row a of rows (row_with _ a.id rows (given_has a.id rows (required_given s.rules rows a none of wanted)) each_held)
 
+  -- an argument without a row was left out
+  pub row_read : (a : Rule) → IsIn a s.rules → (rows : List Row) → EachRow (IsPassed s.rules) rows → (one_of a.id rows ≡ None) ⊎ IsRead a rows
+  row_read a of rows each_held = go (has_row a.id rows) refl
+    where
+      go : (b : Bool) → has_row a.id rows ≡ b → (one_of a.id rows ≡ None) ⊎ IsRead a rows
+      go true is = inr (read_row a of rows (row_with _ a.id rows is each_held))
+      go false is = inl (ap (option_and_then row_text) (no_row a.id rows is))
+
 -- ---- numbers
 
 below_reads : (k : ℕ) (t : Text) → ReadsOne {T = ℕ} {E = Unit {0}} (ParsesUnsigned k 10) t (number_below k t)
@@ -102,6 +110,16 @@ number_read k low high a rows fits parser read =
     let one : one_of a.id rows ≡ Some (without_minus read.text) = read.one ∙ ap (λ p. Some (read_as (reading_of (parser_of_value p)) read.text)) parser in
     let at : number_at k a.id rows ≡ Some got.0 = ap (λ (o : Option Text). o >>= number_below k) one ∙ got.1 in
     subst (IsFrom low high) (sym at) (got.2, got.3)
+
+-- and so is one that may be left out, where it is there
+pub given_read : (k low high : ℕ) (a : Rule) (rows : List Row) → high < 2 ^ k → a.parser ≡ Some (vp.Signed (pos low) (pos high))
+    → (one_of a.id rows ≡ None) ⊎ IsRead a rows → IsFromIfGiven low high (number_at k a.id rows)
+given_read k low high a rows fits parser (inl none) = subst (λ (o : Option Text). IsFromIfGiven low high (o >>= number_below k)) (sym none) tt
+given_read k low high a rows fits parser (inr read) = if_given (number_at k a.id rows) (number_read k low high a rows fits parser read)
+  where
+    if_given : (o : Option ℕ) → IsFrom low high o → IsFromIfGiven low high o
+    if_given None h = tt
+    if_given (Some n) h = h
 
 -- a number that passed a test of whole numbers of 64 bits is there, and in its range
 pub word_read : (low high : ℕ) (a : Rule) (rows : List Row) → a.parser ≡ Some (vp.Unsigned low high) → IsRead a rows → IsFrom low high (number_at 64 a.id rows)

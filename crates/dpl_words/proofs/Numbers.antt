@@ -1,5 +1,5 @@
 -- A typed getter of `clap` reads the number that the text writes.
-use Rattle.std.proofs.Common.{◌≡◌, ◌∙◌, ◌∷◌, [], ℕ, Bool, List, true, false, refl, sym, ap, unwrap_or, Some, None, Option, ◌<◌, ◌^◌, ◌&&◌, nat_lt, is_some, true≢false}
+use Rattle.std.proofs.Common.{◌≡◌, ◌∙◌, ◌∷◌, [], ℕ, Bool, List, true, false, refl, sym, ap, unwrap_or, Some, None, Option, ◌<◌, ◌^◌, ◌&&◌, nat_lt, is_some}
 use Rattle.std.specs.Prelude.{Ok, Err, Result, IsSome}
 use Rattle.std.proofs.lemmas.Bool.{ltb-true, lt-ltb}
 use Rattle.std.specs.List.{list_all}

@@ -1,5 +1,5 @@
 -- The words that `clap` takes give each value of their subcommand, in its range.
-use Rattle.std.proofs.Common.{◌≡◌, ◌≤◌, Bool, ◌&&◌, not, cond, true, false, true≢false, List, [], ◌∷◌, Option, Some, None, option_map}
+use Rattle.std.proofs.Common.{◌≡◌, ◌≤◌, ◌⊎◌, Bool, ◌&&◌, not, cond, true, false, true≢false, List, [], ◌∷◌, Option, Some, None, option_map, nat_lt}
 use Rattle.std.proofs.Common.{is_some, refl, sym, subst, inl, inr, arith, ℕ}
 use Rattle.std.specs.Prelude.{find, slice_get, unwrap_or, IfSome}
 use Rattle.std.specs.List.{list_any}
@@ -7,17 +7,18 @@ use Rattle.clap.specs.Kinds.{check_kinds}
 use Rattle.clap.specs.Takes.{is_given}
 use Rattle.dpl_words.proofs.Rows.{HasDefault}
 use Rattle.std.specs.Option.{option_map_or}
-use Rattle.clap.specs.Walk.{Row, Rule, Text, answers_to, nothing_held, rows_after, walk, walk_from, action_of, takes_values}
+use Rattle.clap.specs.Walk.{Row, Rule, Text, answers_to, nothing_held, one_of, rows_after, walk, walk_from, action_of, takes_values}
 use Rattle.clap.specs.Simple.{Shape, argument_words, built, entered, label_of, names_of, new_rule, rows_at, subcommand_of}
 use Rattle.clap.specs.Facts.{unwrap_or_range}
 use Rattle.clap.specs.declared.builder.action.ArgAction.TheVariants.{Set}
 use Rattle.clap.specs.Faults.{check_fault, entered_fault, fault_of, level_fault, walk_fault}
 use Rattle.clap.proofs.OnLiterals.{clap_on_literals}
 use Rattle.dpl_words.specs.Definition.{dpl_app, split_shape}
-use Rattle.dpl_words.specs.Ranges.{AreInRange, AreInRangeForCheck, AreInRangeForDemo, AreThere, AreThereForCheck, AreThereForDemo, HasItsValues, IsFrom}
+use Rattle.dpl_words.specs.Ranges.{AreInRange, AreInRangeForCheck, AreInRangeForDemo, AreThere, AreThereForCheck, AreThereForDemo, HasItsValues, IsFrom, IsFromIfGiven}
 use Rattle.dpl_words.specs.Meaning.{check_values, demo_values, is_taken, split_values}
+use Rattle.std.proofs.lemmas.Bool.{ltb-false}
 use Rattle.clap.proofs.SimpleLemmas.{is_nil}
-use Rattle.dpl_words.proofs.Level.{IsPlainLevel, IsRead, default_read, each_row, number_read, required_read, text_read, word_read}
+use Rattle.dpl_words.proofs.Level.{IsPlainLevel, IsRead, default_read, each_row, given_read, number_read, required_read, row_read, text_read, word_read}
 use Rattle.dpl_words.proofs.Walking.{IsIn, TakesOne, none_of}
 
 -- the level of the subcommand at this place, as it is built
@@ -52,28 +53,7 @@ one a x y z = record { action = x; takes = y; least = z }
 
 each_split : Each split_level.rules
 unfolding clap_on_literals
-each_split = (
-  one _ refl refl refl,
-  (
-    one _ refl refl refl,
-    (
-      one _ refl refl refl,
-      (
-        one _ refl refl refl,
-        (
-          one _ refl refl refl,
-          (
-            one _ refl refl refl,
-            (
-              one _ refl refl refl,
-              (one _ refl refl refl, (one _ refl refl refl, (one _ refl refl refl, (one _ refl refl refl, (one _ refl refl refl, tt))))),
-            ),
-          ),
-        ),
-      ),
-    ),
-  ),
-)
+each_split = (one _ refl refl refl, (one _ refl refl refl, (one _ refl refl refl, (one _ refl refl refl, (one _ refl refl refl, (one _ refl refl refl, (one _ refl refl refl, (one _ refl refl refl, (one _ refl refl refl, (one _ refl refl refl, (one _ refl refl refl, (one _ refl refl refl, (one _ refl refl refl, (one _ refl refl refl, (one _ refl refl refl, tt)))))))))))))))
 
 plain_split : IsPlainLevel split_level
 unfolding clap_on_literals
@@ -81,22 +61,7 @@ plain_split = record { single = of_each split_level.rules each_split; no_short =
 
 each_check : Each check_level.rules
 unfolding clap_on_literals
-each_check = (
-  one _ refl refl refl,
-  (
-    one _ refl refl refl,
-    (
-      one _ refl refl refl,
-      (
-        one _ refl refl refl,
-        (
-          one _ refl refl refl,
-          (one _ refl refl refl, (one _ refl refl refl, (one _ refl refl refl, (one _ refl refl refl, (one _ refl refl refl, tt))))),
-        ),
-      ),
-    ),
-  ),
-)
+each_check = (one _ refl refl refl, (one _ refl refl refl, (one _ refl refl refl, (one _ refl refl refl, (one _ refl refl refl, (one _ refl refl refl, (one _ refl refl refl, (one _ refl refl refl, (one _ refl refl refl, (one _ refl refl refl, (one _ refl refl refl, (one _ refl refl refl, (one _ refl refl refl, tt)))))))))))))
 
 plain_check : IsPlainLevel check_level
 unfolding clap_on_literals
@@ -112,36 +77,44 @@ plain_demo = record { single = of_each demo_level.rules each_demo; no_short = λ
 
 -- what is read of the arguments of `split` gives each value
 split_there : (rows : List Row) → ((a : Rule) → IsIn a split_level.rules → a.required ≡ true → IsRead a rows)
-    → ((a : Rule) → IsIn a split_level.rules → HasDefault a → IsRead a rows) → AreThere rows
+    → ((a : Rule) → IsIn a split_level.rules → HasDefault a → IsRead a rows)
+    → ((a : Rule) → IsIn a split_level.rules → (one_of a.id rows ≡ None) ⊎ IsRead a rows) → AreThere rows
 unfolding clap_on_literals
-split_there rows wanted given = record {
+split_there rows wanted given left_out = record {
   layer = number_read 16 0 65535 (at split_level 0) rows (omega arith) refl (wanted (at split_level 0) (inl refl) refl);
   rule = number_read 32 1 1000000 (at split_level 1) rows (omega arith) refl (wanted (at split_level 1) (inr (inl refl)) refl);
   overlap = number_read 32 1 1000000 (at split_level 2) rows (omega arith) refl (wanted (at split_level 2) (inr (inr (inl refl))) refl);
-  datatype = number_read 16 0 65535 (at split_level 3) rows (omega arith) refl (given (at split_level 3) (inr (inr (inr (inl refl)))) (_, _, refl));
-  a = number_read 16 0 65535 (at split_level 5) rows (omega arith) refl (given (at split_level 5) (inr (inr (inr (inr (inr (inl refl)))))) (_, _, refl));
-  b = number_read 16 0 65535 (at split_level 6) rows (omega arith) refl (given (at split_level 6) (inr (inr (inr (inr (inr (inr (inl refl))))))) (_, _, refl));
-  tile = number_read 32 1 1073741824 (at split_level 7) rows (omega arith) refl (given (at split_level 7) (inr (inr (inr (inr (inr (inr (inr (inl refl)))))))) (_, _, refl));
-  workers = number_read 32 1 64 (at split_level 8) rows (omega arith) refl (given (at split_level 8) (inr (inr (inr (inr (inr (inr (inr (inr (inl refl))))))))) (_, _, refl));
-  input = text_read (at split_level 9) rows (wanted (at split_level 9) (inr (inr (inr (inr (inr (inr (inr (inr (inr (inl refl)))))))))) refl);
-  output = text_read (at split_level 10) rows (wanted (at split_level 10) (inr (inr (inr (inr (inr (inr (inr (inr (inr (inr (inl refl))))))))))) refl);
-  certificate = text_read (at split_level 11) rows (wanted (at split_level 11) (inr (inr (inr (inr (inr (inr (inr (inr (inr (inr (inr (inl refl)))))))))))) refl);
+  corner = given_read 32 1 1000000 (at split_level 3) rows (omega arith) refl (left_out (at split_level 3) (inr (inr (inr (inl refl)))));
+  datatype = number_read 16 0 65535 (at split_level 4) rows (omega arith) refl (given (at split_level 4) (inr (inr (inr (inr (inl refl))))) (_, _, refl));
+  a = number_read 16 0 65535 (at split_level 6) rows (omega arith) refl (given (at split_level 6) (inr (inr (inr (inr (inr (inr (inl refl))))))) (_, _, refl));
+  b = number_read 16 0 65535 (at split_level 7) rows (omega arith) refl (given (at split_level 7) (inr (inr (inr (inr (inr (inr (inr (inl refl)))))))) (_, _, refl));
+  mark_a = given_read 16 0 65535 (at split_level 8) rows (omega arith) refl (left_out (at split_level 8) (inr (inr (inr (inr (inr (inr (inr (inr (inl refl))))))))));
+  mark_b = given_read 16 0 65535 (at split_level 9) rows (omega arith) refl (left_out (at split_level 9) (inr (inr (inr (inr (inr (inr (inr (inr (inr (inl refl)))))))))));
+  tile = number_read 32 1 1073741824 (at split_level 10) rows (omega arith) refl (given (at split_level 10) (inr (inr (inr (inr (inr (inr (inr (inr (inr (inr (inl refl))))))))))) (_, _, refl));
+  workers = number_read 32 1 64 (at split_level 11) rows (omega arith) refl (given (at split_level 11) (inr (inr (inr (inr (inr (inr (inr (inr (inr (inr (inr (inl refl)))))))))))) (_, _, refl));
+  input = text_read (at split_level 12) rows (wanted (at split_level 12) (inr (inr (inr (inr (inr (inr (inr (inr (inr (inr (inr (inr (inl refl))))))))))))) refl);
+  output = text_read (at split_level 13) rows (wanted (at split_level 13) (inr (inr (inr (inr (inr (inr (inr (inr (inr (inr (inr (inr (inr (inl refl)))))))))))))) refl);
+  certificate = text_read (at split_level 14) rows (wanted (at split_level 14) (inr (inr (inr (inr (inr (inr (inr (inr (inr (inr (inr (inr (inr (inr (inl refl))))))))))))))) refl);
 }
 
 -- what is read of the arguments of `check` gives each value
 check_there : (rows : List Row) → ((a : Rule) → IsIn a check_level.rules → a.required ≡ true → IsRead a rows)
-    → ((a : Rule) → IsIn a check_level.rules → HasDefault a → IsRead a rows) → AreThereForCheck rows
+    → ((a : Rule) → IsIn a check_level.rules → HasDefault a → IsRead a rows)
+    → ((a : Rule) → IsIn a check_level.rules → (one_of a.id rows ≡ None) ⊎ IsRead a rows) → AreThereForCheck rows
 unfolding clap_on_literals
-check_there rows wanted given = record {
+check_there rows wanted given left_out = record {
   layer = number_read 16 0 65535 (at check_level 0) rows (omega arith) refl (wanted (at check_level 0) (inl refl) refl);
   rule = number_read 32 1 1000000 (at check_level 1) rows (omega arith) refl (wanted (at check_level 1) (inr (inl refl)) refl);
   overlap = number_read 32 1 1000000 (at check_level 2) rows (omega arith) refl (wanted (at check_level 2) (inr (inr (inl refl))) refl);
-  datatype = number_read 16 0 65535 (at check_level 3) rows (omega arith) refl (given (at check_level 3) (inr (inr (inr (inl refl)))) (_, _, refl));
-  a = number_read 16 0 65535 (at check_level 5) rows (omega arith) refl (given (at check_level 5) (inr (inr (inr (inr (inr (inl refl)))))) (_, _, refl));
-  b = number_read 16 0 65535 (at check_level 6) rows (omega arith) refl (given (at check_level 6) (inr (inr (inr (inr (inr (inr (inl refl))))))) (_, _, refl));
-  input = text_read (at check_level 7) rows (wanted (at check_level 7) (inr (inr (inr (inr (inr (inr (inr (inl refl)))))))) refl);
-  output = text_read (at check_level 8) rows (wanted (at check_level 8) (inr (inr (inr (inr (inr (inr (inr (inr (inl refl))))))))) refl);
-  certificate = text_read (at check_level 9) rows (wanted (at check_level 9) (inr (inr (inr (inr (inr (inr (inr (inr (inr (inl refl)))))))))) refl);
+  corner = given_read 32 1 1000000 (at check_level 3) rows (omega arith) refl (left_out (at check_level 3) (inr (inr (inr (inl refl)))));
+  datatype = number_read 16 0 65535 (at check_level 4) rows (omega arith) refl (given (at check_level 4) (inr (inr (inr (inr (inl refl))))) (_, _, refl));
+  a = number_read 16 0 65535 (at check_level 6) rows (omega arith) refl (given (at check_level 6) (inr (inr (inr (inr (inr (inr (inl refl))))))) (_, _, refl));
+  b = number_read 16 0 65535 (at check_level 7) rows (omega arith) refl (given (at check_level 7) (inr (inr (inr (inr (inr (inr (inr (inl refl)))))))) (_, _, refl));
+  mark_a = given_read 16 0 65535 (at check_level 8) rows (omega arith) refl (left_out (at check_level 8) (inr (inr (inr (inr (inr (inr (inr (inr (inl refl))))))))));
+  mark_b = given_read 16 0 65535 (at check_level 9) rows (omega arith) refl (left_out (at check_level 9) (inr (inr (inr (inr (inr (inr (inr (inr (inr (inl refl)))))))))));
+  input = text_read (at check_level 10) rows (wanted (at check_level 10) (inr (inr (inr (inr (inr (inr (inr (inr (inr (inr (inl refl))))))))))) refl);
+  output = text_read (at check_level 11) rows (wanted (at check_level 11) (inr (inr (inr (inr (inr (inr (inr (inr (inr (inr (inr (inl refl)))))))))))) refl);
+  certificate = text_read (at check_level 12) rows (wanted (at check_level 12) (inr (inr (inr (inr (inr (inr (inr (inr (inr (inr (inr (inr (inl refl))))))))))))) refl);
 }
 
 -- what is read of the arguments of `demo` gives each value
@@ -169,6 +142,7 @@ split_level_there words e =
     split_there (rows_after split_level.rules [] words)
     (λ a of wanted. required_read split_level plain_split a of wanted (rows_after split_level.rules [] words) (split_given (rows_after split_level.rules [] words) parts.1) parts.0)
     (λ a of d. default_read split_level plain_split a of d words parts.0)
+    (λ a of. row_read split_level plain_split a of (rows_after split_level.rules [] words) parts.0)
 
 check_given : (rows : List Row) → check_fault check_level rows false ≡ [] → list_any (λ a. a.required && not (is_given a.id rows)) check_level.rules ≡ false
 unfolding clap_on_literals
@@ -184,6 +158,7 @@ check_level_there words e =
     check_there (rows_after check_level.rules [] words)
     (λ a of wanted. required_read check_level plain_check a of wanted (rows_after check_level.rules [] words) (check_given (rows_after check_level.rules [] words) parts.1) parts.0)
     (λ a of d. default_read check_level plain_check a of d words parts.0)
+    (λ a of. row_read check_level plain_check a of (rows_after check_level.rules [] words) parts.0)
 
 demo_given : (rows : List Row) → check_fault demo_level rows false ≡ [] → list_any (λ a. a.required && not (is_given a.id rows)) demo_level.rules ≡ false
 unfolding clap_on_literals
@@ -244,27 +219,45 @@ from_range : (low high : ℕ) (o : Option ℕ) → IsFrom low high o → (low �
 from_range low high None h = absurd h
 from_range low high (Some n) h = h
 
+least_corner : (low high : ℕ) (corner rule : Option ℕ) → IsFromIfGiven low high corner → IsFrom low high rule → low ≤ unwrap_or corner (unwrap_or rule 0)
+least_corner low high None rule c r = (from_range low high rule r).0
+least_corner low high (Some n) rule c r = c.0
+
+pub not_above : (rule corner : ℕ) → not (nat_lt rule corner) ≡ true → corner ≤ rule
+not_above rule corner e = go (nat_lt rule corner) refl e
+  where
+    go : (b : Bool) → nat_lt rule corner ≡ b → not b ≡ true → corner ≤ rule
+    go true is e = absurd (true≢false (sym e))
+    go false is e = (let least = ltb-false _ _ is in omega arith)
+
 -- values that are there lie in their ranges
-pub in_range : (rows : List Row) → AreThere rows → AreInRange (split_values rows)
-in_range rows h = record {
+pub in_range : (rows : List Row) → AreThere rows → (split_values rows).corner ≤ (split_values rows).rule → AreInRange (split_values rows)
+in_range rows h below = record {
   layer = (from_range _ _ _ h.layer).1;
   datatype = (from_range _ _ _ h.datatype).1;
   rule = from_range _ _ _ h.rule;
   overlap = from_range _ _ _ h.overlap;
+  corner = (least_corner _ _ _ _ h.corner h.rule, below);
   a = (from_range _ _ _ h.a).1;
   b = (from_range _ _ _ h.b).1;
+  mark_a = h.mark_a;
+  mark_b = h.mark_b;
   tile = from_range _ _ _ h.tile;
   workers = from_range _ _ _ h.workers;
 }
 
-pub check_in_range : (rows : List Row) → AreThereForCheck rows → AreInRangeForCheck (check_values rows)
-check_in_range rows h = record {
+pub check_in_range : (rows : List Row) → AreThereForCheck rows → (check_values rows).corner ≤ (check_values rows).rule
+    → AreInRangeForCheck (check_values rows)
+check_in_range rows h below = record {
   layer = (from_range _ _ _ h.layer).1;
   datatype = (from_range _ _ _ h.datatype).1;
   rule = from_range _ _ _ h.rule;
   overlap = from_range _ _ _ h.overlap;
+  corner = (least_corner _ _ _ _ h.corner h.rule, below);
   a = (from_range _ _ _ h.a).1;
   b = (from_range _ _ _ h.b).1;
+  mark_a = h.mark_a;
+  mark_b = h.mark_b;
 }
 
 pub demo_in_range : (entries : List Row) → AreThereForDemo entries → AreInRangeForDemo (demo_values entries)

@@ -1,5 +1,5 @@
 -- The rows that a list of defaults and a list of required arguments leave.
-use Rattle.std.proofs.Common.{◌≡◌, ◌∙◌, ◌⊎◌, ◌&&◌, ◌||◌, Bool, cond, not, true, false, true≢false, List, [], ◌∷◌, ◌++◌, Some, refl, sym, ap, subst, inl, inr}
+use Rattle.std.proofs.Common.{◌≡◌, ◌∙◌, ◌⊎◌, ◌&&◌, ◌||◌, Bool, cond, not, true, false, true≢false, List, [], ◌∷◌, ◌++◌, Some, None, refl, sym, ap, subst, inl, inr}
 use Rattle.std.specs.Prelude.{find, fold}
 use Rattle.std.specs.List.{list_any}
 use Rattle.std.specs.Option.{option_map_or}
@@ -104,6 +104,16 @@ row_with P id (r ∷ rs) has each = go (λ h. row_with P id rs h each.1) (bytes_
         → (x : Row) × (cond b (Some r) (find (λ r. bytes_eq r.id id) rs) ≡ Some x) × HasFirst (P id x.reading) x.values
     go rest true is h = (r, refl, subst (λ (t : Text). HasFirst (P t r.reading) r.values) ((bytes_eq-Decides r.id id).0 is) each.0)
     go rest false is h = rest h
+
+-- without a row there is none to be found
+pub no_row : (id : Text) (rows : List Row) → has_row id rows ≡ false → find (λ r. bytes_eq r.id id) rows ≡ None
+no_row id [] e = refl
+no_row id (r ∷ rs) e = go (no_row id rs) (bytes_eq r.id id) e
+  where
+    go : (has_row id rs ≡ false → find (λ r. bytes_eq r.id id) rs ≡ None) → (b : Bool) → (b || has_row id rs) ≡ false
+        → cond b (Some r) (find (λ r. bytes_eq r.id id) rs) ≡ None
+    go rest true e = absurd (true≢false e)
+    go rest false e = rest e
 
 pub given_has : (id : Text) (rows : List Row) → is_given id rows ≡ true → has_row id rows ≡ true
 given_has id [] e = absurd (true≢false (sym e))

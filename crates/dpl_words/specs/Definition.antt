@@ -4,7 +4,7 @@ use Rattle.clap.specs.Walk.{Rule, Text}
 use Rattle.clap.specs.Simple.{App, Shape, new_rule, new_shape}
 use Rattle.clap.specs.declared.builder.value_parser.ValueParser.TheVariants as vp
 use Rattle.dpl_words.specs.declared.definition.Argument.{Argument}
-use Rattle.dpl_words.specs.declared.definition.Argument.TheVariants.{RequiredNumber, OptionalNumber, RequiredWord, OptionalText, FileName}
+use Rattle.dpl_words.specs.declared.definition.Argument.TheVariants.{RequiredNumber, OptionalNumber, NumberIfGiven, RequiredWord, OptionalText, FileName}
 
 -- an option that must be given, with a whole number from low to high
 abbrev pub required_number : Text → ℕ → ℕ → Rule
@@ -30,6 +30,13 @@ optional_number id low high default = record (new_rule id) {
   parser = Some (vp.Signed (pos low) (pos high));
 }
 
+-- an option with a whole number from low to high, that may be left out
+abbrev pub number_if_given : Text → ℕ → ℕ → Rule
+number_if_given id low high = record (new_rule id) {
+  long = Some id;
+  parser = Some (vp.Signed (pos low) (pos high));
+}
+
 -- an option with a text
 abbrev pub optional_text : Text → Rule
 optional_text id = record (new_rule id) { long = Some id }
@@ -42,6 +49,7 @@ file_name id = record (new_rule id) { required = true }
 abbrev pub rule_for : Argument → Rule
 rule_for (RequiredNumber id low high) = required_number id.now low high
 rule_for (OptionalNumber id low high default) = optional_number id.now low high default.now
+rule_for (NumberIfGiven id low high) = number_if_given id.now low high
 rule_for (RequiredWord id) = required_word id.now
 rule_for (OptionalText id) = optional_text id.now
 rule_for (FileName id) = file_name id.now
@@ -55,10 +63,13 @@ split_shape = record (new_shape (codes "split")) {
   rules = required_number (codes "layer") 0 65535
       ∷ required_number (codes "rule") 1 1000000
       ∷ required_number (codes "overlap") 1 1000000
+      ∷ number_if_given (codes "corner") 1 1000000
       ∷ optional_number (codes "datatype") 0 65535 (codes "0")
       ∷ optional_text (codes "top")
       ∷ optional_number (codes "a") 0 65535 (codes "101")
       ∷ optional_number (codes "b") 0 65535 (codes "102")
+      ∷ number_if_given (codes "mark-a") 0 65535
+      ∷ number_if_given (codes "mark-b") 0 65535
       ∷ optional_number (codes "tile") 1 1073741824 (codes "4096")
       ∷ optional_number (codes "workers") 1 64 (codes "4")
       ∷ file_name (codes "in") ∷ file_name (codes "out") ∷ file_name (codes "cert") ∷ [];
@@ -69,10 +80,13 @@ check_shape = record (new_shape (codes "check")) {
   rules = required_number (codes "layer") 0 65535
       ∷ required_number (codes "rule") 1 1000000
       ∷ required_number (codes "overlap") 1 1000000
+      ∷ number_if_given (codes "corner") 1 1000000
       ∷ optional_number (codes "datatype") 0 65535 (codes "0")
       ∷ optional_text (codes "top")
       ∷ optional_number (codes "a") 0 65535 (codes "101")
       ∷ optional_number (codes "b") 0 65535 (codes "102")
+      ∷ number_if_given (codes "mark-a") 0 65535
+      ∷ number_if_given (codes "mark-b") 0 65535
       ∷ file_name (codes "in") ∷ file_name (codes "out") ∷ file_name (codes "cert") ∷ [];
 }
 

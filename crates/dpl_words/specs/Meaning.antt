@@ -20,9 +20,12 @@ pub record SplitValues : Type 0 where
   pub datatype : ℕ
   pub rule : ℕ
   pub overlap : ℕ
+  pub corner : ℕ
   pub top : Option Text
   pub a : ℕ
   pub b : ℕ
+  pub mark_a : Option ℕ
+  pub mark_b : Option ℕ
   pub tile : ℕ
   pub workers : ℕ
   pub input : Text
@@ -35,9 +38,12 @@ pub record CheckValues : Type 0 where
   pub datatype : ℕ
   pub rule : ℕ
   pub overlap : ℕ
+  pub corner : ℕ
   pub top : Option Text
   pub a : ℕ
   pub b : ℕ
+  pub mark_a : Option ℕ
+  pub mark_b : Option ℕ
   pub input : Text
   pub output : Text
   pub certificate : Text
@@ -75,6 +81,10 @@ number_in k id rows = unwrap_or (number_at k id rows) 0
 abbrev pub text_in : Text → List Row → Text
 text_in id rows = unwrap_or (first_of id rows) []
 
+-- the corner rule is the rule, where it isn't given
+abbrev pub corner_in : List Row → ℕ
+corner_in rows = unwrap_or (number_at 32 (codes "corner") rows) (number_in 32 (codes "rule") rows)
+
 -- the values of `split` among the entries that `clap` finds
 abbrev pub split_values : List Row → SplitValues
 split_values rows = record {
@@ -82,9 +92,12 @@ split_values rows = record {
   datatype = number_in 16 (codes "datatype") rows;
   rule = number_in 32 (codes "rule") rows;
   overlap = number_in 32 (codes "overlap") rows;
+  corner = corner_in rows;
   top = first_of (codes "top") rows;
   a = number_in 16 (codes "a") rows;
   b = number_in 16 (codes "b") rows;
+  mark_a = number_at 16 (codes "mark-a") rows;
+  mark_b = number_at 16 (codes "mark-b") rows;
   tile = number_in 32 (codes "tile") rows;
   workers = number_in 32 (codes "workers") rows;
   input = text_in (codes "in") rows;
@@ -99,9 +112,12 @@ check_values rows = record {
   datatype = number_in 16 (codes "datatype") rows;
   rule = number_in 32 (codes "rule") rows;
   overlap = number_in 32 (codes "overlap") rows;
+  corner = corner_in rows;
   top = first_of (codes "top") rows;
   a = number_in 16 (codes "a") rows;
   b = number_in 16 (codes "b") rows;
+  mark_a = number_at 16 (codes "mark-a") rows;
+  mark_b = number_at 16 (codes "mark-b") rows;
   input = text_in (codes "in") rows;
   output = text_in (codes "out") rows;
   certificate = text_in (codes "cert") rows;
@@ -124,17 +140,18 @@ is_taken words = is_empty (fault_of dpl_app words)
 abbrev pub is_apart : ℕ → ℕ → Text → Text → Text → Bool
 is_apart a b input output certificate = not (a == b) && (not (bytes_eq input output) && (not (bytes_eq input certificate) && not (bytes_eq output certificate)))
 
-abbrev pub split_if_apart : SplitValues → Option RequestValues
-split_if_apart v = if is_apart v.a v.b v.input v.output v.certificate then Some (AsksSplit v) else None
+-- and the corner rule isn't above the rule
+abbrev pub split_if_sound : SplitValues → Option RequestValues
+split_if_sound v = if is_apart v.a v.b v.input v.output v.certificate && not (nat_lt v.rule v.corner) then Some (AsksSplit v) else None
 
-abbrev pub check_if_apart : CheckValues → Option RequestValues
-check_if_apart v = if is_apart v.a v.b v.input v.output v.certificate then Some (AsksCheck v) else None
+abbrev pub check_if_sound : CheckValues → Option RequestValues
+check_if_sound v = if is_apart v.a v.b v.input v.output v.certificate && not (nat_lt v.rule v.corner) then Some (AsksCheck v) else None
 
 -- what the entries of a subcommand ask for, by its name
 abbrev pub asked_by : Text → List Row → Option RequestValues
 asked_by name rows =
-    if bytes_eq name (codes "split") then split_if_apart (split_values rows)
-    else (if bytes_eq name (codes "check") then check_if_apart (check_values rows)
+    if bytes_eq name (codes "split") then split_if_sound (split_values rows)
+    else (if bytes_eq name (codes "check") then check_if_sound (check_values rows)
     else (if bytes_eq name (codes "demo") then Some (AsksDemo (demo_values rows)) else None))
 
 -- what the entries of the subcommand that was met ask for
@@ -151,10 +168,13 @@ split_view s = record {
   datatype = s.datatype;
   rule = s.rule;
   overlap = s.overlap;
+  corner = s.corner;
   top = option_map
       (λ t. t.now) s.top;
   a = s.a;
   b = s.b;
+  mark_a = s.mark_a;
+  mark_b = s.mark_b;
   tile = s.tile;
   workers = s.workers;
   input = s.input.now;
@@ -168,10 +188,13 @@ check_view s = record {
   datatype = s.datatype;
   rule = s.rule;
   overlap = s.overlap;
+  corner = s.corner;
   top = option_map
       (λ t. t.now) s.top;
   a = s.a;
   b = s.b;
+  mark_a = s.mark_a;
+  mark_b = s.mark_b;
   input = s.input.now;
   output = s.output.now;
   certificate = s.certificate.now;

@@ -9,6 +9,11 @@ abbrev pub IsFrom : ℕ → ℕ → Option ℕ → Type 0
 IsFrom low high None = ⊥
 IsFrom low high (Some n) = (low ≤ n) × (n ≤ high)
 
+-- a number is from low to high, where it is there
+abbrev pub IsFromIfGiven : ℕ → ℕ → Option ℕ → Type 0
+IsFromIfGiven low high None = Unit {0}
+IsFromIfGiven low high (Some n) = (low ≤ n) × (n ≤ high)
+
 abbrev pub IsThere : Option Text → Type 0
 IsThere text = is_some text ≡ true
 
@@ -18,8 +23,11 @@ pub record AreThere (rows : List Row) : Type 0 where
   pub datatype : IsFrom 0 65535 (number_at 16 (codes "datatype") rows)
   pub rule : IsFrom 1 1000000 (number_at 32 (codes "rule") rows)
   pub overlap : IsFrom 1 1000000 (number_at 32 (codes "overlap") rows)
+  pub corner : IsFromIfGiven 1 1000000 (number_at 32 (codes "corner") rows)
   pub a : IsFrom 0 65535 (number_at 16 (codes "a") rows)
   pub b : IsFrom 0 65535 (number_at 16 (codes "b") rows)
+  pub mark_a : IsFromIfGiven 0 65535 (number_at 16 (codes "mark-a") rows)
+  pub mark_b : IsFromIfGiven 0 65535 (number_at 16 (codes "mark-b") rows)
   pub tile : IsFrom 1 1073741824 (number_at 32 (codes "tile") rows)
   pub workers : IsFrom 1 64 (number_at 32 (codes "workers") rows)
   pub input : IsThere (first_of (codes "in") rows)
@@ -32,8 +40,11 @@ pub record AreThereForCheck (rows : List Row) : Type 0 where
   pub datatype : IsFrom 0 65535 (number_at 16 (codes "datatype") rows)
   pub rule : IsFrom 1 1000000 (number_at 32 (codes "rule") rows)
   pub overlap : IsFrom 1 1000000 (number_at 32 (codes "overlap") rows)
+  pub corner : IsFromIfGiven 1 1000000 (number_at 32 (codes "corner") rows)
   pub a : IsFrom 0 65535 (number_at 16 (codes "a") rows)
   pub b : IsFrom 0 65535 (number_at 16 (codes "b") rows)
+  pub mark_a : IsFromIfGiven 0 65535 (number_at 16 (codes "mark-a") rows)
+  pub mark_b : IsFromIfGiven 0 65535 (number_at 16 (codes "mark-b") rows)
   pub input : IsThere (first_of (codes "in") rows)
   pub output : IsThere (first_of (codes "out") rows)
   pub certificate : IsThere (first_of (codes "cert") rows)
@@ -51,25 +62,31 @@ pub record HasItsValues (met : Text × List Row) : Type 0 where
   pub check : bytes_eq met.0 (codes "check") ≡ true → AreThereForCheck met.1
   pub demo : bytes_eq met.0 (codes "demo") ≡ true → AreThereForDemo met.1
 
--- each number of a command line of `split` lies in its range
+-- each number of a command line of `split` lies in its range, and the corner rule isn't above the rule
 pub record AreInRange (v : SplitValues) : Type 0 where
   pub layer : v.layer ≤ 65535
   pub datatype : v.datatype ≤ 65535
   pub rule : (1 ≤ v.rule) × (v.rule ≤ 1000000)
   pub overlap : (1 ≤ v.overlap) × (v.overlap ≤ 1000000)
+  pub corner : (1 ≤ v.corner) × (v.corner ≤ v.rule)
   pub a : v.a ≤ 65535
   pub b : v.b ≤ 65535
+  pub mark_a : IsFromIfGiven 0 65535 v.mark_a
+  pub mark_b : IsFromIfGiven 0 65535 v.mark_b
   pub tile : (1 ≤ v.tile) × (v.tile ≤ 1073741824)
   pub workers : (1 ≤ v.workers) × (v.workers ≤ 64)
 
--- each number of a command line of `check` lies in its range
+-- each number of a command line of `check` lies in its range, and the corner rule isn't above the rule
 pub record AreInRangeForCheck (v : CheckValues) : Type 0 where
   pub layer : v.layer ≤ 65535
   pub datatype : v.datatype ≤ 65535
   pub rule : (1 ≤ v.rule) × (v.rule ≤ 1000000)
   pub overlap : (1 ≤ v.overlap) × (v.overlap ≤ 1000000)
+  pub corner : (1 ≤ v.corner) × (v.corner ≤ v.rule)
   pub a : v.a ≤ 65535
   pub b : v.b ≤ 65535
+  pub mark_a : IsFromIfGiven 0 65535 v.mark_a
+  pub mark_b : IsFromIfGiven 0 65535 v.mark_b
 
 -- each number of a command line of `demo` lies in its range
 pub record AreInRangeForDemo (v : DemoValues) : Type 0 where

@@ -3,7 +3,7 @@ ghost use Rattle.std.specs.Prelude.{◌≡◌, ℕ, pos, Some, IfOk, false, true
 ghost use Rattle.clap.specs.Walk.{rule_of};
 ghost use Rattle.clap.specs.Simple.{app_of, with_subcommand};
 ghost use Rattle.clap.specs.declared.builder.command.Command.TheViews.{out-Command as fields_of};
-ghost use Rattle.dpl_words.specs.Definition.{check_shape, demo_shape, dpl_app, file_name, optional_number, optional_text, required_number, required_word, rule_for, shape_with, split_shape, top_shape};
+ghost use Rattle.dpl_words.specs.Definition.{check_shape, demo_shape, dpl_app, file_name, number_if_given, optional_number, optional_text, required_number, required_word, rule_for, shape_with, split_shape, top_shape};
 ghost use Rattle.clap.specs.declared.builder.value_parser.ValueParser.TheVariants as vp;
 
 use clap::builder::ValueParser;
@@ -17,6 +17,8 @@ enum Argument<'a> {
     RequiredNumber(&'a str, u32, u32),
     /// An option with a whole number from the first to the second, and a default.
     OptionalNumber(&'a str, u32, u32, &'a str),
+    /// An option with a whole number from the first to the second, that may be left out.
+    NumberIfGiven(&'a str, u32, u32),
     /// An option that must be given, with any whole number of 64 bits.
     RequiredWord(&'a str),
     /// An option with a text.
@@ -36,6 +38,7 @@ impl<'a> Argument<'a> {
             Argument::OptionalNumber(id, low, high, default) => {
                 optional_number_arg(alloc, id, low, high, default)
             }
+            Argument::NumberIfGiven(id, low, high) => { number_if_given_arg(alloc, id, low, high) }
             Argument::RequiredWord(id) => required_word_arg(alloc, id),
             Argument::OptionalText(id) => Arg::new(alloc, id).long(id),
             Argument::FileName(id) => Arg::new(alloc, id).required(true),
@@ -75,6 +78,16 @@ fn optional_number_arg<'a>(
     Arg::new(alloc, id)
         .long(id)
         .default_value(default)
+        .value_parser(number_parser(low, high))
+}
+
+/// An option with a whole number, that may be left out.
+fn number_if_given_arg<'a>(alloc: Global, id: &'a str, low: u32, high: u32) -> Arg<'a>
+    ensures defined { rule_of result ≡ number_if_given id.entry.now low high }
+    ensures local { result.global ≡ false }
+{
+    Arg::new(alloc, id)
+        .long(id)
         .value_parser(number_parser(low, high))
 }
 
@@ -127,10 +140,13 @@ fn with_split<'a>(alloc: Global, command: Command<'a>) -> Result<Command<'a>, Al
         Argument::RequiredNumber("layer", 0, 65_535),
         Argument::RequiredNumber("rule", 1, 1_000_000),
         Argument::RequiredNumber("overlap", 1, 1_000_000),
+        Argument::NumberIfGiven("corner", 1, 1_000_000),
         Argument::OptionalNumber("datatype", 0, 65_535, "0"),
         Argument::OptionalText("top"),
         Argument::OptionalNumber("a", 0, 65_535, "101"),
         Argument::OptionalNumber("b", 0, 65_535, "102"),
+        Argument::NumberIfGiven("mark-a", 0, 65_535),
+        Argument::NumberIfGiven("mark-b", 0, 65_535),
         Argument::OptionalNumber("tile", 1, 1_073_741_824, "4096"),
         Argument::OptionalNumber("workers", 1, 64, "4"),
         Argument::FileName("in"),
@@ -148,10 +164,13 @@ fn with_check<'a>(alloc: Global, command: Command<'a>) -> Result<Command<'a>, Al
         Argument::RequiredNumber("layer", 0, 65_535),
         Argument::RequiredNumber("rule", 1, 1_000_000),
         Argument::RequiredNumber("overlap", 1, 1_000_000),
+        Argument::NumberIfGiven("corner", 1, 1_000_000),
         Argument::OptionalNumber("datatype", 0, 65_535, "0"),
         Argument::OptionalText("top"),
         Argument::OptionalNumber("a", 0, 65_535, "101"),
         Argument::OptionalNumber("b", 0, 65_535, "102"),
+        Argument::NumberIfGiven("mark-a", 0, 65_535),
+        Argument::NumberIfGiven("mark-b", 0, 65_535),
         Argument::FileName("in"),
         Argument::FileName("out"),
         Argument::FileName("cert"),

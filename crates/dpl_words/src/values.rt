@@ -1,10 +1,10 @@
 //! The values that a command line gives.
-ghost use Rattle.std.specs.Prelude.{◌≡◌, Some, None, IfOk, IfSome, IsErrOf, is_some, map, option_map, true};
+ghost use Rattle.std.specs.Prelude.{◌≡◌, Some, None, codes, IfOk, IfSome, IsErrOf, is_some, map, option_map, true};
 ghost use Rattle.dpl_words.specs.declared.values.WordsFault.TheVariants.{NoMemory};
 ghost use Rattle.clap.specs.Walk.{first_of, rows_of, texts};
 ghost use Rattle.clap.specs.Simple.{subcommand_rows_of};
 ghost use Rattle.clap.specs.Words.{found_of};
-ghost use Rattle.dpl_words.specs.Meaning.{asked_by, asked_of, check_if_apart, check_values, check_view, demo_values, demo_view, is_apart as specs_is_apart, number_at, number_in, text_in, request_of, request_view, split_if_apart, split_values, split_view};
+ghost use Rattle.dpl_words.specs.Meaning.{asked_by, asked_of, check_if_sound, check_values, check_view, corner_in, demo_values, demo_view, is_apart as specs_is_apart, number_at, number_in, text_in, request_of, request_view, split_if_sound, split_values, split_view};
 ghost use Rattle.dpl_words.specs.Ranges.{AreThere, AreThereForCheck, AreThereForDemo, HasItsValues, IsApart, IsInRange, IsThere};
 
 use crate::definition::dpl_command;
@@ -19,9 +19,12 @@ pub struct SplitOptions<'a> {
     pub datatype: u16,
     pub rule: u32,
     pub overlap: u32,
+    pub corner: u32,
     pub top: Option<&'a str>,
     pub a: u16,
     pub b: u16,
+    pub mark_a: Option<u16>,
+    pub mark_b: Option<u16>,
     pub tile: u32,
     pub workers: u32,
     pub input: &'a str,
@@ -36,9 +39,12 @@ pub struct CheckOptions<'a> {
     pub datatype: u16,
     pub rule: u32,
     pub overlap: u32,
+    pub corner: u32,
     pub top: Option<&'a str>,
     pub a: u16,
     pub b: u16,
+    pub mark_a: Option<u16>,
+    pub mark_b: Option<u16>,
     pub input: &'a str,
     pub output: &'a str,
     pub certificate: &'a str,
@@ -77,6 +83,28 @@ fn number_32(matches: &ArgMatches, id: &str) -> u32
     matches.get_one::<u32>(id).unwrap()
 }
 
+/// The number of an option that may be left out, as a `u16`.
+fn given_16(matches: &ArgMatches, id: &str) -> Option<u16>
+    ensures { result ≡ number_at 16 id.now (rows_of (found_of matches.now)) }
+{
+    matches.get_one::<u16>(id)
+}
+
+/// The number of an option that may be left out, as a `u32`.
+fn given_32(matches: &ArgMatches, id: &str) -> Option<u32>
+    ensures { result ≡ number_at 32 id.now (rows_of (found_of matches.now)) }
+{
+    matches.get_one::<u32>(id)
+}
+
+/// The corner rule: the rule, where none is given.
+fn corner(matches: &ArgMatches) -> u32
+    requires { is_some (number_at 32 (codes "rule") (rows_of (found_of matches.now))) ≡ true }
+    ensures { result ≡ corner_in (rows_of (found_of matches.now)) }
+{
+    given_32(matches, "corner").unwrap_or(number_32(matches, "rule"))
+}
+
 /// The number of an option, as a `u64`.
 fn number_64(matches: &ArgMatches, id: &str) -> u64
     requires { is_some (number_at 64 id.now (rows_of (found_of matches.now))) ≡ true }
@@ -110,9 +138,12 @@ fn split_options<'a>(matches: &ArgMatches<'a>) -> SplitOptions<'a>
         datatype: number_16(matches, "datatype"),
         rule: number_32(matches, "rule"),
         overlap: number_32(matches, "overlap"),
+        corner: corner(matches),
         top: text(matches, "top"),
         a: number_16(matches, "a"),
         b: number_16(matches, "b"),
+        mark_a: given_16(matches, "mark-a"),
+        mark_b: given_16(matches, "mark-b"),
         tile: number_32(matches, "tile"),
         workers: number_32(matches, "workers"),
         input: required_text(matches, "in"),
@@ -131,9 +162,12 @@ fn check_options<'a>(matches: &ArgMatches<'a>) -> CheckOptions<'a>
         datatype: number_16(matches, "datatype"),
         rule: number_32(matches, "rule"),
         overlap: number_32(matches, "overlap"),
+        corner: corner(matches),
         top: text(matches, "top"),
         a: number_16(matches, "a"),
         b: number_16(matches, "b"),
+        mark_a: given_16(matches, "mark-a"),
+        mark_b: given_16(matches, "mark-b"),
         input: required_text(matches, "in"),
         output: required_text(matches, "out"),
         certificate: required_text(matches, "cert"),
@@ -174,7 +208,7 @@ impl From<AllocError> for WordsFault {
 pub fn read_words<'a>(alloc: Global, words: &'a [&'a str]) -> Result<Request<'a>, WordsFault>
     // What is read is what the words ask for, by the written definition of the command line.
     ensures read { IfOk result (λ r. request_of (texts words.entry.now) ≡ Some (request_view r)) }
-    // Each number lies in the range that its option states.
+    // Each number lies in the range that its option states, and the corner rule isn't above the rule.
     ensures ranges { IfOk result (λ r. IsInRange (request_view r)) }
     // Its masks have layers of their own, and its files names of their own.
     ensures apart { IfOk result (λ r. IsApart (request_view r)) }
@@ -229,18 +263,19 @@ fn request_by<'a>(name: &str, inner: &ArgMatches<'a>) -> Option<Request<'a>>
 /// What the matches of `split` ask for.
 fn split_request<'a>(inner: &ArgMatches<'a>) -> Option<Request<'a>>
     requires there { AreThere (rows_of (found_of inner.now)) }
-    ensures read { option_map request_view result ≡ split_if_apart (split_values (rows_of (found_of inner.now))) }
+    ensures read { option_map request_view result ≡ split_if_sound (split_values (rows_of (found_of inner.now))) }
     ensures ranges { IfSome result (λ r. IsInRange (request_view r)) }
     ensures apart { IfSome result (λ r. IsApart (request_view r)) }
 {
     let options = split_options(inner);
-    if !is_apart(
+    let is_apart = is_apart(
         options.a,
         options.b,
         options.input,
         options.output,
         options.certificate,
-    ) {
+    );
+    if !is_apart || options.rule < options.corner {
         return None;
     }
     Some(Request::Split(options))
@@ -249,18 +284,19 @@ fn split_request<'a>(inner: &ArgMatches<'a>) -> Option<Request<'a>>
 /// What the matches of `check` ask for.
 fn check_request<'a>(inner: &ArgMatches<'a>) -> Option<Request<'a>>
     requires there { AreThereForCheck (rows_of (found_of inner.now)) }
-    ensures read { option_map request_view result ≡ check_if_apart (check_values (rows_of (found_of inner.now))) }
+    ensures read { option_map request_view result ≡ check_if_sound (check_values (rows_of (found_of inner.now))) }
     ensures ranges { IfSome result (λ r. IsInRange (request_view r)) }
     ensures apart { IfSome result (λ r. IsApart (request_view r)) }
 {
     let options = check_options(inner);
-    if !is_apart(
+    let is_apart = is_apart(
         options.a,
         options.b,
         options.input,
         options.output,
         options.certificate,
-    ) {
+    );
+    if !is_apart || options.rule < options.corner {
         return None;
     }
     Some(Request::Check(options))
