@@ -1,9 +1,12 @@
 pub mod Members
 pub mod Nearness
 pub mod Pairs
+pub mod Anchoring
+pub mod Moving
 pub mod Sheeting
 pub mod LineLaws
 pub mod SameGraphs
 pub mod Deciding
 pub mod NearLines
 pub mod Planned
+pub mod Told

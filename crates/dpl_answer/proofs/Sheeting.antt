@@ -10,6 +10,8 @@ use Rattle.dpl_spec_split.specs.Squares.{AreNear}
 use Rattle.dpl_spec_split.specs.Zones.{part_at}
 use Rattle.dpl_spec_split.specs.Pieces.{Conflict}
 use Rattle.dpl_spec_split.specs.Graphs.{AreEdges, Precedes, graph_of}
+use Rattle.dpl_spec_split.specs.Marks.{Marks, graph}
+use Rattle.dpl_spec_split.proofs.GraphLaws.{edges-unique}
 use Rattle.dpl_spec_split.proofs.SquareLaws.{AreNear-sym}
 use Rattle.dpl_stars.specs.declared.joined.Joined.{Joined}
 use Rattle.dpl_stars.specs.Sums.{AreEdgePairs, Sums, summary_of}
@@ -22,8 +24,11 @@ use Rattle.dpl_board.specs.Boards.{AreAllPosted, Board, Stands, SumsPosted}
 use Rattle.dpl_board.proofs.AllPosted.{all-posted}
 use Rattle.dpl_board.proofs.Flats.{from-flat, in-flat}
 use Rattle.dpl_answer.specs.Conflicts.{IsTiled, SumsGraph}
-use Rattle.dpl_answer.specs.Sheets.{conflicts_in, is_conflict_in, is_near_in, pairs_below, part_of, sheet_of}
+use Rattle.dpl_answer.specs.Anchors.{AreMarkEdges, moved, with_marks}
+use Rattle.dpl_answer.specs.Sheets.{HasRoom, MarkedPlan, conflicts_in, is_conflict_in, is_near_in, pairs_below, part_of, sheet_of, sheet_with, tile_sheet}
 use Rattle.dpl_spec_split.proofs.Ordered.{has-map, map-has}
+use Rattle.dpl_answer.proofs.Anchoring.{graph-listed}
+use Rattle.dpl_answer.proofs.Moving.{with-sheet, with-sums}
 use Rattle.dpl_answer.proofs.Members.{any-has, has-any, has-kept, has-passed, kept-has, passed-has}
 use Rattle.dpl_answer.proofs.Nearness.{near-yes, yes-near}
 use Rattle.dpl_answer.proofs.Pairs.{has-pair, pair-below, pairs-ordered}
@@ -74,8 +79,13 @@ pairs-of plan cell = All-weaker (λ e. is_conflict_in plan cell e ≡ true) (λ 
     let (l, apart) = and_parts (nat_lt e.0 e.1) _ both in ltb-true e.0 e.1 l))
     (conflicts_in plan cell) (filter_passes (is_conflict_in plan cell) (pairs_below (length plan.parts)))
 
-pub is-sheet : (plan : Planned) → IsSheet (sheet_of plan)
+pub is-sheet : (plan : Planned) → IsSheet (tile_sheet plan)
 is-sheet plan = All-map AreEdgePairs (conflicts_in plan) plan.cells (λ k d l. pairs-of plan (get_or plan.cells k d))
+
+-- and with the marks' tile, where there is room for it
+pub marked-sheet : (plan : Planned) (marked : Option (List (ℕ × ℕ))) → HasRoom plan marked → IsSheet (sheet_with marked (tile_sheet plan))
+marked-sheet plan None room = is-sheet plan
+marked-sheet plan (Some marked) room = with-sheet (Some marked) (tile_sheet plan) room.1 (is-sheet plan)
 
 get-some : (xs : List Rect) (t : ℕ) → t < length xs → (x : Rect) × (slice_get xs t ≡ Some x)
 get-some [] t l = absurd (omega (arith, l))
@@ -99,7 +109,7 @@ same-listed G es fs one other e = (
 
 -- what sums up a tile's edges sums up its list
 pub tile-sums : (plan : Planned) (tile : ℕ) (es : List (ℕ × ℕ)) (j : Joined) → tile < length plan.cells → AreEdgesOf plan tile es
-    → Sums es j → Sums (edges_at (sheet_of plan) tile) j
+    → Sums es j → Sums (edges_at (tile_sheet plan) tile) j
 tile-sums plan tile es j below are sums =
     let (cell, is) = get-some plan.cells tile below in
     let edges : AreEdges (In plan cell) es = subst (λ (o : Option Rect). IfSome o (λ cell. AreEdges (In plan cell) es)) is are in
@@ -133,10 +143,10 @@ module _ (plan : Planned) (law : (i j : ℕ) → Conflict plan.spacing plan.part
     );
   }
 
-  same-whole : (e : ℕ × ℕ) → Contains (all_edges (sheet_of plan)) e ↔ Contains whole e
+  same-whole : (e : ℕ × ℕ) → Contains (all_edges (tile_sheet plan)) e ↔ Contains whole e
   same-whole e = (
     λ c. (
-        let (es, in_sheet, in_es) = from-flat (λ (es : List (ℕ × ℕ)). es) (sheet_of plan) e c in
+        let (es, in_sheet, in_es) = from-flat (λ (es : List (ℕ × ℕ)). es) (tile_sheet plan) e c in
         let (cell, in_cells, is) = has-map (conflicts_in plan) plan.cells es in_sheet in
         let (in_pairs, passes) = kept-has (is_conflict_in plan cell) (pairs_below (length plan.parts)) e (rw is in_es) in
         has-kept (λ e. list_any (λ cell. is_conflict_in plan cell e) plan.cells) (pairs_below (length plan.parts)) e in_pairs
@@ -145,25 +155,35 @@ module _ (plan : Planned) (law : (i j : ℕ) → Conflict plan.spacing plan.part
     λ c. (
         let (in_pairs, passes) = kept-has (λ e. list_any (λ cell. is_conflict_in plan cell e) plan.cells) (pairs_below (length plan.parts)) e c in
         let (cell, in_cells, here) = passed-has (λ cell. is_conflict_in plan cell e) plan.cells passes in
-        in-flat (λ (es : List (ℕ × ℕ)). es) (sheet_of plan) (conflicts_in plan cell) e
+        in-flat (λ (es : List (ℕ × ℕ)). es) (tile_sheet plan) (conflicts_in plan cell) e
         (map-has (conflicts_in plan) plan.cells cell (conflicts_in plan cell) in_cells refl)
         (has-kept (is_conflict_in plan cell) (pairs_below (length plan.parts)) e in_pairs here)
         ),
   )
 
-  -- what sums up the edges of all tiles sums up the conflict graph
-  pub all-sums : (j : Joined) → Sums (all_edges (sheet_of plan)) j → SumsGraph (Conflict plan.spacing plan.parts plan.owners) j
-  all-sums j sums = (
-    whole,
-    whole-listed,
-    summary-along (graph_of (all_edges (sheet_of plan))) (graph_of whole)
-        (same-members (all_edges (sheet_of plan)) whole same-whole) (summary_of j) sums,
+  -- what sums up the edges of all tiles sums up the graph
+  pub all-sums : (marks : Option Marks) (marked : Option (List (ℕ × ℕ))) (j : Joined) → AreMarkEdges marks plan.parts marked → Sums (all_edges (sheet_with marked (tile_sheet plan))) j
+      → SumsGraph (graph marks plan.spacing plan.parts plan.owners) j
+  all-sums marks marked j fixed sums = (
+    with_marks marked whole,
+    graph-listed marks plan.spacing plan.parts plan.owners marked whole fixed whole-listed,
+    with-sums marked (tile_sheet plan) whole j same-whole sums,
   )
 
 -- pieces conflict exactly where they do so by the squares in some tile's cell
 pub conflict-in-cells : (plan : Planned) → IsTiled plan → (i j : ℕ) → Conflict plan.spacing plan.parts plan.owners i j ↔ Any (λ cell. In plan cell i j) plan.cells
 conflict-in-cells plan (side, some, tiles) i j = tiles-graph plan.spacing side plan.parts plan.owners plan.cells some tiles i j
 
-pub joined-sums : (plan : Planned) (b : Board) (j : Joined) → IsTiled plan → Stands (sheet_of plan) b → AreAllPosted b → SumsPosted b j
-    → SumsGraph (Conflict plan.spacing plan.parts plan.owners) j
-joined-sums plan b j tiled stands all sums = all-sums plan (conflict-in-cells plan tiled) j (all-posted (sheet_of plan) b j stands all (sums (sheet_of plan) stands))
+pub joined-sums : (marks : Option Marks) (job : MarkedPlan) (b : Board) (j : Joined) → AreMarkEdges marks job.plan.parts job.marked → IsTiled job.plan → Stands (sheet_of job) b → AreAllPosted b → SumsPosted b j
+    → SumsGraph (graph marks job.plan.spacing job.plan.parts job.plan.owners) j
+joined-sums marks job b j fixed tiled stands all sums =
+    all-sums job.plan (conflict-in-cells job.plan tiled) marks job.marked j fixed (all-posted (sheet_of job) b j stands all (sums (sheet_of job) stands))
+
+-- what sums up a tile's edges by vertices sums up its list by vertices
+pub tile-moved : (plan : Planned) (tile : ℕ) (es : List (ℕ × ℕ)) (j : Joined) → tile < length plan.cells → AreEdgesOf plan tile es
+    → Sums (moved es) j → Sums (moved (edges_at (tile_sheet plan) tile)) j
+tile-moved plan tile es j below are sums =
+    let (cell, is) = get-some plan.cells tile below in
+    let edges : AreEdges (In plan cell) es = subst (λ (o : Option Rect). IfSome o (λ cell. AreEdges (In plan cell) es)) is are in
+    let same : es ≡ conflicts_in plan cell = edges-unique (In plan cell) es (conflicts_in plan cell) edges (listed plan cell) in
+    rw (at-map (conflicts_in plan) plan.cells tile cell is) (subst (λ xs. Sums (moved xs) j) same sums)

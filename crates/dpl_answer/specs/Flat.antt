@@ -1,10 +1,12 @@
 -- The decomposition of a layer, as a certificate tells it.
-use Rattle.std.specs.Prelude.{None, ◌≡◌, ◌≤◌, ℕ, List, length, map}
+use Rattle.std.specs.Prelude.{Option, Some, None, ◌≡◌, ◌≤◌, ℕ, List, length, map}
 use Rattle.std.specs.List.{zip}
 use Rattle.dpl_spec_split.specs.declared.Spacing.{Spacing}
+use Rattle.dpl_spec_split.specs.declared.Pt.{Pt}
 use Rattle.dpl_spec_split.specs.declared.Rect.{Rect}
 use Rattle.dpl_spec_split.specs.Squares.{Covers}
-use Rattle.dpl_spec_split.specs.Decomposition.{Cut, IsCut, Masks, AreMasks, conflicts}
+use Rattle.dpl_spec_split.specs.Marks.{Marks, letters_by}
+use Rattle.dpl_spec_split.specs.Decomposition.{Cut, IsCut, Masks, AreMasks, cut_graph}
 use Rattle.dpl_spec_split.specs.Summary.{HasOddCycle}
 use Rattle.dpl_spec_split.specs.Cycle.{IsReported}
 use Rattle.dpl_spec_split.specs.Loops.{AreRectsWithin, farthest}
@@ -16,6 +18,7 @@ use Rattle.dpl_cert.specs.declared.cert.PieceLine.{PieceLine}
 use Rattle.dpl_cert.specs.declared.cert.StitchLine.{StitchLine}
 use Rattle.dpl_cert.specs.declared.cert.PlaceLine.{PlaceLine}
 use Rattle.dpl_cert.specs.declared.cert.NearLine.{NearLine}
+use Rattle.dpl_answer.specs.Anchors.{AreLinksOf, place_of, vertex_of}
 
 -- masks, and the lines of their certificate
 pub record Painted : Type 0 where
@@ -40,36 +43,54 @@ pub record AreNearest (spacing : Spacing) (pieces : List (List Rect)) (cycle : L
   pub each : length near ≡ length cycle
   pub pair : ShowNearest spacing pieces cycle near
 
--- the masks of a cut whose conflict graph has no odd cycle
-pub record IsPaintedCut (spacing : Spacing) (overlap : ℕ) (cut : Cut) (p : Painted) : Type 0 where
+-- for each place of the cycle what joins it to the next one: near squares, and where marks are asked for, marked ones
+abbrev pub AreLinks : Option Marks → Spacing → List (List Rect) → List ℕ → List NearLine → Type 0
+AreLinks None spacing pieces cycle near = AreNearest spacing pieces cycle near
+AreLinks (Some m) spacing pieces cycle near = AreLinksOf m spacing pieces cycle near
+
+-- the place of a vertex in a cycle
+abbrev pub place_by : Option Marks → List Pt → ℕ → PlaceLine
+place_by None keys = place_line keys
+place_by (Some m) keys = λ (k : ℕ). place_of keys (vertex_of k)
+
+-- the masks of a cut whose graph, with anchors where marks are asked for, has no odd cycle
+pub record IsPaintedCut (marks : Option Marks) (spacing : Spacing) (overlap : ℕ) (cut : Cut) (p : Painted) : Type 0 where
   pub masks : Masks
-  pub even : ¬ HasOddCycle (conflicts spacing cut)
-  pub are_masks : AreMasks None spacing cut masks
+  pub even : ¬ HasOddCycle (cut_graph marks spacing cut)
+  pub are_masks : AreMasks marks spacing cut masks
   pub is : p ≡ record {
     a = masks.a;
     b = masks.b;
     head = head_of spacing overlap cut;
     pieces = map piece_line
-        (zip are_masks.colours cut.keys);
+        (zip (letters_by marks are_masks.colours) cut.keys);
     stitches = map (stitch_line cut.zones cut.sides) masks.stitches;
   }
 
--- the reported cycle of a cut whose conflict graph has an odd one
-pub record IsClashOfCut (spacing : Spacing) (overlap : ℕ) (cut : Cut) (x : Clash) : Type 0 where
+-- the reported cycle of a cut whose graph, with anchors where marks are asked for, has an odd one
+pub record IsClashOfCut (marks : Option Marks) (spacing : Spacing) (overlap : ℕ) (cut : Cut) (x : Clash) : Type 0 where
   pub cycle : List ℕ
-  pub odd : HasOddCycle (conflicts spacing cut)
-  pub reported : IsReported (conflicts spacing cut) cycle
-  pub nearest : AreNearest spacing cut.pieces cycle x.near
+  pub odd : HasOddCycle (cut_graph marks spacing cut)
+  pub reported : IsReported (cut_graph marks spacing cut) cycle
+  pub nearest : AreLinks marks spacing cut.pieces cycle x.near
   pub head : x.head ≡ head_of spacing overlap cut
-  pub places : x.cycle ≡ map (place_line cut.keys) cycle
+  pub places : x.cycle ≡ map (place_by marks cut.keys) cycle
 
-abbrev pub IsFlatCut : Spacing → ℕ → Cut → Flat → Type 0
-IsFlatCut spacing overlap cut (Paints p) = IsPaintedCut spacing overlap cut p
-IsFlatCut spacing overlap cut (Clashes x) = IsClashOfCut spacing overlap cut x
+abbrev pub IsFlatCut : Option Marks → Spacing → ℕ → Cut → Flat → Type 0
+IsFlatCut marks spacing overlap cut (Paints p) = IsPaintedCut marks spacing overlap cut p
+IsFlatCut marks spacing overlap cut (Clashes x) = IsClashOfCut marks spacing overlap cut x
 
 -- the decomposition of a layer, by its features, zones and pieces
-abbrev pub IsFlat : Spacing → ℕ → List Rect → Flat → Type 0
-IsFlat spacing overlap layer flat = (cut : Cut) × IsCut None spacing overlap (Covers layer) cut × IsFlatCut spacing overlap cut flat
+abbrev pub IsFlat : Option Marks → Spacing → ℕ → List Rect → Flat → Type 0
+IsFlat marks spacing overlap layer flat = (cut : Cut) × IsCut marks spacing overlap (Covers layer) cut × IsFlatCut marks spacing overlap cut flat
+
+-- masks whose slabs lie within the range of a layer
+abbrev pub ArePaintedWithin : Painted → Type 0
+ArePaintedWithin p = AreRectsWithin farthest p.a × AreRectsWithin farthest p.b
+
+abbrev pub IsWithin : Flat → Type 0
+IsWithin (Paints p) = ArePaintedWithin p
+IsWithin (Clashes x) = Unit {0}
 
 -- lines within the grammar of certificates, and slabs within the range of a layer
 pub record FitsPainted (p : Painted) : Type 0 where

@@ -1,4 +1,6 @@
+pub mod Anchors
 pub mod Sheets
 pub mod Conflicts
 pub mod Flat
+pub mod Cycles
 pub mod View

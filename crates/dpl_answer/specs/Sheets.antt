@@ -1,5 +1,5 @@
 -- The conflicts of a plan's tiles, as lists.
-use Rattle.std.specs.Prelude.{ℕ, ◌+◌, ◌*◌, ◌==◌, ◌&&◌, ◌||◌, Bool, not, nat_lt, pos, ◌+ℤ◌, ◌-ℤ◌, int_le, int_lt, unsigned_abs, List, []}
+use Rattle.std.specs.Prelude.{ℕ, ◌+◌, ◌*◌, ◌^◌, ◌<◌, Option, Some, None, ◌∷◌, ◌++◌, ◌==◌, ◌&&◌, ◌||◌, Bool, not, nat_lt, pos, ◌+ℤ◌, ◌-ℤ◌, int_le, int_lt, unsigned_abs, List, []}
 use Rattle.std.specs.Prelude.{length, map, filter, slice_index, slice_index_or, if◌then◌else◌}
 use Rattle.std.specs.List.{flat_map, list_any, range_with_len}
 use Rattle.dpl_spec_split.specs.declared.Spacing.{Spacing}
@@ -9,6 +9,8 @@ use Rattle.dpl_spec_split.specs.Squares.{gap}
 use Rattle.dpl_spec_split.specs.Zones.{at}
 use Rattle.dpl_tile.specs.Plans.{Planned}
 use Rattle.dpl_board.specs.Sheets.{Sheet}
+use Rattle.dpl_stars.specs.Sums.{AreEdgePairs}
+use Rattle.dpl_answer.specs.Anchors.{moved}
 
 -- the numbers below n
 abbrev pub below : ℕ → List ℕ
@@ -55,5 +57,28 @@ abbrev pub conflicts_in : Planned → Rect → List (ℕ × ℕ)
 conflicts_in plan cell = filter (is_conflict_in plan cell) (pairs_below (length plan.parts))
 
 -- for each tile the conflicts by the squares in its cell
-abbrev pub sheet_of : Planned → Sheet
-sheet_of plan = map (conflicts_in plan) plan.cells
+abbrev pub tile_sheet : Planned → Sheet
+tile_sheet plan = map (conflicts_in plan) plan.cells
+
+-- a plan, and the edges that marks make, where marks are asked for
+pub record MarkedPlan : Type 0 where
+  pub plan : Planned
+  pub marked : Option (List (ℕ × ℕ))
+
+-- there is room for one tile more, and its edges have two different numbers, the smaller first
+abbrev pub HasRoom : Planned → Option (List (ℕ × ℕ)) → Type 0
+HasRoom plan None = Unit {0}
+HasRoom plan (Some marked) = (length plan.cells + 1 < 2 ^ 32) × AreEdgePairs marked
+
+-- edges of two different numbers, the smaller first, where there are any
+abbrev pub HavePairs : Option (List (ℕ × ℕ)) → Type 0
+HavePairs None = Unit {0}
+HavePairs (Some edges) = AreEdgePairs edges
+
+-- the edges of the marks are those of one tile more, the last, and the others go by vertices
+abbrev pub sheet_with : Option (List (ℕ × ℕ)) → Sheet → Sheet
+sheet_with None sheet = sheet
+sheet_with (Some marked) sheet = map moved sheet ++ marked ∷ []
+
+abbrev pub sheet_of : MarkedPlan → Sheet
+sheet_of job = sheet_with job.marked (tile_sheet job.plan)

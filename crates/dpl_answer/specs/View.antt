@@ -1,8 +1,8 @@
 -- What is made of a layer, in the words of the definitions.
-use Rattle.std.specs.Prelude.{◌≡◌, ℕ, List, length}
+use Rattle.std.specs.Prelude.{◌≡◌, ℕ, List, length, Option}
 use Rattle.dpl_spec_split.specs.declared.Spacing.{Spacing}
 use Rattle.dpl_spec_split.specs.declared.Rect.{Rect}
-use Rattle.dpl_spec_split.specs.Pieces.{Conflict}
+use Rattle.dpl_spec_split.specs.Marks.{Marks, graph, vertex}
 use Rattle.dpl_spec_split.specs.Graphs.{AreEdges, graph_of}
 use Rattle.dpl_spec_split.specs.Summary.{HasOddCycle}
 use Rattle.dpl_stars.specs.Levels.{AreEdgesBelow}
@@ -29,10 +29,11 @@ abbrev pub flat_view : Decomposed → Flat
 flat_view (Masks p) = Paints (painted_view p)
 flat_view (Cycle x) = Clashes (clash_view x)
 
--- the summary of the conflict graph of pieces with these owners, if that has no odd cycle, or all its edges, if it has one
-abbrev pub AreConflictsOf : Spacing → List (List Rect) → List ℕ → Conflicts → Type 0
-AreConflictsOf spacing parts owners (Even joined) = SumsGraph (Conflict spacing parts owners) joined × IsEvenBelow (length parts) joined
-AreConflictsOf spacing parts owners (Odd edges) = AreEdges (Conflict spacing parts owners) edges.items × AreEdgesBelow (length parts) edges.items × HasOddCycle (graph_of edges.items)
+-- the summary of the graph of pieces with these owners, with anchors where marks are asked for, if that has no odd cycle, or all its edges, if it has one
+abbrev pub AreConflictsOf : Option Marks → Spacing → List (List Rect) → List ℕ → Conflicts → Type 0
+AreConflictsOf marks spacing parts owners (Even joined) = SumsGraph (graph marks spacing parts owners) joined × IsEvenBelow (vertex marks (length parts)) joined
+AreConflictsOf marks spacing parts owners (Odd edges) =
+    AreEdges (graph marks spacing parts owners) edges.items × AreEdgesBelow (vertex marks (length parts)) edges.items × HasOddCycle (graph_of edges.items)
 
 -- the summary of these edges, if they have no odd cycle, or all of them, if they have one
 abbrev pub AreAmong : List (ℕ × ℕ) → Conflicts → Type 0

@@ -4,54 +4,59 @@ ghost use Rattle.std.specs.List.{Contains};
 ghost use Rattle.dpl_spec_split.specs.declared.Pt.{Pt};
 ghost use Rattle.dpl_spec_split.specs.Graphs.{AreEdges, graph_of};
 ghost use Rattle.dpl_spec_split.specs.Summary.{HasOddCycle};
-ghost use Rattle.dpl_spec_split.specs.Pieces.{Conflict};
+ghost use Rattle.std.specs.Option.{option_copied};
+ghost use Rattle.dpl_spec_split.specs.Marks.{graph, vertex};
+ghost use Rattle.dpl_answer.specs.Anchors.{marks_in};
 ghost use Rattle.dpl_stars.specs.Levels.{AreEdgesBelow};
 ghost use Rattle.dpl_orient.specs.Oriented.{IsEvenBelow};
 ghost use Rattle.dpl_cert.specs.Grammar.{IsPoint, IsRule};
 ghost use Rattle.dpl_answer.specs.Conflicts.{SumsGraph};
-ghost use Rattle.dpl_answer.specs.Flat.{Fits, FitsClash, FitsPainted, IsClashOfCut, IsFlatCut, IsPaintedCut};
+ghost use Rattle.dpl_answer.specs.Flat.{ArePaintedWithin, Fits, FitsClash, FitsPainted, IsClashOfCut, IsFlatCut, IsPaintedCut, IsWithin};
 ghost use Rattle.dpl_cut.specs.Cutting.{HasPointKeys, OfAnyCut, OfCompleted};
 ghost use Rattle.dpl_answer.specs.View.{AreConflictsOf, clash_view, flat_view, painted_view};
 
+use crate::colours::{piece_colours, vertex_count};
 use crate::conflicts::Conflicts;
+use crate::cycle::cycle_lines;
 use crate::decomposed::{Clash, Decomposed, Painted};
-use crate::lines::{head, piece_lines, place_lines, stitch_lines};
-use crate::near::near_lines;
+use crate::lines::{head, piece_lines, stitch_lines};
+use crate::marks::MarkSets;
 use dpl_base::{Edge, Listed, Spacing};
 use dpl_cut::{BareLayerCut, LayerCut};
 use dpl_masks::{masks, stitches};
 use dpl_odd::odd_cycle;
-use dpl_orient::orient;
 use dpl_stars::Joined;
 use std::alloc::{AllocError, Global};
 
-/// The masks of a cut layer whose conflict graph has no odd cycle, or the cycle that is reported of one: `spacing` is how far apart features are on one mask, `overlap` how long a stitch is, in database units. A corner rule of 0 isn't taken, as no certificate has one.
+/// The masks of a cut layer whose conflict graph has no odd cycle, or the cycle that is reported of one: `spacing` is how far apart features are on one mask, `overlap` how long a stitch is, in database units. The conflicts are those with the same `marks`, if any are given; a cycle may then have anchors.
 ///
 /// The error: out of memory.
 pub fn answer_of(
     alloc: Global,
     cut: BareLayerCut,
     conflicts: &Conflicts,
+    marks: Option<&MarkSets>,
     spacing: Spacing,
     overlap: u32,
 ) -> Result<Decomposed, AllocError>
     requires corner { spacing.corner ≤ spacing.rule }
-    requires some { 1 ≤ spacing.corner }
     requires rule { IsRule spacing.rule }
     requires overlap { IsRule overlap }
     requires keys { HasPointKeys cut }
-    requires conflicts { AreConflictsOf spacing cut.pieces.parts cut.pieces.owners conflicts.now }
-    ensures flat { IfOk result (λ d. OfCompleted cut (λ c. IsFlatCut spacing overlap c (flat_view d))) }
-    ensures fits { IfOk result (λ d. Fits (flat_view d)) }
+    requires conflicts { AreConflictsOf (marks_in (option_copied marks)) spacing cut.pieces.parts cut.pieces.owners conflicts.now }
+    ensures flat { IfOk result (λ d. OfCompleted cut (λ c. IsFlatCut (marks_in (option_copied marks.entry)) spacing overlap c (flat_view d))) }
+    ensures within { IfOk result (λ d. IsWithin (flat_view d)) }
+    // No certificate has a corner rule of 0.
+    ensures fits { 1 ≤ spacing.corner → IfOk result (λ d. Fits (flat_view d)) }
 {
     let cut = cut.completed(alloc)?;
     match conflicts {
         Conflicts::Even(joined) => {
-            let painted = paint(alloc, cut, joined, spacing, overlap)?;
+            let painted = paint(alloc, cut, joined, marks, spacing, overlap)?;
             Ok(Decomposed::Masks(painted))
         }
         Conflicts::Odd(edges) => {
-            let clash = clash(alloc, &cut, edges.as_slice(), spacing, overlap)?;
+            let clash = clash(alloc, &cut, edges.as_slice(), marks, spacing, overlap)?;
             Ok(Decomposed::Cycle(clash))
         }
     }
@@ -62,23 +67,25 @@ fn paint(
     alloc: Global,
     cut: LayerCut,
     joined: &Joined,
+    marks: Option<&MarkSets>,
     spacing: Spacing,
     overlap: u32,
 ) -> Result<Painted, AllocError>
     requires corner { spacing.corner ≤ spacing.rule }
-    requires some { 1 ≤ spacing.corner }
     requires rule { IsRule spacing.rule }
     requires overlap { IsRule overlap }
     requires keys { (p : Pt) → Contains cut.pieces.keys p → IsPoint p }
-    requires sums { SumsGraph (Conflict spacing cut.pieces.parts cut.pieces.owners) joined.now }
-    requires even { IsEvenBelow (length cut.pieces.parts) joined.now }
-    ensures painted { IfOk result (λ p. OfAnyCut cut (λ c. IsPaintedCut spacing overlap c (painted_view p))) }
-    ensures fits { IfOk result (λ p. FitsPainted (painted_view p)) }
+    requires sums { SumsGraph (graph (marks_in (option_copied marks)) spacing cut.pieces.parts cut.pieces.owners) joined.now }
+    requires even { IsEvenBelow (vertex (marks_in (option_copied marks)) (length cut.pieces.parts)) joined.now }
+    ensures painted { IfOk result (λ p. OfAnyCut cut (λ c. IsPaintedCut (marks_in (option_copied marks.entry)) spacing overlap c (painted_view p))) }
+    ensures within { IfOk result (λ p. ArePaintedWithin (painted_view p)) }
+    // No certificate has a corner rule of 0.
+    ensures fits { 1 ≤ spacing.corner → IfOk result (λ p. FitsPainted (painted_view p)) }
 {
     let head = head(&cut, spacing, overlap);
     let LayerCut { pieces, .. } = cut;
     let count = pieces.parts().items().len() as u64;
-    let colours = orient(alloc, count, pieces.sides(), joined)?;
+    let colours = piece_colours(alloc, count, pieces.sides(), joined, marks)?;
     let lines = piece_lines(alloc, colours.items(), &pieces)?;
     let numbers = stitches(alloc, pieces.sides(), colours.items())?;
     let stitches = stitch_lines(alloc, pieces.zones(), pieces.sides(), &numbers)?;
@@ -98,30 +105,31 @@ fn clash(
     alloc: Global,
     cut: &LayerCut,
     edges: &[Edge],
+    marks: Option<&MarkSets>,
     spacing: Spacing,
     overlap: u32,
 ) -> Result<Clash, AllocError>
     requires corner { spacing.corner ≤ spacing.rule }
-    requires some { 1 ≤ spacing.corner }
     requires rule { IsRule spacing.rule }
     requires overlap { IsRule overlap }
     requires keys { (p : Pt) → Contains cut.now.pieces.keys p → IsPoint p }
-    requires edges { AreEdges (Conflict spacing cut.now.pieces.parts cut.now.pieces.owners) edges.now }
-    requires below { AreEdgesBelow (length cut.now.pieces.parts) edges.now }
+    requires edges { AreEdges (graph (marks_in (option_copied marks)) spacing cut.now.pieces.parts cut.now.pieces.owners) edges.now }
+    requires below { AreEdgesBelow (vertex (marks_in (option_copied marks)) (length cut.now.pieces.parts)) edges.now }
     requires odd { HasOddCycle (graph_of edges.now) }
-    ensures clash { IfOk result (λ x. OfAnyCut cut.now (λ c. IsClashOfCut spacing overlap c (clash_view x))) }
-    ensures fits { IfOk result (λ x. FitsClash (clash_view x)) }
+    ensures clash { IfOk result (λ x. OfAnyCut cut.now (λ c. IsClashOfCut (marks_in (option_copied marks.entry)) spacing overlap c (clash_view x))) }
+    // No certificate has a corner rule of 0.
+    ensures fits { 1 ≤ spacing.corner → IfOk result (λ x. FitsClash (clash_view x)) }
 {
     let pieces = &cut.pieces;
     let count = pieces.parts().items().len() as u64;
+    let count = vertex_count(count, marks)?;
     let Some(cycle) = odd_cycle(alloc, count, edges)? else {
         unreachable!()
     };
-    let places = place_lines(alloc, pieces, &cycle)?;
-    let near = near_lines(alloc, pieces, &cycle, spacing)?;
+    let lines = cycle_lines(alloc, pieces, &cycle, spacing, marks)?;
     Ok(Clash {
         head: head(cut, spacing, overlap),
-        cycle: Listed::of(places),
-        near: Listed::of(near),
+        cycle: Listed::of(lines.places),
+        near: Listed::of(lines.near),
     })
 }

@@ -3,15 +3,19 @@ ghost use Rattle.std.specs.Prelude.{◌≤◌, ◌≡◌, ℕ, IfOk, IsTrue, len
 ghost use Rattle.dpl_spec_split.specs.Graphs.{AreEdges, graph_of};
 ghost use Rattle.dpl_spec_split.specs.Summary.{HasOddCycle};
 ghost use Rattle.dpl_spec_split.specs.Pieces.{Conflict};
+ghost use Rattle.std.specs.Option.{option_copied, option_map};
+ghost use Rattle.dpl_spec_split.specs.Marks.{graph, vertex};
 ghost use Rattle.dpl_stars.specs.Levels.{AreEdgesBelow};
 ghost use Rattle.dpl_stars.specs.Sums.{AreEdgePairs};
 ghost use Rattle.dpl_tile.specs.Plans.{IsPlan};
 ghost use Rattle.dpl_tile.specs.Tiles.{IsDoubled};
 ghost use Rattle.dpl_cert.specs.Grammar.{IsRule};
 ghost use Rattle.dpl_answer.specs.Flat.{AreWorkers, IsTile};
+ghost use Rattle.dpl_answer.specs.Anchors.{AreMarkEdges, marks_in};
 ghost use Rattle.dpl_answer.specs.View.{AreAmong, AreConflictsOf};
 
 use crate::job::{EdgeJob, joined_conflicts};
+use crate::marks::{MarkSets, edges_of_marks, joined_with};
 use dpl_base::{Edge, Spacing, round_one};
 use dpl_cut::BareLayerCut;
 use dpl_edges::all_edges;
@@ -42,7 +46,7 @@ pub struct Sharing {
     pub workers: u32,
 }
 
-/// The conflicts of pieces: the pairs of pieces of different features that are near.
+/// The conflicts of pieces: the pairs of pieces of different features that are near. Where marks are asked for, they go by vertices, and the edges of anchors are among them.
 #[derive(Drop)]
 pub enum Conflicts {
     /// The summary of the conflict graph, which has no odd cycle.
@@ -51,13 +55,14 @@ pub enum Conflicts {
     Odd(Vec<Edge>),
 }
 
-/// The conflicts of a cut layer, whose features are to stay `spacing` apart on one mask, in database units.
+/// The conflicts of a cut layer, whose features are to stay `spacing` apart on one mask, in database units. Where `marks` are given, those of its graph with anchors: vertex 0 is the anchor of mask A, 1 that of mask B, and piece `k` is `k + 2`.
 ///
 /// The error: out of memory.
 pub fn conflicts_of<R: Threads + Wait + Sync, G: Gate + Sync>(
     rt: &R,
     alloc: Global,
     cut: &BareLayerCut,
+    marks: Option<&MarkSets>,
     spacing: Spacing,
     sharing: Sharing,
     gate: &G,
@@ -66,17 +71,18 @@ pub fn conflicts_of<R: Threads + Wait + Sync, G: Gate + Sync>(
     requires rule { IsRule spacing.rule }
     requires tile { IsTile sharing.tile }
     requires workers { AreWorkers sharing.workers }
-    ensures { IfOk result (AreConflictsOf spacing cut.now.pieces.parts cut.now.pieces.owners) }
+    ensures { IfOk result (AreConflictsOf (marks_in (option_copied marks.entry)) spacing cut.now.pieces.parts cut.now.pieces.owners) }
 {
     if are_dense(cut.pieces.parts().items(), spacing.rule) {
-        return dense_conflicts(alloc, &cut.pieces, spacing);
+        return dense_conflicts(alloc, &cut.pieces, marks, spacing);
     }
-    let job = tiles_of(alloc, &cut.pieces, spacing, sharing.tile)?;
+    let job = tiles_of(alloc, &cut.pieces, marks, spacing, sharing.tile)?;
     let joined = joined_conflicts(rt, alloc, sharing.workers, &job, gate)?;
     match &joined {
         Joined::Stars(_) => Ok(Conflicts::Even(joined)),
         Joined::Odd => {
-            let edges = all_edges(alloc, &job.plan)?;
+            let edges = all_edges(alloc, job.plan())?;
+            let edges = joined_with(alloc, edges, job.marked())?;
             Ok(Conflicts::Odd(edges))
         }
     }
@@ -108,11 +114,25 @@ fn conflicts_at_once(
     spacing: Spacing,
 ) -> Result<Vec<Edge>, AllocError>
     requires corner { spacing.corner ≤ spacing.rule }
-    ensures edges { IfOk result (λ v. AreEdges (Conflict spacing pieces.now.parts pieces.now.owners) v.items) }
-    ensures below { IfOk result (λ v. AreEdgesBelow (length pieces.now.parts) v.items) }
+    ensures { IfOk result (λ v. AreEdges (Conflict spacing pieces.now.parts pieces.now.owners) v.items) }
 {
     let plan = plan(alloc, pieces.parts(), pieces.owner(), spacing, WIDEST)?;
     all_edges(alloc, &plan)
+}
+
+/// All edges of the graph of pieces, with anchors where marks are asked for.
+fn edges_at_once(
+    alloc: Global,
+    pieces: &BarePieces,
+    marks: Option<&MarkSets>,
+    spacing: Spacing,
+) -> Result<Vec<Edge>, AllocError>
+    requires corner { spacing.corner ≤ spacing.rule }
+    ensures { IfOk result (λ v. AreEdges (graph (marks_in (option_copied marks.entry)) spacing pieces.now.parts pieces.now.owners) v.items) }
+{
+    let edges = conflicts_at_once(alloc, pieces, spacing)?;
+    let marked = edges_of_marks(alloc, pieces.parts(), marks)?;
+    joined_with(alloc, edges, &marked)
 }
 
 /// Whether the first so many edges have an odd cycle, and so all of them.
@@ -144,28 +164,32 @@ fn conflicts_among(alloc: Global, edges: Vec<Edge>) -> Result<Conflicts, AllocEr
 fn dense_conflicts(
     alloc: Global,
     pieces: &BarePieces,
+    marks: Option<&MarkSets>,
     spacing: Spacing,
 ) -> Result<Conflicts, AllocError>
     requires corner { spacing.corner ≤ spacing.rule }
-    ensures { IfOk result (AreConflictsOf spacing pieces.now.parts pieces.now.owners) }
+    ensures { IfOk result (AreConflictsOf (marks_in (option_copied marks.entry)) spacing pieces.now.parts pieces.now.owners) }
 {
-    let edges = conflicts_at_once(alloc, pieces, spacing)?;
+    let edges = edges_at_once(alloc, pieces, marks, spacing)?;
     conflicts_among(alloc, edges)
 }
 
-/// The tiles of the pieces, whose side is `tile`, doubled some number of times.
+/// The tiles of the pieces, whose side is `tile`, doubled some number of times, and that of the marks.
 fn tiles_of<'a>(
     alloc: Global,
     pieces: &'a BarePieces,
+    marks: Option<&MarkSets>,
     spacing: Spacing,
     tile: u32,
 ) -> Result<EdgeJob<'a>, AllocError>
     requires corner { spacing.corner ≤ spacing.rule }
     requires rule { IsRule spacing.rule }
     requires tile { IsTile tile }
-    ensures { IfOk result (λ job. (side : ℕ) × IsDoubled tile side × IsPlan pieces.now.parts pieces.now.owners spacing side job.plan) }
+    ensures plan { IfOk result (λ job. (side : ℕ) × IsDoubled tile side × IsPlan pieces.now.parts pieces.now.owners spacing side job.plan) }
+    ensures marked { IfOk result (λ job. AreMarkEdges (marks_in (option_copied marks.entry)) pieces.now.parts job.marked) }
 {
     let side = side_for(pieces.parts(), tile);
     let plan = plan(alloc, pieces.parts(), pieces.owner(), spacing, side)?;
-    Ok(EdgeJob { plan })
+    let marked = edges_of_marks(alloc, pieces.parts(), marks)?;
+    EdgeJob::of(plan, marked)
 }

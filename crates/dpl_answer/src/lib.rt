@@ -2,15 +2,20 @@
 #![tactic(auto)]
 
 mod answer;
+mod colours;
 mod conflicts;
+mod cycle;
 mod decomposed;
 mod job;
 mod lines;
+mod marks;
 mod near;
+mod vertices;
 
 pub use answer::answer_of;
 pub use conflicts::{Conflicts, Sharing, conflicts_of};
 pub use decomposed::{Clash, Decomposed, Painted};
 pub use job::EdgeJob;
 pub use lines::{head, place_lines};
+pub use marks::MarkSets;
 pub use near::near_lines;

@@ -16,7 +16,7 @@ use dpl_slabs::Slabs;
 use std::alloc::{AllocError, Global};
 
 /// The least pair of near squares of pieces `i` and `j`.
-fn near_line(
+pub(crate) fn near_line(
     alloc: Global,
     parts: &[Slabs],
     i: usize,

@@ -1,32 +1,40 @@
 -- What words that ask for `split` give.
-use Rattle.std.proofs.Common.{◌≡◌, Bool, true, false, List, Option, Some, None, refl, subst, codes}
+use Rattle.std.proofs.Common.{◌≡◌, ◌≤◌, ◌&&◌, Bool, not, nat_lt, true, false, List, Option, Some, None, refl, subst, codes}
 use Rattle.std.specs.Prelude.{IfSome, if◌then◌else◌}
 use Rattle.std.specs.Str.{bytes_eq}
 use Rattle.clap.specs.Walk.{Row, Text}
 use Rattle.clap.specs.Simple.{subcommand_of}
+use Rattle.clap.proofs.WalkLemmas.{both}
 use Rattle.dpl_words.specs.Definition.{dpl_app}
-use Rattle.dpl_words.specs.Meaning.{AsksCheck, AsksDemo, AsksSplit, SplitValues, asked_of, check_if_apart, check_values, demo_values}
-use Rattle.dpl_words.specs.Meaning.{is_apart, is_taken, request_of, split_if_apart, split_values}
+use Rattle.dpl_words.specs.Meaning.{AsksCheck, AsksDemo, AsksSplit, SplitValues, asked_of, check_if_sound, check_values, demo_values}
+use Rattle.dpl_words.specs.Meaning.{is_apart, is_taken, request_of, split_if_sound, split_values}
 use Rattle.dpl_words.specs.Ranges.{AreInRange, HasItsValues, IsApart}
-use Rattle.dpl_words.proofs.Ranges.{in_range, taken_there}
+use Rattle.dpl_words.proofs.Ranges.{in_range, not_above, taken_there}
 
 abbrev IsFine : SplitValues → Type 0
 IsFine v = AreInRange v × IsApart (AsksSplit v)
 
-apart-split : (w v : SplitValues) (b : Bool) → is_apart w.a w.b w.input w.output w.certificate ≡ b → AreInRange w
+-- both masks and all files are apart, and the corner rule isn't above the rule
+abbrev is_sound : SplitValues → Bool
+is_sound w = is_apart w.a w.b w.input w.output w.certificate && not (nat_lt w.rule w.corner)
+
+sound-split : (w v : SplitValues) (b : Bool) → is_sound w ≡ b → (w.corner ≤ w.rule → AreInRange w)
     → (if b then Some (AsksSplit w) else None) ≡ Some (AsksSplit v) → IsFine v
-apart-split w v true is range e = (let same : w ≡ v = cc in subst (λ (u : SplitValues). IsFine u) same (range, is))
-apart-split w v false is range e = absurd (cc)
+sound-split w v true is range e =
+    let same : w ≡ v = cc in
+    let (apart, corner) = both _ _ is in
+    subst (λ (u : SplitValues). IsFine u) same (range (not_above _ _ corner), apart)
+sound-split w v false is range e = absurd (cc)
 
 not-check : (rows : List Row) (v : SplitValues) (b : Bool) → (if b then Some (AsksCheck (check_values rows)) else None) ≡ Some (AsksSplit v) → IsFine v
 not-check rows v true e = absurd (cc)
 not-check rows v false e = absurd (cc)
 
 by-name : (name : Text) (rows : List Row) (v : SplitValues) (b c d : Bool) → bytes_eq name (codes "split") ≡ b → HasItsValues (name, rows)
-    → (if b then split_if_apart (split_values rows) else (if c then check_if_apart (check_values rows) else
+    → (if b then split_if_sound (split_values rows) else (if c then check_if_sound (check_values rows) else
     (if d then Some (AsksDemo (demo_values rows)) else None))) ≡ Some (AsksSplit v) → IsFine v
-by-name name rows v true c d is has e = (let w = split_values rows in apart-split w v (is_apart w.a w.b w.input w.output w.certificate) refl (in_range rows (has.split is)) e)
-by-name name rows v false true d is has e = (let w = check_values rows in not-check rows v (is_apart w.a w.b w.input w.output w.certificate) e)
+by-name name rows v true c d is has e = (let w = split_values rows in sound-split w v (is_sound w) refl (in_range rows (has.split is)) e)
+by-name name rows v false true d is has e = (let w = check_values rows in not-check rows v (is_apart w.a w.b w.input w.output w.certificate && not (nat_lt w.rule w.corner)) e)
 by-name name rows v false false true is has e = absurd (cc)
 by-name name rows v false false false is has e = absurd (cc)
 

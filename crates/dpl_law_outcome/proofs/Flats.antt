@@ -5,16 +5,18 @@ use Rattle.std.proofs.lemmas.List.{same_lists}
 use Rattle.dpl_spec_split.specs.declared.Spacing.{Spacing}
 use Rattle.dpl_spec_split.specs.declared.Pt.{Pt}
 use Rattle.dpl_spec_split.specs.declared.Rect.{Rect}
-use Rattle.dpl_spec_split.specs.Squares.{Region, Covers}
+use Rattle.dpl_spec_split.specs.Squares.{Region, Covers, IsLeast}
 use Rattle.dpl_spec_split.specs.Zones.{part_at}
 use Rattle.dpl_spec_split.specs.Colours.{AreColours}
-use Rattle.dpl_spec_split.specs.Decomposition.{Cut, Masks, AreMasks, Done, conflicts}
+use Rattle.dpl_spec_split.specs.Decomposition.{Cut, Masks, AreMasks, Done, cut_graph}
+use Rattle.dpl_spec_split.specs.Marks.{Marks, letters_by, sides_by, vertex}
 use Rattle.dpl_spec_split.proofs.Uniqueness.{roots-unique}
 use Rattle.dpl_spec_split.proofs.ColourLaws.{colours-unique}
 use Rattle.dpl_spec_split.proofs.CycleLaws.{cycle-unique}
 use Rattle.dpl_spec_split.proofs.WholeLaws.{answer-unique}
+use Rattle.dpl_spec_split.proofs.SquareLaws.{IsLeast-unique, SameSquares-refl}
 use Rattle.dpl_spec_verdict.proofs.GainLaws.{one-cut}
-use Rattle.std.specs.Prelude.{None}
+use Rattle.std.specs.Prelude.{zero, suc, false, true, Option, Some, None}
 use Rattle.dpl_cert.specs.declared.cert.Head.{Head}
 use Rattle.dpl_cert.specs.declared.cert.PlaceLine.{PlaceLine}
 use Rattle.dpl_cert.specs.declared.cert.NearLine.{NearLine}
@@ -22,30 +24,32 @@ use Rattle.dpl_cert.specs.declared.cert.NearLine.TheVariants.{Pair, Mark, Anchor
 use Rattle.dpl_law_verdict.specs.Own.{ShowsPair}
 use Rattle.dpl_nearest.specs.Nearest.{IsNearestPair}
 use Rattle.dpl_nearest.proofs.PairLaws.{nearest-unique}
-use Rattle.dpl_answer.specs.Flat.{Painted, Clash, Flat, Paints, Clashes, AreNearest, IsPaintedCut, IsClashOfCut, IsFlatCut, IsFlat}
-use Rattle.dpl_law_verdict.specs.Own.{head_of, piece_line, stitch_line, place_line}
+use Rattle.dpl_answer.specs.Flat.{Painted, Clash, Flat, Paints, Clashes, AreLinks, AreNearest, place_by, IsPaintedCut, IsClashOfCut, IsFlatCut, IsFlat}
+use Rattle.dpl_law_verdict.specs.Own.{head_of, piece_line, stitch_line}
+use Rattle.dpl_answer.specs.Anchors.{ShowsLink, ShowsSquare, set_against, vertex_of}
 
 -- ---- masks
 
-colours-same : (spacing : Spacing) (c : Cut) (m n : Masks) (a : AreMasks None spacing c m) (b : AreMasks None spacing c n) → a.colours ≡ b.colours
-colours-same spacing c m n a b =
-    let rooted = roots-unique (conflicts spacing c) (length c.pieces) a.roots b.roots a.odds b.odds a.rooted b.rooted in
-    let mine : AreColours b.roots b.odds c.sides a.colours = subst (λ o. AreColours b.roots o c.sides a.colours) rooted.1
-    (subst (λ r. AreColours r a.odds c.sides a.colours) rooted.0 a.coloured) in
-    colours-unique b.roots b.odds c.sides a.colours b.colours mine b.coloured
+colours-same : (marks : Option Marks) (spacing : Spacing) (c : Cut) (m n : Masks) (a : AreMasks marks spacing c m) (b : AreMasks marks spacing c n) → a.colours ≡ b.colours
+colours-same marks spacing c m n a b =
+    let sides = sides_by marks c.sides in
+    let rooted = roots-unique (cut_graph marks spacing c) (vertex marks (length c.pieces)) a.roots b.roots a.odds b.odds a.rooted b.rooted in
+    let mine : AreColours b.roots b.odds sides a.colours = subst (λ o. AreColours b.roots o sides a.colours) rooted.1
+    (subst (λ r. AreColours r a.odds sides a.colours) rooted.0 a.coloured) in
+    colours-unique b.roots b.odds sides a.colours b.colours mine b.coloured
 
-painted-same : (spacing : Spacing) (overlap : ℕ) (c : Cut) (x y : Painted) → IsPaintedCut spacing overlap c x → IsPaintedCut spacing overlap c y → x ≡ y
-painted-same spacing overlap c x y a b =
-    let done : Done a.masks ≡ Done b.masks = answer-unique None spacing c (Done a.masks) (Done b.masks) (a.even, a.are_masks) (b.even, b.are_masks) in
+painted-same : (marks : Option Marks) (spacing : Spacing) (overlap : ℕ) (c : Cut) (x y : Painted) → IsPaintedCut marks spacing overlap c x → IsPaintedCut marks spacing overlap c y → x ≡ y
+painted-same marks spacing overlap c x y a b =
+    let done : Done a.masks ≡ Done b.masks = answer-unique marks spacing c (Done a.masks) (Done b.masks) (a.even, a.are_masks) (b.even, b.are_masks) in
     let masks : a.masks ≡ b.masks = cc in
-    let colours : a.are_masks.colours ≡ b.are_masks.colours = colours-same spacing c a.masks b.masks a.are_masks b.are_masks in
+    let colours : a.are_masks.colours ≡ b.are_masks.colours = colours-same marks spacing c a.masks b.masks a.are_masks b.are_masks in
     let paint : Masks → List Bool
     → Painted = λ m letters. record {
       a = m.a;
       b = m.b;
       head = head_of spacing overlap c;
       pieces = map piece_line
-          (zip letters c.keys);
+          (zip (letters_by marks letters) c.keys);
       stitches = map (stitch_line c.zones c.sides) m.stitches;
     } in
     a.is ∙ (ap (λ m. paint m a.are_masks.colours) masks ∙ (ap (λ k. paint b.masks k) colours ∙ sym b.is))
@@ -68,26 +72,55 @@ near-same spacing pieces cycle ms ns a b =
     nearest-same spacing (part_at pieces (get_or cycle k 0)) (part_at pieces (get_or cycle ((k + 1) % length cycle) 0)) (get_or ms k d)
     (get_or ns k d) (a.pair k d (omega (arith, l, many))) (b.pair k d (omega (arith, l, many))))
 
+square-same : (P : Region) (m n : NearLine) → ShowsSquare (IsLeast P) m → ShowsSquare (IsLeast P) n → m ≡ n
+square-same P (Mark p) (Mark q) a b = ap (λ r. Mark r) (IsLeast-unique P P p q (SameSquares-refl P) a b)
+square-same P (Mark p) (Pair x y) a b = absurd b
+square-same P (Mark p) Anchors a b = absurd b
+square-same P (Pair x y) n a b = absurd a
+square-same P Anchors n a b = absurd a
+
+link-same : (k : Marks) (spacing : Spacing) (pieces : List (List Rect)) (u v : ℕ) (m n : NearLine) → ShowsLink k spacing pieces (vertex_of u) (vertex_of v) m
+    → ShowsLink k spacing pieces (vertex_of u) (vertex_of v) n → m ≡ n
+link-same k spacing pieces (suc (suc i)) (suc (suc j)) m n a b = nearest-same spacing (part_at pieces i) (part_at pieces j) m n a b
+link-same k spacing pieces (suc (suc i)) zero m n a b = square-same (λ p. part_at pieces i p × Covers (set_against k false) p) m n a b
+link-same k spacing pieces (suc (suc i)) (suc zero) m n a b = square-same (λ p. part_at pieces i p × Covers (set_against k true) p) m n a b
+link-same k spacing pieces zero (suc (suc j)) m n a b = square-same (λ p. part_at pieces j p × Covers (set_against k false) p) m n a b
+link-same k spacing pieces (suc zero) (suc (suc j)) m n a b = square-same (λ p. part_at pieces j p × Covers (set_against k true) p) m n a b
+link-same k spacing pieces zero zero m n a b = a ∙ sym b
+link-same k spacing pieces zero (suc zero) m n a b = a ∙ sym b
+link-same k spacing pieces (suc zero) zero m n a b = a ∙ sym b
+link-same k spacing pieces (suc zero) (suc zero) m n a b = a ∙ sym b
+
+links-same : (marks : Option Marks) (spacing : Spacing) (pieces : List (List Rect)) (cycle : List ℕ) (ms ns : List NearLine)
+    → AreLinks marks spacing pieces cycle ms → AreLinks marks spacing pieces cycle ns → ms ≡ ns
+links-same None spacing pieces cycle ms ns a b = near-same spacing pieces cycle ms ns a b
+links-same (Some m) spacing pieces cycle ms ns a b =
+    let many = a.each in
+    let many2 = b.each in
+    same_lists ms ns (many ∙ sym many2) (λ k d l.
+    link-same m spacing pieces (get_or cycle k 0) (get_or cycle ((k + 1) % length cycle) 0) (get_or ms k d)
+    (get_or ns k d) (a.link k d (omega (arith, l, many))) (b.link k d (omega (arith, l, many))))
+
 same-clash : (x y : Clash) → x.head ≡ y.head → x.cycle ≡ y.cycle → x.near ≡ y.near → x ≡ y
 same-clash x y a b c =
     let of_parts : Head → List PlaceLine → List NearLine → Clash = λ h p n. record { head = h; cycle = p; near = n } in
     ap (λ h. of_parts h x.cycle x.near) a ∙ (ap (λ p. of_parts y.head p x.near) b ∙ ap (λ n. of_parts y.head y.cycle n) c)
 
-clash-same : (spacing : Spacing) (overlap : ℕ) (c : Cut) (x y : Clash) → IsClashOfCut spacing overlap c x → IsClashOfCut spacing overlap c y → x ≡ y
-clash-same spacing overlap c x y a b =
-    let cycle : a.cycle ≡ b.cycle = cycle-unique (conflicts spacing c) a.cycle b.cycle a.reported b.reported in
-    let near : AreNearest spacing c.pieces b.cycle x.near = subst (λ k. AreNearest spacing c.pieces k x.near) cycle a.nearest in
-    same-clash x y (a.head ∙ sym b.head) (a.places ∙ (ap (λ k. map (place_line c.keys) k) cycle ∙ sym b.places)) (near-same spacing c.pieces b.cycle x.near y.near near b.nearest)
+clash-same : (marks : Option Marks) (spacing : Spacing) (overlap : ℕ) (c : Cut) (x y : Clash) → IsClashOfCut marks spacing overlap c x → IsClashOfCut marks spacing overlap c y → x ≡ y
+clash-same marks spacing overlap c x y a b =
+    let cycle : a.cycle ≡ b.cycle = cycle-unique (cut_graph marks spacing c) a.cycle b.cycle a.reported b.reported in
+    let near : AreLinks marks spacing c.pieces b.cycle x.near = subst (λ k. AreLinks marks spacing c.pieces k x.near) cycle a.nearest in
+    same-clash x y (a.head ∙ sym b.head) (a.places ∙ (ap (λ k. map (place_by marks c.keys) k) cycle ∙ sym b.places)) (links-same marks spacing c.pieces b.cycle x.near y.near near b.nearest)
 
 -- ---- decompositions
 
-flat_cut-same : (spacing : Spacing) (overlap : ℕ) (c : Cut) (x y : Flat) → IsFlatCut spacing overlap c x → IsFlatCut spacing overlap c y → x ≡ y
-flat_cut-same spacing overlap c (Paints x) (Paints y) a b = ap (λ p. Paints p) (painted-same spacing overlap c x y a b)
-flat_cut-same spacing overlap c (Paints x) (Clashes y) a b = absurd (a.even b.odd)
-flat_cut-same spacing overlap c (Clashes x) (Paints y) a b = absurd (b.even a.odd)
-flat_cut-same spacing overlap c (Clashes x) (Clashes y) a b = ap (λ p. Clashes p) (clash-same spacing overlap c x y a b)
+flat_cut-same : (marks : Option Marks) (spacing : Spacing) (overlap : ℕ) (c : Cut) (x y : Flat) → IsFlatCut marks spacing overlap c x → IsFlatCut marks spacing overlap c y → x ≡ y
+flat_cut-same marks spacing overlap c (Paints x) (Paints y) a b = ap (λ p. Paints p) (painted-same marks spacing overlap c x y a b)
+flat_cut-same marks spacing overlap c (Paints x) (Clashes y) a b = absurd (a.even b.odd)
+flat_cut-same marks spacing overlap c (Clashes x) (Paints y) a b = absurd (b.even a.odd)
+flat_cut-same marks spacing overlap c (Clashes x) (Clashes y) a b = ap (λ p. Clashes p) (clash-same marks spacing overlap c x y a b)
 
-pub flat-same : (spacing : Spacing) (overlap : ℕ) (layer : List Rect) (x y : Flat) → IsFlat spacing overlap layer x → IsFlat spacing overlap layer y → x ≡ y
-flat-same spacing overlap layer x y (c, is_c, a) (d, is_d, b) =
-    let same : c ≡ d = one-cut None spacing overlap (Covers layer) c d is_c is_d in
-    flat_cut-same spacing overlap c x y a (subst (λ e. IsFlatCut spacing overlap e y) (sym same) b)
+pub flat-same : (marks : Option Marks) (spacing : Spacing) (overlap : ℕ) (layer : List Rect) (x y : Flat) → IsFlat marks spacing overlap layer x → IsFlat marks spacing overlap layer y → x ≡ y
+flat-same marks spacing overlap layer x y (c, is_c, a) (d, is_d, b) =
+    let same : c ≡ d = one-cut marks spacing overlap (Covers layer) c d is_c is_d in
+    flat_cut-same marks spacing overlap c x y a (subst (λ e. IsFlatCut marks spacing overlap e y) (sym same) b)

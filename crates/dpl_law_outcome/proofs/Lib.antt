@@ -1,3 +1,4 @@
+pub mod Anchored
 pub mod Flats
 pub mod Readings
 pub mod Outcomes

@@ -5,7 +5,8 @@ use Rattle.dpl_spec_split.specs.declared.Rect.{Rect}
 use Rattle.dpl_spec_split.specs.declared.Zone.{Zone}
 use Rattle.dpl_spec_split.specs.Squares.{Covers}
 use Rattle.dpl_spec_split.proofs.ComponentLaws.{components-unique}
-use Rattle.std.specs.Prelude.{None}
+use Rattle.std.specs.Prelude.{Option}
+use Rattle.dpl_spec_split.specs.Marks.{Marks}
 use Rattle.dpl_cert.specs.declared.cert.StitchLine.{StitchLine}
 use Rattle.dpl_law_split.specs.Masks.{KeepsApart, OverlapAt, rect_at, rects_of}
 use Rattle.dpl_law_split.proofs.Cover.{cover}
@@ -19,15 +20,15 @@ rects-same : (zones : List Zone) (sides : List (ℕ × ℕ)) (ks : List ℕ) →
 rects-same zones sides [] = refl
 rects-same zones sides (k ∷ ks) = ap (λ rs. rect_at zones k ∷ rs) (rects-same zones sides ks)
 
-pub painted-right : (spacing : Spacing) (overlap : ℕ) (layer : List Rect) (p : Painted) → IsFlat spacing overlap layer (Paints p) → AreRight spacing layer p
-painted-right spacing overlap layer p (c, is_c, a) =
+pub painted-right : (marks : Option Marks) (spacing : Spacing) (overlap : ℕ) (layer : List Rect) (p : Painted) → IsFlat marks spacing overlap layer (Paints p) → AreRight spacing layer p
+painted-right marks spacing overlap layer p (c, is_c, a) =
     let m = a.masks in
     subst (λ q. AreRight spacing layer q) (sym a.is) (record {
-      cover = cover None spacing overlap (Covers layer) c m is_c a.are_masks;
+      cover = cover marks spacing overlap (Covers layer) c m is_c a.are_masks;
       apart = λ features are. let same = components-unique (Covers layer) c.features features is_c.features are in
           subst (λ fs. KeepsApart spacing fs m.a × KeepsApart spacing fs m.b) same (
-            far-on-a None spacing overlap (Covers layer) c m is_c a.are_masks a.even,
-            far-on-b None spacing overlap (Covers layer) c m is_c a.are_masks a.even,
+            far-on-a marks spacing overlap (Covers layer) c m is_c a.are_masks a.even,
+            far-on-b marks spacing overlap (Covers layer) c m is_c a.are_masks a.even,
           );
-      overlap = subst (λ rs. OverlapAt rs m.a m.b) (rects-same c.zones c.sides m.stitches) (overlap-at None spacing overlap (Covers layer) c m is_c a.are_masks);
+      overlap = subst (λ rs. OverlapAt rs m.a m.b) (rects-same c.zones c.sides m.stitches) (overlap-at marks spacing overlap (Covers layer) c m is_c a.are_masks);
     })

@@ -3,6 +3,7 @@ use Rattle.std.proofs.Common.{◌≡◌, ℕ, inl, inr, List, Option, Some, None
 use Rattle.std.specs.FinMap as map
 use Rattle.std.proofs.lemmas.Bool.{cases_order}
 use Rattle.dpl_spec_split.specs.Squares.{uniform}
+use Rattle.dpl_spec_split.specs.declared.Spacing.{Spacing}
 use Rattle.dpl_spec_split.specs.declared.Rect.{Rect}
 use Rattle.dpl_cert.specs.declared.name.Name.{Name}
 use Rattle.dpl_cert.specs.declared.cert.Cert.{Cert}
@@ -18,26 +19,35 @@ use Rattle.dpl_demo.specs.Demo.{demo_file}
 use Rattle.dpl_answer.specs.Flat.{Paints, Clashes, IsFlat}
 use Rattle.dpl_run.specs.Outcome.{Outcome, says}
 use Rattle.dpl_layer.specs.Reading.{Choice, Faulty, Layer}
-use Rattle.dpl_run.specs.Split.{Decision, Refuses, Decides, IsDecision, IsSplit, IsSplitOf, plan_of, split_choice}
-use Rattle.dpl_run.specs.Demo.{IsDemo, demo_choice, demo_plan}
-use Rattle.dpl_run.specs.Check.{IsCheck, IsCheckOfCert, IsCheckOfFile, IsCheckOfMasks, IsCheckOfText, IsJudged, WithFile, WithLayer}
-use Rattle.dpl_run.specs.Check.{check_choice, mask_choice, refusal_of, verdict_outcome}
+use Rattle.dpl_run.specs.Split.{Decision, Refuses, Decides, IsDecision, IsSplit, IsSplitOf, marks_for, plan_of, split_marked, split_spacing}
+use Rattle.dpl_run.specs.Demo.{IsDemo, demo_marked, demo_plan}
+use Rattle.dpl_run.specs.Check.{IsCheck, IsCheckOfCert, IsCheckOfFile, IsCheckOfMasks, IsCheckOfText, IsJudged, WithFile, WithLayer, WithMarkedLayer}
+use Rattle.dpl_run.specs.Check.{check_marked, check_spacing, mask_choice, refusal_of, verdict_outcome}
 use Rattle.dpl_run.specs.Texts.{bad_line_line}
 use Rattle.dpl_run.specs.declared.status.Status.TheVariants.{Refused}
 use Rattle.dpl_law_outcome.specs.Laws.{OneOutcome}
 use Rattle.dpl_law_outcome.proofs.Flats.{flat-same}
-use Rattle.dpl_law_outcome.proofs.Readings.{reading-same}
+use Rattle.dpl_law_outcome.proofs.Readings.{marked-same, reading-same}
+use Rattle.dpl_spec_split.specs.Marks.{Marks}
+use Rattle.dpl_layer.specs.Marked.{FaultyMarked, MarkedChoice, MarkedLayer}
 
-decision-same : (v : Choice) (rule overlap : ℕ) (bytes : List ℕ) (d e : Decision) → IsDecision v rule overlap bytes d → IsDecision v rule overlap bytes e → d ≡ e
-decision-same v rule overlap bytes (Refuses m i) (Refuses n j) a b = (let same : Faulty m i ≡ Faulty n j = reading-same v bytes (Faulty m i) (Faulty n j) a b in cc)
-decision-same v rule overlap bytes (Refuses m i) (Decides q y) a (s, b, is) = (let same : Faulty m i ≡ Layer q s = reading-same v bytes (Faulty m i) (Layer q s) a b in absurd cc)
-decision-same v rule overlap bytes (Decides p x) (Refuses n j) (r, a, is) b = (let same : Faulty n j ≡ Layer p r = reading-same v bytes (Faulty n j) (Layer p r) b a in absurd cc)
-decision-same v rule overlap bytes (Decides p x) (Decides q y) (r, a, is_x) (s, b, is_y) =
-    let same : Layer p r ≡ Layer q s = reading-same v bytes (Layer p r) (Layer q s) a b in
+decision-same : (v : MarkedChoice) (spacing : Spacing) (overlap : ℕ) (bytes : List ℕ) (d e : Decision) → IsDecision v spacing overlap bytes d → IsDecision v spacing overlap bytes e → d ≡ e
+decision-same v spacing overlap bytes (Refuses m i) (Refuses n j) x y = (let same : FaultyMarked m i ≡ FaultyMarked n j = marked-same v bytes (FaultyMarked m i) (FaultyMarked n j) x y in cc)
+decision-same v spacing overlap bytes (Refuses m i) (Decides q g) x (s, c, d, y, is) =
+    (let same : FaultyMarked m i ≡ MarkedLayer q s c d = marked-same v bytes (FaultyMarked m i) (MarkedLayer q s c d) x y in absurd cc)
+decision-same v spacing overlap bytes (Decides p f) (Refuses n j) (r, a, b, x, is) y =
+    (let same : FaultyMarked n j ≡ MarkedLayer p r a b = marked-same v bytes (FaultyMarked n j) (MarkedLayer p r a b) y x in absurd cc)
+decision-same v spacing overlap bytes (Decides p f) (Decides q g) (r, a, b, x, is_f) (s, c, d, y, is_g) =
+    let same : MarkedLayer p r a b ≡ MarkedLayer q s c d = marked-same v bytes (MarkedLayer p r a b) (MarkedLayer q s c d) x y in
     let fronts : p ≡ q = cc in
     let slabs : s ≡ r = cc in
-    let flats : x ≡ y = flat-same (uniform rule) overlap r x y is_x (subst (λ l. IsFlat (uniform rule) overlap l y) slabs is_y) in
-    ap (λ f. Decides f x) fronts ∙ ap (λ f. Decides q f) flats
+    let firsts : c ≡ a = cc in
+    let seconds : d ≡ b = cc in
+    let on_layer = subst (λ l. IsFlat (marks_for v c d) spacing overlap l g) slabs is_g in
+    let on_a = subst (λ k. IsFlat (marks_for v k d) spacing overlap r g) firsts on_layer in
+    let on_b = subst (λ k. IsFlat (marks_for v a k) spacing overlap r g) seconds on_a in
+    let flats : f ≡ g = flat-same (marks_for v a b) spacing overlap r f g is_f on_b in
+    ap (λ k. Decides k f) fronts ∙ ap (λ k. Decides q k) flats
 
 -- other tiles and workers plan alike
 plan-retiled : (v : SplitValues) (tile workers : ℕ) (d : Decision) → plan_of (record v { tile = tile; workers = workers }) d ≡ plan_of v d
@@ -47,7 +57,7 @@ plan-retiled v tile workers (Decides p (Clashes q)) = refl
 
 split-same : (v : SplitValues) (tile workers : ℕ) (bytes : List ℕ) (x y : Outcome) → IsSplit v bytes x → IsSplit (record v { tile = tile; workers = workers }) bytes y → x ≡ y
 split-same v tile workers bytes x y (d, is_d, a) (e, is_e, b) =
-    a ∙ (ap (λ z. plan_of v z) (decision-same (split_choice v) v.rule v.overlap bytes d e is_d is_e) ∙ (sym (plan-retiled v tile workers e) ∙ sym b))
+    a ∙ (ap (λ z. plan_of v z) (decision-same (split_marked v) (split_spacing v) v.overlap bytes d e is_d is_e) ∙ (sym (plan-retiled v tile workers e) ∙ sym b))
 
 split-of-same : (v : SplitValues) (tile workers : ℕ) (file : Option (List ℕ)) (x y : Outcome) → IsSplitOf v file x
     → IsSplitOf (record v { tile = tile; workers = workers }) file y → x ≡ y
@@ -55,7 +65,7 @@ split-of-same v tile workers None x y a b = a ∙ sym b
 split-of-same v tile workers (Some bytes) x y a b = split-same v tile workers bytes x y a b
 
 demo-same : (v : DemoValues) (tile workers : ℕ) (x y : Outcome) → IsDemo v x → IsDemo (record v { tile = tile; workers = workers }) y → x ≡ y
-demo-same v tile workers x y (d, is_d, a) (e, is_e, b) = a ∙ (ap demo_plan (decision-same demo_choice 30 10 (demo_file v.seed v.rows) d e is_d is_e) ∙ sym b)
+demo-same v tile workers x y (d, is_d, a) (e, is_e, b) = a ∙ (ap demo_plan (decision-same demo_marked (uniform 30) 10 (demo_file v.seed v.rows) d e is_d is_e) ∙ sym b)
 
 -- ---- the files of `check`
 
@@ -77,22 +87,42 @@ module _ (file : List ℕ) (choice : Choice) (bytes : List ℕ) (next : List Rec
       let slabs : s ≡ r = cc in
       each r x y p (subst (λ l. next l y) slabs q)
 
-judged-same : (v : CheckValues) (layer : List Rect) (cert : Cert) (a b : List Rect) (x y : Outcome) → IsJudged v layer cert a b x → IsJudged v layer cert a b y → x ≡ y
-judged-same v layer cert a b x y (w, is_w, p) (u, is_u, q) = p ∙ (ap (verdict_outcome cert) (masks-unique None (uniform v.rule) v.overlap layer a b cert w u is_w is_u) ∙ sym q)
+-- and so it is with what follows a reading with markers
+module _ (file : List ℕ) (choice : MarkedChoice) (bytes : List ℕ) (next : List Rect → List Rect → List Rect → Outcome → Type 0)
+    (each : (layer a b : List Rect) (x y : Outcome) → next layer a b x → next layer a b y → x ≡ y) where
+  marked_layer-same : (x y : Outcome) → WithMarkedLayer file choice bytes next x → WithMarkedLayer file choice bytes next y → x ≡ y
+  marked_layer-same x y (FaultyMarked m i, r, p) (FaultyMarked n j, s, q) =
+      let same : FaultyMarked m i ≡ FaultyMarked n j = marked-same choice bytes (FaultyMarked m i) (FaultyMarked n j) r s in
+      let names : m ≡ n = cc in
+      let places : i ≡ j = cc in
+      p ∙ (ap (λ k. refusal_of file k i) names ∙ (ap (λ k. refusal_of file n k) places ∙ sym q))
+  marked_layer-same x y (FaultyMarked m i, r, p) (MarkedLayer g k c d, s, q) =
+      (let same : FaultyMarked m i ≡ MarkedLayer g k c d = marked-same choice bytes (FaultyMarked m i) (MarkedLayer g k c d) r s in absurd cc)
+  marked_layer-same x y (MarkedLayer f l a b, r, p) (FaultyMarked n j, s, q) =
+      (let same : FaultyMarked n j ≡ MarkedLayer f l a b = marked-same choice bytes (FaultyMarked n j) (MarkedLayer f l a b) s r in absurd cc)
+  marked_layer-same x y (MarkedLayer f l a b, r, p) (MarkedLayer g k c d, s, q) =
+      let same : MarkedLayer f l a b ≡ MarkedLayer g k c d = marked-same choice bytes (MarkedLayer f l a b) (MarkedLayer g k c d) r s in
+      let slabs : k ≡ l = cc in
+      let firsts : c ≡ a = cc in
+      let seconds : d ≡ b = cc in
+      each l a b x y p (subst (λ z. next l a z y) seconds (subst (λ z. next l z d y) firsts (subst (λ z. next z c d y) slabs q)))
 
-masks-same : (v : CheckValues) (layer : List Rect) (cert : Cert) (bytes : List ℕ) (x y : Outcome) → IsCheckOfMasks v layer cert bytes x
-    → IsCheckOfMasks v layer cert bytes y → x ≡ y
-masks-same v layer cert bytes x y =
-    layer-same (codes "out") (mask_choice v.a) bytes (λ a. WithLayer (codes "out") (mask_choice v.b) bytes (IsJudged v layer cert a))
-    (λ a. layer-same (codes "out") (mask_choice v.b) bytes (IsJudged v layer cert a) (λ b. judged-same v layer cert a b)) x y
+judged-same : (v : CheckValues) (marks : Option Marks) (layer : List Rect) (cert : Cert) (a b : List Rect) (x y : Outcome) → IsJudged v marks layer cert a b x → IsJudged v marks layer cert a b y → x ≡ y
+judged-same v marks layer cert a b x y (w, is_w, p) (u, is_u, q) = p ∙ (ap (verdict_outcome cert) (masks-unique marks (check_spacing v) v.overlap layer a b cert w u is_w is_u) ∙ sym q)
 
-cert-same : (v : CheckValues) (layer : List Rect) (out : Option (List ℕ)) (cert : Cert) (x y : Outcome) → IsCheckOfCert v layer out cert x
-    → IsCheckOfCert v layer out cert y → x ≡ y
-cert-same v layer None (Masks h ps ss gs) x y p q = p ∙ sym q
-cert-same v layer (Some bytes) (Masks h ps ss gs) x y p q = masks-same v layer (Masks h ps ss gs) bytes x y p q
-cert-same v layer out (Conflict h cs ns) x y (w, is_w, p) (u, is_u, q) =
-    p ∙ (ap (verdict_outcome (Conflict h cs ns)) (conflict-unique None (uniform v.rule) v.overlap layer (Conflict h cs ns) w u is_w is_u) ∙ sym q)
-cert-same v layer out (Fault name at) x y p q = p ∙ sym q
+masks-same : (v : CheckValues) (marks : Option Marks) (layer : List Rect) (cert : Cert) (bytes : List ℕ) (x y : Outcome) → IsCheckOfMasks v marks layer cert bytes x
+    → IsCheckOfMasks v marks layer cert bytes y → x ≡ y
+masks-same v marks layer cert bytes x y =
+    layer-same (codes "out") (mask_choice v.a) bytes (λ a. WithLayer (codes "out") (mask_choice v.b) bytes (IsJudged v marks layer cert a))
+    (λ a. layer-same (codes "out") (mask_choice v.b) bytes (IsJudged v marks layer cert a) (λ b. judged-same v marks layer cert a b)) x y
+
+cert-same : (v : CheckValues) (marks : Option Marks) (layer : List Rect) (out : Option (List ℕ)) (cert : Cert) (x y : Outcome) → IsCheckOfCert v marks layer out cert x
+    → IsCheckOfCert v marks layer out cert y → x ≡ y
+cert-same v marks layer None (Masks h ps ss gs) x y p q = p ∙ sym q
+cert-same v marks layer (Some bytes) (Masks h ps ss gs) x y p q = masks-same v marks layer (Masks h ps ss gs) bytes x y p q
+cert-same v marks layer out (Conflict h cs ns) x y (w, is_w, p) (u, is_u, q) =
+    p ∙ (ap (verdict_outcome (Conflict h cs ns)) (conflict-unique marks (check_spacing v) v.overlap layer (Conflict h cs ns) w u is_w is_u) ∙ sym q)
+cert-same v marks layer out (Fault name at) x y p q = p ∙ sym q
 
 texts-same : (c d : Cert) (text : List ℕ) → IsText c text → IsText d text → c ≡ d
 texts-same c d text t u = cert_same c d t.0 u.0 (sym (lines-text c t.0) ∙ ap lines (sym t.1 ∙ u.1) ∙ lines-text d u.0)
@@ -106,25 +136,26 @@ bad-lines-same text m n a b = elim (cases_order m n) [
   ]
 ]
 
-text-same : (v : CheckValues) (layer : List Rect) (out : Option (List ℕ)) (text : List ℕ) (x y : Outcome)
-    → IsCheckOfText v layer out text x → IsCheckOfText v layer out text y → x ≡ y
-text-same v layer out text x y (inl (c, t, p)) (inl (d, u, q)) = cert-same v layer out c x y p (subst (λ k. IsCheckOfCert v layer out k y) (sym (texts-same c d text t u)) q)
-text-same v layer out text x y (inl (c, t, p)) (inr (n, bad, q)) = absurd (bad.bad (c, text, t, refl))
-text-same v layer out text x y (inr (m, bad, p)) (inl (d, u, q)) = absurd (bad.bad (d, text, u, refl))
-text-same v layer out text x y (inr (m, bad, p)) (inr (n, other, q)) = p ∙ (ap (λ k. says Refused (bad_line_line k)) (bad-lines-same text m n bad other) ∙ sym q)
+text-same : (v : CheckValues) (marks : Option Marks) (layer : List Rect) (out : Option (List ℕ)) (text : List ℕ) (x y : Outcome)
+    → IsCheckOfText v marks layer out text x → IsCheckOfText v marks layer out text y → x ≡ y
+text-same v marks layer out text x y (inl (c, t, p)) (inl (d, u, q)) = cert-same v marks layer out c x y p (subst (λ k. IsCheckOfCert v marks layer out k y) (sym (texts-same c d text t u)) q)
+text-same v marks layer out text x y (inl (c, t, p)) (inr (n, bad, q)) = absurd (bad.bad (c, text, t, refl))
+text-same v marks layer out text x y (inr (m, bad, p)) (inl (d, u, q)) = absurd (bad.bad (d, text, u, refl))
+text-same v marks layer out text x y (inr (m, bad, p)) (inr (n, other, q)) = p ∙ (ap (λ k. says Refused (bad_line_line k)) (bad-lines-same text m n bad other) ∙ sym q)
 
-file-same : (v : CheckValues) (layer : List Rect) (cert out : Option (List ℕ)) (x y : Outcome)
-    → WithFile cert (IsCheckOfFile v layer out) x → WithFile cert (IsCheckOfFile v layer out) y → x ≡ y
-file-same v layer None out x y p q = p ∙ sym q
-file-same v layer (Some text) out x y (inl (large, p)) (inl (again, q)) = p ∙ sym q
-file-same v layer (Some text) out x y (inl (large, p)) (inr (small, q)) = absurd (omega (arith, large, small))
-file-same v layer (Some text) out x y (inr (small, p)) (inl (large, q)) = absurd (omega (arith, large, small))
-file-same v layer (Some text) out x y (inr (small, p)) (inr (again, q)) = text-same v layer out text x y p q
+file-same : (v : CheckValues) (marks : Option Marks) (layer : List Rect) (cert out : Option (List ℕ)) (x y : Outcome)
+    → WithFile cert (IsCheckOfFile v marks layer out) x → WithFile cert (IsCheckOfFile v marks layer out) y → x ≡ y
+file-same v marks layer None out x y p q = p ∙ sym q
+file-same v marks layer (Some text) out x y (inl (large, p)) (inl (again, q)) = p ∙ sym q
+file-same v marks layer (Some text) out x y (inl (large, p)) (inr (small, q)) = absurd (omega (arith, large, small))
+file-same v marks layer (Some text) out x y (inr (small, p)) (inl (large, q)) = absurd (omega (arith, large, small))
+file-same v marks layer (Some text) out x y (inr (small, p)) (inr (again, q)) = text-same v marks layer out text x y p q
 
 check-same : (v : CheckValues) (layout cert out : Option (List ℕ)) (x y : Outcome) → IsCheck v layout cert out x → IsCheck v layout cert out y → x ≡ y
 check-same v None cert out x y p q = p ∙ sym q
 check-same v (Some bytes) cert out x y p q =
-    layer-same (codes "in") (check_choice v) bytes (λ layer. WithFile cert (IsCheckOfFile v layer out)) (λ layer. file-same v layer cert out) x y p q
+    marked_layer-same (codes "in") (check_marked v) bytes (λ layer a b. WithFile cert (IsCheckOfFile v (marks_for (check_marked v) a b) layer out))
+    (λ layer a b. file-same v (marks_for (check_marked v) a b) layer cert out) x y p q
 
 pub outcome-same : OneOutcome
 outcome-same (AsksSplit v) tile workers files x y a b = split-of-same v tile workers (map.get files v.input) x y a b

@@ -8,7 +8,7 @@ use Rattle.clap.proofs.WalkLemmas.{both}
 use Rattle.dpl_host.specs.Outside.{Outside, file_of, with_file}
 use Rattle.dpl_host.proofs.Files.{file_put}
 use Rattle.dpl_spec_split.specs.declared.Rect.{Rect}
-use Rattle.dpl_spec_split.specs.Squares.{Covers, uniform}
+use Rattle.dpl_spec_split.specs.Squares.{Covers}
 use Rattle.dpl_spec_split.specs.Loops.{AreRectsWithin, farthest}
 use Rattle.dpl_spec_split.specs.Decomposition.{Cut, IsCut}
 use Rattle.dpl_spec_format.specs.Tree.{Library, Structure, frame_of}
@@ -20,7 +20,7 @@ use Rattle.dpl_cert.specs.Grammar.{IsCert}
 use Rattle.dpl_spec_verdict.specs.declared.Verdict.TheVariants.{Valid}
 use Rattle.dpl_masks.specs.Bytes.{file_bytes}
 use Rattle.dpl_law_verdict.proofs.Ranges.{layer-within}
-use Rattle.dpl_law_verdict.proofs.Written.{cycle-cert, masks-cert, masks-within}
+use Rattle.dpl_law_verdict.proofs.Written.{masks-cert, masks-within}
 use Rattle.dpl_law_outcome.specs.ReadBack.{IsMask, IsReadAs}
 use Rattle.dpl_law_outcome.proofs.Taken.{masks-read}
 use Rattle.dpl_words.specs.Meaning.{AsksCheck, AsksSplit, SplitValues}
@@ -32,14 +32,16 @@ use Rattle.dpl_answer.specs.Flat.{Clash, Clashes, Flat, Painted, Paints, IsClash
 use Rattle.dpl_law_verdict.specs.Own.{head_of}
 use Rattle.dpl_run.specs.Outcome.{Outcome, Shows, carried_out, says, silent}
 use Rattle.dpl_run.specs.Program.{IsPlan}
-use Rattle.dpl_layer.specs.Reading.{IsLayerIn, IsReading, Layer, chosen, frame_bytes, copied_of, limit}
-use Rattle.dpl_run.specs.Split.{Decides, IsSplitOf, certified, plan_of, split_choice, Decision, IsDecision, Refuses, refusal}
+use Rattle.dpl_layer.specs.Reading.{IsLayerIn, Layer, chosen, frame_bytes, copied_of, limit}
+use Rattle.dpl_run.specs.Split.{Decides, IsSplitOf, certified, marks_for, plan_of, split_choice, split_marked, split_spacing, Decision, IsDecision, Refuses, refusal}
 use Rattle.dpl_run.specs.Texts.{valid_line}
+use Rattle.dpl_layer.specs.Marked.{IsMarkedReading, MarkedLayer}
+use Rattle.dpl_spec_split.specs.Marks.{Marks}
 use Rattle.dpl_run.proofs.Checking.{differ, put_other}
 use Rattle.dpl_law_outcome.specs.OwnFiles.{AreSmall, CanBeRead, IsDecided, OwnFilesAreValid, OwnRunsAreValid, cert_of, checking, SplitsAreDecided}
 use Rattle.dpl_law_outcome.proofs.Asked.{asked-split}
 use Rattle.dpl_law_outcome.proofs.Outcomes.{outcome-same}
-use Rattle.dpl_law_outcome.proofs.Own.{clash-valid, painted-valid}
+use Rattle.dpl_law_outcome.proofs.Own.{clash-cert, clash-valid, painted-valid}
 
 -- ---- names
 
@@ -77,28 +79,32 @@ fronted lib top front is = elim (slice_get_cases lib.structures top).1 [
 
 module _ (v : SplitValues) (o : Outside) (bytes front : List ℕ) (layer : List Rect) (in_range : AreInRangeForCheck (checking v))
     (apart : IsApart (AsksSplit v)) (read : file_of o v.input ≡ Some bytes)
-    (reading : IsReading (split_choice v) bytes (Layer front layer)) (lib : Library) (holds : Holds bytes lib)
-    (l : IsLayerIn (split_choice v) lib front layer) (cut : Cut) (is_cut : IsCut None (uniform v.rule) v.overlap (Covers layer) cut) where
+    (on_a on_b : List Rect)
+    (reading : IsMarkedReading (split_marked v) bytes (MarkedLayer front layer on_a on_b)) (lib : Library) (holds : Holds bytes lib)
+    (l : IsLayerIn (split_choice v) lib front layer) (cut : Cut) (is_cut : IsCut (marks_for (split_marked v) on_a on_b) (split_spacing v) v.overlap (Covers layer) cut) where
+  abbrev marks : Option Marks
+  marks = marks_for (split_marked v) on_a on_b
+
   within : AreRectsWithin farthest layer
   within = layer-within lib l.top (chosen (split_choice v)) layer l.faultless l.squares
 
   abbrev IsFine : Painted → Type 0
   IsFine p = IsMask p.a × IsMask p.b × IsCert (Masks p.head p.pieces p.stitches None)
 
-  painted-fine : (p : Painted) → IsPaintedCut (uniform v.rule) v.overlap cut p → IsFine p
+  painted-fine : (p : Painted) → IsPaintedCut marks (split_spacing v) v.overlap cut p → IsFine p
   painted-fine p painted =
       let m = painted.masks in
-      let near = masks-within (uniform v.rule) v.overlap layer cut in_range.rule (in_range.rule.0, omega arith) in_range.overlap within is_cut m painted.are_masks in
+      let near = masks-within marks (split_spacing v) v.overlap layer cut in_range.rule in_range.corner in_range.overlap within is_cut m painted.are_masks in
       subst (λ (q : Painted). IsFine q) (sym painted.is) (
         record { canonical = painted.are_masks.a.canonical; within = near.0 },
         record { canonical = painted.are_masks.b.canonical; within = near.1 },
-        masks-cert (uniform v.rule) v.overlap layer cut in_range.rule (in_range.rule.0, omega arith) in_range.overlap within is_cut m painted.are_masks,
+        masks-cert marks (split_spacing v) v.overlap layer cut in_range.rule in_range.corner in_range.overlap within is_cut m painted.are_masks,
       )
 
   abbrev OutIsRead : List ℕ → Painted → Type 0
   OutIsRead before p = IsReadAs (file_bytes before v.a v.b p.a p.b) v.a p.a × IsReadAs (file_bytes before v.a v.b p.a p.b) v.b p.b
 
-  out-read : (p : Painted) → IsPaintedCut (uniform v.rule) v.overlap cut p → AreSmall v front p → OutIsRead front p
+  out-read : (p : Painted) → IsPaintedCut marks (split_spacing v) v.overlap cut p → AreSmall v front p → OutIsRead front p
   out-read p painted small =
       let own = own-names v apart in
       let (first, second, cert) = painted-fine p painted in
@@ -111,26 +117,26 @@ module _ (v : SplitValues) (o : Outside) (bytes front : List ℕ) (layer : List 
       (masks-read bytes lib s v.a v.b p.a p.b holds s_in own.layers (omega (arith, a_fits)) (omega (arith, b_fits)) first second fits small.first small.second)
 
   -- with the files that are there
-  masks-checked : (p : Painted) → IsPaintedCut (uniform v.rule) v.overlap cut p → AreSmall v front p
+  masks-checked : (p : Painted) → IsPaintedCut marks (split_spacing v) v.overlap cut p → AreSmall v front p
       → IsCheck (checking v) (Some bytes) (Some (certified (Masks p.head p.pieces p.stitches None))) (Some (file_bytes front v.a v.b p.a p.b))
       (says Done (valid_line (Masks p.head p.pieces p.stitches None)))
   masks-checked p painted small =
       let (first, second, cert) = painted-fine p painted in
       let ((fa, ra), (fb, rb)) = out-read p painted small in (
-        Layer front layer,
+        MarkedLayer front layer on_a on_b,
         reading,
         inr (
           small.cert,
           inl (
             Masks p.head p.pieces p.stitches None,
             (cert, refl),
-            (Layer fa p.a, ra, (Layer fb p.b, rb, (Valid, painted-valid (uniform v.rule) v.overlap layer cut p is_cut painted, refl))),
+            (Layer fa p.a, ra, (Layer fb p.b, rb, (Valid, painted-valid marks (split_spacing v) v.overlap layer cut p is_cut painted, refl))),
           ),
         ),
       )
 
   -- the files that are there
-  masks-kept : (p : Painted) → IsPaintedCut (uniform v.rule) v.overlap cut p → AreSmall v front p
+  masks-kept : (p : Painted) → IsPaintedCut marks (split_spacing v) v.overlap cut p → AreSmall v front p
       → IsPlan (Some (AsksCheck (checking v))) (carried_out (plan_of v (Decides front (Paints p))) o).files (says Done (valid_line (Masks p.head p.pieces p.stitches None)))
   masks-kept p painted small =
       let own = own-names v apart in
@@ -148,28 +154,25 @@ module _ (v : SplitValues) (o : Outside) (bytes front : List ℕ) (layer : List 
 
   -- ---- conflicts
 
-  clash-fine : (x : Clash) → IsClashOfCut (uniform v.rule) v.overlap cut x → IsCert (Conflict x.head x.cycle x.near)
-  clash-fine x clash =
-      subst (λ (h : Head). IsCert (Conflict h x.cycle x.near)) (sym clash.head)
-      (subst (λ (ps : List PlaceLine). IsCert (Conflict (head_of (uniform v.rule) v.overlap cut) ps x.near)) (sym clash.places)
-      (cycle-cert (uniform v.rule) v.overlap layer cut in_range.rule (in_range.rule.0, omega arith) in_range.overlap within is_cut clash.cycle x.near clash.reported clash.nearest.each clash.nearest.pair))
+  clash-fine : (x : Clash) → IsClashOfCut marks (split_spacing v) v.overlap cut x → IsCert (Conflict x.head x.cycle x.near)
+  clash-fine x clash = clash-cert marks (split_spacing v) v.overlap layer cut x in_range.rule in_range.corner in_range.overlap within is_cut clash
 
-  clash-checked : (x : Clash) (out : Option (List ℕ)) → IsClashOfCut (uniform v.rule) v.overlap cut x → length (certified (Conflict x.head x.cycle x.near)) ≤ limit
+  clash-checked : (x : Clash) (out : Option (List ℕ)) → IsClashOfCut marks (split_spacing v) v.overlap cut x → length (certified (Conflict x.head x.cycle x.near)) ≤ limit
       → IsCheck (checking v) (Some bytes) (Some (certified (Conflict x.head x.cycle x.near))) out (says Done (valid_line (Conflict x.head x.cycle x.near)))
   clash-checked x out clash small = (
-    Layer front layer,
+    MarkedLayer front layer on_a on_b,
     reading,
     inr (
       small,
       inl (
         Conflict x.head x.cycle x.near,
         (clash-fine x clash, refl),
-        (Valid, clash-valid (uniform v.rule) v.overlap layer cut x is_cut clash, refl),
+        (Valid, clash-valid marks (split_spacing v) v.overlap layer cut x is_cut clash, refl),
       ),
     ),
   )
 
-  clash-kept : (x : Clash) → IsClashOfCut (uniform v.rule) v.overlap cut x → length (certified (Conflict x.head x.cycle x.near)) ≤ limit
+  clash-kept : (x : Clash) → IsClashOfCut marks (split_spacing v) v.overlap cut x → length (certified (Conflict x.head x.cycle x.near)) ≤ limit
       → IsPlan (Some (AsksCheck (checking v))) (carried_out (plan_of v (Decides front (Clashes x))) o).files (says Done (valid_line (Conflict x.head x.cycle x.near)))
   clash-kept x clash small =
       let own = own-names v apart in
@@ -181,7 +184,7 @@ module _ (v : SplitValues) (o : Outside) (bytes front : List ℕ) (layer : List 
       subst (λ (i : Option (List ℕ)). IsCheck (checking v) i (file_of one v.certificate) (file_of one v.output) y) (sym input_is)
       (subst (λ (c : Option (List ℕ)). IsCheck (checking v) (Some bytes) c (file_of one v.output) y) (sym cert_is) (clash-checked x (file_of one v.output) clash small))
 
-  cut-kept : (flat : Flat) → IsFlatCut (uniform v.rule) v.overlap cut flat → CanBeRead v front flat
+  cut-kept : (flat : Flat) → IsFlatCut marks (split_spacing v) v.overlap cut flat → CanBeRead v front flat
       → IsPlan (Some (AsksCheck (checking v))) (carried_out (plan_of v (Decides front flat)) o).files (says Done (valid_line (cert_of flat)))
   cut-kept (Paints p) is small = masks-kept p is small
   cut-kept (Clashes x) is small = clash-kept x is small
@@ -189,10 +192,12 @@ module _ (v : SplitValues) (o : Outside) (bytes front : List ℕ) (layer : List 
 -- ---- both
 
 pub own-files : OwnFilesAreValid
-own-files v o front flat in_range apart (bytes, found, (layer, reading, (cut, is_cut, flat_is))) small = elim reading [
-  | inl large ↦ cc
-  | inr read ↦ (let (lib, holds, l) = read.1 in cut-kept v o bytes front layer in_range apart found (inr read) lib holds l cut is_cut flat flat_is small)
-]
+own-files v o front flat in_range apart (bytes, found, (layer, on_a, on_b, reading, (cut, is_cut, flat_is))) small =
+    elim reading [
+      | inl large ↦ cc
+      | inr read ↦ (let (lib, holds, l) = read.1 in
+          cut-kept v o bytes front layer in_range apart found on_a on_b (inr read) lib holds l.layer cut is_cut flat flat_is small)
+    ]
 
 -- ---- what is decided
 
@@ -211,7 +216,7 @@ status-of : (x y : Outcome) → x ≡ y → IsAnswer x.status → IsAnswer y.sta
 status-of x y is answer = subst (λ (z : Outcome). IsAnswer z.status) is answer
 
 by-decision : (v : SplitValues) (o : Outside) (bytes : List ℕ) (x : Outcome) (d : Decision) → file_of o v.input ≡ Some bytes
-    → IsDecision (split_choice v) v.rule v.overlap bytes d → x ≡ plan_of v d → IsAnswer x.status
+    → IsDecision (split_marked v) (split_spacing v) v.overlap bytes d → x ≡ plan_of v d → IsAnswer x.status
     → (front : List ℕ) × (flat : Flat) × IsDecided v o front flat × (x ≡ plan_of v (Decides front flat))
 by-decision v o bytes x (Refuses name at) found decided is answer = absurd (refused (status-of x (refusal v name at) is answer))
 by-decision v o bytes x (Decides front flat) found decided is answer = (front, flat, (bytes, found, decided), is)
@@ -239,8 +244,11 @@ own-runs v words others o front flat s t new last asks asks_check decided small 
       datatype = ranges.datatype;
       rule = ranges.rule;
       overlap = ranges.overlap;
+      corner = ranges.corner;
       a = ranges.a;
       b = ranges.b;
+      mark_a = ranges.mark_a;
+      mark_b = ranges.mark_b;
     } in
     let y : Outcome = plan_of v (Decides front flat) in
     let done : Outcome = says Done (valid_line (cert_of flat)) in

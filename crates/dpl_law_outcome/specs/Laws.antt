@@ -5,6 +5,7 @@ use Rattle.dpl_spec_split.specs.declared.Spacing.{Spacing}
 use Rattle.dpl_host.specs.Outside.{Files, Outside}
 use Rattle.dpl_spec_split.specs.declared.Rect.{Rect}
 use Rattle.dpl_spec_split.specs.Squares.{Covers}
+use Rattle.dpl_spec_split.specs.Marks.{Marks}
 use Rattle.dpl_spec_split.specs.Components.{AreComponents}
 use Rattle.dpl_law_split.specs.Masks.{AreCover, KeepsApart, OverlapAt}
 use Rattle.dpl_cert.specs.declared.cert.StitchLine.{StitchLine}
@@ -37,4 +38,4 @@ pub record AreRight (spacing : Spacing) (layer : List Rect) (p : Painted) : Type
   pub overlap : OverlapAt (map (λ (s : StitchLine). s.rect) p.stitches) p.a p.b
 
 abbrev pub PaintedMasksAreRight : Type 0
-PaintedMasksAreRight = (spacing : Spacing) (overlap : ℕ) (layer : List Rect) (p : Painted) → IsFlat spacing overlap layer (Paints p) → AreRight spacing layer p
+PaintedMasksAreRight = (marks : Option Marks) (spacing : Spacing) (overlap : ℕ) (layer : List Rect) (p : Painted) → IsFlat marks spacing overlap layer (Paints p) → AreRight spacing layer p

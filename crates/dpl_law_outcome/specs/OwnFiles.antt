@@ -14,7 +14,7 @@ use Rattle.dpl_answer.specs.Flat.{Clashes, Flat, Painted, Paints}
 use Rattle.dpl_run.specs.Outcome.{Outcome, carried_out, says}
 use Rattle.dpl_run.specs.Program.{IsOutcome, IsPlan}
 use Rattle.dpl_layer.specs.Reading.{limit}
-use Rattle.dpl_run.specs.Split.{Decides, IsDecision, certified, plan_of, split_choice}
+use Rattle.dpl_run.specs.Split.{Decides, IsDecision, certified, plan_of, split_marked, split_spacing}
 use Rattle.dpl_run.specs.Texts.{valid_line}
 
 -- the same values, asked of `check`, which has no tiles and no workers
@@ -24,9 +24,12 @@ checking v = record {
   datatype = v.datatype;
   rule = v.rule;
   overlap = v.overlap;
+  corner = v.corner;
   top = v.top;
   a = v.a;
   b = v.b;
+  mark_a = v.mark_a;
+  mark_b = v.mark_b;
   input = v.input;
   output = v.output;
   certificate = v.certificate;
@@ -51,7 +54,7 @@ CanBeRead v front (Clashes x) = length (certified (cert_of (Clashes x))) ≤ lim
 
 -- the file is there, and its layer has this decomposition
 abbrev pub IsDecided : SplitValues → Outside → List ℕ → Flat → Type 0
-IsDecided v o front flat = (bytes : List ℕ) × (file_of o v.input ≡ Some bytes) × IsDecision (split_choice v) v.rule v.overlap bytes (Decides front flat)
+IsDecided v o front flat = (bytes : List ℕ) × (file_of o v.input ≡ Some bytes) × IsDecision (split_marked v) (split_spacing v) v.overlap bytes (Decides front flat)
 
 -- Where `split` is done or in conflict its file is decided, and what it does is what the decomposition asks for.
 abbrev pub SplitsAreDecided : Type 0

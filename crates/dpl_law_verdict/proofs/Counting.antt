@@ -64,7 +64,7 @@ module _ {X : Type 0} (L : X → Pt → Type 0) (one : (x : X) (p q : Pt) → L 
       let rest = climbs y v ys v_is v_in (AllPairs-rest Rises x (y ∷ ys) all) (λ z q z_in. within z q (Contains-later y z ys z_in)) in
       omega (arith, less, rest)
 
-  few : (xs : List X) → AllPairs Rises xs → ((y : X) (q : Pt) → Contains xs y → L y q → Inside farthest q) → length xs < 2 ^ 64
+  few : (xs : List X) → AllPairs Rises xs → ((y : X) (q : Pt) → Contains xs y → L y q → Inside farthest q) → length xs ≤ 4000000000000000000
   few [] all within = omega arith
   few (x ∷ []) all within = omega arith
   few (x ∷ y ∷ ys) all within =
@@ -73,7 +73,7 @@ module _ {X : Type 0} (L : X → Pt → Type 0) (one : (x : X) (p q : Pt) → L 
       omega (arith, h)
 
 pub few-parts : (layer : List Rect) (a : Region) (parts : List (List Rect)) → AreRectsWithin farthest layer
-    → ((p : Pt) → a p → Covers layer p) → AreComponents a parts → length parts < 2 ^ 64
+    → ((p : Pt) → a p → Covers layer p) → AreComponents a parts → length parts ≤ 4000000000000000000
 few-parts layer a parts within inside are =
     few (λ part p. IsLeast (Covers part) p) (λ part p q x y. IsLeast-unique (Covers part) (Covers part) p q (SameSquares-refl (Covers part)) x y) parts
     (λ i j d l j_in. (let f = are.ordered i j d l j_in in (f.first, f.second, f.first_is, f.second_is, f.precedes)))
@@ -83,7 +83,7 @@ few-parts layer a parts within inside are =
 abbrev pub corner : Zone → Pt
 corner z = at z.rect.x0 z.rect.y0
 
-pub few-zones : (zones : List Zone) → AllPairs (λ (y z : Zone). Before y.rect z.rect) zones → ((z : Zone) → Contains zones z → Inside farthest (corner z)) → length zones < 2 ^ 64
+pub few-zones : (zones : List Zone) → AllPairs (λ (y z : Zone). Before y.rect z.rect) zones → ((z : Zone) → Contains zones z → Inside farthest (corner z)) → length zones ≤ 4000000000000000000
 few-zones zones ordered within =
     few (λ (z : Zone) (p : Pt). p ≡ corner z) (λ z p q x y. x ∙ sym y) zones
     (λ i j d l j_in. (corner (get_or zones i d), corner (get_or zones j d), refl, refl, ordered i j d l j_in))

@@ -1,6 +1,6 @@
 -- The certificate of a decomposition is in the grammar, and its masks lie within the range.
 use Rattle.std.proofs.Common.{◌≡◌, ℕ, suc, ◌/◌, ◌^◌, ◌<◌, ◌≤◌, inl, inr, Bool, List, [], ◌∷◌, length, map, get_or, refl, sym, ap, ◌∙◌, subst, arith}
-use Rattle.std.specs.Prelude.{None, pos, ◌-ℤ◌, ◌≤ℤ◌, ◌<ℤ◌}
+use Rattle.std.specs.Prelude.{Option, None, pos, ◌-ℤ◌, ◌≤ℤ◌, ◌<ℤ◌}
 use Rattle.std.specs.List.{AllByRecursion, AllZip, Contains, zip}
 use Rattle.std.proofs.lemmas.Int.{ints}
 use Rattle.std.proofs.lemmas.List.{get_or_default, length-map}
@@ -17,6 +17,8 @@ use Rattle.dpl_spec_split.specs.Pieces.{AreSides, without}
 use Rattle.dpl_spec_split.specs.Graphs.{IsOddCycle}
 use Rattle.dpl_spec_split.specs.Cycle.{IsReported}
 use Rattle.dpl_spec_split.specs.Decomposition.{Cut, IsCut, Masks, AreMasks, conflicts}
+use Rattle.dpl_spec_split.specs.Marks.{Marks, letters_by}
+use Rattle.dpl_law_verdict.proofs.Painted.{many-letters}
 use Rattle.dpl_stars.proofs.Forks.{reported-odd}
 use Rattle.dpl_law_split.proofs.Parts.{part-inside, zip-at, kept, zone-own, piece-rest}
 use Rattle.dpl_law_split.proofs.Cover.{as_many_sides, cover}
@@ -36,11 +38,11 @@ use Rattle.dpl_law_verdict.proofs.Clashing.{conflicts-undirected}
 
 -- ---- lists
 
-all-map : {A B : Type 0} (P : B → Type 0) (f : A → B) (xs : List A) → ((x : A) → (k : ℕ) → k < length xs → get_or xs k x ≡ x → P (f x)) → AllByRecursion P (map f xs)
+pub all-map : {A B : Type 0} (P : B → Type 0) (f : A → B) (xs : List A) → ((x : A) → (k : ℕ) → k < length xs → get_or xs k x ≡ x → P (f x)) → AllByRecursion P (map f xs)
 all-map P f [] each = tt
 all-map P f (x ∷ xs) each = (each x 0 (omega arith) refl, all-map P f xs (λ y k k_in is. each y (suc k) (omega (arith, k_in)) is))
 
-all-index : {A : Type 0} (P : A → Type 0) (xs : List A) → ((k : ℕ) (d : A) → k < length xs → P (get_or xs k d)) → AllByRecursion P xs
+pub all-index : {A : Type 0} (P : A → Type 0) (xs : List A) → ((k : ℕ) (d : A) → k < length xs → P (get_or xs k d)) → AllByRecursion P xs
 all-index P [] each = tt
 all-index P (x ∷ xs) each = (each 0 x (omega arith), all-index P xs (λ k d k_in. each (suc k) d (omega (arith, k_in))))
 
@@ -65,7 +67,7 @@ many-lines (c ∷ cs) (k ∷ ks) h = ap suc (many-lines cs ks (omega (arith, h))
 
 -- ---- zones
 
-point-of : (p : Pt) → Inside farthest p → IsPoint p
+pub point-of : (p : Pt) → Inside farthest p → IsPoint p
 point-of p (a, b, c, d) = record { x = (omega (arith, ints, a), omega (arith, ints, a)); y = (omega (arith, ints, b), omega (arith, ints, b)) }
 
 level-solid : (spacing : Spacing) (overlap : ℕ) (l f : Region) (z : Rect) → 1 ≤ overlap → IsHorizontalZone spacing overlap l f z → IsSolid z
@@ -101,17 +103,17 @@ rect-of r solid (a, b, c, d) (e, f, g, h) = record {
 
 -- ---- the lines of a cut
 
-module _ (spacing : Spacing) (overlap : ℕ) (layer : List Rect) (c : Cut) (ruled : IsRule spacing.rule) (cornered : IsCorner spacing) (lapped : IsRule overlap)
-    (within : AreRectsWithin farthest layer) (cut : IsCut None spacing overlap (Covers layer) c) where
-  piece-inside : (k : ℕ) (p : Pt) → part_at c.pieces k p → Inside farthest p
-  piece-inside k p has = covered-inside layer p within (piece-rest None spacing overlap (Covers layer) c cut k p has).0
+module _ (marks : Option Marks) (spacing : Spacing) (overlap : ℕ) (layer : List Rect) (c : Cut) (ruled : IsRule spacing.rule) (cornered : IsCorner spacing) (lapped : IsRule overlap)
+    (within : AreRectsWithin farthest layer) (cut : IsCut marks spacing overlap (Covers layer) c) where
+  pub piece-inside : (k : ℕ) (p : Pt) → part_at c.pieces k p → Inside farthest p
+  piece-inside k p has = covered-inside layer p within (piece-rest marks spacing overlap (Covers layer) c cut k p has).0
 
   zone-inside : (z : Zone) (p : Pt) → Contains c.zones z → Has z.rect p → Inside farthest p
   zone-inside z p z_in has = covered-inside layer p within (part-inside (Covers layer) c.features z.feature p cut.features
-      (zone-own None spacing overlap (Covers layer) c cut z p z_in has))
+      (zone-own marks spacing overlap (Covers layer) c cut z p z_in has))
 
   solid-zone : (z : Zone) → Contains c.zones z → IsSolid z.rect
-  solid-zone z z_in = zone-solid spacing overlap (Covers layer) (part_at c.features z.feature) z.rect lapped.0 (kept None spacing overlap (Covers layer) c cut z z_in).1
+  solid-zone z z_in = zone-solid spacing overlap (Covers layer) (part_at c.features z.feature) z.rect lapped.0 (kept marks spacing overlap (Covers layer) c cut z z_in).1
 
   first-inside : (z : Zone) → Contains c.zones z → Inside farthest (corner z)
   first-inside z z_in =
@@ -135,33 +137,39 @@ module _ (spacing : Spacing) (overlap : ℕ) (layer : List Rect) (c : Cut) (rule
             (arith, ints);
       }))
 
-  few-pieces : length c.pieces < 2 ^ 64
-  few-pieces = few-parts layer (without (Covers layer) c.zones) c.pieces within (λ p h. h.0) cut.pieces.components
+  pub bounded-pieces : length c.pieces ≤ 4000000000000000000
+  bounded-pieces = few-parts layer (without (Covers layer) c.zones) c.pieces within (λ p h. h.0) cut.pieces.components
 
-  head-fits : IsHead (head_of spacing overlap c)
+  few-pieces : length c.pieces < 2 ^ 64
+  few-pieces = (let few = bounded-pieces in omega (arith, few))
+
+  pub head-fits : IsHead (head_of spacing overlap c)
   head-fits = record {
     rule = ruled;
     overlap = lapped;
     corner = cornered;
-    features = few-parts layer (Covers layer) c.features within (λ p h. h) cut.features;
+    features = (let few = few-parts layer (Covers layer) c.features within (λ p h. h) cut.features in omega (arith, few));
     pieces = few-pieces;
-    zones = few-zones c.zones cut.zones.ordered first-inside;
+    zones = (let few = few-zones c.zones cut.zones.ordered first-inside in omega (arith, few));
   }
 
-  many-keys : length c.keys ≡ length c.pieces
+  pub many-keys : length c.keys ≡ length c.pieces
   many-keys = AllZip-long (λ piece key. IsLeast (Covers piece) key) c.pieces c.keys cut.pieces.keyed
 
   keys-fit : AllByRecursion IsPoint c.keys
   keys-fit = all-keys c.pieces c.keys cut.pieces.keyed (λ k p has. point-of p (piece-inside k p has))
 
   -- the lines of masks
-  module _ (m : Masks) (masks : AreMasks None spacing c m) where
-    many-colours : length masks.colours ≡ length c.pieces
-    many-colours = masks.coloured.each ∙ masks.rooted.lengths.0
+  module _ (m : Masks) (masks : AreMasks marks spacing c m) where
+    abbrev letters : List Bool
+    letters = letters_by marks masks.colours
+
+    many-colours : length letters ≡ length c.pieces
+    many-colours = many-letters marks (length c.pieces) masks.colours (masks.coloured.each ∙ masks.rooted.lengths.0)
 
     stitch-zone : (k : ℕ) → Contains m.stitches k → k < length c.zones
     stitch-zone k k_in = (let (side, k_side, side_is, both) = (masks.stitches.exactly k).0 k_in in
-        subst (λ n. k < n) (as_many_sides None spacing overlap (Covers layer) c cut masks.colours) k_side)
+        subst (λ n. k < n) (as_many_sides marks spacing overlap (Covers layer) c cut letters) k_side)
 
     stitch-fits : (k : ℕ) → Contains m.stitches k → IsStitch (stitch_line c.zones c.sides k)
     stitch-fits k k_in =
@@ -181,11 +189,11 @@ module _ (spacing : Spacing) (overlap : ℕ) (layer : List Rect) (c : Cut) (rule
         let few = head-fits.zones in
         omega (arith, most, few)
 
-    pub masks-cert : IsCert (MasksText (head_of spacing overlap c) (map piece_line (zip masks.colours c.keys)) (map (stitch_line c.zones c.sides) m.stitches) None)
+    pub masks-cert : IsCert (MasksText (head_of spacing overlap c) (map piece_line (zip letters c.keys)) (map (stitch_line c.zones c.sides) m.stitches) None)
     masks-cert = (
       head-fits,
-      many-lines masks.colours c.keys (many-colours ∙ sym many-keys) ∙ many-keys,
-      all-lines masks.colours c.keys keys-fit,
+      many-lines letters c.keys (many-colours ∙ sym many-keys) ∙ many-keys,
+      all-lines letters c.keys keys-fit,
       subst (λ n. n < 2 ^ 64) (sym (length-map m.stitches (stitch_line c.zones c.sides))) few-stitches,
       all-map IsStitch (stitch_line c.zones c.sides) m.stitches (λ k i i_in is. stitch-fits k (i, i_in, is)),
       tt,
@@ -193,8 +201,8 @@ module _ (spacing : Spacing) (overlap : ℕ) (layer : List Rect) (c : Cut) (rule
 
     pub masks-within : AreRectsWithin farthest m.a × AreRectsWithin farthest m.b
     masks-within = (
-      part-within layer m.a within masks.a.canonical (λ p h. (cover None spacing overlap (Covers layer) c m cut masks p).0 (inl h)),
-      part-within layer m.b within masks.b.canonical (λ p h. (cover None spacing overlap (Covers layer) c m cut masks p).0 (inr h)),
+      part-within layer m.a within masks.a.canonical (λ p h. (cover marks spacing overlap (Covers layer) c m cut masks p).0 (inl h)),
+      part-within layer m.b within masks.b.canonical (λ p h. (cover marks spacing overlap (Covers layer) c m cut masks p).0 (inr h)),
     )
 
   -- the lines of a cycle

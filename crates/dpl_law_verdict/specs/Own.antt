@@ -1,5 +1,5 @@
 -- The masks or the cycle of a layer's decomposition are valid.
-use Rattle.std.specs.Prelude.{None, ℕ, ◌+◌, ◌%◌, ◌<◌, Bool, pos, List, length, map, slice_index, slice_index_or}
+use Rattle.std.specs.Prelude.{Option, None, ℕ, ◌+◌, ◌%◌, ◌<◌, Bool, pos, List, length, map, slice_index, slice_index_or}
 use Rattle.std.specs.List.{zip}
 use Rattle.dpl_spec_split.specs.declared.Spacing.{Spacing}
 use Rattle.dpl_spec_split.specs.declared.Pt.{Pt}
@@ -9,7 +9,8 @@ use Rattle.dpl_spec_split.specs.Squares.{Covers}
 use Rattle.dpl_spec_split.specs.Zones.{at, part_at}
 use Rattle.dpl_spec_split.specs.Summary.{HasOddCycle}
 use Rattle.dpl_spec_split.specs.Cycle.{IsReported}
-use Rattle.dpl_spec_split.specs.Decomposition.{Cut, IsCut, Masks, AreMasks, conflicts}
+use Rattle.dpl_spec_split.specs.Decomposition.{Cut, IsCut, Masks, AreMasks, conflicts, cut_graph}
+use Rattle.dpl_spec_split.specs.Marks.{Marks, letters_by}
 use Rattle.dpl_nearest.specs.Nearest.{IsNearestPair}
 use Rattle.dpl_cert.specs.declared.cert.Head.{Head}
 use Rattle.dpl_cert.specs.declared.cert.PieceLine.{PieceLine}
@@ -55,8 +56,8 @@ ShowNearest spacing pieces cycle near = (k : ℕ) (d : NearLine) → k < length 
 
 -- without an odd cycle of conflicts nothing is wrong with the masks and the lines of their certificate
 abbrev pub OwnMasksAreValid : Type 0
-OwnMasksAreValid = (spacing : Spacing) (overlap : ℕ) (layer : List Rect) (c : Cut) (m : Masks) → IsCut None spacing overlap (Covers layer) c → (are : AreMasks None spacing c m) → ¬ HasOddCycle (conflicts spacing c)
-    → IsVerdictOfMasks None spacing overlap layer m.a m.b (MasksText (head_of spacing overlap c) (map piece_line (zip are.colours c.keys))
+OwnMasksAreValid = (marks : Option Marks) (spacing : Spacing) (overlap : ℕ) (layer : List Rect) (c : Cut) (m : Masks) → IsCut marks spacing overlap (Covers layer) c → (are : AreMasks marks spacing c m) → ¬ HasOddCycle (cut_graph marks spacing c)
+    → IsVerdictOfMasks marks spacing overlap layer m.a m.b (MasksText (head_of spacing overlap c) (map piece_line (zip (letters_by marks are.colours) c.keys))
     (map (stitch_line c.zones c.sides) m.stitches) None) Valid
 
 -- nothing is wrong with the reported cycle

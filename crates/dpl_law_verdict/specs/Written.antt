@@ -1,11 +1,12 @@
 -- What is written of a decomposition lies within the bounds of what can be read.
-use Rattle.std.specs.Prelude.{None, ◌≡◌, ◌≤◌, ℕ, List, length, map}
+use Rattle.std.specs.Prelude.{Option, None, ◌≡◌, ◌≤◌, ℕ, List, length, map}
 use Rattle.std.specs.List.{zip}
 use Rattle.dpl_spec_split.specs.declared.Spacing.{Spacing}
 use Rattle.dpl_spec_split.specs.declared.Rect.{Rect}
 use Rattle.dpl_spec_split.specs.Squares.{Covers}
 use Rattle.dpl_spec_split.specs.Slabs.{AreSlabsOf}
 use Rattle.dpl_spec_split.specs.Loops.{AreRectsWithin, farthest}
+use Rattle.dpl_spec_split.specs.Marks.{Marks, letters_by}
 use Rattle.dpl_spec_split.specs.Cycle.{IsReported}
 use Rattle.dpl_spec_split.specs.Decomposition.{Cut, IsCut, Masks, AreMasks, conflicts}
 use Rattle.dpl_spec_format.specs.Tree.{Library}
@@ -28,10 +29,10 @@ FaultlessLayersAreWithin = (lib : Library) (top : ℕ) (chosen : Layer) (layer :
 
 -- so do its masks, and the lines that tell of them are a certificate
 abbrev pub OwnMasksAreWritten : Type 0
-OwnMasksAreWritten = (spacing : Spacing) (overlap : ℕ) (layer : List Rect) (c : Cut) (m : Masks) → IsRule spacing.rule → IsCorner spacing → IsRule overlap
-    → AreRectsWithin farthest layer → IsCut None spacing overlap (Covers layer) c → (are : AreMasks None spacing c m)
+OwnMasksAreWritten = (marks : Option Marks) (spacing : Spacing) (overlap : ℕ) (layer : List Rect) (c : Cut) (m : Masks) → IsRule spacing.rule → IsCorner spacing → IsRule overlap
+    → AreRectsWithin farthest layer → IsCut marks spacing overlap (Covers layer) c → (are : AreMasks marks spacing c m)
     → AreRectsWithin farthest m.a × AreRectsWithin farthest m.b
-    × IsCert (MasksText (head_of spacing overlap c) (map piece_line (zip are.colours c.keys)) (map (stitch_line c.zones c.sides) m.stitches) None)
+    × IsCert (MasksText (head_of spacing overlap c) (map piece_line (zip (letters_by marks are.colours) c.keys)) (map (stitch_line c.zones c.sides) m.stitches) None)
 
 -- and so are the lines of the cycle that is reported of it
 abbrev pub OwnCyclesAreWritten : Type 0

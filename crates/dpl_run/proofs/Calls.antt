@@ -11,10 +11,10 @@ use Rattle.dpl_cert.specs.declared.cert.Cert.{Cert}
 use Rattle.dpl_cert.specs.Grammar.{IsText}
 use Rattle.dpl_spec_verdict.specs.Masks.{IsOfMasks}
 use Rattle.dpl_words.specs.Meaning.{AsksCheck, AsksDemo, AsksSplit, CheckValues, RequestValues}
-use Rattle.dpl_layer.specs.Reading.{IsLayout, Layer}
+use Rattle.dpl_layer.specs.Marked.{IsMarkedLayout, MarkedLayer}
 use Rattle.dpl_run.specs.Calls.{AreReadsFor, AreReadsOfCert, AreReadsOfCheck, HasLayerIn, HasMasksCert}
 use Rattle.dpl_run.specs.CallsMade.{AreReadsBehind}
-use Rattle.dpl_run.specs.Check.{check_choice}
+use Rattle.dpl_run.specs.Check.{check_marked}
 use Rattle.dpl_run.specs.Program.{IsSeen}
 
 abbrev Log : Type 0
@@ -55,21 +55,21 @@ pub layout_only : {told : Option Outside} {before now : Log} {v : CheckValues} �
 layout_only {told} {before} {now} {v} h = logged_weaker before now (AreReadsOf v.input) (AreReadsOfCheck v told)
     (λ calls reads. record { layout = calls; more = []; are = sym (append-nil calls); of_layout = reads; of_more = inl refl }) h
 
-has_layer : (told : Option Outside) (v : CheckValues) (bytes copied : List ℕ) (layer : List Rect) → IsSeen told v.input (Some bytes)
-    → IsLayout (check_choice v) bytes (Layer copied layer) → IfSome told (HasLayerIn v)
-has_layer None v bytes copied layer seen read = tt
-has_layer (Some o) v bytes copied layer seen read = (bytes, copied, layer, seen.0, inr (seen.1, read))
+has_layer : (told : Option Outside) (v : CheckValues) (bytes copied : List ℕ) (layer a b : List Rect) → IsSeen told v.input (Some bytes)
+    → IsMarkedLayout (check_marked v) bytes (MarkedLayer copied layer a b) → IfSome told (HasLayerIn v)
+has_layer None v bytes copied layer a b seen read = tt
+has_layer (Some o) v bytes copied layer a b seen read = (bytes, copied, layer, a, b, seen.0, inr (seen.1, read))
 
-pub layout_and_more : {told : Option Outside} {before mid now : Log} (v : CheckValues) (bytes copied : List ℕ) (layer : List Rect)
-    → IsSeen told v.input (Some bytes) → IsLayout (check_choice v) bytes (Layer copied layer)
+pub layout_and_more : {told : Option Outside} {before mid now : Log} (v : CheckValues) (bytes copied : List ℕ) (layer a b : List Rect)
+    → IsSeen told v.input (Some bytes) → IsMarkedLayout (check_marked v) bytes (MarkedLayer copied layer a b)
     → Logged before mid (AreReadsOf v.input) → Logged mid now (AreReadsOfCert v told) → Logged before now (AreReadsOfCheck v told)
-layout_and_more {told} {before} {mid} {now} v bytes copied layer seen read first second = logged_both before mid now (AreReadsOf v.input) (AreReadsOfCert v told)
+layout_and_more {told} {before} {mid} {now} v bytes copied layer a b seen read first second = logged_both before mid now (AreReadsOf v.input) (AreReadsOfCert v told)
     (AreReadsOfCheck v told) (λ xs ys reads more. record {
       layout = xs;
       more = ys;
       are = refl;
       of_layout = reads;
-      of_more = inr (more, has_layer told v bytes copied layer seen read);
+      of_more = inr (more, has_layer told v bytes copied layer a b seen read);
     }) first second
 
 -- no read at all, whatever was asked

@@ -9,7 +9,6 @@ use Rattle.std.specs.Str.{bytes_eq}
 use Rattle.std.proofs.lemmas.Slice.Eq.{bytes_eq-Decides}
 use Rattle.clap.specs.Walk.{Text}
 use Rattle.clap.proofs.WalkLemmas.{both}
-use Rattle.dpl_spec_split.specs.Squares.{uniform}
 use Rattle.dpl_host.specs.Outside.{Outside, file_of, with_file}
 use Rattle.dpl_host.proofs.Files.{exact_names, file_put}
 use Rattle.dpl_spec_split.specs.declared.Rect.{Rect}
@@ -25,10 +24,13 @@ use Rattle.dpl_spec_verdict.specs.Masks.{IsOfMasks, IsVerdictOfMasks}
 use Rattle.dpl_spec_verdict.specs.Conflicts.{IsOfConflict, IsVerdictOfConflict}
 use Rattle.dpl_words.specs.Meaning.{AsksCheck, CheckValues}
 use Rattle.dpl_words.specs.Ranges.{IsApart}
-use Rattle.dpl_run.specs.Check.{IsCheck, IsCheckOfCert, IsCheckOfMasks, check_choice, mask_choice, refusal_of, verdict_outcome, verdict_status}
+use Rattle.dpl_run.specs.Check.{IsCheck, IsCheckOfCert, IsCheckOfMasks, check_marked, check_spacing, mask_choice, refusal_of, verdict_outcome, verdict_status}
 use Rattle.dpl_run.specs.Outcome.{Outcome, is_answered, says}
 use Rattle.dpl_run.specs.Program.{IsMade, IsMadeOfCert, IsMadeOfLayer, IsSeen, IsTold}
 use Rattle.dpl_layer.specs.Reading.{Faulty, IsLayout, Layer, limit}
+use Rattle.dpl_layer.specs.Marked.{FaultyMarked, IsMarkedLayout, MarkedLayer}
+use Rattle.dpl_run.specs.Split.{marks_for}
+use Rattle.dpl_spec_split.specs.Marks.{Marks}
 use Rattle.dpl_run.specs.Texts.{bad_line_line}
 use Rattle.dpl_run.specs.declared.status.Status.TheVariants.{Refused}
 use Rattle.dpl_run.proofs.Inputs.{length-zeros, nothing, zeros}
@@ -165,12 +167,12 @@ layout_large told v x seen is =
       input_told = file.1;
       cert_told = cert.1;
       out_told = out.1;
-      is = (Faulty TooLarge limit, inl (file.2, refl), is);
+      is = (FaultyMarked TooLarge limit, inl (file.2, refl), is);
       answered = refusal_answered (codes "in") TooLarge limit x is;
     }
 
 pub layout_faulty : (told : Option Outside) (v : CheckValues) (bytes : List ℕ) (name : Name) (at : ℕ) (x : Outcome)
-    → IsSeen told v.input (Some bytes) → IsLayout (check_choice v) bytes (Faulty name at) → x ≡ refusal_of (codes "in") name at
+    → IsSeen told v.input (Some bytes) → IsMarkedLayout (check_marked v) bytes (FaultyMarked name at) → x ≡ refusal_of (codes "in") name at
     → IsMadeOfFiles told v x
 layout_faulty told v bytes name at x seen read is =
     let cert = some_file told v.certificate in
@@ -182,14 +184,14 @@ layout_faulty told v bytes name at x seen read is =
       input_told = seen.0;
       cert_told = cert.1;
       out_told = out.1;
-      is = (Faulty name at, inr (seen.1, read), is);
+      is = (FaultyMarked name at, inr (seen.1, read), is);
       answered = refusal_answered (codes "in") name at x is;
     }
 
-pub layout_read : (told : Option Outside) (v : CheckValues) (bytes copied : List ℕ) (layer : List Rect) (x : Outcome)
-    → IsSeen told v.input (Some bytes) → IsLayout (check_choice v) bytes (Layer copied layer) → IsMadeOfLayer told v layer x
+pub layout_read : (told : Option Outside) (v : CheckValues) (bytes copied : List ℕ) (layer a b : List Rect) (x : Outcome)
+    → IsSeen told v.input (Some bytes) → IsMarkedLayout (check_marked v) bytes (MarkedLayer copied layer a b) → IsMadeOfLayer told v (marks_for (check_marked v) a b) layer x
     → IsMadeOfFiles told v x
-layout_read told v bytes copied layer x seen read (cert, out, cert_told, out_told, is, answered) =
+layout_read told v bytes copied layer a b x seen read (cert, out, cert_told, out_told, is, answered) =
     record {
       layout = Some bytes;
       cert = cert;
@@ -197,86 +199,86 @@ layout_read told v bytes copied layer x seen read (cert, out, cert_told, out_tol
       input_told = seen.0;
       cert_told = cert_told;
       out_told = out_told;
-      is = (Layer copied layer, inr (seen.1, read), is);
+      is = (MarkedLayer copied layer a b, inr (seen.1, read), is);
       answered = answered;
     }
 
 -- ---- the certificate
 
-pub cert_large : (told : Option Outside) (v : CheckValues) (layer : List Rect) (x : Outcome) → IsSeen told v.certificate None
-    → x ≡ refusal_of (codes "cert") TooLarge limit → IsMadeOfLayer told v layer x
-cert_large told v layer x seen is =
+pub cert_large : (told : Option Outside) (v : CheckValues) (marks : Option Marks) (layer : List Rect) (x : Outcome) → IsSeen told v.certificate None
+    → x ≡ refusal_of (codes "cert") TooLarge limit → IsMadeOfLayer told v marks layer x
+cert_large told v marks layer x seen is =
     let file = large_file told v.certificate seen in
     let out = some_file told v.output in
     (Some file.0, out.0, file.1, out.1, inl (file.2, is), refusal_answered (codes "cert") TooLarge limit x is)
 
-pub cert_bad : (told : Option Outside) (v : CheckValues) (layer : List Rect) (text : List ℕ) (n : ℕ) (x : Outcome)
-    → IsSeen told v.certificate (Some text) → IsBadLine text n → x ≡ says Refused (bad_line_line n) → IsMadeOfLayer told v layer x
-cert_bad told v layer text n x seen bad is =
+pub cert_bad : (told : Option Outside) (v : CheckValues) (marks : Option Marks) (layer : List Rect) (text : List ℕ) (n : ℕ) (x : Outcome)
+    → IsSeen told v.certificate (Some text) → IsBadLine text n → x ≡ says Refused (bad_line_line n) → IsMadeOfLayer told v marks layer x
+cert_bad told v marks layer text n x seen bad is =
     let out = some_file told v.output in
     (Some text, out.0, seen.0, out.1, inr (seen.1, inr (n, bad, is)), ap (λ (y : Outcome). is_answered y.status) is)
 
-pub cert_read : (told : Option Outside) (v : CheckValues) (layer : List Rect) (text : List ℕ) (cert : Cert) (x : Outcome)
-    → IsSeen told v.certificate (Some text) → IsText cert text → IsMadeOfCert told v layer cert x → IsMadeOfLayer told v layer x
-cert_read told v layer text cert x seen read (out, out_told, is, answered) = (Some text, out, seen.0, out_told, inr (seen.1, inl (cert, read, is)), answered)
+pub cert_read : (told : Option Outside) (v : CheckValues) (marks : Option Marks) (layer : List Rect) (text : List ℕ) (cert : Cert) (x : Outcome)
+    → IsSeen told v.certificate (Some text) → IsText cert text → IsMadeOfCert told v marks layer cert x → IsMadeOfLayer told v marks layer x
+cert_read told v marks layer text cert x seen read (out, out_told, is, answered) = (Some text, out, seen.0, out_told, inr (seen.1, inl (cert, read, is)), answered)
 
 -- what is judged without OUT
-pub cycle_checked : (v : CheckValues) (layer : List Rect) (out : Option (List ℕ)) (cert : Cert) (w : Verdict) (x : Outcome)
-    → IsOfConflict cert → IsVerdictOfConflict None (uniform v.rule) v.overlap layer cert w → x ≡ verdict_outcome cert w
-    → IsCheckOfCert v layer out cert x
-cycle_checked v layer out (Masks h ps ss gs) w x of said is = absurd of
-cycle_checked v layer out (Conflict h cs ns) w x of said is = (w, said, is)
-cycle_checked v layer out (Fault name at) w x of said is = absurd of
+pub cycle_checked : (v : CheckValues) (marks : Option Marks) (layer : List Rect) (out : Option (List ℕ)) (cert : Cert) (w : Verdict) (x : Outcome)
+    → IsOfConflict cert → IsVerdictOfConflict marks (check_spacing v) v.overlap layer cert w → x ≡ verdict_outcome cert w
+    → IsCheckOfCert v marks layer out cert x
+cycle_checked v marks layer out (Masks h ps ss gs) w x of said is = absurd of
+cycle_checked v marks layer out (Conflict h cs ns) w x of said is = (w, said, is)
+cycle_checked v marks layer out (Fault name at) w x of said is = absurd of
 
-pub fault_checked : (v : CheckValues) (layer : List Rect) (out : Option (List ℕ)) (cert : Cert) (name : Name) (at : ℕ) (x : Outcome)
-    → cert ≡ Fault name at → x ≡ verdict_outcome cert (WasFault name at) → IsCheckOfCert v layer out cert x
-fault_checked v layer out cert name at x named is =
+pub fault_checked : (v : CheckValues) (marks : Option Marks) (layer : List Rect) (out : Option (List ℕ)) (cert : Cert) (name : Name) (at : ℕ) (x : Outcome)
+    → cert ≡ Fault name at → x ≡ verdict_outcome cert (WasFault name at) → IsCheckOfCert v marks layer out cert x
+fault_checked v marks layer out cert name at x named is =
     let here : x ≡ verdict_outcome (Fault name at) (WasFault name at) = is ∙ ap (λ (c : Cert). verdict_outcome c (WasFault name at)) named in
-    subst (λ (c : Cert). IsCheckOfCert v layer out c x) (sym named) here
+    subst (λ (c : Cert). IsCheckOfCert v marks layer out c x) (sym named) here
 
-pub alone_made : (told : Option Outside) (v : CheckValues) (layer : List Rect) (cert : Cert) (x : Outcome) → (IsOfMasks cert → ⊥)
-    → ((out : Option (List ℕ)) → IsCheckOfCert v layer out cert x) → IsMadeOfCert told v layer cert x
-alone_made told v layer (Masks h ps ss gs) x other checked = absurd (other tt)
-alone_made told v layer (Conflict h cs ns) x other checked =
+pub alone_made : (told : Option Outside) (v : CheckValues) (marks : Option Marks) (layer : List Rect) (cert : Cert) (x : Outcome) → (IsOfMasks cert → ⊥)
+    → ((out : Option (List ℕ)) → IsCheckOfCert v marks layer out cert x) → IsMadeOfCert told v marks layer cert x
+alone_made told v marks layer (Masks h ps ss gs) x other checked = absurd (other tt)
+alone_made told v marks layer (Conflict h cs ns) x other checked =
     let out = some_file told v.output in
     let (w, said, is) = checked out.0 in
     (out.0, out.1, (w, said, is), judged_answered (Conflict h cs ns) w x is)
-alone_made told v layer (Fault name at) x other checked =
+alone_made told v marks layer (Fault name at) x other checked =
     let out = some_file told v.output in
     (out.0, out.1, checked out.0, judged_answered (Fault name at) (WasFault name at) x (checked out.0))
 
 -- ---- the masks
 
-pub out_large : (told : Option Outside) (v : CheckValues) (layer : List Rect) (cert : Cert) (x : Outcome) → IsOfMasks cert
-    → IsSeen told v.output None → x ≡ refusal_of (codes "out") TooLarge limit → IsMadeOfCert told v layer cert x
-out_large told v layer (Masks h ps ss gs) x of seen is =
+pub out_large : (told : Option Outside) (v : CheckValues) (marks : Option Marks) (layer : List Rect) (cert : Cert) (x : Outcome) → IsOfMasks cert
+    → IsSeen told v.output None → x ≡ refusal_of (codes "out") TooLarge limit → IsMadeOfCert told v marks layer cert x
+out_large told v marks layer (Masks h ps ss gs) x of seen is =
     let file = large_file told v.output seen in
     (Some file.0, file.1, (Faulty TooLarge limit, inl (file.2, refl), is), refusal_answered (codes "out") TooLarge limit x is)
-out_large told v layer (Conflict h cs ns) x of seen is = absurd of
-out_large told v layer (Fault name at) x of seen is = absurd of
+out_large told v marks layer (Conflict h cs ns) x of seen is = absurd of
+out_large told v marks layer (Fault name at) x of seen is = absurd of
 
-masks_answered : (v : CheckValues) (layer : List Rect) (cert : Cert) (bytes : List ℕ) (x : Outcome) → IsCheckOfMasks v layer cert bytes x → is_answered x.status ≡ true
-masks_answered v layer cert bytes x (Faulty name at, read, is) = refusal_answered (codes "out") name at x is
-masks_answered v layer cert bytes x (Layer copied a, read, (Faulty name at, other, is)) = refusal_answered (codes "out") name at x is
-masks_answered v layer cert bytes x (Layer copied a, read, (Layer back b, other, (w, said, is))) = judged_answered cert w x is
+masks_answered : (v : CheckValues) (marks : Option Marks) (layer : List Rect) (cert : Cert) (bytes : List ℕ) (x : Outcome) → IsCheckOfMasks v marks layer cert bytes x → is_answered x.status ≡ true
+masks_answered v marks layer cert bytes x (Faulty name at, read, is) = refusal_answered (codes "out") name at x is
+masks_answered v marks layer cert bytes x (Layer copied a, read, (Faulty name at, other, is)) = refusal_answered (codes "out") name at x is
+masks_answered v marks layer cert bytes x (Layer copied a, read, (Layer back b, other, (w, said, is))) = judged_answered cert w x is
 
-pub out_read : (told : Option Outside) (v : CheckValues) (layer : List Rect) (cert : Cert) (bytes : List ℕ) (x : Outcome) → IsOfMasks cert
-    → IsSeen told v.output (Some bytes) → IsCheckOfMasks v layer cert bytes x → IsMadeOfCert told v layer cert x
-out_read told v layer (Masks h ps ss gs) bytes x of seen is = (Some bytes, seen.0, is, masks_answered v layer (Masks h ps ss gs) bytes x is)
-out_read told v layer (Conflict h cs ns) bytes x of seen is = absurd of
-out_read told v layer (Fault name at) bytes x of seen is = absurd of
+pub out_read : (told : Option Outside) (v : CheckValues) (marks : Option Marks) (layer : List Rect) (cert : Cert) (bytes : List ℕ) (x : Outcome) → IsOfMasks cert
+    → IsSeen told v.output (Some bytes) → IsCheckOfMasks v marks layer cert bytes x → IsMadeOfCert told v marks layer cert x
+out_read told v marks layer (Masks h ps ss gs) bytes x of seen is = (Some bytes, seen.0, is, masks_answered v marks layer (Masks h ps ss gs) bytes x is)
+out_read told v marks layer (Conflict h cs ns) bytes x of seen is = absurd of
+out_read told v marks layer (Fault name at) bytes x of seen is = absurd of
 
-pub first_faulty : (v : CheckValues) (layer : List Rect) (cert : Cert) (bytes : List ℕ) (name : Name) (at : ℕ) (x : Outcome)
+pub first_faulty : (v : CheckValues) (marks : Option Marks) (layer : List Rect) (cert : Cert) (bytes : List ℕ) (name : Name) (at : ℕ) (x : Outcome)
     → length bytes ≤ limit → IsLayout (mask_choice v.a) bytes (Faulty name at) → x ≡ refusal_of (codes "out") name at
-    → IsCheckOfMasks v layer cert bytes x
-first_faulty v layer cert bytes name at x small read is = (Faulty name at, inr (small, read), is)
+    → IsCheckOfMasks v marks layer cert bytes x
+first_faulty v marks layer cert bytes name at x small read is = (Faulty name at, inr (small, read), is)
 
-pub second_faulty : (v : CheckValues) (layer : List Rect) (cert : Cert) (bytes copied : List ℕ) (a : List Rect) (name : Name) (at : ℕ)
+pub second_faulty : (v : CheckValues) (marks : Option Marks) (layer : List Rect) (cert : Cert) (bytes copied : List ℕ) (a : List Rect) (name : Name) (at : ℕ)
     (x : Outcome) → length bytes ≤ limit → IsLayout (mask_choice v.a) bytes (Layer copied a)
-    → IsLayout (mask_choice v.b) bytes (Faulty name at) → x ≡ refusal_of (codes "out") name at → IsCheckOfMasks v layer cert bytes x
-second_faulty v layer cert bytes copied a name at x small read other is = (Layer copied a, inr (small, read), (Faulty name at, inr (small, other), is))
+    → IsLayout (mask_choice v.b) bytes (Faulty name at) → x ≡ refusal_of (codes "out") name at → IsCheckOfMasks v marks layer cert bytes x
+second_faulty v marks layer cert bytes copied a name at x small read other is = (Layer copied a, inr (small, read), (Faulty name at, inr (small, other), is))
 
-pub masks_judged : (v : CheckValues) (layer : List Rect) (cert : Cert) (bytes copied back : List ℕ) (a b : List Rect) (w : Verdict)
+pub masks_judged : (v : CheckValues) (marks : Option Marks) (layer : List Rect) (cert : Cert) (bytes copied back : List ℕ) (a b : List Rect) (w : Verdict)
     (x : Outcome) → length bytes ≤ limit → IsLayout (mask_choice v.a) bytes (Layer copied a)
-    → IsLayout (mask_choice v.b) bytes (Layer back b) → IsVerdictOfMasks None (uniform v.rule) v.overlap layer a b cert w → x ≡ verdict_outcome cert w → IsCheckOfMasks v layer cert bytes x
-masks_judged v layer cert bytes copied back a b w x small read other said is = (Layer copied a, inr (small, read), (Layer back b, inr (small, other), (w, said, is)))
+    → IsLayout (mask_choice v.b) bytes (Layer back b) → IsVerdictOfMasks marks (check_spacing v) v.overlap layer a b cert w → x ≡ verdict_outcome cert w → IsCheckOfMasks v marks layer cert bytes x
+masks_judged v marks layer cert bytes copied back a b w x small read other said is = (Layer copied a, inr (small, read), (Layer back b, inr (small, other), (w, said, is)))

@@ -3,17 +3,18 @@ use Rattle.std.proofs.Common.{◌≡◌, ◌∙◌, ◌<◌, ◌≤◌, ap, sym,
 use Rattle.std.specs.Prelude.{IfSome}
 use Rattle.std.specs.FinMap as map
 use Rattle.dpl_spec_split.specs.Squares.{uniform}
+use Rattle.dpl_spec_split.specs.declared.Spacing.{Spacing}
 use Rattle.dpl_host.specs.Outside.{Outside, file_of, with_file}
 use Rattle.dpl_host.proofs.Files.{file_put}
 use Rattle.dpl_words.specs.Meaning.{AsksDemo, AsksSplit, DemoValues, SplitValues}
 use Rattle.clap.specs.Walk.{Text}
 use Rattle.dpl_run.specs.Outcome.{Outcome, Shows, is_answered, says}
 use Rattle.dpl_run.specs.Program.{IsInput, IsMade}
-use Rattle.dpl_run.specs.Split.{Decision, IsDecision, IsSplit, IsSplitOf, Refuses, Decides, plan_of, refusal}
-use Rattle.dpl_run.specs.Demo.{IsDemo, demo_choice, demo_plan}
+use Rattle.dpl_run.specs.Split.{Decision, IsDecision, IsSplit, IsSplitOf, Refuses, Decides, marks_for, plan_of, refusal}
+use Rattle.dpl_run.specs.Demo.{IsDemo, demo_marked, demo_plan}
 use Rattle.dpl_demo.specs.Demo.{demo_file}
 use Rattle.dpl_answer.specs.Flat.{Flat, IsFlat, Paints, Clashes}
-use Rattle.dpl_layer.specs.Reading.{Choice, Faulty, IsLayout, Layer}
+use Rattle.dpl_layer.specs.Marked.{FaultyMarked, IsMarkedLayout, MarkedChoice, MarkedLayer}
 use Rattle.dpl_spec_split.specs.declared.Rect.{Rect}
 use Rattle.dpl_cert.specs.declared.name.Name.{Name}
 use Rattle.dpl_run.specs.Texts.{usage_line}
@@ -69,14 +70,14 @@ split_refused told v x h is =
     (h.0, h.1, of_file v _ file x there (Refuses TooLarge 268435456, inl (large, refl), is), ap (λ (y : Outcome). is_answered y.status) is)
 
 -- the layout has a fault
-pub faulty : (choice : Choice) (rule overlap : ℕ) (bytes : List ℕ) (name : Name) (at : ℕ) → length bytes ≤ 268435456
-    → IsLayout choice bytes (Faulty name at) → IsDecision choice rule overlap bytes (Refuses name at)
-faulty choice rule overlap bytes name at small read = inr (small, read)
+pub faulty : (choice : MarkedChoice) (spacing : Spacing) (overlap : ℕ) (bytes : List ℕ) (name : Name) (at : ℕ) → length bytes ≤ 268435456
+    → IsMarkedLayout choice bytes (FaultyMarked name at) → IsDecision choice spacing overlap bytes (Refuses name at)
+faulty choice spacing overlap bytes name at small read = inr (small, read)
 
 -- the layer was decomposed
-pub answered : (choice : Choice) (rule overlap : ℕ) (bytes copied : List ℕ) (layer : List Rect) (flat : Flat) → length bytes ≤ 268435456
-    → IsLayout choice bytes (Layer copied layer) → IsFlat (uniform rule) overlap layer flat → IsDecision choice rule overlap bytes (Decides copied flat)
-answered choice rule overlap bytes copied layer flat small read decomposed = (layer, inr (small, read), decomposed)
+pub answered : (choice : MarkedChoice) (spacing : Spacing) (overlap : ℕ) (bytes copied : List ℕ) (layer a b : List Rect) (flat : Flat) → length bytes ≤ 268435456
+    → IsMarkedLayout choice bytes (MarkedLayer copied layer a b) → IsFlat (marks_for choice a b) spacing overlap layer flat → IsDecision choice spacing overlap bytes (Decides copied flat)
+answered choice spacing overlap bytes copied layer a b flat small read decomposed = (layer, a, b, inr (small, read), decomposed)
 
 -- an outside that shows
 shown : (told : Option Outside) → (o : Outside) × Shows told o
@@ -98,5 +99,5 @@ demo_made told v x is = let s = shown told in (s.0, s.1, is, ap (λ (y : Outcome
 
 -- the made-up file was decided
 pub demo_decided : (v : DemoValues) (bytes : List ℕ) (d : Decision) (x : Outcome) → bytes ≡ demo_file v.seed v.rows
-    → IsDecision demo_choice 30 10 bytes d → x ≡ demo_plan d → IsDemo v x
-demo_decided v bytes d x made decision is = (d, subst (λ (bs : List ℕ). IsDecision demo_choice 30 10 bs d) made decision, is)
+    → IsDecision demo_marked (uniform 30) 10 bytes d → x ≡ demo_plan d → IsDemo v x
+demo_decided v bytes d x made decision is = (d, subst (λ (bs : List ℕ). IsDecision demo_marked (uniform 30) 10 bs d) made decision, is)

@@ -8,15 +8,15 @@ use Rattle.dpl_cert.specs.declared.cert.Cert.{Cert}
 use Rattle.dpl_cert.specs.Grammar.{IsText}
 use Rattle.dpl_spec_verdict.specs.Masks.{IsOfMasks}
 use Rattle.dpl_words.specs.Meaning.{AsksCheck, AsksDemo, AsksSplit, CheckValues, RequestValues, request_of}
-use Rattle.dpl_layer.specs.Reading.{IsReading, Layer}
-use Rattle.dpl_run.specs.Check.{check_choice}
+use Rattle.dpl_layer.specs.Marked.{IsMarkedReading, MarkedLayer}
+use Rattle.dpl_run.specs.Check.{check_marked}
 use Rattle.dpl_run.specs.Outcome.{is_answered}
 use Rattle.dpl_run.specs.declared.status.Status.{Status}
 use Rattle.dpl_run.specs.declared.status.Status.TheVariants.{Done, ReadFault, WriteFault, NoMemory}
 
--- IN is read as a file with the layer, and CERT as a certificate of masks
+-- IN is read as a file with the layer and its markers, and CERT as a certificate of masks
 abbrev pub HasLayerIn : CheckValues → Outside → Type 0
-HasLayerIn v o = (bytes copied : List ℕ) × (layer : List Rect) × (file_of o v.input ≡ Some bytes) × IsReading (check_choice v) bytes (Layer copied layer)
+HasLayerIn v o = (bytes copied : List ℕ) × (layer a b : List Rect) × (file_of o v.input ≡ Some bytes) × IsMarkedReading (check_marked v) bytes (MarkedLayer copied layer a b)
 
 abbrev pub HasMasksCert : CheckValues → Outside → Type 0
 HasMasksCert v o = (text : List ℕ) × (cert : Cert) × (file_of o v.certificate ≡ Some text) × IsText cert text × IsOfMasks cert

@@ -1,8 +1,10 @@
 -- What `demo` does: as `split` does with a made-up file, but nothing is written.
 use Rattle.std.specs.Prelude.{◌≡◌, None, length}
+use Rattle.dpl_spec_split.specs.Squares.{uniform}
 use Rattle.dpl_demo.specs.Demo.{demo_file}
 use Rattle.dpl_words.specs.Meaning.{DemoValues}
 use Rattle.dpl_layer.specs.Reading.{Choice}
+use Rattle.dpl_layer.specs.Marked.{MarkedChoice}
 use Rattle.dpl_answer.specs.Flat.{Clashes, Paints}
 use Rattle.dpl_run.specs.Outcome.{Outcome, says}
 use Rattle.dpl_run.specs.Split.{Decides, Decision, IsDecision, Refuses}
@@ -18,6 +20,10 @@ demo_plan (Refuses name at) = says Refused (refused_line name at)
 demo_plan (Decides copied (Paints p)) = says Done (demo_line p.head (length p.stitches) (length p.a) (length p.b))
 demo_plan (Decides copied (Clashes x)) = says Conflict (conflict_line (length x.cycle))
 
--- The made-up file is decided by the rule of 30 and the overlap of 10. The numbers of tiles and workers occur nowhere.
+-- without markers
+abbrev pub demo_marked : MarkedChoice
+demo_marked = record { layer = demo_choice; mark_a = None; mark_b = None }
+
+-- The made-up file is decided by the rule of 30, which is the corner rule too, and the overlap of 10. The numbers of tiles and workers occur nowhere.
 abbrev pub IsDemo : DemoValues → Outcome → Type 0
-IsDemo v x = (d : Decision) × IsDecision demo_choice 30 10 (demo_file v.seed v.rows) d × (x ≡ demo_plan d)
+IsDemo v x = (d : Decision) × IsDecision demo_marked (uniform 30) 10 (demo_file v.seed v.rows) d × (x ≡ demo_plan d)

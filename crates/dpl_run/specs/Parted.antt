@@ -5,7 +5,7 @@ use Rattle.clap.specs.Walk.{Text}
 use Rattle.dpl_spec_split.specs.declared.Spacing.{Spacing}
 use Rattle.dpl_host.specs.Outside.{Outside}
 use Rattle.dpl_spec_split.specs.declared.Rect.{Rect}
-use Rattle.dpl_spec_split.specs.Squares.{Covers, uniform}
+use Rattle.dpl_spec_split.specs.Squares.{Covers}
 use Rattle.dpl_spec_split.specs.Slabs.{AreSlabsOf}
 use Rattle.dpl_spec_split.specs.Components.{AreComponents}
 use Rattle.dpl_spec_format.specs.Tree.{Library}
@@ -21,7 +21,9 @@ use Rattle.dpl_cert.specs.declared.cert.StitchLine.{StitchLine}
 use Rattle.dpl_masks.specs.Bytes.{file_bytes}
 use Rattle.dpl_words.specs.Meaning.{AsksCheck, AsksDemo, AsksSplit, RequestValues, SplitValues, request_of}
 use Rattle.dpl_layer.specs.Reading.{chosen, copied_of}
-use Rattle.dpl_run.specs.Split.{certified, split_choice}
+use Rattle.dpl_layer.specs.Marked.{AreFaultless, AreMarked}
+use Rattle.dpl_law_verdict.specs.Valid.{KeepMarks}
+use Rattle.dpl_run.specs.Split.{certified, marks_for, split_choice, split_marked, split_spacing}
 use Rattle.dpl_run.specs.Outcome.{Outcome, Shows, carried_out}
 use Rattle.dpl_run.specs.Checked.{IsRight}
 
@@ -47,13 +49,22 @@ pub record WritesParting (v : SplitValues) (bytes : List ℕ) (writes : List (Te
   pub faultless : IsFaultless lib top (chosen (split_choice v))
   pub layer : List Rect
   pub squares : AreSlabsOf (IsInLayer lib top (chosen (split_choice v))) layer
+  -- which of its squares markers fix to a mask
+  pub marked_a : List Rect
+  pub marked_b : List Rect
+  pub faultless_a : AreFaultless lib top v.mark_a
+  pub faultless_b : AreFaultless lib top v.mark_b
+  pub on_a : AreMarked lib top v.mark_a layer marked_a
+  pub on_b : AreMarked lib top v.mark_b layer marked_b
   -- its masks, and the lines of their certificate
   pub a : List Rect
   pub b : List Rect
   pub head : Head
   pub pieces : List PieceLine
   pub stitches : List StitchLine
-  pub parting : ArePartingMasks (uniform v.rule) layer (rects_of_lines stitches) a b
+  pub parting : ArePartingMasks (split_spacing v) layer (rects_of_lines stitches) a b
+  -- each marked square of the layer is on its mask alone
+  pub kept : KeepMarks (marks_for (split_marked v) marked_a marked_b) layer a b
   -- the bytes written
   pub copied : List ℕ
   pub before : copied_of lib top ≡ Some copied

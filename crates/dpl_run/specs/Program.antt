@@ -4,6 +4,7 @@ use Rattle.clap.specs.Walk.{Text}
 use Rattle.dpl_host.specs.Outside.{Files, Outside, file_of}
 use Rattle.std.specs.FinMap as map
 use Rattle.dpl_spec_split.specs.declared.Rect.{Rect}
+use Rattle.dpl_spec_split.specs.Marks.{Marks}
 use Rattle.dpl_cert.specs.declared.cert.Cert.{Cert}
 use Rattle.dpl_words.specs.Meaning.{AsksCheck, AsksDemo, AsksSplit, CheckValues, RequestValues, request_of}
 use Rattle.dpl_run.specs.Outcome.{IsPartDone, Outcome, Shows, carried_out, is_answered, says}
@@ -49,10 +50,10 @@ abbrev pub IsTold : Option Outside → Text → Option (List ℕ) → Type 0
 IsTold told name file = IfSome told (λ o. file_of o name ≡ file)
 
 -- what was made of the file of masks, if the certificate has one
-abbrev pub IsMadeOfCert : Option Outside → CheckValues → List Rect → Cert → Outcome → Type 0
-IsMadeOfCert told v layer cert x = (out : Option (List ℕ)) × IsTold told v.output out × IsCheckOfCert v layer out cert x × (is_answered x.status ≡ true)
+abbrev pub IsMadeOfCert : Option Outside → CheckValues → Option Marks → List Rect → Cert → Outcome → Type 0
+IsMadeOfCert told v marks layer cert x = (out : Option (List ℕ)) × IsTold told v.output out × IsCheckOfCert v marks layer out cert x × (is_answered x.status ≡ true)
 
 -- what was made of the certificate's file
-abbrev pub IsMadeOfLayer : Option Outside → CheckValues → List Rect → Outcome → Type 0
-IsMadeOfLayer told v layer x = (cert out : Option (List ℕ)) × IsTold told v.certificate cert × IsTold told v.output out
-    × WithFile cert (IsCheckOfFile v layer out) x × (is_answered x.status ≡ true)
+abbrev pub IsMadeOfLayer : Option Outside → CheckValues → Option Marks → List Rect → Outcome → Type 0
+IsMadeOfLayer told v marks layer x = (cert out : Option (List ℕ)) × IsTold told v.certificate cert × IsTold told v.output out
+    × WithFile cert (IsCheckOfFile v marks layer out) x × (is_answered x.status ≡ true)

@@ -1,6 +1,6 @@
 -- What `split` does with a file.
-use Rattle.std.specs.Prelude.{◌≡◌, ℕ, List, [], ◌∷◌, Option, Some, None, length}
-use Rattle.dpl_spec_split.specs.Squares.{uniform}
+use Rattle.std.specs.Prelude.{◌≡◌, ◌||◌, ℕ, Bool, is_some, List, [], ◌∷◌, Option, Some, None, length}
+use Rattle.dpl_spec_split.specs.declared.Spacing.{Spacing}
 use Rattle.dpl_spec_split.specs.declared.Rect.{Rect}
 use Rattle.dpl_cert.specs.declared.name.Name.{Name}
 use Rattle.dpl_cert.specs.declared.cert.Cert.{Cert}
@@ -9,7 +9,9 @@ use Rattle.dpl_cert.specs.Lines.{text}
 use Rattle.dpl_cert.specs.Grammar.{lines_of}
 use Rattle.dpl_masks.specs.Bytes.{file_bytes}
 use Rattle.dpl_words.specs.Meaning.{SplitValues}
-use Rattle.dpl_layer.specs.Reading.{Choice, Faulty, IsReading, Layer}
+use Rattle.dpl_layer.specs.Reading.{Choice}
+use Rattle.dpl_layer.specs.Marked.{FaultyMarked, IsMarkedReading, MarkedChoice, MarkedLayer}
+use Rattle.dpl_spec_split.specs.Marks.{Marks, asked}
 use Rattle.dpl_answer.specs.Flat.{Clash, Flat, Clashes, IsFlat, Painted, Paints}
 use Rattle.dpl_run.specs.Outcome.{Outcome, silent}
 use Rattle.dpl_run.specs.Texts.{conflict_line, done_line, refused_line}
@@ -24,10 +26,26 @@ pub data Decision : Type 0 where
 abbrev pub split_choice : SplitValues → Choice
 split_choice v = record { top = v.top; layer = v.layer; datatype = v.datatype }
 
--- The first fault of the file, or the decomposition of its layer. The numbers of tiles and workers occur nowhere.
-abbrev pub IsDecision : Choice → ℕ → ℕ → List ℕ → Decision → Type 0
-IsDecision choice rule overlap bytes (Refuses name at) = IsReading choice bytes (Faulty name at)
-IsDecision choice rule overlap bytes (Decides copied flat) = (layer : List Rect) × IsReading choice bytes (Layer copied layer) × IsFlat (uniform rule) overlap layer flat
+-- and its markers
+abbrev pub split_marked : SplitValues → MarkedChoice
+split_marked v = record { layer = split_choice v; mark_a = v.mark_a; mark_b = v.mark_b }
+
+-- Marks are asked for where a layer of markers is named.
+abbrev pub are_asked : MarkedChoice → Bool
+are_asked choice = is_some choice.mark_a || is_some choice.mark_b
+
+abbrev pub marks_for : MarkedChoice → List Rect → List Rect → Option Marks
+marks_for choice a b = asked (are_asked choice) a b
+
+-- how far apart it keeps features on one mask
+abbrev pub split_spacing : SplitValues → Spacing
+split_spacing v = record { rule = v.rule; corner = v.corner }
+
+-- The first fault of the file, or the decomposition of its layer and its marks. The numbers of tiles and workers occur nowhere.
+abbrev pub IsDecision : MarkedChoice → Spacing → ℕ → List ℕ → Decision → Type 0
+IsDecision choice spacing overlap bytes (Refuses name at) = IsMarkedReading choice bytes (FaultyMarked name at)
+IsDecision choice spacing overlap bytes (Decides copied flat) =
+    (layer a b : List Rect) × IsMarkedReading choice bytes (MarkedLayer copied layer a b) × IsFlat (marks_for choice a b) spacing overlap layer flat
 
 abbrev pub certified : Cert → List ℕ
 certified c = text (lines_of c)
@@ -55,7 +73,7 @@ plan_of v (Decides copied (Clashes x)) = clash v x
 
 -- what is done with the bytes of the file
 abbrev pub IsSplit : SplitValues → List ℕ → Outcome → Type 0
-IsSplit v bytes x = (d : Decision) × IsDecision (split_choice v) v.rule v.overlap bytes d × (x ≡ plan_of v d)
+IsSplit v bytes x = (d : Decision) × IsDecision (split_marked v) (split_spacing v) v.overlap bytes d × (x ≡ plan_of v d)
 
 -- what is done with the file, if it is there
 abbrev pub IsSplitOf : SplitValues → Option (List ℕ) → Outcome → Type 0

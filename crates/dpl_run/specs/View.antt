@@ -1,10 +1,14 @@
 -- What the program has made, in the words of the definitions.
-use Rattle.std.specs.Prelude.{ℕ, List, codes, map, string_bytes}
+use Rattle.std.specs.Prelude.{ℕ, List, Option, codes, map, string_bytes}
 use Rattle.clap.specs.Walk.{Text}
 use Rattle.dpl_answer.specs.Flat.{Fits}
 use Rattle.dpl_answer.specs.View.{flat_view}
 use Rattle.dpl_run.specs.Outcome.{Outcome}
-use Rattle.dpl_run.specs.Split.{Decides, Decision as DecisionOf, Refuses}
+use Rattle.dpl_run.specs.Split.{Decides, Decision as DecisionOf, Refuses, marks_for}
+use Rattle.dpl_run.specs.Check.{check_marked}
+use Rattle.dpl_words.specs.Meaning.{CheckValues}
+use Rattle.dpl_layer.specs.declared.marked.MarkedLayer.{MarkedLayer}
+use Rattle.dpl_spec_split.specs.Marks.{Marks}
 use Rattle.dpl_run.specs.declared.output.Output.{Output}
 use Rattle.dpl_run.specs.declared.output.Write.{Write}
 use Rattle.dpl_run.specs.declared.pipeline.Decision.{Decision}
@@ -26,6 +30,10 @@ decision_view (Answered copied answer) = Decides copied.items (flat_view answer)
 abbrev pub FitsDecision : Decision → Type 0
 FitsDecision (Refused name at) = Unit {0}
 FitsDecision (Answered copied answer) = Fits (flat_view answer)
+
+-- the marks of a layer that is checked
+abbrev pub marks_with : CheckValues → MarkedLayer → Option Marks
+marks_with v layer = marks_for (check_marked v) layer.mark_a layer.mark_b
 
 -- how the lines name a file of `check`
 abbrev pub file_word : CheckedFile → List ℕ

@@ -1,5 +1,6 @@
 //! What `check` makes of three files.
 ghost use Rattle.std.specs.Prelude.{◌≡◌, ◌≤◌, ℕ, IfOk, IsErrOf, List, MatchBool, Option, Some, length};
+ghost use Rattle.dpl_spec_split.specs.Marks.{AreMarks};
 ghost use Rattle.dpl_host.specs.Calls.{AreReadsOf, Logged};
 ghost use Rattle.dpl_host.specs.Whole.{HasReadCause};
 ghost use Rattle.dpl_words.specs.Meaning.{AsksCheck, check_view};
@@ -8,17 +9,18 @@ ghost use Rattle.dpl_cert.specs.Grammar.{IsCert};
 ghost use Rattle.dpl_spec_verdict.specs.Masks.{IsOfMasks};
 ghost use Rattle.dpl_run.specs.Calls.{AreReadsOfCert, AreReadsOfCheck};
 ghost use Rattle.dpl_run.specs.CallsMade.{AreReadsBehind};
-ghost use Rattle.dpl_run.specs.Check.{IsCheckOfCert, IsCheckOfMasks, mask_choice as mask_choice_of, refusal_of, verdict_outcome, verdict_status};
+ghost use Rattle.dpl_run.specs.Check.{IsCheckOfCert, IsCheckOfMasks, check_marked, check_spacing, mask_choice as mask_choice_of, refusal_of, verdict_outcome, verdict_status};
 ghost use Rattle.dpl_run.specs.Program.{IsMade, IsMadeOfCert, IsMadeOfLayer};
 ghost use Rattle.dpl_layer.specs.Reading.{limit};
 ghost use Rattle.dpl_run.specs.Outcome.{says};
 ghost use Rattle.dpl_run.specs.Texts.{bad_line_line as bad_line_line_of};
-ghost use Rattle.dpl_layer.specs.View.{choice_view};
-ghost use Rattle.dpl_run.specs.View.{file_word, output_view};
+ghost use Rattle.dpl_layer.specs.View.{choice_view, marked_choice_view};
+ghost use Rattle.dpl_run.specs.View.{file_word, marks_with, output_view};
 ghost use Rattle.dpl_cert.specs.declared.name.Name.TheVariants.{TooLarge};
 ghost use Rattle.dpl_run.specs.declared.status.Status.TheVariants.{Refused};
 
 use crate::input::read_input;
+use crate::marks::has_markers;
 use crate::output::{Output, said};
 use crate::status::Status;
 use crate::texts::{CheckedFile, bad_line_line, refused_file_line, verdict_line};
@@ -26,9 +28,10 @@ use dpl_base::Spacing;
 use dpl_cert::{Cert, Name};
 use dpl_check::{Verdict, check_conflict, check_masks};
 use dpl_host::{Host, MAX_BYTES, ReadFault};
-use dpl_layer::{LayerChoice, LayerFault, layer_of, layer_within};
+use dpl_layer::{
+    LayerChoice, LayerFault, MarkedChoice, MarkedLayer, layer_of, layer_within, marked_layer_of,
+};
 use dpl_parse::{CertFault, read_cert};
-use dpl_slabs::Slabs;
 use dpl_words::CheckOptions;
 use std::alloc::{AllocError, Global};
 
@@ -51,13 +54,8 @@ pub(crate) fn check_output<'a, H: Host>(
     let Some(bytes) = read_input(alloc, host, options.input)? else {
         return Ok(too_large(alloc, CheckedFile::Layout)?);
     };
-    let choice = LayerChoice {
-        top: options.top,
-        layer: options.layer,
-        datatype: options.datatype,
-    };
-    match layer_of(alloc, &choice, bytes) {
-        Ok(layer) => check_layer(alloc, options, &layer.slabs, host),
+    match marked_layer_of(alloc, &choice_of(options), bytes) {
+        Ok(layer) => check_layer(alloc, options, &layer, host),
         Err(LayerFault::Refused { name, at }) => Ok(refused(alloc, CheckedFile::Layout, name, at)?),
         Err(LayerFault::NoMemory) => Err(ReadFault::NoMemory),
     }
@@ -68,11 +66,12 @@ pub(crate) fn check_output<'a, H: Host>(
 fn check_layer<'a, H: Host>(
     alloc: Global,
     options: &CheckOptions<'_>,
-    layer: &Slabs,
+    layer: &MarkedLayer,
     host: &mut H,
 ) -> Result<Output<'a>, ReadFault>
     requires ranges { AreInRangeForCheck (check_view options.now) }
-    ensures made { IfOk result (λ x. IsMadeOfLayer (H.told host.old) (check_view options.now) layer.now (output_view x)) }
+    requires marks { AreMarks layer.now.mark_a layer.now.mark_b (marks_with (check_view options.now) layer.now) }
+    ensures made { IfOk result (λ x. IsMadeOfLayer (H.told host.old) (check_view options.now) (marks_with (check_view options.now) layer.now) layer.now.slabs (output_view x)) }
     ensures cause { HasReadCause (H.read_faults host.old) (H.read_faults host.new) result }
     ensures not_large { IsErrOf result ReadFault.TooLarge → ⊥ }
     ensures same { H.told host.new ≡ H.told host.old }
@@ -96,13 +95,14 @@ fn check_layer<'a, H: Host>(
 fn check_cert<'a, H: Host>(
     alloc: Global,
     options: &CheckOptions<'_>,
-    layer: &Slabs,
+    layer: &MarkedLayer,
     cert: &Cert,
     host: &mut H,
 ) -> Result<Output<'a>, ReadFault>
     requires ranges { AreInRangeForCheck (check_view options.now) }
+    requires marks { AreMarks layer.now.mark_a layer.now.mark_b (marks_with (check_view options.now) layer.now) }
     requires cert { IsCert cert.now }
-    ensures made { IfOk result (λ x. IsMadeOfCert (H.told host.old) (check_view options.now) layer.now cert.now (output_view x)) }
+    ensures made { IfOk result (λ x. IsMadeOfCert (H.told host.old) (check_view options.now) (marks_with (check_view options.now) layer.now) layer.now.slabs cert.now (output_view x)) }
     ensures cause { HasReadCause (H.read_faults host.old) (H.read_faults host.new) result }
     ensures not_large { IsErrOf result ReadFault.TooLarge → ⊥ }
     ensures same { H.told host.new ≡ H.told host.old }
@@ -130,29 +130,28 @@ fn needs_masks(cert: &Cert) -> bool
 fn check_alone<'a>(
     alloc: Global,
     options: &CheckOptions<'_>,
-    layer: &Slabs,
+    layer: &MarkedLayer,
     cert: &Cert,
 ) -> Result<Output<'a>, AllocError>
     requires ranges { AreInRangeForCheck (check_view options.now) }
     requires cert { IsCert cert.now }
     requires kind { IsOfMasks cert.now → ⊥ }
     // Whatever OUT may be.
-    ensures { IfOk result (λ x. (out : Option (List ℕ)) → IsCheckOfCert (check_view options.now) layer.now out cert.now (output_view x)) }
+    ensures { IfOk result (λ x. (out : Option (List ℕ)) → IsCheckOfCert (check_view options.now) (marks_with (check_view options.now) layer.now) layer.now.slabs out cert.now (output_view x)) }
 {
     match cert {
         Cert::Masks { .. } => unreachable!(),
         Cert::Conflict { .. } => {
-            let spacing = Spacing::uniform(options.rule);
-            let no_marks = Slabs::empty(alloc);
+            let spacing = spacing_of(options);
             let verdict = check_conflict(
                 alloc,
-                layer,
+                &layer.slabs,
                 cert,
                 spacing,
                 options.overlap,
-                &no_marks,
-                &no_marks,
-                false,
+                &layer.mark_a,
+                &layer.mark_b,
+                has_markers(&choice_of(options)),
             )?;
             judged(alloc, cert, verdict)
         }
@@ -170,14 +169,15 @@ fn check_alone<'a>(
 fn check_out<'a, H: Host>(
     alloc: Global,
     options: &CheckOptions<'_>,
-    layer: &Slabs,
+    layer: &MarkedLayer,
     cert: &Cert,
     host: &mut H,
 ) -> Result<Output<'a>, ReadFault>
     requires ranges { AreInRangeForCheck (check_view options.now) }
+    requires marks { AreMarks layer.now.mark_a layer.now.mark_b (marks_with (check_view options.now) layer.now) }
     requires cert { IsCert cert.now }
     requires kind { IsOfMasks cert.now }
-    ensures made { IfOk result (λ x. IsMadeOfCert (H.told host.old) (check_view options.now) layer.now cert.now (output_view x)) }
+    ensures made { IfOk result (λ x. IsMadeOfCert (H.told host.old) (check_view options.now) (marks_with (check_view options.now) layer.now) layer.now.slabs cert.now (output_view x)) }
     ensures cause { HasReadCause (H.read_faults host.old) (H.read_faults host.new) result }
     ensures not_large { IsErrOf result ReadFault.TooLarge → ⊥ }
     ensures same { H.told host.new ≡ H.told host.old }
@@ -194,15 +194,16 @@ fn check_out<'a, H: Host>(
 fn check_bytes<'a>(
     alloc: Global,
     options: &CheckOptions<'_>,
-    layer: &Slabs,
+    layer: &MarkedLayer,
     cert: &Cert,
     bytes: Vec<u8>,
 ) -> Result<Output<'a>, AllocError>
     requires size { length bytes.items ≤ limit }
     requires ranges { AreInRangeForCheck (check_view options.now) }
+    requires marks { AreMarks layer.now.mark_a layer.now.mark_b (marks_with (check_view options.now) layer.now) }
     requires cert { IsCert cert.now }
     requires kind { IsOfMasks cert.now }
-    ensures { IfOk result (λ x. IsCheckOfMasks (check_view options.now) layer.now cert.now bytes.items (output_view x)) }
+    ensures { IfOk result (λ x. IsCheckOfMasks (check_view options.now) (marks_with (check_view options.now) layer.now) layer.now.slabs cert.now bytes.items (output_view x)) }
 {
     let a = match layer_within(alloc, &mask_choice(options.a), bytes.as_slice()) {
         Ok(a) => a.slabs,
@@ -224,20 +225,44 @@ fn check_bytes<'a>(
         ),
         Err(LayerFault::NoMemory) => return Err(AllocError),
     };
-    let spacing = Spacing::uniform(options.rule);
-    let no_marks = Slabs::empty(alloc);
+    let spacing = spacing_of(options);
     let verdict = check_masks(
         alloc,
-        layer,
+        &layer.slabs,
         &a,
         &b,
         cert,
         spacing,
         options.overlap,
-        &no_marks,
-        &no_marks,
+        &layer.mark_a,
+        &layer.mark_b,
     )?;
     judged(alloc, cert, verdict)
+}
+
+/// The layer that is checked, and its markers.
+fn choice_of<'a>(options: &CheckOptions<'a>) -> MarkedChoice<'a>
+    ensures { marked_choice_view result ≡ check_marked (check_view options.now) }
+{
+    MarkedChoice {
+        layer: LayerChoice {
+            top: options.top,
+            layer: options.layer,
+            datatype: options.datatype,
+        },
+        mark_a: options.mark_a,
+        mark_b: options.mark_b,
+    }
+}
+
+/// How far apart features are to be on one mask, in database units.
+fn spacing_of(options: &CheckOptions<'_>) -> Spacing
+    ensures { result ≡ check_spacing (check_view options.now) }
+{
+    Spacing {
+        rule: options.rule,
+        corner: options.corner,
+    }
 }
 
 /// The layer of a mask, in the structure that no reference names.

@@ -12,8 +12,9 @@ use crate::pipeline::{Decision, Order, decide};
 use crate::status::Status;
 use crate::texts::{conflict_line, demo_line, refused_line};
 use dpl_answer::{Decomposed, Sharing};
+use dpl_base::Spacing;
 use dpl_demo::demo_bytes;
-use dpl_layer::LayerChoice;
+use dpl_layer::{LayerChoice, MarkedChoice};
 use dpl_pool::Gate;
 use dpl_words::DemoOptions;
 use std::alloc::{AllocError, Global};
@@ -38,12 +39,16 @@ pub(crate) fn demo_output<'a, R: Threads + Wait + Sync, G: Gate + Sync>(
 {
     let bytes = demo_bytes(alloc, options.seed, options.rows)?;
     let order = Order {
-        choice: LayerChoice {
-            top: None,
-            layer: 1,
-            datatype: 0,
+        choice: MarkedChoice {
+            layer: LayerChoice {
+                top: None,
+                layer: 1,
+                datatype: 0,
+            },
+            mark_a: None,
+            mark_b: None,
         },
-        rule: RULE,
+        spacing: Spacing::uniform(RULE),
         overlap: OVERLAP,
         sharing: Sharing {
             tile: options.tile,

@@ -4,6 +4,7 @@
 mod check;
 mod demo;
 mod input;
+mod marks;
 mod output;
 mod pipeline;
 mod program;

@@ -28,7 +28,7 @@ use std::thread::Threads;
 
 /// Does what the words of a command line ask for, by `host`, and answers how the run ended. The first word is the program's name; `USAGE` gives the others.
 ///
-/// `split` reads the layout IN (GDSII Stream Format, Release 6, at most 268435456 bytes) and decomposes one layer of its top structure into two masks on which features are at least `--rule` database units apart, with stitches `--overlap` database units long (Kahng, Park, Xu and Yao, ICCAD 2008). It writes the masks to OUT, then their certificate to CERT; where the conflict graph has an odd cycle, or the layout a fault, the certificate alone. Then it says one line. `--tile` and `--workers` change nothing of what is written.
+/// `split` reads the layout IN (GDSII Stream Format, Release 6, at most 268435456 bytes) and decomposes one layer of its top structure into two masks on which features are at least `--rule` database units apart, and from corner to corner at least `--corner`, with stitches `--overlap` database units long (Kahng, Park, Xu and Yao, ICCAD 2008). What of the layer lies under a marker of the layer `--mark-a` is on mask A alone, and under one of `--mark-b` on mask B alone. It writes the masks to OUT, then their certificate to CERT; where the conflict graph has an odd cycle, or the layout a fault, the certificate alone. Then it says one line. `--tile` and `--workers` change nothing of what is written.
 ///
 /// `check` reads the layout IN, the certificate CERT and, if it is one of masks, their file OUT, and says of masks of any tool whether they are right, and of an odd cycle whether it is there. `demo` splits a layout that is made up of two numbers. Both write nothing, and say one line.
 ///
@@ -42,7 +42,7 @@ pub fn run<'a, R: Threads + Wait + Sync, H: Host, G: Gate + Sync>(
 ) -> Status
     // An answer is one that the definition gives, which gives at most one, and all of it was written and said.
     ensures answer { is_answered result ≡ true → IsOutcome (texts words.entry.now) result (H.told host.old) (H.told host.new) }
-    // Masks that were written part the layer, keep its features apart and overlap at stitches alone; only `split` writes; and where `check` is done, so do the masks that it read, or the cycle that it read is an odd cycle of conflicts.
+    // Masks that were written part the layer, keep its features apart, overlap at stitches alone and have each marked square on its mask alone; only `split` writes; and where `check` is done, so do the masks that it read, or the cycle that it read is an odd cycle of conflicts.
     ensures parted { result ≡ Status.Done → IsParted (texts words.entry.now) (H.told host.old) (H.told host.new) }
     // The words decide alone whether they are a command.
     ensures usage { result ≡ Status.Usage → request_of (texts words.entry.now) ≡ None }

@@ -18,9 +18,10 @@ use crate::pipeline::{Decision, Order, decide};
 use crate::status::Status;
 use crate::texts::{conflict_line, done_line, refused_line};
 use dpl_answer::{Clash, Decomposed, Painted, Sharing};
+use dpl_base::Spacing;
 use dpl_cert::{Cert, Name, cert_bytes};
 use dpl_host::{Host, MAX_BYTES, ReadFault};
-use dpl_layer::LayerChoice;
+use dpl_layer::{LayerChoice, MarkedChoice};
 use dpl_masks::file_bytes;
 use dpl_pool::Gate;
 use dpl_words::SplitOptions;
@@ -64,12 +65,19 @@ fn split<'a, R: Threads + Wait + Sync, G: Gate + Sync>(
     ensures { IfOk result (λ x. IsSplit (split_view options.now) bytes.items (output_view x)) }
 {
     let order = Order {
-        choice: LayerChoice {
-            top: options.top,
-            layer: options.layer,
-            datatype: options.datatype,
+        choice: MarkedChoice {
+            layer: LayerChoice {
+                top: options.top,
+                layer: options.layer,
+                datatype: options.datatype,
+            },
+            mark_a: options.mark_a,
+            mark_b: options.mark_b,
         },
-        rule: options.rule,
+        spacing: Spacing {
+            rule: options.rule,
+            corner: options.corner,
+        },
         overlap: options.overlap,
         sharing: Sharing {
             tile: options.tile,

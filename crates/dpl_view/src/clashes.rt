@@ -1,5 +1,5 @@
 //! The odd cycles of a cut layer, with what is told of each.
-ghost use Rattle.std.specs.Prelude.{◌≤◌, IfOk, List, ℕ, length};
+ghost use Rattle.std.specs.Prelude.{None, ◌≤◌, IfOk, List, ℕ, length};
 ghost use Rattle.std.specs.List.{AllZip, Contains};
 ghost use Rattle.dpl_spec_split.specs.declared.Pt.{Pt};
 ghost use Rattle.dpl_spec_split.specs.Graphs.{AreEdges, IsOddCycle};
@@ -40,7 +40,7 @@ pub fn clashes_of(
     requires rule { IsRule spacing.rule }
     requires overlap { IsRule overlap }
     requires keys { HasPointKeys cut }
-    requires conflicts { AreConflictsOf spacing cut.pieces.parts cut.pieces.owners conflicts.now }
+    requires conflicts { AreConflictsOf None spacing cut.pieces.parts cut.pieces.owners conflicts.now }
     ensures { IfOk result (λ found. OfCompleted cut (λ c. AreTangles spacing overlap c found.clashes.items found.edges)) }
 {
     let cut = cut.completed(alloc)?;

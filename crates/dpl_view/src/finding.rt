@@ -69,7 +69,7 @@ pub fn find<R: Threads + Wait + Sync, G: Gate + Sync>(
     let spacing = Spacing::uniform(order.rule);
     let no_marks = Slabs::empty(alloc);
     let cut = cut_of(alloc, slabs, spacing, order.overlap, &no_marks)?;
-    let conflicts = conflicts_of(rt, alloc, &cut, spacing, order.sharing, gate)?;
+    let conflicts = conflicts_of(rt, alloc, &cut, None, spacing, order.sharing, gate)?;
     let tangles = clashes_of(alloc, cut, &conflicts, spacing, order.overlap)?;
     Ok(Finding::Cycles(Cycles { copied, tangles }))
 }

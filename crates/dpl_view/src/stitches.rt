@@ -1,5 +1,5 @@
 //! From the bytes of a layout to the stitches of its split.
-ghost use Rattle.std.specs.Prelude.{◌≡◌, ◌≤◌, IfOk, length};
+ghost use Rattle.std.specs.Prelude.{None, ◌≡◌, ◌≤◌, IfOk, length};
 ghost use Rattle.dpl_cert.specs.Grammar.{IsRule};
 ghost use Rattle.dpl_cut.specs.Cutting.{HasPointKeys, OfCompleted};
 ghost use Rattle.dpl_layer.specs.Reading.{limit};
@@ -61,12 +61,12 @@ pub fn find_stitches<R: Threads + Wait + Sync, G: Gate + Sync>(
     let spacing = Spacing::uniform(order.rule);
     let no_marks = Slabs::empty(alloc);
     let cut = cut_of(alloc, slabs, spacing, order.overlap, &no_marks)?;
-    let conflicts = conflicts_of(rt, alloc, &cut, spacing, order.sharing, gate)?;
+    let conflicts = conflicts_of(rt, alloc, &cut, None, spacing, order.sharing, gate)?;
     let seams = seams_of(alloc, cut, &conflicts, spacing, order.overlap)?;
     Ok(Split::Answered { copied, seams })
 }
 
-/// The stitches of the masks of a cut layer, if it has no odd cycle. `answer_of` takes no corner rule of 0.
+/// The stitches of the masks of a cut layer, if it has no odd cycle.
 fn seams_of(
     alloc: Global,
     cut: BareLayerCut,
@@ -75,14 +75,13 @@ fn seams_of(
     overlap: u32,
 ) -> Result<Seams, AllocError>
     requires corner { spacing.corner ≤ spacing.rule }
-    requires some { 1 ≤ spacing.corner }
     requires rule { IsRule spacing.rule }
     requires overlap { IsRule overlap }
     requires keys { HasPointKeys cut }
-    requires conflicts { AreConflictsOf spacing cut.pieces.parts cut.pieces.owners conflicts.now }
+    requires conflicts { AreConflictsOf None spacing cut.pieces.parts cut.pieces.owners conflicts.now }
     ensures { IfOk result (λ seams. OfCompleted cut (λ c. AreSeams spacing c seams)) }
 {
-    let answer = answer_of(alloc, cut, conflicts, spacing, overlap)?;
+    let answer = answer_of(alloc, cut, conflicts, None, spacing, overlap)?;
     match answer {
         Decomposed::Masks(painted) => Ok(Seams::Stitches(painted.stitches)),
         Decomposed::Cycle(clash) => Ok(Seams::Conflict(clash.cycle.items().len() as u64)),

@@ -1,12 +1,19 @@
 use Rattle.std.proofs.Common.{[]}
+use Rattle.std.specs.Option.{option_copied}
 use Rattle.std.proofs.lemmas.Result.{IfOk-weaker}
 use Rattle.dpl_piece.specs.Cutting.{cut_pieces}
 use Rattle.dpl_cut.specs.Cutting.{cut_view}
+use Rattle.dpl_answer.specs.Anchors.{marks_in}
+use Rattle.dpl_answer.proofs.Anchoring.{listed-pairs}
 use Rattle.dpl_answer.proofs.Planned.{among_all}
 use Rattle.dpl_answer.proofs.conflicts.dense_conflicts.Goals as goal
+
+pub conflicts_among-requires : goal.conflicts_among-requires
+conflicts_among-requires c = listed-pairs _ c.in_ok-edges.edges.items c.in_ok-edges.ensures
 
 pub returns : goal.returns
 returns c =
     let bare = c.args.pieces.now in
+    let marks = marks_in (option_copied c.args.marks) in
     let cut = cut_view [] (cut_pieces bare.parts bare.owners [] [] []) in
-    IfOk-weaker c.conflicts_among.result _ _ (λ cs among. among_all c.args.spacing cut c.in_ok-edges.edges.items cs c.in_ok-edges.ensures.edges among) c.conflicts_among.ensures
+    IfOk-weaker c.conflicts_among.result _ _ (λ cs among. among_all marks c.args.spacing cut c.in_ok-edges.edges.items cs c.in_ok-edges.ensures among) c.conflicts_among.ensures

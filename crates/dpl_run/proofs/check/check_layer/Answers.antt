@@ -7,7 +7,7 @@ use Rattle.dpl_parse.specs.Reading.{IsBadLine, IsRefusal}
 use Rattle.dpl_parse.specs.declared.fault.CertFault.{CertFault}
 use Rattle.dpl_words.specs.Meaning.{check_view}
 use Rattle.dpl_run.specs.Program.{IsMadeOfCert, IsSeen}
-use Rattle.dpl_run.specs.View.{output_view}
+use Rattle.dpl_run.specs.View.{marks_with, output_view}
 use Rattle.dpl_run.proofs.Checking.{cert_bad, cert_large, cert_read}
 use Rattle.dpl_run.proofs.Calls.{cert_and_out}
 use Rattle.dpl_run.proofs.check.check_layer.Goals as goal
@@ -16,7 +16,7 @@ pub returns-in_default-clause-made : goal.returns-in_default-clause-made
 returns-in_default-clause-made g c =
     let told = g.H.Host.told c.args.host.now in
     let seen = subst (λ (o : Option (Vec ℕ Global)). IsSeen told c.args.options.now.certificate.now (option_map (λ v. v.items) o)) c.in_default.is c.in_ok-text.ensures.seen in
-    cert_large told (check_view c.args.options.now) c.args.layer.now _ seen c.in_ok-too_large.ensures
+    cert_large told (check_view c.args.options.now) (marks_with (check_view c.args.options.now) c.args.layer.now) c.args.layer.now.slabs _ seen c.in_ok-too_large.ensures
 
 pub returns-in-Ok-clause-made : goal.returns-in-Ok-clause-made
 returns-in-Ok-clause-made g c =
@@ -26,8 +26,8 @@ returns-in-Ok-clause-made g c =
     let seen = subst (λ (o : Option (Vec ℕ Global)). IsSeen told c.args.options.now.certificate.now (option_map (λ v. v.items) o)) c.in-Some.is c.in_ok-text.ensures.seen in
     let read = subst (λ (b : List ℕ). IsText c.in-Ok.cert b) c.as_slice.ensures.value c.in-Ok.ensures.found in
     IfOk-weaker c.check_cert.result _ _
-    (λ x h. cert_read told v c.args.layer.now text c.in-Ok.cert (output_view x) seen read
-    (subst (λ (t : Option Outside). IsMadeOfCert t v c.args.layer.now c.in-Ok.cert (output_view x)) c.in_ok-text.ensures.same h)) c.check_cert.ensures.made
+    (λ x h. cert_read told v (marks_with v c.args.layer.now) c.args.layer.now.slabs text c.in-Ok.cert (output_view x) seen read
+    (subst (λ (t : Option Outside). IsMadeOfCert t v (marks_with v c.args.layer.now) c.args.layer.now.slabs c.in-Ok.cert (output_view x)) c.in_ok-text.ensures.same h)) c.check_cert.ensures.made
 
 pub returns-in-Err-BadLine-clause-made : goal.returns-in-Err-BadLine-clause-made
 returns-in-Err-BadLine-clause-made g c =
@@ -36,7 +36,7 @@ returns-in-Err-BadLine-clause-made g c =
     let seen = subst (λ (o : Option (Vec ℕ Global)). IsSeen told c.args.options.now.certificate.now (option_map (λ v. v.items) o)) c.in-Some.is c.in_ok-text.ensures.seen in
     let refusal = subst (λ (e : CertFault). IsRefusal c.as_slice.result.now e) c.in-Err-BadLine.field-0-is c.in-Err-BadLine.ensures.line in
     let bad = subst (λ (b : List ℕ). IsBadLine b c.in-Err-BadLine.line) c.as_slice.ensures.value refusal in
-    cert_bad told (check_view c.args.options.now) c.args.layer.now text c.in-Err-BadLine.line _ seen bad c.in_ok-bad_line-in-Err-BadLine.ensures
+    cert_bad told (check_view c.args.options.now) (marks_with (check_view c.args.options.now) c.args.layer.now) c.args.layer.now.slabs text c.in-Err-BadLine.line _ seen bad c.in_ok-bad_line-in-Err-BadLine.ensures
 
 pub returns-in-Ok-clause-calls : goal.returns-in-Ok-clause-calls
 returns-in-Ok-clause-calls g c =

@@ -5,6 +5,8 @@ use Rattle.dpl_run.proofs.Inputs.{demo_decided}
 use Rattle.dpl_run.proofs.demo.demo_output.Goals as goal
 
 pub returns : goal.returns
-returns g c = IfOk-weaker c.shown.result _ _
+returns g c =
+    let decision = rw c.uniform.ensures at c.in_ok-decision.ensures.decision in
+    IfOk-weaker c.shown.result _ _
     (λ x is. demo_decided (demo_view c.args.options.now) c.in_ok-bytes.bytes.items (decision_view c.in_ok-decision.decision)
-    (output_view x) c.in_ok-bytes.ensures.bytes c.in_ok-decision.ensures.decision is) c.shown.ensures
+    (output_view x) c.in_ok-bytes.ensures.bytes decision is) c.shown.ensures

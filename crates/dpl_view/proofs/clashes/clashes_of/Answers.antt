@@ -1,4 +1,5 @@
 use Rattle.std.proofs.Common.{◌∙◌, sym}
+use Rattle.std.specs.Prelude.{None}
 use Rattle.dpl_answer.proofs.Planned.{conflicts_completed}
 use Rattle.dpl_cut.specs.Cutting.{cut_view}
 use Rattle.dpl_view.proofs.ViewLaws.{even_none, even_clashes}
@@ -8,7 +9,7 @@ use Rattle.dpl_view.proofs.clashes.clashes_of.Goals as goal
 
 pub returns-in-Even : goal.returns-in-Even
 returns-in-Even c =
-    let are = conflicts_completed c.args.spacing c.args.cut.pieces c.in_ok-cut.cut.pieces c.args.conflicts.now c.in_ok-cut.ensures.pieces c.requires.conflicts in
+    let are = conflicts_completed None c.args.spacing c.args.cut.pieces c.in_ok-cut.cut.pieces c.args.conflicts.now c.in_ok-cut.ensures.pieces c.requires.conflicts in
     let (sums, even) = rw c.in-Even.is at are in (
       c.in_ok-cut.cut.pieces,
       c.in_ok-cut.ensures.pieces,

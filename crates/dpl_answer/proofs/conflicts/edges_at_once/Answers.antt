@@ -1,0 +1,15 @@
+use Rattle.std.proofs.Common.{List, sym, subst}
+use Rattle.std.specs.Option.{option_copied}
+use Rattle.std.specs.Prelude.{option_map}
+use Rattle.std.proofs.lemmas.Result.{IfOk-weaker}
+use Rattle.dpl_spec_split.specs.declared.Rect.{Rect}
+use Rattle.dpl_answer.specs.Anchors.{AreMarkEdges, marks_in}
+use Rattle.dpl_answer.proofs.Anchoring.{graph-listed}
+use Rattle.dpl_answer.proofs.conflicts.edges_at_once.Goals as goal
+
+pub returns : goal.returns
+returns c =
+    let bare = c.args.pieces.now in
+    let marks = marks_in (option_copied c.args.marks) in
+    let fixed = subst (λ (ps : List (List Rect)). AreMarkEdges marks ps (option_map (λ v. v.items) c.in_ok-marked.marked)) c.parts.ensures c.in_ok-marked.ensures.edges in
+    IfOk-weaker c.joined_with.result _ _ (λ v is. rw is (graph-listed marks c.args.spacing bare.parts bare.owners _ c.in_ok-edges.edges.items fixed c.in_ok-edges.ensures)) c.joined_with.ensures

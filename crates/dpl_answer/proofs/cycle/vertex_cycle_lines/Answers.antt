@@ -1,0 +1,14 @@
+use Rattle.std.specs.Prelude.{Some, length}
+use Rattle.dpl_answer.specs.Anchors.{marks_of}
+use Rattle.dpl_answer.proofs.Told.{known-vertex, linked, vertex-known}
+use Rattle.dpl_answer.proofs.cycle.vertex_cycle_lines.Goals as goal
+
+pub vertex_lines-requires-clause-known : goal.vertex_lines-requires-clause-known
+vertex_lines-requires-clause-known c = λ k h.
+    let pieces = c.args.pieces.now in
+    known-vertex (length pieces.parts) k (vertex-known (Some (marks_of c.args.marks.now)) c.args.spacing pieces.parts pieces.owners c.args.cycle.now k c.requires.odd h)
+
+pub link_lines-requires-clause-linked : goal.link_lines-requires-clause-linked
+link_lines-requires-clause-linked c = λ k h.
+    let pieces = c.args.pieces.now in
+    linked (marks_of c.args.marks.now) c.args.spacing pieces.parts pieces.owners _ _ (c.requires.odd.around k h)
