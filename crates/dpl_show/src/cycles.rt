@@ -4,6 +4,7 @@ use dpl_answer::Clash;
 use dpl_base::Pt;
 use dpl_cert::{Name, NearLine, PlaceLine};
 use dpl_view::Tangles;
+use itoa::{Buffer, Integer};
 use serde::{Described, Serialize, Serializer};
 use std::alloc::{AllocError, Global};
 use std::fmt::Write;
@@ -42,20 +43,38 @@ fn bounds_of(clash: &Clash) -> Bounds {
         }
     }
     for near in clash.near.items() {
-        if let NearLine::Pair { from, to } = near {
-            bounds = bounds.with(from).with(to);
-        }
+        bounds = match near {
+            NearLine::Pair { from, to } => bounds.with(from).with(to),
+            NearLine::Mark { at } => bounds.with(at),
+            NearLine::Anchors => bounds,
+        };
     }
     bounds
+}
+
+/// How many pieces lie on a cycle, beside anchors.
+pub(crate) fn pieces_on(clash: &Clash) -> u64 {
+    let mut count: u64 = 0;
+    for place in clash.cycle.items() {
+        if let PlaceLine::Piece { .. } = place {
+            count = count.saturating_add(1);
+        }
+    }
+    count
 }
 
 /// How many pieces lie on the cycles.
 fn piece_count(clashes: &[Clash]) -> u64 {
     let mut count: u64 = 0;
     for clash in clashes {
-        count = count.saturating_add(clash.cycle.items().len() as u64);
+        count = count.saturating_add(pieces_on(clash));
     }
     count
+}
+
+/// The mask of an anchor.
+fn mask_name(b: bool) -> &'static str {
+    if b { "B" } else { "A" }
 }
 
 /// The lines of all cycles, and a last one that counts them: `cycle N pieces P box X0 Y0 X1 Y1`, then a line `piece N X Y` for each piece with its least square and a line `near X Y X Y` for each with the first pair of squares of it and the next one that are closer than the rule; `conflicts cycles C pieces P edges E` at the end: E conflicts lie in the components of the cycles. All in database units.
@@ -73,15 +92,15 @@ pub fn conflict_lines(alloc: Global, tangles: &Tangles) -> Result<String, AllocE
     Ok(text)
 }
 
-/// Adds the lines of one cycle. A layout is looked at without marks, so its cycles have no anchors.
+/// Adds the lines of one cycle. Anchors, which a layout that is looked at without marks has none of, have the lines that a certificate has for them.
 fn put_cycle(text: &mut String, number: usize, clash: &Clash) -> Result<(), AllocError> {
     let b = bounds_of(clash);
-    let pieces = clash.cycle.items().len();
-    write!(
-        text,
-        "cycle {number} pieces {pieces} box {} {} {} {}\n",
-        b.x0, b.y0, b.x1, b.y1
-    )?;
+    text.push_str("cycle ")?;
+    put_number(text, number)?;
+    text.push_str(" pieces ")?;
+    put_number(text, pieces_on(clash))?;
+    text.push_str(" box")?;
+    put_numbers(text, &[b.x0, b.y0, b.x1, b.y1])?;
     for place in clash.cycle.items() {
         put_place(text, place)?;
     }
@@ -91,20 +110,50 @@ fn put_cycle(text: &mut String, number: usize, clash: &Clash) -> Result<(), Allo
     Ok(())
 }
 
-/// Adds the line of a piece.
+/// Adds the line of a piece or an anchor.
 fn put_place(text: &mut String, place: &PlaceLine) -> Result<(), AllocError> {
-    let PlaceLine::Piece { piece, key } = place else {
-        return Ok(());
-    };
-    write!(text, "piece {} {} {}\n", *piece, key.x, key.y)
+    match place {
+        PlaceLine::Piece { piece, key } => {
+            text.push_str("piece ")?;
+            put_number(text, *piece)?;
+            put_numbers(text, &[key.x, key.y])
+        }
+        PlaceLine::Anchor { b } => {
+            text.push_str("anchor ")?;
+            text.push_str(mask_name(*b))?;
+            text.push_str("\n")
+        }
+    }
 }
 
-/// Adds the line of a pair of near squares.
+/// Adds the line of what joins a place of a cycle and the next one.
 fn put_near(text: &mut String, near: &NearLine) -> Result<(), AllocError> {
-    let NearLine::Pair { from, to } = near else {
-        return Ok(());
-    };
-    write!(text, "near {} {} {} {}\n", from.x, from.y, to.x, to.y)
+    match near {
+        NearLine::Pair { from, to } => {
+            text.push_str("near")?;
+            put_numbers(text, &[from.x, from.y, to.x, to.y])
+        }
+        NearLine::Mark { at } => {
+            text.push_str("marked")?;
+            put_numbers(text, &[at.x, at.y])
+        }
+        NearLine::Anchors => text.push_str("anchors\n"),
+    }
+}
+
+/// Adds a number.
+fn put_number<T: Integer>(text: &mut String, number: T) -> Result<(), AllocError> {
+    let mut buffer = Buffer::new();
+    text.push_str(buffer.format(number))
+}
+
+/// Adds numbers, a space before each, to the end of a line.
+fn put_numbers(text: &mut String, numbers: &[i64]) -> Result<(), AllocError> {
+    for number in numbers {
+        text.push_str(" ")?;
+        put_number(text, *number)?;
+    }
+    text.push_str("\n")
 }
 
 /// The line that tells the first fault of a layout, as `dpl split` says it.
@@ -148,15 +197,21 @@ struct Place {
     y: i64,
 }
 
+/// An anchor, as JSON has it.
+#[derive(Clone, Copy, Serialize)]
+struct Anchor {
+    anchor: &'static str,
+}
+
 /// Cycles, of which JSON has a list.
 #[derive(Clone, Copy)]
 struct CycleList<'a>(&'a [Clash]);
 
-/// Pairs of near squares, of which JSON has a list.
+/// What joins the places of a cycle, of which JSON has a list: both near squares, or one that is marked, or none between anchors.
 #[derive(Clone, Copy)]
 struct NearList<'a>(&'a [NearLine]);
 
-/// Pieces, of which JSON has a list.
+/// Pieces and anchors, of which JSON has a list.
 #[derive(Clone, Copy)]
 struct PlaceList<'a>(&'a [PlaceLine]);
 
@@ -184,9 +239,19 @@ impl Serialize for NearList<'_> {
     fn serialize<S: Serializer>(&self, out: &mut S) -> Result<(), S::Error> {
         out.begin_seq(Some(self.0.len()))?;
         for near in self.0 {
-            if let NearLine::Pair { from, to } = near {
-                let pair = [[from.x, from.y], [to.x, to.y]];
-                pair.serialize(out)?;
+            match near {
+                NearLine::Pair { from, to } => {
+                    let pair = [[from.x, from.y], [to.x, to.y]];
+                    pair.serialize(out)?;
+                }
+                NearLine::Mark { at } => {
+                    let mark = [[at.x, at.y]];
+                    mark.serialize(out)?;
+                }
+                NearLine::Anchors => {
+                    out.begin_seq(Some(0))?;
+                    out.end_seq()?;
+                }
             }
         }
         out.end_seq()
@@ -199,13 +264,21 @@ impl Serialize for PlaceList<'_> {
     fn serialize<S: Serializer>(&self, out: &mut S) -> Result<(), S::Error> {
         out.begin_seq(Some(self.0.len()))?;
         for line in self.0 {
-            if let PlaceLine::Piece { piece, key } = line {
-                let place = Place {
-                    piece: *piece,
-                    x: key.x,
-                    y: key.y,
-                };
-                place.serialize(out)?;
+            match line {
+                PlaceLine::Piece { piece, key } => {
+                    let place = Place {
+                        piece: *piece,
+                        x: key.x,
+                        y: key.y,
+                    };
+                    place.serialize(out)?;
+                }
+                PlaceLine::Anchor { b } => {
+                    let anchor = Anchor {
+                        anchor: mask_name(*b),
+                    };
+                    anchor.serialize(out)?;
+                }
             }
         }
         out.end_seq()

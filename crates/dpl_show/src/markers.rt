@@ -1,4 +1,5 @@
 //! Marker databases of KLayout's.
+use crate::cycles::pieces_on;
 use dpl_answer::Clash;
 use dpl_base::{Pt, Rect};
 use dpl_cert::{NearLine, StitchLine};
@@ -132,24 +133,24 @@ impl Pen {
         Ok(self.out)
     }
 
-    /// Adds the marker of a cycle. A layout is looked at without marks, so its cycles have no anchors.
+    /// Adds the marker of a cycle. Its line goes to the marked squares of the pieces beside an anchor.
     fn put_cycle(&mut self, number: u64, clash: &Clash) -> Result<(), AllocError> {
         self.put_front()?;
         self.put(b"<value>text: 'cycle ")?;
         self.put_number(number)?;
         self.put(b": ")?;
-        self.put_number(clash.cycle.items().len() as u64)?;
+        self.put_number(pieces_on(clash))?;
         self.put(b" pieces'</value><value>path: (")?;
+        let mut begin = None;
         for near in clash.near.items() {
-            if let NearLine::Pair { from, to } = near {
-                let (from, to) = between(from, to);
+            if let Some((from, to)) = ends_of(near) {
                 self.put_line(from, to)?;
                 self.put(b";")?;
+                begin = begin.or(Some(from));
             }
         }
         // back to where it began
-        if let Some(NearLine::Pair { from, to }) = clash.near.items().first() {
-            let (from, _) = between(from, to);
+        if let Some(from) = begin {
             self.put_point(from)?;
         }
         self.put(b") w=0 bx=0 ex=0 r=false</value>")?;
@@ -235,6 +236,15 @@ fn point(x: i32, y: i32) -> Pt {
     Pt {
         x: i64::from(x),
         y: i64::from(y),
+    }
+}
+
+/// Where a marker's line goes between two places of a cycle, if squares are named there.
+fn ends_of(near: &NearLine) -> Option<(Pt, Pt)> {
+    match near {
+        NearLine::Pair { from, to } => Some(between(from, to)),
+        NearLine::Mark { at } => Some((*at, *at)),
+        NearLine::Anchors => None,
     }
 }
 

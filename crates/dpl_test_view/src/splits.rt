@@ -1,15 +1,17 @@
 //! Odd cycles and stitches: lines, JSON and markers.
 ghost use Rattle.dpl_view.specs.Findings.{IsInRange};
 
-use dpl_answer::Sharing;
+use dpl_answer::{Clash, Sharing};
+use dpl_base::{Listed, Pt};
+use dpl_cert::{Head, NearLine, PlaceLine};
 use dpl_layer::LayerChoice;
 use dpl_pool::OpenGate;
 use dpl_show::{
     conflict_json, conflict_lines, cycle_markers, stitch_json, stitch_lines, stitch_markers,
 };
 use dpl_test_sample::{Rectangle, bars};
-use dpl_view::{Finding, Order, Seams, Split, find, find_stitches};
-use std::alloc::Global;
+use dpl_view::{Cycles, Finding, Order, Seams, Split, Tangles, find, find_stitches};
+use std::alloc::{AllocError, Global};
 use std::process::Abort;
 use std::sync::Wait;
 use std::test::Fail;
@@ -45,6 +47,20 @@ const WIRES: [Rectangle; 7] = [
     [380, 40, 400, 200],
     [215, 180, 400, 200],
 ];
+
+/// Two rectangles, each near the other and near a shape that stands left of the first and over the second.
+const BESIDE: [Rectangle; 2] = [[45, 20, 65, 130], [20, -25, 50, -5]];
+
+/// The lines of both layouts with such a shape.
+const BESIDE_LINES: &str = "cycle 0 pieces 3 box 0 -25 46 21
+piece 0 20 -25
+piece 1 0 0
+piece 2 45 20
+near 20 -25 2 0
+near 20 2 45 20
+near 45 20 37 -10
+conflicts cycles 1 pieces 3 edges 3
+";
 
 /// What is asked of each layout.
 fn order() -> Order<'static>
@@ -106,6 +122,94 @@ fn conflicts_are_listed(rt: HostRuntime) -> Result<(), Fail> {
         markers
             .as_str()
             .ends_with(" <items>\n </items>\n</report-database>\n")
+    );
+    Ok(())
+}
+
+/// The layout with a shape of two slabs: its rows are 20 squares wide, and from row 2 on 21.
+fn of_few_slabs(alloc: Global) -> Result<Vec<Rectangle>, AllocError> {
+    let mut rectangles = Vec::from_array(alloc, BESIDE)?;
+    rectangles.push([0, 0, 20, 2])?;
+    rectangles.push([0, 2, 21, 130])?;
+    Ok(rectangles)
+}
+
+/// The layout with a shape of 65 slabs: by turns two of its rows are 20 squares wide, and two 21.
+fn of_many_slabs(alloc: Global) -> Result<Vec<Rectangle>, AllocError> {
+    let mut rectangles = Vec::from_array(alloc, BESIDE)?;
+    for k in 0..65u8 {
+        let y = 2 * (k as i32);
+        rectangles.push([0, y, 20 + (k % 2) as i32, y + 2])?;
+    }
+    Ok(rectangles)
+}
+
+#[test]
+fn near_squares_are_found_pair_by_pair_and_by_a_tree(rt: HostRuntime) -> Result<(), Fail> {
+    let few = of_few_slabs(rt.alloc())?;
+    let (lines, _, _) = cycles(&rt, rt.alloc(), &few)?;
+    assert_eq!(rt; lines.as_str(), BESIDE_LINES);
+    let many = of_many_slabs(rt.alloc())?;
+    let (lines, _, _) = cycles(&rt, rt.alloc(), &many)?;
+    assert_eq!(rt; lines.as_str(), BESIDE_LINES);
+    Ok(())
+}
+
+/// A cycle of a piece and both anchors.
+fn anchored(alloc: Global) -> Result<Tangles, AllocError> {
+    let mut cycle = Vec::new(alloc);
+    cycle.push(PlaceLine::Anchor { b: false })?;
+    cycle.push(PlaceLine::Anchor { b: true })?;
+    cycle.push(PlaceLine::Piece {
+        piece: 0,
+        key: Pt { x: 0, y: 0 },
+    })?;
+    let mut near = Vec::new(alloc);
+    near.push(NearLine::Anchors)?;
+    near.push(NearLine::Mark {
+        at: Pt { x: 5, y: 0 },
+    })?;
+    near.push(NearLine::Mark {
+        at: Pt { x: 8, y: 1 },
+    })?;
+    let mut clashes = Vec::new(alloc);
+    clashes.push(Clash {
+        head: Head {
+            rule: 30,
+            overlap: 10,
+            corner: 30,
+            features: 1,
+            pieces: 1,
+            zones: 0,
+        },
+        cycle: Listed::of(cycle),
+        near: Listed::of(near),
+    })?;
+    Ok(Tangles { clashes, edges: 3 })
+}
+
+#[test]
+fn anchors_are_shown(rt: HostRuntime) -> Result<(), Fail> {
+    let tangles = anchored(rt.alloc())?;
+    let lines = conflict_lines(rt.alloc(), &tangles)?;
+    assert_eq!(rt;
+        lines.as_str(),
+        "cycle 0 pieces 1 box 0 0 9 2\nanchor A\nanchor B\npiece 0 0 0\nanchors\nmarked 5 0\nmarked 8 1\nconflicts cycles 1 pieces 1 edges 3\n"
+    );
+    let json = conflict_json(rt.alloc(), &tangles)?;
+    assert_eq!(rt;
+        json.as_str(),
+        "{\"cycles\":[{\"box\":[0,0,9,2],\"near\":[[],[[5,0]],[[8,1]]],\"pieces\":[{\"anchor\":\"A\"},{\"anchor\":\"B\"},{\"piece\":0,\"x\":0,\"y\":0}]}],\"edges\":3,\"pieces\":1}\n"
+    );
+    let found = Cycles {
+        copied: Vec::new(rt.alloc()),
+        tangles,
+    };
+    let markers = String::from_utf8(cycle_markers(rt.alloc(), &found)?)?;
+    assert!(rt;
+        markers
+            .as_str()
+            .contains("<value>text: 'cycle 0: 1 pieces'</value><value>path: (")
     );
     Ok(())
 }
