@@ -24,6 +24,7 @@ KIND is one of
   holes    squares whose hole is cut by a doubled edge
   stitched COUNT times three features, of seven shapes, that need a stitch
   triangles COUNT times three squares, each too close to the other two
+  pairs    COUNT times two squares too close to one another, each two within a tile of 64 by 64 units
   chain    COUNT structures, each with one reference of the next, over one bar
   doubling COUNT structures, each with two references of the next at (0,0), over one unit square
   twisted  the same, but the last refers to the first
@@ -253,9 +254,17 @@ def triangles(count, rng):
             yield rect(x + u, y + v, x + u + 20, y + v + 20)
 
 
+def pairs(count, rng):
+    per_row = max(1, int(count**0.5))
+    for i in range(count):
+        x, y = 256 * (i % per_row), 256 * (i // per_row)
+        yield rect(x, y, x + 20, y + 20)
+        yield rect(x + 40, y, x + 60, y + 20)
+
+
 KINDS = {f.__name__: f for f in (
     bars, dense, upright, wires, through, mesh, scatter, polygons, stairs, plate,
-    ragged, rising, teeth, nested, stacked, flood, holes, stitched, triangles,
+    ragged, rising, teeth, nested, stacked, flood, holes, stitched, triangles, pairs,
 )}
 TREES = {f.__name__: f for f in (chain, doubling, twisted, ring, tower)}
 

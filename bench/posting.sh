@@ -3,20 +3,21 @@
 #
 # usage: sh bench/posting.sh DPL [SIZE [WORKERS ..]]
 #
-# DPL is the program, SIZE the number of bars of layouts.py (default: 1000000), WORKERS numbers of workers
-# (default: 1 4 64). Each line has the number of workers, the least seconds of ROUNDS runs (from the
-# environment, default: 3) with small tiles, and the same with large ones, of which there are few. The small
-# ones have a side of 64, doubled while there would be too many: to 512 for a million bars, which lie in about
-# 139,000 tiles then, one to seven bars. The difference is what so many tiles take. Behind it stands its ratio
-# to that of the first line, where both are above 0. It ends with 1 where a run of dpl doesn't end with 0.
+# DPL is the program, SIZE the COUNT of layouts.py (default: 1000000), WORKERS numbers of workers (default:
+# 1 4 64), KIND from the environment a kind of layouts.py (default: pairs). Each line has the number of workers,
+# the least seconds of ROUNDS runs (from the environment, default: 3) with small tiles, and the same with large
+# ones, of which there are few. The small ones have a side of 64, doubled while there would be too many. So each
+# of the pairs has a tile of its own, with one edge; a million bars lie in about 139,000 tiles of side 512, one
+# to seven bars. The difference is what so many tiles take. Behind it stands its ratio to that of the first line,
+# where both are above 0. It ends with 1 where a run of dpl doesn't end with 0.
 set -eu
 here=$(cd "$(dirname "$0")" && pwd)
 . "$here/words.sh"
 read_words "1000000" "1 4 64" "$@"
-python3 "$here/layouts.py" bars "$second" 1 "$work/in.gds"
-python3 - "$dpl" "$work" "${ROUNDS:-3}" "$second" $rest <<'PY'
+python3 "$here/layouts.py" "${KIND:-pairs}" "$second" 1 "$work/in.gds"
+python3 - "$dpl" "$work" "${ROUNDS:-3}" "${KIND:-pairs}" "$second" $rest <<'PY'
 import subprocess, sys, time
-dpl, work, rounds, size, *workers = sys.argv[1:]
+dpl, work, rounds, kind, size, *workers = sys.argv[1:]
 files = [work + "/" + name for name in ("in.gds", "out.gds", "cert")]
 
 
@@ -38,6 +39,6 @@ for many in workers:
     difference = small - large
     first = difference if first is None else first
     ratio = " x%.2f" % (difference / first) if first > 0 and difference > 0 else ""
-    print("bars %8s workers %2s %7.2f s in small tiles %7.2f s in large ones, difference %6.2f s%s" % (
-        size, many, small, large, difference, ratio), flush=True)
+    print("%s %8s workers %2s %7.2f s in small tiles %7.2f s in large ones, difference %6.2f s%s" % (
+        kind, size, many, small, large, difference, ratio), flush=True)
 PY

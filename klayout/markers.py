@@ -96,8 +96,8 @@ PROPERTIES = {
     "Counts": "the layer has another number of features, pieces and zones",
     "Cover": "a square is in just one of the layer and both masks together",
     "Overlap": "a square is on both masks and in no listed stitch",
-    "SpacingA": "two features on mask A are closer than the rule",
-    "SpacingB": "two features on mask B are closer than the rule",
+    "SpacingA": "two features on mask A are closer than the rule or the corner rule",
+    "SpacingB": "two features on mask B are closer than the rule or the corner rule",
     "Marked": "a square that is fixed to a mask isn't on that mask alone",
     "Stitch": "a listed stitch isn't one: it isn't on both masks, or is too short, or lies between pieces of one mask",
     "Piece": "a piece isn't on the mask that is listed for it",
@@ -357,7 +357,7 @@ class Certificate:
         except OSError as error:
             raise Problem("%s: %s" % (path, error.strerror)) from None
         self.letters = bytearray()
-        self.kind, self.fault, self.rule, self.overlap, self.pieces, self.count, self.gains = "", None, 0, 0, 0, 0, 0
+        self.kind, self.fault, self.rule, self.corner, self.pieces, self.count, self.gains = "", None, 0, 0, 0, 0, 0
 
     def __enter__(self):
         return self
@@ -376,7 +376,8 @@ class Certificate:
             self.kind, self.fault = "fault", (text_of(fault[1]), int(fault[2]))
             return
         rules = "rule # overlap #" if version == 1 else "rule # overlap # corner #"
-        self.rule, self.overlap = (self.match(rules, line) or self.fail())[:2]
+        numbers = self.match(rules, line) or self.fail()
+        self.rule, self.corner = numbers[0], numbers[-1] if len(numbers) == 3 else numbers[0]
         line = self.line()
         counts = self.match("features # pieces # zones # stitches #", line)
         self.kind = "masks" if counts or version == 3 else "conflict"
@@ -590,8 +591,10 @@ def conflict_marks(certificate, said, pen, cell):
         text = "%d of %d: %s and %s are " % (i + 1, count, name, places[(i + 1) % count][0])
         pair = [pen.square(*one) for one in near]
         if lines[i]:
-            apart = pen.length(math.hypot(*(i - j for i, j in zip(*lines[i]))))
-            text += "%s µm apart, the rule is %s µm" % (apart, pen.length(certificate.rule))
+            gaps = [i - j for i, j in zip(*lines[i])]
+            has_corner_rule = all(gaps) and certificate.corner != certificate.rule
+            rule = ("corner rule", certificate.corner) if has_corner_rule else ("rule", certificate.rule)
+            text += "%s µm apart, the %s is %s µm" % (pen.length(math.hypot(*gaps)), rule[0], pen.length(rule[1]))
             pair.insert(0, pen.edge(*lines[i]))
         else:
             text += "joined by a marked square" if near else "joined"

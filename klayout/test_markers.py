@@ -146,6 +146,12 @@ class Markers(unittest.TestCase):
             "text: '1 of 3: piece 0 and piece 5 are 0.019 µm apart, the rule is 0.03 µm'",
             "edge: (0.001,0.0005;0.02,0.0005)", "box: (0,0;0.001,0.001)", "box: (0.02,0;0.021,0.001)"])
 
+    def test_squares_across_a_corner_are_told_the_corner_rule(self):
+        cycle = CYCLE.replace("dpl 1", "dpl 2").replace("overlap 10", "overlap 10 corner 29")
+        texts = [values[0] for _, _, values in self.build(library(TOP=[]), cycle)]
+        self.assertIn("text: '1 of 3: piece 0 and piece 5 are 0.019 µm apart, the rule is 0.03 µm'", texts)
+        self.assertTrue(any(text.endswith("the corner rule is 0.029 µm'") for text in texts))
+
     def test_a_cycle_may_have_anchors(self):
         items = self.build(library(TOP=[]), ANCHORED)
         self.assertEqual([values[0] for _, _, values in items], [

@@ -1,0 +1,36 @@
+#!/bin/sh
+# Times `dplview conflicts` beside `dpl split`, on a layout of which every shape is in a conflict.
+#
+# usage: sh bench/listing.sh DPL DPLVIEW [COUNT]
+#
+# DPL and DPLVIEW are the programs, COUNT the number of triangles of layouts.py (default: 333333, a million
+# shapes). Each line has what was run, the least seconds of user and system of ROUNDS runs in turn (from the
+# environment, default: 3), by one worker, and its ratio to the split. It ends with 1 where a run doesn't end
+# with 1, the status of a conflict.
+set -eu
+here=$(cd "$(dirname "$0")" && pwd)
+work=$(mktemp -d)
+trap 'rm -rf "$work"' EXIT
+python3 "$here/layouts.py" triangles "${3:-333333}" 1 "$work/in.gds"
+python3 - "$1" "$2" "$work" "${ROUNDS:-3}" <<'PY'
+import os, subprocess, sys
+dpl, dplview, work, rounds = sys.argv[1:]
+rules = ["--layer", "1", "--rule", "30", "--overlap", "10", "--workers", "1"]
+files = [work + "/" + name for name in ("in.gds", "out", "cert")]
+runs = {
+    "split": [dpl, "split"] + rules + files,
+    "lines": [dplview, "conflicts"] + rules + files[:1],
+    "lines and markers": [dplview, "conflicts"] + rules + files[:2],
+    "JSON and markers": [dplview, "conflicts", "--json"] + rules + files[:2],
+}
+seconds = {name: [] for name in runs}
+for _ in range(int(rounds)):
+    for name, words in runs.items():
+        with open(work + "/said", "w") as said:
+            _, status, usage = os.wait4(subprocess.Popen(words, stdout=said).pid, 0)
+        if os.waitstatus_to_exitcode(status) != 1:
+            sys.exit("%s ended with %d" % (" ".join(words), os.waitstatus_to_exitcode(status)))
+        seconds[name].append(usage.ru_utime + usage.ru_stime)
+for name, times in seconds.items():
+    print("%-18s %7.2f s x%.2f" % (name, min(times), min(times) / min(seconds["split"])), flush=True)
+PY
