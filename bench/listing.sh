@@ -20,6 +20,7 @@ files = [work + "/" + name for name in ("in.gds", "out", "cert")]
 runs = {
     "split": [dpl, "split"] + rules + files,
     "lines": [dplview, "conflicts"] + rules + files[:1],
+    "JSON": [dplview, "conflicts", "--json"] + rules + files[:1],
     "lines and markers": [dplview, "conflicts"] + rules + files[:2],
     "JSON and markers": [dplview, "conflicts", "--json"] + rules + files[:2],
 }
