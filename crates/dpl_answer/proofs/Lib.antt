@@ -10,3 +10,4 @@ pub mod Deciding
 pub mod NearLines
 pub mod Planned
 pub mod Told
+pub mod ManyCuts

@@ -4,3 +4,4 @@ pub mod Conflicts
 pub mod Flat
 pub mod Cycles
 pub mod View
+pub mod Many

@@ -18,3 +18,4 @@ pub mod ReadBack
 pub mod Faultless
 pub mod Taken
 pub mod OwnFiles
+pub mod Alone

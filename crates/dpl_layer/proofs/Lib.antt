@@ -1,2 +1,4 @@
 pub mod Layers
 pub mod Markers
+pub mod Zips
+pub mod ManyLayers

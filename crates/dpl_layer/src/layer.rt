@@ -35,7 +35,7 @@ pub struct Layer {
 
 /// The copied records, and a drawing of the layer.
 #[derive(Drop)]
-struct Shapes {
+pub(crate) struct Shapes {
     copied: Vec<u8>,
     drawing: Drawing,
 }
@@ -76,7 +76,11 @@ fn shapes_of(alloc: Global, choice: &LayerChoice, bytes: &[u8]) -> Result<Shapes
 }
 
 /// The shapes of the layer of a library, or its first fault.
-fn shapes_in(alloc: Global, choice: &LayerChoice, lib: &Library<'_>) -> Result<Shapes, LayerFault>
+pub(crate) fn shapes_in(
+    alloc: Global,
+    choice: &LayerChoice,
+    lib: &Library<'_>,
+) -> Result<Shapes, LayerFault>
     ensures shapes { IfOk result (λ s. HasDrawingIn (choice_view choice.now) lib.now s.copied.items s.drawing) }
     ensures fault { IfErr result (IsLayerFaultIn (choice_view choice.now) lib.now) }
 {
@@ -91,7 +95,7 @@ fn shapes_in(alloc: Global, choice: &LayerChoice, lib: &Library<'_>) -> Result<S
 }
 
 /// The squares that shapes cover.
-fn swept(alloc: Global, shapes: Shapes) -> Result<Layer, LayerFault>
+pub(crate) fn swept(alloc: Global, shapes: Shapes) -> Result<Layer, LayerFault>
     ensures layer { (v : Choice) (bytes : List ℕ) → HasDrawing v bytes shapes.copied.items shapes.drawing → IfOk result (λ l. IsLayout v bytes (layer_view l)) }
     ensures fault { (v : Choice) (bytes : List ℕ) → HasDrawing v bytes shapes.copied.items shapes.drawing → IfErr result (IsLayerFault v bytes) }
 {
