@@ -10,4 +10,3 @@ pub mod Deciding
 pub mod NearLines
 pub mod Planned
 pub mod Told
-pub mod ManyCuts

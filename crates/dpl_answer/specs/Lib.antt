@@ -4,4 +4,3 @@ pub mod Conflicts
 pub mod Flat
 pub mod Cycles
 pub mod View
-pub mod Many

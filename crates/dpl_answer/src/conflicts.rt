@@ -35,7 +35,7 @@ const DENSE: u64 = 64;
 const FIRST_EDGES: usize = 65_536;
 
 /// The side of a tile that has every layer.
-pub(crate) const WIDEST: u32 = 1 << 31;
+const WIDEST: u32 = 1 << 31;
 
 /// How the conflicts of a layer are found. Nothing of it shows in the answer.
 #[derive(Clone, Copy, Debug)]
@@ -89,7 +89,7 @@ pub fn conflicts_of<R: Threads + Wait + Sync, G: Gate + Sync>(
 }
 
 /// Whether a square with sides of the rule has many slabs, on average over the rectangle round all of them: then several tiles would tell most of their conflicts.
-pub(crate) fn are_dense(parts: &[Slabs], rule: u32) -> bool {
+fn are_dense(parts: &[Slabs], rule: u32) -> bool {
     let mut around = None;
     let mut count: u64 = 0;
     for part in parts {

@@ -18,4 +18,3 @@ pub mod ReadBack
 pub mod Faultless
 pub mod Taken
 pub mod OwnFiles
-pub mod Alone

@@ -1,6 +1,5 @@
 -- The same files have one outcome, whatever the tiles and the workers.
-use Rattle.std.proofs.Common.{◌≡◌, ℕ, inl, inr, List, [], ◌∷◌, Option, Some, None, refl, sym, ap, ap₂, ◌∙◌, subst, arith, codes}
-use Rattle.std.specs.List.{AllZip}
+use Rattle.std.proofs.Common.{◌≡◌, ℕ, inl, inr, List, Option, Some, None, refl, sym, ap, ◌∙◌, subst, arith, codes}
 use Rattle.std.specs.FinMap as map
 use Rattle.std.proofs.lemmas.Bool.{cases_order}
 use Rattle.dpl_spec_split.specs.Squares.{uniform}
@@ -15,13 +14,12 @@ use Rattle.dpl_parse.specs.Reading.{IsBadLine}
 use Rattle.dpl_parse.proofs.Whole.{lines-text}
 use Rattle.dpl_parse.proofs.Unique.{cert_same}
 use Rattle.dpl_spec_verdict.proofs.OrderLaws.{conflict-unique, masks-unique}
-use Rattle.dpl_words.specs.Meaning.{AsksBatch, AsksCheck, AsksDemo, AsksSplit, BatchValues, CheckValues, DemoValues, SplitValues}
+use Rattle.dpl_words.specs.Meaning.{AsksCheck, AsksDemo, AsksSplit, CheckValues, DemoValues, SplitValues}
 use Rattle.dpl_demo.specs.Demo.{demo_file}
 use Rattle.dpl_answer.specs.Flat.{Paints, Clashes, IsFlat}
 use Rattle.dpl_run.specs.Outcome.{Outcome, says}
 use Rattle.dpl_layer.specs.Reading.{Choice, Faulty, Layer}
 use Rattle.dpl_run.specs.Split.{Decision, Refuses, Decides, IsDecision, IsSplit, IsSplitOf, marks_for, plan_of, split_marked, split_spacing}
-use Rattle.dpl_run.specs.Batch.{IsBatchOf, split_of, together}
 use Rattle.dpl_run.specs.Demo.{IsDemo, demo_marked, demo_plan}
 use Rattle.dpl_run.specs.Check.{IsCheck, IsCheckOfCert, IsCheckOfFile, IsCheckOfMasks, IsCheckOfText, IsJudged, WithFile, WithLayer, WithMarkedLayer}
 use Rattle.dpl_run.specs.Check.{check_marked, check_spacing, mask_choice, refusal_of, verdict_outcome}
@@ -159,24 +157,7 @@ check-same v (Some bytes) cert out x y p q =
     marked_layer-same (codes "in") (check_marked v) bytes (λ layer a b. WithFile cert (IsCheckOfFile v (marks_for (check_marked v) a b) layer out))
     (λ layer a b. file-same v (marks_for (check_marked v) a b) layer cert out) x y p q
 
-batch-same : (v : BatchValues) (tile workers : ℕ) (bytes : List ℕ) (layers : List ℕ) (xs ys : List Outcome)
-    → AllZip (λ layer x. IsSplit (split_of v layer) bytes x) layers xs → AllZip (λ layer y. IsSplit (split_of (record v { tile = tile; workers = workers }) layer) bytes y) layers ys
-    → xs ≡ ys
-batch-same v tile workers bytes [] [] [] p q = refl
-batch-same v tile workers bytes [] [] (y ∷ ys) p q = absurd q
-batch-same v tile workers bytes [] (x ∷ xs) ys p q = absurd p
-batch-same v tile workers bytes (l ∷ ls) [] ys p q = absurd p
-batch-same v tile workers bytes (l ∷ ls) (x ∷ xs) [] p q = absurd q
-batch-same v tile workers bytes (l ∷ ls) (x ∷ xs) (y ∷ ys) p q =
-    ap₂ (λ (a : Outcome) (as : List Outcome). a ∷ as) (split-of-same (split_of v l) tile workers (Some bytes) x y p.0 q.0) (batch-same v tile workers bytes ls xs ys p.1 q.1)
-
-batch-of-same : (v : BatchValues) (tile workers : ℕ) (file : Option (List ℕ)) (x y : Outcome) → IsBatchOf v file x → IsBatchOf (record v { tile = tile; workers = workers }) file y → x ≡ y
-batch-of-same v tile workers None x y p q = p ∙ sym q
-batch-of-same v tile workers (Some bytes) x y (xs, each, is) (ys, other, are) =
-    is ∙ ap (together v.layers) (batch-same v tile workers bytes v.layers xs ys each other) ∙ sym are
-
 pub outcome-same : OneOutcome
 outcome-same (AsksSplit v) tile workers files x y a b = split-of-same v tile workers (map.get files v.input) x y a b
 outcome-same (AsksCheck v) tile workers files x y a b = check-same v (map.get files v.input) (map.get files v.certificate) (map.get files v.output) x y a b
 outcome-same (AsksDemo v) tile workers files x y a b = demo-same v tile workers x y a b
-outcome-same (AsksBatch v) tile workers files x y a b = batch-of-same v tile workers (map.get files v.input) x y a b

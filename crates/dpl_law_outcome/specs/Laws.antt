@@ -1,6 +1,5 @@
 -- A command line has at most one outcome, and masks are right.
-use Rattle.std.specs.Prelude.{◌≡◌, ℕ, true, List, map, Option, Some}
-use Rattle.std.specs.List.{AllZip}
+use Rattle.std.specs.Prelude.{◌≡◌, ℕ, List, map, Option, Some}
 use Rattle.clap.specs.Walk.{Text}
 use Rattle.dpl_spec_split.specs.declared.Spacing.{Spacing}
 use Rattle.dpl_host.specs.Outside.{Files, Outside}
@@ -10,11 +9,10 @@ use Rattle.dpl_spec_split.specs.Marks.{Marks}
 use Rattle.dpl_spec_split.specs.Components.{AreComponents}
 use Rattle.dpl_law_split.specs.Masks.{AreCover, KeepsApart, OverlapAt}
 use Rattle.dpl_cert.specs.declared.cert.StitchLine.{StitchLine}
-use Rattle.dpl_words.specs.Meaning.{AsksBatch, AsksCheck, AsksDemo, AsksSplit, BatchValues, RequestValues, request_of}
+use Rattle.dpl_words.specs.Meaning.{AsksCheck, AsksDemo, AsksSplit, RequestValues, request_of}
 use Rattle.dpl_run.specs.declared.status.Status.{Status}
 use Rattle.dpl_answer.specs.Flat.{Painted, Paints, IsFlat}
-use Rattle.dpl_run.specs.Batch.{split_of, together}
-use Rattle.dpl_run.specs.Outcome.{Outcome, is_answered}
+use Rattle.dpl_run.specs.Outcome.{Outcome}
 use Rattle.dpl_run.specs.Program.{IsOutcome, IsPlan}
 
 -- the same command line with other values of --tile and --workers, if it has them
@@ -22,7 +20,6 @@ abbrev pub retiled : RequestValues → ℕ → ℕ → RequestValues
 retiled (AsksSplit v) tile workers = AsksSplit (record v { tile = tile; workers = workers })
 retiled (AsksCheck v) tile workers = AsksCheck v
 retiled (AsksDemo v) tile workers = AsksDemo (record v { tile = tile; workers = workers })
-retiled (AsksBatch v) tile workers = AsksBatch (record v { tile = tile; workers = workers })
 
 -- of the same files there is at most one outcome
 abbrev pub OneOutcome : Type 0
@@ -33,11 +30,6 @@ OneOutcome = (request : RequestValues) (tile workers : ℕ) (files : Files) (x y
 abbrev pub OneRun : Type 0
 OneRun = (request : RequestValues) (tile workers : ℕ) (words others : List Text) (o : Outside) (s t : Status) (new other : Option Outside) → request_of words ≡ Some request
     → request_of others ≡ Some (retiled request tile workers) → IsOutcome words s (Some o) new → IsOutcome others t (Some o) other → (s ≡ t) × (new ≡ other)
-
--- What `batch` does for a layer is what `split` does for that layer alone, whatever the other layers hold: the files and the line of each layer are those of a command line of `split`.
-abbrev pub EachLayerIsAlone : Type 0
-EachLayerIsAlone = (v : BatchValues) (files : Files) (x : Outcome) → IsPlan (Some (AsksBatch v)) files x → is_answered x.status ≡ true
-    → (xs : List Outcome) × (x ≡ together v.layers xs) × AllZip (λ layer y. IsPlan (Some (AsksSplit (split_of v layer))) files y) v.layers xs
 
 -- what holds of the masks of a layer and of the stitches that their certificate lists
 pub record AreRight (spacing : Spacing) (layer : List Rect) (p : Painted) : Type 0 where

@@ -1,4 +1,2 @@
 pub mod Layers
 pub mod Markers
-pub mod Zips
-pub mod ManyLayers

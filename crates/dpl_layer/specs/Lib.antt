@@ -4,4 +4,3 @@ pub mod Marked
 pub mod Drawn
 pub mod LayerFaults
 pub mod View
-pub mod Many

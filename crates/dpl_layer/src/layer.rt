@@ -35,7 +35,7 @@ pub struct Layer {
 
 /// The copied records, and a drawing of the layer.
 #[derive(Drop)]
-pub(crate) struct Shapes {
+struct Shapes {
     copied: Vec<u8>,
     drawing: Drawing,
 }
@@ -76,11 +76,7 @@ fn shapes_of(alloc: Global, choice: &LayerChoice, bytes: &[u8]) -> Result<Shapes
 }
 
 /// The shapes of the layer of a library, or its first fault.
-pub(crate) fn shapes_in(
-    alloc: Global,
-    choice: &LayerChoice,
-    lib: &Library<'_>,
-) -> Result<Shapes, LayerFault>
+fn shapes_in(alloc: Global, choice: &LayerChoice, lib: &Library<'_>) -> Result<Shapes, LayerFault>
     ensures shapes { IfOk result (λ s. HasDrawingIn (choice_view choice.now) lib.now s.copied.items s.drawing) }
     ensures fault { IfErr result (IsLayerFaultIn (choice_view choice.now) lib.now) }
 {
@@ -95,7 +91,7 @@ pub(crate) fn shapes_in(
 }
 
 /// The squares that shapes cover.
-pub(crate) fn swept(alloc: Global, shapes: Shapes) -> Result<Layer, LayerFault>
+fn swept(alloc: Global, shapes: Shapes) -> Result<Layer, LayerFault>
     ensures layer { (v : Choice) (bytes : List ℕ) → HasDrawing v bytes shapes.copied.items shapes.drawing → IfOk result (λ l. IsLayout v bytes (layer_view l)) }
     ensures fault { (v : Choice) (bytes : List ℕ) → HasDrawing v bytes shapes.copied.items shapes.drawing → IfErr result (IsLayerFault v bytes) }
 {

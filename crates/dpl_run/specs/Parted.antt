@@ -19,12 +19,10 @@ use Rattle.dpl_cert.specs.declared.cert.Head.{Head}
 use Rattle.dpl_cert.specs.declared.cert.PieceLine.{PieceLine}
 use Rattle.dpl_cert.specs.declared.cert.StitchLine.{StitchLine}
 use Rattle.dpl_masks.specs.Bytes.{file_bytes}
-use Rattle.dpl_words.specs.Meaning.{AsksBatch, AsksCheck, AsksDemo, AsksSplit, BatchValues, RequestValues, SplitValues, request_of}
+use Rattle.dpl_words.specs.Meaning.{AsksCheck, AsksDemo, AsksSplit, RequestValues, SplitValues, request_of}
 use Rattle.dpl_layer.specs.Reading.{chosen, copied_of}
 use Rattle.dpl_layer.specs.Marked.{AreFaultless, AreMarked}
 use Rattle.dpl_law_verdict.specs.Valid.{KeepMarks}
-use Rattle.std.specs.List.{AllZip, flat_map}
-use Rattle.dpl_run.specs.Batch.{split_of}
 use Rattle.dpl_run.specs.Split.{certified, marks_for, split_choice, split_marked, split_spacing}
 use Rattle.dpl_run.specs.Outcome.{Outcome, Shows, carried_out}
 use Rattle.dpl_run.specs.Checked.{IsRight}
@@ -78,17 +76,11 @@ pub record WritesMasks (v : SplitValues) (o : Outside) (writes : List (Text × L
   pub read : files.get o.files v.input ≡ Some bytes
   pub parted : WritesParting v bytes writes
 
--- the masks of each layer are written, in the order of the layers
-abbrev pub WritesAllMasks : BatchValues → Outside → List (Text × List ℕ) → Type 0
-WritesAllMasks v o writes = (parts : List (List (Text × List ℕ))) × (writes ≡ flat_map (λ (ws : List (Text × List ℕ)). ws) parts)
-    × AllZip (λ layer ws. WritesMasks (split_of v layer) o ws) v.layers parts
-
--- what a request that is done writes: `split` the masks, `batch` those of each layer, the others nothing; and `check` has found that all is right
+-- what a request that is done writes: `split` the masks, the others nothing; and `check` has found that all is right
 abbrev pub IsPartedBy : Option RequestValues → Outside → List (Text × List ℕ) → Type 0
 IsPartedBy (Some (AsksSplit v)) o writes = WritesMasks v o writes
 IsPartedBy (Some (AsksCheck v)) o writes = (writes ≡ []) × IsRight v o
 IsPartedBy (Some (AsksDemo v)) o writes = writes ≡ []
-IsPartedBy (Some (AsksBatch v)) o writes = WritesAllMasks v o writes
 IsPartedBy None o writes = ⊥
 
 -- What the words ask for was done: if they ask for masks, these were written, and else nothing was; if they ask for a check, what the files hold is right.

@@ -12,7 +12,6 @@ ghost use Rattle.dpl_run.specs.Program.{IsCutShort, IsMade, IsOutcome};
 ghost use Rattle.dpl_run.specs.Texts.{usage_line as usage_line_of};
 ghost use Rattle.dpl_run.specs.View.{output_view};
 
-use crate::batch::batch_output;
 use crate::check::check_output;
 use crate::demo::demo_output;
 use crate::input::read_nothing;
@@ -32,8 +31,6 @@ use std::thread::Threads;
 /// `split` reads the layout IN (GDSII Stream Format, Release 6, at most 268435456 bytes) and decomposes one layer of its top structure into two masks on which features are at least `--rule` database units apart, and from corner to corner at least `--corner`, with stitches `--overlap` database units long (Kahng, Park, Xu and Yao, ICCAD 2008). What of the layer lies under a marker of the layer `--mark-a` is on mask A alone, and under one of `--mark-b` on mask B alone. It writes the masks to OUT, then their certificate to CERT; where the conflict graph has an odd cycle, or the layout a fault, the certificate alone. Then it says one line. `--tile` and `--workers` change nothing of what is written.
 ///
 /// `check` reads the layout IN, the certificate CERT and, if it is one of masks, their file OUT, and says of masks of any tool whether they are right, and of an odd cycle whether it is there. `demo` splits a layout that is made up of two numbers. Both write nothing, and say one line.
-///
-/// `batch` does for each LAYER what `split` does, with the files PREFIX.LAYER.gds and PREFIX.LAYER.cert: it reads IN once, and one pool of workers has the tiles of all layers. It writes the files in the order of the layers, and then says a line for each.
 ///
 /// All of it is made before the first byte is written: where memory runs out or the read fails, nothing is written or said. Where a write fails, a prefix of it was.
 pub fn run<'a, R: Threads + Wait + Sync, H: Host, G: Gate + Sync>(
@@ -124,7 +121,6 @@ fn output_of<'a, R: Threads + Wait + Sync, H: Host, G: Gate + Sync>(
         Request::Split(options) => split_output(rt, alloc, options, host, gate),
         Request::Check(options) => check_output(alloc, options, host),
         Request::Demo(options) => read_nothing(host, demo_output(rt, alloc, options, gate)?),
-        Request::Batch(options) => batch_output(rt, alloc, options, host, gate),
     }
 }
 

@@ -13,7 +13,7 @@ ghost use Rattle.dpl_answer.specs.View.{clash_view, painted_view};
 ghost use Rattle.dpl_run.specs.View.{FitsDecision, decision_view, output_view, write_view};
 
 use crate::input::read_input;
-use crate::output::{FileName, Output, Write};
+use crate::output::{Output, Write};
 use crate::pipeline::{Decision, Order, decide};
 use crate::status::Status;
 use crate::texts::{conflict_line, done_line, refused_line};
@@ -89,7 +89,7 @@ fn split<'a, R: Threads + Wait + Sync, G: Gate + Sync>(
 }
 
 /// The files and the line that tell of a decision.
-pub(crate) fn decided<'a>(
+fn decided<'a>(
     alloc: Global,
     options: &SplitOptions<'a>,
     decision: Decision,
@@ -142,7 +142,7 @@ fn painted_output<'a>(
         gains: None,
     };
     let masks = Write {
-        name: FileName::Given(options.output),
+        name: options.output,
         bytes,
     };
     let certificate = certificate(alloc, options, &cert)?;
@@ -205,7 +205,7 @@ fn certificate<'a>(
 {
     let bytes = cert_bytes(alloc, cert)?;
     Ok(Write {
-        name: FileName::Given(options.certificate),
+        name: options.certificate,
         bytes,
     })
 }

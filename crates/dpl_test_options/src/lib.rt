@@ -2,8 +2,6 @@
 #![tactic(auto)]
 
 #[cfg(test)]
-mod batch;
-#[cfg(test)]
 mod corners;
 #[cfg(test)]
 mod marks;

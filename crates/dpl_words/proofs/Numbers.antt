@@ -1,20 +1,13 @@
 -- A typed getter of `clap` reads the number that the text writes.
-use Rattle.std.proofs.Common.{◌≡◌, ◌∙◌, ◌∷◌, [], ℕ, Bool, cond, List, true, false, refl, sym, ap, unwrap_or, Some, None, Option, ◌<◌, ◌^◌, ◌&&◌, nat_lt, is_some}
-use Rattle.std.specs.Prelude.{Ok, Err, Result, IsSome, find, map, option_map}
+use Rattle.std.proofs.Common.{◌≡◌, ◌∙◌, ◌∷◌, [], ℕ, Bool, List, true, false, refl, sym, ap, unwrap_or, Some, None, Option, ◌<◌, ◌^◌, ◌&&◌, nat_lt, is_some}
+use Rattle.std.specs.Prelude.{Ok, Err, Result, IsSome}
 use Rattle.std.proofs.lemmas.Bool.{ltb-true, lt-ltb}
 use Rattle.std.specs.List.{list_all}
 use Rattle.std.specs.Char.{digit_value}
 use Rattle.std.specs.Str.Parse.{AllDigits, ExplainsUnsignedError, HasUnsignedDigitsIfOk, IsNumeral, ParsesUnsigned, digits_value, without_leading_plus}
 use Rattle.clap.specs.ValueTests.{is_numeral}
-use Rattle.clap.specs.Matches.{ReadsOne, StepsValues, matched_of, one_text, typed_values}
-use Rattle.clap.specs.Facts.{Entry}
-use Rattle.clap.specs.Values.{read_as}
-use Rattle.clap.specs.declared.parser.matches.MatchedArg.{MatchedArg}
-use Rattle.std.specs.Borrow.{Bor}
-use Rattle.std.specs.Str.{bytes_eq}
-use Rattle.std.specs.Result.{result_unwrap_or}
-use Rattle.std.proofs.lemmas.Simd.{map-map}
-use Rattle.clap.specs.Walk.{Row, Text, many_of, row_of, rows_of, texts}
+use Rattle.clap.specs.Matches.{ReadsOne, one_text}
+use Rattle.clap.specs.Walk.{Text, rows_of}
 use Rattle.clap.specs.declared.parser.matches.Found.{Found}
 use Rattle.clap.proofs.WalkLemmas.{both, one_text-rows}
 use Rattle.dpl_words.specs.Meaning.{number_at, number_below}
@@ -54,44 +47,6 @@ reads {E} k G t None only h =
     go : (b : Bool) → is_below k t ≡ b → (IsNumeral 10 (without_leading_plus t) × (digits_value 10 (without_leading_plus t) < 2 ^ k) → ⊥) → None ≡ number_below k t
     go true e p = absurd (p (below_from k t e))
     go false e p = rw e refl
-
--- a step over texts that write numbers
-pub stepped : {E : Type 0} (k : ℕ) (G : List ℕ → Result ℕ E → Type 0) (left after : List Text) (x : Result ℕ E)
-    → ((t : Text) (x : Result ℕ E) → G t x → ParsesUnsigned k 10 t x) → StepsValues G left after (Some x)
-    → map (λ t. unwrap_or (number_below k t) 0) left ≡ result_unwrap_or x 0 ∷ map (λ t. unwrap_or (number_below k t) 0) after
-stepped k G [] after x only h = absurd h
-stepped {E} k G (t ∷ rest) after x only h = go x h.0
-  where
-    value : Option ℕ → ℕ
-    value o = unwrap_or o 0
-
-    go : (x : Result ℕ E) → G t x
-        → unwrap_or (number_below k t) 0 ∷ map (λ t. unwrap_or (number_below k t) 0) rest ≡ result_unwrap_or x 0 ∷ map (λ t. unwrap_or (number_below k t) 0) after
-    go (Ok v) g = rw (h.1, ← reads k G t (Some v) (only t) g) refl
-    go (Err e) g = rw (h.1, ← reads k G t None (only t) (e, g)) refl
-
--- the end of them
-pub stepped_out : {E : Type 0} (k : ℕ) (G : List ℕ → Result ℕ E → Type 0) (left after : List Text) → StepsValues G left after None
-    → map (λ t. unwrap_or (number_below k t) 0) left ≡ []
-stepped_out k G [] after h = refl
-stepped_out k G (t ∷ rest) after h = absurd h
-
--- what `get_many` reads is what the row of the id has
-pub many_read : (f : Found) (id : Text) → option_map typed_values (matched_of f id) ≡ many_of id (rows_of f)
-many_read f id = go f.entries.items
-  where
-    read : (a : MatchedArg) → typed_values a ≡ map (read_as a.reading) (texts a.vals.items)
-    read a = sym (map-map (read_as a.reading) (λ (s : Bor Text). s.now) a.vals.items)
-
-    go : (es : List Entry) → option_map typed_values (option_map (λ (e : Entry). e.1) (find (λ (e : Entry). bytes_eq e.0.now id) es))
-        ≡ option_map (λ (r : Row). map (read_as r.reading) r.values) (find (λ (r : Row). bytes_eq r.id id) (map row_of es))
-    go [] = refl
-    go (e ∷ es) = by (bytes_eq e.0.now id)
-      where
-        by : (b : Bool) → option_map typed_values (option_map (λ (e : Entry). e.1) (cond b (Some e) (find (λ (e : Entry). bytes_eq e.0.now id) es)))
-            ≡ option_map (λ (r : Row). map (read_as r.reading) r.values) (cond b (Some (row_of e)) (find (λ (r : Row). bytes_eq r.id id) (map row_of es)))
-        by true = ap Some (read e.1)
-        by false = go es
 
 -- what `get_one` reads of an id
 pub got : {E : Type 0} (k : ℕ) (G : List ℕ → Result ℕ E → Type 0) (f : Found) (id : Text) (r : Option ℕ) → ((t : Text) (x : Result ℕ E) → G t x → ParsesUnsigned k 10 t x)

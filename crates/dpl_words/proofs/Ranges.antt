@@ -1,28 +1,21 @@
 -- The words that `clap` takes give each value of their subcommand, in its range.
 use Rattle.std.proofs.Common.{◌≡◌, ◌≤◌, ◌⊎◌, Bool, ◌&&◌, not, cond, true, false, true≢false, List, [], ◌∷◌, Option, Some, None, option_map, nat_lt}
 use Rattle.std.proofs.Common.{is_some, refl, sym, subst, inl, inr, arith, ℕ}
-use Rattle.std.specs.Prelude.{find, slice_get, unwrap_or, IfSome, option_and_then, map, length, codes, All}
-use Rattle.std.specs.Str.{bytes_eq}
-use Rattle.std.specs.Str.Parse.{digits_value, without_leading_plus}
-use Rattle.std.proofs.lemmas.List.Elements.{All-cons, All-nil}
-use Rattle.clap.specs.Values.{read_as}
-use Rattle.clap.specs.declared.builder.value_parser.Reading.{Reading}
-use Rattle.dpl_words.proofs.Numbers.{below_from, is_below}
+use Rattle.std.specs.Prelude.{find, slice_get, unwrap_or, IfSome}
 use Rattle.std.specs.List.{list_any}
 use Rattle.clap.specs.Kinds.{check_kinds}
 use Rattle.clap.specs.Takes.{is_given}
 use Rattle.dpl_words.proofs.Rows.{HasDefault}
 use Rattle.std.specs.Option.{option_map_or}
-use Rattle.clap.specs.Walk.{Row, Rule, Text, answers_to, first_of, nothing_held, one_of, rows_after, walk, walk_from, action_of, takes_values}
+use Rattle.clap.specs.Walk.{Row, Rule, Text, answers_to, nothing_held, one_of, rows_after, walk, walk_from, action_of, takes_values}
 use Rattle.clap.specs.Simple.{Shape, argument_words, built, entered, label_of, names_of, new_rule, rows_at, subcommand_of}
 use Rattle.clap.specs.Facts.{unwrap_or_range}
-use Rattle.clap.specs.declared.builder.action.ArgAction.TheVariants.{Set, Append}
+use Rattle.clap.specs.declared.builder.action.ArgAction.TheVariants.{Set}
 use Rattle.clap.specs.Faults.{check_fault, entered_fault, fault_of, level_fault, walk_fault}
 use Rattle.clap.proofs.OnLiterals.{clap_on_literals}
 use Rattle.dpl_words.specs.Definition.{dpl_app, split_shape}
-use Rattle.dpl_words.specs.Ranges.{AreInRange, AreInRangeForBatch, AreInRangeForCheck, AreInRangeForDemo, AreThere, AreThereForBatch, AreThereForCheck, AreThereForDemo, HasItsValues, IsFrom, IsFromIfGiven}
-use Rattle.clap.proofs.WalkLemmas.{both}
-use Rattle.dpl_words.specs.Meaning.{BatchValues, batch_values, check_values, is_batch_apart, demo_values, is_taken, number_below, numbers_in, split_values}
+use Rattle.dpl_words.specs.Ranges.{AreInRange, AreInRangeForCheck, AreInRangeForDemo, AreThere, AreThereForCheck, AreThereForDemo, HasItsValues, IsFrom, IsFromIfGiven}
+use Rattle.dpl_words.specs.Meaning.{check_values, demo_values, is_taken, split_values}
 use Rattle.std.proofs.lemmas.Bool.{ltb-false}
 use Rattle.clap.proofs.SimpleLemmas.{is_nil}
 use Rattle.dpl_words.proofs.Level.{IsPlainLevel, IsRead, default_read, each_row, given_read, number_read, required_read, row_read, text_read, word_read}
@@ -41,9 +34,6 @@ check_level = level_at 1
 abbrev demo_level : Shape
 demo_level = level_at 2
 
-abbrev batch_level : Shape
-batch_level = level_at 3
-
 -- the argument at this place
 abbrev at : Shape → ℕ → Rule
 at level i = unwrap_or (slice_get level.rules i) (new_rule [])
@@ -59,11 +49,7 @@ of_each (x ∷ xs) each a (inl is) = subst TakesOne (sym is) each.0
 of_each (x ∷ xs) each a (inr of) = of_each xs each.1 a of
 
 one : (a : Rule) → action_of a ≡ Set → takes_values a ≡ true → (unwrap_or_range a.range).start_inclusive ≡ 1 → TakesOne a
-one a x y z = record { action = inl x; takes = y; least = z }
-
--- and so does each use of one that may be repeated
-again : (a : Rule) → action_of a ≡ Append → takes_values a ≡ true → (unwrap_or_range a.range).start_inclusive ≡ 1 → TakesOne a
-again a x y z = record { action = inr x; takes = y; least = z }
+one a x y z = record { action = x; takes = y; least = z }
 
 each_split : Each split_level.rules
 unfolding clap_on_literals
@@ -88,14 +74,6 @@ each_demo = (one _ refl refl refl, (one _ refl refl refl, (one _ refl refl refl,
 plain_demo : IsPlainLevel demo_level
 unfolding clap_on_literals
 plain_demo = record { single = of_each demo_level.rules each_demo; no_short = λ x. refl; apart = refl }
-
-each_batch : Each batch_level.rules
-unfolding clap_on_literals
-each_batch = (one _ refl refl refl, (one _ refl refl refl, (one _ refl refl refl, (one _ refl refl refl, (one _ refl refl refl, (one _ refl refl refl, (one _ refl refl refl, (one _ refl refl refl, (one _ refl refl refl, (one _ refl refl refl, (one _ refl refl refl, (again _ refl refl refl, tt))))))))))))
-
-plain_batch : IsPlainLevel batch_level
-unfolding clap_on_literals
-plain_batch = record { single = of_each batch_level.rules each_batch; no_short = λ x. refl; apart = refl }
 
 -- what is read of the arguments of `split` gives each value
 split_there : (rows : List Row) → ((a : Rule) → IsIn a split_level.rules → a.required ≡ true → IsRead a rows)
@@ -150,25 +128,6 @@ demo_there rows wanted given = record {
   workers = number_read 32 1 64 (at demo_level 3) rows (omega arith) refl (given (at demo_level 3) (inr (inr (inr (inl refl)))) (_, _, refl));
 }
 
--- what is read of the arguments of `batch` gives each value
-batch_there : (rows : List Row) → ((a : Rule) → IsIn a batch_level.rules → a.required ≡ true → IsRead a rows)
-    → ((a : Rule) → IsIn a batch_level.rules → HasDefault a → IsRead a rows)
-    → ((a : Rule) → IsIn a batch_level.rules → (one_of a.id rows ≡ None) ⊎ IsRead a rows) → AreThereForBatch rows
-unfolding clap_on_literals
-batch_there rows wanted given left_out = record {
-  rule = number_read 32 1 1000000 (at batch_level 0) rows (omega arith) refl (wanted (at batch_level 0) (inl refl) refl);
-  overlap = number_read 32 1 1000000 (at batch_level 1) rows (omega arith) refl (wanted (at batch_level 1) (inr (inl refl)) refl);
-  corner = given_read 32 1 1000000 (at batch_level 2) rows (omega arith) refl (left_out (at batch_level 2) (inr (inr (inl refl))));
-  datatype = number_read 16 0 65535 (at batch_level 3) rows (omega arith) refl (given (at batch_level 3) (inr (inr (inr (inl refl)))) (_, _, refl));
-  a = number_read 16 0 65535 (at batch_level 5) rows (omega arith) refl (given (at batch_level 5) (inr (inr (inr (inr (inr (inl refl)))))) (_, _, refl));
-  b = number_read 16 0 65535 (at batch_level 6) rows (omega arith) refl (given (at batch_level 6) (inr (inr (inr (inr (inr (inr (inl refl))))))) (_, _, refl));
-  tile = number_read 32 1 1073741824 (at batch_level 7) rows (omega arith) refl (given (at batch_level 7) (inr (inr (inr (inr (inr (inr (inr (inl refl)))))))) (_, _, refl));
-  workers = number_read 32 1 64 (at batch_level 8) rows (omega arith) refl (given (at batch_level 8) (inr (inr (inr (inr (inr (inr (inr (inr (inl refl))))))))) (_, _, refl));
-  input = text_read (at batch_level 9) rows (wanted (at batch_level 9) (inr (inr (inr (inr (inr (inr (inr (inr (inr (inl refl)))))))))) refl);
-  prefix = text_read (at batch_level 10) rows (wanted (at batch_level 10) (inr (inr (inr (inr (inr (inr (inr (inr (inr (inr (inl refl))))))))))) refl);
-  layer = text_read (at batch_level 11) rows (wanted (at batch_level 11) (inr (inr (inr (inr (inr (inr (inr (inr (inr (inr (inr (inl refl)))))))))))) refl);
-}
-
 split_given : (rows : List Row) → check_fault split_level rows false ≡ [] → list_any (λ a. a.required && not (is_given a.id rows)) split_level.rules ≡ false
 unfolding clap_on_literals
 split_given rows e = go (list_any (λ a. a.required && not (is_given a.id rows)) split_level.rules) e
@@ -216,40 +175,20 @@ demo_level_there words e =
     (λ a of wanted. required_read demo_level plain_demo a of wanted (rows_after demo_level.rules [] words) (demo_given (rows_after demo_level.rules [] words) parts.1) parts.0)
     (λ a of d. default_read demo_level plain_demo a of d words parts.0)
 
-batch_given : (rows : List Row) → check_fault batch_level rows false ≡ [] → list_any (λ a. a.required && not (is_given a.id rows)) batch_level.rules ≡ false
-unfolding clap_on_literals
-batch_given rows e = go (list_any (λ a. a.required && not (is_given a.id rows)) batch_level.rules) e
-  where
-    go : (b : Bool) → check_kinds false false b ≡ [] → b ≡ false
-    go false e = refl
-    go true e = absurd (cc)
-
-batch_level_there : (words : List Text) → level_fault batch_level [] nothing_held words false [] ≡ [] → AreThereForBatch (rows_after batch_level.rules [] words)
-batch_level_there words e =
-    let parts = each_row batch_level plain_batch words false e in
-    batch_there (rows_after batch_level.rules [] words)
-    (λ a of wanted. required_read batch_level plain_batch a of wanted (rows_after batch_level.rules [] words) (batch_given (rows_after batch_level.rules [] words) parts.1) parts.0)
-    (λ a of d. default_read batch_level plain_batch a of d words parts.0)
-    (λ a of. row_read batch_level plain_batch a of (rows_after batch_level.rules [] words) parts.0)
-
 -- a subcommand's entries have what its name says
 split_has : (rows : List Row) → AreThere rows → HasItsValues (split_level.name, rows)
 unfolding clap_on_literals
-split_has rows h = record { split = λ e. h; check = λ e. absurd (true≢false (sym e)); demo = λ e. absurd (true≢false (sym e)); batch = λ e. absurd (true≢false (sym e)) }
+split_has rows h = record { split = λ e. h; check = λ e. absurd (true≢false (sym e)); demo = λ e. absurd (true≢false (sym e)) }
 
 check_has : (rows : List Row) → AreThereForCheck rows → HasItsValues (check_level.name, rows)
 unfolding clap_on_literals
-check_has rows h = record { split = λ e. absurd (true≢false (sym e)); check = λ e. h; demo = λ e. absurd (true≢false (sym e)); batch = λ e. absurd (true≢false (sym e)) }
+check_has rows h = record { split = λ e. absurd (true≢false (sym e)); check = λ e. h; demo = λ e. absurd (true≢false (sym e)) }
 
 demo_has : (rows : List Row) → AreThereForDemo rows → HasItsValues (demo_level.name, rows)
 unfolding clap_on_literals
-demo_has rows h = record { split = λ e. absurd (true≢false (sym e)); check = λ e. absurd (true≢false (sym e)); demo = λ e. h; batch = λ e. absurd (true≢false (sym e)) }
+demo_has rows h = record { split = λ e. absurd (true≢false (sym e)); check = λ e. absurd (true≢false (sym e)); demo = λ e. h }
 
-batch_has : (rows : List Row) → AreThereForBatch rows → HasItsValues (batch_level.name, rows)
-unfolding clap_on_literals
-batch_has rows h = record { split = λ e. absurd (true≢false (sym e)); check = λ e. absurd (true≢false (sym e)); demo = λ e. absurd (true≢false (sym e)); batch = λ e. h }
-
-subs : (built dpl_app).subs ≡ split_level ∷ check_level ∷ demo_level ∷ batch_level ∷ []
+subs : (built dpl_app).subs ≡ split_level ∷ check_level ∷ demo_level ∷ []
 unfolding clap_on_literals
 subs = refl
 
@@ -258,16 +197,15 @@ entered_there None e = tt
 entered_there (Some p) e =
     let mine = subst (λ xs. option_map_or (λ s. level_fault s [] nothing_held p.1 false []) (find (λ s. answers_to p.0 (label_of s)) xs) [] ≡ []) subs e in
     subst (λ xs. IfSome (option_map (λ s. rows_at s p.1) (find (λ s. answers_to p.0 (label_of s)) xs)) HasItsValues) (sym subs)
-    (go (answers_to p.0 (label_of split_level)) (answers_to p.0 (label_of check_level)) (answers_to p.0 (label_of demo_level)) (answers_to p.0 (label_of batch_level)) mine)
+    (go (answers_to p.0 (label_of split_level)) (answers_to p.0 (label_of check_level)) (answers_to p.0 (label_of demo_level)) mine)
   where
-    go : (x y z w : Bool) → option_map_or (λ s. level_fault s [] nothing_held p.1 false [])
-        (cond x (Some split_level) (cond y (Some check_level) (cond z (Some demo_level) (cond w (Some batch_level) None)))) [] ≡ []
-        → IfSome (option_map (λ s. rows_at s p.1) (cond x (Some split_level) (cond y (Some check_level) (cond z (Some demo_level) (cond w (Some batch_level) None))))) HasItsValues
-    go true y z w e = split_has (rows_after split_level.rules [] p.1) (split_level_there p.1 e)
-    go false true z w e = check_has (rows_after check_level.rules [] p.1) (check_level_there p.1 e)
-    go false false true w e = demo_has (rows_after demo_level.rules [] p.1) (demo_level_there p.1 e)
-    go false false false true e = batch_has (rows_after batch_level.rules [] p.1) (batch_level_there p.1 e)
-    go false false false false e = tt
+    go : (x y z : Bool) → option_map_or (λ s. level_fault s [] nothing_held p.1 false [])
+        (cond x (Some split_level) (cond y (Some check_level) (cond z (Some demo_level) None))) [] ≡ []
+        → IfSome (option_map (λ s. rows_at s p.1) (cond x (Some split_level) (cond y (Some check_level) (cond z (Some demo_level) None)))) HasItsValues
+    go true y z e = split_has (rows_after split_level.rules [] p.1) (split_level_there p.1 e)
+    go false true z e = check_has (rows_after check_level.rules [] p.1) (check_level_there p.1 e)
+    go false false true e = demo_has (rows_after demo_level.rules [] p.1) (demo_level_there p.1 e)
+    go false false false e = tt
 
 -- the subcommand that was met has its values, where `clap` takes the words
 pub taken_there : (words : List Text) → is_taken words ≡ true → IfSome (subcommand_of dpl_app words) HasItsValues
@@ -328,49 +266,6 @@ demo_in_range entries h = record {
   rows = from_range _ _ _ h.rows;
   tile = from_range _ _ _ h.tile;
   workers = from_range _ _ _ h.workers;
-}
-
--- the numbers of an argument are below 2 ^ 16, and there are some where the argument is there
-small : (t : Text) → unwrap_or (number_below 16 t) 0 ≤ 65535
-small t = go (is_below 16 t) refl
-  where
-    go : (b : Bool) → is_below 16 t ≡ b → unwrap_or (cond b (Some (digits_value 10 (without_leading_plus t))) None) 0 ≤ 65535
-    go true e = (let below = (below_from 16 t e).1 in omega (arith, below))
-    go false e = omega arith
-
-all_small : (ts : List Text) → All (λ n. n ≤ 65535) (map (λ t. unwrap_or (number_below 16 t) 0) ts)
-all_small [] = All-nil (λ (n : ℕ). n ≤ 65535)
-all_small (t ∷ ts) = All-cons (λ (n : ℕ). n ≤ 65535) _ _ (small t) (all_small ts)
-
-some_numbers : (id : Text) (rows : List Row) → is_some (first_of id rows) ≡ true → 1 ≤ length (numbers_in 16 id rows)
-some_numbers id rows there = go (find (λ r. bytes_eq r.id id) rows) there
-  where
-    of_row : (vs : List Text) (how : Reading) → is_some (slice_get vs 0) ≡ true → 1 ≤ length (map (λ t. unwrap_or (number_below 16 t) 0) (map (read_as how) vs))
-    of_row [] how there = absurd (true≢false (sym there))
-    of_row (v ∷ vs) how there = omega arith
-
-    go : (o : Option Row) → is_some (option_and_then (λ (r : Row). slice_get r.values 0) o) ≡ true
-        → 1 ≤ length (map (λ t. unwrap_or (number_below 16 t) 0) (unwrap_or (option_map (λ (r : Row). map (read_as r.reading) r.values) o) []))
-    go None there = absurd (true≢false (sym there))
-    go (Some r) there = of_row r.values r.reading there
-
--- a batch that is apart has at most 64 layers
-pub few_layers : (v : BatchValues) → is_batch_apart v ≡ true → length v.layers ≤ 64
-few_layers v apart = not_above 64 (length v.layers) (both _ _ (both _ _ apart).1).0
-
-pub batch_in_range : (rows : List Row) → AreThereForBatch rows → (batch_values rows).corner ≤ (batch_values rows).rule → length (batch_values rows).layers ≤ 64
-    → AreInRangeForBatch (batch_values rows)
-batch_in_range rows h below few = record {
-  datatype = (from_range _ _ _ h.datatype).1;
-  rule = from_range _ _ _ h.rule;
-  overlap = from_range _ _ _ h.overlap;
-  corner = (least_corner _ _ _ _ h.corner h.rule, below);
-  a = (from_range _ _ _ h.a).1;
-  b = (from_range _ _ _ h.b).1;
-  tile = from_range _ _ _ h.tile;
-  workers = from_range _ _ _ h.workers;
-  layers = (some_numbers (codes "layer") rows h.layer, few);
-  numbers = all_small _;
 }
 
 pub some_from : (low high : ℕ) (o : Option ℕ) → IsFrom low high o → is_some o ≡ true

@@ -19,7 +19,7 @@ use Rattle.clap.specs.Simple.{Shape}
 use Rattle.clap.specs.Faults.{action_fault, default_fault, defaults_fault, flag_word_fault, long_fault, option_fault, other_fault}
 use Rattle.clap.specs.Faults.{positional_fault, react_fault, repeat_fault, settle_fault, step_fault, stray_fault, turn_fault, use_fault}
 use Rattle.clap.specs.Faults.{values_fault, walk_fault, word_fault}
-use Rattle.clap.specs.declared.builder.action.ArgAction.TheVariants.{Set, Append}
+use Rattle.clap.specs.declared.builder.action.ArgAction.TheVariants.{Set}
 use Rattle.clap.specs.declared.builder.value_parser.Reading.{Reading}
 use Rattle.clap.specs.declared.error.kind.ErrorKind.{ErrorKind}
 use Rattle.clap.specs.declared.parser.matches.ValueSource.{ValueSource}
@@ -55,9 +55,9 @@ abbrev pub EachRow : (Text → Reading → Text → Type 0) → List Row → Typ
 EachRow P [] = Unit {0}
 EachRow P (r ∷ rs) = HasFirst (P r.id r.reading) r.values × EachRow P rs
 
--- a use of the argument takes one value, and a later one puts it out or stands behind it
+-- a use of the argument takes one value, and a later one puts it out
 pub record TakesOne (a : Rule) : Type 0 where
-  pub action : (action_of a ≡ Set) ⊎ (action_of a ≡ Append)
+  pub action : action_of a ≡ Set
   pub takes : takes_values a ≡ true
   pub least : (unwrap_or_range a.range).start_inclusive ≡ 1
 
@@ -99,23 +99,14 @@ module _ (s : Shape) (P : Text → Reading → Text → Type 0)
       let bad = subst (λ n. range_kinds n (most_values a) 0 ≡ []) (single a of).least range in
       absurd (cc)
   used_kept a of (v ∷ vs) rows e h =
-      go (single a of).action (none_of (range_kinds (unwrap_or_range a.range).start_inclusive (most_values a) (length (v ∷ vs))) _ e).1
-    where
-      ok : values_fault a (v ∷ vs) ≡ [] → value_passes a v ≡ true
-      ok values = passed _ _ (none_of (value_kinds a.ignore_case (parser_of_value a.parser) v) _ values).0
-
-      go : (action_of a ≡ Set) ⊎ (action_of a ≡ Append) → action_fault (action_of a) s.args_override_self a (v ∷ vs) rows ≡ []
-          → EachRow P (used_as (action_of a) a.id (reading_by a) (v ∷ vs) rows)
-      go (inl is) does =
-          let sets : action_fault Set s.args_override_self a (v ∷ vs) rows ≡ [] = subst (λ x. action_fault x s.args_override_self a (v ∷ vs) rows ≡ []) is does in
-          let values = (none_of (repeat_fault s.args_override_self a.id rows) _ sets).1 in
-          let now : EachRow P (used_as Set a.id (reading_by a) (v ∷ vs) rows) = with_kept P a.id (reading_by a) _ v vs (without a.id rows)
-          (each a of v (ok values)) (without_kept P a.id rows h) in
-          subst (λ x. EachRow P (used_as x a.id (reading_by a) (v ∷ vs) rows)) (sym is) now
-      go (inr is) does =
-          let values : action_fault Append s.args_override_self a (v ∷ vs) rows ≡ [] = subst (λ x. action_fault x s.args_override_self a (v ∷ vs) rows ≡ []) is does in
-          let now : EachRow P (used_as Append a.id (reading_by a) (v ∷ vs) rows) = with_kept P a.id (reading_by a) _ v vs rows (each a of v (ok values)) h in
-          subst (λ x. EachRow P (used_as x a.id (reading_by a) (v ∷ vs) rows)) (sym is) now
+      let does = (none_of (range_kinds (unwrap_or_range a.range).start_inclusive (most_values a) (length (v ∷ vs))) _ e).1 in
+      let sets : action_fault Set s.args_override_self a (v ∷ vs) rows ≡ [] = subst (λ x. action_fault x s.args_override_self a (v ∷ vs) rows ≡ []) (single a of).action does in
+      let values = (none_of (repeat_fault s.args_override_self a.id rows) _ sets).1 in
+      let first = (none_of (value_kinds a.ignore_case (parser_of_value a.parser) v) _ values).0 in
+      let ok : value_passes a v ≡ true = passed _ _ first in
+      let now : EachRow P (used_as Set a.id (reading_by a) (v ∷ vs) rows) = with_kept P a.id (reading_by a) _ v vs (without a.id rows)
+      (each a of v ok) (without_kept P a.id rows h) in
+      subst (λ x. EachRow P (used_as x a.id (reading_by a) (v ∷ vs) rows)) (sym (single a of).action) now
 
   pub settled_kept : (h : Held) → settle_fault s.rules s.args_override_self h ≡ [] → EachRow P h.rows → EachRow P (settled s.rules h).rows
   settled_kept h e each_held = go h.pending e

@@ -1,8 +1,8 @@
 -- What the words of a command line give, where they are taken.
-use Rattle.std.specs.Prelude.{◌≡◌, ◌≤◌, ℕ, true, All, List, Option, Some, None, codes, is_some, length}
+use Rattle.std.specs.Prelude.{◌≡◌, ◌≤◌, ℕ, true, List, Option, Some, None, codes, is_some}
 use Rattle.std.specs.Str.{bytes_eq}
 use Rattle.clap.specs.Walk.{Row, Text, first_of}
-use Rattle.dpl_words.specs.Meaning.{AsksBatch, AsksCheck, AsksDemo, AsksSplit, BatchValues, CheckValues, DemoValues, RequestValues, SplitValues, is_apart, is_batch_apart, number_at}
+use Rattle.dpl_words.specs.Meaning.{AsksCheck, AsksDemo, AsksSplit, CheckValues, DemoValues, RequestValues, SplitValues, is_apart, number_at}
 
 -- a number is there, from low to high
 abbrev pub IsFrom : ℕ → ℕ → Option ℕ → Type 0
@@ -56,26 +56,11 @@ pub record AreThereForDemo (entries : List Row) : Type 0 where
   pub tile : IsFrom 1 1073741824 (number_at 32 (codes "tile") entries)
   pub workers : IsFrom 1 64 (number_at 32 (codes "workers") entries)
 
--- the entries of `batch` have each number, in its range, the names, and a layer
-pub record AreThereForBatch (rows : List Row) : Type 0 where
-  pub datatype : IsFrom 0 65535 (number_at 16 (codes "datatype") rows)
-  pub rule : IsFrom 1 1000000 (number_at 32 (codes "rule") rows)
-  pub overlap : IsFrom 1 1000000 (number_at 32 (codes "overlap") rows)
-  pub corner : IsFromIfGiven 1 1000000 (number_at 32 (codes "corner") rows)
-  pub a : IsFrom 0 65535 (number_at 16 (codes "a") rows)
-  pub b : IsFrom 0 65535 (number_at 16 (codes "b") rows)
-  pub tile : IsFrom 1 1073741824 (number_at 32 (codes "tile") rows)
-  pub workers : IsFrom 1 64 (number_at 32 (codes "workers") rows)
-  pub input : IsThere (first_of (codes "in") rows)
-  pub prefix : IsThere (first_of (codes "prefix") rows)
-  pub layer : IsThere (first_of (codes "layer") rows)
-
 -- what the entries of a subcommand have, by its name
 pub record HasItsValues (met : Text × List Row) : Type 0 where
   pub split : bytes_eq met.0 (codes "split") ≡ true → AreThere met.1
   pub check : bytes_eq met.0 (codes "check") ≡ true → AreThereForCheck met.1
   pub demo : bytes_eq met.0 (codes "demo") ≡ true → AreThereForDemo met.1
-  pub batch : bytes_eq met.0 (codes "batch") ≡ true → AreThereForBatch met.1
 
 -- each number of a command line of `split` lies in its range, and the corner rule isn't above the rule
 pub record AreInRange (v : SplitValues) : Type 0 where
@@ -110,29 +95,14 @@ pub record AreInRangeForDemo (v : DemoValues) : Type 0 where
   pub tile : (1 ≤ v.tile) × (v.tile ≤ 1073741824)
   pub workers : (1 ≤ v.workers) × (v.workers ≤ 64)
 
--- each number of a command line of `batch` lies in its range, the corner rule isn't above the rule, and there are 1 to 64 layers
-pub record AreInRangeForBatch (v : BatchValues) : Type 0 where
-  pub datatype : v.datatype ≤ 65535
-  pub rule : (1 ≤ v.rule) × (v.rule ≤ 1000000)
-  pub overlap : (1 ≤ v.overlap) × (v.overlap ≤ 1000000)
-  pub corner : (1 ≤ v.corner) × (v.corner ≤ v.rule)
-  pub a : v.a ≤ 65535
-  pub b : v.b ≤ 65535
-  pub tile : (1 ≤ v.tile) × (v.tile ≤ 1073741824)
-  pub workers : (1 ≤ v.workers) × (v.workers ≤ 64)
-  pub layers : (1 ≤ length v.layers) × (length v.layers ≤ 64)
-  pub numbers : All (λ n. n ≤ 65535) v.layers
-
 -- each number of a request lies in its range
 abbrev pub IsInRange : RequestValues → Type 0
 IsInRange (AsksSplit v) = AreInRange v
 IsInRange (AsksCheck v) = AreInRangeForCheck v
 IsInRange (AsksDemo v) = AreInRangeForDemo v
-IsInRange (AsksBatch v) = AreInRangeForBatch v
 
--- a request's masks have layers of their own, each of its files a name of its own, and each layer is named once
+-- a request's masks have layers of their own, and each of its files a name of its own
 abbrev pub IsApart : RequestValues → Type 0
 IsApart (AsksSplit v) = is_apart v.a v.b v.input v.output v.certificate ≡ true
 IsApart (AsksCheck v) = is_apart v.a v.b v.input v.output v.certificate ≡ true
 IsApart (AsksDemo v) = Unit {0}
-IsApart (AsksBatch v) = is_batch_apart v ≡ true
