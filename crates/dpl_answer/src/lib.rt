@@ -6,6 +6,7 @@ mod colours;
 mod conflicts;
 mod cycle;
 mod decomposed;
+mod gains;
 mod job;
 mod lines;
 mod marks;

@@ -79,6 +79,7 @@ fn split<'a, R: Threads + Wait + Sync, G: Gate + Sync>(
             corner: options.corner,
         },
         overlap: options.overlap,
+        fewer: options.fewer,
         sharing: Sharing {
             tile: options.tile,
             workers: options.workers,
@@ -124,6 +125,7 @@ fn painted_output<'a>(
         head,
         pieces,
         stitches,
+        gains,
     } = painted;
     let bytes = file_bytes(alloc, copied, a.rects(), b.rects(), options.a, options.b)?;
     let line = done_line(
@@ -139,7 +141,7 @@ fn painted_output<'a>(
         head,
         pieces,
         stitches,
-        gains: None,
+        gains,
     };
     let masks = Write {
         name: options.output,

@@ -4,4 +4,6 @@
 #[cfg(test)]
 mod corners;
 #[cfg(test)]
+mod fewer;
+#[cfg(test)]
 mod marks;

@@ -367,3 +367,63 @@ fn lines_name_layers_of_markers(rt: HostRuntime) -> Result<(), Fail> {
     }
     Ok(())
 }
+
+/// Whether a line asks a split for fewer stitches, if it asks for anything.
+fn fewer_of(alloc: Global, line: &str) -> Result<Option<bool>, Fail> {
+    let words = words(alloc, line)?;
+    match read_words(alloc, &words) {
+        Ok(Request::Split(options)) => Ok(Some(options.fewer)),
+        Ok(_) => Err("a split alone may have fewer stitches".into()),
+        Err(WordsFault::Usage) => Ok(None),
+        Err(WordsFault::NoMemory) => Err("there is memory".into()),
+    }
+}
+
+#[test]
+fn lines_ask_for_fewer_stitches(rt: HostRuntime) -> Result<(), Fail> {
+    let cases: [(&str, Option<bool>); 10] = [
+        (
+            "dpl split --layer 1 --rule 30 --overlap 10 i o c",
+            Some(false),
+        ),
+        (
+            "dpl split --layer 1 --rule 30 --overlap 10 --fewer i o c",
+            Some(true),
+        ),
+        // between the names, and before an option
+        (
+            "dpl split i --fewer o c --layer 1 --rule 30 --overlap 10",
+            Some(true),
+        ),
+        // twice, with a value, and half
+        (
+            "dpl split --layer 1 --rule 30 --overlap 10 --fewer --fewer i o c",
+            None,
+        ),
+        (
+            "dpl split --layer 1 --rule 30 --overlap 10 --fewer=true i o c",
+            None,
+        ),
+        (
+            "dpl split --layer 1 --rule 30 --overlap 10 --fewer= i o c",
+            None,
+        ),
+        (
+            "dpl split --layer 1 --rule 30 --overlap 10 --fewer true i o c",
+            None,
+        ),
+        (
+            "dpl split --layer 1 --rule 30 --overlap 10 --few i o c",
+            None,
+        ),
+        (
+            "dpl check --layer 1 --rule 30 --overlap 10 --fewer i o c",
+            None,
+        ),
+        ("dpl demo --seed 1 --rows 2 --fewer", None),
+    ];
+    for (line, want) in cases {
+        assert!(rt; fewer_of(rt.alloc(), line)? == want, "at {line}");
+    }
+    Ok(())
+}
