@@ -6,7 +6,6 @@ pub mod Moving
 pub mod Sheeting
 pub mod LineLaws
 pub mod SameGraphs
-pub mod Reducing
 pub mod Deciding
 pub mod NearLines
 pub mod Planned

@@ -6,7 +6,6 @@ mod colours;
 mod conflicts;
 mod cycle;
 mod decomposed;
-mod gains;
 mod job;
 mod lines;
 mod marks;

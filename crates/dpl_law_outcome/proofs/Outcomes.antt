@@ -1,5 +1,5 @@
 -- The same files have one outcome, whatever the tiles and the workers.
-use Rattle.std.proofs.Common.{◌≡◌, ℕ, inl, inr, Bool, false, List, Option, Some, None, refl, sym, ap, ◌∙◌, subst, arith, codes}
+use Rattle.std.proofs.Common.{◌≡◌, ℕ, inl, inr, List, Option, Some, None, refl, sym, ap, ◌∙◌, subst, arith, codes}
 use Rattle.std.specs.FinMap as map
 use Rattle.std.proofs.lemmas.Bool.{cases_order}
 use Rattle.dpl_spec_split.specs.Squares.{uniform}
@@ -31,22 +31,22 @@ use Rattle.dpl_law_outcome.proofs.Readings.{marked-same, reading-same}
 use Rattle.dpl_spec_split.specs.Marks.{Marks}
 use Rattle.dpl_layer.specs.Marked.{FaultyMarked, MarkedChoice, MarkedLayer}
 
-decision-same : (fewer : Bool) (v : MarkedChoice) (spacing : Spacing) (overlap : ℕ) (bytes : List ℕ) (d e : Decision) → IsDecision fewer v spacing overlap bytes d → IsDecision fewer v spacing overlap bytes e → d ≡ e
-decision-same fewer v spacing overlap bytes (Refuses m i) (Refuses n j) x y = (let same : FaultyMarked m i ≡ FaultyMarked n j = marked-same v bytes (FaultyMarked m i) (FaultyMarked n j) x y in cc)
-decision-same fewer v spacing overlap bytes (Refuses m i) (Decides q g) x (s, c, d, y, is) =
+decision-same : (v : MarkedChoice) (spacing : Spacing) (overlap : ℕ) (bytes : List ℕ) (d e : Decision) → IsDecision v spacing overlap bytes d → IsDecision v spacing overlap bytes e → d ≡ e
+decision-same v spacing overlap bytes (Refuses m i) (Refuses n j) x y = (let same : FaultyMarked m i ≡ FaultyMarked n j = marked-same v bytes (FaultyMarked m i) (FaultyMarked n j) x y in cc)
+decision-same v spacing overlap bytes (Refuses m i) (Decides q g) x (s, c, d, y, is) =
     (let same : FaultyMarked m i ≡ MarkedLayer q s c d = marked-same v bytes (FaultyMarked m i) (MarkedLayer q s c d) x y in absurd cc)
-decision-same fewer v spacing overlap bytes (Decides p f) (Refuses n j) (r, a, b, x, is) y =
+decision-same v spacing overlap bytes (Decides p f) (Refuses n j) (r, a, b, x, is) y =
     (let same : FaultyMarked n j ≡ MarkedLayer p r a b = marked-same v bytes (FaultyMarked n j) (MarkedLayer p r a b) y x in absurd cc)
-decision-same fewer v spacing overlap bytes (Decides p f) (Decides q g) (r, a, b, x, is_f) (s, c, d, y, is_g) =
+decision-same v spacing overlap bytes (Decides p f) (Decides q g) (r, a, b, x, is_f) (s, c, d, y, is_g) =
     let same : MarkedLayer p r a b ≡ MarkedLayer q s c d = marked-same v bytes (MarkedLayer p r a b) (MarkedLayer q s c d) x y in
     let fronts : p ≡ q = cc in
     let slabs : s ≡ r = cc in
     let firsts : c ≡ a = cc in
     let seconds : d ≡ b = cc in
-    let on_layer = subst (λ l. IsFlat fewer (marks_for v c d) spacing overlap l g) slabs is_g in
-    let on_a = subst (λ k. IsFlat fewer (marks_for v k d) spacing overlap r g) firsts on_layer in
-    let on_b = subst (λ k. IsFlat fewer (marks_for v a k) spacing overlap r g) seconds on_a in
-    let flats : f ≡ g = flat-same fewer (marks_for v a b) spacing overlap r f g is_f on_b in
+    let on_layer = subst (λ l. IsFlat (marks_for v c d) spacing overlap l g) slabs is_g in
+    let on_a = subst (λ k. IsFlat (marks_for v k d) spacing overlap r g) firsts on_layer in
+    let on_b = subst (λ k. IsFlat (marks_for v a k) spacing overlap r g) seconds on_a in
+    let flats : f ≡ g = flat-same (marks_for v a b) spacing overlap r f g is_f on_b in
     ap (λ k. Decides k f) fronts ∙ ap (λ k. Decides q k) flats
 
 -- other tiles and workers plan alike
@@ -57,7 +57,7 @@ plan-retiled v tile workers (Decides p (Clashes q)) = refl
 
 split-same : (v : SplitValues) (tile workers : ℕ) (bytes : List ℕ) (x y : Outcome) → IsSplit v bytes x → IsSplit (record v { tile = tile; workers = workers }) bytes y → x ≡ y
 split-same v tile workers bytes x y (d, is_d, a) (e, is_e, b) =
-    a ∙ (ap (λ z. plan_of v z) (decision-same v.fewer (split_marked v) (split_spacing v) v.overlap bytes d e is_d is_e) ∙ (sym (plan-retiled v tile workers e) ∙ sym b))
+    a ∙ (ap (λ z. plan_of v z) (decision-same (split_marked v) (split_spacing v) v.overlap bytes d e is_d is_e) ∙ (sym (plan-retiled v tile workers e) ∙ sym b))
 
 split-of-same : (v : SplitValues) (tile workers : ℕ) (file : Option (List ℕ)) (x y : Outcome) → IsSplitOf v file x
     → IsSplitOf (record v { tile = tile; workers = workers }) file y → x ≡ y
@@ -65,7 +65,7 @@ split-of-same v tile workers None x y a b = a ∙ sym b
 split-of-same v tile workers (Some bytes) x y a b = split-same v tile workers bytes x y a b
 
 demo-same : (v : DemoValues) (tile workers : ℕ) (x y : Outcome) → IsDemo v x → IsDemo (record v { tile = tile; workers = workers }) y → x ≡ y
-demo-same v tile workers x y (d, is_d, a) (e, is_e, b) = a ∙ (ap demo_plan (decision-same false demo_marked (uniform 30) 10 (demo_file v.seed v.rows) d e is_d is_e) ∙ sym b)
+demo-same v tile workers x y (d, is_d, a) (e, is_e, b) = a ∙ (ap demo_plan (decision-same demo_marked (uniform 30) 10 (demo_file v.seed v.rows) d e is_d is_e) ∙ sym b)
 
 -- ---- the files of `check`
 

@@ -1,5 +1,5 @@
 -- A command line has at most one outcome, and masks are right.
-use Rattle.std.specs.Prelude.{◌≡◌, ℕ, Bool, List, map, Option, Some}
+use Rattle.std.specs.Prelude.{◌≡◌, ℕ, List, map, Option, Some}
 use Rattle.clap.specs.Walk.{Text}
 use Rattle.dpl_spec_split.specs.declared.Spacing.{Spacing}
 use Rattle.dpl_host.specs.Outside.{Files, Outside}
@@ -38,4 +38,4 @@ pub record AreRight (spacing : Spacing) (layer : List Rect) (p : Painted) : Type
   pub overlap : OverlapAt (map (λ (s : StitchLine). s.rect) p.stitches) p.a p.b
 
 abbrev pub PaintedMasksAreRight : Type 0
-PaintedMasksAreRight = (fewer : Bool) (marks : Option Marks) (spacing : Spacing) (overlap : ℕ) (layer : List Rect) (p : Painted) → IsFlat fewer marks spacing overlap layer (Paints p) → AreRight spacing layer p
+PaintedMasksAreRight = (marks : Option Marks) (spacing : Spacing) (overlap : ℕ) (layer : List Rect) (p : Painted) → IsFlat marks spacing overlap layer (Paints p) → AreRight spacing layer p

@@ -1,7 +1,6 @@
 pub mod Parts
 pub mod Cover
 pub mod Apart
-pub mod Lettering
 pub mod Overlap
 pub mod Fixed
 pub mod Tops

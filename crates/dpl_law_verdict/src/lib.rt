@@ -3,9 +3,9 @@
 
 ghost use Rattle.dpl_law_verdict.specs.Flips.{NoFlipsLeaveFewer};
 ghost use Rattle.dpl_law_verdict.specs.Lines.{ValidLinesAreGood};
-ghost use Rattle.dpl_law_verdict.specs.Own.{OwnCyclesAreValid, OwnMasksAreValid, OwnMasksByAreValid};
+ghost use Rattle.dpl_law_verdict.specs.Own.{OwnCyclesAreValid, OwnMasksAreValid};
 ghost use Rattle.dpl_law_verdict.specs.Valid.{ValidConflictsAreThere, ValidMasksAreRight, ValidMasksKeepMarks};
-ghost use Rattle.dpl_law_verdict.specs.Written.{FaultlessLayersAreWithin, OwnCyclesAreWritten, OwnMasksAreWritten, OwnMasksByAreWritten};
+ghost use Rattle.dpl_law_verdict.specs.Written.{FaultlessLayersAreWithin, OwnCyclesAreWritten, OwnMasksAreWritten};
 
 /// Valid masks cover the layer and nothing else, have no near squares of different features on one mask, and are both on a square exactly where it lies in a listed stitch.
 pub fn valid_masks_are_right()
@@ -32,10 +32,9 @@ pub fn valid_conflicts_are_there()
     ensures { ValidConflictsAreThere }
 {}
 
-/// The masks of a layer whose conflict graph has no odd cycle are valid by the lines that tell of them, and so are those with fewer stitches, with the gains that are left.
+/// The masks of a layer whose conflict graph has no odd cycle are valid by the lines that tell of them.
 pub fn own_masks_are_valid()
-    ensures masks { OwnMasksAreValid }
-    ensures by { OwnMasksByAreValid }
+    ensures { OwnMasksAreValid }
 {}
 
 /// The odd cycle reported of a layer is valid by its pieces and their nearest squares.
@@ -48,6 +47,5 @@ pub fn own_cycles_are_valid()
 pub fn own_results_are_written()
     ensures layer { FaultlessLayersAreWithin }
     ensures masks { OwnMasksAreWritten }
-    ensures by { OwnMasksByAreWritten }
     ensures cycle { OwnCyclesAreWritten }
 {}

@@ -1,5 +1,5 @@
 -- A run that is done has parted its layer.
-use Rattle.std.proofs.Common.{◌≡◌, ◌∙◌, ap, sym, refl, subst, inl, inr, Bool, true, false, is_some, List, [], ◌∷◌, ℕ, Option, Some, None, map, codes}
+use Rattle.std.proofs.Common.{◌≡◌, ◌∙◌, ap, sym, refl, subst, inl, inr, List, [], ◌∷◌, ℕ, Option, Some, None, map, codes}
 use Rattle.std.specs.FinMap as files
 use Rattle.clap.specs.Walk.{Text}
 use Rattle.dpl_spec_split.specs.declared.Spacing.{Spacing}
@@ -7,15 +7,13 @@ use Rattle.dpl_host.specs.Outside.{Outside}
 use Rattle.dpl_spec_split.specs.declared.Rect.{Rect}
 use Rattle.dpl_spec_split.specs.declared.Zone.{Zone}
 use Rattle.dpl_spec_split.specs.Squares.{Covers}
-use Rattle.dpl_spec_split.specs.Decomposition.{Cut, IsCut, Masks as Decomposed, cut_graph}
-use Rattle.dpl_spec_fewer.specs.Masks.{AreMasksBy}
+use Rattle.dpl_spec_split.specs.Decomposition.{AreMasks, Cut, IsCut, Masks as Decomposed, cut_graph}
 use Rattle.dpl_spec_split.specs.Summary.{HasOddCycle}
 use Rattle.dpl_law_verdict.specs.Valid.{KeepMarks}
 use Rattle.dpl_layer.specs.Marked.{FaultyMarked, MarkedLayer}
 use Rattle.dpl_spec_split.specs.Marks.{Marks}
 use Rattle.dpl_law_split.specs.Masks.{OverlapAt, rect_at, rects_of}
 use Rattle.dpl_law_split.proofs.Cover.{cover}
-use Rattle.dpl_law_split.proofs.Lettering.{lettered, sound}
 use Rattle.dpl_law_split.proofs.Fixed.{fixed-on-a, fixed-on-b}
 use Rattle.dpl_law_split.proofs.Apart.{far-on-a, far-on-b}
 use Rattle.dpl_law_split.proofs.Overlap.{overlap-at}
@@ -28,8 +26,7 @@ use Rattle.dpl_run.specs.Check.{IsCheck, IsCheckOfCert, IsCheckOfFile, IsCheckOf
 use Rattle.dpl_run.specs.Demo.{demo_plan}
 use Rattle.dpl_layer.specs.Reading.{Faulty, Layer, limit}
 use Rattle.dpl_answer.specs.Flat.{Clashes, IsPaintedCut, Painted, Paints}
-use Rattle.dpl_law_verdict.specs.Own.{AreGainsBy, stitch_line}
-use Rattle.dpl_cert.specs.declared.cert.Gain.{Gain}
+use Rattle.dpl_law_verdict.specs.Own.{stitch_line}
 use Rattle.dpl_run.specs.Split.{Decides, Decision, IsDecision, IsSplitOf, Refuses, clash, painting, plan_of, refusal, marks_for, split_marked, split_spacing}
 use Rattle.dpl_run.specs.Program.{IsOutcome, IsPlan}
 use Rattle.dpl_run.specs.Outcome.{Outcome, says, silent}
@@ -44,48 +41,36 @@ line_rects : (zones : List Zone) (sides : List (ℕ × ℕ)) (ks : List ℕ) →
 line_rects zones sides [] = refl
 line_rects zones sides (k ∷ ks) = ap (λ (rs : List Rect). rect_at zones k ∷ rs) (line_rects zones sides ks)
 
-pub painted_parts : (fewer : Bool) (marks : Option Marks) (spacing : Spacing) (overlap : ℕ) (layer : List Rect) (cut : Cut) (p : Painted) → IsCut marks spacing overlap (Covers layer) cut → IsPaintedCut fewer marks spacing overlap cut p
+pub painted_parts : (marks : Option Marks) (spacing : Spacing) (overlap : ℕ) (layer : List Rect) (cut : Cut) (p : Painted) → IsCut marks spacing overlap (Covers layer) cut → IsPaintedCut marks spacing overlap cut p
     → ArePartingMasks spacing layer (rects_of_lines p.stitches) p.a p.b
-painted_parts fewer marks spacing overlap layer cut p is painted =
+painted_parts marks spacing overlap layer cut p is painted =
     let m = painted.masks in
-    let are = lettered fewer marks spacing cut m painted.are_masks in
-    let apart = sound fewer marks spacing cut m painted.are_masks painted.even in
+    let are = painted.are_masks in
     subst (λ (q : Painted). ArePartingMasks spacing layer (rects_of_lines q.stitches) q.a q.b) (sym painted.is) (record {
       features = cut.features;
       are_features = is.features;
       cover = cover marks spacing overlap (Covers layer) cut m is are;
-      apart_on_a = far-on-a marks spacing overlap (Covers layer) cut m is are apart;
-      apart_on_b = far-on-b marks spacing overlap (Covers layer) cut m is are apart;
+      apart_on_a = far-on-a marks spacing overlap (Covers layer) cut m is are painted.even;
+      apart_on_b = far-on-b marks spacing overlap (Covers layer) cut m is are painted.even;
       overlap = subst (λ (ss : List Rect). OverlapAt ss m.a m.b) (sym (line_rects cut.zones cut.sides m.stitches)) (overlap-at marks spacing overlap (Covers layer) cut m is are);
     })
 
 -- the marks of the layer are kept
-masks_keep : (fewer : Bool) (marks : Option Marks) (spacing : Spacing) (overlap : ℕ) (layer : List Rect) (cut : Cut) (m : Decomposed) → IsCut marks spacing overlap (Covers layer) cut
-    → AreMasksBy fewer marks spacing cut m → ¬ HasOddCycle (cut_graph marks spacing cut) → KeepMarks marks layer m.a m.b
-masks_keep fewer None spacing overlap layer cut m is are even = record { on_a = λ p there marked. absurd marked; on_b = λ p there marked. absurd marked }
-masks_keep fewer (Some k) spacing overlap layer cut m is are even =
-    let masks = lettered fewer (Some k) spacing cut m are in
-    let apart = sound fewer (Some k) spacing cut m are even in
-    record {
-      on_a = fixed-on-a k spacing overlap (Covers layer) cut m is masks apart;
-      on_b = fixed-on-b k spacing overlap (Covers layer) cut m is masks apart;
-    }
+masks_keep : (marks : Option Marks) (spacing : Spacing) (overlap : ℕ) (layer : List Rect) (cut : Cut) (m : Decomposed) → IsCut marks spacing overlap (Covers layer) cut
+    → AreMasks marks spacing cut m → ¬ HasOddCycle (cut_graph marks spacing cut) → KeepMarks marks layer m.a m.b
+masks_keep None spacing overlap layer cut m is are even = record { on_a = λ p there marked. absurd marked; on_b = λ p there marked. absurd marked }
+masks_keep (Some k) spacing overlap layer cut m is are even = record {
+  on_a = fixed-on-a k spacing overlap (Covers layer) cut m is are even;
+  on_b = fixed-on-b k spacing overlap (Covers layer) cut m is are even;
+}
 
-painted_keep : (fewer : Bool) (marks : Option Marks) (spacing : Spacing) (overlap : ℕ) (layer : List Rect) (cut : Cut) (p : Painted)
-    → IsCut marks spacing overlap (Covers layer) cut → IsPaintedCut fewer marks spacing overlap cut p → KeepMarks marks layer p.a p.b
-painted_keep fewer marks spacing overlap layer cut p is painted =
+painted_keep : (marks : Option Marks) (spacing : Spacing) (overlap : ℕ) (layer : List Rect) (cut : Cut) (p : Painted)
+    → IsCut marks spacing overlap (Covers layer) cut → IsPaintedCut marks spacing overlap cut p → KeepMarks marks layer p.a p.b
+painted_keep marks spacing overlap layer cut p is painted =
     subst (λ (q : Painted). KeepMarks marks layer q.a q.b) (sym painted.is)
-    (masks_keep fewer marks spacing overlap layer cut painted.masks is painted.are_masks painted.even)
+    (masks_keep marks spacing overlap layer cut painted.masks is painted.are_masks painted.even)
 
--- there are lines of gains exactly where fewer stitches are asked for
-gains_told : (fewer : Bool) (marks : Option Marks) (spacing : Spacing) (cut : Cut) (letters : List Bool) (gains : Option (List Gain))
-    → AreGainsBy fewer marks spacing cut letters gains → is_some gains ≡ fewer
-gains_told false marks spacing cut letters None are = refl
-gains_told false marks spacing cut letters (Some gains) are = absurd are
-gains_told true marks spacing cut letters None are = absurd are
-gains_told true marks spacing cut letters (Some gains) are = refl
-
-paints : (v : SplitValues) (bytes copied : List ℕ) (p : Painted) (x : Outcome) → IsDecision v.fewer (split_marked v) (split_spacing v) v.overlap bytes
+paints : (v : SplitValues) (bytes copied : List ℕ) (p : Painted) (x : Outcome) → IsDecision (split_marked v) (split_spacing v) v.overlap bytes
     (Decides copied (Paints p)) → x ≡ painting v copied p → WritesParting v bytes x.writes
 paints v bytes copied p x d is =
     let (layer, on_a, on_b, reading, (cut, is_cut, painted)) = d in
@@ -111,10 +96,8 @@ paints v bytes copied p x d is =
         head = p.head;
         pieces = p.pieces;
         stitches = p.stitches;
-        gains = p.gains;
-        asked = ap (λ (q : Painted). is_some q.gains) painted.is ∙ gains_told v.fewer marks (split_spacing v) cut _ painted.gains painted.are_gains;
-        parting = painted_parts v.fewer marks (split_spacing v) v.overlap layer cut p is_cut painted;
-        kept = painted_keep v.fewer marks (split_spacing v) v.overlap layer cut p is_cut painted;
+        parting = painted_parts marks (split_spacing v) v.overlap layer cut p is_cut painted;
+        kept = painted_keep marks (split_spacing v) v.overlap layer cut p is_cut painted;
         copied = copied;
         before = l.layer.before;
         are = ap (λ (y : Outcome). y.writes) is;
@@ -137,7 +120,7 @@ usage_not e = cc
 status_as : (x y : Outcome) (s : Status) → x ≡ y → y.status ≡ s → x.status ≡ Done → s ≡ Done
 status_as x y s is named done = sym named ∙ sym (ap (λ (z : Outcome). z.status) is) ∙ done
 
-decided_done : (v : SplitValues) (bytes : List ℕ) (d : Decision) (x : Outcome) → IsDecision v.fewer (split_marked v) (split_spacing v) v.overlap bytes d
+decided_done : (v : SplitValues) (bytes : List ℕ) (d : Decision) (x : Outcome) → IsDecision (split_marked v) (split_spacing v) v.overlap bytes d
     → x ≡ plan_of v d → x.status ≡ Done → WritesParting v bytes x.writes
 decided_done v bytes (Refuses name at) x d is done = absurd (refused_not (status_as x (refusal v name at) Refused is refl done))
 decided_done v bytes (Decides copied (Clashes c)) x d is done = absurd (conflict_not (status_as x (clash v c) Conflict is refl done))

@@ -1,5 +1,5 @@
 -- What a file of masks keeps: the layer is parted between them, features stay apart, and masks overlap at stitches alone.
-use Rattle.std.specs.Prelude.{◌≡◌, ℕ, List, [], ◌∷◌, Option, Some, None, is_some, map, option_map}
+use Rattle.std.specs.Prelude.{◌≡◌, ℕ, List, [], ◌∷◌, Option, Some, None, map, option_map}
 use Rattle.std.specs.FinMap as files
 use Rattle.clap.specs.Walk.{Text}
 use Rattle.dpl_spec_split.specs.declared.Spacing.{Spacing}
@@ -18,7 +18,6 @@ use Rattle.dpl_cert.specs.declared.cert.Cert.TheVariants.{Masks}
 use Rattle.dpl_cert.specs.declared.cert.Head.{Head}
 use Rattle.dpl_cert.specs.declared.cert.PieceLine.{PieceLine}
 use Rattle.dpl_cert.specs.declared.cert.StitchLine.{StitchLine}
-use Rattle.dpl_cert.specs.declared.cert.Gain.{Gain}
 use Rattle.dpl_masks.specs.Bytes.{file_bytes}
 use Rattle.dpl_words.specs.Meaning.{AsksCheck, AsksDemo, AsksSplit, RequestValues, SplitValues, request_of}
 use Rattle.dpl_layer.specs.Reading.{chosen, copied_of}
@@ -63,16 +62,13 @@ pub record WritesParting (v : SplitValues) (bytes : List ℕ) (writes : List (Te
   pub head : Head
   pub pieces : List PieceLine
   pub stitches : List StitchLine
-  -- and lines of gains exactly where fewer stitches are asked for
-  pub gains : Option (List Gain)
-  pub asked : is_some gains ≡ v.fewer
   pub parting : ArePartingMasks (split_spacing v) layer (rects_of_lines stitches) a b
   -- each marked square of the layer is on its mask alone
   pub kept : KeepMarks (marks_for (split_marked v) marked_a marked_b) layer a b
   -- the bytes written
   pub copied : List ℕ
   pub before : copied_of lib top ≡ Some copied
-  pub are : writes ≡ (v.output, file_bytes copied v.a v.b a b) ∷ (v.certificate, certified (Masks head pieces stitches gains)) ∷ []
+  pub are : writes ≡ (v.output, file_bytes copied v.a v.b a b) ∷ (v.certificate, certified (Masks head pieces stitches None)) ∷ []
 
 -- the masks of a file that is there are written
 pub record WritesMasks (v : SplitValues) (o : Outside) (writes : List (Text × List ℕ)) : Type 0 where

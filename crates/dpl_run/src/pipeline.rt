@@ -27,8 +27,6 @@ pub(crate) struct Order<'a> {
     pub(crate) spacing: Spacing,
     /// How long a stitch is, in database units.
     pub(crate) overlap: u32,
-    /// Whether single components are flipped as long as that leaves fewer stitches.
-    pub(crate) fewer: bool,
     /// How the conflicts are found.
     pub(crate) sharing: Sharing,
 }
@@ -57,7 +55,7 @@ pub(crate) fn decide<R: Threads + Wait + Sync, G: Gate + Sync>(
     requires overlap { IsRule order.now.overlap }
     requires tile { IsTile order.now.sharing.tile }
     requires workers { AreWorkers order.now.sharing.workers }
-    ensures decision { IfOk result (λ d. IsDecision order.now.fewer (marked_choice_view order.now.choice) order.now.spacing order.now.overlap bytes.items (decision_view d)) }
+    ensures decision { IfOk result (λ d. IsDecision (marked_choice_view order.now.choice) order.now.spacing order.now.overlap bytes.items (decision_view d)) }
     ensures fits { IfOk result FitsDecision }
 {
     let MarkedLayer {
@@ -80,14 +78,6 @@ pub(crate) fn decide<R: Threads + Wait + Sync, G: Gate + Sync>(
     };
     let marks = marks_by(&order.choice, &sets);
     let conflicts = conflicts_of(rt, alloc, &cut, marks, spacing, order.sharing, gate)?;
-    let answer = answer_of(
-        alloc,
-        cut,
-        &conflicts,
-        marks,
-        spacing,
-        order.overlap,
-        order.fewer,
-    )?;
+    let answer = answer_of(alloc, cut, &conflicts, marks, spacing, order.overlap)?;
     Ok(Decision::Answered { copied, answer })
 }

@@ -79,7 +79,6 @@ fn split<'a, R: Threads + Wait + Sync, G: Gate + Sync>(
             corner: options.corner,
         },
         overlap: options.overlap,
-        fewer: options.fewer,
         sharing: Sharing {
             tile: options.tile,
             workers: options.workers,
@@ -125,7 +124,6 @@ fn painted_output<'a>(
         head,
         pieces,
         stitches,
-        gains,
     } = painted;
     let bytes = file_bytes(alloc, copied, a.rects(), b.rects(), options.a, options.b)?;
     let line = done_line(
@@ -141,7 +139,7 @@ fn painted_output<'a>(
         head,
         pieces,
         stitches,
-        gains,
+        gains: None,
     };
     let masks = Write {
         name: options.output,

@@ -1,3 +1,2 @@
 pub mod Flips
 pub mod Ends
-pub mod Painting

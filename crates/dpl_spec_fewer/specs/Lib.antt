@@ -1,3 +1,2 @@
 pub mod Fewer
 pub mod Laws
-pub mod Masks

@@ -75,7 +75,7 @@ fn answer_with<R: Threads + Wait + Sync>(
         workers: 2,
     };
     let conflicts = conflicts_of(rt, alloc, &cut, Some(&sets), SPACING, sharing, &OpenGate)?;
-    answer_of(alloc, cut, &conflicts, Some(&sets), SPACING, 10, false)
+    answer_of(alloc, cut, &conflicts, Some(&sets), SPACING, 10)
 }
 
 /// Whether the answer is masks with these letters of the pieces, true for mask B.

@@ -4,6 +4,4 @@
 #[cfg(test)]
 mod corners;
 #[cfg(test)]
-mod fewer;
-#[cfg(test)]
 mod marks;

@@ -1,9 +1,7 @@
 -- What one level of a parse that passes gives of each argument that is required or has a default.
-use Rattle.std.proofs.Common.{◌≡◌, ◌∙◌, ◌⊎◌, ◌&&◌, ◌||◌, ◌<◌, ◌^◌, ℕ, Bool, cond, not, true, false, true≢false, List, [], ◌∷◌, Option, Some, None, refl, sym, ap, subst, inl, inr, is_some}
-use Rattle.std.specs.Prelude.{codes, slice_get, option_and_then, pos}
+use Rattle.std.proofs.Common.{◌≡◌, ◌∙◌, ◌⊎◌, ◌&&◌, ◌<◌, ◌^◌, ℕ, Bool, cond, not, true, false, true≢false, List, [], ◌∷◌, Option, Some, None, refl, sym, ap, subst, inl, inr, is_some}
+use Rattle.std.specs.Prelude.{slice_get, option_and_then, pos}
 use Rattle.std.specs.List.{list_any}
-use Rattle.std.specs.Str.{bytes_eq}
-use Rattle.std.proofs.lemmas.Slice.Eq.{bytes_eq-Decides}
 use Rattle.std.specs.Str.Parse.{ParsesUnsigned, digits_value, without_leading_plus}
 use Rattle.clap.specs.Facts.{parser_of_value}
 use Rattle.clap.specs.Lexer.{without_minus}
@@ -19,17 +17,17 @@ use Rattle.clap.specs.declared.builder.value_parser.ValueParser.TheVariants as v
 use Rattle.clap.proofs.CallerReads.{signed_reads}
 use Rattle.clap.proofs.ValueTestLemmas.{accepts-Accepts}
 use Rattle.dpl_words.specs.Meaning.{◌>>=◌, number_at, number_below}
-use Rattle.dpl_words.specs.Ranges.{IsFlagText, IsFrom, IsFromIfGiven, IsThere}
+use Rattle.dpl_words.specs.Ranges.{IsFrom, IsFromIfGiven, IsThere}
 use Rattle.dpl_words.proofs.Numbers.{below_back, below_from, is_below}
 use Rattle.dpl_words.proofs.Rows.{HasDefault, HasRowWith, by_own_id, default_there, given_has, has_single_ids, no_row, required_given, row_with}
-use Rattle.dpl_words.proofs.Walking.{EachRow, HasFirst, IsIn, LeavesOne, defaults_kept, none_of, settled_kept, walk_kept}
+use Rattle.dpl_words.proofs.Walking.{EachRow, HasFirst, IsIn, TakesOne, defaults_kept, none_of, settled_kept, walk_kept}
 
 -- the value passed the test of the argument of this id, and is read as that argument says
 abbrev IsPassed : List Rule → Text → Reading → Text → Type 0
 IsPassed c id how v = (k : Rule) → arg_by_id c id ≡ Some k → (how ≡ reading_by k) × (value_passes k v ≡ true)
 
 pub record IsPlainLevel (s : Shape) : Type 0 where
-  pub single : (a : Rule) → IsIn a s.rules → LeavesOne a
+  pub single : (a : Rule) → IsIn a s.rules → TakesOne a
   pub no_short : (x : ℕ) → arg_by_short s.rules x ≡ None
   pub apart : has_single_ids s.rules ≡ true
 
@@ -134,18 +132,6 @@ word_read low high a rows parser read =
     (λ (o : Option Text). o >>= number_below 64) one
     ∙ ap (λ (b : Bool). cond b (Some (digits_value 10 (without_leading_plus read.text))) None) below in
     subst (IsFrom low high) (sym at) (passed.2, passed.3)
-
--- a flag's value that passed its test says that it is given, or that it isn't
-pub flag_read : (a : Rule) (rows : List Row) → a.parser ≡ Some vp.Bool → IsRead a rows → IsFlagText (one_of a.id rows)
-flag_read a rows parser read =
-    let ok = subst (λ p. accepts a.ignore_case (parser_of_value p) read.text ≡ true) parser read.passes in
-    let one : one_of a.id rows ≡ Some read.text = read.one ∙ ap (λ p. Some (read_as (reading_of (parser_of_value p)) read.text)) parser in
-    subst IsFlagText (sym one) (either (bytes_eq read.text (codes "true")) refl ok)
-  where
-    either : (b : Bool) → bytes_eq read.text (codes "true") ≡ b → (b || bytes_eq read.text (codes "false")) ≡ true
-        → (read.text ≡ codes "true") ⊎ (read.text ≡ codes "false")
-    either true is e = inl ((bytes_eq-Decides read.text (codes "true")).0 is)
-    either false is e = inr ((bytes_eq-Decides read.text (codes "false")).0 e)
 
 pub text_read : (a : Rule) (rows : List Row) → IsRead a rows → IsThere (first_of a.id rows)
 text_read a rows read = ap (λ (o : Option Text). is_some o) read.first

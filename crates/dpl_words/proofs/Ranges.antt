@@ -1,16 +1,16 @@
 -- The words that `clap` takes give each value of their subcommand, in its range.
 use Rattle.std.proofs.Common.{◌≡◌, ◌≤◌, ◌⊎◌, Bool, ◌&&◌, not, cond, true, false, true≢false, List, [], ◌∷◌, Option, Some, None, option_map, nat_lt}
 use Rattle.std.proofs.Common.{is_some, refl, sym, subst, inl, inr, arith, ℕ}
-use Rattle.std.specs.Prelude.{codes, find, slice_get, unwrap_or, IfSome}
+use Rattle.std.specs.Prelude.{find, slice_get, unwrap_or, IfSome}
 use Rattle.std.specs.List.{list_any}
 use Rattle.clap.specs.Kinds.{check_kinds}
 use Rattle.clap.specs.Takes.{is_given}
 use Rattle.dpl_words.proofs.Rows.{HasDefault}
 use Rattle.std.specs.Option.{option_map_or}
-use Rattle.clap.specs.Walk.{Row, Rule, Text, answers_to, nothing_held, one_of, rows_after, walk, walk_from, action_of}
+use Rattle.clap.specs.Walk.{Row, Rule, Text, answers_to, nothing_held, one_of, rows_after, walk, walk_from, action_of, takes_values}
 use Rattle.clap.specs.Simple.{Shape, argument_words, built, entered, label_of, names_of, new_rule, rows_at, subcommand_of}
 use Rattle.clap.specs.Facts.{unwrap_or_range}
-use Rattle.clap.specs.declared.builder.action.ArgAction.TheVariants.{Set, SetTrue}
+use Rattle.clap.specs.declared.builder.action.ArgAction.TheVariants.{Set}
 use Rattle.clap.specs.Faults.{check_fault, entered_fault, fault_of, level_fault, walk_fault}
 use Rattle.clap.proofs.OnLiterals.{clap_on_literals}
 use Rattle.dpl_words.specs.Definition.{dpl_app, split_shape}
@@ -18,8 +18,8 @@ use Rattle.dpl_words.specs.Ranges.{AreInRange, AreInRangeForCheck, AreInRangeFor
 use Rattle.dpl_words.specs.Meaning.{check_values, demo_values, is_taken, split_values}
 use Rattle.std.proofs.lemmas.Bool.{ltb-false}
 use Rattle.clap.proofs.SimpleLemmas.{is_nil}
-use Rattle.dpl_words.proofs.Level.{IsPlainLevel, IsRead, default_read, each_row, flag_read, given_read, number_read, required_read, row_read, text_read, word_read}
-use Rattle.dpl_words.proofs.Walking.{IsIn, LeavesOne, none_of}
+use Rattle.dpl_words.proofs.Level.{IsPlainLevel, IsRead, default_read, each_row, given_read, number_read, required_read, row_read, text_read, word_read}
+use Rattle.dpl_words.proofs.Walking.{IsIn, TakesOne, none_of}
 
 -- the level of the subcommand at this place, as it is built
 abbrev level_at : ℕ → Shape
@@ -38,25 +38,22 @@ demo_level = level_at 2
 abbrev at : Shape → ℕ → Rule
 at level i = unwrap_or (slice_get level.rules i) (new_rule [])
 
--- a use of each argument of the level leaves one value
+-- each argument of the level takes one value
 abbrev Each : List Rule → Type 0
 Each [] = Unit {0}
-Each (a ∷ rest) = LeavesOne a × Each rest
+Each (a ∷ rest) = TakesOne a × Each rest
 
-of_each : (xs : List Rule) → Each xs → (a : Rule) → IsIn a xs → LeavesOne a
+of_each : (xs : List Rule) → Each xs → (a : Rule) → IsIn a xs → TakesOne a
 of_each [] each a of = absurd of
-of_each (x ∷ xs) each a (inl is) = subst LeavesOne (sym is) each.0
+of_each (x ∷ xs) each a (inl is) = subst TakesOne (sym is) each.0
 of_each (x ∷ xs) each a (inr of) = of_each xs each.1 a of
 
-one : (a : Rule) → action_of a ≡ Set → (unwrap_or_range a.range).start_inclusive ≡ 1 → LeavesOne a
-one a x y = inl (record { action = x; least = y })
-
-flag : (a : Rule) → action_of a ≡ SetTrue → a.missing ≡ codes "true" ∷ [] → LeavesOne a
-flag a x y = inr (record { action = x; missing = y })
+one : (a : Rule) → action_of a ≡ Set → takes_values a ≡ true → (unwrap_or_range a.range).start_inclusive ≡ 1 → TakesOne a
+one a x y z = record { action = x; takes = y; least = z }
 
 each_split : Each split_level.rules
 unfolding clap_on_literals
-each_split = (one _ refl refl, (one _ refl refl, (one _ refl refl, (one _ refl refl, (one _ refl refl, (one _ refl refl, (one _ refl refl, (one _ refl refl, (one _ refl refl, (one _ refl refl, (one _ refl refl, (one _ refl refl, (flag _ refl refl, (one _ refl refl, (one _ refl refl, (one _ refl refl, tt))))))))))))))))
+each_split = (one _ refl refl refl, (one _ refl refl refl, (one _ refl refl refl, (one _ refl refl refl, (one _ refl refl refl, (one _ refl refl refl, (one _ refl refl refl, (one _ refl refl refl, (one _ refl refl refl, (one _ refl refl refl, (one _ refl refl refl, (one _ refl refl refl, (one _ refl refl refl, (one _ refl refl refl, (one _ refl refl refl, tt)))))))))))))))
 
 plain_split : IsPlainLevel split_level
 unfolding clap_on_literals
@@ -64,7 +61,7 @@ plain_split = record { single = of_each split_level.rules each_split; no_short =
 
 each_check : Each check_level.rules
 unfolding clap_on_literals
-each_check = (one _ refl refl, (one _ refl refl, (one _ refl refl, (one _ refl refl, (one _ refl refl, (one _ refl refl, (one _ refl refl, (one _ refl refl, (one _ refl refl, (one _ refl refl, (one _ refl refl, (one _ refl refl, (one _ refl refl, tt)))))))))))))
+each_check = (one _ refl refl refl, (one _ refl refl refl, (one _ refl refl refl, (one _ refl refl refl, (one _ refl refl refl, (one _ refl refl refl, (one _ refl refl refl, (one _ refl refl refl, (one _ refl refl refl, (one _ refl refl refl, (one _ refl refl refl, (one _ refl refl refl, (one _ refl refl refl, tt)))))))))))))
 
 plain_check : IsPlainLevel check_level
 unfolding clap_on_literals
@@ -72,7 +69,7 @@ plain_check = record { single = of_each check_level.rules each_check; no_short =
 
 each_demo : Each demo_level.rules
 unfolding clap_on_literals
-each_demo = (one _ refl refl, (one _ refl refl, (one _ refl refl, (one _ refl refl, tt))))
+each_demo = (one _ refl refl refl, (one _ refl refl refl, (one _ refl refl refl, (one _ refl refl refl, tt))))
 
 plain_demo : IsPlainLevel demo_level
 unfolding clap_on_literals
@@ -95,10 +92,9 @@ split_there rows wanted given left_out = record {
   mark_b = given_read 16 0 65535 (at split_level 9) rows (omega arith) refl (left_out (at split_level 9) (inr (inr (inr (inr (inr (inr (inr (inr (inr (inl refl)))))))))));
   tile = number_read 32 1 1073741824 (at split_level 10) rows (omega arith) refl (given (at split_level 10) (inr (inr (inr (inr (inr (inr (inr (inr (inr (inr (inl refl))))))))))) (_, _, refl));
   workers = number_read 32 1 64 (at split_level 11) rows (omega arith) refl (given (at split_level 11) (inr (inr (inr (inr (inr (inr (inr (inr (inr (inr (inr (inl refl)))))))))))) (_, _, refl));
-  fewer = flag_read (at split_level 12) rows refl (given (at split_level 12) (inr (inr (inr (inr (inr (inr (inr (inr (inr (inr (inr (inr (inl refl))))))))))))) (_, _, refl));
-  input = text_read (at split_level 13) rows (wanted (at split_level 13) (inr (inr (inr (inr (inr (inr (inr (inr (inr (inr (inr (inr (inr (inl refl)))))))))))))) refl);
-  output = text_read (at split_level 14) rows (wanted (at split_level 14) (inr (inr (inr (inr (inr (inr (inr (inr (inr (inr (inr (inr (inr (inr (inl refl))))))))))))))) refl);
-  certificate = text_read (at split_level 15) rows (wanted (at split_level 15) (inr (inr (inr (inr (inr (inr (inr (inr (inr (inr (inr (inr (inr (inr (inr (inl refl)))))))))))))))) refl);
+  input = text_read (at split_level 12) rows (wanted (at split_level 12) (inr (inr (inr (inr (inr (inr (inr (inr (inr (inr (inr (inr (inl refl))))))))))))) refl);
+  output = text_read (at split_level 13) rows (wanted (at split_level 13) (inr (inr (inr (inr (inr (inr (inr (inr (inr (inr (inr (inr (inr (inl refl)))))))))))))) refl);
+  certificate = text_read (at split_level 14) rows (wanted (at split_level 14) (inr (inr (inr (inr (inr (inr (inr (inr (inr (inr (inr (inr (inr (inr (inl refl))))))))))))))) refl);
 }
 
 -- what is read of the arguments of `check` gives each value

@@ -1,7 +1,7 @@
 -- What `clap` has seen of each value that a walk over words keeps, for a command whose arguments take one value each and have no short names.
-use Rattle.std.proofs.Common.{◌≡◌, ◌∙◌, ◌⊎◌, ◌&&◌, ◌||◌, ℕ, zero, suc, Bool, cond, true, false, List, [], ◌∷◌, ◌++◌, Option}
+use Rattle.std.proofs.Common.{◌≡◌, ◌∙◌, ◌⊎◌, ◌&&◌, ◌||◌, ℕ, zero, suc, Bool, cond, true, false, true≢false, List, [], ◌∷◌, ◌++◌, Option}
 use Rattle.std.proofs.Common.{Some, None, refl, sym, ap, subst, inl, inr, arith, length, drop, is_some, ne_eqb}
-use Rattle.std.specs.Prelude.{codes, encode_utf8, find, fold, slice_get}
+use Rattle.std.specs.Prelude.{encode_utf8, find, fold, slice_get}
 use Rattle.std.specs.Option.{option_map_or}
 use Rattle.std.specs.Str.{bytes_eq, chars}
 use Rattle.clap.specs.Lexer.{long_of, short_of}
@@ -17,14 +17,12 @@ use Rattle.clap.specs.Walk.{waits, walked, walked_from, with_default, with_value
 use Rattle.clap.specs.Walk.{next, subcommand, trailing, value}
 use Rattle.clap.specs.Simple.{Shape}
 use Rattle.clap.specs.Faults.{action_fault, default_fault, defaults_fault, flag_word_fault, long_fault, option_fault, other_fault}
-use Rattle.clap.specs.Faults.{positional_fault, react_fault, repeat_fault, set_fault, settle_fault, step_fault, stray_fault, turn_fault, use_fault}
+use Rattle.clap.specs.Faults.{positional_fault, react_fault, repeat_fault, settle_fault, step_fault, stray_fault, turn_fault, use_fault}
 use Rattle.clap.specs.Faults.{values_fault, walk_fault, word_fault}
-use Rattle.clap.specs.declared.builder.action.ArgAction.TheVariants.{Set, SetTrue}
+use Rattle.clap.specs.declared.builder.action.ArgAction.TheVariants.{Set}
 use Rattle.clap.specs.declared.builder.value_parser.Reading.{Reading}
 use Rattle.clap.specs.declared.error.kind.ErrorKind.{ErrorKind}
-use Rattle.clap.specs.declared.error.kind.ErrorKind.TheVariants as kind
 use Rattle.clap.specs.declared.parser.matches.ValueSource.{ValueSource}
-use Rattle.clap.specs.declared.parser.matches.ValueSource.TheVariants.{CommandLine}
 
 pub none_of : (a b : Kinds) → or_else a b ≡ [] → (a ≡ []) × (b ≡ [])
 none_of [] b e = (refl, e)
@@ -60,16 +58,8 @@ EachRow P (r ∷ rs) = HasFirst (P r.id r.reading) r.values × EachRow P rs
 -- a use of the argument takes one value, and a later one puts it out
 pub record TakesOne (a : Rule) : Type 0 where
   pub action : action_of a ≡ Set
+  pub takes : takes_values a ≡ true
   pub least : (unwrap_or_range a.range).start_inclusive ≡ 1
-
--- a use of the argument stands for one value, and a later one puts it out
-pub record IsFlag (a : Rule) : Type 0 where
-  pub action : action_of a ≡ SetTrue
-  pub missing : a.missing ≡ codes "true" ∷ []
-
--- a use of the argument leaves one value
-abbrev pub LeavesOne : Rule → Type 0
-LeavesOne a = TakesOne a ⊎ IsFlag a
 
 passed : (b : Bool) (k : ErrorKind) → cond b [] (k ∷ []) ≡ [] → b ≡ true
 passed true k e = refl
@@ -100,45 +90,23 @@ module _ (P : Text → Reading → Text → Type 0) where
 
 module _ (s : Shape) (P : Text → Reading → Text → Type 0)
     (each : (a : Rule) → IsIn a s.rules → (v : Text) → value_passes a v ≡ true → P a.id (reading_by a) v)
-    (single : (a : Rule) → IsIn a s.rules → LeavesOne a)
+    (single : (a : Rule) → IsIn a s.rules → TakesOne a)
     (no_short : (x : ℕ) → arg_by_short s.rules x ≡ None) where
-  -- what is set passed its test
-  set_kept : (a : Rule) → IsIn a s.rules → (v : Text) (vs : List Text) (rows : List Row) → set_fault s.args_override_self a (v ∷ vs) rows ≡ []
-      → EachRow P rows → EachRow P (with_values a.id (reading_by a) CommandLine (v ∷ vs) (without a.id rows))
-  set_kept a of v vs rows sets h =
+  used_kept : (a : Rule) → IsIn a s.rules → (values : List Text) (rows : List Row) → use_fault s.args_override_self a values rows ≡ []
+      → EachRow P rows → EachRow P (used a values rows)
+  used_kept a of [] rows e h =
+      let range = (none_of (range_kinds (unwrap_or_range a.range).start_inclusive (most_values a) 0) _ e).0 in
+      let bad = subst (λ n. range_kinds n (most_values a) 0 ≡ []) (single a of).least range in
+      absurd (cc)
+  used_kept a of (v ∷ vs) rows e h =
+      let does = (none_of (range_kinds (unwrap_or_range a.range).start_inclusive (most_values a) (length (v ∷ vs))) _ e).1 in
+      let sets : action_fault Set s.args_override_self a (v ∷ vs) rows ≡ [] = subst (λ x. action_fault x s.args_override_self a (v ∷ vs) rows ≡ []) (single a of).action does in
       let values = (none_of (repeat_fault s.args_override_self a.id rows) _ sets).1 in
       let first = (none_of (value_kinds a.ignore_case (parser_of_value a.parser) v) _ values).0 in
       let ok : value_passes a v ≡ true = passed _ _ first in
-      with_kept P a.id (reading_by a) _ v vs (without a.id rows) (each a of v ok) (without_kept P a.id rows h)
-
-  used_kept : (a : Rule) → IsIn a s.rules → (values : List Text) (rows : List Row) → use_fault s.args_override_self a values rows ≡ []
-      → EachRow P rows → EachRow P (used a values rows)
-  used_kept a of [] rows e h = elim (single a of) [
-    | inl one ↦ (let range = (none_of (range_kinds (unwrap_or_range a.range).start_inclusive (most_values a) 0) _ e).0 in
-        let bad = subst (λ n. range_kinds n (most_values a) 0 ≡ []) one.least range in
-        absurd (cc))
-    | inr flag ↦ (let does : action_fault (action_of a) s.args_override_self a a.missing rows ≡ [] =
-        (none_of (range_kinds (unwrap_or_range a.range).start_inclusive (most_values a) 0) _ e).1 in
-        let stands : action_fault (action_of a) s.args_override_self a (codes "true" ∷ []) rows ≡ [] =
-        subst (λ (vs : List Text). action_fault (action_of a) s.args_override_self a vs rows ≡ []) flag.missing does in
-        let sets : action_fault SetTrue s.args_override_self a (codes "true" ∷ []) rows ≡ [] =
-        subst (λ x. action_fault x s.args_override_self a (codes "true" ∷ []) rows ≡ []) flag.action stands in
-        let now : EachRow P (used_as SetTrue a.id (reading_by a) (codes "true" ∷ []) rows) = set_kept a of (codes "true") [] rows sets h in
-        subst (λ (vs : List Text). EachRow P (used_as (action_of a) a.id (reading_by a) vs rows)) (sym flag.missing)
-        (subst (λ x. EachRow P (used_as x a.id (reading_by a) (codes "true" ∷ []) rows)) (sym flag.action) now))
-  ]
-  used_kept a of (v ∷ vs) rows e h =
-      let does = (none_of (range_kinds (unwrap_or_range a.range).start_inclusive (most_values a) (length (v ∷ vs))) _ e).1 in
-      elim (single a of) [
-        | inl one ↦ (let sets : action_fault Set s.args_override_self a (v ∷ vs) rows ≡ [] =
-            subst (λ x. action_fault x s.args_override_self a (v ∷ vs) rows ≡ []) one.action does in
-            let now : EachRow P (used_as Set a.id (reading_by a) (v ∷ vs) rows) = set_kept a of v vs rows sets h in
-            subst (λ x. EachRow P (used_as x a.id (reading_by a) (v ∷ vs) rows)) (sym one.action) now)
-        | inr flag ↦ (let sets : action_fault SetTrue s.args_override_self a (v ∷ vs) rows ≡ [] =
-            subst (λ x. action_fault x s.args_override_self a (v ∷ vs) rows ≡ []) flag.action does in
-            let now : EachRow P (used_as SetTrue a.id (reading_by a) (v ∷ vs) rows) = set_kept a of v vs rows sets h in
-            subst (λ x. EachRow P (used_as x a.id (reading_by a) (v ∷ vs) rows)) (sym flag.action) now)
-      ]
+      let now : EachRow P (used_as Set a.id (reading_by a) (v ∷ vs) rows) = with_kept P a.id (reading_by a) _ v vs (without a.id rows)
+      (each a of v ok) (without_kept P a.id rows h) in
+      subst (λ x. EachRow P (used_as x a.id (reading_by a) (v ∷ vs) rows)) (sym (single a of).action) now
 
   pub settled_kept : (h : Held) → settle_fault s.rules s.args_override_self h ≡ [] → EachRow P h.rows → EachRow P (settled s.rules h).rows
   settled_kept h e each_held = go h.pending e
@@ -168,18 +136,12 @@ module _ (s : Shape) (P : Text → Reading → Text → Type 0)
   long_kept : (o : Option Rule) → ((a : Rule) → o ≡ Some a → IsIn a s.rules) → (v : Option Text) (h : Held)
       → long_fault s.rules s.args_override_self o v h ≡ [] → EachRow P h.rows → EachRow P (long_met s.rules o v h).0.rows
   long_kept None of v h e each_held = each_held
-  long_kept (Some a) of v h e each_held = go (takes_values a) e
+  long_kept (Some a) of v h e each_held = go (takes_values a) _ (single a (of a refl)).takes e
     where
-      flag : (v : Option Text) → cond (is_some v) (kind.TooManyValues ∷ []) (react_fault s.rules s.args_override_self a [] h) ≡ []
-          → EachRow P (flag_met s.rules a v h).0.rows
-      flag (Some x) e = each_held
-      flag None e = reacted_kept a (of a refl) [] h e each_held
-
-      go : (b : Bool) → cond b (option_fault s.rules s.args_override_self a v h)
-          (cond (is_some v) (kind.TooManyValues ∷ []) (react_fault s.rules s.args_override_self a [] h)) ≡ []
+      go : (b : Bool) (other : Kinds) → b ≡ true → cond b (option_fault s.rules s.args_override_self a v h) other ≡ []
           → EachRow P (cond b (option_met s.rules a v h) (flag_met s.rules a v h)).0.rows
-      go true e = option_kept a (of a refl) v h e each_held
-      go false e = flag v e
+      go true other t e = option_kept a (of a refl) v h e each_held
+      go false other t e = absurd (true≢false (sym t))
 
   plain_rows : (waiting : Waiting) (word : Text) (h : Held) → (plain_word s.rules waiting word h).0.rows ≡ h.rows
   plain_rows idle word h = refl

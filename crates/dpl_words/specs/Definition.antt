@@ -2,10 +2,9 @@
 use Rattle.std.specs.Prelude.{ℕ, true, false, pos, Some, List, [], ◌∷◌, codes}
 use Rattle.clap.specs.Walk.{Rule, Text}
 use Rattle.clap.specs.Simple.{App, Shape, new_rule, new_shape}
-use Rattle.clap.specs.declared.builder.action.ArgAction.TheVariants.{SetTrue}
 use Rattle.clap.specs.declared.builder.value_parser.ValueParser.TheVariants as vp
 use Rattle.dpl_words.specs.declared.definition.Argument.{Argument}
-use Rattle.dpl_words.specs.declared.definition.Argument.TheVariants.{RequiredNumber, OptionalNumber, NumberIfGiven, RequiredWord, OptionalText, Flag, FileName}
+use Rattle.dpl_words.specs.declared.definition.Argument.TheVariants.{RequiredNumber, OptionalNumber, NumberIfGiven, RequiredWord, OptionalText, FileName}
 
 -- an option that must be given, with a whole number from low to high
 abbrev pub required_number : Text → ℕ → ℕ → Rule
@@ -42,13 +41,6 @@ number_if_given id low high = record (new_rule id) {
 abbrev pub optional_text : Text → Rule
 optional_text id = record (new_rule id) { long = Some id }
 
--- a flag, that may be left out
-abbrev pub flag : Text → Rule
-flag id = record (new_rule id) {
-  long = Some id;
-  action = Some SetTrue;
-}
-
 -- a name of a file, by its place
 abbrev pub file_name : Text → Rule
 file_name id = record (new_rule id) { required = true }
@@ -60,7 +52,6 @@ rule_for (OptionalNumber id low high default) = optional_number id.now low high 
 rule_for (NumberIfGiven id low high) = number_if_given id.now low high
 rule_for (RequiredWord id) = required_word id.now
 rule_for (OptionalText id) = optional_text id.now
-rule_for (Flag id) = flag id.now
 rule_for (FileName id) = file_name id.now
 
 -- a command of this name, with these rules
@@ -81,7 +72,6 @@ split_shape = record (new_shape (codes "split")) {
       ∷ number_if_given (codes "mark-b") 0 65535
       ∷ optional_number (codes "tile") 1 1073741824 (codes "4096")
       ∷ optional_number (codes "workers") 1 64 (codes "4")
-      ∷ flag (codes "fewer")
       ∷ file_name (codes "in") ∷ file_name (codes "out") ∷ file_name (codes "cert") ∷ [];
 }
 

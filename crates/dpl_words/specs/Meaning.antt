@@ -1,5 +1,5 @@
 -- What the words of a command line mean.
-use Rattle.std.specs.Prelude.{◌^◌, ◌&&◌, ◌==◌, ℕ, Bool, false, not, List, Option, Some, None, if◌then◌else◌, nat_lt, codes, option_map}
+use Rattle.std.specs.Prelude.{◌^◌, ◌&&◌, ◌==◌, ℕ, Bool, not, List, Option, Some, None, if◌then◌else◌, nat_lt, codes, option_map}
 use Rattle.std.specs.Prelude.{[], unwrap_or}
 use Rattle.std.specs.Str.{bytes_eq}
 use Rattle.std.specs.Str.Parse.{digits_value, without_leading_plus}
@@ -28,7 +28,6 @@ pub record SplitValues : Type 0 where
   pub mark_b : Option ℕ
   pub tile : ℕ
   pub workers : ℕ
-  pub fewer : Bool
   pub input : Text
   pub output : Text
   pub certificate : Text
@@ -86,15 +85,6 @@ text_in id rows = unwrap_or (first_of id rows) []
 abbrev pub corner_in : List Row → ℕ
 corner_in rows = unwrap_or (number_at 32 (codes "corner") rows) (number_in 32 (codes "rule") rows)
 
--- a flag's text says that it is given
-abbrev pub says_given : Option Text → Bool
-says_given None = false
-says_given (Some text) = bytes_eq text (codes "true")
-
--- a flag is given
-abbrev pub flag_in : Text → List Row → Bool
-flag_in id rows = says_given (one_of id rows)
-
 -- the values of `split` among the entries that `clap` finds
 abbrev pub split_values : List Row → SplitValues
 split_values rows = record {
@@ -110,7 +100,6 @@ split_values rows = record {
   mark_b = number_at 16 (codes "mark-b") rows;
   tile = number_in 32 (codes "tile") rows;
   workers = number_in 32 (codes "workers") rows;
-  fewer = flag_in (codes "fewer") rows;
   input = text_in (codes "in") rows;
   output = text_in (codes "out") rows;
   certificate = text_in (codes "cert") rows;
@@ -188,7 +177,6 @@ split_view s = record {
   mark_b = s.mark_b;
   tile = s.tile;
   workers = s.workers;
-  fewer = s.fewer;
   input = s.input.now;
   output = s.output.now;
   certificate = s.certificate.now;

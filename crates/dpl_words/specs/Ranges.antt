@@ -1,7 +1,7 @@
 -- What the words of a command line give, where they are taken.
-use Rattle.std.specs.Prelude.{◌≡◌, ◌≤◌, ◌⊎◌, ℕ, true, List, Option, Some, None, codes, is_some}
+use Rattle.std.specs.Prelude.{◌≡◌, ◌≤◌, ℕ, true, List, Option, Some, None, codes, is_some}
 use Rattle.std.specs.Str.{bytes_eq}
-use Rattle.clap.specs.Walk.{Row, Text, first_of, one_of}
+use Rattle.clap.specs.Walk.{Row, Text, first_of}
 use Rattle.dpl_words.specs.Meaning.{AsksCheck, AsksDemo, AsksSplit, CheckValues, DemoValues, RequestValues, SplitValues, is_apart, number_at}
 
 -- a number is there, from low to high
@@ -17,12 +17,7 @@ IsFromIfGiven low high (Some n) = (low ≤ n) × (n ≤ high)
 abbrev pub IsThere : Option Text → Type 0
 IsThere text = is_some text ≡ true
 
--- a flag's text is there, and says that it is given, or that it isn't
-abbrev pub IsFlagText : Option Text → Type 0
-IsFlagText None = ⊥
-IsFlagText (Some text) = (text ≡ codes "true") ⊎ (text ≡ codes "false")
-
--- the entries of `split` have each number, in its range, the flag, and the name of each file
+-- the entries of `split` have each number, in its range, and the name of each file
 pub record AreThere (rows : List Row) : Type 0 where
   pub layer : IsFrom 0 65535 (number_at 16 (codes "layer") rows)
   pub datatype : IsFrom 0 65535 (number_at 16 (codes "datatype") rows)
@@ -35,7 +30,6 @@ pub record AreThere (rows : List Row) : Type 0 where
   pub mark_b : IsFromIfGiven 0 65535 (number_at 16 (codes "mark-b") rows)
   pub tile : IsFrom 1 1073741824 (number_at 32 (codes "tile") rows)
   pub workers : IsFrom 1 64 (number_at 32 (codes "workers") rows)
-  pub fewer : IsFlagText (one_of (codes "fewer") rows)
   pub input : IsThere (first_of (codes "in") rows)
   pub output : IsThere (first_of (codes "out") rows)
   pub certificate : IsThere (first_of (codes "cert") rows)

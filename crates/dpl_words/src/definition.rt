@@ -3,11 +3,11 @@ ghost use Rattle.std.specs.Prelude.{◌≡◌, ℕ, pos, Some, IfOk, false, true
 ghost use Rattle.clap.specs.Walk.{rule_of};
 ghost use Rattle.clap.specs.Simple.{app_of, with_subcommand};
 ghost use Rattle.clap.specs.declared.builder.command.Command.TheViews.{out-Command as fields_of};
-ghost use Rattle.dpl_words.specs.Definition.{check_shape, demo_shape, dpl_app, file_name, flag, number_if_given, optional_number, optional_text, required_number, required_word, rule_for, shape_with, split_shape, top_shape};
+ghost use Rattle.dpl_words.specs.Definition.{check_shape, demo_shape, dpl_app, file_name, number_if_given, optional_number, optional_text, required_number, required_word, rule_for, shape_with, split_shape, top_shape};
 ghost use Rattle.clap.specs.declared.builder.value_parser.ValueParser.TheVariants as vp;
 
 use clap::builder::ValueParser;
-use clap::{Arg, ArgAction, Command, value_parser};
+use clap::{Arg, Command, value_parser};
 use std::alloc::{AllocError, Global};
 
 /// An argument of a subcommand, by its name.
@@ -23,8 +23,6 @@ enum Argument<'a> {
     RequiredWord(&'a str),
     /// An option with a text.
     OptionalText(&'a str),
-    /// A flag, that may be left out.
-    Flag(&'a str),
     /// The name of a file, by its place.
     FileName(&'a str),
 }
@@ -43,7 +41,6 @@ impl<'a> Argument<'a> {
             Argument::NumberIfGiven(id, low, high) => { number_if_given_arg(alloc, id, low, high) }
             Argument::RequiredWord(id) => required_word_arg(alloc, id),
             Argument::OptionalText(id) => Arg::new(alloc, id).long(id),
-            Argument::Flag(id) => flag_arg(alloc, id),
             Argument::FileName(id) => Arg::new(alloc, id).required(true),
         }
     }
@@ -106,14 +103,6 @@ fn required_word_arg<'a>(alloc: Global, id: &'a str) -> Arg<'a>
         .value_parser(parser)
 }
 
-/// A flag, that may be left out.
-fn flag_arg<'a>(alloc: Global, id: &'a str) -> Arg<'a>
-    ensures defined { rule_of result ≡ flag id.entry.now }
-    ensures local { result.global ≡ false }
-{
-    Arg::new(alloc, id).long(id).action(ArgAction::SetTrue)
-}
-
 /// A command of this name, with these arguments.
 fn command_with<'a>(
     alloc: Global,
@@ -160,7 +149,6 @@ fn with_split<'a>(alloc: Global, command: Command<'a>) -> Result<Command<'a>, Al
         Argument::NumberIfGiven("mark-b", 0, 65_535),
         Argument::OptionalNumber("tile", 1, 1_073_741_824, "4096"),
         Argument::OptionalNumber("workers", 1, 64, "4"),
-        Argument::Flag("fewer"),
         Argument::FileName("in"),
         Argument::FileName("out"),
         Argument::FileName("cert"),

@@ -1,11 +1,11 @@
 //! The values that a command line gives.
 ghost use Rattle.std.specs.Prelude.{◌≡◌, Some, None, codes, IfOk, IfSome, IsErrOf, is_some, map, option_map, true};
 ghost use Rattle.dpl_words.specs.declared.values.WordsFault.TheVariants.{NoMemory};
-ghost use Rattle.clap.specs.Walk.{first_of, one_of, rows_of, texts};
+ghost use Rattle.clap.specs.Walk.{first_of, rows_of, texts};
 ghost use Rattle.clap.specs.Simple.{subcommand_rows_of};
 ghost use Rattle.clap.specs.Words.{found_of};
-ghost use Rattle.dpl_words.specs.Meaning.{asked_by, asked_of, check_if_sound, check_values, check_view, corner_in, demo_values, demo_view, flag_in, is_apart as specs_is_apart, number_at, number_in, text_in, request_of, request_view, split_if_sound, split_values, split_view};
-ghost use Rattle.dpl_words.specs.Ranges.{AreThere, AreThereForCheck, AreThereForDemo, HasItsValues, IsApart, IsFlagText, IsInRange, IsThere};
+ghost use Rattle.dpl_words.specs.Meaning.{asked_by, asked_of, check_if_sound, check_values, check_view, corner_in, demo_values, demo_view, is_apart as specs_is_apart, number_at, number_in, text_in, request_of, request_view, split_if_sound, split_values, split_view};
+ghost use Rattle.dpl_words.specs.Ranges.{AreThere, AreThereForCheck, AreThereForDemo, HasItsValues, IsApart, IsInRange, IsThere};
 
 use crate::definition::dpl_command;
 use clap::ArgMatches;
@@ -27,7 +27,6 @@ pub struct SplitOptions<'a> {
     pub mark_b: Option<u16>,
     pub tile: u32,
     pub workers: u32,
-    pub fewer: bool,
     pub input: &'a str,
     pub output: &'a str,
     pub certificate: &'a str,
@@ -114,14 +113,6 @@ fn number_64(matches: &ArgMatches, id: &str) -> u64
     matches.get_one::<u64>(id).unwrap()
 }
 
-/// Whether a flag is given.
-fn flag(matches: &ArgMatches, id: &str) -> bool
-    requires { IsFlagText (one_of id.now (rows_of (found_of matches.now))) }
-    ensures { result ≡ flag_in id.now (rows_of (found_of matches.now)) }
-{
-    matches.get_flag(id)
-}
-
 /// The first text of an argument.
 fn text<'a>(matches: &ArgMatches<'a>, id: &str) -> Option<&'a str>
     ensures { option_map (λ t. t.now) result ≡ first_of id.now (rows_of (found_of matches.now)) }
@@ -155,7 +146,6 @@ fn split_options<'a>(matches: &ArgMatches<'a>) -> SplitOptions<'a>
         mark_b: given_16(matches, "mark-b"),
         tile: number_32(matches, "tile"),
         workers: number_32(matches, "workers"),
-        fewer: flag(matches, "fewer"),
         input: required_text(matches, "in"),
         output: required_text(matches, "out"),
         certificate: required_text(matches, "cert"),
