@@ -15,9 +15,10 @@ use Rattle.dpl_spec_split.specs.Zones.{at, IsStretch, IsMiddle, IsHorizontalZone
 use Rattle.dpl_spec_split.specs.Pieces.{Conflict}
 use Rattle.dpl_spec_split.specs.Graphs.{Graph, stay, step, IsDistance}
 use Rattle.dpl_spec_split.specs.Summary.{HasOddCycle}
-use Rattle.dpl_spec_split.specs.Colours.{differ, is_flipped, AreRoots, AreColours, colour_at, on_mask}
-use Rattle.dpl_spec_split.specs.Marks.{Marks, Anchored, MarkEdge, letters_by, sides_by, vertex, conflict, up, down, anchors, fixed_to_a, fixed_to_b}
-use Rattle.dpl_spec_split.specs.Decomposition.{Cut, IsCut, conflicts, cut_graph, Masks, AreMasks}
+use Rattle.dpl_spec_split.specs.Colours.{differ, AreRoots, colour_at, on_mask}
+use Rattle.dpl_spec_split.specs.Marks.{Marks, Anchored, MarkEdge, letters_by, vertex, conflict, up, down, anchors, fixed_to_a, fixed_to_b}
+use Rattle.dpl_spec_split.specs.Decomposition.{Cut, IsCut, conflicts, cut_graph, Masks}
+use Rattle.dpl_law_split.specs.Letters.{AreLettered, AreSound}
 use Rattle.dpl_spec_split.proofs.SquareLaws.{AreNear-sym, far-sym}
 use Rattle.dpl_spec_split.proofs.GraphLaws.{root-unique}
 use Rattle.dpl_stars.specs.Laws.{HasLevelEdge}
@@ -85,18 +86,14 @@ module _ (joined : Graph) (un : IsUndirected joined) (count : ℕ) (roots : List
       (cycle, odd)
 
   -- without an odd cycle neighbours have different letters
-  pub letters-differ : (sides : List (ℕ × ℕ)) (colours : List Bool) → AreColours roots odds sides colours → (HasOddCycle joined → ⊥)
+  pub letters-differ : (flips : ℕ → Bool) (colours : List Bool)
+      → ((v : ℕ) → v < count → colour_at colours v ≡ differ (get_or odds v false) (flips (get_or roots v 0))) → (HasOddCycle joined → ⊥)
       → (u v : ℕ) → u < count → v < count → joined u v → colour_at colours u ≡ colour_at colours v → ⊥
-  letters-differ sides colours coloured even u v u_in v_in e same =
-      let many = rooted.lengths.0 in
-      let cu = coloured.colour u (omega (arith, u_in, many)) in
-      let cv = coloured.colour v (omega (arith, v_in, many)) in
-      let flips : is_flipped roots odds colours sides (get_or roots v 0) ≡ is_flipped roots odds colours sides (get_or roots u 0) = ap
-      (λ r. is_flipped roots odds colours sides r) (sym (one-root u v u_in v_in e)) in
-      let both : differ (get_or odds u false) (is_flipped roots odds colours sides (get_or roots u 0)) ≡ differ (get_or odds v false)
-      (is_flipped roots odds colours sides (get_or roots u 0)) =
-      sym cu ∙ (same ∙ (cv ∙ ap (λ f. differ (get_or odds v false) f) flips)) in
-      even (parity-cycle u v u_in v_in e (differ-same (get_or odds u false) (get_or odds v false) (is_flipped roots odds colours sides (get_or roots u 0)) both))
+  letters-differ flips colours coloured even u v u_in v_in e same =
+      let one : flips (get_or roots v 0) ≡ flips (get_or roots u 0) = ap flips (sym (one-root u v u_in v_in e)) in
+      let both : differ (get_or odds u false) (flips (get_or roots u 0)) ≡ differ (get_or odds v false) (flips (get_or roots u 0)) =
+      sym (coloured u u_in) ∙ (same ∙ (coloured v v_in ∙ ap (λ f. differ (get_or odds v false) f) one)) in
+      even (parity-cycle u v u_in v_in e (differ-same (get_or odds u false) (get_or odds v false) (flips (get_or roots u 0)) both))
 
 conflicts-undirected : (spacing : Spacing) (c : Cut) → IsUndirected (conflicts spacing c)
 conflicts-undirected spacing c = record {
@@ -143,7 +140,7 @@ pub letter-at : (marks : Option Marks) (colours : List Bool) (k : ℕ) → colou
 letter-at None colours k = refl
 letter-at (Some m) colours k = let two : suc (suc k) ≡ k + 2 = omega arith in behind-two colours k ∙ ap (λ n. get_or colours n false) two
 
-module _ (marks : Option Marks) (spacing : Spacing) (overlap : ℕ) (layer : Region) (c : Cut) (m : Masks) (cut : IsCut marks spacing overlap layer c) (masks : AreMasks marks spacing c m) (even : HasOddCycle (cut_graph marks spacing c) → ⊥) where
+module _ (marks : Option Marks) (spacing : Spacing) (overlap : ℕ) (layer : Region) (c : Cut) (m : Masks) (cut : IsCut marks spacing overlap layer c) (masks : AreLettered marks c m) (sound : AreSound marks spacing c masks.colours) where
   -- a zone's square is clear of other features
   zone-far : (z : Zone) (i j : ℕ) (p q : Pt) → Contains c.zones z → Has z.rect p → part_at c.features i p → part_at c.features j q → i ≢ j → ¬ Near spacing p q
   zone-far z i j p q z_in has in_i in_j ne =
@@ -161,8 +158,7 @@ module _ (marks : Option Marks) (spacing : Spacing) (overlap : ℕ) (layer : Reg
         let apart : get_or c.owners k 0 ≢ get_or c.owners l 0 = λ e. ne (sym (owner-is marks spacing overlap layer c cut k i p in_k in_i)
         ∙ (e ∙ owner-is marks spacing overlap layer c cut l j q in_l in_j)) in
         let joined : Conflict spacing c.pieces c.owners k l = record { first = k_in; second = l_in; apart = apart; near = (p, q, in_k, in_l, close) } in
-        absurd (letters-differ (cut_graph marks spacing c) (graph-undirected marks spacing c) (vertex marks (length c.pieces)) masks.roots masks.odds masks.rooted
-        (sides_by marks c.sides) masks.colours masks.coloured even (vertex marks k) (vertex marks l) (vertex-below marks k (length c.pieces) k_in) (vertex-below marks l (length c.pieces) l_in)
+        absurd (sound.apart (vertex marks k) (vertex marks l) (vertex-below marks k (length c.pieces) k_in) (vertex-below marks l (length c.pieces) l_in)
         (joined-vertices marks spacing c k l joined) (sym (letter-at marks masks.colours k) ∙ (k_is ∙ (sym l_is ∙ letter-at marks masks.colours l)))))
   ]
 

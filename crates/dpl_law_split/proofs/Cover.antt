@@ -9,7 +9,8 @@ use Rattle.dpl_spec_split.specs.Squares.{Region, Covers}
 use Rattle.dpl_spec_split.specs.Pieces.{without, AreSides}
 use Rattle.dpl_spec_split.specs.Colours.{colour_at, on_mask}
 use Rattle.dpl_spec_split.specs.Marks.{Marks, letters_by}
-use Rattle.dpl_spec_split.specs.Decomposition.{Cut, IsCut, Masks, AreMasks}
+use Rattle.dpl_spec_split.specs.Decomposition.{Cut, IsCut, Masks}
+use Rattle.dpl_law_split.specs.Letters.{AreLettered}
 use Rattle.dpl_law_split.proofs.Parts.{zoned_or_not, part-inside, part-of, zone-own, piece-rest}
 
 by_letter : (A : Bool → Type 0) (b : Bool) → A b → A false ⊎ A true
@@ -35,7 +36,7 @@ module _ (marks : Option Marks) (spacing : Spacing) (overlap : ℕ) (layer : Reg
         by_letter (λ letter. on_mask c.pieces c.zones c.sides colours letter p) (colour_at colours k) (inl (k, l, refl, has)))
   ]
 
-pub cover : (marks : Option Marks) (spacing : Spacing) (overlap : ℕ) (layer : Region) (c : Cut) (m : Masks) → IsCut marks spacing overlap layer c → AreMasks marks spacing c m → (p : Pt) → (Covers m.a p ⊎ Covers m.b p) ↔ layer p
+pub cover : (marks : Option Marks) (spacing : Spacing) (overlap : ℕ) (layer : Region) (c : Cut) (m : Masks) → IsCut marks spacing overlap layer c → AreLettered marks c m → (p : Pt) → (Covers m.a p ⊎ Covers m.b p) ↔ layer p
 cover marks spacing overlap layer c m cut masks p = (
   λ h. elim h [
     | inl a ↦ mask-inside marks spacing overlap layer c cut (letters_by marks masks.colours) false p ((masks.a.covers p).0 a)

@@ -1,38 +1,17 @@
 -- A marked square is on the mask that it is fixed to, and on that one alone.
-use Rattle.std.proofs.Common.{◌≡◌, ◌≢◌, ℕ, ◌+◌, ◌<◌, ◌%◌, inl, inr, Bool, true, false, List, length, get_or, sym, refl, ap, ◌∙◌, subst, arith}
-use Rattle.std.specs.Prelude.{Some, ◌==◌, ◌&&◌, count_by}
-use Rattle.std.proofs.lemmas.Bool.{le-ltb}
-use Rattle.std.proofs.lemmas.List.Recursion.{is_count_by}
+use Rattle.std.proofs.Common.{◌≡◌, ◌≢◌, ℕ, ◌+◌, ◌<◌, inl, inr, Bool, true, false, length, sym, refl, ap, ◌∙◌, arith}
+use Rattle.std.specs.Prelude.{Some}
 use Rattle.dpl_spec_split.specs.declared.Spacing.{Spacing}
 use Rattle.dpl_spec_split.specs.declared.Pt.{Pt}
 use Rattle.dpl_spec_split.specs.Squares.{Region, Covers}
 use Rattle.dpl_spec_split.specs.Zones.{part_at}
-use Rattle.dpl_spec_split.specs.Graphs.{stay, IsDistance}
-use Rattle.dpl_spec_split.specs.Summary.{HasOddCycle}
 use Rattle.dpl_spec_split.specs.Pieces.{without}
-use Rattle.dpl_spec_split.specs.Colours.{colour_at, crosses, is_flipped, on_mask, zones_across}
-use Rattle.dpl_spec_split.specs.Marks.{Marks, MarkEdge, letters_by, marked_by, sides_by, vertex, up, anchors, fixed_to_a, fixed_to_b}
-use Rattle.dpl_spec_split.specs.Decomposition.{Cut, IsCut, cut_graph, Masks, AreMasks}
+use Rattle.dpl_spec_split.specs.Colours.{colour_at, on_mask}
+use Rattle.dpl_spec_split.specs.Marks.{Marks, MarkEdge, letters_by, marked_by, up, anchors, fixed_to_a, fixed_to_b}
+use Rattle.dpl_spec_split.specs.Decomposition.{Cut, IsCut, Masks}
+use Rattle.dpl_law_split.specs.Letters.{AreLettered, AreSound}
 use Rattle.dpl_law_split.proofs.Parts.{part-of, part-same, zoned_or_not}
-use Rattle.dpl_law_split.proofs.Apart.{graph-undirected, letter-at, letters-differ}
-
--- no component precedes that of 0
-first-crosses : (roots : List ℕ) (u v : ℕ) (b : Bool) → (crosses roots 0 u v && b) ≡ false
-first-crosses roots u v b = rw (le-ltb (get_or roots v 0) 0 (omega arith)) (no-and (get_or roots u 0 == 0) b)
-  where
-    no-and : (a c : Bool) → ((a && false) && c) ≡ false
-    no-and false c = refl
-    no-and true c = refl
-
-none-counted : {A : Type 0} (P : A → Bool) → ((x : A) → P x ≡ false) → (xs : List A) → count_by P xs ≡ 0
-none-counted P never xs = sym (is_count_by (λ _. 0) P refl (λ x rest. rw (never x) refl) xs)
-
-first-across : (roots : List ℕ) (odds colours : List Bool) (wanted : Bool) (sides : List (ℕ × ℕ)) → zones_across roots odds colours 0 wanted sides ≡ 0
-first-across roots odds colours wanted sides = none-counted _ (λ side. rw (first-crosses roots side.0 side.1 _, first-crosses roots side.1 side.0 _) refl) sides
-
--- the component of 0 isn't flipped
-first-unflipped : (roots : List ℕ) (odds colours : List Bool) (sides : List (ℕ × ℕ)) → is_flipped roots odds colours sides 0 ≡ false
-first-unflipped roots odds colours sides = le-ltb _ _ (rw (first-across roots odds colours true sides) (omega arith))
+use Rattle.dpl_law_split.proofs.Apart.{letter-at}
 
 other-letter : (b : Bool) → b ≢ true → b ≡ false
 other-letter false ne = refl
@@ -42,32 +21,13 @@ other-of-false : (b : Bool) → b ≢ false → b ≡ true
 other-of-false false ne = absurd (ne refl)
 other-of-false true ne = refl
 
-module _ (m : Marks) (spacing : Spacing) (overlap : ℕ) (layer : Region) (c : Cut) (masks : Masks) (cut : IsCut (Some m) spacing overlap layer c) (are : AreMasks (Some m) spacing c masks) (even : HasOddCycle (cut_graph (Some m) spacing c) → ⊥) where
-  first-root : get_or are.roots 0 0 ≡ 0
-  first-root =
-      let (root, n, distance, odd) = are.rooted.stars 0 (omega arith) in
-      let least = root.least 0 (0, stay) in omega (arith, least)
-
-  first-even : get_or are.odds 0 false ≡ false
-  first-even =
-      let (root, n, distance, odd) = are.rooted.stars 0 (omega arith) in
-      let here : IsDistance (cut_graph (Some m) spacing c) 0 0 n = subst (λ r. IsDistance (cut_graph (Some m) spacing c) r 0 n) first-root distance in
-      let least = here.least 0 stay in
-      let none : n ≡ 0 = omega (arith, least) in
-      odd ∙ ap (λ k. k % 2 == 1) none
-
+module _ (m : Marks) (spacing : Spacing) (overlap : ℕ) (layer : Region) (c : Cut) (masks : Masks) (cut : IsCut (Some m) spacing overlap layer c) (are : AreLettered (Some m) c masks) (sound : AreSound (Some m) spacing c are.colours) where
   -- anchor A has letter A
   anchor-a : colour_at are.colours 0 ≡ false
-  anchor-a =
-      let many = are.rooted.lengths.0 in
-      let unflipped : is_flipped are.roots are.odds are.colours (sides_by (Some m) c.sides) (get_or are.roots 0 0) ≡ false =
-      rw first-root (first-unflipped are.roots are.odds are.colours (sides_by (Some m) c.sides)) in
-      are.coloured.colour 0 (omega (arith, many)) ∙ rw (first-even, unflipped) refl
+  anchor-a = sound.anchored
 
   apart : (u v : ℕ) → u < length c.pieces + 2 → v < length c.pieces + 2 → MarkEdge m c.pieces u v → colour_at are.colours u ≢ colour_at are.colours v
-  apart u v u_in v_in e same =
-      letters-differ (cut_graph (Some m) spacing c) (graph-undirected (Some m) spacing c) (vertex (Some m) (length c.pieces)) are.roots are.odds are.rooted
-      (sides_by (Some m) c.sides) are.colours are.coloured even u v u_in v_in (up e) same
+  apart u v u_in v_in e same = sound.apart u v u_in v_in (up e) same
 
   -- anchor B has letter B
   anchor-b : colour_at are.colours 1 ≡ true

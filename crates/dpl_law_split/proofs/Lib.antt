@@ -1,6 +1,8 @@
 pub mod Parts
 pub mod Cover
 pub mod Apart
+pub mod Lettering
+pub mod Counted
 pub mod Overlap
 pub mod Fixed
 pub mod Tops

@@ -9,7 +9,8 @@ use Rattle.dpl_spec_split.specs.declared.Zone.{Zone}
 use Rattle.dpl_spec_split.specs.Squares.{Region, Covers, Has}
 use Rattle.dpl_spec_split.specs.Colours.{differ, colour_at, on_mask}
 use Rattle.dpl_spec_split.specs.Marks.{Marks, letters_by}
-use Rattle.dpl_spec_split.specs.Decomposition.{Cut, IsCut, Masks, AreMasks}
+use Rattle.dpl_spec_split.specs.Decomposition.{Cut, IsCut, Masks}
+use Rattle.dpl_law_split.specs.Letters.{AreLettered}
 use Rattle.dpl_law_split.specs.Masks.{rect_at, rects_of}
 use Rattle.dpl_law_split.proofs.Parts.{part-same, piece-rest, zone-same}
 use Rattle.dpl_law_split.proofs.Cover.{as_many_sides}
@@ -41,7 +42,7 @@ has-letters false true e = (inl refl, inr refl)
 has-letters true false e = (inr refl, inl refl)
 has-letters true true e = (inl (sym e), inl refl)
 
-module _ (marks : Option Marks) (spacing : Spacing) (overlap : ℕ) (layer : Region) (c : Cut) (m : Masks) (cut : IsCut marks spacing overlap layer c) (masks : AreMasks marks spacing c m) where
+module _ (marks : Option Marks) (spacing : Spacing) (overlap : ℕ) (layer : Region) (c : Cut) (m : Masks) (cut : IsCut marks spacing overlap layer c) (masks : AreLettered marks c m) where
   abbrev masked : Bool → Region
   masked letter p = on_mask c.pieces c.zones c.sides (letters_by marks masks.colours) letter p
 

@@ -1,5 +1,5 @@
 -- What the masks of a layer keep.
-use Rattle.std.specs.Prelude.{◌≢◌, ℕ, ◌⊎◌, ◌↔◌, pos, List, map, slice_index_or, Option, Some}
+use Rattle.std.specs.Prelude.{◌≢◌, ◌≤◌, ℕ, ◌⊎◌, ◌↔◌, Bool, true, false, pos, List, length, map, slice_index_or, Option, Some}
 use Rattle.dpl_spec_split.specs.declared.Spacing.{Spacing}
 use Rattle.dpl_spec_split.specs.declared.Pt.{Pt}
 use Rattle.dpl_spec_split.specs.declared.Rect.{Rect}
@@ -8,7 +8,8 @@ use Rattle.dpl_spec_split.specs.Squares.{Covers, Near}
 use Rattle.dpl_spec_split.specs.Zones.{part_at}
 use Rattle.dpl_spec_split.specs.Summary.{HasOddCycle}
 use Rattle.dpl_spec_split.specs.Marks.{Marks}
-use Rattle.dpl_spec_split.specs.Decomposition.{Cut, Masks, IsCut, AreMasks, cut_graph}
+use Rattle.dpl_spec_split.specs.Decomposition.{Cut, Masks, IsCut, cut_graph}
+use Rattle.dpl_spec_fewer.specs.Masks.{AreMasksBy}
 
 -- a square is on one of the masks exactly where it is in the layer
 abbrev pub AreCover : List Rect → List Rect → List Rect → Type 0
@@ -30,19 +31,21 @@ rect_at zones k = (slice_index_or zones k (record { rect = record { x0 = pos 0; 
 abbrev pub rects_of : List Zone → List ℕ → List Rect
 rects_of zones ks = map (rect_at zones) ks
 
--- masks cover their layer exactly
+-- masks cover their layer exactly, with fewer stitches or without
 abbrev pub MasksCover : Type 0
-MasksCover = (marks : Option Marks) (spacing : Spacing) (overlap : ℕ) (layer : List Rect) (c : Cut) (m : Masks) → IsCut marks spacing overlap (Covers layer) c → AreMasks marks spacing c m → AreCover layer m.a m.b
+MasksCover = (fewer : Bool) (marks : Option Marks) (spacing : Spacing) (overlap : ℕ) (layer : List Rect) (c : Cut) (m : Masks)
+    → IsCut marks spacing overlap (Covers layer) c → AreMasksBy fewer marks spacing c m → AreCover layer m.a m.b
 
 -- without an odd cycle of the graph each mask keeps features apart
 abbrev pub MasksKeepApart : Type 0
-MasksKeepApart = (marks : Option Marks) (spacing : Spacing) (overlap : ℕ) (layer : List Rect) (c : Cut) (m : Masks) → IsCut marks spacing overlap (Covers layer) c → AreMasks marks spacing c m → ¬ HasOddCycle (cut_graph marks spacing c)
+MasksKeepApart = (fewer : Bool) (marks : Option Marks) (spacing : Spacing) (overlap : ℕ) (layer : List Rect) (c : Cut) (m : Masks)
+    → IsCut marks spacing overlap (Covers layer) c → AreMasksBy fewer marks spacing c m → ¬ HasOddCycle (cut_graph marks spacing c)
     → KeepsApart spacing c.features m.a × KeepsApart spacing c.features m.b
 
 -- masks overlap at their stitches alone
 abbrev pub MasksOverlapAtStitches : Type 0
-MasksOverlapAtStitches = (marks : Option Marks) (spacing : Spacing) (overlap : ℕ) (layer : List Rect) (c : Cut) (m : Masks) → IsCut marks spacing overlap (Covers layer) c
-    → AreMasks marks spacing c m → OverlapAt (rects_of c.zones m.stitches) m.a m.b
+MasksOverlapAtStitches = (fewer : Bool) (marks : Option Marks) (spacing : Spacing) (overlap : ℕ) (layer : List Rect) (c : Cut) (m : Masks)
+    → IsCut marks spacing overlap (Covers layer) c → AreMasksBy fewer marks spacing c m → OverlapAt (rects_of c.zones m.stitches) m.a m.b
 
 -- the squares of the layer that are in the set are on this mask, and not on the other one
 abbrev pub AreOnOne : List Rect → List Rect → List Rect → List Rect → Type 0
@@ -50,5 +53,11 @@ AreOnOne layer set mask other = (p : Pt) → Covers layer p → Covers set p →
 
 -- without an odd cycle of the graph each marked square of the layer is on the mask that it is fixed to alone
 abbrev pub MasksKeepMarks : Type 0
-MasksKeepMarks = (marks : Marks) (spacing : Spacing) (overlap : ℕ) (layer : List Rect) (c : Cut) (m : Masks) → IsCut (Some marks) spacing overlap (Covers layer) c → AreMasks (Some marks) spacing c m
+MasksKeepMarks = (fewer : Bool) (marks : Marks) (spacing : Spacing) (overlap : ℕ) (layer : List Rect) (c : Cut) (m : Masks)
+    → IsCut (Some marks) spacing overlap (Covers layer) c → AreMasksBy fewer (Some marks) spacing c m
     → ¬ HasOddCycle (cut_graph (Some marks) spacing c) → AreOnOne layer marks.a m.a m.b × AreOnOne layer marks.b m.b m.a
+
+-- the masks of a cut with fewer stitches have no more of them than those without
+abbrev pub FewerAreNoMore : Type 0
+FewerAreNoMore = (marks : Option Marks) (spacing : Spacing) (c : Cut) (few plain : Masks) → AreMasksBy true marks spacing c few
+    → AreMasksBy false marks spacing c plain → length few.stitches ≤ length plain.stitches

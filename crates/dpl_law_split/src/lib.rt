@@ -1,8 +1,8 @@
-//! What follows for the masks of a layer: they cover it, keep its features apart and its marks, and overlap at stitches alone.
+//! What follows for the masks of a layer, with fewer stitches or without: they cover it, keep its features apart and its marks, and overlap at stitches alone.
 #![tactic(auto)]
 
 ghost use Rattle.dpl_law_split.specs.Faults.{FaultlessOrFault, OneFirstFault, OneTop, OneTopFault, SomeTop, TopOrFault};
-ghost use Rattle.dpl_law_split.specs.Masks.{MasksCover, MasksKeepApart, MasksKeepMarks, MasksOverlapAtStitches};
+ghost use Rattle.dpl_law_split.specs.Masks.{FewerAreNoMore, MasksCover, MasksKeepApart, MasksKeepMarks, MasksOverlapAtStitches};
 
 /// A square is on one of the masks exactly where it is in the layer.
 pub fn masks_cover()
@@ -22,6 +22,11 @@ pub fn masks_overlap_at_stitches()
 /// Where the graph with anchors has no odd cycle, a square of the layer that is fixed to a mask is on that mask, and not on the other one.
 pub fn masks_keep_marks()
     ensures { MasksKeepMarks }
+{}
+
+/// Where fewer stitches are asked for, the masks of a cut have no more of them than where they aren't.
+pub fn fewer_are_no_more()
+    ensures { FewerAreNoMore }
 {}
 
 /// A library has exactly one top, or exactly one reason why it has none, and not both.

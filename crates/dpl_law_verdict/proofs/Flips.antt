@@ -62,7 +62,7 @@ own-root joined v r is = record { reached = (0, stay); least = λ u reach. is.le
 
 module _ (marks : Option Marks) (spacing : Spacing) (overlap : ℕ) (layer : Region) (cut : Cut) (roots : List ℕ)
     (is : IsCut marks spacing overlap layer cut) (are : AreRootsOf spacing cut.pieces cut.owners roots) where
-  sides-within : All (λ (side : ℕ × ℕ). (side.0 < length roots) × (side.1 < length roots)) cut.sides
+  pub sides-within : All (λ (side : ℕ × ℕ). (side.0 < length roots) × (side.1 < length roots)) cut.sides
   sides-within k d k_in =
       let many : length cut.sides ≡ length cut.zones = AllZip-long (AreSides cut.features cut.pieces) cut.zones cut.sides is.pieces.sided in
       let known = (zip-at (AreSides cut.features cut.pieces) cut.zones cut.sides k no_zone (0, 0) is.pieces.sided (omega (arith, many, k_in))).known in

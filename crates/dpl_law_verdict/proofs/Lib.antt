@@ -6,7 +6,9 @@ pub mod Joining
 pub mod Cycles
 pub mod Lines
 pub mod Painted
+pub mod Gained
 pub mod Clashing
 pub mod Ranges
 pub mod Counting
+pub mod Rising
 pub mod Written

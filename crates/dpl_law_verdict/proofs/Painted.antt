@@ -14,11 +14,12 @@ use Rattle.dpl_spec_split.specs.Squares.{Region, Covers, Has, IsLeast}
 use Rattle.dpl_spec_split.specs.Components.{Linked}
 use Rattle.dpl_spec_split.specs.Zones.{at, part_at, IsKeptZone}
 use Rattle.dpl_spec_split.specs.Pieces.{AreSides}
-use Rattle.dpl_spec_split.specs.Summary.{HasOddCycle}
 use Rattle.dpl_spec_split.specs.Colours.{differ, colour_at, on_mask}
-use Rattle.dpl_spec_split.specs.Decomposition.{Cut, IsCut, cut_graph, Masks, AreMasks}
+use Rattle.dpl_spec_split.specs.Decomposition.{AreMasks, Cut, IsCut, Masks}
 use Rattle.dpl_spec_split.specs.Marks.{Marks, letters_by, vertex}
 use Rattle.dpl_spec_split.proofs.ComponentLaws.{Linked-trans, Linked-sym}
+use Rattle.dpl_spec_fewer.specs.Masks.{AreMasksBy}
+use Rattle.dpl_law_split.specs.Letters.{AreLettered, AreSound}
 use Rattle.dpl_law_split.specs.Masks.{KeepsApart, rect_at, rects_of}
 use Rattle.dpl_law_split.proofs.Parts.{part-of, zip-at, kept}
 use Rattle.dpl_law_split.proofs.Cover.{as_many_sides, cover}
@@ -28,9 +29,17 @@ use Rattle.dpl_law_split.proofs.Fixed.{fixed-on-a, fixed-on-b}
 use Rattle.dpl_spec_verdict.specs.Order.{HasSquare}
 use Rattle.dpl_cert.specs.declared.cert.PieceLine.{PieceLine}
 use Rattle.dpl_cert.specs.declared.cert.StitchLine.{StitchLine}
+use Rattle.dpl_cert.specs.declared.cert.Gain.{Gain}
+use Rattle.dpl_spec_verdict.specs.declared.Verdict.TheVariants.{Valid}
+use Rattle.dpl_spec_verdict.specs.Gains.{letters as letters_in, VerdictOfGains}
 use Rattle.dpl_spec_verdict.specs.Masks.{IsTight, IsGoodStitch, is_misplaced, piece_at}
-use Rattle.dpl_law_verdict.specs.Own.{piece_line, no_zone, stitch_line}
+use Rattle.dpl_law_verdict.specs.Own.{head_of, piece_line, no_zone, stitch_line}
 use Rattle.dpl_law_verdict.proofs.Passing.{IsKept}
+
+-- the masks of a decomposition are those without the wish for fewer stitches
+abbrev pub plain : (marks : Option Marks) (spacing : Spacing) (c : Cut) (m : Masks) → AreMasks marks spacing c m → AreMasksBy false marks spacing c m
+plain marks spacing c m are =
+    record { roots = are.roots; odds = are.odds; colours = are.colours; rooted = are.rooted; coloured = are.coloured; a = are.a; b = are.b; stitches = are.stitches }
 
 two-letters : (a b : Bool) → differ a b ≡ true → a ≢ b
 two-letters false false e f = cc
@@ -69,14 +78,14 @@ many-letters (Some m) n colours many = (let left = length-drop 2 colours in omeg
 
 -- each marked square is on its mask alone
 none-misplaced : (marks : Option Marks) (spacing : Spacing) (overlap : ℕ) (layer : List Rect) (c : Cut) (m : Masks) → IsCut marks spacing overlap (Covers layer) c
-    → AreMasks marks spacing c m → (HasOddCycle (cut_graph marks spacing c) → ⊥) → HasSquare (is_misplaced marks layer m.a m.b) → ⊥
-none-misplaced None spacing overlap layer c m cut masks even (p, (there, off)) = elim off [ inl (marked, lost) ↦ marked | inr (marked, lost) ↦ marked ]
-none-misplaced (Some k) spacing overlap layer c m cut masks even (p, (there, off)) = elim off [
-  | inl (marked, lost) ↦ lost (fixed-on-a k spacing overlap (Covers layer) c m cut masks even p there marked)
-  | inr (marked, lost) ↦ lost (fixed-on-b k spacing overlap (Covers layer) c m cut masks even p there marked)
+    → (masks : AreLettered marks c m) → AreSound marks spacing c masks.colours → HasSquare (is_misplaced marks layer m.a m.b) → ⊥
+none-misplaced None spacing overlap layer c m cut masks sound (p, (there, off)) = elim off [ inl (marked, lost) ↦ marked | inr (marked, lost) ↦ marked ]
+none-misplaced (Some k) spacing overlap layer c m cut masks sound (p, (there, off)) = elim off [
+  | inl (marked, lost) ↦ lost (fixed-on-a k spacing overlap (Covers layer) c m cut masks sound p there marked)
+  | inr (marked, lost) ↦ lost (fixed-on-b k spacing overlap (Covers layer) c m cut masks sound p there marked)
 ]
 
-module _ (marks : Option Marks) (spacing : Spacing) (overlap : ℕ) (layer : List Rect) (c : Cut) (m : Masks) (cut : IsCut marks spacing overlap (Covers layer) c) (masks : AreMasks marks spacing c m) where
+module _ (marks : Option Marks) (spacing : Spacing) (overlap : ℕ) (layer : List Rect) (c : Cut) (m : Masks) (cut : IsCut marks spacing overlap (Covers layer) c) (masks : AreLettered marks c m) where
   abbrev letters : List Bool
   letters = letters_by marks masks.colours
 
@@ -87,7 +96,7 @@ module _ (marks : Option Marks) (spacing : Spacing) (overlap : ℕ) (layer : Lis
   stitch_lines = map (stitch_line c.zones c.sides) m.stitches
 
   many-colours : length letters ≡ length c.pieces
-  many-colours = many-letters marks (length c.pieces) masks.colours (masks.coloured.each ∙ masks.rooted.lengths.0)
+  many-colours = many-letters marks (length c.pieces) masks.colours masks.each
 
   many-keys : length c.keys ≡ length c.pieces
   many-keys = AllZip-long (λ piece key. IsLeast (Covers piece) key) c.pieces c.keys cut.pieces.keyed
@@ -147,7 +156,8 @@ module _ (marks : Option Marks) (spacing : Spacing) (overlap : ℕ) (layer : Lis
       let ne : i ≢ j = λ e. t.apart (linked-one i p q i_in at_i (subst (λ k. part_at c.features k q) (sym e) at_j)) in
       far i j p q ne at_i at_j t.first t.second t.close
 
-  pub painted-kept : (HasOddCycle (cut_graph marks spacing c) → ⊥)
+  pub painted-kept : (gains : Option (List Gain)) → AreSound marks spacing c masks.colours
+      → VerdictOfGains marks spacing overlap layer (head_of spacing overlap c) (letters_in lines) gains Valid
       → IsKept marks spacing overlap
       (record {
         layer = layer;
@@ -163,9 +173,9 @@ module _ (marks : Option Marks) (spacing : Spacing) (overlap : ℕ) (layer : Lis
         };
         pieces = lines;
         stitches = stitch_lines;
-        gains = None;
+        gains = gains;
       })
-  painted-kept even = record {
+  painted-kept gains sound gained = record {
     rules = λ differs. elim differs [ inl ne ↦ ne refl | inr (inl ne) ↦ ne refl | inr (inr ne) ↦ ne refl ];
     counts = λ differs. differs (c.features, cut.features, refl);
     covered = λ (p, off). elim off [
@@ -173,9 +183,9 @@ module _ (marks : Option Marks) (spacing : Spacing) (overlap : ℕ) (layer : Lis
       | inr (masked, none) ↦ none ((cover marks spacing overlap (Covers layer) c m cut masks p).0 masked)
     ];
     doubled = λ (p, (in_a, in_b, none)). none (any-lines c.zones c.sides m.stitches p ((overlap-at marks spacing overlap (Covers layer) c m cut masks p).0 (in_a, in_b)));
-    tight_a = none-tight m.a (far-on-a marks spacing overlap (Covers layer) c m cut masks even);
-    tight_b = none-tight m.b (far-on-b marks spacing overlap (Covers layer) c m cut masks even);
-    marked = none-misplaced marks spacing overlap layer c m cut masks even;
+    tight_a = none-tight m.a (far-on-a marks spacing overlap (Covers layer) c m cut masks sound);
+    tight_b = none-tight m.b (far-on-b marks spacing overlap (Covers layer) c m cut masks sound);
+    marked = none-misplaced marks spacing overlap layer c m cut masks sound;
     stitches = λ (n, n_in, bad). (
         let within : n < length m.stitches = subst (λ t. n < t) (length-map m.stitches (stitch_line c.zones c.sides)) n_in in
         let s : StitchLine = stitch_line c.zones c.sides (get_or m.stitches n 0) in
@@ -184,5 +194,5 @@ module _ (marks : Option Marks) (spacing : Spacing) (overlap : ℕ) (layer : Lis
     pieces = λ (n, n_in, bad). (
         let d : PieceLine = piece_line (false, at (pos 0) (pos 0)) in
         bad d (key-masked n d (subst (λ t. n < t) many-lines n_in)));
-    gained = refl;
+    gained = gained;
   }

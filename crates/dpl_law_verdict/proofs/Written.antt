@@ -1,6 +1,6 @@
 -- The certificate of a decomposition is in the grammar, and its masks lie within the range.
 use Rattle.std.proofs.Common.{◌≡◌, ℕ, suc, ◌/◌, ◌^◌, ◌<◌, ◌≤◌, inl, inr, Bool, List, [], ◌∷◌, length, map, get_or, refl, sym, ap, ◌∙◌, subst, arith}
-use Rattle.std.specs.Prelude.{Option, None, pos, ◌-ℤ◌, ◌≤ℤ◌, ◌<ℤ◌}
+use Rattle.std.specs.Prelude.{Option, pos, ◌-ℤ◌, ◌≤ℤ◌, ◌<ℤ◌}
 use Rattle.std.specs.List.{AllByRecursion, AllZip, Contains, zip}
 use Rattle.std.proofs.lemmas.Int.{ints}
 use Rattle.std.proofs.lemmas.List.{get_or_default, length-map}
@@ -16,7 +16,8 @@ use Rattle.dpl_spec_split.specs.Zones.{at, part_at, IsHorizontalZone, IsKeptZone
 use Rattle.dpl_spec_split.specs.Pieces.{AreSides, without}
 use Rattle.dpl_spec_split.specs.Graphs.{IsOddCycle}
 use Rattle.dpl_spec_split.specs.Cycle.{IsReported}
-use Rattle.dpl_spec_split.specs.Decomposition.{Cut, IsCut, Masks, AreMasks, conflicts}
+use Rattle.dpl_spec_split.specs.Decomposition.{Cut, IsCut, Masks, conflicts}
+use Rattle.dpl_law_split.specs.Letters.{AreLettered}
 use Rattle.dpl_spec_split.specs.Marks.{Marks, letters_by}
 use Rattle.dpl_law_verdict.proofs.Painted.{many-letters}
 use Rattle.dpl_stars.proofs.Forks.{reported-odd}
@@ -25,7 +26,9 @@ use Rattle.dpl_law_split.proofs.Cover.{as_many_sides, cover}
 use Rattle.dpl_slabs.proofs.LoopLaws.{Inside}
 use Rattle.dpl_cert.specs.declared.cert.NearLine.{NearLine}
 use Rattle.dpl_cert.specs.declared.cert.NearLine.TheVariants.{Pair, Mark, Anchors}
-use Rattle.dpl_law_verdict.specs.Own.{ShowsPair}
+use Rattle.dpl_law_verdict.specs.Own.{AreGainsBy, ShowsPair}
+use Rattle.dpl_law_verdict.proofs.Rising.{gains-fit}
+use Rattle.dpl_cert.specs.declared.cert.Gain.{Gain}
 use Rattle.dpl_law_verdict.specs.Written.{IsCorner}
 use Rattle.dpl_nearest.specs.Nearest.{IsNearestPair}
 use Rattle.std.specs.Prelude.{slice_index, ◌+◌, ◌%◌}
@@ -160,12 +163,12 @@ module _ (marks : Option Marks) (spacing : Spacing) (overlap : ℕ) (layer : Lis
   keys-fit = all-keys c.pieces c.keys cut.pieces.keyed (λ k p has. point-of p (piece-inside k p has))
 
   -- the lines of masks
-  module _ (m : Masks) (masks : AreMasks marks spacing c m) where
+  module _ (m : Masks) (masks : AreLettered marks c m) where
     abbrev letters : List Bool
     letters = letters_by marks masks.colours
 
     many-colours : length letters ≡ length c.pieces
-    many-colours = many-letters marks (length c.pieces) masks.colours (masks.coloured.each ∙ masks.rooted.lengths.0)
+    many-colours = many-letters marks (length c.pieces) masks.colours masks.each
 
     stitch-zone : (k : ℕ) → Contains m.stitches k → k < length c.zones
     stitch-zone k k_in = (let (side, k_side, side_is, both) = (masks.stitches.exactly k).0 k_in in
@@ -189,14 +192,21 @@ module _ (marks : Option Marks) (spacing : Spacing) (overlap : ℕ) (layer : Lis
         let few = head-fits.zones in
         omega (arith, most, few)
 
-    pub masks-cert : IsCert (MasksText (head_of spacing overlap c) (map piece_line (zip letters c.keys)) (map (stitch_line c.zones c.sides) m.stitches) None)
-    masks-cert = (
+    few-sides : length c.sides < 2 ^ 64
+    few-sides =
+        let same = as_many_sides marks spacing overlap (Covers layer) c cut letters in
+        let few = head-fits.zones in
+        omega (arith, same, few)
+
+    pub masks-cert : (fewer : Bool) (gains : Option (List Gain)) → AreGainsBy fewer marks spacing c letters gains
+        → IsCert (MasksText (head_of spacing overlap c) (map piece_line (zip letters c.keys)) (map (stitch_line c.zones c.sides) m.stitches) gains)
+    masks-cert fewer gains are = (
       head-fits,
       many-lines letters c.keys (many-colours ∙ sym many-keys) ∙ many-keys,
       all-lines letters c.keys keys-fit,
       subst (λ n. n < 2 ^ 64) (sym (length-map m.stitches (stitch_line c.zones c.sides))) few-stitches,
       all-map IsStitch (stitch_line c.zones c.sides) m.stitches (λ k i i_in is. stitch-fits k (i, i_in, is)),
-      tt,
+      gains-fit fewer marks spacing c letters gains few-pieces few-sides are,
     )
 
     pub masks-within : AreRectsWithin farthest m.a × AreRectsWithin farthest m.b

@@ -1,5 +1,5 @@
 -- The masks or the cycle of a layer's decomposition are valid.
-use Rattle.std.specs.Prelude.{Option, None, ℕ, ◌+◌, ◌%◌, ◌<◌, Bool, pos, List, length, map, slice_index, slice_index_or}
+use Rattle.std.specs.Prelude.{Option, Some, None, ℕ, ◌+◌, ◌%◌, ◌<◌, Bool, true, false, pos, List, length, map, slice_index, slice_index_or}
 use Rattle.std.specs.List.{zip}
 use Rattle.dpl_spec_split.specs.declared.Spacing.{Spacing}
 use Rattle.dpl_spec_split.specs.declared.Pt.{Pt}
@@ -11,8 +11,10 @@ use Rattle.dpl_spec_split.specs.Summary.{HasOddCycle}
 use Rattle.dpl_spec_split.specs.Cycle.{IsReported}
 use Rattle.dpl_spec_split.specs.Decomposition.{Cut, IsCut, Masks, AreMasks, conflicts, cut_graph}
 use Rattle.dpl_spec_split.specs.Marks.{Marks, letters_by}
+use Rattle.dpl_spec_fewer.specs.Masks.{AreMasksBy}
 use Rattle.dpl_nearest.specs.Nearest.{IsNearestPair}
 use Rattle.dpl_cert.specs.declared.cert.Head.{Head}
+use Rattle.dpl_cert.specs.declared.cert.Gain.{Gain}
 use Rattle.dpl_cert.specs.declared.cert.PieceLine.{PieceLine}
 use Rattle.dpl_cert.specs.declared.cert.StitchLine.{StitchLine}
 use Rattle.dpl_cert.specs.declared.cert.PlaceLine.{PlaceLine}
@@ -22,6 +24,7 @@ use Rattle.dpl_cert.specs.declared.cert.NearLine.TheVariants.{Pair, Mark, Anchor
 use Rattle.dpl_cert.specs.declared.cert.Cert.TheVariants.{Masks as MasksText, Conflict as ConflictText}
 use Rattle.dpl_spec_verdict.specs.declared.Verdict.TheVariants.{Valid}
 use Rattle.dpl_spec_verdict.specs.Masks.{IsVerdictOfMasks}
+use Rattle.dpl_spec_verdict.specs.Gains.{AreGainsOf}
 use Rattle.dpl_spec_verdict.specs.Conflicts.{IsVerdictOfConflict}
 
 abbrev pub head_of : Spacing → ℕ → Cut → Head
@@ -59,6 +62,21 @@ abbrev pub OwnMasksAreValid : Type 0
 OwnMasksAreValid = (marks : Option Marks) (spacing : Spacing) (overlap : ℕ) (layer : List Rect) (c : Cut) (m : Masks) → IsCut marks spacing overlap (Covers layer) c → (are : AreMasks marks spacing c m) → ¬ HasOddCycle (cut_graph marks spacing c)
     → IsVerdictOfMasks marks spacing overlap layer m.a m.b (MasksText (head_of spacing overlap c) (map piece_line (zip (letters_by marks are.colours) c.keys))
     (map (stitch_line c.zones c.sides) m.stitches) None) Valid
+
+-- where fewer stitches are asked for, the gains of the components by these letters; else none are told
+abbrev pub AreGainsBy : Bool → Option Marks → Spacing → Cut → List Bool → Option (List Gain) → Type 0
+AreGainsBy false marks spacing c letters None = Unit {0}
+AreGainsBy false marks spacing c letters (Some gains) = ⊥
+AreGainsBy true marks spacing c letters None = ⊥
+AreGainsBy true marks spacing c letters (Some gains) = AreGainsOf marks spacing c letters gains
+
+-- nor, where fewer stitches are asked for, with those masks and the gains that are left
+abbrev pub OwnMasksByAreValid : Type 0
+OwnMasksByAreValid = (fewer : Bool) (marks : Option Marks) (spacing : Spacing) (overlap : ℕ) (layer : List Rect) (c : Cut) (m : Masks) (gains : Option (List Gain))
+    → IsCut marks spacing overlap (Covers layer) c → (are : AreMasksBy fewer marks spacing c m) → ¬ HasOddCycle (cut_graph marks spacing c)
+    → AreGainsBy fewer marks spacing c (letters_by marks are.colours) gains
+    → IsVerdictOfMasks marks spacing overlap layer m.a m.b (MasksText (head_of spacing overlap c) (map piece_line (zip (letters_by marks are.colours) c.keys))
+    (map (stitch_line c.zones c.sides) m.stitches) gains) Valid
 
 -- nothing is wrong with the reported cycle
 abbrev pub OwnCyclesAreValid : Type 0

@@ -3,9 +3,9 @@
 
 ghost use Rattle.dpl_law_verdict.specs.Flips.{NoFlipsLeaveFewer};
 ghost use Rattle.dpl_law_verdict.specs.Lines.{ValidLinesAreGood};
-ghost use Rattle.dpl_law_verdict.specs.Own.{OwnCyclesAreValid, OwnMasksAreValid};
+ghost use Rattle.dpl_law_verdict.specs.Own.{OwnCyclesAreValid, OwnMasksAreValid, OwnMasksByAreValid};
 ghost use Rattle.dpl_law_verdict.specs.Valid.{ValidConflictsAreThere, ValidMasksAreRight, ValidMasksKeepMarks};
-ghost use Rattle.dpl_law_verdict.specs.Written.{FaultlessLayersAreWithin, OwnCyclesAreWritten, OwnMasksAreWritten};
+ghost use Rattle.dpl_law_verdict.specs.Written.{FaultlessLayersAreWithin, OwnCyclesAreWritten, OwnMasksAreWritten, OwnMasksByAreWritten};
 
 /// Valid masks cover the layer and nothing else, have no near squares of different features on one mask, and are both on a square exactly where it lies in a listed stitch.
 pub fn valid_masks_are_right()
@@ -32,9 +32,10 @@ pub fn valid_conflicts_are_there()
     ensures { ValidConflictsAreThere }
 {}
 
-/// The masks of a layer whose conflict graph has no odd cycle are valid by the lines that tell of them.
+/// The masks of a layer whose conflict graph has no odd cycle are valid by the lines that tell of them, and so are those with fewer stitches, with the gains that are left.
 pub fn own_masks_are_valid()
-    ensures { OwnMasksAreValid }
+    ensures masks { OwnMasksAreValid }
+    ensures by { OwnMasksByAreValid }
 {}
 
 /// The odd cycle reported of a layer is valid by its pieces and their nearest squares.
@@ -47,5 +48,6 @@ pub fn own_cycles_are_valid()
 pub fn own_results_are_written()
     ensures layer { FaultlessLayersAreWithin }
     ensures masks { OwnMasksAreWritten }
+    ensures by { OwnMasksByAreWritten }
     ensures cycle { OwnCyclesAreWritten }
 {}

@@ -1,8 +1,12 @@
 -- What follows from the definitions.
-use Rattle.std.specs.Prelude.{◌≡◌, ℕ, ◌+◌, ◌<◌, ◌≤◌, Bool, true, false, List, length, slice_index, Option}
+use Rattle.std.specs.Prelude.{◌≡◌, ℕ, ◌+◌, ◌<◌, ◌≤◌, ◌↔◌, Bool, true, false, List, length, slice_index, Option}
 use Rattle.std.specs.List.{All}
+use Rattle.dpl_spec_split.specs.declared.Spacing.{Spacing}
+use Rattle.dpl_spec_split.specs.Marks.{Marks}
 use Rattle.dpl_spec_split.specs.Colours.{differ, colour_at}
+use Rattle.dpl_spec_split.specs.Decomposition.{AreMasks, Cut, Masks}
 use Rattle.dpl_spec_fewer.specs.Fewer.{stitch_count, flipped, Gains, LeadsTo, AreFewerColours, zones_out}
+use Rattle.dpl_spec_fewer.specs.Masks.{AreMasksBy}
 
 -- vertices of a graph, with the zones between them
 pub record AreVertices (roots : List ℕ) (sides : List (ℕ × ℕ)) (colours : List Bool) : Type 0 where
@@ -44,3 +48,12 @@ IsKeptOrFlipped roots colours last root =
 abbrev pub ComponentsAreKept : Type 0
 ComponentsAreKept = (roots : List ℕ) (fixed : Option ℕ) (sides : List (ℕ × ℕ)) (colours last : List Bool) → length colours ≡ length roots
     → LeadsTo roots fixed sides colours last → (length last ≡ length roots) × ((root : ℕ) → IsKeptOrFlipped roots colours last root)
+
+-- without the wish for fewer stitches the masks are those of the decomposition
+abbrev pub PlainMasksAreMasks : Type 0
+PlainMasksAreMasks = (marks : Option Marks) (spacing : Spacing) (c : Cut) (m : Masks) → AreMasksBy false marks spacing c m ↔ AreMasks marks spacing c m
+
+-- by the colours of either kind a cut has at most one pair of masks, with one list of letters
+abbrev pub OneOfMasks : Type 0
+OneOfMasks = (fewer : Bool) (marks : Option Marks) (spacing : Spacing) (c : Cut) (m n : Masks) → (a : AreMasksBy fewer marks spacing c m)
+    → (b : AreMasksBy fewer marks spacing c n) → (a.colours ≡ b.colours) × (m ≡ n)

@@ -1,2 +1,3 @@
 pub mod Fewer
 pub mod Laws
+pub mod Masks
