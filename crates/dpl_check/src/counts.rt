@@ -16,16 +16,7 @@ use std::alloc::{AllocError, Global};
 pub(crate) fn rules_differ(head: &Head, spacing: Spacing, overlap: u32) -> bool
     ensures { IsTrue result ↔ RulesDiffer spacing overlap head.now }
 {
-    if head.rule != spacing.rule {
-        return true;
-    }
-    if head.overlap != overlap {
-        return true;
-    }
-    if head.corner != spacing.corner {
-        return true;
-    }
-    false
+    head.rule != spacing.rule || head.overlap != overlap || head.corner != spacing.corner
 }
 
 /// Tells how many features, pieces and zones a cut has.
@@ -61,14 +52,7 @@ pub(crate) fn counts(
 pub(crate) fn counts_differ(head: &Head, cut: &LayerCut) -> bool
     ensures { IsTrue result ↔ HasOtherCounts head.now cut.now }
 {
-    if cut.features != head.features {
-        return true;
-    }
-    if cut.pieces.parts().items().len() as u64 != head.pieces {
-        return true;
-    }
-    if cut.pieces.zones().len() as u64 != head.zones {
-        return true;
-    }
-    false
+    cut.features != head.features
+        || cut.pieces.parts().items().len() as u64 != head.pieces
+        || cut.pieces.zones().len() as u64 != head.zones
 }

@@ -52,10 +52,8 @@ fn letters_of(alloc: Global, pieces: &[PieceLine]) -> Result<Vec<bool>, AllocErr
 fn counts_other_pieces(head: &Head, cut: &LayerCut) -> bool
     ensures { IsTrue result ↔ CountsOtherPieces head.now cut.now }
 {
-    if cut.pieces.parts().items().len() as u64 != head.pieces {
-        return true;
-    }
-    cut.pieces.zones().len() as u64 != head.zones
+    cut.pieces.parts().items().len() as u64 != head.pieces
+        || cut.pieces.zones().len() as u64 != head.zones
 }
 
 /// What is said of lines of gains, if there are any: that they are valid, or which is the first that is wrong.

@@ -1,11 +1,12 @@
 -- Components with marked pieces, gathered piece by piece.
-use Rattle.std.proofs.Common.{◌≡◌, ◌↔◌, ℕ, ◌+◌, ◌<◌, inl, inr, Bool, true, false, List, length, get_or, set, replicate, sym, ap, ◌∙◌, subst, arith}
+use Rattle.std.proofs.Common.{◌≡◌, ◌↔◌, ℕ, ◌+◌, ◌<◌, inl, inr, Bool, true, false, List, length, get_or, set, [], replicate, sym, ap, ◌∙◌, subst, arith}
 use Rattle.std.proofs.lemmas.Bool.{cases_eq, cases_lt, false≢true}
 use Rattle.std.proofs.lemmas.List.{get_or-set_same, get_or-set_other, get_or-replicate, get_or_past, length-set, length-replicate}
 use Rattle.dpl_spec_split.specs.declared.Rect.{Rect}
 use Rattle.dpl_spec_split.specs.Squares.{Covers}
 use Rattle.dpl_spec_split.specs.Zones.{part_at}
 use Rattle.dpl_spec_split.specs.Marks.{HasSome}
+use Rattle.dpl_spec_split.proofs.MarkLaws.{none-marked}
 use Rattle.dpl_gains.specs.Held.{IsHeldBelow}
 
 pub record AreHeldBelow (parts : List (List Rect)) (roots : List ℕ) (set : List Rect) (n : ℕ) (held : List Bool) : Type 0 where
@@ -25,6 +26,17 @@ held-none parts roots set held is = record {
   each = λ root. (
     λ e. absurd (false≢true (sym (none-true (length roots) root) ∙ (ap (λ (xs : List Bool). get_or xs root false) (sym is) ∙ e))),
     λ h. absurd (omega (arith, h.1)),
+  );
+}
+
+-- where the set has no squares, no component is held, however many pieces there are
+pub held-empty : (parts : List (List Rect)) (roots : List ℕ) (set : List Rect) (held : List Bool) (n : ℕ) → set ≡ [] → held ≡ replicate (length roots) false
+    → AreHeldBelow parts roots set n held
+held-empty parts roots set held n empty is = record {
+  len = (held-none parts roots set held is).len;
+  each = λ root. (
+    λ e. absurd (false≢true (sym (none-true (length roots) root) ∙ (ap (λ (xs : List Bool). get_or xs root false) (sym is) ∙ e))),
+    λ (k, l, at, (p, mine, on)). absurd (elim ((none-marked set empty p).0 on) [ inl a ↦ a | inr b ↦ b ]),
   );
 }
 

@@ -2,10 +2,11 @@
 ghost use Rattle.std.specs.Prelude.{◌≡◌, ◌≤◌, ◌<◌, ◌↔◌, ℕ, List, Option, IfOk, IfSome, IfNone, length};
 ghost use Rattle.std.specs.List.{AllPairs, Contains};
 ghost use Rattle.dpl_spec_split.specs.declared.Rect.{Rect};
+ghost use Rattle.dpl_spec_split.specs.declared.Spacing.{Spacing};
 ghost use Rattle.dpl_spec_split.specs.Marks.{Marks};
 ghost use Rattle.dpl_cert.specs.declared.cert.Gain.{Gain};
 ghost use Rattle.dpl_cut.specs.Cutting.{IsMarkedSet, cut_view};
-ghost use Rattle.dpl_spec_verdict.specs.Gains.{AreGainsOf};
+ghost use Rattle.dpl_spec_verdict.specs.Gains.{AreGainsOf, AreRootsOf};
 ghost use Rattle.dpl_gains.specs.Tallies.{IsListed};
 
 use crate::held::held_roots;
@@ -64,7 +65,27 @@ fn listed(
     Ok(gains)
 }
 
-/// The gains of the components of a cut layer's pieces that have these letters, by rising least piece: of each component without a piece that has a marked square, and between which and others some zones are.
+/// The gains of the components of a cut layer's pieces that have these letters, by rising least piece, where `roots` has the least piece of each piece's component: of each component without a piece that has a marked square, and between which and others some zones are.
+///
+/// The error: out of memory.
+pub fn gains_by_roots(
+    alloc: Global,
+    pieces: &Pieces,
+    roots: &[Id],
+    letters: &[bool],
+    marked: &Slabs,
+) -> Result<Vec<Gain>, AllocError>
+    requires roots { (spacing : Spacing) × AreRootsOf spacing pieces.now.parts pieces.now.owners roots.now }
+    requires each { length letters.now ≡ length pieces.now.parts }
+    ensures { (spacing : Spacing) → AreRootsOf spacing pieces.now.parts pieces.now.owners roots.now → (features : List (List Rect)) (marks : Option Marks) → IsMarkedSet marked.now marks → IfOk result (λ v. AreGainsOf marks spacing (cut_view features pieces.now) letters.now v.items) }
+{
+    let held = held_roots(alloc, pieces.parts().items(), roots, marked)?;
+    let tallies = tallies_of(alloc, roots, letters, pieces.sides())?;
+    let gains = listed(alloc, roots, &held, &tallies)?;
+    Ok(gains)
+}
+
+/// The same, where the components aren't known yet: all conflicts of the pieces are found for them.
 ///
 /// The error: out of memory.
 pub fn gains_of(
@@ -79,8 +100,5 @@ pub fn gains_of(
     ensures { (features : List (List Rect)) (marks : Option Marks) → IsMarkedSet marked.now marks → IfOk result (λ v. AreGainsOf marks spacing (cut_view features pieces.now) letters.now v.items) }
 {
     let roots = roots_of(alloc, pieces, spacing)?;
-    let held = held_roots(alloc, pieces.parts().items(), &roots, marked)?;
-    let tallies = tallies_of(alloc, &roots, letters, pieces.sides())?;
-    let gains = listed(alloc, &roots, &held, &tallies)?;
-    Ok(gains)
+    gains_by_roots(alloc, pieces, &roots, letters, marked)
 }

@@ -33,8 +33,11 @@ pub(crate) fn held_roots(
     ensures each { IfOk result (λ v. length v.items ≡ length roots.now) }
     ensures held { IfOk result (λ v. (root : ℕ) → (slice_index_or v.items root false ≡ true) ↔ IsHeldBelow parts.now roots.now set.now (length parts.now) root) }
 {
-    let tree = SetTree::of(alloc, set)?;
     let mut held = vec![in alloc; false; roots.len()]?;
+    if set.rects().is_empty() {
+        return Ok(held);
+    }
+    let tree = SetTree::of(alloc, set)?;
     for k in 0..parts.len() {
         if has_some(&parts[k], &tree) {
             held[roots[k] as usize] = true;

@@ -6,4 +6,4 @@ mod held;
 mod roots;
 mod tallies;
 
-pub use crate::gains::gains_of;
+pub use crate::gains::{gains_by_roots, gains_of};

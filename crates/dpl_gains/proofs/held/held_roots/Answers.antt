@@ -1,11 +1,11 @@
-use Rattle.std.proofs.Common.{◌≡◌, [], get_or, ◌∙◌, sym, refl, subst, arith}
+use Rattle.std.proofs.Common.{◌≡◌, [], get_or, length, ◌∙◌, sym, refl, subst, arith}
 use Rattle.std.proofs.lemmas.Bool.{false≢true}
-use Rattle.std.proofs.lemmas.List.{get_or_default}
+use Rattle.std.proofs.lemmas.List.{get_or_default, nil_from_length}
 use Rattle.dpl_spec_split.specs.Squares.{Covers}
 use Rattle.dpl_spec_split.specs.Zones.{part_at}
 use Rattle.dpl_spec_split.specs.Marks.{HasSome}
 use Rattle.dpl_edges.proofs.Fixing.{some-as}
-use Rattle.dpl_gains.proofs.Holding.{held-none, held-pass, held-more}
+use Rattle.dpl_gains.proofs.Holding.{held-empty, held-none, held-pass, held-more}
 use Rattle.dpl_gains.proofs.held.held_roots.Goals.{then-has_some, else-has_some}
 use Rattle.dpl_gains.proofs.held.held_roots.Goals as goal
 
@@ -26,3 +26,9 @@ loop-k-preserved c =
       | else-has_some w ↦ rw w.held-is (held-pass parts roots c.args.set.now k c.loop-k.held.items c.loop-k.invariant
           (λ (p, mine, at). false≢true (w.if-has_some.ensures.1 (p, subst (λ rs. Covers rs p) (sym same) mine, (c.in_ok-tree.ensures p).1 at))))
     ]
+
+pub returns-then-is_empty-clause-held : goal.returns-then-is_empty-clause-held
+returns-then-is_empty-clause-held c =
+    let none : length c.rects.result.now ≡ 0 = (let h = c.if-is_empty.ensures in grind arith) in
+    (held-empty c.args.parts.now c.args.roots.now c.args.set.now _ (length c.args.parts.now) (nil_from_length c.args.set.now (rw c.rects.ensures.value at none))
+    (c.in_ok-held.ensures.items_if_clones_equal (λ y h. h))).each
