@@ -1,7 +1,9 @@
 //! Words and what they ask for.
 
 use dpl_test_sample::words;
-use dpl_words::{CheckOptions, DemoOptions, Request, SplitOptions, WordsFault, read_words};
+use dpl_words::{
+    BatchOptions, CheckOptions, DemoOptions, Request, SplitOptions, WordsFault, read_words,
+};
 use std::alloc::Global;
 use std::test::Fail;
 
@@ -61,7 +63,7 @@ fn asks(alloc: Global, line: &str, want: Option<Values>) -> Result<bool, Fail> {
     match read_words(alloc, &words) {
         Ok(Request::Split(options)) => Ok(want == Some(values_of(&options))),
         Ok(Request::Check(options)) => Ok(want == Some(checked_values_of(&options))),
-        Ok(Request::Demo(_)) => Ok(false),
+        Ok(_) => Ok(false),
         Err(WordsFault::Usage) => Ok(want.is_none()),
         Err(WordsFault::NoMemory) => Err("there is memory".into()),
     }
@@ -314,7 +316,7 @@ fn markers_of(alloc: Global, line: &str) -> Result<Option<[Option<u16>; 2]>, Fai
     match read_words(alloc, &words) {
         Ok(Request::Split(options)) => Ok(Some([options.mark_a, options.mark_b])),
         Ok(Request::Check(options)) => Ok(Some([options.mark_a, options.mark_b])),
-        Ok(Request::Demo(_)) => Err("a demo has no markers".into()),
+        Ok(_) => Err("neither a demo nor a batch has markers".into()),
         Err(WordsFault::Usage) => Ok(None),
         Err(WordsFault::NoMemory) => Err("there is memory".into()),
     }
@@ -364,6 +366,181 @@ fn lines_name_layers_of_markers(rt: HostRuntime) -> Result<(), Fail> {
     ];
     for (line, want) in cases {
         assert!(rt; markers_of(rt.alloc(), line)? == want, "at {line}");
+    }
+    Ok(())
+}
+
+/// Whether a line asks a split for fewer stitches, if it asks for anything.
+fn fewer_of(alloc: Global, line: &str) -> Result<Option<bool>, Fail> {
+    let words = words(alloc, line)?;
+    match read_words(alloc, &words) {
+        Ok(Request::Split(options)) => Ok(Some(options.fewer)),
+        Ok(_) => Err("a split alone may have fewer stitches".into()),
+        Err(WordsFault::Usage) => Ok(None),
+        Err(WordsFault::NoMemory) => Err("there is memory".into()),
+    }
+}
+
+#[test]
+fn lines_ask_for_fewer_stitches(rt: HostRuntime) -> Result<(), Fail> {
+    let cases: [(&str, Option<bool>); 10] = [
+        (
+            "dpl split --layer 1 --rule 30 --overlap 10 i o c",
+            Some(false),
+        ),
+        (
+            "dpl split --layer 1 --rule 30 --overlap 10 --fewer i o c",
+            Some(true),
+        ),
+        // between the names, and before an option
+        (
+            "dpl split i --fewer o c --layer 1 --rule 30 --overlap 10",
+            Some(true),
+        ),
+        // twice, with a value, and half
+        (
+            "dpl split --layer 1 --rule 30 --overlap 10 --fewer --fewer i o c",
+            None,
+        ),
+        (
+            "dpl split --layer 1 --rule 30 --overlap 10 --fewer=true i o c",
+            None,
+        ),
+        (
+            "dpl split --layer 1 --rule 30 --overlap 10 --fewer= i o c",
+            None,
+        ),
+        (
+            "dpl split --layer 1 --rule 30 --overlap 10 --fewer true i o c",
+            None,
+        ),
+        (
+            "dpl split --layer 1 --rule 30 --overlap 10 --few i o c",
+            None,
+        ),
+        (
+            "dpl check --layer 1 --rule 30 --overlap 10 --fewer i o c",
+            None,
+        ),
+        ("dpl demo --seed 1 --rows 2 --fewer", None),
+    ];
+    for (line, want) in cases {
+        assert!(rt; fewer_of(rt.alloc(), line)? == want, "at {line}");
+    }
+    Ok(())
+}
+
+/// The datatype, the rule, the overlap, the corner rule, the layers of both masks, the tile and the workers of `batch`; the name of the top; IN and PREFIX; the layers.
+type BatchWant<'a> = ([u32; 8], Option<&'a str>, [&'a str; 2], &'a [u16]);
+
+const PLAIN_BATCH: [u32; 8] = [0, 30, 10, 30, 101, 102, 4096, 4];
+
+fn is_batch(options: &BatchOptions<'_>, want: &BatchWant<'_>) -> bool {
+    let numbers = [
+        u32::from(options.datatype),
+        options.rule,
+        options.overlap,
+        options.corner,
+        u32::from(options.a),
+        u32::from(options.b),
+        options.tile,
+        options.workers,
+    ];
+    numbers == want.0
+        && options.top == want.1
+        && [options.input, options.prefix] == want.2
+        && options.layers.as_slice() == want.3
+}
+
+/// What the words of a line of `batch` ask for.
+fn batches(alloc: Global, line: &str, want: Option<BatchWant<'_>>) -> Result<bool, Fail> {
+    let words = words(alloc, line)?;
+    match read_words(alloc, &words) {
+        Ok(Request::Batch(options)) => Ok(want.is_some_and(|want| is_batch(&options, &want))),
+        Ok(_) => Ok(false),
+        Err(WordsFault::Usage) => Ok(want.is_none()),
+        Err(WordsFault::NoMemory) => Err("there is memory".into()),
+    }
+}
+
+/// A batch of these layers, with nothing but what it must have.
+fn plain<'a>(layers: &'a [u16]) -> Option<BatchWant<'a>> {
+    Some((PLAIN_BATCH, None, ["i", "p"], layers))
+}
+
+#[test]
+fn batches_name_layers(rt: HostRuntime) -> Result<(), Fail> {
+    let cases: [(&str, Option<BatchWant<'_>>); 25] = [
+        ("dpl batch --rule 30 --overlap 10 i p 1", plain(&[1])),
+        ("dpl batch --rule 30 --overlap 10 i p 2 1", plain(&[2, 1])),
+        // options between and behind the layers
+        (
+            "dpl batch i p 1 --rule 30 2 --overlap=10 3",
+            plain(&[1, 2, 3]),
+        ),
+        ("dpl batch i p 1 2 --rule 30 --overlap 10", plain(&[1, 2])),
+        (
+            "dpl batch --rule 4 --overlap 5 --corner 3 --datatype 6 --top T --a 7 --b 8 --tile 9 --workers 10 i p 0 65535",
+            Some((
+                [6, 4, 5, 3, 7, 8, 9, 10],
+                Some("T"),
+                ["i", "p"],
+                &[0, 65535],
+            )),
+        ),
+        ("dpl batch --rule 30 --overlap 10 i p +01", plain(&[1])),
+        (
+            "dpl batch --rule 30 --overlap 10 i p -- 1 2",
+            plain(&[1, 2]),
+        ),
+        // no layer, or one that is none
+        ("dpl batch --rule 30 --overlap 10 i p", None),
+        ("dpl batch --rule 30 --overlap 10 i", None),
+        ("dpl batch --rule 30 --overlap 10 i p 65536", None),
+        ("dpl batch --rule 30 --overlap 10 i p 1 x", None),
+        ("dpl batch --rule 30 --overlap 10 i p 1 -0", None),
+        // a layer given twice, by its number
+        ("dpl batch --rule 30 --overlap 10 i p 1 1", None),
+        ("dpl batch --rule 30 --overlap 10 i p 1 2 01", None),
+        // layers of the masks that are equal, and a corner rule above the rule
+        ("dpl batch --rule 30 --overlap 10 --a 5 --b 5 i p 1", None),
+        ("dpl batch --rule 30 --overlap 10 --corner 31 i p 1", None),
+        // IN that is written
+        ("dpl batch --rule 30 --overlap 10 p.1.gds p 1", None),
+        ("dpl batch --rule 30 --overlap 10 p.2.cert p 1 2", None),
+        (
+            "dpl batch --rule 30 --overlap 10 p.2.gds p 1",
+            Some((PLAIN_BATCH, None, ["p.2.gds", "p"], &[1])),
+        ),
+        (
+            "dpl batch --rule 30 --overlap 10 p.01.gds p 1",
+            Some((PLAIN_BATCH, None, ["p.01.gds", "p"], &[1])),
+        ),
+        ("dpl batch --rule 30 --overlap 10 .1.gds  1", None),
+        // options that it doesn't have
+        ("dpl batch --rule 30 --overlap 10 --layer 1 i p 1", None),
+        ("dpl batch --rule 30 --overlap 10 --mark-a 7 i p 1", None),
+        ("dpl batch --rule 30 --overlap 10 --seed 7 i p 1", None),
+        ("dpl batch --rule 30 --overlap 10 --fewer i p 1", None),
+    ];
+    for (line, want) in cases {
+        assert!(rt; batches(rt.alloc(), line, want)?, "at {line}");
+    }
+    Ok(())
+}
+
+#[test]
+fn batches_have_at_most_64_layers(rt: HostRuntime) -> Result<(), Fail> {
+    let alloc = rt.alloc();
+    for count in [64, 65] {
+        let mut line = String::from_str(alloc, "dpl batch --rule 30 --overlap 10 i p")?;
+        for layer in 0..count {
+            let word = format!(in alloc; " {layer}")?;
+            line.push_str(word.as_str())?;
+        }
+        let words = words(alloc, line.as_str())?;
+        let is_taken = matches!(read_words(alloc, &words), Ok(Request::Batch(_)));
+        assert_eq!(rt; is_taken, count == 64);
     }
     Ok(())
 }

@@ -1,16 +1,17 @@
 -- A typed getter of `clap` reads the number that the text writes.
-use Rattle.std.proofs.Common.{◌≡◌, ◌∙◌, ◌∷◌, [], ℕ, Bool, List, true, false, refl, sym, ap, unwrap_or, Some, None, Option, ◌<◌, ◌^◌, ◌&&◌, nat_lt, is_some}
-use Rattle.std.specs.Prelude.{Ok, Err, Result, IsSome}
+use Rattle.std.proofs.Common.{◌≡◌, ◌∙◌, ◌∷◌, [], ℕ, Bool, List, true, false, inl, inr, refl, sym, ap, unwrap_or, Some, None, Option, ◌<◌, ◌^◌, ◌&&◌, nat_lt, is_some}
+use Rattle.std.specs.Prelude.{Ok, Err, Result, IsSome, codes}
 use Rattle.std.proofs.lemmas.Bool.{ltb-true, lt-ltb}
 use Rattle.std.specs.List.{list_all}
 use Rattle.std.specs.Char.{digit_value}
 use Rattle.std.specs.Str.Parse.{AllDigits, ExplainsUnsignedError, HasUnsignedDigitsIfOk, IsNumeral, ParsesUnsigned, digits_value, without_leading_plus}
 use Rattle.clap.specs.ValueTests.{is_numeral}
 use Rattle.clap.specs.Matches.{ReadsOne, one_text}
-use Rattle.clap.specs.Walk.{Text, rows_of}
+use Rattle.clap.specs.Walk.{Text, one_of, rows_of}
 use Rattle.clap.specs.declared.parser.matches.Found.{Found}
 use Rattle.clap.proofs.WalkLemmas.{both, one_text-rows}
-use Rattle.dpl_words.specs.Meaning.{number_at, number_below}
+use Rattle.dpl_words.specs.Meaning.{flag_in, number_at, number_below, says_given}
+use Rattle.dpl_words.specs.Ranges.{IsFlagText}
 
 digits_from : (ds : List ℕ) → list_all (λ d. nat_lt (digit_value d) 10) ds ≡ true → AllDigits 10 ds
 digits_from [] e = tt
@@ -35,7 +36,8 @@ below_from k text e =
 pub below_back : (k : ℕ) (text : Text) → IsNumeral 10 (without_leading_plus text) × (digits_value 10 (without_leading_plus text) < 2 ^ k) → is_below k text ≡ true
 below_back k text h = rw (lt-ltb _ _ h.0.0, digits_back _ h.0.1, lt-ltb _ _ h.1) refl
 
-reads : {E : Type 0} (k : ℕ) (G : List ℕ → Result ℕ E → Type 0) (t : Text) (r : Option ℕ)
+-- a typed getter reads the number of a text
+pub reads : {E : Type 0} (k : ℕ) (G : List ℕ → Result ℕ E → Type 0) (t : Text) (r : Option ℕ)
     → ((x : Result ℕ E) → G t x → ParsesUnsigned k 10 t x) → ReadsOne G t r → r ≡ number_below k t
 reads k G t (Some v) only h =
     let p = only (Ok v) h in
@@ -47,6 +49,12 @@ reads {E} k G t None only h =
     go : (b : Bool) → is_below k t ≡ b → (IsNumeral 10 (without_leading_plus t) × (digits_value 10 (without_leading_plus t) < 2 ^ k) → ⊥) → None ≡ number_below k t
     go true e p = absurd (p (below_from k t e))
     go false e p = rw e refl
+
+given : says_given (Some (codes "true")) ≡ true
+given = refl
+
+left_out : says_given (Some (codes "false")) ≡ false
+left_out = refl
 
 -- what `get_one` reads of an id
 pub got : {E : Type 0} (k : ℕ) (G : List ℕ → Result ℕ E → Type 0) (f : Found) (id : Text) (r : Option ℕ) → ((t : Text) (x : Result ℕ E) → G t x → ParsesUnsigned k 10 t x)
@@ -63,6 +71,20 @@ pub unsigned_got : (k : ℕ) (f : Found) (id : Text) (r : Option ℕ) → (one_t
     → ReadsOne (λ bs x. ParsesUnsigned k 10 bs x × ExplainsUnsignedError 10 bs x × HasUnsignedDigitsIfOk bs x) t r)
     → r ≡ number_at k id (rows_of f)
 unsigned_got k f id r none value = got k (λ bs x. ParsesUnsigned k 10 bs x × ExplainsUnsignedError 10 bs x × HasUnsignedDigitsIfOk bs x) f id r (λ t x g. g.0) none value
+
+-- what `get_flag` reads of an id
+pub flag_got : (f : Found) (id : Text) (r : Bool) → IsFlagText (one_of id (rows_of f)) → (one_text f id ≡ Some (codes "true") → r ≡ true)
+    → (one_text f id ≡ Some (codes "false") → r ≡ false) → r ≡ flag_in id (rows_of f)
+flag_got f id r there on off = go (one_of id (rows_of f)) refl there
+  where
+    go : (o : Option Text) → one_of id (rows_of f) ≡ o → IsFlagText o → r ≡ flag_in id (rows_of f)
+    go None e there = absurd there
+    go (Some t) e (inl is) =
+        let here : one_of id (rows_of f) ≡ Some (codes "true") = e ∙ ap (λ (x : Text). Some x) is in
+        on (one_text-rows f id ∙ here) ∙ sym (ap says_given here ∙ given)
+    go (Some t) e (inr is) =
+        let here : one_of id (rows_of f) ≡ Some (codes "false") = e ∙ ap (λ (x : Text). Some x) is in
+        off (one_text-rows f id ∙ here) ∙ sym (ap says_given here ∙ left_out)
 
 -- a number that is there is read
 pub is_there : (r o : Option ℕ) → r ≡ o → is_some o ≡ true → IsSome r

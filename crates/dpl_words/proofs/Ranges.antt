@@ -1,25 +1,29 @@
 -- The words that `clap` takes give each value of their subcommand, in its range.
 use Rattle.std.proofs.Common.{◌≡◌, ◌≤◌, ◌⊎◌, Bool, ◌&&◌, not, cond, true, false, true≢false, List, [], ◌∷◌, Option, Some, None, option_map, nat_lt}
 use Rattle.std.proofs.Common.{is_some, refl, sym, subst, inl, inr, arith, ℕ}
-use Rattle.std.specs.Prelude.{find, slice_get, unwrap_or, IfSome}
+use Rattle.std.specs.Prelude.{find, slice_get, unwrap_or, IfSome, map, length, codes, All}
+use Rattle.std.proofs.lemmas.List.Elements.{All-cons, All-head, All-nil, All-tail}
 use Rattle.std.specs.List.{list_any}
 use Rattle.clap.specs.Kinds.{check_kinds}
 use Rattle.clap.specs.Takes.{is_given}
 use Rattle.dpl_words.proofs.Rows.{HasDefault}
 use Rattle.std.specs.Option.{option_map_or}
-use Rattle.clap.specs.Walk.{Row, Rule, Text, answers_to, nothing_held, one_of, rows_after, walk, walk_from, action_of, takes_values}
+use Rattle.clap.specs.Walk.{Row, Rule, Text, answers_to, nothing_held, one_of, rows_after, walk, walk_from, action_of}
 use Rattle.clap.specs.Simple.{Shape, argument_words, built, entered, label_of, names_of, new_rule, rows_at, subcommand_of}
 use Rattle.clap.specs.Facts.{unwrap_or_range}
-use Rattle.clap.specs.declared.builder.action.ArgAction.TheVariants.{Set}
+use Rattle.clap.specs.declared.builder.action.ArgAction.TheVariants.{Set, Append, SetTrue}
 use Rattle.clap.specs.Faults.{check_fault, entered_fault, fault_of, level_fault, walk_fault}
 use Rattle.clap.proofs.OnLiterals.{clap_on_literals}
 use Rattle.dpl_words.specs.Definition.{dpl_app, split_shape}
-use Rattle.dpl_words.specs.Ranges.{AreInRange, AreInRangeForCheck, AreInRangeForDemo, AreThere, AreThereForCheck, AreThereForDemo, HasItsValues, IsFrom, IsFromIfGiven}
-use Rattle.dpl_words.specs.Meaning.{check_values, demo_values, is_taken, split_values}
+use Rattle.dpl_words.specs.Ranges.{AreFrom, AreInRange, AreInRangeForBatch, AreInRangeForCheck, AreInRangeForDemo}
+use Rattle.dpl_words.specs.Ranges.{AreThere, AreThereForBatch, AreThereForCheck, AreThereForDemo, HasItsValues, IsFrom, IsFromIfGiven}
+use Rattle.clap.proofs.WalkLemmas.{both}
+use Rattle.dpl_words.specs.Meaning.{BatchValues, batch_values, check_values, is_batch_apart, demo_values, is_taken, number_below, split_values}
 use Rattle.std.proofs.lemmas.Bool.{ltb-false}
 use Rattle.clap.proofs.SimpleLemmas.{is_nil}
-use Rattle.dpl_words.proofs.Level.{IsPlainLevel, IsRead, default_read, each_row, given_read, number_read, required_read, row_read, text_read, word_read}
-use Rattle.dpl_words.proofs.Walking.{IsIn, TakesOne, none_of}
+use Rattle.dpl_words.proofs.Level.{AreRead, IsPlainLevel, IsRead, default_read, each_row, flag_read, given_read}
+use Rattle.dpl_words.proofs.Level.{number_read, numbers_read, required_read, required_reads, row_read, text_read, word_read}
+use Rattle.dpl_words.proofs.Walking.{IsIn, LeavesOne, none_of}
 
 -- the level of the subcommand at this place, as it is built
 abbrev level_at : ℕ → Shape
@@ -34,26 +38,36 @@ check_level = level_at 1
 abbrev demo_level : Shape
 demo_level = level_at 2
 
+abbrev batch_level : Shape
+batch_level = level_at 3
+
 -- the argument at this place
 abbrev at : Shape → ℕ → Rule
 at level i = unwrap_or (slice_get level.rules i) (new_rule [])
 
--- each argument of the level takes one value
+-- a use of each argument of the level leaves one value
 abbrev Each : List Rule → Type 0
 Each [] = Unit {0}
-Each (a ∷ rest) = TakesOne a × Each rest
+Each (a ∷ rest) = LeavesOne a × Each rest
 
-of_each : (xs : List Rule) → Each xs → (a : Rule) → IsIn a xs → TakesOne a
+of_each : (xs : List Rule) → Each xs → (a : Rule) → IsIn a xs → LeavesOne a
 of_each [] each a of = absurd of
-of_each (x ∷ xs) each a (inl is) = subst TakesOne (sym is) each.0
+of_each (x ∷ xs) each a (inl is) = subst LeavesOne (sym is) each.0
 of_each (x ∷ xs) each a (inr of) = of_each xs each.1 a of
 
-one : (a : Rule) → action_of a ≡ Set → takes_values a ≡ true → (unwrap_or_range a.range).start_inclusive ≡ 1 → TakesOne a
-one a x y z = record { action = x; takes = y; least = z }
+one : (a : Rule) → action_of a ≡ Set → (unwrap_or_range a.range).start_inclusive ≡ 1 → LeavesOne a
+one a x y = inl (record { action = inl x; least = y })
+
+-- and so does each use of one that may be repeated
+again : (a : Rule) → action_of a ≡ Append → (unwrap_or_range a.range).start_inclusive ≡ 1 → LeavesOne a
+again a x y = inl (record { action = inr x; least = y })
+
+flag : (a : Rule) → action_of a ≡ SetTrue → a.missing ≡ codes "true" ∷ [] → LeavesOne a
+flag a x y = inr (record { action = x; missing = y })
 
 each_split : Each split_level.rules
 unfolding clap_on_literals
-each_split = (one _ refl refl refl, (one _ refl refl refl, (one _ refl refl refl, (one _ refl refl refl, (one _ refl refl refl, (one _ refl refl refl, (one _ refl refl refl, (one _ refl refl refl, (one _ refl refl refl, (one _ refl refl refl, (one _ refl refl refl, (one _ refl refl refl, (one _ refl refl refl, (one _ refl refl refl, (one _ refl refl refl, tt)))))))))))))))
+each_split = (one _ refl refl, (one _ refl refl, (one _ refl refl, (one _ refl refl, (one _ refl refl, (one _ refl refl, (one _ refl refl, (one _ refl refl, (one _ refl refl, (one _ refl refl, (one _ refl refl, (one _ refl refl, (flag _ refl refl, (one _ refl refl, (one _ refl refl, (one _ refl refl, tt))))))))))))))))
 
 plain_split : IsPlainLevel split_level
 unfolding clap_on_literals
@@ -61,7 +75,7 @@ plain_split = record { single = of_each split_level.rules each_split; no_short =
 
 each_check : Each check_level.rules
 unfolding clap_on_literals
-each_check = (one _ refl refl refl, (one _ refl refl refl, (one _ refl refl refl, (one _ refl refl refl, (one _ refl refl refl, (one _ refl refl refl, (one _ refl refl refl, (one _ refl refl refl, (one _ refl refl refl, (one _ refl refl refl, (one _ refl refl refl, (one _ refl refl refl, (one _ refl refl refl, tt)))))))))))))
+each_check = (one _ refl refl, (one _ refl refl, (one _ refl refl, (one _ refl refl, (one _ refl refl, (one _ refl refl, (one _ refl refl, (one _ refl refl, (one _ refl refl, (one _ refl refl, (one _ refl refl, (one _ refl refl, (one _ refl refl, tt)))))))))))))
 
 plain_check : IsPlainLevel check_level
 unfolding clap_on_literals
@@ -69,11 +83,19 @@ plain_check = record { single = of_each check_level.rules each_check; no_short =
 
 each_demo : Each demo_level.rules
 unfolding clap_on_literals
-each_demo = (one _ refl refl refl, (one _ refl refl refl, (one _ refl refl refl, (one _ refl refl refl, tt))))
+each_demo = (one _ refl refl, (one _ refl refl, (one _ refl refl, (one _ refl refl, tt))))
 
 plain_demo : IsPlainLevel demo_level
 unfolding clap_on_literals
 plain_demo = record { single = of_each demo_level.rules each_demo; no_short = λ x. refl; apart = refl }
+
+each_batch : Each batch_level.rules
+unfolding clap_on_literals
+each_batch = (one _ refl refl, (one _ refl refl, (one _ refl refl, (one _ refl refl, (one _ refl refl, (one _ refl refl, (one _ refl refl, (one _ refl refl, (one _ refl refl, (one _ refl refl, (one _ refl refl, (again _ refl refl, tt))))))))))))
+
+plain_batch : IsPlainLevel batch_level
+unfolding clap_on_literals
+plain_batch = record { single = of_each batch_level.rules each_batch; no_short = λ x. refl; apart = refl }
 
 -- what is read of the arguments of `split` gives each value
 split_there : (rows : List Row) → ((a : Rule) → IsIn a split_level.rules → a.required ≡ true → IsRead a rows)
@@ -92,9 +114,10 @@ split_there rows wanted given left_out = record {
   mark_b = given_read 16 0 65535 (at split_level 9) rows (omega arith) refl (left_out (at split_level 9) (inr (inr (inr (inr (inr (inr (inr (inr (inr (inl refl)))))))))));
   tile = number_read 32 1 1073741824 (at split_level 10) rows (omega arith) refl (given (at split_level 10) (inr (inr (inr (inr (inr (inr (inr (inr (inr (inr (inl refl))))))))))) (_, _, refl));
   workers = number_read 32 1 64 (at split_level 11) rows (omega arith) refl (given (at split_level 11) (inr (inr (inr (inr (inr (inr (inr (inr (inr (inr (inr (inl refl)))))))))))) (_, _, refl));
-  input = text_read (at split_level 12) rows (wanted (at split_level 12) (inr (inr (inr (inr (inr (inr (inr (inr (inr (inr (inr (inr (inl refl))))))))))))) refl);
-  output = text_read (at split_level 13) rows (wanted (at split_level 13) (inr (inr (inr (inr (inr (inr (inr (inr (inr (inr (inr (inr (inr (inl refl)))))))))))))) refl);
-  certificate = text_read (at split_level 14) rows (wanted (at split_level 14) (inr (inr (inr (inr (inr (inr (inr (inr (inr (inr (inr (inr (inr (inr (inl refl))))))))))))))) refl);
+  fewer = flag_read (at split_level 12) rows refl (given (at split_level 12) (inr (inr (inr (inr (inr (inr (inr (inr (inr (inr (inr (inr (inl refl))))))))))))) (_, _, refl));
+  input = text_read (at split_level 13) rows (wanted (at split_level 13) (inr (inr (inr (inr (inr (inr (inr (inr (inr (inr (inr (inr (inr (inl refl)))))))))))))) refl);
+  output = text_read (at split_level 14) rows (wanted (at split_level 14) (inr (inr (inr (inr (inr (inr (inr (inr (inr (inr (inr (inr (inr (inr (inl refl))))))))))))))) refl);
+  certificate = text_read (at split_level 15) rows (wanted (at split_level 15) (inr (inr (inr (inr (inr (inr (inr (inr (inr (inr (inr (inr (inr (inr (inr (inl refl)))))))))))))))) refl);
 }
 
 -- what is read of the arguments of `check` gives each value
@@ -126,6 +149,26 @@ demo_there rows wanted given = record {
   rows = number_read 32 1 1000000 (at demo_level 1) rows (omega arith) refl (wanted (at demo_level 1) (inr (inl refl)) refl);
   tile = number_read 32 1 1073741824 (at demo_level 2) rows (omega arith) refl (given (at demo_level 2) (inr (inr (inl refl))) (_, _, refl));
   workers = number_read 32 1 64 (at demo_level 3) rows (omega arith) refl (given (at demo_level 3) (inr (inr (inr (inl refl)))) (_, _, refl));
+}
+
+-- what is read of the arguments of `batch` gives each value
+batch_there : (rows : List Row) → ((a : Rule) → IsIn a batch_level.rules → a.required ≡ true → IsRead a rows)
+    → ((a : Rule) → IsIn a batch_level.rules → HasDefault a → IsRead a rows)
+    → ((a : Rule) → IsIn a batch_level.rules → (one_of a.id rows ≡ None) ⊎ IsRead a rows)
+    → ((a : Rule) → IsIn a batch_level.rules → a.required ≡ true → AreRead a rows) → AreThereForBatch rows
+unfolding clap_on_literals
+batch_there rows wanted given left_out each = record {
+  rule = number_read 32 1 1000000 (at batch_level 0) rows (omega arith) refl (wanted (at batch_level 0) (inl refl) refl);
+  overlap = number_read 32 1 1000000 (at batch_level 1) rows (omega arith) refl (wanted (at batch_level 1) (inr (inl refl)) refl);
+  corner = given_read 32 1 1000000 (at batch_level 2) rows (omega arith) refl (left_out (at batch_level 2) (inr (inr (inl refl))));
+  datatype = number_read 16 0 65535 (at batch_level 3) rows (omega arith) refl (given (at batch_level 3) (inr (inr (inr (inl refl)))) (_, _, refl));
+  a = number_read 16 0 65535 (at batch_level 5) rows (omega arith) refl (given (at batch_level 5) (inr (inr (inr (inr (inr (inl refl)))))) (_, _, refl));
+  b = number_read 16 0 65535 (at batch_level 6) rows (omega arith) refl (given (at batch_level 6) (inr (inr (inr (inr (inr (inr (inl refl))))))) (_, _, refl));
+  tile = number_read 32 1 1073741824 (at batch_level 7) rows (omega arith) refl (given (at batch_level 7) (inr (inr (inr (inr (inr (inr (inr (inl refl)))))))) (_, _, refl));
+  workers = number_read 32 1 64 (at batch_level 8) rows (omega arith) refl (given (at batch_level 8) (inr (inr (inr (inr (inr (inr (inr (inr (inl refl))))))))) (_, _, refl));
+  input = text_read (at batch_level 9) rows (wanted (at batch_level 9) (inr (inr (inr (inr (inr (inr (inr (inr (inr (inl refl)))))))))) refl);
+  prefix = text_read (at batch_level 10) rows (wanted (at batch_level 10) (inr (inr (inr (inr (inr (inr (inr (inr (inr (inr (inl refl))))))))))) refl);
+  layers = numbers_read 16 0 65535 (at batch_level 11) rows (omega arith) refl (each (at batch_level 11) (inr (inr (inr (inr (inr (inr (inr (inr (inr (inr (inr (inl refl)))))))))))) refl);
 }
 
 split_given : (rows : List Row) → check_fault split_level rows false ≡ [] → list_any (λ a. a.required && not (is_given a.id rows)) split_level.rules ≡ false
@@ -175,20 +218,41 @@ demo_level_there words e =
     (λ a of wanted. required_read demo_level plain_demo a of wanted (rows_after demo_level.rules [] words) (demo_given (rows_after demo_level.rules [] words) parts.1) parts.0)
     (λ a of d. default_read demo_level plain_demo a of d words parts.0)
 
+batch_given : (rows : List Row) → check_fault batch_level rows false ≡ [] → list_any (λ a. a.required && not (is_given a.id rows)) batch_level.rules ≡ false
+unfolding clap_on_literals
+batch_given rows e = go (list_any (λ a. a.required && not (is_given a.id rows)) batch_level.rules) e
+  where
+    go : (b : Bool) → check_kinds false false b ≡ [] → b ≡ false
+    go false e = refl
+    go true e = absurd (cc)
+
+batch_level_there : (words : List Text) → level_fault batch_level [] nothing_held words false [] ≡ [] → AreThereForBatch (rows_after batch_level.rules [] words)
+batch_level_there words e =
+    let parts = each_row batch_level plain_batch words false e in
+    batch_there (rows_after batch_level.rules [] words)
+    (λ a of wanted. required_read batch_level plain_batch a of wanted (rows_after batch_level.rules [] words) (batch_given (rows_after batch_level.rules [] words) parts.1) parts.0)
+    (λ a of d. default_read batch_level plain_batch a of d words parts.0)
+    (λ a of. row_read batch_level plain_batch a of (rows_after batch_level.rules [] words) parts.0)
+    (λ a of wanted. required_reads batch_level plain_batch a of wanted (rows_after batch_level.rules [] words) (batch_given (rows_after batch_level.rules [] words) parts.1) parts.0)
+
 -- a subcommand's entries have what its name says
 split_has : (rows : List Row) → AreThere rows → HasItsValues (split_level.name, rows)
 unfolding clap_on_literals
-split_has rows h = record { split = λ e. h; check = λ e. absurd (true≢false (sym e)); demo = λ e. absurd (true≢false (sym e)) }
+split_has rows h = record { split = λ e. h; check = λ e. absurd (true≢false (sym e)); demo = λ e. absurd (true≢false (sym e)); batch = λ e. absurd (true≢false (sym e)) }
 
 check_has : (rows : List Row) → AreThereForCheck rows → HasItsValues (check_level.name, rows)
 unfolding clap_on_literals
-check_has rows h = record { split = λ e. absurd (true≢false (sym e)); check = λ e. h; demo = λ e. absurd (true≢false (sym e)) }
+check_has rows h = record { split = λ e. absurd (true≢false (sym e)); check = λ e. h; demo = λ e. absurd (true≢false (sym e)); batch = λ e. absurd (true≢false (sym e)) }
 
 demo_has : (rows : List Row) → AreThereForDemo rows → HasItsValues (demo_level.name, rows)
 unfolding clap_on_literals
-demo_has rows h = record { split = λ e. absurd (true≢false (sym e)); check = λ e. absurd (true≢false (sym e)); demo = λ e. h }
+demo_has rows h = record { split = λ e. absurd (true≢false (sym e)); check = λ e. absurd (true≢false (sym e)); demo = λ e. h; batch = λ e. absurd (true≢false (sym e)) }
 
-subs : (built dpl_app).subs ≡ split_level ∷ check_level ∷ demo_level ∷ []
+batch_has : (rows : List Row) → AreThereForBatch rows → HasItsValues (batch_level.name, rows)
+unfolding clap_on_literals
+batch_has rows h = record { split = λ e. absurd (true≢false (sym e)); check = λ e. absurd (true≢false (sym e)); demo = λ e. absurd (true≢false (sym e)); batch = λ e. h }
+
+subs : (built dpl_app).subs ≡ split_level ∷ check_level ∷ demo_level ∷ batch_level ∷ []
 unfolding clap_on_literals
 subs = refl
 
@@ -197,15 +261,16 @@ entered_there None e = tt
 entered_there (Some p) e =
     let mine = subst (λ xs. option_map_or (λ s. level_fault s [] nothing_held p.1 false []) (find (λ s. answers_to p.0 (label_of s)) xs) [] ≡ []) subs e in
     subst (λ xs. IfSome (option_map (λ s. rows_at s p.1) (find (λ s. answers_to p.0 (label_of s)) xs)) HasItsValues) (sym subs)
-    (go (answers_to p.0 (label_of split_level)) (answers_to p.0 (label_of check_level)) (answers_to p.0 (label_of demo_level)) mine)
+    (go (answers_to p.0 (label_of split_level)) (answers_to p.0 (label_of check_level)) (answers_to p.0 (label_of demo_level)) (answers_to p.0 (label_of batch_level)) mine)
   where
-    go : (x y z : Bool) → option_map_or (λ s. level_fault s [] nothing_held p.1 false [])
-        (cond x (Some split_level) (cond y (Some check_level) (cond z (Some demo_level) None))) [] ≡ []
-        → IfSome (option_map (λ s. rows_at s p.1) (cond x (Some split_level) (cond y (Some check_level) (cond z (Some demo_level) None)))) HasItsValues
-    go true y z e = split_has (rows_after split_level.rules [] p.1) (split_level_there p.1 e)
-    go false true z e = check_has (rows_after check_level.rules [] p.1) (check_level_there p.1 e)
-    go false false true e = demo_has (rows_after demo_level.rules [] p.1) (demo_level_there p.1 e)
-    go false false false e = tt
+    go : (x y z w : Bool) → option_map_or (λ s. level_fault s [] nothing_held p.1 false [])
+        (cond x (Some split_level) (cond y (Some check_level) (cond z (Some demo_level) (cond w (Some batch_level) None)))) [] ≡ []
+        → IfSome (option_map (λ s. rows_at s p.1) (cond x (Some split_level) (cond y (Some check_level) (cond z (Some demo_level) (cond w (Some batch_level) None))))) HasItsValues
+    go true y z w e = split_has (rows_after split_level.rules [] p.1) (split_level_there p.1 e)
+    go false true z w e = check_has (rows_after check_level.rules [] p.1) (check_level_there p.1 e)
+    go false false true w e = demo_has (rows_after demo_level.rules [] p.1) (demo_level_there p.1 e)
+    go false false false true e = batch_has (rows_after batch_level.rules [] p.1) (batch_level_there p.1 e)
+    go false false false false e = tt
 
 -- the subcommand that was met has its values, where `clap` takes the words
 pub taken_there : (words : List Text) → is_taken words ≡ true → IfSome (subcommand_of dpl_app words) HasItsValues
@@ -266,6 +331,40 @@ demo_in_range entries h = record {
   rows = from_range _ _ _ h.rows;
   tile = from_range _ _ _ h.tile;
   workers = from_range _ _ _ h.workers;
+}
+
+-- there are numbers where an argument has them, and each is in its range
+some_numbers : (o : Option (List Text)) → AreFrom 16 0 65535 o → 1 ≤ length (map (λ t. unwrap_or (number_below 16 t) 0) (unwrap_or o []))
+some_numbers None h = absurd h
+some_numbers (Some []) h = h.0
+some_numbers (Some (t ∷ ts)) h = omega arith
+
+small_numbers : (o : Option (List Text)) → AreFrom 16 0 65535 o → All (λ n. n ≤ 65535) (map (λ t. unwrap_or (number_below 16 t) 0) (unwrap_or o []))
+small_numbers None h = absurd h
+small_numbers (Some ts) h = go ts h.1
+  where
+    go : (ts : List Text) → All (λ t. IsFrom 0 65535 (number_below 16 t)) ts → All (λ n. n ≤ 65535) (map (λ t. unwrap_or (number_below 16 t) 0) ts)
+    go [] h = All-nil (λ (n : ℕ). n ≤ 65535)
+    go (t ∷ ts) h = All-cons (λ (n : ℕ). n ≤ 65535) _ _ (from_range _ _ _ (All-head (λ (t : Text). IsFrom 0 65535 (number_below 16 t)) t ts h)).1
+        (go ts (All-tail (λ (t : Text). IsFrom 0 65535 (number_below 16 t)) t ts h))
+
+-- a batch that is apart has at most 64 layers
+pub few_layers : (v : BatchValues) → is_batch_apart v ≡ true → length v.layers ≤ 64
+few_layers v apart = not_above 64 (length v.layers) (both _ _ (both _ _ apart).1).0
+
+pub batch_in_range : (rows : List Row) → AreThereForBatch rows → (batch_values rows).corner ≤ (batch_values rows).rule → length (batch_values rows).layers ≤ 64
+    → AreInRangeForBatch (batch_values rows)
+batch_in_range rows h below few = record {
+  datatype = (from_range _ _ _ h.datatype).1;
+  rule = from_range _ _ _ h.rule;
+  overlap = from_range _ _ _ h.overlap;
+  corner = (least_corner _ _ _ _ h.corner h.rule, below);
+  a = (from_range _ _ _ h.a).1;
+  b = (from_range _ _ _ h.b).1;
+  tile = from_range _ _ _ h.tile;
+  workers = from_range _ _ _ h.workers;
+  layers = (some_numbers _ h.layers, few);
+  numbers = small_numbers _ h.layers;
 }
 
 pub some_from : (low high : ℕ) (o : Option ℕ) → IsFrom low high o → is_some o ≡ true

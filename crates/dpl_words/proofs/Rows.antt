@@ -12,7 +12,7 @@ use Rattle.clap.specs.declared.builder.value_parser.Reading.{Reading}
 use Rattle.clap.specs.declared.parser.matches.ValueSource.{ValueSource}
 use Rattle.clap.proofs.WalkLemmas.{both}
 use Rattle.clap.proofs.SimpleLemmas.{is_false}
-use Rattle.dpl_words.proofs.Walking.{EachRow, HasFirst, IsIn}
+use Rattle.dpl_words.proofs.Walking.{EachRow, HasEach, IsIn}
 
 -- ---- rows that stay
 
@@ -92,17 +92,17 @@ required_given (x ∷ xs) rows a none of wanted = go (λ e more. required_given 
 
 -- ---- the row of an id
 
--- the row of this id, with a first value of which P holds
+-- the row of this id, with values, of each of which P holds
 abbrev pub HasRowWith : (Text → Reading → Text → Type 0) → Text → List Row → Type 0
-HasRowWith P id rows = (r : Row) × (find (λ r. bytes_eq r.id id) rows ≡ Some r) × HasFirst (P id r.reading) r.values
+HasRowWith P id rows = (r : Row) × (find (λ r. bytes_eq r.id id) rows ≡ Some r) × HasEach (P id r.reading) r.values
 
 pub row_with : (P : Text → Reading → Text → Type 0) (id : Text) (rows : List Row) → has_row id rows ≡ true → EachRow P rows → HasRowWith P id rows
 row_with P id [] has each = absurd (true≢false (sym has))
 row_with P id (r ∷ rs) has each = go (λ h. row_with P id rs h each.1) (bytes_eq r.id id) refl has
   where
     go : (has_row id rs ≡ true → HasRowWith P id rs) → (b : Bool) → bytes_eq r.id id ≡ b → (b || has_row id rs) ≡ true
-        → (x : Row) × (cond b (Some r) (find (λ r. bytes_eq r.id id) rs) ≡ Some x) × HasFirst (P id x.reading) x.values
-    go rest true is h = (r, refl, subst (λ (t : Text). HasFirst (P t r.reading) r.values) ((bytes_eq-Decides r.id id).0 is) each.0)
+        → (x : Row) × (cond b (Some r) (find (λ r. bytes_eq r.id id) rs) ≡ Some x) × HasEach (P id x.reading) x.values
+    go rest true is h = (r, refl, subst (λ (t : Text). HasEach (P t r.reading) r.values) ((bytes_eq-Decides r.id id).0 is) each.0)
     go rest false is h = rest h
 
 -- without a row there is none to be found

@@ -1,9 +1,10 @@
 -- What `clap` has seen of each value that a walk over words keeps, for a command whose arguments take one value each and have no short names.
-use Rattle.std.proofs.Common.{◌≡◌, ◌∙◌, ◌⊎◌, ◌&&◌, ◌||◌, ℕ, zero, suc, Bool, cond, true, false, true≢false, List, [], ◌∷◌, ◌++◌, Option}
+use Rattle.std.proofs.Common.{◌≡◌, ◌∙◌, ◌⊎◌, ◌&&◌, ◌||◌, ℕ, zero, suc, Bool, cond, true, false, List, [], ◌∷◌, ◌++◌, Option}
 use Rattle.std.proofs.Common.{Some, None, refl, sym, ap, subst, inl, inr, arith, length, drop, is_some, ne_eqb}
-use Rattle.std.specs.Prelude.{encode_utf8, find, fold, slice_get}
+use Rattle.std.specs.Prelude.{codes, encode_utf8, find, fold, slice_get}
 use Rattle.std.specs.Option.{option_map_or}
 use Rattle.std.specs.Str.{bytes_eq, chars}
+use Rattle.std.proofs.lemmas.Slice.Eq.{bytes_eq-Decides}
 use Rattle.clap.specs.Lexer.{long_of, short_of}
 use Rattle.clap.specs.Facts.{parser_of_value, unwrap_or_range}
 use Rattle.clap.specs.Kinds.{Kinds, or_else, range_kinds, request_kinds, value_kinds}
@@ -17,12 +18,15 @@ use Rattle.clap.specs.Walk.{waits, walked, walked_from, with_default, with_value
 use Rattle.clap.specs.Walk.{next, subcommand, trailing, value}
 use Rattle.clap.specs.Simple.{Shape}
 use Rattle.clap.specs.Faults.{action_fault, default_fault, defaults_fault, flag_word_fault, long_fault, option_fault, other_fault}
-use Rattle.clap.specs.Faults.{positional_fault, react_fault, repeat_fault, settle_fault, step_fault, stray_fault, turn_fault, use_fault}
+use Rattle.clap.specs.Faults.{positional_fault, react_fault, repeat_fault, set_fault, settle_fault, step_fault, stray_fault, turn_fault, use_fault}
 use Rattle.clap.specs.Faults.{values_fault, walk_fault, word_fault}
-use Rattle.clap.specs.declared.builder.action.ArgAction.TheVariants.{Set}
+use Rattle.clap.specs.declared.builder.action.ArgAction.{ArgAction}
+use Rattle.clap.specs.declared.builder.action.ArgAction.TheVariants.{Append, Set, SetTrue}
 use Rattle.clap.specs.declared.builder.value_parser.Reading.{Reading}
 use Rattle.clap.specs.declared.error.kind.ErrorKind.{ErrorKind}
+use Rattle.clap.specs.declared.error.kind.ErrorKind.TheVariants as kind
 use Rattle.clap.specs.declared.parser.matches.ValueSource.{ValueSource}
+use Rattle.clap.specs.declared.parser.matches.ValueSource.TheVariants.{CommandLine}
 
 pub none_of : (a b : Kinds) → or_else a b ≡ [] → (a ≡ []) × (b ≡ [])
 none_of [] b e = (refl, e)
@@ -41,25 +45,46 @@ found_in p (x ∷ xs) a e = go (found_in p xs a) (p x) e
     go rest true e = inl (cc)
     go rest false e = inr (rest e)
 
--- the first of some values, of which Q holds
-abbrev pub HasFirst : (Text → Type 0) → List Text → Type 0
-HasFirst Q [] = ⊥
-HasFirst Q (v ∷ vs) = Q v
+-- Q holds of each of these values
+abbrev pub EachText : (Text → Type 0) → List Text → Type 0
+EachText Q [] = Unit {0}
+EachText Q (v ∷ vs) = Q v × EachText Q vs
 
-first_more : (Q : Text → Type 0) (vs more : List Text) → HasFirst Q vs → HasFirst Q (vs ++ more)
-first_more Q [] more h = absurd h
-first_more Q (v ∷ vs) more h = h
+-- there are values, and Q holds of each
+abbrev pub HasEach : (Text → Type 0) → List Text → Type 0
+HasEach Q [] = ⊥
+HasEach Q (v ∷ vs) = Q v × EachText Q vs
 
--- each row has a first value of which P holds
+-- each row has values, and P holds of each
 abbrev pub EachRow : (Text → Reading → Text → Type 0) → List Row → Type 0
 EachRow P [] = Unit {0}
-EachRow P (r ∷ rs) = HasFirst (P r.id r.reading) r.values × EachRow P rs
+EachRow P (r ∷ rs) = HasEach (P r.id r.reading) r.values × EachRow P rs
 
--- a use of the argument takes one value, and a later one puts it out
+-- what is read one way is read that way beside values that are read so
+abbrev pub Joins : (Text → Reading → Text → Type 0) → Type 0
+Joins P = (id : Text) (how other : Reading) (u v : Text) → P id how u → P id other v → P id how v
+
+-- a use of the argument takes one value, and a later one puts it out or stands behind it
 pub record TakesOne (a : Rule) : Type 0 where
-  pub action : action_of a ≡ Set
-  pub takes : takes_values a ≡ true
+  pub action : (action_of a ≡ Set) ⊎ (action_of a ≡ Append)
   pub least : (unwrap_or_range a.range).start_inclusive ≡ 1
+
+-- a use of the argument stands for one value, and a later one puts it out
+pub record IsFlag (a : Rule) : Type 0 where
+  pub action : action_of a ≡ SetTrue
+  pub missing : a.missing ≡ codes "true" ∷ []
+
+-- a use of the argument leaves one value
+abbrev pub LeavesOne : Rule → Type 0
+LeavesOne a = TakesOne a ⊎ IsFlag a
+
+-- the action keeps the values of a use
+abbrev Keeps : ArgAction → Type 0
+Keeps does = ((does ≡ Set) ⊎ (does ≡ Append)) ⊎ (does ≡ SetTrue)
+
+keeps_by : (a : Rule) → LeavesOne a → Keeps (action_of a)
+keeps_by a (inl one) = inl one.action
+keeps_by a (inr flag) = inr flag.action
 
 passed : (b : Bool) (k : ErrorKind) → cond b [] (k ∷ []) ≡ [] → b ≡ true
 passed true k e = refl
@@ -68,7 +93,7 @@ passed false k e = absurd (cc)
 some_values : (v : Text) (vs : List Text) → is_empty (v ∷ vs) ≡ false
 some_values v vs = ne_eqb _ _ (λ e. omega arith)
 
-module _ (P : Text → Reading → Text → Type 0) where
+module _ (P : Text → Reading → Text → Type 0) (joined : Joins P) where
   without_kept : (id : Text) (rows : List Row) → EachRow P rows → EachRow P (without id rows)
   without_kept id [] h = tt
   without_kept id (r ∷ rs) h = go (without_kept id rs h.1) (bytes_eq r.id id)
@@ -77,36 +102,82 @@ module _ (P : Text → Reading → Text → Type 0) where
       go rest true = h.1
       go rest false = (h.0, rest)
 
-  with_kept : (id : Text) (how : Reading) (s : ValueSource) (v : Text) (vs : List Text) (rows : List Row) → P id how v → EachRow P rows
+  all_more : (id : Text) (how other : Reading) (u : Text) (vs more : List Text) → P id how u → EachText (P id how) vs → EachText (P id other) more
+      → EachText (P id how) (vs ++ more)
+  all_more id how other u [] [] p h m = tt
+  all_more id how other u [] (v ∷ more) p h m = (joined id how other u v p m.0, all_more id how other u [] more p tt m.1)
+  all_more id how other u (v ∷ vs) more p h m = (h.0, all_more id how other u vs more p h.1 m)
+
+  each_more : (id : Text) (how other : Reading) (vs more : List Text) → HasEach (P id how) vs → EachText (P id other) more → HasEach (P id how) (vs ++ more)
+  each_more id how other [] more h m = absurd h
+  each_more id how other (v ∷ vs) more h m = (h.0, all_more id how other v vs more h.0 h.1 m)
+
+  with_kept : (id : Text) (how : Reading) (s : ValueSource) (v : Text) (vs : List Text) (rows : List Row) → EachText (P id how) (v ∷ vs) → EachRow P rows
       → EachRow P (with_values id how s (v ∷ vs) rows)
   with_kept id how s v vs [] p h = (p, tt)
-  with_kept id how s v vs (r ∷ rs) p h = go (with_kept id how s v vs rs p h.1) (bytes_eq r.id id)
+  with_kept id how s v vs (r ∷ rs) p h = go (with_kept id how s v vs rs p h.1) (bytes_eq r.id id) refl
     where
-      go : EachRow P (with_values id how s (v ∷ vs) rs) → (b : Bool) → EachRow P (cond b (more_values s (v ∷ vs) r ++ rs) (r ∷ with_values id how s (v ∷ vs) rs))
-      go rest true = (first_more (P r.id r.reading) r.values (v ∷ vs) h.0, h.1)
-      go rest false = (h.0, rest)
+      go : EachRow P (with_values id how s (v ∷ vs) rs) → (b : Bool) → bytes_eq r.id id ≡ b
+          → EachRow P (cond b (more_values s (v ∷ vs) r ++ rs) (r ∷ with_values id how s (v ∷ vs) rs))
+      go rest true is =
+          let mine = subst (λ (t : Text). EachText (P t how) (v ∷ vs)) (sym ((bytes_eq-Decides r.id id).0 is)) p in
+          (each_more r.id r.reading how r.values (v ∷ vs) h.0 mine, h.1)
+      go rest false is = (h.0, rest)
 
 -- ---- the walk
 
-module _ (s : Shape) (P : Text → Reading → Text → Type 0)
+module _ (s : Shape) (P : Text → Reading → Text → Type 0) (joined : Joins P)
     (each : (a : Rule) → IsIn a s.rules → (v : Text) → value_passes a v ≡ true → P a.id (reading_by a) v)
-    (single : (a : Rule) → IsIn a s.rules → TakesOne a)
+    (single : (a : Rule) → IsIn a s.rules → LeavesOne a)
     (no_short : (x : ℕ) → arg_by_short s.rules x ≡ None) where
+  -- values without a fault passed their tests
+  each_kept : (a : Rule) → IsIn a s.rules → (vs : List Text) → values_fault a vs ≡ [] → EachText (P a.id (reading_by a)) vs
+  each_kept a of [] e = tt
+  each_kept a of (v ∷ vs) e =
+      let parts = none_of (value_kinds a.ignore_case (parser_of_value a.parser) v) _ e in
+      (each a of v (passed _ _ parts.0), each_kept a of vs parts.1)
+
+  -- what is set, or stands behind what was set, passed its test
+  acted_kept : (a : Rule) → IsIn a s.rules → (does : ArgAction) → Keeps does → (v : Text) (vs : List Text) (rows : List Row)
+      → action_fault does s.args_override_self a (v ∷ vs) rows ≡ [] → EachRow P rows → EachRow P (used_as does a.id (reading_by a) (v ∷ vs) rows)
+  acted_kept a of does keeps v vs rows e h = go keeps
+    where
+      more : (before : List Row) → values_fault a (v ∷ vs) ≡ [] → EachRow P before → EachRow P (with_values a.id (reading_by a) CommandLine (v ∷ vs) before)
+      more before values h = with_kept P joined a.id (reading_by a) _ v vs before (each_kept a of (v ∷ vs) values) h
+
+      set : set_fault s.args_override_self a (v ∷ vs) rows ≡ [] → EachRow P (with_values a.id (reading_by a) CommandLine (v ∷ vs) (without a.id rows))
+      set sets = more (without a.id rows) (none_of (repeat_fault s.args_override_self a.id rows) _ sets).1 (without_kept P joined a.id rows h)
+
+      go : Keeps does → EachRow P (used_as does a.id (reading_by a) (v ∷ vs) rows)
+      go (inl (inl is)) =
+          let sets : action_fault Set s.args_override_self a (v ∷ vs) rows ≡ [] = subst (λ x. action_fault x s.args_override_self a (v ∷ vs) rows ≡ []) is e in
+          let now : EachRow P (used_as Set a.id (reading_by a) (v ∷ vs) rows) = set sets in
+          subst (λ x. EachRow P (used_as x a.id (reading_by a) (v ∷ vs) rows)) (sym is) now
+      go (inl (inr is)) =
+          let adds : action_fault Append s.args_override_self a (v ∷ vs) rows ≡ [] = subst (λ x. action_fault x s.args_override_self a (v ∷ vs) rows ≡ []) is e in
+          let now : EachRow P (used_as Append a.id (reading_by a) (v ∷ vs) rows) = more rows adds h in
+          subst (λ x. EachRow P (used_as x a.id (reading_by a) (v ∷ vs) rows)) (sym is) now
+      go (inr is) =
+          let sets : action_fault SetTrue s.args_override_self a (v ∷ vs) rows ≡ [] = subst (λ x. action_fault x s.args_override_self a (v ∷ vs) rows ≡ []) is e in
+          let now : EachRow P (used_as SetTrue a.id (reading_by a) (v ∷ vs) rows) = set sets in
+          subst (λ x. EachRow P (used_as x a.id (reading_by a) (v ∷ vs) rows)) (sym is) now
+
   used_kept : (a : Rule) → IsIn a s.rules → (values : List Text) (rows : List Row) → use_fault s.args_override_self a values rows ≡ []
       → EachRow P rows → EachRow P (used a values rows)
-  used_kept a of [] rows e h =
-      let range = (none_of (range_kinds (unwrap_or_range a.range).start_inclusive (most_values a) 0) _ e).0 in
-      let bad = subst (λ n. range_kinds n (most_values a) 0 ≡ []) (single a of).least range in
-      absurd (cc)
+  used_kept a of [] rows e h = elim (single a of) [
+    | inl one ↦ (let range = (none_of (range_kinds (unwrap_or_range a.range).start_inclusive (most_values a) 0) _ e).0 in
+        let bad = subst (λ n. range_kinds n (most_values a) 0 ≡ []) one.least range in
+        absurd (cc))
+    | inr flag ↦ (let does : action_fault (action_of a) s.args_override_self a a.missing rows ≡ [] =
+        (none_of (range_kinds (unwrap_or_range a.range).start_inclusive (most_values a) 0) _ e).1 in
+        let stands : action_fault (action_of a) s.args_override_self a (codes "true" ∷ []) rows ≡ [] =
+        subst (λ (vs : List Text). action_fault (action_of a) s.args_override_self a vs rows ≡ []) flag.missing does in
+        subst (λ (vs : List Text). EachRow P (used_as (action_of a) a.id (reading_by a) vs rows)) (sym flag.missing)
+        (acted_kept a of (action_of a) (inr flag.action) (codes "true") [] rows stands h))
+  ]
   used_kept a of (v ∷ vs) rows e h =
       let does = (none_of (range_kinds (unwrap_or_range a.range).start_inclusive (most_values a) (length (v ∷ vs))) _ e).1 in
-      let sets : action_fault Set s.args_override_self a (v ∷ vs) rows ≡ [] = subst (λ x. action_fault x s.args_override_self a (v ∷ vs) rows ≡ []) (single a of).action does in
-      let values = (none_of (repeat_fault s.args_override_self a.id rows) _ sets).1 in
-      let first = (none_of (value_kinds a.ignore_case (parser_of_value a.parser) v) _ values).0 in
-      let ok : value_passes a v ≡ true = passed _ _ first in
-      let now : EachRow P (used_as Set a.id (reading_by a) (v ∷ vs) rows) = with_kept P a.id (reading_by a) _ v vs (without a.id rows)
-      (each a of v ok) (without_kept P a.id rows h) in
-      subst (λ x. EachRow P (used_as x a.id (reading_by a) (v ∷ vs) rows)) (sym (single a of).action) now
+      acted_kept a of (action_of a) (keeps_by a (single a of)) v vs rows does h
 
   pub settled_kept : (h : Held) → settle_fault s.rules s.args_override_self h ≡ [] → EachRow P h.rows → EachRow P (settled s.rules h).rows
   settled_kept h e each_held = go h.pending e
@@ -136,12 +207,18 @@ module _ (s : Shape) (P : Text → Reading → Text → Type 0)
   long_kept : (o : Option Rule) → ((a : Rule) → o ≡ Some a → IsIn a s.rules) → (v : Option Text) (h : Held)
       → long_fault s.rules s.args_override_self o v h ≡ [] → EachRow P h.rows → EachRow P (long_met s.rules o v h).0.rows
   long_kept None of v h e each_held = each_held
-  long_kept (Some a) of v h e each_held = go (takes_values a) _ (single a (of a refl)).takes e
+  long_kept (Some a) of v h e each_held = go (takes_values a) e
     where
-      go : (b : Bool) (other : Kinds) → b ≡ true → cond b (option_fault s.rules s.args_override_self a v h) other ≡ []
+      flag : (v : Option Text) → cond (is_some v) (kind.TooManyValues ∷ []) (react_fault s.rules s.args_override_self a [] h) ≡ []
+          → EachRow P (flag_met s.rules a v h).0.rows
+      flag (Some x) e = each_held
+      flag None e = reacted_kept a (of a refl) [] h e each_held
+
+      go : (b : Bool) → cond b (option_fault s.rules s.args_override_self a v h)
+          (cond (is_some v) (kind.TooManyValues ∷ []) (react_fault s.rules s.args_override_self a [] h)) ≡ []
           → EachRow P (cond b (option_met s.rules a v h) (flag_met s.rules a v h)).0.rows
-      go true other t e = option_kept a (of a refl) v h e each_held
-      go false other t e = absurd (true≢false (sym t))
+      go true e = option_kept a (of a refl) v h e each_held
+      go false e = flag v e
 
   plain_rows : (waiting : Waiting) (word : Text) (h : Held) → (plain_word s.rules waiting word h).0.rows ≡ h.rows
   plain_rows idle word h = refl
@@ -249,8 +326,7 @@ module _ (s : Shape) (P : Text → Reading → Text → Type 0)
       go false (v ∷ vs) e =
           let fault = subst (λ b. cond b [] (or_else (request_kinds (action_of a)) (values_fault a (v ∷ vs))) ≡ []) (some_values v vs) e in
           let values = (none_of (request_kinds (action_of a)) _ fault).1 in
-          let first = (none_of (value_kinds a.ignore_case (parser_of_value a.parser) v) _ values).0 in
-          with_kept P a.id (reading_by a) _ v vs rows (each a of v (passed _ _ first)) each_held
+          with_kept P joined a.id (reading_by a) _ v vs rows (each_kept a of (v ∷ vs) values) each_held
 
   pub defaults_kept : (xs : List Rule) → ((a : Rule) → IsIn a xs → IsIn a s.rules) → (rows : List Row) → defaults_fault rows xs ≡ []
       → EachRow P rows → EachRow P (fold with_default rows xs)

@@ -2,9 +2,10 @@
 use Rattle.std.specs.Prelude.{ℕ, true, false, pos, Some, List, [], ◌∷◌, codes}
 use Rattle.clap.specs.Walk.{Rule, Text}
 use Rattle.clap.specs.Simple.{App, Shape, new_rule, new_shape}
+use Rattle.clap.specs.declared.builder.action.ArgAction.TheVariants.{Append, SetTrue}
 use Rattle.clap.specs.declared.builder.value_parser.ValueParser.TheVariants as vp
 use Rattle.dpl_words.specs.declared.definition.Argument.{Argument}
-use Rattle.dpl_words.specs.declared.definition.Argument.TheVariants.{RequiredNumber, OptionalNumber, NumberIfGiven, RequiredWord, OptionalText, FileName}
+use Rattle.dpl_words.specs.declared.definition.Argument.TheVariants.{RequiredNumber, OptionalNumber, NumberIfGiven, RequiredWord, OptionalText, Flag, FileName, RepeatedNumber}
 
 -- an option that must be given, with a whole number from low to high
 abbrev pub required_number : Text → ℕ → ℕ → Rule
@@ -41,9 +42,24 @@ number_if_given id low high = record (new_rule id) {
 abbrev pub optional_text : Text → Rule
 optional_text id = record (new_rule id) { long = Some id }
 
+-- a flag, that may be left out
+abbrev pub flag : Text → Rule
+flag id = record (new_rule id) {
+  long = Some id;
+  action = Some SetTrue;
+}
+
 -- a name of a file, by its place
 abbrev pub file_name : Text → Rule
 file_name id = record (new_rule id) { required = true }
+
+-- a whole number from low to high, by its place, that is given once or more
+abbrev pub repeated_number : Text → ℕ → ℕ → Rule
+repeated_number id low high = record (new_rule id) {
+  action = Some Append;
+  required = true;
+  parser = Some (vp.Signed (pos low) (pos high));
+}
 
 -- the rule of an argument
 abbrev pub rule_for : Argument → Rule
@@ -52,7 +68,9 @@ rule_for (OptionalNumber id low high default) = optional_number id.now low high 
 rule_for (NumberIfGiven id low high) = number_if_given id.now low high
 rule_for (RequiredWord id) = required_word id.now
 rule_for (OptionalText id) = optional_text id.now
+rule_for (Flag id) = flag id.now
 rule_for (FileName id) = file_name id.now
+rule_for (RepeatedNumber id low high) = repeated_number id.now low high
 
 -- a command of this name, with these rules
 abbrev pub shape_with : Text → List Rule → Shape
@@ -72,6 +90,7 @@ split_shape = record (new_shape (codes "split")) {
       ∷ number_if_given (codes "mark-b") 0 65535
       ∷ optional_number (codes "tile") 1 1073741824 (codes "4096")
       ∷ optional_number (codes "workers") 1 64 (codes "4")
+      ∷ flag (codes "fewer")
       ∷ file_name (codes "in") ∷ file_name (codes "out") ∷ file_name (codes "cert") ∷ [];
 }
 
@@ -98,6 +117,20 @@ demo_shape = record (new_shape (codes "demo")) {
       ∷ optional_number (codes "workers") 1 64 (codes "4") ∷ [];
 }
 
+abbrev pub batch_shape : Shape
+batch_shape = record (new_shape (codes "batch")) {
+  rules = required_number (codes "rule") 1 1000000
+      ∷ required_number (codes "overlap") 1 1000000
+      ∷ number_if_given (codes "corner") 1 1000000
+      ∷ optional_number (codes "datatype") 0 65535 (codes "0")
+      ∷ optional_text (codes "top")
+      ∷ optional_number (codes "a") 0 65535 (codes "101")
+      ∷ optional_number (codes "b") 0 65535 (codes "102")
+      ∷ optional_number (codes "tile") 1 1073741824 (codes "4096")
+      ∷ optional_number (codes "workers") 1 64 (codes "4")
+      ∷ file_name (codes "in") ∷ file_name (codes "prefix") ∷ repeated_number (codes "layer") 0 65535 ∷ [];
+}
+
 -- the program: a subcommand must be there, and nothing answers with help or a version
 abbrev pub top_shape : Shape
 top_shape = record (new_shape (codes "dpl")) {
@@ -110,5 +143,5 @@ top_shape = record (new_shape (codes "dpl")) {
 abbrev pub dpl_app : App
 dpl_app = record {
   top = record top_shape { is_leaf = false };
-  subs = split_shape ∷ check_shape ∷ demo_shape ∷ [];
+  subs = split_shape ∷ check_shape ∷ demo_shape ∷ batch_shape ∷ [];
 }

@@ -3,11 +3,11 @@ ghost use Rattle.std.specs.Prelude.{◌≡◌, ℕ, pos, Some, IfOk, false, true
 ghost use Rattle.clap.specs.Walk.{rule_of};
 ghost use Rattle.clap.specs.Simple.{app_of, with_subcommand};
 ghost use Rattle.clap.specs.declared.builder.command.Command.TheViews.{out-Command as fields_of};
-ghost use Rattle.dpl_words.specs.Definition.{check_shape, demo_shape, dpl_app, file_name, number_if_given, optional_number, optional_text, required_number, required_word, rule_for, shape_with, split_shape, top_shape};
+ghost use Rattle.dpl_words.specs.Definition.{batch_shape, check_shape, demo_shape, dpl_app, file_name, flag, number_if_given, optional_number, optional_text, repeated_number, required_number, required_word, rule_for, shape_with, split_shape, top_shape};
 ghost use Rattle.clap.specs.declared.builder.value_parser.ValueParser.TheVariants as vp;
 
 use clap::builder::ValueParser;
-use clap::{Arg, Command, value_parser};
+use clap::{Arg, ArgAction, Command, value_parser};
 use std::alloc::{AllocError, Global};
 
 /// An argument of a subcommand, by its name.
@@ -23,8 +23,12 @@ enum Argument<'a> {
     RequiredWord(&'a str),
     /// An option with a text.
     OptionalText(&'a str),
+    /// A flag, that may be left out.
+    Flag(&'a str),
     /// The name of a file, by its place.
     FileName(&'a str),
+    /// A whole number from the first to the second, by its place, that is given once or more.
+    RepeatedNumber(&'a str, u32, u32),
 }
 
 impl<'a> Argument<'a> {
@@ -41,7 +45,9 @@ impl<'a> Argument<'a> {
             Argument::NumberIfGiven(id, low, high) => { number_if_given_arg(alloc, id, low, high) }
             Argument::RequiredWord(id) => required_word_arg(alloc, id),
             Argument::OptionalText(id) => Arg::new(alloc, id).long(id),
+            Argument::Flag(id) => flag_arg(alloc, id),
             Argument::FileName(id) => Arg::new(alloc, id).required(true),
+            Argument::RepeatedNumber(id, low, high) => repeated_number_arg(alloc, id, low, high),
         }
     }
 }
@@ -103,6 +109,25 @@ fn required_word_arg<'a>(alloc: Global, id: &'a str) -> Arg<'a>
         .value_parser(parser)
 }
 
+/// A flag, that may be left out.
+fn flag_arg<'a>(alloc: Global, id: &'a str) -> Arg<'a>
+    ensures defined { rule_of result ≡ flag id.entry.now }
+    ensures local { result.global ≡ false }
+{
+    Arg::new(alloc, id).long(id).action(ArgAction::SetTrue)
+}
+
+/// A whole number, by its place, that is given once or more. Options may stand between its values.
+fn repeated_number_arg<'a>(alloc: Global, id: &'a str, low: u32, high: u32) -> Arg<'a>
+    ensures defined { rule_of result ≡ repeated_number id.entry.now low high }
+    ensures local { result.global ≡ false }
+{
+    Arg::new(alloc, id)
+        .action(ArgAction::Append)
+        .required(true)
+        .value_parser(number_parser(low, high))
+}
+
 /// A command of this name, with these arguments.
 fn command_with<'a>(
     alloc: Global,
@@ -149,6 +174,7 @@ fn with_split<'a>(alloc: Global, command: Command<'a>) -> Result<Command<'a>, Al
         Argument::NumberIfGiven("mark-b", 0, 65_535),
         Argument::OptionalNumber("tile", 1, 1_073_741_824, "4096"),
         Argument::OptionalNumber("workers", 1, 64, "4"),
+        Argument::Flag("fewer"),
         Argument::FileName("in"),
         Argument::FileName("out"),
         Argument::FileName("cert"),
@@ -191,6 +217,27 @@ fn with_demo<'a>(alloc: Global, command: Command<'a>) -> Result<Command<'a>, All
     with_level(alloc, command, "demo", &arguments)
 }
 
+/// Adds the subcommand `batch`.
+fn with_batch<'a>(alloc: Global, command: Command<'a>) -> Result<Command<'a>, AllocError>
+    ensures { IfOk result (λ c. app_of c ≡ with_subcommand (app_of command.entry) batch_shape) }
+{
+    let arguments = [
+        Argument::RequiredNumber("rule", 1, 1_000_000),
+        Argument::RequiredNumber("overlap", 1, 1_000_000),
+        Argument::NumberIfGiven("corner", 1, 1_000_000),
+        Argument::OptionalNumber("datatype", 0, 65_535, "0"),
+        Argument::OptionalText("top"),
+        Argument::OptionalNumber("a", 0, 65_535, "101"),
+        Argument::OptionalNumber("b", 0, 65_535, "102"),
+        Argument::OptionalNumber("tile", 1, 1_073_741_824, "4096"),
+        Argument::OptionalNumber("workers", 1, 64, "4"),
+        Argument::FileName("in"),
+        Argument::FileName("prefix"),
+        Argument::RepeatedNumber("layer", 0, 65_535),
+    ];
+    with_level(alloc, command, "batch", &arguments)
+}
+
 /// The program's own command, before its subcommands.
 fn top_command<'a>(alloc: Global) -> Command<'a>
     ensures { app_of result ≡ record { top = top_shape; subs = [] } }
@@ -208,5 +255,6 @@ pub fn dpl_command<'a>(alloc: Global) -> Result<Command<'a>, AllocError>
 {
     let command = with_split(alloc, top_command(alloc))?;
     let command = with_check(alloc, command)?;
-    with_demo(alloc, command)
+    let command = with_demo(alloc, command)?;
+    with_batch(alloc, command)
 }

@@ -6,4 +6,7 @@ mod law;
 mod values;
 
 pub use law::{taken_has_its_values, taken_names_a_subcommand};
-pub use values::{CheckOptions, DemoOptions, Request, SplitOptions, WordsFault, read_words};
+pub use values::{
+    BatchOptions, CheckOptions, DemoOptions, Request, SplitOptions, WordsFault, certificate_name,
+    mask_name, read_words,
+};

@@ -1,11 +1,12 @@
 //! The values that a command line gives.
-ghost use Rattle.std.specs.Prelude.{◌≡◌, Some, None, codes, IfOk, IfSome, IsErrOf, is_some, map, option_map, true};
+ghost use Rattle.std.specs.Prelude.{◌≡◌, ◌==◌, Some, None, codes, count_by, IfOk, IfSome, IsErrOf, is_some, map, option_map, string_bytes, true};
+ghost use Rattle.std.specs.List.{list_all};
 ghost use Rattle.dpl_words.specs.declared.values.WordsFault.TheVariants.{NoMemory};
-ghost use Rattle.clap.specs.Walk.{first_of, rows_of, texts};
+ghost use Rattle.clap.specs.Walk.{first_of, many_of, one_of, rows_of, texts};
 ghost use Rattle.clap.specs.Simple.{subcommand_rows_of};
 ghost use Rattle.clap.specs.Words.{found_of};
-ghost use Rattle.dpl_words.specs.Meaning.{asked_by, asked_of, check_if_sound, check_values, check_view, corner_in, demo_values, demo_view, is_apart as specs_is_apart, number_at, number_in, text_in, request_of, request_view, split_if_sound, split_values, split_view};
-ghost use Rattle.dpl_words.specs.Ranges.{AreThere, AreThereForCheck, AreThereForDemo, HasItsValues, IsApart, IsInRange, IsThere};
+ghost use Rattle.dpl_words.specs.Meaning.{are_single as specs_are_single, asked_by, asked_of, batch_if_sound, batch_values, batch_view, certificate_name as certificate_name_of, check_if_sound, check_values, check_view, corner_in, demo_values, demo_view, flag_in, is_apart as specs_is_apart, is_batch_apart, is_beside as specs_is_beside, mask_name as mask_name_of, number_at, number_in, numbers_in, text_in, request_of, request_view, split_if_sound, split_values, split_view};
+ghost use Rattle.dpl_words.specs.Ranges.{AreFrom, AreThere, AreThereForBatch, AreThereForCheck, AreThereForDemo, HasItsValues, IsApart, IsFlagText, IsInRange, IsThere};
 
 use crate::definition::dpl_command;
 use clap::ArgMatches;
@@ -27,6 +28,7 @@ pub struct SplitOptions<'a> {
     pub mark_b: Option<u16>,
     pub tile: u32,
     pub workers: u32,
+    pub fewer: bool,
     pub input: &'a str,
     pub output: &'a str,
     pub certificate: &'a str,
@@ -59,12 +61,35 @@ pub struct DemoOptions {
     pub workers: u32,
 }
 
+/// What a command line of `batch` says.
+#[derive(Debug, Drop)]
+pub struct BatchOptions<'a> {
+    pub datatype: u16,
+    pub rule: u32,
+    pub overlap: u32,
+    pub corner: u32,
+    pub top: Option<&'a str>,
+    pub a: u16,
+    pub b: u16,
+    pub tile: u32,
+    pub workers: u32,
+    pub input: &'a str,
+    /// What the names of all files begin with that are written.
+    pub prefix: &'a str,
+    /// The layers in the order given, each once.
+    pub layers: Vec<u16>,
+}
+
+/// The most layers of a command line.
+const MOST_LAYERS: usize = 64;
+
 /// What a command line asks for.
 #[derive(Debug, Drop)]
 pub enum Request<'a> {
     Split(SplitOptions<'a>),
     Check(CheckOptions<'a>),
     Demo(DemoOptions),
+    Batch(BatchOptions<'a>),
 }
 
 /// The number of an option, as a `u16`.
@@ -113,6 +138,26 @@ fn number_64(matches: &ArgMatches, id: &str) -> u64
     matches.get_one::<u64>(id).unwrap()
 }
 
+/// Whether a flag is given.
+fn flag(matches: &ArgMatches, id: &str) -> bool
+    requires { IsFlagText (one_of id.now (rows_of (found_of matches.now))) }
+    ensures { result ≡ flag_in id.now (rows_of (found_of matches.now)) }
+{
+    matches.get_flag(id)
+}
+
+/// The numbers of an argument that is given once or more, in order.
+fn numbers_16(alloc: Global, matches: &ArgMatches, id: &str) -> Result<Vec<u16>, AllocError>
+    requires { AreFrom 16 0 65535 (many_of id.now (rows_of (found_of matches.now))) }
+    ensures { IfOk result (λ v. v.items ≡ numbers_in 16 id.now (rows_of (found_of matches.now))) }
+{
+    let mut numbers = Vec::new(alloc);
+    for number in matches.get_many::<u16>(id).unwrap() {
+        numbers.push(number.unwrap())?;
+    }
+    Ok(numbers)
+}
+
 /// The first text of an argument.
 fn text<'a>(matches: &ArgMatches<'a>, id: &str) -> Option<&'a str>
     ensures { option_map (λ t. t.now) result ≡ first_of id.now (rows_of (found_of matches.now)) }
@@ -146,6 +191,7 @@ fn split_options<'a>(matches: &ArgMatches<'a>) -> SplitOptions<'a>
         mark_b: given_16(matches, "mark-b"),
         tile: number_32(matches, "tile"),
         workers: number_32(matches, "workers"),
+        fewer: flag(matches, "fewer"),
         input: required_text(matches, "in"),
         output: required_text(matches, "out"),
         certificate: required_text(matches, "cert"),
@@ -187,6 +233,30 @@ fn demo_options(matches: &ArgMatches) -> DemoOptions
     }
 }
 
+/// The values of `batch` among the entries.
+fn batch_options<'a>(
+    alloc: Global,
+    matches: &ArgMatches<'a>,
+) -> Result<BatchOptions<'a>, AllocError>
+    requires there { AreThereForBatch (rows_of (found_of matches.now)) }
+    ensures { IfOk result (λ o. batch_view o ≡ batch_values (rows_of (found_of matches.now))) }
+{
+    Ok(BatchOptions {
+        datatype: number_16(matches, "datatype"),
+        rule: number_32(matches, "rule"),
+        overlap: number_32(matches, "overlap"),
+        corner: corner(matches),
+        top: text(matches, "top"),
+        a: number_16(matches, "a"),
+        b: number_16(matches, "b"),
+        tile: number_32(matches, "tile"),
+        workers: number_32(matches, "workers"),
+        input: required_text(matches, "in"),
+        prefix: required_text(matches, "prefix"),
+        layers: numbers_16(alloc, matches, "layer")?,
+    })
+}
+
 /// Why words ask for nothing that the program does.
 #[derive(Clone, Copy, Debug, PartialEq, Eq)]
 pub enum WordsFault {
@@ -210,7 +280,7 @@ pub fn read_words<'a>(alloc: Global, words: &'a [&'a str]) -> Result<Request<'a>
     ensures read { IfOk result (λ r. request_of (texts words.entry.now) ≡ Some (request_view r)) }
     // Each number lies in the range that its option states, and the corner rule isn't above the rule.
     ensures ranges { IfOk result (λ r. IsInRange (request_view r)) }
-    // Its masks have layers of their own, and its files names of their own.
+    // Its masks have layers of their own, its files names of their own, and each layer of a batch is named once.
     ensures apart { IfOk result (λ r. IsApart (request_view r)) }
     // They are refused only where they ask for nothing.
     ensures usage { IsErrOf result WordsFault.Usage → request_of (texts words.entry.now) ≡ None }
@@ -220,7 +290,7 @@ pub fn read_words<'a>(alloc: Global, words: &'a [&'a str]) -> Result<Request<'a>
         Ok(matches) => matches,
         Err(error) => return Err(fault_by(error.kind())),
     };
-    asked(&matches).ok_or(WordsFault::Usage)
+    asked(alloc, &matches)
 }
 
 /// The fault that an error of `clap` is.
@@ -235,37 +305,47 @@ fn fault_by(kind: ErrorKind) -> WordsFault
 }
 
 /// What the matches ask for.
-fn asked<'a>(matches: &ArgMatches<'a>) -> Option<Request<'a>>
+fn asked<'a>(alloc: Global, matches: &ArgMatches<'a>) -> Result<Request<'a>, WordsFault>
     requires there { IfSome (subcommand_rows_of matches.now) HasItsValues }
-    ensures read { option_map request_view result ≡ asked_of (subcommand_rows_of matches.now) }
-    ensures ranges { IfSome result (λ r. IsInRange (request_view r)) }
-    ensures apart { IfSome result (λ r. IsApart (request_view r)) }
+    ensures read { IfOk result (λ r. asked_of (subcommand_rows_of matches.now) ≡ Some (request_view r)) }
+    ensures ranges { IfOk result (λ r. IsInRange (request_view r)) }
+    ensures apart { IfOk result (λ r. IsApart (request_view r)) }
+    ensures usage { IsErrOf result WordsFault.Usage → asked_of (subcommand_rows_of matches.now) ≡ None }
 {
-    let (name, inner) = matches.subcommand()?;
-    request_by(name, inner)
+    let Some((name, inner)) = matches.subcommand() else {
+        return Err(WordsFault::Usage);
+    };
+    request_by(alloc, name, inner)
 }
 
 /// What the matches of the subcommand of this name ask for.
-fn request_by<'a>(name: &str, inner: &ArgMatches<'a>) -> Option<Request<'a>>
+fn request_by<'a>(
+    alloc: Global,
+    name: &str,
+    inner: &ArgMatches<'a>,
+) -> Result<Request<'a>, WordsFault>
     requires there { HasItsValues (name.now, rows_of (found_of inner.now)) }
-    ensures read { option_map request_view result ≡ asked_by name.now (rows_of (found_of inner.now)) }
-    ensures ranges { IfSome result (λ r. IsInRange (request_view r)) }
-    ensures apart { IfSome result (λ r. IsApart (request_view r)) }
+    ensures read { IfOk result (λ r. asked_by name.now (rows_of (found_of inner.now)) ≡ Some (request_view r)) }
+    ensures ranges { IfOk result (λ r. IsInRange (request_view r)) }
+    ensures apart { IfOk result (λ r. IsApart (request_view r)) }
+    ensures usage { IsErrOf result WordsFault.Usage → asked_by name.now (rows_of (found_of inner.now)) ≡ None }
 {
     match name {
         "split" => split_request(inner),
         "check" => check_request(inner),
-        "demo" => Some(Request::Demo(demo_options(inner))),
-        _ => None,
+        "demo" => Ok(Request::Demo(demo_options(inner))),
+        "batch" => batch_request(alloc, inner),
+        _ => Err(WordsFault::Usage),
     }
 }
 
 /// What the matches of `split` ask for.
-fn split_request<'a>(inner: &ArgMatches<'a>) -> Option<Request<'a>>
+fn split_request<'a>(inner: &ArgMatches<'a>) -> Result<Request<'a>, WordsFault>
     requires there { AreThere (rows_of (found_of inner.now)) }
-    ensures read { option_map request_view result ≡ split_if_sound (split_values (rows_of (found_of inner.now))) }
-    ensures ranges { IfSome result (λ r. IsInRange (request_view r)) }
-    ensures apart { IfSome result (λ r. IsApart (request_view r)) }
+    ensures read { IfOk result (λ r. split_if_sound (split_values (rows_of (found_of inner.now))) ≡ Some (request_view r)) }
+    ensures ranges { IfOk result (λ r. IsInRange (request_view r)) }
+    ensures apart { IfOk result (λ r. IsApart (request_view r)) }
+    ensures usage { IsErrOf result WordsFault.Usage → split_if_sound (split_values (rows_of (found_of inner.now))) ≡ None }
 {
     let options = split_options(inner);
     let is_apart = is_apart(
@@ -276,17 +356,18 @@ fn split_request<'a>(inner: &ArgMatches<'a>) -> Option<Request<'a>>
         options.certificate,
     );
     if !is_apart || options.rule < options.corner {
-        return None;
+        return Err(WordsFault::Usage);
     }
-    Some(Request::Split(options))
+    Ok(Request::Split(options))
 }
 
 /// What the matches of `check` ask for.
-fn check_request<'a>(inner: &ArgMatches<'a>) -> Option<Request<'a>>
+fn check_request<'a>(inner: &ArgMatches<'a>) -> Result<Request<'a>, WordsFault>
     requires there { AreThereForCheck (rows_of (found_of inner.now)) }
-    ensures read { option_map request_view result ≡ check_if_sound (check_values (rows_of (found_of inner.now))) }
-    ensures ranges { IfSome result (λ r. IsInRange (request_view r)) }
-    ensures apart { IfSome result (λ r. IsApart (request_view r)) }
+    ensures read { IfOk result (λ r. check_if_sound (check_values (rows_of (found_of inner.now))) ≡ Some (request_view r)) }
+    ensures ranges { IfOk result (λ r. IsInRange (request_view r)) }
+    ensures apart { IfOk result (λ r. IsApart (request_view r)) }
+    ensures usage { IsErrOf result WordsFault.Usage → check_if_sound (check_values (rows_of (found_of inner.now))) ≡ None }
 {
     let options = check_options(inner);
     let is_apart = is_apart(
@@ -297,9 +378,96 @@ fn check_request<'a>(inner: &ArgMatches<'a>) -> Option<Request<'a>>
         options.certificate,
     );
     if !is_apart || options.rule < options.corner {
-        return None;
+        return Err(WordsFault::Usage);
     }
-    Some(Request::Check(options))
+    Ok(Request::Check(options))
+}
+
+/// What the matches of `batch` ask for.
+fn batch_request<'a>(alloc: Global, inner: &ArgMatches<'a>) -> Result<Request<'a>, WordsFault>
+    requires there { AreThereForBatch (rows_of (found_of inner.now)) }
+    ensures read { IfOk result (λ r. batch_if_sound (batch_values (rows_of (found_of inner.now))) ≡ Some (request_view r)) }
+    ensures ranges { IfOk result (λ r. IsInRange (request_view r)) }
+    ensures apart { IfOk result (λ r. IsApart (request_view r)) }
+    ensures usage { IsErrOf result WordsFault.Usage → batch_if_sound (batch_values (rows_of (found_of inner.now))) ≡ None }
+{
+    let options = batch_options(alloc, inner)?;
+    let is_apart = are_apart(alloc, &options)?;
+    if !is_apart || options.rule < options.corner {
+        return Err(WordsFault::Usage);
+    }
+    Ok(Request::Batch(options))
+}
+
+/// Whether both masks have layers of their own, each of at most 64 layers is named once, and IN isn't written.
+fn are_apart(alloc: Global, options: &BatchOptions<'_>) -> Result<bool, AllocError>
+    ensures { IfOk result (λ apart. apart ≡ is_batch_apart (batch_view options.now)) }
+{
+    let layers = options.layers.as_slice();
+    if options.a == options.b || layers.len() > MOST_LAYERS || !are_single(layers) {
+        return Ok(false);
+    }
+    are_beside(alloc, options.input, options.prefix, layers)
+}
+
+/// How often a number stands among these.
+fn times(numbers: &[u16], number: u16) -> usize
+    ensures { result ≡ count_by (λ m. m == number) numbers.now }
+{
+    let mut times = 0;
+    for other in numbers {
+        if *other == number {
+            times += 1;
+        }
+    }
+    times
+}
+
+/// Whether each number stands once.
+fn are_single(numbers: &[u16]) -> bool
+    ensures { result ≡ specs_are_single numbers.now }
+{
+    for number in numbers {
+        if times(numbers, *number) != 1 {
+            return false;
+        }
+    }
+    true
+}
+
+/// Whether no file of these layers has the name of IN.
+fn are_beside(alloc: Global, input: &str, prefix: &str, layers: &[u16]) -> Result<bool, AllocError>
+    ensures { IfOk result (λ beside. beside ≡ list_all (specs_is_beside input.now prefix.now) layers.now) }
+{
+    for layer in layers {
+        if !is_beside(alloc, input, prefix, *layer)? {
+            return Ok(false);
+        }
+    }
+    Ok(true)
+}
+
+/// Whether neither file of a layer has the name of IN.
+fn is_beside(alloc: Global, input: &str, prefix: &str, layer: u16) -> Result<bool, AllocError>
+    ensures { IfOk result (λ beside. beside ≡ specs_is_beside input.now prefix.now layer) }
+{
+    let masks = mask_name(alloc, prefix, layer)?;
+    let certificate = certificate_name(alloc, prefix, layer)?;
+    Ok(input != masks.as_str() && input != certificate.as_str())
+}
+
+/// The name of the file that `batch` writes a layer's masks to.
+pub fn mask_name(alloc: Global, prefix: &str, layer: u16) -> Result<String, AllocError>
+    ensures { IfOk result (λ s. string_bytes s ≡ mask_name_of prefix.now layer) }
+{
+    format!(in alloc; "{prefix}.{layer}.gds")
+}
+
+/// The name of the file that `batch` writes a layer's certificate to.
+pub fn certificate_name(alloc: Global, prefix: &str, layer: u16) -> Result<String, AllocError>
+    ensures { IfOk result (λ s. string_bytes s ≡ certificate_name_of prefix.now layer) }
+{
+    format!(in alloc; "{prefix}.{layer}.cert")
 }
 
 /// Whether both masks have layers of their own, and each file a name of its own.

@@ -6,7 +6,7 @@ use Rattle.clap.specs.Walk.{is_empty, texts}
 use Rattle.dpl_words.specs.Meaning.{asked_of}
 use Rattle.std.specs.Prelude.{IfSome}
 use Rattle.dpl_words.specs.Ranges.{HasItsValues}
-use Rattle.dpl_words.proofs.Asked.{reads, refuses}
+use Rattle.dpl_words.proofs.Asked.{reads}
 use Rattle.dpl_words.proofs.Ranges.{taken_there}
 use Rattle.dpl_words.proofs.Taken.{not_taken, simple, simple_and_free, taken}
 use Rattle.dpl_words.proofs.values.read_words.Goals as goal
@@ -35,8 +35,8 @@ returns-clause-read c =
     let none = c.in-Ok.ensures.kinds (ap is_simple_and_free is ∙ simple_and_free) in
     let met = c.in-Ok.ensures.matches (ap is_simple is ∙ simple) in
     let asks = taken (texts c.args.words.now) (ap (λ (a : App). fault_of a (texts c.args.words.now)) (sym is) ∙ none)
-    ∙ ap asked_of (sym (met.1 ∙ ap (λ (a : App). subcommand_of a (texts c.args.words.now)) is)) ∙ sym c.asked.ensures.read in
-    reads _ c.asked.result c.ok_or.result asks c.ok_or.ensures.value
+    ∙ ap asked_of (sym (met.1 ∙ ap (λ (a : App). subcommand_of a (texts c.args.words.now)) is)) in
+    reads _ _ c.asked.result asks c.asked.ensures.read
 
 pub returns-clause-usage : goal.returns-clause-usage
 returns-clause-usage c =
@@ -44,5 +44,5 @@ returns-clause-usage c =
     let none = c.in-Ok.ensures.kinds (ap is_simple_and_free is ∙ simple_and_free) in
     let met = c.in-Ok.ensures.matches (ap is_simple is ∙ simple) in
     let asks = taken (texts c.args.words.now) (ap (λ (a : App). fault_of a (texts c.args.words.now)) (sym is) ∙ none)
-    ∙ ap asked_of (sym (met.1 ∙ ap (λ (a : App). subcommand_of a (texts c.args.words.now)) is)) ∙ sym c.asked.ensures.read in
-    refuses _ c.asked.result c.ok_or.result asks c.ok_or.ensures.value
+    ∙ ap asked_of (sym (met.1 ∙ ap (λ (a : App). subcommand_of a (texts c.args.words.now)) is)) in
+    λ h. asks ∙ c.asked.ensures.usage h
