@@ -1,15 +1,13 @@
 -- From the conflicts of a cut to its masks, or to its cycle.
-use Rattle.std.proofs.Common.{◌≡◌, ◌∙◌, ◌<◌, ◌≤◌, ◌+◌, ◌%◌, ◌/◌, ◌^◌, ℕ, suc, inl, inr, Bool, false, true, List, [], ◌∷◌, length, map, get_or, ap, sym, refl, subst, arith}
-use Rattle.std.specs.Prelude.{None, Option, Some, slice_index}
+use Rattle.std.proofs.Common.{◌≡◌, ◌∙◌, ◌<◌, ◌≤◌, ◌%◌, ◌/◌, ◌^◌, ℕ, suc, inl, inr, Bool, false, true, List, [], ◌∷◌, length, map, get_or, ap, sym, refl, subst, arith}
+use Rattle.std.specs.Prelude.{None, Option, Some}
 use Rattle.std.specs.List.{All, Contains, zip}
 use Rattle.std.proofs.lemmas.Bool.{cases_order}
-use Rattle.std.proofs.lemmas.List.{get_or-map, get_or_default, length-drop, length-map}
+use Rattle.std.proofs.lemmas.List.{get_or-map, length-drop, length-map}
 use Rattle.dpl_spec_split.specs.declared.Spacing.{Spacing}
 use Rattle.dpl_spec_split.specs.declared.Pt.{Pt}
 use Rattle.dpl_spec_split.specs.declared.Rect.{Rect}
-use Rattle.dpl_spec_split.specs.Squares.{AreNear}
 use Rattle.dpl_spec_split.specs.Slabs.{AreSlabsOf}
-use Rattle.dpl_spec_split.specs.Zones.{part_at}
 use Rattle.dpl_spec_split.specs.Graphs.{AreEdges, IsOddCycle, graph_of}
 use Rattle.dpl_spec_split.specs.Summary.{HasOddCycle}
 use Rattle.dpl_spec_split.specs.Cycle.{IsReported}
@@ -22,16 +20,19 @@ use Rattle.dpl_stars.specs.declared.joined.Joined.{Joined}
 use Rattle.dpl_stars.specs.declared.joined.Joined.TheVariants.{Stars, Odd}
 use Rattle.dpl_stars.specs.Sums.{Sums, row_of}
 use Rattle.dpl_orient.specs.Rooted.{ArePiecesBelow}
-use Rattle.dpl_orient.specs.Oriented.{ColoursWhatSums, IsEvenBelow}
+use Rattle.dpl_orient.specs.Oriented.{IsEvenBelow}
+use Rattle.dpl_spec_fewer.specs.Masks.{fixed_by}
+use Rattle.dpl_cert.specs.declared.cert.Gain.{Gain}
 use Rattle.dpl_cert.specs.declared.cert.Head.{Head}
 use Rattle.dpl_cert.specs.declared.cert.PieceLine.{PieceLine}
 use Rattle.dpl_cert.specs.declared.cert.StitchLine.{StitchLine}
 use Rattle.dpl_cert.specs.declared.cert.PlaceLine.{PlaceLine}
 use Rattle.dpl_cert.specs.declared.cert.NearLine.{NearLine}
 use Rattle.dpl_cert.specs.Grammar.{IsCycleLength}
-use Rattle.dpl_answer.specs.Anchors.{AreLettersOf}
+use Rattle.dpl_answer.specs.Anchors.{AreLettersOf, ColoursBy}
 use Rattle.dpl_answer.specs.Flat.{AreLinks, IsClashOfCut, IsPaintedCut, Painted, place_by}
-use Rattle.dpl_law_verdict.specs.Own.{head_of, piece_line, stitch_line}
+use Rattle.dpl_law_verdict.specs.Own.{AreGainsBy, head_of, piece_line, stitch_line}
+use Rattle.dpl_answer.proofs.Reducing.{as_many, coloured-in}
 use Rattle.dpl_answer.proofs.Anchoring.{graph-apart, graph-back}
 use Rattle.dpl_answer.proofs.SameGraphs.{SameEdges, odd_same, reported_same, roots_same, same_back}
 
@@ -71,18 +72,19 @@ pub not_odd : (n : ℕ) (edges : List (ℕ × ℕ)) (joined : Joined) → IsEven
 not_odd n edges (Stars rows) even sums = sums.even
 not_odd n edges Odd even sums = absurd even
 
-pub painted_from : (marks : Option Marks) (spacing : Spacing) (overlap : ℕ) (cut : Cut) (edges : List (ℕ × ℕ)) (joined : Joined) (colours letters : List Bool) (a b : List Rect)
-    (stitches : List ℕ) (head : Head) (ps : List PieceLine) (ss : List StitchLine)
+pub painted_from : (fewer : Bool) (marks : Option Marks) (spacing : Spacing) (overlap : ℕ) (cut : Cut) (edges : List (ℕ × ℕ)) (joined : Joined) (colours letters : List Bool) (a b : List Rect)
+    (stitches : List ℕ) (head : Head) (ps : List PieceLine) (ss : List StitchLine) (gains : Option (List Gain))
     → AreEdges (cut_graph marks spacing cut) edges → Sums edges joined → IsEvenBelow (vertex marks (length cut.pieces)) joined
-    → ColoursWhatSums joined (vertex marks (length cut.pieces)) (sides_by marks cut.sides) colours → letters ≡ letters_by marks colours
+    → ColoursBy fewer (fixed_by marks) joined (vertex marks (length cut.pieces)) (sides_by marks cut.sides) colours → letters ≡ letters_by marks colours
     → AreSlabsOf (on_mask cut.pieces cut.zones cut.sides letters false) a
     → AreSlabsOf (on_mask cut.pieces cut.zones cut.sides letters true) b → AreStitches cut.sides letters stitches
     → head ≡ head_of spacing overlap cut → ps ≡ map piece_line (zip letters cut.keys) → ss ≡ map (stitch_line cut.zones cut.sides) stitches
-    → IsPaintedCut marks spacing overlap cut (record { a = a; b = b; head = head; pieces = ps; stitches = ss })
-painted_from marks spacing overlap cut edges joined colours letters a b stitches head ps ss are sums even coloured lettered in_a in_b differing h p s =
+    → AreGainsBy fewer marks spacing cut letters gains
+    → IsPaintedCut fewer marks spacing overlap cut (record { a = a; b = b; head = head; pieces = ps; stitches = ss; gains = gains })
+painted_from fewer marks spacing overlap cut edges joined colours letters a b stitches head ps ss gains are sums even coloured lettered in_a in_b differing h p s told =
     let same = same_edges marks spacing cut edges are in
-    let these = coloured edges sums in
-    let of_parts : Head → List PieceLine → List StitchLine → Painted = λ x y z. record { a = a; b = b; head = x; pieces = y; stitches = z } in
+    let these = coloured-in fewer marks (vertex marks (length cut.pieces)) edges joined (sides_by marks cut.sides) colours sums coloured in
+    let of_parts : Head → List PieceLine → List StitchLine → Painted = λ x y z. record { a = a; b = b; head = x; pieces = y; stitches = z; gains = gains } in
     record {
       masks = record { a = a; b = b; stitches = stitches };
       even = λ odd. not_odd (vertex marks (length cut.pieces)) edges joined even sums (odd_same (cut_graph marks spacing cut) (graph_of edges) (same_back (graph_of edges) (cut_graph marks spacing cut) same) odd);
@@ -96,23 +98,21 @@ painted_from marks spacing overlap cut edges joined colours letters a b stitches
         b = subst (λ ls. AreSlabsOf (on_mask cut.pieces cut.zones cut.sides ls true) b) lettered in_b;
         stitches = subst (λ ls. AreStitches cut.sides ls stitches) lettered differing;
       };
+      gains = gains;
+      are_gains = subst (λ (ls : List Bool). AreGainsBy fewer marks spacing cut ls gains) lettered told;
       is = ap (λ (x : Head). of_parts x ps ss) h ∙ (ap (λ (x : List PieceLine). of_parts (head_of spacing overlap cut) x ss) (p ∙ ap (λ (ls : List Bool). map piece_line (zip ls cut.keys)) lettered)
           ∙ ap (of_parts (head_of spacing overlap cut) (map piece_line (zip (letters_by marks colours) cut.keys))) s);
     }
 
--- there are as many colours as vertices
-pub as_many : (n : ℕ) (edges : List (ℕ × ℕ)) (joined : Joined) (sides : List (ℕ × ℕ)) (colours : List Bool) → Sums edges joined
-    → ColoursWhatSums joined n sides colours → length colours ≡ n
-as_many n edges joined sides colours sums coloured = let these = coloured edges sums in these.coloured.each ∙ these.rooted.lengths.0
-
--- and as many letters as pieces
+-- there are as many letters as pieces
 pub letters_many : (marks : Option Marks) (n : ℕ) (colours : List Bool) → length colours ≡ vertex marks n → length (letters_by marks colours) ≡ n
 letters_many None n colours many = many
 letters_many (Some m) n colours many = let left = length-drop 2 colours in omega (arith, left, many)
 
-pub letters_as_many : (marks : Option Marks) (n : ℕ) (edges : List (ℕ × ℕ)) (joined : Joined) (sides : List (ℕ × ℕ)) (letters : List Bool) → Sums edges joined
-    → AreLettersOf marks joined n sides letters → length letters ≡ n
-letters_as_many marks n edges joined sides letters sums (colours, graph, is) = ap length is ∙ letters_many marks n colours (as_many (vertex marks n) edges joined (sides_by marks sides) colours sums graph)
+pub letters_as_many : (fewer : Bool) (marks : Option Marks) (n : ℕ) (edges : List (ℕ × ℕ)) (joined : Joined) (sides : List (ℕ × ℕ)) (letters : List Bool) → Sums edges joined
+    → AreLettersOf fewer marks joined n sides letters → length letters ≡ n
+letters_as_many fewer marks n edges joined sides letters sums (colours, graph, is) =
+    ap length is ∙ letters_many marks n colours (as_many fewer (fixed_by marks) (vertex marks n) edges joined (sides_by marks sides) colours sums graph)
 
 pub clash_from : (marks : Option Marks) (spacing : Spacing) (overlap : ℕ) (cut : Cut) (edges : List (ℕ × ℕ)) (cycle : List ℕ) (head : Head) (cs : List PlaceLine) (ns : List NearLine)
     → AreEdges (cut_graph marks spacing cut) edges → HasOddCycle (graph_of edges) → IsReported (graph_of edges) cycle → AreLinks marks spacing cut.pieces cycle ns

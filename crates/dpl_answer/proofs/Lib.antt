@@ -6,7 +6,10 @@ pub mod Moving
 pub mod Sheeting
 pub mod LineLaws
 pub mod SameGraphs
+pub mod Reducing
 pub mod Deciding
+pub mod Components
 pub mod NearLines
 pub mod Planned
 pub mod Told
+pub mod ManyCuts

@@ -7,14 +7,12 @@ use Rattle.std.proofs.lemmas.List.Elements.{Contains-get_or}
 use Rattle.dpl_spec_split.specs.declared.Spacing.{Spacing}
 use Rattle.dpl_spec_split.specs.declared.Rect.{Rect}
 use Rattle.dpl_spec_split.specs.Graphs.{AreEdges, graph_of}
-use Rattle.dpl_spec_split.specs.Pieces.{Conflict}
 use Rattle.dpl_spec_split.specs.Summary.{HasOddCycle}
-use Rattle.dpl_spec_split.specs.Marks.{Marks, graph, vertex}
+use Rattle.dpl_spec_split.specs.Marks.{Marks, vertex}
 use Rattle.dpl_spec_split.specs.Decomposition.{Cut, cut_graph}
 use Rattle.dpl_stars.specs.Levels.{AreEdgesBelow}
 use Rattle.dpl_stars.specs.declared.list.Star.{Star}
 use Rattle.dpl_stars.specs.Sums.{Sums}
-use Rattle.dpl_stars.specs.declared.joined.Joined.{Joined}
 use Rattle.dpl_stars.specs.declared.joined.Joined.TheVariants.{Stars, Odd}
 use Rattle.dpl_orient.specs.Rooted.{ArePiecesBelow}
 use Rattle.dpl_orient.specs.Oriented.{IsEvenBelow}
@@ -33,17 +31,12 @@ module _ (parts : List (List Rect)) (owners : List ℕ) (spacing : Spacing) (til
   pub tiled : 1 ≤ tile → IsPlan parts owners spacing tile plan → IsTiled plan
   tiled some is = (tile, some, subst (λ (ps : List (List Rect)). AreTiles ps tile plan.cells) (sym is.of_parts) is.tiles)
 
-  pub sums_planned : (marks : Option Marks) (j : Joined) → IsPlan parts owners spacing tile plan → SumsGraph (graph marks plan.spacing plan.parts plan.owners) j → SumsGraph (graph marks spacing parts owners) j
-  sums_planned marks j is sums =
-      subst (λ (os : List ℕ). SumsGraph (graph marks spacing parts os) j) is.of_owners
-      (subst (λ (ps : List (List Rect)). SumsGraph (graph marks spacing ps plan.owners) j) is.of_parts
-      (subst (λ (s : Spacing). SumsGraph (graph marks s plan.parts plan.owners) j) is.of_spacing sums))
-
-  pub edges_planned : (es : List (ℕ × ℕ)) → IsPlan parts owners spacing tile plan → AreEdges (Conflict plan.spacing plan.parts plan.owners) es → AreEdges (Conflict spacing parts owners) es
-  edges_planned es is are =
-      subst (λ (os : List ℕ). AreEdges (Conflict spacing parts os) es) is.of_owners
-      (subst (λ (ps : List (List Rect)). AreEdges (Conflict spacing ps plan.owners) es) is.of_parts
-      (subst (λ (s : Spacing). AreEdges (Conflict s plan.parts plan.owners) es) is.of_spacing are))
+  pub conflicts_planned : (marks : Option Marks) (cs : Conflicts) → IsPlan parts owners spacing tile plan → AreConflictsOf marks plan.spacing plan.parts plan.owners cs
+      → AreConflictsOf marks spacing parts owners cs
+  conflicts_planned marks cs is are =
+      subst (λ (os : List ℕ). AreConflictsOf marks spacing parts os cs) is.of_owners
+      (subst (λ (ps : List (List Rect)). AreConflictsOf marks spacing ps plan.owners cs) is.of_parts
+      (subst (λ (s : Spacing). AreConflictsOf marks s plan.parts plan.owners cs) is.of_spacing are))
 
 -- conflicts of bare pieces are those of what they are completed to
 pub conflicts_completed : (marks : Option Marks) (spacing : Spacing) (bare : BareCut) (pieces : CutPieces) (cs : Conflicts) → Completes bare pieces

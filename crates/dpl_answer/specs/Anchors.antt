@@ -1,5 +1,5 @@
 -- An answer with marks: the edges that they make, and how a cycle of the graph with anchors is told.
-use Rattle.std.specs.Prelude.{◌≡◌, ℕ, zero, suc, ◌+◌, ◌%◌, ◌<◌, Bool, false, true, List, [], ◌∷◌, ◌++◌, length, map, drop, slice_index, slice_index_or, Option, Some, None, option_map}
+use Rattle.std.specs.Prelude.{◌≡◌, ℕ, zero, suc, ◌+◌, ◌%◌, ◌<◌, Bool, false, true, List, ◌++◌, length, map, drop, slice_index, slice_index_or, Option, Some, None, option_map}
 use Rattle.dpl_spec_split.specs.declared.Spacing.{Spacing}
 use Rattle.dpl_spec_split.specs.declared.Pt.{Pt}
 use Rattle.dpl_spec_split.specs.declared.Rect.{Rect}
@@ -8,7 +8,9 @@ use Rattle.dpl_spec_split.specs.Zones.{part_at}
 use Rattle.dpl_spec_split.specs.Graphs.{AreEdges}
 use Rattle.dpl_spec_split.specs.Marks.{HasSome, MarkEdge, Marks, letters_by, sides_by, vertex}
 use Rattle.dpl_stars.specs.declared.joined.Joined.{Joined}
+use Rattle.dpl_spec_fewer.specs.Masks.{fixed_by}
 use Rattle.dpl_orient.specs.Oriented.{ColoursWhatSums}
+use Rattle.dpl_orient.specs.Fewer.{FewerOfWhatSums}
 use Rattle.dpl_nearest.specs.Nearest.{IsNearestPair}
 use Rattle.dpl_cert.specs.declared.cert.PlaceLine.{PlaceLine}
 use Rattle.dpl_cert.specs.declared.cert.PlaceLine.TheVariants.{Anchor as AnchorLine}
@@ -44,13 +46,20 @@ abbrev pub with_marks : Option (List (ℕ × ℕ)) → List (ℕ × ℕ) → Lis
 with_marks None edges = edges
 with_marks (Some marked) edges = marked ++ moved edges
 
--- the letters of so many pieces, from colours of the vertices by what sums up the graph
-abbrev pub AreLettersOf : Option Marks → Joined → ℕ → List (ℕ × ℕ) → List Bool → Type 0
-AreLettersOf marks joined count sides letters = (colours : List Bool) × ColoursWhatSums joined (vertex marks count) (sides_by marks sides) colours × (letters ≡ letters_by marks colours)
+-- colours of so many vertices by what sums up the graph; where fewer stitches are asked for, what those lead to
+abbrev pub ColoursBy : Bool → Option ℕ → Joined → ℕ → List (ℕ × ℕ) → List Bool → Type 0
+ColoursBy false fixed joined n sides colours = ColoursWhatSums joined n sides colours
+ColoursBy true fixed joined n sides colours = FewerOfWhatSums joined n sides fixed colours
+
+-- the letters of so many pieces, from such colours of the vertices
+abbrev pub AreLettersOf : Bool → Option Marks → Joined → ℕ → List (ℕ × ℕ) → List Bool → Type 0
+AreLettersOf fewer marks joined count sides letters =
+    (colours : List Bool) × ColoursBy fewer (fixed_by marks) joined (vertex marks count) (sides_by marks sides) colours × (letters ≡ letters_by marks colours)
 
 -- the same, where marks are asked for
-abbrev pub AreAnchoredLetters : Joined → ℕ → List (ℕ × ℕ) → List Bool → Type 0
-AreAnchoredLetters joined count sides letters = (colours : List Bool) × ColoursWhatSums joined (count + 2) (moved sides) colours × (letters ≡ drop 2 colours)
+abbrev pub AreAnchoredLetters : Bool → Joined → ℕ → List (ℕ × ℕ) → List Bool → Type 0
+AreAnchoredLetters fewer joined count sides letters =
+    (colours : List Bool) × ColoursBy fewer (Some 0) joined (count + 2) (moved sides) colours × (letters ≡ drop 2 colours)
 
 -- ---- vertices, and how two of them are joined
 

@@ -1,19 +1,21 @@
 -- The decomposition of a layer, as a certificate tells it.
-use Rattle.std.specs.Prelude.{Option, Some, None, ◌≡◌, ◌≤◌, ℕ, List, length, map}
+use Rattle.std.specs.Prelude.{Option, Some, None, ◌≡◌, ◌≤◌, ℕ, Bool, List, length, map}
 use Rattle.std.specs.List.{zip}
 use Rattle.dpl_spec_split.specs.declared.Spacing.{Spacing}
 use Rattle.dpl_spec_split.specs.declared.Pt.{Pt}
 use Rattle.dpl_spec_split.specs.declared.Rect.{Rect}
 use Rattle.dpl_spec_split.specs.Squares.{Covers}
 use Rattle.dpl_spec_split.specs.Marks.{Marks, letters_by}
-use Rattle.dpl_spec_split.specs.Decomposition.{Cut, IsCut, Masks, AreMasks, cut_graph}
+use Rattle.dpl_spec_split.specs.Decomposition.{Cut, IsCut, Masks, cut_graph}
+use Rattle.dpl_spec_fewer.specs.Masks.{AreMasksBy}
 use Rattle.dpl_spec_split.specs.Summary.{HasOddCycle}
 use Rattle.dpl_spec_split.specs.Cycle.{IsReported}
 use Rattle.dpl_spec_split.specs.Loops.{AreRectsWithin, farthest}
-use Rattle.dpl_law_verdict.specs.Own.{ShowNearest, head_of, piece_line, place_line, stitch_line}
+use Rattle.dpl_law_verdict.specs.Own.{AreGainsBy, ShowNearest, head_of, piece_line, place_line, stitch_line}
 use Rattle.dpl_cert.specs.declared.cert.Cert.TheVariants.{Masks as MasksText, Conflict as ConflictText}
 use Rattle.dpl_cert.specs.Grammar.{IsCert}
 use Rattle.dpl_cert.specs.declared.cert.Head.{Head}
+use Rattle.dpl_cert.specs.declared.cert.Gain.{Gain}
 use Rattle.dpl_cert.specs.declared.cert.PieceLine.{PieceLine}
 use Rattle.dpl_cert.specs.declared.cert.StitchLine.{StitchLine}
 use Rattle.dpl_cert.specs.declared.cert.PlaceLine.{PlaceLine}
@@ -27,6 +29,7 @@ pub record Painted : Type 0 where
   pub head : Head
   pub pieces : List PieceLine
   pub stitches : List StitchLine
+  pub gains : Option (List Gain)
 
 -- the lines of a certificate of an odd cycle
 pub record Clash : Type 0 where
@@ -53,11 +56,14 @@ abbrev pub place_by : Option Marks → List Pt → ℕ → PlaceLine
 place_by None keys = place_line keys
 place_by (Some m) keys = λ (k : ℕ). place_of keys (vertex_of k)
 
--- the masks of a cut whose graph, with anchors where marks are asked for, has no odd cycle
-pub record IsPaintedCut (marks : Option Marks) (spacing : Spacing) (overlap : ℕ) (cut : Cut) (p : Painted) : Type 0 where
+-- the masks of a cut whose graph, with anchors where marks are asked for, has no odd cycle; where fewer stitches are asked for, those with
+-- fewer, and the gains that are left
+pub record IsPaintedCut (fewer : Bool) (marks : Option Marks) (spacing : Spacing) (overlap : ℕ) (cut : Cut) (p : Painted) : Type 0 where
   pub masks : Masks
   pub even : ¬ HasOddCycle (cut_graph marks spacing cut)
-  pub are_masks : AreMasks marks spacing cut masks
+  pub are_masks : AreMasksBy fewer marks spacing cut masks
+  pub gains : Option (List Gain)
+  pub are_gains : AreGainsBy fewer marks spacing cut (letters_by marks are_masks.colours) gains
   pub is : p ≡ record {
     a = masks.a;
     b = masks.b;
@@ -65,6 +71,7 @@ pub record IsPaintedCut (marks : Option Marks) (spacing : Spacing) (overlap : �
     pieces = map piece_line
         (zip (letters_by marks are_masks.colours) cut.keys);
     stitches = map (stitch_line cut.zones cut.sides) masks.stitches;
+    gains = gains;
   }
 
 -- the reported cycle of a cut whose graph, with anchors where marks are asked for, has an odd one
@@ -76,13 +83,13 @@ pub record IsClashOfCut (marks : Option Marks) (spacing : Spacing) (overlap : �
   pub head : x.head ≡ head_of spacing overlap cut
   pub places : x.cycle ≡ map (place_by marks cut.keys) cycle
 
-abbrev pub IsFlatCut : Option Marks → Spacing → ℕ → Cut → Flat → Type 0
-IsFlatCut marks spacing overlap cut (Paints p) = IsPaintedCut marks spacing overlap cut p
-IsFlatCut marks spacing overlap cut (Clashes x) = IsClashOfCut marks spacing overlap cut x
+abbrev pub IsFlatCut : Bool → Option Marks → Spacing → ℕ → Cut → Flat → Type 0
+IsFlatCut fewer marks spacing overlap cut (Paints p) = IsPaintedCut fewer marks spacing overlap cut p
+IsFlatCut fewer marks spacing overlap cut (Clashes x) = IsClashOfCut marks spacing overlap cut x
 
 -- the decomposition of a layer, by its features, zones and pieces
-abbrev pub IsFlat : Option Marks → Spacing → ℕ → List Rect → Flat → Type 0
-IsFlat marks spacing overlap layer flat = (cut : Cut) × IsCut marks spacing overlap (Covers layer) cut × IsFlatCut marks spacing overlap cut flat
+abbrev pub IsFlat : Bool → Option Marks → Spacing → ℕ → List Rect → Flat → Type 0
+IsFlat fewer marks spacing overlap layer flat = (cut : Cut) × IsCut marks spacing overlap (Covers layer) cut × IsFlatCut fewer marks spacing overlap cut flat
 
 -- masks whose slabs lie within the range of a layer
 abbrev pub ArePaintedWithin : Painted → Type 0
@@ -96,7 +103,7 @@ IsWithin (Clashes x) = Unit {0}
 pub record FitsPainted (p : Painted) : Type 0 where
   pub a : AreRectsWithin farthest p.a
   pub b : AreRectsWithin farthest p.b
-  pub cert : IsCert (MasksText p.head p.pieces p.stitches None)
+  pub cert : IsCert (MasksText p.head p.pieces p.stitches p.gains)
 
 abbrev pub FitsClash : Clash → Type 0
 FitsClash x = IsCert (ConflictText x.head x.cycle x.near)

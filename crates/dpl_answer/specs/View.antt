@@ -20,7 +20,7 @@ use Rattle.dpl_answer.specs.declared.decomposed.Decomposed.{Decomposed}
 use Rattle.dpl_answer.specs.declared.decomposed.Decomposed.TheVariants.{Masks, Cycle}
 
 abbrev pub painted_view : Painted → PaintedAs
-painted_view p = record { a = p.a; b = p.b; head = p.head; pieces = p.pieces; stitches = p.stitches }
+painted_view p = record { a = p.a; b = p.b; head = p.head; pieces = p.pieces; stitches = p.stitches; gains = p.gains }
 
 abbrev pub clash_view : Clash → ClashAs
 clash_view x = record { head = x.head; cycle = x.cycle; near = x.near }

@@ -19,6 +19,7 @@ use crate::colours::{piece_colours, vertex_count};
 use crate::conflicts::Conflicts;
 use crate::cycle::cycle_lines;
 use crate::decomposed::{Clash, Decomposed, Painted};
+use crate::gains::gains_by;
 use crate::lines::{head, piece_lines, stitch_lines};
 use crate::marks::MarkSets;
 use dpl_base::{Edge, Listed, Spacing};
@@ -28,7 +29,7 @@ use dpl_odd::odd_cycle;
 use dpl_stars::Joined;
 use std::alloc::{AllocError, Global};
 
-/// The masks of a cut layer whose conflict graph has no odd cycle, or the cycle that is reported of one: `spacing` is how far apart features are on one mask, `overlap` how long a stitch is, in database units. The conflicts are those with the same `marks`, if any are given; a cycle may then have anchors.
+/// The masks of a cut layer whose conflict graph has no odd cycle, or the cycle that is reported of one: `spacing` is how far apart features are on one mask, `overlap` how long a stitch is, in database units. The conflicts are those with the same `marks`, if any are given; a cycle may then have anchors. With `fewer` single components are flipped again and again, as long as that leaves fewer stitches, and the masks come with the gains that are left.
 ///
 /// The error: out of memory.
 pub fn answer_of(
@@ -38,13 +39,14 @@ pub fn answer_of(
     marks: Option<&MarkSets>,
     spacing: Spacing,
     overlap: u32,
+    fewer: bool,
 ) -> Result<Decomposed, AllocError>
     requires corner { spacing.corner ≤ spacing.rule }
     requires rule { IsRule spacing.rule }
     requires overlap { IsRule overlap }
     requires keys { HasPointKeys cut }
     requires conflicts { AreConflictsOf (marks_in (option_copied marks)) spacing cut.pieces.parts cut.pieces.owners conflicts.now }
-    ensures flat { IfOk result (λ d. OfCompleted cut (λ c. IsFlatCut (marks_in (option_copied marks.entry)) spacing overlap c (flat_view d))) }
+    ensures flat { IfOk result (λ d. OfCompleted cut (λ c. IsFlatCut fewer (marks_in (option_copied marks.entry)) spacing overlap c (flat_view d))) }
     ensures within { IfOk result (λ d. IsWithin (flat_view d)) }
     // No certificate has a corner rule of 0.
     ensures fits { 1 ≤ spacing.corner → IfOk result (λ d. Fits (flat_view d)) }
@@ -52,7 +54,7 @@ pub fn answer_of(
     let cut = cut.completed(alloc)?;
     match conflicts {
         Conflicts::Even(joined) => {
-            let painted = paint(alloc, cut, joined, marks, spacing, overlap)?;
+            let painted = paint(alloc, cut, joined, marks, spacing, overlap, fewer)?;
             Ok(Decomposed::Masks(painted))
         }
         Conflicts::Odd(edges) => {
@@ -70,6 +72,7 @@ fn paint(
     marks: Option<&MarkSets>,
     spacing: Spacing,
     overlap: u32,
+    fewer: bool,
 ) -> Result<Painted, AllocError>
     requires corner { spacing.corner ≤ spacing.rule }
     requires rule { IsRule spacing.rule }
@@ -77,7 +80,7 @@ fn paint(
     requires keys { (p : Pt) → Contains cut.pieces.keys p → IsPoint p }
     requires sums { SumsGraph (graph (marks_in (option_copied marks)) spacing cut.pieces.parts cut.pieces.owners) joined.now }
     requires even { IsEvenBelow (vertex (marks_in (option_copied marks)) (length cut.pieces.parts)) joined.now }
-    ensures painted { IfOk result (λ p. OfAnyCut cut (λ c. IsPaintedCut (marks_in (option_copied marks.entry)) spacing overlap c (painted_view p))) }
+    ensures painted { IfOk result (λ p. OfAnyCut cut (λ c. IsPaintedCut fewer (marks_in (option_copied marks.entry)) spacing overlap c (painted_view p))) }
     ensures within { IfOk result (λ p. ArePaintedWithin (painted_view p)) }
     // No certificate has a corner rule of 0.
     ensures fits { 1 ≤ spacing.corner → IfOk result (λ p. FitsPainted (painted_view p)) }
@@ -85,7 +88,16 @@ fn paint(
     let head = head(&cut, spacing, overlap);
     let LayerCut { pieces, .. } = cut;
     let count = pieces.parts().items().len() as u64;
-    let colours = piece_colours(alloc, count, pieces.sides(), joined, marks)?;
+    let colours = piece_colours(alloc, count, pieces.sides(), joined, marks, fewer)?;
+    let gains = gains_by(
+        alloc,
+        &pieces,
+        colours.items(),
+        joined,
+        marks,
+        spacing,
+        fewer,
+    )?;
     let lines = piece_lines(alloc, colours.items(), &pieces)?;
     let numbers = stitches(alloc, pieces.sides(), colours.items())?;
     let stitches = stitch_lines(alloc, pieces.zones(), pieces.sides(), &numbers)?;
@@ -97,6 +109,7 @@ fn paint(
         head,
         pieces: Listed::of(lines),
         stitches: Listed::of(stitches),
+        gains,
     })
 }
 

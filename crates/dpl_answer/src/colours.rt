@@ -1,15 +1,15 @@
 //! The colours of pieces, from those of vertices.
-ghost use Rattle.std.specs.Prelude.{◌≡◌, ◌+◌, IfOk};
+ghost use Rattle.std.specs.Prelude.{◌≡◌, ◌+◌, IfOk, length};
 ghost use Rattle.std.specs.Option.{option_copied};
 ghost use Rattle.dpl_spec_split.specs.Marks.{vertex};
 ghost use Rattle.dpl_orient.specs.Oriented.{IsEvenBelow};
 ghost use Rattle.dpl_orient.specs.Rooted.{AreSidesBelow};
-ghost use Rattle.dpl_answer.specs.Anchors.{AreAnchoredLetters, AreLettersOf, marks_in};
+ghost use Rattle.dpl_answer.specs.Anchors.{AreAnchoredLetters, AreLettersOf, ColoursBy, marks_in};
 
 use crate::marks::MarkSets;
 use dpl_base::Id;
 use dpl_edges::shifted;
-use dpl_orient::{Colours, orient};
+use dpl_orient::{Colours, fewer, orient};
 use dpl_stars::Joined;
 use std::alloc::{AllocError, Global};
 
@@ -25,7 +25,7 @@ pub(crate) fn vertex_count(count: Id, marks: Option<&MarkSets>) -> Result<Id, Al
     }
 }
 
-/// The masks of so many pieces, where `joined` sums up the graph, with anchors where marks are asked for, and `sides` has the pieces on both sides of each stitch zone.
+/// The masks of so many pieces, where `joined` sums up the graph, with anchors where marks are asked for, and `sides` has the pieces on both sides of each stitch zone. With `reduce` those with fewer stitches; the anchors' component isn't flipped for that.
 ///
 /// The error: out of memory.
 pub(crate) fn piece_colours(
@@ -34,15 +34,37 @@ pub(crate) fn piece_colours(
     sides: &[(Id, Id)],
     joined: &Joined,
     marks: Option<&MarkSets>,
+    reduce: bool,
 ) -> Result<Colours, AllocError>
     requires even { IsEvenBelow (vertex (marks_in (option_copied marks)) count) joined.now }
     requires sides { AreSidesBelow count sides.now }
-    ensures { IfOk result (AreLettersOf (marks_in (option_copied marks.entry)) joined.now count sides.now) }
+    ensures { IfOk result (AreLettersOf reduce (marks_in (option_copied marks.entry)) joined.now count sides.now) }
 {
     match marks {
-        None => orient(alloc, count, sides, joined),
-        Some(_) => anchored_colours(alloc, count, sides, joined),
+        None => vertex_colours(alloc, count, sides, joined, None, reduce),
+        Some(_) => anchored_colours(alloc, count, sides, joined, reduce),
     }
+}
+
+/// The masks of so many vertices. With `reduce` what they lead to where single components are flipped, but that of `fixed`.
+fn vertex_colours(
+    alloc: Global,
+    n: Id,
+    sides: &[(Id, Id)],
+    joined: &Joined,
+    fixed: Option<Id>,
+    reduce: bool,
+) -> Result<Colours, AllocError>
+    requires even { IsEvenBelow n joined.now }
+    requires sides { AreSidesBelow n sides.now }
+    ensures colours { IfOk result (λ colours. ColoursBy reduce fixed joined.now n sides.now colours) }
+    ensures each { IfOk result (λ colours. length colours ≡ n) }
+{
+    let first = orient(alloc, n, sides, joined)?;
+    if reduce {
+        return fewer(alloc, n, sides, joined, &first, fixed);
+    }
+    Ok(first)
 }
 
 /// The same, where marks are asked for.
@@ -51,16 +73,17 @@ fn anchored_colours(
     count: Id,
     sides: &[(Id, Id)],
     joined: &Joined,
+    reduce: bool,
 ) -> Result<Colours, AllocError>
     requires even { IsEvenBelow (count + 2) joined.now }
     requires sides { AreSidesBelow count sides.now }
-    ensures { IfOk result (λ letters. AreAnchoredLetters joined.now count sides.now letters) }
+    ensures { IfOk result (λ letters. AreAnchoredLetters reduce joined.now count sides.now letters) }
 {
     let Some(vertices) = count.checked_add(2) else {
         return Err(AllocError);
     };
     let moved = shifted(alloc, sides)?;
-    let colours = orient(alloc, vertices, &moved, joined)?;
+    let colours = vertex_colours(alloc, vertices, &moved, joined, Some(0), reduce)?;
     drop(moved);
     let masks = colours.items();
     let mut letters = Vec::with_capacity(alloc, masks.len())?;

@@ -1,10 +1,10 @@
 //! The conflicts of the pieces of a layer.
-ghost use Rattle.std.specs.Prelude.{◌≤◌, ◌≡◌, ℕ, IfOk, IsTrue, length};
+ghost use Rattle.std.specs.Prelude.{◌≤◌, ◌≡◌, ℕ, IfOk, IsTrue, Option, length};
 ghost use Rattle.dpl_spec_split.specs.Graphs.{AreEdges, graph_of};
 ghost use Rattle.dpl_spec_split.specs.Summary.{HasOddCycle};
 ghost use Rattle.dpl_spec_split.specs.Pieces.{Conflict};
 ghost use Rattle.std.specs.Option.{option_copied, option_map};
-ghost use Rattle.dpl_spec_split.specs.Marks.{graph, vertex};
+ghost use Rattle.dpl_spec_split.specs.Marks.{Marks, graph, vertex};
 ghost use Rattle.dpl_stars.specs.Levels.{AreEdgesBelow};
 ghost use Rattle.dpl_stars.specs.Sums.{AreEdgePairs};
 ghost use Rattle.dpl_tile.specs.Plans.{IsPlan};
@@ -12,6 +12,7 @@ ghost use Rattle.dpl_tile.specs.Tiles.{IsDoubled};
 ghost use Rattle.dpl_cert.specs.Grammar.{IsRule};
 ghost use Rattle.dpl_answer.specs.Flat.{AreWorkers, IsTile};
 ghost use Rattle.dpl_answer.specs.Anchors.{AreMarkEdges, marks_in};
+ghost use Rattle.dpl_answer.specs.Conflicts.{SumsGraph};
 ghost use Rattle.dpl_answer.specs.View.{AreAmong, AreConflictsOf};
 
 use crate::job::{EdgeJob, joined_conflicts};
@@ -78,6 +79,19 @@ pub fn conflicts_of<R: Threads + Wait + Sync, G: Gate + Sync>(
     }
     let job = tiles_of(alloc, &cut.pieces, marks, spacing, sharing.tile)?;
     let joined = joined_conflicts(rt, alloc, sharing.workers, &job, gate)?;
+    conflicts_by(alloc, &job, joined)
+}
+
+/// The conflicts of the pieces of a job, by the summary of all its edges.
+pub(crate) fn conflicts_by(
+    alloc: Global,
+    job: &EdgeJob<'_>,
+    joined: Joined,
+) -> Result<Conflicts, AllocError>
+    ensures { (marks : Option Marks) → AreMarkEdges marks job.now.plan.parts job.now.marked
+        → SumsGraph (graph marks job.now.plan.spacing job.now.plan.parts job.now.plan.owners) joined
+        → IfOk result (AreConflictsOf marks job.now.plan.spacing job.now.plan.parts job.now.plan.owners) }
+{
     match &joined {
         Joined::Stars(_) => Ok(Conflicts::Even(joined)),
         Joined::Odd => {
@@ -89,7 +103,7 @@ pub fn conflicts_of<R: Threads + Wait + Sync, G: Gate + Sync>(
 }
 
 /// Whether a square with sides of the rule has many slabs, on average over the rectangle round all of them: then several tiles would tell most of their conflicts.
-fn are_dense(parts: &[Slabs], rule: u32) -> bool {
+pub(crate) fn are_dense(parts: &[Slabs], rule: u32) -> bool {
     let mut around = None;
     let mut count: u64 = 0;
     for part in parts {
@@ -161,7 +175,7 @@ fn conflicts_among(alloc: Global, edges: Vec<Edge>) -> Result<Conflicts, AllocEr
 }
 
 /// The conflicts of the pieces of a dense layer.
-fn dense_conflicts(
+pub(crate) fn dense_conflicts(
     alloc: Global,
     pieces: &BarePieces,
     marks: Option<&MarkSets>,
@@ -175,7 +189,7 @@ fn dense_conflicts(
 }
 
 /// The tiles of the pieces, whose side is `tile`, doubled some number of times, and that of the marks.
-fn tiles_of<'a>(
+pub(crate) fn tiles_of<'a>(
     alloc: Global,
     pieces: &'a BarePieces,
     marks: Option<&MarkSets>,

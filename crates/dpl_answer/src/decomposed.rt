@@ -1,6 +1,6 @@
 //! What a layer is decomposed into.
 use dpl_base::Listed;
-use dpl_cert::{Head, NearLine, PieceLine, PlaceLine, StitchLine};
+use dpl_cert::{Gain, Head, NearLine, PieceLine, PlaceLine, StitchLine};
 use dpl_slabs::Slabs;
 
 /// Both masks, and what their certificate tells of them.
@@ -16,6 +16,8 @@ pub struct Painted {
     pub pieces: Listed<PieceLine>,
     /// The rectangle of each stitch, and the pieces on its two sides.
     pub stitches: Listed<StitchLine>,
+    /// The gains that are left of components, where fewer stitches are asked for.
+    pub gains: Option<Listed<Gain>>,
 }
 
 /// An odd cycle of conflicts, and what its certificate tells of it.

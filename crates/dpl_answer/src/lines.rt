@@ -65,7 +65,7 @@ pub(crate) fn piece_lines(
 }
 
 /// Whether a piece is on the second mask.
-fn is_b(mask: Mask) -> bool
+pub(crate) fn is_b(mask: Mask) -> bool
     ensures { result ≡ is_second mask }
 {
     match mask {

@@ -4,3 +4,4 @@ pub mod Marked
 pub mod Drawn
 pub mod LayerFaults
 pub mod View
+pub mod Many

@@ -1,6 +1,7 @@
 //! The layer of a layout.
 ghost use Rattle.std.specs.Prelude.{◌≡◌, ◌<◌, ◌≤◌, ℕ, IfErr, IfOk, List, Some, length};
 ghost use Rattle.dpl_spec_format.specs.Tree.{Library as LibraryOf};
+ghost use Rattle.dpl_spec_format.specs.Layout.{Holds};
 ghost use Rattle.dpl_spec_layout.specs.declared.Layer.{Layer as ChosenLayerOf};
 ghost use Rattle.dpl_flatten.specs.Drawing.{IsDrawingOf};
 ghost use Rattle.dpl_layer.specs.Marked.{AreSquaresBelow};
@@ -88,6 +89,19 @@ fn shapes_in(alloc: Global, choice: &LayerChoice, lib: &Library<'_>) -> Result<S
     };
     let drawing = draw(alloc, lib, top, chosen)?;
     Ok(Shapes { copied, drawing })
+}
+
+/// The squares of the layer of a library, or its first fault.
+pub(crate) fn layer_in(
+    alloc: Global,
+    choice: &LayerChoice,
+    lib: &Library<'_>,
+) -> Result<Layer, LayerFault>
+    ensures layer { (bytes : List ℕ) → Holds bytes lib.now → IfOk result (λ l. IsLayout (choice_view choice.now) bytes (layer_view l)) }
+    ensures fault { (bytes : List ℕ) → Holds bytes lib.now → IfErr result (IsLayerFault (choice_view choice.now) bytes) }
+{
+    let shapes = shapes_in(alloc, choice, lib)?;
+    swept(alloc, shapes)
 }
 
 /// The squares that shapes cover.

@@ -3,8 +3,10 @@
 
 mod fault;
 mod layer;
+mod many;
 mod marked;
 
 pub use fault::LayerFault;
 pub use layer::{Layer, LayerChoice, copied_records, layer_of, layer_within};
+pub use many::{ReadLayer, layers_of};
 pub use marked::{MarkedChoice, MarkedLayer, marked_layer_of};

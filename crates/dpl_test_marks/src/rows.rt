@@ -4,7 +4,7 @@ ghost use Rattle.dpl_spec_split.specs.Loops.{farthest};
 
 use dpl_answer::{Decomposed, MarkSets, Sharing, answer_of, conflicts_of};
 use dpl_base::{FARTHEST, Pt, Rect, Spacing};
-use dpl_cert::{NearLine, PlaceLine};
+use dpl_cert::{Gain, NearLine, PlaceLine};
 use dpl_cut::cut_of;
 use dpl_pool::OpenGate;
 use dpl_slabs::Slabs;
@@ -27,6 +27,9 @@ const APART: [Corners; 2] = [(0, 0, 100, 20), (0, 50, 100, 70)];
 const CLOSE: [Corners; 2] = [(0, 0, 100, 20), (0, 49, 100, 69)];
 
 const ONE: [Corners; 1] = [(0, 0, 100, 20)];
+
+/// A bar whose middle is a zone, and two that are close to its ends.
+const BEAM: [Corners; 3] = [(0, 0, 200, 20), (0, 40, 50, 60), (150, 40, 200, 60)];
 
 /// Whether the columns, or the rows, are some of a layer's.
 fn is_span(low: i32, high: i32) -> bool
@@ -56,13 +59,14 @@ fn set_of(alloc: Global, rects: &[Corners]) -> Result<Slabs, AllocError> {
     Ok(set)
 }
 
-/// The answer of a layer, some of whose squares are fixed to mask A or to mask B.
+/// The answer of a layer, some of whose squares are fixed to mask A or to mask B, plainly or with fewer stitches.
 fn answer_with<R: Threads + Wait + Sync>(
     rt: &R,
     alloc: Global,
     layer: Slabs,
     a: &[Corners],
     b: &[Corners],
+    fewer: bool,
 ) -> Result<Decomposed, AllocError> {
     let sets = MarkSets {
         a: set_of(alloc, a)?,
@@ -75,7 +79,7 @@ fn answer_with<R: Threads + Wait + Sync>(
         workers: 2,
     };
     let conflicts = conflicts_of(rt, alloc, &cut, Some(&sets), SPACING, sharing, &OpenGate)?;
-    answer_of(alloc, cut, &conflicts, Some(&sets), SPACING, 10)
+    answer_of(alloc, cut, &conflicts, Some(&sets), SPACING, 10, fewer)
 }
 
 /// Whether the answer is masks with these letters of the pieces, true for mask B.
@@ -89,12 +93,28 @@ fn has_letters(answer: &Decomposed, letters: &[bool]) -> bool {
     }
 }
 
+/// Whether the answer is masks with these gains.
+fn has_gains(answer: &Decomposed, gains: &[Gain]) -> bool {
+    match answer {
+        Decomposed::Masks(painted) => match &painted.gains {
+            Some(lines) => lines.items() == gains,
+            None => false,
+        },
+        Decomposed::Cycle(_) => false,
+    }
+}
+
 /// Whether the answer is a cycle with these places, and these lines between them.
 fn has_cycle(answer: &Decomposed, places: &[PlaceLine], near: &[NearLine]) -> bool {
     match answer {
         Decomposed::Masks(_) => false,
         Decomposed::Cycle(clash) => clash.cycle.items() == places && clash.near.items() == near,
     }
+}
+
+/// The gain of a component one of whose zones has equal letters on its sides.
+fn saved(piece: u64) -> Gain {
+    Gain { piece, d: 0, s: 1 }
 }
 
 fn at(x: i64, y: i64) -> Pt {
@@ -112,8 +132,31 @@ fn marks_fix_letters(rt: HostRuntime) -> Result<(), Fail> {
         (&[], &[(0, 0, 100, 70)], [true, true]),
     ];
     for (a, b, letters) in rows {
-        let answer = answer_with(&rt, alloc, set_of(alloc, &APART)?, a, b)?;
+        let answer = answer_with(&rt, alloc, set_of(alloc, &APART)?, a, b, false)?;
         assert!(rt; has_letters(&answer, &letters));
+    }
+    Ok(())
+}
+
+#[test]
+fn marked_components_have_no_gains(rt: HostRuntime) -> Result<(), Fail> {
+    let alloc = rt.alloc();
+    let both = [saved(0), saved(1)];
+    let second = [saved(1)];
+    let rows: [(&[Corners], &[Corners], [bool; 4], &[Gain]); 3] = [
+        (&[], &[], [false, false, true, true], &both),
+        (&[(0, 40, 1, 41)], &[], [true, true, false, false], &second),
+        (
+            &[(0, 40, 1, 41)],
+            &[(199, 59, 200, 60)],
+            [true, false, false, true],
+            &[],
+        ),
+    ];
+    for (a, b, letters, gains) in rows {
+        let answer = answer_with(&rt, alloc, set_of(alloc, &BEAM)?, a, b, true)?;
+        assert!(rt; has_letters(&answer, &letters));
+        assert!(rt; has_gains(&answer, gains));
     }
     Ok(())
 }
@@ -122,7 +165,7 @@ fn marks_fix_letters(rt: HostRuntime) -> Result<(), Fail> {
 fn near_pieces_of_one_mark_are_a_cycle_through_an_anchor(rt: HostRuntime) -> Result<(), Fail> {
     let alloc = rt.alloc();
     let marks = [(0, 0, 1, 1), (0, 49, 1, 50)];
-    let answer = answer_with(&rt, alloc, set_of(alloc, &CLOSE)?, &marks, &[])?;
+    let answer = answer_with(&rt, alloc, set_of(alloc, &CLOSE)?, &marks, &[], false)?;
     let places = [
         PlaceLine::Anchor { b: true },
         PlaceLine::Piece {
@@ -150,7 +193,7 @@ fn near_pieces_of_one_mark_are_a_cycle_through_an_anchor(rt: HostRuntime) -> Res
 fn a_square_of_both_marks_is_a_cycle(rt: HostRuntime) -> Result<(), Fail> {
     let alloc = rt.alloc();
     let both = [(4, 5, 6, 7)];
-    let answer = answer_with(&rt, alloc, set_of(alloc, &ONE)?, &both, &both)?;
+    let answer = answer_with(&rt, alloc, set_of(alloc, &ONE)?, &both, &both, false)?;
     let places = [
         PlaceLine::Anchor { b: false },
         PlaceLine::Anchor { b: true },
@@ -186,9 +229,9 @@ fn comb(alloc: Global) -> Result<Slabs, AllocError> {
 fn marks_of_a_dense_layer(rt: HostRuntime) -> Result<(), Fail> {
     let alloc = rt.alloc();
     let square = [(3, 0, 4, 1)];
-    let answer = answer_with(&rt, alloc, comb(alloc)?, &[], &square)?;
+    let answer = answer_with(&rt, alloc, comb(alloc)?, &[], &square, false)?;
     assert!(rt; has_letters(&answer, &[true]));
-    let answer = answer_with(&rt, alloc, comb(alloc)?, &square, &square)?;
+    let answer = answer_with(&rt, alloc, comb(alloc)?, &square, &square, false)?;
     assert!(rt; matches!(answer, Decomposed::Cycle(_)));
     Ok(())
 }

@@ -81,7 +81,7 @@ fn seams_of(
     requires conflicts { AreConflictsOf None spacing cut.pieces.parts cut.pieces.owners conflicts.now }
     ensures { IfOk result (λ seams. OfCompleted cut (λ c. AreSeams spacing c seams)) }
 {
-    let answer = answer_of(alloc, cut, conflicts, None, spacing, overlap)?;
+    let answer = answer_of(alloc, cut, conflicts, None, spacing, overlap, false)?;
     match answer {
         Decomposed::Masks(painted) => Ok(Seams::Stitches(painted.stitches)),
         Decomposed::Cycle(clash) => Ok(Seams::Conflict(clash.cycle.items().len() as u64)),

@@ -1,17 +1,17 @@
-use Rattle.std.proofs.Common.{◌≡◌, ◌∙◌, ◌<◌, ◌^◌, ap, subst, sym, arith, rules, List, Bool, length, map}
+use Rattle.std.proofs.Common.{◌≡◌, ◌∙◌, ◌<◌, ◌^◌, ap, subst, sym, arith, rules, List, [], Bool, length, map}
 use Rattle.std.specs.Option.{option_copied}
 use Rattle.std.specs.List.{AllByRecursion, zip}
 use Rattle.std.proofs.lemmas.List.{length-map}
 use Rattle.dpl_spec_split.specs.Colours.{AreStitches}
-use Rattle.dpl_spec_split.specs.Marks.{sides_by, vertex}
 use Rattle.dpl_orient.specs.Masks.{is_second}
 use Rattle.dpl_cert.specs.declared.cert.PieceLine.{PieceLine}
 use Rattle.dpl_cert.specs.declared.cert.StitchLine.{StitchLine}
 use Rattle.dpl_cert.specs.Grammar.{IsNumber, IsPiece, IsStitch}
-use Rattle.dpl_law_verdict.specs.Own.{piece_line}
+use Rattle.dpl_law_verdict.specs.Own.{AreGainsBy, piece_line}
+use Rattle.dpl_law_verdict.proofs.Rising.{gains-fit}
 use Rattle.dpl_cut.specs.Cutting.{cut_view}
 use Rattle.dpl_answer.specs.Anchors.{AreLettersOf, marks_in}
-use Rattle.dpl_answer.proofs.Deciding.{as_many, letters_as_many, lines_many, painted_from}
+use Rattle.dpl_answer.proofs.Deciding.{letters_as_many, lines_many, painted_from}
 use Rattle.dpl_answer.proofs.answer.paint.Goals as goal
 
 pub piece_lines-requires-clause-each : goal.piece_lines-requires-clause-each
@@ -20,13 +20,27 @@ piece_lines-requires-clause-each c =
     let marks = marks_in (option_copied c.args.marks) in
     let (edges, are, sums) = c.requires.sums in
     let colours = c.in_ok-colours.colours in
-    let letters : AreLettersOf marks c.args.joined.now (length pieces.parts) pieces.sides colours = rw (
+    let letters : AreLettersOf c.args.fewer marks c.args.joined.now (length pieces.parts) pieces.sides colours = rw (
+      c.sides.ensures.value,
+      c.items.ensures.value,
+      c.parts.ensures.value,
+    ) at c.in_ok-colours.ensures in
+    sym (length-map c.items-3.result.now is_second) ∙ (ap length c.items-3.ensures
+    ∙ letters_as_many c.args.fewer marks (length pieces.parts) edges c.args.joined.now pieces.sides colours sums letters)
+
+pub gains_by-requires-clause-each : goal.gains_by-requires-clause-each
+gains_by-requires-clause-each c =
+    let pieces = c.args.cut.pieces in
+    let marks = marks_in (option_copied c.args.marks) in
+    let (edges, are, sums) = c.requires.sums in
+    let colours = c.in_ok-colours.colours in
+    let letters : AreLettersOf c.args.fewer marks c.args.joined.now (length pieces.parts) pieces.sides colours = rw (
       c.sides.ensures.value,
       c.items.ensures.value,
       c.parts.ensures.value,
     ) at c.in_ok-colours.ensures in
     sym (length-map c.items-2.result.now is_second) ∙ (ap length c.items-2.ensures
-    ∙ letters_as_many marks (length pieces.parts) edges c.args.joined.now pieces.sides colours sums letters)
+    ∙ letters_as_many c.args.fewer marks (length pieces.parts) edges c.args.joined.now pieces.sides colours sums letters)
 
 pub masks-requires : goal.masks-requires
 masks-requires c =
@@ -34,12 +48,12 @@ masks-requires c =
     let marks = marks_in (option_copied c.args.marks) in
     let (edges, are, sums) = c.requires.sums in
     let colours = c.in_ok-colours.colours in
-    let letters : AreLettersOf marks c.args.joined.now (length pieces.parts) pieces.sides colours = rw (
+    let letters : AreLettersOf c.args.fewer marks c.args.joined.now (length pieces.parts) pieces.sides colours = rw (
       c.sides.ensures.value,
       c.items.ensures.value,
       c.parts.ensures.value,
     ) at c.in_ok-colours.ensures in
-    letters_as_many marks (length pieces.parts) edges c.args.joined.now pieces.sides colours sums letters
+    letters_as_many c.args.fewer marks (length pieces.parts) edges c.args.joined.now pieces.sides colours sums letters
 
 pub stitches-requires : goal.stitches-requires
 stitches-requires c =
@@ -47,13 +61,13 @@ stitches-requires c =
     let marks = marks_in (option_copied c.args.marks) in
     let (edges, are, sums) = c.requires.sums in
     let colours = c.in_ok-colours.colours in
-    let letters : AreLettersOf marks c.args.joined.now (length pieces.parts) pieces.sides colours = rw (
+    let letters : AreLettersOf c.args.fewer marks c.args.joined.now (length pieces.parts) pieces.sides colours = rw (
       c.sides.ensures.value,
       c.items.ensures.value,
       c.parts.ensures.value,
     ) at c.in_ok-colours.ensures in
-    let many : length colours ≡ length pieces.parts = letters_as_many marks (length pieces.parts) edges c.args.joined.now pieces.sides colours sums letters in
-    let long : length c.items-3.result.now ≡ length pieces.parts = sym (length-map c.items-3.result.now is_second) ∙ (ap length c.items-3.ensures ∙ many) in
+    let many : length colours ≡ length pieces.parts = letters_as_many c.args.fewer marks (length pieces.parts) edges c.args.joined.now pieces.sides colours sums letters in
+    let long : length c.items-4.result.now ≡ length pieces.parts = sym (length-map c.items-4.result.now is_second) ∙ (ap length c.items-4.ensures ∙ many) in
     rw (c.sides-2.ensures.value, long) c.sides.ensures.known
 
 pub stitch_lines-requires-clause-each : goal.stitch_lines-requires-clause-each
@@ -77,18 +91,20 @@ returns-clause-painted c = λ features many.
     let (edges, are, sums) = c.requires.sums in
     let colours = c.in_ok-colours.colours in
     let joined = c.args.joined.now in
-    let letters : AreLettersOf marks joined (length pieces.parts) pieces.sides colours = rw (
+    let letters : AreLettersOf c.args.fewer marks joined (length pieces.parts) pieces.sides colours = rw (
       c.sides.ensures.value,
       c.items.ensures.value,
       c.parts.ensures.value,
     ) at c.in_ok-colours.ensures in
     let (all, graph, is) = letters in
-    let lines = c.of.ensures ∙ (c.in_ok-lines.ensures.lines ∙ ap (λ (cs : List Bool). map piece_line (zip cs pieces.keys)) c.items-2.ensures) in
-    let differing : AreStitches pieces.sides colours c.in_ok-numbers.numbers.items = rw (c.sides-2.ensures.value, c.items-3.ensures) at c.in_ok-numbers.ensures in
+    let lines = c.of.ensures ∙ (c.in_ok-lines.ensures.lines ∙ ap (λ (cs : List Bool). map piece_line (zip cs pieces.keys)) c.items-3.ensures) in
+    let differing : AreStitches pieces.sides colours c.in_ok-numbers.numbers.items = rw (c.sides-2.ensures.value, c.items-4.ensures) at c.in_ok-numbers.ensures in
     let stitches = c.of-2.ensures ∙ rw (c.zones.ensures.value, c.sides-3.ensures.value, c.deref.ensures.value) at c.in_ok-stitches.ensures.lines in
-    painted_from marks c.args.spacing c.args.overlap (cut_view features pieces) edges joined all colours c.in_ok-masks.masks.a c.in_ok-masks.masks.b
-    c.in_ok-numbers.numbers.items c.head-head.result c.of.result c.of-2.result
-    are sums c.requires.even graph is c.in_ok-masks.ensures.masks.first c.in_ok-masks.ensures.masks.second differing (c.head-head.ensures.value features many) lines stitches
+    let gains = c.in_ok-gains.gains in
+    let told = subst (λ (ls : List Bool). AreGainsBy c.args.fewer marks c.args.spacing (cut_view features pieces) ls gains) c.items-2.ensures (c.in_ok-gains.ensures features) in
+    painted_from c.args.fewer marks c.args.spacing c.args.overlap (cut_view features pieces) edges joined all colours c.in_ok-masks.masks.a c.in_ok-masks.masks.b
+    c.in_ok-numbers.numbers.items c.head-head.result c.of.result c.of-2.result gains
+    are sums c.requires.even graph is c.in_ok-masks.ensures.masks.first c.in_ok-masks.ensures.masks.second differing (c.head-head.ensures.value features many) lines stitches told
 
 pub returns-clause-fits : goal.returns-clause-fits
 returns-clause-fits c = λ some.
@@ -96,14 +112,20 @@ returns-clause-fits c = λ some.
     let marks = marks_in (option_copied c.args.marks) in
     let (edges, are, sums) = c.requires.sums in
     let colours = c.in_ok-colours.colours in
-    let letters : AreLettersOf marks c.args.joined.now (length pieces.parts) pieces.sides colours = rw (
+    let letters : AreLettersOf c.args.fewer marks c.args.joined.now (length pieces.parts) pieces.sides colours = rw (
       c.sides.ensures.value,
       c.items.ensures.value,
       c.parts.ensures.value,
     ) at c.in_ok-colours.ensures in
-    let lines = c.of.ensures ∙ (c.in_ok-lines.ensures.lines ∙ ap (λ (cs : List Bool). map piece_line (zip cs pieces.keys)) c.items-2.ensures) in
-    let many = lines_many (length pieces.parts) colours pieces.keys c.of.result (letters_as_many marks (length pieces.parts) edges c.args.joined.now pieces.sides colours sums letters) c.parts.ensures.keys lines in
+    let lines = c.of.ensures ∙ (c.in_ok-lines.ensures.lines ∙ ap (λ (cs : List Bool). map piece_line (zip cs pieces.keys)) c.items-3.ensures) in
+    let many = lines_many (length pieces.parts) colours pieces.keys c.of.result (letters_as_many c.args.fewer marks (length pieces.parts) edges c.args.joined.now pieces.sides colours sums letters) c.parts.ensures.keys lines in
     let few : length c.in_ok-stitches.stitches.items < 2 ^ 64 = search rules in
+    let few_items : length c.items.result.now < 2 ^ 64 = search rules in
+    let few_pieces : length pieces.parts < 2 ^ 64 = omega (arith, few_items, ap length (c.items.ensures.value ∙ c.parts.ensures.value)) in
+    let few_slice : length c.sides-3.result.now < 2 ^ 64 = search rules in
+    let few_sides : length pieces.sides < 2 ^ 64 = omega (arith, few_slice, ap length c.sides-3.ensures.value) in
+    let gains = c.in_ok-gains.gains in
+    let told = subst (λ (ls : List Bool). AreGainsBy c.args.fewer marks c.args.spacing (cut_view [] pieces) ls gains) c.items-2.ensures (c.in_ok-gains.ensures []) in
     record {
       a = c.in_ok-masks.ensures.within.0;
       b = c.in_ok-masks.ensures.within.1;
@@ -113,7 +135,7 @@ returns-clause-fits c = λ some.
         subst (λ (ls : List PieceLine). AllByRecursion IsPiece ls) (sym c.of.ensures) c.in_ok-lines.ensures.within,
         subst (λ (ls : List StitchLine). IsNumber (length ls)) (sym c.of-2.ensures) few,
         subst (λ (ls : List StitchLine). AllByRecursion IsStitch ls) (sym c.of-2.ensures) c.in_ok-stitches.ensures.within,
-        tt,
+        gains-fit c.args.fewer marks c.args.spacing (cut_view [] pieces) colours gains few_pieces few_sides told,
       );
     }
 

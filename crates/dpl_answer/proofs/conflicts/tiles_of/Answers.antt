@@ -1,8 +1,7 @@
 use Rattle.std.proofs.Common.{List, ℕ, sym, subst}
 use Rattle.std.specs.Option.{option_copied}
-use Rattle.std.specs.Prelude.{Option, option_map}
+use Rattle.std.specs.Prelude.{Option}
 use Rattle.std.proofs.lemmas.Result.{IfOk-weaker}
-use Rattle.dpl_spec_split.specs.declared.Rect.{Rect}
 use Rattle.dpl_tile.specs.Plans.{IsPlan, Planned}
 use Rattle.dpl_answer.specs.Anchors.{AreMarkEdges, marks_in}
 use Rattle.dpl_answer.proofs.conflicts.tiles_of.Goals as goal

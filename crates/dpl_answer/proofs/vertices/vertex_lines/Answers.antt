@@ -1,4 +1,4 @@
-use Rattle.std.proofs.Common.{◌<◌, ◌∙◌, ◌++◌, ◌∷◌, [], ℕ, length, arith, get_or, ap}
+use Rattle.std.proofs.Common.{◌<◌, ◌∙◌, ◌++◌, ◌∷◌, [], ℕ, length, arith, ap}
 use Rattle.std.proofs.lemmas.List.Elements.{Contains-get_or}
 use Rattle.dpl_cert.specs.Grammar.{IsPlace}
 use Rattle.dpl_cert.specs.declared.cert.PlaceLine.{PlaceLine}

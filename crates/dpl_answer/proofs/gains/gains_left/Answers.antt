@@ -1,0 +1,20 @@
+use Rattle.std.proofs.Common.{◌∙◌, List, Bool, length, map, ap, sym, subst}
+use Rattle.std.proofs.lemmas.List.{length-map}
+use Rattle.std.specs.Option.{option_copied}
+use Rattle.dpl_spec_verdict.specs.Gains.{AreGainsOf}
+use Rattle.dpl_cert.specs.declared.cert.Gain.{Gain}
+use Rattle.dpl_orient.specs.Masks.{is_second}
+use Rattle.dpl_cut.specs.Cutting.{cut_view}
+use Rattle.dpl_answer.specs.Anchors.{marks_in}
+use Rattle.dpl_answer.proofs.gains.gains_left.Goals as goal
+
+pub gains_among-requires-clause-each : goal.gains_among-requires-clause-each
+gains_among-requires-clause-each c = ap length (c.deref.ensures.value ∙ c.in_ok-letters.ensures) ∙ (length-map c.args.masks.now is_second ∙ c.requires.each)
+
+pub returns : goal.returns
+returns c = λ features.
+    let marks = marks_in (option_copied c.args.marks) in
+    let cut = cut_view features c.args.pieces.now in
+    let found = c.in_ok-gains.ensures features in
+    let lettered = subst (λ (ls : List Bool). AreGainsOf marks c.args.spacing cut ls c.in_ok-gains.gains.items) (c.deref.ensures.value ∙ c.in_ok-letters.ensures) found in
+    subst (λ (gs : List Gain). AreGainsOf marks c.args.spacing cut (map is_second c.args.masks.now) gs) (sym c.of.ensures) lettered

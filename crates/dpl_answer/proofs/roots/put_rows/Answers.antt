@@ -1,0 +1,14 @@
+use Rattle.std.proofs.Common.{false, length, get_or}
+use Rattle.std.proofs.lemmas.List.{get_or_default}
+use Rattle.dpl_stars.specs.declared.list.Star.{Star}
+use Rattle.dpl_answer.proofs.Components.{rooted-more}
+use Rattle.dpl_answer.proofs.roots.put_rows.Goals as goal
+
+pub loop-row-preserved : goal.loop-row-preserved
+loop-row-preserved c =
+    let rows = c.args.rows.now in
+    let i = c.loop-row.row-index in
+    let none : Star = record { piece = 0; root = 0; odd = false } in
+    let row : Star = get_or rows i none in
+    rooted-more rows i (length c.args.roots.now) c.loop-row.roots row c.loop-row-test.true (get_or_default rows i none row c.loop-row-test.true) c.loop-row.invariant
+    (c.requires.below i none c.loop-row-test.true)
