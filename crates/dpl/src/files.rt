@@ -199,10 +199,27 @@ impl<'a> Host for FileHost<'a> {
     }
 }
 
-/// The word that is a file's name. It is lent, so it takes no memory where memory has run out.
+/// The word that is a file's name, or else one behind which the name goes on with a dot, as behind the prefix of a batch. It is lent, so it takes no memory where memory has run out.
 fn word_of<'a>(words: &'a [&'a str], name: &str) -> &'a str {
-    let word = words.iter().find(|word| **word == name);
-    word.copied().unwrap_or("a file")
+    for word in words {
+        if *word == name {
+            return word;
+        }
+    }
+    for word in words {
+        if is_prefix(word, name) {
+            return word;
+        }
+    }
+    "a file"
+}
+
+/// Whether the name goes on behind the word with a dot.
+fn is_prefix(word: &str, name: &str) -> bool {
+    match name.strip_prefix(word) {
+        Some(rest) => rest.starts_with('.'),
+        None => false,
+    }
 }
 
 /// Reads bytes of a file from a place on. The file is opened, unless it is the one that is open already.

@@ -33,7 +33,13 @@ fn a_real_file_is_written_and_read_back(rt: HostRuntime) -> Result<(), Fail> {
 #[test]
 fn a_failed_call_is_told(rt: HostRuntime) -> Result<(), Fail> {
     let alloc = rt.alloc();
-    let words = ["dpl-not-there", "dpl-no-folder/out", "/dev/full", "."];
+    let words = [
+        "dpl-not-there",
+        "dpl-no-folder/out",
+        "/dev/full",
+        "dpl-no-folder/p",
+        ".",
+    ];
     let mut host = FileHost::new(&rt, &words);
     assert!(rt; host.fault().is_none());
     let reads = [
@@ -51,6 +57,10 @@ fn a_failed_call_is_told(rt: HostRuntime) -> Result<(), Fail> {
             "dpl-no-folder/out: No such file or directory",
         ),
         ("/dev/full", "/dev/full: No space left on device"),
+        (
+            "dpl-no-folder/p.8.gds",
+            "dpl-no-folder/p: No such file or directory",
+        ),
         (".", ".: Is a directory"),
     ];
     for (name, told) in writes {

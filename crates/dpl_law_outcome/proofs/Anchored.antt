@@ -1,11 +1,10 @@
 -- A reported cycle of the graph with anchors, and what joins its places, is a valid conflict, and its lines are a certificate.
-use Rattle.std.proofs.Common.{◌≡◌, ◌≢◌, ℕ, zero, suc, ◌+◌, ◌/◌, ◌%◌, ◌^◌, ◌<◌, inl, inr, Bool, true, false, List, [], length, map, get_or, sym, refl, ap, ◌∙◌, subst, arith}
+use Rattle.std.proofs.Common.{◌≡◌, ◌≢◌, ℕ, zero, suc, ◌+◌, ◌/◌, ◌%◌, ◌<◌, inl, inr, Bool, true, false, List, [], length, map, get_or, sym, refl, ap, ◌∙◌, subst, arith}
 use Rattle.std.specs.Prelude.{Some, pos, slice_index}
 use Rattle.std.specs.List.{Contains}
 use Rattle.std.proofs.lemmas.List.{get_or_default, get_or-map, length-map}
 use Rattle.std.proofs.lemmas.Slice.Zip.{AllZip-long}
 use Rattle.dpl_spec_split.specs.declared.Spacing.{Spacing}
-use Rattle.dpl_spec_split.specs.declared.Pt.{Pt}
 use Rattle.dpl_spec_split.specs.declared.Rect.{Rect}
 use Rattle.dpl_spec_split.specs.Squares.{Covers, IsLeast}
 use Rattle.dpl_spec_split.specs.Loops.{AreRectsWithin, farthest}
@@ -20,7 +19,7 @@ use Rattle.dpl_stars.proofs.Forks.{reported-odd}
 use Rattle.dpl_law_split.proofs.Apart.{graph-undirected}
 use Rattle.dpl_law_split.proofs.Parts.{zip-at}
 use Rattle.dpl_cert.specs.declared.cert.PlaceLine.{PlaceLine}
-use Rattle.dpl_cert.specs.declared.cert.PlaceLine.TheVariants.{Piece as PieceLine, Anchor as AnchorLine}
+use Rattle.dpl_cert.specs.declared.cert.PlaceLine.TheVariants.{Piece as PieceLine}
 use Rattle.dpl_cert.specs.declared.cert.NearLine.{NearLine}
 use Rattle.dpl_cert.specs.declared.cert.NearLine.TheVariants.{Pair, Mark, Anchors}
 use Rattle.dpl_cert.specs.declared.cert.Cert.TheVariants.{Conflict as ConflictText}
@@ -29,10 +28,10 @@ use Rattle.dpl_spec_verdict.specs.declared.Verdict.TheVariants.{Valid}
 use Rattle.dpl_spec_verdict.specs.Order.{HasBad}
 use Rattle.dpl_spec_verdict.specs.Conflicts.{AreJoined, AreSame, IsBadPlace, IsGoodPlace, IsNamed, ShowsMark, VerdictOfClaim, place_at}
 use Rattle.dpl_answer.specs.Anchors.{AreLinksOf, ShowsLink, ShowsSquare, place_of, set_against, vertex_of}
-use Rattle.dpl_law_verdict.specs.Own.{head_of, place_line}
+use Rattle.dpl_law_verdict.specs.Own.{head_of}
 use Rattle.dpl_law_verdict.specs.Written.{IsCorner}
 use Rattle.dpl_law_verdict.proofs.Counting.{few-numbers}
-use Rattle.dpl_law_verdict.proofs.Written.{all-index, all-map, bounded-pieces, head-fits, many-keys, piece-inside, point-of}
+use Rattle.dpl_law_verdict.proofs.Written.{all-index, all-map, bounded-pieces, head-fits, piece-inside, point-of}
 
 -- ---- vertices
 

@@ -1,23 +1,20 @@
 -- A layer has one decomposition, with one text of its certificate.
-use Rattle.std.proofs.Common.{◌≡◌, ℕ, ◌+◌, ◌%◌, Bool, List, length, map, get_or, sym, ap, ◌∙◌, subst, arith}
+use Rattle.std.proofs.Common.{◌≡◌, ℕ, ◌+◌, ◌%◌, Bool, List, length, map, get_or, refl, sym, ap, ◌∙◌, subst, arith}
 use Rattle.std.specs.List.{zip}
 use Rattle.std.proofs.lemmas.List.{same_lists}
 use Rattle.dpl_spec_split.specs.declared.Spacing.{Spacing}
-use Rattle.dpl_spec_split.specs.declared.Pt.{Pt}
 use Rattle.dpl_spec_split.specs.declared.Rect.{Rect}
 use Rattle.dpl_spec_split.specs.Squares.{Region, Covers, IsLeast}
 use Rattle.dpl_spec_split.specs.Zones.{part_at}
-use Rattle.dpl_spec_split.specs.Colours.{AreColours}
-use Rattle.dpl_spec_split.specs.Decomposition.{Cut, Masks, AreMasks, Done, cut_graph}
-use Rattle.dpl_spec_split.specs.Marks.{Marks, letters_by, sides_by, vertex}
-use Rattle.dpl_spec_split.proofs.Uniqueness.{roots-unique}
-use Rattle.dpl_spec_split.proofs.ColourLaws.{colours-unique}
+use Rattle.dpl_spec_split.specs.Decomposition.{Cut, Masks, cut_graph}
+use Rattle.dpl_spec_split.specs.Marks.{Marks, letters_by}
+use Rattle.dpl_spec_fewer.proofs.Painting.{masks-one}
 use Rattle.dpl_spec_split.proofs.CycleLaws.{cycle-unique}
-use Rattle.dpl_spec_split.proofs.WholeLaws.{answer-unique}
 use Rattle.dpl_spec_split.proofs.SquareLaws.{IsLeast-unique, SameSquares-refl}
-use Rattle.dpl_spec_verdict.proofs.GainLaws.{one-cut}
+use Rattle.dpl_spec_verdict.proofs.GainLaws.{gains-same, one-cut}
 use Rattle.std.specs.Prelude.{zero, suc, false, true, Option, Some, None}
 use Rattle.dpl_cert.specs.declared.cert.Head.{Head}
+use Rattle.dpl_cert.specs.declared.cert.Gain.{Gain}
 use Rattle.dpl_cert.specs.declared.cert.PlaceLine.{PlaceLine}
 use Rattle.dpl_cert.specs.declared.cert.NearLine.{NearLine}
 use Rattle.dpl_cert.specs.declared.cert.NearLine.TheVariants.{Pair, Mark, Anchors}
@@ -25,34 +22,39 @@ use Rattle.dpl_law_verdict.specs.Own.{ShowsPair}
 use Rattle.dpl_nearest.specs.Nearest.{IsNearestPair}
 use Rattle.dpl_nearest.proofs.PairLaws.{nearest-unique}
 use Rattle.dpl_answer.specs.Flat.{Painted, Clash, Flat, Paints, Clashes, AreLinks, AreNearest, place_by, IsPaintedCut, IsClashOfCut, IsFlatCut, IsFlat}
-use Rattle.dpl_law_verdict.specs.Own.{head_of, piece_line, stitch_line}
+use Rattle.dpl_law_verdict.specs.Own.{AreGainsBy, head_of, piece_line, stitch_line}
 use Rattle.dpl_answer.specs.Anchors.{ShowsLink, ShowsSquare, set_against, vertex_of}
 
 -- ---- masks
 
-colours-same : (marks : Option Marks) (spacing : Spacing) (c : Cut) (m n : Masks) (a : AreMasks marks spacing c m) (b : AreMasks marks spacing c n) → a.colours ≡ b.colours
-colours-same marks spacing c m n a b =
-    let sides = sides_by marks c.sides in
-    let rooted = roots-unique (cut_graph marks spacing c) (vertex marks (length c.pieces)) a.roots b.roots a.odds b.odds a.rooted b.rooted in
-    let mine : AreColours b.roots b.odds sides a.colours = subst (λ o. AreColours b.roots o sides a.colours) rooted.1
-    (subst (λ r. AreColours r a.odds sides a.colours) rooted.0 a.coloured) in
-    colours-unique b.roots b.odds sides a.colours b.colours mine b.coloured
+gains-one : (fewer : Bool) (marks : Option Marks) (spacing : Spacing) (c : Cut) (letters : List Bool) (m n : Option (List Gain))
+    → AreGainsBy fewer marks spacing c letters m → AreGainsBy fewer marks spacing c letters n → m ≡ n
+gains-one false marks spacing c letters None None a b = refl
+gains-one false marks spacing c letters None (Some n) a b = absurd b
+gains-one false marks spacing c letters (Some m) n a b = absurd a
+gains-one true marks spacing c letters None n a b = absurd a
+gains-one true marks spacing c letters (Some m) None a b = absurd b
+gains-one true marks spacing c letters (Some m) (Some n) a b = ap (λ (gs : List Gain). Some gs) (gains-same marks spacing c letters m n a b)
 
-painted-same : (marks : Option Marks) (spacing : Spacing) (overlap : ℕ) (c : Cut) (x y : Painted) → IsPaintedCut marks spacing overlap c x → IsPaintedCut marks spacing overlap c y → x ≡ y
-painted-same marks spacing overlap c x y a b =
-    let done : Done a.masks ≡ Done b.masks = answer-unique marks spacing c (Done a.masks) (Done b.masks) (a.even, a.are_masks) (b.even, b.are_masks) in
-    let masks : a.masks ≡ b.masks = cc in
-    let colours : a.are_masks.colours ≡ b.are_masks.colours = colours-same marks spacing c a.masks b.masks a.are_masks b.are_masks in
-    let paint : Masks → List Bool
-    → Painted = λ m letters. record {
+painted-same : (fewer : Bool) (marks : Option Marks) (spacing : Spacing) (overlap : ℕ) (c : Cut) (x y : Painted)
+    → IsPaintedCut fewer marks spacing overlap c x → IsPaintedCut fewer marks spacing overlap c y → x ≡ y
+painted-same fewer marks spacing overlap c x y a b =
+    let (colours, masks) = masks-one fewer marks spacing c a.masks b.masks a.are_masks b.are_masks in
+    let mine : AreGainsBy fewer marks spacing c (letters_by marks b.are_masks.colours) a.gains =
+    subst (λ (cs : List Bool). AreGainsBy fewer marks spacing c (letters_by marks cs) a.gains) colours a.are_gains in
+    let gains : a.gains ≡ b.gains = gains-one fewer marks spacing c (letters_by marks b.are_masks.colours) a.gains b.gains mine b.are_gains in
+    let paint : Masks → List Bool → Option (List Gain)
+    → Painted = λ m letters told. record {
       a = m.a;
       b = m.b;
       head = head_of spacing overlap c;
       pieces = map piece_line
           (zip (letters_by marks letters) c.keys);
       stitches = map (stitch_line c.zones c.sides) m.stitches;
+      gains = told;
     } in
-    a.is ∙ (ap (λ m. paint m a.are_masks.colours) masks ∙ (ap (λ k. paint b.masks k) colours ∙ sym b.is))
+    a.is ∙ (ap (λ m. paint m a.are_masks.colours a.gains) masks ∙ (ap (λ k. paint b.masks k a.gains) colours
+    ∙ (ap (λ g. paint b.masks b.are_masks.colours g) gains ∙ sym b.is)))
 
 -- ---- cycles
 
@@ -106,7 +108,7 @@ same-clash x y a b c =
     let of_parts : Head → List PlaceLine → List NearLine → Clash = λ h p n. record { head = h; cycle = p; near = n } in
     ap (λ h. of_parts h x.cycle x.near) a ∙ (ap (λ p. of_parts y.head p x.near) b ∙ ap (λ n. of_parts y.head y.cycle n) c)
 
-clash-same : (marks : Option Marks) (spacing : Spacing) (overlap : ℕ) (c : Cut) (x y : Clash) → IsClashOfCut marks spacing overlap c x → IsClashOfCut marks spacing overlap c y → x ≡ y
+pub clash-same : (marks : Option Marks) (spacing : Spacing) (overlap : ℕ) (c : Cut) (x y : Clash) → IsClashOfCut marks spacing overlap c x → IsClashOfCut marks spacing overlap c y → x ≡ y
 clash-same marks spacing overlap c x y a b =
     let cycle : a.cycle ≡ b.cycle = cycle-unique (cut_graph marks spacing c) a.cycle b.cycle a.reported b.reported in
     let near : AreLinks marks spacing c.pieces b.cycle x.near = subst (λ k. AreLinks marks spacing c.pieces k x.near) cycle a.nearest in
@@ -114,13 +116,15 @@ clash-same marks spacing overlap c x y a b =
 
 -- ---- decompositions
 
-flat_cut-same : (marks : Option Marks) (spacing : Spacing) (overlap : ℕ) (c : Cut) (x y : Flat) → IsFlatCut marks spacing overlap c x → IsFlatCut marks spacing overlap c y → x ≡ y
-flat_cut-same marks spacing overlap c (Paints x) (Paints y) a b = ap (λ p. Paints p) (painted-same marks spacing overlap c x y a b)
-flat_cut-same marks spacing overlap c (Paints x) (Clashes y) a b = absurd (a.even b.odd)
-flat_cut-same marks spacing overlap c (Clashes x) (Paints y) a b = absurd (b.even a.odd)
-flat_cut-same marks spacing overlap c (Clashes x) (Clashes y) a b = ap (λ p. Clashes p) (clash-same marks spacing overlap c x y a b)
+flat_cut-same : (fewer : Bool) (marks : Option Marks) (spacing : Spacing) (overlap : ℕ) (c : Cut) (x y : Flat)
+    → IsFlatCut fewer marks spacing overlap c x → IsFlatCut fewer marks spacing overlap c y → x ≡ y
+flat_cut-same fewer marks spacing overlap c (Paints x) (Paints y) a b = ap (λ p. Paints p) (painted-same fewer marks spacing overlap c x y a b)
+flat_cut-same fewer marks spacing overlap c (Paints x) (Clashes y) a b = absurd (a.even b.odd)
+flat_cut-same fewer marks spacing overlap c (Clashes x) (Paints y) a b = absurd (b.even a.odd)
+flat_cut-same fewer marks spacing overlap c (Clashes x) (Clashes y) a b = ap (λ p. Clashes p) (clash-same marks spacing overlap c x y a b)
 
-pub flat-same : (marks : Option Marks) (spacing : Spacing) (overlap : ℕ) (layer : List Rect) (x y : Flat) → IsFlat marks spacing overlap layer x → IsFlat marks spacing overlap layer y → x ≡ y
-flat-same marks spacing overlap layer x y (c, is_c, a) (d, is_d, b) =
+pub flat-same : (fewer : Bool) (marks : Option Marks) (spacing : Spacing) (overlap : ℕ) (layer : List Rect) (x y : Flat)
+    → IsFlat fewer marks spacing overlap layer x → IsFlat fewer marks spacing overlap layer y → x ≡ y
+flat-same fewer marks spacing overlap layer x y (c, is_c, a) (d, is_d, b) =
     let same : c ≡ d = one-cut marks spacing overlap (Covers layer) c d is_c is_d in
-    flat_cut-same marks spacing overlap c x y a (subst (λ e. IsFlatCut marks spacing overlap e y) (sym same) b)
+    flat_cut-same fewer marks spacing overlap c x y a (subst (λ e. IsFlatCut fewer marks spacing overlap e y) (sym same) b)

@@ -18,3 +18,6 @@ pub mod ReadBack
 pub mod Faultless
 pub mod Taken
 pub mod OwnFiles
+pub mod Fewer
+pub mod Isolated
+pub mod Left

@@ -1,5 +1,6 @@
 -- The same files have one outcome, whatever the tiles and the workers.
-use Rattle.std.proofs.Common.{◌≡◌, ℕ, inl, inr, List, Option, Some, None, refl, sym, ap, ◌∙◌, subst, arith, codes}
+use Rattle.std.proofs.Common.{◌≡◌, ℕ, inl, inr, Bool, false, List, [], ◌∷◌, Option, Some, None, refl, sym, ap, ap₂, ◌∙◌, subst, arith, codes}
+use Rattle.std.specs.List.{AllZip}
 use Rattle.std.specs.FinMap as map
 use Rattle.std.proofs.lemmas.Bool.{cases_order}
 use Rattle.dpl_spec_split.specs.Squares.{uniform}
@@ -14,12 +15,13 @@ use Rattle.dpl_parse.specs.Reading.{IsBadLine}
 use Rattle.dpl_parse.proofs.Whole.{lines-text}
 use Rattle.dpl_parse.proofs.Unique.{cert_same}
 use Rattle.dpl_spec_verdict.proofs.OrderLaws.{conflict-unique, masks-unique}
-use Rattle.dpl_words.specs.Meaning.{AsksCheck, AsksDemo, AsksSplit, CheckValues, DemoValues, SplitValues}
+use Rattle.dpl_words.specs.Meaning.{AsksBatch, AsksCheck, AsksDemo, AsksSplit, BatchValues, CheckValues, DemoValues, SplitValues}
 use Rattle.dpl_demo.specs.Demo.{demo_file}
-use Rattle.dpl_answer.specs.Flat.{Paints, Clashes, IsFlat}
+use Rattle.dpl_answer.specs.Flat.{Paints, Clashes, Flat, IsFlat}
 use Rattle.dpl_run.specs.Outcome.{Outcome, says}
 use Rattle.dpl_layer.specs.Reading.{Choice, Faulty, Layer}
 use Rattle.dpl_run.specs.Split.{Decision, Refuses, Decides, IsDecision, IsSplit, IsSplitOf, marks_for, plan_of, split_marked, split_spacing}
+use Rattle.dpl_run.specs.Batch.{IsBatchOf, split_of, together}
 use Rattle.dpl_run.specs.Demo.{IsDemo, demo_marked, demo_plan}
 use Rattle.dpl_run.specs.Check.{IsCheck, IsCheckOfCert, IsCheckOfFile, IsCheckOfMasks, IsCheckOfText, IsJudged, WithFile, WithLayer, WithMarkedLayer}
 use Rattle.dpl_run.specs.Check.{check_marked, check_spacing, mask_choice, refusal_of, verdict_outcome}
@@ -31,22 +33,29 @@ use Rattle.dpl_law_outcome.proofs.Readings.{marked-same, reading-same}
 use Rattle.dpl_spec_split.specs.Marks.{Marks}
 use Rattle.dpl_layer.specs.Marked.{FaultyMarked, MarkedChoice, MarkedLayer}
 
-decision-same : (v : MarkedChoice) (spacing : Spacing) (overlap : ℕ) (bytes : List ℕ) (d e : Decision) → IsDecision v spacing overlap bytes d → IsDecision v spacing overlap bytes e → d ≡ e
-decision-same v spacing overlap bytes (Refuses m i) (Refuses n j) x y = (let same : FaultyMarked m i ≡ FaultyMarked n j = marked-same v bytes (FaultyMarked m i) (FaultyMarked n j) x y in cc)
-decision-same v spacing overlap bytes (Refuses m i) (Decides q g) x (s, c, d, y, is) =
-    (let same : FaultyMarked m i ≡ MarkedLayer q s c d = marked-same v bytes (FaultyMarked m i) (MarkedLayer q s c d) x y in absurd cc)
-decision-same v spacing overlap bytes (Decides p f) (Refuses n j) (r, a, b, x, is) y =
-    (let same : FaultyMarked n j ≡ MarkedLayer p r a b = marked-same v bytes (FaultyMarked n j) (MarkedLayer p r a b) y x in absurd cc)
-decision-same v spacing overlap bytes (Decides p f) (Decides q g) (r, a, b, x, is_f) (s, c, d, y, is_g) =
-    let same : MarkedLayer p r a b ≡ MarkedLayer q s c d = marked-same v bytes (MarkedLayer p r a b) (MarkedLayer q s c d) x y in
-    let fronts : p ≡ q = cc in
+-- what one layer has, the same layer has
+pub flat-moved : (fewer : Bool) (v : MarkedChoice) (spacing : Spacing) (overlap : ℕ) (p q : List ℕ) (r a b s c d : List Rect) (g : Flat)
+    → MarkedLayer p r a b ≡ MarkedLayer q s c d → IsFlat fewer (marks_for v c d) spacing overlap s g → IsFlat fewer (marks_for v a b) spacing overlap r g
+flat-moved fewer v spacing overlap p q r a b s c d g same is_g =
     let slabs : s ≡ r = cc in
     let firsts : c ≡ a = cc in
     let seconds : d ≡ b = cc in
-    let on_layer = subst (λ l. IsFlat (marks_for v c d) spacing overlap l g) slabs is_g in
-    let on_a = subst (λ k. IsFlat (marks_for v k d) spacing overlap r g) firsts on_layer in
-    let on_b = subst (λ k. IsFlat (marks_for v a k) spacing overlap r g) seconds on_a in
-    let flats : f ≡ g = flat-same (marks_for v a b) spacing overlap r f g is_f on_b in
+    let on_layer = subst (λ l. IsFlat fewer (marks_for v c d) spacing overlap l g) slabs is_g in
+    let on_a = subst (λ k. IsFlat fewer (marks_for v k d) spacing overlap r g) firsts on_layer in
+    subst (λ k. IsFlat fewer (marks_for v a k) spacing overlap r g) seconds on_a
+
+pub decision-same : (fewer : Bool) (v : MarkedChoice) (spacing : Spacing) (overlap : ℕ) (bytes : List ℕ) (d e : Decision)
+    → IsDecision fewer v spacing overlap bytes d → IsDecision fewer v spacing overlap bytes e → d ≡ e
+decision-same fewer v spacing overlap bytes (Refuses m i) (Refuses n j) x y = (let same : FaultyMarked m i ≡ FaultyMarked n j = marked-same v bytes (FaultyMarked m i) (FaultyMarked n j) x y in cc)
+decision-same fewer v spacing overlap bytes (Refuses m i) (Decides q g) x (s, c, d, y, is) =
+    (let same : FaultyMarked m i ≡ MarkedLayer q s c d = marked-same v bytes (FaultyMarked m i) (MarkedLayer q s c d) x y in absurd cc)
+decision-same fewer v spacing overlap bytes (Decides p f) (Refuses n j) (r, a, b, x, is) y =
+    (let same : FaultyMarked n j ≡ MarkedLayer p r a b = marked-same v bytes (FaultyMarked n j) (MarkedLayer p r a b) y x in absurd cc)
+decision-same fewer v spacing overlap bytes (Decides p f) (Decides q g) (r, a, b, x, is_f) (s, c, d, y, is_g) =
+    let same : MarkedLayer p r a b ≡ MarkedLayer q s c d = marked-same v bytes (MarkedLayer p r a b) (MarkedLayer q s c d) x y in
+    let fronts : p ≡ q = cc in
+    let moved = flat-moved fewer v spacing overlap p q r a b s c d g same is_g in
+    let flats : f ≡ g = flat-same fewer (marks_for v a b) spacing overlap r f g is_f moved in
     ap (λ k. Decides k f) fronts ∙ ap (λ k. Decides q k) flats
 
 -- other tiles and workers plan alike
@@ -55,9 +64,9 @@ plan-retiled v tile workers (Refuses m i) = refl
 plan-retiled v tile workers (Decides p (Paints q)) = refl
 plan-retiled v tile workers (Decides p (Clashes q)) = refl
 
-split-same : (v : SplitValues) (tile workers : ℕ) (bytes : List ℕ) (x y : Outcome) → IsSplit v bytes x → IsSplit (record v { tile = tile; workers = workers }) bytes y → x ≡ y
+pub split-same : (v : SplitValues) (tile workers : ℕ) (bytes : List ℕ) (x y : Outcome) → IsSplit v bytes x → IsSplit (record v { tile = tile; workers = workers }) bytes y → x ≡ y
 split-same v tile workers bytes x y (d, is_d, a) (e, is_e, b) =
-    a ∙ (ap (λ z. plan_of v z) (decision-same (split_marked v) (split_spacing v) v.overlap bytes d e is_d is_e) ∙ (sym (plan-retiled v tile workers e) ∙ sym b))
+    a ∙ (ap (λ z. plan_of v z) (decision-same v.fewer (split_marked v) (split_spacing v) v.overlap bytes d e is_d is_e) ∙ (sym (plan-retiled v tile workers e) ∙ sym b))
 
 split-of-same : (v : SplitValues) (tile workers : ℕ) (file : Option (List ℕ)) (x y : Outcome) → IsSplitOf v file x
     → IsSplitOf (record v { tile = tile; workers = workers }) file y → x ≡ y
@@ -65,7 +74,7 @@ split-of-same v tile workers None x y a b = a ∙ sym b
 split-of-same v tile workers (Some bytes) x y a b = split-same v tile workers bytes x y a b
 
 demo-same : (v : DemoValues) (tile workers : ℕ) (x y : Outcome) → IsDemo v x → IsDemo (record v { tile = tile; workers = workers }) y → x ≡ y
-demo-same v tile workers x y (d, is_d, a) (e, is_e, b) = a ∙ (ap demo_plan (decision-same demo_marked (uniform 30) 10 (demo_file v.seed v.rows) d e is_d is_e) ∙ sym b)
+demo-same v tile workers x y (d, is_d, a) (e, is_e, b) = a ∙ (ap demo_plan (decision-same false demo_marked (uniform 30) 10 (demo_file v.seed v.rows) d e is_d is_e) ∙ sym b)
 
 -- ---- the files of `check`
 
@@ -107,7 +116,8 @@ module _ (file : List ℕ) (choice : MarkedChoice) (bytes : List ℕ) (next : Li
       let seconds : d ≡ b = cc in
       each l a b x y p (subst (λ z. next l a z y) seconds (subst (λ z. next l z d y) firsts (subst (λ z. next z c d y) slabs q)))
 
-judged-same : (v : CheckValues) (marks : Option Marks) (layer : List Rect) (cert : Cert) (a b : List Rect) (x y : Outcome) → IsJudged v marks layer cert a b x → IsJudged v marks layer cert a b y → x ≡ y
+judged-same : (v : CheckValues) (marks : Option Marks) (layer : List Rect) (cert : Cert) (a b : List Rect) (x y : Outcome)
+    → IsJudged v marks layer cert a b x → IsJudged v marks layer cert a b y → x ≡ y
 judged-same v marks layer cert a b x y (w, is_w, p) (u, is_u, q) = p ∙ (ap (verdict_outcome cert) (masks-unique marks (check_spacing v) v.overlap layer a b cert w u is_w is_u) ∙ sym q)
 
 masks-same : (v : CheckValues) (marks : Option Marks) (layer : List Rect) (cert : Cert) (bytes : List ℕ) (x y : Outcome) → IsCheckOfMasks v marks layer cert bytes x
@@ -157,7 +167,24 @@ check-same v (Some bytes) cert out x y p q =
     marked_layer-same (codes "in") (check_marked v) bytes (λ layer a b. WithFile cert (IsCheckOfFile v (marks_for (check_marked v) a b) layer out))
     (λ layer a b. file-same v (marks_for (check_marked v) a b) layer cert out) x y p q
 
+batch-same : (v : BatchValues) (tile workers : ℕ) (bytes : List ℕ) (layers : List ℕ) (xs ys : List Outcome)
+    → AllZip (λ layer x. IsSplit (split_of v layer) bytes x) layers xs → AllZip (λ layer y. IsSplit (split_of (record v { tile = tile; workers = workers }) layer) bytes y) layers ys
+    → xs ≡ ys
+batch-same v tile workers bytes [] [] [] p q = refl
+batch-same v tile workers bytes [] [] (y ∷ ys) p q = absurd q
+batch-same v tile workers bytes [] (x ∷ xs) ys p q = absurd p
+batch-same v tile workers bytes (l ∷ ls) [] ys p q = absurd p
+batch-same v tile workers bytes (l ∷ ls) (x ∷ xs) [] p q = absurd q
+batch-same v tile workers bytes (l ∷ ls) (x ∷ xs) (y ∷ ys) p q =
+    ap₂ (λ (z : Outcome) (zs : List Outcome). z ∷ zs) (split-of-same (split_of v l) tile workers (Some bytes) x y p.0 q.0) (batch-same v tile workers bytes ls xs ys p.1 q.1)
+
+batch-of-same : (v : BatchValues) (tile workers : ℕ) (file : Option (List ℕ)) (x y : Outcome) → IsBatchOf v file x → IsBatchOf (record v { tile = tile; workers = workers }) file y → x ≡ y
+batch-of-same v tile workers None x y p q = p ∙ sym q
+batch-of-same v tile workers (Some bytes) x y (xs, each, is) (ys, other, are) =
+    is ∙ ap (together v.layers) (batch-same v tile workers bytes v.layers xs ys each other) ∙ sym are
+
 pub outcome-same : OneOutcome
 outcome-same (AsksSplit v) tile workers files x y a b = split-of-same v tile workers (map.get files v.input) x y a b
 outcome-same (AsksCheck v) tile workers files x y a b = check-same v (map.get files v.input) (map.get files v.certificate) (map.get files v.output) x y a b
 outcome-same (AsksDemo v) tile workers files x y a b = demo-same v tile workers x y a b
+outcome-same (AsksBatch v) tile workers files x y a b = batch-of-same v tile workers (map.get files v.input) x y a b

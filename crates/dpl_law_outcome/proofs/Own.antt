@@ -20,14 +20,17 @@ use Rattle.dpl_answer.specs.Flat.{Clash, IsClashOfCut, Painted}
 use Rattle.dpl_law_verdict.specs.Own.{head_of}
 use Rattle.dpl_law_verdict.proofs.Passing.{kept-valid}
 use Rattle.dpl_law_verdict.proofs.Painted.{painted-kept}
+use Rattle.dpl_law_verdict.proofs.Gained.{gains-valid}
+use Rattle.dpl_law_split.proofs.Lettering.{lettered, sound}
 use Rattle.dpl_law_verdict.proofs.Clashing.{clash-verdict}
 use Rattle.dpl_law_outcome.proofs.Anchored.{anchored-cert, anchored-verdict}
 use Rattle.dpl_law_outcome.specs.Own.{PaintedIsValid, ClashIsValid}
 
 pub painted-valid : PaintedIsValid
-painted-valid marks spacing overlap layer cut p is_cut a =
-    subst (λ (q : Painted). IsVerdictOfMasks marks spacing overlap layer q.a q.b (Masks q.head q.pieces q.stitches None) Valid) (sym a.is)
-    (kept-valid marks spacing overlap _ (painted-kept marks spacing overlap layer cut a.masks is_cut a.are_masks a.even))
+painted-valid fewer marks spacing overlap layer cut p is_cut a =
+    subst (λ (q : Painted). IsVerdictOfMasks marks spacing overlap layer q.a q.b (Masks q.head q.pieces q.stitches q.gains) Valid) (sym a.is)
+    (kept-valid marks spacing overlap _ (painted-kept marks spacing overlap layer cut a.masks is_cut (lettered fewer marks spacing cut a.masks a.are_masks) a.gains
+    (sound fewer marks spacing cut a.masks a.are_masks a.even) (gains-valid fewer marks spacing overlap layer cut a.masks a.gains is_cut a.are_masks a.are_gains)))
 
 pub clash-valid : ClashIsValid
 clash-valid None spacing overlap layer cut x is_cut a =

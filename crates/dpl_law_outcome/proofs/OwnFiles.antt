@@ -13,14 +13,13 @@ use Rattle.dpl_spec_split.specs.Loops.{AreRectsWithin, farthest}
 use Rattle.dpl_spec_split.specs.Decomposition.{Cut, IsCut}
 use Rattle.dpl_spec_format.specs.Tree.{Library, Structure, frame_of}
 use Rattle.dpl_spec_format.specs.Layout.{Holds}
-use Rattle.dpl_cert.specs.declared.cert.Head.{Head}
-use Rattle.dpl_cert.specs.declared.cert.PlaceLine.{PlaceLine}
 use Rattle.dpl_cert.specs.declared.cert.Cert.TheVariants.{Masks, Conflict}
 use Rattle.dpl_cert.specs.Grammar.{IsCert}
 use Rattle.dpl_spec_verdict.specs.declared.Verdict.TheVariants.{Valid}
 use Rattle.dpl_masks.specs.Bytes.{file_bytes}
 use Rattle.dpl_law_verdict.proofs.Ranges.{layer-within}
 use Rattle.dpl_law_verdict.proofs.Written.{masks-cert, masks-within}
+use Rattle.dpl_law_split.proofs.Lettering.{lettered}
 use Rattle.dpl_law_outcome.specs.ReadBack.{IsMask, IsReadAs}
 use Rattle.dpl_law_outcome.proofs.Taken.{masks-read}
 use Rattle.dpl_words.specs.Meaning.{AsksCheck, AsksSplit, SplitValues}
@@ -29,7 +28,6 @@ use Rattle.dpl_run.specs.declared.status.Status.{Status}
 use Rattle.dpl_run.specs.declared.status.Status.TheVariants.{Done, Conflict as InConflict, ReadFault, Refused}
 use Rattle.dpl_run.specs.Check.{IsCheck}
 use Rattle.dpl_answer.specs.Flat.{Clash, Clashes, Flat, Painted, Paints, IsClashOfCut, IsFlatCut, IsPaintedCut}
-use Rattle.dpl_law_verdict.specs.Own.{head_of}
 use Rattle.dpl_run.specs.Outcome.{Outcome, Shows, carried_out, says, silent}
 use Rattle.dpl_run.specs.Program.{IsPlan}
 use Rattle.dpl_layer.specs.Reading.{IsLayerIn, Layer, chosen, frame_bytes, copied_of, limit}
@@ -89,22 +87,23 @@ module _ (v : SplitValues) (o : Outside) (bytes front : List ℕ) (layer : List 
   within = layer-within lib l.top (chosen (split_choice v)) layer l.faultless l.squares
 
   abbrev IsFine : Painted → Type 0
-  IsFine p = IsMask p.a × IsMask p.b × IsCert (Masks p.head p.pieces p.stitches None)
+  IsFine p = IsMask p.a × IsMask p.b × IsCert (Masks p.head p.pieces p.stitches p.gains)
 
-  painted-fine : (p : Painted) → IsPaintedCut marks (split_spacing v) v.overlap cut p → IsFine p
+  painted-fine : (p : Painted) → IsPaintedCut v.fewer marks (split_spacing v) v.overlap cut p → IsFine p
   painted-fine p painted =
       let m = painted.masks in
-      let near = masks-within marks (split_spacing v) v.overlap layer cut in_range.rule in_range.corner in_range.overlap within is_cut m painted.are_masks in
+      let masks = lettered v.fewer marks (split_spacing v) cut m painted.are_masks in
+      let near = masks-within marks (split_spacing v) v.overlap layer cut in_range.rule in_range.corner in_range.overlap within is_cut m masks in
       subst (λ (q : Painted). IsFine q) (sym painted.is) (
         record { canonical = painted.are_masks.a.canonical; within = near.0 },
         record { canonical = painted.are_masks.b.canonical; within = near.1 },
-        masks-cert marks (split_spacing v) v.overlap layer cut in_range.rule in_range.corner in_range.overlap within is_cut m painted.are_masks,
+        masks-cert marks (split_spacing v) v.overlap layer cut in_range.rule in_range.corner in_range.overlap within is_cut m masks v.fewer painted.gains painted.are_gains,
       )
 
   abbrev OutIsRead : List ℕ → Painted → Type 0
   OutIsRead before p = IsReadAs (file_bytes before v.a v.b p.a p.b) v.a p.a × IsReadAs (file_bytes before v.a v.b p.a p.b) v.b p.b
 
-  out-read : (p : Painted) → IsPaintedCut marks (split_spacing v) v.overlap cut p → AreSmall v front p → OutIsRead front p
+  out-read : (p : Painted) → IsPaintedCut v.fewer marks (split_spacing v) v.overlap cut p → AreSmall v front p → OutIsRead front p
   out-read p painted small =
       let own = own-names v apart in
       let (first, second, cert) = painted-fine p painted in
@@ -117,9 +116,9 @@ module _ (v : SplitValues) (o : Outside) (bytes front : List ℕ) (layer : List 
       (masks-read bytes lib s v.a v.b p.a p.b holds s_in own.layers (omega (arith, a_fits)) (omega (arith, b_fits)) first second fits small.first small.second)
 
   -- with the files that are there
-  masks-checked : (p : Painted) → IsPaintedCut marks (split_spacing v) v.overlap cut p → AreSmall v front p
-      → IsCheck (checking v) (Some bytes) (Some (certified (Masks p.head p.pieces p.stitches None))) (Some (file_bytes front v.a v.b p.a p.b))
-      (says Done (valid_line (Masks p.head p.pieces p.stitches None)))
+  masks-checked : (p : Painted) → IsPaintedCut v.fewer marks (split_spacing v) v.overlap cut p → AreSmall v front p
+      → IsCheck (checking v) (Some bytes) (Some (certified (Masks p.head p.pieces p.stitches p.gains))) (Some (file_bytes front v.a v.b p.a p.b))
+      (says Done (valid_line (Masks p.head p.pieces p.stitches p.gains)))
   masks-checked p painted small =
       let (first, second, cert) = painted-fine p painted in
       let ((fa, ra), (fb, rb)) = out-read p painted small in (
@@ -128,21 +127,21 @@ module _ (v : SplitValues) (o : Outside) (bytes front : List ℕ) (layer : List 
         inr (
           small.cert,
           inl (
-            Masks p.head p.pieces p.stitches None,
+            Masks p.head p.pieces p.stitches p.gains,
             (cert, refl),
-            (Layer fa p.a, ra, (Layer fb p.b, rb, (Valid, painted-valid marks (split_spacing v) v.overlap layer cut p is_cut painted, refl))),
+            (Layer fa p.a, ra, (Layer fb p.b, rb, (Valid, painted-valid v.fewer marks (split_spacing v) v.overlap layer cut p is_cut painted, refl))),
           ),
         ),
       )
 
   -- the files that are there
-  masks-kept : (p : Painted) → IsPaintedCut marks (split_spacing v) v.overlap cut p → AreSmall v front p
-      → IsPlan (Some (AsksCheck (checking v))) (carried_out (plan_of v (Decides front (Paints p))) o).files (says Done (valid_line (Masks p.head p.pieces p.stitches None)))
+  masks-kept : (p : Painted) → IsPaintedCut v.fewer marks (split_spacing v) v.overlap cut p → AreSmall v front p
+      → IsPlan (Some (AsksCheck (checking v))) (carried_out (plan_of v (Decides front (Paints p))) o).files (says Done (valid_line (Masks p.head p.pieces p.stitches p.gains)))
   masks-kept p painted small =
       let own = own-names v apart in
       let file = file_bytes front v.a v.b p.a p.b in
-      let text = certified (Masks p.head p.pieces p.stitches None) in
-      let x = says Done (valid_line (Masks p.head p.pieces p.stitches None)) in
+      let text = certified (Masks p.head p.pieces p.stitches p.gains) in
+      let x = says Done (valid_line (Masks p.head p.pieces p.stitches p.gains)) in
       let one : Outside = with_file v.output file o in
       let two : Outside = with_file v.certificate text one in
       let input_is : file_of two v.input ≡ Some bytes = put_other one v.certificate text v.input own.cert ∙ (put_other o v.output file v.input own.out ∙ read) in
@@ -184,7 +183,7 @@ module _ (v : SplitValues) (o : Outside) (bytes front : List ℕ) (layer : List 
       subst (λ (i : Option (List ℕ)). IsCheck (checking v) i (file_of one v.certificate) (file_of one v.output) y) (sym input_is)
       (subst (λ (c : Option (List ℕ)). IsCheck (checking v) (Some bytes) c (file_of one v.output) y) (sym cert_is) (clash-checked x (file_of one v.output) clash small))
 
-  cut-kept : (flat : Flat) → IsFlatCut marks (split_spacing v) v.overlap cut flat → CanBeRead v front flat
+  cut-kept : (flat : Flat) → IsFlatCut v.fewer marks (split_spacing v) v.overlap cut flat → CanBeRead v front flat
       → IsPlan (Some (AsksCheck (checking v))) (carried_out (plan_of v (Decides front flat)) o).files (says Done (valid_line (cert_of flat)))
   cut-kept (Paints p) is small = masks-kept p is small
   cut-kept (Clashes x) is small = clash-kept x is small
@@ -216,7 +215,7 @@ status-of : (x y : Outcome) → x ≡ y → IsAnswer x.status → IsAnswer y.sta
 status-of x y is answer = subst (λ (z : Outcome). IsAnswer z.status) is answer
 
 by-decision : (v : SplitValues) (o : Outside) (bytes : List ℕ) (x : Outcome) (d : Decision) → file_of o v.input ≡ Some bytes
-    → IsDecision (split_marked v) (split_spacing v) v.overlap bytes d → x ≡ plan_of v d → IsAnswer x.status
+    → IsDecision v.fewer (split_marked v) (split_spacing v) v.overlap bytes d → x ≡ plan_of v d → IsAnswer x.status
     → (front : List ℕ) × (flat : Flat) × IsDecided v o front flat × (x ≡ plan_of v (Decides front flat))
 by-decision v o bytes x (Refuses name at) found decided is answer = absurd (refused (status-of x (refusal v name at) is answer))
 by-decision v o bytes x (Decides front flat) found decided is answer = (front, flat, (bytes, found, decided), is)

@@ -1,5 +1,5 @@
 -- A command line has at most one outcome, and masks are right.
-use Rattle.std.specs.Prelude.{◌≡◌, ℕ, List, map, Option, Some}
+use Rattle.std.specs.Prelude.{◌≡◌, ℕ, Bool, List, map, Option, Some}
 use Rattle.clap.specs.Walk.{Text}
 use Rattle.dpl_spec_split.specs.declared.Spacing.{Spacing}
 use Rattle.dpl_host.specs.Outside.{Files, Outside}
@@ -9,7 +9,7 @@ use Rattle.dpl_spec_split.specs.Marks.{Marks}
 use Rattle.dpl_spec_split.specs.Components.{AreComponents}
 use Rattle.dpl_law_split.specs.Masks.{AreCover, KeepsApart, OverlapAt}
 use Rattle.dpl_cert.specs.declared.cert.StitchLine.{StitchLine}
-use Rattle.dpl_words.specs.Meaning.{AsksCheck, AsksDemo, AsksSplit, RequestValues, request_of}
+use Rattle.dpl_words.specs.Meaning.{AsksBatch, AsksCheck, AsksDemo, AsksSplit, RequestValues, request_of}
 use Rattle.dpl_run.specs.declared.status.Status.{Status}
 use Rattle.dpl_answer.specs.Flat.{Painted, Paints, IsFlat}
 use Rattle.dpl_run.specs.Outcome.{Outcome}
@@ -20,6 +20,7 @@ abbrev pub retiled : RequestValues → ℕ → ℕ → RequestValues
 retiled (AsksSplit v) tile workers = AsksSplit (record v { tile = tile; workers = workers })
 retiled (AsksCheck v) tile workers = AsksCheck v
 retiled (AsksDemo v) tile workers = AsksDemo (record v { tile = tile; workers = workers })
+retiled (AsksBatch v) tile workers = AsksBatch (record v { tile = tile; workers = workers })
 
 -- of the same files there is at most one outcome
 abbrev pub OneOutcome : Type 0
@@ -38,4 +39,5 @@ pub record AreRight (spacing : Spacing) (layer : List Rect) (p : Painted) : Type
   pub overlap : OverlapAt (map (λ (s : StitchLine). s.rect) p.stitches) p.a p.b
 
 abbrev pub PaintedMasksAreRight : Type 0
-PaintedMasksAreRight = (marks : Option Marks) (spacing : Spacing) (overlap : ℕ) (layer : List Rect) (p : Painted) → IsFlat marks spacing overlap layer (Paints p) → AreRight spacing layer p
+PaintedMasksAreRight = (fewer : Bool) (marks : Option Marks) (spacing : Spacing) (overlap : ℕ) (layer : List Rect) (p : Painted)
+    → IsFlat fewer marks spacing overlap layer (Paints p) → AreRight spacing layer p

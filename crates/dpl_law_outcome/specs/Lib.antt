@@ -2,3 +2,5 @@ pub mod Laws
 pub mod ReadBack
 pub mod Own
 pub mod OwnFiles
+pub mod Fewer
+pub mod Alone

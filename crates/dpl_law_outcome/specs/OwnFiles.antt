@@ -1,5 +1,5 @@
 -- `check` finds nothing broken in what `split` has written.
-use Rattle.std.specs.Prelude.{◌≡◌, ◌≤◌, ◌⊎◌, ℕ, List, length, Option, Some, None, option_map}
+use Rattle.std.specs.Prelude.{◌≡◌, ◌≤◌, ◌⊎◌, ℕ, List, length, Option, Some, option_map}
 use Rattle.clap.specs.Walk.{Text}
 use Rattle.dpl_host.specs.Outside.{Outside, file_of, with_said}
 use Rattle.dpl_cert.specs.declared.cert.Cert.{Cert}
@@ -37,7 +37,7 @@ checking v = record {
 
 -- the certificate of a decomposition
 abbrev pub cert_of : Flat → Cert
-cert_of (Paints p) = Masks p.head p.pieces p.stitches None
+cert_of (Paints p) = Masks p.head p.pieces p.stitches p.gains
 cert_of (Clashes x) = Conflict x.head x.cycle x.near
 
 -- Both files that are written are no larger than what is read, and no mask has more slabs.
@@ -54,7 +54,7 @@ CanBeRead v front (Clashes x) = length (certified (cert_of (Clashes x))) ≤ lim
 
 -- the file is there, and its layer has this decomposition
 abbrev pub IsDecided : SplitValues → Outside → List ℕ → Flat → Type 0
-IsDecided v o front flat = (bytes : List ℕ) × (file_of o v.input ≡ Some bytes) × IsDecision (split_marked v) (split_spacing v) v.overlap bytes (Decides front flat)
+IsDecided v o front flat = (bytes : List ℕ) × (file_of o v.input ≡ Some bytes) × IsDecision v.fewer (split_marked v) (split_spacing v) v.overlap bytes (Decides front flat)
 
 -- Where `split` is done or in conflict its file is decided, and what it does is what the decomposition asks for.
 abbrev pub SplitsAreDecided : Type 0

@@ -1,39 +1,30 @@
 -- The calls of a run are those of its answer.
-use Rattle.std.proofs.Common.{◌≡◌, ◌∙◌, ap, sym, subst, refl, inl, inr, true, false, List, [], ℕ, Option, Some, None}
+use Rattle.std.proofs.Common.{◌≡◌, ◌∙◌, ◌++◌, ◌∷◌, ap, sym, subst, refl, inl, inr, true, List, [], ℕ, Option, Some, None, map}
 use Rattle.std.specs.Prelude.{◌⊎◌}
 use Rattle.std.specs.FinMap as files
-use Rattle.std.proofs.lemmas.List.{append-nil}
+use Rattle.std.specs.List.{AllZip, flat_map, zip}
+use Rattle.std.proofs.lemmas.List.{append-nil, length-map, map-append}
 use Rattle.clap.specs.Walk.{Text}
 use Rattle.dpl_host.specs.Calls.{Call, Logged}
 use Rattle.dpl_host.specs.Outside.{Outside}
 use Rattle.dpl_host.proofs.Logs.{logged_both, logged_weaker}
-use Rattle.dpl_words.specs.Meaning.{AsksCheck, AsksDemo, AsksSplit, RequestValues, SplitValues, request_of}
-use Rattle.dpl_answer.specs.Flat.{Clashes, Paints}
-use Rattle.dpl_run.specs.Calls.{AreCallsOf, AreReadsFor, AreWritings, AreWritingsOf, BeginWritings, files_written}
+use Rattle.dpl_words.specs.Meaning.{AsksBatch, AsksCheck, AsksDemo, AsksSplit, BatchValues, RequestValues, SplitValues, request_of}
+use Rattle.dpl_run.specs.Batch.{IsBatchOf, split_of}
+use Rattle.dpl_run.specs.Calls.{AreAnswersOf, AreCallsOf, AreReadsFor, AreWritings, AreWritingsFor, AreWritingsOf, AreWritingsOfBatch, BeginWritings, batch_files, files_written}
 use Rattle.dpl_run.specs.CallsMade.{names_of}
-use Rattle.dpl_run.specs.Outcome.{Outcome, is_answered, says, silent}
+use Rattle.dpl_run.specs.Outcome.{Outcome, is_answered, says}
 use Rattle.dpl_run.specs.Program.{IsMade, IsPlan}
-use Rattle.dpl_run.specs.Split.{Decides, Decision, IsSplitOf, Refuses, plan_of}
+use Rattle.dpl_run.specs.Split.{IsSplit, IsSplitOf, plan_of}
 use Rattle.dpl_run.specs.Texts.{usage_line}
 use Rattle.dpl_run.specs.declared.status.Status.{Status}
 use Rattle.dpl_run.specs.declared.status.Status.TheVariants.{Done, Conflict, Refused, Usage, ReadFault, WriteFault, NoMemory, CheckNo}
-use Rattle.dpl_run.proofs.Parting.{check_writes, demo_writes}
+use Rattle.dpl_run.proofs.Parting.{as_named, check_writes, decided_files, demo_writes, silent_not}
+use Rattle.dpl_run.proofs.Zips.{zip_length}
 
 abbrev Log : Type 0
 Log = Option (List Call)
 
 -- ---- the files of an outcome are those of its answer
-
-as_named : (request : Option RequestValues) (x y : Outcome) → x ≡ y → names_of y.writes ≡ files_written request y.status → names_of x.writes ≡ files_written request x.status
-as_named request x y is h = subst (λ (z : Outcome). names_of z.writes ≡ files_written request z.status) (sym is) h
-
-decided_files : (v : SplitValues) (d : Decision) → names_of (plan_of v d).writes ≡ files_written (Some (AsksSplit v)) (plan_of v d).status
-decided_files v (Refuses name at) = refl
-decided_files v (Decides copied (Paints p)) = refl
-decided_files v (Decides copied (Clashes c)) = refl
-
-silent_not : (x : Outcome) → x ≡ silent ReadFault → is_answered x.status ≡ true → ⊥
-silent_not x is answered = let e : false ≡ true = sym (ap (λ (y : Outcome). is_answered y.status) is) ∙ answered in cc
 
 split_files : (v : SplitValues) (file : Option (List ℕ)) (x : Outcome) → IsSplitOf v file x → is_answered x.status ≡ true
     → names_of x.writes ≡ files_written (Some (AsksSplit v)) x.status
@@ -44,16 +35,33 @@ split_files v (Some bytes) x is answered = as_named (Some (AsksSplit v)) x (plan
 none_named : (x : Outcome) (names : List Text) → x.writes ≡ [] → names ≡ [] → names_of x.writes ≡ names
 none_named x names none as_none = ap names_of none ∙ sym as_none
 
-plan_files : (request : Option RequestValues) (o : Outside) (x : Outcome) → IsPlan request o.files x → is_answered x.status ≡ true
-    → names_of x.writes ≡ files_written request x.status
-plan_files None o x is answered = as_named None x (says Usage usage_line) is refl
-plan_files (Some (AsksSplit v)) o x is answered = split_files v (files.get o.files v.input) x is answered
-plan_files (Some (AsksCheck v)) o x is answered = none_named x (files_written (Some (AsksCheck v)) x.status)
-    (check_writes v (files.get o.files v.input) (files.get o.files v.certificate) (files.get o.files v.output) x is) refl
-plan_files (Some (AsksDemo v)) o x is answered = none_named x (files_written (Some (AsksDemo v)) x.status) (ap (λ (y : Outcome). y.writes) is.2 ∙ demo_writes is.0) refl
+-- ---- the files of a batch are those of its layers' answers
 
-made_files : (request : Option RequestValues) (told : Option Outside) (x : Outcome) → IsMade request told x → names_of x.writes ≡ files_written request x.status
-made_files request told x m = plan_files request m.0 x m.2 m.3
+each_files : (v : BatchValues) (bytes : List ℕ) (layers : List ℕ) (xs : List Outcome) → AllZip (λ layer x. IsSplit (split_of v layer) bytes x) layers xs
+    → names_of (flat_map (λ (x : Outcome). x.writes) xs)
+    ≡ flat_map (λ (p : ℕ × Status). files_written (Some (AsksSplit (split_of v p.0))) p.1) (zip layers (map (λ (x : Outcome). x.status) xs))
+each_files v bytes [] [] all = refl
+each_files v bytes [] (x ∷ xs) all = absurd all
+each_files v bytes (layer ∷ layers) [] all = absurd all
+each_files v bytes (layer ∷ layers) (x ∷ xs) all =
+    let one = as_named (Some (AsksSplit (split_of v layer))) x (plan_of (split_of v layer) all.0.0) all.0.2 (decided_files (split_of v layer) all.0.0) in
+    map-append (λ (w : Text × List ℕ). w.0) x.writes (flat_map (λ (y : Outcome). y.writes) xs)
+    ∙ ap (λ names. names ++ names_of (flat_map (λ (y : Outcome). y.writes) xs)) one
+    ∙ ap (λ names. files_written (Some (AsksSplit (split_of v layer))) x.status ++ names) (each_files v bytes layers xs all.1)
+
+-- answers of all layers, and the files that they write
+record AreFilesOf (v : BatchValues) (x : Outcome) : Type 0 where
+  answers : List Status
+  are : AreAnswersOf v x.status answers
+  named : names_of x.writes ≡ batch_files v answers
+
+batch_named : (v : BatchValues) (file : Option (List ℕ)) (x : Outcome) → IsBatchOf v file x → is_answered x.status ≡ true → AreFilesOf v x
+batch_named v None x is answered = absurd (silent_not x is answered)
+batch_named v (Some bytes) x (xs, all, is) answered = record {
+  answers = map (λ (y : Outcome). y.status) xs;
+  are = (length-map xs (λ (y : Outcome). y.status) ∙ zip_length _ v.layers xs all, ap (λ (y : Outcome). y.status) is);
+  named = ap (λ (y : Outcome). names_of y.writes) is ∙ each_files v bytes v.layers xs all;
+}
 
 -- ---- what is written
 
@@ -67,6 +75,59 @@ answer_writes request WriteFault calls answered h = cc
 answer_writes request NoMemory calls answered h = cc
 answer_writes request CheckNo calls answered h = h
 
+batch_writes : (v : BatchValues) (s : Status) (answers : List Status) (calls : List Call) → is_answered s ≡ true → AreAnswersOf v s answers
+    → AreWritings (batch_files v answers) calls → AreWritingsOfBatch v s calls
+batch_writes v Done answers calls answered are h = (answers, are, h)
+batch_writes v Conflict answers calls answered are h = (answers, are, h)
+batch_writes v Refused answers calls answered are h = (answers, are, h)
+batch_writes v Usage answers calls answered are h = (answers, are, h)
+batch_writes v ReadFault answers calls answered are h = cc
+batch_writes v WriteFault answers calls answered are h = cc
+batch_writes v NoMemory answers calls answered are h = cc
+batch_writes v CheckNo answers calls answered are h = (answers, are, h)
+
+-- the files of an outcome, by the request
+abbrev AreNamed : Option RequestValues → Outcome → Type 0
+AreNamed (Some (AsksBatch v)) x = AreFilesOf v x
+AreNamed request x = names_of x.writes ≡ files_written request x.status
+
+plan_named : (request : Option RequestValues) (o : Outside) (x : Outcome) → IsPlan request o.files x → is_answered x.status ≡ true → AreNamed request x
+plan_named None o x is answered = as_named None x (says Usage usage_line) is refl
+plan_named (Some (AsksSplit v)) o x is answered = split_files v (files.get o.files v.input) x is answered
+plan_named (Some (AsksCheck v)) o x is answered = none_named x (files_written (Some (AsksCheck v)) x.status)
+    (check_writes v (files.get o.files v.input) (files.get o.files v.certificate) (files.get o.files v.output) x is) refl
+plan_named (Some (AsksDemo v)) o x is answered = none_named x (files_written (Some (AsksDemo v)) x.status) (ap (λ (y : Outcome). y.writes) is.2 ∙ demo_writes is.0) refl
+plan_named (Some (AsksBatch v)) o x is answered = batch_named v (files.get o.files v.input) x is answered
+
+made_named : (request : Option RequestValues) (told : Option Outside) (x : Outcome) → IsMade request told x → AreNamed request x
+made_named request told x m = plan_named request m.0 x m.2 m.3
+
+alone_written : (request : Option RequestValues) (x : Outcome) (calls : List Call) → names_of x.writes ≡ files_written request x.status → is_answered x.status ≡ true
+    → AreWritings (names_of x.writes) calls → AreWritingsOf request x.status calls
+alone_written request x calls named answered h = answer_writes request x.status calls answered (subst (λ (names : List Text). AreWritings names calls) named h)
+
+named_written : (request : Option RequestValues) (x : Outcome) (calls : List Call) → AreNamed request x → is_answered x.status ≡ true
+    → AreWritings (names_of x.writes) calls → AreWritingsFor request x.status calls
+named_written None x calls named answered h = alone_written None x calls named answered h
+named_written (Some (AsksSplit v)) x calls named answered h = alone_written (Some (AsksSplit v)) x calls named answered h
+named_written (Some (AsksCheck v)) x calls named answered h = alone_written (Some (AsksCheck v)) x calls named answered h
+named_written (Some (AsksDemo v)) x calls named answered h = alone_written (Some (AsksDemo v)) x calls named answered h
+named_written (Some (AsksBatch v)) x calls named answered h =
+    batch_writes v x.status named.answers calls answered named.are (subst (λ (names : List Text). AreWritings names calls) named.named h)
+
+alone_begun : (request : Option RequestValues) (x : Outcome) (calls : List Call) → names_of x.writes ≡ files_written request x.status → is_answered x.status ≡ true
+    → BeginWritings (names_of x.writes) calls → AreWritingsOf request WriteFault calls
+alone_begun request x calls named answered h = (x.status, answered, subst (λ (names : List Text). BeginWritings names calls) named h)
+
+named_begun : (request : Option RequestValues) (x : Outcome) (calls : List Call) → AreNamed request x → is_answered x.status ≡ true
+    → BeginWritings (names_of x.writes) calls → AreWritingsFor request WriteFault calls
+named_begun None x calls named answered h = alone_begun None x calls named answered h
+named_begun (Some (AsksSplit v)) x calls named answered h = alone_begun (Some (AsksSplit v)) x calls named answered h
+named_begun (Some (AsksCheck v)) x calls named answered h = alone_begun (Some (AsksCheck v)) x calls named answered h
+named_begun (Some (AsksDemo v)) x calls named answered h = alone_begun (Some (AsksDemo v)) x calls named answered h
+named_begun (Some (AsksBatch v)) x calls named answered h =
+    (x.status, named.answers, answered, named.are, subst (λ (names : List Text). BeginWritings names calls) named.named h)
+
 -- ---- reads, and then writings
 
 pub calls_of_answer : (words : List Text) (told : Option Outside) (x : Outcome) {before mid now : Log} → IsMade (request_of words) told x
@@ -79,7 +140,7 @@ calls_of_answer words told x {before} {mid} {now} made read wrote =
       writings = ys;
       are = refl;
       read = reads;
-      written = answer_writes request x.status ys made.3 (subst (λ (names : List Text). AreWritings names ys) (made_files request told x made) writes);
+      written = named_written request x ys (made_named request told x made) made.3 writes;
     }) read wrote
 
 pub calls_of_part : (words : List Text) (told : Option Outside) (x : Outcome) {before mid now : Log} → IsMade (request_of words) told x
@@ -92,13 +153,20 @@ calls_of_part words told x {before} {mid} {now} made read wrote =
       writings = ys;
       are = refl;
       read = reads;
-      written = (x.status, made.3, subst (λ (names : List Text). BeginWritings names ys) (made_files request told x made) writes);
+      written = named_begun request x ys (made_named request told x made) made.3 writes;
     }) read wrote
 
 -- where nothing was made, nothing was written
-none_written : (request : Option RequestValues) (s : Status) → (s ≡ ReadFault) ⊎ (s ≡ NoMemory) → AreWritingsOf request s []
-none_written request s (inl is) = subst (λ (t : Status). AreWritingsOf request t []) (sym is) refl
-none_written request s (inr is) = subst (λ (t : Status). AreWritingsOf request t []) (sym is) refl
+unwritten : (request : Option RequestValues) → AreWritingsFor request ReadFault [] × AreWritingsFor request NoMemory []
+unwritten None = (refl, refl)
+unwritten (Some (AsksSplit v)) = (refl, refl)
+unwritten (Some (AsksCheck v)) = (refl, refl)
+unwritten (Some (AsksDemo v)) = (refl, refl)
+unwritten (Some (AsksBatch v)) = (refl, refl)
+
+none_written : (request : Option RequestValues) (s : Status) → (s ≡ ReadFault) ⊎ (s ≡ NoMemory) → AreWritingsFor request s []
+none_written request s (inl is) = subst (λ (t : Status). AreWritingsFor request t []) (sym is) (unwritten request).0
+none_written request s (inr is) = subst (λ (t : Status). AreWritingsFor request t []) (sym is) (unwritten request).1
 
 pub calls_of_none : (words : List Text) (told : Option Outside) (s : Status) {before now : Log} → (s ≡ ReadFault) ⊎ (s ≡ NoMemory)
     → Logged before now (AreReadsFor (request_of words) told) → Logged before now (AreCallsOf words told s)

@@ -1,5 +1,5 @@
 -- What is made of what is read.
-use Rattle.std.proofs.Common.{◌≡◌, ◌∙◌, ◌<◌, ◌≤◌, ap, sym, refl, subst, inl, inr, true, List, [], ◌∷◌, ℕ, Option, Some, None, length, arith, zero, suc}
+use Rattle.std.proofs.Common.{◌≡◌, ◌∙◌, ◌<◌, ◌≤◌, ap, sym, refl, subst, inl, inr, Bool, true, false, List, [], ◌∷◌, ℕ, Option, Some, None, length, arith, zero, suc}
 use Rattle.std.specs.Prelude.{IfSome}
 use Rattle.std.specs.FinMap as map
 use Rattle.dpl_spec_split.specs.Squares.{uniform}
@@ -70,14 +70,14 @@ split_refused told v x h is =
     (h.0, h.1, of_file v _ file x there (Refuses TooLarge 268435456, inl (large, refl), is), ap (λ (y : Outcome). is_answered y.status) is)
 
 -- the layout has a fault
-pub faulty : (choice : MarkedChoice) (spacing : Spacing) (overlap : ℕ) (bytes : List ℕ) (name : Name) (at : ℕ) → length bytes ≤ 268435456
-    → IsMarkedLayout choice bytes (FaultyMarked name at) → IsDecision choice spacing overlap bytes (Refuses name at)
-faulty choice spacing overlap bytes name at small read = inr (small, read)
+pub faulty : (fewer : Bool) (choice : MarkedChoice) (spacing : Spacing) (overlap : ℕ) (bytes : List ℕ) (name : Name) (at : ℕ) → length bytes ≤ 268435456
+    → IsMarkedLayout choice bytes (FaultyMarked name at) → IsDecision fewer choice spacing overlap bytes (Refuses name at)
+faulty fewer choice spacing overlap bytes name at small read = inr (small, read)
 
 -- the layer was decomposed
-pub answered : (choice : MarkedChoice) (spacing : Spacing) (overlap : ℕ) (bytes copied : List ℕ) (layer a b : List Rect) (flat : Flat) → length bytes ≤ 268435456
-    → IsMarkedLayout choice bytes (MarkedLayer copied layer a b) → IsFlat (marks_for choice a b) spacing overlap layer flat → IsDecision choice spacing overlap bytes (Decides copied flat)
-answered choice spacing overlap bytes copied layer a b flat small read decomposed = (layer, a, b, inr (small, read), decomposed)
+pub answered : (fewer : Bool) (choice : MarkedChoice) (spacing : Spacing) (overlap : ℕ) (bytes copied : List ℕ) (layer a b : List Rect) (flat : Flat) → length bytes ≤ 268435456
+    → IsMarkedLayout choice bytes (MarkedLayer copied layer a b) → IsFlat fewer (marks_for choice a b) spacing overlap layer flat → IsDecision fewer choice spacing overlap bytes (Decides copied flat)
+answered fewer choice spacing overlap bytes copied layer a b flat small read decomposed = (layer, a, b, inr (small, read), decomposed)
 
 -- an outside that shows
 shown : (told : Option Outside) → (o : Outside) × Shows told o
@@ -99,5 +99,5 @@ demo_made told v x is = let s = shown told in (s.0, s.1, is, ap (λ (y : Outcome
 
 -- the made-up file was decided
 pub demo_decided : (v : DemoValues) (bytes : List ℕ) (d : Decision) (x : Outcome) → bytes ≡ demo_file v.seed v.rows
-    → IsDecision demo_marked (uniform 30) 10 bytes d → x ≡ demo_plan d → IsDemo v x
-demo_decided v bytes d x made decision is = (d, subst (λ (bs : List ℕ). IsDecision demo_marked (uniform 30) 10 bs d) made decision, is)
+    → IsDecision false demo_marked (uniform 30) 10 bytes d → x ≡ demo_plan d → IsDemo v x
+demo_decided v bytes d x made decision is = (d, subst (λ (bs : List ℕ). IsDecision false demo_marked (uniform 30) 10 bs d) made decision, is)

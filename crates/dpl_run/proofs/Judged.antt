@@ -3,6 +3,7 @@ use Rattle.std.proofs.Common.{◌≡◌, ◌∙◌, ap, sym, refl, subst, inl, i
 use Rattle.std.specs.FinMap as files
 use Rattle.dpl_host.specs.Outside.{Outside}
 use Rattle.dpl_spec_split.specs.declared.Rect.{Rect}
+use Rattle.dpl_spec_split.specs.declared.Spacing.{Spacing}
 use Rattle.dpl_cert.specs.declared.name.Name.TheVariants.{TooLarge}
 use Rattle.dpl_cert.specs.declared.cert.Head.{Head}
 use Rattle.dpl_cert.specs.declared.cert.Gain.{Gain}
@@ -10,18 +11,19 @@ use Rattle.dpl_cert.specs.declared.cert.PieceLine.{PieceLine}
 use Rattle.dpl_cert.specs.declared.cert.StitchLine.{StitchLine}
 use Rattle.dpl_cert.specs.declared.cert.Cert.{Cert}
 use Rattle.dpl_cert.specs.declared.cert.Cert.TheVariants.{Masks, Conflict, Fault}
-use Rattle.dpl_cert.specs.Grammar.{IsText}
+use Rattle.dpl_cert.specs.Grammar.{IsCert, IsText}
 use Rattle.dpl_spec_verdict.specs.declared.Verdict.{Verdict}
 use Rattle.dpl_spec_verdict.specs.declared.Verdict.TheVariants.{Valid, Rules, WasFault, Counts, Cover, Overlap, SpacingA, SpacingB, Marked, Stitch, Piece, Gain as GainAt, Cycle}
 use Rattle.dpl_spec_verdict.specs.Masks.{Claim, IsVerdictOfMasks}
 use Rattle.dpl_spec_verdict.specs.Conflicts.{IsVerdictOfConflict}
 use Rattle.dpl_law_verdict.proofs.Cycles.{there-is}
+use Rattle.dpl_law_verdict.proofs.Flips.{none-fewer}
 use Rattle.dpl_law_verdict.proofs.Lines.{good-lines}
 use Rattle.dpl_law_verdict.proofs.Parting.{marks-kept, right-masks}
 use Rattle.dpl_law_verdict.proofs.Passing.{valid-kept}
 use Rattle.dpl_words.specs.Meaning.{CheckValues}
 use Rattle.dpl_run.specs.Check.{IsCheck, IsCheckOfCert, IsCheckOfFile, IsCheckOfMasks, WithFile, check_marked, check_spacing, mask_choice, refusal_of, verdict_outcome, verdict_status}
-use Rattle.dpl_run.specs.Checked.{HasLayer, HasMarkedLayer, HasRightMasks, IsRight, IsRightBy}
+use Rattle.dpl_run.specs.Checked.{HasLayer, HasMarkedLayer, HasRightMasks, IsRight, IsRightBy, NoFlipIsLeft}
 use Rattle.dpl_run.specs.Outcome.{Outcome, says, silent}
 use Rattle.dpl_layer.specs.Reading.{Choice, Faulty, IsReading, Layer, limit}
 use Rattle.dpl_run.specs.Texts.{bad_line_line}
@@ -88,12 +90,20 @@ marked_of_file choice bytes copied slabs a b reading = elim reading [
   })
 ]
 
+-- where gains are listed, no flip is left
+none_left : (marks : Option Marks) (spacing : Spacing) (overlap : ℕ) (layer a b : List Rect) (head : Head) (pieces : List PieceLine) (stitches : List StitchLine) (gains : Option (List Gain))
+    → IsCert (Masks head pieces stitches gains) → IsVerdictOfMasks marks spacing overlap layer a b (Masks head pieces stitches gains) Valid
+    → NoFlipIsLeft marks spacing overlap layer pieces gains
+none_left marks spacing overlap layer a b head pieces stitches None fits valid = tt
+none_left marks spacing overlap layer a b head pieces stitches (Some lines) fits valid = none-fewer marks spacing overlap layer a b head pieces stitches lines fits valid
+
 masks_right : (v : CheckValues) (marks : Option Marks) (layer : List Rect) (head : Head) (pieces : List PieceLine) (stitches : List StitchLine) (gains : Option (List Gain)) (bytes : List ℕ) (x : Outcome)
-    → IsCheckOfMasks v marks layer (Masks head pieces stitches gains) bytes x → x.status ≡ Done → HasRightMasks v marks layer head pieces stitches bytes
-masks_right v marks layer head pieces stitches gains bytes x (Faulty name at, read, is) done = absurd (other x (refusal_of (codes "out") name at) Refused is refl refused done)
-masks_right v marks layer head pieces stitches gains bytes x (Layer copied a, read, (Faulty name at, more, is)) done = absurd
+    → IsCert (Masks head pieces stitches gains) → IsCheckOfMasks v marks layer (Masks head pieces stitches gains) bytes x → x.status ≡ Done
+    → HasRightMasks v marks layer head pieces stitches gains bytes
+masks_right v marks layer head pieces stitches gains bytes x fits (Faulty name at, read, is) done = absurd (other x (refusal_of (codes "out") name at) Refused is refl refused done)
+masks_right v marks layer head pieces stitches gains bytes x fits (Layer copied a, read, (Faulty name at, more, is)) done = absurd
     (other x (refusal_of (codes "out") name at) Refused is refl refused done)
-masks_right v marks layer head pieces stitches gains bytes x (Layer copied a, read, (Layer back b, more, (w, said, is))) done =
+masks_right v marks layer head pieces stitches gains bytes x fits (Layer copied a, read, (Layer back b, more, (w, said, is))) done =
     let valid : w ≡ Valid = judged_valid (Masks head pieces stitches gains) w x is done in
     let kept : IsVerdictOfMasks marks (check_spacing v) v.overlap layer a b (Masks head pieces stitches gains) Valid = subst
     (λ (u : Verdict). IsVerdictOfMasks marks (check_spacing v) v.overlap layer a b (Masks head pieces stitches gains) u) valid said in
@@ -106,12 +116,13 @@ masks_right v marks layer head pieces stitches gains bytes x (Layer copied a, re
       right = right-masks marks (check_spacing v) v.overlap claim kept;
       kept = marks-kept marks layer a b (valid-kept marks (check_spacing v) v.overlap claim kept).marked;
       lines = good-lines marks (check_spacing v) v.overlap layer a b head pieces stitches gains kept;
+      flips = none_left marks (check_spacing v) v.overlap layer a b head pieces stitches gains fits kept;
     }
 
 cert_right : (v : CheckValues) (o : Outside) (marks : Option Marks) (layer : List Rect) (out : Option (List ℕ)) (cert : Cert) (text : List ℕ) (x : Outcome)
     → files.get o.files v.output ≡ out → IsText cert text → IsCheckOfCert v marks layer out cert x → x.status ≡ Done → IsRightBy v o marks layer cert
 cert_right v o marks layer None (Masks head pieces stitches gains) text x there t is done = absurd (other x (silent ReadFault) ReadFault is refl unread done)
-cert_right v o marks layer (Some bytes) (Masks head pieces stitches gains) text x there t is done = (bytes, there, masks_right v marks layer head pieces stitches gains bytes x is done)
+cert_right v o marks layer (Some bytes) (Masks head pieces stitches gains) text x there t is done = (bytes, there, masks_right v marks layer head pieces stitches gains bytes x t.0 is done)
 cert_right v o marks layer out (Conflict head cycle near) text x there t (w, said, is) done =
     let valid : w ≡ Valid = judged_valid (Conflict head cycle near) w x is done in
     let (fits, long, places, each, nears) = t.0 in

@@ -1,5 +1,6 @@
 -- A run that is done has parted its layer.
-use Rattle.std.proofs.Common.{◌≡◌, ◌∙◌, ap, sym, refl, subst, inl, inr, List, [], ◌∷◌, ℕ, Option, Some, None, map, codes}
+use Rattle.std.proofs.Common.{◌≡◌, ◌∙◌, ap, sym, refl, subst, inl, inr, Bool, true, false, is_some, List, [], ◌∷◌, ℕ, Option, Some, None, map, codes}
+use Rattle.std.specs.List.{AllZip}
 use Rattle.std.specs.FinMap as files
 use Rattle.clap.specs.Walk.{Text}
 use Rattle.dpl_spec_split.specs.declared.Spacing.{Spacing}
@@ -7,17 +8,19 @@ use Rattle.dpl_host.specs.Outside.{Outside}
 use Rattle.dpl_spec_split.specs.declared.Rect.{Rect}
 use Rattle.dpl_spec_split.specs.declared.Zone.{Zone}
 use Rattle.dpl_spec_split.specs.Squares.{Covers}
-use Rattle.dpl_spec_split.specs.Decomposition.{AreMasks, Cut, IsCut, Masks as Decomposed, cut_graph}
+use Rattle.dpl_spec_split.specs.Decomposition.{Cut, IsCut, Masks as Decomposed, cut_graph}
+use Rattle.dpl_spec_fewer.specs.Masks.{AreMasksBy}
 use Rattle.dpl_spec_split.specs.Summary.{HasOddCycle}
 use Rattle.dpl_law_verdict.specs.Valid.{KeepMarks}
 use Rattle.dpl_layer.specs.Marked.{FaultyMarked, MarkedLayer}
 use Rattle.dpl_spec_split.specs.Marks.{Marks}
 use Rattle.dpl_law_split.specs.Masks.{OverlapAt, rect_at, rects_of}
 use Rattle.dpl_law_split.proofs.Cover.{cover}
+use Rattle.dpl_law_split.proofs.Lettering.{lettered, sound}
 use Rattle.dpl_law_split.proofs.Fixed.{fixed-on-a, fixed-on-b}
 use Rattle.dpl_law_split.proofs.Apart.{far-on-a, far-on-b}
 use Rattle.dpl_law_split.proofs.Overlap.{overlap-at}
-use Rattle.dpl_words.specs.Meaning.{AsksCheck, AsksDemo, AsksSplit, CheckValues, RequestValues, SplitValues, request_of}
+use Rattle.dpl_words.specs.Meaning.{AsksBatch, AsksCheck, AsksDemo, AsksSplit, BatchValues, CheckValues, RequestValues, SplitValues, request_of}
 use Rattle.dpl_cert.specs.declared.cert.Cert.{Cert}
 use Rattle.dpl_cert.specs.declared.cert.Cert.TheVariants.{Masks, Conflict as ConflictText, Fault}
 use Rattle.dpl_cert.specs.declared.name.Name.TheVariants.{TooLarge}
@@ -26,13 +29,18 @@ use Rattle.dpl_run.specs.Check.{IsCheck, IsCheckOfCert, IsCheckOfFile, IsCheckOf
 use Rattle.dpl_run.specs.Demo.{demo_plan}
 use Rattle.dpl_layer.specs.Reading.{Faulty, Layer, limit}
 use Rattle.dpl_answer.specs.Flat.{Clashes, IsPaintedCut, Painted, Paints}
-use Rattle.dpl_law_verdict.specs.Own.{stitch_line}
-use Rattle.dpl_run.specs.Split.{Decides, Decision, IsDecision, IsSplitOf, Refuses, clash, painting, plan_of, refusal, marks_for, split_marked, split_spacing}
+use Rattle.dpl_law_verdict.specs.Own.{AreGainsBy, stitch_line}
+use Rattle.dpl_cert.specs.declared.cert.Gain.{Gain}
+use Rattle.dpl_run.specs.Batch.{IsBatchOf, split_of}
+use Rattle.dpl_run.specs.Calls.{files_written}
+use Rattle.dpl_run.specs.CallsMade.{names_of}
+use Rattle.dpl_run.specs.Split.{Decides, Decision, IsDecision, IsSplit, IsSplitOf, Refuses, clash, painting, plan_of, refusal, marks_for, split_marked, split_spacing}
 use Rattle.dpl_run.specs.Program.{IsOutcome, IsPlan}
-use Rattle.dpl_run.specs.Outcome.{Outcome, says, silent}
+use Rattle.dpl_run.specs.Outcome.{Outcome, is_answered, says, silent}
 use Rattle.dpl_run.specs.Texts.{bad_line_line, usage_line}
-use Rattle.dpl_run.specs.Parted.{ArePartingMasks, IsParted, IsPartedBy, WritesParting, rects_of_lines}
+use Rattle.dpl_run.specs.Parted.{ArePartingMasks, IsParted, IsPartedAlone, IsPartedBy, WritesEach, WritesParting, rects_of_lines}
 use Rattle.dpl_run.proofs.Judged.{check_right}
+use Rattle.dpl_run.proofs.Zips.{zip_weaker}
 use Rattle.dpl_run.specs.declared.status.Status.{Status}
 use Rattle.dpl_run.specs.declared.status.Status.TheVariants.{Done, Conflict, Refused, Usage, ReadFault}
 
@@ -41,36 +49,48 @@ line_rects : (zones : List Zone) (sides : List (ℕ × ℕ)) (ks : List ℕ) →
 line_rects zones sides [] = refl
 line_rects zones sides (k ∷ ks) = ap (λ (rs : List Rect). rect_at zones k ∷ rs) (line_rects zones sides ks)
 
-pub painted_parts : (marks : Option Marks) (spacing : Spacing) (overlap : ℕ) (layer : List Rect) (cut : Cut) (p : Painted) → IsCut marks spacing overlap (Covers layer) cut → IsPaintedCut marks spacing overlap cut p
+pub painted_parts : (fewer : Bool) (marks : Option Marks) (spacing : Spacing) (overlap : ℕ) (layer : List Rect) (cut : Cut) (p : Painted) → IsCut marks spacing overlap (Covers layer) cut → IsPaintedCut fewer marks spacing overlap cut p
     → ArePartingMasks spacing layer (rects_of_lines p.stitches) p.a p.b
-painted_parts marks spacing overlap layer cut p is painted =
+painted_parts fewer marks spacing overlap layer cut p is painted =
     let m = painted.masks in
-    let are = painted.are_masks in
+    let are = lettered fewer marks spacing cut m painted.are_masks in
+    let apart = sound fewer marks spacing cut m painted.are_masks painted.even in
     subst (λ (q : Painted). ArePartingMasks spacing layer (rects_of_lines q.stitches) q.a q.b) (sym painted.is) (record {
       features = cut.features;
       are_features = is.features;
       cover = cover marks spacing overlap (Covers layer) cut m is are;
-      apart_on_a = far-on-a marks spacing overlap (Covers layer) cut m is are painted.even;
-      apart_on_b = far-on-b marks spacing overlap (Covers layer) cut m is are painted.even;
+      apart_on_a = far-on-a marks spacing overlap (Covers layer) cut m is are apart;
+      apart_on_b = far-on-b marks spacing overlap (Covers layer) cut m is are apart;
       overlap = subst (λ (ss : List Rect). OverlapAt ss m.a m.b) (sym (line_rects cut.zones cut.sides m.stitches)) (overlap-at marks spacing overlap (Covers layer) cut m is are);
     })
 
 -- the marks of the layer are kept
-masks_keep : (marks : Option Marks) (spacing : Spacing) (overlap : ℕ) (layer : List Rect) (cut : Cut) (m : Decomposed) → IsCut marks spacing overlap (Covers layer) cut
-    → AreMasks marks spacing cut m → ¬ HasOddCycle (cut_graph marks spacing cut) → KeepMarks marks layer m.a m.b
-masks_keep None spacing overlap layer cut m is are even = record { on_a = λ p there marked. absurd marked; on_b = λ p there marked. absurd marked }
-masks_keep (Some k) spacing overlap layer cut m is are even = record {
-  on_a = fixed-on-a k spacing overlap (Covers layer) cut m is are even;
-  on_b = fixed-on-b k spacing overlap (Covers layer) cut m is are even;
-}
+masks_keep : (fewer : Bool) (marks : Option Marks) (spacing : Spacing) (overlap : ℕ) (layer : List Rect) (cut : Cut) (m : Decomposed) → IsCut marks spacing overlap (Covers layer) cut
+    → AreMasksBy fewer marks spacing cut m → ¬ HasOddCycle (cut_graph marks spacing cut) → KeepMarks marks layer m.a m.b
+masks_keep fewer None spacing overlap layer cut m is are even = record { on_a = λ p there marked. absurd marked; on_b = λ p there marked. absurd marked }
+masks_keep fewer (Some k) spacing overlap layer cut m is are even =
+    let masks = lettered fewer (Some k) spacing cut m are in
+    let apart = sound fewer (Some k) spacing cut m are even in
+    record {
+      on_a = fixed-on-a k spacing overlap (Covers layer) cut m is masks apart;
+      on_b = fixed-on-b k spacing overlap (Covers layer) cut m is masks apart;
+    }
 
-painted_keep : (marks : Option Marks) (spacing : Spacing) (overlap : ℕ) (layer : List Rect) (cut : Cut) (p : Painted)
-    → IsCut marks spacing overlap (Covers layer) cut → IsPaintedCut marks spacing overlap cut p → KeepMarks marks layer p.a p.b
-painted_keep marks spacing overlap layer cut p is painted =
+painted_keep : (fewer : Bool) (marks : Option Marks) (spacing : Spacing) (overlap : ℕ) (layer : List Rect) (cut : Cut) (p : Painted)
+    → IsCut marks spacing overlap (Covers layer) cut → IsPaintedCut fewer marks spacing overlap cut p → KeepMarks marks layer p.a p.b
+painted_keep fewer marks spacing overlap layer cut p is painted =
     subst (λ (q : Painted). KeepMarks marks layer q.a q.b) (sym painted.is)
-    (masks_keep marks spacing overlap layer cut painted.masks is painted.are_masks painted.even)
+    (masks_keep fewer marks spacing overlap layer cut painted.masks is painted.are_masks painted.even)
 
-paints : (v : SplitValues) (bytes copied : List ℕ) (p : Painted) (x : Outcome) → IsDecision (split_marked v) (split_spacing v) v.overlap bytes
+-- there are lines of gains exactly where fewer stitches are asked for
+gains_told : (fewer : Bool) (marks : Option Marks) (spacing : Spacing) (cut : Cut) (letters : List Bool) (gains : Option (List Gain))
+    → AreGainsBy fewer marks spacing cut letters gains → is_some gains ≡ fewer
+gains_told false marks spacing cut letters None are = refl
+gains_told false marks spacing cut letters (Some gains) are = absurd are
+gains_told true marks spacing cut letters None are = absurd are
+gains_told true marks spacing cut letters (Some gains) are = refl
+
+paints : (v : SplitValues) (bytes copied : List ℕ) (p : Painted) (x : Outcome) → IsDecision v.fewer (split_marked v) (split_spacing v) v.overlap bytes
     (Decides copied (Paints p)) → x ≡ painting v copied p → WritesParting v bytes x.writes
 paints v bytes copied p x d is =
     let (layer, on_a, on_b, reading, (cut, is_cut, painted)) = d in
@@ -96,13 +116,18 @@ paints v bytes copied p x d is =
         head = p.head;
         pieces = p.pieces;
         stitches = p.stitches;
-        parting = painted_parts marks (split_spacing v) v.overlap layer cut p is_cut painted;
-        kept = painted_keep marks (split_spacing v) v.overlap layer cut p is_cut painted;
+        gains = p.gains;
+        asked = ap (λ (q : Painted). is_some q.gains) painted.is ∙ gains_told v.fewer marks (split_spacing v) cut _ painted.gains painted.are_gains;
+        parting = painted_parts v.fewer marks (split_spacing v) v.overlap layer cut p is_cut painted;
+        kept = painted_keep v.fewer marks (split_spacing v) v.overlap layer cut p is_cut painted;
         copied = copied;
         before = l.layer.before;
         are = ap (λ (y : Outcome). y.writes) is;
       })
     ]
+
+pub silent_not : (x : Outcome) → x ≡ silent ReadFault → is_answered x.status ≡ true → ⊥
+silent_not x is answered = let e : false ≡ true = sym (ap (λ (y : Outcome). is_answered y.status) is) ∙ answered in cc
 
 -- other answers than that it is done
 refused_not : Refused ≡ Done → ⊥
@@ -114,13 +139,10 @@ conflict_not e = cc
 read_not : ReadFault ≡ Done → ⊥
 read_not e = cc
 
-usage_not : Usage ≡ Done → ⊥
-usage_not e = cc
-
 status_as : (x y : Outcome) (s : Status) → x ≡ y → y.status ≡ s → x.status ≡ Done → s ≡ Done
 status_as x y s is named done = sym named ∙ sym (ap (λ (z : Outcome). z.status) is) ∙ done
 
-decided_done : (v : SplitValues) (bytes : List ℕ) (d : Decision) (x : Outcome) → IsDecision (split_marked v) (split_spacing v) v.overlap bytes d
+decided_done : (v : SplitValues) (bytes : List ℕ) (d : Decision) (x : Outcome) → IsDecision v.fewer (split_marked v) (split_spacing v) v.overlap bytes d
     → x ≡ plan_of v d → x.status ≡ Done → WritesParting v bytes x.writes
 decided_done v bytes (Refuses name at) x d is done = absurd (refused_not (status_as x (refusal v name at) Refused is refl done))
 decided_done v bytes (Decides copied (Clashes c)) x d is done = absurd (conflict_not (status_as x (clash v c) Conflict is refl done))
@@ -162,19 +184,53 @@ check_writes v None cert out x is = writes_as x (silent ReadFault) is refl
 check_writes v (Some bytes) cert out x (FaultyMarked name at, read, is) = writes_as x (refusal_of (codes "in") name at) is refl
 check_writes v (Some bytes) cert out x (MarkedLayer copied layer a b, read, is) = layer_writes v (marks_for (check_marked v) a b) layer cert out x is
 
-plan_done : (request : Option RequestValues) (o : Outside) (x : Outcome) → IsPlan request o.files x → x.status ≡ Done → IsPartedBy request o x.writes
-plan_done None o x is done = absurd (usage_not (status_as x (says Usage usage_line) Usage is refl done))
-plan_done (Some (AsksSplit v)) o x is done =
-    let (bytes, there, parted) = file_done v (files.get o.files v.input) x is done in
-    record { bytes = bytes; read = there; parted = parted }
-plan_done (Some (AsksCheck v)) o x is done = (
-  check_writes v (files.get o.files v.input) (files.get o.files v.certificate) (files.get o.files v.output) x is,
-  check_right v o (files.get o.files v.input) (files.get o.files v.certificate) (files.get o.files v.output) x refl refl refl is done,
-)
-plan_done (Some (AsksDemo v)) o x is done = ap (λ (y : Outcome). y.writes) is.2 ∙ demo_writes is.0
+-- ---- the files of an outcome are those of its answer
 
--- an outcome that is done
-pub outcome_parted : (words : List Text) (status : Status) (old new : Option Outside) → IsOutcome words status old new → status ≡ Done → IsParted words old new
-outcome_parted words status old new outcome done =
+pub as_named : (request : Option RequestValues) (x y : Outcome) → x ≡ y → names_of y.writes ≡ files_written request y.status → names_of x.writes ≡ files_written request x.status
+as_named request x y is h = subst (λ (z : Outcome). names_of z.writes ≡ files_written request z.status) (sym is) h
+
+pub decided_files : (v : SplitValues) (d : Decision) → names_of (plan_of v d).writes ≡ files_written (Some (AsksSplit v)) (plan_of v d).status
+decided_files v (Refuses name at) = refl
+decided_files v (Decides copied (Paints p)) = refl
+decided_files v (Decides copied (Clashes c)) = refl
+
+-- each layer of a batch
+each_named : (v : BatchValues) (bytes : List ℕ) (layers : List ℕ) (xs : List Outcome) → AllZip (λ layer x. IsSplit (split_of v layer) bytes x) layers xs
+    → AllZip (λ layer x. names_of x.writes ≡ files_written (Some (AsksSplit (split_of v layer))) x.status) layers xs
+each_named v bytes layers xs all = zip_weaker _ _ layers xs
+    (λ layer x is. as_named (Some (AsksSplit (split_of v layer))) x (plan_of (split_of v layer) is.0) is.2 (decided_files (split_of v layer) is.0)) all
+
+each_parted : (v : BatchValues) (o : Outside) (bytes : List ℕ) → files.get o.files v.input ≡ Some bytes → (layers : List ℕ) (xs : List Outcome)
+    → AllZip (λ layer x. IsSplit (split_of v layer) bytes x) layers xs → AllZip (λ layer x. IsPartedAlone (split_of v layer) x.status o x.writes) layers xs
+each_parted v o bytes there layers xs all = zip_weaker _ _ layers xs
+    (λ layer x is done. record { bytes = bytes; read = there; parted = decided_done (split_of v layer) bytes is.0 x is.1 is.2 done }) all
+
+batch_parted : (v : BatchValues) (o : Outside) (file : Option (List ℕ)) (x : Outcome) → files.get o.files v.input ≡ file → IsBatchOf v file x → is_answered x.status ≡ true
+    → WritesEach v x.status o x.writes
+batch_parted v o None x there is answered = absurd (silent_not x is answered)
+batch_parted v o (Some bytes) x there (xs, all, is) answered = record {
+  each = xs;
+  answer = ap (λ (y : Outcome). y.status) is;
+  are = ap (λ (y : Outcome). y.writes) is;
+  named = each_named v bytes v.layers xs all;
+  parted = each_parted v o bytes there v.layers xs all;
+}
+
+plan_parted : (request : Option RequestValues) (o : Outside) (x : Outcome) → IsPlan request o.files x → is_answered x.status ≡ true → IsPartedBy request x.status o x.writes
+plan_parted None o x is answered = (writes_as x (says Usage usage_line) is refl, ap (λ (y : Outcome). y.status) is)
+plan_parted (Some (AsksSplit v)) o x is answered = λ done.
+    (let (bytes, there, parted) = file_done v (files.get o.files v.input) x is done in
+    record { bytes = bytes; read = there; parted = parted })
+plan_parted (Some (AsksCheck v)) o x is answered = (
+  check_writes v (files.get o.files v.input) (files.get o.files v.certificate) (files.get o.files v.output) x is,
+  λ done. check_right v o (files.get o.files v.input) (files.get o.files v.certificate) (files.get o.files v.output) x refl refl refl is done,
+)
+plan_parted (Some (AsksDemo v)) o x is answered = ap (λ (y : Outcome). y.writes) is.2 ∙ demo_writes is.0
+plan_parted (Some (AsksBatch v)) o x is answered = batch_parted v o (files.get o.files v.input) x refl is answered
+
+-- an outcome that is an answer
+pub outcome_parted : (words : List Text) (status : Status) (old new : Option Outside) → IsOutcome words status old new → is_answered status ≡ true → IsParted words status old new
+outcome_parted words status old new outcome answered =
     let (o, shows, (x, plan, same, is)) = outcome in
-    (o, shows, (x, plan_done (request_of words) o x plan (sym same ∙ done), is))
+    let parted = plan_parted (request_of words) o x plan (sym (ap is_answered same) ∙ answered) in
+    (o, shows, (x, subst (λ (s : Status). IsPartedBy (request_of words) s o x.writes) (sym same) parted, is))

@@ -1,5 +1,6 @@
 -- The calls that a run makes of its host: reads of what the answer rests on, then the writing of what the answer has, and no other.
-use Rattle.std.specs.Prelude.{◌≡◌, ◌⊎◌, ℕ, true, List, [], ◌∷◌, ◌++◌, Option, Some, None, IfSome}
+use Rattle.std.specs.Prelude.{◌≡◌, ◌⊎◌, ℕ, true, List, [], ◌∷◌, ◌++◌, Option, Some, None, IfSome, length}
+use Rattle.std.specs.List.{flat_map, zip}
 use Rattle.clap.specs.Walk.{Text}
 use Rattle.dpl_host.specs.Calls.{AreReadsOf, AreSays, Call, IsWritingOf}
 use Rattle.dpl_host.specs.Outside.{Outside, file_of}
@@ -7,8 +8,9 @@ use Rattle.dpl_spec_split.specs.declared.Rect.{Rect}
 use Rattle.dpl_cert.specs.declared.cert.Cert.{Cert}
 use Rattle.dpl_cert.specs.Grammar.{IsText}
 use Rattle.dpl_spec_verdict.specs.Masks.{IsOfMasks}
-use Rattle.dpl_words.specs.Meaning.{AsksCheck, AsksDemo, AsksSplit, CheckValues, RequestValues, request_of}
+use Rattle.dpl_words.specs.Meaning.{AsksBatch, AsksCheck, AsksDemo, AsksSplit, BatchValues, CheckValues, RequestValues, request_of}
 use Rattle.dpl_layer.specs.Marked.{IsMarkedReading, MarkedLayer}
+use Rattle.dpl_run.specs.Batch.{greatest, split_of}
 use Rattle.dpl_run.specs.Check.{check_marked}
 use Rattle.dpl_run.specs.Outcome.{is_answered}
 use Rattle.dpl_run.specs.declared.status.Status.{Status}
@@ -42,6 +44,7 @@ abbrev pub AreReadsFor : Option RequestValues → Option Outside → List Call �
 AreReadsFor (Some (AsksSplit v)) told calls = AreReadsOf v.input calls
 AreReadsFor (Some (AsksCheck v)) told calls = AreReadsOfCheck v told calls
 AreReadsFor (Some (AsksDemo v)) told calls = calls ≡ []
+AreReadsFor (Some (AsksBatch v)) told calls = AreReadsOf v.input calls
 AreReadsFor None told calls = calls ≡ []
 
 -- the files that an answer to a request writes, in order
@@ -65,10 +68,30 @@ AreWritingsOf request NoMemory calls = calls ≡ []
 AreWritingsOf request WriteFault calls = (answer : Status) × (is_answered answer ≡ true) × BeginWritings (files_written request answer) calls
 AreWritingsOf request answer calls = AreWritings (files_written request answer) calls
 
+-- the files that `batch` writes where its layers have these answers
+abbrev pub batch_files : BatchValues → List Status → List Text
+batch_files v answers = flat_map (λ (p : ℕ × Status). files_written (Some (AsksSplit (split_of v p.0))) p.1) (zip v.layers answers)
+
+-- answers of all layers, of which this one is the greatest
+abbrev pub AreAnswersOf : BatchValues → Status → List Status → Type 0
+AreAnswersOf v status answers = (length answers ≡ length v.layers) × (status ≡ greatest answers)
+
+-- what `batch` writes at the end of a run
+abbrev pub AreWritingsOfBatch : BatchValues → Status → List Call → Type 0
+AreWritingsOfBatch v ReadFault calls = calls ≡ []
+AreWritingsOfBatch v NoMemory calls = calls ≡ []
+AreWritingsOfBatch v WriteFault calls = (answer : Status) × (answers : List Status) × (is_answered answer ≡ true) × AreAnswersOf v answer answers × BeginWritings (batch_files v answers) calls
+AreWritingsOfBatch v answer calls = (answers : List Status) × AreAnswersOf v answer answers × AreWritings (batch_files v answers) calls
+
+-- what a request writes at the end of a run
+abbrev pub AreWritingsFor : Option RequestValues → Status → List Call → Type 0
+AreWritingsFor (Some (AsksBatch v)) status calls = AreWritingsOfBatch v status calls
+AreWritingsFor request status calls = AreWritingsOf request status calls
+
 -- the calls of a run of these words that ends so
 pub record AreCallsOf (words : List Text) (told : Option Outside) (status : Status) (calls : List Call) : Type 0 where
   pub reads : List Call
   pub writings : List Call
   pub are : calls ≡ reads ++ writings
   pub read : AreReadsFor (request_of words) told reads
-  pub written : AreWritingsOf (request_of words) status writings
+  pub written : AreWritingsFor (request_of words) status writings

@@ -1,8 +1,9 @@
 -- What a check that is done has found of the files: the masks are right for the layer, or the conflict is there.
-use Rattle.std.specs.Prelude.{◌≡◌, List, ℕ, Option, Some}
+use Rattle.std.specs.Prelude.{◌≡◌, List, ℕ, Option, Some, None}
 use Rattle.std.specs.FinMap as files
 use Rattle.dpl_host.specs.Outside.{Outside}
 use Rattle.dpl_spec_split.specs.declared.Rect.{Rect}
+use Rattle.dpl_spec_split.specs.declared.Spacing.{Spacing}
 use Rattle.dpl_spec_split.specs.Slabs.{AreSlabsOf}
 use Rattle.dpl_spec_format.specs.Tree.{Library}
 use Rattle.dpl_spec_format.specs.Layout.{Holds}
@@ -10,11 +11,14 @@ use Rattle.dpl_spec_layout.specs.Structures.{IsTop}
 use Rattle.dpl_spec_layout.specs.Placements.{IsInLayer}
 use Rattle.dpl_spec_layout.specs.Faults.{IsFaultless}
 use Rattle.dpl_cert.specs.declared.cert.Head.{Head}
+use Rattle.dpl_cert.specs.declared.cert.Gain.{Gain}
 use Rattle.dpl_cert.specs.declared.cert.PieceLine.{PieceLine}
 use Rattle.dpl_cert.specs.declared.cert.StitchLine.{StitchLine}
 use Rattle.dpl_cert.specs.declared.cert.Cert.{Cert}
 use Rattle.dpl_cert.specs.declared.cert.Cert.TheVariants.{Masks, Conflict, Fault}
 use Rattle.dpl_cert.specs.Grammar.{IsText}
+use Rattle.dpl_spec_verdict.specs.Gains.{letters}
+use Rattle.dpl_law_verdict.specs.Flips.{NoneLeavesFewer}
 use Rattle.dpl_law_verdict.specs.Lines.{AreGoodLines}
 use Rattle.dpl_law_verdict.specs.Valid.{AreRight, IsCycleOf, KeepMarks}
 use Rattle.dpl_words.specs.Meaning.{CheckValues}
@@ -46,8 +50,14 @@ pub record HasMarkedLayer (choice : MarkedChoice) (bytes : List ℕ) (slabs a b 
   pub marked_a : AreMarked lib top choice.mark_a slabs a
   pub marked_b : AreMarked lib top choice.mark_b slabs b
 
+-- where a certificate lists gains, no flip of a single component leaves fewer stitches
+abbrev pub NoFlipIsLeft : Option Marks → Spacing → ℕ → List Rect → List PieceLine → Option (List Gain) → Type 0
+NoFlipIsLeft marks spacing overlap layer pieces None = Unit {0}
+NoFlipIsLeft marks spacing overlap layer pieces (Some lines) = NoneLeavesFewer marks spacing overlap layer (letters pieces)
+
 -- The file has both masks, each on its layer. They are right for the layer and its marks, and so is what the certificate lists of them.
-pub record HasRightMasks (v : CheckValues) (marks : Option Marks) (layer : List Rect) (head : Head) (pieces : List PieceLine) (stitches : List StitchLine) (bytes : List ℕ) : Type 0 where
+pub record HasRightMasks (v : CheckValues) (marks : Option Marks) (layer : List Rect) (head : Head) (pieces : List PieceLine) (stitches : List StitchLine) (gains : Option (List Gain))
+    (bytes : List ℕ) : Type 0 where
   pub a : List Rect
   pub b : List Rect
   pub first : HasLayer (mask_choice v.a) bytes a
@@ -55,10 +65,11 @@ pub record HasRightMasks (v : CheckValues) (marks : Option Marks) (layer : List 
   pub right : AreRight (check_spacing v) layer a b stitches
   pub kept : KeepMarks marks layer a b
   pub lines : AreGoodLines (check_spacing v) v.overlap layer a b head pieces stitches
+  pub flips : NoFlipIsLeft marks (check_spacing v) v.overlap layer pieces gains
 
 -- what is right is the masks of a file that is there, or the cycle that is listed
 abbrev pub IsRightBy : CheckValues → Outside → Option Marks → List Rect → Cert → Type 0
-IsRightBy v o marks layer (Masks head pieces stitches gains) = (bytes : List ℕ) × (files.get o.files v.output ≡ Some bytes) × HasRightMasks v marks layer head pieces stitches bytes
+IsRightBy v o marks layer (Masks head pieces stitches gains) = (bytes : List ℕ) × (files.get o.files v.output ≡ Some bytes) × HasRightMasks v marks layer head pieces stitches gains bytes
 IsRightBy v o marks layer (Conflict head cycle near) = IsCycleOf marks (check_spacing v) v.overlap layer head cycle near
 IsRightBy v o marks layer (Fault name at) = ⊥
 

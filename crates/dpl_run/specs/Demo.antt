@@ -1,5 +1,5 @@
 -- What `demo` does: as `split` does with a made-up file, but nothing is written.
-use Rattle.std.specs.Prelude.{◌≡◌, None, length}
+use Rattle.std.specs.Prelude.{◌≡◌, false, None, length}
 use Rattle.dpl_spec_split.specs.Squares.{uniform}
 use Rattle.dpl_demo.specs.Demo.{demo_file}
 use Rattle.dpl_words.specs.Meaning.{DemoValues}
@@ -26,4 +26,4 @@ demo_marked = record { layer = demo_choice; mark_a = None; mark_b = None }
 
 -- The made-up file is decided by the rule of 30, which is the corner rule too, and the overlap of 10. The numbers of tiles and workers occur nowhere.
 abbrev pub IsDemo : DemoValues → Outcome → Type 0
-IsDemo v x = (d : Decision) × IsDecision demo_marked (uniform 30) 10 (demo_file v.seed v.rows) d × (x ≡ demo_plan d)
+IsDemo v x = (d : Decision) × IsDecision false demo_marked (uniform 30) 10 (demo_file v.seed v.rows) d × (x ≡ demo_plan d)

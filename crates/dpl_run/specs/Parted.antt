@@ -1,5 +1,6 @@
 -- What a file of masks keeps: the layer is parted between them, features stay apart, and masks overlap at stitches alone.
-use Rattle.std.specs.Prelude.{◌≡◌, ℕ, List, [], ◌∷◌, Option, Some, None, map, option_map}
+use Rattle.std.specs.Prelude.{◌≡◌, ℕ, List, [], ◌∷◌, Option, Some, None, is_some, map, option_map}
+use Rattle.std.specs.List.{AllZip, flat_map}
 use Rattle.std.specs.FinMap as files
 use Rattle.clap.specs.Walk.{Text}
 use Rattle.dpl_spec_split.specs.declared.Spacing.{Spacing}
@@ -18,14 +19,20 @@ use Rattle.dpl_cert.specs.declared.cert.Cert.TheVariants.{Masks}
 use Rattle.dpl_cert.specs.declared.cert.Head.{Head}
 use Rattle.dpl_cert.specs.declared.cert.PieceLine.{PieceLine}
 use Rattle.dpl_cert.specs.declared.cert.StitchLine.{StitchLine}
+use Rattle.dpl_cert.specs.declared.cert.Gain.{Gain}
 use Rattle.dpl_masks.specs.Bytes.{file_bytes}
-use Rattle.dpl_words.specs.Meaning.{AsksCheck, AsksDemo, AsksSplit, RequestValues, SplitValues, request_of}
+use Rattle.dpl_words.specs.Meaning.{AsksBatch, AsksCheck, AsksDemo, AsksSplit, BatchValues, RequestValues, SplitValues, request_of}
 use Rattle.dpl_layer.specs.Reading.{chosen, copied_of}
 use Rattle.dpl_layer.specs.Marked.{AreFaultless, AreMarked}
 use Rattle.dpl_law_verdict.specs.Valid.{KeepMarks}
+use Rattle.dpl_run.specs.Batch.{greatest, split_of}
+use Rattle.dpl_run.specs.Calls.{files_written}
+use Rattle.dpl_run.specs.CallsMade.{names_of}
 use Rattle.dpl_run.specs.Split.{certified, marks_for, split_choice, split_marked, split_spacing}
 use Rattle.dpl_run.specs.Outcome.{Outcome, Shows, carried_out}
 use Rattle.dpl_run.specs.Checked.{IsRight}
+use Rattle.dpl_run.specs.declared.status.Status.{Status}
+use Rattle.dpl_run.specs.declared.status.Status.TheVariants.{Done, Usage}
 
 abbrev pub rects_of_lines : List StitchLine → List Rect
 rects_of_lines lines = map (λ (line : StitchLine). line.rect) lines
@@ -62,13 +69,16 @@ pub record WritesParting (v : SplitValues) (bytes : List ℕ) (writes : List (Te
   pub head : Head
   pub pieces : List PieceLine
   pub stitches : List StitchLine
+  -- and lines of gains exactly where fewer stitches are asked for
+  pub gains : Option (List Gain)
+  pub asked : is_some gains ≡ v.fewer
   pub parting : ArePartingMasks (split_spacing v) layer (rects_of_lines stitches) a b
   -- each marked square of the layer is on its mask alone
   pub kept : KeepMarks (marks_for (split_marked v) marked_a marked_b) layer a b
   -- the bytes written
   pub copied : List ℕ
   pub before : copied_of lib top ≡ Some copied
-  pub are : writes ≡ (v.output, file_bytes copied v.a v.b a b) ∷ (v.certificate, certified (Masks head pieces stitches None)) ∷ []
+  pub are : writes ≡ (v.output, file_bytes copied v.a v.b a b) ∷ (v.certificate, certified (Masks head pieces stitches gains)) ∷ []
 
 -- the masks of a file that is there are written
 pub record WritesMasks (v : SplitValues) (o : Outside) (writes : List (Text × List ℕ)) : Type 0 where
@@ -76,13 +86,26 @@ pub record WritesMasks (v : SplitValues) (o : Outside) (writes : List (Text × L
   pub read : files.get o.files v.input ≡ Some bytes
   pub parted : WritesParting v bytes writes
 
--- what a request that is done writes: `split` the masks, the others nothing; and `check` has found that all is right
-abbrev pub IsPartedBy : Option RequestValues → Outside → List (Text × List ℕ) → Type 0
-IsPartedBy (Some (AsksSplit v)) o writes = WritesMasks v o writes
-IsPartedBy (Some (AsksCheck v)) o writes = (writes ≡ []) × IsRight v o
-IsPartedBy (Some (AsksDemo v)) o writes = writes ≡ []
-IsPartedBy None o writes = ⊥
+-- a split that is done writes the masks
+abbrev pub IsPartedAlone : SplitValues → Status → Outside → List (Text × List ℕ) → Type 0
+IsPartedAlone v status o writes = status ≡ Done → WritesMasks v o writes
 
--- What the words ask for was done: if they ask for masks, these were written, and else nothing was; if they ask for a check, what the files hold is right.
-abbrev pub IsParted : List Text → Option Outside → Option Outside → Type 0
-IsParted words old new = (o : Outside) × Shows old o × ((x : Outcome) × IsPartedBy (request_of words) o x.writes × (new ≡ option_map (carried_out x) old))
+-- each layer is split as if it were alone, also where others are in conflict or refused; by its answer its files are written
+pub record WritesEach (v : BatchValues) (status : Status) (o : Outside) (writes : List (Text × List ℕ)) : Type 0 where
+  pub each : List Outcome
+  pub answer : status ≡ greatest (map (λ (x : Outcome). x.status) each)
+  pub are : writes ≡ flat_map (λ (x : Outcome). x.writes) each
+  pub named : AllZip (λ layer x. names_of x.writes ≡ files_written (Some (AsksSplit (split_of v layer))) x.status) v.layers each
+  pub parted : AllZip (λ layer x. IsPartedAlone (split_of v layer) x.status o x.writes) v.layers each
+
+-- what a request writes: `split` the masks, if it is done, and `batch` those of each layer that is done; the others write nothing, and a `check` that is done has found that all is right
+abbrev pub IsPartedBy : Option RequestValues → Status → Outside → List (Text × List ℕ) → Type 0
+IsPartedBy (Some (AsksSplit v)) status o writes = IsPartedAlone v status o writes
+IsPartedBy (Some (AsksCheck v)) status o writes = (writes ≡ []) × (status ≡ Done → IsRight v o)
+IsPartedBy (Some (AsksDemo v)) status o writes = writes ≡ []
+IsPartedBy (Some (AsksBatch v)) status o writes = WritesEach v status o writes
+IsPartedBy None status o writes = (writes ≡ []) × (status ≡ Usage)
+
+-- What the words ask for was answered so: the masks that were written part their layers, and where they ask for a check that is done, what the files hold is right.
+abbrev pub IsParted : List Text → Status → Option Outside → Option Outside → Type 0
+IsParted words status old new = (o : Outside) × Shows old o × ((x : Outcome) × IsPartedBy (request_of words) status o x.writes × (new ≡ option_map (carried_out x) old))

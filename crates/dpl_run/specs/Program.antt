@@ -6,11 +6,12 @@ use Rattle.std.specs.FinMap as map
 use Rattle.dpl_spec_split.specs.declared.Rect.{Rect}
 use Rattle.dpl_spec_split.specs.Marks.{Marks}
 use Rattle.dpl_cert.specs.declared.cert.Cert.{Cert}
-use Rattle.dpl_words.specs.Meaning.{AsksCheck, AsksDemo, AsksSplit, CheckValues, RequestValues, request_of}
+use Rattle.dpl_words.specs.Meaning.{AsksBatch, AsksCheck, AsksDemo, AsksSplit, CheckValues, RequestValues, request_of}
 use Rattle.dpl_run.specs.Outcome.{IsPartDone, Outcome, Shows, carried_out, is_answered, says}
 use Rattle.dpl_layer.specs.Reading.{limit}
 use Rattle.dpl_run.specs.Split.{IsSplitOf}
 use Rattle.dpl_run.specs.Check.{IsCheck, IsCheckOfCert, IsCheckOfFile, WithFile}
+use Rattle.dpl_run.specs.Batch.{IsBatchOf}
 use Rattle.dpl_run.specs.Demo.{IsDemo}
 use Rattle.dpl_run.specs.Texts.{usage_line}
 use Rattle.dpl_run.specs.declared.status.Status.{Status}
@@ -21,6 +22,7 @@ abbrev pub IsPlan : Option RequestValues → Files → Outcome → Type 0
 IsPlan (Some (AsksSplit v)) files x = IsSplitOf v (map.get files v.input) x
 IsPlan (Some (AsksCheck v)) files x = IsCheck v (map.get files v.input) (map.get files v.certificate) (map.get files v.output) x
 IsPlan (Some (AsksDemo v)) files x = IsDemo v x
+IsPlan (Some (AsksBatch v)) files x = IsBatchOf v (map.get files v.input) x
 IsPlan None files x = x ≡ says Usage usage_line
 
 -- The answer is that of what the words ask for, on what the outside shows, and all of it was done.

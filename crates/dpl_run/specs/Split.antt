@@ -41,11 +41,11 @@ marks_for choice a b = asked (are_asked choice) a b
 abbrev pub split_spacing : SplitValues → Spacing
 split_spacing v = record { rule = v.rule; corner = v.corner }
 
--- The first fault of the file, or the decomposition of its layer and its marks. The numbers of tiles and workers occur nowhere.
-abbrev pub IsDecision : MarkedChoice → Spacing → ℕ → List ℕ → Decision → Type 0
-IsDecision choice spacing overlap bytes (Refuses name at) = IsMarkedReading choice bytes (FaultyMarked name at)
-IsDecision choice spacing overlap bytes (Decides copied flat) =
-    (layer a b : List Rect) × IsMarkedReading choice bytes (MarkedLayer copied layer a b) × IsFlat (marks_for choice a b) spacing overlap layer flat
+-- The first fault of the file, or the decomposition of its layer and its marks, with fewer stitches where they are asked for. The numbers of tiles and workers occur nowhere.
+abbrev pub IsDecision : Bool → MarkedChoice → Spacing → ℕ → List ℕ → Decision → Type 0
+IsDecision fewer choice spacing overlap bytes (Refuses name at) = IsMarkedReading choice bytes (FaultyMarked name at)
+IsDecision fewer choice spacing overlap bytes (Decides copied flat) =
+    (layer a b : List Rect) × IsMarkedReading choice bytes (MarkedLayer copied layer a b) × IsFlat fewer (marks_for choice a b) spacing overlap layer flat
 
 abbrev pub certified : Cert → List ℕ
 certified c = text (lines_of c)
@@ -58,7 +58,7 @@ refusal v name at = record { status = Refused; writes = (v.certificate, certifie
 abbrev pub painting : SplitValues → List ℕ → Painted → Outcome
 painting v copied p = record {
   status = Done;
-  writes = (v.output, file_bytes copied v.a v.b p.a p.b) ∷ (v.certificate, certified (Masks p.head p.pieces p.stitches None)) ∷ [];
+  writes = (v.output, file_bytes copied v.a v.b p.a p.b) ∷ (v.certificate, certified (Masks p.head p.pieces p.stitches p.gains)) ∷ [];
   line = done_line p.head (length p.stitches) (length p.a) (length p.b);
 }
 
@@ -73,7 +73,7 @@ plan_of v (Decides copied (Clashes x)) = clash v x
 
 -- what is done with the bytes of the file
 abbrev pub IsSplit : SplitValues → List ℕ → Outcome → Type 0
-IsSplit v bytes x = (d : Decision) × IsDecision (split_marked v) (split_spacing v) v.overlap bytes d × (x ≡ plan_of v d)
+IsSplit v bytes x = (d : Decision) × IsDecision v.fewer (split_marked v) (split_spacing v) v.overlap bytes d × (x ≡ plan_of v d)
 
 -- what is done with the file, if it is there
 abbrev pub IsSplitOf : SplitValues → Option (List ℕ) → Outcome → Type 0

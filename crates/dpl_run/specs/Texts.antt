@@ -15,9 +15,10 @@ use Rattle.dpl_cert.specs.Grammar.{count_words, cycle_words, stitches_words}
 -- how the command line is written
 abbrev pub usage_line : List ℕ
 usage_line =
-    codes "usage: dpl split --layer N --rule N --overlap N [--corner N] [--datatype N] [--top NAME] [--a N] [--b N] [--mark-a N] [--mark-b N] [--tile N] [--workers N] IN OUT CERT\n"
+    codes "usage: dpl split --layer N --rule N --overlap N [--corner N] [--datatype N] [--top NAME] [--a N] [--b N] [--mark-a N] [--mark-b N] [--tile N] [--workers N] [--fewer] IN OUT CERT\n"
     ++ (codes "       dpl check --layer N --rule N --overlap N [--corner N] [--datatype N] [--top NAME] [--a N] [--b N] [--mark-a N] [--mark-b N] IN OUT CERT\n"
-    ++ codes "       dpl demo --seed N --rows N [--tile N] [--workers N]\n")
+    ++ (codes "       dpl demo --seed N --rows N [--tile N] [--workers N]\n"
+    ++ codes "       dpl batch --rule N --overlap N [--corner N] [--datatype N] [--top NAME] [--a N] [--b N] [--tile N] [--workers N] IN PREFIX LAYER...\n"))
 
 -- the counts, and the numbers of slabs of both masks
 abbrev pub counts_line : List ℕ → Head → ℕ → ℕ → ℕ → List ℕ

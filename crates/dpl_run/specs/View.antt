@@ -10,14 +10,20 @@ use Rattle.dpl_words.specs.Meaning.{CheckValues}
 use Rattle.dpl_layer.specs.declared.marked.MarkedLayer.{MarkedLayer}
 use Rattle.dpl_spec_split.specs.Marks.{Marks}
 use Rattle.dpl_run.specs.declared.output.Output.{Output}
+use Rattle.dpl_run.specs.declared.output.FileName.{FileName}
+use Rattle.dpl_run.specs.declared.output.FileName.TheVariants.{Given, Made}
 use Rattle.dpl_run.specs.declared.output.Write.{Write}
 use Rattle.dpl_run.specs.declared.pipeline.Decision.{Decision}
 use Rattle.dpl_run.specs.declared.pipeline.Decision.TheVariants.{Answered, Refused}
 use Rattle.dpl_run.specs.declared.texts.CheckedFile.{CheckedFile}
 use Rattle.dpl_run.specs.declared.texts.CheckedFile.TheVariants.{Layout, Certificate, Masks}
 
+abbrev pub name_text : FileName → Text
+name_text (Given name) = name.now
+name_text (Made name) = string_bytes name
+
 abbrev pub write_view : Write → Text × List ℕ
-write_view w = (w.name.now, w.bytes.items)
+write_view w = (name_text w.name, w.bytes.items)
 
 abbrev pub output_view : Output → Outcome
 output_view x = record { status = x.status; writes = map write_view x.writes.items; line = string_bytes x.line }

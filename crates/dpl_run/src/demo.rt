@@ -50,6 +50,7 @@ pub(crate) fn demo_output<'a, R: Threads + Wait + Sync, G: Gate + Sync>(
         },
         spacing: Spacing::uniform(RULE),
         overlap: OVERLAP,
+        fewer: false,
         sharing: Sharing {
             tile: options.tile,
             workers: options.workers,

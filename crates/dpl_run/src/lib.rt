@@ -1,6 +1,7 @@
 //! The program, but for its `main`: the words of the command line, the files, and what is written and said.
 #![tactic(auto)]
 
+mod batch;
 mod check;
 mod demo;
 mod input;

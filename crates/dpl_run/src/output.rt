@@ -5,21 +5,42 @@ ghost use Rattle.dpl_host.specs.Outside.{HasCause};
 ghost use Rattle.dpl_run.specs.Calls.{AreWritings, BeginWritings};
 ghost use Rattle.dpl_run.specs.CallsMade.{names_of};
 ghost use Rattle.dpl_run.specs.Outcome.{IsPartDone, carried_out, says};
-ghost use Rattle.dpl_run.specs.View.{output_view};
+ghost use Rattle.dpl_run.specs.View.{name_text, output_view};
 
 use crate::status::Status;
 use dpl_host::{Failed, Host, say_all, write_all};
 use std::alloc::Global;
 
+/// The name of a file to be written.
+#[derive(Drop)]
+pub(crate) enum FileName<'a> {
+    /// A word of the command line.
+    Given(&'a str),
+    /// One that is made of a prefix and a layer.
+    Made(String),
+}
+
+impl<'a> FileName<'a> {
+    /// The name as a text.
+    pub(crate) fn text(&self) -> &str
+        ensures { result.now ≡ name_text self.now }
+    {
+        match self {
+            FileName::Given(name) => name,
+            FileName::Made(name) => name.as_str(),
+        }
+    }
+}
+
 /// A file to be written.
-#[derive(Debug, Drop)]
+#[derive(Drop)]
 pub(crate) struct Write<'a> {
-    pub(crate) name: &'a str,
+    pub(crate) name: FileName<'a>,
     pub(crate) bytes: Vec<u8>,
 }
 
 /// All that a run writes and says, and how it ends then.
-#[derive(Debug, Drop)]
+#[derive(Drop)]
 pub(crate) struct Output<'a> {
     pub(crate) status: Status,
     pub(crate) writes: Vec<Write<'a>>,
@@ -47,7 +68,7 @@ pub(crate) fn perform<H: Host>(host: &mut H, output: &Output) -> Result<(), Fail
     ensures begun { OnErr result (Logged (H.log host.old) (H.log host.new) (BeginWritings (names_of (output_view output.now).writes))) }
 {
     for write in &output.writes {
-        write_all(host, write.name, write.bytes.as_slice())?;
+        write_all(host, write.name.text(), write.bytes.as_slice())?;
     }
     say_all(host, output.line.as_bytes())
 }

@@ -12,6 +12,7 @@ ghost use Rattle.dpl_run.specs.Program.{IsCutShort, IsMade, IsOutcome};
 ghost use Rattle.dpl_run.specs.Texts.{usage_line as usage_line_of};
 ghost use Rattle.dpl_run.specs.View.{output_view};
 
+use crate::batch::batch_output;
 use crate::check::check_output;
 use crate::demo::demo_output;
 use crate::input::read_nothing;
@@ -32,6 +33,8 @@ use std::thread::Threads;
 ///
 /// `check` reads the layout IN, the certificate CERT and, if it is one of masks, their file OUT, and says of masks of any tool whether they are right, and of an odd cycle whether it is there. `demo` splits a layout that is made up of two numbers. Both write nothing, and say one line.
 ///
+/// `batch` does for each LAYER what `split` does, with the files PREFIX.LAYER.gds and PREFIX.LAYER.cert: it reads IN once, and one pool of workers has the tiles of all layers. It writes the files in the order of the layers, and then says a line for each.
+///
 /// All of it is made before the first byte is written: where memory runs out or the read fails, nothing is written or said. Where a write fails, a prefix of it was.
 pub fn run<'a, R: Threads + Wait + Sync, H: Host, G: Gate + Sync>(
     rt: &R,
@@ -42,8 +45,8 @@ pub fn run<'a, R: Threads + Wait + Sync, H: Host, G: Gate + Sync>(
 ) -> Status
     // An answer is one that the definition gives, which gives at most one, and all of it was written and said.
     ensures answer { is_answered result ≡ true → IsOutcome (texts words.entry.now) result (H.told host.old) (H.told host.new) }
-    // Masks that were written part the layer, keep its features apart, overlap at stitches alone and have each marked square on its mask alone; only `split` writes; and where `check` is done, so do the masks that it read, or the cycle that it read is an odd cycle of conflicts.
-    ensures parted { result ≡ Status.Done → IsParted (texts words.entry.now) (H.told host.old) (H.told host.new) }
+    // Masks that were written part the layer, keep its features apart, overlap at stitches alone and have each marked square on its mask alone; only `split` and, for each layer by itself, `batch` write; and where `check` is done, so do the masks that it read, or the cycle that it read is an odd cycle of conflicts.
+    ensures parted { is_answered result ≡ true → IsParted (texts words.entry.now) result (H.told host.old) (H.told host.new) }
     // The words decide alone whether they are a command.
     ensures usage { result ≡ Status.Usage → request_of (texts words.entry.now) ≡ None }
     ensures no_other { request_of (texts words.entry.now) ≡ None → (result ≡ Status.Usage) ⊎ (result ≡ Status.WriteFault) ⊎ (result ≡ Status.NoMemory) }
@@ -121,6 +124,7 @@ fn output_of<'a, R: Threads + Wait + Sync, H: Host, G: Gate + Sync>(
         Request::Split(options) => split_output(rt, alloc, options, host, gate),
         Request::Check(options) => check_output(alloc, options, host),
         Request::Demo(options) => read_nothing(host, demo_output(rt, alloc, options, gate)?),
+        Request::Batch(options) => batch_output(rt, alloc, options, host, gate),
     }
 }
 

@@ -13,7 +13,7 @@ ghost use Rattle.dpl_answer.specs.View.{clash_view, painted_view};
 ghost use Rattle.dpl_run.specs.View.{FitsDecision, decision_view, output_view, write_view};
 
 use crate::input::read_input;
-use crate::output::{Output, Write};
+use crate::output::{FileName, Output, Write};
 use crate::pipeline::{Decision, Order, decide};
 use crate::status::Status;
 use crate::texts::{conflict_line, done_line, refused_line};
@@ -79,6 +79,7 @@ fn split<'a, R: Threads + Wait + Sync, G: Gate + Sync>(
             corner: options.corner,
         },
         overlap: options.overlap,
+        fewer: options.fewer,
         sharing: Sharing {
             tile: options.tile,
             workers: options.workers,
@@ -89,7 +90,7 @@ fn split<'a, R: Threads + Wait + Sync, G: Gate + Sync>(
 }
 
 /// The files and the line that tell of a decision.
-fn decided<'a>(
+pub(crate) fn decided<'a>(
     alloc: Global,
     options: &SplitOptions<'a>,
     decision: Decision,
@@ -124,6 +125,7 @@ fn painted_output<'a>(
         head,
         pieces,
         stitches,
+        gains,
     } = painted;
     let bytes = file_bytes(alloc, copied, a.rects(), b.rects(), options.a, options.b)?;
     let line = done_line(
@@ -139,10 +141,10 @@ fn painted_output<'a>(
         head,
         pieces,
         stitches,
-        gains: None,
+        gains,
     };
     let masks = Write {
-        name: options.output,
+        name: FileName::Given(options.output),
         bytes,
     };
     let certificate = certificate(alloc, options, &cert)?;
@@ -205,7 +207,7 @@ fn certificate<'a>(
 {
     let bytes = cert_bytes(alloc, cert)?;
     Ok(Write {
-        name: options.certificate,
+        name: FileName::Given(options.certificate),
         bytes,
     })
 }

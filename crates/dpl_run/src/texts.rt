@@ -3,6 +3,7 @@ ghost use Rattle.std.specs.Prelude.{◌≡◌, IfOk, None, Some, string_bytes};
 ghost use Rattle.dpl_spec_verdict.specs.declared.Verdict.TheVariants.{Counts, Cover, Marked, Overlap, Rules, SpacingA, SpacingB};
 ghost use Rattle.dpl_run.specs.View.{file_word};
 ghost use Rattle.dpl_run.specs.Texts.{bad_line_line as bad_line_line_of, broken_line, conflict_line as conflict_line_of, demo_line as demo_line_of, done_line as done_line_of, refused_file_line as refused_file_line_of, refused_line as refused_line_of, usage_line as usage_line_of, valid_line as valid_line_of};
+ghost use Rattle.dpl_run.specs.Batch.{layer_line as layer_line_of};
 ghost use Rattle.dpl_run.specs.Check.{verdict_line as verdict_line_of};
 
 use dpl_base::Pt;
@@ -20,9 +21,10 @@ pub(crate) enum CheckedFile {
 
 /// How the command line is written, in a line for each command. Layers and data types are those of the GDSII Stream Format, Release 6; the rule, the overlap, the corner rule and the tile are in database units.
 pub const USAGE: &str =
-    "usage: dpl split --layer N --rule N --overlap N [--corner N] [--datatype N] [--top NAME] [--a N] [--b N] [--mark-a N] [--mark-b N] [--tile N] [--workers N] IN OUT CERT
+    "usage: dpl split --layer N --rule N --overlap N [--corner N] [--datatype N] [--top NAME] [--a N] [--b N] [--mark-a N] [--mark-b N] [--tile N] [--workers N] [--fewer] IN OUT CERT
        dpl check --layer N --rule N --overlap N [--corner N] [--datatype N] [--top NAME] [--a N] [--b N] [--mark-a N] [--mark-b N] IN OUT CERT
        dpl demo --seed N --rows N [--tile N] [--workers N]
+       dpl batch --rule N --overlap N [--corner N] [--datatype N] [--top NAME] [--a N] [--b N] [--tile N] [--workers N] IN PREFIX LAYER...
 ";
 
 /// How the command line is written.
@@ -69,6 +71,13 @@ pub(crate) fn conflict_line(alloc: Global, n: usize) -> Result<String, AllocErro
     ensures { IfOk result (λ s. string_bytes s ≡ conflict_line_of n) }
 {
     format!(in alloc; "conflict cycle {n}\n")
+}
+
+/// A line with the number of the layer of which it tells before it.
+pub(crate) fn layer_line(alloc: Global, layer: u16, line: &str) -> Result<String, AllocError>
+    ensures { IfOk result (λ s. string_bytes s ≡ layer_line_of layer line.now) }
+{
+    format!(in alloc; "layer {layer} {line}")
 }
 
 /// The first fault of a layout.

@@ -2,6 +2,10 @@
 #![tactic(auto)]
 
 #[cfg(test)]
+mod batch;
+#[cfg(test)]
 mod corners;
+#[cfg(test)]
+mod fewer;
 #[cfg(test)]
 mod marks;

@@ -3,7 +3,7 @@
 use dpl_pool::Gate;
 use dpl_run::{Status, run};
 use dpl_test_gates::{Assembly, Counts, Crowd, Holds};
-use dpl_test_sample::{bars, host, words};
+use dpl_test_sample::{Part, bars, host, layout, words};
 use std::alloc::{AllocError, Global};
 use std::sync::Wait;
 use std::test::*;
@@ -79,6 +79,29 @@ fn two_tiles_meet(rt: HostRuntime) -> Result<(), Fail> {
 #[test]
 fn posted_early(rt: HostRuntime) -> Result<(), Fail> {
     assert!(rt; meets(&rt, rt.alloc(), true)?);
+    Ok(())
+}
+
+/// A bar on each of two layers.
+const TWO_LAYERS: [Part<'static>; 4] = [
+    Part::Begin(b"TOP\0"),
+    Part::Bar(1, [0, 0, 100, 20]),
+    Part::Bar(2, [0, 0, 100, 20]),
+    Part::End,
+];
+
+#[test]
+fn tiles_of_two_layers_meet(rt: HostRuntime) -> Result<(), Fail> {
+    let alloc = rt.alloc();
+    let line = "dpl batch --rule 30 --overlap 10 --tile 1000 --workers 2 in p 1 2";
+    for (held, other) in [(0, 1), (1, 0)] {
+        let files = vec![in alloc; ("in", layout(alloc, &[&TWO_LAYERS])?)]?;
+        let mut host = host(alloc, files, 4096, Vec::new(alloc))?;
+        let words = words(alloc, line)?;
+        let gate = Holds::new(held, other, false);
+        assert!(rt; run(&rt, alloc, &words, &mut host, &gate) == Status::Done);
+        assert!(rt; !gate.has_given_up());
+    }
     Ok(())
 }
 

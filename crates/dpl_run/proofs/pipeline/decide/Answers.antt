@@ -13,7 +13,7 @@ returns-in-Err-Refused-clause-decision g c =
     let order = c.args.order.now in
     let choice = marked_choice_view order.choice in
     let file = c.args.bytes.items in
-    rw c.in-Err-Refused.field-0-is (faulty choice order.spacing order.overlap file c.in-Err-Refused.name c.in-Err-Refused.at c.requires.size
+    rw c.in-Err-Refused.field-0-is (faulty order.fewer choice order.spacing order.overlap file c.in-Err-Refused.name c.in-Err-Refused.at c.requires.size
     (subst (λ (e : LayerFault). IsMarkedFault choice file e) c.in-Err-Refused.field-0-is c.in-Err-Refused.ensures.fault))
 
 pub returns-clause-decision : goal.returns-clause-decision
@@ -27,6 +27,6 @@ returns-clause-decision g c =
     let one = united marks layer.mark_a layer.mark_b c.in_ok-marked.marked fixed c.in_ok-marked.ensures in
     let (features, many, is) = c.in_ok-cut.ensures.cut marks one in
     let (pieces, completed, flat) = rw c.marks_by-marks.ensures at c.in_ok-answer.ensures.flat in
-    answered choice order.spacing order.overlap c.args.bytes.items layer.copied.items layer.slabs layer.mark_a layer.mark_b
+    answered order.fewer choice order.spacing order.overlap c.args.bytes.items layer.copied.items layer.slabs layer.mark_a layer.mark_b
     (flat_view c.in_ok-answer.answer) c.requires.size read
     (cut_view features pieces, is pieces completed, flat features many)

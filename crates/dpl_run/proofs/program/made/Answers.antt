@@ -28,8 +28,5 @@ returns-in-Err-Failed-clause-calls g c = reads_of_words (request_of (texts c.arg
 pub returns-in-Ok-usage-clause-calls : goal.returns-in-Ok-usage-clause-calls
 returns-in-Ok-usage-clause-calls g c = unread (request_of (texts c.args.words.now)) (g.H.Host.told c.args.host.now)
 
-pub returns-in-Err-usage-clause-calls : goal.returns-in-Err-usage-clause-calls
-returns-in-Err-usage-clause-calls g c = unread (request_of (texts c.args.words.now)) (g.H.Host.told c.args.host.now)
-
-pub returns-in-Err-NoMemory-clause-calls : goal.returns-in-Err-NoMemory-clause-calls
-returns-in-Err-NoMemory-clause-calls g c = unread (request_of (texts c.args.words.now)) (g.H.Host.told c.args.host.now)
+pub returns-in-Err-Usage-clause-calls : goal.returns-in-Err-Usage-clause-calls
+returns-in-Err-Usage-clause-calls g c = unread (request_of (texts c.args.words.now)) (g.H.Host.told c.args.host.now)

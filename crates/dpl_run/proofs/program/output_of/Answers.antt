@@ -30,3 +30,9 @@ returns-in_ok-demo_output-in-Demo-clause-calls g c = rw c.in-Demo.is c.read_noth
 
 pub returns-in_err-demo_output-in-Demo-clause-calls : goal.returns-in_err-demo_output-in-Demo-clause-calls
 returns-in_err-demo_output-in-Demo-clause-calls g c = rw c.in-Demo.is no_calls
+
+pub returns-in-Batch-clause-made : goal.returns-in-Batch-clause-made
+returns-in-Batch-clause-made g c = rw c.in-Batch.is c.batch_output.ensures.made
+
+pub returns-in-Batch-clause-calls : goal.returns-in-Batch-clause-calls
+returns-in-Batch-clause-calls g c = rw c.in-Batch.is c.batch_output.ensures.calls

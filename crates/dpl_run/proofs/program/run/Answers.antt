@@ -3,6 +3,8 @@ use Rattle.clap.specs.Walk.{texts}
 use Rattle.dpl_run.specs.View.{output_view}
 use Rattle.dpl_run.proofs.Ends.{is_cut, is_outcome, none_failed}
 use Rattle.dpl_run.proofs.Parting.{outcome_parted}
+use Rattle.dpl_words.specs.Meaning.{request_of}
+use Rattle.dpl_run.proofs.Usage.{usage_asked}
 use Rattle.dpl_run.proofs.CallsOf.{calls_of_answer, calls_of_none, calls_of_part}
 use Rattle.dpl_run.proofs.program.run.Goals as goal
 
@@ -41,3 +43,7 @@ returns-in-Ok-clause-calls g c = calls_of_part (texts c.args.words.now) (g.H.Hos
 
 pub returns-clause-calls : goal.returns-clause-calls
 returns-clause-calls g c = calls_of_none (texts c.args.words.now) (g.H.Host.told c.args.host.now) c.in-Err.status c.in-Err.ensures.only c.in-Err.ensures.calls
+
+pub returns-in-Ok-perform-clause-usage : goal.returns-in-Ok-perform-clause-usage
+returns-in-Ok-perform-clause-usage g c =
+    usage_asked (request_of (texts c.args.words.now)) (g.H.Host.told c.args.host.now) (output_view c.in-Ok.output) c.in-Ok.ensures.made

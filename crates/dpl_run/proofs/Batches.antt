@@ -1,0 +1,151 @@
+-- Many layers of one file, each decided as if it were alone.
+use Rattle.std.proofs.Common.{◌≡◌, ◌∙◌, ◌≤◌, ◌<◌, ◌∷◌, [], List, ℕ, Bool, Option, Some, None, ap, false, true, inl, inr, length, map, refl, subst, sym}
+use Rattle.std.specs.Prelude.{nat_lt, if◌then◌else◌}
+use Rattle.std.specs.List.{AllZip, fold}
+use Rattle.dpl_spec_split.specs.declared.Spacing.{Spacing}
+use Rattle.dpl_spec_split.specs.declared.Rect.{Rect}
+use Rattle.dpl_cert.specs.declared.name.Name.{Name}
+use Rattle.dpl_cert.specs.declared.name.Name.TheVariants.{TooLarge}
+use Rattle.dpl_host.specs.Outside.{Outside}
+use Rattle.clap.specs.Walk.{Text}
+use Rattle.dpl_words.specs.Meaning.{AsksBatch, BatchValues, certificate_name, mask_name}
+use Rattle.dpl_layer.specs.Many.{IsReadOf, read_view}
+use Rattle.dpl_layer.specs.View.{choice_view}
+use Rattle.dpl_layer.specs.Marked.{FaultyMarked, IsMarkedLayout, MarkedLayer}
+use Rattle.dpl_layer.specs.Reading.{Choice, Faulty, IsLayout, Layer as LayerRead}
+use Rattle.dpl_layer.specs.declared.layer.LayerChoice.{LayerChoice}
+use Rattle.dpl_layer.specs.declared.many.ReadLayer.{ReadLayer}
+use Rattle.dpl_layer.specs.declared.many.ReadLayer.TheVariants.{Refused, Read}
+use Rattle.dpl_answer.specs.Flat.{Clashes, Paints}
+use Rattle.dpl_answer.specs.View.{flat_view}
+use Rattle.dpl_run.specs.Batch.{IsBatch, IsBatchOf, greater, split_of}
+use Rattle.dpl_run.specs.BatchMade.{AreDecidedFor, AreDecisions, IsChosen, decided_together, each_decided, layer_choice}
+use Rattle.dpl_run.specs.Outcome.{Outcome, code_of, is_answered}
+use Rattle.dpl_run.specs.Program.{IsInput, IsMade}
+use Rattle.dpl_run.specs.Split.{Decides, Decision as DecisionOf, IsDecision, IsSplit, Refuses, plan_of, split_spacing}
+use Rattle.dpl_run.specs.View.{decision_view}
+use Rattle.dpl_run.specs.Waits.{AreDecidedFrom, IsDecidedFrom}
+use Rattle.dpl_run.specs.declared.pipeline.Decision.{Decision}
+use Rattle.dpl_run.specs.declared.pipeline.Decision.TheVariants.{Answered, Refused as RefusedFile}
+use Rattle.dpl_run.specs.declared.status.Status.{Status}
+use Rattle.dpl_run.specs.declared.status.Status.TheVariants.{Done, Conflict, Refused as IsRefused}
+use Rattle.dpl_run.proofs.Zips.{zip_through, zip_weaker}
+
+-- ---- a layer without markers
+
+bare_fault : (layer : Choice) (bytes : List ℕ) (name : Name) (at : ℕ) → IsLayout layer bytes (Faulty name at)
+    → IsMarkedLayout (record { layer = layer; mark_a = None; mark_b = None }) bytes (FaultyMarked name at)
+bare_fault layer bytes name at (inl early) = inl early
+bare_fault layer bytes name at (inr (lib, holds, fault)) = inr (lib, holds, inl fault)
+
+bare_layer : (layer : Choice) (bytes copied : List ℕ) (slabs : List Rect) → IsLayout layer bytes (LayerRead copied slabs)
+    → IsMarkedLayout (record { layer = layer; mark_a = None; mark_b = None }) bytes (MarkedLayer copied slabs [] [])
+bare_layer layer bytes copied slabs (lib, holds, is) =
+    (lib, holds, record { layer = is; faultless_a = tt; faultless_b = tt; marked_a = refl; marked_b = refl })
+
+-- ---- from what is read of each layer to its decision
+
+module _ (top : Option (List ℕ)) (datatype : ℕ) (spacing : Spacing) (overlap : ℕ) (bytes : List ℕ) (small : length bytes ≤ 268435456) where
+  one_decided : (layer : Choice) (read : ReadLayer) (d : Decision) → IsLayout layer bytes (read_view read) → IsDecidedFrom spacing overlap read d
+      → IsDecision false (record { layer = layer; mark_a = None; mark_b = None }) spacing overlap bytes (decision_view d)
+  one_decided layer (Refused name at) (RefusedFile n a) is from =
+      subst (λ (m : Name). IsDecision false (record { layer = layer; mark_a = None; mark_b = None }) spacing overlap bytes (Refuses m a)) (sym from.0)
+      (subst (λ (b : ℕ). IsDecision false (record { layer = layer; mark_a = None; mark_b = None }) spacing overlap bytes (Refuses name b)) (sym from.1)
+      (inr (small, bare_fault layer bytes name at is)))
+  one_decided layer (Refused name at) (Answered copied answer) is from = absurd from
+  one_decided layer (Read l) (RefusedFile n a) is from = absurd from
+  one_decided layer (Read l) (Answered copied answer) is from =
+      subst (λ (before : List ℕ). IsDecision false (record { layer = layer; mark_a = None; mark_b = None }) spacing overlap bytes (Decides before (flat_view answer))) (sym from.0)
+      (l.slabs, [], [], inr (small, bare_layer layer bytes l.copied.items l.slabs is), from.1)
+
+  chosen_decided : (layer : ℕ) (choice : LayerChoice) (d : Decision) → IsChosen top datatype layer choice
+      → IsDecision false (record { layer = choice_view choice; mark_a = None; mark_b = None }) spacing overlap bytes (decision_view d)
+      → IsDecision false (layer_choice top datatype layer) spacing overlap bytes (decision_view d)
+  chosen_decided layer choice d is h =
+      subst (λ (c : Choice). IsDecision false (record { layer = c; mark_a = None; mark_b = None }) spacing overlap bytes (decision_view d)) is h
+
+  pub layers_decided : (layers : List ℕ) (choices : List LayerChoice) (reads : List ReadLayer) (ds : List Decision) → AllZip (IsChosen top datatype) layers choices
+      → AllZip (IsReadOf bytes) choices reads → AreDecidedFrom spacing overlap reads ds → AreDecisions top datatype layers spacing overlap bytes ds
+  layers_decided layers choices reads ds chosen read from = record {
+    each = zip_through (IsChosen top datatype) (λ (choice : LayerChoice) d. IsDecision false (record { layer = choice_view choice; mark_a = None; mark_b = None }) spacing overlap bytes (decision_view d))
+        (λ layer d. IsDecision false (layer_choice top datatype layer) spacing overlap bytes (decision_view d)) layers choices ds
+        (λ layer choice d is h. chosen_decided layer choice d is h) chosen
+        (zip_through (IsReadOf bytes) (IsDecidedFrom spacing overlap) (λ (choice : LayerChoice) d. IsDecision false (record { layer = choice_view choice; mark_a = None; mark_b = None }) spacing overlap bytes (decision_view d))
+        choices reads ds (λ choice r d is h. one_decided (choice_view choice) r d is h) read from.0);
+    fits = from.1;
+  }
+
+-- ---- the outcome
+
+-- each layer has the outcome of its decision
+each_split : (v : BatchValues) (bytes : List ℕ) (layers : List ℕ) (ds : List Decision)
+    → AllZip (λ layer d. IsDecision false (layer_choice v.top v.datatype layer) (split_spacing (split_of v layer)) v.overlap bytes (decision_view d)) layers ds
+    → AllZip (λ layer y. IsSplit (split_of v layer) bytes y) layers (each_decided v layers ds)
+each_split v bytes [] [] all = tt
+each_split v bytes [] (d ∷ ds) all = absurd all
+each_split v bytes (layer ∷ layers) [] all = absurd all
+each_split v bytes (layer ∷ layers) (d ∷ ds) all = ((decision_view d, all.0, refl), each_split v bytes layers ds all.1)
+
+pub batch_of : (v : BatchValues) (bytes : List ℕ) (ds : List Decision) (x : Outcome)
+    → AllZip (λ layer d. IsDecision false (layer_choice v.top v.datatype layer) (split_spacing (split_of v layer)) v.overlap bytes (decision_view d)) v.layers ds
+    → x ≡ decided_together v v.layers ds → IsBatch v bytes x
+batch_of v bytes ds x all is = (each_decided v v.layers ds, each_split v bytes v.layers ds all, is)
+
+-- ---- its answer
+
+greater_keeps : (P : Status → Type 0) (s t : Status) → P s → P t → P (greater s t)
+greater_keeps P s t first second = go (nat_lt (code_of s) (code_of t))
+  where
+    go : (b : Bool) → P (if b then t else s)
+    go true = second
+    go false = first
+
+module _ (P : Status → Type 0) (done : P Done) (conflict : P Conflict) (refused : P IsRefused) (v : BatchValues) (bytes : List ℕ) where
+  plan_keeps : (layer : ℕ) (d : DecisionOf) → P (plan_of (split_of v layer) d).status
+  plan_keeps layer (Refuses name at) = refused
+  plan_keeps layer (Decides copied (Paints p)) = done
+  plan_keeps layer (Decides copied (Clashes x)) = conflict
+
+  each_keeps : (layers : List ℕ) (xs : List Outcome) (s : Status) → P s → AllZip (λ layer y. IsSplit (split_of v layer) bytes y) layers xs
+      → P (fold greater s (map (λ (x : Outcome). x.status) xs))
+  each_keeps [] [] s kept all = kept
+  each_keeps [] (x ∷ xs) s kept all = absurd all
+  each_keeps (layer ∷ layers) [] s kept all = absurd all
+  each_keeps (layer ∷ layers) (x ∷ xs) s kept all =
+      let one : P x.status = subst (λ (y : Outcome). P y.status) (sym all.0.2) (plan_keeps layer all.0.0) in
+      each_keeps layers xs (greater s x.status) (greater_keeps P s x.status kept one) all.1
+
+  -- what holds of the answer of each layer holds of that of all
+  pub batch_keeps : (x : Outcome) → IsBatch v bytes x → P x.status
+  batch_keeps x (xs, all, is) = subst (λ (y : Outcome). P y.status) (sym is) (each_keeps v.layers xs Done done all)
+
+batch_answered : (v : BatchValues) (bytes : List ℕ) (x : Outcome) → IsBatch v bytes x → is_answered x.status ≡ true
+batch_answered v bytes = batch_keeps (λ s. is_answered s ≡ true) refl refl refl v bytes
+
+of_file : (v : BatchValues) (file : Option (List ℕ)) (bytes : List ℕ) (x : Outcome) → file ≡ Some bytes → IsBatch v bytes x → IsBatchOf v file x
+of_file v file bytes x is h = subst (λ (f : Option (List ℕ)). IsBatchOf v f x) (sym is) h
+
+pub batch_made : (told : Option Outside) (v : BatchValues) (bytes : List ℕ) (x : Outcome) → IsInput told v.input (Some bytes) → IsBatch v bytes x
+    → IsMade (Some (AsksBatch v)) told x
+batch_made told v bytes x h is = (h.0, h.1, of_file v _ bytes x h.2 is, batch_answered v bytes x is)
+
+-- a file that is too large is a fault of each layer
+refused_each : (v : BatchValues) (bytes : List ℕ) (layers : List ℕ) (ds : List Decision) → 268435456 < length bytes
+    → AllZip (λ (layer : ℕ) d. decision_view d ≡ Refuses TooLarge 268435456) layers ds
+    → AllZip (λ layer d. IsDecision false (layer_choice v.top v.datatype layer) (split_spacing (split_of v layer)) v.overlap bytes (decision_view d)) layers ds
+refused_each v bytes layers ds large all = zip_weaker _ _ layers ds
+    (λ layer d is. subst (λ (x : DecisionOf). IsDecision false (layer_choice v.top v.datatype layer) (split_spacing (split_of v layer)) v.overlap bytes x) (sym is) (inl (large, refl))) all
+
+pub batch_refused : (told : Option Outside) (v : BatchValues) (ds : List Decision) (x : Outcome) → IsInput told v.input None
+    → AreDecidedFor TooLarge 268435456 v.layers ds → x ≡ decided_together v v.layers ds → IsMade (Some (AsksBatch v)) told x
+batch_refused told v ds x h refused is =
+    let (file, there, large) = h.2 in
+    let batch = batch_of v file ds x (refused_each v file v.layers ds large refused.0) is in
+    (h.0, h.1, of_file v _ file x there batch, batch_answered v file x batch)
+
+-- names that are those of the layer's files
+pub plan_named : (v : BatchValues) (layer : ℕ) (out cert : Text) (d : DecisionOf) → out ≡ mask_name v.prefix layer → cert ≡ certificate_name v.prefix layer
+    → plan_of (record (split_of v layer) { output = out; certificate = cert }) d ≡ plan_of (split_of v layer) d
+plan_named v layer out cert d masks certificate =
+    ap (λ (name : Text). plan_of (record (split_of v layer) { output = name; certificate = cert }) d) masks
+    ∙ ap (λ (name : Text). plan_of (record (split_of v layer) { certificate = name }) d) certificate

@@ -1,0 +1,15 @@
+use Rattle.std.proofs.lemmas.Result.{IfOk-weaker}
+use Rattle.dpl_words.specs.Meaning.{batch_view}
+use Rattle.dpl_run.specs.View.{output_view}
+use Rattle.dpl_run.proofs.Batches.{batch_of}
+use Rattle.dpl_run.proofs.Zips.{zip_length}
+use Rattle.dpl_run.proofs.batch.batch.Goals as goal
+
+pub all_decided-requires-clause-len : goal.all_decided-requires-clause-len
+all_decided-requires-clause-len g c = zip_length _ _ _ (rw c.deref.ensures.value at c.in_ok-decisions.ensures.each)
+
+pub returns : goal.returns
+returns g c =
+    let each = rw c.deref.ensures.value at c.in_ok-decisions.ensures.each in
+    IfOk-weaker c.all_decided.result _ _
+    (λ x is. batch_of (batch_view c.args.options.now) c.args.bytes.items c.in_ok-decisions.decisions.items (output_view x) each is) c.all_decided.ensures

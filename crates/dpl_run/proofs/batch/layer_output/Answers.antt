@@ -1,0 +1,13 @@
+use Rattle.std.proofs.Common.{◌∙◌}
+use Rattle.std.proofs.lemmas.Result.{IfOk-weaker}
+use Rattle.dpl_words.specs.Meaning.{batch_view}
+use Rattle.dpl_run.specs.View.{decision_view}
+use Rattle.dpl_run.proofs.Batches.{plan_named}
+use Rattle.dpl_run.proofs.batch.layer_output.Goals as goal
+
+pub returns : goal.returns
+returns c =
+    let v = batch_view c.args.options.now in
+    let masks = c.as_str.ensures.value ∙ c.in_ok-masks.ensures in
+    let certificate = c.as_str-2.ensures.value ∙ c.in_ok-certificate.ensures in
+    IfOk-weaker c.owned.result _ _ (λ x is. is ∙ c.in_ok-made.ensures ∙ plan_named v c.args.layer _ _ (decision_view c.args.decision) masks certificate) c.owned.ensures
