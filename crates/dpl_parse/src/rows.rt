@@ -1,4 +1,4 @@
-//! The lines of a certificate, one kind after another.
+//! Rows: kinds of line that follow one another in a text, as those of a certificate do.
 ghost use Rattle.std.specs.Prelude.{◌≡◌, ◌≢◌, ℕ, suc, ◌+◌, ◌^◌, ◌<◌, ◌≤◌, ℤ, Bool, List, [], ◌∷◌, ◌++◌, length, codes, Some, IfSome, IfNone, IfOk, IfErr};
 ghost use Rattle.std.specs.List.{AllByRecursion};
 ghost use Rattle.std.specs.Fmt.{decimal, signed_decimal};
@@ -159,7 +159,7 @@ impl Words<'_> {
     }
 }
 
-/// A kind of line, whose words may have the line's place in them.
+/// A kind of line, whose words may have the line's place in them. Who implements it says which words a value has, which values there may be, and that these words have no space and no line feed; `read` takes all words of a line, and only those of a value.
 pub trait Row: Sized {
     ghost spelled: { ℕ → Self → List (List ℕ) };
 

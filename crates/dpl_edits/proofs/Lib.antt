@@ -1,0 +1,3 @@
+pub mod SquareLaws
+pub mod ChangeLaws
+pub mod LineLaws
