@@ -6,8 +6,8 @@ use Rattle.clap.specs.Walk.{Row, Text}
 use Rattle.clap.specs.Simple.{subcommand_of}
 use Rattle.clap.proofs.WalkLemmas.{both}
 use Rattle.dpl_words.specs.Definition.{dpl_app}
-use Rattle.dpl_words.specs.Meaning.{AsksBatch, AsksCheck, AsksDemo, AsksSplit, SplitValues, asked_of, batch_if_sound, batch_values, check_if_sound, check_values, demo_values}
-use Rattle.dpl_words.specs.Meaning.{is_apart, is_batch_apart, is_taken, request_of, split_if_sound, split_values}
+use Rattle.dpl_words.specs.Meaning.{AsksBatch, AsksCheck, AsksDemo, AsksEdit, AsksSplit, SplitValues, asked_of, batch_if_sound, batch_values, check_if_sound, check_values}
+use Rattle.dpl_words.specs.Meaning.{demo_values, edit_if_sound, edit_values, is_apart, is_batch_apart, is_edit_apart, is_taken, request_of, split_if_sound, split_values}
 use Rattle.dpl_words.specs.Ranges.{AreInRange, HasItsValues, IsApart}
 use Rattle.dpl_words.proofs.Ranges.{in_range, not_above, taken_there}
 
@@ -34,20 +34,27 @@ not-batch : (rows : List Row) (v : SplitValues) (b : Bool) → (if b then Some (
 not-batch rows v true e = absurd (cc)
 not-batch rows v false e = absurd (cc)
 
-by-name : (name : Text) (rows : List Row) (v : SplitValues) (b c d f : Bool) → bytes_eq name (codes "split") ≡ b → HasItsValues (name, rows)
+not-edit : (rows : List Row) (v : SplitValues) (b : Bool) → (if b then Some (AsksEdit (edit_values rows)) else None) ≡ Some (AsksSplit v) → IsFine v
+not-edit rows v true e = absurd (cc)
+not-edit rows v false e = absurd (cc)
+
+by-name : (name : Text) (rows : List Row) (v : SplitValues) (b c d f g : Bool) → bytes_eq name (codes "split") ≡ b → HasItsValues (name, rows)
     → (if b then split_if_sound (split_values rows) else (if c then check_if_sound (check_values rows) else
     (if d then Some (AsksDemo (demo_values rows)) else
-    (if f then batch_if_sound (batch_values rows) else None)))) ≡ Some (AsksSplit v) → IsFine v
-by-name name rows v true c d f is has e = (let w = split_values rows in sound-split w v (is_sound w) refl (in_range rows (has.split is)) e)
-by-name name rows v false true d f is has e = (let w = check_values rows in not-check rows v (is_apart w.a w.b w.input w.output w.certificate && not (nat_lt w.rule w.corner)) e)
-by-name name rows v false false true f is has e = absurd (cc)
-by-name name rows v false false false true is has e = (let w = batch_values rows in not-batch rows v (is_batch_apart w && not (nat_lt w.rule w.corner)) e)
-by-name name rows v false false false false is has e = absurd (cc)
+    (if f then batch_if_sound (batch_values rows) else
+    (if g then edit_if_sound (edit_values rows) else None))))) ≡ Some (AsksSplit v) → IsFine v
+by-name name rows v true c d f g is has e = (let w = split_values rows in sound-split w v (is_sound w) refl (in_range rows (has.split is)) e)
+by-name name rows v false true d f g is has e = (let w = check_values rows in not-check rows v (is_apart w.a w.b w.input w.output w.certificate && not (nat_lt w.rule w.corner)) e)
+by-name name rows v false false true f g is has e = absurd (cc)
+by-name name rows v false false false true g is has e = (let w = batch_values rows in not-batch rows v (is_batch_apart w && not (nat_lt w.rule w.corner)) e)
+by-name name rows v false false false false true is has e = (let w = edit_values rows in not-edit rows v (is_edit_apart w && not (nat_lt w.rule w.corner)) e)
+by-name name rows v false false false false false is has e = absurd (cc)
 
 by-subcommand : (v : SplitValues) (m : Option (Text × List Row)) → IfSome m HasItsValues → asked_of m ≡ Some (AsksSplit v) → IsFine v
 by-subcommand v None has e = absurd (cc)
 by-subcommand v (Some (name, rows)) has e =
-    by-name name rows v (bytes_eq name (codes "split")) (bytes_eq name (codes "check")) (bytes_eq name (codes "demo")) (bytes_eq name (codes "batch")) refl has e
+    by-name name rows v (bytes_eq name (codes "split")) (bytes_eq name (codes "check")) (bytes_eq name (codes "demo")) (bytes_eq name (codes "batch"))
+    (bytes_eq name (codes "edit")) refl has e
 
 by-taken : (words : List Text) (v : SplitValues) (b : Bool) → is_taken words ≡ b → (if b then asked_of (subcommand_of dpl_app words) else None) ≡ Some (AsksSplit v) → IsFine v
 by-taken words v true is e = by-subcommand v (subcommand_of dpl_app words) (taken_there words is) e

@@ -15,7 +15,8 @@ use Rattle.dpl_law_verdict.specs.Own.{stitch_line}
 use Rattle.dpl_words.specs.Meaning.{SplitValues}
 use Rattle.dpl_answer.specs.Flat.{Clashes, Flat, IsFlat, IsFlatCut, IsPaintedCut, Painted, Paints}
 use Rattle.dpl_layer.specs.Marked.{MarkedLayer}
-use Rattle.dpl_run.specs.Split.{Decides, IsDecision, marks_for, split_marked, split_spacing}
+use Rattle.dpl_decide.specs.Deciding.{Decides, IsDecision, marks_for}
+use Rattle.dpl_run.specs.Split.{split_marked, split_spacing}
 use Rattle.dpl_law_outcome.specs.Fewer.{FewerTellNoMore, HasNoMore, NoFlipIsLeft}
 use Rattle.dpl_law_outcome.proofs.Flats.{clash-same}
 use Rattle.dpl_law_outcome.proofs.Outcomes.{flat-moved}

@@ -15,7 +15,8 @@ use Rattle.dpl_layer.specs.Marked.{AreMarked, FaultyMarked, IsMarkedReading, Mar
 use Rattle.dpl_run.specs.Batch.{IsBatchOf, split_of, together}
 use Rattle.dpl_run.specs.Outcome.{Outcome}
 use Rattle.dpl_run.specs.Program.{IsPlan}
-use Rattle.dpl_run.specs.Split.{Decides, Decision, IsDecision, IsSplit, IsSplitOf, Refuses, plan_of, split_marked, split_spacing}
+use Rattle.dpl_decide.specs.Deciding.{Decides, Decision, IsDecision, Refuses}
+use Rattle.dpl_run.specs.Split.{IsSplit, IsSplitOf, plan_of, split_marked, split_spacing}
 use Rattle.dpl_law_outcome.specs.Alone.{AgreeFor, AgreeingBatchesAreOne, AgreeingFilesAreOne, AreAlike, EachLayerIsAlone, IsPartOf}
 use Rattle.dpl_law_outcome.proofs.Outcomes.{decision-same}
 use Rattle.dpl_law_outcome.proofs.Readings.{marked-same}
@@ -66,7 +67,7 @@ decision-moved fewer v spacing overlap bytes others r (Decides q g) mine theirs 
     (s, c, d, subst (λ k. IsMarkedReading v bytes k) (marked-same v others r (MarkedLayer q s c d) theirs is) mine, flat)
 
 -- another name of the file read plans alike
-plan-renamed : (v : SplitValues) (input : Text) (d : Decision) → plan_of (record v { input = input }) d ≡ plan_of v d
+pub plan-renamed : (v : SplitValues) (input : Text) (d : Decision) → plan_of (record v { input = input }) d ≡ plan_of v d
 plan-renamed v input (Refuses m i) = refl
 plan-renamed v input (Decides p (Paints q)) = refl
 plan-renamed v input (Decides p (Clashes q)) = refl

@@ -22,7 +22,8 @@ use Rattle.dpl_masks.specs.Bytes.{file_bytes}
 use Rattle.dpl_answer.specs.Flat.{Clashes, Paints}
 use Rattle.dpl_run.specs.Batch.{IsBatchOf, split_of}
 use Rattle.dpl_run.specs.Outcome.{Outcome, carried_out, written}
-use Rattle.dpl_run.specs.Split.{Decides, Decision, IsSplit, IsSplitOf, Refuses, certified, plan_of}
+use Rattle.dpl_decide.specs.Deciding.{Decides, Decision, Refuses}
+use Rattle.dpl_run.specs.Split.{IsSplit, IsSplitOf, certified, plan_of}
 use Rattle.dpl_run.proofs.Checking.{put_other}
 use Rattle.dpl_law_outcome.specs.Alone.{EachFileIsAlone, IsFileOf}
 use Rattle.dpl_law_outcome.proofs.Outcomes.{split-same}

@@ -21,3 +21,5 @@ pub mod OwnFiles
 pub mod Fewer
 pub mod Isolated
 pub mod Left
+pub mod TextSizes
+pub mod Drawn

@@ -3,9 +3,13 @@ use Rattle.std.proofs.Common.{◌≡◌, ℕ, inl, inr, Bool, false, List, [], �
 use Rattle.std.specs.List.{AllZip}
 use Rattle.std.specs.FinMap as map
 use Rattle.std.proofs.lemmas.Bool.{cases_order}
-use Rattle.dpl_spec_split.specs.Squares.{uniform}
 use Rattle.dpl_spec_split.specs.declared.Spacing.{Spacing}
 use Rattle.dpl_spec_split.specs.declared.Rect.{Rect}
+use Rattle.dpl_spec_split.specs.Squares.{Covers, uniform}
+use Rattle.dpl_spec_split.proofs.WholeLaws.{slabs-unique}
+use Rattle.dpl_spec_edits.specs.declared.Edit.{Edit}
+use Rattle.dpl_spec_edits.specs.Edits.{edited}
+use Rattle.dpl_spec_edits.proofs.Lists.{good_or_bad, one_first_bad, one_list}
 use Rattle.dpl_cert.specs.declared.name.Name.{Name}
 use Rattle.dpl_cert.specs.declared.cert.Cert.{Cert}
 use Rattle.dpl_cert.specs.declared.cert.Cert.TheVariants.{Masks, Conflict, Fault}
@@ -15,17 +19,19 @@ use Rattle.dpl_parse.specs.Reading.{IsBadLine}
 use Rattle.dpl_parse.proofs.Whole.{lines-text}
 use Rattle.dpl_parse.proofs.Unique.{cert_same}
 use Rattle.dpl_spec_verdict.proofs.OrderLaws.{conflict-unique, masks-unique}
-use Rattle.dpl_words.specs.Meaning.{AsksBatch, AsksCheck, AsksDemo, AsksSplit, BatchValues, CheckValues, DemoValues, SplitValues}
+use Rattle.dpl_words.specs.Meaning.{AsksBatch, AsksCheck, AsksDemo, AsksEdit, AsksSplit, BatchValues, CheckValues, DemoValues, EditValues, SplitValues}
 use Rattle.dpl_demo.specs.Demo.{demo_file}
 use Rattle.dpl_answer.specs.Flat.{Paints, Clashes, Flat, IsFlat}
 use Rattle.dpl_run.specs.Outcome.{Outcome, says}
-use Rattle.dpl_layer.specs.Reading.{Choice, Faulty, Layer}
-use Rattle.dpl_run.specs.Split.{Decision, Refuses, Decides, IsDecision, IsSplit, IsSplitOf, marks_for, plan_of, split_marked, split_spacing}
+use Rattle.dpl_layer.specs.Reading.{Choice, Faulty, Layer, Reading}
+use Rattle.dpl_decide.specs.Deciding.{Decides, Decision, IsDecision, Refuses, marks_for}
+use Rattle.dpl_run.specs.Split.{IsSplit, IsSplitOf, plan_of, split_marked, split_spacing}
 use Rattle.dpl_run.specs.Batch.{IsBatchOf, split_of, together}
+use Rattle.dpl_run.specs.Edit.{IsEditOf, IsEditOfFile, IsEditOfReading, IsEditOfText, IsEditedBy, edit_choice, split_by}
 use Rattle.dpl_run.specs.Demo.{IsDemo, demo_marked, demo_plan}
 use Rattle.dpl_run.specs.Check.{IsCheck, IsCheckOfCert, IsCheckOfFile, IsCheckOfMasks, IsCheckOfText, IsJudged, WithFile, WithLayer, WithMarkedLayer}
 use Rattle.dpl_run.specs.Check.{check_marked, check_spacing, mask_choice, refusal_of, verdict_outcome}
-use Rattle.dpl_run.specs.Texts.{bad_line_line}
+use Rattle.dpl_texts.specs.Texts.{bad_line_line}
 use Rattle.dpl_run.specs.declared.status.Status.TheVariants.{Refused}
 use Rattle.dpl_law_outcome.specs.Laws.{OneOutcome}
 use Rattle.dpl_law_outcome.proofs.Flats.{flat-same}
@@ -151,7 +157,7 @@ text-same : (v : CheckValues) (marks : Option Marks) (layer : List Rect) (out : 
 text-same v marks layer out text x y (inl (c, t, p)) (inl (d, u, q)) = cert-same v marks layer out c x y p (subst (λ k. IsCheckOfCert v marks layer out k y) (sym (texts-same c d text t u)) q)
 text-same v marks layer out text x y (inl (c, t, p)) (inr (n, bad, q)) = absurd (bad.bad (c, text, t, refl))
 text-same v marks layer out text x y (inr (m, bad, p)) (inl (d, u, q)) = absurd (bad.bad (d, text, u, refl))
-text-same v marks layer out text x y (inr (m, bad, p)) (inr (n, other, q)) = p ∙ (ap (λ k. says Refused (bad_line_line k)) (bad-lines-same text m n bad other) ∙ sym q)
+text-same v marks layer out text x y (inr (m, bad, p)) (inr (n, other, q)) = p ∙ (ap (λ k. says Refused (bad_line_line (codes "cert") k)) (bad-lines-same text m n bad other) ∙ sym q)
 
 file-same : (v : CheckValues) (marks : Option Marks) (layer : List Rect) (cert out : Option (List ℕ)) (x y : Outcome)
     → WithFile cert (IsCheckOfFile v marks layer out) x → WithFile cert (IsCheckOfFile v marks layer out) y → x ≡ y
@@ -183,8 +189,47 @@ batch-of-same v tile workers None x y p q = p ∙ sym q
 batch-of-same v tile workers (Some bytes) x y (xs, each, is) (ys, other, are) =
     is ∙ ap (together v.layers) (batch-same v tile workers bytes v.layers xs ys each other) ∙ sym are
 
+-- ---- edits
+
+edited-same : (v : EditValues) (tile : ℕ) (copied : List ℕ) (layer : List Rect) (es : List Edit) (x y : Outcome) → IsEditedBy v copied layer es x
+    → IsEditedBy (record v { tile = tile }) copied layer es y → x ≡ y
+edited-same v tile copied layer es x y (after, squares, f, is_f, p) (other, again, g, is_g, q) =
+    let slabs : other ≡ after = slabs-unique (edited (Covers layer) es) other after again squares in
+    let moved : IsFlat false None (split_spacing (split_by v)) v.overlap after g = subst (λ l. IsFlat false None (split_spacing (split_by v)) v.overlap l g) slabs is_g in
+    let flats : f ≡ g = flat-same false None (split_spacing (split_by v)) v.overlap after f g is_f moved in
+    p ∙ (ap (λ k. plan_of (split_by v) (Decides copied k)) flats ∙ (sym (plan-retiled (split_by v) tile 1 (Decides copied g)) ∙ sym q))
+
+edits-same : (v : EditValues) (tile : ℕ) (copied : List ℕ) (layer : List Rect) (text : List ℕ) (x y : Outcome) → IsEditOfText v copied layer text x
+    → IsEditOfText (record v { tile = tile }) copied layer text y → x ≡ y
+edits-same v tile copied layer text x y (inl (es, listed, p)) (inl (fs, again, q)) =
+    edited-same v tile copied layer es x y p (subst (λ k. IsEditedBy (record v { tile = tile }) copied layer k y) (one_list fs es text again listed) q)
+edits-same v tile copied layer text x y (inl (es, listed, p)) (inr (n, bad, q)) = absurd (good_or_bad es text n listed bad)
+edits-same v tile copied layer text x y (inr (m, bad, p)) (inl (fs, listed, q)) = absurd (good_or_bad fs text m listed bad)
+edits-same v tile copied layer text x y (inr (m, bad, p)) (inr (n, other, q)) =
+    p ∙ (ap (λ k. says Refused (bad_line_line (codes "edits") k)) (one_first_bad text m n bad other) ∙ sym q)
+
+edits-file-same : (v : EditValues) (tile : ℕ) (copied : List ℕ) (layer : List Rect) (file : Option (List ℕ)) (x y : Outcome)
+    → WithFile file (IsEditOfFile v copied layer) x → WithFile file (IsEditOfFile (record v { tile = tile }) copied layer) y → x ≡ y
+edits-file-same v tile copied layer None x y p q = p ∙ sym q
+edits-file-same v tile copied layer (Some text) x y (inl (large, p)) (inl (again, q)) = p ∙ sym q
+edits-file-same v tile copied layer (Some text) x y (inl (large, p)) (inr (small, q)) = absurd (omega (arith, large, small))
+edits-file-same v tile copied layer (Some text) x y (inr (small, p)) (inl (large, q)) = absurd (omega (arith, large, small))
+edits-file-same v tile copied layer (Some text) x y (inr (small, p)) (inr (again, q)) = edits-same v tile copied layer text x y p q
+
+edit-reading-same : (v : EditValues) (tile : ℕ) (text : Option (List ℕ)) (reading : Reading) (x y : Outcome) → IsEditOfReading v text reading x
+    → IsEditOfReading (record v { tile = tile }) text reading y → x ≡ y
+edit-reading-same v tile text (Faulty name at) x y p q = p ∙ sym q
+edit-reading-same v tile text (Layer copied layer) x y p q = edits-file-same v tile copied layer text x y p q
+
+pub edit-same : (v : EditValues) (tile : ℕ) (layout text : Option (List ℕ)) (x y : Outcome) → IsEditOf v layout text x → IsEditOf (record v { tile = tile }) layout text y → x ≡ y
+edit-same v tile None text x y p q = p ∙ sym q
+edit-same v tile (Some bytes) text x y (r, is_r, p) (s, is_s, q) =
+    edit-reading-same v tile text r x y p
+    (subst (λ k. IsEditOfReading (record v { tile = tile }) text k y) (reading-same (edit_choice v) bytes s r is_s is_r) q)
+
 pub outcome-same : OneOutcome
 outcome-same (AsksSplit v) tile workers files x y a b = split-of-same v tile workers (map.get files v.input) x y a b
 outcome-same (AsksCheck v) tile workers files x y a b = check-same v (map.get files v.input) (map.get files v.certificate) (map.get files v.output) x y a b
 outcome-same (AsksDemo v) tile workers files x y a b = demo-same v tile workers x y a b
 outcome-same (AsksBatch v) tile workers files x y a b = batch-of-same v tile workers (map.get files v.input) x y a b
+outcome-same (AsksEdit v) tile workers files x y a b = edit-same v tile (map.get files v.input) (map.get files v.edits) x y a b

@@ -31,8 +31,9 @@ use Rattle.dpl_answer.specs.Flat.{Clash, Clashes, Flat, Painted, Paints, IsClash
 use Rattle.dpl_run.specs.Outcome.{Outcome, Shows, carried_out, says, silent}
 use Rattle.dpl_run.specs.Program.{IsPlan}
 use Rattle.dpl_layer.specs.Reading.{IsLayerIn, Layer, chosen, frame_bytes, copied_of, limit}
-use Rattle.dpl_run.specs.Split.{Decides, IsSplitOf, certified, marks_for, plan_of, split_choice, split_marked, split_spacing, Decision, IsDecision, Refuses, refusal}
-use Rattle.dpl_run.specs.Texts.{valid_line}
+use Rattle.dpl_decide.specs.Deciding.{Decides, Decision, IsDecision, Refuses, marks_for}
+use Rattle.dpl_run.specs.Split.{IsSplitOf, certified, plan_of, refusal, split_choice, split_marked, split_spacing}
+use Rattle.dpl_texts.specs.Texts.{valid_line}
 use Rattle.dpl_layer.specs.Marked.{IsMarkedReading, MarkedLayer}
 use Rattle.dpl_spec_split.specs.Marks.{Marks}
 use Rattle.dpl_run.proofs.Checking.{differ, put_other}

@@ -9,7 +9,7 @@ use Rattle.dpl_spec_split.specs.Marks.{Marks}
 use Rattle.dpl_spec_split.specs.Components.{AreComponents}
 use Rattle.dpl_law_split.specs.Masks.{AreCover, KeepsApart, OverlapAt}
 use Rattle.dpl_cert.specs.declared.cert.StitchLine.{StitchLine}
-use Rattle.dpl_words.specs.Meaning.{AsksBatch, AsksCheck, AsksDemo, AsksSplit, RequestValues, request_of}
+use Rattle.dpl_words.specs.Meaning.{AsksBatch, AsksCheck, AsksDemo, AsksEdit, AsksSplit, RequestValues, request_of}
 use Rattle.dpl_run.specs.declared.status.Status.{Status}
 use Rattle.dpl_answer.specs.Flat.{Painted, Paints, IsFlat}
 use Rattle.dpl_run.specs.Outcome.{Outcome}
@@ -21,6 +21,7 @@ retiled (AsksSplit v) tile workers = AsksSplit (record v { tile = tile; workers 
 retiled (AsksCheck v) tile workers = AsksCheck v
 retiled (AsksDemo v) tile workers = AsksDemo (record v { tile = tile; workers = workers })
 retiled (AsksBatch v) tile workers = AsksBatch (record v { tile = tile; workers = workers })
+retiled (AsksEdit v) tile workers = AsksEdit (record v { tile = tile })
 
 -- of the same files there is at most one outcome
 abbrev pub OneOutcome : Type 0

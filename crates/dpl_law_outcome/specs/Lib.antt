@@ -4,3 +4,4 @@ pub mod Own
 pub mod OwnFiles
 pub mod Fewer
 pub mod Alone
+pub mod Drawn

@@ -14,8 +14,9 @@ use Rattle.dpl_answer.specs.Flat.{Clashes, Flat, Painted, Paints}
 use Rattle.dpl_run.specs.Outcome.{Outcome, carried_out, says}
 use Rattle.dpl_run.specs.Program.{IsOutcome, IsPlan}
 use Rattle.dpl_layer.specs.Reading.{limit}
-use Rattle.dpl_run.specs.Split.{Decides, IsDecision, certified, plan_of, split_marked, split_spacing}
-use Rattle.dpl_run.specs.Texts.{valid_line}
+use Rattle.dpl_decide.specs.Deciding.{Decides, IsDecision}
+use Rattle.dpl_run.specs.Split.{certified, plan_of, split_marked, split_spacing}
+use Rattle.dpl_texts.specs.Texts.{valid_line}
 
 -- the same values, asked of `check`, which has no tiles and no workers
 abbrev pub checking : SplitValues → CheckValues

@@ -10,7 +10,7 @@ use Rattle.dpl_spec_split.specs.declared.Rect.{Rect}
 use Rattle.dpl_cert.specs.declared.cert.Cert.{Cert}
 use Rattle.dpl_cert.specs.Grammar.{IsText}
 use Rattle.dpl_spec_verdict.specs.Masks.{IsOfMasks}
-use Rattle.dpl_words.specs.Meaning.{AsksBatch, AsksCheck, AsksDemo, AsksSplit, CheckValues, RequestValues}
+use Rattle.dpl_words.specs.Meaning.{AsksBatch, AsksCheck, AsksDemo, AsksEdit, AsksSplit, CheckValues, RequestValues}
 use Rattle.dpl_layer.specs.Marked.{IsMarkedLayout, MarkedLayer}
 use Rattle.dpl_run.specs.Calls.{AreReadsFor, AreReadsOfCert, AreReadsOfCheck, HasLayerIn, HasMasksCert}
 use Rattle.dpl_run.specs.CallsMade.{AreReadsBehind}
@@ -78,6 +78,7 @@ no_reads_for (Some (AsksSplit v)) told = All-nil (λ c. c ≡ Read v.input)
 no_reads_for (Some (AsksCheck v)) told = record { layout = []; more = []; are = refl; of_layout = All-nil (λ c. c ≡ Read v.input); of_more = inl refl }
 no_reads_for (Some (AsksDemo v)) told = refl
 no_reads_for (Some (AsksBatch v)) told = All-nil (λ c. c ≡ Read v.input)
+no_reads_for (Some (AsksEdit v)) told = record { layout = []; edits = []; are = refl; of_layout = All-nil (λ c. c ≡ Read v.input); of_edits = inl refl }
 no_reads_for None told = refl
 
 pub unread : (request : Option RequestValues) (told : Option Outside) {log : Log} → Logged log log (AreReadsFor request told)

@@ -29,9 +29,9 @@ use Rattle.dpl_run.specs.Outcome.{Outcome, is_answered, says}
 use Rattle.dpl_run.specs.Program.{IsMade, IsMadeOfCert, IsMadeOfLayer, IsSeen, IsTold}
 use Rattle.dpl_layer.specs.Reading.{Faulty, IsLayout, Layer, limit}
 use Rattle.dpl_layer.specs.Marked.{FaultyMarked, IsMarkedLayout, MarkedLayer}
-use Rattle.dpl_run.specs.Split.{marks_for}
+use Rattle.dpl_decide.specs.Deciding.{marks_for}
 use Rattle.dpl_spec_split.specs.Marks.{Marks}
-use Rattle.dpl_run.specs.Texts.{bad_line_line}
+use Rattle.dpl_texts.specs.Texts.{bad_line_line}
 use Rattle.dpl_run.specs.declared.status.Status.TheVariants.{Refused}
 use Rattle.dpl_run.proofs.Inputs.{length-zeros, nothing, zeros}
 
@@ -48,21 +48,21 @@ put_other o name bytes other apart =
     map.get-insert nat_list_cmp_total o.files name bytes other
     ∙ ap (λ (b : Bool). cond b (Some bytes) (map.get o.files other)) (not_same (slice_cmp nat_cmp other name) (λ e. apart (exact_names other name e)))
 
-with_if : Text → Option (List ℕ) → Outside → Outside
+pub with_if : Text → Option (List ℕ) → Outside → Outside
 with_if name None o = o
 with_if name (Some bytes) o = with_file name bytes o
 
-if_put : (name : Text) (file : Option (List ℕ)) (o : Outside) → file_of o name ≡ None → file_of (with_if name file o) name ≡ file
+pub if_put : (name : Text) (file : Option (List ℕ)) (o : Outside) → file_of o name ≡ None → file_of (with_if name file o) name ≡ file
 unfolding with_if
 if_put name None o gone = gone
 if_put name (Some bytes) o gone = file_put o name bytes
 
-if_other : (name : Text) (file : Option (List ℕ)) (o : Outside) (other : Text) → (other ≡ name → ⊥) → file_of (with_if name file o) other ≡ file_of o other
+pub if_other : (name : Text) (file : Option (List ℕ)) (o : Outside) (other : Text) → (other ≡ name → ⊥) → file_of (with_if name file o) other ≡ file_of o other
 unfolding with_if
 if_other name None o other apart = refl
 if_other name (Some bytes) o other apart = put_other o name bytes other apart
 
-none : (name : Text) → file_of nothing name ≡ None
+pub none : (name : Text) → file_of nothing name ≡ None
 none name = map.get-empty (slice_cmp nat_cmp) name
 
 pub differ : (x y : Text) → not (bytes_eq x y) ≡ true → x ≡ y → ⊥
@@ -124,15 +124,15 @@ check_made (Some o) v x apart m =
 
 -- ---- files that were read, and files that weren't
 
-some_file : (told : Option Outside) (name : Text) → (file : Option (List ℕ)) × IsTold told name file
+pub some_file : (told : Option Outside) (name : Text) → (file : Option (List ℕ)) × IsTold told name file
 some_file None name = (None, tt)
 some_file (Some o) name = (file_of o name, refl)
 
-large_file : (told : Option Outside) (name : Text) → IsSeen told name None → (file : List ℕ) × IsTold told name (Some file) × (limit < length file)
+pub large_file : (told : Option Outside) (name : Text) → IsSeen told name None → (file : List ℕ) × IsTold told name (Some file) × (limit < length file)
 large_file None name h = (zeros 268435457, tt, omega (arith, length-zeros 268435457))
 large_file (Some o) name h = h
 
-refusal_answered : (file : List ℕ) (name : Name) (at : ℕ) (x : Outcome) → x ≡ refusal_of file name at → is_answered x.status ≡ true
+pub refusal_answered : (file : List ℕ) (name : Name) (at : ℕ) (x : Outcome) → x ≡ refusal_of file name at → is_answered x.status ≡ true
 refusal_answered file name at x is = ap (λ (y : Outcome). is_answered y.status) is
 
 verdict_answered : (w : Verdict) → is_answered (verdict_status w) ≡ true
@@ -213,7 +213,7 @@ cert_large told v marks layer x seen is =
     (Some file.0, out.0, file.1, out.1, inl (file.2, is), refusal_answered (codes "cert") TooLarge limit x is)
 
 pub cert_bad : (told : Option Outside) (v : CheckValues) (marks : Option Marks) (layer : List Rect) (text : List ℕ) (n : ℕ) (x : Outcome)
-    → IsSeen told v.certificate (Some text) → IsBadLine text n → x ≡ says Refused (bad_line_line n) → IsMadeOfLayer told v marks layer x
+    → IsSeen told v.certificate (Some text) → IsBadLine text n → x ≡ says Refused (bad_line_line (codes "cert") n) → IsMadeOfLayer told v marks layer x
 cert_bad told v marks layer text n x seen bad is =
     let out = some_file told v.output in
     (Some text, out.0, seen.0, out.1, inr (seen.1, inr (n, bad, is)), ap (λ (y : Outcome). is_answered y.status) is)

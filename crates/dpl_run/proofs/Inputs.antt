@@ -1,23 +1,20 @@
 -- What is made of what is read.
-use Rattle.std.proofs.Common.{◌≡◌, ◌∙◌, ◌<◌, ◌≤◌, ap, sym, refl, subst, inl, inr, Bool, true, false, List, [], ◌∷◌, ℕ, Option, Some, None, length, arith, zero, suc}
+use Rattle.std.proofs.Common.{◌≡◌, ◌∙◌, ◌<◌, ◌≤◌, ap, sym, refl, subst, inl, true, false, List, [], ◌∷◌, ℕ, Option, Some, None, length, arith, zero, suc}
 use Rattle.std.specs.Prelude.{IfSome}
 use Rattle.std.specs.FinMap as map
 use Rattle.dpl_spec_split.specs.Squares.{uniform}
-use Rattle.dpl_spec_split.specs.declared.Spacing.{Spacing}
 use Rattle.dpl_host.specs.Outside.{Outside, file_of, with_file}
 use Rattle.dpl_host.proofs.Files.{file_put}
 use Rattle.dpl_words.specs.Meaning.{AsksDemo, AsksSplit, DemoValues, SplitValues}
 use Rattle.clap.specs.Walk.{Text}
 use Rattle.dpl_run.specs.Outcome.{Outcome, Shows, is_answered, says}
 use Rattle.dpl_run.specs.Program.{IsInput, IsMade}
-use Rattle.dpl_run.specs.Split.{Decision, IsDecision, IsSplit, IsSplitOf, Refuses, Decides, marks_for, plan_of, refusal}
+use Rattle.dpl_decide.specs.Deciding.{Decision, IsDecision, Refuses, Decides}
+use Rattle.dpl_run.specs.Split.{IsSplit, IsSplitOf, plan_of, refusal}
 use Rattle.dpl_run.specs.Demo.{IsDemo, demo_marked, demo_plan}
 use Rattle.dpl_demo.specs.Demo.{demo_file}
-use Rattle.dpl_answer.specs.Flat.{Flat, IsFlat, Paints, Clashes}
-use Rattle.dpl_layer.specs.Marked.{FaultyMarked, IsMarkedLayout, MarkedChoice, MarkedLayer}
-use Rattle.dpl_spec_split.specs.declared.Rect.{Rect}
-use Rattle.dpl_cert.specs.declared.name.Name.{Name}
-use Rattle.dpl_run.specs.Texts.{usage_line}
+use Rattle.dpl_answer.specs.Flat.{Paints, Clashes}
+use Rattle.dpl_texts.specs.Texts.{usage_line}
 use Rattle.dpl_run.specs.declared.status.Status.TheVariants.{Usage}
 use Rattle.dpl_cert.specs.declared.name.Name.TheVariants.{TooLarge}
 
@@ -51,7 +48,7 @@ too_large_seen None name h =
     (only name many, tt, (many, file_put nothing name many, long))
 too_large_seen (Some o) name h = (o, refl, h)
 
-plan_answered : (v : SplitValues) (d : Decision) → is_answered (plan_of v d).status ≡ true
+pub plan_answered : (v : SplitValues) (d : Decision) → is_answered (plan_of v d).status ≡ true
 plan_answered v (Refuses name at) = refl
 plan_answered v (Decides copied (Paints p)) = refl
 plan_answered v (Decides copied (Clashes x)) = refl
@@ -68,16 +65,6 @@ pub split_refused : (told : Option Outside) (v : SplitValues) (x : Outcome) → 
 split_refused told v x h is =
     let (file, there, large) = h.2 in
     (h.0, h.1, of_file v _ file x there (Refuses TooLarge 268435456, inl (large, refl), is), ap (λ (y : Outcome). is_answered y.status) is)
-
--- the layout has a fault
-pub faulty : (fewer : Bool) (choice : MarkedChoice) (spacing : Spacing) (overlap : ℕ) (bytes : List ℕ) (name : Name) (at : ℕ) → length bytes ≤ 268435456
-    → IsMarkedLayout choice bytes (FaultyMarked name at) → IsDecision fewer choice spacing overlap bytes (Refuses name at)
-faulty fewer choice spacing overlap bytes name at small read = inr (small, read)
-
--- the layer was decomposed
-pub answered : (fewer : Bool) (choice : MarkedChoice) (spacing : Spacing) (overlap : ℕ) (bytes copied : List ℕ) (layer a b : List Rect) (flat : Flat) → length bytes ≤ 268435456
-    → IsMarkedLayout choice bytes (MarkedLayer copied layer a b) → IsFlat fewer (marks_for choice a b) spacing overlap layer flat → IsDecision fewer choice spacing overlap bytes (Decides copied flat)
-answered fewer choice spacing overlap bytes copied layer a b flat small read decomposed = (layer, a, b, inr (small, read), decomposed)
 
 -- an outside that shows
 shown : (told : Option Outside) → (o : Outside) × Shows told o

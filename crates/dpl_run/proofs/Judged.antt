@@ -26,9 +26,9 @@ use Rattle.dpl_run.specs.Check.{IsCheck, IsCheckOfCert, IsCheckOfFile, IsCheckOf
 use Rattle.dpl_run.specs.Checked.{HasLayer, HasMarkedLayer, HasRightMasks, IsRight, IsRightBy, NoFlipIsLeft}
 use Rattle.dpl_run.specs.Outcome.{Outcome, says, silent}
 use Rattle.dpl_layer.specs.Reading.{Choice, Faulty, IsReading, Layer, limit}
-use Rattle.dpl_run.specs.Texts.{bad_line_line}
+use Rattle.dpl_texts.specs.Texts.{bad_line_line}
 use Rattle.dpl_layer.specs.Marked.{FaultyMarked, IsMarkedReading, MarkedChoice, MarkedLayer}
-use Rattle.dpl_run.specs.Split.{marks_for}
+use Rattle.dpl_decide.specs.Deciding.{marks_for}
 use Rattle.dpl_spec_split.specs.Marks.{Marks}
 use Rattle.dpl_run.specs.declared.status.Status.{Status}
 use Rattle.dpl_run.specs.declared.status.Status.TheVariants.{Done, Refused, ReadFault, CheckNo}
@@ -153,7 +153,7 @@ module _ (v : CheckValues) (o : Outside) (bytes : List ℕ) (layer a b : List Re
     certifies = t;
     right = cert_right v o marks layer out cert text x there t is done;
   }
-  layer_right (Some text) out x told there (inr (small, inr (n, bad, is))) done = absurd (other x (says Refused (bad_line_line n)) Refused is refl refused done)
+  layer_right (Some text) out x told there (inr (small, inr (n, bad, is))) done = absurd (other x (says Refused (bad_line_line (codes "cert") n)) Refused is refl refused done)
 
 pub check_right : (v : CheckValues) (o : Outside) (layout cert out : Option (List ℕ)) (x : Outcome) → files.get o.files v.input ≡ layout
     → files.get o.files v.certificate ≡ cert → files.get o.files v.output ≡ out

@@ -12,7 +12,7 @@ use Rattle.dpl_spec_split.specs.Decomposition.{Cut, IsCut, Masks as Decomposed, 
 use Rattle.dpl_spec_fewer.specs.Masks.{AreMasksBy}
 use Rattle.dpl_spec_split.specs.Summary.{HasOddCycle}
 use Rattle.dpl_law_verdict.specs.Valid.{KeepMarks}
-use Rattle.dpl_layer.specs.Marked.{FaultyMarked, MarkedLayer}
+use Rattle.dpl_layer.specs.Marked.{FaultyMarked, IsMarkedLayout, IsMarkedReading, MarkedChoice, MarkedLayer}
 use Rattle.dpl_spec_split.specs.Marks.{Marks}
 use Rattle.dpl_law_split.specs.Masks.{OverlapAt, rect_at, rects_of}
 use Rattle.dpl_law_split.proofs.Cover.{cover}
@@ -20,27 +20,29 @@ use Rattle.dpl_law_split.proofs.Lettering.{lettered, sound}
 use Rattle.dpl_law_split.proofs.Fixed.{fixed-on-a, fixed-on-b}
 use Rattle.dpl_law_split.proofs.Apart.{far-on-a, far-on-b}
 use Rattle.dpl_law_split.proofs.Overlap.{overlap-at}
-use Rattle.dpl_words.specs.Meaning.{AsksBatch, AsksCheck, AsksDemo, AsksSplit, BatchValues, CheckValues, RequestValues, SplitValues, request_of}
+use Rattle.dpl_words.specs.Meaning.{AsksBatch, AsksCheck, AsksDemo, AsksEdit, AsksSplit, BatchValues, CheckValues, EditValues, RequestValues, SplitValues, request_of}
 use Rattle.dpl_cert.specs.declared.cert.Cert.{Cert}
 use Rattle.dpl_cert.specs.declared.cert.Cert.TheVariants.{Masks, Conflict as ConflictText, Fault}
 use Rattle.dpl_cert.specs.declared.name.Name.TheVariants.{TooLarge}
 use Rattle.dpl_spec_verdict.specs.declared.Verdict.TheVariants.{WasFault}
 use Rattle.dpl_run.specs.Check.{IsCheck, IsCheckOfCert, IsCheckOfFile, IsCheckOfMasks, WithFile, check_marked, refusal_of, verdict_outcome}
 use Rattle.dpl_run.specs.Demo.{demo_plan}
-use Rattle.dpl_layer.specs.Reading.{Faulty, Layer, limit}
-use Rattle.dpl_answer.specs.Flat.{Clashes, IsPaintedCut, Painted, Paints}
+use Rattle.dpl_layer.specs.Reading.{Choice, Faulty, IsLayout, IsReading, Layer, limit}
+use Rattle.dpl_answer.specs.Flat.{Clashes, IsFlat, IsPaintedCut, Painted, Paints}
 use Rattle.dpl_law_verdict.specs.Own.{AreGainsBy, stitch_line}
 use Rattle.dpl_cert.specs.declared.cert.Gain.{Gain}
 use Rattle.dpl_run.specs.Batch.{IsBatchOf, split_of}
+use Rattle.dpl_run.specs.Edit.{IsEditOf, edit_choice, split_by}
 use Rattle.dpl_run.specs.Calls.{files_written}
 use Rattle.dpl_run.specs.CallsMade.{names_of}
-use Rattle.dpl_run.specs.Split.{Decides, Decision, IsDecision, IsSplit, IsSplitOf, Refuses, clash, painting, plan_of, refusal, marks_for, split_marked, split_spacing}
+use Rattle.dpl_decide.specs.Deciding.{Decides, Decision, IsDecision, Refuses, marks_for}
+use Rattle.dpl_run.specs.Split.{IsSplit, IsSplitOf, clash, painting, plan_of, refusal, split_marked, split_spacing}
 use Rattle.dpl_run.specs.Program.{IsOutcome, IsPlan}
 use Rattle.dpl_run.specs.Outcome.{Outcome, is_answered, says, silent}
-use Rattle.dpl_run.specs.Texts.{bad_line_line, usage_line}
-use Rattle.dpl_run.specs.Parted.{ArePartingMasks, IsParted, IsPartedAlone, IsPartedBy, WritesEach, WritesParting, rects_of_lines}
+use Rattle.dpl_texts.specs.Texts.{bad_line_line, usage_line}
+use Rattle.dpl_run.specs.Parted.{ArePartingMasks, AreWrittenMasks, IsParted, IsPartedAlone, IsPartedBy, WritesEach, WritesEdited, WritesParting, rects_of_lines}
 use Rattle.dpl_run.proofs.Judged.{check_right}
-use Rattle.dpl_run.proofs.Zips.{zip_weaker}
+use Rattle.dpl_decide.proofs.Zips.{zip_weaker}
 use Rattle.dpl_run.specs.declared.status.Status.{Status}
 use Rattle.dpl_run.specs.declared.status.Status.TheVariants.{Done, Conflict, Refused, Usage, ReadFault}
 
@@ -90,41 +92,53 @@ gains_told false marks spacing cut letters (Some gains) are = absurd are
 gains_told true marks spacing cut letters None are = absurd are
 gains_told true marks spacing cut letters (Some gains) are = refl
 
+-- what is written of a layer that is decomposed into masks
+written_masks : (v : SplitValues) (marks : Option Marks) (copied : List ℕ) (layer : List Rect) (p : Painted) (writes : List (Text × List ℕ))
+    → IsFlat v.fewer marks (split_spacing v) v.overlap layer (Paints p) → writes ≡ (painting v copied p).writes → AreWrittenMasks v marks copied layer writes
+written_masks v marks copied layer p writes (cut, is_cut, painted) is = record {
+  a = p.a;
+  b = p.b;
+  head = p.head;
+  pieces = p.pieces;
+  stitches = p.stitches;
+  gains = p.gains;
+  asked = ap (λ (q : Painted). is_some q.gains) painted.is ∙ gains_told v.fewer marks (split_spacing v) cut _ painted.gains painted.are_gains;
+  parting = painted_parts v.fewer marks (split_spacing v) v.overlap layer cut p is_cut painted;
+  kept = painted_keep v.fewer marks (split_spacing v) v.overlap layer cut p is_cut painted;
+  are = is;
+}
+
+-- what was read of a file stands in it
+held : (choice : Choice) (bytes copied : List ℕ) (layer : List Rect) → IsReading choice bytes (Layer copied layer) → IsLayout choice bytes (Layer copied layer)
+held choice bytes copied layer reading = elim reading [ inl large ↦ cc | inr read ↦ read.1 ]
+
+held_marked : (choice : MarkedChoice) (bytes copied : List ℕ) (layer a b : List Rect) → IsMarkedReading choice bytes (MarkedLayer copied layer a b)
+    → IsMarkedLayout choice bytes (MarkedLayer copied layer a b)
+held_marked choice bytes copied layer a b reading = elim reading [ inl large ↦ cc | inr read ↦ read.1 ]
+
 paints : (v : SplitValues) (bytes copied : List ℕ) (p : Painted) (x : Outcome) → IsDecision v.fewer (split_marked v) (split_spacing v) v.overlap bytes
     (Decides copied (Paints p)) → x ≡ painting v copied p → WritesParting v bytes x.writes
 paints v bytes copied p x d is =
-    let (layer, on_a, on_b, reading, (cut, is_cut, painted)) = d in
-    let marks = marks_for (split_marked v) on_a on_b in
-    elim reading [
-      | inl large ↦ cc
-      | inr read ↦ (let (lib, holds, l) = read.1 in record {
-        lib = lib;
-        holds = holds;
-        top = l.layer.top;
-        is_top = l.layer.is_top;
-        faultless = l.layer.faultless;
-        layer = layer;
-        squares = l.layer.squares;
-        marked_a = on_a;
-        marked_b = on_b;
-        faultless_a = l.faultless_a;
-        faultless_b = l.faultless_b;
-        on_a = l.marked_a;
-        on_b = l.marked_b;
-        a = p.a;
-        b = p.b;
-        head = p.head;
-        pieces = p.pieces;
-        stitches = p.stitches;
-        gains = p.gains;
-        asked = ap (λ (q : Painted). is_some q.gains) painted.is ∙ gains_told v.fewer marks (split_spacing v) cut _ painted.gains painted.are_gains;
-        parting = painted_parts v.fewer marks (split_spacing v) v.overlap layer cut p is_cut painted;
-        kept = painted_keep v.fewer marks (split_spacing v) v.overlap layer cut p is_cut painted;
-        copied = copied;
-        before = l.layer.before;
-        are = ap (λ (y : Outcome). y.writes) is;
-      })
-    ]
+    let (layer, on_a, on_b, reading, flat) = d in
+    let (lib, holds, l) = held_marked (split_marked v) bytes copied layer on_a on_b reading in
+    record {
+      lib = lib;
+      holds = holds;
+      top = l.layer.top;
+      is_top = l.layer.is_top;
+      faultless = l.layer.faultless;
+      layer = layer;
+      squares = l.layer.squares;
+      marked_a = on_a;
+      marked_b = on_b;
+      faultless_a = l.faultless_a;
+      faultless_b = l.faultless_b;
+      on_a = l.marked_a;
+      on_b = l.marked_b;
+      copied = copied;
+      before = l.layer.before;
+      masks = written_masks v (marks_for (split_marked v) on_a on_b) copied layer p x.writes flat (ap (λ (y : Outcome). y.writes) is);
+    }
 
 pub silent_not : (x : Outcome) → x ≡ silent ReadFault → is_answered x.status ≡ true → ⊥
 silent_not x is answered = let e : false ≡ true = sym (ap (λ (y : Outcome). is_answered y.status) is) ∙ answered in cc
@@ -153,6 +167,37 @@ file_done : (v : SplitValues) (file : Option (List ℕ)) (x : Outcome) → IsSpl
 file_done v None x is done = absurd (read_not (status_as x (silent ReadFault) ReadFault is refl done))
 file_done v (Some bytes) x is done = (bytes, refl, decided_done v bytes is.0 x is.1 is.2 done)
 
+-- the edited layer is parted
+edit_done : (v : EditValues) (o : Outside) (layout text : Option (List ℕ)) (x : Outcome) → files.get o.files v.input ≡ layout → files.get o.files v.edits ≡ text
+    → IsEditOf v layout text x → x.status ≡ Done → WritesEdited v o x.writes
+edit_done v o None text x there told is done = absurd (read_not (status_as x (silent ReadFault) ReadFault is refl done))
+edit_done v o (Some bytes) text x there told (Faulty name at, reading, is) done = absurd (refused_not (status_as x (refusal (split_by v) name at) Refused is refl done))
+edit_done v o (Some bytes) None x there told (Layer copied layer, reading, is) done = absurd (read_not (status_as x (silent ReadFault) ReadFault is refl done))
+edit_done v o (Some bytes) (Some text) x there told (Layer copied layer, reading, inl (large, is)) done = absurd
+    (refused_not (status_as x (refusal_of (codes "edits") TooLarge limit) Refused is refl done))
+edit_done v o (Some bytes) (Some text) x there told (Layer copied layer, reading, inr (small, inr (n, bad, is))) done = absurd
+    (refused_not (status_as x (says Refused (bad_line_line (codes "edits") n)) Refused is refl done))
+edit_done v o (Some bytes) (Some text) x there told (Layer copied layer, reading, inr (small, inl (es, listed, (after, squares, Clashes c, flat, is)))) done = absurd
+    (conflict_not (status_as x (clash (split_by v) c) Conflict is refl done))
+edit_done v o (Some bytes) (Some text) x there told (Layer copied layer, reading, inr (small, inl (es, listed, (after, squares, Paints p, flat, is)))) done =
+    let (lib, holds, is_layer) = held (edit_choice v) bytes copied layer reading in
+    record {
+      bytes = bytes;
+      read = there;
+      lib = lib;
+      holds = holds;
+      copied = copied;
+      layer = layer;
+      is_layer = is_layer;
+      text = text;
+      told = told;
+      edits = es;
+      listed = listed;
+      after = after;
+      squares = squares;
+      masks = written_masks (split_by v) None copied after p x.writes flat (ap (λ (y : Outcome). y.writes) is);
+    }
+
 pub demo_writes : (d : Decision) → (demo_plan d).writes ≡ []
 demo_writes (Refuses name at) = refl
 demo_writes (Decides copied (Paints p)) = refl
@@ -176,7 +221,7 @@ layer_writes : (v : CheckValues) (marks : Option Marks) (layer : List Rect) (cer
 layer_writes v marks layer None out x is = writes_as x (silent ReadFault) is refl
 layer_writes v marks layer (Some text) out x (inl (large, is)) = writes_as x (refusal_of (codes "cert") TooLarge limit) is refl
 layer_writes v marks layer (Some text) out x (inr (small, inl (cert, read, is))) = cert_writes v marks layer out cert x is
-layer_writes v marks layer (Some text) out x (inr (small, inr (n, bad, is))) = writes_as x (says Refused (bad_line_line n)) is refl
+layer_writes v marks layer (Some text) out x (inr (small, inr (n, bad, is))) = writes_as x (says Refused (bad_line_line (codes "cert") n)) is refl
 
 -- `check` writes nothing
 pub check_writes : (v : CheckValues) (layout cert out : Option (List ℕ)) (x : Outcome) → IsCheck v layout cert out x → x.writes ≡ []
@@ -226,6 +271,7 @@ plan_parted (Some (AsksCheck v)) o x is answered = (
   λ done. check_right v o (files.get o.files v.input) (files.get o.files v.certificate) (files.get o.files v.output) x refl refl refl is done,
 )
 plan_parted (Some (AsksDemo v)) o x is answered = ap (λ (y : Outcome). y.writes) is.2 ∙ demo_writes is.0
+plan_parted (Some (AsksEdit v)) o x is answered = λ done. edit_done v o (files.get o.files v.input) (files.get o.files v.edits) x refl refl is done
 plan_parted (Some (AsksBatch v)) o x is answered = batch_parted v o (files.get o.files v.input) x refl is answered
 
 -- an outcome that is an answer

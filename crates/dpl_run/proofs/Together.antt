@@ -5,15 +5,16 @@ use Rattle.std.proofs.lemmas.List.{append-nil, length-map, map-append}
 use Rattle.std.proofs.lemmas.Grind.{flat_map-append, fold-append}
 use Rattle.clap.specs.Walk.{Text}
 use Rattle.dpl_words.specs.Meaning.{BatchValues}
-use Rattle.dpl_run.specs.Batch.{greater, greatest, layer_line, split_of, together}
+use Rattle.dpl_texts.specs.Texts.{layer_line}
+use Rattle.dpl_run.specs.Batch.{greater, greatest, split_of, together}
 use Rattle.dpl_run.specs.BatchMade.{IsAdded, decided_together, each_decided}
 use Rattle.dpl_run.specs.Outcome.{Outcome}
 use Rattle.dpl_run.specs.Split.{plan_of}
-use Rattle.dpl_run.specs.View.{decision_view}
-use Rattle.dpl_run.specs.declared.pipeline.Decision.{Decision}
+use Rattle.dpl_decide.specs.View.{decision_view}
+use Rattle.dpl_decide.specs.declared.pipeline.Decision.{Decision}
 use Rattle.dpl_run.specs.declared.status.Status.{Status}
 use Rattle.dpl_run.specs.declared.status.Status.TheVariants.{Done}
-use Rattle.dpl_run.proofs.Zips.{zip_more}
+use Rattle.dpl_decide.proofs.Zips.{zip_more}
 
 same_parts : (s t : Status) (u v : List (Text × List ℕ)) (l m : List ℕ) → s ≡ t → u ≡ v → l ≡ m
     → ◌≡◌ {A = Outcome} (record { status = s; writes = u; line = l }) (record { status = t; writes = v; line = m })

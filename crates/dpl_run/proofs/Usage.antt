@@ -9,17 +9,19 @@ use Rattle.dpl_cert.specs.declared.cert.Cert.TheVariants.{Masks, Conflict as Con
 use Rattle.dpl_cert.specs.declared.name.Name.TheVariants.{TooLarge}
 use Rattle.dpl_spec_verdict.specs.declared.Verdict.{Verdict}
 use Rattle.dpl_spec_verdict.specs.declared.Verdict.TheVariants.{Valid, Rules, WasFault, Counts, Cover, Overlap, SpacingA, SpacingB, Marked, Stitch, Piece, Gain, Cycle}
-use Rattle.dpl_words.specs.Meaning.{AsksBatch, AsksCheck, AsksDemo, AsksSplit, BatchValues, CheckValues, RequestValues, SplitValues}
+use Rattle.dpl_words.specs.Meaning.{AsksBatch, AsksCheck, AsksDemo, AsksEdit, AsksSplit, BatchValues, CheckValues, EditValues, RequestValues, SplitValues}
 use Rattle.dpl_layer.specs.Marked.{FaultyMarked, MarkedLayer}
 use Rattle.dpl_layer.specs.Reading.{Faulty, Layer, limit}
 use Rattle.dpl_answer.specs.Flat.{Clashes, Paints}
 use Rattle.dpl_run.specs.Batch.{IsBatchOf}
+use Rattle.dpl_run.specs.Edit.{IsEditOf, split_by}
 use Rattle.dpl_run.specs.Check.{IsCheck, IsCheckOfCert, IsCheckOfFile, IsCheckOfMasks, WithFile, check_marked, refusal_of, verdict_outcome, verdict_status}
 use Rattle.dpl_run.specs.Demo.{demo_plan}
 use Rattle.dpl_run.specs.Outcome.{Outcome, says, silent}
 use Rattle.dpl_run.specs.Program.{IsMade, IsPlan}
-use Rattle.dpl_run.specs.Split.{Decides, Decision, IsSplitOf, Refuses, marks_for, plan_of}
-use Rattle.dpl_run.specs.Texts.{bad_line_line}
+use Rattle.dpl_decide.specs.Deciding.{Decides, Decision, Refuses, marks_for}
+use Rattle.dpl_run.specs.Split.{IsSplitOf, plan_of, refusal}
+use Rattle.dpl_texts.specs.Texts.{bad_line_line}
 use Rattle.dpl_run.specs.declared.status.Status.{Status}
 use Rattle.dpl_run.specs.declared.status.Status.TheVariants.{Refused, ReadFault, Usage}
 use Rattle.dpl_run.proofs.Batches.{batch_keeps}
@@ -55,6 +57,15 @@ batch_other : (v : BatchValues) (file : Option (List ℕ)) (x : Outcome) → IsB
 batch_other v None x is = as_other x (silent ReadFault) is read_other
 batch_other v (Some bytes) x is = batch_keeps IsOther (λ e. cc) (λ e. cc) refused_other v bytes x is
 
+edit_other : (v : EditValues) (layout text : Option (List ℕ)) (x : Outcome) → IsEditOf v layout text x → IsOther x.status
+edit_other v None text x is = as_other x (silent ReadFault) is read_other
+edit_other v (Some bytes) text x (Faulty name at, read, is) = as_other x (refusal (split_by v) name at) is refused_other
+edit_other v (Some bytes) None x (Layer copied layer, read, is) = as_other x (silent ReadFault) is read_other
+edit_other v (Some bytes) (Some text) x (Layer copied layer, read, inl (large, is)) = as_other x (refusal_of (codes "edits") TooLarge limit) is refused_other
+edit_other v (Some bytes) (Some text) x (Layer copied layer, read, inr (small, inr (n, bad, is))) = as_other x (says Refused (bad_line_line (codes "edits") n)) is refused_other
+edit_other v (Some bytes) (Some text) x (Layer copied layer, read, inr (small, inl (es, listed, (after, squares, flat, decomposed, is)))) =
+    as_other x (plan_of (split_by v) (Decides copied flat)) is (decided_other (split_by v) (Decides copied flat))
+
 verdict_other : (w : Verdict) → IsOther (verdict_status w)
 verdict_other Valid e = cc
 verdict_other (Rules rule overlap corner) e = cc
@@ -85,7 +96,7 @@ layer_other : (v : CheckValues) (marks : Option Marks) (layer : List Rect) (cert
 layer_other v marks layer None out x is = as_other x (silent ReadFault) is read_other
 layer_other v marks layer (Some text) out x (inl (large, is)) = as_other x (refusal_of (codes "cert") TooLarge limit) is refused_other
 layer_other v marks layer (Some text) out x (inr (small, inl (cert, read, is))) = cert_other v marks layer out cert x is
-layer_other v marks layer (Some text) out x (inr (small, inr (n, bad, is))) = as_other x (says Refused (bad_line_line n)) is refused_other
+layer_other v marks layer (Some text) out x (inr (small, inr (n, bad, is))) = as_other x (says Refused (bad_line_line (codes "cert") n)) is refused_other
 
 check_other : (v : CheckValues) (layout cert out : Option (List ℕ)) (x : Outcome) → IsCheck v layout cert out x → IsOther x.status
 check_other v None cert out x is = as_other x (silent ReadFault) is read_other
@@ -97,6 +108,7 @@ plan_asked None o x is usage = refl
 plan_asked (Some (AsksSplit v)) o x is usage = absurd (split_other v (files.get o.files v.input) x is usage)
 plan_asked (Some (AsksCheck v)) o x is usage = absurd (check_other v (files.get o.files v.input) (files.get o.files v.certificate) (files.get o.files v.output) x is usage)
 plan_asked (Some (AsksDemo v)) o x is usage = absurd (as_other x (demo_plan is.0) is.2 (shown_other is.0) usage)
+plan_asked (Some (AsksEdit v)) o x is usage = absurd (edit_other v (files.get o.files v.input) (files.get o.files v.edits) x is usage)
 plan_asked (Some (AsksBatch v)) o x is usage = absurd (batch_other v (files.get o.files v.input) x is usage)
 
 -- what was made ends in usage only where nothing was asked for

@@ -1,8 +1,8 @@
 -- What `batch` does with a file: for each layer what `split` does with it, whatever the other layers hold.
-use Rattle.std.specs.Prelude.{◌≡◌, ◌++◌, ℕ, false, List, Option, Some, None, codes, map, nat_lt, if◌then◌else◌}
+use Rattle.std.specs.Prelude.{◌≡◌, ℕ, false, List, Option, Some, None, map, nat_lt, if◌then◌else◌}
 use Rattle.std.specs.List.{AllZip, flat_map, fold, zip}
-use Rattle.std.specs.Fmt.{decimal}
 use Rattle.dpl_words.specs.Meaning.{BatchValues, SplitValues, certificate_name, mask_name}
+use Rattle.dpl_texts.specs.Texts.{layer_line}
 use Rattle.dpl_run.specs.Outcome.{Outcome, code_of, silent}
 use Rattle.dpl_run.specs.Split.{IsSplit}
 use Rattle.dpl_run.specs.declared.status.Status.{Status}
@@ -35,10 +35,6 @@ greater s t = if nat_lt (code_of s) (code_of t) then t else s
 
 abbrev pub greatest : List Status → Status
 greatest statuses = fold greater Done statuses
-
--- a layer's line begins with its number
-abbrev pub layer_line : ℕ → List ℕ → List ℕ
-layer_line layer line = codes "layer " ++ (decimal layer ++ (codes " " ++ line))
 
 -- The files of each layer are written, in the order of the layers, and then the line of each is said. The answer is the one with the greatest code.
 abbrev pub together : List ℕ → List Outcome → Outcome

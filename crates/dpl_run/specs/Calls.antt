@@ -8,13 +8,16 @@ use Rattle.dpl_spec_split.specs.declared.Rect.{Rect}
 use Rattle.dpl_cert.specs.declared.cert.Cert.{Cert}
 use Rattle.dpl_cert.specs.Grammar.{IsText}
 use Rattle.dpl_spec_verdict.specs.Masks.{IsOfMasks}
-use Rattle.dpl_words.specs.Meaning.{AsksBatch, AsksCheck, AsksDemo, AsksSplit, BatchValues, CheckValues, RequestValues, request_of}
+use Rattle.dpl_words.specs.Meaning.{AsksBatch, AsksCheck, AsksDemo, AsksEdit, AsksSplit, BatchValues, CheckValues, EditValues, RequestValues, request_of}
+use Rattle.dpl_cert.specs.declared.name.Name.{Name}
 use Rattle.dpl_layer.specs.Marked.{IsMarkedReading, MarkedLayer}
+use Rattle.dpl_layer.specs.Reading.{Faulty, IsReading, Layer}
 use Rattle.dpl_run.specs.Batch.{greatest, split_of}
 use Rattle.dpl_run.specs.Check.{check_marked}
+use Rattle.dpl_run.specs.Edit.{edit_choice, split_by}
 use Rattle.dpl_run.specs.Outcome.{is_answered}
 use Rattle.dpl_run.specs.declared.status.Status.{Status}
-use Rattle.dpl_run.specs.declared.status.Status.TheVariants.{Done, ReadFault, WriteFault, NoMemory}
+use Rattle.dpl_run.specs.declared.status.Status.TheVariants.{Done, Refused, ReadFault, WriteFault, NoMemory}
 
 -- IN is read as a file with the layer and its markers, and CERT as a certificate of masks
 abbrev pub HasLayerIn : CheckValues → Outside → Type 0
@@ -39,12 +42,28 @@ pub record AreReadsOfCheck (v : CheckValues) (told : Option Outside) (calls : Li
   pub of_layout : AreReadsOf v.input layout
   pub of_more : (more ≡ []) ⊎ (AreReadsOfCert v told more × IfSome told (HasLayerIn v))
 
+-- IN is read as a file with the layer that is to be edited, or it has a fault
+abbrev pub HasLayerToEdit : EditValues → Outside → Type 0
+HasLayerToEdit v o = (bytes copied : List ℕ) × (layer : List Rect) × (file_of o v.input ≡ Some bytes) × IsReading (edit_choice v) bytes (Layer copied layer)
+
+abbrev pub HasNoLayerToEdit : EditValues → Outside → Type 0
+HasNoLayerToEdit v o = (bytes : List ℕ) × (name : Name) × (at : ℕ) × (file_of o v.input ≡ Some bytes) × IsReading (edit_choice v) bytes (Faulty name at)
+
+-- What `edit` reads: IN, and then EDITS only where IN has the layer.
+pub record AreReadsOfEdit (v : EditValues) (told : Option Outside) (calls : List Call) : Type 0 where
+  pub layout : List Call
+  pub edits : List Call
+  pub are : calls ≡ layout ++ edits
+  pub of_layout : AreReadsOf v.input layout
+  pub of_edits : (edits ≡ []) ⊎ (AreReadsOf v.edits edits × IfSome told (HasLayerToEdit v))
+
 -- what a request reads
 abbrev pub AreReadsFor : Option RequestValues → Option Outside → List Call → Type 0
 AreReadsFor (Some (AsksSplit v)) told calls = AreReadsOf v.input calls
 AreReadsFor (Some (AsksCheck v)) told calls = AreReadsOfCheck v told calls
 AreReadsFor (Some (AsksDemo v)) told calls = calls ≡ []
 AreReadsFor (Some (AsksBatch v)) told calls = AreReadsOf v.input calls
+AreReadsFor (Some (AsksEdit v)) told calls = AreReadsOfEdit v told calls
 AreReadsFor None told calls = calls ≡ []
 
 -- the files that an answer to a request writes, in order
@@ -83,10 +102,24 @@ AreWritingsOfBatch v NoMemory calls = calls ≡ []
 AreWritingsOfBatch v WriteFault calls = (answer : Status) × (answers : List Status) × (is_answered answer ≡ true) × AreAnswersOf v answer answers × BeginWritings (batch_files v answers) calls
 AreWritingsOfBatch v answer calls = (answers : List Status) × AreAnswersOf v answer answers × AreWritings (batch_files v answers) calls
 
+-- The files that `edit` writes: those of `split`, but where it refuses EDITS none. Which of IN and EDITS is refused shows in IN, where the outside is told. No body can
+-- know whether its host tells it, so this binds the body over each host.
+abbrev pub AreFilesOfEdit : EditValues → Option Outside → Status → List Text → Type 0
+AreFilesOfEdit v told Refused names = ((names ≡ v.certificate ∷ []) × IfSome told (HasNoLayerToEdit v)) ⊎ ((names ≡ []) × IfSome told (HasLayerToEdit v))
+AreFilesOfEdit v told answer names = names ≡ files_written (Some (AsksSplit (split_by v))) answer
+
+-- what `edit` writes at the end of a run
+abbrev pub AreWritingsOfEdit : EditValues → Option Outside → Status → List Call → Type 0
+AreWritingsOfEdit v told ReadFault calls = calls ≡ []
+AreWritingsOfEdit v told NoMemory calls = calls ≡ []
+AreWritingsOfEdit v told WriteFault calls = (answer : Status) × (names : List Text) × (is_answered answer ≡ true) × AreFilesOfEdit v told answer names × BeginWritings names calls
+AreWritingsOfEdit v told answer calls = (names : List Text) × AreFilesOfEdit v told answer names × AreWritings names calls
+
 -- what a request writes at the end of a run
-abbrev pub AreWritingsFor : Option RequestValues → Status → List Call → Type 0
-AreWritingsFor (Some (AsksBatch v)) status calls = AreWritingsOfBatch v status calls
-AreWritingsFor request status calls = AreWritingsOf request status calls
+abbrev pub AreWritingsFor : Option RequestValues → Option Outside → Status → List Call → Type 0
+AreWritingsFor (Some (AsksBatch v)) told status calls = AreWritingsOfBatch v status calls
+AreWritingsFor (Some (AsksEdit v)) told status calls = AreWritingsOfEdit v told status calls
+AreWritingsFor request told status calls = AreWritingsOf request status calls
 
 -- the calls of a run of these words that ends so
 pub record AreCallsOf (words : List Text) (told : Option Outside) (status : Status) (calls : List Call) : Type 0 where
@@ -94,4 +127,4 @@ pub record AreCallsOf (words : List Text) (told : Option Outside) (status : Stat
   pub writings : List Call
   pub are : calls ≡ reads ++ writings
   pub read : AreReadsFor (request_of words) told reads
-  pub written : AreWritingsFor (request_of words) status writings
+  pub written : AreWritingsFor (request_of words) told status writings

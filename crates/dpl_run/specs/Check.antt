@@ -16,9 +16,9 @@ use Rattle.dpl_words.specs.Meaning.{CheckValues}
 use Rattle.dpl_layer.specs.Reading.{Choice, Faulty, IsReading, Layer, Reading, limit}
 use Rattle.dpl_layer.specs.Marked.{FaultyMarked, IsMarkedReading, MarkedChoice, MarkedLayer, MarkedReading}
 use Rattle.dpl_spec_split.specs.Marks.{Marks}
-use Rattle.dpl_run.specs.Split.{marks_for}
+use Rattle.dpl_decide.specs.Deciding.{marks_for}
 use Rattle.dpl_run.specs.Outcome.{Outcome, says, silent}
-use Rattle.dpl_run.specs.Texts.{bad_line_line, broken_line, refused_file_line, valid_line}
+use Rattle.dpl_texts.specs.Texts.{bad_line_line, refused_file_line, verdict_line}
 use Rattle.dpl_run.specs.declared.status.Status.{Status}
 use Rattle.dpl_run.specs.declared.status.Status.TheVariants.{Done, Refused, ReadFault, CheckNo}
 
@@ -44,10 +44,6 @@ refusal_of file name at = says Refused (refused_file_line file name at)
 abbrev pub verdict_status : Verdict → Status
 verdict_status Valid = Done
 verdict_status _ = CheckNo
-
-abbrev pub verdict_line : Cert → Verdict → List ℕ
-verdict_line cert Valid = valid_line cert
-verdict_line cert verdict = broken_line verdict
 
 abbrev pub verdict_outcome : Cert → Verdict → Outcome
 verdict_outcome cert verdict = says (verdict_status verdict) (verdict_line cert verdict)
@@ -91,7 +87,7 @@ IsCheckOfCert v marks layer out (Fault name at) x = x ≡ verdict_outcome (Fault
 abbrev pub IsCheckOfText : CheckValues → Option Marks → List Rect → Option (List ℕ) → List ℕ → Outcome → Type 0
 IsCheckOfText v marks layer out text x =
     ((cert : Cert) × IsText cert text × IsCheckOfCert v marks layer out cert x)
-    ⊎ ((n : ℕ) × IsBadLine text n × (x ≡ says Refused (bad_line_line n)))
+    ⊎ ((n : ℕ) × IsBadLine text n × (x ≡ says Refused (bad_line_line (codes "cert") n)))
 
 -- the text isn't too large
 abbrev pub IsCheckOfFile : CheckValues → Option Marks → List Rect → Option (List ℕ) → List ℕ → Outcome → Type 0

@@ -26,7 +26,7 @@ use Rattle.dpl_layer.specs.Reading.{Choice, chosen}
 use Rattle.dpl_layer.specs.Marked.{AreFaultless, AreMarked, MarkedChoice}
 use Rattle.dpl_spec_split.specs.Marks.{Marks}
 use Rattle.dpl_run.specs.Check.{check_marked, check_spacing, mask_choice}
-use Rattle.dpl_run.specs.Split.{marks_for}
+use Rattle.dpl_decide.specs.Deciding.{marks_for}
 
 -- The bytes hold a library with a top, whose chosen layer has no fault, and the squares of these slabs.
 pub record HasLayer (choice : Choice) (bytes : List ℕ) (slabs : List Rect) : Type 0 where

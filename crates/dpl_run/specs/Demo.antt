@@ -7,8 +7,8 @@ use Rattle.dpl_layer.specs.Reading.{Choice}
 use Rattle.dpl_layer.specs.Marked.{MarkedChoice}
 use Rattle.dpl_answer.specs.Flat.{Clashes, Paints}
 use Rattle.dpl_run.specs.Outcome.{Outcome, says}
-use Rattle.dpl_run.specs.Split.{Decides, Decision, IsDecision, Refuses}
-use Rattle.dpl_run.specs.Texts.{conflict_line, demo_line, refused_line}
+use Rattle.dpl_decide.specs.Deciding.{Decides, Decision, IsDecision, Refuses}
+use Rattle.dpl_texts.specs.Texts.{conflict_line, demo_line, refused_line}
 use Rattle.dpl_run.specs.declared.status.Status.TheVariants.{Done, Conflict, Refused}
 
 -- layer 1 of the only structure

@@ -1,14 +1,13 @@
 pub mod Outcome
-pub mod Texts
 pub mod Split
 pub mod Batch
 pub mod Demo
 pub mod Check
+pub mod Edit
 pub mod Checked
 pub mod Program
 pub mod View
 pub mod BatchMade
-pub mod Waits
 pub mod Parted
 pub mod Calls
 pub mod CallsMade

@@ -21,14 +21,20 @@ use Rattle.dpl_cert.specs.declared.cert.PieceLine.{PieceLine}
 use Rattle.dpl_cert.specs.declared.cert.StitchLine.{StitchLine}
 use Rattle.dpl_cert.specs.declared.cert.Gain.{Gain}
 use Rattle.dpl_masks.specs.Bytes.{file_bytes}
-use Rattle.dpl_words.specs.Meaning.{AsksBatch, AsksCheck, AsksDemo, AsksSplit, BatchValues, RequestValues, SplitValues, request_of}
-use Rattle.dpl_layer.specs.Reading.{chosen, copied_of}
+use Rattle.dpl_words.specs.Meaning.{AsksBatch, AsksCheck, AsksDemo, AsksEdit, AsksSplit, BatchValues, EditValues, RequestValues, SplitValues, request_of}
+use Rattle.dpl_spec_edits.specs.declared.Edit.{Edit}
+use Rattle.dpl_spec_edits.specs.Edits.{edited}
+use Rattle.dpl_spec_edits.specs.Text.{IsListed}
+use Rattle.dpl_spec_split.specs.Marks.{Marks}
+use Rattle.dpl_layer.specs.Reading.{IsLayerIn, chosen, copied_of}
 use Rattle.dpl_layer.specs.Marked.{AreFaultless, AreMarked}
 use Rattle.dpl_law_verdict.specs.Valid.{KeepMarks}
 use Rattle.dpl_run.specs.Batch.{greatest, split_of}
 use Rattle.dpl_run.specs.Calls.{files_written}
 use Rattle.dpl_run.specs.CallsMade.{names_of}
-use Rattle.dpl_run.specs.Split.{certified, marks_for, split_choice, split_marked, split_spacing}
+use Rattle.dpl_decide.specs.Deciding.{marks_for}
+use Rattle.dpl_run.specs.Edit.{edit_choice, split_by}
+use Rattle.dpl_run.specs.Split.{certified, split_choice, split_marked, split_spacing}
 use Rattle.dpl_run.specs.Outcome.{Outcome, Shows, carried_out}
 use Rattle.dpl_run.specs.Checked.{IsRight}
 use Rattle.dpl_run.specs.declared.status.Status.{Status}
@@ -46,7 +52,22 @@ pub record ArePartingMasks (spacing : Spacing) (layer stitches a b : List Rect) 
   pub apart_on_b : KeepsApart spacing features b
   pub overlap : OverlapAt stitches a b
 
--- what is written of a file: its layer's masks, and a certificate that lists their stitches
+-- what is written of a layer and its marks: masks that part it, behind these records, and a certificate that lists their stitches
+pub record AreWrittenMasks (v : SplitValues) (marks : Option Marks) (copied : List ℕ) (layer : List Rect) (writes : List (Text × List ℕ)) : Type 0 where
+  pub a : List Rect
+  pub b : List Rect
+  pub head : Head
+  pub pieces : List PieceLine
+  pub stitches : List StitchLine
+  -- lines of gains exactly where fewer stitches are asked for
+  pub gains : Option (List Gain)
+  pub asked : is_some gains ≡ v.fewer
+  pub parting : ArePartingMasks (split_spacing v) layer (rects_of_lines stitches) a b
+  -- each marked square of the layer is on its mask alone
+  pub kept : KeepMarks marks layer a b
+  pub are : writes ≡ (v.output, file_bytes copied v.a v.b a b) ∷ (v.certificate, certified (Masks head pieces stitches gains)) ∷ []
+
+-- what is written of a file: the masks of its layer
 pub record WritesParting (v : SplitValues) (bytes : List ℕ) (writes : List (Text × List ℕ)) : Type 0 where
   -- the layer of the library that the file holds, which has no fault
   pub lib : Library
@@ -63,22 +84,10 @@ pub record WritesParting (v : SplitValues) (bytes : List ℕ) (writes : List (Te
   pub faultless_b : AreFaultless lib top v.mark_b
   pub on_a : AreMarked lib top v.mark_a layer marked_a
   pub on_b : AreMarked lib top v.mark_b layer marked_b
-  -- its masks, and the lines of their certificate
-  pub a : List Rect
-  pub b : List Rect
-  pub head : Head
-  pub pieces : List PieceLine
-  pub stitches : List StitchLine
-  -- and lines of gains exactly where fewer stitches are asked for
-  pub gains : Option (List Gain)
-  pub asked : is_some gains ≡ v.fewer
-  pub parting : ArePartingMasks (split_spacing v) layer (rects_of_lines stitches) a b
-  -- each marked square of the layer is on its mask alone
-  pub kept : KeepMarks (marks_for (split_marked v) marked_a marked_b) layer a b
-  -- the bytes written
+  -- the records that the masks' file begins with
   pub copied : List ℕ
   pub before : copied_of lib top ≡ Some copied
-  pub are : writes ≡ (v.output, file_bytes copied v.a v.b a b) ∷ (v.certificate, certified (Masks head pieces stitches gains)) ∷ []
+  pub masks : AreWrittenMasks v (marks_for (split_marked v) marked_a marked_b) copied layer writes
 
 -- the masks of a file that is there are written
 pub record WritesMasks (v : SplitValues) (o : Outside) (writes : List (Text × List ℕ)) : Type 0 where
@@ -98,12 +107,33 @@ pub record WritesEach (v : BatchValues) (status : Status) (o : Outside) (writes 
   pub named : AllZip (λ layer x. names_of x.writes ≡ files_written (Some (AsksSplit (split_of v layer))) x.status) v.layers each
   pub parted : AllZip (λ layer x. IsPartedAlone (split_of v layer) x.status o x.writes) v.layers each
 
--- what a request writes: `split` the masks, if it is done, and `batch` those of each layer that is done; the others write nothing, and a `check` that is done has found that all is right
+-- what `edit` writes: the masks of the layer of IN as the edits in EDITS make it
+pub record WritesEdited (v : EditValues) (o : Outside) (writes : List (Text × List ℕ)) : Type 0 where
+  -- the layer of the library that IN holds, which has no fault
+  pub bytes : List ℕ
+  pub read : files.get o.files v.input ≡ Some bytes
+  pub lib : Library
+  pub holds : Holds bytes lib
+  pub copied : List ℕ
+  pub layer : List Rect
+  pub is_layer : IsLayerIn (edit_choice v) lib copied layer
+  -- what the edits make of it
+  pub text : List ℕ
+  pub told : files.get o.files v.edits ≡ Some text
+  pub edits : List Edit
+  pub listed : IsListed edits text
+  pub after : List Rect
+  pub squares : AreSlabsOf (edited (Covers layer) edits) after
+  -- no marks are asked for
+  pub masks : AreWrittenMasks (split_by v) None copied after writes
+
+-- what a request writes: `split` the masks, if it is done, `batch` those of each layer that is done, and `edit`, if it is done, those of the edited layer; the others write nothing, and a `check` that is done has found that all is right
 abbrev pub IsPartedBy : Option RequestValues → Status → Outside → List (Text × List ℕ) → Type 0
 IsPartedBy (Some (AsksSplit v)) status o writes = IsPartedAlone v status o writes
 IsPartedBy (Some (AsksCheck v)) status o writes = (writes ≡ []) × (status ≡ Done → IsRight v o)
 IsPartedBy (Some (AsksDemo v)) status o writes = writes ≡ []
 IsPartedBy (Some (AsksBatch v)) status o writes = WritesEach v status o writes
+IsPartedBy (Some (AsksEdit v)) status o writes = status ≡ Done → WritesEdited v o writes
 IsPartedBy None status o writes = (writes ≡ []) × (status ≡ Usage)
 
 -- What the words ask for was answered so: the masks that were written part their layers, and where they ask for a check that is done, what the files hold is right.

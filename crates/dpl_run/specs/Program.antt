@@ -6,14 +6,15 @@ use Rattle.std.specs.FinMap as map
 use Rattle.dpl_spec_split.specs.declared.Rect.{Rect}
 use Rattle.dpl_spec_split.specs.Marks.{Marks}
 use Rattle.dpl_cert.specs.declared.cert.Cert.{Cert}
-use Rattle.dpl_words.specs.Meaning.{AsksBatch, AsksCheck, AsksDemo, AsksSplit, CheckValues, RequestValues, request_of}
+use Rattle.dpl_words.specs.Meaning.{AsksBatch, AsksCheck, AsksDemo, AsksEdit, AsksSplit, CheckValues, EditValues, RequestValues, request_of}
 use Rattle.dpl_run.specs.Outcome.{IsPartDone, Outcome, Shows, carried_out, is_answered, says}
 use Rattle.dpl_layer.specs.Reading.{limit}
 use Rattle.dpl_run.specs.Split.{IsSplitOf}
 use Rattle.dpl_run.specs.Check.{IsCheck, IsCheckOfCert, IsCheckOfFile, WithFile}
 use Rattle.dpl_run.specs.Batch.{IsBatchOf}
+use Rattle.dpl_run.specs.Edit.{IsEditOf, IsEditOfFile}
 use Rattle.dpl_run.specs.Demo.{IsDemo}
-use Rattle.dpl_run.specs.Texts.{usage_line}
+use Rattle.dpl_texts.specs.Texts.{usage_line}
 use Rattle.dpl_run.specs.declared.status.Status.{Status}
 use Rattle.dpl_run.specs.declared.status.Status.TheVariants.{Usage}
 
@@ -23,6 +24,7 @@ IsPlan (Some (AsksSplit v)) files x = IsSplitOf v (map.get files v.input) x
 IsPlan (Some (AsksCheck v)) files x = IsCheck v (map.get files v.input) (map.get files v.certificate) (map.get files v.output) x
 IsPlan (Some (AsksDemo v)) files x = IsDemo v x
 IsPlan (Some (AsksBatch v)) files x = IsBatchOf v (map.get files v.input) x
+IsPlan (Some (AsksEdit v)) files x = IsEditOf v (map.get files v.input) (map.get files v.edits) x
 IsPlan None files x = x ≡ says Usage usage_line
 
 -- The answer is that of what the words ask for, on what the outside shows, and all of it was done.
@@ -59,3 +61,7 @@ IsMadeOfCert told v marks layer cert x = (out : Option (List ℕ)) × IsTold tol
 abbrev pub IsMadeOfLayer : Option Outside → CheckValues → Option Marks → List Rect → Outcome → Type 0
 IsMadeOfLayer told v marks layer x = (cert out : Option (List ℕ)) × IsTold told v.certificate cert × IsTold told v.output out
     × WithFile cert (IsCheckOfFile v marks layer out) x × (is_answered x.status ≡ true)
+
+-- what was made of the text of edits, for this layer
+abbrev pub IsMadeOfEdits : Option Outside → EditValues → List ℕ → List Rect → Outcome → Type 0
+IsMadeOfEdits told v copied layer x = (text : Option (List ℕ)) × IsTold told v.edits text × WithFile text (IsEditOfFile v copied layer) x × (is_answered x.status ≡ true)

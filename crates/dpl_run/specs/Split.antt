@@ -1,7 +1,6 @@
 -- What `split` does with a file.
-use Rattle.std.specs.Prelude.{◌≡◌, ◌||◌, ℕ, Bool, is_some, List, [], ◌∷◌, Option, Some, None, length}
+use Rattle.std.specs.Prelude.{◌≡◌, ℕ, List, [], ◌∷◌, Option, Some, None, length}
 use Rattle.dpl_spec_split.specs.declared.Spacing.{Spacing}
-use Rattle.dpl_spec_split.specs.declared.Rect.{Rect}
 use Rattle.dpl_cert.specs.declared.name.Name.{Name}
 use Rattle.dpl_cert.specs.declared.cert.Cert.{Cert}
 use Rattle.dpl_cert.specs.declared.cert.Cert.TheVariants.{Masks, Conflict as ConflictText, Fault}
@@ -10,17 +9,12 @@ use Rattle.dpl_cert.specs.Grammar.{lines_of}
 use Rattle.dpl_masks.specs.Bytes.{file_bytes}
 use Rattle.dpl_words.specs.Meaning.{SplitValues}
 use Rattle.dpl_layer.specs.Reading.{Choice}
-use Rattle.dpl_layer.specs.Marked.{FaultyMarked, IsMarkedReading, MarkedChoice, MarkedLayer}
-use Rattle.dpl_spec_split.specs.Marks.{Marks, asked}
-use Rattle.dpl_answer.specs.Flat.{Clash, Flat, Clashes, IsFlat, Painted, Paints}
+use Rattle.dpl_layer.specs.Marked.{MarkedChoice}
+use Rattle.dpl_answer.specs.Flat.{Clash, Clashes, Painted, Paints}
+use Rattle.dpl_decide.specs.Deciding.{Decides, Decision, IsDecision, Refuses}
 use Rattle.dpl_run.specs.Outcome.{Outcome, silent}
-use Rattle.dpl_run.specs.Texts.{conflict_line, done_line, refused_line}
+use Rattle.dpl_texts.specs.Texts.{conflict_line, done_line, refused_line}
 use Rattle.dpl_run.specs.declared.status.Status.TheVariants.{Done, Conflict, Refused, ReadFault}
-
--- how a file is decided
-pub data Decision : Type 0 where
-  Refuses : Name → ℕ → Decision
-  Decides : List ℕ → Flat → Decision
 
 -- the layer that a command line of `split` chooses
 abbrev pub split_choice : SplitValues → Choice
@@ -30,22 +24,9 @@ split_choice v = record { top = v.top; layer = v.layer; datatype = v.datatype }
 abbrev pub split_marked : SplitValues → MarkedChoice
 split_marked v = record { layer = split_choice v; mark_a = v.mark_a; mark_b = v.mark_b }
 
--- Marks are asked for where a layer of markers is named.
-abbrev pub are_asked : MarkedChoice → Bool
-are_asked choice = is_some choice.mark_a || is_some choice.mark_b
-
-abbrev pub marks_for : MarkedChoice → List Rect → List Rect → Option Marks
-marks_for choice a b = asked (are_asked choice) a b
-
 -- how far apart it keeps features on one mask
 abbrev pub split_spacing : SplitValues → Spacing
 split_spacing v = record { rule = v.rule; corner = v.corner }
-
--- The first fault of the file, or the decomposition of its layer and its marks, with fewer stitches where they are asked for. The numbers of tiles and workers occur nowhere.
-abbrev pub IsDecision : Bool → MarkedChoice → Spacing → ℕ → List ℕ → Decision → Type 0
-IsDecision fewer choice spacing overlap bytes (Refuses name at) = IsMarkedReading choice bytes (FaultyMarked name at)
-IsDecision fewer choice spacing overlap bytes (Decides copied flat) =
-    (layer a b : List Rect) × IsMarkedReading choice bytes (MarkedLayer copied layer a b) × IsFlat fewer (marks_for choice a b) spacing overlap layer flat
 
 abbrev pub certified : Cert → List ℕ
 certified c = text (lines_of c)

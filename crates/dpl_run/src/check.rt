@@ -9,29 +9,26 @@ ghost use Rattle.dpl_cert.specs.Grammar.{IsCert};
 ghost use Rattle.dpl_spec_verdict.specs.Masks.{IsOfMasks};
 ghost use Rattle.dpl_run.specs.Calls.{AreReadsOfCert, AreReadsOfCheck};
 ghost use Rattle.dpl_run.specs.CallsMade.{AreReadsBehind};
-ghost use Rattle.dpl_run.specs.Check.{IsCheckOfCert, IsCheckOfMasks, check_marked, check_spacing, mask_choice as mask_choice_of, refusal_of, verdict_outcome, verdict_status};
+ghost use Rattle.dpl_run.specs.Check.{IsCheckOfCert, IsCheckOfMasks, check_marked, check_spacing, mask_choice as mask_choice_of, verdict_outcome, verdict_status};
 ghost use Rattle.dpl_run.specs.Program.{IsMade, IsMadeOfCert, IsMadeOfLayer};
 ghost use Rattle.dpl_layer.specs.Reading.{limit};
-ghost use Rattle.dpl_run.specs.Outcome.{says};
-ghost use Rattle.dpl_run.specs.Texts.{bad_line_line as bad_line_line_of};
 ghost use Rattle.dpl_layer.specs.View.{choice_view, marked_choice_view};
-ghost use Rattle.dpl_run.specs.View.{file_word, marks_with, output_view};
-ghost use Rattle.dpl_cert.specs.declared.name.Name.TheVariants.{TooLarge};
-ghost use Rattle.dpl_run.specs.declared.status.Status.TheVariants.{Refused};
+ghost use Rattle.dpl_run.specs.View.{marks_with, output_view};
 
 use crate::input::read_input;
-use crate::marks::has_markers;
 use crate::output::{Output, said};
+use crate::refusals::{bad_line, refused, too_large};
 use crate::status::Status;
-use crate::texts::{CheckedFile, bad_line_line, refused_file_line, verdict_line};
 use dpl_base::Spacing;
-use dpl_cert::{Cert, Name};
+use dpl_cert::Cert;
 use dpl_check::{Verdict, check_conflict, check_masks};
-use dpl_host::{Host, MAX_BYTES, ReadFault};
+use dpl_decide::has_markers;
+use dpl_host::{Host, ReadFault};
 use dpl_layer::{
     LayerChoice, LayerFault, MarkedChoice, MarkedLayer, layer_of, layer_within, marked_layer_of,
 };
 use dpl_parse::{CertFault, read_cert};
+use dpl_texts::{NamedFile, verdict_line};
 use dpl_words::CheckOptions;
 use std::alloc::{AllocError, Global};
 
@@ -52,11 +49,11 @@ pub(crate) fn check_output<'a, H: Host>(
     ensures calls { Logged (H.log host.old) (H.log host.new) (AreReadsOfCheck (check_view options.now) (H.told host.old)) }
 {
     let Some(bytes) = read_input(alloc, host, options.input)? else {
-        return Ok(too_large(alloc, CheckedFile::Layout)?);
+        return Ok(too_large(alloc, NamedFile::Layout)?);
     };
     match marked_layer_of(alloc, &choice_of(options), bytes) {
         Ok(layer) => check_layer(alloc, options, &layer, host),
-        Err(LayerFault::Refused { name, at }) => Ok(refused(alloc, CheckedFile::Layout, name, at)?),
+        Err(LayerFault::Refused { name, at }) => Ok(refused(alloc, NamedFile::Layout, name, at)?),
         Err(LayerFault::NoMemory) => Err(ReadFault::NoMemory),
     }
 }
@@ -79,14 +76,14 @@ fn check_layer<'a, H: Host>(
     ensures calls { Logged (H.log host.old) (H.log host.new) (AreReadsOfCert (check_view options.now) (H.told host.old)) }
 {
     let Some(text) = read_input(alloc, host, options.certificate)? else {
-        return Ok(too_large(alloc, CheckedFile::Certificate)?);
+        return Ok(too_large(alloc, NamedFile::Certificate)?);
     };
     match read_cert(alloc, text.as_slice()) {
         Ok(cert) => {
             drop(text);
             check_cert(alloc, options, layer, &cert, host)
         }
-        Err(CertFault::BadLine { line }) => Ok(bad_line(alloc, line)?),
+        Err(CertFault::BadLine { line }) => Ok(bad_line(alloc, NamedFile::Certificate, line)?),
         Err(CertFault::NoMemory) => Err(ReadFault::NoMemory),
     }
 }
@@ -185,7 +182,7 @@ fn check_out<'a, H: Host>(
     ensures calls { Logged (H.log host.old) (H.log host.new) (AreReadsOf (check_view options.now).output) }
 {
     let Some(bytes) = read_input(alloc, host, options.output)? else {
-        return Ok(too_large(alloc, CheckedFile::Masks)?);
+        return Ok(too_large(alloc, NamedFile::Masks)?);
     };
     Ok(check_bytes(alloc, options, layer, cert, bytes)?)
 }
@@ -207,22 +204,12 @@ fn check_bytes<'a>(
 {
     let a = match layer_within(alloc, &mask_choice(options.a), bytes.as_slice()) {
         Ok(a) => a.slabs,
-        Err(LayerFault::Refused { name, at }) => return refused(
-            alloc,
-            CheckedFile::Masks,
-            name,
-            at,
-        ),
+        Err(LayerFault::Refused { name, at }) => return refused(alloc, NamedFile::Masks, name, at),
         Err(LayerFault::NoMemory) => return Err(AllocError),
     };
     let b = match layer_of(alloc, &mask_choice(options.b), bytes) {
         Ok(b) => b.slabs,
-        Err(LayerFault::Refused { name, at }) => return refused(
-            alloc,
-            CheckedFile::Masks,
-            name,
-            at,
-        ),
+        Err(LayerFault::Refused { name, at }) => return refused(alloc, NamedFile::Masks, name, at),
         Err(LayerFault::NoMemory) => return Err(AllocError),
     };
     let spacing = spacing_of(options);
@@ -292,32 +279,4 @@ fn status_by(verdict: Verdict) -> Status
         Verdict::Valid => Status::Done,
         _ => Status::CheckNo,
     }
-}
-
-/// A file is refused for its first fault, and nothing is written.
-fn refused<'a>(
-    alloc: Global,
-    file: CheckedFile,
-    name: Name,
-    at: u64,
-) -> Result<Output<'a>, AllocError>
-    ensures { IfOk result (λ x. output_view x ≡ refusal_of (file_word file) name at) }
-{
-    let line = refused_file_line(alloc, file, name, at)?;
-    Ok(said(alloc, Status::Refused, line))
-}
-
-/// A file has more bytes than are read.
-fn too_large<'a>(alloc: Global, file: CheckedFile) -> Result<Output<'a>, AllocError>
-    ensures { IfOk result (λ x. output_view x ≡ refusal_of (file_word file) TooLarge limit) }
-{
-    refused(alloc, file, Name::TooLarge, MAX_BYTES as u64)
-}
-
-/// A text is no certificate from this line on.
-fn bad_line<'a>(alloc: Global, line: u64) -> Result<Output<'a>, AllocError>
-    ensures { IfOk result (λ x. output_view x ≡ says Refused (bad_line_line_of line)) }
-{
-    let line = bad_line_line(alloc, line)?;
-    Ok(said(alloc, Status::Refused, line))
 }

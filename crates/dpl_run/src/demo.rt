@@ -4,18 +4,19 @@ ghost use Rattle.dpl_words.specs.Meaning.{demo_view};
 ghost use Rattle.dpl_words.specs.Ranges.{AreInRangeForDemo};
 ghost use Rattle.dpl_answer.specs.View.{flat_view};
 ghost use Rattle.dpl_run.specs.Demo.{IsDemo, demo_plan};
-ghost use Rattle.dpl_run.specs.Split.{Decides};
-ghost use Rattle.dpl_run.specs.View.{decision_view, output_view};
+ghost use Rattle.dpl_decide.specs.Deciding.{Decides};
+ghost use Rattle.dpl_decide.specs.View.{decision_view};
+ghost use Rattle.dpl_run.specs.View.{output_view};
 
 use crate::output::{Output, said};
-use crate::pipeline::{Decision, Order, decide};
 use crate::status::Status;
-use crate::texts::{conflict_line, demo_line, refused_line};
 use dpl_answer::{Decomposed, Sharing};
 use dpl_base::Spacing;
+use dpl_decide::{Decision, Order, Recipe, decide};
 use dpl_demo::demo_bytes;
 use dpl_layer::{LayerChoice, MarkedChoice};
 use dpl_pool::Gate;
+use dpl_texts::{conflict_line, demo_line, refused_line};
 use dpl_words::DemoOptions;
 use std::alloc::{AllocError, Global};
 use std::sync::Wait;
@@ -48,12 +49,14 @@ pub(crate) fn demo_output<'a, R: Threads + Wait + Sync, G: Gate + Sync>(
             mark_a: None,
             mark_b: None,
         },
-        spacing: Spacing::uniform(RULE),
-        overlap: OVERLAP,
-        fewer: false,
-        sharing: Sharing {
-            tile: options.tile,
-            workers: options.workers,
+        recipe: Recipe {
+            spacing: Spacing::uniform(RULE),
+            overlap: OVERLAP,
+            fewer: false,
+            sharing: Sharing {
+                tile: options.tile,
+                workers: options.workers,
+            },
         },
     };
     let decision = decide(rt, alloc, &order, bytes, gate)?;

@@ -4,16 +4,15 @@
 mod batch;
 mod check;
 mod demo;
+mod edit;
 mod input;
-mod marks;
 mod output;
-mod pipeline;
 mod program;
+mod refusals;
 mod split;
 mod status;
-mod texts;
 
 pub use dpl_answer::EdgeJob;
+pub use dpl_texts::USAGE;
 pub use program::run;
 pub use status::Status;
-pub use texts::USAGE;

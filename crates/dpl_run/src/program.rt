@@ -9,19 +9,20 @@ ghost use Rattle.dpl_run.specs.Calls.{AreCallsOf, AreReadsFor};
 ghost use Rattle.dpl_run.specs.Outcome.{IsStill, TellsFaults, is_answered, says};
 ghost use Rattle.dpl_run.specs.Parted.{IsParted};
 ghost use Rattle.dpl_run.specs.Program.{IsCutShort, IsMade, IsOutcome};
-ghost use Rattle.dpl_run.specs.Texts.{usage_line as usage_line_of};
+ghost use Rattle.dpl_texts.specs.Texts.{usage_line as usage_line_of};
 ghost use Rattle.dpl_run.specs.View.{output_view};
 
 use crate::batch::batch_output;
 use crate::check::check_output;
 use crate::demo::demo_output;
+use crate::edit::edit_output;
 use crate::input::read_nothing;
 use crate::output::{Output, perform, said};
 use crate::split::split_output;
 use crate::status::Status;
-use crate::texts::usage_line;
 use dpl_host::{Host, ReadFault};
 use dpl_pool::Gate;
+use dpl_texts::usage_line;
 use dpl_words::{Request, WordsFault, read_words};
 use std::alloc::{AllocError, Global};
 use std::sync::Wait;
@@ -35,6 +36,8 @@ use std::thread::Threads;
 ///
 /// `batch` does for each LAYER what `split` does, with the files PREFIX.LAYER.gds and PREFIX.LAYER.cert: it reads IN once, and one pool of workers has the tiles of all layers. It writes the files in the order of the layers, and then says a line for each.
 ///
+/// `edit` reads the layout IN and, where that has the layer, the text EDITS (at most 268435456 bytes), which adds rectangles to the layer and takes rectangles away, a line for each. It does with the edited layer what `split` does with a layer, and writes the same files; where EDITS is refused it writes none, and says one line.
+///
 /// All of it is made before the first byte is written: where memory runs out or the read fails, nothing is written or said. Where a write fails, a prefix of it was.
 pub fn run<'a, R: Threads + Wait + Sync, H: Host, G: Gate + Sync>(
     rt: &R,
@@ -45,7 +48,7 @@ pub fn run<'a, R: Threads + Wait + Sync, H: Host, G: Gate + Sync>(
 ) -> Status
     // An answer is one that the definition gives, which gives at most one, and all of it was written and said.
     ensures answer { is_answered result ≡ true → IsOutcome (texts words.entry.now) result (H.told host.old) (H.told host.new) }
-    // Masks that were written part the layer, keep its features apart, overlap at stitches alone and have each marked square on its mask alone; only `split` and, for each layer by itself, `batch` write; and where `check` is done, so do the masks that it read, or the cycle that it read is an odd cycle of conflicts.
+    // Masks that were written part the layer, keep its features apart, overlap at stitches alone and have each marked square on its mask alone; only `split`, for each layer by itself `batch`, and for the edited layer `edit` write; and where `check` is done, so do the masks that it read, or the cycle that it read is an odd cycle of conflicts.
     ensures parted { is_answered result ≡ true → IsParted (texts words.entry.now) result (H.told host.old) (H.told host.new) }
     // The words decide alone whether they are a command.
     ensures usage { result ≡ Status.Usage → request_of (texts words.entry.now) ≡ None }
@@ -125,6 +128,7 @@ fn output_of<'a, R: Threads + Wait + Sync, H: Host, G: Gate + Sync>(
         Request::Check(options) => check_output(alloc, options, host),
         Request::Demo(options) => read_nothing(host, demo_output(rt, alloc, options, gate)?),
         Request::Batch(options) => batch_output(rt, alloc, options, host, gate),
+        Request::Edit(options) => edit_output(rt, alloc, options, host, gate),
     }
 }
 

@@ -6,24 +6,26 @@ ghost use Rattle.dpl_words.specs.Meaning.{AsksSplit, split_view};
 ghost use Rattle.dpl_words.specs.Ranges.{AreInRange};
 ghost use Rattle.dpl_cert.specs.Grammar.{IsCert};
 ghost use Rattle.dpl_layer.specs.Reading.{limit};
+ghost use Rattle.dpl_layer.specs.View.{marked_choice_view};
 ghost use Rattle.dpl_answer.specs.Flat.{FitsClash, FitsPainted};
-ghost use Rattle.dpl_run.specs.Split.{IsSplit, certified, clash as clash_of, painting, plan_of, refusal};
+ghost use Rattle.dpl_run.specs.Split.{IsSplit, certified, clash as clash_of, painting, plan_of, refusal, split_marked, split_spacing};
 ghost use Rattle.dpl_run.specs.Program.{IsMade};
 ghost use Rattle.dpl_answer.specs.View.{clash_view, painted_view};
-ghost use Rattle.dpl_run.specs.View.{FitsDecision, decision_view, output_view, write_view};
+ghost use Rattle.dpl_decide.specs.View.{FitsDecision, decision_view};
+ghost use Rattle.dpl_run.specs.View.{output_view, write_view};
 
 use crate::input::read_input;
 use crate::output::{FileName, Output, Write};
-use crate::pipeline::{Decision, Order, decide};
 use crate::status::Status;
-use crate::texts::{conflict_line, done_line, refused_line};
 use dpl_answer::{Clash, Decomposed, Painted, Sharing};
 use dpl_base::Spacing;
 use dpl_cert::{Cert, Name, cert_bytes};
+use dpl_decide::{Decision, Order, Recipe, decide};
 use dpl_host::{Host, MAX_BYTES, ReadFault};
 use dpl_layer::{LayerChoice, MarkedChoice};
 use dpl_masks::file_bytes;
 use dpl_pool::Gate;
+use dpl_texts::{conflict_line, done_line, refused_line};
 use dpl_words::SplitOptions;
 use std::alloc::{AllocError, Global};
 use std::sync::Wait;
@@ -47,7 +49,7 @@ pub(crate) fn split_output<'a, R: Threads + Wait + Sync, H: Host, G: Gate + Sync
 {
     match read_input(alloc, host, options.input) {
         Ok(Some(bytes)) => Ok(split(rt, alloc, options, bytes, gate)?),
-        Ok(None) => Ok(refused(alloc, options, Name::TooLarge, MAX_BYTES as u64)?),
+        Ok(None) => Ok(fault_output(alloc, options, Name::TooLarge, MAX_BYTES as u64)?),
         Err(fault) => Err(fault),
     }
 }
@@ -64,7 +66,20 @@ fn split<'a, R: Threads + Wait + Sync, G: Gate + Sync>(
     requires ranges { AreInRange (split_view options.now) }
     ensures { IfOk result (λ x. IsSplit (split_view options.now) bytes.items (output_view x)) }
 {
-    let order = Order {
+    let decision = decide(rt, alloc, &order_of(options), bytes, gate)?;
+    decided(alloc, options, decision)
+}
+
+/// What a command line of `split` asks of a layout.
+pub(crate) fn order_of<'a>(options: &SplitOptions<'a>) -> Order<'a>
+    ensures choice { marked_choice_view result.choice ≡ split_marked (split_view options.now) }
+    ensures spacing { result.recipe.spacing ≡ split_spacing (split_view options.now) }
+    ensures overlap { result.recipe.overlap ≡ (split_view options.now).overlap }
+    ensures fewer { result.recipe.fewer ≡ (split_view options.now).fewer }
+    ensures tile { result.recipe.sharing.tile ≡ (split_view options.now).tile }
+    ensures workers { result.recipe.sharing.workers ≡ (split_view options.now).workers }
+{
+    Order {
         choice: MarkedChoice {
             layer: LayerChoice {
                 top: options.top,
@@ -74,19 +89,19 @@ fn split<'a, R: Threads + Wait + Sync, G: Gate + Sync>(
             mark_a: options.mark_a,
             mark_b: options.mark_b,
         },
-        spacing: Spacing {
-            rule: options.rule,
-            corner: options.corner,
+        recipe: Recipe {
+            spacing: Spacing {
+                rule: options.rule,
+                corner: options.corner,
+            },
+            overlap: options.overlap,
+            fewer: options.fewer,
+            sharing: Sharing {
+                tile: options.tile,
+                workers: options.workers,
+            },
         },
-        overlap: options.overlap,
-        fewer: options.fewer,
-        sharing: Sharing {
-            tile: options.tile,
-            workers: options.workers,
-        },
-    };
-    let decision = decide(rt, alloc, &order, bytes, gate)?;
-    decided(alloc, options, decision)
+    }
 }
 
 /// The files and the line that tell of a decision.
@@ -99,7 +114,7 @@ pub(crate) fn decided<'a>(
     ensures { IfOk result (λ x. output_view x ≡ plan_of (split_view options.now) (decision_view decision)) }
 {
     match decision {
-        Decision::Refused { name, at } => refused(alloc, options, name, at),
+        Decision::Refused { name, at } => fault_output(alloc, options, name, at),
         Decision::Answered { copied, answer } => match answer {
             Decomposed::Masks(painted) => {
                 painted_output(alloc, options, copied.as_slice(), painted)
@@ -178,7 +193,7 @@ fn clash_output<'a>(
 }
 
 /// The certificate of a fault is written.
-fn refused<'a>(
+pub(crate) fn fault_output<'a>(
     alloc: Global,
     options: &SplitOptions<'a>,
     name: Name,

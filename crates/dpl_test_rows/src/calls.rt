@@ -11,6 +11,9 @@ const SPLIT: &str = "dpl split --layer 1 --rule 30 --overlap 10 in out cert";
 
 const CHECK: &str = "dpl check --layer 1 --rule 30 --overlap 10 in out cert";
 
+/// EDITS is here the file that is CERT to the other commands, and CERT a new one.
+const EDIT: &str = "dpl edit --layer 1 --rule 30 --overlap 10 in cert out new";
+
 const BAR: Rectangle = [0, 0, 100, 20];
 
 /// Three squares, each two closer than the rule.
@@ -39,6 +42,10 @@ const CREATE_CERT: Asked = (Kind::Create, "cert");
 
 const APPEND_CERT: Asked = (Kind::Append, "cert");
 
+const CREATE_NEW: Asked = (Kind::Create, "new");
+
+const APPEND_NEW: Asked = (Kind::Append, "new");
+
 const SAY: Asked = (Kind::Say, "");
 
 /// A command line, the layer of IN, the text of CERT, the call that fails, and all calls that are made. A file of less than 4,096 bytes takes two reads, of which the second gives nothing, and one call that appends.
@@ -51,7 +58,7 @@ struct Row {
     calls: &'static [Asked],
 }
 
-const ROWS: [Row; 13] = [
+const ROWS: [Row; 17] = [
     Row {
         line: SPLIT,
         layer: &[BAR],
@@ -156,6 +163,41 @@ const ROWS: [Row; 13] = [
         failing: &[(Kind::Read, 4)],
         status: Status::ReadFault,
         calls: &[READ_IN, READ_IN, READ_CERT, READ_CERT, READ_OUT],
+    },
+    Row {
+        line: EDIT,
+        layer: &[BAR],
+        cert: "add 0 49 100 69\n",
+        failing: &[],
+        status: Status::Done,
+        calls: &[
+            READ_IN, READ_IN, READ_CERT, READ_CERT, CREATE_OUT, APPEND_OUT, CREATE_NEW, APPEND_NEW,
+            SAY,
+        ],
+    },
+    Row {
+        line: EDIT,
+        layer: &[BAR],
+        cert: "no edit\n",
+        failing: &[],
+        status: Status::Refused,
+        calls: &[READ_IN, READ_IN, READ_CERT, READ_CERT, SAY],
+    },
+    Row {
+        line: "dpl edit --layer 1 --rule 30 --overlap 10 --top NONE in cert out new",
+        layer: &[BAR],
+        cert: "no edit\n",
+        failing: &[],
+        status: Status::Refused,
+        calls: &[READ_IN, READ_IN, CREATE_NEW, APPEND_NEW, SAY],
+    },
+    Row {
+        line: EDIT,
+        layer: &[BAR],
+        cert: "",
+        failing: &[(Kind::Read, 2)],
+        status: Status::ReadFault,
+        calls: &[READ_IN, READ_IN, READ_CERT],
     },
     Row {
         line: "dpl demo --seed 1 --rows 1",

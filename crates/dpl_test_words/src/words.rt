@@ -2,7 +2,8 @@
 
 use dpl_test_sample::words;
 use dpl_words::{
-    BatchOptions, CheckOptions, DemoOptions, Request, SplitOptions, WordsFault, read_words,
+    BatchOptions, CheckOptions, DemoOptions, EditOptions, Request, SplitOptions, WordsFault,
+    read_words,
 };
 use std::alloc::Global;
 use std::test::Fail;
@@ -316,7 +317,7 @@ fn markers_of(alloc: Global, line: &str) -> Result<Option<[Option<u16>; 2]>, Fai
     match read_words(alloc, &words) {
         Ok(Request::Split(options)) => Ok(Some([options.mark_a, options.mark_b])),
         Ok(Request::Check(options)) => Ok(Some([options.mark_a, options.mark_b])),
-        Ok(_) => Err("neither a demo nor a batch has markers".into()),
+        Ok(_) => Err("a split and a check alone may have markers".into()),
         Err(WordsFault::Usage) => Ok(None),
         Err(WordsFault::NoMemory) => Err("there is memory".into()),
     }
@@ -541,6 +542,180 @@ fn batches_have_at_most_64_layers(rt: HostRuntime) -> Result<(), Fail> {
         let words = words(alloc, line.as_str())?;
         let is_taken = matches!(read_words(alloc, &words), Ok(Request::Batch(_)));
         assert_eq!(rt; is_taken, count == 64);
+    }
+    Ok(())
+}
+
+/// The layer, the datatype, the rule, the overlap, the corner rule, the layers of both masks and the tile of `edit`; the name of the top; IN, EDITS, OUT and CERT.
+type EditWant<'a> = ([u32; 8], Option<&'a str>, [&'a str; 4]);
+
+const FOUR: [&str; 4] = ["i", "e", "o", "c"];
+
+fn edit_values_of<'a>(options: &EditOptions<'a>) -> EditWant<'a> {
+    let numbers = [
+        u32::from(options.layer),
+        u32::from(options.datatype),
+        options.rule,
+        options.overlap,
+        options.corner,
+        u32::from(options.a),
+        u32::from(options.b),
+        options.tile,
+    ];
+    let files = [
+        options.input,
+        options.edits,
+        options.output,
+        options.certificate,
+    ];
+    (numbers, options.top, files)
+}
+
+/// What the words of a line of `edit` ask for.
+fn edits(alloc: Global, line: &str, want: Option<EditWant>) -> Result<bool, Fail> {
+    let words = words(alloc, line)?;
+    match read_words(alloc, &words) {
+        Ok(Request::Edit(options)) => Ok(want == Some(edit_values_of(&options))),
+        Ok(_) => Ok(false),
+        Err(WordsFault::Usage) => Ok(want.is_none()),
+        Err(WordsFault::NoMemory) => Err("there is memory".into()),
+    }
+}
+
+#[test]
+fn edits_have_four_files(rt: HostRuntime) -> Result<(), Fail> {
+    let plain = Some(([1, 0, 30, 10, 30, 101, 102, 4096], None, FOUR));
+    let cases: [(&str, Option<EditWant>); 40] = [
+        ("dpl edit --layer 1 --rule 30 --overlap 10 i e o c", plain),
+        // behind `=`, and between the names
+        ("dpl edit i --layer=1 e --rule=30 o --overlap=10 c", plain),
+        // every option
+        (
+            "dpl edit --layer 2 --datatype 3 --rule 4 --overlap 5 --corner 3 --top T --a 6 --b 7 --tile 8 i e o c",
+            Some(([2, 3, 4, 5, 3, 6, 7, 8], Some("T"), FOUR)),
+        ),
+        // the ends of the ranges
+        (
+            "dpl edit --layer 0 --datatype 0 --rule 1 --overlap 1 --corner 1 --a 0 --b 1 --tile 1 i e o c",
+            Some(([0, 0, 1, 1, 1, 0, 1, 1], None, FOUR)),
+        ),
+        (
+            "dpl edit --layer 65535 --datatype 65535 --rule 1000000 --overlap 1000000 --corner 1000000 --a 65535 --b 65534 --tile 1073741824 i e o c",
+            Some((
+                [
+                    65535, 65535, 1000000, 1000000, 1000000, 65535, 65534, 1073741824,
+                ],
+                None,
+                FOUR,
+            )),
+        ),
+        (
+            "dpl edit --layer 65536 --rule 30 --overlap 10 i e o c",
+            None,
+        ),
+        ("dpl edit --layer 1 --rule 0 --overlap 10 i e o c", None),
+        (
+            "dpl edit --layer 1 --rule 1000001 --overlap 10 i e o c",
+            None,
+        ),
+        ("dpl edit --layer 1 --rule 30 --overlap 0 i e o c", None),
+        (
+            "dpl edit --layer 1 --rule 30 --overlap 1000001 i e o c",
+            None,
+        ),
+        (
+            "dpl edit --layer 1 --rule 30 --overlap 10 --corner 0 i e o c",
+            None,
+        ),
+        (
+            "dpl edit --layer 1 --rule 30 --overlap 10 --datatype 65536 i e o c",
+            None,
+        ),
+        (
+            "dpl edit --layer 1 --rule 30 --overlap 10 --a 65536 i e o c",
+            None,
+        ),
+        (
+            "dpl edit --layer 1 --rule 30 --overlap 10 --b 65536 i e o c",
+            None,
+        ),
+        (
+            "dpl edit --layer 1 --rule 30 --overlap 10 --tile 0 i e o c",
+            None,
+        ),
+        (
+            "dpl edit --layer 1 --rule 30 --overlap 10 --tile 1073741825 i e o c",
+            None,
+        ),
+        // `-0` as a word of its own looks like an option
+        (
+            "dpl edit --layer=-0 --rule 30 --overlap 10 i e o c",
+            Some(([0, 0, 30, 10, 30, 101, 102, 4096], None, FOUR)),
+        ),
+        ("dpl edit --layer -0 --rule 30 --overlap 10 i e o c", None),
+        ("dpl edit --layer 1 --rule 30 --overlap 10 i -0 o c", None),
+        (
+            "dpl edit --layer 1 --rule 30 --overlap 10 -- i -0 o c",
+            Some((
+                [1, 0, 30, 10, 30, 101, 102, 4096],
+                None,
+                ["i", "-0", "o", "c"],
+            )),
+        ),
+        // a corner rule above the rule, and layers of the masks that are equal
+        (
+            "dpl edit --layer 1 --rule 30 --overlap 10 --corner 30 i e o c",
+            plain,
+        ),
+        (
+            "dpl edit --layer 1 --rule 30 --overlap 10 --corner 31 i e o c",
+            None,
+        ),
+        (
+            "dpl edit --layer 1 --rule 30 --overlap 10 --a 5 --b 05 i e o c",
+            None,
+        ),
+        (
+            "dpl edit --layer 1 --rule 30 --overlap 10 --b 101 i e o c",
+            None,
+        ),
+        // two names that are equal
+        ("dpl edit --layer 1 --rule 30 --overlap 10 i i o c", None),
+        ("dpl edit --layer 1 --rule 30 --overlap 10 i e i c", None),
+        ("dpl edit --layer 1 --rule 30 --overlap 10 i e o i", None),
+        ("dpl edit --layer 1 --rule 30 --overlap 10 i e e c", None),
+        ("dpl edit --layer 1 --rule 30 --overlap 10 i e o e", None),
+        ("dpl edit --layer 1 --rule 30 --overlap 10 i e o o", None),
+        // what is missing, or given twice
+        ("dpl edit --rule 30 --overlap 10 i e o c", None),
+        ("dpl edit --layer 1 --overlap 10 i e o c", None),
+        ("dpl edit --layer 1 --rule 30 i e o c", None),
+        ("dpl edit --layer 1 --rule 30 --overlap 10 i e o", None),
+        ("dpl edit --layer 1 --rule 30 --overlap 10 i e o c d", None),
+        (
+            "dpl edit --layer 1 --rule 30 --overlap 10 --tile 8 --tile 8 i e o c",
+            None,
+        ),
+        // options that it doesn't have
+        (
+            "dpl edit --layer 1 --rule 30 --overlap 10 --workers 4 i e o c",
+            None,
+        ),
+        (
+            "dpl edit --layer 1 --rule 30 --overlap 10 --fewer i e o c",
+            None,
+        ),
+        (
+            "dpl edit --layer 1 --rule 30 --overlap 10 --mark-a 7 i e o c",
+            None,
+        ),
+        (
+            "dpl edit --layer 1 --rule 30 --overlap 10 --mark-b 7 i e o c",
+            None,
+        ),
+    ];
+    for (line, want) in cases {
+        assert!(rt; edits(rt.alloc(), line, want)?, "at {line}");
     }
     Ok(())
 }

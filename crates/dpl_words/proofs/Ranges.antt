@@ -1,6 +1,7 @@
 -- The words that `clap` takes give each value of their subcommand, in its range.
 use Rattle.std.proofs.Common.{◌≡◌, ◌≤◌, ◌⊎◌, Bool, ◌&&◌, not, cond, true, false, true≢false, List, [], ◌∷◌, Option, Some, None, option_map, nat_lt}
-use Rattle.std.proofs.Common.{is_some, refl, sym, subst, inl, inr, arith, ℕ}
+use Rattle.std.proofs.Common.{◌==◌, is_some, refl, sym, subst, inl, inr, arith, ℕ, zero, suc}
+use Rattle.std.specs.Str.{bytes_eq}
 use Rattle.std.specs.Prelude.{find, slice_get, unwrap_or, IfSome, map, length, codes, All}
 use Rattle.std.proofs.lemmas.List.Elements.{All-cons, All-head, All-nil, All-tail}
 use Rattle.std.specs.List.{list_any}
@@ -15,10 +16,11 @@ use Rattle.clap.specs.declared.builder.action.ArgAction.TheVariants.{Set, Append
 use Rattle.clap.specs.Faults.{check_fault, entered_fault, fault_of, level_fault, walk_fault}
 use Rattle.clap.proofs.OnLiterals.{clap_on_literals}
 use Rattle.dpl_words.specs.Definition.{dpl_app, split_shape}
-use Rattle.dpl_words.specs.Ranges.{AreFrom, AreInRange, AreInRangeForBatch, AreInRangeForCheck, AreInRangeForDemo}
-use Rattle.dpl_words.specs.Ranges.{AreThere, AreThereForBatch, AreThereForCheck, AreThereForDemo, HasItsValues, IsFrom, IsFromIfGiven}
+use Rattle.dpl_words.specs.Ranges.{AreFrom, AreInRange, AreInRangeForBatch, AreInRangeForCheck, AreInRangeForDemo, AreInRangeForEdit}
+use Rattle.dpl_words.specs.Ranges.{AreThere, AreThereForBatch, AreThereForCheck, AreThereForDemo, AreThereForEdit, HasItsValues, IsFrom, IsFromIfGiven}
 use Rattle.clap.proofs.WalkLemmas.{both}
-use Rattle.dpl_words.specs.Meaning.{BatchValues, batch_values, check_values, is_batch_apart, demo_values, is_taken, number_below, split_values}
+use Rattle.dpl_words.specs.Meaning.{BatchValues, EditValues, batch_values, check_values, demo_values, edit_values, split_values}
+use Rattle.dpl_words.specs.Meaning.{is_apart, is_batch_apart, is_edit_apart, is_taken, number_below}
 use Rattle.std.proofs.lemmas.Bool.{ltb-false}
 use Rattle.clap.proofs.SimpleLemmas.{is_nil}
 use Rattle.dpl_words.proofs.Level.{AreRead, IsPlainLevel, IsRead, default_read, each_row, flag_read, given_read}
@@ -41,9 +43,22 @@ demo_level = level_at 2
 abbrev batch_level : Shape
 batch_level = level_at 3
 
+abbrev edit_level : Shape
+edit_level = level_at 4
+
 -- the argument at this place
 abbrev at : Shape → ℕ → Rule
 at level i = unwrap_or (slice_get level.rules i) (new_rule [])
+
+-- what stands at a place of a list is in it
+in_list : (xs : List Rule) (i : ℕ) (a : Rule) → slice_get xs i ≡ Some a → IsIn a xs
+in_list [] i a e = absurd (cc)
+in_list (x ∷ xs) zero a e = inl (cc)
+in_list (x ∷ xs) (suc i) a e = inr (in_list xs i a e)
+
+-- the argument at this place, where there is one, is an argument of the level
+stands : (level : Shape) (i : ℕ) → slice_get level.rules i ≡ Some (at level i) → IsIn (at level i) level.rules
+stands level i e = in_list level.rules i (at level i) e
 
 -- a use of each argument of the level leaves one value
 abbrev Each : List Rule → Type 0
@@ -97,27 +112,35 @@ plain_batch : IsPlainLevel batch_level
 unfolding clap_on_literals
 plain_batch = record { single = of_each batch_level.rules each_batch; no_short = λ x. refl; apart = refl }
 
+each_edit : Each edit_level.rules
+unfolding clap_on_literals
+each_edit = (one _ refl refl, (one _ refl refl, (one _ refl refl, (one _ refl refl, (one _ refl refl, (one _ refl refl, (one _ refl refl, (one _ refl refl, (one _ refl refl, (one _ refl refl, (one _ refl refl, (one _ refl refl, (one _ refl refl, tt)))))))))))))
+
+plain_edit : IsPlainLevel edit_level
+unfolding clap_on_literals
+plain_edit = record { single = of_each edit_level.rules each_edit; no_short = λ x. refl; apart = refl }
+
 -- what is read of the arguments of `split` gives each value
 split_there : (rows : List Row) → ((a : Rule) → IsIn a split_level.rules → a.required ≡ true → IsRead a rows)
     → ((a : Rule) → IsIn a split_level.rules → HasDefault a → IsRead a rows)
     → ((a : Rule) → IsIn a split_level.rules → (one_of a.id rows ≡ None) ⊎ IsRead a rows) → AreThere rows
 unfolding clap_on_literals
 split_there rows wanted given left_out = record {
-  layer = number_read 16 0 65535 (at split_level 0) rows (omega arith) refl (wanted (at split_level 0) (inl refl) refl);
-  rule = number_read 32 1 1000000 (at split_level 1) rows (omega arith) refl (wanted (at split_level 1) (inr (inl refl)) refl);
-  overlap = number_read 32 1 1000000 (at split_level 2) rows (omega arith) refl (wanted (at split_level 2) (inr (inr (inl refl))) refl);
-  corner = given_read 32 1 1000000 (at split_level 3) rows (omega arith) refl (left_out (at split_level 3) (inr (inr (inr (inl refl)))));
-  datatype = number_read 16 0 65535 (at split_level 4) rows (omega arith) refl (given (at split_level 4) (inr (inr (inr (inr (inl refl))))) (_, _, refl));
-  a = number_read 16 0 65535 (at split_level 6) rows (omega arith) refl (given (at split_level 6) (inr (inr (inr (inr (inr (inr (inl refl))))))) (_, _, refl));
-  b = number_read 16 0 65535 (at split_level 7) rows (omega arith) refl (given (at split_level 7) (inr (inr (inr (inr (inr (inr (inr (inl refl)))))))) (_, _, refl));
-  mark_a = given_read 16 0 65535 (at split_level 8) rows (omega arith) refl (left_out (at split_level 8) (inr (inr (inr (inr (inr (inr (inr (inr (inl refl))))))))));
-  mark_b = given_read 16 0 65535 (at split_level 9) rows (omega arith) refl (left_out (at split_level 9) (inr (inr (inr (inr (inr (inr (inr (inr (inr (inl refl)))))))))));
-  tile = number_read 32 1 1073741824 (at split_level 10) rows (omega arith) refl (given (at split_level 10) (inr (inr (inr (inr (inr (inr (inr (inr (inr (inr (inl refl))))))))))) (_, _, refl));
-  workers = number_read 32 1 64 (at split_level 11) rows (omega arith) refl (given (at split_level 11) (inr (inr (inr (inr (inr (inr (inr (inr (inr (inr (inr (inl refl)))))))))))) (_, _, refl));
-  fewer = flag_read (at split_level 12) rows refl (given (at split_level 12) (inr (inr (inr (inr (inr (inr (inr (inr (inr (inr (inr (inr (inl refl))))))))))))) (_, _, refl));
-  input = text_read (at split_level 13) rows (wanted (at split_level 13) (inr (inr (inr (inr (inr (inr (inr (inr (inr (inr (inr (inr (inr (inl refl)))))))))))))) refl);
-  output = text_read (at split_level 14) rows (wanted (at split_level 14) (inr (inr (inr (inr (inr (inr (inr (inr (inr (inr (inr (inr (inr (inr (inl refl))))))))))))))) refl);
-  certificate = text_read (at split_level 15) rows (wanted (at split_level 15) (inr (inr (inr (inr (inr (inr (inr (inr (inr (inr (inr (inr (inr (inr (inr (inl refl)))))))))))))))) refl);
+  layer = number_read 16 0 65535 (at split_level 0) rows (omega arith) refl (wanted (at split_level 0) (stands split_level 0 refl) refl);
+  rule = number_read 32 1 1000000 (at split_level 1) rows (omega arith) refl (wanted (at split_level 1) (stands split_level 1 refl) refl);
+  overlap = number_read 32 1 1000000 (at split_level 2) rows (omega arith) refl (wanted (at split_level 2) (stands split_level 2 refl) refl);
+  corner = given_read 32 1 1000000 (at split_level 3) rows (omega arith) refl (left_out (at split_level 3) (stands split_level 3 refl));
+  datatype = number_read 16 0 65535 (at split_level 4) rows (omega arith) refl (given (at split_level 4) (stands split_level 4 refl) (_, _, refl));
+  a = number_read 16 0 65535 (at split_level 6) rows (omega arith) refl (given (at split_level 6) (stands split_level 6 refl) (_, _, refl));
+  b = number_read 16 0 65535 (at split_level 7) rows (omega arith) refl (given (at split_level 7) (stands split_level 7 refl) (_, _, refl));
+  mark_a = given_read 16 0 65535 (at split_level 8) rows (omega arith) refl (left_out (at split_level 8) (stands split_level 8 refl));
+  mark_b = given_read 16 0 65535 (at split_level 9) rows (omega arith) refl (left_out (at split_level 9) (stands split_level 9 refl));
+  tile = number_read 32 1 1073741824 (at split_level 10) rows (omega arith) refl (given (at split_level 10) (stands split_level 10 refl) (_, _, refl));
+  workers = number_read 32 1 64 (at split_level 11) rows (omega arith) refl (given (at split_level 11) (stands split_level 11 refl) (_, _, refl));
+  fewer = flag_read (at split_level 12) rows refl (given (at split_level 12) (stands split_level 12 refl) (_, _, refl));
+  input = text_read (at split_level 13) rows (wanted (at split_level 13) (stands split_level 13 refl) refl);
+  output = text_read (at split_level 14) rows (wanted (at split_level 14) (stands split_level 14 refl) refl);
+  certificate = text_read (at split_level 15) rows (wanted (at split_level 15) (stands split_level 15 refl) refl);
 }
 
 -- what is read of the arguments of `check` gives each value
@@ -126,18 +149,18 @@ check_there : (rows : List Row) → ((a : Rule) → IsIn a check_level.rules →
     → ((a : Rule) → IsIn a check_level.rules → (one_of a.id rows ≡ None) ⊎ IsRead a rows) → AreThereForCheck rows
 unfolding clap_on_literals
 check_there rows wanted given left_out = record {
-  layer = number_read 16 0 65535 (at check_level 0) rows (omega arith) refl (wanted (at check_level 0) (inl refl) refl);
-  rule = number_read 32 1 1000000 (at check_level 1) rows (omega arith) refl (wanted (at check_level 1) (inr (inl refl)) refl);
-  overlap = number_read 32 1 1000000 (at check_level 2) rows (omega arith) refl (wanted (at check_level 2) (inr (inr (inl refl))) refl);
-  corner = given_read 32 1 1000000 (at check_level 3) rows (omega arith) refl (left_out (at check_level 3) (inr (inr (inr (inl refl)))));
-  datatype = number_read 16 0 65535 (at check_level 4) rows (omega arith) refl (given (at check_level 4) (inr (inr (inr (inr (inl refl))))) (_, _, refl));
-  a = number_read 16 0 65535 (at check_level 6) rows (omega arith) refl (given (at check_level 6) (inr (inr (inr (inr (inr (inr (inl refl))))))) (_, _, refl));
-  b = number_read 16 0 65535 (at check_level 7) rows (omega arith) refl (given (at check_level 7) (inr (inr (inr (inr (inr (inr (inr (inl refl)))))))) (_, _, refl));
-  mark_a = given_read 16 0 65535 (at check_level 8) rows (omega arith) refl (left_out (at check_level 8) (inr (inr (inr (inr (inr (inr (inr (inr (inl refl))))))))));
-  mark_b = given_read 16 0 65535 (at check_level 9) rows (omega arith) refl (left_out (at check_level 9) (inr (inr (inr (inr (inr (inr (inr (inr (inr (inl refl)))))))))));
-  input = text_read (at check_level 10) rows (wanted (at check_level 10) (inr (inr (inr (inr (inr (inr (inr (inr (inr (inr (inl refl))))))))))) refl);
-  output = text_read (at check_level 11) rows (wanted (at check_level 11) (inr (inr (inr (inr (inr (inr (inr (inr (inr (inr (inr (inl refl)))))))))))) refl);
-  certificate = text_read (at check_level 12) rows (wanted (at check_level 12) (inr (inr (inr (inr (inr (inr (inr (inr (inr (inr (inr (inr (inl refl))))))))))))) refl);
+  layer = number_read 16 0 65535 (at check_level 0) rows (omega arith) refl (wanted (at check_level 0) (stands check_level 0 refl) refl);
+  rule = number_read 32 1 1000000 (at check_level 1) rows (omega arith) refl (wanted (at check_level 1) (stands check_level 1 refl) refl);
+  overlap = number_read 32 1 1000000 (at check_level 2) rows (omega arith) refl (wanted (at check_level 2) (stands check_level 2 refl) refl);
+  corner = given_read 32 1 1000000 (at check_level 3) rows (omega arith) refl (left_out (at check_level 3) (stands check_level 3 refl));
+  datatype = number_read 16 0 65535 (at check_level 4) rows (omega arith) refl (given (at check_level 4) (stands check_level 4 refl) (_, _, refl));
+  a = number_read 16 0 65535 (at check_level 6) rows (omega arith) refl (given (at check_level 6) (stands check_level 6 refl) (_, _, refl));
+  b = number_read 16 0 65535 (at check_level 7) rows (omega arith) refl (given (at check_level 7) (stands check_level 7 refl) (_, _, refl));
+  mark_a = given_read 16 0 65535 (at check_level 8) rows (omega arith) refl (left_out (at check_level 8) (stands check_level 8 refl));
+  mark_b = given_read 16 0 65535 (at check_level 9) rows (omega arith) refl (left_out (at check_level 9) (stands check_level 9 refl));
+  input = text_read (at check_level 10) rows (wanted (at check_level 10) (stands check_level 10 refl) refl);
+  output = text_read (at check_level 11) rows (wanted (at check_level 11) (stands check_level 11 refl) refl);
+  certificate = text_read (at check_level 12) rows (wanted (at check_level 12) (stands check_level 12 refl) refl);
 }
 
 -- what is read of the arguments of `demo` gives each value
@@ -145,10 +168,10 @@ demo_there : (rows : List Row) → ((a : Rule) → IsIn a demo_level.rules → a
     → ((a : Rule) → IsIn a demo_level.rules → HasDefault a → IsRead a rows) → AreThereForDemo rows
 unfolding clap_on_literals
 demo_there rows wanted given = record {
-  seed = word_read 0 18446744073709551615 (at demo_level 0) rows refl (wanted (at demo_level 0) (inl refl) refl);
-  rows = number_read 32 1 1000000 (at demo_level 1) rows (omega arith) refl (wanted (at demo_level 1) (inr (inl refl)) refl);
-  tile = number_read 32 1 1073741824 (at demo_level 2) rows (omega arith) refl (given (at demo_level 2) (inr (inr (inl refl))) (_, _, refl));
-  workers = number_read 32 1 64 (at demo_level 3) rows (omega arith) refl (given (at demo_level 3) (inr (inr (inr (inl refl)))) (_, _, refl));
+  seed = word_read 0 18446744073709551615 (at demo_level 0) rows refl (wanted (at demo_level 0) (stands demo_level 0 refl) refl);
+  rows = number_read 32 1 1000000 (at demo_level 1) rows (omega arith) refl (wanted (at demo_level 1) (stands demo_level 1 refl) refl);
+  tile = number_read 32 1 1073741824 (at demo_level 2) rows (omega arith) refl (given (at demo_level 2) (stands demo_level 2 refl) (_, _, refl));
+  workers = number_read 32 1 64 (at demo_level 3) rows (omega arith) refl (given (at demo_level 3) (stands demo_level 3 refl) (_, _, refl));
 }
 
 -- what is read of the arguments of `batch` gives each value
@@ -158,17 +181,37 @@ batch_there : (rows : List Row) → ((a : Rule) → IsIn a batch_level.rules →
     → ((a : Rule) → IsIn a batch_level.rules → a.required ≡ true → AreRead a rows) → AreThereForBatch rows
 unfolding clap_on_literals
 batch_there rows wanted given left_out each = record {
-  rule = number_read 32 1 1000000 (at batch_level 0) rows (omega arith) refl (wanted (at batch_level 0) (inl refl) refl);
-  overlap = number_read 32 1 1000000 (at batch_level 1) rows (omega arith) refl (wanted (at batch_level 1) (inr (inl refl)) refl);
-  corner = given_read 32 1 1000000 (at batch_level 2) rows (omega arith) refl (left_out (at batch_level 2) (inr (inr (inl refl))));
-  datatype = number_read 16 0 65535 (at batch_level 3) rows (omega arith) refl (given (at batch_level 3) (inr (inr (inr (inl refl)))) (_, _, refl));
-  a = number_read 16 0 65535 (at batch_level 5) rows (omega arith) refl (given (at batch_level 5) (inr (inr (inr (inr (inr (inl refl)))))) (_, _, refl));
-  b = number_read 16 0 65535 (at batch_level 6) rows (omega arith) refl (given (at batch_level 6) (inr (inr (inr (inr (inr (inr (inl refl))))))) (_, _, refl));
-  tile = number_read 32 1 1073741824 (at batch_level 7) rows (omega arith) refl (given (at batch_level 7) (inr (inr (inr (inr (inr (inr (inr (inl refl)))))))) (_, _, refl));
-  workers = number_read 32 1 64 (at batch_level 8) rows (omega arith) refl (given (at batch_level 8) (inr (inr (inr (inr (inr (inr (inr (inr (inl refl))))))))) (_, _, refl));
-  input = text_read (at batch_level 9) rows (wanted (at batch_level 9) (inr (inr (inr (inr (inr (inr (inr (inr (inr (inl refl)))))))))) refl);
-  prefix = text_read (at batch_level 10) rows (wanted (at batch_level 10) (inr (inr (inr (inr (inr (inr (inr (inr (inr (inr (inl refl))))))))))) refl);
-  layers = numbers_read 16 0 65535 (at batch_level 11) rows (omega arith) refl (each (at batch_level 11) (inr (inr (inr (inr (inr (inr (inr (inr (inr (inr (inr (inl refl)))))))))))) refl);
+  rule = number_read 32 1 1000000 (at batch_level 0) rows (omega arith) refl (wanted (at batch_level 0) (stands batch_level 0 refl) refl);
+  overlap = number_read 32 1 1000000 (at batch_level 1) rows (omega arith) refl (wanted (at batch_level 1) (stands batch_level 1 refl) refl);
+  corner = given_read 32 1 1000000 (at batch_level 2) rows (omega arith) refl (left_out (at batch_level 2) (stands batch_level 2 refl));
+  datatype = number_read 16 0 65535 (at batch_level 3) rows (omega arith) refl (given (at batch_level 3) (stands batch_level 3 refl) (_, _, refl));
+  a = number_read 16 0 65535 (at batch_level 5) rows (omega arith) refl (given (at batch_level 5) (stands batch_level 5 refl) (_, _, refl));
+  b = number_read 16 0 65535 (at batch_level 6) rows (omega arith) refl (given (at batch_level 6) (stands batch_level 6 refl) (_, _, refl));
+  tile = number_read 32 1 1073741824 (at batch_level 7) rows (omega arith) refl (given (at batch_level 7) (stands batch_level 7 refl) (_, _, refl));
+  workers = number_read 32 1 64 (at batch_level 8) rows (omega arith) refl (given (at batch_level 8) (stands batch_level 8 refl) (_, _, refl));
+  input = text_read (at batch_level 9) rows (wanted (at batch_level 9) (stands batch_level 9 refl) refl);
+  prefix = text_read (at batch_level 10) rows (wanted (at batch_level 10) (stands batch_level 10 refl) refl);
+  layers = numbers_read 16 0 65535 (at batch_level 11) rows (omega arith) refl (each (at batch_level 11) (stands batch_level 11 refl) refl);
+}
+
+-- what is read of the arguments of `edit` gives each value
+edit_there : (rows : List Row) → ((a : Rule) → IsIn a edit_level.rules → a.required ≡ true → IsRead a rows)
+    → ((a : Rule) → IsIn a edit_level.rules → HasDefault a → IsRead a rows)
+    → ((a : Rule) → IsIn a edit_level.rules → (one_of a.id rows ≡ None) ⊎ IsRead a rows) → AreThereForEdit rows
+unfolding clap_on_literals
+edit_there rows wanted given left_out = record {
+  layer = number_read 16 0 65535 (at edit_level 0) rows (omega arith) refl (wanted (at edit_level 0) (stands edit_level 0 refl) refl);
+  rule = number_read 32 1 1000000 (at edit_level 1) rows (omega arith) refl (wanted (at edit_level 1) (stands edit_level 1 refl) refl);
+  overlap = number_read 32 1 1000000 (at edit_level 2) rows (omega arith) refl (wanted (at edit_level 2) (stands edit_level 2 refl) refl);
+  corner = given_read 32 1 1000000 (at edit_level 3) rows (omega arith) refl (left_out (at edit_level 3) (stands edit_level 3 refl));
+  datatype = number_read 16 0 65535 (at edit_level 4) rows (omega arith) refl (given (at edit_level 4) (stands edit_level 4 refl) (_, _, refl));
+  a = number_read 16 0 65535 (at edit_level 6) rows (omega arith) refl (given (at edit_level 6) (stands edit_level 6 refl) (_, _, refl));
+  b = number_read 16 0 65535 (at edit_level 7) rows (omega arith) refl (given (at edit_level 7) (stands edit_level 7 refl) (_, _, refl));
+  tile = number_read 32 1 1073741824 (at edit_level 8) rows (omega arith) refl (given (at edit_level 8) (stands edit_level 8 refl) (_, _, refl));
+  input = text_read (at edit_level 9) rows (wanted (at edit_level 9) (stands edit_level 9 refl) refl);
+  edits = text_read (at edit_level 10) rows (wanted (at edit_level 10) (stands edit_level 10 refl) refl);
+  output = text_read (at edit_level 11) rows (wanted (at edit_level 11) (stands edit_level 11 refl) refl);
+  certificate = text_read (at edit_level 12) rows (wanted (at edit_level 12) (stands edit_level 12 refl) refl);
 }
 
 split_given : (rows : List Row) → check_fault split_level rows false ≡ [] → list_any (λ a. a.required && not (is_given a.id rows)) split_level.rules ≡ false
@@ -235,24 +278,73 @@ batch_level_there words e =
     (λ a of. row_read batch_level plain_batch a of (rows_after batch_level.rules [] words) parts.0)
     (λ a of wanted. required_reads batch_level plain_batch a of wanted (rows_after batch_level.rules [] words) (batch_given (rows_after batch_level.rules [] words) parts.1) parts.0)
 
+edit_given : (rows : List Row) → check_fault edit_level rows false ≡ [] → list_any (λ a. a.required && not (is_given a.id rows)) edit_level.rules ≡ false
+unfolding clap_on_literals
+edit_given rows e = go (list_any (λ a. a.required && not (is_given a.id rows)) edit_level.rules) e
+  where
+    go : (b : Bool) → check_kinds false false b ≡ [] → b ≡ false
+    go false e = refl
+    go true e = absurd (cc)
+
+edit_level_there : (words : List Text) → level_fault edit_level [] nothing_held words false [] ≡ [] → AreThereForEdit (rows_after edit_level.rules [] words)
+edit_level_there words e =
+    let parts = each_row edit_level plain_edit words false e in
+    let rows = rows_after edit_level.rules [] words in
+    edit_there rows (λ a of wanted. required_read edit_level plain_edit a of wanted rows (edit_given rows parts.1) parts.0)
+    (λ a of d. default_read edit_level plain_edit a of d words parts.0) (λ a of. row_read edit_level plain_edit a of rows parts.0)
+
 -- a subcommand's entries have what its name says
 split_has : (rows : List Row) → AreThere rows → HasItsValues (split_level.name, rows)
 unfolding clap_on_literals
-split_has rows h = record { split = λ e. h; check = λ e. absurd (true≢false (sym e)); demo = λ e. absurd (true≢false (sym e)); batch = λ e. absurd (true≢false (sym e)) }
+split_has rows h = record {
+  split = λ e. h;
+  check = λ e. absurd (true≢false (sym e));
+  demo = λ e. absurd (true≢false (sym e));
+  batch = λ e. absurd (true≢false (sym e));
+  edit = λ e. absurd (true≢false (sym e));
+}
 
 check_has : (rows : List Row) → AreThereForCheck rows → HasItsValues (check_level.name, rows)
 unfolding clap_on_literals
-check_has rows h = record { split = λ e. absurd (true≢false (sym e)); check = λ e. h; demo = λ e. absurd (true≢false (sym e)); batch = λ e. absurd (true≢false (sym e)) }
+check_has rows h = record {
+  split = λ e. absurd (true≢false (sym e));
+  check = λ e. h;
+  demo = λ e. absurd (true≢false (sym e));
+  batch = λ e. absurd (true≢false (sym e));
+  edit = λ e. absurd (true≢false (sym e));
+}
 
 demo_has : (rows : List Row) → AreThereForDemo rows → HasItsValues (demo_level.name, rows)
 unfolding clap_on_literals
-demo_has rows h = record { split = λ e. absurd (true≢false (sym e)); check = λ e. absurd (true≢false (sym e)); demo = λ e. h; batch = λ e. absurd (true≢false (sym e)) }
+demo_has rows h = record {
+  split = λ e. absurd (true≢false (sym e));
+  check = λ e. absurd (true≢false (sym e));
+  demo = λ e. h;
+  batch = λ e. absurd (true≢false (sym e));
+  edit = λ e. absurd (true≢false (sym e));
+}
 
 batch_has : (rows : List Row) → AreThereForBatch rows → HasItsValues (batch_level.name, rows)
 unfolding clap_on_literals
-batch_has rows h = record { split = λ e. absurd (true≢false (sym e)); check = λ e. absurd (true≢false (sym e)); demo = λ e. absurd (true≢false (sym e)); batch = λ e. h }
+batch_has rows h = record {
+  split = λ e. absurd (true≢false (sym e));
+  check = λ e. absurd (true≢false (sym e));
+  demo = λ e. absurd (true≢false (sym e));
+  batch = λ e. h;
+  edit = λ e. absurd (true≢false (sym e));
+}
 
-subs : (built dpl_app).subs ≡ split_level ∷ check_level ∷ demo_level ∷ batch_level ∷ []
+edit_has : (rows : List Row) → AreThereForEdit rows → HasItsValues (edit_level.name, rows)
+unfolding clap_on_literals
+edit_has rows h = record {
+  split = λ e. absurd (true≢false (sym e));
+  check = λ e. absurd (true≢false (sym e));
+  demo = λ e. absurd (true≢false (sym e));
+  batch = λ e. absurd (true≢false (sym e));
+  edit = λ e. h;
+}
+
+subs : (built dpl_app).subs ≡ split_level ∷ check_level ∷ demo_level ∷ batch_level ∷ edit_level ∷ []
 unfolding clap_on_literals
 subs = refl
 
@@ -261,16 +353,23 @@ entered_there None e = tt
 entered_there (Some p) e =
     let mine = subst (λ xs. option_map_or (λ s. level_fault s [] nothing_held p.1 false []) (find (λ s. answers_to p.0 (label_of s)) xs) [] ≡ []) subs e in
     subst (λ xs. IfSome (option_map (λ s. rows_at s p.1) (find (λ s. answers_to p.0 (label_of s)) xs)) HasItsValues) (sym subs)
-    (go (answers_to p.0 (label_of split_level)) (answers_to p.0 (label_of check_level)) (answers_to p.0 (label_of demo_level)) (answers_to p.0 (label_of batch_level)) mine)
+    (go (is split_level) (is check_level) (is demo_level) (is batch_level) (is edit_level) mine)
   where
-    go : (x y z w : Bool) → option_map_or (λ s. level_fault s [] nothing_held p.1 false [])
-        (cond x (Some split_level) (cond y (Some check_level) (cond z (Some demo_level) (cond w (Some batch_level) None)))) [] ≡ []
-        → IfSome (option_map (λ s. rows_at s p.1) (cond x (Some split_level) (cond y (Some check_level) (cond z (Some demo_level) (cond w (Some batch_level) None))))) HasItsValues
-    go true y z w e = split_has (rows_after split_level.rules [] p.1) (split_level_there p.1 e)
-    go false true z w e = check_has (rows_after check_level.rules [] p.1) (check_level_there p.1 e)
-    go false false true w e = demo_has (rows_after demo_level.rules [] p.1) (demo_level_there p.1 e)
-    go false false false true e = batch_has (rows_after batch_level.rules [] p.1) (batch_level_there p.1 e)
-    go false false false false e = tt
+    is : Shape → Bool
+    is s = answers_to p.0 (label_of s)
+
+    met : Bool → Bool → Bool → Bool → Bool → Option Shape
+    met x y z w v =
+        cond x (Some split_level) (cond y (Some check_level) (cond z (Some demo_level) (cond w (Some batch_level) (cond v (Some edit_level) None))))
+
+    go : (x y z w v : Bool) → option_map_or (λ s. level_fault s [] nothing_held p.1 false []) (met x y z w v) [] ≡ []
+        → IfSome (option_map (λ s. rows_at s p.1) (met x y z w v)) HasItsValues
+    go true y z w v e = split_has (rows_after split_level.rules [] p.1) (split_level_there p.1 e)
+    go false true z w v e = check_has (rows_after check_level.rules [] p.1) (check_level_there p.1 e)
+    go false false true w v e = demo_has (rows_after demo_level.rules [] p.1) (demo_level_there p.1 e)
+    go false false false true v e = batch_has (rows_after batch_level.rules [] p.1) (batch_level_there p.1 e)
+    go false false false false true e = edit_has (rows_after edit_level.rules [] p.1) (edit_level_there p.1 e)
+    go false false false false false e = tt
 
 -- the subcommand that was met has its values, where `clap` takes the words
 pub taken_there : (words : List Text) → is_taken words ≡ true → IfSome (subcommand_of dpl_app words) HasItsValues
@@ -366,6 +465,33 @@ batch_in_range rows h below few = record {
   layers = (some_numbers _ h.layers, few);
   numbers = small_numbers _ h.layers;
 }
+
+pub edit_in_range : (rows : List Row) → AreThereForEdit rows → (edit_values rows).corner ≤ (edit_values rows).rule → AreInRangeForEdit (edit_values rows)
+edit_in_range rows h below = record {
+  layer = (from_range _ _ _ h.layer).1;
+  datatype = (from_range _ _ _ h.datatype).1;
+  rule = from_range _ _ _ h.rule;
+  overlap = from_range _ _ _ h.overlap;
+  corner = (least_corner _ _ _ _ h.corner h.rule, below);
+  a = (from_range _ _ _ h.a).1;
+  b = (from_range _ _ _ h.b).1;
+  tile = from_range _ _ _ h.tile;
+}
+
+-- the three files of a split for the edited layer are apart
+pub apart_without_edits : (v : EditValues) → is_edit_apart v ≡ true → is_apart v.a v.b v.input v.output v.certificate ≡ true
+apart_without_edits v apart = go (v.a == v.b) (bytes_eq v.input v.edits) (bytes_eq v.input v.output) (bytes_eq v.input v.certificate)
+    (bytes_eq v.edits v.output) (bytes_eq v.edits v.certificate) (bytes_eq v.output v.certificate) apart
+  where
+    go : (m x y z p q r : Bool) → (not m && (not x && (not y && (not z && (not p && (not q && not r)))))) ≡ true
+        → (not m && (not y && (not z && not r))) ≡ true
+    go true x y z p q r e = absurd (true≢false (sym e))
+    go false true y z p q r e = absurd (true≢false (sym e))
+    go false false true z p q r e = absurd (true≢false (sym e))
+    go false false false true p q r e = absurd (true≢false (sym e))
+    go false false false false true q r e = absurd (true≢false (sym e))
+    go false false false false false true r e = absurd (true≢false (sym e))
+    go false false false false false false r e = e
 
 pub some_from : (low high : ℕ) (o : Option ℕ) → IsFrom low high o → is_some o ≡ true
 some_from low high None h = absurd h

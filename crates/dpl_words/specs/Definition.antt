@@ -131,6 +131,20 @@ batch_shape = record (new_shape (codes "batch")) {
       ∷ file_name (codes "in") ∷ file_name (codes "prefix") ∷ repeated_number (codes "layer") 0 65535 ∷ [];
 }
 
+abbrev pub edit_shape : Shape
+edit_shape = record (new_shape (codes "edit")) {
+  rules = required_number (codes "layer") 0 65535
+      ∷ required_number (codes "rule") 1 1000000
+      ∷ required_number (codes "overlap") 1 1000000
+      ∷ number_if_given (codes "corner") 1 1000000
+      ∷ optional_number (codes "datatype") 0 65535 (codes "0")
+      ∷ optional_text (codes "top")
+      ∷ optional_number (codes "a") 0 65535 (codes "101")
+      ∷ optional_number (codes "b") 0 65535 (codes "102")
+      ∷ optional_number (codes "tile") 1 1073741824 (codes "4096")
+      ∷ file_name (codes "in") ∷ file_name (codes "edits") ∷ file_name (codes "out") ∷ file_name (codes "cert") ∷ [];
+}
+
 -- the program: a subcommand must be there, and nothing answers with help or a version
 abbrev pub top_shape : Shape
 top_shape = record (new_shape (codes "dpl")) {
@@ -143,5 +157,5 @@ top_shape = record (new_shape (codes "dpl")) {
 abbrev pub dpl_app : App
 dpl_app = record {
   top = record top_shape { is_leaf = false };
-  subs = split_shape ∷ check_shape ∷ demo_shape ∷ batch_shape ∷ [];
+  subs = split_shape ∷ check_shape ∷ demo_shape ∷ batch_shape ∷ edit_shape ∷ [];
 }

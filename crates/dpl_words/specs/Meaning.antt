@@ -14,8 +14,9 @@ use Rattle.dpl_words.specs.declared.values.SplitOptions.{SplitOptions}
 use Rattle.dpl_words.specs.declared.values.CheckOptions.{CheckOptions}
 use Rattle.dpl_words.specs.declared.values.DemoOptions.{DemoOptions}
 use Rattle.dpl_words.specs.declared.values.BatchOptions.{BatchOptions}
+use Rattle.dpl_words.specs.declared.values.EditOptions.{EditOptions}
 use Rattle.dpl_words.specs.declared.values.Request.{Request}
-use Rattle.dpl_words.specs.declared.values.Request.TheVariants.{Split, Check, Demo, Batch}
+use Rattle.dpl_words.specs.declared.values.Request.TheVariants.{Split, Check, Demo, Batch, Edit}
 
 -- what a command line of `split` says
 pub record SplitValues : Type 0 where
@@ -74,11 +75,28 @@ pub record BatchValues : Type 0 where
   pub prefix : Text
   pub layers : List ℕ
 
+-- what a command line of `edit` says
+pub record EditValues : Type 0 where
+  pub layer : ℕ
+  pub datatype : ℕ
+  pub rule : ℕ
+  pub overlap : ℕ
+  pub corner : ℕ
+  pub top : Option Text
+  pub a : ℕ
+  pub b : ℕ
+  pub tile : ℕ
+  pub input : Text
+  pub edits : Text
+  pub output : Text
+  pub certificate : Text
+
 pub data RequestValues : Type 0 where
   AsksSplit : SplitValues → RequestValues
   AsksCheck : CheckValues → RequestValues
   AsksDemo : DemoValues → RequestValues
   AsksBatch : BatchValues → RequestValues
+  AsksEdit : EditValues → RequestValues
 
 -- the number below 2 ^ k that a text writes, with a plus before it or not
 abbrev pub number_below : ℕ → Text → Option ℕ
@@ -183,6 +201,24 @@ batch_values rows = record {
   layers = numbers_in 16 (codes "layer") rows;
 }
 
+-- the values of `edit`
+abbrev pub edit_values : List Row → EditValues
+edit_values rows = record {
+  layer = number_in 16 (codes "layer") rows;
+  datatype = number_in 16 (codes "datatype") rows;
+  rule = number_in 32 (codes "rule") rows;
+  overlap = number_in 32 (codes "overlap") rows;
+  corner = corner_in rows;
+  top = first_of (codes "top") rows;
+  a = number_in 16 (codes "a") rows;
+  b = number_in 16 (codes "b") rows;
+  tile = number_in 32 (codes "tile") rows;
+  input = text_in (codes "in") rows;
+  edits = text_in (codes "edits") rows;
+  output = text_in (codes "out") rows;
+  certificate = text_in (codes "cert") rows;
+}
+
 -- `clap` takes the words
 abbrev pub is_taken : List Text → Bool
 is_taken words = is_empty (fault_of dpl_app words)
@@ -220,13 +256,26 @@ is_batch_apart v = not (v.a == v.b) && (not (nat_lt 64 (length v.layers)) && (ar
 abbrev pub batch_if_sound : BatchValues → Option RequestValues
 batch_if_sound v = if is_batch_apart v && not (nat_lt v.rule v.corner) then Some (AsksBatch v) else None
 
+-- no two of four names are the same text
+abbrev pub are_four_apart : Text → Text → Text → Text → Bool
+are_four_apart s t u v =
+    not (bytes_eq s t) && (not (bytes_eq s u) && (not (bytes_eq s v) && (not (bytes_eq t u) && (not (bytes_eq t v) && not (bytes_eq u v)))))
+
+-- both masks of `edit` have layers of their own, and each of its four files a name of its own
+abbrev pub is_edit_apart : EditValues → Bool
+is_edit_apart v = not (v.a == v.b) && are_four_apart v.input v.edits v.output v.certificate
+
+abbrev pub edit_if_sound : EditValues → Option RequestValues
+edit_if_sound v = if is_edit_apart v && not (nat_lt v.rule v.corner) then Some (AsksEdit v) else None
+
 -- what the entries of a subcommand ask for, by its name
 abbrev pub asked_by : Text → List Row → Option RequestValues
 asked_by name rows =
     if bytes_eq name (codes "split") then split_if_sound (split_values rows)
     else (if bytes_eq name (codes "check") then check_if_sound (check_values rows)
     else (if bytes_eq name (codes "demo") then Some (AsksDemo (demo_values rows))
-    else (if bytes_eq name (codes "batch") then batch_if_sound (batch_values rows) else None)))
+    else (if bytes_eq name (codes "batch") then batch_if_sound (batch_values rows)
+    else (if bytes_eq name (codes "edit") then edit_if_sound (edit_values rows) else None))))
 
 -- what the entries of the subcommand that was met ask for
 abbrev pub asked_of : Option (Text × List Row) → Option RequestValues
@@ -295,8 +344,27 @@ batch_view s = record {
   layers = s.layers.items;
 }
 
+abbrev pub edit_view : EditOptions → EditValues
+edit_view s = record {
+  layer = s.layer;
+  datatype = s.datatype;
+  rule = s.rule;
+  overlap = s.overlap;
+  corner = s.corner;
+  top = option_map
+      (λ t. t.now) s.top;
+  a = s.a;
+  b = s.b;
+  tile = s.tile;
+  input = s.input.now;
+  edits = s.edits.now;
+  output = s.output.now;
+  certificate = s.certificate.now;
+}
+
 abbrev pub request_view : Request → RequestValues
 request_view (Split s) = AsksSplit (split_view s)
 request_view (Check s) = AsksCheck (check_view s)
 request_view (Demo s) = AsksDemo (demo_view s)
 request_view (Batch s) = AsksBatch (batch_view s)
+request_view (Edit s) = AsksEdit (edit_view s)

@@ -3,7 +3,7 @@ ghost use Rattle.std.specs.Prelude.{◌≡◌, ℕ, pos, Some, IfOk, false, true
 ghost use Rattle.clap.specs.Walk.{rule_of};
 ghost use Rattle.clap.specs.Simple.{app_of, with_subcommand};
 ghost use Rattle.clap.specs.declared.builder.command.Command.TheViews.{out-Command as fields_of};
-ghost use Rattle.dpl_words.specs.Definition.{batch_shape, check_shape, demo_shape, dpl_app, file_name, flag, number_if_given, optional_number, optional_text, repeated_number, required_number, required_word, rule_for, shape_with, split_shape, top_shape};
+ghost use Rattle.dpl_words.specs.Definition.{batch_shape, check_shape, demo_shape, dpl_app, edit_shape, file_name, flag, number_if_given, optional_number, optional_text, repeated_number, required_number, required_word, rule_for, shape_with, split_shape, top_shape};
 ghost use Rattle.clap.specs.declared.builder.value_parser.ValueParser.TheVariants as vp;
 
 use clap::builder::ValueParser;
@@ -238,6 +238,28 @@ fn with_batch<'a>(alloc: Global, command: Command<'a>) -> Result<Command<'a>, Al
     with_level(alloc, command, "batch", &arguments)
 }
 
+/// Adds the subcommand `edit`.
+fn with_edit<'a>(alloc: Global, command: Command<'a>) -> Result<Command<'a>, AllocError>
+    ensures { IfOk result (λ c. app_of c ≡ with_subcommand (app_of command.entry) edit_shape) }
+{
+    let arguments = [
+        Argument::RequiredNumber("layer", 0, 65_535),
+        Argument::RequiredNumber("rule", 1, 1_000_000),
+        Argument::RequiredNumber("overlap", 1, 1_000_000),
+        Argument::NumberIfGiven("corner", 1, 1_000_000),
+        Argument::OptionalNumber("datatype", 0, 65_535, "0"),
+        Argument::OptionalText("top"),
+        Argument::OptionalNumber("a", 0, 65_535, "101"),
+        Argument::OptionalNumber("b", 0, 65_535, "102"),
+        Argument::OptionalNumber("tile", 1, 1_073_741_824, "4096"),
+        Argument::FileName("in"),
+        Argument::FileName("edits"),
+        Argument::FileName("out"),
+        Argument::FileName("cert"),
+    ];
+    with_level(alloc, command, "edit", &arguments)
+}
+
 /// The program's own command, before its subcommands.
 fn top_command<'a>(alloc: Global) -> Command<'a>
     ensures { app_of result ≡ record { top = top_shape; subs = [] } }
@@ -256,5 +278,6 @@ pub fn dpl_command<'a>(alloc: Global) -> Result<Command<'a>, AllocError>
     let command = with_split(alloc, top_command(alloc))?;
     let command = with_check(alloc, command)?;
     let command = with_demo(alloc, command)?;
-    with_batch(alloc, command)
+    let command = with_batch(alloc, command)?;
+    with_edit(alloc, command)
 }

@@ -7,6 +7,6 @@ mod values;
 
 pub use law::{taken_has_its_values, taken_names_a_subcommand};
 pub use values::{
-    BatchOptions, CheckOptions, DemoOptions, Request, SplitOptions, WordsFault, certificate_name,
-    mask_name, read_words,
+    BatchOptions, CheckOptions, DemoOptions, EditOptions, Request, SplitOptions, WordsFault,
+    certificate_name, mask_name, read_words,
 };

@@ -5,8 +5,8 @@ ghost use Rattle.dpl_words.specs.declared.values.WordsFault.TheVariants.{NoMemor
 ghost use Rattle.clap.specs.Walk.{first_of, many_of, one_of, rows_of, texts};
 ghost use Rattle.clap.specs.Simple.{subcommand_rows_of};
 ghost use Rattle.clap.specs.Words.{found_of};
-ghost use Rattle.dpl_words.specs.Meaning.{are_single as specs_are_single, asked_by, asked_of, batch_if_sound, batch_values, batch_view, certificate_name as certificate_name_of, check_if_sound, check_values, check_view, corner_in, demo_values, demo_view, flag_in, is_apart as specs_is_apart, is_batch_apart, is_beside as specs_is_beside, mask_name as mask_name_of, number_at, number_in, numbers_in, text_in, request_of, request_view, split_if_sound, split_values, split_view};
-ghost use Rattle.dpl_words.specs.Ranges.{AreFrom, AreThere, AreThereForBatch, AreThereForCheck, AreThereForDemo, HasItsValues, IsApart, IsFlagText, IsInRange, IsThere};
+ghost use Rattle.dpl_words.specs.Meaning.{are_single as specs_are_single, asked_by, asked_of, batch_if_sound, batch_values, batch_view, certificate_name as certificate_name_of, check_if_sound, check_values, check_view, corner_in, demo_values, demo_view, edit_if_sound, edit_values, edit_view, flag_in, is_apart as specs_is_apart, is_batch_apart, is_beside as specs_is_beside, is_edit_apart as specs_is_edit_apart, mask_name as mask_name_of, number_at, number_in, numbers_in, text_in, request_of, request_view, split_if_sound, split_values, split_view};
+ghost use Rattle.dpl_words.specs.Ranges.{AreFrom, AreThere, AreThereForBatch, AreThereForCheck, AreThereForDemo, AreThereForEdit, HasItsValues, IsApart, IsFlagText, IsInRange, IsThere};
 
 use crate::definition::dpl_command;
 use clap::ArgMatches;
@@ -80,6 +80,25 @@ pub struct BatchOptions<'a> {
     pub layers: Vec<u16>,
 }
 
+/// What a command line of `edit` says.
+#[derive(Debug, Drop)]
+pub struct EditOptions<'a> {
+    pub layer: u16,
+    pub datatype: u16,
+    pub rule: u32,
+    pub overlap: u32,
+    pub corner: u32,
+    pub top: Option<&'a str>,
+    pub a: u16,
+    pub b: u16,
+    pub tile: u32,
+    pub input: &'a str,
+    /// The file that lists the edits.
+    pub edits: &'a str,
+    pub output: &'a str,
+    pub certificate: &'a str,
+}
+
 /// The most layers of a command line.
 const MOST_LAYERS: usize = 64;
 
@@ -90,6 +109,7 @@ pub enum Request<'a> {
     Check(CheckOptions<'a>),
     Demo(DemoOptions),
     Batch(BatchOptions<'a>),
+    Edit(EditOptions<'a>),
 }
 
 /// The number of an option, as a `u16`.
@@ -257,6 +277,28 @@ fn batch_options<'a>(
     })
 }
 
+/// The values of `edit` among the entries.
+fn edit_options<'a>(matches: &ArgMatches<'a>) -> EditOptions<'a>
+    requires there { AreThereForEdit (rows_of (found_of matches.now)) }
+    ensures { edit_view result ≡ edit_values (rows_of (found_of matches.now)) }
+{
+    EditOptions {
+        layer: number_16(matches, "layer"),
+        datatype: number_16(matches, "datatype"),
+        rule: number_32(matches, "rule"),
+        overlap: number_32(matches, "overlap"),
+        corner: corner(matches),
+        top: text(matches, "top"),
+        a: number_16(matches, "a"),
+        b: number_16(matches, "b"),
+        tile: number_32(matches, "tile"),
+        input: required_text(matches, "in"),
+        edits: required_text(matches, "edits"),
+        output: required_text(matches, "out"),
+        certificate: required_text(matches, "cert"),
+    }
+}
+
 /// Why words ask for nothing that the program does.
 #[derive(Clone, Copy, Debug, PartialEq, Eq)]
 pub enum WordsFault {
@@ -335,6 +377,7 @@ fn request_by<'a>(
         "check" => check_request(inner),
         "demo" => Ok(Request::Demo(demo_options(inner))),
         "batch" => batch_request(alloc, inner),
+        "edit" => edit_request(inner),
         _ => Err(WordsFault::Usage),
     }
 }
@@ -397,6 +440,21 @@ fn batch_request<'a>(alloc: Global, inner: &ArgMatches<'a>) -> Result<Request<'a
         return Err(WordsFault::Usage);
     }
     Ok(Request::Batch(options))
+}
+
+/// What the matches of `edit` ask for.
+fn edit_request<'a>(inner: &ArgMatches<'a>) -> Result<Request<'a>, WordsFault>
+    requires there { AreThereForEdit (rows_of (found_of inner.now)) }
+    ensures read { IfOk result (λ r. edit_if_sound (edit_values (rows_of (found_of inner.now))) ≡ Some (request_view r)) }
+    ensures ranges { IfOk result (λ r. IsInRange (request_view r)) }
+    ensures apart { IfOk result (λ r. IsApart (request_view r)) }
+    ensures usage { IsErrOf result WordsFault.Usage → edit_if_sound (edit_values (rows_of (found_of inner.now))) ≡ None }
+{
+    let options = edit_options(inner);
+    if !is_edit_apart(&options) || options.rule < options.corner {
+        return Err(WordsFault::Usage);
+    }
+    Ok(Request::Edit(options))
 }
 
 /// Whether both masks have layers of their own, each of at most 64 layers is named once, and IN isn't written.
@@ -475,4 +533,17 @@ fn is_apart(a: u16, b: u16, input: &str, output: &str, certificate: &str) -> boo
     ensures { result ≡ specs_is_apart a b input.now output.now certificate.now }
 {
     a != b && input != output && input != certificate && output != certificate
+}
+
+/// Whether both masks of `edit` have layers of their own, and each of its four files a name of its own.
+fn is_edit_apart(options: &EditOptions<'_>) -> bool
+    ensures { result ≡ specs_is_edit_apart (edit_view options.now) }
+{
+    options.a != options.b
+        && options.input != options.edits
+        && options.input != options.output
+        && options.input != options.certificate
+        && options.edits != options.output
+        && options.edits != options.certificate
+        && options.output != options.certificate
 }

@@ -2,7 +2,7 @@ use Rattle.std.proofs.Common.{◌≡◌, ◌∙◌, ◌++◌, ◌<◌, ◌∷◌
 use Rattle.std.proofs.lemmas.List.{take_more}
 use Rattle.dpl_words.specs.Meaning.{batch_view}
 use Rattle.dpl_run.proofs.Together.{decided_next}
-use Rattle.dpl_run.proofs.Zips.{place_within}
+use Rattle.dpl_decide.proofs.Zips.{place_within}
 use Rattle.dpl_run.proofs.batch.all_decided.Goals as goal
 
 pub loop-decision-preserved : goal.loop-decision-preserved

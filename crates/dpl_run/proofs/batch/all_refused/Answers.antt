@@ -1,8 +1,8 @@
 use Rattle.std.proofs.Common.{refl}
 use Rattle.std.proofs.lemmas.List.{take_more}
 use Rattle.std.proofs.lemmas.List.Elements.{All-push}
-use Rattle.dpl_run.specs.View.{FitsDecision}
-use Rattle.dpl_run.proofs.Zips.{zip_next}
+use Rattle.dpl_decide.specs.View.{FitsDecision}
+use Rattle.dpl_decide.proofs.Zips.{zip_next}
 use Rattle.dpl_run.proofs.batch.all_refused.Goals as goal
 
 pub loop-layer-preserved : goal.loop-layer-preserved

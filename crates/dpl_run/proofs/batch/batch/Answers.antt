@@ -2,7 +2,7 @@ use Rattle.std.proofs.lemmas.Result.{IfOk-weaker}
 use Rattle.dpl_words.specs.Meaning.{batch_view}
 use Rattle.dpl_run.specs.View.{output_view}
 use Rattle.dpl_run.proofs.Batches.{batch_of}
-use Rattle.dpl_run.proofs.Zips.{zip_length}
+use Rattle.dpl_decide.proofs.Zips.{zip_length}
 use Rattle.dpl_run.proofs.batch.batch.Goals as goal
 
 pub all_decided-requires-clause-len : goal.all_decided-requires-clause-len

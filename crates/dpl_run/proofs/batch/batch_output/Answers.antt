@@ -3,7 +3,7 @@ use Rattle.std.specs.Prelude.{Vec, option_map}
 use Rattle.dpl_words.specs.Meaning.{batch_view}
 use Rattle.dpl_run.specs.Program.{IsInput}
 use Rattle.dpl_run.proofs.Batches.{batch_made, batch_refused}
-use Rattle.dpl_run.proofs.Zips.{zip_length}
+use Rattle.dpl_decide.proofs.Zips.{zip_length}
 use Rattle.dpl_run.proofs.batch.batch_output.Goals as goal
 
 pub returns-in_ok-batch-in-Ok-Some-clause-made : goal.returns-in_ok-batch-in-Ok-Some-clause-made

@@ -1,7 +1,7 @@
 use Rattle.std.proofs.Common.{◌∙◌}
 use Rattle.std.proofs.lemmas.Result.{IfOk-weaker}
 use Rattle.dpl_words.specs.Meaning.{batch_view}
-use Rattle.dpl_run.specs.View.{decision_view}
+use Rattle.dpl_decide.specs.View.{decision_view}
 use Rattle.dpl_run.proofs.Batches.{plan_named}
 use Rattle.dpl_run.proofs.batch.layer_output.Goals as goal
 

@@ -4,7 +4,7 @@ use Rattle.dpl_spec_verdict.specs.Conflicts.{IsOfConflict, IsVerdictOfConflict}
 use Rattle.dpl_words.specs.Meaning.{check_view}
 use Rattle.dpl_layer.specs.Marked.{MarkedChoice}
 use Rattle.dpl_run.specs.Check.{check_spacing}
-use Rattle.dpl_run.specs.Split.{marks_for}
+use Rattle.dpl_decide.specs.Deciding.{marks_for}
 use Rattle.dpl_run.specs.View.{marks_with, output_view}
 use Rattle.dpl_run.proofs.Checking.{cycle_checked, fault_checked}
 use Rattle.dpl_run.proofs.check.check_alone.Goals as goal

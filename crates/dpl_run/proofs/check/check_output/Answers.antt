@@ -13,7 +13,7 @@ use Rattle.dpl_layer.specs.declared.fault.LayerFault.{LayerFault}
 use Rattle.dpl_run.proofs.Checking.{check_made, layout_faulty, layout_large, layout_read}
 use Rattle.dpl_run.specs.Calls.{AreReadsOfCert}
 use Rattle.dpl_run.proofs.Calls.{layout_and_more}
-use Rattle.dpl_run.proofs.Marking.{are_marks}
+use Rattle.dpl_decide.proofs.Marking.{are_marks}
 use Rattle.dpl_run.proofs.check.check_output.Goals as goal
 
 pub returns-in_default-clause-made : goal.returns-in_default-clause-made

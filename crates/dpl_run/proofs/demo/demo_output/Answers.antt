@@ -1,6 +1,7 @@
 use Rattle.std.proofs.lemmas.Result.{IfOk-weaker}
 use Rattle.dpl_words.specs.Meaning.{demo_view}
-use Rattle.dpl_run.specs.View.{decision_view, output_view}
+use Rattle.dpl_decide.specs.View.{decision_view}
+use Rattle.dpl_run.specs.View.{output_view}
 use Rattle.dpl_run.proofs.Inputs.{demo_decided}
 use Rattle.dpl_run.proofs.demo.demo_output.Goals as goal
 

@@ -30,3 +30,6 @@ returns-in-Ok-usage-clause-calls g c = unread (request_of (texts c.args.words.no
 
 pub returns-in-Err-Usage-clause-calls : goal.returns-in-Err-Usage-clause-calls
 returns-in-Err-Usage-clause-calls g c = unread (request_of (texts c.args.words.now)) (g.H.Host.told c.args.host.now)
+
+pub returns-clause-calls : goal.returns-clause-calls
+returns-clause-calls g c = unread (request_of (texts c.args.words.now)) (g.H.Host.told c.args.host.now)

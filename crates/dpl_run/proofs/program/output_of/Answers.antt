@@ -36,3 +36,9 @@ returns-in-Batch-clause-made g c = rw c.in-Batch.is c.batch_output.ensures.made
 
 pub returns-in-Batch-clause-calls : goal.returns-in-Batch-clause-calls
 returns-in-Batch-clause-calls g c = rw c.in-Batch.is c.batch_output.ensures.calls
+
+pub returns-in-Edit-clause-made : goal.returns-in-Edit-clause-made
+returns-in-Edit-clause-made g c = rw c.in-Edit.is c.edit_output.ensures.made
+
+pub returns-in-Edit-clause-calls : goal.returns-in-Edit-clause-calls
+returns-in-Edit-clause-calls g c = rw c.in-Edit.is c.edit_output.ensures.calls

@@ -1,0 +1,4 @@
+pub mod Layers
+pub mod Marking
+pub mod Waiting
+pub mod Zips

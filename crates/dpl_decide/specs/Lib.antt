@@ -1,0 +1,4 @@
+pub mod Deciding
+pub mod Many
+pub mod View
+pub mod Waits

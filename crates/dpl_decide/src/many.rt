@@ -1,0 +1,162 @@
+//! Many layers of one file on the way to their decisions.
+ghost use Rattle.std.specs.Prelude.{◌≤◌, IfOk, List, length, option_map};
+ghost use Rattle.std.specs.List.{AllZip};
+ghost use Rattle.dpl_cert.specs.Grammar.{IsRule};
+ghost use Rattle.dpl_layer.specs.Reading.{limit};
+ghost use Rattle.dpl_layer.specs.declared.many.ReadLayer.{ReadLayer as ReadLayerOf};
+ghost use Rattle.dpl_answer.specs.Flat.{AreWorkers, IsTile};
+ghost use Rattle.dpl_answer.specs.Many.{AreConflictsOfCut};
+ghost use Rattle.dpl_decide.specs.Many.{AreDecisions, IsChosen};
+ghost use Rattle.dpl_decide.specs.Waits.{AreDecidedFrom, AreWaiting};
+
+use crate::pipeline::Decision;
+use dpl_answer::{Conflicts, Sharing, answer_of, conflicts_of_all};
+use dpl_base::Spacing;
+use dpl_cert::Name;
+use dpl_cut::{BareLayerCut, cut_of};
+use dpl_layer::{Layer, LayerChoice, ReadLayer, layers_of};
+use dpl_pool::Gate;
+use dpl_slabs::Slabs;
+use std::alloc::{AllocError, Global};
+use std::sync::Wait;
+use std::thread::Threads;
+
+/// What is asked of many layers of a layout, without markers.
+#[derive(Clone, Copy, Debug)]
+pub struct LayersOrder<'a> {
+    /// The name of the top structure, where one is named.
+    pub top: Option<&'a str>,
+    /// The data type of the boundaries and paths that are taken.
+    pub datatype: u16,
+    /// The layers that are decomposed.
+    pub layers: &'a [u16],
+    /// How far apart features are on one mask, in database units.
+    pub spacing: Spacing,
+    /// How long a stitch is, in database units.
+    pub overlap: u32,
+    /// How the conflicts are found.
+    pub sharing: Sharing,
+}
+
+/// A layer on the way to its decision: refused, or cut, with the copied records. The cut stands in a list of its own.
+#[derive(Drop)]
+enum Waiting {
+    Refused { name: Name, at: u64 },
+    Cut { copied: Vec<u8> },
+}
+
+/// Decides each layer of a file by its bytes, as `decide` decides one. The file is read once, and one pool has the tiles of all layers, so the cuts of all layers live at once, while the slabs of a layer go when it is cut, and a cut when it is answered.
+///
+/// The error: out of memory.
+pub fn decide_all<R: Threads + Wait + Sync, G: Gate + Sync>(
+    rt: &R,
+    alloc: Global,
+    order: &LayersOrder<'_>,
+    bytes: Vec<u8>,
+    gate: &G,
+) -> Result<Vec<Decision>, AllocError>
+    requires size { length bytes.items ≤ limit }
+    requires rule { IsRule order.now.spacing.rule }
+    requires corner { order.now.spacing.corner ≤ order.now.spacing.rule }
+    requires some { 1 ≤ order.now.spacing.corner }
+    requires overlap { IsRule order.now.overlap }
+    requires tile { IsTile order.now.sharing.tile }
+    requires workers { AreWorkers order.now.sharing.workers }
+    ensures { IfOk result (λ ds. AreDecisions (option_map (λ t. t.now) order.now.top) order.now.datatype order.now.layers.now order.now.spacing order.now.overlap bytes.items ds.items) }
+{
+    let choices = choices_of(alloc, order)?;
+    let layers = layers_of(alloc, &choices, bytes)?;
+    let (waiting, cuts) = all_cut(alloc, layers, order.spacing, order.overlap)?;
+    let conflicts = conflicts_of_all(rt, alloc, &cuts, order.spacing, order.sharing, gate)?;
+    all_answered(
+        alloc,
+        waiting,
+        cuts,
+        conflicts,
+        order.spacing,
+        order.overlap,
+    )
+}
+
+/// The choice of each layer.
+fn choices_of<'a>(
+    alloc: Global,
+    order: &LayersOrder<'a>,
+) -> Result<Vec<LayerChoice<'a>>, AllocError>
+    ensures { IfOk result (λ cs. AllZip (IsChosen (option_map (λ t. t.now) order.now.top) order.now.datatype) order.now.layers.now cs.items) }
+{
+    let mut choices = Vec::new(alloc);
+    for layer in order.layers {
+        choices.push(LayerChoice {
+            top: order.top,
+            layer: *layer,
+            datatype: order.datatype,
+        })?;
+    }
+    Ok(choices)
+}
+
+/// Cuts each layer that has no fault.
+fn all_cut(
+    alloc: Global,
+    layers: Vec<ReadLayer>,
+    spacing: Spacing,
+    overlap: u32,
+) -> Result<(Vec<Waiting>, Vec<BareLayerCut>), AllocError>
+    requires corner { spacing.corner ≤ spacing.rule }
+    requires overlap { IsRule overlap }
+    ensures { IfOk result (λ r. AreWaiting spacing overlap layers.items r.0.items r.1.items) }
+{
+    let mut waiting = Vec::new(alloc);
+    let mut cuts = Vec::new(alloc);
+    let unmarked = Slabs::empty(alloc);
+    for layer in layers {
+        match layer {
+            ReadLayer::Refused { name, at } => waiting.push(Waiting::Refused { name, at })?,
+            ReadLayer::Read(Layer { copied, slabs }) => {
+                cuts.push(cut_of(alloc, slabs, spacing, overlap, &unmarked)?)?;
+                waiting.push(Waiting::Cut { copied })?;
+            }
+        }
+    }
+    Ok((waiting, cuts))
+}
+
+/// Answers each layer that was cut, by its conflicts.
+fn all_answered(
+    alloc: Global,
+    waiting: Vec<Waiting>,
+    cuts: Vec<BareLayerCut>,
+    conflicts: Vec<Conflicts>,
+    spacing: Spacing,
+    overlap: u32,
+) -> Result<Vec<Decision>, AllocError>
+    requires corner { spacing.corner ≤ spacing.rule }
+    requires some { 1 ≤ spacing.corner }
+    requires rule { IsRule spacing.rule }
+    requires overlap { IsRule overlap }
+    requires waiting { (layers : List ReadLayerOf) × AreWaiting spacing overlap layers waiting.items cuts.items }
+    requires conflicts { AllZip (AreConflictsOfCut spacing) cuts.items conflicts.items }
+    ensures { (layers : List ReadLayerOf) → AreWaiting spacing overlap layers waiting.items cuts.items → IfOk result (λ ds. AreDecidedFrom spacing overlap layers ds.items) }
+{
+    let mut decisions = Vec::new(alloc);
+    let mut cuts = cuts.into_iter();
+    let mut conflicts = conflicts.into_iter();
+    for layer in waiting {
+        match layer {
+            Waiting::Refused { name, at } => decisions.push(Decision::Refused { name, at })?,
+            Waiting::Cut { copied } => {
+                let Some(cut) = cuts.next() else {
+                    unreachable!()
+                };
+                let Some(found) = conflicts.next() else {
+                    unreachable!()
+                };
+                let answer = answer_of(alloc, cut, &found, None, spacing, overlap, false)?;
+                drop(found);
+                decisions.push(Decision::Answered { copied, answer })?;
+            }
+        }
+    }
+    Ok(decisions)
+}

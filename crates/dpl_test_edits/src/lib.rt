@@ -1,0 +1,5 @@
+//! Edited splits, from file to file.
+#![tactic(auto)]
+
+#[cfg(test)]
+mod edits;
