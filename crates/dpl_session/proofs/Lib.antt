@@ -1,0 +1,13 @@
+pub mod SameGraphs
+pub mod Deciding
+pub mod Editing
+pub mod Cleaned
+pub mod Naming
+pub mod Alone
+pub mod Conflicting
+pub mod Grids
+pub mod Seeking
+pub mod Gathered
+pub mod Standing
+pub mod Lookup
+pub mod Sides
