@@ -1,8 +1,8 @@
 -- What items shade of one another, and what is noted of it.
-use Rattle.std.proofs.Common.{rules, ◌≡◌, ◌≢◌, ℕ, ◌+◌, ◌-◌, ◌<◌, ◌≤◌, ◌⊎◌, inl, inr, Bool, ltb, true, false, List, [], ◌∷◌, ◌++◌, length, get_or, take, drop, sym, refl, ap, ◌∙◌, subst, arith}
+use Rattle.std.proofs.Common.{◌≡◌, ◌≢◌, ℕ, ◌+◌, ◌-◌, ◌<◌, ◌≤◌, ◌⊎◌, inl, inr, Bool, true, false, List, [], ◌∷◌, ◌++◌, length, get_or, take, drop, sym, refl, ap, ◌∙◌, subst, arith}
 use Rattle.std.specs.Prelude.{ℤ, pos, ◌+ℤ◌, ◌<ℤ◌, ◌↔◌}
 use Rattle.std.specs.List.{Contains}
-use Rattle.std.specs.List.Sorted.{IsPartitionPoint, IsPermutation}
+use Rattle.std.specs.List.Sorted.{IsPermutation}
 use Rattle.std.proofs.Math.ListN.{set}
 use Rattle.std.proofs.lemmas.Bool.{cases_eq, cases_lt, cases_order}
 use Rattle.std.proofs.lemmas.Int.{ints, by_lt_z}
@@ -275,18 +275,36 @@ shades-sorted items old new spacing overlap dead same rise less sound handles =
 
 -- ---- the shades of one item
 
-below-from : (a b : ℕ) → ltb a b ≡ true → a < b
-below-from a b h = search rules
+-- the shades before a place have numbers up to n
+abbrev pub AreUpTo : List Shade → ℕ → ℕ → Type 0
+AreUpTo found n at = (k : ℕ) (d : Shade) → k < at → k < length found → (get_or found k d).number < n + 1
 
-above-from : (a b : ℕ) → ltb a b ≡ false → b ≤ a
-above-from a b h = search rules
+pub start-first : (found : List Shade) → IsStart found 0 0
+start-first found = record { within = omega arith; under = λ k d l. absurd (omega (arith, l)); over = λ k d l k_in. omega arith }
 
-pub start-from : (found : List Shade) (n at : ℕ) → at ≤ length found → IsPartitionPoint (λ (s : Shade). ltb s.number n ≡ true) (λ (s : Shade). ltb s.number n ≡ false) found at → IsStart found n at
-start-from found n at within h = record {
-  within = within;
-  under = λ k d l k_in. below-from (get_or found k d).number n (h.0 k d (omega arith) l);
-  over = λ k d l k_in. above-from (get_or found k d).number n (h.1 k d l k_in);
+pub stretch-none : (found : List Shade) (n at : ℕ) → IsStart found n at → AreUpTo found n at
+stretch-none found n at start k d l k_in = let h = start.under k d l k_in in omega (arith, h)
+
+pub stretch-more : (found : List Shade) (n at : ℕ) → AreUpTo found n at → ((d : Shade) → (get_or found at d).number ≡ n) → AreUpTo found n (at + 1)
+stretch-more found n at before is k d l k_in = elim (cases_eq k at) [
+  | inl same ↦ (let h = ap (λ (m : ℕ). (get_or found m d).number) same ∙ is d in omega (arith, h))
+  | inr ne ↦ before k d (omega (arith, l, ne)) k_in
+]
+
+pub stretch-to : (found : List Shade) (n start at : ℕ) → NumbersRise found → IsStart found n start → start ≤ at → at < length found → AreUpTo found n at
+    → ((d : Shade) → (get_or found at d).number ≢ n) → IsStart found (n + 1) at
+stretch-to found n start at rise first behind at_in before ne = record {
+  within = omega (arith, at_in);
+  under = before;
+  over = λ k d l k_in.
+      (let low = first.over at d behind at_in in
+      let more = rise at k d l k_in in
+      let other = ne d in
+      omega (arith, low, more, other));
 }
+
+pub stretch-over : (found : List Shade) (n at : ℕ) → at ≡ length found → AreUpTo found n at → IsStart found (n + 1) at
+stretch-over found n at is before = record { within = omega (arith, is); under = before; over = λ k d l k_in. absurd (omega (arith, is, l, k_in)) }
 
 starts-rise : (found : List Shade) (n a b : ℕ) → IsStart found n a → IsStart found (n + 1) b → a ≤ b
 starts-rise found n a b first second = elim (cases_lt b a) [

@@ -8,8 +8,7 @@ ghost use Rattle.dpl_spec_split.specs.Squares.{IsSolidWithin};
 ghost use Rattle.dpl_zone.specs.Rows.{SomeRow, AreTall, RiseByFrom, IsShaded, IsShadow, IsGap, AddsSpan};
 
 use dpl_base::{Rect, Spacing, reach, span_gap};
-use smallvec::SmallVec;
-use std::alloc::{AllocError, Global};
+use std::alloc::AllocError;
 
 /// The rows from `from` up to but not `to`.
 #[derive(Clone, Copy, Default, Drop)]
@@ -17,9 +16,6 @@ pub struct Span {
     pub from: i64,
     pub to: i64,
 }
-
-/// Spans of one slab.
-pub type Spans = SmallVec<Span, 16>;
 
 /// The rows at which the slab is near another rectangle.
 pub(crate) fn shadow(slab: &Rect, other: &Rect, spacing: Spacing) -> Option<Span>
@@ -54,7 +50,7 @@ fn higher(a: i64, b: i64) -> i64
 }
 
 /// Adds a span, where it has a row.
-fn add_span(spans: &mut Spans, from: i64, to: i64) -> Result<(), AllocError>
+fn add_span(spans: &mut Vec<Span>, from: i64, to: i64) -> Result<(), AllocError>
     ensures { OnOk result (AddsSpan from to spans.old.items spans.new.items) }
 {
     if to <= from {
@@ -64,19 +60,19 @@ fn add_span(spans: &mut Spans, from: i64, to: i64) -> Result<(), AllocError>
     Ok(())
 }
 
-/// The longest spans between rows `low` and `high` that no span meets.
-pub fn gaps(alloc: Global, spans: &[Span], low: i64, high: i64) -> Result<Spans, AllocError>
+/// Lists the longest spans between rows `low` and `high` that no span meets, in place of what `free` had.
+pub fn gaps(free: &mut Vec<Span>, spans: &[Span], low: i64, high: i64) -> Result<(), AllocError>
     requires tall { AreTall spans.now }
     requires rise { RiseByFrom spans.now }
-    ensures { IfOk result (λ v. (g : Span) → Contains v.items g ↔ IsGap low high spans.now g) }
+    ensures { OnOk result ((g : Span) → Contains free.new.items g ↔ IsGap low high spans.now g) }
 {
-    let mut free = SmallVec::new(alloc);
+    free.clear();
     let mut at = low;
     for s in spans {
         let end = lower(s.from, high);
-        add_span(&mut free, at, end)?;
+        add_span(free, at, end)?;
         at = higher(at, s.to);
     }
-    add_span(&mut free, at, high)?;
-    Ok(free)
+    add_span(free, at, high)?;
+    Ok(())
 }

@@ -9,13 +9,12 @@ ghost use Rattle.dpl_join.specs.Pairs.{IsPair, item_at};
 ghost use Rattle.dpl_zone.specs.declared.shades.Shade.{Shade};
 ghost use Rattle.dpl_zone.specs.Owned.{AreOwnedWithin};
 ghost use Rattle.dpl_zone.specs.Rows.{AreTall, IsShadow, RiseByFrom, SomeRow};
-ghost use Rattle.dpl_zone.specs.Shading.{AreShades, Handles, HandlesBoth, HasShade, IsMore, IsSound, IsStart, NumbersRise};
+ghost use Rattle.dpl_zone.specs.Shading.{AreShades, Handles, HandlesBoth, HasShade, IsMore, IsSound, IsStart, IsStretch, NumbersRise};
 
-use crate::rows::{Span, Spans, shadow};
+use crate::rows::{Span, shadow};
 use crate::slab_zones::is_short;
 use dpl_base::{Rect, Spacing};
 use dpl_join::{Item, Join, Pair};
-use smallvec::SmallVec;
 use std::alloc::{AllocError, Global};
 
 /// Rows of an item that another one shades.
@@ -32,6 +31,14 @@ pub(crate) struct Shades {
     pub(crate) overlap: u32,
     pub(crate) found: Vec<Shade>,
     pub(crate) dead: Vec<bool>,
+}
+
+/// Where the shades of an item stand among all.
+#[derive(Clone, Copy, Drop)]
+pub(crate) struct Stretch {
+    pub(crate) number: u32,
+    pub(crate) start: usize,
+    pub(crate) end: usize,
 }
 
 /// Whether a shadow leaves too few rows of the slab for a zone, below it and above it.
@@ -217,48 +224,67 @@ pub(crate) fn shades_of(
     Ok(shades)
 }
 
-/// How many shades have numbers below `n`.
-fn start_of(found: &[Shade], n: u64) -> usize
-    requires { NumbersRise found.now }
-    ensures { IsStart found.now n result }
+/// The place behind the shades of item `n`, which begin at place `start`.
+fn stretch_end(found: &[Shade], n: u32, start: usize) -> usize
+    requires rise { NumbersRise found.now }
+    requires start { IsStart found.now n start }
+    ensures { IsStart found.now (n + 1) result }
 {
-    found.partition_point(|s| (s.number as u64) < n)
+    for k in start..found.len() {
+        if found[k].number != n {
+            return k;
+        }
+    }
+    found.len()
+}
+
+/// Where the shades of item `n` stand, which begin at place `start`.
+pub(crate) fn stretch_from(found: &[Shade], n: u32, start: usize) -> Stretch
+    requires rise { NumbersRise found.now }
+    requires start { IsStart found.now n start }
+    ensures number { result.number ≡ n }
+    ensures stretch { IsStretch found.now result }
+{
+    let end = stretch_end(found, n, start);
+    Stretch {
+        number: n,
+        start,
+        end,
+    }
 }
 
 /// The shades of one item.
-fn shades_at(found: &[Shade], n: u32) -> &[Shade]
-    requires { NumbersRise found.now }
-    ensures { (s : Shade) → Contains result.now s ↔ (Contains found.now s × (s.number ≡ n)) }
+fn shades_at(found: &[Shade], at: Stretch) -> &[Shade]
+    requires { IsStretch found.now at }
+    ensures { (s : Shade) → Contains result.now s ↔ (Contains found.now s × (s.number ≡ at.number)) }
 {
-    let start = start_of(found, n as u64);
-    let end = start_of(found, n as u64 + 1);
-    &found[start..end]
+    &found[at.start..at.end]
 }
 
-/// The rows of an item's shades, in no order.
-fn unsorted_rows(alloc: Global, found: &[Shade], n: u32) -> Result<Spans, AllocError>
-    requires rise { NumbersRise found.now }
+/// Lists the rows of an item's shades, in no order.
+fn list_rows(spans: &mut Vec<Span>, found: &[Shade], at: Stretch) -> Result<(), AllocError>
+    requires stretch { IsStretch found.now at }
     requires tall { (s : Shade) → Contains found.now s → s.span.from <ℤ s.span.to }
-    ensures tall { IfOk result (λ v. AreTall v.items) }
-    ensures rows { IfOk result (λ v. (y : ℤ) → SomeRow v.items y ↔ HasShade found.now n y) }
+    ensures tall { OnOk result (AreTall spans.new.items) }
+    ensures rows { OnOk result ((y : ℤ) → SomeRow spans.new.items y ↔ HasShade found.now at.number y) }
 {
-    let shades = shades_at(found, n);
-    let mut spans = SmallVec::new(alloc);
+    let shades = shades_at(found, at);
+    spans.clear();
     for s in shades {
         spans.push(s.span)?;
     }
-    Ok(spans)
+    Ok(())
 }
 
-/// The rows of an item's shades, by lowest row.
-pub(crate) fn rows_at(alloc: Global, found: &[Shade], n: u32) -> Result<Spans, AllocError>
-    requires rise { NumbersRise found.now }
+/// Lists the rows of an item's shades, by lowest row, in place of what `spans` had.
+pub(crate) fn rows_at(spans: &mut Vec<Span>, found: &[Shade], at: Stretch) -> Result<(), AllocError>
+    requires stretch { IsStretch found.now at }
     requires tall { (s : Shade) → Contains found.now s → s.span.from <ℤ s.span.to }
-    ensures tall { IfOk result (λ v. AreTall v.items) }
-    ensures rise { IfOk result (λ v. RiseByFrom v.items) }
-    ensures rows { IfOk result (λ v. (y : ℤ) → SomeRow v.items y ↔ HasShade found.now n y) }
+    ensures tall { OnOk result (AreTall spans.new.items) }
+    ensures rise { OnOk result (RiseByFrom spans.new.items) }
+    ensures rows { OnOk result ((y : ℤ) → SomeRow spans.new.items y ↔ HasShade found.now at.number y) }
 {
-    let mut spans = unsorted_rows(alloc, found, n)?;
+    list_rows(spans, found, at)?;
     spans.sort_unstable_by_key(|s| s.from);
-    Ok(spans)
+    Ok(())
 }

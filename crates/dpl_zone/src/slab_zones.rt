@@ -10,15 +10,33 @@ ghost use Rattle.dpl_join.specs.Pairs.{item_at};
 ghost use Rattle.dpl_zone.specs.Ends.{AreEnds};
 ghost use Rattle.dpl_zone.specs.Owned.{AreInOrder, AreOwnedWithin, AreSets, OwnersRise};
 ghost use Rattle.dpl_zone.specs.Rows.{AddsZones, AreTall, GoesAbove, GoesBelow, IsLitZone, IsMiddleOf, IsOpenSpan, RiseByFrom, SomeRow};
-ghost use Rattle.dpl_zone.specs.Shading.{AreShades};
+ghost use Rattle.dpl_zone.specs.Shading.{AreShades, IsStretch};
 ghost use Rattle.dpl_zone.specs.Ways.{AreUpright, IsItemZone};
 
 use crate::ends::{Ends, ends_of};
 use crate::rows::{Span, gaps};
-use crate::shades::{Shades, rows_at, shades_of};
+use crate::shades::{Shades, Stretch, rows_at, shades_of, stretch_from};
 use dpl_base::{Rect, Spacing, Zone};
 use dpl_join::{Item, Join};
 use std::alloc::{AllocError, Global};
+
+/// Room for what is found at one item, used again for the next: the rows of its shades, the spans between them, and its zones.
+#[derive(Drop)]
+struct Room {
+    spans: Vec<Span>,
+    free: Vec<Span>,
+    zones: Vec<Rect>,
+}
+
+impl Room {
+    fn new(alloc: Global) -> Room {
+        Room {
+            spans: Vec::new(alloc),
+            free: Vec::new(alloc),
+            zones: Vec::new(alloc),
+        }
+    }
+}
 
 /// Whether the feature goes on below the span: in the slab itself, or below that.
 fn goes_below(slab: &Rect, ends: Ends, g: &Span) -> bool
@@ -97,10 +115,10 @@ pub(crate) fn is_short(slab: &Rect, overlap: u32) -> bool
     false
 }
 
-/// Adds the zones between spans of a slab that are near other rectangles.
+/// Adds the zones between spans of a slab that are near other rectangles. The list `free` is room for the spans between.
 fn add_zones(
-    alloc: Global,
     zones: &mut Vec<Rect>,
+    free: &mut Vec<Span>,
     slab: &Rect,
     ends: Ends,
     spans: &[Span],
@@ -111,7 +129,7 @@ fn add_zones(
     requires rise { RiseByFrom spans.now }
     ensures { OnOk result (AddsZones (IsLitZone overlap (IsTrue ends.below) (IsTrue ends.above) (SomeRow spans.now) slab.now) zones.old.items zones.new.items) }
 {
-    let free = gaps(alloc, spans, slab.y0 as i64, slab.y1 as i64)?;
+    gaps(free, spans, slab.y0 as i64, slab.y1 as i64)?;
     for g in free.as_slice() {
         add_zone(zones, slab, ends, g, overlap)?;
     }
@@ -125,56 +143,57 @@ fn owner_of(item: &Item) -> usize
     item.owner as usize
 }
 
-/// The zones of an item.
+/// Lists the zones of an item, whose shades stand at a stretch, in place of those of another.
 fn zones_of_item(
-    alloc: Global,
+    room: &mut Room,
     items: &[Item],
-    n: usize,
-    ends: &[Ends],
-    shades: &Shades,
-) -> Result<Vec<Rect>, AllocError>
-    requires known { n < length items.now }
-    requires few { length items.now < 2 ^ 32 }
-    requires within { AreOwnedWithin items.now }
-    requires shades { AreShades items.now shades.now }
-    requires ends { AreEnds items.now shades.now.dead.items ends.now }
-    ensures { IfOk result (λ v. (z : Rect) → Contains v.items z ↔ IsItemZone shades.now.spacing shades.now.overlap items.now n z) }
-{
-    let mut zones = Vec::new(alloc);
-    if shades.dead[n] {
-        return Ok(zones);
-    }
-    let spans = rows_at(alloc, &shades.found, n as u32)?;
-    add_zones(
-        alloc,
-        &mut zones,
-        &items[n].rect,
-        ends[n],
-        spans.as_slice(),
-        shades.overlap,
-    )?;
-    Ok(zones)
-}
-
-/// Adds the zones of an item.
-fn add_item(
-    alloc: Global,
-    zones: &mut Vec<Zone>,
-    items: &[Item],
-    n: usize,
+    at: Stretch,
     ends: &[Ends],
     shades: &Shades,
 ) -> Result<(), AllocError>
-    requires known { n < length items.now }
-    requires few { length items.now < 2 ^ 32 }
+    requires known { at.number < length items.now }
+    requires stretch { IsStretch shades.now.found.items at }
     requires within { AreOwnedWithin items.now }
     requires shades { AreShades items.now shades.now }
     requires ends { AreEnds items.now shades.now.dead.items ends.now }
-    ensures { OnOk result ((z : Zone) → Contains zones.new.items z ↔ (Contains zones.old.items z ⊎ ((z.feature ≡ (item_at items.now n).owner) × IsItemZone shades.now.spacing shades.now.overlap items.now n z.rect))) }
+    ensures { OnOk result ((z : Rect) → Contains room.new.zones.items z ↔ IsItemZone shades.now.spacing shades.now.overlap items.now at.number z) }
 {
-    let found = zones_of_item(alloc, items, n, ends, shades)?;
-    let owner = owner_of(&items[n]);
-    for rect in &found {
+    let n = at.number as usize;
+    room.zones.clear();
+    if shades.dead[n] {
+        return Ok(());
+    }
+    rows_at(&mut room.spans, &shades.found, at)?;
+    add_zones(
+        &mut room.zones,
+        &mut room.free,
+        &items[n].rect,
+        ends[n],
+        &room.spans,
+        shades.overlap,
+    )?;
+    Ok(())
+}
+
+/// Adds the zones of an item, whose shades stand at a stretch.
+fn add_item(
+    zones: &mut Vec<Zone>,
+    room: &mut Room,
+    items: &[Item],
+    at: Stretch,
+    ends: &[Ends],
+    shades: &Shades,
+) -> Result<(), AllocError>
+    requires known { at.number < length items.now }
+    requires stretch { IsStretch shades.now.found.items at }
+    requires within { AreOwnedWithin items.now }
+    requires shades { AreShades items.now shades.now }
+    requires ends { AreEnds items.now shades.now.dead.items ends.now }
+    ensures { OnOk result ((z : Zone) → Contains zones.new.items z ↔ (Contains zones.old.items z ⊎ ((z.feature ≡ (item_at items.now at.number).owner) × IsItemZone shades.now.spacing shades.now.overlap items.now at.number z.rect))) }
+{
+    zones_of_item(room, items, at, ends, shades)?;
+    let owner = owner_of(&items[at.number as usize]);
+    for rect in &room.zones {
         zones.push(Zone {
             rect: *rect,
             feature: owner as u64,
@@ -197,8 +216,12 @@ fn zones_of_items(
     ensures { IfOk result (λ v. (z : Zone) → Contains v.items z ↔ ((n : ℕ) × (n < length items.now) × (z.feature ≡ (item_at items.now n).owner) × IsItemZone shades.now.spacing shades.now.overlap items.now n z.rect)) }
 {
     let mut zones = Vec::new(alloc);
+    let mut room = Room::new(alloc);
+    let mut start = 0;
     for n in 0..items.len() {
-        add_item(alloc, &mut zones, items, n, ends, shades)?;
+        let at = stretch_from(&shades.found, n as u32, start);
+        add_item(&mut zones, &mut room, items, at, ends, shades)?;
+        start = at.end;
     }
     Ok(zones)
 }

@@ -6,16 +6,16 @@ use Rattle.dpl_zone.proofs.ItemZones.{item-added}
 use Rattle.dpl_zone.proofs.slab_zones.add_item.Goals as goal
 
 pub loop-rect-init : goal.loop-rect-init
-loop-rect-init c = first-none c.deref-rect-items.result.now (item_at c.args.items.now c.args.n).owner c.args.zones.now.items
+loop-rect-init c = first-none c.deref-rect-items.result.now (item_at c.args.items.now c.args.at.number).owner c.args.zones.now.items
 
 pub loop-rect-preserved : goal.loop-rect-preserved
 loop-rect-preserved c =
     rw c.in_ok-push.ensures.items
-    (first-more c.deref-rect-items.result.now c.loop-rect.rect-index (item_at c.args.items.now c.args.n).owner _ c.args.zones.now.items c.loop-rect.zones.items
+    (first-more c.deref-rect-items.result.now c.loop-rect.rect-index (item_at c.args.items.now c.args.at.number).owner _ c.args.zones.now.items c.loop-rect.zones.items
     c.loop-rect-test.true (λ d. get_or_default _ _ _ _ c.loop-rect-test.true) c.owner_of-owner.ensures c.loop-rect.invariant)
 
 pub returns : goal.returns
 returns c =
-    item-added (IsItemZone c.args.shades.now.spacing c.args.shades.now.overlap c.args.items.now c.args.n) c.in_ok-found.found.items c.loop-rect.rect-index
-    (item_at c.args.items.now c.args.n).owner c.args.zones.now.items c.loop-rect.zones.items (rw c.deref-rect-items.ensures.value at c.loop-rect-test.false) c.in_ok-found.ensures
+    item-added (IsItemZone c.args.shades.now.spacing c.args.shades.now.overlap c.args.items.now c.args.at.number) c.zones_of_item.new.room.zones.items c.loop-rect.rect-index
+    (item_at c.args.items.now c.args.at.number).owner c.args.zones.now.items c.loop-rect.zones.items (rw c.deref-rect-items.ensures.value at c.loop-rect-test.false) c.in_ok-zones_of_item.ensures
     (rw c.deref-rect-items.ensures.value at c.loop-rect.invariant)

@@ -6,4 +6,4 @@ use Rattle.dpl_zone.proofs.Features.{FirstOf}
 use Rattle.dpl_zone.proofs.slab_zones.add_item.Given as goal
 
 abbrev pub invariant-loop-rect : goal.invariant-loop-rect
-invariant-loop-rect l = (z : Zone) → Contains l.zones.items z ↔ (Contains l.initial.zones.items z ⊎ ((z.feature ≡ (item_at l.items l.n).owner) × FirstOf l.rect-items l.rect-index z.rect))
+invariant-loop-rect l = (z : Zone) → Contains l.zones.items z ↔ (Contains l.initial.zones.items z ⊎ ((z.feature ≡ (item_at l.items l.fn.at.number).owner) × FirstOf l.rect-items l.rect-index z.rect))
