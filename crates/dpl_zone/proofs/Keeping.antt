@@ -87,17 +87,17 @@ upright-inside spacing overlap l f z some h =
 abbrev pub KeptOf : List Zone → List Zone → ℕ → Zone → Type 0
 KeptOf flat zs n w = (k : ℕ) × (k < n) × (k < length zs) × (get_or zs k w ≡ w) × (TouchesOwn flat w → ⊥)
 
-pub apart-added : (kept : List Zone) (items : List Item) (z : Zone) → (TouchesItem items z → ⊥) → (w : Zone)
-    → Contains (kept ++ z ∷ []) w ↔ (Contains kept w ⊎ ((z ≡ w) × (TouchesItem items w → ⊥)))
-apart-added kept items z free w = (
-  λ h. elim (Contains-push_cases kept z w h) [ inl a ↦ inl a | inr e ↦ inr (e, subst (λ (u : Zone). TouchesItem items u → ⊥) e free) ],
+pub apart-added : (kept : List Zone) (P : Zone → Type 0) (z : Zone) → (P z → ⊥) → (w : Zone)
+    → Contains (kept ++ z ∷ []) w ↔ (Contains kept w ⊎ ((z ≡ w) × (P w → ⊥)))
+apart-added kept P z free w = (
+  λ h. elim (Contains-push_cases kept z w h) [ inl a ↦ inl a | inr e ↦ inr (e, subst (λ (u : Zone). P u → ⊥) e free) ],
   λ h. elim h [ inl a ↦ Contains-append_left kept (z ∷ []) w a | inr (e, f) ↦ subst (λ (u : Zone). Contains (kept ++ z ∷ []) u) e (Contains-push kept z) ],
 )
 
-pub apart-none : (kept : List Zone) (items : List Item) (z : Zone) → TouchesItem items z → (w : Zone) → Contains kept w ↔ (Contains kept w ⊎ ((z ≡ w) × (TouchesItem items w → ⊥)))
-apart-none kept items z touch w = (
+pub apart-none : (kept : List Zone) (P : Zone → Type 0) (z : Zone) → P z → (w : Zone) → Contains kept w ↔ (Contains kept w ⊎ ((z ≡ w) × (P w → ⊥)))
+apart-none kept P z touch w = (
   λ a. inl a,
-  λ a. elim a [ inl b ↦ b | inr (e, f) ↦ absurd (f (subst (λ (u : Zone). TouchesItem items u) e touch)) ],
+  λ a. elim a [ inl b ↦ b | inr (e, f) ↦ absurd (f (subst P e touch)) ],
 )
 
 -- the items are the zones of the list, by feature
@@ -160,10 +160,10 @@ tree-all zones n items tree all h same r k = (
   λ (z, (i, i_in, is), e, f). (same r k).1 ((h r k).1 (z, i, omega (arith, all, i_in), i_in, is, e, f)),
 )
 
-pub kept-more : (flat zs : List Zone) (i : ℕ) (z : Zone) (old new : List Zone) → i < length zs → z ≡ get_or zs i z
-    → ((w : Zone) → Contains old w ↔ (Contains flat w ⊎ KeptOf flat zs i w)) → ((w : Zone) → Contains new w ↔ (Contains old w ⊎ ((z ≡ w) × (TouchesOwn flat w → ⊥))))
-    → (w : Zone) → Contains new w ↔ (Contains flat w ⊎ KeptOf flat zs (i + 1) w)
-kept-more flat zs i z old new i_in is before step w = (
+pub kept-more : (base flat zs : List Zone) (i : ℕ) (z : Zone) (old new : List Zone) → i < length zs → z ≡ get_or zs i z
+    → ((w : Zone) → Contains old w ↔ (Contains base w ⊎ KeptOf flat zs i w)) → ((w : Zone) → Contains new w ↔ (Contains old w ⊎ ((z ≡ w) × (TouchesOwn flat w → ⊥))))
+    → (w : Zone) → Contains new w ↔ (Contains base w ⊎ KeptOf flat zs (i + 1) w)
+kept-more base flat zs i z old new i_in is before step w = (
   λ h. elim ((step w).0 h) [
     | inl a ↦ elim ((before w).0 a) [ inl b ↦ inl b | inr (k, l, k_in, k_is, f) ↦ inr (k, omega (arith, l), k_in, k_is, f) ]
     | inr (e, f) ↦ inr (i, omega arith, i_in, get_or_default zs i w z i_in ∙ (sym is ∙ e), f)
@@ -177,8 +177,8 @@ kept-more flat zs i z old new i_in is before step w = (
   ],
 )
 
-pub kept-none : (flat zs kept : List Zone) → kept ≡ flat → (w : Zone) → Contains kept w ↔ (Contains flat w ⊎ KeptOf flat zs 0 w)
-kept-none flat zs kept is w = rw is ((λ h. inl h), (λ h. elim h [ inl a ↦ a | inr (k, l, k_in, k_is, f) ↦ absurd (omega (arith, l)) ]))
+pub kept-none : (base flat zs kept : List Zone) → kept ≡ base → (w : Zone) → Contains kept w ↔ (Contains base w ⊎ KeptOf flat zs 0 w)
+kept-none base flat zs kept is w = rw is ((λ h. inl h), (λ h. elim h [ inl a ↦ a | inr (k, l, k_in, k_is, f) ↦ absurd (omega (arith, l)) ]))
 
 -- where there is no horizontal zone, all vertical ones are kept
 pub joined-no_flat : (flat zs : List Zone) → length flat ≡ 0 → (w : Zone) → Contains zs w ↔ (Contains flat w ⊎ (Contains zs w × (TouchesOwn flat w → ⊥)))
@@ -190,10 +190,10 @@ joined-no_flat flat zs none w = (
 pub joined-no_upright : (flat zs : List Zone) → length zs ≡ 0 → (w : Zone) → Contains flat w ↔ (Contains flat w ⊎ (Contains zs w × (TouchesOwn flat w → ⊥)))
 joined-no_upright flat zs none w = (λ h. inl h, λ h. elim h [ inl a ↦ a | inr ((i, i_in, i_is), free) ↦ absurd (omega (arith, i_in, none)) ])
 
-pub joined-all : (flat zs kept : List Zone) (n : ℕ) → length zs ≤ n
-    → ((w : Zone) → Contains kept w ↔ (Contains flat w ⊎ KeptOf flat zs n w)) → (w : Zone)
-    → Contains kept w ↔ (Contains flat w ⊎ (Contains zs w × (TouchesOwn flat w → ⊥)))
-joined-all flat zs kept n all h w = (
+pub kept-all : (base flat zs kept : List Zone) (n : ℕ) → length zs ≤ n
+    → ((w : Zone) → Contains kept w ↔ (Contains base w ⊎ KeptOf flat zs n w)) → (w : Zone)
+    → Contains kept w ↔ (Contains base w ⊎ (Contains zs w × (TouchesOwn flat w → ⊥)))
+kept-all base flat zs kept n all h w = (
   λ a. elim ((h w).0 a) [ inl b ↦ inl b | inr (k, l, k_in, k_is, free) ↦ inr ((k, k_in, k_is), free) ],
   λ a. (h w).1 (elim a [ inl b ↦ inl b | inr ((k, k_in, k_is), free) ↦ inr (k, omega (arith, all, k_in), k_in, k_is, free) ]),
 )

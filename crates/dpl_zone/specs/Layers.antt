@@ -1,5 +1,5 @@
 -- The features of a layer, and zones by feature.
-use Rattle.std.specs.Prelude.{◌≡◌, ℕ, List}
+use Rattle.std.specs.Prelude.{◌≡◌, ℕ, ◌<◌, ◌≤◌, List, length, slice_index_or}
 use Rattle.std.specs.List.{Contains}
 use Rattle.dpl_spec_split.specs.declared.Spacing.{Spacing}
 use Rattle.dpl_spec_split.specs.declared.Rect.{Rect}
@@ -17,6 +17,20 @@ IsPartZone spacing overlap parts z = IsKeptZone spacing overlap (union_of parts)
 -- a zone of the list that is of the same feature touches this one
 abbrev pub TouchesOwn : List Zone → Zone → Type 0
 TouchesOwn flat z = (h : Zone) × Contains flat h × (h.feature ≡ z.feature) × AreTouching (Has h.rect) (Has z.rect)
+
+-- zones of one feature that touch
+abbrev pub TouchIn : Zone → Zone → Type 0
+TouchIn h z = (h.feature ≡ z.feature) × AreTouching (Has h.rect) (Has z.rect)
+
+abbrev pub FeaturesRise : List Zone → Type 0
+FeaturesRise zones = (i j : ℕ) (d : Zone) → i ≤ j → j < length zones → (slice_index_or zones i d).feature ≤ (slice_index_or zones j d).feature
+
+-- the zones from place start up to but not end are of features below k, and the one at end isn't
+pub record IsPassed (zones : List Zone) (start k end : ℕ) : Type 0 where
+  pub from : start ≤ end
+  pub within : end ≤ length zones
+  pub before : (i : ℕ) (d : Zone) → start ≤ i → i < end → i < length zones → (slice_index_or zones i d).feature < k
+  pub after : (d : Zone) → end < length zones → k ≤ (slice_index_or zones end d).feature
 
 -- an item of the zone's feature touches it
 abbrev pub TouchesItem : List Item → Zone → Type 0
