@@ -1,25 +1,22 @@
 -- A sweep over the items of one strip.
-use Rattle.std.proofs.Common.{◌≡◌, ℕ, ◌+◌, ◌<◌, ◌≤◌, ◌⊎◌, inl, inr, true, false, nat_lt, List, length, map, get_or, Ordering, refl, sym, ap, ◌∙◌, subst, arith}
-use Rattle.std.specs.Prelude.{◌↔◌, ◌≢◌, ℤ, pos, ◌+ℤ◌, ◌≤ℤ◌, ◌<ℤ◌}
+use Rattle.std.proofs.Common.{◌≡◌, ℕ, ◌+◌, ◌<◌, ◌≤◌, ◌⊎◌, inl, inr, true, false, nat_lt, List, length, get_or, Ordering, refl, sym, ap, ◌∙◌, subst, arith}
+use Rattle.std.specs.Prelude.{◌↔◌, ℤ, pos, ◌+ℤ◌, ◌≤ℤ◌, ◌<ℤ◌}
 use Rattle.std.specs.Ordering.{is_lt, int_cmp}
 use Rattle.std.specs.declared.cmp.Ordering.TheVariants.{Less, Equal, Greater}
-use Rattle.std.specs.List.{All, AllPairs, Contains}
-use Rattle.std.specs.List.Sorted.{IsPermutation, IsSortedByKey}
+use Rattle.std.specs.List.{Contains}
+use Rattle.std.specs.List.Sorted.{IsSortedByKey}
 use Rattle.std.proofs.lemmas.Bool.{cases_eq, cases_lt, cases_order}
 use Rattle.std.proofs.lemmas.Cmp.{int_ranked, int_cmp_total}
 use Rattle.std.proofs.lemmas.Int.{ints}
-use Rattle.std.proofs.lemmas.List.{get_or_default, get_or-map, length-map}
-use Rattle.std.proofs.lemmas.List.Elements.{All-map, Contains-get_or}
-use Rattle.std.proofs.lemmas.List.Sorted.{All-permutation, Contains-permutation, IsPermutation-map, IsPermutation-sym, sorted_far, ranks_by}
-use Rattle.std.proofs.lemmas.Simd.{map-map}
-use Rattle.dpl_sweep.proofs.Permuted.{AllPairs-permutation}
+use Rattle.std.proofs.lemmas.List.{get_or_default}
+use Rattle.std.proofs.lemmas.List.Elements.{Contains-get_or}
+use Rattle.std.proofs.lemmas.List.Sorted.{sorted_far, ranks_by}
 use Rattle.dpl_join.specs.declared.items.Item.{Item}
 use Rattle.dpl_join.specs.declared.sweep.Entry.{Entry}
-use Rattle.dpl_join.specs.declared.sweep.Key.{Key}
 use Rattle.dpl_join.specs.declared.sweep.Place.{Place}
 use Rattle.dpl_join.specs.Listing.{Grows, Lists}
-use Rattle.dpl_join.specs.Pairs.{item_at}
-use Rattle.dpl_join.specs.Sweeps.{AddsPair, AreDifferent, IsMet, IsMetAmong, IsMetBelow, IsMetWith, KeysRise, LeftsRise, ends, entry_at, entry_of, key_of, keyed_entry, no_entry}
+use Rattle.dpl_join.specs.Bands.{AreByLeft}
+use Rattle.dpl_join.specs.Sweeps.{AddsPair, AreDifferent, IsMet, IsMetAmong, IsMetBelow, IsMetWith, LeftsRise, ends, entry_at, entry_of, no_entry}
 use Rattle.dpl_join.proofs.ListLaws.{grows-push, grows-same, lists-grow, lists-same}
 use Rattle.dpl_join.proofs.PairLaws.{close-flip, common-flip}
 
@@ -29,29 +26,10 @@ at_most x y Equal e h = let same : x ≡ y = int_ranked x y Equal e in omega (ar
 at_most x y Greater e h = let l : y <ℤ x = int_ranked x y Greater e in omega (arith, ints)
 
 -- what a sort by left column leaves
-pub keys-rise : (keys : List Key) → IsSortedByKey (λ key. key.x0) int_cmp keys → KeysRise keys
-keys-rise keys h i j d l within =
-    at_most (get_or keys j d).x0 (get_or keys i d).x0 _ refl
-    (sorted_far (λ a b. is_lt (int_cmp a.x0 b.x0)) (ranks_by int_cmp_total (λ key. key.x0)) keys h i j d l within)
-
-module _ (items : List Item) (numbers : List ℕ) (keys : List Key) (same : IsPermutation (map (key_of items) numbers) keys) where
-  pub keys-known : All (λ n. n < length items) numbers → All (λ (key : Key). key.number < length items) keys
-  keys-known known = All-permutation (λ (key : Key). key.number < length items) (map (key_of items) numbers) keys same (All-map (λ (key : Key). key.number < length items) (key_of items) numbers known)
-
-  keys-own : All (λ (key : Key). key.x0 ≡ (item_at items key.number).rect.x0) keys
-  keys-own = All-permutation (λ (key : Key). key.x0 ≡ (item_at items key.number).rect.x0) (map (key_of items) numbers) keys same
-      (All-map (λ (key : Key). key.x0 ≡ (item_at items key.number).rect.x0) (key_of items) numbers (λ k d k_in. refl))
-
-  pub keyed-same : IsPermutation (map (entry_of items) numbers) (map (keyed_entry items) keys)
-  keyed-same = subst (λ es. IsPermutation es (map (keyed_entry items) keys)) (map-map (keyed_entry items) (key_of items) numbers)
-      (IsPermutation-map (keyed_entry items) (map (key_of items) numbers) keys same)
-
-  pub keyed-rise : KeysRise keys → LeftsRise (map (keyed_entry items) keys)
-  keyed-rise rise i j d l j_in =
-      let no_key : Key = record { x0 = pos 0; number = 0 } in
-      let j_at : j < length keys = subst (λ n. j < n) (length-map keys (keyed_entry items)) j_in in
-      let i_at : i < length keys = omega (arith, l, j_at) in
-      rw (get_or-map (keyed_entry items) keys i no_key d i_at, get_or-map (keyed_entry items) keys j no_key d j_at, ← keys-own i no_key i_at, ← keys-own j no_key j_at) (rise i j no_key l j_at)
+pub lefts-rise : (es : List Entry) → IsSortedByKey (λ (e : Entry). e.rect.x0) int_cmp es → LeftsRise es
+lefts-rise es h i j d l within =
+    at_most (get_or es j d).rect.x0 (get_or es i d).rect.x0 _ refl
+    (sorted_far (λ (a b : Entry). is_lt (int_cmp a.rect.x0 b.rect.x0)) (ranks_by int_cmp_total (λ (e : Entry). e.rect.x0)) es h i j d l within)
 
 -- ---- two entries
 
@@ -172,34 +150,29 @@ module _ (place : Place) (es : List Entry) (different : AreDifferent es) where
 
 -- ---- the entries of items
 
-module _ (place : Place) (items : List Item) (numbers : List ℕ) (es : List Entry) (rise : AllPairs (λ i j. i < j) numbers) (same : IsPermutation (map (entry_of items) numbers) es) where
-  mapped-differ : AreDifferent (map (entry_of items) numbers)
-  mapped-differ i j d l j_in e =
-      let j_at : j < length numbers = subst (λ n. j < n) (length-map numbers (entry_of items)) j_in in
-      let i_is = get_or-map (entry_of items) numbers i 0 d (omega (arith, l, j_at)) in
-      let j_is = get_or-map (entry_of items) numbers j 0 d j_at in
-      let f : get_or numbers i 0 ≡ get_or numbers j 0 = sym (ap (λ (x : Entry). x.number) i_is) ∙ (e ∙ ap (λ (x : Entry). x.number) j_is) in
-      let less = rise i j 0 l j_at in
-      omega (arith, f, less)
-
+module _ (place : Place) (items : List Item) (numbers : List ℕ) (es : List Entry) (sorted : AreByLeft items numbers es) where
   pub entries-differ : AreDifferent es
-  entries-differ = AllPairs-permutation (λ (e f : Entry). e.number ≢ f.number) (λ e f h k. h (sym k)) (map (entry_of items) numbers) es same mapped-differ
+  entries-differ i j d l j_in = (sorted.order i j d l j_in).apart
+
+  pub entries-rise : LeftsRise es
+  entries-rise i j d l j_in = elim (cases_eq i j) [
+    | inl e ↦ (let f = ap (λ k. (get_or es k d).rect.x0) e in omega (arith, ints, f))
+    | inr ne ↦ (sorted.order i j d (omega (arith, l, ne)) j_in).left
+  ]
 
   entry-from : (i : ℕ) → i < length es → Contains numbers (entry_at es i).number × (entry_at es i ≡ entry_of items (entry_at es i).number)
   entry-from i i_in =
-      let (k, k_in, k_is) = Contains-permutation es (map (entry_of items) numbers) (entry_at es i) (IsPermutation-sym (map (entry_of items) numbers) es same) (Contains-get_or es i no_entry i_in) in
-      let k_at : k < length numbers = subst (λ n. k < n) (length-map numbers (entry_of items)) k_in in
-      let is : entry_of items (get_or numbers k 0) ≡ entry_at es i = sym (get_or-map (entry_of items) numbers k 0 (entry_at es i) k_at) ∙ k_is in
-      let number : get_or numbers k 0 ≡ (entry_at es i).number = ap (λ (x : Entry). x.number) is in (
-        subst (Contains numbers) number (Contains-get_or numbers k 0 k_at),
-        sym is ∙ ap (entry_of items) number,
+      let of = sorted.known i no_entry i_in in
+      let number : get_or numbers of.place 0 ≡ (entry_at es i).number = sym (ap (λ (x : Entry). x.number) of.is) in (
+        subst (Contains numbers) number (Contains-get_or numbers of.place 0 of.before),
+        of.is ∙ ap (entry_of items) number,
       )
 
   entry-to : (n : ℕ) → Contains numbers n → (i : ℕ) × (i < length es) × (entry_at es i ≡ entry_of items n)
   entry-to n (k, k_in, k_is) =
-      let f : get_or (map (entry_of items) numbers) k (entry_of items n) ≡ entry_of items n = get_or-map (entry_of items) numbers k n (entry_of items n) k_in ∙ ap (entry_of items) k_is in
-      let (i, i_in, i_is) = Contains-permutation (map (entry_of items) numbers) es (entry_of items n) same (k, subst (λ m. k < m) (sym (length-map numbers (entry_of items))) k_in, f) in
-      (i, i_in, get_or_default es i no_entry (entry_of items n) i_in ∙ i_is)
+      let number : get_or numbers k 0 ≡ n = get_or_default numbers k 0 n k_in ∙ k_is in
+      let (i, i_in, i_is) = sorted.all k k_in in
+      (i, i_in, get_or_default es i no_entry (entry_of items (get_or numbers k 0)) i_in ∙ (i_is ∙ ap (entry_of items) number))
 
   among-of : (a b : Entry) → Contains numbers a.number → Contains numbers b.number → a ≡ entry_of items a.number → b ≡ entry_of items b.number → a.number < b.number → IsMet place a b
       → IsMetAmong place items numbers (a.number, b.number)

@@ -5,22 +5,12 @@ use Rattle.dpl_spec_split.specs.declared.Rect.{Rect}
 use Rattle.dpl_join.specs.declared.items.Item.{Item}
 use Rattle.dpl_join.specs.declared.sweep.Entry.{Entry}
 use Rattle.dpl_join.specs.declared.sweep.Home.{Home}
-use Rattle.dpl_join.specs.declared.sweep.Key.{Key}
 use Rattle.dpl_join.specs.declared.sweep.Place.{Place}
 use Rattle.dpl_join.specs.Pairs.{AreClose, item_at}
 use Rattle.dpl_join.specs.Strips.{common_strip}
 
 abbrev pub entry_of : List Item → ℕ → Entry
 entry_of items n = record { rect = (item_at items n).rect; owner = (item_at items n).owner; number = n }
-
-abbrev pub key_of : List Item → ℕ → Key
-key_of items n = record { x0 = (item_at items n).rect.x0; number = n }
-
-abbrev pub keyed_entry : List Item → Key → Entry
-keyed_entry items key = entry_of items key.number
-
-abbrev pub KeysRise : List Key → Type 0
-KeysRise keys = (i j : ℕ) (d : Key) → i ≤ j → j < length keys → (slice_index_or keys i d).x0 ≤ℤ (slice_index_or keys j d).x0
 
 abbrev pub no_entry : Entry
 no_entry = record { rect = record { x0 = pos 0; y0 = pos 0; x1 = pos 0; y1 = pos 0 }; owner = 0; number = 0 }

@@ -1,6 +1,7 @@
 //! Which rectangles of different owners lie close to one another, found strip by strip of rows.
 #![tactic(auto)]
 
+mod bands;
 mod close;
 mod items;
 mod join;
