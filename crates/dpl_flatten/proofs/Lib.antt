@@ -6,6 +6,7 @@ pub mod RoleLaws
 pub mod DrawnLaws
 pub mod FoundLaws
 pub mod CopyLaws
+pub mod PointLaws
 pub mod WithinLaws
 pub mod BareLaws
 pub mod CellLaws

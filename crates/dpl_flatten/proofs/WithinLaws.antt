@@ -1,5 +1,5 @@
 -- What is drawn lies within a bound.
-use Rattle.std.proofs.Common.{◌≡◌, ℕ, ◌*◌, ◌^◌, ◌<◌, ◌≤◌, ⊎_elim, Bool, true, false, cond, ℤ, pos, ◌≤ℤ◌, List, [], ◌∷◌, map, refl, arith}
+use Rattle.std.proofs.Common.{◌≡◌, ℕ, ◌*◌, ◌^◌, ◌<◌, ◌≤◌, ⊎_elim, Bool, true, false, cond, ℤ, pos, ◌≤ℤ◌, List, [], ◌∷◌, map, refl, arith, inl, inr}
 use Rattle.std.proofs.Math.Nat.{mul-le-mul_left}
 use Rattle.std.proofs.lemmas.Int.{ints, by_lt_z}
 use Rattle.std.proofs.lemmas.List.Elements.{All-cons, All-tail, All-head}
@@ -7,7 +7,7 @@ use Rattle.std.specs.List.{All}
 use Rattle.std.specs.Prelude.{unsigned_abs}
 use Rattle.dpl_spec_split.specs.declared.Pt.{Pt}
 use Rattle.dpl_spec_split.specs.declared.Rect.{Rect}
-use Rattle.dpl_spec_split.specs.Loops.{IsPointWithin, ArePointsWithin, AreLoopsWithin, IsRectWithin}
+use Rattle.dpl_spec_split.specs.Loops.{IsPointWithin, ArePointsWithin, AreLoopsWithin, IsRectWithin, IsLevelOrUpright, IsRectilinear}
 use Rattle.dpl_spec_split.proofs.Ordered.{Contains-head, Contains-later, Contains-cases, Contains-nil}
 use Rattle.dpl_spec_elements.specs.declared.Heading.{Heading}
 use Rattle.dpl_spec_elements.specs.declared.Heading.TheVariants.{East, North, West, South}
@@ -17,7 +17,7 @@ use Rattle.dpl_spec_elements.specs.Paths.{same, heading, same_heading, segments_
 use Rattle.dpl_spec_elements.specs.Paths.{rects_through, path_rects, path_of, corners_of, distinct, PathElement}
 use Rattle.dpl_shapes.specs.declared.fault.ShapeFault.{ShapeFault}
 use Rattle.dpl_shapes.specs.declared.fault.ShapeFault.TheVariants.{SlantedBoundary, Path, NoMemory}
-use Rattle.dpl_shapes.specs.Refusals.{RefusesBoundary, RefusesPath}
+use Rattle.dpl_shapes.specs.Refusals.{RefusesPath}
 use Rattle.dpl_shapes.specs.Strokes.{IsSegmentWithin}
 use Rattle.dpl_shapes.proofs.Members.{Contains-distinct}
 use Rattle.dpl_shapes.proofs.Ends.{past-within}
@@ -143,12 +143,32 @@ path_within ps width kind begin end h w b e =
     (cond_all (IsRectWithin (2 ^ 61)) (same width (pos 0)) [] (rects_through (path_of ps width kind begin end) (distinct ps)) (all_nil (IsRectWithin (2 ^ 61)))
     (through_within (path_of ps width kind begin end) (distinct ps) w b e (λ p c. h p (Contains-distinct ps p c))))
 
+pub one_within : (ps : List Pt) → ArePointsWithin (2 ^ 31) ps → AreLoopsWithin (2 ^ 61) (ps ∷ [])
+one_within ps w = All-cons (λ qs. ArePointsWithin (2 ^ 61) qs) ps [] (λ p c. wider p (w p c)) (all_nil (λ qs. ArePointsWithin (2 ^ 61) qs))
+  where
+    wider : (p : Pt) → IsPointWithin (2 ^ 31) p → IsPointWithin (2 ^ 61) p
+    wider p h = let x = h.column in let y = h.row in record { column = omega (arith, x); row = omega (arith, y) }
+
 -- ---- what isn't refused
 
-pub only_memory : (ps : List Pt) (e : ShapeFault) → ¬ IsSlanted ps → RefusesBoundary ps e → e ≡ NoMemory
-only_memory ps SlantedBoundary h r = absurd (h r)
-only_memory ps NoMemory h r = refl
-only_memory ps (Path f) h r = absurd r
+-- an edge is parallel to an axis, or it isn't
+level_or_upright : (p q : Pt) → ((IsLevelOrUpright p q → ⊥) → ⊥) → IsLevelOrUpright p q
+level_or_upright p q h =
+    by_lt_z p.x q.x
+    (λ k. row (λ e. omega (arith, ints, k, e)))
+    (λ k. by_lt_z q.x p.x (λ l. row (λ e. omega (arith, ints, l, e))) (λ l. inl (omega (arith, ints, k, l))))
+  where
+    row : (p.x ≡ q.x → ⊥) → IsLevelOrUpright p q
+    row x =
+        by_lt_z p.y q.y
+        (λ k. absurd (h (λ e. ⊎_elim x (λ (y : p.y ≡ q.y). omega (arith, ints, k, y)) e)))
+        (λ k. by_lt_z q.y p.y (λ l. absurd (h (λ e. ⊎_elim x (λ (y : p.y ≡ q.y). omega (arith, ints, l, y)) e))) (λ l. inr (omega (arith, ints, k, l))))
+
+pub one_straight : (ps : List Pt) → ¬ IsSlanted ps → All IsRectilinear (ps ∷ [])
+one_straight ps h = All-cons IsRectilinear ps [] (record {
+  between = λ k d l. level_or_upright _ _ (λ slanted. h (λ r. slanted (r.between k d l)));
+  closing = λ d. level_or_upright _ _ (λ slanted. h (λ r. slanted (r.closing d)));
+}) (all_nil IsRectilinear)
 
 pub only_path_memory : (p : PathElement) (e : ShapeFault) → ((f : ElementFault) → ¬ IsPathFault p f) → RefusesPath p e → e ≡ NoMemory
 only_path_memory p SlantedBoundary h r = absurd r

@@ -22,7 +22,7 @@ use crate::role::{PathStyle, Role, role_of};
 use crate::shapes::points_of;
 use dpl_base::{Listed, Loop};
 use dpl_reference::{array_copies, single_copy};
-use dpl_shapes::{ShapeFault, boundary_loop, path_loops};
+use dpl_shapes::{ShapeFault, path_loops};
 use dpl_spec_layout::Layer;
 use dpl_syntax::{Body, Element, Library};
 use dpl_walk::{Cell, Copies, Outline};
@@ -38,22 +38,21 @@ fn out_of_memory(fault: ShapeFault) -> AllocError
     }
 }
 
-/// The loop of a boundary or box that isn't refused.
-fn boundary_outlines(alloc: Global, xy: &[u8]) -> Result<Vec<Loop>, AllocError>
+/// Notes the loop that a boundary or box draws which isn't refused.
+fn draw_boundary(
+    alloc: Global,
+    at: usize,
+    xy: &[u8],
+    outlines: &mut Vec<Outline>,
+) -> Result<(), AllocError>
     requires { ¬ IsSlanted (points_in xy.now) }
-    ensures loops { IfOk result (λ v. v.items ≡ points_in xy.now ∷ []) }
-    ensures straight { IfOk result (λ v. All IsRectilinear v.items) }
-    ensures within { IfOk result (λ v. AreLoopsWithin (2 ^ 61) v.items) }
+    ensures outlines { OnOk result (outlines.new.items ≡ outlines.old.items ++ record { at = at; points = points_in xy.now } ∷ []) }
+    ensures straight { OnOk result (All IsRectilinear (points_in xy.now ∷ [])) }
+    ensures within { OnOk result (AreLoopsWithin (2 ^ 61) (points_in xy.now ∷ [])) }
 {
-    let points = points_of(alloc, xy)?;
-    match boundary_loop(alloc, points.as_slice()) {
-        Err(fault) => Err(out_of_memory(fault)),
-        Ok(outline) => {
-            let mut loops = Vec::with_capacity(alloc, 1)?;
-            loops.push(outline)?;
-            Ok(loops)
-        }
-    }
+    let points = Loop::of(points_of(alloc, xy)?);
+    outlines.push(Outline { at, points })?;
+    Ok(())
 }
 
 /// The loops of a path that isn't refused.
@@ -77,18 +76,24 @@ fn path_outlines(alloc: Global, style: PathStyle, xy: &[u8]) -> Result<Vec<Loop>
     }
 }
 
-/// The loops that an element draws.
-fn element_loops(alloc: Global, chosen: Layer, body: &Body<'_>) -> Result<Vec<Loop>, AllocError>
-    requires { (f : ElementFault) → ¬ IsRefusedFor chosen (body_seen body.now) f }
-    ensures loops { IfOk result (λ v. v.items ≡ loops_of chosen (body_seen body.now)) }
-    ensures straight { IfOk result (λ v. All IsRectilinear v.items) }
-    ensures within { IfOk result (λ v. AreLoopsWithin (2 ^ 61) v.items) }
+/// Notes the loops that a path draws which isn't refused.
+fn draw_path(
+    alloc: Global,
+    at: usize,
+    style: PathStyle,
+    xy: &[u8],
+    outlines: &mut Vec<Outline>,
+) -> Result<(), AllocError>
+    requires { (f : ElementFault) → ¬ IsPathFault (path_along style xy.now) f }
+    ensures outlines { OnOk result (outlines.new.items ≡ outlines.old.items ++ map (λ qs. record { at = at; points = qs }) (map corners_of (path_rects (path_along style xy.now)))) }
+    ensures straight { OnOk result (All IsRectilinear (map corners_of (path_rects (path_along style xy.now)))) }
+    ensures within { OnOk result (AreLoopsWithin (2 ^ 61) (map corners_of (path_rects (path_along style xy.now)))) }
 {
-    match role_of(chosen, body) {
-        Role::Boundary { xy } => boundary_outlines(alloc, xy),
-        Role::Path { style, xy } => path_outlines(alloc, style, xy),
-        _ => Ok(Vec::new(alloc)),
+    let loops = path_outlines(alloc, style, xy)?;
+    for points in loops {
+        outlines.push(Outline { at, points })?;
     }
+    Ok(())
 }
 
 /// Notes the loops that an element draws.
@@ -103,14 +108,11 @@ fn draw(
     ensures straight { OnOk result (All IsRectilinear (loops_of chosen (body_seen element.now.body))) }
     ensures within { OnOk result (AreLoopsWithin (2 ^ 61) (loops_of chosen (body_seen element.now.body))) }
 {
-    let loops = element_loops(alloc, chosen, &element.body)?;
-    for points in loops {
-        outlines.push(Outline {
-            at: element.at,
-            points,
-        })?;
+    match role_of(chosen, &element.body) {
+        Role::Boundary { xy } => draw_boundary(alloc, element.at, xy, outlines),
+        Role::Path { style, xy } => draw_path(alloc, element.at, style, xy, outlines),
+        _ => Ok(()),
     }
-    Ok(())
 }
 
 /// The copies that a reference to a structure places, which isn't refused.

@@ -27,7 +27,7 @@ fn fault_of(
 {
     match role_of(chosen, &element.body) {
         Role::Nothing => Ok(None),
-        Role::Boundary { xy } => boundary_fault(alloc, xy),
+        Role::Boundary { xy } => Ok(boundary_fault(xy)),
         Role::Path { style, xy } => path_fault(alloc, style, xy),
         Role::Single { trans } => Ok(single_fault(trans)),
         Role::Array {

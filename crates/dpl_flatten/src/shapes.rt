@@ -1,7 +1,8 @@
 //! What boundaries, boxes and paths draw.
 
-ghost use Rattle.std.specs.Prelude.{◌≡◌, ◌+◌, ◌*◌, ◌^◌, ◌≤◌, ◌%◌, ℤ, pos, length, unwrap_or, IfOk, OnOk};
-ghost use Rattle.dpl_spec_split.specs.Loops.{ArePointsWithin};
+ghost use Rattle.std.specs.Prelude.{◌≡◌, ◌+◌, ◌*◌, ◌^◌, ◌≤◌, ◌%◌, ℤ, pos, length, unwrap_or, IfOk, OnOk, MatchBool};
+ghost use Rattle.dpl_spec_split.specs.Loops.{ArePointsWithin, IsRectilinear};
+ghost use Rattle.dpl_spec_elements.specs.Boundaries.{IsSlanted};
 ghost use Rattle.dpl_spec_layout.specs.Elements.{points_in, IsBoundaryFault, IsPathFault};
 ghost use Rattle.dpl_reference.specs.Faults.{IsFaultBy};
 ghost use Rattle.dpl_flatten.specs.Roles.{path_along};
@@ -9,7 +10,7 @@ ghost use Rattle.dpl_flatten.specs.Roles.{path_along};
 use crate::role::PathStyle;
 use dpl_base::Pt;
 use dpl_reference::point_at;
-use dpl_shapes::{ShapeFault, check_path, is_rectilinear};
+use dpl_shapes::{ShapeFault, check_path, is_level_or_upright};
 use dpl_spec_layout::ElementFault;
 use std::alloc::{AllocError, Global};
 
@@ -25,15 +26,34 @@ pub(crate) fn points_of(alloc: Global, xy: &[u8]) -> Result<Vec<Pt>, AllocError>
     Ok(points)
 }
 
-/// What a boundary or box is refused for.
-pub(crate) fn boundary_fault(alloc: Global, xy: &[u8]) -> Result<Option<ElementFault>, AllocError>
-    ensures { IfOk result (IsFaultBy (IsBoundaryFault (points_in xy.now))) }
+/// Whether each edge of a boundary or box is parallel to an axis, by the data of its XY.
+fn is_upright(xy: &[u8]) -> bool
+    ensures { MatchBool result (IsRectilinear (points_in xy.now)) (IsSlanted (points_in xy.now)) }
 {
-    let points = points_of(alloc, xy)?;
-    if is_rectilinear(&points) {
-        Ok(None)
+    let count = xy.len() / 8;
+    if count == 0 {
+        return true;
+    }
+    let first = point_at(xy, 0);
+    let mut last = first;
+    for i in 1..count {
+        let point = point_at(xy, i);
+        if !is_level_or_upright(&last, &point) {
+            return false;
+        }
+        last = point;
+    }
+    is_level_or_upright(&last, &first)
+}
+
+/// What a boundary or box is refused for.
+pub(crate) fn boundary_fault(xy: &[u8]) -> Option<ElementFault>
+    ensures { IsFaultBy (IsBoundaryFault (points_in xy.now)) result }
+{
+    if is_upright(xy) {
+        None
     } else {
-        Ok(Some(ElementFault::SlantedBoundary))
+        Some(ElementFault::SlantedBoundary)
     }
 }
 

@@ -24,7 +24,8 @@ pub fn i32_at(body: &[u8], i: usize) -> i32
     requires { i + 4 ≤ length body.now }
     ensures { result ≡ fields.i32_at body.now i }
 {
-    i32::from_be_bytes([body[i], body[i + 1], body[i + 2], body[i + 3]])
+    let field = &body[i..i + 4];
+    i32::from_be_bytes([field[0], field[1], field[2], field[3]])
 }
 
 /// The eight bytes of a real, from `i` on.

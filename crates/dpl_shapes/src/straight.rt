@@ -8,7 +8,7 @@ ghost use Rattle.dpl_shapes.specs.Straight.{IsStraightBelow};
 use dpl_base::Pt;
 
 /// Whether an edge between two points is parallel to an axis.
-fn is_level_or_upright(p: &Pt, q: &Pt) -> bool
+pub fn is_level_or_upright(p: &Pt, q: &Pt) -> bool
     ensures { MatchBool result (IsLevelOrUpright p.now q.now) (IsLevelOrUpright p.now q.now → ⊥) }
 {
     p.x == q.x || p.y == q.y

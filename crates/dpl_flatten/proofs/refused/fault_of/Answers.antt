@@ -13,7 +13,7 @@ pub returns-in-Nothing : goal.returns-in-Nothing
 returns-in-Nothing c = c.in-Nothing.ensures.taken
 
 pub returns-in-Boundary : goal.returns-in-Boundary
-returns-in-Boundary c = IfOk-weaker c.boundary_fault.result _ _ (fault_in _ _ _ c.in-Boundary.ensures) c.boundary_fault.ensures
+returns-in-Boundary c = fault_in _ _ _ c.in-Boundary.ensures _ c.boundary_fault.ensures
 
 pub returns-in-Path : goal.returns-in-Path
 returns-in-Path c = IfOk-weaker c.path_fault.result _ _ (fault_in _ _ _ c.in-Path.ensures) c.path_fault.ensures
