@@ -1,4 +1,3 @@
-use Rattle.std.proofs.Common.{arith}
 use Rattle.dpl_flatten.proofs.ReachLaws.{linked_of}
 use Rattle.dpl_flatten.proofs.placed.count_points.Goals as goal
 
