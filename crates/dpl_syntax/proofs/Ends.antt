@@ -156,3 +156,14 @@ no_properties bytes from f fails before rest reached = fails before rest (regrou
 pub no_endel : (bytes : List ℕ) (from at : ℕ) (f : Fault) → Passes bytes property_first endel_first AreProperties from at
     → reading.take bytes kinds.endel at ≡ Err f → Fails bytes properties_end from f
 no_endel bytes from at f first e = no_properties bytes from f (fails_then bytes property_first endel_first AreProperties from at f first (fails_one bytes at kinds.endel same f e))
+
+-- ENDEL without properties
+pub bare_end : (bytes : List ℕ) (at n : ℕ) (r : Record) → reading.take_if bytes kinds.endel at ≡ Ok (Some r, n) → Passes bytes properties_end same IsEnd at n
+bare_end bytes at n r e =
+    let s = if_some bytes kinds.endel at r n e in
+    let none : reading.take_if bytes kinds.propattr at ≡ Ok (None, at) = rw (s.0, s.1) refl in
+    let found : reading.take bytes kinds.endel at ≡ Ok (r, n) = rw (s.0, s.1, s.2) refl in
+    whole_end bytes at at (r, n) (no_more bytes at at at (passes_none bytes property_first AreProperties at tt) none) found
+
+pub no_end : (bytes : List ℕ) (at : ℕ) (f : Fault) → reading.take_if bytes kinds.endel at ≡ Err f → Fails bytes properties_end at f
+no_end bytes at f e before rest reached = stops bytes before at (properties_end rest) f reached (if_fails bytes kinds.endel at f e)

@@ -68,6 +68,10 @@ impl<'a> Reader<'a> {
         ensures on { self.old.at ≤ self.new.at }
         ensures bytes { self.new.bytes ≡ self.old.bytes }
     {
+        let kind = self.peek()?.kind;
+        if kind != kinds::ELFLAGS && kind != kinds::PLEX {
+            return Ok(());
+        }
         self.take_if(kinds::ELFLAGS)?;
         self.take_if(kinds::PLEX)?;
         Ok(())

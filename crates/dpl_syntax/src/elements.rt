@@ -45,7 +45,7 @@ impl<'a> Reader<'a> {
     }
 
     /// The properties of an element, and its ENDEL.
-    fn take_end(&mut self) -> Result<(), SyntaxFault>
+    fn take_listed_end(&mut self) -> Result<(), SyntaxFault>
         ensures ok { OnOk result (Passes self.old.bytes.now properties_end same IsEnd self.old.at self.new.at) }
         ensures err { IfErr result (λ e. Refuses (Fails self.old.bytes.now properties_end self.old.at) e) }
         ensures on { self.old.at ≤ self.new.at }
@@ -54,6 +54,19 @@ impl<'a> Reader<'a> {
         self.take_properties()?;
         self.take(kinds::ENDEL)?;
         Ok(())
+    }
+
+    /// The end of an element: its ENDEL, mostly without properties before it.
+    fn take_end(&mut self) -> Result<(), SyntaxFault>
+        ensures ok { OnOk result (Passes self.old.bytes.now properties_end same IsEnd self.old.at self.new.at) }
+        ensures err { IfErr result (λ e. Refuses (Fails self.old.bytes.now properties_end self.old.at) e) }
+        ensures on { self.old.at ≤ self.new.at }
+        ensures bytes { self.new.bytes ≡ self.old.bytes }
+    {
+        match self.take_if(kinds::ENDEL)? {
+            Some(_) => Ok(()),
+            None => self.take_listed_end(),
+        }
     }
 
     /// The element whose first record is the next one.
