@@ -1,7 +1,7 @@
 //! Any two sets in one.
-ghost use Rattle.std.specs.Prelude.{◌≡◌, ◌≤◌, [], ◌∷◌, List, IfOk, OnOk, unsigned_abs};
+ghost use Rattle.std.specs.Prelude.{◌≡◌, ◌≤◌, [], ◌∷◌, List, IfOk, IfSome, OnOk, unsigned_abs};
 ghost use Rattle.dpl_spec_split.specs.declared.Rect.{Rect};
-ghost use Rattle.dpl_spec_split.specs.Squares.{SameSquares};
+ghost use Rattle.dpl_spec_split.specs.Squares.{Covers, SameSquares};
 ghost use Rattle.dpl_spec_split.specs.Slabs.{AreSlabsOf};
 ghost use Rattle.dpl_sweep.specs.declared.edge.Rule.{Rule};
 ghost use Rattle.dpl_sweep.specs.Edges.{Told};
@@ -11,7 +11,7 @@ ghost use Rattle.dpl_slabs.specs.Cells.{AddsRects, Chosen};
 ghost use Rattle.dpl_slabs.specs.Slices.{Without};
 
 use dpl_base::Rect;
-use dpl_sweep::{Edge, FEW_EDGES, Rule, slabs_of_edges};
+use dpl_sweep::{Edge, FEW_EDGES, Rule, slabs_of_edges, slabs_upward, sort_by_corner};
 use std::alloc::{AllocError, Global};
 
 /// An edge in a column, beside the rows of a rectangle.
@@ -124,7 +124,17 @@ pub fn combine_without(
     combine(alloc, rects, holes, rule_without(holes))
 }
 
-/// The slabs of the squares that rectangles have and no hole has, by one sweep. The lists are let go before it.
+/// The slabs of rectangles in any order, by a sweep from the lowest row up, or none where too many of them lie side by side.
+fn union_upward(alloc: Global, rects: &[Rect]) -> Result<Option<Vec<Rect>>, AllocError>
+    ensures { IfOk result (λ found. IfSome found (λ v. AreSlabsOf (Covers rects.now) v.items)) }
+{
+    let mut sorted = Vec::with_capacity(alloc, rects.len())?;
+    sorted.extend_from_slice(rects)?;
+    sort_by_corner(&mut sorted);
+    slabs_upward(alloc, &sorted)
+}
+
+/// The slabs of the squares that rectangles have and no hole has, by one sweep. The lists are let go before it, unless it goes from the lowest row up.
 pub fn combine_lists_without(
     alloc: Global,
     rects: Vec<Rect>,
@@ -136,6 +146,11 @@ pub fn combine_lists_without(
 {
     if rects.is_empty() {
         return Ok(Vec::new(alloc));
+    }
+    if holes.is_empty() {
+        if let Some(slabs) = union_upward(alloc, &rects)? {
+            return Ok(slabs);
+        }
     }
     let rule = rule_without(&holes);
     let edges = edges_of(alloc, &rects, &holes)?;

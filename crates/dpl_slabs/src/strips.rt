@@ -10,9 +10,9 @@ ghost use Rattle.dpl_slabs.specs.Strips.{LieBelow, AddsStrip};
 
 use crate::blocks::{has_tall_strip, pieces_of_blocks};
 use crate::row::{is_row, slabs_of_row};
-use crate::slices::slabs_without;
+use crate::slices::{TALL, slabs_without};
 use dpl_base::{Rect, transpose_all};
-use dpl_sweep::{slabs_of, sort_by_corner};
+use dpl_sweep::{slabs_of, slabs_upward, sort_by_corner};
 use std::alloc::{AllocError, Global};
 
 /// How many rectangles, which go by first row, are in the lowest strip: a row lies between them and all others, and between no fewer and the others.
@@ -44,6 +44,11 @@ fn slabs_of_strip(alloc: Global, strip: &[Rect]) -> Result<Vec<Rect>, AllocError
 {
     if is_row(strip) {
         return slabs_of_row(alloc, strip);
+    }
+    if strip.len() < TALL {
+        if let Some(slabs) = slabs_upward(alloc, strip)? {
+            return Ok(slabs);
+        }
     }
     slabs_without(alloc, strip, &[])
 }

@@ -18,3 +18,6 @@ returns-clause-slabs c =
     IfOk-weaker c.slabs_without.result _ _
     (λ v is. slabs-of-same (Without strip []) (Covers strip) v.items (λ p. (let same = without-none strip [] p (omega arith) in (same.1, same.0))) is)
     c.slabs_without.ensures.slabs
+
+pub returns-in-Some-clause-within : goal.returns-in-Some-clause-within
+returns-in-Some-clause-within c = within-slabs farthest c.args.strip.now _ c.requires.within (rw c.in-Some.is at c.in_ok-slabs.ensures)
