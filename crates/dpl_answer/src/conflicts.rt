@@ -32,8 +32,11 @@ use std::thread::Threads;
 /// How many slabs a square with sides of the rule has on average where they are dense.
 const DENSE: u64 = 64;
 
-/// How many of the edges of a dense layer are looked at before all of them are.
+/// How many of the edges that are listed at once are looked at before all of them are, where there are many.
 const FIRST_EDGES: usize = 65_536;
+
+/// Up to how many edges are looked at all at once.
+const FEW_EDGES: usize = 524_288;
 
 /// The side of a tile that has every layer.
 const WIDEST: u32 = 1 << 31;
@@ -74,8 +77,8 @@ pub fn conflicts_of<R: Threads + Wait + Sync, G: Gate + Sync>(
     requires workers { AreWorkers sharing.workers }
     ensures { IfOk result (AreConflictsOf (marks_in (option_copied marks.entry)) spacing cut.now.pieces.parts cut.now.pieces.owners) }
 {
-    if are_dense(cut.pieces.parts().items(), spacing.rule) {
-        return dense_conflicts(alloc, &cut.pieces, marks, spacing);
+    if are_listed_at_once(cut.pieces.parts().items(), spacing.rule, sharing.workers) {
+        return listed_conflicts(alloc, &cut.pieces, marks, spacing);
     }
     let job = tiles_of(alloc, &cut.pieces, marks, spacing, sharing.tile)?;
     let joined = joined_conflicts(rt, alloc, sharing.workers, &job, gate)?;
@@ -102,8 +105,13 @@ pub(crate) fn conflicts_by(
     }
 }
 
+/// Whether all conflicts of a layer are listed before they are summed up: those of a dense layer, and those of any layer where there is one worker.
+pub(crate) fn are_listed_at_once(parts: &[Slabs], rule: u32, workers: u32) -> bool {
+    workers == 1 || are_dense(parts, rule)
+}
+
 /// Whether a square with sides of the rule has many slabs, on average over the rectangle round all of them: then several tiles would tell most of their conflicts.
-pub(crate) fn are_dense(parts: &[Slabs], rule: u32) -> bool {
+fn are_dense(parts: &[Slabs], rule: u32) -> bool {
     let mut around = None;
     let mut count: u64 = 0;
     for part in parts {
@@ -164,7 +172,7 @@ fn conflicts_among(alloc: Global, edges: Vec<Edge>) -> Result<Conflicts, AllocEr
     requires { AreEdgePairs edges.items }
     ensures { IfOk result (AreAmong edges.items) }
 {
-    if start_odd(alloc, &edges, FIRST_EDGES)? {
+    if edges.len() > FEW_EDGES && start_odd(alloc, &edges, FIRST_EDGES)? {
         return Ok(Conflicts::Odd(edges));
     }
     let joined = stars(alloc, &edges)?;
@@ -174,8 +182,8 @@ fn conflicts_among(alloc: Global, edges: Vec<Edge>) -> Result<Conflicts, AllocEr
     }
 }
 
-/// The conflicts of the pieces of a dense layer.
-pub(crate) fn dense_conflicts(
+/// The conflicts of the pieces, by the list of all edges, which one tile over all of them gives without workers.
+pub(crate) fn listed_conflicts(
     alloc: Global,
     pieces: &BarePieces,
     marks: Option<&MarkSets>,

@@ -8,7 +8,9 @@ ghost use Rattle.dpl_pool.specs.Numbering.{tile_count};
 ghost use Rattle.dpl_answer.specs.Flat.{AreWorkers, IsTile};
 ghost use Rattle.dpl_answer.specs.Many.{AreConflictsOfCut, AreConflictsFrom, IsStartOf, IsToldBy, tiles_left};
 
-use crate::conflicts::{Conflicts, Sharing, are_dense, conflicts_by, dense_conflicts, tiles_of};
+use crate::conflicts::{
+    Conflicts, Sharing, are_listed_at_once, conflicts_by, listed_conflicts, tiles_of,
+};
 use crate::job::EdgeJob;
 use dpl_base::Spacing;
 use dpl_board::{BoardState, Job};
@@ -19,10 +21,10 @@ use std::alloc::{AllocError, Global};
 use std::sync::Wait;
 use std::thread::Threads;
 
-/// What is known of a layer's conflicts before workers begin. To them it is a job: a dense layer has no tiles left.
+/// What is known of a layer's conflicts before workers begin. To them it is a job: a layer whose conflicts are known has no tiles left.
 #[derive(Drop)]
 enum Start<'a> {
-    /// The conflicts of a dense layer.
+    /// The conflicts of a layer that were listed at once.
     Known(Conflicts),
     /// The tiles of any other.
     Tiled(EdgeJob<'a>),
@@ -63,7 +65,7 @@ pub fn conflicts_of_all<R: Threads + Wait + Sync, G: Gate + Sync>(
     requires workers { AreWorkers sharing.workers }
     ensures { IfOk result (λ all. AllZip (AreConflictsOfCut spacing) cuts.now all.items) }
 {
-    let starts = all_started(alloc, cuts, spacing, sharing.tile)?;
+    let starts = all_started(alloc, cuts, spacing, sharing)?;
     if !have_room(&starts) {
         return Err(AllocError);
     }
@@ -76,37 +78,37 @@ fn all_started<'a>(
     alloc: Global,
     cuts: &'a [BareLayerCut],
     spacing: Spacing,
-    tile: u32,
+    sharing: Sharing,
 ) -> Result<Vec<Start<'a>>, AllocError>
     requires corner { spacing.corner ≤ spacing.rule }
     requires rule { IsRule spacing.rule }
-    requires tile { IsTile tile }
+    requires tile { IsTile sharing.tile }
     ensures { IfOk result (λ starts. AllZip (IsStartOf spacing) cuts.now starts.items) }
 {
     let mut starts = Vec::new(alloc);
     for cut in cuts {
-        starts.push(started(alloc, cut, spacing, tile)?)?;
+        starts.push(started(alloc, cut, spacing, sharing)?)?;
     }
     Ok(starts)
 }
 
-/// The start of a layer: the conflicts of a dense one, or tiles whose side is `tile`, doubled some number of times.
+/// The start of a layer: its conflicts, where they are listed at once, or tiles whose side is that of `sharing`, doubled some number of times.
 fn started<'a>(
     alloc: Global,
     cut: &'a BareLayerCut,
     spacing: Spacing,
-    tile: u32,
+    sharing: Sharing,
 ) -> Result<Start<'a>, AllocError>
     requires corner { spacing.corner ≤ spacing.rule }
     requires rule { IsRule spacing.rule }
-    requires tile { IsTile tile }
+    requires tile { IsTile sharing.tile }
     ensures { IfOk result (IsStartOf spacing cut.now) }
 {
-    if are_dense(cut.pieces.parts().items(), spacing.rule) {
-        let conflicts = dense_conflicts(alloc, &cut.pieces, None, spacing)?;
+    if are_listed_at_once(cut.pieces.parts().items(), spacing.rule, sharing.workers) {
+        let conflicts = listed_conflicts(alloc, &cut.pieces, None, spacing)?;
         return Ok(Start::Known(conflicts));
     }
-    let job = tiles_of(alloc, &cut.pieces, None, spacing, tile)?;
+    let job = tiles_of(alloc, &cut.pieces, None, spacing, sharing.tile)?;
     Ok(Start::Tiled(job))
 }
 

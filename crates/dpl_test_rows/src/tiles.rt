@@ -65,9 +65,15 @@ const LARGEST: &str =
 
 const TWO: &str = "dpl split --layer 1 --rule 30 --overlap 10 --tile 64 --workers 2 in out cert";
 
+const TINY_TWO: &str =
+    "dpl split --layer 1 --rule 30 --overlap 10 --tile 1 --workers 2 in out cert";
+
+const LARGEST_TWO: &str =
+    "dpl split --layer 1 --rule 30 --overlap 10 --tile 1073741824 --workers 2 in out cert";
+
 const MANY: &str = "dpl split --layer 1 --rule 30 --overlap 10 --tile 64 --workers 64 in out cert";
 
-const CASES: [(&str, Row); 15] = [
+const CASES: [(&str, Row); 20] = [
     (TINY, BARS),
     (SMALL, BARS),
     (LARGEST, BARS),
@@ -77,6 +83,11 @@ const CASES: [(&str, Row); 15] = [
     (LARGEST, CLOSE),
     (SMALL, LONG),
     (LARGEST, LONG),
+    (TINY_TWO, BARS),
+    (TINY_TWO, FAR),
+    (TINY_TWO, CLOSE),
+    (LARGEST_TWO, CLOSE),
+    (LARGEST_TWO, LONG),
     (TWO, FAR),
     (TWO, CLOSE),
     (TWO, LONG),
@@ -120,7 +131,7 @@ fn answers_show_no_tiles_or_workers(rt: HostRuntime) -> Result<(), Fail> {
         a: a.as_slice(),
         b: b.as_slice(),
     };
-    for line in [TINY, MANY] {
+    for line in [TINY, TINY_TWO, MANY] {
         let file = bars(alloc, layer.as_slice())?;
         assert!(rt; is_done(&rt, alloc, line, file, &done)?, "at {line}");
     }
@@ -192,7 +203,7 @@ const CLASHES: [Clash; 4] = [
 fn tiles_do_not_show_in_a_conflict(rt: HostRuntime) -> Result<(), Fail> {
     let alloc = rt.alloc();
     for clash in CLASHES {
-        for line in [TINY, SMALL, TWO, MANY, LARGEST] {
+        for line in [TINY, SMALL, LARGEST, TINY_TWO, TWO, LARGEST_TWO, MANY] {
             let file = bars(alloc, clash.layer)?;
             assert!(rt;
                 is_conflict(&rt, alloc, line, file, clash.cert)?,

@@ -6,7 +6,7 @@ use Rattle.dpl_cut.specs.Cutting.{cut_view}
 use Rattle.dpl_answer.specs.Anchors.{marks_in}
 use Rattle.dpl_answer.proofs.Anchoring.{listed-pairs}
 use Rattle.dpl_answer.proofs.Planned.{among_all}
-use Rattle.dpl_answer.proofs.conflicts.dense_conflicts.Goals as goal
+use Rattle.dpl_answer.proofs.conflicts.listed_conflicts.Goals as goal
 
 pub conflicts_among-requires : goal.conflicts_among-requires
 conflicts_among-requires c = listed-pairs _ c.in_ok-edges.edges.items c.in_ok-edges.ensures
