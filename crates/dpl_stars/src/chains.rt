@@ -36,7 +36,7 @@ pub fn chains_of(alloc: Global, n: Id, edges: &[Edge]) -> Result<Chains, AllocEr
     ensures { IfOk result (λ chains. AreChains edges.now n (length edges.now + length edges.now) chains.last.items chains.before.items) }
 {
     let mut last = vec![in alloc; 0; n as usize]?;
-    let mut before = Vec::new(alloc);
+    let mut before = Vec::with_capacity(alloc, edges.len() + edges.len())?;
     for k in 0..edges.len() + edges.len() {
         let (from, _) = arc(edges, k);
         before.push(last[from as usize])?;

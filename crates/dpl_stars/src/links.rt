@@ -47,7 +47,7 @@ pub fn links(alloc: Global, rows: &[Star]) -> Result<Vec<Edge>, AllocError>
 {
     let places = Places::of(alloc, pieces_of(alloc, rows)?)?;
     let mates = mates_of(alloc, &places, rows)?;
-    let mut links = Vec::new(alloc);
+    let mut links = Vec::with_capacity(alloc, rows.len())?;
     for row in rows {
         if row.piece != row.root {
             let other = if row.odd {

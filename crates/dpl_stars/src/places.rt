@@ -78,7 +78,7 @@ pub fn placed(alloc: Global, places: &Places, edges: &[Edge]) -> Result<Vec<Edge
     requires touched { AreTouched edges.now places.now }
     ensures { IfOk result (λ v. ArePlaced places.now edges.now v.items) }
 {
-    let mut placed = Vec::new(alloc);
+    let mut placed = Vec::with_capacity(alloc, edges.len())?;
     for edge in edges {
         placed.push((places.place(edge.0), places.place(edge.1)))?;
     }

@@ -30,7 +30,7 @@ pub fn rows(
     requires below { All (λ r. r < length pieces.now) roots.now }
     ensures { IfOk result (λ v. AreRows pieces.now roots.now levels.now (length pieces.now) v.items) }
 {
-    let mut rows = Vec::new(alloc);
+    let mut rows = Vec::with_capacity(alloc, pieces.len())?;
     for i in 0..pieces.len() {
         rows.push(Star {
             piece: pieces[i],

@@ -23,7 +23,7 @@ edge-requires c =
     ])
 
 pub loop-row-init : goal.loop-row-init
-loop-row-init c = rw c.new-links.ensures.items (links-none _)
+loop-row-init c = rw c.in_ok-links.ensures.items (links-none _)
 
 pub loop-row-preserved : goal.loop-row-preserved
 loop-row-preserved c = elim c.if-row.branch [

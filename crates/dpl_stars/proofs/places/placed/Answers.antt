@@ -16,7 +16,7 @@ place-requires-in-loop-edge c = (c.requires.touched.exactly (get_or c.args.edges
 )
 
 pub loop-edge-init : goal.loop-edge-init
-loop-edge-init c = rw c.new-placed.ensures.items (placed-none _)
+loop-edge-init c = rw c.in_ok-placed.ensures.items (placed-none _)
 
 pub loop-edge-preserved : goal.loop-edge-preserved
 loop-edge-preserved c =
