@@ -1,17 +1,10 @@
 -- The bytes of a file of two masks.
-use Rattle.std.specs.Prelude.{◌≡◌, ◌≤◌, ℕ, ◌+◌, ℤ, List, [], ◌∷◌, ◌++◌, length, map, Result, IsOk, OnOk, Vec, vec_len, vec_capacity}
+use Rattle.std.specs.Prelude.{ℕ, ◌+◌, ℤ, List, [], ◌∷◌, ◌++◌, length, map}
 use Rattle.std.specs.List.{concat}
 use Rattle.std.specs.Int.{w16, w32, to_be_bytes, cast_unsigned}
-use Rattle.std.specs.declared.alloc.Global.{Global}
 use Rattle.dpl_spec_split.specs.declared.Pt.{Pt}
 use Rattle.dpl_spec_split.specs.declared.Rect.{Rect}
 use Rattle.dpl_spec_split.specs.Zones.{at}
-
--- where there is room for so many bytes more, they are put, and the room is no less
-pub record FillsRoom {E : Type 0} (n : ℕ) (result : Result (Unit {0}) E) (old new : Vec ℕ Global) : Type 0 where
-  pub sure : vec_len old + n ≤ vec_capacity old → IsOk result
-  pub more : OnOk result (vec_len new ≡ vec_len old + n)
-  pub kept : vec_capacity old ≤ vec_capacity new
 
 -- a record: its length, its type, its data type, and its data
 abbrev pub record_bytes : ℕ → ℕ → List ℕ → List ℕ

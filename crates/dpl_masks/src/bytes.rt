@@ -1,26 +1,9 @@
 //! The bytes of a file of masks, by the GDSII Stream Format, Release 6.
-ghost use Rattle.std.specs.Prelude.{◌≡◌, ◌+◌, ◌++◌, IfOk, OnErr, OnOk, map};
-ghost use Rattle.std.specs.List.{concat};
-ghost use Rattle.dpl_spec_split.specs.Zones.{at};
-ghost use Rattle.dpl_masks.specs.Bytes.{FillsRoom, boundaries_bytes, boundary_bytes, coordinate_bytes, corners, file_bytes as file_bytes_of, point_bytes};
+ghost use Rattle.std.specs.Prelude.{◌≡◌, ◌++◌, IfOk, OnErr, OnOk};
+ghost use Rattle.dpl_masks.specs.Bytes.{boundaries_bytes, boundary_bytes, file_bytes as file_bytes_of};
 
 use dpl_base::Rect;
 use std::alloc::{AllocError, Global};
-
-/// The record BOUNDARY, whole.
-const BOUNDARY: [u8; 4] = [0, 4, 8, 0];
-
-/// The record LAYER up to the number of the layer.
-const LAYER: [u8; 4] = [0, 6, 13, 2];
-
-/// The record DATATYPE with data type 0, whole.
-const DATATYPE_0: [u8; 6] = [0, 6, 14, 2, 0, 0];
-
-/// The record XY of five points up to the first of them.
-const XY_5: [u8; 4] = [0, 44, 16, 3];
-
-/// The record ENDEL, whole.
-const ENDEL: [u8; 4] = [0, 4, 17, 0];
 
 /// How many bytes a slab takes.
 const BOUNDARY_SIZE: usize = 64;
@@ -28,35 +11,27 @@ const BOUNDARY_SIZE: usize = 64;
 /// The records ENDSTR and ENDLIB.
 const ENDSTR_ENDLIB: [u8; 8] = [0, 4, 7, 0, 0, 4, 4, 0];
 
-/// Puts a coordinate behind `out`, in four bytes.
-fn put_coordinate(out: &mut Vec<u8>, z: i32) -> Result<(), AllocError>
-    ensures bytes { OnOk result (out.new.items ≡ out.old.items ++ coordinate_bytes z) }
-    ensures room { FillsRoom 4 result out.old out.new }
+/// A slab on a layer as one BOUNDARY of data type 0: its corners go from the lower left one round to it again, of each its column first.
+fn boundary(layer: u16, r: &Rect) -> [u8; BOUNDARY_SIZE]
+    ensures { result ≡ boundary_bytes layer r.now }
 {
-    out.extend_from_slice(&z.to_be_bytes())
-}
-
-/// Puts a point behind `out`, its column first.
-fn put_point(out: &mut Vec<u8>, x: i32, y: i32) -> Result<(), AllocError>
-    ensures bytes { OnOk result (out.new.items ≡ out.old.items ++ point_bytes (at x y)) }
-    ensures room { FillsRoom 8 result out.old out.new }
-{
-    put_coordinate(out, x)?;
-    put_coordinate(out, y)?;
-    Ok(())
-}
-
-/// Puts the corners of a slab behind `out`, from the lower left one round to it again.
-fn put_corners(out: &mut Vec<u8>, r: &Rect) -> Result<(), AllocError>
-    ensures bytes { OnOk result (out.new.items ≡ out.old.items ++ concat (map point_bytes (corners r.now))) }
-    ensures room { FillsRoom 40 result out.old out.new }
-{
-    put_point(out, r.x0, r.y0)?;
-    put_point(out, r.x1, r.y0)?;
-    put_point(out, r.x1, r.y1)?;
-    put_point(out, r.x0, r.y1)?;
-    put_point(out, r.x0, r.y0)?;
-    Ok(())
+    let [l, m] = layer.to_be_bytes();
+    let [a, b, c, d] = r.x0.to_be_bytes();
+    let [e, f, g, h] = r.y0.to_be_bytes();
+    let [i, j, k, n] = r.x1.to_be_bytes();
+    let [o, p, q, s] = r.y1.to_be_bytes();
+    [
+        0, 4, 8, 0, // BOUNDARY
+        0, 6, 13, 2, l, m, // LAYER
+        0, 6, 14, 2, 0, 0, // DATATYPE
+        0, 44, 16, 3, // XY
+        a, b, c, d, e, f, g, h, //
+        i, j, k, n, e, f, g, h, //
+        i, j, k, n, o, p, q, s, //
+        a, b, c, d, o, p, q, s, //
+        a, b, c, d, e, f, g, h, //
+        0, 4, 17, 0, // ENDEL
+    ]
 }
 
 /// Puts a slab on a layer as one BOUNDARY of data type 0 behind `out`, 64 bytes. Without memory `out` stays as it was.
@@ -64,15 +39,7 @@ pub fn put_boundary(out: &mut Vec<u8>, layer: u16, r: &Rect) -> Result<(), Alloc
     ensures ok { OnOk result (out.new.items ≡ out.old.items ++ boundary_bytes layer r.now) }
     ensures err { OnErr result (out.new.items ≡ out.old.items) }
 {
-    out.reserve(BOUNDARY_SIZE)?;
-    out.extend_from_slice(&BOUNDARY)?;
-    out.extend_from_slice(&LAYER)?;
-    out.extend_from_slice(&layer.to_be_bytes())?;
-    out.extend_from_slice(&DATATYPE_0)?;
-    out.extend_from_slice(&XY_5)?;
-    put_corners(out, r)?;
-    out.extend_from_slice(&ENDEL)?;
-    Ok(())
+    out.extend_from_slice(&boundary(layer, r))
 }
 
 /// Puts all slabs on a layer, each as one BOUNDARY, behind `out`.
