@@ -5,7 +5,7 @@ ghost use Rattle.dpl_spec_split.specs.declared.Rect.{Rect};
 ghost use Rattle.dpl_spec_split.specs.Marks.{graph, vertex};
 ghost use Rattle.dpl_orient.specs.Masks.{is_second};
 ghost use Rattle.dpl_orient.specs.Oriented.{IsEvenBelow};
-ghost use Rattle.dpl_cut.specs.Cutting.{cut_view};
+ghost use Rattle.dpl_piece.specs.View.{cut_view};
 ghost use Rattle.dpl_spec_verdict.specs.Gains.{AreGainsOf};
 ghost use Rattle.dpl_law_verdict.specs.Own.{AreGainsBy};
 ghost use Rattle.dpl_answer.specs.Anchors.{marks_in};

@@ -13,7 +13,7 @@ use Rattle.dpl_spec_verdict.proofs.GainLaws.{one-cut}
 use Rattle.dpl_cert.specs.declared.cert.Head.{Head}
 use Rattle.dpl_spec_verdict.specs.Conflicts.{CountsDiffer}
 use Rattle.dpl_cut.specs.declared.LayerCut.{LayerCut}
-use Rattle.dpl_cut.specs.Cutting.{IsMarkedSet, cut_view}
+use Rattle.dpl_piece.specs.View.{IsMarkedSet, cut_view}
 use Rattle.dpl_check.specs.Cutting.{HasOtherCounts}
 
 -- the squares of two sets are marked

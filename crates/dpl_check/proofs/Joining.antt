@@ -7,7 +7,7 @@ use Rattle.dpl_spec_split.specs.Squares.{Covers, Has, SameSquares}
 use Rattle.dpl_spec_split.specs.Marks.{Marks, asked}
 use Rattle.dpl_nearest.specs.Search.{unit_of}
 use Rattle.dpl_piece.specs.Cutting.{CutPieces}
-use Rattle.dpl_cut.specs.Cutting.{cut_view}
+use Rattle.dpl_piece.specs.View.{cut_view}
 use Rattle.dpl_cert.specs.declared.cert.PlaceLine.{PlaceLine}
 use Rattle.dpl_cert.specs.declared.cert.PlaceLine.TheVariants.{Piece, Anchor}
 use Rattle.dpl_cert.specs.declared.cert.NearLine.{NearLine}

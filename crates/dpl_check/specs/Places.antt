@@ -7,7 +7,7 @@ use Rattle.dpl_spec_split.specs.Squares.{Near}
 use Rattle.dpl_spec_split.specs.Zones.{part_at}
 use Rattle.dpl_spec_split.specs.Decomposition.{Cut}
 use Rattle.dpl_piece.specs.Cutting.{CutPieces}
-use Rattle.dpl_cut.specs.Cutting.{cut_view}
+use Rattle.dpl_piece.specs.View.{cut_view}
 use Rattle.dpl_cert.specs.declared.cert.PlaceLine.{PlaceLine}
 use Rattle.dpl_cert.specs.declared.cert.PlaceLine.TheVariants.{Piece, Anchor}
 use Rattle.dpl_spec_verdict.specs.Conflicts.{AreSame, place_at}

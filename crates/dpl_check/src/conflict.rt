@@ -2,7 +2,7 @@
 ghost use Rattle.std.specs.Prelude.{◌≤◌, IfOk};
 ghost use Rattle.dpl_spec_split.specs.Marks.{asked};
 ghost use Rattle.dpl_cert.specs.Grammar.{IsCert, IsRule};
-ghost use Rattle.dpl_cut.specs.Cutting.{IsMarkedSet};
+ghost use Rattle.dpl_piece.specs.View.{IsMarkedSet};
 ghost use Rattle.dpl_spec_verdict.specs.Conflicts.{IsOfConflict, IsVerdictOfConflict};
 
 use crate::counts::{counts_differ, counts_of, rules_differ};

@@ -14,7 +14,7 @@ ghost use Rattle.dpl_spec_verdict.specs.Conflicts.{AreJoined, IsBadPlace, IsName
 ghost use Rattle.dpl_check.specs.Anchors.{marks_of};
 ghost use Rattle.dpl_check.specs.Findings.{IsFirstBadOf};
 ghost use Rattle.dpl_check.specs.Places.{AreNoted, IsKeyed, IsNearLine, bare};
-ghost use Rattle.dpl_cut.specs.Cutting.{cut_view};
+ghost use Rattle.dpl_piece.specs.View.{cut_view};
 
 use crate::anchors::{MarkTrees, has_anchors, is_marked_against, mark_trees};
 use crate::stood::Stood;

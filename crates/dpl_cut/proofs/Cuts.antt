@@ -12,7 +12,8 @@ use Rattle.dpl_spec_split.specs.Marks.{Marks, marked_by}
 use Rattle.dpl_spec_split.specs.Decomposition.{IsCut}
 use Rattle.dpl_slabs.specs.Parts.{union_of}
 use Rattle.dpl_piece.specs.Cutting.{AreTheirPieces, Completes, CutPieces}
-use Rattle.dpl_cut.specs.Cutting.{IsMarkedSet, IsBareCutOf, IsCutOf, cut_view}
+use Rattle.dpl_piece.specs.View.{IsMarkedSet, cut_view}
+use Rattle.dpl_cut.specs.Cutting.{IsBareCutOf, IsCutOf}
 use Rattle.dpl_cut.specs.declared.LayerCut.{LayerCut}
 use Rattle.dpl_cut.specs.declared.BareLayerCut.{BareLayerCut}
 use Rattle.dpl_cut.proofs.SameZones.{zones_same}

@@ -4,17 +4,14 @@ use Rattle.std.specs.List.{Contains}
 use Rattle.dpl_spec_split.specs.declared.Spacing.{Spacing}
 use Rattle.dpl_spec_split.specs.declared.Pt.{Pt}
 use Rattle.dpl_spec_split.specs.declared.Rect.{Rect}
-use Rattle.dpl_spec_split.specs.Squares.{Region, Covers, SameSquares}
-use Rattle.dpl_spec_split.specs.Marks.{Marks, marked_by}
+use Rattle.dpl_spec_split.specs.Squares.{Region}
+use Rattle.dpl_spec_split.specs.Marks.{Marks}
 use Rattle.dpl_spec_split.specs.Decomposition.{Cut, IsCut}
 use Rattle.dpl_piece.specs.Cutting.{Completes, CutPieces}
+use Rattle.dpl_piece.specs.View.{cut_view}
 use Rattle.dpl_cert.specs.Grammar.{IsPoint}
 use Rattle.dpl_cut.specs.declared.LayerCut.{LayerCut}
 use Rattle.dpl_cut.specs.declared.BareLayerCut.{BareLayerCut}
-
--- the cut of these features into pieces
-abbrev pub cut_view : List (List Rect) → CutPieces → Cut
-cut_view features c = record { features = features; zones = c.zones; pieces = c.parts; owners = c.owners; keys = c.keys; sides = c.sides }
 
 -- the pieces are those of so many features of the layer
 abbrev pub IsCutOf : Option Marks → Spacing → ℕ → Region → LayerCut → Type 0
@@ -24,10 +21,6 @@ IsCutOf marks spacing overlap layer c = (features : List (List Rect)) × (length
 abbrev pub IsBareCutOf : Option Marks → Spacing → ℕ → Region → BareLayerCut → Type 0
 IsBareCutOf marks spacing overlap layer c = (features : List (List Rect)) × (length features ≡ c.features) × ((p : CutPieces) → Completes c.pieces p
     → IsCut marks spacing overlap layer (cut_view features p))
-
--- the set has just the squares that the marks fix
-abbrev pub IsMarkedSet : List Rect → Option Marks → Type 0
-IsMarkedSet set marks = SameSquares (Covers set) (marked_by marks)
 
 -- the keys of the pieces, however they are completed, lie in the range of certificates
 abbrev pub HasPointKeys : BareLayerCut → Type 0

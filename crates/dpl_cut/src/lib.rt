@@ -7,7 +7,8 @@ ghost use Rattle.dpl_spec_split.specs.Squares.{Covers};
 ghost use Rattle.dpl_spec_split.specs.Components.{AreComponents};
 ghost use Rattle.dpl_spec_split.specs.Marks.{Marks};
 ghost use Rattle.dpl_piece.specs.Cutting.{AreFeatures, Completes};
-ghost use Rattle.dpl_cut.specs.Cutting.{IsMarkedSet, HasPointKeys, IsBareCutOf, IsCutOf};
+ghost use Rattle.dpl_piece.specs.View.{IsMarkedSet};
+ghost use Rattle.dpl_cut.specs.Cutting.{HasPointKeys, IsBareCutOf, IsCutOf};
 
 use dpl_base::Spacing;
 use dpl_feature::features;

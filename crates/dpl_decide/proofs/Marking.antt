@@ -7,7 +7,7 @@ use Rattle.dpl_spec_split.specs.Marks.{AreMarks, asked}
 use Rattle.dpl_spec_split.proofs.MarkLaws.{none-fixed}
 use Rattle.dpl_spec_format.specs.Tree.{Library}
 use Rattle.dpl_layer.specs.Marked.{AreMarked, IsMarkedLayout, MarkedChoice, MarkedLayer}
-use Rattle.dpl_cut.specs.Cutting.{IsMarkedSet}
+use Rattle.dpl_piece.specs.View.{IsMarkedSet}
 use Rattle.dpl_answer.specs.Anchors.{marks_of}
 use Rattle.dpl_answer.specs.declared.marks.MarkSets.{MarkSets}
 use Rattle.dpl_decide.specs.Deciding.{marks_for}

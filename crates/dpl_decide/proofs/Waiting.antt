@@ -5,7 +5,8 @@ use Rattle.std.specs.List.{AllZip}
 use Rattle.std.proofs.lemmas.List.{append-nil}
 use Rattle.dpl_spec_split.specs.declared.Spacing.{Spacing}
 use Rattle.dpl_cert.specs.declared.name.Name.{Name}
-use Rattle.dpl_cut.specs.Cutting.{HasPointKeys, OfCompleted, cut_view}
+use Rattle.dpl_piece.specs.View.{cut_view}
+use Rattle.dpl_cut.specs.Cutting.{HasPointKeys, OfCompleted}
 use Rattle.dpl_cut.specs.declared.BareLayerCut.{BareLayerCut}
 use Rattle.dpl_layer.specs.declared.layer.Layer.{Layer}
 use Rattle.dpl_layer.specs.declared.many.ReadLayer.{ReadLayer}

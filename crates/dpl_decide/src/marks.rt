@@ -2,7 +2,7 @@
 ghost use Rattle.std.specs.Prelude.{◌≡◌, IfOk};
 ghost use Rattle.std.specs.Option.{option_copied};
 ghost use Rattle.dpl_layer.specs.View.{marked_choice_view};
-ghost use Rattle.dpl_cut.specs.Cutting.{IsMarkedSet};
+ghost use Rattle.dpl_piece.specs.View.{IsMarkedSet};
 ghost use Rattle.dpl_answer.specs.Anchors.{marks_in};
 ghost use Rattle.dpl_decide.specs.Deciding.{are_asked, marks_for};
 

@@ -8,7 +8,7 @@ use Rattle.dpl_spec_split.specs.declared.Rect.{Rect}
 use Rattle.dpl_spec_split.specs.Marks.{Marks}
 use Rattle.dpl_cert.specs.declared.cert.Gain.{Gain}
 use Rattle.dpl_piece.specs.Cutting.{CutPieces}
-use Rattle.dpl_cut.specs.Cutting.{IsMarkedSet, cut_view}
+use Rattle.dpl_piece.specs.View.{IsMarkedSet, cut_view}
 use Rattle.dpl_spec_verdict.specs.Gains.{IsGainOf, AreRootsOf, AreGainsOf}
 use Rattle.dpl_gains.specs.declared.tallies.Tally.{Tally}
 use Rattle.dpl_gains.specs.Held.{IsHeldBelow}

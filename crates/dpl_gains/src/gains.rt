@@ -5,7 +5,7 @@ ghost use Rattle.dpl_spec_split.specs.declared.Rect.{Rect};
 ghost use Rattle.dpl_spec_split.specs.declared.Spacing.{Spacing};
 ghost use Rattle.dpl_spec_split.specs.Marks.{Marks};
 ghost use Rattle.dpl_cert.specs.declared.cert.Gain.{Gain};
-ghost use Rattle.dpl_cut.specs.Cutting.{IsMarkedSet, cut_view};
+ghost use Rattle.dpl_piece.specs.View.{IsMarkedSet, cut_view};
 ghost use Rattle.dpl_spec_verdict.specs.Gains.{AreGainsOf, AreRootsOf};
 ghost use Rattle.dpl_gains.specs.Tallies.{IsListed};
 

@@ -3,3 +3,4 @@ pub mod Corners
 pub mod Pieces
 pub mod Wholes
 pub mod Noted
+pub mod View

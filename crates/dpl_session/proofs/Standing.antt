@@ -12,7 +12,7 @@ use Rattle.dpl_spec_split.specs.Pieces.{Conflict, IsOwner}
 use Rattle.dpl_slabs.specs.Parts.{union_of}
 use Rattle.dpl_piece.proofs.CornerLaws.{zip-at, zip-length}
 use Rattle.dpl_piece.specs.Cutting.{CutPieces}
-use Rattle.dpl_cut.specs.Cutting.{IsMarkedSet, cut_view}
+use Rattle.dpl_piece.specs.View.{IsMarkedSet, cut_view}
 use Rattle.dpl_tile.specs.Tiles.{IsDoubled, cell_at}
 use Rattle.dpl_tile.proofs.CellLaws.{one-cell}
 use Rattle.dpl_tile.proofs.TileLaws.{doubled-some}

@@ -12,7 +12,7 @@ use Rattle.dpl_spec_split.specs.Pieces.{Conflict}
 use Rattle.dpl_spec_split.specs.Decomposition.{Cut, IsCut}
 use Rattle.dpl_slabs.specs.Parts.{union_of}
 use Rattle.dpl_piece.specs.Cutting.{CutPieces}
-use Rattle.dpl_cut.specs.Cutting.{cut_view}
+use Rattle.dpl_piece.specs.View.{cut_view}
 use Rattle.dpl_session.specs.declared.tile.Tile.{Tile}
 use Rattle.dpl_session.specs.declared.verdict.Verdict.{Verdict}
 use Rattle.dpl_session.specs.declared.window.Window.{Window}

@@ -9,7 +9,7 @@ use Rattle.dpl_cert.specs.declared.cert.NearLine.{NearLine}
 use Rattle.dpl_cert.specs.Grammar.{IsNear, IsPlace}
 use Rattle.dpl_answer.specs.Anchors.{marks_in}
 use Rattle.dpl_answer.specs.Flat.{AreLinks, place_by}
-use Rattle.dpl_cut.specs.Cutting.{cut_view}
+use Rattle.dpl_piece.specs.View.{cut_view}
 use Rattle.dpl_answer.proofs.Deciding.{clash_from, cycle_length, cycle_same, places_many}
 use Rattle.dpl_answer.proofs.Told.{links_many}
 use Rattle.dpl_answer.proofs.answer.clash.Goals as goal

@@ -9,7 +9,7 @@ use Rattle.dpl_cert.specs.declared.cert.StitchLine.{StitchLine}
 use Rattle.dpl_cert.specs.Grammar.{IsNumber, IsPiece, IsStitch}
 use Rattle.dpl_law_verdict.specs.Own.{AreGainsBy, piece_line}
 use Rattle.dpl_law_verdict.proofs.Rising.{gains-fit}
-use Rattle.dpl_cut.specs.Cutting.{cut_view}
+use Rattle.dpl_piece.specs.View.{cut_view}
 use Rattle.dpl_answer.specs.Anchors.{AreLettersOf, marks_in}
 use Rattle.dpl_answer.proofs.Deciding.{letters_as_many, lines_many, painted_from}
 use Rattle.dpl_answer.proofs.answer.paint.Goals as goal

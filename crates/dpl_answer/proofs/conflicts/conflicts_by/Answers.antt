@@ -3,7 +3,7 @@ use Rattle.std.specs.Prelude.{Option, option_map}
 use Rattle.dpl_spec_split.specs.Graphs.{AreEdges}
 use Rattle.dpl_spec_split.specs.Marks.{graph}
 use Rattle.dpl_piece.specs.Cutting.{cut_pieces}
-use Rattle.dpl_cut.specs.Cutting.{cut_view}
+use Rattle.dpl_piece.specs.View.{cut_view}
 use Rattle.dpl_answer.specs.Anchors.{AreMarkEdges}
 use Rattle.dpl_answer.proofs.Anchoring.{graph-listed}
 use Rattle.dpl_answer.proofs.Planned.{edges_below, odd_listed, stars_below}

@@ -2,7 +2,7 @@ use Rattle.std.proofs.Common.{[]}
 use Rattle.std.specs.Option.{option_copied}
 use Rattle.std.proofs.lemmas.Result.{IfOk-weaker}
 use Rattle.dpl_piece.specs.Cutting.{cut_pieces}
-use Rattle.dpl_cut.specs.Cutting.{cut_view}
+use Rattle.dpl_piece.specs.View.{cut_view}
 use Rattle.dpl_answer.specs.Anchors.{marks_in}
 use Rattle.dpl_answer.proofs.Anchoring.{listed-pairs}
 use Rattle.dpl_answer.proofs.Planned.{among_all}

@@ -3,7 +3,7 @@ use Rattle.std.specs.Prelude.{None, Some}
 use Rattle.dpl_spec_split.proofs.MarkLaws.{none-marked}
 use Rattle.dpl_spec_verdict.specs.Gains.{AreRootsOf}
 use Rattle.dpl_orient.specs.Oriented.{IsEvenBelow}
-use Rattle.dpl_cut.specs.Cutting.{cut_view}
+use Rattle.dpl_piece.specs.View.{cut_view}
 use Rattle.dpl_answer.specs.Anchors.{marks_of}
 use Rattle.dpl_answer.proofs.Components.{roots-summed}
 use Rattle.dpl_answer.proofs.gains.gains_among.Goals as goal

@@ -4,7 +4,7 @@ use Rattle.std.specs.Option.{option_copied}
 use Rattle.dpl_spec_verdict.specs.Gains.{AreGainsOf}
 use Rattle.dpl_cert.specs.declared.cert.Gain.{Gain}
 use Rattle.dpl_orient.specs.Masks.{is_second}
-use Rattle.dpl_cut.specs.Cutting.{cut_view}
+use Rattle.dpl_piece.specs.View.{cut_view}
 use Rattle.dpl_answer.specs.Anchors.{marks_in}
 use Rattle.dpl_answer.proofs.gains.gains_left.Goals as goal
 

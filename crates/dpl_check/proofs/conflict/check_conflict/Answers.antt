@@ -4,7 +4,7 @@ use Rattle.dpl_spec_split.specs.Marks.{asked}
 use Rattle.dpl_cert.specs.declared.cert.Cert.{Cert}
 use Rattle.dpl_spec_verdict.specs.declared.Verdict.TheVariants.{Valid, Cycle}
 use Rattle.dpl_spec_verdict.specs.Conflicts.{IsVerdictOfConflict}
-use Rattle.dpl_cut.specs.Cutting.{cut_view}
+use Rattle.dpl_piece.specs.View.{cut_view}
 use Rattle.dpl_check.proofs.Counting.{counts-differ, counts-kept}
 use Rattle.dpl_check.proofs.conflict.check_conflict.Goals as goal
 

@@ -1,5 +1,5 @@
 use Rattle.std.proofs.Common.{sym, refl, length}
-use Rattle.dpl_cut.specs.Cutting.{cut_view}
+use Rattle.dpl_piece.specs.View.{cut_view}
 use Rattle.dpl_check.proofs.Counting.{marked-united}
 use Rattle.dpl_check.proofs.counts.counts.Goals as goal
 

@@ -3,7 +3,7 @@ use Rattle.std.proofs.lemmas.Bool.{false≢true}
 use Rattle.dpl_cert.specs.declared.cert.Gain.{Gain}
 use Rattle.dpl_spec_verdict.specs.declared.Verdict.TheVariants.{Valid, Gain as GainAt}
 use Rattle.dpl_spec_verdict.specs.Gains.{letters, VerdictOfGains}
-use Rattle.dpl_cut.specs.Cutting.{cut_view}
+use Rattle.dpl_piece.specs.View.{cut_view}
 use Rattle.dpl_check.proofs.Counting.{marked-united}
 use Rattle.dpl_check.proofs.gains.verdict_of_gains.Goals as goal
 

@@ -2,7 +2,7 @@ use Rattle.std.proofs.Common.{List, subst, ◌∙◌, ap, length}
 use Rattle.dpl_spec_split.specs.declared.Rect.{Rect}
 use Rattle.dpl_spec_split.specs.Marks.{asked}
 use Rattle.dpl_tree.specs.Trees.{AreItemsOf}
-use Rattle.dpl_cut.specs.Cutting.{cut_view}
+use Rattle.dpl_piece.specs.View.{cut_view}
 use Rattle.dpl_spec_verdict.specs.Conflicts.{IsBadPlace}
 use Rattle.dpl_check.specs.Anchors.{marks_of}
 use Rattle.dpl_check.specs.Places.{bare}

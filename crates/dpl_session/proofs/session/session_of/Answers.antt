@@ -3,7 +3,7 @@ use Rattle.std.specs.Prelude.{None}
 use Rattle.dpl_spec_split.specs.Graphs.{graph_of}
 use Rattle.dpl_spec_split.specs.Pieces.{Conflict}
 use Rattle.dpl_spec_split.specs.Squares.{Covers}
-use Rattle.dpl_cut.specs.Cutting.{cut_view}
+use Rattle.dpl_piece.specs.View.{cut_view}
 use Rattle.dpl_session.specs.Kept.{IsFresh, IsFreshIn}
 use Rattle.dpl_session.proofs.Standing.{none_marked, owners_few, piece_square, standing, whole_pieces}
 use Rattle.dpl_session.proofs.Deciding.{decides_same, edges_below, same_conflicts}

@@ -1,7 +1,7 @@
 use Rattle.std.proofs.Common.{◌∙◌, sym}
 use Rattle.std.specs.Prelude.{None}
 use Rattle.dpl_answer.proofs.Planned.{conflicts_completed}
-use Rattle.dpl_cut.specs.Cutting.{cut_view}
+use Rattle.dpl_piece.specs.View.{cut_view}
 use Rattle.dpl_view.proofs.ViewLaws.{even_none, even_clashes}
 use Rattle.dpl_view.proofs.TangleLaws.{tangled-none}
 use Rattle.dpl_spec_split.specs.Decomposition.{conflicts}

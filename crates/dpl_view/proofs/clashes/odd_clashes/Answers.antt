@@ -3,7 +3,7 @@ use Rattle.std.specs.List.{AllZip, Contains}
 use Rattle.std.proofs.lemmas.List.Elements.{All-contains}
 use Rattle.dpl_spec_split.specs.Graphs.{IsOddCycle, graph_of}
 use Rattle.dpl_spec_split.specs.Pieces.{Conflict}
-use Rattle.dpl_cut.specs.Cutting.{cut_view}
+use Rattle.dpl_piece.specs.View.{cut_view}
 use Rattle.dpl_view.specs.Clashes.{IsToldOf}
 use Rattle.dpl_spec_split.specs.Decomposition.{conflicts}
 use Rattle.dpl_answer.proofs.Deciding.{same_conflicts}

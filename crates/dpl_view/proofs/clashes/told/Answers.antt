@@ -1,6 +1,6 @@
 use Rattle.std.proofs.Common.{[], ℕ, List, subst, ◌∙◌}
 use Rattle.std.proofs.lemmas.List.{get_or_read}
-use Rattle.dpl_cut.specs.Cutting.{cut_view}
+use Rattle.dpl_piece.specs.View.{cut_view}
 use Rattle.dpl_view.specs.Clashes.{IsToldOf}
 use Rattle.dpl_view.proofs.ViewLaws.{told_more}
 use Rattle.dpl_view.proofs.clashes.told.Goals as goal

@@ -1,6 +1,6 @@
 use Rattle.std.proofs.Common.{subst, None}
 use Rattle.dpl_spec_split.proofs.MarkLaws.{none-marked}
-use Rattle.dpl_cut.specs.Cutting.{cut_view}
+use Rattle.dpl_piece.specs.View.{cut_view}
 use Rattle.dpl_layer.specs.View.{IsLayerFault, choice_view}
 use Rattle.dpl_layer.specs.declared.fault.LayerFault.{LayerFault}
 use Rattle.dpl_view.proofs.finding.find.Goals as goal

@@ -1,5 +1,5 @@
 use Rattle.std.proofs.Common.{refl, rules}
-use Rattle.dpl_cut.specs.Cutting.{cut_view}
+use Rattle.dpl_piece.specs.View.{cut_view}
 use Rattle.dpl_view.proofs.SeamLaws.{no_seams, some_seams}
 use Rattle.dpl_view.proofs.stitches.seams_of.Goals as goal
 

@@ -1,7 +1,7 @@
 use Rattle.std.proofs.Common.{ℕ, List, length, subst, sym}
 use Rattle.dpl_spec_split.specs.Pieces.{Conflict}
 use Rattle.dpl_spec_split.specs.Cycle.{IsReported}
-use Rattle.dpl_cut.specs.Cutting.{cut_view}
+use Rattle.dpl_piece.specs.View.{cut_view}
 use Rattle.dpl_session.specs.declared.verdict.Verdict.{Verdict}
 use Rattle.dpl_session.specs.Answered.{Decides}
 use Rattle.dpl_session.proofs.session.Session.answer.Goals as goal
