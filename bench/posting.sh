@@ -1,10 +1,10 @@
 #!/bin/sh
-# Times `dpl split` where many small tiles are posted, by one worker and by more.
+# Times `dpl split` where many small tiles are posted, by two workers and by more.
 #
 # usage: sh bench/posting.sh DPL [SIZE [WORKERS ..]]
 #
 # DPL is the program, SIZE the COUNT of layouts.py (default: 1000000), WORKERS numbers of workers (default:
-# 1 4 64), KIND from the environment a kind of layouts.py (default: pairs). Each line has the number of workers,
+# 2 4 64; one worker posts nothing, since it makes no tiles), KIND from the environment a kind of layouts.py (default: pairs). Each line has the number of workers,
 # the least seconds of ROUNDS runs (from the environment, default: 3) with small tiles, and the same with large
 # ones, of which there are few. The small ones have a side of 64, doubled while there would be too many. So each
 # of the pairs has a tile of its own, with one edge; a million bars lie in about 139,000 tiles of side 512, one
@@ -13,7 +13,7 @@
 set -eu
 here=$(cd "$(dirname "$0")" && pwd)
 . "$here/words.sh"
-read_words "1000000" "1 4 64" "$@"
+read_words "1000000" "2 4 64" "$@"
 python3 "$here/layouts.py" "${KIND:-pairs}" "$second" 1 "$work/in.gds"
 python3 - "$dpl" "$work" "${ROUNDS:-3}" "${KIND:-pairs}" "$second" $rest <<'PY'
 import subprocess, sys, time

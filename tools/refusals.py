@@ -167,6 +167,8 @@ CASES = {
     "tiles": Case([(0, 0, 64000, 20), (0, 40, 64000, 60)], "--tile 64", 0, 1),
     # So many rows a tile that a post merges a block.
     "crowded": Case(list(pairs(33000)), "--tile 4096 --workers 2", 0, 1009),
+    # One worker, who makes no tiles.
+    "listed": Case(CROWD, "--workers 1", 0, 1),
     "large": Case(list(pairs(33000)), "--tile 4096 --workers 2", 65536, 1),
 }
 

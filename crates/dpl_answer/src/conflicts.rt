@@ -35,8 +35,8 @@ const DENSE: u64 = 64;
 /// How many of the edges that are listed at once are looked at before all of them are, where there are many.
 const FIRST_EDGES: usize = 65_536;
 
-/// Up to how many edges are looked at all at once.
-const FEW_EDGES: usize = 524_288;
+/// Up to how many edges all are summed up without a look at the first ones.
+const MOST_AT_ONCE: usize = 524_288;
 
 /// The side of a tile that has every layer.
 const WIDEST: u32 = 1 << 31;
@@ -172,7 +172,7 @@ fn conflicts_among(alloc: Global, edges: Vec<Edge>) -> Result<Conflicts, AllocEr
     requires { AreEdgePairs edges.items }
     ensures { IfOk result (AreAmong edges.items) }
 {
-    if edges.len() > FEW_EDGES && start_odd(alloc, &edges, FIRST_EDGES)? {
+    if edges.len() > MOST_AT_ONCE && start_odd(alloc, &edges, FIRST_EDGES)? {
         return Ok(Conflicts::Odd(edges));
     }
     let joined = stars(alloc, &edges)?;

@@ -108,7 +108,7 @@ fn edit_by<'a, R: Threads + Wait + Sync, G: Gate + Sync>(
     decided(alloc, &split, Decision::Answered { copied, answer })
 }
 
-/// The command line of `split` whose answer it is, for the edited layer: no markers, and a pool of one worker.
+/// The command line of `split` whose answer it is, for the edited layer: no markers, and one worker, who makes no tiles.
 fn split_by<'a>(options: &EditOptions<'a>) -> SplitOptions<'a>
     ensures { split_view result ≡ split_by_of (edit_view options.now) }
 {

@@ -131,3 +131,37 @@ fn finds_the_zones(rt: HostRuntime) -> Result<(), Fail> {
     }
     Ok(())
 }
+
+/// How many rungs the ladder has.
+const RUNGS: u8 = 18;
+
+/// A ladder: two rails, and rungs as far from one another as they are wide.
+fn ladder(alloc: Global) -> Result<Vec<Corners>, AllocError> {
+    let mut rects = vec![in alloc; (0, 0, 20, 700), (100, 0, 120, 700)]?;
+    for k in 0..RUNGS {
+        let low = 40 * k as i32;
+        rects.push((20, low, 100, low + 20))?;
+    }
+    Ok(rects)
+}
+
+/// Its zones: one across each rung, and one across each rail between two rungs. Those across both rails and a rung touch the rung's own.
+fn zones_of_ladder(alloc: Global) -> Result<Vec<(Corners, u64)>, AllocError> {
+    let mut zones = vec![in alloc; ((55, 0, 65, 20), 0)]?;
+    for k in 1..RUNGS {
+        let low = 40 * k as i32;
+        zones.push(((0, low - 15, 20, low - 5), 0))?;
+        zones.push(((100, low - 15, 120, low - 5), 0))?;
+        zones.push(((55, low, 65, low + 20), 0))?;
+    }
+    Ok(zones)
+}
+
+#[test]
+fn finds_the_zones_of_a_ladder(rt: HostRuntime) -> Result<(), Fail> {
+    let alloc = rt.alloc();
+    let rects = ladder(alloc)?;
+    let want = zones_of_ladder(alloc)?;
+    assert!(rt; has_zones(alloc, rects.as_slice(), want.as_slice())?);
+    Ok(())
+}

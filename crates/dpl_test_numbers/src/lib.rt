@@ -2,6 +2,8 @@
 #![tactic(auto)]
 
 #[cfg(test)]
+mod boundaries;
+#[cfg(test)]
 mod loops;
 #[cfg(test)]
 mod placements;

@@ -79,16 +79,16 @@ passed-at zones start k n from n_in before here = record {
 pub passed-all : (zones : List Zone) (start k : ℕ) → start ≤ length zones → AreBelow zones start k (length zones) → IsPassed zones start k (length zones)
 passed-all zones start k from before = record { from = from; within = omega arith; before = before; after = λ d l. absurd (omega (arith, l)) }
 
-in-stretch : {X : Type 0} (xs : List X) (a b : ℕ) (x : X) → b ≤ length xs → Contains (take (b - a) (drop a xs)) x
+in-portion : {X : Type 0} (xs : List X) (a b : ℕ) (x : X) → b ≤ length xs → Contains (take (b - a) (drop a xs)) x
     → (j : ℕ) × (a ≤ j) × (j < b) × (j < length xs) × (get_or xs j x ≡ x)
-in-stretch xs a b x within (k, k_in, k_is) =
+in-portion xs a b x within (k, k_in, k_is) =
     let t = length-take (b - a) (drop a xs) in
     let d = length-drop a xs in
     let l : k < b - a = omega (arith, k_in, t, d) in
     (a + k, omega arith, omega (arith, l), omega (arith, l, within), sym (get_or-take (b - a) (drop a xs) k x l ∙ get_or-drop a xs k x) ∙ k_is)
 
-to-stretch : {X : Type 0} (xs : List X) (a b : ℕ) (x : X) (j : ℕ) → b ≤ length xs → a ≤ j → j < b → get_or xs j x ≡ x → Contains (take (b - a) (drop a xs)) x
-to-stretch xs a b x j within low high is =
+to-portion : {X : Type 0} (xs : List X) (a b : ℕ) (x : X) (j : ℕ) → b ≤ length xs → a ≤ j → j < b → get_or xs j x ≡ x → Contains (take (b - a) (drop a xs)) x
+to-portion xs a b x j within low high is =
     let t = length-take (b - a) (drop a xs) in
     let d = length-drop a xs in
     let l : j - a < b - a = omega (arith, low, high) in
@@ -163,10 +163,10 @@ module _ (flat upright : List Zone) (flat_rise : FeaturesRise flat) (upright_ris
         | inl l ↦ l
         | inr m ↦ absurd (let after = run.after h (omega (arith, m, i_in)) in let more = flat_rise high i h m i_in in omega (arith, after, more, here))
       ] in
-      (h, to-stretch flat low high h i run.within a b i_is, same, touch)
+      (h, to-portion flat low high h i run.within a b i_is, same, touch)
 
   touch-from : (w : Zone) → TouchesOwn (take (high - low) (drop low flat)) w → TouchesOwn flat w
-  touch-from w (h, c, same, touch) = let (i, a, b, i_in, i_is) = in-stretch flat low high h run.within c in (h, (i, i_in, i_is), same, touch)
+  touch-from w (h, c, same, touch) = let (i, a, b, i_in, i_is) = in-portion flat low high h run.within c in (h, (i, i_in, i_is), same, touch)
 
   pub run-more : (old new : List Zone) → ((w : Zone) → Contains old w ↔ KeptOf flat upright start w)
       → ((w : Zone) → Contains new w ↔ (Contains old w ⊎ (Contains (take (end - start) (drop start upright)) w × (TouchesOwn (take (high - low) (drop low flat)) w → ⊥))))
@@ -176,12 +176,12 @@ module _ (flat upright : List Zone) (flat_rise : FeaturesRise flat) (upright_ris
         λ c. elim ((step w).0 c) [
           | inl a ↦ (let (j, l, j_in, is, free) = (before w).0 a in (j, omega (arith, l, on), j_in, is, free))
           | inr (a, free) ↦
-              (let (j, l, m, j_in, is) = in-stretch upright start end w own.within a in
+              (let (j, l, m, j_in, is) = in-portion upright start end w own.within a in
               (j, m, j_in, is, λ t. free (touch-to w (of-run w j l m j_in is) t)))
         ],
         λ (j, l, j_in, is, free). (step w).1 (elim (cases_lt j start) [
           | inl m ↦ inl ((before w).1 (j, m, j_in, is, free))
-          | inr m ↦ inr (to-stretch upright start end w j own.within m l is, λ t. free (touch-from w t))
+          | inr m ↦ inr (to-portion upright start end w j own.within m l is, λ t. free (touch-from w t))
         ]),
       )
 

@@ -282,18 +282,18 @@ AreUpTo found n at = (k : ℕ) (d : Shade) → k < at → k < length found → (
 pub start-first : (found : List Shade) → IsStart found 0 0
 start-first found = record { within = omega arith; under = λ k d l. absurd (omega (arith, l)); over = λ k d l k_in. omega arith }
 
-pub stretch-none : (found : List Shade) (n at : ℕ) → IsStart found n at → AreUpTo found n at
-stretch-none found n at start k d l k_in = let h = start.under k d l k_in in omega (arith, h)
+pub portion-none : (found : List Shade) (n at : ℕ) → IsStart found n at → AreUpTo found n at
+portion-none found n at start k d l k_in = let h = start.under k d l k_in in omega (arith, h)
 
-pub stretch-more : (found : List Shade) (n at : ℕ) → AreUpTo found n at → ((d : Shade) → (get_or found at d).number ≡ n) → AreUpTo found n (at + 1)
-stretch-more found n at before is k d l k_in = elim (cases_eq k at) [
+pub portion-more : (found : List Shade) (n at : ℕ) → AreUpTo found n at → ((d : Shade) → (get_or found at d).number ≡ n) → AreUpTo found n (at + 1)
+portion-more found n at before is k d l k_in = elim (cases_eq k at) [
   | inl same ↦ (let h = ap (λ (m : ℕ). (get_or found m d).number) same ∙ is d in omega (arith, h))
   | inr ne ↦ before k d (omega (arith, l, ne)) k_in
 ]
 
-pub stretch-to : (found : List Shade) (n start at : ℕ) → NumbersRise found → IsStart found n start → start ≤ at → at < length found → AreUpTo found n at
+pub portion-to : (found : List Shade) (n start at : ℕ) → NumbersRise found → IsStart found n start → start ≤ at → at < length found → AreUpTo found n at
     → ((d : Shade) → (get_or found at d).number ≢ n) → IsStart found (n + 1) at
-stretch-to found n start at rise first behind at_in before ne = record {
+portion-to found n start at rise first behind at_in before ne = record {
   within = omega (arith, at_in);
   under = before;
   over = λ k d l k_in.
@@ -303,8 +303,8 @@ stretch-to found n start at rise first behind at_in before ne = record {
       omega (arith, low, more, other));
 }
 
-pub stretch-over : (found : List Shade) (n at : ℕ) → at ≡ length found → AreUpTo found n at → IsStart found (n + 1) at
-stretch-over found n at is before = record { within = omega (arith, is); under = before; over = λ k d l k_in. absurd (omega (arith, is, l, k_in)) }
+pub portion-over : (found : List Shade) (n at : ℕ) → at ≡ length found → AreUpTo found n at → IsStart found (n + 1) at
+portion-over found n at is before = record { within = omega (arith, is); under = before; over = λ k d l k_in. absurd (omega (arith, is, l, k_in)) }
 
 starts-rise : (found : List Shade) (n a b : ℕ) → IsStart found n a → IsStart found (n + 1) b → a ≤ b
 starts-rise found n a b first second = elim (cases_lt b a) [
@@ -317,8 +317,8 @@ starts-rise found n a b first second = elim (cases_lt b a) [
 ]
 
 module _ (found : List Shade) (n a b : ℕ) (first : IsStart found n a) (second : IsStart found (n + 1) b) where
-  pub stretch-rises : a ≤ b
-  stretch-rises = starts-rise found n a b first second
+  pub portion-rises : a ≤ b
+  portion-rises = starts-rise found n a b first second
 
   size : length (take (b - a) (drop a found)) ≡ b - a
   size = let within = second.within in let t = length-take (b - a) (drop a found) in let d = length-drop a found in omega (arith, t, d, within)

@@ -8,7 +8,7 @@ use Rattle.dpl_join.specs.Pairs.{item_at}
 use Rattle.dpl_zone.specs.declared.rows.Span.{Span}
 use Rattle.dpl_zone.specs.declared.shades.Shade.{Shade}
 use Rattle.dpl_zone.specs.declared.shades.Shades.{Shades}
-use Rattle.dpl_zone.specs.declared.shades.Stretch.{Stretch}
+use Rattle.dpl_zone.specs.declared.shades.Portion.{Portion}
 use Rattle.dpl_zone.specs.Rows.{InRows, IsLit, IsShaded}
 
 -- item m, which is another owner's, shades row y of item n
@@ -76,7 +76,7 @@ pub record IsStart (found : List Shade) (n at : ℕ) : Type 0 where
   pub over : (k : ℕ) (d : Shade) → at ≤ k → k < length found → n ≤ (slice_index_or found k d).number
 
 -- the shades of an item stand from a place up to but not another one, and no others do
-pub record IsStretch (found : List Shade) (at : Stretch) : Type 0 where
+pub record IsPortion (found : List Shade) (at : Portion) : Type 0 where
   pub start : IsStart found at.number at.start
   pub end : IsStart found (at.number + 1) at.end
 

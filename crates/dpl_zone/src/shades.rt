@@ -9,7 +9,7 @@ ghost use Rattle.dpl_join.specs.Pairs.{IsPair, item_at};
 ghost use Rattle.dpl_zone.specs.declared.shades.Shade.{Shade};
 ghost use Rattle.dpl_zone.specs.Owned.{AreOwnedWithin};
 ghost use Rattle.dpl_zone.specs.Rows.{AreTall, IsShadow, RiseByFrom, SomeRow};
-ghost use Rattle.dpl_zone.specs.Shading.{AreShades, Handles, HandlesBoth, HasShade, IsMore, IsSound, IsStart, IsStretch, NumbersRise};
+ghost use Rattle.dpl_zone.specs.Shading.{AreShades, Handles, HandlesBoth, HasShade, IsMore, IsSound, IsStart, IsPortion, NumbersRise};
 
 use crate::rows::{Span, shadow};
 use crate::slab_zones::is_short;
@@ -35,7 +35,7 @@ pub(crate) struct Shades {
 
 /// Where the shades of an item stand among all.
 #[derive(Clone, Copy, Drop)]
-pub(crate) struct Stretch {
+pub(crate) struct Portion {
     pub(crate) number: u32,
     pub(crate) start: usize,
     pub(crate) end: usize,
@@ -225,7 +225,7 @@ pub(crate) fn shades_of(
 }
 
 /// The place behind the shades of item `n`, which begin at place `start`.
-fn stretch_end(found: &[Shade], n: u32, start: usize) -> usize
+fn portion_end(found: &[Shade], n: u32, start: usize) -> usize
     requires rise { NumbersRise found.now }
     requires start { IsStart found.now n start }
     ensures { IsStart found.now (n + 1) result }
@@ -239,14 +239,14 @@ fn stretch_end(found: &[Shade], n: u32, start: usize) -> usize
 }
 
 /// Where the shades of item `n` stand, which begin at place `start`.
-pub(crate) fn stretch_from(found: &[Shade], n: u32, start: usize) -> Stretch
+pub(crate) fn portion_from(found: &[Shade], n: u32, start: usize) -> Portion
     requires rise { NumbersRise found.now }
     requires start { IsStart found.now n start }
     ensures number { result.number ≡ n }
-    ensures stretch { IsStretch found.now result }
+    ensures portion { IsPortion found.now result }
 {
-    let end = stretch_end(found, n, start);
-    Stretch {
+    let end = portion_end(found, n, start);
+    Portion {
         number: n,
         start,
         end,
@@ -254,16 +254,16 @@ pub(crate) fn stretch_from(found: &[Shade], n: u32, start: usize) -> Stretch
 }
 
 /// The shades of one item.
-fn shades_at(found: &[Shade], at: Stretch) -> &[Shade]
-    requires { IsStretch found.now at }
+fn shades_at(found: &[Shade], at: Portion) -> &[Shade]
+    requires { IsPortion found.now at }
     ensures { (s : Shade) → Contains result.now s ↔ (Contains found.now s × (s.number ≡ at.number)) }
 {
     &found[at.start..at.end]
 }
 
 /// Lists the rows of an item's shades, in no order.
-fn list_rows(spans: &mut Vec<Span>, found: &[Shade], at: Stretch) -> Result<(), AllocError>
-    requires stretch { IsStretch found.now at }
+fn list_rows(spans: &mut Vec<Span>, found: &[Shade], at: Portion) -> Result<(), AllocError>
+    requires portion { IsPortion found.now at }
     requires tall { (s : Shade) → Contains found.now s → s.span.from <ℤ s.span.to }
     ensures tall { OnOk result (AreTall spans.new.items) }
     ensures rows { OnOk result ((y : ℤ) → SomeRow spans.new.items y ↔ HasShade found.now at.number y) }
@@ -277,8 +277,8 @@ fn list_rows(spans: &mut Vec<Span>, found: &[Shade], at: Stretch) -> Result<(), 
 }
 
 /// Lists the rows of an item's shades, by lowest row, in place of what `spans` had.
-pub(crate) fn rows_at(spans: &mut Vec<Span>, found: &[Shade], at: Stretch) -> Result<(), AllocError>
-    requires stretch { IsStretch found.now at }
+pub(crate) fn rows_at(spans: &mut Vec<Span>, found: &[Shade], at: Portion) -> Result<(), AllocError>
+    requires portion { IsPortion found.now at }
     requires tall { (s : Shade) → Contains found.now s → s.span.from <ℤ s.span.to }
     ensures tall { OnOk result (AreTall spans.new.items) }
     ensures rise { OnOk result (RiseByFrom spans.new.items) }

@@ -10,12 +10,12 @@ ghost use Rattle.dpl_join.specs.Pairs.{item_at};
 ghost use Rattle.dpl_zone.specs.Ends.{AreEnds};
 ghost use Rattle.dpl_zone.specs.Owned.{AreInOrder, AreOwnedWithin, AreSets, OwnersRise};
 ghost use Rattle.dpl_zone.specs.Rows.{AddsZones, AreTall, GoesAbove, GoesBelow, IsLitZone, IsMiddleOf, IsOpenSpan, RiseByFrom, SomeRow};
-ghost use Rattle.dpl_zone.specs.Shading.{AreShades, IsStretch};
+ghost use Rattle.dpl_zone.specs.Shading.{AreShades, IsPortion};
 ghost use Rattle.dpl_zone.specs.Ways.{AreUpright, IsItemZone};
 
 use crate::ends::{Ends, ends_of};
 use crate::rows::{Span, gaps};
-use crate::shades::{Shades, Stretch, rows_at, shades_of, stretch_from};
+use crate::shades::{Portion, Shades, portion_from, rows_at, shades_of};
 use dpl_base::{Rect, Spacing, Zone};
 use dpl_join::{Item, Join};
 use std::alloc::{AllocError, Global};
@@ -29,6 +29,7 @@ struct Room {
 }
 
 impl Room {
+    /// Room in which nothing is found yet.
     fn new(alloc: Global) -> Room {
         Room {
             spans: Vec::new(alloc),
@@ -143,16 +144,16 @@ fn owner_of(item: &Item) -> usize
     item.owner as usize
 }
 
-/// Lists the zones of an item, whose shades stand at a stretch, in place of those of another.
+/// Lists the zones of an item, whose portion of the shades is given, in place of those of another.
 fn zones_of_item(
     room: &mut Room,
     items: &[Item],
-    at: Stretch,
+    at: Portion,
     ends: &[Ends],
     shades: &Shades,
 ) -> Result<(), AllocError>
     requires known { at.number < length items.now }
-    requires stretch { IsStretch shades.now.found.items at }
+    requires portion { IsPortion shades.now.found.items at }
     requires within { AreOwnedWithin items.now }
     requires shades { AreShades items.now shades.now }
     requires ends { AreEnds items.now shades.now.dead.items ends.now }
@@ -175,17 +176,17 @@ fn zones_of_item(
     Ok(())
 }
 
-/// Adds the zones of an item, whose shades stand at a stretch.
+/// Adds the zones of an item, whose portion of the shades is given.
 fn add_item(
     zones: &mut Vec<Zone>,
     room: &mut Room,
     items: &[Item],
-    at: Stretch,
+    at: Portion,
     ends: &[Ends],
     shades: &Shades,
 ) -> Result<(), AllocError>
     requires known { at.number < length items.now }
-    requires stretch { IsStretch shades.now.found.items at }
+    requires portion { IsPortion shades.now.found.items at }
     requires within { AreOwnedWithin items.now }
     requires shades { AreShades items.now shades.now }
     requires ends { AreEnds items.now shades.now.dead.items ends.now }
@@ -219,7 +220,7 @@ fn zones_of_items(
     let mut room = Room::new(alloc);
     let mut start = 0;
     for n in 0..items.len() {
-        let at = stretch_from(&shades.found, n as u32, start);
+        let at = portion_from(&shades.found, n as u32, start);
         add_item(&mut zones, &mut room, items, at, ends, shades)?;
         start = at.end;
     }

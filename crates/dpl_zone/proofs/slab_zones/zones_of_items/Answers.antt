@@ -12,10 +12,10 @@ loop-n-init c = (
 
 pub loop-n-preserved : goal.loop-n-preserved
 loop-n-preserved c =
-    let own : c.stretch_from-at.result.number ≡ c.loop-n.n = c.stretch_from-at.ensures.number in (
+    let own : c.portion_from-at.result.number ≡ c.loop-n.n = c.portion_from-at.ensures.number in (
       items-more (IsItemZone c.args.shades.now.spacing c.args.shades.now.overlap c.args.items.now) c.args.items.now c.loop-n.n c.loop-n.zones.items _ c.loop-n.invariant.0
           (rw own at c.in_ok-add_item.ensures),
-      rw (c.deref.ensures.value, own) at c.stretch_from-at.ensures.stretch.end,
+      rw (c.deref.ensures.value, own) at c.portion_from-at.ensures.portion.end,
     )
 
 pub returns : goal.returns
