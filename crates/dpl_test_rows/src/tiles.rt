@@ -56,43 +56,37 @@ const LONG: Row = Row {
     },
 };
 
-const TINY: &str = "dpl split --layer 1 --rule 30 --overlap 10 --tile 1 --workers 1 in out cert";
+/// One worker makes no tiles.
+const ONE: &str = "dpl split --layer 1 --rule 30 --overlap 10 --tile 64 --workers 1 in out cert";
 
-const SMALL: &str = "dpl split --layer 1 --rule 30 --overlap 10 --tile 64 --workers 1 in out cert";
+const TINY: &str = "dpl split --layer 1 --rule 30 --overlap 10 --tile 1 --workers 2 in out cert";
+
+const SMALL: &str = "dpl split --layer 1 --rule 30 --overlap 10 --tile 64 --workers 2 in out cert";
 
 const LARGEST: &str =
-    "dpl split --layer 1 --rule 30 --overlap 10 --tile 1073741824 --workers 1 in out cert";
-
-const TWO: &str = "dpl split --layer 1 --rule 30 --overlap 10 --tile 64 --workers 2 in out cert";
-
-const TINY_TWO: &str =
-    "dpl split --layer 1 --rule 30 --overlap 10 --tile 1 --workers 2 in out cert";
-
-const LARGEST_TWO: &str =
     "dpl split --layer 1 --rule 30 --overlap 10 --tile 1073741824 --workers 2 in out cert";
 
 const MANY: &str = "dpl split --layer 1 --rule 30 --overlap 10 --tile 64 --workers 64 in out cert";
 
-const CASES: [(&str, Row); 20] = [
+const CASES: [(&str, Row); 19] = [
+    (ONE, BARS),
     (TINY, BARS),
     (SMALL, BARS),
     (LARGEST, BARS),
+    (MANY, BARS),
+    (ONE, FAR),
     (TINY, FAR),
+    (SMALL, FAR),
     (LARGEST, FAR),
+    (MANY, FAR),
+    (ONE, CLOSE),
     (TINY, CLOSE),
+    (SMALL, CLOSE),
     (LARGEST, CLOSE),
+    (MANY, CLOSE),
+    (ONE, LONG),
     (SMALL, LONG),
     (LARGEST, LONG),
-    (TINY_TWO, BARS),
-    (TINY_TWO, FAR),
-    (TINY_TWO, CLOSE),
-    (LARGEST_TWO, CLOSE),
-    (LARGEST_TWO, LONG),
-    (TWO, FAR),
-    (TWO, CLOSE),
-    (TWO, LONG),
-    (MANY, FAR),
-    (MANY, CLOSE),
     (MANY, LONG),
 ];
 
@@ -131,7 +125,7 @@ fn answers_show_no_tiles_or_workers(rt: HostRuntime) -> Result<(), Fail> {
         a: a.as_slice(),
         b: b.as_slice(),
     };
-    for line in [TINY, TINY_TWO, MANY] {
+    for line in [ONE, TINY, MANY] {
         let file = bars(alloc, layer.as_slice())?;
         assert!(rt; is_done(&rt, alloc, line, file, &done)?, "at {line}");
     }
@@ -203,7 +197,7 @@ const CLASHES: [Clash; 4] = [
 fn tiles_do_not_show_in_a_conflict(rt: HostRuntime) -> Result<(), Fail> {
     let alloc = rt.alloc();
     for clash in CLASHES {
-        for line in [TINY, SMALL, LARGEST, TINY_TWO, TWO, LARGEST_TWO, MANY] {
+        for line in [ONE, TINY, SMALL, LARGEST, MANY] {
             let file = bars(alloc, clash.layer)?;
             assert!(rt;
                 is_conflict(&rt, alloc, line, file, clash.cert)?,

@@ -150,3 +150,12 @@ fn a_plate_has_few_tiles(rt: HostRuntime) -> Result<(), Fail> {
     assert!(rt; gate.entered() <= 65_540);
     Ok(())
 }
+
+#[test]
+fn one_worker_makes_no_tiles(rt: HostRuntime) -> Result<(), Fail> {
+    let gate = Counts::new();
+    let line = "dpl split --layer 1 --rule 30 --overlap 10 --tile 4 --workers 1 in out cert";
+    assert!(rt; is_done(&rt, rt.alloc(), (line, BAR_LINE), &gate)?);
+    assert_eq!(rt; gate.entered(), 0);
+    Ok(())
+}
