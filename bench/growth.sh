@@ -6,7 +6,7 @@
 # DPL is the program; KIND one or more of layouts.py (default: bars dense mesh scatter polygons). Each
 # line has the kind, the size, the seconds, the greatest memory in MiB, the answer, and how many times
 # as long as the line before it took. OPTIONS, from the environment, is passed to split, as
-# OPTIONS="--tile 64 --workers 1"; with CHECK=1 the result is checked too, on a line of its own.
+# OPTIONS="--tile 64 --workers 2"; with CHECK=1 the result is checked too, on a line of its own.
 set -eu
 here=$(cd "$(dirname "$0")" && pwd)
 . "$here/words.sh"

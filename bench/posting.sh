@@ -4,8 +4,8 @@
 # usage: sh bench/posting.sh DPL [SIZE [WORKERS ..]]
 #
 # DPL is the program, SIZE the COUNT of layouts.py (default: 1000000), WORKERS numbers of workers (default:
-# 2 4 64; one worker posts nothing, since it makes no tiles), KIND from the environment a kind of layouts.py (default: pairs). Each line has the number of workers,
-# the least seconds of ROUNDS runs (from the environment, default: 3) with small tiles, and the same with large
+# 2 4 64; one worker posts nothing, since it makes no tiles), KIND from the environment a kind of layouts.py
+# (default: pairs). Each line has the number of workers, the least seconds of ROUNDS runs (from the environment, default: 3) with small tiles, and the same with large
 # ones, of which there are few. The small ones have a side of 64, doubled while there would be too many. So each
 # of the pairs has a tile of its own, with one edge; a million bars lie in about 139,000 tiles of side 512, one
 # to seven bars. The difference is what so many tiles take. Behind it stands its ratio to that of the first line,
