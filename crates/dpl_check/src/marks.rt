@@ -24,8 +24,7 @@ fn squares_off(
     }
     let fixed = layer.meet(alloc, marked)?;
     let alone = mask.minus(alloc, other)?;
-    let off = fixed.minus(alloc, &alone)?;
-    Ok(off)
+    fixed.minus(alloc, &alone)
 }
 
 /// The least square of the layer that is fixed to a mask and isn't on that one alone.

@@ -83,8 +83,7 @@ pub fn check_masks(
         return Ok(Verdict::Piece { index });
     }
     let lines = pieces.items();
-    let verdict = verdict_of_gains(
+    verdict_of_gains(
         alloc, layer, head, lines, gains, spacing, overlap, mark_a, mark_b,
-    )?;
-    Ok(verdict)
+    )
 }

@@ -69,10 +69,12 @@ module _ (top : Option (List ℕ)) (datatype : ℕ) (spacing : Spacing) (overlap
   pub layers_decided : (layers : List ℕ) (choices : List LayerChoice) (reads : List ReadLayer) (ds : List Decision) → AllZip (IsChosen top datatype) layers choices
       → AllZip (IsReadOf bytes) choices reads → AreDecidedFrom spacing overlap reads ds → AreDecisions top datatype layers spacing overlap bytes ds
   layers_decided layers choices reads ds chosen read from = record {
-    each = zip_through (IsChosen top datatype) (λ (choice : LayerChoice) d. IsDecision false (record { layer = choice_view choice; mark_a = None; mark_b = None }) spacing overlap bytes (decision_view d))
+    each = zip_through (IsChosen top datatype) (λ (choice : LayerChoice) d. IsDecision false
+        (record { layer = choice_view choice; mark_a = None; mark_b = None }) spacing overlap bytes (decision_view d))
         (λ layer d. IsDecision false (layer_choice top datatype layer) spacing overlap bytes (decision_view d)) layers choices ds
         (λ layer choice d is h. chosen_decided layer choice d is h) chosen
-        (zip_through (IsReadOf bytes) (IsDecidedFrom spacing overlap) (λ (choice : LayerChoice) d. IsDecision false (record { layer = choice_view choice; mark_a = None; mark_b = None }) spacing overlap bytes (decision_view d))
+        (zip_through (IsReadOf bytes) (IsDecidedFrom spacing overlap) (λ (choice : LayerChoice) d. IsDecision false
+        (record { layer = choice_view choice; mark_a = None; mark_b = None }) spacing overlap bytes (decision_view d))
         choices reads ds (λ choice r d is h. one_decided (choice_view choice) r d is h) read from.0);
     fits = from.1;
   }

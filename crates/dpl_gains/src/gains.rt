@@ -81,8 +81,7 @@ pub fn gains_by_roots(
 {
     let held = held_roots(alloc, pieces.parts().items(), roots, marked)?;
     let tallies = tallies_of(alloc, roots, letters, pieces.sides())?;
-    let gains = listed(alloc, roots, &held, &tallies)?;
-    Ok(gains)
+    listed(alloc, roots, &held, &tallies)
 }
 
 /// The same, where the components aren't known yet: all conflicts of the pieces are found for them.

@@ -140,7 +140,8 @@ pub letter-at : (marks : Option Marks) (colours : List Bool) (k : ℕ) → colou
 letter-at None colours k = refl
 letter-at (Some m) colours k = let two : suc (suc k) ≡ k + 2 = omega arith in behind-two colours k ∙ ap (λ n. get_or colours n false) two
 
-module _ (marks : Option Marks) (spacing : Spacing) (overlap : ℕ) (layer : Region) (c : Cut) (m : Masks) (cut : IsCut marks spacing overlap layer c) (masks : AreLettered marks c m) (sound : AreSound marks spacing c masks.colours) where
+module _ (marks : Option Marks) (spacing : Spacing) (overlap : ℕ) (layer : Region) (c : Cut) (m : Masks) (cut : IsCut marks spacing overlap layer c)
+    (masks : AreLettered marks c m) (sound : AreSound marks spacing c masks.colours) where
   -- a zone's square is clear of other features
   zone-far : (z : Zone) (i j : ℕ) (p q : Pt) → Contains c.zones z → Has z.rect p → part_at c.features i p → part_at c.features j q → i ≢ j → ¬ Near spacing p q
   zone-far z i j p q z_in has in_i in_j ne =

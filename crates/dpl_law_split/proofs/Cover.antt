@@ -36,7 +36,8 @@ module _ (marks : Option Marks) (spacing : Spacing) (overlap : ℕ) (layer : Reg
         by_letter (λ letter. on_mask c.pieces c.zones c.sides colours letter p) (colour_at colours k) (inl (k, l, refl, has)))
   ]
 
-pub cover : (marks : Option Marks) (spacing : Spacing) (overlap : ℕ) (layer : Region) (c : Cut) (m : Masks) → IsCut marks spacing overlap layer c → AreLettered marks c m → (p : Pt) → (Covers m.a p ⊎ Covers m.b p) ↔ layer p
+pub cover : (marks : Option Marks) (spacing : Spacing) (overlap : ℕ) (layer : Region) (c : Cut) (m : Masks) → IsCut marks spacing overlap layer c →
+    AreLettered marks c m → (p : Pt) → (Covers m.a p ⊎ Covers m.b p) ↔ layer p
 cover marks spacing overlap layer c m cut masks p = (
   λ h. elim h [
     | inl a ↦ mask-inside marks spacing overlap layer c cut (letters_by marks masks.colours) false p ((masks.a.covers p).0 a)

@@ -21,7 +21,8 @@ other-of-false : (b : Bool) → b ≢ false → b ≡ true
 other-of-false false ne = absurd (ne refl)
 other-of-false true ne = refl
 
-module _ (m : Marks) (spacing : Spacing) (overlap : ℕ) (layer : Region) (c : Cut) (masks : Masks) (cut : IsCut (Some m) spacing overlap layer c) (are : AreLettered (Some m) c masks) (sound : AreSound (Some m) spacing c are.colours) where
+module _ (m : Marks) (spacing : Spacing) (overlap : ℕ) (layer : Region) (c : Cut) (masks : Masks) (cut : IsCut (Some m) spacing overlap layer c)
+    (are : AreLettered (Some m) c masks) (sound : AreSound (Some m) spacing c are.colours) where
   -- anchor A has letter A
   anchor-a : colour_at are.colours 0 ≡ false
   anchor-a = sound.anchored
@@ -49,7 +50,8 @@ module _ (m : Marks) (spacing : Spacing) (overlap : ℕ) (layer : Region) (c : C
   ]
 
   -- what is marked has no letter but that of its piece
-  one-letter : (k : ℕ) (p : Pt) (letter : Bool) → part_at c.pieces k p → marked_by (Some m) p → on_mask c.pieces c.zones c.sides (letters_by (Some m) are.colours) letter p → colour_at (letters_by (Some m) are.colours) k ≡ letter
+  one-letter : (k : ℕ) (p : Pt) (letter : Bool) → part_at c.pieces k p → marked_by (Some m) p → on_mask c.pieces c.zones c.sides
+      (letters_by (Some m) are.colours) letter p → colour_at (letters_by (Some m) are.colours) k ≡ letter
   one-letter k p letter has marked (inl (j, j_in, j_is, in_j)) = ap (λ n. colour_at (letters_by (Some m) are.colours) n) (part-same _ c.pieces k j p cut.pieces.components has in_j) ∙ j_is
   one-letter k p letter has marked (inr (j, z, side, l, z_is, side_is, letter_is, in_z)) = absurd (((cut.zones.exactly z).0 (j, l, z_is)).1 p in_z marked)
 

@@ -46,7 +46,8 @@ module _ (marks : Option Marks) (spacing : Spacing) (overlap : ℕ) (layer : Reg
   abbrev masked : Bool → Region
   masked letter p = on_mask c.pieces c.zones c.sides (letters_by marks masks.colours) letter p
 
-  stitched : (p : Pt) → on_mask c.pieces c.zones c.sides (letters_by marks masks.colours) false p → on_mask c.pieces c.zones c.sides (letters_by marks masks.colours) true p → Covers (rects_of c.zones m.stitches) p
+  stitched : (p : Pt) → on_mask c.pieces c.zones c.sides (letters_by marks masks.colours) false p → on_mask c.pieces c.zones c.sides
+      (letters_by marks masks.colours) true p → Covers (rects_of c.zones m.stitches) p
   stitched p (inl (k, k_in, k_is, in_k)) (inl (l, l_in, l_is, in_l)) =
       let same : k ≡ l = part-same _ c.pieces k l p cut.pieces.components in_k in_l in
       let e : false ≡ true = sym k_is ∙ (ap (λ n. colour_at (letters_by marks masks.colours) n) same ∙ l_is) in cc
@@ -63,7 +64,8 @@ module _ (marks : Option Marks) (spacing : Spacing) (overlap : ℕ) (layer : Reg
       let listed = (masks.stitches.exactly k).1 (s, k_side, s_is, both) in
       covers-zone c.zones m.stitches p k listed (subst (λ v. Has v.rect p) (sym z_is ∙ get_or_default c.zones k z _ k_in) has)
 
-  unstitched : (p : Pt) → Covers (rects_of c.zones m.stitches) p → on_mask c.pieces c.zones c.sides (letters_by marks masks.colours) false p × on_mask c.pieces c.zones c.sides (letters_by marks masks.colours) true p
+  unstitched : (p : Pt) → Covers (rects_of c.zones m.stitches) p → on_mask c.pieces c.zones c.sides (letters_by marks masks.colours) false p × on_mask
+      c.pieces c.zones c.sides (letters_by marks masks.colours) true p
   unstitched p covered =
       let (k, listed, has) = zone-covered c.zones m.stitches p covered in
       let (s, k_side, s_is, both) = (masks.stitches.exactly k).0 listed in

@@ -128,7 +128,8 @@ module _ (marks : Option Marks) (spacing : Spacing) (cut : Cut) (cycle : List Pl
       (joined-at k k_in)
 
 -- what is counted of a layer is what any cut of it has
-count-of : (marks : Option Marks) (spacing : Spacing) (overlap : ℕ) (layer : List Rect) (head : Head) (cut : Cut) → IsCut marks spacing overlap (Covers layer) cut → (CountsDiffer marks spacing overlap layer head → ⊥)
+count-of : (marks : Option Marks) (spacing : Spacing) (overlap : ℕ) (layer : List Rect) (head : Head) (cut : Cut) → IsCut marks spacing overlap (Covers layer)
+    cut → (CountsDiffer marks spacing overlap layer head → ⊥)
     → (head.features ≡ length cut.features) × (head.pieces ≡ length cut.pieces) × (head.zones ≡ length cut.zones)
 count-of marks spacing overlap layer head cut is none = (
   equal-where head.features (length cut.features)
@@ -141,13 +142,19 @@ pub there-is : (marks : Option Marks) (spacing : Spacing) (overlap : ℕ) (c : C
     → IsCycleOf marks spacing overlap c.layer c.head c.cycle c.near
 there-is marks spacing overlap c long each valid =
     let one = unbroken (RulesDiffer spacing overlap c.head) (ShowsRules c.head None) (VerdictFromCounts marks spacing overlap c) Valid (λ e. cc) valid in
-    let two = unbroken (CountsDiffer marks spacing overlap c.layer c.head) (ShowsCounts marks spacing overlap c.layer) (VerdictFromCycle marks spacing overlap c) Valid (λ (f, p, z, are, e). cc) one.1 in
+    let two = unbroken (CountsDiffer marks spacing overlap c.layer c.head) (ShowsCounts marks spacing overlap c.layer)
+    (VerdictFromCycle marks spacing overlap c) Valid (λ (f, p, z, are, e). cc) one.1 in
     let (cut, is, found) = two.1 in
     let good = unbroken (HasBad (IsBadPlace marks spacing cut c.cycle c.near) c.cycle) (ShowsCycle marks spacing cut c) IsValid Valid (λ (k, bad, e). cc) found in
     record {
       cut = cut;
       is_cut = is;
-      rules = (equal-where c.head.rule spacing.rule (λ ne. one.0 (inl ne)), equal-where c.head.overlap overlap (λ ne. one.0 (inr (inl ne))), equal-where c.head.corner spacing.corner (λ ne. one.0 (inr (inr ne))));
+      rules = (
+        equal-where c.head.rule spacing.rule (λ ne. one.0 (inl ne)),
+        equal-where c.head.overlap overlap (λ ne. one.0 (inr (inl ne))),
+        equal-where
+            c.head.corner spacing.corner (λ ne. one.0 (inr (inr ne))),
+      );
       counted = count-of marks spacing overlap c.layer c.head cut is two.0;
       odd = odd-cycle marks spacing cut c.cycle c.near each good.0 long;
       keyed = all-keyed marks spacing cut c.cycle c.near each good.0 (Covers c.layer) overlap is;

@@ -44,7 +44,12 @@ good-lines marks spacing overlap layer a b head pieces stitches gains valid =
     let claim : Claim = record { layer = layer; a = a; b = b; head = head; pieces = pieces; stitches = stitches; gains = gains } in
     let k : IsKept marks spacing overlap claim = valid-kept marks spacing overlap claim valid in
     record {
-      rules = (equal-where head.rule spacing.rule (λ ne. k.rules (inl ne)), equal-where head.overlap overlap (λ ne. k.rules (inr (inl ne))), equal-where head.corner spacing.corner (λ ne. k.rules (inr (inr ne))));
+      rules = (
+        equal-where head.rule spacing.rule (λ ne. k.rules (inl ne)),
+        equal-where head.overlap overlap (λ ne. k.rules (inr (inl ne))),
+        equal-where
+            head.corner spacing.corner (λ ne. k.rules (inr (inr ne))),
+      );
       counted = count-is layer head k.counts;
       stitched = λ n d n_in. good-where overlap a b pieces (get_or stitches n d) (none-bad (IsBadStitch overlap a b pieces) stitches k.stitches n d n_in);
       lettered = λ n d n_in. covered-where (cond (get_or pieces n d).b b a) (get_or pieces n d).key (none-bad (IsBadPiece a b) pieces k.pieces n d n_in);

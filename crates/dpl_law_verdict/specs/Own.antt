@@ -59,7 +59,8 @@ ShowNearest spacing pieces cycle near = (k : ℕ) (d : NearLine) → k < length 
 
 -- without an odd cycle of conflicts nothing is wrong with the masks and the lines of their certificate
 abbrev pub OwnMasksAreValid : Type 0
-OwnMasksAreValid = (marks : Option Marks) (spacing : Spacing) (overlap : ℕ) (layer : List Rect) (c : Cut) (m : Masks) → IsCut marks spacing overlap (Covers layer) c → (are : AreMasks marks spacing c m) → ¬ HasOddCycle (cut_graph marks spacing c)
+OwnMasksAreValid = (marks : Option Marks) (spacing : Spacing) (overlap : ℕ) (layer : List Rect) (c : Cut) (m : Masks) → IsCut marks spacing overlap
+    (Covers layer) c → (are : AreMasks marks spacing c m) → ¬ HasOddCycle (cut_graph marks spacing c)
     → IsVerdictOfMasks marks spacing overlap layer m.a m.b (MasksText (head_of spacing overlap c) (map piece_line (zip (letters_by marks are.colours) c.keys))
     (map (stitch_line c.zones c.sides) m.stitches) None) Valid
 

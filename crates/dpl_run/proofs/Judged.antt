@@ -97,7 +97,8 @@ none_left : (marks : Option Marks) (spacing : Spacing) (overlap : ℕ) (layer a 
 none_left marks spacing overlap layer a b head pieces stitches None fits valid = tt
 none_left marks spacing overlap layer a b head pieces stitches (Some lines) fits valid = none-fewer marks spacing overlap layer a b head pieces stitches lines fits valid
 
-masks_right : (v : CheckValues) (marks : Option Marks) (layer : List Rect) (head : Head) (pieces : List PieceLine) (stitches : List StitchLine) (gains : Option (List Gain)) (bytes : List ℕ) (x : Outcome)
+masks_right : (v : CheckValues) (marks : Option Marks) (layer : List Rect) (head : Head) (pieces : List PieceLine) (stitches : List StitchLine)
+    (gains : Option (List Gain)) (bytes : List ℕ) (x : Outcome)
     → IsCert (Masks head pieces stitches gains) → IsCheckOfMasks v marks layer (Masks head pieces stitches gains) bytes x → x.status ≡ Done
     → HasRightMasks v marks layer head pieces stitches gains bytes
 masks_right v marks layer head pieces stitches gains bytes x fits (Faulty name at, read, is) done = absurd (other x (refusal_of (codes "out") name at) Refused is refl refused done)

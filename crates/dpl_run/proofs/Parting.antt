@@ -51,7 +51,8 @@ line_rects : (zones : List Zone) (sides : List (ℕ × ℕ)) (ks : List ℕ) →
 line_rects zones sides [] = refl
 line_rects zones sides (k ∷ ks) = ap (λ (rs : List Rect). rect_at zones k ∷ rs) (line_rects zones sides ks)
 
-pub painted_parts : (fewer : Bool) (marks : Option Marks) (spacing : Spacing) (overlap : ℕ) (layer : List Rect) (cut : Cut) (p : Painted) → IsCut marks spacing overlap (Covers layer) cut → IsPaintedCut fewer marks spacing overlap cut p
+pub painted_parts : (fewer : Bool) (marks : Option Marks) (spacing : Spacing) (overlap : ℕ) (layer : List Rect) (cut : Cut) (p : Painted) → IsCut marks
+    spacing overlap (Covers layer) cut → IsPaintedCut fewer marks spacing overlap cut p
     → ArePartingMasks spacing layer (rects_of_lines p.stitches) p.a p.b
 painted_parts fewer marks spacing overlap layer cut p is painted =
     let m = painted.masks in

@@ -127,7 +127,8 @@ pub record WritesEdited (v : EditValues) (o : Outside) (writes : List (Text × L
   -- no marks are asked for
   pub masks : AreWrittenMasks (split_by v) None copied after writes
 
--- what a request writes: `split` the masks, if it is done, `batch` those of each layer that is done, and `edit`, if it is done, those of the edited layer; the others write nothing, and a `check` that is done has found that all is right
+-- what a request writes: `split` the masks, if it is done, `batch` those of each layer that is done, and `edit`, if it is done, those of the edited layer;
+-- the others write nothing, and a `check` that is done has found that all is right
 abbrev pub IsPartedBy : Option RequestValues → Status → Outside → List (Text × List ℕ) → Type 0
 IsPartedBy (Some (AsksSplit v)) status o writes = IsPartedAlone v status o writes
 IsPartedBy (Some (AsksCheck v)) status o writes = (writes ≡ []) × (status ≡ Done → IsRight v o)

@@ -110,8 +110,7 @@ impl<'a> Index<'a> {
         let whole = everywhere();
         let clip = clipped(&whole, window);
         let frame = Slabs::one(alloc, clip)?;
-        let squares = all.meet(alloc, &frame)?;
-        Ok(squares)
+        all.meet(alloc, &frame)
     }
 
     /// The number of a piece with a square in the rectangle, which has one.

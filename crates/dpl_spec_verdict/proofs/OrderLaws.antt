@@ -80,7 +80,8 @@ pair-shown related make v w (p, q, one, e) (r, s, other, f) =
     let same = pair-unique related p q r s one other in
     e ∙ (ap (λ x. make x q) same.0 ∙ (ap (λ y. make r y) same.1 ∙ sym f))
 
-counts-shown : (marks : Option Marks) (spacing : Spacing) (overlap : ℕ) (layer : List Rect) (v w : Verdict) → ShowsCounts marks spacing overlap layer v → ShowsCounts marks spacing overlap layer w → v ≡ w
+counts-shown : (marks : Option Marks) (spacing : Spacing) (overlap : ℕ) (layer : List Rect) (v w : Verdict) → ShowsCounts marks spacing overlap layer v →
+    ShowsCounts marks spacing overlap layer w → v ≡ w
 counts-shown marks spacing overlap layer v w (f, p, z, (c, c_is, cf, cp, cz), e) (g, q, y, (d, d_is, df, dp, dz), h) =
     let same : c ≡ d = one-cut marks spacing overlap (Covers layer) c d c_is d_is in
     let ff : f ≡ g = cf ∙ (ap (λ (x : Cut). length x.features) same ∙ sym df) in
@@ -117,19 +118,22 @@ claim-unique marks spacing overlap c v w =
 
 pub masks-unique : (marks : Option Marks) (spacing : Spacing) (overlap : ℕ) (layer a b : List Rect) (cert : Cert) (v w : Verdict)
     → IsVerdictOfMasks marks spacing overlap layer a b cert v → IsVerdictOfMasks marks spacing overlap layer a b cert w → v ≡ w
-masks-unique marks spacing overlap layer a b (Masks h ps ss gs) v w e f = claim-unique marks spacing overlap (record { layer = layer; a = a; b = b; head = h; pieces = ps; stitches = ss; gains = gs }) v w e f
+masks-unique marks spacing overlap layer a b (Masks h ps ss gs) v w e f = claim-unique marks spacing overlap
+    (record { layer = layer; a = a; b = b; head = h; pieces = ps; stitches = ss; gains = gs }) v w e f
 masks-unique marks spacing overlap layer a b (Conflict h cs ns) v w e f = absurd e
 masks-unique marks spacing overlap layer a b (Fault name at) v w e f = absurd e
 
 -- by the one cut
-cycle-unique : (marks : Option Marks) (spacing : Spacing) (overlap : ℕ) (c : CycleClaim) (v w : Verdict) → VerdictFromCycle marks spacing overlap c v → VerdictFromCycle marks spacing overlap c w → v ≡ w
+cycle-unique : (marks : Option Marks) (spacing : Spacing) (overlap : ℕ) (c : CycleClaim) (v w : Verdict) → VerdictFromCycle marks spacing overlap c v →
+    VerdictFromCycle marks spacing overlap c w → v ≡ w
 cycle-unique marks spacing overlap c v w (k, k_is, e) (l, l_is, f) =
     let same : k ≡ l = one-cut marks spacing overlap (Covers c.layer) k l k_is l_is in
     let g : VerdictOfCycle marks spacing k c w = subst (λ (x : Cut). VerdictOfCycle marks spacing x c w) (sym same) f in
     first-unique (HasBad (IsBadPlace marks spacing k c.cycle c.near) c.cycle) (ShowsCycle marks spacing k c) IsValid v w
     (bad-shown (IsBadPlace marks spacing k c.cycle c.near) c.cycle no_place Cycle v w) (valid-shown v w) e g
 
-conflict-claim-unique : (marks : Option Marks) (spacing : Spacing) (overlap : ℕ) (c : CycleClaim) (v w : Verdict) → CycleVerdict marks spacing overlap c v → CycleVerdict marks spacing overlap c w → v ≡ w
+conflict-claim-unique : (marks : Option Marks) (spacing : Spacing) (overlap : ℕ) (c : CycleClaim) (v w : Verdict) → CycleVerdict marks spacing overlap c v →
+    CycleVerdict marks spacing overlap c w → v ≡ w
 conflict-claim-unique marks spacing overlap c v w =
     first-unique (RulesDiffer spacing overlap c.head) (ShowsRules c.head None) (CycleVerdictFromCounts marks spacing overlap c) v w (rules-shown c.head None v w)
     (first-unique (CountsDiffer marks spacing overlap c.layer c.head) (ShowsCounts marks spacing overlap c.layer) (VerdictFromCycle marks spacing overlap c) v w

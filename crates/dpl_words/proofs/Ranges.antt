@@ -82,7 +82,49 @@ flag a x y = inr (record { action = x; missing = y })
 
 each_split : Each split_level.rules
 unfolding clap_on_literals
-each_split = (one _ refl refl, (one _ refl refl, (one _ refl refl, (one _ refl refl, (one _ refl refl, (one _ refl refl, (one _ refl refl, (one _ refl refl, (one _ refl refl, (one _ refl refl, (one _ refl refl, (one _ refl refl, (flag _ refl refl, (one _ refl refl, (one _ refl refl, (one _ refl refl, tt))))))))))))))))
+each_split = (
+  one _ refl refl,
+  (
+    one _ refl refl,
+    (
+      one _ refl refl,
+      (
+        one _ refl refl,
+        (
+          one _ refl refl,
+          (
+            one _ refl refl,
+            (
+              one _ refl refl,
+              (
+                one _ refl refl,
+                (
+                  one _ refl refl,
+                  (
+                    one _ refl refl,
+                    (
+                      one _ refl refl,
+                      (
+                        one _ refl refl,
+                        (
+                          flag _ refl refl,
+                          (
+                            one _ refl refl,
+                            (one _ refl refl, (one _ refl refl, tt)),
+                          ),
+                        ),
+                      ),
+                    ),
+                  ),
+                ),
+              ),
+            ),
+          ),
+        ),
+      ),
+    ),
+  ),
+)
 
 plain_split : IsPlainLevel split_level
 unfolding clap_on_literals
@@ -90,7 +132,28 @@ plain_split = record { single = of_each split_level.rules each_split; no_short =
 
 each_check : Each check_level.rules
 unfolding clap_on_literals
-each_check = (one _ refl refl, (one _ refl refl, (one _ refl refl, (one _ refl refl, (one _ refl refl, (one _ refl refl, (one _ refl refl, (one _ refl refl, (one _ refl refl, (one _ refl refl, (one _ refl refl, (one _ refl refl, (one _ refl refl, tt)))))))))))))
+each_check = (
+  one _ refl refl,
+  (
+    one _ refl refl,
+    (
+      one _ refl refl,
+      (
+        one _ refl refl,
+        (
+          one _ refl refl,
+          (
+            one _ refl refl,
+            (
+              one _ refl refl,
+              (one _ refl refl, (one _ refl refl, (one _ refl refl, (one _ refl refl, (one _ refl refl, (one _ refl refl, tt)))))),
+            ),
+          ),
+        ),
+      ),
+    ),
+  ),
+)
 
 plain_check : IsPlainLevel check_level
 unfolding clap_on_literals
@@ -106,7 +169,28 @@ plain_demo = record { single = of_each demo_level.rules each_demo; no_short = λ
 
 each_batch : Each batch_level.rules
 unfolding clap_on_literals
-each_batch = (one _ refl refl, (one _ refl refl, (one _ refl refl, (one _ refl refl, (one _ refl refl, (one _ refl refl, (one _ refl refl, (one _ refl refl, (one _ refl refl, (one _ refl refl, (one _ refl refl, (again _ refl refl, tt))))))))))))
+each_batch = (
+  one _ refl refl,
+  (
+    one _ refl refl,
+    (
+      one _ refl refl,
+      (
+        one _ refl refl,
+        (
+          one _ refl refl,
+          (
+            one _ refl refl,
+            (
+              one _ refl refl,
+              (one _ refl refl, (one _ refl refl, (one _ refl refl, (one _ refl refl, (again _ refl refl, tt))))),
+            ),
+          ),
+        ),
+      ),
+    ),
+  ),
+)
 
 plain_batch : IsPlainLevel batch_level
 unfolding clap_on_literals
@@ -114,7 +198,28 @@ plain_batch = record { single = of_each batch_level.rules each_batch; no_short =
 
 each_edit : Each edit_level.rules
 unfolding clap_on_literals
-each_edit = (one _ refl refl, (one _ refl refl, (one _ refl refl, (one _ refl refl, (one _ refl refl, (one _ refl refl, (one _ refl refl, (one _ refl refl, (one _ refl refl, (one _ refl refl, (one _ refl refl, (one _ refl refl, (one _ refl refl, tt)))))))))))))
+each_edit = (
+  one _ refl refl,
+  (
+    one _ refl refl,
+    (
+      one _ refl refl,
+      (
+        one _ refl refl,
+        (
+          one _ refl refl,
+          (
+            one _ refl refl,
+            (
+              one _ refl refl,
+              (one _ refl refl, (one _ refl refl, (one _ refl refl, (one _ refl refl, (one _ refl refl, (one _ refl refl, tt)))))),
+            ),
+          ),
+        ),
+      ),
+    ),
+  ),
+)
 
 plain_edit : IsPlainLevel edit_level
 unfolding clap_on_literals

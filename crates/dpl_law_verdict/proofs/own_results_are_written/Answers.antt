@@ -16,5 +16,6 @@ returns a = record {
       (let masks = lettered fewer marks spacing c m are in
       let (first, second) = masks-within marks spacing overlap layer c ruled cornered lapped within cut m masks in
       (first, second, masks-cert marks spacing overlap layer c ruled cornered lapped within cut m masks fewer gains told));
-  cycle = λ spacing overlap layer c cycle near ruled cornered lapped within cut reported each pairs. cycle-cert None spacing overlap layer c ruled cornered lapped within cut cycle near reported each pairs;
+  cycle = λ spacing overlap layer c cycle near ruled cornered lapped within cut reported each pairs. cycle-cert None spacing overlap layer c ruled cornered
+      lapped within cut cycle near reported each pairs;
 }

@@ -20,7 +20,8 @@ returns-in-Some-first_bad c = λ marks are.
     let (features, many, is) = c.in_ok-cut.ensures marks set in
     let found = rw (c.deref.ensures.value, c.in_ok-letters.ensures) at (c.in_ok-found.ensures features marks set) in
     let first = rw (c.in-Some-first_bad.is, c.deref-2.ensures.value, c.items.ensures) at c.first_bad.ensures.some in
-    subst (λ (x : Option (List Gain)). VerdictOfGains marks c.args.spacing c.args.overlap c.args.layer.now c.args.head.now (letters c.args.pieces.now) x (GainAt c.in-Some-first_bad.index)) (sym c.in-Some.is) (
+    subst (λ (x : Option (List Gain)). VerdictOfGains marks c.args.spacing c.args.overlap c.args.layer.now c.args.head.now (letters c.args.pieces.now) x
+    (GainAt c.in-Some-first_bad.index)) (sym c.in-Some.is) (
       cut_view features c.in_ok-cut.cut.pieces,
       is,
       inr (

@@ -1,4 +1,5 @@
 use Rattle.std.proofs.Common.{◌≡◌, length, arith}
+use Rattle.std.proofs.lemmas.Result.{IfOk-weaker}
 use Rattle.dpl_check.proofs.Marking.{none-off, squares-are}
 use Rattle.dpl_check.proofs.marks.squares_off.Goals as goal
 
@@ -8,5 +9,7 @@ returns-then-is_empty c =
     rw c.empty.ensures (none-off c.args.layer.now c.args.mask.now c.args.other.now c.args.marked.now (rw c.rects.ensures.value at empty))
 
 pub returns : goal.returns
-returns c = squares-are c.args.layer.now c.args.mask.now c.args.other.now c.args.marked.now c.in_ok-fixed.fixed c.in_ok-alone.alone c.in_ok-off.off
-    c.in_ok-fixed.ensures c.in_ok-alone.ensures c.in_ok-off.ensures
+returns c = IfOk-weaker c.minus-2.result _ _
+    (λ off is. squares-are c.args.layer.now c.args.mask.now c.args.other.now c.args.marked.now c.in_ok-fixed.fixed c.in_ok-alone.alone off
+    c.in_ok-fixed.ensures c.in_ok-alone.ensures is)
+    c.minus-2.ensures

@@ -1,5 +1,6 @@
 use Rattle.std.proofs.Common.{sym, refl, inl, inr, Some, None, subst}
 use Rattle.std.proofs.lemmas.Bool.{false≢true}
+use Rattle.std.proofs.lemmas.Result.{IfOk-weaker}
 use Rattle.dpl_cert.specs.declared.cert.Cert.{Cert}
 use Rattle.dpl_spec_verdict.specs.declared.Verdict.TheVariants.{Cover, Overlap, SpacingA, SpacingB, Marked, Stitch, Piece}
 use Rattle.dpl_spec_verdict.specs.Masks.{IsVerdictOfMasks}
@@ -210,8 +211,9 @@ returns c = λ marks are.
     let right = rw (c.in_default-7.is, c.items-3.ensures, c.items-4.ensures) at c.in_ok-index.ensures in
     let stitches = first-bad-stitch c.args.overlap c.args.a.now c.args.b.now c.in_ok-both.both c.in-Masks.pieces c.in_ok-both.ensures c.in-Masks.stitches None right in
     let letters = rw (c.in_default-8.is, c.items-5.ensures) at c.in_ok-index-2.ensures in
-    let gains = rw c.items-lines.ensures at (c.in_ok-verdict.ensures marks are) in
-    subst (λ (x : Cert). IsVerdictOfMasks marks c.args.spacing c.args.overlap c.args.layer.now c.args.a.now c.args.b.now x c.in_ok-verdict.verdict) (sym c.in-Masks.is)
+    IfOk-weaker c.verdict_of_gains.result _ _ (λ verdict told.
+    let gains = rw c.items-lines.ensures at told in
+    subst (λ (x : Cert). IsVerdictOfMasks marks c.args.spacing c.args.overlap c.args.layer.now c.args.a.now c.args.b.now x verdict) (sym c.in-Masks.is)
     (inr (
       (λ differ. false≢true (c.if-rules_differ.ensures.1 differ)),
       inr (
@@ -228,4 +230,5 @@ returns c = λ marks are.
           ),
         ),
       ),
-    ))
+    )))
+    (c.verdict_of_gains.ensures marks are)

@@ -22,7 +22,8 @@ loop-k-preserved c =
       | then-has_some w ↦
           (let some : HasSome (part_at parts k) (Covers c.args.set.now) = subst (λ rs. HasSome (Covers rs) (Covers c.args.set.now)) same
           (some-as c.index-parts-k.result _ c.args.set.now c.in_ok-tree.ensures (w.if-has_some.ensures.0 refl)) in
-          rw w.held-is (held-more parts roots c.args.set.now k c.loop-k.held.items c.loop-k.invariant (c.requires.below k (let e = c.requires.each in let l = c.loop-k-test.true in omega (arith, e, l))) some))
+          rw w.held-is (held-more parts roots c.args.set.now k c.loop-k.held.items c.loop-k.invariant
+          (c.requires.below k (let e = c.requires.each in let l = c.loop-k-test.true in omega (arith, e, l))) some))
       | else-has_some w ↦ rw w.held-is (held-pass parts roots c.args.set.now k c.loop-k.held.items c.loop-k.invariant
           (λ (p, mine, at). false≢true (w.if-has_some.ensures.1 (p, subst (λ rs. Covers rs p) (sym same) mine, (c.in_ok-tree.ensures p).1 at))))
     ]

@@ -19,7 +19,8 @@ returns-in_err-places c =
     let n = c.in-Some.cycle.len in
     let cycle = c.in-Some.ensures.found in
     let bad = conflict_places c.args.version h n plain cycle.0 (lines c.in-Some.rest.now) c.in_err-places.field-0.0 c.in_err-places.ensures.fault in
-    let there : conflict_counts c.args.version h ++ lines c.args.bytes.now ≡ conflict_head c.args.version h n ++ lines c.in-Some.rest.now = ap (λ (x : List (List ℕ)). conflict_counts c.args.version h ++ x) cycle.1 in
+    let there : conflict_counts c.args.version h ++ lines c.args.bytes.now ≡ conflict_head c.args.version h n ++ lines c.in-Some.rest.now = ap
+    (λ (x : List (List ℕ)). conflict_counts c.args.version h ++ x) cycle.1 in
     handed _ c.from_residual.result c.in_err-places.field-0.0 c.from_residual.ensures.1 (subst (λ (x : List (List ℕ)). FailsAs x c.in_err-places.field-0.0) (sym there) bad)
 
 pub returns-in_err-near : goal.returns-in_err-near
@@ -53,6 +54,7 @@ returns-in_err-ended c =
     let there : conflict_counts c.args.version h ++ lines c.args.bytes.now ≡ (conflict_prefix c.args.version h n cs ++ rows near_words 0 ns) ++ rest =
     ap (λ (x : List (List ℕ)). conflict_counts c.args.version h ++ x) cycle.1 ∙ ap (λ (x : List (List ℕ)). conflict_head c.args.version h n ++ x)
     (found.2 ∙ ap (λ (x : List (List ℕ)). rows place_words 0 cs ++ x) more.2)
-    ∙ sym (append_assoc (conflict_head c.args.version h n) (rows place_words 0 cs) (rows near_words 0 ns ++ rest)) ∙ sym (append_assoc (conflict_prefix c.args.version h n cs) (rows near_words 0 ns) rest) in
+    ∙ sym (append_assoc (conflict_head c.args.version h n) (rows place_words 0 cs) (rows near_words 0 ns ++ rest)) ∙ sym
+    (append_assoc (conflict_prefix c.args.version h n cs) (rows near_words 0 ns) rest) in
     handed _ c.from_residual-in_err-ended.result c.in_err-ended.field-0.0 c.from_residual-in_err-ended.ensures.1
     (subst (λ (x : List (List ℕ)). FailsAs x c.in_err-ended.field-0.0) (sym there) bad)

@@ -14,7 +14,8 @@ pub check_alone-requires-clause-kind : goal.check_alone-requires-clause-kind
 check_alone-requires-clause-kind g c = rw c.if-needs_masks.false at c.needs_masks.ensures
 
 pub returns-clause-made : goal.returns-clause-made
-returns-clause-made g c = alone_made (g.H.Host.told c.args.host.now) (check_view c.args.options.now) (marks_with (check_view c.args.options.now) c.args.layer.now) c.args.layer.now.slabs c.args.cert.now _
+returns-clause-made g c = alone_made (g.H.Host.told c.args.host.now) (check_view c.args.options.now)
+    (marks_with (check_view c.args.options.now) c.args.layer.now) c.args.layer.now.slabs c.args.cert.now _
     (rw c.if-needs_masks.false at c.needs_masks.ensures) c.in_ok-check_alone.ensures
 
 pub returns-clause-calls : goal.returns-clause-calls

@@ -36,7 +36,8 @@ returns-in-Err-BadLine-clause-made g c =
     let seen = subst (λ (o : Option (Vec ℕ Global)). IsSeen told c.args.options.now.certificate.now (option_map (λ v. v.items) o)) c.in-Some.is c.in_ok-text.ensures.seen in
     let refusal = subst (λ (e : CertFault). IsRefusal c.as_slice.result.now e) c.in-Err-BadLine.field-0-is c.in-Err-BadLine.ensures.line in
     let bad = subst (λ (b : List ℕ). IsBadLine b c.in-Err-BadLine.line) c.as_slice.ensures.value refusal in
-    cert_bad told (check_view c.args.options.now) (marks_with (check_view c.args.options.now) c.args.layer.now) c.args.layer.now.slabs text c.in-Err-BadLine.line _ seen bad c.in_ok-bad_line-in-Err-BadLine.ensures
+    cert_bad told (check_view c.args.options.now) (marks_with (check_view c.args.options.now) c.args.layer.now) c.args.layer.now.slabs text
+    c.in-Err-BadLine.line _ seen bad c.in_ok-bad_line-in-Err-BadLine.ensures
 
 pub returns-in-Ok-clause-calls : goal.returns-in-Ok-clause-calls
 returns-in-Ok-clause-calls g c =

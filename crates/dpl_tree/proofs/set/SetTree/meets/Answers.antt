@@ -17,7 +17,8 @@ returns c =
     let items : List Item = c.self.inside.tree in
     let r : Rect = c.args.r.now in
     let both : IsTrue (nat_lt c.seek-n.result (length items)) ↔ ((p : Pt) × Has r p × Covers (rects_of items) p) = (
-      λ t. meeting-found items r c.seek-n.result c.requires c.self.invariant no_item (ltb-true c.seek-n.result (length items) t) (rw c.of-window.ensures at (c.seek-n.ensures.found no_item (ltb-true c.seek-n.result (length items) t))),
+      λ t. meeting-found items r c.seek-n.result c.requires c.self.invariant no_item (ltb-true c.seek-n.result (length items) t)
+          (rw c.of-window.ensures at (c.seek-n.ensures.found no_item (ltb-true c.seek-n.result (length items) t))),
       λ (p, mine, theirs). lt-ltb c.seek-n.result (length items) (found-meeting items r c.seek-n.result c.requires c.self.invariant (rw c.of-window.ensures at c.seek-n.ensures.passed) p mine theirs),
     ) in
     rw (c.count-count.ensures, ← c.self.view_is) both
