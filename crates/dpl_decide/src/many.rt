@@ -13,10 +13,11 @@ use crate::pipeline::Decision;
 use dpl_answer::{Conflicts, Sharing, answer_of, conflicts_of_all};
 use dpl_base::Spacing;
 use dpl_cert::Name;
-use dpl_cut::{BareLayerCut, cut_of};
+use dpl_cut::BareLayerCut;
 use dpl_layer::{Layer, LayerChoice, ReadLayer, layers_of};
 use dpl_pool::Gate;
 use dpl_slabs::Slabs;
+use dpl_wide::cut_by;
 use std::alloc::{AllocError, Global};
 use std::sync::Wait;
 use std::thread::Threads;
@@ -66,7 +67,14 @@ pub fn decide_all<R: Threads + Wait + Sync, G: Gate + Sync>(
 {
     let choices = choices_of(alloc, order)?;
     let layers = layers_of(alloc, &choices, bytes)?;
-    let (waiting, cuts) = all_cut(alloc, layers, order.spacing, order.overlap)?;
+    let (waiting, cuts) = all_cut(
+        rt,
+        alloc,
+        layers,
+        order.spacing,
+        order.overlap,
+        order.sharing.workers,
+    )?;
     let conflicts = conflicts_of_all(rt, alloc, &cuts, order.spacing, order.sharing, gate)?;
     all_answered(
         alloc,
@@ -97,11 +105,13 @@ fn choices_of<'a>(
 }
 
 /// Cuts each layer that has no fault.
-fn all_cut(
+fn all_cut<R: Threads + Sync>(
+    rt: &R,
     alloc: Global,
     layers: Vec<ReadLayer>,
     spacing: Spacing,
     overlap: u32,
+    workers: u32,
 ) -> Result<(Vec<Waiting>, Vec<BareLayerCut>), AllocError>
     requires corner { spacing.corner ≤ spacing.rule }
     requires overlap { IsRule overlap }
@@ -114,7 +124,8 @@ fn all_cut(
         match layer {
             ReadLayer::Refused { name, at } => waiting.push(Waiting::Refused { name, at })?,
             ReadLayer::Read(Layer { copied, slabs }) => {
-                cuts.push(cut_of(alloc, slabs, spacing, overlap, &unmarked)?)?;
+                let cut = cut_by(rt, alloc, slabs, spacing, overlap, &unmarked, workers)?;
+                cuts.push(cut)?;
                 waiting.push(Waiting::Cut { copied })?;
             }
         }

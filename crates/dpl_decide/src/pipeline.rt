@@ -14,10 +14,10 @@ use crate::marks::{marked_squares, marks_by};
 use dpl_answer::{Decomposed, MarkSets, Sharing, answer_of, conflicts_of};
 use dpl_base::Spacing;
 use dpl_cert::Name;
-use dpl_cut::cut_of;
 use dpl_layer::{LayerFault, MarkedChoice, MarkedLayer, marked_layer_of};
 use dpl_pool::Gate;
 use dpl_slabs::Slabs;
+use dpl_wide::cut_by;
 use std::alloc::{AllocError, Global};
 use std::sync::Wait;
 use std::thread::Threads;
@@ -114,7 +114,15 @@ pub fn decompose<R: Threads + Wait + Sync, G: Gate + Sync>(
 {
     let spacing = recipe.spacing;
     let marked = marked_squares(alloc, marks)?;
-    let cut = cut_of(alloc, layer, spacing, recipe.overlap, &marked)?;
+    let cut = cut_by(
+        rt,
+        alloc,
+        layer,
+        spacing,
+        recipe.overlap,
+        &marked,
+        recipe.sharing.workers,
+    )?;
     drop(marked);
     let conflicts = conflicts_of(rt, alloc, &cut, marks, spacing, recipe.sharing, gate)?;
     answer_of(

@@ -8,10 +8,10 @@ use crate::clashes::{Tangles, clashes_of};
 use dpl_answer::{Sharing, conflicts_of};
 use dpl_base::Spacing;
 use dpl_cert::Name;
-use dpl_cut::cut_of;
 use dpl_layer::{Layer, LayerChoice, LayerFault, layer_of};
 use dpl_pool::Gate;
 use dpl_slabs::Slabs;
+use dpl_wide::cut_by;
 use std::alloc::{AllocError, Global};
 use std::sync::Wait;
 use std::thread::Threads;
@@ -68,7 +68,15 @@ pub fn find<R: Threads + Wait + Sync, G: Gate + Sync>(
     };
     let spacing = Spacing::uniform(order.rule);
     let no_marks = Slabs::empty(alloc);
-    let cut = cut_of(alloc, slabs, spacing, order.overlap, &no_marks)?;
+    let cut = cut_by(
+        rt,
+        alloc,
+        slabs,
+        spacing,
+        order.overlap,
+        &no_marks,
+        order.sharing.workers,
+    )?;
     let conflicts = conflicts_of(rt, alloc, &cut, None, spacing, order.sharing, gate)?;
     let tangles = clashes_of(alloc, cut, &conflicts, spacing, order.overlap)?;
     Ok(Finding::Cycles(Cycles { copied, tangles }))

@@ -13,10 +13,11 @@ use crate::status::Status;
 use dpl_answer::{Conflicts, Decomposed, answer_of, conflicts_of};
 use dpl_base::{Listed, Spacing};
 use dpl_cert::{Name, StitchLine};
-use dpl_cut::{BareLayerCut, cut_of};
+use dpl_cut::BareLayerCut;
 use dpl_layer::{Layer, LayerFault, layer_of};
 use dpl_pool::Gate;
 use dpl_slabs::Slabs;
+use dpl_wide::cut_by;
 use std::alloc::{AllocError, Global};
 use std::sync::Wait;
 use std::thread::Threads;
@@ -60,7 +61,15 @@ pub fn find_stitches<R: Threads + Wait + Sync, G: Gate + Sync>(
     };
     let spacing = Spacing::uniform(order.rule);
     let no_marks = Slabs::empty(alloc);
-    let cut = cut_of(alloc, slabs, spacing, order.overlap, &no_marks)?;
+    let cut = cut_by(
+        rt,
+        alloc,
+        slabs,
+        spacing,
+        order.overlap,
+        &no_marks,
+        order.sharing.workers,
+    )?;
     let conflicts = conflicts_of(rt, alloc, &cut, None, spacing, order.sharing, gate)?;
     let seams = seams_of(alloc, cut, &conflicts, spacing, order.overlap)?;
     Ok(Split::Answered { copied, seams })

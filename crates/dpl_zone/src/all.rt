@@ -6,7 +6,7 @@ ghost use Rattle.dpl_spec_split.specs.Squares.{Covers};
 ghost use Rattle.dpl_spec_split.specs.Zones.{AreZones};
 ghost use Rattle.dpl_slabs.specs.Parts.{AreParts, union_of};
 ghost use Rattle.dpl_zone.specs.Layers.{IsPartZone, transposed_zone};
-ghost use Rattle.dpl_zone.specs.Ways.{AreFlat};
+ghost use Rattle.dpl_zone.specs.Ways.{AreFlat, AreUpright};
 
 use crate::items::{columns_of_parts, slabs_of_parts};
 use crate::kept::joined;
@@ -30,39 +30,68 @@ fn transpose(zones: &mut Vec<Zone>)
     }
 }
 
-/// The horizontal zones of all parts, in no order.
-fn flat_zones(
+/// Zones of parts before it is known which are kept: the horizontal and the vertical ones, each in no order, and what they were sought by.
+#[derive(Drop)]
+pub struct Found {
+    pub spacing: Spacing,
+    pub overlap: u32,
+    pub horizontal: Vec<Zone>,
+    pub vertical: Vec<Zone>,
+}
+
+/// The horizontal zones of parts, in no order, whether marked or not.
+///
+/// The error: out of memory.
+pub fn horizontal_zones(
     alloc: Global,
-    parts: &[Slabs],
+    parts: &Parts,
     spacing: Spacing,
     overlap: u32,
 ) -> Result<Vec<Zone>, AllocError>
     requires corner { spacing.corner ≤ spacing.rule }
-    requires parts { AreParts parts.now }
     ensures { IfOk result (λ v. AreFlat spacing overlap parts.now v.items) }
 {
-    let columns = columns_of_parts(alloc, parts)?;
+    let columns = columns_of_parts(alloc, parts.items())?;
     let mut zones = upright_zones(alloc, columns, spacing, overlap)?;
     transpose(&mut zones);
     Ok(zones)
 }
 
-/// The zones of all parts, in no order.
-fn found_zones(
+/// The vertical zones of parts, in no order, whether marked or not, those too that touch a horizontal one.
+///
+/// The error: out of memory.
+pub fn vertical_zones(
     alloc: Global,
-    parts: &[Slabs],
+    parts: &Parts,
     spacing: Spacing,
     overlap: u32,
 ) -> Result<Vec<Zone>, AllocError>
     requires corner { spacing.corner ≤ spacing.rule }
-    requires some { 1 ≤ overlap }
-    requires parts { AreParts parts.now }
-    ensures { IfOk result (λ v. (z : Zone) → Contains v.items z ↔ ((z.feature < length parts.now) × IsPartZone spacing overlap parts.now z)) }
+    ensures { IfOk result (λ v. AreUpright spacing overlap parts.now v.items) }
 {
-    let flat = flat_zones(alloc, parts, spacing, overlap)?;
-    let slabs = slabs_of_parts(alloc, parts)?;
-    let upright = upright_zones(alloc, slabs, spacing, overlap)?;
-    joined(alloc, flat, upright)
+    let slabs = slabs_of_parts(alloc, parts.items())?;
+    upright_zones(alloc, slabs, spacing, overlap)
+}
+
+/// The zones of parts that are kept, as `zones` gives them, by their horizontal and their vertical ones.
+///
+/// The error: out of memory.
+pub fn zones_among(
+    alloc: Global,
+    parts: &Parts,
+    found: Found,
+    marked: &Slabs,
+) -> Result<Vec<Zone>, AllocError>
+    requires some { 1 ≤ found.overlap }
+    requires horizontal { AreFlat found.spacing found.overlap parts.now found.horizontal.items }
+    requires vertical { AreUpright found.spacing found.overlap parts.now found.vertical.items }
+    ensures { IfOk result (λ v. AreZones found.spacing found.overlap (union_of parts.now) parts.now (Covers marked.now) v.items) }
+{
+    let _ = parts.items();
+    let mut kept = joined(alloc, found.horizontal, found.vertical)?;
+    sort_zones(&mut kept);
+    let all = each_once(alloc, &kept)?;
+    unmarked(alloc, all, marked)
 }
 
 /// The stitch zones of disjoint sets within a layer that has just their squares, by lowest row and then by leftmost column. A zone is `overlap` squares wide and lies in the middle of a straight stretch of squares that are near no square of another set: none is closer than the spacing's corner rule where columns and rows lie between the two, or else than its rule. A vertical zone that touches a horizontal one of its set is dropped, and then each zone with a marked square; so a vertical zone goes also where the horizontal one is marked.
@@ -79,9 +108,13 @@ pub fn zones(
     requires overlap { 1 ≤ overlap }
     ensures { IfOk result (λ v. AreZones spacing overlap (union_of parts.now) parts.now (Covers marked.now) v.items) }
 {
-    let items = parts.items();
-    let mut found = found_zones(alloc, items, spacing, overlap)?;
-    sort_zones(&mut found);
-    let all = each_once(alloc, &found)?;
-    unmarked(alloc, all, marked)
+    let horizontal = horizontal_zones(alloc, parts, spacing, overlap)?;
+    let vertical = vertical_zones(alloc, parts, spacing, overlap)?;
+    let found = Found {
+        spacing,
+        overlap,
+        horizontal,
+        vertical,
+    };
+    zones_among(alloc, parts, found, marked)
 }

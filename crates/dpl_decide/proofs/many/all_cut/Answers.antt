@@ -4,17 +4,17 @@ use Rattle.dpl_decide.proofs.Waiting.{wait_cut, wait_refused}
 use Rattle.dpl_decide.proofs.many.all_cut.Goals as goal
 
 pub loop-layer-preserved-in_ok-push-in-Refused : goal.loop-layer-preserved-in_ok-push-in-Refused
-loop-layer-preserved-in_ok-push-in-Refused c =
+loop-layer-preserved-in_ok-push-in-Refused g c =
     let all : c.loop-layer.yielded ++ c.in-Some.layer ∷ c.next.new.self.rest.items ≡ c.args.layers.items = search rules in (
       append_assoc c.loop-layer.yielded (c.in-Some.layer ∷ []) c.next.new.self.rest.items ∙ all,
       rw (c.in-Refused.is, c.in_ok-push-in-Refused.ensures.items) (wait_refused c.args.spacing c.args.overlap _ _ _ _ _ c.loop-layer.invariant.1),
     )
 
 pub loop-layer-preserved : goal.loop-layer-preserved
-loop-layer-preserved c =
+loop-layer-preserved g c =
     let all : c.loop-layer.yielded ++ c.in-Some.layer ∷ c.next.new.self.rest.items ≡ c.args.layers.items = search rules in
-    let cut = c.in_ok-cut_of-in-Read.ensures.cut None (none-marked c.empty-unmarked.result c.empty-unmarked.ensures) in (
+    let cut = c.in_ok-cut.ensures.cut None (none-marked c.empty-unmarked.result c.empty-unmarked.ensures) in (
       append_assoc c.loop-layer.yielded (c.in-Some.layer ∷ []) c.next.new.self.rest.items ∙ all,
       rw (c.in-Read.is, c.in_ok-push-in-Read-2.ensures.items, c.in_ok-push-in-Read.ensures.items)
-          (wait_cut c.args.spacing c.args.overlap _ _ _ _ _ _ c.loop-layer.invariant.1 (refl, cut, c.in_ok-cut_of-in-Read.ensures.keys, tt)),
+          (wait_cut c.args.spacing c.args.overlap _ _ _ _ _ _ c.loop-layer.invariant.1 (refl, cut, c.in_ok-cut.ensures.keys, tt)),
     )
