@@ -100,6 +100,25 @@ pub fn touches(a: &Rect, b: &Rect) -> bool
     gap2(a, b) == 0
 }
 
+/// The square root of a number below the square of `end`, rounded down. The smaller `end` is, the fewer steps are taken.
+fn root_below(n: u64, end: u32) -> u32
+    requires { n < end * end }
+    ensures square { result * result ≤ n }
+    ensures next { n < (result + 1) * (result + 1) }
+{
+    let mut low = 0;
+    let mut high = end;
+    while high - low > 1 {
+        let middle = low + (high - low) / 2;
+        if middle as u64 * middle as u64 <= n {
+            low = middle;
+        } else {
+            high = middle;
+        }
+    }
+    low
+}
+
 /// The most columns that may lie between near squares with `dy` rows between them, if any may, in database units.
 pub fn reach(spacing: Spacing, dy: u64) -> Option<u32>
     requires corner { spacing.corner ≤ spacing.rule }
@@ -115,6 +134,6 @@ pub fn reach(spacing: Spacing, dy: u64) -> Option<u32>
     } else {
         let corner = spacing.corner as u64;
         let left = corner * corner - dy * dy - 1;
-        Some(left.isqrt() as u32)
+        Some(root_below(left, spacing.corner))
     }
 }

@@ -13,7 +13,7 @@ use Rattle.dpl_tile.specs.declared.grid.Grid.{Grid}
 use Rattle.dpl_tile.specs.declared.grid.Block.{Block}
 use Rattle.dpl_tile.specs.Adding.{Adds}
 use Rattle.dpl_tile.specs.Tiles.{numbers_in, cells_met, pairs_of}
-use Rattle.dpl_tile.specs.Kept.{IsBlockOf, IsSomeBlock, IsOver, IsInRow, IsInBlock, IsMet}
+use Rattle.dpl_tile.specs.Kept.{HasOneCell, IsBlockOf, IsSomeBlock, IsOver, IsInRow, IsInBlock, IsMet}
 use Rattle.dpl_tile.proofs.Numbers.{number-le}
 use Rattle.dpl_tile.proofs.Adding.{OfFirst, added-to_none, adds-none, adds-next, adds-same}
 
@@ -121,6 +121,23 @@ block_met g r b h e =
       λ met. (let k = met.from_row in let l = met.to_row in let m = met.from_column in let n = met.to_column in
           (omega (arith, r0, k), omega (arith, r1, l), omega (arith, c0, m), omega (arith, c1, n))),
     )
+
+same-place : (e place : ℕ × ℕ) → e.0 ≡ place.0 → e.1 ≡ place.1 → e ≡ place
+same-place e place row column = ap (λ (u : ℕ). (u, e.1)) row ∙ ap (λ (u : ℕ). (place.0, u)) column
+
+-- two rectangles that meet one cell alone, the same
+pub one-met : (g : Grid) (r s : Rect) (b c : Block) (place : ℕ × ℕ) → IsBlockOf g r b → IsBlockOf g s c → HasOneCell b → HasOneCell c → b.row0 ≡ c.row0 → b.column0 ≡ c.column0
+    → place.0 ≡ b.row0 → place.1 ≡ b.column0 → (e : ℕ × ℕ) → (e ≡ place) ↔ (IsMet g r e ⊎ IsMet g s e)
+one-met g r s b c place b_of c_of (b_row, b_column) (c_row, c_column) rows columns row_is column_is e = (
+  λ is. (let row = ap (λ (p : ℕ × ℕ). p.0) is in let column = ap (λ (p : ℕ × ℕ). p.1) is in
+      inl ((block_met g r b b_of e).0
+      (omega (arith, row, row_is), omega (arith, row, row_is, b_row), omega (arith, column, column_is), omega (arith, column, column_is, b_column)))),
+  λ h. elim h [
+    | inl met ↦ (let (k, l, m, n) = (block_met g r b b_of e).1 met in same-place e place (omega (arith, k, l, b_row, row_is)) (omega (arith, m, n, b_column, column_is)))
+    | inr met ↦ (let (k, l, m, n) = (block_met g s c c_of e).1 met in
+        same-place e place (omega (arith, k, l, c_row, rows, row_is)) (omega (arith, m, n, c_column, columns, column_is)))
+  ],
+)
 
 pub block-adds : (g : Grid) (r : Rect) (b : Block) (old new : List (ℕ × ℕ)) → IsBlockOf g r b → Adds (IsInBlock b) old new → Adds (IsMet g r) old new
 block-adds g r b old new h step = adds-same (IsInBlock b) (IsMet g r) old new (block_met g r b h) step

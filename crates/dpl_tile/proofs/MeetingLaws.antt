@@ -57,6 +57,16 @@ module _ (spacing : Spacing) (owners : List ℕ) (g : Grid) (items : List Item) 
         λ h. (h.first, h.second, (same m.place).1 h.met),
       )) step
 
+  -- the meeting of a pair at its only place
+  pub pair-meeting : (pair place : ℕ × ℕ) (old new : List Meeting) → AreFoes spacing owners (item_at items pair.0) (item_at items pair.1)
+      → ((e : ℕ × ℕ) → (e ≡ place) ↔ IsMetByPair spacing.rule g (item_at items pair.0).rect (item_at items pair.1).rect e)
+      → Adds (λ (m : Meeting). (m.first ≡ pair.0) × (m.second ≡ pair.1) × (m.place ≡ place)) old new → Adds (IsMeetingOf spacing owners g items pair) old new
+  pair-meeting pair place old new foes same step = adds-same (λ (m : Meeting). (m.first ≡ pair.0) × (m.second ≡ pair.1) × (m.place ≡ place)) (IsMeetingOf spacing owners g items pair) old new
+      (λ m. (
+        λ (f, s, c). record { first = f; second = s; foes = foes; met = (same m.place).0 c },
+        λ h. (h.first, h.second, (same m.place).1 h.met),
+      )) step
+
 -- a meeting whose pair counts in strip k
 abbrev pub IsMeetingIn : Spacing → List ℕ → Grid → Joined → ℕ → Meeting → Type 0
 IsMeetingIn spacing owners g join k m = (home_of join (m.first, m.second) ≡ k) × IsMeeting spacing owners g join.items m

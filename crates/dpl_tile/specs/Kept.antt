@@ -39,6 +39,10 @@ pub record IsSomeBlock (b : Block) : Type 0 where
   pub low : b.row1 ≤ 2000000001
   pub left : b.column1 ≤ 2000000001
 
+-- a block of one cell
+abbrev pub HasOneCell : Block → Type 0
+HasOneCell b = (b.row1 ≡ b.row0 + 1) × (b.column1 ≡ b.column0 + 1)
+
 abbrev pub IsInRow : ℕ → Block → ℕ × ℕ → Type 0
 IsInRow row b e = (e.0 ≡ row) × (b.column0 ≤ e.1) × (e.1 < b.column1)
 

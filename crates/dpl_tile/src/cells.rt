@@ -1,9 +1,9 @@
 //! The places of the cells that slabs meet.
-ghost use Rattle.std.specs.Prelude.{◌≡◌, IsTrue, ◌⊎◌, ◌↔◌, ℕ, ◌+◌, ◌-◌, ◌*◌, ◌<◌, ◌≤◌, IfOk, OnOk, length, sum_by};
+ghost use Rattle.std.specs.Prelude.{◌≡◌, IsTrue, IfSome, ◌⊎◌, ◌↔◌, ℕ, ◌+◌, ◌-◌, ◌*◌, ◌<◌, ◌≤◌, IfOk, OnOk, length, sum_by};
 ghost use Rattle.std.specs.List.{All, AllPairs, Contains};
 ghost use Rattle.dpl_spec_split.specs.Graphs.{Precedes};
 ghost use Rattle.dpl_tile.specs.Adding.{Adds};
-ghost use Rattle.dpl_tile.specs.Kept.{IsSound, IsOver, AreOver, IsSomeBlock, IsInRow, IsInBlock, IsMet, IsMetByAny, IsMetByPart, ArePlaces};
+ghost use Rattle.dpl_tile.specs.Kept.{HasOneCell, IsSound, IsOver, AreOver, IsSomeBlock, IsInRow, IsInBlock, IsMet, IsMetByAny, IsMetByPart, ArePlaces};
 ghost use Rattle.dpl_tile.specs.Tiles.{cells_met, pairs_of};
 
 use crate::grid::{Block, Grid, Place};
@@ -136,6 +136,32 @@ pub(crate) fn places_of(
     put_in_order(&mut places);
     places.shrink_to_fit();
     Ok(places)
+}
+
+/// Whether a block has one cell.
+fn has_one_cell(block: &Block) -> bool
+    requires { IsSomeBlock block.now }
+    ensures { IsTrue result ↔ HasOneCell block.now }
+{
+    block.row1 - block.row0 == 1 && block.column1 - block.column0 == 1
+}
+
+/// The place of the only cell that either of two rectangles meets, if both meet just that one.
+pub(crate) fn only_place(grid: &Grid, r: &Rect, s: &Rect) -> Option<Place>
+    requires sound { IsSound grid.now }
+    requires first { IsOver grid.now r.now }
+    requires second { IsOver grid.now s.now }
+    ensures { IfSome result (λ place. (e : ℕ × ℕ) → (e ≡ place) ↔ (IsMet grid.now r.now e ⊎ IsMet grid.now s.now e)) }
+{
+    let one = grid.block(r);
+    let other = grid.block(s);
+    if !has_one_cell(&one) || !has_one_cell(&other) {
+        return None;
+    }
+    if one.row0 != other.row0 || one.column0 != other.column0 {
+        return None;
+    }
+    Some((one.row0, one.column0))
 }
 
 /// The places of the cells that two rectangles meet, by row, then by column.

@@ -36,7 +36,11 @@ fn number(side: u64, low: i64, i: i64) -> u32
     ensures value { result ≡ number_in side low i }
     ensures small { result ≤ 2000000000 }
 {
-    ((i - low) as u64 / side) as u32
+    let ahead = (i - low) as u64;
+    if ahead < side {
+        return 0;
+    }
+    (ahead / side) as u32
 }
 
 /// The coordinate so far above another.

@@ -10,7 +10,7 @@ ghost use Rattle.dpl_tile.specs.Adding.{Adds};
 ghost use Rattle.dpl_tile.specs.Kept.{IsSound, IsOver};
 ghost use Rattle.dpl_tile.specs.Meetings.{AreMeetings, AreFoes, IsMeeting, IsMeetingAmong, IsMeetingOf, RiseByPlace};
 
-use crate::cells::places_of_both;
+use crate::cells::{only_place, places_of_both};
 use crate::grid::{Grid, Place};
 use crate::reach::reached;
 use dpl_base::{Id, Spacing, near};
@@ -23,6 +23,18 @@ pub struct Meeting {
     pub place: Place,
     pub first: u32,
     pub second: u32,
+}
+
+/// Adds a pair with a place.
+fn add_place(meetings: &mut Vec<Meeting>, place: Place, pair: &Pair) -> Result<(), AllocError>
+    ensures { OnOk result (Adds (λ (m : Meeting). (m.first ≡ pair.now.0) × (m.second ≡ pair.now.1) × (m.place ≡ place)) meetings.old.items meetings.new.items) }
+{
+    meetings.push(Meeting {
+        place,
+        first: pair.0,
+        second: pair.1,
+    })?;
+    Ok(())
 }
 
 /// Adds a pair with each of the places.
@@ -78,6 +90,10 @@ fn add_pair(
     }
     let first = reached(&a.rect, &b.rect, spacing.rule);
     let second = reached(&b.rect, &a.rect, spacing.rule);
+    if let Some(place) = only_place(grid, &first, &second) {
+        add_place(meetings, place, pair)?;
+        return Ok(());
+    }
     let places = places_of_both(alloc, grid, &first, &second)?;
     add_places(meetings, places.as_slice(), pair)?;
     Ok(())

@@ -1,5 +1,5 @@
 -- The zones of items, and of their owners.
-use Rattle.std.proofs.Common.{◌≡◌, ◌≢◌, ℕ, ◌+◌, ◌<◌, ◌≤◌, ◌⊎◌, inl, inr, Bool, true, false, List, [], length, get_or, sym, ap, ◌∙◌, subst, arith}
+use Rattle.std.proofs.Common.{◌≡◌, ◌≢◌, ℕ, ◌+◌, ◌<◌, ◌≤◌, ◌⊎◌, inl, inr, Bool, true, false, List, [], length, get_or, refl, sym, ap, ◌∙◌, subst, arith}
 use Rattle.std.specs.Prelude.{ℤ, ◌≤ℤ◌, ◌<ℤ◌, ◌↔◌, IsTrue}
 use Rattle.std.specs.List.{AllPairs, Contains}
 use Rattle.std.proofs.lemmas.Bool.{cases_eq, cases_order, false≢true}
@@ -22,12 +22,13 @@ use Rattle.dpl_zone.specs.declared.ends.Ends.{Ends}
 use Rattle.dpl_zone.specs.Items.{others_in, own_in}
 use Rattle.dpl_zone.specs.Owned.{AreOwnedWithin, AreSets, IsOwned, IsSetOf}
 use Rattle.dpl_zone.specs.Rows.{AddsZones, GoesAbove, GoesBelow, IsDark, IsLitZone, IsShaded, IsSlabZone, SomeRow, layer_of}
-use Rattle.dpl_zone.specs.Shading.{AreShades, HasShade, IsBarren, IsDarkRow, IsDead}
+use Rattle.dpl_zone.specs.Shading.{AreShades, HasShade, IsBarren, IsDarkRow, IsDead, IsShort}
 use Rattle.dpl_zone.specs.Ways.{AreUpright, IsItemZone}
 use Rattle.dpl_zone.proofs.Features.{FirstOf}
 use Rattle.dpl_zone.proofs.ItemLaws.{in-others, in-own, others-in, others-within, own-in}
 use Rattle.dpl_zone.proofs.OwnedLaws.{owned-at}
 use Rattle.dpl_zone.proofs.Runs.{slab-from_zone, zone-from_slab}
+use Rattle.dpl_zone.proofs.ShadingLaws.{barren-short}
 use Rattle.dpl_zone.proofs.TransposedLaws.{zone-as}
 use Rattle.dpl_zone.proofs.Whole.{slab-zone-as}
 use Rattle.dpl_zone.proofs.Zoning.{added-to_none, ended-zone_as, lit-zone_as}
@@ -211,6 +212,16 @@ module _ (spacing : Spacing) (less : spacing.corner ≤ spacing.rule) (overlap :
         (k_in, item-to z.feature k_in n z.rect n_in (sym e) h)),
     λ (k_in, zone). (are z).1 (item-from z.feature k_in z.rect zone),
   )
+
+  -- there are none where each item is too short
+  pub upright-none : (zones : List Zone) → zones ≡ [] → ((n : ℕ) → n < length items → IsShort overlap items n) → AreUpright spacing overlap parts zones
+  upright-none zones none short = upright-all zones (λ z. (
+    λ c. absurd (let (k, k_in, is) = subst (λ (zs : List Zone). Contains zs z) none c in omega (arith, k_in)),
+    λ (n, n_in, own, zone). absurd (no-member ((dead-none spacing overlap items n [] refl (barren-short spacing overlap items n (short n n_in)) z.rect).1 zone)),
+  ))
+    where
+      no-member : {x : Rect} → Contains [] x → ⊥
+      no-member (k, k_in, is) = omega (arith, k_in)
 
 -- a flag that is read as false isn't set
 pub alive-from : (flags : List Bool) (n : ℕ) (b : Bool) → b ≡ get_or flags n b → b ≡ false → get_or flags n false ≡ true → ⊥

@@ -22,7 +22,7 @@ use Rattle.dpl_zone.specs.declared.rows.Span.{Span}
 use Rattle.dpl_zone.specs.Rows.{AreTall, InRows, IsShadow, IsShaded, SomeRow}
 use Rattle.dpl_zone.specs.declared.shades.Shade.{Shade}
 use Rattle.dpl_zone.specs.declared.shades.Shades.{Shades}
-use Rattle.dpl_zone.specs.Shading.{AreShades, AreSound, Handles, HandlesBoth, HasShade, IsBarren, IsDarkRow, IsDead, IsMore, IsRowOf, IsShadeOf, IsSound, IsStart, NumbersRise}
+use Rattle.dpl_zone.specs.Shading.{AreShades, AreSound, Handles, HandlesBoth, HasShade, IsBarren, IsDarkRow, IsDead, IsMore, IsRowOf, IsShadeOf, IsShort, IsSound, IsStart, NumbersRise}
 
 abbrev pub no_shade : Shade
 no_shade = record { number = 0; span = record { from = pos 0; to = pos 0 } }
@@ -170,6 +170,13 @@ pub pairs-all : (items : List Item) (pairs : List (ℕ × ℕ)) (n : ℕ) (base 
 pairs-all items pairs n base t all h p (k, k_in, is) = subst (HandlesBoth items t) is (h.handles k p (omega (arith, all, k_in)) k_in)
 
 -- ---- items of too few rows
+
+pub all-short-more : (overlap : ℕ) (items : List Item) (n : ℕ) (d : Item) → n < length items → (get_or items n d).rect.y1 <ℤ ((get_or items n d).rect.y0 +ℤ pos (overlap + 2))
+    → ((k : ℕ) → k < n → IsShort overlap items k) → (k : ℕ) → k < n + 1 → IsShort overlap items k
+all-short-more overlap items n d n_in short before k l = elim (cases_eq k n) [
+  | inl e ↦ subst (IsShort overlap items) (sym e) (subst (λ (i : Item). i.rect.y1 <ℤ (i.rect.y0 +ℤ pos (overlap + 2))) (get_or_default items n d no_item n_in) short)
+  | inr ne ↦ before k (omega (arith, l, ne))
+]
 
 pub record AreShort (overlap : ℕ) (items : List Item) (n : ℕ) (dead : List Bool) : Type 0 where
   pub sized : length dead ≡ n

@@ -33,6 +33,10 @@ abbrev pub IsBarren : Spacing → ℕ → List Item → ℕ → Type 0
 IsBarren spacing overlap items n =
     (g : Span) → IsLit (item_at items n).rect.y0 (item_at items n).rect.y1 (IsDarkRow spacing items n) g → g.to <ℤ (g.from +ℤ pos (overlap + 2))
 
+-- the item has too few rows for a zone
+abbrev pub IsShort : ℕ → List Item → ℕ → Type 0
+IsShort overlap items n = (item_at items n).rect.y1 <ℤ ((item_at items n).rect.y0 +ℤ pos (overlap + 2))
+
 -- the item isn't looked at any more
 abbrev pub IsDead : Shades → ℕ → Type 0
 IsDead t n = slice_index_or t.dead.items n false ≡ true

@@ -10,7 +10,7 @@ ghost use Rattle.dpl_join.specs.Pairs.{item_at};
 ghost use Rattle.dpl_zone.specs.Ends.{AreEnds};
 ghost use Rattle.dpl_zone.specs.Owned.{AreInOrder, AreOwnedWithin, AreSets, OwnersRise};
 ghost use Rattle.dpl_zone.specs.Rows.{AddsZones, AreTall, GoesAbove, GoesBelow, IsLitZone, IsMiddleOf, IsOpenSpan, RiseByFrom, SomeRow};
-ghost use Rattle.dpl_zone.specs.Shading.{AreShades, IsPortion};
+ghost use Rattle.dpl_zone.specs.Shading.{AreShades, IsPortion, IsShort};
 ghost use Rattle.dpl_zone.specs.Ways.{AreUpright, IsItemZone};
 
 use crate::ends::{Ends, ends_of};
@@ -114,6 +114,19 @@ pub(crate) fn is_short(slab: &Rect, overlap: u32) -> bool
         return true;
     }
     false
+}
+
+/// Whether each item has too few rows for a zone.
+fn are_short(items: &[Item], overlap: u32) -> bool
+    requires { AreOwnedWithin items.now }
+    ensures { IsTrue result → (n : ℕ) → n < length items.now → IsShort overlap items.now n }
+{
+    for item in items {
+        if !is_short(&item.rect, overlap) {
+            return false;
+        }
+    }
+    true
 }
 
 /// Adds the zones between spans of a slab that are near other rectangles. The list `free` is room for the spans between.
@@ -227,7 +240,7 @@ fn zones_of_items(
     Ok(zones)
 }
 
-/// The vertical zones of all owners, in no order. So many rectangles that their numbers don't fit into 32 bits are refused as out of memory.
+/// The vertical zones of all owners, in no order. Where each item is too short for one, no shade is looked for. So many rectangles that their numbers don't fit into 32 bits are refused as out of memory.
 pub(crate) fn upright_zones(
     alloc: Global,
     items: Vec<Item>,
@@ -242,6 +255,9 @@ pub(crate) fn upright_zones(
 {
     if u32::MAX as usize <= items.len() {
         return Err(AllocError);
+    }
+    if are_short(&items, overlap) {
+        return Ok(Vec::new(alloc));
     }
     let join = Join::of(alloc, items, spacing.rule)?;
     let shades = shades_of(alloc, &join, spacing, overlap)?;
