@@ -8,4 +8,4 @@ use Rattle.dpl_feature.proofs.meet.sort_tops.Goals as goal
 pub returns-clause-rise : goal.returns-clause-rise
 returns-clause-rise c =
     let key : Top → ℤ × ℤ = λ t. (t.row, t.column) in
-    pairs-rise key _ (c.sort_unstable_by_key.ensures.sorted key (answers_always _ _ _ (λ f a r g q. search rules)))
+    pairs-rise key _ (c.sort_by_key.ensures.sorted key (answers_always _ _ _ (λ f a r g q. search rules)))

@@ -4,4 +4,4 @@ use Rattle.dpl_sweep.proofs.Orders.{corner_keys, corners-rise}
 use Rattle.dpl_sweep.proofs.order.sort_slice_by_corner.Goals as goal
 
 pub returns-clause-rise : goal.returns-clause-rise
-returns-clause-rise c = corners-rise _ (c.sort_unstable_by_key.ensures.sorted corner_keys (answers_always _ _ _ (λ f a r g q. search rules)))
+returns-clause-rise c = corners-rise _ (c.sort_slice_by_key.ensures.sorted corner_keys (answers_always _ _ _ (λ f a r g q. search rules)))
