@@ -589,3 +589,9 @@ module _ {X : Type 0} (all done growing : List X) (x : X) (same : IsPermutation 
       let behind = rw (sym (append_assoc done (x ∷ []) growing)) at (IsPermutation-append_right done (growing ++ x ∷ []) (x ∷ growing)
       (IsPermutation-append_comm growing (x ∷ []))) in
       IsPermutation-trans (all ++ x ∷ []) (done ++ (growing ++ x ∷ [])) ((done ++ x ∷ []) ++ growing) settled-growing behind
+
+pub without-sorted : (rects holes rs hs : List Rect) → IsPermutation rects rs → IsPermutation holes hs → (p : Pt) → Without rs hs p ↔ Without rects holes p
+without-sorted rects holes rs hs a b p = (
+  λ (c, not). ((covers-same rects rs a p).1 c, λ h. not ((covers-same holes hs b p).0 h)),
+  λ (c, not). ((covers-same rects rs a p).0 c, λ h. not ((covers-same holes hs b p).1 h)),
+)

@@ -3,7 +3,9 @@ ghost use Rattle.std.specs.Prelude.{◌≡◌, ◌≤◌, [], ◌∷◌, List, I
 ghost use Rattle.dpl_spec_split.specs.declared.Rect.{Rect};
 ghost use Rattle.dpl_spec_split.specs.Squares.{Covers, SameSquares};
 ghost use Rattle.dpl_spec_split.specs.Slabs.{AreSlabsOf};
+ghost use Rattle.std.specs.List.Sorted.{IsPermutation};
 ghost use Rattle.dpl_sweep.specs.declared.edge.Rule.{Rule};
+ghost use Rattle.dpl_sweep.specs.Orders.{CornersRise};
 ghost use Rattle.dpl_sweep.specs.Edges.{Told};
 ghost use Rattle.dpl_sweep.specs.Passes.{AreUnitEdges, IsClosed};
 ghost use Rattle.dpl_spec_split.specs.Loops.{farthest, IsRectWithin, AreRectsWithin};
@@ -11,7 +13,7 @@ ghost use Rattle.dpl_slabs.specs.Cells.{AddsRects, Chosen};
 ghost use Rattle.dpl_slabs.specs.Slices.{Without};
 
 use dpl_base::Rect;
-use dpl_sweep::{Edge, FEW_EDGES, Rule, slabs_of_edges, slabs_upward, sort_by_corner};
+use dpl_sweep::{Edge, FEW_EDGES, Rule, slabs_of_edges, slabs_upward_without, sort_by_corner};
 use std::alloc::{AllocError, Global};
 
 /// An edge in a column, beside the rows of a rectangle.
@@ -124,14 +126,28 @@ pub fn combine_without(
     combine(alloc, rects, holes, rule_without(holes))
 }
 
-/// The slabs of rectangles in any order, by a sweep from the lowest row up, or none where too many of them lie side by side.
-fn union_upward(alloc: Global, rects: &[Rect]) -> Result<Option<Vec<Rect>>, AllocError>
-    ensures { IfOk result (λ found. IfSome found (λ v. AreSlabsOf (Covers rects.now) v.items)) }
+/// A copy of rectangles, by first row, then by left column.
+fn by_corner(alloc: Global, rects: &[Rect]) -> Result<Vec<Rect>, AllocError>
+    ensures same { IfOk result (λ v. IsPermutation rects.now v.items) }
+    ensures rise { IfOk result (λ v. CornersRise v.items) }
 {
     let mut sorted = Vec::with_capacity(alloc, rects.len())?;
     sorted.extend_from_slice(rects)?;
     sort_by_corner(&mut sorted);
-    slabs_upward(alloc, &sorted)
+    Ok(sorted)
+}
+
+/// The slabs of the squares that rectangles have and no hole has, by a sweep from the lowest row up, or none where too many of both lie side by side.
+pub fn upward_without(
+    alloc: Global,
+    rects: &[Rect],
+    holes: &[Rect],
+) -> Result<Option<Vec<Rect>>, AllocError>
+    ensures { IfOk result (λ found. IfSome found (λ v. AreSlabsOf (Without rects.now holes.now) v.items)) }
+{
+    let rects = by_corner(alloc, rects)?;
+    let holes = by_corner(alloc, holes)?;
+    slabs_upward_without(alloc, &rects, &holes)
 }
 
 /// The slabs of the squares that rectangles have and no hole has, by one sweep. The lists are let go before it, unless it goes from the lowest row up.
@@ -147,10 +163,8 @@ pub fn combine_lists_without(
     if rects.is_empty() {
         return Ok(Vec::new(alloc));
     }
-    if holes.is_empty() {
-        if let Some(slabs) = union_upward(alloc, &rects)? {
-            return Ok(slabs);
-        }
+    if let Some(slabs) = upward_without(alloc, &rects, &holes)? {
+        return Ok(slabs);
     }
     let rule = rule_without(&holes);
     let edges = edges_of(alloc, &rects, &holes)?;

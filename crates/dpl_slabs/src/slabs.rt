@@ -11,7 +11,7 @@ ghost use Rattle.dpl_slabs.specs.Scattered.{AreScattered, AreUntouched};
 use crate::joint::combine_by_rows;
 use crate::loops::rects_of_loops;
 use crate::scattered::slabs_of_all;
-use crate::slices::slabs_without;
+use crate::slices::slabs_left;
 use crate::strips::{slabs_by_rows, slabs_of_rects};
 use dpl_base::{Loop, Pt, Rect, all_transposed};
 use dpl_sweep::{Rule, sort_by_corner};
@@ -140,7 +140,7 @@ impl Slabs {
         requires holes { AreRectsWithin farthest holes.now }
         ensures { IfOk result (λ s. AreSlabsOf (λ p. Covers rects.now p × ¬ Covers holes.now p) s) }
     {
-        let rects = slabs_without(alloc, rects, holes)?;
+        let rects = slabs_left(alloc, rects, holes)?;
         Ok(Slabs::of_canonical(rects))
     }
 

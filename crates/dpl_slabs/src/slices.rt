@@ -10,7 +10,7 @@ ghost use Rattle.dpl_sweep.specs.Pieces.{AreApart};
 ghost use Rattle.dpl_slabs.specs.Slices.{InRows, Without, IsPartOf, Widens, PushesBar, AddsPart, IsCutTo, ArePiecesBelow, ArePiecesOf};
 
 use crate::alone::{add_touching, alone_of};
-use crate::combine::{combine_lists_without, combine_without};
+use crate::combine::{combine_lists_without, combine_without, upward_without};
 use crate::gaps::bars_without;
 use crate::row::{is_spaced, slabs_of_row};
 use dpl_base::{FARTHEST, Rect};
@@ -374,4 +374,17 @@ pub fn slabs_without(alloc: Global, rects: &[Rect], holes: &[Rect]) -> Result<Ve
         return Ok(slabs_of(pieces));
     }
     combine_without(alloc, rects, holes)
+}
+
+/// The slabs of the squares that rectangles have and no hole has: by one sweep from the lowest row up, unless too many of both lie side by side.
+pub fn slabs_left(alloc: Global, rects: &[Rect], holes: &[Rect]) -> Result<Vec<Rect>, AllocError>
+    requires rects { AreRectsWithin farthest rects.now }
+    requires holes { AreRectsWithin farthest holes.now }
+    ensures slabs { IfOk result (λ v. AreSlabsOf (Without rects.now holes.now) v.items) }
+    ensures within { IfOk result (λ v. AreRectsWithin farthest v.items) }
+{
+    if let Some(slabs) = upward_without(alloc, rects, holes)? {
+        return Ok(slabs);
+    }
+    slabs_without(alloc, rects, holes)
 }

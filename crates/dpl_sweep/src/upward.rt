@@ -1,21 +1,22 @@
-//! The sweep of rectangles from the lowest row up, band by band. A band is the rows between two neighbours among the rows at which rectangles begin or end.
-ghost use Rattle.std.specs.Prelude.{◌≡◌, ◌≤◌, ◌<ℤ◌, ◌≤ℤ◌, ◌↔◌, IfOk, IfSome, OnOk, IsTrue, length, take, drop};
+//! The sweep of rectangles, less holes or none, from the lowest row up, band by band. A band is the rows between two neighbours among the rows at which rectangles or holes begin or end.
+ghost use Rattle.std.specs.Prelude.{◌≡◌, ℕ, ℤ, ◌≤◌, ◌<◌, ◌<ℤ◌, ◌≤ℤ◌, ◌↔◌, IfOk, IfSome, OnOk, IsTrue, length, slice_index_or};
 ghost use Rattle.std.specs.List.{Contains};
-ghost use Rattle.std.specs.List.Sorted.{IsPermutation};
 ghost use Rattle.dpl_spec_split.specs.declared.Rect.{Rect};
 ghost use Rattle.dpl_spec_split.specs.Squares.{Covers, SameSquares};
-ghost use Rattle.dpl_spec_split.specs.Slabs.{AreSlabsOf};
+ghost use Rattle.dpl_spec_split.specs.Slabs.{AreSlabsOf, IsSolid};
+ghost use Rattle.dpl_sweep.specs.Active.{IsAcross, LeftsRise};
 ghost use Rattle.dpl_sweep.specs.Orders.{CornersRise};
-ghost use Rattle.dpl_sweep.specs.Pieces.{AreApart, Puts};
-ghost use Rattle.dpl_sweep.specs.Upward.{bar_in, AddsReaching, AreGathered, EndBelow, IsAcross, IsReaching, IsWidened, LeftsRise, PutsBand};
+ghost use Rattle.dpl_sweep.specs.Pieces.{AreApart, EndBefore, Puts};
+ghost use Rattle.dpl_sweep.specs.Upward.{bar_in, ArePassed, EndBelow, IsWidened, Left, PutsBand, PutsColumns, PutsWithout};
 
+use crate::active::Active;
 use crate::join::slabs_of;
 use crate::run::continues;
 use dpl_spec_split::Rect;
 use std::alloc::{AllocError, Global};
 use std::mem;
 
-/// How many rectangles there may be in bands, each counted for each band that it is in, for each of all rectangles and of the pieces.
+/// How many rectangles and holes there may be in bands, each counted for each band that it is in, for each of all of them and of the pieces.
 const IN_BANDS: usize = 32;
 
 /// Pieces of the squares below a band and of some of the band's own.
@@ -28,6 +29,15 @@ struct Front {
     passed: usize,
     /// The numbers of the pieces that have squares of the band.
     here: Vec<usize>,
+}
+
+/// How far a walk along the columns of a band has come.
+#[derive(Clone, Copy)]
+struct Passed {
+    /// How many gaps it has passed.
+    count: usize,
+    /// A column that none of these reaches past.
+    reach: i32,
 }
 
 /// Adds a bar, to the piece of that number where it stands on that with the same columns. Gives the number of the piece that has the bar.
@@ -74,6 +84,23 @@ fn widened(bar: Rect, r: &Rect) -> Rect
     }
 }
 
+/// The number of the first gap, from a number on, that begins in the column or right of it. Gaps go by left column.
+fn count_left(gaps: &[Rect], from: usize, x: i32) -> usize
+    requires rise { LeftsRise gaps.now }
+    requires from { from ≤ length gaps.now }
+    ensures from { from ≤ result }
+    ensures within { result ≤ length gaps.now }
+    ensures left { (k : ℕ) (d : Rect) → from ≤ k → k < result → (slice_index_or gaps.now k d).x0 <ℤ x }
+    ensures right { (k : ℕ) (d : Rect) → result ≤ k → k < length gaps.now → x ≤ℤ (slice_index_or gaps.now k d).x0 }
+{
+    for i in from..gaps.len() {
+        if x <= gaps[i].x0 {
+            return i;
+        }
+    }
+    gaps.len()
+}
+
 impl Front {
     /// The number of a piece that has squares of the band below and begins in the column or right of it, and one that no piece has where there is none.
     fn seek(&mut self, x: i32) -> usize
@@ -109,92 +136,87 @@ impl Front {
         self.passed = 0;
     }
 
-    /// Adds the squares that rectangles, which go by left column, have in rows `low` to `high - 1`.
-    fn put_band(&mut self, active: &[Rect], low: i32, high: i32) -> Result<(), AllocError>
+    /// Adds columns `from` to `to - 1` of a bar, where there are any.
+    fn put_columns(&mut self, bar: &Rect, from: i32, to: i32) -> Result<(), AllocError>
+        ensures { OnOk result (PutsColumns bar.now from to self.old.pieces.items self.new.pieces.items) }
+    {
+        if to <= from {
+            return Ok(());
+        }
+        self.put(Rect {
+            x0: from,
+            y0: bar.y0,
+            x1: to,
+            y1: bar.y1,
+        })?;
+        Ok(())
+    }
+
+    /// Adds what gaps, which go by left column, leave of a bar. Gives how far they are passed then.
+    fn put_without(
+        &mut self,
+        bar: &Rect,
+        gaps: &[Rect],
+        passed: Passed,
+    ) -> Result<Passed, AllocError>
+        requires solid { IsSolid bar.now }
+        requires rise { LeftsRise gaps.now }
+        requires across { (r : Rect) → Contains gaps.now r → IsAcross bar.now.y0 bar.now.y1 r }
+        requires passed { ArePassed bar.now gaps.now bar.now.x0 passed.count passed.reach }
+        requires before { (y : ℤ) → bar.now.y0 ≤ℤ y → y <ℤ bar.now.y1 → EndBefore self.old.pieces.items y bar.now.x0 }
+        requires apart { AreApart self.old.pieces.items }
+        ensures puts { OnOk result (PutsWithout bar.now gaps.now self.old.pieces.items self.new.pieces.items) }
+        ensures passed { IfOk result (λ next. ArePassed bar.now gaps.now bar.now.x1 next.count next.reach) }
+    {
+        let end = count_left(gaps, passed.count, bar.x1);
+        let mut x = bar.x0.max(passed.reach);
+        for i in passed.count..end {
+            self.put_columns(bar, x, gaps[i].x0)?;
+            x = x.max(gaps[i].x1);
+        }
+        self.put_columns(bar, x, bar.x1)?;
+        Ok(Passed {
+            count: end,
+            reach: x,
+        })
+    }
+
+    /// Adds the squares that gaps leave of rectangles in rows `low` to `high - 1`. All have all these rows, and both lists go by left column.
+    fn put_band(
+        &mut self,
+        active: &[Rect],
+        gaps: &[Rect],
+        low: i32,
+        high: i32,
+    ) -> Result<(), AllocError>
         requires order { low <ℤ high }
         requires rise { LeftsRise active.now }
         requires across { (r : Rect) → Contains active.now r → IsAcross low high r }
+        requires gaps_rise { LeftsRise gaps.now }
+        requires gaps_across { (r : Rect) → Contains gaps.now r → IsAcross low high r }
         requires above { EndBelow low self.old.pieces.items }
         requires apart { AreApart self.old.pieces.items }
-        ensures { OnOk result (PutsBand low high active.now self.old.pieces.items self.new.pieces.items) }
+        ensures { OnOk result (PutsBand low high active.now gaps.now self.old.pieces.items self.new.pieces.items) }
     {
         if active.is_empty() {
             return Ok(());
         }
         let mut bar = bar_of(&active[0], low, high);
+        let mut passed = Passed {
+            count: 0,
+            reach: bar.x0,
+        };
         for i in 1..active.len() {
             if is_right(&bar, &active[i]) {
-                self.put(bar)?;
+                passed = self.put_without(&bar, gaps, passed)?;
                 bar = bar_of(&active[i], low, high);
             } else {
                 bar = widened(bar, &active[i]);
             }
         }
-        self.put(bar)?;
+        self.put_without(&bar, gaps, passed)?;
         Ok(())
     }
-}
-
-/// Whether the rectangle has squares, some of them in the row or above it.
-fn is_reaching(r: &Rect, low: i32) -> bool
-    ensures { IsTrue result ↔ IsReaching low r.now }
-{
-    if r.x1 <= r.x0 {
-        return false;
-    }
-    low < r.y1
-}
-
-/// Adds those of the rectangles that have squares in the row or above it.
-fn add_reaching(found: &mut Vec<Rect>, rects: &[Rect], low: i32) -> Result<(), AllocError>
-    ensures { OnOk result (AddsReaching low rects.now found.old.items found.new.items) }
-{
-    for r in rects {
-        if is_reaching(r, low) {
-            found.push(*r)?;
-        }
-    }
-    Ok(())
-}
-
-/// Sorts by left column.
-fn sort_by_left(rects: &mut Vec<Rect>) -> Result<(), AllocError>
-    ensures same { OnOk result (IsPermutation rects.old.items rects.new.items) }
-    ensures rise { OnOk result (LeftsRise rects.new.items) }
-{
-    rects.sort_by_key(|r| r.x0)?;
-    Ok(())
-}
-
-/// Makes the list that of those rectangles of two others that have squares in the row or above it, by left column.
-fn gather(
-    found: &mut Vec<Rect>,
-    active: &[Rect],
-    starts: &[Rect],
-    low: i32,
-) -> Result<(), AllocError>
-    ensures { OnOk result (AreGathered low active.now starts.now found.new.items) }
-{
-    found.clear();
-    add_reaching(found, active, low)?;
-    add_reaching(found, starts, low)?;
-    sort_by_left(found)?;
-    Ok(())
-}
-
-/// How many of the rectangles, which go by first row, begin in the row or below it.
-fn count_begun(rects: &[Rect], low: i32) -> usize
-    requires { CornersRise rects.now }
-    ensures within { result ≤ length rects.now }
-    ensures begun { (r : Rect) → Contains (take result rects.now) r → r.y0 ≤ℤ low }
-    ensures above { (r : Rect) → Contains (drop result rects.now) r → low <ℤ r.y0 }
-{
-    for i in 0..rects.len() {
-        if low < rects[i].y0 {
-            return i;
-        }
-    }
-    rects.len()
 }
 
 /// A row that all rectangles end at or below.
@@ -208,44 +230,16 @@ fn top_of(rects: &[Rect]) -> i32
     top
 }
 
-/// The lowest row at which one of the rectangles ends, up to `top`.
-fn lowest_end(active: &[Rect], low: i32, top: i32) -> i32
-    requires order { low <ℤ top }
-    requires active { (r : Rect) → Contains active.now r → low <ℤ r.y1 }
-    ensures above { low <ℤ result }
-    ensures below { result ≤ℤ top }
-    ensures ends { (r : Rect) → Contains active.now r → result ≤ℤ r.y1 }
-{
-    let mut high = top;
-    for r in active {
-        high = high.min(r.y1);
-    }
-    high
-}
-
-/// The lowest row at which a rectangle ends or one of the others, which go by first row, begins, up to `top`.
-fn end_of_band(active: &[Rect], above: &[Rect], low: i32, top: i32) -> i32
-    requires order { low <ℤ top }
-    requires active { (r : Rect) → Contains active.now r → low <ℤ r.y1 }
-    requires rise { CornersRise above.now }
-    requires others { (r : Rect) → Contains above.now r → low <ℤ r.y0 }
-    ensures above { low <ℤ result }
-    ensures below { result ≤ℤ top }
-    ensures ends { (r : Rect) → Contains active.now r → result ≤ℤ r.y1 }
-    ensures begins { (r : Rect) → Contains above.now r → result ≤ℤ r.y0 }
-{
-    let high = lowest_end(active, low, top);
-    if above.is_empty() {
-        return high;
-    }
-    high.min(above[0].y0)
-}
-
-/// Pieces of the squares of rectangles, which go by first row and may overlap, or none where too many of them lie side by side.
-fn pieces_upward(alloc: Global, rects: &[Rect]) -> Result<Option<Vec<Rect>>, AllocError>
-    requires { CornersRise rects.now }
+/// Pieces of the squares that rectangles have and no hole has, or none where too many of both lie side by side. Both lists go by first row and may overlap.
+fn pieces_upward(
+    alloc: Global,
+    rects: &[Rect],
+    holes: &[Rect],
+) -> Result<Option<Vec<Rect>>, AllocError>
+    requires rects { CornersRise rects.now }
+    requires holes { CornersRise holes.now }
     ensures apart { IfOk result (λ found. IfSome found (λ v. AreApart v.items)) }
-    ensures covers { IfOk result (λ found. IfSome found (λ v. SameSquares (Covers v.items) (Covers rects.now))) }
+    ensures covers { IfOk result (λ found. IfSome found (λ v. SameSquares (Covers v.items) (Left rects.now holes.now))) }
 {
     let mut front = Front {
         pieces: Vec::with_capacity(alloc, rects.len())?,
@@ -256,26 +250,42 @@ fn pieces_upward(alloc: Global, rects: &[Rect]) -> Result<Option<Vec<Rect>>, All
     if rects.is_empty() {
         return Ok(Some(front.pieces));
     }
-    let (mut active, mut found) = (Vec::new(alloc), Vec::new(alloc));
-    let mut rest = rects;
+    let (mut bars, mut gaps) = (Active::new(alloc), Active::new(alloc));
+    let most = rects.len().saturating_add(holes.len());
+    let mut steps: usize = 0;
     let mut low = rects[0].y0;
     let top = top_of(rects);
-    let mut steps: usize = 0;
     while low < top {
-        let (starts, above) = rest.split_at(count_begun(rest, low));
-        gather(&mut found, &active, starts, low)?;
-        mem::swap(&mut active, &mut found);
-        let high = end_of_band(&active, above, low, top);
-        front.put_band(&active, low, high)?;
+        bars.begin(rects, low)?;
+        gaps.begin(holes, low)?;
+        let high = gaps.end(holes, low, bars.end(rects, low, top));
+        front.put_band(&bars.rects, &gaps.rects, low, high)?;
         front.rise();
-        steps = steps.saturating_add(active.len());
-        if steps / IN_BANDS > rects.len().saturating_add(front.pieces.len()) {
+        steps = steps
+            .saturating_add(bars.rects.len())
+            .saturating_add(gaps.rects.len());
+        if steps / IN_BANDS > most.saturating_add(front.pieces.len()) {
             return Ok(None);
         }
-        rest = above;
         low = high;
     }
     Ok(Some(front.pieces))
+}
+
+/// The canonical slabs of the squares that rectangles have and no hole has, or none where too many of both lie side by side. Both lists go by first row and may overlap.
+pub fn slabs_upward_without(
+    alloc: Global,
+    rects: &[Rect],
+    holes: &[Rect],
+) -> Result<Option<Vec<Rect>>, AllocError>
+    requires rects { CornersRise rects.now }
+    requires holes { CornersRise holes.now }
+    ensures { IfOk result (λ found. IfSome found (λ v. AreSlabsOf (λ p. Covers rects.now p × ¬ Covers holes.now p) v.items)) }
+{
+    match pieces_upward(alloc, rects, holes)? {
+        None => Ok(None),
+        Some(pieces) => Ok(Some(slabs_of(pieces))),
+    }
 }
 
 /// The canonical slabs of rectangles, which go by first row and may overlap, or none where too many of them lie side by side.
@@ -283,8 +293,5 @@ pub fn slabs_upward(alloc: Global, rects: &[Rect]) -> Result<Option<Vec<Rect>>, 
     requires { CornersRise rects.now }
     ensures { IfOk result (λ found. IfSome found (λ v. AreSlabsOf (Covers rects.now) v.items)) }
 {
-    match pieces_upward(alloc, rects)? {
-        None => Ok(None),
-        Some(pieces) => Ok(Some(slabs_of(pieces))),
-    }
+    slabs_upward_without(alloc, rects, &[])
 }

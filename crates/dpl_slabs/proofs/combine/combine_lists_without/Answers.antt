@@ -1,27 +1,23 @@
 use Rattle.std.proofs.Common.{arith}
 use Rattle.std.proofs.lemmas.Result.{IfOk-weaker}
-use Rattle.dpl_spec_split.specs.Squares.{Covers}
 use Rattle.dpl_sweep.specs.Edges.{Told}
 use Rattle.dpl_slabs.specs.Cells.{Chosen}
 use Rattle.dpl_slabs.specs.Slices.{Without}
 use Rattle.dpl_slabs.proofs.RowLaws.{slabs-none}
-use Rattle.dpl_slabs.proofs.SetLaws.{without-none, slabs-of-same}
+use Rattle.dpl_slabs.proofs.SetLaws.{slabs-of-same}
 use Rattle.dpl_slabs.proofs.combine.combine_lists_without.Goals as goal
 
 pub returns-then-is_empty : goal.returns-then-is_empty
 returns-then-is_empty c = rw c.new.ensures.items (slabs-none c.args.rects.items c.args.holes.items (let h = c.is_empty.ensures in grind arith))
 
 pub returns-in-Some : goal.returns-in-Some
-returns-in-Some c =
-    let union = rw (c.in-Some.is, c.deref.ensures.value) at c.in_ok-slabs.ensures in
-    slabs-of-same (Covers c.args.rects.items) (Without c.args.rects.items c.args.holes.items) _
-    (λ p. without-none c.args.rects.items c.args.holes.items p (let h = c.is_empty-2.ensures in grind arith)) union
+returns-in-Some c = rw (c.in-Some.is, c.deref.ensures.value, c.deref-2.ensures.value) at c.in_ok-slabs.ensures
 
 pub returns : goal.returns
 returns c =
     let rule = c.rule_without-rule.result in
-    let told = rw (c.deref-3.ensures.value, c.deref-4.ensures.value) at c.in_ok-edges.ensures.told in
-    let without = rw c.deref-2.ensures.value at c.rule_without-rule.ensures in
+    let told = rw (c.deref-4.ensures.value, c.deref-5.ensures.value) at c.in_ok-edges.ensures.told in
+    let without = rw c.deref-3.ensures.value at c.rule_without-rule.ensures in
     IfOk-weaker c.slabs_of_edges.result _ _
     (λ v is. slabs-of-same (Chosen rule c.args.rects.items c.args.holes.items) (Without c.args.rects.items c.args.holes.items) v.items (without c.args.rects.items)
     (slabs-of-same (Told rule c.in_ok-edges.edges.items) (Chosen rule c.args.rects.items c.args.holes.items) v.items (told rule) is)) c.slabs_of_edges.ensures

@@ -3,7 +3,8 @@ use Rattle.std.specs.Prelude.{pos}
 use Rattle.std.proofs.lemmas.Int.{ints, to_z-of_z}
 use Rattle.std.proofs.lemmas.List.{get_or_default}
 use Rattle.dpl_spec_split.specs.declared.Rect.{Rect}
-use Rattle.dpl_sweep.proofs.UpwardLaws.{swept-first, swept-next, swept-all, found-across}
+use Rattle.dpl_sweep.proofs.ActiveLaws.{active-none, active-next, fills-lower}
+use Rattle.dpl_sweep.proofs.UpwardLaws.{swept-first, swept-next, swept-all}
 use Rattle.dpl_sweep.proofs.upward.pieces_upward.Goals as goal
 
 abbrev zero : Rect
@@ -14,29 +15,38 @@ loop-low-init c =
     let rects = c.args.rects.now in
     let some : 0 < length rects = (let h = c.is_empty.ensures in let g = c.if-is_empty.false in grind (arith, h, g)) in
     let first : Rect = get_or rects 0 zero in
-    let fits : FitsSigned w32 first.y0 = search rules in
-    rw (to_z-of_z w32 first.y0 fits, c.new-active.ensures.items, c.in_ok-with_capacity.ensures.items)
-    (swept-first rects first some (get_or_default rects 0 zero first some) c.requires)
+    let fits : FitsSigned w32 first.y0 = search rules in (
+      rw (to_z-of_z w32 first.y0 fits, c.in_ok-with_capacity.ensures.items) (swept-first rects c.args.holes.now first some (get_or_default rects 0 zero first some) c.requires.rects),
+      rw (c.new-bars.ensures.begun, c.new-bars.ensures.none) (active-none _ rects),
+      rw (c.new-gaps.ensures.begun, c.new-gaps.ensures.none) (active-none _ c.args.holes.now),
+    )
 
 pub put_band-requires-clause-across : goal.put_band-requires-clause-across
 put_band-requires-clause-across c =
-    let high : FitsSigned w32 c.end_of_band-high.result = search rules in
-    let found = rw (c.split_at.ensures.front, c.deref.ensures.value) at c.in_ok-gather.ensures in
-    rw (to_z-of_z w32 c.end_of_band-high.result high, c.deref-in-loop-low-2.ensures.value, c.swap.ensures.x_after)
-    (found-across _ _ _ _ _ c.loop-low.invariant c.count_begun.result _ found c.count_begun.ensures.begun c.end_of_band-high.result
-    (rw (c.deref-in-loop-low.ensures.value, c.swap.ensures.x_after) at c.end_of_band-high.ensures.ends))
+    let high : FitsSigned w32 c.end-high.result = search rules in
+    let top : FitsSigned w32 c.end.result = search rules in
+    let lower = rw (to_z-of_z w32 c.end.result top) at c.end-high.ensures.below in
+    rw (to_z-of_z w32 c.end-high.result high, c.deref.ensures.value) (fills-lower _ _ _ _ _ lower c.end.ensures.fill).across
+
+pub put_band-requires-clause-gaps_across : goal.put_band-requires-clause-gaps_across
+put_band-requires-clause-gaps_across c =
+    let high : FitsSigned w32 c.end-high.result = search rules in
+    rw (to_z-of_z w32 c.end-high.result high, c.deref-in-loop-low.ensures.value) c.end-high.ensures.fill.across
 
 pub loop-low-preserved : goal.loop-low-preserved
 loop-low-preserved c =
-    let high : FitsSigned w32 c.end_of_band-high.result = search rules in
-    let found = rw (c.split_at.ensures.front, c.deref.ensures.value) at c.in_ok-gather.ensures in
-    let puts = rw (to_z-of_z w32 c.end_of_band-high.result high, c.deref-in-loop-low-2.ensures.value, c.swap.ensures.x_after) at c.in_ok-put_band.ensures in
-    rw (to_z-of_z w32 c.end_of_band-high.result high, c.split_at.ensures.back, c.swap.ensures.x_after, c.rise.ensures)
-    (swept-next _ _ _ _ _ c.loop-low.invariant c.count_begun.result _ found c.count_begun.ensures.begun c.end_of_band-high.result _ c.end_of_band-high.ensures.above
-    (rw c.split_at.ensures.back at c.end_of_band-high.ensures.begins) puts)
+    let high : FitsSigned w32 c.end-high.result = search rules in
+    let top : FitsSigned w32 c.end.result = search rules in
+    let lower = rw (to_z-of_z w32 c.end.result top) at c.end-high.ensures.below in
+    let puts = rw (to_z-of_z w32 c.end-high.result high, c.deref.ensures.value, c.deref-in-loop-low.ensures.value) at c.in_ok-put_band.ensures in
+    rw (to_z-of_z w32 c.end-high.result high, c.rise.ensures) (
+      swept-next _ _ _ _ c.loop-low.invariant.0 c.end-high.result _ _ _ (fills-lower _ _ _ _ _ lower c.end.ensures.fill) c.end-high.ensures.fill puts,
+      active-next _ _ _ _ c.in_ok-begin.ensures c.end-high.result c.end-high.ensures.above,
+      active-next _ _ _ _ c.in_ok-begin-2.ensures c.end-high.result c.end-high.ensures.above,
+    )
 
 pub returns-clause-covers : goal.returns-clause-covers
 returns-clause-covers c =
     let top : FitsSigned w32 c.top_of-top.result = search rules in
     let over = rw (to_z-of_z w32 c.top_of-top.result top) at c.loop-low-test.false in
-    swept-all _ _ _ _ _ c.loop-low.invariant c.top_of-top.result (grind (arith, ints, over)) c.top_of-top.ensures
+    swept-all _ _ _ _ c.loop-low.invariant.0 c.top_of-top.result (grind (arith, ints, over)) c.top_of-top.ensures

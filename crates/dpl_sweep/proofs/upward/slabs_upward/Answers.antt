@@ -1,10 +1,7 @@
+use Rattle.std.proofs.lemmas.Option.{IfSome_then}
+use Rattle.std.proofs.lemmas.Result.{IfOk-weaker}
+use Rattle.dpl_sweep.proofs.UpwardLaws.{slabs-whole}
 use Rattle.dpl_sweep.proofs.upward.slabs_upward.Goals as goal
 
-pub returns-in-Some : goal.returns-in-Some
-returns-in-Some c =
-    let same = rw c.in-Some.is at c.in_ok-pieces_upward.ensures.covers in
-    let slabs = c.slabs_of.ensures in
-    record {
-      canonical = slabs.canonical;
-      covers = λ p. (λ h. (same p).0 ((slabs.covers p).0 h), λ h. (slabs.covers p).1 ((same p).1 h));
-    }
+pub returns : goal.returns
+returns c = IfOk-weaker c.slabs_upward_without.result _ _ (λ found h. IfSome_then found h (λ v slabs. slabs-whole c.args.rects.now v.items slabs)) c.slabs_upward_without.ensures

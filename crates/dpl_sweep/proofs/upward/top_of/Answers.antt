@@ -3,7 +3,7 @@ use Rattle.std.specs.Prelude.{pos}
 use Rattle.std.proofs.lemmas.Int.{to_z-of_z}
 use Rattle.std.proofs.lemmas.List.{get_or_default, take_all}
 use Rattle.dpl_spec_split.specs.declared.Rect.{Rect}
-use Rattle.dpl_sweep.proofs.UpwardLaws.{top-more}
+use Rattle.dpl_sweep.proofs.ActiveLaws.{top-more}
 use Rattle.dpl_sweep.proofs.upward.top_of.Goals as goal
 
 abbrev zero : Rect

@@ -1,5 +1,6 @@
-use Rattle.dpl_sweep.specs.Upward.{ArePutUpTo}
+use Rattle.dpl_sweep.specs.Upward.{ArePassed, ArePutUpTo}
 use Rattle.dpl_sweep.proofs.upward.Front.put_band.Given as goal
 
 abbrev pub invariant-loop-i : goal.invariant-loop-i
-invariant-loop-i l = ArePutUpTo l.low l.high l.active l.i l.initial.self.pieces.items l.self.pieces.items l.bar
+invariant-loop-i l = ArePutUpTo l.low l.high l.active l.gaps l.i l.initial.self.pieces.items l.self.pieces.items l.bar
+    × ArePassed l.bar l.gaps l.bar.x0 l.passed.count l.passed.reach

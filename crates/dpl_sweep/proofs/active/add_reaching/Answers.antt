@@ -4,9 +4,9 @@ use Rattle.std.proofs.lemmas.Int.{to_z-of_z}
 use Rattle.std.proofs.lemmas.List.{get_or_default, take_all}
 use Rattle.dpl_spec_split.specs.declared.Rect.{Rect}
 use Rattle.std.proofs.lemmas.Bool.{false≢true}
-use Rattle.dpl_sweep.proofs.UpwardLaws.{adds-reach, adds-skip}
-use Rattle.dpl_sweep.proofs.upward.add_reaching.Goals.{then-is_reaching+in_ok-push, else-is_reaching}
-use Rattle.dpl_sweep.proofs.upward.add_reaching.Goals as goal
+use Rattle.dpl_sweep.proofs.ActiveLaws.{adds-reach, adds-skip}
+use Rattle.dpl_sweep.proofs.active.add_reaching.Goals.{then-is_reaching+in_ok-push, else-is_reaching}
+use Rattle.dpl_sweep.proofs.active.add_reaching.Goals as goal
 
 abbrev zero : Rect
 zero = record { x0 = pos 0; y0 = pos 0; x1 = pos 0; y1 = pos 0 }

@@ -3,8 +3,8 @@ use Rattle.std.specs.Prelude.{pos}
 use Rattle.std.proofs.lemmas.Int.{ints, to_z-of_z}
 use Rattle.std.proofs.lemmas.List.{get_or_default}
 use Rattle.dpl_spec_split.specs.declared.Rect.{Rect}
-use Rattle.dpl_sweep.proofs.UpwardLaws.{begun-more, above-here}
-use Rattle.dpl_sweep.proofs.upward.count_begun.Goals as goal
+use Rattle.dpl_sweep.proofs.ActiveLaws.{begun-more, above-here}
+use Rattle.dpl_sweep.proofs.active.count_begun.Goals as goal
 
 abbrev zero : Rect
 zero = record { x0 = pos 0; y0 = pos 0; x1 = pos 0; y1 = pos 0 }

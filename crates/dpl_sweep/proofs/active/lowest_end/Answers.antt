@@ -4,9 +4,9 @@ use Rattle.std.proofs.lemmas.Int.{ints, to_z-of_z}
 use Rattle.std.proofs.lemmas.List.{get_or_default, take_all}
 use Rattle.dpl_spec_split.specs.declared.Rect.{Rect}
 use Rattle.dpl_sweep.proofs.FewLaws.{min-above}
-use Rattle.dpl_sweep.proofs.UpwardLaws.{end-more}
+use Rattle.dpl_sweep.proofs.ActiveLaws.{end-more}
 use Rattle.std.proofs.lemmas.List.Elements.{Contains-get_or}
-use Rattle.dpl_sweep.proofs.upward.lowest_end.Goals as goal
+use Rattle.dpl_sweep.proofs.active.lowest_end.Goals as goal
 
 abbrev zero : Rect
 zero = record { x0 = pos 0; y0 = pos 0; x1 = pos 0; y1 = pos 0 }

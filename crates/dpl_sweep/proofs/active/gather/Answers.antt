@@ -1,7 +1,7 @@
 use Rattle.std.proofs.Common.{w32}
 use Rattle.std.proofs.lemmas.Int.{to_z-of_z}
-use Rattle.dpl_sweep.proofs.UpwardLaws.{gathered}
-use Rattle.dpl_sweep.proofs.upward.gather.Goals as goal
+use Rattle.dpl_sweep.proofs.ActiveLaws.{gathered}
+use Rattle.dpl_sweep.proofs.active.gather.Goals as goal
 
 pub returns : goal.returns
 returns c =
