@@ -10,6 +10,7 @@ ghost use Rattle.dpl_piece.specs.Pieces.{parts_in};
 
 use crate::piece::Piece;
 use dpl_base::{Rect, Zone};
+use dpl_sort::sort_by_key;
 use std::alloc::AllocError;
 
 /// A corner of a slab, with its part's number, or a corner of a zone, with the zone's number.
@@ -45,7 +46,7 @@ fn sort_by_corner(corners: &mut Vec<Corner>)
     ensures same { IsPermutation corners.old.items corners.new.items }
     ensures rise { RiseByCorner corners.new.items }
 {
-    corners.sort_unstable_by_key(|c| (c.y, c.x));
+    sort_by_key(corners, |c| (c.y, c.x));
 }
 
 /// Makes the list one corner of each of the zones of these numbers, by row and then by column.

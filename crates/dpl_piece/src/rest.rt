@@ -14,6 +14,7 @@ use crate::piece::{CutUp, Origin, Piece, Whole};
 use crate::rank::{number_all, ranked, ranks_of};
 use dpl_base::{Id, Rect, Zone, give_back, short_id};
 use dpl_slabs::Slabs;
+use dpl_sort::sort_by_key;
 use std::alloc::{AllocError, Global};
 
 /// The feature of a zone by the zone's number, and 0 past the end.
@@ -40,7 +41,7 @@ fn by_feature(alloc: Global, zones: &[Zone]) -> Result<Vec<u32>, AllocError>
     ensures rise { IfOk result (λ v. IsNonDecreasingBy (feature_at zones.now) v.items) }
 {
     let mut numbers = short_numbers(alloc, zones.len())?;
-    numbers.sort_unstable_by_key(|number| feature_of(zones, *number as usize));
+    sort_by_key(&mut numbers, |number| feature_of(zones, *number as usize));
     Ok(numbers)
 }
 
@@ -153,7 +154,7 @@ fn sort_by_least(pieces: &mut Vec<Piece>)
     ensures same { IsPermutation pieces.old.items pieces.new.items }
     ensures rise { RiseByLeast pieces.new.items }
 {
-    pieces.sort_unstable_by_key(|piece| least_key(&piece.part));
+    sort_by_key(pieces, |piece| least_key(&piece.part));
 }
 
 /// Sorts pieces by their least squares. The numbers that were noted are those of pieces by place; returns their places once they are sorted.

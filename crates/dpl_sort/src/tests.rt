@@ -19,15 +19,7 @@ fn scattered(alloc: Global, len: usize, most: u32) -> Result<Vec<(u32, i32)>, Al
 /// std's sort behind it has but one pass to go.
 #[test]
 fn dealt_lists_are_in_order(rt: HostRuntime) -> Result<(), Fail> {
-    for (len, most) in [
-        (0, 0),
-        (24, 7),
-        (25, 7),
-        (3_000, 0),
-        (3_000, 1),
-        (3_000, 0xffff),
-        (20_000, 0xff),
-    ] {
+    for (len, most) in [(8_192, 0), (8_192, 1), (20_000, 0xff), (40_000, 0xffff)] {
         let mut items = scattered(rt.alloc(), len, most)?;
         deal(items.as_mut_slice(), &|item: &(u32, i32)| *item);
         assert!(rt;

@@ -7,4 +7,4 @@ use Rattle.dpl_piece.proofs.corner.sort_by_corner.Goals as goal
 pub returns-clause-rise : goal.returns-clause-rise
 returns-clause-rise c =
     let key : Corner → ℤ × ℤ = λ e. (e.y, e.x) in
-    c.sort_unstable_by_key.ensures.sorted key (answers_always _ _ _ (λ f a r g q. search rules))
+    c.sort_by_key.ensures.sorted key (answers_always _ _ _ (λ f a r g q. search rules))
