@@ -21,7 +21,8 @@ use Rattle.dpl_spec_split.proofs.SlabLaws.{Covers-member, member-Covers}
 use Rattle.dpl_sweep.specs.declared.edge.Rule.TheVariants.{Minus}
 use Rattle.dpl_sweep.specs.Edges.{Holds}
 use Rattle.dpl_sweep.specs.Pieces.{AreApart}
-use Rattle.dpl_sweep.proofs.JoinLaws.{apart-permutation, covers-same}
+use Rattle.dpl_sweep.specs.Joins.{AreJoined}
+use Rattle.dpl_sweep.proofs.JoinLaws.{apart-permutation, covers-same, joined-apart}
 use Rattle.dpl_slabs.specs.Cells.{cells}
 use Rattle.dpl_slabs.specs.Rows.{AreAllLevel, AreSpaced, IsRow}
 use Rattle.dpl_slabs.specs.Alone.{KeepOff, AreAlone, AddsTouching}
@@ -512,7 +513,7 @@ apart-after xs ys a = record {
 }
 
 -- pieces with the squares of the latter stand beside the former as these do
-module _ (row : ℤ) (a : Region) (xs ys zs : List Rect) (b : ArePiecesBelow row a (xs ++ ys)) (s : ArePiecesOf (Covers ys) zs) where
+module _ (xs ys zs : List Rect) (b : AreApart (xs ++ ys)) (s : ArePiecesOf (Covers ys) zs) where
   module _ (d j : Rect) (d_in : Contains xs d) (j_in : Contains zs j) where
     near-none : (p : Pt) → Has j p → d.y0 ≤ℤ p.y → p.y <ℤ d.y1 → (d.x0 -ℤ pos 1) ≤ℤ p.x → p.x ≤ℤ d.x1 → ⊥
     near-none p has low high left right =
@@ -521,7 +522,7 @@ module _ (row : ℤ) (a : Region) (xs ys zs : List Rect) (b : ArePiecesBelow row
         let f = o_has.right in
         let g = o_has.low in
         let h = o_has.high in
-        elim (pairs-across (λ u v. ShareRow u v → StandApart u v) xs ys d o b.apart.apart d_in o_in (omega (arith, ints, low, h), omega (arith, ints, high, g))) [
+        elim (pairs-across (λ u v. ShareRow u v → StandApart u v) xs ys d o b.apart d_in o_in (omega (arith, ints, low, h), omega (arith, ints, high, g))) [
           | inl k ↦ omega (arith, ints, k, e, right)
           | inr k ↦ omega (arith, ints, k, f, left)
         ]
@@ -529,7 +530,7 @@ module _ (row : ℤ) (a : Region) (xs ys zs : List Rect) (b : ArePiecesBelow row
     beside-at : (y : ℤ) → j.y0 ≤ℤ y → y <ℤ j.y1 → d.y0 ≤ℤ y → y <ℤ d.y1 → StandApart d j
     beside-at y from to low high =
         let wide = (All-contains IsSolid zs j s.apart.solid j_in).wide in
-        let wide_too = (All-contains IsSolid (xs ++ ys) d b.apart.solid (Contains-append_left xs ys d d_in)).wide in
+        let wide_too = (All-contains IsSolid (xs ++ ys) d b.solid (Contains-append_left xs ys d d_in)).wide in
         by_lt_z d.x1 j.x0 inl
         (λ l. by_lt_z j.x1 d.x0 inr
         (λ m. absurd (by_lt_z j.x0 d.x0
@@ -541,22 +542,27 @@ module _ (row : ℤ) (a : Region) (xs ys zs : List Rect) (b : ArePiecesBelow row
     beside : ShareRow d j → StandApart d j
     beside (l, m) =
         let tall = (All-contains IsSolid zs j s.apart.solid j_in).tall in
-        let tall_too = (All-contains IsSolid (xs ++ ys) d b.apart.solid (Contains-append_left xs ys d d_in)).tall in
+        let tall_too = (All-contains IsSolid (xs ++ ys) d b.solid (Contains-append_left xs ys d d_in)).tall in
         by_lt_z d.y0 j.y0
         (λ k. beside-at j.y0 (omega (arith, ints)) tall (omega (arith, ints, k)) m)
         (λ k. beside-at d.y0 k l (omega (arith, ints)) tall_too)
 
+  pub beside-apart : AreApart (xs ++ zs)
+  beside-apart =
+      let former = apart-before xs ys b in
+      record {
+        solid = All-append IsSolid xs zs former.solid s.apart.solid;
+        apart = AllPairs-append (λ u v. ShareRow u v → StandApart u v) xs zs former.apart s.apart.apart beside;
+      }
+
+module _ (row : ℤ) (a : Region) (xs ys zs : List Rect) (b : ArePiecesBelow row a (xs ++ ys)) (s : ArePiecesOf (Covers ys) zs) where
   ends : (p : Pt) → Covers zs p → p.y <ℤ row
   ends p c = let (r, r_in, has) = member-Covers ys p ((s.covers p).0 c) in ((b.covers p).0 (Covers-member (xs ++ ys) r p (Contains-append_right xs ys r r_in) has)).1
 
   pub below-beside : ArePiecesBelow row a (xs ++ zs)
   below-beside =
-      let former = apart-before xs ys b.apart in
       record {
-        apart = record {
-          solid = All-append IsSolid xs zs former.solid s.apart.solid;
-          apart = AllPairs-append (λ u v. ShareRow u v → StandApart u v) xs zs former.apart s.apart.apart beside;
-        };
+        apart = beside-apart xs ys zs b.apart s;
         under = λ r r_in. elim (Contains-append_cases xs zs r r_in) [
           | inl h ↦ b.under r (Contains-append_left xs ys r h)
           | inr h ↦ end-below row zs s.apart.solid ends r h
@@ -572,12 +578,37 @@ pub pieces-own : (growing more : List Rect) → length growing ≤ 0 → AreApar
 pieces-own [] more none a = record { apart = a; covers = λ p. (λ c. c, λ c. c) }
 pieces-own (r ∷ growing) more none a = absurd (omega (arith, none))
 
--- slabs of all that stood in two lists
-pub pieces-slabs : (both list slabs : List Rect) → IsPermutation both list → AreSlabsOf (Covers list) slabs → ArePiecesOf (Covers both) slabs
-pieces-slabs both list slabs same s = record {
-  apart = record { solid = s.canonical.solid; apart = λ i j d l k. (s.canonical.follow i j d l k).apart };
-  covers = λ p. ((λ c. (covers-same both list same p).1 ((s.covers p).0 c)), λ c. (s.covers p).1 ((covers-same both list same p).0 c));
-}
+-- some that grow, and pieces of which some may stand on them
+module _ (growing more others starts : List Rect) (moved : IsPermutation more (others ++ starts)) (a : AreApart (growing ++ more)) where
+  turned : IsPermutation (growing ++ more) (others ++ (growing ++ starts))
+  turned =
+      let behind = rw append_assoc at (IsPermutation-append_comm growing (others ++ starts)) in
+      IsPermutation-trans (growing ++ more) (growing ++ (others ++ starts)) (others ++ (growing ++ starts)) (IsPermutation-append_right growing more (others ++ starts) moved)
+      (IsPermutation-trans (growing ++ (others ++ starts)) (others ++ (starts ++ growing)) (others ++ (growing ++ starts)) behind
+      (IsPermutation-append_right others (starts ++ growing) (growing ++ starts) (IsPermutation-append_comm starts growing)))
+
+  module _ (both : List Rect) (same : IsPermutation (growing ++ starts) both) where
+    whole : IsPermutation (growing ++ more) (others ++ both)
+    whole = IsPermutation-trans (growing ++ more) (others ++ (growing ++ starts)) (others ++ both) turned (IsPermutation-append_right others (growing ++ starts) both same)
+
+    all-apart : AreApart (others ++ both)
+    all-apart = apart-permutation (growing ++ more) (others ++ both) whole a
+
+    pub both-apart : AreApart both
+    both-apart = apart-after others both all-apart
+
+    pub pieces-joined : (slabs new : List Rect) → AreJoined both slabs → IsPermutation (others ++ slabs) new → ArePiecesOf (Covers (growing ++ more)) new
+    pieces-joined slabs new j put =
+        let beside = beside-apart others both slabs all-apart (record { apart = joined-apart both slabs j; covers = j.covers }) in
+        let after = λ (p : Pt). covers-appended (Covers both) others slabs j.covers p in
+        let before = λ (p : Pt). covers-appended (Covers both) others both (λ q. (λ h. h, λ h. h)) p in
+        record {
+          apart = apart-permutation (others ++ slabs) new put beside;
+          covers = λ p. (
+            (λ h. (covers-same (growing ++ more) (others ++ both) whole p).1 ((before p).1 ((after p).0 ((covers-same (others ++ slabs) new put p).1 h)))),
+            λ h. (covers-same (others ++ slabs) new put p).0 ((after p).1 ((before p).0 ((covers-same (growing ++ more) (others ++ both) whole p).0 h))),
+          );
+        }
 
 -- one more of some is behind others, or behind those that are before these
 module _ {X : Type 0} (all done growing : List X) (x : X) (same : IsPermutation all (done ++ growing)) where

@@ -137,7 +137,7 @@ fn by_corner(alloc: Global, rects: &[Rect]) -> Result<Vec<Rect>, AllocError>
     Ok(sorted)
 }
 
-/// The slabs of the squares that rectangles have and no hole has, by a sweep from the lowest row up, or none where too many of both lie side by side.
+/// The slabs of the squares that rectangles have and no hole has, by a sweep from the lowest row up, or none where there are holes and few of both, or where too many of both lie side by side.
 pub fn upward_without(
     alloc: Global,
     rects: &[Rect],
@@ -145,6 +145,9 @@ pub fn upward_without(
 ) -> Result<Option<Vec<Rect>>, AllocError>
     ensures { IfOk result (λ found. IfSome found (λ v. AreSlabsOf (Without rects.now holes.now) v.items)) }
 {
+    if !holes.is_empty() && rects.len().saturating_add(holes.len()) <= FEW_EDGES / 2 {
+        return Ok(None);
+    }
     let rects = by_corner(alloc, rects)?;
     let holes = by_corner(alloc, holes)?;
     slabs_upward_without(alloc, &rects, &holes)

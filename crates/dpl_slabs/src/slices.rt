@@ -14,7 +14,7 @@ use crate::combine::{combine_lists_without, combine_without, upward_without};
 use crate::gaps::bars_without;
 use crate::row::{is_spaced, slabs_of_row};
 use dpl_base::{FARTHEST, Rect};
-use dpl_sweep::{slabs_of, sort_by_corner};
+use dpl_sweep::{join_pieces, slabs_of, sort_by_corner};
 use std::alloc::{AllocError, Global};
 
 /// From how many rectangles and holes on they are swept slice by slice.
@@ -185,16 +185,43 @@ fn pieces_of_slice(
     put_together(alone, slabs)
 }
 
-/// Pieces of the squares of both lists. Where some of `more` stand on some of `growing`, they are joined.
-fn joined(growing: Vec<Rect>, more: Vec<Rect>) -> Result<Vec<Rect>, AllocError>
+/// Adds those of the pieces that begin above the row to the others, and gives those that begin in it.
+fn set_aside(
+    alloc: Global,
+    others: &mut Vec<Rect>,
+    pieces: Vec<Rect>,
+    row: i32,
+) -> Result<Vec<Rect>, AllocError>
+    ensures { IfOk result (λ v. IsPermutation (others.old.items ++ pieces.items) (others.new.items ++ v.items)) }
+{
+    let mut starts = Vec::new(alloc);
+    for piece in &pieces {
+        if row < piece.y0 {
+            others.push(*piece)?;
+        } else {
+            starts.push(*piece)?;
+        }
+    }
+    Ok(starts)
+}
+
+/// Pieces of the squares of both lists. Where some of `more`, which begin in row `low`, stand on some of `growing`, they are joined.
+fn joined(
+    alloc: Global,
+    growing: Vec<Rect>,
+    more: Vec<Rect>,
+    low: i32,
+) -> Result<Vec<Rect>, AllocError>
     requires { AreApart (growing.items ++ more.items) }
     ensures { IfOk result (λ v. ArePiecesOf (Covers (growing.items ++ more.items)) v.items) }
 {
     if growing.is_empty() {
         return Ok(more);
     }
-    let both = put_together(growing, more)?;
-    Ok(slabs_of(both))
+    let mut others = Vec::new(alloc);
+    let starts = set_aside(alloc, &mut others, more, low)?;
+    let both = put_together(growing, starts)?;
+    put_together(others, join_pieces(both))
 }
 
 /// Adds those of the pieces that end below row `high` to the ones that are done, and gives the others.
@@ -237,7 +264,7 @@ fn add_slice(
         return Ok((growing, low));
     }
     let more = pieces_of_slice(alloc, rects, holes, low, high)?;
-    let pieces = joined(growing, more)?;
+    let pieces = joined(alloc, growing, more, low)?;
     let growing = settle(alloc, done, pieces, high)?;
     Ok((growing, high))
 }
@@ -376,7 +403,7 @@ pub fn slabs_without(alloc: Global, rects: &[Rect], holes: &[Rect]) -> Result<Ve
     combine_without(alloc, rects, holes)
 }
 
-/// The slabs of the squares that rectangles have and no hole has: by one sweep from the lowest row up, unless too many of both lie side by side.
+/// The slabs of the squares that rectangles have and no hole has: of many, by one sweep from the lowest row up, unless too many of both lie side by side.
 pub fn slabs_left(alloc: Global, rects: &[Rect], holes: &[Rect]) -> Result<Vec<Rect>, AllocError>
     requires rects { AreRectsWithin farthest rects.now }
     requires holes { AreRectsWithin farthest holes.now }

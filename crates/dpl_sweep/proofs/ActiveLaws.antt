@@ -12,7 +12,7 @@ use Rattle.dpl_spec_split.specs.declared.Pt.{Pt}
 use Rattle.dpl_spec_split.specs.declared.Rect.{Rect}
 use Rattle.dpl_spec_split.specs.Squares.{Has, Covers}
 use Rattle.dpl_spec_split.proofs.SlabLaws.{Covers-member, member-Covers}
-use Rattle.dpl_sweep.specs.Active.{AddsReaching, AreActive, AreGathered, FillBand, HaveBegun, IsAcross, IsReaching, LeftsRise}
+use Rattle.dpl_sweep.specs.Active.{AddsReaching, AreActive, AreGathered, FillBand, HaveBegun, IsReaching, LeftsRise}
 use Rattle.dpl_sweep.specs.Orders.{CornerBefore, CornersRise}
 use Rattle.dpl_sweep.proofs.JoinLaws.{covers-same}
 use Rattle.dpl_sweep.proofs.PieceLaws.{Puts-push}

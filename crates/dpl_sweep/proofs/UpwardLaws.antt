@@ -1,5 +1,5 @@
--- Rectangles without holes, swept from the lowest row up.
-use Rattle.std.proofs.Common.{◌≡◌, ℕ, ◌+◌, ◌≤◌, ◌<◌, ◌⊎◌, inl, inr, List, [], ◌∷◌, ◌++◌, length, get_or, set, take, refl, sym, ap, ◌∙◌, subst, arith}
+-- Rectangles less holes, swept from the lowest row up.
+use Rattle.std.proofs.Common.{◌≡◌, ℕ, ◌+◌, ◌≤◌, ◌<◌, ◌⊎◌, inl, inr, List, [], length, get_or, set, take, refl, sym, ap, ◌∙◌, subst, arith}
 use Rattle.std.specs.Prelude.{◌↔◌, ℤ, ◌≤ℤ◌, ◌<ℤ◌}
 use Rattle.std.specs.Int.{int_max}
 use Rattle.std.specs.List.{All, Contains}
@@ -171,7 +171,8 @@ free gaps n x to passed ahead p l m c =
     ]
 
 -- further right, in the same rows
-pub passed-on : (bar next : Rect) (gaps : List Rect) (x y : ℤ) (count : ℕ) (reach : ℤ) → next.y0 ≡ bar.y0 → next.y1 ≡ bar.y1 → x ≤ℤ y → ArePassed bar gaps x count reach → ArePassed next gaps y count reach
+pub passed-on : (bar next : Rect) (gaps : List Rect) (x y : ℤ) (count : ℕ) (reach : ℤ) → next.y0 ≡ bar.y0 → next.y1 ≡ bar.y1 → x ≤ℤ y
+    → ArePassed bar gaps x count reach → ArePassed next gaps y count reach
 passed-on bar next gaps x y count reach low high l a = record {
   within = a.within;
   ends = a.ends;

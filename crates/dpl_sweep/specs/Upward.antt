@@ -1,4 +1,4 @@
--- Rectangles without holes, swept from the lowest row up.
+-- Rectangles less holes, swept from the lowest row up.
 use Rattle.std.specs.Prelude.{◌≡◌, ℕ, ◌≤◌, ◌<◌, ◌⊎◌, ◌↔◌, ℤ, ◌≤ℤ◌, ◌<ℤ◌, List, length, slice_index_or, take}
 use Rattle.dpl_spec_split.specs.declared.Pt.{Pt}
 use Rattle.dpl_spec_split.specs.declared.Rect.{Rect}

@@ -136,6 +136,9 @@ impl Active {
         ensures { OnOk result (HaveBegun low all.now self.new.begun self.new.rects.items) }
     {
         let (_, rest) = all.split_at(self.begun);
+        if self.rects.is_empty() && rest.is_empty() {
+            return Ok(());
+        }
         let count = count_begun(rest, low);
         let (starts, _) = rest.split_at(count);
         gather(&mut self.passed, &self.rects, starts, low)?;

@@ -1,13 +1,18 @@
 use Rattle.std.proofs.Common.{arith}
-use Rattle.dpl_sweep.proofs.JoinLaws.{apart-permutation}
-use Rattle.dpl_slabs.proofs.SliceLaws.{pieces-own, pieces-slabs}
+use Rattle.std.proofs.lemmas.Result.{IfOk-weaker}
+use Rattle.dpl_slabs.proofs.SliceLaws.{both-apart, pieces-joined, pieces-own}
 use Rattle.dpl_slabs.proofs.slices.joined.Goals as goal
 
 pub returns-then-is_empty : goal.returns-then-is_empty
 returns-then-is_empty c = pieces-own c.args.growing.items c.args.more.items (let h = c.is_empty.ensures in grind arith) c.requires
 
-pub slabs_of-requires : goal.slabs_of-requires
-slabs_of-requires c = apart-permutation _ _ c.in_ok-both.ensures c.requires
+pub join_pieces-requires : goal.join_pieces-requires
+join_pieces-requires c =
+    let moved = rw c.new-others.ensures.items at c.in_ok-starts.ensures in
+    both-apart c.args.growing.items c.args.more.items _ _ moved c.requires _ c.in_ok-both.ensures
 
 pub returns : goal.returns
-returns c = pieces-slabs _ _ _ c.in_ok-both.ensures c.slabs_of.ensures
+returns c =
+    let moved = rw c.new-others.ensures.items at c.in_ok-starts.ensures in
+    IfOk-weaker c.put_together-2.result _ _
+    (λ v put. pieces-joined c.args.growing.items c.args.more.items _ _ moved c.requires _ c.in_ok-both.ensures _ v.items c.join_pieces.ensures put) c.put_together-2.ensures

@@ -1,6 +1,6 @@
 use Rattle.std.proofs.Common.{w32, rules, FitsSigned, arith}
 use Rattle.std.proofs.lemmas.Int.{ints, to_z-of_z}
-use Rattle.dpl_sweep.proofs.UpwardLaws.{columns-none, columns-put}
+use Rattle.dpl_sweep.proofs.UpwardLaws.{columns-put}
 use Rattle.dpl_sweep.proofs.upward.Front.put_columns.Goals as goal
 
 pub returns : goal.returns

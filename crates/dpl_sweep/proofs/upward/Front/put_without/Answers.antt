@@ -1,9 +1,8 @@
-use Rattle.std.proofs.Common.{◌≡◌, ◌<◌, ◌≤◌, ◌⊎◌, length, get_or, refl, rules, w32, FitsSigned, arith, subst}
-use Rattle.std.specs.Prelude.{pos, ◌≤ℤ◌, ◌<ℤ◌}
-use Rattle.std.proofs.lemmas.Int.{ints, to_z-of_z}
+use Rattle.std.proofs.Common.{◌≡◌, ◌<◌, length, get_or, rules, w32, FitsSigned, arith}
+use Rattle.std.specs.Prelude.{pos}
+use Rattle.std.proofs.lemmas.Int.{to_z-of_z}
 use Rattle.std.proofs.lemmas.List.{get_or_default}
 use Rattle.dpl_spec_split.specs.declared.Rect.{Rect}
-use Rattle.dpl_sweep.specs.Upward.{ArePassed}
 use Rattle.dpl_sweep.proofs.UpwardLaws.{cut-first, cut-next, cut-last, max-known}
 use Rattle.dpl_sweep.proofs.upward.Front.put_without.Goals as goal
 

@@ -1,0 +1,24 @@
+use Rattle.std.proofs.Common.{◌≡◌, ◌+◌, ◌<◌, ◌++◌, ◌∷◌, [], ◌∙◌, ap, sym, length, get_or, take, arith}
+use Rattle.std.proofs.lemmas.List.{append_assoc, take_more}
+use Rattle.dpl_spec_split.specs.declared.Rect.{Rect}
+use Rattle.dpl_slabs.proofs.Firsts.{zero}
+use Rattle.dpl_slabs.proofs.SliceLaws.{settled-growing, settled-done}
+use Rattle.dpl_slabs.proofs.slices.set_aside.Goals.{then-row-piece+in_ok-push, else-row-piece+in_ok-push-2}
+use Rattle.dpl_slabs.proofs.slices.set_aside.Goals as goal
+
+pub loop-piece-preserved : goal.loop-piece-preserved
+loop-piece-preserved c =
+    let pieces = c.deref-piece-items.result.now in
+    let n = c.loop-piece.piece-index in
+    let here : n < length pieces = omega arith in
+    let piece : Rect = get_or pieces n zero in
+    let others = c.args.others.now.items in
+    let more : others ++ take (n + 1) pieces ≡ (others ++ take n pieces) ++ piece ∷ [] = ap (λ l. others ++ l) (take_more pieces n zero here)
+    ∙ sym (append_assoc others (take n pieces) (piece ∷ [])) in
+    rw more
+    (elim c.if-row-piece.branch [
+      | then-row-piece+in_ok-push w ↦ rw (w.others-is, w.starts-is, w.in_ok-push.ensures.items)
+          (settled-done (others ++ take n pieces) c.loop-piece.others.items c.loop-piece.starts.items piece c.loop-piece.invariant)
+      | else-row-piece+in_ok-push-2 w ↦ rw (w.others-is, w.starts-is, w.in_ok-push-2.ensures.items)
+          (settled-growing (others ++ take n pieces) c.loop-piece.others.items c.loop-piece.starts.items piece c.loop-piece.invariant)
+    ])
