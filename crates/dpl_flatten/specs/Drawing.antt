@@ -1,13 +1,15 @@
--- What a drawing of a layer is, and what its loops are.
-use Rattle.std.specs.Prelude.{◌^◌, ◌<◌, ◌≤◌, ◌↔◌, ℕ, List, Option, Some, None, length}
+-- What a drawing of a layer is, and what its loops and shapes are.
+use Rattle.std.specs.Prelude.{◌^◌, ◌<◌, ◌≤◌, ◌⊎◌, ◌↔◌, ℕ, List, Option, Some, None, length}
 use Rattle.std.specs.List.{All, Contains}
 use Rattle.dpl_spec_split.specs.declared.Pt.{Pt}
-use Rattle.dpl_spec_split.specs.Loops.{SomeLoopCovers, IsRectilinear, AreLoopsWithin, farthest}
+use Rattle.dpl_spec_split.specs.Squares.{Covers}
+use Rattle.dpl_spec_split.specs.Loops.{SomeLoopCovers, IsRectilinear, AreLoopsWithin, AreRectsWithin, farthest}
 use Rattle.dpl_spec_format.specs.Tree.{Library}
 use Rattle.dpl_spec_layout.specs.declared.Layer.{Layer}
 use Rattle.dpl_spec_layout.specs.declared.FlattenFault.TheVariants.{OutOfRange}
 use Rattle.dpl_spec_layout.specs.Placements.{IsInLayer}
 use Rattle.dpl_spec_layout.specs.Faults.{IsFaultless, IsFirstFault}
+use Rattle.dpl_flatten.specs.declared.drawing.Shapes.{Shapes}
 use Rattle.dpl_flatten.specs.Totals.{PlacesSome}
 use Rattle.dpl_walk.specs.declared.cells.Cell.{Cell}
 use Rattle.dpl_walk.specs.declared.cells.Copies.{Copies}
@@ -36,6 +38,18 @@ pub record AreLoopsOf (lib : Library) (top : ℕ) (layer : Layer) (loops : List 
   pub covers : (s : Pt) → SomeLoopCovers loops s ↔ IsInLayer lib top layer s
   pub straight : All IsRectilinear loops
   pub within : AreLoopsWithin farthest loops
+  pub faultless : IsFaultless lib top layer
+
+-- some rectangle or loop has the square
+abbrev pub ShapesCover : Shapes → Pt → Type 0
+ShapesCover shapes s = Covers shapes.rects.items s ⊎ SomeLoopCovers shapes.loops.items s
+
+-- The shapes cover the layer and lie in range. Their loops have edges parallel to the axes. The layer has no fault.
+pub record AreShapesOf (lib : Library) (top : ℕ) (layer : Layer) (shapes : Shapes) : Type 0 where
+  pub covers : (s : Pt) → ShapesCover shapes s ↔ IsInLayer lib top layer s
+  pub straight : All IsRectilinear shapes.loops.items
+  pub rects : AreRectsWithin farthest shapes.rects.items
+  pub loops : AreLoopsWithin farthest shapes.loops.items
   pub faultless : IsFaultless lib top layer
 
 -- loops of the layer, where none goes out of range, and else its first fault

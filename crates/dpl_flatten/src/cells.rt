@@ -21,6 +21,7 @@ use crate::links::target;
 use crate::role::{PathStyle, Role, role_of};
 use crate::shapes::points_of;
 use dpl_base::{Listed, Loop};
+use dpl_corners::Figure;
 use dpl_reference::{array_copies, single_copy};
 use dpl_shapes::{ShapeFault, path_loops};
 use dpl_spec_layout::Layer;
@@ -50,7 +51,7 @@ fn draw_boundary(
     ensures straight { OnOk result (All IsRectilinear (points_in xy.now ∷ [])) }
     ensures within { OnOk result (AreLoopsWithin (2 ^ 61) (points_in xy.now ∷ [])) }
 {
-    let points = Loop::of(points_of(alloc, xy)?);
+    let points = Figure::of(Loop::of(points_of(alloc, xy)?));
     outlines.push(Outline { at, points })?;
     Ok(())
 }
@@ -91,7 +92,10 @@ fn draw_path(
 {
     let loops = path_outlines(alloc, style, xy)?;
     for points in loops {
-        outlines.push(Outline { at, points })?;
+        outlines.push(Outline {
+            at,
+            points: Figure::of(points),
+        })?;
     }
     Ok(())
 }

@@ -1,19 +1,19 @@
 //! What structures draw of a layer, apart from the library that it is read of.
 
 ghost use Rattle.std.specs.Prelude.{◌≡◌, ◌^◌, ◌<◌, ◌≤◌, ℕ, length, IfOk, MatchResult};
-ghost use Rattle.dpl_spec_split.specs.Loops.{AreLoopsWithin, farthest};
+ghost use Rattle.dpl_spec_split.specs.Loops.{AreLoopsWithin, AreRectsWithin, farthest};
 ghost use Rattle.dpl_spec_format.specs.Tree.{Library};
 ghost use Rattle.dpl_spec_layout.specs.Faults.{IsFirstFault, IsSmall};
 ghost use Rattle.dpl_spec_layout.specs.declared.Layer.{Layer};
 ghost use Rattle.dpl_links.specs.Graph.{AreReached};
-ghost use Rattle.dpl_flatten.specs.Drawing.{AreLoopsOf, IsDrawingOf, IsTrimmed, IsWalkable, drawn};
+ghost use Rattle.dpl_flatten.specs.Drawing.{AreShapesOf, IsDrawingOf, IsTrimmed, IsWalkable, drawn};
 ghost use Rattle.dpl_flatten.specs.Links.{IsLinked, IsOrdered};
 ghost use Rattle.dpl_flatten.specs.Totals.{AreTotals};
 
 use crate::cells::make_cells;
 use crate::faults::Survey;
 use crate::links::ReachedGraph;
-use dpl_base::Loop;
+use dpl_base::{Loop, Rect};
 use dpl_spec_layout::{FlattenFault, Layer};
 use dpl_syntax::Library;
 use dpl_walk::{Cell, gather};
@@ -42,19 +42,32 @@ impl Model for Drawing {
     ghost invariant = { λ d. IsWalkable (drawn d.cells.items d.order.items d.top) };
 }
 
+/// What covers a layer. Coordinates are database units.
+#[derive(Drop)]
+pub struct Shapes {
+    /// Those of loops through the corners of a rectangle. They may have no squares.
+    pub rects: Vec<Rect>,
+    /// The other loops.
+    pub loops: Vec<Loop>,
+}
+
 impl Drawing {
-    /// The loops of the layer: one for each boundary and box, and for each rectangle of a path, wherever it is placed.
+    /// The shapes of the layer: one for each boundary and box, and for each rectangle of a path, wherever it is placed.
     ///
     /// # Errors
     /// `OutOfRange` with the element of least offset that has a placed point out of range; `NoMemory`.
-    pub fn loops(self, alloc: Global) -> Result<Vec<Loop>, FlattenFault>
-        ensures within { IfOk result (λ loops. AreLoopsWithin farthest loops.items) }
-        ensures layer { (lib : Library) (top : ℕ) (layer : Layer) → IsDrawingOf lib top layer self → MatchResult result (λ loops. AreLoopsOf lib top layer loops.items) (IsFirstFault lib top layer) }
+    pub fn shapes(self, alloc: Global) -> Result<Shapes, FlattenFault>
+        ensures rects { IfOk result (λ shapes. AreRectsWithin farthest shapes.rects.items) }
+        ensures loops { IfOk result (λ shapes. AreLoopsWithin farthest shapes.loops.items) }
+        ensures layer { (lib : Library) (top : ℕ) (layer : Layer) → IsDrawingOf lib top layer self → MatchResult result (AreShapesOf lib top layer) (IsFirstFault lib top layer) }
     {
         let found = gather(alloc, self.cells, self.order.as_slice(), self.top)?;
         match found.far {
             Some(at) => Err(FlattenFault::OutOfRange { at }),
-            None => Ok(found.loops),
+            None => Ok(Shapes {
+                rects: found.rects,
+                loops: found.loops,
+            }),
         }
     }
 }

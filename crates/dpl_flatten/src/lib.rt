@@ -1,18 +1,17 @@
-//! The loops that a layout places on one layer, with every reference followed.
+//! The shapes that a layout places on one layer, with every reference followed.
 #![tactic(auto)]
 
 ghost use Rattle.std.specs.Prelude.{◌^◌, ◌<◌, ◌≤◌, ◌↔◌, length, IfOk, IfErr, OnOk};
 ghost use Rattle.std.specs.List.{All};
 ghost use Rattle.dpl_spec_split.specs.declared.Pt.{Pt};
-ghost use Rattle.dpl_spec_split.specs.Loops.{SomeLoopCovers, IsRectilinear, AreLoopsWithin, farthest};
+ghost use Rattle.dpl_spec_split.specs.Loops.{IsRectilinear, AreLoopsWithin, AreRectsWithin, farthest};
 ghost use Rattle.dpl_spec_layout.specs.Placements.{IsInLayer};
 ghost use Rattle.dpl_spec_layout.specs.Faults.{IsFaultless, IsFirstFault};
-ghost use Rattle.dpl_flatten.specs.Drawing.{IsDrawingOf, IsTrimmed};
+ghost use Rattle.dpl_flatten.specs.Drawing.{IsDrawingOf, IsTrimmed, ShapesCover};
 
 use crate::drawing::draw_all;
 use crate::faults::find_faults;
 use crate::links::{ReachedGraph, graph_of};
-use dpl_base::Loop;
 use dpl_links::reach;
 
 mod cells;
@@ -29,7 +28,7 @@ mod role;
 mod shapes;
 mod top;
 
-pub use crate::drawing::Drawing;
+pub use crate::drawing::{Drawing, Shapes};
 pub use crate::placed::count_points;
 pub use crate::top::{roots, top_of};
 pub use dpl_spec_layout::{ElementFault, FlattenFault, Layer, PathFault, TopFault};
@@ -63,9 +62,9 @@ pub fn draw(
     Ok(draw_all(alloc, lib, top, layer, &links, survey)?)
 }
 
-/// The loops that the structure `top` places on a layer, itself and through all references below it: those of its
+/// The shapes that the structure `top` places on a layer, itself and through all references below it: those of its
 /// boundaries and boxes of that layer and datatype, and one for each rectangle of its paths. Together they cover the
-/// layer's squares. Coordinates are database units.
+/// layer's squares.
 ///
 /// # Errors
 /// The first fault of the structures that the top reaches: the missing structure of least offset, then the recursion of
@@ -76,14 +75,15 @@ pub fn flatten(
     lib: &Library<'_>,
     top: u32,
     layer: Layer,
-) -> Result<Vec<Loop>, FlattenFault>
+) -> Result<Shapes, FlattenFault>
     requires { top < length lib.now.structures }
-    ensures covers { IfOk result (λ loops. (s : Pt) → SomeLoopCovers loops.items s ↔ IsInLayer lib.now top layer s) }
-    ensures straight { IfOk result (λ loops. All IsRectilinear loops.items) }
-    ensures within { IfOk result (λ loops. AreLoopsWithin farthest loops.items) }
+    ensures covers { IfOk result (λ shapes. (s : Pt) → ShapesCover shapes s ↔ IsInLayer lib.now top layer s) }
+    ensures straight { IfOk result (λ shapes. All IsRectilinear shapes.loops.items) }
+    ensures rects { IfOk result (λ shapes. AreRectsWithin farthest shapes.rects.items) }
+    ensures loops { IfOk result (λ shapes. AreLoopsWithin farthest shapes.loops.items) }
     ensures faultless { OnOk result (IsFaultless lib.now top layer) }
     ensures fault { IfErr result (λ f. IsFirstFault lib.now top layer f) }
 {
     let drawing = draw(alloc, lib, top, layer)?;
-    drawing.loops(alloc)
+    drawing.shapes(alloc)
 }

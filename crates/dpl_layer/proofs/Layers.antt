@@ -11,11 +11,11 @@ use Rattle.dpl_spec_split.specs.Squares.{Region}
 use Rattle.dpl_spec_split.specs.Slabs.{AreSlabsOf}
 use Rattle.dpl_spec_split.proofs.SquareLaws.{SameSquares-trans}
 use Rattle.dpl_spec_format.specs.Tree.{Frame, Library, Structure, frame_of}
-use Rattle.dpl_spec_split.specs.Loops.{SomeLoopCovers}
 use Rattle.dpl_spec_layout.specs.declared.Layer.{Layer as ChosenLayer}
 use Rattle.dpl_spec_layout.specs.declared.FlattenFault.{FlattenFault}
 use Rattle.dpl_spec_layout.specs.Faults.{IsFirstFault}
-use Rattle.dpl_flatten.specs.Drawing.{Drawn, AreLoopsOf, IsDrawingOf}
+use Rattle.dpl_flatten.specs.declared.drawing.Shapes.{Shapes}
+use Rattle.dpl_flatten.specs.Drawing.{Drawn, AreShapesOf, IsDrawingOf, ShapesCover}
 use Rattle.dpl_cert.specs.declared.name.Name.{Name}
 use Rattle.dpl_layer.specs.Naming.{flatten_name}
 use Rattle.dpl_layer.specs.Reading.{Choice, HasDrawing, IsLayout, Layer, chosen, frame_bytes, copied_of}
@@ -51,9 +51,9 @@ pub slabs_same : (a b : Region) (rs : List Rect) → AreSlabsOf a rs → ((p : P
 slabs_same a b rs s same = record { canonical = s.canonical; covers = SameSquares-trans _ _ _ s.covers same }
 
 -- the canonical slabs of what is drawn are the layer's
-pub drawn_squares : (lib : Library) (top : ℕ) (layer : ChosenLayer) (loops : List (List Pt)) (slabs : List Rect) → AreLoopsOf lib top layer loops
-    → AreSlabsOf (SomeLoopCovers loops) slabs → AreSquaresBelow lib top layer slabs
-drawn_squares lib top layer loops slabs l swept = record { faultless = l.faultless; squares = slabs_same _ _ _ swept l.covers }
+pub drawn_squares : (lib : Library) (top : ℕ) (layer : ChosenLayer) (shapes : Shapes) (slabs : List Rect) → AreShapesOf lib top layer shapes
+    → AreSlabsOf (ShapesCover shapes) slabs → AreSquaresBelow lib top layer slabs
+drawn_squares lib top layer shapes slabs l swept = record { faultless = l.faultless; squares = slabs_same _ _ _ swept l.covers }
 
 -- a fault that has a name is one of the layer
 pub named_fault : (lib : Library) (top : ℕ) (layer : ChosenLayer) (f : FlattenFault) → IsFirstFault lib top layer f

@@ -114,13 +114,13 @@ fn swept(alloc: Global, shapes: Shapes) -> Result<Layer, LayerFault>
     Ok(Layer { copied, slabs })
 }
 
-/// The squares that a drawing covers. It is let go once its loops are there, and these before they are swept.
+/// The squares that a drawing covers. It is let go once its shapes are there, and their loops before they are swept.
 pub(crate) fn squares_of(alloc: Global, drawing: Drawing) -> Result<Slabs, LayerFault>
     ensures squares { (lib : LibraryOf) (top : ℕ) (layer : ChosenLayerOf) → IsDrawingOf lib top layer drawing → IfOk result (AreSquaresBelow lib top layer) }
     ensures fault { (lib : LibraryOf) (top : ℕ) (layer : ChosenLayerOf) → IsDrawingOf lib top layer drawing → IfErr result (IsFaultOfLayer lib top layer) }
 {
-    let loops = drawing.loops(alloc)?;
-    Ok(Slabs::of_loops(alloc, loops)?)
+    let shapes = drawing.shapes(alloc)?;
+    Ok(Slabs::of_shapes(alloc, shapes.rects, shapes.loops)?)
 }
 
 /// The records that are copied to the file of the masks: those before the elements of a structure, one behind the other.

@@ -208,22 +208,35 @@ covers-pushed a rs r same p = (
 pub rects-appended : (bound : ℕ) (rs ss : List Rect) → AreRectsWithin bound rs → AreRectsWithin bound ss → AreRectsWithin bound (rs ++ ss)
 rects-appended bound rs ss v w r r_in = elim (Contains-append_cases rs ss r r_in) [ inl one ↦ v r one | inr other ↦ w r other ]
 
-pub loops-next : (ls : List (List Pt)) (n : ℕ) (l : List Pt) (old new : List Rect) → n < length ls → l ≡ get_or ls n l
-    → ((p : Pt) → Covers old p ↔ SomeFirstCovers ls n p) → ((p : Pt) → Covers new p ↔ (Covers old p ⊎ LoopCovers l p)) → (p : Pt)
-    → Covers new p ↔ SomeFirstCovers ls (n + 1) p
-loops-next ls n l old new n_in l_is before step p = (
+pub loops-none : (base : Pt → Type 0) (ls : List (List Pt)) (rs : List Rect) → ((p : Pt) → Covers rs p ↔ base p) → (p : Pt) → Covers rs p ↔ (base p ⊎ SomeFirstCovers ls 0 p)
+loops-none base ls rs same p = (
+  λ h. inl ((same p).0 h),
+  λ h. elim h [ inl a ↦ (same p).1 a | inr (k, m, b, k_in, is, has) ↦ absurd (omega (arith, b)) ],
+)
+
+pub loops-next : (base : Pt → Type 0) (ls : List (List Pt)) (n : ℕ) (l : List Pt) (old new : List Rect) → n < length ls → l ≡ get_or ls n l
+    → ((p : Pt) → Covers old p ↔ (base p ⊎ SomeFirstCovers ls n p)) → ((p : Pt) → Covers new p ↔ (Covers old p ⊎ LoopCovers l p)) → (p : Pt)
+    → Covers new p ↔ (base p ⊎ SomeFirstCovers ls (n + 1) p)
+loops-next base ls n l old new n_in l_is before step p = (
   λ h. elim ((step p).0 h) [
-    | inl a ↦ (let (k, m, b, k_in, is, has) = (before p).0 a in (k, m, omega (arith, b), k_in, is, has))
-    | inr has ↦ (n, l, omega arith, n_in, sym l_is, has)
+    | inl a ↦ elim ((before p).0 a) [
+      | inl first ↦ inl first
+      | inr (k, m, b, k_in, is, has) ↦ inr (k, m, omega (arith, b), k_in, is, has)
+    ]
+    | inr has ↦ inr (n, l, omega arith, n_in, sym l_is, has)
   ],
-  λ (k, m, b, k_in, is, has). elim (cases_eq k n) [
-    | inl e ↦ (step p).1 (inr (subst (λ v. LoopCovers v p) (sym is ∙ (ap (λ q. get_or ls q m) e ∙ (get_or_default ls n m l n_in ∙ sym l_is))) has))
-    | inr ne ↦ (step p).1 (inl ((before p).1 (k, m, omega arith, k_in, is, has)))
+  λ h. elim h [
+    | inl first ↦ (step p).1 (inl ((before p).1 (inl first)))
+    | inr (k, m, b, k_in, is, has) ↦ elim (cases_eq k n) [
+      | inl e ↦ (step p).1 (inr (subst (λ v. LoopCovers v p) (sym is ∙ (ap (λ q. get_or ls q m) e ∙ (get_or_default ls n m l n_in ∙ sym l_is))) has))
+      | inr ne ↦ (step p).1 (inl ((before p).1 (inr (k, m, omega arith, k_in, is, has))))
+    ]
   ],
 )
 
-pub loops-all : (ls : List (List Pt)) (n : ℕ) (rs : List Rect) → length ls ≤ n → ((p : Pt) → Covers rs p ↔ SomeFirstCovers ls n p) → (p : Pt) → Covers rs p ↔ SomeLoopCovers ls p
-loops-all ls n rs all h p = (
-  λ c. (let (k, l, b, k_in, is, has) = (h p).0 c in (k, l, k_in, is, has)),
-  λ (k, l, k_in, is, has). (h p).1 (k, l, omega (arith, all, k_in), k_in, is, has),
+pub loops-all : (base : Pt → Type 0) (ls : List (List Pt)) (n : ℕ) (rs : List Rect) → length ls ≤ n
+    → ((p : Pt) → Covers rs p ↔ (base p ⊎ SomeFirstCovers ls n p)) → (p : Pt) → Covers rs p ↔ (base p ⊎ SomeLoopCovers ls p)
+loops-all base ls n rs all h p = (
+  λ c. elim ((h p).0 c) [ inl first ↦ inl first | inr (k, l, b, k_in, is, has) ↦ inr (k, l, k_in, is, has) ],
+  λ c. elim c [ inl first ↦ (h p).1 (inl first) | inr (k, l, k_in, is, has) ↦ (h p).1 (inr (k, l, omega (arith, all, k_in), k_in, is, has)) ],
 )

@@ -1,6 +1,5 @@
 pub mod Cells
 pub mod Loops
-pub mod Corners
 pub mod Parts
 pub mod Strips
 pub mod Rows

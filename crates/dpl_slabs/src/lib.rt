@@ -4,7 +4,6 @@
 mod alone;
 mod blocks;
 mod combine;
-mod corners;
 mod gaps;
 mod joint;
 mod loops;

@@ -7,7 +7,6 @@ ghost use Rattle.dpl_spec_split.specs.Slabs.{AreSlabsOf};
 ghost use Rattle.dpl_spec_split.specs.Loops.{farthest, LoopCovers, SomeLoopCovers, ArePointsWithin, IsPointWithin, AreLoopsWithin, IsRectWithin, AreRectsWithin};
 ghost use Rattle.dpl_slabs.specs.Loops.{AddsStep, AreStepsOf, AreEdgesOf};
 
-use crate::corners::{is_same, rect_through};
 use dpl_base::{Loop, Pt, Rect};
 use dpl_sweep::{Edge, Rule, slabs_of_edges};
 use std::alloc::{AllocError, Global};
@@ -58,7 +57,7 @@ fn edges_of(alloc: Global, points: &[Pt]) -> Result<Vec<Edge>, AllocError>
 }
 
 /// The canonical slabs of a loop's squares.
-pub fn slabs_of_loop(alloc: Global, points: &[Pt]) -> Result<Vec<Rect>, AllocError>
+fn slabs_of_loop(alloc: Global, points: &[Pt]) -> Result<Vec<Rect>, AllocError>
     requires { ArePointsWithin farthest points.now }
     ensures slabs { IfOk result (λ v. AreSlabsOf (LoopCovers points.now) v.items) }
     ensures within { IfOk result (λ v. AreRectsWithin farthest v.items) }
@@ -67,53 +66,16 @@ pub fn slabs_of_loop(alloc: Global, points: &[Pt]) -> Result<Vec<Rect>, AllocErr
     slabs_of_edges(alloc, edges, Rule::Either)
 }
 
-/// The rectangle whose corners are the points, each beside the one before it. The last may be the first again.
-fn rect_of(points: &[Pt]) -> Option<Rect>
-    requires { ArePointsWithin farthest points.now }
-    ensures squares { IfSome result (λ r. (p : Pt) → Has r p ↔ LoopCovers points.now p) }
-    ensures within { (bound : ℕ) → ArePointsWithin bound points.now → IfSome result (λ r. IsRectWithin bound r) }
-{
-    if points.len() == 4 {
-        return rect_through(&points[0], &points[1], &points[2], &points[3]);
-    }
-    if points.len() != 5 {
-        return None;
-    }
-    if !is_same(&points[0], &points[4]) {
-        return None;
-    }
-    rect_through(&points[0], &points[1], &points[2], &points[3])
-}
-
-/// Adds the squares of a loop to those of rectangles.
-pub fn add_loop(alloc: Global, rects: &mut Vec<Rect>, points: &[Pt]) -> Result<(), AllocError>
-    requires points { ArePointsWithin farthest points.now }
+/// Adds the squares of loops to those of rectangles.
+pub fn add_loops(alloc: Global, rects: &mut Vec<Rect>, loops: &[Loop]) -> Result<(), AllocError>
     requires rects { AreRectsWithin farthest rects.old.items }
-    ensures covers { OnOk result ((p : Pt) → Covers rects.new.items p ↔ (Covers rects.old.items p ⊎ LoopCovers points.now p)) }
+    requires loops { AreLoopsWithin farthest loops.now }
+    ensures covers { OnOk result ((p : Pt) → Covers rects.new.items p ↔ (Covers rects.old.items p ⊎ SomeLoopCovers loops.now p)) }
     ensures within { OnOk result (AreRectsWithin farthest rects.new.items) }
 {
-    match rect_of(points) {
-        Some(rect) => {
-            rects.push(rect)?;
-            Ok(())
-        }
-        None => {
-            let slabs = slabs_of_loop(alloc, points)?;
-            rects.extend_from_slice(&slabs)?;
-            Ok(())
-        }
-    }
-}
-
-/// Rectangles that have the squares of loops.
-pub fn rects_of_loops(alloc: Global, loops: &[Loop]) -> Result<Vec<Rect>, AllocError>
-    requires { AreLoopsWithin farthest loops.now }
-    ensures covers { IfOk result (λ v. (p : Pt) → Covers v.items p ↔ SomeLoopCovers loops.now p) }
-    ensures within { IfOk result (λ v. AreRectsWithin farthest v.items) }
-{
-    let mut rects = Vec::with_capacity(alloc, loops.len())?;
     for i in 0..loops.len() {
-        add_loop(alloc, &mut rects, loops[i].items())?;
+        let slabs = slabs_of_loop(alloc, loops[i].items())?;
+        rects.extend_from_slice(&slabs)?;
     }
-    Ok(rects)
+    Ok(())
 }

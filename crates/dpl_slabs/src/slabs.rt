@@ -9,7 +9,7 @@ ghost use Rattle.dpl_slabs.specs.Parts.{union_of};
 ghost use Rattle.dpl_slabs.specs.Scattered.{AreScattered, AreUntouched};
 
 use crate::joint::combine_by_rows;
-use crate::loops::rects_of_loops;
+use crate::loops::add_loops;
 use crate::scattered::slabs_of_all;
 use crate::slices::slabs_left;
 use crate::strips::{slabs_by_rows, slabs_of_rects};
@@ -144,15 +144,17 @@ impl Slabs {
         Ok(Slabs::of_canonical(rects))
     }
 
-    /// The squares of loops, in any order, that may overlap, each by the signed sum over its upright edges.
-    pub fn of_loops(alloc: Global, loops: Vec<Loop>) -> Result<Slabs, AllocError>
-        requires { AreLoopsWithin farthest loops.items }
-        ensures { IfOk result (λ s. AreSlabsOf (SomeLoopCovers loops.items) s) }
+    /// The squares of rectangles and loops, in any order, that may overlap. A loop has those where the signed sum over its upright edges isn't 0.
+    pub fn of_shapes(alloc: Global, rects: Vec<Rect>, loops: Vec<Loop>) -> Result<Slabs, AllocError>
+        requires rects { AreRectsWithin farthest rects.items }
+        requires loops { AreLoopsWithin farthest loops.items }
+        ensures { IfOk result (λ s. AreSlabsOf (λ p. Covers rects.items p ⊎ SomeLoopCovers loops.items p) s) }
     {
-        let all = rects_of_loops(alloc, &loops)?;
+        let mut all = rects;
+        add_loops(alloc, &mut all, &loops)?;
         drop(loops);
-        let rects = slabs_of_rects(alloc, all)?;
-        Ok(Slabs::of_canonical(rects))
+        let slabs = slabs_of_rects(alloc, all)?;
+        Ok(Slabs::of_canonical(slabs))
     }
 
     /// The set of these canonical slabs, without taking memory.

@@ -1,14 +1,22 @@
-//! The loops of a boundary and a path behind a reference.
-use dpl_base::Pt;
+//! The shapes of boundaries and a path behind a reference.
+use dpl_base::{Pt, Rect};
 use dpl_flatten::{Layer, flatten, top_of};
 use dpl_syntax::read_library;
 use dpl_test_sample::{Part, layout};
 use std::test::*;
 
-/// A rectangle of 20 by 10, and a path of width 4 and length 40 above it.
-const SUB: [Part<'static>; 9] = [
+/// A rectangle of 20 by 10, a corner below it, and a path of width 4 and length 40 above it.
+const SUB: [Part<'static>; 14] = [
     Part::Begin(b"SUB\0"),
     Part::Bar(1, [0, 0, 20, 10]),
+    Part::Record(8, 0, &[]),
+    Part::Record(13, 2, &[0, 1]),
+    Part::Record(14, 2, &[0, 0]),
+    Part::Numbers(
+        16,
+        &[0, -20, 20, -20, 20, -10, 10, -10, 10, -5, 0, -5, 0, -20],
+    ),
+    Part::Record(17, 0, &[]),
     Part::Record(9, 0, &[]),
     Part::Record(13, 2, &[0, 1]),
     Part::Record(14, 2, &[0, 0]),
@@ -30,24 +38,33 @@ const TOP: [Part<'static>; 8] = [
     Part::End,
 ];
 
-/// The rectangle, with its first corner once more at its end.
-const BOUNDARY: [Pt; 5] = [
-    Pt { x: 100, y: 200 },
-    Pt { x: 100, y: 220 },
-    Pt { x: 90, y: 220 },
-    Pt { x: 90, y: 200 },
-    Pt { x: 100, y: 200 },
+const BOUNDARY: Rect = Rect {
+    x0: 90,
+    y0: 200,
+    x1: 100,
+    y1: 220,
+};
+
+/// The corner, with its first point once more at its end.
+const CORNER: [Pt; 7] = [
+    Pt { x: 120, y: 200 },
+    Pt { x: 120, y: 220 },
+    Pt { x: 110, y: 220 },
+    Pt { x: 110, y: 210 },
+    Pt { x: 105, y: 210 },
+    Pt { x: 105, y: 200 },
+    Pt { x: 120, y: 200 },
 ];
 
-const PATH: [Pt; 4] = [
-    Pt { x: 72, y: 200 },
-    Pt { x: 72, y: 240 },
-    Pt { x: 68, y: 240 },
-    Pt { x: 68, y: 200 },
-];
+const PATH: Rect = Rect {
+    x0: 68,
+    y0: 200,
+    x1: 72,
+    y1: 240,
+};
 
 #[test]
-fn loops_behind_a_reference(rt: HostRuntime) -> Result<(), Fail> {
+fn shapes_behind_a_reference(rt: HostRuntime) -> Result<(), Fail> {
     let bytes = layout(rt.alloc(), &[&SUB, &TOP])?;
     assert!(rt; bytes.len() <= 268_435_456);
     let library = read_library(rt.alloc(), &bytes)?;
@@ -56,14 +73,15 @@ fn loops_behind_a_reference(rt: HostRuntime) -> Result<(), Fail> {
         layer: 1,
         datatype: 0,
     };
-    let loops = flatten(rt.alloc(), &library, top, layer)?;
-    assert_eq!(rt; loops.len(), 2);
-    assert_eq!(rt; loops[0].items(), BOUNDARY.as_slice());
-    assert_eq!(rt; loops[1].items(), PATH.as_slice());
+    let shapes = flatten(rt.alloc(), &library, top, layer)?;
+    assert_eq!(rt; shapes.rects.as_slice(), [BOUNDARY, PATH].as_slice());
+    assert_eq!(rt; shapes.loops.len(), 1);
+    assert_eq!(rt; shapes.loops[0].items(), CORNER.as_slice());
     let other = Layer {
         layer: 2,
         datatype: 0,
     };
-    assert!(rt; flatten(rt.alloc(), &library, top, other)?.is_empty());
+    let shapes = flatten(rt.alloc(), &library, top, other)?;
+    assert!(rt; shapes.rects.is_empty() && shapes.loops.is_empty());
     Ok(())
 }

@@ -1,4 +1,5 @@
 pub mod Cells
+pub mod Kept
 pub mod Least
 pub mod Walk
 pub mod Ways

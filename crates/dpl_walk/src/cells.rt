@@ -1,13 +1,14 @@
 //! What one structure draws on a layer, and the copies of other structures that it places.
 
-use dpl_base::{Listed, Loop, Pt};
+use dpl_base::{Listed, Pt};
+use dpl_corners::Figure;
 
 /// A loop that an element draws, in its structure's coordinates.
 #[derive(Drop)]
 pub struct Outline {
     /// The offset of the element, in bytes.
     pub at: usize,
-    pub points: Loop,
+    pub points: Figure,
 }
 
 /// The copies of a reference, in its structure's coordinates, which are database units.

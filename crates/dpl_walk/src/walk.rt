@@ -4,15 +4,15 @@ ghost use Rattle.std.specs.Prelude.{◌≡◌, ℕ, Option, ◌^◌, ◌*◌, �
 ghost use Rattle.std.specs.List.{All};
 ghost use Rattle.std.specs.Option.{option_to_list};
 ghost use Rattle.dpl_walk.specs.declared.walk.StackFrame.{StackFrame};
-ghost use Rattle.dpl_spec_split.specs.Loops.{ArePointsWithin, farthest};
+ghost use Rattle.dpl_spec_split.specs.Loops.{ArePointsWithin};
 ghost use Rattle.dpl_spec_elements.specs.Motions.{image, IsMotionWithin, IsComposed};
 ghost use Rattle.dpl_walk.specs.Cells.{copy_motion, IsReady};
-ghost use Rattle.dpl_walk.specs.Walk.{Gathers, HasFarPoint, frame_of, IsNext, IsFrame, AreSteep, IsWalk, AreKnown, IsWalking, walk_left};
+ghost use Rattle.dpl_walk.specs.Kept.{Keeps, AreWalked};
+ghost use Rattle.dpl_walk.specs.Walk.{frame_of, IsNext, IsFrame, AreSteep, AreKnown};
 
-use crate::cells::{Cell, Copies, Outline};
+use crate::cells::{Cell, Copies};
 use crate::copies::copy_place;
-use crate::least::note;
-use dpl_base::{Loop, Pt, is_in_range};
+use crate::gathered::{Gathered, gather_all};
 use dpl_place::{Place, compose};
 use std::alloc::{AllocError, Global};
 
@@ -27,32 +27,6 @@ pub(crate) struct StackFrame {
     pub(crate) row: u32,
 }
 
-/// Whether all points lie no farther from 0 than the coordinates of a layer may.
-fn are_in_range(points: &[Pt]) -> bool
-    ensures within { result ≡ true → ArePointsWithin farthest points.now }
-    ensures far { result ≡ false → HasFarPoint points.now }
-{
-    for point in points {
-        if !is_in_range(point) {
-            return false;
-        }
-    }
-    true
-}
-
-/// Where a placement takes points.
-fn moved(alloc: Global, place: &Place, points: &[Pt]) -> Result<Vec<Pt>, AllocError>
-    requires place { IsMotionWithin (2 ^ 61) place.now }
-    requires points { ArePointsWithin (2 ^ 61) points.now }
-    ensures { IfOk result (λ v. v.items ≡ map (image place.now) points.now) }
-{
-    let mut images = Vec::with_capacity(alloc, points.len())?;
-    for point in points {
-        images.push(place.apply(*point))?;
-    }
-    Ok(images)
-}
-
 /// The placement of a frame's copy.
 fn place_of(frame: &StackFrame) -> Place
     requires ready { IsReady (2 ^ 60) frame.now.copies }
@@ -64,49 +38,6 @@ fn place_of(frame: &StackFrame) -> Place
         &frame.place,
         &copy_place(&frame.copies, frame.column, frame.row),
     )
-}
-
-/// The loops that were gathered, and the least offset of an element with a point too far out.
-#[derive(Drop)]
-pub struct Gathered {
-    pub loops: Vec<Loop>,
-    /// In bytes; None where no point lies too far out.
-    pub far: Option<usize>,
-}
-
-/// Adds the loop of an outline where the placement takes it, and notes its element's offset where a point lies too far out.
-fn gather(
-    alloc: Global,
-    place: &Place,
-    outline: &Outline,
-    gathered: &mut Gathered,
-) -> Result<(), AllocError>
-    requires place { IsMotionWithin (2 ^ 61) place.now }
-    requires points { ArePointsWithin (2 ^ 61) outline.now.points }
-    ensures { OnOk result (Gathers (outline.now ∷ []) (image place.now) gathered.old.loops.items gathered.new.loops.items gathered.old.far gathered.new.far) }
-{
-    let points = moved(alloc, place, outline.points.items())?;
-    let in_range = are_in_range(points.as_slice());
-    gathered.loops.push(Loop::of(points))?;
-    gathered.far = note(gathered.far, !in_range, outline.at);
-    Ok(())
-}
-
-/// Adds the loops of a structure's outlines where the placement takes them.
-fn gather_all(
-    alloc: Global,
-    place: &Place,
-    outlines: &[Outline],
-    gathered: &mut Gathered,
-) -> Result<(), AllocError>
-    requires place { IsMotionWithin (2 ^ 61) place.now }
-    requires points { All (λ o. ArePointsWithin (2 ^ 61) o.points) outlines.now }
-    ensures { OnOk result (Gathers outlines.now (image place.now) gathered.old.loops.items gathered.new.loops.items gathered.old.far gathered.new.far) }
-{
-    for outline in outlines {
-        gather(alloc, place, outline, gathered)?;
-    }
-    Ok(())
 }
 
 /// Puts a frame for each reference of a placed structure on the stack.
@@ -134,7 +65,7 @@ fn visit(
 ) -> Result<(), AllocError>
     requires place { IsMotionWithin (2 ^ 61) place.now }
     requires points { All (λ o. ArePointsWithin (2 ^ 61) o.points) cell.now.outlines }
-    ensures gathered { OnOk result (Gathers cell.now.outlines (image place.now) gathered.old.loops.items gathered.new.loops.items gathered.old.far gathered.new.far) }
+    ensures gathered { OnOk result (Keeps cell.now.outlines (image place.now) gathered.old gathered.new) }
     ensures put { OnOk result (stack.new.items ≡ stack.old.items ++ map (frame_of place.now) cell.now.copies) }
 {
     gather_all(alloc, place, cell.outlines.items(), gathered)?;
@@ -182,9 +113,10 @@ pub(crate) fn walk_from(alloc: Global, cells: &[Cell], top: u32) -> Result<Gathe
     requires steep { AreSteep cells.now }
     requires few { length cells.now ≤ 2 ^ 26 }
     requires top { top < length cells.now }
-    ensures { IfOk result (λ g. IsWalk cells.now top g.loops.items g.far) }
+    ensures { IfOk result (λ g. AreWalked cells.now top g) }
 {
     let mut gathered = Gathered {
+        rects: Vec::new(alloc),
         loops: Vec::new(alloc),
         far: None,
     };
