@@ -4,7 +4,8 @@ use Rattle.dpl_crowd.proofs.ForkLaws.{climb-end, climb-high, climb-start, climb-
 use Rattle.dpl_crowd.proofs.cycle.cycle_through.Goals as goal
 
 pub loop-top-init : goal.loop-top-init
-loop-top-init c = climb-start (graph_in c.args.crowd.now) c.args.levels.now c.args.edge c.new-cycle.result.items c.new-rest.result.items c.requires.edge c.new-cycle.ensures.items c.new-rest.ensures.items
+loop-top-init c = climb-start (graph_in c.args.crowd.now) c.args.levels.now c.args.edge c.new-cycle.result.items c.new-rest.result.items
+    c.requires.edge c.new-cycle.ensures.items c.new-rest.ensures.items
 
 pub parent-requires-clause-high : goal.parent-requires-clause-high
 parent-requires-clause-high c = climb-high (graph_in c.args.crowd.now) (length c.args.crowd.now.parts) c.args.depth c.args.levels.now c.requires.levels c.loop-top.invariant c.loop-top-test.true

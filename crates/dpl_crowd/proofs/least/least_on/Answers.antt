@@ -19,7 +19,8 @@ loop-v-preserved c =
     let read : v ≡ get_or found n v = get_or_default found n 0 v c.loop-v-test.true in
     elim c.if-from-v.branch [
       | then-from-v+then-levels-v w ↦ subst (IsLeast New) (sym w.least-is)
-          (least-more Old New v (on-more found levels c.args.from c.args.level n v c.loop-v-test.true read w.if-from-v.true w.if-levels-v.true) c.loop-v.least w.lesser-least.result c.loop-v.invariant w.lesser-least.ensures)
+          (least-more Old New v (on-more found levels c.args.from c.args.level n v c.loop-v-test.true read w.if-from-v.true w.if-levels-v.true)
+          c.loop-v.least w.lesser-least.result c.loop-v.invariant w.lesser-least.ensures)
       | else-from-v w ↦
           let off : IsOn levels c.args.from c.args.level v → ⊥ = elim w.else-from-v.branch [
             | else-from-v-via-then-from-v+else-levels-v w' ↦ λ on. w'.if-levels-v.false on.on

@@ -10,7 +10,8 @@ pub loop-v-init : goal.loop-v-init
 loop-v-init c = meets-none (OfFirst (Joins (graph_in c.args.crowd.now)) c.args.front.now 0) c.args.level _ _ c.requires.level (first-none (Joins (graph_in c.args.crowd.now)) c.args.front.now)
 
 pub meet_all-requires-clause-known : goal.meet_all-requires-clause-known
-meet_all-requires-clause-known c = rw c.deref.ensures.value (found-below c.args.crowd.now _ (length c.loop-v.levels) c.in_ok-found.found.items c.in_ok-found.ensures (c.loop-v.invariant.as_many ∙ c.requires.each))
+meet_all-requires-clause-known c = rw c.deref.ensures.value (found-below c.args.crowd.now _ (length c.loop-v.levels) c.in_ok-found.found.items c.in_ok-found.ensures
+    (c.loop-v.invariant.as_many ∙ c.requires.each))
 
 pub loop-v-preserved : goal.loop-v-preserved
 loop-v-preserved c =

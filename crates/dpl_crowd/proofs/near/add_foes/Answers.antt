@@ -3,7 +3,8 @@ use Rattle.dpl_crowd.proofs.NearLaws.{foes-all, foes-more, foes-start, item-ther
 use Rattle.dpl_crowd.proofs.near.add_foes.Goals as goal
 
 pub loop-n-init : goal.loop-n-init
-loop-n-init c = foes-start c.args.spacing c.args.owners.now c.args.k c.args.r.now c.args.tree.now c.widened-window.result c.seek-n.result _ c.requires.corner c.widened-window.ensures c.seek-n.ensures.passed
+loop-n-init c = foes-start c.args.spacing c.args.owners.now c.args.k c.args.r.now c.args.tree.now c.widened-window.result c.seek-n.result _
+    c.requires.corner c.widened-window.ensures c.seek-n.ensures.passed
 
 pub add_item-requires-clause-other : goal.add_item-requires-clause-other
 add_item-requires-clause-other c =

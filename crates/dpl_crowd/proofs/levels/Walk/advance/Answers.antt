@@ -13,7 +13,8 @@ returns-clause-levels c =
     let old : List ℕ = c.args.self.now.levels.items in
     let new : List ℕ = c.meet_around.new.levels in
     let front : List ℕ = c.args.self.now.front.items in
-    let met : Meets (IsBeside joined front) (c.args.depth + 1) old new c.new-next.result.items c.meet_around.new.next.items = rw (c.deref.ensures.value, c.deref_mut.ensures.value) at c.in_ok-meet_around.ensures in
+    let met : Meets (IsBeside joined front) (c.args.depth + 1) old new c.new-next.result.items c.meet_around.new.next.items =
+    rw (c.deref.ensures.value, c.deref_mut.ensures.value) at c.in_ok-meet_around.ensures in
     let many = met.as_many in
     let new_len : length new ≡ c.args.self.now.levels.len = omega (arith, many, c.args.self.now.levels.ok.0) in
     subst (λ ls. AreLevelsTo joined 0 (length c.args.crowd.now.parts) (c.args.depth + 1) ls) (sym (all-back new old c.args.self.now.levels.len new_len))
@@ -26,7 +27,8 @@ returns-clause-front c =
     let old : List ℕ = c.args.self.now.levels.items in
     let new : List ℕ = c.meet_around.new.levels in
     let front : List ℕ = c.args.self.now.front.items in
-    let met : Meets (IsBeside joined front) (c.args.depth + 1) old new c.new-next.result.items c.meet_around.new.next.items = rw (c.deref.ensures.value, c.deref_mut.ensures.value) at c.in_ok-meet_around.ensures in
+    let met : Meets (IsBeside joined front) (c.args.depth + 1) old new c.new-next.result.items c.meet_around.new.next.items =
+    rw (c.deref.ensures.value, c.deref_mut.ensures.value) at c.in_ok-meet_around.ensures in
     let many = met.as_many in
     let new_len : length new ≡ c.args.self.now.levels.len = omega (arith, many, c.args.self.now.levels.ok.0) in
     subst (λ ls. IsFront (c.args.depth + 1) ls c.meet_around.new.next.items) (sym (all-back new old c.args.self.now.levels.len new_len))

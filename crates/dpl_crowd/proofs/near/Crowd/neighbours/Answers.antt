@@ -17,5 +17,6 @@ returns c =
     let slabs : c.rects-slabs.result.now ≡ get_or parts c.args.k [] = c.rects-slabs.ensures.value ∙ (rw (c.index-items-k.is, c.items.ensures.value) (get_or_default parts c.args.k _ [] k_in)) in
     rw (← c.self.view_is) (neighbours-are c.self.inside.spacing parts c.self.inside.owners.now c.self.inside.tree c.args.k c.new-found.result.items c.add_all_foes.new.found.items c.self.invariant.0
     k_in c.new-found.ensures.items
-    (subst (λ (rs : List Rect). Adds (λ w. (r : Rect) × Contains rs r × IsFoeAmong c.self.inside.spacing c.self.inside.owners.now c.args.k r c.self.inside.tree w) c.new-found.result.items c.add_all_foes.new.found.items)
+    (subst (λ (rs : List Rect). Adds (λ w. (r : Rect) × Contains rs r × IsFoeAmong c.self.inside.spacing c.self.inside.owners.now c.args.k r c.self.inside.tree w)
+    c.new-found.result.items c.add_all_foes.new.found.items)
     slabs c.in_ok-add_all_foes.ensures))
