@@ -2,7 +2,8 @@
 ghost use Rattle.std.specs.Prelude.{◌≤◌, IfOk, length};
 ghost use Rattle.std.specs.List.{Contains};
 ghost use Rattle.dpl_spec_split.specs.declared.Pt.{Pt};
-ghost use Rattle.dpl_spec_split.specs.Graphs.{AreEdges, graph_of};
+ghost use Rattle.dpl_spec_split.specs.Cycle.{IsReported};
+ghost use Rattle.dpl_spec_split.specs.Graphs.{AreEdges, IsOddCycle, graph_of};
 ghost use Rattle.dpl_spec_split.specs.Summary.{HasOddCycle};
 ghost use Rattle.std.specs.Option.{option_copied};
 ghost use Rattle.dpl_spec_split.specs.Marks.{graph, vertex};
@@ -22,7 +23,7 @@ use crate::decomposed::{Clash, Decomposed, Painted};
 use crate::gains::gains_by;
 use crate::lines::{head, piece_lines, stitch_lines};
 use crate::marks::MarkSets;
-use dpl_base::{Edge, Listed, Spacing};
+use dpl_base::{Edge, Id, Listed, Spacing};
 use dpl_cut::{BareLayerCut, LayerCut};
 use dpl_masks::{masks, stitches};
 use dpl_odd::odd_cycle;
@@ -133,13 +134,34 @@ fn clash(
     // No certificate has a corner rule of 0.
     ensures fits { 1 ≤ spacing.corner → IfOk result (λ x. FitsClash (clash_view x)) }
 {
-    let pieces = &cut.pieces;
-    let count = pieces.parts().items().len() as u64;
+    let count = cut.pieces.parts().items().len() as u64;
     let count = vertex_count(count, marks)?;
     let Some(cycle) = odd_cycle(alloc, count, edges)? else {
         unreachable!()
     };
-    let lines = cycle_lines(alloc, pieces, &cycle, spacing, marks)?;
+    clash_by(alloc, cut, &cycle, marks, spacing, overlap)
+}
+
+/// The reported cycle of a cut layer, with its lines.
+pub(crate) fn clash_by(
+    alloc: Global,
+    cut: &LayerCut,
+    cycle: &[Id],
+    marks: Option<&MarkSets>,
+    spacing: Spacing,
+    overlap: u32,
+) -> Result<Clash, AllocError>
+    requires corner { spacing.corner ≤ spacing.rule }
+    requires rule { IsRule spacing.rule }
+    requires overlap { IsRule overlap }
+    requires keys { (p : Pt) → Contains cut.now.pieces.keys p → IsPoint p }
+    requires reported { IsReported (graph (marks_in (option_copied marks)) spacing cut.now.pieces.parts cut.now.pieces.owners) cycle.now }
+    requires odd { IsOddCycle (graph (marks_in (option_copied marks)) spacing cut.now.pieces.parts cut.now.pieces.owners) cycle.now }
+    ensures clash { IfOk result (λ x. OfAnyCut cut.now (λ c. IsClashOfCut (marks_in (option_copied marks.entry)) spacing overlap c (clash_view x))) }
+    // No certificate has a corner rule of 0.
+    ensures fits { 1 ≤ spacing.corner → IfOk result (λ x. FitsClash (clash_view x)) }
+{
+    let lines = cycle_lines(alloc, &cut.pieces, cycle, spacing, marks)?;
     Ok(Clash {
         head: head(cut, spacing, overlap),
         cycle: Listed::of(lines.places),

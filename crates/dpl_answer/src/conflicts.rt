@@ -29,7 +29,7 @@ use std::alloc::{AllocError, Global};
 use std::sync::Wait;
 use std::thread::Threads;
 
-/// How many slabs a square with sides of the rule has on average where they are dense.
+/// How many slabs a square with sides of the rule has on average where they are dense, and how many features where they are crowded.
 const DENSE: u64 = 64;
 
 /// How many of the edges that are listed at once are looked at before all of them are, where there are many.
@@ -112,12 +112,19 @@ pub(crate) fn are_listed_at_once(parts: &[Slabs], rule: u32, workers: u32) -> bo
 
 /// Whether a square with sides of the rule has many slabs, on average over the rectangle round all of them: then several tiles would tell most of their conflicts.
 fn are_dense(parts: &[Slabs], rule: u32) -> bool {
-    let mut around = None;
     let mut count: u64 = 0;
+    for part in parts {
+        count = count.saturating_add(part.rects().len() as u64);
+    }
+    are_many(parts, rule, count)
+}
+
+/// Whether that makes many of so many things in a square with sides of the rule, on average over the rectangle round all parts.
+pub(crate) fn are_many(parts: &[Slabs], rule: u32, count: u64) -> bool {
+    let mut around = None;
     for part in parts {
         for r in part.rects() {
             around = round_one(around, r);
-            count = count.saturating_add(1);
         }
     }
     let Some(around) = around else {

@@ -4,6 +4,7 @@
 mod answer;
 mod colours;
 mod conflicts;
+mod crowded;
 mod cycle;
 mod decomposed;
 mod gains;
@@ -17,6 +18,7 @@ mod vertices;
 
 pub use answer::answer_of;
 pub use conflicts::{Conflicts, Sharing, conflicts_of};
+pub use crowded::{answer_of_cycle, crowded_cycle};
 pub use decomposed::{Clash, Decomposed, Painted};
 pub use job::EdgeJob;
 pub use lines::{head, place_lines};

@@ -11,7 +11,9 @@ ghost use Rattle.dpl_decide.specs.Deciding.{IsDecision};
 ghost use Rattle.dpl_decide.specs.View.{FitsDecision, decision_view};
 
 use crate::marks::{marked_squares, marks_by};
-use dpl_answer::{Decomposed, MarkSets, Sharing, answer_of, conflicts_of};
+use dpl_answer::{
+    Decomposed, MarkSets, Sharing, answer_of, answer_of_cycle, conflicts_of, crowded_cycle,
+};
 use dpl_base::Spacing;
 use dpl_cert::Name;
 use dpl_layer::{LayerFault, MarkedChoice, MarkedLayer, marked_layer_of};
@@ -124,6 +126,10 @@ pub fn decompose<R: Threads + Wait + Sync, G: Gate + Sync>(
         recipe.sharing.workers,
     )?;
     drop(marked);
+    let crowded = crowded_cycle(alloc, &cut, marks, spacing)?;
+    if let Some(cycle) = crowded {
+        return answer_of_cycle(alloc, cut, &cycle, marks, spacing, recipe.overlap);
+    }
     let conflicts = conflicts_of(rt, alloc, &cut, marks, spacing, recipe.sharing, gate)?;
     answer_of(
         alloc,

@@ -2,6 +2,7 @@
 
 use dpl_test_runs::{Done, SPLIT, is_conflict, is_done};
 use dpl_test_sample::{Rectangle, bars};
+use std::alloc::{AllocError, Global};
 use std::test::*;
 
 /// A layer that is done.
@@ -193,5 +194,29 @@ fn odd_cycles_are_told(rt: HostRuntime) -> Result<(), Fail> {
         let file = bars(alloc, layer)?;
         assert!(rt; is_conflict(&rt, alloc, SPLIT, file, cert)?, "at {cert}");
     }
+    Ok(())
+}
+
+/// Squares so close together that their conflicts aren't listed.
+fn crowd(alloc: Global) -> Result<Vec<Rectangle>, AllocError> {
+    let mut squares = Vec::new(alloc);
+    for row in 0..9u8 {
+        let y = 3 * (row as i32);
+        for column in 0..9u8 {
+            let x = 3 * (column as i32);
+            squares.push([x, y, x + 2, y + 2])?;
+        }
+    }
+    Ok(squares)
+}
+
+#[test]
+fn a_crowd_tells_the_cycle_of_its_first_piece(rt: HostRuntime) -> Result<(), Fail> {
+    let alloc = rt.alloc();
+    let squares = crowd(alloc)?;
+    let file = bars(alloc, &squares)?;
+    let cert =
+        "features 81 pieces 81 zones 0\ncycle 3\npiece 0 0 0\npiece 1 3 0\npiece 2 6 0\nnear 0 0 3 0\nnear 3 0 6 0\nnear 6 0 0 0\n";
+    assert!(rt; is_conflict(&rt, alloc, SPLIT, file, cert)?);
     Ok(())
 }

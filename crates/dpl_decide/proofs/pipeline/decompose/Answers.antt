@@ -1,8 +1,35 @@
+use Rattle.std.proofs.Common.{Global, List, Option, sym, subst, ℕ}
+use Rattle.std.specs.Prelude.{IfSome, Vec}
 use Rattle.std.proofs.lemmas.Result.{IfOk-weaker}
 use Rattle.std.specs.Option.{option_copied}
+use Rattle.dpl_spec_split.specs.Cycle.{IsReported}
+use Rattle.dpl_spec_split.specs.Graphs.{IsOddCycle}
+use Rattle.dpl_spec_split.specs.Marks.{graph}
 use Rattle.dpl_piece.specs.View.{cut_view}
 use Rattle.dpl_answer.specs.Anchors.{marks_in}
 use Rattle.dpl_decide.proofs.pipeline.decompose.Goals as goal
+
+pub answer_of_cycle-requires-clause-reported : goal.answer_of_cycle-requires-clause-reported
+answer_of_cycle-requires-clause-reported g c =
+    let marks = marks_in (option_copied c.args.marks) in
+    let bare = c.in_ok-cut.cut.pieces in
+    let spacing = c.args.recipe.now.spacing in
+    let reported = subst (λ (o : Option (Vec ℕ Global)). IfSome o (λ cycle. IsReported (graph marks spacing bare.parts bare.owners) cycle.items)) c.in-Some.is c.in_ok-crowded.ensures.reported in
+    subst (λ (l : List ℕ). IsReported (graph marks spacing bare.parts bare.owners) l) (sym c.deref.ensures.value) reported
+
+pub answer_of_cycle-requires-clause-odd : goal.answer_of_cycle-requires-clause-odd
+answer_of_cycle-requires-clause-odd g c =
+    let marks = marks_in (option_copied c.args.marks) in
+    let bare = c.in_ok-cut.cut.pieces in
+    let spacing = c.args.recipe.now.spacing in
+    let odd = subst (λ (o : Option (Vec ℕ Global)). IfSome o (λ cycle. IsOddCycle (graph marks spacing bare.parts bare.owners) cycle.items)) c.in-Some.is c.in_ok-crowded.ensures.odd in
+    subst (λ (l : List ℕ). IsOddCycle (graph marks spacing bare.parts bare.owners) l) (sym c.deref.ensures.value) odd
+
+pub returns-in-Some-clause-flat : goal.returns-in-Some-clause-flat
+returns-in-Some-clause-flat g c =
+    let (features, many, is) = c.in_ok-cut.ensures.cut (marks_in (option_copied c.args.marks)) c.in_ok-marked.ensures in
+    IfOk-weaker c.answer_of_cycle.result _ _
+    (λ d told. let (pieces, completed, flat) = told c.args.recipe.now.fewer in (cut_view features pieces, is pieces completed, flat features many)) c.answer_of_cycle.ensures.flat
 
 pub returns-clause-flat : goal.returns-clause-flat
 returns-clause-flat g c =
