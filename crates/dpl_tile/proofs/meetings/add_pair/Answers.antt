@@ -1,37 +1,41 @@
-use Rattle.std.proofs.Common.{refl, arith}
-use Rattle.dpl_join.specs.Pairs.{item_at, no_item}
+use Rattle.std.proofs.Common.{ℕ, List, refl, arith}
+use Rattle.std.specs.List.{All}
+use Rattle.dpl_join.specs.declared.items.Item.{Item}
+use Rattle.dpl_join.specs.Pairs.{IsPair, item_at, no_item}
+use Rattle.dpl_tile.specs.declared.grid.Grid.{Grid}
+use Rattle.dpl_tile.specs.Kept.{IsOver}
+use Rattle.dpl_tile.specs.Meetings.{reached}
 use Rattle.dpl_join.proofs.PairLaws.{close-flip}
 use Rattle.dpl_tile.proofs.ReachLaws.{reached-over}
 use Rattle.dpl_tile.proofs.MeetingLaws.{pair-meeting, pair-meetings}
 use Rattle.dpl_tile.proofs.meetings.add_pair.Goals as goal
 
+over-both : (g : Grid) (rule : ℕ) (items : List Item) (p : ℕ × ℕ) → All (λ (item : Item). IsOver g item.rect) items → IsPair rule items p
+    → IsOver g (reached rule (item_at items p.0).rect (item_at items p.1).rect) × IsOver g (reached rule (item_at items p.1).rect (item_at items p.0).rect)
+over-both g rule items p over pair =
+    let order = pair.order in
+    let known = pair.known in
+    let a = (item_at items p.0).rect in
+    let b = (item_at items p.1).rect in
+    let first : IsOver g a = over p.0 no_item (omega (arith, order, known)) in
+    let second : IsOver g b = over p.1 no_item known in
+    (reached-over g rule a b first second pair.close, reached-over g rule b a second first (close-flip rule a b pair.close))
+
 pub only_place-requires-clause-first : goal.only_place-requires-clause-first
 only_place-requires-clause-first c =
-    let order = c.requires.pair.order in
-    let known = c.requires.pair.known in
-    rw c.reached-first.ensures (reached-over c.args.grid.now c.args.spacing.rule (item_at c.args.items.now c.args.pair.now.0).rect (item_at c.args.items.now c.args.pair.now.1).rect
-    (c.requires.over c.args.pair.now.0 no_item (omega (arith, order, known))) (c.requires.over c.args.pair.now.1 no_item known) c.requires.pair.close)
+    rw c.reached-first.ensures (over-both c.args.grid.now c.args.spacing.rule c.args.items.now c.args.pair.now c.requires.over c.requires.pair).0
 
 pub only_place-requires-clause-second : goal.only_place-requires-clause-second
 only_place-requires-clause-second c =
-    let order = c.requires.pair.order in
-    let known = c.requires.pair.known in
-    rw c.reached-second.ensures (reached-over c.args.grid.now c.args.spacing.rule (item_at c.args.items.now c.args.pair.now.1).rect (item_at c.args.items.now c.args.pair.now.0).rect
-    (c.requires.over c.args.pair.now.1 no_item known) (c.requires.over c.args.pair.now.0 no_item (omega (arith, order, known))) (close-flip c.args.spacing.rule (item_at c.args.items.now c.args.pair.now.0).rect (item_at c.args.items.now c.args.pair.now.1).rect c.requires.pair.close))
+    rw c.reached-second.ensures (over-both c.args.grid.now c.args.spacing.rule c.args.items.now c.args.pair.now c.requires.over c.requires.pair).1
 
 pub places_of_both-requires-clause-first : goal.places_of_both-requires-clause-first
 places_of_both-requires-clause-first c =
-    let order = c.requires.pair.order in
-    let known = c.requires.pair.known in
-    rw c.reached-first.ensures (reached-over c.args.grid.now c.args.spacing.rule (item_at c.args.items.now c.args.pair.now.0).rect (item_at c.args.items.now c.args.pair.now.1).rect
-    (c.requires.over c.args.pair.now.0 no_item (omega (arith, order, known))) (c.requires.over c.args.pair.now.1 no_item known) c.requires.pair.close)
+    rw c.reached-first.ensures (over-both c.args.grid.now c.args.spacing.rule c.args.items.now c.args.pair.now c.requires.over c.requires.pair).0
 
 pub places_of_both-requires-clause-second : goal.places_of_both-requires-clause-second
 places_of_both-requires-clause-second c =
-    let order = c.requires.pair.order in
-    let known = c.requires.pair.known in
-    rw c.reached-second.ensures (reached-over c.args.grid.now c.args.spacing.rule (item_at c.args.items.now c.args.pair.now.1).rect (item_at c.args.items.now c.args.pair.now.0).rect
-    (c.requires.over c.args.pair.now.1 no_item known) (c.requires.over c.args.pair.now.0 no_item (omega (arith, order, known))) (close-flip c.args.spacing.rule (item_at c.args.items.now c.args.pair.now.0).rect (item_at c.args.items.now c.args.pair.now.1).rect c.requires.pair.close))
+    rw c.reached-second.ensures (over-both c.args.grid.now c.args.spacing.rule c.args.items.now c.args.pair.now c.requires.over c.requires.pair).1
 
 pub returns-in-Some : goal.returns-in-Some
 returns-in-Some c = pair-meeting c.args.spacing c.args.owners.now c.args.grid.now c.args.items.now c.args.pair.now c.in-Some.place c.args.meetings.now.items _
