@@ -182,6 +182,21 @@ passed-on bar next gaps x y count reach low high l a = record {
 pub passed-none : (bar : Rect) (gaps : List Rect) → ArePassed bar gaps bar.x0 0 bar.x0
 passed-none bar gaps = record { within = omega arith; ends = λ k d k_in. absurd (omega (arith, k_in)); taken = λ p l m n o. absurd (omega (arith, ints, n, o)) }
 
+-- without gaps
+pub puts-whole : (bar : Rect) (gaps old new : List Rect) → IsSolid bar → length gaps ≤ 0 → ((y : ℤ) → bar.y0 ≤ℤ y → y <ℤ bar.y1 → EndBefore old y bar.x0) → AreApart old
+    → Puts old new bar → PutsWithout bar gaps old new
+puts-whole bar gaps old new solid none before apart put = record {
+  covers = λ p. (
+    (λ h. elim ((put.covers p).0 h) [
+      | inl o ↦ inl o
+      | inr has ↦ inr (has, λ c. (let (r, (k, k_in, r_is), owns) = member-Covers gaps p c in absurd (omega (arith, k_in, none))))
+    ]),
+    λ h. elim h [ inl o ↦ (put.covers p).1 (inl o) | inr (has, not) ↦ (put.covers p).1 (inr has) ],
+  );
+  ends = put.ends;
+  apart = put.apart solid (bar-apart old bar solid apart.solid before) apart;
+}
+
 module _ (bar : Rect) (gaps : List Rect) (solid : IsSolid bar) where
   pub cut-first : (count : ℕ) (reach x : ℤ) (old : List Rect) → ArePassed bar gaps bar.x0 count reach
       → ((y : ℤ) → bar.y0 ≤ℤ y → y <ℤ bar.y1 → EndBefore old y bar.x0) → AreApart old → bar.x0 ≤ℤ x → reach ≤ℤ x → (x ≡ bar.x0) ⊎ (x ≡ reach)

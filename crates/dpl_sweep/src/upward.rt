@@ -168,6 +168,10 @@ impl Front {
         ensures puts { OnOk result (PutsWithout bar.now gaps.now self.old.pieces.items self.new.pieces.items) }
         ensures passed { IfOk result (λ next. ArePassed bar.now gaps.now bar.now.x1 next.count next.reach) }
     {
+        if gaps.is_empty() {
+            self.put(*bar)?;
+            return Ok(passed);
+        }
         let end = count_left(gaps, passed.count, bar.x1);
         let mut x = bar.x0.max(passed.reach);
         for i in passed.count..end {

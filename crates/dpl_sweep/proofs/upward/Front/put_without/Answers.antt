@@ -1,13 +1,22 @@
-use Rattle.std.proofs.Common.{◌≡◌, ◌<◌, length, get_or, rules, w32, FitsSigned, arith}
+use Rattle.std.proofs.Common.{◌≡◌, ◌<◌, length, get_or, refl, rules, w32, FitsSigned, arith}
 use Rattle.std.specs.Prelude.{pos}
-use Rattle.std.proofs.lemmas.Int.{to_z-of_z}
+use Rattle.std.proofs.lemmas.Int.{ints, to_z-of_z}
 use Rattle.std.proofs.lemmas.List.{get_or_default}
 use Rattle.dpl_spec_split.specs.declared.Rect.{Rect}
-use Rattle.dpl_sweep.proofs.UpwardLaws.{cut-first, cut-next, cut-last, max-known}
+use Rattle.dpl_sweep.proofs.UpwardLaws.{cut-first, cut-next, cut-last, max-known, passed-on, puts-whole}
 use Rattle.dpl_sweep.proofs.upward.Front.put_without.Goals as goal
 
 abbrev zero : Rect
 zero = record { x0 = pos 0; y0 = pos 0; x1 = pos 0; y1 = pos 0 }
+
+pub returns-then-is_empty-clause-puts : goal.returns-then-is_empty-clause-puts
+returns-then-is_empty-clause-puts c =
+    puts-whole c.args.bar.now c.args.gaps.now _ _ c.requires.solid (let h = c.is_empty.ensures in grind arith) c.requires.before c.requires.apart c.in_ok-put.ensures
+
+pub returns-then-is_empty-clause-passed : goal.returns-then-is_empty-clause-passed
+returns-then-is_empty-clause-passed c =
+    let wide = c.requires.solid.wide in
+    passed-on c.args.bar.now c.args.bar.now c.args.gaps.now _ _ _ _ refl refl (omega (arith, ints, wide)) c.requires.passed
 
 pub loop-i-init : goal.loop-i-init
 loop-i-init c =
