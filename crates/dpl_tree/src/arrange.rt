@@ -4,6 +4,7 @@ ghost use Rattle.std.specs.List.Sorted.{IsPermutation};
 
 use crate::blocks::FAN;
 use crate::items::StoredItem;
+use dpl_sort::sort_slice_by_key;
 
 /// How many items stand in a stretch that is as wide as the stack of items is high.
 const NEIGHBOURS: u64 = 4;
@@ -80,7 +81,7 @@ fn arrange_stack(items: &mut [StoredItem])
         return;
     }
     if goes_by_columns(items) {
-        items.sort_unstable_by_key(|t| t.rect.x0);
+        sort_slice_by_key(items, |t| t.rect.x0);
         return;
     }
     let half = half_of(items.len());
@@ -93,6 +94,6 @@ fn arrange_stack(items: &mut [StoredItem])
 pub fn arrange(items: &mut [StoredItem])
     ensures { IsPermutation items.old items.new }
 {
-    items.sort_unstable_by_key(|t| t.rect.y0);
+    sort_slice_by_key(items, |t| t.rect.y0);
     arrange_stack(items);
 }

@@ -12,6 +12,7 @@ ghost use Rattle.dpl_zone.specs.Layers.{FeaturesRise, IsPassed, TouchIn, Touches
 
 use crate::near::touches_own;
 use dpl_base::{Zone, touches};
+use dpl_sort::sort_by_key;
 use dpl_tree::{Items, Tree, View};
 use std::alloc::{AllocError, Global};
 
@@ -160,7 +161,7 @@ fn sort_by_feature(zones: &mut Vec<Zone>)
     ensures same { IsPermutation zones.old.items zones.new.items }
     ensures rise { FeaturesRise zones.new.items }
 {
-    zones.sort_unstable_by_key(|z| z.feature);
+    sort_by_key(zones, |z| z.feature);
 }
 
 /// The vertical zones that touch no horizontal one of their feature. Both lists are walked feature by feature.

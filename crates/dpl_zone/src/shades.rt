@@ -15,6 +15,7 @@ use crate::rows::{Span, shadow};
 use crate::slab_zones::is_short;
 use dpl_base::{Rect, Spacing};
 use dpl_join::{Item, Join, Pair};
+use dpl_sort::sort_by_key;
 use std::alloc::{AllocError, Global};
 
 /// Rows of an item that another one shades.
@@ -202,7 +203,7 @@ fn sort_by_number(found: &mut Vec<Shade>)
     ensures same { IsPermutation found.old.items found.new.items }
     ensures rise { NumbersRise found.new.items }
 {
-    found.sort_unstable_by_key(|s| s.number);
+    sort_by_key(found, |s| s.number);
 }
 
 /// The shades of the items of a join.
