@@ -88,7 +88,8 @@ graph-known (Some m) spacing pieces owners u v (conflict i j c x y) = let l = c.
 graph-known (Some m) spacing pieces owners u v (up h) = marked-known m pieces u v h
 graph-known (Some m) spacing pieces owners u v (down h) = let l = marked-low m pieces v u h in omega (arith, l)
 
-module _ (m : Marks) (spacing : Spacing) (pieces : List (List Rect)) (owners : List ℕ) (marked edges : List (ℕ × ℕ)) (fixed : AreEdges (MarkEdge m pieces) marked) (are : AreEdges (Conflict spacing pieces owners) edges) where
+module _ (m : Marks) (spacing : Spacing) (pieces : List (List Rect)) (owners : List ℕ) (marked edges : List (ℕ × ℕ))
+    (fixed : AreEdges (MarkEdge m pieces) marked) (are : AreEdges (Conflict spacing pieces owners) edges) where
   anchored-from : (u v : ℕ) → Contains (marked ++ moved edges) (u, v) → (u < v) × Anchored spacing m pieces owners u v
   anchored-from u v there = elim (Contains-append_cases marked (moved edges) (u, v) there) [
     | inl mark ↦ (let (l, h) = (fixed.exactly u v).0 mark in (l, up h))

@@ -87,7 +87,8 @@ painted_from fewer marks spacing overlap cut edges joined colours letters a b st
     let of_parts : Head → List PieceLine → List StitchLine → Painted = λ x y z. record { a = a; b = b; head = x; pieces = y; stitches = z; gains = gains } in
     record {
       masks = record { a = a; b = b; stitches = stitches };
-      even = λ odd. not_odd (vertex marks (length cut.pieces)) edges joined even sums (odd_same (cut_graph marks spacing cut) (graph_of edges) (same_back (graph_of edges) (cut_graph marks spacing cut) same) odd);
+      even = λ odd. not_odd (vertex marks (length cut.pieces)) edges joined even sums
+          (odd_same (cut_graph marks spacing cut) (graph_of edges) (same_back (graph_of edges) (cut_graph marks spacing cut) same) odd);
       are_masks = record {
         roots = these.roots;
         odds = these.odds;

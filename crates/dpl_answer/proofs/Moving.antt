@@ -21,7 +21,8 @@ moved-pairs edges pairs = All-map (λ (e : ℕ × ℕ). e.0 < e.1) (λ (e : ℕ 
 
 -- the sides of zones by vertices are below two more
 pub moved-below : (n : ℕ) (sides : List (ℕ × ℕ)) → AreSidesBelow n sides → AreSidesBelow (n + 2) (moved sides)
-moved-below n sides below = All-map (λ (s : ℕ × ℕ). (s.0 < n + 2) × (s.1 < n + 2)) (λ (s : ℕ × ℕ). (s.0 + 2, s.1 + 2)) sides (λ k d l. (let p = below k d l in (omega (arith, p.0), omega (arith, p.1))))
+moved-below n sides below = All-map (λ (s : ℕ × ℕ). (s.0 < n + 2) × (s.1 < n + 2)) (λ (s : ℕ × ℕ). (s.0 + 2, s.1 + 2)) sides
+    (λ k d l. (let p = below k d l in (omega (arith, p.0), omega (arith, p.1))))
 
 one : (edges : List (ℕ × ℕ)) → AreEdgePairs edges → All AreEdgePairs (edges ∷ [])
 one edges pairs zero d l = pairs
@@ -74,5 +75,6 @@ pub with-sums : (marked : Option (List (ℕ × ℕ))) (sheet : Sheet) (edges : L
 with-sums None sheet edges j same sums = summary-along (graph_of (all_edges sheet)) (graph_of edges) (same-members (all_edges sheet) edges same) (summary_of j) sums
 with-sums (Some marked) sheet edges j same sums =
     summary-along (graph_of (moved (all_edges sheet) ++ marked)) (graph_of (marked ++ moved edges))
-    (same-members (moved (all_edges sheet) ++ marked) (marked ++ moved edges) (λ e. (marks-first (all_edges sheet) edges same marked e, marks-last (all_edges sheet) edges same marked e))) (summary_of j)
+    (same-members (moved (all_edges sheet) ++ marked) (marked ++ moved edges) (λ e.
+    (marks-first (all_edges sheet) edges same marked e, marks-last (all_edges sheet) edges same marked e))) (summary_of j)
     (subst (λ (xs : List (ℕ × ℕ)). Sums xs j) (all-moved sheet marked) sums)

@@ -52,11 +52,13 @@ edges_below marks spacing cut es are k d l =
     let (less, c) = (are.exactly e.0 e.1).0 (Contains-get_or es k d l) in
     (less, graph-known marks spacing cut.pieces cut.owners e.0 e.1 c)
 
-pub stars_below : (marks : Option Marks) (spacing : Spacing) (cut : Cut) (rows : List Star) → SumsGraph (cut_graph marks spacing cut) (Stars rows) → ArePiecesBelow (vertex marks (length cut.pieces)) rows
+pub stars_below : (marks : Option Marks) (spacing : Spacing) (cut : Cut) (rows : List Star) → SumsGraph (cut_graph marks spacing cut) (Stars rows) →
+    ArePiecesBelow (vertex marks (length cut.pieces)) rows
 stars_below marks spacing cut rows (es, are, sums) = rows_below (vertex marks (length cut.pieces)) es rows (edges_below marks spacing cut es are) sums
 
 -- an odd cycle of the conflicts shows in each list of them
-pub odd_listed : (marks : Option Marks) (spacing : Spacing) (cut : Cut) (es : List (ℕ × ℕ)) → SumsGraph (cut_graph marks spacing cut) Odd → AreEdges (cut_graph marks spacing cut) es → HasOddCycle (graph_of es)
+pub odd_listed : (marks : Option Marks) (spacing : Spacing) (cut : Cut) (es : List (ℕ × ℕ)) → SumsGraph (cut_graph marks spacing cut) Odd → AreEdges
+    (cut_graph marks spacing cut) es → HasOddCycle (graph_of es)
 odd_listed marks spacing cut es (fs, are, odd) these =
     odd_same (cut_graph marks spacing cut) (graph_of es) (same_back (graph_of es) (cut_graph marks spacing cut) (same_edges marks spacing cut es these))
     (odd_same (graph_of fs) (cut_graph marks spacing cut) (same_edges marks spacing cut fs are) odd)

@@ -174,7 +174,8 @@ module _ (plan : Planned) (law : (i j : ℕ) → Conflict plan.spacing plan.part
 pub conflict-in-cells : (plan : Planned) → IsTiled plan → (i j : ℕ) → Conflict plan.spacing plan.parts plan.owners i j ↔ Any (λ cell. In plan cell i j) plan.cells
 conflict-in-cells plan (side, some, tiles) i j = tiles-graph plan.spacing side plan.parts plan.owners plan.cells some tiles i j
 
-pub joined-sums : (marks : Option Marks) (job : MarkedPlan) (b : Board) (j : Joined) → AreMarkEdges marks job.plan.parts job.marked → IsTiled job.plan → Stands (sheet_of job) b → AreAllPosted b → SumsPosted b j
+pub joined-sums : (marks : Option Marks) (job : MarkedPlan) (b : Board) (j : Joined) → AreMarkEdges marks job.plan.parts job.marked → IsTiled job.plan →
+    Stands (sheet_of job) b → AreAllPosted b → SumsPosted b j
     → SumsGraph (graph marks job.plan.spacing job.plan.parts job.plan.owners) j
 joined-sums marks job b j fixed tiled stands all sums =
     all-sums job.plan (conflict-in-cells job.plan tiled) marks job.marked j fixed (all-posted (sheet_of job) b j stands all (sums (sheet_of job) stands))

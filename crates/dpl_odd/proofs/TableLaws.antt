@@ -65,7 +65,8 @@ table-step roots levels edges n root e least more old new is here root_in was le
       each = λ r l. elim (cases_eq r root) [
         | inl same ↦
             let at : new ≡ get_or more r None = sym (ap (λ xs. get_or xs r None) now ∙ (ap (λ k. get_or (set least root new) k None) same ∙ get_or-set_same least root new None root_in)) in
-            let before : IsLeastBelow roots levels edges n r old = subst (λ o. IsLeastBelow roots levels edges n r o) (ap (λ k. get_or least k None) same ∙ sym was) (h.each r (omega (arith, l, len))) in
+            let before : IsLeastBelow roots levels edges n r old = subst (λ o. IsLeastBelow roots levels edges n r o)
+            (ap (λ k. get_or least k None) same ∙ sym was) (h.each r (omega (arith, l, len))) in
             subst (λ o. IsLeastBelow roots levels edges (n + 1) r o) at (changed roots levels edges n r e is (here ∙ sym same) lesser before)
         | inr ne ↦
             let at : get_or least r None ≡ get_or more r None = sym (ap (λ xs. get_or xs r None) now ∙ get_or-set_other least root r new None ne) in

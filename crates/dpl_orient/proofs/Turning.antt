@@ -1,5 +1,36 @@
 -- Tallies after a component is flipped.
-use Rattle.std.proofs.Common.{◌≡◌, ◌≢◌, ℕ, ◌+◌, ◌^◌, ◌<◌, ◌≤◌, inl, inr, Bool, true, false, not, ◌&&◌, eqb, cond, List, [], ◌∷◌, length, get_or, set, filter, sym, refl, ap, ◌∙◌, subst, add_comm, arith}
+use Rattle.std.proofs.Common.{
+  ◌≡◌,
+  ◌≢◌,
+  ℕ,
+  ◌+◌,
+  ◌^◌,
+  ◌<◌,
+  ◌≤◌,
+  inl,
+  inr,
+  Bool,
+  true,
+  false,
+  not,
+  ◌&&◌,
+  eqb,
+  cond,
+  List,
+  [],
+  ◌∷◌,
+  length,
+  get_or,
+  set,
+  filter,
+  sym,
+  refl,
+  ap,
+  ◌∙◌,
+  subst,
+  add_comm,
+  arith,
+}
 use Rattle.std.specs.Prelude.{Option, count_by, sum_by}
 use Rattle.std.specs.List.{All}
 use Rattle.std.specs.declared.cmp.Reverse.{Reverse}

@@ -119,7 +119,8 @@ not-before x y z w Greater e h (inr (s, l)) = let m : y < x = ranked x y Greater
 pub rise-by_place : (ms : List Meeting) → IsSortedByKey (λ (m : Meeting). m.place) pair_cmp ms → RiseByPlace ms
 rise-by_place ms h i j d l within before =
     not-before (get_or ms j d).place.0 (get_or ms i d).place.0 (get_or ms j d).place.1 (get_or ms i d).place.1 (nat_cmp (get_or ms j d).place.0 (get_or ms i d).place.0) refl
-    (sorted_far (λ (a b : Meeting). is_lt (pair_cmp a.place b.place)) (ranks_by (then_total (on_total (λ t. t.0) nat_cmp_total) (on_total (λ t. t.1) nat_cmp_total)) (λ (m : Meeting). m.place)) ms h i j d l within) before
+    (sorted_far (λ (a b : Meeting). is_lt (pair_cmp a.place b.place)) (ranks_by
+    (then_total (on_total (λ t. t.0) nat_cmp_total) (on_total (λ t. t.1) nat_cmp_total)) (λ (m : Meeting). m.place)) ms h i j d l within) before
 
 -- ---- those of a place
 

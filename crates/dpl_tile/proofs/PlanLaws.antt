@@ -26,7 +26,8 @@ use Rattle.dpl_tile.proofs.ReachLaws.{reached-has, reached-over}
 abbrev pub planned : List (List Rect) → List ℕ → Spacing → List Item → Grid → List (ℕ × ℕ) → Planned
 planned parts owners spacing items grid places = record { parts = parts; owners = owners; spacing = spacing; cells = map (cell_at grid) places; items = items }
 
-module _ (parts : List (List Rect)) (owners : List ℕ) (spacing : Spacing) (items : List Item) (meetings : List Meeting) (grid : Grid) (places : List (ℕ × ℕ)) (kept : IsKept parts owners spacing items meetings grid places) where
+module _ (parts : List (List Rect)) (owners : List ℕ) (spacing : Spacing) (items : List Item) (meetings : List Meeting) (grid : Grid) (places : List (ℕ × ℕ))
+    (kept : IsKept parts owners spacing items meetings grid places) where
   apart-of : (m : Meeting) → Contains meetings m → AreApart (planned parts owners spacing items grid places) m.first m.second
   apart-of m c =
       let (pair, of) = (kept.met.all m).0 c in

@@ -129,7 +129,13 @@ laid-by_none parts tile g places h sound none is = rw is (record {
       let solid = solid-of_part parts h part r part_in (m, m_in, r_is) in
       let w = solid.wide in
       let t = solid.tall in
-      absurd (none (record { x = r.x0; y = r.y0 }) (k, part, k_in, get_or_default parts k part d k_in, (m, r, m_in, r_is, record { left = omega (arith, ints); right = w; low = omega (arith, ints); high = t }))));
+      absurd (none (record { x = r.x0; y = r.y0 }) (
+        k,
+        part,
+        k_in,
+        get_or_default parts k part d k_in,
+        (m, r, m_in, r_is, record { left = omega (arith, ints); right = w; low = omega (arith, ints); high = t }),
+      )));
   tiles = inl (refl, none);
 })
 

@@ -6,7 +6,20 @@ use Rattle.std.specs.List.Sorted.{IsPermutation}
 use Rattle.std.proofs.Math.ListN.{set}
 use Rattle.std.proofs.lemmas.Bool.{cases_eq, cases_lt, cases_order}
 use Rattle.std.proofs.lemmas.Int.{ints, by_lt_z}
-use Rattle.std.proofs.lemmas.List.{get_or_append_left, get_or_default, get_or_past, get_or_push, get_or-drop, get_or-set_same, get_or-set_other, get_or-take, length_push, length-drop, length-set, length-take}
+use Rattle.std.proofs.lemmas.List.{
+  get_or_append_left,
+  get_or_default,
+  get_or_past,
+  get_or_push,
+  get_or-drop,
+  get_or-set_same,
+  get_or-set_other,
+  get_or-take,
+  length_push,
+  length-drop,
+  length-set,
+  length-take,
+}
 use Rattle.std.proofs.lemmas.List.Elements.{Contains-get_or, Contains-push, Contains-push_cases}
 use Rattle.std.proofs.lemmas.List.Sorted.{Contains-permutation, IsPermutation-sym}
 use Rattle.dpl_spec_split.specs.declared.Spacing.{Spacing}

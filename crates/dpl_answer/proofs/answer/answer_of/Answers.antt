@@ -9,12 +9,14 @@ paint-requires-clause-keys c = λ key. c.requires.keys c.in_ok-cut.cut.pieces ke
 
 pub paint-requires-clause-sums : goal.paint-requires-clause-sums
 paint-requires-clause-sums c =
-    let are = conflicts_completed (marks_in (option_copied c.args.marks)) c.args.spacing c.args.cut.pieces c.in_ok-cut.cut.pieces c.args.conflicts.now c.in_ok-cut.ensures.pieces c.requires.conflicts in
+    let are = conflicts_completed (marks_in (option_copied c.args.marks)) c.args.spacing c.args.cut.pieces c.in_ok-cut.cut.pieces c.args.conflicts.now
+    c.in_ok-cut.ensures.pieces c.requires.conflicts in
     (rw c.in-Even.is at are).0
 
 pub paint-requires-clause-even : goal.paint-requires-clause-even
 paint-requires-clause-even c =
-    let are = conflicts_completed (marks_in (option_copied c.args.marks)) c.args.spacing c.args.cut.pieces c.in_ok-cut.cut.pieces c.args.conflicts.now c.in_ok-cut.ensures.pieces c.requires.conflicts in
+    let are = conflicts_completed (marks_in (option_copied c.args.marks)) c.args.spacing c.args.cut.pieces c.in_ok-cut.cut.pieces c.args.conflicts.now
+    c.in_ok-cut.ensures.pieces c.requires.conflicts in
     (rw c.in-Even.is at are).1
 
 pub returns-in_ok-painted-in-Even-clause-flat : goal.returns-in_ok-painted-in-Even-clause-flat

@@ -118,7 +118,8 @@ returns-clause-fits c = λ some.
       c.parts.ensures.value,
     ) at c.in_ok-colours.ensures in
     let lines = c.of.ensures ∙ (c.in_ok-lines.ensures.lines ∙ ap (λ (cs : List Bool). map piece_line (zip cs pieces.keys)) c.items-3.ensures) in
-    let many = lines_many (length pieces.parts) colours pieces.keys c.of.result (letters_as_many c.args.fewer marks (length pieces.parts) edges c.args.joined.now pieces.sides colours sums letters) c.parts.ensures.keys lines in
+    let many = lines_many (length pieces.parts) colours pieces.keys c.of.result
+    (letters_as_many c.args.fewer marks (length pieces.parts) edges c.args.joined.now pieces.sides colours sums letters) c.parts.ensures.keys lines in
     let few : length c.in_ok-stitches.stitches.items < 2 ^ 64 = search rules in
     let few_items : length c.items.result.now < 2 ^ 64 = search rules in
     let few_pieces : length pieces.parts < 2 ^ 64 = omega (arith, few_items, ap length (c.items.ensures.value ∙ c.parts.ensures.value)) in

@@ -11,4 +11,5 @@ loop-rect-preserved c = each-next (IsSlabItem c.args.owner) c.args.rects.now c.l
     c.loop-rect.invariant (adds-push c.loop-rect.items.items _ _ c.in_ok-push.ensures.items)
 
 pub returns : goal.returns
-returns c = rw c.in_ok-reserve.ensures.items at (slabs-all c.args.owner c.args.rects.now _ _ (each-all (IsSlabItem c.args.owner) c.args.rects.now c.loop-rect.rect-index _ c.loop-rect.items.items (omega arith) c.loop-rect.invariant))
+returns c = rw c.in_ok-reserve.ensures.items at (slabs-all c.args.owner c.args.rects.now _ _
+    (each-all (IsSlabItem c.args.owner) c.args.rects.now c.loop-rect.rect-index _ c.loop-rect.items.items (omega arith) c.loop-rect.invariant))

@@ -15,4 +15,5 @@ loop-pair-preserved c = each-next (IsMeetingOf c.args.spacing c.args.owners.now 
     c.loop-pair-test.true c.loop-pair.invariant c.in_ok-add_pair.ensures
 
 pub returns : goal.returns
-returns c = each-all (IsMeetingOf c.args.spacing c.args.owners.now c.args.grid.now c.args.items.now) c.args.pairs.now c.loop-pair.pair-index _ c.loop-pair.meetings.items (omega arith) c.loop-pair.invariant
+returns c = each-all (IsMeetingOf c.args.spacing c.args.owners.now c.args.grid.now c.args.items.now) c.args.pairs.now c.loop-pair.pair-index _
+    c.loop-pair.meetings.items (omega arith) c.loop-pair.invariant

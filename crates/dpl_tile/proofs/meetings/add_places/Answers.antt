@@ -11,4 +11,5 @@ loop-place-preserved c = each-next (IsPlaced c.args.pair.now) c.args.places.now 
     c.loop-place.invariant (adds-push c.loop-place.meetings.items _ _ c.in_ok-push.ensures.items)
 
 pub returns : goal.returns
-returns c = placed-all c.args.pair.now c.args.places.now _ _ (each-all (IsPlaced c.args.pair.now) c.args.places.now c.loop-place.place-index _ c.loop-place.meetings.items (omega arith) c.loop-place.invariant)
+returns c = placed-all c.args.pair.now c.args.places.now _ _ (each-all (IsPlaced c.args.pair.now) c.args.places.now c.loop-place.place-index _
+    c.loop-place.meetings.items (omega arith) c.loop-place.invariant)

@@ -7,7 +7,8 @@ pub loop-strip-init : goal.loop-strip-init
 loop-strip-init c = adds-none (IsMeetingIn c.args.spacing c.args.owners.now c.args.grid.now c.args.join.now) 0 _ (λ m e l k. omega (arith, l))
 
 pub add_pairs-requires-clause-pairs : goal.add_pairs-requires-clause-pairs
-add_pairs-requires-clause-pairs c = rw (c.items-items.ensures, c.as_slice.ensures.value) (strip-pairs c.args.spacing c.args.join.now c.loop-strip.strip c.in_ok-pairs.pairs.items c.requires.rule c.in_ok-pairs.ensures)
+add_pairs-requires-clause-pairs c = rw (c.items-items.ensures, c.as_slice.ensures.value)
+    (strip-pairs c.args.spacing c.args.join.now c.loop-strip.strip c.in_ok-pairs.pairs.items c.requires.rule c.in_ok-pairs.ensures)
 
 pub loop-strip-preserved : goal.loop-strip-preserved
 loop-strip-preserved c = strips-more c.args.spacing c.args.owners.now c.args.grid.now c.args.join.now c.loop-strip.strip c.in_ok-pairs.pairs.items _ c.loop-strip.meetings.items _

@@ -22,5 +22,6 @@ returns-clause-sound c =
 pub returns-clause-handles : goal.returns-clause-handles
 returns-clause-handles c =
     handles-push c.args.items.now
-    (record { spacing = c.args.shades.now.spacing; overlap = c.args.shades.now.overlap; found = c.push.new.self; dead = c.args.shades.now.dead }) c.args.shades.now.found.items c.args.n c.args.m c.args.span
+    (record { spacing = c.args.shades.now.spacing; overlap = c.args.shades.now.overlap; found = c.push.new.self; dead = c.args.shades.now.dead })
+    c.args.shades.now.found.items c.args.n c.args.m c.args.span
     c.in_ok-push.ensures.items c.requires.shadow
