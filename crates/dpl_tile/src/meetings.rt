@@ -15,6 +15,7 @@ use crate::grid::{Grid, Place};
 use crate::reach::reached;
 use dpl_base::{Id, Spacing, near};
 use dpl_join::{Item, Join, Pair};
+use dpl_sort::sort_by_key;
 use std::alloc::{AllocError, Global};
 
 /// Two slabs of different owners that are near, by their numbers, and the place of a cell with a square of one that may be near the other.
@@ -160,7 +161,7 @@ fn sort_by_place(meetings: &mut Vec<Meeting>)
     ensures same { (m : Meeting) → Contains meetings.new.items m ↔ Contains meetings.old.items m }
     ensures rise { RiseByPlace meetings.new.items }
 {
-    meetings.sort_unstable_by_key(|m| m.place);
+    sort_by_key(meetings, |m| m.place);
 }
 
 /// The meetings of all pairs of a join, by place.
