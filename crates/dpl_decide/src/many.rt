@@ -124,8 +124,9 @@ fn all_cut<R: Threads + Sync>(
         match layer {
             ReadLayer::Refused { name, at } => waiting.push(Waiting::Refused { name, at })?,
             ReadLayer::Read(Layer { copied, slabs }) => {
-                let cut = cut_by(rt, alloc, slabs, spacing, overlap, &unmarked, workers)?;
-                cuts.push(cut)?;
+                cuts.push(cut_by(
+                    rt, alloc, slabs, spacing, overlap, &unmarked, workers,
+                )?)?;
                 waiting.push(Waiting::Cut { copied })?;
             }
         }

@@ -13,8 +13,8 @@ loop-layer-preserved-in_ok-push-in-Refused g c =
 pub loop-layer-preserved : goal.loop-layer-preserved
 loop-layer-preserved g c =
     let all : c.loop-layer.yielded ++ c.in-Some.layer ∷ c.next.new.self.rest.items ≡ c.args.layers.items = search rules in
-    let cut = c.in_ok-cut.ensures.cut None (none-marked c.empty-unmarked.result c.empty-unmarked.ensures) in (
+    let cut = c.in_ok-cut_by-in-Read.ensures.cut None (none-marked c.empty-unmarked.result c.empty-unmarked.ensures) in (
       append_assoc c.loop-layer.yielded (c.in-Some.layer ∷ []) c.next.new.self.rest.items ∙ all,
       rw (c.in-Read.is, c.in_ok-push-in-Read-2.ensures.items, c.in_ok-push-in-Read.ensures.items)
-          (wait_cut c.args.spacing c.args.overlap _ _ _ _ _ _ c.loop-layer.invariant.1 (refl, cut, c.in_ok-cut.ensures.keys, tt)),
+          (wait_cut c.args.spacing c.args.overlap _ _ _ _ _ _ c.loop-layer.invariant.1 (refl, cut, c.in_ok-cut_by-in-Read.ensures.keys, tt)),
     )
