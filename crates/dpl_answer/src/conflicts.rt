@@ -119,7 +119,7 @@ fn are_dense(parts: &[Slabs], rule: u32) -> bool {
     are_many(parts, rule, count)
 }
 
-/// Whether that makes many of so many things in a square with sides of the rule, on average over the rectangle round all parts.
+/// Whether a square with sides of the rule has many of `count` things, on average over the rectangle round all parts.
 pub(crate) fn are_many(parts: &[Slabs], rule: u32, count: u64) -> bool {
     let mut around = None;
     for part in parts {

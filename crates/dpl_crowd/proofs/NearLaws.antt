@@ -13,7 +13,7 @@ use Rattle.dpl_spec_split.specs.Zones.{part_at}
 use Rattle.dpl_spec_split.proofs.SquareLaws.{AreNear-sym}
 use Rattle.dpl_slabs.specs.Parts.{AreParts}
 use Rattle.dpl_tree.specs.declared.items.Item.{Item}
-use Rattle.dpl_tree.specs.declared.owners.Owners.TheVariants.{All as Everyone}
+use Rattle.dpl_tree.specs.declared.owners.Owners.TheVariants.{But}
 use Rattle.dpl_tree.specs.Trees.{AreItemsOf, ArePassed, HasItem, LiesApart}
 use Rattle.dpl_tree.specs.Windows.{IsWidened}
 use Rattle.dpl_join.proofs.NearLaws.{near-close}
@@ -36,14 +36,14 @@ abbrev pub IsFoeAt : Spacing → List ℕ → ℕ → Rect → List Item → ℕ
 IsFoeAt spacing owners k r items n w = Nth (IsFoeOwner spacing owners k r) items n w
 
 module _ (spacing : Spacing) (owners : List ℕ) (k : ℕ) (r : Rect) (items : List Item) where
-  passed_none : (window : Rect) (from n m w : ℕ) → spacing.corner ≤ spacing.rule → IsWidened r spacing.rule window → ArePassed window Everyone items from n
+  passed_none : (window : Rect) (from n m w : ℕ) → spacing.corner ≤ spacing.rule → IsWidened r spacing.rule window → ArePassed window (But k) items from n
       → from ≤ m → m < n → IsFoeAt spacing owners k r items m w → ⊥
   passed_none window from n m w less wide passed low high (item, m_in, is, (foe, own)) = elim (passed m item low high m_in) [
     | inl apart ↦ apart_far spacing r window item.rect less wide (subst (λ (t : Item). LiesApart window t.rect) is apart) foe.near
-    | inr out ↦ out
+    | inr out ↦ foe.apart (sym (ap (slice_index owners) (subst (λ (t : Item). t.owner ≡ k) is out)))
   ]
 
-  pub foes-start : (window : Rect) (n : ℕ) (found : List ℕ) → spacing.corner ≤ spacing.rule → IsWidened r spacing.rule window → ArePassed window Everyone items 0 n
+  pub foes-start : (window : Rect) (n : ℕ) (found : List ℕ) → spacing.corner ≤ spacing.rule → IsWidened r spacing.rule window → ArePassed window (But k) items 0 n
       → Adds (OfFirst (IsFoeAt spacing owners k r items) n) found found
   foes-start window n found less wide passed = adds-none (IsFoeAt spacing owners k r items) n found (λ m w l h. passed_none window 0 n m w less wide passed (omega arith) l h)
 
@@ -54,7 +54,7 @@ module _ (spacing : Spacing) (owners : List ℕ) (k : ℕ) (r : Rect) (items : L
   )
 
   pub foes-more : (window : Rect) (n next : ℕ) (item : Item) (base old new : List ℕ) → spacing.corner ≤ spacing.rule → IsWidened r spacing.rule window → n < length items
-      → item ≡ get_or items n item → n + 1 ≤ next → ArePassed window Everyone items (n + 1) next → Adds (OfFirst (IsFoeAt spacing owners k r items) n) base old
+      → item ≡ get_or items n item → n + 1 ≤ next → ArePassed window (But k) items (n + 1) next → Adds (OfFirst (IsFoeAt spacing owners k r items) n) base old
       → Adds (IsFoeOwner spacing owners k r item) old new → Adds (OfFirst (IsFoeAt spacing owners k r items) next) base new
   foes-more window n next item base old new less wide n_in is on passed before step =
       adds-next (IsFoeAt spacing owners k r items) n next base old new (omega (arith, on)) (λ m w low high h. passed_none window (n + 1) next m w less wide passed low high h) before

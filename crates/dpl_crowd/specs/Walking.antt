@@ -43,7 +43,7 @@ pub record IsOn (levels : List ℕ) (from level w : ℕ) : Type 0 where
 abbrev pub ArePast : Graph → ℕ → ℕ → Type 0
 ArePast joined root at = (e : ℕ × ℕ) → IsLevelEdge joined root e → at ≤ e.0
 
--- the least level edge below number 0, with the levels of its ends
+-- the least level edge of the component of number 0, with the levels of its ends
 pub record IsLeastEdge (joined : Graph) (levels : List ℕ) (edge : ℕ × ℕ) : Type 0 where
   pub first_in : edge.0 < length levels
   pub second_in : edge.1 < length levels

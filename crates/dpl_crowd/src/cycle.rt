@@ -38,10 +38,16 @@ fn cycle_through(
     Ok(cycle)
 }
 
+/// How many levels are sought, at most.
+const LEVELS: Id = 4;
+
+/// From how many pieces of one level the next level is sought, at most.
+const MOST: usize = 1024;
+
 impl<'a> Crowd<'a> {
     /// The odd cycle that is reported of the conflicts, where it is of the component of the first piece. None says nothing.
     ///
-    /// Levels are found one after another from the first piece on. Pieces are looked at by number, as far as they are reached: the first one with a neighbour of a greater number on its own level has the least level edge. So no more levels are found than that takes, and no conflicts are kept.
+    /// Levels are found one after another from the first piece on. Pieces are looked at by number, as far as they are reached: the first one with a neighbour of a greater number on its own level has the least level edge. So no more levels are found than that takes, and no conflicts are kept. Where it would take many levels, or one from many pieces, none is told.
     ///
     /// The error: out of memory.
     pub fn first_cycle(&self, alloc: Global) -> Result<Option<Vec<Id>>, AllocError>
@@ -54,13 +60,16 @@ impl<'a> Crowd<'a> {
         }
         let mut walk = start(alloc, self)?;
         let mut at = 0;
-        for depth in 0..count {
+        for depth in 0..LEVELS {
             let edge = least_level_edge(alloc, self, &walk.levels, depth, &mut at)?;
             if let Some(edge) = edge {
                 let cycle = cycle_through(alloc, self, &walk.levels, depth, edge)?;
                 return Ok(Some(cycle));
             }
             if walk.front.is_empty() {
+                return Ok(None);
+            }
+            if walk.front.len() > MOST {
                 return Ok(None);
             }
             walk.advance(alloc, self, depth)?;

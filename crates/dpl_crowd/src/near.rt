@@ -89,10 +89,11 @@ fn add_foes(
     ensures { OnOk result (Adds (IsFoeAmong spacing owners.now k r.now tree.now) found.old.items found.new.items) }
 {
     let window = widened(r, spacing.rule);
-    let mut n = tree.seek(0, &window, Owners::All);
+    let others = Owners::But(k as usize);
+    let mut n = tree.seek(0, &window, others);
     while n < tree.count() {
         add_item(found, &tree.item(n), owners, k, r, spacing)?;
-        n = tree.seek(n + 1, &window, Owners::All);
+        n = tree.seek(n + 1, &window, others);
     }
     Ok(())
 }

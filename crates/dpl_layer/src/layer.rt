@@ -114,7 +114,7 @@ fn swept(alloc: Global, shapes: Shapes) -> Result<Layer, LayerFault>
     Ok(Layer { copied, slabs })
 }
 
-/// The squares that a drawing covers. It is let go once its shapes are there, and their loops before they are swept.
+/// The squares that a drawing covers. It is let go once its shapes are there, and their loops before all is swept.
 pub(crate) fn squares_of(alloc: Global, drawing: Drawing) -> Result<Slabs, LayerFault>
     ensures squares { (lib : LibraryOf) (top : ℕ) (layer : ChosenLayerOf) → IsDrawingOf lib top layer drawing → IfOk result (AreSquaresBelow lib top layer) }
     ensures fault { (lib : LibraryOf) (top : ℕ) (layer : ChosenLayerOf) → IsDrawingOf lib top layer drawing → IfErr result (IsFaultOfLayer lib top layer) }

@@ -3,6 +3,7 @@ ghost use Rattle.std.specs.Prelude.{◌<◌, length};
 
 use crate::bars::{Corners, SPACING, set_of};
 use dpl_base::{Edge, Id, WideRect};
+use dpl_crowd::Crowd;
 use dpl_edges::{all_edges, edges_of};
 use dpl_feature::features;
 use dpl_tile::{Plan, plan};
@@ -65,6 +66,35 @@ fn finds_the_conflicts(rt: HostRuntime) -> Result<(), Fail> {
         let found = found.ok_or("each piece has its feature")?;
         assert!(rt; found.as_slice() == want);
     }
+    Ok(())
+}
+
+/// The cycle that searches near single pieces find in a layout whose pieces are of these features; empty where they find none, or where there aren't as many pieces.
+fn crowded_cycle(alloc: Global, rects: &[Corners], owner: &[Id]) -> Result<Vec<Id>, AllocError> {
+    let set = set_of(alloc, rects)?;
+    let pieces = features(alloc, &set)?;
+    if pieces.items().len() != owner.len() {
+        return Ok(Vec::new(alloc));
+    }
+    let crowd = Crowd::of(alloc, &pieces, owner, SPACING)?;
+    match crowd.first_cycle(alloc)? {
+        Some(cycle) => Ok(cycle),
+        None => Ok(Vec::new(alloc)),
+    }
+}
+
+/// Three squares, each near both others.
+const TRIANGLE: [Corners; 3] = [(0, 0, 10, 10), (20, 0, 30, 10), (10, 20, 20, 30)];
+
+/// Their cycle, where each is a feature.
+const AROUND: [Id; 3] = [0, 1, 2];
+
+#[test]
+fn a_cycle_is_found_near_the_first_piece(rt: HostRuntime) -> Result<(), Fail> {
+    let odd = crowded_cycle(rt.alloc(), &TRIANGLE, &[0, 1, 2])?;
+    assert!(rt; odd.as_slice() == AROUND.as_slice());
+    let even = crowded_cycle(rt.alloc(), &TRIANGLE, &[0, 0, 1])?;
+    assert!(rt; even.is_empty());
     Ok(())
 }
 

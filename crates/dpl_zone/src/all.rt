@@ -87,6 +87,7 @@ pub fn zones_among(
     requires vertical { AreUpright found.spacing found.overlap parts.now found.vertical.items }
     ensures { IfOk result (λ v. AreZones found.spacing found.overlap (union_of parts.now) parts.now (Covers marked.now) v.items) }
 {
+    // What is known of a list of parts is known once it is looked at.
     let _ = parts.items();
     let mut kept = joined(alloc, found.horizontal, found.vertical)?;
     sort_zones(&mut kept);
