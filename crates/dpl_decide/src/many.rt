@@ -124,9 +124,7 @@ fn all_cut<R: Threads + Sync>(
         match layer {
             ReadLayer::Refused { name, at } => waiting.push(Waiting::Refused { name, at })?,
             ReadLayer::Read(Layer { copied, slabs }) => {
-                cuts.push(cut_by(
-                    rt, alloc, slabs, spacing, overlap, &unmarked, workers,
-                )?)?;
+                cuts.push(cut_by(rt, alloc, slabs, spacing, overlap, &unmarked, workers)?)?;
                 waiting.push(Waiting::Cut { copied })?;
             }
         }
