@@ -9,8 +9,8 @@ use Rattle.dpl_spec_split.specs.Squares.{Has}
 use Rattle.dpl_spec_split.specs.Loops.{winding, LoopCovers, IsPointWithin, ArePointsWithin}
 use Rattle.dpl_spec_split.proofs.Ordered.{Contains-head, Contains-later, Contains-cases, Contains-nil}
 use Rattle.dpl_corners.specs.declared.bar.Bar.{Bar}
-use Rattle.dpl_corners.specs.Corners.{AreOrdered, IsSpanned, IsUpright, IsThrough, four_steps, over, second, fourth, loop_round}
-use Rattle.dpl_corners.proofs.CornerLaws.{step-level, has-sum, sum-has}
+use Rattle.dpl_corners.specs.Corners.{AreOrdered, IsSpanned, IsUpright, IsThrough, over, second, fourth, loop_round}
+use Rattle.dpl_corners.proofs.CornerLaws.{four_steps, step-level, has-sum, sum-has}
 
 -- the sum over the edges of a loop of four points, the first of which may stand once more at the end
 four-summed : (p q r t : Pt) (ends : Bool) (s : Pt) → winding (p ∷ (q ∷ (r ∷ (t ∷ cond ends (p ∷ []) [])))) s ≡ four_steps p q r t s

@@ -1,12 +1,21 @@
 -- Rectangles by their corners.
-use Rattle.std.proofs.Common.{◌≡◌, ℕ, ◌⊎◌, inl, inr, sym, ap, ◌∙◌, arith}
+use Rattle.std.proofs.Common.{◌≡◌, ℕ, ◌⊎◌, inl, inr, cond, sym, ap, ◌∙◌, arith}
 use Rattle.std.specs.Prelude.{ℤ, pos, ◌+ℤ◌, ◌-ℤ◌, ◌≤ℤ◌, ◌<ℤ◌}
 use Rattle.std.proofs.lemmas.Int.{ints, by_lt_z}
+use lib.Signed.{lt_z}
 use Rattle.dpl_spec_split.specs.declared.Pt.{Pt}
 use Rattle.dpl_spec_split.specs.declared.Rect.{Rect}
 use Rattle.dpl_spec_split.specs.Squares.{Has}
 use Rattle.dpl_spec_split.specs.Loops.{step, IsPointWithin, IsRectWithin}
-use Rattle.dpl_corners.specs.Corners.{above, AreOrdered, IsSpanned, IsUpright, four_steps}
+use Rattle.dpl_corners.specs.Corners.{AreOrdered, IsSpanned, IsUpright}
+
+-- 1 below row y
+abbrev pub above : Pt → ℤ → ℤ
+above s y = cond (lt_z s.y y) (pos 1) (pos 0)
+
+-- the sum over the four edges of the loop through the points
+abbrev pub four_steps : Pt → Pt → Pt → Pt → Pt → ℤ
+four_steps p q r t s = (((pos 0 +ℤ step p q s) +ℤ step q r s) +ℤ step r t s) +ℤ step t p s
 
 pub step-left : (p q s : Pt) → p.x ≤ℤ s.x → step p q s ≡ above s q.y -ℤ above s p.y
 step-left p q s left =

@@ -1,14 +1,8 @@
 -- Rectangles by their corners.
-use Rattle.std.specs.Prelude.{◌≡◌, ◌⊎◌, ℤ, pos, ◌+ℤ◌, ◌≤ℤ◌, Bool, cond, List, [], ◌∷◌}
-use lib.Signed.{lt_z}
+use Rattle.std.specs.Prelude.{◌≡◌, ◌⊎◌, ℤ, ◌≤ℤ◌, Bool, cond, List, [], ◌∷◌}
 use Rattle.dpl_spec_split.specs.declared.Pt.{Pt}
 use Rattle.dpl_spec_split.specs.declared.Rect.{Rect}
-use Rattle.dpl_spec_split.specs.Loops.{step}
 use Rattle.dpl_corners.specs.declared.bar.Bar.{Bar}
-
--- 1 below row y
-abbrev pub above : Pt → ℤ → ℤ
-above s y = cond (lt_z s.y y) (pos 1) (pos 0)
 
 -- u and v are x and y, the lesser first
 abbrev pub AreOrdered : ℤ → ℤ → ℤ → ℤ → Type 0
@@ -25,10 +19,6 @@ pub record IsUpright (p q r t : Pt) : Type 0 where
   pub along : q.y ≡ r.y
   pub down : r.x ≡ t.x
   pub back : t.y ≡ p.y
-
--- the sum over the four edges of the loop through the points
-abbrev pub four_steps : Pt → Pt → Pt → Pt → Pt → ℤ
-four_steps p q r t s = (((pos 0 +ℤ step p q s) +ℤ step q r s) +ℤ step r t s) +ℤ step t p s
 
 -- above or below p, in the row of r
 abbrev pub over : Pt → Pt → Pt

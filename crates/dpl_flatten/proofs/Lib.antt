@@ -13,3 +13,4 @@ pub mod CellLaws
 pub mod PlacedLaws
 pub mod ResultLaws
 pub mod DrawingLaws
+pub mod LoopLaws

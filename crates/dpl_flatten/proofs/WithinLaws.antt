@@ -114,9 +114,9 @@ through_within p (q ∷ r ∷ rs) w b e h =
     (segments_within q r rs (h q (Contains-head q (r ∷ rs))) (h r (Contains-later q r (r ∷ rs) (Contains-head r rs)))
     (λ x c. h x (Contains-later q x (r ∷ rs) (Contains-later r x rs c))))
 
-four_within : (a b c d : Pt) → IsPointWithin (2 ^ 61) a → IsPointWithin (2 ^ 61) b → IsPointWithin (2 ^ 61) c → IsPointWithin (2 ^ 61) d
-    → ArePointsWithin (2 ^ 61) (a ∷ b ∷ c ∷ d ∷ [])
-four_within a b c d ha hb hc hd p i =
+four_within : (bound : ℕ) (a b c d : Pt) → IsPointWithin bound a → IsPointWithin bound b → IsPointWithin bound c → IsPointWithin bound d
+    → ArePointsWithin bound (a ∷ b ∷ c ∷ d ∷ [])
+four_within bound a b c d ha hb hc hd p i =
     ⊎_elim (λ (e : a ≡ p). rw (← e) ha)
     (λ j. ⊎_elim (λ (e : b ≡ p). rw (← e) hb)
     (λ k. ⊎_elim (λ (e : c ≡ p). rw (← e) hc)
@@ -125,15 +125,15 @@ four_within a b c d ha hb hc hd p i =
     (Contains-cases b p (c ∷ d ∷ []) j))
     (Contains-cases a p (b ∷ c ∷ d ∷ []) i)
 
-corner_cases : (r : Rect) → IsRectWithin (2 ^ 61) r → ArePointsWithin (2 ^ 61) (corners_of r)
-corner_cases r w =
-    four_within (record { x = r.x0; y = r.y0 }) (record { x = r.x1; y = r.y0 }) (record { x = r.x1; y = r.y1 }) (record { x = r.x0; y = r.y1 })
+pub corners_within : (bound : ℕ) (r : Rect) → IsRectWithin bound r → ArePointsWithin bound (corners_of r)
+corners_within bound r w =
+    four_within bound (record { x = r.x0; y = r.y0 }) (record { x = r.x1; y = r.y0 }) (record { x = r.x1; y = r.y1 }) (record { x = r.x0; y = r.y1 })
     (record { column = w.left; row = w.low }) (record { column = w.right; row = w.low }) (record { column = w.right; row = w.high }) (record { column = w.left; row = w.high })
 
 loops_within : (rs : List Rect) → All (IsRectWithin (2 ^ 61)) rs → AreLoopsWithin (2 ^ 61) (map corners_of rs)
 loops_within [] w = all_nil (λ ps. ArePointsWithin (2 ^ 61) ps)
 loops_within (r ∷ rs) w = All-cons (λ ps. ArePointsWithin (2 ^ 61) ps) (corners_of r) (map corners_of rs)
-    (corner_cases r (All-head (IsRectWithin (2 ^ 61)) r rs w)) (loops_within rs (All-tail (IsRectWithin (2 ^ 61)) r rs w))
+    (corners_within (2 ^ 61) r (All-head (IsRectWithin (2 ^ 61)) r rs w)) (loops_within rs (All-tail (IsRectWithin (2 ^ 61)) r rs w))
 
 pub path_within : (ps : List Pt) (width kind begin end : ℤ) → ArePointsWithin (2 ^ 31) ps → unsigned_abs width ≤ 2 ^ 31
     → unsigned_abs begin ≤ 2 ^ 31 → unsigned_abs end ≤ 2 ^ 31

@@ -6,3 +6,4 @@ pub mod Totals
 pub mod Drawn
 pub mod Cells
 pub mod Drawing
+pub mod Loops

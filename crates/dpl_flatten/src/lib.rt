@@ -4,7 +4,7 @@
 ghost use Rattle.std.specs.Prelude.{◌^◌, ◌<◌, ◌≤◌, ◌↔◌, length, IfOk, IfErr, OnOk};
 ghost use Rattle.std.specs.List.{All};
 ghost use Rattle.dpl_spec_split.specs.declared.Pt.{Pt};
-ghost use Rattle.dpl_spec_split.specs.Loops.{IsRectilinear, AreLoopsWithin, AreRectsWithin, farthest};
+ghost use Rattle.dpl_spec_split.specs.Loops.{SomeLoopCovers, IsRectilinear, AreLoopsWithin, AreRectsWithin, farthest};
 ghost use Rattle.dpl_spec_layout.specs.Placements.{IsInLayer};
 ghost use Rattle.dpl_spec_layout.specs.Faults.{IsFaultless, IsFirstFault};
 ghost use Rattle.dpl_flatten.specs.Drawing.{IsDrawingOf, IsTrimmed, ShapesCover};
@@ -12,6 +12,8 @@ ghost use Rattle.dpl_flatten.specs.Drawing.{IsDrawingOf, IsTrimmed, ShapesCover}
 use crate::drawing::draw_all;
 use crate::faults::find_faults;
 use crate::links::{ReachedGraph, graph_of};
+use crate::loops::loops_of;
+use dpl_base::Loop;
 use dpl_links::reach;
 
 mod cells;
@@ -20,6 +22,7 @@ mod drawing;
 mod faults;
 mod first;
 mod links;
+mod loops;
 mod missing;
 mod placed;
 mod recursion;
@@ -70,7 +73,7 @@ pub fn draw(
 /// The first fault of the structures that the top reaches: the missing structure of least offset, then the recursion of
 /// least offset, then the refused element of least offset, then more than 16,777,216 placed points, then the element of
 /// least offset with a placed point out of range; `NoMemory`.
-pub fn flatten(
+pub fn shapes_of(
     alloc: Global,
     lib: &Library<'_>,
     top: u32,
@@ -86,4 +89,26 @@ pub fn flatten(
 {
     let drawing = draw(alloc, lib, top, layer)?;
     drawing.shapes(alloc)
+}
+
+/// The loops that the structure `top` places on a layer: its shapes, each rectangle by the loop through its corners,
+/// behind the others. Together they cover the layer's squares. Coordinates are database units.
+///
+/// # Errors
+/// Those of `shapes_of`.
+pub fn flatten(
+    alloc: Global,
+    lib: &Library<'_>,
+    top: u32,
+    layer: Layer,
+) -> Result<Vec<Loop>, FlattenFault>
+    requires { top < length lib.now.structures }
+    ensures covers { IfOk result (λ loops. (s : Pt) → SomeLoopCovers loops.items s ↔ IsInLayer lib.now top layer s) }
+    ensures straight { IfOk result (λ loops. All IsRectilinear loops.items) }
+    ensures within { IfOk result (λ loops. AreLoopsWithin farthest loops.items) }
+    ensures faultless { OnOk result (IsFaultless lib.now top layer) }
+    ensures fault { IfErr result (λ f. IsFirstFault lib.now top layer f) }
+{
+    let shapes = shapes_of(alloc, lib, top, layer)?;
+    Ok(loops_of(alloc, shapes)?)
 }

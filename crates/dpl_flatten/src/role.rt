@@ -8,7 +8,7 @@ ghost use Rattle.dpl_flatten.specs.Roles.{IsRoleOf};
 use dpl_spec_layout::Layer;
 use dpl_syntax::{Body, Trans};
 
-/// The widths and ends of a path, in database units; what the file leaves out is 0.
+/// The width, type and extensions of a path, in database units; what the file leaves out is 0.
 #[derive(Clone, Copy)]
 pub(crate) struct PathStyle {
     pub(crate) width: i32,
@@ -44,7 +44,7 @@ pub(crate) enum Role<'a> {
     },
 }
 
-/// Whether an element of this layer and datatype lies on the chosen layer.
+/// Whether an element of this layer and datatype (of a box, its box type) lies on the chosen layer.
 fn is_on(chosen: Layer, layer: u16, datatype: u16) -> bool
     ensures { result ≡ is_on_layer chosen layer datatype }
 {

@@ -28,15 +28,15 @@ pub data MarkedReading : Type 0 where
   -- the copied records, the canonical slabs of the layer, and those of its squares that are fixed to mask A, and to mask B
   MarkedLayer : List ℕ → List Rect → List Rect → List Rect → MarkedReading
 
--- markers are of data type 0
+-- markers are of datatype 0
 abbrev pub marker : ℕ → ChosenLayer
 marker n = record { layer = n; datatype = 0 }
 
--- a layer below the top has a fault, by its name and where it stands
+-- a layer, in the top and what it reaches, has a fault, by its name and where it stands
 abbrev pub IsFaultBelow : Library → ℕ → ChosenLayer → Name → ℕ → Type 0
 IsFaultBelow lib top layer name at = (f : FlattenFault) × IsFirstFault lib top layer f × (flatten_name f ≡ Some (name, at))
 
--- the squares of a layer below the top, which has no fault
+-- the squares of a layer, in the top and what it reaches, which has no fault
 pub record AreSquaresBelow (lib : Library) (top : ℕ) (layer : ChosenLayer) (slabs : List Rect) : Type 0 where
   pub faultless : IsFaultless lib top layer
   pub squares : AreSlabsOf (IsInLayer lib top layer) slabs

@@ -27,7 +27,7 @@ pub data Reading : Type 0 where
 abbrev pub limit : ℕ
 limit = 268435456
 
--- what is taken of a layout: the name of the top, where it is named, and the layer with its data type
+-- what is taken of a layout: the name of the top, where it is named, and the layer with its datatype
 pub record Choice : Type 0 where
   pub top : Option (List ℕ)
   pub layer : ℕ

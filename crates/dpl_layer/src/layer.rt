@@ -21,7 +21,7 @@ pub struct LayerChoice<'a> {
     pub top: Option<&'a str>,
     /// The layer's number in the file.
     pub layer: u16,
-    /// The data type of the boundaries and paths that are taken of the layer.
+    /// The datatype of the boundaries and paths, and the box type of the boxes, that are taken of the layer.
     pub datatype: u16,
 }
 
@@ -36,7 +36,7 @@ pub struct Layer {
 
 /// The copied records, and a drawing of the layer.
 #[derive(Drop)]
-struct Shapes {
+struct DrawnLayer {
     copied: Vec<u8>,
     drawing: Drawing,
 }
@@ -49,9 +49,9 @@ pub fn layer_of(alloc: Global, choice: &LayerChoice, bytes: Vec<u8>) -> Result<L
     ensures layer { IfOk result (λ l. IsLayout (choice_view choice.now) bytes.items (layer_view l)) }
     ensures fault { IfErr result (IsLayerFault (choice_view choice.now) bytes.items) }
 {
-    let shapes = shapes_of(alloc, choice, bytes.as_slice())?;
+    let drawn = drawn_layer_of(alloc, choice, bytes.as_slice())?;
     drop(bytes);
-    swept(alloc, shapes)
+    swept(alloc, drawn)
 }
 
 /// The squares of the chosen layer of at most 268,435,456 bytes that are read again afterwards.
@@ -62,23 +62,31 @@ pub fn layer_within(alloc: Global, choice: &LayerChoice, bytes: &[u8]) -> Result
     ensures layer { IfOk result (λ l. IsLayout (choice_view choice.now) bytes.now (layer_view l)) }
     ensures fault { IfErr result (IsLayerFault (choice_view choice.now) bytes.now) }
 {
-    let shapes = shapes_of(alloc, choice, bytes)?;
-    swept(alloc, shapes)
+    let drawn = drawn_layer_of(alloc, choice, bytes)?;
+    swept(alloc, drawn)
 }
 
-/// The shapes of the chosen layer, or the first fault of the layout.
-fn shapes_of(alloc: Global, choice: &LayerChoice, bytes: &[u8]) -> Result<Shapes, LayerFault>
+/// What is drawn of the chosen layer, or the first fault of the layout.
+fn drawn_layer_of(
+    alloc: Global,
+    choice: &LayerChoice,
+    bytes: &[u8],
+) -> Result<DrawnLayer, LayerFault>
     requires { length bytes.now ≤ limit }
-    ensures shapes { IfOk result (λ s. HasDrawing (choice_view choice.now) bytes.now s.copied.items s.drawing) }
+    ensures drawn { IfOk result (λ d. HasDrawing (choice_view choice.now) bytes.now d.copied.items d.drawing) }
     ensures fault { IfErr result (IsLayerFault (choice_view choice.now) bytes.now) }
 {
     let lib = read_library(alloc, bytes)?;
-    shapes_in(alloc, choice, &lib)
+    drawn_layer_in(alloc, choice, &lib)
 }
 
-/// The shapes of the layer of a library, or its first fault.
-fn shapes_in(alloc: Global, choice: &LayerChoice, lib: &Library<'_>) -> Result<Shapes, LayerFault>
-    ensures shapes { IfOk result (λ s. HasDrawingIn (choice_view choice.now) lib.now s.copied.items s.drawing) }
+/// What is drawn of the layer of a library, or its first fault.
+fn drawn_layer_in(
+    alloc: Global,
+    choice: &LayerChoice,
+    lib: &Library<'_>,
+) -> Result<DrawnLayer, LayerFault>
+    ensures drawn { IfOk result (λ d. HasDrawingIn (choice_view choice.now) lib.now d.copied.items d.drawing) }
     ensures fault { IfErr result (IsLayerFaultIn (choice_view choice.now) lib.now) }
 {
     let top = top_of(alloc, lib, choice.top)?;
@@ -88,7 +96,7 @@ fn shapes_in(alloc: Global, choice: &LayerChoice, lib: &Library<'_>) -> Result<S
         datatype: choice.datatype,
     };
     let drawing = draw(alloc, lib, top, chosen)?;
-    Ok(Shapes { copied, drawing })
+    Ok(DrawnLayer { copied, drawing })
 }
 
 /// The squares of the layer of a library, or its first fault.
@@ -100,16 +108,16 @@ pub(crate) fn layer_in(
     ensures layer { (bytes : List ℕ) → Holds bytes lib.now → IfOk result (λ l. IsLayout (choice_view choice.now) bytes (layer_view l)) }
     ensures fault { (bytes : List ℕ) → Holds bytes lib.now → IfErr result (IsLayerFault (choice_view choice.now) bytes) }
 {
-    let shapes = shapes_in(alloc, choice, lib)?;
-    swept(alloc, shapes)
+    let drawn = drawn_layer_in(alloc, choice, lib)?;
+    swept(alloc, drawn)
 }
 
-/// The squares that shapes cover.
-fn swept(alloc: Global, shapes: Shapes) -> Result<Layer, LayerFault>
-    ensures layer { (v : Choice) (bytes : List ℕ) → HasDrawing v bytes shapes.copied.items shapes.drawing → IfOk result (λ l. IsLayout v bytes (layer_view l)) }
-    ensures fault { (v : Choice) (bytes : List ℕ) → HasDrawing v bytes shapes.copied.items shapes.drawing → IfErr result (IsLayerFault v bytes) }
+/// The squares of what is drawn of a layer.
+fn swept(alloc: Global, drawn: DrawnLayer) -> Result<Layer, LayerFault>
+    ensures layer { (v : Choice) (bytes : List ℕ) → HasDrawing v bytes drawn.copied.items drawn.drawing → IfOk result (λ l. IsLayout v bytes (layer_view l)) }
+    ensures fault { (v : Choice) (bytes : List ℕ) → HasDrawing v bytes drawn.copied.items drawn.drawing → IfErr result (IsLayerFault v bytes) }
 {
-    let Shapes { copied, drawing } = shapes;
+    let DrawnLayer { copied, drawing } = drawn;
     let slabs = squares_of(alloc, drawing)?;
     Ok(Layer { copied, slabs })
 }

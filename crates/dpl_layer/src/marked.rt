@@ -13,7 +13,7 @@ use dpl_slabs::Slabs;
 use dpl_syntax::{Library, read_library};
 use std::alloc::Global;
 
-/// What is taken of a layout, and the layers of its markers, of data type 0.
+/// What is taken of a layout, and the layers of its markers, of datatype 0.
 #[derive(Clone, Copy, Debug)]
 pub struct MarkedChoice<'a> {
     /// The layer that is marked.
@@ -49,7 +49,7 @@ enum Markers {
 
 /// The copied records, a drawing of the layer, and what is drawn of its markers.
 #[derive(Drop)]
-struct MarkedShapes {
+struct DrawnMarkedLayer {
     copied: Vec<u8>,
     drawing: Drawing,
     mark_a: Markers,
@@ -68,32 +68,32 @@ pub fn marked_layer_of(
     ensures layer { IfOk result (λ l. IsMarkedLayout (marked_choice_view choice.now) bytes.items (marked_view l)) }
     ensures fault { IfErr result (IsMarkedFault (marked_choice_view choice.now) bytes.items) }
 {
-    let shapes = marked_shapes_of(alloc, choice, bytes.as_slice())?;
+    let drawn = drawn_marked_layer_of(alloc, choice, bytes.as_slice())?;
     drop(bytes);
-    marked_squares(alloc, shapes)
+    marked_squares(alloc, drawn)
 }
 
-/// The shapes of the chosen layer and of its markers, or the first fault of the layout.
-fn marked_shapes_of(
+/// What is drawn of the chosen layer and of its markers, or the first fault of the layout.
+fn drawn_marked_layer_of(
     alloc: Global,
     choice: &MarkedChoice,
     bytes: &[u8],
-) -> Result<MarkedShapes, LayerFault>
+) -> Result<DrawnMarkedLayer, LayerFault>
     requires { length bytes.now ≤ limit }
-    ensures shapes { IfOk result (λ s. HasMarkedDrawing (marked_choice_view choice.now) bytes.now s.copied.items s.drawing s.mark_a s.mark_b) }
+    ensures drawn { IfOk result (λ d. HasMarkedDrawing (marked_choice_view choice.now) bytes.now d.copied.items d.drawing d.mark_a d.mark_b) }
     ensures fault { IfErr result (IsMarkedFault (marked_choice_view choice.now) bytes.now) }
 {
     let lib = read_library(alloc, bytes)?;
-    marked_shapes_in(alloc, choice, &lib)
+    drawn_marked_layer_in(alloc, choice, &lib)
 }
 
-/// The shapes of the layer of a library and of its markers, or the first fault of the layer.
-fn marked_shapes_in(
+/// What is drawn of the layer of a library and of its markers, or the first fault of the layer.
+fn drawn_marked_layer_in(
     alloc: Global,
     choice: &MarkedChoice,
     lib: &Library<'_>,
-) -> Result<MarkedShapes, LayerFault>
-    ensures shapes { IfOk result (λ s. HasMarkedDrawingIn (marked_choice_view choice.now) lib.now s.copied.items s.drawing s.mark_a s.mark_b) }
+) -> Result<DrawnMarkedLayer, LayerFault>
+    ensures drawn { IfOk result (λ d. HasMarkedDrawingIn (marked_choice_view choice.now) lib.now d.copied.items d.drawing d.mark_a d.mark_b) }
     ensures fault { IfErr result (IsMarkedLibraryFault (marked_choice_view choice.now) lib.now) }
 {
     let top = top_of(alloc, lib, choice.layer.top)?;
@@ -103,7 +103,7 @@ fn marked_shapes_in(
         datatype: choice.layer.datatype,
     };
     let drawing = draw(alloc, lib, top, chosen)?;
-    Ok(MarkedShapes {
+    Ok(DrawnMarkedLayer {
         copied,
         drawing,
         mark_a: markers_of(alloc, lib, top, choice.mark_a),
@@ -125,19 +125,19 @@ fn markers_of(alloc: Global, lib: &Library<'_>, top: u32, layer: Option<u16>) ->
     }
 }
 
-/// The squares that shapes cover, and the marked ones among them.
-fn marked_squares(alloc: Global, shapes: MarkedShapes) -> Result<MarkedLayer, LayerFault>
-    ensures layer { (v : MarkedChoiceOf) (bytes : List ℕ) → HasMarkedDrawing v bytes shapes.copied.items shapes.drawing shapes.mark_a shapes.mark_b
+/// The squares of what is drawn of a layer, and the marked ones among them.
+fn marked_squares(alloc: Global, drawn: DrawnMarkedLayer) -> Result<MarkedLayer, LayerFault>
+    ensures layer { (v : MarkedChoiceOf) (bytes : List ℕ) → HasMarkedDrawing v bytes drawn.copied.items drawn.drawing drawn.mark_a drawn.mark_b
         → IfOk result (λ l. IsMarkedLayout v bytes (marked_view l)) }
-    ensures fault { (v : MarkedChoiceOf) (bytes : List ℕ) → HasMarkedDrawing v bytes shapes.copied.items shapes.drawing shapes.mark_a shapes.mark_b
+    ensures fault { (v : MarkedChoiceOf) (bytes : List ℕ) → HasMarkedDrawing v bytes drawn.copied.items drawn.drawing drawn.mark_a drawn.mark_b
         → IfErr result (IsMarkedFault v bytes) }
 {
-    let MarkedShapes {
+    let DrawnMarkedLayer {
         copied,
         drawing,
         mark_a,
         mark_b,
-    } = shapes;
+    } = drawn;
     let slabs = squares_of(alloc, drawing)?;
     let mark_a = marked(alloc, mark_a, &slabs)?;
     let mark_b = marked(alloc, mark_b, &slabs)?;

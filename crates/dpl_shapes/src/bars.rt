@@ -29,7 +29,7 @@ pub struct Stroke {
 }
 
 /// The corners of a rectangle, counterclockwise from the lower left one.
-fn loop_round(alloc: Global, rect: WideRect) -> Result<Loop, AllocError>
+pub fn loop_round(alloc: Global, rect: WideRect) -> Result<Loop, AllocError>
     ensures { IfOk result (λ l. l ≡ corners_of rect) }
 {
     let mut corners = Vec::with_capacity(alloc, 4)?;

@@ -16,6 +16,7 @@ ghost use Rattle.dpl_shapes.specs.Types.{IsKnownType, IsUnknownType, HasNegative
 ghost use Rattle.dpl_shapes.specs.Refusals.{RefusesBoundary, RefusesPath};
 ghost use Rattle.dpl_shapes.specs.Strokes.{drawn_points};
 
+pub use crate::bars::loop_round;
 use crate::bars::{Margins, loops_along};
 use crate::distinct::distinct_points;
 pub use crate::fault::ShapeFault;

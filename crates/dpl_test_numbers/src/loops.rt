@@ -1,6 +1,6 @@
-//! The shapes of boundaries and a path behind a reference.
+//! The shapes of boundaries and a path behind a reference, and their loops.
 use dpl_base::{Pt, Rect};
-use dpl_flatten::{Layer, flatten, top_of};
+use dpl_flatten::{Layer, flatten, shapes_of, top_of};
 use dpl_syntax::read_library;
 use dpl_test_sample::{Part, layout};
 use std::test::*;
@@ -63,25 +63,57 @@ const PATH: Rect = Rect {
     y1: 240,
 };
 
+const AROUND_BOUNDARY: [Pt; 4] = [
+    Pt { x: 90, y: 200 },
+    Pt { x: 100, y: 200 },
+    Pt { x: 100, y: 220 },
+    Pt { x: 90, y: 220 },
+];
+
+const AROUND_PATH: [Pt; 4] = [
+    Pt { x: 68, y: 200 },
+    Pt { x: 72, y: 200 },
+    Pt { x: 72, y: 240 },
+    Pt { x: 68, y: 240 },
+];
+
+/// The layer that is drawn on.
+const DRAWN: Layer = Layer {
+    layer: 1,
+    datatype: 0,
+};
+
+const EMPTY: Layer = Layer {
+    layer: 2,
+    datatype: 0,
+};
+
 #[test]
 fn shapes_behind_a_reference(rt: HostRuntime) -> Result<(), Fail> {
     let bytes = layout(rt.alloc(), &[&SUB, &TOP])?;
     assert!(rt; bytes.len() <= 268_435_456);
     let library = read_library(rt.alloc(), &bytes)?;
     let top = top_of(rt.alloc(), &library, None)?;
-    let layer = Layer {
-        layer: 1,
-        datatype: 0,
-    };
-    let shapes = flatten(rt.alloc(), &library, top, layer)?;
+    let shapes = shapes_of(rt.alloc(), &library, top, DRAWN)?;
     assert_eq!(rt; shapes.rects.as_slice(), [BOUNDARY, PATH].as_slice());
     assert_eq!(rt; shapes.loops.len(), 1);
     assert_eq!(rt; shapes.loops[0].items(), CORNER.as_slice());
-    let other = Layer {
-        layer: 2,
-        datatype: 0,
-    };
-    let shapes = flatten(rt.alloc(), &library, top, other)?;
+    let shapes = shapes_of(rt.alloc(), &library, top, EMPTY)?;
     assert!(rt; shapes.rects.is_empty() && shapes.loops.is_empty());
+    Ok(())
+}
+
+#[test]
+fn loops_behind_a_reference(rt: HostRuntime) -> Result<(), Fail> {
+    let bytes = layout(rt.alloc(), &[&SUB, &TOP])?;
+    assert!(rt; bytes.len() <= 268_435_456);
+    let library = read_library(rt.alloc(), &bytes)?;
+    let top = top_of(rt.alloc(), &library, None)?;
+    let loops = flatten(rt.alloc(), &library, top, DRAWN)?;
+    assert_eq!(rt; loops.len(), 3);
+    assert_eq!(rt; loops[0].items(), CORNER.as_slice());
+    assert_eq!(rt; loops[1].items(), AROUND_BOUNDARY.as_slice());
+    assert_eq!(rt; loops[2].items(), AROUND_PATH.as_slice());
+    assert!(rt; flatten(rt.alloc(), &library, top, EMPTY)?.is_empty());
     Ok(())
 }

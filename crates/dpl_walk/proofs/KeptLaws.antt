@@ -1,6 +1,6 @@
 -- What a walk keeps.
-use Rattle.std.proofs.Common.{◌≡◌, ℕ, ◌+◌, ◌<◌, ◌⊎◌, inl, inr, true, false, List, [], ◌∷◌, ◌++◌, Option, Some, None, map, length, get_or, take}
-use Rattle.std.proofs.Common.{refl, sym, ◌∙◌, subst, arith}
+use Rattle.std.proofs.Common.{◌≡◌, ℕ, ◌+◌, ◌<◌, ◌⊎◌, inl, inr, true, false, List, [], ◌∷◌, ◌++◌, Some, None, map, length, get_or, take}
+use Rattle.std.proofs.Common.{refl, sym, subst, ⊎_elim, arith}
 use Rattle.std.specs.List.{Contains}
 use Rattle.std.specs.Prelude.{◌↔◌}
 use Rattle.std.proofs.lemmas.List.Elements.{Contains-get_or, Contains-append_left, Contains-push, Contains-push_cases}
@@ -15,11 +15,12 @@ use Rattle.dpl_corners.specs.declared.bar.Bar.{Bar}
 use Rattle.dpl_corners.specs.Corners.{IsSpanned, loop_round}
 use Rattle.dpl_corners.proofs.CornerLaws.{spanned-within}
 use Rattle.dpl_corners.proofs.BarLaws.{bar-covers, bar-within, corner-in, opposite-in, image-loop}
-use Rattle.dpl_walk.specs.Least.{earlier}
+use Rattle.dpl_walk.specs.Least.{earlier, IsAtMost}
+use Rattle.dpl_walk.specs.declared.cells.Cell.{Cell}
 use Rattle.dpl_walk.specs.declared.cells.Outline.{Outline}
 use Rattle.dpl_walk.specs.declared.gathered.Gathered.{Gathered}
-use Rattle.dpl_walk.specs.Kept.{IsAdded, IsKept, AreKept, Keeps}
-use Rattle.dpl_walk.specs.Walk.{Gathers, HasFarPoint}
+use Rattle.dpl_walk.specs.Kept.{KeptCovers, SomeLoopInRangeCovers, IsAdded, IsKept, AreKept, Keeps}
+use Rattle.dpl_walk.specs.Walk.{Gathers, HasFarPoint, IsWalk}
 use Rattle.dpl_walk.proofs.BarImages.{placed-bar}
 use Rattle.dpl_walk.proofs.WalkLaws.{gathers_one, gathers_none, gathers_more}
 
@@ -51,7 +52,7 @@ opposite-far m a far =
 
 -- ---- one more
 
-covers-pushed : (rs : List Rect) (r : Rect) (s : Pt) → Covers (rs ++ r ∷ []) s ↔ (Covers rs s ⊎ Has r s)
+pub covers-pushed : (rs : List Rect) (r : Rect) (s : Pt) → Covers (rs ++ r ∷ []) s ↔ (Covers rs s ⊎ Has r s)
 covers-pushed rs r s = (
   (λ h. let found = member-Covers (rs ++ r ∷ []) s h in
       elim (Contains-push_cases rs r found.0 found.1) [
@@ -64,7 +65,7 @@ covers-pushed rs r s = (
   ],
 )
 
-loops-pushed : (ls : List (List Pt)) (ps : List Pt) (s : Pt) → SomeLoopCovers (ls ++ ps ∷ []) s ↔ (SomeLoopCovers ls s ⊎ LoopCovers ps s)
+pub loops-pushed : (ls : List (List Pt)) (ps : List Pt) (s : Pt) → SomeLoopCovers (ls ++ ps ∷ []) s ↔ (SomeLoopCovers ls s ⊎ LoopCovers ps s)
 loops-pushed ls ps s = (
   (λ (k, qs, k_in, is, has). elim (Contains-push_cases ls ps qs (k, k_in, is)) [
     | inl (j, j_in, same) ↦ inl (j, qs, j_in, same, has)
@@ -74,6 +75,29 @@ loops-pushed ls ps s = (
     | inl (k, qs, k_in, is, has) ↦ (let (j, j_in, same) = Contains-append_left ls (ps ∷ []) qs (k, k_in, is) in (j, qs, j_in, same, has))
     | inr has ↦ (let (j, j_in, same) = Contains-push ls ps in (j, ps, j_in, same, has))
   ],
+)
+
+-- one more loop in range, and one that isn't
+in-range-pushed : (ls : List (List Pt)) (ps : List Pt) → ArePointsWithin farthest ps → (s : Pt)
+    → SomeLoopInRangeCovers (ls ++ ps ∷ []) s ↔ (SomeLoopInRangeCovers ls s ⊎ LoopCovers ps s)
+in-range-pushed ls ps within s = (
+  (λ (qs, qs_in, inside, has). elim (Contains-push_cases ls ps qs qs_in) [
+    | inl old ↦ inl (qs, old, inside, has)
+    | inr other ↦ inr (subst (λ t. LoopCovers t s) (sym other) has)
+  ]),
+  λ h. elim h [
+    | inl (qs, qs_in, inside, has) ↦ (qs, Contains-append_left ls (ps ∷ []) qs qs_in, inside, has)
+    | inr has ↦ (ps, Contains-push ls ps, within, has)
+  ],
+)
+
+far-pushed : (ls : List (List Pt)) (ps : List Pt) → HasFarPoint ps → (s : Pt) → SomeLoopInRangeCovers (ls ++ ps ∷ []) s ↔ SomeLoopInRangeCovers ls s
+far-pushed ls ps (p, p_in, out) s = (
+  (λ (qs, qs_in, inside, has). elim (Contains-push_cases ls ps qs qs_in) [
+    | inl old ↦ (qs, old, inside, has)
+    | inr other ↦ absurd (out (inside p (subst (λ t. Contains t p) other p_in)))
+  ]),
+  λ (qs, qs_in, inside, has). (qs, Contains-append_left ls (ps ∷ []) qs qs_in, inside, has),
 )
 
 -- a rectangle was kept for the loop
@@ -136,10 +160,6 @@ far-bar m a p r at old new p_is r_is far fe re le = inr (
 
 -- ---- outlines
 
-earlier-some : (a : Option ℕ) (n : ℕ) → earlier a (Some n) ≡ None → ⊥
-earlier-some None n e = let f : Some n ≡ None = e in cc
-earlier-some (Some a) n e = cc
-
 kept-one : (o : Outline) (f : Pt → Pt) (old new : Gathered) → ArePointsWithin farthest (map f o.points) → new.far ≡ old.far
     → IsAdded (map f o.points) old new → (all : List (List Pt)) → AreKept all old
     → (more : List (List Pt)) × Gathers (o ∷ []) f all more old.far new.far × AreKept more new
@@ -147,9 +167,9 @@ kept-one o f old new within far added all k = (
   all ++ map f o.points ∷ [],
   gathers_one o f all (all ++ map f o.points ∷ []) old.far new.far (map f o.points) true refl (λ e. within) (λ e. absurd cc) refl far,
   record {
-    covers = λ none s. (
-      λ h. (loops-pushed all (map f o.points) s).1 (elim ((added.covers s).0 h) [ inl c ↦ inl ((k.covers (sym far ∙ none) s).0 c) | inr c ↦ inr c ]),
-      λ h. (added.covers s).1 (elim ((loops-pushed all (map f o.points) s).0 h) [ inl c ↦ inl ((k.covers (sym far ∙ none) s).1 c) | inr c ↦ inr c ]),
+    covers = λ s. let more = in-range-pushed all (map f o.points) within s in (
+      λ h. more.1 (elim ((added.covers s).0 h) [ inl c ↦ inl ((k.covers s).0 c) | inr c ↦ inr c ]),
+      λ h. (added.covers s).1 (elim (more.0 h) [ inl c ↦ inl ((k.covers s).1 c) | inr c ↦ inr c ]),
     );
     rects = added.rects k.rects;
     loops = λ i d h. elim (added.among (get_or new.loops.items i d) (Contains-get_or new.loops.items i d h)) [
@@ -173,7 +193,10 @@ missed-one o f old new miss far re le all k = (
   all ++ map f o.points ∷ [],
   gathers_one o f all (all ++ map f o.points ∷ []) old.far new.far (map f o.points) false refl (λ e. absurd cc) (λ e. miss) refl far,
   record {
-    covers = λ none s. absurd (earlier-some old.far o.at (sym far ∙ none));
+    covers = λ s. let same = far-pushed all (map f o.points) miss s in (
+      λ h. same.1 ((k.covers s).0 (elim h [ inl c ↦ inl (rw re at c) | inr c ↦ inr (rw le at c) ])),
+      λ h. elim ((k.covers s).1 (same.0 h)) [ inl c ↦ inl (rw re c) | inr c ↦ inr (rw le c) ],
+    );
     rects = rw re k.rects;
     loops = rw le k.loops;
     among = λ ps c. Contains-append_left all (map f o.points ∷ []) ps (k.among ps (rw le at c));
@@ -199,11 +222,31 @@ keeps-more os i d f a b c h first one = record {
 -- nothing was gathered
 pub kept-start : (g : Gathered) → g.rects.items ≡ [] → g.loops.items ≡ [] → AreKept [] g
 kept-start g re le = record {
-  covers = λ none s. (
-    λ h. elim h [ inl c ↦ (let (r, r_in, has) = member-Covers [] s (rw re at c) in absurd (Contains-nil r r_in)) | inr c ↦ rw le at c ],
-    λ h. inr (rw le h),
+  covers = λ s. (
+    λ h. elim h [
+      | inl c ↦ (let (r, r_in, has) = member-Covers [] s (rw re at c) in absurd (Contains-nil r r_in))
+      | inr c ↦ (let (i, ps, i_in, is, has) = rw le at c in absurd (Contains-nil ps (i, i_in, is)))
+    ],
+    λ (ps, ps_in, inside, has). absurd (Contains-nil ps ps_in),
   );
   rects = λ r r_in. absurd (Contains-nil r (rw re at r_in));
   loops = λ i d h. (let none = rw le at h in absurd (omega (arith, none)));
   among = λ ps c. rw le at c;
 }
+
+-- ---- where nothing lies too far out
+
+pub all-in-range : (cells : List Cell) (top : ℕ) (all : List (List Pt)) → IsWalk cells top all None → (ps : List Pt) → Contains all ps
+    → ArePointsWithin farthest ps
+all-in-range cells top all walk ps ps_in =
+    let w = walk.sound ps ps_in in
+    let g = walk.complete ps w.0 w.1 in
+    ⊎_elim (λ x. x) (λ (x : IsAtMost None w.0). absurd x) g.1
+
+-- what was kept covers what all loops cover
+pub all-covered : (cells : List Cell) (top : ℕ) (all : List (List Pt)) (g : Gathered) → IsWalk cells top all None → AreKept all g → (s : Pt)
+    → KeptCovers g s ↔ SomeLoopCovers all s
+all-covered cells top all g walk kept s = (
+  λ h. (let (ps, ps_in, inside, has) = (kept.covers s).0 h in (ps_in.0, ps, ps_in.1, ps_in.2, has)),
+  λ (i, ps, i_in, is, has). (kept.covers s).1 (ps, (i, i_in, is), all-in-range cells top all walk ps (i, i_in, is), has),
+)

@@ -1,5 +1,5 @@
 -- What a walk keeps of the loops that it gathers.
-use Rattle.std.specs.Prelude.{◌≡◌, ℕ, ◌⊎◌, ◌↔◌, List, Some, None}
+use Rattle.std.specs.Prelude.{◌≡◌, ℕ, ◌⊎◌, ◌↔◌, List, Some}
 use Rattle.std.specs.List.{Contains}
 use Rattle.dpl_spec_split.specs.declared.Pt.{Pt}
 use Rattle.dpl_spec_split.specs.Squares.{Covers}
@@ -14,6 +14,10 @@ use Rattle.dpl_walk.specs.Walk.{Gathers, HasFarPoint, IsWalk}
 abbrev pub KeptCovers : Gathered → Pt → Type 0
 KeptCovers g s = Covers g.rects.items s ⊎ SomeLoopCovers g.loops.items s
 
+-- some of the loops that lie in range has the square
+abbrev pub SomeLoopInRangeCovers : List (List Pt) → Pt → Type 0
+SomeLoopInRangeCovers loops s = (ps : List Pt) × Contains loops ps × ArePointsWithin farthest ps × LoopCovers ps s
+
 -- the loop was kept, as a rectangle or as it is
 pub record IsAdded (ps : List Pt) (old new : Gathered) : Type 0 where
   pub covers : (s : Pt) → KeptCovers new s ↔ (KeptCovers old s ⊎ LoopCovers ps s)
@@ -26,9 +30,9 @@ IsKept ps at old new =
     (ArePointsWithin farthest ps × (new.far ≡ old.far) × IsAdded ps old new)
     ⊎ (HasFarPoint ps × (new.far ≡ earlier old.far (Some at)) × (new.rects.items ≡ old.rects.items) × (new.loops.items ≡ old.loops.items))
 
--- What was kept lies in range. The loops are among those that were gathered, and as long as none of these goes too far, rectangles and loops cover what they cover.
+-- What was kept lies in range. Rectangles and loops cover what those loops cover that were gathered and lie in range, and the loops are among these.
 pub record AreKept (all : List (List Pt)) (g : Gathered) : Type 0 where
-  pub covers : g.far ≡ None → (s : Pt) → KeptCovers g s ↔ SomeLoopCovers all s
+  pub covers : (s : Pt) → KeptCovers g s ↔ SomeLoopInRangeCovers all s
   pub rects : AreRectsWithin farthest g.rects.items
   pub loops : AreLoopsWithin farthest g.loops.items
   pub among : (ps : List Pt) → Contains g.loops.items ps → Contains all ps

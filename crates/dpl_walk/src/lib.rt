@@ -21,7 +21,7 @@ pub use crate::cells::{Cell, Copies, Outline};
 pub use crate::gathered::Gathered;
 pub use crate::least::{earlier, note};
 
-/// Rectangles and loops that cover what the loops cover that the structure `top` shows, itself and through all copies below it, as long as none lies too far out, and the
+/// Rectangles and loops that cover what the loops in range cover that the structure `top` shows, itself and through all copies below it, and the
 /// least offset of an element that is placed too far out. Structures that draw nothing and place one copy are passed by where `order` lists them,
 /// and each structure that it lists stands behind all that it places. With another order the same is covered, in more time.
 pub fn gather(

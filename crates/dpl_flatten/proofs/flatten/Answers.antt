@@ -1,18 +1,13 @@
-use Rattle.std.proofs.lemmas.Result.{MatchResult-weaker}
 use Rattle.dpl_flatten.proofs.flatten.Goals as goal
 
 pub returns-clause-covers : goal.returns-clause-covers
-returns-clause-covers c = MatchResult-weaker c.shapes.result (c.shapes.ensures.layer c.args.lib.now c.args.top c.args.layer c.in_ok-drawing.ensures.drawing)
-    (λ loops are. are.covers) (λ fault first. tt)
+returns-clause-covers c = λ s. (
+  λ h. (c.in_ok-shapes.ensures.covers s).0 ((c.in_ok-loops_of.ensures.covers s).0 h),
+  λ h. (c.in_ok-loops_of.ensures.covers s).1 ((c.in_ok-shapes.ensures.covers s).1 h),
+)
 
 pub returns-clause-straight : goal.returns-clause-straight
-returns-clause-straight c = MatchResult-weaker c.shapes.result (c.shapes.ensures.layer c.args.lib.now c.args.top c.args.layer c.in_ok-drawing.ensures.drawing)
-    (λ loops are. are.straight) (λ fault first. tt)
+returns-clause-straight c = c.in_ok-loops_of.ensures.straight c.in_ok-shapes.ensures.straight
 
-pub returns-clause-faultless : goal.returns-clause-faultless
-returns-clause-faultless c = MatchResult-weaker c.shapes.result (c.shapes.ensures.layer c.args.lib.now c.args.top c.args.layer c.in_ok-drawing.ensures.drawing)
-    (λ loops are. are.faultless) (λ fault first. tt)
-
-pub returns-clause-fault : goal.returns-clause-fault
-returns-clause-fault c = MatchResult-weaker c.shapes.result (c.shapes.ensures.layer c.args.lib.now c.args.top c.args.layer c.in_ok-drawing.ensures.drawing)
-    (λ loops are. tt) (λ fault first. first)
+pub returns-clause-within : goal.returns-clause-within
+returns-clause-within c = c.in_ok-loops_of.ensures.within c.in_ok-shapes.ensures.rects c.in_ok-shapes.ensures.loops

@@ -2,7 +2,7 @@ use Rattle.dpl_layer.specs.View.{choice_view}
 use Rattle.dpl_layer.proofs.layer.layer_within.Goals as goal
 
 pub returns-clause-layer : goal.returns-clause-layer
-returns-clause-layer c = c.swept.ensures.layer (choice_view c.args.choice.now) c.args.bytes.now c.in_ok-shapes.ensures.shapes
+returns-clause-layer c = c.swept.ensures.layer (choice_view c.args.choice.now) c.args.bytes.now c.in_ok-drawn.ensures.drawn
 
 pub returns-clause-fault : goal.returns-clause-fault
-returns-clause-fault c = c.swept.ensures.fault (choice_view c.args.choice.now) c.args.bytes.now c.in_ok-shapes.ensures.shapes
+returns-clause-fault c = c.swept.ensures.fault (choice_view c.args.choice.now) c.args.bytes.now c.in_ok-drawn.ensures.drawn

@@ -5,24 +5,24 @@ use Rattle.dpl_layer.proofs.marked.marked_squares.Goals as goal
 
 pub returns-clause-layer : goal.returns-clause-layer
 returns-clause-layer c = λ v bytes has.
-    marked_layer v bytes c.args.shapes.copied.items c.args.shapes.drawing c.args.shapes.mark_a c.args.shapes.mark_b has
+    marked_layer v bytes c.args.drawn.copied.items c.args.drawn.drawing c.args.drawn.mark_a c.args.drawn.mark_b has
     c.in_ok-slabs.slabs c.in_ok-mark_a.mark_a c.in_ok-mark_b.mark_b c.in_ok-slabs.ensures.squares
     c.in_ok-mark_a.ensures.faultless c.in_ok-mark_a.ensures.set c.in_ok-mark_b.ensures.faultless c.in_ok-mark_b.ensures.set
 
 pub returns-in_err-slabs-clause-fault : goal.returns-in_err-slabs-clause-fault
 returns-in_err-slabs-clause-fault c = λ v bytes has.
     given_fault (IsMarkedFault v bytes) c.from_residual.result c.in_err-slabs.field-0.0 c.from_residual.ensures.1
-    (fault_of_layer v bytes c.args.shapes.copied.items c.args.shapes.drawing c.args.shapes.mark_a c.args.shapes.mark_b has
+    (fault_of_layer v bytes c.args.drawn.copied.items c.args.drawn.drawing c.args.drawn.mark_a c.args.drawn.mark_b has
     c.in_err-slabs.field-0.0 c.in_err-slabs.ensures.fault)
 
 pub returns-in_err-mark_a-clause-fault : goal.returns-in_err-mark_a-clause-fault
 returns-in_err-mark_a-clause-fault c = λ v bytes has.
     given_fault (IsMarkedFault v bytes) c.from_residual-in_err-mark_a.result c.in_err-mark_a.field-0.0 c.from_residual-in_err-mark_a.ensures.1
-    (fault_of_a v bytes c.args.shapes.copied.items c.args.shapes.drawing c.args.shapes.mark_a c.args.shapes.mark_b has
+    (fault_of_a v bytes c.args.drawn.copied.items c.args.drawn.drawing c.args.drawn.mark_a c.args.drawn.mark_b has
     c.in_err-mark_a.field-0.0 c.in_ok-slabs.slabs c.in_ok-slabs.ensures.squares c.in_err-mark_a.ensures.fault)
 
 pub returns-in_err-mark_b-clause-fault : goal.returns-in_err-mark_b-clause-fault
 returns-in_err-mark_b-clause-fault c = λ v bytes has.
     given_fault (IsMarkedFault v bytes) c.from_residual-in_err-mark_b.result c.in_err-mark_b.field-0.0 c.from_residual-in_err-mark_b.ensures.1
-    (fault_of_b v bytes c.args.shapes.copied.items c.args.shapes.drawing c.args.shapes.mark_a c.args.shapes.mark_b has
+    (fault_of_b v bytes c.args.drawn.copied.items c.args.drawn.drawing c.args.drawn.mark_a c.args.drawn.mark_b has
     c.in_err-mark_b.field-0.0 c.in_ok-slabs.slabs c.in_ok-slabs.ensures.squares c.in_ok-mark_a.ensures.faultless c.in_err-mark_b.ensures.fault)

@@ -12,7 +12,8 @@ pub returns-clause-layer : goal.returns-clause-layer
 returns-clause-layer c = λ lib top layer is.
     (let walked = c.in_ok-found.ensures in
     let laid = (rw (← c.self.view_is) at is) walked.0 c.in_ok-found.found.far walked.1 in
-    shapes_of lib top layer walked.0 c.in_ok-found.found _ c.in-None.is refl refl (rw c.in-None.is at laid) walked.2)
+    shapes_of lib top layer c.self.inside.cells.items c.self.inside.top walked.0 c.in_ok-found.found _ (rw c.in-None.is at walked.1) refl refl
+    (rw c.in-None.is at laid) walked.2)
 
 pub returns-clause-rects : goal.returns-clause-rects
 returns-clause-rects c = c.in_ok-found.ensures.2.rects
