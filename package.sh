@@ -28,7 +28,7 @@ kit=$(dirname "$(dirname "$kit")")/rattle
 ldd "$program" "$view" | grep '=>' | grep -v '=> /\(usr/\)\?lib' && fail "$program needs libraries of its own"
 
 # The crates of the kit that are linked in: those that crates.txt names, and those below them.
-linked="clap crossbeam_deque crossbeam_queue crossbeam_utils fast_float indexmap itoa memchr ryu serde serde_json smallvec strsim thiserror unicode"
+linked="clap crossbeam_deque crossbeam_queue crossbeam_utils fast_float indexmap itoa memchr ryu serde serde_json strsim thiserror unicode"
 named=$(sed 's/#.*//; s/.*://' "$top/crates.txt")
 for crate in $named; do
     ls "$kit/$crate/LICENSE"* >/dev/null 2>&1 || continue

@@ -37,6 +37,11 @@ pub edge-push : (spacing : Spacing) (cell : Rect) (a b : Item) (old new : List (
 edge-push spacing cell a b old new e meet h is = adds-same (λ f. f ≡ e) (IsEdgeOf spacing cell a b) old new
     (λ f. (λ same. (meet, subst (λ u. IsEnds a.owner b.owner u) (sym same) h), λ (m, g). one_ends a.owner b.owner f e g h)) (adds-push old new e is)
 
+-- their edge, where it is there already
+pub edge-again : (spacing : Spacing) (cell : Rect) (a b : Item) (old : List (ℕ × ℕ)) (e : ℕ × ℕ) → MeetIn spacing cell a b → IsEnds a.owner b.owner e → Contains old e
+    → Adds (IsEdgeOf spacing cell a b) old old
+edge-again spacing cell a b old e meet h there f = (λ c. inl c, λ s. elim s [ inl c ↦ c | inr (m, g) ↦ subst (Contains old) (one_ends a.owner b.owner e f h g) there ])
+
 -- the edge of a meeting
 abbrev pub IsMeetingEdge : Planned → Rect → Meeting → ℕ × ℕ → Type 0
 IsMeetingEdge plan cell m e = IsEdgeOf plan.spacing cell (item_at plan.items m.first) (item_at plan.items m.second) e

@@ -38,7 +38,17 @@ fn meet_in(a: &Item, b: &Item, cell: &WideRect, spacing: Spacing) -> bool
     near_in(&b.rect, &a.rect, cell, spacing)
 }
 
-/// Adds the edge of two slabs, where the cell finds one.
+/// Whether the edge is the last one.
+fn is_last(found: &[Edge], edge: Edge) -> bool
+    ensures { IsTrue result → Contains found.now edge }
+{
+    match found.last() {
+        Some(last) => *last == edge,
+        None => false,
+    }
+}
+
+/// Adds the edge of two slabs, where the cell finds one, unless it was added last.
 fn add_edge(
     found: &mut Vec<Edge>,
     a: &Item,
@@ -55,7 +65,11 @@ fn add_edge(
     if !meet_in(a, b, cell, spacing) {
         return Ok(());
     }
-    found.push(ends(a.owner as Id, b.owner as Id))?;
+    let edge = ends(a.owner as Id, b.owner as Id);
+    if is_last(found, edge) {
+        return Ok(());
+    }
+    found.push(edge)?;
     Ok(())
 }
 

@@ -21,6 +21,7 @@ use crate::gather::edges_among;
 pub use crate::laws::{marks_make_the_graph, tiles_make_the_graph};
 pub use crate::marks::{mark_edges, shifted};
 use dpl_base::{Edge, FARTHEST, WideRect};
+use dpl_sort::sort;
 use dpl_tile::{Meeting, Plan};
 use std::alloc::{AllocError, Global};
 
@@ -38,7 +39,7 @@ fn sorted_edges(
     ensures below { IfOk result (λ v. All (λ (e : ℕ × ℕ). (e.0 < e.1) × (e.1 < length plan.now.parts)) v.items) }
 {
     let mut edges = edges_among(alloc, plan, meetings, cell)?;
-    edges.sort_unstable();
+    sort(&mut edges);
     edges.dedup();
     Ok(edges)
 }

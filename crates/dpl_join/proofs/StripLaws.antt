@@ -1,32 +1,41 @@
 -- Items in strips.
 use Rattle.std.proofs.Common.{◌≡◌, ℕ, ◌+◌, ◌<◌, ◌≤◌, ◌⊎◌, inl, inr, List, [], ◌∷◌, ◌++◌, length, take, sym, subst, arith}
-use Rattle.std.specs.Prelude.{ℤ, ◌≤ℤ◌}
+use Rattle.std.specs.Prelude.{ℤ, pos, ◌+ℤ◌, ◌-ℤ◌, ◌≤ℤ◌}
+use Rattle.std.specs.Int.{int_max}
 use Rattle.std.specs.List.{All, AllPairs, Contains}
 use Rattle.std.proofs.lemmas.Bool.{cases_eq, cases_lt}
-use Rattle.std.proofs.lemmas.Int.{ints}
+use Rattle.std.proofs.lemmas.Int.{ints, clamps}
 use Rattle.std.proofs.lemmas.List.{take_all}
 use Rattle.std.proofs.lemmas.List.Elements.{All-more, All-push, All-weaker, Contains-append_left, Contains-push}
 use Rattle.std.proofs.lemmas.List.Quantifiers.{all_pairs_push}
-use Rattle.dpl_spec_split.specs.declared.Rect.{Rect}
 use Rattle.dpl_join.specs.declared.items.Item.{Item}
 use Rattle.dpl_join.specs.Pairs.{item_at, no_item}
-use Rattle.dpl_join.specs.Strips.{AreFiledTo, IsAddedTo, first_strip, last_strip, strip_at}
+use Rattle.dpl_join.specs.Strips.{AreFiledTo, IsAddedTo, LiesWithin, first_strip, last_strip, strip_at, strip_of}
+use Rattle.dpl_join.proofs.PairLaws.{strips-rise}
 
 -- what holds of the first n items, of which there are no more
 pub all-taken : (P : Item → Type 0) (items : List Item) (n : ℕ) → length items ≤ n → All P (take n items) → All P items
 all-taken P items n few h = subst (All P) (take_all n items few) h
 
-pub lowest-more : (items : List Item) (n : ℕ) (low new : ℤ) → n < length items → new ≤ℤ low → new ≤ℤ (item_at items n).rect.y0 → All (λ (item : Item). low ≤ℤ item.rect.y0) (take n items)
-    → All (λ (item : Item). new ≤ℤ item.rect.y0) (take (n + 1) items)
-lowest-more items n low new n_in less here h =
-    All-more (λ (item : Item). new ≤ℤ item.rect.y0) items n no_item n_in
-    (All-weaker (λ (item : Item). low ≤ℤ item.rect.y0) (λ (item : Item). new ≤ℤ item.rect.y0) (λ item k. omega (arith, ints, less, k)) (take n items) h) here
+pub rows-more : (items : List Item) (n : ℕ) (low new-low top new-top : ℤ) → n < length items → new-low ≤ℤ low → top ≤ℤ new-top → LiesWithin new-low new-top (item_at items n)
+    → All (LiesWithin low top) (take n items) → All (LiesWithin new-low new-top) (take (n + 1) items)
+rows-more items n low new-low top new-top n_in less more here h =
+    All-more (LiesWithin new-low new-top) items n no_item n_in
+    (All-weaker (LiesWithin low top) (LiesWithin new-low new-top)
+    (λ item k.
+    (let a = k.low in
+    let b = k.begin in
+    let d = k.end in
+    record { low = omega (arith, ints, less, a); begin = omega (arith, ints, more, b); end = omega (arith, ints, more, d) })) (take n items) h) here
 
-pub count-more : (last : Rect → ℕ) (items : List Item) (n count new : ℕ) → n < length items → count ≤ new → last (item_at items n).rect < new
-    → All (λ (item : Item). last item.rect < count) (take n items) → All (λ (item : Item). last item.rect < new) (take (n + 1) items)
-count-more last items n count new n_in more here h =
-    All-more (λ (item : Item). last item.rect < new) items n no_item n_in
-    (All-weaker (λ (item : Item). last item.rect < count) (λ (item : Item). last item.rect < new) (λ item k. omega (arith, more, k)) (take n items) h) here
+-- items of these rows stand in the strips up to the rule's rows above them
+pub stands-below : (first : ℤ) (shift rule : ℕ) (last : ℤ) (item : Item) → LiesWithin first last item
+    → last_strip first shift rule item.rect ≤ strip_of first shift (last +ℤ pos rule)
+stands-below first shift rule last item lies =
+    let a = lies.low in
+    let b = lies.begin in
+    let d = lies.end in
+    strips-rise first shift (int_max ((item.rect.y1 +ℤ pos rule) -ℤ pos 1) item.rect.y0) (last +ℤ pos rule) (omega (arith, ints, clamps, a)) (omega (arith, ints, clamps, b, d))
 
 module _ (items : List Item) (n low end : ℕ) (first : ℤ) (shift rule : ℕ) (old new : List (List ℕ)) (filed : AreFiledTo items n first shift rule old) (added : IsAddedTo n low end old new) where
   abbrev Which : ℕ → Type 0

@@ -1,5 +1,5 @@
 -- Strips of 2^shift rows each, and the items that stand in them.
-use Rattle.std.specs.Prelude.{◌≡◌, ℕ, ◌/◌, ◌^◌, ◌<◌, ◌≤◌, ◌⊎◌, ℤ, pos, ◌+ℤ◌, ◌-ℤ◌, unsigned_abs, List, [], ◌∷◌, ◌++◌, length, slice_index_or}
+use Rattle.std.specs.Prelude.{◌≡◌, ℕ, ◌/◌, ◌^◌, ◌<◌, ◌≤◌, ◌⊎◌, ℤ, pos, ◌+ℤ◌, ◌-ℤ◌, ◌≤ℤ◌, unsigned_abs, List, [], ◌∷◌, ◌++◌, length, slice_index_or}
 use Rattle.std.specs.Int.{int_max}
 use Rattle.std.specs.List.{All, AllPairs, Contains}
 use Rattle.dpl_spec_split.specs.declared.Rect.{Rect}
@@ -16,6 +16,12 @@ first_strip first shift r = strip_of first shift r.y0
 -- the last strip that a rectangle meets with rule rows more above it
 abbrev pub last_strip : ℤ → ℕ → ℕ → Rect → ℕ
 last_strip first shift rule r = strip_of first shift (int_max ((r.y1 +ℤ pos rule) -ℤ pos 1) r.y0)
+
+-- an item that begins at row first or above it, and begins and ends at row last or below it
+pub record LiesWithin (first last : ℤ) (item : Item) : Type 0 where
+  pub low : first ≤ℤ item.rect.y0
+  pub begin : item.rect.y0 ≤ℤ last
+  pub end : item.rect.y1 ≤ℤ last
 
 -- the strip in which two rectangles count: that of the higher of their lowest rows
 abbrev pub common_strip : ℤ → ℕ → Rect → Rect → ℕ

@@ -5,7 +5,7 @@ ghost use Rattle.dpl_join.specs.Listing.{Lists};
 ghost use Rattle.dpl_join.specs.Pairs.{IsPair};
 
 use crate::items::{Item, Pair};
-use crate::ruling::{Ruling, ruling_for};
+use crate::ruling::{Ruled, Ruling, ruling_for};
 use crate::strips::{Strip, strips_of};
 use crate::sweep::{Home, Place, pairs_among};
 use std::alloc::{AllocError, Global};
@@ -43,8 +43,8 @@ impl Join {
         if (u32::MAX as usize) < items.len() {
             return Err(AllocError);
         }
-        let ruling = ruling_for(items.as_slice(), rule);
-        let strips = strips_of(alloc, items.as_slice(), &ruling, rule)?;
+        let Ruled { ruling, rooms } = ruling_for(alloc, items.as_slice(), rule)?;
+        let strips = strips_of(alloc, items.as_slice(), &ruling, rule, rooms.as_slice())?;
         Ok(Join {
             items,
             rule,

@@ -58,6 +58,14 @@ alone_canonical r solid = record {
   follow = λ i j d l j_in. absurd (omega (arith, l, j_in));
 }
 
+-- one set is a list of parts
+pub one_part : (rs : List Rect) → IsCanonical rs → AreRectsWithin farthest rs → AreParts (rs ∷ [])
+one_part rs canonical within = record {
+  apart = λ i j d l j_in. absurd (omega (arith, l, j_in));
+  canonical = λ k d l. (let z : k ≡ 0 = omega (arith, l) in subst (λ m. IsCanonical (get_or (rs ∷ []) m d)) (sym z) canonical);
+  within = λ k d l. (let z : k ≡ 0 = omega (arith, l) in subst (λ m. AreRectsWithin farthest (get_or (rs ∷ []) m d)) (sym z) within);
+}
+
 pub alone_parts : (rs : List Rect) → IsCanonical rs → AreRectsWithin farthest rs → AreParts (each_alone rs)
 alone_parts rs canonical within =
     let many : length (each_alone rs) ≡ length rs = length-map rs alone in

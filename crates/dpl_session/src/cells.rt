@@ -36,6 +36,8 @@ fn corner_added(alloc: Global, layer: &Slabs) -> Result<Parts, AllocError>
         },
     )?;
     let all = layer.union(alloc, &first)?;
+    // What is known of a set is known once it is looked at.
+    let _ = all.rects();
     let mut sets = Vec::new(alloc);
     sets.push(all)?;
     Ok(Parts::of(sets))

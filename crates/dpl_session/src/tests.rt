@@ -18,7 +18,7 @@ const SPACING: Spacing = Spacing {
     corner: 30,
 };
 
-/// Edits, one after the other: whether squares are added or taken away, the rectangle's left column, lowest row, right column and highest row, and whether the conflicts then have an odd cycle.
+/// Edits, one after the other: whether squares are added or taken away, the rectangle's left, lower, right and upper edge, and whether the conflicts then have an odd cycle.
 const EDITS: [(bool, i32, i32, i32, i32, bool); 8] = [
     (true, 0, 0, 10, 10, false),
     (true, 20, 0, 30, 10, false),

@@ -1,6 +1,7 @@
 pub mod Cells
 pub mod Loops
 pub mod Parts
+pub mod Rects
 pub mod Strips
 pub mod Rows
 pub mod Slices

@@ -8,6 +8,7 @@ mod gaps;
 mod joint;
 mod loops;
 mod parts;
+mod rects;
 mod row;
 mod scattered;
 mod slabs;

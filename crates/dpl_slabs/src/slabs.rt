@@ -10,20 +10,19 @@ ghost use Rattle.dpl_slabs.specs.Scattered.{AreScattered, AreUntouched};
 
 use crate::joint::combine_by_rows;
 use crate::loops::add_loops;
+use crate::rects::Rects;
 use crate::scattered::slabs_of_all;
 use crate::slices::slabs_left;
 use crate::strips::{slabs_by_rows, slabs_of_rects};
 use dpl_base::{Loop, Pt, Rect, all_transposed};
 use dpl_sweep::{Rule, sort_by_corner};
-use smallvec::SmallVec;
 use std::alloc::{AllocError, Global};
 use std::marker::Model;
 
-/// A set of squares. A contract sees its canonical slabs. A set that `Slabs::one` began takes no memory of its own up to two
-/// rectangles.
+/// A set of squares. A contract sees its canonical slabs. A set that `Slabs::one` made takes no memory of its own.
 #[derive(Drop)]
 pub struct Slabs {
-    rects: SmallVec<Rect, 2>,
+    rects: Rects,
 }
 
 impl Model for Slabs {
@@ -32,12 +31,14 @@ impl Model for Slabs {
 
     ghost Value = { List Rect };
 
-    ghost view = { λ s. s.rects.items };
+    ghost use Rattle.dpl_slabs.specs.Rects.{rects_in};
+
+    ghost view = { λ s. rects_in s.rects };
 
     ghost use Rattle.dpl_spec_split.specs.Slabs.{IsCanonical};
     ghost use Rattle.dpl_spec_split.specs.Loops.{farthest, AreRectsWithin};
 
-    ghost invariant = { λ s. IsCanonical s.rects.items × AreRectsWithin farthest s.rects.items };
+    ghost invariant = { λ s. IsCanonical (rects_in s.rects) × AreRectsWithin farthest (rects_in s.rects) };
 }
 
 /// Whether the rectangle has the square.
@@ -71,8 +72,9 @@ impl Clone for Slabs {
     ghost is_clone = { λ set copy. copy ≡ set };
 
     fn clone(&self) -> Result<Slabs, AllocError> {
-        let rects = SmallVec::from_slice(*self.rects.allocator(), self.rects())?;
-        Ok(Slabs { rects })
+        Ok(Slabs {
+            rects: self.rects.copied()?,
+        })
     }
 }
 
@@ -91,7 +93,7 @@ impl Slabs {
         ensures { result ≡ [] }
     {
         Slabs {
-            rects: SmallVec::new(alloc),
+            rects: Rects::Many(Vec::new(alloc)),
         }
     }
 
@@ -157,6 +159,14 @@ impl Slabs {
         Ok(Slabs::of_canonical(slabs))
     }
 
+    /// The squares of loops, in any order, that may overlap, each by the signed sum over its upright edges.
+    pub fn of_loops(alloc: Global, loops: Vec<Loop>) -> Result<Slabs, AllocError>
+        requires { AreLoopsWithin farthest loops.items }
+        ensures { IfOk result (λ s. AreSlabsOf (SomeLoopCovers loops.items) s) }
+    {
+        Slabs::of_shapes(alloc, Vec::new(alloc), loops)
+    }
+
     /// The set of these canonical slabs, without taking memory.
     pub fn of_canonical(rects: Vec<Rect>) -> Slabs
         requires canonical { IsCanonical rects.items }
@@ -164,7 +174,7 @@ impl Slabs {
         ensures { result ≡ rects.items }
     {
         Slabs {
-            rects: SmallVec::from_vec(rects),
+            rects: Rects::Many(rects),
         }
     }
 
@@ -194,9 +204,9 @@ impl Slabs {
         requires within { IsRectWithin farthest r }
         ensures { IfOk result (λ s. s ≡ r ∷ []) }
     {
-        let mut rects = SmallVec::new(alloc);
-        rects.push(r)?;
-        Ok(Slabs { rects })
+        Ok(Slabs {
+            rects: Rects::One(r, alloc),
+        })
     }
 
     /// Adds a rectangle that comes after all slabs of the set.

@@ -2,41 +2,42 @@
 use Rattle.std.proofs.Common.{◌≡◌, ℕ, ◌+◌, ◌≤◌, ◌<◌, ◌⊎◌, inl, inr, List, [], length, get_or, set, take, refl, sym, ap, ◌∙◌, subst, arith}
 use Rattle.std.specs.Prelude.{◌↔◌, ℤ, ◌≤ℤ◌, ◌<ℤ◌}
 use Rattle.std.specs.Int.{int_max}
-use Rattle.std.specs.List.{All, Contains}
+use Rattle.std.specs.List.{Contains}
 use Rattle.std.proofs.lemmas.Bool.{cases_eq, cases_order}
 use Rattle.std.proofs.lemmas.Int.{ints, by_lt_z}
 use Rattle.std.proofs.lemmas.List.{get_or_default, get_or-set_same, get_or-set_other, length-set, take_all}
-use Rattle.std.proofs.lemmas.List.Elements.{All-contains}
 use Rattle.dpl_spec_split.specs.declared.Pt.{Pt}
 use Rattle.dpl_spec_split.specs.declared.Rect.{Rect}
-use Rattle.dpl_spec_split.specs.Squares.{Has, Covers, SameSquares}
-use Rattle.dpl_spec_split.specs.Slabs.{AreSlabsOf, IsSolid, ShareRow, StandApart}
+use Rattle.dpl_spec_split.specs.Squares.{Has, Covers}
+use Rattle.dpl_spec_split.specs.Slabs.{AreSlabsOf, IsSolid}
 use Rattle.dpl_spec_split.proofs.SlabLaws.{Covers-member, member-Covers}
 use Rattle.dpl_sweep.specs.Active.{FillBand, IsAcross, LeftsRise}
 use Rattle.dpl_sweep.specs.Joins.{taller}
 use Rattle.dpl_sweep.specs.Orders.{CornersRise}
-use Rattle.dpl_sweep.specs.Pieces.{AreApart, Continues, EndBefore, Puts}
-use Rattle.dpl_sweep.specs.Upward.{bar_in, ArePassed, ArePutUpTo, AreSweptTo, EndBelow, IsCutUpTo, IsWidened, Left, PutsBand, PutsColumns, PutsWithout}
-use Rattle.dpl_sweep.proofs.ActiveLaws.{nothing, covers-nothing, covers-step, first-lowest}
-use Rattle.dpl_sweep.proofs.PieceLaws.{share-taller}
+use Rattle.dpl_sweep.specs.Pieces.{Continues}
+use Rattle.dpl_sweep.specs.Fronts.{piece_at, Adds, AreUpTo, IsPutAt}
+use Rattle.dpl_sweep.specs.Upward.{bar_in, columns_of, AddsBand, AddsWithout, ArePassed, ArePutUpTo, AreSweptTo, IsCutUpTo, IsWidened, Left}
+use Rattle.dpl_sweep.proofs.ActiveLaws.{covers-nothing, covers-step, first-lowest}
+use Rattle.dpl_sweep.proofs.FrontLaws.{zero}
+use Rattle.dpl_sweep.proofs.PieceLaws.{Puts-push}
 
 -- a piece anywhere in the list, made taller
 module _ (old : List Rect) (n : ℕ) (slab piece : Rect) (n_in : n < length old) (slab_is : slab ≡ get_or old n slab) (c : Continues slab piece) where
   abbrev top : Rect
   top = taller slab piece.y1
 
-  abbrev new : List Rect
-  new = set old n (taller slab piece.y1)
+  abbrev grown : List Rect
+  grown = set old n (taller slab piece.y1)
 
   slab_at : (d : Rect) → get_or old n d ≡ slab
   slab_at d = get_or_default old n d slab n_in ∙ sym slab_is
 
-  len : length new ≡ length old
+  len : length grown ≡ length old
   len = length-set old n top
 
-  at : (k : ℕ) (d : Rect) → ((k ≡ n) × (get_or new k d ≡ top)) ⊎ ((k ≡ n → ⊥) × (get_or new k d ≡ get_or old k d))
+  at : (k : ℕ) (d : Rect) → ((k ≡ n) × (get_or grown k d ≡ top)) ⊎ ((k ≡ n → ⊥) × (get_or grown k d ≡ get_or old k d))
   at k d = elim (cases_eq k n) [
-    | inl e ↦ inl (e, ap (λ i. get_or new i d) e ∙ get_or-set_same old n top d n_in)
+    | inl e ↦ inl (e, ap (λ i. get_or grown i d) e ∙ get_or-set_same old n top d n_in)
     | inr ne ↦ inr (ne, get_or-set_other old n k top d ne)
   ]
 
@@ -57,20 +58,14 @@ module _ (old : List Rect) (n : ℕ) (slab piece : Rect) (n_in : n < length old)
         ],
       )
 
-  top_in : Contains new top
+  top_in : Contains grown top
   top_in = (n, omega (arith, len, n_in), get_or-set_same old n top top n_in)
 
-  apart-top : (a : Rect) → IsSolid a → (ShareRow a slab → StandApart a slab) → (ShareRow a piece → a.x1 <ℤ piece.x0) → ShareRow a top → StandApart a top
-  apart-top a s f g share = elim (share-taller a slab piece s c.on share) [
-    | inl h ↦ f h
-    | inr h ↦ inl (let l = g h in let left = c.on.left in omega (arith, ints, l, left))
-  ]
-
-  pub Puts-grown : Puts old (set old n (taller slab piece.y1)) piece
-  Puts-grown =
+  pub adds-grown : Adds piece old (set old n (taller slab piece.y1))
+  adds-grown =
       record {
         covers = λ p. (
-          (λ h. let (r, (k, k_in, r_is), has) = member-Covers new p h in
+          (λ h. let (r, (k, k_in, r_is), has) = member-Covers grown p h in
               elim (at k r) [
                 | inl e ↦ elim ((has-top p).0 (subst (λ t. Has t p) (sym r_is ∙ e.1) has)) [
                   | inl s ↦ inl (Covers-member old slab p (n, n_in, sym slab_is) s)
@@ -81,78 +76,19 @@ module _ (old : List Rect) (n : ℕ) (slab piece : Rect) (n_in : n < length old)
           λ h. elim h [
             | inl o ↦ (let (r, (k, k_in, r_is), has) = member-Covers old p o in
                 elim (at k r) [
-                  | inl e ↦ Covers-member new top p top_in ((has-top p).1 (inl (subst (λ t. Has t p) (sym r_is ∙ (ap (λ i. get_or old i r) e.0 ∙ slab_at r)) has)))
-                  | inr e ↦ Covers-member new r p (k, omega (arith, len, k_in), e.1 ∙ r_is) has
+                  | inl e ↦ Covers-member grown top p top_in ((has-top p).1 (inl (subst (λ t. Has t p) (sym r_is ∙ (ap (λ i. get_or old i r) e.0 ∙ slab_at r)) has)))
+                  | inr e ↦ Covers-member grown r p (k, omega (arith, len, k_in), e.1 ∙ r_is) has
                 ])
-            | inr has ↦ Covers-member new top p top_in ((has-top p).1 (inr has))
+            | inr has ↦ Covers-member grown top p top_in ((has-top p).1 (inr has))
           ],
         );
-        ends = λ y x before here r (k, k_in, r_is). elim (at k r) [
-          | inl e ↦ subst (λ t. let u : Rect = t in u.y0 ≤ℤ y → y <ℤ u.y1 → u.x1 <ℤ x) (sym e.1 ∙ r_is)
-              (λ l h. by_lt_z y slab.y1 (λ m. before slab (n, n_in, sym slab_is) l m)
-              (λ m. (let row = c.on.row in let right = c.on.right in let f = here (omega (arith, ints, m, row)) h in omega (arith, ints, f, right))))
-          | inr e ↦ before r (k, omega (arith, len, k_in), sym e.1 ∙ r_is)
-        ];
-        apart = λ solid left before. record {
-          solid = λ k d k_in. elim (at k d) [
-            | inl e ↦ subst IsSolid (sym e.1) (let s : IsSolid slab = All-contains IsSolid old slab before.solid (n, n_in, sym slab_is) in
-                let row = c.on.row in let low = c.low in let high = c.high in record { wide = s.wide; tall = omega (arith, ints, row, low, high) })
-            | inr e ↦ subst IsSolid (sym e.1) (before.solid k d (omega (arith, len, k_in)))
-          ];
-          apart = λ i j d l j_in. elim (at i d) [
-            | inl e ↦ elim (at j d) [
-              | inl f ↦ absurd (let a = e.0 in let b = f.0 in omega (arith, a, b, l))
-              | inr f ↦ (let b : Rect = get_or old j d in
-                  let b_in : Contains old b = (j, omega (arith, len, j_in), get_or_default old j b d (omega (arith, len, j_in))) in
-                  let pair = before.apart n j d (let a = e.0 in omega (arith, a, l)) (omega (arith, len, j_in)) in
-                  let own = rw (slab_at d) at pair in
-                  rw (e.1, f.1) (λ share. flip-apart b top (apart-top b (All-contains IsSolid old b before.solid b_in)
-                  (λ h. flip-apart slab b (own (h.1, h.0))) (λ h. left b b_in h) (share.1, share.0))))
-            ]
-            | inr e ↦ elim (at j d) [
-              | inl f ↦ (let a : Rect = get_or old i d in
-                  let i_in : i < length old = omega (arith, len, j_in, l) in
-                  let a_in : Contains old a = (i, i_in, get_or_default old i a d i_in) in
-                  let pair = before.apart i n d (let b = f.0 in omega (arith, b, l)) n_in in
-                  let own = rw (slab_at d) at pair in
-                  rw (e.1, f.1) (apart-top a (All-contains IsSolid old a before.solid a_in) own (λ h. left a a_in h)))
-              | inr f ↦ rw (e.1, f.1) (before.apart i j d l (omega (arith, len, j_in)))
-            ]
-          ];
-        };
       }
-    where
-      flip-apart : (a b : Rect) → StandApart a b → StandApart b a
-      flip-apart a b (inl l) = inr l
-      flip-apart a b (inr l) = inl l
 
--- the bar stands apart from all pieces that share a row with it
-bar-apart : (pieces : List Rect) (bar : Rect) → IsSolid bar → All IsSolid pieces → ((y : ℤ) → bar.y0 ≤ℤ y → y <ℤ bar.y1 → EndBefore pieces y bar.x0)
-    → (r : Rect) → Contains pieces r → ShareRow r bar → r.x1 <ℤ bar.x0
-bar-apart pieces bar s solids ends r r_in (l, m) =
-    let t : IsSolid r = All-contains IsSolid pieces r solids r_in in
-    let tall = t.tall in
-    let bar_tall = s.tall in
-    by_lt_z r.y0 bar.y0 (λ k. ends bar.y0 (omega (arith, ints)) bar_tall r r_in (omega (arith, ints, k)) m)
-    (λ k. ends r.y0 k l r r_in (omega (arith, ints)) tall)
-
--- no columns of the bar
-pub columns-none : (bar : Rect) (from to : ℤ) (old : List Rect) → to ≤ℤ from → PutsColumns bar from to old old
-columns-none bar from to old l = record {
-  covers = λ p. (λ h. inl h, λ h. elim h [ inl o ↦ o | inr has ↦ absurd (let a = has.left in let b = has.right in omega (arith, ints, a, b, l)) ]);
-  ends = λ y x before f. before;
-  apart = λ tall before apart. apart;
-}
-
-pub columns-put : (bar : Rect) (from to : ℤ) (old new : List Rect) → from <ℤ to → Puts old new (record { x0 = from; y0 = bar.y0; x1 = to; y1 = bar.y1 }) → PutsColumns bar from to old new
-columns-put bar from to old new l put = record {
-  covers = put.covers;
-  ends = λ y x before f. put.ends y x before (λ a b. f a b l);
-  apart = λ tall before apart.
-      (let columns : Rect = record { x0 = from; y0 = bar.y0; x1 = to; y1 = bar.y1 } in
-      let solid : IsSolid columns = record { wide = l; tall = tall } in
-      put.apart solid (bar-apart old columns solid apart.solid before) apart);
-}
+pub adds-put : (bar : Rect) (sought n : ℕ) (old new : List Rect) → IsPutAt bar sought n old new → Adds bar old new
+adds-put bar sought n old new put = elim put [
+  | inl (n_is, g) ↦ subst (λ xs. Adds bar old xs) (sym g.grown) (adds-grown old n (piece_at old n) bar g.within (get_or_default old n zero (piece_at old n) g.within) g.on)
+  | inr a ↦ subst (λ xs. Adds bar old xs) (sym a.added) (record { covers = (Puts-push old bar).covers })
+]
 
 -- no gap lies between those passed and those ahead
 free : (gaps : List Rect) (n : ℕ) (x to : ℤ) → ((k : ℕ) (d : Rect) → k < n → (get_or gaps k d).x1 ≤ℤ x)
@@ -183,9 +119,8 @@ pub passed-none : (bar : Rect) (gaps : List Rect) → ArePassed bar gaps bar.x0 
 passed-none bar gaps = record { within = omega arith; ends = λ k d k_in. absurd (omega (arith, k_in)); taken = λ p l m n o. absurd (omega (arith, ints, n, o)) }
 
 -- without gaps
-pub puts-whole : (bar : Rect) (gaps old new : List Rect) → IsSolid bar → length gaps ≤ 0 → ((y : ℤ) → bar.y0 ≤ℤ y → y <ℤ bar.y1 → EndBefore old y bar.x0) → AreApart old
-    → Puts old new bar → PutsWithout bar gaps old new
-puts-whole bar gaps old new solid none before apart put = record {
+pub adds-whole : (bar : Rect) (gaps old new : List Rect) → length gaps ≤ 0 → Adds bar old new → AddsWithout bar gaps old new
+adds-whole bar gaps old new none put = record {
   covers = λ p. (
     (λ h. elim ((put.covers p).0 h) [
       | inl o ↦ inl o
@@ -193,15 +128,12 @@ puts-whole bar gaps old new solid none before apart put = record {
     ]),
     λ h. elim h [ inl o ↦ (put.covers p).1 (inl o) | inr (has, not) ↦ (put.covers p).1 (inr has) ],
   );
-  ends = put.ends;
-  apart = put.apart solid (bar-apart old bar solid apart.solid before) apart;
 }
 
 module _ (bar : Rect) (gaps : List Rect) (solid : IsSolid bar) where
-  pub cut-first : (count : ℕ) (reach x : ℤ) (old : List Rect) → ArePassed bar gaps bar.x0 count reach
-      → ((y : ℤ) → bar.y0 ≤ℤ y → y <ℤ bar.y1 → EndBefore old y bar.x0) → AreApart old → bar.x0 ≤ℤ x → reach ≤ℤ x → (x ≡ bar.x0) ⊎ (x ≡ reach)
+  pub cut-first : (count : ℕ) (reach x : ℤ) (old : List Rect) → ArePassed bar gaps bar.x0 count reach → bar.x0 ≤ℤ x → reach ≤ℤ x → (x ≡ bar.x0) ⊎ (x ≡ reach)
       → IsCutUpTo bar gaps count x old old
-  cut-first count reach x old passed before apart from past known = record {
+  cut-first count reach x old passed from past known = record {
     covers = λ p. (
       λ h. inl h,
       λ h. elim h [
@@ -212,9 +144,6 @@ module _ (bar : Rect) (gaps : List Rect) (solid : IsSolid bar) where
         ])
       ],
     );
-    ends = λ y z e f. e;
-    before = λ y l m r r_in a b. (let e = before y l m r r_in a b in omega (arith, ints, e, from));
-    apart = apart;
     from = from;
     passed = record {
       within = passed.within;
@@ -242,7 +171,7 @@ module _ (bar : Rect) (gaps : List Rect) (solid : IsSolid bar) where
       none : (p : Pt) → x ≤ℤ p.x → p.x <ℤ gap.x0 → Covers gaps p → ⊥
       none = free gaps n x gap.x0 s.passed.ends (λ k d l k_in. subst (λ t. t.x0 ≤ℤ (get_or gaps k d).x0) (here d) (rise n k d l k_in))
 
-      pub cut-next : (next : ℤ) (new : List Rect) → PutsColumns bar x gap.x0 mid new → x ≤ℤ next → gap.x1 ≤ℤ next → (next ≡ x) ⊎ (next ≡ gap.x1)
+      pub cut-next : (next : ℤ) (new : List Rect) → Adds (columns_of bar x gap.x0) mid new → x ≤ℤ next → gap.x1 ≤ℤ next → (next ≡ x) ⊎ (next ≡ gap.x1)
           → IsCutUpTo bar gaps (n + 1) next old new
       cut-next next new put over past known =
           let wide = own.wide in
@@ -269,9 +198,6 @@ module _ (bar : Rect) (gaps : List Rect) (solid : IsSolid bar) where
                     ])))
               ],
             );
-            ends = λ y z e f. put.ends y z (s.ends y z e f) (λ a b c. (let g = f a b in omega (arith, ints, g, left)));
-            before = λ y l m. put.ends y next (λ r r_in a b. (let e = s.before y l m r r_in a b in omega (arith, ints, e, over))) (λ a b c. omega (arith, ints, wide, past));
-            apart = put.apart solid.tall s.before s.apart;
             from = omega (arith, ints, from, over);
             passed = record {
               within = omega (arith, n_in);
@@ -286,7 +212,7 @@ module _ (bar : Rect) (gaps : List Rect) (solid : IsSolid bar) where
             };
           }
 
-    pub cut-last : (new : List Rect) → ((k : ℕ) (d : Rect) → n ≤ k → k < length gaps → bar.x1 ≤ℤ (get_or gaps k d).x0) → PutsColumns bar x bar.x1 mid new → PutsWithout bar gaps old new
+    pub cut-last : (new : List Rect) → ((k : ℕ) (d : Rect) → n ≤ k → k < length gaps → bar.x1 ≤ℤ (get_or gaps k d).x0) → Adds (columns_of bar x bar.x1) mid new → AddsWithout bar gaps old new
     cut-last new ahead put =
         let from = s.from in
         record {
@@ -305,17 +231,13 @@ module _ (bar : Rect) (gaps : List Rect) (solid : IsSolid bar) where
                   (λ k. (put.covers p).1 (inr (record { left = k; right = has.right; low = has.low; high = has.high })))
             ],
           );
-          ends = λ y z e f. put.ends y z (s.ends y z e f) (λ a b c. f a b);
-          apart = put.apart solid.tall s.before s.apart;
         }
 
 module _ (low high : ℤ) (active gaps : List Rect) (order : low <ℤ high) where
-  pub put-none : (old : List Rect) → active ≡ [] → EndBelow low old → AreApart old → PutsBand low high active gaps old old
-  put-none old none above apart =
+  pub put-none : (old : List Rect) → active ≡ [] → AddsBand low high active gaps old old
+  put-none old none =
       record {
         covers = λ p. (λ h. inl h, λ h. elim h [ inl o ↦ o | inr (l, m, (t, not)) ↦ covers-nothing p (subst (λ xs. Covers xs p) none t) ]);
-        above = λ y x l. above y x (omega (arith, ints, l, order));
-        apart = apart;
       }
 
   module _ (rise : LeftsRise active) (across : (r : Rect) → Contains active r → IsAcross low high r) where
@@ -339,9 +261,8 @@ module _ (low high : ℤ) (active gaps : List Rect) (order : low <ℤ high) wher
     right-of : (n : ℕ) (r : Rect) → n < length active → r ≡ get_or active n r → (k : ℕ) (d : Rect) → n ≤ k → k < length active → r.x0 ≤ℤ (get_or active k d).x0
     right-of n r n_in r_is k d l k_in = rw (get_or_default active n d r n_in ∙ sym r_is) at (rise n k d l k_in)
 
-    pub put-first : (old : List Rect) (r : Rect) → 0 < length active → r ≡ get_or active 0 r → EndBelow low old → AreApart old
-        → ArePutUpTo low high active gaps 1 old old (bar_in low high r)
-    put-first old r some r_is above apart =
+    pub put-first : (old : List Rect) (r : Rect) → 0 < length active → r ≡ get_or active 0 r → ArePutUpTo low high active gaps 1 old old (bar_in low high r)
+    put-first old r some r_is =
         let a = across r (0, some, sym r_is) in
         record {
           wide = a.wide;
@@ -357,9 +278,6 @@ module _ (low high : ℤ) (active gaps : List Rect) (order : low <ℤ high) wher
               | inr (l, m, (t, not)) ↦ inr ((has-bar r p a).1 (l, m, elim ((covers-step active 0 r some r_is p).0 t) [ inl none ↦ covers-nothing p none | inr own-bar ↦ own-bar ]), not)
             ],
           );
-          ends = λ y l m. above y r.x0 l;
-          above = λ y x l. above y x (omega (arith, ints, l, order));
-          apart = apart;
           left = λ k d l k_in. right-of 0 r some r_is k d (omega (arith, l)) k_in;
         }
 
@@ -367,17 +285,11 @@ module _ (low high : ℤ) (active gaps : List Rect) (order : low <ℤ high) wher
       pub bar_solid : IsSolid bar
       bar_solid = let f = s.first in let g = s.last in record { wide = s.wide; tall = omega (arith, ints, f, g, order) }
 
-      pub bar-ends : (y : ℤ) → bar.y0 ≤ℤ y → y <ℤ bar.y1 → EndBefore mid y bar.x0
-      bar-ends y l m = let f = s.first in let g = s.last in s.ends y (omega (arith, ints, l, f)) (omega (arith, ints, m, g))
-
       pub bar-across : ((r : Rect) → Contains gaps r → IsAcross low high r) → (r : Rect) → Contains gaps r → IsAcross bar.y0 bar.y1 r
       bar-across f r r_in = let a = f r r_in in let from = a.from in let to = a.to in let first = s.first in let last = s.last in
           record { wide = a.wide; from = omega (arith, ints, from, first); to = omega (arith, ints, to, last) }
 
-      above-now : (new : List Rect) → PutsWithout bar gaps mid new → EndBelow high new
-      above-now new put y x l = put.ends y x (s.above y x l) (λ a b. absurd (let g = s.last in omega (arith, ints, b, g, l)))
-
-      pub put-all : (new : List Rect) → length active ≤ n → PutsWithout bar gaps mid new → PutsBand low high active gaps old new
+      pub put-all : (new : List Rect) → length active ≤ n → AddsWithout bar gaps mid new → AddsBand low high active gaps old new
       put-all new all put =
           let whole : take n active ≡ active = take_all n active all in
           record {
@@ -385,8 +297,6 @@ module _ (low high : ℤ) (active gaps : List Rect) (order : low <ℤ high) wher
               (λ h. subst (λ xs. Covers old p ⊎ ((low ≤ℤ p.y) × (p.y <ℤ high) × Left xs gaps p)) whole ((s.covers p).0 ((put.covers p).0 h))),
               λ h. (put.covers p).1 ((s.covers p).1 (subst (λ xs. Covers old p ⊎ ((low ≤ℤ p.y) × (p.y <ℤ high) × Left xs gaps p)) (sym whole) h)),
             );
-            above = above-now new put;
-            apart = put.apart;
           }
 
       module _ (r : Rect) (n_in : n < length active) (r_is : r ≡ get_or active n r) where
@@ -410,9 +320,8 @@ module _ (low high : ℤ) (active gaps : List Rect) (order : low <ℤ high) wher
           ],
         )
 
-        pub put-next : (new : List Rect) → PutsWithout bar gaps mid new → bar.x1 <ℤ r.x0 → ArePutUpTo low high active gaps (n + 1) old new (bar_in low high r)
-        put-next new put right =
-            let wide = s.wide in
+        pub put-next : (new : List Rect) → AddsWithout bar gaps mid new → ArePutUpTo low high active gaps (n + 1) old new (bar_in low high r)
+        put-next new put =
             record {
               wide = own-bar.wide;
               first = refl;
@@ -421,9 +330,6 @@ module _ (low high : ℤ) (active gaps : List Rect) (order : low <ℤ high) wher
                 (λ h. elim h [ inl c ↦ inl ((put.covers p).0 c) | inr (has, not) ↦ (let (l, m, k) = (has-bar r p own-bar).0 has in inr (l, m, k, not)) ]),
                 λ h. elim h [ inl c ↦ inl ((put.covers p).1 c) | inr (l, m, has, not) ↦ inr ((has-bar r p own-bar).1 (l, m, has), not) ],
               ));
-              ends = λ y l m. put.ends y r.x0 (λ q q_in a b. (let e = s.ends y l m q q_in a b in omega (arith, ints, e, wide, right))) (λ a b. right);
-              above = above-now new put;
-              apart = put.apart;
               left = λ k d l k_in. right-of n r n_in r_is k d (omega (arith, l)) k_in;
             }
 
@@ -480,52 +386,45 @@ module _ (low high : ℤ) (active gaps : List Rect) (order : low <ℤ high) wher
                       ))
                 ],
               ));
-              ends = λ y l m. rw left (s.ends y l m);
-              above = s.above;
-              apart = s.apart;
               left = λ k d l k_in. (let a = s.left k d (omega (arith, l)) k_in in omega (arith, ints, a, left));
             }
 
-no-row : (row : ℤ) (pieces : List Rect) (p : Pt) → EndBelow row pieces → row ≤ℤ p.y → Covers pieces p → ⊥
-no-row row pieces p above l c =
-    let (r, r_in, has) = member-Covers pieces p c in
-    let h = above p.y r.x1 l r r_in has.low has.high in
-    omega (arith, ints, h)
+-- pieces up to the row have no squares above it
+no-row : (row : ℤ) (pieces : List Rect) (here : List ℕ) (p : Pt) → AreUpTo row pieces here → row ≤ℤ p.y → Covers pieces p → ⊥
+no-row row pieces here p u l c =
+    let (r, (k, k_in, r_is), has) = member-Covers pieces p c in
+    let e = subst (λ t. let a : Rect = t in a.y1 ≤ℤ row) (get_or_default pieces k zero r k_in ∙ r_is) (u.ends k k_in) in
+    let h = has.high in
+    omega (arith, ints, h, e, l)
 
 pub swept-first : (rects holes : List Rect) (first : Rect) → 0 < length rects → first ≡ get_or rects 0 first → CornersRise rects → AreSweptTo first.y0 rects holes []
-swept-first rects holes first some first_is rise =
-    record {
-      covers = λ p l. (
-        λ c. covers-nothing p c,
-        λ (c, not). (let (r, r_in, has) = member-Covers rects p c in
-            let a = first-lowest rects first r some first_is rise r_in in let b = has.low in absurd (omega (arith, ints, a, b, l))),
-      );
-      above = λ y x l r r_in. nothing r r_in;
-      apart = record { solid = λ k d k_in. absurd (omega (arith, k_in)); apart = λ i j d l j_in. absurd (omega (arith, j_in)) };
-    }
+swept-first rects holes first some first_is rise p l = (
+  λ c. covers-nothing p c,
+  λ (c, not). (let (r, r_in, has) = member-Covers rects p c in
+      let a = first-lowest rects first r some first_is rise r_in in let b = has.low in absurd (omega (arith, ints, a, b, l))),
+)
 
-module _ (row : ℤ) (rects holes pieces : List Rect) (s : AreSweptTo row rects holes pieces) where
-  pub swept-all : (top : ℤ) → top ≤ℤ row → ((r : Rect) → Contains rects r → r.y1 ≤ℤ top) → SameSquares (Covers pieces) (Left rects holes)
-  swept-all top l ends p = by_lt_z p.y row (λ below. s.covers p below) (λ m. (
-    λ c. absurd (no-row row pieces p s.above m c),
-    λ (c, not). (let (r, r_in, has) = member-Covers rects p c in let e = ends r r_in in let h = has.high in absurd (omega (arith, ints, e, h, m, l))),
-  ))
+module _ (row : ℤ) (rects holes pieces : List Rect) (here : List ℕ) (s : AreSweptTo row rects holes pieces) (u : AreUpTo row pieces here) where
+  pub swept-all : (top : ℤ) → top ≤ℤ row → ((r : Rect) → Contains rects r → r.y1 ≤ℤ top) → AreSlabsOf (Left rects holes) pieces
+  swept-all top l ends = record {
+    canonical = u.canonical;
+    covers = λ p. by_lt_z p.y row (λ below. s p below) (λ m. (
+      λ c. absurd (no-row row pieces here p u m c),
+      λ (c, not). (let (r, r_in, has) = member-Covers rects p c in let e = ends r r_in in let h = has.high in absurd (omega (arith, ints, e, h, m, l))),
+    ));
+  }
 
   pub swept-next : (high : ℤ) (active gaps new : List Rect) → FillBand row high rects active → FillBand row high holes gaps
-      → PutsBand row high active gaps pieces new → AreSweptTo high rects holes new
-  swept-next high active gaps new bars f b = record {
-    covers = λ p below. (
-      (λ h. elim ((b.covers p).0 h) [
-        | inl c ↦ by_lt_z p.y row (λ l. (s.covers p l).0 c) (λ l. absurd (no-row row pieces p s.above l c))
-        | inr (l, m, (c, not)) ↦ ((bars.covers p l m).0 c, λ g. not ((f.covers p l m).1 g))
-      ]),
-      λ (c, not). by_lt_z p.y row
-          (λ l. (b.covers p).1 (inl ((s.covers p l).1 (c, not))))
-          (λ l. (b.covers p).1 (inr (l, below, ((bars.covers p l below).1 c, λ g. not ((f.covers p l below).0 g))))),
-    );
-    above = b.above;
-    apart = b.apart;
-  }
+      → AddsBand row high active gaps pieces new → AreSweptTo high rects holes new
+  swept-next high active gaps new bars f b p below = (
+    (λ h. elim ((b.covers p).0 h) [
+      | inl c ↦ by_lt_z p.y row (λ l. (s p l).0 c) (λ l. absurd (no-row row pieces here p u l c))
+      | inr (l, m, (c, not)) ↦ ((bars.covers p l m).0 c, λ g. not ((f.covers p l m).1 g))
+    ]),
+    λ (c, not). by_lt_z p.y row
+        (λ l. (b.covers p).1 (inl ((s p l).1 (c, not))))
+        (λ l. (b.covers p).1 (inr (l, below, ((bars.covers p l below).1 c, λ g. not ((f.covers p l below).0 g))))),
+  )
 
 -- where there are no holes
 pub slabs-whole : (rects slabs : List Rect) → AreSlabsOf (Left rects []) slabs → AreSlabsOf (Covers rects) slabs

@@ -1,16 +1,15 @@
 //! The sweep of rectangles, less holes or none, from the lowest row up, band by band. A band is the rows between two neighbours among the rows at which rectangles or holes begin or end.
-ghost use Rattle.std.specs.Prelude.{◌≡◌, ℕ, ℤ, ◌≤◌, ◌<◌, ◌<ℤ◌, ◌≤ℤ◌, ◌↔◌, IfOk, IfSome, OnOk, IsTrue, length, slice_index_or};
+ghost use Rattle.std.specs.Prelude.{◌≡◌, ℕ, ℤ, ◌≤◌, ◌<◌, ◌<ℤ◌, ◌≤ℤ◌, ◌↔◌, IfOk, IfSome, OnOk, IsTrue, [], length, slice_index_or};
 ghost use Rattle.std.specs.List.{Contains};
 ghost use Rattle.dpl_spec_split.specs.declared.Rect.{Rect};
-ghost use Rattle.dpl_spec_split.specs.Squares.{Covers, SameSquares};
+ghost use Rattle.dpl_spec_split.specs.Squares.{Covers};
 ghost use Rattle.dpl_spec_split.specs.Slabs.{AreSlabsOf, IsSolid};
 ghost use Rattle.dpl_sweep.specs.Active.{IsAcross, LeftsRise};
 ghost use Rattle.dpl_sweep.specs.Orders.{CornersRise};
-ghost use Rattle.dpl_sweep.specs.Pieces.{AreApart, EndBefore, Puts};
-ghost use Rattle.dpl_sweep.specs.Upward.{bar_in, ArePassed, EndBelow, IsWidened, Left, PutsBand, PutsColumns, PutsWithout};
+ghost use Rattle.dpl_sweep.specs.Fronts.{Adds, ArePassedBy, AreUpTo, IsFront, IsPutAt, IsSought};
+ghost use Rattle.dpl_sweep.specs.Upward.{bar_in, columns_of, AddsBand, AddsWithout, ArePassed, IsWidened, Left};
 
 use crate::active::Active;
-use crate::join::slabs_of;
 use crate::run::continues;
 use dpl_spec_split::Rect;
 use std::alloc::{AllocError, Global};
@@ -19,7 +18,7 @@ use std::mem;
 /// How many rectangles and holes there may be in bands, each counted for each band that it is in, for each of all of them and of the pieces.
 const IN_BANDS: usize = 32;
 
-/// Pieces of the squares below a band and of some of the band's own.
+/// Pieces of the squares below a band and of some of the band's own: their canonical slabs.
 #[derive(Drop)]
 struct Front {
     pieces: Vec<Rect>,
@@ -42,7 +41,7 @@ struct Passed {
 
 /// Adds a bar, to the piece of that number where it stands on that with the same columns. Gives the number of the piece that has the bar.
 fn put_at(pieces: &mut Vec<Rect>, number: usize, bar: Rect) -> Result<usize, AllocError>
-    ensures { OnOk result (Puts pieces.old.items pieces.new.items bar) }
+    ensures { IfOk result (λ n. IsPutAt bar number n pieces.old.items pieces.new.items) }
 {
     if number < pieces.len() && continues(&pieces[number], &bar) {
         pieces[number].y1 = bar.y1;
@@ -102,13 +101,18 @@ fn count_left(gaps: &[Rect], from: usize, x: i32) -> usize
 }
 
 impl Front {
-    /// The number of a piece that has squares of the band below and begins in the column or right of it, and one that no piece has where there is none.
-    fn seek(&mut self, x: i32) -> usize
-        ensures { self.new.pieces.items ≡ self.old.pieces.items }
+    /// The number of the first piece that has squares of the band below and begins in the bar's first column or right of it, and one that no piece has where there is none.
+    fn seek(&mut self, bar: &Rect) -> usize
+        requires { IsFront bar.now.y0 bar.now.y1 bar.now.x0 self.old }
+        ensures pieces { self.new.pieces.items ≡ self.old.pieces.items }
+        ensures below { self.new.below.items ≡ self.old.below.items }
+        ensures here { self.new.here.items ≡ self.old.here.items }
+        ensures passed { ArePassedBy bar.now.x0 self.old.pieces.items self.old.below.items self.new.passed }
+        ensures sought { IsSought bar.now.x0 self.old.pieces.items self.old.below.items result }
     {
         for k in self.passed..self.below.len() {
             let number = self.below[k];
-            if number < self.pieces.len() && x <= self.pieces[number].x0 {
+            if bar.x0 <= self.pieces[number].x0 {
                 self.passed = k;
                 return number;
             }
@@ -119,9 +123,12 @@ impl Front {
 
     /// Adds a bar of the band, to the piece that it stands on where that has the same columns.
     fn put(&mut self, bar: Rect) -> Result<(), AllocError>
-        ensures { OnOk result (Puts self.old.pieces.items self.new.pieces.items bar) }
+        requires solid { IsSolid bar }
+        requires front { IsFront bar.y0 bar.y1 bar.x0 self.old }
+        ensures adds { OnOk result (Adds bar self.old.pieces.items self.new.pieces.items) }
+        ensures front { OnOk result ((x : ℤ) → bar.x1 <ℤ x → IsFront bar.y0 bar.y1 x self.new) }
     {
-        let below = self.seek(bar.x0);
+        let below = self.seek(&bar);
         let number = put_at(&mut self.pieces, below, bar)?;
         self.here.push(number)?;
         Ok(())
@@ -129,7 +136,10 @@ impl Front {
 
     /// Goes on to the next band.
     fn rise(&mut self)
-        ensures { self.new.pieces.items ≡ self.old.pieces.items }
+        ensures pieces { self.new.pieces.items ≡ self.old.pieces.items }
+        ensures below { self.new.below.items ≡ self.old.here.items }
+        ensures passed { self.new.passed ≡ 0 }
+        ensures here { self.new.here.items ≡ [] }
     {
         mem::swap(&mut self.below, &mut self.here);
         self.here.clear();
@@ -138,7 +148,10 @@ impl Front {
 
     /// Adds columns `from` to `to - 1` of a bar, where there are any.
     fn put_columns(&mut self, bar: &Rect, from: i32, to: i32) -> Result<(), AllocError>
-        ensures { OnOk result (PutsColumns bar.now from to self.old.pieces.items self.new.pieces.items) }
+        requires tall { bar.now.y0 <ℤ bar.now.y1 }
+        requires front { IsFront bar.now.y0 bar.now.y1 from self.old }
+        ensures adds { OnOk result (Adds (columns_of bar.now from to) self.old.pieces.items self.new.pieces.items) }
+        ensures front { OnOk result ((x : ℤ) → IsFront bar.now.y0 bar.now.y1 x self.old → (from <ℤ to → to <ℤ x) → IsFront bar.now.y0 bar.now.y1 x self.new) }
     {
         if to <= from {
             return Ok(());
@@ -163,10 +176,10 @@ impl Front {
         requires rise { LeftsRise gaps.now }
         requires across { (r : Rect) → Contains gaps.now r → IsAcross bar.now.y0 bar.now.y1 r }
         requires passed { ArePassed bar.now gaps.now bar.now.x0 passed.count passed.reach }
-        requires before { (y : ℤ) → bar.now.y0 ≤ℤ y → y <ℤ bar.now.y1 → EndBefore self.old.pieces.items y bar.now.x0 }
-        requires apart { AreApart self.old.pieces.items }
-        ensures puts { OnOk result (PutsWithout bar.now gaps.now self.old.pieces.items self.new.pieces.items) }
+        requires front { IsFront bar.now.y0 bar.now.y1 bar.now.x0 self.old }
+        ensures adds { OnOk result (AddsWithout bar.now gaps.now self.old.pieces.items self.new.pieces.items) }
         ensures passed { IfOk result (λ next. ArePassed bar.now gaps.now bar.now.x1 next.count next.reach) }
+        ensures front { OnOk result ((x : ℤ) → bar.now.x1 <ℤ x → IsFront bar.now.y0 bar.now.y1 x self.new) }
     {
         if gaps.is_empty() {
             self.put(*bar)?;
@@ -185,7 +198,7 @@ impl Front {
         })
     }
 
-    /// Adds the squares that gaps leave of rectangles in rows `low` to `high - 1`. All have all these rows, and both lists go by left column.
+    /// Goes on to the band of rows `low` to `high - 1`, and adds the squares that gaps leave of rectangles there. All have all these rows, and both lists go by left column.
     fn put_band(
         &mut self,
         active: &[Rect],
@@ -198,10 +211,11 @@ impl Front {
         requires across { (r : Rect) → Contains active.now r → IsAcross low high r }
         requires gaps_rise { LeftsRise gaps.now }
         requires gaps_across { (r : Rect) → Contains gaps.now r → IsAcross low high r }
-        requires above { EndBelow low self.old.pieces.items }
-        requires apart { AreApart self.old.pieces.items }
-        ensures { OnOk result (PutsBand low high active.now gaps.now self.old.pieces.items self.new.pieces.items) }
+        requires below { AreUpTo low self.old.pieces.items self.old.here.items }
+        ensures adds { OnOk result (AddsBand low high active.now gaps.now self.old.pieces.items self.new.pieces.items) }
+        ensures here { OnOk result (AreUpTo high self.new.pieces.items self.new.here.items) }
     {
+        self.rise();
         if active.is_empty() {
             return Ok(());
         }
@@ -234,7 +248,7 @@ fn top_of(rects: &[Rect]) -> i32
     top
 }
 
-/// Pieces of the squares that rectangles have and no hole has, or none where too many of both lie side by side. Both lists go by first row and may overlap.
+/// The canonical slabs of the squares that rectangles have and no hole has, with room for more, or none where too many of both lie side by side. Both lists go by first row and may overlap.
 fn pieces_upward(
     alloc: Global,
     rects: &[Rect],
@@ -242,8 +256,7 @@ fn pieces_upward(
 ) -> Result<Option<Vec<Rect>>, AllocError>
     requires rects { CornersRise rects.now }
     requires holes { CornersRise holes.now }
-    ensures apart { IfOk result (λ found. IfSome found (λ v. AreApart v.items)) }
-    ensures covers { IfOk result (λ found. IfSome found (λ v. SameSquares (Covers v.items) (Left rects.now holes.now))) }
+    ensures { IfOk result (λ found. IfSome found (λ v. AreSlabsOf (Left rects.now holes.now) v.items)) }
 {
     let mut front = Front {
         pieces: Vec::with_capacity(alloc, rects.len())?,
@@ -264,7 +277,6 @@ fn pieces_upward(
         gaps.begin(holes, low)?;
         let high = gaps.end(holes, low, bars.end(rects, low, top));
         front.put_band(&bars.rects, &gaps.rects, low, high)?;
-        front.rise();
         steps = steps
             .saturating_add(bars.rects.len())
             .saturating_add(gaps.rects.len());
@@ -288,7 +300,10 @@ pub fn slabs_upward_without(
 {
     match pieces_upward(alloc, rects, holes)? {
         None => Ok(None),
-        Some(pieces) => Ok(Some(slabs_of(pieces))),
+        Some(mut slabs) => {
+            slabs.shrink_to_fit();
+            Ok(Some(slabs))
+        }
     }
 }
 

@@ -39,7 +39,7 @@ fn slabs_of(alloc: Global, loops: &[&[Corner]]) -> Result<Slabs, AllocError> {
     for i in 0..loops.len() {
         all.push(loop_of(alloc, loops[i])?)?;
     }
-    Slabs::of_shapes(alloc, Vec::new(alloc), all)
+    Slabs::of_loops(alloc, all)
 }
 
 const LOW: [Corner; 4] = [(0, 0), (10, 0), (10, 10), (0, 10)];

@@ -1,6 +1,6 @@
 //! Worked layouts, by a rule of 30 and an overlap of 10.
 use crate::bars::{Corners, SPACING, set_of};
-use dpl_base::{FARTHEST, Zone};
+use dpl_base::{FARTHEST, Spacing, Zone};
 use dpl_feature::features;
 use dpl_slabs::Slabs;
 use dpl_zone::zones;
@@ -163,5 +163,53 @@ fn finds_the_zones_of_a_ladder(rt: HostRuntime) -> Result<(), Fail> {
     let rects = ladder(alloc)?;
     let want = zones_of_ladder(alloc)?;
     assert!(rt; has_zones(alloc, rects.as_slice(), want.as_slice())?);
+    Ok(())
+}
+
+/// How far apart the features of a layout beside a crowd stay.
+const WIDE: Spacing = Spacing {
+    rule: 300,
+    corner: 300,
+};
+
+/// The first of the worked layouts, ten times as large, and beside it a crowd of so many columns of bars, which are near one another wherever a zone could stand.
+fn beside_a_crowd(alloc: Global, columns: u8) -> Result<Vec<Corners>, AllocError> {
+    let mut rects = Vec::new(alloc);
+    for (x0, y0, x1, y1) in ROWS[0].0 {
+        rects.push((
+            x0.saturating_mul(10),
+            y0.saturating_mul(10),
+            x1.saturating_mul(10),
+            y1.saturating_mul(10),
+        ))?;
+    }
+    for column in 0..columns {
+        let left = 4_400 + 22 * column as i32;
+        for row in 0..250u8 {
+            let low = 7 * row as i32;
+            rects.push((left, low, left + 20, low + 5))?;
+        }
+    }
+    Ok(rects)
+}
+
+/// The zones of a layout beside a crowd of so many columns.
+fn zones_beside(alloc: Global, columns: u8) -> Result<Vec<Zone>, AllocError> {
+    let rects = beside_a_crowd(alloc, columns)?;
+    let set = set_of(alloc, &rects)?;
+    let parts = features(alloc, &set)?;
+    zones(alloc, &parts, WIDE, 10, &Slabs::empty(alloc))
+}
+
+/// Of a crowded layer the few items with a zone are compared with all others, of another one near items are joined.
+#[test]
+fn a_crowd_has_no_zones(rt: HostRuntime) -> Result<(), Fail> {
+    let alone = zones_beside(rt.alloc(), 0)?;
+    let crowded = zones_beside(rt.alloc(), 60)?;
+    assert_eq!(rt; alone.len(), 5);
+    assert_eq!(rt; crowded.len(), 5);
+    for (z, w) in crowded.iter().zip(alone.iter()) {
+        assert_eq!(rt; corners_of(z).0, corners_of(w).0);
+    }
     Ok(())
 }

@@ -60,6 +60,10 @@ abbrev pub Handles : List Item → Shades → ℕ → ℕ → Type 0
 Handles items t n m =
     IsDead t n ⊎ ((y : ℤ) → IsRowOf (item_at items n).rect y → IsShaded t.spacing (item_at items n).rect (item_at items m).rect y → HasShade t.found.items n y)
 
+-- what all items of other owners shade of item n is handled
+abbrev pub HandlesAll : List Item → Shades → ℕ → Type 0
+HandlesAll items t n = (m : ℕ) → m < length items → (item_at items m).owner ≢ (item_at items n).owner → Handles items t n m
+
 abbrev pub HandlesBoth : List Item → Shades → ℕ × ℕ → Type 0
 HandlesBoth items t p = Handles items t p.0 p.1 × Handles items t p.1 p.0
 

@@ -30,7 +30,7 @@ fn tree_of_zones(alloc: Global, zones: &[Zone]) -> Result<Tree, AllocError>
     Tree::of(alloc, items)
 }
 
-/// Adds a zone that touches none of the others of its feature.
+/// Adds a vertical zone that touches no horizontal one (`flat`) of its feature; for many, by a tree.
 fn add_apart(kept: &mut Vec<Zone>, flat: &View, z: &Zone) -> Result<(), AllocError>
     requires items { AreItemsWithin flat.now }
     requires zone { IsSolidWithin farthest z.now.rect }
@@ -69,7 +69,7 @@ fn touches_any(flat: &[Zone], z: &Zone) -> bool
     false
 }
 
-/// Adds a zone that touches none of the list that is of its feature.
+/// Adds a vertical zone that touches no horizontal one (`flat`) of its feature; for few, one by one.
 fn add_lone(kept: &mut Vec<Zone>, flat: &[Zone], z: &Zone) -> Result<(), AllocError>
     requires flat { All (λ z. IsSolidWithin farthest z.rect) flat.now }
     requires zone { IsSolidWithin farthest z.now.rect }

@@ -17,7 +17,7 @@ pub struct Span {
     pub to: i64,
 }
 
-/// The rows at which the slab is near another rectangle.
+/// The rows at which the slab is near another rectangle, so that no zone may stand in them.
 pub(crate) fn shadow(slab: &Rect, other: &Rect, spacing: Spacing) -> Option<Span>
     requires corner { spacing.corner ≤ spacing.rule }
     requires slab { IsSolidWithin farthest slab.now }

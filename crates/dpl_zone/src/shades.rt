@@ -11,6 +11,7 @@ ghost use Rattle.dpl_zone.specs.Owned.{AreOwnedWithin};
 ghost use Rattle.dpl_zone.specs.Rows.{AreTall, IsShadow, RiseByFrom, SomeRow};
 ghost use Rattle.dpl_zone.specs.Shading.{AreShades, Handles, HandlesBoth, HasShade, IsMore, IsSound, IsStart, IsPortion, NumbersRise};
 
+use crate::crowded::{add_alive, are_crowded, are_few, darken_all};
 use crate::rows::{Span, shadow};
 use crate::slab_zones::is_short;
 use dpl_base::{Rect, Spacing};
@@ -43,7 +44,7 @@ pub(crate) struct Portion {
 }
 
 /// Whether a shadow leaves too few rows of the slab for a zone, below it and above it.
-fn leaves_few(slab: &Rect, s: &Span, overlap: u32) -> bool
+pub(crate) fn leaves_few(slab: &Rect, s: &Span, overlap: u32) -> bool
     ensures { IsTrue result ↔ ((s.now.from <ℤ (slab.now.y0 +ℤ pos (overlap + 2))) × (slab.now.y1 <ℤ (s.now.to +ℤ pos (overlap + 2)))) }
 {
     let long = overlap as i64 + 2;
@@ -66,12 +67,12 @@ fn meets(slab: &Rect, s: &Span) -> bool
     (slab.y0 as i64) < s.to
 }
 
-/// Adds the shadow of item `m` on item `n`.
+/// Notes the rows of item `n` that are near item `m`. Where they leave too few rows for a zone, the item is `dead`: no zone stands in it.
 fn add_shadow(
     shades: &mut Shades,
     items: &[Item],
     n: u32,
-    m: u32,
+    m: usize,
     span: Span,
 ) -> Result<(), AllocError>
     requires first { n < length items.now }
@@ -96,7 +97,12 @@ fn add_shadow(
 }
 
 /// Adds what item `m` shades of item `n`.
-fn add_shade(shades: &mut Shades, items: &[Item], n: u32, m: u32) -> Result<(), AllocError>
+pub(crate) fn add_shade(
+    shades: &mut Shades,
+    items: &[Item],
+    n: u32,
+    m: usize,
+) -> Result<(), AllocError>
     requires corner { shades.old.spacing.corner ≤ shades.old.spacing.rule }
     requires within { AreOwnedWithin items.now }
     requires first { n < length items.now }
@@ -111,7 +117,7 @@ fn add_shade(shades: &mut Shades, items: &[Item], n: u32, m: u32) -> Result<(), 
         return Ok(());
     }
     let slab = items[n as usize].rect;
-    let other = items[m as usize].rect;
+    let other = items[m].rect;
     match shadow(&slab, &other, shades.spacing) {
         None => Ok(()),
         Some(span) => add_shadow(shades, items, n, m, span),
@@ -128,8 +134,8 @@ fn add_both(shades: &mut Shades, items: &[Item], pair: &Pair) -> Result<(), Allo
     ensures more { OnOk result (IsMore shades.old shades.new) }
     ensures handles { OnOk result (HandlesBoth items.now shades.new pair.now) }
 {
-    add_shade(shades, items, pair.0, pair.1)?;
-    add_shade(shades, items, pair.1, pair.0)?;
+    add_shade(shades, items, pair.0, pair.1 as usize)?;
+    add_shade(shades, items, pair.1, pair.0 as usize)?;
     Ok(())
 }
 
@@ -173,7 +179,7 @@ fn none_found(
     })
 }
 
-/// The shades of all pairs of a join, in no order. The pairs are found strip by strip, so those of one are in memory at a time.
+/// The shades of all pairs of a join, in no order. The pairs are found strip by strip, so those of one are in memory at a time; where all items of a crowded layer but a few have no zone, as is seen from few pairs, each of these few is compared with all.
 fn unsorted_shades(
     alloc: Global,
     join: &Join,
@@ -190,6 +196,13 @@ fn unsorted_shades(
 {
     let items = join.items();
     let mut shades = none_found(alloc, items, spacing, overlap)?;
+    if are_crowded(items, spacing.rule) {
+        darken_all(&mut shades, items);
+        if are_few(&shades) {
+            add_alive(&mut shades, items)?;
+            return Ok(shades);
+        }
+    }
     let count = join.strips();
     for strip in 0..count {
         let pairs = join.pairs_of_strip(alloc, strip)?;

@@ -5,11 +5,11 @@ use Rattle.dpl_edges.proofs.sorted_edges.Goals as goal
 pub returns-clause-edges : goal.returns-clause-edges
 returns-clause-edges c =
     edges-are c.args.plan.now.spacing c.args.plan.now.parts c.args.plan.now.owners c.args.cell.now c.in_ok-edges.edges.items
-    c.sort_unstable.new.self.items c.dedup.new.self.items c.in_ok-edges.ensures.edges
-    c.sort_unstable.ensures.permutation c.sort_unstable.ensures.sorted (dedup_is _ _ _ c.dedup.ensures.filtered)
+    c.sort.new.items.items c.dedup.new.self.items c.in_ok-edges.ensures.edges
+    c.sort.ensures.permutation c.sort.ensures.sorted (dedup_is _ _ _ c.dedup.ensures.filtered)
 
 pub returns-clause-below : goal.returns-clause-below
 returns-clause-below c =
     edges-below c.args.plan.now.spacing c.args.plan.now.parts c.args.plan.now.owners c.args.cell.now c.in_ok-edges.edges.items
-    c.sort_unstable.new.self.items c.dedup.new.self.items c.in_ok-edges.ensures.edges
-    c.sort_unstable.ensures.permutation c.sort_unstable.ensures.sorted (dedup_is _ _ _ c.dedup.ensures.filtered)
+    c.sort.new.items.items c.dedup.new.self.items c.in_ok-edges.ensures.edges
+    c.sort.ensures.permutation c.sort.ensures.sorted (dedup_is _ _ _ c.dedup.ensures.filtered)

@@ -1,13 +1,28 @@
 use Rattle.std.proofs.Common.{ap, arith, sym, ◌∙◌}
 use Rattle.dpl_spec_split.specs.declared.Spacing.{Spacing}
 use Rattle.dpl_zone.proofs.ShadingLaws.{strip-pairs, strips-all, strips-more, strips-none}
+use Rattle.dpl_zone.specs.Shading.{IsSound}
 use Rattle.dpl_zone.proofs.shades.unsorted_shades.Goals as goal
+use Rattle.dpl_zone.proofs.shades.unsorted_shades.Goals.{then-are_crowded+else-are_few, else-are_crowded}
 
 pub none_found-requires : goal.none_found-requires
 none_found-requires c = rw c.items-items.ensures c.requires.within
 
+pub darken_all-requires-clause-within : goal.darken_all-requires-clause-within
+darken_all-requires-clause-within c = rw c.items-items.ensures c.requires.within
+
+pub add_alive-requires-clause-within : goal.add_alive-requires-clause-within
+add_alive-requires-clause-within c = rw c.items-items.ensures c.requires.within
+
 pub loop-strip-init : goal.loop-strip-init
-loop-strip-init c = strips-none c.args.join.now c.args.spacing c.args.overlap _ c.in_ok-shades.ensures.spacing c.in_ok-shades.ensures.overlap (rw c.items-items.ensures at c.in_ok-shades.ensures.sound)
+loop-strip-init c =
+    let sound : IsSound c.args.join.now.items c.in_ok-shades.shades = rw c.items-items.ensures at c.in_ok-shades.ensures.sound in
+    elim c.if-are_crowded.branch [
+      | then-are_crowded+else-are_few w ↦ rw w.shades-is (strips-none c.args.join.now c.args.spacing c.args.overlap _
+          (w.darken_all.ensures.more.spacing ∙ c.in_ok-shades.ensures.spacing) (w.darken_all.ensures.more.overlap ∙ c.in_ok-shades.ensures.overlap)
+          (rw c.items-items.ensures at w.darken_all.ensures.sound))
+      | else-are_crowded w ↦ rw w.shades-is (strips-none c.args.join.now c.args.spacing c.args.overlap c.in_ok-shades.shades c.in_ok-shades.ensures.spacing c.in_ok-shades.ensures.overlap sound)
+    ]
 
 pub add_pairs-requires-clause-within : goal.add_pairs-requires-clause-within
 add_pairs-requires-clause-within c = rw c.items-items.ensures c.requires.within

@@ -3,4 +3,4 @@ use Rattle.dpl_slabs.proofs.SetLaws.{rects-more}
 use Rattle.dpl_slabs.proofs.slabs.Slabs.add.Goals as goal
 
 pub invariant_of-self-2 : goal.invariant_of-self-2
-invariant_of-self-2 c = rw c.in_ok-push.ensures.ok (rw (← c.self.view_is) at c.requires.canonical, rects-more farthest _ c.args.r c.self.invariant.1 c.requires.within)
+invariant_of-self-2 c = rw c.in_ok-push.ensures.pushed (rw (← c.self.view_is) at c.requires.canonical, rects-more farthest _ c.args.r c.self.invariant.1 c.requires.within)
