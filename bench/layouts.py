@@ -7,6 +7,7 @@ usage: layouts.py KIND COUNT SEED FILE
 KIND is one of
   bars     routing-like rows: bars of random length on tracks 60 units apart, gaps of 29 to 200 units
   dense    the same on tracks 40 units apart, which a rule of 30 can't split
+  routed   the same on tracks 40 units apart with gaps of 200 to 1,200 units: a stitch zone for every five bars
   upright  bars with x and y exchanged
   wires    upright wires side by side, with random ends
   through  upright wires side by side, from the lowest rows to the highest
@@ -76,7 +77,7 @@ def rect(x0, y0, x1, y1):
     return boundary([(x0, y0), (x1, y0), (x1, y1), (x0, y1), (x0, y0)])
 
 
-def bars(count, rng, pitch=60):
+def bars(count, rng, pitch=60, gaps=(29, 200)):
     per_row = max(1, int(count**0.5))
     made, row = 0, 0
     while made < count:
@@ -84,9 +85,13 @@ def bars(count, rng, pitch=60):
         for _ in range(min(per_row, count - made)):
             length = rng.randrange(60, 900)
             yield rect(x, pitch * row, x + length, pitch * row + 20)
-            x += length + rng.randrange(29, 200)
+            x += length + rng.randrange(*gaps)
             made += 1
         row += 1
+
+
+def routed(count, rng):
+    return bars(count, rng, 40, (200, 1200))
 
 
 def dense(count, rng):
@@ -263,7 +268,7 @@ def pairs(count, rng):
 
 
 KINDS = {f.__name__: f for f in (
-    bars, dense, upright, wires, through, mesh, scatter, polygons, stairs, plate,
+    bars, dense, routed, upright, wires, through, mesh, scatter, polygons, stairs, plate,
     ragged, rising, teeth, nested, stacked, flood, holes, stitched, triangles, pairs,
 )}
 TREES = {f.__name__: f for f in (chain, doubling, twisted, ring, tower)}
