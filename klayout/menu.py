@@ -190,7 +190,7 @@ def layers_of(view, cellview):
 
 
 def save_layer(cellview, index, path):
-    """Writes a layer of the shown cell as GDSII; its number and data type there."""
+    """Writes a layer of the shown cell as GDSII; its number and datatype there."""
     info = cellview.layout().get_info(index)
     number = (info.layer, info.datatype)
     if not all(0 <= n <= 65535 for n in number):

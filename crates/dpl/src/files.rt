@@ -77,7 +77,7 @@ impl<'a> FileHost<'a> {
         self.is_empty
     }
 
-    /// How many bytes of a piece were taken by a place. An error is a fault, and so is a write of nothing.
+    /// How many of these bytes a file, or standard output, took. An error is a write fault, as a full disk; so is a write that takes none of some bytes.
     fn taken(
         &mut self,
         place: &'a str,

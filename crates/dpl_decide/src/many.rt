@@ -27,7 +27,7 @@ use std::thread::Threads;
 pub struct LayersOrder<'a> {
     /// The name of the top structure, where one is named.
     pub top: Option<&'a str>,
-    /// The data type of the boundaries and paths that are taken.
+    /// The datatype of the boundaries and paths, and the box type of the boxes, that are taken.
     pub datatype: u16,
     /// The layers that are decomposed.
     pub layers: &'a [u16],

@@ -7,7 +7,7 @@ use Rattle.dpl_masks.specs.Bytes.{boundaries_bytes, closing_bytes, record_bytes}
 abbrev pub next_number : ℕ → ℕ
 next_number x = (x * 6364136223846793005 + 1442695040888963407) % 2 ^ 64
 
--- the i-th number; the first is the seed itself
+-- number i, from 0; number 0 is the seed itself, and the gap of row i is by number i + 1
 unfoldable pub number_of : ℕ → ℕ → ℕ
 number_of seed zero = seed
 number_of seed (suc i) = next_number (number_of seed i)
@@ -16,11 +16,11 @@ number_of seed (suc i) = next_number (number_of seed i)
 abbrev pub gap_by : ℕ → ℕ
 gap_by x = 100 + (x / 2 ^ 32) % 1700
 
--- the bar from column x0 up to x1, 20 high, at the bottom of a row
+-- the bar from column x0 up to but not x1, 20 high, at the bottom of a row
 abbrev pub bar : ℕ → ℕ → ℕ → Rect
 bar row x0 x1 = record { x0 = pos x0; y0 = pos (40 * row); x1 = pos x1; y1 = pos (40 * row + 20) }
 
--- a row: two bars between the columns 0 and 2000, with a gap of 100 between them
+-- a row: two bars in the columns 0 to 1999, with a gap of 100 between them
 abbrev pub row_bars : ℕ → ℕ → List Rect
 row_bars row gap = bar row 0 gap ∷ bar row (gap + 100) 2000 ∷ []
 

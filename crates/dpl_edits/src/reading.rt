@@ -82,8 +82,8 @@ impl Row for EditLine {
     }
 }
 
-/// Reads a text of at most 100,000 edits, each in a line of its own that a line feed ends: `add` or `remove`, and the left column, lowest row, right
-/// column and highest row of a rectangle, in database units. An empty text lists no edits. Fails at the first line that is no edit, or one too many.
+/// Reads a text of at most 100,000 edits, each in a line of its own that a line feed ends: `add` or `remove`, and the left, lower, right and upper edge
+/// of a rectangle, in database units (its squares are the columns x0 to x1-1 and the rows y0 to y1-1). An empty text lists no edits. Fails at the first line that is no edit, or one too many.
 pub fn read_edits(alloc: Global, bytes: &[u8]) -> Result<Vec<Edit>, EditsFault>
     // What is read is listed.
     ensures found { IfOk result (λ v. IsListed v.items bytes.now) }

@@ -42,7 +42,7 @@ pub trait Host {
         ensures others { read_faults self.new ≡ read_faults self.old }
         ensures logged { Logs (log self.old) (Create name.now) (log self.new) };
 
-    /// Appends a prefix of the piece to a file, and gives its length.
+    /// Appends a prefix of these bytes to a file, and gives its length.
     fn append(&mut self, name: &str, piece: &[u8]) -> Result<usize, Failed>
         ensures taken { IfOk result (Takes piece.now) }
         ensures there { OnOk result (IsThere (told self.old) name.now) }
@@ -51,7 +51,7 @@ pub trait Host {
         ensures others { read_faults self.new ≡ read_faults self.old }
         ensures logged { Logs (log self.old) (Append name.now) (log self.new) };
 
-    /// Says a prefix of the piece, and gives its length.
+    /// Says a prefix of these bytes, and gives its length.
     fn say(&mut self, piece: &[u8]) -> Result<usize, Failed>
         ensures taken { IfOk result (Takes piece.now) }
         ensures said { Changes result (told self.old) (told self.new) (λ n. with_said (take n piece.now)) }

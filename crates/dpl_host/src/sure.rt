@@ -40,7 +40,7 @@ impl<'a> SureHost<'a> {
         self.taken
     }
 
-    /// Counts a piece as taken whole, and gives its length.
+    /// Counts these bytes as taken, all of them, and gives how many they are.
     fn count(&mut self, piece: &[u8]) -> usize
         ensures all { result ≡ length piece.now }
         ensures counted { self.new.taken ≡ counted self.old.taken (length piece.now) }

@@ -14,11 +14,11 @@ use Rattle.dpl_masks.specs.Bytes.{corners, point_bytes, file_bytes}
 use Rattle.dpl_layer.specs.Reading.{IsReading, Layer, frame_bytes, limit}
 use Rattle.dpl_run.specs.Check.{mask_choice}
 
--- In structure 0 of the library, the layer of data type 0 has the squares that the slabs cover.
+-- In structure 0 of the library, the layer of datatype 0 has the squares that the slabs cover.
 abbrev pub IsLayerOf : Library → ℕ → List Rect → Type 0
 IsLayerOf lib layer slabs = (p : Pt) → IsInLayer lib 0 (record { layer = layer; datatype = 0 }) p ↔ Covers slabs p
 
--- a BOUNDARY of data type 0 round a rectangle
+-- a BOUNDARY of datatype 0 round a rectangle
 abbrev pub boundary_round : ℕ → Rect → Body
 boundary_round layer r = is_boundary (record { layer = layer; datatype = 0; xy = concat (map point_bytes (corners r)) })
 

@@ -2,7 +2,7 @@
 ghost use Rattle.dpl_law_outcome.specs.ReadBack.{MasksAreRead, MasksReadBack};
 
 /// A file that begins with the records before the elements of a structure of some GDSII file, and goes on with two canonical lists of rectangles on two layers,
-/// is a GDSII file of one structure, which is its top where none is named. Its two layers of data type 0 have just the unit squares that the rectangles cover,
+/// is a GDSII file of one structure, which is its top where none is named. Its two layers of datatype 0 have just the unit squares that the rectangles cover,
 /// and its elements are one boundary for each rectangle, and nothing else.
 pub fn masks_read_back()
     ensures { MasksReadBack }

@@ -21,7 +21,7 @@ point_bytes p = coordinate_bytes p.x ++ coordinate_bytes p.y
 abbrev pub corners : Rect → List Pt
 corners r = at r.x0 r.y0 ∷ at r.x1 r.y0 ∷ at r.x1 r.y1 ∷ at r.x0 r.y1 ∷ at r.x0 r.y0 ∷ []
 
--- a BOUNDARY on a layer, of data type 0: BOUNDARY, LAYER, DATATYPE, XY and ENDEL
+-- a BOUNDARY on a layer, of datatype 0: BOUNDARY, LAYER, DATATYPE, XY and ENDEL
 unfoldable pub boundary_bytes : ℕ → Rect → List ℕ
 boundary_bytes layer r =
     record_bytes 8 0 []

@@ -11,7 +11,7 @@ const BOUNDARY_SIZE: usize = 64;
 /// The records ENDSTR and ENDLIB.
 const ENDSTR_ENDLIB: [u8; 8] = [0, 4, 7, 0, 0, 4, 4, 0];
 
-/// A slab on a layer as one BOUNDARY of data type 0: its corners go from the lower left one round to it again, of each its column first.
+/// A slab on a layer as one BOUNDARY of datatype 0: its corners go from the lower left one round to it again, of each its column first.
 fn boundary(layer: u16, r: &Rect) -> [u8; BOUNDARY_SIZE]
     ensures { result ≡ boundary_bytes layer r.now }
 {
@@ -34,7 +34,7 @@ fn boundary(layer: u16, r: &Rect) -> [u8; BOUNDARY_SIZE]
     ]
 }
 
-/// Puts a slab on a layer as one BOUNDARY of data type 0 behind `out`, 64 bytes. Without memory `out` stays as it was.
+/// Puts a slab on a layer as one BOUNDARY of datatype 0 behind `out`, 64 bytes. Without memory `out` stays as it was.
 pub fn put_boundary(out: &mut Vec<u8>, layer: u16, r: &Rect) -> Result<(), AllocError>
     ensures ok { OnOk result (out.new.items ≡ out.old.items ++ boundary_bytes layer r.now) }
     ensures err { OnErr result (out.new.items ≡ out.old.items) }
@@ -52,7 +52,7 @@ fn put_boundaries(out: &mut Vec<u8>, layer: u16, slabs: &[Rect]) -> Result<(), A
     Ok(())
 }
 
-/// The bytes of a file: the records before the elements, then the slabs of mask A on the layer `la` and those of mask B on the layer `lb`, each as one BOUNDARY of data type 0.
+/// The bytes of a file: the records before the elements, then the slabs of mask A on the layer `la` and those of mask B on the layer `lb`, each as one BOUNDARY of datatype 0.
 pub fn file_bytes(
     alloc: Global,
     prefix: &[u8],

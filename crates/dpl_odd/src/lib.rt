@@ -54,6 +54,5 @@ pub fn odd_cycles(alloc: Global, n: Id, edges: &[Edge]) -> Result<Vec<Listed<Id>
     let least = least_level_edges(alloc, &levels, edges)?;
     let parents = parents_of(alloc, n, edges, &levels.levels)?;
     let forest = Forest { levels, parents };
-    let cycles = forest.cycles_through(alloc, &least)?;
-    Ok(cycles)
+    forest.cycles_through(alloc, &least)
 }

@@ -74,10 +74,7 @@ fn gain_lines(
 fn number_of(gains: Option<u64>) -> u64
     ensures { result ≡ number gains }
 {
-    match gains {
-        None => 0,
-        Some(n) => n,
-    }
+    gains.unwrap_or(0)
 }
 
 /// The number of the first line of a piece.
@@ -236,11 +233,7 @@ fn follows(version: Version, second: Second) -> bool
 fn is_first(version: Version) -> bool
     ensures { IsTrue result ↔ (version ≡ One) }
 {
-    match version {
-        Version::One => true,
-        Version::Two => false,
-        Version::Three => false,
-    }
+    matches!(version, Version::One)
 }
 
 /// The second line of a version, and the text after it.
@@ -260,10 +253,7 @@ fn second_of(version: Version, bytes: &[u8]) -> Option<(Second, &[u8])>
 fn corner_of(rule: u32, corner: Option<u32>) -> u32
     ensures { result ≡ corner_or rule corner }
 {
-    match corner {
-        None => rule,
-        Some(corner) => corner,
-    }
+    corner.unwrap_or(rule)
 }
 
 /// Reads the lines of a certificate, the first of which names its version.

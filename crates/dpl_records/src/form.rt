@@ -70,14 +70,14 @@ enum Data {
 
 /// What the data of each type of record are, from HEADER (type 0) on.
 const TABLE: [Data; 60] = [
-    Short, Dates, Text, Reals, Empty, Dates, Text, Empty, // HEADER to ENDSTR
-    Empty, Empty, Empty, Empty, Empty, Short, Short, Long, // BOUNDARY to WIDTH
-    Points, Empty, Text, Shorts, Unknown, Empty, Short, Bits, // XY to PRESENTATION
-    Unknown, Text, Bits, Real, Real, Unknown, Unknown, Unchecked, // STRING to REFLIBS
-    Unchecked, Short, Unchecked, Unchecked, Unknown, Unknown, Bits, Unknown, // FONTS to ELFLAGS
-    Unknown, Unknown, Short, Short, Text, Empty, Short, Long, // NODETYPE to PLEX
-    Long, Long, Unchecked, Unchecked, Unchecked, Unchecked, Unchecked, Unchecked, // BGNEXTN on
-    Unchecked, Unchecked, Unchecked, Unchecked,
+    Short, Dates, Text, Reals, Empty, Dates, Text, Empty, // 0x00 to 0x07: HEADER to ENDSTR
+    Empty, Empty, Empty, Empty, Empty, Short, Short, Long, // 0x08 to 0x0F: BOUNDARY to WIDTH
+    Points, Empty, Text, Shorts, Unknown, Empty, Short, Bits, // 0x10 to 0x17: XY to PRESENTATION
+    Unknown, Text, Bits, Real, Real, Unknown, Unknown, Unchecked, // 0x18 to 0x1F: STRING to REFLIBS
+    Unchecked, Short, Unchecked, Unchecked, Unknown, Unknown, Bits, Unknown, // 0x20 to 0x27: FONTS to ELFLAGS
+    Unknown, Unknown, Short, Short, Text, Empty, Short, Long, // 0x28 to 0x2F: NODETYPE to PLEX
+    Long, Long, Unchecked, Unchecked, Unchecked, Unchecked, Unchecked, Unchecked, // 0x30 to 0x37: from BGNEXTN on
+    Unchecked, Unchecked, Unchecked, Unchecked, // 0x38 to 0x3B
 ];
 
 impl Data {

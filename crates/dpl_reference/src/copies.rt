@@ -14,6 +14,9 @@ use dpl_reals::Real;
 use dpl_syntax::Trans;
 use dpl_walk::Copies;
 
+/// The flag of STRANS by which copies are reflected.
+const REFLECTED: u16 = 0x8000;
+
 /// How a reference reflects and turns its copies.
 #[derive(Clone, Copy)]
 struct Orientation {
@@ -37,7 +40,7 @@ fn turns_of(angle: Option<[u8; 8]>) -> Option<u8>
 fn is_reflected(strans: u16) -> bool
     ensures { result ≡ not (bit_and strans 32768 == 0) }
 {
-    strans & 0x8000 != 0
+    strans & REFLECTED != 0
 }
 
 /// The orientation that a transform gives whose angle is right.

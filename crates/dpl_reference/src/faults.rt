@@ -13,11 +13,17 @@ use dpl_reals::Real;
 use dpl_spec_layout::ElementFault;
 use dpl_syntax::Trans;
 
+/// The flag of STRANS for an absolute magnification.
+const ABSOLUTE_MAGNIFICATION: u16 = 0x0004;
+
+/// The flag of STRANS for an absolute angle.
+const ABSOLUTE_ANGLE: u16 = 0x0002;
+
 /// Whether STRANS asks for an absolute magnification or angle.
 fn is_absolute(strans: u16) -> bool
     ensures { IsTrue result ↔ (bit_and strans 6 ≢ 0) }
 {
-    strans & 6 != 0
+    strans & (ABSOLUTE_MAGNIFICATION | ABSOLUTE_ANGLE) != 0
 }
 
 /// Whether MAG is there and isn't 1.
@@ -60,10 +66,7 @@ fn transform_fault(trans: &Trans) -> Option<ElementFault>
 fn own_fault(trans: Option<Trans>) -> Option<ElementFault>
     ensures { IsTransformFault (unwrap_or (option_map trans_seen trans) plain) result }
 {
-    match trans {
-        None => None,
-        Some(trans) => transform_fault(&trans),
-    }
+    transform_fault(&trans?)
 }
 
 /// What a reference to one copy is refused for.

@@ -39,7 +39,7 @@ written (w ∷ ws) o = written ws (with_file w.0 w.1 o)
 abbrev pub carried_out : Outcome → Outside → Outside
 carried_out x o = with_said x.line (written x.writes o)
 
--- some of it: the files before one whole, a prefix of that one, or of the text
+-- a run cut short: the first files whole, then one that is a prefix or as it was, and no later one touched; or all files, and a prefix of the text
 abbrev pub IsPartDone : List (Text × List ℕ) → List ℕ → Option Outside → Option Outside → Type 0
 IsPartDone [] line old new = IsPartSaid line old new
 IsPartDone (w ∷ ws) line old new = IsPartWritten w.0 w.1 old new ⊎ IsPartDone ws line (option_map (with_file w.0 w.1) old) new

@@ -31,7 +31,7 @@ IsPlan None files x = x ≡ says Usage usage_line
 abbrev pub IsOutcome : List Text → Status → Option Outside → Option Outside → Type 0
 IsOutcome words status old new = (o : Outside) × Shows old o × ((x : Outcome) × IsPlan (request_of words) o.files x × (status ≡ x.status) × (new ≡ option_map (carried_out x) old))
 
--- Only some of it was done.
+-- A write failed (status 5): only a beginning of it was done.
 abbrev pub IsCutShort : List Text → Option Outside → Option Outside → Type 0
 IsCutShort words old new = (o : Outside) × Shows old o × ((x : Outcome) × IsPlan (request_of words) o.files x × IsPartDone x.writes x.line old new)
 

@@ -58,7 +58,7 @@ pub(crate) fn said<'a>(alloc: Global, status: Status, line: String) -> Output<'a
     }
 }
 
-/// Writes the files in order, and says the text. It takes no memory.
+/// Writes the files in order, and says the text. It takes no memory itself; a host may, and its failure is then a write fault.
 pub(crate) fn perform<H: Host>(host: &mut H, output: &Output) -> Result<(), Failed>
     ensures ok { OnOk result (H.told host.new ≡ option_map (carried_out (output_view output.now)) (H.told host.old)) }
     ensures err { OnErr result (IsPartDone (output_view output.now).writes (output_view output.now).line (H.told host.old) (H.told host.new)) }

@@ -7,12 +7,12 @@ use Rattle.dpl_spec_edits.specs.declared.Edit.{Edit}
 use Rattle.dpl_spec_edits.specs.declared.Edit.TheVariants.{Add, Remove}
 use Rattle.dpl_spec_edits.specs.Edits.{rect_of}
 
--- the words of an edit: what is done, and the rectangle's left column, lowest row, right column and highest row
+-- the words of an edit: what is done, and the rectangle's left, lower, right and upper edge
 abbrev pub edit_words : Edit → List (List ℕ)
 edit_words (Add r) = codes "add" ∷ rect_words r
 edit_words (Remove r) = codes "remove" ∷ rect_words r
 
--- a rectangle with some square, whose corners lie within the range of a layer
+-- a rectangle with some square, whose corners lie within 1,000,000,000 of 0
 abbrev pub IsEdit : Edit → Type 0
 IsEdit e = IsRect (rect_of e)
 
@@ -23,7 +23,7 @@ most_edits = 100000
 abbrev pub edit_lines : List Edit → List (List ℕ)
 edit_lines es = map (λ e. line (edit_words e)) es
 
--- the text lists these edits, each in a line of its own that a line feed ends
+-- The text lists these edits, each in a line of its own that a line feed ends. A number is spelled one way: no plus, no leading zero, one space between words.
 pub record IsListed (es : List Edit) (bytes : List ℕ) : Type 0 where
   pub each : AllByRecursion IsEdit es
   pub few : length es ≤ most_edits

@@ -11,6 +11,7 @@ pub record Record : Type 0 where
   pub at : ℕ
   -- the offset behind its last byte
   pub next : ℕ
+  -- its type
   pub kind : ℕ
   pub body : List ℕ
 

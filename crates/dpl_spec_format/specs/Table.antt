@@ -73,16 +73,16 @@ table =
     ∷ of 3 (exactly 4)  -- PLEX, type 0x2F
     ∷ of 3 (exactly 4)  -- BGNEXTN, type 0x30
     ∷ of 3 (exactly 4)  -- ENDEXTN, type 0x31
-    ∷ unchecked  -- type 0x32
-    ∷ unchecked  -- type 0x33
-    ∷ unchecked  -- type 0x34
-    ∷ unchecked  -- type 0x35
-    ∷ unchecked  -- type 0x36
-    ∷ unchecked  -- type 0x37
-    ∷ unchecked  -- type 0x38
-    ∷ unchecked  -- type 0x39
-    ∷ unchecked  -- type 0x3A
-    ∷ unchecked  -- type 0x3B
+    ∷ unchecked  -- passed over, type 0x32
+    ∷ unchecked  -- passed over, type 0x33
+    ∷ unchecked  -- passed over, type 0x34
+    ∷ unchecked  -- passed over, type 0x35
+    ∷ unchecked  -- passed over, type 0x36
+    ∷ unchecked  -- passed over, type 0x37
+    ∷ unchecked  -- passed over, type 0x38
+    ∷ unchecked  -- passed over, type 0x39
+    ∷ unchecked  -- passed over, type 0x3A
+    ∷ unchecked  -- passed over, type 0x3B
     ∷ []
 
 abbrev pub row_or_none : Option (Option Form) → Option Form

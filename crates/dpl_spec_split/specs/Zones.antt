@@ -27,6 +27,7 @@ pub record IsClearRun (spacing : Spacing) (layer feature : Region) (y0 y1 x : �
 abbrev pub GoesOn : Region → ℤ → ℤ → ℤ → Type 0
 GoesOn feature y0 y1 x = (y : ℤ) × ((y0 -ℤ pos 1) ≤ℤ y) × (y ≤ℤ y1) × feature (at x y)
 
+-- a straight part of a feature, along x, clear, that goes on beyond both ends
 pub record IsStretch (spacing : Spacing) (overlap : ℕ) (layer feature : Region) (r : Rect) : Type 0 where
   pub runs : (x : ℤ) → r.x0 ≤ℤ x → x <ℤ r.x1 → IsClearRun spacing layer feature r.y0 r.y1 x
   pub maximal_left : ¬ IsClearRun spacing layer feature r.y0 r.y1 (r.x0 -ℤ pos 1)
@@ -41,6 +42,7 @@ pub record IsMiddle (overlap : ℕ) (stretch zone : Rect) : Type 0 where
   pub width : zone.x1 ≡ zone.x0 +ℤ pos overlap
   pub middle : let before = zone.x0 -ℤ stretch.x0 in let after = stretch.x1 -ℤ zone.x1 in (after ≡ before) ⊎ (after ≡ before +ℤ pos 1)
 
+-- a zone of a stretch along x: it cuts a wire that runs left to right
 pub record IsHorizontalZone (spacing : Spacing) (overlap : ℕ) (layer feature : Region) (zone : Rect) : Type 0 where
   pub stretch : Rect
   pub is : IsStretch spacing overlap layer feature stretch
@@ -53,6 +55,7 @@ transposed a p = a (at p.y p.x)
 abbrev pub transposed_rect : Rect → Rect
 transposed_rect r = record { x0 = r.y0; y0 = r.x0; x1 = r.y1; y1 = r.x1 }
 
+-- the same, x and y exchanged
 abbrev pub IsVerticalZone : Spacing → ℕ → Region → Region → Rect → Type 0
 IsVerticalZone spacing overlap layer feature zone =
     IsHorizontalZone spacing overlap (transposed layer) (transposed feature) (transposed_rect zone)

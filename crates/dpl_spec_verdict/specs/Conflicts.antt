@@ -40,6 +40,7 @@ AreSame (Piece i key) (Anchor b) = ⊥
 AreSame (Anchor b) (Piece j other) = ⊥
 AreSame (Anchor b) (Anchor c) = b ≡ c
 
+-- marks are asked for
 abbrev pub AreAsked : Option Marks → Type 0
 AreAsked None = ⊥
 AreAsked (Some m) = Unit {0}
@@ -96,13 +97,16 @@ pub record IsGoodPlace (marks : Option Marks) (spacing : Spacing) (cut : Cut) (c
   pub new : (j : ℕ) → j < k → ¬ AreSame (place_at cycle j) place
   pub joined : AreJoined marks spacing cut place next line
 
+-- place k isn't a good one; d stands in where there is no line k
 abbrev pub IsBadPlace : Option Marks → Spacing → Cut → List PlaceLine → List NearLine → ℕ → PlaceLine → Type 0
 IsBadPlace marks spacing cut cycle near k place =
     (d : NearLine) → ¬ IsGoodPlace marks spacing cut cycle place (place_at cycle ((k + 1) % length cycle)) k (slice_index_or near k d)
 
+-- the first bad place is told
 abbrev pub ShowsCycle : Option Marks → Spacing → Cut → Claim → Verdict → Type 0
 ShowsCycle marks spacing cut c v = (k : ℕ) × IsFirstBad (IsBadPlace marks spacing cut c.cycle c.near) c.cycle k × (v ≡ Cycle k)
 
+-- the first bad place, or valid where there is none
 abbrev pub VerdictOfCycle : Option Marks → Spacing → Cut → Claim → Verdict → Type 0
 VerdictOfCycle marks spacing cut c = FirstOf (HasBad (IsBadPlace marks spacing cut c.cycle c.near) c.cycle) (ShowsCycle marks spacing cut c) IsValid
 

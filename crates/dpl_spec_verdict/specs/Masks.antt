@@ -61,7 +61,7 @@ is_misplaced marks layer a b p = Covers layer p × ((marked_a marks p × ¬ is_a
 abbrev pub piece_at : List PieceLine → ℕ → PieceLine
 piece_at pieces k = slice_index_or pieces k (record { b = false; key = at (pos 0) (pos 0) })
 
--- each square on both masks, some side as long as the overlap, and between listed pieces of different letters
+-- each square on both masks, its width or its height at least the overlap, and both its pieces listed, on different masks
 pub record IsGoodStitch (overlap : ℕ) (a b : Region) (pieces : List PieceLine) (s : StitchLine) : Type 0 where
   pub on_both : (p : Pt) → Has s.rect p → a p × b p
   pub long : (pos overlap ≤ℤ (s.rect.x1 -ℤ s.rect.x0)) ⊎ (pos overlap ≤ℤ (s.rect.y1 -ℤ s.rect.y0))

@@ -248,6 +248,7 @@ impl<'a> Reader<'a> {
         self.body_behind_flags(kind)
     }
 
+    /// The body of an element of this type, from behind its flags on.
     fn body_behind_flags(&mut self, kind: u8) -> Result<Body<'a>, SyntaxFault>
         requires { IsTrue (format.begins_element kind) }
         ensures exact { Answers (λ b. (body_seen b, self.new.at)) result (body_behind_flags self.old.bytes.now kind self.old.at) }

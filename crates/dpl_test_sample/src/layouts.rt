@@ -20,7 +20,7 @@ pub enum Part<'a> {
     Record(u8, u8, &'a [u8]),
     /// A record of four-byte numbers: its type and the numbers.
     Numbers(u8, &'a [i32]),
-    /// The boundary of a rectangle on a layer below 256, data type 0. It has 64 bytes.
+    /// The boundary of a rectangle on a layer below 256, datatype 0. It has 64 bytes.
     Bar(u8, Rectangle),
     /// The first two records of a structure: its name, padded to an even number of bytes.
     Begin(&'a [u8]),

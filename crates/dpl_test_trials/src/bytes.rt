@@ -92,7 +92,7 @@ fn bytes_behind_the_library_are_ignored(rt: HostRuntime) -> Result<(), Fail> {
     Ok(())
 }
 
-/// One bar's file with the data type 65535.
+/// One bar's file with the datatype 65535.
 fn bar_of_another_type(alloc: Global) -> Result<Vec<u8>, AllocError> {
     let mut file = bars(alloc, &[BAR])?;
     for at in [112, 113] {

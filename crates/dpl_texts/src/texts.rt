@@ -21,7 +21,7 @@ pub enum NamedFile {
     Edits,
 }
 
-/// How the command line is written, in a line for each command. Layers and data types are those of the GDSII Stream Format, Release 6; the rule, the overlap, the corner rule and the tile are in database units.
+/// How the command line is written, in a line for each command. Layers and datatypes are those of the GDSII Stream Format, Release 6; the rule, the overlap, the corner rule and the tile are in database units.
 pub const USAGE: &str =
     "usage: dpl split --layer N --rule N --overlap N [--corner N] [--datatype N] [--top NAME] [--a N] [--b N] [--mark-a N] [--mark-b N] [--tile N] [--workers N] [--fewer] IN OUT CERT
        dpl check --layer N --rule N --overlap N [--corner N] [--datatype N] [--top NAME] [--a N] [--b N] [--mark-a N] [--mark-b N] IN OUT CERT

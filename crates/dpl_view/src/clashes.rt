@@ -49,10 +49,7 @@ pub fn clashes_of(
             clashes: Vec::new(alloc),
             edges: 0,
         }),
-        Conflicts::Odd(edges) => {
-            let found = odd_clashes(alloc, &cut, edges.as_slice(), spacing, overlap)?;
-            Ok(found)
-        }
+        Conflicts::Odd(edges) => odd_clashes(alloc, &cut, edges.as_slice(), spacing, overlap),
     }
 }
 

@@ -1,4 +1,4 @@
--- The command line, as `clap` is told of it.
+-- The command line, as `clap` is told of it. A rule is clap's word for an argument, and a shape its word for a command.
 use Rattle.std.specs.Prelude.{ℕ, true, false, pos, Some, List, [], ◌∷◌, codes}
 use Rattle.clap.specs.Walk.{Rule, Text}
 use Rattle.clap.specs.Simple.{App, Shape, new_rule, new_shape}

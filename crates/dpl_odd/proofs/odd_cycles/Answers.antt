@@ -1,5 +1,6 @@
 use Rattle.std.proofs.Common.{◌≡◌, ℕ, List, Option, Some, length, subst, sym, arith}
 use Rattle.std.specs.List.{Contains}
+use Rattle.std.proofs.lemmas.Result.{IfOk-weaker}
 use Rattle.dpl_spec_split.specs.Graphs.{graph_of}
 use Rattle.dpl_odd.specs.Paths.{AreLowest, IsForest}
 use Rattle.dpl_odd.specs.Tables.{AreClosed, IsClosing}
@@ -34,19 +35,20 @@ returns-clause-cycles c =
     let levels = c.in_ok-levels.levels in
     let parents = c.in_ok-parents.parents in
     let least = c.in_ok-least.least in
-    let cycles = c.in_ok-cycles.cycles in
     let lowest : AreLowest (graph_of c.args.edges.now) c.args.n levels.levels.items parents.items = subst
     (λ xs. AreLowest (graph_of c.args.edges.now) c.args.n xs parents.items) c.deref.ensures.value c.in_ok-parents.ensures in
-    let (tops, closed) = c.in_ok-cycles.ensures in
+    IfOk-weaker c.cycles_through.result _ _
+    (λ cycles (tops, closed).
     cycles-of c.args.edges.now c.args.n levels.roots.items levels.levels.items parents.items c.requires c.in_ok-levels.ensures lowest least.items
     c.in_ok-least.ensures tops cycles.items
-    (subst (λ (xs : List (Option (ℕ × ℕ))). AreClosed levels.levels.items parents.items xs (length xs) tops cycles.items) c.deref-2.ensures.value closed)
+    (subst (λ (xs : List (Option (ℕ × ℕ))). AreClosed levels.levels.items parents.items xs (length xs) tops cycles.items) c.deref-2.ensures.value closed))
+    c.cycles_through.ensures
 
 pub returns-clause-odd : goal.returns-clause-odd
-returns-clause-odd c = all-odd c.args.edges.now c.args.n c.requires c.in_ok-cycles.cycles.items (returns-clause-cycles c)
+returns-clause-odd c = IfOk-weaker c.cycles_through.result _ _ (λ cycles are. all-odd c.args.edges.now c.args.n c.requires cycles.items are) (returns-clause-cycles c)
 
 pub returns-clause-none : goal.returns-clause-none
-returns-clause-none c = none-left c.args.edges.now c.args.n c.requires c.in_ok-cycles.cycles.items (returns-clause-cycles c)
+returns-clause-none c = IfOk-weaker c.cycles_through.result _ _ (λ cycles are. none-left c.args.edges.now c.args.n c.requires cycles.items are) (returns-clause-cycles c)
 
 pub returns-clause-first : goal.returns-clause-first
-returns-clause-first c = first-reported c.args.edges.now c.args.n c.requires c.in_ok-cycles.cycles.items (returns-clause-cycles c)
+returns-clause-first c = IfOk-weaker c.cycles_through.result _ _ (λ cycles are. first-reported c.args.edges.now c.args.n c.requires cycles.items are) (returns-clause-cycles c)

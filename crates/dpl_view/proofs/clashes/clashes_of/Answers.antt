@@ -1,5 +1,6 @@
 use Rattle.std.proofs.Common.{◌∙◌, sym}
 use Rattle.std.specs.Prelude.{None}
+use Rattle.std.proofs.lemmas.Result.{IfOk-weaker}
 use Rattle.dpl_answer.proofs.Planned.{conflicts_completed}
 use Rattle.dpl_piece.specs.View.{cut_view}
 use Rattle.dpl_view.proofs.ViewLaws.{even_none, even_clashes}
@@ -26,8 +27,10 @@ pub odd_clashes-requires-clause-keys : goal.odd_clashes-requires-clause-keys
 odd_clashes-requires-clause-keys c = λ key. c.requires.keys c.in_ok-cut.cut.pieces key c.in_ok-cut.ensures.pieces
 
 pub returns : goal.returns
-returns c = (
-  c.in_ok-cut.cut.pieces,
-  c.in_ok-cut.ensures.pieces,
-  λ features many. c.in_ok-found-in-Odd.ensures features (many ∙ sym c.in_ok-cut.ensures.features),
-)
+returns c = IfOk-weaker c.odd_clashes.result _ _
+    (λ found are. (
+      c.in_ok-cut.cut.pieces,
+      c.in_ok-cut.ensures.pieces,
+      λ features many. are features (many ∙ sym c.in_ok-cut.ensures.features),
+    ))
+    c.odd_clashes.ensures
