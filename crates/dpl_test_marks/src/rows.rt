@@ -124,16 +124,16 @@ fn at(x: i64, y: i64) -> Pt {
 #[test]
 fn marks_fix_letters(rt: HostRuntime) -> Result<(), Fail> {
     let alloc = rt.alloc();
-    let rows: [(&[Corners], &[Corners], [bool; 2]); 5] = [
-        (&[], &[], [false, false]),
-        (&[], &[(0, 50, 1, 51)], [false, true]),
-        (&[], &[(0, 0, 1, 1)], [true, false]),
-        (&[(0, 0, 1, 1)], &[(99, 69, 100, 70)], [false, true]),
-        (&[], &[(0, 0, 100, 70)], [true, true]),
+    let rows: [(&[Corners], &[Corners], &[bool]); 5] = [
+        (&[], &[], &[false, false]),
+        (&[], &[(0, 50, 1, 51)], &[false, true]),
+        (&[], &[(0, 0, 1, 1)], &[true, false]),
+        (&[(0, 0, 1, 1)], &[(99, 69, 100, 70)], &[false, true]),
+        (&[], &[(0, 0, 100, 70)], &[true, true]),
     ];
     for (a, b, letters) in rows {
         let answer = answer_with(&rt, alloc, set_of(alloc, &APART)?, a, b, false)?;
-        assert!(rt; has_letters(&answer, &letters));
+        assert!(rt; has_letters(&answer, letters));
     }
     Ok(())
 }
