@@ -206,8 +206,8 @@ fn zones_beside(alloc: Global, columns: u8) -> Result<Vec<Zone>, AllocError> {
 fn a_crowd_has_no_zones(rt: HostRuntime) -> Result<(), Fail> {
     let alone = zones_beside(rt.alloc(), 0)?;
     let crowded = zones_beside(rt.alloc(), 60)?;
-    assert_eq!(rt; alone.len(), 5);
-    assert_eq!(rt; crowded.len(), 5);
+    assert_eq!(rt; alone.len(), 7);
+    assert_eq!(rt; crowded.len(), 7);
     for (z, w) in crowded.iter().zip(alone.iter()) {
         assert_eq!(rt; corners_of(z).0, corners_of(w).0);
     }
