@@ -1,6 +1,6 @@
 -- The pieces of one feature are components of what the zones leave of all.
 use Rattle.std.proofs.Common.{◌≡◌, ℕ, ◌+◌, ◌<◌, inl, inr, List, [], ◌∷◌, ◌++◌, zero, suc, length, get_or, map, refl, sym, ◌∙◌, subst, arith}
-use Rattle.std.specs.Prelude.{◌↔◌, pos}
+use Rattle.std.specs.Prelude.{pos}
 use Rattle.std.specs.List.{All, AllPairs, Any, Contains}
 use Rattle.std.proofs.lemmas.Bool.{cases_eq}
 use Rattle.std.proofs.lemmas.List.{get_or_default, get_or-map, length-map}
@@ -23,14 +23,10 @@ use Rattle.dpl_slabs.specs.Parts.{AreApart, AreParts, union_of}
 use Rattle.dpl_slabs.proofs.StripLaws.{AllPairs-append}
 use Rattle.dpl_piece.specs.declared.piece.Origin.TheVariants.{Whole, Broken}
 use Rattle.dpl_piece.specs.declared.piece.Piece.{Piece}
-use Rattle.dpl_piece.specs.Pieces.{whole_piece, broken_piece, left_of, AddsPieces, HasZone}
+use Rattle.dpl_piece.specs.Pieces.{whole_piece, broken_piece, left_of, AddsPieces, AreHolesOf, HasZone}
 use Rattle.dpl_piece.proofs.Beside.{in-set, some-part, closed, kept, kept-inside}
 use Rattle.dpl_piece.proofs.Regions.{linked-same}
 use Rattle.dpl_piece.proofs.Stands.{AreLeftOf}
-
--- the rectangles of feature n's zones
-abbrev pub AreHolesOf : List Zone → ℕ → List Rect → Type 0
-AreHolesOf zones n holes = (r : Rect) → Contains holes r ↔ ((z : Zone) × Contains zones z × (z.feature ≡ n) × (z.rect ≡ r))
 
 -- canonical slabs within the range of a layer, which are one of the components of what the zones leave of all features and lie in one of
 -- the first n: a whole feature as it is, or broken off one with a zone
@@ -218,7 +214,7 @@ module _ (spacing : Spacing) (overlap : ℕ) (features : List (List Rect)) (zone
         single P {x} is (suc k) d k_in = absurd (omega (arith, k_in))
     pieces-next pieces new h within (inr (some, b)) =
         rw b.added
-        (more-pieces pieces (map (broken_piece n) b.parts) h (broken-each b.parts some b.components b.apart)
-        (λ k d k_in. rw (broken-at b.parts some b.components b.apart k d k_in) refl)
-        (broken-all b.parts some b.components b.apart)
-        (broken-apart b.parts some b.components b.apart))
+        (more-pieces pieces (map (broken_piece n) b.parts) h (broken-each b.parts some b.broken.components b.broken.apart)
+        (λ k d k_in. rw (broken-at b.parts some b.broken.components b.broken.apart k d k_in) refl)
+        (broken-all b.parts some b.broken.components b.broken.apart)
+        (broken-apart b.parts some b.broken.components b.broken.apart))

@@ -18,8 +18,7 @@ use Rattle.dpl_piece.specs.Cutting.{cut_pieces, first_square, keys_in, AreMatche
 use Rattle.dpl_piece.specs.declared.corner.Kind.TheVariants.{LowerLeft, LowerRight, UpperLeft}
 use Rattle.dpl_piece.specs.declared.piece.Piece.{Piece}
 use Rattle.dpl_piece.specs.Corners.{StandBeside}
-use Rattle.dpl_piece.specs.Pieces.{parts_in, owners_in, AreCut, no_zone}
-use Rattle.dpl_piece.proofs.Broken.{AreHolesOf}
+use Rattle.dpl_piece.specs.Pieces.{parts_in, owners_in, AreCut, AreHolesOf, no_zone}
 use Rattle.dpl_piece.proofs.CornerLaws.{corner-known, zip-length, zip-at}
 use Rattle.dpl_piece.proofs.Regions.{components-same, without-same}
 use Rattle.dpl_piece.proofs.Stands.{zone-within}

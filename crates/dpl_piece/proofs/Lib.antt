@@ -12,3 +12,4 @@ pub mod Cuts
 pub mod WholeLaws
 pub mod Ranks
 pub mod Places
+pub mod MadeLaws

@@ -18,8 +18,8 @@ use Rattle.dpl_piece.specs.declared.corner.Kind.TheVariants.{LowerLeft, LowerRig
 use Rattle.dpl_piece.specs.declared.piece.Piece.{Piece}
 use Rattle.dpl_piece.specs.Corners.{corner_at, IsCornerOf, IsCornerWithin, StandsBefore, StandsAfter, StandBeside}
 use Rattle.dpl_piece.specs.Noted.{AreSidesNoted, StandsBeforeFrom, StandsAfterFrom}
-use Rattle.dpl_piece.specs.Pieces.{broken_piece, feature_at, parts_in, rect_at, whole_piece, zone_at, AddsPieces}
-use Rattle.dpl_piece.proofs.Broken.{AreHolesOf, broken-left}
+use Rattle.dpl_piece.specs.Pieces.{broken_piece, feature_at, parts_in, rect_at, whole_piece, zone_at, AddsPieces, AreHolesOf}
+use Rattle.dpl_piece.proofs.Broken.{broken-left}
 use Rattle.dpl_piece.proofs.CornerLaws.{number-is, renumber, zip-length, zip-at, zip-from}
 use Rattle.dpl_piece.proofs.Stands.{AreLeftOf, left-of, sides-from_stand, stand}
 
@@ -110,7 +110,7 @@ module _ (spacing : Spacing) (overlap : ℕ) (features : List (List Rect)) (zone
       let z : Zone = zone_at zones j in
       let ls : AreLeftOf (union_of features) zones (part_at features z.feature) b.parts = subst
       (λ k. AreLeftOf (union_of features) zones (part_at features k) b.parts) (sym is)
-      (broken-left spacing overlap features zones c zs n n_in holes are b.parts some b.components b.apart) in
+      (broken-left spacing overlap features zones c zs n n_in holes are b.parts some b.broken.components b.broken.apart) in
       let (side, (one, two)) = stand spacing overlap (union_of features) features b.parts zones least c zs z (zone-in j j_in) ls in
       let old : List (List Rect) = parts_in pieces in
       let whole : parts_in new ≡ old ++ b.parts = ap parts_in b.added ∙ (map-append (λ x. let u : Piece = x in u.part) pieces (map (broken_piece n) b.parts)

@@ -1,9 +1,10 @@
 -- Features one by one, each with its own zones.
-use Rattle.std.proofs.Common.{◌≡◌, ◌≢◌, ℕ, suc, ◌+◌, ◌≤◌, ◌<◌, ◌⊎◌, inl, inr, List, [], ◌∷◌, ◌++◌, length, get_or, map, take, drop, sym, ap, ◌∙◌, subst, arith}
+use Rattle.std.proofs.Common.{◌≡◌, ◌≢◌, ℕ, suc, ◌+◌, ◌-◌, ◌≤◌, ◌<◌, ◌⊎◌, inl, inr, List, [], ◌∷◌, ◌++◌, length, get_or, map, take, drop, sym, ap, ◌∙◌, subst, arith}
 use Rattle.std.specs.Prelude.{◌↔◌}
 use Rattle.std.specs.List.{All, Contains, range_with_len}
 use Rattle.std.specs.List.Sorted.{IsNonDecreasingBy, IsPermutation}
-use Rattle.std.proofs.lemmas.List.{append_assoc, get_or_at, get_or_default, get_or-drop, length-append, length-drop, take-append-drop}
+use Rattle.std.proofs.lemmas.Bool.{cases_lt}
+use Rattle.std.proofs.lemmas.List.{append_assoc, get_or_at, drop-drop, get_or_default, get_or-drop, get_or-take, length-append, length-drop, length-take, take-append-drop}
 use Rattle.std.proofs.lemmas.List.Elements.{All-contains, All-push, Contains-get_or, Contains-append_left, Contains-append_right, Contains-append_cases}
 use Rattle.std.proofs.lemmas.List.FromFn.{length-range_with_len, get_or-range_with_len}
 use Rattle.std.proofs.lemmas.List.Sorted.{Contains-permutation, IsPermutation-sym}
@@ -11,13 +12,11 @@ use Rattle.std.proofs.Math.Seq.{take-suc}
 use Rattle.dpl_spec_split.specs.declared.Rect.{Rect}
 use Rattle.dpl_spec_split.specs.declared.Zone.{Zone}
 use Rattle.dpl_piece.proofs.CornerLaws.{Contains-map, map-Contains}
-use Rattle.dpl_piece.specs.Pieces.{zone_at, feature_at, rect_at, AreNumbersBelow}
-use Rattle.dpl_piece.proofs.Broken.{AreHolesOf}
+use Rattle.dpl_piece.specs.Pieces.{zone_at, feature_at, rect_at, AreHolesOf, AreZonesFrom}
 
--- the numbers of the zones of the features from number n on, by feature
-pub record AreZonesFrom (zones : List Zone) (n : ℕ) (rest : List ℕ) : Type 0 where
-  pub rise : IsNonDecreasingBy (feature_at zones) rest
-  pub members : (j : ℕ) → Contains rest j ↔ ((j < length zones) × (n ≤ feature_at zones j))
+-- each number below n, and no other
+abbrev pub AreNumbersBelow : ℕ → List ℕ → Type 0
+AreNumbersBelow n numbers = (j : ℕ) → Contains numbers j ↔ (j < n)
 
 -- the numbers below n in any order are each number below n, and no other
 pub numbers-permuted : (n : ℕ) (sorted : List ℕ) → IsPermutation (range_with_len 0 n) sorted → AreNumbersBelow n sorted
@@ -40,8 +39,8 @@ own-next zones numbers i n i_in is own =
 pub zones-from : (zones : List Zone) (sorted : List ℕ) → AreNumbersBelow (length zones) sorted → IsNonDecreasingBy (feature_at zones) sorted → AreZonesFrom zones 0 sorted
 zones-from zones sorted are rise = record { rise = rise; members = λ j. (λ h. ((are j).0 h, omega arith), λ h. (are j).1 h.0) }
 
-module _ (zones : List Zone) (rest : List ℕ) (n m : ℕ) (h : AreZonesFrom zones n rest)
-    (own : All (λ j. feature_at zones j ≡ n) (take m rest)) (next : m < length rest → (d : ℕ) → feature_at zones (get_or rest m d) ≢ n) where
+-- the numbers in front of a place, and those from it on
+module _ (rest : List ℕ) (m : ℕ) where
   two : take m rest ++ drop m rest ≡ rest
   two = take-append-drop m rest
 
@@ -52,23 +51,103 @@ module _ (zones : List Zone) (rest : List ℕ) (n m : ℕ) (h : AreZonesFrom zon
   front-or_back : (j : ℕ) → Contains rest j → Contains (take m rest) j ⊎ Contains (drop m rest) j
   front-or_back j h = Contains-append_cases (take m rest) (drop m rest) j (subst (λ l. Contains l j) (sym two) h)
 
-  back-later : (j : ℕ) → Contains (drop m rest) j → n + 1 ≤ feature_at zones j
+-- the zones of the features after number f are those from the place on where the first of them is
+module _ (zones : List Zone) (rest : List ℕ) (n m f : ℕ) (h : AreZonesFrom zones n rest) (from : n ≤ f + 1) (low : All (λ j. feature_at zones j ≤ f) (take m rest))
+    (high : m < length rest → (d : ℕ) → f < feature_at zones (get_or rest m d)) where
+  back-later : (j : ℕ) → Contains (drop m rest) j → f + 1 ≤ feature_at zones j
   back-later j (i, i_in, is) =
       let m_in : m < length rest = omega (arith, i_in, length-drop m rest) in
       let up = h.rise m (m + i) j (omega arith) (omega (arith, i_in, length-drop m rest)) in
       let at : feature_at zones (get_or rest (m + i) j) ≡ feature_at zones j = ap (feature_at zones) (sym (get_or-drop m rest i j) ∙ is) in
-      let low = ((h.members (get_or rest m j)).0 (m, m_in, get_or_default rest m (get_or rest m j) j m_in)).1 in
-      let differ = next m_in j in
-      omega (arith, up, at, low, differ)
+      let later = high m_in j in
+      omega (arith, up, at, later)
+
+  pub zones-past : AreZonesFrom zones (f + 1) (drop m rest)
+  zones-past = record {
+    rise = λ i j d l j_in. rw (get_or-drop m rest i d, get_or-drop m rest j d) (h.rise (m + i) (m + j) d (omega (arith, l)) (omega (arith, j_in, length-drop m rest)));
+    members = λ j. (
+      λ a. (((h.members j).0 (in-rest rest m j (inr a))).0, back-later j a),
+      λ (j_in, l). elim (front-or_back rest m j ((h.members j).1 (j_in, omega (arith, from, l)))) [
+        | inl a ↦ absurd
+            (let is = All-contains (λ i. feature_at zones i ≤ f) (take m rest) j low a in omega (arith, is, l))
+        | inr a ↦ a
+      ],
+    );
+  }
+
+-- the first of the numbers is of the first feature that has a zone among them
+pub zones-first : (zones : List Zone) (rest : List ℕ) (n : ℕ) → AreZonesFrom zones n rest → 0 < length rest → AreZonesFrom zones (feature_at zones (get_or rest 0 0)) rest
+zones-first zones rest n h some =
+    let least = ((h.members (get_or rest 0 0)).0 (Contains-get_or rest 0 0 some)).1 in
+    record {
+      rise = h.rise;
+      members = λ j. (
+        λ (i, i_in, is). (
+          ((h.members j).0 (i, i_in, is)).0,
+          (let up = h.rise 0 i j (omega arith) i_in in
+              let first : feature_at zones (get_or rest 0 j) ≡ feature_at zones (get_or rest 0 0) = ap (feature_at zones) (get_or_default rest 0 j 0 some) in
+              let at : feature_at zones (get_or rest i j) ≡ feature_at zones j = ap (feature_at zones) is in
+              omega (arith, up, first, at)),
+        ),
+        λ (j_in, l). (h.members j).1 (j_in, omega (arith, least, l)),
+      );
+    }
+
+-- numbers sorted by feature, of which those of feature f end past a place
+module _ (zones : List Zone) (sorted : List ℕ) (place m f : ℕ) (h : AreZonesFrom zones 0 sorted) (some : 0 < place) (within : place ≤ length sorted)
+    (is : f ≡ feature_at zones (get_or sorted (place - 1) 0)) (own : All (λ j. feature_at zones j ≡ f) (take m (drop place sorted)))
+    (next : m < length (drop place sorted) → (d : ℕ) → feature_at zones (get_or (drop place sorted) m d) ≢ f) where
+  before : (d : ℕ) → feature_at zones (get_or sorted (place - 1) d) ≡ f
+  before d = ap (feature_at zones) (get_or_default sorted (place - 1) d 0 (omega (arith, some, within))) ∙ sym is
+
+  back : (i d : ℕ) → get_or (drop place sorted) i d ≡ get_or sorted (place + i) d
+  back i d = get_or-drop place sorted i d
+
+  up-to : (i d : ℕ) → i < place + m → i < length sorted → feature_at zones (get_or sorted i d) ≤ f
+  up-to i d l i_in = elim (cases_lt i place) [
+    | inl early ↦ (let up = h.rise i (place - 1) d (omega (arith, early)) (omega (arith, some, within)) in let last = before d in omega (arith, up, last))
+    | inr late ↦ (
+        let k : ℕ = i - place in
+        let there : place + k ≡ i = omega (arith, late) in
+        let low : k < m = omega (arith, l, there) in
+        let in-back : k < length (drop place sorted) = omega (arith, i_in, there, length-drop place sorted) in
+        let one = own k d (omega (arith, low, in-back, length-take m (drop place sorted))) in
+        let at : get_or (take m (drop place sorted)) k d ≡ get_or sorted i d = get_or-take m (drop place sorted) k d low ∙ back k d ∙ ap (λ n. get_or sorted n d) there in
+        omega (arith, one, ap (feature_at zones) at))
+  ]
+
+  low : All (λ j. feature_at zones j ≤ f) (take (place + m) sorted)
+  low i d i_in =
+      let i_low : i < place + m = omega (arith, i_in, length-take (place + m) sorted) in
+      let i_all : i < length sorted = omega (arith, i_in, length-take (place + m) sorted) in
+      omega (arith, up-to i d i_low i_all, ap (feature_at zones) (get_or-take (place + m) sorted i d i_low))
+
+  high : place + m < length sorted → (d : ℕ) → f < feature_at zones (get_or sorted (place + m) d)
+  high m_in d =
+      let up = h.rise (place - 1) (place + m) d (omega arith) m_in in
+      let last = before d in
+      let differ = next (omega (arith, m_in, length-drop place sorted)) d in
+      let at = ap (feature_at zones) (back m d) in
+      omega (arith, up, last, differ, at)
+
+  -- then come the zones of the features after it
+  pub zones-later : AreZonesFrom zones (f + 1) (drop m (drop place sorted))
+  zones-later = rw (drop-drop m place sorted) (zones-past zones sorted 0 (place + m) f h (omega arith) low high)
+
+module _ (zones : List Zone) (rest : List ℕ) (n m : ℕ) (h : AreZonesFrom zones n rest)
+    (own : All (λ j. feature_at zones j ≡ n) (take m rest)) (next : m < length rest → (d : ℕ) → feature_at zones (get_or rest m d) ≢ n) where
+  pub zones-after : AreZonesFrom zones (n + 1) (drop m rest)
+  zones-after = zones-past zones rest n m n h (omega arith) (λ i d i_in. (let is = own i d i_in in omega (arith, is)))
+      (λ m_in d. (let low = ((h.members (get_or rest m d)).0 (Contains-get_or rest m d m_in)).1 in let differ = next m_in d in omega (arith, low, differ)))
 
   pub own-known : All (λ j. j < length zones) (take m rest)
-  own-known i d i_in = ((h.members (get_or (take m rest) i d)).0 (in-rest (get_or (take m rest) i d) (inl (Contains-get_or (take m rest) i d i_in)))).0
+  own-known i d i_in = ((h.members (get_or (take m rest) i d)).0 (in-rest rest m (get_or (take m rest) i d) (inl (Contains-get_or (take m rest) i d i_in)))).0
 
   -- each zone of the feature is among them
   pub own-there : (j : ℕ) → j < length zones → feature_at zones j ≡ n → Contains (take m rest) j
-  own-there j j_in feature = elim (front-or_back j ((h.members j).1 (j_in, omega (arith, feature)))) [
+  own-there j j_in feature = elim (front-or_back rest m j ((h.members j).1 (j_in, omega (arith, feature)))) [
     | inl a ↦ a
-    | inr a ↦ absurd (let l = back-later j a in omega (arith, l, feature))
+    | inr a ↦ absurd (let l = ((zones-after.members j).0 a).1 in omega (arith, l, feature))
   ]
 
   -- and no other
@@ -78,7 +157,7 @@ module _ (zones : List Zone) (rest : List ℕ) (n m : ℕ) (h : AreZonesFrom zon
   pub own-holes : AreHolesOf zones n (map (rect_at zones) (take m rest))
   own-holes r = (
     λ r_in. (let (j, j_in, is) = Contains-map (rect_at zones) (take m rest) r r_in in
-        let known = ((h.members j).0 (in-rest j (inl j_in))).0 in
+        let known = ((h.members j).0 (in-rest rest m j (inl j_in))).0 in
         (zone_at zones j, (j, known, get_or_default zones j (zone_at zones j) (zone_at [] 0) known), All-contains (λ i. feature_at zones i ≡ n) (take m rest) j own j_in, is)),
     λ (z, (j, j_in, z_is), mine, is). (
         let at : zone_at zones j ≡ z = get_or_default zones j (zone_at [] 0) z j_in ∙ z_is in
@@ -86,19 +165,6 @@ module _ (zones : List Zone) (rest : List ℕ) (n m : ℕ) (h : AreZonesFrom zon
         subst (Contains (map (rect_at zones) (take m rest))) (ap (λ y. let u : Zone = y in u.rect) at ∙ is)
         (map-Contains (rect_at zones) (take m rest) j (own-there j j_in feature))),
   )
-
-  pub zones-after : AreZonesFrom zones (n + 1) (drop m rest)
-  zones-after = record {
-    rise = λ i j d l j_in. rw (get_or-drop m rest i d, get_or-drop m rest j d) (h.rise (m + i) (m + j) d (omega (arith, l)) (omega (arith, j_in, length-drop m rest)));
-    members = λ j. (
-      λ a. (((h.members j).0 (in-rest j (inr a))).0, back-later j a),
-      λ (j_in, l). elim (front-or_back j ((h.members j).1 (j_in, omega (arith, l)))) [
-        | inl a ↦ absurd
-            (let is = All-contains (λ i. feature_at zones i ≡ n) (take m rest) j own a in omega (arith, is, l))
-        | inr a ↦ a
-      ],
-    );
-  }
 
 -- one more of a list that is gone through
 pub turn : (xs done rest later : List (List Rect)) (x : List Rect) (n : ℕ) → done ++ rest ≡ xs → rest ≡ x ∷ later → n ≡ length done

@@ -30,10 +30,9 @@ use Rattle.dpl_piece.specs.declared.piece.Piece.{Piece}
 use Rattle.dpl_piece.specs.declared.piece.Whole.{Whole}
 use Rattle.dpl_piece.specs.Corners.{IsCornerOf, StandBeside, corner_at, corner_of}
 use Rattle.dpl_piece.specs.Cutting.{AreFeatures, AreTheirZones}
-use Rattle.dpl_piece.specs.Pieces.{AreCut, HasZone, owners_in, parts_in, whole_piece}
+use Rattle.dpl_piece.specs.Pieces.{AreCut, AreHolesOf, HasZone, owners_in, parts_in, whole_piece}
 use Rattle.dpl_piece.specs.Wholes.{AreOwnSides, AreWholes, AreWholesBelow, HasWhole, IsZoneIn, KeepsWhole, LieIn, LieInSome, whole_of}
 use Rattle.dpl_piece.proofs.Beside.{closed, in-set, kept, kept-inside}
-use Rattle.dpl_piece.proofs.Broken.{AreHolesOf}
 use Rattle.dpl_piece.proofs.CornerLaws.{corner-number, zip-at, zip-from, zip-length}
 use Rattle.dpl_piece.proofs.Cuts.{all-owned, comps}
 

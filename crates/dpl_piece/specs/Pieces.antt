@@ -1,7 +1,7 @@
 -- Pieces that zones leave of features, each with the feature that it lies in.
-use Rattle.std.specs.Prelude.{◌≡◌, ℕ, ◌<◌, ◌⊎◌, ◌↔◌, ℤ, pos, List, [], ◌∷◌, ◌++◌, length, map, slice_index_or}
+use Rattle.std.specs.Prelude.{◌≡◌, ℕ, ◌<◌, ◌≤◌, ◌⊎◌, ◌↔◌, ℤ, pos, List, [], ◌∷◌, ◌++◌, length, map, slice_index_or}
 use Rattle.std.specs.List.{All, Contains}
-use Rattle.std.specs.List.Sorted.{IsSortedByKey}
+use Rattle.std.specs.List.Sorted.{IsNonDecreasingBy, IsSortedByKey}
 use Rattle.dpl_spec_split.specs.declared.Rect.{Rect}
 use Rattle.dpl_spec_split.specs.declared.Zone.{Zone}
 use Rattle.dpl_spec_split.specs.Squares.{Region, Covers}
@@ -32,9 +32,14 @@ feature_at zones j = (zone_at zones j).feature
 abbrev pub rect_at : List Zone → ℕ → Rect
 rect_at zones j = (zone_at zones j).rect
 
--- each number below n, and no other
-abbrev pub AreNumbersBelow : ℕ → List ℕ → Type 0
-AreNumbersBelow n numbers = (j : ℕ) → Contains numbers j ↔ (j < n)
+-- the numbers of the zones of the features from number n on, by feature
+pub record AreZonesFrom (zones : List Zone) (n : ℕ) (rest : List ℕ) : Type 0 where
+  pub rise : IsNonDecreasingBy (feature_at zones) rest
+  pub members : (j : ℕ) → Contains rest j ↔ ((j < length zones) × (n ≤ feature_at zones j))
+
+-- the rectangles of feature n's zones
+abbrev pub AreHolesOf : List Zone → ℕ → List Rect → Type 0
+AreHolesOf zones n holes = (r : Rect) → Contains holes r ↔ ((z : Zone) × Contains zones z × (z.feature ≡ n) × (z.rect ≡ r))
 
 -- the row and the column of the first slab's lower left corner
 abbrev pub least_key : List Rect → ℤ × ℤ
@@ -56,11 +61,15 @@ broken_piece k part = record { part = part; owner = k; origin = Broken; number =
 abbrev pub left_of : List Rect → List Rect → Region
 left_of feature holes p = Covers feature p × ¬ Covers holes p
 
+-- the components of what holes leave of a feature
+pub record AreBroken (feature holes : List Rect) (parts : List (List Rect)) : Type 0 where
+  pub components : AreComponents (left_of feature holes) parts
+  pub apart : AreParts parts
+
 -- the components of what holes leave of feature number k were added
 pub record AddsBroken (feature holes : List Rect) (k : ℕ) (old new : List Piece) : Type 0 where
   pub parts : List (List Rect)
-  pub components : AreComponents (left_of feature holes) parts
-  pub apart : AreParts parts
+  pub broken : AreBroken feature holes parts
   pub added : new ≡ old ++ map (broken_piece k) parts
 
 -- feature number k was added, as it is where there is no hole, or else broken by its holes

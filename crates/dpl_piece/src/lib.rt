@@ -5,13 +5,15 @@ mod bare;
 mod corner;
 mod cut;
 mod key;
+mod made;
 mod matched;
 mod noted;
+mod own;
 mod piece;
 mod rank;
 mod rest;
 
 pub use bare::BarePieces;
-pub use cut::{bare_pieces, pieces};
+pub use cut::{bare_pieces, bare_pieces_by, pieces};
 pub use matched::{Cut, Pieces};
 pub use piece::Whole;

@@ -1,75 +1,25 @@
 //! What zones leave of features.
-ghost use Rattle.std.specs.Prelude.{◌≡◌, ◌≢◌, ℕ, ◌<◌, ◌≤◌, [], ◌∷◌, ◌++◌, IfOk, OnOk, length, map, take, slice_index_or};
-ghost use Rattle.std.specs.List.{All, AllZip, range_with_len};
-ghost use Rattle.std.specs.List.Sorted.{IsNonDecreasingBy, IsPermutation};
+ghost use Rattle.std.specs.Prelude.{◌≡◌, ℕ, ◌<◌, ◌++◌, List, IfOk, IfSome, OnOk, length, map};
+ghost use Rattle.std.specs.List.{All, AllZip};
+ghost use Rattle.std.specs.List.Sorted.{IsPermutation};
+ghost use Rattle.dpl_spec_split.specs.declared.Rect.{Rect as RectOf};
 ghost use Rattle.dpl_spec_split.specs.Loops.{farthest, AreRectsWithin};
 ghost use Rattle.dpl_piece.specs.Cutting.{AreFeatures, AreTheirZones};
 ghost use Rattle.dpl_piece.specs.Corners.{StandBeside};
+ghost use Rattle.dpl_piece.specs.Made.{AreLeft, IsMade};
 ghost use Rattle.dpl_piece.specs.Noted.{IsSortedWith};
-ghost use Rattle.dpl_piece.specs.Pieces.{broken_piece, least_key, feature_at, rect_at, parts_in, AddsBroken, AddsPieces, AreCut, AreNumbersBelow, RiseByLeast};
-ghost use Rattle.dpl_piece.specs.Wholes.{whole_of, AreWholes, KeepsWhole};
+ghost use Rattle.dpl_piece.specs.Pieces.{broken_piece, least_key, rect_at, parts_in, AddsPieces, AreBroken, AreCut, AreZonesFrom, RiseByLeast};
+ghost use Rattle.dpl_piece.specs.Wholes.{AreWholes, KeepsWhole};
 
+use crate::made::{Made, broken, taken};
 use crate::noted::{Noted, note_sides};
+use crate::own::{holes_at, own_count};
 use crate::piece::{CutUp, Origin, Piece, Whole};
 use crate::rank::{number_all, ranked, ranks_of};
-use dpl_base::{Id, Rect, Zone, give_back, short_id};
+use dpl_base::{Id, Zone, give_back, short_id};
 use dpl_slabs::Slabs;
 use dpl_sort::sort_by_key;
 use std::alloc::{AllocError, Global};
-
-/// The feature of a zone by the zone's number, and 0 past the end.
-fn feature_of(zones: &[Zone], number: usize) -> Id
-    ensures { result ≡ feature_at zones.now number }
-{
-    match zones.get(number) {
-        Some(zone) => zone.feature,
-        None => 0,
-    }
-}
-
-/// The numbers below `count`, in order, in 32 bits each. 2^32 of them or more are refused as out of memory, as so many zones would be.
-fn short_numbers(alloc: Global, count: usize) -> Result<Vec<u32>, AllocError>
-    ensures { IfOk result (λ v. v.items ≡ range_with_len 0 count) }
-{
-    let count = short_id(count as Id)?;
-    (0..count).collect(alloc)
-}
-
-/// The numbers of the zones, by feature.
-fn by_feature(alloc: Global, zones: &[Zone]) -> Result<Vec<u32>, AllocError>
-    ensures members { IfOk result (λ v. AreNumbersBelow (length zones.now) v.items) }
-    ensures rise { IfOk result (λ v. IsNonDecreasingBy (feature_at zones.now) v.items) }
-{
-    let mut numbers = short_numbers(alloc, zones.len())?;
-    sort_by_key(&mut numbers, |number| feature_of(zones, *number as usize));
-    Ok(numbers)
-}
-
-/// How many of the first numbers are of zones of the feature.
-fn own_count(zones: &[Zone], numbers: &[u32], feature: Id) -> usize
-    ensures inside { result ≤ length numbers.now }
-    ensures own { All (λ j. feature_at zones.now j ≡ feature) (take result numbers.now) }
-    ensures next { result < length numbers.now → (d : ℕ) → feature_at zones.now (slice_index_or numbers.now result d) ≢ feature }
-{
-    for i in 0..numbers.len() {
-        if feature_of(zones, numbers[i] as usize) != feature {
-            return i;
-        }
-    }
-    numbers.len()
-}
-
-/// The rectangles of the zones of these numbers.
-fn holes_at(alloc: Global, zones: &[Zone], numbers: &[u32]) -> Result<Vec<Rect>, AllocError>
-    requires { All (λ j. j < length zones.now) numbers.now }
-    ensures { IfOk result (λ v. v.items ≡ map (rect_at zones.now) numbers.now) }
-{
-    let mut holes = Vec::with_capacity(alloc, numbers.len())?;
-    for &number in numbers {
-        holes.push(zones[number as usize].rect)?;
-    }
-    Ok(holes)
-}
 
 /// Adds pieces that zones broke off a feature. Their list is reversed and emptied from the end, so that its room is given back on the way.
 fn add_parts(pieces: &mut Vec<Piece>, mut parts: Vec<Slabs>, number: Id) -> Result<(), AllocError>
@@ -88,45 +38,41 @@ fn add_parts(pieces: &mut Vec<Piece>, mut parts: Vec<Slabs>, number: Id) -> Resu
     Ok(())
 }
 
-/// Adds the pieces into which holes break a feature, and keeps the feature.
-fn add_broken(
+/// What the zones of these numbers leave of their feature, as it was made before, or made here. None where no zone is the feature's.
+fn parts_of(
     alloc: Global,
-    pieces: &mut Vec<Piece>,
-    wholes: &mut Vec<Whole>,
-    feature: Slabs,
-    holes: Vec<Rect>,
-    number: Id,
-) -> Result<(), AllocError>
-    requires { AreRectsWithin farthest holes.items }
-    ensures adds { OnOk result (AddsBroken feature holes.items number pieces.old.items pieces.new.items) }
-    ensures keeps { OnOk result (wholes.new.items ≡ wholes.old.items ++ whole_of number feature ∷ []) }
+    feature: &Slabs,
+    zones: &[Zone],
+    own: &[u32],
+    made: Option<Vec<Slabs>>,
+) -> Result<Option<Vec<Slabs>>, AllocError>
+    requires known { All (λ j. j < length zones.now) own.now }
+    requires within { AreRectsWithin farthest (map (rect_at zones.now) own.now) }
+    requires made { IfSome made (λ v. AreBroken feature.now (map (rect_at zones.now) own.now) v.items) }
+    ensures { IfOk result (AreLeft feature.now (map (rect_at zones.now) own.now)) }
 {
-    let left = Slabs::of_rects_without(alloc, feature.rects(), &holes)?;
-    drop(holes);
-    let parts = dpl_feature::features(alloc, &left)?;
-    drop(left);
-    add_parts(pieces, parts.into_vec(), number)?;
-    wholes.push(Whole {
-        feature: number,
-        set: feature,
-    })?;
-    Ok(())
+    if own.is_empty() {
+        return Ok(None);
+    }
+    if let Some(parts) = made {
+        return Ok(Some(parts));
+    }
+    let holes = holes_at(alloc, zones, own)?;
+    Ok(Some(broken(alloc, feature, holes)?))
 }
 
-/// Adds the pieces of a feature: what its holes leave of it, or, where there is none, the feature, moved as it is.
+/// Adds the pieces of a feature: its parts, where zones broke it, or else the feature, moved as it is. A feature that was broken is kept.
 fn add_pieces(
-    alloc: Global,
     pieces: &mut Vec<Piece>,
     wholes: &mut Vec<Whole>,
     feature: Slabs,
-    holes: Vec<Rect>,
+    parts: Option<Vec<Slabs>>,
     number: Id,
 ) -> Result<(), AllocError>
-    requires { AreRectsWithin farthest holes.items }
-    ensures adds { OnOk result (AddsPieces feature holes.items number pieces.old.items pieces.new.items) }
-    ensures keeps { OnOk result (KeepsWhole feature holes.items number wholes.old.items wholes.new.items) }
+    ensures adds { OnOk result ((holes : List RectOf) → AreLeft feature holes parts → AddsPieces feature holes number pieces.old.items pieces.new.items) }
+    ensures keeps { OnOk result ((holes : List RectOf) → AreLeft feature holes parts → KeepsWhole feature holes number wholes.old.items wholes.new.items) }
 {
-    if holes.is_empty() {
+    let Some(parts) = parts else {
         pieces.push(Piece {
             part: feature,
             owner: number,
@@ -134,8 +80,12 @@ fn add_pieces(
             number: 0,
         })?;
         return Ok(());
-    }
-    add_broken(alloc, pieces, wholes, feature, holes, number)?;
+    };
+    add_parts(pieces, parts, number)?;
+    wholes.push(Whole {
+        feature: number,
+        set: feature,
+    })?;
     Ok(())
 }
 
@@ -175,16 +125,23 @@ fn sort_with_sides(
     ranked(alloc, &ranks, &noted.firsts, &noted.seconds)
 }
 
-/// The components of what the zones leave of the features, each with the feature that it lies in, and those on the two sides of each zone. A feature without a zone is moved, as it is; any other is cut by its own zones, feature by feature.
-pub fn pieces_of(alloc: Global, features: Vec<Slabs>, zones: &[Zone]) -> Result<CutUp, AllocError>
+/// The components of what the zones leave of the features, each with the feature that it lies in, and those on the two sides of each zone. A feature without a zone is moved, as it is; any other is cut by its own zones, feature by feature, where that wasn't done before. The numbers of the zones are given by feature.
+pub fn pieces_of(
+    alloc: Global,
+    features: Vec<Slabs>,
+    zones: &[Zone],
+    sorted: Vec<u32>,
+    mut made: Vec<Made>,
+) -> Result<CutUp, AllocError>
     requires features { AreFeatures features.items }
     requires zones { AreTheirZones features.items zones.now }
     requires within { All (AreRectsWithin farthest) features.items }
+    requires sorted { AreZonesFrom zones.now 0 sorted.items }
+    requires made { All (IsMade features.items zones.now) made.items }
     ensures cut { IfOk result (λ v. AreCut features.items zones.now v.pieces.items) }
     ensures wholes { IfOk result (λ v. AreWholes features.items zones.now v.wholes.items) }
     ensures sides { IfOk result (λ v. AllZip (StandBeside (parts_in v.pieces.items)) zones.now v.sides.items) }
 {
-    let sorted = by_feature(alloc, zones)?;
     let count = features.len().saturating_add(zones.len());
     let mut pieces = Vec::with_capacity(alloc, count)?;
     let mut wholes = Vec::new(alloc);
@@ -193,9 +150,9 @@ pub fn pieces_of(alloc: Global, features: Vec<Slabs>, zones: &[Zone]) -> Result<
     let mut number = 0;
     for feature in features {
         let (own, others) = rest.split_at(own_count(zones, rest, number));
-        let holes = holes_at(alloc, zones, own)?;
+        let parts = parts_of(alloc, &feature, zones, own, taken(&mut made, number))?;
         let from = pieces.len();
-        add_pieces(alloc, &mut pieces, &mut wholes, feature, holes, number)?;
+        add_pieces(&mut pieces, &mut wholes, feature, parts, number)?;
         note_sides(&mut noted, zones, own, &pieces, from)?;
         rest = others;
         number += 1;

@@ -4,11 +4,12 @@ use dpl_base::{Id, Pt};
 use dpl_feature::features;
 use dpl_masks::{Masks, masks};
 use dpl_orient::{Colours, Mask};
-use dpl_piece::{Pieces, pieces};
+use dpl_piece::{Pieces, bare_pieces_by, pieces};
 use dpl_slabs::Slabs;
 use dpl_zone::zones;
 use std::alloc::{AllocError, Global};
 use std::test::Fail;
+use std::thread::Threads;
 
 /// A long bar, and two that stand over its ends.
 const BARS: [Corners; 3] = [(0, 0, 158, 20), (0, 40, 50, 60), (108, 40, 158, 60)];
@@ -48,12 +49,41 @@ const THREE_OVER: [Corners; 4] = [
     (216, 40, 266, 60),
 ];
 
+/// The bars, the longer bar with those over it, and the square with a hole, one above the other.
+const THREE_BROKEN: [Corners; 11] = [
+    (0, 0, 158, 20),
+    (0, 40, 50, 60),
+    (108, 40, 158, 60),
+    (0, 1000, 266, 1020),
+    (0, 1040, 50, 1060),
+    (108, 1040, 158, 1060),
+    (216, 1040, 266, 1060),
+    (0, 2000, 100, 2040),
+    (0, 2040, 40, 2060),
+    (60, 2040, 100, 2060),
+    (0, 2060, 100, 2100),
+];
+
 /// The pieces of a layer by a rule of 30 and an overlap of 10.
 fn cut(alloc: Global, layer: &[Corners]) -> Result<Pieces, AllocError> {
     let layer = set_of(alloc, layer)?;
     let features = features(alloc, &layer)?;
     let zones = zones(alloc, &features, SPACING, 10, &Slabs::empty(alloc))?;
     pieces(alloc, features, zones)
+}
+
+/// The same pieces, found by so many workers.
+fn cut_by<R: Threads + Sync>(
+    rt: &R,
+    alloc: Global,
+    layer: &[Corners],
+    workers: u32,
+) -> Result<Pieces, AllocError> {
+    let layer = set_of(alloc, layer)?;
+    let features = features(alloc, &layer)?;
+    let zones = zones(alloc, &features, SPACING, 10, &Slabs::empty(alloc))?;
+    let pieces = bare_pieces_by(rt, alloc, features, zones, workers)?;
+    pieces.completed(alloc)
 }
 
 /// Whether the pieces have just these keys, one after the other.
@@ -91,7 +121,7 @@ struct Layer {
     sides: &'static [(Id, Id)],
 }
 
-const LAYERS: [Layer; 4] = [
+const LAYERS: [Layer; 5] = [
     Layer {
         rects: &BARS,
         zones: &[(74, 0, 84, 20)],
@@ -127,16 +157,60 @@ const LAYERS: [Layer; 4] = [
         owner: &[0],
         sides: &[(0, 0)],
     },
+    // three features are cut
+    Layer {
+        rects: &THREE_BROKEN,
+        zones: &[
+            (74, 0, 84, 20),
+            (74, 1000, 84, 1020),
+            (182, 1000, 192, 1020),
+            (45, 2000, 55, 2040),
+            (0, 2045, 40, 2055),
+            (60, 2045, 100, 2055),
+            (45, 2060, 55, 2100),
+        ],
+        keys: &[
+            (0, 0),
+            (84, 0),
+            (0, 40),
+            (108, 40),
+            (0, 1000),
+            (84, 1000),
+            (192, 1000),
+            (0, 1040),
+            (108, 1040),
+            (216, 1040),
+            (0, 2000),
+            (55, 2000),
+            (0, 2055),
+            (60, 2055),
+        ],
+        owner: &[0, 0, 1, 2, 3, 3, 3, 4, 5, 6, 7, 7, 7, 7],
+        sides: &[
+            (0, 1),
+            (4, 5),
+            (5, 6),
+            (10, 11),
+            (10, 12),
+            (11, 13),
+            (12, 13),
+        ],
+    },
 ];
+
+/// How many workers cut each layer.
+const WORKERS: [u32; 4] = [1, 2, 4, 64];
 
 #[test]
 fn layers_are_cut(rt: HostRuntime) -> Result<(), Fail> {
     for layer in &LAYERS {
-        let cut = cut(rt.alloc(), layer.rects)?;
-        assert!(rt; has_keys(&cut, layer.keys));
-        assert!(rt; cut.owner() == layer.owner);
-        assert!(rt; cut.sides() == layer.sides);
-        assert!(rt; has_zones(&cut, layer.zones));
+        for workers in WORKERS {
+            let cut = cut_by(&rt, rt.alloc(), layer.rects, workers)?;
+            assert!(rt; has_keys(&cut, layer.keys), "by {workers} workers");
+            assert!(rt; cut.owner() == layer.owner, "by {workers} workers");
+            assert!(rt; cut.sides() == layer.sides, "by {workers} workers");
+            assert!(rt; has_zones(&cut, layer.zones), "by {workers} workers");
+        }
     }
     Ok(())
 }

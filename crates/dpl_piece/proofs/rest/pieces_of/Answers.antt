@@ -1,16 +1,21 @@
-use Rattle.std.proofs.Common.{◌≡◌, ℕ, ◌<◌, [], length, take, ap, arith, rules}
+use Rattle.std.proofs.Common.{◌≡◌, ℕ, ◌<◌, List, [], length, get_or, map, take, ap, subst, arith, rules}
 use Rattle.std.specs.List.{All}
 use Rattle.std.specs.Vec.Iter.{into_iter_items}
 use Rattle.std.proofs.lemmas.List.{length-append, length-map}
+use Rattle.std.proofs.lemmas.List.Elements.{All-contains}
+use Rattle.std.proofs.lemmas.Option.{IfSome_then}
+use Rattle.dpl_spec_split.specs.declared.Rect.{Rect}
 use Rattle.dpl_spec_split.specs.declared.Zone.{Zone}
 use Rattle.dpl_piece.specs.declared.piece.Piece.{Piece}
-use Rattle.dpl_piece.proofs.Broken.{AreHolesOf}
+use Rattle.dpl_piece.specs.Made.{IsMade}
+use Rattle.dpl_piece.specs.Pieces.{rect_at, AreBroken, AreHolesOf}
 use Rattle.dpl_piece.proofs.Broken.{pieces-none, pieces-next}
 use Rattle.dpl_piece.proofs.Cuts.{comps, own-within, zones-below}
+use Rattle.dpl_piece.proofs.MadeLaws.{All-some, made-left}
 use Rattle.dpl_piece.proofs.Ranks.{firsts-known, numbered-below, seconds-known, sorted-sides}
 use Rattle.dpl_piece.proofs.Sides.{adds-longer, sided-next, sided-none}
 use Rattle.dpl_piece.proofs.Sorted.{are-cut}
-use Rattle.dpl_piece.proofs.Turns.{zones-from, own-feature, own-known, own-holes, own-there, zones-after, turn}
+use Rattle.dpl_piece.proofs.Turns.{own-feature, own-known, own-holes, own-there, zones-after, turn}
 use Rattle.dpl_piece.proofs.WholeLaws.{wholes-next, wholes-none}
 use Rattle.dpl_piece.proofs.rest.pieces_of.Goals as goal
 
@@ -20,26 +25,35 @@ loop-feature-init c =
       all = search rules;
       left = search rules;
       count = search rules;
-      zones = rw c.as_slice-rest.ensures.value (zones-from c.args.zones.now c.in_ok-sorted.sorted.items c.in_ok-sorted.ensures.members c.in_ok-sorted.ensures.rise);
+      zones = rw c.as_slice-rest.ensures.value c.requires.sorted;
       pieces = rw c.in_ok-pieces.ensures.items (pieces-none c.args.features.items c.args.zones.now);
       sides = rw c.in_ok-pieces.ensures.items
           (sided-none c.args.zones.now [] c.in_ok-noted.noted.firsts.items c.in_ok-noted.noted.seconds.items c.in_ok-noted.ensures.firsts
           c.in_ok-noted.ensures.seconds);
       wholes = rw c.new-wholes.ensures.items (wholes-none c.args.features.items c.args.zones.now);
+      made = c.requires.made;
     }
 
-pub holes_at-requires : goal.holes_at-requires
-holes_at-requires c =
+pub parts_of-requires-clause-known : goal.parts_of-requires-clause-known
+parts_of-requires-clause-known c =
     let at = c.loop-feature in
     rw c.split_at.ensures.front (own-known c.args.zones.now at.rest.now at.number c.own_count.result at.invariant.zones c.own_count.ensures.own c.own_count.ensures.next)
 
-pub add_pieces-requires : goal.add_pieces-requires
-add_pieces-requires c =
+pub parts_of-requires-clause-within : goal.parts_of-requires-clause-within
+parts_of-requires-clause-within c =
     let at = c.loop-feature in
-    let own : AreHolesOf c.args.zones.now at.number c.in_ok-holes.holes.items = rw (c.in_ok-holes.ensures, c.split_at.ensures.front)
-    (own-holes c.args.zones.now at.rest.now at.number c.own_count.result at.invariant.zones c.own_count.ensures.own
-    c.own_count.ensures.next) in
-    own-within c.args.features.items c.args.zones.now c.requires.features c.requires.zones c.requires.within at.number c.in_ok-holes.holes.items own
+    let own = own-holes c.args.zones.now at.rest.now at.number c.own_count.result at.invariant.zones c.own_count.ensures.own c.own_count.ensures.next in
+    rw c.split_at.ensures.front (own-within c.args.features.items c.args.zones.now c.requires.features c.requires.zones c.requires.within at.number _ own)
+
+pub parts_of-requires-clause-made : goal.parts_of-requires-clause-made
+parts_of-requires-clause-made c =
+    let at = c.loop-feature in
+    let steps = c.in-Some.ensures.steps in
+    let t = turn c.args.features.items at.yielded _ _ c.in-Some.feature at.number at.invariant.all steps.0 at.invariant.count in
+    let own = own-holes c.args.zones.now at.rest.now at.number c.own_count.result at.invariant.zones c.own_count.ensures.own c.own_count.ensures.next in
+    rw (c.split_at.ensures.front, t.2) (IfSome_then c.taken.result c.taken.ensures.taken
+    (λ parts (m, m_in, is, same). subst (λ v. AreBroken (get_or c.args.features.items at.number []) _ v.items) same
+    (made-left c.args.features.items c.args.zones.now at.number _ own m (All-contains (IsMade c.args.features.items c.args.zones.now) at.made.items m at.invariant.made m_in) is)))
 
 pub note_sides-requires-clause-known : goal.note_sides-requires-clause-known
 note_sides-requires-clause-known c =
@@ -49,7 +63,7 @@ note_sides-requires-clause-known c =
 pub note_sides-requires-clause-from : goal.note_sides-requires-clause-from
 note_sides-requires-clause-from c =
     let at = c.loop-feature in
-    let long = adds-longer c.in-Some.feature c.in_ok-holes.holes.items at.number at.pieces.items _ c.in_ok-add_pieces.ensures.adds in
+    let long = adds-longer c.in-Some.feature _ at.number at.pieces.items _ (c.in_ok-add_pieces.ensures.adds _ c.in_ok-parts.ensures) in
     rw c.deref.ensures.value (omega (arith, long, at.pieces.ok.0))
 
 pub loop-feature-preserved : goal.loop-feature-preserved
@@ -62,10 +76,11 @@ loop-feature-preserved c =
     let gone = steps.1 in
     let short = ap length steps.0 in
     let mid : ℕ = c.own_count.result in
-    let own : AreHolesOf c.args.zones.now at.number c.in_ok-holes.holes.items = rw (c.in_ok-holes.ensures, c.split_at.ensures.front)
-    (own-holes c.args.zones.now at.rest.now at.number mid at.invariant.zones c.own_count.ensures.own
-    c.own_count.ensures.next) in
-    let adds = rw t.2 at c.in_ok-add_pieces.ensures.adds in
+    let holes : List Rect = map (rect_at c.args.zones.now) (take mid at.rest.now) in
+    let own : AreHolesOf c.args.zones.now at.number holes = own-holes c.args.zones.now at.rest.now at.number mid at.invariant.zones c.own_count.ensures.own
+    c.own_count.ensures.next in
+    let parts = rw c.split_at.ensures.front at c.in_ok-parts.ensures in
+    let adds = rw t.2 at (c.in_ok-add_pieces.ensures.adds holes parts) in
     let all = comps c.args.features.items c.args.zones.now c.requires.features c.requires.zones in
     let from = length-map at.pieces.items (λ x. let u : Piece = x in u.part) in
     record {
@@ -75,18 +90,19 @@ loop-feature-preserved c =
       zones = rw c.split_at.ensures.back
           (zones-after c.args.zones.now at.rest.now at.number mid at.invariant.zones c.own_count.ensures.own
           c.own_count.ensures.next);
-      pieces = pieces-next spacing overlap c.args.features.items c.args.zones.now all zs at.number t.1 c.in_ok-holes.holes.items own
+      pieces = pieces-next spacing overlap c.args.features.items c.args.zones.now all zs at.number t.1 holes own
           at.pieces.items _ at.invariant.pieces
           (c.requires.within at.number _ t.1) adds;
       sides = sided-next spacing overlap c.args.features.items c.args.zones.now some all zs at.number t.1 (take mid at.rest.now)
           (own-there c.args.zones.now at.rest.now at.number mid at.invariant.zones c.own_count.ensures.own c.own_count.ensures.next)
           (own-feature c.args.zones.now at.rest.now at.number mid at.invariant.zones c.own_count.ensures.own c.own_count.ensures.next)
-          c.in_ok-holes.holes.items own at.pieces.items _ c.len-from.result at.noted.firsts.items at.noted.seconds.items _ _
+          holes own at.pieces.items _ c.len-from.result at.noted.firsts.items at.noted.seconds.items _ _
           (omega (arith, from, at.pieces.ok.0, c.len-from.ensures)) adds at.invariant.sides
           (rw (c.split_at.ensures.front, c.deref.ensures.value) at c.in_ok-note_sides.ensures.firsts)
           (rw (c.split_at.ensures.front, c.deref.ensures.value) at c.in_ok-note_sides.ensures.seconds);
-      wholes = wholes-next c.args.features.items c.args.zones.now at.number c.in_ok-holes.holes.items own at.wholes.items _
-          at.invariant.wholes (rw t.2 at c.in_ok-add_pieces.ensures.keeps);
+      wholes = wholes-next c.args.features.items c.args.zones.now at.number holes own at.wholes.items _
+          at.invariant.wholes (rw t.2 at (c.in_ok-add_pieces.ensures.keeps holes parts));
+      made = All-some (IsMade c.args.features.items c.args.zones.now) at.made.items c.taken.new.made.items c.taken.ensures.others at.invariant.made;
     }
 
 pub sort_with_sides-requires-clause-firsts : goal.sort_with_sides-requires-clause-firsts

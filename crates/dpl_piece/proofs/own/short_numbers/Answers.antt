@@ -4,7 +4,7 @@ use Rattle.std.specs.List.{range_with_len}
 use Rattle.std.proofs.lemmas.Iterator.{YieldsList-from_range}
 use Rattle.std.proofs.lemmas.Iterator.Adapters.{fact_from_collect}
 use Rattle.std.proofs.lemmas.Result.{IfOk-weaker}
-use Rattle.dpl_piece.proofs.rest.short_numbers.Goals as goal
+use Rattle.dpl_piece.proofs.own.short_numbers.Goals as goal
 
 pub returns : goal.returns
 returns c =

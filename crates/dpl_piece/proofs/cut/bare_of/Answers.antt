@@ -4,7 +4,7 @@ use Rattle.dpl_piece.proofs.Cuts.{bare, bare-pieces}
 use Rattle.dpl_piece.proofs.CornerLaws.{zip-some}
 use Rattle.dpl_piece.specs.Wholes.{AreWholes}
 use Rattle.dpl_piece.proofs.WholeLaws.{lie-in}
-use Rattle.dpl_piece.proofs.cut.bare_pieces.Goals as goal
+use Rattle.dpl_piece.proofs.cut.bare_of.Goals as goal
 
 pub pieces_of-requires-clause-within : goal.pieces_of-requires-clause-within
 pieces_of-requires-clause-within c = rw c.into_vec.ensures.value c.into_vec.ensures.parts.within
@@ -38,3 +38,6 @@ pub returns-clause-stand : goal.returns-clause-stand
 returns-clause-stand c =
     let sides = rw c.deref.ensures.value at c.in_ok-cut.ensures.sides in
     rw (c.of.ensures, c.of-parts.ensures, c.in_ok-parts.ensures.parts) (zip-some (StandBeside (parts_in c.in_ok-cut.cut.pieces.items)) c.args.zones.items _ sides)
+
+pub pieces_of-requires-clause-made : goal.pieces_of-requires-clause-made
+pieces_of-requires-clause-made c = rw (c.into_vec.ensures.value, c.deref.ensures.value) c.requires.made

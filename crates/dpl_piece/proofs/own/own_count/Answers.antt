@@ -1,7 +1,7 @@
 use Rattle.std.proofs.Common.{◌≡◌, ◌<◌, length, get_or, rules}
 use Rattle.dpl_piece.specs.Pieces.{feature_at}
 use Rattle.dpl_piece.proofs.Turns.{own-next}
-use Rattle.dpl_piece.proofs.rest.own_count.Goals as goal
+use Rattle.dpl_piece.proofs.own.own_count.Goals as goal
 
 pub loop-i-preserved : goal.loop-i-preserved
 loop-i-preserved c =

@@ -1,0 +1,65 @@
+use Rattle.std.proofs.Common.{◌≡◌, ◌+◌, ◌<◌, [], length, get_or, ◌∙◌, arith, rules}
+use Rattle.std.proofs.lemmas.List.{get_or_default}
+use Rattle.std.proofs.lemmas.List.Elements.{All-push}
+use Rattle.dpl_piece.specs.Made.{IsMade}
+use Rattle.dpl_piece.specs.Pieces.{AreHolesOf, AreZonesFrom}
+use Rattle.dpl_piece.proofs.Cuts.{own-within}
+use Rattle.dpl_piece.proofs.MadeLaws.{first-known}
+use Rattle.dpl_piece.proofs.Turns.{own-holes, own-known, zones-after, zones-first}
+use Rattle.dpl_piece.proofs.made.made_from.Goals as goal
+
+pub holes_at-requires : goal.holes_at-requires
+holes_at-requires c =
+    let at = c.loop-rest in
+    let some : 0 < length at.rest.now = omega (arith, c.loop-rest-test.true) in
+    let from : AreZonesFrom c.args.zones.now c.feature_of-feature.result at.rest.now = rw c.feature_of-feature.ensures
+    (zones-first c.args.zones.now at.rest.now at.invariant.rest.0 at.invariant.rest.1 some) in
+    rw c.split_at.ensures.front
+    (own-known c.args.zones.now at.rest.now c.feature_of-feature.result c.own_count.result from c.own_count.ensures.own c.own_count.ensures.next)
+
+pub bounds-features-feature : goal.bounds-features-feature
+bounds-features-feature c =
+    let at = c.loop-rest in
+    let some : 0 < length at.rest.now = omega (arith, c.loop-rest-test.true) in
+    rw c.feature_of-feature.ensures (first-known c.args.features.now c.args.zones.now at.rest.now at.invariant.rest.0 c.requires.zones at.invariant.rest.1 some)
+
+pub offset_bounds-features-feature : goal.offset_bounds-features-feature
+offset_bounds-features-feature c =
+    let at = c.loop-rest in
+    let some : 0 < length at.rest.now = omega (arith, c.loop-rest-test.true) in
+    let known : c.feature_of-feature.result < length c.args.features.now = rw c.feature_of-feature.ensures
+    (first-known c.args.features.now c.args.zones.now at.rest.now at.invariant.rest.0 c.requires.zones at.invariant.rest.1 some) in
+    search rules
+
+pub broken-requires : goal.broken-requires
+broken-requires c =
+    let at = c.loop-rest in
+    let some : 0 < length at.rest.now = omega (arith, c.loop-rest-test.true) in
+    let from : AreZonesFrom c.args.zones.now c.feature_of-feature.result at.rest.now = rw c.feature_of-feature.ensures
+    (zones-first c.args.zones.now at.rest.now at.invariant.rest.0 at.invariant.rest.1 some) in
+    let own : AreHolesOf c.args.zones.now c.feature_of-feature.result c.in_ok-holes.holes.items = rw (c.in_ok-holes.ensures, c.split_at.ensures.front)
+    (own-holes c.args.zones.now at.rest.now c.feature_of-feature.result c.own_count.result from c.own_count.ensures.own c.own_count.ensures.next) in
+    own-within c.args.features.now c.args.zones.now c.requires.features c.requires.zones c.requires.within c.feature_of-feature.result c.in_ok-holes.holes.items own
+
+pub loop-rest-preserved : goal.loop-rest-preserved
+loop-rest-preserved c =
+    let at = c.loop-rest in
+    let some : 0 < length at.rest.now = omega (arith, c.loop-rest-test.true) in
+    let from : AreZonesFrom c.args.zones.now c.feature_of-feature.result at.rest.now = rw c.feature_of-feature.ensures
+    (zones-first c.args.zones.now at.rest.now at.invariant.rest.0 at.invariant.rest.1 some) in
+    let own : AreHolesOf c.args.zones.now c.feature_of-feature.result c.in_ok-holes.holes.items = rw (c.in_ok-holes.ensures, c.split_at.ensures.front)
+    (own-holes c.args.zones.now at.rest.now c.feature_of-feature.result c.own_count.result from c.own_count.ensures.own c.own_count.ensures.next) in
+    let known : c.feature_of-feature.result < length c.args.features.now = rw c.feature_of-feature.ensures
+    (first-known c.args.features.now c.args.zones.now at.rest.now at.invariant.rest.0 c.requires.zones at.invariant.rest.1 some) in
+    let feature : c.index-features-feature.result ≡ get_or c.args.features.now c.feature_of-feature.result [] = c.index-features-feature.is
+    ∙ get_or_default c.args.features.now c.feature_of-feature.result c.index-features-feature.result [] known in
+    record {
+      made = rw c.in_ok-push.ensures.items
+          (All-push (IsMade c.args.features.now c.args.zones.now) at.made.items _ at.invariant.made
+          (c.in_ok-holes.holes.items, own, rw feature at c.in_ok-parts.ensures));
+      rest = (
+        c.feature_of-feature.result + 1,
+        rw c.split_at.ensures.back
+            (zones-after c.args.zones.now at.rest.now c.feature_of-feature.result c.own_count.result from c.own_count.ensures.own c.own_count.ensures.next),
+      );
+    }

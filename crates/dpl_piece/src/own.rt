@@ -1,0 +1,76 @@
+//! The zones of each feature.
+ghost use Rattle.std.specs.Prelude.{◌≡◌, ◌≢◌, ◌+◌, ℕ, ◌<◌, ◌≤◌, IfOk, length, map, take, slice_index_or};
+ghost use Rattle.std.specs.List.{All, range_with_len};
+ghost use Rattle.dpl_piece.specs.Pieces.{feature_at, rect_at, AreZonesFrom};
+
+use dpl_base::{Id, Rect, Zone, short_id};
+use dpl_sort::sort_by_key;
+use std::alloc::{AllocError, Global};
+
+/// The feature of a zone by the zone's number, and 0 past the end.
+pub fn feature_of(zones: &[Zone], number: usize) -> Id
+    ensures { result ≡ feature_at zones.now number }
+{
+    match zones.get(number) {
+        Some(zone) => zone.feature,
+        None => 0,
+    }
+}
+
+/// The numbers below `count`, in order, in 32 bits each. 2^32 of them or more are refused as out of memory, as so many zones would be.
+fn short_numbers(alloc: Global, count: usize) -> Result<Vec<u32>, AllocError>
+    ensures { IfOk result (λ v. v.items ≡ range_with_len 0 count) }
+{
+    let count = short_id(count as Id)?;
+    (0..count).collect(alloc)
+}
+
+/// The numbers of the zones, by feature.
+pub fn by_feature(alloc: Global, zones: &[Zone]) -> Result<Vec<u32>, AllocError>
+    ensures { IfOk result (λ v. AreZonesFrom zones.now 0 v.items) }
+{
+    let mut numbers = short_numbers(alloc, zones.len())?;
+    sort_by_key(&mut numbers, |number| feature_of(zones, *number as usize));
+    Ok(numbers)
+}
+
+/// How many of the first numbers are of zones of the feature.
+pub fn own_count(zones: &[Zone], numbers: &[u32], feature: Id) -> usize
+    ensures inside { result ≤ length numbers.now }
+    ensures own { All (λ j. feature_at zones.now j ≡ feature) (take result numbers.now) }
+    ensures next { result < length numbers.now → (d : ℕ) → feature_at zones.now (slice_index_or numbers.now result d) ≢ feature }
+{
+    for i in 0..numbers.len() {
+        if feature_of(zones, numbers[i] as usize) != feature {
+            return i;
+        }
+    }
+    numbers.len()
+}
+
+/// The rectangles of the zones of these numbers.
+pub fn holes_at(alloc: Global, zones: &[Zone], numbers: &[u32]) -> Result<Vec<Rect>, AllocError>
+    requires { All (λ j. j < length zones.now) numbers.now }
+    ensures { IfOk result (λ v. v.items ≡ map (rect_at zones.now) numbers.now) }
+{
+    let mut holes = Vec::with_capacity(alloc, numbers.len())?;
+    for &number in numbers {
+        holes.push(zones[number as usize].rect)?;
+    }
+    Ok(holes)
+}
+
+/// The numbers from a place on, past those of a feature whose zones begin before it.
+pub fn rest_from<'a>(zones: &[Zone], sorted: &'a [u32], place: usize) -> &'a [u32]
+    requires sorted { AreZonesFrom zones.now 0 sorted.now }
+    requires place { place ≤ length sorted.now }
+    ensures { (n : ℕ) × AreZonesFrom zones.now n result.now }
+{
+    if place == 0 {
+        return sorted;
+    }
+    let before = feature_of(zones, sorted[place - 1] as usize);
+    let (_, rest) = sorted.split_at(place);
+    let (_, others) = rest.split_at(own_count(zones, rest, before));
+    others
+}
