@@ -1,5 +1,5 @@
 -- What features on both masks have on one.
-use Rattle.std.proofs.Common.{◌≡◌, ℕ, ◌+◌, ◌<◌, ◌⊎◌, inl, inr, List, [], Bool, true, false, length, get_or, sym, ap, ◌∙◌, subst, true≢false, arith}
+use Rattle.std.proofs.Common.{◌≡◌, ℕ, ◌+◌, ◌<◌, ◌⊎◌, inl, inr, List, [], Bool, length, get_or, sym, ap, ◌∙◌, subst, arith}
 use Rattle.std.proofs.lemmas.Bool.{cases_eq}
 use Rattle.std.proofs.lemmas.List.{get_or_default}
 use Rattle.dpl_spec_split.specs.declared.Rect.{Rect}
@@ -16,22 +16,14 @@ use Rattle.dpl_masks.specs.Sheets.{AreRest, Puts, rest_pieces, rest_zones}
 use Rattle.dpl_masks.proofs.MaskLaws.{adds_same, adds_then, covers_none, nothing_added, piece_added}
 
 -- a piece of a feature on both masks is put on that of its letter
-module _ (M : Type 0) (mixed : M) (letter : Bool) (set a b a2 b2 : List Rect) where
-  pub first-adds : Puts letter set a b a2 b2 → Adds a a2 (λ p. M × (letter ≡ false) × Covers set p)
-  first-adds (inl (c, a_is, b_is)) = adds_same a a2 (Covers set) _ (λ p. (λ h. (mixed, c, h), λ h. h.2)) (piece_added a a2 set a_is)
-  first-adds (inr (c, a_is, b_is)) = rw a_is (nothing_added a _ (λ p h. true≢false (sym c ∙ h.1)))
+module _ (M : Type 0) (mixed : M) (own letter : Bool) (set old new : List Rect) where
+  pub put-adds : Puts own letter set old new → Adds old new (λ p. M × (own ≡ letter) × Covers set p)
+  put-adds (inl (c, is)) = adds_same old new (Covers set) _ (λ p. (λ h. (mixed, c, h), λ h. h.2)) (piece_added old new set is)
+  put-adds (inr (other, is)) = rw is (nothing_added old _ (λ p h. other h.1))
 
-  pub second-adds : Puts letter set a b a2 b2 → Adds b b2 (λ p. M × (letter ≡ true) × Covers set p)
-  second-adds (inr (c, a_is, b_is)) = adds_same b b2 (Covers set) _ (λ p. (λ h. (mixed, c, h), λ h. h.2)) (piece_added b b2 set b_is)
-  second-adds (inl (c, a_is, b_is)) = rw b_is (nothing_added b _ (λ p h. true≢false (sym h.1 ∙ c)))
-
-  pub first-within : Puts letter set a b a2 b2 → AreRectsWithin farthest set → AreRectsWithin farthest a → AreRectsWithin farthest a2
-  first-within (inl (c, a_is, b_is)) w v = rw a_is (rects-appended farthest a set v w)
-  first-within (inr (c, a_is, b_is)) w v = rw a_is v
-
-  pub second-within : Puts letter set a b a2 b2 → AreRectsWithin farthest set → AreRectsWithin farthest b → AreRectsWithin farthest b2
-  second-within (inl (c, a_is, b_is)) w v = rw b_is v
-  second-within (inr (c, a_is, b_is)) w v = rw b_is (rects-appended farthest b set v w)
+  pub put-within : Puts own letter set old new → AreRectsWithin farthest set → AreRectsWithin farthest old → AreRectsWithin farthest new
+  put-within (inl (c, is)) w v = rw is (rects-appended farthest old set v w)
+  put-within (inr (other, is)) w v = rw is v
 
 pub no-rest_pieces : (old : List Rect) (parts : List (List Rect)) (owners : List ℕ) (colours : List Bool) (inks : List Ink) (letter : Bool)
     → Adds old old (rest_pieces 0 parts owners colours inks letter)

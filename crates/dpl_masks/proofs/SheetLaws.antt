@@ -1,5 +1,5 @@
 -- Features put on masks one after the other.
-use Rattle.std.proofs.Common.{◌≡◌, ℕ, ◌+◌, ◌≤◌, ◌<◌, ◌⊎◌, inl, inr, List, [], ◌∷◌, ◌++◌, Bool, true, false, length, get_or, refl, sym, ap, ◌∙◌, subst, true≢false, arith}
+use Rattle.std.proofs.Common.{◌≡◌, ℕ, ◌+◌, ◌≤◌, ◌<◌, ◌⊎◌, inl, inr, List, [], ◌∷◌, ◌++◌, Bool, length, get_or, refl, sym, ap, ◌∙◌, subst, arith}
 use Rattle.std.specs.Prelude.{◌↔◌}
 use Rattle.std.specs.List.{All, AllPairs, Any}
 use Rattle.std.proofs.lemmas.Bool.{cases_eq, cases_order}
@@ -20,6 +20,7 @@ use Rattle.dpl_slabs.specs.Parts.{union_of}
 use Rattle.dpl_slabs.specs.Scattered.{AreUntouched}
 use Rattle.dpl_slabs.proofs.LoopLaws.{covers-appended, rects-appended}
 use Rattle.dpl_slabs.proofs.ScatteredLaws.{scattered-more}
+use Rattle.dpl_piece.specs.declared.matched.Cut.{Cut}
 use Rattle.dpl_piece.specs.declared.piece.Whole.{Whole}
 use Rattle.dpl_piece.specs.Wholes.{AreOwnSides, HasWhole, IsZoneIn, LieIn}
 use Rattle.dpl_piece.proofs.CornerLaws.{zip-at, zip-length}
@@ -29,7 +30,7 @@ use Rattle.dpl_orient.specs.Masks.{is_second}
 use Rattle.dpl_masks.specs.declared.ink.Ink.{Ink}
 use Rattle.dpl_masks.specs.declared.ink.Ink.TheVariants.{Uncut, Blank, One, Both}
 use Rattle.dpl_masks.specs.Inks.{IsInk, IsMixed, IsOne, IsUncut, ink_at}
-use Rattle.dpl_masks.specs.Sheets.{AreKnown, AreRest, AreSheets, IsDone, IsSheet, PutsOne, PutsUncut, in_some}
+use Rattle.dpl_masks.specs.Sheets.{AreInked, AreKnown, AreRest, IsDone, IsSheet, IsSheetTo, PutsOne, PutsUncut, in_some}
 
 touch-self : (p : Pt) → Touch p p
 touch-self p = Touch-from_close p p (omega (arith, ints)) (omega (arith, ints)) (omega (arith, ints)) (omega (arith, ints))
@@ -377,54 +378,31 @@ module _ (features parts : List (List Rect)) (owners : List ℕ) (zones : List Z
       → IsSheet features (Mask letter) done out → IsSheet features (Mask letter) all out
   sheet-none letter done all out either h = sheet-same features (Mask letter) done (λ f. ⊥) all out h either (λ p m (f, none, in_f). none)
 
-  piece-step : (k : ℕ) → k < length parts → (a b a2 b2 : List Rect) → Sheet false k 0 a → Sheet true k 0 b
-      → PutsUncut (ink_at inks (owner k)) (colour_at colours k) (get_or parts k []) a b a2 b2 → Sheet false (k + 1) 0 a2
-      × Sheet true (k + 1) 0 b2
-  piece-step k k_in a b a2 b2 h g (inl (u, inl (c, a_is, b_is))) = (
-    rw a_is (sheet-more features (Mask false) _ (λ f. f ≡ owner k) _ a (get_or parts k []) known.lie.untouched h
-        (known.apart.canonical k [] k_in) (known.apart.within k [] k_in) (λ f p. uncut-fresh k k_in u 0 f p (omega arith))
-        (uncut-done k k_in u 0) (uncut-covers k k_in u false c)),
-    rw b_is (sheet-same features (Mask true) _ (λ f. f ≡ owner k) _ b g (uncut-done k k_in u 0) (uncut-other k k_in u true (λ e. true≢false (sym e ∙ c)))),
-  )
-  piece-step k k_in a b a2 b2 h g (inl (u, inr (c, a_is, b_is))) = (
-    rw a_is (sheet-same features (Mask false) _ (λ f. f ≡ owner k) _ a h (uncut-done k k_in u 0) (uncut-other k k_in u false (λ e. true≢false (sym c ∙ e)))),
-    rw b_is (sheet-more features (Mask true) _ (λ f. f ≡ owner k) _ b (get_or parts k []) known.lie.untouched g
-        (known.apart.canonical k [] k_in) (known.apart.within k [] k_in) (λ f p. uncut-fresh k k_in u 0 f p (omega arith))
-        (uncut-done k k_in u 0) (uncut-covers k k_in u true c)),
-  )
-  piece-step k k_in a b a2 b2 h g (inr (other, a_is, b_is)) = (
-    rw a_is (sheet-none false _ _ a (λ f. other-done k 0 f other) h),
-    rw b_is (sheet-none true _ _ b (λ f. other-done k 0 f other) g),
-  )
+  piece-step : (letter : Bool) (k : ℕ) → k < length parts → (out out2 : List Rect) → Sheet letter k 0 out
+      → PutsUncut (ink_at inks (owner k)) (colour_at colours k) letter (get_or parts k []) out out2 → Sheet letter (k + 1) 0 out2
+  piece-step letter k k_in out out2 h (inl (u, inl (c, is))) =
+      rw is (sheet-more features (Mask letter) _ (λ f. f ≡ owner k) _ out (get_or parts k []) known.lie.untouched h
+      (known.apart.canonical k [] k_in) (known.apart.within k [] k_in) (λ f p. uncut-fresh k k_in u 0 f p (omega arith))
+      (uncut-done k k_in u 0) (uncut-covers k k_in u letter c))
+  piece-step letter k k_in out out2 h (inl (u, inr (other, is))) =
+      rw is (sheet-same features (Mask letter) _ (λ f. f ≡ owner k) _ out h (uncut-done k k_in u 0) (uncut-other k k_in u letter other))
+  piece-step letter k k_in out out2 h (inr (other, is)) = rw is (sheet-none letter _ _ out (λ f. other-done k 0 f other) h)
 
-  whole-step : (n k : ℕ) (w : Whole) → k < length wholes → get_or wholes k w ≡ w → IsCanonical w.set → AreRectsWithin farthest w.set
-      → (a b a2 b2 : List Rect) → Sheet false n k a → Sheet true n k b → PutsOne (ink_at inks w.feature) w.set a b a2 b2
-      → Sheet false n (k + 1) a2 × Sheet true n (k + 1) b2
-  whole-step n k w k_in w_is canonical within a b a2 b2 h g (inl (letter, ink, inl (c, a_is, b_is))) =
-      let is : IsOne (ink_at inks w.feature) = subst IsOne (sym ink) tt in
+  whole-step : (letter : Bool) (n k : ℕ) (w : Whole) → k < length wholes → get_or wholes k w ≡ w → IsCanonical w.set
+      → AreRectsWithin farthest w.set → (out out2 : List Rect) → Sheet letter n k out
+      → PutsOne (ink_at inks w.feature) letter w.set out out2 → Sheet letter n (k + 1) out2
+  whole-step letter n k w k_in w_is canonical within out out2 h (inl (own, ink, inl (c, is))) =
+      let alone : IsOne (ink_at inks w.feature) = subst IsOne (sym ink) tt in
       let set_is : get_or features w.feature [] ≡ w.set = (subst (λ (x : Whole). (x.feature < length features)
-      × (get_or features x.feature [] ≡ x.set)) w_is (known.lie.cut k w k_in)).1 in (
-        rw a_is (sheet-more features (Mask false) _ (λ f. f ≡ w.feature) _ a w.set known.lie.untouched h canonical within
-            (whole-fresh n k w k_in w_is is) (whole-done n k w k_in w_is is)
-            (subst (λ l. (p : Pt) → Covers w.set p ↔ (Mask l p × in_some features (λ f. f ≡ w.feature) p)) c
-            (one-covers w.feature letter ink w.set set_is))),
-        rw b_is (sheet-same features (Mask true) _ (λ f. f ≡ w.feature) _ b g (whole-done n k w k_in w_is is) (one-other w.feature letter ink true (λ e. true≢false (sym e ∙ c)))),
-      )
-  whole-step n k w k_in w_is canonical within a b a2 b2 h g (inl (letter, ink, inr (c, a_is, b_is))) =
-      let is : IsOne (ink_at inks w.feature) = subst IsOne (sym ink) tt in
-      let set_is : get_or features w.feature [] ≡ w.set = (subst (λ (x : Whole). (x.feature < length features)
-      × (get_or features x.feature [] ≡ x.set)) w_is (known.lie.cut k w k_in)).1 in (
-        rw a_is (sheet-same features (Mask false) _ (λ f. f ≡ w.feature) _ a h (whole-done n k w k_in w_is is)
-            (one-other w.feature letter ink false (λ e. true≢false (sym c ∙ e)))),
-        rw b_is (sheet-more features (Mask true) _ (λ f. f ≡ w.feature) _ b w.set known.lie.untouched g canonical within
-            (whole-fresh n k w k_in w_is is) (whole-done n k w k_in w_is is)
-            (subst (λ l. (p : Pt) → Covers w.set p ↔ (Mask l p × in_some features (λ f. f ≡ w.feature) p)) c
-            (one-covers w.feature letter ink w.set set_is))),
-      )
-  whole-step n k w k_in w_is canonical within a b a2 b2 h g (inr (other, a_is, b_is)) = (
-    rw a_is (sheet-none false _ _ a (other-whole n k w k_in w_is other) h),
-    rw b_is (sheet-none true _ _ b (other-whole n k w k_in w_is other) g),
-  )
+      × (get_or features x.feature [] ≡ x.set)) w_is (known.lie.cut k w k_in)).1 in
+      rw is (sheet-more features (Mask letter) _ (λ f. f ≡ w.feature) _ out w.set known.lie.untouched h canonical within
+      (whole-fresh n k w k_in w_is alone) (whole-done n k w k_in w_is alone)
+      (subst (λ l. (p : Pt) → Covers w.set p ↔ (Mask l p × in_some features (λ f. f ≡ w.feature) p)) c
+      (one-covers w.feature own ink w.set set_is)))
+  whole-step letter n k w k_in w_is canonical within out out2 h (inl (own, ink, inr (other, is))) =
+      let alone : IsOne (ink_at inks w.feature) = subst IsOne (sym ink) tt in
+      rw is (sheet-same features (Mask letter) _ (λ f. f ≡ w.feature) _ out h (whole-done n k w k_in w_is alone) (one-other w.feature own ink letter other))
+  whole-step letter n k w k_in w_is canonical within out out2 h (inr (other, is)) = rw is (sheet-none letter _ _ out (other-whole n k w k_in w_is other) h)
 
   -- what features on both masks have on one
   rest-covers : (letter : Bool) (rects : List Rect) → AreRest parts owners zones sides colours inks letter rects → (p : Pt)
@@ -484,8 +462,9 @@ module _ (features parts : List (List Rect)) (owners : List ℕ) (zones : List Z
     covers = λ p. (λ x. ((h.covers p).0 ((s.covers p).0 x)).0, λ m. (s.covers p).1 ((h.covers p).1 (m, all-done letter p m)));
   }
 
-pub piece-put : (i j : Ink) (l m : Bool) (s t a b a2 b2 : List Rect) → i ≡ j → l ≡ m → s ≡ t → PutsUncut i l s a b a2 b2 → PutsUncut j m t a b a2 b2
-piece-put i j l m s t a b a2 b2 e f g h = subst (λ x. PutsUncut x m t a b a2 b2) e (subst (λ x. PutsUncut i x t a b a2 b2) f (subst (λ x. PutsUncut i l x a b a2 b2) g h))
+pub piece-put : (i j : Ink) (l m letter : Bool) (s t old new : List Rect) → i ≡ j → l ≡ m → s ≡ t → PutsUncut i l letter s old new → PutsUncut j m letter t old new
+piece-put i j l m letter s t old new e f g h =
+    subst (λ x. PutsUncut x m letter t old new) e (subst (λ x. PutsUncut i x letter t old new) f (subst (λ x. PutsUncut i l letter x old new) g h))
 
 -- the numbers of features are known
 pub owners-known : (features parts : List (List Rect)) (owners : List ℕ) (zones : List Zone) (wholes : List Whole) (count : ℕ)
@@ -503,37 +482,46 @@ pub wholes-known : (features parts : List (List Rect)) (owners : List ℕ) (zone
     → LieIn features parts owners zones wholes → length features ≡ count → All (λ w. w.feature < count) wholes
 wholes-known features parts owners zones wholes count lie each k d k_in = let below = (lie.cut k d k_in).0 in omega (arith, below, each)
 
-module _ (parts : List (List Rect)) (owners : List ℕ) (zones : List Zone) (sides : List (ℕ × ℕ)) (wholes : List Whole) (colours : List Bool) (inks : List Ink) where
-  pub sheets-piece : (k : ℕ) (a b a2 b2 : List Rect) → k < length parts → AreSheets parts owners zones sides wholes colours inks k 0 a b
-      → PutsUncut (ink_at inks (get_or owners k 0)) (colour_at colours k) (get_or parts k []) a b a2 b2
-      → AreSheets parts owners zones sides wholes colours inks (k + 1) 0 a2 b2
-  sheets-piece k a b a2 b2 k_in s puts =
-      let step = piece-step s.features parts owners zones sides wholes colours inks s.facts k k_in a b a2 b2 s.first s.second puts in
-      record { features = s.features; facts = s.facts; first = step.0; second = step.1 }
+-- what is known of coloured pieces, list by list
+module _ (cut : Cut) (letters : List Letter) (inks : List Ink) (h : AreInked cut letters inks) where
+  pub inked-owned : All (λ k. k < length inks) cut.owners.items
+  inked-owned = owners-known h.features cut.parts cut.owners.items cut.zones.items cut.wholes.items _ h.facts.lie (sym h.facts.inked.each)
 
-  pub sheets-whole : (n k : ℕ) (w : Whole) (a b a2 b2 : List Rect) → k < length wholes → get_or wholes k w ≡ w → IsCanonical w.set
-      → AreRectsWithin farthest w.set → AreSheets parts owners zones sides wholes colours inks n k a b
-      → PutsOne (ink_at inks w.feature) w.set a b a2 b2 → AreSheets parts owners zones sides wholes colours inks n (k + 1) a2 b2
-  sheets-whole n k w a b a2 b2 k_in w_is canonical within s puts =
-      let step = whole-step s.features parts owners zones sides wholes colours inks s.facts n k w k_in w_is canonical within a b a2 b2 s.first s.second puts in
-      record { features = s.features; facts = s.facts; first = step.0; second = step.1 }
+  pub inked-owners : length cut.owners.items ≡ length cut.parts
+  inked-owners = let each = zip-length (IsOwner h.features) cut.parts cut.owners.items h.facts.lie.owned in omega (arith, each)
 
-  pub sheets-united : (features : List (List Rect)) (a b a2 b2 : List Rect)
-      → AreKnown features parts owners zones sides wholes colours inks → AreRest parts owners zones sides colours inks false a
-      → AreRest parts owners zones sides colours inks true b
-      → AreSlabsOf (Covers a) a2 → AreSlabsOf (Covers b) b2 → AreRectsWithin farthest a2 → AreRectsWithin farthest b2
-      → AreSheets parts owners zones sides wholes colours inks 0 0 a2 b2
-  sheets-united features a b a2 b2 known f g s t v w = record {
-    features = features;
-    facts = known;
-    first = rest-sheet features parts owners zones sides wholes colours inks known false a a2 f s v;
-    second = rest-sheet features parts owners zones sides wholes colours inks known true b b2 g t w;
+  pub inked-sides : length cut.sides.items ≡ length cut.zones.items
+  inked-sides = let each = zip-length (AreOwnSides cut.owners.items) cut.zones.items cut.sides.items h.facts.own in omega (arith, each)
+
+module _ (parts : List (List Rect)) (owners : List ℕ) (zones : List Zone) (sides : List (ℕ × ℕ)) (wholes : List Whole) (colours : List Bool)
+    (inks : List Ink) (letter : Bool) where
+  pub sheet-piece : (k : ℕ) (out out2 : List Rect) → k < length parts → IsSheetTo parts owners zones sides wholes colours inks letter k 0 out
+      → PutsUncut (ink_at inks (get_or owners k 0)) (colour_at colours k) letter (get_or parts k []) out out2
+      → IsSheetTo parts owners zones sides wholes colours inks letter (k + 1) 0 out2
+  sheet-piece k out out2 k_in s puts = record {
+    features = s.features;
+    facts = s.facts;
+    sheet = piece-step s.features parts owners zones sides wholes colours inks s.facts letter k k_in out out2 s.sheet puts;
   }
 
-  pub first-slabs : (a b slabs : List Rect) → AreSheets parts owners zones sides wholes colours inks (length parts) (length wholes) a b
-      → AreSlabsOf (Covers a) slabs → AreSlabsOf (on_mask parts zones sides colours false) slabs
-  first-slabs a b slabs s t = sheet-slabs s.features parts owners zones sides wholes colours inks s.facts false a slabs s.first t
+  pub sheet-whole : (n k : ℕ) (w : Whole) (out out2 : List Rect) → k < length wholes → get_or wholes k w ≡ w → IsCanonical w.set
+      → AreRectsWithin farthest w.set → IsSheetTo parts owners zones sides wholes colours inks letter n k out
+      → PutsOne (ink_at inks w.feature) letter w.set out out2 → IsSheetTo parts owners zones sides wholes colours inks letter n (k + 1) out2
+  sheet-whole n k w out out2 k_in w_is canonical within s puts = record {
+    features = s.features;
+    facts = s.facts;
+    sheet = whole-step s.features parts owners zones sides wholes colours inks s.facts letter n k w k_in w_is canonical within out out2 s.sheet puts;
+  }
 
-  pub second-slabs : (a b slabs : List Rect) → AreSheets parts owners zones sides wholes colours inks (length parts) (length wholes) a b
-      → AreSlabsOf (Covers b) slabs → AreSlabsOf (on_mask parts zones sides colours true) slabs
-  second-slabs a b slabs s t = sheet-slabs s.features parts owners zones sides wholes colours inks s.facts true b slabs s.second t
+  pub sheet-united : (features : List (List Rect)) (rest out : List Rect) → AreKnown features parts owners zones sides wholes colours inks
+      → AreRest parts owners zones sides colours inks letter rest → AreSlabsOf (Covers rest) out → AreRectsWithin farthest out
+      → IsSheetTo parts owners zones sides wholes colours inks letter 0 0 out
+  sheet-united features rest out known h s w = record {
+    features = features;
+    facts = known;
+    sheet = rest-sheet features parts owners zones sides wholes colours inks known letter rest out h s w;
+  }
+
+  pub mask-slabs : (out slabs : List Rect) → IsSheetTo parts owners zones sides wholes colours inks letter (length parts) (length wholes) out
+      → AreSlabsOf (Covers out) slabs → AreSlabsOf (on_mask parts zones sides colours letter) slabs
+  mask-slabs out slabs s t = sheet-slabs s.features parts owners zones sides wholes colours inks s.facts letter out slabs s.sheet t

@@ -1,15 +1,16 @@
 -- Features put on masks.
-use Rattle.std.specs.Prelude.{◌≡◌, ℕ, ◌<◌, ◌⊎◌, ◌↔◌, ◌++◌, Bool, true, false, List, length, slice_index, slice_index_or}
+use Rattle.std.specs.Prelude.{◌≡◌, ℕ, ◌<◌, ◌⊎◌, ◌↔◌, ◌++◌, Bool, List, length, map, slice_index, slice_index_or}
 use Rattle.std.specs.List.{All, AllZip}
 use Rattle.dpl_spec_split.specs.declared.Pt.{Pt}
 use Rattle.dpl_spec_split.specs.declared.Rect.{Rect}
 use Rattle.dpl_spec_split.specs.declared.Zone.{Zone}
-use Rattle.dpl_spec_split.specs.Squares.{Covers, Has, Region}
+use Rattle.dpl_spec_split.specs.Squares.{Covers, Has, IsSolidWithin, Region}
 use Rattle.dpl_spec_split.specs.Loops.{AreRectsWithin, farthest}
 use Rattle.dpl_spec_split.specs.Colours.{colour_at, on_mask}
 use Rattle.dpl_spec_split.specs.Zones.{part_at}
 use Rattle.dpl_slabs.specs.Parts.{AreParts}
 use Rattle.dpl_slabs.specs.Scattered.{AreScattered}
+use Rattle.dpl_piece.specs.declared.matched.Cut.{Cut}
 use Rattle.dpl_piece.specs.declared.piece.Whole.{Whole}
 use Rattle.dpl_piece.specs.Wholes.{AreOwnSides, LieIn}
 use Rattle.dpl_orient.specs.declared.mask.Mask.{Mask}
@@ -19,18 +20,17 @@ use Rattle.dpl_masks.specs.declared.ink.Ink.TheVariants.{One}
 use Rattle.dpl_masks.specs.Inks.{AreInks, IsMixed, IsOne, IsUncut, ink_at}
 use Rattle.dpl_masks.specs.Painting.{IsEither}
 
--- the slabs were put on the mask of the letter
-abbrev pub Puts : Bool → List Rect → List Rect → List Rect → List Rect → List Rect → Type 0
-Puts letter slabs old_a old_b new_a new_b = ((letter ≡ false) × (new_a ≡ old_a ++ slabs) × (new_b ≡ old_b)) ⊎ ((letter ≡ true) × (new_a ≡ old_a) × (new_b ≡ old_b ++ slabs))
+-- slabs with a letter of their own were put on the mask of a letter, if that is the same
+abbrev pub Puts : Bool → Bool → List Rect → List Rect → List Rect → Type 0
+Puts own letter slabs old new = ((own ≡ letter) × (new ≡ old ++ slabs)) ⊎ (¬ (own ≡ letter) × (new ≡ old))
 
 -- a piece was put, if no zone cuts its feature
-abbrev pub PutsUncut : Ink → Bool → List Rect → List Rect → List Rect → List Rect → List Rect → Type 0
-PutsUncut ink letter slabs old_a old_b new_a new_b = (IsUncut ink × Puts letter slabs old_a old_b new_a new_b) ⊎ (¬ IsUncut ink × (new_a ≡ old_a) × (new_b ≡ old_b))
+abbrev pub PutsUncut : Ink → Bool → Bool → List Rect → List Rect → List Rect → Type 0
+PutsUncut ink own letter slabs old new = (IsUncut ink × Puts own letter slabs old new) ⊎ (¬ IsUncut ink × (new ≡ old))
 
 -- a feature was put, if it lies on one mask
-abbrev pub PutsOne : Ink → List Rect → List Rect → List Rect → List Rect → List Rect → Type 0
-PutsOne ink slabs old_a old_b new_a new_b = ((letter : Mask) × (ink ≡ One letter) × Puts (is_second letter) slabs old_a old_b new_a new_b)
-    ⊎ (¬ IsOne ink × (new_a ≡ old_a) × (new_b ≡ old_b))
+abbrev pub PutsOne : Ink → Bool → List Rect → List Rect → List Rect → Type 0
+PutsOne ink letter slabs old new = ((own : Mask) × (ink ≡ One own) × Puts (is_second own) letter slabs old new) ⊎ (¬ IsOne ink × (new ≡ old))
 
 -- the squares of some of the features
 abbrev pub in_some : List (List Rect) → (ℕ → Type 0) → Region
@@ -58,13 +58,19 @@ IsDone owners wholes inks n m f =
     ⊎ (((k : ℕ) × (k < n) × (slice_index owners k ≡ f) × IsUncut (ink_at inks f))
     ⊎ ((k : ℕ) × (w : Whole) × (k < m) × (k < length wholes) × (slice_index_or wholes k w ≡ w) × (w.feature ≡ f) × IsOne (ink_at inks f)))
 
--- both masks with all that is done
-pub record AreSheets (parts : List (List Rect)) (owners : List ℕ) (zones : List Zone) (sides : List (ℕ × ℕ)) (wholes : List Whole)
-    (colours : List Bool) (inks : List Ink) (n m : ℕ) (a b : List Rect) : Type 0 where
+-- coloured pieces, of which all of this is known
+pub record AreInked (cut : Cut) (letters : List Mask) (inks : List Ink) : Type 0 where
+  pub features : List (List Rect)
+  pub facts : AreKnown features cut.parts cut.owners.items cut.zones.items cut.sides.items cut.wholes.items (map is_second letters) inks
+  pub each : length letters ≡ length cut.parts
+  pub solid : All (λ z. IsSolidWithin farthest z.rect) cut.zones.items
+
+-- the mask of a letter with all that is done
+pub record IsSheetTo (parts : List (List Rect)) (owners : List ℕ) (zones : List Zone) (sides : List (ℕ × ℕ)) (wholes : List Whole)
+    (colours : List Bool) (inks : List Ink) (letter : Bool) (n m : ℕ) (out : List Rect) : Type 0 where
   pub features : List (List Rect)
   pub facts : AreKnown features parts owners zones sides wholes colours inks
-  pub first : IsSheet features (on_mask parts zones sides colours false) (IsDone owners wholes inks n m) a
-  pub second : IsSheet features (on_mask parts zones sides colours true) (IsDone owners wholes inks n m) b
+  pub sheet : IsSheet features (on_mask parts zones sides colours letter) (IsDone owners wholes inks n m) out
 
 -- the squares of those of the first n pieces that have the letter and lie in features on both masks
 abbrev pub rest_pieces : ℕ → List (List Rect) → List ℕ → List Bool → List Ink → Bool → Region

@@ -4,10 +4,11 @@ ghost use Rattle.std.specs.List.{All};
 ghost use Rattle.dpl_piece.specs.declared.piece.Whole.{Whole};
 ghost use Rattle.dpl_orient.specs.Masks.{is_second};
 ghost use Rattle.dpl_masks.specs.Inks.{AreInks, AreInksTo, AreNotedTo, IsMixed, ink_after};
+ghost use Rattle.dpl_masks.specs.Sheets.{AreInked};
 
 use dpl_base::Id;
 use dpl_orient::Mask;
-use dpl_piece::Whole;
+use dpl_piece::{Cut, Pieces, Whole};
 use std::alloc::{AllocError, Global};
 
 /// On which masks the pieces of a feature lie.
@@ -90,7 +91,7 @@ fn note_pieces(inks: &mut Vec<Ink>, owners: &[Id], colours: &[Mask])
 }
 
 /// On which masks each of so many features lies.
-pub fn inks_of(
+fn inks_of(
     alloc: Global,
     count: usize,
     owners: &[Id],
@@ -106,4 +107,28 @@ pub fn inks_of(
     note_wholes(&mut inks, wholes);
     note_pieces(&mut inks, owners, colours);
     Ok(inks)
+}
+
+/// The pieces of a layer, and on which masks its features lie.
+#[derive(Drop)]
+pub(crate) struct InkedPieces {
+    pub(crate) cut: Cut,
+    pub(crate) inks: Vec<Ink>,
+}
+
+/// Coloured pieces with their features' masks.
+pub(crate) fn inked_pieces(
+    alloc: Global,
+    pieces: Pieces,
+    colours: &[Mask],
+) -> Result<InkedPieces, AllocError>
+    requires { length colours.now ≡ length pieces.parts }
+    ensures inked { IfOk result (λ i. AreInked i.cut colours.now i.inks.items) }
+    ensures parts { IfOk result (λ i. i.cut.parts ≡ pieces.parts) }
+    ensures zones { IfOk result (λ i. i.cut.zones.items ≡ pieces.zones) }
+    ensures sides { IfOk result (λ i. i.cut.sides.items ≡ pieces.sides) }
+{
+    let cut = pieces.into_cut();
+    let inks = inks_of(alloc, cut.count, &cut.owners, &cut.wholes, colours)?;
+    Ok(InkedPieces { cut, inks })
 }

@@ -7,5 +7,5 @@ mod painting;
 mod pair;
 
 pub use bytes::{file_bytes, put_boundary};
-pub use painting::{masks, stitches};
+pub use painting::{masks, masks_by, stitches};
 pub use pair::Masks;

@@ -1,74 +1,116 @@
 //! Which squares lie on which mask.
-ghost use Rattle.std.specs.Prelude.{◌≡◌, ℕ, ◌<◌, ◌⊎◌, ◌↔◌, ◌++◌, ◌∷◌, [], false, true, map, IfOk, OnOk, length};
+ghost use Rattle.std.specs.Prelude.{◌≡◌, ℕ, ◌<◌, ◌⊎◌, ◌++◌, ◌∷◌, [], false, true, map, IfOk, OnOk, length};
 ghost use Rattle.std.specs.List.{All};
 ghost use Rattle.dpl_spec_split.specs.Loops.{AreRectsWithin, farthest};
 ghost use Rattle.dpl_spec_split.specs.Squares.{Covers, Has, IsSolidWithin};
 ghost use Rattle.dpl_spec_split.specs.Slabs.{AreSlabsOf};
-ghost use Rattle.dpl_spec_split.specs.Colours.{AreStitches, differ};
+ghost use Rattle.dpl_spec_split.specs.Colours.{AreStitches, differ, on_mask};
 ghost use Rattle.dpl_orient.specs.Masks.{is_second};
 ghost use Rattle.dpl_masks.specs.Inks.{IsMixed};
 ghost use Rattle.dpl_masks.specs.Painting.{Adds, AreMasksOf};
-ghost use Rattle.dpl_masks.specs.Sheets.{AreRest, AreSheets, Puts, PutsOne, PutsUncut, rest_pieces, rest_zones};
+ghost use Rattle.dpl_masks.specs.Sheets.{AreInked, AreRest, IsSheetTo, Puts, PutsOne, PutsUncut, rest_pieces, rest_zones};
 
-use crate::ink::{Ink, inks_of, is_mixed, is_same};
+use crate::ink::{Ink, InkedPieces, inked_pieces, is_mixed, is_same};
 use crate::pair::Masks;
 use dpl_base::{Id, Rect, Zone};
 use dpl_orient::{Colours, Mask};
-use dpl_piece::{Cut, Pieces, Whole};
+use dpl_piece::{Cut, Pieces};
 use dpl_slabs::Slabs;
 use std::alloc::{AllocError, Global};
+use std::thread::{Threads, join};
 
-/// The masks of coloured pieces. A piece is on the mask of its letter, and a zone on the masks of both its sides. A feature that lies on one mask is put there as it is; what others have on a mask is united.
+/// The masks of coloured pieces. A piece is on the mask of its letter, and a zone on the masks of both its sides.
+///
+/// The error: out of memory.
 pub fn masks(alloc: Global, pieces: Pieces, colours: &Colours) -> Result<Masks, AllocError>
     requires { length colours.now ≡ length pieces.parts }
     ensures masks { IfOk result (AreMasksOf pieces colours.now) }
     ensures within { IfOk result (λ m. AreRectsWithin farthest m.a × AreRectsWithin farthest m.b) }
 {
-    let cut = pieces.into_cut();
     let letters = colours.items();
-    let inks = inks_of(alloc, cut.count, &cut.owners, &cut.wholes, letters)?;
-    let rest = rest_of(alloc, &cut, &inks, letters)?;
-    let Rects { a, b } = rest;
-    let mut a = united(alloc, a)?;
-    let mut b = united(alloc, b)?;
-    add_uncut(&mut a, &mut b, &cut, &inks, letters)?;
-    add_wholes(&mut a, &mut b, &cut, &inks, letters)?;
-    let a = Slabs::of_scattered(a);
-    let b = Slabs::of_scattered(b);
+    let inked = inked_pieces(alloc, pieces, letters)?;
+    let a = mask_of(alloc, &inked, letters, Mask::A)?;
+    let b = mask_of(alloc, &inked, letters, Mask::B)?;
     Ok(Masks { a, b })
 }
 
-/// Rectangles of both masks, which may overlap.
-#[derive(Drop)]
-struct Rects {
-    a: Vec<Rect>,
-    b: Vec<Rect>,
+/// The masks of coloured pieces, as `masks` gives them. With two workers or more mask A is made in a thread of its own, if one can be made.
+///
+/// The error: out of memory.
+pub fn masks_by<R: Threads>(
+    rt: &R,
+    alloc: Global,
+    pieces: Pieces,
+    colours: &Colours,
+    workers: u32,
+) -> Result<Masks, AllocError>
+    requires { length colours.now ≡ length pieces.parts }
+    ensures masks { IfOk result (AreMasksOf pieces colours.now) }
+    ensures within { IfOk result (λ m. AreRectsWithin farthest m.a × AreRectsWithin farthest m.b) }
+{
+    if workers < 2 {
+        return masks(alloc, pieces, colours);
+    }
+    let letters = colours.items();
+    let inked = inked_pieces(alloc, pieces, letters)?;
+    let (a, b) = join(
+        rt,
+        || -> Result<Slabs, AllocError>
+            requires { AreInked inked.cut letters.now inked.inks.items }
+            ensures mask { IfOk result (AreSlabsOf (on_mask inked.cut.parts inked.cut.zones.items inked.cut.sides.items (map is_second letters.entry.now) (is_second Mask.A))) }
+            ensures within { IfOk result (AreRectsWithin farthest) }
+        { mask_of(alloc, &inked, letters, Mask::A) },
+        || -> Result<Slabs, AllocError>
+            requires { AreInked inked.cut letters.now inked.inks.items }
+            ensures mask { IfOk result (AreSlabsOf (on_mask inked.cut.parts inked.cut.zones.items inked.cut.sides.items (map is_second letters.entry.now) (is_second Mask.B))) }
+            ensures within { IfOk result (AreRectsWithin farthest) }
+        { mask_of(alloc, &inked, letters, Mask::B) },
+    );
+    Ok(Masks { a: a?, b: b? })
 }
 
-/// The rectangles that features on both masks have on each.
-fn rest_of(alloc: Global, cut: &Cut, inks: &[Ink], colours: &[Mask]) -> Result<Rects, AllocError>
-    requires each { length colours.now ≡ length cut.now.parts }
-    requires owners { length cut.now.owners.items ≡ length cut.now.parts }
-    requires sides { length cut.now.sides.items ≡ length cut.now.zones.items }
-    requires known { All (λ side. (side.0 < length cut.now.parts) × (side.1 < length cut.now.parts)) cut.now.sides.items }
-    requires zones { All (λ z. IsSolidWithin farthest z.rect) cut.now.zones.items }
-    requires owned { All (λ k. k < length inks.now) cut.now.owners.items }
-    requires zoned { All (λ z. z.feature < length inks.now) cut.now.zones.items }
-    ensures a { IfOk result (λ r. AreRest cut.now.parts cut.now.owners.items cut.now.zones.items cut.now.sides.items (map is_second colours.now) inks.now false r.a.items) }
-    ensures b { IfOk result (λ r. AreRest cut.now.parts cut.now.owners.items cut.now.zones.items cut.now.sides.items (map is_second colours.now) inks.now true r.b.items) }
+/// What of the layer is on the mask of a letter. A piece is there if that is its own letter, and a zone if one of its sides has it. A feature that lies on one mask is put there as it is; what others have on the mask is united.
+fn mask_of(
+    alloc: Global,
+    inked: &InkedPieces,
+    colours: &[Mask],
+    letter: Mask,
+) -> Result<Slabs, AllocError>
+    requires { AreInked inked.now.cut colours.now inked.now.inks.items }
+    ensures mask { IfOk result (AreSlabsOf (on_mask inked.now.cut.parts inked.now.cut.zones.items inked.now.cut.sides.items (map is_second colours.now) (is_second letter))) }
+    ensures within { IfOk result (AreRectsWithin farthest) }
 {
-    let mut a = Vec::new(alloc);
-    let mut b = Vec::new(alloc);
-    add_rest_zones(&mut a, &mut b, &cut.zones, &cut.sides, inks, colours)?;
+    let cut = &inked.cut;
+    let inks = inked.inks.as_slice();
+    let rest = rest_of(alloc, cut, inks, colours, letter)?;
+    let mut rects = united(alloc, rest)?;
+    add_uncut(&mut rects, cut, inks, colours, letter)?;
+    add_wholes(&mut rects, cut, inks, colours, letter)?;
+    Ok(Slabs::of_scattered(rects))
+}
+
+/// The rectangles, which may overlap, that features on both masks have on that of a letter.
+fn rest_of(
+    alloc: Global,
+    cut: &Cut,
+    inks: &[Ink],
+    colours: &[Mask],
+    letter: Mask,
+) -> Result<Vec<Rect>, AllocError>
+    requires { AreInked cut.now colours.now inks.now }
+    ensures { IfOk result (λ v. AreRest cut.now.parts cut.now.owners.items cut.now.zones.items cut.now.sides.items (map is_second colours.now) inks.now (is_second letter) v.items) }
+{
+    let mut rects = Vec::new(alloc);
+    add_rest_zones(&mut rects, &cut.zones, &cut.sides, inks, colours, letter)?;
     add_rest_pieces(
-        &mut a,
-        &mut b,
+        &mut rects,
         cut.parts.items(),
         &cut.owners,
         inks,
         colours,
+        letter,
     )?;
-    Ok(Rects { a, b })
+    Ok(rects)
 }
 
 /// The slabs of rectangles that may overlap.
@@ -83,188 +125,183 @@ fn united(alloc: Global, rects: Vec<Rect>) -> Result<Vec<Rect>, AllocError>
     Ok(all)
 }
 
-/// Puts slabs on the mask of a letter.
-fn put(a: &mut Vec<Rect>, b: &mut Vec<Rect>, slabs: &[Rect], letter: Mask) -> Result<(), AllocError>
-    ensures { OnOk result (Puts (is_second letter) slabs.now a.old.items b.old.items a.new.items b.new.items) }
+/// Puts slabs whose own letter is known on the mask of a letter, if that is the same.
+fn put(rects: &mut Vec<Rect>, slabs: &[Rect], own: Mask, letter: Mask) -> Result<(), AllocError>
+    ensures { OnOk result (Puts (is_second own) (is_second letter) slabs.now rects.old.items rects.new.items) }
 {
-    match letter {
-        Mask::A => { a.extend_from_slice(slabs) }
-        Mask::B => { b.extend_from_slice(slabs) }
-    }
-}
-
-/// Adds the squares of a piece to those of the mask of its letter, where its feature lies on both masks.
-fn add_rest_piece(
-    a: &mut Vec<Rect>,
-    b: &mut Vec<Rect>,
-    piece: &[Rect],
-    letter: Mask,
-    ink: Ink,
-) -> Result<(), AllocError>
-    requires within { AreRectsWithin farthest piece.now }
-    requires a_within { AreRectsWithin farthest a.old.items }
-    requires b_within { AreRectsWithin farthest b.old.items }
-    ensures a { OnOk result (Adds a.old.items a.new.items (λ p. IsMixed ink × (is_second letter ≡ false) × Covers piece.now p)) }
-    ensures b { OnOk result (Adds b.old.items b.new.items (λ p. IsMixed ink × (is_second letter ≡ true) × Covers piece.now p)) }
-    ensures a_within { OnOk result (AreRectsWithin farthest a.new.items) }
-    ensures b_within { OnOk result (AreRectsWithin farthest b.new.items) }
-{
-    if is_mixed(ink) {
-        put(a, b, piece, letter)?;
+    if is_same(own, letter) {
+        rects.extend_from_slice(slabs)?;
     }
     Ok(())
 }
 
-/// Adds the squares of those pieces whose features lie on both masks.
+/// Adds the squares of a piece to those of the mask of a letter, if that is its own and its feature lies on both masks.
+fn add_rest_piece(
+    rects: &mut Vec<Rect>,
+    piece: &[Rect],
+    own: Mask,
+    letter: Mask,
+    ink: Ink,
+) -> Result<(), AllocError>
+    requires piece { AreRectsWithin farthest piece.now }
+    requires within { AreRectsWithin farthest rects.old.items }
+    ensures adds { OnOk result (Adds rects.old.items rects.new.items (λ p. IsMixed ink × (is_second own ≡ is_second letter) × Covers piece.now p)) }
+    ensures within { OnOk result (AreRectsWithin farthest rects.new.items) }
+{
+    if is_mixed(ink) {
+        put(rects, piece, own, letter)?;
+    }
+    Ok(())
+}
+
+/// Adds the squares of those pieces of a letter whose features lie on both masks.
 fn add_rest_pieces(
-    a: &mut Vec<Rect>,
-    b: &mut Vec<Rect>,
+    rects: &mut Vec<Rect>,
     parts: &[Slabs],
     owners: &[Id],
     inks: &[Ink],
     colours: &[Mask],
+    letter: Mask,
 ) -> Result<(), AllocError>
     requires each { length colours.now ≡ length parts.now }
     requires owners { length owners.now ≡ length parts.now }
     requires owned { All (λ k. k < length inks.now) owners.now }
-    requires a_within { AreRectsWithin farthest a.old.items }
-    requires b_within { AreRectsWithin farthest b.old.items }
-    ensures a { OnOk result (Adds a.old.items a.new.items (rest_pieces (length parts.now) parts.now owners.now (map is_second colours.now) inks.now false)) }
-    ensures b { OnOk result (Adds b.old.items b.new.items (rest_pieces (length parts.now) parts.now owners.now (map is_second colours.now) inks.now true)) }
-    ensures a_within { OnOk result (AreRectsWithin farthest a.new.items) }
-    ensures b_within { OnOk result (AreRectsWithin farthest b.new.items) }
+    requires within { AreRectsWithin farthest rects.old.items }
+    ensures adds { OnOk result (Adds rects.old.items rects.new.items (rest_pieces (length parts.now) parts.now owners.now (map is_second colours.now) inks.now (is_second letter))) }
+    ensures within { OnOk result (AreRectsWithin farthest rects.new.items) }
 {
     for k in 0..parts.len() {
-        add_rest_piece(a, b, parts[k].rects(), colours[k], inks[owners[k] as usize])?;
+        let ink = inks[owners[k] as usize];
+        add_rest_piece(rects, parts[k].rects(), colours[k], letter, ink)?;
     }
     Ok(())
 }
 
-/// Adds the squares of a zone to those of the masks of both its sides, where its feature lies on both masks.
+/// Adds the squares of a zone, if one of its sides has the letter and its feature lies on both masks.
 fn add_rest_zone(
-    a: &mut Vec<Rect>,
-    b: &mut Vec<Rect>,
+    rects: &mut Vec<Rect>,
     zone: &Zone,
     first: Mask,
     second: Mask,
+    letter: Mask,
     ink: Ink,
 ) -> Result<(), AllocError>
     requires zone { IsSolidWithin farthest zone.now.rect }
-    requires a_within { AreRectsWithin farthest a.old.items }
-    requires b_within { AreRectsWithin farthest b.old.items }
-    ensures a { OnOk result (Adds a.old.items a.new.items (λ p. IsMixed ink × ((is_second first ≡ false) ⊎ (is_second second ≡ false)) × Has zone.now.rect p)) }
-    ensures b { OnOk result (Adds b.old.items b.new.items (λ p. IsMixed ink × ((is_second first ≡ true) ⊎ (is_second second ≡ true)) × Has zone.now.rect p)) }
-    ensures a_within { OnOk result (AreRectsWithin farthest a.new.items) }
-    ensures b_within { OnOk result (AreRectsWithin farthest b.new.items) }
+    requires within { AreRectsWithin farthest rects.old.items }
+    ensures adds { OnOk result (Adds rects.old.items rects.new.items (λ p. IsMixed ink × ((is_second first ≡ is_second letter) ⊎ (is_second second ≡ is_second letter)) × Has zone.now.rect p)) }
+    ensures within { OnOk result (AreRectsWithin farthest rects.new.items) }
 {
     if is_mixed(ink) {
-        put_zone(a, b, zone, first, second)?;
+        add_zone(rects, zone, first, second, letter)?;
     }
     Ok(())
 }
 
-/// Adds the squares of those zones whose features lie on both masks.
+/// Adds the squares of those zones with a side of a letter whose features lie on both masks.
 fn add_rest_zones(
-    a: &mut Vec<Rect>,
-    b: &mut Vec<Rect>,
+    rects: &mut Vec<Rect>,
     zones: &[Zone],
     sides: &[(Id, Id)],
     inks: &[Ink],
     colours: &[Mask],
+    letter: Mask,
 ) -> Result<(), AllocError>
     requires each { length sides.now ≡ length zones.now }
     requires known { All (λ side. (side.0 < length colours.now) × (side.1 < length colours.now)) sides.now }
     requires zones { All (λ z. IsSolidWithin farthest z.rect) zones.now }
     requires zoned { All (λ z. z.feature < length inks.now) zones.now }
-    requires a_within { AreRectsWithin farthest a.old.items }
-    requires b_within { AreRectsWithin farthest b.old.items }
-    ensures a { OnOk result (Adds a.old.items a.new.items (rest_zones (length zones.now) zones.now sides.now (map is_second colours.now) inks.now false)) }
-    ensures b { OnOk result (Adds b.old.items b.new.items (rest_zones (length zones.now) zones.now sides.now (map is_second colours.now) inks.now true)) }
-    ensures a_within { OnOk result (AreRectsWithin farthest a.new.items) }
-    ensures b_within { OnOk result (AreRectsWithin farthest b.new.items) }
+    requires within { AreRectsWithin farthest rects.old.items }
+    ensures adds { OnOk result (Adds rects.old.items rects.new.items (rest_zones (length zones.now) zones.now sides.now (map is_second colours.now) inks.now (is_second letter))) }
+    ensures within { OnOk result (AreRectsWithin farthest rects.new.items) }
 {
     for k in 0..zones.len() {
         let zone = zones[k];
         let side = sides[k];
         add_rest_zone(
-            a,
-            b,
+            rects,
             &zone,
             colours[side.0 as usize],
             colours[side.1 as usize],
+            letter,
             inks[zone.feature as usize],
         )?;
     }
     Ok(())
 }
 
-/// Puts a piece on the mask of its letter, if no zone cuts its feature.
+/// Puts a piece on the mask of a letter, if that is its own and no zone cuts its feature.
 fn put_uncut(
-    a: &mut Vec<Rect>,
-    b: &mut Vec<Rect>,
+    rects: &mut Vec<Rect>,
     piece: &[Rect],
+    own: Mask,
     letter: Mask,
     ink: Ink,
 ) -> Result<(), AllocError>
-    ensures { OnOk result (PutsUncut ink (is_second letter) piece.now a.old.items b.old.items a.new.items b.new.items) }
+    ensures { OnOk result (PutsUncut ink (is_second own) (is_second letter) piece.now rects.old.items rects.new.items) }
 {
     match ink {
-        Ink::Uncut => put(a, b, piece, letter),
+        Ink::Uncut => put(rects, piece, own, letter),
         Ink::Blank => Ok(()),
         Ink::One(_) => Ok(()),
         Ink::Both => Ok(()),
     }
 }
 
-/// Puts the features without a zone on the masks of their letters.
+/// Puts the features without a zone that have a letter on its mask.
 fn add_uncut(
-    a: &mut Vec<Rect>,
-    b: &mut Vec<Rect>,
+    rects: &mut Vec<Rect>,
     cut: &Cut,
     inks: &[Ink],
     colours: &[Mask],
+    letter: Mask,
 ) -> Result<(), AllocError>
     requires each { length colours.now ≡ length cut.now.parts }
     requires owners { length cut.now.owners.items ≡ length cut.now.parts }
     requires owned { All (λ k. k < length inks.now) cut.now.owners.items }
-    requires sheets { AreSheets cut.now.parts cut.now.owners.items cut.now.zones.items cut.now.sides.items cut.now.wholes.items (map is_second colours.now) inks.now 0 0 a.old.items b.old.items }
-    ensures { OnOk result (AreSheets cut.now.parts cut.now.owners.items cut.now.zones.items cut.now.sides.items cut.now.wholes.items (map is_second colours.now) inks.now (length cut.now.parts) 0 a.new.items b.new.items) }
+    requires sheet { IsSheetTo cut.now.parts cut.now.owners.items cut.now.zones.items cut.now.sides.items cut.now.wholes.items (map is_second colours.now) inks.now (is_second letter) 0 0 rects.old.items }
+    ensures { OnOk result (IsSheetTo cut.now.parts cut.now.owners.items cut.now.zones.items cut.now.sides.items cut.now.wholes.items (map is_second colours.now) inks.now (is_second letter) (length cut.now.parts) 0 rects.new.items) }
 {
     let parts = cut.parts.items();
     let owners = cut.owners.as_slice();
     for k in 0..parts.len() {
-        put_uncut(a, b, parts[k].rects(), colours[k], inks[owners[k] as usize])?;
+        let ink = inks[owners[k] as usize];
+        put_uncut(rects, parts[k].rects(), colours[k], letter, ink)?;
     }
     Ok(())
 }
 
-/// Puts a feature that was cut, if it lies on one mask.
-fn put_whole(a: &mut Vec<Rect>, b: &mut Vec<Rect>, set: &[Rect], ink: Ink) -> Result<(), AllocError>
-    ensures { OnOk result (PutsOne ink set.now a.old.items b.old.items a.new.items b.new.items) }
+/// Puts a feature that was cut on the mask of a letter, if it lies there alone.
+fn put_whole(rects: &mut Vec<Rect>, set: &[Rect], letter: Mask, ink: Ink) -> Result<(), AllocError>
+    ensures { OnOk result (PutsOne ink (is_second letter) set.now rects.old.items rects.new.items) }
 {
     match ink {
         Ink::Uncut => Ok(()),
         Ink::Blank => Ok(()),
-        Ink::One(letter) => put(a, b, set, letter),
+        Ink::One(own) => put(rects, set, own, letter),
         Ink::Both => Ok(()),
     }
 }
 
-/// Puts the features that were cut, and lie on one mask, there as they were.
+/// Puts the features that were cut, and lie on the mask of a letter alone, there as they were.
 fn add_wholes(
-    a: &mut Vec<Rect>,
-    b: &mut Vec<Rect>,
+    rects: &mut Vec<Rect>,
     cut: &Cut,
     inks: &[Ink],
     colours: &[Mask],
+    letter: Mask,
 ) -> Result<(), AllocError>
-    requires sheets { AreSheets cut.now.parts cut.now.owners.items cut.now.zones.items cut.now.sides.items cut.now.wholes.items (map is_second colours.now) inks.now (length cut.now.parts) 0 a.old.items b.old.items }
-    ensures { OnOk result (AreSheets cut.now.parts cut.now.owners.items cut.now.zones.items cut.now.sides.items cut.now.wholes.items (map is_second colours.now) inks.now (length cut.now.parts) (length cut.now.wholes.items) a.new.items b.new.items) }
+    requires sheet { IsSheetTo cut.now.parts cut.now.owners.items cut.now.zones.items cut.now.sides.items cut.now.wholes.items (map is_second colours.now) inks.now (is_second letter) (length cut.now.parts) 0 rects.old.items }
+    ensures { OnOk result (IsSheetTo cut.now.parts cut.now.owners.items cut.now.zones.items cut.now.sides.items cut.now.wholes.items (map is_second colours.now) inks.now (is_second letter) (length cut.now.parts) (length cut.now.wholes.items) rects.new.items) }
 {
     let wholes = cut.wholes.as_slice();
     for k in 0..wholes.len() {
         let whole = &wholes[k];
-        put_whole(a, b, whole.set.rects(), inks[whole.feature as usize])?;
+        put_whole(
+            rects,
+            whole.set.rects(),
+            letter,
+            inks[whole.feature as usize],
+        )?;
     }
     Ok(())
 }
@@ -290,27 +327,6 @@ fn add_zone(
         rects.push(zone.rect)?;
         return Ok(());
     }
-    Ok(())
-}
-
-/// Adds the squares of a zone to those of the masks of both its sides.
-fn put_zone(
-    a: &mut Vec<Rect>,
-    b: &mut Vec<Rect>,
-    zone: &Zone,
-    first: Mask,
-    second: Mask,
-) -> Result<(), AllocError>
-    requires zone { IsSolidWithin farthest zone.now.rect }
-    requires a_within { AreRectsWithin farthest a.old.items }
-    requires b_within { AreRectsWithin farthest b.old.items }
-    ensures a { OnOk result (Adds a.old.items a.new.items (λ p. ((is_second first ≡ false) ⊎ (is_second second ≡ false)) × Has zone.now.rect p)) }
-    ensures b { OnOk result (Adds b.old.items b.new.items (λ p. ((is_second first ≡ true) ⊎ (is_second second ≡ true)) × Has zone.now.rect p)) }
-    ensures a_within { OnOk result (AreRectsWithin farthest a.new.items) }
-    ensures b_within { OnOk result (AreRectsWithin farthest b.new.items) }
-{
-    add_zone(a, zone, first, second, Mask::A)?;
-    add_zone(b, zone, first, second, Mask::B)?;
     Ok(())
 }
 

@@ -1,4 +1,4 @@
-use Rattle.std.proofs.Common.{◌≡◌, ℕ, ◌<◌, subst, false, true, length, map, refl, sym, arith}
+use Rattle.std.proofs.Common.{◌≡◌, ℕ, ◌<◌, subst, false, length, map, refl, sym, arith}
 use Rattle.std.proofs.lemmas.List.{get_or-map}
 use Rattle.dpl_orient.specs.Masks.{is_second}
 use Rattle.dpl_orient.specs.declared.mask.Mask.TheVariants.{A}
@@ -13,25 +13,15 @@ loop-k-preserved c =
     let each = c.requires.each in
     let colour_in : c.loop-k.k < length c.args.colours.now = omega (arith, each, k_in) in
     let colour = sym (get_or-map is_second c.args.colours.now c.loop-k.k A false colour_in) in
-    let a_step = rw c.rects.ensures.value at c.in_ok-add_rest_piece.ensures.a in
-    let b_step = rw c.rects.ensures.value at c.in_ok-add_rest_piece.ensures.b in
+    let step = rw c.rects.ensures.value at c.in_ok-add_rest_piece.ensures.adds in
     record {
-      a = rest-piece-more _ _ _ c.args.parts.now c.args.owners.now (map is_second c.args.colours.now) c.args.inks.now false c.loop-k.k
-          c.index-parts-k.result _ _ k_in c.index-parts-k.is colour refl c.loop-k.invariant.a a_step;
-      b = rest-piece-more _ _ _ c.args.parts.now c.args.owners.now (map is_second c.args.colours.now) c.args.inks.now true c.loop-k.k
-          c.index-parts-k.result _ _ k_in c.index-parts-k.is colour refl c.loop-k.invariant.b b_step;
-      a_within = c.in_ok-add_rest_piece.ensures.a_within;
-      b_within = c.in_ok-add_rest_piece.ensures.b_within;
+      adds = rest-piece-more _ _ _ c.args.parts.now c.args.owners.now (map is_second c.args.colours.now) c.args.inks.now
+          (is_second c.args.letter) c.loop-k.k c.index-parts-k.result _ _ k_in c.index-parts-k.is colour refl c.loop-k.invariant.adds step;
+      within = c.in_ok-add_rest_piece.ensures.within;
     }
 
-pub returns-clause-a : goal.returns-clause-a
-returns-clause-a c =
+pub returns-clause-adds : goal.returns-clause-adds
+returns-clause-adds c =
     let all : c.loop-k.k ≡ length c.args.parts.now = omega arith in
-    subst (λ (n : ℕ). Adds c.args.a.now.items c.loop-k.a.items (rest_pieces n c.args.parts.now c.args.owners.now
-    (map is_second c.args.colours.now) c.args.inks.now false)) all c.loop-k.invariant.a
-
-pub returns-clause-b : goal.returns-clause-b
-returns-clause-b c =
-    let all : c.loop-k.k ≡ length c.args.parts.now = omega arith in
-    subst (λ (n : ℕ). Adds c.args.b.now.items c.loop-k.b.items (rest_pieces n c.args.parts.now c.args.owners.now
-    (map is_second c.args.colours.now) c.args.inks.now true)) all c.loop-k.invariant.b
+    subst (λ (n : ℕ). Adds c.args.rects.now.items c.loop-k.rects.items (rest_pieces n c.args.parts.now c.args.owners.now
+    (map is_second c.args.colours.now) c.args.inks.now (is_second c.args.letter))) all c.loop-k.invariant.adds

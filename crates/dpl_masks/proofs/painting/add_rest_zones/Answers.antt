@@ -1,4 +1,4 @@
-use Rattle.std.proofs.Common.{◌≡◌, ℕ, ◌<◌, subst, false, true, length, get_or, map, refl, sym, arith}
+use Rattle.std.proofs.Common.{◌≡◌, ℕ, ◌<◌, subst, false, length, get_or, map, refl, sym, arith}
 use Rattle.std.proofs.lemmas.List.{get_or-map, get_or_default}
 use Rattle.dpl_orient.specs.Masks.{is_second}
 use Rattle.dpl_orient.specs.declared.mask.Mask.TheVariants.{A}
@@ -17,24 +17,15 @@ loop-k-preserved c =
     let first = sym (get_or-map is_second c.args.colours.now side.0 A false known.0) in
     let second = sym (get_or-map is_second c.args.colours.now side.1 A false known.1) in
     record {
-      a = rest-zone-more _ _ _ c.args.zones.now c.args.sides.now (map is_second c.args.colours.now) c.args.inks.now false c.loop-k.k _ side
-          _ _ _ k_in s_in (get_or_default c.args.zones.now c.loop-k.k _ _ k_in) (get_or_default c.args.sides.now c.loop-k.k _ _ s_in) first
-          second refl c.loop-k.invariant.a c.in_ok-add_rest_zone.ensures.a;
-      b = rest-zone-more _ _ _ c.args.zones.now c.args.sides.now (map is_second c.args.colours.now) c.args.inks.now true c.loop-k.k _ side
-          _ _ _ k_in s_in (get_or_default c.args.zones.now c.loop-k.k _ _ k_in) (get_or_default c.args.sides.now c.loop-k.k _ _ s_in) first
-          second refl c.loop-k.invariant.b c.in_ok-add_rest_zone.ensures.b;
-      a_within = c.in_ok-add_rest_zone.ensures.a_within;
-      b_within = c.in_ok-add_rest_zone.ensures.b_within;
+      adds = rest-zone-more _ _ _ c.args.zones.now c.args.sides.now (map is_second c.args.colours.now) c.args.inks.now
+          (is_second c.args.letter) c.loop-k.k _ side _ _ _ k_in s_in (get_or_default c.args.zones.now c.loop-k.k _ _ k_in)
+          (get_or_default c.args.sides.now c.loop-k.k _ _ s_in) first second refl c.loop-k.invariant.adds
+          c.in_ok-add_rest_zone.ensures.adds;
+      within = c.in_ok-add_rest_zone.ensures.within;
     }
 
-pub returns-clause-a : goal.returns-clause-a
-returns-clause-a c =
+pub returns-clause-adds : goal.returns-clause-adds
+returns-clause-adds c =
     let all : c.loop-k.k ≡ length c.args.zones.now = omega arith in
-    subst (λ (n : ℕ). Adds c.args.a.now.items c.loop-k.a.items (rest_zones n c.args.zones.now c.args.sides.now
-    (map is_second c.args.colours.now) c.args.inks.now false)) all c.loop-k.invariant.a
-
-pub returns-clause-b : goal.returns-clause-b
-returns-clause-b c =
-    let all : c.loop-k.k ≡ length c.args.zones.now = omega arith in
-    subst (λ (n : ℕ). Adds c.args.b.now.items c.loop-k.b.items (rest_zones n c.args.zones.now c.args.sides.now
-    (map is_second c.args.colours.now) c.args.inks.now true)) all c.loop-k.invariant.b
+    subst (λ (n : ℕ). Adds c.args.rects.now.items c.loop-k.rects.items (rest_zones n c.args.zones.now c.args.sides.now
+    (map is_second c.args.colours.now) c.args.inks.now (is_second c.args.letter))) all c.loop-k.invariant.adds

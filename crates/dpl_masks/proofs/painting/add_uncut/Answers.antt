@@ -3,8 +3,8 @@ use Rattle.std.proofs.lemmas.List.{get_or-map, get_or_default}
 use Rattle.dpl_orient.specs.Masks.{is_second}
 use Rattle.dpl_orient.specs.declared.mask.Mask.TheVariants.{A}
 use Rattle.dpl_masks.specs.Inks.{ink_at}
-use Rattle.dpl_masks.specs.Sheets.{AreSheets}
-use Rattle.dpl_masks.proofs.SheetLaws.{piece-put, sheets-piece}
+use Rattle.dpl_masks.specs.Sheets.{IsSheetTo}
+use Rattle.dpl_masks.proofs.SheetLaws.{piece-put, sheet-piece}
 use Rattle.dpl_masks.proofs.painting.add_uncut.Goals as goal
 
 pub loop-k-preserved : goal.loop-k-preserved
@@ -18,15 +18,15 @@ loop-k-preserved c =
     let here : c.index-parts-k.result ≡ get_or parts k c.index-parts-k.result = rw c.items-parts.ensures.value at c.index-parts-k.is in
     let part = c.rects.ensures.value ∙ (here ∙ get_or_default parts k c.index-parts-k.result [] k_in) in
     let ink = ap (λ l. ink_at c.args.inks.now (get_or l k 0)) c.as_slice-owners.ensures.value in
-    sheets-piece parts c.args.cut.now.owners.items c.args.cut.now.zones.items c.args.cut.now.sides.items c.args.cut.now.wholes.items
-    (map is_second c.args.colours.now) c.args.inks.now k _ _ _ _ k_in c.loop-k.invariant
-    (piece-put _ _ _ _ _ _ _ _ _ _ ink colour part c.in_ok-put_uncut.ensures)
+    sheet-piece parts c.args.cut.now.owners.items c.args.cut.now.zones.items c.args.cut.now.sides.items c.args.cut.now.wholes.items
+    (map is_second c.args.colours.now) c.args.inks.now (is_second c.args.letter) k _ _ k_in c.loop-k.invariant
+    (piece-put _ _ _ _ _ _ _ _ _ ink colour part c.in_ok-put_uncut.ensures)
 
 pub returns : goal.returns
 returns c =
     let low = rw c.items-parts.ensures.value at c.loop-k-test.false in
     let high = rw c.items-parts.ensures.value at c.loop-k.auto.k-end in
     let all : c.loop-k.k ≡ length c.args.cut.now.parts = omega (arith, low, high) in
-    subst (λ (n : ℕ). AreSheets c.args.cut.now.parts c.args.cut.now.owners.items c.args.cut.now.zones.items c.args.cut.now.sides.items
-    c.args.cut.now.wholes.items (map is_second c.args.colours.now) c.args.inks.now n 0 c.loop-k.a.items c.loop-k.b.items) all
+    subst (λ (n : ℕ). IsSheetTo c.args.cut.now.parts c.args.cut.now.owners.items c.args.cut.now.zones.items c.args.cut.now.sides.items
+    c.args.cut.now.wholes.items (map is_second c.args.colours.now) c.args.inks.now (is_second c.args.letter) n 0 c.loop-k.rects.items) all
     c.loop-k.invariant

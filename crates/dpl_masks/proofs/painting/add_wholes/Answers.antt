@@ -1,6 +1,6 @@
 use Rattle.std.proofs.Common.{◌≡◌, ◌<◌, length, get_or, map, sym}
 use Rattle.dpl_orient.specs.Masks.{is_second}
-use Rattle.dpl_masks.proofs.SheetLaws.{sheets-whole}
+use Rattle.dpl_masks.proofs.SheetLaws.{sheet-whole}
 use Rattle.dpl_masks.proofs.painting.add_wholes.Goals as goal
 
 pub loop-k-preserved : goal.loop-k-preserved
@@ -11,6 +11,6 @@ loop-k-preserved c =
     let k_in : k < length wholes = rw c.as_slice-wholes.ensures.value at c.loop-k-test.true in
     let here : w ≡ get_or wholes k w = rw c.as_slice-wholes.ensures.value at c.index-wholes-k.is in
     let puts = rw c.rects.ensures.value at c.in_ok-put_whole.ensures in
-    sheets-whole c.args.cut.now.parts c.args.cut.now.owners.items c.args.cut.now.zones.items c.args.cut.now.sides.items wholes
-    (map is_second c.args.colours.now) c.args.inks.now (length c.args.cut.now.parts) k w _ _ _ _ k_in
+    sheet-whole c.args.cut.now.parts c.args.cut.now.owners.items c.args.cut.now.zones.items c.args.cut.now.sides.items wholes
+    (map is_second c.args.colours.now) c.args.inks.now (is_second c.args.letter) (length c.args.cut.now.parts) k w _ _ k_in
     (sym here) c.rects.ensures.canonical c.rects.ensures.within c.loop-k.invariant puts

@@ -1,20 +1,22 @@
-use Rattle.std.proofs.Common.{false, true, map}
+use Rattle.std.proofs.Common.{map}
 use Rattle.dpl_orient.specs.Masks.{is_second}
 use Rattle.dpl_masks.proofs.RestLaws.{are-rest}
+use Rattle.dpl_masks.proofs.SheetLaws.{inked-owned, inked-owners, inked-sides}
 use Rattle.dpl_masks.proofs.painting.rest_of.Goals as goal
 
-pub returns-clause-a : goal.returns-clause-a
-returns-clause-a c =
-    let cut = c.args.cut.now in
-    let zones = rw (c.deref.ensures.value, c.deref-2.ensures.value) at c.in_ok-add_rest_zones.ensures.a in
-    let pieces = rw (c.items.ensures.value, c.deref-3.ensures.value) at c.in_ok-add_rest_pieces.ensures.a in
-    are-rest cut.parts cut.owners.items cut.zones.items cut.sides.items (map is_second c.args.colours.now) c.args.inks.now false _ _ _
-    c.new-a.ensures.items zones pieces c.in_ok-add_rest_pieces.ensures.a_within
+pub add_rest_zones-requires-clause-each : goal.add_rest_zones-requires-clause-each
+add_rest_zones-requires-clause-each c = rw (c.deref.ensures.value, c.deref-2.ensures.value) (inked-sides c.args.cut.now c.args.colours.now c.args.inks.now c.requires)
 
-pub returns-clause-b : goal.returns-clause-b
-returns-clause-b c =
+pub add_rest_pieces-requires-clause-owners : goal.add_rest_pieces-requires-clause-owners
+add_rest_pieces-requires-clause-owners c = rw (c.deref-3.ensures.value, c.items.ensures.value) (inked-owners c.args.cut.now c.args.colours.now c.args.inks.now c.requires)
+
+pub add_rest_pieces-requires-clause-owned : goal.add_rest_pieces-requires-clause-owned
+add_rest_pieces-requires-clause-owned c = rw c.deref-3.ensures.value (inked-owned c.args.cut.now c.args.colours.now c.args.inks.now c.requires)
+
+pub returns : goal.returns
+returns c =
     let cut = c.args.cut.now in
-    let zones = rw (c.deref.ensures.value, c.deref-2.ensures.value) at c.in_ok-add_rest_zones.ensures.b in
-    let pieces = rw (c.items.ensures.value, c.deref-3.ensures.value) at c.in_ok-add_rest_pieces.ensures.b in
-    are-rest cut.parts cut.owners.items cut.zones.items cut.sides.items (map is_second c.args.colours.now) c.args.inks.now true _ _ _
-    c.new-b.ensures.items zones pieces c.in_ok-add_rest_pieces.ensures.b_within
+    let zones = rw (c.deref.ensures.value, c.deref-2.ensures.value) at c.in_ok-add_rest_zones.ensures.adds in
+    let pieces = rw (c.items.ensures.value, c.deref-3.ensures.value) at c.in_ok-add_rest_pieces.ensures.adds in
+    are-rest cut.parts cut.owners.items cut.zones.items cut.sides.items (map is_second c.args.colours.now) c.args.inks.now (is_second c.args.letter) _ _ _
+    c.new-rects.ensures.items zones pieces c.in_ok-add_rest_pieces.ensures.within
