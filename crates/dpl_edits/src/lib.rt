@@ -3,8 +3,6 @@
 
 mod applying;
 mod reading;
-#[cfg(test)]
-mod tests;
 
 pub use applying::edited;
 pub use dpl_spec_edits::Edit;

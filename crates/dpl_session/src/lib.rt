@@ -14,6 +14,3 @@ mod window;
 
 pub use session::{Answer, Session, edits_one_after_another};
 pub use steps::Steps;
-
-#[cfg(test)]
-mod tests;

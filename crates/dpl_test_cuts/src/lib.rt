@@ -10,6 +10,8 @@ mod corners;
 #[cfg(test)]
 mod marks;
 #[cfg(test)]
+mod near;
+#[cfg(test)]
 mod pieces;
 #[cfg(test)]
 mod sets;

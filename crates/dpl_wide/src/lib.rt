@@ -1,8 +1,13 @@
 //! Stages of a layer shared among workers. What they give is what one gives.
 #![tactic(auto)]
 
+mod alone;
+mod dealt;
+mod features;
+mod touching;
 mod whole;
 mod zoned;
 
+pub use features::features_by;
 pub use whole::cut_by;
 pub use zoned::zones_by;

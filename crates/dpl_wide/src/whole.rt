@@ -9,7 +9,7 @@ use crate::zoned::zones_by;
 use dpl_base::Spacing;
 use dpl_cut::{BareLayerCut, cut_of};
 use dpl_feature::features;
-use dpl_piece::bare_pieces;
+use dpl_piece::bare_pieces_by;
 use dpl_slabs::Slabs;
 use std::alloc::{AllocError, Global};
 use std::thread::Threads;
@@ -17,7 +17,7 @@ use std::thread::Threads;
 /// The features of a layer, cut at the zones where a stitch may stand, as `dpl_cut::cut_of` cuts them, by so many workers: `spacing` is how far apart features are on one mask, `overlap` how long a stitch is, in database units. No zone has a marked square. The layer is let go as soon as its features are known.
 ///
 /// The error: out of memory.
-pub fn cut_by<R: Threads>(
+pub fn cut_by<R: Threads + Sync>(
     rt: &R,
     alloc: Global,
     layer: Slabs,
@@ -38,7 +38,7 @@ pub fn cut_by<R: Threads>(
     drop(layer);
     let zones = zones_by(rt, alloc, &features, spacing, overlap, marked, workers)?;
     let count = features.items().len() as u64;
-    let pieces = bare_pieces(alloc, features, zones)?;
+    let pieces = bare_pieces_by(rt, alloc, features, zones, workers)?;
     Ok(BareLayerCut {
         features: count,
         pieces,

@@ -6,8 +6,8 @@ use Rattle.dpl_cut.proofs.Cuts.{is_cut}
 use Rattle.dpl_cut.proofs.Keys.{keys_within}
 use Rattle.dpl_wide.proofs.whole.cut_by.Goals as goal
 
-pub bare_pieces-requires-clause-zones : goal.bare_pieces-requires-clause-zones
-bare_pieces-requires-clause-zones g c = (
+pub bare_pieces_by-requires-clause-zones : goal.bare_pieces_by-requires-clause-zones
+bare_pieces_by-requires-clause-zones g c κs within = (
   c.args.spacing,
   c.args.overlap,
   c.requires.overlap,

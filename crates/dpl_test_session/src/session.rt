@@ -3,9 +3,9 @@ ghost use Rattle.std.specs.Prelude.{◌≡◌, ◌<◌, IsTrue, IfSome};
 ghost use Rattle.dpl_cert.specs.Grammar.{IsCoordinate};
 ghost use Rattle.dpl_spec_edits.specs.Text.{IsEdit};
 
-use crate::{Answer, Session, Steps};
 use dpl_base::{FARTHEST, Id, Rect, Spacing};
 use dpl_orient::Colours;
+use dpl_session::{Answer, Session, Steps};
 use dpl_slabs::{Parts, Slabs};
 use dpl_spec_edits::Edit;
 use std::alloc::{AllocError, Global};

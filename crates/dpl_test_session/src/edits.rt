@@ -1,6 +1,6 @@
 //! Edits that are read, and edits that are made.
 
-use crate::{EditsFault, MOST_EDITS, edited, read_edits};
+use dpl_edits::{EditsFault, MOST_EDITS, edited, read_edits};
 use dpl_slabs::Slabs;
 use std::alloc::{AllocError, Global};
 use std::test::*;

@@ -1,6 +1,6 @@
 use Rattle.std.proofs.Common.{refl, arith, rules, FitsSigned, w32}
 use Rattle.std.proofs.lemmas.Int.{ints, to_z-of_z}
-use Rattle.dpl_session.proofs.tests.edit_of.Goals as goal
+use Rattle.dpl_test_session.proofs.session.edit_of.Goals as goal
 
 pub returns-then-adds : goal.returns-then-adds
 returns-then-adds c =

@@ -1,0 +1,128 @@
+//! Features of small layers, found by workers, and the same found by one.
+
+use dpl_base::Rect;
+use dpl_feature::features;
+use dpl_pool::{Gate, OpenGate};
+use dpl_slabs::{Parts, Slabs};
+use dpl_test_gates::Holds;
+use dpl_wide::features_by;
+use std::alloc::{AllocError, Global};
+use std::sync::Wait;
+use std::test::*;
+use std::thread::Threads;
+
+/// The corners of a rectangle: left, low, right, high.
+type Corners = (i16, i16, i16, i16);
+
+/// One bar, which two tiles of side 5 meet.
+const BAR: [Corners; 1] = [(0, 0, 10, 5)];
+
+/// A ring of four bars.
+const RING: [Corners; 4] = [(0, 0, 8, 2), (0, 2, 2, 6), (6, 2, 8, 6), (0, 6, 8, 8)];
+
+/// Two combs whose teeth lie between one another, and a square in a gap.
+const COMBS: [Corners; 8] = [
+    (0, 0, 13, 1),
+    (0, 1, 1, 8),
+    (6, 1, 7, 8),
+    (12, 1, 13, 8),
+    (3, 3, 4, 10),
+    (9, 3, 10, 10),
+    (3, 10, 10, 11),
+    (15, 4, 16, 5),
+];
+
+/// A layer, the side of a tile, how many workers there are, and how many features they find.
+const ROWS: [(&[Corners], u32, u32, usize); 12] = [
+    (&[], 4, 1, 0),
+    (&BAR, 5, 1, 1),
+    (&BAR, 5, 2, 1),
+    (&BAR, 1, 64, 1),
+    // a column apart
+    (&[(0, 0, 4, 4), (5, 0, 9, 4)], 3, 2, 2),
+    // a corner alone is shared, at the corner of four tiles
+    (&[(0, 0, 4, 4), (4, 4, 8, 8)], 4, 2, 1),
+    (&[(4, 0, 8, 4), (0, 4, 4, 8)], 4, 3, 1),
+    (&RING, 3, 2, 1),
+    (&RING, 1, 64, 1),
+    (&COMBS, 2, 4, 3),
+    (&COMBS, 1, 64, 3),
+    (&COMBS, 1_073_741_824, 2, 3),
+];
+
+/// The squares of a rectangle, where it has some.
+fn one(alloc: Global, corners: Corners) -> Result<Slabs, AllocError> {
+    let (x0, y0, x1, y1) = corners;
+    if x0 < x1 && y0 < y1 {
+        let rect = Rect {
+            x0: x0 as i32,
+            y0: y0 as i32,
+            x1: x1 as i32,
+            y1: y1 as i32,
+        };
+        return Slabs::one(alloc, rect);
+    }
+    Ok(Slabs::empty(alloc))
+}
+
+/// The squares of some rectangles.
+fn layer_of(alloc: Global, rects: &[Corners]) -> Result<Slabs, AllocError> {
+    let mut layer = Slabs::empty(alloc);
+    for corners in rects {
+        let next = one(alloc, *corners)?;
+        layer = layer.union(alloc, &next)?;
+    }
+    Ok(layer)
+}
+
+/// Whether two lists have the same sets, one after the other.
+fn are_same(parts: &Parts, others: &Parts) -> bool {
+    let (parts, others) = (parts.items(), others.items());
+    parts.len() == others.len() && parts.iter().zip(others).all(|(a, b)| a.equal(b))
+}
+
+/// How many features workers find at a gate, where they are those that one finds; None where they aren't, or for no tile or no number of workers.
+fn found<R: Threads + Wait + Sync, G: Gate + Sync>(
+    rt: &R,
+    alloc: Global,
+    rects: &[Corners],
+    tile: u32,
+    workers: u32,
+    gate: &G,
+) -> Result<Option<usize>, AllocError> {
+    if tile < 1 || workers < 1 || workers > 64 {
+        return Ok(None);
+    }
+    let layer = layer_of(alloc, rects)?;
+    let parts = features_by(rt, alloc, &layer, tile, workers, gate)?;
+    if !are_same(&parts, &features(alloc, &layer)?) {
+        return Ok(None);
+    }
+    Ok(Some(parts.items().len()))
+}
+
+#[test]
+fn workers_find_the_features_that_one_finds(rt: HostRuntime) -> Result<(), Fail> {
+    for (rects, tile, workers, count) in ROWS {
+        assert_eq!(rt;
+            found(&rt, rt.alloc(), rects, tile, workers, &OpenGate)?,
+            Some(count)
+        );
+    }
+    Ok(())
+}
+
+#[test]
+fn a_bar_on_two_tiles_is_one_feature_whichever_is_held(rt: HostRuntime) -> Result<(), Fail> {
+    for (held, other, waits_for_post) in [
+        (0, 1, false),
+        (1, 0, false),
+        (0, 1, true),
+        (1, 0, true),
+    ] {
+        let gate = Holds::new(held, other, waits_for_post);
+        assert_eq!(rt; found(&rt, rt.alloc(), &BAR, 5, 2, &gate)?, Some(1));
+        assert!(rt; !gate.has_given_up());
+    }
+    Ok(())
+}

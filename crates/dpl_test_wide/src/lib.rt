@@ -1,0 +1,5 @@
+//! Features that workers find.
+#![tactic(auto)]
+
+#[cfg(test)]
+mod features;
