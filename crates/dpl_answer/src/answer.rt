@@ -25,15 +25,17 @@ use crate::lines::{head, piece_lines, stitch_lines};
 use crate::marks::MarkSets;
 use dpl_base::{Edge, Id, Listed, Spacing};
 use dpl_cut::{BareLayerCut, LayerCut};
-use dpl_masks::{masks, stitches};
+use dpl_masks::{masks_by, stitches};
 use dpl_odd::odd_cycle;
 use dpl_stars::Joined;
 use std::alloc::{AllocError, Global};
+use std::thread::Threads;
 
-/// The masks of a cut layer whose conflict graph has no odd cycle, or the cycle that is reported of one: `spacing` is how far apart features are on one mask, `overlap` how long a stitch is, in database units. The conflicts are those with the same `marks`, if any are given; a cycle may then have anchors. With `fewer` single components are flipped again and again, as long as that leaves fewer stitches, and the masks come with the gains that are left.
+/// The masks of a cut layer whose conflict graph has no odd cycle, or the cycle that is reported of one: `spacing` is how far apart features are on one mask, `overlap` how long a stitch is, in database units. The conflicts are those with the same `marks`, if any are given; a cycle may then have anchors. With `fewer` single components are flipped again and again, as long as that leaves fewer stitches, and the masks come with the gains that are left. With two workers or more the two masks are made side by side.
 ///
 /// The error: out of memory.
-pub fn answer_of(
+pub fn answer_of<R: Threads>(
+    rt: &R,
     alloc: Global,
     cut: BareLayerCut,
     conflicts: &Conflicts,
@@ -41,6 +43,7 @@ pub fn answer_of(
     spacing: Spacing,
     overlap: u32,
     fewer: bool,
+    workers: u32,
 ) -> Result<Decomposed, AllocError>
     requires corner { spacing.corner ≤ spacing.rule }
     requires rule { IsRule spacing.rule }
@@ -55,7 +58,9 @@ pub fn answer_of(
     let cut = cut.completed(alloc)?;
     match conflicts {
         Conflicts::Even(joined) => {
-            let painted = paint(alloc, cut, joined, marks, spacing, overlap, fewer)?;
+            let painted = paint(
+                rt, alloc, cut, joined, marks, spacing, overlap, fewer, workers,
+            )?;
             Ok(Decomposed::Masks(painted))
         }
         Conflicts::Odd(edges) => {
@@ -66,7 +71,8 @@ pub fn answer_of(
 }
 
 /// The masks of a cut layer whose conflicts `joined` sums up.
-fn paint(
+fn paint<R: Threads>(
+    rt: &R,
     alloc: Global,
     cut: LayerCut,
     joined: &Joined,
@@ -74,6 +80,7 @@ fn paint(
     spacing: Spacing,
     overlap: u32,
     fewer: bool,
+    workers: u32,
 ) -> Result<Painted, AllocError>
     requires corner { spacing.corner ≤ spacing.rule }
     requires rule { IsRule spacing.rule }
@@ -103,7 +110,7 @@ fn paint(
     let numbers = stitches(alloc, pieces.sides(), colours.items())?;
     let stitches = stitch_lines(alloc, pieces.zones(), pieces.sides(), &numbers)?;
     drop(numbers);
-    let masks = masks(alloc, pieces, &colours)?;
+    let masks = masks_by(rt, alloc, pieces, &colours, workers)?;
     Ok(Painted {
         a: masks.a,
         b: masks.b,

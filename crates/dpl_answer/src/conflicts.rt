@@ -32,6 +32,9 @@ use std::thread::Threads;
 /// How many slabs a square with sides of the rule has on average where they are dense, and how many features where they are crowded.
 const DENSE: u64 = 64;
 
+/// Up to how many slabs the pieces of a layer may have for tiles to be shared. Of more, one thread lists all conflicts sooner than several threads list those of their tiles and one joins what they found.
+const MOST_BY_TILES: u64 = 4_096;
+
 /// How many of the edges that are listed at once are looked at before all of them are, where there are many.
 const FIRST_EDGES: usize = 65_536;
 
@@ -105,18 +108,22 @@ pub(crate) fn conflicts_by(
     }
 }
 
-/// Whether all conflicts of a layer are listed before they are summed up: those of a dense layer, and those of any layer where there is one worker.
+/// Whether all conflicts of a layer are listed before they are summed up: those of a large or a dense layer, and those of any layer where there is one worker. A layer is dense where a square with sides of the rule has many slabs, on average over the rectangle round all of them: then several tiles would tell most of their conflicts.
 pub(crate) fn are_listed_at_once(parts: &[Slabs], rule: u32, workers: u32) -> bool {
-    workers == 1 || are_dense(parts, rule)
+    if workers == 1 {
+        return true;
+    }
+    let count = slab_count(parts);
+    count > MOST_BY_TILES || are_many(parts, rule, count)
 }
 
-/// Whether a square with sides of the rule has many slabs, on average over the rectangle round all of them: then several tiles would tell most of their conflicts.
-fn are_dense(parts: &[Slabs], rule: u32) -> bool {
+/// How many slabs the parts have together.
+fn slab_count(parts: &[Slabs]) -> u64 {
     let mut count: u64 = 0;
     for part in parts {
         count = count.saturating_add(part.rects().len() as u64);
     }
-    are_many(parts, rule, count)
+    count
 }
 
 /// Whether a square with sides of the rule has many of `count` things, on average over the rectangle round all parts.

@@ -77,12 +77,14 @@ pub fn decide_all<R: Threads + Wait + Sync, G: Gate + Sync>(
     )?;
     let conflicts = conflicts_of_all(rt, alloc, &cuts, order.spacing, order.sharing, gate)?;
     all_answered(
+        rt,
         alloc,
         waiting,
         cuts,
         conflicts,
         order.spacing,
         order.overlap,
+        order.sharing.workers,
     )
 }
 
@@ -133,13 +135,15 @@ fn all_cut<R: Threads + Sync>(
 }
 
 /// Answers each layer that was cut, by its conflicts.
-fn all_answered(
+fn all_answered<R: Threads>(
+    rt: &R,
     alloc: Global,
     waiting: Vec<Waiting>,
     cuts: Vec<BareLayerCut>,
     conflicts: Vec<Conflicts>,
     spacing: Spacing,
     overlap: u32,
+    workers: u32,
 ) -> Result<Vec<Decision>, AllocError>
     requires corner { spacing.corner ≤ spacing.rule }
     requires some { 1 ≤ spacing.corner }
@@ -162,7 +166,9 @@ fn all_answered(
                 let Some(found) = conflicts.next() else {
                     unreachable!()
                 };
-                let answer = answer_of(alloc, cut, &found, None, spacing, overlap, false)?;
+                let answer = answer_of(
+                    rt, alloc, cut, &found, None, spacing, overlap, false, workers,
+                )?;
                 drop(found);
                 decisions.push(Decision::Answered { copied, answer })?;
             }

@@ -132,6 +132,7 @@ pub fn decompose<R: Threads + Wait + Sync, G: Gate + Sync>(
     }
     let conflicts = conflicts_of(rt, alloc, &cut, marks, spacing, recipe.sharing, gate)?;
     answer_of(
+        rt,
         alloc,
         cut,
         &conflicts,
@@ -139,5 +140,6 @@ pub fn decompose<R: Threads + Wait + Sync, G: Gate + Sync>(
         spacing,
         recipe.overlap,
         recipe.fewer,
+        recipe.sharing.workers,
     )
 }

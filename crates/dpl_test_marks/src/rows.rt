@@ -79,7 +79,17 @@ fn answer_with<R: Threads + Wait + Sync>(
         workers: 2,
     };
     let conflicts = conflicts_of(rt, alloc, &cut, Some(&sets), SPACING, sharing, &OpenGate)?;
-    answer_of(alloc, cut, &conflicts, Some(&sets), SPACING, 10, fewer)
+    answer_of(
+        rt,
+        alloc,
+        cut,
+        &conflicts,
+        Some(&sets),
+        SPACING,
+        10,
+        fewer,
+        sharing.workers,
+    )
 }
 
 /// Whether the answer is masks with these letters of the pieces, true for mask B.

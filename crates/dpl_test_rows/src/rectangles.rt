@@ -6,10 +6,37 @@ use std::alloc::{AllocError, Global};
 use std::test::*;
 
 /// A layer that is done.
-struct Row {
-    layer: &'static [Rectangle],
-    done: Done<'static>,
+#[derive(Clone, Copy)]
+pub(crate) struct Row {
+    pub(crate) layer: &'static [Rectangle],
+    pub(crate) done: Done<'static>,
 }
+
+/// Three features that no two masks keep apart unless they are cut: five zones and one stitch.
+pub(crate) const SEWN: Row = Row {
+    layer: &[
+        [0, 0, 400, 20],
+        [0, 40, 50, 60],
+        [0, 40, 20, 200],
+        [0, 180, 190, 200],
+        [350, 40, 400, 60],
+        [380, 40, 400, 200],
+        [215, 180, 400, 200],
+    ],
+    done: Done {
+        line: "features 3 pieces 8 zones 5 stitches 1 a 2 b 6",
+        cert: "features 3 pieces 8 zones 5 stitches 1\npiece 0 A 0 0\npiece 1 A 205 0\npiece 2 B 0 40\npiece 3 B 350 40\npiece 4 B 0 125\npiece 5 B 380 125\npiece 6 A 107 180\npiece 7 B 215 180\nstitch 97 180 107 200 4 6\n",
+        a: &[[0, 0, 400, 20], [97, 180, 190, 200]],
+        b: &[
+            [0, 40, 50, 60],
+            [350, 40, 400, 60],
+            [0, 60, 20, 180],
+            [380, 60, 400, 180],
+            [0, 180, 107, 200],
+            [215, 180, 400, 200],
+        ],
+    },
+};
 
 const ROWS: [Row; 13] = [
     // One bar.
@@ -60,31 +87,7 @@ const ROWS: [Row; 13] = [
             b: &[[28, 33, 38, 43]],
         },
     },
-    // Three features that no two masks keep apart unless they are cut: five zones and one stitch.
-    Row {
-        layer: &[
-            [0, 0, 400, 20],
-            [0, 40, 50, 60],
-            [0, 40, 20, 200],
-            [0, 180, 190, 200],
-            [350, 40, 400, 60],
-            [380, 40, 400, 200],
-            [215, 180, 400, 200],
-        ],
-        done: Done {
-            line: "features 3 pieces 8 zones 5 stitches 1 a 2 b 6",
-            cert: "features 3 pieces 8 zones 5 stitches 1\npiece 0 A 0 0\npiece 1 A 205 0\npiece 2 B 0 40\npiece 3 B 350 40\npiece 4 B 0 125\npiece 5 B 380 125\npiece 6 A 107 180\npiece 7 B 215 180\nstitch 97 180 107 200 4 6\n",
-            a: &[[0, 0, 400, 20], [97, 180, 190, 200]],
-            b: &[
-                [0, 40, 50, 60],
-                [350, 40, 400, 60],
-                [0, 60, 20, 180],
-                [380, 60, 400, 180],
-                [0, 180, 107, 200],
-                [215, 180, 400, 200],
-            ],
-        },
-    },
+    SEWN,
     // A stretch of twelve columns has a zone, one of eleven has none.
     Row {
         layer: &[[0, 0, 158, 20], [0, 40, 50, 60], [108, 40, 158, 60]],

@@ -1,16 +1,10 @@
 //! Layers by tiles of several sizes and by several workers, which no answer shows.
 
+use crate::rectangles::{Row, SEWN};
 use dpl_test_runs::{Done, is_conflict, is_done};
 use dpl_test_sample::{Rectangle, bars};
 use std::alloc::{AllocError, Global};
 use std::test::*;
-
-/// A layer that is done.
-#[derive(Clone, Copy)]
-struct Row {
-    layer: &'static [Rectangle],
-    done: Done<'static>,
-}
 
 /// Two bars one unit closer than the rule.
 const BARS: Row = Row {
@@ -68,7 +62,7 @@ const LARGEST: &str =
 
 const MANY: &str = "dpl split --layer 1 --rule 30 --overlap 10 --tile 64 --workers 64 in out cert";
 
-const CASES: [(&str, Row); 19] = [
+const CASES: [(&str, Row); 22] = [
     (ONE, BARS),
     (TINY, BARS),
     (SMALL, BARS),
@@ -88,6 +82,9 @@ const CASES: [(&str, Row); 19] = [
     (SMALL, LONG),
     (LARGEST, LONG),
     (MANY, LONG),
+    (ONE, SEWN),
+    (SMALL, SEWN),
+    (MANY, SEWN),
 ];
 
 /// A feature of 36 squares in six rows, each slab by itself, since they touch at corners alone. It is twelve columns wide.

@@ -159,3 +159,20 @@ fn one_worker_makes_no_tiles(rt: HostRuntime) -> Result<(), Fail> {
     assert_eq!(rt; gate.entered(), 0);
     Ok(())
 }
+
+/// The first has 4,096 pieces of one slab each, the second two more.
+#[test]
+fn a_large_layer_has_no_tiles(rt: HostRuntime) -> Result<(), Fail> {
+    let alloc = rt.alloc();
+    for (line, has_tiles) in [
+        ("dpl demo --seed 0 --rows 1997 --workers 2", true),
+        ("dpl demo --seed 0 --rows 1998 --workers 2", false),
+    ] {
+        let mut host = host(alloc, Vec::new(alloc), 4096, Vec::new(alloc))?;
+        let words = words(alloc, line)?;
+        let gate = Counts::new();
+        assert!(rt; run(&rt, alloc, &words, &mut host, &gate) == Status::Done);
+        assert_eq!(rt; gate.entered() > 0, has_tiles, "at {line}");
+    }
+    Ok(())
+}

@@ -71,17 +71,27 @@ pub fn find_stitches<R: Threads + Wait + Sync, G: Gate + Sync>(
         order.sharing.workers,
     )?;
     let conflicts = conflicts_of(rt, alloc, &cut, None, spacing, order.sharing, gate)?;
-    let seams = seams_of(alloc, cut, &conflicts, spacing, order.overlap)?;
+    let seams = seams_of(
+        rt,
+        alloc,
+        cut,
+        &conflicts,
+        spacing,
+        order.overlap,
+        order.sharing.workers,
+    )?;
     Ok(Split::Answered { copied, seams })
 }
 
 /// The stitches of the masks of a cut layer, if it has no odd cycle.
-fn seams_of(
+fn seams_of<R: Threads>(
+    rt: &R,
     alloc: Global,
     cut: BareLayerCut,
     conflicts: &Conflicts,
     spacing: Spacing,
     overlap: u32,
+    workers: u32,
 ) -> Result<Seams, AllocError>
     requires corner { spacing.corner ≤ spacing.rule }
     requires rule { IsRule spacing.rule }
@@ -90,7 +100,9 @@ fn seams_of(
     requires conflicts { AreConflictsOf None spacing cut.pieces.parts cut.pieces.owners conflicts.now }
     ensures { IfOk result (λ seams. OfCompleted cut (λ c. AreSeams spacing c seams)) }
 {
-    let answer = answer_of(alloc, cut, conflicts, None, spacing, overlap, false)?;
+    let answer = answer_of(
+        rt, alloc, cut, conflicts, None, spacing, overlap, false, workers,
+    )?;
     match answer {
         Decomposed::Masks(painted) => Ok(Seams::Stitches(painted.stitches)),
         Decomposed::Cycle(clash) => Ok(Seams::Conflict(clash.cycle.items().len() as u64)),

@@ -15,7 +15,7 @@ use Rattle.dpl_answer.proofs.Deciding.{letters_as_many, lines_many, painted_from
 use Rattle.dpl_answer.proofs.answer.paint.Goals as goal
 
 pub piece_lines-requires-clause-each : goal.piece_lines-requires-clause-each
-piece_lines-requires-clause-each c =
+piece_lines-requires-clause-each g c =
     let pieces = c.args.cut.pieces in
     let marks = marks_in (option_copied c.args.marks) in
     let (edges, are, sums) = c.requires.sums in
@@ -29,7 +29,7 @@ piece_lines-requires-clause-each c =
     ∙ letters_as_many c.args.fewer marks (length pieces.parts) edges c.args.joined.now pieces.sides colours sums letters)
 
 pub gains_by-requires-clause-each : goal.gains_by-requires-clause-each
-gains_by-requires-clause-each c =
+gains_by-requires-clause-each g c =
     let pieces = c.args.cut.pieces in
     let marks = marks_in (option_copied c.args.marks) in
     let (edges, are, sums) = c.requires.sums in
@@ -42,8 +42,8 @@ gains_by-requires-clause-each c =
     sym (length-map c.items-2.result.now is_second) ∙ (ap length c.items-2.ensures
     ∙ letters_as_many c.args.fewer marks (length pieces.parts) edges c.args.joined.now pieces.sides colours sums letters)
 
-pub masks-requires : goal.masks-requires
-masks-requires c =
+pub masks_by-requires : goal.masks_by-requires
+masks_by-requires g c =
     let pieces = c.args.cut.pieces in
     let marks = marks_in (option_copied c.args.marks) in
     let (edges, are, sums) = c.requires.sums in
@@ -56,7 +56,7 @@ masks-requires c =
     letters_as_many c.args.fewer marks (length pieces.parts) edges c.args.joined.now pieces.sides colours sums letters
 
 pub stitches-requires : goal.stitches-requires
-stitches-requires c =
+stitches-requires g c =
     let pieces = c.args.cut.pieces in
     let marks = marks_in (option_copied c.args.marks) in
     let (edges, are, sums) = c.requires.sums in
@@ -71,21 +71,21 @@ stitches-requires c =
     rw (c.sides-2.ensures.value, long) c.sides.ensures.known
 
 pub stitch_lines-requires-clause-each : goal.stitch_lines-requires-clause-each
-stitch_lines-requires-clause-each c = rw (c.sides-3.ensures.value, c.zones.ensures.value) c.sides.ensures.each
+stitch_lines-requires-clause-each g c = rw (c.sides-3.ensures.value, c.zones.ensures.value) c.sides.ensures.each
 
 pub stitch_lines-requires-clause-numbers : goal.stitch_lines-requires-clause-numbers
-stitch_lines-requires-clause-numbers c =
+stitch_lines-requires-clause-numbers g c =
     let few : length c.items.result.now < 2 ^ 64 = search rules in
     let each = ap length (c.items.ensures.value ∙ c.parts.ensures.value) in
     rw c.sides-3.ensures.value (λ k d k_in. (let known = c.sides.ensures.known k d k_in in (omega (arith, known.0, few, each), omega (arith, known.1, few, each))))
 
 pub stitch_lines-requires-clause-known : goal.stitch_lines-requires-clause-known
-stitch_lines-requires-clause-known c =
+stitch_lines-requires-clause-known g c =
     rw c.deref.ensures.value (λ k h. (let (side, side_in, is, differ) = (c.in_ok-numbers.ensures.exactly k).0 h in
     omega (arith, side_in, ap length c.sides-2.ensures.value, ap length c.sides-3.ensures.value)))
 
 pub returns-clause-painted : goal.returns-clause-painted
-returns-clause-painted c = λ features many.
+returns-clause-painted g c = λ features many.
     let pieces = c.args.cut.pieces in
     let marks = marks_in (option_copied c.args.marks) in
     let (edges, are, sums) = c.requires.sums in
@@ -107,7 +107,7 @@ returns-clause-painted c = λ features many.
     are sums c.requires.even graph is c.in_ok-masks.ensures.masks.first c.in_ok-masks.ensures.masks.second differing (c.head-head.ensures.value features many) lines stitches told
 
 pub returns-clause-fits : goal.returns-clause-fits
-returns-clause-fits c = λ some.
+returns-clause-fits g c = λ some.
     let pieces = c.args.cut.pieces in
     let marks = marks_in (option_copied c.args.marks) in
     let (edges, are, sums) = c.requires.sums in
@@ -141,4 +141,4 @@ returns-clause-fits c = λ some.
     }
 
 pub returns-clause-within : goal.returns-clause-within
-returns-clause-within c = c.in_ok-masks.ensures.within
+returns-clause-within g c = c.in_ok-masks.ensures.within

@@ -7,7 +7,7 @@ use Rattle.dpl_decide.proofs.Zips.{none_of}
 use Rattle.dpl_decide.proofs.many.all_answered.Goals as goal
 
 pub loop-layer-preserved-in-Continue-1 : goal.loop-layer-preserved-in-Continue-1
-loop-layer-preserved-in-Continue-1 c =
+loop-layer-preserved-in-Continue-1 g c =
     let next : c.loop-layer.layer-iterator.rest.items ≡ c.in-Some.layer ∷ c.next.new.self.rest.items = search rules in
     record {
       halfway = λ layers waits.
@@ -18,7 +18,7 @@ loop-layer-preserved-in-Continue-1 c =
     }
 
 pub unreachable-requires : goal.unreachable-requires
-unreachable-requires c =
+unreachable-requires g c =
     let next : c.loop-layer.layer-iterator.rest.items ≡ c.in-Some.layer ∷ c.next.new.self.rest.items = search rules in
     let (layers, waits) = c.requires.waiting in
     let half = rw (next, c.in-Cut.is) at (c.loop-layer.invariant.halfway layers waits) in
@@ -26,14 +26,14 @@ unreachable-requires c =
     none_cut c.args.spacing c.args.overlap layers _ _ _ _ (none_of _ none) half
 
 pub answer_of-requires-clause-keys : goal.answer_of-requires-clause-keys
-answer_of-requires-clause-keys c =
+answer_of-requires-clause-keys g c =
     let next : c.loop-layer.layer-iterator.rest.items ≡ c.in-Some.layer ∷ c.next.new.self.rest.items = search rules in
     let cuts : into_iter_items c.loop-layer.cuts ≡ c.in-Some-next.cut ∷ into_iter_items c.next-in-Cut.new.self = c.in-Some-next.ensures.items in
     let (layers, waits) = c.requires.waiting in
     next_keys c.args.spacing c.args.overlap layers _ _ _ _ _ (rw (next, c.in-Cut.is, cuts) at (c.loop-layer.invariant.halfway layers waits))
 
 pub loop-layer-preserved : goal.loop-layer-preserved
-loop-layer-preserved c =
+loop-layer-preserved g c =
     let next : c.loop-layer.layer-iterator.rest.items ≡ c.in-Some.layer ∷ c.next.new.self.rest.items = search rules in
     let cuts : into_iter_items c.loop-layer.cuts ≡ c.in-Some-next.cut ∷ into_iter_items c.next-in-Cut.new.self = c.in-Some-next.ensures.items in
     let found : into_iter_items c.loop-layer.conflicts ≡ c.in-Some-next-2.found ∷ into_iter_items c.next-in-Cut-2.new.self = c.in-Some-next-2.ensures.items in
@@ -46,6 +46,6 @@ loop-layer-preserved c =
     }
 
 pub returns : goal.returns
-returns c = λ layers waits.
+returns g c = λ layers waits.
     (let none : length c.loop-layer.layer-iterator.rest.items ≡ 0 = search rules in
     all_met c.args.spacing c.args.overlap layers _ _ (rw (none_of _ none) at (c.loop-layer.invariant.halfway layers waits)) c.loop-layer.invariant.fits)

@@ -11,7 +11,7 @@ use Rattle.dpl_decide.proofs.many.all_answered.Given as goal
 
 -- some layers are decided, and the cuts and the conflicts of the others are left
 abbrev pub invariant-loop-layer : goal.invariant-loop-layer
-invariant-loop-layer l = record {
+invariant-loop-layer g l = record {
   halfway : (layers : List ReadLayer) → AreWaiting l.spacing l.overlap layers l.fn.waiting.items l.fn.cuts.items
       → AreHalfway l.spacing l.overlap layers l.layer-iterator.rest.items (into_iter_items l.cuts) l.decisions.items;
   fits : All FitsDecision l.decisions.items;
