@@ -19,6 +19,9 @@ from concurrent.futures import FIRST_COMPLETED, ThreadPoolExecutor, wait
 PROGRAMS = ("dpl", "dplview")
 # What the proof of a large crate takes of memory, in GB; smaller ones take a quarter of it.
 GB_EACH = 3
+# What the proof of a crate takes in seconds: for each 1,000 bytes of source, proofs and definitions, and for any crate, since what is below it is read first.
+SECONDS_EACH = {"src": 3.2, "proofs": 0.8, "specs": 0.2}
+SECONDS_ANY = 30
 
 
 def read_needs(top):
@@ -42,11 +45,11 @@ def below(needs, name, found):
 
 
 def size_of(top, name):
-    """How much there is to prove, in bytes of source, definitions and proofs."""
-    total = 0
-    for part in ("src", "specs", "proofs"):
+    """How much there is to prove: about how many seconds one processor takes, of which only the ratios count."""
+    total = SECONDS_ANY
+    for part, seconds in SECONDS_EACH.items():
         for folder, _, files in os.walk(os.path.join(top, "crates", name, part)):
-            total += sum(os.path.getsize(os.path.join(folder, file)) for file in files)
+            total += seconds * sum(os.path.getsize(os.path.join(folder, file)) for file in files) / 1000
     return total
 
 

@@ -10,7 +10,7 @@ First a program is proved and built in TOP/out/refusals: refused_run.rattle besi
 SureHost. That host's calls never fail and take no memory, so each allocation of a run is the run's own. Its text isn't a .rt
 file, as the gate proves and builds what is one, which takes minutes.
 
-A case is a split of a made-up layout. It runs once for each allocation (in the case "crowded" for one of a thousand, in the case
+A case is a split of a made-up layout. It runs once for each allocation (in the case "crowded" for one of a hundred, in the case
 "large" for each of 65,536 bytes or more) with a library loaded before the C library, which counts these allocations and the
 threads that are asked for between the begin and the end of the run, and refuses one of them. Each run must end in one of these
 ways, and only the caller's thread is left then:
@@ -165,11 +165,12 @@ CASES = {
     "conflict": Case([(0, 0, 10, 10), (20, 0, 30, 10), (10, 20, 20, 30)], "", 0, 1),
     "stitch": Case(CROWD, "", 0, 1),
     "tiles": Case([(0, 0, 64000, 20), (0, 40, 64000, 60)], "--tile 64", 0, 1),
-    # So many rows a tile that a post merges a block.
-    "crowded": Case(list(pairs(33000)), "--tile 4096 --workers 2", 0, 1009),
+    # So many rows a tile that a post merges a block, and few enough slabs for tiles.
+    "crowded": Case(list(pairs(2000)), "--tile 4096 --workers 2", 0, 101),
     # One worker, who makes no tiles.
     "listed": Case(CROWD, "--workers 1", 0, 1),
-    "large": Case(list(pairs(33000)), "--tile 4096 --workers 2", 65536, 1),
+    # So many slabs that there are no tiles.
+    "large": Case(list(pairs(33000)), "--workers 2", 65536, 1),
 }
 
 # What a run leaves: its status, and how many bytes were written and said.
