@@ -7,7 +7,7 @@ use dpl_base::Id;
 use std::alloc::{AllocError, Global};
 
 /// Of a component: how many of its zones to others have sides that differ, and how many sides that agree.
-#[derive(Clone, Copy, Debug, Drop)]
+#[derive(Clone, Copy, Drop)]
 pub struct Tally {
     pub d: u64,
     pub s: u64,

@@ -12,7 +12,7 @@ use dpl_piece::{Cut, Pieces, Whole};
 use std::alloc::{AllocError, Global};
 
 /// On which masks the pieces of a feature lie.
-#[derive(Clone, Copy, Debug, Drop)]
+#[derive(Clone, Copy, Drop)]
 pub enum Ink {
     /// No zone cuts the feature.
     Uncut,

@@ -18,7 +18,7 @@ use Rattle.dpl_spec_split.specs.Pieces.{without}
 use Rattle.dpl_spec_split.proofs.Ordered.{Contains-nil}
 use Rattle.dpl_spec_split.proofs.SlabLaws.{IsLeast-first, member-Covers}
 use Rattle.dpl_spec_split.proofs.ComponentLaws.{Linked-end}
-use Rattle.dpl_sweep.proofs.Permuted.{AllPairs-permutation}
+use Rattle.dpl_order.proofs.Permuted.{AllPairs-permutation}
 use Rattle.dpl_slabs.specs.Parts.{AreApart, union_of}
 use Rattle.dpl_piece.specs.declared.piece.Piece.{Piece}
 use Rattle.dpl_piece.specs.Pieces.{parts_in, least_key, whole_piece, RiseByLeast, AreCut}

@@ -14,7 +14,7 @@ use dpl_sort::sort_by_key;
 use std::alloc::AllocError;
 
 /// A corner of a slab, with its part's number, or a corner of a zone, with the zone's number.
-#[derive(Clone, Copy, Debug, Drop)]
+#[derive(Clone, Copy, Drop)]
 pub struct Corner {
     pub x: i32,
     pub y: i32,
@@ -22,7 +22,7 @@ pub struct Corner {
 }
 
 /// Which corner of a rectangle.
-#[derive(Clone, Copy, Debug, Drop)]
+#[derive(Clone, Copy, Drop)]
 pub enum Kind {
     LowerLeft,
     LowerRight,

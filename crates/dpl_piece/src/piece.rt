@@ -7,7 +7,7 @@ use dpl_slabs::Slabs;
 use std::alloc::{AllocError, Global};
 
 /// What a piece is: a whole feature, or one of the pieces into which zones broke a feature.
-#[derive(Clone, Copy, Debug, Drop)]
+#[derive(Clone, Copy, Drop)]
 pub enum Origin {
     Whole,
     Broken,

@@ -15,9 +15,9 @@ use Rattle.dpl_spec_split.specs.Loops.{farthest, AreRectsWithin}
 use Rattle.dpl_spec_split.specs.Zones.{at, transposed}
 use Rattle.dpl_spec_split.proofs.Ordered.{Contains-nil}
 use Rattle.dpl_spec_split.proofs.SlabLaws.{Covers-member, member-Covers}
-use Rattle.dpl_sweep.specs.Orders.{CornersRise}
-use Rattle.dpl_sweep.specs.Pieces.{AreApart}
-use Rattle.dpl_sweep.proofs.JoinLaws.{covers-same}
+use Rattle.dpl_order.specs.Orders.{CornersRise}
+use Rattle.dpl_order.specs.Pieces.{AreApart}
+use Rattle.dpl_order.proofs.JoinLaws.{covers-same}
 use Rattle.dpl_slabs.specs.Blocks.{LieLeft, AddsBlock, AreBlocksOf, EitherCovers}
 use Rattle.dpl_slabs.specs.Cells.{transposed_rects}
 use Rattle.dpl_slabs.specs.Slices.{ArePiecesOf}

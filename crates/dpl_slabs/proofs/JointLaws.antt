@@ -16,7 +16,7 @@ use Rattle.dpl_spec_split.proofs.Ordered.{Contains-nil}
 use Rattle.dpl_spec_split.proofs.SlabLaws.{Covers-member, member-Covers}
 use Rattle.dpl_sweep.specs.declared.edge.Rule.{Rule}
 use Rattle.dpl_sweep.specs.declared.edge.Rule.TheVariants.{Minus, Both}
-use Rattle.dpl_sweep.specs.Orders.{CornersRise}
+use Rattle.dpl_order.specs.Orders.{CornersRise}
 use Rattle.dpl_sweep.proofs.EdgeLaws.{none-told}
 use Rattle.dpl_slabs.specs.Cells.{cells, Chosen}
 use Rattle.dpl_slabs.specs.Strips.{LieBelow, AddsStrip}

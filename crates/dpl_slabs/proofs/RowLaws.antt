@@ -17,7 +17,7 @@ use Rattle.dpl_spec_split.proofs.Ordered.{Contains-nil}
 use Rattle.dpl_spec_split.proofs.SlabLaws.{member-Covers}
 use Rattle.dpl_sweep.specs.declared.edge.Rule.TheVariants.{Either}
 use Rattle.dpl_sweep.specs.Edges.{Holds}
-use Rattle.dpl_sweep.specs.Orders.{CornerBefore, CornersRise}
+use Rattle.dpl_order.specs.Orders.{CornerBefore, CornersRise}
 use Rattle.dpl_slabs.specs.Cells.{cells}
 use Rattle.dpl_slabs.specs.Slices.{Without}
 use Rattle.dpl_slabs.specs.Rows.{AreLevel, AreAllLevel, AreSpaced, IsRow, IsLeftOf, IsWider, IsBarJoined, AreBarsSoFar, RisesTo}

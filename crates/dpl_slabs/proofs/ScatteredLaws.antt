@@ -15,9 +15,9 @@ use Rattle.dpl_spec_split.specs.Slabs.{IsSolid, Before, IsCanonical, AreSlabsOf}
 use Rattle.dpl_spec_split.specs.Zones.{at}
 use Rattle.dpl_spec_split.proofs.SlabLaws.{Covers-member}
 use Rattle.dpl_spec_split.proofs.SquareLaws.{Touch-from_close}
-use Rattle.dpl_sweep.specs.Orders.{CornerBefore, CornersRise}
-use Rattle.dpl_sweep.proofs.JoinLaws.{covers-same}
-use Rattle.dpl_sweep.proofs.Permuted.{AllPairs-permutation}
+use Rattle.dpl_order.specs.Orders.{CornerBefore, CornersRise}
+use Rattle.dpl_order.proofs.JoinLaws.{covers-same}
+use Rattle.dpl_order.proofs.Permuted.{AllPairs-permutation}
 use Rattle.dpl_slabs.specs.Parts.{union_of}
 use Rattle.dpl_slabs.specs.Scattered.{AreUntouched, FollowEither, AreScattered, InFirst}
 use Rattle.dpl_slabs.proofs.LoopLaws.{covers-appended}

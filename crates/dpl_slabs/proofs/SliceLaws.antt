@@ -20,9 +20,9 @@ use Rattle.dpl_spec_split.proofs.Ordered.{Contains-nil}
 use Rattle.dpl_spec_split.proofs.SlabLaws.{Covers-member, member-Covers}
 use Rattle.dpl_sweep.specs.declared.edge.Rule.TheVariants.{Minus}
 use Rattle.dpl_sweep.specs.Edges.{Holds}
-use Rattle.dpl_sweep.specs.Pieces.{AreApart}
-use Rattle.dpl_sweep.specs.Joins.{AreJoined}
-use Rattle.dpl_sweep.proofs.JoinLaws.{apart-permutation, covers-same, joined-apart}
+use Rattle.dpl_order.specs.Pieces.{AreApart}
+use Rattle.dpl_order.specs.Joins.{AreJoined}
+use Rattle.dpl_order.proofs.JoinLaws.{apart-permutation, covers-same, joined-apart}
 use Rattle.dpl_slabs.specs.Cells.{cells}
 use Rattle.dpl_slabs.specs.Rows.{AreAllLevel, AreSpaced, IsRow}
 use Rattle.dpl_slabs.specs.Alone.{KeepOff, AreAlone, AddsTouching}

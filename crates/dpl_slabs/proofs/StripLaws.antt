@@ -20,8 +20,8 @@ use Rattle.dpl_spec_split.specs.Slabs.{IsSolid, Follows, IsCanonical, AreSlabsOf
 use Rattle.dpl_spec_split.specs.Loops.{farthest, AreRectsWithin}
 use Rattle.dpl_spec_split.proofs.Ordered.{AllPairs-rest, AllPairs-first, Contains-head, Contains-later, Contains-nil}
 use Rattle.dpl_spec_split.proofs.SlabLaws.{Covers-member, member-Covers}
-use Rattle.dpl_sweep.proofs.JoinLaws.{covers-same}
-use Rattle.dpl_sweep.specs.Orders.{CornerBefore, CornersRise}
+use Rattle.dpl_order.proofs.JoinLaws.{covers-same}
+use Rattle.dpl_order.specs.Orders.{CornerBefore, CornersRise}
 use Rattle.dpl_slabs.specs.Strips.{LieBelow, AddsStrip, AreStripsOf}
 use Rattle.dpl_slabs.proofs.LoopLaws.{covers-appended, rects-appended}
 use Rattle.dpl_slabs.proofs.SetLaws.{rects-none, slabs-of-same}

@@ -6,8 +6,8 @@ use Rattle.dpl_spec_split.specs.declared.Rect.{Rect}
 use Rattle.dpl_spec_split.specs.Squares.{Region, Covers}
 use Rattle.dpl_spec_split.specs.Loops.{farthest, AreRectsWithin}
 use Rattle.dpl_spec_split.specs.Zones.{transposed}
-use Rattle.dpl_sweep.specs.Orders.{CornersRise}
-use Rattle.dpl_sweep.specs.Pieces.{AreApart}
+use Rattle.dpl_order.specs.Orders.{CornersRise}
+use Rattle.dpl_order.specs.Pieces.{AreApart}
 
 -- a column lies between each of the pieces and each of the rectangles of blocks
 abbrev pub LieLeft : List Rect → List Rect → Type 0

@@ -6,7 +6,7 @@ use Rattle.dpl_spec_split.specs.declared.Rect.{Rect}
 use Rattle.dpl_spec_split.specs.Squares.{Region, SameSquares, Has, Covers}
 use Rattle.dpl_spec_split.specs.Slabs.{IsSolid}
 use Rattle.dpl_spec_split.specs.Loops.{farthest, IsRectWithin, AreRectsWithin}
-use Rattle.dpl_sweep.specs.Pieces.{AreApart}
+use Rattle.dpl_order.specs.Pieces.{AreApart}
 use Rattle.dpl_slabs.specs.Rows.{IsLeftOf}
 
 -- the squares of a set in rows low to high - 1

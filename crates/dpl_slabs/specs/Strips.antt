@@ -6,7 +6,7 @@ use Rattle.dpl_spec_split.specs.declared.Rect.{Rect}
 use Rattle.dpl_spec_split.specs.Squares.{Region, Covers}
 use Rattle.dpl_spec_split.specs.Slabs.{IsCanonical}
 use Rattle.dpl_spec_split.specs.Loops.{farthest, AreRectsWithin}
-use Rattle.dpl_sweep.specs.Orders.{CornersRise}
+use Rattle.dpl_order.specs.Orders.{CornersRise}
 
 -- a row lies between each of the low ones and each of the high ones
 abbrev pub LieBelow : List Rect → List Rect → Type 0

@@ -3,8 +3,8 @@ ghost use Rattle.std.specs.Prelude.{◌≡◌, ◌<◌, ◌≤◌, IfOk, IfSome,
 ghost use Rattle.dpl_spec_split.specs.Squares.{Covers};
 ghost use Rattle.dpl_spec_split.specs.Loops.{farthest, AreRectsWithin};
 ghost use Rattle.dpl_spec_split.specs.Zones.{transposed};
-ghost use Rattle.dpl_sweep.specs.Pieces.{AreApart};
-ghost use Rattle.dpl_sweep.specs.Orders.{CornersRise};
+ghost use Rattle.dpl_order.specs.Pieces.{AreApart};
+ghost use Rattle.dpl_order.specs.Orders.{CornersRise};
 ghost use Rattle.dpl_slabs.specs.Blocks.{AddsBlock, AreBlocksOf, LieLeft, EitherCovers};
 ghost use Rattle.dpl_slabs.specs.Slices.{ArePiecesOf};
 
@@ -12,7 +12,7 @@ use crate::row::is_row;
 use crate::slices::TALL;
 use crate::strips::{slabs_by_rows, strip_length};
 use dpl_base::{Rect, transpose_all};
-use dpl_sweep::sort_slice_by_corner;
+use dpl_order::sort_slice_by_corner;
 use std::alloc::{AllocError, Global};
 
 /// Whether a strip of rectangles, which go by first row, has so many that they are better told apart by columns first.

@@ -5,7 +5,7 @@ ghost use Rattle.dpl_spec_split.specs.Squares.{Covers, SameSquares};
 ghost use Rattle.dpl_spec_split.specs.Slabs.{AreSlabsOf};
 ghost use Rattle.std.specs.List.Sorted.{IsPermutation};
 ghost use Rattle.dpl_sweep.specs.declared.edge.Rule.{Rule};
-ghost use Rattle.dpl_sweep.specs.Orders.{CornersRise};
+ghost use Rattle.dpl_order.specs.Orders.{CornersRise};
 ghost use Rattle.dpl_sweep.specs.Edges.{Told};
 ghost use Rattle.dpl_sweep.specs.Passes.{AreUnitEdges, IsClosed};
 ghost use Rattle.dpl_spec_split.specs.Loops.{farthest, IsRectWithin, AreRectsWithin};
@@ -13,7 +13,9 @@ ghost use Rattle.dpl_slabs.specs.Cells.{AddsRects, Chosen};
 ghost use Rattle.dpl_slabs.specs.Slices.{Without};
 
 use dpl_base::Rect;
-use dpl_sweep::{Edge, FEW_EDGES, Rule, slabs_of_edges, slabs_upward_without, sort_by_corner};
+use dpl_order::sort_by_corner;
+use dpl_sweep::{Edge, FEW_EDGES, Rule, slabs_of_edges};
+use dpl_upward::slabs_upward_without;
 use std::alloc::{AllocError, Global};
 
 /// An edge in a column, beside the rows of a rectangle.

@@ -2,7 +2,7 @@
 ghost use Rattle.std.specs.Prelude.{◌<◌, ◌↔◌, IfOk, IsTrue, length};
 ghost use Rattle.dpl_spec_split.specs.Squares.{Covers};
 ghost use Rattle.dpl_spec_split.specs.Slabs.{AreSlabsOf, IsSolid};
-ghost use Rattle.dpl_sweep.specs.Orders.{CornersRise};
+ghost use Rattle.dpl_order.specs.Orders.{CornersRise};
 ghost use Rattle.dpl_slabs.specs.Rows.{AreLevel, AreAllLevel, AreSpaced, IsBarJoined, IsRow};
 
 use dpl_base::Rect;

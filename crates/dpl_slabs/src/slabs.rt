@@ -15,7 +15,8 @@ use crate::scattered::slabs_of_all;
 use crate::slices::slabs_left;
 use crate::strips::{slabs_by_rows, slabs_of_rects};
 use dpl_base::{Loop, Pt, Rect, all_transposed};
-use dpl_sweep::{Rule, sort_by_corner};
+use dpl_order::sort_by_corner;
+use dpl_sweep::Rule;
 use std::alloc::{AllocError, Global};
 use std::marker::Model;
 

@@ -6,7 +6,7 @@ ghost use Rattle.dpl_spec_split.specs.Squares.{Covers};
 ghost use Rattle.dpl_spec_split.specs.Slabs.{StandApart, AreSlabsOf};
 ghost use Rattle.dpl_spec_split.specs.Loops.{farthest, IsRectWithin, AreRectsWithin};
 ghost use Rattle.dpl_slabs.specs.Rows.{AreAllLevel, AreSpaced, IsRow};
-ghost use Rattle.dpl_sweep.specs.Pieces.{AreApart};
+ghost use Rattle.dpl_order.specs.Pieces.{AreApart};
 ghost use Rattle.dpl_slabs.specs.Slices.{InRows, Without, IsPartOf, Widens, PushesBar, AddsPart, IsCutTo, ArePiecesBelow, ArePiecesOf};
 
 use crate::alone::{add_touching, alone_of};
@@ -14,7 +14,7 @@ use crate::combine::{combine_lists_without, combine_without, upward_without};
 use crate::gaps::bars_without;
 use crate::row::{is_spaced, slabs_of_row};
 use dpl_base::{FARTHEST, Rect};
-use dpl_sweep::{join_pieces, slabs_of, sort_by_corner};
+use dpl_order::{join_pieces, slabs_of, sort_by_corner};
 use std::alloc::{AllocError, Global};
 
 /// From how many rectangles and holes on they are swept slice by slice.

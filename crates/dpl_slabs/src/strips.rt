@@ -4,7 +4,7 @@ ghost use Rattle.std.specs.List.Sorted.{IsPermutation};
 ghost use Rattle.dpl_spec_split.specs.Squares.{Covers};
 ghost use Rattle.dpl_spec_split.specs.Slabs.{AreSlabsOf, IsCanonical};
 ghost use Rattle.dpl_spec_split.specs.Loops.{farthest, AreRectsWithin};
-ghost use Rattle.dpl_sweep.specs.Orders.{CornersRise};
+ghost use Rattle.dpl_order.specs.Orders.{CornersRise};
 ghost use Rattle.dpl_slabs.specs.Cells.{transposed_rects};
 ghost use Rattle.dpl_slabs.specs.Strips.{LieBelow, AddsStrip};
 
@@ -12,7 +12,8 @@ use crate::blocks::{has_tall_strip, pieces_of_blocks};
 use crate::row::{is_row, slabs_of_row};
 use crate::slices::{TALL, slabs_without};
 use dpl_base::{Rect, transpose_all};
-use dpl_sweep::{slabs_of, slabs_upward, sort_by_corner};
+use dpl_order::{slabs_of, sort_by_corner};
+use dpl_upward::slabs_upward;
 use std::alloc::{AllocError, Global};
 
 /// How many rectangles, which go by first row, are in the lowest strip: a row lies between them and all others, and between no fewer and the others.

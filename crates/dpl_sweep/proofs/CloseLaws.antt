@@ -8,7 +8,7 @@ use Rattle.dpl_spec_split.specs.declared.Rect.{Rect}
 use Rattle.dpl_spec_split.specs.Slabs.{IsSolid}
 use Rattle.dpl_sweep.specs.declared.run.Run.{Run}
 use Rattle.dpl_sweep.specs.declared.bands.Bands.{Bands, One}
-use Rattle.dpl_sweep.specs.Pieces.{EndBefore, Puts}
+use Rattle.dpl_order.specs.Pieces.{EndBefore, Puts}
 use Rattle.dpl_sweep.specs.Runs.{PutsRun, piece_of}
 use Rattle.dpl_sweep.specs.Rows.{run_at, ArePartsOf}
 use Rattle.dpl_sweep.specs.Closing.{IsOfRun, PutsDown}

@@ -1,7 +1,6 @@
 -- Bands between neighbouring rows of edges.
-use Rattle.std.proofs.Common.{◌≡◌, true, false, cond, ℕ, ◌+◌, ◌<◌, ◌⊎◌, inl, inr, List, [], ◌∷◌, ◌++◌, length, get_or, take, refl, sym, subst, arith, length-append, length-take}
-use Rattle.std.specs.Prelude.{ℤ, int_lt, ◌≤ℤ◌, ◌<ℤ◌}
-use Rattle.std.specs.Int.{int_min}
+use Rattle.std.proofs.Common.{◌≡◌, ℕ, ◌+◌, ◌<◌, ◌⊎◌, inl, inr, List, [], ◌∷◌, ◌++◌, length, get_or, take, refl, sym, subst, arith, length-append, length-take}
+use Rattle.std.specs.Prelude.{ℤ, ◌≤ℤ◌, ◌<ℤ◌}
 use Rattle.std.specs.List.{All}
 use Rattle.std.proofs.lemmas.Int.{ints, by_lt_z}
 use Rattle.std.proofs.lemmas.List.Elements.{All-more, All-weaker, All-contains, Contains-push}
@@ -12,7 +11,7 @@ use Rattle.dpl_sweep.specs.declared.edge.Rule.{Rule}
 use Rattle.dpl_sweep.specs.declared.run.Run.{Run}
 use Rattle.dpl_sweep.specs.declared.bands.Bands.{One}
 use Rattle.dpl_sweep.specs.Edges.{Told}
-use Rattle.dpl_sweep.specs.Pieces.{Puts}
+use Rattle.dpl_order.specs.Pieces.{Puts}
 use Rattle.dpl_sweep.specs.Runs.{piece_of, PutsRun, Moves}
 use Rattle.dpl_sweep.specs.Rows.{AreRows, IsSmall}
 use Rattle.dpl_sweep.specs.Closing.{PutsDown}
@@ -44,9 +43,6 @@ outside-more es i d row far next i_in nearer here before =
       ends = elim h.ends [ inl a ↦ inl a | inr b ↦ inr (omega (arith, ints, b, nearer)) ];
     }) (take i es) before)
     here
-
-pub min-above : (row x y : ℤ) → row <ℤ x → row <ℤ y → row <ℤ int_min x y
-min-above row x y a b = elim (int_lt y x) as (λ z. row <ℤ cond z y x) [ true ↦ b | false ↦ a ]
 
 -- of a row and both rows of an edge, the nearest above the first
 pub outside-next : (row next first last : ℤ) (e : Edge) → (e.y0 ≤ℤ row) ⊎ (first ≡ e.y0) → (e.y1 ≤ℤ row) ⊎ (last ≡ e.y1) → next ≤ℤ first → next ≤ℤ last → EndsOutside row next e

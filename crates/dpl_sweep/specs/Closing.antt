@@ -4,7 +4,7 @@ use Rattle.dpl_spec_split.specs.declared.Pt.{Pt}
 use Rattle.dpl_spec_split.specs.declared.Rect.{Rect}
 use Rattle.dpl_spec_split.specs.Squares.{Covers}
 use Rattle.dpl_sweep.specs.declared.bands.Bands.{Bands}
-use Rattle.dpl_sweep.specs.Pieces.{AreApart, EndBefore}
+use Rattle.dpl_order.specs.Pieces.{AreApart, EndBefore}
 use Rattle.dpl_sweep.specs.Rows.{run_at}
 
 -- the square is one of the run of its row, from low up to but not high

@@ -11,7 +11,7 @@ use Rattle.dpl_sweep.specs.declared.spans.Span.{Span}
 use Rattle.dpl_sweep.specs.declared.bands.Bands.{One}
 use Rattle.dpl_sweep.specs.Edges.{Told}
 use Rattle.dpl_sweep.specs.Few.{EndsOutside}
-use Rattle.dpl_sweep.specs.Pieces.{AreApart, EndBefore}
+use Rattle.dpl_order.specs.Pieces.{AreApart, EndBefore}
 use Rattle.dpl_sweep.specs.Rows.{AreRows, IsSmall}
 use Rattle.dpl_sweep.specs.Sweeping.{AreSwept}
 

@@ -6,7 +6,7 @@ ghost use Rattle.dpl_sweep.specs.declared.edge.Edge.{Edge};
 ghost use Rattle.dpl_sweep.specs.Edges.{Told};
 ghost use Rattle.dpl_sweep.specs.Orders.{EdgesRise};
 ghost use Rattle.dpl_sweep.specs.Passes.{AreUnitEdges, IsClosed, IsPassed, IsStart, IsUnitEdge, PassesOn, end_row, first_row};
-ghost use Rattle.dpl_sweep.specs.Pieces.{AreApart};
+ghost use Rattle.dpl_order.specs.Pieces.{AreApart};
 ghost use Rattle.dpl_sweep.specs.Rows.{AreRows, IsSmall};
 
 use crate::bands::Bands;

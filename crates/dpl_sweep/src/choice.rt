@@ -4,7 +4,7 @@ ghost use Rattle.dpl_spec_split.specs.Squares.{Covers, SameSquares};
 ghost use Rattle.dpl_sweep.specs.Edges.{Told};
 ghost use Rattle.dpl_sweep.specs.Orders.{EdgesRise};
 ghost use Rattle.dpl_sweep.specs.Passes.{AreUnitEdges, IsClosed};
-ghost use Rattle.dpl_sweep.specs.Pieces.{AreApart};
+ghost use Rattle.dpl_order.specs.Pieces.{AreApart};
 
 use crate::by_tree::pieces_by_tree;
 use crate::edge::{Edge, Rule};

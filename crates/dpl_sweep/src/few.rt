@@ -8,7 +8,7 @@ ghost use Rattle.dpl_sweep.specs.declared.bands.Bands.{One};
 ghost use Rattle.dpl_sweep.specs.Few.{AreDone, EndsOutside, IsWithin, PassesBand};
 ghost use Rattle.dpl_sweep.specs.Orders.{EdgesRise};
 ghost use Rattle.dpl_sweep.specs.Passes.{AreUnitEdges, IsClosed, IsStart, IsUnitEdge};
-ghost use Rattle.dpl_sweep.specs.Pieces.{AreApart};
+ghost use Rattle.dpl_order.specs.Pieces.{AreApart};
 ghost use Rattle.dpl_sweep.specs.Rows.{AreRows, IsSmall};
 
 use crate::edge::{Edge, Rule};

@@ -7,7 +7,7 @@ ghost use Rattle.dpl_sweep.specs.Edges.{Told};
 ghost use Rattle.dpl_sweep.specs.Spans.{AddsStep, AreInOrder, AreReady, AreSpansOf, AreSteps, HasEnds, span_at};
 ghost use Rattle.dpl_sweep.specs.Orders.{EdgesRise, RowsRise};
 ghost use Rattle.dpl_sweep.specs.Passes.{AreUnitEdges, IsClosed, IsStart};
-ghost use Rattle.dpl_sweep.specs.Pieces.{AreApart};
+ghost use Rattle.dpl_order.specs.Pieces.{AreApart};
 
 use crate::edge::{Edge, Rule};
 use crate::few::pass_band;
@@ -17,7 +17,7 @@ use dpl_spec_split::Rect;
 use std::alloc::{AllocError, Global};
 
 /// The rows from `low` up to but not `high`.
-#[derive(Clone, Copy, Debug, Drop)]
+#[derive(Clone, Copy, Drop)]
 pub struct Span {
     pub low: i32,
     pub high: i32,

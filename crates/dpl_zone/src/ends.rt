@@ -9,7 +9,7 @@ use dpl_join::Item;
 use std::alloc::{AllocError, Global};
 
 /// Whether the item's owner has a square in the row below the item, and in the row above it, at most one column beside it.
-#[derive(Clone, Copy, Debug, Drop)]
+#[derive(Clone, Copy, Drop)]
 pub(crate) struct Ends {
     pub(crate) below: bool,
     pub(crate) above: bool,

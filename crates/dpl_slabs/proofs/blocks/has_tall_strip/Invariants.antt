@@ -1,5 +1,5 @@
 use Rattle.std.proofs.Common.{length}
-use Rattle.dpl_sweep.specs.Orders.{CornersRise}
+use Rattle.dpl_order.specs.Orders.{CornersRise}
 use Rattle.dpl_slabs.proofs.blocks.has_tall_strip.Given as goal
 
 abbrev pub invariant-loop-rest : goal.invariant-loop-rest

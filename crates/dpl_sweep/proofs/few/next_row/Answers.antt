@@ -3,7 +3,8 @@ use Rattle.std.specs.Prelude.{pos}
 use Rattle.std.proofs.lemmas.Int.{ints, to_z-of_z}
 use Rattle.std.proofs.lemmas.List.{take_all}
 use Rattle.dpl_sweep.specs.declared.edge.Edge.{Edge}
-use Rattle.dpl_sweep.proofs.FewLaws.{min-above, outside-more, outside-next}
+use Rattle.dpl_order.proofs.Orders.{min-above}
+use Rattle.dpl_sweep.proofs.FewLaws.{outside-more, outside-next}
 use Rattle.dpl_sweep.proofs.few.next_row.Goals as goal
 
 abbrev zero : Edge

@@ -2,7 +2,7 @@ use Rattle.std.proofs.Common.{inl, inr, refl, rules, w32, arith, FitsSigned}
 use Rattle.std.specs.Prelude.{◌<ℤ◌}
 use Rattle.std.proofs.lemmas.Int.{ints, to_z-of_z}
 use Rattle.std.proofs.lemmas.Result.{on_ok_weaker}
-use Rattle.dpl_sweep.specs.Pieces.{Puts}
+use Rattle.dpl_order.specs.Pieces.{Puts}
 use Rattle.dpl_sweep.specs.Runs.{piece_of}
 use Rattle.dpl_sweep.proofs.run.put_run.Goals as goal
 

@@ -1,0 +1,4 @@
+pub mod PieceLaws
+pub mod Orders
+pub mod Permuted
+pub mod JoinLaws

@@ -1,0 +1,4 @@
+pub mod Orders
+pub mod ActiveLaws
+pub mod UpwardLaws
+pub mod FrontLaws

@@ -1,0 +1,56 @@
+use Rattle.std.proofs.Common.{◌<◌, length, get_or, rules, w32, FitsSigned, arith}
+use Rattle.std.specs.Prelude.{pos}
+use Rattle.std.proofs.lemmas.Int.{ints, to_z-of_z}
+use Rattle.std.proofs.lemmas.List.{get_or_default}
+use Rattle.dpl_spec_split.specs.declared.Rect.{Rect}
+use Rattle.dpl_upward.proofs.ActiveLaws.{active-none, active-next, fills-lower}
+use Rattle.dpl_upward.proofs.FrontLaws.{up-to-none}
+use Rattle.dpl_upward.proofs.UpwardLaws.{swept-first, swept-next, swept-all}
+use Rattle.dpl_upward.proofs.upward.pieces_upward.Goals as goal
+
+abbrev zero : Rect
+zero = record { x0 = pos 0; y0 = pos 0; x1 = pos 0; y1 = pos 0 }
+
+pub loop-low-init : goal.loop-low-init
+loop-low-init c =
+    let rects = c.args.rects.now in
+    let some : 0 < length rects = (let h = c.is_empty.ensures in let g = c.if-is_empty.false in grind (arith, h, g)) in
+    let first : Rect = get_or rects 0 zero in
+    let fits : FitsSigned w32 first.y0 = search rules in
+    record {
+      swept = rw (to_z-of_z w32 first.y0 fits, c.in_ok-with_capacity.ensures.items) (swept-first rects c.args.holes.now first some (get_or_default rects 0 zero first some) c.requires.rects);
+      front = rw (c.in_ok-with_capacity.ensures.items, c.new-2.ensures.items) (up-to-none _);
+      bars = rw (c.new-bars.ensures.begun, c.new-bars.ensures.none) (active-none _ rects);
+      gaps = rw (c.new-gaps.ensures.begun, c.new-gaps.ensures.none) (active-none _ c.args.holes.now);
+    }
+
+pub put_band-requires-clause-across : goal.put_band-requires-clause-across
+put_band-requires-clause-across c =
+    let high : FitsSigned w32 c.end-high.result = search rules in
+    let top : FitsSigned w32 c.end.result = search rules in
+    let lower = rw (to_z-of_z w32 c.end.result top) at c.end-high.ensures.below in
+    rw (to_z-of_z w32 c.end-high.result high, c.deref.ensures.value) (fills-lower _ _ _ _ _ lower c.end.ensures.fill).across
+
+pub put_band-requires-clause-gaps_across : goal.put_band-requires-clause-gaps_across
+put_band-requires-clause-gaps_across c =
+    let high : FitsSigned w32 c.end-high.result = search rules in
+    rw (to_z-of_z w32 c.end-high.result high, c.deref-in-loop-low.ensures.value) c.end-high.ensures.fill.across
+
+pub loop-low-preserved : goal.loop-low-preserved
+loop-low-preserved c =
+    let high : FitsSigned w32 c.end-high.result = search rules in
+    let top : FitsSigned w32 c.end.result = search rules in
+    let lower = rw (to_z-of_z w32 c.end.result top) at c.end-high.ensures.below in
+    let puts = rw (to_z-of_z w32 c.end-high.result high, c.deref.ensures.value, c.deref-in-loop-low.ensures.value) at c.in_ok-put_band.ensures.adds in
+    rw (to_z-of_z w32 c.end-high.result high) (record {
+      swept = swept-next _ _ _ _ _ c.loop-low.invariant.swept c.loop-low.invariant.front c.end-high.result _ _ _ (fills-lower _ _ _ _ _ lower c.end.ensures.fill) c.end-high.ensures.fill puts;
+      front = rw (to_z-of_z w32 c.end-high.result high) at c.in_ok-put_band.ensures.here;
+      bars = active-next _ _ _ _ c.in_ok-begin.ensures c.end-high.result c.end-high.ensures.above;
+      gaps = active-next _ _ _ _ c.in_ok-begin-2.ensures c.end-high.result c.end-high.ensures.above;
+    })
+
+pub returns : goal.returns
+returns c =
+    let top : FitsSigned w32 c.top_of-top.result = search rules in
+    let over = rw (to_z-of_z w32 c.top_of-top.result top) at c.loop-low-test.false in
+    swept-all _ _ _ _ _ c.loop-low.invariant.swept c.loop-low.invariant.front c.top_of-top.result (grind (arith, ints, over)) c.top_of-top.ensures
