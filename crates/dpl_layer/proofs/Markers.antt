@@ -6,8 +6,8 @@ use Rattle.dpl_spec_split.specs.Slabs.{AreSlabsOf}
 use Rattle.dpl_spec_format.specs.Tree.{Library}
 use Rattle.dpl_spec_layout.specs.declared.Layer.{Layer as ChosenLayer}
 use Rattle.dpl_flatten.specs.Drawing.{Drawn, IsDrawingOf}
-use Rattle.dpl_layer.specs.Drawn.{AreMarkersOf, HasMarkedDrawing}
-use Rattle.dpl_layer.specs.Marked.{AreFaultless, AreMarked, AreSquaresBelow, IsMarkedLayout, MarkedChoice, MarkedLayer, marker}
+use Rattle.dpl_layer.specs.Drawn.{AreMarkersOf, HasMarkedDrawing, HasSquares}
+use Rattle.dpl_layer.specs.Marked.{AreFaultless, AreMarked, IsMarkedLayout, MarkedChoice, MarkedLayer, marker}
 use Rattle.dpl_layer.specs.Reading.{chosen}
 use Rattle.dpl_layer.specs.View.{IsFaultOfLayer, IsMarkedFault, IsMarkersFault}
 use Rattle.dpl_layer.specs.declared.fault.LayerFault.{LayerFault}
@@ -18,11 +18,7 @@ use Rattle.dpl_layer.proofs.Layers.{slabs_same}
 
 -- ---- one set of markers
 
--- a drawing has these squares, of whatever layer it is
-abbrev pub HasSquares : Drawn → List Rect → Type 0
-HasSquares d slabs = (lib : Library) (top : ℕ) (layer : ChosenLayer) → IsDrawingOf lib top layer d → AreSquaresBelow lib top layer slabs
-
--- or this fault
+-- a drawing has this fault, of whatever layer it is
 abbrev pub HasFault : Drawn → LayerFault → Type 0
 HasFault d e = (lib : Library) (top : ℕ) (layer : ChosenLayer) → IsDrawingOf lib top layer d → IsFaultOfLayer lib top layer e
 

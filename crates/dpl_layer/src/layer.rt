@@ -13,6 +13,7 @@ use dpl_flatten::{Drawing, Layer as ChosenLayer, draw, top_of};
 use dpl_slabs::Slabs;
 use dpl_syntax::{Library, read_library};
 use std::alloc::{AllocError, Global};
+use std::thread::Threads;
 
 /// What is taken of a layout.
 #[derive(Clone, Copy, Debug)]
@@ -52,6 +53,23 @@ pub fn layer_of(alloc: Global, choice: &LayerChoice, bytes: Vec<u8>) -> Result<L
     let drawn = drawn_layer_of(alloc, choice, bytes.as_slice())?;
     drop(bytes);
     swept(alloc, drawn)
+}
+
+/// The same, swept by so many workers where the layer has many shapes.
+pub fn layer_by<R: Threads + Sync>(
+    rt: &R,
+    alloc: Global,
+    choice: &LayerChoice,
+    bytes: Vec<u8>,
+    workers: u32,
+) -> Result<Layer, LayerFault>
+    requires { length bytes.items ≤ limit }
+    ensures layer { IfOk result (λ l. IsLayout (choice_view choice.now) bytes.items (layer_view l)) }
+    ensures fault { IfErr result (IsLayerFault (choice_view choice.now) bytes.items) }
+{
+    let drawn = drawn_layer_of(alloc, choice, bytes.as_slice())?;
+    drop(bytes);
+    swept_by(rt, alloc, drawn, workers)
 }
 
 /// The squares of the chosen layer of at most 268,435,456 bytes that are read again afterwards.
@@ -122,6 +140,21 @@ fn swept(alloc: Global, drawn: DrawnLayer) -> Result<Layer, LayerFault>
     Ok(Layer { copied, slabs })
 }
 
+/// The same by so many workers.
+fn swept_by<R: Threads + Sync>(
+    rt: &R,
+    alloc: Global,
+    drawn: DrawnLayer,
+    workers: u32,
+) -> Result<Layer, LayerFault>
+    ensures layer { (v : Choice) (bytes : List ℕ) → HasDrawing v bytes drawn.copied.items drawn.drawing → IfOk result (λ l. IsLayout v bytes (layer_view l)) }
+    ensures fault { (v : Choice) (bytes : List ℕ) → HasDrawing v bytes drawn.copied.items drawn.drawing → IfErr result (IsLayerFault v bytes) }
+{
+    let DrawnLayer { copied, drawing } = drawn;
+    let slabs = squares_by(rt, alloc, drawing, workers)?;
+    Ok(Layer { copied, slabs })
+}
+
 /// The squares that a drawing covers. It is let go once its shapes are there, and their loops before all is swept.
 pub(crate) fn squares_of(alloc: Global, drawing: Drawing) -> Result<Slabs, LayerFault>
     ensures squares { (lib : LibraryOf) (top : ℕ) (layer : ChosenLayerOf) → IsDrawingOf lib top layer drawing → IfOk result (AreSquaresBelow lib top layer) }
@@ -129,6 +162,20 @@ pub(crate) fn squares_of(alloc: Global, drawing: Drawing) -> Result<Slabs, Layer
 {
     let shapes = drawing.shapes(alloc)?;
     Ok(Slabs::of_shapes(alloc, shapes.rects, shapes.loops)?)
+}
+
+/// The same by so many workers.
+pub(crate) fn squares_by<R: Threads + Sync>(
+    rt: &R,
+    alloc: Global,
+    drawing: Drawing,
+    workers: u32,
+) -> Result<Slabs, LayerFault>
+    ensures squares { (lib : LibraryOf) (top : ℕ) (layer : ChosenLayerOf) → IsDrawingOf lib top layer drawing → IfOk result (AreSquaresBelow lib top layer) }
+    ensures fault { (lib : LibraryOf) (top : ℕ) (layer : ChosenLayerOf) → IsDrawingOf lib top layer drawing → IfErr result (IsFaultOfLayer lib top layer) }
+{
+    let shapes = drawing.shapes(alloc)?;
+    Ok(Slabs::of_shapes_by(rt, alloc, shapes.rects, shapes.loops, workers)?)
 }
 
 /// The records that are copied to the file of the masks: those before the elements of a structure, one behind the other.

@@ -7,6 +7,6 @@ mod many;
 mod marked;
 
 pub use fault::LayerFault;
-pub use layer::{Layer, LayerChoice, copied_records, layer_of, layer_within};
+pub use layer::{Layer, LayerChoice, copied_records, layer_by, layer_of, layer_within};
 pub use many::{ReadLayer, layers_of};
-pub use marked::{MarkedChoice, MarkedLayer, marked_layer_of};
+pub use marked::{MarkedChoice, MarkedLayer, marked_layer_by, marked_layer_of};

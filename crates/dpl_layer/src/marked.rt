@@ -1,17 +1,19 @@
 //! The layer of a layout, and the squares of it that markers fix to a mask.
 ghost use Rattle.std.specs.Prelude.{◌<◌, ◌≤◌, ℕ, IfErr, IfOk, List, OnOk, Option, length};
 ghost use Rattle.dpl_spec_format.specs.Tree.{Library as LibraryOf};
-ghost use Rattle.dpl_layer.specs.Drawn.{AreMarkersOf, HasMarkedDrawing, HasMarkedDrawingIn};
+ghost use Rattle.dpl_flatten.specs.Drawing.{Drawn as DrawingOf};
+ghost use Rattle.dpl_layer.specs.Drawn.{AreMarkersOf, HasMarkedDrawing, HasMarkedDrawingIn, HasSquares};
 ghost use Rattle.dpl_layer.specs.Marked.{AreFaultless, AreMarked, IsMarkedLayout, MarkedChoice as MarkedChoiceOf};
 ghost use Rattle.dpl_layer.specs.Reading.{limit};
 ghost use Rattle.dpl_layer.specs.View.{IsMarkedFault, IsMarkedLibraryFault, IsMarkersFault, marked_choice_view, marked_view};
 
 use crate::fault::LayerFault;
-use crate::layer::{LayerChoice, copied_records, squares_of};
+use crate::layer::{LayerChoice, copied_records, squares_by, squares_of};
 use dpl_flatten::{Drawing, FlattenFault, Layer as ChosenLayer, draw, top_of};
 use dpl_slabs::Slabs;
 use dpl_syntax::{Library, read_library};
 use std::alloc::Global;
+use std::thread::Threads;
 
 /// What is taken of a layout, and the layers of its markers, of datatype 0.
 #[derive(Clone, Copy, Debug)]
@@ -68,9 +70,38 @@ pub fn marked_layer_of(
     ensures layer { IfOk result (λ l. IsMarkedLayout (marked_choice_view choice.now) bytes.items (marked_view l)) }
     ensures fault { IfErr result (IsMarkedFault (marked_choice_view choice.now) bytes.items) }
 {
-    let drawn = drawn_marked_layer_of(alloc, choice, bytes.as_slice())?;
+    let DrawnMarkedLayer {
+        copied,
+        drawing,
+        mark_a,
+        mark_b,
+    } = drawn_marked_layer_of(alloc, choice, bytes.as_slice())?;
     drop(bytes);
-    marked_squares(alloc, drawn)
+    let slabs = squares_of(alloc, drawing)?;
+    marked_squares(alloc, copied, slabs, mark_a, mark_b)
+}
+
+/// The same, the layer swept by so many workers where it has many shapes.
+pub fn marked_layer_by<R: Threads + Sync>(
+    rt: &R,
+    alloc: Global,
+    choice: &MarkedChoice,
+    bytes: Vec<u8>,
+    workers: u32,
+) -> Result<MarkedLayer, LayerFault>
+    requires { length bytes.items ≤ limit }
+    ensures layer { IfOk result (λ l. IsMarkedLayout (marked_choice_view choice.now) bytes.items (marked_view l)) }
+    ensures fault { IfErr result (IsMarkedFault (marked_choice_view choice.now) bytes.items) }
+{
+    let DrawnMarkedLayer {
+        copied,
+        drawing,
+        mark_a,
+        mark_b,
+    } = drawn_marked_layer_of(alloc, choice, bytes.as_slice())?;
+    drop(bytes);
+    let slabs = squares_by(rt, alloc, drawing, workers)?;
+    marked_squares(alloc, copied, slabs, mark_a, mark_b)
 }
 
 /// What is drawn of the chosen layer and of its markers, or the first fault of the layout.
@@ -125,20 +156,19 @@ fn markers_of(alloc: Global, lib: &Library<'_>, top: u32, layer: Option<u16>) ->
     }
 }
 
-/// The squares of what is drawn of a layer, and the marked ones among them.
-fn marked_squares(alloc: Global, drawn: DrawnMarkedLayer) -> Result<MarkedLayer, LayerFault>
-    ensures layer { (v : MarkedChoiceOf) (bytes : List ℕ) → HasMarkedDrawing v bytes drawn.copied.items drawn.drawing drawn.mark_a drawn.mark_b
+/// The squares of a layer, and the marked ones among them.
+fn marked_squares(
+    alloc: Global,
+    copied: Vec<u8>,
+    slabs: Slabs,
+    mark_a: Markers,
+    mark_b: Markers,
+) -> Result<MarkedLayer, LayerFault>
+    ensures layer { (v : MarkedChoiceOf) (bytes : List ℕ) (d : DrawingOf) → HasMarkedDrawing v bytes copied.items d mark_a mark_b → HasSquares d slabs
         → IfOk result (λ l. IsMarkedLayout v bytes (marked_view l)) }
-    ensures fault { (v : MarkedChoiceOf) (bytes : List ℕ) → HasMarkedDrawing v bytes drawn.copied.items drawn.drawing drawn.mark_a drawn.mark_b
+    ensures fault { (v : MarkedChoiceOf) (bytes : List ℕ) (d : DrawingOf) → HasMarkedDrawing v bytes copied.items d mark_a mark_b → HasSquares d slabs
         → IfErr result (IsMarkedFault v bytes) }
 {
-    let DrawnMarkedLayer {
-        copied,
-        drawing,
-        mark_a,
-        mark_b,
-    } = drawn;
-    let slabs = squares_of(alloc, drawing)?;
     let mark_a = marked(alloc, mark_a, &slabs)?;
     let mark_b = marked(alloc, mark_b, &slabs)?;
     Ok(MarkedLayer {

@@ -91,7 +91,7 @@ flip a b (inl f) = inr f
 flip a b (inr f) = inl f
 
 -- with a column between them
-follow-beside : (a b : Rect) → IsSolid a → IsSolid b → a.x1 <ℤ b.x0 → FollowEither a b
+pub follow-beside : (a b : Rect) → IsSolid a → IsSolid b → a.x1 <ℤ b.x0 → FollowEither a b
 follow-beside a b s t l =
     let w = s.wide in
     let v = t.wide in

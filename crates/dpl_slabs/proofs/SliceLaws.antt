@@ -1,12 +1,12 @@
 -- Slabs of slices put together.
-use Rattle.std.proofs.Common.{◌≡◌, ℕ, ◌+◌, ◌≤◌, ◌<◌, ◌⊎◌, inl, inr, List, [], ◌∷◌, ◌++◌, length, get_or, take, sym, ◌∙◌, subst, arith}
+use Rattle.std.proofs.Common.{◌≡◌, ℕ, ◌+◌, ◌-◌, ◌≤◌, ◌<◌, ◌⊎◌, inl, inr, List, [], ◌∷◌, ◌++◌, length, get_or, reverse, take, sym, ◌∙◌, subst, arith}
 use Rattle.std.specs.Prelude.{◌↔◌, ℤ, pos, ◌-ℤ◌, ◌≤ℤ◌, ◌<ℤ◌, neg_ℤ, int_lt}
 use Rattle.std.specs.Int.{int_min}
 use Rattle.std.proofs.lemmas.Bool.{cases_cond}
 use Rattle.std.specs.List.{All, AllPairs, Contains}
 use Rattle.std.specs.List.Sorted.{IsPermutation}
 use Rattle.std.proofs.lemmas.Int.{ints, by_lt_z}
-use Rattle.std.proofs.lemmas.List.{append_assoc, get_or_append_left, get_or-append-add, get_or_default, length-append, take_all}
+use Rattle.std.proofs.lemmas.List.{append_assoc, get_or_append_left, get_or-append-add, get_or-reverse, get_or_default, length-append, length-reverse, take_all}
 use Rattle.std.proofs.lemmas.List.Elements.{All-append, All-contains, Contains-append_cases, Contains-append_left, Contains-append_right}
 use Rattle.std.proofs.lemmas.List.Elements.{Contains-get_or, Contains-push, Contains-push_cases}
 use Rattle.std.proofs.lemmas.List.Sorted.{IsPermutation-append_comm, IsPermutation-append_left, IsPermutation-append_right}
@@ -626,3 +626,13 @@ without-sorted rects holes rs hs a b p = (
   λ (c, not). ((covers-same rects rs a p).1 c, λ h. not ((covers-same holes hs b p).0 h)),
   λ (c, not). ((covers-same rects rs a p).0 c, λ h. not ((covers-same holes hs b p).1 h)),
 )
+
+-- elements in the reverse order
+pub All-reverse : {X : Type 0} (P : X → Type 0) (xs : List X) → All P xs → All P (reverse xs)
+All-reverse P xs h k d k_in =
+    let l : k < length xs = omega (arith, k_in, length-reverse xs) in
+    rw (get_or-reverse xs k d l) (h (length xs - 1 - k) d (omega (arith, l)))
+
+-- some of the elements
+pub All-some : {X : Type 0} (P : X → Type 0) (all some : List X) → ((x : X) → Contains some x → Contains all x) → All P all → All P some
+All-some P all some among h k d k_in = All-contains P all (get_or some k d) h (among (get_or some k d) (Contains-get_or some k d k_in))

@@ -10,3 +10,4 @@ pub mod Alone
 pub mod Gaps
 pub mod Joints
 pub mod Scattered
+pub mod Made

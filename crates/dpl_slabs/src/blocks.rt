@@ -1,13 +1,18 @@
 //! Rectangles in blocks of columns, as upright wires are.
 ghost use Rattle.std.specs.Prelude.{◌≡◌, ◌<◌, ◌≤◌, IfOk, IfSome, OnOk, IsNone, length, drop};
+ghost use Rattle.std.specs.List.{All};
 ghost use Rattle.dpl_spec_split.specs.Squares.{Covers};
+ghost use Rattle.dpl_spec_split.specs.Slabs.{AreSlabsOf};
 ghost use Rattle.dpl_spec_split.specs.Loops.{farthest, AreRectsWithin};
 ghost use Rattle.dpl_spec_split.specs.Zones.{transposed};
-ghost use Rattle.dpl_order.specs.Pieces.{AreApart};
 ghost use Rattle.dpl_order.specs.Orders.{CornersRise};
-ghost use Rattle.dpl_slabs.specs.Blocks.{AddsBlock, AreBlocksOf, LieLeft, EitherCovers};
-ghost use Rattle.dpl_slabs.specs.Slices.{ArePiecesOf};
+ghost use Rattle.dpl_slabs.specs.Blocks.{AddsBlock, AreBlocksOf, AreScatteredOf, LieLeft, EitherCovers};
+ghost use Rattle.dpl_slabs.specs.Cells.{transposed_rects};
+ghost use Rattle.dpl_slabs.specs.Made.{IsBlockFrom};
+ghost use Rattle.dpl_slabs.specs.Scattered.{AreScattered};
 
+use crate::ahead::{Block, taken_block};
+use crate::made::Slicing;
 use crate::row::is_row;
 use crate::slices::TALL;
 use crate::strips::{slabs_by_rows, strip_length};
@@ -30,56 +35,94 @@ pub fn has_tall_strip(rects: &[Rect]) -> bool
     false
 }
 
-/// Adds the slabs of a block, whose rectangles are given transposed, and which lies right of all pieces. The rectangles are transposed back and sorted where they stand.
-fn add_block(alloc: Global, pieces: &mut Vec<Rect>, block: &mut [Rect]) -> Result<(), AllocError>
+/// The slabs of a block, whose rectangles are given transposed. They are transposed back and sorted where they stand.
+pub fn slabs_of_block<S: Slicing>(
+    alloc: Global,
+    slicing: &S,
+    block: &mut [Rect],
+) -> Result<Vec<Rect>, AllocError>
+    requires ready { S.ready }
     requires within { AreRectsWithin farthest block.old }
-    requires apart { AreApart pieces.old.items }
-    requires left { LieLeft pieces.old.items block.old }
-    ensures adds { OnOk result (AddsBlock pieces.old.items pieces.new.items block.old) }
+    ensures slabs { IfOk result (λ v. AreSlabsOf (Covers (transposed_rects block.old)) v.items) }
     ensures len { length block.new ≡ length block.old }
 {
     transpose_all(block);
     sort_slice_by_corner(block);
-    let slabs = slabs_by_rows(alloc, block)?;
-    pieces.extend_from_slice(&slabs)?;
+    slabs_by_rows(alloc, slicing, block)
+}
+
+/// Adds the slabs of a block, whose rectangles are given transposed, and which lies right of all slabs so far. They are made here where they weren't made before the block's turn.
+fn add_block<S: Slicing>(
+    alloc: Global,
+    slicing: &S,
+    slabs: &mut Vec<Rect>,
+    block: &mut [Rect],
+    made: Option<Block>,
+) -> Result<(), AllocError>
+    requires ready { S.ready }
+    requires within { AreRectsWithin farthest block.old }
+    requires scattered { AreScattered slabs.old.items }
+    requires left { LieLeft slabs.old.items block.old }
+    requires made { IfSome made (λ b. AreSlabsOf (Covers (transposed_rects block.old)) b.slabs.items) }
+    ensures adds { OnOk result (AddsBlock slabs.old.items slabs.new.items block.old) }
+    ensures len { length block.new ≡ length block.old }
+{
+    if let Some(made) = made {
+        slabs.extend_from_slice(&made.slabs)?;
+        return Ok(());
+    }
+    let more = slabs_of_block(alloc, slicing, block)?;
+    slabs.extend_from_slice(&more)?;
     Ok(())
 }
 
-/// Adds the slabs of the first block of the rectangles from a place on, which are given transposed and lie right of all pieces. Answers where the block ends.
-fn add_block_at(
+/// Adds the slabs of the first block of the rectangles from a place on, which are given transposed and lie right of all slabs so far. Some of the blocks from there on were made before their turn. Answers where the block ends.
+fn add_block_at<S: Slicing>(
     alloc: Global,
-    pieces: &mut Vec<Rect>,
+    slicing: &S,
+    made: &mut Vec<Block>,
+    slabs: &mut Vec<Rect>,
     rects: &mut [Rect],
     start: usize,
 ) -> Result<usize, AllocError>
+    requires ready { S.ready }
     requires some { start < length rects.old }
-    requires blocks { AreBlocksOf (EitherCovers pieces.old.items (drop start rects.old)) pieces.old.items (drop start rects.old) }
+    requires made { All (IsBlockFrom start rects.old) made.old.items }
+    requires blocks { AreBlocksOf (EitherCovers slabs.old.items (drop start rects.old)) slabs.old.items (drop start rects.old) }
     ensures more { IfOk result (λ end. start < end) }
     ensures within { IfOk result (λ end. end ≤ length rects.new) }
     ensures len { length rects.new ≡ length rects.old }
-    ensures blocks { IfOk result (λ end. AreBlocksOf (EitherCovers pieces.old.items (drop start rects.old)) pieces.new.items (drop end rects.new)) }
+    ensures made { IfOk result (λ end. All (IsBlockFrom end rects.new) made.new.items) }
+    ensures blocks { IfOk result (λ end. AreBlocksOf (EitherCovers slabs.old.items (drop start rects.old)) slabs.new.items (drop end rects.new)) }
 {
     let (_, rest) = rects.split_at_mut(start);
     let count = strip_length(rest);
     let (block, _) = rest.split_at_mut(count);
-    add_block(alloc, pieces, block)?;
+    let found = taken_block(made, start, count);
+    add_block(alloc, slicing, slabs, block, found)?;
     Ok(start + count)
 }
 
-/// Pieces of rectangles' squares, block by block, of which no two share a square, or none where there are no two blocks. The rectangles are given transposed, and are transposed back block by block where they stand, but stay as they are where there are no two blocks.
-pub fn pieces_of_blocks(alloc: Global, rects: &mut [Rect]) -> Result<Option<Vec<Rect>>, AllocError>
+/// The slabs of rectangles' squares, block by block, or none where there are no two blocks. The rectangles are given transposed, and are transposed back block by block where they stand, but stay as they are where the block's slabs were made before its turn, and where there are no two blocks.
+pub fn slabs_of_blocks<S: Slicing>(
+    alloc: Global,
+    slicing: &S,
+    rects: &mut [Rect],
+) -> Result<Option<Vec<Rect>>, AllocError>
+    requires ready { S.ready }
     requires within { AreRectsWithin farthest rects.old }
     requires rise { CornersRise rects.old }
-    ensures pieces { IfOk result (λ found. IfSome found (λ v. ArePiecesOf (transposed (Covers rects.old)) v.items)) }
+    ensures slabs { IfOk result (λ found. IfSome found (λ v. AreScatteredOf (transposed (Covers rects.old)) v.items)) }
     ensures none { IfOk result (λ found. IsNone found → rects.new ≡ rects.old) }
 {
     if rects.is_empty() || strip_length(rects) == rects.len() {
         return Ok(None);
     }
-    let mut pieces = Vec::with_capacity(alloc, rects.len())?;
+    let mut made = slicing.blocks(alloc, rects)?;
+    let mut slabs = Vec::with_capacity(alloc, rects.len())?;
     let mut start = 0;
     while start < rects.len() {
-        start = add_block_at(alloc, &mut pieces, rects, start)?;
+        start = add_block_at(alloc, slicing, &mut made, &mut slabs, rects, start)?;
     }
-    Ok(Some(pieces))
+    Ok(Some(slabs))
 }

@@ -1,12 +1,14 @@
 //! Sets of squares, kept as canonical slabs.
 #![tactic(auto)]
 
+mod ahead;
 mod alone;
 mod blocks;
 mod combine;
 mod gaps;
 mod joint;
 mod loops;
+mod made;
 mod parts;
 mod rects;
 mod row;

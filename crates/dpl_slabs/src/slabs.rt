@@ -10,6 +10,7 @@ ghost use Rattle.dpl_slabs.specs.Scattered.{AreScattered, AreUntouched};
 
 use crate::joint::combine_by_rows;
 use crate::loops::add_loops;
+use crate::made::{ByWorkers, InTurn, Slicing};
 use crate::rects::Rects;
 use crate::scattered::slabs_of_all;
 use crate::slices::slabs_left;
@@ -19,6 +20,7 @@ use dpl_order::sort_by_corner;
 use dpl_sweep::Rule;
 use std::alloc::{AllocError, Global};
 use std::marker::Model;
+use std::thread::Threads;
 
 /// A set of squares. A contract sees its canonical slabs. A set that `Slabs::one` made takes no memory of its own.
 #[derive(Drop)]
@@ -129,7 +131,7 @@ impl Slabs {
         requires { AreRectsWithin farthest rects.items }
         ensures { IfOk result (λ s. AreSlabsOf (Covers rects.items) s) }
     {
-        let slabs = slabs_of_rects(alloc, rects)?;
+        let slabs = slabs_of_rects(alloc, &InTurn, rects)?;
         Ok(Slabs::of_canonical(slabs))
     }
 
@@ -153,10 +155,40 @@ impl Slabs {
         requires loops { AreLoopsWithin farthest loops.items }
         ensures { IfOk result (λ s. AreSlabsOf (λ p. Covers rects.items p ⊎ SomeLoopCovers loops.items p) s) }
     {
+        Slabs::of_shapes_in(alloc, &InTurn, rects, loops)
+    }
+
+    /// The same by so many workers, who sweep blocks or slices where there are many rectangles.
+    pub fn of_shapes_by<R: Threads + Sync>(
+        rt: &R,
+        alloc: Global,
+        rects: Vec<Rect>,
+        loops: Vec<Loop>,
+        workers: u32,
+    ) -> Result<Slabs, AllocError>
+        requires rects { AreRectsWithin farthest rects.items }
+        requires loops { AreLoopsWithin farthest loops.items }
+        ensures { IfOk result (λ s. AreSlabsOf (λ p. Covers rects.items p ⊎ SomeLoopCovers loops.items p) s) }
+    {
+        Slabs::of_shapes_in(alloc, &ByWorkers { rt, workers }, rects, loops)
+    }
+
+    /// The squares of rectangles and loops, slice by slice where there are many rectangles.
+    fn of_shapes_in<S: Slicing>(
+        alloc: Global,
+        slicing: &S,
+        rects: Vec<Rect>,
+        loops: Vec<Loop>,
+    ) -> Result<Slabs, AllocError>
+        requires ready { S.ready }
+        requires rects { AreRectsWithin farthest rects.items }
+        requires loops { AreLoopsWithin farthest loops.items }
+        ensures { IfOk result (λ s. AreSlabsOf (λ p. Covers rects.items p ⊎ SomeLoopCovers loops.items p) s) }
+    {
         let mut all = rects;
         add_loops(alloc, &mut all, &loops)?;
         drop(loops);
-        let slabs = slabs_of_rects(alloc, all)?;
+        let slabs = slabs_of_rects(alloc, slicing, all)?;
         Ok(Slabs::of_canonical(slabs))
     }
 
@@ -229,7 +261,7 @@ impl Slabs {
         let mut rects = Vec::with_capacity(alloc, firsts.len().saturating_add(others.len()))?;
         rects.extend_from_slice(firsts)?;
         rects.extend_from_slice(others)?;
-        let slabs = slabs_of_rects(alloc, rects)?;
+        let slabs = slabs_of_rects(alloc, &InTurn, rects)?;
         Ok(Slabs::of_canonical(slabs))
     }
 
@@ -259,7 +291,7 @@ impl Slabs {
             return Ok(transposed);
         }
         sort_by_corner(&mut transposed);
-        slabs_by_rows(alloc, &transposed)
+        slabs_by_rows(alloc, &InTurn, &transposed)
     }
 
     /// Whether the two are one set.

@@ -1,17 +1,19 @@
 //! Many rectangles, less holes or none, slice by slice of their rows. What reaches through a slice, of the rectangles and of the holes, goes by columns in one walk. Only what begins or ends in a slice is swept, with the bars and holes in its columns or beside them.
 ghost use Rattle.std.specs.Prelude.{◌<◌, ◌↔◌, ◌≤ℤ◌, ◌++◌, IsTrue, IfOk, IfSome, OnOk};
-ghost use Rattle.std.specs.List.{AllPairs};
+ghost use Rattle.std.specs.List.{All, AllPairs};
 ghost use Rattle.std.specs.List.Sorted.{IsPermutation};
 ghost use Rattle.dpl_spec_split.specs.Squares.{Covers};
 ghost use Rattle.dpl_spec_split.specs.Slabs.{StandApart, AreSlabsOf};
 ghost use Rattle.dpl_spec_split.specs.Loops.{farthest, IsRectWithin, AreRectsWithin};
 ghost use Rattle.dpl_slabs.specs.Rows.{AreAllLevel, AreSpaced, IsRow};
 ghost use Rattle.dpl_order.specs.Pieces.{AreApart};
+ghost use Rattle.dpl_slabs.specs.Made.{IsSlice};
 ghost use Rattle.dpl_slabs.specs.Slices.{InRows, Without, IsPartOf, Widens, PushesBar, AddsPart, IsCutTo, ArePiecesBelow, ArePiecesOf};
 
 use crate::alone::{add_touching, alone_of};
 use crate::combine::{combine_lists_without, combine_without, upward_without};
 use crate::gaps::bars_without;
+use crate::made::{InTurn, Slice, Slicing, taken};
 use crate::row::{is_spaced, slabs_of_row};
 use dpl_base::{FARTHEST, Rect};
 use dpl_order::{join_pieces, slabs_of, sort_by_corner};
@@ -36,10 +38,10 @@ const PIECES: usize = 3;
 const ASKED: usize = 16_384;
 
 /// A row above all rectangles.
-const TOP: i32 = FARTHEST as i32 + 1;
+pub const TOP: i32 = FARTHEST as i32 + 1;
 
 /// The lowest row of rectangles.
-const BOTTOM: i32 = -(FARTHEST as i32);
+pub const BOTTOM: i32 = -(FARTHEST as i32);
 
 /// The part of a rectangle in rows `low` to `high - 1`.
 fn part_of(r: &Rect, low: i32, high: i32) -> Rect
@@ -164,7 +166,7 @@ fn put_together(first: Vec<Rect>, second: Vec<Rect>) -> Result<Vec<Rect>, AllocE
 }
 
 /// Pieces of the squares in rows `low` to `high - 1` that rectangles have and no hole has: what gaps, the bars of the holes, leave of bars, where it stands apart from all that is swept, and the slabs of this. Gaps that stand apart from the other parts aren't swept.
-fn pieces_of_slice(
+pub fn pieces_of_slice(
     alloc: Global,
     rects: &[Rect],
     holes: &[Rect],
@@ -244,9 +246,31 @@ fn settle(
     Ok(growing)
 }
 
+/// Pieces of the squares in rows `low` to `high - 1`: those of the next slice that was made, if it has these rows, else they are made now.
+fn pieces_at(
+    alloc: Global,
+    made: &mut Vec<Slice>,
+    rects: &[Rect],
+    holes: &[Rect],
+    low: i32,
+    high: i32,
+) -> Result<Vec<Rect>, AllocError>
+    requires rects { AreRectsWithin farthest rects.now }
+    requires holes { AreRectsWithin farthest holes.now }
+    requires made { All (IsSlice rects.now holes.now) made.old.items }
+    ensures pieces { IfOk result (λ v. ArePiecesOf (InRows low high (Without rects.now holes.now)) v.items) }
+    ensures made { All (IsSlice rects.now holes.now) made.new.items }
+{
+    match taken(made, low, high) {
+        Some(slice) => Ok(slice.pieces),
+        None => pieces_of_slice(alloc, rects, holes, low, high),
+    }
+}
+
 /// Adds pieces of the squares from row `low` up to `high`, where `done` and `growing` have all squares below. Those that end at row `high` may grow, as others may stand on them. Gives them, and the row below which all squares are in pieces then.
 fn add_slice(
     alloc: Global,
+    made: &mut Vec<Slice>,
     done: &mut Vec<Rect>,
     growing: Vec<Rect>,
     rects: &[Rect],
@@ -256,14 +280,16 @@ fn add_slice(
 ) -> Result<(Vec<Rect>, i32), AllocError>
     requires rects { AreRectsWithin farthest rects.now }
     requires holes { AreRectsWithin farthest holes.now }
+    requires made { All (IsSlice rects.now holes.now) made.old.items }
     requires below { ArePiecesBelow low (Without rects.now holes.now) (done.old.items ++ growing.items) }
     ensures below { IfOk result (λ v. ArePiecesBelow v.1 (Without rects.now holes.now) (done.new.items ++ v.0.items)) }
     ensures over { IfOk result (λ v. high ≤ℤ v.1) }
+    ensures made { All (IsSlice rects.now holes.now) made.new.items }
 {
     if high <= low {
         return Ok((growing, low));
     }
-    let more = pieces_of_slice(alloc, rects, holes, low, high)?;
+    let more = pieces_at(alloc, made, rects, holes, low, high)?;
     let pieces = joined(alloc, growing, more, low)?;
     let growing = settle(alloc, done, pieces, high)?;
     Ok((growing, high))
@@ -350,36 +376,50 @@ fn cuts(alloc: Global, rects: &[Rect], holes: &[Rect]) -> Result<Vec<i32>, Alloc
     Ok(cuts)
 }
 
+/// How many pieces of slices there may be.
+pub fn most_pieces(rects: &[Rect], holes: &[Rect]) -> usize {
+    rects
+        .len()
+        .saturating_add(holes.len())
+        .saturating_mul(PIECES)
+}
+
 /// Pieces of the squares that rectangles have and no hole has, of which no two share one, or none where slices would make too many of them.
-fn pieces_of_slices(
+fn pieces_of_slices<S: Slicing>(
     alloc: Global,
+    slicing: &S,
     rects: &[Rect],
     holes: &[Rect],
 ) -> Result<Option<Vec<Rect>>, AllocError>
+    requires ready { S.ready }
     requires rects { AreRectsWithin farthest rects.now }
     requires holes { AreRectsWithin farthest holes.now }
     ensures { IfOk result (λ found. IfSome found (λ v. ArePiecesOf (Without rects.now holes.now) v.items)) }
 {
     let cuts = cuts(alloc, rects, holes)?;
-    let most = rects
-        .len()
-        .saturating_add(holes.len())
-        .saturating_mul(PIECES);
+    let most = most_pieces(rects, holes);
+    let mut made = slicing.made(alloc, rects, holes, &cuts)?;
     let (mut done, mut growing) = (Vec::new(alloc), Vec::new(alloc));
     let mut low = BOTTOM;
     for &cut in &cuts {
-        (growing, low) = add_slice(alloc, &mut done, growing, rects, holes, low, cut)?;
+        (growing, low) = add_slice(alloc, &mut made, &mut done, growing, rects, holes, low, cut)?;
         if done.len().saturating_add(growing.len()) > most {
             return Ok(None);
         }
     }
-    let (growing, _) = add_slice(alloc, &mut done, growing, rects, holes, low, TOP)?;
+    let (growing, _) = add_slice(alloc, &mut made, &mut done, growing, rects, holes, low, TOP)?;
     let pieces = put_together(done, growing)?;
     Ok(Some(pieces))
 }
 
 /// The pieces of slices, or none where all is to be swept at once.
-fn sliced(alloc: Global, rects: &[Rect], holes: &[Rect]) -> Result<Option<Vec<Rect>>, AllocError>
+fn sliced<S: Slicing>(
+    alloc: Global,
+    slicing: &S,
+    rects: &[Rect],
+    holes: &[Rect],
+) -> Result<Option<Vec<Rect>>, AllocError>
+    requires ready { S.ready }
     requires rects { AreRectsWithin farthest rects.now }
     requires holes { AreRectsWithin farthest holes.now }
     ensures { IfOk result (λ found. IfSome found (λ v. ArePiecesOf (Without rects.now holes.now) v.items)) }
@@ -387,17 +427,23 @@ fn sliced(alloc: Global, rects: &[Rect], holes: &[Rect]) -> Result<Option<Vec<Re
     if rects.len().saturating_add(holes.len()) < TALL {
         return Ok(None);
     }
-    pieces_of_slices(alloc, rects, holes)
+    pieces_of_slices(alloc, slicing, rects, holes)
 }
 
 /// The slabs of the squares that rectangles have and no hole has: where there are many of both together, slice by slice, unless that makes too many pieces.
-pub fn slabs_without(alloc: Global, rects: &[Rect], holes: &[Rect]) -> Result<Vec<Rect>, AllocError>
+pub fn slabs_without<S: Slicing>(
+    alloc: Global,
+    slicing: &S,
+    rects: &[Rect],
+    holes: &[Rect],
+) -> Result<Vec<Rect>, AllocError>
+    requires ready { S.ready }
     requires rects { AreRectsWithin farthest rects.now }
     requires holes { AreRectsWithin farthest holes.now }
     ensures slabs { IfOk result (λ v. AreSlabsOf (Without rects.now holes.now) v.items) }
     ensures within { IfOk result (λ v. AreRectsWithin farthest v.items) }
 {
-    if let Some(pieces) = sliced(alloc, rects, holes)? {
+    if let Some(pieces) = sliced(alloc, slicing, rects, holes)? {
         return Ok(slabs_of(pieces));
     }
     combine_without(alloc, rects, holes)
@@ -413,5 +459,5 @@ pub fn slabs_left(alloc: Global, rects: &[Rect], holes: &[Rect]) -> Result<Vec<R
     if let Some(slabs) = upward_without(alloc, rects, holes)? {
         return Ok(slabs);
     }
-    slabs_without(alloc, rects, holes)
+    slabs_without(alloc, &InTurn, rects, holes)
 }

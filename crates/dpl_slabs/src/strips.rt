@@ -8,11 +8,12 @@ ghost use Rattle.dpl_order.specs.Orders.{CornersRise};
 ghost use Rattle.dpl_slabs.specs.Cells.{transposed_rects};
 ghost use Rattle.dpl_slabs.specs.Strips.{LieBelow, AddsStrip};
 
-use crate::blocks::{has_tall_strip, pieces_of_blocks};
+use crate::blocks::{has_tall_strip, slabs_of_blocks};
+use crate::made::Slicing;
 use crate::row::{is_row, slabs_of_row};
 use crate::slices::{TALL, slabs_without};
 use dpl_base::{Rect, transpose_all};
-use dpl_order::{slabs_of, sort_by_corner};
+use dpl_order::sort_by_corner;
 use dpl_upward::slabs_upward;
 use std::alloc::{AllocError, Global};
 
@@ -36,7 +37,12 @@ pub fn strip_length(rects: &[Rect]) -> usize
 }
 
 /// The slabs of a strip: bars of one row are put together by column, all else is swept.
-fn slabs_of_strip(alloc: Global, strip: &[Rect]) -> Result<Vec<Rect>, AllocError>
+fn slabs_of_strip<S: Slicing>(
+    alloc: Global,
+    slicing: &S,
+    strip: &[Rect],
+) -> Result<Vec<Rect>, AllocError>
+    requires ready { S.ready }
     requires some { 0 < length strip.now }
     requires rise { CornersRise strip.now }
     requires within { AreRectsWithin farthest strip.now }
@@ -51,11 +57,17 @@ fn slabs_of_strip(alloc: Global, strip: &[Rect]) -> Result<Vec<Rect>, AllocError
             return Ok(slabs);
         }
     }
-    slabs_without(alloc, strip, &[])
+    slabs_without(alloc, slicing, strip, &[])
 }
 
 /// Adds the slabs of a strip that lies above all slabs.
-fn add_strip(alloc: Global, slabs: &mut Vec<Rect>, strip: &[Rect]) -> Result<(), AllocError>
+fn add_strip<S: Slicing>(
+    alloc: Global,
+    slicing: &S,
+    slabs: &mut Vec<Rect>,
+    strip: &[Rect],
+) -> Result<(), AllocError>
+    requires ready { S.ready }
     requires some { 0 < length strip.now }
     requires rise { CornersRise strip.now }
     requires canonical { IsCanonical slabs.old.items }
@@ -63,13 +75,18 @@ fn add_strip(alloc: Global, slabs: &mut Vec<Rect>, strip: &[Rect]) -> Result<(),
     requires within { AreRectsWithin farthest strip.now }
     ensures { OnOk result (AddsStrip (Covers strip.now) slabs.old.items slabs.new.items strip.now) }
 {
-    let more = slabs_of_strip(alloc, strip)?;
+    let more = slabs_of_strip(alloc, slicing, strip)?;
     slabs.extend_from_slice(&more)?;
     Ok(())
 }
 
 /// The canonical slabs of rectangles, which go by first row and may overlap, strip by strip.
-pub fn slabs_by_rows(alloc: Global, rects: &[Rect]) -> Result<Vec<Rect>, AllocError>
+pub fn slabs_by_rows<S: Slicing>(
+    alloc: Global,
+    slicing: &S,
+    rects: &[Rect],
+) -> Result<Vec<Rect>, AllocError>
+    requires ready { S.ready }
     requires within { AreRectsWithin farthest rects.now }
     requires rise { CornersRise rects.now }
     ensures slabs { IfOk result (λ v. AreSlabsOf (Covers rects.now) v.items) }
@@ -79,7 +96,7 @@ pub fn slabs_by_rows(alloc: Global, rects: &[Rect]) -> Result<Vec<Rect>, AllocEr
     let mut rest = rects;
     while !rest.is_empty() {
         let (strip, others) = rest.split_at(strip_length(rest));
-        add_strip(alloc, &mut slabs, strip)?;
+        add_strip(alloc, slicing, &mut slabs, strip)?;
         rest = others;
     }
     Ok(slabs)
@@ -95,32 +112,44 @@ fn transpose_and_sort(rects: &mut Vec<Rect>)
 }
 
 /// The canonical slabs of rectangles in any order, block by block of columns where there are some between them. They are transposed where they stand, each block too, so that there is one list of them.
-fn slabs_by_blocks(alloc: Global, rects: Vec<Rect>) -> Result<Vec<Rect>, AllocError>
-    requires { AreRectsWithin farthest rects.items }
+fn slabs_by_blocks<S: Slicing>(
+    alloc: Global,
+    slicing: &S,
+    rects: Vec<Rect>,
+) -> Result<Vec<Rect>, AllocError>
+    requires ready { S.ready }
+    requires within { AreRectsWithin farthest rects.items }
     ensures slabs { IfOk result (λ v. AreSlabsOf (Covers rects.items) v.items) }
     ensures within { IfOk result (λ v. AreRectsWithin farthest v.items) }
 {
     let mut transposed = rects;
     transpose_and_sort(&mut transposed);
-    if let Some(pieces) = pieces_of_blocks(alloc, &mut transposed)? {
+    if let Some(mut slabs) = slabs_of_blocks(alloc, slicing, &mut transposed)? {
         drop(transposed);
-        return Ok(slabs_of(pieces));
+        slabs.shrink_to_fit();
+        sort_by_corner(&mut slabs);
+        return Ok(slabs);
     }
     let mut rects = transposed;
     transpose_and_sort(&mut rects);
-    slabs_by_rows(alloc, &rects)
+    slabs_by_rows(alloc, slicing, &rects)
 }
 
 /// The canonical slabs of rectangles, in any order, that may overlap: block by block of columns where strips of rows would be tall.
-pub fn slabs_of_rects(alloc: Global, rects: Vec<Rect>) -> Result<Vec<Rect>, AllocError>
-    requires { AreRectsWithin farthest rects.items }
+pub fn slabs_of_rects<S: Slicing>(
+    alloc: Global,
+    slicing: &S,
+    rects: Vec<Rect>,
+) -> Result<Vec<Rect>, AllocError>
+    requires ready { S.ready }
+    requires within { AreRectsWithin farthest rects.items }
     ensures slabs { IfOk result (λ v. AreSlabsOf (Covers rects.items) v.items) }
     ensures within { IfOk result (λ v. AreRectsWithin farthest v.items) }
 {
     let mut rects = rects;
     sort_by_corner(&mut rects);
     if has_tall_strip(&rects) {
-        return slabs_by_blocks(alloc, rects);
+        return slabs_by_blocks(alloc, slicing, rects);
     }
-    slabs_by_rows(alloc, &rects)
+    slabs_by_rows(alloc, slicing, &rects)
 }

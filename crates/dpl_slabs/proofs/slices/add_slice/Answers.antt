@@ -7,7 +7,7 @@ use Rattle.dpl_slabs.proofs.slices.add_slice.Goals as goal
 
 pub joined-requires : goal.joined-requires
 joined-requires c =
-    let slabs = rw (to_z-of_z w32 c.args.low c.ranges.low, to_z-of_z w32 c.args.high c.ranges.high) at c.in_ok-more.ensures in
+    let slabs = rw (to_z-of_z w32 c.args.low c.ranges.low, to_z-of_z w32 c.args.high c.ranges.high) at c.in_ok-more.ensures.pieces in
     let next = pieces-next c.args.low c.args.high (Without c.args.rects.now c.args.holes.now)
     (c.args.done.now.items ++ c.args.growing.items) c.in_ok-more.more.items (grind (arith, ints)) c.requires.below slabs in
     apart-after c.args.done.now.items (c.args.growing.items ++ c.in_ok-more.more.items)
@@ -15,7 +15,7 @@ joined-requires c =
 
 pub returns-clause-below : goal.returns-clause-below
 returns-clause-below c =
-    let slabs = rw (to_z-of_z w32 c.args.low c.ranges.low, to_z-of_z w32 c.args.high c.ranges.high) at c.in_ok-more.ensures in
+    let slabs = rw (to_z-of_z w32 c.args.low c.ranges.low, to_z-of_z w32 c.args.high c.ranges.high) at c.in_ok-more.ensures.pieces in
     let a = Without c.args.rects.now c.args.holes.now in
     let next = pieces-next c.args.low c.args.high a (c.args.done.now.items ++ c.args.growing.items) c.in_ok-more.more.items (grind (arith, ints)) c.requires.below slabs in
     let beside = below-beside c.args.high a c.args.done.now.items (c.args.growing.items ++ c.in_ok-more.more.items)

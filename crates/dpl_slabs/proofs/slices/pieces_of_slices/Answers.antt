@@ -5,10 +5,13 @@ use Rattle.dpl_slabs.proofs.SliceLaws.{pieces-none, pieces-permuted, pieces-all}
 use Rattle.dpl_slabs.proofs.slices.pieces_of_slices.Goals as goal
 
 pub loop-cut-init : goal.loop-cut-init
-loop-cut-init c = rw (c.new-done.ensures.items, c.new-growing.ensures.items) (pieces-none _ c.args.rects.now c.args.holes.now refl c.requires.rects)
+loop-cut-init g c = record {
+  below = rw (c.new-done.ensures.items, c.new-growing.ensures.items) (pieces-none _ c.args.rects.now c.args.holes.now refl c.requires.rects);
+  made = c.in_ok-made.ensures;
+}
 
 pub returns : goal.returns
-returns c =
+returns g c =
     let over = c.in_ok-growing-2.ensures.over in
     pieces-permuted (Without c.args.rects.now c.args.holes.now) _ _ c.in_ok-pieces.ensures
     (pieces-all c.in_ok-growing-2.field-0-1 c.args.rects.now c.args.holes.now _ (omega (arith, ints, over)) c.requires.rects c.in_ok-growing-2.ensures.below)

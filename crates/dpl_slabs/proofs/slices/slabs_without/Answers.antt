@@ -5,9 +5,9 @@ use Rattle.dpl_slabs.proofs.SliceLaws.{without-within}
 use Rattle.dpl_slabs.proofs.slices.slabs_without.Goals as goal
 
 pub returns-in-Some-clause-slabs : goal.returns-in-Some-clause-slabs
-returns-in-Some-clause-slabs c =
+returns-in-Some-clause-slabs g c =
     let pieces = rw c.in-Some.is at c.in_ok-pieces.ensures in
     slabs-of-same (Covers c.in-Some.pieces.items) (Without c.args.rects.now c.args.holes.now) _ pieces.covers c.slabs_of.ensures
 
 pub returns-in-Some-clause-within : goal.returns-in-Some-clause-within
-returns-in-Some-clause-within c = without-within c.args.rects.now c.args.holes.now _ c.requires.rects c.requires.holes (returns-in-Some-clause-slabs c)
+returns-in-Some-clause-within g c = without-within c.args.rects.now c.args.holes.now _ c.requires.rects c.requires.holes (returns-in-Some-clause-slabs g c)

@@ -3,7 +3,7 @@ use Rattle.dpl_slabs.proofs.StripLaws.{adds-strip}
 use Rattle.dpl_slabs.proofs.strips.add_strip.Goals as goal
 
 pub returns : goal.returns
-returns c =
+returns g c =
     rw (c.in_ok-extend_from_slice.ensures.items, c.deref.ensures.value)
     (adds-strip (Covers c.args.strip.now) c.args.slabs.now.items c.in_ok-more.more.items c.args.strip.now c.requires.canonical
     c.requires.below (λ p h. h) c.in_ok-more.ensures.slabs c.in_ok-more.ensures.within)
