@@ -24,7 +24,7 @@ use dpl_piece::BarePieces;
 use dpl_pool::Gate;
 use dpl_slabs::Slabs;
 use dpl_stars::{Joined, stars};
-use dpl_tile::{plan, side_for};
+use dpl_tile::{plan, plan_by, side_for};
 use std::alloc::{AllocError, Global};
 use std::sync::Wait;
 use std::thread::Threads;
@@ -32,7 +32,7 @@ use std::thread::Threads;
 /// How many slabs a square with sides of the rule has on average where they are dense, and how many features where they are crowded.
 const DENSE: u64 = 64;
 
-/// Up to how many slabs the pieces of a layer may have for tiles to be shared. Of more, one thread lists all conflicts sooner than several threads list those of their tiles and one joins what they found.
+/// Up to how many slabs the pieces of a layer may have for tiles to be shared. Of more, all conflicts are listed at once, which takes less time than to list those of many tiles and to join what was found.
 const MOST_BY_TILES: u64 = 4_096;
 
 /// How many of the edges that are listed at once are looked at before all of them are, where there are many.
@@ -49,7 +49,7 @@ const WIDEST: u32 = 1 << 31;
 pub struct Sharing {
     /// The side of a tile in database units, 1 to 1,073,741,824. It is doubled while there would be too many tiles.
     pub tile: u32,
-    /// How many workers share the tiles, 1 to 64.
+    /// How many workers share the layer's sweep, what is near what, and the tiles, 1 to 64.
     pub workers: u32,
 }
 
@@ -81,7 +81,7 @@ pub fn conflicts_of<R: Threads + Wait + Sync, G: Gate + Sync>(
     ensures { IfOk result (AreConflictsOf (marks_in (option_copied marks.entry)) spacing cut.now.pieces.parts cut.now.pieces.owners) }
 {
     if are_listed_at_once(cut.pieces.parts().items(), spacing.rule, sharing.workers) {
-        return listed_conflicts(alloc, &cut.pieces, marks, spacing);
+        return listed_conflicts(rt, alloc, &cut.pieces, marks, spacing, sharing.workers);
     }
     let job = tiles_of(alloc, &cut.pieces, marks, spacing, sharing.tile)?;
     let joined = joined_conflicts(rt, alloc, sharing.workers, &job, gate)?;
@@ -143,30 +143,44 @@ pub(crate) fn are_many(parts: &[Slabs], rule: u32, count: u64) -> bool {
     columns.saturating_mul(rows).saturating_mul(DENSE) < count
 }
 
-/// All conflicts of pieces, by one tile for all of them.
-fn conflicts_at_once(
+/// All conflicts of pieces, by one tile for all of them, whose near slabs so many workers find.
+fn conflicts_at_once<R: Threads + Sync>(
+    rt: &R,
     alloc: Global,
     pieces: &BarePieces,
     spacing: Spacing,
+    workers: u32,
 ) -> Result<Vec<Edge>, AllocError>
     requires corner { spacing.corner ≤ spacing.rule }
+    requires workers { 1 ≤ workers }
     ensures { IfOk result (λ v. AreEdges (Conflict spacing pieces.now.parts pieces.now.owners) v.items) }
 {
-    let plan = plan(alloc, pieces.parts(), pieces.owner(), spacing, WIDEST)?;
+    let plan = plan_by(
+        rt,
+        alloc,
+        pieces.parts(),
+        pieces.owner(),
+        spacing,
+        WIDEST,
+        workers,
+    )?;
     all_edges(alloc, &plan)
 }
 
 /// All edges of the graph of pieces, with anchors where marks are asked for.
-fn edges_at_once(
+fn edges_at_once<R: Threads + Sync>(
+    rt: &R,
     alloc: Global,
     pieces: &BarePieces,
     marks: Option<&MarkSets>,
     spacing: Spacing,
+    workers: u32,
 ) -> Result<Vec<Edge>, AllocError>
     requires corner { spacing.corner ≤ spacing.rule }
+    requires workers { 1 ≤ workers }
     ensures { IfOk result (λ v. AreEdges (graph (marks_in (option_copied marks.entry)) spacing pieces.now.parts pieces.now.owners) v.items) }
 {
-    let edges = conflicts_at_once(alloc, pieces, spacing)?;
+    let edges = conflicts_at_once(rt, alloc, pieces, spacing, workers)?;
     let marked = edges_of_marks(alloc, pieces.parts(), marks)?;
     joined_with(alloc, edges, &marked)
 }
@@ -196,17 +210,20 @@ fn conflicts_among(alloc: Global, edges: Vec<Edge>) -> Result<Conflicts, AllocEr
     }
 }
 
-/// The conflicts of the pieces, by the list of all edges, which one tile over all of them gives without workers.
-pub(crate) fn listed_conflicts(
+/// The conflicts of the pieces, by the list of all edges, which one tile over all of them gives. So many workers find the near slabs of it.
+pub(crate) fn listed_conflicts<R: Threads + Sync>(
+    rt: &R,
     alloc: Global,
     pieces: &BarePieces,
     marks: Option<&MarkSets>,
     spacing: Spacing,
+    workers: u32,
 ) -> Result<Conflicts, AllocError>
     requires corner { spacing.corner ≤ spacing.rule }
+    requires workers { 1 ≤ workers }
     ensures { IfOk result (AreConflictsOf (marks_in (option_copied marks.entry)) spacing pieces.now.parts pieces.now.owners) }
 {
-    let edges = edges_at_once(alloc, pieces, marks, spacing)?;
+    let edges = edges_at_once(rt, alloc, pieces, marks, spacing, workers)?;
     conflicts_among(alloc, edges)
 }
 

@@ -21,7 +21,7 @@ use std::alloc::{AllocError, Global};
 use std::sync::Wait;
 use std::thread::Threads;
 
-/// What is known of a layer's conflicts before workers begin. To them it is a job: a layer whose conflicts are known has no tiles left.
+/// What is known of a layer's conflicts before workers begin with tiles. To them it is a job: a layer whose conflicts are known has no tiles left.
 #[derive(Drop)]
 enum Start<'a> {
     /// The conflicts of a layer that were listed at once.
@@ -65,7 +65,7 @@ pub fn conflicts_of_all<R: Threads + Wait + Sync, G: Gate + Sync>(
     requires workers { AreWorkers sharing.workers }
     ensures { IfOk result (λ all. AllZip (AreConflictsOfCut spacing) cuts.now all.items) }
 {
-    let starts = all_started(alloc, cuts, spacing, sharing)?;
+    let starts = all_started(rt, alloc, cuts, spacing, sharing)?;
     if !have_room(&starts) {
         return Err(AllocError);
     }
@@ -74,7 +74,8 @@ pub fn conflicts_of_all<R: Threads + Wait + Sync, G: Gate + Sync>(
 }
 
 /// The start of each of these layers.
-fn all_started<'a>(
+fn all_started<'a, R: Threads + Sync>(
+    rt: &R,
     alloc: Global,
     cuts: &'a [BareLayerCut],
     spacing: Spacing,
@@ -83,17 +84,19 @@ fn all_started<'a>(
     requires corner { spacing.corner ≤ spacing.rule }
     requires rule { IsRule spacing.rule }
     requires tile { IsTile sharing.tile }
+    requires workers { AreWorkers sharing.workers }
     ensures { IfOk result (λ starts. AllZip (IsStartOf spacing) cuts.now starts.items) }
 {
     let mut starts = Vec::new(alloc);
     for cut in cuts {
-        starts.push(started(alloc, cut, spacing, sharing)?)?;
+        starts.push(started(rt, alloc, cut, spacing, sharing)?)?;
     }
     Ok(starts)
 }
 
 /// The start of a layer: its conflicts, where they are listed at once, or tiles whose side is that of `sharing`, doubled some number of times.
-fn started<'a>(
+fn started<'a, R: Threads + Sync>(
+    rt: &R,
     alloc: Global,
     cut: &'a BareLayerCut,
     spacing: Spacing,
@@ -102,10 +105,11 @@ fn started<'a>(
     requires corner { spacing.corner ≤ spacing.rule }
     requires rule { IsRule spacing.rule }
     requires tile { IsTile sharing.tile }
+    requires workers { AreWorkers sharing.workers }
     ensures { IfOk result (IsStartOf spacing cut.now) }
 {
     if are_listed_at_once(cut.pieces.parts().items(), spacing.rule, sharing.workers) {
-        let conflicts = listed_conflicts(alloc, &cut.pieces, None, spacing)?;
+        let conflicts = listed_conflicts(rt, alloc, &cut.pieces, None, spacing, sharing.workers)?;
         return Ok(Start::Known(conflicts));
     }
     let job = tiles_of(alloc, &cut.pieces, None, spacing, sharing.tile)?;

@@ -8,4 +8,6 @@ pub mod Loops
 pub mod ItemLaws
 pub mod ReachLaws
 pub mod MeetingLaws
+pub mod Taking
+pub mod DealtLaws
 pub mod PlanLaws

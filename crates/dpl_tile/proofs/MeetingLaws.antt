@@ -1,5 +1,5 @@
 -- Meetings of slabs.
-use Rattle.std.proofs.Common.{◌≡◌, ℕ, ◌+◌, ◌-◌, ◌<◌, ◌≤◌, ◌⊎◌, inl, inr, false, List, [], length, get_or, take, drop, length-take, length-drop, Ordering, refl, sym, ap, ◌∙◌, subst, arith}
+use Rattle.std.proofs.Common.{◌≡◌, ℕ, ◌+◌, ◌-◌, ◌<◌, ◌≤◌, ◌⊎◌, inl, inr, false, List, length, get_or, take, drop, length-take, length-drop, Ordering, refl, sym, ap, ◌∙◌, subst, arith}
 use Rattle.std.specs.Prelude.{◌↔◌}
 use Rattle.std.specs.Ordering.{is_lt, nat_cmp, ordering_then}
 use Rattle.std.specs.declared.cmp.Ordering.TheVariants.{Less, Equal, Greater}
@@ -12,14 +12,14 @@ use Rattle.std.proofs.lemmas.List.Sorted.{sorted_far, ranks_by}
 use Rattle.dpl_spec_split.specs.declared.Spacing.{Spacing}
 use Rattle.dpl_spec_split.specs.Graphs.{Precedes}
 use Rattle.dpl_join.specs.declared.items.Item.{Item}
-use Rattle.dpl_join.specs.Joins.{HaveHomes, IsPairOf, Joined, home_of}
+use Rattle.dpl_join.specs.Joins.{IsPairOf, Joined, home_of}
 use Rattle.dpl_join.specs.Listing.{Lists}
 use Rattle.dpl_join.specs.Pairs.{IsPair, item_at}
 use Rattle.dpl_tile.specs.declared.grid.Grid.{Grid}
 use Rattle.dpl_tile.specs.declared.meetings.Meeting.{Meeting}
 use Rattle.dpl_tile.specs.Adding.{Adds}
 use Rattle.dpl_tile.specs.Meetings.{AreAt, AreFoes, IsMeeting, IsMeetingAmong, IsMeetingOf, IsMetByPair, IsStart, RiseByPlace}
-use Rattle.dpl_tile.proofs.Adding.{OfFirst, added-to_none, adds-next, adds-same}
+use Rattle.dpl_tile.proofs.Adding.{adds-same}
 use Rattle.dpl_tile.proofs.Loops.{OfSome}
 use Rattle.dpl_tile.proofs.Orders.{pair_cmp}
 
@@ -76,7 +76,7 @@ pub strip-pairs : (spacing : Spacing) (join : Joined) (k : ℕ) (pairs : List (�
 strip-pairs spacing join k pairs rule lists p p_in = subst (λ r. IsPair r join.items p) rule ((lists.all p).0 p_in).pair
 
 module _ (spacing : Spacing) (owners : List ℕ) (g : Grid) (join : Joined) where
-  among-strip : (k : ℕ) (pairs : List (ℕ × ℕ)) → join.rule ≡ spacing.rule → Lists (IsPairOf join k) pairs
+  pub among-strip : (k : ℕ) (pairs : List (ℕ × ℕ)) → join.rule ≡ spacing.rule → Lists (IsPairOf join k) pairs
       → (m : Meeting) → IsMeetingAmong spacing owners g join.items pairs m ↔ IsMeetingIn spacing owners g join k m
   among-strip k pairs rule lists m = (
     λ (pair, pair_in, of).
@@ -85,22 +85,6 @@ module _ (spacing : Spacing) (owners : List ℕ) (g : Grid) (join : Joined) wher
         (here.here, (subst (λ r. IsPair r join.items (m.first, m.second)) rule here.pair, subst (λ p. IsMeetingOf spacing owners g join.items p m) same of)),
     λ (home, (pair, of)). ((m.first, m.second), (lists.all (m.first, m.second)).1 (record { pair = subst (λ r. IsPair r join.items (m.first, m.second)) (sym rule) pair; here = home }), of),
   )
-
-  pub strips-more : (k : ℕ) (pairs : List (ℕ × ℕ)) (base old new : List Meeting) → join.rule ≡ spacing.rule → Lists (IsPairOf join k) pairs
-      → Adds (OfFirst (IsMeetingIn spacing owners g join) k) base old → Adds (IsMeetingAmong spacing owners g join.items pairs) old new
-      → Adds (OfFirst (IsMeetingIn spacing owners g join) (k + 1)) base new
-  strips-more k pairs base old new rule lists before step =
-      adds-next (IsMeetingIn spacing owners g join) k (k + 1) base old new (omega arith) (λ m e a b h. omega (arith, a, b)) before
-      (adds-same (IsMeetingAmong spacing owners g join.items pairs) (IsMeetingIn spacing owners g join k) old new (among-strip k pairs rule lists) step)
-
-  pub all-meetings : (n : ℕ) (none ms : List Meeting) → HaveHomes join → join.strips ≤ n → join.rule ≡ spacing.rule → none ≡ []
-      → Adds (OfFirst (IsMeetingIn spacing owners g join) n) none ms → (m : Meeting) → Contains ms m ↔ IsMeeting spacing owners g join.items m
-  all-meetings n none ms homes all rule is adds m =
-      let h = added-to_none (OfFirst (IsMeetingIn spacing owners g join) n) none ms is adds m in (
-        λ c. (let (k, l, (home, meeting)) = h.0 c in meeting),
-        λ (pair, of). (let home = homes (m.first, m.second) (subst (λ r. IsPair r join.items (m.first, m.second)) (sym rule) pair) in
-            h.1 (home_of join (m.first, m.second), omega (arith, home, all), (refl, (pair, of)))),
-      )
 
 -- ---- in order
 

@@ -19,5 +19,5 @@ mod sides;
 pub use laws::squares_have_one_cell;
 pub use least::side_for;
 pub use meetings::Meeting;
-pub use planning::plan;
+pub use planning::{plan, plan_by};
 pub use plans::Plan;

@@ -7,14 +7,14 @@ ghost use Rattle.dpl_zone.specs.Ways.{AreFlat, AreUpright};
 
 use dpl_base::{Spacing, Zone};
 use dpl_slabs::{Parts, Slabs};
-use dpl_zone::{Found, horizontal_zones, vertical_zones, zones, zones_among};
+use dpl_zone::{Found, horizontal_zones_by, vertical_zones_by, zones, zones_among};
 use std::alloc::{AllocError, Global};
 use std::thread::{Threads, join};
 
-/// The stitch zones of disjoint sets within a layer that has just their squares, as `dpl_zone::zones` gives them. With two workers or more the horizontal ones are found in a thread of their own, if one can be made.
+/// The stitch zones of disjoint sets within a layer that has just their squares, as `dpl_zone::zones` gives them. With two workers or more the horizontal ones are found in a thread of their own, if one can be made, and half of the workers look for those of each kind.
 ///
 /// The error: out of memory.
-pub fn zones_by<R: Threads>(
+pub fn zones_by<R: Threads + Sync>(
     rt: &R,
     alloc: Global,
     parts: &Parts,
@@ -30,16 +30,18 @@ pub fn zones_by<R: Threads>(
     if workers < 2 {
         return zones(alloc, parts, spacing, overlap, marked);
     }
+    let half = workers / 2;
+    let others = workers - half;
     let (horizontal, vertical) = join(
         rt,
         || -> Result<Vec<Zone>, AllocError>
-            requires { spacing.corner ≤ spacing.rule }
+            requires { (spacing.corner ≤ spacing.rule) × (1 ≤ half) }
             ensures { IfOk result (λ v. AreFlat spacing overlap parts.entry.now v.items) }
-        { horizontal_zones(alloc, parts, spacing, overlap) },
+        { horizontal_zones_by(rt, alloc, parts, spacing, overlap, half) },
         || -> Result<Vec<Zone>, AllocError>
-            requires { spacing.corner ≤ spacing.rule }
+            requires { (spacing.corner ≤ spacing.rule) × (1 ≤ others) }
             ensures { IfOk result (λ v. AreUpright spacing overlap parts.entry.now v.items) }
-        { vertical_zones(alloc, parts, spacing, overlap) },
+        { vertical_zones_by(rt, alloc, parts, spacing, overlap, others) },
     );
     let found = Found {
         spacing,

@@ -26,7 +26,7 @@ use Rattle.dpl_spec_split.specs.declared.Spacing.{Spacing}
 use Rattle.dpl_spec_split.specs.declared.Pt.{Pt}
 use Rattle.dpl_spec_split.specs.Zones.{at}
 use Rattle.dpl_join.specs.declared.items.Item.{Item}
-use Rattle.dpl_join.specs.Joins.{HaveHomes, IsPairBelow, IsPairOf, Joined, home_of}
+use Rattle.dpl_join.specs.Joins.{IsPairOf, Joined}
 use Rattle.dpl_join.specs.Listing.{Lists}
 use Rattle.dpl_join.specs.Pairs.{AreClose, IsPair, item_at, no_item}
 use Rattle.dpl_join.proofs.NearLaws.{near-close}
@@ -219,36 +219,6 @@ short-all spacing overlap items n found dead all few none h = rw none (record {
   shades = λ s (k, k_in, is). absurd (omega (arith, k_in));
   dead = λ k k_in flag. barren-short spacing overlap items k (h.short k (omega (arith, all, k_in)) flag);
 })
-
--- ---- strips
-
-pub record HandlesBelow (join : Joined) (rules : Spacing) (long : ℕ) (n : ℕ) (t : Shades) : Type 0 where
-  pub spacing : t.spacing ≡ rules
-  pub overlap : t.overlap ≡ long
-  pub sound : IsSound join.items t
-  pub handles : (p : ℕ × ℕ) → IsPairBelow join n p → HandlesBoth join.items t p
-
-pub strips-none : (join : Joined) (spacing : Spacing) (overlap : ℕ) (t : Shades) → t.spacing ≡ spacing → t.overlap ≡ overlap → IsSound join.items t → HandlesBelow join spacing overlap 0 t
-strips-none join spacing overlap t a b sound = record { spacing = a; overlap = b; sound = sound; handles = λ p h. (let l = h.below in absurd (omega (arith, l))) }
-
-pub strips-more : (join : Joined) (spacing : Spacing) (overlap n : ℕ) (pairs : List (ℕ × ℕ)) (old new : Shades) → Lists (IsPairOf join n) pairs → HandlesBelow join spacing overlap n old
-    → IsSound join.items new → IsMore old new → ((p : ℕ × ℕ) → Contains pairs p → HandlesBoth join.items new p) → HandlesBelow join spacing overlap (n + 1) new
-strips-more join spacing overlap n pairs old new lists h sound more both = record {
-  spacing = more.spacing ∙ h.spacing;
-  overlap = more.overlap ∙ h.overlap;
-  sound = sound;
-  handles = λ p b. let below = b.below in elim (cases_eq (home_of join p) n) [
-    | inl e ↦ both p ((lists.all p).1 (record { pair = b.pair; here = e }))
-    | inr ne ↦ both-more join.items old new p more (h.handles p (record { pair = b.pair; below = omega (arith, below, ne) }))
-  ];
-}
-
-pub strips-all : (join : Joined) (spacing : Spacing) (overlap n rule : ℕ) (t : Shades) → HaveHomes join → join.strips ≤ n → join.rule ≡ rule → HandlesBelow join spacing overlap n t
-    → (p : ℕ × ℕ) → IsPair rule join.items p → HandlesBoth join.items t p
-strips-all join spacing overlap n rule t homes all rule_is h p pair =
-    let known : IsPair join.rule join.items p = subst (λ (k : ℕ). IsPair k join.items p) (sym rule_is) pair in
-    let home = homes p known in
-    h.handles p (record { pair = known; below = omega (arith, all, home) })
 
 pub strip-pairs : (join : Joined) (n rule : ℕ) (pairs : List (ℕ × ℕ)) → Lists (IsPairOf join n) pairs → join.rule ≡ rule → (p : ℕ × ℕ) → Contains pairs p → IsPair rule join.items p
 strip-pairs join n rule pairs lists is p c = subst (λ (k : ℕ). IsPair k join.items p) is ((lists.all p).0 c).pair

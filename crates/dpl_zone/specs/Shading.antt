@@ -1,10 +1,11 @@
 -- What items shade of one another.
-use Rattle.std.specs.Prelude.{◌≡◌, ◌≢◌, ℕ, ◌+◌, ◌<◌, ◌≤◌, ◌⊎◌, ◌↔◌, ℤ, pos, ◌+ℤ◌, ◌≤ℤ◌, ◌<ℤ◌, Bool, true, false, List, length, slice_index_or}
+use Rattle.std.specs.Prelude.{◌≡◌, ◌≢◌, ℕ, ◌+◌, ◌%◌, ◌<◌, ◌≤◌, ◌⊎◌, ◌↔◌, ℤ, pos, ◌+ℤ◌, ◌≤ℤ◌, ◌<ℤ◌, Bool, true, false, List, length, slice_index_or}
 use Rattle.std.specs.List.{Contains}
 use Rattle.dpl_spec_split.specs.declared.Spacing.{Spacing}
 use Rattle.dpl_spec_split.specs.declared.Rect.{Rect}
 use Rattle.dpl_join.specs.declared.items.Item.{Item}
-use Rattle.dpl_join.specs.Pairs.{item_at}
+use Rattle.dpl_join.specs.Joins.{Joined, home_of}
+use Rattle.dpl_join.specs.Pairs.{IsPair, item_at}
 use Rattle.dpl_zone.specs.declared.rows.Span.{Span}
 use Rattle.dpl_zone.specs.declared.shades.Shade.{Shade}
 use Rattle.dpl_zone.specs.declared.shades.Shades.{Shades}
@@ -73,6 +74,25 @@ pub record IsMore (old new : Shades) : Type 0 where
   pub overlap : new.overlap ≡ old.overlap
   pub found : (s : Shade) → Contains old.found.items s → Contains new.found.items s
   pub dead : (n : ℕ) → IsDead old n → IsDead new n
+
+-- the pairs that count in a strip dealt to this one of so many workers are handled
+abbrev pub HandlesDealt : Joined → ℕ → ℕ → Shades → Type 0
+HandlesDealt join worker workers t = (p : ℕ × ℕ) → IsPair join.rule join.items p → home_of join p % workers ≡ worker → HandlesBoth join.items t p
+
+-- what this one of so many workers found
+pub record IsShare (join : Joined) (known : Shades) (worker workers : ℕ) (t : Shades) : Type 0 where
+  pub spacing : t.spacing ≡ known.spacing
+  pub overlap : t.overlap ≡ known.overlap
+  pub sound : IsSound join.items t
+  pub handles : HandlesDealt join worker workers t
+
+-- what was found in one place and in another, put together
+pub record AreBoth (one other both : Shades) : Type 0 where
+  pub spacing : both.spacing ≡ one.spacing
+  pub overlap : both.overlap ≡ one.overlap
+  pub found : (s : Shade) → Contains both.found.items s ↔ (Contains one.found.items s ⊎ Contains other.found.items s)
+  pub sized : length both.dead.items ≡ length one.dead.items
+  pub dead : (n : ℕ) → IsDead both n ↔ (IsDead one n ⊎ IsDead other n)
 
 abbrev pub NumbersRise : List Shade → Type 0
 NumbersRise found = (i j : ℕ) (d : Shade) → i ≤ j → j < length found → (slice_index_or found i d).number ≤ (slice_index_or found j d).number

@@ -12,10 +12,11 @@ use crate::items::{columns_of_parts, slabs_of_parts};
 use crate::kept::joined;
 use crate::marked::unmarked;
 use crate::order::{each_once, sort_zones};
-use crate::slab_zones::upright_zones;
+use crate::slab_zones::{upright_zones, upright_zones_by};
 use dpl_base::{Spacing, Zone, transposed};
 use dpl_slabs::{Parts, Slabs};
 use std::alloc::{AllocError, Global};
+use std::thread::Threads;
 
 /// Exchanges x and y of each zone where it stands.
 fn transpose(zones: &mut Vec<Zone>)
@@ -71,6 +72,46 @@ pub fn vertical_zones(
 {
     let slabs = slabs_of_parts(alloc, parts.items())?;
     upright_zones(alloc, slabs, spacing, overlap)
+}
+
+/// The horizontal zones of parts, in no order, as `horizontal_zones` gives them. What is near each slab is found by so many workers, each in a thread of its own, if one can be made; with one worker none is made.
+///
+/// The error: out of memory.
+pub fn horizontal_zones_by<R: Threads + Sync>(
+    rt: &R,
+    alloc: Global,
+    parts: &Parts,
+    spacing: Spacing,
+    overlap: u32,
+    workers: u32,
+) -> Result<Vec<Zone>, AllocError>
+    requires corner { spacing.corner ≤ spacing.rule }
+    requires workers { 1 ≤ workers }
+    ensures { IfOk result (λ v. AreFlat spacing overlap parts.now v.items) }
+{
+    let columns = columns_of_parts(alloc, parts.items())?;
+    let mut zones = upright_zones_by(rt, alloc, columns, spacing, overlap, workers)?;
+    transpose(&mut zones);
+    Ok(zones)
+}
+
+/// The vertical zones of parts, in no order, as `vertical_zones` gives them. What is near each slab is found by so many workers, each in a thread of its own, if one can be made; with one worker none is made.
+///
+/// The error: out of memory.
+pub fn vertical_zones_by<R: Threads + Sync>(
+    rt: &R,
+    alloc: Global,
+    parts: &Parts,
+    spacing: Spacing,
+    overlap: u32,
+    workers: u32,
+) -> Result<Vec<Zone>, AllocError>
+    requires corner { spacing.corner ≤ spacing.rule }
+    requires workers { 1 ≤ workers }
+    ensures { IfOk result (λ v. AreUpright spacing overlap parts.now v.items) }
+{
+    let slabs = slabs_of_parts(alloc, parts.items())?;
+    upright_zones_by(rt, alloc, slabs, spacing, overlap, workers)
 }
 
 /// The zones of parts that are kept, as `zones` gives them, by their horizontal and their vertical ones.

@@ -1,5 +1,5 @@
 //! The shades of the items of a crowded layer, most of which have no zone, since one near item alone leaves them too few rows.
-ghost use Rattle.std.specs.Prelude.{◌≡◌, ◌≢◌, ℕ, ◌<◌, ◌≤◌, IfOk, OnOk, length};
+ghost use Rattle.std.specs.Prelude.{◌≡◌, ◌≢◌, ℕ, ◌<◌, ◌≤◌, IfOk, IsTrue, OnOk, length};
 ghost use Rattle.std.specs.List.{Contains};
 ghost use Rattle.dpl_join.specs.Pairs.{item_at};
 ghost use Rattle.dpl_zone.specs.Owned.{AreOwnedWithin};
@@ -21,7 +21,7 @@ const NEXT: usize = 8;
 const MOST: usize = 256;
 
 /// Whether a square with sides of the rule has many items, on average over the rectangle round all of them.
-pub(crate) fn are_crowded(items: &[Item], rule: u32) -> bool {
+fn are_crowded(items: &[Item], rule: u32) -> bool {
     let mut around = None;
     for item in items {
         around = round_one(around, &item.rect);
@@ -73,7 +73,7 @@ fn darken_next(shades: &mut Shades, items: &[Item], n: usize)
 }
 
 /// Marks as dead what items that stand near one another in the list leave too few rows of one another.
-pub(crate) fn darken_all(shades: &mut Shades, items: &[Item])
+fn darken_all(shades: &mut Shades, items: &[Item])
     requires corner { shades.old.spacing.corner ≤ shades.old.spacing.rule }
     requires within { AreOwnedWithin items.now }
     requires sound { IsSound items.now shades.old }
@@ -86,7 +86,7 @@ pub(crate) fn darken_all(shades: &mut Shades, items: &[Item])
 }
 
 /// Whether all items but a few are dead.
-pub(crate) fn are_few(shades: &Shades) -> bool {
+fn are_few(shades: &Shades) -> bool {
     let mut count: usize = 0;
     for dead in &shades.dead {
         if !dead {
@@ -118,7 +118,7 @@ fn add_all(shades: &mut Shades, items: &[Item], n: u32) -> Result<(), AllocError
 }
 
 /// Adds what all items shade of each that isn't dead. As many items as 2^32 or more are refused as out of memory, which so many would be.
-pub(crate) fn add_alive(shades: &mut Shades, items: &[Item]) -> Result<(), AllocError>
+fn add_alive(shades: &mut Shades, items: &[Item]) -> Result<(), AllocError>
     requires corner { shades.old.spacing.corner ≤ shades.old.spacing.rule }
     requires within { AreOwnedWithin items.now }
     requires sound { IsSound items.now shades.old }
@@ -132,4 +132,24 @@ pub(crate) fn add_alive(shades: &mut Shades, items: &[Item]) -> Result<(), Alloc
         }
     }
     Ok(())
+}
+
+/// Finds all shades of a crowded layer, all items of which but a few have no zone, as is seen from few pairs: each of these few is compared with all. Answers whether the layer is such a one.
+pub(crate) fn find_crowded(shades: &mut Shades, items: &[Item]) -> Result<bool, AllocError>
+    requires corner { shades.old.spacing.corner ≤ shades.old.spacing.rule }
+    requires within { AreOwnedWithin items.now }
+    requires sound { IsSound items.now shades.old }
+    ensures sound { OnOk result (IsSound items.now shades.new) }
+    ensures more { OnOk result (IsMore shades.old shades.new) }
+    ensures handles { IfOk result (λ all. IsTrue all → (n : ℕ) → n < length items.now → HandlesAll items.now shades.new n) }
+{
+    if !are_crowded(items, shades.spacing.rule) {
+        return Ok(false);
+    }
+    darken_all(shades, items);
+    if !are_few(shades) {
+        return Ok(false);
+    }
+    add_alive(shades, items)?;
+    Ok(true)
 }

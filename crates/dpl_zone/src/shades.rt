@@ -11,13 +11,15 @@ ghost use Rattle.dpl_zone.specs.Owned.{AreOwnedWithin};
 ghost use Rattle.dpl_zone.specs.Rows.{AreTall, IsShadow, RiseByFrom, SomeRow};
 ghost use Rattle.dpl_zone.specs.Shading.{AreShades, Handles, HandlesBoth, HasShade, IsMore, IsSound, IsStart, IsPortion, NumbersRise};
 
-use crate::crowded::{add_alive, are_crowded, are_few, darken_all};
+use crate::crowded::find_crowded;
+use crate::dealt::{add_dealt, all_dealt};
 use crate::rows::{Span, shadow};
 use crate::slab_zones::is_short;
 use dpl_base::{Rect, Spacing};
 use dpl_join::{Item, Join, Pair};
 use dpl_sort::sort_by_key;
 use std::alloc::{AllocError, Global};
+use std::thread::Threads;
 
 /// Rows of an item that another one shades.
 #[derive(Clone, Copy, Drop)]
@@ -140,7 +142,11 @@ fn add_both(shades: &mut Shades, items: &[Item], pair: &Pair) -> Result<(), Allo
 }
 
 /// Adds what pairs shade of one another.
-fn add_pairs(shades: &mut Shades, items: &[Item], pairs: &[Pair]) -> Result<(), AllocError>
+pub(crate) fn add_pairs(
+    shades: &mut Shades,
+    items: &[Item],
+    pairs: &[Pair],
+) -> Result<(), AllocError>
     requires corner { shades.old.spacing.corner ≤ shades.old.spacing.rule }
     requires within { AreOwnedWithin items.now }
     requires pairs { (p : ℕ × ℕ) → Contains pairs.now p → IsPair shades.old.spacing.rule items.now p }
@@ -196,19 +202,40 @@ fn unsorted_shades(
 {
     let items = join.items();
     let mut shades = none_found(alloc, items, spacing, overlap)?;
-    if are_crowded(items, spacing.rule) {
-        darken_all(&mut shades, items);
-        if are_few(&shades) {
-            add_alive(&mut shades, items)?;
-            return Ok(shades);
-        }
+    if find_crowded(&mut shades, items)? {
+        return Ok(shades);
     }
-    let count = join.strips();
-    for strip in 0..count {
-        let pairs = join.pairs_of_strip(alloc, strip)?;
-        add_pairs(&mut shades, items, pairs.as_slice())?;
-    }
+    add_dealt(&mut shades, alloc, join, 0, 1)?;
     Ok(shades)
+}
+
+/// How many workers find shades at most: each has marks of its own for all items.
+const MOST_WORKERS: u32 = 8;
+
+/// The shades of all pairs of a join, in no order, as `unsorted_shades` finds them, those of each strip by one of so many workers.
+fn unsorted_shades_by<R: Threads + Sync>(
+    rt: &R,
+    alloc: Global,
+    join: &Join,
+    spacing: Spacing,
+    overlap: u32,
+    workers: u32,
+) -> Result<Shades, AllocError>
+    requires corner { spacing.corner ≤ spacing.rule }
+    requires rule { join.now.rule ≡ spacing.rule }
+    requires within { AreOwnedWithin join.now.items }
+    requires workers { 1 ≤ workers }
+    ensures spacing { IfOk result (λ t. t.spacing ≡ spacing) }
+    ensures overlap { IfOk result (λ t. t.overlap ≡ overlap) }
+    ensures sound { IfOk result (IsSound join.now.items) }
+    ensures handles { IfOk result (λ t. (p : ℕ × ℕ) → IsPair spacing.rule join.now.items p → HandlesBoth join.now.items t p) }
+{
+    let items = join.items();
+    let mut shades = none_found(alloc, items, spacing, overlap)?;
+    if find_crowded(&mut shades, items)? {
+        return Ok(shades);
+    }
+    all_dealt(rt, alloc, join, shades, workers.min(MOST_WORKERS))
 }
 
 /// Sorts by number.
@@ -234,6 +261,31 @@ pub(crate) fn shades_of(
     ensures shades { IfOk result (AreShades join.now.items) }
 {
     let mut shades = unsorted_shades(alloc, join, spacing, overlap)?;
+    sort_by_number(&mut shades.found);
+    Ok(shades)
+}
+
+/// The shades of the items of a join, as `shades_of` finds them, those of each strip by one of so many workers. With one worker no thread is made.
+pub(crate) fn shades_by<R: Threads + Sync>(
+    rt: &R,
+    alloc: Global,
+    join: &Join,
+    spacing: Spacing,
+    overlap: u32,
+    workers: u32,
+) -> Result<Shades, AllocError>
+    requires corner { spacing.corner ≤ spacing.rule }
+    requires rule { join.now.rule ≡ spacing.rule }
+    requires within { AreOwnedWithin join.now.items }
+    requires workers { 1 ≤ workers }
+    ensures spacing { IfOk result (λ t. t.spacing ≡ spacing) }
+    ensures overlap { IfOk result (λ t. t.overlap ≡ overlap) }
+    ensures shades { IfOk result (AreShades join.now.items) }
+{
+    if workers == 1 {
+        return shades_of(alloc, join, spacing, overlap);
+    }
+    let mut shades = unsorted_shades_by(rt, alloc, join, spacing, overlap, workers)?;
     sort_by_number(&mut shades.found);
     Ok(shades)
 }

@@ -15,10 +15,11 @@ ghost use Rattle.dpl_zone.specs.Ways.{AreUpright, IsItemZone};
 
 use crate::ends::{Ends, ends_of};
 use crate::rows::{Span, gaps};
-use crate::shades::{Portion, Shades, portion_from, rows_at, shades_of};
+use crate::shades::{Portion, Shades, portion_from, rows_at, shades_by, shades_of};
 use dpl_base::{Rect, Spacing, Zone};
 use dpl_join::{Item, Join};
 use std::alloc::{AllocError, Global};
+use std::thread::Threads;
 
 /// Room for what is found at one item, used again for the next: the rows of its shades, the spans between them, and its zones.
 #[derive(Drop)]
@@ -261,6 +262,35 @@ pub(crate) fn upright_zones(
     }
     let join = Join::of(alloc, items, spacing.rule)?;
     let shades = shades_of(alloc, &join, spacing, overlap)?;
+    let items = join.into_items();
+    let ends = ends_of(alloc, &items, &shades.dead)?;
+    zones_of_items(alloc, &items, &ends, &shades)
+}
+
+/// The vertical zones of all owners, in no order, as `upright_zones` gives them. What is near each item is found by so many workers.
+pub(crate) fn upright_zones_by<R: Threads + Sync>(
+    rt: &R,
+    alloc: Global,
+    items: Vec<Item>,
+    spacing: Spacing,
+    overlap: u32,
+    workers: u32,
+) -> Result<Vec<Zone>, AllocError>
+    requires corner { spacing.corner ≤ spacing.rule }
+    requires rise { OwnersRise items.items }
+    requires order { AreInOrder items.items }
+    requires within { AreOwnedWithin items.items }
+    requires workers { 1 ≤ workers }
+    ensures { (parts : List (List Rect)) → AreSets parts items.items → AllPairs AreApart parts → IfOk result (λ v. AreUpright spacing overlap parts v.items) }
+{
+    if u32::MAX as usize <= items.len() {
+        return Err(AllocError);
+    }
+    if are_short(&items, overlap) {
+        return Ok(Vec::new(alloc));
+    }
+    let join = Join::of(alloc, items, spacing.rule)?;
+    let shades = shades_by(rt, alloc, &join, spacing, overlap, workers)?;
     let items = join.into_items();
     let ends = ends_of(alloc, &items, &shades.dead)?;
     zones_of_items(alloc, &items, &ends, &shades)

@@ -8,7 +8,7 @@ use Rattle.dpl_answer.proofs.Anchoring.{graph-listed}
 use Rattle.dpl_answer.proofs.conflicts.edges_at_once.Goals as goal
 
 pub returns : goal.returns
-returns c =
+returns g c =
     let bare = c.args.pieces.now in
     let marks = marks_in (option_copied c.args.marks) in
     let fixed = subst (λ (ps : List (List Rect)). AreMarkEdges marks ps (option_map (λ v. v.items) c.in_ok-marked.marked)) c.parts.ensures c.in_ok-marked.ensures.edges in

@@ -9,10 +9,10 @@ use Rattle.dpl_answer.proofs.Planned.{among_all}
 use Rattle.dpl_answer.proofs.conflicts.listed_conflicts.Goals as goal
 
 pub conflicts_among-requires : goal.conflicts_among-requires
-conflicts_among-requires c = listed-pairs _ c.in_ok-edges.edges.items c.in_ok-edges.ensures
+conflicts_among-requires g c = listed-pairs _ c.in_ok-edges.edges.items c.in_ok-edges.ensures
 
 pub returns : goal.returns
-returns c =
+returns g c =
     let bare = c.args.pieces.now in
     let marks = marks_in (option_copied c.args.marks) in
     let cut = cut_view [] (cut_pieces bare.parts bare.owners [] [] []) in

@@ -5,4 +5,4 @@ use Rattle.dpl_answer.proofs.many.all_started.Given as goal
 
 -- the starts of the layers that were met
 abbrev pub invariant-loop-cut : goal.invariant-loop-cut
-invariant-loop-cut l = AllZip (IsStartOf l.spacing) (take l.cut-index l.cuts) l.starts.items
+invariant-loop-cut g l = AllZip (IsStartOf l.spacing) (take l.cut-index l.cuts) l.starts.items

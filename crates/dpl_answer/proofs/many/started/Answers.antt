@@ -2,6 +2,6 @@ use Rattle.dpl_tile.proofs.TileLaws.{doubled-some}
 use Rattle.dpl_answer.proofs.many.started.Goals as goal
 
 pub returns : goal.returns
-returns c =
+returns g c =
     let plan = c.in_ok-job.ensures.plan in
     ((plan.0, doubled-some c.args.sharing.tile plan.0 c.requires.tile.0 plan.1, plan.2), c.in_ok-job.ensures.marked)

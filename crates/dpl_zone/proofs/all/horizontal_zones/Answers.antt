@@ -1,7 +1,4 @@
-use Rattle.std.proofs.Common.{sym, subst}
-use Rattle.dpl_spec_split.specs.declared.Rect.{Rect}
-use Rattle.dpl_slabs.specs.Parts.{AreParts}
-use Rattle.dpl_zone.specs.Owned.{AreSets, transposed_parts}
+use Rattle.dpl_zone.specs.Owned.{transposed_parts}
 use Rattle.dpl_zone.proofs.OwnedLaws.{sets-within}
 use Rattle.dpl_zone.proofs.PartZones.{apart-turned, flat-from}
 use Rattle.dpl_zone.proofs.all.horizontal_zones.Goals as goal

@@ -1,0 +1,10 @@
+use Rattle.dpl_tile.proofs.meetings.meetings_by.Goals as goal
+
+pub returns : goal.returns
+returns g c = record {
+  all = λ m. (
+    λ h. (c.in_ok-meetings.ensures m).0 ((c.sort_by_place.ensures.same m).0 h),
+    λ h. (c.sort_by_place.ensures.same m).1 ((c.in_ok-meetings.ensures m).1 h),
+  );
+  rise = c.sort_by_place.ensures.rise;
+}
