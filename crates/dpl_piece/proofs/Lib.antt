@@ -8,6 +8,7 @@ pub mod Broken
 pub mod Sorted
 pub mod Turns
 pub mod Sides
+pub mod Moved
 pub mod Cuts
 pub mod WholeLaws
 pub mod Ranks

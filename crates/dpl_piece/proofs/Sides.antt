@@ -35,7 +35,7 @@ module _ (spacing : Spacing) (overlap : ℕ) (layer : Region) (features pieces :
 
 module _ (old more : List (List Rect)) (kind : Kind) (x y : ℤ) (k : ℕ) where
   -- a corner of one of some parts is one of these after others
-  moved-corner : IsCornerOf kind more (corner_at x y k) → IsCornerWithin kind (old ++ more) (length old) (length (old ++ more)) (corner_at x y (length old + k))
+  pub moved-corner : IsCornerOf kind more (corner_at x y k) → IsCornerWithin kind (old ++ more) (length old) (length (old ++ more)) (corner_at x y (length old + k))
   moved-corner (i, r, i_in, r_in, is) =
       let same : i ≡ k = number-is kind i k r x y is in
       let there : get_or (old ++ more) (length old + i) [] ≡ get_or more i [] = get_or-append-add old more i [] in (
@@ -57,7 +57,7 @@ module _ (old more : List (List Rect)) (kind : Kind) (x y : ℤ) (k : ℕ) where
     is,
   )
 
-some-corner : (kind : Kind) (parts : List (List Rect)) (from : ℕ) (c : Corner) → IsCornerWithin kind parts from (length parts) c → IsCornerOf kind parts c
+pub some-corner : (kind : Kind) (parts : List (List Rect)) (from : ℕ) (c : Corner) → IsCornerWithin kind parts from (length parts) c → IsCornerOf kind parts c
 some-corner kind parts from c (i, r, low, high, r_in, is) = (i, r, high, r_in, is)
 
 some-before : (parts : List (List Rect)) (from : ℕ) (z : Zone) (k : ℕ) → StandsBeforeFrom parts from z k → StandsBefore parts z k
@@ -89,7 +89,7 @@ pub adds-longer : (feature holes : List Rect) (n : ℕ) (pieces new : List Piece
 adds-longer feature holes n pieces new (inl (none, is)) = omega (arith, ap length is, length-append pieces (whole_piece n feature ∷ []))
 adds-longer feature holes n pieces new (inr (some, b)) = omega (arith, ap length b.added, length-append pieces (map (broken_piece n) b.parts))
 
-parts-broken : (n : ℕ) (parts : List (List Rect)) → parts_in (map (broken_piece n) parts) ≡ parts
+pub parts-broken : (n : ℕ) (parts : List (List Rect)) → parts_in (map (broken_piece n) parts) ≡ parts
 parts-broken n [] = refl
 parts-broken n (part ∷ parts) = ap (λ l. part ∷ l) (parts-broken n parts)
 

@@ -1,14 +1,27 @@
--- Parts of features that are made before the features' turn.
-use Rattle.std.specs.Prelude.{◌≡◌, ◌<◌, Option, Some, None, Vec, List, [], length, slice_index_or}
+-- Pieces of features that are made before the features' turn.
+use Rattle.std.specs.Prelude.{◌≡◌, ◌<◌, ◌↔◌, ℕ, Option, Some, None, Vec, List, [], length, map, slice_index_or}
 use Rattle.std.specs.Global.{Global}
+use Rattle.std.specs.List.{Contains}
 use Rattle.dpl_spec_split.specs.declared.Rect.{Rect}
 use Rattle.dpl_spec_split.specs.declared.Zone.{Zone}
 use Rattle.dpl_piece.specs.declared.made.Made.{Made}
-use Rattle.dpl_piece.specs.Pieces.{AreBroken, AreHolesOf}
+use Rattle.dpl_piece.specs.Noted.{AreSidesOf, StandsAfterFrom, StandsBeforeFrom}
+use Rattle.dpl_piece.specs.Pieces.{broken_piece, feature_at, rect_at, AreBroken, AreHolesOf}
 
--- the parts are what its zones leave of the feature
-abbrev pub IsMade : List (List Rect) → List Zone → Made → Type 0
-IsMade features zones m = (holes : List Rect) × AreHolesOf zones m.feature holes × AreBroken (slice_index_or features m.feature []) holes m.parts.items
+-- the pieces are those into which the listed zones break the feature, and for each of these zones some that stand on its two sides are listed
+pub record AreMadeOf (feature : List Rect) (zones : List Zone) (m : Made) : Type 0 where
+  pub parts : List (List Rect)
+  pub broken : AreBroken feature (map (rect_at zones) m.own.items) parts
+  pub pieces : m.pieces.items ≡ map (broken_piece m.feature) parts
+  pub firsts : AreSidesOf (StandsBeforeFrom parts 0) zones m.own.items m.firsts.items
+  pub seconds : AreSidesOf (StandsAfterFrom parts 0) zones m.own.items m.seconds.items
+
+-- the same of the feature's own zones, of which there are some
+pub record IsMade (features : List (List Rect)) (zones : List Zone) (m : Made) : Type 0 where
+  pub some : 0 < length m.own.items
+  pub own : (j : ℕ) → Contains m.own.items j ↔ ((j < length zones) × (feature_at zones j ≡ m.feature))
+  pub holes : AreHolesOf zones m.feature (map (rect_at zones) m.own.items)
+  pub are : AreMadeOf (slice_index_or features m.feature []) zones m
 
 -- no part was made where there is no hole, or else those into which the holes break the feature
 abbrev pub AreLeft : List Rect → List Rect → Option (Vec (List Rect) Global) → Type 0

@@ -1,5 +1,5 @@
 -- Pieces noted for the zones that they stand beside, and their numbers once they are sorted.
-use Rattle.std.specs.Prelude.{◌≡◌, ℕ, ◌<◌, ◌⊎◌, List, [], length, slice_index_or}
+use Rattle.std.specs.Prelude.{◌≡◌, ℕ, ◌+◌, ◌<◌, ◌⊎◌, List, [], length, slice_index_or}
 use Rattle.std.specs.List.{Contains}
 use Rattle.std.specs.List.Sorted.{IsPermutation}
 use Rattle.dpl_spec_split.specs.declared.Rect.{Rect}
@@ -44,6 +44,21 @@ pub record AreSidesNoted (Stands : Zone → ℕ → Type 0) (zones : List Zone) 
   pub each : length new ≡ length old
   pub noted : (j : ℕ) → Contains own j → (k : ℕ) → Stands (zone_at zones j) k → Stands (zone_at zones j) (slice_index_or new j 0)
   pub kept : (j : ℕ) → ¬ Contains own j → slice_index_or new j 0 ≡ slice_index_or old j 0
+
+-- for each of these zones the number of a part that stands beside it, where there is one
+pub record AreSidesOf (Stands : Zone → ℕ → Type 0) (zones : List Zone) (own sides : List ℕ) : Type 0 where
+  pub each : length sides ≡ length own
+  pub stand : (i : ℕ) → i < length own → (k : ℕ) → Stands (zone_at zones (slice_index_or own i 0)) k → Stands (zone_at zones (slice_index_or own i 0)) (slice_index_or sides i 0)
+
+-- the number noted for zone number j is now one that was given for it, so many later, or stays where none was given
+abbrev pub IsMoved : ℕ → List ℕ → List ℕ → List ℕ → List ℕ → ℕ → Type 0
+IsMoved from own given old new j = ((i : ℕ) × (i < length own) × (slice_index_or own i 0 ≡ j) × (slice_index_or new j 0 ≡ from + slice_index_or given i 0))
+    ⊎ ((¬ Contains own j) × (slice_index_or new j 0 ≡ slice_index_or old j 0))
+
+-- the same of each zone
+pub record AreMoved (from : ℕ) (own given old new : List ℕ) : Type 0 where
+  pub each : length new ≡ length old
+  pub moved : (j : ℕ) → IsMoved from own given old new j
 
 -- piece number i in a list, and a piece without squares past the end
 abbrev pub piece_at : List Piece → ℕ → Piece

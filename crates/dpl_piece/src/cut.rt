@@ -17,7 +17,10 @@ use dpl_slabs::Parts;
 use std::alloc::{AllocError, Global};
 use std::thread::Threads;
 
-/// The pieces of features, whose zones' numbers are given by feature, and of some of which the parts are given.
+/// How many workers break features at most.
+const MOST_WORKERS: u32 = 64;
+
+/// The pieces of features, whose zones' numbers are given by feature, and of some of which the pieces are given.
 fn bare_of(
     alloc: Global,
     features: Parts,
@@ -61,7 +64,7 @@ pub fn bare_pieces(
     bare_of(alloc, features, zones, sorted, Vec::new(alloc))
 }
 
-/// The same, where so many workers break the features with zones side by side. A thread that can't be made has its work done by the one that asked for it.
+/// The same, where so many workers break the features with zones side by side. A thread that can't be made has its work done by the one that asked for it. More than 64 workers are as 64.
 ///
 /// The error: out of memory, once all workers have ended.
 pub fn bare_pieces_by<R: Threads + Sync>(
@@ -81,7 +84,14 @@ pub fn bare_pieces_by<R: Threads + Sync>(
         return bare_pieces(alloc, features, zones);
     }
     let sorted = by_feature(alloc, &zones)?;
-    let made = made_by(rt, alloc, features.items(), &zones, &sorted, workers)?;
+    let made = made_by(
+        rt,
+        alloc,
+        features.items(),
+        &zones,
+        &sorted,
+        workers.min(MOST_WORKERS),
+    )?;
     bare_of(alloc, features, zones, sorted, made)
 }
 

@@ -1,22 +1,48 @@
 //! What zones leave of features, made by workers before the features' turn.
-ghost use Rattle.std.specs.Prelude.{◌≡◌, ◌+◌, ◌≤◌, IfOk, IfSome, length};
+ghost use Rattle.std.specs.Prelude.{◌≡◌, ◌+◌, ◌++◌, ◌<◌, ◌≤◌, IfOk, IfSome, OnOk, length, map};
 ghost use Rattle.std.specs.List.{All, Contains};
 ghost use Rattle.dpl_spec_split.specs.Loops.{farthest, AreRectsWithin};
 ghost use Rattle.dpl_piece.specs.Cutting.{AreFeatures, AreTheirZones};
-ghost use Rattle.dpl_piece.specs.Made.{IsMade};
-ghost use Rattle.dpl_piece.specs.Pieces.{AreBroken, AreZonesFrom};
+ghost use Rattle.dpl_piece.specs.Made.{AreMadeOf, IsMade};
+ghost use Rattle.dpl_piece.specs.Pieces.{broken_piece, rect_at, AreBroken, AreZonesFrom};
 
-use crate::own::{feature_of, holes_at, own_count, rest_from};
+use crate::noted::{Noted, note_sides};
+use crate::own::{feature_of, holes_at, own_count, rest_from, short_numbers, zones_at};
+use crate::piece::{Origin, Piece};
 use dpl_base::{Id, Rect, Zone, give_back};
 use dpl_slabs::Slabs;
 use std::alloc::{AllocError, Global};
 use std::thread::{Threads, map_chunks};
 
-/// The number of a feature with zones, and the parts into which they break it.
+/// The number of a feature with zones, the pieces into which they break it, and the numbers of its zones, each with those of the pieces on its two sides, of which the feature's first piece is number 0.
 #[derive(Drop)]
 pub struct Made {
     pub feature: Id,
-    pub parts: Vec<Slabs>,
+    pub pieces: Vec<Piece>,
+    pub own: Vec<u32>,
+    pub firsts: Vec<u32>,
+    pub seconds: Vec<u32>,
+}
+
+/// Adds pieces that zones broke off a feature. Their list is reversed and emptied from the end, so that its room is given back on the way.
+pub fn add_parts(
+    pieces: &mut Vec<Piece>,
+    mut parts: Vec<Slabs>,
+    number: Id,
+) -> Result<(), AllocError>
+    ensures { OnOk result (pieces.new.items ≡ pieces.old.items ++ map (broken_piece number) parts.items) }
+{
+    parts.reverse();
+    while let Some(part) = parts.pop() {
+        pieces.push(Piece {
+            part,
+            owner: number,
+            origin: Origin::Broken,
+            number: 0,
+        })?;
+        give_back(&mut parts);
+    }
+    Ok(())
 }
 
 /// The parts into which holes break a feature.
@@ -28,6 +54,36 @@ pub fn broken(alloc: Global, feature: &Slabs, holes: Vec<Rect>) -> Result<Vec<Sl
     drop(holes);
     let parts = dpl_feature::features(alloc, &left)?;
     Ok(parts.into_vec())
+}
+
+/// What the zones of these numbers, which are all those of a feature, make of it.
+fn made_of(
+    alloc: Global,
+    feature: &Slabs,
+    zones: &[Zone],
+    own: &[u32],
+    number: Id,
+) -> Result<Made, AllocError>
+    requires known { All (λ j. j < length zones.now) own.now }
+    requires within { AreRectsWithin farthest (map (rect_at zones.now) own.now) }
+    ensures feature { IfOk result (λ m. m.feature ≡ number) }
+    ensures own { IfOk result (λ m. m.own.items ≡ own.now) }
+    ensures breaks { IfOk result (AreMadeOf feature.now zones.now) }
+{
+    let parts = broken(alloc, feature, holes_at(alloc, zones, own)?)?;
+    let mut pieces = Vec::with_capacity(alloc, parts.len())?;
+    add_parts(&mut pieces, parts, number)?;
+    let own_zones = zones_at(alloc, zones, own)?;
+    let numbers = short_numbers(alloc, own.len())?;
+    let mut noted = Noted::new(alloc, own.len())?;
+    note_sides(&mut noted, &own_zones, &numbers, &pieces, 0)?;
+    Ok(Made {
+        feature: number,
+        pieces,
+        own: Vec::from_slice(alloc, own)?,
+        firsts: noted.firsts,
+        seconds: noted.seconds,
+    })
 }
 
 /// Breaks the features whose zones begin at one of so many places from a place on.
@@ -52,15 +108,14 @@ fn made_from(
     while rest.len() > after {
         let feature = feature_of(zones, rest[0] as usize);
         let (own, others) = rest.split_at(own_count(zones, rest, feature));
-        let holes = holes_at(alloc, zones, own)?;
-        let parts = broken(alloc, &features[feature as usize], holes)?;
-        made.push(Made { feature, parts })?;
+        let next = made_of(alloc, &features[feature as usize], zones, own, feature)?;
+        made.push(next)?;
         rest = others;
     }
     Ok(made)
 }
 
-/// The parts of the features with zones, made by so many workers, each of which has as many zones. The last feature comes first.
+/// The pieces of the features with zones, made by so many workers, each of which has as many zones. The last feature comes first.
 pub fn made_by<R: Threads + Sync>(
     rt: &R,
     alloc: Global,
@@ -93,9 +148,9 @@ pub fn made_by<R: Threads + Sync>(
     Ok(made)
 }
 
-/// Takes the parts of a feature from the end of the list, if they are there.
-pub fn taken(made: &mut Vec<Made>, feature: Id) -> Option<Vec<Slabs>>
-    ensures taken { IfSome result (λ parts. (m : Made) × Contains made.old.items m × (m.feature ≡ feature) × (m.parts ≡ parts)) }
+/// Takes what was made of a feature from the end of the list, if it is there.
+pub fn taken(made: &mut Vec<Made>, feature: Id) -> Option<Made>
+    ensures taken { IfSome result (λ m. Contains made.old.items m × (m.feature ≡ feature)) }
     ensures others { (m : Made) → Contains made.new.items m → Contains made.old.items m }
 {
     let count = made.len();
@@ -107,5 +162,5 @@ pub fn taken(made: &mut Vec<Made>, feature: Id) -> Option<Vec<Slabs>>
     }
     let next = made.pop()?;
     give_back(made);
-    Some(next.parts)
+    Some(next)
 }

@@ -2,7 +2,7 @@
 ghost use Rattle.std.specs.Prelude.{◌≡◌, ◌^◌, ◌<◌, ◌≤◌, ◌∷◌, [], length, IfOk, OnOk};
 ghost use Rattle.std.specs.List.{All};
 ghost use Rattle.dpl_piece.specs.Corners.{RiseByCorner};
-ghost use Rattle.dpl_piece.specs.Noted.{AreNoted, AreSidesNoted, StandsAfterFrom, StandsBeforeFrom};
+ghost use Rattle.dpl_piece.specs.Noted.{AreMoved, AreNoted, AreSidesNoted, StandsAfterFrom, StandsBeforeFrom};
 ghost use Rattle.dpl_piece.specs.Pieces.{parts_in};
 
 use crate::corner::{Corner, Kind, count_before, slab_corners, zone_corners};
@@ -130,4 +130,21 @@ pub fn note_sides(
     short_id(pieces.len() as Id)?;
     note_firsts(noted, zones, own, pieces, from)?;
     note_seconds(noted, zones, own, pieces, from)
+}
+
+/// Notes for each of these zones the number that is given for it, so many later. 2^32 or more is refused as out of memory, which so many pieces would be.
+pub fn note_moved(
+    noted: &mut [u32],
+    own: &[u32],
+    given: &[u32],
+    from: usize,
+) -> Result<(), AllocError>
+    requires known { All (λ j. j < length noted.old) own.now }
+    requires each { length given.now ≡ length own.now }
+    ensures { OnOk result (AreMoved from own.now given.now noted.old noted.new) }
+{
+    for i in 0..own.len() {
+        noted[own[i] as usize] = short_id((from as Id).saturating_add(given[i] as Id))?;
+    }
+    Ok(())
 }

@@ -1,7 +1,7 @@
 //! The zones of each feature.
 ghost use Rattle.std.specs.Prelude.{◌≡◌, ◌≢◌, ◌+◌, ℕ, ◌<◌, ◌≤◌, IfOk, length, map, take, slice_index_or};
 ghost use Rattle.std.specs.List.{All, range_with_len};
-ghost use Rattle.dpl_piece.specs.Pieces.{feature_at, rect_at, AreZonesFrom};
+ghost use Rattle.dpl_piece.specs.Pieces.{feature_at, rect_at, zone_at, AreZonesFrom};
 
 use dpl_base::{Id, Rect, Zone, short_id};
 use dpl_sort::sort_by_key;
@@ -18,7 +18,7 @@ pub fn feature_of(zones: &[Zone], number: usize) -> Id
 }
 
 /// The numbers below `count`, in order, in 32 bits each. 2^32 of them or more are refused as out of memory, as so many zones would be.
-fn short_numbers(alloc: Global, count: usize) -> Result<Vec<u32>, AllocError>
+pub fn short_numbers(alloc: Global, count: usize) -> Result<Vec<u32>, AllocError>
     ensures { IfOk result (λ v. v.items ≡ range_with_len 0 count) }
 {
     let count = short_id(count as Id)?;
@@ -58,6 +58,18 @@ pub fn holes_at(alloc: Global, zones: &[Zone], numbers: &[u32]) -> Result<Vec<Re
         holes.push(zones[number as usize].rect)?;
     }
     Ok(holes)
+}
+
+/// The zones of these numbers.
+pub fn zones_at(alloc: Global, zones: &[Zone], numbers: &[u32]) -> Result<Vec<Zone>, AllocError>
+    requires { All (λ j. j < length zones.now) numbers.now }
+    ensures { IfOk result (λ v. v.items ≡ map (zone_at zones.now) numbers.now) }
+{
+    let mut some = Vec::with_capacity(alloc, numbers.len())?;
+    for &number in numbers {
+        some.push(zones[number as usize])?;
+    }
+    Ok(some)
 }
 
 /// The numbers from a place on, past those of a feature whose zones begin before it.

@@ -1,5 +1,5 @@
 //! What zones leave of features.
-ghost use Rattle.std.specs.Prelude.{◌≡◌, ℕ, ◌<◌, ◌++◌, List, IfOk, IfSome, OnOk, length, map};
+ghost use Rattle.std.specs.Prelude.{◌≡◌, ℕ, ◌<◌, ◌++◌, ◌∷◌, [], List, IfOk, OnOk, length, map};
 ghost use Rattle.std.specs.List.{All, AllZip};
 ghost use Rattle.std.specs.List.Sorted.{IsPermutation};
 ghost use Rattle.dpl_spec_split.specs.declared.Rect.{Rect as RectOf};
@@ -7,55 +7,33 @@ ghost use Rattle.dpl_spec_split.specs.Loops.{farthest, AreRectsWithin};
 ghost use Rattle.dpl_piece.specs.Cutting.{AreFeatures, AreTheirZones};
 ghost use Rattle.dpl_piece.specs.Corners.{StandBeside};
 ghost use Rattle.dpl_piece.specs.Made.{AreLeft, IsMade};
-ghost use Rattle.dpl_piece.specs.Noted.{IsSortedWith};
-ghost use Rattle.dpl_piece.specs.Pieces.{broken_piece, least_key, rect_at, parts_in, AddsPieces, AreBroken, AreCut, AreZonesFrom, RiseByLeast};
-ghost use Rattle.dpl_piece.specs.Wholes.{AreWholes, KeepsWhole};
+ghost use Rattle.dpl_piece.specs.Noted.{AreMoved, IsSortedWith};
+ghost use Rattle.dpl_piece.specs.Pieces.{least_key, rect_at, parts_in, AddsPieces, AreCut, AreZonesFrom, RiseByLeast};
+ghost use Rattle.dpl_piece.specs.Wholes.{whole_of, AreWholes, KeepsWhole};
 
-use crate::made::{Made, broken, taken};
-use crate::noted::{Noted, note_sides};
+use crate::made::{Made, add_parts, broken, taken};
+use crate::noted::{Noted, note_moved, note_sides};
 use crate::own::{holes_at, own_count};
 use crate::piece::{CutUp, Origin, Piece, Whole};
 use crate::rank::{number_all, ranked, ranks_of};
-use dpl_base::{Id, Zone, give_back, short_id};
+use dpl_base::{Id, Zone, short_id};
 use dpl_slabs::Slabs;
 use dpl_sort::sort_by_key;
 use std::alloc::{AllocError, Global};
 
-/// Adds pieces that zones broke off a feature. Their list is reversed and emptied from the end, so that its room is given back on the way.
-fn add_parts(pieces: &mut Vec<Piece>, mut parts: Vec<Slabs>, number: Id) -> Result<(), AllocError>
-    ensures { OnOk result (pieces.new.items ≡ pieces.old.items ++ map (broken_piece number) parts.items) }
-{
-    parts.reverse();
-    while let Some(part) = parts.pop() {
-        pieces.push(Piece {
-            part,
-            owner: number,
-            origin: Origin::Broken,
-            number: 0,
-        })?;
-        give_back(&mut parts);
-    }
-    Ok(())
-}
-
-/// What the zones of these numbers leave of their feature, as it was made before, or made here. None where no zone is the feature's.
+/// What the zones of these numbers leave of their feature. None where no zone is the feature's.
 fn parts_of(
     alloc: Global,
     feature: &Slabs,
     zones: &[Zone],
     own: &[u32],
-    made: Option<Vec<Slabs>>,
 ) -> Result<Option<Vec<Slabs>>, AllocError>
     requires known { All (λ j. j < length zones.now) own.now }
     requires within { AreRectsWithin farthest (map (rect_at zones.now) own.now) }
-    requires made { IfSome made (λ v. AreBroken feature.now (map (rect_at zones.now) own.now) v.items) }
     ensures { IfOk result (AreLeft feature.now (map (rect_at zones.now) own.now)) }
 {
     if own.is_empty() {
         return Ok(None);
-    }
-    if let Some(parts) = made {
-        return Ok(Some(parts));
     }
     let holes = holes_at(alloc, zones, own)?;
     Ok(Some(broken(alloc, feature, holes)?))
@@ -84,6 +62,34 @@ fn add_pieces(
     add_parts(pieces, parts, number)?;
     wholes.push(Whole {
         feature: number,
+        set: feature,
+    })?;
+    Ok(())
+}
+
+/// Adds the pieces of a feature that zones broke, as they were made before, and notes those on the two sides of its zones. The feature is kept.
+fn add_made(
+    pieces: &mut Vec<Piece>,
+    wholes: &mut Vec<Whole>,
+    noted: &mut Noted,
+    feature: Slabs,
+    mut made: Made,
+) -> Result<(), AllocError>
+    requires firsts { All (λ j. j < length noted.old.firsts.items) made.own.items }
+    requires seconds { All (λ j. j < length noted.old.seconds.items) made.own.items }
+    requires firsts_each { length made.firsts.items ≡ length made.own.items }
+    requires seconds_each { length made.seconds.items ≡ length made.own.items }
+    ensures adds { OnOk result (pieces.new.items ≡ pieces.old.items ++ made.pieces.items) }
+    ensures keeps { OnOk result (wholes.new.items ≡ wholes.old.items ++ whole_of made.feature feature ∷ []) }
+    ensures firsts { OnOk result (AreMoved (length pieces.old.items) made.own.items made.firsts.items noted.old.firsts.items noted.new.firsts.items) }
+    ensures seconds { OnOk result (AreMoved (length pieces.old.items) made.own.items made.seconds.items noted.old.seconds.items noted.new.seconds.items) }
+{
+    let from = pieces.len();
+    note_moved(&mut noted.firsts, &made.own, &made.firsts, from)?;
+    note_moved(&mut noted.seconds, &made.own, &made.seconds, from)?;
+    pieces.append(&mut made.pieces)?;
+    wholes.push(Whole {
+        feature: made.feature,
         set: feature,
     })?;
     Ok(())
@@ -150,12 +156,17 @@ pub fn pieces_of(
     let mut number = 0;
     for feature in features {
         let (own, others) = rest.split_at(own_count(zones, rest, number));
-        let parts = parts_of(alloc, &feature, zones, own, taken(&mut made, number))?;
-        let from = pieces.len();
-        add_pieces(&mut pieces, &mut wholes, feature, parts, number)?;
-        note_sides(&mut noted, zones, own, &pieces, from)?;
         rest = others;
+        let this = number;
         number += 1;
+        if let Some(made) = taken(&mut made, this) {
+            add_made(&mut pieces, &mut wholes, &mut noted, feature, made)?;
+            continue;
+        }
+        let parts = parts_of(alloc, &feature, zones, own)?;
+        let from = pieces.len();
+        add_pieces(&mut pieces, &mut wholes, feature, parts, this)?;
+        note_sides(&mut noted, zones, own, &pieces, from)?;
     }
     let sides = sort_with_sides(alloc, &mut pieces, noted)?;
     Ok(CutUp {

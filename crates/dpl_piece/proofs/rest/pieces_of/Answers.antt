@@ -1,17 +1,17 @@
-use Rattle.std.proofs.Common.{◌≡◌, ℕ, ◌<◌, List, [], length, get_or, map, take, ap, subst, arith, rules}
+use Rattle.std.proofs.Common.{◌≡◌, ℕ, ◌<◌, List, [], length, map, take, refl, ap, arith, rules}
 use Rattle.std.specs.List.{All}
 use Rattle.std.specs.Vec.Iter.{into_iter_items}
 use Rattle.std.proofs.lemmas.List.{length-append, length-map}
 use Rattle.std.proofs.lemmas.List.Elements.{All-contains}
-use Rattle.std.proofs.lemmas.Option.{IfSome_then}
 use Rattle.dpl_spec_split.specs.declared.Rect.{Rect}
 use Rattle.dpl_spec_split.specs.declared.Zone.{Zone}
+use Rattle.dpl_piece.specs.declared.made.Made.{Made}
 use Rattle.dpl_piece.specs.declared.piece.Piece.{Piece}
 use Rattle.dpl_piece.specs.Made.{IsMade}
-use Rattle.dpl_piece.specs.Pieces.{rect_at, AreBroken, AreHolesOf}
+use Rattle.dpl_piece.specs.Pieces.{parts_in, rect_at, AreHolesOf}
 use Rattle.dpl_piece.proofs.Broken.{pieces-none, pieces-next}
 use Rattle.dpl_piece.proofs.Cuts.{comps, own-within, zones-below}
-use Rattle.dpl_piece.proofs.MadeLaws.{All-some, made-left}
+use Rattle.dpl_piece.proofs.MadeLaws.{All-some, made-adds, made-firsts, made-keeps, made-known, made-seconds}
 use Rattle.dpl_piece.proofs.Ranks.{firsts-known, numbered-below, seconds-known, sorted-sides}
 use Rattle.dpl_piece.proofs.Sides.{adds-longer, sided-next, sided-none}
 use Rattle.dpl_piece.proofs.Sorted.{are-cut}
@@ -44,16 +44,6 @@ parts_of-requires-clause-within c =
     let at = c.loop-feature in
     let own = own-holes c.args.zones.now at.rest.now at.number c.own_count.result at.invariant.zones c.own_count.ensures.own c.own_count.ensures.next in
     rw c.split_at.ensures.front (own-within c.args.features.items c.args.zones.now c.requires.features c.requires.zones c.requires.within at.number _ own)
-
-pub parts_of-requires-clause-made : goal.parts_of-requires-clause-made
-parts_of-requires-clause-made c =
-    let at = c.loop-feature in
-    let steps = c.in-Some.ensures.steps in
-    let t = turn c.args.features.items at.yielded _ _ c.in-Some.feature at.number at.invariant.all steps.0 at.invariant.count in
-    let own = own-holes c.args.zones.now at.rest.now at.number c.own_count.result at.invariant.zones c.own_count.ensures.own c.own_count.ensures.next in
-    rw (c.split_at.ensures.front, t.2) (IfSome_then c.taken.result c.taken.ensures.taken
-    (λ parts (m, m_in, is, same). subst (λ v. AreBroken (get_or c.args.features.items at.number []) _ v.items) same
-    (made-left c.args.features.items c.args.zones.now at.number _ own m (All-contains (IsMade c.args.features.items c.args.zones.now) at.made.items m at.invariant.made m_in) is)))
 
 pub note_sides-requires-clause-known : goal.note_sides-requires-clause-known
 note_sides-requires-clause-known c =
@@ -103,6 +93,59 @@ loop-feature-preserved c =
       wholes = wholes-next c.args.features.items c.args.zones.now at.number holes own at.wholes.items _
           at.invariant.wholes (rw t.2 at (c.in_ok-add_pieces.ensures.keeps holes parts));
       made = All-some (IsMade c.args.features.items c.args.zones.now) at.made.items c.taken.new.made.items c.taken.ensures.others at.invariant.made;
+    }
+
+pub add_made-requires-clause-firsts : goal.add_made-requires-clause-firsts
+add_made-requires-clause-firsts c =
+    let at = c.loop-feature in
+    let is : IsMade c.args.features.items c.args.zones.now c.in-Some-taken.made = All-contains (IsMade c.args.features.items c.args.zones.now) at.made.items c.in-Some-taken.made
+    at.invariant.made c.in-Some-taken.ensures.taken.0 in
+    made-known c.args.features.items c.args.zones.now c.in-Some-taken.made is at.noted.firsts.items at.invariant.sides.firsts-each
+
+pub add_made-requires-clause-seconds : goal.add_made-requires-clause-seconds
+add_made-requires-clause-seconds c =
+    let at = c.loop-feature in
+    let is : IsMade c.args.features.items c.args.zones.now c.in-Some-taken.made = All-contains (IsMade c.args.features.items c.args.zones.now) at.made.items c.in-Some-taken.made
+    at.invariant.made c.in-Some-taken.ensures.taken.0 in
+    made-known c.args.features.items c.args.zones.now c.in-Some-taken.made is at.noted.seconds.items at.invariant.sides.seconds-each
+
+pub loop-feature-preserved-in-Some-taken : goal.loop-feature-preserved-in-Some-taken
+loop-feature-preserved-in-Some-taken c =
+    let at = c.loop-feature in
+    let features : List (List Rect) = c.args.features.items in
+    let zones : List Zone = c.args.zones.now in
+    let (spacing, overlap, some, zs) = c.requires.zones in
+    let steps = c.in-Some.ensures.steps in
+    let t = turn features at.yielded _ _ c.in-Some.feature at.number at.invariant.all steps.0 at.invariant.count in
+    let left = at.invariant.left in
+    let gone = steps.1 in
+    let short = ap length steps.0 in
+    let mid : ℕ = c.own_count.result in
+    let holes : List Rect = map (rect_at zones) (take mid at.rest.now) in
+    let own : AreHolesOf zones at.number holes = own-holes zones at.rest.now at.number mid at.invariant.zones c.own_count.ensures.own c.own_count.ensures.next in
+    let there = own-there zones at.rest.now at.number mid at.invariant.zones c.own_count.ensures.own c.own_count.ensures.next in
+    let mine = own-feature zones at.rest.now at.number mid at.invariant.zones c.own_count.ensures.own c.own_count.ensures.next in
+    let known = own-known zones at.rest.now at.number mid at.invariant.zones c.own_count.ensures.own c.own_count.ensures.next in
+    let m : Made = c.in-Some-taken.made in
+    let taken = c.in-Some-taken.ensures.taken in
+    let made : IsMade features zones m = All-contains (IsMade features zones) at.made.items m at.invariant.made taken.0 in
+    let added = c.in_ok-add_made.ensures.adds in
+    let adds = made-adds features zones at.number holes at.pieces.items _ own m made taken.1 added in
+    let all = comps features zones c.requires.features c.requires.zones in
+    record {
+      all = t.0;
+      left = omega (arith, left, gone, short);
+      count = t.3;
+      zones = rw c.split_at.ensures.back (zones-after zones at.rest.now at.number mid at.invariant.zones c.own_count.ensures.own c.own_count.ensures.next);
+      pieces = pieces-next spacing overlap features zones all zs at.number t.1 holes own at.pieces.items _ at.invariant.pieces (c.requires.within at.number _ t.1) adds;
+      sides = sided-next spacing overlap features zones some all zs at.number t.1 (take mid at.rest.now) there mine holes own at.pieces.items _
+          (length (parts_in at.pieces.items)) at.noted.firsts.items at.noted.seconds.items _ _ refl adds at.invariant.sides
+          (made-firsts features zones at.number (take mid at.rest.now) there known mine m made taken.1 at.pieces.items _ added at.noted.firsts.items _ c.in_ok-add_made.ensures.firsts)
+          (made-seconds features zones at.number (take mid at.rest.now) there known mine m made taken.1 at.pieces.items _ added at.noted.seconds.items _
+          c.in_ok-add_made.ensures.seconds);
+      wholes = wholes-next features zones at.number holes own at.wholes.items _ at.invariant.wholes
+          (rw t.2 at (made-keeps features zones at.number c.in-Some.feature holes at.wholes.items _ own m made taken.1 c.in_ok-add_made.ensures.keeps));
+      made = All-some (IsMade features zones) at.made.items c.taken.new.made.items c.taken.ensures.others at.invariant.made;
     }
 
 pub sort_with_sides-requires-clause-firsts : goal.sort_with_sides-requires-clause-firsts

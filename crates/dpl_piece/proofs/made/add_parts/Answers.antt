@@ -2,7 +2,7 @@ use Rattle.std.proofs.Common.{refl, arith}
 use Rattle.std.proofs.lemmas.List.{reverse-reverse}
 use Rattle.dpl_piece.specs.Pieces.{broken_piece}
 use Rattle.dpl_piece.proofs.Taken.{taken-next, taken-all}
-use Rattle.dpl_piece.proofs.rest.add_parts.Goals as goal
+use Rattle.dpl_piece.proofs.made.add_parts.Goals as goal
 
 pub loop-part-init : goal.loop-part-init
 loop-part-init c = rw (c.reverse.ensures.items, reverse-reverse c.args.parts.items) refl
