@@ -16,7 +16,7 @@ use dpl_answer::{
 };
 use dpl_base::Spacing;
 use dpl_cert::Name;
-use dpl_layer::{LayerFault, MarkedChoice, MarkedLayer, marked_layer_of};
+use dpl_layer::{LayerFault, MarkedChoice, MarkedLayer, marked_layer_by};
 use dpl_pool::Gate;
 use dpl_slabs::Slabs;
 use dpl_wide::cut_by;
@@ -80,7 +80,13 @@ pub fn decide<R: Threads + Wait + Sync, G: Gate + Sync>(
         slabs,
         mark_a,
         mark_b,
-    } = match marked_layer_of(alloc, &order.choice, bytes) {
+    } = match marked_layer_by(
+        rt,
+        alloc,
+        &order.choice,
+        bytes,
+        order.recipe.sharing.workers,
+    ) {
         Ok(layer) => layer,
         Err(LayerFault::Refused { name, at }) => return Ok(Decision::Refused { name, at }),
         Err(LayerFault::NoMemory) => return Err(AllocError),

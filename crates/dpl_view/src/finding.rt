@@ -8,7 +8,7 @@ use crate::clashes::{Tangles, clashes_of};
 use dpl_answer::{Sharing, conflicts_of};
 use dpl_base::Spacing;
 use dpl_cert::Name;
-use dpl_layer::{Layer, LayerChoice, LayerFault, layer_of};
+use dpl_layer::{Layer, LayerChoice, LayerFault, layer_by};
 use dpl_pool::Gate;
 use dpl_slabs::Slabs;
 use dpl_wide::cut_by;
@@ -61,7 +61,13 @@ pub fn find<R: Threads + Wait + Sync, G: Gate + Sync>(
     requires ranges { IsInRange order.now }
     ensures { IfOk result (IsFinding (choice_view order.now.choice) order.now.rule order.now.overlap bytes.items) }
 {
-    let Layer { copied, slabs } = match layer_of(alloc, &order.choice, bytes) {
+    let Layer { copied, slabs } = match layer_by(
+        rt,
+        alloc,
+        &order.choice,
+        bytes,
+        order.sharing.workers,
+    ) {
         Ok(layer) => layer,
         Err(LayerFault::Refused { name, at }) => return Ok(Finding::Refused { name, at }),
         Err(LayerFault::NoMemory) => return Err(AllocError),

@@ -13,7 +13,7 @@ use dpl_syntax::{Body, Element, Library};
 use std::alloc::{AllocError, Global};
 
 /// The layer of these two numbers.
-fn layer_by(layer: u16, datatype: u16) -> Layer
+fn layer_numbered(layer: u16, datatype: u16) -> Layer
     ensures value { result ≡ record { layer = layer; datatype = datatype } }
     ensures narrow { IsNarrow result }
 {
@@ -30,23 +30,23 @@ pub(crate) fn layer_of(body: &Body<'_>) -> Option<Layer>
             layer,
             datatype,
             ..
-        } => Some(layer_by(layer, datatype)),
+        } => Some(layer_numbered(layer, datatype)),
         Body::Path {
             layer,
             datatype,
             ..
-        } => Some(layer_by(layer, datatype)),
-        Body::BoxShape { layer, boxtype, .. } => Some(layer_by(layer, boxtype)),
+        } => Some(layer_numbered(layer, datatype)),
+        Body::BoxShape { layer, boxtype, .. } => Some(layer_numbered(layer, boxtype)),
         Body::Text {
             layer,
             texttype,
             ..
-        } => Some(layer_by(layer, unsigned(texttype))),
+        } => Some(layer_numbered(layer, unsigned(texttype))),
         Body::Node {
             layer,
             nodetype,
             ..
-        } => Some(layer_by(layer, unsigned(nodetype))),
+        } => Some(layer_numbered(layer, unsigned(nodetype))),
         Body::Sref { .. } | Body::Aref { .. } => None,
     }
 }

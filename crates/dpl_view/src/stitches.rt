@@ -14,7 +14,7 @@ use dpl_answer::{Conflicts, Decomposed, answer_of, conflicts_of};
 use dpl_base::{Listed, Spacing};
 use dpl_cert::{Name, StitchLine};
 use dpl_cut::BareLayerCut;
-use dpl_layer::{Layer, LayerFault, layer_of};
+use dpl_layer::{Layer, LayerFault, layer_by};
 use dpl_pool::Gate;
 use dpl_slabs::Slabs;
 use dpl_wide::cut_by;
@@ -54,7 +54,13 @@ pub fn find_stitches<R: Threads + Wait + Sync, G: Gate + Sync>(
     requires ranges { IsInRange order.now }
     ensures { IfOk result (IsSplit (choice_view order.now.choice) order.now.rule order.now.overlap bytes.items) }
 {
-    let Layer { copied, slabs } = match layer_of(alloc, &order.choice, bytes) {
+    let Layer { copied, slabs } = match layer_by(
+        rt,
+        alloc,
+        &order.choice,
+        bytes,
+        order.sharing.workers,
+    ) {
         Ok(layer) => layer,
         Err(LayerFault::Refused { name, at }) => return Ok(Split::Refused { name, at }),
         Err(LayerFault::NoMemory) => return Err(AllocError),
