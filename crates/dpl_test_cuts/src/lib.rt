@@ -16,6 +16,8 @@ mod pieces;
 #[cfg(test)]
 mod sets;
 #[cfg(test)]
+mod shared;
+#[cfg(test)]
 mod tall;
 #[cfg(test)]
 mod tiles;

@@ -199,7 +199,7 @@ const LAYERS: [Layer; 5] = [
 ];
 
 /// How many workers cut each layer.
-const WORKERS: [u32; 4] = [1, 2, 4, 64];
+const WORKERS: [u32; 5] = [1, 2, 4, 64, 1000];
 
 #[test]
 fn layers_are_cut(rt: HostRuntime) -> Result<(), Fail> {
@@ -211,6 +211,30 @@ fn layers_are_cut(rt: HostRuntime) -> Result<(), Fail> {
             assert!(rt; cut.sides() == layer.sides, "by {workers} workers");
             assert!(rt; has_zones(&cut, layer.zones), "by {workers} workers");
         }
+    }
+    Ok(())
+}
+
+/// The bars so many times, one above the other.
+fn many_bars(alloc: Global, count: u8) -> Result<Vec<Corners>, AllocError> {
+    let mut rects = Vec::new(alloc);
+    for k in 0..count {
+        let up = 200 * k as i32;
+        for (x0, y0, x1, y1) in BARS {
+            rects.push((x0, y0.saturating_add(up), x1, y1.saturating_add(up)))?;
+        }
+    }
+    Ok(rects)
+}
+
+#[test]
+fn workers_note_the_same_sides(rt: HostRuntime) -> Result<(), Fail> {
+    let rects = many_bars(rt.alloc(), 9)?;
+    let alone = cut(rt.alloc(), &rects)?;
+    assert_eq!(rt; alone.zones().len(), 9);
+    for workers in WORKERS {
+        let cut = cut_by(&rt, rt.alloc(), &rects, workers)?;
+        assert!(rt; cut.sides() == alone.sides(), "by {workers} workers");
     }
     Ok(())
 }

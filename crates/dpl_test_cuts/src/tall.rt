@@ -6,6 +6,7 @@ use dpl_base::Rect;
 use dpl_slabs::Slabs;
 use std::alloc::{AllocError, Global};
 use std::test::Fail;
+use std::thread::Threads;
 
 /// How far right a rectangle of a stair begins.
 fn left_of(pace: u8, k: u16) -> u32
@@ -116,6 +117,96 @@ fn slices_make_the_slabs_of_one_sweep(rt: HostRuntime) -> Result<(), Fail> {
         let whole = squares(rt.alloc(), pace, 0, 5000, bars)?;
         assert_eq!(rt; whole.rects().len(), count);
         assert!(rt; has_its_halves(rt.alloc(), pace, bars, &whole)?);
+    }
+    Ok(())
+}
+
+/// The squares of a whole stair and of so many long bars, by so many workers.
+fn squares_by<R: Threads + Sync>(
+    rt: &R,
+    alloc: Global,
+    pace: u8,
+    bars: u8,
+    workers: u32,
+) -> Result<Slabs, AllocError> {
+    let rects = barred(alloc, pace, 0, 5000, bars)?;
+    Slabs::of_shapes_by(rt, alloc, rects, Vec::new(alloc), workers)
+}
+
+#[test]
+fn workers_make_the_slabs_of_one(rt: HostRuntime) -> Result<(), Fail> {
+    // Slices of rectangles that overlap, blocks of two rectangles, slices of wires that stand apart, and slices that are given up.
+    for (pace, bars) in [(1, 0), (250, 0), (250, 1), (250, 66)] {
+        let whole = squares(rt.alloc(), pace, 0, 5000, bars)?;
+        for workers in [0, 1, 2, 4, 64] {
+            let slabs = squares_by(&rt, rt.alloc(), pace, bars, workers)?;
+            assert!(rt; slabs.equal(&whole));
+        }
+    }
+    Ok(())
+}
+
+/// One of the rectangles of terraces: so many go up a terrace, a little further right each, and a column lies between two terraces.
+fn on_terrace(per: u16, k: u16) -> Rect
+    ensures { IsRectWithin farthest result }
+{
+    let per = per.max(1);
+    let at = k as i32;
+    let left = (3000 * (k / per) as u32 + (k % per) as u32).min(2_000_000) as i32;
+    Rect {
+        x0: left,
+        y0: 2 * at,
+        x1: left + 200,
+        y1: 2 * at + 12_000,
+    }
+}
+
+/// Adds a rectangle of terraces.
+fn add_on_terrace(rects: &mut Vec<Rect>, per: u16, k: u16) -> Result<(), AllocError>
+    requires { AreRectsWithin farthest rects.old.items }
+    ensures { OnOk result (AreRectsWithin farthest rects.new.items) }
+{
+    rects.push(on_terrace(per, k))?;
+    Ok(())
+}
+
+/// The rectangles of terraces of so many each, from one number up to another.
+fn terraces(alloc: Global, per: u16, from: u16, to: u16) -> Result<Vec<Rect>, AllocError>
+    ensures { IfOk result (λ v. AreRectsWithin farthest v.items) }
+{
+    let mut rects = Vec::new(alloc);
+    for k in from..to {
+        add_on_terrace(&mut rects, per, k)?;
+    }
+    Ok(rects)
+}
+
+/// The squares of six thousand rectangles in terraces.
+fn terrace_squares(alloc: Global, per: u16) -> Result<Slabs, AllocError> {
+    let rects = terraces(alloc, per, 0, 6000)?;
+    Slabs::of_rects(alloc, rects)
+}
+
+/// The same, by so many workers.
+fn terraced<R: Threads + Sync>(
+    rt: &R,
+    alloc: Global,
+    per: u16,
+    workers: u32,
+) -> Result<Slabs, AllocError> {
+    let rects = terraces(alloc, per, 0, 6000)?;
+    Slabs::of_shapes_by(rt, alloc, rects, Vec::new(alloc), workers)
+}
+
+#[test]
+fn workers_make_the_blocks_of_one(rt: HostRuntime) -> Result<(), Fail> {
+    // Twelve blocks, three, and six of which the last is small: where there are fewer than workers, these share slices.
+    for per in [500, 2000, 1199] {
+        let whole = terrace_squares(rt.alloc(), per)?;
+        for workers in [1, 2, 3, 4, 64] {
+            let slabs = terraced(&rt, rt.alloc(), per, workers)?;
+            assert!(rt; slabs.equal(&whole));
+        }
     }
     Ok(())
 }

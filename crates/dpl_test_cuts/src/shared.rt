@@ -1,0 +1,171 @@
+//! Plans and zones for which several workers find what is near.
+use crate::bars::{Corners, SPACING, set_of};
+use dpl_base::Id;
+use dpl_feature::features;
+use dpl_slabs::Parts;
+use dpl_tile::{Plan, plan, plan_by};
+use dpl_zone::{horizontal_zones_by, vertical_zones_by};
+use std::alloc::{AllocError, Global};
+use std::test::Fail;
+use std::thread::Threads;
+
+/// How many squares stand in a row, and how many rows of them there are.
+const COUNT: u8 = 20;
+
+/// How many pairs of these squares stand side by side, one above the other, or with one corner each towards the other.
+const PAIRS: usize = 1482;
+
+/// Squares with sides of 10, of which those beside one another have 15 columns or rows between them.
+fn squares(alloc: Global) -> Result<Vec<Corners>, AllocError> {
+    let mut rects = Vec::new(alloc);
+    for row in 0..COUNT {
+        for column in 0..COUNT {
+            let (x, y) = (25 * column as i32, 25 * row as i32);
+            rects.push((x, y, x + 10, y + 10))?;
+        }
+    }
+    Ok(rects)
+}
+
+/// The place of a meeting, and the numbers of its slabs.
+type Key = (u32, u32, u32, u32);
+
+/// The meetings of a plan, in order.
+fn meetings_of(alloc: Global, plan: &Plan) -> Result<Vec<Key>, AllocError> {
+    let mut keys = Vec::new(alloc);
+    for m in plan.meetings() {
+        keys.push((m.place.0, m.place.1, m.first, m.second))?;
+    }
+    keys.sort_unstable();
+    Ok(keys)
+}
+
+/// The meetings of pieces that have one owner each, for tiles of this side.
+fn found(
+    alloc: Global,
+    pieces: &Parts,
+    owner: &[Id],
+    side: u32,
+) -> Result<Option<Vec<Key>>, AllocError> {
+    if pieces.items().len() != owner.len() || side < 1 {
+        return Ok(None);
+    }
+    let plan = plan(alloc, pieces, owner, SPACING, side)?;
+    Ok(Some(meetings_of(alloc, &plan)?))
+}
+
+/// The same meetings, found by so many workers.
+fn found_by<R: Threads + Sync>(
+    rt: &R,
+    alloc: Global,
+    pieces: &Parts,
+    owner: &[Id],
+    side: u32,
+    workers: u32,
+) -> Result<Option<Vec<Key>>, AllocError> {
+    if pieces.items().len() != owner.len() || side < 1 || workers < 1 {
+        return Ok(None);
+    }
+    let plan = plan_by(rt, alloc, pieces, owner, SPACING, side, workers)?;
+    Ok(Some(meetings_of(alloc, &plan)?))
+}
+
+/// How many workers find the meetings.
+const WORKERS: [u32; 4] = [1, 2, 4, 64];
+
+#[test]
+fn workers_find_the_same_meetings(rt: HostRuntime) -> Result<(), Fail> {
+    let alloc = rt.alloc();
+    let set = set_of(alloc, &squares(alloc)?)?;
+    let pieces = features(alloc, &set)?;
+    let owner: Vec<Id> = (0..400).collect(alloc)?;
+    for side in [64, 1 << 30] {
+        let one = found(alloc, &pieces, &owner, side)?;
+        let one = one.ok_or("each square is a piece")?;
+        assert!(rt; side == 64 || one.len() == PAIRS);
+        for workers in WORKERS {
+            let many = found_by(&rt, alloc, &pieces, &owner, side, workers)?;
+            let many = many.ok_or("each square is a piece")?;
+            assert!(rt; many == one, "by {workers} workers");
+        }
+    }
+    Ok(())
+}
+
+/// How often the bars are repeated.
+const TIMES: u8 = 100;
+
+/// A long bar, and two that stand over its ends, or, where it is upright, beside them, again and again, far above one another.
+fn bars(alloc: Global, is_upright: bool) -> Result<Vec<Corners>, AllocError> {
+    let mut rects = Vec::new(alloc);
+    for k in 0..TIMES {
+        let y = 1000 * k as i32;
+        if is_upright {
+            rects.push((0, y, 20, y + 158))?;
+            rects.push((40, y, 60, y + 50))?;
+            rects.push((40, y + 108, 60, y + 158))?;
+        } else {
+            rects.push((0, y, 158, y + 20))?;
+            rects.push((0, y + 40, 50, y + 60))?;
+            rects.push((108, y + 40, 158, y + 60))?;
+        }
+    }
+    Ok(rects)
+}
+
+/// The corners of the zones of parts, in order, found by so many workers: of the horizontal ones where `flat` is set, or else of the vertical ones.
+fn corners_by<R: Threads + Sync>(
+    rt: &R,
+    alloc: Global,
+    parts: &Parts,
+    flat: bool,
+    workers: u32,
+) -> Result<Vec<Corners>, AllocError> {
+    let mut corners = Vec::new(alloc);
+    if workers < 1 {
+        return Ok(corners);
+    }
+    let zones = if flat {
+        horizontal_zones_by(rt, alloc, parts, SPACING, 10, workers)?
+    } else {
+        vertical_zones_by(rt, alloc, parts, SPACING, 10, workers)?
+    };
+    for zone in &zones {
+        let r = zone.rect;
+        corners.push((r.x0, r.y0, r.x1, r.y1))?;
+    }
+    corners.sort_unstable();
+    Ok(corners)
+}
+
+/// The corners of the zones in the long bars, in order.
+fn in_long_bars(alloc: Global, are_upright: bool) -> Result<Vec<Corners>, AllocError> {
+    let mut corners = Vec::new(alloc);
+    for k in 0..TIMES {
+        let y = 1000 * k as i32;
+        if are_upright {
+            corners.push((0, y + 74, 20, y + 84))?;
+        } else {
+            corners.push((74, y, 84, y + 20))?;
+        }
+    }
+    Ok(corners)
+}
+
+#[test]
+fn workers_find_the_same_zones(rt: HostRuntime) -> Result<(), Fail> {
+    let alloc = rt.alloc();
+    // What stands over flat bars is found in one strip, what stands beside upright ones in each of a hundred.
+    for are_upright in [false, true] {
+        let set = set_of(alloc, &bars(alloc, are_upright)?)?;
+        let parts = features(alloc, &set)?;
+        let want = in_long_bars(alloc, are_upright)?;
+        for workers in WORKERS {
+            let zones = corners_by(&rt, alloc, &parts, !are_upright, workers)?;
+            assert!(rt; zones == want, "by {workers} workers");
+            let others = corners_by(&rt, alloc, &parts, are_upright, workers)?;
+            assert!(rt; others.is_empty(), "by {workers} workers");
+        }
+    }
+    Ok(())
+}
