@@ -171,6 +171,15 @@ CASES = {
     "listed": Case(CROWD, "--workers 1", 0, 1),
     # So many slabs that there are no tiles.
     "large": Case(list(pairs(33000)), "--workers 2", 65536, 1),
+    # Wires with a bar below them, which workers sweep slice by slice, and whose near slabs they find.
+    "slices": Case([(50 * n, n, 50 * n + 20, n + 9000) for n in range(4200)] + [(0, -20, 210000, -10)], "--workers 4", 65536, 1),
+    # Terraces, a block each.
+    "blocks": Case(
+        [(3000 * (n // 500) + n % 500, 2 * n, 3000 * (n // 500) + n % 500 + 200, 2 * n + 12000) for n in range(6000)],
+        "--workers 4",
+        65536,
+        1,
+    ),
 }
 
 # What a run leaves: its status, and how many bytes were written and said.

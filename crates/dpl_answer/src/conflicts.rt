@@ -44,12 +44,12 @@ const MOST_AT_ONCE: usize = 524_288;
 /// The side of a tile that has every layer.
 const WIDEST: u32 = 1 << 31;
 
-/// How the conflicts of a layer are found. Nothing of it shows in the answer.
+/// How the work on a layer is shared. Nothing of it shows in the answer.
 #[derive(Clone, Copy, Debug)]
 pub struct Sharing {
     /// The side of a tile in database units, 1 to 1,073,741,824. It is doubled while there would be too many tiles.
     pub tile: u32,
-    /// How many workers share the layer's sweep, what is near what, and the tiles, 1 to 64.
+    /// How many workers share the sweep of the layer, its zones, pieces, near slabs or tiles, and masks, 1 to 64.
     pub workers: u32,
 }
 

@@ -55,7 +55,7 @@ pub fn layer_of(alloc: Global, choice: &LayerChoice, bytes: Vec<u8>) -> Result<L
     swept(alloc, drawn)
 }
 
-/// The same, swept by so many workers where the layer has many shapes.
+/// The same, by so many workers, who sweep its rectangles where there are many. Loops are swept by one.
 pub fn layer_by<R: Threads + Sync>(
     rt: &R,
     alloc: Global,

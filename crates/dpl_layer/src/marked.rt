@@ -81,7 +81,7 @@ pub fn marked_layer_of(
     marked_squares(alloc, copied, slabs, mark_a, mark_b)
 }
 
-/// The same, the layer swept by so many workers where it has many shapes.
+/// The same, by so many workers, who sweep the layer's rectangles where there are many. Loops are swept by one.
 pub fn marked_layer_by<R: Threads + Sync>(
     rt: &R,
     alloc: Global,
