@@ -162,7 +162,17 @@ fn dealt_meetings(
     Ok(meetings)
 }
 
-/// The meetings of all pairs of a join, in no order, each found by one of so many workers.
+/// How many workers look for meetings at most. Each has the close pairs of a strip in memory.
+const MOST_WORKERS: usize = 16;
+
+/// How many of the workers look for meetings in the strips of a join: no more than there are strips.
+fn workers_for(join: &Join, workers: u32) -> usize
+    ensures { 1 ≤ result }
+{
+    (workers as usize).min(join.strips()).clamp(1, MOST_WORKERS)
+}
+
+/// The meetings of all pairs of a join, in no order, each found by one of so many workers, or of as many as there are strips.
 fn unsorted_meetings_by<R: Threads + Sync>(
     rt: &R,
     alloc: Global,
@@ -180,12 +190,12 @@ fn unsorted_meetings_by<R: Threads + Sync>(
     requires workers { 1 ≤ workers }
     ensures { IfOk result (λ v. (m : Meeting) → Contains v.items m ↔ IsMeeting spacing owners.now grid.now join.now.items m) }
 {
-    let workers = workers as usize;
+    let count = workers_for(join, workers);
     let mut lists = map_indices(
         rt,
         alloc,
-        workers,
-        &|worker| { dealt_meetings(alloc, grid, join, owners, spacing, worker, workers) },
+        count,
+        &|worker| { dealt_meetings(alloc, grid, join, owners, spacing, worker, count) },
     )?;
     let mut meetings = Vec::new(alloc);
     while let Some(list) = lists.pop() {

@@ -6,10 +6,10 @@ use Rattle.dpl_tile.proofs.meetings.unsorted_meetings_by.Goals as goal
 
 pub loop-list-init : goal.loop-list-init
 loop-list-init g c =
-    let len : length c.in_ok-lists.lists.items ≡ c.args.workers = omega (arith, c.in_ok-lists.lists.ok.0, c.in_ok-lists.ensures.len) in
-    taken-none (IsOwnMeeting c.args.spacing c.args.owners.now c.args.grid.now c.args.join.now c.args.workers) c.args.workers c.in_ok-lists.lists.items
+    let len : length c.in_ok-lists.lists.items ≡ c.workers_for-count.result = omega (arith, c.in_ok-lists.lists.ok.0, c.in_ok-lists.ensures.len) in
+    taken-none (IsOwnMeeting c.args.spacing c.args.owners.now c.args.grid.now c.args.join.now c.workers_for-count.result) c.workers_for-count.result c.in_ok-lists.lists.items
     c.new-meetings.result.items len c.new-meetings.ensures.items
-    (λ k d l. let at : k < c.args.workers = omega (arith, l, len) in search rules)
+    (λ k d l. let at : k < c.workers_for-count.result = omega (arith, l, len) in search rules)
 
 pub loop-list-smaller : goal.loop-list-smaller
 loop-list-smaller g c =
@@ -17,13 +17,13 @@ loop-list-smaller g c =
     omega (arith, ap length is, length_push c.pop.new.self.items c.in-Some.list)
 
 pub loop-list-preserved : goal.loop-list-preserved
-loop-list-preserved g c = taken-more (IsOwnMeeting c.args.spacing c.args.owners.now c.args.grid.now c.args.join.now c.args.workers) c.args.workers c.loop-list.lists.items
+loop-list-preserved g c = taken-more (IsOwnMeeting c.args.spacing c.args.owners.now c.args.grid.now c.args.join.now c.workers_for-count.result) c.workers_for-count.result c.loop-list.lists.items
     c.pop.new.self.items c.in-Some.list c.in_ok-list.list c.loop-list.meetings.items c.append.new.self.items c.in-Some.ensures.items c.in_ok-list.was c.in_ok-append.ensures.items
     c.loop-list.invariant
 
 pub returns : goal.returns
 returns g c =
     let none : length c.loop-list.lists.items ≡ 0 = search rules in
-    meetings-of_workers c.args.spacing c.args.owners.now c.args.grid.now c.args.join.now c.args.workers c.loop-list.meetings.items c.requires.workers
-    (taken-all (IsOwnMeeting c.args.spacing c.args.owners.now c.args.grid.now c.args.join.now c.args.workers) c.args.workers c.loop-list.lists.items c.loop-list.meetings.items
+    meetings-of_workers c.args.spacing c.args.owners.now c.args.grid.now c.args.join.now c.workers_for-count.result c.loop-list.meetings.items c.workers_for-count.ensures
+    (taken-all (IsOwnMeeting c.args.spacing c.args.owners.now c.args.grid.now c.args.join.now c.workers_for-count.result) c.workers_for-count.result c.loop-list.lists.items c.loop-list.meetings.items
     none c.loop-list.invariant)
