@@ -16,6 +16,7 @@ mod scattered;
 mod slabs;
 mod slices;
 mod strips;
+mod swept;
 
 pub use parts::Parts;
 pub use slabs::Slabs;
