@@ -2,7 +2,6 @@
 #![tactic(auto)]
 
 mod ahead;
-mod alone;
 mod blocks;
 mod combine;
 mod gaps;

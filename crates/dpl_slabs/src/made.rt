@@ -121,9 +121,6 @@ impl<R: Threads + Sync> Slicing for ByWorkers<'_, R> {
     }
 
     fn strips(&self, alloc: Global, rects: &[Rect]) -> Result<Vec<Swept>, AllocError> {
-        if self.workers <= 1 {
-            return Ok(Vec::new(alloc));
-        }
         strips_by(self.rt, alloc, rects, self.workers)
     }
 }

@@ -158,7 +158,7 @@ impl Slabs {
         Slabs::of_shapes_in(alloc, &InTurn, rects, loops)
     }
 
-    /// The same by so many workers, who sweep blocks or slices where there are many rectangles.
+    /// The same by so many workers, who sweep blocks, slices or strips where there are many rectangles.
     pub fn of_shapes_by<R: Threads + Sync>(
         rt: &R,
         alloc: Global,
@@ -289,7 +289,7 @@ impl Slabs {
         self.columns_in(alloc, &InTurn)
     }
 
-    /// The same by so many workers, who sweep slices where there are many slabs.
+    /// The same by so many workers, who sweep slices or strips where there are many slabs.
     pub fn columns_by<R: Threads + Sync>(
         &self,
         rt: &R,

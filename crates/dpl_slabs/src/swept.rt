@@ -98,22 +98,7 @@ pub fn sweep_strips<S: Slicing>(
     Ok(swept)
 }
 
-/// The slabs of the strips from one place on, which a strip begins at, up to another.
-fn strips_from(
-    alloc: Global,
-    rects: &[Rect],
-    start: usize,
-    end: usize,
-) -> Result<Swept, AllocError>
-    requires within { AreRectsWithin farthest rects.now }
-    requires rise { CornersRise rects.now }
-    ensures { IfOk result (IsSwept rects.now) }
-{
-    let end = end.min(rects.len());
-    sweep_strips(alloc, &InTurn, Vec::new(alloc), rects, start, end)
-}
-
-/// The slabs of the strips of rectangles, which go by first row, the last first, made by so many workers. None where there are few rectangles, one share of strips alone, or a tall strip, of which workers share slices.
+/// The slabs of the strips of rectangles, which go by first row, the last first, made by so many workers. None where one worker is asked for, or where there are few rectangles, one share of strips alone, or a tall strip, of which workers share slices.
 pub fn strips_by<R: Threads + Sync>(
     rt: &R,
     alloc: Global,
@@ -122,11 +107,10 @@ pub fn strips_by<R: Threads + Sync>(
 ) -> Result<Vec<Swept>, AllocError>
     requires within { AreRectsWithin farthest rects.now }
     requires rise { CornersRise rects.now }
-    requires workers { 1 ≤ workers }
     ensures { IfOk result (λ v. All (IsSwept rects.now) v.items) }
 {
     let mut made = Vec::new(alloc);
-    if rects.len() < MANY || has_tall_strip(rects) {
+    if workers <= 1 || rects.len() < MANY || has_tall_strip(rects) {
         return Ok(made);
     }
     let (starts, _) = shares(alloc, rects, workers)?;
@@ -139,8 +123,9 @@ pub fn strips_by<R: Threads + Sync>(
         &starts,
         1,
         &|place, share| {
-            let end = place_of(&starts, place + share.len(), rects.len());
-            strips_from(alloc, rects, place_of(share, 0, end), end)
+            let end = place_of(&starts, place + share.len(), rects.len()).min(rects.len());
+            let start = place_of(share, 0, end);
+            sweep_strips(alloc, &InTurn, Vec::new(alloc), rects, start, end)
         },
     )?;
     for swept in all {
