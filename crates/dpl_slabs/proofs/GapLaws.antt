@@ -13,13 +13,13 @@ use Rattle.dpl_spec_split.specs.Squares.{Has, Covers}
 use Rattle.dpl_spec_split.specs.Slabs.{IsSolid, AreSlabsOf}
 use Rattle.dpl_spec_split.proofs.SlabLaws.{Covers-member, member-Covers}
 use Rattle.dpl_slabs.specs.Rows.{AreLevel, IsLeftOf, AreSpaced}
-use Rattle.dpl_slabs.specs.Alone.{ReachTo}
+use Rattle.dpl_bars.specs.Alone.{ReachTo}
 use Rattle.dpl_slabs.specs.Slices.{Without}
 use Rattle.dpl_slabs.specs.Gaps.{AddsColumns, LieBefore, IsCutUpTo, AddsBarWithout, AreLeftSoFar}
 use Rattle.dpl_slabs.proofs.LoopLaws.{covers-pushed}
 use Rattle.dpl_slabs.proofs.SetLaws.{without-none}
 use Rattle.dpl_slabs.proofs.RowLaws.{covers-step, level-on, spaced-pushed, spaced-canonical}
-use Rattle.dpl_slabs.proofs.AloneLaws.{end-more}
+use Rattle.dpl_bars.proofs.AloneLaws.{end-more}
 
 -- what a test of two numbers says
 pub le-true : (a b : ℤ) → le_z a b ≡ true → a ≤ℤ b

@@ -25,7 +25,7 @@ use Rattle.dpl_order.specs.Joins.{AreJoined}
 use Rattle.dpl_order.proofs.JoinLaws.{apart-permutation, covers-same, joined-apart}
 use Rattle.dpl_slabs.specs.Cells.{cells}
 use Rattle.dpl_slabs.specs.Rows.{AreAllLevel, AreSpaced, IsRow}
-use Rattle.dpl_slabs.specs.Alone.{KeepOff, AreAlone, AddsTouching}
+use Rattle.dpl_bars.specs.Alone.{KeepOff, AreAlone, AddsTouching}
 use Rattle.dpl_slabs.specs.Slices.{InRows, Without, IsPartOf, IsBar, Widens, PushesBar, ArePartsOf, AddsPart, IsCutTo, ArePiecesBelow, ArePiecesOf}
 use Rattle.dpl_slabs.proofs.LoopLaws.{covers-pushed, covers-appended}
 use Rattle.dpl_slabs.proofs.SetLaws.{told-minus, rects-none, rects-more, slabs-of-same, slabs-within}

@@ -5,7 +5,7 @@ use Rattle.dpl_spec_split.specs.declared.Pt.{Pt}
 use Rattle.dpl_spec_split.specs.declared.Rect.{Rect}
 use Rattle.dpl_spec_split.specs.Squares.{Has, Covers}
 use Rattle.dpl_slabs.specs.Rows.{AreLevel, AreSpaced}
-use Rattle.dpl_slabs.specs.Alone.{ReachTo}
+use Rattle.dpl_bars.specs.Alone.{ReachTo}
 use Rattle.dpl_slabs.specs.Slices.{Without}
 
 -- columns from to to - 1 of the bar were added, where there are any

@@ -6,7 +6,6 @@ pub mod Strips
 pub mod Rows
 pub mod Slices
 pub mod Blocks
-pub mod Alone
 pub mod Gaps
 pub mod Joints
 pub mod Scattered

@@ -24,8 +24,12 @@ pub struct Block {
 /// How many rectangles blocks have on average, at least, where workers share them. Smaller ones aren't worth the memory.
 const LARGE: usize = 64;
 
-/// Where those blocks begin that are each the first for one of so many workers. About as many rectangles lie from one to the next. None where blocks are small.
-fn shares(alloc: Global, rects: &[Rect], workers: u32) -> Result<Vec<usize>, AllocError>
+/// Where those strips begin that are each the first for one of so many workers. About as many rectangles lie from one to the next. With them, how many strips there are.
+pub fn shares(
+    alloc: Global,
+    rects: &[Rect],
+    workers: u32,
+) -> Result<(Vec<usize>, usize), AllocError>
     requires rise { CornersRise rects.now }
     requires workers { 1 ≤ workers }
 {
@@ -42,10 +46,7 @@ fn shares(alloc: Global, rects: &[Rect], workers: u32) -> Result<Vec<usize>, All
         count = count.saturating_add(1);
         start += strip_length(&rects[start..]);
     }
-    if rects.len() / LARGE < count {
-        starts.clear();
-    }
-    Ok(starts)
+    Ok((starts, count))
 }
 
 /// The block from a place on.
@@ -92,14 +93,14 @@ fn blocks_from(
 }
 
 /// The place of this number in the list, or the one behind all.
-fn place_of(starts: &[usize], number: usize, behind: usize) -> usize {
+pub fn place_of(starts: &[usize], number: usize, behind: usize) -> usize {
     match starts.get(number) {
         Some(start) => *start,
         None => behind,
     }
 }
 
-/// The blocks in which rectangles lie, the last first, made by so many workers, or none where there are too few blocks for all of them.
+/// The blocks in which rectangles lie, the last first, made by so many workers, or none where there are too few blocks for all of them, or blocks are small.
 pub fn blocks_by<R: Threads + Sync>(
     rt: &R,
     alloc: Global,
@@ -112,8 +113,8 @@ pub fn blocks_by<R: Threads + Sync>(
     ensures { IfOk result (λ v. All (IsBlock rects.now) v.items) }
 {
     let mut made = Vec::new(alloc);
-    let starts = shares(alloc, rects, workers)?;
-    if starts.len() < workers as usize {
+    let (starts, count) = shares(alloc, rects, workers)?;
+    if starts.len() < workers as usize || rects.len() / LARGE < count {
         return Ok(made);
     }
     let lists = map_chunks(

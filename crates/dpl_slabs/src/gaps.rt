@@ -4,7 +4,7 @@ ghost use Rattle.std.specs.List.{AllPairs, Contains};
 ghost use Rattle.dpl_spec_split.specs.declared.Rect.{Rect};
 ghost use Rattle.dpl_spec_split.specs.Slabs.{AreSlabsOf, IsSolid, StandApart};
 ghost use Rattle.dpl_slabs.specs.Rows.{AreLevel, AreAllLevel, AreSpaced};
-ghost use Rattle.dpl_slabs.specs.Alone.{ReachTo};
+ghost use Rattle.dpl_bars.specs.Alone.{ReachTo};
 ghost use Rattle.dpl_slabs.specs.Slices.{Without};
 ghost use Rattle.dpl_slabs.specs.Gaps.{AddsColumns, LieBefore, AddsBarWithout};
 

@@ -2,7 +2,6 @@
 #![tactic(auto)]
 
 mod ahead;
-mod alone;
 mod blocks;
 mod combine;
 mod gaps;
@@ -16,6 +15,7 @@ mod scattered;
 mod slabs;
 mod slices;
 mod strips;
+mod swept;
 
 pub use parts::Parts;
 pub use slabs::Slabs;

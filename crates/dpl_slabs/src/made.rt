@@ -1,14 +1,15 @@
-//! Pieces of slices, and slabs of blocks, that workers make before their turn.
+//! Pieces of slices, and slabs of blocks and strips, that workers make before their turn.
 ghost use Rattle.std.specs.Prelude.{◌≡◌, ◌≤◌, ⊤, IfOk, IfSome};
 ghost use Rattle.std.specs.List.{All, Contains};
 ghost use Rattle.std.specs.Thread.{IsSync};
 ghost use Rattle.dpl_spec_split.specs.Loops.{farthest, AreRectsWithin};
 ghost use Rattle.dpl_slabs.specs.declared.made.Slice.{Slice as SliceOf};
 ghost use Rattle.dpl_order.specs.Orders.{CornersRise};
-ghost use Rattle.dpl_slabs.specs.Made.{IsBlock, IsSlice};
+ghost use Rattle.dpl_slabs.specs.Made.{IsBlock, IsSlice, IsSwept};
 
 use crate::ahead::{Block, blocks_by};
 use crate::slices::{BOTTOM, TOP, most_pieces, pieces_of_slice};
+use crate::swept::{Swept, strips_by};
 use dpl_base::Rect;
 use std::alloc::{AllocError, Global};
 use std::thread::{Threads, map_chunks};
@@ -24,7 +25,7 @@ pub struct Slice {
     pub pieces: Vec<Rect>,
 }
 
-/// Who makes pieces of slices, and slabs of blocks, before their turn.
+/// Who makes pieces of slices, and slabs of blocks and strips, before their turn.
 pub trait Slicing {
     // Whether they can be made so: what workers share is `Sync`.
     ghost ready: { Type 0 };
@@ -48,6 +49,13 @@ pub trait Slicing {
         requires within { AreRectsWithin farthest rects.now }
         requires rise { CornersRise rects.now }
         ensures { IfOk result (λ v. All (IsBlock rects.now) v.items) };
+
+    /// The slabs of some of the strips of the rectangles, which go by first row, the last strips first. All other strips are made at their turn.
+    fn strips(&self, alloc: Global, rects: &[Rect]) -> Result<Vec<Swept>, AllocError>
+        requires ready { ready }
+        requires within { AreRectsWithin farthest rects.now }
+        requires rise { CornersRise rects.now }
+        ensures { IfOk result (λ v. All (IsSwept rects.now) v.items) };
 }
 
 /// Nobody, so that the pieces of one slice alone are in memory beside those that are put together.
@@ -69,9 +77,13 @@ impl Slicing for InTurn {
     fn blocks(&self, alloc: Global, _rects: &[Rect]) -> Result<Vec<Block>, AllocError> {
         Ok(Vec::new(alloc))
     }
+
+    fn strips(&self, alloc: Global, _rects: &[Rect]) -> Result<Vec<Swept>, AllocError> {
+        Ok(Vec::new(alloc))
+    }
 }
 
-/// So many workers, of whom each has as many slices to make, or blocks of about as many rectangles. One alone makes none.
+/// So many workers, of whom each has as many slices to make, or blocks or strips of about as many rectangles. One alone makes none.
 #[derive(Drop)]
 pub struct ByWorkers<'a, R> {
     pub rt: &'a R,
@@ -106,6 +118,10 @@ impl<R: Threads + Sync> Slicing for ByWorkers<'_, R> {
             return Ok(Vec::new(alloc));
         }
         blocks_by(self.rt, alloc, rects, self.workers)
+    }
+
+    fn strips(&self, alloc: Global, rects: &[Rect]) -> Result<Vec<Swept>, AllocError> {
+        strips_by(self.rt, alloc, rects, self.workers)
     }
 }
 

@@ -158,7 +158,7 @@ impl Slabs {
         Slabs::of_shapes_in(alloc, &InTurn, rects, loops)
     }
 
-    /// The same by so many workers, who sweep blocks or slices where there are many rectangles.
+    /// The same by so many workers, who sweep blocks, slices or strips where there are many rectangles.
     pub fn of_shapes_by<R: Threads + Sync>(
         rt: &R,
         alloc: Global,
@@ -286,12 +286,34 @@ impl Slabs {
         ensures slabs { IfOk result (λ v. AreSlabsOf (transposed (Covers self.now)) v.items) }
         ensures within { IfOk result (λ v. AreRectsWithin farthest v.items) }
     {
+        self.columns_in(alloc, &InTurn)
+    }
+
+    /// The same by so many workers, who sweep slices or strips where there are many slabs.
+    pub fn columns_by<R: Threads + Sync>(
+        &self,
+        rt: &R,
+        alloc: Global,
+        workers: u32,
+    ) -> Result<Vec<Rect>, AllocError>
+        ensures slabs { IfOk result (λ v. AreSlabsOf (transposed (Covers self.now)) v.items) }
+        ensures within { IfOk result (λ v. AreRectsWithin farthest v.items) }
+    {
+        self.columns_in(alloc, &ByWorkers { rt, workers })
+    }
+
+    /// The slabs of the transposed set, slice by slice where there are many.
+    fn columns_in<S: Slicing>(&self, alloc: Global, slicing: &S) -> Result<Vec<Rect>, AllocError>
+        requires ready { S.ready }
+        ensures slabs { IfOk result (λ v. AreSlabsOf (transposed (Covers self.now)) v.items) }
+        ensures within { IfOk result (λ v. AreRectsWithin farthest v.items) }
+    {
         let mut transposed = all_transposed(alloc, self.rects())?;
         if transposed.len() == 1 {
             return Ok(transposed);
         }
         sort_by_corner(&mut transposed);
-        slabs_by_rows(alloc, &InTurn, &transposed)
+        slabs_by_rows(alloc, slicing, &transposed)
     }
 
     /// Whether the two are one set.

@@ -10,11 +10,11 @@ ghost use Rattle.dpl_order.specs.Pieces.{AreApart};
 ghost use Rattle.dpl_slabs.specs.Made.{IsSlice};
 ghost use Rattle.dpl_slabs.specs.Slices.{InRows, Without, IsPartOf, Widens, PushesBar, AddsPart, IsCutTo, ArePiecesBelow, ArePiecesOf};
 
-use crate::alone::{add_touching, alone_of};
 use crate::combine::{combine_lists_without, combine_without, upward_without};
 use crate::gaps::bars_without;
 use crate::made::{InTurn, Slice, Slicing, taken};
 use crate::row::{is_spaced, slabs_of_row};
+use dpl_bars::{add_touching, alone_of};
 use dpl_base::{FARTHEST, Rect};
 use dpl_order::{join_pieces, slabs_of, sort_by_corner};
 use std::alloc::{AllocError, Global};

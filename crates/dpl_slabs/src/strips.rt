@@ -12,6 +12,7 @@ use crate::blocks::{has_tall_strip, slabs_of_blocks};
 use crate::made::Slicing;
 use crate::row::{is_row, slabs_of_row};
 use crate::slices::{TALL, slabs_without};
+use crate::swept::sweep_strips;
 use dpl_base::{Rect, transpose_all};
 use dpl_order::sort_by_corner;
 use dpl_upward::slabs_upward;
@@ -61,7 +62,7 @@ fn slabs_of_strip<S: Slicing>(
 }
 
 /// Adds the slabs of a strip that lies above all slabs.
-fn add_strip<S: Slicing>(
+pub fn add_strip<S: Slicing>(
     alloc: Global,
     slicing: &S,
     slabs: &mut Vec<Rect>,
@@ -92,14 +93,9 @@ pub fn slabs_by_rows<S: Slicing>(
     ensures slabs { IfOk result (λ v. AreSlabsOf (Covers rects.now) v.items) }
     ensures within { IfOk result (λ v. AreRectsWithin farthest v.items) }
 {
-    let mut slabs = Vec::with_capacity(alloc, rects.len())?;
-    let mut rest = rects;
-    while !rest.is_empty() {
-        let (strip, others) = rest.split_at(strip_length(rest));
-        add_strip(alloc, slicing, &mut slabs, strip)?;
-        rest = others;
-    }
-    Ok(slabs)
+    let made = slicing.strips(alloc, rects)?;
+    let swept = sweep_strips(alloc, slicing, made, rects, 0, rects.len())?;
+    Ok(swept.slabs)
 }
 
 /// Transposes each of the rectangles where it stands, and sorts them by first row, then by left column.

@@ -8,6 +8,8 @@ mod conflicts;
 #[cfg(test)]
 mod corners;
 #[cfg(test)]
+mod many;
+#[cfg(test)]
 mod marks;
 #[cfg(test)]
 mod near;

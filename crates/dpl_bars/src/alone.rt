@@ -4,7 +4,7 @@ ghost use Rattle.std.specs.List.{AllPairs, Contains};
 ghost use Rattle.std.specs.List.Sorted.{IsPermutation};
 ghost use Rattle.dpl_spec_split.specs.declared.Rect.{Rect};
 ghost use Rattle.dpl_spec_split.specs.Slabs.{StandApart};
-ghost use Rattle.dpl_slabs.specs.Alone.{LeftsRise, ReachTo, IsPrefixAt, AreAlone, AddsTouching};
+ghost use Rattle.dpl_bars.specs.Alone.{LeftsRise, ReachTo, IsPrefixAt, AreAlone, AddsTouching};
 
 use dpl_base::{Rect, give_back};
 use std::alloc::{AllocError, Global};

@@ -2,10 +2,10 @@ use Rattle.std.proofs.Common.{◌<◌, length, get_or, rules, w32, FitsSigned}
 use Rattle.std.proofs.lemmas.Int.{to_z-of_z}
 use Rattle.std.proofs.lemmas.List.{get_or_default}
 use Rattle.dpl_spec_split.specs.declared.Rect.{Rect}
-use Rattle.dpl_slabs.proofs.Firsts.{zero}
-use Rattle.dpl_slabs.proofs.StripLaws.{lt-from}
-use Rattle.dpl_slabs.proofs.AloneLaws.{end-more, prefix-here}
-use Rattle.dpl_slabs.proofs.alone.advanced.Goals as goal
+use Rattle.dpl_bars.proofs.Steps.{zero}
+use Rattle.dpl_bars.proofs.Steps.{lt-from}
+use Rattle.dpl_bars.proofs.AloneLaws.{end-more, prefix-here}
+use Rattle.dpl_bars.proofs.alone.advanced.Goals as goal
 
 pub loop-i-preserved : goal.loop-i-preserved
 loop-i-preserved c =

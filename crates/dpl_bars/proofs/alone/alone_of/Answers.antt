@@ -2,10 +2,10 @@ use Rattle.std.proofs.Common.{◌≡◌, ◌<◌, ◌∙◌, sym, length, get_or
 use Rattle.std.proofs.lemmas.Int.{to_z-of_z}
 use Rattle.std.proofs.lemmas.List.{get_or-set_other, length-set, take_more_set}
 use Rattle.dpl_spec_split.specs.declared.Rect.{Rect}
-use Rattle.dpl_slabs.proofs.StripLaws.{lt-from}
-use Rattle.dpl_slabs.proofs.AloneLaws.{prefix-apart, alone-more, beside-more}
-use Rattle.dpl_slabs.proofs.alone.alone_of.Goals.{then-prefix-bar, else-prefix-bar+in_ok-push}
-use Rattle.dpl_slabs.proofs.alone.alone_of.Goals as goal
+use Rattle.dpl_bars.proofs.Steps.{lt-from}
+use Rattle.dpl_bars.proofs.AloneLaws.{prefix-apart, alone-more, beside-more}
+use Rattle.dpl_bars.proofs.alone.alone_of.Goals.{then-prefix-bar, else-prefix-bar+in_ok-push}
+use Rattle.dpl_bars.proofs.alone.alone_of.Goals as goal
 
 pub loop-i-preserved : goal.loop-i-preserved
 loop-i-preserved c =

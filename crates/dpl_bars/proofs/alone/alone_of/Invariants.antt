@@ -1,7 +1,7 @@
 use Rattle.std.proofs.Common.{◌≡◌, ℕ, ◌≤◌, ◌<◌, length, get_or, take}
 use Rattle.dpl_spec_split.specs.declared.Rect.{Rect}
-use Rattle.dpl_slabs.specs.Alone.{ReachTo, AreAlone}
-use Rattle.dpl_slabs.proofs.alone.alone_of.Given as goal
+use Rattle.dpl_bars.specs.Alone.{ReachTo, AreAlone}
+use Rattle.dpl_bars.proofs.alone.alone_of.Given as goal
 
 abbrev pub invariant-loop-i : goal.invariant-loop-i
 invariant-loop-i l =

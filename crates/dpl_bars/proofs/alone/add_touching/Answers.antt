@@ -2,11 +2,11 @@ use Rattle.std.proofs.Common.{◌<◌, inr, length, get_or, rules, w32, FitsSign
 use Rattle.std.proofs.lemmas.Int.{to_z-of_z}
 use Rattle.std.proofs.lemmas.List.{get_or_default}
 use Rattle.dpl_spec_split.specs.declared.Rect.{Rect}
-use Rattle.dpl_slabs.proofs.Firsts.{zero}
-use Rattle.dpl_slabs.proofs.GapLaws.{le-false}
-use Rattle.dpl_slabs.proofs.AloneLaws.{prefix-apart, touching-apart, touching-more}
-use Rattle.dpl_slabs.proofs.alone.add_touching.Goals.{then-bar-prefix+in_ok-push, else-bar-prefix}
-use Rattle.dpl_slabs.proofs.alone.add_touching.Goals as goal
+use Rattle.dpl_bars.proofs.Steps.{zero}
+use Rattle.dpl_bars.proofs.Steps.{le-false}
+use Rattle.dpl_bars.proofs.AloneLaws.{prefix-apart, touching-apart, touching-more}
+use Rattle.dpl_bars.proofs.alone.add_touching.Goals.{then-bar-prefix+in_ok-push, else-bar-prefix}
+use Rattle.dpl_bars.proofs.alone.add_touching.Goals as goal
 
 pub loop-bar-preserved : goal.loop-bar-preserved
 loop-bar-preserved c =

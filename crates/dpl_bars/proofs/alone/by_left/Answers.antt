@@ -1,7 +1,7 @@
 use Rattle.std.proofs.Common.{inl, inr}
 use Rattle.std.proofs.lemmas.List.Elements.{Contains-append_left, Contains-append_right}
 use Rattle.std.proofs.lemmas.List.Sorted.{Contains-permutation}
-use Rattle.dpl_slabs.proofs.alone.by_left.Goals as goal
+use Rattle.dpl_bars.proofs.alone.by_left.Goals as goal
 
 pub returns-clause-all : goal.returns-clause-all
 returns-clause-all c =

@@ -1,5 +1,5 @@
-use Rattle.dpl_slabs.specs.Alone.{ReachTo}
-use Rattle.dpl_slabs.proofs.alone.advanced.Given as goal
+use Rattle.dpl_bars.specs.Alone.{ReachTo}
+use Rattle.dpl_bars.proofs.alone.advanced.Given as goal
 
 abbrev pub invariant-loop-i : goal.invariant-loop-i
 invariant-loop-i l = ReachTo l.rects l.i l.reach

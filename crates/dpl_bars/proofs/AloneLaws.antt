@@ -16,9 +16,8 @@ use Rattle.dpl_spec_split.specs.declared.Pt.{Pt}
 use Rattle.dpl_spec_split.specs.declared.Rect.{Rect}
 use Rattle.dpl_spec_split.specs.Squares.{Has, Covers}
 use Rattle.dpl_spec_split.specs.Slabs.{StandApart}
-use Rattle.dpl_slabs.specs.Alone.{LeftsRise, ReachTo, IsPrefixAt, AreAlone, AddsTouching}
-use Rattle.dpl_slabs.proofs.LoopLaws.{covers-pushed}
-use Rattle.dpl_slabs.proofs.RowLaws.{covers-step}
+use Rattle.dpl_bars.specs.Alone.{LeftsRise, ReachTo, IsPrefixAt, AreAlone, AddsTouching}
+use Rattle.dpl_bars.proofs.Steps.{covers-pushed, covers-step}
 
 at_most : (x y : ℤ) (r : Ordering) → r ≡ int_cmp x y → is_lt r ≡ false → y ≤ℤ x
 at_most x y Less e h = cc
@@ -86,7 +85,7 @@ module _ (bars beside old new alone : List Rect) (n : ℕ) (bar : Rect) (n_in : 
   last = rw step (Contains-push (take n bars) bar)
 
   pushed : (rs : List Rect) (p : Pt) → Covers (rs ++ bar ∷ []) p ↔ (Covers rs p ⊎ Has bar p)
-  pushed rs = covers-pushed (Has bar) rs bar (λ q. (λ h. h, λ h. h))
+  pushed rs = covers-pushed rs bar
 
   -- a bar that stands apart from all else is one more
   pub alone-more : ((r : Rect) → Contains old r ⊎ Contains beside r → StandApart bar r) → AreAlone (take (n + 1) bars) beside old new (alone ++ bar ∷ [])

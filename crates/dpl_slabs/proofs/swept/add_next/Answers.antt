@@ -1,0 +1,33 @@
+use Rattle.std.proofs.lemmas.List.Elements.{All-contains}
+use Rattle.dpl_slabs.specs.Made.{IsSwept}
+use Rattle.dpl_slabs.proofs.SliceLaws.{All-some}
+use Rattle.dpl_slabs.proofs.StripLaws.{rise-take}
+use Rattle.dpl_slabs.proofs.SweptLaws.{swept-joined, swept-next}
+use Rattle.dpl_slabs.proofs.swept.add_next.Goals as goal
+
+pub returns-in_err-extend_from_slice-clause-made : goal.returns-in_err-extend_from_slice-clause-made
+returns-in_err-extend_from_slice-clause-made g c = All-some (IsSwept c.args.rects.now) _ _ c.taken_strips.ensures.others c.requires.made
+
+pub returns-in-Some-clause-made : goal.returns-in-Some-clause-made
+returns-in-Some-clause-made g c = All-some (IsSwept c.args.rects.now) _ _ c.taken_strips.ensures.others c.requires.made
+
+pub returns-in-Some-clause-swept : goal.returns-in-Some-clause-swept
+returns-in-Some-clause-swept g c =
+    let found = rw c.in-Some.is at c.taken_strips.ensures.taken in
+    let some = rw c.in-Some.is at c.taken_strips.ensures.some in
+    let is = All-contains (IsSwept c.args.rects.now) c.args.made.now.items c.in-Some.next c.requires.made found.0 in
+    rw (c.in_ok-extend_from_slice.ensures.items, c.deref.ensures.value)
+    (swept-joined c.args.rects.now _ _ _ _ _ some c.requires.swept (rw found.1 at is))
+
+pub add_strip-requires-clause-rise : goal.add_strip-requires-clause-rise
+add_strip-requires-clause-rise g c = rise-take c.strip_length-count.result _ (rise-take _ _ c.requires.swept.rise)
+
+pub returns-in_err-add_strip-clause-made : goal.returns-in_err-add_strip-clause-made
+returns-in_err-add_strip-clause-made g c = All-some (IsSwept c.args.rects.now) _ _ c.taken_strips.ensures.others c.requires.made
+
+pub returns-clause-made : goal.returns-clause-made
+returns-clause-made g c = All-some (IsSwept c.args.rects.now) _ _ c.taken_strips.ensures.others c.requires.made
+
+pub returns-clause-swept : goal.returns-clause-swept
+returns-clause-swept g c =
+    swept-next c.args.rects.now _ _ _ c.args.swept.now.end c.strip_length-count.result c.requires.swept c.strip_length-count.ensures.below c.in_ok-add_strip.ensures
