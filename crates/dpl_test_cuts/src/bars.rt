@@ -1,6 +1,6 @@
 //! The squares of rectangles that a test lists.
-ghost use Rattle.std.specs.Prelude.{◌≤◌, ◌<ℤ◌, IsTrue, unsigned_abs};
-ghost use Rattle.dpl_spec_split.specs.Loops.{farthest};
+ghost use Rattle.std.specs.Prelude.{◌≤◌, ◌<ℤ◌, IfSome, IsTrue, OnOk, unsigned_abs};
+ghost use Rattle.dpl_spec_split.specs.Loops.{farthest, IsRectWithin, AreRectsWithin};
 
 use dpl_base::{FARTHEST, Rect, Spacing};
 use dpl_slabs::Slabs;
@@ -31,25 +31,38 @@ fn is_span(low: i32, high: i32) -> bool
     true
 }
 
-/// The squares of a rectangle, where it has some.
-fn one(alloc: Global, corners: Corners) -> Result<Slabs, AllocError> {
+/// The rectangle, where it has squares.
+fn rect_of(corners: Corners) -> Option<Rect>
+    ensures { IfSome result (IsRectWithin farthest) }
+{
     let (x0, y0, x1, y1) = corners;
     if is_span(x0, x1) {
         if is_span(y0, y1) {
-            return Slabs::one(alloc, Rect { x0, y0, x1, y1 });
+            return Some(Rect { x0, y0, x1, y1 });
         }
     }
-    Slabs::of_rects(alloc, Vec::new(alloc))
+    None
+}
+
+/// Adds a rectangle, where it has squares.
+fn add_rect(rects: &mut Vec<Rect>, corners: Corners) -> Result<(), AllocError>
+    requires { AreRectsWithin farthest rects.old.items }
+    ensures { OnOk result (AreRectsWithin farthest rects.new.items) }
+{
+    let Some(rect) = rect_of(corners) else {
+        return Ok(());
+    };
+    rects.push(rect)?;
+    Ok(())
 }
 
 /// The squares of some rectangles.
-pub fn set_of(alloc: Global, rects: &[Corners]) -> Result<Slabs, AllocError> {
-    let mut set = Slabs::of_rects(alloc, Vec::new(alloc))?;
-    for corners in rects {
-        let next = one(alloc, *corners)?;
-        set = set.union(alloc, &next)?;
+pub fn set_of(alloc: Global, corners: &[Corners]) -> Result<Slabs, AllocError> {
+    let mut rects = Vec::new(alloc);
+    for next in corners {
+        add_rect(&mut rects, *next)?;
     }
-    Ok(set)
+    Slabs::of_rects(alloc, rects)
 }
 
 /// Whether the rectangles have these corners, one after the other.

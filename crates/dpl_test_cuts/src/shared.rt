@@ -1,10 +1,10 @@
 //! Plans and zones for which several workers find what is near.
 use crate::bars::{Corners, SPACING, set_of};
-use dpl_base::Id;
+use dpl_base::{Id, Zone};
 use dpl_feature::features;
-use dpl_slabs::Parts;
+use dpl_slabs::{Parts, Slabs};
 use dpl_tile::{Plan, plan, plan_by};
-use dpl_zone::{horizontal_zones_by, vertical_zones_by};
+use dpl_zone::{zones, zones_by};
 use std::alloc::{AllocError, Global};
 use std::test::Fail;
 use std::thread::Threads;
@@ -92,8 +92,8 @@ fn workers_find_the_same_meetings(rt: HostRuntime) -> Result<(), Fail> {
     Ok(())
 }
 
-/// How often the bars are repeated.
-const TIMES: u8 = 100;
+/// How often the bars are repeated: so often that workers share them.
+const TIMES: u16 = 3000;
 
 /// A long bar, and two that stand over its ends, or, where it is upright, beside them, again and again, far above one another.
 fn bars(alloc: Global, is_upright: bool) -> Result<Vec<Corners>, AllocError> {
@@ -113,29 +113,25 @@ fn bars(alloc: Global, is_upright: bool) -> Result<Vec<Corners>, AllocError> {
     Ok(rects)
 }
 
-/// The corners of the zones of parts, in order, found by so many workers: of the horizontal ones where `flat` is set, or else of the vertical ones.
+/// The corners of zones.
+fn corners_of(alloc: Global, zones: &[Zone]) -> Result<Vec<Corners>, AllocError> {
+    let mut corners = Vec::new(alloc);
+    for zone in zones {
+        let r = zone.rect;
+        corners.push((r.x0, r.y0, r.x1, r.y1))?;
+    }
+    Ok(corners)
+}
+
+/// The corners of the zones of parts, in order, found by so many workers, at least one.
 fn corners_by<R: Threads + Sync>(
     rt: &R,
     alloc: Global,
     parts: &Parts,
-    flat: bool,
     workers: u32,
 ) -> Result<Vec<Corners>, AllocError> {
-    let mut corners = Vec::new(alloc);
-    if workers < 1 {
-        return Ok(corners);
-    }
-    let zones = if flat {
-        horizontal_zones_by(rt, alloc, parts, SPACING, 10, workers)?
-    } else {
-        vertical_zones_by(rt, alloc, parts, SPACING, 10, workers)?
-    };
-    for zone in &zones {
-        let r = zone.rect;
-        corners.push((r.x0, r.y0, r.x1, r.y1))?;
-    }
-    corners.sort_unstable();
-    Ok(corners)
+    let zones = zones_by(rt, alloc, parts, SPACING, 10, &Slabs::empty(alloc), workers)?;
+    corners_of(alloc, &zones)
 }
 
 /// The corners of the zones in the long bars, in order.
@@ -155,17 +151,47 @@ fn in_long_bars(alloc: Global, are_upright: bool) -> Result<Vec<Corners>, AllocE
 #[test]
 fn workers_find_the_same_zones(rt: HostRuntime) -> Result<(), Fail> {
     let alloc = rt.alloc();
-    // What stands over flat bars is found in one strip, what stands beside upright ones in each of a hundred.
+    // What stands over flat bars is found in one strip, what stands beside upright ones in each of many.
     for are_upright in [false, true] {
         let set = set_of(alloc, &bars(alloc, are_upright)?)?;
         let parts = features(alloc, &set)?;
         let want = in_long_bars(alloc, are_upright)?;
         for workers in WORKERS {
-            let zones = corners_by(&rt, alloc, &parts, !are_upright, workers)?;
-            assert!(rt; zones == want, "by {workers} workers");
-            let others = corners_by(&rt, alloc, &parts, are_upright, workers)?;
-            assert!(rt; others.is_empty(), "by {workers} workers");
+            let found = corners_by(&rt, alloc, &parts, workers)?;
+            assert!(rt; found == want, "by {workers} workers");
         }
+    }
+    Ok(())
+}
+
+/// How many rungs the ladder has: so many that workers share its columns.
+const RUNGS: u16 = 8200;
+
+/// A ladder, which is one feature.
+fn ladder(alloc: Global) -> Result<Vec<Corners>, AllocError> {
+    let top = 100 * RUNGS as i32;
+    let mut rects = Vec::new(alloc);
+    rects.push((0, 0, 20, top))?;
+    rects.push((158, 0, 178, top))?;
+    for k in 0..RUNGS {
+        let y = 100 * k as i32;
+        rects.push((20, y + 40, 158, y + 60))?;
+    }
+    Ok(rects)
+}
+
+#[test]
+fn workers_find_the_zones_of_one_feature(rt: HostRuntime) -> Result<(), Fail> {
+    let alloc = rt.alloc();
+    let set = set_of(alloc, &ladder(alloc)?)?;
+    let parts = features(alloc, &set)?;
+    let found = zones(alloc, &parts, SPACING, 10, &Slabs::empty(alloc))?;
+    // One in each rung, and two between a rung and the next.
+    assert_eq!(rt; found.len(), 24_598);
+    let want = corners_of(alloc, &found)?;
+    for workers in WORKERS {
+        let found = corners_by(&rt, alloc, &parts, workers)?;
+        assert!(rt; found == want, "by {workers} workers");
     }
     Ok(())
 }

@@ -6,8 +6,6 @@ mod dealt;
 mod features;
 mod touching;
 mod whole;
-mod zoned;
 
 pub use features::features_by;
 pub use whole::cut_by;
-pub use zoned::zones_by;

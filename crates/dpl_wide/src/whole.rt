@@ -5,12 +5,12 @@ ghost use Rattle.dpl_spec_split.specs.Marks.{Marks};
 ghost use Rattle.dpl_piece.specs.View.{IsMarkedSet};
 ghost use Rattle.dpl_cut.specs.Cutting.{HasPointKeys, IsBareCutOf};
 
-use crate::zoned::zones_by;
 use dpl_base::Spacing;
 use dpl_cut::{BareLayerCut, cut_of};
 use dpl_feature::features;
 use dpl_piece::bare_pieces_by;
 use dpl_slabs::Slabs;
+use dpl_zone::zones_by;
 use std::alloc::{AllocError, Global};
 use std::thread::Threads;
 

@@ -12,14 +12,13 @@ use crate::items::{columns_of_parts, slabs_of_parts};
 use crate::kept::joined;
 use crate::marked::unmarked;
 use crate::order::{each_once, sort_zones};
-use crate::slab_zones::{upright_zones, upright_zones_by};
+use crate::slab_zones::upright_zones;
 use dpl_base::{Spacing, Zone, transposed};
 use dpl_slabs::{Parts, Slabs};
 use std::alloc::{AllocError, Global};
-use std::thread::Threads;
 
 /// Exchanges x and y of each zone where it stands.
-fn transpose(zones: &mut Vec<Zone>)
+pub(crate) fn transpose(zones: &mut Vec<Zone>)
     ensures { zones.new.items ≡ map transposed_zone zones.old.items }
 {
     for i in 0..zones.len() {
@@ -33,17 +32,17 @@ fn transpose(zones: &mut Vec<Zone>)
 
 /// Zones of parts before it is known which are kept: the horizontal and the vertical ones, each in no order, and what they were sought by.
 #[derive(Drop)]
-pub struct Found {
-    pub spacing: Spacing,
-    pub overlap: u32,
-    pub horizontal: Vec<Zone>,
-    pub vertical: Vec<Zone>,
+pub(crate) struct Found {
+    pub(crate) spacing: Spacing,
+    pub(crate) overlap: u32,
+    pub(crate) horizontal: Vec<Zone>,
+    pub(crate) vertical: Vec<Zone>,
 }
 
 /// The horizontal zones of parts, in no order, whether marked or not.
 ///
 /// The error: out of memory.
-pub fn horizontal_zones(
+fn horizontal_zones(
     alloc: Global,
     parts: &Parts,
     spacing: Spacing,
@@ -61,7 +60,7 @@ pub fn horizontal_zones(
 /// The vertical zones of parts, in no order, whether marked or not, those too that touch a horizontal one.
 ///
 /// The error: out of memory.
-pub fn vertical_zones(
+fn vertical_zones(
     alloc: Global,
     parts: &Parts,
     spacing: Spacing,
@@ -74,50 +73,10 @@ pub fn vertical_zones(
     upright_zones(alloc, slabs, spacing, overlap)
 }
 
-/// The horizontal zones of parts, in no order, as `horizontal_zones` gives them. What is near each slab is found by so many workers, each in a thread of its own, if one can be made; with one worker none is made.
-///
-/// The error: out of memory.
-pub fn horizontal_zones_by<R: Threads + Sync>(
-    rt: &R,
-    alloc: Global,
-    parts: &Parts,
-    spacing: Spacing,
-    overlap: u32,
-    workers: u32,
-) -> Result<Vec<Zone>, AllocError>
-    requires corner { spacing.corner ≤ spacing.rule }
-    requires workers { 1 ≤ workers }
-    ensures { IfOk result (λ v. AreFlat spacing overlap parts.now v.items) }
-{
-    let columns = columns_of_parts(alloc, parts.items())?;
-    let mut zones = upright_zones_by(rt, alloc, columns, spacing, overlap, workers)?;
-    transpose(&mut zones);
-    Ok(zones)
-}
-
-/// The vertical zones of parts, in no order, as `vertical_zones` gives them. What is near each slab is found by so many workers, each in a thread of its own, if one can be made; with one worker none is made.
-///
-/// The error: out of memory.
-pub fn vertical_zones_by<R: Threads + Sync>(
-    rt: &R,
-    alloc: Global,
-    parts: &Parts,
-    spacing: Spacing,
-    overlap: u32,
-    workers: u32,
-) -> Result<Vec<Zone>, AllocError>
-    requires corner { spacing.corner ≤ spacing.rule }
-    requires workers { 1 ≤ workers }
-    ensures { IfOk result (λ v. AreUpright spacing overlap parts.now v.items) }
-{
-    let slabs = slabs_of_parts(alloc, parts.items())?;
-    upright_zones_by(rt, alloc, slabs, spacing, overlap, workers)
-}
-
 /// The zones of parts that are kept, as `zones` gives them, by their horizontal and their vertical ones.
 ///
 /// The error: out of memory.
-pub fn zones_among(
+pub(crate) fn zones_among(
     alloc: Global,
     parts: &Parts,
     found: Found,

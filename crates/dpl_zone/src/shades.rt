@@ -304,6 +304,14 @@ fn portion_end(found: &[Shade], n: u32, start: usize) -> usize
     found.len()
 }
 
+/// The place at which the shades of item `n` begin.
+pub(crate) fn portion_start(found: &[Shade], n: u32) -> usize
+    requires { NumbersRise found.now }
+    ensures { IsStart found.now n result }
+{
+    found.partition_point(|s| s.number < n)
+}
+
 /// Where the shades of item `n` stand, which begin at place `start`.
 pub(crate) fn portion_from(found: &[Shade], n: u32, start: usize) -> Portion
     requires rise { NumbersRise found.now }

@@ -8,6 +8,7 @@ ghost use Rattle.dpl_spec_split.specs.Squares.{IsSolidWithin};
 ghost use Rattle.dpl_slabs.specs.Parts.{AreApart};
 ghost use Rattle.dpl_join.specs.Pairs.{item_at};
 ghost use Rattle.dpl_zone.specs.Ends.{AreEnds};
+ghost use Rattle.dpl_zone.specs.ItemZones.{AreOfItems};
 ghost use Rattle.dpl_zone.specs.Owned.{AreInOrder, AreOwnedWithin, AreSets, OwnersRise};
 ghost use Rattle.dpl_zone.specs.Rows.{AddsZones, AreTall, GoesAbove, GoesBelow, IsLitZone, IsMiddleOf, IsOpenSpan, RiseByFrom, SomeRow};
 ghost use Rattle.dpl_zone.specs.Shading.{AreShades, IsPortion, IsShort};
@@ -15,11 +16,11 @@ ghost use Rattle.dpl_zone.specs.Ways.{AreUpright, IsItemZone};
 
 use crate::ends::{Ends, ends_of};
 use crate::rows::{Span, gaps};
-use crate::shades::{Portion, Shades, portion_from, rows_at, shades_by, shades_of};
+use crate::shades::{Portion, Shades, portion_from, portion_start, rows_at, shades_by, shades_of};
 use dpl_base::{Rect, Spacing, Zone};
 use dpl_join::{Item, Join};
 use std::alloc::{AllocError, Global};
-use std::thread::Threads;
+use std::thread::{Threads, join};
 
 /// Room for what is found at one item, used again for the next: the rows of its shades, the spans between them, and its zones.
 #[derive(Drop)]
@@ -217,6 +218,81 @@ fn add_item(
     Ok(())
 }
 
+/// The zones of the items from number `start` up to but not `end`.
+fn zones_between(
+    alloc: Global,
+    items: &[Item],
+    ends: &[Ends],
+    shades: &Shades,
+    start: usize,
+    end: usize,
+) -> Result<Vec<Zone>, AllocError>
+    requires few { length items.now < 2 ^ 32 }
+    requires range { start ≤ end }
+    requires known { end ≤ length items.now }
+    requires within { AreOwnedWithin items.now }
+    requires shades { AreShades items.now shades.now }
+    requires ends { AreEnds items.now shades.now.dead.items ends.now }
+    ensures { IfOk result (λ v. AreOfItems (IsItemZone shades.now.spacing shades.now.overlap items.now) items.now start end v.items) }
+{
+    let mut zones = Vec::new(alloc);
+    let mut room = Room::new(alloc);
+    let mut place = portion_start(&shades.found, start as u32);
+    for n in start..end {
+        let at = portion_from(&shades.found, n as u32, place);
+        add_item(&mut zones, &mut room, items, at, ends, shades)?;
+        place = at.end;
+    }
+    Ok(zones)
+}
+
+/// How many items there are at least, where workers share them. The zones of fewer are found while a thread is made.
+const MANY: usize = 8192;
+
+/// The zones of the items from number `start` up to but not `end`, by so many workers, each of whom has as many items.
+#[cycle(zones)]
+fn zones_between_by<R: Threads + Sync>(
+    rt: &R,
+    alloc: Global,
+    items: &[Item],
+    ends: &[Ends],
+    shades: &Shades,
+    start: usize,
+    end: usize,
+    workers: u32,
+) -> Result<Vec<Zone>, AllocError>
+    requires few { length items.now < 2 ^ 32 }
+    requires range { start ≤ end }
+    requires known { end ≤ length items.now }
+    requires within { AreOwnedWithin items.now }
+    requires shades { AreShades items.now shades.now }
+    requires ends { AreEnds items.now shades.now.dead.items ends.now }
+    requires workers { 1 ≤ workers }
+    ensures { IfOk result (λ v. AreOfItems (IsItemZone shades.now.spacing shades.now.overlap items.now) items.now start end v.items) }
+{
+    let count = end - start;
+    if workers == 1 || count < MANY {
+        return zones_between(alloc, items, ends, shades, start, end);
+    }
+    let half = workers / 2;
+    let others = workers - half;
+    let share = (count / workers as usize).saturating_mul(half as usize);
+    let middle = start + share.min(count);
+    let front = || -> Result<Vec<Zone>, AllocError>
+        requires { (length items.now < 2 ^ 32) × (start ≤ middle) × (middle ≤ length items.now) × AreOwnedWithin items.now × AreShades items.now shades.now × AreEnds items.now shades.now.dead.items ends.now × (1 ≤ half) }
+        ensures { IfOk result (λ v. AreOfItems (IsItemZone shades.entry.now.spacing shades.entry.now.overlap items.entry.now) items.entry.now start middle v.items) }
+    { zones_between_by(rt, alloc, items, ends, shades, start, middle, half) };
+    let back = || -> Result<Vec<Zone>, AllocError>
+        requires { (length items.now < 2 ^ 32) × (middle ≤ end) × (end ≤ length items.now) × AreOwnedWithin items.now × AreShades items.now shades.now × AreEnds items.now shades.now.dead.items ends.now × (1 ≤ others) }
+        ensures { IfOk result (λ v. AreOfItems (IsItemZone shades.entry.now.spacing shades.entry.now.overlap items.entry.now) items.entry.now middle end v.items) }
+    { zones_between_by(rt, alloc, items, ends, shades, middle, end, others) };
+    let (first, second) = join(rt, front, back);
+    let mut zones = first?;
+    let mut rest = second?;
+    zones.append(&mut rest)?;
+    Ok(zones)
+}
+
 /// The zones of all items.
 fn zones_of_items(
     alloc: Global,
@@ -230,15 +306,26 @@ fn zones_of_items(
     requires ends { AreEnds items.now shades.now.dead.items ends.now }
     ensures { IfOk result (λ v. (z : Zone) → Contains v.items z ↔ ((n : ℕ) × (n < length items.now) × (z.feature ≡ (item_at items.now n).owner) × IsItemZone shades.now.spacing shades.now.overlap items.now n z.rect)) }
 {
-    let mut zones = Vec::new(alloc);
-    let mut room = Room::new(alloc);
-    let mut start = 0;
-    for n in 0..items.len() {
-        let at = portion_from(&shades.found, n as u32, start);
-        add_item(&mut zones, &mut room, items, at, ends, shades)?;
-        start = at.end;
-    }
-    Ok(zones)
+    zones_between(alloc, items, ends, shades, 0, items.len())
+}
+
+/// The zones of all items, by so many workers.
+fn zones_of_items_by<R: Threads + Sync>(
+    rt: &R,
+    alloc: Global,
+    items: &[Item],
+    ends: &[Ends],
+    shades: &Shades,
+    workers: u32,
+) -> Result<Vec<Zone>, AllocError>
+    requires few { length items.now < 2 ^ 32 }
+    requires within { AreOwnedWithin items.now }
+    requires shades { AreShades items.now shades.now }
+    requires ends { AreEnds items.now shades.now.dead.items ends.now }
+    requires workers { 1 ≤ workers }
+    ensures { IfOk result (λ v. (z : Zone) → Contains v.items z ↔ ((n : ℕ) × (n < length items.now) × (z.feature ≡ (item_at items.now n).owner) × IsItemZone shades.now.spacing shades.now.overlap items.now n z.rect)) }
+{
+    zones_between_by(rt, alloc, items, ends, shades, 0, items.len(), workers)
 }
 
 /// The vertical zones of all owners, in no order. Where each item is too short for one, no shade is looked for. So many rectangles that their numbers don't fit into 32 bits are refused as out of memory.
@@ -267,7 +354,7 @@ pub(crate) fn upright_zones(
     zones_of_items(alloc, &items, &ends, &shades)
 }
 
-/// The vertical zones of all owners, in no order, as `upright_zones` gives them. What is near each item is found by so many workers.
+/// The vertical zones of all owners, in no order, as `upright_zones` gives them, by so many workers.
 pub(crate) fn upright_zones_by<R: Threads + Sync>(
     rt: &R,
     alloc: Global,
@@ -293,5 +380,5 @@ pub(crate) fn upright_zones_by<R: Threads + Sync>(
     let shades = shades_by(rt, alloc, &join, spacing, overlap, workers)?;
     let items = join.into_items();
     let ends = ends_of(alloc, &items, &shades.dead)?;
-    zones_of_items(alloc, &items, &ends, &shades)
+    zones_of_items_by(rt, alloc, &items, &ends, &shades, workers)
 }

@@ -15,11 +15,11 @@ ends_of-requires-clause-order g c = subst AreInOrder (sym (c.deref-2.ensures.val
 pub ends_of-requires-clause-within : goal.ends_of-requires-clause-within
 ends_of-requires-clause-within g c = subst AreOwnedWithin (sym (c.deref-2.ensures.value ∙ (c.into_items-items.ensures ∙ c.in_ok-join.ensures.items))) c.requires.within
 
-pub zones_of_items-requires-clause-within : goal.zones_of_items-requires-clause-within
-zones_of_items-requires-clause-within g c = subst AreOwnedWithin (sym (c.deref-4.ensures.value ∙ (c.into_items-items.ensures ∙ c.in_ok-join.ensures.items))) c.requires.within
+pub zones_of_items_by-requires-clause-within : goal.zones_of_items_by-requires-clause-within
+zones_of_items_by-requires-clause-within g c κs l = subst AreOwnedWithin (sym (c.deref-4.ensures.value ∙ (c.into_items-items.ensures ∙ c.in_ok-join.ensures.items))) c.requires.within
 
-pub zones_of_items-requires-clause-shades : goal.zones_of_items-requires-clause-shades
-zones_of_items-requires-clause-shades g c = subst (λ (xs : List Item). AreShades xs c.in_ok-shades.shades) (sym (c.deref-4.ensures.value ∙ c.into_items-items.ensures)) c.in_ok-shades.ensures.shades
+pub zones_of_items_by-requires-clause-shades : goal.zones_of_items_by-requires-clause-shades
+zones_of_items_by-requires-clause-shades g c κs l = subst (λ (xs : List Item). AreShades xs c.in_ok-shades.shades) (sym (c.deref-4.ensures.value ∙ c.into_items-items.ensures)) c.in_ok-shades.ensures.shades
 
 pub are_short-requires : goal.are_short-requires
 are_short-requires g c = rw c.deref.ensures.value c.requires.within
@@ -32,5 +32,5 @@ returns-then-are_short g c parts sets apart =
 pub returns : goal.returns
 returns g c parts sets apart =
     let same : c.deref-4.result.now ≡ c.args.items.items = c.deref-4.ensures.value ∙ (c.into_items-items.ensures ∙ c.in_ok-join.ensures.items) in
-    IfOk-weaker c.zones_of_items.result _ _ (λ v are. upright-all c.args.spacing c.requires.corner c.args.overlap parts c.args.items.items sets apart c.requires.within v.items
-    (rw (same, c.in_ok-shades.ensures.spacing, c.in_ok-shades.ensures.overlap) at are)) c.zones_of_items.ensures
+    IfOk-weaker c.zones_of_items_by.result _ _ (λ v are. upright-all c.args.spacing c.requires.corner c.args.overlap parts c.args.items.items sets apart c.requires.within v.items
+    (rw (same, c.in_ok-shades.ensures.spacing, c.in_ok-shades.ensures.overlap) at are)) c.zones_of_items_by.ensures

@@ -1,5 +1,5 @@
 use Rattle.dpl_zone.proofs.OwnedLaws.{sets-within}
-use Rattle.dpl_zone.proofs.all.vertical_zones_by.Goals as goal
+use Rattle.dpl_zone.proofs.zoned.vertical_zones_by.Goals as goal
 
 pub upright_zones_by-requires-clause-within : goal.upright_zones_by-requires-clause-within
 upright_zones_by-requires-clause-within g c κs l = sets-within c.items.result.now _ c.in_ok-slabs.ensures.sets

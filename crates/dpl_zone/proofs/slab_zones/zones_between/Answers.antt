@@ -1,0 +1,23 @@
+use Rattle.std.proofs.Common.{◌≡◌, arith}
+use Rattle.dpl_zone.specs.Ways.{IsItemZone}
+use Rattle.dpl_zone.proofs.SharedLaws.{of-more, of-none}
+use Rattle.dpl_zone.proofs.slab_zones.zones_between.Goals as goal
+
+pub loop-n-init : goal.loop-n-init
+loop-n-init c = (
+  of-none (IsItemZone c.args.shades.now.spacing c.args.shades.now.overlap c.args.items.now) c.args.items.now c.args.start _ c.new-zones.ensures.items,
+  rw c.deref.ensures.value at c.portion_start-place.ensures,
+)
+
+pub loop-n-preserved : goal.loop-n-preserved
+loop-n-preserved c =
+    let own : c.portion_from-at.result.number ≡ c.loop-n.n = c.portion_from-at.ensures.number in (
+      of-more (IsItemZone c.args.shades.now.spacing c.args.shades.now.overlap c.args.items.now) c.args.items.now c.args.start c.loop-n.n c.loop-n.zones.items _ (omega arith) c.loop-n.invariant.0
+          (rw own at c.in_ok-add_item.ensures),
+      rw (c.deref-in-loop-n.ensures.value, own) at c.portion_from-at.ensures.portion.end,
+    )
+
+pub returns : goal.returns
+returns c =
+    let e : c.loop-n.n ≡ c.args.end = omega arith in
+    rw e at c.loop-n.invariant.0
