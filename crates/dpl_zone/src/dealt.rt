@@ -85,7 +85,14 @@ fn add_found(shades: &mut Shades, mut other: Shades) -> Result<(), AllocError>
     Ok(())
 }
 
-/// The shades of all pairs of a join, and those that are known before. Each pair is looked at by one of so many workers.
+/// How many of the workers look for shades in the strips of a join: no more than there are strips.
+fn workers_for(join: &Join, workers: u32) -> usize
+    ensures { 1 ≤ result }
+{
+    (workers as usize).min(join.strips()).max(1)
+}
+
+/// The shades of all pairs of a join, and those that are known before. Each pair is looked at by one of so many workers, or of as many as there are strips.
 pub(crate) fn all_dealt<R: Threads + Sync>(
     rt: &R,
     alloc: Global,
@@ -102,12 +109,12 @@ pub(crate) fn all_dealt<R: Threads + Sync>(
     ensures more { IfOk result (IsMore known) }
     ensures handles { IfOk result (λ t. (p : ℕ × ℕ) → IsPair join.now.rule join.now.items p → HandlesBoth join.now.items t p) }
 {
-    let workers = workers as usize;
+    let count = workers_for(join, workers);
     let mut shares = map_indices(
         rt,
         alloc,
-        workers,
-        &|worker| { dealt_shades(alloc, join, &known, worker, workers) },
+        count,
+        &|worker| { dealt_shades(alloc, join, &known, worker, count) },
     )?;
     let mut shades = known;
     while let Some(share) = shares.pop() {
