@@ -19,7 +19,8 @@ pub zones_of_items_by-requires-clause-within : goal.zones_of_items_by-requires-c
 zones_of_items_by-requires-clause-within g c κs l = subst AreOwnedWithin (sym (c.deref-4.ensures.value ∙ (c.into_items-items.ensures ∙ c.in_ok-join.ensures.items))) c.requires.within
 
 pub zones_of_items_by-requires-clause-shades : goal.zones_of_items_by-requires-clause-shades
-zones_of_items_by-requires-clause-shades g c κs l = subst (λ (xs : List Item). AreShades xs c.in_ok-shades.shades) (sym (c.deref-4.ensures.value ∙ c.into_items-items.ensures)) c.in_ok-shades.ensures.shades
+zones_of_items_by-requires-clause-shades g c κs l =
+    subst (λ (xs : List Item). AreShades xs c.in_ok-shades.shades) (sym (c.deref-4.ensures.value ∙ c.into_items-items.ensures)) c.in_ok-shades.ensures.shades
 
 pub are_short-requires : goal.are_short-requires
 are_short-requires g c = rw c.deref.ensures.value c.requires.within
