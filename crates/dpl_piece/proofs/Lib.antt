@@ -14,3 +14,5 @@ pub mod WholeLaws
 pub mod Ranks
 pub mod Places
 pub mod MadeLaws
+pub mod Bars
+pub mod StandingLaws

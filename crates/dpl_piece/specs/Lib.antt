@@ -5,3 +5,5 @@ pub mod Made
 pub mod Wholes
 pub mod Noted
 pub mod View
+pub mod Bars
+pub mod Standing

@@ -1,6 +1,8 @@
 //! The pieces that stitch zones leave of features.
 #![tactic(auto)]
 
+mod arrange;
+mod bar;
 mod bare;
 mod corner;
 mod cut;
@@ -12,6 +14,7 @@ mod own;
 mod piece;
 mod rank;
 mod rest;
+mod standing;
 
 pub use bare::BarePieces;
 pub use cut::{bare_pieces, bare_pieces_by, pieces};

@@ -6,6 +6,7 @@ ghost use Rattle.dpl_piece.specs.Cutting.{AreFeatures, AreTheirZones};
 ghost use Rattle.dpl_piece.specs.Made.{AreMadeOf, IsMade};
 ghost use Rattle.dpl_piece.specs.Pieces.{broken_piece, rect_at, AreBroken, AreZonesFrom};
 
+use crate::bar::bar_parts;
 use crate::noted::{Noted, note_sides};
 use crate::own::{feature_of, holes_at, own_count, rest_from, short_numbers, zones_at};
 use crate::piece::{Origin, Piece};
@@ -50,6 +51,11 @@ pub fn broken(alloc: Global, feature: &Slabs, holes: Vec<Rect>) -> Result<Vec<Sl
     requires { AreRectsWithin farthest holes.items }
     ensures { IfOk result (λ v. AreBroken feature.now holes.items v.items) }
 {
+    if let [bar] = feature.rects()
+        && let Some(parts) = bar_parts(alloc, bar, &holes)?
+    {
+        return Ok(parts);
+    }
     let left = Slabs::of_rects_without(alloc, feature.rects(), &holes)?;
     drop(holes);
     let parts = dpl_feature::features(alloc, &left)?;

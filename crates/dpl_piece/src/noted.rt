@@ -7,8 +7,12 @@ ghost use Rattle.dpl_piece.specs.Pieces.{parts_in};
 
 use crate::corner::{Corner, Kind, count_before, slab_corners, zone_corners};
 use crate::piece::Piece;
+use crate::standing::{Side, note_beside};
 use dpl_base::{Id, Zone, short_id};
 use std::alloc::{AllocError, Global};
+
+/// For how many zones of a feature pieces are sought among all slabs, without sorting those.
+const FEW_ZONES: usize = 8;
 
 /// The pieces on the two sides of each zone, as far as they are noted, and two lists of corners that are made for one feature after the other.
 #[derive(Drop)]
@@ -128,6 +132,11 @@ pub fn note_sides(
         return Ok(());
     }
     short_id(pieces.len() as Id)?;
+    if own.len() <= FEW_ZONES {
+        note_beside(&mut noted.firsts, zones, own, pieces, from, Side::Before);
+        note_beside(&mut noted.seconds, zones, own, pieces, from, Side::After);
+        return Ok(());
+    }
     note_firsts(noted, zones, own, pieces, from)?;
     note_seconds(noted, zones, own, pieces, from)
 }

@@ -11,6 +11,7 @@ ghost use Rattle.dpl_piece.specs.Noted.{AreMoved, IsSortedWith};
 ghost use Rattle.dpl_piece.specs.Pieces.{least_key, rect_at, parts_in, AddsPieces, AreCut, AreZonesFrom, RiseByLeast};
 ghost use Rattle.dpl_piece.specs.Wholes.{whole_of, AreWholes, KeepsWhole};
 
+use crate::arrange::arrange;
 use crate::made::{Made, add_parts, broken, taken};
 use crate::noted::{Noted, note_moved, note_sides};
 use crate::own::{holes_at, own_count};
@@ -96,7 +97,7 @@ fn add_made(
 }
 
 /// The row and the column of the first slab's lower left corner.
-fn least_key(part: &Slabs) -> (i32, i32)
+pub fn least_key(part: &Slabs) -> (i32, i32)
     ensures { result ≡ least_key part.now }
 {
     match part.rects().first() {
@@ -105,12 +106,14 @@ fn least_key(part: &Slabs) -> (i32, i32)
     }
 }
 
-/// Sorts pieces by their least squares.
-fn sort_by_least(pieces: &mut Vec<Piece>)
-    ensures same { IsPermutation pieces.old.items pieces.new.items }
-    ensures rise { RiseByLeast pieces.new.items }
+/// Sorts pieces by their least squares. Each has its place for its number.
+fn sort_by_least(alloc: Global, pieces: &mut Vec<Piece>) -> Result<(), AllocError>
+    ensures same { OnOk result (IsPermutation pieces.old.items pieces.new.items) }
+    ensures rise { OnOk result (RiseByLeast pieces.new.items) }
 {
+    arrange(alloc, pieces)?;
     sort_by_key(pieces, |piece| least_key(&piece.part));
+    Ok(())
 }
 
 /// Sorts pieces by their least squares. The numbers that were noted are those of pieces by place; returns their places once they are sorted.
@@ -126,7 +129,7 @@ fn sort_with_sides(
 {
     short_id(pieces.len() as Id)?;
     number_all(pieces);
-    sort_by_least(pieces);
+    sort_by_least(alloc, pieces)?;
     let ranks = ranks_of(alloc, pieces)?;
     ranked(alloc, &ranks, &noted.firsts, &noted.seconds)
 }

@@ -49,6 +49,24 @@ const THREE_OVER: [Corners; 4] = [
     (216, 40, 266, 60),
 ];
 
+/// The bars, on end.
+const UPRIGHT: [Corners; 3] = [(0, 0, 20, 158), (40, 0, 60, 50), (40, 108, 60, 158)];
+
+/// A bar, and ten that stand over it, with a zone between any two neighbours.
+const TEN_OVER: [Corners; 11] = [
+    (0, 0, 1022, 20),
+    (0, 40, 50, 60),
+    (108, 40, 158, 60),
+    (216, 40, 266, 60),
+    (324, 40, 374, 60),
+    (432, 40, 482, 60),
+    (540, 40, 590, 60),
+    (648, 40, 698, 60),
+    (756, 40, 806, 60),
+    (864, 40, 914, 60),
+    (972, 40, 1022, 60),
+];
+
 /// The bars, the longer bar with those over it, and the square with a hole, one above the other.
 const THREE_BROKEN: [Corners; 11] = [
     (0, 0, 158, 20),
@@ -121,7 +139,7 @@ struct Layer {
     sides: &'static [(Id, Id)],
 }
 
-const LAYERS: [Layer; 5] = [
+const LAYERS: [Layer; 7] = [
     Layer {
         rects: &BARS,
         zones: &[(74, 0, 84, 20)],
@@ -148,6 +166,62 @@ const LAYERS: [Layer; 5] = [
         keys: &[(0, 0), (84, 0), (192, 0), (0, 40), (108, 40), (216, 40)],
         owner: &[0, 0, 0, 1, 2, 3],
         sides: &[(0, 1), (1, 2)],
+    },
+    Layer {
+        rects: &UPRIGHT,
+        zones: &[(0, 74, 20, 84)],
+        keys: &[(0, 0), (40, 0), (0, 84), (40, 108)],
+        owner: &[0, 1, 0, 2],
+        sides: &[(0, 2)],
+    },
+    // a bar with more than eight zones
+    Layer {
+        rects: &TEN_OVER,
+        zones: &[
+            (74, 0, 84, 20),
+            (182, 0, 192, 20),
+            (290, 0, 300, 20),
+            (398, 0, 408, 20),
+            (506, 0, 516, 20),
+            (614, 0, 624, 20),
+            (722, 0, 732, 20),
+            (830, 0, 840, 20),
+            (938, 0, 948, 20),
+        ],
+        keys: &[
+            (0, 0),
+            (84, 0),
+            (192, 0),
+            (300, 0),
+            (408, 0),
+            (516, 0),
+            (624, 0),
+            (732, 0),
+            (840, 0),
+            (948, 0),
+            (0, 40),
+            (108, 40),
+            (216, 40),
+            (324, 40),
+            (432, 40),
+            (540, 40),
+            (648, 40),
+            (756, 40),
+            (864, 40),
+            (972, 40),
+        ],
+        owner: &[0, 0, 0, 0, 0, 0, 0, 0, 0, 0, 1, 2, 3, 4, 5, 6, 7, 8, 9, 10],
+        sides: &[
+            (0, 1),
+            (1, 2),
+            (2, 3),
+            (3, 4),
+            (4, 5),
+            (5, 6),
+            (6, 7),
+            (7, 8),
+            (8, 9),
+        ],
     },
     // both sides of a zone are one piece
     Layer {

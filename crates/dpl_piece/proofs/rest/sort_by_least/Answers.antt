@@ -1,9 +1,18 @@
-use Rattle.std.proofs.Common.{rules}
+use Rattle.std.proofs.Common.{length, drop, ◌∙◌, rules}
 use Rattle.std.specs.Prelude.{ℤ}
-use Rattle.std.proofs.lemmas.List.Sorted.{answers_always}
+use Rattle.std.specs.List.Sorted.{IsPermutation}
+use Rattle.std.proofs.lemmas.List.Sorted.{answers_always, IsPermutation-trans, length_permutation}
 use Rattle.dpl_piece.specs.declared.piece.Piece.{Piece}
 use Rattle.dpl_piece.specs.Pieces.{least_key}
+use Rattle.dpl_piece.proofs.Noting.{written-back}
 use Rattle.dpl_piece.proofs.rest.sort_by_least.Goals as goal
+
+pub returns-clause-same : goal.returns-clause-same
+returns-clause-same c =
+    let arranged = rw c.deref_mut.ensures.value at c.in_ok-arrange.ensures in
+    let same = written-back c.arrange.new.pieces (drop (length c.arrange.new.pieces) c.args.pieces.now.items) c.args.pieces.now.len
+    (length_permutation _ _ c.in_ok-arrange.ensures ∙ c.deref_mut.ensures.len) in
+    IsPermutation-trans _ _ _ arranged (rw same at c.sort_by_key.ensures.permutation)
 
 pub returns-clause-rise : goal.returns-clause-rise
 returns-clause-rise c =

@@ -14,7 +14,7 @@ ranks_of-requires-clause-few c =
     let new : List Piece = c.sort_by_least.new.pieces.items in
     let are : AreNumbered old numbered = rw c.deref_mut.ensures.value at c.number_all.ensures in
     let same : IsPermutation numbered new = rw (written-back numbered (drop (length numbered) old) c.args.pieces.now.len (c.number_all.ensures.each ∙ c.deref_mut.ensures.len))
-    at c.sort_by_least.ensures.same in
+    at c.in_ok-sort_by_least.ensures.same in
     let few : length c.deref_mut.result.now < 4294967296 = search rules in
     rw c.deref.ensures.value (omega (arith, few, ap length c.deref_mut.ensures.value, long old numbered new are same))
 
@@ -25,7 +25,7 @@ ranks_of-requires-clause-known c =
     let new : List Piece = c.sort_by_least.new.pieces.items in
     let are : AreNumbered old numbered = rw c.deref_mut.ensures.value at c.number_all.ensures in
     let same : IsPermutation numbered new = rw (written-back numbered (drop (length numbered) old) c.args.pieces.now.len (c.number_all.ensures.each ∙ c.deref_mut.ensures.len))
-    at c.sort_by_least.ensures.same in
+    at c.in_ok-sort_by_least.ensures.same in
     rw c.deref.ensures.value (numbers-known old numbered new are same)
 
 pub ranked-requires-clause-firsts : goal.ranked-requires-clause-firsts
@@ -35,7 +35,7 @@ ranked-requires-clause-firsts c =
     let new : List Piece = c.sort_by_least.new.pieces.items in
     let are : AreNumbered old numbered = rw c.deref_mut.ensures.value at c.number_all.ensures in
     let same : IsPermutation numbered new = rw (written-back numbered (drop (length numbered) old) c.args.pieces.now.len (c.number_all.ensures.each ∙ c.deref_mut.ensures.len))
-    at c.sort_by_least.ensures.same in
+    at c.in_ok-sort_by_least.ensures.same in
     let ranks = rw c.deref.ensures.value at c.in_ok-ranks.ensures in
     rw (c.deref-2.ensures.value, c.deref-3.ensures.value)
     (λ j d j_in. (let l = c.requires.firsts j d j_in in omega (arith, l, ranks.each, long old numbered new are same)))
@@ -47,7 +47,7 @@ ranked-requires-clause-seconds c =
     let new : List Piece = c.sort_by_least.new.pieces.items in
     let are : AreNumbered old numbered = rw c.deref_mut.ensures.value at c.number_all.ensures in
     let same : IsPermutation numbered new = rw (written-back numbered (drop (length numbered) old) c.args.pieces.now.len (c.number_all.ensures.each ∙ c.deref_mut.ensures.len))
-    at c.sort_by_least.ensures.same in
+    at c.in_ok-sort_by_least.ensures.same in
     let ranks = rw c.deref.ensures.value at c.in_ok-ranks.ensures in
     rw (c.deref-2.ensures.value, c.deref-4.ensures.value)
     (λ j d j_in. (let l = c.requires.seconds j d j_in in omega (arith, l, ranks.each, long old numbered new are same)))
@@ -59,14 +59,14 @@ returns c =
     let new : List Piece = c.sort_by_least.new.pieces.items in
     let are : AreNumbered old numbered = rw c.deref_mut.ensures.value at c.number_all.ensures in
     let same : IsPermutation numbered new = rw (written-back numbered (drop (length numbered) old) c.args.pieces.now.len (c.number_all.ensures.each ∙ c.deref_mut.ensures.len))
-    at c.sort_by_least.ensures.same in
+    at c.in_ok-sort_by_least.ensures.same in
     let ranks = rw c.deref.ensures.value at c.in_ok-ranks.ensures in
     let is_ranked = rw (c.deref-2.ensures.value, c.deref-3.ensures.value, c.deref-4.ensures.value) at c.ranked.ensures in
     IfOk-weaker c.ranked.result _ _ (λ v is. record {
       numbered = numbered;
       are = are;
       same = same;
-      rise = c.sort_by_least.ensures.rise;
+      rise = c.in_ok-sort_by_least.ensures.rise;
       each = is.each;
       placed = λ j j_in. rw (is.ranked j j_in) (
         placed old numbered new are same c.in_ok-ranks.ranks.items ranks (get_or c.args.noted.firsts.items j 0) (c.requires.firsts j 0 j_in),
