@@ -41,7 +41,10 @@ fn dealt_lists_are_in_order(rt: HostRuntime) -> Result<(), Fail> {
         (20_000, 0xff),
         (40_000, 0xffff),
     ] {
-        assert!(rt; is_dealt(alloc, Some(alloc), len, most)?, "{len} up to {most}");
+        assert!(rt;
+            is_dealt(alloc, Some(alloc), len, most)?,
+            "{len} up to {most}"
+        );
     }
     Ok(())
 }
@@ -50,7 +53,10 @@ fn dealt_lists_are_in_order(rt: HostRuntime) -> Result<(), Fail> {
 #[test]
 fn lists_are_in_order_without_memory(rt: HostRuntime) -> Result<(), Fail> {
     for (len, most) in [(8_192, 0), (20_000, 0xff), (40_000, 0xffff)] {
-        assert!(rt; is_dealt(rt.alloc(), None, len, most)?, "{len} up to {most}");
+        assert!(rt;
+            is_dealt(rt.alloc(), None, len, most)?,
+            "{len} up to {most}"
+        );
     }
     Ok(())
 }
