@@ -8,8 +8,10 @@ use dpl_stars::{Joined, stars};
 use dpl_test_gates::Holds;
 use dpl_turn::Seat;
 use std::alloc::{AllocError, Global};
+use std::sync::Wait;
 use std::sync::atomic::{AtomicU64, Ordering};
 use std::test::*;
+use std::thread::Threads;
 
 /// One tile with the edges of a triangle, or of a path.
 #[derive(Drop)]
@@ -33,18 +35,36 @@ impl Job for OneTile {
     }
 }
 
+/// Whether a board has one post, and an odd cycle or none.
+fn has_one(state: &BoardState, is_odd: bool) -> bool {
+    state.history().len() == 1 && state.joined().is_odd() == is_odd
+}
+
+/// Whether two workers are inside at once with the tiles of two jobs, of which one is odd.
+fn meet<R: Threads + Wait + Sync>(
+    rt: &R,
+    alloc: Global,
+    held: u32,
+    odd: bool,
+) -> Result<bool, AllocError>
+    requires { held < 2 }
+{
+    let jobs = [OneTile { is_odd: odd }, OneTile { is_odd: !odd }];
+    let gate = Holds::new(held, 1 - held, false);
+    let states = run_many(rt, alloc, 2, &jobs, &gate)?;
+    match states.as_slice() {
+        [first, second] => {
+            Ok(!gate.has_given_up() && has_one(first, odd) && has_one(second, !odd))
+        }
+        _ => Ok(false),
+    }
+}
+
 #[test]
 fn tiles_of_two_jobs_meet(rt: HostRuntime) -> Result<(), Fail> {
-    for (held, odd) in [(0, false), (0, true), (1, false), (1, true)] {
-        let jobs = [OneTile { is_odd: odd }, OneTile { is_odd: !odd }];
-        let gate = Holds::new(held, 1 - held, false);
-        let states = run_many(&rt, rt.alloc(), 2, &jobs, &gate)?;
-        assert!(rt; !gate.has_given_up());
-        assert_eq!(rt; states.len(), 2);
-        for (state, is_odd) in states.iter().zip([odd, !odd]) {
-            assert_eq!(rt; state.history().len(), 1);
-            assert_eq!(rt; state.joined().is_odd(), is_odd);
-        }
+    for held in 0..2 {
+        assert!(rt; meet(&rt, rt.alloc(), held, false)?);
+        assert!(rt; meet(&rt, rt.alloc(), held, true)?);
     }
     Ok(())
 }
@@ -70,6 +90,21 @@ impl Gate for Tally {
     }
 }
 
+/// Whether each tile of a job is posted once.
+fn is_posted(state: &BoardState, job: &Bare) -> bool {
+    state.history().len() == job.tiles as usize && state.first_missing().is_none()
+}
+
+/// Whether numbers came so often.
+fn came(counts: &[AtomicU64], want: &[u64]) -> bool {
+    for (count, want) in counts.iter().zip(want) {
+        if count.load(Ordering::SeqCst) != *want {
+            return false;
+        }
+    }
+    counts.len() == want.len()
+}
+
 #[test]
 fn tiles_are_numbered_over_all_jobs_and_posted_within_each(rt: HostRuntime) -> Result<(), Fail> {
     let gate = Tally {
@@ -87,15 +122,10 @@ fn tiles_are_numbered_over_all_jobs_and_posted_within_each(rt: HostRuntime) -> R
     let states = run_many(&rt, rt.alloc(), 64, &jobs, &gate)?;
     assert_eq!(rt; states.len(), 6);
     for (state, job) in states.iter().zip(jobs.iter()) {
-        assert_eq!(rt; state.history().len(), job.tiles as usize);
-        assert_eq!(rt; state.first_missing(), None);
+        assert!(rt; is_posted(state, job));
     }
-    for count in &gate.entered {
-        assert_eq!(rt; count.load(Ordering::SeqCst), 1);
-    }
-    for (count, want) in gate.posted.iter().zip([2, 2, 1]) {
-        assert_eq!(rt; count.load(Ordering::SeqCst), want);
-    }
+    assert!(rt; came(&gate.entered, &[1, 1, 1, 1, 1]));
+    assert!(rt; came(&gate.posted, &[2, 2, 1]));
     Ok(())
 }
 

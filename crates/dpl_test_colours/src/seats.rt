@@ -13,28 +13,45 @@ use std::sync::Wait;
 use std::test::*;
 use std::thread::{Threads, join};
 
-#[test]
-fn seats_post_and_meet(rt: HostRuntime) -> Result<(), Fail> {
-    let alloc = rt.alloc();
+/// What two seats that post by turns are answered, how many posts they have seen, and what they leave.
+#[derive(Drop)]
+struct ByTurns {
+    answers: [Result<(), PostFault>; 3],
+    seen: [u64; 6],
+    state: BoardState,
+}
+
+/// Posts by turns from two seats, and has them meet.
+fn by_turns<R: Wait>(rt: &R, alloc: Global) -> Result<ByTurns, AllocError> {
     let (board, mut seat) = Board::open(alloc, &TwoTiles, 2)?;
     let mut other = board.split(&mut seat);
-    let posted = board.post(&rt, &mut other, 1, 1, Joined::new(alloc));
-    assert_eq!(rt; posted, Ok(()));
-    assert_eq!(rt; other.seen(), 1);
-    assert_eq!(rt; seat.seen(), 0);
-    let again = board.post(&rt, &mut seat, 0, 1, Joined::new(alloc));
-    assert_eq!(rt; again, Err(PostFault::Twice { by: 1 }));
-    assert_eq!(rt; seat.seen(), 1);
-    let last = board.post(&rt, &mut seat, 0, 0, Joined::new(alloc));
-    assert_eq!(rt; last, Ok(()));
-    assert_eq!(rt; seat.seen(), 2);
-    assert_eq!(rt; other.seen(), 1);
+    let first = board.post(rt, &mut other, 1, 1, Joined::new(alloc));
+    let (a, b) = (other.seen(), seat.seen());
+    let again = board.post(rt, &mut seat, 0, 1, Joined::new(alloc));
+    let c = seat.seen();
+    let last = board.post(rt, &mut seat, 0, 0, Joined::new(alloc));
+    let (d, e) = (seat.seen(), other.seen());
     board.rejoin(&mut seat, other);
-    assert_eq!(rt; seat.seen(), 2);
-    let state = board.close(&rt, seat)?;
-    let wanted = [Entry { worker: 1, tile: 1 }, Entry { worker: 0, tile: 0 }];
-    assert_eq!(rt; state.history(), wanted.as_slice());
-    assert_eq!(rt; state.first_missing(), None);
+    let f = seat.seen();
+    let state = board.close(rt, seat)?;
+    Ok(ByTurns {
+        answers: [first, again, last],
+        seen: [a, b, c, d, e, f],
+        state,
+    })
+}
+
+/// The posts that are made.
+const ENTRIES: [Entry; 2] = [Entry { worker: 1, tile: 1 }, Entry { worker: 0, tile: 0 }];
+
+#[test]
+fn seats_post_and_meet(rt: HostRuntime) -> Result<(), Fail> {
+    let found = by_turns(&rt, rt.alloc())?;
+    let again = Err(PostFault::Twice { by: 1 });
+    assert_eq!(rt; found.answers, [Ok(()), again, Ok(())]);
+    assert_eq!(rt; found.seen, [1, 0, 1, 2, 1, 2]);
+    assert_eq!(rt; found.state.history(), ENTRIES.as_slice());
+    assert_eq!(rt; found.state.first_missing(), None);
     Ok(())
 }
 

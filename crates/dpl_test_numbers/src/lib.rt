@@ -1,4 +1,4 @@
-//! Worked numbers of layout files: records, reals, placements, loops and made-up rows.
+//! Worked numbers of layout files: records, reals, placements, loops and made-up rows; sorted lists.
 #![tactic(auto)]
 
 #[cfg(test)]
@@ -13,3 +13,5 @@ mod reals;
 mod records;
 #[cfg(test)]
 mod rows;
+#[cfg(test)]
+mod sorts;

@@ -1,5 +1,0 @@
-//! Edited splits, from file to file.
-#![tactic(auto)]
-
-#[cfg(test)]
-mod edits;
