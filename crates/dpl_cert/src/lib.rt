@@ -4,6 +4,7 @@
 
 mod cert;
 mod key;
+mod lists;
 mod name;
 mod writing;
 
@@ -11,4 +12,4 @@ pub use cert::{Cert, Gain, Head, NearLine, PieceLine, PlaceLine, StitchLine, Ver
 pub use dpl_base::{Id, Listed};
 pub use key::Key;
 pub use name::{Name, name_of};
-pub use writing::{cert_bytes, named_corner};
+pub use writing::{cert_bytes, cert_bytes_by, named_corner};
