@@ -1,4 +1,4 @@
-//! Worked numbers of layout files: records, reals, placements, loops and made-up rows; sorted lists.
+//! Worked numbers of layout files: records, reals, placements, loops and made-up rows.
 #![tactic(auto)]
 
 #[cfg(test)]
@@ -13,5 +13,3 @@ mod reals;
 mod records;
 #[cfg(test)]
 mod rows;
-#[cfg(test)]
-mod sorts;

@@ -1,5 +1,7 @@
 //! Lists that are dealt are in order.
-use dpl_sort::{deal, sort, sort_slice};
+
+use crate::deal::{deal, is_sorted};
+use crate::{sort, sort_slice};
 use std::alloc::{AllocError, Global};
 use std::test::Fail;
 
@@ -15,24 +17,9 @@ fn scattered(alloc: Global, len: usize, most: u32) -> Result<Vec<(u32, i32)>, Al
     Ok(items)
 }
 
-/// Whether a list of this length is in order once it is dealt, with memory or in place.
-fn is_dealt(
-    alloc: Global,
-    memory: Option<Global>,
-    len: usize,
-    most: u32,
-) -> Result<bool, AllocError> {
-    let mut items = scattered(alloc, len, most)?;
-    let mut want = items.clone()?;
-    sort(&mut want);
-    deal(memory, items.as_mut_slice(), &|item: &(u32, i32)| *item);
-    Ok(items == want)
-}
-
 /// std's sort behind it has but one pass to go.
 #[test]
 fn dealt_lists_are_in_order(rt: HostRuntime) -> Result<(), Fail> {
-    let alloc = rt.alloc();
     for (len, most) in [
         (512, 0xff),
         (3_000, 0xff),
@@ -41,8 +28,14 @@ fn dealt_lists_are_in_order(rt: HostRuntime) -> Result<(), Fail> {
         (20_000, 0xff),
         (40_000, 0xffff),
     ] {
+        let mut items = scattered(rt.alloc(), len, most)?;
+        deal(
+            Some(rt.alloc()),
+            items.as_mut_slice(),
+            &|item: &(u32, i32)| *item,
+        );
         assert!(rt;
-            is_dealt(alloc, Some(alloc), len, most)?,
+            is_sorted(items.as_slice(), &|item: &(u32, i32)| *item),
             "{len} up to {most}"
         );
     }
@@ -53,34 +46,36 @@ fn dealt_lists_are_in_order(rt: HostRuntime) -> Result<(), Fail> {
 #[test]
 fn lists_are_in_order_without_memory(rt: HostRuntime) -> Result<(), Fail> {
     for (len, most) in [(8_192, 0), (20_000, 0xff), (40_000, 0xffff)] {
+        let mut items = scattered(rt.alloc(), len, most)?;
+        deal(None, items.as_mut_slice(), &|item: &(u32, i32)| *item);
         assert!(rt;
-            is_dealt(rt.alloc(), None, len, most)?,
+            is_sorted(items.as_slice(), &|item: &(u32, i32)| *item),
             "{len} up to {most}"
         );
     }
     Ok(())
 }
 
-/// Wide keys, of numbers that are shifted by so many bits.
-fn shifted(alloc: Global, bits: u32) -> Result<Vec<u64>, AllocError> {
-    let mut items = Vec::new(alloc);
-    for (number, _) in scattered(alloc, 3_000, 0xffff)? {
-        items.push((number as u64).wrapping_shl(bits))?;
-    }
-    Ok(items)
-}
-
 /// Keys of up to 52 bits fit into words with their places, which take 12 bits here. Wider ones are left to std's sort.
 #[test]
 fn wide_keys_are_in_order(rt: HostRuntime) -> Result<(), Fail> {
-    let alloc = rt.alloc();
     for bits in [35, 36, 37] {
-        let mut items = shifted(alloc, bits)?;
+        let mut items = Vec::new(rt.alloc());
+        for (number, _) in scattered(rt.alloc(), 3_000, 0xffff)? {
+            items.push((number as u64).wrapping_shl(bits))?;
+        }
         let mut in_place = items.clone()?;
-        sort_slice(in_place.as_mut_slice());
-        deal(Some(alloc), items.as_mut_slice(), &|number: &u64| *number);
-        assert_eq!(rt; items == in_place, bits < 37);
+        deal(
+            Some(rt.alloc()),
+            items.as_mut_slice(),
+            &|number: &u64| { *number },
+        );
+        assert_eq!(rt;
+            is_sorted(items.as_slice(), &|number: &u64| *number),
+            bits < 37
+        );
         sort(&mut items);
+        sort_slice(in_place.as_mut_slice());
         assert!(rt; items == in_place);
     }
     Ok(())
