@@ -7,8 +7,8 @@ use dpl_slabs::Slabs;
 use std::alloc::{AllocError, Global};
 use std::test::Fail;
 
-/// How many treads there are: those of 300 stairs.
-const TREADS: u16 = 9000;
+/// How many treads there are: those of 280 stairs.
+const TREADS: u16 = 8400;
 
 /// One of the treads of stairs of 30 treads each, which overlap. Each stair lies above the one before it.
 fn tread(k: u16) -> Rect
@@ -65,10 +65,10 @@ fn workers_share_strips(rt: HostRuntime) -> Result<(), Fail> {
     let alloc = rt.alloc();
     for turn in [false, true] {
         let whole = Slabs::of_rects(alloc, treads(alloc, turn)?)?;
-        assert_eq!(rt; whole.rects().len(), 17_700);
+        assert_eq!(rt; whole.rects().len(), 16_520);
         let columns = Slabs::of_canonical(whole.columns(alloc)?);
-        assert_eq!(rt; columns.rects().len(), 17_700);
-        for workers in [0, 1, 2, 4, 64] {
+        assert_eq!(rt; columns.rects().len(), 16_520);
+        for workers in [2, 3, 64] {
             let rects = treads(alloc, turn)?;
             let slabs = Slabs::of_shapes_by(&rt, alloc, rects, Vec::new(alloc), workers)?;
             assert!(rt; slabs.equal(&whole));
