@@ -189,7 +189,7 @@ fn workers_find_the_zones_of_one_feature(rt: HostRuntime) -> Result<(), Fail> {
     // One in each rung, and two between a rung and the next.
     assert_eq!(rt; found.len(), 24_598);
     let want = corners_of(alloc, &found)?;
-    for workers in WORKERS {
+    for workers in [2, 4] {
         let found = corners_by(&rt, alloc, &parts, workers)?;
         assert!(rt; found == want, "by {workers} workers");
     }
