@@ -3,7 +3,7 @@ ghost use Rattle.std.specs.Prelude.{[], ◌∷◌, replicate, IfOk, OnOk};
 ghost use Rattle.dpl_stars.specs.Sums.{AreEdgePairs};
 
 use dpl_board::Job;
-use dpl_list::{Edge, Id};
+use dpl_list::Edge;
 use dpl_stars::{Joined, Star, stars};
 use std::alloc::{AllocError, Global};
 
@@ -98,23 +98,4 @@ pub fn rows_of(joined: &Joined) -> Option<&[Star]> {
         Joined::Stars(rows) => Some(rows.items()),
         Joined::Odd => None,
     }
-}
-
-/// Whether a summary has these rows below 0, each with its piece and whether it is odd; or, of none, an odd cycle.
-pub fn has_rows(joined: &Joined, want: Option<&[(Id, bool)]>) -> bool {
-    match (joined, want) {
-        (Joined::Stars(rows), Some(want)) => are_below_0(rows.items(), want),
-        (Joined::Odd, None) => true,
-        _ => false,
-    }
-}
-
-/// Whether rows are below 0 and have these pieces, and whether they are odd.
-fn are_below_0(rows: &[Star], want: &[(Id, bool)]) -> bool {
-    for (row, (piece, odd)) in rows.iter().zip(want) {
-        if row.root != 0 || row.piece != *piece || row.odd != *odd {
-            return false;
-        }
-    }
-    rows.len() == want.len()
 }
