@@ -48,7 +48,7 @@ pub(crate) fn batch_output<'a, R: Threads + Wait + Sync, H: Host, G: Gate + Sync
         Ok(Some(bytes)) => Ok(batch(rt, alloc, options, bytes, gate)?),
         Ok(None) => {
             let decisions = all_refused(alloc, &options.layers, Name::TooLarge, MAX_BYTES as u64)?;
-            Ok(all_decided(alloc, options, decisions)?)
+            Ok(all_decided(rt, alloc, options, decisions)?)
         }
         Err(fault) => Err(fault),
     }
@@ -81,7 +81,7 @@ fn batch<'a, R: Threads + Wait + Sync, G: Gate + Sync>(
         },
     };
     let decisions = decide_all(rt, alloc, &order, bytes, gate)?;
-    all_decided(alloc, options, decisions)
+    all_decided(rt, alloc, options, decisions)
 }
 
 /// One fault for each layer.
@@ -101,7 +101,8 @@ fn all_refused(
 }
 
 /// The files and the lines that tell of the decisions, one for each layer.
-fn all_decided<'a>(
+fn all_decided<'a, R: Threads + Sync>(
+    rt: &R,
     alloc: Global,
     options: &BatchOptions<'a>,
     decisions: Vec<Decision>,
@@ -118,7 +119,7 @@ fn all_decided<'a>(
     let mut at = 0;
     for decision in decisions {
         let layer = options.layers[at];
-        let one = layer_output(alloc, options, layer, decision)?;
+        let one = layer_output(rt, alloc, options, layer, decision)?;
         add(alloc, &mut all, layer, one)?;
         at += 1;
     }
@@ -126,7 +127,8 @@ fn all_decided<'a>(
 }
 
 /// The files and the line that tell of the decision of a layer: those of `split`.
-fn layer_output<'a>(
+fn layer_output<'a, R: Threads + Sync>(
+    rt: &R,
     alloc: Global,
     options: &BatchOptions<'a>,
     layer: u16,
@@ -155,7 +157,7 @@ fn layer_output<'a>(
         output: masks.as_str(),
         certificate: certificate.as_str(),
     };
-    let made = decided(alloc, &one, decision)?;
+    let made = decided(rt, alloc, &one, decision)?;
     owned(alloc, made)
 }
 

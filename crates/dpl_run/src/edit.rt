@@ -105,7 +105,7 @@ fn edit_by<'a, R: Threads + Wait + Sync, G: Gate + Sync>(
     let split = split_by(options);
     let order = order_of(&split);
     let answer = decompose(rt, alloc, &order.recipe, after, None, gate)?;
-    decided(alloc, &split, Decision::Answered { copied, answer })
+    decided(rt, alloc, &split, Decision::Answered { copied, answer })
 }
 
 /// The command line of `split` whose answer it is, for the edited layer: no markers, and one worker, who makes no tiles.

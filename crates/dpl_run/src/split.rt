@@ -5,6 +5,7 @@ ghost use Rattle.dpl_host.specs.Whole.{HasReadCause};
 ghost use Rattle.dpl_words.specs.Meaning.{AsksSplit, split_view};
 ghost use Rattle.dpl_words.specs.Ranges.{AreInRange};
 ghost use Rattle.dpl_cert.specs.Grammar.{IsCert};
+ghost use Rattle.dpl_masks.specs.Bytes.{file_bytes as file_bytes_of};
 ghost use Rattle.dpl_layer.specs.Reading.{limit};
 ghost use Rattle.dpl_layer.specs.View.{marked_choice_view};
 ghost use Rattle.dpl_answer.specs.Flat.{FitsClash, FitsPainted};
@@ -19,17 +20,17 @@ use crate::output::{FileName, Output, Write};
 use crate::status::Status;
 use dpl_answer::{Clash, Decomposed, Painted, Sharing};
 use dpl_base::Spacing;
-use dpl_cert::{Cert, Name, cert_bytes};
+use dpl_cert::{Cert, Name, cert_bytes, cert_bytes_by};
 use dpl_decide::{Decision, Order, Recipe, decide};
 use dpl_host::{Host, MAX_BYTES, ReadFault};
 use dpl_layer::{LayerChoice, MarkedChoice};
-use dpl_masks::file_bytes;
+use dpl_masks::{Masks, file_bytes};
 use dpl_pool::Gate;
 use dpl_texts::{conflict_line, done_line, refused_line};
 use dpl_words::SplitOptions;
 use std::alloc::{AllocError, Global};
 use std::sync::Wait;
-use std::thread::Threads;
+use std::thread::{Threads, join};
 
 /// Reads IN, and makes the masks and their certificate, or the certificate of a conflict or a fault.
 pub(crate) fn split_output<'a, R: Threads + Wait + Sync, H: Host, G: Gate + Sync>(
@@ -67,7 +68,7 @@ fn split<'a, R: Threads + Wait + Sync, G: Gate + Sync>(
     ensures { IfOk result (λ x. IsSplit (split_view options.now) bytes.items (output_view x)) }
 {
     let decision = decide(rt, alloc, &order_of(options), bytes, gate)?;
-    decided(alloc, options, decision)
+    decided(rt, alloc, options, decision)
 }
 
 /// What a command line of `split` asks of a layout.
@@ -104,8 +105,9 @@ pub(crate) fn order_of<'a>(options: &SplitOptions<'a>) -> Order<'a>
     }
 }
 
-/// The files and the line that tell of a decision.
-pub(crate) fn decided<'a>(
+/// The files and the line that tell of a decision. With two workers or more the bytes of both files are made side by side.
+pub(crate) fn decided<'a, R: Threads + Sync>(
+    rt: &R,
     alloc: Global,
     options: &SplitOptions<'a>,
     decision: Decision,
@@ -117,7 +119,7 @@ pub(crate) fn decided<'a>(
         Decision::Refused { name, at } => fault_output(alloc, options, name, at),
         Decision::Answered { copied, answer } => match answer {
             Decomposed::Masks(painted) => {
-                painted_output(alloc, options, copied.as_slice(), painted)
+                painted_output(rt, alloc, options, copied.as_slice(), painted)
             }
             Decomposed::Cycle(clash) => clash_output(alloc, options, clash),
         },
@@ -125,7 +127,8 @@ pub(crate) fn decided<'a>(
 }
 
 /// Both masks are written, then their certificate.
-fn painted_output<'a>(
+fn painted_output<'a, R: Threads + Sync>(
+    rt: &R,
     alloc: Global,
     options: &SplitOptions<'a>,
     copied: &[u8],
@@ -142,7 +145,6 @@ fn painted_output<'a>(
         stitches,
         gains,
     } = painted;
-    let bytes = file_bytes(alloc, copied, a.rects(), b.rects(), options.a, options.b)?;
     let line = done_line(
         alloc,
         &head,
@@ -150,25 +152,62 @@ fn painted_output<'a>(
         a.rects().len(),
         b.rects().len(),
     )?;
-    drop(a);
-    drop(b);
     let cert = Cert::Masks {
         head,
         pieces,
         stitches,
         gains,
     };
+    let masks = Masks { a, b };
+    let (bytes, text) = painted_bytes(rt, alloc, options, copied, masks, cert)?;
     let masks = Write {
         name: FileName::Given(options.output),
         bytes,
     };
-    let certificate = certificate(alloc, options, &cert)?;
+    let certificate = Write {
+        name: FileName::Given(options.certificate),
+        bytes: text,
+    };
     let writes = vec![in alloc; masks, certificate]?;
     Ok(Output {
         status: Status::Done,
         writes,
         line,
     })
+}
+
+/// The bytes of both masks and those of their certificate. With two workers or more one makes those of the masks, and all others those of the certificate.
+fn painted_bytes<R: Threads + Sync>(
+    rt: &R,
+    alloc: Global,
+    options: &SplitOptions,
+    copied: &[u8],
+    masks: Masks,
+    cert: Cert,
+) -> Result<(Vec<u8>, Vec<u8>), AllocError>
+    requires { IsCert cert }
+    ensures masks { IfOk result (λ x. x.0.items ≡ file_bytes_of copied.now options.now.a options.now.b masks.a masks.b) }
+    ensures certificate { IfOk result (λ x. x.1.items ≡ certified cert) }
+{
+    let la = options.a;
+    let lb = options.b;
+    if options.workers < 2 {
+        let bytes = file_bytes(alloc, copied, masks.a.rects(), masks.b.rects(), la, lb)?;
+        drop(masks);
+        return Ok((bytes, cert_bytes(alloc, &cert)?));
+    }
+    let others = options.workers - 1;
+    let (bytes, text) = join(
+        rt,
+        || -> Result<Vec<u8>, AllocError>
+            ensures { IfOk result (λ v. v.items ≡ file_bytes_of copied.entry.now la lb masks.a masks.b) }
+        { file_bytes(alloc, copied, masks.a.rects(), masks.b.rects(), la, lb) },
+        || -> Result<Vec<u8>, AllocError>
+            requires { IsCert cert }
+            ensures { IfOk result (λ v. v.items ≡ certified cert) }
+        { cert_bytes_by(rt, alloc, &cert, others) },
+    );
+    Ok((bytes?, text?))
 }
 
 /// The certificate of a cycle is written.

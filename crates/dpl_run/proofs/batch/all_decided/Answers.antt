@@ -6,7 +6,7 @@ use Rattle.dpl_decide.proofs.Zips.{place_within}
 use Rattle.dpl_run.proofs.batch.all_decided.Goals as goal
 
 pub loop-decision-preserved : goal.loop-decision-preserved
-loop-decision-preserved c =
+loop-decision-preserved g c =
     let layers = c.args.options.now.layers.items in
     let at = c.loop-decision.at in
     let met = c.loop-decision.yielded in

@@ -6,5 +6,5 @@ use Rattle.dpl_run.proofs.batch.all_decided.Given as goal
 
 -- what the decisions lead to that were met
 abbrev pub invariant-loop-decision : goal.invariant-loop-decision
-invariant-loop-decision l = (l.yielded ++ l.decision-iterator.rest.items ≡ l.fn.decisions.items) × (l.at ≡ length l.yielded)
+invariant-loop-decision g l = (l.yielded ++ l.decision-iterator.rest.items ≡ l.fn.decisions.items) × (l.at ≡ length l.yielded)
     × (output_view l.all ≡ decided_together (batch_view l.options) (take l.at l.options.layers.items) l.yielded)

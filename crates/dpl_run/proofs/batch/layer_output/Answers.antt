@@ -6,7 +6,7 @@ use Rattle.dpl_run.proofs.Batches.{plan_named}
 use Rattle.dpl_run.proofs.batch.layer_output.Goals as goal
 
 pub returns : goal.returns
-returns c =
+returns g c =
     let v = batch_view c.args.options.now in
     let masks = c.as_str.ensures.value ∙ c.in_ok-masks.ensures in
     let certificate = c.as_str-2.ensures.value ∙ c.in_ok-certificate.ensures in
