@@ -1,6 +1,5 @@
-use Rattle.std.proofs.Common.{◌≡◌, ◌∷◌, [], ◌++◌, List, length, map, take, ap, sym, ◌∙◌, refl, arith}
+use Rattle.std.proofs.Common.{◌≡◌, ◌∷◌, [], ◌++◌, take, refl, arith}
 use Rattle.std.proofs.lemmas.List.{map_push, take_all}
-use Rattle.dpl_spec_split.specs.declared.Rect.{Rect}
 use Rattle.dpl_piece.proofs.Bars.{alone, bars-broken, bars-none, bars-step}
 use Rattle.dpl_piece.proofs.bar.bar_parts.Goals as goal
 
