@@ -1,16 +1,16 @@
 -- What holes that cut right across a bar leave of it are the rectangles between them.
 use Rattle.std.proofs.Common.{◌≡◌, ℕ, suc, zero, ◌+◌, ◌<◌, ◌≤◌, ◌⊎◌, inl, inr, List, [], ◌∷◌, ◌++◌, length, get_or, map, take, sym, ap, refl, ◌∙◌, subst, arith}
-use Rattle.std.specs.Prelude.{◌↔◌, ℤ, pos, ◌+ℤ◌, ◌≤ℤ◌, ◌<ℤ◌}
-use Rattle.std.specs.List.{All, AllPairs, Any, Contains}
+use Rattle.std.specs.Prelude.{◌↔◌, ℤ, pos, ◌≤ℤ◌, ◌<ℤ◌}
+use Rattle.std.specs.List.{All, AllPairs}
 use Rattle.std.proofs.lemmas.Bool.{cases_eq, cases_lt}
 use Rattle.std.proofs.lemmas.Int.{ints, by_lt_z}
-use Rattle.std.proofs.lemmas.List.{get_or_default, get_or-map, length-map, length_push}
-use Rattle.std.proofs.lemmas.List.Elements.{All-map, All-push, All-contains, Contains-get_or}
+use Rattle.std.proofs.lemmas.List.{get_or_default, get_or-map, length-map}
+use Rattle.std.proofs.lemmas.List.Elements.{All-push, All-contains, Contains-get_or}
 use Rattle.std.proofs.lemmas.List.Quantifiers.{all_pairs_push}
 use Rattle.std.proofs.Math.Seq.{take-suc}
 use Rattle.dpl_spec_split.specs.declared.Pt.{Pt}
 use Rattle.dpl_spec_split.specs.declared.Rect.{Rect}
-use Rattle.dpl_spec_split.specs.Squares.{Region, SameSquares, Covers, Has, Precedes, Touch}
+use Rattle.dpl_spec_split.specs.Squares.{Region, SameSquares, Covers, Has, Touch}
 use Rattle.dpl_spec_split.specs.Slabs.{IsCanonical, IsSolid}
 use Rattle.dpl_spec_split.specs.Loops.{farthest, AreRectsWithin, IsRectWithin}
 use Rattle.dpl_spec_split.specs.Components.{Linked, here, on, component, ComesFirst, AreComponents}
@@ -19,7 +19,7 @@ use Rattle.dpl_spec_split.proofs.ComponentLaws.{Linked-start}
 use Rattle.dpl_spec_split.proofs.SlabLaws.{member-Covers, IsLeast-first}
 use Rattle.dpl_spec_split.proofs.SquareLaws.{SameSquares-refl, Touch-sym}
 use Rattle.dpl_spec_split.proofs.ZoneLaws.{close-from_touch}
-use Rattle.dpl_slabs.specs.Parts.{AreApart, AreParts, union_of}
+use Rattle.dpl_slabs.specs.Parts.{AreParts, union_of}
 use Rattle.dpl_slabs.proofs.LoopLaws.{covers-pushed}
 use Rattle.dpl_feature.proofs.Dealing.{canonical-one}
 use Rattle.dpl_feature.proofs.Links.{linked-within}

@@ -1,6 +1,5 @@
-use Rattle.std.proofs.Common.{◌≡◌, ◌∷◌, [], ◌++◌, List, length, map, take, ap, sym, ◌∙◌, refl, arith}
+use Rattle.std.proofs.Common.{◌≡◌, ◌∷◌, [], ◌++◌, take, refl, arith}
 use Rattle.std.proofs.lemmas.List.{map_push, take_all}
-use Rattle.dpl_spec_split.specs.declared.Rect.{Rect}
 use Rattle.dpl_piece.proofs.Bars.{alone, bars-broken, bars-none, bars-step}
 use Rattle.dpl_piece.proofs.bar.bar_parts.Goals as goal
 
@@ -20,4 +19,5 @@ pub returns : goal.returns
 returns c =
     let at = c.loop-hole.invariant in
     let all : take c.loop-hole.hole-index c.args.holes.now ≡ c.args.holes.now = take_all c.loop-hole.hole-index c.args.holes.now (omega (arith, c.loop-hole-test.false)) in
-    rw (c.in_ok-push-2.ensures.items, at.parts, c.in_ok-part-2.ensures, ← map_push alone at.done c.loop-hole.rest) (bars-broken c.args.bar.now c.args.holes.now at.done c.loop-hole.rest (rw all at at.bars))
+    rw (c.in_ok-push-2.ensures.items, at.parts, c.in_ok-part-2.ensures, ← map_push alone at.done c.loop-hole.rest)
+    (bars-broken c.args.bar.now c.args.holes.now at.done c.loop-hole.rest (rw all at at.bars))

@@ -1,5 +1,5 @@
 use Rattle.std.proofs.Common.{length, drop, ◌∙◌, sym, subst}
-use Rattle.dpl_piece.specs.Noted.{AreSidesNoted, StandsAfterFrom, StandsBeforeFrom}
+use Rattle.dpl_piece.specs.Noted.{AreSidesNoted, StandsAfterFrom}
 use Rattle.dpl_piece.specs.Pieces.{parts_in}
 use Rattle.dpl_piece.proofs.Noting.{written-back}
 use Rattle.dpl_piece.proofs.noted.note_sides.Goals as goal

@@ -1,6 +1,5 @@
 use Rattle.std.proofs.Common.{length, drop, ◌∙◌, rules}
 use Rattle.std.specs.Prelude.{ℤ}
-use Rattle.std.specs.List.Sorted.{IsPermutation}
 use Rattle.std.proofs.lemmas.List.Sorted.{answers_always, IsPermutation-trans, length_permutation}
 use Rattle.dpl_piece.specs.declared.piece.Piece.{Piece}
 use Rattle.dpl_piece.specs.Pieces.{least_key}

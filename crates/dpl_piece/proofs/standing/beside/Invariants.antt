@@ -1,5 +1,4 @@
 use Rattle.std.proofs.Common.{ℕ, ◌<◌}
-use Rattle.dpl_piece.specs.Standing.{StandsFrom}
 use Rattle.dpl_piece.specs.Pieces.{parts_in}
 use Rattle.dpl_piece.proofs.StandingLaws.{HasSlab}
 use Rattle.dpl_piece.proofs.standing.beside.Given as goal

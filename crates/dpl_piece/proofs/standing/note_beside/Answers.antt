@@ -2,7 +2,7 @@ use Rattle.std.proofs.Common.{ℕ, ◌<◌, length, get_or, refl, subst, arith}
 use Rattle.std.proofs.lemmas.List.{get_or_default}
 use Rattle.dpl_spec_split.specs.declared.Zone.{Zone}
 use Rattle.dpl_piece.specs.Standing.{StandsFrom}
-use Rattle.dpl_piece.specs.Pieces.{no_zone, parts_in, zone_at}
+use Rattle.dpl_piece.specs.Pieces.{no_zone, parts_in}
 use Rattle.dpl_piece.proofs.StandingLaws.{noted-kept, noted-set}
 use Rattle.dpl_piece.proofs.standing.note_beside.Goals as goal
 use Rattle.dpl_piece.proofs.standing.note_beside.Goals.{in-Some, in_default}
