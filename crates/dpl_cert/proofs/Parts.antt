@@ -1,5 +1,6 @@
 -- Texts one behind the other, and the lines of a list by stretches.
-use Rattle.std.proofs.Common.{◌≡◌, ℕ, ◌+◌, ◌*◌, ◌/◌, ◌%◌, ◌<◌, ◌≤◌, min, List, [], ◌∷◌, ◌++◌, length, get_or, take, drop, map, suc, zero, refl, sym, ap, ◌∙◌, append_assoc, arith, Result, Ok, IfOk, Global}
+use Rattle.std.proofs.Common.{◌≡◌, ℕ, ◌+◌, ◌*◌, ◌/◌, ◌%◌, ◌<◌, ◌≤◌, min}
+use Rattle.std.proofs.Common.{List, [], ◌∷◌, ◌++◌, length, get_or, take, drop, map, suc, zero, refl, sym, ap, ◌∙◌, append_assoc, arith, Result, Ok, IfOk, Global}
 use Rattle.std.proofs.lemmas.List.{append-nil, get_or-map, length-map, length-take-le, map-append, take_all}
 use Rattle.std.proofs.Math.Nat.{add-mul, div-add-mod, mul_comm, one-mul, suc-mul, zero-mul}
 use Rattle.std.proofs.Math.Seq.{take-add, take-suc}
