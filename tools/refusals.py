@@ -173,6 +173,13 @@ CASES = {
     "large": Case(list(pairs(33000)), "--workers 2", 65536, 1),
     # Wires with a bar below them, which workers sweep slice by slice, and whose near slabs they find.
     "slices": Case([(50 * n, n, 50 * n + 20, n + 9000) for n in range(4200)] + [(0, -20, 210000, -10)], "--workers 4", 65536, 1),
+    # A ladder, of whose rungs workers share the zones, and whose columns they sweep.
+    "ladder": Case(
+        [(0, 0, 20, 820000), (158, 0, 178, 820000)] + [(20, 100 * n + 40, 158, 100 * n + 60) for n in range(8200)],
+        "--workers 4",
+        65536,
+        1,
+    ),
     # Terraces, a block each.
     "blocks": Case(
         [(3000 * (n // 500) + n % 500, 2 * n, 3000 * (n // 500) + n % 500 + 200, 2 * n + 12000) for n in range(6000)],

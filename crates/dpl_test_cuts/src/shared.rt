@@ -123,7 +123,7 @@ fn corners_of(alloc: Global, zones: &[Zone]) -> Result<Vec<Corners>, AllocError>
     Ok(corners)
 }
 
-/// The corners of the zones of parts, in order, found by so many workers, at least one.
+/// The corners of the zones of parts, in order, found by so many workers.
 fn corners_by<R: Threads + Sync>(
     rt: &R,
     alloc: Global,
