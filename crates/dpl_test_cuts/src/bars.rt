@@ -1,5 +1,5 @@
 //! The squares of rectangles that a test lists.
-ghost use Rattle.std.specs.Prelude.{◌≤◌, ◌<ℤ◌, IfSome, IsTrue, OnOk, unsigned_abs};
+ghost use Rattle.std.specs.Prelude.{◌≤◌, ◌<ℤ◌, IfOk, IfSome, IsTrue, OnOk, unsigned_abs};
 ghost use Rattle.dpl_spec_split.specs.Loops.{farthest, IsRectWithin, AreRectsWithin};
 
 use dpl_base::{FARTHEST, Rect, Spacing};
@@ -56,12 +56,20 @@ fn add_rect(rects: &mut Vec<Rect>, corners: Corners) -> Result<(), AllocError>
     Ok(())
 }
 
-/// The squares of some rectangles.
-pub fn set_of(alloc: Global, corners: &[Corners]) -> Result<Slabs, AllocError> {
+/// Those of some rectangles that have squares.
+pub fn rects_of(alloc: Global, corners: &[Corners]) -> Result<Vec<Rect>, AllocError>
+    ensures { IfOk result (λ v. AreRectsWithin farthest v.items) }
+{
     let mut rects = Vec::new(alloc);
     for next in corners {
         add_rect(&mut rects, *next)?;
     }
+    Ok(rects)
+}
+
+/// The squares of some rectangles.
+pub fn set_of(alloc: Global, corners: &[Corners]) -> Result<Slabs, AllocError> {
+    let rects = rects_of(alloc, corners)?;
     Slabs::of_rects(alloc, rects)
 }
 

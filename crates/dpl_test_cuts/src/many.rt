@@ -1,7 +1,8 @@
-//! Many small strips, which workers share.
-ghost use Rattle.std.specs.Prelude.{IfOk, OnOk};
-ghost use Rattle.dpl_spec_split.specs.Loops.{farthest, IsRectWithin, AreRectsWithin};
+//! Many strips, and many blocks, which workers share.
+ghost use Rattle.std.specs.Prelude.{IfOk};
+ghost use Rattle.dpl_spec_split.specs.Loops.{farthest, AreRectsWithin};
 
+use crate::bars::{Corners, rects_of};
 use dpl_base::Rect;
 use dpl_slabs::Slabs;
 use std::alloc::{AllocError, Global};
@@ -10,53 +11,26 @@ use std::test::Fail;
 /// How many treads there are: those of 280 stairs.
 const TREADS: u16 = 8400;
 
-/// One of the treads of stairs of 30 treads each, which overlap. Each stair lies above the one before it.
-fn tread(k: u16) -> Rect
-    ensures { IsRectWithin farthest result }
-{
+/// The corners of one of the treads of stairs of 30 treads each, which overlap, upright or turned. Each stair lies above the one before it.
+fn tread(k: u16, turn: bool) -> Corners {
     let place = (k % 30) as i32;
     let left = 50 * place;
     let low = 100 * (k / 30) as i32 + place;
-    Rect {
-        x0: left,
-        y0: low,
-        x1: left + 70,
-        y1: low + 60,
+    if turn {
+        return (low, left, low + 60, left + 70);
     }
-}
-
-/// A rectangle with x and y exchanged.
-fn turned(r: Rect) -> Rect
-    requires { IsRectWithin farthest r }
-    ensures { IsRectWithin farthest result }
-{
-    Rect {
-        x0: r.y0,
-        y0: r.x0,
-        x1: r.y1,
-        y1: r.x1,
-    }
-}
-
-/// Adds a tread, upright or turned.
-fn add_tread(rects: &mut Vec<Rect>, k: u16, turn: bool) -> Result<(), AllocError>
-    requires { AreRectsWithin farthest rects.old.items }
-    ensures { OnOk result (AreRectsWithin farthest rects.new.items) }
-{
-    let r = tread(k);
-    rects.push(if turn { turned(r) } else { r })?;
-    Ok(())
+    (left, low, left + 70, low + 60)
 }
 
 /// All treads, upright or turned.
 fn treads(alloc: Global, turn: bool) -> Result<Vec<Rect>, AllocError>
     ensures { IfOk result (λ v. AreRectsWithin farthest v.items) }
 {
-    let mut rects = Vec::new(alloc);
+    let mut corners = Vec::new(alloc);
     for k in 0..TREADS {
-        add_tread(&mut rects, k, turn)?;
+        corners.push(tread(k, turn))?;
     }
-    Ok(rects)
+    rects_of(alloc, &corners)
 }
 
 #[test]
@@ -75,6 +49,39 @@ fn workers_share_strips(rt: HostRuntime) -> Result<(), Fail> {
             let by = Slabs::of_canonical(whole.columns_by(&rt, alloc, workers)?);
             assert!(rt; by.equal(&columns));
         }
+    }
+    Ok(())
+}
+
+/// How many rectangles are on a terrace.
+const PER: u16 = 500;
+
+/// The corners of a rectangle on terraces, which lie a little further right from one to the next. A column lies between two terraces.
+fn on_terrace(k: u16) -> Corners {
+    let left = 3000 * (k / PER) as i32 + (k % PER) as i32;
+    let low = 2 * k as i32;
+    (left, low, left + 200, low + 12_000)
+}
+
+/// The rectangles of twelve terraces.
+fn terraces(alloc: Global) -> Result<Vec<Rect>, AllocError>
+    ensures { IfOk result (λ v. AreRectsWithin farthest v.items) }
+{
+    let mut corners = Vec::new(alloc);
+    for k in 0..12 * PER {
+        corners.push(on_terrace(k))?;
+    }
+    rects_of(alloc, &corners)
+}
+
+#[test]
+fn workers_make_the_blocks_of_one(rt: HostRuntime) -> Result<(), Fail> {
+    // Each terrace is a block, and all rows meet.
+    let alloc = rt.alloc();
+    let whole = Slabs::of_rects(alloc, terraces(alloc)?)?;
+    for workers in [3, 4] {
+        let slabs = Slabs::of_shapes_by(&rt, alloc, terraces(alloc)?, Vec::new(alloc), workers)?;
+        assert!(rt; slabs.equal(&whole));
     }
     Ok(())
 }

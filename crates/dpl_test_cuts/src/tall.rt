@@ -135,7 +135,7 @@ fn squares_by<R: Threads + Sync>(
 
 #[test]
 fn workers_make_the_slabs_of_one(rt: HostRuntime) -> Result<(), Fail> {
-    // Slices of rectangles that overlap, blocks of two rectangles, slices of wires that stand apart, and slices that are given up.
+    // Slices of rectangles that overlap, blocks of two rectangles, which are too small to be shared, slices of wires that stand apart, and slices that are given up.
     for (pace, bars) in [(1, 0), (250, 0), (250, 1), (250, 66)] {
         let whole = squares(rt.alloc(), pace, 0, 5000, bars)?;
         for workers in [0, 1, 2, 4, 64] {

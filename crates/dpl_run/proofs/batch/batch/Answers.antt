@@ -6,7 +6,7 @@ use Rattle.dpl_decide.proofs.Zips.{zip_length}
 use Rattle.dpl_run.proofs.batch.batch.Goals as goal
 
 pub all_decided-requires-clause-len : goal.all_decided-requires-clause-len
-all_decided-requires-clause-len g c = zip_length _ _ _ (rw c.deref.ensures.value at c.in_ok-decisions.ensures.each)
+all_decided-requires-clause-len g c κs l = zip_length _ _ _ (rw c.deref.ensures.value at c.in_ok-decisions.ensures.each)
 
 pub returns : goal.returns
 returns g c =

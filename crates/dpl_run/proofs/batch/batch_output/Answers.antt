@@ -14,7 +14,7 @@ returns-in_ok-batch-in-Ok-Some-clause-made g c =
     batch_made told v c.in-Ok-Some.bytes.items _ read c.in_ok-batch-in-Ok-Some.ensures
 
 pub all_decided-requires-clause-len : goal.all_decided-requires-clause-len
-all_decided-requires-clause-len g c = zip_length _ _ _ (rw c.deref.ensures.value at c.in_ok-decisions-in-Ok-None.ensures.0)
+all_decided-requires-clause-len g c κs l = zip_length _ _ _ (rw c.deref.ensures.value at c.in_ok-decisions-in-Ok-None.ensures.0)
 
 pub returns-in_ok-all_decided-in-Ok-None-clause-made : goal.returns-in_ok-all_decided-in-Ok-None-clause-made
 returns-in_ok-all_decided-in-Ok-None-clause-made g c =
