@@ -55,7 +55,7 @@ pub fn layer_of(alloc: Global, choice: &LayerChoice, bytes: Vec<u8>) -> Result<L
     swept(alloc, drawn)
 }
 
-/// The same, by so many workers, who sweep its rectangles where there are many. Loops are swept by one.
+/// The same, by so many workers, who sweep its loops, and its rectangles where there are many.
 pub fn layer_by<R: Threads + Sync>(
     rt: &R,
     alloc: Global,

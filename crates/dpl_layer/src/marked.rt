@@ -81,7 +81,7 @@ pub fn marked_layer_of(
     marked_squares(alloc, copied, slabs, mark_a, mark_b)
 }
 
-/// The same, by so many workers, who sweep the layer's rectangles where there are many. Loops are swept by one.
+/// The same, by so many workers, who sweep the layer's loops, and its rectangles where there are many.
 pub fn marked_layer_by<R: Threads + Sync>(
     rt: &R,
     alloc: Global,

@@ -5,7 +5,7 @@ use Rattle.std.specs.Prelude.{pos, ◌-ℤ◌, ◌≤ℤ◌}
 use Rattle.std.specs.List.{All, Contains}
 use Rattle.std.specs.List.Sorted.{IsPermutation}
 use Rattle.std.proofs.lemmas.Int.{ints}
-use Rattle.std.proofs.lemmas.List.{drop-drop, take-append-drop, take_at}
+use Rattle.std.proofs.lemmas.List.{drop-drop, take-append-drop}
 use Rattle.std.proofs.lemmas.List.Elements.{All-append, All-contains, Contains-append_cases, Contains-get_or}
 use Rattle.dpl_spec_split.specs.declared.Pt.{Pt}
 use Rattle.dpl_spec_split.specs.declared.Rect.{Rect}
@@ -180,21 +180,6 @@ transposed-permuted rects sorted same p =
 
 pub permuted-within : (rects sorted : List Rect) → IsPermutation (transposed_rects rects) sorted → AreRectsWithin farthest rects → AreRectsWithin farthest sorted
 permuted-within rects sorted same w = sorted-within (transposed_rects rects) sorted same (transposed-within farthest rects w)
-
--- rectangles transposed twice have their squares again
-pub transposed-twice : (rects once twice : List Rect) → IsPermutation (transposed_rects rects) once → IsPermutation (transposed_rects once) twice → SameSquares (Covers twice) (Covers rects)
-transposed-twice rects once twice same again p =
-    let q : Pt = at p.y p.x in (
-      λ c. (transposed-permuted rects once same p).0 ((transposed-permuted once twice again q).0 c),
-      λ c. (transposed-permuted once twice again q).1 ((transposed-permuted rects once same p).1 c),
-    )
-
--- a list whose rectangles were handed out and stayed as they were
-pub transposed-kept : (old kept more sorted : List Rect) (len : ℕ) → kept ≡ old → length old ≡ len
-    → IsPermutation (transposed_rects (take len (kept ++ more))) sorted → IsPermutation (transposed_rects old) sorted
-transposed-kept old kept more sorted len same old_len by =
-    let all : IsPermutation (transposed_rects kept) sorted = rw (take_at kept more len (ap length same ∙ old_len)) at by in
-    rw same at all
 
 -- slabs of transposed rectangles in order
 pub blocks-slabs : (rects sorted pieces slabs : List Rect) → IsPermutation (transposed_rects rects) sorted

@@ -1,13 +1,17 @@
 -- Edges of loops.
-use Rattle.std.proofs.Common.{◌≡◌, ℕ, suc, ◌+◌, ◌-◌, ◌≤◌, ◌<◌, ◌⊎◌, inl, inr, List, [], ◌∷◌, ◌++◌, length, get_or, refl, sym, ap, ◌∙◌, subst, arith, w32, w64, to_z, of_z}
-use Rattle.std.specs.Prelude.{◌↔◌, ℤ, pos, negsuc, ◌+ℤ◌, ◌-ℤ◌, neg_ℤ, ◌≤ℤ◌, ◌<ℤ◌, unsigned_abs}
+use Rattle.std.proofs.Common.{◌≡◌, ℕ, suc, ◌+◌, ◌-◌, ◌%◌, ◌≤◌, ◌<◌, ◌⊎◌, inl, inr, List, [], ◌∷◌, ◌++◌, length, get_or, refl, sym, ap, ◌∙◌, subst, arith, w32, w64, to_z, of_z}
+use Rattle.std.specs.Prelude.{◌↔◌, Vec, Result, Ok, IfOk, ℤ, pos, negsuc, ◌+ℤ◌, ◌-ℤ◌, neg_ℤ, ◌≤ℤ◌, ◌<ℤ◌, unsigned_abs}
+use Rattle.std.specs.Global.{Global}
 use Rattle.std.specs.List.{Contains}
+use Rattle.std.specs.List.Sorted.{IsPermutation}
+use Rattle.std.proofs.Math.Nat.{mod-lt, mod-one}
 use Rattle.std.proofs.lemmas.Int.{ints, by_lt_z}
-use Rattle.std.proofs.lemmas.List.{get_or_default}
+use Rattle.std.proofs.lemmas.List.{get_or_append_left, get_or_at, get_or_default, length_push}
+use Rattle.std.proofs.lemmas.List.Sorted.{Contains-permutation, IsPermutation-sym}
 use Rattle.std.proofs.lemmas.List.Elements.{All-contains, Contains-append_left, Contains-push, Contains-push_cases, Contains-append_right, Contains-append_cases}
 use Rattle.dpl_spec_split.specs.declared.Pt.{Pt}
 use Rattle.dpl_spec_split.specs.declared.Rect.{Rect}
-use Rattle.dpl_spec_split.specs.Squares.{SameSquares, Covers, Has}
+use Rattle.dpl_spec_split.specs.Squares.{Region, SameSquares, Covers, Has}
 use Rattle.dpl_spec_split.specs.Slabs.{IsSolid, AreSlabsOf}
 use Rattle.dpl_spec_split.proofs.Ordered.{Contains-head, Contains-later, Contains-nil}
 use Rattle.dpl_spec_split.proofs.SlabLaws.{Covers-member, member-Covers}
@@ -18,7 +22,8 @@ use Rattle.dpl_sweep.specs.Edges.{Told, part, sum_left, change_a, change_b}
 use Rattle.dpl_sweep.specs.Passes.{IsClosed, IsUnitEdge}
 use Rattle.dpl_sweep.proofs.EdgeLaws.{none-told, sum_left-push, part-before, part-off}
 use Rattle.dpl_spec_split.specs.Loops.{farthest, step, steps, winding, LoopCovers, SomeLoopCovers, IsPointWithin, AreRectsWithin}
-use Rattle.dpl_slabs.specs.Loops.{above, IsEdgeWithin, AreEdgesWithin, AddsStep, AreStepsOf, AreEdgesOf, SomeFirstCovers}
+use Rattle.dpl_slabs.specs.Loops.{above, IsEdgeWithin, AreEdgesWithin, AddsStep, AreStepsOf, AreEdgesOf, AreRectsOf, SomeDealtCovers}
+use Rattle.dpl_order.proofs.JoinLaws.{covers-same}
 use Rattle.std.proofs.lemmas.Bool.{cases_eq}
 
 -- a coordinate of a point within the bound is what it is in fewer bits
@@ -208,35 +213,137 @@ covers-pushed a rs r same p = (
 pub rects-appended : (bound : ℕ) (rs ss : List Rect) → AreRectsWithin bound rs → AreRectsWithin bound ss → AreRectsWithin bound (rs ++ ss)
 rects-appended bound rs ss v w r r_in = elim (Contains-append_cases rs ss r r_in) [ inl one ↦ v r one | inr other ↦ w r other ]
 
-pub loops-none : (base : Pt → Type 0) (ls : List (List Pt)) (rs : List Rect) → ((p : Pt) → Covers rs p ↔ base p) → (p : Pt) → Covers rs p ↔ (base p ⊎ SomeFirstCovers ls 0 p)
-loops-none base ls rs same p = (
-  λ h. inl ((same p).0 h),
-  λ h. elim h [ inl a ↦ (same p).1 a | inr (k, m, b, k_in, is, has) ↦ absurd (omega (arith, b)) ],
-)
+-- rectangles, and others behind them
+pub rects-beside : (a b c : Region) (rs ss : List Rect) → ((p : Pt) → c p ↔ (a p ⊎ b p)) → AreRectsOf a rs → AreRectsOf b ss → AreRectsOf c (rs ++ ss)
+rects-beside a b c rs ss either g h = record {
+  covers = λ p. (
+    (λ k. (either p).1 (elim ((covers-appended b rs ss h.covers p).0 k) [ inl one ↦ inl ((g.covers p).0 one) | inr other ↦ inr other ])),
+    λ k. (covers-appended b rs ss h.covers p).1 (elim ((either p).0 k) [ inl one ↦ inl ((g.covers p).1 one) | inr other ↦ inr other ]),
+  );
+  within = rects-appended farthest rs ss g.within h.within;
+}
 
-pub loops-next : (base : Pt → Type 0) (ls : List (List Pt)) (n : ℕ) (l : List Pt) (old new : List Rect) → n < length ls → l ≡ get_or ls n l
-    → ((p : Pt) → Covers old p ↔ (base p ⊎ SomeFirstCovers ls n p)) → ((p : Pt) → Covers new p ↔ (Covers old p ⊎ LoopCovers l p)) → (p : Pt)
-    → Covers new p ↔ (base p ⊎ SomeFirstCovers ls (n + 1) p)
-loops-next base ls n l old new n_in l_is before step p = (
-  λ h. elim ((step p).0 h) [
-    | inl a ↦ elim ((before p).0 a) [
-      | inl first ↦ inl first
-      | inr (k, m, b, k_in, is, has) ↦ inr (k, m, omega (arith, b), k_in, is, has)
-    ]
-    | inr has ↦ inr (n, l, omega arith, n_in, sym l_is, has)
-  ],
-  λ h. elim h [
-    | inl first ↦ (step p).1 (inl ((before p).1 (inl first)))
-    | inr (k, m, b, k_in, is, has) ↦ elim (cases_eq k n) [
-      | inl e ↦ (step p).1 (inr (subst (λ v. LoopCovers v p) (sym is ∙ (ap (λ q. get_or ls q m) e ∙ (get_or_default ls n m l n_in ∙ sym l_is))) has))
-      | inr ne ↦ (step p).1 (inl ((before p).1 (inr (k, m, omega arith, k_in, is, has))))
-    ]
-  ],
-)
+pub rects-like : (a b : Region) (rs : List Rect) → ((p : Pt) → a p ↔ b p) → AreRectsOf a rs → AreRectsOf b rs
+rects-like a b rs same h = record {
+  covers = λ p. (λ c. (same p).0 ((h.covers p).0 c), λ c. (h.covers p).1 ((same p).1 c));
+  within = h.within;
+}
 
-pub loops-all : (base : Pt → Type 0) (ls : List (List Pt)) (n : ℕ) (rs : List Rect) → length ls ≤ n
-    → ((p : Pt) → Covers rs p ↔ (base p ⊎ SomeFirstCovers ls n p)) → (p : Pt) → Covers rs p ↔ (base p ⊎ SomeLoopCovers ls p)
-loops-all base ls n rs all h p = (
-  λ c. elim ((h p).0 c) [ inl first ↦ inl first | inr (k, l, b, k_in, is, has) ↦ inr (k, l, k_in, is, has) ],
-  λ c. elim c [ inl first ↦ (h p).1 (inl first) | inr (k, l, k_in, is, has) ↦ (h p).1 (inr (k, l, omega (arith, all, k_in), k_in, is, has)) ],
-)
+pub rects-permuted : (a : Region) (rs ss : List Rect) → IsPermutation rs ss → AreRectsOf a rs → AreRectsOf a ss
+rects-permuted a rs ss same h = record {
+  covers = λ p. (λ c. (h.covers p).0 ((covers-same rs ss same p).1 c), λ c. (covers-same rs ss same p).0 ((h.covers p).1 c));
+  within = λ r r_in. h.within r (Contains-permutation ss rs r (IsPermutation-sym rs ss same) r_in);
+}
+
+-- rectangles and those of loops, in any order
+pub shapes-all : (loops : List (List Pt)) (rects others all : List Rect) → AreRectsWithin farthest rects → AreRectsOf (SomeLoopCovers loops) others
+    → IsPermutation (rects ++ others) all → AreRectsOf (λ p. Covers rects p ⊎ SomeLoopCovers loops p) all
+shapes-all loops rects others all within h same =
+    rects-permuted _ (rects ++ others) all same
+    (rects-beside (Covers rects) (SomeLoopCovers loops) (λ p. Covers rects p ⊎ SomeLoopCovers loops p) rects others (λ p. (λ c. c, λ c. c))
+    (record { covers = λ p. (λ c. c, λ c. c); within = within }) h)
+
+no-rects : (a : Region) → ((p : Pt) → a p → ⊥) → AreRectsOf a []
+no-rects a none = record {
+  covers = λ p. (λ c. (let found = member-Covers [] p c in absurd (Contains-nil found.0 found.1)), λ h. absurd (none p h));
+  within = λ r r_in. absurd (Contains-nil r r_in);
+}
+
+-- the loops of one worker
+module _ (ls : List (List Pt)) (worker workers : ℕ) where
+  pub dealt-none : AreRectsOf (SomeDealtCovers ls worker workers 0) []
+  dealt-none = no-rects _ (λ p h. (let (k, ps, below, own, k_in, is, has) = h in omega (arith, below)))
+
+  pub dealt-more : (n : ℕ) (l : List Pt) (rs slabs : List Rect) → n < length ls → l ≡ get_or ls n l → n % workers ≡ worker
+      → AreRectsOf (SomeDealtCovers ls worker workers n) rs → AreSlabsOf (LoopCovers l) slabs → AreRectsWithin farthest slabs
+      → AreRectsOf (SomeDealtCovers ls worker workers (n + 1)) (rs ++ slabs)
+  dealt-more n l rs slabs n_in l_is own h s within =
+      rects-beside (SomeDealtCovers ls worker workers n) (LoopCovers l) (SomeDealtCovers ls worker workers (n + 1)) rs slabs
+      (λ p. (
+        (λ (k, ps, below, mine, k_in, is, has). elim (cases_eq k n) [
+          | inl e ↦ inr (subst (λ v. LoopCovers v p) (sym is ∙ (ap (λ q. get_or ls q ps) e ∙ (get_or_default ls n ps l n_in ∙ sym l_is))) has)
+          | inr ne ↦ inl (k, ps, omega (arith, below, ne), mine, k_in, is, has)
+        ]),
+        λ h. elim h [
+          | inl (k, ps, below, mine, k_in, is, has) ↦ (k, ps, omega (arith, below), mine, k_in, is, has)
+          | inr has ↦ (n, l, omega arith, own, n_in, sym l_is, has)
+        ],
+      )) h (record { covers = s.covers; within = within })
+
+  -- a loop that is dealt to another
+  pub dealt-past : (n : ℕ) (rs : List Rect) → (n % workers ≡ worker → ⊥) → AreRectsOf (SomeDealtCovers ls worker workers n) rs
+      → AreRectsOf (SomeDealtCovers ls worker workers (n + 1)) rs
+  dealt-past n rs other = rects-like (SomeDealtCovers ls worker workers n) (SomeDealtCovers ls worker workers (n + 1)) rs (λ p. (
+    λ (k, ps, below, mine, k_in, is, has). (k, ps, omega (arith, below), mine, k_in, is, has),
+    λ (k, ps, below, mine, k_in, is, has). elim (cases_eq k n) [
+      | inl e ↦ absurd (other (subst (λ q. q % workers ≡ worker) e mine))
+      | inr ne ↦ (k, ps, omega (arith, below, ne), mine, k_in, is, has)
+    ],
+  ))
+
+  pub dealt-all : (n : ℕ) (rs : List Rect) → length ls ≤ n → AreRectsOf (SomeDealtCovers ls worker workers n) rs
+      → AreRectsOf (SomeDealtCovers ls worker workers (length ls)) rs
+  dealt-all n rs all = rects-like (SomeDealtCovers ls worker workers n) (SomeDealtCovers ls worker workers (length ls)) rs (λ p. (
+    λ (k, ps, below, mine, k_in, is, has). (k, ps, k_in, mine, k_in, is, has),
+    λ (k, ps, below, mine, k_in, is, has). (k, ps, omega (arith, below, all), mine, k_in, is, has),
+  ))
+
+-- one worker has all loops
+pub dealt-alone : (ls : List (List Pt)) (rs : List Rect) → AreRectsOf (SomeDealtCovers ls 0 1 (length ls)) rs → AreRectsOf (SomeLoopCovers ls) rs
+dealt-alone ls rs = rects-like (SomeDealtCovers ls 0 1 (length ls)) (SomeLoopCovers ls) rs (λ p. (
+  λ (k, ps, below, mine, k_in, is, has). (k, ps, k_in, is, has),
+  λ (k, ps, k_in, is, has). (k, ps, k_in, mod-one k, k_in, is, has),
+))
+
+-- a loop that was dealt to one of the last workers, from number n on, has the square
+abbrev pub SomeLastCovers : List (List Pt) → ℕ → ℕ → Region
+SomeLastCovers ls workers n p = (k : ℕ) × (ps : List Pt) × (n ≤ k % workers) × (k < length ls) × (get_or ls k ps ≡ ps) × LoopCovers ps p
+
+module _ {E : Type 0} (ls : List (List Pt)) (workers : ℕ) where
+  -- each worker gave the rectangles of its loops, where it wasn't out of memory
+  abbrev pub AreDealt : List (Result (Vec Rect Global) E) → Type 0
+  AreDealt lists = (k : ℕ) (d : Result (Vec Rect Global) E) → k < length lists → IfOk (get_or lists k d) (λ v. AreRectsOf (SomeDealtCovers ls k workers (length ls)) v.items)
+
+  -- the rectangles of the last workers are put together, those of the first ones are left
+  pub record ArePut (left : List (Result (Vec Rect Global) E)) (rs : List Rect) : Type 0 where
+    pub dealt : AreDealt left
+    pub put : AreRectsOf (SomeLastCovers ls workers (length left)) rs
+
+  pub put-none : (lists : List (Result (Vec Rect Global) E)) → length lists ≡ workers → 1 ≤ workers → AreDealt lists → ArePut lists []
+  put-none lists len some dealt = record {
+    dealt = dealt;
+    put = no-rects _ (λ p h. (let (k, ps, last, k_in, is, has) = h in let m = mod-lt k {m = workers} (omega (arith, some)) in omega (arith, last, m, len)));
+  }
+
+  own-rects : (left : List (Result (Vec Rect Global) E)) (last : Result (Vec Rect Global) E) (v : Vec Rect Global) → last ≡ Ok v → AreDealt (left ++ last ∷ [])
+      → AreRectsOf (SomeDealtCovers ls (length left) workers (length ls)) v.items
+  own-rects left last v ok dealt = subst (λ r. IfOk r (λ w. AreRectsOf (SomeDealtCovers ls (length left) workers (length ls)) w.items))
+      (get_or_at left last [] last (length left) refl ∙ ok)
+      (dealt (length left) last (let e = length_push left last in omega (arith, e)))
+
+  pub put-more : (lists left : List (Result (Vec Rect Global) E)) (last : Result (Vec Rect Global) E) (v : Vec Rect Global) (old new : List Rect)
+      → lists ≡ left ++ last ∷ [] → last ≡ Ok v → IsPermutation (old ++ v.items) new → ArePut lists old → ArePut left new
+  put-more lists left last v old new is ok same h =
+      let size : length lists ≡ length left + 1 = ap length is ∙ length_push left last in
+      let own = own-rects left last v ok (subst AreDealt is h.dealt) in
+      record {
+        dealt = λ k d l. subst (λ r. IfOk r (λ w. AreRectsOf (SomeDealtCovers ls k workers (length ls)) w.items))
+            (ap (λ xs. get_or xs k d) is ∙ get_or_append_left left (last ∷ []) d k l) (h.dealt k d (omega (arith, l, size)));
+        put = rects-permuted (SomeLastCovers ls workers (length left)) (old ++ v.items) new same
+            (rects-beside (SomeLastCovers ls workers (length lists)) (SomeDealtCovers ls (length left) workers (length ls)) (SomeLastCovers ls workers (length left)) old v.items (λ p. (
+              (λ (k, ps, last, k_in, loop_is, has). elim (cases_eq (k % workers) (length left)) [
+                | inl e ↦ inr (k, ps, k_in, e, k_in, loop_is, has)
+                | inr ne ↦ inl (k, ps, omega (arith, last, ne, size), k_in, loop_is, has)
+              ]),
+              λ c. elim c [
+                | inl (k, ps, last, k_in, loop_is, has) ↦ (k, ps, omega (arith, last, size), k_in, loop_is, has)
+                | inr (k, ps, below, mine, k_in, loop_is, has) ↦ (k, ps, omega (arith, mine), k_in, loop_is, has)
+              ],
+            )) h.put own);
+      }
+
+  pub put-all : (left : List (Result (Vec Rect Global) E)) (rs : List Rect) → length left ≡ 0 → ArePut left rs → AreRectsOf (SomeLoopCovers ls) rs
+  put-all left rs none h = rects-like (SomeLastCovers ls workers (length left)) (SomeLoopCovers ls) rs (λ p. (
+    λ (k, ps, last, k_in, is, has). (k, ps, k_in, is, has),
+    λ (k, ps, k_in, is, has). (k, ps, omega (arith, none), k_in, is, has),
+  )) h.put

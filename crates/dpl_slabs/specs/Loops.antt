@@ -1,9 +1,11 @@
 -- The edges of a loop.
-use Rattle.std.specs.Prelude.{◌≡◌, ℕ, cond, ℤ, pos, ◌-ℤ◌, ◌+ℤ◌, ◌<◌, ◌≤◌, List, length, slice_index_or, unsigned_abs}
+use Rattle.std.specs.Prelude.{◌≡◌, ℕ, cond, ℤ, pos, ◌-ℤ◌, ◌+ℤ◌, ◌<◌, ◌≤◌, ◌%◌, List, length, slice_index_or, unsigned_abs}
 use Rattle.std.specs.List.{Contains}
 use lib.Signed.{lt_z}
 use Rattle.dpl_spec_split.specs.declared.Pt.{Pt}
-use Rattle.dpl_spec_split.specs.Loops.{step, steps, winding, LoopCovers, IsPointWithin, ArePointsWithin}
+use Rattle.dpl_spec_split.specs.declared.Rect.{Rect}
+use Rattle.dpl_spec_split.specs.Squares.{Region, Covers, SameSquares}
+use Rattle.dpl_spec_split.specs.Loops.{farthest, step, steps, winding, LoopCovers, IsPointWithin, ArePointsWithin, AreRectsWithin}
 use Rattle.dpl_sweep.specs.declared.edge.Edge.{Edge}
 use Rattle.dpl_sweep.specs.Edges.{sum_left, change_a, change_b}
 use Rattle.dpl_sweep.specs.Passes.{AreLeft, AreUnitEdges}
@@ -46,6 +48,11 @@ pub record AreEdgesOf (ps : List Pt) (es : List Edge) : Type 0 where
   pub units : AreUnitEdges es
   pub level : (s : Pt) → AreLeft es s.x → winding ps s ≡ pos 0
 
--- one of the first n has the square
-abbrev pub SomeFirstCovers : List (List Pt) → ℕ → Pt → Type 0
-SomeFirstCovers loops n p = (k : ℕ) × (ps : List Pt) × (k < n) × (k < length loops) × (slice_index_or loops k ps ≡ ps) × LoopCovers ps p
+-- one of the first n has the square, and is dealt to the worker
+abbrev pub SomeDealtCovers : List (List Pt) → ℕ → ℕ → ℕ → Region
+SomeDealtCovers loops worker workers n p = (k : ℕ) × (ps : List Pt) × (k < n) × (k % workers ≡ worker) × (k < length loops) × (slice_index_or loops k ps ≡ ps) × LoopCovers ps p
+
+-- rectangles within the range of a layer that have the squares of a set
+pub record AreRectsOf (a : Region) (rects : List Rect) : Type 0 where
+  pub covers : SameSquares (Covers rects) a
+  pub within : AreRectsWithin farthest rects

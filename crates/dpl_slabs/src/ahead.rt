@@ -24,29 +24,41 @@ pub struct Block {
 /// How many rectangles blocks have on average, at least, where workers share them. Smaller ones aren't worth the memory.
 const LARGE: usize = 64;
 
-/// Where those strips begin that are each the first for one of so many workers. About as many rectangles lie from one to the next. With them, how many strips there are.
-pub fn shares(
-    alloc: Global,
-    rects: &[Rect],
-    workers: u32,
-) -> Result<(Vec<usize>, usize), AllocError>
+/// Strips in a row for each worker, with about as many rectangles.
+#[derive(Drop)]
+pub struct StripShares {
+    /// Where those strips begin that are each the first for a worker.
+    pub starts: Vec<usize>,
+    /// How many strips there are.
+    pub strips: usize,
+    /// How many rectangles the largest share has.
+    pub largest: usize,
+}
+
+/// How so many workers share the strips of rectangles. A share begins with the first strip behind each part of the rectangles, of as many for each worker.
+pub fn shares(alloc: Global, rects: &[Rect], workers: u32) -> Result<StripShares, AllocError>
     requires rise { CornersRise rects.now }
     requires workers { 1 ≤ workers }
 {
     let size = rects.len() / workers as usize;
     let mut starts = Vec::new(alloc);
-    let mut count: usize = 0;
-    let mut next = 0;
-    let mut start = 0;
+    let mut strips: usize = 0;
+    let mut largest = 0;
+    let (mut last, mut start) = (0, 0);
     while start < rects.len() {
-        if next <= start && starts.len() < workers as usize {
+        if size.saturating_mul(starts.len()) <= start && starts.len() < workers as usize {
             starts.push(start)?;
-            next = start.saturating_add(size);
+            largest = start.saturating_sub(last).max(largest);
+            last = start;
         }
-        count = count.saturating_add(1);
+        strips = strips.saturating_add(1);
         start += strip_length(&rects[start..]);
     }
-    Ok((starts, count))
+    Ok(StripShares {
+        starts,
+        strips,
+        largest: start.saturating_sub(last).max(largest),
+    })
 }
 
 /// The block from a place on.
@@ -100,7 +112,7 @@ pub fn place_of(starts: &[usize], number: usize, behind: usize) -> usize {
     }
 }
 
-/// The blocks in which rectangles lie, the last first, made by so many workers, or none where there are too few blocks for all of them, or blocks are small.
+/// The blocks in which rectangles lie, the last first, made by so many workers, or none where blocks are small, or one share has more than two thirds of all rectangles, of which workers share slices.
 pub fn blocks_by<R: Threads + Sync>(
     rt: &R,
     alloc: Global,
@@ -113,8 +125,12 @@ pub fn blocks_by<R: Threads + Sync>(
     ensures { IfOk result (λ v. All (IsBlock rects.now) v.items) }
 {
     let mut made = Vec::new(alloc);
-    let (starts, count) = shares(alloc, rects, workers)?;
-    if starts.len() < workers as usize || rects.len() / LARGE < count {
+    let StripShares {
+        starts,
+        strips,
+        largest,
+    } = shares(alloc, rects, workers)?;
+    if rects.len() / LARGE < strips || rects.len() / 3 < largest / 2 {
         return Ok(made);
     }
     let lists = map_chunks(

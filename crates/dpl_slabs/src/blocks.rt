@@ -1,5 +1,5 @@
 //! Rectangles in blocks of columns, as upright wires are.
-ghost use Rattle.std.specs.Prelude.{◌≡◌, ◌<◌, ◌≤◌, IfOk, IfSome, OnOk, IsNone, length, drop};
+ghost use Rattle.std.specs.Prelude.{◌≡◌, ◌<◌, ◌≤◌, IfOk, IfSome, OnOk, length, drop};
 ghost use Rattle.std.specs.List.{All};
 ghost use Rattle.dpl_spec_split.specs.Squares.{Covers};
 ghost use Rattle.dpl_spec_split.specs.Slabs.{AreSlabsOf};
@@ -20,6 +20,9 @@ use dpl_base::{Rect, transpose_all};
 use dpl_order::sort_slice_by_corner;
 use std::alloc::{AllocError, Global};
 
+/// Left of how many columns one is looked for that no rectangle has.
+const COLUMNS: usize = 4096;
+
 /// Whether a strip of rectangles, which go by first row, has so many that they are better told apart by columns first.
 pub fn has_tall_strip(rects: &[Rect]) -> bool
     requires { CornersRise rects.now }
@@ -31,6 +34,39 @@ pub fn has_tall_strip(rects: &[Rect]) -> bool
             return true;
         }
         rest = others;
+    }
+    false
+}
+
+/// The leftmost and the rightmost column in which rectangles begin.
+fn first_columns(rects: &[Rect]) -> (i32, i32) {
+    let (mut first, mut last) = (i32::MAX, i32::MIN);
+    for r in rects {
+        first = first.min(r.x0);
+        last = last.max(r.x0);
+    }
+    (first, last)
+}
+
+/// Whether a column that no rectangle has lies left of one of 4,096 columns at even spaces. Where none does, there are hardly two blocks, and it isn't worth two sorts to tell.
+pub fn has_open_column(rects: &[Rect]) -> bool {
+    let (first, last) = first_columns(rects);
+    let width = first.abs_diff(last) / COLUMNS as u32 + 1;
+    let mut reached = [first; COLUMNS];
+    for r in rects {
+        let part = first.abs_diff(r.x0) / width;
+        if let Some(end) = reached.get_mut(part as usize) {
+            *end = r.x1.max(*end);
+        }
+    }
+    let mut start = first as i64;
+    let mut end = first;
+    for reach in &reached {
+        if (end as i64) < start {
+            return true;
+        }
+        end = end.max(*reach);
+        start = start.saturating_add(width as i64);
     }
     false
 }
@@ -103,26 +139,22 @@ fn add_block_at<S: Slicing>(
     Ok(start + count)
 }
 
-/// The slabs of rectangles' squares, block by block, or none where there are no two blocks. The rectangles are given transposed, and are transposed back block by block where they stand, but stay as they are where the block's slabs were made before its turn, and where there are no two blocks.
+/// The slabs of rectangles' squares, block by block. The rectangles are given transposed, and are transposed back block by block where they stand, but stay as they are where the block's slabs were made before its turn.
 pub fn slabs_of_blocks<S: Slicing>(
     alloc: Global,
     slicing: &S,
     rects: &mut [Rect],
-) -> Result<Option<Vec<Rect>>, AllocError>
+) -> Result<Vec<Rect>, AllocError>
     requires ready { S.ready }
     requires within { AreRectsWithin farthest rects.old }
     requires rise { CornersRise rects.old }
-    ensures slabs { IfOk result (λ found. IfSome found (λ v. AreScatteredOf (transposed (Covers rects.old)) v.items)) }
-    ensures none { IfOk result (λ found. IsNone found → rects.new ≡ rects.old) }
+    ensures { IfOk result (λ v. AreScatteredOf (transposed (Covers rects.old)) v.items) }
 {
-    if rects.is_empty() || strip_length(rects) == rects.len() {
-        return Ok(None);
-    }
     let mut made = slicing.blocks(alloc, rects)?;
     let mut slabs = Vec::with_capacity(alloc, rects.len())?;
     let mut start = 0;
     while start < rects.len() {
         start = add_block_at(alloc, slicing, &mut made, &mut slabs, rects, start)?;
     }
-    Ok(Some(slabs))
+    Ok(slabs)
 }

@@ -1,15 +1,17 @@
 //! The squares of a loop.
-ghost use Rattle.std.specs.Prelude.{◌≡◌, ◌⊎◌, ◌↔◌, ℕ, IfOk, IfSome, OnOk};
-ghost use Rattle.dpl_spec_split.specs.declared.Rect.{Rect};
-ghost use Rattle.dpl_spec_split.specs.declared.Pt.{Pt};
-ghost use Rattle.dpl_spec_split.specs.Squares.{Covers, Has};
+ghost use Rattle.std.specs.Prelude.{◌≤◌, IfOk, OnOk, length};
 ghost use Rattle.dpl_spec_split.specs.Slabs.{AreSlabsOf};
-ghost use Rattle.dpl_spec_split.specs.Loops.{farthest, LoopCovers, SomeLoopCovers, ArePointsWithin, IsPointWithin, AreLoopsWithin, IsRectWithin, AreRectsWithin};
-ghost use Rattle.dpl_slabs.specs.Loops.{AddsStep, AreStepsOf, AreEdgesOf};
+ghost use Rattle.dpl_spec_split.specs.Loops.{farthest, LoopCovers, SomeLoopCovers, ArePointsWithin, IsPointWithin, AreLoopsWithin, AreRectsWithin};
+ghost use Rattle.dpl_slabs.specs.Loops.{AddsStep, AreEdgesOf, AreRectsOf, SomeDealtCovers};
 
+use crate::slices::put_together;
 use dpl_base::{Loop, Pt, Rect};
 use dpl_sweep::{Edge, Rule, slabs_of_edges};
 use std::alloc::{AllocError, Global};
+use std::thread::{Threads, map_indices};
+
+/// How many corners loops have at least, where workers share them. Fewer are swept while a thread is made.
+const MANY: usize = 8192;
 
 /// Adds the edge from one point to the next, unless it is level.
 fn add_step(edges: &mut Vec<Edge>, p: &Pt, q: &Pt) -> Result<(), AllocError>
@@ -66,16 +68,61 @@ fn slabs_of_loop(alloc: Global, points: &[Pt]) -> Result<Vec<Rect>, AllocError>
     slabs_of_edges(alloc, edges, Rule::Either)
 }
 
-/// Adds the squares of loops to those of rectangles.
-pub fn add_loops(alloc: Global, rects: &mut Vec<Rect>, loops: &[Loop]) -> Result<(), AllocError>
-    requires rects { AreRectsWithin farthest rects.old.items }
+/// Rectangles that have the squares of the loops dealt to a worker: the slabs of each loop. Loop `k` is dealt to worker `k % workers`.
+pub fn rects_of_dealt(
+    alloc: Global,
+    loops: &[Loop],
+    worker: usize,
+    workers: usize,
+) -> Result<Vec<Rect>, AllocError>
     requires loops { AreLoopsWithin farthest loops.now }
-    ensures covers { OnOk result ((p : Pt) → Covers rects.new.items p ↔ (Covers rects.old.items p ⊎ SomeLoopCovers loops.now p)) }
-    ensures within { OnOk result (AreRectsWithin farthest rects.new.items) }
+    requires workers { 1 ≤ workers }
+    ensures { IfOk result (λ v. AreRectsOf (SomeDealtCovers loops.now worker workers (length loops.now)) v.items) }
 {
+    let mut rects = Vec::new(alloc);
     for i in 0..loops.len() {
-        let slabs = slabs_of_loop(alloc, loops[i].items())?;
-        rects.extend_from_slice(&slabs)?;
+        if i % workers == worker {
+            let slabs = slabs_of_loop(alloc, loops[i].items())?;
+            rects.extend_from_slice(&slabs)?;
+        }
     }
-    Ok(())
+    Ok(rects)
+}
+
+/// How many of the workers sweep loops: no more than there are loops, and one where these have few corners.
+fn workers_for(loops: &[Loop], workers: u32) -> usize
+    ensures { 1 ≤ result }
+{
+    let mut corners: usize = 0;
+    for i in 0..loops.len() {
+        corners = corners.saturating_add(loops[i].items().len());
+    }
+    if corners < MANY {
+        return 1;
+    }
+    (workers as usize).min(loops.len()).max(1)
+}
+
+/// Rectangles that have the squares of loops, which are dealt to workers.
+pub fn rects_of_loops_by<R: Threads + Sync>(
+    rt: &R,
+    alloc: Global,
+    loops: &[Loop],
+    workers: u32,
+) -> Result<Vec<Rect>, AllocError>
+    requires { AreLoopsWithin farthest loops.now }
+    ensures { IfOk result (λ v. AreRectsOf (SomeLoopCovers loops.now) v.items) }
+{
+    let count = workers_for(loops, workers);
+    let mut lists = map_indices(
+        rt,
+        alloc,
+        count,
+        &|worker| { rects_of_dealt(alloc, loops, worker, count) },
+    )?;
+    let mut rects = Vec::new(alloc);
+    while let Some(list) = lists.pop() {
+        rects = put_together(rects, list?)?;
+    }
+    Ok(rects)
 }

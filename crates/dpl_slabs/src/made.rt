@@ -1,16 +1,18 @@
-//! Pieces of slices, and slabs of blocks and strips, that workers make before their turn.
+//! Rectangles of loops, and pieces of slices, and slabs of blocks and strips that workers make before their turn.
 ghost use Rattle.std.specs.Prelude.{◌≡◌, ◌≤◌, ⊤, IfOk, IfSome};
 ghost use Rattle.std.specs.List.{All, Contains};
 ghost use Rattle.std.specs.Thread.{IsSync};
-ghost use Rattle.dpl_spec_split.specs.Loops.{farthest, AreRectsWithin};
+ghost use Rattle.dpl_spec_split.specs.Loops.{farthest, AreLoopsWithin, AreRectsWithin, SomeLoopCovers};
+ghost use Rattle.dpl_slabs.specs.Loops.{AreRectsOf};
 ghost use Rattle.dpl_slabs.specs.declared.made.Slice.{Slice as SliceOf};
 ghost use Rattle.dpl_order.specs.Orders.{CornersRise};
 ghost use Rattle.dpl_slabs.specs.Made.{IsBlock, IsSlice, IsSwept};
 
 use crate::ahead::{Block, blocks_by};
+use crate::loops::{rects_of_dealt, rects_of_loops_by};
 use crate::slices::{BOTTOM, TOP, most_pieces, pieces_of_slice};
 use crate::swept::{Swept, strips_by};
-use dpl_base::Rect;
+use dpl_base::{Loop, Rect};
 use std::alloc::{AllocError, Global};
 use std::thread::{Threads, map_chunks};
 
@@ -25,10 +27,16 @@ pub struct Slice {
     pub pieces: Vec<Rect>,
 }
 
-/// Who makes pieces of slices, and slabs of blocks and strips, before their turn.
+/// Who makes rectangles of loops, and pieces of slices, and slabs of blocks and strips before their turn.
 pub trait Slicing {
     // Whether they can be made so: what workers share is `Sync`.
     ghost ready: { Type 0 };
+
+    /// Rectangles that have the squares of loops.
+    fn rects_of_loops(&self, alloc: Global, loops: &[Loop]) -> Result<Vec<Rect>, AllocError>
+        requires ready { ready }
+        requires loops { AreLoopsWithin farthest loops.now }
+        ensures { IfOk result (λ v. AreRectsOf (SomeLoopCovers loops.now) v.items) };
 
     /// Some of the slices between the cuts, the highest first. All others are made at their turn.
     fn made(
@@ -64,6 +72,10 @@ pub struct InTurn;
 impl Slicing for InTurn {
     ghost ready = { ⊤ };
 
+    fn rects_of_loops(&self, alloc: Global, loops: &[Loop]) -> Result<Vec<Rect>, AllocError> {
+        rects_of_dealt(alloc, loops, 0, 1)
+    }
+
     fn made(
         &self,
         alloc: Global,
@@ -92,6 +104,10 @@ pub struct ByWorkers<'a, R> {
 
 impl<R: Threads + Sync> Slicing for ByWorkers<'_, R> {
     ghost ready = { IsSync R.row };
+
+    fn rects_of_loops(&self, alloc: Global, loops: &[Loop]) -> Result<Vec<Rect>, AllocError> {
+        rects_of_loops_by(self.rt, alloc, loops, self.workers)
+    }
 
     fn made(
         &self,

@@ -9,11 +9,10 @@ ghost use Rattle.dpl_slabs.specs.Parts.{union_of};
 ghost use Rattle.dpl_slabs.specs.Scattered.{AreScattered, AreUntouched};
 
 use crate::joint::combine_by_rows;
-use crate::loops::add_loops;
 use crate::made::{ByWorkers, InTurn, Slicing};
 use crate::rects::Rects;
 use crate::scattered::slabs_of_all;
-use crate::slices::slabs_left;
+use crate::slices::{put_together, slabs_left};
 use crate::strips::{slabs_by_rows, slabs_of_rects};
 use dpl_base::{Loop, Pt, Rect, all_transposed};
 use dpl_order::sort_by_corner;
@@ -158,7 +157,7 @@ impl Slabs {
         Slabs::of_shapes_in(alloc, &InTurn, rects, loops)
     }
 
-    /// The same by so many workers, who sweep blocks, slices or strips where there are many rectangles.
+    /// The same by so many workers, who sweep loops, and blocks, slices or strips where there are many rectangles.
     pub fn of_shapes_by<R: Threads + Sync>(
         rt: &R,
         alloc: Global,
@@ -185,9 +184,9 @@ impl Slabs {
         requires loops { AreLoopsWithin farthest loops.items }
         ensures { IfOk result (λ s. AreSlabsOf (λ p. Covers rects.items p ⊎ SomeLoopCovers loops.items p) s) }
     {
-        let mut all = rects;
-        add_loops(alloc, &mut all, &loops)?;
+        let others = slicing.rects_of_loops(alloc, &loops)?;
         drop(loops);
+        let all = put_together(rects, others)?;
         let slabs = slabs_of_rects(alloc, slicing, all)?;
         Ok(Slabs::of_canonical(slabs))
     }

@@ -153,7 +153,7 @@ fn parts_of(
 }
 
 /// Both lists in one, in any order: the shorter one is copied.
-fn put_together(first: Vec<Rect>, second: Vec<Rect>) -> Result<Vec<Rect>, AllocError>
+pub fn put_together(first: Vec<Rect>, second: Vec<Rect>) -> Result<Vec<Rect>, AllocError>
     ensures { IfOk result (λ v. IsPermutation (first.items ++ second.items) v.items) }
 {
     let (mut all, more) = if first.len() < second.len() {

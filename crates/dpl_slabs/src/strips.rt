@@ -8,7 +8,7 @@ ghost use Rattle.dpl_order.specs.Orders.{CornersRise};
 ghost use Rattle.dpl_slabs.specs.Cells.{transposed_rects};
 ghost use Rattle.dpl_slabs.specs.Strips.{LieBelow, AddsStrip};
 
-use crate::blocks::{has_tall_strip, slabs_of_blocks};
+use crate::blocks::{has_open_column, has_tall_strip, slabs_of_blocks};
 use crate::made::Slicing;
 use crate::row::{is_row, slabs_of_row};
 use crate::slices::{TALL, slabs_without};
@@ -107,7 +107,7 @@ fn transpose_and_sort(rects: &mut Vec<Rect>)
     sort_by_corner(rects);
 }
 
-/// The canonical slabs of rectangles in any order, block by block of columns where there are some between them. They are transposed where they stand, each block too, so that there is one list of them.
+/// The canonical slabs of rectangles in any order, block by block of columns. They are transposed where they stand, each block too, so that there is one list of them.
 fn slabs_by_blocks<S: Slicing>(
     alloc: Global,
     slicing: &S,
@@ -120,18 +120,14 @@ fn slabs_by_blocks<S: Slicing>(
 {
     let mut transposed = rects;
     transpose_and_sort(&mut transposed);
-    if let Some(mut slabs) = slabs_of_blocks(alloc, slicing, &mut transposed)? {
-        drop(transposed);
-        slabs.shrink_to_fit();
-        sort_by_corner(&mut slabs);
-        return Ok(slabs);
-    }
-    let mut rects = transposed;
-    transpose_and_sort(&mut rects);
-    slabs_by_rows(alloc, slicing, &rects)
+    let mut slabs = slabs_of_blocks(alloc, slicing, &mut transposed)?;
+    drop(transposed);
+    slabs.shrink_to_fit();
+    sort_by_corner(&mut slabs);
+    Ok(slabs)
 }
 
-/// The canonical slabs of rectangles, in any order, that may overlap: block by block of columns where strips of rows would be tall.
+/// The canonical slabs of rectangles, in any order, that may overlap: block by block of columns where strips of rows would be tall and a column seems to lie between blocks.
 pub fn slabs_of_rects<S: Slicing>(
     alloc: Global,
     slicing: &S,
@@ -144,7 +140,7 @@ pub fn slabs_of_rects<S: Slicing>(
 {
     let mut rects = rects;
     sort_by_corner(&mut rects);
-    if has_tall_strip(&rects) {
+    if has_tall_strip(&rects) && has_open_column(&rects) {
         return slabs_by_blocks(alloc, slicing, rects);
     }
     slabs_by_rows(alloc, slicing, &rects)

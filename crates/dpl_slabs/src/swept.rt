@@ -6,7 +6,7 @@ ghost use Rattle.dpl_order.specs.Orders.{CornersRise};
 ghost use Rattle.dpl_slabs.specs.declared.swept.Swept.{Swept as SweptOf};
 ghost use Rattle.dpl_slabs.specs.Made.{IsSwept};
 
-use crate::ahead::{place_of, shares};
+use crate::ahead::{StripShares, place_of, shares};
 use crate::blocks::has_tall_strip;
 use crate::made::{InTurn, Slicing};
 use crate::strips::{add_strip, strip_length};
@@ -113,7 +113,7 @@ pub fn strips_by<R: Threads + Sync>(
     if workers <= 1 || rects.len() < MANY || has_tall_strip(rects) {
         return Ok(made);
     }
-    let (starts, _) = shares(alloc, rects, workers)?;
+    let StripShares { starts, .. } = shares(alloc, rects, workers)?;
     if starts.len() < 2 {
         return Ok(made);
     }

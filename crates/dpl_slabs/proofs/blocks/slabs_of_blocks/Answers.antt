@@ -22,8 +22,8 @@ loop-start-preserved g c =
       made = c.in_ok-start.ensures.made;
     }
 
-pub returns-clause-slabs : goal.returns-clause-slabs
-returns-clause-slabs g c =
+pub returns : goal.returns
+returns g c =
     let len = length-drop c.loop-start.start c.loop-start.rects in
     let none : length (drop c.loop-start.start c.loop-start.rects) ≤ 0 = grind arith in
     blocks-all (transposed (Covers c.args.rects.now)) _ _ none c.loop-start.invariant.blocks

@@ -5,8 +5,8 @@ use Rattle.dpl_slabs.proofs.strips.slabs_of_rects.Goals as goal
 pub slabs_by_blocks-requires-clause-within : goal.slabs_by_blocks-requires-clause-within
 slabs_by_blocks-requires-clause-within g c = sorted-within c.args.rects.items _ c.sort_by_corner.ensures.same c.requires.within
 
-pub returns-then-has_tall_strip-clause-slabs : goal.returns-then-has_tall_strip-clause-slabs
-returns-then-has_tall_strip-clause-slabs g c =
+pub returns-then-has_open_column-clause-slabs : goal.returns-then-has_open_column-clause-slabs
+returns-then-has_open_column-clause-slabs g c =
     IfOk-weaker c.slabs_by_blocks.result _ _ (λ v is. sorted-slabs c.args.rects.items _ v.items c.sort_by_corner.ensures.same is) c.slabs_by_blocks.ensures.slabs
 
 pub slabs_by_rows-requires-clause-within : goal.slabs_by_rows-requires-clause-within
