@@ -1,4 +1,4 @@
-use Rattle.std.proofs.Common.{◌≡◌, ◌≤◌, ◌<◌, ◌++◌, ◌∷◌, [], length, ap, arith, rules}
+use Rattle.std.proofs.Common.{◌≡◌, ◌<◌, ◌++◌, ◌∷◌, [], length, ap, arith, rules}
 use Rattle.std.proofs.lemmas.List.{length_push}
 use Rattle.dpl_slabs.proofs.LoopLaws.{put-none, put-more, put-all}
 use Rattle.dpl_slabs.proofs.loops.rects_of_loops_by.Goals as goal
