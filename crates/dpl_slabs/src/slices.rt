@@ -413,7 +413,7 @@ fn pieces_of_slices<S: Slicing>(
 }
 
 /// The pieces of slices, or none where all is to be swept at once.
-fn sliced<S: Slicing>(
+pub fn sliced<S: Slicing>(
     alloc: Global,
     slicing: &S,
     rects: &[Rect],

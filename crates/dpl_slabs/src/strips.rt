@@ -9,12 +9,13 @@ ghost use Rattle.dpl_slabs.specs.Cells.{transposed_rects};
 ghost use Rattle.dpl_slabs.specs.Strips.{LieBelow, AddsStrip};
 
 use crate::blocks::{has_open_column, has_tall_strip, slabs_of_blocks};
+use crate::combine::combine_without;
 use crate::made::Slicing;
 use crate::row::{is_row, slabs_of_row};
-use crate::slices::{TALL, slabs_without};
+use crate::slices::sliced;
 use crate::swept::sweep_strips;
 use dpl_base::{Rect, transpose_all};
-use dpl_order::sort_by_corner;
+use dpl_order::{slabs_of, sort_by_corner};
 use dpl_upward::slabs_upward;
 use std::alloc::{AllocError, Global};
 
@@ -53,12 +54,13 @@ fn slabs_of_strip<S: Slicing>(
     if is_row(strip) {
         return slabs_of_row(alloc, strip);
     }
-    if strip.len() < TALL {
-        if let Some(slabs) = slabs_upward(alloc, strip)? {
-            return Ok(slabs);
-        }
+    if let Some(pieces) = sliced(alloc, slicing, strip, &[])? {
+        return Ok(slabs_of(pieces));
     }
-    slabs_without(alloc, slicing, strip, &[])
+    if let Some(slabs) = slabs_upward(alloc, strip)? {
+        return Ok(slabs);
+    }
+    combine_without(alloc, strip, &[])
 }
 
 /// Adds the slabs of a strip that lies above all slabs.
