@@ -28,9 +28,11 @@ pub(crate) fn points_of(alloc: Global, xy: &[u8]) -> Result<Vec<Pt>, AllocError>
 }
 
 /// The loop through the points in the data of XY, where these are five, the corners of a rectangle and the first again.
+#[inline(always)]
 pub(crate) fn rectangle_of(xy: &[u8]) -> Option<Figure>
     ensures points { IfSome result (λ f. f ≡ points_in xy.now) }
     ensures within { IfSome result (λ f. ArePointsWithin (2 ^ 31) (points_in xy.now)) }
+    ensures straight { IfSome result (λ f. IsRectilinear (points_in xy.now)) }
 {
     if xy.len() != 40 {
         return None;
@@ -48,6 +50,9 @@ pub(crate) fn rectangle_of(xy: &[u8]) -> Option<Figure>
 fn is_upright(xy: &[u8]) -> bool
     ensures { MatchBool result (IsRectilinear (points_in xy.now)) (IsSlanted (points_in xy.now)) }
 {
+    if rectangle_of(xy).is_some() {
+        return true;
+    }
     let count = xy.len() / 8;
     if count == 0 {
         return true;
