@@ -1,2 +1,3 @@
 pub mod CornerLaws
 pub mod BarLaws
+pub mod StraightLaws

@@ -64,6 +64,7 @@ fn bar_through(p: &Pt, q: &Pt, r: &Pt, t: &Pt, closed: bool) -> Option<Bar>
 }
 
 /// The bar whose corners are the points, each beside the one before it. The last may be the first again.
+#[inline(always)]
 pub(crate) fn bar_of(points: &[Pt]) -> Option<Bar>
     ensures { IfSome result (λ b. loop_round b ≡ points.now) }
 {

@@ -1,9 +1,10 @@
 //! A loop that is kept as a bar where it is one.
-ghost use Rattle.std.specs.Prelude.{◌≡◌};
+ghost use Rattle.std.specs.Prelude.{◌≡◌, IfSome};
+ghost use Rattle.dpl_spec_split.specs.Loops.{IsRectilinear};
 ghost use Rattle.dpl_corners.specs.Figures.{points_of};
 
 use crate::bar::{Bar, bar_of};
-use dpl_base::Loop;
+use dpl_base::{Loop, Pt};
 use std::marker::Model;
 
 /// What a loop is kept as.
@@ -30,6 +31,18 @@ impl Model for Figure {
 }
 
 impl Figure {
+    /// The figure of the loop through these points, where they are the corners of a rectangle, each beside the one before it, and the first may stand once more at the end.
+    #[inline(always)]
+    pub fn through(points: &[Pt]) -> Option<Figure>
+        ensures points { IfSome result (λ f. f ≡ points.now) }
+        ensures straight { IfSome result (λ f. IsRectilinear points.now) }
+    {
+        let bar = bar_of(points)?;
+        Some(Figure {
+            shape: Shape::Bar(bar),
+        })
+    }
+
     /// The figure of a loop: a bar where its points are the corners of a rectangle, each beside the one before it, and the first may stand once more at the end.
     pub fn of(points: Loop) -> Figure
         ensures { result ≡ points }

@@ -2,7 +2,7 @@
 
 ghost use Rattle.std.specs.Prelude.{◌≡◌, ◌++◌, ◌<◌, ◌≤◌, ℕ, [], true, false, length, map, ◌∷◌, ◌^◌, List, Some, IfOk, OnOk};
 ghost use Rattle.std.specs.List.{All};
-ghost use Rattle.dpl_spec_split.specs.Loops.{IsRectilinear, AreLoopsWithin};
+ghost use Rattle.dpl_spec_split.specs.Loops.{IsRectilinear, ArePointsWithin, AreLoopsWithin};
 ghost use Rattle.dpl_spec_elements.specs.Boundaries.{IsSlanted};
 ghost use Rattle.dpl_spec_elements.specs.Paths.{corners_of, path_rects};
 ghost use Rattle.dpl_spec_format.specs.Tree.{HasPoints, elements_at};
@@ -19,7 +19,7 @@ ghost use Rattle.dpl_links.specs.Graph.{IsMarked};
 use crate::count::total_at;
 use crate::links::target;
 use crate::role::{PathStyle, Role, role_of};
-use crate::shapes::points_of;
+use crate::shapes::{points_of, rectangle_of};
 use dpl_base::{Listed, Loop};
 use dpl_corners::Figure;
 use dpl_reference::{array_copies, single_copy};
@@ -39,6 +39,18 @@ fn out_of_memory(fault: ShapeFault) -> AllocError
     }
 }
 
+/// The loop that a boundary or box draws. That of a rectangle needs no list of points.
+fn figure_of(alloc: Global, xy: &[u8]) -> Result<Figure, AllocError>
+    ensures points { IfOk result (λ f. f ≡ points_in xy.now) }
+    ensures within { OnOk result (ArePointsWithin (2 ^ 31) (points_in xy.now)) }
+{
+    if let Some(figure) = rectangle_of(xy) {
+        return Ok(figure);
+    }
+    let points = points_of(alloc, xy)?;
+    Ok(Figure::of(Loop::of(points)))
+}
+
 /// Notes the loop that a boundary or box draws which isn't refused.
 fn draw_boundary(
     alloc: Global,
@@ -51,7 +63,7 @@ fn draw_boundary(
     ensures straight { OnOk result (All IsRectilinear (points_in xy.now ∷ [])) }
     ensures within { OnOk result (AreLoopsWithin (2 ^ 61) (points_in xy.now ∷ [])) }
 {
-    let points = Figure::of(Loop::of(points_of(alloc, xy)?));
+    let points = figure_of(alloc, xy)?;
     outlines.push(Outline { at, points })?;
     Ok(())
 }

@@ -52,6 +52,7 @@ fn is_on(chosen: Layer, layer: u16, datatype: u16) -> bool
 }
 
 /// What an element is for the chosen layer.
+#[inline(always)]
 pub(crate) fn role_of<'a>(chosen: Layer, body: &Body<'a>) -> Role<'a>
     ensures { IsRoleOf chosen (body_seen body.now) result }
 {

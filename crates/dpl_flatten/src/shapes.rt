@@ -1,6 +1,6 @@
 //! What boundaries, boxes and paths draw.
 
-ghost use Rattle.std.specs.Prelude.{◌≡◌, ◌+◌, ◌*◌, ◌^◌, ◌≤◌, ◌%◌, ℤ, pos, length, unwrap_or, IfOk, OnOk, MatchBool};
+ghost use Rattle.std.specs.Prelude.{◌≡◌, ◌+◌, ◌*◌, ◌^◌, ◌≤◌, ◌%◌, ℤ, pos, length, unwrap_or, IfOk, IfSome, OnOk, MatchBool};
 ghost use Rattle.dpl_spec_split.specs.Loops.{ArePointsWithin, IsRectilinear};
 ghost use Rattle.dpl_spec_elements.specs.Boundaries.{IsSlanted};
 ghost use Rattle.dpl_spec_layout.specs.Elements.{points_in, IsBoundaryFault, IsPathFault};
@@ -9,6 +9,7 @@ ghost use Rattle.dpl_flatten.specs.Roles.{path_along};
 
 use crate::role::PathStyle;
 use dpl_base::Pt;
+use dpl_corners::Figure;
 use dpl_reference::point_at;
 use dpl_shapes::{ShapeFault, check_path, is_level_or_upright};
 use dpl_spec_layout::ElementFault;
@@ -26,10 +27,32 @@ pub(crate) fn points_of(alloc: Global, xy: &[u8]) -> Result<Vec<Pt>, AllocError>
     Ok(points)
 }
 
+/// The loop through the points in the data of XY, where these are five, the corners of a rectangle and the first again.
+#[inline(always)]
+pub(crate) fn rectangle_of(xy: &[u8]) -> Option<Figure>
+    ensures points { IfSome result (λ f. f ≡ points_in xy.now) }
+    ensures within { IfSome result (λ f. ArePointsWithin (2 ^ 31) (points_in xy.now)) }
+    ensures straight { IfSome result (λ f. IsRectilinear (points_in xy.now)) }
+{
+    if xy.len() != 40 {
+        return None;
+    }
+    Figure::through(&[
+        point_at(xy, 0),
+        point_at(xy, 1),
+        point_at(xy, 2),
+        point_at(xy, 3),
+        point_at(xy, 4),
+    ])
+}
+
 /// Whether each edge of a boundary or box is parallel to an axis, by the data of its XY.
 fn is_upright(xy: &[u8]) -> bool
     ensures { MatchBool result (IsRectilinear (points_in xy.now)) (IsSlanted (points_in xy.now)) }
 {
+    if rectangle_of(xy).is_some() {
+        return true;
+    }
     let count = xy.len() / 8;
     if count == 0 {
         return true;

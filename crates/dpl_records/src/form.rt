@@ -69,7 +69,7 @@ enum Data {
 }
 
 /// What the data of each type of record are, from HEADER (type 0) on.
-const TABLE: [Data; 60] = [
+static TABLE: [Data; 60] = [
     Short, Dates, Text, Reals, Empty, Dates, Text, Empty, // 0x00 to 0x07: HEADER to ENDSTR
     Empty, Empty, Empty, Empty, Empty, Short, Short, Long, // 0x08 to 0x0F: BOUNDARY to WIDTH
     Points, Empty, Text, Shorts, Unknown, Empty, Short, Bits, // 0x10 to 0x17: XY to PRESENTATION

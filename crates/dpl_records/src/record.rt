@@ -24,6 +24,7 @@ pub struct Record<'a> {
 }
 
 #[tactic(auto, unfolding(dpl_spec_format::specs::Records::record_at))]
+#[inline(always)]
 /// The record at the offset `at`, or the first cause by which there is none: fewer than four bytes are left, the length is
 /// below 4 or odd, it passes the end, the type is unknown, the data type isn't that of the type, the size of the data isn't.
 pub fn next_record(bytes: &[u8], at: usize) -> Result<Record<'_>, RecordFault>

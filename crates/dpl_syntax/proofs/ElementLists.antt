@@ -22,7 +22,7 @@ use Rattle.dpl_syntax.proofs.Steps.{agreed, moved, stops}
 use Rattle.dpl_syntax.proofs.Taking.{same_record, if_some, if_none, if_fails}
 use Rattle.dpl_syntax.proofs.Slotting.{no_outer}
 use Rattle.dpl_syntax.proofs.Lists.{avoids_a}
-use Rattle.dpl_syntax.proofs.Ends.{passes_then, fails_then, IsNever, never, IsOne}
+use Rattle.dpl_syntax.proofs.Ends.{passes_none, passes_then, fails_then, IsNever, never, IsOne}
 use Rattle.dpl_syntax.proofs.ElementBodies.{by_kind, tail, choice, avoids_choice, solid_choice}
 
 -- ---- what the records are
@@ -196,6 +196,9 @@ elements_more bytes from at n es e h so_far next one =
     passes_then bytes elements_first elements_first elements_first (AreElements es) (IsElement e) (AreElements (es ++ e ∷ [])) from at n
     (λ rs qs p q. elements_append es (e ∷ []) rs qs p (element_is e qs q)) so_far
     (λ before rest reached. one before (elements_first rest) (enters_element bytes before rest at h next reached))
+
+pub none_yet : (bytes : List ℕ) (at : ℕ) → Passes bytes elements_first elements_first (AreElements []) at at
+none_yet bytes at = passes_none bytes elements_first (AreElements []) at no_elements
 
 pub elements_done : (bytes : List ℕ) (from at : ℕ) (es : List tree.Element)
     → Passes bytes elements_first elements_first (AreElements es) from at → IsNoElement bytes at

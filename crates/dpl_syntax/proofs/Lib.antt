@@ -17,3 +17,4 @@ pub mod Heads
 pub mod StructureLists
 pub mod WholeLibraries
 pub mod OneReading
+pub mod PlainBoundaries

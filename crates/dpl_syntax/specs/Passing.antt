@@ -80,6 +80,12 @@ pub record IsNextElement (bytes : List ℕ) (at : ℕ) (r : Record) : Type 0 whe
 abbrev pub IsNoElement : List ℕ → ℕ → Type 0
 IsNoElement bytes at = (r : Record) × (record_at bytes at ≡ Ok r) × (kinds.begins_element r.kind ≡ false)
 
+-- an element is the next, and reading has come behind it
+pub record IsTakenElement (bytes : List ℕ) (at : ℕ) (e : tree.Element) (next : ℕ) : Type 0 where
+  pub first : Record
+  pub is_next : IsNextElement bytes at first
+  pub passes : Passes bytes element_then same (IsElement e) at next
+
 abbrev pub endstr_first : Grammar → Grammar
 endstr_first rest = both (a kinds.endstr) rest
 

@@ -6,7 +6,7 @@ ghost use Rattle.dpl_spec_format.specs.Records.{record_at};
 ghost use Rattle.dpl_records.specs.Seen.{seen};
 ghost use Rattle.dpl_syntax.specs.Elements.{element_seen, IsSized};
 ghost use Rattle.dpl_syntax.specs.Outcome.{Refuses};
-ghost use Rattle.dpl_syntax.specs.Passing.{Passes, Fails, same, properties_end, property_first, endel_first, AreProperties, IsEnd, element_then, IsElement, IsNextElement, IsNoElement, class_first, elements_first, endstr_first, AreElements};
+ghost use Rattle.dpl_syntax.specs.Passing.{Passes, Fails, same, properties_end, property_first, endel_first, AreProperties, IsEnd, element_then, IsElement, IsNextElement, IsNoElement, IsTakenElement, class_first, elements_first, endstr_first, AreElements};
 
 use crate::element::Element;
 use crate::fault::SyntaxFault;
@@ -113,6 +113,26 @@ impl<'a> Reader<'a> {
         Ok(())
     }
 
+    /// The next element, if the next record begins one. Else that stays the next.
+    fn next_element(&mut self) -> Result<Option<Element<'a>>, SyntaxFault>
+        ensures some { IfOk result (λ o. IfSome o (λ e. IsTakenElement self.old.bytes.now self.old.at (element_seen e) self.new.at)) }
+        ensures none { IfOk result (λ o. IfNone o (IsNoElement self.old.bytes.now self.old.at × (self.new.at ≡ self.old.at))) }
+        ensures err { IfErr result (λ e. Refuses (Fails self.old.bytes.now elements_first self.old.at) e) }
+        ensures sized { IfOk result (λ o. IfSome o (λ e. IsSized e)) }
+        ensures further { IfOk result (λ o. IfSome o (λ _. self.old.at < self.new.at)) }
+        ensures on { self.old.at ≤ self.new.at }
+        ensures bytes { self.new.bytes ≡ self.old.bytes }
+    {
+        if let Some(plain) = self.take_plain() {
+            return Ok(Some(plain));
+        }
+        let Some(first) = self.peek_element()? else {
+            return Ok(None);
+        };
+        let element = self.element(first)?;
+        Ok(Some(element))
+    }
+
     /// The elements of a structure.
     pub(crate) fn elements(&mut self, alloc: Global) -> Result<Vec<Element<'a>>, SyntaxFault>
         ensures ok { IfOk result (λ v. Passes self.old.bytes.now elements_first endstr_first (AreElements (map element_seen v.items)) self.old.at self.new.at) }
@@ -122,8 +142,7 @@ impl<'a> Reader<'a> {
         ensures bytes { self.new.bytes ≡ self.old.bytes }
     {
         let mut elements = Vec::new(alloc);
-        while let Some(first) = self.peek_element()? {
-            let element = self.element(first)?;
+        while let Some(element) = self.next_element()? {
             elements.push(element)?;
         }
         Ok(elements)

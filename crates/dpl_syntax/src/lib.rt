@@ -7,6 +7,7 @@ mod elements;
 mod fault;
 mod head;
 mod library;
+mod plain;
 mod read;
 mod reader;
 mod structures;

@@ -6,4 +6,4 @@ pub returns-clause-straight : goal.returns-clause-straight
 returns-clause-straight c = one_straight (points_in c.args.xy.now) c.requires
 
 pub returns-clause-within : goal.returns-clause-within
-returns-clause-within c = one_within (points_in c.args.xy.now) (rw c.in_ok-points_of.ensures.value at c.in_ok-points_of.ensures.within)
+returns-clause-within c = one_within (points_in c.args.xy.now) c.in_ok-points.ensures.within
