@@ -150,11 +150,11 @@ all-put_from words first size xs made before after each some len put =
     (λ k d lt. ((each k d lt).0, rw (rows-from words first (k * size) (slice_chunk xs size k)) (each k d lt).1)) some len put
     ∙ ap (λ t. before ++ text t) (rows-from words first 0 xs ∙ ap (λ k. rows words k xs) none)
 
--- the lines of one stretch more
-pub stretch-more : {A : Type 0} (words : ℕ → A → List (List ℕ)) (first n : ℕ) (xs : List A) (before old new : List ℕ) → first ≤ length xs
+-- the lines of one round more
+pub round-more : {A : Type 0} (words : ℕ → A → List (List ℕ)) (first n : ℕ) (xs : List A) (before old new : List ℕ) → first ≤ length xs
     → old ≡ before ++ text (rows words 0 (take first xs)) → new ≡ old ++ text (rows words first (take n (drop first xs)))
     → new ≡ before ++ text (rows words 0 (take (first + n) xs))
-stretch-more words first n xs before old new le so_far is =
+round-more words first n xs before old new le so_far is =
     let front = take first xs in
     let next = take n (drop first xs) in
     let number : 0 + length front ≡ first = omega (arith, length-take-le first xs le) in

@@ -9,8 +9,8 @@ use crate::writing::{put_pieces, put_stitches};
 use std::alloc::{AllocError, Global};
 use std::thread::{Threads, map_chunks};
 
-/// How many pieces a worker makes the lines of before they are put behind the others.
-const STRETCH: usize = 65_536;
+/// How many pieces a worker makes the lines of in a round, before they are put behind the others.
+const ROUND: usize = 65_536;
 
 /// The lines of pieces, of which the first has this number.
 fn pieces_text(alloc: Global, first: usize, pieces: &[PieceLine]) -> Result<String, AllocError>
@@ -43,7 +43,7 @@ fn put_parts(out: &mut String, parts: Vec<Result<String, AllocError>>) -> Result
 }
 
 /// A line for each of these pieces, of which the first has this number. So many workers have as many pieces each.
-fn put_stretch_by<R: Threads + Sync>(
+fn put_round_by<R: Threads + Sync>(
     rt: &R,
     alloc: Global,
     out: &mut String,
@@ -66,7 +66,7 @@ fn put_stretch_by<R: Threads + Sync>(
     put_parts(out, parts)
 }
 
-/// A line for each piece, stretch by stretch, so that the texts that workers make are never all in memory beside the whole.
+/// A line for each piece, round by round, so that the texts that workers make are never all in memory beside the whole.
 pub(crate) fn put_pieces_by<R: Threads + Sync>(
     rt: &R,
     alloc: Global,
@@ -77,13 +77,13 @@ pub(crate) fn put_pieces_by<R: Threads + Sync>(
     requires workers { 1 ≤ workers }
     ensures { OnOk result (string_bytes out.new ≡ string_bytes out.old ++ text (rows piece_words 0 pieces.now)) }
 {
-    let most = STRETCH.saturating_mul(workers as usize);
+    let most = ROUND.saturating_mul(workers as usize);
     let mut first = 0;
     while first < pieces.len() {
         let (_, rest) = pieces.split_at(first);
-        let (stretch, _) = rest.split_at(rest.len().min(most));
-        put_stretch_by(rt, alloc, out, first, stretch, workers)?;
-        first += stretch.len();
+        let (round, _) = rest.split_at(rest.len().min(most));
+        put_round_by(rt, alloc, out, first, round, workers)?;
+        first += round.len();
     }
     Ok(())
 }

@@ -4,7 +4,7 @@ use Rattle.std.specs.Prelude.{string_bytes}
 use Rattle.dpl_cert.specs.declared.cert.PieceLine.{PieceLine}
 use Rattle.dpl_cert.specs.Lines.{text}
 use Rattle.dpl_cert.specs.Grammar.{rows, piece_words}
-use Rattle.dpl_cert.proofs.Parts.{stretch-more}
+use Rattle.dpl_cert.proofs.Parts.{round-more}
 use Rattle.dpl_cert.proofs.lists.put_pieces_by.Goals as goal
 
 pub loop-first-init : goal.loop-first-init
@@ -23,8 +23,8 @@ loop-first-preserved g c =
     c.split_at-in-loop-first.ensures.front ∙ ap (take c.min.result) rest ∙ ap (λ j. take j (drop first pieces)) (sym len) in
     record {
       within = omega (arith, len, left, inv.within, length-drop first pieces);
-      put = stretch-more piece_words first n pieces _ _ _ inv.within inv.put
-          (c.in_ok-put_stretch_by.ensures ∙ ap (λ (l : List PieceLine). string_bytes c.loop-first.out ++ text (rows piece_words first l)) front);
+      put = round-more piece_words first n pieces _ _ _ inv.within inv.put
+          (c.in_ok-put_round_by.ensures ∙ ap (λ (l : List PieceLine). string_bytes c.loop-first.out ++ text (rows piece_words first l)) front);
     }
 
 pub returns : goal.returns

@@ -3,7 +3,7 @@ use Rattle.std.proofs.lemmas.Result.{on_ok_weaker}
 use Rattle.dpl_cert.specs.Lines.{text}
 use Rattle.dpl_cert.specs.Grammar.{rows, piece_words}
 use Rattle.dpl_cert.proofs.Parts.{all-put_from, AreMadeFrom}
-use Rattle.dpl_cert.proofs.lists.put_stretch_by.Goals as goal
+use Rattle.dpl_cert.proofs.lists.put_round_by.Goals as goal
 
 pub returns : goal.returns
 returns g c =
