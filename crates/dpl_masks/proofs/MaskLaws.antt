@@ -64,7 +64,8 @@ adds_then old mid new A B first second f p = (
 )
 
 pub patches-more : (old new : List Patch) (t : Patch) → new ≡ old ++ t ∷ [] → ArePatchesWithin old → IsRectWithin farthest t.rect → ArePatchesWithin new
-patches-more old new t is within one = rw is (λ (s : Patch) c. elim (Contains-push_cases old t s c) [ inl was ↦ within s was | inr same ↦ subst (λ (u : Patch). IsRectWithin farthest u.rect) same one ])
+patches-more old new t is within one =
+    rw is (λ (s : Patch) c. elim (Contains-push_cases old t s c) [ inl was ↦ within s was | inr same ↦ subst (λ (u : Patch). IsRectWithin farthest u.rect) same one ])
 
 split_at : (n k : ℕ) → k < n + 1 → (k < n) ⊎ (k ≡ n)
 split_at n k h = elim (cases_lt k n) [ inl l ↦ inl l | inr g ↦ inr (omega (arith, g, h)) ]
