@@ -124,3 +124,41 @@ all-put words size xs made before after each some len put =
     let rs = map string_bytes put.parts in
     let count : length rs ≡ length made = length-map put.parts string_bytes ∙ sym (length-map put.parts fine) ∙ sym (ap length put.each) in
     put.behind ∙ ap (λ (t : List ℕ). before ++ t) (rows-all words size xs rs (parts-of words size xs made put.parts put.each each) some (count ∙ len))
+
+-- lines whose numbers begin later
+words-from : {A : Type 0} → (ℕ → A → List (List ℕ)) → ℕ → ℕ → A → List (List ℕ)
+words-from words first k x = words (first + k) x
+
+rows-from : {A : Type 0} (words : ℕ → A → List (List ℕ)) (first n : ℕ) (xs : List A) → rows (words-from words first) n xs ≡ rows words (first + n) xs
+unfolding words-from
+rows-from words first n [] = refl
+rows-from words first n (x ∷ xs) =
+    let same : first + (n + 1) ≡ first + n + 1 = omega arith in
+    ap (λ (t : List (List ℕ)). line (words (first + n) x) ∷ t) (rows-from words first (n + 1) xs ∙ ap (λ k. rows words k xs) same)
+
+-- and these texts of a list whose first line has this number
+abbrev pub AreMadeFrom : {A : Type 0} → (ℕ → A → List (List ℕ)) → ℕ → ℕ → List A → List (Result (String Global) AllocError) → Type 0
+AreMadeFrom words first size xs made = (k : ℕ) (d : Result (String Global) AllocError) → k < length made
+    → (k * size < length xs) × IfOk (get_or made k d) (λ s. string_bytes s ≡ text (rows words (first + k * size) (slice_chunk xs size k)))
+
+pub all-put_from : {A : Type 0} (words : ℕ → A → List (List ℕ)) (first size : ℕ) (xs : List A) (made : List (Result (String Global) AllocError)) (before after : List ℕ)
+    → AreMadeFrom words first size xs made → 0 < size → length made ≡ length xs / size + min 1 (length xs % size) → AreParts made before after
+    → after ≡ before ++ text (rows words first xs)
+all-put_from words first size xs made before after each some len put =
+    let none : first + 0 ≡ first = omega arith in
+    all-put (words-from words first) size xs made before after
+    (λ k d lt. ((each k d lt).0, rw (rows-from words first (k * size) (slice_chunk xs size k)) (each k d lt).1)) some len put
+    ∙ ap (λ t. before ++ text t) (rows-from words first 0 xs ∙ ap (λ k. rows words k xs) none)
+
+-- the lines of one round more
+pub round-more : {A : Type 0} (words : ℕ → A → List (List ℕ)) (first n : ℕ) (xs : List A) (before old new : List ℕ) → first ≤ length xs
+    → old ≡ before ++ text (rows words 0 (take first xs)) → new ≡ old ++ text (rows words first (take n (drop first xs)))
+    → new ≡ before ++ text (rows words 0 (take (first + n) xs))
+round-more words first n xs before old new le so_far is =
+    let front = take first xs in
+    let next = take n (drop first xs) in
+    let number : 0 + length front ≡ first = omega (arith, length-take-le first xs le) in
+    let lines : rows words 0 (take (first + n) xs) ≡ rows words 0 front ++ rows words first next = ap (rows words 0) (take-add first n xs)
+    ∙ rows-append words 0 front next ∙ ap (λ (k : ℕ). rows words 0 front ++ rows words k next) number in
+    is ∙ ap (λ (t : List ℕ). t ++ text (rows words first next)) so_far ∙ append_assoc before (text (rows words 0 front)) (text (rows words first next))
+    ∙ ap (λ (t : List ℕ). before ++ t) (sym (ap text lines ∙ concat-append (rows words 0 front) (rows words first next)))

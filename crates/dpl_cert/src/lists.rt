@@ -9,6 +9,9 @@ use crate::writing::{put_pieces, put_stitches};
 use std::alloc::{AllocError, Global};
 use std::thread::{Threads, map_chunks};
 
+/// How many pieces a worker makes the lines of in a round, before they are put behind the others.
+const ROUND: usize = 65_536;
+
 /// The lines of pieces, of which the first has this number.
 fn pieces_text(alloc: Global, first: usize, pieces: &[PieceLine]) -> Result<String, AllocError>
     requires { first + length pieces.now < 2 ^ 64 }
@@ -39,7 +42,31 @@ fn put_parts(out: &mut String, parts: Vec<Result<String, AllocError>>) -> Result
     Ok(())
 }
 
-/// A line for each piece. So many workers have as many pieces each.
+/// A line for each of these pieces, of which the first has this number. So many workers have as many pieces each.
+fn put_round_by<R: Threads + Sync>(
+    rt: &R,
+    alloc: Global,
+    out: &mut String,
+    first: usize,
+    pieces: &[PieceLine],
+    workers: u32,
+) -> Result<(), AllocError>
+    requires workers { 1 ≤ workers }
+    requires few { first + length pieces.now < 2 ^ 64 }
+    ensures { OnOk result (string_bytes out.new ≡ string_bytes out.old ++ text (rows piece_words first pieces.now)) }
+{
+    let size = pieces.len().div_ceil(workers as usize).max(1);
+    let parts = map_chunks(
+        rt,
+        alloc,
+        pieces,
+        size,
+        &|place, chunk| { pieces_text(alloc, first + place, chunk) },
+    )?;
+    put_parts(out, parts)
+}
+
+/// A line for each piece, round by round, so that the texts that workers make are never all in memory beside the whole.
 pub(crate) fn put_pieces_by<R: Threads + Sync>(
     rt: &R,
     alloc: Global,
@@ -50,15 +77,15 @@ pub(crate) fn put_pieces_by<R: Threads + Sync>(
     requires workers { 1 ≤ workers }
     ensures { OnOk result (string_bytes out.new ≡ string_bytes out.old ++ text (rows piece_words 0 pieces.now)) }
 {
-    let size = pieces.len().div_ceil(workers as usize).max(1);
-    let parts = map_chunks(
-        rt,
-        alloc,
-        pieces,
-        size,
-        &|first, chunk| { pieces_text(alloc, first, chunk) },
-    )?;
-    put_parts(out, parts)
+    let most = ROUND.saturating_mul(workers as usize);
+    let mut first = 0;
+    while first < pieces.len() {
+        let (_, rest) = pieces.split_at(first);
+        let (round, _) = rest.split_at(rest.len().min(most));
+        put_round_by(rt, alloc, out, first, round, workers)?;
+        first += round.len();
+    }
+    Ok(())
 }
 
 /// A line for each stitch. So many workers have as many stitches each.

@@ -1,62 +1,71 @@
--- Squares that are added piece by piece and zone by zone, and stitches that are found one by one.
+-- Patches that are added piece by piece and zone by zone, and stitches that are found one by one.
 use Rattle.std.proofs.Common.{◌≡◌, ◌∙◌, ◌<◌, ◌+◌, ℕ, inl, inr, Bool, false, true, List, [], ◌∷◌, ◌++◌, length, get_or, ap, sym, subst, arith}
 use Rattle.std.specs.Prelude.{◌↔◌, ◌⊎◌}
-use Rattle.std.specs.List.{Contains}
-use Rattle.std.proofs.lemmas.List.Elements.{Contains-append_cases, Contains-append_left, Contains-append_right, Contains-get_or}
+use Rattle.std.specs.List.{Any, Contains}
+use Rattle.std.proofs.lemmas.List.Elements.{Contains-append_cases, Contains-append_left, Contains-append_right, Contains-get_or, Contains-push_cases}
 use Rattle.std.proofs.lemmas.List.{get_or_default}
 use Rattle.std.proofs.lemmas.List.Quantifiers.{all_pairs_push}
 use Rattle.std.proofs.lemmas.Bool.{cases_lt}
 use Rattle.dpl_spec_split.specs.declared.Pt.{Pt}
-use Rattle.dpl_spec_split.specs.declared.Rect.{Rect}
 use Rattle.dpl_spec_split.specs.Squares.{Covers, Has, Region}
+use Rattle.dpl_spec_split.specs.Loops.{IsRectWithin, farthest}
 use Rattle.dpl_spec_split.specs.Colours.{AreStitches, colour_at, differ}
 use Rattle.dpl_spec_split.proofs.Ordered.{Contains-cases, Contains-head, Contains-nil}
-use Rattle.dpl_masks.specs.Painting.{Adds, AreFirstStitches}
+use Rattle.dpl_masks.specs.declared.rest.Patch.{Patch}
+use Rattle.dpl_masks.specs.Painting.{Adds, AreFirstStitches, ArePatchesWithin, Holds}
 
-pub covers_append : (rs ss : List Rect) (p : Pt) → Covers (rs ++ ss) p ↔ (Covers rs p ⊎ Covers ss p)
-covers_append rs ss p = (
-  λ h. let (k, r, l, e, has) = h in elim (Contains-append_cases rs ss r (k, l, e)) [ inl c ↦ inl (c.0, r, c.1, c.2, has) | inr c ↦ inr (c.0, r, c.1, c.2, has) ],
+-- what some of a list and of what is put behind it have
+pub any_append : {X : Type 0} (P : X → Type 0) (xs ys : List X) → Any P (xs ++ ys) ↔ (Any P xs ⊎ Any P ys)
+any_append P xs ys = (
+  λ h. let (k, x, l, e, has) = h in elim (Contains-append_cases xs ys x (k, l, e)) [ inl c ↦ inl (c.0, x, c.1, c.2, has) | inr c ↦ inr (c.0, x, c.1, c.2, has) ],
   λ h. elim h [
-    | inl c ↦ let (k, r, l, e, has) = c in let i = Contains-append_left rs ss r (k, l, e) in (i.0, r, i.1, i.2, has)
-    | inr c ↦ let (k, r, l, e, has) = c in let i = Contains-append_right rs ss r (k, l, e) in (i.0, r, i.1, i.2, has)
+    | inl c ↦ let (k, x, l, e, has) = c in let i = Contains-append_left xs ys x (k, l, e) in (i.0, x, i.1, i.2, has)
+    | inr c ↦ let (k, x, l, e, has) = c in let i = Contains-append_right xs ys x (k, l, e) in (i.0, x, i.1, i.2, has)
   ],
 )
 
-covers_one : (r : Rect) (p : Pt) → Covers (r ∷ []) p ↔ Has r p
-covers_one r p = (
-  λ h. let (k, s, l, e, has) = h in elim (Contains-cases r s [] (k, l, e)) [ inl same ↦ subst (λ (t : Rect). Has t p) (sym same) has | inr c ↦ absurd (Contains-nil s c) ],
-  λ has. let c = Contains-head r [] in (c.0, r, c.1, c.2, has),
+pub any_one : {X : Type 0} (P : X → Type 0) (x : X) → Any P (x ∷ []) ↔ P x
+any_one P x = (
+  λ h. let (k, y, l, e, has) = h in elim (Contains-cases x y [] (k, l, e)) [ inl same ↦ subst P (sym same) has | inr c ↦ absurd (Contains-nil y c) ],
+  λ has. let c = Contains-head x [] in (c.0, x, c.1, c.2, has),
 )
 
-pub adds_same : (old new : List Rect) (A B : Region) → ((p : Pt) → A p ↔ B p) → Adds old new A → Adds old new B
-adds_same old new A B same adds p = (
-  λ h. elim ((adds p).0 h) [ inl o ↦ inl o | inr a ↦ inr ((same p).0 a) ],
-  λ h. elim h [ inl o ↦ (adds p).1 (inl o) | inr b ↦ (adds p).1 (inr ((same p).1 b)) ],
+-- what some of a list have, with one more
+pub any_push : {X : Type 0} (P : X → Type 0) (xs : List X) (x : X) → Any P (xs ++ x ∷ []) ↔ (Any P xs ⊎ P x)
+any_push P xs x = (
+  λ h. elim ((any_append P xs (x ∷ [])).0 h) [ inl c ↦ inl c | inr c ↦ inr ((any_one P x).0 c) ],
+  λ h. (any_append P xs (x ∷ [])).1 (elim h [ inl c ↦ inl c | inr has ↦ inr ((any_one P x).1 has) ]),
 )
 
--- what is added, said under a fact that holds
-pub adds_where : (P : Type 0) (old new : List Rect) (A : Region) → P → Adds old new A → Adds old new (λ p. P × A p)
-adds_where P old new A holds = adds_same old new A _ (λ p. (λ a. (holds, a), λ h. h.1))
+pub adds_same : (old new : List Patch) (A B : ℕ → Region) → ((f : ℕ) (p : Pt) → A f p ↔ B f p) → Adds old new A → Adds old new B
+adds_same old new A B same adds f p = (
+  λ h. elim ((adds f p).0 h) [ inl o ↦ inl o | inr a ↦ inr ((same f p).0 a) ],
+  λ h. elim h [ inl o ↦ (adds f p).1 (inl o) | inr b ↦ (adds f p).1 (inr ((same f p).1 b)) ],
+)
 
--- rectangles put behind others add their squares
-pub piece_added : (old new piece : List Rect) → new ≡ old ++ piece → Adds old new (Covers piece)
-piece_added old new piece is p = rw is (covers_append old piece p)
+-- one more patch
+pub patch_added : (old new : List Patch) (t : Patch) → new ≡ old ++ t ∷ [] → Adds old new (λ f p. (t.feature ≡ f) × Has t.rect p)
+patch_added old new t is f p = rw is (any_push (λ (s : Patch). (s.feature ≡ f) × Has s.rect p) old t)
 
-pub zone_added : (P : Type 0) (old new : List Rect) (r : Rect) → P → new ≡ old ++ r ∷ [] → Adds old new (λ p. P × Has r p)
-zone_added P old new r holds is = adds_where P old new _ holds (adds_same old new _ _ (covers_one r) (piece_added old new (r ∷ []) is))
+pub zone_added : (P : Type 0) (old new : List Patch) (t : Patch) → P → new ≡ old ++ t ∷ [] → Adds old new (λ f p. P × (t.feature ≡ f) × Has t.rect p)
+zone_added P old new t holds is = adds_same old new _ _ (λ f p. (λ a. (holds, a.0, a.1), λ h. (h.1, h.2))) (patch_added old new t is)
 
-pub nothing_added : (old : List Rect) (Q : Region) → ((p : Pt) → Q p → ⊥) → Adds old old Q
-nothing_added old Q none = λ p. (λ h. inl h, λ h. elim h [ inl c ↦ c | inr q ↦ absurd (none p q) ])
+pub nothing_added : (old : List Patch) (Q : ℕ → Region) → ((f : ℕ) (p : Pt) → Q f p → ⊥) → Adds old old Q
+nothing_added old Q none = λ f p. (λ h. inl h, λ h. elim h [ inl c ↦ c | inr q ↦ absurd (none f p q) ])
 
 -- two steps of adding
-pub adds_then : (old mid new : List Rect) (A B : Region) → Adds old mid A → Adds mid new B → Adds old new (λ p. A p ⊎ B p)
-adds_then old mid new A B first second p = (
-  λ h. elim ((second p).0 h) [ inl c ↦ elim ((first p).0 c) [ inl o ↦ inl o | inr a ↦ inr (inl a) ] | inr b ↦ inr (inr b) ],
+pub adds_then : (old mid new : List Patch) (A B : ℕ → Region) → Adds old mid A → Adds mid new B → Adds old new (λ f p. A f p ⊎ B f p)
+adds_then old mid new A B first second f p = (
+  λ h. elim ((second f p).0 h) [ inl c ↦ elim ((first f p).0 c) [ inl o ↦ inl o | inr a ↦ inr (inl a) ] | inr b ↦ inr (inr b) ],
   λ h. elim h [
-    | inl o ↦ (second p).1 (inl ((first p).1 (inl o)))
-    | inr either ↦ elim either [ inl a ↦ (second p).1 (inl ((first p).1 (inr a))) | inr b ↦ (second p).1 (inr b) ]
+    | inl o ↦ (second f p).1 (inl ((first f p).1 (inl o)))
+    | inr either ↦ elim either [ inl a ↦ (second f p).1 (inl ((first f p).1 (inr a))) | inr b ↦ (second f p).1 (inr b) ]
   ],
 )
+
+pub patches-more : (old new : List Patch) (t : Patch) → new ≡ old ++ t ∷ [] → ArePatchesWithin old → IsRectWithin farthest t.rect → ArePatchesWithin new
+patches-more old new t is within one =
+    rw is (λ (s : Patch) c. elim (Contains-push_cases old t s c) [ inl was ↦ within s was | inr same ↦ subst (λ (u : Patch). IsRectWithin farthest u.rect) same one ])
 
 split_at : (n k : ℕ) → k < n + 1 → (k < n) ⊎ (k ≡ n)
 split_at n k h = elim (cases_lt k n) [ inl l ↦ inl l | inr g ↦ inr (omega (arith, g, h)) ]
@@ -103,3 +112,6 @@ are_stitches n sides colours v e first =
 
 pub covers_none : (p : Pt) → Covers [] p → ⊥
 covers_none p c = absurd (omega (arith, c.2))
+
+pub holds_none : (f : ℕ) (p : Pt) → Holds [] f p → ⊥
+holds_none f p c = absurd (omega (arith, c.2))

@@ -1,8 +1,9 @@
 -- Features put on masks one after the other.
-use Rattle.std.proofs.Common.{◌≡◌, ℕ, ◌+◌, ◌≤◌, ◌<◌, ◌⊎◌, inl, inr, List, [], ◌∷◌, ◌++◌, Bool, length, get_or, refl, sym, ap, ◌∙◌, subst, arith}
-use Rattle.std.specs.Prelude.{◌↔◌}
+use Rattle.std.proofs.Common.{◌≡◌, ◌≢◌, ℕ, ◌+◌, ◌≤◌, ◌<◌, ◌⊎◌, inl, inr, List, [], ◌∷◌, ◌++◌, Bool, length, get_or, map, refl, sym, ap, ◌∙◌, subst, arith}
+use Rattle.std.specs.Prelude.{◌↔◌, pos}
 use Rattle.std.specs.List.{All, AllPairs, Any}
-use Rattle.std.proofs.lemmas.Bool.{cases_eq, cases_order}
+use Rattle.std.specs.List.Sorted.{IsNonDecreasingBy}
+use Rattle.std.proofs.lemmas.Bool.{cases_eq, cases_lt, cases_order}
 use Rattle.std.proofs.lemmas.Int.{ints, by_lt_z}
 use Rattle.std.proofs.lemmas.List.{get_or_default}
 use Rattle.dpl_spec_split.specs.declared.Pt.{Pt}
@@ -29,8 +30,14 @@ use Rattle.dpl_orient.specs.declared.mask.Mask.{Mask as Letter}
 use Rattle.dpl_orient.specs.Masks.{is_second}
 use Rattle.dpl_masks.specs.declared.ink.Ink.{Ink}
 use Rattle.dpl_masks.specs.declared.ink.Ink.TheVariants.{Uncut, Blank, One, Both}
+use Rattle.dpl_masks.specs.declared.rest.Patch.{Patch}
 use Rattle.dpl_masks.specs.Inks.{IsInk, IsMixed, IsOne, IsUncut, ink_at}
-use Rattle.dpl_masks.specs.Sheets.{AreInked, AreKnown, AreRest, IsDone, IsSheet, IsSheetTo, PutsOne, PutsUncut, in_some}
+use Rattle.dpl_masks.specs.Painting.{HoldFrom, Holds}
+use Rattle.dpl_masks.specs.Sheets.{AreInked, AreKnown, AreRest, AreUnitedTo, IsAmong, IsDone, AreOwnPatches, IsSheet, IsSheetTo, PutsOne, PutsUncut, in_some}
+use Rattle.dpl_masks.proofs.MaskLaws.{covers_none}
+
+abbrev no_patch : Patch
+no_patch = record { feature = 0; rect = record { x0 = pos 0; y0 = pos 0; x1 = pos 0; y1 = pos 0 } }
 
 touch-self : (p : Pt) → Touch p p
 touch-self p = Touch-from_close p p (omega (arith, ints)) (omega (arith, ints)) (omega (arith, ints)) (omega (arith, ints))
@@ -373,6 +380,9 @@ module _ (features parts : List (List Rect)) (owners : List ℕ) (zones : List Z
   abbrev Sheet : Bool → ℕ → ℕ → List Rect → Type 0
   Sheet letter n m out = IsSheet features (Mask letter) (IsDone owners wholes inks n m) out
 
+  abbrev Sheet-of : Bool → List Patch → ℕ → List Rect → Type 0
+  Sheet-of letter patches n out = IsSheet features (Mask letter) (IsAmong patches inks n) out
+
   -- no feature more
   sheet-none : (letter : Bool) (done all : ℕ → Type 0) (out : List Rect) → ((f : ℕ) → all f ↔ (done f ⊎ ⊥))
       → IsSheet features (Mask letter) done out → IsSheet features (Mask letter) all out
@@ -404,41 +414,138 @@ module _ (features parts : List (List Rect)) (owners : List ℕ) (zones : List Z
       rw is (sheet-same features (Mask letter) _ (λ f. f ≡ w.feature) _ out h (whole-done n k w k_in w_is alone) (one-other w.feature own ink letter other))
   whole-step letter n k w k_in w_is canonical within out out2 h (inr (other, is)) = rw is (sheet-none letter _ _ out (other-whole n k w k_in w_is other) h)
 
-  -- what features on both masks have on one
-  rest-covers : (letter : Bool) (rects : List Rect) → AreRest parts owners zones sides colours inks letter rects → (p : Pt)
-      → Covers rects p ↔ (Mask letter p × in_some features (IsDone owners wholes inks 0 0) p)
-  rest-covers letter rects h p = (
-    λ x. elim ((h.covers p).0 x) [
-      | inl (k, z, side, l, k_in, is, side_is, either, mixed, has) ↦ (inr (k, z, side, k_in, is, side_is, either, has), (z.feature, inl mixed, zoned k z p k_in is has))
-      | inr (k, l, k_in, c, mixed, in_k) ↦ (inl (k, k_in, c, in_k), (owner k, inl mixed, owned k p k_in in_k))
-    ],
-    λ (m, (f, done, in_f)). (h.covers p).1 (elim done [
-      | inl mixed ↦ elim m [
-        | inl (k, k_in, c, in_k) ↦ inr (k, k_in, k_in, c, subst (λ g. IsMixed (ink_at inks g)) (sym (one (owner k) f p (owned k p k_in in_k) in_f)) mixed, in_k)
-        | inr (k, z, side, k_in, is, side_is, either, has) ↦ inl (
-          k,
-          z,
-          side,
-          k_in,
-          k_in,
-          is,
-          side_is,
-          either,
-          subst (λ g. IsMixed (ink_at inks g)) (sym (one z.feature f p (zoned k z p k_in is has) in_f)) mixed,
-          has,
-        )
-      ]
-      | inr r ↦ elim r [ inl (k, l, e, u) ↦ absurd (omega (arith, l)) | inr (k, w, l, k_in, e, i, u) ↦ absurd (omega (arith, l)) ]
-    ]),
-  )
+  -- what features on both masks have on one, patch by patch of each feature
+  module _ (letter : Bool) (patches : List Patch) (rest : AreRest parts owners zones sides colours inks letter patches)
+      (rise : IsNonDecreasingBy (λ (t : Patch). t.feature) patches) where
+    abbrev patch : ℕ → Patch
+    patch k = get_or patches k no_patch
 
-  rest-sheet : (letter : Bool) (rects slabs : List Rect) → AreRest parts owners zones sides colours inks letter rects
-      → AreSlabsOf (Covers rects) slabs → AreRectsWithin farthest slabs → Sheet letter 0 0 slabs
-  rest-sheet letter rects slabs h s w = record {
-    scattered = record { solid = s.canonical.solid; follow = λ i j d l j_in. inl (s.canonical.follow i j d l j_in) };
-    covers = λ p. (λ x. (rest-covers letter rects h p).0 ((s.covers p).0 x), λ x. (s.covers p).1 ((rest-covers letter rects h p).1 x));
-    within = w;
-  }
+    patch-is : (k : ℕ) (t : Patch) → k < length patches → get_or patches k t ≡ t → patch k ≡ t
+    patch-is k t k_in is = get_or_default patches k no_patch t k_in ∙ is
+
+    rest-at : (f : ℕ) (p : Pt) → Holds patches f p ↔ (Mask letter p × IsMixed (ink_at inks f) × part_at features f p)
+    rest-at f p = (
+      λ x. elim ((rest.covers f p).0 x) [
+        | inl (k, z, side, l, k_in, is, side_is, either, mixed, own, has) ↦ (
+          inr (k, z, side, k_in, is, side_is, either, has),
+          subst (λ g. IsMixed (ink_at inks g)) own mixed,
+          subst (λ g. part_at features g p) own (zoned k z p k_in is has),
+        )
+        | inr (k, l, k_in, c, mixed, own, in_k) ↦ (
+          inl (k, k_in, c, in_k),
+          subst (λ g. IsMixed (ink_at inks g)) own mixed,
+          subst (λ g. part_at features g p) own (owned k p k_in in_k),
+        )
+      ],
+      λ (m, mixed, in_f). (rest.covers f p).1 (elim m [
+        | inl (k, k_in, c, in_k) ↦
+            (let e : owner k ≡ f = one (owner k) f p (owned k p k_in in_k) in_f in
+            inr (k, k_in, k_in, c, subst (λ g. IsMixed (ink_at inks g)) (sym e) mixed, e, in_k))
+        | inr (k, z, side, k_in, is, side_is, either, has) ↦
+            (let e : z.feature ≡ f = one z.feature f p (zoned k z p k_in is has) in_f in
+            inl (k, z, side, k_in, k_in, is, side_is, either, subst (λ g. IsMixed (ink_at inks g)) (sym e) mixed, e, has))
+      ]),
+    )
+
+    abbrev Apart : ℕ → Type 0
+    Apart n = (j k : ℕ) (d : Patch) → j < n → n ≤ k → k < length patches → (get_or patches j d).feature ≢ (get_or patches k d).feature
+
+    -- no patch has a square
+    united-none : Sheet-of letter patches 0 []
+    united-none = record {
+      scattered = record { solid = λ k d k_in. absurd (omega (arith, k_in)); follow = λ i j d l j_in. absurd (omega (arith, j_in)) };
+      covers = λ p. (λ x. absurd (covers_none p x), λ (m, (f, (mixed, k, t, l, k_in, is, t_is), in_f)). absurd (omega (arith, l)));
+      within = λ r r_in. absurd (omega (arith, r_in.1));
+    }
+
+    module _ (start end : ℕ) (start_in : start < length patches) (own_ones : AreOwnPatches patches start end) (apart : Apart start) where
+      abbrev Own : ℕ → Type 0
+      Own f = IsMixed (ink_at inks f) × (f ≡ (patch start).feature)
+
+      later : (k : ℕ) → end ≤ k → k < length patches → (patch start).feature < (patch k).feature
+      later k from k_in =
+          let more = own_ones.more in
+          let end_in : end < length patches = omega (arith, from, k_in) in
+          let up = rise start end no_patch (omega (arith, more)) end_in in
+          let on = rise end k no_patch from k_in in
+          let ne = own_ones.next no_patch end_in in
+          elim (cases_eq (patch end).feature (patch start).feature) [ inl e ↦ absurd (ne e) | inr other ↦ omega (arith, up, on, other) ]
+
+      here : (k : ℕ) (t : Patch) → start ≤ k → k < end → get_or patches k t ≡ t → t.feature ≡ (patch start).feature
+      here k t from l is =
+          let within = own_ones.within in
+          ap (λ (u : Patch). u.feature) (sym (patch-is k t (omega (arith, l, within)) is)) ∙ own_ones.one k no_patch from l
+
+      -- all patches of its feature are among them
+      in-its : (f k : ℕ) (t : Patch) → k < length patches → get_or patches k t ≡ t → t.feature ≡ f → Own f → (start ≤ k) × (k < end)
+      in-its f k t k_in is own (mixed, e) =
+          let at : (patch k).feature ≡ (patch start).feature = ap (λ (u : Patch). u.feature) (patch-is k t k_in is) ∙ (own ∙ e) in (
+            elim (cases_lt k start) [ inl l ↦ absurd (apart k start no_patch l (omega arith) start_in at) | inr ge ↦ ge ],
+            elim (cases_lt k end) [ inl l ↦ l | inr ge ↦ (let up = later k ge k_in in absurd (omega (arith, up, at))) ],
+          )
+
+      its-fresh : (f : ℕ) (p : Pt) → IsAmong patches inks start f → Own f → part_at features f p → ⊥
+      its-fresh f p (mixed, k, t, l, k_in, is, own) its in_f = let inside = in-its f k t k_in is own its in omega (arith, l, inside.0)
+
+      its-done : (f : ℕ) → IsAmong patches inks end f ↔ (IsAmong patches inks start f ⊎ Own f)
+      its-done f =
+          let more = own_ones.more in (
+            λ (mixed, k, t, l, k_in, is, own). elim (cases_lt k start) [
+              | inl low ↦ inl (mixed, k, t, low, k_in, is, own)
+              | inr ge ↦ inr (mixed, sym own ∙ here k t ge l is)
+            ],
+            λ h. elim h [
+              | inl (mixed, k, t, l, k_in, is, own) ↦ (mixed, k, t, omega (arith, l, more), k_in, is, own)
+              | inr (mixed, e) ↦ (mixed, start, patch start, more, start_in, get_or_default patches start (patch start) no_patch start_in, sym e)
+            ],
+          )
+
+      its-covers : (set : List Rect) → AreSlabsOf (HoldFrom patches start end) set → (p : Pt) → Covers set p ↔ (Mask letter p × in_some features Own p)
+      its-covers set s p = (
+        λ x. (let (k, t, from, l, is, has) = (s.covers p).0 x in
+            let within = own_ones.within in
+            let (m, mixed, in_f) = (rest-at (patch start).feature p).0 (k, t, omega (arith, l, within), is, (here k t from l is, has)) in
+            (m, ((patch start).feature, (mixed, refl), in_f))),
+        λ (m, (f, its, in_f)). (let (k, t, k_in, is, (own, has)) = (rest-at f p).1 (m, its.0, in_f) in
+            let inside = in-its f k t k_in is own its in (s.covers p).1 (k, t, inside.0, inside.1, is, has)),
+      )
+
+      its-apart : Apart end
+      its-apart j k d l from k_in same =
+          let within = own_ones.within in
+          let j_in : j < length patches = omega (arith, l, within) in
+          let more = own_ones.more in
+          elim (cases_lt j start) [
+            | inl low ↦ apart j k d low (omega (arith, more, from)) k_in same
+            | inr ge ↦
+                (let own : (patch j).feature ≡ (patch start).feature = own_ones.one j no_patch ge l in
+                let up = later k from k_in in
+                let at : (patch j).feature ≡ (patch k).feature = ap (λ (u : Patch). u.feature) (get_or_default patches j no_patch d j_in) ∙ (same
+                ∙ ap (λ (u : Patch). u.feature) (get_or_default patches k d no_patch k_in)) in
+                omega (arith, own, up, at))
+          ]
+
+      -- one more feature is united
+      united-more : (out set : List Rect) → Sheet-of letter patches start out → AreSlabsOf (HoldFrom patches start end) set → AreRectsWithin farthest set
+          → Sheet-of letter patches end (out ++ set)
+      united-more out set h s w = sheet-more features (Mask letter) (IsAmong patches inks start) Own (IsAmong patches inks end) out set
+          known.lie.untouched h s.canonical w its-fresh its-done (its-covers set s)
+
+    -- all are united
+    united-all : (n : ℕ) (out : List Rect) → length patches ≤ n → Sheet-of letter patches n out → Sheet letter 0 0 out
+    united-all n out all h = record {
+      scattered = h.scattered;
+      covers = λ p. (
+        λ x. (let (m, (f, among, in_f)) = (h.covers p).0 x in (m, (f, inl among.0, in_f))),
+        λ (m, (f, done, in_f)). elim done [
+          | inl mixed ↦
+              (let (k, t, k_in, is, (own, has)) = (rest-at f p).1 (m, mixed, in_f) in
+              (h.covers p).1 (m, (f, (mixed, k, t, omega (arith, k_in, all), k_in, is, own), in_f)))
+          | inr r ↦ elim r [ inl (k, l, e, u) ↦ absurd (omega (arith, l)) | inr (k, w, l, k_in, e, i, u) ↦ absurd (omega (arith, l)) ]
+        ],
+      );
+      within = h.within;
+    }
 
   done-ink : (f : ℕ) (i : Ink) → ink_at inks f ≡ i → IsInk (length owners) owners colours wholes f i → (k : ℕ) → k < length parts
       → owner k ≡ f → IsDone owners wholes inks (length parts) (length wholes) f
@@ -513,15 +620,40 @@ module _ (parts : List (List Rect)) (owners : List ℕ) (zones : List Zone) (sid
     sheet = whole-step s.features parts owners zones sides wholes colours inks s.facts letter n k w k_in w_is canonical within out out2 s.sheet puts;
   }
 
-  pub sheet-united : (features : List (List Rect)) (rest out : List Rect) → AreKnown features parts owners zones sides wholes colours inks
-      → AreRest parts owners zones sides colours inks letter rest → AreSlabsOf (Covers rest) out → AreRectsWithin farthest out
-      → IsSheetTo parts owners zones sides wholes colours inks letter 0 0 out
-  sheet-united features rest out known h s w = record {
-    features = features;
-    facts = known;
-    sheet = rest-sheet features parts owners zones sides wholes colours inks known letter rest out h s w;
-  }
-
   pub mask-slabs : (out slabs : List Rect) → IsSheetTo parts owners zones sides wholes colours inks letter (length parts) (length wholes) out
       → AreSlabsOf (Covers out) slabs → AreSlabsOf (on_mask parts zones sides colours letter) slabs
   mask-slabs out slabs s t = sheet-slabs s.features parts owners zones sides wholes colours inks s.facts letter out slabs s.sheet t
+
+-- patches that are united feature by feature
+module _ (cut : Cut) (letters : List Letter) (inks : List Ink) (letter : Bool) (patches : List Patch)
+    (rest : AreRest cut.parts cut.owners.items cut.zones.items cut.sides.items (map is_second letters) inks letter patches)
+    (rise : IsNonDecreasingBy (λ (t : Patch). t.feature) patches) where
+  pub its-none : (out : List Rect) → out ≡ [] → AreInked cut letters inks → AreUnitedTo cut letters inks letter patches 0 out
+  its-none out none h = record {
+    features = h.features;
+    facts = h.facts;
+    apart = λ j k d l. absurd (omega (arith, l));
+    sheet = rw none (united-none h.features cut.parts cut.owners.items cut.zones.items cut.sides.items cut.wholes.items
+        (map is_second letters) inks h.facts letter patches rest rise);
+  }
+
+  pub its-more : (start end : ℕ) (out out2 set : List Rect) → start < length patches → AreOwnPatches patches start end → out2 ≡ out ++ set
+      → AreSlabsOf (HoldFrom patches start end) set → AreRectsWithin farthest set → AreUnitedTo cut letters inks letter patches start out
+      → AreUnitedTo cut letters inks letter patches end out2
+  its-more start end out out2 set start_in own_ones is s w h = record {
+    features = h.features;
+    facts = h.facts;
+    apart = its-apart h.features cut.parts cut.owners.items cut.zones.items cut.sides.items cut.wholes.items
+        (map is_second letters) inks h.facts letter patches rest rise start end start_in own_ones h.apart;
+    sheet = rw is (united-more h.features cut.parts cut.owners.items cut.zones.items cut.sides.items cut.wholes.items
+        (map is_second letters) inks h.facts letter patches rest rise start end start_in own_ones h.apart out set h.sheet s w);
+  }
+
+  pub its-all : (n : ℕ) (out : List Rect) → length patches ≤ n → AreUnitedTo cut letters inks letter patches n out
+      → IsSheetTo cut.parts cut.owners.items cut.zones.items cut.sides.items cut.wholes.items (map is_second letters) inks letter 0 0 out
+  its-all n out all h = record {
+    features = h.features;
+    facts = h.facts;
+    sheet = united-all h.features cut.parts cut.owners.items cut.zones.items cut.sides.items cut.wholes.items
+        (map is_second letters) inks h.facts letter patches rest rise n out all h.sheet;
+  }

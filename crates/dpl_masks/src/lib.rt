@@ -5,6 +5,8 @@ mod bytes;
 mod ink;
 mod painting;
 mod pair;
+mod rest;
+mod united;
 
 pub use bytes::{file_bytes, put_boundary};
 pub use painting::{masks, masks_by, stitches};

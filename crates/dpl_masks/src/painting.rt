@@ -2,17 +2,17 @@
 ghost use Rattle.std.specs.Prelude.{◌≡◌, ℕ, ◌<◌, ◌⊎◌, ◌++◌, ◌∷◌, [], false, true, map, IfOk, OnOk, length};
 ghost use Rattle.std.specs.List.{All};
 ghost use Rattle.dpl_spec_split.specs.Loops.{AreRectsWithin, farthest};
-ghost use Rattle.dpl_spec_split.specs.Squares.{Covers, Has, IsSolidWithin};
 ghost use Rattle.dpl_spec_split.specs.Slabs.{AreSlabsOf};
 ghost use Rattle.dpl_spec_split.specs.Colours.{AreStitches, differ, on_mask};
 ghost use Rattle.dpl_orient.specs.Masks.{is_second};
-ghost use Rattle.dpl_masks.specs.Inks.{IsMixed};
-ghost use Rattle.dpl_masks.specs.Painting.{Adds, AreMasksOf};
-ghost use Rattle.dpl_masks.specs.Sheets.{AreInked, AreRest, IsSheetTo, Puts, PutsOne, PutsUncut, rest_pieces, rest_zones};
+ghost use Rattle.dpl_masks.specs.Painting.{AreMasksOf};
+ghost use Rattle.dpl_masks.specs.Sheets.{AreInked, IsSheetTo, Puts, PutsOne, PutsUncut};
 
-use crate::ink::{Ink, InkedPieces, inked_pieces, is_mixed, is_same};
+use crate::ink::{Ink, InkedPieces, inked_pieces, is_same};
 use crate::pair::Masks;
-use dpl_base::{Id, Rect, Zone};
+use crate::rest::rest_of;
+use crate::united::united;
+use dpl_base::{Id, Rect};
 use dpl_orient::{Colours, Mask};
 use dpl_piece::{Cut, Pieces};
 use dpl_slabs::Slabs;
@@ -69,7 +69,7 @@ pub fn masks_by<R: Threads>(
     Ok(Masks { a: a?, b: b? })
 }
 
-/// What of the layer is on the mask of a letter. A piece is there if that is its own letter, and a zone if one of its sides has it. A feature that lies on one mask is put there as it is; what others have on the mask is united.
+/// What of the layer is on the mask of a letter. A piece is there if that is its own letter, and a zone if one of its sides has it. A feature that lies on one mask is put there as it is; what others have on the mask is united feature by feature.
 fn mask_of(
     alloc: Global,
     inked: &InkedPieces,
@@ -83,46 +83,11 @@ fn mask_of(
     let cut = &inked.cut;
     let inks = inked.inks.as_slice();
     let rest = rest_of(alloc, cut, inks, colours, letter)?;
-    let mut rects = united(alloc, rest)?;
+    let mut rects = united(alloc, inked, colours, letter, &rest)?;
+    drop(rest);
     add_uncut(&mut rects, cut, inks, colours, letter)?;
     add_wholes(&mut rects, cut, inks, colours, letter)?;
     Ok(Slabs::of_scattered(rects))
-}
-
-/// The rectangles, which may overlap, that features on both masks have on that of a letter.
-fn rest_of(
-    alloc: Global,
-    cut: &Cut,
-    inks: &[Ink],
-    colours: &[Mask],
-    letter: Mask,
-) -> Result<Vec<Rect>, AllocError>
-    requires { AreInked cut.now colours.now inks.now }
-    ensures { IfOk result (λ v. AreRest cut.now.parts cut.now.owners.items cut.now.zones.items cut.now.sides.items (map is_second colours.now) inks.now (is_second letter) v.items) }
-{
-    let mut rects = Vec::new(alloc);
-    add_rest_zones(&mut rects, &cut.zones, &cut.sides, inks, colours, letter)?;
-    add_rest_pieces(
-        &mut rects,
-        cut.parts.items(),
-        &cut.owners,
-        inks,
-        colours,
-        letter,
-    )?;
-    Ok(rects)
-}
-
-/// The slabs of rectangles that may overlap.
-fn united(alloc: Global, rects: Vec<Rect>) -> Result<Vec<Rect>, AllocError>
-    requires { AreRectsWithin farthest rects.items }
-    ensures slabs { IfOk result (λ v. AreSlabsOf (Covers rects.items) v.items) }
-    ensures within { IfOk result (λ v. AreRectsWithin farthest v.items) }
-{
-    let slabs = Slabs::of_rects(alloc, rects)?;
-    let mut all = Vec::with_capacity(alloc, slabs.rects().len())?;
-    all.extend_from_slice(slabs.rects())?;
-    Ok(all)
 }
 
 /// Puts slabs whose own letter is known on the mask of a letter, if that is the same.
@@ -131,100 +96,6 @@ fn put(rects: &mut Vec<Rect>, slabs: &[Rect], own: Mask, letter: Mask) -> Result
 {
     if is_same(own, letter) {
         rects.extend_from_slice(slabs)?;
-    }
-    Ok(())
-}
-
-/// Adds the squares of a piece to those of the mask of a letter, if that is its own and its feature lies on both masks.
-fn add_rest_piece(
-    rects: &mut Vec<Rect>,
-    piece: &[Rect],
-    own: Mask,
-    letter: Mask,
-    ink: Ink,
-) -> Result<(), AllocError>
-    requires piece { AreRectsWithin farthest piece.now }
-    requires within { AreRectsWithin farthest rects.old.items }
-    ensures adds { OnOk result (Adds rects.old.items rects.new.items (λ p. IsMixed ink × (is_second own ≡ is_second letter) × Covers piece.now p)) }
-    ensures within { OnOk result (AreRectsWithin farthest rects.new.items) }
-{
-    if is_mixed(ink) {
-        put(rects, piece, own, letter)?;
-    }
-    Ok(())
-}
-
-/// Adds the squares of those pieces of a letter whose features lie on both masks.
-fn add_rest_pieces(
-    rects: &mut Vec<Rect>,
-    parts: &[Slabs],
-    owners: &[Id],
-    inks: &[Ink],
-    colours: &[Mask],
-    letter: Mask,
-) -> Result<(), AllocError>
-    requires each { length colours.now ≡ length parts.now }
-    requires owners { length owners.now ≡ length parts.now }
-    requires owned { All (λ k. k < length inks.now) owners.now }
-    requires within { AreRectsWithin farthest rects.old.items }
-    ensures adds { OnOk result (Adds rects.old.items rects.new.items (rest_pieces (length parts.now) parts.now owners.now (map is_second colours.now) inks.now (is_second letter))) }
-    ensures within { OnOk result (AreRectsWithin farthest rects.new.items) }
-{
-    for k in 0..parts.len() {
-        let ink = inks[owners[k] as usize];
-        add_rest_piece(rects, parts[k].rects(), colours[k], letter, ink)?;
-    }
-    Ok(())
-}
-
-/// Adds the squares of a zone, if one of its sides has the letter and its feature lies on both masks.
-fn add_rest_zone(
-    rects: &mut Vec<Rect>,
-    zone: &Zone,
-    first: Mask,
-    second: Mask,
-    letter: Mask,
-    ink: Ink,
-) -> Result<(), AllocError>
-    requires zone { IsSolidWithin farthest zone.now.rect }
-    requires within { AreRectsWithin farthest rects.old.items }
-    ensures adds { OnOk result (Adds rects.old.items rects.new.items (λ p. IsMixed ink × ((is_second first ≡ is_second letter) ⊎ (is_second second ≡ is_second letter)) × Has zone.now.rect p)) }
-    ensures within { OnOk result (AreRectsWithin farthest rects.new.items) }
-{
-    if is_mixed(ink) {
-        add_zone(rects, zone, first, second, letter)?;
-    }
-    Ok(())
-}
-
-/// Adds the squares of those zones with a side of a letter whose features lie on both masks.
-fn add_rest_zones(
-    rects: &mut Vec<Rect>,
-    zones: &[Zone],
-    sides: &[(Id, Id)],
-    inks: &[Ink],
-    colours: &[Mask],
-    letter: Mask,
-) -> Result<(), AllocError>
-    requires each { length sides.now ≡ length zones.now }
-    requires known { All (λ side. (side.0 < length colours.now) × (side.1 < length colours.now)) sides.now }
-    requires zones { All (λ z. IsSolidWithin farthest z.rect) zones.now }
-    requires zoned { All (λ z. z.feature < length inks.now) zones.now }
-    requires within { AreRectsWithin farthest rects.old.items }
-    ensures adds { OnOk result (Adds rects.old.items rects.new.items (rest_zones (length zones.now) zones.now sides.now (map is_second colours.now) inks.now (is_second letter))) }
-    ensures within { OnOk result (AreRectsWithin farthest rects.new.items) }
-{
-    for k in 0..zones.len() {
-        let zone = zones[k];
-        let side = sides[k];
-        add_rest_zone(
-            rects,
-            &zone,
-            colours[side.0 as usize],
-            colours[side.1 as usize],
-            letter,
-            inks[zone.feature as usize],
-        )?;
     }
     Ok(())
 }
@@ -302,30 +173,6 @@ fn add_wholes(
             letter,
             inks[whole.feature as usize],
         )?;
-    }
-    Ok(())
-}
-
-/// Adds the squares of a zone, if one of its sides has the letter.
-fn add_zone(
-    rects: &mut Vec<Rect>,
-    zone: &Zone,
-    first: Mask,
-    second: Mask,
-    letter: Mask,
-) -> Result<(), AllocError>
-    requires zone { IsSolidWithin farthest zone.now.rect }
-    requires within { AreRectsWithin farthest rects.old.items }
-    ensures adds { OnOk result (Adds rects.old.items rects.new.items (λ p. ((is_second first ≡ is_second letter) ⊎ (is_second second ≡ is_second letter)) × Has zone.now.rect p)) }
-    ensures within { OnOk result (AreRectsWithin farthest rects.new.items) }
-{
-    if is_same(first, letter) {
-        rects.push(zone.rect)?;
-        return Ok(());
-    }
-    if is_same(second, letter) {
-        rects.push(zone.rect)?;
-        return Ok(());
     }
     Ok(())
 }

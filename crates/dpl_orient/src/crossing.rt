@@ -7,6 +7,7 @@ ghost use Rattle.dpl_orient.specs.Crossings.{crossing_between, crossing_at, is_a
 
 use crate::chart::{Rooted, is_odd_at, root_at};
 use dpl_list::{Id, short_id};
+use dpl_sort::sort_by_key;
 use std::alloc::{AllocError, Global};
 
 /// A stitch zone with its sides in two components, each named by its least piece.
@@ -106,7 +107,7 @@ fn group(across: &mut Vec<Across>)
     ensures same { IsPermutation across.old.items across.new.items }
     ensures grouped { IsNonDecreasingBy (λ a. a.later) across.new.items }
 {
-    across.sort_unstable_by_key(|a| a.later);
+    sort_by_key(across, |a| a.later);
 }
 
 /// The crossings among zones with these sides, in order of the later component. A zone or a later component of number

@@ -10,6 +10,7 @@ use crate::chart::Rooted;
 use crate::crossing::{crossing_count, differs, is_across};
 use crate::mask::{Mask, is_second};
 use dpl_list::Id;
+use dpl_sort::sort_by_key;
 use std::alloc::{AllocError, Global};
 
 /// A stitch zone with its sides in two components, as seen from one of them. Both are named by their least piece.
@@ -67,7 +68,7 @@ pub fn group(links: &mut Vec<Link>)
     ensures same { IsPermutation links.old.items links.new.items }
     ensures ordered { IsNonDecreasingBy (λ l. l.from) links.new.items }
 {
-    links.sort_unstable_by_key(|link| link.from);
+    sort_by_key(links, |link| link.from);
 }
 
 /// The links from a component, where they are in order.

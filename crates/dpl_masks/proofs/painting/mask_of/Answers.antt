@@ -2,7 +2,7 @@ use Rattle.std.proofs.Common.{map}
 use Rattle.dpl_spec_split.specs.Loops.{farthest}
 use Rattle.dpl_slabs.proofs.RowLaws.{within-slabs}
 use Rattle.dpl_orient.specs.Masks.{is_second}
-use Rattle.dpl_masks.proofs.SheetLaws.{inked-owned, inked-owners, mask-slabs, sheet-united}
+use Rattle.dpl_masks.proofs.SheetLaws.{inked-owned, inked-owners, mask-slabs}
 use Rattle.dpl_masks.proofs.painting.mask_of.Goals as goal
 
 pub add_uncut-requires-clause-owners : goal.add_uncut-requires-clause-owners
@@ -12,11 +12,7 @@ pub add_uncut-requires-clause-owned : goal.add_uncut-requires-clause-owned
 add_uncut-requires-clause-owned c = rw c.as_slice-inks.ensures.value (inked-owned c.args.inked.now.cut c.args.colours.now c.args.inked.now.inks.items c.requires)
 
 pub add_uncut-requires-clause-sheet : goal.add_uncut-requires-clause-sheet
-add_uncut-requires-clause-sheet c =
-    let cut = c.args.inked.now.cut in
-    rw c.as_slice-inks.ensures.value (sheet-united cut.parts cut.owners.items cut.zones.items cut.sides.items cut.wholes.items
-    (map is_second c.args.colours.now) c.args.inked.now.inks.items (is_second c.args.letter) c.requires.features _ _ c.requires.facts
-    (rw c.as_slice-inks.ensures.value at c.in_ok-rest.ensures) c.in_ok-rects.ensures.slabs c.in_ok-rects.ensures.within)
+add_uncut-requires-clause-sheet c = rw c.as_slice-inks.ensures.value c.in_ok-rects.ensures
 
 pub returns-clause-mask : goal.returns-clause-mask
 returns-clause-mask c =

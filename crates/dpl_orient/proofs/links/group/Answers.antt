@@ -5,4 +5,4 @@ use Rattle.dpl_orient.proofs.links.group.Goals as goal
 
 pub returns-clause-ordered : goal.returns-clause-ordered
 returns-clause-ordered c = IsNonDecreasingBy-from_sort (λ (l : Link). l.from) _
-    (c.sort_unstable_by_key.ensures.sorted (λ (l : Link). l.from) (answers_always _ _ _ (λ f a r g h. search rules)))
+    (c.sort_by_key.ensures.sorted (λ (l : Link). l.from) (answers_always _ _ _ (λ f a r g h. search rules)))

@@ -2,7 +2,7 @@ use Rattle.std.proofs.Common.{map}
 use Rattle.dpl_orient.specs.Masks.{is_second}
 use Rattle.dpl_masks.proofs.RestLaws.{are-rest}
 use Rattle.dpl_masks.proofs.SheetLaws.{inked-owned, inked-owners, inked-sides}
-use Rattle.dpl_masks.proofs.painting.rest_of.Goals as goal
+use Rattle.dpl_masks.proofs.rest.rest_of.Goals as goal
 
 pub add_rest_zones-requires-clause-each : goal.add_rest_zones-requires-clause-each
 add_rest_zones-requires-clause-each c = rw (c.deref.ensures.value, c.deref-2.ensures.value) (inked-sides c.args.cut.now c.args.colours.now c.args.inks.now c.requires)
@@ -13,10 +13,10 @@ add_rest_pieces-requires-clause-owners c = rw (c.deref-3.ensures.value, c.items.
 pub add_rest_pieces-requires-clause-owned : goal.add_rest_pieces-requires-clause-owned
 add_rest_pieces-requires-clause-owned c = rw c.deref-3.ensures.value (inked-owned c.args.cut.now c.args.colours.now c.args.inks.now c.requires)
 
-pub returns : goal.returns
-returns c =
+pub returns-clause-rest : goal.returns-clause-rest
+returns-clause-rest c =
     let cut = c.args.cut.now in
     let zones = rw (c.deref.ensures.value, c.deref-2.ensures.value) at c.in_ok-add_rest_zones.ensures.adds in
     let pieces = rw (c.items.ensures.value, c.deref-3.ensures.value) at c.in_ok-add_rest_pieces.ensures.adds in
-    are-rest cut.parts cut.owners.items cut.zones.items cut.sides.items (map is_second c.args.colours.now) c.args.inks.now (is_second c.args.letter) _ _ _
-    c.new-rects.ensures.items zones pieces c.in_ok-add_rest_pieces.ensures.within
+    are-rest cut.parts cut.owners.items cut.zones.items cut.sides.items (map is_second c.args.colours.now) c.args.inks.now (is_second c.args.letter) _ _ _ _
+    c.new-patches.ensures.items zones pieces c.in_ok-add_rest_pieces.ensures.within c.sort_by_feature.ensures.same

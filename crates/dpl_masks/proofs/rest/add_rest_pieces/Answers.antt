@@ -5,7 +5,7 @@ use Rattle.dpl_orient.specs.declared.mask.Mask.TheVariants.{A}
 use Rattle.dpl_masks.specs.Painting.{Adds}
 use Rattle.dpl_masks.specs.Sheets.{rest_pieces}
 use Rattle.dpl_masks.proofs.RestLaws.{rest-piece-more}
-use Rattle.dpl_masks.proofs.painting.add_rest_pieces.Goals as goal
+use Rattle.dpl_masks.proofs.rest.add_rest_pieces.Goals as goal
 
 pub loop-k-preserved : goal.loop-k-preserved
 loop-k-preserved c =
@@ -23,5 +23,5 @@ loop-k-preserved c =
 pub returns-clause-adds : goal.returns-clause-adds
 returns-clause-adds c =
     let all : c.loop-k.k ≡ length c.args.parts.now = omega arith in
-    subst (λ (n : ℕ). Adds c.args.rects.now.items c.loop-k.rects.items (rest_pieces n c.args.parts.now c.args.owners.now
+    subst (λ (n : ℕ). Adds c.args.patches.now.items c.loop-k.patches.items (rest_pieces n c.args.parts.now c.args.owners.now
     (map is_second c.args.colours.now) c.args.inks.now (is_second c.args.letter))) all c.loop-k.invariant.adds

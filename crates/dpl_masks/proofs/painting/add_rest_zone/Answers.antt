@@ -1,6 +1,0 @@
-use Rattle.std.proofs.Common.{refl}
-use Rattle.dpl_masks.proofs.MaskLaws.{adds_same}
-use Rattle.dpl_masks.proofs.painting.add_rest_zone.Goals as goal
-
-pub returns-in_ok-add_zone-clause-adds : goal.returns-in_ok-add_zone-clause-adds
-returns-in_ok-add_zone-clause-adds c = adds_same _ _ _ _ (λ p. (λ h. (c.if-is_mixed.ensures.0 refl, h.0, h.1), λ h. (h.1, h.2))) c.in_ok-add_zone.ensures.adds
