@@ -18,9 +18,10 @@ use Rattle.dpl_spec_split.specs.declared.Rect.{Rect}
 use Rattle.dpl_spec_split.specs.declared.Zone.{Zone}
 use Rattle.dpl_spec_split.proofs.Ordered.{Contains-head, Contains-later, Contains-cases, Contains-nil}
 use Rattle.dpl_piece.specs.declared.corner.Corner.{Corner}
+use Rattle.dpl_piece.specs.declared.corner.Slab.{Slab}
 use Rattle.dpl_piece.specs.declared.corner.Kind.{Kind}
 use Rattle.dpl_piece.specs.declared.corner.Kind.TheVariants.{LowerLeft, LowerRight, UpperLeft}
-use Rattle.dpl_piece.specs.Corners.{corner_at, corner_of, is_before, row_cmp, IsCornerOf, IsCornerWithin, RiseByCorner}
+use Rattle.dpl_piece.specs.Corners.{corner_at, corner_of, is_before, row_cmp, slab_corner, slab_of, AreSlabsWithin, IsCornerOf, IsCornerWithin, RiseByCorner}
 use Rattle.dpl_piece.specs.Noted.{zone_corner, IsZoneCorner}
 use Rattle.dpl_piece.specs.Pieces.{rect_at}
 
@@ -63,25 +64,42 @@ corner-known kind parts x y k (i, r, i_in, r_in, is) = subst (λ n. n < length p
 pub only-one : (c d : Corner) → Contains (c ∷ []) d → c ≡ d
 only-one c d h = elim (Contains-cases c d [] h) [ inl e ↦ e | inr none ↦ absurd (Contains-nil d none) ]
 
-module _ (kind : Kind) (parts : List (List Rect)) (from : ℕ) where
-  pub corners-none : (c : Corner) → Contains [] c ↔ IsCornerWithin kind parts from from c
-  corners-none c = (λ h. absurd (Contains-nil c h), λ (k, r, low, high, r_in, is). absurd (omega (arith, low, high)))
+module _ (parts : List (List Rect)) (from : ℕ) where
+  pub slabs-none : AreSlabsWithin parts from from []
+  slabs-none s = (λ h. absurd (Contains-nil s h), λ (low, high, s_in). absurd (omega (arith, low, high)))
 
-  pub corners-next : (n : ℕ) (old new : List Corner) → from ≤ n → ((c : Corner) → Contains old c ↔ IsCornerWithin kind parts from n c)
-      → new ≡ old ++ map (corner_of kind n) (get_or parts n []) → (c : Corner) → Contains new c ↔ IsCornerWithin kind parts from (n + 1) c
-  corners-next n old new low before new_is c =
+  pub slabs-next : (n : ℕ) (old new : List Slab) → from ≤ n → AreSlabsWithin parts from n old → new ≡ old ++ map (slab_of n) (get_or parts n [])
+      → AreSlabsWithin parts from (n + 1) new
+  slabs-next n old new low before new_is s =
       let part : List Rect = get_or parts n [] in (
-        λ h. elim (Contains-append_cases old (map (corner_of kind n) part) c (subst (λ l. Contains l c) new_is h)) [
-          | inl a ↦ (let (k, r, from_k, l, r_in, is) = (before c).0 a in (k, r, from_k, omega (arith, l), r_in, is))
-          | inr b ↦ (let (r, r_in, is) = Contains-map (corner_of kind n) part c b in (n, r, low, omega arith, r_in, is))
+        λ h. elim (Contains-append_cases old (map (slab_of n) part) s (subst (λ l. Contains l s) new_is h)) [
+          | inl a ↦ (let (from_k, l, r_in) = (before s).0 a in (from_k, omega (arith, l), r_in))
+          | inr b ↦ (let (r, r_in, is) = Contains-map (slab_of n) part s b in
+              subst (λ t. let u : Slab = t in (from ≤ u.number) × (u.number < n + 1) × Contains (get_or parts u.number []) u.rect) is (low, omega arith, r_in))
         ],
-        λ (k, r, from_k, l, r_in, is). subst (λ t. Contains t c) (sym new_is) (elim (cases_eq k n) [
-          | inl e ↦ Contains-append_right old (map (corner_of kind n) part) c (subst (λ t. Contains (map (corner_of kind n) part) t)
-              (ap (λ q. corner_of kind q r) (sym e) ∙ is)
-              (map-Contains (corner_of kind n) part r (subst (λ q. Contains (get_or parts q []) r) e r_in)))
-          | inr ne ↦ Contains-append_left old (map (corner_of kind n) part) c ((before c).1 (k, r, from_k, omega (arith, l, ne), r_in, is))
+        λ (from_k, l, r_in). subst (λ t. Contains t s) (sym new_is) (elim (cases_eq s.number n) [
+          | inl e ↦ Contains-append_right old (map (slab_of n) part) s (subst (λ k. Contains (map (slab_of n) part) (slab_of k s.rect)) (sym e)
+              (map-Contains (slab_of n) part s.rect (subst (λ k. Contains (get_or parts k []) s.rect) e r_in)))
+          | inr ne ↦ Contains-append_left old (map (slab_of n) part) s ((before s).1 (from_k, omega (arith, l, ne), r_in))
         ]),
       )
+
+  -- in another order they are the same slabs
+  pub slabs-sorted : (to : ℕ) (old new : List Slab) → IsPermutation old new → AreSlabsWithin parts from to old → AreSlabsWithin parts from to new
+  slabs-sorted to old new same h s = (
+    λ g. (h s).0 (Contains-permutation new old s (IsPermutation-sym old new same) g),
+    λ g. Contains-permutation old new s same ((h s).1 g),
+  )
+
+  -- and have the corners that the parts have
+  pub slabs-cornered : (kind : Kind) (to : ℕ) (slabs : List Slab) → AreSlabsWithin parts from to slabs
+      → (c : Corner) → Contains (map (slab_corner kind) slabs) c ↔ IsCornerWithin kind parts from to c
+  slabs-cornered kind to slabs h c = (
+    λ g. (let (s, s_in, is) = Contains-map (slab_corner kind) slabs c g in
+        let (low, high, r_in) = (h s).0 s_in in (s.number, s.rect, low, high, r_in, is)),
+    λ (k, r, low, high, r_in, is). subst (Contains (map (slab_corner kind) slabs)) is
+        (map-Contains (slab_corner kind) slabs (slab_of k r) ((h (slab_of k r)).1 (low, high, r_in))),
+  )
 
 -- a list in another order has the same corners
 pub corners-sorted : (P : Corner → Type 0) (old new : List Corner) → IsPermutation old new → ((c : Corner) → Contains old c ↔ P c)

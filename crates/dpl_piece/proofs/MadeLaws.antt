@@ -11,9 +11,10 @@ use Rattle.dpl_spec_split.specs.Squares.{Covers, SameSquares}
 use Rattle.dpl_spec_split.proofs.SlabLaws.{Covers-member, member-Covers}
 use Rattle.dpl_piece.specs.Cutting.{AreTheirZones}
 use Rattle.dpl_piece.specs.declared.made.Made.{Made}
+use Rattle.dpl_piece.specs.declared.standing.Side.TheVariants.{Before, After}
 use Rattle.dpl_piece.specs.declared.piece.Piece.{Piece}
 use Rattle.dpl_piece.specs.declared.piece.Whole.{Whole}
-use Rattle.dpl_piece.specs.Made.{AreMadeOf, IsMade}
+use Rattle.dpl_piece.specs.Made.{numbers_in, sides_in, AreMadeOf, IsMade}
 use Rattle.dpl_piece.specs.Noted.{AreMoved, AreSidesNoted, StandsAfterFrom, StandsBeforeFrom}
 use Rattle.dpl_piece.specs.Pieces.{feature_at, left_of, no_zone, parts_in, rect_at, AddsPieces, AreBroken, AreHolesOf, AreZonesFrom}
 use Rattle.dpl_piece.specs.Wholes.{whole_of, KeepsWhole}
@@ -50,7 +51,7 @@ first-known features zones rest n theirs h some =
 -- what the first zones of a list make of their feature, where they are all its zones
 pub is-made : (features : List (List Rect)) (zones : List Zone) (rest : List ℕ) (n count : ℕ) → AreZonesFrom zones n rest → All (λ j. feature_at zones j ≡ n) (take count rest)
     → (count < length rest → (d : ℕ) → feature_at zones (get_or rest count d) ≢ n) → n ≡ feature_at zones (get_or rest 0 0) → 0 < length rest
-    → (m : Made) → m.feature ≡ n → m.own.items ≡ take count rest → AreMadeOf (get_or features n []) zones m → IsMade features zones m
+    → (m : Made) → m.feature ≡ n → numbers_in m.zones.items ≡ take count rest → AreMadeOf (get_or features n []) zones m → IsMade features zones m
 is-made features zones rest n count h own next n_is some m is own_is made =
     let first_in : get_or rest 0 0 < length zones = ((h.members (get_or rest 0 0)).0 (Contains-get_or rest 0 0 some)).0 in
     let (i, i_in, at) = own-there zones rest n count h own next (get_or rest 0 0) first_in (sym n_is) in
@@ -63,7 +64,7 @@ is-made features zones rest n count h own next n_is some m is own_is made =
             (All-contains (λ k. k < length zones) (take count rest) j known there, own-feature zones rest n count h own next j there ∙ sym is)),
         λ (j_in, of). subst (λ l. Contains l j) (sym own_is) (own-there zones rest n count h own next j j_in (of ∙ is)),
       );
-      holes = subst (λ k. AreHolesOf zones k (map (rect_at zones) m.own.items)) (sym is)
+      holes = subst (λ k. AreHolesOf zones k (map (rect_at zones) (numbers_in m.zones.items))) (sym is)
           (subst (λ l. AreHolesOf zones n (map (rect_at zones) l)) (sym own_is) (own-holes zones rest n count h own next));
       are = subst (λ k. AreMadeOf (get_or features k []) zones m) (sym is) made;
     }
@@ -71,16 +72,17 @@ is-made features zones rest n count h own next n_is some m is own_is made =
 -- the zones that were listed are those of a feature with holes
 made-some : (features : List (List Rect)) (zones : List Zone) (m : Made) (holes : List Rect) → AreHolesOf zones m.feature holes → IsMade features zones m → 0 < length holes
 made-some features zones m holes own made =
-    let r : Rect = rect_at zones (get_or m.own.items 0 0) in
-    let listed : Contains (map (rect_at zones) m.own.items) r = map-Contains (rect_at zones) m.own.items (get_or m.own.items 0 0) (Contains-get_or m.own.items 0 0 made.some) in
+    let r : Rect = rect_at zones (get_or (numbers_in m.zones.items) 0 0) in
+    let numbers : List ℕ = numbers_in m.zones.items in
+    let listed : Contains (map (rect_at zones) numbers) r = map-Contains (rect_at zones) numbers (get_or numbers 0 0) (Contains-get_or numbers 0 0 made.some) in
     let (i, i_in, is) = (own r).1 ((made.holes r).0 listed) in
     omega (arith, i_in)
 
 -- each of them is one of the zones
 pub made-known : (features : List (List Rect)) (zones : List Zone) (m : Made) → IsMade features zones m → (noted : List ℕ) → length noted ≡ length zones
-    → All (λ j. j < length noted) m.own.items
+    → All (λ j. j < length noted) (numbers_in m.zones.items)
 made-known features zones m made noted each k d k_in =
-    let known = ((made.own (get_or m.own.items k d)).0 (Contains-get_or m.own.items k d k_in)).0 in
+    let known = ((made.own (get_or (numbers_in m.zones.items) k d)).0 (Contains-get_or (numbers_in m.zones.items) k d k_in)).0 in
     omega (arith, known, each)
 
 -- the pieces that were made are those of the feature
@@ -92,7 +94,7 @@ made-adds features zones n holes old new own m made is added =
       made-some features zones m holes of_m made,
       record {
         parts = made.are.parts;
-        broken = broken-same zones m.feature (get_or features m.feature []) (map (rect_at zones) m.own.items) holes made.are.parts made.holes of_m made.are.broken;
+        broken = broken-same zones m.feature (get_or features m.feature []) (map (rect_at zones) (numbers_in m.zones.items)) holes made.are.parts made.holes of_m made.are.broken;
         added = added ∙ ap (λ l. old ++ l) made.are.pieces;
       },
     )) own
@@ -107,7 +109,7 @@ made-keeps features zones n feature holes old new own m made is kept =
 module _ (features : List (List Rect)) (zones : List Zone) (n : ℕ) (own : List ℕ) (there : (j : ℕ) → j < length zones → feature_at zones j ≡ n → Contains own j)
     (known : All (λ j. j < length zones) own) (mine : (j : ℕ) → Contains own j → feature_at zones j ≡ n) (m : Made) (made : IsMade features zones m) (is : m.feature ≡ n)
     (pieces new : List Piece) (added : new ≡ pieces ++ m.pieces.items) where
-  same : (j : ℕ) → Contains own j ↔ Contains m.own.items j
+  same : (j : ℕ) → Contains own j ↔ Contains (numbers_in m.zones.items) j
   same j = (
     λ own_in. (made.own j).1 (All-contains (λ i. i < length zones) own j known own_in, mine j own_in ∙ sym is),
     λ in_m. (let (j_in, of) = (made.own j).0 in_m in there j j_in (of ∙ is)),
@@ -120,23 +122,25 @@ module _ (features : List (List Rect)) (zones : List Zone) (n : ℕ) (own : List
   from : length pieces ≡ length (parts_in pieces)
   from = sym (length-map pieces (λ x. let u : Piece = x in u.part))
 
-  pub made-firsts : (old noted : List ℕ) → AreMoved (length pieces) m.own.items m.firsts.items old noted
+  pub made-firsts : (old noted : List ℕ) → AreMoved (length pieces) (numbers_in m.zones.items) (sides_in Before m.zones.items) old noted
       → AreSidesNoted (StandsBeforeFrom (parts_in new) (length (parts_in pieces))) zones own old noted
   made-firsts old noted moved =
       let before : List (List Rect) = parts_in pieces in
       let more : List (List Rect) = made.are.parts in
       subst (λ l. AreSidesNoted (StandsBeforeFrom l (length before)) zones own old noted) (sym whole)
       (sides-moved (length before) (StandsBeforeFrom more 0) (StandsBeforeFrom (before ++ more) (length before)) (unmoved-before before more) (moved-before before more)
-      zones own m.own.items m.firsts.items old noted same made.are.firsts (subst (λ k. AreMoved k m.own.items m.firsts.items old noted) from moved))
+      zones own (numbers_in m.zones.items) (sides_in Before m.zones.items) old noted same made.are.firsts
+      (subst (λ k. AreMoved k (numbers_in m.zones.items) (sides_in Before m.zones.items) old noted) from moved))
 
-  pub made-seconds : (old noted : List ℕ) → AreMoved (length pieces) m.own.items m.seconds.items old noted
+  pub made-seconds : (old noted : List ℕ) → AreMoved (length pieces) (numbers_in m.zones.items) (sides_in After m.zones.items) old noted
       → AreSidesNoted (StandsAfterFrom (parts_in new) (length (parts_in pieces))) zones own old noted
   made-seconds old noted moved =
       let before : List (List Rect) = parts_in pieces in
       let more : List (List Rect) = made.are.parts in
       subst (λ l. AreSidesNoted (StandsAfterFrom l (length before)) zones own old noted) (sym whole)
       (sides-moved (length before) (StandsAfterFrom more 0) (StandsAfterFrom (before ++ more) (length before)) (unmoved-after before more) (moved-after before more)
-      zones own m.own.items m.seconds.items old noted same made.are.seconds (subst (λ k. AreMoved k m.own.items m.seconds.items old noted) from moved))
+      zones own (numbers_in m.zones.items) (sides_in After m.zones.items) old noted same made.are.seconds
+      (subst (λ k. AreMoved k (numbers_in m.zones.items) (sides_in After m.zones.items) old noted) from moved))
 
 -- some of the elements
 pub All-some : {X : Type 0} (P : X → Type 0) (all some : List X) → ((x : X) → Contains some x → Contains all x) → All P all → All P some

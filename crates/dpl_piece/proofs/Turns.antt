@@ -1,13 +1,17 @@
 -- Features one by one, each with its own zones.
-use Rattle.std.proofs.Common.{◌≡◌, ◌≢◌, ℕ, suc, ◌+◌, ◌-◌, ◌≤◌, ◌<◌, ◌⊎◌, inl, inr, List, [], ◌∷◌, ◌++◌, length, get_or, map, take, drop, sym, ap, ◌∙◌, subst, arith}
+use Rattle.std.proofs.Common.{◌≡◌, ◌≢◌, ℕ, suc, ◌+◌, ◌-◌, ◌≤◌, ◌<◌, ◌⊎◌, inl, inr, false, List, [], ◌∷◌, ◌++◌, length, get_or, map, take, drop, refl, sym, ap, ◌∙◌, subst, arith}
 use Rattle.std.specs.Prelude.{◌↔◌}
 use Rattle.std.specs.List.{All, Contains, range_with_len}
-use Rattle.std.specs.List.Sorted.{IsNonDecreasingBy, IsPermutation}
+use Rattle.std.specs.List.Sorted.{IsNonDecreasingBy, IsPermutation, IsSortedByKey}
+use Rattle.std.specs.Ordering.{is_lt, nat_cmp, ordering_then}
+use Rattle.std.specs.declared.cmp.Ordering.{Ordering}
+use Rattle.std.specs.declared.cmp.Ordering.TheVariants.{Less, Equal, Greater}
+use Rattle.std.proofs.lemmas.Cmp.{ranked, nat_cmp_total, then_total, on_total}
 use Rattle.std.proofs.lemmas.Bool.{cases_lt}
 use Rattle.std.proofs.lemmas.List.{append_assoc, get_or_at, drop-drop, get_or_default, get_or-drop, get_or-take, length-append, length-drop, length-take, take-append-drop}
 use Rattle.std.proofs.lemmas.List.Elements.{All-contains, All-push, Contains-get_or, Contains-append_left, Contains-append_right, Contains-append_cases}
 use Rattle.std.proofs.lemmas.List.FromFn.{length-range_with_len, get_or-range_with_len}
-use Rattle.std.proofs.lemmas.List.Sorted.{Contains-permutation, IsPermutation-sym}
+use Rattle.std.proofs.lemmas.List.Sorted.{Contains-permutation, IsPermutation-sym, ranks_by, sorted_far}
 use Rattle.std.proofs.Math.Seq.{take-suc}
 use Rattle.dpl_spec_split.specs.declared.Rect.{Rect}
 use Rattle.dpl_spec_split.specs.declared.Zone.{Zone}
@@ -27,6 +31,20 @@ numbers-permuted n sorted same j =
           omega (arith, l, i_in, is, e)),
       λ j_in. (let e = get_or-range_with_len 0 n j j j_in in Contains-permutation (range_with_len 0 n) sorted j same (j, omega (arith, l, j_in), omega (arith, e))),
     )
+
+first-at_most : (x y z w : ℕ) (r : Ordering) → r ≡ nat_cmp x y → is_lt (ordering_then r (nat_cmp z w)) ≡ false → y ≤ x
+first-at_most x y z w Less e h = absurd (cc)
+first-at_most x y z w Equal e h = let same : x ≡ y = ranked x y Equal e in omega (arith, same)
+first-at_most x y z w Greater e h = let l : y < x = ranked x y Greater e in omega (arith, l)
+
+-- what is sorted by two keys rises by the first
+pub firsts-rise : (n : ℕ → ℕ) (xs : List ℕ) → IsSortedByKey (λ j. (n j, j)) (λ (p q : ℕ × ℕ). ordering_then (nat_cmp p.0 q.0) (nat_cmp p.1 q.1)) xs
+    → IsNonDecreasingBy n xs
+firsts-rise n xs h i j d l within =
+    let key : ℕ → ℕ × ℕ = λ a. (n a, a) in
+    first-at_most (n (get_or xs j d)) (n (get_or xs i d)) (get_or xs j d) (get_or xs i d) (nat_cmp (n (get_or xs j d)) (n (get_or xs i d))) refl
+    (sorted_far (λ (a b : ℕ). is_lt (ordering_then (nat_cmp (key a).0 (key b).0) (nat_cmp (key a).1 (key b).1)))
+    (ranks_by (then_total (on_total (λ (t : ℕ × ℕ). t.0) nat_cmp_total) (on_total (λ (t : ℕ × ℕ). t.1) nat_cmp_total)) key) xs h i j d l within)
 
 -- one more number of a zone of the feature
 pub own-next : (zones : List Zone) (numbers : List ℕ) (i n : ℕ) → i < length numbers → feature_at zones (get_or numbers i 0) ≡ n

@@ -1,5 +1,5 @@
 -- Corners of slabs and of zones, and the slabs on the two sides of a zone.
-use Rattle.std.specs.Prelude.{◌≡◌, ℕ, ◌<◌, ◌≤◌, ◌⊎◌, Bool, true, false, ℤ, List, [], length, slice_index_or}
+use Rattle.std.specs.Prelude.{◌≡◌, ℕ, ◌<◌, ◌≤◌, ◌⊎◌, ◌↔◌, Bool, true, false, ℤ, List, [], length, slice_index_or}
 use Rattle.std.specs.Ordering.{int_cmp, is_lt, ordering_then}
 use Rattle.std.specs.declared.cmp.Ordering.{Ordering}
 use Rattle.std.specs.List.Sorted.{IsSortedByKey}
@@ -7,6 +7,7 @@ use Rattle.std.specs.List.{AllWithin, Contains}
 use Rattle.dpl_spec_split.specs.declared.Rect.{Rect}
 use Rattle.dpl_spec_split.specs.declared.Zone.{Zone}
 use Rattle.dpl_piece.specs.declared.corner.Corner.{Corner}
+use Rattle.dpl_piece.specs.declared.corner.Slab.{Slab}
 use Rattle.dpl_piece.specs.declared.corner.Kind.{Kind}
 use Rattle.dpl_piece.specs.declared.corner.Kind.TheVariants.{LowerLeft, LowerRight, UpperLeft}
 
@@ -25,6 +26,17 @@ IsCornerWithin kind parts from to c = (k : ℕ) × (r : Rect) × (from ≤ k) ×
 -- a corner of a slab of some part
 abbrev pub IsCornerOf : Kind → List (List Rect) → Corner → Type 0
 IsCornerOf kind parts c = (k : ℕ) × (r : Rect) × (k < length parts) × Contains (slice_index_or parts k []) r × (corner_of kind k r ≡ c)
+
+-- a slab of part number k
+abbrev pub slab_of : ℕ → Rect → Slab
+slab_of k r = record { rect = r; number = k }
+
+abbrev pub slab_corner : Kind → Slab → Corner
+slab_corner kind s = corner_of kind s.number s.rect
+
+-- the slabs of the parts from one number on to another
+abbrev pub AreSlabsWithin : List (List Rect) → ℕ → ℕ → List Slab → Type 0
+AreSlabsWithin parts from to slabs = (s : Slab) → Contains slabs s ↔ ((from ≤ s.number) × (s.number < to) × Contains (slice_index_or parts s.number []) s.rect)
 
 -- by row, and then by column
 abbrev pub row_cmp : (ℤ × ℤ) → (ℤ × ℤ) → Ordering

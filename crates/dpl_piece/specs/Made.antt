@@ -5,22 +5,36 @@ use Rattle.std.specs.List.{Contains}
 use Rattle.dpl_spec_split.specs.declared.Rect.{Rect}
 use Rattle.dpl_spec_split.specs.declared.Zone.{Zone}
 use Rattle.dpl_piece.specs.declared.made.Made.{Made}
+use Rattle.dpl_piece.specs.declared.made.Sided.{Sided}
+use Rattle.dpl_piece.specs.declared.standing.Side.{Side}
+use Rattle.dpl_piece.specs.declared.standing.Side.TheVariants.{Before, After}
 use Rattle.dpl_piece.specs.Noted.{AreSidesOf, StandsAfterFrom, StandsBeforeFrom}
 use Rattle.dpl_piece.specs.Pieces.{broken_piece, feature_at, rect_at, AreBroken, AreHolesOf}
+
+-- the numbers of zones, and those of the pieces on their two sides
+abbrev pub numbers_in : List Sided → List ℕ
+numbers_in zones = map (λ z. z.zone) zones
+
+abbrev pub on_side : Side → Sided → ℕ
+on_side Before = λ z. z.first
+on_side After = λ z. z.second
+
+abbrev pub sides_in : Side → List Sided → List ℕ
+sides_in side zones = map (on_side side) zones
 
 -- the pieces are those into which the listed zones break the feature, and for each of these zones some that stand on its two sides are listed
 pub record AreMadeOf (feature : List Rect) (zones : List Zone) (m : Made) : Type 0 where
   pub parts : List (List Rect)
-  pub broken : AreBroken feature (map (rect_at zones) m.own.items) parts
+  pub broken : AreBroken feature (map (rect_at zones) (numbers_in m.zones.items)) parts
   pub pieces : m.pieces.items ≡ map (broken_piece m.feature) parts
-  pub firsts : AreSidesOf (StandsBeforeFrom parts 0) zones m.own.items m.firsts.items
-  pub seconds : AreSidesOf (StandsAfterFrom parts 0) zones m.own.items m.seconds.items
+  pub firsts : AreSidesOf (StandsBeforeFrom parts 0) zones (numbers_in m.zones.items) (sides_in Before m.zones.items)
+  pub seconds : AreSidesOf (StandsAfterFrom parts 0) zones (numbers_in m.zones.items) (sides_in After m.zones.items)
 
 -- the same of the feature's own zones, of which there are some
 pub record IsMade (features : List (List Rect)) (zones : List Zone) (m : Made) : Type 0 where
-  pub some : 0 < length m.own.items
-  pub own : (j : ℕ) → Contains m.own.items j ↔ ((j < length zones) × (feature_at zones j ≡ m.feature))
-  pub holes : AreHolesOf zones m.feature (map (rect_at zones) m.own.items)
+  pub some : 0 < length (numbers_in m.zones.items)
+  pub own : (j : ℕ) → Contains (numbers_in m.zones.items) j ↔ ((j < length zones) × (feature_at zones j ≡ m.feature))
+  pub holes : AreHolesOf zones m.feature (map (rect_at zones) (numbers_in m.zones.items))
   pub are : AreMadeOf (slice_index_or features m.feature []) zones m
 
 -- no part was made where there is no hole, or else those into which the holes break the feature

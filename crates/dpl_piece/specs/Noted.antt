@@ -45,6 +45,12 @@ pub record AreSidesNoted (Stands : Zone → ℕ → Type 0) (zones : List Zone) 
   pub noted : (j : ℕ) → Contains own j → (k : ℕ) → Stands (zone_at zones j) k → Stands (zone_at zones j) (slice_index_or new j 0)
   pub kept : (j : ℕ) → ¬ Contains own j → slice_index_or new j 0 ≡ slice_index_or old j 0
 
+-- for each zone of these numbers a part that stands beside it was noted, where there is one, in a new list with a number for each zone
+pub record AreNotedAnew (Stands : Zone → ℕ → Type 0) (zones : List Zone) (own new : List ℕ) : Type 0 where
+  pub old : List ℕ
+  pub each : length old ≡ length zones
+  pub are : AreSidesNoted Stands zones own old new
+
 -- for each of these zones the number of a part that stands beside it, where there is one
 pub record AreSidesOf (Stands : Zone → ℕ → Type 0) (zones : List Zone) (own sides : List ℕ) : Type 0 where
   pub each : length sides ≡ length own

@@ -4,7 +4,7 @@ ghost use Rattle.std.specs.List.{All, AllWithin, Contains};
 ghost use Rattle.std.specs.List.Sorted.{IsPermutation, IsPartitionPoint};
 ghost use Rattle.std.specs.Ordering.{is_lt};
 ghost use Rattle.dpl_piece.specs.declared.corner.Corner.{Corner};
-ghost use Rattle.dpl_piece.specs.Corners.{corner_of, is_before, row_cmp, IsBracket, IsCornerWithin, RiseByCorner};
+ghost use Rattle.dpl_piece.specs.Corners.{corner_of, is_before, row_cmp, slab_of, AreSlabsWithin, IsBracket, RiseByCorner};
 ghost use Rattle.dpl_piece.specs.Noted.{IsZoneCorner};
 ghost use Rattle.dpl_piece.specs.Pieces.{parts_in};
 
@@ -21,6 +21,13 @@ pub struct Corner {
     pub number: u32,
 }
 
+/// A slab of a part, with the part's number.
+#[derive(Clone, Copy, Drop)]
+pub struct Slab {
+    pub rect: Rect,
+    pub number: u32,
+}
+
 /// Which corner of a rectangle.
 #[derive(Clone, Copy, Drop)]
 pub enum Kind {
@@ -30,7 +37,7 @@ pub enum Kind {
 }
 
 /// The corner of a rectangle.
-fn rect_corner(r: &Rect, number: u32, kind: Kind) -> Corner
+pub fn rect_corner(r: &Rect, number: u32, kind: Kind) -> Corner
     ensures { result ≡ corner_of kind number r.now }
 {
     let (x, y) = match kind {
@@ -68,37 +75,27 @@ pub fn zone_corners(
     Ok(())
 }
 
-/// Adds the corners of a part's slabs.
-fn add_corners(
-    corners: &mut Vec<Corner>,
-    rects: &[Rect],
-    number: u32,
-    kind: Kind,
-) -> Result<(), AllocError>
-    ensures { OnOk result (corners.new.items ≡ corners.old.items ++ map (corner_of kind number) rects.now) }
+/// Adds the slabs of a part.
+fn add_slabs(slabs: &mut Vec<Slab>, rects: &[Rect], number: u32) -> Result<(), AllocError>
+    ensures { OnOk result (slabs.new.items ≡ slabs.old.items ++ map (slab_of number) rects.now) }
 {
     for r in rects {
-        corners.push(rect_corner(r, number, kind))?;
+        slabs.push(Slab { rect: *r, number })?;
     }
     Ok(())
 }
 
-/// Makes the list the corners of the slabs of all pieces from a number on, by row and then by column.
-pub fn slab_corners(
-    corners: &mut Vec<Corner>,
-    pieces: &[Piece],
-    from: usize,
-    kind: Kind,
-) -> Result<(), AllocError>
+/// Makes the list the slabs of all pieces from a number on. They are sorted by row and then by column: so their lower left corners are in order, their lower right ones too, since no two have a square in common, and their upper left ones nearly so. No clause tells; whoever seeks such corners among others takes few steps.
+pub fn list_slabs(slabs: &mut Vec<Slab>, pieces: &[Piece], from: usize) -> Result<(), AllocError>
     requires few { length pieces.now < 2 ^ 32 }
     requires from { from ≤ length pieces.now }
-    ensures { OnOk result ((c : Corner) → Contains corners.new.items c ↔ IsCornerWithin kind (parts_in pieces.now) from (length (parts_in pieces.now)) c) }
+    ensures { OnOk result (AreSlabsWithin (parts_in pieces.now) from (length (parts_in pieces.now)) slabs.new.items) }
 {
-    corners.clear();
+    slabs.clear();
     for k in from..pieces.len() {
-        add_corners(corners, pieces[k].part.rects(), k as u32, kind)?;
+        add_slabs(slabs, pieces[k].part.rects(), k as u32)?;
     }
-    sort_by_corner(corners);
+    sort_by_key(slabs, |slab| (slab.rect.y0, slab.rect.x0));
     Ok(())
 }
 

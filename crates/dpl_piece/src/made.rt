@@ -3,26 +3,49 @@ ghost use Rattle.std.specs.Prelude.{◌≡◌, ◌+◌, ◌++◌, ◌<◌, ◌�
 ghost use Rattle.std.specs.List.{All, Contains};
 ghost use Rattle.dpl_spec_split.specs.Loops.{farthest, AreRectsWithin};
 ghost use Rattle.dpl_piece.specs.Cutting.{AreFeatures, AreTheirZones};
-ghost use Rattle.dpl_piece.specs.Made.{AreMadeOf, IsMade};
+ghost use Rattle.dpl_piece.specs.declared.standing.Side.TheVariants.{Before, After};
+ghost use Rattle.dpl_piece.specs.Made.{numbers_in, on_side, sides_in, AreMadeOf, IsMade};
 ghost use Rattle.dpl_piece.specs.Pieces.{broken_piece, rect_at, AreBroken, AreZonesFrom};
 
 use crate::bar::bar_parts;
-use crate::noted::{Noted, note_sides};
+use crate::noted::sides_of;
 use crate::own::{feature_of, holes_at, own_count, rest_from, short_numbers, zones_at};
 use crate::piece::{Origin, Piece};
+use crate::standing::Side;
 use dpl_base::{Id, Rect, Zone, give_back};
 use dpl_slabs::Slabs;
 use std::alloc::{AllocError, Global};
 use std::thread::{Threads, map_chunks};
 
-/// The number of a feature with zones, the pieces into which they break it, and the numbers of its zones, each with those of the pieces on its two sides, of which the feature's first piece is number 0.
+/// With how many zones a feature may have those on their two sides noted by two threads.
+const MANY_ZONES: usize = 8_192;
+
+/// The number of a zone, and those of the pieces on its two sides.
+#[derive(Clone, Copy, Drop)]
+pub struct Sided {
+    pub zone: u32,
+    pub first: u32,
+    pub second: u32,
+}
+
+impl Sided {
+    /// The number of the piece on one of its sides.
+    pub fn on(&self, side: Side) -> u32
+        ensures { result ≡ on_side side self.now }
+    {
+        match side {
+            Side::Before => self.first,
+            Side::After => self.second,
+        }
+    }
+}
+
+/// The number of a feature with zones, the pieces into which they break it, and its zones, for which the feature's first piece is number 0.
 #[derive(Drop)]
 pub struct Made {
     pub feature: Id,
     pub pieces: Vec<Piece>,
-    pub own: Vec<u32>,
-    pub firsts: Vec<u32>,
-    pub seconds: Vec<u32>,
+    pub zones: Vec<Sided>,
 }
 
 /// Adds pieces that zones broke off a feature. Their list is reversed and emptied from the end, so that its room is given back on the way.
@@ -62,18 +85,44 @@ pub fn broken(alloc: Global, feature: &Slabs, holes: Vec<Rect>) -> Result<Vec<Sl
     Ok(parts.into_vec())
 }
 
-/// What the zones of these numbers, which are all those of a feature, make of it.
-fn made_of(
+/// The zones of these numbers, each with the numbers of the pieces on its two sides.
+fn with_sides(
+    alloc: Global,
+    own: &[u32],
+    firsts: &[u32],
+    seconds: &[u32],
+) -> Result<Vec<Sided>, AllocError>
+    requires firsts { length firsts.now ≡ length own.now }
+    requires seconds { length seconds.now ≡ length own.now }
+    ensures own { IfOk result (λ v. numbers_in v.items ≡ own.now) }
+    ensures firsts { IfOk result (λ v. sides_in Before v.items ≡ firsts.now) }
+    ensures seconds { IfOk result (λ v. sides_in After v.items ≡ seconds.now) }
+{
+    let mut zones = Vec::with_capacity(alloc, own.len())?;
+    for i in 0..own.len() {
+        zones.push(Sided {
+            zone: own[i],
+            first: firsts[i],
+            second: seconds[i],
+        })?;
+    }
+    Ok(zones)
+}
+
+/// What the zones of these numbers, which are all those of a feature, make of it, by so many threads.
+fn made_of<R: Threads>(
+    rt: &R,
     alloc: Global,
     feature: &Slabs,
     zones: &[Zone],
     own: &[u32],
     number: Id,
+    threads: usize,
 ) -> Result<Made, AllocError>
     requires known { All (λ j. j < length zones.now) own.now }
     requires within { AreRectsWithin farthest (map (rect_at zones.now) own.now) }
     ensures feature { IfOk result (λ m. m.feature ≡ number) }
-    ensures own { IfOk result (λ m. m.own.items ≡ own.now) }
+    ensures own { IfOk result (λ m. numbers_in m.zones.items ≡ own.now) }
     ensures breaks { IfOk result (AreMadeOf feature.now zones.now) }
 {
     let parts = broken(alloc, feature, holes_at(alloc, zones, own)?)?;
@@ -81,19 +130,26 @@ fn made_of(
     add_parts(&mut pieces, parts, number)?;
     let own_zones = zones_at(alloc, zones, own)?;
     let numbers = short_numbers(alloc, own.len())?;
-    let mut noted = Noted::new(alloc, own.len())?;
-    note_sides(&mut noted, &own_zones, &numbers, &pieces, 0)?;
+    let noted = sides_of(rt, alloc, &own_zones, &numbers, &pieces, threads)?;
     Ok(Made {
         feature: number,
         pieces,
-        own: Vec::from_slice(alloc, own)?,
-        firsts: noted.firsts,
-        seconds: noted.seconds,
+        zones: with_sides(alloc, own, &noted.firsts, &noted.seconds)?,
     })
 }
 
+/// How many threads there are for a feature with so many zones, where each worker has so many: two where the next one has less to do than half of its share.
+fn threads_for(zones: usize, share: usize) -> usize {
+    if zones >= MANY_ZONES && zones / 3 > share / 2 {
+        2
+    } else {
+        1
+    }
+}
+
 /// Breaks the features whose zones begin at one of so many places from a place on.
-fn made_from(
+fn made_from<R: Threads>(
+    rt: &R,
     alloc: Global,
     features: &[Slabs],
     zones: &[Zone],
@@ -114,7 +170,15 @@ fn made_from(
     while rest.len() > after {
         let feature = feature_of(zones, rest[0] as usize);
         let (own, others) = rest.split_at(own_count(zones, rest, feature));
-        let next = made_of(alloc, &features[feature as usize], zones, own, feature)?;
+        let next = made_of(
+            rt,
+            alloc,
+            &features[feature as usize],
+            zones,
+            own,
+            feature,
+            threads_for(own.len(), count),
+        )?;
         made.push(next)?;
         rest = others;
     }
@@ -143,7 +207,7 @@ pub fn made_by<R: Threads + Sync>(
         alloc,
         sorted,
         size,
-        &|place, chunk| { made_from(alloc, features, zones, sorted, place, chunk.len()) },
+        &|place, chunk| { made_from(rt, alloc, features, zones, sorted, place, chunk.len()) },
     )?;
     let mut made = Vec::new(alloc);
     for list in lists {

@@ -1,25 +1,29 @@
 //! Pieces noted for the zones that they stand beside.
-ghost use Rattle.std.specs.Prelude.{◌≡◌, ◌^◌, ◌<◌, ◌≤◌, ◌∷◌, [], length, IfOk, OnOk};
+ghost use Rattle.std.specs.Prelude.{◌≡◌, ◌<◌, ◌≤◌, ◌∷◌, [], ℕ, List, length, map, IfOk, OnOk};
+ghost use Rattle.dpl_spec_split.specs.declared.Rect.{Rect as RectOf};
 ghost use Rattle.std.specs.List.{All};
-ghost use Rattle.dpl_piece.specs.Corners.{RiseByCorner};
-ghost use Rattle.dpl_piece.specs.Noted.{AreMoved, AreNoted, AreSidesNoted, StandsAfterFrom, StandsBeforeFrom};
+ghost use Rattle.dpl_piece.specs.Corners.{slab_corner, AreSlabsWithin, RiseByCorner};
+ghost use Rattle.dpl_piece.specs.Made.{numbers_in, sides_in};
+ghost use Rattle.dpl_piece.specs.Noted.{AreMoved, AreNoted, AreNotedAnew, AreSidesNoted, StandsAfterFrom, StandsBeforeFrom};
 ghost use Rattle.dpl_piece.specs.Pieces.{parts_in};
 
-use crate::corner::{Corner, Kind, count_before, slab_corners, zone_corners};
+use crate::corner::{Corner, Kind, Slab, count_before, list_slabs, rect_corner, zone_corners};
+use crate::made::Sided;
 use crate::piece::Piece;
 use crate::standing::{Side, note_beside};
 use dpl_base::{Id, Zone, short_id};
 use std::alloc::{AllocError, Global};
+use std::thread::{Threads, join};
 
 /// For how many zones of a feature pieces are sought among all slabs, without sorting those.
 const FEW_ZONES: usize = 8;
 
-/// The pieces on the two sides of each zone, as far as they are noted, and two lists of corners that are made for one feature after the other.
+/// The pieces on the two sides of each zone, as far as they are noted, and two lists, of slabs and of zones' corners, that are made for one feature after the other.
 #[derive(Drop)]
 pub struct Noted {
     pub firsts: Vec<u32>,
     pub seconds: Vec<u32>,
-    slabs: Vec<Corner>,
+    slabs: Vec<Slab>,
     corners: Vec<Corner>,
 }
 
@@ -55,61 +59,53 @@ fn note(noted: &mut [u32], corners: &[Corner], corner: Corner, place: usize) -> 
     first
 }
 
-/// Notes the numbers of slabs' corners for the zones that have a corner there. Each is sought where the one before it was, so that few steps are taken where these are sorted too.
-fn note_all(noted: &mut [u32], corners: &[Corner], slabs: &[Corner])
+/// Notes the numbers of slabs for the zones that have a corner at one of that kind of theirs. Each is sought where the one before it was, so that few steps are taken where these are nearly in order.
+fn note_all(noted: &mut [u32], corners: &[Corner], slabs: &[Slab], kind: Kind)
     requires numbers { All (λ c. c.number < length noted.old) corners.now }
     requires rise { RiseByCorner corners.now }
-    ensures { AreNoted slabs.now corners.now noted.old noted.new }
+    ensures { AreNoted (map (slab_corner kind) slabs.now) corners.now noted.old noted.new }
 {
     let mut place = 0;
-    for &corner in slabs {
+    for slab in slabs {
+        let corner = rect_corner(&slab.rect, slab.number, kind);
         place = note(noted, corners, corner, place);
     }
 }
 
-/// Notes for each of these zones of a feature the piece to its left, or below it. The feature's pieces are those from a number on.
+/// Notes for each of these zones of a feature the piece to its left, or below it, by the slabs of the feature's pieces.
 fn note_firsts(
-    noted: &mut Noted,
+    noted: &mut [u32],
+    corners: &mut Vec<Corner>,
+    slabs: &[Slab],
     zones: &[Zone],
     own: &[u32],
-    pieces: &[Piece],
-    from: usize,
 ) -> Result<(), AllocError>
     requires known { All (λ j. j < length zones.now) own.now }
-    requires each { length noted.old.firsts.items ≡ length zones.now }
-    requires few { length pieces.now < 2 ^ 32 }
-    requires from { from ≤ length pieces.now }
-    ensures firsts { OnOk result (AreSidesNoted (StandsBeforeFrom (parts_in pieces.now) from) zones.now own.now noted.old.firsts.items noted.new.firsts.items) }
-    ensures seconds { OnOk result (noted.new.seconds.items ≡ noted.old.seconds.items) }
+    requires each { length noted.old ≡ length zones.now }
+    ensures { OnOk result ((parts : List (List RectOf)) (from : ℕ) → AreSlabsWithin parts from (length parts) slabs.now → AreSidesNoted (StandsBeforeFrom parts from) zones.now own.now noted.old noted.new) }
 {
-    zone_corners(&mut noted.corners, zones, own, Kind::LowerLeft)?;
-    slab_corners(&mut noted.slabs, pieces, from, Kind::LowerRight)?;
-    note_all(&mut noted.firsts, &noted.corners, &noted.slabs);
-    slab_corners(&mut noted.slabs, pieces, from, Kind::UpperLeft)?;
-    note_all(&mut noted.firsts, &noted.corners, &noted.slabs);
+    zone_corners(corners, zones, own, Kind::LowerLeft)?;
+    note_all(noted, corners, slabs, Kind::LowerRight);
+    note_all(noted, corners, slabs, Kind::UpperLeft);
     Ok(())
 }
 
-/// Notes for each of these zones of a feature the piece to its right, or above it. The feature's pieces are those from a number on.
+/// Notes for each of these zones of a feature the piece to its right, or above it, by the slabs of the feature's pieces.
 fn note_seconds(
-    noted: &mut Noted,
+    noted: &mut [u32],
+    corners: &mut Vec<Corner>,
+    slabs: &[Slab],
     zones: &[Zone],
     own: &[u32],
-    pieces: &[Piece],
-    from: usize,
 ) -> Result<(), AllocError>
     requires known { All (λ j. j < length zones.now) own.now }
-    requires each { length noted.old.seconds.items ≡ length zones.now }
-    requires few { length pieces.now < 2 ^ 32 }
-    requires from { from ≤ length pieces.now }
-    ensures firsts { OnOk result (noted.new.firsts.items ≡ noted.old.firsts.items) }
-    ensures seconds { OnOk result (AreSidesNoted (StandsAfterFrom (parts_in pieces.now) from) zones.now own.now noted.old.seconds.items noted.new.seconds.items) }
+    requires each { length noted.old ≡ length zones.now }
+    ensures { OnOk result ((parts : List (List RectOf)) (from : ℕ) → AreSlabsWithin parts from (length parts) slabs.now → AreSidesNoted (StandsAfterFrom parts from) zones.now own.now noted.old noted.new) }
 {
-    slab_corners(&mut noted.slabs, pieces, from, Kind::LowerLeft)?;
-    zone_corners(&mut noted.corners, zones, own, Kind::LowerRight)?;
-    note_all(&mut noted.seconds, &noted.corners, &noted.slabs);
-    zone_corners(&mut noted.corners, zones, own, Kind::UpperLeft)?;
-    note_all(&mut noted.seconds, &noted.corners, &noted.slabs);
+    zone_corners(corners, zones, own, Kind::LowerRight)?;
+    note_all(noted, corners, slabs, Kind::LowerLeft);
+    zone_corners(corners, zones, own, Kind::UpperLeft)?;
+    note_all(noted, corners, slabs, Kind::LowerLeft);
     Ok(())
 }
 
@@ -137,23 +133,109 @@ pub fn note_sides(
         note_beside(&mut noted.seconds, zones, own, pieces, from, Side::After);
         return Ok(());
     }
-    note_firsts(noted, zones, own, pieces, from)?;
-    note_seconds(noted, zones, own, pieces, from)
+    list_slabs(&mut noted.slabs, pieces, from)?;
+    note_firsts(
+        &mut noted.firsts,
+        &mut noted.corners,
+        &noted.slabs,
+        zones,
+        own,
+    )?;
+    note_seconds(
+        &mut noted.seconds,
+        &mut noted.corners,
+        &noted.slabs,
+        zones,
+        own,
+    )?;
+    Ok(())
 }
 
-/// Notes for each of these zones the number that is given for it, so many later. 2^32 or more is refused as out of memory, which so many pieces would be.
+/// For each of these zones the piece to its left, or below it, by the slabs of pieces.
+fn firsts_of(
+    alloc: Global,
+    slabs: &[Slab],
+    zones: &[Zone],
+    own: &[u32],
+) -> Result<Vec<u32>, AllocError>
+    requires { All (λ j. j < length zones.now) own.now }
+    ensures { IfOk result (λ v. (parts : List (List RectOf)) → AreSlabsWithin parts 0 (length parts) slabs.now → AreNotedAnew (StandsBeforeFrom parts 0) zones.now own.now v.items) }
+{
+    let mut firsts = vec![in alloc; 0; zones.len()]?;
+    let mut corners = Vec::new(alloc);
+    note_firsts(&mut firsts, &mut corners, slabs, zones, own)?;
+    Ok(firsts)
+}
+
+/// For each of these zones the piece to its right, or above it, by the slabs of pieces.
+fn seconds_of(
+    alloc: Global,
+    slabs: &[Slab],
+    zones: &[Zone],
+    own: &[u32],
+) -> Result<Vec<u32>, AllocError>
+    requires { All (λ j. j < length zones.now) own.now }
+    ensures { IfOk result (λ v. (parts : List (List RectOf)) → AreSlabsWithin parts 0 (length parts) slabs.now → AreNotedAnew (StandsAfterFrom parts 0) zones.now own.now v.items) }
+{
+    let mut seconds = vec![in alloc; 0; zones.len()]?;
+    let mut corners = Vec::new(alloc);
+    note_seconds(&mut seconds, &mut corners, slabs, zones, own)?;
+    Ok(seconds)
+}
+
+/// The pieces on the two sides of each of these zones of a feature; those on one side by a thread of their own where there are two, if one can be made.
+pub fn sides_of<R: Threads>(
+    rt: &R,
+    alloc: Global,
+    zones: &[Zone],
+    own: &[u32],
+    pieces: &[Piece],
+    threads: usize,
+) -> Result<Noted, AllocError>
+    requires { All (λ j. j < length zones.now) own.now }
+    ensures firsts { IfOk result (λ n. AreNotedAnew (StandsBeforeFrom (parts_in pieces.now) 0) zones.now own.now n.firsts.items) }
+    ensures seconds { IfOk result (λ n. AreNotedAnew (StandsAfterFrom (parts_in pieces.now) 0) zones.now own.now n.seconds.items) }
+{
+    if threads < 2 {
+        let mut noted = Noted::new(alloc, zones.len())?;
+        note_sides(&mut noted, zones, own, pieces, 0)?;
+        return Ok(noted);
+    }
+    short_id(pieces.len() as Id)?;
+    let mut slabs = Vec::new(alloc);
+    list_slabs(&mut slabs, pieces, 0)?;
+    let (firsts, seconds) = join(
+        rt,
+        || -> Result<Vec<u32>, AllocError>
+            requires { All (λ j. j < length zones.now) own.now }
+            ensures { IfOk result (λ v. (parts : List (List RectOf)) → AreSlabsWithin parts 0 (length parts) slabs.items → AreNotedAnew (StandsBeforeFrom parts 0) zones.entry.now own.entry.now v.items) }
+        { firsts_of(alloc, &slabs, zones, own) },
+        || -> Result<Vec<u32>, AllocError>
+            requires { All (λ j. j < length zones.now) own.now }
+            ensures { IfOk result (λ v. (parts : List (List RectOf)) → AreSlabsWithin parts 0 (length parts) slabs.items → AreNotedAnew (StandsAfterFrom parts 0) zones.entry.now own.entry.now v.items) }
+        { seconds_of(alloc, &slabs, zones, own) },
+    );
+    Ok(Noted {
+        firsts: firsts?,
+        seconds: seconds?,
+        slabs,
+        corners: Vec::new(alloc),
+    })
+}
+
+/// Notes for each of these zones the number of the piece on that side of it, so many later. 2^32 or more is refused as out of memory, which so many pieces would be.
 pub fn note_moved(
     noted: &mut [u32],
-    own: &[u32],
-    given: &[u32],
+    zones: &[Sided],
+    side: Side,
     from: usize,
 ) -> Result<(), AllocError>
-    requires known { All (λ j. j < length noted.old) own.now }
-    requires each { length given.now ≡ length own.now }
-    ensures { OnOk result (AreMoved from own.now given.now noted.old noted.new) }
+    requires { All (λ j. j < length noted.old) (numbers_in zones.now) }
+    ensures { OnOk result (AreMoved from (numbers_in zones.now) (sides_in side zones.now) noted.old noted.new) }
 {
-    for i in 0..own.len() {
-        noted[own[i] as usize] = short_id((from as Id).saturating_add(given[i] as Id))?;
+    for zone in zones {
+        let number = zone.on(side) as Id;
+        noted[zone.zone as usize] = short_id((from as Id).saturating_add(number))?;
     }
     Ok(())
 }

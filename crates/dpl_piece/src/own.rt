@@ -25,12 +25,19 @@ pub fn short_numbers(alloc: Global, count: usize) -> Result<Vec<u32>, AllocError
     (0..count).collect(alloc)
 }
 
-/// The numbers of the zones, by feature.
+/// A zone's feature and its number.
+fn key_of(zones: &[Zone], number: u32) -> (Id, u32)
+    ensures { result ≡ (feature_at zones.now number, number) }
+{
+    (feature_of(zones, number as usize), number)
+}
+
+/// The numbers of the zones, by feature. Those of one feature stay in order.
 pub fn by_feature(alloc: Global, zones: &[Zone]) -> Result<Vec<u32>, AllocError>
     ensures { IfOk result (λ v. AreZonesFrom zones.now 0 v.items) }
 {
     let mut numbers = short_numbers(alloc, zones.len())?;
-    sort_by_key(&mut numbers, |number| feature_of(zones, *number as usize));
+    sort_by_key(&mut numbers, |number| key_of(zones, *number));
     Ok(numbers)
 }
 

@@ -6,7 +6,8 @@ ghost use Rattle.dpl_spec_split.specs.declared.Rect.{Rect as RectOf};
 ghost use Rattle.dpl_spec_split.specs.Loops.{farthest, AreRectsWithin};
 ghost use Rattle.dpl_piece.specs.Cutting.{AreFeatures, AreTheirZones};
 ghost use Rattle.dpl_piece.specs.Corners.{StandBeside};
-ghost use Rattle.dpl_piece.specs.Made.{AreLeft, IsMade};
+ghost use Rattle.dpl_piece.specs.declared.standing.Side.TheVariants.{Before, After};
+ghost use Rattle.dpl_piece.specs.Made.{numbers_in, sides_in, AreLeft, IsMade};
 ghost use Rattle.dpl_piece.specs.Noted.{AreMoved, IsSortedWith};
 ghost use Rattle.dpl_piece.specs.Pieces.{least_key, rect_at, parts_in, AddsPieces, AreCut, AreZonesFrom, RiseByLeast};
 ghost use Rattle.dpl_piece.specs.Wholes.{whole_of, AreWholes, KeepsWhole};
@@ -17,6 +18,7 @@ use crate::noted::{Noted, note_moved, note_sides};
 use crate::own::{holes_at, own_count};
 use crate::piece::{CutUp, Origin, Piece, Whole};
 use crate::rank::{number_all, ranked, ranks_of};
+use crate::standing::Side;
 use dpl_base::{Id, Zone, short_id};
 use dpl_slabs::Slabs;
 use dpl_sort::sort_by_key;
@@ -76,18 +78,16 @@ fn add_made(
     feature: Slabs,
     mut made: Made,
 ) -> Result<(), AllocError>
-    requires firsts { All (λ j. j < length noted.old.firsts.items) made.own.items }
-    requires seconds { All (λ j. j < length noted.old.seconds.items) made.own.items }
-    requires firsts_each { length made.firsts.items ≡ length made.own.items }
-    requires seconds_each { length made.seconds.items ≡ length made.own.items }
+    requires firsts { All (λ j. j < length noted.old.firsts.items) (numbers_in made.zones.items) }
+    requires seconds { All (λ j. j < length noted.old.seconds.items) (numbers_in made.zones.items) }
     ensures adds { OnOk result (pieces.new.items ≡ pieces.old.items ++ made.pieces.items) }
     ensures keeps { OnOk result (wholes.new.items ≡ wholes.old.items ++ whole_of made.feature feature ∷ []) }
-    ensures firsts { OnOk result (AreMoved (length pieces.old.items) made.own.items made.firsts.items noted.old.firsts.items noted.new.firsts.items) }
-    ensures seconds { OnOk result (AreMoved (length pieces.old.items) made.own.items made.seconds.items noted.old.seconds.items noted.new.seconds.items) }
+    ensures firsts { OnOk result (AreMoved (length pieces.old.items) (numbers_in made.zones.items) (sides_in Before made.zones.items) noted.old.firsts.items noted.new.firsts.items) }
+    ensures seconds { OnOk result (AreMoved (length pieces.old.items) (numbers_in made.zones.items) (sides_in After made.zones.items) noted.old.seconds.items noted.new.seconds.items) }
 {
     let from = pieces.len();
-    note_moved(&mut noted.firsts, &made.own, &made.firsts, from)?;
-    note_moved(&mut noted.seconds, &made.own, &made.seconds, from)?;
+    note_moved(&mut noted.firsts, &made.zones, Side::Before, from)?;
+    note_moved(&mut noted.seconds, &made.zones, Side::After, from)?;
     pieces.append(&mut made.pieces)?;
     wholes.push(Whole {
         feature: made.feature,

@@ -10,13 +10,13 @@ use Rattle.dpl_piece.proofs.Turns.{own-holes, own-known, zones-after, zones-firs
 use Rattle.dpl_piece.proofs.made.made_from.Goals as goal
 
 pub bounds-features-feature : goal.bounds-features-feature
-bounds-features-feature c =
+bounds-features-feature g c =
     let at = c.loop-rest in
     let some : 0 < length at.rest.now = omega (arith, c.loop-rest-test.true) in
     rw c.feature_of-feature.ensures (first-known c.args.features.now c.args.zones.now at.rest.now at.invariant.rest.0 c.requires.zones at.invariant.rest.1 some)
 
 pub offset_bounds-features-feature : goal.offset_bounds-features-feature
-offset_bounds-features-feature c =
+offset_bounds-features-feature g c =
     let at = c.loop-rest in
     let some : 0 < length at.rest.now = omega (arith, c.loop-rest-test.true) in
     let known : c.feature_of-feature.result < length c.args.features.now = rw c.feature_of-feature.ensures
@@ -24,7 +24,7 @@ offset_bounds-features-feature c =
     search rules
 
 pub made_of-requires-clause-known : goal.made_of-requires-clause-known
-made_of-requires-clause-known c =
+made_of-requires-clause-known g c =
     let at = c.loop-rest in
     let some : 0 < length at.rest.now = omega (arith, c.loop-rest-test.true) in
     let from : AreZonesFrom c.args.zones.now c.feature_of-feature.result at.rest.now = rw c.feature_of-feature.ensures
@@ -33,7 +33,7 @@ made_of-requires-clause-known c =
     (own-known c.args.zones.now at.rest.now c.feature_of-feature.result c.own_count.result from c.own_count.ensures.own c.own_count.ensures.next)
 
 pub made_of-requires-clause-within : goal.made_of-requires-clause-within
-made_of-requires-clause-within c =
+made_of-requires-clause-within g c =
     let at = c.loop-rest in
     let some : 0 < length at.rest.now = omega (arith, c.loop-rest-test.true) in
     let from : AreZonesFrom c.args.zones.now c.feature_of-feature.result at.rest.now = rw c.feature_of-feature.ensures
@@ -45,7 +45,7 @@ made_of-requires-clause-within c =
     (own-within c.args.features.now c.args.zones.now c.requires.features c.requires.zones c.requires.within c.feature_of-feature.result holes own)
 
 pub loop-rest-preserved : goal.loop-rest-preserved
-loop-rest-preserved c =
+loop-rest-preserved g c =
     let at = c.loop-rest in
     let some : 0 < length at.rest.now = omega (arith, c.loop-rest-test.true) in
     let from : AreZonesFrom c.args.zones.now c.feature_of-feature.result at.rest.now = rw c.feature_of-feature.ensures
