@@ -1,6 +1,6 @@
 //! Worked sets of squares: those of loops, and what is made of sets.
-ghost use Rattle.std.specs.Prelude.{IfOk};
-ghost use Rattle.dpl_spec_split.specs.Loops.{farthest, IsPointWithin, ArePointsWithin};
+ghost use Rattle.std.specs.Prelude.{IfOk, OnOk};
+ghost use Rattle.dpl_spec_split.specs.Loops.{farthest, IsPointWithin, ArePointsWithin, AreLoopsWithin};
 
 use crate::bars::{Corners, are, set_of};
 use dpl_base::{Loop, Pt};
@@ -33,13 +33,31 @@ fn loop_of(alloc: Global, corners: &[Corner]) -> Result<Loop, AllocError>
     Ok(Loop::of(points))
 }
 
-/// The squares of loops.
-fn slabs_of(alloc: Global, loops: &[&[Corner]]) -> Result<Slabs, AllocError> {
-    let mut all = Vec::new(alloc);
+/// Adds loops to others.
+fn add_loops(alloc: Global, all: &mut Vec<Loop>, loops: &[&[Corner]]) -> Result<(), AllocError>
+    requires { AreLoopsWithin farthest all.old.items }
+    ensures { OnOk result (AreLoopsWithin farthest all.new.items) }
+{
     for i in 0..loops.len() {
         all.push(loop_of(alloc, loops[i])?)?;
     }
-    Slabs::of_loops(alloc, all)
+    Ok(())
+}
+
+/// The loops, so many times one behind the other.
+fn repeated(alloc: Global, loops: &[&[Corner]], times: u16) -> Result<Vec<Loop>, AllocError>
+    ensures { IfOk result (λ v. AreLoopsWithin farthest v.items) }
+{
+    let mut all = Vec::new(alloc);
+    for _ in 0..times {
+        add_loops(alloc, &mut all, loops)?;
+    }
+    Ok(all)
+}
+
+/// The squares of loops.
+fn slabs_of(alloc: Global, loops: &[&[Corner]]) -> Result<Slabs, AllocError> {
+    Slabs::of_loops(alloc, repeated(alloc, loops, 1)?)
 }
 
 const LOW: [Corner; 4] = [(0, 0), (10, 0), (10, 10), (0, 10)];
@@ -96,6 +114,20 @@ fn loops_have_their_slabs(rt: HostRuntime) -> Result<(), Fail> {
     for (loops, want) in LOOPS {
         let set = slabs_of(rt.alloc(), loops)?;
         assert!(rt; are(set.rects(), want));
+    }
+    Ok(())
+}
+
+#[test]
+fn workers_make_the_slabs_of_loops_that_one_makes(rt: HostRuntime) -> Result<(), Fail> {
+    // The same loops so many times that workers share them.
+    let alloc = rt.alloc();
+    for (loops, want) in LOOPS {
+        for workers in [2, 64] {
+            let many = repeated(alloc, loops, 1100)?;
+            let set = Slabs::of_shapes_by(&rt, alloc, Vec::new(alloc), many, workers)?;
+            assert!(rt; are(set.rects(), want));
+        }
     }
     Ok(())
 }
