@@ -12,7 +12,9 @@ pub mark_item-near-requires-clause-sound : goal.mark_item-near-requires-clause-s
 mark_item-near-requires-clause-sound c = c.loop-n.invariant.sound
 
 pub loop-n-preserved : goal.loop-n-preserved
-loop-n-preserved c = part-more c.args.items.now c.args.start c.loop-n.n c.args.ends.now c.loop-n.ends _ c.loop-n.invariant c.mark_item-near.ensures.sound c.mark_item-near.ensures.more c.mark_item-near.ensures.all
+loop-n-preserved c =
+    part-more c.args.items.now c.args.start c.loop-n.n c.args.ends.now c.loop-n.ends _ c.loop-n.invariant
+    c.mark_item-near.ensures.sound c.mark_item-near.ensures.more c.mark_item-near.ensures.all
 
 pub returns-clause-sound : goal.returns-clause-sound
 returns-clause-sound c = c.loop-n.invariant.sound
