@@ -33,7 +33,7 @@ use Rattle.std.proofs.Common.{
 use Rattle.std.specs.Prelude.{ℤ, pos, ◌-ℤ◌, ◌≤ℤ◌, ◌<ℤ◌, ◌↔◌, IsTrue, int_lt, int_le, ◌&&◌}
 use Rattle.std.specs.List.{Contains}
 use Rattle.std.specs.List.Sorted.{IsPartitionedBy}
-use Rattle.std.proofs.lemmas.Bool.{and_from, and_parts, cases_eq, cases_lt, cases_order, or_cases, or_left, or_right, false≢true}
+use Rattle.std.proofs.lemmas.Bool.{and_from, and_parts, cases_Bool, cases_eq, cases_lt, cases_order, or_cases, or_left, or_right, false≢true}
 use Rattle.std.proofs.lemmas.Int.{ints, by_lt_z}
 use Rattle.std.proofs.lemmas.List.{drop_all, get_or_default, get_or-drop, get_or-take, length-drop, length-replicate, length-take, take_all}
 use Rattle.dpl_spec_split.specs.declared.Rect.{Rect}
@@ -283,6 +283,31 @@ module _ (items : List Item) (order : AreInOrder items) (within : AreOwnedWithin
               (solid-at (n + 1 + i) (omega (arith, le, ne, j_in, size, inside))) (solid-at (n + 1 + j) (omega (arith, j_in, size, inside)))
               (part-follows (n + 1 + i) (n + 1 + j) (omega arith) (omega (arith, le, ne)) (omega (arith, j_in, size))) j_comes)))
         ]
+
+    -- what a later item of the part comes before, an earlier one does
+    comes-earlier : (i j : ℕ) → n < i → i ≤ j → j < end → comes_before (item_at items n).rect (item_at items j).rect ≡ true
+        → comes_before (item_at items n).rect (item_at items i).rect ≡ true
+    comes-earlier i j from le below h = elim (cases_eq i j) [
+      | inl e ↦ subst (λ (m : ℕ). comes_before (item_at items n).rect (item_at items m).rect ≡ true) (sym e) h
+      | inr ne ↦
+          (let inside = part.within in
+          yes-comes (item_at items n).rect (item_at items i).rect (earlier-comes (item_at items n).rect (item_at items i).rect (item_at items j).rect
+          (solid-at i (omega (arith, le, below, inside))) (solid-at j (omega (arith, below, inside))) (part-follows i j (omega (arith, from)) (omega (arith, le, ne)) below)
+          (comes-yes (item_at items n).rect (item_at items j).rect h)))
+    ]
+
+    -- the first item that doesn't come before the end, next to one that does
+    pub first-next : (k : ℕ) → n < k → k < end → comes_before (item_at items n).rect (item_at items (k - 1)).rect ≡ true
+        → comes_before (item_at items n).rect (item_at items k).rect ≡ false → IsFirstOn items n end k
+    first-next k from below last here = record {
+      behind = from;
+      within = omega (arith, below);
+      before = λ j l m. comes-earlier j (k - 1) l (omega (arith, l, m)) (omega (arith, from, below)) last;
+      after = λ j l m. elim (cases_Bool (comes_before (item_at items n).rect (item_at items j).rect)) [
+        | inl comes ↦ absurd (false≢true (sym here ∙ comes-earlier k j from l m comes))
+        | inr stays ↦ stays
+      ];
+    }
 
     -- the first item that doesn't come before the end, found among the items behind
     pub first-from : (at_behind : ℕ) → at_behind ≤ length behind → ((k : ℕ) (d : Item) → 0 ≤ k → k < at_behind → comes_before (item_at items n).rect (get_or behind k d).rect ≡ true)

@@ -1,5 +1,5 @@
 //! Whether the owners of items go on past the items' ends.
-ghost use Rattle.std.specs.Prelude.{◌≡◌, ◌≢◌, ℕ, ◌<◌, ◌≤◌, ◌⊎◌, ◌↔◌, true, IsTrue, IfOk, length};
+ghost use Rattle.std.specs.Prelude.{◌≡◌, ◌≢◌, ℕ, ◌<◌, ◌≤◌, ◌⊎◌, ◌↔◌, true, IsTrue, IfSome, IfOk, length};
 ghost use Rattle.dpl_join.specs.Pairs.{item_at};
 ghost use Rattle.dpl_zone.specs.Ends.{AreEnds, AreMarkedFrom, AreMarkedIfLive, AreSound, HasLive, IsFirstOn, IsMarked, IsMore, IsOn, IsPart, Meet, comes_before, ends_at};
 ghost use Rattle.dpl_zone.specs.Owned.{AreInOrder, AreOwnedWithin, OwnersRise};
@@ -38,13 +38,43 @@ fn comes_before(slab: &Rect, r: &Rect) -> bool
     r.y0 < slab.y1 || (r.y0 == slab.y1 && r.x1 < slab.x0)
 }
 
-/// The first item behind item `n` and before item `end` that may meet it from above.
-fn first_on(items: &[Item], n: usize, end: usize) -> usize
+/// How many items are looked at one by one for the first that may meet another from above.
+const NEXT: usize = 8;
+
+/// That item, where it is one of the next few from item `near` on.
+fn next_on(items: &[Item], n: usize, end: usize, near: usize) -> Option<usize>
+    requires part { IsPart items.now n end }
+    requires order { AreInOrder items.now }
+    requires within { AreOwnedWithin items.now }
+    ensures { IfSome result (IsFirstOn items.now n end) }
+{
+    let slab = items[n].rect;
+    let start = near.max(n + 1);
+    if end <= start {
+        return None;
+    }
+    if !comes_before(&slab, &items[start - 1].rect) {
+        return None;
+    }
+    let stop = end.min(start.saturating_add(NEXT));
+    for k in start..stop {
+        if !comes_before(&slab, &items[k].rect) {
+            return Some(k);
+        }
+    }
+    None
+}
+
+/// The first item behind item `n` and before item `end` that may meet it from above. It is mostly one of the next few from item `near` on, where that of item `n - 1` was.
+fn first_on(items: &[Item], n: usize, end: usize, near: usize) -> usize
     requires part { IsPart items.now n end }
     requires order { AreInOrder items.now }
     requires within { AreOwnedWithin items.now }
     ensures { IsFirstOn items.now n end result }
 {
+    if let Some(first) = next_on(items, n, end, near) {
+        return first;
+    }
     let slab = items[n].rect;
     let behind = &items[n + 1..end];
     n + 1 + behind.partition_point(|item| comes_before(&slab, &item.rect))
@@ -62,8 +92,8 @@ fn mark(ends: &mut [Ends], n: usize, k: usize)
     ends[k].below = true;
 }
 
-/// Marks what lies on item `n`. The items of its owner that follow it end before item `end`.
-fn mark_item(ends: &mut [Ends], items: &[Item], n: usize, end: usize)
+/// Marks what lies on item `n`, whose first one is sought near item `near`, and gives the number of that. The items of its owner that follow it end before item `end`.
+fn mark_item(ends: &mut [Ends], items: &[Item], n: usize, end: usize, near: usize) -> usize
     requires part { IsPart items.now n end }
     requires rise { OwnersRise items.now }
     requires order { AreInOrder items.now }
@@ -73,13 +103,14 @@ fn mark_item(ends: &mut [Ends], items: &[Item], n: usize, end: usize)
     ensures more { IsMore ends.old ends.new }
     ensures all { (k : ℕ) → IsOn items.now n k → IsMarked ends.new n k }
 {
-    let first = first_on(items, n, end);
+    let first = first_on(items, n, end, near);
     for k in first..end {
         if !meet(&items[n].rect, &items[k].rect) {
-            return;
+            return first;
         }
         mark(ends, n, k);
     }
+    first
 }
 
 /// Marks what lies on the items of an owner, from item `start` up to but not item `end`.
@@ -93,8 +124,9 @@ fn mark_part(ends: &mut [Ends], items: &[Item], start: usize, end: usize)
     ensures more { IsMore ends.old ends.new }
     ensures all { AreMarkedFrom items.now start end ends.new }
 {
+    let mut near = start;
     for n in start..end {
-        mark_item(ends, items, n, end);
+        near = mark_item(ends, items, n, end, near);
     }
 }
 

@@ -16,8 +16,8 @@ returns-then-parent-i c =
     (get_or c.args.rects.now c.args.i zero_rect) (get_or_default _ _ _ _ c.requires.inside) c.if-parent-i.true
     _ (c.in_ok-push.ensures.items ∙ ap (λ s. c.args.parts.now.items ++ s ∷ []) c.in_ok-part.ensures))
 
-pub one-requires-clause-within : goal.one-requires-clause-within
-one-requires-clause-within c = c.requires.within (get_or c.args.rects.now c.args.i zero_rect) (c.args.i, c.requires.inside, get_or_default _ _ _ _ c.requires.inside)
+pub begun-requires-clause-within : goal.begun-requires-clause-within
+begun-requires-clause-within c = c.requires.within (get_or c.args.rects.now c.args.i zero_rect) (c.args.i, c.requires.inside, get_or_default _ _ _ _ c.requires.inside)
 
 pub add-requires-clause-within : goal.add-requires-clause-within
 add-requires-clause-within c = c.requires.within (get_or c.args.rects.now c.args.i zero_rect) (c.args.i, c.requires.inside, get_or_default _ _ _ _ c.requires.inside)

@@ -5,14 +5,16 @@ use Rattle.dpl_zone.proofs.ends.mark_part.Goals as goal
 pub loop-n-init : goal.loop-n-init
 loop-n-init c = part-none c.args.items.now c.args.start c.args.ends.now c.requires.sound
 
-pub mark_item-requires-clause-part : goal.mark_item-requires-clause-part
-mark_item-requires-clause-part c = part-from c.args.items.now c.args.start c.args.end c.loop-n.n c.requires.part (omega arith) c.loop-n-test.true
+pub mark_item-near-requires-clause-part : goal.mark_item-near-requires-clause-part
+mark_item-near-requires-clause-part c = part-from c.args.items.now c.args.start c.args.end c.loop-n.n c.requires.part (omega arith) c.loop-n-test.true
 
-pub mark_item-requires-clause-sound : goal.mark_item-requires-clause-sound
-mark_item-requires-clause-sound c = c.loop-n.invariant.sound
+pub mark_item-near-requires-clause-sound : goal.mark_item-near-requires-clause-sound
+mark_item-near-requires-clause-sound c = c.loop-n.invariant.sound
 
 pub loop-n-preserved : goal.loop-n-preserved
-loop-n-preserved c = part-more c.args.items.now c.args.start c.loop-n.n c.args.ends.now c.loop-n.ends _ c.loop-n.invariant c.mark_item.ensures.sound c.mark_item.ensures.more c.mark_item.ensures.all
+loop-n-preserved c =
+    part-more c.args.items.now c.args.start c.loop-n.n c.args.ends.now c.loop-n.ends _ c.loop-n.invariant
+    c.mark_item-near.ensures.sound c.mark_item-near.ensures.more c.mark_item-near.ensures.all
 
 pub returns-clause-sound : goal.returns-clause-sound
 returns-clause-sound c = c.loop-n.invariant.sound
