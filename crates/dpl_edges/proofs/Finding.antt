@@ -1,5 +1,5 @@
 -- Edges of near slabs, and the conflicts of their pieces.
-use Rattle.std.proofs.Common.{◌≡◌, ℕ, ◌+◌, ◌%◌, ◌<◌, ◌≤◌, ◌⊎◌, inl, inr, List, [], ◌∷◌, ◌++◌, length, get_or, refl, sym, ap, ◌∙◌, subst, arith}
+use Rattle.std.proofs.Common.{◌≡◌, ℕ, ◌+◌, ◌%◌, ◌<◌, ◌≤◌, inl, inr, List, [], ◌∷◌, ◌++◌, length, get_or, refl, sym, ap, ◌∙◌, subst, arith}
 use Rattle.std.specs.Prelude.{◌↔◌, ◌≢◌, slice_index}
 use Rattle.std.specs.List.{All, Contains}
 use Rattle.std.specs.List.Sorted.{IsSorted, IsPermutation}
@@ -17,15 +17,14 @@ use Rattle.dpl_spec_split.specs.Pieces.{Conflict}
 use Rattle.dpl_spec_split.specs.Squares.{Has, IsSolidWithin, Near}
 use Rattle.dpl_spec_split.specs.Zones.{part_at}
 use Rattle.dpl_spec_split.proofs.SquareLaws.{AreNear-sym, Near-sym}
-use Rattle.dpl_slabs.specs.Parts.{AreParts}
 use Rattle.dpl_join.specs.declared.items.Item.{Item}
 use Rattle.dpl_join.specs.Joins.{HaveHomes, IsPairOf, Joined, home_of}
 use Rattle.dpl_join.specs.Listing.{Lists}
-use Rattle.dpl_join.specs.Pairs.{IsPair, item_at, no_item}
+use Rattle.dpl_join.specs.Pairs.{item_at, no_item}
 use Rattle.dpl_join.proofs.ListLaws.{all_pairs-append}
 use Rattle.dpl_join.proofs.NearLaws.{near-close}
 use Rattle.dpl_tile.specs.Adding.{Adds}
-use Rattle.dpl_tile.specs.Meetings.{AreFoes, AreItemsOf}
+use Rattle.dpl_tile.specs.Meetings.{AreFoes}
 use Rattle.dpl_tile.proofs.Adding.{OfFirst, added-to_none, adds-next, adds-same}
 use Rattle.dpl_tile.proofs.Loops.{OfSome, adds-push}
 use Rattle.dpl_tile.proofs.MeetingLaws.{adds-nothing}
