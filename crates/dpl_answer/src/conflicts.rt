@@ -17,14 +17,14 @@ ghost use Rattle.dpl_answer.specs.View.{AreAmong, AreConflictsOf};
 
 use crate::job::{EdgeJob, joined_conflicts};
 use crate::marks::{MarkSets, edges_of_marks, joined_with};
-use dpl_base::{Edge, Spacing, round_one};
+use dpl_base::{Edge, Rect, Spacing, round_one};
 use dpl_cut::BareLayerCut;
-use dpl_edges::all_edges;
+use dpl_edges::{all_conflicts_by, all_edges};
 use dpl_piece::BarePieces;
 use dpl_pool::Gate;
 use dpl_slabs::Slabs;
 use dpl_stars::{Joined, stars};
-use dpl_tile::{plan, plan_by, side_for};
+use dpl_tile::{plan, side_for};
 use std::alloc::{AllocError, Global};
 use std::sync::Wait;
 use std::thread::Threads;
@@ -40,9 +40,6 @@ const FIRST_EDGES: usize = 65_536;
 
 /// Up to how many edges all are summed up without a look at the first ones.
 const MOST_AT_ONCE: usize = 524_288;
-
-/// The side of a tile that has every layer.
-const WIDEST: u32 = 1 << 31;
 
 /// How the work on a layer is shared. Nothing of it shows in the answer.
 #[derive(Clone, Copy, Debug)]
@@ -113,37 +110,47 @@ pub(crate) fn are_listed_at_once(parts: &[Slabs], rule: u32, workers: u32) -> bo
     if workers == 1 {
         return true;
     }
-    let count = slab_count(parts);
+    let count = slab_count(parts, MOST_BY_TILES);
     count > MOST_BY_TILES || are_many(parts, rule, count)
 }
 
-/// How many slabs the parts have together.
-fn slab_count(parts: &[Slabs]) -> u64 {
+/// How many slabs the parts have together; where that is more than `most`, some number above `most`.
+fn slab_count(parts: &[Slabs], most: u64) -> u64 {
     let mut count: u64 = 0;
     for part in parts {
         count = count.saturating_add(part.rects().len() as u64);
+        if count > most {
+            return count;
+        }
     }
     count
 }
 
-/// Whether a square with sides of the rule has many of `count` things, on average over the rectangle round all parts.
+/// Whether a square with sides of the rule has many of `count` things, on average over the rectangle round all parts. Once the rectangle round some of them is too large for that, the others aren't looked at.
 pub(crate) fn are_many(parts: &[Slabs], rule: u32, count: u64) -> bool {
     let mut around = None;
     for part in parts {
         for r in part.rects() {
             around = round_one(around, r);
         }
+        if let Some(around) = &around
+            && !is_dense(around, rule, count)
+        {
+            return false;
+        }
     }
-    let Some(around) = around else {
-        return false;
-    };
+    around.is_some()
+}
+
+/// Whether a square with sides of the rule has many of `count` things, on average over this rectangle.
+fn is_dense(around: &Rect, rule: u32, count: u64) -> bool {
     let side = rule.max(1) as u64;
     let columns = around.x0.abs_diff(around.x1) as u64 / side + 1;
     let rows = around.y0.abs_diff(around.y1) as u64 / side + 1;
     columns.saturating_mul(rows).saturating_mul(DENSE) < count
 }
 
-/// All conflicts of pieces, by one tile for all of them, whose near slabs so many workers find.
+/// All conflicts of pieces, found by so many workers.
 fn conflicts_at_once<R: Threads + Sync>(
     rt: &R,
     alloc: Global,
@@ -155,16 +162,8 @@ fn conflicts_at_once<R: Threads + Sync>(
     requires workers { 1 ≤ workers }
     ensures { IfOk result (λ v. AreEdges (Conflict spacing pieces.now.parts pieces.now.owners) v.items) }
 {
-    let plan = plan_by(
-        rt,
-        alloc,
-        pieces.parts(),
-        pieces.owner(),
-        spacing,
-        WIDEST,
-        workers,
-    )?;
-    all_edges(alloc, &plan)
+    let edges = all_conflicts_by(rt, alloc, pieces.parts(), pieces.owner(), spacing, workers)?;
+    Ok(edges)
 }
 
 /// All edges of the graph of pieces, with anchors where marks are asked for.
@@ -210,7 +209,7 @@ fn conflicts_among(alloc: Global, edges: Vec<Edge>) -> Result<Conflicts, AllocEr
     }
 }
 
-/// The conflicts of the pieces, by the list of all edges, which one tile over all of them gives. So many workers find the near slabs of it.
+/// The conflicts of the pieces, by the list of all edges, which so many workers find.
 pub(crate) fn listed_conflicts<R: Threads + Sync>(
     rt: &R,
     alloc: Global,

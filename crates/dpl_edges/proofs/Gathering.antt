@@ -1,5 +1,5 @@
 -- Edges that a cell finds by meetings.
-use Rattle.std.proofs.Common.{◌≡◌, ℕ, ◌+◌, ◌<◌, ◌⊎◌, inl, inr, List, [], ◌∷◌, ◌++◌, length, get_or, sym, refl, ap, ◌∙◌, subst, arith}
+use Rattle.std.proofs.Common.{◌≡◌, ℕ, ◌<◌, ◌⊎◌, inl, inr, List, [], ◌∷◌, ◌++◌, length, get_or, sym, refl, ap, ◌∙◌, subst, arith}
 use Rattle.std.specs.Prelude.{◌↔◌, ◌≢◌, slice_index}
 use Rattle.std.specs.List.{Contains}
 use Rattle.std.proofs.lemmas.List.{get_or_default}
@@ -25,22 +25,22 @@ use Rattle.dpl_edges.specs.InCells.{in_cell, ConflictIn}
 use Rattle.dpl_edges.specs.Meetings.{IsEdgeOf, IsEnds, MeetIn}
 use Rattle.dpl_edges.proofs.Windows.{slab-within}
 
-one_ends : (i k : ℕ) (e f : ℕ × ℕ) → IsEnds i k e → IsEnds i k f → e ≡ f
-one_ends i k e f (inl (l, is)) (inl (m, also)) = is ∙ sym also
-one_ends i k e f (inl (l, is)) (inr (m, also)) = absurd (omega (arith, l, m))
-one_ends i k e f (inr (l, is)) (inl (m, also)) = absurd (omega (arith, l, m))
-one_ends i k e f (inr (l, is)) (inr (m, also)) = is ∙ sym also
+pub one-ends : (i k : ℕ) (e f : ℕ × ℕ) → IsEnds i k e → IsEnds i k f → e ≡ f
+one-ends i k e f (inl (l, is)) (inl (m, also)) = is ∙ sym also
+one-ends i k e f (inl (l, is)) (inr (m, also)) = absurd (omega (arith, l, m))
+one-ends i k e f (inr (l, is)) (inl (m, also)) = absurd (omega (arith, l, m))
+one-ends i k e f (inr (l, is)) (inr (m, also)) = is ∙ sym also
 
 -- the edge of two slabs that meet
 pub edge-push : (spacing : Spacing) (cell : Rect) (a b : Item) (old new : List (ℕ × ℕ)) (e : ℕ × ℕ) → MeetIn spacing cell a b → IsEnds a.owner b.owner e
     → new ≡ old ++ e ∷ [] → Adds (IsEdgeOf spacing cell a b) old new
 edge-push spacing cell a b old new e meet h is = adds-same (λ f. f ≡ e) (IsEdgeOf spacing cell a b) old new
-    (λ f. (λ same. (meet, subst (λ u. IsEnds a.owner b.owner u) (sym same) h), λ (m, g). one_ends a.owner b.owner f e g h)) (adds-push old new e is)
+    (λ f. (λ same. (meet, subst (λ u. IsEnds a.owner b.owner u) (sym same) h), λ (m, g). one-ends a.owner b.owner f e g h)) (adds-push old new e is)
 
 -- their edge, where it is there already
 pub edge-again : (spacing : Spacing) (cell : Rect) (a b : Item) (old : List (ℕ × ℕ)) (e : ℕ × ℕ) → MeetIn spacing cell a b → IsEnds a.owner b.owner e → Contains old e
     → Adds (IsEdgeOf spacing cell a b) old old
-edge-again spacing cell a b old e meet h there f = (λ c. inl c, λ s. elim s [ inl c ↦ c | inr (m, g) ↦ subst (Contains old) (one_ends a.owner b.owner e f h g) there ])
+edge-again spacing cell a b old e meet h there f = (λ c. inl c, λ s. elim s [ inl c ↦ c | inr (m, g) ↦ subst (Contains old) (one-ends a.owner b.owner e f h g) there ])
 
 -- the edge of a meeting
 abbrev pub IsMeetingEdge : Planned → Rect → Meeting → ℕ × ℕ → Type 0

@@ -1,4 +1,5 @@
 pub mod Windows
 pub mod Fixing
 pub mod Gathering
+pub mod Finding
 pub mod Conflicts

@@ -1,3 +1,4 @@
+pub mod Found
 pub mod Fixed
 pub mod InCells
 pub mod Meetings

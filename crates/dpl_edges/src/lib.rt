@@ -16,10 +16,12 @@ mod gather;
 mod laws;
 mod marks;
 mod near;
+mod pairs;
 
 use crate::gather::edges_among;
 pub use crate::laws::{marks_make_the_graph, tiles_make_the_graph};
 pub use crate::marks::{mark_edges, shifted};
+pub use crate::pairs::{all_conflicts, all_conflicts_by};
 use dpl_base::{Edge, FARTHEST, WideRect};
 use dpl_sort::sort;
 use dpl_tile::{Meeting, Plan};

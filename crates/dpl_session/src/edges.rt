@@ -8,9 +8,8 @@ ghost use Rattle.dpl_session.specs.Windows.{IsEnds, IsNamedEdge, each_alone};
 
 use crate::steps::Steps;
 use dpl_base::{Edge, Id, Listed, Spacing};
-use dpl_edges::all_edges;
+use dpl_edges::all_conflicts;
 use dpl_slabs::{Parts, Slabs};
-use dpl_tile::plan;
 use std::alloc::{AllocError, Global};
 use std::marker::Model;
 use std::sync::ledger::Ledger;
@@ -50,9 +49,6 @@ impl TileEdges {
     }
 }
 
-/// The side of a tile that has every layer, in database units.
-const WIDEST: u32 = 1 << 31;
-
 /// Each slab of a set as a set of its own.
 fn apart(alloc: Global, slabs: &Slabs) -> Result<Parts, AllocError>
     ensures { IfOk result (λ parts. parts ≡ each_alone slabs.now) }
@@ -81,8 +77,7 @@ pub(crate) fn edges_of<L: Ledger>(
 {
     steps.tick();
     let parts = apart(alloc, slabs)?;
-    let plan = plan(alloc, &parts, labels, spacing, WIDEST)?;
-    let edges = all_edges(alloc, &plan)?;
+    let edges = all_conflicts(alloc, &parts, labels, spacing)?;
     Ok(TileEdges {
         edges: Listed::of(edges),
     })

@@ -4,11 +4,12 @@ ghost use Rattle.std.specs.Prelude.{◌<◌, length};
 use crate::bars::{Corners, SPACING, set_of};
 use dpl_base::{Edge, Id, WideRect};
 use dpl_crowd::Crowd;
-use dpl_edges::{all_edges, edges_of};
+use dpl_edges::{all_conflicts_by, all_edges, edges_of};
 use dpl_feature::features;
 use dpl_tile::{Plan, plan};
 use std::alloc::{AllocError, Global};
 use std::test::Fail;
+use std::thread::Threads;
 
 /// A layout, the feature of each of its pieces, and the pairs of pieces that conflict.
 const ROWS: [(&[Corners], &[Id], &[Edge]); 8] = [
@@ -65,6 +66,35 @@ fn finds_the_conflicts(rt: HostRuntime) -> Result<(), Fail> {
         let found = conflicts(rt.alloc(), rects, owner)?;
         let found = found.ok_or("each piece has its feature")?;
         assert!(rt; found.as_slice() == want);
+    }
+    Ok(())
+}
+
+/// The same conflicts without a plan, found by so many workers.
+fn conflicts_by<R: Threads + Sync>(
+    rt: &R,
+    alloc: Global,
+    rects: &[Corners],
+    owner: &[Id],
+    workers: u32,
+) -> Result<Option<Vec<Edge>>, AllocError> {
+    let set = set_of(alloc, rects)?;
+    let pieces = features(alloc, &set)?;
+    if pieces.items().len() != owner.len() || workers < 1 {
+        return Ok(None);
+    }
+    let found = all_conflicts_by(rt, alloc, &pieces, owner, SPACING, workers)?;
+    Ok(Some(found))
+}
+
+#[test]
+fn workers_find_the_same_conflicts(rt: HostRuntime) -> Result<(), Fail> {
+    for (rects, owner, want) in ROWS {
+        for workers in [1, 2, 4] {
+            let found = conflicts_by(&rt, rt.alloc(), rects, owner, workers)?;
+            let found = found.ok_or("each piece has its feature")?;
+            assert!(rt; found.as_slice() == want, "by {workers} workers");
+        }
     }
     Ok(())
 }

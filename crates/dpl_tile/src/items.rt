@@ -44,7 +44,7 @@ fn add_part(items: &mut Vec<Item>, part: &Slabs, k: usize) -> Result<(), AllocEr
 }
 
 /// The slabs of all parts.
-pub(crate) fn items_of(alloc: Global, parts: &[Slabs]) -> Result<Vec<Item>, AllocError>
+pub fn items_of(alloc: Global, parts: &[Slabs]) -> Result<Vec<Item>, AllocError>
     ensures { IfOk result (λ v. AreItemsOf parts.now v.items) }
 {
     let mut items = Vec::new(alloc);

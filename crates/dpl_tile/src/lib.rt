@@ -16,8 +16,9 @@ mod plans;
 mod reach;
 mod sides;
 
+pub use items::items_of;
 pub use laws::squares_have_one_cell;
 pub use least::side_for;
-pub use meetings::Meeting;
+pub use meetings::{Meeting, are_foes};
 pub use planning::{plan, plan_by};
 pub use plans::Plan;

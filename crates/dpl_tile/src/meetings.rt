@@ -54,7 +54,7 @@ fn add_places(meetings: &mut Vec<Meeting>, places: &[Place], pair: &Pair) -> Res
 }
 
 /// Whether the slabs have different owners and are near.
-fn are_foes(a: &Item, b: &Item, owners: &[Id], spacing: Spacing) -> bool
+pub fn are_foes(a: &Item, b: &Item, owners: &[Id], spacing: Spacing) -> bool
     requires corner { spacing.corner ≤ spacing.rule }
     requires first { a.now.owner < length owners.now }
     requires second { b.now.owner < length owners.now }

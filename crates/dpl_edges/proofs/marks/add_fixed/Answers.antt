@@ -1,5 +1,4 @@
 use Rattle.std.proofs.Common.{◌≡◌, [], get_or, ◌∙◌, sym, refl, subst, arith}
-use Rattle.std.specs.Prelude.{◌+◌}
 use Rattle.std.proofs.lemmas.Bool.{false≢true}
 use Rattle.std.proofs.lemmas.List.{get_or_default}
 use Rattle.dpl_spec_split.specs.Squares.{Covers}
