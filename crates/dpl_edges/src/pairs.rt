@@ -21,8 +21,8 @@ use std::thread::{Threads, join, map_indices};
 /// The numbers of two pieces, the smaller first, in half the memory of an `Edge`.
 type ShortEdge = (u32, u32);
 
-/// How many workers look at the strips of a join at most. Each has the close pairs of a strip in memory.
-const MOST_WORKERS: usize = 16;
+/// How many workers find edges, and sort them, at most. Each has the close pairs of a strip in memory, and looks at all edges for its own.
+const MOST_WORKERS: u32 = 16;
 
 /// How many edges are found at least, where workers share their sort.
 const MANY: usize = 32_768;
@@ -123,7 +123,9 @@ fn dealt_edges(
 fn workers_for(join: &Join, workers: u32) -> usize
     ensures { 1 ≤ result }
 {
-    (workers as usize).min(join.strips()).clamp(1, MOST_WORKERS)
+    (workers.min(MOST_WORKERS) as usize)
+        .min(join.strips())
+        .max(1)
 }
 
 /// The edges of all pairs of a join, in no order, some of them more than once, each found by one of so many workers, or of as many as there are strips.
@@ -215,7 +217,7 @@ fn sorted_between_by<R: Threads + Sync>(
     requires workers { 1 ≤ workers }
     ensures { IfOk result (λ v. AreSortedBetween found.now low high v.items) }
 {
-    if workers == 1 || found.len() < MANY {
+    if workers == 1 || found.len() < MANY || high - low <= 1 {
         return sorted_between(alloc, found, low, high);
     }
     let half = workers / 2;
@@ -286,5 +288,12 @@ pub fn all_conflicts_by<R: Threads + Sync>(
     let join = joined(alloc, parts, spacing)?;
     let found = found_edges_by(rt, alloc, &join, owners, spacing, workers)?;
     drop(join);
-    sorted_between_by(rt, alloc, &found, 0, parts.items().len() as Id, workers)
+    sorted_between_by(
+        rt,
+        alloc,
+        &found,
+        0,
+        parts.items().len() as Id,
+        workers.min(MOST_WORKERS),
+    )
 }

@@ -7,7 +7,7 @@ ghost use Rattle.dpl_slabs.specs.declared.ahead.Block.{Block as BlockOf};
 ghost use Rattle.dpl_slabs.specs.Made.{IsBlock};
 
 use crate::blocks::slabs_of_block;
-use crate::made::InTurn;
+use crate::made::{InTurn, MOST_WORKERS};
 use crate::strips::strip_length;
 use dpl_base::Rect;
 use std::alloc::{AllocError, Global};
@@ -112,7 +112,7 @@ pub fn place_of(starts: &[usize], number: usize, behind: usize) -> usize {
     }
 }
 
-/// The blocks in which rectangles lie, the last first, made by so many workers, or none where blocks are small, or one share has more than two thirds of all rectangles, of which workers share slices.
+/// The blocks in which rectangles lie, the last first, made by so many workers, or none where blocks are small, or one share has more than two thirds of all rectangles, or more than two even shares of as many workers as slices have: then workers share slices.
 pub fn blocks_by<R: Threads + Sync>(
     rt: &R,
     alloc: Global,
@@ -130,7 +130,8 @@ pub fn blocks_by<R: Threads + Sync>(
         strips,
         largest,
     } = shares(alloc, rects, workers)?;
-    if rects.len() / LARGE < strips || rects.len() / 3 < largest / 2 {
+    let even = rects.len() / workers.min(MOST_WORKERS) as usize;
+    if rects.len() / LARGE < strips || rects.len() / 3 < largest / 2 || even < largest / 2 {
         return Ok(made);
     }
     let lists = map_chunks(

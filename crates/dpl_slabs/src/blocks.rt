@@ -62,6 +62,9 @@ pub fn has_open_column(rects: &[Rect]) -> bool {
     let mut start = first as i64;
     let mut end = first;
     for reach in &reached {
+        if start > last as i64 {
+            return false;
+        }
         if (end as i64) < start {
             return true;
         }

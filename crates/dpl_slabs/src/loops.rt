@@ -13,6 +13,9 @@ use std::thread::{Threads, map_indices};
 /// How many corners loops have at least, where workers share them. Fewer are swept while a thread is made.
 const MANY: usize = 8192;
 
+/// How many workers share loops at most.
+const MOST_WORKERS: usize = 64;
+
 /// Adds the edge from one point to the next, unless it is level.
 fn add_step(edges: &mut Vec<Edge>, p: &Pt, q: &Pt) -> Result<(), AllocError>
     requires p { IsPointWithin farthest p.now }
@@ -100,7 +103,7 @@ fn workers_for(loops: &[Loop], workers: u32) -> usize
     if corners < MANY {
         return 1;
     }
-    (workers as usize).min(loops.len()).max(1)
+    (workers as usize).min(loops.len()).clamp(1, MOST_WORKERS)
 }
 
 /// Rectangles that have the squares of loops, which are dealt to workers.

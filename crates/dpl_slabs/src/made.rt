@@ -17,7 +17,7 @@ use std::alloc::{AllocError, Global};
 use std::thread::{Threads, map_chunks};
 
 /// How many workers make slices at most: the pieces of one slice of each are in memory, whatever their number.
-const MOST_WORKERS: u32 = 8;
+pub const MOST_WORKERS: u32 = 8;
 
 /// Pieces of the squares in rows `low` to `high - 1`.
 #[derive(Drop)]
@@ -66,7 +66,7 @@ pub trait Slicing {
         ensures { IfOk result (λ v. All (IsSwept rects.now) v.items) };
 }
 
-/// Nobody, so that the pieces of one slice alone are in memory beside those that are put together.
+/// One thread, which sweeps loops one after the other, and makes no slice, block or strip before its turn: so the pieces of one slice alone are in memory beside those that are put together.
 pub struct InTurn;
 
 impl Slicing for InTurn {
@@ -95,7 +95,7 @@ impl Slicing for InTurn {
     }
 }
 
-/// So many workers, of whom each has as many slices to make, or blocks or strips of about as many rectangles. One alone makes none.
+/// So many workers, to whom loops are dealt, and of whom each has as many slices to make, or blocks or strips of about as many rectangles. One alone is as `InTurn`.
 #[derive(Drop)]
 pub struct ByWorkers<'a, R> {
     pub rt: &'a R,

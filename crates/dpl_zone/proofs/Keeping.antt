@@ -1,7 +1,7 @@
 -- Horizontal zones, and the vertical ones beside them.
-use Rattle.std.proofs.Common.{◌≡◌, ℕ, zero, suc, ◌+◌, ◌<◌, ◌≤◌, ◌⊎◌, inl, inr, Bool, true, false, List, [], ◌∷◌, ◌++◌, length, get_or, sym, refl, ap, ◌∙◌, subst, arith}
+use Rattle.std.proofs.Common.{◌≡◌, ℕ, zero, suc, ◌+◌, ◌<◌, ◌≤◌, ◌⊎◌, inl, inr, List, [], ◌∷◌, ◌++◌, length, get_or, sym, refl, ap, ◌∙◌, subst, arith}
 use Rattle.std.specs.Prelude.{pos, ◌-ℤ◌, ◌≤ℤ◌, ◌<ℤ◌, ◌↔◌}
-use Rattle.std.specs.List.{Contains}
+use Rattle.std.specs.List.{All, Contains}
 use Rattle.std.proofs.lemmas.Int.{ints}
 use Rattle.std.proofs.lemmas.Bool.{cases_eq}
 use Rattle.std.proofs.lemmas.List.{get_or_default}
@@ -10,10 +10,12 @@ use Rattle.dpl_spec_split.specs.declared.Spacing.{Spacing}
 use Rattle.dpl_spec_split.specs.declared.Rect.{Rect}
 use Rattle.dpl_spec_split.specs.declared.Zone.{Zone}
 use Rattle.dpl_spec_split.specs.Loops.{farthest}
-use Rattle.dpl_spec_split.specs.Squares.{Region, Covers, IsSolidWithin}
+use Rattle.dpl_spec_split.specs.Squares.{Region, AreTouching, Has, Covers, IsSolidWithin}
 use Rattle.dpl_spec_split.specs.Zones.{at, IsHorizontalZone, IsVerticalZone, transposed, transposed_rect}
-use Rattle.dpl_zone.specs.Layers.{TouchesOwn}
-use Rattle.dpl_zone.specs.Touched.{AreTouched, zone_at}
+use Rattle.dpl_tree.specs.declared.items.Item.{Item}
+use Rattle.dpl_tree.specs.Trees.{HasItem}
+use Rattle.dpl_zone.specs.Items.{AreItemsWithin}
+use Rattle.dpl_zone.specs.Layers.{TouchesItem, TouchesOwn}
 use Rattle.dpl_zone.specs.Rows.{AreWithin}
 
 -- a zone of some rows has its squares in the feature
@@ -98,6 +100,66 @@ apart-none kept P z touch w = (
   λ a. elim a [ inl b ↦ b | inr (e, f) ↦ absurd (f (subst P e touch)) ],
 )
 
+-- the items are the zones of the list, by feature
+abbrev pub AreZoneItems : List Zone → List Item → Type 0
+AreZoneItems zones items = (r : Rect) (k : ℕ) → HasItem items r k ↔ ((z : Zone) × Contains zones z × (z.rect ≡ r) × (z.feature ≡ k))
+
+touches-item : (flat : List Zone) (items : List Item) (w : Zone) → AreZoneItems flat items → TouchesOwn flat w → TouchesItem items w
+touches-item flat items w are (h, c, e, touch) = (h.rect, (are h.rect w.feature).1 (h, c, refl, e), touch)
+
+touches-own : (flat : List Zone) (items : List Item) (w : Zone) → AreZoneItems flat items → TouchesItem items w → TouchesOwn flat w
+touches-own flat items w are (r, has, touch) = let (h, c, e, f) = (are r w.feature).0 has in (h, c, f, subst (λ (s : Rect). AreTouching (Has s) (Has w.rect)) (sym e) touch)
+
+pub apart-of_list : (flat : List Zone) (items : List Item) (z : Zone) (old new : List Zone) → AreZoneItems flat items
+    → ((w : Zone) → Contains new w ↔ (Contains old w ⊎ ((z ≡ w) × (TouchesItem items w → ⊥)))) → (w : Zone) → Contains new w ↔ (Contains old w ⊎ ((z ≡ w) × (TouchesOwn flat w → ⊥)))
+apart-of_list flat items z old new are adds w = (
+  λ a. elim ((adds w).0 a) [ inl b ↦ inl b | inr (e, none) ↦ inr (e, λ t. none (touches-item flat items w are t)) ],
+  λ a. elim a [ inl b ↦ (adds w).1 (inl b) | inr (e, none) ↦ (adds w).1 (inr (e, λ t. none (touches-own flat items w are t))) ],
+)
+
+-- zones in the range are items in the range
+pub items-within_list : (flat : List Zone) (items : List Item) → All (λ z. IsSolidWithin farthest z.rect) flat → AreZoneItems flat items → AreItemsWithin items
+items-within_list flat items within are r k has =
+    let (z, (i, i_in, i_is), e, f) = (are r k).0 has in
+    subst (λ (u : Rect). IsSolidWithin farthest u) e (subst (λ (t : Zone). IsSolidWithin farthest t.rect) i_is (within i z i_in))
+
+-- the items of the first n zones
+abbrev pub OfFirstZones : List Zone → ℕ → List Item → Type 0
+OfFirstZones zones n items = (r : Rect) (k : ℕ) → HasItem items r k ↔ ((z : Zone) × (i : ℕ) × (i < n) × (i < length zones) × (get_or zones i z ≡ z) × (z.rect ≡ r) × (z.feature ≡ k))
+
+pub tree-none : (zones : List Zone) (items : List Item) → items ≡ [] → OfFirstZones zones 0 items
+tree-none zones items none r k = (
+  λ (t, c, e, f). absurd (let (i, i_in, is) = subst (λ (xs : List Item). Contains xs t) none c in omega (arith, i_in)),
+  λ (z, i, l, i_in, is, e, f). absurd (omega (arith, l)),
+)
+
+pub tree-more : (zones : List Zone) (n : ℕ) (d : Zone) (old new : List Item) → n < length zones → OfFirstZones zones n old
+    → ((r : Rect) (k : ℕ) → HasItem new r k ↔ (HasItem old r k ⊎ ((k ≡ (get_or zones n d).feature) × Contains ((get_or zones n d).rect ∷ []) r))) → OfFirstZones zones (n + 1) new
+tree-more zones n d old new n_in before step r k =
+    let z : Zone = get_or zones n d in (
+      λ h. elim ((step r k).0 h) [
+        | inl a ↦ (let (w, i, l, i_in, is, e, f) = (before r k).0 a in (w, i, omega (arith, l), i_in, is, e, f))
+        | inr (own, c) ↦ (z, n, omega arith, n_in, get_or_default zones n z d n_in, of-one z.rect r c, sym own)
+      ],
+      λ (w, i, l, i_in, is, e, f). elim (cases_eq i n) [
+        | inl same ↦
+            (let here : z ≡ w = get_or_default zones n d w n_in ∙ (ap (λ (j : ℕ). get_or zones j w) (sym same) ∙ is) in
+            (step r k).1 (inr (sym (ap (λ (u : Zone). u.feature) here ∙ f), (0, omega arith, ap (λ (u : Zone). u.rect) here ∙ e))))
+        | inr ne ↦ (step r k).1 (inl ((before r k).1 (w, i, omega (arith, l, ne), i_in, is, e, f)))
+      ],
+    )
+  where
+    of-one : (s t : Rect) → Contains (s ∷ []) t → s ≡ t
+    of-one s t (zero, l, e) = e
+    of-one s t (suc i, l, e) = absurd (omega (arith, l))
+
+pub tree-all : (zones : List Zone) (n : ℕ) (items tree : List Item) → length zones ≤ n → OfFirstZones zones n items → ((r : Rect) (k : ℕ) → HasItem tree r k ↔ HasItem items r k)
+    → AreZoneItems zones tree
+tree-all zones n items tree all h same r k = (
+  λ a. (let (z, i, l, i_in, is, e, f) = (h r k).0 ((same r k).0 a) in (z, (i, i_in, is), e, f)),
+  λ (z, (i, i_in, is), e, f). (same r k).1 ((h r k).1 (z, i, omega (arith, all, i_in), i_in, is, e, f)),
+)
+
 pub kept-more : (base flat zs : List Zone) (i : ℕ) (z : Zone) (old new : List Zone) → i < length zs → z ≡ get_or zs i z
     → ((w : Zone) → Contains old w ↔ (Contains base w ⊎ KeptOf flat zs i w)) → ((w : Zone) → Contains new w ↔ (Contains old w ⊎ ((z ≡ w) × (TouchesOwn flat w → ⊥))))
     → (w : Zone) → Contains new w ↔ (Contains base w ⊎ KeptOf flat zs (i + 1) w)
@@ -117,15 +179,6 @@ kept-more base flat zs i z old new i_in is before step w = (
 
 pub kept-none : (base flat zs kept : List Zone) → kept ≡ base → (w : Zone) → Contains kept w ↔ (Contains base w ⊎ KeptOf flat zs 0 w)
 kept-none base flat zs kept is w = rw is ((λ h. inl h), (λ h. elim h [ inl a ↦ a | inr (k, l, k_in, k_is, f) ↦ absurd (omega (arith, l)) ]))
-
--- where just the zones are marked that touch a horizontal one, an unmarked one is kept
-pub kept-unmarked : (flat zs : List Zone) (marks : List Bool) (k : ℕ) (old new : List Zone) → AreTouched flat zs marks → k < length zs
-    → ((w : Zone) → Contains new w ↔ (Contains old w ⊎ ((zone_at zs k ≡ w) × ((get_or marks k false ≡ true) → ⊥))))
-    → (w : Zone) → Contains new w ↔ (Contains old w ⊎ ((zone_at zs k ≡ w) × (TouchesOwn flat w → ⊥)))
-kept-unmarked flat zs marks k old new touched k_in step w = (
-  λ c. elim ((step w).0 c) [ inl a ↦ inl a | inr (e, free) ↦ inr (e, λ t. free ((touched.each k k_in).1 (subst (λ (u : Zone). TouchesOwn flat u) (sym e) t))) ],
-  λ h. (step w).1 (elim h [ inl a ↦ inl a | inr (e, free) ↦ inr (e, λ m. free (subst (λ (u : Zone). TouchesOwn flat u) e ((touched.each k k_in).0 m))) ]),
-)
 
 -- where there is no horizontal zone, all vertical ones are kept
 pub joined-no_flat : (flat zs : List Zone) → length flat ≡ 0 → (w : Zone) → Contains zs w ↔ (Contains flat w ⊎ (Contains zs w × (TouchesOwn flat w → ⊥)))

@@ -2,8 +2,6 @@
 use Rattle.std.proofs.Common.{◌≡◌, ℕ, ◌<◌, ◌≤◌, ◌⊎◌, inl, inr, List, [], length, get_or, map, sym, refl, ap, ◌∙◌, subst, arith}
 use Rattle.std.specs.Prelude.{◌↔◌}
 use Rattle.std.specs.List.{All, AllPairs, Contains}
-use Rattle.std.specs.List.Sorted.{IsPermutation}
-use Rattle.std.proofs.lemmas.List.Sorted.{Contains-permutation, IsPermutation-sym}
 use Rattle.std.proofs.lemmas.List.{get_or_default, get_or-map, length-map}
 use Rattle.dpl_spec_split.specs.declared.Spacing.{Spacing}
 use Rattle.dpl_spec_split.specs.declared.Pt.{Pt}
@@ -88,13 +86,6 @@ flat-from spacing overlap parts found zones are is z =
             back (λ p. ((turned-part parts z.feature l (at p.y p.x)).1, (turned-part parts z.feature l (at p.y p.x)).0)) z.rect zone,
       ))),
     )
-
--- the same zones in another order
-pub same-members : (P : Zone → Type 0) (old new : List Zone) → IsPermutation old new → ((z : Zone) → Contains old z ↔ P z) → (z : Zone) → Contains new z ↔ P z
-same-members P old new same are z = (
-  λ c. (are z).0 (Contains-permutation new old z (IsPermutation-sym old new same) c),
-  λ h. Contains-permutation old new z same ((are z).1 h),
-)
 
 -- zones lie in the range of the layer
 module _ (spacing : Spacing) (overlap : ℕ) (parts : List (List Rect)) (some : 1 ≤ overlap) (of : AreParts parts) where

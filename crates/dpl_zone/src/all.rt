@@ -1,15 +1,17 @@
 //! The zones of all features.
-ghost use Rattle.std.specs.Prelude.{◌≡◌, ◌≤◌, IfOk, map};
+ghost use Rattle.std.specs.Prelude.{◌≡◌, ◌<◌, ◌≤◌, ◌↔◌, IfOk, length, map};
+ghost use Rattle.std.specs.List.{Contains};
+ghost use Rattle.dpl_spec_split.specs.declared.Zone.{Zone};
 ghost use Rattle.dpl_spec_split.specs.Squares.{Covers};
 ghost use Rattle.dpl_spec_split.specs.Zones.{AreZones};
-ghost use Rattle.dpl_slabs.specs.Parts.{union_of};
-ghost use Rattle.dpl_zone.specs.Layers.{ArePartZones, transposed_zone};
+ghost use Rattle.dpl_slabs.specs.Parts.{AreParts, union_of};
+ghost use Rattle.dpl_zone.specs.Layers.{IsPartZone, transposed_zone};
 ghost use Rattle.dpl_zone.specs.Ways.{AreFlat, AreUpright};
 
 use crate::items::{columns_of_parts, slabs_of_parts};
 use crate::kept::joined;
 use crate::marked::unmarked;
-use crate::order::{each_once, merge_zones, sort_zones};
+use crate::order::{each_once, sort_zones};
 use crate::slab_zones::upright_zones;
 use dpl_base::{Spacing, Zone, transposed};
 use dpl_slabs::{Parts, Slabs};
@@ -28,7 +30,16 @@ pub(crate) fn transpose(zones: &mut Vec<Zone>)
     }
 }
 
-/// The horizontal zones of parts, sorted, whether marked or not.
+/// Zones of parts before it is known which are kept: the horizontal and the vertical ones, each in no order, and what they were sought by.
+#[derive(Drop)]
+pub(crate) struct Found {
+    pub(crate) spacing: Spacing,
+    pub(crate) overlap: u32,
+    pub(crate) horizontal: Vec<Zone>,
+    pub(crate) vertical: Vec<Zone>,
+}
+
+/// The horizontal zones of parts, in no order, whether marked or not.
 ///
 /// The error: out of memory.
 fn horizontal_zones(
@@ -43,11 +54,10 @@ fn horizontal_zones(
     let columns = columns_of_parts(alloc, parts.items())?;
     let mut zones = upright_zones(alloc, columns, spacing, overlap)?;
     transpose(&mut zones);
-    sort_zones(&mut zones);
     Ok(zones)
 }
 
-/// The vertical zones of parts, sorted, whether marked or not, those too that touch a horizontal one.
+/// The vertical zones of parts, in no order, whether marked or not, those too that touch a horizontal one.
 ///
 /// The error: out of memory.
 fn vertical_zones(
@@ -60,28 +70,27 @@ fn vertical_zones(
     ensures { IfOk result (λ v. AreUpright spacing overlap parts.now v.items) }
 {
     let slabs = slabs_of_parts(alloc, parts.items())?;
-    let mut zones = upright_zones(alloc, slabs, spacing, overlap)?;
-    sort_zones(&mut zones);
-    Ok(zones)
+    upright_zones(alloc, slabs, spacing, overlap)
 }
 
-/// The zones of parts, as `zones` gives them, by those that are kept, in any order: mostly two sorted lists, one behind the other.
+/// The zones of parts that are kept, as `zones` gives them, by their horizontal and their vertical ones.
+///
+/// The error: out of memory.
 pub(crate) fn zones_among(
     alloc: Global,
     parts: &Parts,
-    kept: Vec<Zone>,
-    spacing: Spacing,
-    overlap: u32,
+    found: Found,
     marked: &Slabs,
 ) -> Result<Vec<Zone>, AllocError>
-    requires some { 1 ≤ overlap }
-    requires kept { ArePartZones spacing overlap parts.now kept.items }
-    ensures { IfOk result (λ v. AreZones spacing overlap (union_of parts.now) parts.now (Covers marked.now) v.items) }
+    requires some { 1 ≤ found.overlap }
+    requires horizontal { AreFlat found.spacing found.overlap parts.now found.horizontal.items }
+    requires vertical { AreUpright found.spacing found.overlap parts.now found.vertical.items }
+    ensures { IfOk result (λ v. AreZones found.spacing found.overlap (union_of parts.now) parts.now (Covers marked.now) v.items) }
 {
     // What is known of a list of parts is known once it is looked at.
     let _ = parts.items();
-    let mut kept = kept;
-    merge_zones(&mut kept)?;
+    let mut kept = joined(alloc, found.horizontal, found.vertical)?;
+    sort_zones(&mut kept);
     let all = each_once(alloc, &kept)?;
     unmarked(alloc, all, marked)
 }
@@ -102,8 +111,11 @@ pub fn zones(
 {
     let horizontal = horizontal_zones(alloc, parts, spacing, overlap)?;
     let vertical = vertical_zones(alloc, parts, spacing, overlap)?;
-    // What is known of a list of parts is known once it is looked at.
-    let _ = parts.items();
-    let kept = joined(alloc, horizontal, vertical)?;
-    zones_among(alloc, parts, kept, spacing, overlap, marked)
+    let found = Found {
+        spacing,
+        overlap,
+        horizontal,
+        vertical,
+    };
+    zones_among(alloc, parts, found, marked)
 }

@@ -62,15 +62,15 @@ fn dealt_shades(
     Ok(shades)
 }
 
-/// Marks what has other marks.
-pub(crate) fn add_marks(marks: &mut Vec<bool>, other: &[bool])
-    requires { length other.now ≡ length marks.old.items }
-    ensures sized { length marks.new.items ≡ length marks.old.items }
-    ensures marked { (n : ℕ) → (slice_index_or marks.new.items n false ≡ true) ↔ ((slice_index_or marks.old.items n false ≡ true) ⊎ (slice_index_or other.now n false ≡ true)) }
+/// Marks as dead what is dead by other marks.
+fn darken_by(dead: &mut Vec<bool>, other: &[bool])
+    requires { length other.now ≡ length dead.old.items }
+    ensures sized { length dead.new.items ≡ length dead.old.items }
+    ensures dead { (n : ℕ) → (slice_index_or dead.new.items n false ≡ true) ↔ ((slice_index_or dead.old.items n false ≡ true) ⊎ (slice_index_or other.now n false ≡ true)) }
 {
     for n in 0..other.len() {
         if other[n] {
-            marks[n] = true;
+            dead[n] = true;
         }
     }
 }
@@ -81,20 +81,15 @@ fn add_found(shades: &mut Shades, mut other: Shades) -> Result<(), AllocError>
     ensures { OnOk result (AreBoth shades.old other shades.new) }
 {
     shades.found.append(&mut other.found)?;
-    add_marks(&mut shades.dead, &other.dead);
+    darken_by(&mut shades.dead, &other.dead);
     Ok(())
 }
 
-/// How many workers look for pairs at most: each has marks of its own.
-const MOST_WORKERS: u32 = 8;
-
-/// How many of the workers look for pairs in the strips of a join: no more than there are strips.
-pub(crate) fn workers_for(join: &Join, workers: u32) -> usize
+/// How many of the workers look for shades in the strips of a join: no more than there are strips.
+fn workers_for(join: &Join, workers: u32) -> usize
     ensures { 1 ≤ result }
 {
-    (workers.min(MOST_WORKERS) as usize)
-        .min(join.strips())
-        .max(1)
+    (workers as usize).min(join.strips()).max(1)
 }
 
 /// The shades of all pairs of a join, and those that are known before. Each pair is looked at by one of so many workers, or of as many as there are strips.

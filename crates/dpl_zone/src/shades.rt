@@ -209,6 +209,9 @@ fn unsorted_shades(
     Ok(shades)
 }
 
+/// How many workers find shades at most: each has marks of its own for all items.
+const MOST_WORKERS: u32 = 8;
+
 /// The shades of all pairs of a join, in no order, as `unsorted_shades` finds them, those of each strip by one of so many workers.
 fn unsorted_shades_by<R: Threads + Sync>(
     rt: &R,
@@ -232,7 +235,7 @@ fn unsorted_shades_by<R: Threads + Sync>(
     if find_crowded(&mut shades, items)? {
         return Ok(shades);
     }
-    all_dealt(rt, alloc, join, shades, workers)
+    all_dealt(rt, alloc, join, shades, workers.min(MOST_WORKERS))
 }
 
 /// Sorts by number.

@@ -6,11 +6,9 @@ ghost use Rattle.dpl_slabs.specs.Parts.{union_of};
 ghost use Rattle.dpl_zone.specs.Columns.{AreColumns};
 ghost use Rattle.dpl_zone.specs.Ways.{AreFlat, AreUpright};
 
-use crate::all::{transpose, zones, zones_among};
+use crate::all::{Found, transpose, zones, zones_among};
 use crate::columns::columns_of_parts_by;
 use crate::items::slabs_of_parts;
-use crate::kept::joined_by;
-use crate::order::sort_zones;
 use crate::slab_zones::upright_zones_by;
 use dpl_base::{Spacing, Zone};
 use dpl_join::Item;
@@ -18,7 +16,7 @@ use dpl_slabs::{Parts, Slabs};
 use std::alloc::{AllocError, Global};
 use std::thread::{Threads, join};
 
-/// The horizontal zones of parts, whose columns are given, sorted, as `horizontal_zones` gives them, by so many workers.
+/// The horizontal zones of parts, whose columns are given, in no order, as `horizontal_zones` gives them, by so many workers.
 fn horizontal_zones_by<R: Threads + Sync>(
     rt: &R,
     alloc: Global,
@@ -37,11 +35,10 @@ fn horizontal_zones_by<R: Threads + Sync>(
     let _ = parts.items();
     let mut zones = upright_zones_by(rt, alloc, columns, spacing, overlap, workers)?;
     transpose(&mut zones);
-    sort_zones(&mut zones);
     Ok(zones)
 }
 
-/// The vertical zones of parts, sorted, as `vertical_zones` gives them, by so many workers.
+/// The vertical zones of parts, in no order, as `vertical_zones` gives them, by so many workers.
 fn vertical_zones_by<R: Threads + Sync>(
     rt: &R,
     alloc: Global,
@@ -55,9 +52,7 @@ fn vertical_zones_by<R: Threads + Sync>(
     ensures { IfOk result (λ v. AreUpright spacing overlap parts.now v.items) }
 {
     let slabs = slabs_of_parts(alloc, parts.items())?;
-    let mut zones = upright_zones_by(rt, alloc, slabs, spacing, overlap, workers)?;
-    sort_zones(&mut zones);
-    Ok(zones)
+    upright_zones_by(rt, alloc, slabs, spacing, overlap, workers)
 }
 
 /// The stitch zones of disjoint sets within a layer that has just their squares, as `zones` gives them. With two workers or more all of them make the columns of the sets, and then half of them look for the horizontal zones and half for the vertical ones, each in a thread of its own, if one can be made.
@@ -93,10 +88,11 @@ pub fn zones_by<R: Threads + Sync>(
             ensures { IfOk result (λ v. AreUpright spacing overlap parts.entry.now v.items) }
         { vertical_zones_by(rt, alloc, parts, spacing, overlap, others) },
     );
-    let horizontal = horizontal?;
-    let vertical = vertical?;
-    // What is known of a list of parts is known once it is looked at.
-    let _ = parts.items();
-    let kept = joined_by(rt, alloc, horizontal, vertical, workers)?;
-    zones_among(alloc, parts, kept, spacing, overlap, marked)
+    let found = Found {
+        spacing,
+        overlap,
+        horizontal: horizontal?,
+        vertical: vertical?,
+    };
+    zones_among(alloc, parts, found, marked)
 }

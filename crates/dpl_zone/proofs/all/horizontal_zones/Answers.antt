@@ -1,10 +1,7 @@
-use Rattle.std.proofs.Common.{◌<◌, length}
-use Rattle.dpl_spec_split.specs.Zones.{IsHorizontalZone, part_at}
-use Rattle.dpl_slabs.specs.Parts.{union_of}
 use Rattle.dpl_zone.specs.Owned.{transposed_parts}
 use Rattle.dpl_zone.proofs.ColumnLaws.{sets-of_columns}
 use Rattle.dpl_zone.proofs.OwnedLaws.{sets-within}
-use Rattle.dpl_zone.proofs.PartZones.{apart-turned, flat-from, same-members}
+use Rattle.dpl_zone.proofs.PartZones.{apart-turned, flat-from}
 use Rattle.dpl_zone.proofs.all.horizontal_zones.Goals as goal
 
 pub upright_zones-requires-clause-rise : goal.upright_zones-requires-clause-rise
@@ -19,6 +16,5 @@ upright_zones-requires-clause-within c = sets-within (transposed_parts c.items.r
 pub returns : goal.returns
 returns c =
     let sets = sets-of_columns c.args.parts.now _ (rw c.items.ensures.value at c.in_ok-columns.ensures) in
-    same-members (λ z. (z.feature < length c.args.parts.now) × IsHorizontalZone c.args.spacing c.args.overlap (union_of c.args.parts.now) (part_at c.args.parts.now z.feature) z.rect) _ _
-    c.sort_zones.ensures.same (flat-from c.args.spacing c.args.overlap c.args.parts.now c.in_ok-zones.zones.items _
-    (c.in_ok-zones.ensures (transposed_parts c.args.parts.now) sets (apart-turned c.args.parts.now c.items.ensures.parts.apart)) c.transpose.ensures)
+    flat-from c.args.spacing c.args.overlap c.args.parts.now c.in_ok-zones.zones.items _
+    (c.in_ok-zones.ensures (transposed_parts c.args.parts.now) sets (apart-turned c.args.parts.now c.items.ensures.parts.apart)) c.transpose.ensures
