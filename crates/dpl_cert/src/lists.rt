@@ -66,7 +66,7 @@ fn put_round_by<R: Threads + Sync>(
     put_parts(out, parts)
 }
 
-/// A line for each piece, round by round, so that the texts that workers make are never all in memory beside the whole.
+/// A line for each piece, round by round: of many pieces the texts that workers make in one round alone are in memory beside the whole.
 pub(crate) fn put_pieces_by<R: Threads + Sync>(
     rt: &R,
     alloc: Global,

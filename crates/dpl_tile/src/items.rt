@@ -43,7 +43,9 @@ fn add_part(items: &mut Vec<Item>, part: &Slabs, k: usize) -> Result<(), AllocEr
     Ok(())
 }
 
-/// The slabs of all parts.
+/// The slabs of all parts, each with the number of its part.
+///
+/// The error: out of memory.
 pub fn items_of(alloc: Global, parts: &[Slabs]) -> Result<Vec<Item>, AllocError>
     ensures { IfOk result (λ v. AreItemsOf parts.now v.items) }
 {
