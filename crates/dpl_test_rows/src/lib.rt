@@ -6,6 +6,8 @@ mod calls;
 #[cfg(test)]
 mod demos;
 #[cfg(test)]
+mod large;
+#[cfg(test)]
 mod rectangles;
 #[cfg(test)]
 mod tiles;
