@@ -10,9 +10,11 @@ use Rattle.dpl_spec_split.specs.Loops.{farthest, AreRectsWithin}
 use Rattle.dpl_spec_split.specs.Slabs.{AreSlabsOf}
 use Rattle.dpl_spec_split.specs.Zones.{part_at, transposed_rect}
 use Rattle.dpl_join.specs.declared.items.Item.{Item}
+use Rattle.dpl_shade.specs.Items.{AreInOrder, IsOwned, OwnersRise}
+use Rattle.dpl_shade.proofs.ItemLaws.{owned-at}
 use Rattle.dpl_zone.specs.Columns.{AreColumns, AreSetsBetween}
-use Rattle.dpl_zone.specs.Owned.{AreInOrder, AreSets, IsOwned, IsSetOf, OwnersRise, owned_by, transposed_parts}
-use Rattle.dpl_zone.proofs.OwnedLaws.{owned-at, owned-grown}
+use Rattle.dpl_zone.specs.Owned.{AreSets, IsSetOf, owned_by, transposed_parts}
+use Rattle.dpl_zone.proofs.OwnedLaws.{owned-grown}
 
 owned-none : (items : List Item) → items ≡ [] → (r : Rect) (k : ℕ) → IsOwned items r k → ⊥
 owned-none items is r k (t, (i, l, at), e, f) = let none : i < length items = l in absurd (subst (λ (xs : List Item). i < length xs → ⊥) (sym is) (λ m. omega (arith, m)) none)

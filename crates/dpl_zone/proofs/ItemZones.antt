@@ -1,6 +1,6 @@
 -- The zones of items, and of their owners.
 use Rattle.std.proofs.Common.{◌≡◌, ◌≢◌, ℕ, ◌+◌, ◌<◌, ◌≤◌, ◌⊎◌, inl, inr, Bool, true, false, List, [], length, get_or, refl, sym, ap, ◌∙◌, subst, arith}
-use Rattle.std.specs.Prelude.{ℤ, ◌≤ℤ◌, ◌<ℤ◌, ◌↔◌, IsTrue}
+use Rattle.std.specs.Prelude.{ℤ, pos, ◌+ℤ◌, ◌≤ℤ◌, ◌<ℤ◌, ◌↔◌, IsTrue}
 use Rattle.std.specs.List.{AllPairs, Contains}
 use Rattle.std.proofs.lemmas.Bool.{cases_eq, cases_order, false≢true}
 use Rattle.std.proofs.lemmas.Int.{ints}
@@ -15,23 +15,31 @@ use Rattle.dpl_spec_split.specs.Zones.{IsVerticalZone, at, part_at, transposed}
 use Rattle.dpl_slabs.specs.Parts.{AreApart, union_of}
 use Rattle.dpl_join.specs.declared.items.Item.{Item}
 use Rattle.dpl_join.specs.Pairs.{item_at, no_item}
-use Rattle.dpl_zone.specs.declared.rows.Span.{Span}
-use Rattle.dpl_zone.specs.declared.shades.Shades.{Shades}
-use Rattle.dpl_zone.specs.Ends.{AreEndsOf, IsLive}
-use Rattle.dpl_zone.specs.declared.ends.Ends.{Ends}
-use Rattle.dpl_zone.specs.Items.{others_in, own_in}
-use Rattle.dpl_zone.specs.Owned.{AreOwnedWithin, AreSets, IsOwned, IsSetOf}
-use Rattle.dpl_zone.specs.Rows.{AddsZones, GoesAbove, GoesBelow, IsDark, IsLitZone, IsShaded, IsSlabZone, SomeRow, layer_of}
-use Rattle.dpl_zone.specs.Shading.{AreShades, HasShade, IsBarren, IsDarkRow, IsDead, IsShort}
+use Rattle.dpl_shade.specs.Ends.{AreEndsOf, IsLive}
+use Rattle.dpl_shade.specs.Items.{others_in, own_in, AreOwnedWithin, IsOwned}
+use Rattle.dpl_shade.specs.Rows.{GoesAbove, GoesBelow, IsShaded, SomeRow}
+use Rattle.dpl_shade.specs.Shading.{AreShades, HasShade, IsBarren, IsDarkRow, IsDead, IsShort}
+use Rattle.dpl_shade.specs.declared.ends.Ends.{Ends}
+use Rattle.dpl_shade.specs.declared.rows.Span.{Span}
+use Rattle.dpl_shade.specs.declared.shades.Shades.{Shades}
+use Rattle.dpl_shade.proofs.ItemLaws.{in-others, in-own, others-in, others-within, own-in, owned-at}
+use Rattle.dpl_shade.proofs.ShadingLaws.{barren-short}
+use Rattle.dpl_zone.specs.Owned.{AreSets, IsSetOf}
+use Rattle.dpl_zone.specs.SlabZones.{AddsZones, IsDark, IsLitZone, IsSlabZone, layer_of}
 use Rattle.dpl_zone.specs.Ways.{AreUpright, IsItemZone}
 use Rattle.dpl_zone.proofs.Features.{FirstOf}
-use Rattle.dpl_zone.proofs.ItemLaws.{in-others, in-own, others-in, others-within, own-in}
-use Rattle.dpl_zone.proofs.OwnedLaws.{owned-at}
 use Rattle.dpl_zone.proofs.Runs.{slab-from_zone, zone-from_slab}
-use Rattle.dpl_zone.proofs.ShadingLaws.{barren-short}
 use Rattle.dpl_zone.proofs.TransposedLaws.{zone-as}
 use Rattle.dpl_zone.proofs.Whole.{slab-zone-as}
 use Rattle.dpl_zone.proofs.Zoning.{added-to_none, ended-zone_as, lit-zone_as}
+
+-- items of too few rows, one after the other
+pub all-short-more : (overlap : ℕ) (items : List Item) (n : ℕ) (d : Item) → n < length items → (get_or items n d).rect.y1 <ℤ ((get_or items n d).rect.y0 +ℤ pos (overlap + 2))
+    → ((k : ℕ) → k < n → IsShort overlap items k) → (k : ℕ) → k < n + 1 → IsShort overlap items k
+all-short-more overlap items n d n_in short before k l = elim (cases_eq k n) [
+  | inl e ↦ subst (IsShort overlap items) (sym e) (subst (λ (i : Item). i.rect.y1 <ℤ (i.rect.y0 +ℤ pos (overlap + 2))) (get_or_default items n d no_item n_in) short)
+  | inr ne ↦ before k (omega (arith, l, ne))
+]
 
 -- a barren item has no zone
 pub dead-none : (spacing : Spacing) (overlap : ℕ) (items : List Item) (n : ℕ) (zones : List Rect) → zones ≡ [] → IsBarren spacing overlap items n

@@ -14,9 +14,8 @@ use Rattle.dpl_spec_split.specs.Squares.{Region, AreTouching, Has, Covers, IsSol
 use Rattle.dpl_spec_split.specs.Zones.{at, IsHorizontalZone, IsVerticalZone, transposed, transposed_rect}
 use Rattle.dpl_tree.specs.declared.items.Item.{Item}
 use Rattle.dpl_tree.specs.Trees.{HasItem}
-use Rattle.dpl_zone.specs.Items.{AreItemsWithin}
-use Rattle.dpl_zone.specs.Layers.{TouchesItem, TouchesOwn}
-use Rattle.dpl_zone.specs.Rows.{AreWithin}
+use Rattle.dpl_shade.specs.Rows.{AreWithin}
+use Rattle.dpl_zone.specs.Layers.{AreItemsWithin, TouchesItem, TouchesOwn}
 
 -- a zone of some rows has its squares in the feature
 pub record IsInside (f : Region) (z : Rect) : Type 0 where

@@ -11,14 +11,10 @@ use Rattle.dpl_spec_split.specs.Slabs.{AreSlabsOf, Follows, IsCanonical}
 use Rattle.dpl_spec_split.specs.Squares.{Covers, IsSolidWithin}
 use Rattle.dpl_spec_split.specs.Zones.{part_at, transposed, transposed_rect}
 use Rattle.dpl_join.specs.declared.items.Item.{Item}
-use Rattle.dpl_zone.specs.Owned.{AreInOrder, AreOwnedWithin, AreSets, IsOwned, IsSetOf, OwnersRise, owned_by, transposed_parts}
+use Rattle.dpl_shade.specs.Items.{AreInOrder, AreOwnedWithin, IsOwned, OwnersRise}
+use Rattle.dpl_shade.proofs.ItemLaws.{owned-at}
+use Rattle.dpl_zone.specs.Owned.{AreSets, IsSetOf, owned_by, transposed_parts}
 use Rattle.dpl_zone.proofs.TransposedLaws.{transposed-covers, within-slabs}
-
-pub owned-at : (items : List Item) (n : ℕ) (d : Item) → n < length items → IsOwned items (get_or items n d).rect (get_or items n d).owner
-owned-at items n d n_in = (get_or items n d, (n, n_in, get_or_default items n (get_or items n d) d n_in), refl, refl)
-
-pub owned-within : (items : List Item) (n : ℕ) (d : Item) → AreOwnedWithin items → n < length items → IsSolidWithin farthest (get_or items n d).rect
-owned-within items n d within n_in = within (get_or items n d).rect (get_or items n d).owner (owned-at items n d n_in)
 
 -- ---- a list grows by the items of rectangles
 

@@ -11,9 +11,9 @@ use Rattle.dpl_spec_split.specs.Loops.{farthest}
 use Rattle.dpl_spec_split.specs.Squares.{Covers, IsSolidWithin, SameSquares}
 use Rattle.dpl_spec_split.specs.Zones.{IsHorizontalZone, at, part_at, transposed, transposed_rect}
 use Rattle.dpl_slabs.specs.Parts.{AreApart, AreParts, union_of}
+use Rattle.dpl_shade.specs.Rows.{AreWithin}
 use Rattle.dpl_zone.specs.Layers.{IsPartZone, TouchesOwn, transposed_zone}
 use Rattle.dpl_zone.specs.Owned.{transposed_parts}
-use Rattle.dpl_zone.specs.Rows.{AreWithin}
 use Rattle.dpl_zone.specs.Ways.{AreFlat, AreUpright}
 use Rattle.dpl_zone.proofs.Keeping.{inside-within, upright-inside, zone-inside}
 use Rattle.dpl_zone.proofs.TransposedLaws.{transposed-covers, within-slabs, zone-as}

@@ -14,7 +14,7 @@ use Rattle.dpl_tree.specs.declared.owners.Owners.{Owners}
 use Rattle.dpl_tree.specs.declared.owners.Owners.TheVariants.{Only}
 use Rattle.dpl_tree.specs.Trees.{HasItem, LiesApart, IsMissed, ArePassed}
 use Rattle.dpl_tree.specs.Windows.{IsWidened}
-use Rattle.dpl_zone.specs.Items.{AreItemsWithin}
+use Rattle.dpl_zone.specs.Layers.{AreItemsWithin}
 use Rattle.dpl_tree.proofs.ItemLaws.{item-at}
 
 abbrev pub zero_item : Item

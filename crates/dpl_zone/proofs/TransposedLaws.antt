@@ -8,7 +8,7 @@ use Rattle.dpl_spec_split.specs.Squares.{Region, SameSquares, Has, Covers}
 use Rattle.dpl_spec_split.specs.Slabs.{IsCanonical}
 use Rattle.dpl_spec_split.specs.Zones.{at, IsClearRun, GoesOn, IsHorizontalZone, transposed, transposed_rect}
 use Rattle.dpl_spec_split.specs.Loops.{farthest, AreRectsWithin}
-use Rattle.dpl_zone.specs.Rows.{AreWithin}
+use Rattle.dpl_shade.specs.Rows.{AreWithin}
 
 -- the same zones, of the same sets
 module _ (spacing : Spacing) (overlap : ℕ) (l m f g : Region) (layers : SameSquares l m) (features : SameSquares f g) where

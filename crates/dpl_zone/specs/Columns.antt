@@ -3,7 +3,8 @@ use Rattle.std.specs.Prelude.{ℕ, ◌<◌, ◌≤◌, List, length}
 use Rattle.dpl_spec_split.specs.declared.Rect.{Rect}
 use Rattle.dpl_spec_split.specs.Zones.{part_at}
 use Rattle.dpl_join.specs.declared.items.Item.{Item}
-use Rattle.dpl_zone.specs.Owned.{AreInOrder, IsOwned, IsSetOf, OwnersRise, transposed_parts}
+use Rattle.dpl_shade.specs.Items.{AreInOrder, IsOwned, OwnersRise}
+use Rattle.dpl_zone.specs.Owned.{IsSetOf, transposed_parts}
 
 -- the items are the slabs of the parts from number start up to but not end, each owner's in order
 pub record AreSetsBetween (parts : List (List Rect)) (start end : ℕ) (items : List Item) : Type 0 where

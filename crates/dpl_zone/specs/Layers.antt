@@ -4,7 +4,8 @@ use Rattle.std.specs.List.{Contains}
 use Rattle.dpl_spec_split.specs.declared.Spacing.{Spacing}
 use Rattle.dpl_spec_split.specs.declared.Rect.{Rect}
 use Rattle.dpl_spec_split.specs.declared.Zone.{Zone}
-use Rattle.dpl_spec_split.specs.Squares.{AreTouching, Has}
+use Rattle.dpl_spec_split.specs.Loops.{farthest}
+use Rattle.dpl_spec_split.specs.Squares.{AreTouching, Has, IsSolidWithin}
 use Rattle.dpl_slabs.specs.Parts.{union_of}
 use Rattle.dpl_tree.specs.declared.items.Item.{Item}
 use Rattle.dpl_tree.specs.Trees.{HasItem}
@@ -31,6 +32,10 @@ pub record IsPassed (zones : List Zone) (start k end : ℕ) : Type 0 where
   pub within : end ≤ length zones
   pub before : (i : ℕ) (d : Zone) → start ≤ i → i < end → i < length zones → (slice_index_or zones i d).feature < k
   pub after : (d : Zone) → end < length zones → k ≤ (slice_index_or zones end d).feature
+
+-- the items of a tree are solid rectangles in the range of a layer
+abbrev pub AreItemsWithin : List Item → Type 0
+AreItemsWithin items = (r : Rect) (k : ℕ) → HasItem items r k → IsSolidWithin farthest r
 
 -- an item of the zone's feature touches it
 abbrev pub TouchesItem : List Item → Zone → Type 0

@@ -8,9 +8,10 @@ use Rattle.dpl_spec_split.specs.Zones.{IsHorizontalZone, IsVerticalZone, part_at
 use Rattle.dpl_slabs.specs.Parts.{union_of}
 use Rattle.dpl_join.specs.declared.items.Item.{Item}
 use Rattle.dpl_join.specs.Pairs.{item_at}
-use Rattle.dpl_zone.specs.Items.{own_in}
-use Rattle.dpl_zone.specs.Rows.{GoesAbove, GoesBelow, IsLitZone}
-use Rattle.dpl_zone.specs.Shading.{IsDarkRow}
+use Rattle.dpl_shade.specs.Items.{own_in}
+use Rattle.dpl_shade.specs.Rows.{GoesAbove, GoesBelow}
+use Rattle.dpl_shade.specs.Shading.{IsDarkRow}
+use Rattle.dpl_zone.specs.SlabZones.{IsLitZone}
 
 -- a zone of item n
 abbrev pub IsItemZone : Spacing → ℕ → List Item → ℕ → Rect → Type 0

@@ -1,7 +1,8 @@
 //! The slabs of all parts, or their columns, each with the number of its part.
 ghost use Rattle.std.specs.Prelude.{◌≡◌, ◌++◌, ◌≤◌, map, length, IfOk, OnOk};
+ghost use Rattle.dpl_shade.specs.Items.{AreInOrder, OwnersRise};
 ghost use Rattle.dpl_zone.specs.Columns.{AreColumns, AreSetsBetween};
-ghost use Rattle.dpl_zone.specs.Owned.{AreInOrder, AreSets, OwnersRise, owned_by, transposed_parts};
+ghost use Rattle.dpl_zone.specs.Owned.{AreSets, owned_by, transposed_parts};
 
 use dpl_base::{Id, Rect, short_id};
 use dpl_join::Item;

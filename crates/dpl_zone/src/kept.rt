@@ -7,8 +7,7 @@ ghost use Rattle.dpl_spec_split.specs.declared.Zone.{Zone};
 ghost use Rattle.dpl_spec_split.specs.Loops.{farthest};
 ghost use Rattle.dpl_spec_split.specs.Squares.{IsSolidWithin};
 ghost use Rattle.dpl_tree.specs.Trees.{HasItem};
-ghost use Rattle.dpl_zone.specs.Items.{AreItemsWithin};
-ghost use Rattle.dpl_zone.specs.Layers.{FeaturesRise, IsPassed, TouchIn, TouchesItem, TouchesOwn};
+ghost use Rattle.dpl_zone.specs.Layers.{AreItemsWithin, FeaturesRise, IsPassed, TouchIn, TouchesItem, TouchesOwn};
 
 use crate::near::touches_own;
 use dpl_base::{Zone, touches};

@@ -4,7 +4,7 @@ ghost use Rattle.dpl_spec_split.specs.declared.Rect.{Rect};
 ghost use Rattle.dpl_spec_split.specs.Loops.{farthest};
 ghost use Rattle.dpl_spec_split.specs.Squares.{AreTouching, Has, IsSolidWithin};
 ghost use Rattle.dpl_tree.specs.Trees.{HasItem};
-ghost use Rattle.dpl_zone.specs.Items.{AreItemsWithin};
+ghost use Rattle.dpl_zone.specs.Layers.{AreItemsWithin};
 
 use dpl_base::Zone;
 use dpl_tree::{Owners, View, widened};

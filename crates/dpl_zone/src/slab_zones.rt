@@ -7,18 +7,21 @@ ghost use Rattle.dpl_spec_split.specs.Loops.{farthest};
 ghost use Rattle.dpl_spec_split.specs.Squares.{IsSolidWithin};
 ghost use Rattle.dpl_slabs.specs.Parts.{AreApart};
 ghost use Rattle.dpl_join.specs.Pairs.{item_at};
-ghost use Rattle.dpl_zone.specs.Ends.{AreEnds};
+ghost use Rattle.dpl_shade.specs.Ends.{AreEnds};
+ghost use Rattle.dpl_shade.specs.Items.{AreInOrder, AreOwnedWithin, OwnersRise};
+ghost use Rattle.dpl_shade.specs.Rows.{AreTall, GoesAbove, GoesBelow, RiseByFrom, SomeRow};
+ghost use Rattle.dpl_shade.specs.Shading.{AreShades, IsPortion, IsShort};
 ghost use Rattle.dpl_zone.specs.ItemZones.{AreOfItems};
-ghost use Rattle.dpl_zone.specs.Owned.{AreInOrder, AreOwnedWithin, AreSets, OwnersRise};
-ghost use Rattle.dpl_zone.specs.Rows.{AddsZones, AreTall, GoesAbove, GoesBelow, IsLitZone, IsMiddleOf, IsOpenSpan, RiseByFrom, SomeRow};
-ghost use Rattle.dpl_zone.specs.Shading.{AreShades, IsPortion, IsShort};
+ghost use Rattle.dpl_zone.specs.Owned.{AreSets};
+ghost use Rattle.dpl_zone.specs.SlabZones.{AddsZones, IsLitZone, IsMiddleOf, IsOpenSpan};
 ghost use Rattle.dpl_zone.specs.Ways.{AreUpright, IsItemZone};
 
-use crate::ends::{Ends, ends_of};
-use crate::rows::{Span, gaps};
-use crate::shades::{Portion, Shades, portion_from, portion_start, rows_at, shades_by, shades_of};
 use dpl_base::{Rect, Spacing, Zone};
 use dpl_join::{Item, Join};
+use dpl_shade::{
+    Ends, Portion, Shades, Span, ends_of, gaps, is_short, portion_from, portion_start, rows_at,
+    shades_by, shades_of,
+};
 use std::alloc::{AllocError, Global};
 use std::thread::{Threads, join};
 
@@ -105,17 +108,6 @@ fn add_zone(
     let zone = middle(slab, g, overlap);
     zones.push(zone)?;
     Ok(())
-}
-
-/// Whether the slab has too few rows for a zone.
-pub(crate) fn is_short(slab: &Rect, overlap: u32) -> bool
-    requires { IsSolidWithin farthest slab.now }
-    ensures { IsTrue result ↔ (slab.now.y1 <ℤ (slab.now.y0 +ℤ pos (overlap + 2))) }
-{
-    if slab.y1 as i64 - (slab.y0 as i64) < overlap as i64 + 2 {
-        return true;
-    }
-    false
 }
 
 /// Whether each item has too few rows for a zone.

@@ -1,6 +1,6 @@
 use Rattle.std.proofs.Common.{refl, arith}
-use Rattle.dpl_zone.proofs.OwnedLaws.{owned-within}
-use Rattle.dpl_zone.proofs.ShadingLaws.{all-short-more}
+use Rattle.dpl_shade.proofs.ItemLaws.{owned-within}
+use Rattle.dpl_zone.proofs.ItemZones.{all-short-more}
 use Rattle.dpl_zone.proofs.slab_zones.are_short.Goals as goal
 
 pub is_short-requires : goal.is_short-requires

@@ -1,5 +1,5 @@
 use Rattle.std.proofs.Common.{ℕ, ◌<◌}
-use Rattle.dpl_zone.specs.Shading.{IsShort}
+use Rattle.dpl_shade.specs.Shading.{IsShort}
 use Rattle.dpl_zone.proofs.slab_zones.are_short.Given as goal
 
 abbrev pub invariant-loop-item : goal.invariant-loop-item

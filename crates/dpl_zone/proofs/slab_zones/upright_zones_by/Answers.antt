@@ -1,8 +1,8 @@
 use Rattle.std.proofs.Common.{◌≡◌, List, subst, sym, ◌∙◌}
 use Rattle.std.proofs.lemmas.Result.{IfOk-weaker}
 use Rattle.dpl_join.specs.declared.items.Item.{Item}
-use Rattle.dpl_zone.specs.Owned.{AreInOrder, AreOwnedWithin}
-use Rattle.dpl_zone.specs.Shading.{AreShades}
+use Rattle.dpl_shade.specs.Items.{AreInOrder, AreOwnedWithin}
+use Rattle.dpl_shade.specs.Shading.{AreShades}
 use Rattle.dpl_zone.proofs.ItemZones.{upright-all, upright-none}
 use Rattle.dpl_zone.proofs.slab_zones.upright_zones_by.Goals as goal
 

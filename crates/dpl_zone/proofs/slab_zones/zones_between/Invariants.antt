@@ -1,5 +1,5 @@
+use Rattle.dpl_shade.specs.Shading.{IsStart}
 use Rattle.dpl_zone.specs.ItemZones.{AreOfItems}
-use Rattle.dpl_zone.specs.Shading.{IsStart}
 use Rattle.dpl_zone.specs.Ways.{IsItemZone}
 use Rattle.dpl_zone.proofs.slab_zones.zones_between.Given as goal
 

@@ -1,9 +1,9 @@
 use Rattle.std.proofs.Common.{arith}
 use Rattle.dpl_join.specs.Pairs.{item_at}
-use Rattle.dpl_zone.specs.Ends.{AreEndsOf, ends_at}
-use Rattle.dpl_zone.specs.Items.{own_in}
+use Rattle.dpl_shade.specs.Ends.{AreEndsOf, ends_at}
+use Rattle.dpl_shade.specs.Items.{own_in}
+use Rattle.dpl_shade.proofs.ItemLaws.{owned-within}
 use Rattle.dpl_zone.proofs.ItemZones.{alive-from, item-zones, live-from}
-use Rattle.dpl_zone.proofs.OwnedLaws.{owned-within}
 use Rattle.dpl_zone.proofs.slab_zones.zones_of_item.Goals as goal
 
 pub add_zones-requires-clause-slab : goal.add_zones-requires-clause-slab

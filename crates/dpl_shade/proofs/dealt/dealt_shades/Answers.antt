@@ -1,0 +1,16 @@
+use Rattle.std.proofs.Common.{◌∙◌}
+use Rattle.dpl_shade.proofs.DealtLaws.{sound-start}
+use Rattle.dpl_shade.proofs.dealt.dealt_shades.Goals as goal
+
+pub add_dealt-requires-clause-sound : goal.add_dealt-requires-clause-sound
+add_dealt-requires-clause-sound c =
+    sound-start c.args.join.now.items c.args.known.now c.new.result.items c.in_ok-from_slice.field-0.items c.new.ensures.items
+    (c.in_ok-from_slice.ensures.items ∙ c.deref.ensures.value) c.requires.sound
+
+pub returns : goal.returns
+returns c = record {
+  spacing = c.in_ok-add_dealt.ensures.more.spacing;
+  overlap = c.in_ok-add_dealt.ensures.more.overlap;
+  sound = c.in_ok-add_dealt.ensures.sound;
+  handles = c.in_ok-add_dealt.ensures.handles;
+}

@@ -1,9 +1,0 @@
-use Rattle.dpl_zone.proofs.DealtLaws.{both-from}
-use Rattle.dpl_zone.proofs.dealt.add_found.Goals as goal
-
-pub darken_by-requires : goal.darken_by-requires
-darken_by-requires c = rw c.deref.ensures.value c.requires
-
-pub returns : goal.returns
-returns c = both-from c.args.shades.now c.args.other c.append.new.self c.darken_by.new.dead c.in_ok-append.ensures.items c.darken_by.ensures.sized
-    (rw c.deref.ensures.value at c.darken_by.ensures.dead)

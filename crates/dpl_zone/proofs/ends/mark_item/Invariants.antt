@@ -1,5 +1,0 @@
-use Rattle.dpl_zone.proofs.EndLaws.{IsMarkedTo}
-use Rattle.dpl_zone.proofs.ends.mark_item.Given as goal
-
-abbrev pub invariant-loop-k : goal.invariant-loop-k
-invariant-loop-k l = IsMarkedTo l.items l.n l.k l.initial.ends l.ends

@@ -1,5 +1,0 @@
-use Rattle.dpl_zone.proofs.EndLaws.{ArePartMarked}
-use Rattle.dpl_zone.proofs.ends.mark_part.Given as goal
-
-abbrev pub invariant-loop-n : goal.invariant-loop-n
-invariant-loop-n l = ArePartMarked l.items l.start l.n l.initial.ends l.ends
