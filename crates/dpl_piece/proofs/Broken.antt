@@ -21,9 +21,10 @@ use Rattle.dpl_spec_split.proofs.ComponentLaws.{Linked-start}
 use Rattle.dpl_spec_split.proofs.WholeLaws.{part-unique}
 use Rattle.dpl_slabs.specs.Parts.{AreApart, AreParts, union_of}
 use Rattle.dpl_slabs.proofs.StripLaws.{AllPairs-append}
-use Rattle.dpl_piece.specs.declared.piece.Origin.TheVariants.{Whole, Broken}
-use Rattle.dpl_piece.specs.declared.piece.Piece.{Piece}
-use Rattle.dpl_piece.specs.Pieces.{whole_piece, broken_piece, left_of, AddsPieces, AreHolesOf, HasZone}
+use Rattle.dpl_sides.specs.declared.piece.Origin.TheVariants.{Whole, Broken}
+use Rattle.dpl_sides.specs.declared.piece.Piece.{Piece}
+use Rattle.dpl_sides.specs.Pieces.{whole_piece}
+use Rattle.dpl_piece.specs.Pieces.{broken_piece, left_of, AddsPieces, AreHolesOf, HasZone}
 use Rattle.dpl_piece.proofs.Beside.{in-set, some-part, closed, kept, kept-inside}
 use Rattle.dpl_piece.proofs.Regions.{linked-same}
 use Rattle.dpl_piece.proofs.Stands.{AreLeftOf}

@@ -15,10 +15,11 @@ use Rattle.dpl_spec_split.proofs.SquareLaws.{SameSquares-sym}
 use Rattle.dpl_spec_split.proofs.SlabLaws.{member-Covers, IsLeast-first}
 use Rattle.dpl_slabs.specs.Parts.{union_of}
 use Rattle.dpl_piece.specs.Cutting.{cut_pieces, first_square, keys_in, AreMatched, BareCut, bare_cut, AreBare, AreBarePieces, AreFeatures, AreTheirZones, AreTheirPieces}
-use Rattle.dpl_piece.specs.declared.corner.Kind.TheVariants.{LowerLeft, LowerRight, UpperLeft}
-use Rattle.dpl_piece.specs.declared.piece.Piece.{Piece}
-use Rattle.dpl_piece.specs.Corners.{StandBeside}
-use Rattle.dpl_piece.specs.Pieces.{parts_in, owners_in, AreCut, AreHolesOf, no_zone}
+use Rattle.dpl_sides.specs.declared.corner.Kind.TheVariants.{LowerLeft, LowerRight, UpperLeft}
+use Rattle.dpl_sides.specs.declared.piece.Piece.{Piece}
+use Rattle.dpl_sides.specs.Corners.{StandBeside}
+use Rattle.dpl_sides.specs.Pieces.{parts_in, no_zone}
+use Rattle.dpl_piece.specs.Pieces.{owners_in, AreCut, AreHolesOf}
 use Rattle.dpl_piece.proofs.CornerLaws.{corner-known, zip-length, zip-at}
 use Rattle.dpl_piece.proofs.Regions.{components-same, without-same}
 use Rattle.dpl_piece.proofs.Stands.{zone-within}

@@ -1,6 +1,5 @@
 pub mod Taken
 pub mod CornerLaws
-pub mod Noting
 pub mod Beside
 pub mod Stands
 pub mod Regions
@@ -12,7 +11,5 @@ pub mod Moved
 pub mod Cuts
 pub mod WholeLaws
 pub mod Ranks
-pub mod Places
 pub mod MadeLaws
 pub mod Bars
-pub mod StandingLaws

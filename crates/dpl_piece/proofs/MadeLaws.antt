@@ -11,14 +11,16 @@ use Rattle.dpl_spec_split.specs.Squares.{Covers, SameSquares}
 use Rattle.dpl_spec_split.proofs.SlabLaws.{Covers-member, member-Covers}
 use Rattle.dpl_piece.specs.Cutting.{AreTheirZones}
 use Rattle.dpl_piece.specs.declared.made.Made.{Made}
-use Rattle.dpl_piece.specs.declared.standing.Side.TheVariants.{Before, After}
-use Rattle.dpl_piece.specs.declared.piece.Piece.{Piece}
+use Rattle.dpl_sides.specs.declared.standing.Side.TheVariants.{Before, After}
+use Rattle.dpl_sides.specs.declared.piece.Piece.{Piece}
 use Rattle.dpl_piece.specs.declared.piece.Whole.{Whole}
-use Rattle.dpl_piece.specs.Made.{numbers_in, sides_in, AreMadeOf, IsMade}
-use Rattle.dpl_piece.specs.Noted.{AreMoved, AreSidesNoted, StandsAfterFrom, StandsBeforeFrom}
-use Rattle.dpl_piece.specs.Pieces.{feature_at, left_of, no_zone, parts_in, rect_at, AddsPieces, AreBroken, AreHolesOf, AreZonesFrom}
+use Rattle.dpl_sides.specs.Sided.{numbers_in, sides_in}
+use Rattle.dpl_piece.specs.Made.{AreMadeOf, IsMade}
+use Rattle.dpl_sides.specs.Noted.{AreMoved, AreSidesNoted, StandsAfterFrom, StandsBeforeFrom}
+use Rattle.dpl_sides.specs.Pieces.{no_zone, parts_in, rect_at}
+use Rattle.dpl_piece.specs.Pieces.{feature_at, left_of, AddsPieces, AreBroken, AreHolesOf, AreZonesFrom}
 use Rattle.dpl_piece.specs.Wholes.{whole_of, KeepsWhole}
-use Rattle.dpl_piece.proofs.CornerLaws.{map-Contains}
+use Rattle.dpl_sides.proofs.CornerLaws.{map-Contains}
 use Rattle.dpl_piece.proofs.Cuts.{zones-below}
 use Rattle.dpl_piece.proofs.Moved.{moved-after, moved-before, sides-moved, unmoved-after, unmoved-before}
 use Rattle.dpl_piece.proofs.Sides.{parts-broken}

@@ -1,55 +1,18 @@
 -- Pieces noted for zones by numbers that were given before, each so many later.
-use Rattle.std.proofs.Common.{◌≡◌, ℕ, ◌+◌, ◌-◌, ◌<◌, ◌⊎◌, inl, inr, List, [], ◌++◌, length, get_or, map, sym, ap, ◌∙◌, subst, arith}
+use Rattle.std.proofs.Common.{◌≡◌, ℕ, ◌+◌, ◌-◌, ◌<◌, inl, inr, List, [], ◌++◌, length, get_or, map, sym, ap, ◌∙◌, subst, arith}
 use Rattle.std.specs.Prelude.{◌↔◌, ℤ}
 use Rattle.std.specs.List.{All, Contains, range_with_len}
-use Rattle.std.proofs.Math.ListN.{set}
-use Rattle.std.proofs.lemmas.Bool.{cases_eq}
-use Rattle.std.proofs.lemmas.List.{get_or-append-add, get_or-map, get_or-set_same, get_or-set_other, get_or_default, length-append, length-map, length-set}
+use Rattle.std.proofs.lemmas.List.{get_or-append-add, get_or-map, get_or_default, length-append, length-map}
 use Rattle.std.proofs.lemmas.List.FromFn.{length-range_with_len, get_or-range_with_len}
 use Rattle.dpl_spec_split.specs.declared.Rect.{Rect}
 use Rattle.dpl_spec_split.specs.declared.Zone.{Zone}
-use Rattle.dpl_piece.specs.declared.corner.Kind.{Kind}
-use Rattle.dpl_piece.specs.declared.corner.Kind.TheVariants.{LowerLeft, LowerRight, UpperLeft}
-use Rattle.dpl_piece.specs.Corners.{corner_at, IsCornerWithin}
-use Rattle.dpl_piece.specs.Noted.{AreMoved, AreSidesNoted, AreSidesOf, StandsAfterFrom, StandsBeforeFrom}
-use Rattle.dpl_piece.specs.Pieces.{no_zone, zone_at}
-use Rattle.dpl_piece.proofs.CornerLaws.{renumber}
+use Rattle.dpl_sides.specs.declared.corner.Kind.{Kind}
+use Rattle.dpl_sides.specs.declared.corner.Kind.TheVariants.{LowerLeft, LowerRight, UpperLeft}
+use Rattle.dpl_sides.specs.Corners.{corner_at, IsCornerWithin}
+use Rattle.dpl_sides.specs.Noted.{AreMoved, AreSidesNoted, AreSidesOf, StandsAfterFrom, StandsBeforeFrom}
+use Rattle.dpl_sides.specs.Pieces.{no_zone, zone_at}
+use Rattle.dpl_sides.proofs.CornerLaws.{renumber}
 use Rattle.dpl_piece.proofs.Sides.{moved-corner, some-corner}
-
--- the first n of the given numbers were noted
-pub record AreMovedBelow (n from : ℕ) (own given old new : List ℕ) : Type 0 where
-  pub each : length new ≡ length old
-  pub moved : (j : ℕ) → ((i : ℕ) × (i < n) × (get_or own i 0 ≡ j) × (get_or new j 0 ≡ from + get_or given i 0))
-      ⊎ (((i : ℕ) → i < n → get_or own i 0 ≡ j → ⊥) × (get_or new j 0 ≡ get_or old j 0))
-
-pub moved-next : (n from : ℕ) (own given old mid new : List ℕ) (x : ℕ) → get_or own n 0 < length mid → x ≡ from + get_or given n 0
-    → new ≡ set mid (get_or own n 0) x → AreMovedBelow n from own given old mid → AreMovedBelow (n + 1) from own given old new
-moved-next n from own given old mid new x o_in x_is new_is h =
-    let o : ℕ = get_or own n 0 in
-    rw new_is (record {
-      each = length-set mid o x ∙ h.each;
-      moved = λ j. elim (cases_eq j o) [
-        | inl e ↦ inl (n, omega arith, sym e, ap (λ k. get_or (set mid o x) k 0) e ∙ (get_or-set_same mid o x 0 o_in ∙ x_is))
-        | inr ne ↦ (
-            let kept : get_or (set mid o x) j 0 ≡ get_or mid j 0 = get_or-set_other mid o j x 0 ne in
-            elim (h.moved j) [
-              | inl (i, l, is, value) ↦ inl (i, omega (arith, l), is, kept ∙ value)
-              | inr (none, same) ↦ inr (
-                λ i l is. elim (cases_eq i n) [ inl e ↦ ne (sym is ∙ ap (λ k. get_or own k 0) e) | inr other ↦ none i (omega (arith, l, other)) is ],
-                kept ∙ same,
-              )
-            ])
-      ];
-    })
-
-pub moved-all : (n from : ℕ) (own given old new : List ℕ) → n ≡ length own → AreMovedBelow n from own given old new → AreMoved from own given old new
-moved-all n from own given old new all h = record {
-  each = h.each;
-  moved = λ j. elim (h.moved j) [
-    | inl (i, l, is, value) ↦ inl (i, omega (arith, l, all), is, value)
-    | inr (none, same) ↦ inr (λ (i, i_in, is). none i (omega (arith, i_in, all)) (get_or_default own i 0 j i_in ∙ is), same)
-  ];
-}
 
 -- each number below how many zones are listed is one of a listed zone
 pub local-known : (zones : List Zone) (own : List ℕ) → All (λ j. j < length (map (zone_at zones) own)) (range_with_len 0 (length own))

@@ -12,15 +12,17 @@ use Rattle.dpl_spec_split.specs.Components.{AreComponents}
 use Rattle.dpl_spec_split.specs.Zones.{AreSomeZones, part_at}
 use Rattle.dpl_spec_split.specs.Pieces.{without, AreSides}
 use Rattle.dpl_slabs.specs.Parts.{union_of}
-use Rattle.dpl_piece.specs.declared.corner.Corner.{Corner}
-use Rattle.dpl_piece.specs.declared.corner.Kind.{Kind}
-use Rattle.dpl_piece.specs.declared.corner.Kind.TheVariants.{LowerLeft, LowerRight, UpperLeft}
-use Rattle.dpl_piece.specs.declared.piece.Piece.{Piece}
-use Rattle.dpl_piece.specs.Corners.{corner_at, IsCornerOf, IsCornerWithin, StandsBefore, StandsAfter, StandBeside}
-use Rattle.dpl_piece.specs.Noted.{AreSidesNoted, StandsBeforeFrom, StandsAfterFrom}
-use Rattle.dpl_piece.specs.Pieces.{broken_piece, feature_at, parts_in, rect_at, whole_piece, zone_at, AddsPieces, AreHolesOf}
+use Rattle.dpl_sides.specs.declared.corner.Corner.{Corner}
+use Rattle.dpl_sides.specs.declared.corner.Kind.{Kind}
+use Rattle.dpl_sides.specs.declared.corner.Kind.TheVariants.{LowerLeft, LowerRight, UpperLeft}
+use Rattle.dpl_sides.specs.declared.piece.Piece.{Piece}
+use Rattle.dpl_sides.specs.Corners.{corner_at, IsCornerOf, IsCornerWithin, StandsBefore, StandsAfter, StandBeside}
+use Rattle.dpl_sides.specs.Noted.{AreSidesNoted, StandsBeforeFrom, StandsAfterFrom}
+use Rattle.dpl_sides.specs.Pieces.{parts_in, rect_at, whole_piece, zone_at}
+use Rattle.dpl_piece.specs.Pieces.{broken_piece, feature_at, AddsPieces, AreHolesOf}
 use Rattle.dpl_piece.proofs.Broken.{broken-left}
-use Rattle.dpl_piece.proofs.CornerLaws.{number-is, renumber, zip-length, zip-at, zip-from}
+use Rattle.dpl_sides.proofs.CornerLaws.{number-is, renumber}
+use Rattle.dpl_piece.proofs.CornerLaws.{zip-length, zip-at, zip-from}
 use Rattle.dpl_piece.proofs.Stands.{AreLeftOf, left-of, sides-from_stand, stand}
 
 module _ (spacing : Spacing) (overlap : ℕ) (layer : Region) (features pieces : List (List Rect)) (zones : List Zone) (some : 1 ≤ overlap)

@@ -20,8 +20,9 @@ use Rattle.dpl_spec_split.proofs.SlabLaws.{IsLeast-first, member-Covers}
 use Rattle.dpl_spec_split.proofs.ComponentLaws.{Linked-end}
 use Rattle.dpl_order.proofs.Permuted.{AllPairs-permutation}
 use Rattle.dpl_slabs.specs.Parts.{AreApart, union_of}
-use Rattle.dpl_piece.specs.declared.piece.Piece.{Piece}
-use Rattle.dpl_piece.specs.Pieces.{parts_in, least_key, whole_piece, RiseByLeast, AreCut}
+use Rattle.dpl_sides.specs.declared.piece.Piece.{Piece}
+use Rattle.dpl_sides.specs.Pieces.{parts_in, least_key, whole_piece, RiseByLeast}
+use Rattle.dpl_piece.specs.Pieces.{AreCut}
 use Rattle.dpl_piece.proofs.Broken.{IsPieceBelow, ArePiecesBelow, in-any}
 use Rattle.dpl_feature.proofs.Orders.{pairs-rise}
 

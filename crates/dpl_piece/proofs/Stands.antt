@@ -16,9 +16,9 @@ use Rattle.dpl_spec_split.specs.Zones.{at, IsHorizontalZone, IsVerticalZone, IsK
 use Rattle.dpl_spec_split.specs.Pieces.{without, IsFirstSide, IsSecondSide, AreSides}
 use Rattle.dpl_spec_split.proofs.SquareLaws.{Touch-from_close}
 use Rattle.dpl_spec_split.proofs.SlabLaws.{Covers-member, member-Covers}
-use Rattle.dpl_piece.specs.declared.corner.Corner.{Corner}
-use Rattle.dpl_piece.specs.declared.corner.Kind.TheVariants.{LowerLeft, LowerRight, UpperLeft}
-use Rattle.dpl_piece.specs.Corners.{corner_at, IsCornerOf, StandBeside}
+use Rattle.dpl_sides.specs.declared.corner.Corner.{Corner}
+use Rattle.dpl_sides.specs.declared.corner.Kind.TheVariants.{LowerLeft, LowerRight, UpperLeft}
+use Rattle.dpl_sides.specs.Corners.{corner_at, IsCornerOf, StandBeside}
 use Rattle.dpl_piece.proofs.Beside.{in-set, some-part, closed, kept, kept-inside, rest-across, rest-up}
 
 -- a zone has some square, and its stretch goes on beyond it by a column on each side

@@ -15,8 +15,9 @@ use Rattle.std.proofs.lemmas.List.Sorted.{Contains-permutation, IsPermutation-sy
 use Rattle.std.proofs.Math.Seq.{take-suc}
 use Rattle.dpl_spec_split.specs.declared.Rect.{Rect}
 use Rattle.dpl_spec_split.specs.declared.Zone.{Zone}
-use Rattle.dpl_piece.proofs.CornerLaws.{Contains-map, map-Contains}
-use Rattle.dpl_piece.specs.Pieces.{zone_at, feature_at, rect_at, AreHolesOf, AreZonesFrom}
+use Rattle.dpl_sides.proofs.CornerLaws.{Contains-map, map-Contains}
+use Rattle.dpl_sides.specs.Pieces.{zone_at, rect_at}
+use Rattle.dpl_piece.specs.Pieces.{feature_at, AreHolesOf, AreZonesFrom}
 
 -- each number below n, and no other
 abbrev pub AreNumbersBelow : ℕ → List ℕ → Type 0

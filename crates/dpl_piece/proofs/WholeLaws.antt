@@ -21,19 +21,21 @@ use Rattle.dpl_spec_split.proofs.SquareLaws.{Touch-from_close, Touch-sym}
 use Rattle.dpl_spec_split.proofs.WholeLaws.{part-unique}
 use Rattle.dpl_slabs.specs.Parts.{union_of}
 use Rattle.dpl_slabs.specs.Scattered.{AreUntouched}
-use Rattle.dpl_piece.specs.declared.corner.Corner.{Corner}
-use Rattle.dpl_piece.specs.declared.corner.Kind.{Kind}
-use Rattle.dpl_piece.specs.declared.corner.Kind.TheVariants.{LowerLeft, LowerRight, UpperLeft}
-use Rattle.dpl_piece.specs.declared.piece.Origin.{Origin}
-use Rattle.dpl_piece.specs.declared.piece.Origin.TheVariants.{Whole as AsWhole, Broken}
-use Rattle.dpl_piece.specs.declared.piece.Piece.{Piece}
+use Rattle.dpl_sides.specs.declared.corner.Corner.{Corner}
+use Rattle.dpl_sides.specs.declared.corner.Kind.{Kind}
+use Rattle.dpl_sides.specs.declared.corner.Kind.TheVariants.{LowerLeft, LowerRight, UpperLeft}
+use Rattle.dpl_sides.specs.declared.piece.Origin.{Origin}
+use Rattle.dpl_sides.specs.declared.piece.Origin.TheVariants.{Whole as AsWhole, Broken}
+use Rattle.dpl_sides.specs.declared.piece.Piece.{Piece}
 use Rattle.dpl_piece.specs.declared.piece.Whole.{Whole}
-use Rattle.dpl_piece.specs.Corners.{IsCornerOf, StandBeside, corner_at, corner_of}
+use Rattle.dpl_sides.specs.Corners.{IsCornerOf, StandBeside, corner_at, corner_of}
 use Rattle.dpl_piece.specs.Cutting.{AreFeatures, AreTheirZones}
-use Rattle.dpl_piece.specs.Pieces.{AreCut, AreHolesOf, HasZone, owners_in, parts_in, whole_piece}
+use Rattle.dpl_sides.specs.Pieces.{parts_in, whole_piece}
+use Rattle.dpl_piece.specs.Pieces.{AreCut, AreHolesOf, HasZone, owners_in}
 use Rattle.dpl_piece.specs.Wholes.{AreOwnSides, AreWholes, AreWholesBelow, HasWhole, IsZoneIn, KeepsWhole, LieIn, LieInSome, whole_of}
 use Rattle.dpl_piece.proofs.Beside.{closed, in-set, kept, kept-inside}
-use Rattle.dpl_piece.proofs.CornerLaws.{corner-number, zip-at, zip-from, zip-length}
+use Rattle.dpl_sides.proofs.CornerLaws.{corner-number}
+use Rattle.dpl_piece.proofs.CornerLaws.{zip-at, zip-from, zip-length}
 use Rattle.dpl_piece.proofs.Cuts.{all-owned, comps}
 
 covers-none : (p : Pt) → Covers [] p → ⊥

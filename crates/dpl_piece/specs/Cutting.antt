@@ -11,7 +11,7 @@ use Rattle.dpl_spec_split.specs.Components.{AreComponents}
 use Rattle.dpl_spec_split.specs.Zones.{AreSomeZones, at}
 use Rattle.dpl_spec_split.specs.Pieces.{ArePieces}
 use Rattle.dpl_slabs.specs.Parts.{AreParts, union_of}
-use Rattle.dpl_piece.specs.Corners.{StandBeside}
+use Rattle.dpl_sides.specs.Corners.{StandBeside}
 
 -- pieces with the features that they lie in and their keys, and zones with their sides
 pub record CutPieces : Type 0 where

@@ -1,9 +1,6 @@
 pub mod Cutting
-pub mod Corners
 pub mod Pieces
 pub mod Made
 pub mod Wholes
-pub mod Noted
 pub mod View
 pub mod Bars
-pub mod Standing

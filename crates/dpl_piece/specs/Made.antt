@@ -5,22 +5,11 @@ use Rattle.std.specs.List.{Contains}
 use Rattle.dpl_spec_split.specs.declared.Rect.{Rect}
 use Rattle.dpl_spec_split.specs.declared.Zone.{Zone}
 use Rattle.dpl_piece.specs.declared.made.Made.{Made}
-use Rattle.dpl_piece.specs.declared.made.Sided.{Sided}
-use Rattle.dpl_piece.specs.declared.standing.Side.{Side}
-use Rattle.dpl_piece.specs.declared.standing.Side.TheVariants.{Before, After}
-use Rattle.dpl_piece.specs.Noted.{AreSidesOf, StandsAfterFrom, StandsBeforeFrom}
-use Rattle.dpl_piece.specs.Pieces.{broken_piece, feature_at, rect_at, AreBroken, AreHolesOf}
-
--- the numbers of zones, and those of the pieces on their two sides
-abbrev pub numbers_in : List Sided → List ℕ
-numbers_in zones = map (λ z. z.zone) zones
-
-abbrev pub on_side : Side → Sided → ℕ
-on_side Before = λ z. z.first
-on_side After = λ z. z.second
-
-abbrev pub sides_in : Side → List Sided → List ℕ
-sides_in side zones = map (on_side side) zones
+use Rattle.dpl_sides.specs.declared.standing.Side.TheVariants.{Before, After}
+use Rattle.dpl_sides.specs.Noted.{AreSidesOf, StandsAfterFrom, StandsBeforeFrom}
+use Rattle.dpl_sides.specs.Pieces.{rect_at}
+use Rattle.dpl_piece.specs.Pieces.{broken_piece, feature_at, AreBroken, AreHolesOf}
+use Rattle.dpl_sides.specs.Sided.{numbers_in, sides_in}
 
 -- the pieces are those into which the listed zones break the feature, and for each of these zones some that stand on its two sides are listed
 pub record AreMadeOf (feature : List Rect) (zones : List Zone) (m : Made) : Type 0 where

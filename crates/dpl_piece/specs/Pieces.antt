@@ -1,36 +1,22 @@
 -- Pieces that zones leave of features, each with the feature that it lies in.
-use Rattle.std.specs.Prelude.{◌≡◌, ℕ, ◌<◌, ◌≤◌, ◌⊎◌, ◌↔◌, ℤ, pos, List, [], ◌∷◌, ◌++◌, length, map, slice_index_or}
+use Rattle.std.specs.Prelude.{◌≡◌, ℕ, ◌<◌, ◌≤◌, ◌⊎◌, ◌↔◌, List, [], ◌∷◌, ◌++◌, length, map, slice_index_or}
 use Rattle.std.specs.List.{All, Contains}
-use Rattle.std.specs.List.Sorted.{IsNonDecreasingBy, IsSortedByKey}
+use Rattle.std.specs.List.Sorted.{IsNonDecreasingBy}
 use Rattle.dpl_spec_split.specs.declared.Rect.{Rect}
 use Rattle.dpl_spec_split.specs.declared.Zone.{Zone}
 use Rattle.dpl_spec_split.specs.Squares.{Region, Covers}
 use Rattle.dpl_spec_split.specs.Components.{AreComponents}
 use Rattle.dpl_spec_split.specs.Pieces.{without, IsOwner}
 use Rattle.dpl_slabs.specs.Parts.{AreParts, union_of}
-use Rattle.dpl_piece.specs.declared.piece.Origin.TheVariants.{Whole, Broken}
-use Rattle.dpl_piece.specs.declared.piece.Piece.{Piece}
-use Rattle.dpl_piece.specs.Corners.{row_cmp}
-
-abbrev pub parts_in : List Piece → List (List Rect)
-parts_in pieces = map (λ x. x.part) pieces
+use Rattle.dpl_sides.specs.declared.piece.Origin.TheVariants.{Whole, Broken}
+use Rattle.dpl_sides.specs.declared.piece.Piece.{Piece}
+use Rattle.dpl_sides.specs.Pieces.{parts_in, whole_piece, zone_at}
 
 abbrev pub owners_in : List Piece → List ℕ
 owners_in pieces = map (λ x. x.owner) pieces
 
--- a zone of no size
-abbrev pub no_zone : Zone
-no_zone = record { rect = record { x0 = pos 0; y0 = pos 0; x1 = pos 0; y1 = pos 0 }; feature = 0 }
-
--- the zone of a number, or one of no size past the end
-abbrev pub zone_at : List Zone → ℕ → Zone
-zone_at zones j = slice_index_or zones j no_zone
-
 abbrev pub feature_at : List Zone → ℕ → ℕ
 feature_at zones j = (zone_at zones j).feature
-
-abbrev pub rect_at : List Zone → ℕ → Rect
-rect_at zones j = (zone_at zones j).rect
 
 -- the numbers of the zones of the features from number n on, by feature
 pub record AreZonesFrom (zones : List Zone) (n : ℕ) (rest : List ℕ) : Type 0 where
@@ -40,18 +26,6 @@ pub record AreZonesFrom (zones : List Zone) (n : ℕ) (rest : List ℕ) : Type 0
 -- the rectangles of feature n's zones
 abbrev pub AreHolesOf : List Zone → ℕ → List Rect → Type 0
 AreHolesOf zones n holes = (r : Rect) → Contains holes r ↔ ((z : Zone) × Contains zones z × (z.feature ≡ n) × (z.rect ≡ r))
-
--- the row and the column of the first slab's lower left corner
-abbrev pub least_key : List Rect → ℤ × ℤ
-least_key [] = (pos 0, pos 0)
-least_key (r ∷ rs) = (r.y0, r.x0)
-
-abbrev pub RiseByLeast : List Piece → Type 0
-RiseByLeast pieces = IsSortedByKey (λ x. least_key x.part) row_cmp pieces
-
--- feature number k as one piece
-abbrev pub whole_piece : ℕ → List Rect → Piece
-whole_piece k part = record { part = part; owner = k; origin = Whole; number = 0 }
 
 -- a piece that zones broke off feature number k
 abbrev pub broken_piece : ℕ → List Rect → Piece

@@ -5,7 +5,6 @@ ghost use Rattle.dpl_piece.specs.Wholes.{LieInSome};
 
 use crate::matched::Pieces;
 use crate::piece::Whole;
-use crate::rank::as_ids;
 use dpl_base::{Id, Zone};
 use dpl_slabs::Parts;
 use std::alloc::{AllocError, Global};
@@ -31,6 +30,17 @@ impl Model for BarePieces {
     ghost view = { λ b. bare_cut b.parts b.owner.items b.zones.items };
 
     ghost invariant = { λ b. AreBare (bare_cut b.parts b.owner.items b.zones.items) b.sides.items × LieInSome b.count b.parts b.owner.items b.zones.items b.wholes.items };
+}
+
+/// The same pairs as ids.
+fn as_ids(alloc: Global, sides: &[(u32, u32)]) -> Result<Vec<(Id, Id)>, AllocError>
+    ensures { IfOk result (λ v. v.items ≡ sides.now) }
+{
+    let mut ids = Vec::with_capacity(alloc, sides.len())?;
+    for &(first, second) in sides {
+        ids.push((first as Id, second as Id))?;
+    }
+    Ok(ids)
 }
 
 impl BarePieces {

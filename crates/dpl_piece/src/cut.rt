@@ -1,7 +1,7 @@
 //! Cuts features at their zones.
 ghost use Rattle.std.specs.Prelude.{ℕ, ◌≡◌, IfOk};
 ghost use Rattle.std.specs.List.{All};
-ghost use Rattle.dpl_piece.specs.Corners.{StandBeside};
+ghost use Rattle.dpl_sides.specs.Corners.{StandBeside};
 ghost use Rattle.dpl_piece.specs.Cutting.{AreBarePieces, AreFeatures, AreTheirZones, AreTheirPieces};
 ghost use Rattle.dpl_piece.specs.Made.{IsMade};
 ghost use Rattle.dpl_piece.specs.Pieces.{AreZonesFrom};

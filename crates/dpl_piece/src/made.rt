@@ -3,42 +3,22 @@ ghost use Rattle.std.specs.Prelude.{◌≡◌, ◌+◌, ◌++◌, ◌<◌, ◌�
 ghost use Rattle.std.specs.List.{All, Contains};
 ghost use Rattle.dpl_spec_split.specs.Loops.{farthest, AreRectsWithin};
 ghost use Rattle.dpl_piece.specs.Cutting.{AreFeatures, AreTheirZones};
-ghost use Rattle.dpl_piece.specs.declared.standing.Side.TheVariants.{Before, After};
-ghost use Rattle.dpl_piece.specs.Made.{numbers_in, on_side, sides_in, AreMadeOf, IsMade};
-ghost use Rattle.dpl_piece.specs.Pieces.{broken_piece, rect_at, AreBroken, AreZonesFrom};
+ghost use Rattle.dpl_sides.specs.declared.standing.Side.TheVariants.{Before, After};
+ghost use Rattle.dpl_sides.specs.Sided.{numbers_in, on_side, sides_in};
+ghost use Rattle.dpl_piece.specs.Made.{AreMadeOf, IsMade};
+ghost use Rattle.dpl_sides.specs.Pieces.{rect_at};
+ghost use Rattle.dpl_piece.specs.Pieces.{broken_piece, AreBroken, AreZonesFrom};
 
 use crate::bar::bar_parts;
-use crate::noted::sides_of;
 use crate::own::{feature_of, holes_at, own_count, rest_from, short_numbers, zones_at};
-use crate::piece::{Origin, Piece};
-use crate::standing::Side;
 use dpl_base::{Id, Rect, Zone, give_back};
+use dpl_sides::{Origin, Piece, Sided, sides_of, with_sides};
 use dpl_slabs::Slabs;
 use std::alloc::{AllocError, Global};
 use std::thread::{Threads, map_chunks};
 
 /// With how many zones a feature may have those on their two sides noted by two threads.
 const MANY_ZONES: usize = 8_192;
-
-/// The number of a zone, and those of the pieces on its two sides.
-#[derive(Clone, Copy, Drop)]
-pub struct Sided {
-    pub zone: u32,
-    pub first: u32,
-    pub second: u32,
-}
-
-impl Sided {
-    /// The number of the piece on one of its sides.
-    pub fn on(&self, side: Side) -> u32
-        ensures { result ≡ on_side side self.now }
-    {
-        match side {
-            Side::Before => self.first,
-            Side::After => self.second,
-        }
-    }
-}
 
 /// The number of a feature with zones, the pieces into which they break it, and its zones, for which the feature's first piece is number 0.
 #[derive(Drop)]
@@ -83,30 +63,6 @@ pub fn broken(alloc: Global, feature: &Slabs, holes: Vec<Rect>) -> Result<Vec<Sl
     drop(holes);
     let parts = dpl_feature::features(alloc, &left)?;
     Ok(parts.into_vec())
-}
-
-/// The zones of these numbers, each with the numbers of the pieces on its two sides.
-fn with_sides(
-    alloc: Global,
-    own: &[u32],
-    firsts: &[u32],
-    seconds: &[u32],
-) -> Result<Vec<Sided>, AllocError>
-    requires firsts { length firsts.now ≡ length own.now }
-    requires seconds { length seconds.now ≡ length own.now }
-    ensures own { IfOk result (λ v. numbers_in v.items ≡ own.now) }
-    ensures firsts { IfOk result (λ v. sides_in Before v.items ≡ firsts.now) }
-    ensures seconds { IfOk result (λ v. sides_in After v.items ≡ seconds.now) }
-{
-    let mut zones = Vec::with_capacity(alloc, own.len())?;
-    for i in 0..own.len() {
-        zones.push(Sided {
-            zone: own[i],
-            first: firsts[i],
-            second: seconds[i],
-        })?;
-    }
-    Ok(zones)
 }
 
 /// What the zones of these numbers, which are all those of a feature, make of it, by so many threads.

@@ -1,7 +1,8 @@
 //! The zones of each feature.
 ghost use Rattle.std.specs.Prelude.{◌≡◌, ◌≢◌, ◌+◌, ℕ, ◌<◌, ◌≤◌, IfOk, length, map, take, slice_index_or};
 ghost use Rattle.std.specs.List.{All, range_with_len};
-ghost use Rattle.dpl_piece.specs.Pieces.{feature_at, rect_at, zone_at, AreZonesFrom};
+ghost use Rattle.dpl_sides.specs.Pieces.{rect_at, zone_at};
+ghost use Rattle.dpl_piece.specs.Pieces.{feature_at, AreZonesFrom};
 
 use dpl_base::{Id, Rect, Zone, short_id};
 use dpl_sort::sort_by_key;

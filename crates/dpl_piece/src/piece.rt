@@ -1,26 +1,12 @@
-//! Pieces with their features.
+//! What a cut of features is made of.
 ghost use Rattle.std.specs.Prelude.{◌≡◌, IfOk};
-ghost use Rattle.dpl_piece.specs.Pieces.{parts_in, owners_in};
+ghost use Rattle.dpl_sides.specs.Pieces.{parts_in};
+ghost use Rattle.dpl_piece.specs.Pieces.{owners_in};
 
 use dpl_base::{Id, give_back};
+use dpl_sides::Piece;
 use dpl_slabs::Slabs;
 use std::alloc::{AllocError, Global};
-
-/// What a piece is: a whole feature, or one of the pieces into which zones broke a feature.
-#[derive(Clone, Copy, Drop)]
-pub enum Origin {
-    Whole,
-    Broken,
-}
-
-/// A piece, the number of the feature that it lies in, and its place before pieces are sorted, once it is known.
-#[derive(Drop)]
-pub struct Piece {
-    pub part: Slabs,
-    pub owner: Id,
-    pub origin: Origin,
-    pub number: u32,
-}
 
 /// A feature that zones cut, as it was before, and its number.
 #[derive(Drop)]

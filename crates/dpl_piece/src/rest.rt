@@ -5,23 +5,21 @@ ghost use Rattle.std.specs.List.Sorted.{IsPermutation};
 ghost use Rattle.dpl_spec_split.specs.declared.Rect.{Rect as RectOf};
 ghost use Rattle.dpl_spec_split.specs.Loops.{farthest, AreRectsWithin};
 ghost use Rattle.dpl_piece.specs.Cutting.{AreFeatures, AreTheirZones};
-ghost use Rattle.dpl_piece.specs.Corners.{StandBeside};
-ghost use Rattle.dpl_piece.specs.declared.standing.Side.TheVariants.{Before, After};
-ghost use Rattle.dpl_piece.specs.Made.{numbers_in, sides_in, AreLeft, IsMade};
-ghost use Rattle.dpl_piece.specs.Noted.{AreMoved, IsSortedWith};
-ghost use Rattle.dpl_piece.specs.Pieces.{least_key, rect_at, parts_in, AddsPieces, AreCut, AreZonesFrom, RiseByLeast};
+ghost use Rattle.dpl_sides.specs.Corners.{StandBeside};
+ghost use Rattle.dpl_sides.specs.declared.standing.Side.TheVariants.{Before, After};
+ghost use Rattle.dpl_sides.specs.Sided.{numbers_in, sides_in};
+ghost use Rattle.dpl_piece.specs.Made.{AreLeft, IsMade};
+ghost use Rattle.dpl_sides.specs.Noted.{AreMoved, IsSortedWith};
+ghost use Rattle.dpl_sides.specs.Pieces.{least_key, rect_at, parts_in, RiseByLeast};
+ghost use Rattle.dpl_piece.specs.Pieces.{AddsPieces, AreCut, AreZonesFrom};
 ghost use Rattle.dpl_piece.specs.Wholes.{whole_of, AreWholes, KeepsWhole};
 
-use crate::arrange::arrange;
 use crate::made::{Made, add_parts, broken, taken};
-use crate::noted::{Noted, note_moved, note_sides};
 use crate::own::{holes_at, own_count};
-use crate::piece::{CutUp, Origin, Piece, Whole};
-use crate::rank::{number_all, ranked, ranks_of};
-use crate::standing::Side;
-use dpl_base::{Id, Zone, short_id};
+use crate::piece::{CutUp, Whole};
+use dpl_base::{Id, Zone};
+use dpl_sides::{Noted, Origin, Piece, Side, note_moved, note_sides, sort_with_sides};
 use dpl_slabs::Slabs;
-use dpl_sort::sort_by_key;
 use std::alloc::{AllocError, Global};
 
 /// What the zones of these numbers leave of their feature. None where no zone is the feature's.
@@ -94,44 +92,6 @@ fn add_made(
         set: feature,
     })?;
     Ok(())
-}
-
-/// The row and the column of the first slab's lower left corner.
-pub fn least_key(part: &Slabs) -> (i32, i32)
-    ensures { result ≡ least_key part.now }
-{
-    match part.rects().first() {
-        Some(r) => (r.y0, r.x0),
-        None => (0, 0),
-    }
-}
-
-/// Sorts pieces by their least squares. Each has its place for its number.
-fn sort_by_least(alloc: Global, pieces: &mut Vec<Piece>) -> Result<(), AllocError>
-    ensures same { OnOk result (IsPermutation pieces.old.items pieces.new.items) }
-    ensures rise { OnOk result (RiseByLeast pieces.new.items) }
-{
-    arrange(alloc, pieces)?;
-    sort_by_key(pieces, |piece| least_key(&piece.part));
-    Ok(())
-}
-
-/// Sorts pieces by their least squares. The numbers that were noted are those of pieces by place; returns their places once they are sorted.
-fn sort_with_sides(
-    alloc: Global,
-    pieces: &mut Vec<Piece>,
-    noted: Noted,
-) -> Result<Vec<(u32, u32)>, AllocError>
-    requires each { length noted.seconds.items ≡ length noted.firsts.items }
-    requires firsts { All (λ k. k < length pieces.old.items) noted.firsts.items }
-    requires seconds { All (λ k. k < length pieces.old.items) noted.seconds.items }
-    ensures { IfOk result (λ v. IsSortedWith pieces.old.items pieces.new.items noted.firsts.items noted.seconds.items v.items) }
-{
-    short_id(pieces.len() as Id)?;
-    number_all(pieces);
-    sort_by_least(alloc, pieces)?;
-    let ranks = ranks_of(alloc, pieces)?;
-    ranked(alloc, &ranks, &noted.firsts, &noted.seconds)
 }
 
 /// The components of what the zones leave of the features, each with the feature that it lies in, and those on the two sides of each zone. A feature without a zone is moved, as it is; any other is cut by its own zones, feature by feature, where that wasn't done before. The numbers of the zones are given by feature.

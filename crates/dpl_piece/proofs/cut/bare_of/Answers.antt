@@ -1,5 +1,6 @@
-use Rattle.dpl_piece.specs.Corners.{StandBeside}
-use Rattle.dpl_piece.specs.Pieces.{parts_in, AreCut}
+use Rattle.dpl_sides.specs.Corners.{StandBeside}
+use Rattle.dpl_sides.specs.Pieces.{parts_in}
+use Rattle.dpl_piece.specs.Pieces.{AreCut}
 use Rattle.dpl_piece.proofs.Cuts.{bare, bare-pieces}
 use Rattle.dpl_piece.proofs.CornerLaws.{zip-some}
 use Rattle.dpl_piece.specs.Wholes.{AreWholes}

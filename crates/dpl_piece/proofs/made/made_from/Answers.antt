@@ -3,7 +3,8 @@ use Rattle.std.proofs.lemmas.List.{get_or_default}
 use Rattle.std.proofs.lemmas.List.Elements.{All-push}
 use Rattle.dpl_spec_split.specs.declared.Rect.{Rect}
 use Rattle.dpl_piece.specs.Made.{IsMade}
-use Rattle.dpl_piece.specs.Pieces.{rect_at, AreHolesOf, AreZonesFrom}
+use Rattle.dpl_sides.specs.Pieces.{rect_at}
+use Rattle.dpl_piece.specs.Pieces.{AreHolesOf, AreZonesFrom}
 use Rattle.dpl_piece.proofs.Cuts.{own-within}
 use Rattle.dpl_piece.proofs.MadeLaws.{first-known, is-made}
 use Rattle.dpl_piece.proofs.Turns.{own-holes, own-known, zones-after, zones-first}

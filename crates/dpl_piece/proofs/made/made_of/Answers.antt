@@ -2,10 +2,11 @@ use Rattle.std.proofs.Common.{◌≡◌, ◌∙◌, ◌++◌, List, map, sym, ap
 use Rattle.std.proofs.lemmas.List.{length-map}
 use Rattle.dpl_spec_split.specs.declared.Rect.{Rect}
 use Rattle.dpl_spec_split.specs.declared.Zone.{Zone}
-use Rattle.dpl_piece.specs.declared.standing.Side.TheVariants.{Before, After}
-use Rattle.dpl_piece.specs.Made.{sides_in}
-use Rattle.dpl_piece.specs.Noted.{AreSidesOf, StandsAfterFrom, StandsBeforeFrom}
-use Rattle.dpl_piece.specs.Pieces.{broken_piece, parts_in, rect_at, zone_at, AreBroken}
+use Rattle.dpl_sides.specs.declared.standing.Side.TheVariants.{Before, After}
+use Rattle.dpl_sides.specs.Sided.{sides_in}
+use Rattle.dpl_sides.specs.Noted.{AreSidesOf, StandsAfterFrom, StandsBeforeFrom}
+use Rattle.dpl_sides.specs.Pieces.{parts_in, rect_at, zone_at}
+use Rattle.dpl_piece.specs.Pieces.{broken_piece, AreBroken}
 use Rattle.dpl_piece.proofs.Moved.{local-known, sides-of}
 use Rattle.dpl_piece.proofs.Sides.{parts-broken}
 use Rattle.dpl_piece.proofs.made.made_of.Goals as goal

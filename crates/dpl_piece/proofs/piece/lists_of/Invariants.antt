@@ -1,5 +1,6 @@
 use Rattle.std.proofs.Common.{◌≡◌, ◌++◌, length, reverse}
-use Rattle.dpl_piece.specs.Pieces.{parts_in, owners_in}
+use Rattle.dpl_sides.specs.Pieces.{parts_in}
+use Rattle.dpl_piece.specs.Pieces.{owners_in}
 use Rattle.dpl_piece.proofs.piece.lists_of.Given as goal
 
 abbrev pub invariant-loop-piece : goal.invariant-loop-piece

@@ -6,9 +6,10 @@ use Rattle.std.proofs.lemmas.List.Elements.{All-contains}
 use Rattle.dpl_spec_split.specs.declared.Rect.{Rect}
 use Rattle.dpl_spec_split.specs.declared.Zone.{Zone}
 use Rattle.dpl_piece.specs.declared.made.Made.{Made}
-use Rattle.dpl_piece.specs.declared.piece.Piece.{Piece}
+use Rattle.dpl_sides.specs.declared.piece.Piece.{Piece}
 use Rattle.dpl_piece.specs.Made.{IsMade}
-use Rattle.dpl_piece.specs.Pieces.{parts_in, rect_at, AreHolesOf}
+use Rattle.dpl_sides.specs.Pieces.{parts_in, rect_at}
+use Rattle.dpl_piece.specs.Pieces.{AreHolesOf}
 use Rattle.dpl_piece.proofs.Broken.{pieces-none, pieces-next}
 use Rattle.dpl_piece.proofs.Cuts.{comps, own-within, zones-below}
 use Rattle.dpl_piece.proofs.MadeLaws.{All-some, made-adds, made-firsts, made-keeps, made-known, made-seconds}

@@ -4,7 +4,8 @@ use Rattle.std.specs.Vec.Iter.{into_iter_items, into_iter_len}
 use Rattle.dpl_piece.proofs.Broken.{ArePiecesBelow}
 use Rattle.dpl_piece.proofs.Sides.{AreSidedBelow}
 use Rattle.dpl_piece.specs.Made.{IsMade}
-use Rattle.dpl_piece.specs.Pieces.{parts_in, AreZonesFrom}
+use Rattle.dpl_sides.specs.Pieces.{parts_in}
+use Rattle.dpl_piece.specs.Pieces.{AreZonesFrom}
 use Rattle.dpl_piece.specs.Wholes.{AreWholesBelow}
 use Rattle.dpl_piece.proofs.rest.pieces_of.Given as goal
 

@@ -1,5 +1,0 @@
-use Rattle.dpl_piece.proofs.Noting.{IsRunNoted}
-use Rattle.dpl_piece.proofs.noted.note.Given as goal
-
-abbrev pub invariant-loop-i : goal.invariant-loop-i
-invariant-loop-i l = IsRunNoted l.corner l.corners l.first l.i l.initial.noted l.noted

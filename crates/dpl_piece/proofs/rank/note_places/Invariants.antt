@@ -1,5 +1,0 @@
-use Rattle.dpl_piece.specs.Noted.{AreRanksBelow}
-use Rattle.dpl_piece.proofs.rank.note_places.Given as goal
-
-abbrev pub invariant-loop-i : goal.invariant-loop-i
-invariant-loop-i l = AreRanksBelow l.pieces l.i l.ranks

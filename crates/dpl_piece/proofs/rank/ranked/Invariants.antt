@@ -1,5 +1,0 @@
-use Rattle.dpl_piece.proofs.Places.{AreRankedBelow}
-use Rattle.dpl_piece.proofs.rank.ranked.Given as goal
-
-abbrev pub invariant-loop-i : goal.invariant-loop-i
-invariant-loop-i l = AreRankedBelow l.i l.ranks l.firsts l.seconds l.sides.items

@@ -1,7 +1,0 @@
-use Rattle.std.proofs.Common.{ℕ, ◌<◌}
-use Rattle.dpl_piece.specs.Pieces.{parts_in}
-use Rattle.dpl_piece.proofs.StandingLaws.{HasSlab}
-use Rattle.dpl_piece.proofs.standing.beside.Given as goal
-
-abbrev pub invariant-loop-k : goal.invariant-loop-k
-invariant-loop-k l = (j : ℕ) → j < l.k → HasSlab l.side (parts_in l.pieces) l.from l.zone j → ⊥

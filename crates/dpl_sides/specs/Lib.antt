@@ -1,0 +1,5 @@
+pub mod Corners
+pub mod Pieces
+pub mod Noted
+pub mod Sided
+pub mod Standing
