@@ -5,7 +5,7 @@ use crate::Pt;
 use std::marker::Model;
 
 /// The corners of a loop in order, closed by an edge from the last to the first. A contract sees the list of its points.
-#[derive(Debug, Drop)]
+#[derive(Drop)]
 pub struct Loop {
     points: Vec<Pt>,
 }

@@ -6,7 +6,7 @@ use dpl_spec_split::Rect;
 use std::marker::Model;
 
 /// A rectangle in 64 bits a coordinate, which may reach past all layers: the window of a search, the cell of a grid, the outline of a path's segment. A contract sees it as a `Rect`.
-#[derive(Debug, Drop)]
+#[derive(Drop)]
 pub struct WideRect {
     x0: i64,
     y0: i64,

@@ -16,7 +16,7 @@ pub enum Version {
 }
 
 /// The rule, the overlap and the corner rule that a decomposition kept to, in database units, and what it counted.
-#[derive(Clone, Copy, Debug, Drop, PartialEq, Eq)]
+#[derive(Clone, Copy, Debug, Drop)]
 pub struct Head {
     pub rule: u32,
     pub overlap: u32,
@@ -27,14 +27,14 @@ pub struct Head {
 }
 
 /// A piece: whether it is on mask B, and its least square.
-#[derive(Clone, Copy, Debug, Drop, PartialEq, Eq)]
+#[derive(Clone, Copy, Drop)]
 pub struct PieceLine {
     pub b: bool,
     pub key: Key,
 }
 
 /// A stitch, and the pieces on both its sides.
-#[derive(Clone, Copy, Debug, Drop, PartialEq, Eq)]
+#[derive(Clone, Copy, Drop)]
 pub struct StitchLine {
     pub rect: Rect,
     pub p: u64,
@@ -43,7 +43,7 @@ pub struct StitchLine {
 
 /// A component of pieces by its least one, and how many of its zones to other components have differing letters on their
 /// two sides, and how many have equal ones.
-#[derive(Clone, Copy, Debug, Drop, PartialEq, Eq)]
+#[derive(Clone, Copy, Drop, PartialEq, Eq)]
 pub struct Gain {
     pub piece: u64,
     pub d: u64,
@@ -71,7 +71,7 @@ pub enum NearLine {
 }
 
 /// What a certificate says, by its kind.
-#[derive(Debug, Drop)]
+#[derive(Drop)]
 pub enum Cert {
     /// Two masks: a line for each piece, and one for each stitch; where no flip of a component is to leave fewer stitches,
     /// also a line for each component.

@@ -6,7 +6,7 @@ use dpl_spec_split::Pt;
 use std::marker::Model;
 
 /// The least square of a piece, in 32 bits a coordinate, in database units. A contract sees it as a `Pt`.
-#[derive(Clone, Copy, Debug, Drop, PartialEq, Eq)]
+#[derive(Clone, Copy, Drop)]
 pub struct Key {
     x: i32,
     y: i32,

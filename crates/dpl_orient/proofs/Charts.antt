@@ -1,7 +1,7 @@
 -- Charts, row by row.
-use Rattle.std.proofs.Common.{◌≡◌, ◌≢◌, ℕ, ◌+◌, ◌<◌, inl, inr, List, [], ◌∷◌, ◌++◌, length, get_or, set, take, sym, refl, ap, ◌∙◌, subst, arith}
+use Rattle.std.proofs.Common.{◌≡◌, ◌≢◌, ℕ, ◌+◌, ◌<◌, inl, inr, List, [], ◌∷◌, ◌++◌, set, sym, refl, ap, ◌∙◌, subst, arith}
 use Rattle.std.proofs.lemmas.Bool.{cases_lt, cases_eq}
-use Rattle.std.proofs.lemmas.List.{get_or_append_left, get_or_push, get_or-set_same, get_or-set_other, length-set, length_push, take_more}
+use Rattle.std.proofs.lemmas.List.{get_or_append_left, get_or_push, get_or-set_same, get_or-set_other, length-set, length_push}
 use Rattle.std.proofs.lemmas.List.Elements.{All-push, All-nil, Contains-push, Contains-append_left}
 use Rattle.dpl_stars.specs.declared.list.Star.{Star}
 use Rattle.dpl_orient.specs.declared.chart.Rooted.{Rooted}
@@ -41,9 +41,3 @@ chart-put prefix n chart r h within = record {
         ])
   ];
 }
-
-pub chart-put_more : (rows : List Star) (i n : ℕ) (chart : List Rooted) (r : Star) → i < length rows → r ≡ get_or rows i r
-    → IsChart (take i rows) n chart → r.piece < n → IsChart (take (i + 1) rows) n (set chart r.piece (rooted_by r))
-chart-put_more rows i n chart r within is h below =
-    let e : take (i + 1) rows ≡ take i rows ++ r ∷ [] = take_more rows i r within ∙ ap (λ s. take i rows ++ s ∷ []) (sym is) in
-    subst (λ prefix. IsChart prefix n (set chart r.piece (rooted_by r))) (sym e) (chart-put (take i rows) n chart r h below)

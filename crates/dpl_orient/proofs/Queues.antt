@@ -109,9 +109,3 @@ waits-rest xs ys x r same h = elim (Contains-cases (record { 0 = x }) (record { 
 
 one-least : (x r : ℕ) → IsUpperBound (λ (a b : Reverse ℕ). nat_cmp b.0 a.0) (record { 0 = x }) (record { 0 = r } ∷ []) → x ≤ r
 one-least x r h = All-head (λ y. y ≤ r) x [] (le_from_greatest r (x ∷ []) h)
-
--- the one that is taken is the least
-pub taken-least : (x r : ℕ) (xs : List (Reverse ℕ)) → IsUpperBound (λ (a b : Reverse ℕ). nat_cmp b.0 a.0) (record { 0 = x }) xs → Waits xs r → x ≤ r
-taken-least x r [] h (k, l, e) = absurd (omega (arith, l))
-taken-least x r (y ∷ ys) h (zero, l, e) = let f : y ≡ record { 0 = r } = e in subst (λ z. x ≤ z) (ap (λ z. z.0) f) (one-least x y.0 (h.0, tt))
-taken-least x r (y ∷ ys) h (suc k, l, e) = taken-least x r ys h.1 (k, (let m : suc k < suc (length ys) = l in omega (arith, m)), e)

@@ -108,6 +108,3 @@ after-stop xs root start k x grouped split from within is other i d l m =
       | inl same ↦ absurd (other (e ∙ same))
       | inr apart ↦ omega (arith, least, up, apart)
     ]
-
-pub after-end : (xs : List Crossing) (root : ℕ) (i : ℕ) (d : Crossing) → length xs ≤ i → i < length xs → root + 1 ≤ (get_or xs i d).later
-after-end xs root i d l m = absurd (omega (arith, l, m))

@@ -1,5 +1,5 @@
 -- Tallies, link by link.
-use Rattle.std.proofs.Common.{◌≡◌, ◌≢◌, ℕ, ◌+◌, ◌^◌, ◌<◌, ◌≤◌, inl, inr, Bool, true, false, not, ◌&&◌, eqb, List, [], ◌∷◌, length, get_or, set, take, replicate, sym, refl, ap, ◌∙◌, subst, arith}
+use Rattle.std.proofs.Common.{◌≡◌, ◌≢◌, ℕ, ◌+◌, ◌<◌, ◌≤◌, inl, inr, Bool, true, false, not, ◌&&◌, eqb, List, [], ◌∷◌, length, get_or, set, take, replicate, sym, refl, ap, ◌∙◌, subst, arith}
 use Rattle.std.proofs.lemmas.Bool.{cases_eq, eq-eqb, ne_eqb}
 use Rattle.std.proofs.lemmas.List.{get_or-set_same, get_or-set_other, get_or-replicate, length-set, length-take-le, length-replicate}
 use Rattle.std.proofs.lemmas.List.Sums.{sum_by-cons, sum_by_more, sum_by-take-le}
@@ -14,9 +14,6 @@ use Rattle.dpl_orient.proofs.Linked.{counted}
 -- whether a link counts to a component
 abbrev pub counted_to : List Bool → ℕ → Bool → Link → Bool
 counted_to flips root wanted l = eqb l.to root && not (differ wanted (differs_by flips l))
-
-pub no_tally : Tally
-no_tally = record { differing = 0; agreeing = 0 }
 
 pub same-tally : (t u : Tally) → t.differing ≡ u.differing → t.agreeing ≡ u.agreeing → t ≡ u
 same-tally t u e f = let make : ℕ → ℕ → Tally = λ x y. record { differing = x; agreeing = y } in ap (λ x. make x t.agreeing) e ∙ ap (make u.differing) f
@@ -128,9 +125,6 @@ room-counts false t old cf ct cf' ct' d a ef et lf lt =
     let gt : ct' ≡ ct + 0 = et in
     ((λ e. absurd (cc)), λ e. omega (arith, d, a, gf, gt, lf, lt))
 
-pub moved-none : (flips : List Bool) (tallies : List Tally) → AreMoved flips [] tallies tallies
-moved-none flips tallies = record { len = refl; differing = λ root. refl; agreeing = λ root. refl }
-
 module _ (flips : List Bool) (links : List Link) (old tallies : List Tally) (k : ℕ) (l : Link) (within : k < length links) (is : l ≡ get_or links k l)
     (room : l.to < length tallies) (few : AreCounted flips links old) (h : AreMoved flips (take k links) old tallies) where
   to-step : (root : ℕ) (wanted : Bool) → count_to flips root wanted (take (k + 1) links) ≡ count_to flips root wanted (take k links) + unit
@@ -171,9 +165,6 @@ module _ (flips : List Bool) (links : List Link) (old tallies : List Tally) (k :
   moved-room = room-counts b (tally_at tallies l.to) (tally_at old l.to) _ _ _ _ (h.differing l.to) (h.agreeing l.to) (here-step false) (here-step true)
       (let x = below-whole l.to false in let y = few.differing l.to in omega (arith, x, y)) (let x = below-whole l.to true in
       let y = few.agreeing l.to in omega (arith, x, y))
-
-  pub moved-few : (tally_at tallies l.to).differing + (tally_at tallies l.to).agreeing < 2 ^ 64
-  moved-few = let d = h.differing l.to in let a = h.agreeing l.to in let f = few.few l.to in omega (arith, d, a, f)
 
   moved-here : tally_at moved l.to ≡ moved_by b (tally_at tallies l.to)
   moved-here = get_or-set_same tallies l.to (moved_by b (tally_at tallies l.to)) (record { differing = 0; agreeing = 0 }) room

@@ -10,7 +10,7 @@ use std::alloc::{AllocError, Global};
 
 /// A piece's component, named by its least piece, and whether the piece is at an odd distance from that one. The
 /// piece's number is its place in the chart.
-#[derive(Clone, Copy, Debug, Drop)]
+#[derive(Clone, Copy, Drop)]
 pub struct Rooted {
     pub root: u32,
     pub odd: bool,

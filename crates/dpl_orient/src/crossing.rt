@@ -11,7 +11,7 @@ use dpl_sort::sort_by_key;
 use std::alloc::{AllocError, Global};
 
 /// A stitch zone with its sides in two components, each named by its least piece.
-#[derive(Clone, Copy, Debug, Drop)]
+#[derive(Clone, Copy, Drop)]
 pub struct Crossing {
     pub later: Id,
     pub earlier: Id,
@@ -20,7 +20,7 @@ pub struct Crossing {
 }
 
 /// The number of a zone that is a crossing, with the crossing's later component, by which they are sorted.
-#[derive(Clone, Copy, Debug, Drop)]
+#[derive(Clone, Copy, Drop)]
 pub struct Across {
     pub later: u32,
     pub zone: u32,

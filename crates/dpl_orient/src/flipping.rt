@@ -8,7 +8,7 @@ use dpl_list::Id;
 use std::alloc::{AllocError, Global};
 
 /// What is settled for a component.
-#[derive(Clone, Copy, Debug, Drop)]
+#[derive(Clone, Copy, Drop)]
 struct Settled {
     /// Where the crossings of the next component begin.
     next: usize,

@@ -14,7 +14,7 @@ use dpl_sort::sort_by_key;
 use std::alloc::{AllocError, Global};
 
 /// A stitch zone with its sides in two components, as seen from one of them. Both are named by their least piece.
-#[derive(Clone, Copy, Debug, Drop)]
+#[derive(Clone, Copy, Drop)]
 pub struct Link {
     pub from: u32,
     pub to: u32,

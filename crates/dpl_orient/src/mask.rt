@@ -34,7 +34,7 @@ pub fn is_second(mask: Mask) -> bool
 }
 
 /// The mask of each piece, by the piece's number. A contract sees a list of truth values: false is mask A, true mask B.
-#[derive(Debug, Drop)]
+#[derive(Drop)]
 pub struct Colours {
     masks: Vec<Mask>,
 }

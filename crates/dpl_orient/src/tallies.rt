@@ -7,7 +7,7 @@ use crate::links::{Link, differs_by};
 use std::alloc::{AllocError, Global};
 
 /// Of a component: how many of its zones to others have sides that differ, and how many sides that agree.
-#[derive(Clone, Copy, Debug, Drop)]
+#[derive(Clone, Copy, Drop)]
 pub struct Tally {
     pub differing: usize,
     pub agreeing: usize,

@@ -11,7 +11,7 @@ use Data::{
 };
 
 /// How many bytes of data a record has.
-#[derive(Clone, Copy, Debug, Drop)]
+#[derive(Clone, Copy, Drop)]
 pub enum Size {
     Exactly(u16),
     Any,
@@ -20,7 +20,7 @@ pub enum Size {
 }
 
 /// What a type of record asks of its data: their type and their size.
-#[derive(Clone, Copy, Debug, Drop)]
+#[derive(Clone, Copy, Drop)]
 pub struct Form {
     /// Nothing where the data type isn't checked.
     pub data_type: Option<u8>,

@@ -11,7 +11,7 @@ use crate::form::{data_type_of, form_of};
 use std::alloc::AllocError;
 
 /// A record within some bytes: its length, type and data type are four bytes, and its data follow.
-#[derive(Clone, Copy, Debug, Drop)]
+#[derive(Clone, Copy, Drop)]
 pub struct Record<'a> {
     /// The offset of its first byte.
     pub at: usize,

@@ -5,7 +5,7 @@ use Rattle.std.specs.Int.{int_min}
 use Rattle.std.specs.List.{All, Contains}
 use Rattle.std.proofs.lemmas.Bool.{cases_lt, cases_cond}
 use Rattle.std.proofs.lemmas.Int.{ints, by_lt_z}
-use Rattle.std.proofs.lemmas.List.{get_or-drop, get_or-take, get_or_default, length-drop, length-take, take-append-drop, drop_all}
+use Rattle.std.proofs.lemmas.List.{get_or-drop, get_or-take, get_or_default, length-drop, length-take, take-append-drop}
 use Rattle.std.proofs.lemmas.List.Elements.{Contains-append_left, Contains-append_right, Contains-append_cases}
 use Rattle.dpl_spec_split.specs.declared.Pt.{Pt}
 use Rattle.dpl_spec_split.specs.declared.Rect.{Rect}
@@ -27,30 +27,11 @@ use Rattle.dpl_slabs.proofs.SetLaws.{told-either, told-minus, without-none, rect
 use Rattle.dpl_slabs.proofs.LoopLaws.{rects-appended}
 use Rattle.dpl_slabs.proofs.StripLaws.{EndBy, end-next, corner-above, adds-strip, left-in, right-in}
 
--- canonical slabs go by first row
-pub canonical-rise : (rs : List Rect) → IsCanonical rs → CornersRise rs
-canonical-rise rs c i j d l j_in = elim (cases_lt i j) [
-  | inl before ↦ elim (c.follow i j d before j_in).before [
-    | inl a ↦ inl a
-    | inr (e, a) ↦ inr (e, omega (arith, ints, a))
-  ]
-  | inr after ↦ (let same : i ≡ j = omega (arith, l, after) in rw same (inr (refl, omega (arith, ints))))
-]
-
 pub canonical-drop : (n : ℕ) (rs : List Rect) → IsCanonical rs → IsCanonical (drop n rs)
 canonical-drop n rs c = record {
   solid = λ i d i_in. (let len = length-drop n rs in rw (get_or-drop n rs i d) (c.solid (n + i) d (omega (arith, len, i_in))));
   follow = λ i j d l j_in. (let len = length-drop n rs in
       rw (get_or-drop n rs i d, get_or-drop n rs j d) (c.follow (n + i) (n + j) d (omega (arith, l)) (omega (arith, len, j_in))));
-}
-
-pub canonical-take : (n : ℕ) (rs : List Rect) → IsCanonical rs → IsCanonical (take n rs)
-canonical-take n rs c = record {
-  solid = λ i d i_in. (let len = length-take n rs in rw (get_or-take n rs i d (omega (arith, len, i_in))) (c.solid i d (omega (arith, len, i_in))));
-  follow = λ i j d l j_in. (
-      let len = length-take n rs in
-      let j_n : j < n = omega (arith, len, j_in) in
-      rw (get_or-take n rs i d (omega (arith, l, j_n)), get_or-take n rs j d j_n) (c.follow i j d l (omega (arith, len, j_in))));
 }
 
 -- no rule takes squares of neither list
@@ -418,10 +399,6 @@ lowest-right first second r row some r_is l = (r, Contains-append_right first se
 -- what a minimum of two numbers is, each by another name
 pub min-known : (a b c d m : ℤ) → a ≡ c → b ≡ d → m ≡ int_min a b → (m ≡ c) ⊎ (m ≡ d)
 min-known a b c d m e f h = elim (cases_cond (int_lt b a) b a m h) [ inl k ↦ inr (k ∙ f) | inr k ↦ inl (k ∙ e) ]
-
--- past the end of a list, and above the top
-pub above-end : (rs : List Rect) (n : ℕ) (top : ℤ) → length rs ≤ n → BeginAbove top n rs
-above-end rs n top over r r_in = absurd (Contains-nil r (subst (λ xs. Contains xs r) (drop_all n rs over) r_in))
 
 pub above-top : (rs : List Rect) (n : ℕ) (top : ℤ) (r : Rect) → n < length rs → r ≡ get_or rs n r → CornersRise rs → top <ℤ r.y0 → BeginAbove top n rs
 above-top rs n top r n_in r_is rise l s (k, k_in, s_is) =

@@ -118,17 +118,6 @@ edges-closed ps n es fs p q n_is some p_is q_is h a =
           omega (arith, ints, x, y, z, u, v));
     }
 
-pub edges-none : (ps : List Pt) → length ps ≤ 0 → AreEdgesOf ps []
-edges-none [] none =
-    record {
-      sums_a = λ s. (let h = step-level s s s refl in sym (omega (arith, ints, h)));
-      sums_b = λ s. refl;
-      within = λ bound w e e_in. absurd (Contains-nil e e_in);
-      units = λ e e_in. absurd (Contains-nil e e_in);
-      level = λ s left. (let h = step-level s s s refl in omega (arith, ints, h));
-    }
-edges-none (p ∷ ps) none = absurd (omega (arith, none))
-
 pub loop-told : (ps : List Pt) (es : List Edge) → AreEdgesOf ps es → (s : Pt) → Told Either es s ↔ LoopCovers ps s
 loop-told ps es h s =
     let a = h.sums_a s in

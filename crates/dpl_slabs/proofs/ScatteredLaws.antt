@@ -1,14 +1,10 @@
 -- The slabs of sets that don't touch one another are, in order, those of their union.
-use Rattle.std.proofs.Common.{◌≡◌, ℕ, ◌+◌, ◌≤◌, ◌<◌, inl, inr, List, [], ◌++◌, length, get_or, sym, ap, ◌∙◌, subst, arith}
-use Rattle.std.specs.Prelude.{◌↔◌, ℤ, pos, ◌+ℤ◌, ◌-ℤ◌, ◌≤ℤ◌, ◌<ℤ◌}
-use Rattle.std.specs.List.{AllPairs}
+use Rattle.std.proofs.Common.{◌+◌, ◌≤◌, ◌<◌, inl, inr, List, [], ◌++◌, get_or, arith}
+use Rattle.std.specs.Prelude.{ℤ, pos, ◌+ℤ◌, ◌-ℤ◌, ◌≤ℤ◌, ◌<ℤ◌}
 use Rattle.std.specs.List.Sorted.{IsPermutation}
-use Rattle.std.proofs.lemmas.Bool.{cases_eq}
 use Rattle.std.proofs.lemmas.Int.{ints, by_lt_z}
-use Rattle.std.proofs.lemmas.List.{get_or_default}
 use Rattle.std.proofs.lemmas.List.Elements.{All-append, All-contains}
 use Rattle.std.proofs.lemmas.List.Sorted.{All-permutation}
-use Rattle.dpl_spec_split.specs.declared.Pt.{Pt}
 use Rattle.dpl_spec_split.specs.declared.Rect.{Rect}
 use Rattle.dpl_spec_split.specs.Squares.{AreTouching, Covers, Has}
 use Rattle.dpl_spec_split.specs.Slabs.{IsSolid, Before, IsCanonical, AreSlabsOf}
@@ -18,9 +14,7 @@ use Rattle.dpl_spec_split.proofs.SquareLaws.{Touch-from_close}
 use Rattle.dpl_order.specs.Orders.{CornerBefore, CornersRise}
 use Rattle.dpl_order.proofs.JoinLaws.{covers-same}
 use Rattle.dpl_order.proofs.Permuted.{AllPairs-permutation}
-use Rattle.dpl_slabs.specs.Parts.{union_of}
-use Rattle.dpl_slabs.specs.Scattered.{AreUntouched, FollowEither, AreScattered, InFirst}
-use Rattle.dpl_slabs.proofs.LoopLaws.{covers-appended}
+use Rattle.dpl_slabs.specs.Scattered.{AreUntouched, FollowEither, AreScattered}
 use Rattle.dpl_slabs.proofs.StripLaws.{AllPairs-append, follows-below}
 
 -- numbers of two spans that overlap or share an end, at most one apart
@@ -144,33 +138,3 @@ scattered-sorted rs sorted s same rise =
       };
       covers = λ p. ((covers-same rs sorted same p).1, (covers-same rs sorted same p).0);
     }
-
--- one more of sets that don't touch one another
-module _ (sets : List (List Rect)) (n : ℕ) (s : List Rect) (here : n < length sets) (s_is : s ≡ get_or sets n s) where
-  pub first-untouched : (rs : List Rect) → AllPairs AreUntouched sets → ((p : Pt) → Covers rs p ↔ InFirst sets n p) → AreUntouched rs s
-  first-untouched rs apart covers (p, q, hp, hq, t) =
-      let (k, r, k_n, k_in, r_is, has) = (covers p).0 hp in
-      let there : get_or sets k s ≡ r = get_or_default sets k s r k_in ∙ r_is in
-      apart k n s k_n here (p, q, subst (λ u. Covers u p) (sym there) has, subst (λ u. Covers u q) s_is hq, t)
-
-  pub first-more : (rs : List Rect) → ((p : Pt) → Covers rs p ↔ InFirst sets n p) → (p : Pt) → Covers (rs ++ s) p ↔ InFirst sets (n + 1) p
-  first-more rs covers p =
-      let step = covers-appended (Covers s) rs s (λ q. (λ h. h, λ h. h)) p in (
-        λ h. elim (step.0 h) [
-          | inl old ↦ (let (k, r, l, k_in, is, has) = (covers p).0 old in (k, r, omega (arith, l), k_in, is, has))
-          | inr new ↦ (n, s, omega arith, here, sym s_is, new)
-        ],
-        λ (k, r, l, k_in, is, has). elim (cases_eq k n) [
-          | inl e ↦ step.1 (inr (subst (λ u. Covers u p) (sym is ∙ (ap (λ i. get_or sets i r) e ∙ (get_or_default sets n r s here ∙ sym s_is))) has))
-          | inr ne ↦ step.1 (inl ((covers p).1 (k, r, omega arith, k_in, is, has)))
-        ],
-      )
-
-pub first-all : (sets : List (List Rect)) (n : ℕ) (rs : List Rect) → length sets ≤ n → ((p : Pt) → Covers rs p ↔ InFirst sets n p) → (p : Pt) → Covers rs p ↔ union_of sets p
-first-all sets n rs all covers p = (
-  λ h. (let (k, r, l, k_in, is, has) = (covers p).0 h in (k, r, k_in, is, has)),
-  λ (k, r, k_in, is, has). (covers p).1 (k, r, omega (arith, k_in, all), k_in, is, has),
-)
-
-pub first-none : (sets : List (List Rect)) (p : Pt) → Covers [] p ↔ InFirst sets 0 p
-first-none sets p = (λ (k, r, k_in, is, has). absurd (omega (arith, k_in)), λ (k, r, l, k_in, is, has). absurd (omega (arith, l)))

@@ -155,12 +155,6 @@ module _ (rects slabs rest : List Rect) (n : ℕ) (s : AreStripsOf rects slabs r
   whole : take n rest ++ drop n rest ≡ rest
   whole = take-append-drop n rest
 
-  pub strip-within : AreRectsWithin farthest (take n rest)
-  strip-within r r_in = s.rest_within r (left-in (take n rest) (drop n rest) rest r whole r_in)
-
-  pub strip-above : LieBelow slabs (take n rest)
-  strip-above r t r_in t_in = s.below r t r_in (left-in (take n rest) (drop n rest) rest t whole t_in)
-
   pub strips-next : (new : List Rect) → LieBelow (take n rest) (drop n rest) → AddsStrip (Covers (take n rest)) slabs new (take n rest) → AreStripsOf rects new (drop n rest)
   strips-next new gap a =
       record {

@@ -6,16 +6,8 @@ use Rattle.dpl_spec_split.specs.declared.Pt.{Pt}
 use Rattle.dpl_spec_split.specs.declared.Rect.{Rect}
 use Rattle.dpl_spec_split.specs.Squares.{Covers}
 use Rattle.dpl_spec_split.specs.Slabs.{AreSlabsOf}
-use Rattle.dpl_spec_split.specs.Loops.{farthest, AreRectsWithin}
-use Rattle.dpl_order.specs.Orders.{CornersRise}
 use Rattle.dpl_slabs.specs.Strips.{LieBelow, AddsStrip, AreStripsOf}
-use Rattle.dpl_slabs.proofs.StripLaws.{adds-strip, right-in, rise-drop, strips-all, strips-next, strips-none}
-
--- nothing is swept yet of the rectangles from a place on
-pub swept-none : (rects : List Rect) (n : ℕ) → CornersRise rects → AreRectsWithin farthest rects → AreStripsOf (drop n rects) [] (drop n rects)
-swept-none rects n rise w =
-    strips-none (drop n rects) (rise-drop n rects rise)
-    (λ r r_in. w r (right-in (take n rects) (drop n rects) rects r (take-append-drop n rects) r_in))
+use Rattle.dpl_slabs.proofs.StripLaws.{adds-strip, right-in, strips-all, strips-next}
 
 -- all that lies behind a place
 rest-whole : (rects : List Rect) (n : ℕ) → take (length rects - n) (drop n rects) ≡ drop n rects

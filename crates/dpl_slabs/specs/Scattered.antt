@@ -1,7 +1,6 @@
 -- Slabs of one set in any order, and sets that don't touch one another.
-use Rattle.std.specs.Prelude.{◌≡◌, ℕ, ◌<◌, ◌⊎◌, List, length, slice_index_or}
+use Rattle.std.specs.Prelude.{◌⊎◌, List}
 use Rattle.std.specs.List.{All, AllPairs}
-use Rattle.dpl_spec_split.specs.declared.Pt.{Pt}
 use Rattle.dpl_spec_split.specs.declared.Rect.{Rect}
 use Rattle.dpl_spec_split.specs.Squares.{AreTouching, Covers}
 use Rattle.dpl_spec_split.specs.Slabs.{IsSolid, Follows}
@@ -18,7 +17,3 @@ FollowEither a b = Follows a b ⊎ Follows b a
 pub record AreScattered (rs : List Rect) : Type 0 where
   pub solid : All IsSolid rs
   pub follow : AllPairs FollowEither rs
-
--- the squares of the first n sets
-abbrev pub InFirst : List (List Rect) → ℕ → Pt → Type 0
-InFirst sets n p = (k : ℕ) × (s : List Rect) × (k < n) × (k < length sets) × (slice_index_or sets k s ≡ s) × Covers s p

@@ -11,7 +11,6 @@ mod made;
 mod parts;
 mod rects;
 mod row;
-mod scattered;
 mod slabs;
 mod slices;
 mod strips;

@@ -1,17 +1,14 @@
 //! A set of squares.
-ghost use Rattle.std.specs.List.{AllPairs};
 ghost use Rattle.std.specs.Prelude.{◌≡◌, ◌↔◌, ◌⊎◌, IsTrue, IfSome, IfOk, OnOk, IsErr, IsNone, [], ◌∷◌, ◌++◌};
 ghost use Rattle.dpl_spec_split.specs.Squares.{Covers, Has, SameSquares, IsLeast};
 ghost use Rattle.dpl_spec_split.specs.Slabs.{IsCanonical, IsSolid, AreSlabsOf};
 ghost use Rattle.dpl_spec_split.specs.Loops.{farthest, SomeLoopCovers, IsRectWithin, AreRectsWithin, AreLoopsWithin};
 ghost use Rattle.dpl_spec_split.specs.Zones.{at, transposed};
-ghost use Rattle.dpl_slabs.specs.Parts.{union_of};
-ghost use Rattle.dpl_slabs.specs.Scattered.{AreScattered, AreUntouched};
+ghost use Rattle.dpl_slabs.specs.Scattered.{AreScattered};
 
 use crate::joint::combine_by_rows;
 use crate::made::{ByWorkers, InTurn, Slicing};
 use crate::rects::Rects;
-use crate::scattered::slabs_of_all;
 use crate::slices::{put_together, slabs_left};
 use crate::strips::{slabs_by_rows, slabs_of_rects};
 use dpl_base::{Loop, Pt, Rect, all_transposed};
@@ -219,15 +216,6 @@ impl Slabs {
         let mut slabs = rects;
         sort_by_corner(&mut slabs);
         Slabs::of_canonical(slabs)
-    }
-
-    /// The squares of sets that don't touch one another. Their slabs are put in order, and nothing is swept.
-    pub fn of_apart(alloc: Global, sets: &[Slabs]) -> Result<Slabs, AllocError>
-        requires { AllPairs AreUntouched sets.now }
-        ensures { IfOk result (λ s. AreSlabsOf (union_of sets.now) s) }
-    {
-        let rects = slabs_of_all(alloc, sets)?;
-        Ok(Slabs::of_scattered(rects))
     }
 
     /// The squares of one rectangle.

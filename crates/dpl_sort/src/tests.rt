@@ -1,7 +1,7 @@
 //! Lists that are dealt are in order.
 
 use crate::deal::{deal, is_sorted};
-use crate::{sort, sort_slice};
+use crate::{sort, sort_slice_by_key};
 use std::alloc::{AllocError, Global};
 use std::test::Fail;
 
@@ -75,7 +75,7 @@ fn wide_keys_are_in_order(rt: HostRuntime) -> Result<(), Fail> {
             bits < 37
         );
         sort(&mut items);
-        sort_slice(in_place.as_mut_slice());
+        sort_slice_by_key(in_place.as_mut_slice(), |number| *number);
         assert!(rt; items == in_place);
     }
     Ok(())

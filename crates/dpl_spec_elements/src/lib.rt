@@ -5,7 +5,7 @@ pub use dpl_spec_split::Pt;
 use thiserror::Error;
 
 /// Which way a segment parallel to an axis goes.
-#[derive(Clone, Copy, Debug, Drop, PartialEq, Eq)]
+#[derive(Clone, Copy, Drop)]
 pub enum Heading {
     East,
     North,
@@ -14,14 +14,14 @@ pub enum Heading {
 }
 
 /// A straight part of a path, from one point to the next.
-#[derive(Clone, Copy, Debug, Drop, PartialEq, Eq)]
+#[derive(Clone, Copy, Drop)]
 pub struct Segment {
     pub from: Pt,
     pub to: Pt,
 }
 
 /// What a path can be refused for, in the order in which its faults are tried.
-#[derive(Clone, Copy, Debug, Drop, PartialEq, Eq, Error)]
+#[derive(Clone, Copy, Debug, Drop, Error)]
 pub enum PathFault {
     #[error("the path has round ends")]
     RoundPath,

@@ -17,7 +17,7 @@ pub struct Layer {
 }
 
 /// What an element of a layout can be refused for, in the order in which the faults of one element are tried.
-#[derive(Clone, Copy, Debug, Drop, PartialEq, Eq)]
+#[derive(Clone, Copy, Debug, Drop)]
 pub enum ElementFault {
     AbsoluteTransform,
     Magnified,
@@ -29,7 +29,7 @@ pub enum ElementFault {
 }
 
 /// Why a library has no top structure to begin at.
-#[derive(Clone, Copy, Debug, Drop, PartialEq, Eq, Error)]
+#[derive(Clone, Copy, Debug, Drop, Error)]
 pub enum TopFault {
     #[error("out of memory")]
     NoMemory,
@@ -43,7 +43,7 @@ pub enum TopFault {
 
 /// The first fault of the structures that a top structure reaches. `at` is the offset in the file, in bytes, of the
 /// first record of an element.
-#[derive(Clone, Copy, Debug, Drop, PartialEq, Eq, Error)]
+#[derive(Clone, Copy, Debug, Drop, Error)]
 pub enum FlattenFault {
     #[error("out of memory")]
     NoMemory,

@@ -11,7 +11,7 @@ use std::alloc::{AllocError, Global};
 /// Of `m` edges, edge `k` gives arc `k` from its smaller to its larger number, and arc `m + k` back. `last` has for each
 /// number one more than the last arc that leaves it, `before` for each arc one more than the arc before it that leaves
 /// the same number; 0 stands for none.
-#[derive(Debug, Drop)]
+#[derive(Drop)]
 pub struct Chains {
     pub last: Vec<usize>,
     pub before: Vec<usize>,

@@ -2,7 +2,7 @@
 use crate::list::StarList;
 
 /// The summary of an edge list, which says how a graph's components are two-coloured.
-#[derive(Debug, Drop)]
+#[derive(Drop)]
 pub enum Joined {
     /// The graph has no odd cycle: a row for each piece that an edge touches.
     Stars(StarList),

@@ -9,7 +9,7 @@ use dpl_list::{Edge, Id};
 use std::alloc::{AllocError, Global};
 
 /// Where each number lies: `roots` has the least number of its component, `levels` how many edges it is away from that.
-#[derive(Debug, Drop)]
+#[derive(Drop)]
 pub struct Levels {
     pub roots: Vec<Id>,
     pub levels: Vec<Id>,

@@ -18,7 +18,7 @@ pub struct Star {
 }
 
 /// Rows by rising piece. Each root has a row of its own, and a row at an odd distance. A contract sees the list of the rows.
-#[derive(Debug, Drop)]
+#[derive(Drop)]
 pub struct StarList {
     rows: Vec<Star>,
 }

@@ -10,7 +10,7 @@ use std::alloc::{AllocError, Global};
 use std::marker::Model;
 
 /// Pieces in order, and where each of them stands. A contract sees the list of the pieces.
-#[derive(Debug, Drop)]
+#[derive(Drop)]
 pub struct Places {
     pieces: Vec<Id>,
     /// Where each piece stands, if they lie close together.

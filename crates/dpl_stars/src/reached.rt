@@ -10,7 +10,7 @@ use std::alloc::{AllocError, Global};
 
 /// What a breadth-first walk over the numbers below `n` has reached: the root and the level of each number, with `n` as
 /// the root of those that are not reached, and the reached ones in order.
-#[derive(Debug, Drop)]
+#[derive(Drop)]
 pub struct Reached {
     pub roots: Vec<Id>,
     pub levels: Vec<Id>,

@@ -10,7 +10,7 @@ use std::alloc::{AllocError, Global};
 const MOST_ENTRIES: u64 = 8;
 
 /// The place of each of some numbers in their list, by how far the number lies above the least.
-#[derive(Debug, Drop)]
+#[derive(Drop)]
 pub struct Table {
     pub least: Id,
     pub places: Vec<u32>,

@@ -1,7 +1,7 @@
 //! The elements of a structure.
 
 /// The transformation of a reference: the bits of STRANS, and the eight bytes of the reals MAG and ANGLE.
-#[derive(Clone, Copy, Debug, Drop)]
+#[derive(Clone, Copy, Drop)]
 pub struct Trans {
     pub strans: u16,
     pub mag: Option<[u8; 8]>,
@@ -9,7 +9,7 @@ pub struct Trans {
 }
 
 /// What an element is. `xy` is the data of XY, eight bytes for each point; a name has no zeros at its end.
-#[derive(Clone, Copy, Debug, Drop)]
+#[derive(Clone, Copy, Drop)]
 pub enum Body<'a> {
     Boundary {
         layer: u16,
@@ -56,7 +56,7 @@ pub enum Body<'a> {
 }
 
 /// An element of a structure, and where it stands in the file.
-#[derive(Clone, Copy, Debug, Drop)]
+#[derive(Clone, Copy, Drop)]
 pub struct Element<'a> {
     /// The offset of its first record.
     pub at: usize,

@@ -8,7 +8,7 @@ use std::alloc::{AllocError, AllocFailed};
 use thiserror::Error;
 
 /// Why a file holds no library, by the first record that is refused. `at` is the offset of that record's first byte.
-#[derive(Clone, Copy, Debug, Drop, PartialEq, Eq, Error)]
+#[derive(Clone, Copy, Debug, Drop, Error)]
 pub enum SyntaxFault {
     /// Memory ran out.
     #[error("there is no memory")]

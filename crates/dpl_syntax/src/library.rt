@@ -45,7 +45,7 @@ impl<'a> Model for Library<'a> {
 }
 
 /// The whole records of a file before the elements of one structure.
-#[derive(Clone, Copy, Debug, Drop)]
+#[derive(Clone, Copy, Drop)]
 pub struct Frame<'a> {
     pub header: &'a [u8],
     pub bgnlib: &'a [u8],

@@ -4,7 +4,6 @@ ghost use Rattle.dpl_spec_split.specs.Loops.{farthest, IsPointWithin, ArePointsW
 
 use crate::bars::{Corners, are, set_of};
 use dpl_base::{Loop, Pt};
-use dpl_feature::features;
 use dpl_slabs::Slabs;
 use std::alloc::{AllocError, Global};
 use std::test::Fail;
@@ -209,48 +208,5 @@ fn sets_are_combined(rt: HostRuntime) -> Result<(), Fail> {
 fn columns_of_a_bar_are_one(rt: HostRuntime) -> Result<(), Fail> {
     let bar = slabs_of(rt.alloc(), &[&[(0, 0), (30, 0), (30, 10), (0, 10)]])?;
     assert!(rt; are(bar.columns(rt.alloc())?.as_slice(), &[(0, 0, 10, 30)]));
-    Ok(())
-}
-
-/// The components of a set, put together again.
-fn put_together_apart(alloc: Global, set: &Slabs) -> Result<Slabs, AllocError> {
-    let parts = features(alloc, set)?;
-    Slabs::of_apart(alloc, parts.items())
-}
-
-/// Rectangles, and their slabs; those of several components follow one another in turn.
-const APART: [(&[Corners], &[Corners]); 4] = [
-    (&[], &[]),
-    (&[(7, 7, 9, 8)], &[(7, 7, 9, 8)]),
-    (
-        &[(20, 10, 30, 20), (0, 0, 10, 30)],
-        &[(0, 0, 10, 30), (20, 10, 30, 20)],
-    ),
-    // a cross of three slabs, and two bars beside it
-    (
-        &[
-            (10, 0, 20, 10),
-            (0, 10, 30, 20),
-            (10, 20, 20, 30),
-            (40, 0, 50, 30),
-            (60, 15, 70, 25),
-        ],
-        &[
-            (10, 0, 20, 10),
-            (40, 0, 50, 30),
-            (0, 10, 30, 20),
-            (60, 15, 70, 25),
-            (10, 20, 20, 30),
-        ],
-    ),
-];
-
-#[test]
-fn sets_apart_are_put_in_order(rt: HostRuntime) -> Result<(), Fail> {
-    for (rects, want) in APART {
-        let set = set_of(rt.alloc(), rects)?;
-        let all = put_together_apart(rt.alloc(), &set)?;
-        assert!(rt; are(all.rects(), want));
-    }
     Ok(())
 }

@@ -1,9 +1,9 @@
-//! Plans and zones for which several workers find what is near.
+//! What is near in plans, and zones for which several workers find it.
 use crate::bars::{Corners, SPACING, set_of};
 use dpl_base::{Id, Zone};
 use dpl_feature::features;
 use dpl_slabs::{Parts, Slabs};
-use dpl_tile::{Plan, plan, plan_by};
+use dpl_tile::plan;
 use dpl_zone::{zones, zones_by};
 use std::alloc::{AllocError, Global};
 use std::test::Fail;
@@ -27,70 +27,31 @@ fn squares(alloc: Global) -> Result<Vec<Corners>, AllocError> {
     Ok(rects)
 }
 
-/// The place of a meeting, and the numbers of its slabs.
-type Key = (u32, u32, u32, u32);
-
-/// The meetings of a plan, in order.
-fn meetings_of(alloc: Global, plan: &Plan) -> Result<Vec<Key>, AllocError> {
-    let mut keys = Vec::new(alloc);
-    for m in plan.meetings() {
-        keys.push((m.place.0, m.place.1, m.first, m.second))?;
-    }
-    keys.sort_unstable();
-    Ok(keys)
-}
-
-/// The meetings of pieces that have one owner each, for tiles of this side.
-fn found(
+/// How many meetings pieces that have one owner each have in one tile.
+fn count_in_one_tile(
     alloc: Global,
     pieces: &Parts,
     owner: &[Id],
-    side: u32,
-) -> Result<Option<Vec<Key>>, AllocError> {
-    if pieces.items().len() != owner.len() || side < 1 {
+) -> Result<Option<usize>, AllocError> {
+    if pieces.items().len() != owner.len() {
         return Ok(None);
     }
-    let plan = plan(alloc, pieces, owner, SPACING, side)?;
-    Ok(Some(meetings_of(alloc, &plan)?))
+    let plan = plan(alloc, pieces, owner, SPACING, 1 << 30)?;
+    Ok(Some(plan.meetings().len()))
 }
-
-/// The same meetings, found by so many workers.
-fn found_by<R: Threads + Sync>(
-    rt: &R,
-    alloc: Global,
-    pieces: &Parts,
-    owner: &[Id],
-    side: u32,
-    workers: u32,
-) -> Result<Option<Vec<Key>>, AllocError> {
-    if pieces.items().len() != owner.len() || side < 1 || workers < 1 {
-        return Ok(None);
-    }
-    let plan = plan_by(rt, alloc, pieces, owner, SPACING, side, workers)?;
-    Ok(Some(meetings_of(alloc, &plan)?))
-}
-
-/// How many workers find the meetings.
-const WORKERS: [u32; 4] = [1, 2, 4, 64];
 
 #[test]
-fn workers_find_the_same_meetings(rt: HostRuntime) -> Result<(), Fail> {
+fn a_plan_has_each_pair_once(rt: HostRuntime) -> Result<(), Fail> {
     let alloc = rt.alloc();
     let set = set_of(alloc, &squares(alloc)?)?;
     let pieces = features(alloc, &set)?;
     let owner: Vec<Id> = (0..400).collect(alloc)?;
-    for side in [64, 1 << 30] {
-        let one = found(alloc, &pieces, &owner, side)?;
-        let one = one.ok_or("each square is a piece")?;
-        assert!(rt; side == 64 || one.len() == PAIRS);
-        for workers in WORKERS {
-            let many = found_by(&rt, alloc, &pieces, &owner, side, workers)?;
-            let many = many.ok_or("each square is a piece")?;
-            assert!(rt; many == one, "by {workers} workers");
-        }
-    }
+    assert!(rt; count_in_one_tile(alloc, &pieces, &owner)? == Some(PAIRS));
     Ok(())
 }
+
+/// How many workers find the zones.
+const WORKERS: [u32; 4] = [1, 2, 4, 64];
 
 /// How often the bars are repeated: so often that workers share them.
 const TIMES: u16 = 3000;

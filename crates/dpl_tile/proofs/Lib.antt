@@ -9,5 +9,5 @@ pub mod ItemLaws
 pub mod ReachLaws
 pub mod MeetingLaws
 pub mod Taking
-pub mod DealtLaws
+pub mod StripLaws
 pub mod PlanLaws

@@ -94,9 +94,6 @@ row-more row b n base old new from step before =
 abbrev pub IsInBlockTo : Block → ℕ → ℕ × ℕ → Type 0
 IsInBlockTo b n e = (b.row0 ≤ e.0) × (e.0 < n) × (b.column0 ≤ e.1) × (e.1 < b.column1)
 
-pub block-none : (b : Block) (xs : List (ℕ × ℕ)) → Adds (IsInBlockTo b b.row0) xs xs
-block-none b xs e = (λ h. inl h, λ h. elim h [ inl a ↦ a | inr (l, m, k, j) ↦ absurd (omega (arith, l, m)) ])
-
 pub block-more : (b : Block) (n : ℕ) (base old new : List (ℕ × ℕ)) → b.row0 ≤ n → Adds (IsInBlockTo b n) base old
     → Adds (IsInRow n b) old new → Adds (IsInBlockTo b (n + 1)) base new
 block-more b n base old new from before step =

@@ -44,9 +44,6 @@ number-is side low i n some h =
     let b = h.below in
     div_is side (unsigned_abs (i -ℤ low)) n some (omega (arith, ints, a)) (omega (arith, ints, a, b))
 
-pub cells-from : (side : ℕ) (low i : ℤ) (n : ℕ) → InCells side low n i → low ≤ℤ i
-cells-from side low i n h = let a = h.from in omega (arith, ints, a)
-
 -- a span of squares has one in row or column n of cells where n lies between the numbers of its ends
 pub span-met : (side : ℕ) (low a b : ℤ) (n : ℕ) → 1 ≤ side → low ≤ℤ a → a <ℤ b → number_in side low a ≤ n
     → n ≤ number_in side low (b -ℤ pos 1) → (i : ℤ) × (a ≤ℤ i) × (i <ℤ b) × InCells side low n i

@@ -79,11 +79,6 @@ doubled-more parts tile g h x_is y_is side_is fine (n, is, before) = (
   ]),
 )
 
-pub grid-is : (parts : List (List Rect)) (tile : ℕ) (g : Grid) (b : Rect) → IsBounds (union_of parts) b → g.x ≡ b.x0 → g.y ≡ b.y0
-    → IsCoarse parts g → IsDoubledAtNeed parts tile g → IsGrid parts tile g
-grid-is parts tile g b bounds x_is y_is coarse
-    (n, is, fine) = record { bounds = b; bounded = bounds; left = x_is; low = y_is; doublings = n; side = is; coarse = coarse; least = fine }
-
 -- tiles of few pairs
 pub laid-by_places : (parts : List (List Rect)) (tile : ℕ) (g : Grid) (b : Rect) (places : List (ℕ × ℕ)) → AreParts parts
     → IsBounds (union_of parts) b → g.x ≡ b.x0 → g.y ≡ b.y0 → IsSound g → IsGrid parts tile g

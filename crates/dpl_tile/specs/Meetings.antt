@@ -1,5 +1,5 @@
 -- Slabs of different owners that are near, and the cells in which they may be.
-use Rattle.std.specs.Prelude.{◌≡◌, ◌≢◌, ◌⊎◌, ◌↔◌, ℕ, ◌<◌, ◌≤◌, ◌%◌, ◌^◌, pos, ◌+ℤ◌, ◌-ℤ◌, List, [], length, slice_index, slice_index_or}
+use Rattle.std.specs.Prelude.{◌≡◌, ◌≢◌, ◌⊎◌, ◌↔◌, ℕ, ◌<◌, ◌≤◌, ◌^◌, pos, ◌+ℤ◌, ◌-ℤ◌, List, [], length, slice_index, slice_index_or}
 use Rattle.std.specs.Int.{int_min, int_max}
 use Rattle.std.specs.List.{All, Contains}
 use Rattle.dpl_spec_split.specs.declared.Rect.{Rect}
@@ -8,7 +8,6 @@ use Rattle.dpl_spec_split.specs.Graphs.{Precedes}
 use Rattle.dpl_spec_split.specs.Squares.{AreNear, Has}
 use Rattle.dpl_slabs.specs.Parts.{AreParts}
 use Rattle.dpl_join.specs.declared.items.Item.{Item}
-use Rattle.dpl_join.specs.Joins.{Joined, home_of}
 use Rattle.dpl_join.specs.Pairs.{IsPair, item_at}
 use Rattle.dpl_tile.specs.declared.grid.Grid.{Grid}
 use Rattle.dpl_tile.specs.declared.meetings.Meeting.{Meeting}
@@ -50,10 +49,6 @@ IsMeetingAmong spacing owners g items pairs m = (pair : ℕ × ℕ) × Contains 
 -- some pair has this meeting
 abbrev pub IsMeeting : Spacing → List ℕ → Grid → List Item → Meeting → Type 0
 IsMeeting spacing owners g items m = IsPair spacing.rule items (m.first, m.second) × IsMeetingOf spacing owners g items (m.first, m.second) m
-
--- the strip in which the pair of a meeting counts is dealt to this one of so many workers
-abbrev pub IsDealt : Joined → ℕ → ℕ → Meeting → Type 0
-IsDealt join worker workers m = home_of join (m.first, m.second) % workers ≡ worker
 
 -- no place goes before one that stands earlier
 abbrev pub RiseByPlace : List Meeting → Type 0

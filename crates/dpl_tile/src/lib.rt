@@ -20,5 +20,5 @@ pub use items::items_of;
 pub use laws::squares_have_one_cell;
 pub use least::side_for;
 pub use meetings::{Meeting, are_foes};
-pub use planning::{plan, plan_by};
+pub use planning::plan;
 pub use plans::Plan;

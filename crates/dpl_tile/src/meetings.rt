@@ -8,7 +8,7 @@ ghost use Rattle.dpl_join.specs.Pairs.{IsPair};
 ghost use Rattle.dpl_tile.specs.declared.meetings.Meeting.{Meeting};
 ghost use Rattle.dpl_tile.specs.Adding.{Adds};
 ghost use Rattle.dpl_tile.specs.Kept.{IsSound, IsOver};
-ghost use Rattle.dpl_tile.specs.Meetings.{AreMeetings, AreFoes, IsDealt, IsMeeting, IsMeetingAmong, IsMeetingOf, RiseByPlace};
+ghost use Rattle.dpl_tile.specs.Meetings.{AreMeetings, AreFoes, IsMeeting, IsMeetingAmong, IsMeetingOf, RiseByPlace};
 
 use crate::cells::{only_place, places_of_both};
 use crate::grid::{Grid, Place};
@@ -17,10 +17,9 @@ use dpl_base::{Id, Spacing, near};
 use dpl_join::{Item, Join, Pair};
 use dpl_sort::sort_by_key;
 use std::alloc::{AllocError, Global};
-use std::thread::{Threads, map_indices};
 
 /// Two slabs of different owners that are near, by their numbers, and the place of a cell with a square of one that may be near the other.
-#[derive(Clone, Copy, Debug, Drop)]
+#[derive(Clone, Copy, Drop)]
 pub struct Meeting {
     pub place: Place,
     pub first: u32,
@@ -124,83 +123,35 @@ fn add_pairs(
     Ok(())
 }
 
-/// The meetings that a worker finds, in no order: those of pairs that count in a strip dealt to it. Strip `k` is dealt to worker `k % workers`. The pairs are found strip by strip, so those of one are in memory at a time.
-fn dealt_meetings(
+/// The meetings of all pairs of a join, in no order. The pairs are found strip by strip, so those of one are in memory at a time.
+fn unsorted_meetings(
     alloc: Global,
     grid: &Grid,
     join: &Join,
     owners: &[Id],
     spacing: Spacing,
-    worker: usize,
-    workers: usize,
 ) -> Result<Vec<Meeting>, AllocError>
     requires corner { spacing.corner ≤ spacing.rule }
     requires rule { join.now.rule ≡ spacing.rule }
     requires sound { IsSound grid.now }
     requires over { All (λ (item : Item). IsOver grid.now item.rect) join.now.items }
     requires owned { All (λ (item : Item). item.owner < length owners.now) join.now.items }
-    requires workers { 1 ≤ workers }
-    ensures { IfOk result (λ v. (m : Meeting) → Contains v.items m ↔ (IsDealt join.now worker workers m × IsMeeting spacing owners.now grid.now join.now.items m)) }
+    ensures { IfOk result (λ v. (m : Meeting) → Contains v.items m ↔ IsMeeting spacing owners.now grid.now join.now.items m) }
 {
     let items = join.items();
     let mut meetings = Vec::new(alloc);
     let count = join.strips();
     for strip in 0..count {
-        if strip % workers == worker {
-            let pairs = join.pairs_of_strip(alloc, strip)?;
-            add_pairs(
-                &mut meetings,
-                alloc,
-                grid,
-                items,
-                pairs.as_slice(),
-                owners,
-                spacing,
-            )?;
-        }
-    }
-    Ok(meetings)
-}
-
-/// How many workers look for meetings at most. Each has the close pairs of a strip in memory.
-const MOST_WORKERS: usize = 16;
-
-/// How many of the workers look for meetings in the strips of a join: no more than there are strips.
-fn workers_for(join: &Join, workers: u32) -> usize
-    ensures { 1 ≤ result }
-{
-    (workers as usize).min(join.strips()).clamp(1, MOST_WORKERS)
-}
-
-/// The meetings of all pairs of a join, in no order, each found by one of so many workers, or of as many as there are strips.
-fn unsorted_meetings_by<R: Threads + Sync>(
-    rt: &R,
-    alloc: Global,
-    grid: &Grid,
-    join: &Join,
-    owners: &[Id],
-    spacing: Spacing,
-    workers: u32,
-) -> Result<Vec<Meeting>, AllocError>
-    requires corner { spacing.corner ≤ spacing.rule }
-    requires rule { join.now.rule ≡ spacing.rule }
-    requires sound { IsSound grid.now }
-    requires over { All (λ (item : Item). IsOver grid.now item.rect) join.now.items }
-    requires owned { All (λ (item : Item). item.owner < length owners.now) join.now.items }
-    requires workers { 1 ≤ workers }
-    ensures { IfOk result (λ v. (m : Meeting) → Contains v.items m ↔ IsMeeting spacing owners.now grid.now join.now.items m) }
-{
-    let count = workers_for(join, workers);
-    let mut lists = map_indices(
-        rt,
-        alloc,
-        count,
-        &|worker| { dealt_meetings(alloc, grid, join, owners, spacing, worker, count) },
-    )?;
-    let mut meetings = Vec::new(alloc);
-    while let Some(list) = lists.pop() {
-        let mut list = list?;
-        meetings.append(&mut list)?;
+        let pairs = join.pairs_of_strip(alloc, strip)?;
+        add_pairs(
+            &mut meetings,
+            alloc,
+            grid,
+            items,
+            pairs.as_slice(),
+            owners,
+            spacing,
+        )?;
     }
     Ok(meetings)
 }
@@ -228,33 +179,7 @@ pub(crate) fn meetings_of(
     requires owned { All (λ (item : Item). item.owner < length owners.now) join.now.items }
     ensures { IfOk result (λ v. AreMeetings spacing owners.now grid.now join.now.items v.items) }
 {
-    let mut meetings = dealt_meetings(alloc, grid, join, owners, spacing, 0, 1)?;
-    sort_by_place(&mut meetings);
-    Ok(meetings)
-}
-
-/// The meetings of all pairs of a join, by place, as `meetings_of` gives them, each found by one of so many workers. With one worker no thread is made.
-pub(crate) fn meetings_by<R: Threads + Sync>(
-    rt: &R,
-    alloc: Global,
-    grid: &Grid,
-    join: &Join,
-    owners: &[Id],
-    spacing: Spacing,
-    workers: u32,
-) -> Result<Vec<Meeting>, AllocError>
-    requires corner { spacing.corner ≤ spacing.rule }
-    requires rule { join.now.rule ≡ spacing.rule }
-    requires sound { IsSound grid.now }
-    requires over { All (λ (item : Item). IsOver grid.now item.rect) join.now.items }
-    requires owned { All (λ (item : Item). item.owner < length owners.now) join.now.items }
-    requires workers { 1 ≤ workers }
-    ensures { IfOk result (λ v. AreMeetings spacing owners.now grid.now join.now.items v.items) }
-{
-    if workers == 1 {
-        return meetings_of(alloc, grid, join, owners, spacing);
-    }
-    let mut meetings = unsorted_meetings_by(rt, alloc, grid, join, owners, spacing, workers)?;
+    let mut meetings = unsorted_meetings(alloc, grid, join, owners, spacing)?;
     sort_by_place(&mut meetings);
     Ok(meetings)
 }

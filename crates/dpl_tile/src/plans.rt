@@ -64,14 +64,6 @@ impl<'a> Plan<'a> {
         self.parts
     }
 
-    /// The owner of each piece.
-    pub fn owners(&self) -> &'a [Id]
-        ensures value { result.now ≡ self.now.owners }
-        ensures each { length self.now.owners ≡ length self.now.parts }
-    {
-        self.owners
-    }
-
     /// How far apart pieces of different owners stay, in database units.
     pub fn spacing(&self) -> Spacing
         ensures value { result ≡ self.now.spacing }

@@ -1,5 +1,5 @@
 -- Transposed trees.
-use Rattle.std.proofs.Common.{◌≡◌, ℕ, zero, suc, ◌<◌, ◌≤◌, inl, inr, Bool, true, false, List, [], ◌∷◌, length, get_or, map, sym, ap, refl, ◌∙◌, arith}
+use Rattle.std.proofs.Common.{◌≡◌, ℕ, zero, suc, ◌<◌, ◌≤◌, inl, inr, Bool, true, false, List, [], ◌∷◌, length, get_or, map, refl, arith}
 use Rattle.std.proofs.lemmas.List.{length-map}
 use Rattle.dpl_spec_split.specs.declared.Rect.{Rect}
 use Rattle.dpl_spec_split.specs.Zones.{transposed_rect}
@@ -57,16 +57,3 @@ found-transposed items w o n h d l =
 pub seen-true : (b : Bool) (items : List Item) → b ≡ true → seen b items ≡ map transposed_item items
 seen-true true items e = refl
 seen-true false items e = absurd (let q : ⊥ = cc in q)
-
-pub seen-false : (b : Bool) (items : List Item) → b ≡ false → seen b items ≡ items
-seen-false false items e = refl
-seen-false true items e = absurd (let q : ⊥ = cc in q)
-
-pub seen-length : (b : Bool) (items : List Item) → length (seen b items) ≡ length items
-seen-length true items = length-map items transposed_item
-seen-length false items = refl
-
-pub transposed-rect_at : (items across : List Item) (i : ℕ) (r : Rect) → map transposed_item items ≡ across
-    → ((d : Item) → r ≡ (get_or items i d).rect) → (d : Item) → transposed_rect r ≡ (get_or across i d).rect
-transposed-rect_at items across i r is at d =
-    ap transposed_rect (at (transposed_item d)) ∙ (sym (ap (λ (t : Item). t.rect) (transposed-get items i d)) ∙ ap (λ (ts : List Item). (get_or ts i d).rect) is)

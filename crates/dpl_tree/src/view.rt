@@ -5,7 +5,7 @@ ghost use Rattle.dpl_tree.specs.Trees.{ArePassed, IsMissed, transposed_item};
 
 use crate::owners::Owners;
 use crate::tree::Tree;
-use dpl_base::{Rect, WideRect, transposed};
+use dpl_base::WideRect;
 use std::marker::Model;
 
 /// A tree that is borrowed, as it is or transposed. A contract sees the items.
@@ -53,18 +53,6 @@ impl<'a> View<'a> {
         ensures { result ≡ length self.now }
     {
         self.tree.count()
-    }
-
-    /// The rectangle of an item.
-    pub fn rect(&self, i: usize) -> Rect
-        requires { i < length self.now }
-        ensures { (d : Item) → result ≡ (slice_index_or self.now i d).rect }
-    {
-        let rect = self.tree.item(i).rect;
-        if self.is_transposed {
-            return transposed(&rect);
-        }
-        rect
     }
 
     /// The number of the first item from number `from` on that has a square in the window and an owner that is sought, or a number past all items.

@@ -1,12 +1,10 @@
-use Rattle.std.proofs.Math.Nat.{mod-one}
-use Rattle.dpl_join.specs.Joins.{home_of}
 use Rattle.dpl_tile.proofs.meetings.meetings_of.Goals as goal
 
 pub returns : goal.returns
 returns c = record {
   all = λ m. (
-    λ h. ((c.in_ok-meetings.ensures m).0 ((c.sort_by_place.ensures.same m).0 h)).1,
-    λ h. (c.sort_by_place.ensures.same m).1 ((c.in_ok-meetings.ensures m).1 (mod-one (home_of c.args.join.now (m.first, m.second)), h)),
+    λ h. (c.in_ok-meetings.ensures m).0 ((c.sort_by_place.ensures.same m).0 h),
+    λ h. (c.sort_by_place.ensures.same m).1 ((c.in_ok-meetings.ensures m).1 h),
   );
   rise = c.sort_by_place.ensures.rise;
 }
