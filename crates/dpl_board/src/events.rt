@@ -11,7 +11,7 @@ use dpl_list::Listed;
 use std::alloc::{AllocError, Global};
 
 /// What a worker does with a tile.
-#[derive(Clone, Copy, Debug, Drop, PartialEq, Eq)]
+#[derive(Clone, Copy, Drop)]
 pub enum Event {
     Take { worker: u32, tile: u32 },
     Post { worker: u32, tile: u32 },

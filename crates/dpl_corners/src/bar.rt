@@ -5,7 +5,7 @@ ghost use Rattle.dpl_corners.specs.Corners.{IsUpright, IsThrough, loop_round};
 use dpl_base::Pt;
 
 /// A loop through the corners of a rectangle, which may have no columns or no rows, by two of them.
-#[derive(Clone, Copy, Debug, Drop)]
+#[derive(Clone, Copy, Drop)]
 pub struct Bar {
     /// Where the loop begins.
     pub corner: Pt,

@@ -8,14 +8,14 @@ use dpl_base::{Loop, Pt};
 use std::marker::Model;
 
 /// What a loop is kept as.
-#[derive(Debug, Drop)]
+#[derive(Drop)]
 pub enum Shape {
     Bar(Bar),
     Loop(Loop),
 }
 
 /// A loop, without a list of its points where they are the corners of a rectangle. A contract sees the list of its points.
-#[derive(Debug, Drop)]
+#[derive(Drop)]
 pub struct Figure {
     shape: Shape,
 }

@@ -1,7 +1,7 @@
 -- The parents, edge by edge.
-use Rattle.std.proofs.Common.{◌≡◌, ◌≢◌, ℕ, ◌+◌, ◌<◌, ◌≤◌, ◌⊎◌, inl, inr, List, ◌++◌, replicate, take, drop, length, set, get_or, sym, refl, ap, subst, ◌∙◌, arith}
+use Rattle.std.proofs.Common.{◌≡◌, ◌≢◌, ℕ, ◌+◌, ◌<◌, ◌≤◌, ◌⊎◌, inl, inr, List, ◌++◌, take, drop, length, set, get_or, sym, refl, ap, subst, ◌∙◌, arith}
 use Rattle.std.proofs.lemmas.Bool.{cases_eq}
-use Rattle.std.proofs.lemmas.List.{get_or_default, length-set, get_or-set_same, get_or-set_other, get_or-replicate, length-replicate, take-append-le, take_all}
+use Rattle.std.proofs.lemmas.List.{get_or_default, length-set, get_or-set_same, get_or-set_other, take-append-le, take_all}
 use Rattle.dpl_spec_split.specs.Graphs.{Graph, graph_of}
 use Rattle.dpl_odd.specs.Paths.{edge_at, AreLowest, IsLowered, stays, falls}
 
@@ -91,13 +91,6 @@ lowest-as joined same n levels parents into back h = record {
 -- the graph of the first so many edges
 abbrev pub first_edges : List (ℕ × ℕ) → ℕ → Graph
 first_edges edges n u v = (k : ℕ) × (k < n) × ((edge_at edges k ≡ (u, v)) ⊎ (edge_at edges k ≡ (v, u)))
-
-pub lowest-none : (edges : List (ℕ × ℕ)) (n : ℕ) (levels parents : List ℕ) → parents ≡ replicate n n → AreLowest (first_edges edges 0) n levels parents
-lowest-none edges n levels parents is = record {
-  as_many = ap (λ xs. let ys : List ℕ = xs in length ys) is ∙ length-replicate n n;
-  least = λ u v l (k, m, e) down. absurd (omega (arith, m));
-  found = λ u l. inl (ap (λ xs. get_or xs u 0) is ∙ get_or-replicate n u n 0 l);
-}
 
 more_edges : (edges : List (ℕ × ℕ)) (i a b : ℕ) → edge_at edges i ≡ (a, b) → (u v : ℕ) → with_arc (with_arc (first_edges edges i) a b) b a u v → first_edges edges (i + 1) u v
 more_edges edges i a b is u v (inl (inl (k, l, e))) = (k, omega (arith, l), e)

@@ -1,11 +1,11 @@
 -- The least level edge of each component, edge by edge.
-use Rattle.std.proofs.Common.{◌≡◌, ℕ, ◌+◌, ◌<◌, inl, inr, Option, Some, None, List, replicate, set, length, get_or, sym, ap, subst, ◌∙◌, arith}
+use Rattle.std.proofs.Common.{◌≡◌, ℕ, ◌+◌, ◌<◌, inl, inr, Option, Some, None, List, set, length, get_or, sym, ap, subst, ◌∙◌, arith}
 use Rattle.std.specs.Prelude.{IfSome}
 use Rattle.std.proofs.lemmas.Bool.{cases_eq}
-use Rattle.std.proofs.lemmas.List.{length-set, length-replicate, get_or-set_same, get_or-set_other, get_or-replicate}
+use Rattle.std.proofs.lemmas.List.{length-set, get_or-set_same, get_or-set_other}
 use Rattle.dpl_stars.specs.Levels.{AreEdgesBelow}
 use Rattle.dpl_odd.specs.Paths.{IsLevel, IsNotAfter, IsLesser, slanted, first, older, newer, edge_at}
-use Rattle.dpl_odd.specs.Tables.{IsLeastAt, IsLeastBelow, AreLeastLevels}
+use Rattle.dpl_odd.specs.Tables.{IsLeastBelow, AreLeastLevels}
 use Rattle.dpl_odd.proofs.LevelLaws.{next_edge, not-after_trans, itself}
 
 -- an edge that isn't level, or lies in another component
@@ -44,17 +44,6 @@ changed roots levels edges n root e is here (newer {f = f} same before) h = reco
       (λ k l level at. not-after_trans roots e f (edge_at edges k) before (h.least k l level at)) (λ level at. itself roots e);
 }
 
-pub table-start : (roots levels : List ℕ) (edges : List (ℕ × ℕ)) (least : List (Option (ℕ × ℕ))) (n : ℕ) → n ≡ length levels
-    → least ≡ replicate n None → AreLeastLevels roots levels edges 0 least
-table-start roots levels edges least n long is =
-    let len : length least ≡ n = ap (λ xs. let ys : List (Option (ℕ × ℕ)) = xs in length ys) is ∙ length-replicate n None in
-    record {
-      as_many = len ∙ long;
-      each = λ root l.
-          let none : None ≡ get_or least root None = sym (ap (λ xs. get_or xs root None) is ∙ get_or-replicate n root None None (omega (arith, l, len))) in
-          subst (λ o. IsLeastBelow roots levels edges 0 root o) none (λ k m level at. absurd (omega (arith, m)));
-    }
-
 pub table-step : (roots levels : List ℕ) (edges : List (ℕ × ℕ)) (n root : ℕ) (e : ℕ × ℕ) (least more : List (Option (ℕ × ℕ))) (old new : Option (ℕ × ℕ))
     → edge_at edges n ≡ e → get_or roots e.0 0 ≡ root → root < length least → old ≡ get_or least root None → IsLesser roots levels e old new
     → more ≡ set least root new → AreLeastLevels roots levels edges n least → AreLeastLevels roots levels edges (n + 1) more
@@ -82,9 +71,3 @@ inside roots levels edges n m root b l (Some e) h =
     let (k, k_in, at) = h.member in
     let (order, high) = b k (0, 0) (omega (arith, k_in, l)) in
     subst (λ (x : ℕ × ℕ). x.0 < m) at (omega (arith, order, high))
-
--- an entry of the table is below m, as all edges are
-pub entry-inside : (roots levels : List ℕ) (edges : List (ℕ × ℕ)) (n m root : ℕ) (least : List (Option (ℕ × ℕ))) (o : Option (ℕ × ℕ)) → AreEdgesBelow m edges
-    → n < length edges + 1 → AreLeastLevels roots levels edges n least → root < length least → o ≡ get_or least root None → IfSome o (λ e. e.0 < m)
-entry-inside roots levels edges n m root least o b l h root_in is = subst (λ x. IfSome x (λ (e : ℕ × ℕ). e.0 < m)) (sym is)
-    (inside roots levels edges n m root b l (get_or least root None) (h.each root root_in))

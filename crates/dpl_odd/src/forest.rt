@@ -11,7 +11,7 @@ use dpl_stars::Levels;
 use std::alloc::{AllocError, Global};
 
 /// For each number its root, its level and its parent, the least neighbour one level lower.
-#[derive(Debug, Drop)]
+#[derive(Drop)]
 pub struct Forest {
     pub levels: Levels,
     pub parents: Vec<Id>,

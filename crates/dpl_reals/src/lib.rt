@@ -8,7 +8,7 @@ ghost use Rattle.dpl_reals.specs.Magnitudes.{IsMagnitude, IsDegrees};
 use std::marker::Model;
 
 /// A real of a sign, an exponent to the base 16 that is kept 64 too great, and a mantissa of 56 bits below the point. It need not be normalised.
-#[derive(Clone, Copy, Debug, Drop)]
+#[derive(Clone, Copy, Drop)]
 pub struct Real {
     negative: bool,
     exponent: u8,

@@ -11,7 +11,7 @@ use dpl_spec_elements::{Heading, Segment};
 use std::alloc::{AllocError, Global};
 
 /// How far the rectangles of a path go on from its segments, in database units.
-#[derive(Debug, Drop)]
+#[derive(Drop)]
 pub struct Margins {
     /// To each side, and at each inner corner.
     pub half: i64,
@@ -22,7 +22,7 @@ pub struct Margins {
 }
 
 /// The segment that a path is in, and how far its rectangle goes on before it.
-#[derive(Debug, Drop)]
+#[derive(Drop)]
 pub struct Stroke {
     pub segment: Segment,
     pub begin: i64,
