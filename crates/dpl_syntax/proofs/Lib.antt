@@ -18,3 +18,4 @@ pub mod StructureLists
 pub mod WholeLibraries
 pub mod OneReading
 pub mod PlainBoundaries
+pub mod Chains

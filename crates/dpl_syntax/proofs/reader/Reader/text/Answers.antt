@@ -1,0 +1,32 @@
+use Rattle.std.proofs.Common.{refl, rules, ◌∙◌, w16, FitsSigned}
+use Rattle.std.proofs.lemmas.Int.{to_z-of_z}
+use Rattle.std.specs.Option.{option_map}
+use Rattle.dpl_spec_format.specs.Kinds as kinds
+use Rattle.dpl_records.specs.Seen.{seen}
+use Rattle.dpl_syntax.specs.TransRecords.{trans_records_seen}
+use Rattle.dpl_syntax.specs.Reading.{transformed}
+use Rattle.dpl_syntax.proofs.Chains.{same_bytes, none_then, item_then, must_then, may_then, points_then, body_then}
+use Rattle.dpl_syntax.proofs.reader.Reader.text.Goals as goal
+
+pub returns-clause-exact : goal.returns-clause-exact
+returns-clause-exact c =
+    let bytes = c.args.self.now.bytes.now in
+    let same_layer = same_bytes c.take.new.self c.args.self.now c.in_ok-layer.ensures.bytes in
+    let same_texttype = same_bytes c.take-2.new.self c.take.new.self c.in_ok-texttype.ensures.bytes ∙ same_layer in
+    let same__presentation = same_bytes c.take_if.new.self c.take-2.new.self c.in_ok-_presentation.ensures.bytes ∙ same_texttype in
+    let same__pathtype = same_bytes c.take_if-2.new.self c.take_if.new.self c.in_ok-_pathtype.ensures.bytes ∙ same__presentation in
+    let same__width = same_bytes c.take_if-3.new.self c.take_if-2.new.self c.in_ok-_width.ensures.bytes ∙ same__pathtype in
+    let same__trans = same_bytes c.take_trans.new.self c.take_if-3.new.self c.in_ok-_trans.ensures.bytes ∙ same__width in
+    let same_xy = same_bytes c.take_points.new.self c.take_trans.new.self c.in_ok-xy.ensures.bytes ∙ same__trans in
+    let found = body_then bytes kinds.text c.args.self.now.at c.take-3.new.self.at _
+    (must_then bytes kinds.layer _ _ _ _ (seen c.in_ok-layer.layer) _ _ refl c.in_ok-layer.ensures.exact
+    (must_then bytes kinds.texttype _ _ _ _ (seen c.in_ok-texttype.texttype) _ _ same_layer c.in_ok-texttype.ensures.exact
+    (may_then bytes kinds.presentation _ _ _ _ (option_map seen c.in_ok-_presentation._presentation) _ _ same_texttype c.in_ok-_presentation.ensures.exact
+    (may_then bytes kinds.pathtype _ _ _ _ (option_map seen c.in_ok-_pathtype._pathtype) _ _ same__presentation c.in_ok-_pathtype.ensures.exact
+    (may_then bytes kinds.width _ _ _ _ (option_map seen c.in_ok-_width._width) _ _ same__pathtype c.in_ok-_width.ensures.exact
+    (item_then bytes transformed _ _ _ _ (trans_records_seen c.in_ok-_trans._trans) _ _ same__width c.in_ok-_trans.ensures.exact
+    (points_then bytes 8 _ _ _ _ (seen c.in_ok-xy.xy) _ _ same__trans c.in_ok-xy.ensures.exact
+    (must_then bytes kinds.text_string _ _ _ _ (seen c.in_ok-string.string) _ _ same_xy c.in_ok-string.ensures.exact
+    (none_then bytes c.take-3.new.self.at))))))))) in
+    let fits : FitsSigned w16 c.i16_at.result = search rules in
+    rw (to_z-of_z w16 c.i16_at.result fits, c.u16_at.ensures, c.i16_at.ensures) found
