@@ -243,8 +243,7 @@ fn joined(alloc: Global, parts: &Parts, spacing: Spacing) -> Result<Join, AllocE
     ensures { IfOk result (λ j. IsJoinOf parts.now spacing j) }
 {
     let items = items_of(alloc, parts.items())?;
-    let join = Join::of(alloc, items, spacing.rule)?;
-    Ok(join)
+    Join::of(alloc, items, spacing.rule)
 }
 
 /// All conflicts of pieces with these owners, one to each piece, smaller number first, in order, each once: two pieces of different owners conflict where some square of one is near some square of the other by the spacing.

@@ -21,8 +21,8 @@ use Rattle.dpl_walk.proofs.ListLaws.{Contains-map}
 use Rattle.std.specs.Prelude.{Option, Some, None}
 use Rattle.dpl_spec_layout.specs.declared.Layer.{Layer}
 use Rattle.dpl_spec_layout.specs.Elements.{IsPathFault, IsRefusedFor}
-use Rattle.dpl_flatten.specs.declared.role.Role.{Role}
-use Rattle.dpl_flatten.specs.Roles.{IsFaultIn, IsRoleOf}
+use Rattle.dpl_reference.specs.declared.role.Role.{Role}
+use Rattle.dpl_reference.specs.Roles.{IsFaultIn, IsRoleOf}
 use Rattle.dpl_reference.specs.Faults.{IsFaultBy}
 use Rattle.dpl_flatten.specs.Drawn.{IsRefusal, IsTakenAt, HasRefusalAt}
 

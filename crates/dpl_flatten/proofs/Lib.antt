@@ -2,7 +2,6 @@ pub mod LinkLaws
 pub mod LeastLaws
 pub mod ReachLaws
 pub mod TotalLaws
-pub mod RoleLaws
 pub mod DrawnLaws
 pub mod FoundLaws
 pub mod CopyLaws

@@ -1,4 +1,3 @@
-pub mod Roles
 pub mod Links
 pub mod Least
 pub mod Wants

@@ -11,18 +11,17 @@ ghost use Rattle.dpl_shapes.specs.declared.fault.ShapeFault.TheVariants.{NoMemor
 ghost use Rattle.dpl_spec_layout.specs.declared.ElementFault.{ElementFault};
 ghost use Rattle.dpl_spec_layout.specs.Elements.{points_in, loops_of, IsPathFault, IsRefusedFor, reference_name};
 ghost use Rattle.dpl_flatten.specs.Cells.{AreCopies, IsCopied, IsNoted, IsCell, AreCountedTargets, AreTaken, AreCells};
-ghost use Rattle.dpl_flatten.specs.Roles.{path_along};
+ghost use Rattle.dpl_reference.specs.Roles.{path_along};
 ghost use Rattle.dpl_walk.specs.Cells.{IsReady};
 ghost use Rattle.dpl_flatten.specs.Totals.{ceiling};
 ghost use Rattle.dpl_links.specs.Graph.{IsMarked};
 
 use crate::count::total_at;
 use crate::links::target;
-use crate::role::{PathStyle, Role, role_of};
 use crate::shapes::{points_of, rectangle_of};
 use dpl_base::{Listed, Loop};
 use dpl_corners::Figure;
-use dpl_reference::{array_copies, single_copy};
+use dpl_reference::{PathStyle, Role, array_copies, role_of, single_copy};
 use dpl_shapes::{ShapeFault, path_loops};
 use dpl_spec_layout::Layer;
 use dpl_syntax::{Body, Element, Library};

@@ -10,8 +10,8 @@ ghost use Rattle.dpl_flatten.specs.Links.{IsLinked, IsOrdered};
 ghost use Rattle.dpl_flatten.specs.Totals.{ceiling, AreTotals};
 
 use crate::links::{ReachedGraph, target};
-use crate::role::{Role, role_of};
 use dpl_links::Order;
+use dpl_reference::{Role, role_of};
 use dpl_spec_layout::Layer;
 use dpl_syntax::{Body, Element, Library};
 use std::alloc::{AllocError, Global};

@@ -27,7 +27,6 @@ mod missing;
 mod placed;
 mod recursion;
 mod refused;
-mod role;
 mod shapes;
 mod top;
 

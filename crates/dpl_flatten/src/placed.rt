@@ -38,8 +38,7 @@ pub fn count_points(
     };
     find_missing(alloc, lib, top, &links)?;
     let order = find_recursion(alloc, lib, top, &links)?;
-    let counts = counts_by(alloc, lib, top, layers, &links, &order)?;
-    Ok(counts)
+    Ok(counts_by(alloc, lib, top, layers, &links, &order)?)
 }
 
 /// How many points of each of these layers the top places, in the order each structure comes behind those that it refers to.

@@ -9,9 +9,8 @@ ghost use Rattle.dpl_spec_layout.specs.Faults.{IsRefused};
 ghost use Rattle.dpl_reference.specs.Faults.{IsFaultBy};
 ghost use Rattle.dpl_flatten.specs.Drawn.{IsRefusal, IsRefusalWhere, IsRefusalAmong, IsRefusalOf, IsTakenAt, HasRefusalAt};
 
-use crate::role::{Role, role_of};
 use crate::shapes::{boundary_fault, path_fault};
-use dpl_reference::{array_fault, single_fault};
+use dpl_reference::{Role, array_fault, role_of, single_fault};
 use dpl_spec_layout::{ElementFault, FlattenFault, Layer};
 use dpl_syntax::{Element, Library};
 use std::alloc::{AllocError, Global};

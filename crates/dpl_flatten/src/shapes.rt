@@ -5,12 +5,11 @@ ghost use Rattle.dpl_spec_split.specs.Loops.{ArePointsWithin, IsRectilinear};
 ghost use Rattle.dpl_spec_elements.specs.Boundaries.{IsSlanted};
 ghost use Rattle.dpl_spec_layout.specs.Elements.{points_in, IsBoundaryFault, IsPathFault};
 ghost use Rattle.dpl_reference.specs.Faults.{IsFaultBy};
-ghost use Rattle.dpl_flatten.specs.Roles.{path_along};
+ghost use Rattle.dpl_reference.specs.Roles.{path_along};
 
-use crate::role::PathStyle;
 use dpl_base::Pt;
 use dpl_corners::Figure;
-use dpl_reference::point_at;
+use dpl_reference::{PathStyle, point_at};
 use dpl_shapes::{ShapeFault, check_path, is_level_or_upright};
 use dpl_spec_layout::ElementFault;
 use std::alloc::{AllocError, Global};

@@ -104,7 +104,8 @@ module _ (place : Place) (es : List Entry) (different : AreDifferent es) where
     )
 
     -- one more entry behind
-    pub pairs-more : (old new next : List (ℕ × ℕ)) → AddsPair place (entry_at es at) (entry_at es n) new next → Grows (IsMetWith place es at n) old new → Grows (IsMetWith place es at (n + 1)) old next
+    pub pairs-more : (old new next : List (ℕ × ℕ)) → AddsPair place (entry_at es at) (entry_at es n) new next → Grows (IsMetWith place es at n) old new
+        → Grows (IsMetWith place es at (n + 1)) old next
     pairs-more old new next (inl (met, is)) grows =
         grows-same (λ p. IsMetWith place es at n p ⊎ (ends (entry_at es at) (entry_at es n) ≡ p)) (IsMetWith place es at (n + 1)) old next (λ p. with-more p met)
         (grows-push (IsMetWith place es at n) old new next (ends (entry_at es at) (entry_at es n)) is not-yet grows)

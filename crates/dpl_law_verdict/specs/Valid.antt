@@ -45,7 +45,8 @@ pub record KeepMarks (marks : Option Marks) (layer a b : List Rect) : Type 0 whe
   pub on_b : (p : Pt) → Covers layer p → marked_b marks p → is_alone b a p
 
 abbrev pub ValidMasksKeepMarks : Type 0
-ValidMasksKeepMarks = (marks : Option Marks) (spacing : Spacing) (overlap : ℕ) (layer a b : List Rect) (head : Head) (pieces : List PieceLine) (stitches : List StitchLine) (gains : Option (List Gain))
+ValidMasksKeepMarks = (marks : Option Marks) (spacing : Spacing) (overlap : ℕ) (layer a b : List Rect)
+    → (head : Head) (pieces : List PieceLine) (stitches : List StitchLine) (gains : Option (List Gain))
     → IsVerdictOfMasks marks spacing overlap layer a b (Masks head pieces stitches gains) Valid → KeepMarks marks layer a b
 
 -- the vertex of the conflict graph at a place of a cycle

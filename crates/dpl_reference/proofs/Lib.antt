@@ -1,1 +1,2 @@
 pub mod Spacings
+pub mod RoleLaws

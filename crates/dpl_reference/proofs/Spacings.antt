@@ -1,5 +1,5 @@
 -- Spacings of copies.
-use Rattle.std.proofs.Common.{◌*◌, ◌/◌, ◌≡◌, ℕ, suc, ◌≤◌, ℤ, pos, negsuc, arith}
+use Rattle.std.proofs.Common.{◌*◌, ◌/◌, ◌≡◌, suc, ◌≤◌, ℤ, pos, negsuc, arith}
 use Rattle.std.specs.Prelude.{unsigned_abs, int_div}
 use Rattle.std.proofs.lemmas.Int.{ints}
 use Rattle.std.proofs.Math.Nat.{mul-div-le}

@@ -1,8 +1,9 @@
-//! What one reference of a layout is refused for, and the copies that it places, by STRANS, MAG, ANGLE, COLROW and XY of the GDSII Stream Format, Release 6.
+//! What an element is for a layer; what one reference is refused for, and the copies that it places, by STRANS, MAG, ANGLE, COLROW and XY of the GDSII Stream Format, Release 6.
 #![tactic(auto)]
 
 mod copies;
 mod faults;
+mod role;
 
 ghost use Rattle.std.specs.Prelude.{◌≡◌, ◌+◌, ◌*◌, ◌^◌, ◌≤◌, length};
 ghost use Rattle.dpl_spec_split.specs.Loops.{IsPointWithin};
@@ -10,6 +11,7 @@ ghost use Rattle.dpl_spec_layout.specs.Elements.{point_in};
 
 pub use crate::copies::{array_copies, single_copy};
 pub use crate::faults::{array_fault, single_fault};
+pub use crate::role::{PathStyle, Role, role_of};
 use dpl_base::Pt;
 use dpl_records::i32_at;
 

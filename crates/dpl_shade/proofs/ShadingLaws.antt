@@ -205,8 +205,8 @@ short-more overlap items n d old new b new_is n_in short h = rw new_is (record {
   ];
 })
 
-pub short-all : (spacing : Spacing) (overlap : ℕ) (items : List Item) (n : ℕ) (found : List Shade) (dead : List Bool) → length items ≤ n → n ≤ length items → found ≡ [] → AreShort overlap items n dead
-    → AreSound items spacing overlap found dead
+pub short-all : (spacing : Spacing) (overlap : ℕ) (items : List Item) (n : ℕ) (found : List Shade) (dead : List Bool) → length items ≤ n → n ≤ length items → found ≡ []
+    → AreShort overlap items n dead → AreSound items spacing overlap found dead
 short-all spacing overlap items n found dead all few none h = rw none (record {
   sized = (let a = h.sized in omega (arith, a, all, few));
   shades = λ s (k, k_in, is). absurd (omega (arith, k_in));

@@ -36,7 +36,8 @@ placed-items pair places m = (
   λ (f, s, c). (
     m.place,
     c,
-    ap (λ (n : ℕ). let o : Meeting = record { place = m.place; first = n; second = m.second } in o) f ∙ ap (λ (n : ℕ). let o : Meeting = record { place = m.place; first = pair.0; second = n } in o) s,
+    ap (λ (n : ℕ). let o : Meeting = record { place = m.place; first = n; second = m.second } in o) f
+        ∙ ap (λ (n : ℕ). let o : Meeting = record { place = m.place; first = pair.0; second = n } in o) s,
   ),
 )
 

@@ -16,8 +16,8 @@ loop-share-smaller g c =
 
 pub add_found-requires : goal.add_found-requires
 add_found-requires g c = share-sized c.args.join.now c.args.known (length c.pop.new.self.items) c.workers_for-count.result c.in_ok-share.field-0 c.loop-share.shades
-    (last-share c.args.join.now c.args.known c.workers_for-count.result c.loop-share.shares.items c.pop.new.self.items c.in-Some.share c.in_ok-share.field-0 c.loop-share.shades c.in-Some.ensures.items
-    c.in_ok-share.was c.loop-share.invariant)
+    (last-share c.args.join.now c.args.known c.workers_for-count.result c.loop-share.shares.items c.pop.new.self.items c.in-Some.share c.in_ok-share.field-0 c.loop-share.shades
+    c.in-Some.ensures.items c.in_ok-share.was c.loop-share.invariant)
     c.loop-share.invariant.sound
 
 pub loop-share-preserved : goal.loop-share-preserved

@@ -8,9 +8,9 @@ use Rattle.dpl_syntax.specs.Elements.{trans_seen}
 use Rattle.dpl_spec_layout.specs.declared.Layer.{Layer}
 use Rattle.dpl_spec_layout.specs.declared.ElementFault.{ElementFault}
 use Rattle.dpl_spec_layout.specs.Elements.{points_in, plain, loops_of, point_count, IsArray, IsReferenceFault, IsBoundaryFault, IsPathFault, IsRefusedFor}
-use Rattle.dpl_flatten.specs.declared.role.PathStyle.{PathStyle}
-use Rattle.dpl_flatten.specs.declared.role.Role.{Role}
-use Rattle.dpl_flatten.specs.declared.role.Role.TheVariants.{Nothing, Boundary, Path, Single, Array}
+use Rattle.dpl_reference.specs.declared.role.PathStyle.{PathStyle}
+use Rattle.dpl_reference.specs.declared.role.Role.{Role}
+use Rattle.dpl_reference.specs.declared.role.Role.TheVariants.{Nothing, Boundary, Path, Single, Array}
 
 -- a path through the points in the data of XY
 abbrev pub path_along : PathStyle → List ℕ → PathElement

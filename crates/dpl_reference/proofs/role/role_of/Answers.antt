@@ -2,8 +2,8 @@ use Rattle.std.proofs.Common.{refl, sym, rules}
 use Rattle.std.specs.Prelude.{FitsSigned}
 use Rattle.std.specs.Int.{w16, w32}
 use Rattle.std.proofs.lemmas.Int.{to_z-of_z}
-use Rattle.dpl_flatten.proofs.RoleLaws.{path_role}
-use Rattle.dpl_flatten.proofs.role.role_of.Goals as goal
+use Rattle.dpl_reference.proofs.RoleLaws.{path_role}
+use Rattle.dpl_reference.proofs.role.role_of.Goals as goal
 
 pub returns-in-Path : goal.returns-in-Path
 returns-in-Path c =

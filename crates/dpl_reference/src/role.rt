@@ -3,23 +3,23 @@
 ghost use Rattle.std.specs.Prelude.{◌≡◌};
 ghost use Rattle.dpl_syntax.specs.Elements.{body_seen};
 ghost use Rattle.dpl_spec_layout.specs.Elements.{is_on as is_on_layer};
-ghost use Rattle.dpl_flatten.specs.Roles.{IsRoleOf};
+ghost use Rattle.dpl_reference.specs.Roles.{IsRoleOf};
 
 use dpl_spec_layout::Layer;
 use dpl_syntax::{Body, Trans};
 
 /// The width, type and extensions of a path, in database units; what the file leaves out is 0.
 #[derive(Clone, Copy)]
-pub(crate) struct PathStyle {
-    pub(crate) width: i32,
-    pub(crate) kind: i16,
-    pub(crate) begin_ext: i32,
-    pub(crate) end_ext: i32,
+pub struct PathStyle {
+    pub width: i32,
+    pub kind: i16,
+    pub begin_ext: i32,
+    pub end_ext: i32,
 }
 
 /// What an element is for the chosen layer. `xy` is the data of its XY.
 #[derive(Clone, Copy)]
-pub(crate) enum Role<'a> {
+pub enum Role<'a> {
     /// A text, a node, or a shape that doesn't lie on the layer.
     Nothing,
     /// A boundary or box.
@@ -45,6 +45,7 @@ pub(crate) enum Role<'a> {
 }
 
 /// Whether an element of this layer and datatype (of a box, its box type) lies on the chosen layer.
+#[inline(always)]
 fn is_on(chosen: Layer, layer: u16, datatype: u16) -> bool
     ensures { result ≡ is_on_layer chosen layer datatype }
 {
@@ -53,7 +54,7 @@ fn is_on(chosen: Layer, layer: u16, datatype: u16) -> bool
 
 /// What an element is for the chosen layer.
 #[inline(always)]
-pub(crate) fn role_of<'a>(chosen: Layer, body: &Body<'a>) -> Role<'a>
+pub fn role_of<'a>(chosen: Layer, body: &Body<'a>) -> Role<'a>
     ensures { IsRoleOf chosen (body_seen body.now) result }
 {
     match *body {

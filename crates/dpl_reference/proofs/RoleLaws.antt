@@ -5,9 +5,9 @@ use Rattle.dpl_spec_elements.specs.Paths.{same, path_rects, corners_of}
 use Rattle.dpl_spec_format.specs.Tree.{is_path}
 use Rattle.dpl_spec_layout.specs.declared.Layer.{Layer}
 use Rattle.dpl_spec_layout.specs.Elements.{is_on}
-use Rattle.dpl_flatten.specs.declared.role.PathStyle.{PathStyle}
-use Rattle.dpl_flatten.specs.declared.role.Role.TheVariants.{Path}
-use Rattle.dpl_flatten.specs.Roles.{IsRoleOf, path_along}
+use Rattle.dpl_reference.specs.declared.role.PathStyle.{PathStyle}
+use Rattle.dpl_reference.specs.declared.role.Role.TheVariants.{Path}
+use Rattle.dpl_reference.specs.Roles.{IsRoleOf, path_along}
 
 count_on : (flat : Bool) (n : ℕ) → (if true && not flat then n else 0) ≡ (if flat then 0 else n)
 count_on true n = refl
