@@ -1,5 +1,5 @@
 -- Items that follow one another, each read from where the one before it ended.
-use Rattle.std.proofs.Common.{◌≡◌, ℕ, List, [], ◌∷◌, ◌++◌, Option, Some, None, Result, Ok, Err, refl, sym, ap, ◌∙◌}
+use Rattle.std.proofs.Common.{◌≡◌, ℕ, List, [], ◌∷◌, ◌++◌, Option, Some, None, Result, Ok, refl, sym, ap, ◌∙◌}
 use Rattle.std.specs.Option.{option_map}
 use Rattle.dpl_spec_format.specs.Kinds as kinds
 use Rattle.dpl_spec_format.specs.Faults.{Fault}
@@ -8,7 +8,7 @@ use Rattle.dpl_spec_format.specs.Tree.{body_of}
 use Rattle.dpl_records.specs.Seen.{seen}
 use Rattle.dpl_records.specs.declared.record.Record.{Record as Found}
 use Rattle.dpl_syntax.specs.declared.reader.Reader.{Reader}
-use Rattle.dpl_syntax.specs.Reading.{◌>>=◌, Slots, Item, must, may, transformed, points, take, take_if, take_points, one_slot, or_else, item_at, items_at, own_items_of, body_behind_flags, pick}
+use Rattle.dpl_syntax.specs.Reading.{◌>>=◌, Slots, Item, must, may, points, take, take_if, take_points, one_slot, or_else, item_at, items_at, own_items_of, body_behind_flags, pick}
 
 -- these items are at a place, and this is what they fill and where they end
 abbrev pub Fills : List ℕ → List Item → ℕ → Slots → ℕ → Type 0

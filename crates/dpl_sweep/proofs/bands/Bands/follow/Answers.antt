@@ -1,4 +1,4 @@
-use Rattle.std.proofs.Common.{◌≡◌, refl, rules, arith, w32, w64, FitsSigned, to_z, ◌+ℤ◌}
+use Rattle.std.proofs.Common.{refl, rules, arith, w32, w64, FitsSigned, ◌+ℤ◌}
 use Rattle.std.proofs.lemmas.Int.{ints, to_z-of_z}
 use Rattle.dpl_sweep.proofs.BandLaws.{follows-one, follows-cut}
 use Rattle.dpl_sweep.proofs.bands.Bands.follow.Goals as goal
