@@ -174,7 +174,7 @@ fn mark_live(ends: &mut [Ends], items: &[Item], dead: &[bool], start: usize, end
     mark_part(ends, items, start, end);
 }
 
-/// The ends of the items that aren't dead. Nothing is looked for where all items of an owner are dead.
+/// The ends of the items that aren't dead. Nothing is looked for where all items of an owner are dead. The error: out of memory.
 pub fn ends_of(alloc: Global, items: &[Item], dead: &[bool]) -> Result<Vec<Ends>, AllocError>
     requires rise { OwnersRise items.now }
     requires order { AreInOrder items.now }

@@ -60,7 +60,7 @@ fn add_span(spans: &mut Vec<Span>, from: i64, to: i64) -> Result<(), AllocError>
     Ok(())
 }
 
-/// Lists the longest spans between rows `low` and `high` that no span meets, in place of what `free` had.
+/// Lists the longest spans between rows `low` and `high` that no span meets, in place of what `free` had. The error: out of memory.
 pub fn gaps(free: &mut Vec<Span>, spans: &[Span], low: i64, high: i64) -> Result<(), AllocError>
     requires tall { AreTall spans.now }
     requires rise { RiseByFrom spans.now }

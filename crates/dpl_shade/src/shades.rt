@@ -27,7 +27,7 @@ pub struct Shade {
     pub span: Span,
 }
 
-/// The shades of items, and which items need none any more, since no zone stands in them.
+/// The shades of items, by an item's number, and which items are dead: those that are too short for a zone, or of which one shadow leaves too few rows for one. A dead item needs no shade any more. Spacing and overlap are in database units.
 #[derive(Drop)]
 pub struct Shades {
     pub spacing: Spacing,
@@ -44,7 +44,7 @@ pub struct Portion {
     pub end: usize,
 }
 
-/// Whether the slab has too few rows for a zone.
+/// Whether the slab has too few rows for a zone of that overlap, in database units.
 pub fn is_short(slab: &Rect, overlap: u32) -> bool
     requires { IsSolidWithin farthest slab.now }
     ensures { IsTrue result ↔ (slab.now.y1 <ℤ (slab.now.y0 +ℤ pos (overlap + 2))) }
@@ -256,7 +256,7 @@ fn sort_by_number(found: &mut Vec<Shade>)
     sort_by_key(found, |s| s.number);
 }
 
-/// The shades of the items of a join.
+/// The shades of the items of a join, those of one item behind one another, by number. Spacing and overlap are in database units. The error: out of memory.
 pub fn shades_of(
     alloc: Global,
     join: &Join,
@@ -275,7 +275,7 @@ pub fn shades_of(
     Ok(shades)
 }
 
-/// The shades of the items of a join, as `shades_of` finds them, those of each strip by one of so many workers. With one worker no thread is made.
+/// The shades of the items of a join, as `shades_of` finds them, those of each strip by one of so many workers. With one worker no thread is made. The error: out of memory.
 pub fn shades_by<R: Threads + Sync>(
     rt: &R,
     alloc: Global,
@@ -360,7 +360,7 @@ fn list_rows(spans: &mut Vec<Span>, found: &[Shade], at: Portion) -> Result<(), 
     Ok(())
 }
 
-/// Lists the rows of an item's shades, by lowest row, in place of what `spans` had.
+/// Lists the rows of an item's shades, by lowest row, in place of what `spans` had. The error: out of memory.
 pub fn rows_at(spans: &mut Vec<Span>, found: &[Shade], at: Portion) -> Result<(), AllocError>
     requires portion { IsPortion found.now at }
     requires tall { (s : Shade) → Contains found.now s → s.span.from <ℤ s.span.to }

@@ -28,7 +28,7 @@ pub struct Noted {
 }
 
 impl Noted {
-    /// Nothing noted of so many zones.
+    /// Nothing noted of so many zones. The error: out of memory.
     pub fn new(alloc: Global, count: usize) -> Result<Noted, AllocError>
         ensures firsts { IfOk result (λ n. length n.firsts.items ≡ count) }
         ensures seconds { IfOk result (λ n. length n.seconds.items ≡ count) }
@@ -183,7 +183,7 @@ fn seconds_of(
     Ok(seconds)
 }
 
-/// The pieces on the two sides of each of these zones of a feature; those on one side by a thread of their own where there are two, if one can be made.
+/// The pieces on the two sides of each of these zones of a feature; those on one side by a thread of their own where there are two, if one can be made. The error: out of memory; 2^32 pieces or more are refused as that, which so many would be.
 pub fn sides_of<R: Threads>(
     rt: &R,
     alloc: Global,

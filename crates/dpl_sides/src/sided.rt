@@ -26,7 +26,7 @@ impl Sided {
     }
 }
 
-/// The zones of these numbers, each with the numbers of the pieces on its two sides.
+/// The zones of these numbers, each with the numbers of the pieces on its two sides. The error: out of memory.
 pub fn with_sides(
     alloc: Global,
     own: &[u32],

@@ -34,7 +34,7 @@ fn sort_by_least(alloc: Global, pieces: &mut Vec<Piece>) -> Result<(), AllocErro
     Ok(())
 }
 
-/// Sorts pieces by their least squares. The numbers that were noted are those of pieces by place; returns their places once they are sorted.
+/// Sorts pieces by their least squares. The numbers that were noted are those of pieces by place; returns their places once they are sorted. The error: out of memory; 2^32 pieces or more are refused as that, which so many would be.
 pub fn sort_with_sides(
     alloc: Global,
     pieces: &mut Vec<Piece>,

@@ -1,4 +1,4 @@
-//! Layers so large that every stage is shared among workers, which no answer shows.
+//! Layers so large that workers may share the sweep, the columns, the zones, near slabs, edges, pieces, and both files. No answer shows it.
 
 use dpl_host::MemHost;
 use dpl_test_runs::answer;
@@ -20,7 +20,7 @@ const TWO: &str = "dpl split --layer 1 --rule 30 --overlap 10 --workers 2 in out
 
 const FOUR: &str = "dpl split --layer 1 --rule 30 --overlap 10 --workers 4 in out cert";
 
-/// A large layer with these rectangles, and what is said of it. A second program, written by another hand, says the same.
+/// A large layer with these rectangles, and what is said of it. A second program, in plain Rust and without proofs, says the same.
 #[derive(Clone, Copy)]
 struct Large {
     more: &'static [Rectangle],
