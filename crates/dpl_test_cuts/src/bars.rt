@@ -1,9 +1,12 @@
-//! The squares of rectangles that a test lists.
+//! Rectangles that a test lists: their squares, and the pieces of a layer of them.
 ghost use Rattle.std.specs.Prelude.{◌≤◌, ◌<ℤ◌, IfOk, IfSome, IsTrue, OnOk, unsigned_abs};
 ghost use Rattle.dpl_spec_split.specs.Loops.{farthest, IsRectWithin, AreRectsWithin};
 
 use dpl_base::{FARTHEST, Rect, Spacing};
+use dpl_feature::features;
+use dpl_piece::{Pieces, pieces};
 use dpl_slabs::Slabs;
+use dpl_zone::zones;
 use std::alloc::{AllocError, Global};
 
 /// How far apart the worked layouts stay, but where a test says another spacing.
@@ -14,6 +17,17 @@ pub const SPACING: Spacing = Spacing {
 
 /// The corners of a rectangle: left, low, right, high.
 pub type Corners = (i32, i32, i32, i32);
+
+/// A long bar, and two that stand over its ends.
+pub const BARS: [Corners; 3] = [(0, 0, 158, 20), (0, 40, 50, 60), (108, 40, 158, 60)];
+
+/// A square with a hole in its middle.
+pub const RING: [Corners; 4] = [
+    (0, 0, 100, 40),
+    (0, 40, 40, 60),
+    (60, 40, 100, 60),
+    (0, 60, 100, 100),
+];
 
 /// Whether the columns, or the rows, are some of a layer's.
 fn is_span(low: i32, high: i32) -> bool
@@ -80,4 +94,12 @@ pub fn are(rects: &[Rect], corners: &[Corners]) -> bool {
             .iter()
             .zip(corners)
             .all(|(r, c)| (r.x0, r.y0, r.x1, r.y1) == *c)
+}
+
+/// The pieces of a layer by a rule of 30 and an overlap of 10.
+pub fn cut(alloc: Global, layer: &[Corners]) -> Result<Pieces, AllocError> {
+    let layer = set_of(alloc, layer)?;
+    let features = features(alloc, &layer)?;
+    let zones = zones(alloc, &features, SPACING, 10, &Slabs::empty(alloc))?;
+    pieces(alloc, features, zones)
 }

@@ -1,5 +1,5 @@
 //! Worked layouts with squares that are fixed to a mask.
-use crate::bars::{Corners, SPACING, set_of};
+use crate::bars::{BARS, Corners, SPACING, set_of};
 use crate::zones::are_zones;
 use dpl_base::Edge;
 use dpl_edges::{mark_edges, shifted};
@@ -9,9 +9,7 @@ use dpl_zone::zones;
 use std::alloc::{AllocError, Global};
 use std::test::Fail;
 
-/// Bars with one zone, in the columns from 74 on, between the upper two.
-const BARS: [Corners; 3] = [(0, 0, 158, 20), (0, 40, 50, 60), (108, 40, 158, 60)];
-
+/// The zone of the bars, in the columns from 74 on, between the upper two.
 const ZONE: (Corners, u64) = ((74, 0, 84, 20), 0);
 
 /// A square with neighbours at two corners: of its two zones, one across the other, the vertical one is dropped.

@@ -1,18 +1,15 @@
 //! Features of small layers, found by workers, and the same found by one.
 
-use dpl_base::Rect;
 use dpl_feature::features;
 use dpl_pool::{Gate, OpenGate};
-use dpl_slabs::{Parts, Slabs};
+use dpl_slabs::Parts;
+use dpl_test_cuts::{Corners, set_of};
 use dpl_test_gates::Holds;
 use dpl_wide::features_by;
 use std::alloc::{AllocError, Global};
 use std::sync::Wait;
 use std::test::*;
 use std::thread::Threads;
-
-/// The corners of a rectangle: left, low, right, high.
-type Corners = (i16, i16, i16, i16);
 
 /// One bar, which two tiles of side 5 meet.
 const BAR: [Corners; 1] = [(0, 0, 10, 5)];
@@ -50,31 +47,6 @@ const ROWS: [(&[Corners], u32, u32, usize); 12] = [
     (&COMBS, 1_073_741_824, 2, 3),
 ];
 
-/// The squares of a rectangle, where it has some.
-fn one(alloc: Global, corners: Corners) -> Result<Slabs, AllocError> {
-    let (x0, y0, x1, y1) = corners;
-    if x0 < x1 && y0 < y1 {
-        let rect = Rect {
-            x0: x0 as i32,
-            y0: y0 as i32,
-            x1: x1 as i32,
-            y1: y1 as i32,
-        };
-        return Slabs::one(alloc, rect);
-    }
-    Ok(Slabs::empty(alloc))
-}
-
-/// The squares of some rectangles.
-fn layer_of(alloc: Global, rects: &[Corners]) -> Result<Slabs, AllocError> {
-    let mut layer = Slabs::empty(alloc);
-    for corners in rects {
-        let next = one(alloc, *corners)?;
-        layer = layer.union(alloc, &next)?;
-    }
-    Ok(layer)
-}
-
 /// Whether two lists have the same sets, one after the other.
 fn are_same(parts: &Parts, others: &Parts) -> bool {
     let (parts, others) = (parts.items(), others.items());
@@ -93,7 +65,7 @@ fn found<R: Threads + Wait + Sync, G: Gate + Sync>(
     if tile < 1 || workers < 1 || workers > 64 {
         return Ok(None);
     }
-    let layer = layer_of(alloc, rects)?;
+    let layer = set_of(alloc, rects)?;
     let parts = features_by(rt, alloc, &layer, tile, workers, gate)?;
     if !are_same(&parts, &features(alloc, &layer)?) {
         return Ok(None);

@@ -1,36 +1,13 @@
-//! Layers with their zones, the pieces that these leave, and the masks of coloured pieces.
-use crate::bars::{Corners, SPACING, are, set_of};
+//! Layers with their zones, and the pieces that these leave, found by workers.
 use dpl_base::{Id, Pt};
 use dpl_feature::features;
-use dpl_masks::{Masks, masks};
-use dpl_orient::{Colours, Mask};
-use dpl_piece::{Pieces, bare_pieces_by, pieces};
+use dpl_piece::{Pieces, bare_pieces_by};
 use dpl_slabs::Slabs;
+use dpl_test_cuts::{BARS, Corners, RING, SPACING, are, cut, set_of};
 use dpl_zone::zones;
 use std::alloc::{AllocError, Global};
 use std::test::Fail;
 use std::thread::Threads;
-
-/// A long bar, and two that stand over its ends.
-const BARS: [Corners; 3] = [(0, 0, 158, 20), (0, 40, 50, 60), (108, 40, 158, 60)];
-
-/// The same bars twice, one above the other.
-const BARS_TWICE: [Corners; 6] = [
-    (0, 0, 158, 20),
-    (0, 40, 50, 60),
-    (108, 40, 158, 60),
-    (0, 1000, 158, 1020),
-    (0, 1040, 50, 1060),
-    (108, 1040, 158, 1060),
-];
-
-/// A square with a hole in its middle.
-const RING: [Corners; 4] = [
-    (0, 0, 100, 40),
-    (0, 40, 40, 60),
-    (60, 40, 100, 60),
-    (0, 60, 100, 100),
-];
 
 /// A square with a hole whose upper edge has a step, so that only what is below the hole is a stretch.
 const STEPPED_RING: [Corners; 5] = [
@@ -82,15 +59,7 @@ const THREE_BROKEN: [Corners; 11] = [
     (0, 2060, 100, 2100),
 ];
 
-/// The pieces of a layer by a rule of 30 and an overlap of 10.
-fn cut(alloc: Global, layer: &[Corners]) -> Result<Pieces, AllocError> {
-    let layer = set_of(alloc, layer)?;
-    let features = features(alloc, &layer)?;
-    let zones = zones(alloc, &features, SPACING, 10, &Slabs::empty(alloc))?;
-    pieces(alloc, features, zones)
-}
-
-/// The same pieces, found by so many workers.
+/// The pieces of a layer by a rule of 30 and an overlap of 10, found by so many workers.
 fn cut_by<R: Threads + Sync>(
     rt: &R,
     alloc: Global,
@@ -309,86 +278,6 @@ fn workers_note_the_same_sides(rt: HostRuntime) -> Result<(), Fail> {
     for workers in WORKERS {
         let cut = cut_by(&rt, rt.alloc(), &rects, workers)?;
         assert!(rt; cut.sides() == alone.sides(), "by {workers} workers");
-    }
-    Ok(())
-}
-
-/// The masks of a layer whose pieces have these letters, where there is one for each piece.
-fn painted(
-    alloc: Global,
-    layer: &[Corners],
-    letters: &[Mask],
-) -> Result<Option<Masks>, AllocError> {
-    let pieces = cut(alloc, layer)?;
-    if letters.len() != pieces.parts().items().len() {
-        return Ok(None);
-    }
-    let colours = Colours::of(Vec::from_slice(alloc, letters)?);
-    Ok(Some(masks(alloc, pieces, &colours)?))
-}
-
-/// The first mask.
-const A: Mask = Mask::A;
-
-/// The second mask.
-const B: Mask = Mask::B;
-
-/// A layer, the letters of its pieces, and both masks.
-const PAINTED: [(&[Corners], &[Mask], &[Corners], &[Corners]); 6] = [
-    (&[], &[], &[], &[]),
-    // no zone cuts the feature
-    (&[(3, 4, 5, 6)], &[B], &[], &[(3, 4, 5, 6)]),
-    // a zone cuts the long bar: both pieces on one mask, and one on each
-    (
-        &BARS,
-        &[A, A, B, B],
-        &[(0, 0, 158, 20)],
-        &[(0, 40, 50, 60), (108, 40, 158, 60)],
-    ),
-    (
-        &BARS,
-        &[A, B, B, A],
-        &[(0, 0, 84, 20), (108, 40, 158, 60)],
-        &[(74, 0, 158, 20), (0, 40, 50, 60)],
-    ),
-    // all three kinds of features
-    (
-        &BARS_TWICE,
-        &[A, B, B, A, B, B, A, A],
-        &[
-            (0, 0, 84, 20),
-            (108, 40, 158, 60),
-            (0, 1040, 50, 1060),
-            (108, 1040, 158, 1060),
-        ],
-        &[(74, 0, 158, 20), (0, 40, 50, 60), (0, 1000, 158, 1020)],
-    ),
-    // four stitches
-    (
-        &RING,
-        &[A, B, B, A],
-        &[
-            (0, 0, 55, 40),
-            (0, 40, 40, 55),
-            (60, 45, 100, 60),
-            (45, 60, 100, 100),
-        ],
-        &[
-            (45, 0, 100, 40),
-            (60, 40, 100, 55),
-            (0, 45, 40, 60),
-            (0, 60, 55, 100),
-        ],
-    ),
-];
-
-#[test]
-fn features_are_painted(rt: HostRuntime) -> Result<(), Fail> {
-    for (layer, letters, on_a, on_b) in PAINTED {
-        let found = painted(rt.alloc(), layer, letters)?;
-        let masks = found.ok_or("each piece has its letter")?;
-        assert!(rt; are(masks.a.rects(), on_a));
-        assert!(rt; are(masks.b.rects(), on_b));
     }
     Ok(())
 }

@@ -1,8 +1,8 @@
 //! What is near in plans, and zones for which several workers find it.
-use crate::bars::{Corners, SPACING, set_of};
 use dpl_base::{Id, Zone};
 use dpl_feature::features;
 use dpl_slabs::{Parts, Slabs};
+use dpl_test_cuts::{Corners, SPACING, set_of};
 use dpl_tile::plan;
 use dpl_zone::{zones, zones_by};
 use std::alloc::{AllocError, Global};

@@ -2,9 +2,9 @@
 ghost use Rattle.std.specs.Prelude.{IfOk};
 ghost use Rattle.dpl_spec_split.specs.Loops.{farthest, AreRectsWithin};
 
-use crate::bars::{Corners, rects_of};
 use dpl_base::Rect;
 use dpl_slabs::Slabs;
+use dpl_test_cuts::{Corners, rects_of};
 use std::alloc::{AllocError, Global};
 use std::test::Fail;
 
