@@ -6,6 +6,7 @@ use Rattle.dpl_spec_split.specs.declared.Rect.{Rect}
 use Rattle.dpl_upward.proofs.ActiveLaws.{active-none, active-next, fills-lower}
 use Rattle.dpl_upward.proofs.FrontLaws.{up-to-none}
 use Rattle.dpl_upward.proofs.UpwardLaws.{swept-first, swept-next, swept-all}
+use Rattle.std.proofs.lemmas.Result.{IfOk-from_err}
 use Rattle.dpl_upward.proofs.upward.pieces_upward.Goals as goal
 
 abbrev zero : Rect
@@ -54,3 +55,64 @@ returns c =
     let top : FitsSigned w32 c.top_of-top.result = search rules in
     let over = rw (to_z-of_z w32 c.top_of-top.result top) at c.loop-low-test.false in
     swept-all _ _ _ _ _ c.loop-low.invariant.swept c.loop-low.invariant.front c.top_of-top.result (grind (arith, ints, over)) c.top_of-top.ensures
+
+pub begin-requires-clause-rise : goal.begin-requires-clause-rise
+begin-requires-clause-rise c = c.requires.rects
+
+pub begin-requires-clause-active : goal.begin-requires-clause-active
+begin-requires-clause-active c = c.loop-low.invariant.bars
+
+pub begin-requires-in-loop-low-clause-rise : goal.begin-requires-in-loop-low-clause-rise
+begin-requires-in-loop-low-clause-rise c = c.requires.holes
+
+pub begin-requires-in-loop-low-clause-active : goal.begin-requires-in-loop-low-clause-active
+begin-requires-in-loop-low-clause-active c = c.loop-low.invariant.gaps
+
+pub end-requires-clause-order : goal.end-requires-clause-order
+end-requires-clause-order c = (let h = c.loop-low-test.true in omega (arith, ints, h))
+
+pub end-requires-clause-rise : goal.end-requires-clause-rise
+end-requires-clause-rise c = c.requires.rects
+
+pub end-requires-clause-begun : goal.end-requires-clause-begun
+end-requires-clause-begun c = c.in_ok-begin.ensures
+
+pub end-high-requires-clause-order : goal.end-high-requires-clause-order
+end-high-requires-clause-order c =
+    let top : FitsSigned w32 c.end.result = search rules in
+    rw (to_z-of_z w32 c.end.result top) c.end.ensures.above
+
+pub end-high-requires-clause-rise : goal.end-high-requires-clause-rise
+end-high-requires-clause-rise c = c.requires.holes
+
+pub end-high-requires-clause-begun : goal.end-high-requires-clause-begun
+end-high-requires-clause-begun c = c.in_ok-begin-2.ensures
+
+pub put_band-requires-clause-order : goal.put_band-requires-clause-order
+put_band-requires-clause-order c =
+    let high : FitsSigned w32 c.end-high.result = search rules in
+    rw (to_z-of_z w32 c.end-high.result high) c.end-high.ensures.above
+
+pub put_band-requires-clause-rise : goal.put_band-requires-clause-rise
+put_band-requires-clause-rise c = rw c.deref.ensures.value c.in_ok-begin.ensures.rise
+
+pub put_band-requires-clause-gaps_rise : goal.put_band-requires-clause-gaps_rise
+put_band-requires-clause-gaps_rise c = rw c.deref-in-loop-low.ensures.value c.in_ok-begin-2.ensures.rise
+
+pub put_band-requires-clause-below : goal.put_band-requires-clause-below
+put_band-requires-clause-below c = c.loop-low.invariant.front
+
+pub returns-then-steps-saturating_add : goal.returns-then-steps-saturating_add
+returns-then-steps-saturating_add c = tt
+
+pub returns-in_err-with_capacity : goal.returns-in_err-with_capacity
+returns-in_err-with_capacity c = IfOk-from_err _ _ c.from_residual.ensures.0
+
+pub returns-in_err-begin : goal.returns-in_err-begin
+returns-in_err-begin c = IfOk-from_err _ _ c.from_residual-in_err-begin.ensures.0
+
+pub returns-in_err-begin-2 : goal.returns-in_err-begin-2
+returns-in_err-begin-2 c = IfOk-from_err _ _ c.from_residual-in_err-begin-2.ensures.0
+
+pub returns-in_err-put_band : goal.returns-in_err-put_band
+returns-in_err-put_band c = IfOk-from_err _ _ c.from_residual-in_err-put_band.ensures.0

@@ -1,11 +1,12 @@
-use Rattle.std.proofs.Common.{◌<◌, length, get_or, refl, rules, w32, FitsSigned, arith}
+use Rattle.std.proofs.Common.{◌≡◌, ◌<◌, [], length, get_or, refl, rules, w32, FitsSigned, arith}
 use Rattle.std.specs.Prelude.{pos, ◌+ℤ◌, ◌<ℤ◌}
 use Rattle.std.proofs.lemmas.Bool.{false≢true}
 use Rattle.std.proofs.lemmas.Int.{ints, by_lt_z, to_z-of_z}
-use Rattle.std.proofs.lemmas.List.{get_or_default}
+use Rattle.std.proofs.lemmas.List.{get_or_default, nil_from_length}
 use Rattle.dpl_spec_split.specs.declared.Rect.{Rect}
 use Rattle.dpl_upward.proofs.FrontLaws.{front-first}
-use Rattle.dpl_upward.proofs.UpwardLaws.{bar-across, passed-none, passed-on, put-first, put-next, put-wider, put-all}
+use Rattle.dpl_upward.proofs.UpwardLaws.{bar-across, passed-none, passed-on, put-first, put-next, put-wider, put-all, put-none, bar_solid}
+use Rattle.std.proofs.lemmas.Result.{IfOk-from_err}
 use Rattle.dpl_upward.proofs.upward.Front.put_band.Goals.{then-is_right+in_ok-passed, else-is_right}
 use Rattle.dpl_upward.proofs.upward.Front.put_band.Goals as goal
 
@@ -112,3 +113,57 @@ returns-clause-here c =
     let before = rw (row, high) at c.loop-i.invariant.put in
     let next : c.loop-i.bar.x1 <ℤ (c.loop-i.bar.x1 +ℤ pos 1) = omega (arith, ints) in
     rw before.last at (c.in_ok-put_without.ensures.front (c.loop-i.bar.x1 +ℤ pos 1) next).here
+
+
+pub bounds-active-0 : goal.bounds-active-0
+bounds-active-0 c = let h = c.is_empty.ensures in let g = c.if-is_empty.false in grind (arith, h, g)
+
+pub bounds-active-i : goal.bounds-active-i
+bounds-active-i c = c.loop-i-test.true
+
+pub bounds-active-i-then-is_right : goal.bounds-active-i-then-is_right
+bounds-active-i-then-is_right c = c.loop-i-test.true
+
+pub bounds-active-i-else-is_right : goal.bounds-active-i-else-is_right
+bounds-active-i-else-is_right c = c.loop-i-test.true
+
+pub put_without-requires-clause-solid : goal.put_without-requires-clause-solid
+put_without-requires-clause-solid c =
+    let row = to_z-of_z w32 c.args.low c.ranges.low in
+    let high = to_z-of_z w32 c.args.high c.ranges.high in
+    bar_solid _ _ _ _ c.requires.order c.requires.rise c.requires.across _ _ _ _ (rw (row, high) at c.loop-i.invariant.put)
+
+pub put_without-requires-clause-rise : goal.put_without-requires-clause-rise
+put_without-requires-clause-rise c = c.requires.gaps_rise
+
+pub put_without-requires-clause-passed : goal.put_without-requires-clause-passed
+put_without-requires-clause-passed c = c.loop-i.invariant.passed
+
+pub put_without-requires-2-clause-solid : goal.put_without-requires-2-clause-solid
+put_without-requires-2-clause-solid c =
+    let row = to_z-of_z w32 c.args.low c.ranges.low in
+    let high = to_z-of_z w32 c.args.high c.ranges.high in
+    bar_solid _ _ _ _ c.requires.order c.requires.rise c.requires.across _ _ _ _ (rw (row, high) at c.loop-i.invariant.put)
+
+pub put_without-requires-2-clause-rise : goal.put_without-requires-2-clause-rise
+put_without-requires-2-clause-rise c = c.requires.gaps_rise
+
+pub put_without-requires-2-clause-passed : goal.put_without-requires-2-clause-passed
+put_without-requires-2-clause-passed c = c.loop-i.invariant.passed
+
+pub returns-then-is_empty-clause-adds : goal.returns-then-is_empty-clause-adds
+returns-then-is_empty-clause-adds c =
+    let none : length c.args.active.now ≡ 0 = (let h = c.is_empty.ensures in let g = c.if-is_empty.true in grind (arith, h, g)) in
+    rw c.rise.ensures.pieces (put-none _ _ _ _ c.requires.order _ (nil_from_length c.args.active.now none))
+
+pub returns-in_err-passed-clause-adds : goal.returns-in_err-passed-clause-adds
+returns-in_err-passed-clause-adds c = IfOk-from_err _ _ c.from_residual.ensures.0
+
+pub returns-in_err-passed-clause-here : goal.returns-in_err-passed-clause-here
+returns-in_err-passed-clause-here c = IfOk-from_err _ _ c.from_residual.ensures.0
+
+pub returns-in_err-put_without-clause-adds : goal.returns-in_err-put_without-clause-adds
+returns-in_err-put_without-clause-adds c = IfOk-from_err _ _ c.from_residual-in_err-put_without.ensures.0
+
+pub returns-in_err-put_without-clause-here : goal.returns-in_err-put_without-clause-here
+returns-in_err-put_without-clause-here c = IfOk-from_err _ _ c.from_residual-in_err-put_without.ensures.0
