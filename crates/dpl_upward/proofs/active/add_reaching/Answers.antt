@@ -5,6 +5,7 @@ use Rattle.std.proofs.lemmas.List.{get_or_default, take_all}
 use Rattle.dpl_spec_split.specs.declared.Rect.{Rect}
 use Rattle.std.proofs.lemmas.Bool.{false≢true}
 use Rattle.dpl_upward.proofs.ActiveLaws.{adds-reach, adds-skip}
+use Rattle.std.proofs.lemmas.Result.{IfOk-from_err}
 use Rattle.dpl_upward.proofs.active.add_reaching.Goals.{then-is_reaching+in_ok-push, else-is_reaching}
 use Rattle.dpl_upward.proofs.active.add_reaching.Goals as goal
 
@@ -29,3 +30,6 @@ loop-r-preserved c =
 
 pub returns : goal.returns
 returns c = rw (to_z-of_z w32 c.args.low c.ranges.low, take_all c.loop-r.r-index c.args.rects.now (omega arith)) at c.loop-r.invariant
+
+pub returns-in_err-push : goal.returns-in_err-push
+returns-in_err-push c = IfOk-from_err _ _ c.from_residual.ensures.0

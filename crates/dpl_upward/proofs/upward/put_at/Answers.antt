@@ -6,6 +6,7 @@ use Rattle.dpl_upward.specs.Fronts.{piece_at}
 use Rattle.dpl_order.specs.Joins.{taller}
 use Rattle.dpl_order.specs.Pieces.{Continues}
 use Rattle.dpl_upward.proofs.FrontLaws.{zero}
+use Rattle.std.proofs.lemmas.Result.{IfOk-from_err}
 use Rattle.dpl_upward.proofs.upward.put_at.Goals.{else-number-len-via-then-number-len+else-continues, else-number-len-via-else-number-len}
 use Rattle.dpl_upward.proofs.upward.put_at.Goals as goal
 
@@ -41,3 +42,6 @@ returns c =
       last = search rules;
       added = c.in_ok-push.ensures.items;
     })
+
+pub returns-in_err-push : goal.returns-in_err-push
+returns-in_err-push c = IfOk-from_err _ _ c.from_residual.ensures.0

@@ -1,4 +1,4 @@
-use Rattle.std.proofs.Common.{refl, rules, w32, FitsSigned}
+use Rattle.std.proofs.Common.{rules, w32, FitsSigned}
 use Rattle.std.proofs.lemmas.Int.{to_z-of_z}
 use Rattle.dpl_upward.proofs.UpwardLaws.{max-known}
 

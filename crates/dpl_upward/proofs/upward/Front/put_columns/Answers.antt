@@ -1,5 +1,6 @@
 use Rattle.std.proofs.Common.{w32, rules, FitsSigned, arith}
 use Rattle.std.proofs.lemmas.Int.{ints, to_z-of_z}
+use Rattle.std.proofs.lemmas.Result.{IfOk-from_err}
 use Rattle.dpl_upward.proofs.upward.Front.put_columns.Goals as goal
 
 pub returns-clause-adds : goal.returns-clause-adds
@@ -17,3 +18,9 @@ returns-clause-front c =
     let test = rw (from, to) at c.if-to-from.false in
     let front = rw (to, to_z-of_z w32 _ low, to_z-of_z w32 _ high) at c.in_ok-put.ensures.front in
     λ x before past. front x (past (grind (arith, ints, test)))
+
+pub returns-in_err-put-clause-adds : goal.returns-in_err-put-clause-adds
+returns-in_err-put-clause-adds c = IfOk-from_err _ _ c.from_residual.ensures.0
+
+pub returns-in_err-put-clause-front : goal.returns-in_err-put-clause-front
+returns-in_err-put-clause-front c = IfOk-from_err _ _ c.from_residual.ensures.0

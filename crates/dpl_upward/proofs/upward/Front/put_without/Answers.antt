@@ -5,6 +5,7 @@ use Rattle.std.proofs.lemmas.List.{get_or_default}
 use Rattle.dpl_spec_split.specs.declared.Rect.{Rect}
 use Rattle.dpl_upward.proofs.FrontLaws.{front-wider}
 use Rattle.dpl_upward.proofs.UpwardLaws.{adds-whole, cut-first, cut-next, cut-last, max-known, passed-on}
+use Rattle.std.proofs.lemmas.Result.{IfOk-from_err}
 use Rattle.dpl_upward.proofs.upward.Front.put_without.Goals as goal
 
 abbrev zero : Rect
@@ -82,3 +83,63 @@ returns-clause-passed c =
     let within = c.loop-i.auto.i-end c.count_left-end.ensures.from in
     let same : c.loop-i.i ≡ c.count_left-end.result = omega (arith, test, within) in
     rw same at c.loop-i.invariant.cut.passed
+
+pub returns-in_err-put-clause-adds : goal.returns-in_err-put-clause-adds
+returns-in_err-put-clause-adds c = IfOk-from_err _ _ c.from_residual.ensures.0
+
+pub returns-in_err-put-clause-passed : goal.returns-in_err-put-clause-passed
+returns-in_err-put-clause-passed c = IfOk-from_err _ _ c.from_residual.ensures.0
+
+pub returns-in_err-put-clause-front : goal.returns-in_err-put-clause-front
+returns-in_err-put-clause-front c = IfOk-from_err _ _ c.from_residual.ensures.0
+
+pub returns-in_err-put_columns-clause-adds : goal.returns-in_err-put_columns-clause-adds
+returns-in_err-put_columns-clause-adds c = IfOk-from_err _ _ c.from_residual-in_err-put_columns.ensures.0
+
+pub returns-in_err-put_columns-clause-passed : goal.returns-in_err-put_columns-clause-passed
+returns-in_err-put_columns-clause-passed c = IfOk-from_err _ _ c.from_residual-in_err-put_columns.ensures.0
+
+pub returns-in_err-put_columns-clause-front : goal.returns-in_err-put_columns-clause-front
+returns-in_err-put_columns-clause-front c = IfOk-from_err _ _ c.from_residual-in_err-put_columns.ensures.0
+
+pub returns-in_err-put_columns-2-clause-adds : goal.returns-in_err-put_columns-2-clause-adds
+returns-in_err-put_columns-2-clause-adds c = IfOk-from_err _ _ c.from_residual-in_err-put_columns-2.ensures.0
+
+pub returns-in_err-put_columns-2-clause-passed : goal.returns-in_err-put_columns-2-clause-passed
+returns-in_err-put_columns-2-clause-passed c = IfOk-from_err _ _ c.from_residual-in_err-put_columns-2.ensures.0
+
+pub returns-in_err-put_columns-2-clause-front : goal.returns-in_err-put_columns-2-clause-front
+returns-in_err-put_columns-2-clause-front c = IfOk-from_err _ _ c.from_residual-in_err-put_columns-2.ensures.0
+
+pub put-requires-clause-solid : goal.put-requires-clause-solid
+put-requires-clause-solid c = c.requires.solid
+
+pub put-requires-clause-front : goal.put-requires-clause-front
+put-requires-clause-front c = c.requires.front
+
+pub returns-then-is_empty-clause-front : goal.returns-then-is_empty-clause-front
+returns-then-is_empty-clause-front c = c.in_ok-put.ensures.front
+
+pub count_left-end-requires-clause-rise : goal.count_left-end-requires-clause-rise
+count_left-end-requires-clause-rise c = c.requires.rise
+
+pub count_left-end-requires-clause-from : goal.count_left-end-requires-clause-from
+count_left-end-requires-clause-from c = c.requires.passed.within
+
+pub bounds-gaps-i : goal.bounds-gaps-i
+bounds-gaps-i c = let t = c.loop-i-test.true in let end = c.count_left-end.ensures.within in omega (arith, t, end)
+
+pub bounds-gaps-i-in-loop-i : goal.bounds-gaps-i-in-loop-i
+bounds-gaps-i-in-loop-i c = let t = c.loop-i-test.true in let end = c.count_left-end.ensures.within in omega (arith, t, end)
+
+pub put_columns-requires-clause-tall : goal.put_columns-requires-clause-tall
+put_columns-requires-clause-tall c = c.requires.solid.tall
+
+pub put_columns-requires-clause-front : goal.put_columns-requires-clause-front
+put_columns-requires-clause-front c = c.loop-i.invariant.front
+
+pub put_columns-requires-2-clause-tall : goal.put_columns-requires-2-clause-tall
+put_columns-requires-2-clause-tall c = c.requires.solid.tall
+
+pub put_columns-requires-2-clause-front : goal.put_columns-requires-2-clause-front
+put_columns-requires-2-clause-front c = c.loop-i.invariant.front

@@ -43,3 +43,24 @@ loop-k-preserved c =
       here = c.loop-k.invariant.here;
       passed = passed-more _ pieces below k c.loop-k.invariant.passed (grind (arith, ints, test));
     }
+
+pub returns-then-bar-index-clause-pieces : goal.returns-then-bar-index-clause-pieces
+returns-then-bar-index-clause-pieces c = c.loop-k.invariant.pieces
+
+pub returns-then-bar-index-clause-below : goal.returns-then-bar-index-clause-below
+returns-then-bar-index-clause-below c = c.loop-k.invariant.below
+
+pub returns-then-bar-index-clause-here : goal.returns-then-bar-index-clause-here
+returns-then-bar-index-clause-here c = c.loop-k.invariant.here
+
+pub returns-then-bar-index-clause-passed : goal.returns-then-bar-index-clause-passed
+returns-then-bar-index-clause-passed c = c.loop-k.invariant.passed
+
+pub returns-clause-pieces : goal.returns-clause-pieces
+returns-clause-pieces c = c.loop-k.invariant.pieces
+
+pub returns-clause-below : goal.returns-clause-below
+returns-clause-below c = c.loop-k.invariant.below
+
+pub returns-clause-here : goal.returns-clause-here
+returns-clause-here c = c.loop-k.invariant.here
