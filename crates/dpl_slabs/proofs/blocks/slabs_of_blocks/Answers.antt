@@ -3,6 +3,7 @@ use Rattle.std.proofs.lemmas.List.{length-drop}
 use Rattle.dpl_spec_split.specs.Squares.{Covers}
 use Rattle.dpl_spec_split.specs.Zones.{transposed}
 use Rattle.dpl_slabs.proofs.BlockLaws.{blocks-none, blocks-here, blocks-same, blocks-all}
+use Rattle.std.proofs.lemmas.Result.{IfOk-from_err}
 use Rattle.dpl_slabs.proofs.blocks.slabs_of_blocks.Goals as goal
 
 pub loop-start-init : goal.loop-start-init
@@ -27,3 +28,12 @@ returns g c =
     let len = length-drop c.loop-start.start c.loop-start.rects in
     let none : length (drop c.loop-start.start c.loop-start.rects) ≤ 0 = grind arith in
     blocks-all (transposed (Covers c.args.rects.now)) _ _ none c.loop-start.invariant.blocks
+
+pub returns-in_err-made : goal.returns-in_err-made
+returns-in_err-made g c = IfOk-from_err _ _ c.from_residual.ensures.0
+
+pub returns-in_err-slabs : goal.returns-in_err-slabs
+returns-in_err-slabs g c = IfOk-from_err _ _ c.from_residual-in_err-slabs.ensures.0
+
+pub returns-in_err-start : goal.returns-in_err-start
+returns-in_err-start g c = IfOk-from_err _ _ c.from_residual-in_err-start.ensures.0

@@ -1,5 +1,5 @@
 use Rattle.std.proofs.Common.{arith}
-use Rattle.std.proofs.lemmas.Result.{IfOk-weaker}
+use Rattle.std.proofs.lemmas.Result.{IfOk-weaker, IfOk-from_err}
 use Rattle.dpl_sweep.specs.Edges.{Told}
 use Rattle.dpl_slabs.specs.Cells.{Chosen}
 use Rattle.dpl_slabs.specs.Slices.{Without}
@@ -21,3 +21,7 @@ returns c =
     IfOk-weaker c.slabs_of_edges.result _ _
     (λ v is. slabs-of-same (Chosen rule c.args.rects.items c.args.holes.items) (Without c.args.rects.items c.args.holes.items) v.items (without c.args.rects.items)
     (slabs-of-same (Told rule c.in_ok-edges.edges.items) (Chosen rule c.args.rects.items c.args.holes.items) v.items (told rule) is)) c.slabs_of_edges.ensures
+
+
+pub returns-in_err-edges : goal.returns-in_err-edges
+returns-in_err-edges c = IfOk-from_err _ _ c.from_residual-in_err-edges.ensures.0

@@ -6,6 +6,7 @@ use Rattle.dpl_spec_split.specs.declared.Rect.{Rect}
 use Rattle.dpl_slabs.proofs.Firsts.{zero}
 use Rattle.dpl_slabs.proofs.StripLaws.{max-known}
 use Rattle.dpl_slabs.proofs.GapLaws.{le-true, le-false, cut-end, cut-next, cut-last, spaced-rise}
+use Rattle.std.proofs.lemmas.Result.{IfOk-from_err}
 use Rattle.dpl_slabs.proofs.gaps.add_bar_without.Goals as goal
 
 pub returns-then-bar-gap : goal.returns-then-bar-gap
@@ -61,3 +62,12 @@ returns c =
     cut-end c.args.bar.now c.args.gaps.now c.requires.solid c.requires.gaps c.requires.level c.args.left.now.items c.loop-at.at
     (length c.args.gaps.now) _ _ _ c.loop-at.invariant (omega arith)
     (λ k d l k_in. absurd (omega (arith, l, k_in))) adds
+
+pub returns-in_err-add_columns : goal.returns-in_err-add_columns
+returns-in_err-add_columns c = IfOk-from_err _ _ c.from_residual.ensures.0
+
+pub returns-in_err-add_columns-2 : goal.returns-in_err-add_columns-2
+returns-in_err-add_columns-2 c = IfOk-from_err _ _ c.from_residual-in_err-add_columns-2.ensures.0
+
+pub returns-in_err-add_columns-3 : goal.returns-in_err-add_columns-3
+returns-in_err-add_columns-3 c = IfOk-from_err _ _ c.from_residual-in_err-add_columns-3.ensures.0

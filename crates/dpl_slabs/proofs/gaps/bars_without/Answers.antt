@@ -3,6 +3,7 @@ use Rattle.std.proofs.lemmas.List.{get_or_default}
 use Rattle.std.proofs.lemmas.List.Elements.{Contains-get_or}
 use Rattle.dpl_slabs.proofs.Firsts.{zero}
 use Rattle.dpl_slabs.proofs.GapLaws.{left-whole, left-next, left-all}
+use Rattle.std.proofs.lemmas.Result.{IfOk-from_err}
 use Rattle.dpl_slabs.proofs.gaps.bars_without.Goals as goal
 
 pub returns-then-is_empty-clause-slabs : goal.returns-then-is_empty-clause-slabs
@@ -30,3 +31,18 @@ loop-bar-preserved c =
 pub returns-clause-slabs : goal.returns-clause-slabs
 returns-clause-slabs c = left-all c.args.bars.items c.args.gaps.now _ c.loop-bar.bar-index _
     (let h = rw c.deref-bar-items.ensures.value at c.loop-bar-test.false in omega (arith, h)) c.loop-bar.invariant
+
+pub returns-in_err-left-clause-slabs : goal.returns-in_err-left-clause-slabs
+returns-in_err-left-clause-slabs c = IfOk-from_err _ _ c.from_residual.ensures.0
+
+pub returns-in_err-left-clause-apart : goal.returns-in_err-left-clause-apart
+returns-in_err-left-clause-apart c = IfOk-from_err _ _ c.from_residual.ensures.0
+
+pub returns-in_err-from-clause-slabs : goal.returns-in_err-from-clause-slabs
+returns-in_err-from-clause-slabs c = IfOk-from_err _ _ c.from_residual-in_err-from.ensures.0
+
+pub returns-in_err-from-clause-apart : goal.returns-in_err-from-clause-apart
+returns-in_err-from-clause-apart c = IfOk-from_err _ _ c.from_residual-in_err-from.ensures.0
+
+pub add_bar_without-requires-clause-gaps : goal.add_bar_without-requires-clause-gaps
+add_bar_without-requires-clause-gaps c = c.requires.gaps

@@ -3,6 +3,7 @@ use Rattle.std.proofs.lemmas.List.Elements.{Contains-append_left, Contains-appen
 use Rattle.dpl_slabs.specs.Cells.{Chosen}
 use Rattle.dpl_slabs.proofs.StripLaws.{adds-strip}
 use Rattle.dpl_slabs.proofs.JointLaws.{chosen-covered, adds-none, adds-first}
+use Rattle.std.proofs.lemmas.Result.{IfOk-from_err}
 use Rattle.dpl_slabs.proofs.joint.add_joint.Goals.{then-is_empty-via-then-is_empty, then-is_empty-via-else-is_empty+then-is_empty-2}
 use Rattle.dpl_slabs.proofs.joint.add_joint.Goals as goal
 
@@ -35,3 +36,10 @@ returns c =
     (adds-strip (Chosen c.args.rule first second) c.args.slabs.now.items c.in_ok-more.more.items
     (first ++ second) c.requires.canonical c.requires.below (chosen-covered c.args.rule first second) c.in_ok-more.ensures.slabs
     c.in_ok-more.ensures.within)
+
+
+pub returns-in_err-more : goal.returns-in_err-more
+returns-in_err-more c = IfOk-from_err _ _ c.from_residual-in_err-more.ensures.0
+
+pub returns-in_err-extend_from_slice : goal.returns-in_err-extend_from_slice
+returns-in_err-extend_from_slice c = IfOk-from_err _ _ c.from_residual-in_err-extend_from_slice.ensures.0

@@ -1,4 +1,5 @@
 use Rattle.dpl_slabs.proofs.JointLaws.{joints-none, joints-next, joint-above, joint-within}
+use Rattle.std.proofs.lemmas.Result.{IfOk-from_err}
 use Rattle.dpl_slabs.proofs.joint.combine_by_rows.Goals as goal
 
 pub loop-first_rest-init : goal.loop-first_rest-init
@@ -24,3 +25,9 @@ loop-first_rest-preserved c =
     rw (c.split_at.ensures.back, c.split_at-in-loop-first_rest.ensures.back)
     (joints-next c.args.rule c.args.first.now c.args.second.now _ _ _ c.joint_strip-n.result.0 c.joint_strip-n.result.1
     c.loop-first_rest.invariant _ c.joint_strip-n.ensures adds)
+
+pub returns-in_err-add_joint-clause-slabs : goal.returns-in_err-add_joint-clause-slabs
+returns-in_err-add_joint-clause-slabs c = IfOk-from_err _ _ c.from_residual.ensures.0
+
+pub returns-in_err-add_joint-clause-within : goal.returns-in_err-add_joint-clause-within
+returns-in_err-add_joint-clause-within c = IfOk-from_err _ _ c.from_residual.ensures.0

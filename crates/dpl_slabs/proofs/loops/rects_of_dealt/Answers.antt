@@ -1,6 +1,7 @@
 use Rattle.std.proofs.Common.{◌<◌, length, sym, subst, rules, arith}
 use Rattle.dpl_spec_split.specs.Loops.{farthest, ArePointsWithin}
 use Rattle.dpl_slabs.proofs.LoopLaws.{dealt-none, dealt-more, dealt-past, dealt-all}
+use Rattle.std.proofs.lemmas.Result.{IfOk-from_err}
 use Rattle.dpl_slabs.proofs.loops.rects_of_dealt.Goals as goal
 use Rattle.dpl_slabs.proofs.loops.rects_of_dealt.Goals.{then-i-workers+in_ok-slabs+in_ok-extend_from_slice, else-i-workers}
 
@@ -25,3 +26,9 @@ loop-i-preserved c = elim c.if-i-workers.branch [
 
 pub returns : goal.returns
 returns c = dealt-all c.args.loops.now c.args.worker c.args.workers c.loop-i.i c.loop-i.rects.items (omega arith) c.loop-i.invariant
+
+pub returns-in_err-slabs : goal.returns-in_err-slabs
+returns-in_err-slabs c = IfOk-from_err _ _ c.from_residual.ensures.0
+
+pub returns-in_err-extend_from_slice : goal.returns-in_err-extend_from_slice
+returns-in_err-extend_from_slice c = IfOk-from_err _ _ c.from_residual-in_err-extend_from_slice.ensures.0

@@ -1,6 +1,7 @@
 use Rattle.std.proofs.Common.{◌≡◌, ◌<◌, ◌++◌, ◌∷◌, [], length, ap, arith, rules}
 use Rattle.std.proofs.lemmas.List.{length_push}
 use Rattle.dpl_slabs.proofs.LoopLaws.{put-none, put-more, put-all}
+use Rattle.std.proofs.lemmas.Result.{IfOk-from_err}
 use Rattle.dpl_slabs.proofs.loops.rects_of_loops_by.Goals as goal
 
 pub loop-list-init : goal.loop-list-init
@@ -22,3 +23,9 @@ pub returns : goal.returns
 returns g c =
     let none : length c.loop-list.lists.items ≡ 0 = search rules in
     put-all c.args.loops.now c.workers_for-count.result c.loop-list.lists.items c.loop-list.rects.items none c.loop-list.invariant
+
+pub returns-in_err-lists : goal.returns-in_err-lists
+returns-in_err-lists g c = IfOk-from_err _ _ c.from_residual.ensures.0
+
+pub returns-in_err-rects : goal.returns-in_err-rects
+returns-in_err-rects g c = IfOk-from_err _ _ c.from_residual-in_err-rects.ensures.0

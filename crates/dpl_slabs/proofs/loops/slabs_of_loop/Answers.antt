@@ -1,4 +1,4 @@
-use Rattle.std.proofs.lemmas.Result.{IfOk-weaker}
+use Rattle.std.proofs.lemmas.Result.{IfOk-weaker, IfOk-from_err}
 use Rattle.dpl_sweep.specs.declared.edge.Rule.TheVariants.{Either}
 use Rattle.dpl_sweep.specs.Edges.{Told}
 use Rattle.dpl_spec_split.specs.Loops.{LoopCovers}
@@ -24,3 +24,9 @@ returns-clause-within c =
     (λ v is. slabs-inside (Told Either c.in_ok-edges.edges.items) 1000000000 v.items
     (λ p. told-inside Either 1000000000 c.in_ok-edges.edges.items p (c.in_ok-edges.ensures.within 1000000000 c.requires) (loop-closed c.args.points.now _ c.in_ok-edges.ensures))
     is) c.slabs_of_edges.ensures
+
+pub returns-in_err-edges-clause-slabs : goal.returns-in_err-edges-clause-slabs
+returns-in_err-edges-clause-slabs c = IfOk-from_err _ _ c.from_residual.ensures.0
+
+pub returns-in_err-edges-clause-within : goal.returns-in_err-edges-clause-within
+returns-in_err-edges-clause-within c = IfOk-from_err _ _ c.from_residual.ensures.0

@@ -3,6 +3,7 @@ use Rattle.std.specs.List.{All}
 use Rattle.std.proofs.lemmas.List.Elements.{All-append, All-head, All-tail}
 use Rattle.dpl_slabs.specs.Made.{IsSlice}
 use Rattle.dpl_slabs.proofs.SliceLaws.{All-reverse}
+use Rattle.std.proofs.lemmas.Result.{IfOk-from_err}
 use Rattle.dpl_slabs.proofs.made.made_by.Goals as goal
 
 pub loop-list-preserved : goal.loop-list-preserved
@@ -21,3 +22,15 @@ loop-list-preserved g c =
 
 pub returns : goal.returns
 returns g c = rw c.reverse.ensures.items (All-reverse (IsSlice c.args.rects.now c.args.holes.now) c.loop-list.made.items c.loop-list.invariant.made)
+
+pub returns-in_err-ends : goal.returns-in_err-ends
+returns-in_err-ends g c = IfOk-from_err _ _ c.from_residual.ensures.0
+
+pub returns-in_err-push : goal.returns-in_err-push
+returns-in_err-push g c = IfOk-from_err _ _ c.from_residual-in_err-push.ensures.0
+
+pub returns-in_err-lists : goal.returns-in_err-lists
+returns-in_err-lists g c = IfOk-from_err _ _ c.from_residual-in_err-lists.ensures.0
+
+pub returns-in_err-append : goal.returns-in_err-append
+returns-in_err-append g c = IfOk-from_err _ _ c.from_residual-in_err-append.ensures.0

@@ -3,6 +3,7 @@ use Rattle.std.proofs.lemmas.Int.{ints, to_z-of_z}
 use Rattle.std.proofs.lemmas.List.{append_assoc}
 use Rattle.dpl_slabs.specs.Slices.{Without}
 use Rattle.dpl_slabs.proofs.SliceLaws.{apart-after, below-beside, below-permuted, pieces-next}
+use Rattle.std.proofs.lemmas.Result.{IfOk-from_err}
 use Rattle.dpl_slabs.proofs.slices.add_slice.Goals as goal
 
 pub joined-requires : goal.joined-requires
@@ -22,3 +23,21 @@ returns-clause-below c =
     c.in_ok-pieces.pieces.items (rw (append_assoc c.args.done.now.items c.args.growing.items c.in_ok-more.more.items) at next)
     c.in_ok-pieces.ensures in
     rw (to_z-of_z w32 c.args.high c.ranges.high) (below-permuted c.args.high a _ _ c.in_ok-growing.ensures beside)
+
+pub returns-in_err-more-clause-below : goal.returns-in_err-more-clause-below
+returns-in_err-more-clause-below c = IfOk-from_err _ _ c.from_residual.ensures.0
+
+pub returns-in_err-more-clause-over : goal.returns-in_err-more-clause-over
+returns-in_err-more-clause-over c = IfOk-from_err _ _ c.from_residual.ensures.0
+
+pub returns-in_err-pieces-clause-below : goal.returns-in_err-pieces-clause-below
+returns-in_err-pieces-clause-below c = IfOk-from_err _ _ c.from_residual-in_err-pieces.ensures.0
+
+pub returns-in_err-pieces-clause-over : goal.returns-in_err-pieces-clause-over
+returns-in_err-pieces-clause-over c = IfOk-from_err _ _ c.from_residual-in_err-pieces.ensures.0
+
+pub returns-in_err-growing-clause-below : goal.returns-in_err-growing-clause-below
+returns-in_err-growing-clause-below c = IfOk-from_err _ _ c.from_residual-in_err-growing.ensures.0
+
+pub returns-in_err-growing-clause-over : goal.returns-in_err-growing-clause-over
+returns-in_err-growing-clause-over c = IfOk-from_err _ _ c.from_residual-in_err-growing.ensures.0

@@ -1,6 +1,6 @@
 use Rattle.std.proofs.Common.{w32}
 use Rattle.std.proofs.lemmas.Int.{to_z-of_z}
-use Rattle.std.proofs.lemmas.Result.{IfOk-weaker}
+use Rattle.std.proofs.lemmas.Result.{IfOk-weaker, IfOk-from_err}
 use Rattle.dpl_slabs.specs.Slices.{InRows, Without}
 use Rattle.dpl_slabs.proofs.SliceLaws.{cut-spaced, cut-level, near-within, pieces-permuted, rest-within, slice-pieces}
 use Rattle.dpl_slabs.proofs.slices.pieces_of_slice.Goals as goal
@@ -37,3 +37,18 @@ returns c =
     (λ v same. pieces-permuted (InRows c.args.low c.args.high (Without c.args.rects.now c.args.holes.now)) _ v.items same
     (slice-pieces c.args.low c.args.high c.args.rects.now c.args.holes.now _ _ _ _ _ _ _ _ rects holes left touching alone _ c.in_ok-slabs.ensures))
     c.put_together.ensures
+
+
+
+
+pub returns-in_err-add_touching : goal.returns-in_err-add_touching
+returns-in_err-add_touching c = IfOk-from_err _ _ c.from_residual-in_err-add_touching.ensures.0
+
+pub returns-in_err-alone : goal.returns-in_err-alone
+returns-in_err-alone c = IfOk-from_err _ _ c.from_residual-in_err-alone.ensures.0
+
+pub returns-in_err-slabs : goal.returns-in_err-slabs
+returns-in_err-slabs c = IfOk-from_err _ _ c.from_residual-in_err-slabs.ensures.0
+
+pub returns-in_err-bars : goal.returns-in_err-bars
+returns-in_err-bars c = IfOk-from_err _ _ c.from_residual.ensures.0

@@ -37,3 +37,9 @@ pub returns-then-is_spaced-clause-level : goal.returns-then-is_spaced-clause-lev
 returns-then-is_spaced-clause-level c =
     let row = row-sorted c.args.bars.items _ c.sort_by_corner.ensures.same c.requires in
     λ r b r_in b_in. row.level r b r_in (Contains-permutation c.args.bars.items _ b c.sort_by_corner.ensures.same b_in)
+
+pub returns-clause-spaced : goal.returns-clause-spaced
+returns-clause-spaced c = c.slabs_of_row.ensures.spaced
+
+pub returns-then-is_spaced-clause-spaced : goal.returns-then-is_spaced-clause-spaced
+returns-then-is_spaced-clause-spaced c = rw c.deref.ensures.value at (c.is_spaced.ensures.0 c.if-is_spaced.true)

@@ -3,6 +3,7 @@ use Rattle.std.proofs.lemmas.List.{append_assoc, take_more}
 use Rattle.dpl_spec_split.specs.declared.Rect.{Rect}
 use Rattle.dpl_slabs.proofs.Firsts.{zero}
 use Rattle.dpl_slabs.proofs.SliceLaws.{settled-growing, settled-done}
+use Rattle.std.proofs.lemmas.Result.{IfOk-from_err}
 use Rattle.dpl_slabs.proofs.slices.set_aside.Goals.{then-row-piece+in_ok-push, else-row-piece+in_ok-push-2}
 use Rattle.dpl_slabs.proofs.slices.set_aside.Goals as goal
 
@@ -22,3 +23,9 @@ loop-piece-preserved c =
       | else-row-piece+in_ok-push-2 w ↦ rw (w.others-is, w.starts-is, w.in_ok-push-2.ensures.items)
           (settled-growing (others ++ take n pieces) c.loop-piece.others.items c.loop-piece.starts.items piece c.loop-piece.invariant)
     ])
+
+pub returns-in_err-push : goal.returns-in_err-push
+returns-in_err-push c = IfOk-from_err _ _ c.from_residual.ensures.0
+
+pub returns-in_err-push-2 : goal.returns-in_err-push-2
+returns-in_err-push-2 c = IfOk-from_err _ _ c.from_residual-in_err-push-2.ensures.0

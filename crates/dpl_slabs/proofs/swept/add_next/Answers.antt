@@ -3,6 +3,7 @@ use Rattle.dpl_slabs.specs.Made.{IsSwept}
 use Rattle.dpl_slabs.proofs.SliceLaws.{All-some}
 use Rattle.dpl_slabs.proofs.StripLaws.{rise-take}
 use Rattle.dpl_slabs.proofs.SweptLaws.{swept-joined, swept-next}
+use Rattle.std.proofs.lemmas.Result.{IfOk-from_err}
 use Rattle.dpl_slabs.proofs.swept.add_next.Goals as goal
 
 pub returns-in_err-extend_from_slice-clause-made : goal.returns-in_err-extend_from_slice-clause-made
@@ -31,3 +32,21 @@ returns-clause-made g c = All-some (IsSwept c.args.rects.now) _ _ c.taken_strips
 pub returns-clause-swept : goal.returns-clause-swept
 returns-clause-swept g c =
     swept-next c.args.rects.now _ _ _ c.args.swept.now.end c.strip_length-count.result c.requires.swept c.strip_length-count.ensures.below c.in_ok-add_strip.ensures
+
+pub returns-in_err-extend_from_slice-clause-swept : goal.returns-in_err-extend_from_slice-clause-swept
+returns-in_err-extend_from_slice-clause-swept g c = IfOk-from_err _ _ c.from_residual.ensures.0
+
+pub returns-in_err-extend_from_slice-clause-more : goal.returns-in_err-extend_from_slice-clause-more
+returns-in_err-extend_from_slice-clause-more g c = IfOk-from_err _ _ c.from_residual.ensures.0
+
+pub returns-in_err-extend_from_slice-clause-start : goal.returns-in_err-extend_from_slice-clause-start
+returns-in_err-extend_from_slice-clause-start g c = IfOk-from_err _ _ c.from_residual.ensures.0
+
+pub returns-in_err-add_strip-clause-swept : goal.returns-in_err-add_strip-clause-swept
+returns-in_err-add_strip-clause-swept g c = IfOk-from_err _ _ c.from_residual-in_err-add_strip.ensures.0
+
+pub returns-in_err-add_strip-clause-more : goal.returns-in_err-add_strip-clause-more
+returns-in_err-add_strip-clause-more g c = IfOk-from_err _ _ c.from_residual-in_err-add_strip.ensures.0
+
+pub returns-in_err-add_strip-clause-start : goal.returns-in_err-add_strip-clause-start
+returns-in_err-add_strip-clause-start g c = IfOk-from_err _ _ c.from_residual-in_err-add_strip.ensures.0

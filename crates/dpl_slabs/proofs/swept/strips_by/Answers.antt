@@ -3,6 +3,7 @@ use Rattle.std.specs.List.{All}
 use Rattle.std.proofs.lemmas.List.Elements.{All-head, All-push, All-tail}
 use Rattle.dpl_slabs.specs.Made.{IsSwept}
 use Rattle.dpl_slabs.proofs.SliceLaws.{All-reverse}
+use Rattle.std.proofs.lemmas.Result.{IfOk-from_err}
 use Rattle.dpl_slabs.proofs.swept.strips_by.Goals as goal
 
 pub loop-swept-preserved : goal.loop-swept-preserved
@@ -20,3 +21,10 @@ loop-swept-preserved g c =
 
 pub returns : goal.returns
 returns g c = rw c.reverse.ensures.items (All-reverse (IsSwept c.args.rects.now) c.loop-swept.made.items c.loop-swept.invariant.made)
+
+
+pub returns-in_err-all : goal.returns-in_err-all
+returns-in_err-all g c = IfOk-from_err _ _ c.from_residual-in_err-all.ensures.0
+
+pub returns-in_err-push : goal.returns-in_err-push
+returns-in_err-push g c = IfOk-from_err _ _ c.from_residual-in_err-push.ensures.0

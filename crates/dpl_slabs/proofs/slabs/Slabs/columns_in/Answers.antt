@@ -1,5 +1,5 @@
 use Rattle.std.proofs.Common.{◌≡◌, length, arith}
-use Rattle.std.proofs.lemmas.Result.{IfOk-weaker}
+use Rattle.std.proofs.lemmas.Result.{IfOk-weaker, IfOk-from_err}
 use Rattle.dpl_spec_split.specs.Squares.{Covers}
 use Rattle.dpl_spec_split.specs.Zones.{transposed}
 use Rattle.dpl_slabs.specs.Cells.{transposed_rects}
@@ -29,3 +29,9 @@ pub returns-then-len-eq1-clause-within : goal.returns-then-len-eq1-clause-within
 returns-then-len-eq1-clause-within g c =
     let is = rw c.rects.ensures.value at c.in_ok-transposed.ensures in
     rw is (transposed-within 1000000000 c.args.self.now c.rects.ensures.within)
+
+pub returns-in_err-transposed-clause-slabs : goal.returns-in_err-transposed-clause-slabs
+returns-in_err-transposed-clause-slabs g c = IfOk-from_err _ _ c.from_residual.ensures.0
+
+pub returns-in_err-transposed-clause-within : goal.returns-in_err-transposed-clause-within
+returns-in_err-transposed-clause-within g c = IfOk-from_err _ _ c.from_residual.ensures.0
