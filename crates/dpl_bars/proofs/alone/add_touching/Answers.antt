@@ -5,6 +5,7 @@ use Rattle.dpl_spec_split.specs.declared.Rect.{Rect}
 use Rattle.dpl_bars.proofs.Steps.{zero}
 use Rattle.dpl_bars.proofs.Steps.{le-false}
 use Rattle.dpl_bars.proofs.AloneLaws.{prefix-apart, touching-apart, touching-more}
+use Rattle.std.proofs.lemmas.Result.{IfOk-from_err}
 use Rattle.dpl_bars.proofs.alone.add_touching.Goals.{then-bar-prefix+in_ok-push, else-bar-prefix}
 use Rattle.dpl_bars.proofs.alone.add_touching.Goals as goal
 
@@ -31,3 +32,9 @@ loop-bar-preserved c =
       ],
       prefix.passed,
     )
+
+pub returns-in_err-near : goal.returns-in_err-near
+returns-in_err-near c = IfOk-from_err _ _ c.from_residual.ensures.0
+
+pub returns-in_err-push : goal.returns-in_err-push
+returns-in_err-push c = IfOk-from_err _ _ c.from_residual-in_err-push.ensures.0

@@ -4,6 +4,7 @@ use Rattle.std.proofs.lemmas.List.{get_or-set_other, length-set, take_more_set}
 use Rattle.dpl_spec_split.specs.declared.Rect.{Rect}
 use Rattle.dpl_bars.proofs.Steps.{lt-from}
 use Rattle.dpl_bars.proofs.AloneLaws.{prefix-apart, alone-more, beside-more}
+use Rattle.std.proofs.lemmas.Result.{IfOk-from_err}
 use Rattle.dpl_bars.proofs.alone.alone_of.Goals.{then-prefix-bar, else-prefix-bar+in_ok-push}
 use Rattle.dpl_bars.proofs.alone.alone_of.Goals as goal
 
@@ -44,3 +45,9 @@ loop-i-preserved c =
             λ k d k_more k_in. ahead k d (omega (arith, k_more)) k_in,
           )
     ]
+
+pub returns-in_err-near : goal.returns-in_err-near
+returns-in_err-near c = IfOk-from_err _ _ c.from_residual.ensures.0
+
+pub returns-in_err-push : goal.returns-in_err-push
+returns-in_err-push c = IfOk-from_err _ _ c.from_residual-in_err-push.ensures.0
