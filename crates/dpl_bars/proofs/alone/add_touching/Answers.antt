@@ -1,6 +1,6 @@
 use Rattle.std.proofs.Common.{◌<◌, inr, length, get_or, rules, w32, FitsSigned, arith}
 use Rattle.std.proofs.lemmas.Int.{to_z-of_z}
-use Rattle.std.proofs.lemmas.List.{get_or_default}
+use Rattle.std.proofs.lemmas.List.{get_or_default, take_all}
 use Rattle.dpl_spec_split.specs.declared.Rect.{Rect}
 use Rattle.dpl_bars.proofs.Steps.{zero}
 use Rattle.dpl_bars.proofs.Steps.{le-false}
@@ -38,3 +38,12 @@ returns-in_err-near c = IfOk-from_err _ _ c.from_residual.ensures.0
 
 pub returns-in_err-push : goal.returns-in_err-push
 returns-in_err-push c = IfOk-from_err _ _ c.from_residual-in_err-push.ensures.0
+
+pub advanced-prefix-requires-clause-rise : goal.advanced-prefix-requires-clause-rise
+advanced-prefix-requires-clause-rise c = rw c.deref.ensures.value c.in_ok-near.ensures.rise
+
+pub advanced-prefix-requires-clause-reach : goal.advanced-prefix-requires-clause-reach
+advanced-prefix-requires-clause-reach c = rw c.deref.ensures.value c.loop-bar.invariant.1
+
+pub returns : goal.returns
+returns c = (let test = c.loop-bar-test.false in rw (take_all c.loop-bar.bar-index c.args.bars.now (omega (arith, test))) at c.loop-bar.invariant.0)

@@ -51,3 +51,9 @@ returns-in_err-near c = IfOk-from_err _ _ c.from_residual.ensures.0
 
 pub returns-in_err-push : goal.returns-in_err-push
 returns-in_err-push c = IfOk-from_err _ _ c.from_residual-in_err-push.ensures.0
+
+pub advanced-prefix-requires-clause-rise : goal.advanced-prefix-requires-clause-rise
+advanced-prefix-requires-clause-rise c = rw c.deref-in-loop-i.ensures.value c.in_ok-near.ensures.rise
+
+pub advanced-prefix-requires-clause-reach : goal.advanced-prefix-requires-clause-reach
+advanced-prefix-requires-clause-reach c = rw c.deref-in-loop-i.ensures.value c.loop-i.invariant.1
