@@ -3,7 +3,7 @@ use Rattle.std.specs.Prelude.{pos}
 use Rattle.std.proofs.lemmas.Int.{ints, to_z-of_z}
 use Rattle.std.proofs.lemmas.List.{get_or_default}
 use Rattle.dpl_spec_split.specs.declared.Rect.{Rect}
-use Rattle.dpl_upward.proofs.ActiveLaws.{begun-more, above-here}
+use Rattle.dpl_upward.proofs.ActiveLaws.{begun-more, above-here, nothing}
 use Rattle.dpl_upward.proofs.active.count_begun.Goals as goal
 
 abbrev zero : Rect
@@ -26,3 +26,9 @@ loop-i-preserved c =
     let row = to_z-of_z w32 c.args.low c.ranges.low in
     let test = rw (row, to_z-of_z w32 r.y0 fits) at c.if-low-rects.false in
     rw row (begun-more c.args.rects.now c.loop-i.i r here (get_or_default c.args.rects.now c.loop-i.i zero r here) c.args.low (grind (arith, ints, test)) (rw row at c.loop-i.invariant))
+
+pub loop-i-init : goal.loop-i-init
+loop-i-init c r r_in = nothing r r_in
+
+pub returns-then-low-rects-clause-begun : goal.returns-then-low-rects-clause-begun
+returns-then-low-rects-clause-begun c = rw (to_z-of_z w32 c.args.low c.ranges.low) at c.loop-i.invariant
