@@ -1,6 +1,8 @@
-use Rattle.std.proofs.Common.{inl}
+use Rattle.std.proofs.Common.{◌≡◌, ◌∙◌, inl, length, take, arith}
 use Rattle.std.proofs.lemmas.List.Elements.{Contains-get_or}
+use Rattle.std.proofs.Math.Seq.{take-length}
 use Rattle.dpl_stars.specs.Stars.{own_row}
+use Rattle.dpl_stars.specs.Links.{AreLinks}
 use Rattle.dpl_stars.proofs.Linking.{pieces-rising, root-there, mate-next, next-apart, links-none, links-step, links-skip}
 use Rattle.dpl_stars.proofs.links.links.Goals as goal
 use Rattle.dpl_stars.proofs.links.links.Goals.{then-row+in_ok-push, then-row-2, else-row-2, else-row}
@@ -41,3 +43,24 @@ loop-row-preserved c = elim c.if-row.branch [
   | else-row w ↦ rw w.links-is (links-skip c.args.rows.now c.loop-row.links.items c.requires c.loop-row.row-index
       (own_row 0) c.loop-row-test.true c.loop-row.invariant w.if-row.false)
 ]
+
+pub mates_of-requires-clause-rows : goal.mates_of-requires-clause-rows
+mates_of-requires-clause-rows c = c.requires
+
+pub mates_of-requires-clause-places : goal.mates_of-requires-clause-places
+mates_of-requires-clause-places c = c.in_ok-places.ensures ∙ c.in_ok-pieces_of.ensures
+
+pub index-requires : goal.index-requires
+index-requires c =
+    let within = c.place.ensures.within in
+    let each = c.in_ok-mates.ensures.each in
+    let long = c.in_ok-mates.mates.ok.0 in
+    omega (arith, within, each, long)
+
+pub returns : goal.returns
+returns c =
+    let all = c.loop-row-test.false in
+    let end = c.loop-row.auto.row-index-end in
+    let whole : c.loop-row.row-index ≡ length c.args.rows.now = omega (arith, all, end) in
+    let are : AreLinks c.args.rows.now (take c.loop-row.row-index c.args.rows.now) c.loop-row.links.items = c.loop-row.invariant in
+    rw (whole, take-length) at are

@@ -1,5 +1,6 @@
-use Rattle.std.proofs.Common.{length, ap, refl}
+use Rattle.std.proofs.Common.{◌≡◌, ◌∙◌, length, sym, ap, subst, refl}
 use Rattle.std.proofs.lemmas.Bool.{false≢true}
+use Rattle.dpl_stars.specs.Levels.{AreEdgesBelow}
 use Rattle.dpl_stars.proofs.Solved.{solved-from, solved-odd, solved-roots, solved-list, solved-stars}
 use Rattle.dpl_stars.proofs.sums.stars.Goals as goal
 
@@ -33,3 +34,19 @@ returns c =
     c.requires (rw c.in_ok-places.ensures c.in_ok-touched.ensures) c.in_ok-placed.ensures (ap length c.pieces-pieces.ensures) c.deref.ensures.value c.in_ok-levels.ensures in
     solved-stars _ _ _ _ _ s _ _ _ _ _ _ _ c.pieces-pieces.ensures c.deref-4.ensures.value c.deref-5.ensures.value c.in_ok-rows.ensures
     c.of-2.ensures c.deref-3.ensures.value c.deref-2.ensures.value (λ on. false≢true (c.if-is_levelled.ensures.1 on))
+
+pub placed-requires-clause-pairs : goal.placed-requires-clause-pairs
+placed-requires-clause-pairs c = c.requires
+
+pub is_levelled-requires : goal.is_levelled-requires
+is_levelled-requires c =
+    let len : length c.deref-3.result.now ≡ length c.in_ok-places.places =
+        ap length c.deref-3.ensures.value ∙ (c.in_ok-levels.ensures.as_many_levels ∙ ap length c.pieces-pieces.ensures) in
+    subst (λ n. AreEdgesBelow n c.deref-2.result.now) (sym len)
+    (subst (λ es. AreEdgesBelow (length c.in_ok-places.places) es) (sym c.deref-2.ensures.value) c.in_ok-placed.ensures.below)
+
+pub rows-requires-clause-roots : goal.rows-requires-clause-roots
+rows-requires-clause-roots c = rw c.deref-4.ensures.value c.in_ok-levels.ensures.as_many_roots
+
+pub rows-requires-clause-levels : goal.rows-requires-clause-levels
+rows-requires-clause-levels c = rw c.deref-5.ensures.value c.in_ok-levels.ensures.as_many_levels
