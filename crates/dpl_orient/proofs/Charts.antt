@@ -1,12 +1,13 @@
 -- Charts, row by row.
-use Rattle.std.proofs.Common.{◌≡◌, ◌≢◌, ℕ, ◌+◌, ◌<◌, inl, inr, List, [], ◌∷◌, ◌++◌, set, sym, refl, ap, ◌∙◌, subst, arith}
+use Rattle.std.proofs.Common.{◌≡◌, ◌≢◌, ℕ, ◌+◌, ◌<◌, ◌≤◌, inl, inr, List, [], ◌∷◌, ◌++◌, set, sym, refl, ap, ◌∙◌, subst, arith}
 use Rattle.std.proofs.lemmas.Bool.{cases_lt, cases_eq}
 use Rattle.std.proofs.lemmas.List.{get_or_append_left, get_or_push, get_or-set_same, get_or-set_other, length-set, length_push}
 use Rattle.std.proofs.lemmas.List.Elements.{All-push, All-nil, Contains-push, Contains-append_left}
 use Rattle.dpl_stars.specs.declared.list.Star.{Star}
 use Rattle.dpl_orient.specs.declared.chart.Rooted.{Rooted}
-use Rattle.dpl_orient.specs.Rooted.{HasStar}
-use Rattle.dpl_orient.specs.Chart.{own_root, rooted_by, rooted_at, IsChart}
+use Rattle.dpl_stars.specs.Stars.{IsStarList}
+use Rattle.dpl_orient.specs.Rooted.{HasStar, star}
+use Rattle.dpl_orient.specs.Chart.{own_root, rooted_by, rooted_at, IsChart, AreLow}
 
 -- the rows give piece v this root and parity
 abbrev Gives : List Star → ℕ → Rooted → Type 0
@@ -41,3 +42,12 @@ chart-put prefix n chart r h within = record {
         ])
   ];
 }
+
+-- roots are at most their pieces
+pub chart-low : (rows : List Star) (n : ℕ) (chart : List Rooted) → IsStarList rows → IsChart rows n chart → AreLow chart
+chart-low rows n chart ordered h v l = elim (h.each v (omega (arith, l, h.len))) [
+  | inl (k, within, is) ↦
+      let low : (rooted_at chart v).root ≤ v = subst (λ (r : Star). r.root ≤ r.piece) is (ordered.low k (star v (rooted_at chart v).root (rooted_at chart v).odd) within) in
+      omega (arith, low)
+  | inr (none, root_is, odd_is) ↦ omega (arith, root_is)
+]

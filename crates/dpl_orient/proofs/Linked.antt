@@ -1,10 +1,11 @@
 -- Links and the letters that they stand for.
-use Rattle.std.proofs.Common.{◌≡◌, ◌≢◌, ℕ, zero, suc, ◌+◌, ◌<◌, inl, inr, Bool, true, false, not, ◌&&◌, eqb, cond, List, [], ◌∷◌, ◌++◌, length, get_or, set, take, sym, refl, ap, ◌∙◌, arith}
+use Rattle.std.proofs.Common.{◌≡◌, ◌≢◌, ℕ, zero, suc, ◌+◌, ◌<◌, inl, inr, Bool, true, false, not, ◌&&◌, eqb, cond, List, [], ◌∷◌, ◌++◌, length, get_or, set, take, sym, refl, ap, ◌∙◌, append_assoc, arith}
 use Rattle.std.specs.Prelude.{count_by, replicate}
 use Rattle.std.specs.List.{All}
 use Rattle.std.specs.List.Sorted.{IsPermutation}
-use Rattle.std.proofs.lemmas.Bool.{cases_eq, cases_lt, eq-eqb, ne_eqb, eqb-true as eqb-is}
-use Rattle.std.proofs.lemmas.List.{get_or-map, get_or_default, take_more, get_or-set_same, get_or-set_other, get_or-replicate, get_or_past, length-replicate}
+use Rattle.std.proofs.lemmas.Bool.{cases_eq, cases_lt, eq-eqb, ne_eqb, eqb-true as eqb-is, cond-true, cond-false}
+use Rattle.std.proofs.lemmas.List.{get_or-map, get_or_default, take_more, get_or-set_same, get_or-set_other, get_or-replicate, get_or_past, length-replicate, append-nil}
+use Rattle.std.proofs.lemmas.Grind.{flat_map-append}
 use Rattle.std.proofs.lemmas.List.Elements.{All-head, All-tail, All-cons, All-nil}
 use Rattle.std.proofs.lemmas.List.Sums.{sum_by-cons, sum_by-append}
 use Rattle.std.proofs.lemmas.List.Sorted.{sum_by-IsPermutation, All-permutation as permuted}
@@ -182,6 +183,29 @@ BelowAll-cons : (n : ℕ) (a b : Link) (links : List Link) → (a.from < n) × (
     → AreLinksBelow n (a ∷ (b ∷ links))
 BelowAll-cons n a b links h i below = All-cons (λ (l : Link). (l.from < n) × (l.to < n)) a (b ∷ links) h (All-cons (λ (l : Link). (l.from < n) ×
     (l.to < n)) b links i below)
+
+links-one_more : (chart : List Rooted) (colours : List Bool) (sides : List (ℕ × ℕ)) (k : ℕ) → k < length sides
+    → links_of chart colours (take (k + 1) sides) ≡ links_of chart colours (take k sides) ++ picked_of chart colours (get_or sides k (0, 0))
+links-one_more chart colours sides k within =
+    ap (links_of chart colours) (take_more sides k (0, 0) within)
+    ∙ (flat_map-append (picked_of chart colours) (take k sides) (get_or sides k (0, 0) ∷ [])
+    ∙ ap (λ ls. links_of chart colours (take k sides) ++ ls) (append-nil (picked_of chart colours (get_or sides k (0, 0)))))
+
+-- one zone more, between two components or within one
+pub links-across : (chart : List Rooted) (colours : List Bool) (sides : List (ℕ × ℕ)) (k : ℕ) → k < length sides → is_across chart (get_or sides k (0, 0)) ≡ true
+    → links_of chart colours (take (k + 1) sides) ≡ (links_of chart colours (take k sides)
+    ++ link_of chart colours (get_or sides k (0, 0)).0 (get_or sides k (0, 0)).1 ∷ []) ++ link_of chart colours (get_or sides k (0, 0)).1 (get_or sides k (0, 0)).0 ∷ []
+links-across chart colours sides k within apart =
+    links-one_more chart colours sides k within
+    ∙ (ap (λ ls. links_of chart colours (take k sides) ++ ls) (cond-true (is_across chart (get_or sides k (0, 0))) _ _ apart)
+    ∙ sym (append_assoc (links_of chart colours (take k sides)) _ _))
+
+pub links-within : (chart : List Rooted) (colours : List Bool) (sides : List (ℕ × ℕ)) (k : ℕ) → k < length sides → is_across chart (get_or sides k (0, 0)) ≡ false
+    → links_of chart colours (take (k + 1) sides) ≡ links_of chart colours (take k sides)
+links-within chart colours sides k within joined =
+    links-one_more chart colours sides k within
+    ∙ (ap (λ ls. links_of chart colours (take k sides) ++ ls) (cond-false (is_across chart (get_or sides k (0, 0))) _ _ joined)
+    ∙ append-nil (links_of chart colours (take k sides)))
 
 -- links join components below the number of pieces
 pub links-below : (chart : List Rooted) (colours : List Bool) (sides : List (ℕ × ℕ)) → AreLow chart → AreSidesBelow (length chart) sides

@@ -11,6 +11,7 @@ use Rattle.std.proofs.Common.{
   ◌⊎◌,
   inl,
   inr,
+  Option,
   Bool,
   true,
   false,
@@ -37,11 +38,13 @@ use Rattle.std.specs.BinaryHeap.{IsUpperBound}
 use Rattle.std.specs.Ordering.{nat_cmp}
 use Rattle.std.specs.declared.cmp.Reverse.{Reverse}
 use Rattle.std.proofs.lemmas.Bool.{cases_lt, eq-eqb, ne_eqb, ltb-true, ltb-false, leb-true, leb-false, cond-true, cond-false}
+use Rattle.std.proofs.lemmas.List.{get_or_past}
 use Rattle.std.proofs.lemmas.List.Elements.{All-head}
 use Rattle.std.proofs.lemmas.List.Sorted.{Contains-permutation, le_from_greatest}
 use Rattle.dpl_spec_split.proofs.Ordered.{Contains-head, Contains-later, Contains-cases}
 use Rattle.dpl_orient.specs.declared.links.Link.{Link}
-use Rattle.dpl_orient.specs.Tallies.{Waits}
+use Rattle.dpl_orient.specs.declared.tallies.Tally.{Tally}
+use Rattle.dpl_orient.specs.Tallies.{tally_at, GainsAt, Waits}
 
 -- what a range of a list has that passes, where nothing outside does and all in it does
 pub filter-range : {X : Type 0} (p : X → Bool) (xs : List X) (lo n : ℕ) → ((i : ℕ) (d : X) → i < lo → i < length xs → p (get_or xs i d) ≡ false)
@@ -109,3 +112,13 @@ waits-rest xs ys x r same h = elim (Contains-cases (record { 0 = x }) (record { 
 
 one-least : (x r : ℕ) → IsUpperBound (λ (a b : Reverse ℕ). nat_cmp b.0 a.0) (record { 0 = x }) (record { 0 = r } ∷ []) → x ≤ r
 one-least x r h = All-head (λ y. y ≤ r) x [] (le_from_greatest r (x ∷ []) h)
+
+-- a component that gains has a tally
+pub gains-within : (held : Option ℕ) (tallies : List Tally) (root : ℕ) → GainsAt held tallies root → root < length tallies
+gains-within held tallies root g = elim (cases_lt root (length tallies)) [
+  | inl below ↦ below
+  | inr past ↦ absurd (let t : tally_at tallies root ≡ record { differing = 0; agreeing = 0 } = get_or_past tallies root (record { differing = 0; agreeing = 0 }) past in
+      let d : (tally_at tallies root).differing ≡ 0 = ap (λ x. x.differing) t in
+      let f = g.fewer in
+      omega (arith, d, f))
+]

@@ -1,4 +1,7 @@
+use Rattle.std.proofs.Common.{length, sym, ap, ◌∙◌, subst}
 use Rattle.std.proofs.lemmas.Result.{IfOk-weaker}
+use Rattle.dpl_orient.specs.Chart.{AreLow}
+use Rattle.dpl_orient.specs.Crossings.{crossings_at, AreGrouped, GoUp}
 use Rattle.dpl_orient.proofs.Across.{rows-coloured}
 use Rattle.dpl_orient.proofs.colouring.orient_rows.Goals as goal
 
@@ -10,3 +13,26 @@ returns c =
     c.deref-2.ensures.value c.deref-3.ensures.value c.in_ok-flips.ensures.len c.in_ok-flips.ensures.flips c.deref-4.ensures.value
     c.deref-5.ensures.value h)
     c.masks.ensures
+
+pub chart-requires-clause-ordered : goal.chart-requires-clause-ordered
+chart-requires-clause-ordered c = c.requires.ordered
+
+pub chart-requires-clause-below : goal.chart-requires-clause-below
+chart-requires-clause-below c = c.requires.below
+
+pub flips-requires-clause-grouped : goal.flips-requires-clause-grouped
+flips-requires-clause-grouped c =
+    subst (λ chart. AreGrouped (crossings_at chart c.args.sides.now c.deref-3.result.now)) (c.deref.ensures.value ∙ sym c.deref-2.ensures.value)
+    (subst (λ across. AreGrouped (crossings_at c.deref.result.now c.args.sides.now across)) (sym c.deref-3.ensures.value) c.in_ok-across.ensures.grouped)
+
+pub flips-requires-clause-up : goal.flips-requires-clause-up
+flips-requires-clause-up c =
+    subst (λ chart. GoUp (crossings_at chart c.args.sides.now c.deref-3.result.now)) (c.deref.ensures.value ∙ sym c.deref-2.ensures.value)
+    (subst (λ across. GoUp (crossings_at c.deref.result.now c.args.sides.now across)) (sym c.deref-3.ensures.value) c.in_ok-across.ensures.up)
+
+pub masks-requires-clause-low : goal.masks-requires-clause-low
+masks-requires-clause-low c = subst AreLow (sym c.deref-4.ensures.value) c.in_ok-chart.ensures.low
+
+pub masks-requires-clause-len : goal.masks-requires-clause-len
+masks-requires-clause-len c =
+    ap length c.deref-5.ensures.value ∙ (c.in_ok-flips.ensures.len ∙ sym (ap length c.deref-4.ensures.value ∙ c.in_ok-chart.ensures.chart.len))

@@ -1,4 +1,6 @@
 use Rattle.std.proofs.Common.{ap, sym, ◌∙◌}
+use Rattle.std.proofs.lemmas.List.{take_all}
+use Rattle.dpl_orient.specs.Crossings.{crossings_of}
 use Rattle.dpl_orient.proofs.Numbers.{listed-across, listed-within}
 use Rattle.dpl_orient.proofs.crossing.listed.Goals as goal
 use Rattle.dpl_orient.proofs.crossing.listed.Goals.{then-is_across+in_ok-later+in_ok-zone+in_ok-push, else-is_across}
@@ -12,3 +14,10 @@ loop-zone-preserved c = elim c.if-is_across.branch [
       (listed-within c.args.chart.now c.args.sides.now c.loop-zone.zone _ c.loop-zone-test.true c.loop-zone.invariant
       (sym c.is_across.ensures ∙ w.if-is_across.false))
 ]
+
+pub returns-clause-later : goal.returns-clause-later
+returns-clause-later c = c.loop-zone.invariant.later
+
+pub returns-clause-crossings : goal.returns-clause-crossings
+returns-clause-crossings c =
+    c.loop-zone.invariant.same ∙ ap (crossings_of c.args.chart.now) (take_all c.loop-zone.zone c.args.sides.now c.loop-zone-test.false)

@@ -1,4 +1,4 @@
-use Rattle.std.proofs.Common.{◌≡◌, ℕ, ◌<◌, ◌≤◌, false, not, length, map, get_or, set, sym, ◌∙◌, subst}
+use Rattle.std.proofs.Common.{◌≡◌, ℕ, ◌<◌, ◌≤◌, false, not, length, map, get_or, set, sym, ap, ◌∙◌, subst, arith}
 use Rattle.std.specs.BinaryHeap.{heap_items}
 use Rattle.std.specs.List.Sorted.{IsPermutation}
 use Rattle.std.specs.Vec.{with_items}
@@ -120,3 +120,53 @@ returns-clause-led c =
     let done : (root : ℕ) → GainsBy (held_root c.args.chart.now c.args.fixed) flips links root → ⊥ = rw (← c.held_root-held.ensures)
     (none-by-links c.held_root-held.result links flips c.loop-root.tallies.items c.loop-root.invariant.tallies below none) in
     underway-end c.args.chart.now colours flips c.args.sides.now c.args.fixed links same c.requires.sides mixed c.loop-root.invariant.underway done
+
+pub links-requires-clause-low : goal.links-requires-clause-low
+links-requires-clause-low c = c.requires.low
+
+pub links-requires-clause-sides : goal.links-requires-clause-sides
+links-requires-clause-sides c = c.requires.sides
+
+pub links-requires-clause-each : goal.links-requires-clause-each
+links-requires-clause-each c = c.requires.each
+
+pub queue_of-requires : goal.queue_of-requires
+queue_of-requires c =
+    let tallies : length c.deref-3.result.now ≡ length c.deref-2.result.now = ap length c.deref-3.ensures.value ∙ c.in_ok-tallies.ensures.len in
+    let flips : length c.deref-2.result.now ≡ length c.in_ok-flips.flips.items = ap length c.deref-2.ensures.value in
+    let len = c.in_ok-flips.ensures.len in
+    let long = c.in_ok-flips.flips.ok.0 in
+    let few = c.requires.few in
+    omega (arith, tallies, flips, len, long, few)
+
+pub next_gain-requires-clause-queue : goal.next_gain-requires-clause-queue
+next_gain-requires-clause-queue c = c.loop-root.invariant.queue
+
+pub next_gain-requires-clause-all : goal.next_gain-requires-clause-all
+next_gain-requires-clause-all c =
+    subst (λ ts. AllWait c.held_root-held.result ts (heap_items c.loop-root.waiting)) (sym c.deref-in-loop-root.ensures.value) c.loop-root.invariant.all
+
+pub flip-requires-clause-ordered : goal.flip-requires-clause-ordered
+flip-requires-clause-ordered c = rw c.deref-in-Some.ensures.value c.group.ensures.ordered
+
+pub flip-requires-clause-within : goal.flip-requires-clause-within
+flip-requires-clause-within c =
+    let gains : GainsAt c.held_root-held.result c.loop-root.tallies.items c.in-Some.root = rw c.deref-in-loop-root.ensures.value at c.in-Some.ensures.gains in
+    rw c.deref_mut.ensures.value (gain-within c.held_root-held.result c.group.new.links.items c.loop-root.flips.items c.loop-root.tallies.items
+    c.loop-root.invariant.tallies c.in-Some.root gains)
+
+pub flip-requires-clause-tallies : goal.flip-requires-clause-tallies
+flip-requires-clause-tallies c =
+    rw (c.deref-in-Some.ensures.value, c.deref_mut.ensures.value, c.deref_mut-in-Some.ensures.value) c.loop-root.invariant.tallies
+
+pub flip-requires-clause-gains : goal.flip-requires-clause-gains
+flip-requires-clause-gains c = rw c.deref_mut-in-Some.ensures.value (rw c.deref-in-loop-root.ensures.value at c.in-Some.ensures.gains)
+
+pub flip-requires-clause-queue : goal.flip-requires-clause-queue
+flip-requires-clause-queue c = c.in-Some.ensures.queue
+
+pub flip-requires-clause-rest : goal.flip-requires-clause-rest
+flip-requires-clause-rest c = rw c.deref_mut-in-Some.ensures.value (rw c.deref-in-loop-root.ensures.value at c.in-Some.ensures.rest)
+
+pub returns-clause-len : goal.returns-clause-len
+returns-clause-len c = c.loop-root.invariant.underway.len
