@@ -123,6 +123,9 @@ blocks-few t (None ∷ starts) = let r = blocks-few (t + 1) starts in omega (ari
 blocks-few t (Some k ∷ starts) = let r = blocks-few (t + 1) starts in omega (arith, r)
 
 -- no blocks
+pub aligned-none : (starts : List (Option ℕ)) → ((i : ℕ) → get_or starts i None ≡ None) → AreAligned starts
+aligned-none starts none t k some = let e = none t in absurd (cc)
+
 pub blocks-none : (t : ℕ) (starts : List (Option ℕ)) → ((i : ℕ) → get_or starts i None ≡ None) → blocks_from t starts ≡ []
 blocks-none t [] none = refl
 blocks-none t (None ∷ starts) none = blocks-none (t + 1) starts (λ i. none (suc i))
