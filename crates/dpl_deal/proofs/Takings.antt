@@ -80,6 +80,10 @@ pub was_none : (a b : List Grip) (t : Option ℕ) → is_some t ≡ false → Tr
 was_none a b None e h = h
 was_none a b (Some u) e h = absurd (cc)
 
+pub none_where : (P : Type 0) (t : Option ℕ) → is_some t ≡ true → IfNone t P
+none_where P None e = absurd (cc)
+none_where P (Some u) e = tt
+
 pub where_none : {P : Type 0} (t : Option ℕ) → is_some t ≡ false → IfNone t P → P
 where_none None e p = p
 where_none (Some u) e p = absurd (cc)

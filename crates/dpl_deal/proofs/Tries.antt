@@ -1,5 +1,5 @@
 -- What a pop and the tries to steal leave of a hand.
-use Rattle.std.proofs.Common.{◌≡◌, ◌∙◌, ◌+◌, ◌<◌, ℕ, true, false, List, [], ◌∷◌, ◌++◌, length, map, get_or, sym, ap, subst, arith, Option, Some, None}
+use Rattle.std.proofs.Common.{◌≡◌, ◌∙◌, ◌+◌, ◌<◌, ◌≤◌, ℕ, true, false, List, [], ◌∷◌, ◌++◌, length, map, get_or, sym, ap, subst, arith, Option, Some, None}
 use Rattle.std.specs.Prelude.{IfSome}
 use Rattle.std.proofs.lemmas.List.{length-map, get_or-map}
 use Rattle.crossbeam_deque.specs.Handles.{worker_deque, worker_view}
@@ -9,8 +9,8 @@ use Rattle.dpl_deal.specs.declared.grip.Thief.{Thief}
 use Rattle.dpl_deal.specs.declared.hand.Hand.{Hand}
 use Rattle.dpl_deal.specs.declared.deal.Deal.{Deal}
 use Rattle.dpl_deal.specs.Rule.{times}
-use Rattle.dpl_deal.specs.Grips.{AreWithin, Tried, grip_deque, thief_deque, took_by}
-use Rattle.dpl_deal.specs.Hands.{IsHandOf, deal_deques, own_deque, own_view, row_of, taken}
+use Rattle.dpl_deal.specs.Grips.{AllEnded, AreWithin, EndedBelow, Tried, grip_deque, thief_deque, took_by}
+use Rattle.dpl_deal.specs.Hands.{IsDone, IsHandOf, deal_deques, own_deque, own_view, row_of, taken}
 use Rattle.dpl_deal.proofs.Moves.{times-append}
 
 view_of : (a b : Hand) → a.own ≡ b.own → own_view a ≡ own_view b
@@ -75,3 +75,23 @@ pub grip_fits : (deal : Deal) (gs : List Grip) (i : ℕ) (t : Thief) → map gri
 grip_fits deal gs i t e lt is d =
     sym (get_or-map grip_deque gs i d (grip_deque d) (grip_place deal gs i e lt)) ∙ ap (λ l. get_or l i (grip_deque d)) e
     ∙ get_or-map thief_deque deal.thieves.items i t (grip_deque d) lt ∙ ap thief_deque (sym is)
+
+pub done_same : (old new : Hand) → new.grips ≡ old.grips → IsDone old → IsDone new
+done_same old new g done = subst (λ v. AllEnded v.items) (sym g) done
+
+-- what is noted stays so over tries
+pub done_tried : (old mid new : Hand) (t : Option ℕ) → mid.grips ≡ old.grips → Tried (row_of mid) t (row_of new) → IsDone old → IsDone new
+done_tried old mid new t g h done =
+    let was : IsDone mid = done_same old mid g done in
+    h.ended (length (row_of new)) (λ j d l. was j d (omega (arith, l, ap length h.deques, length-map (row_of new) grip_deque, length-map (row_of mid) grip_deque)))
+
+-- where no tile was popped and every deque was tried, none is left
+pub emptied : (deal : Deal) (old mid new : Hand) (at : ℕ) → ((me : ℕ) × IsHandOf deal me old) → (own_view mid).took ≡ (own_view old).took
+    → mid.grips ≡ old.grips → new.own ≡ mid.own → Tried (row_of mid) None (row_of new) → EndedBelow at (row_of new)
+    → length deal.thieves.items ≤ at → (taken new ≡ taken old) × IsDone new
+emptied deal old mid new at is took g own h ended all =
+    let e : map grip_deque (row_of new) ≡ deal_deques deal = h.deques ∙ ap (λ v. map grip_deque v.items) g ∙ is.1.grips in (
+      ap (λ ts. ts ++ took_by (row_of new)) (ap (λ (v : PassView). v.took) (view_of new mid own) ∙ took)
+          ∙ ap (λ ts. (own_view old).took ++ ts) (h.none ∙ ap (λ v. took_by v.items) g),
+      λ k d l. ended k d (omega (arith, l, all, ap length e, length-map (row_of new) grip_deque, length-map deal.thieves.items thief_deque)),
+    )

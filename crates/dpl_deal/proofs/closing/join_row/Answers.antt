@@ -11,7 +11,7 @@ join-requires c =
     let all : c.loop-grip.yielded ++ c.in-Some.grip ∷ c.next.new.self.rest.items ≡ c.args.row.items = search rules in
     let ds = ap (map grip_deque) all ∙ c.requires.deques ∙ sym c.loop-grip.invariant.3 in
     let lt = next_place grip_deque own_deque c.loop-grip.yielded c.next.new.self.rest.items c.in-Some.grip c.loop-grip.hands.items c.loop-grip.at c.loop-grip.invariant.1 ds in
-    let is : c.index_mut.result.now ≡ get_or c.loop-grip.hands.items c.loop-grip.at c.index_mut.result.now = search rules in
+    let is : c.index_mut.result.now ≡ get_or c.loop-grip.hands.items c.loop-grip.at c.index_mut.result.now = c.index_mut.ensures.value in
     record {
       deque = same_deque grip_deque own_deque c.loop-grip.yielded c.next.new.self.rest.items c.in-Some.grip c.loop-grip.hands.items
           c.loop-grip.at c.index_mut.result.now c.loop-grip.invariant.1 lt is ds;
@@ -22,7 +22,7 @@ loop-grip-preserved c =
     let all : c.loop-grip.yielded ++ c.in-Some.grip ∷ c.next.new.self.rest.items ≡ c.args.row.items = search rules in
     let ds = ap (map grip_deque) all ∙ c.requires.deques ∙ sym c.loop-grip.invariant.3 in
     let lt = next_place grip_deque own_deque c.loop-grip.yielded c.next.new.self.rest.items c.in-Some.grip c.loop-grip.hands.items c.loop-grip.at c.loop-grip.invariant.1 ds in
-    let is : c.index_mut.result.now ≡ get_or c.loop-grip.hands.items c.loop-grip.at c.index_mut.result.now = search rules in
+    let is : c.index_mut.result.now ≡ get_or c.loop-grip.hands.items c.loop-grip.at c.index_mut.result.now = c.index_mut.ensures.value in
     let lens : length (views_of c.args.hands.now.items) ≡ length c.loop-grip.hands.items = omega (
       arith,
       length-map c.loop-grip.hands.items own_view,

@@ -10,21 +10,21 @@ use Rattle.dpl_deal.proofs.closing.learn_all.Goals as goal
 pub learn-requires-clause-parts : goal.learn-requires-clause-parts
 learn-requires-clause-parts c =
     let lt : c.loop-at.at < length c.loop-at.hands.items = search rules in
-    let is : c.index_mut.result.now ≡ get_or c.loop-at.hands.items c.loop-at.at c.index_mut.result.now = search rules in
+    let is : c.index_mut.result.now ≡ get_or c.loop-at.hands.items c.loop-at.at c.index_mut.result.now = c.index_mut.ensures.value in
     (at_owner (λ v. (v.parts ≡ 1024) × (v.ended ≡ true)) c.loop-at.hands.items c.loop-at.at c.index_mut.result.now lt is
     (subst (All (λ (v : PassView). (v.parts ≡ 1024) × (v.ended ≡ true))) (sym c.loop-at.invariant.1) c.requires.views)).0
 
 pub learn-requires-clause-ended : goal.learn-requires-clause-ended
 learn-requires-clause-ended c =
     let lt : c.loop-at.at < length c.loop-at.hands.items = search rules in
-    let is : c.index_mut.result.now ≡ get_or c.loop-at.hands.items c.loop-at.at c.index_mut.result.now = search rules in
+    let is : c.index_mut.result.now ≡ get_or c.loop-at.hands.items c.loop-at.at c.index_mut.result.now = c.index_mut.ensures.value in
     (at_owner (λ v. (v.parts ≡ 1024) × (v.ended ≡ true)) c.loop-at.hands.items c.loop-at.at c.index_mut.result.now lt is
     (subst (All (λ (v : PassView). (v.parts ≡ 1024) × (v.ended ≡ true))) (sym c.loop-at.invariant.1) c.requires.views)).1
 
 pub loop-at-preserved : goal.loop-at-preserved
 loop-at-preserved c =
     let lt : c.loop-at.at < length c.loop-at.hands.items = search rules in
-    let is : c.index_mut.result.now ≡ get_or c.loop-at.hands.items c.loop-at.at c.index_mut.result.now = search rules in
+    let is : c.index_mut.result.now ≡ get_or c.loop-at.hands.items c.loop-at.at c.index_mut.result.now = c.index_mut.ensures.value in
     let v = own_view c.index_mut.result.now in (
       c.loop-at.invariant.0,
       map_put own_view c.loop-at.hands.items c.loop-at.at c.index_mut.result.now c.learn.new.self lt is c.learn.ensures.same ∙ c.loop-at.invariant.1,

@@ -12,7 +12,7 @@ use Rattle.dpl_deal.proofs.dealing.grip_all.Goals as goal
 pub grip-requires : goal.grip-requires
 grip-requires c =
     let lt : c.loop-at.at < length c.loop-at.hands.items = search rules in
-    let is : c.index_mut.result.now ≡ get_or c.loop-at.hands.items c.loop-at.at c.index_mut.result.now = search rules in
+    let is : c.index_mut.result.now ≡ get_or c.loop-at.hands.items c.loop-at.at c.index_mut.result.now = c.index_mut.ensures.value in
     let lens : length c.args.hands.now.items ≡ length c.loop-at.hands.items = search rules in
     let e = gripped_view (views_of c.args.hands.now.items) c.loop-at.hands.items c.loop-at.at c.index_mut.result.now lt is c.loop-at.invariant.1 in
     record {
@@ -23,15 +23,15 @@ grip-requires c =
 pub loop-at-preserved : goal.loop-at-preserved
 loop-at-preserved c =
     let lt : c.loop-at.at < length c.loop-at.hands.items = search rules in
-    let is : c.index_mut.result.now ≡ get_or c.loop-at.hands.items c.loop-at.at c.index_mut.result.now = search rules in
+    let is : c.index_mut.result.now ≡ get_or c.loop-at.hands.items c.loop-at.at c.index_mut.result.now = c.index_mut.ensures.value in
     let lens : length c.args.hands.now.items ≡ length c.loop-at.hands.items = search rules in
-    let w : own_view c.grip.new.self ≡ after_grip (own_view c.index_mut.result.now) = search rules in
-    let q : own_deque c.grip.new.self ≡ own_deque c.index_mut.result.now = search rules in
-    let gs : c.grip.new.self.grips ≡ c.index_mut.result.now.grips = search rules in
-    let mk : c.grip.new.self.marked ≡ c.index_mut.result.now.marked = search rules in
-    let pushed : c.push.new.self.items ≡ c.loop-at.grips.items ++ c.in_ok-grip.grip ∷ [] = search rules in
-    let gd : grip_deque c.in_ok-grip.grip ≡ own_deque c.index_mut.result.now = search rules in
-    let gv : grip_view c.in_ok-grip.grip ≡ cut_off (own_view c.index_mut.result.now) = search rules in
+    let w : own_view c.grip.new.self ≡ after_grip (own_view c.index_mut.result.now) = c.in_ok-grip.ensures.view in
+    let q : own_deque c.grip.new.self ≡ own_deque c.index_mut.result.now = c.in_ok-grip.ensures.deque in
+    let gs : c.grip.new.self.grips ≡ c.index_mut.result.now.grips = c.in_ok-grip.ensures.grips in
+    let mk : c.grip.new.self.marked ≡ c.index_mut.result.now.marked = c.in_ok-grip.ensures.marked in
+    let pushed : c.push.new.self.items ≡ c.loop-at.grips.items ++ c.in_ok-grip.grip ∷ [] = c.in_ok-push.ensures.items in
+    let gd : grip_deque c.in_ok-grip.grip ≡ own_deque c.index_mut.result.now = c.in_ok-grip.ensures.grip.0 in
+    let gv : grip_view c.in_ok-grip.grip ≡ cut_off (own_view c.index_mut.result.now) = c.in_ok-grip.ensures.grip.1 in
     let ve = gripped_view (views_of c.args.hands.now.items) c.loop-at.hands.items c.loop-at.at c.index_mut.result.now lt is c.loop-at.invariant.1 in (
       c.loop-at.invariant.0,
       grip_step (views_of c.args.hands.now.items) c.loop-at.hands.items c.loop-at.at c.index_mut.result.now c.grip.new.self lt is

@@ -8,9 +8,9 @@ use Rattle.dpl_deal.proofs.dealing.thieves_of.Goals as goal
 pub loop-at-preserved : goal.loop-at-preserved
 loop-at-preserved c =
     let lt : c.loop-at.at < length c.args.hands.now.items = search rules in
-    let is : c.index.result.now ≡ get_or c.args.hands.now.items c.loop-at.at c.index.result.now = search rules in
-    let pushed : c.push.new.self.items ≡ c.loop-at.thieves.items ++ c.in_ok-thief.thief ∷ [] = search rules in
-    let same : thief_deque c.in_ok-thief.thief ≡ own_deque c.index.result.now = search rules in
+    let is : c.index.result.now ≡ get_or c.args.hands.now.items c.loop-at.at c.index.result.now = c.index.ensures in
+    let pushed : c.push.new.self.items ≡ c.loop-at.thieves.items ++ c.in_ok-thief.thief ∷ [] = c.in_ok-push.ensures.items in
+    let same : thief_deque c.in_ok-thief.thief ≡ own_deque c.index.result.now = c.in_ok-thief.ensures in
     ap (map thief_deque) pushed ∙ map_take_next thief_deque c.loop-at.thieves.items c.in_ok-thief.thief
     (deques_of c.args.hands.now.items) c.loop-at.at (own_deque c.index.result.now)
     (omega (arith, lt, length-map c.args.hands.now.items own_deque)) c.loop-at.invariant

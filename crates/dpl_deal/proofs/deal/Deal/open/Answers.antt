@@ -9,7 +9,7 @@ pub returns-clause-hands : goal.returns-clause-hands
 returns-clause-hands c =
     let n : vec_len c.spread.new.hands ≡ length c.arm_all.new.hands.items = search rules in
     let deal : Deal = record { tiles = c.args.tiles; thieves = c.in_ok-thieves.thieves; alloc = c.args.alloc } in
-    let ds : map thief_deque c.in_ok-thieves.thieves.items ≡ deques_of c.arm_all.new.hands.items = search rules in
+    let ds : map thief_deque c.in_ok-thieves.thieves.items ≡ deques_of c.arm_all.new.hands.items = c.in_ok-thieves.ensures in
     let out = c.in_ok-arm_all.ensures.views in
     let armed : All (IsArmed (deques_of c.arm_all.new.hands.items) c.args.tiles) (rows_of c.arm_all.new.hands.items) = c.in_ok-arm_all.ensures.hands in
     opened deal c.arm_all.new.hands.items ds (subst (λ (k : ℕ). EachAt (IsOut k c.args.tiles k) (views_of c.arm_all.new.hands.items)) n out) armed c.in_ok-arm_all.ensures.marks

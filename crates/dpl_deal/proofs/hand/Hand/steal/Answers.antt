@@ -8,7 +8,7 @@ pub returns-clause-tried : goal.returns-clause-tried
 returns-clause-tried g c =
     let gs = c.args.self.now.grips.items in
     let lt : c.args.at < length c.args.self.now.grips.items = search rules in
-    let is : c.index_mut.result.now ≡ get_or c.args.self.now.grips.items c.args.at c.index_mut.result.now = search rules in
+    let is : c.index_mut.result.now ≡ get_or c.args.self.now.grips.items c.args.at c.index_mut.result.now = c.index_mut.ensures.value in
     record {
       deques = map_put grip_deque gs c.args.at c.index_mut.result.now c.take.new.self lt is c.take.ensures.deque;
       within = λ tiles h. all_put (λ (y : Grip). (grip_view y).limit ≤ tiles) gs c.args.at c.index_mut.result.now c.take.new.self lt is h (λ old. rw c.take.ensures.limit old);
@@ -24,5 +24,5 @@ pub returns-clause-ended : goal.returns-clause-ended
 returns-clause-ended g c =
     let gs = c.args.self.now.grips.items in
     let lt : c.args.at < length c.args.self.now.grips.items = search rules in
-    let is : c.index_mut.result.now ≡ get_or c.args.self.now.grips.items c.args.at c.index_mut.result.now = search rules in
+    let is : c.index_mut.result.now ≡ get_or c.args.self.now.grips.items c.args.at c.index_mut.result.now = c.index_mut.ensures.value in
     if_none c.take.result (λ p. ended_next gs c.args.at c.index_mut.result.now c.take.new.self lt is p.1) c.take.ensures.none
