@@ -1,6 +1,7 @@
-use Rattle.std.proofs.Common.{refl}
+use Rattle.std.proofs.Common.{[], ◌∷◌, arith, inl, refl}
 use Rattle.std.proofs.lemmas.Bool.{false≢true}
-use Rattle.dpl_shade.proofs.ShadingLaws.{barren-by, handles-none, handles-push, sound-dead, sound-push}
+use Rattle.std.proofs.lemmas.List.Elements.{Contains-append_left}
+use Rattle.dpl_shade.proofs.ShadingLaws.{barren-by, flag-here, flag-stays, handles-none, handles-push, more-same, sound-dead, sound-push}
 use Rattle.dpl_shade.proofs.shades.add_shadow.Goals as goal
 
 pub returns-then-not-meets-clause-handles : goal.returns-then-not-meets-clause-handles
@@ -25,3 +26,26 @@ returns-clause-handles c =
     (record { spacing = c.args.shades.now.spacing; overlap = c.args.shades.now.overlap; found = c.push.new.self; dead = c.args.shades.now.dead })
     c.args.shades.now.found.items c.args.n c.args.m c.args.span
     c.in_ok-push.ensures.items c.requires.shadow
+
+pub returns-then-not-meets-clause-sound : goal.returns-then-not-meets-clause-sound
+returns-then-not-meets-clause-sound c = c.requires.sound
+
+pub returns-then-not-meets-clause-more : goal.returns-then-not-meets-clause-more
+returns-then-not-meets-clause-more c = more-same c.args.shades.now
+
+pub returns-then-leaves_few-clause-more : goal.returns-then-leaves_few-clause-more
+returns-then-leaves_few-clause-more c =
+    record { spacing = refl; overlap = refl; found = λ s h. h; dead = λ k d. flag-stays c.args.shades.now.dead.items c.args.n k d }
+
+pub returns-then-leaves_few-clause-handles : goal.returns-then-leaves_few-clause-handles
+returns-then-leaves_few-clause-handles c =
+    let size = c.requires.sound.sized in let first = c.requires.first in
+    inl (flag-here c.args.shades.now.dead.items c.args.n (omega (arith, size, first)))
+
+pub returns-clause-more : goal.returns-clause-more
+returns-clause-more c = record {
+  spacing = refl;
+  overlap = refl;
+  found = λ s h. rw c.in_ok-push.ensures.items (Contains-append_left c.args.shades.now.found.items (record { number = c.args.n; span = c.args.span } ∷ []) s h);
+  dead = λ n d. d;
+}
