@@ -1,11 +1,11 @@
 -- Items in strips.
-use Rattle.std.proofs.Common.{◌≡◌, ℕ, ◌+◌, ◌<◌, ◌≤◌, ◌⊎◌, inl, inr, List, [], ◌∷◌, ◌++◌, length, take, sym, subst, arith}
+use Rattle.std.proofs.Common.{◌≡◌, ℕ, ◌+◌, ◌<◌, ◌≤◌, ◌⊎◌, inl, inr, List, [], ◌∷◌, ◌++◌, length, get_or, take, ap, sym, subst, arith}
 use Rattle.std.specs.Prelude.{ℤ, pos, ◌+ℤ◌, ◌-ℤ◌, ◌≤ℤ◌}
 use Rattle.std.specs.Int.{int_max}
 use Rattle.std.specs.List.{All, AllPairs, Contains}
 use Rattle.std.proofs.lemmas.Bool.{cases_eq, cases_lt}
 use Rattle.std.proofs.lemmas.Int.{ints, clamps}
-use Rattle.std.proofs.lemmas.List.{take_all}
+use Rattle.std.proofs.lemmas.List.{get_or_past, take_all}
 use Rattle.std.proofs.lemmas.List.Elements.{All-more, All-push, All-weaker, Contains-append_left, Contains-push}
 use Rattle.std.proofs.lemmas.List.Quantifiers.{all_pairs_push}
 use Rattle.dpl_join.specs.declared.items.Item.{Item}
@@ -36,6 +36,28 @@ stands-below first shift rule last item lies =
     let b = lies.begin in
     let d = lies.end in
     strips-rise first shift (int_max ((item.rect.y1 +ℤ pos rule) -ℤ pos 1) item.rect.y0) (last +ℤ pos rule) (omega (arith, ints, clamps, a)) (omega (arith, ints, clamps, b, d))
+
+pub lows-of : (first last : ℤ) (items : List Item) → All (LiesWithin first last) items → All (λ (item : Item). first ≤ℤ item.rect.y0) items
+lows-of first last items lies k d k_in = (lies k d k_in).low
+
+pub tops-of : (first last : ℤ) (shift rule count rooms : ℕ) (items : List Item) → All (LiesWithin first last) items
+    → ((item : Item) → LiesWithin first last item → last_strip first shift rule item.rect < count) → rooms ≡ count
+    → All (λ (item : Item). last_strip first shift rule item.rect < rooms) items
+tops-of first last shift rule count rooms items lies below same k d k_in = let b = below (get_or items k d) (lies k d k_in) in omega (arith, b, same)
+
+no-strip : (strips : List (List ℕ)) (k i : ℕ) → All (λ s. s ≡ []) strips → i < length (strip_at strips k) → ⊥
+no-strip strips k i empty i_in =
+    let none : strip_at strips k ≡ [] = elim (cases_lt k (length strips)) [ inl l ↦ empty k [] l | inr m ↦ get_or_past strips k [] m ] in
+    let size : length (strip_at strips k) ≡ 0 = ap (λ (s : List ℕ). length s) none in
+    omega (arith, i_in, size)
+
+-- no item is filed in strips without items
+pub filed-none : (items : List Item) (first : ℤ) (shift rule : ℕ) (strips : List (List ℕ)) → All (λ s. s ≡ []) strips → AreFiledTo items 0 first shift rule strips
+filed-none items first shift rule strips empty = record {
+  known = λ k i d i_in. absurd (no-strip strips k i empty i_in);
+  rise = λ k i j d l j_in. absurd (no-strip strips k j empty j_in);
+  filed = λ i k l. absurd (omega (arith, l));
+}
 
 module _ (items : List Item) (n low end : ℕ) (first : ℤ) (shift rule : ℕ) (old new : List (List ℕ)) (filed : AreFiledTo items n first shift rule old) (added : IsAddedTo n low end old new) where
   abbrev Which : ℕ → Type 0
