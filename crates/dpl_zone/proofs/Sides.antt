@@ -1,6 +1,6 @@
 -- Zones of one feature stand apart, and each has two sides.
 use Rattle.std.proofs.Common.{◌≡◌, ℕ, ◌<◌, ◌≤◌, ◌⊎◌, inl, inr, List, [], length, get_or, sym, refl, ap, ◌∙◌, subst, arith}
-use Rattle.std.specs.Prelude.{ℤ, pos, ◌+ℤ◌, ◌-ℤ◌, ◌≤ℤ◌, ◌↔◌}
+use Rattle.std.specs.Prelude.{ℤ, pos, ◌+ℤ◌, ◌-ℤ◌, ◌≤ℤ◌, ◌<ℤ◌, ◌↔◌}
 use Rattle.std.specs.List.{Contains}
 use Rattle.std.proofs.lemmas.Int.{ints, by_lt_z}
 use Rattle.std.proofs.lemmas.List.{get_or_default}
@@ -25,6 +25,24 @@ use Rattle.dpl_zone.proofs.Keeping.{zone-inside, upright-inside}
 
 touch-transposed : (p q : Pt) → Touch p q → Touch (at p.y p.x) (at q.y q.x)
 touch-transposed p q t = let c = close-from_touch p q t in Touch-from_close (at p.y p.x) (at q.y q.x) c.low c.high c.left c.right
+
+-- squares side by side
+touch-across : (x i y : ℤ) → (x ≡ i -ℤ pos 1) ⊎ (x ≡ i +ℤ pos 1) → Touch (at i y) (at x y)
+touch-across x i y (inl e) = Touch-from_close (at i y) (at x y) (omega (arith, ints, e)) (omega (arith, ints, e)) (omega (arith, ints)) (omega (arith, ints))
+touch-across x i y (inr e) = Touch-from_close (at i y) (at x y) (omega (arith, ints, e)) (omega (arith, ints, e)) (omega (arith, ints)) (omega (arith, ints))
+
+touch-up : (x y j : ℤ) → (y ≡ j -ℤ pos 1) ⊎ (y ≡ j +ℤ pos 1) → Touch (at x y) (at x j)
+touch-up x y j (inl e) = Touch-from_close (at x y) (at x j) (omega (arith, ints)) (omega (arith, ints)) (omega (arith, ints, e)) (omega (arith, ints, e))
+touch-up x y j (inr e) = Touch-from_close (at x y) (at x j) (omega (arith, ints)) (omega (arith, ints)) (omega (arith, ints, e)) (omega (arith, ints, e))
+
+one-back : (a : ℤ) → a ≡ (a -ℤ pos 1) +ℤ pos 1
+one-back a = omega (arith, ints)
+
+one-less : (a : ℤ) → (a -ℤ pos 1) <ℤ a
+one-less a = omega (arith, ints)
+
+no-less : (a : ℤ) → a ≤ℤ a
+no-less a = omega (arith, ints)
 
 has-transposed : (r : Rect) (p : Pt) → Has r p → Has (transposed_rect r) (at p.y p.x)
 has-transposed r p h = record { left = h.low; right = h.high; low = h.left; high = h.right }
@@ -104,10 +122,7 @@ module _ (spacing : Spacing) (overlap : ℕ) (layer : List Rect) (features piece
           | inr e ↦ (let a = e.0 in let b = has.left in omega (arith, ints, a, b))
         ] in
         let right : x ≤ℤ z.rect.x1 = elim side [ inl e ↦ (let a = e.0 in let b = has.right in omega (arith, ints, a, b)) | inr e ↦ (let a = e.1 in omega (arith, ints, a)) ] in
-        let close : Touch (at i y) (at x y) = elim side [
-          | inl e ↦ (let a = e.0 in Touch-from_close (at i y) (at x y) (omega (arith, ints, a)) (omega (arith, ints, a)) (omega (arith, ints)) (omega (arith, ints)))
-          | inr e ↦ (let a = e.0 in Touch-from_close (at i y) (at x y) (omega (arith, ints, a)) (omega (arith, ints, a)) (omega (arith, ints)) (omega (arith, ints)))
-        ] in
+        let close : Touch (at i y) (at x y) = elim side [ inl e ↦ touch-across x i y (inl e.0) | inr e ↦ touch-across x i y (inr e.0) ] in
         let in_f = beside-in-feature spacing (Covers layer) (part_at features z.feature) overlap z.rect h x y left right has.low has.high in (
           in-layer z.feature (at x y) feature_in in_f,
           λ (n, w, n_in, n_is, w_has). elim (zone-of w z.feature (at x y) (n, n_in, n_is) feature_in in_f w_has) [
@@ -131,10 +146,7 @@ module _ (spacing : Spacing) (overlap : ℕ) (layer : List Rect) (features piece
           | inr e ↦ (let a = e.0 in let b = has.low in omega (arith, ints, a, b))
         ] in
         let high : y ≤ℤ z.rect.y1 = elim side [ inl e ↦ (let a = e.0 in let b = has.high in omega (arith, ints, a, b)) | inr e ↦ (let a = e.1 in omega (arith, ints, a)) ] in
-        let close : Touch (at x y) (at x j) = elim side [
-          | inl e ↦ (let a = e.0 in Touch-from_close (at x y) (at x j) (omega (arith, ints)) (omega (arith, ints)) (omega (arith, ints, a)) (omega (arith, ints, a)))
-          | inr e ↦ (let a = e.0 in Touch-from_close (at x y) (at x j) (omega (arith, ints)) (omega (arith, ints)) (omega (arith, ints, a)) (omega (arith, ints, a)))
-        ] in
+        let close : Touch (at x y) (at x j) = elim side [ inl e ↦ touch-up x y j (inl e.0) | inr e ↦ touch-up x y j (inr e.0) ] in
         let in_f = beside-in-feature spacing (transposed (Covers layer)) (transposed (part_at features z.feature)) overlap
         (transposed_rect z.rect) h y x low high has.left has.right in (
           in-layer z.feature (at x y) feature_in in_f,
@@ -200,40 +212,34 @@ module _ (spacing : Spacing) (overlap : ℕ) (layer : List Rect) (features piece
         let i = zone-inside spacing overlap (Covers layer) (part_at features z.feature) z.rect some h in
         let wide = i.wide in
         let tall = i.tall in
-        let first : Has z.rect (at z.rect.x0 z.rect.y0) = record { left = omega (arith, ints); right = wide; low = omega (arith, ints); high = tall } in
+        let first : Has z.rect (at z.rect.x0 z.rect.y0) = record { left = no-less z.rect.x0; right = wide; low = no-less z.rect.y0; high = tall } in
         let last : Has z.rect (at (z.rect.x1 -ℤ pos 1) z.rect.y0) = record {
           left = omega (arith, ints, wide);
-          right = omega
-              (arith, ints);
-          low = omega (arith, ints);
+          right = one-less z.rect.x1;
+          low = no-less z.rect.y0;
           high = tall;
         } in
         sides-of (at (z.rect.x0 -ℤ pos 1) z.rect.y0) (at z.rect.x0 z.rect.y0) (at z.rect.x1 z.rect.y0) (at (z.rect.x1 -ℤ pos 1) z.rect.y0)
         (rest-across h (z.rect.x0 -ℤ pos 1) z.rect.y0 z.rect.x0 first (inl (refl, refl))) first
-        (Touch-from_close (at (z.rect.x0 -ℤ pos 1) z.rect.y0) (at z.rect.x0 z.rect.y0) (omega (arith, ints)) (omega (arith, ints))
-        (omega (arith, ints)) (omega (arith, ints))) (inl (omega (arith, ints)))
-        (rest-across h z.rect.x1 z.rect.y0 (z.rect.x1 -ℤ pos 1) last (inr (omega (arith, ints), refl))) last
-        (Touch-from_close (at z.rect.x1 z.rect.y0) (at (z.rect.x1 -ℤ pos 1) z.rect.y0) (omega (arith, ints)) (omega (arith, ints))
-        (omega (arith, ints)) (omega (arith, ints))) (inl (omega (arith, ints)))
+        (touch-across z.rect.x0 (z.rect.x0 -ℤ pos 1) z.rect.y0 (inr (one-back z.rect.x0))) (inl (one-less z.rect.x0))
+        (rest-across h z.rect.x1 z.rect.y0 (z.rect.x1 -ℤ pos 1) last (inr (one-back z.rect.x1, refl))) last
+        (touch-across (z.rect.x1 -ℤ pos 1) z.rect.x1 z.rect.y0 (inl refl)) (inl (no-less z.rect.x1))
     sides-some (inr (v, none)) =
         let i = upright-inside spacing overlap (Covers layer) (part_at features z.feature) z.rect some v in
         let wide = i.wide in
         let tall = i.tall in
-        let first : Has z.rect (at z.rect.x0 z.rect.y0) = record { left = omega (arith, ints); right = wide; low = omega (arith, ints); high = tall } in
+        let first : Has z.rect (at z.rect.x0 z.rect.y0) = record { left = no-less z.rect.x0; right = wide; low = no-less z.rect.y0; high = tall } in
         let last : Has z.rect (at z.rect.x0 (z.rect.y1 -ℤ pos 1)) = record {
-          left = omega (arith, ints);
+          left = no-less z.rect.x0;
           right = wide;
-          low = omega
-              (arith, ints, tall);
-          high = omega (arith, ints);
+          low = omega (arith, ints, tall);
+          high = one-less z.rect.y1;
         } in
         sides-of (at z.rect.x0 (z.rect.y0 -ℤ pos 1)) (at z.rect.x0 z.rect.y0) (at z.rect.x0 z.rect.y1) (at z.rect.x0 (z.rect.y1 -ℤ pos 1))
         (rest-up v none z.rect.x0 (z.rect.y0 -ℤ pos 1) z.rect.y0 first (inl (refl, refl))) first
-        (Touch-from_close (at z.rect.x0 (z.rect.y0 -ℤ pos 1)) (at z.rect.x0 z.rect.y0) (omega (arith, ints)) (omega (arith, ints))
-        (omega (arith, ints)) (omega (arith, ints))) (inr (omega (arith, ints)))
-        (rest-up v none z.rect.x0 z.rect.y1 (z.rect.y1 -ℤ pos 1) last (inr (omega (arith, ints), refl))) last
-        (Touch-from_close (at z.rect.x0 z.rect.y1) (at z.rect.x0 (z.rect.y1 -ℤ pos 1)) (omega (arith, ints)) (omega (arith, ints))
-        (omega (arith, ints)) (omega (arith, ints))) (inr (omega (arith, ints)))
+        (touch-up z.rect.x0 (z.rect.y0 -ℤ pos 1) z.rect.y0 (inl refl)) (inr (one-less z.rect.y0))
+        (rest-up v none z.rect.x0 z.rect.y1 (z.rect.y1 -ℤ pos 1) last (inr (one-back z.rect.y1, refl))) last
+        (touch-up z.rect.x0 z.rect.y1 (z.rect.y1 -ℤ pos 1) (inr (one-back z.rect.y1))) (inr (no-less z.rect.y1))
 
   pub two-sides : (z : Zone) → Contains zones z → HasTwoSides layer features pieces zones z
   two-sides z z_in =

@@ -9,6 +9,25 @@ loop-n-init c = (
   rw c.deref.ensures.value at c.portion_start-place.ensures,
 )
 
+pub portion_start-place-requires : goal.portion_start-place-requires
+portion_start-place-requires c = rw c.deref.ensures.value c.requires.shades.rise
+
+pub portion_from-at-requires-clause-rise : goal.portion_from-at-requires-clause-rise
+portion_from-at-requires-clause-rise c = rw c.deref-in-loop-n.ensures.value c.requires.shades.rise
+
+pub portion_from-at-requires-clause-start : goal.portion_from-at-requires-clause-start
+portion_from-at-requires-clause-start c = rw c.deref-in-loop-n.ensures.value c.loop-n.invariant.1
+
+pub add_item-requires-clause-known : goal.add_item-requires-clause-known
+add_item-requires-clause-known c =
+    let own = c.portion_from-at.ensures.number in
+    let inside = c.loop-n-test.true in
+    let known = c.requires.known in
+    omega (arith, own, inside, known)
+
+pub add_item-requires-clause-portion : goal.add_item-requires-clause-portion
+add_item-requires-clause-portion c = rw c.deref-in-loop-n.ensures.value at c.portion_from-at.ensures.portion
+
 pub loop-n-preserved : goal.loop-n-preserved
 loop-n-preserved c =
     let own : c.portion_from-at.result.number ≡ c.loop-n.n = c.portion_from-at.ensures.number in (

@@ -1,13 +1,37 @@
-use Rattle.std.proofs.Common.{arith}
+use Rattle.std.proofs.Common.{false, arith, sym, ◌∙◌}
+use Rattle.std.proofs.lemmas.List.{get_or_default}
 use Rattle.dpl_join.specs.Pairs.{item_at}
 use Rattle.dpl_shade.specs.Ends.{AreEndsOf, ends_at}
 use Rattle.dpl_shade.specs.Items.{own_in}
 use Rattle.dpl_shade.proofs.ItemLaws.{owned-within}
-use Rattle.dpl_zone.proofs.ItemZones.{alive-from, item-zones, live-from}
+use Rattle.dpl_zone.proofs.ItemZones.{alive-from, dead-none, item-zones, live-from}
 use Rattle.dpl_zone.proofs.slab_zones.zones_of_item.Goals as goal
+
+pub index-requires : goal.index-requires
+index-requires c = let size = c.requires.shades.sound.sized in let k = c.requires.known in omega (arith, size, k)
+
+pub returns-then-index : goal.returns-then-index
+returns-then-index c =
+    let size = c.requires.shades.sound.sized in
+    let k = c.requires.known in
+    let flag = get_or_default c.args.shades.now.dead.items c.args.at.number false c.index.result.now (omega (arith, k, size)) ∙ (sym c.index.ensures ∙ c.if-index.true) in
+    dead-none c.args.shades.now.spacing c.args.shades.now.overlap c.args.items.now c.args.at.number _ c.clear.ensures.items
+    (c.requires.shades.sound.dead c.args.at.number k flag)
+
+pub rows_at-requires-clause-portion : goal.rows_at-requires-clause-portion
+rows_at-requires-clause-portion c = rw c.deref.ensures.value c.requires.portion
+
+pub rows_at-requires-clause-tall : goal.rows_at-requires-clause-tall
+rows_at-requires-clause-tall c = rw c.deref.ensures.value (λ s h. (c.requires.shades.sound.shades s h).tall)
 
 pub add_zones-requires-clause-slab : goal.add_zones-requires-clause-slab
 add_zones-requires-clause-slab c = owned-within c.args.items.now c.args.at.number _ c.requires.within c.requires.known
+
+pub add_zones-requires-clause-tall : goal.add_zones-requires-clause-tall
+add_zones-requires-clause-tall c = rw c.deref-2.ensures.value c.in_ok-rows_at.ensures.tall
+
+pub add_zones-requires-clause-rise : goal.add_zones-requires-clause-rise
+add_zones-requires-clause-rise c = rw c.deref-2.ensures.value c.in_ok-rows_at.ensures.rise
 
 pub returns : goal.returns
 returns c =
