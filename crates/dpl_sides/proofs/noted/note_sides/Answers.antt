@@ -6,6 +6,18 @@ use Rattle.dpl_sides.specs.Pieces.{parts_in}
 use Rattle.dpl_sides.proofs.Noting.{written-back}
 use Rattle.dpl_sides.proofs.noted.note_sides.Goals as goal
 
+pub note_beside-requires-clause-each : goal.note_beside-requires-clause-each
+note_beside-requires-clause-each c = rw c.deref_mut.ensures.value c.requires.firsts
+
+pub note_beside-requires-then-own-le-FEW_ZONES-clause-each : goal.note_beside-requires-then-own-le-FEW_ZONES-clause-each
+note_beside-requires-then-own-le-FEW_ZONES-clause-each c = rw c.deref_mut-then-own-le-FEW_ZONES.ensures.value c.requires.seconds
+
+pub note_firsts-requires-clause-each : goal.note_firsts-requires-clause-each
+note_firsts-requires-clause-each c = rw c.deref_mut-2.ensures.value c.requires.firsts
+
+pub note_seconds-requires-clause-each : goal.note_seconds-requires-clause-each
+note_seconds-requires-clause-each c = rw c.deref_mut-3.ensures.value c.requires.seconds
+
 pub returns-then-own-le-FEW_ZONES-clause-firsts : goal.returns-then-own-le-FEW_ZONES-clause-firsts
 returns-then-own-le-FEW_ZONES-clause-firsts c =
     rw (written-back c.note_beside.new.noted (drop (length c.note_beside.new.noted) c.args.noted.now.firsts.items) c.args.noted.now.firsts.len
