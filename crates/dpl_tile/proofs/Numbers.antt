@@ -1,13 +1,16 @@
 -- Rows and columns of cells.
 use Rattle.std.proofs.Common.{◌≡◌, ℕ, ◌+◌, ◌*◌, ◌/◌, ◌<◌, ◌≤◌, inl, inr, subst, arith, rules, w32, w64}
-use mir.Val.{to_z, of_z}
+use mir.Val.{to_z, of_z, Fits}
+use lib.Dec.{T}
+use lib.Signed.{non_neg}
 use borrow.Author.Rules.{sfits_of}
 use Rattle.std.specs.Int.RustNames.{FitsSigned}
 use Rattle.std.specs.Prelude.{ℤ, pos, ◌+ℤ◌, ◌-ℤ◌, ◌≤ℤ◌, ◌<ℤ◌, unsigned_abs}
 use Rattle.std.proofs.Math.Nat.{le-div_iff_mul-le, div-mul-le_self, lt-div-mul-add}
-use Rattle.std.proofs.lemmas.Nat.{mul-le}
+use Rattle.std.proofs.lemmas.Nat.{mul-le, div_below}
 use Rattle.std.proofs.lemmas.Bool.{cases_lt}
-use Rattle.std.proofs.lemmas.Int.{ints, to_z-of_z}
+use Rattle.std.proofs.lemmas.Int.{ints, to_z-of_z, fits_signed_from_abs}
+use Rattle.dpl_spec_split.specs.Loops.{farthest}
 use Rattle.dpl_tile.specs.Tiles.{number_in}
 
 div_le : (s a b : ℕ) → 1 ≤ s → a ≤ b → a / s ≤ b / s
@@ -73,6 +76,45 @@ number-as side n a b c d h l r = subst (λ u. n ≡ number_in side u d) l (subst
 -- a coordinate of a rectangle is the same in 64 bits, and the one before it fits them
 pub same-wide : (i : ℤ) → FitsSigned w32 i → to_z w64 (of_z w64 (to_z w32 (of_z w32 i))) ≡ i
 same-wide i f = rw (to_z-of_z w32 i f) (to_z-of_z w64 i (sfits_of (let l = f.sfits in omega (arith, ints, l))))
+
+-- how far a coordinate is from one that isn't above it, in 64 bits
+pub far-fits : (i : ℤ) → unsigned_abs i ≤ farthest → FitsSigned w64 i
+far-fits i l = fits_signed_from_abs w64 i (omega (arith, l))
+
+pub far-same : (i : ℤ) → unsigned_abs i ≤ farthest → to_z w64 (of_z w64 i) ≡ i
+far-same i l = to_z-of_z w64 i (far-fits i l)
+
+from-fits : (low i : ℤ) → low ≤ℤ i → unsigned_abs low ≤ farthest → unsigned_abs i ≤ farthest → FitsSigned w64 (i -ℤ low)
+from-fits low i from l h = fits_signed_from_abs w64 (i -ℤ low) (omega (arith, ints, from, l, h))
+
+pub ahead-fits : (low i : ℤ) → low ≤ℤ i → unsigned_abs low ≤ farthest → unsigned_abs i ≤ farthest
+    → FitsSigned w64 (to_z w64 (of_z w64 i) -ℤ to_z w64 (of_z w64 low))
+ahead-fits low i from l h = rw (far-same i h, far-same low l) (from-fits low i from l h)
+
+pub ahead-same : (low i : ℤ) → low ≤ℤ i → unsigned_abs low ≤ farthest → unsigned_abs i ≤ farthest
+    → to_z w64 (of_z w64 (to_z w64 (of_z w64 i) -ℤ to_z w64 (of_z w64 low))) ≡ i -ℤ low
+ahead-same low i from l h = rw (far-same i h, far-same low l) (to_z-of_z w64 (i -ℤ low) (from-fits low i from l h))
+
+from-casts : (low i : ℤ) → low ≤ℤ i → unsigned_abs low ≤ farthest → unsigned_abs i ≤ farthest → T (non_neg (i -ℤ low)) × Fits w64 (unsigned_abs (i -ℤ low))
+from-casts low i from l h = search (ints, rules)
+
+pub ahead-casts : (low i : ℤ) → low ≤ℤ i → unsigned_abs low ≤ farthest → unsigned_abs i ≤ farthest
+    → (let z = to_z w64 (of_z w64 (to_z w64 (of_z w64 i) -ℤ to_z w64 (of_z w64 low))) in T (non_neg z) × Fits w64 (unsigned_abs z))
+ahead-casts low i from l h = rw (ahead-same low i from l h) (from-casts low i from l h)
+
+pub number-none : (side : ℕ) (low i : ℤ) → unsigned_abs (i -ℤ low) < side → 0 ≡ number_in side low i
+number-none side low i l = let b = div_below (unsigned_abs (i -ℤ low)) side 1 (omega (arith, l)) (omega (arith, l)) in omega (arith, b)
+
+pub number-short : (side : ℕ) (low i : ℤ) → low ≤ℤ i → unsigned_abs low ≤ farthest → unsigned_abs i ≤ farthest → number_in side low i ≤ 2000000000
+number-short side low i from l h =
+    let d : unsigned_abs (i -ℤ low) ≤ 2000000000 = omega (arith, ints, from, l, h) in
+    omega (arith, d)
+
+pub short-fits : (i : ℤ) → unsigned_abs i ≤ farthest → FitsSigned w32 i
+short-fits i l = fits_signed_from_abs w32 i (omega (arith, l))
+
+pub short-same : (i : ℤ) → unsigned_abs i ≤ farthest → to_z w32 (of_z w32 i) ≡ i
+short-same i l = to_z-of_z w32 i (short-fits i l)
 
 before-short : (i : ℤ) → FitsSigned w32 i → FitsSigned w64 (i -ℤ pos 1)
 before-short i f = search (rules, ints)
