@@ -77,6 +77,9 @@ number-as side n a b c d h l r = subst (λ u. n ≡ number_in side u d) l (subst
 pub same-wide : (i : ℤ) → FitsSigned w32 i → to_z w64 (of_z w64 (to_z w32 (of_z w32 i))) ≡ i
 same-wide i f = rw (to_z-of_z w32 i f) (to_z-of_z w64 i (sfits_of (let l = f.sfits in omega (arith, ints, l))))
 
+pub wide-fits : (i : ℤ) → FitsSigned w32 i → FitsSigned w64 (to_z w32 (of_z w32 i))
+wide-fits i f = rw (to_z-of_z w32 i f) (sfits_of (let l = f.sfits in omega (arith, ints, l)))
+
 -- how far a coordinate is from one that isn't above it, in 64 bits
 pub far-fits : (i : ℤ) → unsigned_abs i ≤ farthest → FitsSigned w64 i
 far-fits i l = fits_signed_from_abs w64 i (omega (arith, l))
@@ -102,13 +105,33 @@ pub ahead-casts : (low i : ℤ) → low ≤ℤ i → unsigned_abs low ≤ farthe
     → (let z = to_z w64 (of_z w64 (to_z w64 (of_z w64 i) -ℤ to_z w64 (of_z w64 low))) in T (non_neg z) × Fits w64 (unsigned_abs z))
 ahead-casts low i from l h = rw (ahead-same low i from l h) (from-casts low i from l h)
 
-pub number-none : (side : ℕ) (low i : ℤ) → unsigned_abs (i -ℤ low) < side → 0 ≡ number_in side low i
-number-none side low i l = let b = div_below (unsigned_abs (i -ℤ low)) side 1 (omega (arith, l)) (omega (arith, l)) in omega (arith, b)
+none-ahead : (side : ℕ) (low i : ℤ) → unsigned_abs (i -ℤ low) < side → 0 ≡ number_in side low i
+none-ahead side low i l = let b = div_below (unsigned_abs (i -ℤ low)) side 1 (omega (arith, l)) (omega (arith, l)) in omega (arith, b)
 
-pub number-short : (side : ℕ) (low i : ℤ) → low ≤ℤ i → unsigned_abs low ≤ farthest → unsigned_abs i ≤ farthest → number_in side low i ≤ 2000000000
+pub number-none : (side : ℕ) (low i : ℤ) → low ≤ℤ i → unsigned_abs low ≤ farthest → unsigned_abs i ≤ farthest
+    → unsigned_abs (to_z w64 (of_z w64 (to_z w64 (of_z w64 i) -ℤ to_z w64 (of_z w64 low)))) < side → 0 ≡ number_in side low i
+number-none side low i from l h m = none-ahead side low i (rw (ahead-same low i from l h) at m)
+
+number-short : (side : ℕ) (low i : ℤ) → low ≤ℤ i → unsigned_abs low ≤ farthest → unsigned_abs i ≤ farthest → number_in side low i ≤ 2000000000
 number-short side low i from l h =
     let d : unsigned_abs (i -ℤ low) ≤ 2000000000 = omega (arith, ints, from, l, h) in
     omega (arith, d)
+
+number-fits : (side : ℕ) (low i : ℤ) → low ≤ℤ i → unsigned_abs low ≤ farthest → unsigned_abs i ≤ farthest → Fits w32 (number_in side low i)
+number-fits side low i from l h = let s = number-short side low i from l h in record { fits = omega (arith, s) }
+
+-- the same of the number as it is worked out
+pub number-cast : (side : ℕ) (low i : ℤ) → low ≤ℤ i → unsigned_abs low ≤ farthest → unsigned_abs i ≤ farthest
+    → Fits w32 (unsigned_abs (to_z w64 (of_z w64 (to_z w64 (of_z w64 i) -ℤ to_z w64 (of_z w64 low)))) / side)
+number-cast side low i from l h = rw (ahead-same low i from l h) (number-fits side low i from l h)
+
+pub number-small : (side : ℕ) (low i : ℤ) → low ≤ℤ i → unsigned_abs low ≤ farthest → unsigned_abs i ≤ farthest
+    → unsigned_abs (to_z w64 (of_z w64 (to_z w64 (of_z w64 i) -ℤ to_z w64 (of_z w64 low)))) / side ≤ 2000000000
+number-small side low i from l h = rw (ahead-same low i from l h) (number-short side low i from l h)
+
+pub number-value : (side : ℕ) (low i : ℤ) → low ≤ℤ i → unsigned_abs low ≤ farthest → unsigned_abs i ≤ farthest
+    → unsigned_abs (to_z w64 (of_z w64 (to_z w64 (of_z w64 i) -ℤ to_z w64 (of_z w64 low)))) / side ≡ number_in side low i
+number-value side low i from l h = rw (ahead-same low i from l h)
 
 pub short-fits : (i : ℤ) → unsigned_abs i ≤ farthest → FitsSigned w32 i
 short-fits i l = fits_signed_from_abs w32 i (omega (arith, l))
