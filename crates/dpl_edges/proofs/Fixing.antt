@@ -24,14 +24,14 @@ use Rattle.dpl_edges.specs.Fixed.{IsAhead, IsAnchorEdge, marks_of}
 abbrev pub NoneYet : List Rect → List Rect → ℕ → Type 0
 NoneYet part set n = (k : ℕ) (d : Rect) (p : Pt) → k < n → Has (get_or part k d) p → Covers set p → ⊥
 
-pub none-more : (part set : List Rect) (n : ℕ) (r : Rect) → n < length part → r ≡ get_or part n r → NoneYet part set n → ((p : Pt) × Has r p × Covers set p → ⊥) → NoneYet part set (n + 1)
-none-more part set n r n_in is none here k d p l has at = elim (cases_eq k n) [
-  | inl e ↦ here (p, subst (λ s. Has s p) (ap (λ m. get_or part m d) e ∙ (get_or_default part n d r n_in ∙ sym is)) has, at)
+pub none-more : (part set : List Rect) (n : ℕ) (r : Rect) → n < length part → NoneYet part set n → ((p : Pt) × Has (get_or part n r) p × Covers set p → ⊥) → NoneYet part set (n + 1)
+none-more part set n r n_in none here k d p l has at = elim (cases_eq k n) [
+  | inl e ↦ here (p, subst (λ s. Has s p) (ap (λ m. get_or part m d) e ∙ get_or_default part n d r n_in) has, at)
   | inr ne ↦ none k d p (omega (arith, l, ne)) has at
 ]
 
-pub some-here : (part set : List Rect) (n : ℕ) (r : Rect) → n < length part → r ≡ get_or part n r → (p : Pt) × Has r p × Covers set p → HasSome (Covers part) (Covers set)
-some-here part set n r n_in is (p, has, at) = (p, (n, r, n_in, sym is, has), at)
+pub some-here : (part set : List Rect) (n : ℕ) (r : Rect) → n < length part → (p : Pt) × Has (get_or part n r) p × Covers set p → HasSome (Covers part) (Covers set)
+some-here part set n r n_in (p, has, at) = (p, (n, get_or part n r, n_in, get_or_default part n (get_or part n r) r n_in, has), at)
 
 pub none-some : (part set : List Rect) (n : ℕ) → length part ≤ n → NoneYet part set n → HasSome (Covers part) (Covers set) → ⊥
 none-some part set n all none (p, (k, r, k_in, k_is, has), at) = none k r p (omega (arith, all, k_in)) (subst (λ s. Has s p) (sym k_is) has) at
