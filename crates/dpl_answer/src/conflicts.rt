@@ -162,8 +162,7 @@ fn conflicts_at_once<R: Threads + Sync>(
     requires workers { 1 ≤ workers }
     ensures { IfOk result (λ v. AreEdges (Conflict spacing pieces.now.parts pieces.now.owners) v.items) }
 {
-    let edges = all_conflicts_by(rt, alloc, pieces.parts(), pieces.owner(), spacing, workers)?;
-    Ok(edges)
+    all_conflicts_by(rt, alloc, pieces.parts(), pieces.owner(), spacing, workers)
 }
 
 /// All edges of the graph of pieces, with anchors where marks are asked for.
