@@ -24,8 +24,10 @@ returns-clause-value c =
     let y : FitsSigned w64 c.args.self.now.y = far-fits c.args.self.now.y c.requires.sound.low in
     let left : to_z w64 (of_z w64 (to_z w32 (of_z w32 c.args.r.now.x0))) ≡ c.args.r.now.x0 = same-wide c.args.r.now.x0 (short-fits c.args.r.now.x0 c.requires.over.solid.left) in
     let low : to_z w64 (of_z w64 (to_z w32 (of_z w32 c.args.r.now.y0))) ≡ c.args.r.now.y0 = same-wide c.args.r.now.y0 (short-fits c.args.r.now.y0 c.requires.over.solid.low) in
-    let top : to_z w64 (of_z w64 (to_z w64 (of_z w64 (to_z w32 (of_z w32 c.args.r.now.y1))) -ℤ pos 1)) ≡ c.args.r.now.y1 -ℤ pos 1 = before-wide c.args.r.now.y1 (short-fits c.args.r.now.y1 c.requires.over.solid.high) in
-    let end : to_z w64 (of_z w64 (to_z w64 (of_z w64 (to_z w32 (of_z w32 c.args.r.now.x1))) -ℤ pos 1)) ≡ c.args.r.now.x1 -ℤ pos 1 = before-wide c.args.r.now.x1 (short-fits c.args.r.now.x1 c.requires.over.solid.right) in
+    let top : to_z w64 (of_z w64 (to_z w64 (of_z w64 (to_z w32 (of_z w32 c.args.r.now.y1))) -ℤ pos 1)) ≡ c.args.r.now.y1 -ℤ pos 1 =
+    before-wide c.args.r.now.y1 (short-fits c.args.r.now.y1 c.requires.over.solid.high) in
+    let end : to_z w64 (of_z w64 (to_z w64 (of_z w64 (to_z w32 (of_z w32 c.args.r.now.x1))) -ℤ pos 1)) ≡ c.args.r.now.x1 -ℤ pos 1 =
+    before-wide c.args.r.now.x1 (short-fits c.args.r.now.x1 c.requires.over.solid.right) in
     record {
       row0 = number-as c.args.self.now.side _ _ _ _ _ c.number.ensures.value (to_z-of_z w64 _ y) low;
       row1 = ap (λ n. n + 1) (number-as c.args.self.now.side _ _ _ _ (c.args.r.now.y1 -ℤ pos 1) c.number-2.ensures.value (to_z-of_z w64 _ y) top);
