@@ -1,3 +1,4 @@
+pub mod Leading
 pub mod Texts
 pub mod Numerals
 pub mod Prefixes

@@ -1,5 +1,5 @@
 -- Certificates of faults, and where the first lines fail.
-use Rattle.std.proofs.Common.{◌≡◌, ◌≢◌, ℕ, List, [], ◌∷◌, ◌++◌, length, get_or, take, drop, Option, Some, None, Err, refl, sym, ap, ◌∙◌, arith, lit<, lit≤}
+use Rattle.std.proofs.Common.{◌≡◌, ◌≢◌, ℕ, List, [], ◌∷◌, ◌++◌, length, take, drop, Option, Some, None, Err, refl, sym, ap, ◌∙◌, lit<, lit≤}
 use Rattle.dpl_cert.specs.declared.name.Name.{Name}
 use Rattle.dpl_cert.specs.declared.name.Name.TheVariants.{TooLarge}
 use Rattle.dpl_cert.specs.declared.cert.Head.{Head}
@@ -12,7 +12,7 @@ use Rattle.dpl_parse.specs.declared.heads.Second.TheVariants.{Rule, Refused}
 use Rattle.dpl_parse.specs.declared.heads.Counts.{Counts}
 use Rattle.dpl_parse.specs.declared.fault.CertFault.{CertFault}
 use Rattle.dpl_cert.specs.Lines.{line}
-use Rattle.dpl_cert.specs.Grammar.{lines_of, version, version_words, opening, named_corner, rule_words, fault_words, count_words, stitches_words, end_words}
+use Rattle.dpl_cert.specs.Grammar.{lines_of, version, version_words, opening, named_corner, rule_words, fault_words, end_words}
 use Rattle.dpl_cert.specs.Grammar.{IsCert, IsHead, IsNumber, IsRule}
 use Rattle.dpl_parse.specs.Reading.{EndsAt, FailsAs, IsFirstBad}
 use Rattle.dpl_parse.specs.Heads.{masks_head, counts_words, AreCounts, AreCountsOf, second_words, IsSecond, Follows, IsOfVersion, IsCornerOf, IsGainedBy}

@@ -1,6 +1,6 @@
 -- Gains whose pieces rise, and where a text with fewer of them fails.
 use Rattle.std.proofs.Common.{◌≡◌, ℕ, zero, suc, ◌+◌, ◌^◌, ◌<◌, ◌≤◌, List, [], ◌∷◌, ◌++◌, length, take, drop, get_or, Option, Some, None, refl, sym, ap}
-use Rattle.std.proofs.Common.{subst, ◌∙◌, append_assoc, arith, lit≤}
+use Rattle.std.proofs.Common.{subst, ◌∙◌, append_assoc, arith}
 use Rattle.std.proofs.lemmas.List.{length-append}
 use Rattle.std.proofs.lemmas.Fmt.{decimal_injective}
 use Rattle.dpl_cert.specs.declared.cert.Gain.{Gain}
@@ -9,7 +9,7 @@ use Rattle.dpl_parse.specs.declared.fault.CertFault.{CertFault}
 use Rattle.dpl_parse.specs.declared.fault.CertFault.TheVariants.{NoMemory, BadLine}
 use Rattle.dpl_cert.specs.Lines.{line}
 use Rattle.dpl_cert.specs.Grammar.{rows, lines_of, gain_words, IsCert, IsGain, AreRising, AreGains}
-use Rattle.dpl_parse.specs.Heads.{AreStitches, AreAsMany, gains_left}
+use Rattle.dpl_parse.specs.Heads.{AreStitches, AreAsMany}
 use Rattle.dpl_parse.specs.Reading.{FailsAs, IsNext, StopsRising, least_after}
 use Rattle.dpl_parse.specs.Spelled.{gain_proper}
 use Rattle.dpl_parse.proofs.Texts.{line_injective}

@@ -1,15 +1,13 @@
 -- Lines of heads are known by their words.
-use Rattle.std.proofs.Common.{◌≡◌, ℕ, ◌<◌, List, [], ◌∷◌, ◌++◌, drop, get_or, Option, Some, None, refl, sym, ap, ◌∙◌, arith, lit<}
+use Rattle.std.proofs.Common.{◌≡◌, ℕ, List, [], ◌∷◌, drop, get_or, Option, Some, None, refl, sym, ap, ◌∙◌, arith, lit<}
 use Rattle.std.specs.Fmt.{decimal}
 use Rattle.std.proofs.lemmas.Fmt.{decimal_injective}
-use Rattle.dpl_cert.specs.declared.name.Name.{Name}
 use Rattle.dpl_cert.specs.declared.cert.Version.{Version}
 use Rattle.dpl_parse.specs.declared.heads.Counts.{Counts}
 use Rattle.dpl_parse.specs.declared.heads.Second.{Second}
 use Rattle.dpl_parse.specs.declared.heads.Second.TheVariants.{Rule, Refused}
-use Rattle.dpl_cert.specs.Names.{spelling}
 use Rattle.dpl_cert.specs.Lines.{line}
-use Rattle.dpl_cert.specs.Grammar.{corner_words, fault_words, rule_words, IsNumber, IsRule}
+use Rattle.dpl_cert.specs.Grammar.{corner_words, fault_words, rule_words, IsRule}
 use Rattle.dpl_parse.specs.Heads.{second_words, IsSecond, Follows, IsCornerOf, counts_words, stitches_left, AreCounts, AreCountsOf}
 use Rattle.dpl_parse.specs.SpelledHeads.{second_proper, counts_proper}
 use Rattle.dpl_cert.proofs.Naming.{name_same}

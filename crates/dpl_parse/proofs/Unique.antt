@@ -24,7 +24,7 @@ use Rattle.dpl_parse.specs.declared.fault.CertFault.{CertFault}
 use Rattle.dpl_parse.specs.declared.fault.CertFault.TheVariants.{NoMemory, BadLine}
 use Rattle.dpl_parse.specs.declared.heads.Second.TheVariants.{Rule, Refused}
 use Rattle.dpl_cert.specs.Lines.{line, lines}
-use Rattle.dpl_cert.specs.Grammar.{rows, letter, lines_of, opening, version, named_corner, gain_words, gain_rows, IsGain, AreRising, AreGains}
+use Rattle.dpl_cert.specs.Grammar.{rows, letter, lines_of, opening, version, named_corner, gain_words, gain_rows, AreRising, AreGains}
 use Rattle.dpl_parse.specs.Heads.{IsOfVersion, IsGainedBy, AreAsMany}
 use Rattle.dpl_cert.specs.Grammar.{rule_words, count_words, stitches_words, cycle_words, IsCycleLength}
 use Rattle.dpl_cert.specs.Grammar.{piece_words, stitch_words, place_words, near_words, IsCert, IsText, IsHead, IsPiece, IsStitch, IsPlace}

@@ -1,5 +1,5 @@
 -- Which version a certificate has.
-use Rattle.std.proofs.Common.{◌≡◌, ℕ, ◌<◌, eqb, true, false, List, [], ◌∷◌, ◌++◌, length, get_or, drop, Option, Some, None, refl, sym, ap, ◌∙◌, arith, lit<, inl, inr}
+use Rattle.std.proofs.Common.{◌≡◌, ℕ, ◌<◌, eqb, true, false, List, [], ◌++◌, length, get_or, drop, Option, Some, None, refl, ap, arith, lit<, inl, inr}
 use Rattle.std.proofs.lemmas.Bool.{eqb-false, eqb-true, cases_Bool}
 use Rattle.std.proofs.lemmas.Bool.Decides.{eqb_tells}
 use Rattle.std.proofs.lemmas.Fmt.{decimal_injective}
@@ -7,11 +7,10 @@ use Rattle.dpl_cert.specs.declared.cert.Head.{Head}
 use Rattle.dpl_cert.specs.declared.cert.Gain.{Gain}
 use Rattle.dpl_cert.specs.declared.cert.Version.{Version}
 use Rattle.dpl_cert.specs.declared.cert.Version.TheVariants.{One, Two, Three}
-use Rattle.dpl_parse.specs.declared.heads.Second.{Second}
 use Rattle.dpl_parse.specs.declared.heads.Second.TheVariants.{Rule, Refused}
 use Rattle.dpl_cert.specs.Lines.{line}
-use Rattle.dpl_cert.specs.Grammar.{version, version_words, digit, named_corner, gain_count, gains_words, opening, rule_words, IsHead, IsRule, IsNumber, AreGains}
-use Rattle.dpl_parse.specs.Heads.{second_words, IsSecond, Follows, IsOfVersion, IsCornerOf, corner_or, AreCountsOf, IsGainedBy, AreAsMany, AreStitches, gains_left}
+use Rattle.dpl_cert.specs.Grammar.{version, version_words, digit, named_corner, gain_count, gains_words, rule_words, IsHead, IsRule, IsNumber, AreGains}
+use Rattle.dpl_parse.specs.Heads.{IsSecond, Follows, IsOfVersion, IsCornerOf, corner_or, AreCountsOf, IsGainedBy, AreAsMany, AreStitches, gains_left}
 use Rattle.dpl_parse.specs.SpelledHeads.{version_proper, gains_proper}
 use Rattle.dpl_parse.proofs.Texts.{line_injective}
 

@@ -1,4 +1,4 @@
-use Rattle.std.proofs.Common.{◌≡◌, ◌+◌, ◌-◌, arith, rules, length-append, sym, ◌∙◌}
+use Rattle.std.proofs.Common.{◌-◌, arith, length-append, sym}
 use Rattle.dpl_cert.specs.Lines.{lines}
 use Rattle.dpl_cert.specs.Grammar.{gain_words}
 use Rattle.dpl_cert.proofs.Listing.{rows_more}

@@ -1,4 +1,4 @@
-use Rattle.std.proofs.Common.{◌≡◌, ◌++◌, ◌+◌, List, ℕ, refl, sym, subst, arith}
+use Rattle.std.proofs.Common.{List, ℕ, sym, subst, arith}
 use Rattle.dpl_cert.specs.Lines.{lines}
 use Rattle.dpl_parse.specs.Reading.{FailsAs}
 use Rattle.dpl_parse.proofs.Prefixes.{handed}

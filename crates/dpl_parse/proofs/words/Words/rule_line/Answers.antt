@@ -1,4 +1,4 @@
-use Rattle.std.proofs.Common.{◌≡◌, ◌≢◌, List, ℕ, [], ◌∷◌, Option}
+use Rattle.std.proofs.Common.{◌≡◌, ◌≢◌, List, ℕ, ◌∷◌, Option}
 use Rattle.std.specs.Prelude.{codes}
 use Rattle.dpl_parse.specs.declared.heads.Second.{Second}
 use Rattle.dpl_parse.specs.declared.heads.Second.TheVariants.{Rule, Refused}
