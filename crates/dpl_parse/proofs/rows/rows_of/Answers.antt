@@ -12,3 +12,16 @@ loop-n-preserved g c =
       so_far = rows_more g.T.Row.spelled c.loop-n.found.items c.in-Some.row c.loop-n.n _ _ _ old.len old.so_far row.1;
       room = omega (arith, c.in-Some.ensures.shorter, old.room);
     }
+
+pub returns-in_default-clause-fault : goal.returns-in_default-clause-fault
+returns-in_default-clause-fault g c =
+    let old = c.loop-n.invariant in
+    (
+      c.loop-n.found.items,
+      _,
+      old.fit,
+      omega (arith, old.len, c.loop-n-test.true),
+      omega (arith, old.len),
+      old.so_far,
+      rw old.len c.in_default.ensures.none,
+    )
