@@ -1,22 +1,18 @@
-use Rattle.std.proofs.Common.{◌≡◌, true, false}
+use Rattle.std.proofs.Common.{◌≡◌, true}
 use Rattle.std.specs.Prelude.{codes}
 use Rattle.std.specs.Str.{bytes_eq}
 use Rattle.dpl_words.proofs.values.request_by.Goals as goal
 
 pub split_request-requires : goal.split_request-requires
 split_request-requires c =
-    let h0 : bytes_eq c.args.name.now (codes "split") ≡ true = cc in
-    record { there = c.requires.there.split h0 }
+    let named : bytes_eq c.args.name.now (codes "split") ≡ true = rw c.in-split.is in
+    record { there = c.requires.there.split named }
 
 pub returns-in-split-clause-read : goal.returns-in-split-clause-read
-returns-in-split-clause-read c =
-    let h0 : bytes_eq c.args.name.now (codes "split") ≡ true = cc in
-    rw h0 c.split_request.ensures.read
+returns-in-split-clause-read c = rw c.in-split.is c.split_request.ensures.read
 
 pub returns-in-split-clause-usage : goal.returns-in-split-clause-usage
-returns-in-split-clause-usage c =
-    let h0 : bytes_eq c.args.name.now (codes "split") ≡ true = cc in
-    rw h0 c.split_request.ensures.usage
+returns-in-split-clause-usage c = rw c.in-split.is c.split_request.ensures.usage
 
 pub returns-in-split-clause-ranges : goal.returns-in-split-clause-ranges
 returns-in-split-clause-ranges c = c.split_request.ensures.ranges
@@ -26,20 +22,14 @@ returns-in-split-clause-apart c = c.split_request.ensures.apart
 
 pub check_request-requires : goal.check_request-requires
 check_request-requires c =
-    let h1 : bytes_eq c.args.name.now (codes "check") ≡ true = cc in
-    record { there = c.requires.there.check h1 }
+    let named : bytes_eq c.args.name.now (codes "check") ≡ true = rw c.in-check.is in
+    record { there = c.requires.there.check named }
 
 pub returns-in-check-clause-read : goal.returns-in-check-clause-read
-returns-in-check-clause-read c =
-    let h0 : bytes_eq c.args.name.now (codes "split") ≡ false = cc in
-    let h1 : bytes_eq c.args.name.now (codes "check") ≡ true = cc in
-    rw (h0, h1) c.check_request.ensures.read
+returns-in-check-clause-read c = rw c.in-check.is c.check_request.ensures.read
 
 pub returns-in-check-clause-usage : goal.returns-in-check-clause-usage
-returns-in-check-clause-usage c =
-    let h0 : bytes_eq c.args.name.now (codes "split") ≡ false = cc in
-    let h1 : bytes_eq c.args.name.now (codes "check") ≡ true = cc in
-    rw (h0, h1) c.check_request.ensures.usage
+returns-in-check-clause-usage c = rw c.in-check.is c.check_request.ensures.usage
 
 pub returns-in-check-clause-ranges : goal.returns-in-check-clause-ranges
 returns-in-check-clause-ranges c = c.check_request.ensures.ranges
@@ -49,24 +39,14 @@ returns-in-check-clause-apart c = c.check_request.ensures.apart
 
 pub batch_request-requires : goal.batch_request-requires
 batch_request-requires c =
-    let h3 : bytes_eq c.args.name.now (codes "batch") ≡ true = cc in
-    record { there = c.requires.there.batch h3 }
+    let named : bytes_eq c.args.name.now (codes "batch") ≡ true = rw c.in-batch.is in
+    record { there = c.requires.there.batch named }
 
 pub returns-in-batch-clause-read : goal.returns-in-batch-clause-read
-returns-in-batch-clause-read c =
-    let h0 : bytes_eq c.args.name.now (codes "split") ≡ false = cc in
-    let h1 : bytes_eq c.args.name.now (codes "check") ≡ false = cc in
-    let h2 : bytes_eq c.args.name.now (codes "demo") ≡ false = cc in
-    let h3 : bytes_eq c.args.name.now (codes "batch") ≡ true = cc in
-    rw (h0, h1, h2, h3) c.batch_request.ensures.read
+returns-in-batch-clause-read c = rw c.in-batch.is c.batch_request.ensures.read
 
 pub returns-in-batch-clause-usage : goal.returns-in-batch-clause-usage
-returns-in-batch-clause-usage c =
-    let h0 : bytes_eq c.args.name.now (codes "split") ≡ false = cc in
-    let h1 : bytes_eq c.args.name.now (codes "check") ≡ false = cc in
-    let h2 : bytes_eq c.args.name.now (codes "demo") ≡ false = cc in
-    let h3 : bytes_eq c.args.name.now (codes "batch") ≡ true = cc in
-    rw (h0, h1, h2, h3) c.batch_request.ensures.usage
+returns-in-batch-clause-usage c = rw c.in-batch.is c.batch_request.ensures.usage
 
 pub returns-in-batch-clause-ranges : goal.returns-in-batch-clause-ranges
 returns-in-batch-clause-ranges c = c.batch_request.ensures.ranges
@@ -76,26 +56,14 @@ returns-in-batch-clause-apart c = c.batch_request.ensures.apart
 
 pub edit_request-requires : goal.edit_request-requires
 edit_request-requires c =
-    let h4 : bytes_eq c.args.name.now (codes "edit") ≡ true = cc in
-    record { there = c.requires.there.edit h4 }
+    let named : bytes_eq c.args.name.now (codes "edit") ≡ true = rw c.in-edit.is in
+    record { there = c.requires.there.edit named }
 
 pub returns-in-edit-clause-read : goal.returns-in-edit-clause-read
-returns-in-edit-clause-read c =
-    let h0 : bytes_eq c.args.name.now (codes "split") ≡ false = cc in
-    let h1 : bytes_eq c.args.name.now (codes "check") ≡ false = cc in
-    let h2 : bytes_eq c.args.name.now (codes "demo") ≡ false = cc in
-    let h3 : bytes_eq c.args.name.now (codes "batch") ≡ false = cc in
-    let h4 : bytes_eq c.args.name.now (codes "edit") ≡ true = cc in
-    rw (h0, h1, h2, h3, h4) c.edit_request.ensures.read
+returns-in-edit-clause-read c = rw c.in-edit.is c.edit_request.ensures.read
 
 pub returns-in-edit-clause-usage : goal.returns-in-edit-clause-usage
-returns-in-edit-clause-usage c =
-    let h0 : bytes_eq c.args.name.now (codes "split") ≡ false = cc in
-    let h1 : bytes_eq c.args.name.now (codes "check") ≡ false = cc in
-    let h2 : bytes_eq c.args.name.now (codes "demo") ≡ false = cc in
-    let h3 : bytes_eq c.args.name.now (codes "batch") ≡ false = cc in
-    let h4 : bytes_eq c.args.name.now (codes "edit") ≡ true = cc in
-    rw (h0, h1, h2, h3, h4) c.edit_request.ensures.usage
+returns-in-edit-clause-usage c = rw c.in-edit.is c.edit_request.ensures.usage
 
 pub returns-in-edit-clause-ranges : goal.returns-in-edit-clause-ranges
 returns-in-edit-clause-ranges c = c.edit_request.ensures.ranges
