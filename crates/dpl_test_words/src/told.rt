@@ -8,6 +8,18 @@ use dpl_words::{
 use std::alloc::{AllocError, Global};
 use std::test::Fail;
 
+/// What a request asks for.
+#[derive(Clone, Copy)]
+struct Told<'a> {
+    command: &'a str,
+    numbers: &'a [u64],
+    top: Option<&'a str>,
+    marks: [Option<u16>; 2],
+    fewer: bool,
+    names: &'a [&'a str],
+    layers: &'a [u16],
+}
+
 /// The first line of cases whose words ask for something else than it says.
 pub fn first_wrong(alloc: Global, cases: &str) -> Result<Option<&str>, Fail> {
     for line in cases.lines() {
@@ -19,19 +31,18 @@ pub fn first_wrong(alloc: Global, cases: &str) -> Result<Option<&str>, Fail> {
 }
 
 fn is_right(alloc: Global, line: &str) -> Result<bool, Fail> {
-    let Some((words, want)) = line.split_once(" => ") else {
-        return Ok(false);
-    };
-    let told = told(alloc, words)?;
-    Ok(told.as_str() == want)
+    match line.split_once(" => ") {
+        Some((words, want)) => asks(alloc, words, want),
+        None => Ok(false),
+    }
 }
 
-/// What the words of a line ask for.
-pub fn told(alloc: Global, line: &str) -> Result<String, Fail> {
+/// Whether the words of a line ask for this.
+pub fn asks(alloc: Global, line: &str, want: &str) -> Result<bool, Fail> {
     let words = words(alloc, line)?;
     match read_words(alloc, &words) {
-        Ok(request) => Ok(told_request(alloc, &request)?),
-        Err(WordsFault::Usage) => Ok(String::from_str(alloc, "usage")?),
+        Ok(request) => Ok(told_request(alloc, &request)?.as_str() == want),
+        Err(WordsFault::Usage) => Ok(want == "usage"),
         Err(WordsFault::NoMemory) => Err("there is memory".into()),
     }
 }
@@ -47,130 +58,138 @@ fn told_request(alloc: Global, request: &Request<'_>) -> Result<String, AllocErr
 }
 
 fn told_split(alloc: Global, options: &SplitOptions<'_>) -> Result<String, AllocError> {
-    let mut text = String::from_str(alloc, "split")?;
-    push_layer(&mut text, options.layer)?;
-    push_layer(&mut text, options.datatype)?;
-    push_number(&mut text, options.rule)?;
-    push_number(&mut text, options.overlap)?;
-    push_number(&mut text, options.corner)?;
-    push_layer(&mut text, options.a)?;
-    push_layer(&mut text, options.b)?;
-    push_number(&mut text, options.tile)?;
-    push_number(&mut text, options.workers)?;
-    push_top(&mut text, options.top)?;
-    push_marks(&mut text, options.mark_a, options.mark_b)?;
-    if options.fewer {
-        text.push_str(" fewer")?;
-    }
-    push_names(
-        &mut text,
-        &[options.input, options.output, options.certificate],
-    )?;
-    Ok(text)
+    let told = Told {
+        command: "split",
+        numbers: &[
+            u64::from(options.layer),
+            u64::from(options.datatype),
+            u64::from(options.rule),
+            u64::from(options.overlap),
+            u64::from(options.corner),
+            u64::from(options.a),
+            u64::from(options.b),
+            u64::from(options.tile),
+            u64::from(options.workers),
+        ],
+        top: options.top,
+        marks: [options.mark_a, options.mark_b],
+        fewer: options.fewer,
+        names: &[options.input, options.output, options.certificate],
+        layers: &[],
+    };
+    text_of(alloc, &told)
 }
 
+/// `check` has no tile and no workers.
 fn told_check(alloc: Global, options: &CheckOptions<'_>) -> Result<String, AllocError> {
-    let mut text = String::from_str(alloc, "check")?;
-    push_layer(&mut text, options.layer)?;
-    push_layer(&mut text, options.datatype)?;
-    push_number(&mut text, options.rule)?;
-    push_number(&mut text, options.overlap)?;
-    push_number(&mut text, options.corner)?;
-    push_layer(&mut text, options.a)?;
-    push_layer(&mut text, options.b)?;
-    push_top(&mut text, options.top)?;
-    push_marks(&mut text, options.mark_a, options.mark_b)?;
-    push_names(
-        &mut text,
-        &[options.input, options.output, options.certificate],
-    )?;
-    Ok(text)
+    let told = Told {
+        command: "check",
+        numbers: &[
+            u64::from(options.layer),
+            u64::from(options.datatype),
+            u64::from(options.rule),
+            u64::from(options.overlap),
+            u64::from(options.corner),
+            u64::from(options.a),
+            u64::from(options.b),
+        ],
+        top: options.top,
+        marks: [options.mark_a, options.mark_b],
+        fewer: false,
+        names: &[options.input, options.output, options.certificate],
+        layers: &[],
+    };
+    text_of(alloc, &told)
 }
 
 fn told_demo(alloc: Global, options: &DemoOptions) -> Result<String, AllocError> {
-    let seed = options.seed;
-    let mut text = format!(in alloc; "demo {seed}")?;
-    push_number(&mut text, options.rows)?;
-    push_number(&mut text, options.tile)?;
-    push_number(&mut text, options.workers)?;
-    Ok(text)
+    let (seed, rows) = (options.seed, options.rows);
+    let (tile, workers) = (options.tile, options.workers);
+    format!(in alloc; "demo {seed} {rows} {tile} {workers}")
 }
 
 fn told_batch(alloc: Global, options: &BatchOptions<'_>) -> Result<String, AllocError> {
-    let mut text = String::from_str(alloc, "batch")?;
-    push_layer(&mut text, options.datatype)?;
-    push_number(&mut text, options.rule)?;
-    push_number(&mut text, options.overlap)?;
-    push_number(&mut text, options.corner)?;
-    push_layer(&mut text, options.a)?;
-    push_layer(&mut text, options.b)?;
-    push_number(&mut text, options.tile)?;
-    push_number(&mut text, options.workers)?;
-    push_top(&mut text, options.top)?;
-    push_names(&mut text, &[options.input, options.prefix])?;
-    text.push_str(" layers")?;
-    for layer in options.layers.as_slice() {
-        push_layer(&mut text, *layer)?;
-    }
-    Ok(text)
+    let told = Told {
+        command: "batch",
+        numbers: &[
+            u64::from(options.datatype),
+            u64::from(options.rule),
+            u64::from(options.overlap),
+            u64::from(options.corner),
+            u64::from(options.a),
+            u64::from(options.b),
+            u64::from(options.tile),
+            u64::from(options.workers),
+        ],
+        top: options.top,
+        marks: [None, None],
+        fewer: false,
+        names: &[options.input, options.prefix],
+        layers: options.layers.as_slice(),
+    };
+    text_of(alloc, &told)
 }
 
 fn told_edit(alloc: Global, options: &EditOptions<'_>) -> Result<String, AllocError> {
-    let mut text = String::from_str(alloc, "edit")?;
-    push_layer(&mut text, options.layer)?;
-    push_layer(&mut text, options.datatype)?;
-    push_number(&mut text, options.rule)?;
-    push_number(&mut text, options.overlap)?;
-    push_number(&mut text, options.corner)?;
-    push_layer(&mut text, options.a)?;
-    push_layer(&mut text, options.b)?;
-    push_number(&mut text, options.tile)?;
-    push_top(&mut text, options.top)?;
-    let files = [
-        options.input,
-        options.edits,
-        options.output,
-        options.certificate,
-    ];
-    push_names(&mut text, &files)?;
+    let told = Told {
+        command: "edit",
+        numbers: &[
+            u64::from(options.layer),
+            u64::from(options.datatype),
+            u64::from(options.rule),
+            u64::from(options.overlap),
+            u64::from(options.corner),
+            u64::from(options.a),
+            u64::from(options.b),
+            u64::from(options.tile),
+        ],
+        top: options.top,
+        marks: [None, None],
+        fewer: false,
+        names: &[
+            options.input,
+            options.edits,
+            options.output,
+            options.certificate,
+        ],
+        layers: &[],
+    };
+    text_of(alloc, &told)
+}
+
+fn text_of(alloc: Global, told: &Told<'_>) -> Result<String, AllocError> {
+    let mut text = String::from_str(alloc, told.command)?;
+    push_told(&mut text, told)?;
     Ok(text)
 }
 
-fn push_number(text: &mut String, number: u32) -> Result<(), AllocError> {
-    write!(text, " {number}")
-}
-
-fn push_layer(text: &mut String, layer: u16) -> Result<(), AllocError> {
-    push_number(text, u32::from(layer))
-}
-
-fn push_top(text: &mut String, top: Option<&str>) -> Result<(), AllocError> {
-    if let Some(name) = top {
-        text.push_str(" top=")?;
-        text.push_str(name)?;
+fn push_told(text: &mut String, told: &Told<'_>) -> Result<(), AllocError> {
+    for number in told.numbers {
+        write!(text, " {number}")?;
+    }
+    push_name(text, " top=", told.top)?;
+    push_layer(text, " mark-a=", told.marks[0])?;
+    push_layer(text, " mark-b=", told.marks[1])?;
+    push_name(text, " fewer", told.fewer.then_some(""))?;
+    for name in told.names {
+        push_name(text, " of ", Some(name))?;
+    }
+    for layer in told.layers {
+        push_layer(text, " layer ", Some(*layer))?;
     }
     Ok(())
 }
 
-fn push_marks(text: &mut String, a: Option<u16>, b: Option<u16>) -> Result<(), AllocError> {
-    if let Some(layer) = a {
-        text.push_str(" mark-a=")?;
-        write!(text, "{layer}")?;
+fn push_name(text: &mut String, head: &str, name: Option<&str>) -> Result<(), AllocError> {
+    match name {
+        Some(name) => write!(text, "{head}{name}"),
+        None => Ok(()),
     }
-    if let Some(layer) = b {
-        text.push_str(" mark-b=")?;
-        write!(text, "{layer}")?;
-    }
-    Ok(())
 }
 
-fn push_names(text: &mut String, names: &[&str]) -> Result<(), AllocError> {
-    text.push_str(" of ")?;
-    for (place, name) in names.iter().enumerate() {
-        if place > 0 {
-            text.push(',')?;
-        }
-        text.push_str(name)?;
+fn push_layer(text: &mut String, head: &str, layer: Option<u16>) -> Result<(), AllocError> {
+    match layer {
+        Some(layer) => write!(text, "{head}{layer}"),
+        None => Ok(()),
     }
-    Ok(())
 }

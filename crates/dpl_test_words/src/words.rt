@@ -1,8 +1,9 @@
 //! Words and what they ask for.
 
 use crate::cases::{BATCHES, CHECKS, CORNERS, DEMOS, EDITS, FEWER, MARKERS, SPLITS};
-use crate::told::{first_wrong, told};
+use crate::told::{asks, first_wrong};
 use dpl_words::{WordsFault, read_words};
+use std::alloc::{AllocError, Global};
 use std::test::Fail;
 
 #[test]
@@ -66,16 +67,24 @@ fn edits_have_four_files(rt: HostRuntime) -> Result<(), Fail> {
     Ok(())
 }
 
+/// A text with so many layers behind it, from 0 on.
+fn with_layers(alloc: Global, head: &str, between: &str, count: u32) -> Result<String, AllocError> {
+    let mut text = String::from_str(alloc, head)?;
+    for layer in 0..count {
+        write!(text, "{between}{layer}")?;
+    }
+    Ok(text)
+}
+
 #[test]
 fn batches_have_at_most_64_layers(rt: HostRuntime) -> Result<(), Fail> {
     let alloc = rt.alloc();
-    for count in [64, 65] {
-        let mut line = String::from_str(alloc, "dpl batch --rule 30 --overlap 10 i p")?;
-        for layer in 0..count {
-            write!(line, " {layer}")?;
-        }
-        let told = told(alloc, line.as_str())?;
-        assert_eq!(rt; told.as_str() != "usage", count == 64);
-    }
+    let head = "dpl batch --rule 30 --overlap 10 i p";
+    let told = "batch 0 30 10 30 101 102 4096 4 of i of p";
+    let most = with_layers(alloc, head, " ", 64)?;
+    let want = with_layers(alloc, told, " layer ", 64)?;
+    assert!(rt; asks(alloc, most.as_str(), want.as_str())?);
+    let more = with_layers(alloc, head, " ", 65)?;
+    assert!(rt; asks(alloc, more.as_str(), "usage")?);
     Ok(())
 }
