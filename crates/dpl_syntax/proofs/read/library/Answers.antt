@@ -109,3 +109,21 @@ returns-clause-library c =
       seen c.in_ok-take.field-0,
       c.take-2.new.self.at,
     ) e)
+
+pub returns-in_err-header-clause-library : goal.returns-in_err-header-clause-library
+returns-in_err-header-clause-library c = rw (err_from_is_err_and c.from_residual.result c.from_residual.ensures.1).1 tt
+
+pub returns-in_err-bgnlib-clause-library : goal.returns-in_err-bgnlib-clause-library
+returns-in_err-bgnlib-clause-library c = rw (err_from_is_err_and c.from_residual-in_err-bgnlib.result c.from_residual-in_err-bgnlib.ensures.1).1 tt
+
+pub returns-in_err-libname-clause-library : goal.returns-in_err-libname-clause-library
+returns-in_err-libname-clause-library c = rw (err_from_is_err_and c.from_residual-in_err-libname.result c.from_residual-in_err-libname.ensures.1).1 tt
+
+pub returns-in_err-units-clause-library : goal.returns-in_err-units-clause-library
+returns-in_err-units-clause-library c = rw (err_from_is_err_and c.from_residual-in_err-units.result c.from_residual-in_err-units.ensures.1).1 tt
+
+pub returns-in_err-structures-clause-library : goal.returns-in_err-structures-clause-library
+returns-in_err-structures-clause-library c = rw (err_from_is_err_and c.from_residual-in_err-structures.result c.from_residual-in_err-structures.ensures.1).1 tt
+
+pub returns-in_err-take-clause-library : goal.returns-in_err-take-clause-library
+returns-in_err-take-clause-library c = rw (err_from_is_err_and c.from_residual-in_err-take.result c.from_residual-in_err-take.ensures.1).1 tt

@@ -42,3 +42,9 @@ returns-clause-ok c =
     let none = rw c.loop-elements.invariant.bytes at (rw c.in_default.is at c.in_ok-element.ensures.none) in
     rw none.1 (elements_done b c.args.self.now.at c.loop-elements.self.at (map element_seen c.loop-elements.elements.items)
     c.loop-elements.invariant.passes none.0)
+
+pub returns-in_err-element-clause-ok : goal.returns-in_err-element-clause-ok
+returns-in_err-element-clause-ok c = rw (err_from_is_err_and c.from_residual.result c.from_residual.ensures.1).1 tt
+
+pub returns-in_err-element-clause-sized : goal.returns-in_err-element-clause-sized
+returns-in_err-element-clause-sized c = rw (err_from_is_err_and c.from_residual.result c.from_residual.ensures.1).1 tt

@@ -35,3 +35,27 @@ returns-clause-some c =
     let stays = rw c.in_default.is at c.take_plain.ensures.stays in
     let next : IsNextElement b at (seen c.in-Some-2.first) = rw (c.take_plain.ensures.bytes, stays) at (rw c.in-Some-2.is at c.in_ok-first.ensures.some) in
     record { first = seen c.in-Some-2.first; is_next = next; passes = rw (c.take_plain.ensures.bytes, stays) at c.in_ok-element.ensures.ok }
+
+pub returns-in_err-first-clause-some : goal.returns-in_err-first-clause-some
+returns-in_err-first-clause-some c = rw (err_from_is_err_and c.from_residual.result c.from_residual.ensures.1).1 tt
+
+pub returns-in_err-first-clause-none : goal.returns-in_err-first-clause-none
+returns-in_err-first-clause-none c = rw (err_from_is_err_and c.from_residual.result c.from_residual.ensures.1).1 tt
+
+pub returns-in_err-first-clause-sized : goal.returns-in_err-first-clause-sized
+returns-in_err-first-clause-sized c = rw (err_from_is_err_and c.from_residual.result c.from_residual.ensures.1).1 tt
+
+pub returns-in_err-first-clause-further : goal.returns-in_err-first-clause-further
+returns-in_err-first-clause-further c = rw (err_from_is_err_and c.from_residual.result c.from_residual.ensures.1).1 tt
+
+pub returns-in_err-element-clause-some : goal.returns-in_err-element-clause-some
+returns-in_err-element-clause-some c = rw (err_from_is_err_and c.from_residual-in_err-element.result c.from_residual-in_err-element.ensures.1).1 tt
+
+pub returns-in_err-element-clause-none : goal.returns-in_err-element-clause-none
+returns-in_err-element-clause-none c = rw (err_from_is_err_and c.from_residual-in_err-element.result c.from_residual-in_err-element.ensures.1).1 tt
+
+pub returns-in_err-element-clause-sized : goal.returns-in_err-element-clause-sized
+returns-in_err-element-clause-sized c = rw (err_from_is_err_and c.from_residual-in_err-element.result c.from_residual-in_err-element.ensures.1).1 tt
+
+pub returns-in_err-element-clause-further : goal.returns-in_err-element-clause-further
+returns-in_err-element-clause-further c = rw (err_from_is_err_and c.from_residual-in_err-element.result c.from_residual-in_err-element.ensures.1).1 tt

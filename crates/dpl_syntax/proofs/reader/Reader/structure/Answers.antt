@@ -81,3 +81,51 @@ returns-clause-ok c =
     rw (one, two, three)
     (structure_ok b c.args.self.now.at h known c.requires.next.found c.requires.next.is y c.in_ok-strname.ensures.exact
     c.skip_class.new.self.at c.elements.new.self.at es (seen c.in_ok-take.field-0, c.take.new.self.at) classes elements e)
+
+pub returns-in_err-strname-clause-ok : goal.returns-in_err-strname-clause-ok
+returns-in_err-strname-clause-ok c = rw (err_from_is_err_and c.from_residual.result c.from_residual.ensures.1).1 tt
+
+pub returns-in_err-strname-clause-unknown : goal.returns-in_err-strname-clause-unknown
+returns-in_err-strname-clause-unknown c = rw (err_from_is_err_and c.from_residual.result c.from_residual.ensures.1).1 tt
+
+pub returns-in_err-strname-clause-sized : goal.returns-in_err-strname-clause-sized
+returns-in_err-strname-clause-sized c = rw (err_from_is_err_and c.from_residual.result c.from_residual.ensures.1).1 tt
+
+pub returns-in_err-strname-clause-further : goal.returns-in_err-strname-clause-further
+returns-in_err-strname-clause-further c = rw (err_from_is_err_and c.from_residual.result c.from_residual.ensures.1).1 tt
+
+pub returns-in_err-skip_class-clause-ok : goal.returns-in_err-skip_class-clause-ok
+returns-in_err-skip_class-clause-ok c = rw (err_from_is_err_and c.from_residual-in_err-skip_class.result c.from_residual-in_err-skip_class.ensures.1).1 tt
+
+pub returns-in_err-skip_class-clause-unknown : goal.returns-in_err-skip_class-clause-unknown
+returns-in_err-skip_class-clause-unknown c = rw (err_from_is_err_and c.from_residual-in_err-skip_class.result c.from_residual-in_err-skip_class.ensures.1).1 tt
+
+pub returns-in_err-skip_class-clause-sized : goal.returns-in_err-skip_class-clause-sized
+returns-in_err-skip_class-clause-sized c = rw (err_from_is_err_and c.from_residual-in_err-skip_class.result c.from_residual-in_err-skip_class.ensures.1).1 tt
+
+pub returns-in_err-skip_class-clause-further : goal.returns-in_err-skip_class-clause-further
+returns-in_err-skip_class-clause-further c = rw (err_from_is_err_and c.from_residual-in_err-skip_class.result c.from_residual-in_err-skip_class.ensures.1).1 tt
+
+pub returns-in_err-elements-clause-ok : goal.returns-in_err-elements-clause-ok
+returns-in_err-elements-clause-ok c = rw (err_from_is_err_and c.from_residual-in_err-elements.result c.from_residual-in_err-elements.ensures.1).1 tt
+
+pub returns-in_err-elements-clause-unknown : goal.returns-in_err-elements-clause-unknown
+returns-in_err-elements-clause-unknown c = rw (err_from_is_err_and c.from_residual-in_err-elements.result c.from_residual-in_err-elements.ensures.1).1 tt
+
+pub returns-in_err-elements-clause-sized : goal.returns-in_err-elements-clause-sized
+returns-in_err-elements-clause-sized c = rw (err_from_is_err_and c.from_residual-in_err-elements.result c.from_residual-in_err-elements.ensures.1).1 tt
+
+pub returns-in_err-elements-clause-further : goal.returns-in_err-elements-clause-further
+returns-in_err-elements-clause-further c = rw (err_from_is_err_and c.from_residual-in_err-elements.result c.from_residual-in_err-elements.ensures.1).1 tt
+
+pub returns-in_err-take-clause-ok : goal.returns-in_err-take-clause-ok
+returns-in_err-take-clause-ok c = rw (err_from_is_err_and c.from_residual-in_err-take.result c.from_residual-in_err-take.ensures.1).1 tt
+
+pub returns-in_err-take-clause-unknown : goal.returns-in_err-take-clause-unknown
+returns-in_err-take-clause-unknown c = rw (err_from_is_err_and c.from_residual-in_err-take.result c.from_residual-in_err-take.ensures.1).1 tt
+
+pub returns-in_err-take-clause-sized : goal.returns-in_err-take-clause-sized
+returns-in_err-take-clause-sized c = rw (err_from_is_err_and c.from_residual-in_err-take.result c.from_residual-in_err-take.ensures.1).1 tt
+
+pub returns-in_err-take-clause-further : goal.returns-in_err-take-clause-further
+returns-in_err-take-clause-further c = rw (err_from_is_err_and c.from_residual-in_err-take.result c.from_residual-in_err-take.ensures.1).1 tt

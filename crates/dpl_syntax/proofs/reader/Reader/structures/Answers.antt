@@ -61,3 +61,21 @@ returns-clause-ok c =
     let b = c.args.self.now.bytes.now in
     let other = rw c.loop-structures.invariant.bytes at (rw c.in_default.is at c.in_ok-bgnstr.ensures.none) in
     structures_done b c.args.self.now.at c.loop-structures.self.at c.loop-structures.structures.entries c.loop-structures.invariant.passes other
+
+pub returns-in_err-bgnstr-clause-ok : goal.returns-in_err-bgnstr-clause-ok
+returns-in_err-bgnstr-clause-ok c = rw (err_from_is_err_and c.from_residual.result c.from_residual.ensures.1).1 tt
+
+pub returns-in_err-bgnstr-clause-sized : goal.returns-in_err-bgnstr-clause-sized
+returns-in_err-bgnstr-clause-sized c = rw (err_from_is_err_and c.from_residual.result c.from_residual.ensures.1).1 tt
+
+pub returns-in_err-bgnstr-clause-few : goal.returns-in_err-bgnstr-clause-few
+returns-in_err-bgnstr-clause-few c = rw (err_from_is_err_and c.from_residual.result c.from_residual.ensures.1).1 tt
+
+pub returns-in_err-name-clause-ok : goal.returns-in_err-name-clause-ok
+returns-in_err-name-clause-ok c = rw (err_from_is_err_and c.from_residual-in_err-name.result c.from_residual-in_err-name.ensures.1).1 tt
+
+pub returns-in_err-name-clause-sized : goal.returns-in_err-name-clause-sized
+returns-in_err-name-clause-sized c = rw (err_from_is_err_and c.from_residual-in_err-name.result c.from_residual-in_err-name.ensures.1).1 tt
+
+pub returns-in_err-name-clause-few : goal.returns-in_err-name-clause-few
+returns-in_err-name-clause-few c = rw (err_from_is_err_and c.from_residual-in_err-name.result c.from_residual-in_err-name.ensures.1).1 tt
