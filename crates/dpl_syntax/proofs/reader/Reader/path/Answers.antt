@@ -1,10 +1,89 @@
-use Rattle.std.proofs.Common.{refl, ◌∙◌}
+use Rattle.std.proofs.Common.{refl, ◌∙◌, le_trans}
+use Rattle.std.proofs.lemmas.Result.{err_from_is_err_and}
 use Rattle.std.specs.Option.{option_map}
 use Rattle.dpl_spec_format.specs.Fields as fields
 use Rattle.dpl_spec_format.specs.Kinds as kinds
 use Rattle.dpl_records.specs.Seen.{seen}
 use Rattle.dpl_syntax.proofs.Chains.{same_bytes, none_then, must_then, may_then, body_then, in_slot}
 use Rattle.dpl_syntax.proofs.reader.Reader.path.Goals as goal
+
+pub returns-in_err-layer-clause-points : goal.returns-in_err-layer-clause-points
+returns-in_err-layer-clause-points c = rw (err_from_is_err_and c.from_residual.result c.from_residual.ensures.1).1 tt
+
+pub returns-in_err-layer-clause-on : goal.returns-in_err-layer-clause-on
+returns-in_err-layer-clause-on c = c.in_err-layer.ensures.on
+
+pub returns-in_err-layer-clause-bytes : goal.returns-in_err-layer-clause-bytes
+returns-in_err-layer-clause-bytes c = c.in_err-layer.ensures.bytes
+
+pub returns-in_err-datatype-clause-points : goal.returns-in_err-datatype-clause-points
+returns-in_err-datatype-clause-points c = rw (err_from_is_err_and c.from_residual-in_err-datatype.result c.from_residual-in_err-datatype.ensures.1).1 tt
+
+pub returns-in_err-datatype-clause-on : goal.returns-in_err-datatype-clause-on
+returns-in_err-datatype-clause-on c = le_trans c.in_ok-layer.ensures.on c.in_err-datatype.ensures.on
+
+pub returns-in_err-datatype-clause-bytes : goal.returns-in_err-datatype-clause-bytes
+returns-in_err-datatype-clause-bytes c = c.in_err-datatype.ensures.bytes ∙ c.in_ok-layer.ensures.bytes
+
+pub returns-in_err-kind-clause-points : goal.returns-in_err-kind-clause-points
+returns-in_err-kind-clause-points c = rw (err_from_is_err_and c.from_residual-in_err-kind.result c.from_residual-in_err-kind.ensures.1).1 tt
+
+pub returns-in_err-kind-clause-on : goal.returns-in_err-kind-clause-on
+returns-in_err-kind-clause-on c = le_trans c.in_ok-layer.ensures.on (le_trans c.in_ok-datatype.ensures.on c.in_err-kind.ensures.on)
+
+pub returns-in_err-kind-clause-bytes : goal.returns-in_err-kind-clause-bytes
+returns-in_err-kind-clause-bytes c = c.in_err-kind.ensures.bytes ∙ c.in_ok-datatype.ensures.bytes ∙ c.in_ok-layer.ensures.bytes
+
+pub returns-in_err-width-clause-points : goal.returns-in_err-width-clause-points
+returns-in_err-width-clause-points c = rw (err_from_is_err_and c.from_residual-in_err-width.result c.from_residual-in_err-width.ensures.1).1 tt
+
+pub returns-in_err-width-clause-on : goal.returns-in_err-width-clause-on
+returns-in_err-width-clause-on c =
+    le_trans c.in_ok-layer.ensures.on (le_trans c.in_ok-datatype.ensures.on (le_trans c.in_ok-kind.ensures.on c.in_err-width.ensures.on))
+
+pub returns-in_err-width-clause-bytes : goal.returns-in_err-width-clause-bytes
+returns-in_err-width-clause-bytes c = c.in_err-width.ensures.bytes ∙ c.in_ok-kind.ensures.bytes ∙ c.in_ok-datatype.ensures.bytes ∙ c.in_ok-layer.ensures.bytes
+
+pub returns-in_err-begin_ext-clause-points : goal.returns-in_err-begin_ext-clause-points
+returns-in_err-begin_ext-clause-points c = rw (err_from_is_err_and c.from_residual-in_err-begin_ext.result c.from_residual-in_err-begin_ext.ensures.1).1 tt
+
+pub returns-in_err-begin_ext-clause-on : goal.returns-in_err-begin_ext-clause-on
+returns-in_err-begin_ext-clause-on c =
+    le_trans c.in_ok-layer.ensures.on (le_trans c.in_ok-datatype.ensures.on (le_trans c.in_ok-kind.ensures.on (le_trans c.in_ok-width.ensures.on c.in_err-begin_ext.ensures.on)))
+
+pub returns-in_err-begin_ext-clause-bytes : goal.returns-in_err-begin_ext-clause-bytes
+returns-in_err-begin_ext-clause-bytes c =
+    c.in_err-begin_ext.ensures.bytes ∙ c.in_ok-width.ensures.bytes ∙ c.in_ok-kind.ensures.bytes ∙ c.in_ok-datatype.ensures.bytes ∙ c.in_ok-layer.ensures.bytes
+
+pub returns-in_err-end_ext-clause-points : goal.returns-in_err-end_ext-clause-points
+returns-in_err-end_ext-clause-points c = rw (err_from_is_err_and c.from_residual-in_err-end_ext.result c.from_residual-in_err-end_ext.ensures.1).1 tt
+
+pub returns-in_err-end_ext-clause-on : goal.returns-in_err-end_ext-clause-on
+returns-in_err-end_ext-clause-on c =
+    le_trans c.in_ok-layer.ensures.on (le_trans c.in_ok-datatype.ensures.on (le_trans c.in_ok-kind.ensures.on (le_trans c.in_ok-width.ensures.on (le_trans c.in_ok-begin_ext.ensures.on c.in_err-end_ext.ensures.on))))
+
+pub returns-in_err-end_ext-clause-bytes : goal.returns-in_err-end_ext-clause-bytes
+returns-in_err-end_ext-clause-bytes c =
+    c.in_err-end_ext.ensures.bytes ∙ c.in_ok-begin_ext.ensures.bytes ∙ c.in_ok-width.ensures.bytes ∙ c.in_ok-kind.ensures.bytes ∙ c.in_ok-datatype.ensures.bytes ∙ c.in_ok-layer.ensures.bytes
+
+pub returns-in_err-xy-clause-points : goal.returns-in_err-xy-clause-points
+returns-in_err-xy-clause-points c = rw (err_from_is_err_and c.from_residual-in_err-xy.result c.from_residual-in_err-xy.ensures.1).1 tt
+
+pub returns-in_err-xy-clause-on : goal.returns-in_err-xy-clause-on
+returns-in_err-xy-clause-on c =
+    le_trans c.in_ok-layer.ensures.on (le_trans c.in_ok-datatype.ensures.on (le_trans c.in_ok-kind.ensures.on (le_trans c.in_ok-width.ensures.on (le_trans c.in_ok-begin_ext.ensures.on (le_trans c.in_ok-end_ext.ensures.on c.in_err-xy.ensures.on)))))
+
+pub returns-in_err-xy-clause-bytes : goal.returns-in_err-xy-clause-bytes
+returns-in_err-xy-clause-bytes c =
+    c.in_err-xy.ensures.bytes ∙ c.in_ok-end_ext.ensures.bytes ∙ c.in_ok-begin_ext.ensures.bytes ∙ c.in_ok-width.ensures.bytes ∙ c.in_ok-kind.ensures.bytes ∙ c.in_ok-datatype.ensures.bytes ∙ c.in_ok-layer.ensures.bytes
+
+pub returns-clause-on : goal.returns-clause-on
+returns-clause-on c =
+    le_trans c.in_ok-layer.ensures.on (le_trans c.in_ok-datatype.ensures.on (le_trans c.in_ok-kind.ensures.on (le_trans c.in_ok-width.ensures.on (le_trans c.in_ok-begin_ext.ensures.on (le_trans c.in_ok-end_ext.ensures.on c.in_ok-xy.ensures.on)))))
+
+pub returns-clause-bytes : goal.returns-clause-bytes
+returns-clause-bytes c =
+    c.in_ok-xy.ensures.bytes ∙ c.in_ok-end_ext.ensures.bytes ∙ c.in_ok-begin_ext.ensures.bytes ∙ c.in_ok-width.ensures.bytes ∙ c.in_ok-kind.ensures.bytes ∙ c.in_ok-datatype.ensures.bytes ∙ c.in_ok-layer.ensures.bytes
 
 pub returns-clause-exact : goal.returns-clause-exact
 returns-clause-exact c =

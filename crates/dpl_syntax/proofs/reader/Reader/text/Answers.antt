@@ -1,4 +1,5 @@
-use Rattle.std.proofs.Common.{refl, rules, ◌∙◌, w16, FitsSigned}
+use Rattle.std.proofs.Common.{refl, rules, ◌∙◌, w16, FitsSigned, le_trans}
+use Rattle.std.proofs.lemmas.Result.{err_from_is_err_and}
 use Rattle.std.proofs.lemmas.Int.{to_z-of_z}
 use Rattle.std.specs.Option.{option_map}
 use Rattle.dpl_spec_format.specs.Kinds as kinds
@@ -7,6 +8,97 @@ use Rattle.dpl_syntax.specs.TransRecords.{trans_records_seen}
 use Rattle.dpl_syntax.specs.Reading.{transformed}
 use Rattle.dpl_syntax.proofs.Chains.{same_bytes, none_then, item_then, must_then, may_then, points_then, body_then}
 use Rattle.dpl_syntax.proofs.reader.Reader.text.Goals as goal
+
+pub returns-in_err-layer-clause-points : goal.returns-in_err-layer-clause-points
+returns-in_err-layer-clause-points c = rw (err_from_is_err_and c.from_residual.result c.from_residual.ensures.1).1 tt
+
+pub returns-in_err-layer-clause-on : goal.returns-in_err-layer-clause-on
+returns-in_err-layer-clause-on c = c.in_err-layer.ensures.on
+
+pub returns-in_err-layer-clause-bytes : goal.returns-in_err-layer-clause-bytes
+returns-in_err-layer-clause-bytes c = c.in_err-layer.ensures.bytes
+
+pub returns-in_err-texttype-clause-points : goal.returns-in_err-texttype-clause-points
+returns-in_err-texttype-clause-points c = rw (err_from_is_err_and c.from_residual-in_err-texttype.result c.from_residual-in_err-texttype.ensures.1).1 tt
+
+pub returns-in_err-texttype-clause-on : goal.returns-in_err-texttype-clause-on
+returns-in_err-texttype-clause-on c = le_trans c.in_ok-layer.ensures.on c.in_err-texttype.ensures.on
+
+pub returns-in_err-texttype-clause-bytes : goal.returns-in_err-texttype-clause-bytes
+returns-in_err-texttype-clause-bytes c = c.in_err-texttype.ensures.bytes ∙ c.in_ok-layer.ensures.bytes
+
+pub returns-in_err-_presentation-clause-points : goal.returns-in_err-_presentation-clause-points
+returns-in_err-_presentation-clause-points c =
+    rw (err_from_is_err_and c.from_residual-in_err-_presentation.result c.from_residual-in_err-_presentation.ensures.1).1 tt
+
+pub returns-in_err-_presentation-clause-on : goal.returns-in_err-_presentation-clause-on
+returns-in_err-_presentation-clause-on c = le_trans c.in_ok-layer.ensures.on (le_trans c.in_ok-texttype.ensures.on c.in_err-_presentation.ensures.on)
+
+pub returns-in_err-_presentation-clause-bytes : goal.returns-in_err-_presentation-clause-bytes
+returns-in_err-_presentation-clause-bytes c = c.in_err-_presentation.ensures.bytes ∙ c.in_ok-texttype.ensures.bytes ∙ c.in_ok-layer.ensures.bytes
+
+pub returns-in_err-_pathtype-clause-points : goal.returns-in_err-_pathtype-clause-points
+returns-in_err-_pathtype-clause-points c = rw (err_from_is_err_and c.from_residual-in_err-_pathtype.result c.from_residual-in_err-_pathtype.ensures.1).1 tt
+
+pub returns-in_err-_pathtype-clause-on : goal.returns-in_err-_pathtype-clause-on
+returns-in_err-_pathtype-clause-on c =
+    le_trans c.in_ok-layer.ensures.on (le_trans c.in_ok-texttype.ensures.on (le_trans c.in_ok-_presentation.ensures.on c.in_err-_pathtype.ensures.on))
+
+pub returns-in_err-_pathtype-clause-bytes : goal.returns-in_err-_pathtype-clause-bytes
+returns-in_err-_pathtype-clause-bytes c =
+    c.in_err-_pathtype.ensures.bytes ∙ c.in_ok-_presentation.ensures.bytes ∙ c.in_ok-texttype.ensures.bytes ∙ c.in_ok-layer.ensures.bytes
+
+pub returns-in_err-_width-clause-points : goal.returns-in_err-_width-clause-points
+returns-in_err-_width-clause-points c = rw (err_from_is_err_and c.from_residual-in_err-_width.result c.from_residual-in_err-_width.ensures.1).1 tt
+
+pub returns-in_err-_width-clause-on : goal.returns-in_err-_width-clause-on
+returns-in_err-_width-clause-on c =
+    le_trans c.in_ok-layer.ensures.on (le_trans c.in_ok-texttype.ensures.on (le_trans c.in_ok-_presentation.ensures.on (le_trans c.in_ok-_pathtype.ensures.on c.in_err-_width.ensures.on)))
+
+pub returns-in_err-_width-clause-bytes : goal.returns-in_err-_width-clause-bytes
+returns-in_err-_width-clause-bytes c =
+    c.in_err-_width.ensures.bytes ∙ c.in_ok-_pathtype.ensures.bytes ∙ c.in_ok-_presentation.ensures.bytes ∙ c.in_ok-texttype.ensures.bytes ∙ c.in_ok-layer.ensures.bytes
+
+pub returns-in_err-_trans-clause-points : goal.returns-in_err-_trans-clause-points
+returns-in_err-_trans-clause-points c = rw (err_from_is_err_and c.from_residual-in_err-_trans.result c.from_residual-in_err-_trans.ensures.1).1 tt
+
+pub returns-in_err-_trans-clause-on : goal.returns-in_err-_trans-clause-on
+returns-in_err-_trans-clause-on c =
+    le_trans c.in_ok-layer.ensures.on (le_trans c.in_ok-texttype.ensures.on (le_trans c.in_ok-_presentation.ensures.on (le_trans c.in_ok-_pathtype.ensures.on (le_trans c.in_ok-_width.ensures.on c.in_err-_trans.ensures.on))))
+
+pub returns-in_err-_trans-clause-bytes : goal.returns-in_err-_trans-clause-bytes
+returns-in_err-_trans-clause-bytes c =
+    c.in_err-_trans.ensures.bytes ∙ c.in_ok-_width.ensures.bytes ∙ c.in_ok-_pathtype.ensures.bytes ∙ c.in_ok-_presentation.ensures.bytes ∙ c.in_ok-texttype.ensures.bytes ∙ c.in_ok-layer.ensures.bytes
+
+pub returns-in_err-xy-clause-points : goal.returns-in_err-xy-clause-points
+returns-in_err-xy-clause-points c = rw (err_from_is_err_and c.from_residual-in_err-xy.result c.from_residual-in_err-xy.ensures.1).1 tt
+
+pub returns-in_err-xy-clause-on : goal.returns-in_err-xy-clause-on
+returns-in_err-xy-clause-on c =
+    le_trans c.in_ok-layer.ensures.on (le_trans c.in_ok-texttype.ensures.on (le_trans c.in_ok-_presentation.ensures.on (le_trans c.in_ok-_pathtype.ensures.on (le_trans c.in_ok-_width.ensures.on (le_trans c.in_ok-_trans.ensures.on c.in_err-xy.ensures.on)))))
+
+pub returns-in_err-xy-clause-bytes : goal.returns-in_err-xy-clause-bytes
+returns-in_err-xy-clause-bytes c =
+    c.in_err-xy.ensures.bytes ∙ c.in_ok-_trans.ensures.bytes ∙ c.in_ok-_width.ensures.bytes ∙ c.in_ok-_pathtype.ensures.bytes ∙ c.in_ok-_presentation.ensures.bytes ∙ c.in_ok-texttype.ensures.bytes ∙ c.in_ok-layer.ensures.bytes
+
+pub returns-in_err-string-clause-points : goal.returns-in_err-string-clause-points
+returns-in_err-string-clause-points c = rw (err_from_is_err_and c.from_residual-in_err-string.result c.from_residual-in_err-string.ensures.1).1 tt
+
+pub returns-in_err-string-clause-on : goal.returns-in_err-string-clause-on
+returns-in_err-string-clause-on c =
+    le_trans c.in_ok-layer.ensures.on (le_trans c.in_ok-texttype.ensures.on (le_trans c.in_ok-_presentation.ensures.on (le_trans c.in_ok-_pathtype.ensures.on (le_trans c.in_ok-_width.ensures.on (le_trans c.in_ok-_trans.ensures.on (le_trans c.in_ok-xy.ensures.on c.in_err-string.ensures.on))))))
+
+pub returns-in_err-string-clause-bytes : goal.returns-in_err-string-clause-bytes
+returns-in_err-string-clause-bytes c =
+    c.in_err-string.ensures.bytes ∙ c.in_ok-xy.ensures.bytes ∙ c.in_ok-_trans.ensures.bytes ∙ c.in_ok-_width.ensures.bytes ∙ c.in_ok-_pathtype.ensures.bytes ∙ c.in_ok-_presentation.ensures.bytes ∙ c.in_ok-texttype.ensures.bytes ∙ c.in_ok-layer.ensures.bytes
+
+pub returns-clause-on : goal.returns-clause-on
+returns-clause-on c =
+    le_trans c.in_ok-layer.ensures.on (le_trans c.in_ok-texttype.ensures.on (le_trans c.in_ok-_presentation.ensures.on (le_trans c.in_ok-_pathtype.ensures.on (le_trans c.in_ok-_width.ensures.on (le_trans c.in_ok-_trans.ensures.on (le_trans c.in_ok-xy.ensures.on c.in_ok-string.ensures.on))))))
+
+pub returns-clause-bytes : goal.returns-clause-bytes
+returns-clause-bytes c =
+    c.in_ok-string.ensures.bytes ∙ c.in_ok-xy.ensures.bytes ∙ c.in_ok-_trans.ensures.bytes ∙ c.in_ok-_width.ensures.bytes ∙ c.in_ok-_pathtype.ensures.bytes ∙ c.in_ok-_presentation.ensures.bytes ∙ c.in_ok-texttype.ensures.bytes ∙ c.in_ok-layer.ensures.bytes
 
 pub returns-clause-exact : goal.returns-clause-exact
 returns-clause-exact c =
