@@ -1,4 +1,4 @@
-use Rattle.std.proofs.Common.{◌≡◌, Err}
+use Rattle.std.proofs.Common.{◌≡◌, Err, ◌∙◌}
 use Rattle.std.proofs.lemmas.Result.{err_from_is_err_and}
 use Rattle.dpl_records.specs.Seen.{seen}
 use Rattle.dpl_syntax.specs.Elements.{body_seen}
@@ -35,3 +35,24 @@ returns-clause-ok c =
     let h = seen c.args.first in
     let e = rw (c.in_ok-body.ensures.bytes) at c.in_ok-take_end.ensures.ok in
     element_ok b c.args.self.now.at h c.requires.next c.requires.begins (body_seen c.in_ok-body.body, c.body.new.self.at) c.take_end.new.self.at c.in_ok-body.ensures.exact e
+
+pub returns-in_err-body-clause-bytes : goal.returns-in_err-body-clause-bytes
+returns-in_err-body-clause-bytes c = c.in_err-body.ensures.bytes
+
+pub returns-in_err-take_end-clause-bytes : goal.returns-in_err-take_end-clause-bytes
+returns-in_err-take_end-clause-bytes c = c.in_err-take_end.ensures.bytes ∙ c.in_ok-body.ensures.bytes
+
+pub returns-clause-bytes : goal.returns-clause-bytes
+returns-clause-bytes c = c.in_ok-take_end.ensures.bytes ∙ c.in_ok-body.ensures.bytes
+
+pub returns-in_err-body-clause-ok : goal.returns-in_err-body-clause-ok
+returns-in_err-body-clause-ok c = rw (err_from_is_err_and c.from_residual.result c.from_residual.ensures.1).1 tt
+
+pub returns-in_err-take_end-clause-ok : goal.returns-in_err-take_end-clause-ok
+returns-in_err-take_end-clause-ok c = rw (err_from_is_err_and c.from_residual-in_err-take_end.result c.from_residual-in_err-take_end.ensures.1).1 tt
+
+pub returns-in_err-body-clause-sized : goal.returns-in_err-body-clause-sized
+returns-in_err-body-clause-sized c = rw (err_from_is_err_and c.from_residual.result c.from_residual.ensures.1).1 tt
+
+pub returns-in_err-take_end-clause-sized : goal.returns-in_err-take_end-clause-sized
+returns-in_err-take_end-clause-sized c = rw (err_from_is_err_and c.from_residual-in_err-take_end.result c.from_residual-in_err-take_end.ensures.1).1 tt

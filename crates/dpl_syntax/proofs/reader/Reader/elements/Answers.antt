@@ -1,4 +1,4 @@
-use Rattle.std.proofs.Common.{◌≡◌, [], ◌∷◌, ◌++◌, map, ◌∙◌, arith}
+use Rattle.std.proofs.Common.{◌≡◌, [], ◌∷◌, ◌++◌, map, ◌∙◌, arith, le_trans}
 use Rattle.std.proofs.lemmas.Result.{err_from_is_err_and}
 use Rattle.std.proofs.lemmas.List.{map_push}
 use Rattle.std.proofs.lemmas.List.Elements.{All-push}
@@ -48,3 +48,21 @@ returns-in_err-element-clause-ok c = rw (err_from_is_err_and c.from_residual.res
 
 pub returns-in_err-element-clause-sized : goal.returns-in_err-element-clause-sized
 returns-in_err-element-clause-sized c = rw (err_from_is_err_and c.from_residual.result c.from_residual.ensures.1).1 tt
+
+pub returns-in_err-element-clause-bytes : goal.returns-in_err-element-clause-bytes
+returns-in_err-element-clause-bytes c = c.in_err-element.ensures.bytes ∙ c.loop-elements.invariant.bytes
+
+pub returns-in_err-element-clause-on : goal.returns-in_err-element-clause-on
+returns-in_err-element-clause-on c = le_trans c.loop-elements.invariant.on c.in_err-element.ensures.on
+
+pub returns-in_err-push-clause-bytes : goal.returns-in_err-push-clause-bytes
+returns-in_err-push-clause-bytes c = c.in_ok-element.ensures.bytes ∙ c.loop-elements.invariant.bytes
+
+pub returns-in_err-push-clause-on : goal.returns-in_err-push-clause-on
+returns-in_err-push-clause-on c = le_trans c.loop-elements.invariant.on c.in_ok-element.ensures.on
+
+pub returns-clause-bytes : goal.returns-clause-bytes
+returns-clause-bytes c = c.in_ok-element.ensures.bytes ∙ c.loop-elements.invariant.bytes
+
+pub returns-clause-on : goal.returns-clause-on
+returns-clause-on c = le_trans c.loop-elements.invariant.on c.in_ok-element.ensures.on

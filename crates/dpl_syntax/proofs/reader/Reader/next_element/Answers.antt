@@ -1,4 +1,4 @@
-use Rattle.std.proofs.Common.{◌≡◌, [], Err}
+use Rattle.std.proofs.Common.{◌≡◌, [], Err, ◌∙◌}
 use Rattle.std.proofs.lemmas.Result.{err_from_is_err_and}
 use Rattle.dpl_spec_format.specs.Records.{record_at}
 use Rattle.dpl_records.specs.Seen.{seen}
@@ -59,3 +59,12 @@ returns-in_err-element-clause-sized c = rw (err_from_is_err_and c.from_residual-
 
 pub returns-in_err-element-clause-further : goal.returns-in_err-element-clause-further
 returns-in_err-element-clause-further c = rw (err_from_is_err_and c.from_residual-in_err-element.result c.from_residual-in_err-element.ensures.1).1 tt
+
+pub returns-in_err-first-clause-bytes : goal.returns-in_err-first-clause-bytes
+returns-in_err-first-clause-bytes c = c.take_plain.ensures.bytes
+
+pub returns-in_err-element-clause-bytes : goal.returns-in_err-element-clause-bytes
+returns-in_err-element-clause-bytes c = c.in_err-element.ensures.bytes ∙ c.take_plain.ensures.bytes
+
+pub returns-clause-bytes : goal.returns-clause-bytes
+returns-clause-bytes c = c.in_ok-element.ensures.bytes ∙ c.take_plain.ensures.bytes

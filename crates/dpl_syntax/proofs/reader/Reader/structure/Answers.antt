@@ -129,3 +129,18 @@ returns-in_err-take-clause-sized c = rw (err_from_is_err_and c.from_residual-in_
 
 pub returns-in_err-take-clause-further : goal.returns-in_err-take-clause-further
 returns-in_err-take-clause-further c = rw (err_from_is_err_and c.from_residual-in_err-take.result c.from_residual-in_err-take.ensures.1).1 tt
+
+pub returns-in_err-strname-clause-bytes : goal.returns-in_err-strname-clause-bytes
+returns-in_err-strname-clause-bytes c = c.in_err-strname.ensures.bytes
+
+pub returns-in_err-skip_class-clause-bytes : goal.returns-in_err-skip_class-clause-bytes
+returns-in_err-skip_class-clause-bytes c = c.in_err-skip_class.ensures.bytes ∙ c.in_ok-strname.ensures.bytes
+
+pub returns-in_err-elements-clause-bytes : goal.returns-in_err-elements-clause-bytes
+returns-in_err-elements-clause-bytes c = c.in_err-elements.ensures.bytes ∙ c.in_ok-skip_class.ensures.bytes ∙ c.in_ok-strname.ensures.bytes
+
+pub returns-in_err-take-clause-bytes : goal.returns-in_err-take-clause-bytes
+returns-in_err-take-clause-bytes c = c.in_err-take.ensures.bytes ∙ c.in_ok-elements.ensures.bytes ∙ c.in_ok-skip_class.ensures.bytes ∙ c.in_ok-strname.ensures.bytes
+
+pub returns-clause-bytes : goal.returns-clause-bytes
+returns-clause-bytes c = c.in_ok-take.ensures.bytes ∙ c.in_ok-elements.ensures.bytes ∙ c.in_ok-skip_class.ensures.bytes ∙ c.in_ok-strname.ensures.bytes

@@ -79,3 +79,15 @@ returns-in_err-name-clause-sized c = rw (err_from_is_err_and c.from_residual-in_
 
 pub returns-in_err-name-clause-few : goal.returns-in_err-name-clause-few
 returns-in_err-name-clause-few c = rw (err_from_is_err_and c.from_residual-in_err-name.result c.from_residual-in_err-name.ensures.1).1 tt
+
+pub returns-in_err-bgnstr-clause-bytes : goal.returns-in_err-bgnstr-clause-bytes
+returns-in_err-bgnstr-clause-bytes c = c.loop-structures.invariant.bytes
+
+pub returns-in_err-name-clause-bytes : goal.returns-in_err-name-clause-bytes
+returns-in_err-name-clause-bytes c = c.in_err-name.ensures.bytes ∙ c.loop-structures.invariant.bytes
+
+pub returns-in_err-add-clause-bytes : goal.returns-in_err-add-clause-bytes
+returns-in_err-add-clause-bytes c = c.in_ok-name.ensures.bytes ∙ c.loop-structures.invariant.bytes
+
+pub returns-clause-bytes : goal.returns-clause-bytes
+returns-clause-bytes c = c.loop-structures.invariant.bytes
