@@ -49,7 +49,8 @@ returns-in_err-begin_ext-clause-points c = rw (err_from_is_err_and c.from_residu
 
 pub returns-in_err-begin_ext-clause-on : goal.returns-in_err-begin_ext-clause-on
 returns-in_err-begin_ext-clause-on c =
-    le_trans c.in_ok-layer.ensures.on (le_trans c.in_ok-datatype.ensures.on (le_trans c.in_ok-kind.ensures.on (le_trans c.in_ok-width.ensures.on c.in_err-begin_ext.ensures.on)))
+    le_trans c.in_ok-layer.ensures.on (le_trans c.in_ok-datatype.ensures.on
+    (le_trans c.in_ok-kind.ensures.on (le_trans c.in_ok-width.ensures.on c.in_err-begin_ext.ensures.on)))
 
 pub returns-in_err-begin_ext-clause-bytes : goal.returns-in_err-begin_ext-clause-bytes
 returns-in_err-begin_ext-clause-bytes c =
@@ -60,30 +61,39 @@ returns-in_err-end_ext-clause-points c = rw (err_from_is_err_and c.from_residual
 
 pub returns-in_err-end_ext-clause-on : goal.returns-in_err-end_ext-clause-on
 returns-in_err-end_ext-clause-on c =
-    le_trans c.in_ok-layer.ensures.on (le_trans c.in_ok-datatype.ensures.on (le_trans c.in_ok-kind.ensures.on (le_trans c.in_ok-width.ensures.on (le_trans c.in_ok-begin_ext.ensures.on c.in_err-end_ext.ensures.on))))
+    le_trans c.in_ok-layer.ensures.on (le_trans c.in_ok-datatype.ensures.on
+    (le_trans c.in_ok-kind.ensures.on (le_trans c.in_ok-width.ensures.on
+    (le_trans c.in_ok-begin_ext.ensures.on c.in_err-end_ext.ensures.on))))
 
 pub returns-in_err-end_ext-clause-bytes : goal.returns-in_err-end_ext-clause-bytes
 returns-in_err-end_ext-clause-bytes c =
-    c.in_err-end_ext.ensures.bytes ∙ c.in_ok-begin_ext.ensures.bytes ∙ c.in_ok-width.ensures.bytes ∙ c.in_ok-kind.ensures.bytes ∙ c.in_ok-datatype.ensures.bytes ∙ c.in_ok-layer.ensures.bytes
+    c.in_err-end_ext.ensures.bytes ∙ c.in_ok-begin_ext.ensures.bytes ∙ c.in_ok-width.ensures.bytes ∙ c.in_ok-kind.ensures.bytes
+    ∙ c.in_ok-datatype.ensures.bytes ∙ c.in_ok-layer.ensures.bytes
 
 pub returns-in_err-xy-clause-points : goal.returns-in_err-xy-clause-points
 returns-in_err-xy-clause-points c = rw (err_from_is_err_and c.from_residual-in_err-xy.result c.from_residual-in_err-xy.ensures.1).1 tt
 
 pub returns-in_err-xy-clause-on : goal.returns-in_err-xy-clause-on
 returns-in_err-xy-clause-on c =
-    le_trans c.in_ok-layer.ensures.on (le_trans c.in_ok-datatype.ensures.on (le_trans c.in_ok-kind.ensures.on (le_trans c.in_ok-width.ensures.on (le_trans c.in_ok-begin_ext.ensures.on (le_trans c.in_ok-end_ext.ensures.on c.in_err-xy.ensures.on)))))
+    le_trans c.in_ok-layer.ensures.on (le_trans c.in_ok-datatype.ensures.on
+    (le_trans c.in_ok-kind.ensures.on (le_trans c.in_ok-width.ensures.on
+    (le_trans c.in_ok-begin_ext.ensures.on (le_trans c.in_ok-end_ext.ensures.on c.in_err-xy.ensures.on)))))
 
 pub returns-in_err-xy-clause-bytes : goal.returns-in_err-xy-clause-bytes
 returns-in_err-xy-clause-bytes c =
-    c.in_err-xy.ensures.bytes ∙ c.in_ok-end_ext.ensures.bytes ∙ c.in_ok-begin_ext.ensures.bytes ∙ c.in_ok-width.ensures.bytes ∙ c.in_ok-kind.ensures.bytes ∙ c.in_ok-datatype.ensures.bytes ∙ c.in_ok-layer.ensures.bytes
+    c.in_err-xy.ensures.bytes ∙ c.in_ok-end_ext.ensures.bytes ∙ c.in_ok-begin_ext.ensures.bytes ∙ c.in_ok-width.ensures.bytes
+    ∙ c.in_ok-kind.ensures.bytes ∙ c.in_ok-datatype.ensures.bytes ∙ c.in_ok-layer.ensures.bytes
 
 pub returns-clause-on : goal.returns-clause-on
 returns-clause-on c =
-    le_trans c.in_ok-layer.ensures.on (le_trans c.in_ok-datatype.ensures.on (le_trans c.in_ok-kind.ensures.on (le_trans c.in_ok-width.ensures.on (le_trans c.in_ok-begin_ext.ensures.on (le_trans c.in_ok-end_ext.ensures.on c.in_ok-xy.ensures.on)))))
+    le_trans c.in_ok-layer.ensures.on (le_trans c.in_ok-datatype.ensures.on
+    (le_trans c.in_ok-kind.ensures.on (le_trans c.in_ok-width.ensures.on
+    (le_trans c.in_ok-begin_ext.ensures.on (le_trans c.in_ok-end_ext.ensures.on c.in_ok-xy.ensures.on)))))
 
 pub returns-clause-bytes : goal.returns-clause-bytes
 returns-clause-bytes c =
-    c.in_ok-xy.ensures.bytes ∙ c.in_ok-end_ext.ensures.bytes ∙ c.in_ok-begin_ext.ensures.bytes ∙ c.in_ok-width.ensures.bytes ∙ c.in_ok-kind.ensures.bytes ∙ c.in_ok-datatype.ensures.bytes ∙ c.in_ok-layer.ensures.bytes
+    c.in_ok-xy.ensures.bytes ∙ c.in_ok-end_ext.ensures.bytes ∙ c.in_ok-begin_ext.ensures.bytes ∙ c.in_ok-width.ensures.bytes
+    ∙ c.in_ok-kind.ensures.bytes ∙ c.in_ok-datatype.ensures.bytes ∙ c.in_ok-layer.ensures.bytes
 
 pub returns-clause-exact : goal.returns-clause-exact
 returns-clause-exact c =

@@ -53,52 +53,68 @@ returns-in_err-_width-clause-points c = rw (err_from_is_err_and c.from_residual-
 
 pub returns-in_err-_width-clause-on : goal.returns-in_err-_width-clause-on
 returns-in_err-_width-clause-on c =
-    le_trans c.in_ok-layer.ensures.on (le_trans c.in_ok-texttype.ensures.on (le_trans c.in_ok-_presentation.ensures.on (le_trans c.in_ok-_pathtype.ensures.on c.in_err-_width.ensures.on)))
+    le_trans c.in_ok-layer.ensures.on (le_trans c.in_ok-texttype.ensures.on
+    (le_trans c.in_ok-_presentation.ensures.on (le_trans c.in_ok-_pathtype.ensures.on c.in_err-_width.ensures.on)))
 
 pub returns-in_err-_width-clause-bytes : goal.returns-in_err-_width-clause-bytes
 returns-in_err-_width-clause-bytes c =
-    c.in_err-_width.ensures.bytes ∙ c.in_ok-_pathtype.ensures.bytes ∙ c.in_ok-_presentation.ensures.bytes ∙ c.in_ok-texttype.ensures.bytes ∙ c.in_ok-layer.ensures.bytes
+    c.in_err-_width.ensures.bytes ∙ c.in_ok-_pathtype.ensures.bytes ∙ c.in_ok-_presentation.ensures.bytes ∙ c.in_ok-texttype.ensures.bytes
+    ∙ c.in_ok-layer.ensures.bytes
 
 pub returns-in_err-_trans-clause-points : goal.returns-in_err-_trans-clause-points
 returns-in_err-_trans-clause-points c = rw (err_from_is_err_and c.from_residual-in_err-_trans.result c.from_residual-in_err-_trans.ensures.1).1 tt
 
 pub returns-in_err-_trans-clause-on : goal.returns-in_err-_trans-clause-on
 returns-in_err-_trans-clause-on c =
-    le_trans c.in_ok-layer.ensures.on (le_trans c.in_ok-texttype.ensures.on (le_trans c.in_ok-_presentation.ensures.on (le_trans c.in_ok-_pathtype.ensures.on (le_trans c.in_ok-_width.ensures.on c.in_err-_trans.ensures.on))))
+    le_trans c.in_ok-layer.ensures.on (le_trans c.in_ok-texttype.ensures.on
+    (le_trans c.in_ok-_presentation.ensures.on (le_trans c.in_ok-_pathtype.ensures.on
+    (le_trans c.in_ok-_width.ensures.on c.in_err-_trans.ensures.on))))
 
 pub returns-in_err-_trans-clause-bytes : goal.returns-in_err-_trans-clause-bytes
 returns-in_err-_trans-clause-bytes c =
-    c.in_err-_trans.ensures.bytes ∙ c.in_ok-_width.ensures.bytes ∙ c.in_ok-_pathtype.ensures.bytes ∙ c.in_ok-_presentation.ensures.bytes ∙ c.in_ok-texttype.ensures.bytes ∙ c.in_ok-layer.ensures.bytes
+    c.in_err-_trans.ensures.bytes ∙ c.in_ok-_width.ensures.bytes ∙ c.in_ok-_pathtype.ensures.bytes ∙ c.in_ok-_presentation.ensures.bytes
+    ∙ c.in_ok-texttype.ensures.bytes ∙ c.in_ok-layer.ensures.bytes
 
 pub returns-in_err-xy-clause-points : goal.returns-in_err-xy-clause-points
 returns-in_err-xy-clause-points c = rw (err_from_is_err_and c.from_residual-in_err-xy.result c.from_residual-in_err-xy.ensures.1).1 tt
 
 pub returns-in_err-xy-clause-on : goal.returns-in_err-xy-clause-on
 returns-in_err-xy-clause-on c =
-    le_trans c.in_ok-layer.ensures.on (le_trans c.in_ok-texttype.ensures.on (le_trans c.in_ok-_presentation.ensures.on (le_trans c.in_ok-_pathtype.ensures.on (le_trans c.in_ok-_width.ensures.on (le_trans c.in_ok-_trans.ensures.on c.in_err-xy.ensures.on)))))
+    le_trans c.in_ok-layer.ensures.on (le_trans c.in_ok-texttype.ensures.on
+    (le_trans c.in_ok-_presentation.ensures.on (le_trans c.in_ok-_pathtype.ensures.on
+    (le_trans c.in_ok-_width.ensures.on (le_trans c.in_ok-_trans.ensures.on c.in_err-xy.ensures.on)))))
 
 pub returns-in_err-xy-clause-bytes : goal.returns-in_err-xy-clause-bytes
 returns-in_err-xy-clause-bytes c =
-    c.in_err-xy.ensures.bytes ∙ c.in_ok-_trans.ensures.bytes ∙ c.in_ok-_width.ensures.bytes ∙ c.in_ok-_pathtype.ensures.bytes ∙ c.in_ok-_presentation.ensures.bytes ∙ c.in_ok-texttype.ensures.bytes ∙ c.in_ok-layer.ensures.bytes
+    c.in_err-xy.ensures.bytes ∙ c.in_ok-_trans.ensures.bytes ∙ c.in_ok-_width.ensures.bytes ∙ c.in_ok-_pathtype.ensures.bytes
+    ∙ c.in_ok-_presentation.ensures.bytes ∙ c.in_ok-texttype.ensures.bytes ∙ c.in_ok-layer.ensures.bytes
 
 pub returns-in_err-string-clause-points : goal.returns-in_err-string-clause-points
 returns-in_err-string-clause-points c = rw (err_from_is_err_and c.from_residual-in_err-string.result c.from_residual-in_err-string.ensures.1).1 tt
 
 pub returns-in_err-string-clause-on : goal.returns-in_err-string-clause-on
 returns-in_err-string-clause-on c =
-    le_trans c.in_ok-layer.ensures.on (le_trans c.in_ok-texttype.ensures.on (le_trans c.in_ok-_presentation.ensures.on (le_trans c.in_ok-_pathtype.ensures.on (le_trans c.in_ok-_width.ensures.on (le_trans c.in_ok-_trans.ensures.on (le_trans c.in_ok-xy.ensures.on c.in_err-string.ensures.on))))))
+    le_trans c.in_ok-layer.ensures.on (le_trans c.in_ok-texttype.ensures.on
+    (le_trans c.in_ok-_presentation.ensures.on (le_trans c.in_ok-_pathtype.ensures.on
+    (le_trans c.in_ok-_width.ensures.on (le_trans c.in_ok-_trans.ensures.on
+    (le_trans c.in_ok-xy.ensures.on c.in_err-string.ensures.on))))))
 
 pub returns-in_err-string-clause-bytes : goal.returns-in_err-string-clause-bytes
 returns-in_err-string-clause-bytes c =
-    c.in_err-string.ensures.bytes ∙ c.in_ok-xy.ensures.bytes ∙ c.in_ok-_trans.ensures.bytes ∙ c.in_ok-_width.ensures.bytes ∙ c.in_ok-_pathtype.ensures.bytes ∙ c.in_ok-_presentation.ensures.bytes ∙ c.in_ok-texttype.ensures.bytes ∙ c.in_ok-layer.ensures.bytes
+    c.in_err-string.ensures.bytes ∙ c.in_ok-xy.ensures.bytes ∙ c.in_ok-_trans.ensures.bytes ∙ c.in_ok-_width.ensures.bytes
+    ∙ c.in_ok-_pathtype.ensures.bytes ∙ c.in_ok-_presentation.ensures.bytes ∙ c.in_ok-texttype.ensures.bytes ∙ c.in_ok-layer.ensures.bytes
 
 pub returns-clause-on : goal.returns-clause-on
 returns-clause-on c =
-    le_trans c.in_ok-layer.ensures.on (le_trans c.in_ok-texttype.ensures.on (le_trans c.in_ok-_presentation.ensures.on (le_trans c.in_ok-_pathtype.ensures.on (le_trans c.in_ok-_width.ensures.on (le_trans c.in_ok-_trans.ensures.on (le_trans c.in_ok-xy.ensures.on c.in_ok-string.ensures.on))))))
+    le_trans c.in_ok-layer.ensures.on (le_trans c.in_ok-texttype.ensures.on
+    (le_trans c.in_ok-_presentation.ensures.on (le_trans c.in_ok-_pathtype.ensures.on
+    (le_trans c.in_ok-_width.ensures.on (le_trans c.in_ok-_trans.ensures.on
+    (le_trans c.in_ok-xy.ensures.on c.in_ok-string.ensures.on))))))
 
 pub returns-clause-bytes : goal.returns-clause-bytes
 returns-clause-bytes c =
-    c.in_ok-string.ensures.bytes ∙ c.in_ok-xy.ensures.bytes ∙ c.in_ok-_trans.ensures.bytes ∙ c.in_ok-_width.ensures.bytes ∙ c.in_ok-_pathtype.ensures.bytes ∙ c.in_ok-_presentation.ensures.bytes ∙ c.in_ok-texttype.ensures.bytes ∙ c.in_ok-layer.ensures.bytes
+    c.in_ok-string.ensures.bytes ∙ c.in_ok-xy.ensures.bytes ∙ c.in_ok-_trans.ensures.bytes ∙ c.in_ok-_width.ensures.bytes
+    ∙ c.in_ok-_pathtype.ensures.bytes ∙ c.in_ok-_presentation.ensures.bytes ∙ c.in_ok-texttype.ensures.bytes ∙ c.in_ok-layer.ensures.bytes
 
 pub returns-clause-exact : goal.returns-clause-exact
 returns-clause-exact c =
