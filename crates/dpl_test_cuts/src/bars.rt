@@ -5,7 +5,7 @@ ghost use Rattle.dpl_spec_split.specs.Loops.{farthest, IsRectWithin, AreRectsWit
 use dpl_base::{FARTHEST, Rect, Spacing};
 use dpl_feature::features;
 use dpl_piece::{Pieces, pieces};
-use dpl_slabs::Slabs;
+use dpl_slabs::{Parts, Slabs};
 use dpl_zone::zones;
 use std::alloc::{AllocError, Global};
 
@@ -85,6 +85,12 @@ pub fn rects_of(alloc: Global, corners: &[Corners]) -> Result<Vec<Rect>, AllocEr
 pub fn set_of(alloc: Global, corners: &[Corners]) -> Result<Slabs, AllocError> {
     let rects = rects_of(alloc, corners)?;
     Slabs::of_rects(alloc, rects)
+}
+
+/// The features of some rectangles.
+pub fn features_of(alloc: Global, corners: &[Corners]) -> Result<Parts, AllocError> {
+    let set = set_of(alloc, corners)?;
+    features(alloc, &set)
 }
 
 /// Whether the rectangles have these corners, one after the other.

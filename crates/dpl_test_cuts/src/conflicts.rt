@@ -1,18 +1,18 @@
 //! Worked layouts of one bar or square to a piece, by a rule of 30.
 ghost use Rattle.std.specs.Prelude.{◌<◌, length};
 
-use crate::bars::{Corners, SPACING, set_of};
+use crate::bars::{Corners, SPACING, features_of};
 use dpl_base::{Edge, Id, WideRect};
 use dpl_crowd::Crowd;
 use dpl_edges::{all_conflicts_by, all_edges, edges_of};
-use dpl_feature::features;
+use dpl_slabs::Parts;
 use dpl_tile::{Plan, plan};
 use std::alloc::{AllocError, Global};
 use std::test::Fail;
 use std::thread::Threads;
 
 /// A layout, the feature of each of its pieces, and the pairs of pieces that conflict.
-const ROWS: [(&[Corners], &[Id], &[Edge]); 8] = [
+static ROWS: [(&[Corners], &[Id], &[Edge]); 8] = [
     // bars 29 rows apart, and 30
     (&[(0, 0, 100, 20), (0, 49, 100, 69)], &[0, 1], &[(0, 1)]),
     (&[(0, 0, 100, 20), (0, 50, 100, 70)], &[0, 1], &[]),
@@ -45,72 +45,73 @@ const ROWS: [(&[Corners], &[Id], &[Edge]); 8] = [
     (&[], &[], &[]),
 ];
 
-/// The conflicts of a layout whose pieces are of these features, or None where there aren't as many pieces.
-fn conflicts(
+/// Whether pieces of these features have just these conflicts.
+fn have_conflicts(
     alloc: Global,
-    rects: &[Corners],
+    pieces: &Parts,
     owner: &[Id],
-) -> Result<Option<Vec<Edge>>, AllocError> {
-    let set = set_of(alloc, rects)?;
-    let pieces = features(alloc, &set)?;
+    want: &[Edge],
+) -> Result<bool, AllocError> {
     if pieces.items().len() != owner.len() {
-        return Ok(None);
+        return Ok(false);
     }
-    let plan = plan(alloc, &pieces, owner, SPACING, 16)?;
-    Ok(Some(all_edges(alloc, &plan)?))
+    let plan = plan(alloc, pieces, owner, SPACING, 16)?;
+    Ok(all_edges(alloc, &plan)?.as_slice() == want)
 }
 
 #[test]
 fn finds_the_conflicts(rt: HostRuntime) -> Result<(), Fail> {
-    for (rects, owner, want) in ROWS {
-        let found = conflicts(rt.alloc(), rects, owner)?;
-        let found = found.ok_or("each piece has its feature")?;
-        assert!(rt; found.as_slice() == want);
+    for &(rects, owner, want) in &ROWS {
+        let pieces = features_of(rt.alloc(), rects)?;
+        assert!(rt; have_conflicts(rt.alloc(), &pieces, owner, want)?);
     }
     Ok(())
 }
 
-/// The same conflicts without a plan, found by so many workers.
-fn conflicts_by<R: Threads + Sync>(
+/// Whether so many workers find just these conflicts, without a plan.
+fn have_conflicts_by<R: Threads + Sync>(
     rt: &R,
     alloc: Global,
-    rects: &[Corners],
+    pieces: &Parts,
     owner: &[Id],
+    want: &[Edge],
     workers: u32,
-) -> Result<Option<Vec<Edge>>, AllocError> {
-    let set = set_of(alloc, rects)?;
-    let pieces = features(alloc, &set)?;
+) -> Result<bool, AllocError> {
     if pieces.items().len() != owner.len() || workers < 1 {
-        return Ok(None);
+        return Ok(false);
     }
-    let found = all_conflicts_by(rt, alloc, &pieces, owner, SPACING, workers)?;
-    Ok(Some(found))
+    let found = all_conflicts_by(rt, alloc, pieces, owner, SPACING, workers)?;
+    Ok(found.as_slice() == want)
 }
 
 #[test]
 fn workers_find_the_same_conflicts(rt: HostRuntime) -> Result<(), Fail> {
-    for (rects, owner, want) in ROWS {
+    for &(rects, owner, want) in &ROWS {
+        let pieces = features_of(rt.alloc(), rects)?;
         for workers in [1, 2, 4] {
-            let found = conflicts_by(&rt, rt.alloc(), rects, owner, workers)?;
-            let found = found.ok_or("each piece has its feature")?;
-            assert!(rt; found.as_slice() == want, "by {workers} workers");
+            let found = have_conflicts_by(&rt, rt.alloc(), &pieces, owner, want, workers)?;
+            assert!(rt; found, "by {workers} workers");
         }
     }
     Ok(())
 }
 
-/// The cycle that searches near single pieces find in a layout whose pieces are of these features; empty where they find none, or where there aren't as many pieces.
-fn crowded_cycle(alloc: Global, rects: &[Corners], owner: &[Id]) -> Result<Vec<Id>, AllocError> {
-    let set = set_of(alloc, rects)?;
-    let pieces = features(alloc, &set)?;
+/// The cycle that searches near single pieces find in pieces of these features; empty where they find none, or where there aren't as many pieces.
+fn cycle_near(alloc: Global, pieces: &Parts, owner: &[Id]) -> Result<Vec<Id>, AllocError> {
     if pieces.items().len() != owner.len() {
         return Ok(Vec::new(alloc));
     }
-    let crowd = Crowd::of(alloc, &pieces, owner, SPACING)?;
+    let crowd = Crowd::of(alloc, pieces, owner, SPACING)?;
     match crowd.first_cycle(alloc)? {
         Some(cycle) => Ok(cycle),
         None => Ok(Vec::new(alloc)),
     }
+}
+
+/// The cycle that searches near single pieces find in a layout whose pieces are of these features.
+fn crowded_cycle(alloc: Global, rects: &[Corners], owner: &[Id]) -> Result<Vec<Id>, AllocError> {
+    let pieces = features_of(alloc, rects)?;
+    cycle_near(alloc, &pieces, owner)
 }
 
 /// Three squares, each near both others.
@@ -161,16 +162,23 @@ fn near_cells(plan: &Plan) -> u32 {
     near
 }
 
+/// How many tiles are laid over two pieces, and how many cells are near the other piece; None where there aren't two, or where a tile finds other conflicts.
+fn tiles_near(alloc: Global, pieces: &Parts) -> Result<Option<(u32, u32)>, AllocError> {
+    if pieces.items().len() != 2 {
+        return Ok(None);
+    }
+    let plan = plan(alloc, pieces, &[0, 1], SPACING, 1)?;
+    for tile in 0..plan.tiles() {
+        if !finds_its_own(alloc, &plan, tile)? {
+            return Ok(None);
+        }
+    }
+    Ok(Some((plan.tiles(), near_cells(&plan))))
+}
+
 #[test]
 fn tiles_find_their_conflicts(rt: HostRuntime) -> Result<(), Fail> {
-    let set = set_of(rt.alloc(), &[(0, 0, 10, 10), (28, 33, 38, 43)])?;
-    let pieces = features(rt.alloc(), &set)?;
-    assert!(rt; pieces.items().len() == 2);
-    let plan = plan(rt.alloc(), &pieces, &[0, 1], SPACING, 1)?;
-    assert!(rt; plan.tiles() == 200);
-    for tile in 0..plan.tiles() {
-        assert!(rt; finds_its_own(rt.alloc(), &plan, tile)?);
-    }
-    assert!(rt; near_cells(&plan) == 4);
+    let pieces = features_of(rt.alloc(), &[(0, 0, 10, 10), (28, 33, 38, 43)])?;
+    assert_eq!(rt; tiles_near(rt.alloc(), &pieces)?, Some((200, 4)));
     Ok(())
 }

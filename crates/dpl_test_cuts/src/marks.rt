@@ -1,10 +1,9 @@
 //! Worked layouts with squares that are fixed to a mask.
-use crate::bars::{BARS, Corners, SPACING, set_of};
+use crate::bars::{BARS, Corners, SPACING, features_of, set_of};
 use crate::zones::are_zones;
-use dpl_base::Edge;
+use dpl_base::{Edge, Zone};
 use dpl_edges::{mark_edges, shifted};
-use dpl_feature::features;
-use dpl_slabs::Slabs;
+use dpl_slabs::Parts;
 use dpl_zone::zones;
 use std::alloc::{AllocError, Global};
 use std::test::Fail;
@@ -27,35 +26,47 @@ fn leaves(
     marks: &[Corners],
     want: &[(Corners, u64)],
 ) -> Result<bool, AllocError> {
-    let set = set_of(alloc, rects)?;
-    let marked = set_of(alloc, marks)?;
-    let parts = features(alloc, &set)?;
-    let found = zones(alloc, &parts, SPACING, 10, &marked)?;
+    let found = zones_with_marks(alloc, rects, marks)?;
     Ok(are_zones(found.as_slice(), want))
 }
+
+/// The zones of a layout where these squares are marked.
+fn zones_with_marks(
+    alloc: Global,
+    rects: &[Corners],
+    marks: &[Corners],
+) -> Result<Vec<Zone>, AllocError> {
+    let parts = features_of(alloc, rects)?;
+    let marked = set_of(alloc, marks)?;
+    zones(alloc, &parts, SPACING, 10, &marked)
+}
+
+/// A layout, marked squares, and its zones with the features that they cut.
+static LEFT: [(&[Corners], &[Corners], &[(Corners, u64)]); 5] = [
+    (&BARS, &[], &[ZONE]),
+    // a square of the zone, and squares beside it, below it and of other features
+    (&BARS, &[(80, 5, 81, 6)], &[]),
+    (
+        &BARS,
+        &[
+            (73, 0, 74, 20),
+            (84, 0, 85, 20),
+            (74, -1, 84, 0),
+            (0, 40, 9, 60),
+        ],
+        &[ZONE],
+    ),
+    // a vertical zone that touches a marked horizontal one goes with it
+    (&CROSSED, &[], &[((5, 0, 15, 20), 0)]),
+    (&CROSSED, &[(5, 0, 6, 1)], &[]),
+];
 
 #[test]
 fn marked_zones_are_dropped(rt: HostRuntime) -> Result<(), Fail> {
     let alloc = rt.alloc();
-    assert!(rt; leaves(alloc, &BARS, &[], &[ZONE])?);
-    // a square of the zone, and squares beside it, below it and of other features
-    assert!(rt; leaves(alloc, &BARS, &[(80, 5, 81, 6)], &[])?);
-    assert!(rt;
-        leaves(
-            alloc,
-            &BARS,
-            &[
-                (73, 0, 74, 20),
-                (84, 0, 85, 20),
-                (74, -1, 84, 0),
-                (0, 40, 9, 60)
-            ],
-            &[ZONE]
-        )?
-    );
-    // a vertical zone that touches a marked horizontal one goes with it
-    assert!(rt; leaves(alloc, &CROSSED, &[], &[((5, 0, 15, 20), 0)])?);
-    assert!(rt; leaves(alloc, &CROSSED, &[(5, 0, 6, 1)], &[])?);
+    for &(rects, marks, want) in &LEFT {
+        assert!(rt; leaves(alloc, rects, marks, want)?, "at {marks:?}");
+    }
     Ok(())
 }
 
@@ -67,33 +78,49 @@ fn joins(
     b: &[Corners],
     want: &[Edge],
 ) -> Result<bool, AllocError> {
-    let set = set_of(alloc, bars)?;
-    let pieces = features(alloc, &set)?;
-    let on_a = set_of(alloc, a)?;
-    let on_b = set_of(alloc, b)?;
-    let edges = mark_edges(alloc, &pieces, &on_a, &on_b)?;
+    let pieces = features_of(alloc, bars)?;
+    let edges = edges_of_marks(alloc, &pieces, a, b)?;
     Ok(edges.as_slice() == want)
 }
+
+/// The edges of marks of some pieces.
+fn edges_of_marks(
+    alloc: Global,
+    pieces: &Parts,
+    a: &[Corners],
+    b: &[Corners],
+) -> Result<Vec<Edge>, AllocError> {
+    let on_a = set_of(alloc, a)?;
+    let on_b = set_of(alloc, b)?;
+    mark_edges(alloc, pieces, &on_a, &on_b)
+}
+
+/// Bars, squares that are fixed to mask A and to mask B, and the edges of these marks.
+static JOINED: [(&[Corners], &[Corners], &[Corners], &[Edge]); 5] = [
+    (&TWO, &[], &[], &[(0, 1)]),
+    (&TWO, &[], &[(0, 50, 1, 51)], &[(0, 1), (0, 3)]),
+    (
+        &TWO,
+        &[(0, 0, 1, 1), (0, 49, 1, 50)],
+        &[],
+        &[(0, 1), (1, 2), (1, 3)],
+    ),
+    (
+        &ONE,
+        &[(0, 0, 1, 1)],
+        &[(0, 0, 1, 1)],
+        &[(0, 1), (0, 2), (1, 2)],
+    ),
+    // marks beside the bars fix nothing
+    (&TWO, &[(0, 20, 1, 21)], &[(100, 0, 101, 20)], &[(0, 1)]),
+];
 
 #[test]
 fn marks_join_pieces_to_the_other_anchor(rt: HostRuntime) -> Result<(), Fail> {
     let alloc = rt.alloc();
-    let first = [(0, 0, 1, 1)];
-    let both = [(0, 0, 1, 1), (0, 49, 1, 50)];
-    assert!(rt; joins(alloc, &TWO, &[], &[], &[(0, 1)])?);
-    assert!(rt; joins(alloc, &TWO, &[], &[(0, 50, 1, 51)], &[(0, 1), (0, 3)])?);
-    assert!(rt; joins(alloc, &TWO, &both, &[], &[(0, 1), (1, 2), (1, 3)])?);
-    assert!(rt; joins(alloc, &ONE, &first, &first, &[(0, 1), (0, 2), (1, 2)])?);
-    // marks beside the bars fix nothing
-    assert!(rt;
-        joins(
-            alloc,
-            &TWO,
-            &[(0, 20, 1, 21)],
-            &[(100, 0, 101, 20)],
-            &[(0, 1)]
-        )?
-    );
+    for &(bars, a, b, want) in &JOINED {
+        assert!(rt; joins(alloc, bars, a, b, want)?, "by {a:?} and {b:?}");
+    }
     let moved = shifted(alloc, &[(0, 1), (0, 5)])?;
     assert!(rt; moved.as_slice() == [(2, 3), (2, 7)].as_slice());
     Ok(())

@@ -36,7 +36,7 @@ const A: Mask = Mask::A;
 const B: Mask = Mask::B;
 
 /// A layer, the letters of its pieces, and both masks.
-const PAINTED: [(&[Corners], &[Mask], &[Corners], &[Corners]); 6] = [
+static PAINTED: [(&[Corners], &[Mask], &[Corners], &[Corners]); 6] = [
     (&[], &[], &[], &[]),
     // no zone cuts the feature
     (&[(3, 4, 5, 6)], &[B], &[], &[(3, 4, 5, 6)]),
@@ -86,7 +86,7 @@ const PAINTED: [(&[Corners], &[Mask], &[Corners], &[Corners]); 6] = [
 
 #[test]
 fn features_are_painted(rt: HostRuntime) -> Result<(), Fail> {
-    for (layer, letters, on_a, on_b) in PAINTED {
+    for &(layer, letters, on_a, on_b) in &PAINTED {
         let found = painted(rt.alloc(), layer, letters)?;
         let masks = found.ok_or("each piece has its letter")?;
         assert!(rt; are(masks.a.rects(), on_a));

@@ -7,6 +7,7 @@ use dpl_base::{Loop, Pt};
 use dpl_slabs::Slabs;
 use std::alloc::{AllocError, Global};
 use std::test::Fail;
+use std::thread::Threads;
 
 /// A corner of a loop.
 type Corner = (i16, i16);
@@ -91,7 +92,7 @@ const STRIPS: [&[Corner]; 6] = [
 ];
 
 /// Loops, and the slabs of their squares.
-const LOOPS: [(&[&[Corner]], &[Corners]); 3] = [
+static LOOPS: [(&[&[Corner]], &[Corners]); 3] = [
     (&[&LOW, &HIGH], &[(0, 0, 10, 10), (10, 10, 20, 20)]),
     (
         &[&RING],
@@ -110,21 +111,30 @@ const LOOPS: [(&[&[Corner]], &[Corners]); 3] = [
 
 #[test]
 fn loops_have_their_slabs(rt: HostRuntime) -> Result<(), Fail> {
-    for (loops, want) in LOOPS {
+    for &(loops, want) in &LOOPS {
         let set = slabs_of(rt.alloc(), loops)?;
         assert!(rt; are(set.rects(), want));
     }
     Ok(())
 }
 
+/// The squares of the same loops so many times that workers share them.
+fn many_by<R: Threads + Sync>(
+    rt: &R,
+    alloc: Global,
+    loops: &[&[Corner]],
+    workers: u32,
+) -> Result<Slabs, AllocError> {
+    let many = repeated(alloc, loops, 1100)?;
+    Slabs::of_shapes_by(rt, alloc, Vec::new(alloc), many, workers)
+}
+
 #[test]
 fn workers_make_the_slabs_of_loops_that_one_makes(rt: HostRuntime) -> Result<(), Fail> {
-    // The same loops so many times that workers share them.
     let alloc = rt.alloc();
-    for (loops, want) in LOOPS {
+    for &(loops, want) in &LOOPS {
         for workers in [2, 64] {
-            let many = repeated(alloc, loops, 1100)?;
-            let set = Slabs::of_shapes_by(&rt, alloc, Vec::new(alloc), many, workers)?;
+            let set = many_by(&rt, alloc, loops, workers)?;
             assert!(rt; are(set.rects(), want));
         }
     }
@@ -148,20 +158,25 @@ enum Together {
     Meet,
 }
 
-/// Two squares that overlap at a corner, put together.
-fn put_together(alloc: Global, by: Together) -> Result<Slabs, AllocError> {
-    let a = slabs_of(alloc, &[&[(0, 0), (10, 0), (10, 10), (0, 10)]])?;
-    let b = slabs_of(alloc, &[&[(5, 5), (15, 5), (15, 15), (5, 15)]])?;
+/// Two sets, put together.
+fn put_together(alloc: Global, a: &Slabs, b: &Slabs, by: Together) -> Result<Slabs, AllocError> {
     match by {
-        Together::Union => a.union(alloc, &b),
-        Together::Minus => a.minus(alloc, &b),
+        Together::Union => a.union(alloc, b),
+        Together::Minus => a.minus(alloc, b),
         Together::Without => Slabs::of_rects_without(alloc, a.rects(), b.rects()),
-        Together::Meet => a.meet(alloc, &b),
+        Together::Meet => a.meet(alloc, b),
     }
 }
 
+/// Two squares that overlap at a corner, put together.
+fn of_two(alloc: Global, by: Together) -> Result<Slabs, AllocError> {
+    let a = slabs_of(alloc, &[&LOW])?;
+    let b = slabs_of(alloc, &[&[(5, 5), (15, 5), (15, 15), (5, 15)]])?;
+    put_together(alloc, &a, &b, by)
+}
+
 /// What two squares are put together by, the slabs, which are those of the columns too, the least square, and whether (9, 4) and (5, 5) are in the set.
-const COMBINED: [(Together, &[Corners], (i64, i64), bool, bool); 4] = [
+static COMBINED: [(Together, &[Corners], (i64, i64), bool, bool); 4] = [
     (
         Together::Union,
         &[(0, 0, 10, 5), (0, 5, 15, 10), (5, 10, 15, 15)],
@@ -191,14 +206,20 @@ fn again(alloc: Global, set: &Slabs) -> Result<Slabs, AllocError> {
     Slabs::of_rects(alloc, Vec::from_slice(alloc, set.rects())?)
 }
 
+/// Whether a set has these slabs, by rows and by columns, and is the set of them.
+fn has_slabs(alloc: Global, set: &Slabs, want: &[Corners]) -> Result<bool, AllocError> {
+    if !are(set.rects(), want) || !are(set.columns(alloc)?.as_slice(), want) {
+        return Ok(false);
+    }
+    Ok(set.equal(&again(alloc, set)?))
+}
+
 #[test]
 fn sets_are_combined(rt: HostRuntime) -> Result<(), Fail> {
-    for (by, want, (x, y), has_first, has_second) in COMBINED {
-        let set = put_together(rt.alloc(), by)?;
-        assert!(rt; are(set.rects(), want));
-        assert!(rt; are(set.columns(rt.alloc())?.as_slice(), want));
+    for &(by, want, (x, y), has_first, has_second) in &COMBINED {
+        let set = of_two(rt.alloc(), by)?;
+        assert!(rt; has_slabs(rt.alloc(), &set, want)?);
         assert!(rt; set.least() == Some(Pt { x, y }));
-        assert!(rt; set.equal(&again(rt.alloc(), &set)?));
         assert!(rt; set.has(9, 4) == has_first && set.has(5, 5) == has_second);
     }
     Ok(())

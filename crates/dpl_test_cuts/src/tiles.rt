@@ -1,7 +1,7 @@
 //! Worked layouts of one bar or square to a piece, and their tiles.
-use crate::bars::{Corners, SPACING, set_of};
+use crate::bars::{Corners, SPACING, features_of};
 use dpl_base::Id;
-use dpl_feature::features;
+use dpl_slabs::Parts;
 use dpl_tile::{Plan, plan};
 use std::alloc::{AllocError, Global};
 use std::test::Fail;
@@ -19,7 +19,7 @@ const SQUARES: [Corners; 2] = [(0, 0, 10, 10), (28, 33, 38, 43)];
 const PLATE: [Corners; 1] = [(-3, 7, 4094, 4103)];
 
 /// Rectangles, the owners of their pieces, a tile's side as asked, the number of tiles, and the last cell.
-const ROWS: [(&[Corners], &[Id], u32, u32, CellCorners); 6] = [
+static ROWS: [(&[Corners], &[Id], u32, u32, CellCorners); 6] = [
     (&[], &[], 64, 0, (0, 0, 0, 0)),
     (&BARS, &[0, 1], 64, 1000, (63936, 0, 64000, 64)),
     (
@@ -42,12 +42,21 @@ fn laid(
     owner: &[Id],
     tile: u32,
 ) -> Result<Option<(u32, CellCorners)>, AllocError> {
-    let set = set_of(alloc, rects)?;
-    let pieces = features(alloc, &set)?;
+    let pieces = features_of(alloc, rects)?;
+    laid_over(alloc, &pieces, owner, tile)
+}
+
+/// The same of some pieces.
+fn laid_over(
+    alloc: Global,
+    pieces: &Parts,
+    owner: &[Id],
+    tile: u32,
+) -> Result<Option<(u32, CellCorners)>, AllocError> {
     if pieces.items().len() != owner.len() || tile < 1 {
         return Ok(None);
     }
-    let plan = plan(alloc, &pieces, owner, SPACING, tile)?;
+    let plan = plan(alloc, pieces, owner, SPACING, tile)?;
     Ok(Some((plan.tiles(), last_cell(&plan))))
 }
 
@@ -63,7 +72,7 @@ fn last_cell(plan: &Plan) -> CellCorners {
 
 #[test]
 fn lays_tiles(rt: HostRuntime) -> Result<(), Fail> {
-    for (rects, owner, tile, tiles, last) in ROWS {
+    for &(rects, owner, tile, tiles, last) in &ROWS {
         let found = laid(rt.alloc(), rects, owner, tile)?;
         assert!(rt; found == Some((tiles, last)));
     }
