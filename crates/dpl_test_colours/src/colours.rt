@@ -2,7 +2,7 @@
 use dpl_list::{Edge, Id};
 use dpl_orient::{Mask, are_sides_below, fewer, is_even_below, orient};
 use dpl_stars::{Joined, stars};
-use std::alloc::Global;
+use std::alloc::{AllocError, Global};
 use std::test::Fail;
 
 /// The letters of the pieces of three edges, and of more pieces that no edge touches.
@@ -29,6 +29,15 @@ fn later_components_flip_where_that_saves_stitches(rt: HostRuntime) -> Result<()
     Ok(())
 }
 
+/// The edges of the pieces 0 and 1, 2 and 3, and so on, summed up: four of them, or three.
+fn pairs(alloc: Global, are_four: bool) -> Result<Joined, AllocError> {
+    if are_four {
+        stars(alloc, &[(0, 1), (2, 3), (4, 5), (6, 7)])
+    } else {
+        stars(alloc, &[(0, 1), (2, 3), (4, 5)])
+    }
+}
+
 /// The letters with fewer stitches of so many pieces, whose edges are summed up. The component of the fixed piece stays.
 fn fewer_letters(
     alloc: Global,
@@ -45,33 +54,48 @@ fn fewer_letters(
     Ok(colours.into_vec())
 }
 
+/// The first mask.
+const A: Mask = Mask::A;
+
+/// The second mask.
+const B: Mask = Mask::B;
+
+/// Sides that a later component's flip saves stitches of.
+const FLIPPED: [(Id, Id); 6] = [(0, 2), (0, 4), (1, 5), (0, 4), (2, 5), (3, 4)];
+
+const LOWER: [(Id, Id); 7] = [(3, 6), (7, 5), (4, 3), (4, 2), (7, 2), (1, 3), (6, 4)];
+
+/// Whether there are four edges, the sides, the piece that is fixed, and the letters with fewer stitches.
+static FEWER: [(bool, &[(Id, Id)], Option<Id>, &[Mask]); 6] = [
+    (false, &FLIPPED, None, &[A, B, B, A, A, B]),
+    (true, &FLIPPED, Some(3), &[A, B, A, B, A, B, A, B]),
+    // Pieces 2 and 3 gain only once 4 and 5 are flipped; a tie of 6 and 7 flips neither.
+    (
+        true,
+        &[(0, 5), (0, 6), (3, 5), (4, 7)],
+        None,
+        &[A, B, B, A, B, A, A, B],
+    ),
+    // Of two components that gain the least is flipped; then the other one gains no more.
+    (
+        true,
+        &[(5, 6), (3, 4), (0, 6), (1, 5)],
+        None,
+        &[A, B, B, A, A, B, A, B],
+    ),
+    // Pieces 0 and 1 gain by the flip of later ones; with anchors they stay.
+    (true, &LOWER, None, &[B, A, B, A, A, B, A, B]),
+    (true, &LOWER, Some(0), &[A, B, B, A, A, B, A, B]),
+];
+
 #[test]
 fn single_components_flip_until_none_saves_stitches(rt: HostRuntime) -> Result<(), Fail> {
     let alloc = rt.alloc();
-    let (a, b) = (Mask::A, Mask::B);
-    let three: [Edge; 3] = [(0, 1), (2, 3), (4, 5)];
-    let four: [Edge; 4] = [(0, 1), (2, 3), (4, 5), (6, 7)];
-    let (three, four) = (stars(alloc, &three)?, stars(alloc, &four)?);
-    let flipped = [(0, 2), (0, 4), (1, 5), (0, 4), (2, 5), (3, 4)];
-    let letters = fewer_letters(alloc, &three, 6, &flipped, None)?;
-    assert_eq!(rt; letters.as_slice(), [a, b, b, a, a, b].as_slice());
-    let held = fewer_letters(alloc, &four, 8, &flipped, Some(3))?;
-    assert_eq!(rt; held.as_slice(), [a, b, a, b, a, b, a, b].as_slice());
-
-    // Pieces 2 and 3 gain only once 4 and 5 are flipped; a tie of 6 and 7 flips neither.
-    let later = [(0, 5), (0, 6), (3, 5), (4, 7)];
-    let letters = fewer_letters(alloc, &four, 8, &later, None)?;
-    assert_eq!(rt; letters.as_slice(), [a, b, b, a, b, a, a, b].as_slice());
-
-    // Of two components that gain the least is flipped; then the other one gains no more.
-    let letters = fewer_letters(alloc, &four, 8, &[(5, 6), (3, 4), (0, 6), (1, 5)], None)?;
-    assert_eq!(rt; letters.as_slice(), [a, b, b, a, a, b, a, b].as_slice());
-
-    // Pieces 0 and 1 gain by the flip of later ones; with anchors they stay.
-    let lower = [(3, 6), (7, 5), (4, 3), (4, 2), (7, 2), (1, 3), (6, 4)];
-    let letters = fewer_letters(alloc, &four, 8, &lower, None)?;
-    assert_eq!(rt; letters.as_slice(), [b, a, b, a, a, b, a, b].as_slice());
-    let anchored = fewer_letters(alloc, &four, 8, &lower, Some(0))?;
-    assert_eq!(rt; anchored.as_slice(), [a, b, b, a, a, b, a, b].as_slice());
+    for &(are_four, sides, fixed, want) in &FEWER {
+        let joined = pairs(alloc, are_four)?;
+        let n = if are_four { 8 } else { 6 };
+        let letters = fewer_letters(alloc, &joined, n, sides, fixed)?;
+        assert_eq!(rt; letters.as_slice(), want, "by {sides:?}, {fixed:?} fixed");
+    }
     Ok(())
 }

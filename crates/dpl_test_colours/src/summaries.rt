@@ -1,6 +1,10 @@
 //! Summaries of edges, and of two summaries together.
+ghost use Rattle.dpl_stars.specs.Sums.{AreEdgePairs};
+
 use crate::jobs::rows_of;
+use dpl_list::Edge;
 use dpl_stars::{Joined, Star, merge, stars};
+use std::alloc::{AllocError, Global};
 use std::test::Fail;
 
 /// A row with its piece, its root and whether it is odd.
@@ -8,17 +12,27 @@ fn row(piece: u64, root: u64, odd: bool) -> Star {
     Star { piece, root, odd }
 }
 
+/// The summaries of two lists of edges together.
+fn both(alloc: Global, edges: &[Edge], more: &[Edge]) -> Result<Joined, AllocError>
+    requires edges { AreEdgePairs edges.now }
+    requires more { AreEdgePairs more.now }
+{
+    let first = stars(alloc, edges)?;
+    let second = stars(alloc, more)?;
+    merge(alloc, &first, &second)
+}
+
 #[test]
 fn two_steps_are_even_and_a_chord_makes_them_odd(rt: HostRuntime) -> Result<(), Fail> {
     let alloc = rt.alloc();
-    let path = stars(alloc, &[(0, 1), (1, 2)])?;
+    let path = [(0, 1), (1, 2)];
     let rows = [row(0, 0, false), row(1, 0, true), row(2, 0, false)];
-    assert_eq!(rt; rows_of(&path), Some(rows.as_slice()));
+    assert_eq!(rt; rows_of(&stars(alloc, &path)?), Some(rows.as_slice()));
 
-    let chord = stars(alloc, &[(0, 2)])?;
-    assert_eq!(rt; rows_of(&merge(alloc, &path, &chord)?), None);
+    let chord = [(0, 2)];
+    assert_eq!(rt; rows_of(&both(alloc, &path, &chord)?), None);
 
-    let more = stars(alloc, &[(2, 3)])?;
+    let more = [(2, 3)];
     let longer = [
         row(0, 0, false),
         row(1, 0, true),
@@ -26,7 +40,7 @@ fn two_steps_are_even_and_a_chord_makes_them_odd(rt: HostRuntime) -> Result<(), 
         row(3, 0, true),
     ];
     assert_eq!(rt;
-        rows_of(&merge(alloc, &path, &more)?),
+        rows_of(&both(alloc, &path, &more)?),
         Some(longer.as_slice())
     );
     Ok(())
@@ -53,6 +67,19 @@ fn rows_are_found_and_copied(rt: HostRuntime) -> Result<(), Fail> {
     Ok(())
 }
 
+/// Whether a summary has these pieces, all with the first of them as root, and odd where it is said.
+fn has_rows(joined: &Joined, pieces: &[u64; 4], odd: &[bool; 4]) -> bool {
+    let [a, b, c, d] = *pieces;
+    let [of_a, of_b, of_c, of_d] = *odd;
+    let rows = [
+        row(a, a, of_a),
+        row(b, a, of_b),
+        row(c, a, of_c),
+        row(d, a, of_d),
+    ];
+    rows_of(joined) == Some(rows.as_slice())
+}
+
 #[test]
 fn pieces_may_lie_close_together_or_far_apart(rt: HostRuntime) -> Result<(), Fail> {
     let alloc = rt.alloc();
@@ -65,41 +92,24 @@ fn pieces_may_lie_close_together_or_far_apart(rt: HostRuntime) -> Result<(), Fai
         [u64::MAX - 5, u64::MAX - 3, u64::MAX - 2, u64::MAX],
     ] {
         assert!(rt; a < b && b < c && c < d);
-        let path = stars(alloc, &[(a, b), (b, c), (c, d)])?;
-        let along = [
-            row(a, a, false),
-            row(b, a, true),
-            row(c, a, false),
-            row(d, a, true),
-        ];
-        assert_eq!(rt;
-            rows_of(&path),
-            Some(along.as_slice()),
-            "a path from {a} to {d}"
-        );
+        let pieces = [a, b, c, d];
+        let path = [(a, b), (b, c), (c, d)];
+        let along = [false, true, false, true];
+        let found = stars(alloc, &path)?;
+        assert!(rt; has_rows(&found, &pieces, &along), "a path from {a} to {d}");
 
-        let spread = stars(alloc, &[(a, d), (b, d)])?;
-        let more = stars(alloc, &[(c, d)])?;
-        let last = [
-            row(a, a, false),
-            row(b, a, false),
-            row(c, a, false),
-            row(d, a, true),
-        ];
-        assert_eq!(rt;
-            rows_of(&merge(alloc, &spread, &more)?),
-            Some(last.as_slice()),
+        let spread = [(a, d), (b, d)];
+        let more = [(c, d)];
+        let last = [false, false, false, true];
+        let found = both(alloc, &spread, &more)?;
+        assert!(rt;
+            has_rows(&found, &pieces, &last),
             "from {a} and others to {d}"
         );
-        assert_eq!(rt;
-            rows_of(&merge(alloc, &path, &more)?),
-            Some(along.as_slice()),
-            "{c} to {d} once more"
-        );
-        assert!(rt;
-            merge(alloc, &path, &spread)?.is_odd(),
-            "from {b} to {d} by two ways"
-        );
+        let found = both(alloc, &path, &more)?;
+        assert!(rt; has_rows(&found, &pieces, &along), "{c} to {d} once more");
+        let found = both(alloc, &path, &spread)?;
+        assert!(rt; found.is_odd(), "from {b} to {d} by two ways");
     }
     Ok(())
 }
