@@ -237,18 +237,18 @@ fn read_from(
             return open.file.read_at(into, at);
         }
     }
+    let kept = String::from_str(rt.alloc(), name)?;
     let file = File::open(rt, name)?;
     let count = file.read_at(into, at)?;
-    let name = String::from_str(rt.alloc(), name)?;
-    *input = Some(Opened { name, file });
+    *input = Some(Opened { name: kept, file });
     Ok(count)
 }
 
-/// Makes a file empty, and keeps it open.
+/// Makes a file empty, and keeps it open. Its name is kept first: where there is no memory for it, the file stays as it is.
 fn create_anew(rt: &HostRuntime, output: &mut Option<Opened>, name: &str) -> io::Result<()> {
+    let kept = String::from_str(rt.alloc(), name)?;
     let file = File::create(rt, name)?;
-    let name = String::from_str(rt.alloc(), name)?;
-    *output = Some(Opened { name, file });
+    *output = Some(Opened { name: kept, file });
     Ok(())
 }
 
@@ -266,9 +266,9 @@ fn append_to(
             return open.file.write(piece);
         }
     }
+    let kept = String::from_str(rt.alloc(), name)?;
     let mut file = OpenOptions::new().append(true).open(rt, name)?;
     let count = file.write(piece)?;
-    let name = String::from_str(rt.alloc(), name)?;
-    *output = Some(Opened { name, file });
+    *output = Some(Opened { name: kept, file });
     Ok(count)
 }
