@@ -4,6 +4,7 @@ use Rattle.dpl_sides.specs.declared.corner.Kind.TheVariants.{LowerLeft, LowerRig
 use Rattle.dpl_sides.specs.Corners.{slab_corner}
 use Rattle.dpl_sides.proofs.CornerLaws.{slabs-cornered, zone-numbers}
 use Rattle.dpl_sides.proofs.Noting.{sides-noted}
+use Rattle.std.proofs.lemmas.Result.{IfOk-from_err}
 use Rattle.dpl_sides.proofs.noted.note_seconds.Goals as goal
 
 pub note_all-requires-clause-numbers : goal.note_all-requires-clause-numbers
@@ -28,3 +29,9 @@ returns c = λ parts from slabs.
     c.zone_corners.new.corners.items c.zone_corners-2.new.corners.items c.args.noted.now c.note_all.new.noted c.note_all-2.new.noted
     c.in_ok-zone_corners.ensures.members c.in_ok-zone_corners-2.ensures.members (slabs-cornered parts from LowerLeft (length parts) c.args.slabs.now slabs)
     (slabs-cornered parts from LowerLeft (length parts) c.args.slabs.now slabs) known first second
+
+pub returns-in_err-zone_corners : goal.returns-in_err-zone_corners
+returns-in_err-zone_corners c = IfOk-from_err _ _ c.from_residual.ensures.0
+
+pub returns-in_err-zone_corners-2 : goal.returns-in_err-zone_corners-2
+returns-in_err-zone_corners-2 c = IfOk-from_err _ _ c.from_residual-in_err-zone_corners-2.ensures.0

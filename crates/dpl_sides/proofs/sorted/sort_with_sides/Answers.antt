@@ -5,6 +5,7 @@ use Rattle.dpl_sides.specs.declared.piece.Piece.{Piece}
 use Rattle.dpl_sides.specs.Noted.{AreNumbered}
 use Rattle.dpl_sides.proofs.Noting.{written-back}
 use Rattle.dpl_sides.proofs.Ranks.{long, numbers-known, placed}
+use Rattle.std.proofs.lemmas.Result.{IfOk-from_err}
 use Rattle.dpl_sides.proofs.sorted.sort_with_sides.Goals as goal
 
 pub ranks_of-requires-clause-few : goal.ranks_of-requires-clause-few
@@ -74,3 +75,12 @@ returns c =
             (c.requires.seconds j 0 (omega (arith, j_in, c.requires.each))),
       );
     }) is_ranked
+
+pub returns-in_err-short_id : goal.returns-in_err-short_id
+returns-in_err-short_id c = IfOk-from_err _ _ c.from_residual.ensures.0
+
+pub returns-in_err-sort_by_least : goal.returns-in_err-sort_by_least
+returns-in_err-sort_by_least c = IfOk-from_err _ _ c.from_residual-in_err-sort_by_least.ensures.0
+
+pub returns-in_err-ranks : goal.returns-in_err-ranks
+returns-in_err-ranks c = IfOk-from_err _ _ c.from_residual-in_err-ranks.ensures.0
