@@ -1,6 +1,7 @@
 use Rattle.std.proofs.Common.{◌≡◌, arith, refl, length}
 use Rattle.dpl_tile.specs.Kept.{IsMetByPart}
 use Rattle.dpl_tile.proofs.Adding.{added-to_none, adds-members}
+use Rattle.std.proofs.lemmas.Result.{IfOk-from_err}
 use Rattle.dpl_tile.proofs.cells.places_of.Goals as goal
 
 pub returns : goal.returns
@@ -14,3 +15,6 @@ returns c =
       exactly = added-to_none (IsMetByPart c.args.grid.now c.args.parts.now) _ _ c.new-places.ensures.items added;
       few = omega (arith, zero_is, count, few);
     }
+
+pub returns-in_err-add_parts : goal.returns-in_err-add_parts
+returns-in_err-add_parts c = IfOk-from_err _ _ c.from_residual.ensures.0

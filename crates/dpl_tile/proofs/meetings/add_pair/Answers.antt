@@ -8,6 +8,7 @@ use Rattle.dpl_tile.specs.Meetings.{reached}
 use Rattle.dpl_join.proofs.PairLaws.{close-flip}
 use Rattle.dpl_tile.proofs.ReachLaws.{reached-over}
 use Rattle.dpl_tile.proofs.MeetingLaws.{pair-meeting, pair-meetings}
+use Rattle.std.proofs.lemmas.Result.{IfOk-from_err}
 use Rattle.dpl_tile.proofs.meetings.add_pair.Goals as goal
 
 over-both : (g : Grid) (rule : ℕ) (items : List Item) (p : ℕ × ℕ) → All (λ (item : Item). IsOver g item.rect) items → IsPair rule items p
@@ -44,3 +45,12 @@ returns-in-Some c = pair-meeting c.args.spacing c.args.owners.now c.args.grid.no
 pub returns : goal.returns
 returns c = pair-meetings c.args.spacing c.args.owners.now c.args.grid.now c.args.items.now c.args.pair.now c.in_ok-places.places.items c.args.meetings.now.items _
     (c.if-not-are_foes.ensures.0 refl) (rw (c.reached-first.ensures, c.reached-second.ensures) at c.in_ok-places.ensures) (rw c.as_slice.ensures.value at c.in_ok-add_places.ensures)
+
+pub returns-in_err-add_place : goal.returns-in_err-add_place
+returns-in_err-add_place c = IfOk-from_err _ _ c.from_residual.ensures.0
+
+pub returns-in_err-places : goal.returns-in_err-places
+returns-in_err-places c = IfOk-from_err _ _ c.from_residual-in_err-places.ensures.0
+
+pub returns-in_err-add_places : goal.returns-in_err-add_places
+returns-in_err-add_places c = IfOk-from_err _ _ c.from_residual-in_err-add_places.ensures.0

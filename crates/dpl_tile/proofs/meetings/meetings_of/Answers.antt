@@ -1,3 +1,4 @@
+use Rattle.std.proofs.lemmas.Result.{IfOk-from_err}
 use Rattle.dpl_tile.proofs.meetings.meetings_of.Goals as goal
 
 pub returns : goal.returns
@@ -8,3 +9,6 @@ returns c = record {
   );
   rise = c.sort_by_place.ensures.rise;
 }
+
+pub returns-in_err-meetings : goal.returns-in_err-meetings
+returns-in_err-meetings c = IfOk-from_err _ _ c.from_residual.ensures.0

@@ -1,6 +1,7 @@
 use Rattle.std.proofs.Common.{refl}
 use Rattle.dpl_tile.specs.Meetings.{AreItemsOf}
 use Rattle.dpl_tile.proofs.ItemLaws.{items-over, items-owned}
+use Rattle.std.proofs.lemmas.Result.{IfOk-from_err}
 use Rattle.dpl_tile.proofs.planning.plan.Goals as goal
 
 pub meetings_of-requires-clause-over : goal.meetings_of-requires-clause-over
@@ -36,3 +37,15 @@ pub returns : goal.returns
 returns c =
     let laid = rw c.items.ensures.value at c.in_ok-laid.ensures in
     record { of_parts = refl; of_owners = refl; of_spacing = refl; tiles = laid.tiles }
+
+pub returns-in_err-laid : goal.returns-in_err-laid
+returns-in_err-laid c = IfOk-from_err _ _ c.from_residual.ensures.0
+
+pub returns-in_err-items : goal.returns-in_err-items
+returns-in_err-items c = IfOk-from_err _ _ c.from_residual-in_err-items.ensures.0
+
+pub returns-in_err-join : goal.returns-in_err-join
+returns-in_err-join c = IfOk-from_err _ _ c.from_residual-in_err-join.ensures.0
+
+pub returns-in_err-meetings : goal.returns-in_err-meetings
+returns-in_err-meetings c = IfOk-from_err _ _ c.from_residual-in_err-meetings.ensures.0
