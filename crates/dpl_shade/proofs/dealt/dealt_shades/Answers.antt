@@ -1,5 +1,6 @@
 use Rattle.std.proofs.Common.{◌∙◌}
 use Rattle.dpl_shade.proofs.DealtLaws.{sound-start}
+use Rattle.std.proofs.lemmas.Result.{IfOk-from_err}
 use Rattle.dpl_shade.proofs.dealt.dealt_shades.Goals as goal
 
 pub add_dealt-requires-clause-sound : goal.add_dealt-requires-clause-sound
@@ -14,3 +15,9 @@ returns c = record {
   sound = c.in_ok-add_dealt.ensures.sound;
   handles = c.in_ok-add_dealt.ensures.handles;
 }
+
+pub returns-in_err-from_slice : goal.returns-in_err-from_slice
+returns-in_err-from_slice c = IfOk-from_err _ _ c.from_residual.ensures.0
+
+pub returns-in_err-add_dealt : goal.returns-in_err-add_dealt
+returns-in_err-add_dealt c = IfOk-from_err _ _ c.from_residual-in_err-add_dealt.ensures.0
