@@ -3,6 +3,7 @@ use Rattle.std.proofs.lemmas.Result.{IfOk-weaker}
 use Rattle.dpl_orient.specs.Chart.{AreLow}
 use Rattle.dpl_orient.specs.Crossings.{crossings_at, AreGrouped, GoUp}
 use Rattle.dpl_orient.proofs.Across.{rows-coloured}
+use Rattle.std.proofs.lemmas.Result.{IfOk-from_err}
 use Rattle.dpl_orient.proofs.colouring.orient_rows.Goals as goal
 
 pub returns : goal.returns
@@ -36,3 +37,12 @@ masks-requires-clause-low c = subst AreLow (sym c.deref-4.ensures.value) c.in_ok
 pub masks-requires-clause-len : goal.masks-requires-clause-len
 masks-requires-clause-len c =
     ap length c.deref-5.ensures.value ∙ (c.in_ok-flips.ensures.len ∙ sym (ap length c.deref-4.ensures.value ∙ c.in_ok-chart.ensures.chart.len))
+
+pub returns-in_err-chart : goal.returns-in_err-chart
+returns-in_err-chart c = IfOk-from_err _ _ c.from_residual.ensures.0
+
+pub returns-in_err-across : goal.returns-in_err-across
+returns-in_err-across c = IfOk-from_err _ _ c.from_residual-in_err-across.ensures.0
+
+pub returns-in_err-flips : goal.returns-in_err-flips
+returns-in_err-flips c = IfOk-from_err _ _ c.from_residual-in_err-flips.ensures.0

@@ -5,6 +5,7 @@ use Rattle.dpl_orient.specs.Masks.{is_second}
 use Rattle.dpl_orient.specs.Rooted.{AreSidesBelow}
 use Rattle.dpl_orient.specs.Chart.{AreLow}
 use Rattle.dpl_orient.proofs.Leading.{led-from-chart}
+use Rattle.std.proofs.lemmas.Result.{IfOk-from_err}
 use Rattle.dpl_orient.proofs.reducing.fewer_rows.Goals as goal
 
 pub returns : goal.returns
@@ -45,3 +46,9 @@ pub turned-requires : goal.turned-requires
 turned-requires c =
     let len : length c.deref-2.result.now ≡ c.args.n = ap length c.deref-2.ensures.value ∙ c.in_ok-chart.ensures.chart.len in
     record { each = sym (length-map c.items-2.result.now is_second) ∙ (ap length c.items-2.ensures ∙ (c.requires.each ∙ sym len)) }
+
+pub returns-in_err-chart : goal.returns-in_err-chart
+returns-in_err-chart c = IfOk-from_err _ _ c.from_residual.ensures.0
+
+pub returns-in_err-flips : goal.returns-in_err-flips
+returns-in_err-flips c = IfOk-from_err _ _ c.from_residual-in_err-flips.ensures.0
