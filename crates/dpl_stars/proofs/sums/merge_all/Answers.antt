@@ -1,5 +1,6 @@
 use Rattle.std.proofs.lemmas.Result.{IfOk-weaker}
 use Rattle.dpl_stars.proofs.Many.{stand-pairs, merged-all, odd-one}
+use Rattle.std.proofs.lemmas.Result.{IfOk-from_err}
 use Rattle.dpl_stars.proofs.sums.merge_all.Goals as goal
 
 pub stars-requires : goal.stars-requires
@@ -13,3 +14,6 @@ returns-in-Some c =
 
 pub returns-in-None : goal.returns-in-None
 returns-in-None c = odd-one c.args.sums.now (rw c.in-None.is at c.in_ok-edges.ensures)
+
+pub returns-in_err-edges : goal.returns-in_err-edges
+returns-in_err-edges c = IfOk-from_err _ _ c.from_residual.ensures.0

@@ -2,6 +2,7 @@ use Rattle.std.proofs.Common.{◌≡◌, ◌∙◌, length, sym, ap, subst, refl
 use Rattle.std.proofs.lemmas.Bool.{false≢true}
 use Rattle.dpl_stars.specs.Levels.{AreEdgesBelow}
 use Rattle.dpl_stars.proofs.Solved.{solved-from, solved-odd, solved-roots, solved-list, solved-stars}
+use Rattle.std.proofs.lemmas.Result.{IfOk-from_err}
 use Rattle.dpl_stars.proofs.sums.stars.Goals as goal
 
 pub of-requires : goal.of-requires
@@ -50,3 +51,18 @@ rows-requires-clause-roots c = rw c.deref-4.ensures.value c.in_ok-levels.ensures
 
 pub rows-requires-clause-levels : goal.rows-requires-clause-levels
 rows-requires-clause-levels c = rw c.deref-5.ensures.value c.in_ok-levels.ensures.as_many_levels
+
+pub returns-in_err-touched : goal.returns-in_err-touched
+returns-in_err-touched c = IfOk-from_err _ _ c.from_residual.ensures.0
+
+pub returns-in_err-places : goal.returns-in_err-places
+returns-in_err-places c = IfOk-from_err _ _ c.from_residual-in_err-places.ensures.0
+
+pub returns-in_err-placed : goal.returns-in_err-placed
+returns-in_err-placed c = IfOk-from_err _ _ c.from_residual-in_err-placed.ensures.0
+
+pub returns-in_err-levels : goal.returns-in_err-levels
+returns-in_err-levels c = IfOk-from_err _ _ c.from_residual-in_err-levels.ensures.0
+
+pub returns-in_err-rows : goal.returns-in_err-rows
+returns-in_err-rows c = IfOk-from_err _ _ c.from_residual-in_err-rows.ensures.0
