@@ -1,4 +1,4 @@
-//! The words of `dplview`, and the lines, JSON and markers in which it shows what was found.
+//! The lines, JSON and markers in which `dplview` shows what was found.
 #![tactic(auto)]
 
 mod contents;
@@ -6,11 +6,9 @@ mod cycles;
 mod json;
 mod markers;
 mod seams;
-mod words;
 
 pub use contents::{content_json, content_lines};
 pub use cycles::{conflict_json, conflict_lines, refused_line};
 pub use json::refused_json;
 pub use markers::{cycle_markers, stitch_markers};
 pub use seams::{conflict_line, no_masks_json, stitch_json, stitch_lines};
-pub use words::{FileOptions, Request, SplitOptions, read_words};

@@ -9,13 +9,13 @@ use dpl_cert::Name;
 use dpl_host::MAX_BYTES;
 use dpl_pool::OpenGate;
 use dpl_show::{
-    FileOptions, Request, SplitOptions, conflict_json, conflict_line, conflict_lines, content_json,
-    content_lines, cycle_markers, no_masks_json, read_words, refused_json, refused_line,
-    stitch_json, stitch_lines, stitch_markers,
+    conflict_json, conflict_line, conflict_lines, content_json, content_lines, cycle_markers,
+    no_masks_json, refused_json, refused_line, stitch_json, stitch_lines, stitch_markers,
 };
 use dpl_view::{
     Finding, Look, Seams, Split, Status, find, find_stitches, look_into, status_by, status_by_split,
 };
+use dpl_view_words::{FileOptions, Request, SplitOptions, read_words};
 use std::alloc::{AllocError, Global};
 use std::fs::File;
 use std::io::{ErrorKind, Read};

@@ -1,7 +1,7 @@
 -- What command lines ask for.
 use Rattle.std.specs.Prelude.{}
-use Rattle.dpl_show.specs.declared.words.Request.{Request}
-use Rattle.dpl_show.specs.declared.words.Request.TheVariants.{Conflicts, Stitches, Layers}
+use Rattle.dpl_view_words.specs.declared.words.Request.{Request}
+use Rattle.dpl_view_words.specs.declared.words.Request.TheVariants.{Conflicts, Stitches, Layers}
 use Rattle.dpl_view.specs.Findings.{IsInRange}
 
 -- each number of a request lies in its range

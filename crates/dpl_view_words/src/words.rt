@@ -1,7 +1,7 @@
 //! The command line of `dplview`, read with `clap`.
 ghost use Rattle.std.specs.Prelude.{◌≤◌, IfOk, IfSome};
 ghost use Rattle.dpl_view.specs.Findings.{IsInRange};
-ghost use Rattle.dpl_show.specs.Requests.{IsSound};
+ghost use Rattle.dpl_view_words.specs.Requests.{IsSound};
 
 use clap::error::ErrorKind;
 use clap::{Arg, ArgAction, ArgMatches, Command, Error, value_parser};
