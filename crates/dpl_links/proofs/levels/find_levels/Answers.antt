@@ -1,4 +1,5 @@
 use Rattle.std.proofs.Common.{◌∷◌, [], refl, ap, length, arith, ◌∙◌, length-append}
+use Rattle.std.proofs.lemmas.Result.{IfOk-from_err}
 use Rattle.dpl_links.proofs.PartLaws.{parts_start, parts_all}
 use Rattle.dpl_links.proofs.levels.find_levels.Goals as goal
 
@@ -18,3 +19,21 @@ pub returns-clause-levels : goal.returns-clause-levels
 returns-clause-levels c = parts_all c.args.graph.now c.args.from c.loop-visit.search.found.items c.loop-visit.search.closed.items
     c.loop-visit.search.numbers.items c.loop-visit.search.levels.items c.loop-visit.search.parts.items c.loop-visit.search.path.items _ _
     (omega (arith, c.loop-visit.search.path.ok.0, c.in_default.ensures.cases.0)) c.loop-visit.invariant
+
+pub returns-in_err-search-clause-levels : goal.returns-in_err-search-clause-levels
+returns-in_err-search-clause-levels c = IfOk-from_err _ _ c.from_residual.ensures.0
+
+pub returns-in_err-search-clause-each : goal.returns-in_err-search-clause-each
+returns-in_err-search-clause-each c = IfOk-from_err _ _ c.from_residual.ensures.0
+
+pub returns-in_err-find-clause-levels : goal.returns-in_err-find-clause-levels
+returns-in_err-find-clause-levels c = IfOk-from_err _ _ c.from_residual-in_err-find.ensures.0
+
+pub returns-in_err-find-clause-each : goal.returns-in_err-find-clause-each
+returns-in_err-find-clause-each c = IfOk-from_err _ _ c.from_residual-in_err-find.ensures.0
+
+pub returns-in_err-go_down-clause-levels : goal.returns-in_err-go_down-clause-levels
+returns-in_err-go_down-clause-levels c = IfOk-from_err _ _ c.from_residual-in_err-go_down.ensures.0
+
+pub returns-in_err-go_down-clause-each : goal.returns-in_err-go_down-clause-each
+returns-in_err-go_down-clause-each c = IfOk-from_err _ _ c.from_residual-in_err-go_down.ensures.0

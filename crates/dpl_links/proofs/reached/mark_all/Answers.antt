@@ -1,5 +1,6 @@
 use Rattle.std.proofs.Common.{◌≡◌, take, get_or}
 use Rattle.std.specs.List.{Contains}
+use Rattle.std.proofs.lemmas.Result.{IfOk-from_err}
 use Rattle.dpl_links.proofs.MarkLaws.{Marks-then}
 use Rattle.dpl_links.proofs.TakeLaws.{Contains-take_more, Contains-take_keeps, Contains-take_last}
 use Rattle.dpl_links.proofs.reached.mark_all.Goals as goal
@@ -12,3 +13,6 @@ loop-vertex-preserved c =
     (λ k h. Contains-take_more vs i 0 k c.loop-vertex-test.true h)
     (λ k h. Contains-take_keeps vs i 0 k c.loop-vertex-test.true h)
     (λ k h. Contains-take_last vs i 0 k c.loop-vertex-test.true h)
+
+pub returns-in_err-mark : goal.returns-in_err-mark
+returns-in_err-mark c = IfOk-from_err _ _ c.from_residual.ensures.0

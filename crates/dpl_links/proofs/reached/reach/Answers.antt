@@ -1,5 +1,6 @@
 use Rattle.std.proofs.Common.{◌<◌, length, get_or, arith}
 use Rattle.std.proofs.lemmas.List.Elements.{Contains-get_or}
+use Rattle.std.proofs.lemmas.Result.{IfOk-from_err}
 use Rattle.dpl_links.specs.Graph.{targets_at}
 use Rattle.dpl_links.proofs.SpreadLaws.{Spread-start, Spread-more, Spread-all, noted_below, targets_are}
 use Rattle.dpl_links.proofs.reached.reach.Goals as goal
@@ -39,3 +40,12 @@ returns c =
     Spread-all c.args.graph.now c.args.from c.loop-vertex.marks.items c.loop-vertex.noted.items
     (omega (arith, c.loop-vertex.noted.ok.0, c.in_default.ensures.cases.0))
     c.loop-vertex.invariant
+
+pub returns-in_err-marks : goal.returns-in_err-marks
+returns-in_err-marks c = IfOk-from_err _ _ c.from_residual.ensures.0
+
+pub returns-in_err-mark : goal.returns-in_err-mark
+returns-in_err-mark c = IfOk-from_err _ _ c.from_residual-in_err-mark.ensures.0
+
+pub returns-in_err-mark_all : goal.returns-in_err-mark_all
+returns-in_err-mark_all c = IfOk-from_err _ _ c.from_residual-in_err-mark_all.ensures.0

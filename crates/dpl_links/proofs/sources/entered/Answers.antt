@@ -1,5 +1,6 @@
 use Rattle.std.proofs.Common.{◌<◌, length, get_or, arith}
 use Rattle.std.proofs.lemmas.List.Elements.{Contains-get_or}
+use Rattle.std.proofs.lemmas.Result.{IfOk-from_err}
 use Rattle.dpl_links.specs.Graph.{targets_at}
 use Rattle.dpl_links.proofs.SpreadLaws.{targets_are}
 use Rattle.dpl_links.proofs.SourceLaws.{entered_more, entered_all, fresh_length}
@@ -24,3 +25,15 @@ loop-row-preserved c =
 pub returns-clause-marks : goal.returns-clause-marks
 returns-clause-marks c = entered_all c.args.graph.now c.loop-row.row-index c.in_ok-marks.marks.items c.loop-row.marks.items _ _
     c.in_ok-marks.ensures c.loop-row-test.false c.loop-row.invariant
+
+pub returns-in_err-marks-clause-each : goal.returns-in_err-marks-clause-each
+returns-in_err-marks-clause-each c = IfOk-from_err _ _ c.from_residual.ensures.0
+
+pub returns-in_err-marks-clause-marks : goal.returns-in_err-marks-clause-marks
+returns-in_err-marks-clause-marks c = IfOk-from_err _ _ c.from_residual.ensures.0
+
+pub returns-in_err-mark_all-clause-each : goal.returns-in_err-mark_all-clause-each
+returns-in_err-mark_all-clause-each c = IfOk-from_err _ _ c.from_residual-in_err-mark_all.ensures.0
+
+pub returns-in_err-mark_all-clause-marks : goal.returns-in_err-mark_all-clause-marks
+returns-in_err-mark_all-clause-marks c = IfOk-from_err _ _ c.from_residual-in_err-mark_all.ensures.0

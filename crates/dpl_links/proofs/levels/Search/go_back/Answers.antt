@@ -1,4 +1,5 @@
 use Rattle.std.proofs.Common.{◌≡◌, ◌+◌, ◌∷◌, [], length, ap, arith, length-append}
+use Rattle.std.proofs.lemmas.Result.{IfOk-from_err}
 use Rattle.dpl_links.proofs.PartLaws.{one_back, one_part, q_known}
 use Rattle.dpl_links.proofs.levels.Search.go_back.Goals as goal
 
@@ -29,3 +30,15 @@ returns-clause-search c =
     (one_part c.args.graph.now c.args.from _ _ _ _ c.args.self.now.parts.items c.args.top c.args.self.now.path.items c.args.visit _ _
     c.requires.search c.close_all.new.closed.items c.close_all.new.levels.items c.requires.done c.if-top-visit.false a.each a.levels_each
     a.keeps a.sets a.alone (λ k h. let l = a.level_is k h in omega (arith, l, c.len.ensures, c.args.self.now.roots.ok.0)) a.stays)
+
+pub returns-in_err-push-clause-search : goal.returns-in_err-push-clause-search
+returns-in_err-push-clause-search c = IfOk-from_err _ _ c.from_residual.ensures.0
+
+pub returns-in_err-push-clause-falls : goal.returns-in_err-push-clause-falls
+returns-in_err-push-clause-falls c = IfOk-from_err _ _ c.from_residual.ensures.0
+
+pub returns-in_err-push-2-clause-search : goal.returns-in_err-push-2-clause-search
+returns-in_err-push-2-clause-search c = IfOk-from_err _ _ c.from_residual-in_err-push-2.ensures.0
+
+pub returns-in_err-push-2-clause-falls : goal.returns-in_err-push-2-clause-falls
+returns-in_err-push-2-clause-falls c = IfOk-from_err _ _ c.from_residual-in_err-push-2.ensures.0

@@ -1,5 +1,6 @@
 use Rattle.std.proofs.Common.{◌≡◌, ◌+◌, ◌<◌, ◌≤◌, inl, inr, ◌∷◌, [], length, get_or, set, refl, ap, true, arith, length-append}
 use Rattle.std.proofs.lemmas.List.Elements.{Contains-get_or}
+use Rattle.std.proofs.lemmas.Result.{IfOk-from_err}
 use Rattle.dpl_links.specs.Graph.{targets_at, LeadsTo}
 use Rattle.dpl_links.proofs.MarkLaws.{one_less}
 use Rattle.dpl_links.proofs.OrderLaws.{mark_read, unmarked_read}
@@ -141,3 +142,33 @@ returns-clause-search c =
     (one_on c.args.graph.now c.args.from _ _ _ _ c.args.self.now.parts.items c.args.top c.args.self.now.path.items c.args.visit _ _
     c.requires.search (record { vertex = c.args.visit.vertex; gone = c.args.visit.gone + 1 }) refl refl
     (inr (rw c.requires.edge m, rw c.requires.edge z)))
+
+pub returns-in_err-go_on-clause-search : goal.returns-in_err-go_on-clause-search
+returns-in_err-go_on-clause-search c = IfOk-from_err _ _ c.from_residual.ensures.0
+
+pub returns-in_err-go_on-clause-falls : goal.returns-in_err-go_on-clause-falls
+returns-in_err-go_on-clause-falls c = IfOk-from_err _ _ c.from_residual.ensures.0
+
+pub returns-in_err-go_on-2-clause-search : goal.returns-in_err-go_on-2-clause-search
+returns-in_err-go_on-2-clause-search c = IfOk-from_err _ _ c.from_residual-in_err-go_on-2.ensures.0
+
+pub returns-in_err-go_on-2-clause-falls : goal.returns-in_err-go_on-2-clause-falls
+returns-in_err-go_on-2-clause-falls c = IfOk-from_err _ _ c.from_residual-in_err-go_on-2.ensures.0
+
+pub returns-in_err-find-clause-search : goal.returns-in_err-find-clause-search
+returns-in_err-find-clause-search c = IfOk-from_err _ _ c.from_residual-in_err-find.ensures.0
+
+pub returns-in_err-find-clause-falls : goal.returns-in_err-find-clause-falls
+returns-in_err-find-clause-falls c = IfOk-from_err _ _ c.from_residual-in_err-find.ensures.0
+
+pub returns-in_err-join_last-clause-search : goal.returns-in_err-join_last-clause-search
+returns-in_err-join_last-clause-search c = IfOk-from_err _ _ c.from_residual-in_err-join_last.ensures.0
+
+pub returns-in_err-join_last-clause-falls : goal.returns-in_err-join_last-clause-falls
+returns-in_err-join_last-clause-falls c = IfOk-from_err _ _ c.from_residual-in_err-join_last.ensures.0
+
+pub returns-in_err-go_on-3-clause-search : goal.returns-in_err-go_on-3-clause-search
+returns-in_err-go_on-3-clause-search c = IfOk-from_err _ _ c.from_residual-in_err-go_on-3.ensures.0
+
+pub returns-in_err-go_on-3-clause-falls : goal.returns-in_err-go_on-3-clause-falls
+returns-in_err-go_on-3-clause-falls c = IfOk-from_err _ _ c.from_residual-in_err-go_on-3.ensures.0

@@ -1,4 +1,5 @@
 use Rattle.std.proofs.Common.{⊎_elim, arith}
+use Rattle.std.proofs.lemmas.Result.{IfOk-from_err}
 use Rattle.dpl_links.proofs.PartLaws.{one_joined, some_lower}
 use Rattle.dpl_links.proofs.levels.Search.join_last.Goals as goal
 
@@ -14,3 +15,21 @@ returns-clause-search c =
     c.requires.search c.pop.new.self.items c.in-Some.lower c.in_ok-joined.joined c.in-Some.ensures.items c.in_ok-joined.ensures.root
     c.in_ok-joined.ensures.vertices c.args.to c.requires.edge
     (⊎_elim (λ x. absurd (c.requires.unshut x)) (λ x. x) (c.requires.search.apart c.args.to c.requires.found)) c.requires.before)
+
+pub returns-in_err-joined-clause-search : goal.returns-in_err-joined-clause-search
+returns-in_err-joined-clause-search c = IfOk-from_err _ _ c.from_residual.ensures.0
+
+pub returns-in_err-joined-clause-falls : goal.returns-in_err-joined-clause-falls
+returns-in_err-joined-clause-falls c = IfOk-from_err _ _ c.from_residual.ensures.0
+
+pub returns-in_err-push-clause-search : goal.returns-in_err-push-clause-search
+returns-in_err-push-clause-search c = IfOk-from_err _ _ c.from_residual-in_err-push.ensures.0
+
+pub returns-in_err-push-clause-falls : goal.returns-in_err-push-clause-falls
+returns-in_err-push-clause-falls c = IfOk-from_err _ _ c.from_residual-in_err-push.ensures.0
+
+pub returns-in_err-push-2-clause-search : goal.returns-in_err-push-2-clause-search
+returns-in_err-push-2-clause-search c = IfOk-from_err _ _ c.from_residual-in_err-push-2.ensures.0
+
+pub returns-in_err-push-2-clause-falls : goal.returns-in_err-push-2-clause-falls
+returns-in_err-push-2-clause-falls c = IfOk-from_err _ _ c.from_residual-in_err-push-2.ensures.0

@@ -1,4 +1,5 @@
 use Rattle.std.proofs.Common.{◌+◌, ◌<◌, length, refl, ap, arith, true, set}
+use Rattle.std.proofs.lemmas.Result.{IfOk-from_err}
 use Rattle.dpl_links.specs.Graph.{targets_at}
 use Rattle.dpl_links.proofs.MarkLaws.{one_less}
 use Rattle.dpl_links.proofs.OrderLaws.{known, cycle, one_more, one_found, one_shut, left_shut, left_more, left_found, none_past, some_inside, leads_to, mark_read, unmarked_read}
@@ -104,3 +105,27 @@ returns-clause-falls c =
     (left_found c.args.graph.now c.args.self.now.found.items (set c.args.self.now.found.items c.in-Some.to true) c.args.self.now.path.items
     c.args.visit (record { vertex = c.args.visit.vertex; gone = c.args.visit.gone + 1 })
     (record { vertex = c.in-Some.to; gone = 0 }) refl refl refl s.0 l o)
+
+pub returns-in_err-close-clause-search : goal.returns-in_err-close-clause-search
+returns-in_err-close-clause-search c = IfOk-from_err _ _ c.from_residual.ensures.0
+
+pub returns-in_err-close-clause-falls : goal.returns-in_err-close-clause-falls
+returns-in_err-close-clause-falls c = IfOk-from_err _ _ c.from_residual.ensures.0
+
+pub returns-in_err-go_on-clause-search : goal.returns-in_err-go_on-clause-search
+returns-in_err-go_on-clause-search c = IfOk-from_err _ _ c.from_residual-in_err-go_on.ensures.0
+
+pub returns-in_err-go_on-clause-falls : goal.returns-in_err-go_on-clause-falls
+returns-in_err-go_on-clause-falls c = IfOk-from_err _ _ c.from_residual-in_err-go_on.ensures.0
+
+pub returns-in_err-go_on-2-clause-search : goal.returns-in_err-go_on-2-clause-search
+returns-in_err-go_on-2-clause-search c = IfOk-from_err _ _ c.from_residual-in_err-go_on-2.ensures.0
+
+pub returns-in_err-go_on-2-clause-falls : goal.returns-in_err-go_on-2-clause-falls
+returns-in_err-go_on-2-clause-falls c = IfOk-from_err _ _ c.from_residual-in_err-go_on-2.ensures.0
+
+pub returns-in_err-find-clause-search : goal.returns-in_err-find-clause-search
+returns-in_err-find-clause-search c = IfOk-from_err _ _ c.from_residual-in_err-find.ensures.0
+
+pub returns-in_err-find-clause-falls : goal.returns-in_err-find-clause-falls
+returns-in_err-find-clause-falls c = IfOk-from_err _ _ c.from_residual-in_err-find.ensures.0
