@@ -18,13 +18,14 @@ use Rattle.dpl_syntax.specs.declared.element.Element.{Element as Found}
 use Rattle.dpl_syntax.specs.Elements.{element_seen}
 use Rattle.dpl_spec_layout.specs.declared.FlattenFault.{FlattenFault}
 use Rattle.dpl_walk.proofs.ListLaws.{Contains-map}
-use Rattle.std.specs.Prelude.{Option, Some, None}
+use Rattle.std.specs.Prelude.{Option, Some, None, IfSome, IsTrue, is_some, ◌↔◌}
+use Rattle.dpl_spec_layout.specs.Faults.{IsRefused}
 use Rattle.dpl_spec_layout.specs.declared.Layer.{Layer}
 use Rattle.dpl_spec_layout.specs.Elements.{IsPathFault, IsRefusedFor}
 use Rattle.dpl_reference.specs.declared.role.Role.{Role}
 use Rattle.dpl_reference.specs.Roles.{IsFaultIn, IsRoleOf}
 use Rattle.dpl_reference.specs.Faults.{IsFaultBy}
-use Rattle.dpl_flatten.specs.Drawn.{IsRefusal, IsTakenAt, HasRefusalAt}
+use Rattle.dpl_flatten.specs.Drawn.{IsRefusal, IsRefusalAmong, IsTakenAt, HasRefusalAt}
 
 no_first : (p : PathElement) (g : PathFault) → IsFaultless p → paths.IsFirstFault p g → ⊥
 no_first p g clean f = ⊎_elim (λ w. f.drawn w) (λ none. none g f.there) clean
@@ -68,3 +69,16 @@ pub none_more : (lib : Library) (chosen : Layer) (marks : List Bool) (n at : ℕ
     → k < n + 1 → IsMarked marks k → Contains (elements_at lib k) e → IsTakenAt chosen e at
 none_more lib chosen marks n at marked is one before k e h m c =
     ⊎_elim (λ (l : k < n). before k e l m c) (λ (l : n ≤ k). let w : k ≡ n = omega (arith, h) in one (sym is ∙ rw w at m) e (rw w at c)) (cases_lt k n)
+
+-- whether an element is refused
+pub refused_iff : (chosen : Layer) (e : Element) (o : Option ElementFault) (found : Bool) → found ≡ is_some o
+    → IsFaultBy (IsRefusedFor chosen e.body) o → IsTrue found ↔ IsRefused chosen 0 e
+refused_iff chosen e None found w h = (λ (t : found ≡ true). absurd (let f : false ≡ true = sym w ∙ t in cc), λ r. absurd (h r.0 r.1))
+refused_iff chosen e (Some f) found w h = (λ t. (f, h), λ r. w)
+
+-- the refusal of a marked structure's element
+pub marked_refusal : (chosen : Layer) (es : List Element) (at : ℕ) (marked : Bool) (o : Option FlattenFault) → marked ≡ true
+    → IsRefusalAmong chosen es at o
+    → IfSome o (λ f. (marked ≡ true) × ((e : Element) × Contains es e × IsRefusal chosen e at f))
+marked_refusal chosen es at marked None m h = tt
+marked_refusal chosen es at marked (Some f) m h = (m, h)

@@ -1,3 +1,4 @@
+use Rattle.std.proofs.lemmas.Result.{IfOk-from_err}
 use Rattle.dpl_spec_format.specs.Tree.{elements_at}
 use Rattle.dpl_flatten.proofs.CellLaws.{cell_none, cell_seen, cell_all, taken_here}
 use Rattle.dpl_flatten.proofs.cells.cell_of.Goals as goal
@@ -26,3 +27,6 @@ returns c =
     (cell_all c.args.lib.now c.args.chosen c.elements-element-items.result.now
     (elements_at c.args.lib.now c.args.structure) c.loop-element.element-index c.loop-element.outlines.items c.loop-element.copies.items
     c.elements-element-items.ensures.same c.loop-element-test.false c.loop-element.invariant)
+
+pub returns-in_err-note_element : goal.returns-in_err-note_element
+returns-in_err-note_element c = IfOk-from_err _ _ c.from_residual.ensures.0

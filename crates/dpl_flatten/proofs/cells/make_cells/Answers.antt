@@ -1,4 +1,5 @@
 use Rattle.std.proofs.Common.{refl, arith}
+use Rattle.std.proofs.lemmas.Result.{IfOk-from_err}
 use Rattle.dpl_flatten.proofs.CellLaws.{below_none, below_more, below_all}
 use Rattle.dpl_flatten.proofs.cells.make_cells.Goals as goal
 
@@ -22,3 +23,9 @@ returns c =
     (omega (arith, c.requires.marks, c.count-structure-end.ensures.value))
     (omega (arith, c.count-structure-end.ensures.value))
     c.loop-structure.invariant
+
+pub returns-in_err-cell : goal.returns-in_err-cell
+returns-in_err-cell c = IfOk-from_err _ _ c.from_residual.ensures.0
+
+pub returns-in_err-push : goal.returns-in_err-push
+returns-in_err-push c = IfOk-from_err _ _ c.from_residual-in_err-push.ensures.0

@@ -2,6 +2,7 @@ use Rattle.std.proofs.Common.{rules}
 use Rattle.std.specs.Prelude.{FitsSigned}
 use Rattle.std.specs.Int.{w16, w32, w64}
 use Rattle.std.proofs.lemmas.Int.{to_z-of_z}
+use Rattle.std.proofs.lemmas.Result.{IfOk-from_err}
 use Rattle.dpl_spec_elements.specs.Paths.{path_of}
 use Rattle.dpl_spec_layout.specs.Elements.{points_in}
 use Rattle.dpl_flatten.proofs.WithinLaws.{path_within, only_path_memory}
@@ -32,3 +33,24 @@ returns-clause-within c =
     let e' : FitsSigned w64 c.args.style.end_ext = search rules in
     let loops = rw c.as_slice.ensures.value at (simp to_z-of_z at c.in-Ok.ensures.loops) in
     rw loops (path_within c.in_ok-points.points.items s.width s.kind s.begin_ext s.end_ext c.in_ok-points.ensures.within (search rules) (search rules) (search rules))
+
+pub returns-in_err-points-clause-loops : goal.returns-in_err-points-clause-loops
+returns-in_err-points-clause-loops c = IfOk-from_err _ _ c.from_residual.ensures.0
+
+pub returns-in_err-points-clause-straight : goal.returns-in_err-points-clause-straight
+returns-in_err-points-clause-straight c = IfOk-from_err _ _ c.from_residual.ensures.0
+
+pub returns-in_err-points-clause-within : goal.returns-in_err-points-clause-within
+returns-in_err-points-clause-within c = IfOk-from_err _ _ c.from_residual.ensures.0
+
+pub returns-in-Err-clause-loops : goal.returns-in-Err-clause-loops
+returns-in-Err-clause-loops c = tt
+
+pub returns-in-Err-clause-straight : goal.returns-in-Err-clause-straight
+returns-in-Err-clause-straight c = tt
+
+pub returns-in-Err-clause-within : goal.returns-in-Err-clause-within
+returns-in-Err-clause-within c = tt
+
+pub returns-clause-straight : goal.returns-clause-straight
+returns-clause-straight c = c.in-Ok.ensures.straight

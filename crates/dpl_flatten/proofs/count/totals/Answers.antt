@@ -1,5 +1,6 @@
 use Rattle.std.proofs.Common.{◌<◌, ℕ, List, length, get_or, ap, sym}
 use Rattle.std.proofs.lemmas.List.Elements.{Contains-get_or}
+use Rattle.std.proofs.lemmas.Result.{IfOk-from_err}
 use Rattle.dpl_flatten.proofs.TotalLaws.{totalled_start, totalled_more, totalled_all}
 use Rattle.dpl_flatten.proofs.count.totals.Goals as goal
 
@@ -25,3 +26,6 @@ returns c = totalled_all c.args.lib.now c.args.chosen c.args.links.now.graph.now
     c.requires.links c.requires.order.falls c.loop-structure.structure-index c.args.order.now.vertices.items c.loop-structure.totals.items
     (rw c.deref-structure-items.ensures.value at c.loop-structure-test.false) c.requires.order.few c.requires.order.placed
     c.loop-structure.invariant
+
+pub returns-in_err-totals : goal.returns-in_err-totals
+returns-in_err-totals c = IfOk-from_err _ _ c.from_residual.ensures.0

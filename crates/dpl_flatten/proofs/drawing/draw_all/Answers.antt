@@ -1,4 +1,5 @@
 use Rattle.std.proofs.Common.{arith}
+use Rattle.std.proofs.lemmas.Result.{IfOk-from_err}
 use Rattle.dpl_flatten.proofs.FoundLaws.{top_marked}
 use Rattle.dpl_flatten.proofs.PlacedLaws.{bare_targets, all_taken, cells_known, cells_deep, order_of, trimmed}
 use Rattle.dpl_flatten.proofs.DrawingLaws.{laid_out}
@@ -32,3 +33,9 @@ pub returns-clause-drawing : goal.returns-clause-drawing
 returns-clause-drawing c = laid_out c.args.lib.now c.args.layer c.args.links.now.graph.now c.args.links.now.marks.now
     c.in_ok-cells.cells.items c.requires.links c.in_ok-cells.ensures c.args.top
     (top_marked c.args.lib.now c.args.links.now.graph.now c.args.top c.args.links.now.marks.now c.requires.links.graph_of c.requires.reached) c.requires.small
+
+pub returns-in_err-cells-clause-drawing : goal.returns-in_err-cells-clause-drawing
+returns-in_err-cells-clause-drawing c = IfOk-from_err _ _ c.from_residual.ensures.0
+
+pub returns-in_err-cells-clause-trimmed : goal.returns-in_err-cells-clause-trimmed
+returns-in_err-cells-clause-trimmed c = IfOk-from_err _ _ c.from_residual.ensures.0

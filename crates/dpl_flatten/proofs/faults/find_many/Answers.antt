@@ -1,5 +1,6 @@
 use Rattle.std.proofs.Common.{◌≡◌, ◌<◌, min, length, arith, ◌∙◌}
 use Rattle.std.proofs.lemmas.List.{get_or_default}
+use Rattle.std.proofs.lemmas.Result.{IfOk-from_err}
 use Rattle.dpl_spec_layout.specs.Points.{placed_points}
 use Rattle.dpl_flatten.specs.Totals.{ceiling}
 use Rattle.dpl_flatten.proofs.FoundLaws.{top_marked}
@@ -23,3 +24,9 @@ returns-then-index-gt-MOST_POINTS-clause-fault c = (
 
 pub returns-clause-small : goal.returns-clause-small
 returns-clause-small c = record { sound = c.requires.sound; few = omega (arith, counted (goal.at.returns-clause-small c).After-index, c.if-index-gt-MOST_POINTS.false) }
+
+pub returns-in_err-counted-clause-small : goal.returns-in_err-counted-clause-small
+returns-in_err-counted-clause-small c = IfOk-from_err _ _ c.from_residual.ensures.0
+
+pub returns-in_err-counted-clause-totals : goal.returns-in_err-counted-clause-totals
+returns-in_err-counted-clause-totals c = IfOk-from_err _ _ c.from_residual.ensures.0

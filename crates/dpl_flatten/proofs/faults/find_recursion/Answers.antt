@@ -1,3 +1,4 @@
+use Rattle.std.proofs.lemmas.Result.{IfOk-from_err}
 use Rattle.dpl_flatten.proofs.LinkLaws.{graph_known}
 use Rattle.dpl_flatten.proofs.ReachLaws.{ordered_of, acyclic_of}
 use Rattle.dpl_flatten.proofs.faults.find_recursion.Goals as goal
@@ -18,3 +19,9 @@ returns-in-Some-clause-whole c = record {
       (ordered_of c.args.lib.now c.args.links.now.graph.now c.args.top c.args.links.now.marks.now c.in-Some.order.levels.items
       c.in-Some.order.vertices.items c.requires.links.graph_of c.requires.reached (rw c.in-Some.is at c.in_ok-order.ensures));
 }
+
+pub returns-in_err-order-clause-whole : goal.returns-in_err-order-clause-whole
+returns-in_err-order-clause-whole c = IfOk-from_err _ _ c.from_residual.ensures.0
+
+pub returns-in_err-order-clause-order : goal.returns-in_err-order-clause-order
+returns-in_err-order-clause-order c = IfOk-from_err _ _ c.from_residual.ensures.0

@@ -1,3 +1,4 @@
+use Rattle.std.proofs.lemmas.Result.{IfOk-from_err}
 use Rattle.dpl_spec_layout.specs.Faults.{IsRefused}
 use Rattle.dpl_flatten.proofs.FoundLaws.{refusal_first, refusal_there, nowhere_of}
 use Rattle.dpl_flatten.proofs.faults.find_refused.Goals as goal
@@ -18,3 +19,6 @@ returns-in-None-clause-sound c = record {
       c.args.links.now.marks.now c.requires.links.graph_of c.requires.reached (IsRefused c.args.layer)
       (rw c.in-None.is at c.in_ok-found.ensures);
 }
+
+pub returns-in_err-found-clause-sound : goal.returns-in_err-found-clause-sound
+returns-in_err-found-clause-sound c = IfOk-from_err _ _ c.from_residual.ensures.0

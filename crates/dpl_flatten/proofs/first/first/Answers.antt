@@ -1,4 +1,5 @@
 use Rattle.std.proofs.Common.{refl, arith}
+use Rattle.std.proofs.lemmas.Result.{IfOk-from_err}
 use Rattle.dpl_flatten.specs.Wants.{finding_of}
 use Rattle.dpl_flatten.proofs.LeastLaws.{marked_more, marked_all}
 use Rattle.dpl_flatten.proofs.first.first.Goals as goal
@@ -12,3 +13,6 @@ pub returns : goal.returns
 returns c = marked_all c.args.lib.now c.args.links.now.marks.now c.loop-structure.structure
     (finding_of c.args.lib.now c.args.wanted) c.loop-structure.first (omega (arith, c.requires.marks, c.count-structure-end.ensures.value))
     c.loop-structure.invariant
+
+pub returns-in_err-found : goal.returns-in_err-found
+returns-in_err-found c = IfOk-from_err _ _ c.from_residual.ensures.0

@@ -1,3 +1,4 @@
+use Rattle.std.proofs.lemmas.Result.{IfOk-from_err}
 use Rattle.dpl_spec_format.specs.Tree.{elements_at}
 use Rattle.dpl_flatten.specs.Wants.{finding_of}
 use Rattle.dpl_flatten.proofs.LeastLaws.{least_seen, least_seen_all}
@@ -20,3 +21,6 @@ returns c =
     c.elements-element-items.ensures.same
     c.loop-element-test.false
     c.loop-element.invariant
+
+pub returns-in_err-found : goal.returns-in_err-found
+returns-in_err-found c = IfOk-from_err _ _ c.from_residual.ensures.0

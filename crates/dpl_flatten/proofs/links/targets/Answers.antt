@@ -1,3 +1,4 @@
+use Rattle.std.proofs.lemmas.Result.{IfOk-from_err}
 use Rattle.dpl_flatten.proofs.LinkLaws.{AreTargets-step, AreTargets-whole, sized_all}
 use Rattle.dpl_flatten.proofs.links.targets.Goals as goal
 
@@ -13,3 +14,9 @@ returns-clause-row c =
 
 pub returns-clause-sized : goal.returns-clause-sized
 returns-clause-sized c = sized_all c.args.lib.now c.args.structure c.elements-element-items.result.now c.elements-element-items.ensures.same c.elements-element-items.ensures.points
+
+pub returns-in_err-note_target-clause-row : goal.returns-in_err-note_target-clause-row
+returns-in_err-note_target-clause-row c = IfOk-from_err _ _ c.from_residual.ensures.0
+
+pub returns-in_err-note_target-clause-sized : goal.returns-in_err-note_target-clause-sized
+returns-in_err-note_target-clause-sized c = IfOk-from_err _ _ c.from_residual.ensures.0

@@ -1,4 +1,5 @@
 use Rattle.std.proofs.Common.{◌<◌, ◌≤◌, length}
+use Rattle.std.proofs.lemmas.Result.{IfOk-from_err}
 use Rattle.dpl_flatten.proofs.LoopLaws.{added_none, added_more, added_all}
 use Rattle.dpl_flatten.proofs.loops.loops_of.Goals as goal
 
@@ -16,3 +17,9 @@ pub returns : goal.returns
 returns c =
     let all : length c.args.shapes.rects.items ≤ c.loop-rect.rect-index = rw c.deref-rect-items.ensures.value at c.loop-rect-test.false in
     added_all c.args.shapes.rects.items c.loop-rect.rect-index c.args.shapes.loops.items c.loop-rect.loops.items all c.loop-rect.invariant
+
+pub returns-in_err-loop_of : goal.returns-in_err-loop_of
+returns-in_err-loop_of c = IfOk-from_err _ _ c.from_residual.ensures.0
+
+pub returns-in_err-push : goal.returns-in_err-push
+returns-in_err-push c = IfOk-from_err _ _ c.from_residual-in_err-push.ensures.0

@@ -1,4 +1,5 @@
 use Rattle.std.proofs.Common.{refl, arith}
+use Rattle.std.proofs.lemmas.Result.{IfOk-from_err}
 use Rattle.dpl_flatten.proofs.DrawnLaws.{none_more, nothing_at}
 use Rattle.dpl_flatten.proofs.refused.refusal.Goals as goal
 
@@ -16,3 +17,6 @@ unreachable-requires c = nothing_at c.args.lib.now c.args.chosen c.args.marks.no
 
 pub returns-in-Some : goal.returns-in-Some
 returns-in-Some c = let r = c.in_ok-found.ensures.refused in let q = rw c.in-Some.is at r in (c.loop-structure.structure, q.1.0, q.0, q.1.1, q.1.2)
+
+pub returns-in_err-found : goal.returns-in_err-found
+returns-in_err-found c = IfOk-from_err _ _ c.from_residual.ensures.0

@@ -1,3 +1,4 @@
+use Rattle.std.proofs.lemmas.Result.{IfOk-from_err}
 use Rattle.dpl_spec_format.specs.Tree.{elements_at}
 use Rattle.dpl_spec_split.proofs.Ordered.{Contains-nil}
 use Rattle.dpl_flatten.proofs.DrawnLaws.{refusal_is, taken_more, taken_all}
@@ -19,3 +20,6 @@ returns-in-Some c = refusal_is c.args.lib.now c.args.chosen c.args.structure c.l
 pub returns : goal.returns
 returns c = taken_all c.args.chosen c.loop-element.element-index c.args.at c.elements-element-items.result.now
     (elements_at c.args.lib.now c.args.structure) c.elements-element-items.ensures.same c.loop-element-test.false c.loop-element.invariant
+
+pub returns-in_err-found : goal.returns-in_err-found
+returns-in_err-found c = IfOk-from_err _ _ c.from_residual.ensures.0

@@ -2,6 +2,7 @@ use Rattle.std.proofs.Common.{rules}
 use Rattle.std.specs.Prelude.{FitsSigned}
 use Rattle.std.specs.Int.{w16, w32, w64}
 use Rattle.std.proofs.lemmas.Int.{to_z-of_z}
+use Rattle.std.proofs.lemmas.Result.{IfOk-from_err}
 use Rattle.dpl_spec_elements.specs.Paths.{path_of}
 use Rattle.dpl_spec_layout.specs.Elements.{points_in}
 use Rattle.dpl_flatten.proofs.DrawnLaws.{no_path_fault}
@@ -19,3 +20,6 @@ returns-in-Ok c =
     let e' : FitsSigned w64 c.args.style.end_ext = search rules in
     let clean = rw (c.as_slice.ensures.value, c.in_ok-points.ensures.value) at (simp to_z-of_z at c.in-Ok.ensures.faultless) in
     λ f h. no_path_fault (path_of (points_in c.args.xy.now) s.width s.kind s.begin_ext s.end_ext) clean f h
+
+pub returns-in_err-points : goal.returns-in_err-points
+returns-in_err-points c = IfOk-from_err _ _ c.from_residual.ensures.0

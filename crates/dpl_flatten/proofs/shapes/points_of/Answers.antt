@@ -1,5 +1,6 @@
 use Rattle.std.proofs.Common.{rules, inl, inr}
 use Rattle.std.proofs.lemmas.List.Elements.{Contains-push_cases}
+use Rattle.std.proofs.lemmas.Result.{IfOk-from_err}
 use Rattle.dpl_flatten.proofs.shapes.points_of.Goals as goal
 
 pub loop-i-preserved : goal.loop-i-preserved
@@ -10,3 +11,15 @@ loop-i-preserved c = record {
     | inr last ↦ rw (← last) c.point_at.ensures.within
   ];
 }
+
+pub returns-in_err-points-clause-value : goal.returns-in_err-points-clause-value
+returns-in_err-points-clause-value c = IfOk-from_err _ _ c.from_residual.ensures.0
+
+pub returns-in_err-points-clause-within : goal.returns-in_err-points-clause-within
+returns-in_err-points-clause-within c = IfOk-from_err _ _ c.from_residual.ensures.0
+
+pub returns-in_err-push-clause-value : goal.returns-in_err-push-clause-value
+returns-in_err-push-clause-value c = IfOk-from_err _ _ c.from_residual-in_err-push.ensures.0
+
+pub returns-in_err-push-clause-within : goal.returns-in_err-push-clause-within
+returns-in_err-push-clause-within c = IfOk-from_err _ _ c.from_residual-in_err-push.ensures.0

@@ -1,4 +1,5 @@
 use Rattle.std.proofs.Common.{refl}
+use Rattle.std.proofs.lemmas.Result.{IfOk-from_err}
 use Rattle.dpl_flatten.proofs.LinkLaws.{roots_none, roots_one, root_known}
 use Rattle.dpl_flatten.proofs.top.only_root.Goals as goal
 
@@ -15,3 +16,9 @@ returns-in-len1-clause-known c = root_known c.args.lib.now _
 
 pub returns-clause-fault : goal.returns-clause-fault
 returns-clause-fault c = (c.in_default.len_at_least, (c.as_slice.result.now, rw c.as_slice.ensures.value c.in_ok-roots.ensures, refl))
+
+pub returns-in_err-roots-clause-top : goal.returns-in_err-roots-clause-top
+returns-in_err-roots-clause-top c = IfOk-from_err _ _ c.from_residual.ensures.0
+
+pub returns-in_err-roots-clause-known : goal.returns-in_err-roots-clause-known
+returns-in_err-roots-clause-known c = IfOk-from_err _ _ c.from_residual.ensures.0

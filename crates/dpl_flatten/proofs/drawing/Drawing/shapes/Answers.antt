@@ -1,4 +1,5 @@
 use Rattle.std.proofs.Common.{refl}
+use Rattle.std.proofs.lemmas.Result.{IfOk-from_err}
 use Rattle.dpl_flatten.proofs.DrawingLaws.{shapes_of}
 use Rattle.dpl_flatten.proofs.drawing.Drawing.shapes.Goals as goal
 
@@ -20,3 +21,9 @@ returns-clause-rects c = c.in_ok-found.ensures.2.rects
 
 pub returns-clause-loops : goal.returns-clause-loops
 returns-clause-loops c = c.in_ok-found.ensures.2.loops
+
+pub returns-in_err-found-clause-rects : goal.returns-in_err-found-clause-rects
+returns-in_err-found-clause-rects c = IfOk-from_err _ _ c.from_residual.ensures.0
+
+pub returns-in_err-found-clause-loops : goal.returns-in_err-found-clause-loops
+returns-in_err-found-clause-loops c = IfOk-from_err _ _ c.from_residual.ensures.0
