@@ -1,4 +1,4 @@
-use Rattle.std.proofs.lemmas.Result.{IfOk-weaker}
+use Rattle.std.proofs.lemmas.Result.{IfOk-weaker, IfOk-from_err}
 use Rattle.dpl_walk.proofs.WayLaws.{same_walk}
 use Rattle.dpl_walk.proofs.gather.Goals as goal
 
@@ -11,3 +11,6 @@ returns c = IfOk-weaker c.walk_from.result _ _
       walked.2,
     ))
     c.walk_from.ensures
+
+pub returns-in_err-pass_by : goal.returns-in_err-pass_by
+returns-in_err-pass_by c = IfOk-from_err _ _ c.from_residual.ensures.0

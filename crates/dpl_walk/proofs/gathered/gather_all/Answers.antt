@@ -1,3 +1,4 @@
+use Rattle.std.proofs.lemmas.Result.{IfOk-from_err}
 use Rattle.dpl_spec_elements.specs.Motions.{image}
 use Rattle.dpl_walk.proofs.KeptLaws.{keeps-none, keeps-one, keeps-more}
 use Rattle.dpl_walk.proofs.gathered.gather_all.Goals as goal
@@ -13,3 +14,6 @@ loop-outline-preserved c =
 
 pub keep-requires-clause-points : goal.keep-requires-clause-points
 keep-requires-clause-points c = rw c.outline-item.is (c.requires.points c.loop-outline.outline-index c.outline-item.result c.loop-outline-test.true)
+
+pub returns-in_err-keep : goal.returns-in_err-keep
+returns-in_err-keep c = IfOk-from_err _ _ c.from_residual.ensures.0

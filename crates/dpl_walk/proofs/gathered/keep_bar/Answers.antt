@@ -1,4 +1,5 @@
 use Rattle.std.proofs.Common.{◌≡◌, true, false, inl, inr, refl}
+use Rattle.std.proofs.lemmas.Result.{IfOk-from_err}
 use Rattle.dpl_corners.proofs.BarLaws.{opposite-in}
 use Rattle.dpl_walk.proofs.KeptLaws.{kept-bar, far-bar}
 use Rattle.dpl_walk.proofs.gathered.keep_bar.Goals as goal
@@ -19,3 +20,6 @@ returns c = far-bar c.args.place.now c.args.bar.now c.apply-corner.result c.appl
       | else-is_in_range-via-then-is_in_range+else-is_in_range-2 w ↦ inr (λ v. let e : false ≡ true = w.if-is_in_range-2.ensures.1 v in cc)
       | else-is_in_range-via-else-is_in_range w ↦ inl (λ v. let e : false ≡ true = w.if-is_in_range.ensures.1 v in cc)
     ]) c.note-gathered.ensures refl refl
+
+pub returns-in_err-push : goal.returns-in_err-push
+returns-in_err-push c = IfOk-from_err _ _ c.from_residual.ensures.0

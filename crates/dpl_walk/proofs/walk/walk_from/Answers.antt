@@ -1,4 +1,5 @@
 use Rattle.std.proofs.Common.{[], length, refl, ap, arith}
+use Rattle.std.proofs.lemmas.Result.{IfOk-from_err}
 use Rattle.dpl_spec_elements.specs.Motions.{Motion}
 use Rattle.dpl_walk.proofs.KeptLaws.{kept-start}
 use Rattle.dpl_walk.proofs.StackLaws.{walking_start, walking_more, walking_all, popped, place_small, moved_small, outlines_are, copies_are}
@@ -100,3 +101,12 @@ returns c = (
       (omega (arith, c.loop-frame.stack.ok.0, c.in_default.ensures.cases.0)) c.loop-frame.invariant.2,
   c.loop-frame.invariant.3,
 )
+
+pub returns-in_err-visit : goal.returns-in_err-visit
+returns-in_err-visit c = IfOk-from_err _ _ c.from_residual.ensures.0
+
+pub returns-in_err-put_next : goal.returns-in_err-put_next
+returns-in_err-put_next c = IfOk-from_err _ _ c.from_residual-in_err-put_next.ensures.0
+
+pub returns-in_err-visit-2 : goal.returns-in_err-visit-2
+returns-in_err-visit-2 c = IfOk-from_err _ _ c.from_residual-in_err-visit-2.ensures.0

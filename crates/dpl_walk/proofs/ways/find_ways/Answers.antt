@@ -1,5 +1,6 @@
 use Rattle.std.proofs.Common.{◌<◌, length, get_or, refl, arith}
 use Rattle.std.proofs.lemmas.List.{take_all}
+use Rattle.std.proofs.lemmas.Result.{IfOk-from_err}
 use Rattle.dpl_spec_split.proofs.Ordered.{Contains-nil}
 use Rattle.dpl_walk.proofs.ShortLaws.{ways_set, whole_set, own_set, whole_all}
 use Rattle.dpl_walk.proofs.ways.find_ways.Goals as goal
@@ -35,3 +36,9 @@ pub returns-clause-whole : goal.returns-clause-whole
 returns-clause-whole c = λ is.
     (let all = take_all c.loop-structure.structure-index c.args.order.now c.loop-structure-test.false in
     whole_all c.args.cells.now c.args.order.now c.loop-structure.ways.items is (rw all at c.loop-structure.invariant.whole is.behind) (rw all at c.loop-structure.invariant.own))
+
+pub returns-in_err-ways-clause-ways : goal.returns-in_err-ways-clause-ways
+returns-in_err-ways-clause-ways c = IfOk-from_err _ _ c.from_residual.ensures.0
+
+pub returns-in_err-ways-clause-whole : goal.returns-in_err-ways-clause-whole
+returns-in_err-ways-clause-whole c = IfOk-from_err _ _ c.from_residual.ensures.0

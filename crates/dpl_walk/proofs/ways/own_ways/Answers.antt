@@ -1,4 +1,5 @@
 use Rattle.std.proofs.Common.{◌∷◌, [], length-append, ap, length, arith}
+use Rattle.std.proofs.lemmas.Result.{IfOk-from_err}
 use Rattle.dpl_walk.proofs.ShortLaws.{own_none, own_more, own_all, own_targets}
 use Rattle.dpl_walk.proofs.ways.own_ways.Goals as goal
 
@@ -17,3 +18,9 @@ returns-clause-own c = own_targets c.loop-structure.ways.items c.loop-structure.
 
 pub returns-clause-ways : goal.returns-clause-ways
 returns-clause-ways c = own_all c.args.cells.now c.loop-structure.ways.items c.requires.deep (omega (arith, c.loop-structure.invariant.each)) c.loop-structure.invariant.own
+
+pub returns-in_err-push-clause-ways : goal.returns-in_err-push-clause-ways
+returns-in_err-push-clause-ways c = IfOk-from_err _ _ c.from_residual.ensures.0
+
+pub returns-in_err-push-clause-own : goal.returns-in_err-push-clause-own
+returns-in_err-push-clause-own c = IfOk-from_err _ _ c.from_residual.ensures.0

@@ -1,4 +1,5 @@
 use Rattle.std.proofs.Common.{arith}
+use Rattle.std.proofs.lemmas.Result.{IfOk-from_err}
 use Rattle.dpl_walk.proofs.ShortLaws.{below_start, below_next, below_end, all_ready, all_known, all_within}
 use Rattle.dpl_walk.proofs.WayLaws.{passed_of}
 use Rattle.dpl_walk.proofs.ways.shorten.Goals as goal
@@ -30,3 +31,9 @@ returns-clause-passed c =
 pub returns-clause-short : goal.returns-clause-short
 returns-clause-short c = below_end c.args.ways.now c.loop-structure.structure c.args.cells.now.items c.loop-structure.cells.items
     (omega (arith, c.len-structure-end.ensures)) c.loop-structure.invariant
+
+pub returns-in_err-shorten_at-clause-short : goal.returns-in_err-shorten_at-clause-short
+returns-in_err-shorten_at-clause-short c = IfOk-from_err _ _ c.from_residual.ensures.0
+
+pub returns-in_err-shorten_at-clause-passed : goal.returns-in_err-shorten_at-clause-passed
+returns-in_err-shorten_at-clause-passed c = IfOk-from_err _ _ c.from_residual.ensures.0

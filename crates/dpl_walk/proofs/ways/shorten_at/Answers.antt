@@ -1,4 +1,5 @@
 use Rattle.std.proofs.Common.{◌≡◌, refl, ◌∙◌}
+use Rattle.std.proofs.lemmas.Result.{IfOk-from_err}
 use Rattle.dpl_walk.specs.Walk.{copies_at}
 use Rattle.dpl_walk.proofs.StackLaws.{copies_are}
 use Rattle.dpl_walk.proofs.ShortLaws.{cell_short}
@@ -21,3 +22,6 @@ returns c =
     let e : c.items.result.now ≡ copies_at c.args.cells.now.items c.args.structure = c.items.ensures
     ∙ copies_are c.args.cells.now.items c.args.structure c.index.result.now c.requires.structure c.index.ensures in
     cell_short c.args.ways.now c.args.cells.now.items c.args.structure c.index_mut.result.now _ c.requires.structure c.index_mut.ensures.value refl (rw e at c.in_ok-short.ensures)
+
+pub returns-in_err-short : goal.returns-in_err-short
+returns-in_err-short c = IfOk-from_err _ _ c.from_residual.ensures.0
