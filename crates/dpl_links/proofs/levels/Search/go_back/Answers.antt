@@ -1,6 +1,6 @@
-use Rattle.std.proofs.Common.{◌≡◌, ◌+◌, ◌∷◌, [], length, ap, arith, length-append}
+use Rattle.std.proofs.Common.{◌≡◌, ◌+◌, ◌∷◌, ◌++◌, [], length, ap, arith, length-append}
 use Rattle.std.proofs.lemmas.Result.{IfOk-from_err}
-use Rattle.dpl_links.proofs.PartLaws.{one_back, one_part, q_known}
+use Rattle.dpl_links.proofs.PartLaws.{one_back, one_part, q_known, less_back, less_part}
 use Rattle.dpl_links.proofs.levels.Search.go_back.Goals as goal
 
 pub returns-then-top-visit-clause-search : goal.returns-then-top-visit-clause-search
@@ -42,3 +42,11 @@ returns-in_err-push-2-clause-search c = IfOk-from_err _ _ c.from_residual-in_err
 
 pub returns-in_err-push-2-clause-falls : goal.returns-in_err-push-2-clause-falls
 returns-in_err-push-2-clause-falls c = IfOk-from_err _ _ c.from_residual-in_err-push-2.ensures.0
+
+pub returns-then-top-visit-clause-falls : goal.returns-then-top-visit-clause-falls
+returns-then-top-visit-clause-falls c = rw c.in_ok-push.ensures.items
+    (less_back c.args.graph.now c.args.self.now.found.items c.args.self.now.path.items c.args.visit (c.args.self.now.parts.items ++ c.args.top ∷ []))
+
+pub returns-clause-falls : goal.returns-clause-falls
+returns-clause-falls c =
+    less_part c.args.graph.now c.args.self.now.found.items c.args.self.now.path.items c.args.visit c.args.self.now.parts.items c.args.top

@@ -1,10 +1,10 @@
-use Rattle.std.proofs.Common.{◌≡◌, ◌+◌, ◌<◌, ◌≤◌, inl, inr, ◌∷◌, [], length, get_or, set, refl, ap, true, arith, length-append}
+use Rattle.std.proofs.Common.{◌≡◌, ◌+◌, ◌<◌, ◌≤◌, inl, inr, ◌∷◌, [], length, get_or, set, refl, ap, true, arith, length-append, ◌++◌}
 use Rattle.std.proofs.lemmas.List.Elements.{Contains-get_or}
 use Rattle.std.proofs.lemmas.Result.{IfOk-from_err}
 use Rattle.dpl_links.specs.Graph.{targets_at, LeadsTo}
 use Rattle.dpl_links.proofs.MarkLaws.{one_less}
 use Rattle.dpl_links.proofs.OrderLaws.{mark_read, unmarked_read}
-use Rattle.dpl_links.proofs.PartLaws.{one_on, one_new, less_new}
+use Rattle.dpl_links.proofs.PartLaws.{one_on, one_new, less_new, less_on}
 use Rattle.dpl_links.proofs.levels.Search.go_to.Goals as goal
 
 pub index-requires : goal.index-requires
@@ -172,3 +172,39 @@ returns-in_err-go_on-3-clause-search c = IfOk-from_err _ _ c.from_residual-in_er
 
 pub returns-in_err-go_on-3-clause-falls : goal.returns-in_err-go_on-3-clause-falls
 returns-in_err-go_on-3-clause-falls c = IfOk-from_err _ _ c.from_residual-in_err-go_on-3.ensures.0
+
+pub go_on-requires : goal.go_on-requires
+go_on-requires c = omega (arith, c.requires.inside, c.requires.few)
+
+pub go_on-requires-2 : goal.go_on-requires-2
+go_on-requires-2 c = omega (arith, c.requires.inside, c.requires.few)
+
+pub go_on-requires-then-not-index : goal.go_on-requires-then-not-index
+go_on-requires-then-not-index c = omega (arith, c.requires.inside, c.requires.few)
+
+pub returns-then-index-clause-falls : goal.returns-then-index-clause-falls
+returns-then-index-clause-falls c =
+    rw (c.in_ok-go_on.ensures.found, c.in_ok-go_on.ensures.parts, c.in_ok-go_on.ensures.path)
+    (less_on c.args.graph.now c.args.self.now.found.items c.args.self.now.path.items c.args.visit
+    (record { vertex = c.args.visit.vertex; gone = c.args.visit.gone + 1 }) (c.args.self.now.parts.items ++ c.args.top ∷ []) refl refl
+    c.requires.inside)
+
+pub join_last-requires-clause-search : goal.join_last-requires-clause-search
+join_last-requires-clause-search c = c.requires.search
+
+pub join_last-requires-clause-edge : goal.join_last-requires-clause-edge
+join_last-requires-clause-edge c = rw (← c.requires.edge)
+    (Contains-get_or (targets_at c.args.graph.now c.args.visit.vertex) c.args.visit.gone 0 c.requires.inside)
+
+pub returns-then-number_at-clause-search : goal.returns-then-number_at-clause-search
+returns-then-number_at-clause-search c = c.in_ok-join_last.ensures.search
+
+pub returns-then-number_at-clause-falls : goal.returns-then-number_at-clause-falls
+returns-then-number_at-clause-falls c = c.in_ok-join_last.ensures.falls
+
+pub returns-clause-falls : goal.returns-clause-falls
+returns-clause-falls c =
+    rw (c.in_ok-go_on-3.ensures.found, c.in_ok-go_on-3.ensures.parts, c.in_ok-go_on-3.ensures.path)
+    (less_on c.args.graph.now c.args.self.now.found.items c.args.self.now.path.items c.args.visit
+    (record { vertex = c.args.visit.vertex; gone = c.args.visit.gone + 1 }) (c.args.self.now.parts.items ++ c.args.top ∷ []) refl refl
+    c.requires.inside)

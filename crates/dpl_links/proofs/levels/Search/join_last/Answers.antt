@@ -1,6 +1,6 @@
-use Rattle.std.proofs.Common.{⊎_elim, arith}
+use Rattle.std.proofs.Common.{⊎_elim, arith, ◌∷◌, ◌++◌, []}
 use Rattle.std.proofs.lemmas.Result.{IfOk-from_err}
-use Rattle.dpl_links.proofs.PartLaws.{one_joined, some_lower}
+use Rattle.dpl_links.proofs.PartLaws.{one_joined, some_lower, less_joined}
 use Rattle.dpl_links.proofs.levels.Search.join_last.Goals as goal
 
 pub unreachable-requires : goal.unreachable-requires
@@ -33,3 +33,9 @@ returns-in_err-push-2-clause-search c = IfOk-from_err _ _ c.from_residual-in_err
 
 pub returns-in_err-push-2-clause-falls : goal.returns-in_err-push-2-clause-falls
 returns-in_err-push-2-clause-falls c = IfOk-from_err _ _ c.from_residual-in_err-push-2.ensures.0
+
+pub returns-clause-falls : goal.returns-clause-falls
+returns-clause-falls c =
+    rw (c.in_ok-push.ensures.items, c.in_ok-push-2.ensures.items)
+    (less_joined c.args.graph.now c.args.self.now.found.items (c.args.self.now.path.items ++ c.args.visit ∷ []) c.pop.new.self.items
+    c.in-Some.lower c.args.top c.in_ok-joined.joined c.args.self.now.parts.items c.in-Some.ensures.items)
