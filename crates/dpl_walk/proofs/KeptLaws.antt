@@ -9,6 +9,7 @@ use Rattle.dpl_spec_split.specs.declared.Rect.{Rect}
 use Rattle.dpl_spec_split.specs.Squares.{Covers, Has}
 use Rattle.dpl_spec_split.specs.Loops.{LoopCovers, SomeLoopCovers, IsPointWithin, ArePointsWithin, IsRectWithin, farthest}
 use Rattle.dpl_spec_split.proofs.Ordered.{Contains-nil}
+use Rattle.dpl_links.proofs.TakeLaws.{Contains-take_more}
 use Rattle.dpl_spec_split.proofs.SlabLaws.{Covers-member, member-Covers}
 use Rattle.dpl_spec_elements.specs.Motions.{Motion, image}
 use Rattle.dpl_corners.specs.declared.bar.Bar.{Bar}
@@ -250,3 +251,13 @@ all-covered cells top all g walk kept s = (
   λ h. (let (ps, ps_in, inside, has) = (kept.covers s).0 h in (ps_in.0, ps, ps_in.1, ps_in.2, has)),
   λ (i, ps, i_in, is, has). (kept.covers s).1 (ps, (i, i_in, is), all-in-range cells top all walk ps (i, i_in, is), has),
 )
+
+-- ---- points in range
+
+pub range_more : (ps : List Pt) (i : ℕ) (d : Pt) → i < length ps → ArePointsWithin farthest (take i ps) → IsPointWithin farthest (get_or ps i d)
+    → ArePointsWithin farthest (take (i + 1) ps)
+range_more ps i d h before here p c =
+    ⊎_elim (λ m. before p m) (λ (q : p ≡ get_or ps i d). rw q here) (Contains-take_more ps i d p h c)
+
+pub far_at : (ps : List Pt) (i : ℕ) (d : Pt) → i < length ps → ¬ IsPointWithin farthest (get_or ps i d) → HasFarPoint ps
+far_at ps i d h far = (get_or ps i d, Contains-get_or ps i d h, far)

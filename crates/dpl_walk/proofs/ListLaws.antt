@@ -1,5 +1,7 @@
 -- Members of lists.
-use Rattle.std.proofs.Common.{◌≡◌, ⊎_elim, List, [], ◌∷◌, Option, Some, None, map, ap}
+use Rattle.std.proofs.Common.{◌≡◌, ℕ, ◌+◌, ◌*◌, ◌<◌, ◌≤◌, ⊎_elim, List, [], ◌∷◌, ◌++◌, Option, Some, None, map, length, get_or, take, refl, ap, ◌∙◌, append_assoc, arith}
+use Rattle.std.proofs.Math.Nat.{mul-le-mul_left}
+use Rattle.std.proofs.lemmas.List.{map_more}
 use Rattle.std.specs.List.{Contains}
 use Rattle.std.specs.Option.{option_to_list}
 use Rattle.dpl_spec_split.proofs.Ordered.{Contains-head, Contains-later, Contains-cases, Contains-nil}
@@ -20,3 +22,16 @@ Contains-option (Some y) x c = ⊎_elim (λ (e : y ≡ x). ap Some e) (λ h. abs
 
 pub Contains-the_option : {X : Type 0} (o : Option X) (x : X) → o ≡ Some x → Contains (option_to_list o) x
 Contains-the_option o x e = rw e (Contains-head x [])
+
+-- one more of the images is put behind the others
+pub pushed : {X Y : Type 0} (f : X → Y) (xs : List X) (i : ℕ) (d : X) (start ys zs : List Y) → i < length xs → ys ≡ start ++ map f (take i xs)
+    → zs ≡ ys ++ f (get_or xs i d) ∷ [] → zs ≡ start ++ map f (take (i + 1) xs)
+pushed f xs i d start ys zs h e p = p ∙ rw (e, append_assoc, map_more f xs i d h) refl
+
+-- fewer steps lead no farther
+pub steps : (i n s b : ℕ) → i < n → n * s ≤ b → i * s ≤ b
+steps i n s b h l =
+    let e = mul-le-mul_left s (let k : i ≤ n = omega (arith, h) in k) in
+    let x : s * i ≡ i * s = omega arith in
+    let y : s * n ≡ n * s = omega arith in
+    omega (arith, e, x, y, l)

@@ -1,6 +1,9 @@
 use Rattle.std.proofs.lemmas.Result.{IfOk-from_err}
+use Rattle.std.proofs.Common.{subst}
+use Rattle.std.proofs.lemmas.List.{take_all}
 use Rattle.dpl_spec_elements.specs.Motions.{image}
 use Rattle.dpl_walk.proofs.KeptLaws.{keeps-none, keeps-one, keeps-more}
+use Rattle.dpl_walk.specs.Kept.{Keeps}
 use Rattle.dpl_walk.proofs.gathered.gather_all.Goals as goal
 
 pub loop-outline-init : goal.loop-outline-init
@@ -17,3 +20,7 @@ keep-requires-clause-points c = rw c.outline-item.is (c.requires.points c.loop-o
 
 pub returns-in_err-keep : goal.returns-in_err-keep
 returns-in_err-keep c = IfOk-from_err _ _ c.from_residual.ensures.0
+
+pub returns : goal.returns
+returns c = subst (λ os. Keeps os (image c.args.place.now) c.args.gathered.now c.loop-outline.gathered)
+    (take_all _ _ c.loop-outline-test.false) c.loop-outline.invariant
