@@ -1,6 +1,6 @@
 -- Keeping distinct points.
-use Rattle.std.proofs.Common.{◌≡◌, ℕ, ◌-◌, ◌≤◌, List, [], ◌∷◌, ◌++◌, length, get_or, take, drop, sym, ap, ◌∙◌, arith}
-use Rattle.std.proofs.lemmas.List.{take_all, append-nil}
+use Rattle.std.proofs.Common.{◌≡◌, ℕ, ◌+◌, ◌-◌, ◌<◌, ◌≤◌, List, [], ◌∷◌, ◌++◌, length, get_or, take, drop, refl, sym, ap, ◌∙◌, arith, append_assoc}
+use Rattle.std.proofs.lemmas.List.{take_all, take_more, append-nil}
 use Rattle.dpl_spec_split.specs.declared.Pt.{Pt}
 use Rattle.dpl_spec_elements.specs.Paths.{distinct_after, distinct}
 
@@ -15,3 +15,12 @@ distinct-done (p ∷ ps) items kept none n d some none_is kept_is all h =
     let gone : take n rest ++ [] ≡ ps = append-nil (take n rest) ∙ (take_all n rest all ∙ whole) in
     let one : kept ≡ p ∷ [] = kept_is ∙ ap (λ l. l ++ p ∷ []) none_is in
     sym (append-nil items) ∙ (h ∙ (ap (λ l. l ++ distinct_after p (take n rest ++ [])) one ∙ ap (λ l. p ∷ distinct_after p l) gone))
+
+-- one more point is kept, or equals the last one
+pub keeps-on : (start kept longer : List Pt) (first last next : Pt) (xs : List Pt) (i : ℕ) (d : Pt) → i < length xs
+    → ((rest : List Pt) → kept ++ distinct_after last rest ≡ start ++ distinct_after first (take i xs ++ rest))
+    → ((rest : List Pt) → longer ++ distinct_after next rest ≡ kept ++ distinct_after last (get_or xs i d ∷ rest))
+    → (rest : List Pt) → longer ++ distinct_after next rest ≡ start ++ distinct_after first (take (i + 1) xs ++ rest)
+keeps-on start kept longer first last next xs i d h before one rest =
+    let e : take (i + 1) xs ++ rest ≡ take i xs ++ (get_or xs i d ∷ rest) = rw (take_more xs i d h, append_assoc) refl in
+    one rest ∙ (before (get_or xs i d ∷ rest) ∙ ap (λ l. start ++ distinct_after first l) (sym e))

@@ -1,6 +1,7 @@
 use Rattle.std.proofs.Common.{◌≡◌, sym, subst, ◌∙◌, ap, arith, to_z, of_z, w16, w64}
 use Rattle.std.specs.Prelude.{unsigned_abs}
 use Rattle.std.proofs.lemmas.Int.{ints}
+use Rattle.std.proofs.lemmas.Result.{IfOk-from_err}
 use Rattle.dpl_spec_elements.specs.Paths.{PathElement, path_of, distinct, HasSlant, HasTurnBack}
 use Rattle.dpl_shapes.specs.Types.{HasNegativeEnd}
 use Rattle.dpl_shapes.proofs.Faults.{IsPlain, plain-as, no-slant, turns-first, negative-first, no-fault, negative-as}
@@ -50,3 +51,9 @@ returns-clause-faultless c =
     let on : HasTurnBack (distinct c.args.points.now) → ⊥ = subst (λ ps. HasTurnBack ps → ⊥) (c.deref-2.ensures.value ∙ c.in_ok-corners.ensures) c.if-turns_back.ensures in
     let fit : HasNegativeEnd c.args.kind c.args.begin_ext c.args.end_ext → ⊥ = λ h. c.if-has_negative_end.ensures (negative-as _ _ _ _ _ _ (sym kind) (sym begin) (sym end) h) in
     no-fault p plain straight on fit
+
+pub returns-in_err-corners-clause-points : goal.returns-in_err-corners-clause-points
+returns-in_err-corners-clause-points c = IfOk-from_err _ _ c.from_residual.ensures.0
+
+pub returns-in_err-corners-clause-faultless : goal.returns-in_err-corners-clause-faultless
+returns-in_err-corners-clause-faultless c = IfOk-from_err _ _ c.from_residual.ensures.0

@@ -2,6 +2,7 @@ use Rattle.std.proofs.Common.{◌≡◌, ◌/◌, ◌^◌, ◌≤◌, sym, subst
 use Rattle.std.specs.Prelude.{unsigned_abs, map, ◌↔◌}
 use Rattle.std.specs.List.{All, Contains}
 use Rattle.std.proofs.lemmas.Int.{ints}
+use Rattle.std.proofs.lemmas.Result.{IfOk-from_err}
 use Rattle.dpl_spec_split.specs.Loops.{IsRectilinear, SomeLoopCovers}
 use Rattle.dpl_spec_elements.specs.Paths.{PathElement, path_of, past_end, corners_of, half_of, path_rects, PathCovers, IsFaultless}
 use Rattle.dpl_shapes.specs.Strokes.{drawn_points}
@@ -72,3 +73,27 @@ returns-clause-straight c =
 
 pub returns-clause-faultless : goal.returns-clause-faultless
 returns-clause-faultless c = sound (goal.at.returns-clause-faultless c).In_ok-corners
+
+pub returns-in_err-corners-clause-loops : goal.returns-in_err-corners-clause-loops
+returns-in_err-corners-clause-loops c = IfOk-from_err _ _ c.from_residual.ensures.0
+
+pub returns-in_err-corners-clause-covers : goal.returns-in_err-corners-clause-covers
+returns-in_err-corners-clause-covers c = IfOk-from_err _ _ c.from_residual.ensures.0
+
+pub returns-in_err-corners-clause-straight : goal.returns-in_err-corners-clause-straight
+returns-in_err-corners-clause-straight c = IfOk-from_err _ _ c.from_residual.ensures.0
+
+pub returns-in_err-corners-clause-faultless : goal.returns-in_err-corners-clause-faultless
+returns-in_err-corners-clause-faultless c = IfOk-from_err _ _ c.from_residual.ensures.0
+
+pub returns-in_err-loops_along-clause-loops : goal.returns-in_err-loops_along-clause-loops
+returns-in_err-loops_along-clause-loops c = IfOk-from_err _ _ c.from_residual-in_err-loops_along.ensures.0
+
+pub returns-in_err-loops_along-clause-covers : goal.returns-in_err-loops_along-clause-covers
+returns-in_err-loops_along-clause-covers c = IfOk-from_err _ _ c.from_residual-in_err-loops_along.ensures.0
+
+pub returns-in_err-loops_along-clause-straight : goal.returns-in_err-loops_along-clause-straight
+returns-in_err-loops_along-clause-straight c = IfOk-from_err _ _ c.from_residual-in_err-loops_along.ensures.0
+
+pub returns-in_err-loops_along-clause-faultless : goal.returns-in_err-loops_along-clause-faultless
+returns-in_err-loops_along-clause-faultless c = IfOk-from_err _ _ c.from_residual-in_err-loops_along.ensures.0
