@@ -1,6 +1,7 @@
 use Rattle.std.proofs.Common.{◌∙◌, ap, sym, rules}
 use Rattle.std.specs.Prelude.{option_map}
 use Rattle.std.specs.FinMap.{insert}
+use Rattle.std.proofs.lemmas.Result.{IfOk-from_err}
 use Rattle.dpl_host.specs.Memory.{files_of}
 use Rattle.dpl_host.proofs.ByName.{at_err, changed, files_get, is_there, put_same}
 use Rattle.dpl_host.proofs.names.put_behind.Goals as goal
@@ -33,3 +34,6 @@ returns-in-None-clause-ok c = (
   files_get c.args.files.now c.args.name.now ∙ ap (option_map (λ v. v.items)) (sym c.in-None.ensures.value),
   ap (λ m. files_of m.entries) c.get_mut.follows.holds-at-none,
 )
+
+pub returns-in_err-extend_from_slice-in-Some-clause-ok : goal.returns-in_err-extend_from_slice-in-Some-clause-ok
+returns-in_err-extend_from_slice-in-Some-clause-ok c = IfOk-from_err _ _ c.from_residual.ensures.0

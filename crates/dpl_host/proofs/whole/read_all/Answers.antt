@@ -1,5 +1,6 @@
 use Rattle.std.proofs.Common.{◌≡◌, ◌∙◌, sym, subst, List, ℕ, arith, take, length, [], refl, rules}
 use Rattle.std.specs.Prelude.{IfSome, unwrap_or}
+use Rattle.std.proofs.lemmas.Result.{IfOk-from_err}
 use Rattle.dpl_host.specs.Outside.{file_of}
 use Rattle.dpl_host.proofs.Logs.{read_more}
 use Rattle.dpl_host.proofs.Pieces.{prefix_on, given_more, too_long, whole_read}
@@ -44,3 +45,21 @@ returns-in_err-count-clause-logged g c = read_more c.args.name.now
 pub returns-in_err-extend_from_slice-clause-logged : goal.returns-in_err-extend_from_slice-clause-logged
 returns-in_err-extend_from_slice-clause-logged g c = read_more c.args.name.now
     c.loop-chunk.invariant.logged c.in_ok-count.ensures.logged
+
+pub returns-in_err-count-clause-bytes : goal.returns-in_err-count-clause-bytes
+returns-in_err-count-clause-bytes g c = IfOk-from_err _ _ c.from_residual.ensures.0
+
+pub returns-in_err-count-clause-size : goal.returns-in_err-count-clause-size
+returns-in_err-count-clause-size g c = IfOk-from_err _ _ c.from_residual.ensures.0
+
+pub returns-in_err-count-clause-given : goal.returns-in_err-count-clause-given
+returns-in_err-count-clause-given g c = IfOk-from_err _ _ c.from_residual.ensures.0
+
+pub returns-in_err-extend_from_slice-clause-bytes : goal.returns-in_err-extend_from_slice-clause-bytes
+returns-in_err-extend_from_slice-clause-bytes g c = IfOk-from_err _ _ c.from_residual-in_err-extend_from_slice.ensures.0
+
+pub returns-in_err-extend_from_slice-clause-size : goal.returns-in_err-extend_from_slice-clause-size
+returns-in_err-extend_from_slice-clause-size g c = IfOk-from_err _ _ c.from_residual-in_err-extend_from_slice.ensures.0
+
+pub returns-in_err-extend_from_slice-clause-given : goal.returns-in_err-extend_from_slice-clause-given
+returns-in_err-extend_from_slice-clause-given g c = IfOk-from_err _ _ c.from_residual-in_err-extend_from_slice.ensures.0

@@ -1,5 +1,6 @@
 use Rattle.std.proofs.Common.{◌≡◌, ◌∙◌, ◌≤◌, ◌-◌, ap, sym, List, ℕ, arith, take, drop, length, length-drop}
 use Rattle.std.specs.Prelude.{option_map}
+use Rattle.std.proofs.lemmas.Result.{IfOk-from_err}
 use Rattle.dpl_host.specs.Outside.{with_said}
 use Rattle.dpl_host.proofs.Files.{said_on}
 use Rattle.dpl_host.proofs.Logs.{said_more}
@@ -30,3 +31,6 @@ loop-done-preserved g c =
 pub returns-in_err-done-clause-logged : goal.returns-in_err-done-clause-logged
 returns-in_err-done-clause-logged g c = said_more
     c.loop-done.invariant.logged c.in_err-done.ensures.logged
+
+pub returns-in_err-done-clause-ok : goal.returns-in_err-done-clause-ok
+returns-in_err-done-clause-ok g c = IfOk-from_err _ _ c.from_residual.ensures.0

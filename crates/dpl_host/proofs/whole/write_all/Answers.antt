@@ -1,5 +1,6 @@
 use Rattle.std.proofs.Common.{◌≡◌, ◌∙◌, ◌≤◌, ◌-◌, ap, sym, List, ℕ, arith, take, drop, length, length-drop}
 use Rattle.std.specs.Prelude.{option_map}
+use Rattle.std.proofs.lemmas.Result.{IfOk-from_err}
 use Rattle.dpl_host.specs.Outside.{with_file, with_more}
 use Rattle.dpl_host.proofs.Files.{written_on}
 use Rattle.dpl_host.proofs.Logs.{appended, created}
@@ -34,3 +35,9 @@ returns-in_err-create-clause-logged g c = created c.args.name.now c.in_err-creat
 pub returns-in_err-done-clause-logged : goal.returns-in_err-done-clause-logged
 returns-in_err-done-clause-logged g c = appended c.args.name.now
     c.loop-done.invariant.logged c.in_err-done.ensures.logged
+
+pub returns-in_err-create-clause-ok : goal.returns-in_err-create-clause-ok
+returns-in_err-create-clause-ok g c = IfOk-from_err _ _ c.from_residual.ensures.0
+
+pub returns-in_err-done-clause-ok : goal.returns-in_err-done-clause-ok
+returns-in_err-done-clause-ok g c = IfOk-from_err _ _ c.from_residual-in_err-done.ensures.0
