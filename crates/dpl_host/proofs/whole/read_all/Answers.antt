@@ -63,3 +63,21 @@ returns-in_err-extend_from_slice-clause-size g c = IfOk-from_err _ _ c.from_resi
 
 pub returns-in_err-extend_from_slice-clause-given : goal.returns-in_err-extend_from_slice-clause-given
 returns-in_err-extend_from_slice-clause-given g c = IfOk-from_err _ _ c.from_residual-in_err-extend_from_slice.ensures.0
+
+pub returns-in_err-count-clause-same : goal.returns-in_err-count-clause-same
+returns-in_err-count-clause-same g c = c.in_err-count.ensures.same ∙ c.loop-chunk.invariant.same
+
+pub returns-in_err-count-clause-others : goal.returns-in_err-count-clause-others
+returns-in_err-count-clause-others g c = c.in_err-count.ensures.others ∙ c.loop-chunk.invariant.others
+
+pub returns-in_err-extend_from_slice-clause-same : goal.returns-in_err-extend_from_slice-clause-same
+returns-in_err-extend_from_slice-clause-same g c = c.in_ok-count.ensures.same ∙ c.loop-chunk.invariant.same
+
+pub returns-in_err-extend_from_slice-clause-others : goal.returns-in_err-extend_from_slice-clause-others
+returns-in_err-extend_from_slice-clause-others g c = c.in_ok-count.ensures.others ∙ c.loop-chunk.invariant.others
+
+pub returns-clause-same : goal.returns-clause-same
+returns-clause-same g c = c.loop-chunk.invariant.same
+
+pub returns-clause-others : goal.returns-clause-others
+returns-clause-others g c = c.loop-chunk.invariant.others

@@ -34,3 +34,9 @@ returns-in_err-done-clause-logged g c = said_more
 
 pub returns-in_err-done-clause-ok : goal.returns-in_err-done-clause-ok
 returns-in_err-done-clause-ok g c = IfOk-from_err _ _ c.from_residual.ensures.0
+
+pub returns-in_err-done-clause-others : goal.returns-in_err-done-clause-others
+returns-in_err-done-clause-others g c = c.in_err-done.ensures.others ∙ c.loop-done.invariant.others
+
+pub returns-clause-others : goal.returns-clause-others
+returns-clause-others g c = c.loop-done.invariant.others

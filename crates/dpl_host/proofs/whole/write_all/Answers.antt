@@ -41,3 +41,9 @@ returns-in_err-create-clause-ok g c = IfOk-from_err _ _ c.from_residual.ensures.
 
 pub returns-in_err-done-clause-ok : goal.returns-in_err-done-clause-ok
 returns-in_err-done-clause-ok g c = IfOk-from_err _ _ c.from_residual-in_err-done.ensures.0
+
+pub returns-in_err-done-clause-others : goal.returns-in_err-done-clause-others
+returns-in_err-done-clause-others g c = c.in_err-done.ensures.others ∙ c.loop-done.invariant.others
+
+pub returns-clause-others : goal.returns-clause-others
+returns-clause-others g c = c.loop-done.invariant.others
