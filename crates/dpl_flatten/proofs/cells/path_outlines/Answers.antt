@@ -1,7 +1,7 @@
-use Rattle.std.proofs.Common.{rules}
+use Rattle.std.proofs.Common.{rules, arith}
 use Rattle.std.specs.Prelude.{FitsSigned}
 use Rattle.std.specs.Int.{w16, w32, w64}
-use Rattle.std.proofs.lemmas.Int.{to_z-of_z}
+use Rattle.std.proofs.lemmas.Int.{to_z-of_z, ints}
 use Rattle.std.proofs.lemmas.Result.{IfOk-from_err}
 use Rattle.dpl_spec_elements.specs.Paths.{path_of}
 use Rattle.dpl_spec_layout.specs.Elements.{points_in}
@@ -54,3 +54,26 @@ returns-in-Err-clause-within c = tt
 
 pub returns-clause-straight : goal.returns-clause-straight
 returns-clause-straight c = c.in-Ok.ensures.straight
+
+pub path_loops-requires-clause-points : goal.path_loops-requires-clause-points
+path_loops-requires-clause-points c = rw c.as_slice.ensures.value c.in_ok-points.ensures.within
+
+pub path_loops-requires-clause-width : goal.path_loops-requires-clause-width
+path_loops-requires-clause-width c = omega (arith, ints)
+
+pub path_loops-requires-clause-begin_ext : goal.path_loops-requires-clause-begin_ext
+path_loops-requires-clause-begin_ext c = omega (arith, ints)
+
+pub path_loops-requires-clause-end_ext : goal.path_loops-requires-clause-end_ext
+path_loops-requires-clause-end_ext c = omega (arith, ints)
+
+pub returns-clause-loops : goal.returns-clause-loops
+returns-clause-loops c =
+    let w : FitsSigned w32 c.args.style.width = search rules in
+    let w' : FitsSigned w64 c.args.style.width = search rules in
+    let k : FitsSigned w16 c.args.style.kind = search rules in
+    let b : FitsSigned w32 c.args.style.begin_ext = search rules in
+    let b' : FitsSigned w64 c.args.style.begin_ext = search rules in
+    let e : FitsSigned w32 c.args.style.end_ext = search rules in
+    let e' : FitsSigned w64 c.args.style.end_ext = search rules in
+    rw (c.as_slice.ensures.value, c.in_ok-points.ensures.value) at (simp to_z-of_z at c.in-Ok.ensures.loops)
