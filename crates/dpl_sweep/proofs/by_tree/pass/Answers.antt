@@ -4,6 +4,7 @@ use Rattle.std.proofs.lemmas.List.{get_or_default, take_all}
 use Rattle.std.proofs.lemmas.List.Elements.{Contains-get_or}
 use Rattle.dpl_sweep.specs.declared.edge.Edge.{Edge}
 use Rattle.dpl_sweep.proofs.PassLaws.{first-left, passed-next}
+use Rattle.std.proofs.lemmas.Result.{IfOk-from_err}
 use Rattle.dpl_sweep.proofs.by_tree.pass.Goals as goal
 
 abbrev zero : Edge
@@ -33,3 +34,6 @@ pub returns : goal.returns
 returns c =
     let all : take c.loop-i.i c.args.edges.now ≡ c.args.edges.now = take_all c.loop-i.i c.args.edges.now (omega arith) in
     rw all at c.loop-i.invariant
+
+pub returns-in_err-pass_one : goal.returns-in_err-pass_one
+returns-in_err-pass_one c = IfOk-from_err _ _ c.from_residual.ensures.0

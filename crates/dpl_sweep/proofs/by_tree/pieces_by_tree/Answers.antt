@@ -4,6 +4,7 @@ use Rattle.std.proofs.lemmas.Int.{to_z-of_z}
 use Rattle.std.proofs.lemmas.List.Elements.{Contains-get_or}
 use Rattle.dpl_sweep.specs.declared.edge.Edge.{Edge}
 use Rattle.dpl_sweep.proofs.PassLaws.{first-least, all-left, closed-apart, closed-covers}
+use Rattle.std.proofs.lemmas.Result.{IfOk-from_err}
 use Rattle.dpl_sweep.proofs.by_tree.pieces_by_tree.Goals as goal
 
 abbrev zero : Edge
@@ -35,3 +36,15 @@ returns-clause-covers c =
     let last : Edge = get_or c.args.edges.now (length c.args.edges.now - 1) zero in
     closed-covers _ _ _ _ last.x _ _ _ _ (record { none = refl; a = refl; b = refl }) (all-left c.args.edges.now zero c.requires.rise)
     c.requires.closed c.in_ok-bands.ensures c.in_ok-put_down.ensures
+
+pub returns-in_err-bands-clause-apart : goal.returns-in_err-bands-clause-apart
+returns-in_err-bands-clause-apart c = IfOk-from_err _ _ c.from_residual.ensures.0
+
+pub returns-in_err-bands-clause-covers : goal.returns-in_err-bands-clause-covers
+returns-in_err-bands-clause-covers c = IfOk-from_err _ _ c.from_residual.ensures.0
+
+pub returns-in_err-put_down-clause-apart : goal.returns-in_err-put_down-clause-apart
+returns-in_err-put_down-clause-apart c = IfOk-from_err _ _ c.from_residual-in_err-put_down.ensures.0
+
+pub returns-in_err-put_down-clause-covers : goal.returns-in_err-put_down-clause-covers
+returns-in_err-put_down-clause-covers c = IfOk-from_err _ _ c.from_residual-in_err-put_down.ensures.0

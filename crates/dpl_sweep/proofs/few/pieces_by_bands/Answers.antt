@@ -4,6 +4,7 @@ use Rattle.std.proofs.lemmas.Int.{ints, to_z-of_z}
 use Rattle.dpl_sweep.specs.declared.edge.Edge.{Edge}
 use Rattle.dpl_sweep.proofs.PassLaws.{first-least}
 use Rattle.dpl_sweep.proofs.FewLaws.{done-all, done-none}
+use Rattle.std.proofs.lemmas.Result.{IfOk-from_err}
 use Rattle.dpl_sweep.proofs.few.pieces_by_bands.Goals as goal
 
 abbrev zero : Edge
@@ -38,3 +39,9 @@ returns-clause-covers c =
     done-all c.args.rule c.args.edges.now c.rows_of-low.result.0 c.rows_of-low.result.1 _ c.loop-low.pieces.items
     (let h = rw (to_z-of_z w32 c.rows_of-low.result.1 s) at c.loop-low-test.false in
     grind (arith, ints, h)) c.rows_of-low.ensures c.loop-low.invariant
+
+pub returns-in_err-sweep_band-clause-apart : goal.returns-in_err-sweep_band-clause-apart
+returns-in_err-sweep_band-clause-apart c = IfOk-from_err _ _ c.from_residual.ensures.0
+
+pub returns-in_err-sweep_band-clause-covers : goal.returns-in_err-sweep_band-clause-covers
+returns-in_err-sweep_band-clause-covers c = IfOk-from_err _ _ c.from_residual.ensures.0

@@ -1,7 +1,7 @@
 use Rattle.std.proofs.Common.{◌≡◌, ◌<◌, ◌-◌, length, get_or, rules, w32, arith}
 use Rattle.std.specs.Prelude.{pos}
 use Rattle.std.proofs.lemmas.Int.{to_z-of_z}
-use Rattle.std.proofs.lemmas.Result.{on_ok_weaker}
+use Rattle.std.proofs.lemmas.Result.{on_ok_weaker, IfOk-from_err}
 use Rattle.std.proofs.lemmas.List.{get_or_default, take_all}
 use Rattle.std.proofs.lemmas.List.Elements.{All-get_or, Contains-get_or}
 use Rattle.dpl_sweep.specs.declared.edge.Edge.{Edge}
@@ -53,3 +53,6 @@ returns c =
     on_ok_weaker c.put_run.result
     (λ puts. band-done c.args.rule c.args.edges.now c.args.low c.args.high last.x c.args.start c.loop-i.run c.args.pieces.now.items _ _
     c.requires.order (all-left c.args.edges.now zero c.requires.rise) c.requires.closed c.requires.done passed puts) (rw (low, high) at c.put_run.ensures)
+
+pub returns-in_err-run : goal.returns-in_err-run
+returns-in_err-run c = IfOk-from_err _ _ c.from_residual.ensures.0

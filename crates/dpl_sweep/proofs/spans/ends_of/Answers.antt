@@ -4,6 +4,7 @@ use Rattle.std.proofs.lemmas.Int.{to_z-of_z}
 use Rattle.std.proofs.lemmas.List.{take_all}
 use Rattle.dpl_sweep.specs.declared.edge.Edge.{Edge}
 use Rattle.dpl_sweep.proofs.StepLaws.{ends-more, ends-permutation}
+use Rattle.std.proofs.lemmas.Result.{IfOk-from_err}
 use Rattle.dpl_sweep.proofs.spans.ends_of.Goals as goal
 
 abbrev zero : Edge
@@ -21,3 +22,21 @@ loop-edge-preserved c =
 pub returns-clause-ends : goal.returns-clause-ends
 returns-clause-ends c = ends-permutation c.args.edges.now _ _ c.sort_rows.ensures.same
     (rw (take_all c.loop-edge.edge-index c.args.edges.now (omega arith)) at c.loop-edge.invariant)
+
+pub returns-in_err-ends-clause-rise : goal.returns-in_err-ends-clause-rise
+returns-in_err-ends-clause-rise c = IfOk-from_err _ _ c.from_residual.ensures.0
+
+pub returns-in_err-ends-clause-ends : goal.returns-in_err-ends-clause-ends
+returns-in_err-ends-clause-ends c = IfOk-from_err _ _ c.from_residual.ensures.0
+
+pub returns-in_err-push-clause-rise : goal.returns-in_err-push-clause-rise
+returns-in_err-push-clause-rise c = IfOk-from_err _ _ c.from_residual-in_err-push.ensures.0
+
+pub returns-in_err-push-clause-ends : goal.returns-in_err-push-clause-ends
+returns-in_err-push-clause-ends c = IfOk-from_err _ _ c.from_residual-in_err-push.ensures.0
+
+pub returns-in_err-push-2-clause-rise : goal.returns-in_err-push-2-clause-rise
+returns-in_err-push-2-clause-rise c = IfOk-from_err _ _ c.from_residual-in_err-push-2.ensures.0
+
+pub returns-in_err-push-2-clause-ends : goal.returns-in_err-push-2-clause-ends
+returns-in_err-push-2-clause-ends c = IfOk-from_err _ _ c.from_residual-in_err-push-2.ensures.0

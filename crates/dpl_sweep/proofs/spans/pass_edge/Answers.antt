@@ -11,6 +11,7 @@ use Rattle.dpl_sweep.specs.Few.{EndsOutside, PassesBand}
 use Rattle.dpl_sweep.specs.Spans.{run_at_span, span_at}
 use Rattle.dpl_sweep.proofs.PassLaws.{take-next}
 use Rattle.dpl_sweep.proofs.SpanLaws.{above-all, next-right, passed-end, passed-more, passed-start}
+use Rattle.std.proofs.lemmas.Result.{IfOk-from_err}
 use Rattle.dpl_sweep.proofs.spans.pass_edge.Goals as goal
 
 abbrev no_run : Run
@@ -101,3 +102,6 @@ returns-after-loop-k c =
     rw (take-next c.args.edges.now c.args.i e c.requires.within e_is)
     (passed-end c.args.rule (take c.args.i c.args.edges.now) e c.args.edges.now c.args.spans.now c.loop-k.k c.loop-k.runs.items c.loop-k.pieces.items
     (above-all c.args.spans.now c.loop-k.k e.y1 c.requires.spans.order (λ k_in. absurd (omega (arith, end, k_in)))) c.loop-k.invariant)
+
+pub returns-in_err-runs : goal.returns-in_err-runs
+returns-in_err-runs c = IfOk-from_err _ _ c.from_residual.ensures.0

@@ -4,6 +4,7 @@ use Rattle.std.proofs.lemmas.Int.{to_z-of_z}
 use Rattle.dpl_sweep.specs.declared.edge.Edge.{Edge}
 use Rattle.dpl_sweep.specs.declared.run.Run.{Run}
 use Rattle.dpl_sweep.proofs.StepLaws.{first-right, ready-start}
+use Rattle.std.proofs.lemmas.Result.{IfOk-from_err}
 use Rattle.dpl_sweep.proofs.spans.pieces_by_spans.Goals as goal
 
 abbrev zero : Edge
@@ -17,3 +18,21 @@ loop-i-init c =
     let items = rw x at (c.in_ok-runs.ensures.items_if_clones_equal (λ y h. search rules)) in
     rw (c.new-pieces.ensures.items, items) (ready-start c.args.rule c.args.edges.now start c.args.spans.now
     (record { none = refl; a = refl; b = refl }) (first-right c.args.edges.now zero c.requires.rise))
+
+pub returns-in_err-runs-clause-apart : goal.returns-in_err-runs-clause-apart
+returns-in_err-runs-clause-apart c = IfOk-from_err _ _ c.from_residual.ensures.0
+
+pub returns-in_err-runs-clause-covers : goal.returns-in_err-runs-clause-covers
+returns-in_err-runs-clause-covers c = IfOk-from_err _ _ c.from_residual.ensures.0
+
+pub returns-in_err-pass_edge-clause-apart : goal.returns-in_err-pass_edge-clause-apart
+returns-in_err-pass_edge-clause-apart c = IfOk-from_err _ _ c.from_residual-in_err-pass_edge.ensures.0
+
+pub returns-in_err-pass_edge-clause-covers : goal.returns-in_err-pass_edge-clause-covers
+returns-in_err-pass_edge-clause-covers c = IfOk-from_err _ _ c.from_residual-in_err-pass_edge.ensures.0
+
+pub returns-in_err-shut-clause-apart : goal.returns-in_err-shut-clause-apart
+returns-in_err-shut-clause-apart c = IfOk-from_err _ _ c.from_residual-in_err-shut.ensures.0
+
+pub returns-in_err-shut-clause-covers : goal.returns-in_err-shut-clause-covers
+returns-in_err-shut-clause-covers c = IfOk-from_err _ _ c.from_residual-in_err-shut.ensures.0

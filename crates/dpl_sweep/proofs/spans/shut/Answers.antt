@@ -5,6 +5,7 @@ use Rattle.dpl_sweep.specs.declared.edge.Edge.{Edge}
 use Rattle.dpl_sweep.specs.Spans.{span_at}
 use Rattle.dpl_sweep.proofs.PassLaws.{all-left}
 use Rattle.dpl_sweep.proofs.SpanLaws.{shut-all, shut-more, shut-start}
+use Rattle.std.proofs.lemmas.Result.{IfOk-from_err}
 use Rattle.dpl_sweep.proofs.spans.shut.Goals as goal
 
 abbrev zero : Edge
@@ -28,3 +29,9 @@ returns-clause-apart c = c.loop-k.invariant.apart
 
 pub returns-clause-covers : goal.returns-clause-covers
 returns-clause-covers c = shut-all c.args.rule c.args.edges.now c.args.edges.now c.args.spans.now c.loop-k.k c.args.runs.now _ (omega arith) c.requires.spans c.loop-k.invariant
+
+pub returns-in_err-put_run-clause-apart : goal.returns-in_err-put_run-clause-apart
+returns-in_err-put_run-clause-apart c = IfOk-from_err _ _ c.from_residual.ensures.0
+
+pub returns-in_err-put_run-clause-covers : goal.returns-in_err-put_run-clause-covers
+returns-in_err-put_run-clause-covers c = IfOk-from_err _ _ c.from_residual.ensures.0

@@ -2,6 +2,7 @@ use Rattle.std.proofs.Common.{◌≤◌, ◌<◌, ◌-◌, inl, length, rules, w
 use Rattle.std.proofs.lemmas.Int.{to_z-of_z}
 use Rattle.dpl_sweep.specs.Spans.{row_at}
 use Rattle.dpl_sweep.proofs.StepLaws.{steps-next}
+use Rattle.std.proofs.lemmas.Result.{IfOk-from_err}
 use Rattle.dpl_sweep.proofs.spans.steps_of.Goals as goal
 
 pub loop-k-preserved : goal.loop-k-preserved
@@ -14,3 +15,6 @@ loop-k-preserved c =
       steps-next c.args.ends.now c.loop-k.k _ _ c.requires some here
           (rw (to_z-of_z w32 _ low, to_z-of_z w32 _ high) at c.in_ok-add_step.ensures) c.loop-k.invariant.1,
     )
+
+pub returns-in_err-add_step : goal.returns-in_err-add_step
+returns-in_err-add_step c = IfOk-from_err _ _ c.from_residual.ensures.0

@@ -2,6 +2,7 @@ use Rattle.std.proofs.Common.{◌^◌, rules, w32, arith, FitsSigned}
 use Rattle.std.proofs.lemmas.Int.{to_z-of_z}
 use Rattle.dpl_sweep.proofs.BandLaws.{size-some}
 use Rattle.dpl_sweep.proofs.CloseLaws.{put-down-run, put-down-two}
+use Rattle.std.proofs.lemmas.Result.{IfOk-from_err}
 use Rattle.dpl_sweep.proofs.bands.Bands.+put_down.Goals as goal
 
 pub put_down-requires : goal.put_down-requires
@@ -44,3 +45,12 @@ returns-in_ok-put_down-in-Split-2 t c =
     let below = rw (to_z-of_z w32 c.args.low c.ranges.low, to_z-of_z w32 c.in-Split.row r) at c.in_ok-put_down-in-Split.ensures in
     let above = rw (to_z-of_z w32 c.args.high c.ranges.high, to_z-of_z w32 c.in-Split.row r) at c.in_ok-put_down-in-Split-2.ensures in
     put-down-two c.args.low c.in-Split.row c.args.high c.args.self _ _ _ _ _ l m parts below above
+
+pub returns-in_err-put_run-in-Whole : goal.returns-in_err-put_run-in-Whole
+returns-in_err-put_run-in-Whole t c = IfOk-from_err _ _ c.from_residual.ensures.0
+
+pub returns-in_err-put_down-in-Split : goal.returns-in_err-put_down-in-Split
+returns-in_err-put_down-in-Split t c = IfOk-from_err _ _ c.from_residual-in_err-put_down-in-Split.ensures.0
+
+pub returns-in_err-put_down-in-Split-2 : goal.returns-in_err-put_down-in-Split-2
+returns-in_err-put_down-in-Split-2 t c = IfOk-from_err _ _ c.from_residual-in_err-put_down-in-Split-2.ensures.0
