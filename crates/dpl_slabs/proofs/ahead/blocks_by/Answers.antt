@@ -1,6 +1,6 @@
 use Rattle.std.proofs.Common.{◌≡◌, ◌∷◌, IfOk, rules}
 use Rattle.std.specs.List.{All}
-use Rattle.std.proofs.lemmas.List.Elements.{All-append, All-head, All-tail}
+use Rattle.std.proofs.lemmas.List.Elements.{All-append, All-head, All-tail, All-nil}
 use Rattle.dpl_slabs.specs.Made.{IsBlock}
 use Rattle.dpl_slabs.proofs.SliceLaws.{All-reverse}
 use Rattle.std.proofs.lemmas.Result.{IfOk-from_err}
@@ -29,3 +29,9 @@ returns-in_err-lists g c = IfOk-from_err _ _ c.from_residual-in_err-lists.ensure
 
 pub returns-in_err-append : goal.returns-in_err-append
 returns-in_err-append g c = IfOk-from_err _ _ c.from_residual-in_err-append.ensures.0
+
+pub returns-in_err-starts : goal.returns-in_err-starts
+returns-in_err-starts g c = IfOk-from_err _ _ c.from_residual.ensures.0
+
+pub returns-then-rects-strips : goal.returns-then-rects-strips
+returns-then-rects-strips g c = rw c.new-made.ensures.items (All-nil (IsBlock c.args.rects.now))

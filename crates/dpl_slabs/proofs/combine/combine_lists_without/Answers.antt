@@ -25,3 +25,6 @@ returns c =
 
 pub returns-in_err-edges : goal.returns-in_err-edges
 returns-in_err-edges c = IfOk-from_err _ _ c.from_residual-in_err-edges.ensures.0
+
+pub returns-in_err-slabs : goal.returns-in_err-slabs
+returns-in_err-slabs c = IfOk-from_err _ _ c.from_residual.ensures.0

@@ -1,4 +1,4 @@
-use Rattle.std.proofs.Common.{◌<◌, length, get_or, rules, w32, FitsSigned, arith}
+use Rattle.std.proofs.Common.{◌<◌, inl, inr, length, get_or, rules, w32, FitsSigned, arith}
 use Rattle.std.specs.Prelude.{◌≤ℤ◌}
 use Rattle.std.proofs.lemmas.Int.{ints, to_z-of_z}
 use Rattle.std.proofs.lemmas.List.{get_or_default}
@@ -71,3 +71,15 @@ returns-in_err-add_columns-2 c = IfOk-from_err _ _ c.from_residual-in_err-add_co
 
 pub returns-in_err-add_columns-3 : goal.returns-in_err-add_columns-3
 returns-in_err-add_columns-3 c = IfOk-from_err _ _ c.from_residual-in_err-add_columns-3.ensures.0
+
+pub loop-at-init : goal.loop-at-init
+loop-at-init c =
+    let first : FitsSigned w32 c.args.bar.now.x0 = search rules in
+    let wide = c.requires.solid.wide in
+    rw (to_z-of_z w32 c.args.bar.now.x0 first) (record {
+      before = c.requires.before;
+      passed = c.requires.passed;
+      covers = λ p. (λ h. inl h, λ h. elim h [ inl k ↦ k | inr (has, less, none) ↦ absurd (let left = has.left in omega (arith, ints, left, less)) ]);
+      from = omega (arith, ints);
+      ahead = omega (arith, ints, wide);
+    })

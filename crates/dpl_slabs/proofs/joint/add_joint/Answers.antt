@@ -43,3 +43,6 @@ returns-in_err-more c = IfOk-from_err _ _ c.from_residual-in_err-more.ensures.0
 
 pub returns-in_err-extend_from_slice : goal.returns-in_err-extend_from_slice
 returns-in_err-extend_from_slice c = IfOk-from_err _ _ c.from_residual-in_err-extend_from_slice.ensures.0
+
+pub combine-requires-clause-first : goal.combine-requires-clause-first
+combine-requires-clause-first c = λ r r_in. c.requires.within r (Contains-append_left c.args.first.now c.args.second.now r r_in)

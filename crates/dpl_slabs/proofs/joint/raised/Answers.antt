@@ -1,10 +1,11 @@
-use Rattle.std.proofs.Common.{◌<◌, length, get_or, rules, w32, FitsSigned}
+use Rattle.std.proofs.Common.{◌<◌, sym, length, get_or, rules, w32, FitsSigned}
 use Rattle.std.proofs.lemmas.Int.{to_z-of_z}
 use Rattle.std.proofs.lemmas.List.{get_or_default}
 use Rattle.dpl_spec_split.specs.declared.Rect.{Rect}
 use Rattle.dpl_slabs.proofs.Firsts.{zero}
 use Rattle.dpl_slabs.proofs.StripLaws.{lt-from, le-from, max-known}
 use Rattle.dpl_slabs.proofs.JointLaws.{above-top, raised-by}
+use Rattle.std.proofs.lemmas.Bool.{false≢true}
 use Rattle.dpl_slabs.proofs.joint.raised.Goals as goal
 
 pub returns-then-top-rects-clause-none : goal.returns-then-top-rects-clause-none
@@ -29,3 +30,6 @@ returns-clause-some c =
     let known = max-known _ _ r.y1 _ (to_z-of_z w32 r.y1 fits) (rw top at c.max.ensures.value) in
     rw (to_z-of_z w32 c.max.result new) (raised-by c.args.rects.now c.args.n c.args.top c.max.result r here
     (get_or_default c.args.rects.now c.args.n zero r here) keeps reaches begins known)
+
+pub returns-clause-none : goal.returns-clause-none
+returns-clause-none c none = absurd (false≢true (sym none))

@@ -29,3 +29,6 @@ returns-in_err-lists g c = IfOk-from_err _ _ c.from_residual.ensures.0
 
 pub returns-in_err-rects : goal.returns-in_err-rects
 returns-in_err-rects g c = IfOk-from_err _ _ c.from_residual-in_err-rects.ensures.0
+
+pub returns-in_err-list : goal.returns-in_err-list
+returns-in_err-list g c = IfOk-from_err _ _ c.from_residual-in_err-list.ensures.0

@@ -52,3 +52,9 @@ returns-in_err-slabs c = IfOk-from_err _ _ c.from_residual-in_err-slabs.ensures.
 
 pub returns-in_err-bars : goal.returns-in_err-bars
 returns-in_err-bars c = IfOk-from_err _ _ c.from_residual.ensures.0
+
+pub returns-in_err-bars-2 : goal.returns-in_err-bars-2
+returns-in_err-bars-2 c = IfOk-from_err _ _ c.from_residual-in_err-bars-2.ensures.0
+
+pub returns-in_err-gaps : goal.returns-in_err-gaps
+returns-in_err-gaps c = IfOk-from_err _ _ c.from_residual-in_err-gaps.ensures.0

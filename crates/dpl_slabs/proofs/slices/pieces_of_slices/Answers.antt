@@ -27,3 +27,9 @@ returns-in_err-made g c = IfOk-from_err _ _ c.from_residual-in_err-made.ensures.
 
 pub returns-in_err-pieces : goal.returns-in_err-pieces
 returns-in_err-pieces g c = IfOk-from_err _ _ c.from_residual-in_err-pieces.ensures.0
+
+pub returns-in_err-growing-2 : goal.returns-in_err-growing-2
+returns-in_err-growing-2 g c = IfOk-from_err _ _ c.from_residual-in_err-growing-2.ensures.0
+
+pub returns-in_err-growing : goal.returns-in_err-growing
+returns-in_err-growing g c = IfOk-from_err _ _ c.from_residual-in_err-growing.ensures.0

@@ -2,6 +2,7 @@ use Rattle.std.proofs.Common.{refl, rules, w32, FitsSigned}
 use Rattle.std.proofs.lemmas.Int.{to_z-of_z}
 use Rattle.dpl_slabs.proofs.StripLaws.{max-known}
 use Rattle.dpl_slabs.proofs.SliceLaws.{pushed-bar, widened-bar}
+use Rattle.std.proofs.lemmas.Result.{IfOk-from_err}
 use Rattle.dpl_slabs.proofs.slices.push_bar.Goals as goal
 
 pub returns-then-widens : goal.returns-then-widens
@@ -21,3 +22,15 @@ returns-then-widens c =
 pub returns-in_ok-push-in-Some-3 : goal.returns-in_ok-push-in-Some-3
 returns-in_ok-push-in-Some-3 c =
     rw (c.in-Some.ensures.items, c.in_ok-push-in-Some-3.ensures.items, c.in_ok-push-in-Some-2.ensures.items) (pushed-bar _ c.args.bar)
+
+pub returns-in_err-push-in-Some-3 : goal.returns-in_err-push-in-Some-3
+returns-in_err-push-in-Some-3 c = IfOk-from_err _ _ c.from_residual-in_err-push-in-Some-3.ensures.0
+
+pub returns-in_err-push-in-Some : goal.returns-in_err-push-in-Some
+returns-in_err-push-in-Some c = IfOk-from_err _ _ c.from_residual-in_err-push-in-Some.ensures.0
+
+pub returns-in_err-push-in-Some-2 : goal.returns-in_err-push-in-Some-2
+returns-in_err-push-in-Some-2 c = IfOk-from_err _ _ c.from_residual-in_err-push-in-Some-2.ensures.0
+
+pub returns-in_err-push-in-None : goal.returns-in_err-push-in-None
+returns-in_err-push-in-None c = IfOk-from_err _ _ c.from_residual.ensures.0

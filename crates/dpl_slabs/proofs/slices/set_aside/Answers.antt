@@ -1,5 +1,5 @@
 use Rattle.std.proofs.Common.{◌≡◌, ◌+◌, ◌<◌, ◌++◌, ◌∷◌, [], ◌∙◌, ap, sym, length, get_or, take, arith}
-use Rattle.std.proofs.lemmas.List.{append_assoc, take_more}
+use Rattle.std.proofs.lemmas.List.{append_assoc, take_more, take_all}
 use Rattle.dpl_spec_split.specs.declared.Rect.{Rect}
 use Rattle.dpl_slabs.proofs.Firsts.{zero}
 use Rattle.dpl_slabs.proofs.SliceLaws.{settled-growing, settled-done}
@@ -29,3 +29,6 @@ returns-in_err-push c = IfOk-from_err _ _ c.from_residual.ensures.0
 
 pub returns-in_err-push-2 : goal.returns-in_err-push-2
 returns-in_err-push-2 c = IfOk-from_err _ _ c.from_residual-in_err-push-2.ensures.0
+
+pub returns : goal.returns
+returns c = rw (take_all c.loop-piece.piece-index c.deref-piece-items.result.now (omega arith), c.deref-piece-items.ensures.value) at c.loop-piece.invariant

@@ -1,6 +1,6 @@
 use Rattle.std.proofs.Common.{arith}
 use Rattle.std.specs.Prelude.{[], List}
-use Rattle.std.proofs.lemmas.Result.{IfOk-weaker}
+use Rattle.std.proofs.lemmas.Result.{IfOk-weaker, IfOk-from_err}
 use Rattle.dpl_spec_split.specs.declared.Rect.{Rect}
 use Rattle.dpl_spec_split.specs.Squares.{Covers}
 use Rattle.dpl_spec_split.specs.Slabs.{AreSlabsOf}
@@ -33,3 +33,15 @@ returns-in-Some-2-clause-within g c = within-slabs farthest c.args.strip.now _ c
 pub returns-clause-slabs : goal.returns-clause-slabs
 returns-clause-slabs g c =
     IfOk-weaker c.combine_without.result _ _ (λ v is. slabs-without-none c.args.strip.now v.items is) c.combine_without.ensures.slabs
+
+pub returns-in_err-slabs-clause-slabs : goal.returns-in_err-slabs-clause-slabs
+returns-in_err-slabs-clause-slabs g c = IfOk-from_err _ _ c.from_residual-in_err-slabs.ensures.0
+
+pub returns-in_err-slabs-clause-within : goal.returns-in_err-slabs-clause-within
+returns-in_err-slabs-clause-within g c = IfOk-from_err _ _ c.from_residual-in_err-slabs.ensures.0
+
+pub returns-in_err-pieces-clause-slabs : goal.returns-in_err-pieces-clause-slabs
+returns-in_err-pieces-clause-slabs g c = IfOk-from_err _ _ c.from_residual.ensures.0
+
+pub returns-in_err-pieces-clause-within : goal.returns-in_err-pieces-clause-within
+returns-in_err-pieces-clause-within g c = IfOk-from_err _ _ c.from_residual.ensures.0

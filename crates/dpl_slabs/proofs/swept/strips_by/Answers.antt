@@ -1,6 +1,6 @@
 use Rattle.std.proofs.Common.{◌≡◌, ◌∷◌, IfOk, rules}
 use Rattle.std.specs.List.{All}
-use Rattle.std.proofs.lemmas.List.Elements.{All-head, All-push, All-tail}
+use Rattle.std.proofs.lemmas.List.Elements.{All-head, All-push, All-tail, All-nil}
 use Rattle.dpl_slabs.specs.Made.{IsSwept}
 use Rattle.dpl_slabs.proofs.SliceLaws.{All-reverse}
 use Rattle.std.proofs.lemmas.Result.{IfOk-from_err}
@@ -28,3 +28,12 @@ returns-in_err-all g c = IfOk-from_err _ _ c.from_residual-in_err-all.ensures.0
 
 pub returns-in_err-push : goal.returns-in_err-push
 returns-in_err-push g c = IfOk-from_err _ _ c.from_residual-in_err-push.ensures.0
+
+pub returns-in_err-starts : goal.returns-in_err-starts
+returns-in_err-starts g c = IfOk-from_err _ _ c.from_residual.ensures.0
+
+pub returns-then-len-lt2 : goal.returns-then-len-lt2
+returns-then-len-lt2 g c = rw c.new-made.ensures.items (All-nil (IsSwept c.args.rects.now))
+
+pub returns-then-workers-le1 : goal.returns-then-workers-le1
+returns-then-workers-le1 g c = rw c.new-made.ensures.items (All-nil (IsSwept c.args.rects.now))
