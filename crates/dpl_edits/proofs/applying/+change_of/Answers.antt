@@ -1,7 +1,7 @@
 use Rattle.std.proofs.Common.{◌≡◌, ◌≤◌, ◌<◌, ◌++◌, length, subst, arith, length-drop}
 use Rattle.std.proofs.lemmas.List.{take-append-drop}
 use Rattle.std.proofs.lemmas.List.Elements.{All-drop}
-use Rattle.std.proofs.lemmas.Result.{IfOk-weaker}
+use Rattle.std.proofs.lemmas.Result.{IfOk-weaker, IfOk-from_err}
 use Rattle.std.specs.List.{All}
 use Rattle.dpl_spec_edits.specs.Text.{IsEdit}
 use Rattle.dpl_edits.specs.Changes.{IsAdd, IsRemove, IsChangeOf}
@@ -45,3 +45,33 @@ returns-clause-change t c =
     let whole : front ++ back ≡ c.args.edits.now = rw (c.split_at.ensures.front, c.split_at.ensures.back) (take-append-drop _ c.args.edits.now) in
     IfOk-weaker c.and_then.result _ (λ x. IsChangeOf c.args.edits.now x)
     (λ x h. subst (λ es. IsChangeOf es x) whole (h front back c.in_ok-first.ensures.change c.in_ok-second.ensures.change)) c.and_then.ensures.both
+
+pub returns-in_err-rects-clause-change : goal.returns-in_err-rects-clause-change
+returns-in_err-rects-clause-change t c = IfOk-from_err _ _ c.from_residual.ensures.0
+
+pub returns-in_err-rects-clause-within : goal.returns-in_err-rects-clause-within
+returns-in_err-rects-clause-within t c = IfOk-from_err _ _ c.from_residual.ensures.0
+
+pub returns-in_err-added-clause-change : goal.returns-in_err-added-clause-change
+returns-in_err-added-clause-change t c = IfOk-from_err _ _ c.from_residual-in_err-added.ensures.0
+
+pub returns-in_err-added-clause-within : goal.returns-in_err-added-clause-within
+returns-in_err-added-clause-within t c = IfOk-from_err _ _ c.from_residual-in_err-added.ensures.0
+
+pub returns-in_err-removed-clause-change : goal.returns-in_err-removed-clause-change
+returns-in_err-removed-clause-change t c = IfOk-from_err _ _ c.from_residual-in_err-removed.ensures.0
+
+pub returns-in_err-removed-clause-within : goal.returns-in_err-removed-clause-within
+returns-in_err-removed-clause-within t c = IfOk-from_err _ _ c.from_residual-in_err-removed.ensures.0
+
+pub returns-in_err-first-clause-change : goal.returns-in_err-first-clause-change
+returns-in_err-first-clause-change t c = IfOk-from_err _ _ c.from_residual-in_err-first.ensures.0
+
+pub returns-in_err-first-clause-within : goal.returns-in_err-first-clause-within
+returns-in_err-first-clause-within t c = IfOk-from_err _ _ c.from_residual-in_err-first.ensures.0
+
+pub returns-in_err-second-clause-change : goal.returns-in_err-second-clause-change
+returns-in_err-second-clause-change t c = IfOk-from_err _ _ c.from_residual-in_err-second.ensures.0
+
+pub returns-in_err-second-clause-within : goal.returns-in_err-second-clause-within
+returns-in_err-second-clause-within t c = IfOk-from_err _ _ c.from_residual-in_err-second.ensures.0

@@ -1,4 +1,4 @@
-use Rattle.std.proofs.lemmas.Result.{IfOk-weaker}
+use Rattle.std.proofs.lemmas.Result.{IfOk-weaker, IfOk-from_err}
 use Rattle.dpl_spec_split.specs.Squares.{Covers}
 use Rattle.dpl_spec_split.specs.Slabs.{AreSlabsOf}
 use Rattle.dpl_edits.specs.Changes.{with_change}
@@ -10,3 +10,6 @@ returns c =
     let kept = rw c.deref.ensures.value at c.in_ok-kept.ensures in
     IfOk-weaker c.united.result _ (λ s. AreSlabsOf (with_change (Covers c.args.layer) c.args.self) s)
     (λ s h. changed-slabs c.args.layer c.in_ok-kept.kept s c.args.self kept h) c.united.ensures
+
+pub returns-in_err-kept : goal.returns-in_err-kept
+returns-in_err-kept c = IfOk-from_err _ _ c.from_residual.ensures.0
