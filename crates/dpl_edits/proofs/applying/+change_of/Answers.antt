@@ -1,7 +1,8 @@
-use Rattle.std.proofs.Common.{◌≡◌, ◌≤◌, ◌<◌, ◌++◌, length, subst, arith, length-drop}
+use Rattle.std.proofs.Common.{◌≡◌, ◌∙◌, sym, ◌≤◌, ◌<◌, ◌++◌, length, subst, arith, length-drop}
 use Rattle.std.proofs.lemmas.List.{take-append-drop}
 use Rattle.std.proofs.lemmas.List.Elements.{All-drop}
 use Rattle.std.proofs.lemmas.Result.{IfOk-weaker, IfOk-from_err}
+use Rattle.std.proofs.lemmas.Bool.{true≢false}
 use Rattle.std.specs.List.{All}
 use Rattle.dpl_spec_edits.specs.Text.{IsEdit}
 use Rattle.dpl_edits.specs.Changes.{IsAdd, IsRemove, IsChangeOf}
@@ -32,8 +33,8 @@ returns-then-all_remove-clause-within t c = rw c.in_ok-removed.ensures (edits-wi
 pub change_of-requires-2 : goal.change_of-requires-2
 change_of-requires-2 t c =
     let edits = c.args.edits.now in
-    let some_remove : ¬ All IsAdd edits = λ h. let t = c.all_add.ensures.1 h in let f = c.if-all_add.false in cc in
-    let some_add : ¬ All IsRemove edits = λ h. let t = c.all_remove.ensures.1 h in let f = c.if-all_remove.false in cc in
+    let some_remove : ¬ All IsAdd edits = λ h. true≢false (sym (c.all_add.ensures.1 h) ∙ c.if-all_add.false) in
+    let some_add : ¬ All IsRemove edits = λ h. true≢false (sym (c.all_remove.ensures.1 h) ∙ c.if-all_remove.false) in
     let many : 2 ≤ length edits = two_kinds edits some_remove some_add in
     let fewer : length c.split_at.result.1.now < length edits = rw c.split_at.ensures.back (simp length-drop (omega arith)) in
     (omega arith, rw c.split_at.ensures.back (All-drop IsEdit _ edits c.requires))

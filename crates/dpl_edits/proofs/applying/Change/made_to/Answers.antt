@@ -13,3 +13,6 @@ returns c =
 
 pub returns-in_err-kept : goal.returns-in_err-kept
 returns-in_err-kept c = IfOk-from_err _ _ c.from_residual.ensures.0
+
+pub without-requires : goal.without-requires
+without-requires c = rw c.deref.ensures.value c.requires
