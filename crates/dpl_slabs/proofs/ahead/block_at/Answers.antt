@@ -1,4 +1,5 @@
 use Rattle.std.proofs.lemmas.Result.{IfOk-from_err}
+use Rattle.dpl_slabs.proofs.StripLaws.{rise-drop, rise-take}
 use Rattle.dpl_slabs.proofs.ahead.block_at.Goals as goal
 
 pub returns-in_err-own-clause-block : goal.returns-in_err-own-clause-block
@@ -24,3 +25,6 @@ returns-in_err-slabs-clause-some c = IfOk-from_err _ _ c.from_residual-in_err-sl
 
 pub returns-in_err-slabs-clause-within : goal.returns-in_err-slabs-clause-within
 returns-in_err-slabs-clause-within c = IfOk-from_err _ _ c.from_residual-in_err-slabs.ensures.0
+
+pub strip_length-count-requires-clause-rise : goal.strip_length-count-requires-clause-rise
+strip_length-count-requires-clause-rise c = rise-take _ _ (rise-drop c.args.start c.args.rects.now c.requires.rise)
