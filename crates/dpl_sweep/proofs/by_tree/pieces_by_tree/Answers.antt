@@ -48,3 +48,6 @@ returns-in_err-put_down-clause-apart c = IfOk-from_err _ _ c.from_residual-in_er
 
 pub returns-in_err-put_down-clause-covers : goal.returns-in_err-put_down-clause-covers
 returns-in_err-put_down-clause-covers c = IfOk-from_err _ _ c.from_residual-in_err-put_down.ensures.0
+
+pub pass-requires-clause-rise : goal.pass-requires-clause-rise
+pass-requires-clause-rise c = c.requires.rise

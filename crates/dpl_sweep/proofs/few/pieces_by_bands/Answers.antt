@@ -45,3 +45,6 @@ returns-in_err-sweep_band-clause-apart c = IfOk-from_err _ _ c.from_residual.ens
 
 pub returns-in_err-sweep_band-clause-covers : goal.returns-in_err-sweep_band-clause-covers
 returns-in_err-sweep_band-clause-covers c = IfOk-from_err _ _ c.from_residual.ensures.0
+
+pub sweep_band-requires-clause-rise : goal.sweep_band-requires-clause-rise
+sweep_band-requires-clause-rise c = c.requires.rise

@@ -56,3 +56,8 @@ returns c =
 
 pub returns-in_err-run : goal.returns-in_err-run
 returns-in_err-run c = IfOk-from_err _ _ c.from_residual.ensures.0
+
+pub pass_band-requires-clause-unit : goal.pass_band-requires-clause-unit
+pass_band-requires-clause-unit c =
+    let here : c.loop-i.i < length c.args.edges.now = search rules in
+    c.requires.units _ (Contains-get_or c.args.edges.now c.loop-i.i zero here)

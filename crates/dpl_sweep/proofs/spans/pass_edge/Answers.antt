@@ -2,7 +2,7 @@ use Rattle.std.proofs.Common.{◌≡◌, ◌<◌, ◌≤◌, length, get_or, tak
 use Rattle.std.specs.Prelude.{pos, ◌≤ℤ◌}
 use Rattle.std.proofs.lemmas.Int.{ints, to_z-of_z}
 use Rattle.std.proofs.lemmas.List.{get_or_default}
-use Rattle.std.proofs.lemmas.List.Elements.{All-get_or}
+use Rattle.std.proofs.lemmas.List.Elements.{All-get_or, Contains-get_or}
 use Rattle.dpl_sweep.specs.declared.edge.Edge.{Edge}
 use Rattle.dpl_sweep.specs.declared.run.Run.{Run}
 use Rattle.dpl_sweep.specs.declared.bands.Bands.{One}
@@ -105,3 +105,6 @@ returns-after-loop-k c =
 
 pub returns-in_err-runs : goal.returns-in_err-runs
 returns-in_err-runs c = IfOk-from_err _ _ c.from_residual.ensures.0
+
+pub pass_band-requires-clause-unit : goal.pass_band-requires-clause-unit
+pass_band-requires-clause-unit c = c.requires.units _ (Contains-get_or c.args.edges.now c.args.i zero c.requires.within)

@@ -1,10 +1,11 @@
-use Rattle.std.proofs.Common.{get_or, refl, rules, w32, FitsSigned}
+use Rattle.std.proofs.Common.{get_or, refl, rules, w32, FitsSigned, arith}
 use Rattle.std.specs.Prelude.{pos}
 use Rattle.std.proofs.lemmas.Int.{to_z-of_z}
 use Rattle.dpl_sweep.specs.declared.edge.Edge.{Edge}
 use Rattle.dpl_sweep.specs.declared.run.Run.{Run}
 use Rattle.dpl_sweep.proofs.StepLaws.{first-right, ready-start}
 use Rattle.std.proofs.lemmas.Result.{IfOk-from_err}
+use Rattle.std.proofs.lemmas.List.{take_all}
 use Rattle.dpl_sweep.proofs.spans.pieces_by_spans.Goals as goal
 
 abbrev zero : Edge
@@ -36,3 +37,6 @@ returns-in_err-shut-clause-apart c = IfOk-from_err _ _ c.from_residual-in_err-sh
 
 pub returns-in_err-shut-clause-covers : goal.returns-in_err-shut-clause-covers
 returns-in_err-shut-clause-covers c = IfOk-from_err _ _ c.from_residual-in_err-shut.ensures.0
+
+pub shut-requires-clause-ready : goal.shut-requires-clause-ready
+shut-requires-clause-ready c = rw c.deref.ensures.value (rw (take_all c.loop-i.i c.args.edges.now (omega arith)) at c.loop-i.invariant)
