@@ -1,6 +1,6 @@
-use Rattle.std.proofs.Common.{◌≡◌, ◌∙◌, sym, ◌≤◌, ◌<◌, ◌++◌, length, subst, arith, length-drop}
+use Rattle.std.proofs.Common.{◌≡◌, ◌∙◌, sym, ◌≤◌, ◌<◌, ◌++◌, length, subst, arith, length-drop, length-take}
 use Rattle.std.proofs.lemmas.List.{take-append-drop}
-use Rattle.std.proofs.lemmas.List.Elements.{All-drop}
+use Rattle.std.proofs.lemmas.List.Elements.{All-drop, All-take}
 use Rattle.std.proofs.lemmas.Result.{IfOk-weaker, IfOk-from_err}
 use Rattle.std.proofs.lemmas.Bool.{true≢false}
 use Rattle.std.specs.List.{All}
@@ -29,6 +29,15 @@ returns-then-all_remove-clause-change t c =
 
 pub returns-then-all_remove-clause-within : goal.returns-then-all_remove-clause-within
 returns-then-all_remove-clause-within t c = rw c.in_ok-removed.ensures (edits-within c.args.edits.now c.requires)
+
+pub change_of-requires : goal.change_of-requires
+change_of-requires t c =
+    let edits = c.args.edits.now in
+    let some_remove : ¬ All IsAdd edits = λ h. true≢false (sym (c.all_add.ensures.1 h) ∙ c.if-all_add.false) in
+    let some_add : ¬ All IsRemove edits = λ h. true≢false (sym (c.all_remove.ensures.1 h) ∙ c.if-all_remove.false) in
+    let many : 2 ≤ length edits = two_kinds edits some_remove some_add in
+    let fewer : length c.split_at.result.0.now < length edits = rw c.split_at.ensures.front (simp length-take (omega arith)) in
+    (omega arith, rw c.split_at.ensures.front (All-take IsEdit _ edits c.requires))
 
 pub change_of-requires-2 : goal.change_of-requires-2
 change_of-requires-2 t c =
