@@ -1,4 +1,4 @@
-use Rattle.std.proofs.Common.{◌≤◌, ◌<◌, ◌-◌, inl, length, rules, w32, arith, FitsSigned}
+use Rattle.std.proofs.Common.{◌≤◌, ◌<◌, ◌-◌, inl, length, rules, w32, arith, FitsSigned, ◌≡◌, inr}
 use Rattle.std.proofs.lemmas.Int.{to_z-of_z}
 use Rattle.dpl_sweep.specs.Spans.{row_at}
 use Rattle.dpl_sweep.proofs.StepLaws.{steps-next}
@@ -18,3 +18,9 @@ loop-k-preserved c =
 
 pub returns-in_err-add_step : goal.returns-in_err-add_step
 returns-in_err-add_step c = IfOk-from_err _ _ c.from_residual.ensures.0
+
+pub returns : goal.returns
+returns c =
+    let (within, steps) = c.loop-k.invariant in
+    let same : c.loop-k.k - 1 ≡ length c.args.ends.now - 1 = elim within [ inl some ↦ omega (arith, some) | inr first ↦ omega (arith, first) ] in
+    rw same at steps
